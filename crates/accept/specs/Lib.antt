@@ -1,0 +1,5 @@
+pub mod Tests
+pub mod Builtins
+pub mod Steps
+pub mod Verdict
+pub mod Worked

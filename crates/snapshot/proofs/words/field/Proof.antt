@@ -1,0 +1,25 @@
+use borrow.Author.Needs.{needs}
+use native.Mathlib.Omega.{arith}
+use denote.Ref.{now}
+use Prim.Native.Nat.{_+_}
+use Rattle.snapshot.proofs.Laws.{past}
+use Rattle.snapshot.proofs.words.field.Statement.{statement}
+use Rattle.snapshot.proofs.words.field.Tie as tie
+
+returns : tie.Need-returns
+returns c = let s = c .before .before in past (now (s .args .words)) (s .args .at + s .args .i) (omega arith)
+
+returns-2 : tie.Need-returns-2
+returns-2 c = let s = c .before .before .before in past (now (s .args .words)) (s .args .at + s .args .i) (omega arith)
+
+add-word : tie.Need-add-word
+add-word c = search needs
+
+word-requires : tie.Need-word-requires
+word-requires c κs = search needs
+
+returns-3 : tie.Need-returns-3
+returns-3 c = search needs
+
+pub field-spec : {M : Type 1} → statement M
+field-spec = tie.close (tie.spec returns returns-2 add-word word-requires returns-3)

@@ -1,0 +1,101 @@
+-- Where the records stand, and which lists a layout and its tables stand for.
+use Prim.Native.Nat.{ℕ, _+_, _*_}
+use mathlib.Core.List.{List}
+use lib.ListN.{getD}
+use Rattle.snapshot.specs.Lists.{rows}
+use Rattle.snapshot.specs.Records.{Name, Map, Module, Snapshot, nameAt, crateAt, dependencyAt, mapAt, childAt, preludeAt, definitionAt, scopeAt, importAt, externAt}
+use Rattle.snapshot.specs.declared.layout.Layout.{Layout}
+
+-- the place of the first record of a kind; maps and modules share a run
+
+abbrev pub crateBase : Layout → ℕ
+crateBase l = l .text
+
+abbrev pub dependencyBase : Layout → ℕ
+dependencyBase l = crateBase l + l .crates
+
+abbrev pub mapBase : Layout → ℕ
+mapBase l = dependencyBase l + 3 * l .dependencies
+
+abbrev pub childBase : Layout → ℕ
+childBase l = mapBase l + 3 * l .maps + 2 * l .modules
+
+abbrev pub preludeBase : Layout → ℕ
+preludeBase l = childBase l + 2 * l .children
+
+abbrev pub definitionBase : Layout → ℕ
+definitionBase l = preludeBase l + 2 * l .preludes
+
+abbrev pub scopeBase : Layout → ℕ
+scopeBase l = definitionBase l + 3 * l .definitions
+
+abbrev pub importBase : Layout → ℕ
+importBase l = scopeBase l + 7 * l .scopes
+
+abbrev pub externBase : Layout → ℕ
+externBase l = importBase l + 6 * l .imports
+
+-- the words of all the records
+abbrev pub wordCount : Layout → ℕ
+wordCount l = externBase l + 3 * l .externs
+
+-- the tables of the work area: a name's head; a module's map, its map's head and its parent +1; a map's root; a crate's own map +1
+
+abbrev pub nameHead : List ℕ → ℕ → ℕ
+nameHead A k = getD A k 0
+
+abbrev pub moduleMap : List ℕ → ℕ → ℕ
+moduleMap A m = getD A (2048 + 3 * m) 0
+
+abbrev pub moduleHead : List ℕ → ℕ → ℕ
+moduleHead A m = getD A (2048 + 3 * m + 1) 0
+
+abbrev pub moduleParent : List ℕ → ℕ → ℕ
+moduleParent A m = getD A (2048 + 3 * m + 2) 0
+
+abbrev pub mapRoot : List ℕ → ℕ → ℕ
+mapRoot A k = getD A (3584 + k) 0
+
+abbrev pub ownMap : List ℕ → ℕ → ℕ
+ownMap A c = getD A (4096 + c) 0
+
+-- the words of the tables
+abbrev pub tableWords : ℕ
+tableWords = 4160
+
+abbrev pub moduleRow : List ℕ → ℕ → Module
+moduleRow A m = record { map = moduleMap A m; parent = moduleParent A m }
+
+abbrev pub namesOf : List ℕ → List ℕ → ℕ → List Name
+namesOf W A n = rows (λ k. nameAt W (nameHead A k)) 0 n
+
+abbrev pub modulesOf : List ℕ → ℕ → List Module
+modulesOf A n = rows (moduleRow A) 0 n
+
+abbrev pub mapsOf : List ℕ → List ℕ → ℕ → List Map
+mapsOf W A n = rows (λ k. mapAt W (moduleHead A (mapRoot A k))) 0 n
+
+-- n records of one size from a place on
+abbrev pub recordsOf : {R : Type 0} → (List ℕ → ℕ → R) → ℕ → List ℕ → ℕ → ℕ → List R
+recordsOf f size W base n = rows (λ k. f W (base + size * k)) 0 n
+
+-- the lists of a layout, with the maps given
+abbrev pub snapWith : List ℕ → List ℕ → Layout → List Map → Snapshot
+snapWith W A l ms =
+    record
+    { names = namesOf W A (l .names)
+    ; crates = recordsOf crateAt 1 W (crateBase l) (l .crates)
+    ; dependencies = recordsOf dependencyAt 3 W (dependencyBase l) (l .dependencies)
+    ; maps = ms
+    ; modules = modulesOf A (l .modules)
+    ; children = recordsOf childAt 2 W (childBase l) (l .children)
+    ; preludes = recordsOf preludeAt 2 W (preludeBase l) (l .preludes)
+    ; definitions = recordsOf definitionAt 3 W (definitionBase l) (l .definitions)
+    ; scopes = recordsOf scopeAt 7 W (scopeBase l) (l .scopes)
+    ; imports = recordsOf importAt 6 W (importBase l) (l .imports)
+    ; externs = recordsOf externAt 3 W (externBase l) (l .externs)
+    }
+
+-- the lists of a layout and its tables
+abbrev pub snapOf : List ℕ → List ℕ → Layout → Snapshot
+snapOf W A l = snapWith W A l (mapsOf W A (l .maps))

@@ -1,0 +1,5 @@
+pub mod Lists
+pub mod Limits
+pub mod Words
+pub mod Records
+pub mod Layouts

@@ -1,0 +1,61 @@
+//! Numbers that never stand in for one another, with their limits.
+
+/// A module of the snapshot.
+pub struct ModuleId(pub usize);
+
+impl ModuleId {
+    /// Modules of a snapshot, at most.
+    pub const LIMIT: usize = 512;
+}
+
+/// A crate of the snapshot.
+pub struct Crate(pub usize);
+
+impl Crate {
+    /// Crates of a snapshot, at most.
+    pub const LIMIT: usize = 64;
+}
+
+/// A definition of the snapshot.
+pub struct DefinitionId(pub usize);
+
+impl DefinitionId {
+    /// Definitions of a snapshot, at most.
+    pub const LIMIT: usize = 2048;
+}
+
+/// A name of the snapshot.
+pub struct Name(pub usize);
+
+impl Name {
+    /// Names of a snapshot, at most.
+    pub const LIMIT: usize = 2048;
+    /// Bytes of a name's text, at most.
+    pub const BYTES: usize = 255;
+}
+
+/// The length that a path may still have.
+pub struct PathLen(pub usize);
+
+impl PathLen {
+    /// The length left where a search begins.
+    pub const LIMIT: usize = 15;
+}
+
+/// Charges that a question may make.
+pub struct Fuel(pub usize);
+
+impl Fuel {
+    /// Fuel of a question, at most.
+    pub const LIMIT: usize = 10000;
+}
+
+/// A number of words.
+pub struct WordCount(pub usize);
+
+impl WordCount {
+    /// Words of a snapshot, at most.
+    pub const SNAPSHOT: usize = 16384;
+    /// Words of a work area, at least.
+    pub const AREA: usize = 16384;
+}
