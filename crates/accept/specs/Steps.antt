@@ -27,90 +27,178 @@ judge range defined repeated placed room s =
 
 abbrev pub addName : Snapshot → Name → Snapshot
 addName s x =
-    record
-    { names = s .names ++ (x ∷ []); crates = s .crates; dependencies = s .dependencies; maps = s .maps; modules = s .modules
-    ; children = s .children; preludes = s .preludes; definitions = s .definitions; scopes = s .scopes; imports = s .imports
-    ; externs = s .externs
+    record {
+      names = s .names ++ (x ∷ []);
+      crates = s .crates;
+      dependencies = s .dependencies;
+      maps = s .maps;
+      modules = s .modules;
+      children = s .children;
+      preludes = s .preludes;
+      definitions = s .definitions;
+      scopes = s .scopes;
+      imports = s .imports;
+      externs = s .externs;
     }
 
 abbrev pub addCrate : Snapshot → Crate → Snapshot
 addCrate s x =
-    record
-    { names = s .names; crates = s .crates ++ (x ∷ []); dependencies = s .dependencies; maps = s .maps; modules = s .modules
-    ; children = s .children; preludes = s .preludes; definitions = s .definitions; scopes = s .scopes; imports = s .imports
-    ; externs = s .externs
+    record {
+      names = s .names;
+      crates = s .crates ++ (x ∷ []);
+      dependencies = s .dependencies;
+      maps = s .maps;
+      modules = s .modules;
+      children = s .children;
+      preludes = s .preludes;
+      definitions = s .definitions;
+      scopes = s .scopes;
+      imports = s .imports;
+      externs = s .externs;
     }
 
 abbrev pub addDependency : Snapshot → Dependency → Snapshot
 addDependency s x =
-    record
-    { names = s .names; crates = s .crates; dependencies = s .dependencies ++ (x ∷ []); maps = s .maps; modules = s .modules
-    ; children = s .children; preludes = s .preludes; definitions = s .definitions; scopes = s .scopes; imports = s .imports
-    ; externs = s .externs
+    record {
+      names = s .names;
+      crates = s .crates;
+      dependencies = s .dependencies ++ (x ∷ []);
+      maps = s .maps;
+      modules = s .modules;
+      children = s .children;
+      preludes = s .preludes;
+      definitions = s .definitions;
+      scopes = s .scopes;
+      imports = s .imports;
+      externs = s .externs;
     }
 
 abbrev pub addMap : Snapshot → Map → Snapshot
 addMap s x =
-    record
-    { names = s .names; crates = s .crates; dependencies = s .dependencies; maps = s .maps ++ (x ∷ []); modules = s .modules
-    ; children = s .children; preludes = s .preludes; definitions = s .definitions; scopes = s .scopes; imports = s .imports
-    ; externs = s .externs
+    record {
+      names = s .names;
+      crates = s .crates;
+      dependencies = s .dependencies;
+      maps = s .maps ++ (x ∷ []);
+      modules = s .modules;
+      children = s .children;
+      preludes = s .preludes;
+      definitions = s .definitions;
+      scopes = s .scopes;
+      imports = s .imports;
+      externs = s .externs;
     }
 
 abbrev pub addModule : Snapshot → Module → Snapshot
 addModule s x =
-    record
-    { names = s .names; crates = s .crates; dependencies = s .dependencies; maps = s .maps; modules = s .modules ++ (x ∷ [])
-    ; children = s .children; preludes = s .preludes; definitions = s .definitions; scopes = s .scopes; imports = s .imports
-    ; externs = s .externs
+    record {
+      names = s .names;
+      crates = s .crates;
+      dependencies = s .dependencies;
+      maps = s .maps;
+      modules = s .modules ++ (x ∷ []);
+      children = s .children;
+      preludes = s .preludes;
+      definitions = s .definitions;
+      scopes = s .scopes;
+      imports = s .imports;
+      externs = s .externs;
     }
 
 abbrev pub addChild : Snapshot → Child → Snapshot
 addChild s x =
-    record
-    { names = s .names; crates = s .crates; dependencies = s .dependencies; maps = s .maps; modules = s .modules
-    ; children = s .children ++ (x ∷ []); preludes = s .preludes; definitions = s .definitions; scopes = s .scopes; imports = s .imports
-    ; externs = s .externs
+    record {
+      names = s .names;
+      crates = s .crates;
+      dependencies = s .dependencies;
+      maps = s .maps;
+      modules = s .modules;
+      children = s .children ++ (x ∷ []);
+      preludes = s .preludes;
+      definitions = s .definitions;
+      scopes = s .scopes;
+      imports = s .imports;
+      externs = s .externs;
     }
 
 abbrev pub addPrelude : Snapshot → Prelude → Snapshot
 addPrelude s x =
-    record
-    { names = s .names; crates = s .crates; dependencies = s .dependencies; maps = s .maps; modules = s .modules
-    ; children = s .children; preludes = s .preludes ++ (x ∷ []); definitions = s .definitions; scopes = s .scopes; imports = s .imports
-    ; externs = s .externs
+    record {
+      names = s .names;
+      crates = s .crates;
+      dependencies = s .dependencies;
+      maps = s .maps;
+      modules = s .modules;
+      children = s .children;
+      preludes = s .preludes ++ (x ∷ []);
+      definitions = s .definitions;
+      scopes = s .scopes;
+      imports = s .imports;
+      externs = s .externs;
     }
 
 abbrev pub addDefinition : Snapshot → Definition → Snapshot
 addDefinition s x =
-    record
-    { names = s .names; crates = s .crates; dependencies = s .dependencies; maps = s .maps; modules = s .modules
-    ; children = s .children; preludes = s .preludes; definitions = s .definitions ++ (x ∷ []); scopes = s .scopes; imports = s .imports
-    ; externs = s .externs
+    record {
+      names = s .names;
+      crates = s .crates;
+      dependencies = s .dependencies;
+      maps = s .maps;
+      modules = s .modules;
+      children = s .children;
+      preludes = s .preludes;
+      definitions = s .definitions ++ (x ∷ []);
+      scopes = s .scopes;
+      imports = s .imports;
+      externs = s .externs;
     }
 
 abbrev pub addScope : Snapshot → Scope → Snapshot
 addScope s x =
-    record
-    { names = s .names; crates = s .crates; dependencies = s .dependencies; maps = s .maps; modules = s .modules
-    ; children = s .children; preludes = s .preludes; definitions = s .definitions; scopes = s .scopes ++ (x ∷ []); imports = s .imports
-    ; externs = s .externs
+    record {
+      names = s .names;
+      crates = s .crates;
+      dependencies = s .dependencies;
+      maps = s .maps;
+      modules = s .modules;
+      children = s .children;
+      preludes = s .preludes;
+      definitions = s .definitions;
+      scopes = s .scopes ++ (x ∷ []);
+      imports = s .imports;
+      externs = s .externs;
     }
 
 abbrev pub addImport : Snapshot → Import → Snapshot
 addImport s x =
-    record
-    { names = s .names; crates = s .crates; dependencies = s .dependencies; maps = s .maps; modules = s .modules
-    ; children = s .children; preludes = s .preludes; definitions = s .definitions; scopes = s .scopes; imports = s .imports ++ (x ∷ [])
-    ; externs = s .externs
+    record {
+      names = s .names;
+      crates = s .crates;
+      dependencies = s .dependencies;
+      maps = s .maps;
+      modules = s .modules;
+      children = s .children;
+      preludes = s .preludes;
+      definitions = s .definitions;
+      scopes = s .scopes;
+      imports = s .imports ++ (x ∷ []);
+      externs = s .externs;
     }
 
 abbrev pub addExtern : Snapshot → Extern → Snapshot
 addExtern s x =
-    record
-    { names = s .names; crates = s .crates; dependencies = s .dependencies; maps = s .maps; modules = s .modules
-    ; children = s .children; preludes = s .preludes; definitions = s .definitions; scopes = s .scopes; imports = s .imports
-    ; externs = s .externs ++ (x ∷ [])
+    record {
+      names = s .names;
+      crates = s .crates;
+      dependencies = s .dependencies;
+      maps = s .maps;
+      modules = s .modules;
+      children = s .children;
+      preludes = s .preludes;
+      definitions = s .definitions;
+      scopes = s .scopes;
+      imports = s .imports;
+      externs = s .externs ++ (x ∷ []);
     }
 
 -- the kinds

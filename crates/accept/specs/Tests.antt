@@ -18,9 +18,12 @@ pub record Counts : Type 0 where
 
 abbrev pub countsOf : Snapshot → Counts
 countsOf s =
-    record
-    { names = length (s .names); crates = length (s .crates); maps = length (s .maps); modules = length (s .modules)
-    ; definitions = length (s .definitions)
+    record {
+      names = length (s .names);
+      crates = length (s .crates);
+      maps = length (s .maps);
+      modules = length (s .modules);
+      definitions = length (s .definitions);
     }
 
 -- what stands for a record that is not there

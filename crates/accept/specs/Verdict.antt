@@ -22,37 +22,47 @@ argumentsFrom W i (suc n) = ltb i (length W) && eqb (kindOf (getD W i 0)) 0 && a
 -- the record of kind k with its head at a place
 unfoldable pub recordStep : ℕ → List ℕ → ℕ → Snapshot → Next
 recordStep k W at s =
-    elim (eqb k 1)
-    [ true ↦ nameStep s (nameAt W at)
-    | false ↦
-    elim (eqb k 2)
-    [ true ↦ crateStep s (crateAt W at)
-    | false ↦
-    elim (eqb k 3)
-    [ true ↦ dependencyStep s (dependencyAt W at)
-    | false ↦
-    elim (eqb k 4)
-    [ true ↦ mapStep s (mapAt W at)
-    | false ↦
-    elim (eqb k 5)
-    [ true ↦ moduleStep s (moduleAt W at)
-    | false ↦
-    elim (eqb k 6)
-    [ true ↦ childStep s (childAt W at)
-    | false ↦
-    elim (eqb k 7)
-    [ true ↦ preludeStep s (preludeAt W at)
-    | false ↦
-    elim (eqb k 8)
-    [ true ↦ definitionStep s (definitionAt W at)
-    | false ↦
-    elim (eqb k 9)
-    [ true ↦ scopeStep s (scopeAt W at)
-    | false ↦
-    elim (eqb k 10)
-    [ true ↦ importStep s (importAt W at)
-    | false ↦
-    externStep s (externAt W at) ] ] ] ] ] ] ] ] ] ]
+    elim (eqb k 1) [
+      | true ↦ nameStep s (nameAt W at)
+      | false ↦
+          elim (eqb k 2) [
+            | true ↦ crateStep s (crateAt W at)
+            | false ↦
+                elim (eqb k 3) [
+                  | true ↦ dependencyStep s (dependencyAt W at)
+                  | false ↦
+                      elim (eqb k 4) [
+                        | true ↦ mapStep s (mapAt W at)
+                        | false ↦
+                            elim (eqb k 5) [
+                              | true ↦ moduleStep s (moduleAt W at)
+                              | false ↦
+                                  elim (eqb k 6) [
+                                    | true ↦ childStep s (childAt W at)
+                                    | false ↦
+                                        elim (eqb k 7) [
+                                          | true ↦ preludeStep s (preludeAt W at)
+                                          | false ↦
+                                              elim (eqb k 8) [
+                                                | true ↦ definitionStep s (definitionAt W at)
+                                                | false ↦
+                                                    elim (eqb k 9) [
+                                                      | true ↦ scopeStep s (scopeAt W at)
+                                                      | false ↦
+                                                          elim (eqb k 10) [
+                                                            | true ↦ importStep s (importAt W at)
+                                                            | false ↦
+                                                                externStep s (externAt W at)
+                                                          ]
+                                                    ]
+                                              ]
+                                        ]
+                                  ]
+                            ]
+                      ]
+                ]
+          ]
+    ]
 
 -- the record with its head at a place, after one of kind last
 unfoldable pub stepAt : List ℕ → ℕ → ℕ → Snapshot → Next
@@ -73,17 +83,27 @@ finish at s = elim (mapsFilled s && cratesOwn s) [ true ↦ accept s | false ↦
 unfoldable pub records : ℕ → List ℕ → ℕ → ℕ → Snapshot → Verdict
 records zero W at last s = finish (length W) s
 records (suc n) W at last s =
-    elim (ltb at (length W))
-    [ true ↦
-        elim (stepAt W at last s)
-        [ no r ↦ refuse r at | on t ↦ records n W (at + 1 + argumentsAt W at) (kindOf (getD W at 0)) t ]
-    | false ↦ finish (length W) s ]
+    elim (ltb at (length W)) [
+      | true ↦
+          elim (stepAt W at last s)
+          [ no r ↦ refuse r at | on t ↦ records n W (at + 1 + argumentsAt W at) (kindOf (getD W at 0)) t ]
+      | false ↦ finish (length W) s
+    ]
 
 abbrev pub empty : Snapshot
 empty =
-    record
-    { names = []; crates = []; dependencies = []; maps = []; modules = []; children = []; preludes = []; definitions = []
-    ; scopes = []; imports = []; externs = []
+    record {
+      names = [];
+      crates = [];
+      dependencies = [];
+      maps = [];
+      modules = [];
+      children = [];
+      preludes = [];
+      definitions = [];
+      scopes = [];
+      imports = [];
+      externs = [];
     }
 
 -- too many words: the place is that of the first word too many

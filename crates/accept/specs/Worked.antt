@@ -17,21 +17,21 @@ worked =
 
 abbrev pub workedSnapshot : Snapshot
 workedSnapshot =
-    record
-    { names = record { bytes = 1; text = 0x61 ∷ [] } ∷ record { bytes = 1; text = 0x66 ∷ [] } ∷ []
-    ; crates = record { origin = 0; noStd = 0 } ∷ []
-    ; dependencies = []
-    ; maps = record { crate = 0; block = 0; noStd = 0 } ∷ []
-    ; modules = record { map = 0; parent = 0 } ∷ record { map = 0; parent = 1 } ∷ []
-    ; children = record { owner = 0; child = 1 } ∷ []
-    ; preludes = []
-    ; definitions = record { kind = 1; first = 1; second = 0 } ∷ record { kind = 4; first = 1; second = 0 } ∷ []
-    ; scopes =
-        record { owner = 0; ns = 0; name = 0; definition = 0; visibility = 0; number = 0; declared = 1 }
-        ∷ record { owner = 1; ns = 1; name = 1; definition = 1; visibility = 0; number = 0; declared = 1 }
-        ∷ []
-    ; imports = []
-    ; externs = []
+    record {
+      names = record { bytes = 1; text = 0x61 ∷ [] } ∷ record { bytes = 1; text = 0x66 ∷ [] } ∷ [];
+      crates = record { origin = 0; noStd = 0 } ∷ [];
+      dependencies = [];
+      maps = record { crate = 0; block = 0; noStd = 0 } ∷ [];
+      modules = record { map = 0; parent = 0 } ∷ record { map = 0; parent = 1 } ∷ [];
+      children = record { owner = 0; child = 1 } ∷ [];
+      preludes = [];
+      definitions = record { kind = 1; first = 1; second = 0 } ∷ record { kind = 4; first = 1; second = 0 } ∷ [];
+      scopes =
+          record { owner = 0; ns = 0; name = 0; definition = 0; visibility = 0; number = 0; declared = 1 }
+          ∷ record { owner = 1; ns = 1; name = 1; definition = 1; visibility = 0; number = 0; declared = 1 }
+          ∷ [];
+      imports = [];
+      externs = [];
     }
 
 pub worked-accepted : verdict worked ≡ accept workedSnapshot

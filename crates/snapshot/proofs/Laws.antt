@@ -91,8 +91,8 @@ rows-part W a n h =
     let e : length (take n (drop a W)) ≡ n = simp (length-take, length-drop) (omega arith) in
     ext-getD 0 (rows (λ i. getD W (a + i) 0) 0 n) (take n (drop a W)) (length-rows _ n ∙ sym e)
     (λ i p.
-      let q : i < n = rw (length-rows (λ j. getD W (a + j) 0) n) at p in
-      getD-rows (λ j. getD W (a + j) 0) 0 n i q ∙ sym (getD-take n (drop a W) i 0 q ∙ getD-drop a W i 0))
+    let q : i < n = rw (length-rows (λ j. getD W (a + j) 0) n) at p in
+    getD-rows (λ j. getD W (a + j) 0) 0 n i q ∙ sym (getD-take n (drop a W) i 0 q ∙ getD-drop a W i 0))
 
 -- one row more, in a table that starts at b with a width w
 pub rows-put : {A : Type 0} (f g : ℕ → A) (n : ℕ) (v : A) → ((k : ℕ) → k < n → g k ≡ f k) → g n ≡ v
@@ -154,3 +154,7 @@ text-cut W h n e p =
 
 pub text-whole : (W : List ℕ) (h n : ℕ) → n ≡ wordsOf (payOf (getD W h 0)) → take (h + 1 + n - (h + 1)) (drop (h + 1) W) ≡ textAt W h
 text-whole W h n e = let q : h + 1 + n - (h + 1) ≡ n = omega arith in ap (λ x. take x (drop (h + 1) W)) (q ∙ e)
+
+-- a word some places after a head
+pub after-head : (W : List ℕ) (h i : ℕ) → getD W (h + (1 + i)) 0 ≡ getD W (h + 1 + i) 0
+after-head W h i = let e : h + (1 + i) ≡ h + 1 + i = omega arith in ap (λ x. getD W x 0) e

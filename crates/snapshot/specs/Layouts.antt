@@ -39,6 +39,25 @@ externBase l = importBase l + 6 * l .imports
 abbrev pub wordCount : Layout → ℕ
 wordCount l = externBase l + 3 * l .externs
 
+-- no record
+abbrev pub noRecords : Layout
+noRecords =
+    record {
+      text = 0;
+      names = 0;
+      crates = 0;
+      dependencies = 0;
+      maps = 0;
+      modules = 0;
+      children = 0;
+      preludes = 0;
+      definitions = 0;
+      scopes = 0;
+      imports = 0;
+      externs = 0;
+      latest = 0;
+    }
+
 -- the tables of the work area: a name's head; a module's map, its map's head and its parent +1; a map's root; a crate's own map +1
 
 abbrev pub nameHead : List ℕ → ℕ → ℕ
@@ -82,18 +101,18 @@ recordsOf f size W base n = rows (λ k. f W (base + size * k)) 0 n
 -- the lists of a layout, with the maps given
 abbrev pub snapWith : List ℕ → List ℕ → Layout → List Map → Snapshot
 snapWith W A l ms =
-    record
-    { names = namesOf W A (l .names)
-    ; crates = recordsOf crateAt 1 W (crateBase l) (l .crates)
-    ; dependencies = recordsOf dependencyAt 3 W (dependencyBase l) (l .dependencies)
-    ; maps = ms
-    ; modules = modulesOf A (l .modules)
-    ; children = recordsOf childAt 2 W (childBase l) (l .children)
-    ; preludes = recordsOf preludeAt 2 W (preludeBase l) (l .preludes)
-    ; definitions = recordsOf definitionAt 3 W (definitionBase l) (l .definitions)
-    ; scopes = recordsOf scopeAt 7 W (scopeBase l) (l .scopes)
-    ; imports = recordsOf importAt 6 W (importBase l) (l .imports)
-    ; externs = recordsOf externAt 3 W (externBase l) (l .externs)
+    record {
+      names = namesOf W A (l .names);
+      crates = recordsOf crateAt 1 W (crateBase l) (l .crates);
+      dependencies = recordsOf dependencyAt 3 W (dependencyBase l) (l .dependencies);
+      maps = ms;
+      modules = modulesOf A (l .modules);
+      children = recordsOf childAt 2 W (childBase l) (l .children);
+      preludes = recordsOf preludeAt 2 W (preludeBase l) (l .preludes);
+      definitions = recordsOf definitionAt 3 W (definitionBase l) (l .definitions);
+      scopes = recordsOf scopeAt 7 W (scopeBase l) (l .scopes);
+      imports = recordsOf importAt 6 W (importBase l) (l .imports);
+      externs = recordsOf externAt 3 W (externBase l) (l .externs);
     }
 
 -- the lists of a layout and its tables

@@ -115,16 +115,25 @@ definitionAt W h = record { kind = payOf (getD W h 0); first = getD W (h + 1) 0;
 
 abbrev pub scopeAt : List ℕ → ℕ → Scope
 scopeAt W h =
-    record
-    { owner = payOf (getD W h 0); ns = getD W (h + 1) 0; name = getD W (h + 2) 0; definition = getD W (h + 3) 0
-    ; visibility = getD W (h + 4) 0; number = getD W (h + 5) 0; declared = getD W (h + 6) 0
+    record {
+      owner = payOf (getD W h 0);
+      ns = getD W (h + 1) 0;
+      name = getD W (h + 2) 0;
+      definition = getD W (h + 3) 0;
+      visibility = getD W (h + 4) 0;
+      number = getD W (h + 5) 0;
+      declared = getD W (h + 6) 0;
     }
 
 abbrev pub importAt : List ℕ → ℕ → Import
 importAt W h =
-    record
-    { owner = payOf (getD W h 0); ns = getD W (h + 1) 0; definition = getD W (h + 2) 0; name = getD W (h + 3) 0
-    ; container = getD W (h + 4) 0; bits = getD W (h + 5) 0
+    record {
+      owner = payOf (getD W h 0);
+      ns = getD W (h + 1) 0;
+      definition = getD W (h + 2) 0;
+      name = getD W (h + 3) 0;
+      container = getD W (h + 4) 0;
+      bits = getD W (h + 5) 0;
     }
 
 abbrev pub externAt : List ℕ → ℕ → Extern

@@ -3,24 +3,35 @@ ghost use mathlib.Core.Path.{_≡_};
 ghost use Prim.Native.Nat.{ℕ, _+_, _^_, _<_};
 ghost use lib.ListN.{getD};
 ghost use Rattle.snapshot.specs.Words.{kindOf, payOf, wordsOf, argumentTable, argumentsOf, argumentsAt};
-
-use crate::words::{kind, payload};
+use crate::words::kind;
+use crate::words::payload;
 
 /// A record's kind, as its head has it.
 pub struct Kind(pub usize);
 
 impl Kind {
     pub const ARGUMENT: usize = 0;
+
     pub const NAME: usize = 1;
+
     pub const CRATE: usize = 2;
+
     pub const DEPENDENCY: usize = 3;
+
     pub const MAP: usize = 4;
+
     pub const MODULE: usize = 5;
+
     pub const CHILD: usize = 6;
+
     pub const PRELUDE: usize = 7;
+
     pub const DEFINITION: usize = 8;
+
     pub const SCOPE: usize = 9;
+
     pub const IMPORT: usize = 10;
+
     pub const EXTERN: usize = 11;
 }
 

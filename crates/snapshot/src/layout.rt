@@ -1,7 +1,7 @@
 //! Where the records of an accepted snapshot stand.
 ghost use mathlib.Core.Path.{_≡_};
 ghost use Prim.Native.Nat.{ℕ, _+_, _*_, _^_, _<_};
-ghost use Rattle.snapshot.specs.Layouts.{dependencyBase, mapBase, childBase, preludeBase, definitionBase, scopeBase, importBase, externBase, wordCount};
+ghost use Rattle.snapshot.specs.Layouts.{dependencyBase, mapBase, childBase, preludeBase, definitionBase, scopeBase, importBase, externBase, wordCount, noRecords};
 
 /// How many records of each kind there are, and how many words the names take; the kinds stand in order, so the rest follows.
 pub struct Layout {
@@ -19,12 +19,14 @@ pub struct Layout {
     pub imports: usize,
     pub externs: usize,
     /// The head of the last map.
-    pub latest: usize,
+    pub latest: u32,
 }
 
 impl Layout {
     /// No record.
-    pub fn new() -> Self {
+    pub fn new() -> Self
+        ensures { λ r. ⌜ r ≡ noRecords ⌝ }
+    {
         Layout {
             text: 0,
             names: 0,

@@ -1,9 +1,12 @@
 //! The fields of the records, by the place of the record's head.
 ghost use mathlib.Core.Path.{_≡_};
 ghost use Rattle.snapshot.specs.Records.{crateAt, dependencyAt, mapAt, moduleAt, childAt, preludeAt, definitionAt, scopeAt, importAt, externAt};
-
-use crate::ids::{Crate, DefinitionId, ModuleId, Name};
-use crate::words::{field, payload};
+use crate::ids::Crate;
+use crate::ids::DefinitionId;
+use crate::ids::ModuleId;
+use crate::ids::Name;
+use crate::words::field;
+use crate::words::payload;
 
 /// 0 ordinary, 1 core, 2 alloc, 3 std, 4 other language.
 pub fn crate_origin(words: &[u32], at: usize) -> usize

@@ -3,8 +3,9 @@ ghost use mathlib.Core.Path.{_≡_};
 ghost use Prim.Native.Nat.{ℕ, _+_, _*_, _^_, _<_};
 ghost use lib.ListN.{getD};
 ghost use Rattle.snapshot.specs.Layouts.{nameHead, moduleMap, moduleHead, moduleParent, mapRoot, ownMap};
-
-use crate::ids::{Crate, ModuleId, Name};
+use crate::ids::Crate;
+use crate::ids::ModuleId;
+use crate::ids::Name;
 use crate::words::word;
 
 /// The first word of each table, and the first word past them.
@@ -19,6 +20,7 @@ impl Tables {
     pub const ROOTS: usize = 3584;
     /// A word a crate: its own map +1.
     pub const CRATES: usize = 4096;
+
     pub const END: usize = 4160;
 }
 

@@ -2,7 +2,6 @@
 ghost use mathlib.Core.Path.{_≡_};
 ghost use Rattle.snapshot.specs.Words.{textAt};
 ghost use Rattle.snapshot.specs.Layouts.{nameHead};
-
 use crate::ids::Name;
 use crate::kind::text_words;
 use crate::table::name_head;

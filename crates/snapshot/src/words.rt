@@ -14,11 +14,7 @@ fn wide(x: u32) -> usize
 pub fn word(words: &[u32], i: usize) -> usize
     ensures { λ r. ⌜ r ≡ getD (now (words .entry)) i 0 ⌝ }
 {
-    if i < words.len() {
-        wide(words[i])
-    } else {
-        0
-    }
+    if i < words.len() { wide(words[i]) } else { 0 }
 }
 
 /// The word i places after a record's head.

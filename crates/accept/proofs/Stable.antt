@@ -1,0 +1,101 @@
+-- Accepted words stay readable while the words of the tables stay: what a search writes past them does not matter.
+use Prim.Native.Nat.{ℕ, _+_, _*_, _≤_, _<_}
+use mathlib.Core.Path.{_≡_, refl, sym, _∙_, ap, subst}
+use mathlib.Core.List.{List, _++_}
+use mathlib.Core.Bool.{true, false}
+use native.Mathlib.Omega.{arith}
+use lib.ListN.{length, getD, take, drop, List·getD-append}
+use lib.Seq.{drop-at}
+use borrow.Author.Tests.{lt-ltb, le-ltb}
+use Rattle.snapshot.specs.Records.{mapAt, crateAt, dependencyAt, childAt, preludeAt, definitionAt, scopeAt, importAt, externAt}
+use Rattle.snapshot.specs.Layouts.{crateBase, dependencyBase, childBase, preludeBase, definitionBase, scopeBase, importBase, externBase, moduleMap, moduleHead, mapRoot, ownMap, namesOf, mapsOf, modulesOf, recordsOf, snapOf}
+use Rattle.snapshot.specs.declared.layout.Layout.{Layout}
+use Rattle.snapshot.proofs.Laws.{rows-ext}
+use Rattle.accept.specs.Verdict.{refuse, accept}
+use Rattle.accept.specs.Stands.{ownOf}
+use Rattle.accept.specs.Post.{Tables, Judged, Checks, checkOf, outcome, Readable}
+use Rattle.accept.specs.declared.check.Checked.{Checked}
+use Rattle.accept.specs.declared.check.Checked.the-variants.{Refused, Accepted}
+use Rattle.accept.proofs.Tabled.{Kept, names-kept, modules-kept, heads-kept}
+
+module _ (W A B : List ℕ) (l : Layout) (t : Tables W A l) (kept : Kept A B 0 4160) where
+  map-stays : (m : ℕ) → m < l .modules → moduleMap B m ≡ moduleMap A m
+  map-stays m h = let q = t .limited .modules in kept (2048 + 3 * m) (omega arith) (omega arith)
+
+  root-stays : (k : ℕ) → k < l .maps → mapRoot B k ≡ mapRoot A k
+  root-stays k h = let q = t .limited .modules in let r = t .maps in kept (3584 + k) (omega arith) (omega arith)
+
+  own-stays : (c : ℕ) → c < l .crates → ownMap B c ≡ ownMap A c
+  own-stays c h = let q = t .limited .crates in kept (4096 + c) (omega arith) (omega arith)
+
+  maps-stay : mapsOf W B (l .maps) ≡ mapsOf W A (l .maps)
+  maps-stay =
+      rows-ext _ _ (l .maps)
+      (λ k h.
+      let q = t .limited .modules in
+      let r = t .rooted k h in
+      ap (λ x. mapAt W (moduleHead B x)) (root-stays k h) ∙ ap (mapAt W) (kept (2048 + 3 * mapRoot A k + 1) (omega arith) (omega arith)))
+
+  -- the snapshot is the same
+  pub snap-stays : snapOf W B l ≡ snapOf W A l
+  snap-stays =
+      let q-names : namesOf W B (l .names) ≡ namesOf W A (l .names) = names-kept W A B (l .names) (t .limited .names) (λ i u v. kept i u (omega arith)) in
+      let q-modules : modulesOf B (l .modules) ≡ modulesOf A (l .modules) = modules-kept A B (l .modules) (t .limited .modules) (λ i u v. kept i (omega arith) (omega arith)) in
+      let q-maps = maps-stay in
+      λ i. record {
+        names = q-names i;
+        crates = recordsOf crateAt 1 W (crateBase l) (l .crates);
+        dependencies = recordsOf dependencyAt 3 W (dependencyBase l) (l .dependencies);
+        maps = q-maps i;
+        modules = q-modules i;
+        children = recordsOf childAt 2 W (childBase l) (l .children);
+        preludes = recordsOf preludeAt 2 W (preludeBase l) (l .preludes);
+        definitions = recordsOf definitionAt 3 W (definitionBase l) (l .definitions);
+        scopes = recordsOf scopeAt 7 W (scopeBase l) (l .scopes);
+        imports = recordsOf importAt 6 W (importBase l) (l .imports);
+        externs = recordsOf externAt 3 W (externBase l) (l .externs);
+      }
+
+  -- and so are the tables
+  pub tables-stay : Tables W B l
+  tables-stay =
+      record {
+        whole = t .whole;
+        short = t .short;
+        limited = t .limited;
+        maps = t .maps;
+        heads = heads-kept W A B (l .names) (t .limited .names) (λ i u v. kept i u (omega arith)) (t .heads);
+        below = λ m h. rw (map-stays m h) (t .below m h);
+        rooted = λ k h. rw (root-stays k h) (t .rooted k h);
+        inside = λ k h. ap (moduleMap B) (root-stays k h) ∙ map-stays (mapRoot A k) (t .rooted k h) ∙ t .inside k h;
+        first = λ m h. rw (map-stays m h, root-stays (moduleMap A m) (t .below m h)) (t .first m h);
+        own = λ c h. own-stays c h ∙ t .own c h ∙ ap (ownOf c) (sym maps-stay);
+        owned = λ c h. rw (own-stays c h) (t .owned c h);
+      }
+
+-- the check in the first part of an area
+module _ (W A B : List ℕ) (large : 16384 ≤ length A) (long : length B ≡ 16384) where
+  joined : Kept B (B ++ drop 16384 A) 0 4160
+  joined i p q = List·getD-append B (drop 16384 A) 0 i (omega arith)
+
+  same-at : (r : Checked) → Readable W B r → outcome W (B ++ drop 16384 A) r ≡ outcome W B r
+  same-at (Refused n at) t = refl
+  same-at (Accepted l) t = ap accept (snap-stays W B (B ++ drop 16384 A) l t joined)
+
+  tables-at : (r : Checked) → Readable W B r → Readable W (B ++ drop 16384 A) r
+  tables-at (Refused n at) t = tt
+  tables-at (Accepted l) t = tables-stay W B (B ++ drop 16384 A) l t joined
+
+  pub checks-part : (r : Checked) → Judged W B r → Checks W A (B ++ drop 16384 A) r
+  unfolding checkOf
+  checks-part r j =
+      record {
+        same = same-at r (j .tables) ∙ j .same ∙ sym (rw (checkOf, le-ltb _ _ large));
+        tables = tables-at r (j .tables);
+        rest = drop-at B (drop 16384 A) 16384 long;
+        untouched = λ h. absurd (omega arith);
+      }
+
+pub checks-small : (W A : List ℕ) → length A < 16384 → Checks W A A (Refused 20 0)
+unfolding checkOf
+checks-small W A h = record { same = sym (rw (checkOf, lt-ltb _ _ h)); tables = tt; rest = refl; untouched = λ g. refl }

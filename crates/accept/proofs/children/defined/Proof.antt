@@ -1,0 +1,22 @@
+use borrow.Author.Needs.{needs}
+use Rattle.accept.proofs.children.defined.Statement.{statement}
+use Rattle.accept.proofs.children.defined.Tie as tie
+use Rattle.accept.proofs.children.defined.Reads as reads
+use Rattle.accept.proofs.children.defined.Lts as lts
+use Rattle.snapshot.proofs.record.child_child.Reads as child-child-reads
+use Rattle.snapshot.proofs.record.child_owner.Reads as child-owner-reads
+
+-- src/children.rt:23:9
+child-owner-requires : tie.Need-child-owner-requires
+child-owner-requires c κs = search needs
+
+-- src/children.rt:24:9
+child-child-requires : tie.Need-child-child-requires
+child-child-requires c κs = search needs
+
+-- src/children.rt:20:1
+returns : tie.Need-returns
+returns c = cc
+
+pub defined-spec : {M : Type 1} → statement M
+defined-spec = tie.close (tie.spec child-owner-requires child-child-requires returns)

@@ -1,0 +1,33 @@
+use borrow.Author.Needs.{needs}
+use Rattle.accept.proofs.definitions.defined.Statement.{statement}
+use Rattle.accept.proofs.definitions.defined.Tie as tie
+use Rattle.accept.proofs.definitions.defined.Reads as reads
+use Rattle.accept.proofs.definitions.defined.Lts as lts
+use Rattle.snapshot.proofs.record.definition_first.Reads as definition-first-reads
+use Rattle.snapshot.proofs.record.definition_kind.Reads as definition-kind-reads
+use Rattle.snapshot.proofs.record.definition_second.Reads as definition-second-reads
+
+-- src/definitions.rt:54:9
+definition-kind-requires : tie.Need-definition-kind-requires
+definition-kind-requires c κs = search needs
+
+-- src/definitions.rt:55:9
+definition-first-requires : tie.Need-definition-first-requires
+definition-first-requires c κs = search needs
+
+-- src/definitions.rt:56:9
+definition-second-requires : tie.Need-definition-second-requires
+definition-second-requires c κs = search needs
+
+-- src/definitions.rt:51:1
+returns : tie.Need-returns
+returns c = cc
+
+pub defined-spec : {M : Type 1} → statement M
+defined-spec =
+    tie.close
+    (tie.spec
+    definition-kind-requires
+    definition-first-requires
+    definition-second-requires
+    returns)

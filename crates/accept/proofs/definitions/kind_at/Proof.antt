@@ -1,0 +1,37 @@
+use borrow.Author.Needs.{needs}
+use Rattle.accept.proofs.definitions.kind_at.Statement.{statement}
+use Rattle.accept.proofs.definitions.kind_at.Tie as tie
+use Rattle.accept.proofs.definitions.kind_at.Reads as reads
+use Rattle.accept.proofs.definitions.kind_at.Lts as lts
+use Rattle.snapshot.proofs.layout.Layout.definition_base.Reads as definition-base-reads
+use Rattle.snapshot.proofs.record.definition_kind.Reads as definition-kind-reads
+
+-- src/definitions.rt:29:28
+definition-base-requires : tie.Need-definition-base-requires
+definition-base-requires c κs = search needs
+
+-- src/definitions.rt:29:50
+mul-definition-kind : tie.Need-mul-definition-kind
+mul-definition-kind c = search needs
+
+-- src/definitions.rt:29:28
+add-definition-kind : tie.Need-add-definition-kind
+add-definition-kind c = search needs
+
+-- src/definitions.rt:29:5
+definition-kind-requires : tie.Need-definition-kind-requires
+definition-kind-requires c κs = search needs
+
+-- src/definitions.rt:25:1
+returns : tie.Need-returns
+returns c = cc
+
+pub kind-at-spec : {M : Type 1} → statement M
+kind-at-spec =
+    tie.close
+    (tie.spec
+    definition-base-requires
+    mul-definition-kind
+    add-definition-kind
+    definition-kind-requires
+    returns)

@@ -1,0 +1,17 @@
+use borrow.Author.Needs.{needs}
+use Rattle.accept.proofs.definitions.ns_placed.Statement.{statement}
+use Rattle.accept.proofs.definitions.ns_placed.Tie as tie
+use Rattle.accept.proofs.definitions.ns_placed.Reads as reads
+use Rattle.accept.proofs.definitions.ns_placed.Lts as lts
+use Rattle.accept.proofs.definitions.kind_at.Reads as kind-at-reads
+
+-- src/definitions.rt:37:18
+kind-at-requires : tie.Need-kind-at-requires
+kind-at-requires c κs = search needs
+
+-- src/definitions.rt:33:1
+returns : tie.Need-returns
+returns c = cc
+
+pub ns-placed-spec : {M : Type 1} → statement M
+ns-placed-spec = tie.close (tie.spec kind-at-requires returns)

@@ -1,0 +1,22 @@
+use borrow.Author.Needs.{needs}
+use Rattle.accept.proofs.dependencies.defined.Statement.{statement}
+use Rattle.accept.proofs.dependencies.defined.Tie as tie
+use Rattle.accept.proofs.dependencies.defined.Reads as reads
+use Rattle.accept.proofs.dependencies.defined.Lts as lts
+use Rattle.snapshot.proofs.record.dependency_crate.Reads as dependency-crate-reads
+use Rattle.snapshot.proofs.record.dependency_owner.Reads as dependency-owner-reads
+
+-- src/dependencies.rt:23:9
+dependency-owner-requires : tie.Need-dependency-owner-requires
+dependency-owner-requires c κs = search needs
+
+-- src/dependencies.rt:24:9
+dependency-crate-requires : tie.Need-dependency-crate-requires
+dependency-crate-requires c κs = search needs
+
+-- src/dependencies.rt:20:1
+returns : tie.Need-returns
+returns c = cc
+
+pub defined-spec : {M : Type 1} → statement M
+defined-spec = tie.close (tie.spec dependency-owner-requires dependency-crate-requires returns)

@@ -1,0 +1,17 @@
+use borrow.Author.Needs.{needs}
+use Rattle.accept.proofs.dependencies.in_range.Statement.{statement}
+use Rattle.accept.proofs.dependencies.in_range.Tie as tie
+use Rattle.accept.proofs.dependencies.in_range.Reads as reads
+use Rattle.accept.proofs.dependencies.in_range.Lts as lts
+use Rattle.snapshot.proofs.record.dependency_sysroot.Reads as dependency-sysroot-reads
+
+-- src/dependencies.rt:17:5
+dependency-sysroot-requires : tie.Need-dependency-sysroot-requires
+dependency-sysroot-requires c κs = search needs
+
+-- src/dependencies.rt:14:1
+returns : tie.Need-returns
+returns c = cc
+
+pub in-range-spec : {M : Type 1} → statement M
+in-range-spec = tie.close (tie.spec dependency-sysroot-requires returns)

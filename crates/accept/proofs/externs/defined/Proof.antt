@@ -1,0 +1,28 @@
+use borrow.Author.Needs.{needs}
+use Rattle.accept.proofs.externs.defined.Statement.{statement}
+use Rattle.accept.proofs.externs.defined.Tie as tie
+use Rattle.accept.proofs.externs.defined.Reads as reads
+use Rattle.accept.proofs.externs.defined.Lts as lts
+use Rattle.snapshot.proofs.record.extern_name.Reads as extern-name-reads
+use Rattle.snapshot.proofs.record.extern_owner.Reads as extern-owner-reads
+use Rattle.snapshot.proofs.record.extern_target.Reads as extern-target-reads
+
+-- src/externs.rt:18:9
+extern-owner-requires : tie.Need-extern-owner-requires
+extern-owner-requires c κs = search needs
+
+-- src/externs.rt:19:9
+extern-name-requires : tie.Need-extern-name-requires
+extern-name-requires c κs = search needs
+
+-- src/externs.rt:20:9
+extern-target-requires : tie.Need-extern-target-requires
+extern-target-requires c κs = search needs
+
+-- src/externs.rt:15:1
+returns : tie.Need-returns
+returns c = cc
+
+pub defined-spec : {M : Type 1} → statement M
+defined-spec =
+    tie.close (tie.spec extern-owner-requires extern-name-requires extern-target-requires returns)

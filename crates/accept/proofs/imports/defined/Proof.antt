@@ -1,0 +1,39 @@
+use borrow.Author.Needs.{needs}
+use Rattle.accept.proofs.imports.defined.Statement.{statement}
+use Rattle.accept.proofs.imports.defined.Tie as tie
+use Rattle.accept.proofs.imports.defined.Reads as reads
+use Rattle.accept.proofs.imports.defined.Lts as lts
+use Rattle.snapshot.proofs.record.import_container.Reads as import-container-reads
+use Rattle.snapshot.proofs.record.import_definition.Reads as import-definition-reads
+use Rattle.snapshot.proofs.record.import_name.Reads as import-name-reads
+use Rattle.snapshot.proofs.record.import_owner.Reads as import-owner-reads
+
+-- src/imports.rt:24:9
+import-owner-requires : tie.Need-import-owner-requires
+import-owner-requires c κs = search needs
+
+-- src/imports.rt:25:9
+import-definition-requires : tie.Need-import-definition-requires
+import-definition-requires c κs = search needs
+
+-- src/imports.rt:26:9
+import-name-requires : tie.Need-import-name-requires
+import-name-requires c κs = search needs
+
+-- src/imports.rt:27:9
+import-container-requires : tie.Need-import-container-requires
+import-container-requires c κs = search needs
+
+-- src/imports.rt:21:1
+returns : tie.Need-returns
+returns c = cc
+
+pub defined-spec : {M : Type 1} → statement M
+defined-spec =
+    tie.close
+    (tie.spec
+    import-owner-requires
+    import-definition-requires
+    import-name-requires
+    import-container-requires
+    returns)

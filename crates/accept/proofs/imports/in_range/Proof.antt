@@ -1,0 +1,22 @@
+use borrow.Author.Needs.{needs}
+use Rattle.accept.proofs.imports.in_range.Statement.{statement}
+use Rattle.accept.proofs.imports.in_range.Tie as tie
+use Rattle.accept.proofs.imports.in_range.Reads as reads
+use Rattle.accept.proofs.imports.in_range.Lts as lts
+use Rattle.snapshot.proofs.record.import_bits.Reads as import-bits-reads
+use Rattle.snapshot.proofs.record.import_ns.Reads as import-ns-reads
+
+-- src/imports.rt:18:6
+import-ns-requires : tie.Need-import-ns-requires
+import-ns-requires c κs = search needs
+
+-- src/imports.rt:18:36
+import-bits-requires : tie.Need-import-bits-requires
+import-bits-requires c κs = search needs
+
+-- src/imports.rt:15:1
+returns : tie.Need-returns
+returns c = cc
+
+pub in-range-spec : {M : Type 1} → statement M
+in-range-spec = tie.close (tie.spec import-ns-requires import-bits-requires returns)

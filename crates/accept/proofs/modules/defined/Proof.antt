@@ -1,0 +1,22 @@
+use borrow.Author.Needs.{needs}
+use Rattle.accept.proofs.modules.defined.Statement.{statement}
+use Rattle.accept.proofs.modules.defined.Tie as tie
+use Rattle.accept.proofs.modules.defined.Reads as reads
+use Rattle.accept.proofs.modules.defined.Lts as lts
+use Rattle.snapshot.proofs.record.module_map.Reads as module-map-reads
+use Rattle.snapshot.proofs.record.module_parent.Reads as module-parent-reads
+
+-- src/modules.rt:24:6
+module-map-requires : tie.Need-module-map-requires
+module-map-requires c κs = search needs
+
+-- src/modules.rt:24:40
+module-parent-requires : tie.Need-module-parent-requires
+module-parent-requires c κs = search needs
+
+-- src/modules.rt:21:1
+returns : tie.Need-returns
+returns c = cc
+
+pub defined-spec : {M : Type 1} → statement M
+defined-spec = tie.close (tie.spec module-map-requires module-parent-requires returns)

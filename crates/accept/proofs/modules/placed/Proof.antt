@@ -1,0 +1,39 @@
+use borrow.Author.Needs.{needs}
+use mathlib.Core.Path.{_≡_, refl, sym, ap, _∙_}
+use denote.Ref.{now}
+use Rattle.snapshot.specs.Lists.{any}
+use Rattle.snapshot.specs.Layouts.{modulesOf}
+use Rattle.accept.specs.Tests.{isIn}
+use Rattle.accept.proofs.modules.placed.Statement.{statement}
+use Rattle.accept.proofs.modules.placed.Tie as tie
+
+module-map-requires : tie.Need-module-map-requires
+module-map-requires c κs = search needs
+
+module-parent-requires : tie.Need-module-parent-requires
+module-parent-requires c κs = search needs
+
+has-module-requires : tie.Need-has-module-requires
+has-module-requires c κs = search needs
+
+add-result : tie.Need-add-result
+add-result c = search needs
+
+parent-placed-requires : tie.Need-parent-placed-requires
+parent-placed-requires c κs = search needs
+
+returns : tie.Need-returns
+returns c =
+    let s = c .before .before .before .before .before .before .before in
+    cc (ap (λ x. any (isIn x) (modulesOf (now (s .args .area)) (s .args .l .modules))) (c .before .before .before .before .module-map .ensures))
+
+pub placed-spec : {M : Type 1} → statement M
+placed-spec =
+    tie.close
+    (tie.spec
+    module-map-requires
+    module-parent-requires
+    has-module-requires
+    add-result
+    parent-placed-requires
+    returns)

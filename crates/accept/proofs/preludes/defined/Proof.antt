@@ -1,0 +1,22 @@
+use borrow.Author.Needs.{needs}
+use Rattle.accept.proofs.preludes.defined.Statement.{statement}
+use Rattle.accept.proofs.preludes.defined.Tie as tie
+use Rattle.accept.proofs.preludes.defined.Reads as reads
+use Rattle.accept.proofs.preludes.defined.Lts as lts
+use Rattle.snapshot.proofs.record.prelude_map.Reads as prelude-map-reads
+use Rattle.snapshot.proofs.record.prelude_target.Reads as prelude-target-reads
+
+-- src/preludes.rt:18:9
+prelude-target-requires : tie.Need-prelude-target-requires
+prelude-target-requires c κs = search needs
+
+-- src/preludes.rt:19:6
+prelude-map-requires : tie.Need-prelude-map-requires
+prelude-map-requires c κs = search needs
+
+-- src/preludes.rt:15:1
+returns : tie.Need-returns
+returns c = cc
+
+pub defined-spec : {M : Type 1} → statement M
+defined-spec = tie.close (tie.spec prelude-target-requires prelude-map-requires returns)

@@ -1,0 +1,45 @@
+use borrow.Author.Needs.{needs}
+use Rattle.accept.proofs.scopes.defined.Statement.{statement}
+use Rattle.accept.proofs.scopes.defined.Tie as tie
+use Rattle.accept.proofs.scopes.defined.Reads as reads
+use Rattle.accept.proofs.scopes.defined.Lts as lts
+use Rattle.snapshot.proofs.record.scope_definition.Reads as scope-definition-reads
+use Rattle.snapshot.proofs.record.scope_name.Reads as scope-name-reads
+use Rattle.snapshot.proofs.record.scope_number.Reads as scope-number-reads
+use Rattle.snapshot.proofs.record.scope_owner.Reads as scope-owner-reads
+use Rattle.snapshot.proofs.record.scope_visibility.Reads as scope-visibility-reads
+
+-- src/scopes.rt:27:9
+scope-owner-requires : tie.Need-scope-owner-requires
+scope-owner-requires c κs = search needs
+
+-- src/scopes.rt:28:9
+scope-name-requires : tie.Need-scope-name-requires
+scope-name-requires c κs = search needs
+
+-- src/scopes.rt:29:9
+scope-definition-requires : tie.Need-scope-definition-requires
+scope-definition-requires c κs = search needs
+
+-- src/scopes.rt:30:9
+scope-visibility-requires : tie.Need-scope-visibility-requires
+scope-visibility-requires c κs = search needs
+
+-- src/scopes.rt:31:9
+scope-number-requires : tie.Need-scope-number-requires
+scope-number-requires c κs = search needs
+
+-- src/scopes.rt:24:1
+returns : tie.Need-returns
+returns c = cc
+
+pub defined-spec : {M : Type 1} → statement M
+defined-spec =
+    tie.close
+    (tie.spec
+    scope-owner-requires
+    scope-name-requires
+    scope-definition-requires
+    scope-visibility-requires
+    scope-number-requires
+    returns)

@@ -1,0 +1,61 @@
+//! One record, by its kind.
+ghost use mathlib.Core.Path.{_≡_};
+ghost use mathlib.Core.List.{List};
+ghost use Prim.Native.Nat.{ℕ, _+_, _≤_};
+ghost use lib.ListN.{getD};
+ghost use Rattle.snapshot.specs.Words.{kindOf, argumentsAt};
+ghost use Rattle.snapshot.specs.Records.{Map};
+ghost use Rattle.snapshot.specs.Layouts.{snapWith};
+ghost use Rattle.accept.specs.Verdict.{follows as followsOf, recordStep, stepAt};
+ghost use Rattle.accept.specs.Stands.{Ready, Here, Stands, Answered};
+use crate::arguments::arguments_from;
+use crate::judge::Step;
+use snapshot::kind::Kind;
+use snapshot::kind::arguments;
+use snapshot::layout::Layout;
+use snapshot::words::kind;
+
+// Whether a record of a kind may follow one of the last kind.
+fn follows(last: usize, kind: usize) -> bool
+    ensures { λ r. ⌜ r ≡ followsOf last kind ⌝ }
+{
+    let again = (last == Kind::MODULE) & (kind == Kind::MAP);
+    (Kind::NAME <= kind) & (kind <= Kind::EXTERN) & ((last <= kind) | again)
+}
+
+// The record of a known kind.
+fn by_kind(words: &[u32], area: &mut [u32], l: Layout, at: usize, k: usize) -> Step
+    requires { ⌜ Ready (now words) (now area) l at (at + 1 + argumentsAt (now words) at) ⌝ }
+    requires { ⌜ (k ≡ kindOf (getD (now words) at 0)) × (1 ≤ k) × (k ≤ 11) ⌝ }
+    ensures { λ r. ⌜ ((ms : List Map) → Stands (now (words .entry)) (now (area .entry)) k at l ms → Answered (now (words .entry)) (now (area .exit)) k (at + 1 + argumentsAt (now (words .entry)) at) (recordStep k (now (words .entry)) at (snapWith (now (words .entry)) (now (area .entry)) l ms)) r) ⌝ }
+{
+    match k {
+        1 => crate::names::step(words, area, l, at),
+        2 => crate::crates::step(words, area, l, at),
+        3 => crate::dependencies::step(words, area, l, at),
+        4 => crate::maps::step(words, area, l, at),
+        5 => crate::modules::step(words, area, l, at),
+        6 => crate::children::step(words, area, l, at),
+        7 => crate::preludes::step(words, area, l, at),
+        8 => crate::definitions::step(words, area, l, at),
+        9 => crate::scopes::step(words, area, l, at),
+        10 => crate::imports::step(words, area, l, at),
+        _ => crate::externs::step(words, area, l, at),
+    }
+}
+
+/// The record at a place, after one of the last kind.
+pub fn turn(words: &[u32], area: &mut [u32], l: Layout, at: usize, last: usize) -> Step
+    requires { ⌜ Here (now words) (now area) l at ⌝ }
+    ensures { λ r. ⌜ ((ms : List Map) → Stands (now (words .entry)) (now (area .entry)) last at l ms → Answered (now (words .entry)) (now (area .exit)) (kindOf (getD (now (words .entry)) at 0)) (at + 1 + argumentsAt (now (words .entry)) at) (stepAt (now (words .entry)) at last (snapWith (now (words .entry)) (now (area .entry)) l ms)) r) ⌝ }
+{
+    let k = kind(words, at);
+    if !follows(last, k) {
+        return Step::No(31);
+    }
+    let n = arguments(words, at);
+    if !arguments_from(words, at + 1, n) {
+        return Step::No(31);
+    }
+    by_kind(words, area, l, at, k)
+}
