@@ -1,0 +1,134 @@
+-- Demand 3.
+use mathlib.Core.Path.{_≡_, refl, ap, sym, _∙_}
+use mathlib.Core.List.{List}
+use mathlib.Core.Bool.{Bool, true, false, not, true≢false}
+use mathlib.Core.Logic.{_↔_}
+use Prim.Native.Nat.{ℕ, zero, suc, _+_, _≤_, _<_, min}
+use native.Mathlib.Omega.{arith}
+use Rattle.snapshot.specs.Limits.{fuelLimit}
+use Rattle.snapshot.specs.Records.{Snapshot}
+use Rattle.accept.specs.Verdict.{Verdict, refuse, accept, verdict}
+use Rattle.find_path.specs.declared.Choice.{Choice}
+use Rattle.find_path.specs.declared.Tank.{Tank}
+use Rattle.find_path.specs.declared.Query.{Query}
+use Rattle.find_path.specs.declared.Report.{Report}
+use Rattle.find_path.specs.Meters.{fromTank, counted}
+use Rattle.find_path.specs.Charged.{Out}
+use Rattle.find_path.specs.Search.{findPath}
+use Rattle.find_path.specs.Report.{callFault, questionFault, refused, flag, reported, searched, searchedFreely, answerUnless, reportBy, reportUnless, reportOf}
+use Rattle.find_path.specs.Fuels.{reportAt, IsRefused, Shows, Tells, Compared, FuelsCompared}
+use Rattle.find_path.proofs.Sim.{Dry, Sync, Sim, same, dry, search-sim}
+
+-- a report that is not refused is that of a search on an accepted snapshot
+pub record Searched (words : List ℕ) (q : Query) (fuel : ℕ) (r : Report) : Type 0 where
+  pub snapshot : Snapshot
+  pub accepted : verdict words ≡ accept snapshot
+  pub answer : r ≡ reported (searched snapshot q fuel)
+
+by-question : (words : List ℕ) (q : Query) (fuel : ℕ) (s : Snapshot) → verdict words ≡ accept s → (n : ℕ)
+    → (IsRefused (answerUnless s q fuel n) → ⊥) → Searched words q fuel (answerUnless s q fuel n)
+unfolding answerUnless refused
+by-question words q fuel s e zero h = record { snapshot = s; accepted = e; answer = refl }
+by-question words q fuel s e (suc n) h = absurd (h refl)
+
+by-verdict : (words : List ℕ) (q : Query) (fuel : ℕ) (v : Verdict) → verdict words ≡ v
+    → (IsRefused (reportBy q fuel v) → ⊥) → Searched words q fuel (reportBy q fuel v)
+unfolding reportBy refused
+by-verdict words q fuel (refuse n place) e h = absurd (h refl)
+by-verdict words q fuel (accept s) e h = by-question words q fuel s e (questionFault s q) h
+
+by-call : (words : List ℕ) (q : Query) (fuel n : ℕ) → (IsRefused (reportUnless words q fuel n) → ⊥) → Searched words q fuel (reportUnless words q fuel n)
+unfolding reportUnless refused
+by-call words q fuel zero h = by-verdict words q fuel (verdict words) refl h
+by-call words q fuel (suc n) h = absurd (h refl)
+
+pub not-refused : (words : List ℕ) (area : ℕ) (q : Query) (fuel : ℕ) → (IsRefused (reportAt words area q fuel) → ⊥)
+    → Searched words q fuel (reportAt words area q fuel)
+unfolding reportOf
+not-refused words area q fuel h = by-call words q fuel (callFault area q fuel) h
+
+-- what the simulation says of a report
+told : (F : ℕ) (a : Out Tank) (c : Out ℕ) → Sim F a c → Tells F c (reported a)
+unfolding reported flag
+told F a c (same e h) =
+    let no = ap flag (h .silent) in
+    record {
+      charges = omega (arith, h .spent-is, h .rest);
+      empty = ((λ z. absurd (omega arith)), λ l. absurd (omega (arith, h .rest)));
+      answer = λ _. record {
+        outcome = ap (λ (z : Choice). flag (not (z .found))) e;
+        kind = ap (λ (z : Choice). z .kind) e;
+        names = ap (λ (z : Choice). z .names) e;
+        count = ap (λ (z : Choice). z .count) e;
+      };
+    }
+told F a c (dry h n) =
+    let yes′ = ap flag (h .said) in
+    record {
+      charges = omega (arith, h .all-spent);
+      empty = ((λ _. n), λ _. yes′);
+      answer = λ z. absurd (z yes′);
+    }
+
+-- the report where the count is within the fuel: no fuel in it
+whole : Out ℕ → Report
+whole c = reported (record { choice = c .choice; meter = record { fuel = 0; spent = c .meter; empty = false } })
+
+within : (F : ℕ) (a : Out Tank) (c : Out ℕ) → Sim F a c → c .meter ≤ F → reported a ≡ whole c
+unfolding reported whole
+within F a c (same e h) l = λ i. record {
+  outcome = flag (not (e i .found));
+  number = 0;
+  kind = e i .kind;
+  names = e i .names;
+  count = e i .count;
+  charges = h .spent-is i;
+  empty = flag (h .silent i);
+}
+within F a c (dry h n) l = absurd (omega arith)
+
+searches-sim : (s : Snapshot) (q : Query) (F : ℕ) → Sim F (searched s q F) (searchedFreely s q)
+unfolding searched searchedFreely
+searches-sim s q F =
+    search-sim F s q (record { fuel = F; spent = 0; empty = false }) 0 (record { spent-is = refl; rest = omega arith; silent = refl })
+
+-- what the report of a search tells of the search without a tank
+pub searched-tells : (s : Snapshot) (q : Query) (F : ℕ) → Tells F (searchedFreely s q) (reported (searched s q F))
+searched-tells s q F = told F _ _ (searches-sim s q F)
+
+-- the second report is on the same snapshot
+moved : (words : List ℕ) (q : Query) (G : ℕ) (r : Report) (s : Snapshot) → verdict words ≡ accept s → Searched words q G r → r ≡ reported (searched s q G)
+moved words q G r s e g =
+    let same-snapshot : g .snapshot ≡ s = cc (e, g .accepted) in
+    g .answer ∙ ap (λ (z : Snapshot). reported (searched z q G)) same-snapshot
+
+compared : (words : List ℕ) (area : ℕ) (q : Query) (F G : ℕ) (s : Snapshot) → F < G → verdict words ≡ accept s
+    → reportAt words area q F ≡ reported (searched s q F) → reportAt words area q G ≡ reported (searched s q G)
+    → Compared words area q F G
+compared words area q F G s lt e f g =
+    let a = searches-sim s q F in
+    let b = searches-sim s q G in
+    let tf : Tells F (searchedFreely s q) (reportAt words area q F) = rw f (searched-tells s q F) in
+    let tg : Tells G (searchedFreely s q) (reportAt words area q G) = rw g (searched-tells s q G) in
+    record {
+      snapshot = s;
+      accepted = e;
+      equal = (
+        (λ r. omega (arith, tf .charges, tg .charges, ap (λ (z : Report). z .charges) r)),
+        λ l. f ∙ within F _ _ a l ∙ sym (within G _ _ b (omega arith)) ∙ sym g,
+      );
+      smaller = tf;
+      larger = tg;
+    }
+
+-- Demand 3. Put one question twice to the same words of a snapshot, with the fuels F < G ≤ 10,000, so that neither report
+-- is refused. Let n be the number of charges that the search without a tank makes for it. Then
+-- (a) the two reports are equal in every field exactly when n is at most F;
+-- (b) each report counts the smaller of its fuel and n;
+-- (c) each report says empty exactly when its fuel is below n;
+-- (d) a report that does not say empty has the path of the search without a tank, or none where that has none.
+pub fuels-compared : FuelsCompared
+fuels-compared words area q F G lt le hf hg =
+    let f = not-refused words area q F hf in
+    let g = not-refused words area q G hg in
+    compared words area q F G (f .snapshot) lt (f .accepted) (f .answer) (moved words q G _ (f .snapshot) (f .accepted) g)

@@ -1,0 +1,12 @@
+pub mod Keeps
+pub mod Tanks
+pub mod Sim
+pub mod Fuels
+pub mod Unfold
+pub mod Bounds
+pub mod Reports
+pub mod Walks
+pub mod Accepted
+pub mod Chains
+pub mod Lines
+pub mod Worked

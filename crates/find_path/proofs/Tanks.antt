@@ -1,0 +1,42 @@
+-- No search changes what the tank holds and has given, taken together.
+use mathlib.Core.Path.{_≡_, refl}
+use Prim.Native.Nat.{ℕ, zero, suc, _+_}
+use native.Mathlib.Omega.{arith}
+use mathlib.Core.Bool.{Bool}
+use Rattle.snapshot.specs.Records.{Snapshot}
+use Rattle.hir_def.specs.declared.Item.{Item}
+use Rattle.find_path.specs.declared.Tank.{Tank}
+use Rattle.find_path.specs.declared.FindPathCtx.{FindPathCtx}
+use Rattle.find_path.specs.Meters.{draw, fromTank}
+use Rattle.find_path.specs.Charged.{calculateBestPath}
+use Rattle.find_path.specs.Search.{bestLocal, searchModule, itemTo, searchItem}
+use Rattle.find_path.proofs.Keeps.{left-by, best-keeps, module-search-keeps, itemTo-keeps}
+
+abbrev pub sum : Tank → ℕ
+sum t = t .fuel + t .spent
+
+abbrev Sum : ℕ → Tank → Type 0
+Sum n t = sum t ≡ n
+
+draw-sum : (n fuel spent : ℕ) (e : Bool) → fuel + spent ≡ n → Sum n (left-by (draw fuel spent e))
+unfolding draw
+draw-sum n zero spent e h = h
+draw-sum n (suc fuel) spent e h = omega arith
+
+sum-stays : (n : ℕ) (t : Tank) → Sum n t → Sum n (left-by (fromTank t))
+unfolding fromTank
+sum-stays n t h = draw-sum n (t .fuel) (t .spent) (t .empty) h
+
+module _ (s : Snapshot) (x : FindPathCtx) where
+  pub module-sum : (left m : ℕ) (t : Tank) → sum (searchModule Tank fromTank s x left m t .meter) ≡ sum t
+  module-sum left m t = module-search-keeps Tank fromTank s (Sum (sum t)) (sum-stays (sum t)) x left m t refl
+
+  pub best-sum : (left : ℕ) (item : Item) (t : Tank)
+      → sum (calculateBestPath Tank fromTank s x (bestLocal s x) (searchModule Tank fromTank s x) left item t .meter) ≡ sum t
+  best-sum left item t =
+      best-keeps Tank fromTank s (Sum (sum t)) (sum-stays (sum t)) x (bestLocal s x) (searchModule Tank fromTank s x)
+      (module-search-keeps Tank fromTank s (Sum (sum t)) (sum-stays (sum t)) x) left item t refl
+
+  pub item-sum : (item : Item) (t : Tank) → sum (searchItem Tank fromTank s x item t .meter) ≡ sum t
+  unfolding searchItem
+  item-sum item t = itemTo-keeps Tank fromTank s (Sum (sum t)) (sum-stays (sum t)) x 2 item t refl

@@ -1,0 +1,273 @@
+-- Document 01's fourteen worked cases, and as many again on two further snapshots: one table each of questions and lines.
+use Prim.Native.Nat.{ℕ, _+_, _*_}
+use Prim.Native.String.{String}
+use mathlib.Core.Path.{_≡_, refl}
+use mathlib.Core.List.{List, [], _∷_, _++_}
+use mathlib.Core.Bool.{Bool, true}
+use lib.ListN.{length}
+use Rattle.snapshot.specs.Lists.{rows, any, all, eqList}
+use Rattle.snapshot.specs.Words.{argumentsOf}
+use Rattle.accept.specs.Tests.{textBound, padded}
+use Rattle.accept.specs.Steps.{nameStep, crateStep, dependencyStep, mapStep, moduleStep, childStep, preludeStep, definitionStep, scopeStep, importStep, externStep}
+use Rattle.accept.specs.Builtins.{packed}
+use Rattle.accept.specs.Verdict.{argumentsFrom, recordStep, stepAt, finish, records, verdict}
+use Rattle.accept.specs.Worked.{worked}
+use Rattle.hir_def.specs.Finds.{firstOf, placeOf, select, firstSome}
+use Rattle.hir_def.specs.Items.{moduleOf, mapOf, definitionOf, crateData, rootOf, ownMap, crateRoot, orElse, containing, itemOf, sameItem, nsOf, homeBy, homeOf}
+use Rattle.hir_def.specs.Visibility.{lastOr, lastTo, last, metOr, metTo, met, unless, climbStep, climb, inModule, isVisibleFrom}
+use Rattle.hir_def.specs.ItemScope.{isFor, nameOf, namesOf, get, modulesInScope}
+use Rattle.hir_def.specs.Nameres.{stepsOr, stepsTo, steps, ancestorMaps, containers, childrenOf, preludeOf, externOf, dependenciesOf, langOf, sysrootFirst}
+use Rattle.hir_def.specs.ImportMap.{importInfoFor}
+use Rattle.find_path.specs.declared.Question.{Question}
+use Rattle.find_path.specs.Choices.{nameData, isPrelude, pathKindLen, pathLen, keyword, choiceNew, extended, push, unstably, compareBool, andThen, comparePrelude, taken, better, trySelect, shorterIf, lengthLeft}
+use Rattle.find_path.specs.Walk.{has, visited, startFrom, leadsTo, unmet, walk, findLocalImportLocations}
+use Rattle.find_path.specs.Rules.{prefixPathKind, plainIf, contextOf, firstFound, entryName, single, findInScope, mayBeInScope, scopeRule, sameHere, preludeEntry, inPrelude, findInPrelude, preludeRule, isOther, occupied, externKind, externName, rootRule, parentKind, isKwKindRelativeToFrom, keywordOf, moduleRules}
+use Rattle.find_path.specs.Local.{offer, nameIf, importableName, location, eachLocation, calculateBestPathLocal, orLocal, findPathForModuleLocal}
+use Rattle.find_path.specs.Meters.{draw, fromTank}
+use Rattle.find_path.specs.Charged.{langs, oneOrNone, isAt, variantOf, offerImport, findImport, findImports, findInDep, findInDeps, findInSysroot, goOn, afterCharge, calculateBestPath, orCharged, findPathForModule, afterEnum, viaEnum, orEnum, byName, ofModule, findPathInner}
+use Rattle.find_path.specs.Search.{localTo, searchLocal, bestLocal, moduleTo, searchModule, itemTo, searchItem, fromHome, fromItem, findPath}
+use Rattle.find_path.specs.Report.{callFault, questionFault, refused, flag, reported, searched, answerUnless, reportBy, reportUnless, reportOf}
+use Rattle.find_path.specs.Line.{bytesOf, unpacked, textOf, decimalTo, decimal, joined, prefixParts, pathText, lineParts, lineIn, snapshotOf, lineOf}
+
+pub record Row : Type 0 where
+  pub question : Question
+  pub line : String
+
+-- definition, namespace, viewing module, prefix, options, fuel, and the line
+pub row : ℕ → ℕ → ℕ → ℕ → ℕ → ℕ → String → Row
+row d ns m p o f l = record { question = record { query = record { ns = ns; definition = d; from = m; prefix = p; options = o }; fuel = f }; line = l }
+
+-- the lines are those of the questions
+pub passes : List ℕ → List Row → Bool
+unfolding lineOf snapshotOf lineIn lineParts pathText prefixParts joined decimal decimalTo textOf unpacked reportOf reportUnless reportBy answerUnless searched reported flag refused questionFault callFault findPath fromItem fromHome searchItem itemTo searchModule moduleTo bestLocal searchLocal localTo findPathInner ofModule byName orEnum viaEnum afterEnum findPathForModule orCharged calculateBestPath afterCharge goOn findInSysroot findInDeps findInDep findImports findImport offerImport isAt variantOf oneOrNone langs fromTank draw findPathForModuleLocal orLocal calculateBestPathLocal eachLocation location importableName nameIf offer moduleRules keywordOf isKwKindRelativeToFrom parentKind rootRule externName externKind occupied isOther preludeRule findInPrelude inPrelude preludeEntry sameHere scopeRule mayBeInScope findInScope single entryName firstFound contextOf plainIf prefixPathKind findLocalImportLocations walk unmet leadsTo startFrom visited has lengthLeft shorterIf trySelect better taken comparePrelude andThen compareBool unstably push extended choiceNew keyword pathLen pathKindLen isPrelude nameData importInfoFor sysrootFirst langOf dependenciesOf externOf preludeOf childrenOf containers ancestorMaps steps stepsTo stepsOr modulesInScope get namesOf nameOf isFor isVisibleFrom inModule climb climbStep unless met metTo metOr last lastTo lastOr homeOf homeBy nsOf sameItem itemOf containing orElse crateRoot ownMap rootOf crateData definitionOf mapOf moduleOf firstSome select placeOf firstOf verdict records stepAt recordStep finish argumentsFrom argumentsOf nameStep crateStep dependencyStep mapStep moduleStep childStep preludeStep definitionStep scopeStep importStep externStep textBound padded rows any all eqList
+passes words table = all (λ r. eqList (lineOf words (r .question)) (bytesOf (r .line))) table
+
+-- module 0 is the root, module 1 its child `a`, definition 0 the module `a`, definition 1 a function `f` in it
+pub cases : List Row
+cases =
+    row 1 1 0 1 0 1 "found a::f 1 0"
+    ∷ row 1 1 0 1 0 0 "none - 0 1"
+    ∷ row 1 1 0 1 0 10001 "refused 21 0 0"
+    ∷ row 1 1 0 0 0 9 "found self::a::f 1 0"
+    ∷ row 1 1 0 2 0 9 "found crate::a::f 1 0"
+    ∷ row 1 1 1 1 0 0 "found f 0 0"
+    ∷ row 1 1 1 2 0 9 "found crate::a::f 1 0"
+    ∷ row 0 0 0 1 0 0 "found a 0 0"
+    ∷ row 0 0 1 1 0 9 "found self 0 0"
+    ∷ row 0 0 1 2 0 9 "found crate::a 1 0"
+    ∷ row 1 0 0 1 0 9 "none - 1 0"
+    ∷ row 2 0 0 1 0 9 "refused 23 0 0"
+    ∷ row 0 2 0 1 0 9 "refused 24 0 0"
+    ∷ row 1 1 0 1 0 10000 "found a::f 1 0"
+    ∷ []
+
+pub worked-cases : passes worked cases ≡ true
+unfolding passes cases row
+worked-cases = refl
+
+-- a head, and the words of a name
+head : ℕ → ℕ → ℕ
+head kind payload = kind * 0x10000000 + payload
+
+named : String → List ℕ
+named t = head 1 (length (bytesOf t)) ∷ packed (bytesOf t)
+
+-- Crate 0, the viewer's, depends on crate 1. Modules: 0 its root, 1 its child `m`; 2 the root of crate 1, 3 and 4 its
+-- children `inner` and `k`. Definitions: 0 `m`, 1 `inner`, 2 an enum `T` in `inner`, 3 its variant `V`, 4 the root of
+-- crate 1, 5 the builtin `u8`, 6 and 8 in the root of crate 1, 7, 10 and 11 in `inner`, 9 `k`, 12 an enum in `inner`, 13 its
+-- variant `V`.
+-- Crate 1 exports `T` from `inner`, `inner` from its root; 6 as `U`, unstable; 7 as `W` from `inner`, then from its root;
+-- 8 as `H`, hidden; `k` from its root, unstable; 10 as `V` from `k`, then as `dep` from `inner`; 11 as `U` from its
+-- root, unstable, then from `inner`; 13, but not its enum, as `H`. Crate 0 knows the root of crate 1 as `dep`, and then
+-- as `alias`; in `m` the name `alias` means `T`.
+pub withDependency : List ℕ
+withDependency =
+    named "dep" ++ named "alias" ++ named "m" ++ named "inner" ++ named "T" ++ named "V" ++ named "u8" ++ named "U"
+    ++ named "W" ++ named "H" ++ named "k"
+    ++ (head 2 0 ∷ head 2 0 ∷ head 3 0 ∷ 1 ∷ 0
+    -- maps, modules, children
+    ∷ head 4 0 ∷ 0 ∷ 0 ∷ head 5 0 ∷ 0 ∷ head 5 0 ∷ 1 ∷ head 4 1 ∷ 0 ∷ 0 ∷ head 5 1 ∷ 0 ∷ head 5 1 ∷ 3 ∷ head 5 1 ∷ 3
+    ∷ head 6 0 ∷ 1 ∷ head 6 2 ∷ 3 ∷ head 6 2 ∷ 4
+    -- definitions
+    ∷ head 8 1 ∷ 1 ∷ 0 ∷ head 8 1 ∷ 3 ∷ 0 ∷ head 8 4 ∷ 3 ∷ 0 ∷ head 8 2 ∷ 2 ∷ 5 ∷ head 8 1 ∷ 2 ∷ 0 ∷ head 8 3 ∷ 6 ∷ 0
+    ∷ head 8 4 ∷ 2 ∷ 0 ∷ head 8 4 ∷ 3 ∷ 0 ∷ head 8 4 ∷ 2 ∷ 0 ∷ head 8 1 ∷ 4 ∷ 0 ∷ head 8 4 ∷ 3 ∷ 0 ∷ head 8 4 ∷ 3 ∷ 0
+    ∷ head 8 4 ∷ 3 ∷ 0 ∷ head 8 2 ∷ 12 ∷ 5
+    -- scopes
+    ∷ head 9 0 ∷ 0 ∷ 2 ∷ 0 ∷ 0 ∷ 0 ∷ 1 ∷ head 9 1 ∷ 0 ∷ 1 ∷ 2 ∷ 3 ∷ 1 ∷ 0 ∷ head 9 2 ∷ 0 ∷ 3 ∷ 1 ∷ 0 ∷ 0 ∷ 1
+    ∷ head 9 3 ∷ 0 ∷ 4 ∷ 2 ∷ 0 ∷ 0 ∷ 1
+    -- imports
+    ∷ head 10 1 ∷ 0 ∷ 2 ∷ 4 ∷ 3 ∷ 0 ∷ head 10 1 ∷ 0 ∷ 1 ∷ 3 ∷ 2 ∷ 0 ∷ head 10 1 ∷ 0 ∷ 6 ∷ 7 ∷ 2 ∷ 2
+    ∷ head 10 1 ∷ 0 ∷ 7 ∷ 8 ∷ 3 ∷ 0 ∷ head 10 1 ∷ 0 ∷ 7 ∷ 8 ∷ 2 ∷ 0 ∷ head 10 1 ∷ 0 ∷ 8 ∷ 9 ∷ 2 ∷ 1
+    ∷ head 10 1 ∷ 0 ∷ 9 ∷ 10 ∷ 2 ∷ 2 ∷ head 10 1 ∷ 0 ∷ 10 ∷ 5 ∷ 4 ∷ 0 ∷ head 10 1 ∷ 0 ∷ 10 ∷ 0 ∷ 3 ∷ 0
+    ∷ head 10 1 ∷ 0 ∷ 11 ∷ 7 ∷ 2 ∷ 2 ∷ head 10 1 ∷ 0 ∷ 11 ∷ 7 ∷ 3 ∷ 0 ∷ head 10 1 ∷ 1 ∷ 13 ∷ 9 ∷ 2 ∷ 0
+    -- externs
+    ∷ head 11 0 ∷ 0 ∷ 2 ∷ head 11 0 ∷ 1 ∷ 2 ∷ [])
+
+-- Worked out by hand from find_path.rs. A charge for the item, and one for `inner`, whose container, a root, is an extern.
+pub dependencyCases : List Row
+dependencyCases =
+    row 2 0 0 1 0 9 "found alias::inner::T 2 0"
+    -- externs are not prefixed by `self` or `crate`, but by `::` where absolute paths are preferred, or the name is taken
+    ∷ row 2 0 0 0 0 9 "found alias::inner::T 2 0"
+    ∷ row 2 0 0 2 4 9 "found ::alias::inner::T 2 0"
+    ∷ row 1 0 1 1 0 9 "found ::alias::inner 1 0"
+    -- in `m` the scope has the item itself; as an import it does not count where local imports are ignored
+    ∷ row 2 0 1 0 0 0 "found self::alias 0 0"
+    ∷ row 2 0 1 1 16 9 "found ::alias::inner::T 2 0"
+    -- the second charge finds the tank empty
+    ∷ row 2 0 0 1 0 1 "none - 1 1"
+    -- a variant through its enum
+    ∷ row 3 1 0 1 0 2 "found alias::inner::T::V 2 0"
+    -- its enum's search takes the only charge, and the own search finds the tank empty
+    ∷ row 3 1 0 1 0 1 "none - 1 1"
+    -- an enum without a path: its variant's own search goes on from the charge of the enum's
+    ∷ row 13 1 0 1 0 9 "found alias::H 2 0"
+    ∷ row 13 1 0 1 0 1 "none - 1 1"
+    -- the root is an extern, and nothing is charged
+    ∷ row 4 0 0 1 0 0 "found alias 0 0"
+    -- an unstable import, not allowed and allowed; a hidden one
+    ∷ row 6 0 0 1 0 9 "none - 1 0"
+    ∷ row 6 0 0 1 8 9 "found alias::U 1 0"
+    ∷ row 8 0 0 1 8 9 "none - 1 0"
+    -- the longer path first, then the shorter one with two left
+    ∷ row 7 0 0 1 0 9 "found alias::W 2 0"
+    -- a stable import from an unstable module is unstable, and the stable path of the same length beats it
+    ∷ row 10 0 0 1 8 9 "found alias::inner::dep 3 0"
+    -- with two names found one is left for the next container: the short unstable path stays
+    ∷ row 11 0 0 1 8 9 "found alias::U 2 0"
+    -- no import of that namespace; a builtin in types and in values
+    ∷ row 2 1 0 1 0 9 "none - 1 0"
+    ∷ row 5 0 0 1 0 0 "found u8 0 0"
+    ∷ row 5 1 0 1 0 9 "none - 0 0"
+    -- the caller's faults, the first one first
+    ∷ row 99 3 0 1 0 9 "refused 22 0 0"
+    ∷ row 99 3 0 1 0 10001 "refused 21 0 0"
+    ∷ row 2 2 99 1 0 9 "refused 23 0 0"
+    ∷ []
+
+pub dependency-cases : passes withDependency dependencyCases ≡ true
+unfolding passes dependencyCases row withDependency named head
+dependency-cases = refl
+
+-- Crate 0 depends on std (crate 2) and then on core (crate 1), both of the sysroot. Modules: 0 its root, in a map with no_std;
+-- 1 and 2 the roots of core and std; 3 a block in crate 0, whose map is not no_std and has std's root as its prelude.
+-- Definitions: 0 `O` in core, 1 the root of std, 2 `P` in std, 3 a macro `m` in core, 4 `U` in core.
+-- Both export `O`; core exports `m`, and `U` unstable; std exports `U` stable. `P` is in std's scope and no import.
+pub withStd : List ℕ
+withStd =
+    named "core" ++ named "std" ++ named "O" ++ named "P" ++ named "m" ++ named "U"
+    ++ (head 2 0 ∷ head 2 1 ∷ head 2 3 ∷ head 3 0 ∷ 2 ∷ 1 ∷ head 3 0 ∷ 1 ∷ 1
+    ∷ head 4 0 ∷ 0 ∷ 1 ∷ head 5 0 ∷ 0 ∷ head 4 1 ∷ 0 ∷ 0 ∷ head 5 1 ∷ 0 ∷ head 4 2 ∷ 0 ∷ 0 ∷ head 5 2 ∷ 0
+    ∷ head 4 0 ∷ 1 ∷ 0 ∷ head 5 3 ∷ 0
+    ∷ head 7 3 ∷ 2
+    ∷ head 8 4 ∷ 1 ∷ 0 ∷ head 8 1 ∷ 2 ∷ 0 ∷ head 8 4 ∷ 2 ∷ 0 ∷ head 8 5 ∷ 1 ∷ 0 ∷ head 8 4 ∷ 1 ∷ 0
+    ∷ head 9 2 ∷ 0 ∷ 3 ∷ 2 ∷ 0 ∷ 0 ∷ 1
+    ∷ head 10 1 ∷ 0 ∷ 0 ∷ 2 ∷ 1 ∷ 0 ∷ head 10 2 ∷ 0 ∷ 0 ∷ 2 ∷ 2 ∷ 0 ∷ head 10 1 ∷ 2 ∷ 3 ∷ 4 ∷ 1 ∷ 0
+    ∷ head 10 1 ∷ 0 ∷ 4 ∷ 5 ∷ 1 ∷ 2 ∷ head 10 2 ∷ 0 ∷ 4 ∷ 5 ∷ 2 ∷ 0
+    ∷ head 11 0 ∷ 0 ∷ 1 ∷ head 11 0 ∷ 1 ∷ 2 ∷ [])
+
+-- Worked out by hand from find_path.rs.
+pub stdCases : List Row
+stdCases =
+    -- no_std by the viewer's map: core first, and its stable choice ends the search
+    row 0 0 0 1 0 9 "found core::O 1 0"
+    ∷ row 0 0 0 2 4 9 "found ::core::O 1 0"
+    -- the block's map is not no_std: std first; the option asks for core
+    ∷ row 0 0 3 1 0 9 "found std::O 1 0"
+    ∷ row 0 0 3 1 1 9 "found core::O 1 0"
+    ∷ row 0 0 3 1 0 0 "none - 0 1"
+    -- a std module as the item: no module search, no import of it
+    ∷ row 1 0 0 1 0 9 "none - 1 0"
+    -- the prelude of the block's map; the other map has none
+    ∷ row 2 0 3 1 0 0 "found P 0 0"
+    ∷ row 2 0 0 1 0 9 "none - 1 0"
+    ∷ row 3 2 0 1 0 9 "found core::m 1 0"
+    -- core's import is unstable: passed over, or beaten by std's stable one
+    ∷ row 4 0 0 1 0 9 "found std::U 1 0"
+    ∷ row 4 0 0 1 8 9 "found std::U 1 0"
+    ∷ []
+
+pub std-cases : passes withStd stdCases ≡ true
+unfolding passes stdCases row withStd named head
+std-cases = refl
+
+-- One crate. Modules: 0 its root; 1 `a`, 2 `b`, 3 `prelude`, 4 `d` below it; 5 `inner`, 6 `e` below `a`; 7 a block in `a`,
+-- with the modules 8 and 9 in the block. The prelude of the crate's own map is `e`.
+-- Definitions: 0 to 5 the modules 1 to 6; the others by their entries: 6 is `x` in `a` and `y` in `b`; 7 `x` in `prelude` and
+-- `inner`; 8 `y` in `prelude` and `d`; 9 `prelude` in `a` and a long name in `b`; 10 a long name in `a` and `d`, `prelude` in
+-- `b`; 11 `u` in `a`, a private import, and `xx` in `b`; 12 `v` in `a`, for `a` alone, and `inner` in `b`; 13 `y` in `inner` and
+-- `x` in the root; 14 `s` in `a` and `w` in the root; 15 `t` in the block; 16 `u` in the root, for the block; 17 `v` in the
+-- root, for the module 9; 18 `w` in `e`; 19 `y` in `e`, for `e` alone.
+pub withModules : List ℕ
+withModules =
+    named "a" ++ named "b" ++ named "prelude" ++ named "d" ++ named "inner" ++ named "e" ++ named "x" ++ named "y"
+    ++ named "xx" ++ named "yyyyyyyyyy" ++ named "s" ++ named "t" ++ named "u" ++ named "v" ++ named "w"
+    ++ (head 2 0
+    -- maps, modules, children, prelude
+    ∷ head 4 0 ∷ 0 ∷ 0 ∷ head 5 0 ∷ 0 ∷ head 5 0 ∷ 1 ∷ head 5 0 ∷ 1 ∷ head 5 0 ∷ 1 ∷ head 5 0 ∷ 1 ∷ head 5 0 ∷ 2 ∷ head 5 0 ∷ 2
+    ∷ head 4 0 ∷ 2 ∷ 0 ∷ head 5 1 ∷ 0 ∷ head 5 1 ∷ 8 ∷ head 5 1 ∷ 8
+    ∷ head 6 0 ∷ 1 ∷ head 6 0 ∷ 2 ∷ head 6 0 ∷ 3 ∷ head 6 0 ∷ 4 ∷ head 6 1 ∷ 5 ∷ head 6 1 ∷ 6
+    ∷ head 7 0 ∷ 6
+    -- definitions
+    ∷ head 8 1 ∷ 1 ∷ 0 ∷ head 8 1 ∷ 2 ∷ 0 ∷ head 8 1 ∷ 3 ∷ 0 ∷ head 8 1 ∷ 4 ∷ 0 ∷ head 8 1 ∷ 5 ∷ 0 ∷ head 8 1 ∷ 6 ∷ 0
+    ∷ head 8 4 ∷ 1 ∷ 0 ∷ head 8 4 ∷ 5 ∷ 0 ∷ head 8 4 ∷ 4 ∷ 0 ∷ head 8 4 ∷ 1 ∷ 0 ∷ head 8 4 ∷ 1 ∷ 0 ∷ head 8 4 ∷ 1 ∷ 0
+    ∷ head 8 4 ∷ 1 ∷ 0 ∷ head 8 4 ∷ 5 ∷ 0 ∷ head 8 4 ∷ 1 ∷ 0 ∷ head 8 4 ∷ 7 ∷ 0 ∷ head 8 4 ∷ 0 ∷ 0 ∷ head 8 4 ∷ 7 ∷ 0
+    ∷ head 8 4 ∷ 6 ∷ 0 ∷ head 8 4 ∷ 6 ∷ 0
+    -- scopes: the modules
+    ∷ head 9 0 ∷ 0 ∷ 0 ∷ 0 ∷ 0 ∷ 0 ∷ 1 ∷ head 9 0 ∷ 0 ∷ 1 ∷ 1 ∷ 0 ∷ 0 ∷ 1 ∷ head 9 0 ∷ 0 ∷ 2 ∷ 2 ∷ 0 ∷ 0 ∷ 1
+    ∷ head 9 0 ∷ 0 ∷ 3 ∷ 3 ∷ 0 ∷ 0 ∷ 1 ∷ head 9 1 ∷ 0 ∷ 4 ∷ 4 ∷ 0 ∷ 0 ∷ 1 ∷ head 9 1 ∷ 0 ∷ 5 ∷ 5 ∷ 0 ∷ 0 ∷ 1
+    -- scopes: the others, in order
+    ∷ head 9 1 ∷ 0 ∷ 6 ∷ 6 ∷ 0 ∷ 0 ∷ 1 ∷ head 9 2 ∷ 0 ∷ 7 ∷ 6 ∷ 0 ∷ 0 ∷ 0
+    ∷ head 9 3 ∷ 0 ∷ 6 ∷ 7 ∷ 0 ∷ 0 ∷ 0 ∷ head 9 5 ∷ 0 ∷ 6 ∷ 7 ∷ 0 ∷ 0 ∷ 1
+    ∷ head 9 3 ∷ 0 ∷ 7 ∷ 8 ∷ 0 ∷ 0 ∷ 0 ∷ head 9 4 ∷ 0 ∷ 7 ∷ 8 ∷ 0 ∷ 0 ∷ 1
+    ∷ head 9 1 ∷ 0 ∷ 2 ∷ 9 ∷ 0 ∷ 0 ∷ 1 ∷ head 9 2 ∷ 0 ∷ 9 ∷ 9 ∷ 0 ∷ 0 ∷ 0
+    ∷ head 9 1 ∷ 0 ∷ 9 ∷ 10 ∷ 0 ∷ 0 ∷ 1 ∷ head 9 2 ∷ 0 ∷ 2 ∷ 10 ∷ 0 ∷ 0 ∷ 0 ∷ head 9 4 ∷ 0 ∷ 9 ∷ 10 ∷ 0 ∷ 0 ∷ 0
+    ∷ head 9 1 ∷ 0 ∷ 12 ∷ 11 ∷ 3 ∷ 0 ∷ 0 ∷ head 9 2 ∷ 0 ∷ 8 ∷ 11 ∷ 0 ∷ 0 ∷ 0
+    ∷ head 9 1 ∷ 0 ∷ 13 ∷ 12 ∷ 2 ∷ 1 ∷ 1 ∷ head 9 2 ∷ 0 ∷ 4 ∷ 12 ∷ 0 ∷ 0 ∷ 0
+    ∷ head 9 5 ∷ 0 ∷ 7 ∷ 13 ∷ 0 ∷ 0 ∷ 1 ∷ head 9 0 ∷ 0 ∷ 6 ∷ 13 ∷ 0 ∷ 0 ∷ 0
+    ∷ head 9 1 ∷ 0 ∷ 10 ∷ 14 ∷ 0 ∷ 0 ∷ 1 ∷ head 9 0 ∷ 0 ∷ 14 ∷ 14 ∷ 0 ∷ 0 ∷ 0
+    ∷ head 9 7 ∷ 0 ∷ 11 ∷ 15 ∷ 0 ∷ 0 ∷ 1 ∷ head 9 0 ∷ 0 ∷ 12 ∷ 16 ∷ 2 ∷ 7 ∷ 1 ∷ head 9 0 ∷ 0 ∷ 13 ∷ 17 ∷ 2 ∷ 9 ∷ 1
+    ∷ head 9 6 ∷ 0 ∷ 14 ∷ 18 ∷ 0 ∷ 0 ∷ 1 ∷ head 9 6 ∷ 0 ∷ 7 ∷ 19 ∷ 2 ∷ 6 ∷ 1 ∷ [])
+
+-- Worked out by hand from find_path.rs. Each item asked for costs one charge; the search in the crate is free.
+pub moduleCases : List Row
+moduleCases =
+    -- equal in all keys: the earlier stays
+    row 6 0 0 1 0 9 "found a::x 1 0"
+    -- with two names found one is left for `inner`, and `a::inner` is not found
+    ∷ row 7 0 0 1 0 9 "found prelude::x 1 0"
+    -- a path through `prelude` loses, or wins where it is preferred
+    ∷ row 8 0 0 1 0 9 "found d::y 1 0"
+    ∷ row 8 0 0 1 2 9 "found prelude::y 1 0"
+    -- the first choice counts its last name
+    ∷ row 9 0 0 1 0 9 "found b::yyyyyyyyyy 1 0"
+    ∷ row 9 0 0 1 2 9 "found a::prelude 1 0"
+    -- a newcomer's last name does not count, when it comes and when it has been taken
+    ∷ row 10 0 0 1 0 9 "found b::prelude 1 0"
+    -- a private import does not count, nor what is not visible
+    ∷ row 11 0 0 1 0 9 "found b::xx 1 0"
+    ∷ row 12 0 0 1 0 9 "found b::inner 1 0"
+    -- children before containing modules; `crate` counts one; the text has `self::` and `crate`
+    ∷ row 13 0 1 1 0 9 "found inner::y 1 0"
+    ∷ row 13 0 1 0 0 9 "found crate::x 1 0"
+    -- from a block: the scope around it; a block's item has no prefix
+    ∷ row 14 0 7 1 0 0 "found s 0 0"
+    ∷ row 15 0 7 0 0 0 "found t 0 0"
+    ∷ row 0 0 7 1 0 9 "found crate::a 1 0"
+    -- a target in a block counts as the module around the block, but not for a viewer in the same block
+    ∷ row 16 0 1 1 0 9 "found crate::u 1 0"
+    ∷ row 16 0 2 1 0 9 "none - 1 0"
+    ∷ row 17 0 8 1 0 9 "none - 1 0"
+    ∷ row 17 0 9 1 0 9 "found crate::v 1 0"
+    -- the prelude, unless its name means another thing here, or is not visible
+    ∷ row 18 0 1 1 0 0 "found w 0 0"
+    ∷ row 18 0 0 1 0 9 "found a::e::w 1 0"
+    ∷ row 19 0 0 1 0 9 "none - 1 0"
+    -- `super`, but not under ByCrate
+    ∷ row 0 0 5 1 0 0 "found super 0 0"
+    ∷ row 0 0 5 2 0 9 "found crate::a 1 0"
+    ∷ []
+
+pub module-cases : passes withModules moduleCases ≡ true
+unfolding passes moduleCases row withModules named head
+module-cases = refl

@@ -1,0 +1,62 @@
+-- What two fuels have to do with the search without a tank: the statement of demand 3.
+use mathlib.Core.Path.{_≡_}
+use mathlib.Core.List.{List}
+use mathlib.Core.Bool.{not}
+use mathlib.Core.Logic.{_↔_}
+use Prim.Native.Nat.{ℕ, min, _≤_, _<_}
+use lib.ListN.{length, getD}
+use Rattle.snapshot.specs.Limits.{fuelLimit}
+use Rattle.snapshot.specs.Records.{Snapshot}
+use Rattle.accept.specs.Verdict.{accept, verdict}
+use Rattle.find_path.specs.declared.Query.{Query}
+use Rattle.find_path.specs.declared.Report.{Report}
+use Rattle.find_path.specs.Charged.{Out}
+use Rattle.find_path.specs.Report.{flag, searchedFreely, reportOf}
+
+-- the question with that fuel, on those words
+abbrev pub reportAt : List ℕ → ℕ → Query → ℕ → Report
+reportAt words area q fuel = reportOf words area (record { query = q; fuel = fuel })
+
+abbrev pub IsRefused : Report → Type 0
+IsRefused r = r .outcome ≡ 2
+
+-- bounds that hold of every report
+pub record Bounded (fuel : ℕ) (r : Report) : Type 0 where
+  pub few : r .count ≤ 16
+  pub long : length (r .names) ≡ 16
+  -- the names past the count are zero
+  pub rest : (i : ℕ) → r .count ≤ i → getD (r .names) i 0 ≡ 0
+  pub charges : r .charges ≤ fuel
+  pub flagged : r .empty ≤ 1
+
+-- the report has the path of the search without a tank, or none where it has none
+pub record Shows (free : Out ℕ) (r : Report) : Type 0 where
+  pub outcome : r .outcome ≡ flag (not (free .choice .found))
+  pub kind : r .kind ≡ free .choice .kind
+  pub names : r .names ≡ free .choice .names
+  pub count : r .count ≡ free .choice .count
+
+-- what one report tells of the search without a tank
+pub record Tells (fuel : ℕ) (free : Out ℕ) (r : Report) : Type 0 where
+  -- it counts the smaller of its fuel and the count
+  pub charges : r .charges ≡ min fuel (free .meter)
+  -- it says empty exactly when its fuel is below the count
+  pub empty : (r .empty ≡ 1) ↔ (fuel < free .meter)
+  -- where it does not say empty, its answer is that of the search without a tank
+  pub answer : (r .empty ≡ 1 → ⊥) → Shows free r
+
+-- The two reports against the search without a tank, on the snapshot that the words were accepted as.
+pub record Compared (words : List ℕ) (area : ℕ) (q : Query) (F G : ℕ) : Type 0 where
+  pub snapshot : Snapshot
+  pub accepted : verdict words ≡ accept snapshot
+  -- the reports are equal in every field exactly when the count is at most the smaller fuel
+  pub equal : (reportAt words area q F ≡ reportAt words area q G) ↔ (searchedFreely snapshot q .meter ≤ F)
+  pub smaller : Tells F (searchedFreely snapshot q) (reportAt words area q F)
+  pub larger : Tells G (searchedFreely snapshot q) (reportAt words area q G)
+
+-- Demand 3.
+abbrev pub FuelsCompared : Type 0
+FuelsCompared =
+    (words : List ℕ) (area : ℕ) (q : Query) (F G : ℕ) → F < G → G ≤ fuelLimit
+    → (IsRefused (reportAt words area q F) → ⊥) → (IsRefused (reportAt words area q G) → ⊥)
+    → Compared words area q F G

@@ -1,0 +1,82 @@
+-- The printed line of a question, as bytes; the printer ends it by a byte 10.
+use Prim.Native.Nat.{ℕ, zero, suc, _+_, _/_, _%_}
+use Prim.Native.Char.{Char, code}
+use Prim.Native.String.{String}
+use mathlib.Core.List.{List, [], _∷_, _++_, map}
+use mathlib.Core.Bool.{Bool, true, false}
+use lib.Dec.{eqb, ltb}
+use lib.ListN.{take}
+use Rattle.snapshot.specs.Limits.{areaLimit}
+use Rattle.snapshot.specs.Records.{Snapshot}
+use Rattle.accept.specs.Verdict.{Verdict, refuse, accept, verdict, empty}
+use Rattle.find_path.specs.declared.Question.{Question}
+use Rattle.find_path.specs.declared.Report.{Report}
+use Rattle.find_path.specs.Choices.{selfPath, superPath, cratePath, absolutePath, nameData}
+use Rattle.find_path.specs.Report.{reportOf}
+
+-- the bytes of a text of ASCII characters
+abbrev pub bytesOf : String → List ℕ
+bytesOf String.[] = []
+bytesOf (String._∷_ c t) = code c ∷ bytesOf t
+
+-- the bytes that words hold, three a word, the first lowest
+unfoldable pub unpacked : List ℕ → List ℕ
+unpacked [] = []
+unpacked (w ∷ ws) = w % 256 ∷ w / 256 % 256 ∷ w / 65536 % 256 ∷ unpacked ws
+
+unfoldable pub textOf : Snapshot → ℕ → List ℕ
+textOf s n = take (nameData s n .bytes) (unpacked (nameData s n .text))
+
+-- a number in decimal; d + 1 digits are enough
+unfoldable pub decimalTo : ℕ → ℕ → List ℕ
+decimalTo zero n = (48 + n % 10) ∷ []
+decimalTo (suc d) n = elim (ltb n 10) [ true ↦ (48 + n) ∷ [] | false ↦ decimalTo d (n / 10) ++ ((48 + n % 10) ∷ []) ]
+
+unfoldable pub decimal : ℕ → List ℕ
+decimal n = decimalTo n n
+
+-- the parts with a joint between them
+unfoldable pub joined : List ℕ → List (List ℕ) → List ℕ
+joined joint [] = []
+joined joint (p ∷ []) = p
+joined joint (p ∷ q ∷ ps) = p ++ (joint ++ joined joint (q ∷ ps))
+
+-- what stands before the names: `self`, `super`, `crate`, or for a leading `::` an empty part
+unfoldable pub prefixParts : ℕ → List (List ℕ)
+prefixParts k =
+    elim (eqb k selfPath) [
+      | true ↦ bytesOf "self" ∷ []
+      | false ↦ elim (eqb k superPath) [
+        | true ↦ bytesOf "super" ∷ []
+        | false ↦ elim (eqb k cratePath) [
+          | true ↦ bytesOf "crate" ∷ []
+          | false ↦ elim (eqb k absolutePath) [ true ↦ [] ∷ [] | false ↦ [] ]
+        ]
+      ]
+    ]
+
+unfoldable pub pathText : Snapshot → Report → List ℕ
+pathText s r = joined (bytesOf "::") (prefixParts (r .kind) ++ map (textOf s) (take (r .count) (r .names)))
+
+-- outcome, path, charges, empty: `-` for none, the number for refused
+unfoldable pub lineParts : Snapshot → Report → List (List ℕ)
+lineParts s r =
+    elim (eqb (r .outcome) 0) [
+      | true ↦ bytesOf "found" ∷ pathText s r ∷ []
+      | false ↦ elim (eqb (r .outcome) 1) [
+        | true ↦ bytesOf "none" ∷ bytesOf "-" ∷ []
+        | false ↦ bytesOf "refused" ∷ decimal (r .number) ∷ []
+      ]
+    ]
+
+unfoldable pub lineIn : Snapshot → Report → List ℕ
+lineIn s r = joined (bytesOf " ") (lineParts s r ++ (decimal (r .charges) ∷ decimal (r .empty) ∷ []))
+
+-- the snapshot whose names are printed; a refused one has none
+unfoldable pub snapshotOf : Verdict → Snapshot
+snapshotOf (refuse n place) = empty
+snapshotOf (accept s) = s
+
+-- the line of a question on the words of a snapshot, with a work area that serves
+unfoldable pub lineOf : List ℕ → Question → List ℕ
+lineOf words q = lineIn (snapshotOf (verdict words)) (reportOf words areaLimit q)

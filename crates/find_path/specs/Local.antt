@@ -1,0 +1,65 @@
+-- The local search, which is never charged: its module search has maybe_extern = false.
+use Prim.Native.Nat.{ℕ, zero, suc}
+use mathlib.Core.List.{List, [], _∷_, _++_}
+use mathlib.Core.Bool.{Bool, true, false, _&&_, _||_, not}
+use mathlib.Core.Option.{Option, none, some}
+use lib.Dec.{eqb}
+use Rattle.snapshot.specs.Records.{Snapshot, Scope}
+use Rattle.hir_def.specs.Visibility.{sees}
+use Rattle.hir_def.specs.ItemScope.{nameOf}
+use Rattle.hir_def.specs.declared.Item.{Item}
+use Rattle.hir_def.specs.declared.Item.the-variants.{Mod}
+use Rattle.hir_def.specs.declared.Answer.{Answer}
+use Rattle.hir_def.specs.declared.Answer.the-variants.{Name, Nothing}
+use Rattle.find_path.specs.declared.Choice.{Choice}
+use Rattle.find_path.specs.declared.FindPathCtx.{FindPathCtx}
+use Rattle.find_path.specs.Choices.{nothing, trySelect, lengthLeft}
+use Rattle.find_path.specs.Walk.{Level, visited, findLocalImportLocations}
+use Rattle.find_path.specs.Rules.{moduleRules}
+
+-- A local module search: length left, the local searches under way, module.
+abbrev pub LocalSearch : Type 0
+LocalSearch = ℕ → List Level → ℕ → Choice
+
+module _ (s : Snapshot) (x : FindPathCtx) where
+  -- a choice for the container, if there is one, is offered with the name
+  unfoldable pub offer : Choice → Choice → ℕ → Choice
+  offer best c n = elim (c .found) [ true ↦ trySelect s (x .prelude) best c n | false ↦ best ]
+
+  unfoldable pub nameIf : Option Scope → Answer
+  nameIf none = Nothing
+  nameIf (some e) =
+      elim (sees s (x .from) e && (eqb (e .declared) 1 || not (eqb (e .visibility) 3))) [
+        | true ↦ Name (e .name)
+        | false ↦ Nothing
+      ]
+
+  -- the name by which the viewer can import the item from the module: visible, and declared there or no implicitly private import
+  unfoldable pub importableName : Item → ℕ → Answer
+  importableName item m = nameIf (nameOf s m item)
+
+  unfoldable pub location : LocalSearch → ℕ → List Level → Choice → ℕ → Answer → Choice
+  location rec left ls best m Nothing = best
+  location rec left ls best m (Name n) = offer best (rec (lengthLeft left best) ls m) n
+
+  -- Each location in turn; `done` are the modules before it. While m is searched, (item, m) and those are visited.
+  unfoldable pub eachLocation : LocalSearch → ℕ → List Level → Item → List ℕ → Choice → List ℕ → Choice
+  eachLocation rec left ls item done best [] = best
+  eachLocation rec left ls item done best (m ∷ ms) =
+      eachLocation rec left ls item (done ++ (m ∷ []))
+      (location rec left (record { item = item; modules = done ++ (m ∷ []) } ∷ ls) best m (importableName item m))
+      ms
+
+  -- `calculate_best_path_local`
+  unfoldable pub calculateBestPathLocal : LocalSearch → ℕ → List Level → Item → Choice
+  calculateBestPathLocal rec left ls item =
+      eachLocation rec left ls item [] nothing (findLocalImportLocations s (x .from) (visited ls item))
+
+  unfoldable pub orLocal : LocalSearch → ℕ → List Level → ℕ → Choice → Bool → Choice
+  orLocal rec left ls m c true = c
+  orLocal rec left ls m c false = calculateBestPathLocal rec left ls (Mod m)
+
+  -- `find_path_for_module` with maybe_extern = false
+  unfoldable pub findPathForModuleLocal : LocalSearch → LocalSearch
+  findPathForModuleLocal rec zero ls m = nothing
+  findPathForModuleLocal rec (suc l) ls m = orLocal rec (suc l) ls m (moduleRules s x false m) (moduleRules s x false m .found)

@@ -1,0 +1,83 @@
+-- The report of a question.
+use Prim.Native.Nat.{ℕ, zero, suc}
+use mathlib.Core.List.{List}
+use mathlib.Core.Bool.{Bool, true, false, _&&_, _||_, not}
+use lib.Dec.{eqb, ltb, leb}
+use lib.ListN.{length, replicate}
+use Rattle.snapshot.specs.Limits.{areaLimit, fuelLimit}
+use Rattle.snapshot.specs.Records.{Snapshot}
+use Rattle.accept.specs.Verdict.{Verdict, refuse, accept, verdict}
+use Rattle.hir_def.specs.Items.{macros, macroKind, definitionOf}
+use Rattle.find_path.specs.declared.Tank.{Tank}
+use Rattle.find_path.specs.declared.Query.{Query}
+use Rattle.find_path.specs.declared.Question.{Question}
+use Rattle.find_path.specs.declared.Report.{Report}
+use Rattle.find_path.specs.Meters.{fromTank, counted}
+use Rattle.find_path.specs.Charged.{Out}
+use Rattle.find_path.specs.Search.{findPath}
+
+-- the first of the caller's faults that needs no snapshot: 20, 21, 22, or 0 for none
+unfoldable pub callFault : ℕ → Query → ℕ → ℕ
+callFault area q fuel =
+    elim (ltb area areaLimit) [
+      | true ↦ 20
+      | false ↦ elim (ltb fuelLimit fuel) [
+        | true ↦ 21
+        | false ↦ elim (ltb 2 (q .ns) || (ltb 2 (q .prefix) || ltb 31 (q .options))) [ true ↦ 22 | false ↦ 0 ]
+      ]
+    ]
+
+-- the first of those that need one: 23 no such definition or module, 24 a macro that is none, or 0 for none
+unfoldable pub questionFault : Snapshot → Query → ℕ
+questionFault s q =
+    elim (ltb (q .definition) (length (s .definitions)) && ltb (q .from) (length (s .modules))) [
+      | true ↦ elim (eqb (q .ns) macros && not (eqb (definitionOf s (q .definition) .kind) macroKind)) [ true ↦ 24 | false ↦ 0 ]
+      | false ↦ 23
+    ]
+
+-- a refusal: all else is zero
+unfoldable pub refused : ℕ → Report
+refused n =
+    record { outcome = 2; number = n; kind = 0; names = replicate 16 0; count = 0; charges = 0; empty = 0 }
+
+unfoldable pub flag : Bool → ℕ
+flag true = 1
+flag false = 0
+
+-- what a search found, what it was charged, and whether it found the tank empty
+unfoldable pub reported : Out Tank → Report
+reported o =
+    record {
+      outcome = flag (not (o .choice .found));
+      number = 0;
+      kind = o .choice .kind;
+      names = o .choice .names;
+      count = o .choice .count;
+      charges = o .meter .spent;
+      empty = flag (o .meter .empty);
+    }
+
+-- The search with a tank: the rules at the tank, which holds the fuel at first.
+unfoldable pub searched : Snapshot → Query → ℕ → Out Tank
+searched s q fuel = findPath Tank fromTank s q (record { fuel = fuel; spent = 0; empty = false })
+
+-- The search without a tank: the rules at the count, which is 0 at first. It knows no fuel.
+unfoldable pub searchedFreely : Snapshot → Query → Out ℕ
+searchedFreely s q = findPath ℕ counted s q 0
+
+unfoldable pub answerUnless : Snapshot → Query → ℕ → ℕ → Report
+answerUnless s q fuel zero = reported (searched s q fuel)
+answerUnless s q fuel (suc n) = refused (suc n)
+
+unfoldable pub reportBy : Query → ℕ → Verdict → Report
+reportBy q fuel (refuse n place) = refused n
+reportBy q fuel (accept s) = answerUnless s q fuel (questionFault s q)
+
+unfoldable pub reportUnless : List ℕ → Query → ℕ → ℕ → Report
+reportUnless words q fuel zero = reportBy q fuel (verdict words)
+reportUnless words q fuel (suc n) = refused (suc n)
+
+-- The report of a question on the words of a snapshot, with a work area of so many words. The refusals come in the
+-- order 20, 21, 22, 30, then record by record, then 23, 24.
+unfoldable pub reportOf : List ℕ → ℕ → Question → Report
+reportOf words area q = reportUnless words (q .query) (q .fuel) (callFault area (q .query) (q .fuel))

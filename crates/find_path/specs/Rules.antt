@@ -1,0 +1,169 @@
+-- The rules that answer without a search, and what is set for a question.
+use Prim.Native.Nat.{ℕ, zero, suc, _/_, _%_}
+use mathlib.Core.List.{List, [], _∷_}
+use mathlib.Core.Bool.{Bool, true, false, _&&_, _||_, not}
+use mathlib.Core.Option.{Option, none, some}
+use lib.Dec.{eqb}
+use lib.ListN.{getD}
+use Rattle.snapshot.specs.Lists.{any}
+use Rattle.snapshot.specs.Records.{Snapshot, Scope, Prelude, Extern}
+use Rattle.hir_def.specs.Finds.{firstSome}
+use Rattle.hir_def.specs.Items.{types, mapNo, mapOf, crateOf, crateData, parentOf, inBlock, rootOf, crateRoot, isLang, itemOf, sameItem, nsOf}
+use Rattle.hir_def.specs.Visibility.{sees}
+use Rattle.hir_def.specs.ItemScope.{nameOf, namesOf, get}
+use Rattle.hir_def.specs.Nameres.{ancestorMaps, preludeOf, externOf}
+use Rattle.hir_def.specs.declared.Item.{Item}
+use Rattle.hir_def.specs.declared.Item.the-variants.{Mod, Def}
+use Rattle.hir_def.specs.declared.Answer.{Answer}
+use Rattle.hir_def.specs.declared.Answer.the-variants.{Name, Nothing}
+use Rattle.find_path.specs.declared.Choice.{Choice}
+use Rattle.find_path.specs.declared.KwKind.{KwKind}
+use Rattle.find_path.specs.declared.KwKind.the-variants.{Kw, NoKw}
+use Rattle.find_path.specs.declared.FindPathCtx.{FindPathCtx}
+use Rattle.find_path.specs.declared.Query.{Query}
+use Rattle.find_path.specs.Choices.{plainPath, selfPath, superPath, cratePath, absolutePath, nothing, keyword, choiceNew}
+
+-- the prefixes: 0 BySelf, 1 Plain, 2 ByCrate
+
+abbrev pub bySelf : ℕ
+bySelf = 0
+
+abbrev pub plain : ℕ
+plain = 1
+
+abbrev pub byCrate : ℕ
+byCrate = 2
+
+-- `PrefixKind::path_kind`
+unfoldable pub prefixPathKind : ℕ → ℕ
+prefixPathKind p = getD (selfPath ∷ plainPath ∷ cratePath ∷ []) p plainPath
+
+-- the bit of that value
+abbrev pub bit : ℕ → ℕ → Bool
+bit n value = eqb (n / value % 2) 1
+
+unfoldable pub plainIf : Bool → ℕ → ℕ
+plainIf true p = plain
+plainIf false p = p
+
+-- What `find_path` sets: Plain where the item's home is in a block; `prefer_no_std` by the option, the viewer's map or its crate.
+unfoldable pub contextOf : Snapshot → Query → ℕ → FindPathCtx
+contextOf s q home =
+    record {
+      prefix = plainIf (inBlock s home) (q .prefix);
+      nostd =
+          bit (q .options) 1
+          || (eqb (mapOf s (mapNo s (q .from)) .noStd) 1 || eqb (crateData s (crateOf s (q .from)) .noStd) 1);
+      prelude = bit (q .options) 2;
+      absolute = bit (q .options) 4;
+      unstable = bit (q .options) 8;
+      declared = bit (q .options) 16;
+      std = isLang s (crateOf s home);
+      from = q .from;
+      krate = crateOf s (q .from);
+      root = crateRoot s (q .from);
+    }
+
+-- the first of the choices that is one
+unfoldable pub firstFound : List Choice → Choice
+firstFound [] = nothing
+firstFound (c ∷ cs) = elim (c .found) [ true ↦ c | false ↦ firstFound cs ]
+
+unfoldable pub entryName : Option Scope → Answer
+entryName none = Nothing
+entryName (some e) = Name (e .name)
+
+module _ (s : Snapshot) (x : FindPathCtx) where
+  -- a single name, or nothing
+  unfoldable pub single : ℕ → Answer → Choice
+  single kind Nothing = nothing
+  single kind (Name n) = choiceNew s kind n
+
+  -- `find_in_scope`: the item's name in the viewing module, or around its blocks; imports only where they count
+  unfoldable pub findInScope : Item → Answer
+  findInScope item =
+      entryName (firstSome (λ m. namesOf s m item (λ e. eqb (e .declared) 1 || not (x .declared))) (ancestorMaps s (x .from)))
+
+  -- `may_be_in_scope`: under ByCrate only the crate's root uses its scope
+  unfoldable pub mayBeInScope : Bool
+  mayBeInScope = not (eqb (x .prefix) byCrate) || eqb (x .root) (x .from)
+
+  unfoldable pub scopeRule : Item → Choice
+  scopeRule item =
+      elim mayBeInScope [ true ↦ single (prefixPathKind (x .prefix)) (findInScope item) | false ↦ nothing ]
+
+  -- the name means the item here, or nothing
+  unfoldable pub sameHere : Item → Option Scope → Bool
+  sameHere item none = true
+  sameHere item (some e) = sameItem (itemOf s (e .ns) (e .definition)) item
+
+  unfoldable pub preludeEntry : Item → Option Scope → Answer
+  preludeEntry item none = Nothing
+  preludeEntry item (some e) =
+      elim (sees s (x .from) e && sameHere item (firstSome (λ m. get s m (nsOf item) (e .name)) (ancestorMaps s (x .from)))) [
+        | true ↦ Name (e .name)
+        | false ↦ Nothing
+      ]
+
+  unfoldable pub inPrelude : Item → Option Prelude → Answer
+  inPrelude item none = Nothing
+  inPrelude item (some p) = preludeEntry item (nameOf s (p .target) item)
+
+  -- `find_in_prelude`: the item's first name in the prelude, if visible and not another thing's name here
+  unfoldable pub findInPrelude : Item → Answer
+  findInPrelude item = inPrelude item (preludeOf s (mapNo s (x .from)))
+
+  unfoldable pub preludeRule : Item → Choice
+  preludeRule item = single plainPath (findInPrelude item)
+
+  -- the entry stands for something else than the module
+  unfoldable pub isOther : ℕ → Option Scope → Bool
+  isOther m none = false
+  isOther m (some e) = not (sameItem (itemOf s (e .ns) (e .definition)) (Mod m))
+
+  -- the name is taken in types, in the viewing module or around its blocks
+  unfoldable pub occupied : ℕ → ℕ → Bool
+  occupied m name = any (λ a. isOther m (get s a types name)) (ancestorMaps s (x .from))
+
+  unfoldable pub externKind : Bool → ℕ
+  externKind true = absolutePath
+  externKind false = plainPath
+
+  unfoldable pub externName : ℕ → Option Extern → Choice
+  externName m none = nothing
+  externName m (some e) = choiceNew s (externKind (occupied m (e .name) || x .absolute)) (e .name)
+
+  -- a crate's root is `crate`, in the viewer's crate or where no extern may be used; else its extern name
+  unfoldable pub rootRule : Bool → ℕ → Choice
+  rootRule maybeExtern m =
+      elim (eqb (crateRoot s m) m) [
+        | true ↦ elim (not maybeExtern || eqb m (x .root)) [ true ↦ keyword cratePath | false ↦ externName m (externOf s (x .krate) m) ]
+        | false ↦ nothing
+      ]
+
+  -- the module is the parent of the viewer's
+  unfoldable pub parentKind : ℕ → ℕ → KwKind
+  parentKind m zero = NoKw
+  parentKind m (suc p) =
+      elim (eqb m p) [
+        | true ↦ elim (eqb p (rootOf s (mapNo s (x .from)))) [ true ↦ Kw cratePath | false ↦ Kw superPath ]
+        | false ↦ NoKw
+      ]
+
+  -- `is_kw_kind_relative_to_from`: the viewer's own module, or its parent, where neither is in a block
+  unfoldable pub isKwKindRelativeToFrom : ℕ → KwKind
+  isKwKindRelativeToFrom m =
+      elim (not (eqb (crateOf s m) (crateOf s (x .from))) || (inBlock s m || inBlock s (x .from))) [
+        | true ↦ NoKw
+        | false ↦ elim (eqb m (x .from)) [ true ↦ Kw selfPath | false ↦ parentKind m (parentOf s (x .from)) ]
+      ]
+
+  -- ByCrate takes no keyword but `crate`
+  unfoldable pub keywordOf : KwKind → Choice
+  keywordOf NoKw = nothing
+  keywordOf (Kw k) = elim (not (eqb (x .prefix) byCrate) || eqb k cratePath) [ true ↦ keyword k | false ↦ nothing ]
+
+  -- `find_path_for_module` before its search: root, extern, scope, keyword, prelude, in this order
+  unfoldable pub moduleRules : Bool → ℕ → Choice
+  moduleRules maybeExtern m =
+      firstFound (rootRule maybeExtern m ∷ scopeRule (Mod m) ∷ keywordOf (isKwKindRelativeToFrom m) ∷ preludeRule (Mod m) ∷ [])

@@ -1,0 +1,72 @@
+//! What the search takes and answers.
+
+// What is set once for a question (`FindPathCtx`): `nostd` is prefer_no_std, `declared` ignore_local_imports, `std` is_std_item.
+pub struct FindPathCtx {
+    pub prefix: usize,
+    pub nostd: bool,
+    pub prelude: bool,
+    pub absolute: bool,
+    pub unstable: bool,
+    pub declared: bool,
+    pub std: bool,
+    pub from: usize,
+    pub krate: usize,
+    pub root: usize,
+}
+
+// A path, or none. `kind` is 0 plain, 1 self, 2 super, 3 crate, 4 a leading `::`; `text` is the length of its text;
+// `prelude` says that a name of it is `prelude`.
+pub struct Choice {
+    pub found: bool,
+    pub kind: usize,
+    pub names: [usize; 16],
+    pub count: usize,
+    pub text: usize,
+    pub stable: bool,
+    pub prelude: bool,
+}
+
+// The path kind of a keyword, or no keyword.
+pub enum KwKind {
+    Kw(usize),
+    NoKw,
+}
+
+// The fuel left, the charges so far, and whether a charge found no fuel.
+pub struct Tank {
+    pub fuel: usize,
+    pub spent: usize,
+    pub empty: bool,
+}
+
+// What a search answers: its choice, and the tank that it leaves.
+pub struct Found {
+    pub choice: Choice,
+    pub meter: Tank,
+}
+
+// A question without its fuel: the item's namespace and definition, the viewing module, prefix, options.
+pub struct Query {
+    pub ns: usize,
+    pub definition: usize,
+    pub from: usize,
+    pub prefix: usize,
+    pub options: usize,
+}
+
+// A question.
+pub struct Question {
+    pub query: Query,
+    pub fuel: usize,
+}
+
+// A report: outcome 0 found, 1 none, 2 refused by the number; then the path, the charges, and empty 0 or 1.
+pub struct Report {
+    pub outcome: usize,
+    pub number: usize,
+    pub kind: usize,
+    pub names: [usize; 16],
+    pub count: usize,
+    pub charges: usize,
+    pub empty: usize,
+}

@@ -1,0 +1,25 @@
+-- Finding in lists.
+use Prim.Native.Nat.{ℕ, _+_}
+use mathlib.Core.List.{List, [], _∷_}
+use mathlib.Core.Bool.{Bool, true, false}
+use mathlib.Core.Option.{Option, none, some}
+
+-- the first element that passes the test
+unfoldable pub firstOf : {A : Type 0} → (A → Bool) → List A → Option A
+firstOf p [] = none
+firstOf p (x ∷ xs) = elim (p x) [ true ↦ some x | false ↦ firstOf p xs ]
+
+-- the place of the first element that passes the test, in a list whose first place is k
+unfoldable pub placeOf : {A : Type 0} → (A → Bool) → ℕ → List A → ℕ
+placeOf p k [] = k
+placeOf p k (x ∷ xs) = elim (p x) [ true ↦ k | false ↦ placeOf p (k + 1) xs ]
+
+-- the elements that pass the test, in order
+unfoldable pub select : {A : Type 0} → (A → Bool) → List A → List A
+select p [] = []
+select p (x ∷ xs) = elim (p x) [ true ↦ x ∷ select p xs | false ↦ select p xs ]
+
+-- the first answer among those of the elements
+unfoldable pub firstSome : {A B : Type 0} → (A → Option B) → List A → Option B
+firstSome f [] = none
+firstSome f (x ∷ xs) = elim (f x) [ some y ↦ some y | none ↦ firstSome f xs ]

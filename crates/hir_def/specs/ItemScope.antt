@@ -1,0 +1,35 @@
+-- The scope of a module (item_scope.rs): its entries in record order.
+use Prim.Native.Nat.{ℕ}
+use mathlib.Core.List.{List}
+use mathlib.Core.Bool.{Bool, _&&_}
+use mathlib.Core.Option.{Option}
+use lib.Dec.{eqb}
+use Rattle.snapshot.specs.Records.{Snapshot, Scope}
+use Rattle.hir_def.specs.Finds.{firstOf, select}
+use Rattle.hir_def.specs.Items.{types, moduleKind, definitionOf, itemOf, sameItem}
+use Rattle.hir_def.specs.declared.Item.{Item}
+
+-- the entry of the module m stands for the item
+unfoldable pub isFor : Snapshot → ℕ → Item → Scope → Bool
+isFor s m item e = eqb (e .owner) m && sameItem (itemOf s (e .ns) (e .definition)) item
+
+-- `name_of`: the first entry for the item
+unfoldable pub nameOf : Snapshot → ℕ → Item → Option Scope
+nameOf s m item = firstOf (isFor s m item) (s .scopes)
+
+-- `names_of`: the first entry for the item that passes the test
+unfoldable pub namesOf : Snapshot → ℕ → Item → (Scope → Bool) → Option Scope
+namesOf s m item p = firstOf (λ e. isFor s m item e && p e) (s .scopes)
+
+-- `get` and `type_`: the entry with that namespace and name
+unfoldable pub get : Snapshot → ℕ → ℕ → ℕ → Option Scope
+get s m ns name = firstOf (λ e. eqb (e .owner) m && (eqb (e .ns) ns && eqb (e .name) name)) (s .scopes)
+
+-- `modules_in_scope`: the module entries of the types namespace
+unfoldable pub modulesInScope : Snapshot → ℕ → List Scope
+modulesInScope s m =
+    select (λ e. eqb (e .owner) m && (eqb (e .ns) types && eqb (definitionOf s (e .definition) .kind) moduleKind)) (s .scopes)
+
+-- the module of such an entry
+abbrev pub entryModule : Snapshot → Scope → ℕ
+entryModule s e = definitionOf s (e .definition) .first

@@ -1,0 +1,115 @@
+-- Modules, crates and items of a snapshot (lib.rs). "+1" means number plus one, 0 for none.
+use Prim.Native.Nat.{ℕ, zero, suc, _+_, _/_, _%_}
+use mathlib.Core.List.{List, [], _∷_}
+use mathlib.Core.Bool.{Bool, true, false, _&&_, not}
+use lib.Dec.{eqb}
+use lib.ListN.{getD}
+use Rattle.snapshot.specs.Records.{Snapshot, Crate, Map, Module, Definition}
+use Rattle.hir_def.specs.Finds.{placeOf}
+use Rattle.hir_def.specs.declared.Item.{Item}
+use Rattle.hir_def.specs.declared.Item.the-variants.{Mod, Def}
+
+-- namespaces, with values between them
+
+abbrev pub types : ℕ
+types = 0
+
+abbrev pub macros : ℕ
+macros = 2
+
+-- kinds of definitions; 4 is any other
+
+abbrev pub moduleKind : ℕ
+moduleKind = 1
+
+abbrev pub variantKind : ℕ
+variantKind = 2
+
+abbrev pub builtinKind : ℕ
+builtinKind = 3
+
+abbrev pub macroKind : ℕ
+macroKind = 5
+
+unfoldable pub moduleOf : Snapshot → ℕ → Module
+moduleOf s m = getD (s .modules) m (record { map = 0; parent = 0 })
+
+unfoldable pub mapOf : Snapshot → ℕ → Map
+mapOf s k = getD (s .maps) k (record { crate = 0; block = 0; noStd = 0 })
+
+unfoldable pub definitionOf : Snapshot → ℕ → Definition
+definitionOf s d = getD (s .definitions) d (record { kind = 0; first = 0; second = 0 })
+
+unfoldable pub crateData : Snapshot → ℕ → Crate
+crateData s c = getD (s .crates) c (record { origin = 0; noStd = 0 })
+
+-- `ModuleId::def_map`
+abbrev pub mapNo : Snapshot → ℕ → ℕ
+mapNo s m = moduleOf s m .map
+
+-- `ModuleId::krate`
+abbrev pub crateOf : Snapshot → ℕ → ℕ
+crateOf s m = mapOf s (mapNo s m) .crate
+
+-- the parent module +1, in the module's own map
+abbrev pub parentOf : Snapshot → ℕ → ℕ
+parentOf s m = moduleOf s m .parent
+
+-- the parent module +1 of the block that the module's map belongs to; 0 in a crate's own map
+abbrev pub blockOf : Snapshot → ℕ → ℕ
+blockOf s m = mapOf s (mapNo s m) .block
+
+abbrev pub inBlock : Snapshot → ℕ → Bool
+inBlock s m = not (eqb (blockOf s m) 0)
+
+-- the root of a map: its first module
+unfoldable pub rootOf : Snapshot → ℕ → ℕ
+rootOf s k = placeOf (λ x. eqb (x .map) k) 0 (s .modules)
+
+-- a crate's own map
+unfoldable pub ownMap : Snapshot → ℕ → ℕ
+ownMap s c = placeOf (λ x. eqb (x .crate) c && eqb (x .block) 0) 0 (s .maps)
+
+-- `DefMap::crate_root` of a module's map
+unfoldable pub crateRoot : Snapshot → ℕ → ℕ
+crateRoot s m = rootOf s (ownMap s (crateOf s m))
+
+-- `ModuleId::containing_module`, +1: the parent, and from a map's root the block's parent
+unfoldable pub orElse : ℕ → ℕ → ℕ
+orElse zero b = b
+orElse (suc p) b = suc p
+
+unfoldable pub containing : Snapshot → ℕ → ℕ
+containing s m = orElse (parentOf s m) (blockOf s m)
+
+-- origins 1 core, 2 alloc, 3 std, 4 another language: `CrateOrigin::is_lang`
+abbrev pub isLang : Snapshot → ℕ → Bool
+isLang s c = not (eqb (crateData s c .origin) 0)
+
+-- An item is a namespace and a definition. A module in types is known by its own number.
+unfoldable pub itemOf : Snapshot → ℕ → ℕ → Item
+itemOf s ns d =
+    elim (eqb ns types && eqb (definitionOf s d .kind) moduleKind) [ true ↦ Mod (definitionOf s d .first) | false ↦ Def ns d ]
+
+unfoldable pub sameItem : Item → Item → Bool
+sameItem (Mod m) (Mod n) = eqb m n
+sameItem (Mod m) (Def ns d) = false
+sameItem (Def ns d) (Mod n) = false
+sameItem (Def ns d) (Def ns′ d′) = eqb ns ns′ && eqb d d′
+
+unfoldable pub nsOf : Item → ℕ
+nsOf (Mod m) = types
+nsOf (Def ns d) = ns
+
+-- by the kind and the first field of the definition
+unfoldable pub homeBy : Snapshot → ℕ → ℕ → ℕ
+homeBy s kind first =
+    elim (eqb kind builtinKind) [
+      | true ↦ 0
+      | false ↦ elim (eqb kind variantKind) [ true ↦ definitionOf s first .first + 1 | false ↦ first + 1 ]
+    ]
+
+-- An item's home +1 (`ItemInNs::module`): the definition's module, a module itself, that of a variant's parent; none of a builtin.
+unfoldable pub homeOf : Snapshot → Item → ℕ
+homeOf s (Mod m) = m + 1
+homeOf s (Def ns d) = homeBy s (definitionOf s d .kind) (definitionOf s d .first)

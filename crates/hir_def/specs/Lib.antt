@@ -1,0 +1,6 @@
+pub mod Finds
+pub mod Items
+pub mod Visibility
+pub mod ItemScope
+pub mod Nameres
+pub mod ImportMap
