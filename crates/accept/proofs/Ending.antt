@@ -186,6 +186,10 @@ module _ (W A : List ℕ) (k : ℕ) (l : Layout) (ms : List Map) (st : Stands W 
                   maps = maps-few;
                   heads = heads-kept W A B (l .names) (st .limited .names) (λ i u w. kept i u (omega arith)) (st .heads);
                   below = λ m h. rw (map-stays m h) (st .below m h);
+                  mapped = λ m h.
+                      (let q = st .limited .modules in
+                      ap (λ x. getD x (moduleMap B m) noMap) maps-same ∙ ap (λ k. getD ms k noMap) (map-stays m h) ∙ st .inside m h
+                      ∙ ap (mapAt W) (sym (r .names (2048 + 3 * m + 1) (omega arith))));
                   rooted = λ j h. rooted j h .0;
                   inside = λ j h. map-stays (mapRoot B j) (rooted j h .0) ∙ rooted j h .1;
                   first = λ m h. rw (map-stays m h) (r .first m h);

@@ -11,9 +11,10 @@ use Rattle.snapshot.specs.Records.{mapAt, crateAt, dependencyAt, childAt, prelu
 use Rattle.snapshot.specs.Layouts.{crateBase, dependencyBase, childBase, preludeBase, definitionBase, scopeBase, importBase, externBase, moduleMap, moduleHead, mapRoot, ownMap, namesOf, mapsOf, modulesOf, recordsOf, snapOf}
 use Rattle.snapshot.specs.declared.layout.Layout.{Layout}
 use Rattle.snapshot.proofs.Laws.{rows-ext}
+use Rattle.accept.specs.Tests.{noMap}
 use Rattle.accept.specs.Verdict.{refuse, accept}
 use Rattle.accept.specs.Stands.{ownOf}
-use Rattle.accept.specs.Post.{Tables, Judged, Checks, checkOf, outcome, Readable}
+use Rattle.accept.specs.Post.{Tables, Reads, Judged, Checks, checkOf, outcome, Readable}
 use Rattle.accept.specs.declared.check.Checked.{Checked}
 use Rattle.accept.specs.declared.check.Checked.the-variants.{Refused, Accepted}
 use Rattle.accept.proofs.Tabled.{Kept, names-kept, modules-kept, heads-kept}
@@ -66,6 +67,10 @@ module _ (W A B : List ℕ) (l : Layout) (t : Tables W A l) (kept : Kept A B 0 4
         maps = t .maps;
         heads = heads-kept W A B (l .names) (t .limited .names) (λ i u v. kept i u (omega arith)) (t .heads);
         below = λ m h. rw (map-stays m h) (t .below m h);
+        mapped = λ m h.
+            (let q = t .limited .modules in
+            ap (λ x. getD x (moduleMap B m) noMap) maps-stay ∙ ap (λ k. getD (mapsOf W A (l .maps)) k noMap) (map-stays m h) ∙ t .mapped m h
+            ∙ ap (mapAt W) (sym (kept (2048 + 3 * m + 1) (omega arith) (omega arith))));
         rooted = λ k h. rw (root-stays k h) (t .rooted k h);
         inside = λ k h. ap (moduleMap B) (root-stays k h) ∙ map-stays (mapRoot A k) (t .rooted k h) ∙ t .inside k h;
         first = λ m h. rw (map-stays m h, root-stays (moduleMap A m) (t .below m h)) (t .first m h);
@@ -99,3 +104,11 @@ module _ (W A B : List ℕ) (large : 16384 ≤ length A) (long : length B ≡ 16
 pub checks-small : (W A : List ℕ) → length A < 16384 → Checks W A A (Refused 20 0)
 unfolding checkOf
 checks-small W A h = record { same = sym (rw (checkOf, lt-ltb _ _ h)); tables = tt; rest = refl; untouched = λ g. refl }
+
+-- accepted words stay readable
+pub reads-stay : (W A B : List ℕ) (l : Layout) → Reads W A l → Kept A B 0 4160 → Reads W B l
+reads-stay W A B l r kept =
+    record {
+      same = r .same ∙ ap accept (sym (snap-stays W A B l (r .tables) kept));
+      tables = tables-stay W A B l (r .tables) kept;
+    }

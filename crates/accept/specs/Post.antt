@@ -7,9 +7,11 @@ use lib.Dec.{ltb}
 use lib.ListN.{length, getD, drop}
 use Rattle.snapshot.specs.Limits.{areaLimit}
 use Rattle.snapshot.specs.Words.{payOf, wordsOf}
-use Rattle.snapshot.specs.Layouts.{wordCount, nameHead, moduleMap, mapRoot, ownMap, mapsOf, snapOf}
+use Rattle.snapshot.specs.Records.{mapAt}
+use Rattle.snapshot.specs.Layouts.{wordCount, nameHead, moduleMap, moduleHead, mapRoot, ownMap, mapsOf, snapOf}
 use Rattle.snapshot.specs.declared.layout.Layout.{Layout}
 use Rattle.accept.specs.Verdict.{Verdict, refuse, accept, verdict}
+use Rattle.accept.specs.Tests.{noMap}
 use Rattle.accept.specs.Stands.{Limited, ownOf}
 use Rattle.accept.specs.declared.check.Checked.{Checked}
 use Rattle.accept.specs.declared.check.Checked.the-variants.{Refused, Accepted}
@@ -25,6 +27,8 @@ pub record Tables (W A : List ℕ) (l : Layout) : Type 0 where
   pub heads : (j : ℕ) → j < l .names → nameHead A j + 1 + wordsOf (payOf (getD W (nameHead A j) 0)) ≤ length W
   -- a module's map
   pub below : (m : ℕ) → m < l .modules → moduleMap A m < l .maps
+  -- and its record
+  pub mapped : (m : ℕ) → m < l .modules → getD (mapsOf W A (l .maps)) (moduleMap A m) noMap ≡ mapAt W (moduleHead A m)
   -- a map's root is its first module
   pub rooted : (k : ℕ) → k < l .maps → mapRoot A k < l .modules
   pub inside : (k : ℕ) → k < l .maps → moduleMap A (mapRoot A k) ≡ k
@@ -32,6 +36,11 @@ pub record Tables (W A : List ℕ) (l : Layout) : Type 0 where
   -- a crate's own map
   pub own : (c : ℕ) → c < l .crates → ownMap A c ≡ ownOf c (mapsOf W A (l .maps))
   pub owned : (c : ℕ) → c < l .crates → 0 < ownMap A c
+
+-- words that were accepted, with the layout and the tables that the check left
+pub record Reads (W A : List ℕ) (l : Layout) : Type 0 where
+  pub same : verdict W ≡ accept (snapOf W A l)
+  pub tables : Tables W A l
 
 -- the definition of the check: a work area that is too small, or the verdict
 unfoldable pub checkOf : ℕ → List ℕ → Verdict
