@@ -1,1 +1,5 @@
 pub mod Laws
+pub mod Reading
+pub mod Accepted
+pub mod Chains
+pub mod Climbs

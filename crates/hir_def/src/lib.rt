@@ -1,4 +1,6 @@
 //! What the lookups over an accepted snapshot answer.
+pub mod modules;
+pub mod visibility;
 
 // An item: a module in the types namespace, by the module's number, or a namespace and another definition.
 pub enum Item {

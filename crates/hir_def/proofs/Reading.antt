@@ -1,0 +1,74 @@
+-- What the tables say of the modules of an accepted snapshot.
+use Prim.Native.Nat.{ℕ, zero, suc, _+_, _-_, _≤_, _<_}
+use mathlib.Core.Path.{_≡_, refl, sym, _∙_, ap, subst}
+use mathlib.Core.List.{List, [], _∷_}
+use mathlib.Core.Bool.{Bool, true, false}
+use native.Mathlib.Omega.{arith}
+use lib.ListN.{length, getD}
+use lib.Dec.{eqb}
+use borrow.Author.Tests.{eqb-true, eqb-false}
+use Rattle.snapshot.specs.Lists.{rows}
+use Rattle.snapshot.specs.Records.{Map, Module, mapAt}
+use Rattle.snapshot.specs.Layouts.{moduleMap, moduleHead, moduleParent, mapRoot, moduleRow, modulesOf, snapOf}
+use Rattle.snapshot.specs.declared.layout.Layout.{Layout}
+use Rattle.snapshot.proofs.Laws.{getD-rows, length-rows}
+use Rattle.accept.specs.Post.{Tables}
+use Rattle.hir_def.specs.Finds.{placeOf}
+use Rattle.hir_def.specs.Items.{moduleOf, mapOf, mapNo, crateOf, parentOf, blockOf, rootOf, orElse, containing}
+
+module _ (W A : List ℕ) (l : Layout) (t : Tables W A l) where
+  module-read : (m : ℕ) → m < l .modules → moduleRow A m ≡ moduleOf (snapOf W A l) m
+  unfolding moduleOf
+  module-read m h = sym (getD-rows (moduleRow A) (record { map = 0; parent = 0 }) (l .modules) m h)
+
+  pub map-read : (m : ℕ) → m < l .modules → moduleMap A m ≡ mapNo (snapOf W A l) m
+  map-read m h = ap (λ r. r .map) (module-read m h)
+
+  pub parent-read : (m : ℕ) → m < l .modules → moduleParent A m ≡ parentOf (snapOf W A l) m
+  parent-read m h = ap (λ r. r .parent) (module-read m h)
+
+  record-read : (m : ℕ) → m < l .modules → mapAt W (moduleHead A m) ≡ mapOf (snapOf W A l) (mapNo (snapOf W A l) m)
+  unfolding mapOf
+  record-read m h = sym (t .mapped m h) ∙ ap (λ k. mapOf (snapOf W A l) k) (map-read m h)
+
+  pub crate-read : (m : ℕ) → m < l .modules → mapAt W (moduleHead A m) .crate ≡ crateOf (snapOf W A l) m
+  crate-read m h = ap (λ r. r .crate) (record-read m h)
+
+  pub block-read : (m : ℕ) → m < l .modules → mapAt W (moduleHead A m) .block ≡ blockOf (snapOf W A l) m
+  block-read m h = ap (λ r. r .block) (record-read m h)
+
+  -- the first place of a map's modules is the one that the table has
+  root-from : (k i n : ℕ) → i ≤ mapRoot A k → mapRoot A k < i + n → moduleMap A (mapRoot A k) ≡ k → ((j : ℕ) → j < i + n → moduleMap A j ≡ k → mapRoot A k ≤ j)
+      → mapRoot A k ≡ placeOf (λ x. eqb (x .map) k) i (rows (moduleRow A) i n)
+  unfolding placeOf rows
+  root-from k i zero p q e f = absurd (omega arith)
+  root-from k i (suc n) p q e f =
+      by (eqb (moduleMap A i) k) refl
+      (λ r. root-from k (i + 1) n r (omega arith) e (λ j u v. f j (omega arith) v))
+    where
+      by : (b : Bool) → eqb (moduleMap A i) k ≡ b → (i + 1 ≤ mapRoot A k → mapRoot A k ≡ placeOf (λ x. eqb (x .map) k) (i + 1) (rows (moduleRow A) (i + 1) n))
+          → mapRoot A k ≡ elim b [ true ↦ i | false ↦ placeOf (λ x. eqb (x .map) k) (i + 1) (rows (moduleRow A) (i + 1) n) ]
+      by true g r = let u = f i (omega arith) (eqb-true _ _ g) in omega arith
+      by false g r =
+          let u : (mapRoot A k ≡ i → ⊥) = λ z. eqb-false _ _ g (ap (moduleMap A) (sym z) ∙ e) in
+          r (omega arith)
+
+  pub root-read : (k : ℕ) → k < l .maps → mapRoot A k ≡ rootOf (snapOf W A l) k
+  unfolding rootOf
+  root-read k h =
+      let r = t .rooted k h in
+      root-from k 0 (l .modules) (omega arith) (omega arith) (t .inside k h)
+      (λ j p e. subst (λ x. mapRoot A x ≤ j) e (t .first j (omega arith)))
+
+pub containing-parent : (p b : ℕ) → (p ≡ 0 → ⊥) → p ≡ orElse p b
+unfolding orElse
+containing-parent zero b h = absurd (h refl)
+containing-parent (suc p) b h = refl
+
+pub containing-block : (p b : ℕ) → p ≡ 0 → b ≡ orElse p b
+unfolding orElse
+containing-block zero b h = refl
+containing-block (suc p) b h = absurd (omega arith)
+
+pub length-modules : (W A : List ℕ) (l : Layout) → length (snapOf W A l .modules) ≡ l .modules
+length-modules W A l = length-rows (moduleRow A) (l .modules)
