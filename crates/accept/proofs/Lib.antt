@@ -11,3 +11,9 @@ pub mod Folds
 pub mod Filling
 pub mod Ending
 pub mod Stable
+pub mod Accepted
+pub mod Bools
+pub mod Ranges
+pub mod Trees
+pub mod Valid
+pub mod Reading

@@ -4,5 +4,6 @@ pub mod Steps
 pub mod Verdict
 pub mod Stands
 pub mod Post
+pub mod Valid
 pub mod Ends
 pub mod Worked

@@ -6,7 +6,6 @@ pub mod Unfold
 pub mod Bounds
 pub mod Reports
 pub mod Walks
-pub mod Accepted
 pub mod Chains
 pub mod Lines
 pub mod Worked

@@ -7,7 +7,7 @@ use mathlib.Core.Bool.{Bool, true, false}
 use lib.Dec.{ltb}
 use borrow.Author.Tests.{ltb-true, ltb-false, lt-ltb, le-ltb}
 use Rattle.find_path.specs.Line.{decimalTo, decimal}
-use Rattle.find_path.proofs.Accepted.{by-test}
+use Rattle.accept.proofs.Accepted.{by-test}
 
 short : (d n : ℕ) → n < 10 → n ≤ d → decimalTo d n ≡ (48 + n) ∷ []
 unfolding decimalTo

@@ -1,5 +1,5 @@
 pub mod Laws
-pub mod Reading
-pub mod Accepted
 pub mod Chains
+pub mod Found
+pub mod Reading
 pub mod Climbs

@@ -1,5 +1,5 @@
 -- What the tables say of the modules of an accepted snapshot.
-use Prim.Native.Nat.{ℕ, zero, suc, _+_, _-_, _≤_, _<_}
+use Prim.Native.Nat.{ℕ, zero, suc, _+_, _-_, _*_, _≤_, _<_}
 use mathlib.Core.Path.{_≡_, refl, sym, _∙_, ap, subst}
 use mathlib.Core.List.{List, [], _∷_}
 use mathlib.Core.Bool.{Bool, true, false}
@@ -8,13 +8,17 @@ use lib.ListN.{length, getD}
 use lib.Dec.{eqb}
 use borrow.Author.Tests.{eqb-true, eqb-false}
 use Rattle.snapshot.specs.Lists.{rows}
-use Rattle.snapshot.specs.Records.{Map, Module, mapAt}
-use Rattle.snapshot.specs.Layouts.{moduleMap, moduleHead, moduleParent, mapRoot, moduleRow, modulesOf, snapOf}
+use Rattle.snapshot.specs.Records.{Map, Module, crateAt, mapAt}
+use Rattle.snapshot.specs.Layouts.{crateBase, moduleMap, moduleHead, moduleParent, mapRoot, ownMap, moduleRow, modulesOf, mapsOf, snapOf}
 use Rattle.snapshot.specs.declared.layout.Layout.{Layout}
 use Rattle.snapshot.proofs.Laws.{getD-rows, length-rows}
-use Rattle.accept.specs.Post.{Tables}
+use Rattle.accept.specs.Tests.{isOwn, noMap}
+use Rattle.accept.specs.Stands.{ownFrom}
+use Rattle.accept.specs.Post.{Tables, Reads}
+use Rattle.accept.proofs.Valid.{accepted-valid}
+use Rattle.accept.proofs.Reading.{map-read as map-fits}
 use Rattle.hir_def.specs.Finds.{placeOf}
-use Rattle.hir_def.specs.Items.{moduleOf, mapOf, mapNo, crateOf, parentOf, blockOf, rootOf, orElse, containing}
+use Rattle.hir_def.specs.Items.{moduleOf, mapOf, mapNo, crateOf, parentOf, blockOf, rootOf, ownMap as ownOf, orElse, containing}
 
 module _ (W A : List ℕ) (l : Layout) (t : Tables W A l) where
   module-read : (m : ℕ) → m < l .modules → moduleRow A m ≡ moduleOf (snapOf W A l) m
@@ -72,3 +76,41 @@ containing-block (suc p) b h = absurd (omega arith)
 
 pub length-modules : (W A : List ℕ) (l : Layout) → length (snapOf W A l .modules) ≡ l .modules
 length-modules W A l = length-rows (moduleRow A) (l .modules)
+
+-- the number of a crate's own map is its place
+place-own : (c k : ℕ) (ms : List Map) → 0 < ownFrom c k ms → (ownFrom c k ms ≡ placeOf (isOwn c) k ms + 1) × (placeOf (isOwn c) k ms < k + length ms)
+unfolding ownFrom placeOf
+place-own c k [] h = absurd (omega arith)
+place-own c k (y ∷ ys) h = by (isOwn c y) h (λ g. place-own c (k + 1) ys g)
+  where
+    by : (b : Bool) → 0 < elim b [ true ↦ k + 1 | false ↦ ownFrom c (k + 1) ys ]
+        → (0 < ownFrom c (k + 1) ys → (ownFrom c (k + 1) ys ≡ placeOf (isOwn c) (k + 1) ys + 1) × (placeOf (isOwn c) (k + 1) ys < k + 1 + length ys))
+        → (_≡_ {A = ℕ} (elim b [ true ↦ k + 1 | false ↦ ownFrom c (k + 1) ys ]) (elim b [ true ↦ k | false ↦ placeOf (isOwn c) (k + 1) ys ] + 1))
+        × (elim b [ true ↦ k | false ↦ placeOf (isOwn c) (k + 1) ys ] < k + suc (length ys))
+    by true g r = (refl, omega arith)
+    by false g r = let x = r g in let y = x .1 in (x .0, omega arith)
+
+pub own-read : (W A : List ℕ) (l : Layout) → Tables W A l → (c : ℕ) → c < l .crates
+    → (ownMap A c - 1 ≡ ownOf (snapOf W A l) c) × (ownMap A c - 1 < l .maps)
+unfolding ownOf
+own-read W A l t c h =
+    let e = t .own c h in
+    let o = t .owned c h in
+    let p = place-own c 0 (mapsOf W A (l .maps)) (omega arith) in
+    let q = p .0 in
+    let r = p .1 in
+    let n = length-rows (λ k. mapAt W (moduleHead A (mapRoot A k))) (l .maps) in
+    (omega arith, omega arith)
+
+pub length-crates : (W A : List ℕ) (l : Layout) → length (snapOf W A l .crates) ≡ l .crates
+length-crates W A l = length-rows (λ k. crateAt W (crateBase l + 1 * k)) (l .crates)
+
+-- the crate of a module is there
+pub crate-known : (W A : List ℕ) (l : Layout) → Reads W A l → (m : ℕ) → m < l .modules → crateOf (snapOf W A l) m < l .crates
+crate-known W A l r m h =
+    let t = r .tables in
+    let k = t .below m h in
+    let f = map-fits W A l (accepted-valid W (snapOf W A l) (r .same)) (moduleMap A m) k in
+    let e : mapAt W (moduleHead A (mapRoot A (moduleMap A m))) ≡ mapAt W (moduleHead A m) =
+    sym (getD-rows (λ j. mapAt W (moduleHead A (mapRoot A j))) noMap (l .maps) (moduleMap A m) k) ∙ t .mapped m h in
+    subst (λ x. x < l .crates) (ap (λ x. x .crate) e ∙ crate-read W A l t m h) (f .crate)

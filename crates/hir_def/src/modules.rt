@@ -5,7 +5,7 @@ ghost use Prim.Native.Nat.{ℕ, _<_};
 ghost use lib.Dec.{eqb};
 ghost use Rattle.snapshot.specs.Layouts.{snapOf};
 ghost use Rattle.accept.specs.Post.{Reads};
-ghost use Rattle.hir_def.specs.Items.{mapNo, crateOf, parentOf, blockOf, inBlock as inBlockOf, containing as containingOf, rootOf, crateRoot};
+ghost use Rattle.hir_def.specs.Items.{mapNo, crateOf, parentOf, blockOf, inBlock as inBlockOf, containing as containingOf, rootOf, ownMap, crateRoot};
 use snapshot::ids::Crate;
 use snapshot::ids::ModuleId;
 use snapshot::layout::Layout;
@@ -75,4 +75,21 @@ pub fn root(words: &[u32], area: &[u32], l: Layout, map: usize) -> ModuleId
     ensures { λ r. ⌜ r .0 ≡ rootOf (snapOf (now (words .entry)) (now (area .entry)) l) map ⌝ }
 {
     map_root(area, map)
+}
+
+/// The own map of a crate.
+pub fn own(words: &[u32], area: &[u32], l: Layout, c: Crate) -> usize
+    requires { ⌜ Reads (now words) (now area) l × (c .0 < l .crates) ⌝ }
+    ensures { λ r. ⌜ (r ≡ ownMap (snapOf (now (words .entry)) (now (area .entry)) l) (c .0)) × (r < l .maps) ⌝ }
+{
+    own_map(area, c) - 1
+}
+
+/// The root of a module's crate.
+pub fn crate_root(words: &[u32], area: &[u32], l: Layout, m: ModuleId) -> ModuleId
+    requires { ⌜ Reads (now words) (now area) l × (m .0 < l .modules) ⌝ }
+    ensures { λ r. ⌜ r .0 ≡ crateRoot (snapOf (now (words .entry)) (now (area .entry)) l) (m .0) ⌝ }
+{
+    let c = krate(words, area, l, m);
+    root(words, area, l, own(words, area, l, c))
 }

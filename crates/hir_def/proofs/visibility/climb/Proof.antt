@@ -6,6 +6,7 @@ use native.Mathlib.Omega.{arith}
 use Rattle.snapshot.specs.Layouts.{snapOf}
 use Rattle.hir_def.specs.Visibility.{climb}
 use Rattle.hir_def.proofs.Reading.{length-modules}
+use Rattle.accept.proofs.Trees.{accepted-tree}
 use Rattle.hir_def.proofs.Chains.{climb-falls}
 use Rattle.hir_def.proofs.Climbs.{one-more, climb-here, climb-top, climb-on, climb-less}
 use Rattle.hir_def.proofs.visibility.climb.Statement.{statement}
@@ -30,7 +31,7 @@ returns : tie.Need-returns Inv-loop μ-loop
 returns c =
     let s = c .before .before .before .before .before .before .before in
     let g = c .before .before .before .before .loop in
-    (climb-top (snapOf (now (s .args .words)) (now (s .args .area)) (s .args .l)) (s .args .viewer) (climb-falls (now (s .args .words)) (snapOf (now (s .args .words)) (now (s .args .area)) (s .args .l)) (s .pre .0 .same) (s .args .viewer)) (g .t) (rw (length-modules (now (s .args .words)) (now (s .args .area)) (s .args .l)) (g .inv .1)) (λ e. c .before .before .if1 .taken (c .before .before .before .map .ensures ∙ e)) (sym (c .before .block .ensures) ∙ c .if2 .taken) ∙ sym (g .inv .0), g .inv .1)
+    (climb-top (snapOf (now (s .args .words)) (now (s .args .area)) (s .args .l)) (s .args .viewer) (climb-falls (snapOf (now (s .args .words)) (now (s .args .area)) (s .args .l)) (accepted-tree (now (s .args .words)) (snapOf (now (s .args .words)) (now (s .args .area)) (s .args .l)) (s .pre .0 .same)) (s .args .viewer)) (g .t) (rw (length-modules (now (s .args .words)) (now (s .args .area)) (s .args .l)) (g .inv .1)) (λ e. c .before .before .if1 .taken (c .before .before .before .map .ensures ∙ e)) (sym (c .before .block .ensures) ∙ c .if2 .taken) ∙ sym (g .inv .0), g .inv .1)
 
 sub-t : tie.Need-sub-t Inv-loop μ-loop
 sub-t c = search needs
@@ -39,21 +40,21 @@ loop-less : tie.Need-loop-less Inv-loop μ-loop
 loop-less c =
     let s = c .before .before .before .before .before .before .before in
     let g = c .before .before .before .before .loop in
-    climb-less (snapOf (now (s .args .words)) (now (s .args .area)) (s .args .l)) (s .args .viewer) (climb-falls (now (s .args .words)) (snapOf (now (s .args .words)) (now (s .args .area)) (s .args .l)) (s .pre .0 .same) (s .args .viewer)) (g .t) (rw (length-modules (now (s .args .words)) (now (s .args .area)) (s .args .l)) (g .inv .1)) (λ e. c .before .before .if1 .taken (c .before .before .before .map .ensures ∙ e)) _ (sym (c .before .block .ensures) ∙ one-more _ (c .if2 .left))
+    climb-less (snapOf (now (s .args .words)) (now (s .args .area)) (s .args .l)) (s .args .viewer) (climb-falls (snapOf (now (s .args .words)) (now (s .args .area)) (s .args .l)) (accepted-tree (now (s .args .words)) (snapOf (now (s .args .words)) (now (s .args .area)) (s .args .l)) (s .pre .0 .same)) (s .args .viewer)) (g .t) (rw (length-modules (now (s .args .words)) (now (s .args .area)) (s .args .l)) (g .inv .1)) (λ e. c .before .before .if1 .taken (c .before .before .before .map .ensures ∙ e)) _ (sym (c .before .block .ensures) ∙ one-more _ (c .if2 .left))
 
 loop-again : tie.Need-loop-again Inv-loop μ-loop
 loop-again c =
     let s = c .before .before .before .before .before .before .before in
     let g = c .before .before .before .before .loop in
-    let d = climb-less (snapOf (now (s .args .words)) (now (s .args .area)) (s .args .l)) (s .args .viewer) (climb-falls (now (s .args .words)) (snapOf (now (s .args .words)) (now (s .args .area)) (s .args .l)) (s .pre .0 .same) (s .args .viewer)) (g .t) (rw (length-modules (now (s .args .words)) (now (s .args .area)) (s .args .l)) (g .inv .1)) (λ e. c .before .before .if1 .taken (c .before .before .before .map .ensures ∙ e)) (c .before .block .result - 1) (sym (c .before .block .ensures) ∙ one-more _ (c .if2 .left)) in
+    let d = climb-less (snapOf (now (s .args .words)) (now (s .args .area)) (s .args .l)) (s .args .viewer) (climb-falls (snapOf (now (s .args .words)) (now (s .args .area)) (s .args .l)) (accepted-tree (now (s .args .words)) (snapOf (now (s .args .words)) (now (s .args .area)) (s .args .l)) (s .pre .0 .same)) (s .args .viewer)) (g .t) (rw (length-modules (now (s .args .words)) (now (s .args .area)) (s .args .l)) (g .inv .1)) (λ e. c .before .before .if1 .taken (c .before .before .before .map .ensures ∙ e)) (c .before .block .result - 1) (sym (c .before .block .ensures) ∙ one-more _ (c .if2 .left)) in
     let k = g .inv .1 in
-    (g .inv .0 ∙ climb-on (snapOf (now (s .args .words)) (now (s .args .area)) (s .args .l)) (s .args .viewer) (climb-falls (now (s .args .words)) (snapOf (now (s .args .words)) (now (s .args .area)) (s .args .l)) (s .pre .0 .same) (s .args .viewer)) (g .t) (rw (length-modules (now (s .args .words)) (now (s .args .area)) (s .args .l)) (g .inv .1)) (λ e. c .before .before .if1 .taken (c .before .before .before .map .ensures ∙ e)) (c .before .block .result - 1) (sym (c .before .block .ensures) ∙ one-more _ (c .if2 .left)), omega arith)
+    (g .inv .0 ∙ climb-on (snapOf (now (s .args .words)) (now (s .args .area)) (s .args .l)) (s .args .viewer) (climb-falls (snapOf (now (s .args .words)) (now (s .args .area)) (s .args .l)) (accepted-tree (now (s .args .words)) (snapOf (now (s .args .words)) (now (s .args .area)) (s .args .l)) (s .pre .0 .same)) (s .args .viewer)) (g .t) (rw (length-modules (now (s .args .words)) (now (s .args .area)) (s .args .l)) (g .inv .1)) (λ e. c .before .before .if1 .taken (c .before .before .before .map .ensures ∙ e)) (c .before .block .result - 1) (sym (c .before .block .ensures) ∙ one-more _ (c .if2 .left)), omega arith)
 
 returns-2 : tie.Need-returns-2 Inv-loop μ-loop
 returns-2 c =
     let s = c .before .before .before .before .before in
     let g = c .before .before .loop in
-    (climb-here (snapOf (now (s .args .words)) (now (s .args .area)) (s .args .l)) (s .args .viewer) (climb-falls (now (s .args .words)) (snapOf (now (s .args .words)) (now (s .args .area)) (s .args .l)) (s .pre .0 .same) (s .args .viewer)) (g .t) (rw (length-modules (now (s .args .words)) (now (s .args .area)) (s .args .l)) (g .inv .1)) (sym (c .before .map .ensures) ∙ c .if1 .left) ∙ sym (g .inv .0), g .inv .1)
+    (climb-here (snapOf (now (s .args .words)) (now (s .args .area)) (s .args .l)) (s .args .viewer) (climb-falls (snapOf (now (s .args .words)) (now (s .args .area)) (s .args .l)) (accepted-tree (now (s .args .words)) (snapOf (now (s .args .words)) (now (s .args .area)) (s .args .l)) (s .pre .0 .same)) (s .args .viewer)) (g .t) (rw (length-modules (now (s .args .words)) (now (s .args .area)) (s .args .l)) (g .inv .1)) (sym (c .before .map .ensures) ∙ c .if1 .left) ∙ sym (g .inv .0), g .inv .1)
 
 pub climb-spec : {M : Type 1} → statement M
 climb-spec =

@@ -7,6 +7,7 @@ use Rattle.snapshot.specs.Layouts.{snapOf}
 use Rattle.hir_def.specs.Items.{containing}
 use Rattle.hir_def.specs.Visibility.{met}
 use Rattle.hir_def.proofs.Reading.{length-modules}
+use Rattle.accept.proofs.Trees.{accepted-tree}
 use Rattle.hir_def.proofs.Chains.{containing-falls}
 use Rattle.hir_def.proofs.Climbs.{one-more, meets-here, meets-end, meets-on}
 use Rattle.hir_def.proofs.visibility.meets.Statement.{statement}
@@ -28,7 +29,7 @@ returns : tie.Need-returns Inv-loop μ-loop
 returns c =
     let s = c .before .before .before .before .before .before in
     let g = c .before .before .before .loop in
-    meets-end (snapOf (now (s .args .words)) (now (s .args .area)) (s .args .l)) (containing-falls (now (s .args .words)) (snapOf (now (s .args .words)) (now (s .args .area)) (s .args .l)) (s .pre .0 .same)) (g .v) (s .args .target .0) (rw (length-modules (now (s .args .words)) (now (s .args .area)) (s .args .l)) (g .inv .1)) (c .before .before .loop-test .taken) (sym (c .before .containing .ensures) ∙ c .if1 .taken) ∙ sym (g .inv .0)
+    meets-end (snapOf (now (s .args .words)) (now (s .args .area)) (s .args .l)) (containing-falls (snapOf (now (s .args .words)) (now (s .args .area)) (s .args .l)) (accepted-tree (now (s .args .words)) (snapOf (now (s .args .words)) (now (s .args .area)) (s .args .l)) (s .pre .0 .same))) (g .v) (s .args .target .0) (rw (length-modules (now (s .args .words)) (now (s .args .area)) (s .args .l)) (g .inv .1)) (c .before .before .loop-test .taken) (sym (c .before .containing .ensures) ∙ c .if1 .taken) ∙ sym (g .inv .0)
 
 sub-v : tie.Need-sub-v Inv-loop μ-loop
 sub-v c = search needs
@@ -37,21 +38,21 @@ loop-less : tie.Need-loop-less Inv-loop μ-loop
 loop-less c =
     let s = c .before .before .before .before .before .before in
     let g = c .before .before .before .loop in
-    (containing-falls (now (s .args .words)) (snapOf (now (s .args .words)) (now (s .args .area)) (s .args .l)) (s .pre .0 .same)) (g .v) _ (rw (length-modules (now (s .args .words)) (now (s .args .area)) (s .args .l)) (g .inv .1)) (sym (c .before .containing .ensures) ∙ one-more _ (c .if1 .left))
+    (containing-falls (snapOf (now (s .args .words)) (now (s .args .area)) (s .args .l)) (accepted-tree (now (s .args .words)) (snapOf (now (s .args .words)) (now (s .args .area)) (s .args .l)) (s .pre .0 .same))) (g .v) _ (rw (length-modules (now (s .args .words)) (now (s .args .area)) (s .args .l)) (g .inv .1)) (sym (c .before .containing .ensures) ∙ one-more _ (c .if1 .left))
 
 loop-again : tie.Need-loop-again Inv-loop μ-loop
 loop-again c =
     let s = c .before .before .before .before .before .before in
     let g = c .before .before .before .loop in
-    let d = (containing-falls (now (s .args .words)) (snapOf (now (s .args .words)) (now (s .args .area)) (s .args .l)) (s .pre .0 .same)) (g .v) (c .before .containing .result - 1) (rw (length-modules (now (s .args .words)) (now (s .args .area)) (s .args .l)) (g .inv .1)) (sym (c .before .containing .ensures) ∙ one-more _ (c .if1 .left)) in
+    let d = (containing-falls (snapOf (now (s .args .words)) (now (s .args .area)) (s .args .l)) (accepted-tree (now (s .args .words)) (snapOf (now (s .args .words)) (now (s .args .area)) (s .args .l)) (s .pre .0 .same))) (g .v) (c .before .containing .result - 1) (rw (length-modules (now (s .args .words)) (now (s .args .area)) (s .args .l)) (g .inv .1)) (sym (c .before .containing .ensures) ∙ one-more _ (c .if1 .left)) in
     let k = g .inv .1 in
-    (g .inv .0 ∙ meets-on (snapOf (now (s .args .words)) (now (s .args .area)) (s .args .l)) (containing-falls (now (s .args .words)) (snapOf (now (s .args .words)) (now (s .args .area)) (s .args .l)) (s .pre .0 .same)) (g .v) (s .args .target .0) (rw (length-modules (now (s .args .words)) (now (s .args .area)) (s .args .l)) (g .inv .1)) (c .before .before .loop-test .taken) (c .before .containing .result - 1) (sym (c .before .containing .ensures) ∙ one-more _ (c .if1 .left)), omega arith)
+    (g .inv .0 ∙ meets-on (snapOf (now (s .args .words)) (now (s .args .area)) (s .args .l)) (containing-falls (snapOf (now (s .args .words)) (now (s .args .area)) (s .args .l)) (accepted-tree (now (s .args .words)) (snapOf (now (s .args .words)) (now (s .args .area)) (s .args .l)) (s .pre .0 .same))) (g .v) (s .args .target .0) (rw (length-modules (now (s .args .words)) (now (s .args .area)) (s .args .l)) (g .inv .1)) (c .before .before .loop-test .taken) (c .before .containing .result - 1) (sym (c .before .containing .ensures) ∙ one-more _ (c .if1 .left)), omega arith)
 
 returns-2 : tie.Need-returns-2 Inv-loop μ-loop
 returns-2 c =
     let s = c .before .before .before .before in
     let g = c .before .loop in
-    meets-here (snapOf (now (s .args .words)) (now (s .args .area)) (s .args .l)) (containing-falls (now (s .args .words)) (snapOf (now (s .args .words)) (now (s .args .area)) (s .args .l)) (s .pre .0 .same)) (g .v) (s .args .target .0) (rw (length-modules (now (s .args .words)) (now (s .args .area)) (s .args .l)) (g .inv .1)) (c .loop-test .left) ∙ sym (g .inv .0)
+    meets-here (snapOf (now (s .args .words)) (now (s .args .area)) (s .args .l)) (containing-falls (snapOf (now (s .args .words)) (now (s .args .area)) (s .args .l)) (accepted-tree (now (s .args .words)) (snapOf (now (s .args .words)) (now (s .args .area)) (s .args .l)) (s .pre .0 .same))) (g .v) (s .args .target .0) (rw (length-modules (now (s .args .words)) (now (s .args .area)) (s .args .l)) (g .inv .1)) (c .loop-test .left) ∙ sym (g .inv .0)
 
 pub meets-spec : {M : Type 1} → statement M
 meets-spec =

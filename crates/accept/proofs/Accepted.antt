@@ -1,0 +1,203 @@
+-- What each record that is taken keeps, an accepted snapshot has.
+use mathlib.Core.Path.{_≡_, refl, subst}
+use Prim.Native.Nat.{ℕ, zero, suc, _+_}
+use native.Mathlib.Omega.{arith}
+use mathlib.Core.List.{List}
+use mathlib.Core.Bool.{Bool, true, false, _&&_}
+use lib.Dec.{eqb, ltb, leb}
+use lib.ListN.{length, getD}
+use Rattle.snapshot.specs.Lists.{any}
+use Rattle.snapshot.specs.Limits.{wordLimit, crateLimit, moduleLimit, nameLimit, definitionLimit}
+use Rattle.snapshot.specs.Words.{kindOf, argumentsAt}
+use Rattle.snapshot.specs.Records.{Snapshot, Name, Crate, Dependency, Map, Module, Child, Prelude, Definition, Scope, Import, Extern, nameAt, crateAt, dependencyAt, mapAt, moduleAt, childAt, preludeAt, definitionAt, scopeAt, importAt, externAt}
+use Rattle.accept.specs.Tests.{childDefined, childPlaced, countsOf, crateRange, cratesOwn, definitionDefined, definitionPlaced, definitionRange, definitionRepeated, dependencyDefined, dependencyRange, externDefined, importDefined, importRange, mapDefined, mapPlaced, mapRange, mapRepeated, mapsFilled, moduleDefined, modulePlaced, nameRange, nsPlaced, preludeDefined, sameChild, sameEntry, sameExtern, sameName, samePrelude, scopeDefined, scopeRange}
+use Rattle.accept.specs.Steps.{Next, no, on, need, judge, addName, addCrate, addDependency, addMap, addModule, addChild, addPrelude, addDefinition, addScope, addImport, addExtern, nameStep, crateStep, dependencyStep, mapStep, moduleStep, childStep, preludeStep, definitionStep, scopeStep, importStep, externStep}
+use Rattle.accept.specs.Verdict.{follows, argumentsFrom, recordStep, stepAt, Verdict, refuse, accept, finish, records, empty, verdict}
+
+pub by-test : {C : Type 0} (b : Bool) → (b ≡ true → C) → (b ≡ false → C) → C
+by-test true y n = y refl
+by-test false y n = n refl
+
+by-next : {C : Type 0} (r : Next) → ((n : ℕ) → r ≡ no n → C) → ((t : Snapshot) → r ≡ on t → C) → C
+by-next (no n) f g = f n refl
+by-next (on t) f g = g t refl
+
+-- the tests of a record that was taken
+pub record Passed (range defined repeated placed room : Bool) : Type 0 where
+  pub ranged : range ≡ true
+  pub known : defined ≡ true
+  pub new : repeated ≡ false
+  pub right : placed ≡ true
+  pub roomy : room ≡ true
+
+-- Each record that passed its tests keeps P.
+pub record Keeps (P : Snapshot → Type 0) : Type 0 where
+  pub names : (s : Snapshot) (y : Name)
+      → Passed (nameRange y) true (any (sameName y) (s .names)) true (ltb (length (s .names)) nameLimit) → P s → P (addName s y)
+  pub crates : (s : Snapshot) (y : Crate)
+      → Passed (crateRange y) true false true (ltb (length (s .crates)) crateLimit) → P s → P (addCrate s y)
+  pub dependencies : (s : Snapshot) (y : Dependency)
+      → Passed (dependencyRange y) (dependencyDefined (countsOf s) y) false true true → P s → P (addDependency s y)
+  pub maps : (s : Snapshot) (y : Map)
+      → Passed (mapRange y) (mapDefined (countsOf s) y) (mapRepeated s y) (mapPlaced s y) true → P s → P (addMap s y)
+  pub modules : (s : Snapshot) (y : Module)
+      → Passed true (moduleDefined (countsOf s) y) false (modulePlaced s y) (ltb (length (s .modules)) moduleLimit)
+      → P s → P (addModule s y)
+  pub children : (s : Snapshot) (y : Child)
+      → Passed true (childDefined (countsOf s) y) (any (sameChild y) (s .children)) (childPlaced s y) true
+      → P s → P (addChild s y)
+  pub preludes : (s : Snapshot) (y : Prelude)
+      → Passed true (preludeDefined (countsOf s) y) (any (samePrelude y) (s .preludes)) true true
+      → P s → P (addPrelude s y)
+  pub definitions : (s : Snapshot) (y : Definition)
+      → Passed (definitionRange s y) (definitionDefined (countsOf s) y) (definitionRepeated s y) (definitionPlaced s y)
+      (ltb (length (s .definitions)) definitionLimit)
+      → P s → P (addDefinition s y)
+  pub scopes : (s : Snapshot) (y : Scope)
+      → Passed (scopeRange y) (scopeDefined (countsOf s) y) (any (sameEntry y) (s .scopes)) (nsPlaced s (y .ns) (y .definition)) true
+      → P s → P (addScope s y)
+  pub imports : (s : Snapshot) (y : Import)
+      → Passed (importRange y) (importDefined (countsOf s) y) false (nsPlaced s (y .ns) (y .definition)) true
+      → P s → P (addImport s y)
+  pub externs : (s : Snapshot) (y : Extern)
+      → Passed true (externDefined (countsOf s) y) (any (sameExtern y) (s .externs)) true true → P s → P (addExtern s y)
+
+record Taken (range defined repeated placed room : Bool) (t u : Snapshot) : Type 0 where
+  passed : Passed range defined repeated placed room
+  same : t ≡ u
+
+judge-on : (a b c d e : Bool) (t u : Snapshot) → judge a b c d e t ≡ on u → Taken a b c d e t u
+judge-on false b c d e t u h = let z : _≡_ {A = ℕ} 0 1 = cc in absurd (omega arith)
+judge-on true false c d e t u h = let z : _≡_ {A = ℕ} 0 1 = cc in absurd (omega arith)
+judge-on true true true d e t u h = let z : _≡_ {A = ℕ} 0 1 = cc in absurd (omega arith)
+judge-on true true false false e t u h = let z : _≡_ {A = ℕ} 0 1 = cc in absurd (omega arith)
+judge-on true true false true false t u h = let z : _≡_ {A = ℕ} 0 1 = cc in absurd (omega arith)
+judge-on true true false true true t u h =
+    record { passed = record { ranged = refl; known = refl; new = refl; right = refl; roomy = refl }; same = cc }
+
+need-on : (b : Bool) (n : ℕ) (r : Next) (u : Snapshot) → need b n r ≡ on u → r ≡ on u
+need-on true n r u h = h
+need-on false n r u h = let z : _≡_ {A = ℕ} 0 1 = cc in absurd (omega arith)
+
+-- what holds at the end, the last tests too
+pub record Ends (P : Snapshot → Type 0) (s : Snapshot) : Type 0 where
+  pub kept : P s
+  pub whole : mapsFilled s && cratesOwn s ≡ true
+
+module _ (P : Snapshot → Type 0) (keeps : Keeps P) where
+  taken-keeps : (a b c d e : Bool) (t u : Snapshot) → judge a b c d e t ≡ on u → (Passed a b c d e → P t) → P u
+  taken-keeps a b c d e t u h f = let q = judge-on a b c d e t u h in subst P (q .same) (f (q .passed))
+
+  name-keeps : (s : Snapshot) (y : Name) (u : Snapshot) → nameStep s y ≡ on u → P s → P u
+  unfolding nameStep
+  name-keeps s y u e h =
+      taken-keeps (nameRange y) true (any (sameName y) (s .names)) true (ltb (length (s .names)) nameLimit) (addName s y) u e
+      (λ p. keeps .names s y p h)
+
+  crate-keeps : (s : Snapshot) (y : Crate) (u : Snapshot) → crateStep s y ≡ on u → P s → P u
+  unfolding crateStep
+  crate-keeps s y u e h =
+      taken-keeps (crateRange y) true false true (ltb (length (s .crates)) crateLimit) (addCrate s y) u e
+      (λ p. keeps .crates s y p h)
+
+  dependency-keeps : (s : Snapshot) (y : Dependency) (u : Snapshot) → dependencyStep s y ≡ on u → P s → P u
+  unfolding dependencyStep
+  dependency-keeps s y u e h =
+      taken-keeps (dependencyRange y) (dependencyDefined (countsOf s) y) false true true (addDependency s y) u e
+      (λ p. keeps .dependencies s y p h)
+
+  map-keeps : (s : Snapshot) (y : Map) (u : Snapshot) → mapStep s y ≡ on u → P s → P u
+  unfolding mapStep
+  map-keeps s y u e h =
+      taken-keeps (mapRange y) (mapDefined (countsOf s) y) (mapRepeated s y) (mapPlaced s y) true (addMap s y) u e
+      (λ p. keeps .maps s y p h)
+
+  module-keeps : (s : Snapshot) (y : Module) (u : Snapshot) → moduleStep s y ≡ on u → P s → P u
+  unfolding moduleStep
+  module-keeps s y u e h =
+      taken-keeps true (moduleDefined (countsOf s) y) false (modulePlaced s y) (ltb (length (s .modules)) moduleLimit) (addModule s y) u e
+      (λ p. keeps .modules s y p h)
+
+  child-keeps : (s : Snapshot) (y : Child) (u : Snapshot) → childStep s y ≡ on u → P s → P u
+  unfolding childStep
+  child-keeps s y u e h =
+      taken-keeps true (childDefined (countsOf s) y) (any (sameChild y) (s .children)) (childPlaced s y) true (addChild s y) u e
+      (λ p. keeps .children s y p h)
+
+  prelude-keeps : (s : Snapshot) (y : Prelude) (u : Snapshot) → preludeStep s y ≡ on u → P s → P u
+  unfolding preludeStep
+  prelude-keeps s y u e h =
+      taken-keeps true (preludeDefined (countsOf s) y) (any (samePrelude y) (s .preludes)) true true (addPrelude s y) u e
+      (λ p. keeps .preludes s y p h)
+
+  definition-keeps : (s : Snapshot) (y : Definition) (u : Snapshot) → definitionStep s y ≡ on u → P s → P u
+  unfolding definitionStep
+  definition-keeps s y u e h =
+      taken-keeps (definitionRange s y) (definitionDefined (countsOf s) y) (definitionRepeated s y) (definitionPlaced s y)
+      (ltb (length (s .definitions)) definitionLimit) (addDefinition s y) u e
+      (λ p. keeps .definitions s y p h)
+
+  scope-keeps : (s : Snapshot) (y : Scope) (u : Snapshot) → scopeStep s y ≡ on u → P s → P u
+  unfolding scopeStep
+  scope-keeps s y u e h =
+      taken-keeps (scopeRange y) (scopeDefined (countsOf s) y) (any (sameEntry y) (s .scopes)) (nsPlaced s (y .ns) (y .definition)) true (addScope s y) u e
+      (λ p. keeps .scopes s y p h)
+
+  import-keeps : (s : Snapshot) (y : Import) (u : Snapshot) → importStep s y ≡ on u → P s → P u
+  unfolding importStep
+  import-keeps s y u e h =
+      taken-keeps (importRange y) (importDefined (countsOf s) y) false (nsPlaced s (y .ns) (y .definition)) true (addImport s y) u e
+      (λ p. keeps .imports s y p h)
+
+  extern-keeps : (s : Snapshot) (y : Extern) (u : Snapshot) → externStep s y ≡ on u → P s → P u
+  unfolding externStep
+  extern-keeps s y u e h =
+      taken-keeps true (externDefined (countsOf s) y) (any (sameExtern y) (s .externs)) true true (addExtern s y) u e
+      (λ p. keeps .externs s y p h)
+
+  record-keeps : (k : ℕ) (W : List ℕ) (at : ℕ) (s u : Snapshot) → recordStep k W at s ≡ on u → P s → P u
+  unfolding recordStep
+  record-keeps k W at s u e h =
+      by-test (eqb k 1) (λ a. name-keeps s (nameAt W at) u (rw (recordStep, a) at e) h) (λ n1.
+      by-test (eqb k 2) (λ a. crate-keeps s (crateAt W at) u (rw (recordStep, n1, a) at e) h) (λ n2.
+      by-test (eqb k 3) (λ a. dependency-keeps s (dependencyAt W at) u (rw (recordStep, n1, n2, a) at e) h) (λ n3.
+      by-test (eqb k 4) (λ a. map-keeps s (mapAt W at) u (rw (recordStep, n1, n2, n3, a) at e) h) (λ n4.
+      by-test (eqb k 5) (λ a. module-keeps s (moduleAt W at) u (rw (recordStep, n1, n2, n3, n4, a) at e) h) (λ n5.
+      by-test (eqb k 6) (λ a. child-keeps s (childAt W at) u (rw (recordStep, n1, n2, n3, n4, n5, a) at e) h) (λ n6.
+      by-test (eqb k 7) (λ a. prelude-keeps s (preludeAt W at) u (rw (recordStep, n1, n2, n3, n4, n5, n6, a) at e) h) (λ n7.
+      by-test (eqb k 8) (λ a. definition-keeps s (definitionAt W at) u (rw (recordStep, n1, n2, n3, n4, n5, n6, n7, a) at e) h) (λ n8.
+      by-test (eqb k 9) (λ a. scope-keeps s (scopeAt W at) u (rw (recordStep, n1, n2, n3, n4, n5, n6, n7, n8, a) at e) h) (λ n9.
+      by-test (eqb k 10) (λ a. import-keeps s (importAt W at) u (rw (recordStep, n1, n2, n3, n4, n5, n6, n7, n8, n9, a) at e) h) (λ n10.
+      extern-keeps s (externAt W at) u (rw (recordStep, n1, n2, n3, n4, n5, n6, n7, n8, n9, n10) at e) h))))))))))
+
+  step-keeps : (W : List ℕ) (at last : ℕ) (s u : Snapshot) → stepAt W at last s ≡ on u → P s → P u
+  unfolding stepAt
+  step-keeps W at last s u e h =
+      let a = need-on (follows last (kindOf (getD W at 0))) 31 _ u e in
+      let b = need-on (argumentsFrom W (at + 1) (argumentsAt W at)) 31 _ u a in
+      record-keeps (kindOf (getD W at 0)) W at s u b h
+
+  finish-keeps : (at : ℕ) (s u : Snapshot) → finish at s ≡ accept u → P s → Ends P u
+  unfolding finish
+  finish-keeps at s u e h =
+      by-test (mapsFilled s && cratesOwn s)
+      (λ a. let f : accept s ≡ accept u = rw (finish, a) at e in let q : s ≡ u = cc in subst (Ends P) q (record { kept = h; whole = a }))
+      (λ a. let f : refuse 35 at ≡ accept u = rw (finish, a) at e in let z : _≡_ {A = ℕ} 0 1 = cc in absurd (omega arith))
+
+  records-keep : (n : ℕ) (W : List ℕ) (at last : ℕ) (s u : Snapshot) → records n W at last s ≡ accept u → P s → Ends P u
+  unfolding records
+  records-keep zero W at last s u e h = finish-keeps (length W) s u e h
+  records-keep (suc n) W at last s u e h =
+      by-test (ltb at (length W))
+      (λ a. by-next (stepAt W at last s)
+      (λ m q. let f : refuse m at ≡ accept u = rw (records, a, q) at e in let z : _≡_ {A = ℕ} 0 1 = cc in absurd (omega arith))
+      (λ t q. records-keep n W (at + 1 + argumentsAt W at) (kindOf (getD W at 0)) t u (rw (records, a, q) at e) (step-keeps W at last s t q h)))
+      (λ a. finish-keeps (length W) s u (rw (records, a) at e) h)
+
+  -- What holds of no records, and is kept, holds of an accepted snapshot; so do the last tests.
+  pub verdict-keeps : P empty → (W : List ℕ) (s : Snapshot) → verdict W ≡ accept s → Ends P s
+  unfolding verdict
+  verdict-keeps start W s e =
+      by-test (leb (length W) wordLimit)
+      (λ a. records-keep (length W) W 0 0 empty s (rw (verdict, a) at e) start)
+      (λ a. let f : refuse 30 wordLimit ≡ accept s = rw (verdict, a) at e in let z : _≡_ {A = ℕ} 0 1 = cc in absurd (omega arith))

@@ -1,0 +1,52 @@
+-- The records that accepted words hold, each at its place, are in range.
+use mathlib.Core.Path.{_≡_, subst}
+use Prim.Native.Nat.{ℕ, _+_, _*_, _<_}
+use native.Mathlib.Omega.{arith}
+use mathlib.Core.List.{List}
+use Rattle.snapshot.specs.Records.{Snapshot, crateAt, dependencyAt, mapAt, childAt, preludeAt, definitionAt, scopeAt, importAt, externAt}
+use Rattle.snapshot.specs.Layouts.{crateBase, dependencyBase, childBase, preludeBase, definitionBase, scopeBase, importBase, externBase, nameHead, moduleRow, moduleHead, mapRoot, snapOf}
+use Rattle.snapshot.specs.declared.layout.Layout.{Layout}
+use Rattle.snapshot.proofs.Laws.{length-rows}
+use Rattle.accept.specs.Tests.{Counts, countsOf}
+use Rattle.accept.specs.Stands.{countsIn}
+use Rattle.accept.specs.Verdict.{accept, verdict}
+use Rattle.accept.specs.Valid.{CrateFits, DependencyFits, MapFits, ModuleFits, ChildFits, PreludeFits, DefinitionFits, ScopeFits, ImportFits, ExternFits, Ranges, Valid}
+use Rattle.accept.proofs.Bools.{each-rows}
+
+-- the counts of the lists are those of the layout
+pub counts-read : (W A : List ℕ) (l : Layout) → countsOf (snapOf W A l) ≡ countsIn l
+counts-read W A l = rw (length-rows, length-rows, length-rows, length-rows, length-rows)
+
+module _ (W A : List ℕ) (l : Layout) (v : Valid (snapOf W A l)) where
+  pub ranges-read : Ranges (countsIn l) (snapOf W A l)
+  ranges-read = subst (λ (n : Counts). Ranges n (snapOf W A l)) (counts-read W A l) (v .ranges)
+
+  pub crate-read : (k : ℕ) → k < l .crates → CrateFits (crateAt W (crateBase l + 1 * k))
+  crate-read k h = each-rows (λ k. crateAt W (crateBase l + 1 * k)) (l .crates) k (ranges-read .crates) h
+
+  pub dependency-read : (k : ℕ) → k < l .dependencies → DependencyFits (countsIn l) (dependencyAt W (dependencyBase l + 3 * k))
+  dependency-read k h = each-rows (λ k. dependencyAt W (dependencyBase l + 3 * k)) (l .dependencies) k (ranges-read .dependencies) h
+
+  pub map-read : (k : ℕ) → k < l .maps → MapFits (countsIn l) (mapAt W (moduleHead A (mapRoot A k)))
+  map-read k h = each-rows (λ k. mapAt W (moduleHead A (mapRoot A k))) (l .maps) k (ranges-read .maps) h
+
+  pub module-read : (k : ℕ) → k < l .modules → ModuleFits (countsIn l) (moduleRow A k)
+  module-read k h = each-rows (moduleRow A) (l .modules) k (ranges-read .modules) h
+
+  pub child-read : (k : ℕ) → k < l .children → ChildFits (countsIn l) (childAt W (childBase l + 2 * k))
+  child-read k h = each-rows (λ k. childAt W (childBase l + 2 * k)) (l .children) k (ranges-read .children) h
+
+  pub prelude-read : (k : ℕ) → k < l .preludes → PreludeFits (countsIn l) (preludeAt W (preludeBase l + 2 * k))
+  prelude-read k h = each-rows (λ k. preludeAt W (preludeBase l + 2 * k)) (l .preludes) k (ranges-read .preludes) h
+
+  pub definition-read : (k : ℕ) → k < l .definitions → DefinitionFits (countsIn l) (definitionAt W (definitionBase l + 3 * k))
+  definition-read k h = each-rows (λ k. definitionAt W (definitionBase l + 3 * k)) (l .definitions) k (ranges-read .definitions) h
+
+  pub scope-read : (k : ℕ) → k < l .scopes → ScopeFits (countsIn l) (scopeAt W (scopeBase l + 7 * k))
+  scope-read k h = each-rows (λ k. scopeAt W (scopeBase l + 7 * k)) (l .scopes) k (ranges-read .scopes) h
+
+  pub import-read : (k : ℕ) → k < l .imports → ImportFits (countsIn l) (importAt W (importBase l + 6 * k))
+  import-read k h = each-rows (λ k. importAt W (importBase l + 6 * k)) (l .imports) k (ranges-read .imports) h
+
+  pub extern-read : (k : ℕ) → k < l .externs → ExternFits (countsIn l) (externAt W (externBase l + 3 * k))
+  extern-read k h = each-rows (λ k. externAt W (externBase l + 3 * k)) (l .externs) k (ranges-read .externs) h

@@ -1,0 +1,136 @@
+-- What a reader may rely on in an accepted snapshot (proofs/Valid.antt: accepted-valid).
+use Prim.Native.Nat.{ℕ, suc, _+_, _≤_, _<_}
+use mathlib.Core.Path.{_≡_}
+use mathlib.Core.List.{List, [], _∷_}
+use mathlib.Core.Bool.{Bool, false}
+use lib.ListN.{length, getD}
+use Rattle.snapshot.specs.Records.{Name, Crate, Dependency, Map, Module, Child, Prelude, Definition, Scope, Import, Extern, Snapshot}
+use Rattle.accept.specs.Tests.{Counts, countsOf, noMap, noModule, noDefinition}
+
+-- every element has P
+pub data Each {A : Type 0} (P : A → Type 0) : List A → Type 0 where
+  none : Each P []
+  more : {x : A} {xs : List A} → P x → Each P xs → Each P (x ∷ xs)
+
+-- fields in their ranges, and every number below the count of what it names
+
+pub record NameFits (x : Name) : Type 0 where
+  pub some : 1 ≤ x .bytes
+  pub bytes : x .bytes ≤ 255
+
+pub record CrateFits (x : Crate) : Type 0 where
+  pub origin : x .origin ≤ 4
+  pub noStd : x .noStd ≤ 1
+
+pub record DependencyFits (n : Counts) (x : Dependency) : Type 0 where
+  pub owner : x .owner < n .crates
+  pub crate : x .crate < n .crates
+  pub sysroot : x .sysroot ≤ 1
+
+pub record MapFits (n : Counts) (x : Map) : Type 0 where
+  pub crate : x .crate < n .crates
+  pub block : x .block ≤ n .modules
+  pub noStd : x .noStd ≤ 1
+
+pub record ModuleFits (n : Counts) (x : Module) : Type 0 where
+  pub map : x .map < n .maps
+  pub parent : x .parent ≤ n .modules
+
+pub record ChildFits (n : Counts) (x : Child) : Type 0 where
+  pub owner : x .owner < n .modules
+  pub child : x .child < n .modules
+
+pub record PreludeFits (n : Counts) (x : Prelude) : Type 0 where
+  pub map : x .map < n .maps
+  pub target : x .target < n .modules
+
+pub record DefinitionFits (n : Counts) (x : Definition) : Type 0 where
+  pub known : 1 ≤ x .kind
+  pub kind : x .kind ≤ 5
+  pub variant : x .kind ≡ 2 → (x .first < n .definitions) × (x .second < n .names)
+  pub builtin : x .kind ≡ 3 → x .first < n .names
+  pub home : (x .kind ≡ 2 → ⊥) → (x .kind ≡ 3 → ⊥) → x .first < n .modules
+
+pub record ScopeFits (n : Counts) (x : Scope) : Type 0 where
+  pub owner : x .owner < n .modules
+  pub ns : x .ns ≤ 2
+  pub name : x .name < n .names
+  pub definition : x .definition < n .definitions
+  pub visibility : x .visibility ≤ 3
+  pub public : x .visibility ≡ 0 → x .number ≡ 0
+  pub crate : x .visibility ≡ 1 → x .number < n .crates
+  pub inside : 2 ≤ x .visibility → x .number < n .modules
+  pub declared : x .declared ≤ 1
+
+pub record ImportFits (n : Counts) (x : Import) : Type 0 where
+  pub owner : x .owner < n .crates
+  pub ns : x .ns ≤ 2
+  pub definition : x .definition < n .definitions
+  pub name : x .name < n .names
+  pub container : x .container < n .modules
+  pub bits : x .bits ≤ 3
+
+pub record ExternFits (n : Counts) (x : Extern) : Type 0 where
+  pub owner : x .owner < n .crates
+  pub name : x .name < n .names
+  pub target : x .target < n .modules
+
+pub record Ranges (n : Counts) (s : Snapshot) : Type 0 where
+  pub names : Each NameFits (s .names)
+  pub crates : Each CrateFits (s .crates)
+  pub dependencies : Each (DependencyFits n) (s .dependencies)
+  pub maps : Each (MapFits n) (s .maps)
+  pub modules : Each (ModuleFits n) (s .modules)
+  pub children : Each (ChildFits n) (s .children)
+  pub preludes : Each (PreludeFits n) (s .preludes)
+  pub definitions : Each (DefinitionFits n) (s .definitions)
+  pub scopes : Each (ScopeFits n) (s .scopes)
+  pub imports : Each (ImportFits n) (s .imports)
+  pub externs : Each (ExternFits n) (s .externs)
+
+-- the limits of document 01
+pub record Limits (n : Counts) : Type 0 where
+  pub names : n .names ≤ 2048
+  pub crates : n .crates ≤ 64
+  pub modules : n .modules ≤ 512
+  pub definitions : n .definitions ≤ 2048
+
+-- of the records numbered m, k and d
+
+abbrev pub mapIn : List Module → ℕ → ℕ
+mapIn xs m = getD xs m noModule .map
+
+abbrev pub parentIn : List Module → ℕ → ℕ
+parentIn xs m = getD xs m noModule .parent
+
+abbrev pub blockIn : List Map → ℕ → ℕ
+blockIn ms k = getD ms k noMap .block
+
+abbrev pub crateIn : List Map → ℕ → ℕ
+crateIn ms k = getD ms k noMap .crate
+
+abbrev pub definitionIn : List Definition → ℕ → Definition
+definitionIn ds d = getD ds d noDefinition
+
+-- The modules stand map by map, each map's root first, each below its parent, and each block below its crate.
+pub record Tree (ms : List Map) (xs : List Module) : Type 0 where
+  pub known : (m : ℕ) → m < length xs → mapIn xs m < length ms
+  pub rise : (i j : ℕ) → i ≤ j → j < length xs → mapIn xs i ≤ mapIn xs j
+  -- a parent is an earlier module of the same map
+  pub parents : (m p : ℕ) → m < length xs → parentIn xs m ≡ suc p → (p < m) × (mapIn xs p ≡ mapIn xs m)
+  -- a module without a parent is its map's first
+  pub roots : (m j : ℕ) → m < length xs → parentIn xs m ≡ 0 → j < m → mapIn xs j ≡ mapIn xs m → ⊥
+  -- a block's parent is a module of an earlier map of the same crate
+  pub blocks : (k b : ℕ) → k < length ms → blockIn ms k ≡ suc b
+      → (b < length xs) × (mapIn xs b < k) × (crateIn ms (mapIn xs b) ≡ crateIn ms k)
+
+-- a variant's parent is an earlier definition of kind 4
+abbrev pub Enums : List Definition → Type 0
+Enums ds = (d : ℕ) → d < length ds → definitionIn ds d .kind ≡ 2
+    → (definitionIn ds d .first < d) × (definitionIn ds (definitionIn ds d .first) .kind ≡ 4)
+
+pub record Valid (s : Snapshot) : Type 0 where
+  pub ranges : Ranges (countsOf s) s
+  pub limits : Limits (countsOf s)
+  pub tree : Tree (s .maps) (s .modules)
+  pub enums : Enums (s .definitions)
