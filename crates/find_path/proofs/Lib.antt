@@ -9,3 +9,4 @@ pub mod Walks
 pub mod Chains
 pub mod Lines
 pub mod Worked
+pub mod ChoiceLaws

@@ -16,12 +16,12 @@ use Rattle.hir_def.specs.Finds.{firstOf, placeOf, select, firstSome}
 use Rattle.hir_def.specs.Items.{moduleOf, mapOf, definitionOf, crateData, rootOf, ownMap, crateRoot, orElse, containing, itemOf, sameItem, nsOf, homeBy, homeOf}
 use Rattle.hir_def.specs.Visibility.{lastOr, lastTo, last, metOr, metTo, met, unless, climbStep, climb, inModule, isVisibleFrom}
 use Rattle.hir_def.specs.ItemScope.{isFor, nameOf, namesOf, get, modulesInScope}
-use Rattle.hir_def.specs.Nameres.{stepsOr, stepsTo, steps, ancestorMaps, containers, childrenOf, preludeOf, externOf, dependenciesOf, langOf, sysrootFirst}
+use Rattle.hir_def.specs.Nameres.{stepsOr, stepsTo, steps, ancestorMaps, scopeEntry, entryNamed, isOther, occupied, containers, childrenOf, preludeOf, externOf, dependenciesOf, langOf, sysrootFirst}
 use Rattle.hir_def.specs.ImportMap.{importInfoFor}
 use Rattle.find_path.specs.declared.Question.{Question}
 use Rattle.find_path.specs.Choices.{nameData, isPrelude, pathKindLen, pathLen, keyword, choiceNew, extended, push, unstably, compareBool, andThen, comparePrelude, taken, better, trySelect, shorterIf, lengthLeft}
 use Rattle.find_path.specs.Walk.{has, visited, startFrom, leadsTo, unmet, walk, findLocalImportLocations}
-use Rattle.find_path.specs.Rules.{prefixPathKind, plainIf, contextOf, firstFound, entryName, single, findInScope, mayBeInScope, scopeRule, sameHere, preludeEntry, inPrelude, findInPrelude, preludeRule, isOther, occupied, externKind, externName, rootRule, parentKind, isKwKindRelativeToFrom, keywordOf, moduleRules}
+use Rattle.find_path.specs.Rules.{prefixPathKind, plainIf, contextOf, firstFound, entryName, single, findInScope, mayBeInScope, scopeRule, sameHere, preludeEntry, inPrelude, findInPrelude, preludeRule, externKind, externName, rootRule, parentKind, isKwKindRelativeToFrom, keywordOf, moduleRules}
 use Rattle.find_path.specs.Local.{offer, nameIf, importableName, location, eachLocation, calculateBestPathLocal, orLocal, findPathForModuleLocal}
 use Rattle.find_path.specs.Meters.{draw, fromTank}
 use Rattle.find_path.specs.Charged.{langs, oneOrNone, isAt, variantOf, offerImport, findImport, findImports, findInDep, findInDeps, findInSysroot, goOn, afterCharge, calculateBestPath, orCharged, findPathForModule, afterEnum, viaEnum, orEnum, byName, ofModule, findPathInner}
@@ -39,7 +39,7 @@ row d ns m p o f l = record { question = record { query = record { ns = ns; defi
 
 -- the lines are those of the questions
 pub passes : List ℕ → List Row → Bool
-unfolding lineOf snapshotOf lineIn lineParts pathText prefixParts joined decimal decimalTo textOf unpacked reportOf reportUnless reportBy answerUnless searched reported flag refused questionFault callFault findPath fromItem fromHome searchItem itemTo searchModule moduleTo bestLocal searchLocal localTo findPathInner ofModule byName orEnum viaEnum afterEnum findPathForModule orCharged calculateBestPath afterCharge goOn findInSysroot findInDeps findInDep findImports findImport offerImport isAt variantOf oneOrNone langs fromTank draw findPathForModuleLocal orLocal calculateBestPathLocal eachLocation location importableName nameIf offer moduleRules keywordOf isKwKindRelativeToFrom parentKind rootRule externName externKind occupied isOther preludeRule findInPrelude inPrelude preludeEntry sameHere scopeRule mayBeInScope findInScope single entryName firstFound contextOf plainIf prefixPathKind findLocalImportLocations walk unmet leadsTo startFrom visited has lengthLeft shorterIf trySelect better taken comparePrelude andThen compareBool unstably push extended choiceNew keyword pathLen pathKindLen isPrelude nameData importInfoFor sysrootFirst langOf dependenciesOf externOf preludeOf childrenOf containers ancestorMaps steps stepsTo stepsOr modulesInScope get namesOf nameOf isFor isVisibleFrom inModule climb climbStep unless met metTo metOr last lastTo lastOr homeOf homeBy nsOf sameItem itemOf containing orElse crateRoot ownMap rootOf crateData definitionOf mapOf moduleOf firstSome select placeOf firstOf verdict records stepAt recordStep finish argumentsFrom argumentsOf nameStep crateStep dependencyStep mapStep moduleStep childStep preludeStep definitionStep scopeStep importStep externStep textBound padded rows any all eqList
+unfolding lineOf snapshotOf lineIn lineParts pathText prefixParts joined decimal decimalTo textOf unpacked reportOf reportUnless reportBy answerUnless searched reported flag refused questionFault callFault findPath fromItem fromHome searchItem itemTo searchModule moduleTo bestLocal searchLocal localTo findPathInner ofModule byName orEnum viaEnum afterEnum findPathForModule orCharged calculateBestPath afterCharge goOn findInSysroot findInDeps findInDep findImports findImport offerImport isAt variantOf oneOrNone langs fromTank draw findPathForModuleLocal orLocal calculateBestPathLocal eachLocation location importableName nameIf offer moduleRules keywordOf isKwKindRelativeToFrom parentKind rootRule externName externKind occupied isOther scopeEntry entryNamed preludeRule findInPrelude inPrelude preludeEntry sameHere scopeRule mayBeInScope findInScope single entryName firstFound contextOf plainIf prefixPathKind findLocalImportLocations walk unmet leadsTo startFrom visited has lengthLeft shorterIf trySelect better taken comparePrelude andThen compareBool unstably push extended choiceNew keyword pathLen pathKindLen isPrelude nameData importInfoFor sysrootFirst langOf dependenciesOf externOf preludeOf childrenOf containers ancestorMaps steps stepsTo stepsOr modulesInScope get namesOf nameOf isFor isVisibleFrom inModule climb climbStep unless met metTo metOr last lastTo lastOr homeOf homeBy nsOf sameItem itemOf containing orElse crateRoot ownMap rootOf crateData definitionOf mapOf moduleOf firstSome select placeOf firstOf verdict records stepAt recordStep finish argumentsFrom argumentsOf nameStep crateStep dependencyStep mapStep moduleStep childStep preludeStep definitionStep scopeStep importStep externStep textBound padded rows any all eqList
 passes words table = all (λ r. eqList (lineOf words (r .question)) (bytesOf (r .line))) table
 
 -- module 0 is the root, module 1 its child `a`, definition 0 the module `a`, definition 1 a function `f` in it

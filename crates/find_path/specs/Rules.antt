@@ -5,13 +5,11 @@ use mathlib.Core.Bool.{Bool, true, false, _&&_, _||_, not}
 use mathlib.Core.Option.{Option, none, some}
 use lib.Dec.{eqb}
 use lib.ListN.{getD}
-use Rattle.snapshot.specs.Lists.{any}
 use Rattle.snapshot.specs.Records.{Snapshot, Scope, Prelude, Extern}
-use Rattle.hir_def.specs.Finds.{firstSome}
-use Rattle.hir_def.specs.Items.{types, mapNo, mapOf, crateOf, crateData, parentOf, inBlock, rootOf, crateRoot, isLang, itemOf, sameItem, nsOf}
+use Rattle.hir_def.specs.Items.{mapNo, mapOf, crateOf, crateData, parentOf, inBlock, rootOf, crateRoot, isLang, itemOf, sameItem, nsOf}
 use Rattle.hir_def.specs.Visibility.{sees}
-use Rattle.hir_def.specs.ItemScope.{nameOf, namesOf, get}
-use Rattle.hir_def.specs.Nameres.{ancestorMaps, preludeOf, externOf}
+use Rattle.hir_def.specs.ItemScope.{nameOf}
+use Rattle.hir_def.specs.Nameres.{scopeEntry, entryNamed, occupied, preludeOf, externOf}
 use Rattle.hir_def.specs.declared.Item.{Item}
 use Rattle.hir_def.specs.declared.Item.the-variants.{Mod, Def}
 use Rattle.hir_def.specs.declared.Answer.{Answer}
@@ -82,7 +80,7 @@ module _ (s : Snapshot) (x : FindPathCtx) where
   -- `find_in_scope`: the item's name in the viewing module, or around its blocks; imports only where they count
   unfoldable pub findInScope : Item → Answer
   findInScope item =
-      entryName (firstSome (λ m. namesOf s m item (λ e. eqb (e .declared) 1 || not (x .declared))) (ancestorMaps s (x .from)))
+      entryName (scopeEntry s (x .from) item (x .declared))
 
   -- `may_be_in_scope`: under ByCrate only the crate's root uses its scope
   unfoldable pub mayBeInScope : Bool
@@ -100,7 +98,7 @@ module _ (s : Snapshot) (x : FindPathCtx) where
   unfoldable pub preludeEntry : Item → Option Scope → Answer
   preludeEntry item none = Nothing
   preludeEntry item (some e) =
-      elim (sees s (x .from) e && sameHere item (firstSome (λ m. get s m (nsOf item) (e .name)) (ancestorMaps s (x .from)))) [
+      elim (sees s (x .from) e && sameHere item (entryNamed s (x .from) (nsOf item) (e .name))) [
         | true ↦ Name (e .name)
         | false ↦ Nothing
       ]
@@ -116,22 +114,13 @@ module _ (s : Snapshot) (x : FindPathCtx) where
   unfoldable pub preludeRule : Item → Choice
   preludeRule item = single plainPath (findInPrelude item)
 
-  -- the entry stands for something else than the module
-  unfoldable pub isOther : ℕ → Option Scope → Bool
-  isOther m none = false
-  isOther m (some e) = not (sameItem (itemOf s (e .ns) (e .definition)) (Mod m))
-
-  -- the name is taken in types, in the viewing module or around its blocks
-  unfoldable pub occupied : ℕ → ℕ → Bool
-  occupied m name = any (λ a. isOther m (get s a types name)) (ancestorMaps s (x .from))
-
   unfoldable pub externKind : Bool → ℕ
   externKind true = absolutePath
   externKind false = plainPath
 
   unfoldable pub externName : ℕ → Option Extern → Choice
   externName m none = nothing
-  externName m (some e) = choiceNew s (externKind (occupied m (e .name) || x .absolute)) (e .name)
+  externName m (some e) = choiceNew s (externKind (occupied s (x .from) m (e .name) || x .absolute)) (e .name)
 
   -- a crate's root is `crate`, in the viewer's crate or where no extern may be used; else its extern name
   unfoldable pub rootRule : Bool → ℕ → Choice

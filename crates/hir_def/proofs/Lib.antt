@@ -1,5 +1,7 @@
 pub mod Laws
+pub mod Lookups
 pub mod Chains
 pub mod Found
 pub mod Reading
 pub mod Climbs
+pub mod Ancestors

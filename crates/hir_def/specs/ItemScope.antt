@@ -21,14 +21,21 @@ nameOf s m item = firstOf (isFor s m item) (s .scopes)
 unfoldable pub namesOf : Snapshot → ℕ → Item → (Scope → Bool) → Option Scope
 namesOf s m item p = firstOf (λ e. isFor s m item e && p e) (s .scopes)
 
+-- the entry of the module m with that namespace and name
+abbrev pub isNamed : ℕ → ℕ → ℕ → Scope → Bool
+isNamed m ns name e = eqb (e .owner) m && (eqb (e .ns) ns && eqb (e .name) name)
+
 -- `get` and `type_`: the entry with that namespace and name
 unfoldable pub get : Snapshot → ℕ → ℕ → ℕ → Option Scope
-get s m ns name = firstOf (λ e. eqb (e .owner) m && (eqb (e .ns) ns && eqb (e .name) name)) (s .scopes)
+get s m ns name = firstOf (isNamed m ns name) (s .scopes)
+
+-- a module entry, in types, of the module m
+abbrev pub isModuleEntry : Snapshot → ℕ → Scope → Bool
+isModuleEntry s m e = eqb (e .owner) m && (eqb (e .ns) types && eqb (definitionOf s (e .definition) .kind) moduleKind)
 
 -- `modules_in_scope`: the module entries of the types namespace
 unfoldable pub modulesInScope : Snapshot → ℕ → List Scope
-modulesInScope s m =
-    select (λ e. eqb (e .owner) m && (eqb (e .ns) types && eqb (definitionOf s (e .definition) .kind) moduleKind)) (s .scopes)
+modulesInScope s m = select (isModuleEntry s m) (s .scopes)
 
 -- the module of such an entry
 abbrev pub entryModule : Snapshot → Scope → ℕ

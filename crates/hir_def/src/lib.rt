@@ -1,5 +1,10 @@
 //! What the lookups over an accepted snapshot answer.
+pub mod crate_graph;
+pub mod import_map;
+pub mod item_scope;
+pub mod items;
 pub mod modules;
+pub mod nameres;
 pub mod visibility;
 
 // An item: a module in the types namespace, by the module's number, or a namespace and another definition.
@@ -12,4 +17,16 @@ pub enum Item {
 pub enum Answer {
     Name(usize),
     Nothing,
+}
+
+/// The place of a record's head, or no record.
+pub enum Entry {
+    At(usize),
+    Nothing,
+}
+
+/// The number of a record of its kind and the place of its head, or no record.
+pub enum Next {
+    Record(usize, usize),
+    End,
 }

@@ -1,0 +1,74 @@
+-- Laws of the verdict on bytes, and of the text.
+use Prim.Native.Nat.{ℕ, _+_, _/_, _%_, _≤_, _<_, min}
+use mathlib.Core.Path.{_≡_, refl, sym, _∙_, ap, subst}
+use mathlib.Core.List.{List, [], _∷_, _++_}
+use mathlib.Core.Bool.{Bool, true, false}
+use native.Mathlib.Omega.{arith}
+use borrow.Author.Tests.{eq-eqb, ne-eqb, le-ltb, le-leb, lt-leb}
+use lib.ListN.{length, take, length-take}
+use lib.Seq.{length-take-le}
+use Rattle.io.specs.Counts.{Counts}
+use Rattle.snapshot.specs.Layouts.{snapOf}
+use Rattle.snapshot.specs.declared.layout.Layout.{Layout}
+use Rattle.snapshot.proofs.Laws.{length-rows}
+use Rattle.accept.specs.Verdict.{Verdict, refuse, accept, verdict}
+use Rattle.accept.specs.Post.{checkOf, outcome}
+use Rattle.accept.specs.declared.check.Checked.{Checked}
+use Rattle.printing.specs.Output.{Put, bytesOf}
+use Rattle.check_snapshot.specs.Verdict.{wordsOf, verdictOf}
+use Rattle.check_snapshot.specs.Text.{laterMeaning, meaning, firstLines, lastLines, textOf}
+
+-- the verdict
+
+pub verdict-long : (B : List ℕ) → 65536 < length B → refuse 40 16384 ≡ verdictOf B
+unfolding verdictOf
+verdict-long B h = rw (verdictOf, lt-leb _ _ h)
+
+pub verdict-rest : (B : List ℕ) → length B ≤ 65536 → (length B % 4 ≡ 0 → ⊥) → refuse 41 (length B / 4) ≡ verdictOf B
+unfolding verdictOf
+verdict-rest B h p = rw (verdictOf, le-leb _ _ h, ne-eqb _ _ p)
+
+verdict-whole : (B : List ℕ) → length B ≤ 65536 → length B % 4 ≡ 0 → verdict (wordsOf B) ≡ verdictOf B
+unfolding verdictOf
+verdict-whole B h p = rw (verdictOf, le-leb _ _ h, eq-eqb _ _ p)
+
+check-large : (n : ℕ) (W : List ℕ) → 16384 ≤ n → checkOf n W ≡ verdict W
+unfolding checkOf
+check-large n W h = rw (checkOf, le-ltb _ _ h)
+
+pub verdict-same : (B W A : List ℕ) (n : ℕ) (r : Checked) → W ≡ wordsOf B → outcome W A r ≡ checkOf n W → 16384 ≤ n
+    → length B ≤ 65536 → length B % 4 ≡ 0 → outcome (wordsOf B) A r ≡ verdictOf B
+verdict-same B W A n r e q h p m =
+    subst (λ (x : List ℕ). outcome x A r ≡ checkOf n x) e q ∙ check-large n (wordsOf B) h ∙ verdict-whole B p m
+
+-- the text
+
+pub later-other : (n : ℕ) → (n ≡ 35 → ⊥) → (n ≡ 36 → ⊥) → (n ≡ 40 → ⊥) → (n ≡ 41 → ⊥)
+    → bytesOf "a work area of fewer than 16384 words\n" ≡ laterMeaning n
+unfolding laterMeaning
+later-other n a b c d = rw (laterMeaning, ne-eqb _ _ a, ne-eqb _ _ b, ne-eqb _ _ c, ne-eqb _ _ d)
+
+pub meaning-other : (n : ℕ) → (n ≡ 30 → ⊥) → (n ≡ 31 → ⊥) → (n ≡ 32 → ⊥) → (n ≡ 33 → ⊥) → (n ≡ 34 → ⊥)
+    → laterMeaning n ≡ meaning n
+unfolding meaning
+meaning-other n a b c d e = rw (meaning, ne-eqb _ _ a, ne-eqb _ _ b, ne-eqb _ _ c, ne-eqb _ _ d, ne-eqb _ _ e)
+
+pub text-accepted : (W A : List ℕ) (l : Layout)
+    → bytesOf "accepted\n"
+    ++ (firstLines (l .names) (l .crates) (l .dependencies) (l .maps) (l .modules)
+    ++ lastLines (l .children) (l .preludes) (l .definitions) (l .scopes) (l .imports) (l .externs))
+    ≡ textOf (accept (snapOf W A l))
+text-accepted W A l = simp length-rows
+
+-- a text at the front
+
+pub front : {old new t : List ℕ} {r : ℕ} → Put old 0 t new r → take r new ≡ t
+front p = p .same
+
+pub front-counts : {old new t : List ℕ} {r : ℕ} → Put old 0 t new r → Counts r new
+front-counts {old} {new} {t} {r} p =
+    let e : length (take r new) ≡ length t = ap length (p .same) in
+    let q : length (take r new) ≡ min r (length new) = length-take r new in
+    let n = p .next in
+    let h : r ≤ length new = omega arith in
+    (h, sym (length-take-le r new h))

@@ -1,0 +1,24 @@
+use borrow.Author.Needs.{needs}
+use native.Mathlib.Omega.{arith}
+use Rattle.printing.proofs.Laws.{put-two, length-decimal}
+use Rattle.check_snapshot.proofs.report.put_labelled.Statement.{statement}
+use Rattle.check_snapshot.proofs.report.put_labelled.Tie as tie
+
+put-requires : tie.Need-put-requires
+put-requires c κs = search needs
+
+put-digits-requires : tie.Need-put-digits-requires
+put-digits-requires c κs = search needs
+
+same-length : tie.Need-same-length
+same-length c = search needs
+
+returns : tie.Need-returns
+returns c =
+    let e = c .before .before in
+    let a = e .before .before .before .before in
+    let h = length-decimal 20 (a .before .before .before .before .args .n) in
+    (put-two (a .put .ensures) (e .put-digits .ensures), omega (arith, a .put .ensures .next, e .put-digits .ensures .next))
+
+pub put-labelled-spec : {M : Type 1} → statement M
+put-labelled-spec = tie.close (tie.spec put-requires put-digits-requires same-length returns)

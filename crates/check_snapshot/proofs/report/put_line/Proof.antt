@@ -1,0 +1,27 @@
+use borrow.Author.Needs.{needs}
+use native.Mathlib.Omega.{arith}
+use Rattle.printing.proofs.Laws.{put-two}
+use Rattle.check_snapshot.proofs.report.put_line.Statement.{statement}
+use Rattle.check_snapshot.proofs.report.put_line.Tie as tie
+
+put-labelled-requires : tie.Need-put-labelled-requires
+put-labelled-requires c κs = search needs
+
+slice-aggregate-put : tie.Need-slice-aggregate-put
+slice-aggregate-put c = search needs
+
+put-requires : tie.Need-put-requires
+put-requires c κs = search needs
+
+same-length : tie.Need-same-length
+same-length c = search needs
+
+returns : tie.Need-returns
+returns c =
+    let e = c .before .before in
+    let a = e .before .before .before .before .before in
+    (put-two (a .put-labelled .ensures .0) (e .put .ensures), omega (arith, a .put-labelled .ensures .1, e .put .ensures .next))
+
+pub put-line-spec : {M : Type 1} → statement M
+put-line-spec =
+    tie.close (tie.spec put-labelled-requires slice-aggregate-put put-requires same-length returns)

@@ -1,0 +1,15 @@
+use borrow.Author.Needs.{needs}
+use Rattle.hir_def.proofs.crate_graph.is_extern.Statement.{statement}
+use Rattle.hir_def.proofs.crate_graph.is_extern.Tie as tie
+
+extern-owner-requires : tie.Need-extern-owner-requires
+extern-owner-requires c κs = search needs
+
+extern-target-requires : tie.Need-extern-target-requires
+extern-target-requires c κs = search needs
+
+returns : tie.Need-returns
+returns c = cc
+
+pub is-extern-spec : {M : Type 1} → statement M
+is-extern-spec = tie.close (tie.spec extern-owner-requires extern-target-requires returns)

@@ -1,0 +1,40 @@
+use borrow.Author.Needs.{needs}
+use mathlib.Core.Path.{_≡_, refl, sym, ap, ap₂, _∙_}
+use denote.Ref.{now}
+use Rattle.snapshot.specs.Layouts.{snapOf}
+use Rattle.hir_def.specs.Items.{crateData}
+use Rattle.hir_def.proofs.crate_graph.is_lang_sysroot.Statement.{statement}
+use Rattle.hir_def.proofs.crate_graph.is_lang_sysroot.Tie as tie
+
+dependency-owner-requires : tie.Need-dependency-owner-requires
+dependency-owner-requires c κs = search needs
+
+dependency-sysroot-requires : tie.Need-dependency-sysroot-requires
+dependency-sysroot-requires c κs = search needs
+
+dependency-crate-requires : tie.Need-dependency-crate-requires
+dependency-crate-requires c κs = search needs
+
+crate-head-requires : tie.Need-crate-head-requires
+crate-head-requires c κs = search needs
+
+crate-origin-requires : tie.Need-crate-origin-requires
+crate-origin-requires c κs = search needs
+
+returns : tie.Need-returns
+returns c =
+    λ A.
+    let s = c .before .before .before .before .before .before .before .before in
+    let S = snapOf (now (s .args .words)) A (s .args .l) in
+    cc (c .before .before .crate-origin .ensures ∙ ap (λ x. x .origin) (c .before .before .before .crate-head .ensures A) ∙ ap (λ d. crateData S d .origin) (c .before .before .before .before .dependency-crate .ensures))
+
+pub is-lang-sysroot-spec : {M : Type 1} → statement M
+is-lang-sysroot-spec =
+    tie.close
+    (tie.spec
+    dependency-owner-requires
+    dependency-sysroot-requires
+    dependency-crate-requires
+    crate-head-requires
+    crate-origin-requires
+    returns)

@@ -1,0 +1,19 @@
+use borrow.Author.Needs.{needs}
+use Rattle.hir_def.proofs.item_scope.is_named.Statement.{statement}
+use Rattle.hir_def.proofs.item_scope.is_named.Tie as tie
+
+scope-owner-requires : tie.Need-scope-owner-requires
+scope-owner-requires c κs = search needs
+
+scope-name-requires : tie.Need-scope-name-requires
+scope-name-requires c κs = search needs
+
+scope-ns-requires : tie.Need-scope-ns-requires
+scope-ns-requires c κs = search needs
+
+returns : tie.Need-returns
+returns c = cc
+
+pub is-named-spec : {M : Type 1} → statement M
+is-named-spec =
+    tie.close (tie.spec scope-owner-requires scope-name-requires scope-ns-requires returns)

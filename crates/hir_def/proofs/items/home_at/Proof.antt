@@ -1,0 +1,57 @@
+use borrow.Author.Needs.{needs}
+use mathlib.Core.Path.{_≡_, refl, sym, ap, _∙_}
+use denote.Ref.{now}
+use Prim.Native.Nat.{ℕ, _+_, _-_, _*_, _≤_, _<_}
+use native.Mathlib.Omega.{arith}
+use Rattle.hir_def.proofs.Lookups.{home-builtin, home-variant, home-other}
+use Rattle.hir_def.proofs.items.home_at.Statement.{statement}
+use Rattle.hir_def.proofs.items.home_at.Tie as tie
+
+definition-kind-requires : tie.Need-definition-kind-requires
+definition-kind-requires c κs = search needs
+
+definition-first-requires : tie.Need-definition-first-requires
+definition-first-requires c κs = search needs
+
+returns : tie.Need-returns
+returns c = λ A. home-builtin _ _ _ (sym (c .before .before .definition-kind .ensures) ∙ c .if1 .taken)
+
+definition-head-requires : tie.Need-definition-head-requires
+definition-head-requires c κs = search needs
+
+definition-first-requires-2 : tie.Need-definition-first-requires-2
+definition-first-requires-2 c κs = search needs
+
+add-result : tie.Need-add-result
+add-result c = record { fits = omega (arith, c .definition-first2 .ensures, c .before .before .before .before .before .before .shared-slice-known .given (c .before .definition-head .result + 1)) }
+
+returns-2 : tie.Need-returns-2
+returns-2 c =
+    λ A.
+    let k = c .before .before .before .before .before .definition-kind .ensures in
+    let e = c .before .before .before .before .definition-first .ensures in
+    home-variant _ _ _ (λ z. c .before .before .before .if1 .left (k ∙ z)) (sym k ∙ c .before .before .if2 .taken) (c .definition-first2 .ensures ∙ ap (λ x. x .first) (c .before .definition-head .ensures A)) e
+
+add-result-2 : tie.Need-add-result-2
+add-result-2 c = record { fits = omega (arith, c .before .before .definition-first .ensures, c .before .before .before .before .shared-slice-known .given (c .before .before .before .before .before .args .h + 1)) }
+
+returns-3 : tie.Need-returns-3
+returns-3 c =
+    λ A.
+    let k = c .before .before .before .definition-kind .ensures in
+    let e = c .before .before .definition-first .ensures in
+    ap (λ x. x + 1) e ∙ home-other _ _ _ (λ z. c .before .if1 .left (k ∙ z)) (λ z. c .if2 .left (k ∙ z))
+
+pub home-at-spec : {M : Type 1} → statement M
+home-at-spec =
+    tie.close
+    (tie.spec
+    definition-kind-requires
+    definition-first-requires
+    returns
+    definition-head-requires
+    definition-first-requires-2
+    add-result
+    returns-2
+    add-result-2
+    returns-3)

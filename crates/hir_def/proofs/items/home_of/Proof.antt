@@ -1,0 +1,53 @@
+use borrow.Author.Needs.{needs}
+use mathlib.Core.Path.{_≡_, refl, sym, ap, ap₂, subst, _∙_}
+use denote.Ref.{now}
+use native.Mathlib.Omega.{arith}
+use Rattle.snapshot.specs.Layouts.{snapOf}
+use Rattle.hir_def.specs.Items.{homeBy, homeOf}
+use Rattle.hir_def.specs.Entries.{Small}
+use Rattle.hir_def.specs.declared.Item.{Item}
+use Rattle.hir_def.specs.declared.Item.the-variants.{Mod}
+use Rattle.hir_def.proofs.items.home_of.Statement.{statement}
+use Rattle.hir_def.proofs.items.home_of.Tie as tie
+
+enum-known-item : tie.Need-enum-known-item
+enum-known-item c = search needs
+
+add-result : tie.Need-add-result
+add-result c =
+    let s = c .before .before .before .before in
+    let p : Small (Mod (c .before .item .given .0 .0)) = subst (λ x. Small x) (c .before .item .given .1) (s .pre .1) in
+    record { fits = omega (arith, p) }
+
+enum-known-item-2 : tie.Need-enum-known-item-2
+enum-known-item-2 c = search needs
+
+definition-head-requires : tie.Need-definition-head-requires
+definition-head-requires c κs = search needs
+
+home-at-requires : tie.Need-home-at-requires
+home-at-requires c κs = search needs
+
+returns : tie.Need-returns
+unfolding homeOf
+returns c = λ A. ap (homeOf _) (sym (c .before .item .given .1))
+
+returns-2 : tie.Need-returns-2
+unfolding homeOf
+returns-2 c =
+    λ A.
+    let s = c .before .before .before .before .before .before in
+    let x = c .before .definition-head .ensures A in
+    c .home-at .ensures A ∙ ap₂ (homeBy (snapOf (now (s .args .words)) A (s .args .l))) (ap (λ y. y .kind) x) (ap (λ y. y .first) x) ∙ sym (ap (homeOf _) (c .before .before .before .item2 .given .1))
+
+pub home-of-spec : {M : Type 1} → statement M
+home-of-spec =
+    tie.close
+    (tie.spec
+    enum-known-item
+    add-result
+    enum-known-item-2
+    definition-head-requires
+    home-at-requires
+    returns
+    returns-2)

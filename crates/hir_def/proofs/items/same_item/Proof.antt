@@ -1,0 +1,54 @@
+use borrow.Author.Needs.{needs}
+use mathlib.Core.Path.{sym, ap₂}
+use Rattle.hir_def.specs.Items.{sameItem}
+use Rattle.hir_def.proofs.items.same_item.Statement.{statement}
+use Rattle.hir_def.proofs.items.same_item.Tie as tie
+
+enum-known-a : tie.Need-enum-known-a
+enum-known-a c = search needs
+
+enum-known-b : tie.Need-enum-known-b
+enum-known-b c = search needs
+
+enum-told : tie.Need-enum-told
+enum-told c = search needs
+
+enum-known-a-2 : tie.Need-enum-known-a-2
+enum-known-a-2 c = search needs
+
+enum-told-2 : tie.Need-enum-told-2
+enum-told-2 c = search needs
+
+enum-known-b-2 : tie.Need-enum-known-b-2
+enum-known-b-2 c = search needs
+
+returns : tie.Need-returns
+unfolding sameItem
+returns c = sym (ap₂ sameItem (c .before .before .before .before .a .given .1) (c .before .b .given .1))
+
+returns-2 : tie.Need-returns-2
+unfolding sameItem
+returns-2 c = sym (ap₂ sameItem (c .before .before .before .a .given .1) (c .enum-told .given .1))
+
+returns-3 : tie.Need-returns-3
+unfolding sameItem
+returns-3 c = sym (ap₂ sameItem (c .before .before .before .a2 .given .1) (c .enum-told2 .given .1))
+
+returns-4 : tie.Need-returns-4
+unfolding sameItem
+returns-4 c = sym (ap₂ sameItem (c .before .before .before .before .a2 .given .1) (c .before .b2 .given .1))
+
+pub same-item-spec : {M : Type 1} → statement M
+same-item-spec =
+    tie.close
+    (tie.spec
+    enum-known-a
+    enum-known-b
+    enum-told
+    enum-known-a-2
+    enum-told-2
+    enum-known-b-2
+    returns
+    returns-2
+    returns-3
+    returns-4)

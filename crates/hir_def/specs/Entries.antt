@@ -1,0 +1,41 @@
+-- What the lookups answer.
+use Prim.Native.Nat.{ℕ, _+_, _-_, _*_, _^_, _≤_, _<_}
+use mathlib.Core.Path.{_≡_}
+use mathlib.Core.List.{List, [], _∷_}
+use mathlib.Core.Bool.{Bool, true}
+use mathlib.Core.Option.{Option, none, some}
+use Rattle.snapshot.specs.Lists.{rows}
+use Rattle.hir_def.specs.Finds.{select}
+use Rattle.hir_def.specs.declared.Item.{Item}
+use Rattle.hir_def.specs.declared.Item.the-variants.{Mod, Def}
+use Rattle.hir_def.specs.declared.Entry.{Entry}
+use Rattle.hir_def.specs.declared.Entry.the-variants.{At, Nothing}
+use Rattle.hir_def.specs.declared.Next.{Next}
+use Rattle.hir_def.specs.declared.Next.the-variants.{Record, End}
+
+-- a module's number has a number after it
+abbrev pub Small : Item → Type 0
+Small (Mod m) = m < 2 ^ 32
+Small (Def ns d) = Unit
+
+-- the record with its head at the place that is answered
+abbrev pub entryOf : {R : Type 0} → (List ℕ → ℕ → R) → List ℕ → Entry → Option R
+entryOf f W (At h) = some (f W h)
+entryOf f W Nothing = none
+
+-- the records that pass a test, of those with numbers from k up to n
+abbrev pub leftOf : {R : Type 0} → (R → Bool) → (ℕ → R) → ℕ → ℕ → List R
+leftOf p f n k = select p (rows f k (n - k))
+
+-- the record j, with its head at h, is the first of these, and the rest are those after it
+pub record Meets {R : Type 0} (p : R → Bool) (f : List ℕ → ℕ → R) (size : ℕ) (W : List ℕ) (base n k j h : ℕ) : Type 0 where
+  pub head : h ≡ base + size * j
+  pub from : k ≤ j
+  pub below : j < n
+  pub passes : p (f W h) ≡ true
+  pub next : leftOf p (λ i. f W (base + size * i)) n k ≡ f W h ∷ leftOf p (λ i. f W (base + size * i)) n (j + 1)
+
+-- the next record that passes the test, of n of one size from a place on, from the number k on
+abbrev pub NextOf : {R : Type 0} → (R → Bool) → (List ℕ → ℕ → R) → ℕ → List ℕ → ℕ → ℕ → ℕ → Next → Type 0
+NextOf p f size W base n k (Record j h) = Meets p f size W base n k j h
+NextOf p f size W base n k End = leftOf p (λ i. f W (base + size * i)) n k ≡ []

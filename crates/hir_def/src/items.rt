@@ -1,0 +1,133 @@
+//! Definitions, crates and items of a snapshot, after lib.rs.
+ghost use mathlib.Core.Path.{_≡_};
+ghost use mathlib.Core.List.{List};
+ghost use Prim.Native.Nat.{ℕ, _+_, _^_, _<_};
+ghost use Rattle.snapshot.specs.Records.{crateAt, definitionAt};
+ghost use Rattle.snapshot.specs.Layouts.{wordCount, snapOf};
+ghost use Rattle.hir_def.specs.Items.{definitionOf, crateData, isLang, itemOf, sameItem, nsOf, homeBy, homeOf};
+ghost use Rattle.hir_def.specs.Entries.{Small};
+use crate::Item;
+use snapshot::ids::Crate;
+use snapshot::ids::DefinitionId;
+use snapshot::layout::Layout;
+use snapshot::record::crate_origin;
+use snapshot::record::definition_first;
+use snapshot::record::definition_kind;
+
+/// Namespaces.
+pub struct Namespace(pub usize);
+
+impl Namespace {
+    pub const TYPES: usize = 0;
+
+    pub const VALUES: usize = 1;
+
+    pub const MACROS: usize = 2;
+}
+
+/// Kinds of definitions; 4 is any other.
+pub struct DefinitionKind(pub usize);
+
+impl DefinitionKind {
+    pub const MODULE: usize = 1;
+
+    pub const VARIANT: usize = 2;
+
+    pub const BUILTIN: usize = 3;
+
+    pub const MACRO: usize = 5;
+}
+
+/// The place of a definition's head; past the words, which read as 0, where there is no such definition.
+pub fn definition_head(words: &[u32], l: Layout, d: DefinitionId) -> usize
+    requires { ⌜ wordCount l < 2 ^ 32 ⌝ }
+    ensures { λ r. ⌜ ((A : List ℕ) → definitionAt (now (words .entry)) r ≡ definitionOf (snapOf (now (words .entry)) A l) (d .0)) ⌝ }
+{
+    if l.definitions <= d.0 {
+        return words.len();
+    }
+    l.definition_base() + 3 * d.0
+}
+
+/// The place of a crate's head; past the words, which read as 0, where there is no such crate.
+pub fn crate_head(words: &[u32], l: Layout, c: Crate) -> usize
+    requires { ⌜ wordCount l < 2 ^ 32 ⌝ }
+    ensures { λ r. ⌜ ((A : List ℕ) → crateAt (now (words .entry)) r ≡ crateData (snapOf (now (words .entry)) A l) (c .0)) ⌝ }
+{
+    if l.crates <= c.0 {
+        return words.len();
+    }
+    l.text + c.0
+}
+
+/// Whether a crate is core, alloc, std or another language's.
+pub fn is_lang(words: &[u32], l: Layout, c: Crate) -> bool
+    requires { ⌜ wordCount l < 2 ^ 32 ⌝ }
+    ensures { λ r. ⌜ ((A : List ℕ) → r ≡ isLang (snapOf (now (words .entry)) A l) (c .0)) ⌝ }
+{
+    crate_origin(words, crate_head(words, l, c)) != 0
+}
+
+/// The item that a definition is in a namespace.
+pub fn item_of(words: &[u32], l: Layout, ns: usize, d: DefinitionId) -> Item
+    requires { ⌜ wordCount l < 2 ^ 32 ⌝ }
+    ensures { λ r. ⌜ ((A : List ℕ) → r ≡ itemOf (snapOf (now (words .entry)) A l) ns (d .0)) ⌝ }
+{
+    let h = definition_head(words, l, d);
+    if (ns == Namespace::TYPES) & (definition_kind(words, h) == DefinitionKind::MODULE) {
+        return Item::Mod(definition_first(words, h));
+    }
+    Item::Def(ns, d.0)
+}
+
+pub fn same_item(a: Item, b: Item) -> bool
+    ensures { λ r. ⌜ r ≡ sameItem a b ⌝ }
+{
+    match a {
+        Item::Mod(m) => match b {
+            Item::Mod(n) => m == n,
+            Item::Def(_, _) => false,
+        },
+        Item::Def(ns, d) => match b {
+            Item::Mod(_) => false,
+            Item::Def(other, e) => (ns == other) & (d == e),
+        },
+    }
+}
+
+pub fn ns_of(item: Item) -> usize
+    ensures { λ r. ⌜ r ≡ nsOf item ⌝ }
+{
+    match item {
+        Item::Mod(_) => Namespace::TYPES,
+        Item::Def(ns, _) => ns,
+    }
+}
+
+// The home +1 of the definition with its head at a place.
+fn home_at(words: &[u32], l: Layout, h: usize) -> usize
+    requires { ⌜ wordCount l < 2 ^ 32 ⌝ }
+    ensures { λ r. ⌜ ((A : List ℕ) → r ≡ homeBy (snapOf (now (words .entry)) A l) (definitionAt (now (words .entry)) h .kind) (definitionAt (now (words .entry)) h .first)) ⌝ }
+{
+    let kind = definition_kind(words, h);
+    let first = definition_first(words, h);
+    if kind == DefinitionKind::BUILTIN {
+        return 0;
+    }
+    if kind == DefinitionKind::VARIANT {
+        let parent = definition_head(words, l, DefinitionId(first));
+        return definition_first(words, parent) + 1;
+    }
+    first + 1
+}
+
+/// The home of an item, +1: its module, a module itself, its parent's for a variant; none for a builtin.
+pub fn home_of(words: &[u32], l: Layout, item: Item) -> usize
+    requires { ⌜ (wordCount l < 2 ^ 32) × (Small item) ⌝ }
+    ensures { λ r. ⌜ ((A : List ℕ) → r ≡ homeOf (snapOf (now (words .entry)) A l) item) ⌝ }
+{
+    match item {
+        Item::Mod(m) => m + 1,
+        Item::Def(_, d) => home_at(words, l, definition_head(words, l, DefinitionId(d))),
+    }
+}

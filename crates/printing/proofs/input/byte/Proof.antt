@@ -1,0 +1,23 @@
+use borrow.Author.Needs.{needs}
+use native.Mathlib.Omega.{arith}
+use denote.Ref.{now}
+use Rattle.snapshot.proofs.Laws.{past}
+use Rattle.printing.proofs.input.byte.Statement.{statement}
+use Rattle.printing.proofs.input.byte.Tie as tie
+
+shared-slice-read-wide : tie.Need-shared-slice-read-wide
+shared-slice-read-wide c = search needs
+
+wide-requires : tie.Need-wide-requires
+wide-requires c κs = search needs
+
+returns : tie.Need-returns
+returns c =
+    let a = c .before .before .before .before .args in
+    (search needs, omega (arith, c .wide .ensures, c .before .shared-slice-known2 .given (a .i)))
+
+returns-2 : tie.Need-returns-2
+returns-2 c = (past (now (c .before .before .args .bytes)) _ (c .if1 .left), omega arith)
+
+pub byte-spec : {M : Type 1} → statement M
+byte-spec = tie.close (tie.spec shared-slice-read-wide wide-requires returns returns-2)

@@ -1,0 +1,67 @@
+use Prim.Native.Nat.{_+_, _-_, _*_, _≤_, _<_}
+use mathlib.Core.Path.{_≡_, refl, _∙_}
+use native.Mathlib.Omega.{arith}
+use lib.ListN.{length, take, length-set}
+use Rattle.printing.specs.Input.{wordsIn}
+use Rattle.printing.proofs.Laws.{words-next, rows-empty}
+use Rattle.printing.proofs.input.words_in.Statement.{statement}
+use Rattle.printing.proofs.input.words_in.Tie as tie
+
+abbrev Inv-loop : tie.InvT-loop
+Inv-loop bytes words₀ n k₀ words k = (k ≤ n) × (length words ≡ length words₀) × (take k words ≡ wordsIn bytes k)
+
+abbrev μ-loop : tie.MeasureT-loop
+μ-loop bytes words₀ n k₀ words k = n - k
+
+loop-holds : tie.Need-loop-holds Inv-loop μ-loop
+loop-holds c = (omega arith, refl, rows-empty _)
+
+mul-word-in : tie.Need-mul-word-in Inv-loop μ-loop
+mul-word-in c = omega arith
+
+word-in-requires : tie.Need-word-in-requires Inv-loop μ-loop
+word-in-requires c κs = omega arith
+
+mul-words : tie.Need-mul-words Inv-loop μ-loop
+mul-words c = omega arith
+
+slice-write-words : tie.Need-slice-write-words Inv-loop μ-loop
+slice-write-words c = omega arith
+
+add-k : tie.Need-add-k Inv-loop μ-loop
+add-k c = omega arith
+
+loop-less : tie.Need-loop-less Inv-loop μ-loop
+loop-less c = omega arith
+
+loop-again : tie.Need-loop-again Inv-loop μ-loop
+loop-again c =
+    let l = c .before .before .loop in
+    let h : l .k < length (l .words) = omega arith in
+    (omega arith, (simp length-set) ∙ l .inv .1, words-next _ (l .words) (l .k) _ h (l .inv .2) (c .word-in .ensures))
+
+same-length : tie.Need-same-length Inv-loop μ-loop
+same-length c = c .before .loop .inv .1
+
+returns : tie.Need-returns Inv-loop μ-loop
+returns c =
+    let l = c .before .loop in
+    let e : l .k ≡ c .before .before .before .before .args .n = omega arith in
+    rw (← e) (l .inv .2)
+
+pub words-in-spec : {M : Type 1} → statement M
+words-in-spec =
+    tie.close
+    (tie.spec
+    Inv-loop
+    μ-loop
+    loop-holds
+    mul-word-in
+    word-in-requires
+    mul-words
+    slice-write-words
+    add-k
+    loop-less
+    loop-again
+    same-length
+    returns)

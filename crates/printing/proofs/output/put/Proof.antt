@@ -1,0 +1,69 @@
+use Prim.Native.Nat.{_+_, _-_, _≤_, _<_}
+use mathlib.Core.Path.{_≡_, refl, _∙_}
+use mathlib.Core.List.{_++_}
+use native.Mathlib.Omega.{arith}
+use denote.Ref.{now}
+use lib.ListN.{length, take, length-set}
+use Rattle.printing.proofs.Laws.{put-start, put-next, put-end}
+use Rattle.printing.proofs.output.put.Statement.{statement}
+use Rattle.printing.proofs.output.put.Tie as tie
+
+abbrev Inv-loop : tie.InvT-loop
+Inv-loop out₀ at text i₀ out i = (i ≤ length text) × (length out ≡ length out₀) × (take (at + i) out ≡ take at out₀ ++ take i text)
+
+abbrev μ-loop : tie.MeasureT-loop
+μ-loop out₀ at text i₀ out i = length text - i
+
+loop-holds : tie.Need-loop-holds Inv-loop μ-loop
+loop-holds c = (omega arith, refl, put-start (now (c .args .out)) (now (c .args .text)) (c .args .at))
+
+shared-slice-read-out : tie.Need-shared-slice-read-out Inv-loop μ-loop
+shared-slice-read-out c = omega arith
+
+add-out : tie.Need-add-out Inv-loop μ-loop
+add-out c = omega arith
+
+slice-write-out : tie.Need-slice-write-out Inv-loop μ-loop
+slice-write-out c = omega arith
+
+add-i : tie.Need-add-i Inv-loop μ-loop
+add-i c = omega arith
+
+loop-less : tie.Need-loop-less Inv-loop μ-loop
+loop-less c = omega arith
+
+loop-again : tie.Need-loop-again Inv-loop μ-loop
+loop-again c =
+    let a = c .before .before .before .args in
+    let l = c .before .before .loop in
+    let h : a .at + l .i < length (l .out) = omega arith in
+    let p : l .i < length (now (a .text)) = omega arith in
+    (omega arith, (simp length-set) ∙ l .inv .1, put-next (now (a .out)) (l .out) (now (a .text)) (a .at) (l .i) (l .inv .2) h p)
+
+add-result : tie.Need-add-result Inv-loop μ-loop
+add-result c = omega arith
+
+same-length : tie.Need-same-length Inv-loop μ-loop
+same-length c = c .before .loop .inv .1
+
+returns : tie.Need-returns Inv-loop μ-loop
+returns c =
+    let l = c .before .loop in
+    put-end _ _ _ _ _ (l .inv .2) (omega arith) (omega arith)
+
+pub put-spec : {M : Type 1} → statement M
+put-spec =
+    tie.close
+    (tie.spec
+    Inv-loop
+    μ-loop
+    loop-holds
+    shared-slice-read-out
+    add-out
+    slice-write-out
+    add-i
+    loop-less
+    loop-again
+    add-result
+    same-length
+    returns)

@@ -1,0 +1,44 @@
+//! The cases of the list, a line each: a name, a space and the words.
+ghost use mathlib.Core.Path.{_≡_};
+ghost use Prim.Native.Nat.{_≤_};
+ghost use lib.ListN.{length};
+use crate::line::print_case;
+use crate::words::read_words;
+
+// The place of the next byte of that value, or the length.
+fn next_stop(text: &[u8], from: usize, stop: u8) -> usize
+    requires { ⌜ from ≤ length (now text) ⌝ }
+    ensures { λ r. ⌜ (from ≤ r) × (r ≤ length (now (text .entry))) ⌝ }
+{
+    let mut i = from;
+    while i < text.len() {
+        if text[i] == stop {
+            return i;
+        }
+        i += 1;
+    }
+    i
+}
+
+fn run_case(line: &[u8], words: &mut [u32], area: &mut [u32]) {
+    let a = next_stop(line, 0, b' ');
+    let name = &line[..a];
+    if a < line.len() {
+        let n = read_words(&line[a..], words);
+        print_case(name, words, n, area);
+    }
+}
+
+/// Checks each case of the list.
+pub fn run(text: &[u8], words: &mut [u32], area: &mut [u32]) {
+    let mut at = 0;
+    while at < text.len() {
+        let e = next_stop(text, at, b'\n');
+        if e == text.len() {
+            return;
+        }
+        let next = e + 1;
+        run_case(&text[at..next], words, area);
+        at = next;
+    }
+}
