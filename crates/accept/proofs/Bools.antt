@@ -7,9 +7,9 @@ use mathlib.Core.Bool.{Bool, true, false, _&&_, _||_, not, true≢false, false�
 use lib.Dec.{eqb}
 use lib.ListN.{length, getD, length-append, List·getD-append}
 use borrow.Author.Tests.{eqb-true, eqb-false}
-use Rattle.snapshot.specs.Lists.{rows}
+use Rattle.snapshot.specs.Lists.{rows, any, all}
 use Rattle.snapshot.proofs.Laws.{length-rows, getD-rows}
-use Rattle.accept.specs.Valid.{Each, none, more}
+use Rattle.accept.specs.Valid.{Each, none, more, Distinct}
 use Rattle.accept.proofs.Accepted.{by-test}
 
 pub and-left : (a b : Bool) → a && b ≡ true → a ≡ true
@@ -63,6 +63,38 @@ pub old-or-new : {A C : Type 0} (l : List A) (y : A) (k : ℕ) → k < length (l
 old-or-new l y k h f g =
     by-test (eqb k (length l)) (λ t. g (eqb-true k (length l) t))
     (λ t. let i = eqb-false k (length l) t in let s = length-snoc l y in f (omega arith))
+
+-- tests of lists
+
+pub any-none : {A : Type 0} (p : A → Bool) (xs : List A) (d : A) (i : ℕ) → any p xs ≡ false → i < length xs → p (getD xs i d) ≡ false
+unfolding any
+any-none p [] d i e h = absurd (omega arith)
+any-none p (x ∷ xs) d zero e h = or-none (p x) (any p xs) e .0
+any-none p (x ∷ xs) d (suc i) e h = any-none p xs d i (or-none (p x) (any p xs) e .1) (omega arith)
+
+pub any-some : {A : Type 0} (p : A → Bool) (xs : List A) (d : A) → any p xs ≡ true
+    → (i : ℕ) × (i < length xs) × (p (getD xs i d) ≡ true)
+unfolding any
+any-some p [] d e = absurd (false≢true e)
+any-some p (x ∷ xs) d e =
+    by-test (p x) (λ t. (0, omega arith, t))
+    (λ t. let f = any-some p xs d (or-right (p x) (any p xs) e t) in (suc (f .0), omega (arith, f .1), f .2))
+
+pub all-at : {A : Type 0} (p : A → Bool) (xs : List A) (d : A) (i : ℕ) → all p xs ≡ true → i < length xs → p (getD xs i d) ≡ true
+unfolding all
+all-at p [] d i e h = absurd (omega arith)
+all-at p (x ∷ xs) d zero e h = and-left (p x) (all p xs) e
+all-at p (x ∷ xs) d (suc i) e h = all-at p xs d i (and-right (p x) (all p xs) e) (omega arith)
+
+-- a test of all the numbers below n
+pub all-below : (p : ℕ → Bool) (n i : ℕ) → all p (rows (λ k. k) 0 n) ≡ true → i < n → p i ≡ true
+all-below p n i e h =
+    subst (λ (k : ℕ). p k ≡ true) (getD-rows (λ k. k) 0 n i h) (all-at p (rows (λ k. k) 0 n) 0 i e (rw (length-rows (λ (k : ℕ). k) n) h))
+
+pub distinct-snoc : {A : Type 0} (same : A → A → Bool) (d : A) (xs : List A) (y : A) → any (same y) xs ≡ false → Distinct same d xs → Distinct same d (xs ++ (y ∷ []))
+distinct-snoc same d xs y e h i j l k = old-or-new xs y j k
+    (λ o. let oi : i < length xs = omega arith in rw (getD-old xs y d i oi, getD-old xs y d j o) (h i j l o))
+    (λ q. let oi : i < length xs = omega arith in rw (getD-old xs y d i oi, getD-new xs y d j q) (any-none (same y) xs d i e oi))
 
 -- every element
 

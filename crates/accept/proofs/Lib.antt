@@ -15,5 +15,6 @@ pub mod Accepted
 pub mod Bools
 pub mod Ranges
 pub mod Trees
+pub mod Places
 pub mod Valid
 pub mod Reading

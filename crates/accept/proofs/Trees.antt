@@ -13,7 +13,7 @@ use Rattle.accept.specs.Tests.{isIn, countsOf, noMap, noModule, noDefini
 use Rattle.accept.specs.Verdict.{accept, verdict}
 use Rattle.accept.specs.Valid.{mapIn, parentIn, blockIn, crateIn, definitionIn, Tree, Enums}
 use Rattle.accept.proofs.Accepted.{by-test, Keeps, verdict-keeps}
-use Rattle.accept.proofs.Bools.{and-left, and-right, unless-right, or-right, or-none, length-snoc, getD-old, getD-new, old-or-new}
+use Rattle.accept.proofs.Bools.{and-left, and-right, unless-right, or-right, any-none, length-snoc, getD-old, getD-new, old-or-new}
 
 module _ (s : Snapshot) (y : Definition) (defined : definitionDefined (countsOf s) y ≡ true) (placed : definitionPlaced s y ≡ true) where
   new-parent : y .kind ≡ 2 → (y .first < length (s .definitions)) × (definitionIn (s .definitions) (y .first) .kind ≡ 4)
@@ -42,10 +42,7 @@ module _ (s : Snapshot) (y : Definition) (defined : definitionDefined (countsOf 
 
 -- no module of that map
 none-in : (k : ℕ) (xs : List Module) (j : ℕ) → any (isIn k) xs ≡ false → j < length xs → mapIn xs j ≡ k → ⊥
-unfolding any
-none-in k [] j e h q = omega arith
-none-in k (m ∷ xs) zero e h q = true≢false (sym (eq-eqb (m .map) k q) ∙ or-none (eqb (m .map) k) (any (isIn k) xs) e .0)
-none-in k (m ∷ xs) (suc j) e h q = none-in k xs j (or-none (eqb (m .map) k) (any (isIn k) xs) e .1) (omega arith) q
+none-in k xs j e h q = true≢false (sym (eq-eqb (mapIn xs j) k q) ∙ any-none (isIn k) xs noModule j e h)
 
 module _ (s : Snapshot) (h : Tree (s .maps) (s .modules)) where
   module _ (y : Map) (defined : mapDefined (countsOf s) y ≡ true) (placed : mapPlaced s y ≡ true) where

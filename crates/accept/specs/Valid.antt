@@ -5,7 +5,7 @@ use mathlib.Core.List.{List, [], _∷_}
 use mathlib.Core.Bool.{Bool, false}
 use lib.ListN.{length, getD}
 use Rattle.snapshot.specs.Records.{Name, Crate, Dependency, Map, Module, Child, Prelude, Definition, Scope, Import, Extern, Snapshot}
-use Rattle.accept.specs.Tests.{Counts, countsOf, noMap, noModule, noDefinition}
+use Rattle.accept.specs.Tests.{Counts, countsOf, noName, noMap, noModule, noDefinition, sameName, sameChild, samePrelude, sameEntry, sameExtern}
 
 -- every element has P
 pub data Each {A : Type 0} (P : A → Type 0) : List A → Type 0 where
@@ -129,8 +129,48 @@ abbrev pub Enums : List Definition → Type 0
 Enums ds = (d : ℕ) → d < length ds → definitionIn ds d .kind ≡ 2
     → (definitionIn ds d .first < d) × (definitionIn ds (definitionIn ds d .first) .kind ≡ 4)
 
+-- a child's parent is its owner
+abbrev pub Under : List Module → Child → Type 0
+Under xs x = parentIn xs (x .child) ≡ x .owner + 1
+
+-- in the macros namespace stand definitions of kind 5 alone
+abbrev pub MacroOnly : List Definition → ℕ → ℕ → Type 0
+MacroOnly ds ns d = ns ≡ 2 → definitionIn ds d .kind ≡ 5
+
+-- no later element is the same as an earlier one, by the test; d stands for what is not there
+abbrev pub Distinct : {A : Type 0} → (A → A → Bool) → A → List A → Type 0
+Distinct same d xs = (i j : ℕ) → i < j → j < length xs → same (getD xs j d) (getD xs i d) ≡ false
+
+-- a crate has one own map, the map of no block
+pub record Owned (crates : ℕ) (ms : List Map) : Type 0 where
+  pub some : (c : ℕ) → c < crates → (k : ℕ) × (k < length ms) × (crateIn ms k ≡ c) × (blockIn ms k ≡ 0)
+  pub once : (i j : ℕ) → i < j → j < length ms → blockIn ms i ≡ 0 → blockIn ms j ≡ 0 → crateIn ms i ≡ crateIn ms j → ⊥
+
+-- one definition of kind k at most for each module or name
+abbrev pub DefinedOnce : ℕ → List Definition → Type 0
+DefinedOnce k ds = (i j : ℕ) → i < j → j < length ds → definitionIn ds i .kind ≡ k → definitionIn ds j .kind ≡ k
+    → definitionIn ds i .first ≡ definitionIn ds j .first → ⊥
+
+-- no name text, child, prelude, name in a scope and namespace, or extern name stands twice
+pub record Once (s : Snapshot) : Type 0 where
+  pub names : Distinct sameName noName (s .names)
+  pub children : Distinct sameChild (record { owner = 0; child = 0 }) (s .children)
+  pub preludes : Distinct samePrelude (record { map = 0; target = 0 }) (s .preludes)
+  pub scopes : Distinct sameEntry
+      (record { owner = 0; ns = 0; name = 0; definition = 0; visibility = 0; number = 0; declared = 0 }) (s .scopes)
+  pub externs : Distinct sameExtern (record { owner = 0; name = 0; target = 0 }) (s .externs)
+
 pub record Valid (s : Snapshot) : Type 0 where
   pub ranges : Ranges (countsOf s) s
   pub limits : Limits (countsOf s)
   pub tree : Tree (s .maps) (s .modules)
   pub enums : Enums (s .definitions)
+  pub children : Each (Under (s .modules)) (s .children)
+  pub scopes : Each (λ x. MacroOnly (s .definitions) (x .ns) (x .definition)) (s .scopes)
+  pub imports : Each (λ x. MacroOnly (s .definitions) (x .ns) (x .definition)) (s .imports)
+  -- no map is empty
+  pub filled : (k : ℕ) → k < length (s .maps) → (m : ℕ) × (m < length (s .modules)) × (mapIn (s .modules) m ≡ k)
+  pub owned : Owned (length (s .crates)) (s .maps)
+  pub once : Once s
+  pub modules : DefinedOnce 1 (s .definitions)
+  pub builtins : DefinedOnce 3 (s .definitions)

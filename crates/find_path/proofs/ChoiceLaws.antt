@@ -40,6 +40,7 @@ module _ (W A : List ℕ) (l : Layout) (r : Reads W A l) (n : ℕ) (h : n < l .n
     where
       seven : eqList (rows f 0 (wordsOf 7)) (0x657270 ∷ 0x64756C ∷ 0x65 ∷ []) ≡ (eqb (f 0) 0x657270 && (eqb (f 1) 0x64756C && eqb (f 2) 0x65))
       seven = ap (λ x. eqb (f 0) 0x657270 && (eqb (f 1) 0x64756C && x)) (and-true (eqb (f 2) 0x65))
+
       by : (t : Bool) → eqb b 7 ≡ t → (t && (eqb (f 0) 0x657270 && (eqb (f 1) 0x64756C && eqb (f 2) 0x65))) ≡ (t && eqList (rows f 0 (wordsOf b)) (0x657270 ∷ 0x64756C ∷ 0x65 ∷ []))
       by true e = sym (ap (λ x. eqList (rows f 0 (wordsOf x)) (0x657270 ∷ 0x64756C ∷ 0x65 ∷ [])) (eqb-true b 7 e) ∙ seven)
       by false e = refl

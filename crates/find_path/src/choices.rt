@@ -5,12 +5,12 @@ ghost use lib.ListN.{length};
 ghost use Rattle.snapshot.specs.Layouts.{snapOf};
 ghost use Rattle.accept.specs.Post.{Reads};
 ghost use Rattle.find_path.specs.Choices.{nameLen, isPrelude, pathKindLen, pathLen, nothing as nothingOf, keyword as keywordOf, choiceNew, extended as extendedOf, push as pushOf, unstably as unstablyOf, better as betterOf, trySelect, lengthLeft};
-
 use crate::Choice;
 use snapshot::ids::Name;
 use snapshot::layout::Layout;
 use snapshot::table::name_head;
-use snapshot::words::{field, payload};
+use snapshot::words::field;
+use snapshot::words::payload;
 
 /// The bytes of a name's text.
 pub fn name_len(words: &[u32], area: &[u32], l: Layout, n: Name) -> usize
@@ -151,7 +151,15 @@ pub fn unstably(c: Choice) -> Choice
 }
 
 // Whether the newcomer, with the name to come, takes the place of the current choice.
-fn better(words: &[u32], area: &[u32], l: Layout, prefer: bool, current: Choice, other: Choice, n: Name) -> bool
+fn better(
+    words: &[u32],
+    area: &[u32],
+    l: Layout,
+    prefer: bool,
+    current: Choice,
+    other: Choice,
+    n: Name,
+) -> bool
     requires { ⌜ Reads (now words) (now area) l × (n .0 < l .names) × (current .count < 2 ^ 32) × (other .count < 2 ^ 32) × (other .text < 2 ^ 32) ⌝ }
     ensures { λ r. ⌜ r ≡ betterOf (snapOf (now (words .entry)) (now (area .entry)) l) prefer current other (n .0) ⌝ }
 {
@@ -168,7 +176,15 @@ fn better(words: &[u32], area: &[u32], l: Layout, prefer: bool, current: Choice,
 }
 
 /// The better of the current choice and a newcomer with one name more; the first choice counts that name for `prelude`.
-pub fn try_select(words: &[u32], area: &[u32], l: Layout, prefer: bool, current: Choice, other: Choice, n: Name) -> Choice
+pub fn try_select(
+    words: &[u32],
+    area: &[u32],
+    l: Layout,
+    prefer: bool,
+    current: Choice,
+    other: Choice,
+    n: Name,
+) -> Choice
     requires { ⌜ Reads (now words) (now area) l × (n .0 < l .names) × (current .count < 2 ^ 32) × (other .count < 16) × (other .text < 2 ^ 32) ⌝ }
     ensures { λ r. ⌜ r ≡ trySelect (snapOf (now (words .entry)) (now (area .entry)) l) prefer current other (n .0) ⌝ }
 {

@@ -38,6 +38,7 @@ module _ (s : Snapshot) (falls : Falls (blockOf s) (length (s .modules))) (m : �
     pub answer-on : f m ≡ none → (p : ℕ) → blockOf s m ≡ suc p → firstSome f (ancestorMaps s m) ≡ firstSome f (ancestorMaps s p)
     unfolding firstSome
     answer-on e p q = ap (firstSome f) (ancestors-on p q) ∙ rw (firstSome, e)
+
   -- some answer
   module _ (p : ℕ → Bool) where
     pub some-here : p m ≡ true → true ≡ any p (ancestorMaps s m)

@@ -14,13 +14,13 @@ use Rattle.hir_def.proofs.Laws.{Falls}
 
 or-falls : (v w p b : ℕ) → orElse p b ≡ suc w → (p ≡ suc w → w < v) → (b ≡ suc w → w < v) → w < v
 unfolding orElse
-or-falls v w zero b q f g = g q
-or-falls v w (suc p) b q f g = f q
+or-falls v w zero b q f g = g (omega arith)
+or-falls v w (suc p) b q f g = f (omega arith)
 
 unless-falls : (v w b : ℕ) (t : Bool) → unless t b ≡ suc w → (b ≡ suc w → w < v) → w < v
 unfolding unless
 unless-falls v w b true q f = absurd (omega arith)
-unless-falls v w b false q f = f q
+unless-falls v w b false q f = f (omega arith)
 
 module _ (s : Snapshot) (t : Tree (s .maps) (s .modules)) where
   -- a module's parent is an earlier module of its map
@@ -49,3 +49,8 @@ module _ (s : Snapshot) (t : Tree (s .maps) (s .modules)) where
   pub climb-falls : (k : ℕ) → Falls (climbStep s k) (length (s .modules))
   unfolding climbStep
   climb-falls k v w h q = unless-falls v w (blockOf s v) _ q (λ b. block-falls v w h b)
+
+  -- a module without a parent is its map's first
+  pub root-first : (m j : ℕ) → m < length (s .modules) → parentOf s m ≡ 0 → j < m → mapNo s j ≡ mapNo s m → ⊥
+  unfolding moduleOf
+  root-first m j h z l e = t .roots m j h z l e

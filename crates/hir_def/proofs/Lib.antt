@@ -2,6 +2,12 @@ pub mod Laws
 pub mod Lookups
 pub mod Chains
 pub mod Found
+pub mod Fits
 pub mod Reading
 pub mod Climbs
 pub mod Ancestors
+pub mod Ways
+pub mod Compared
+pub mod Private
+pub mod Privately
+pub mod Differences

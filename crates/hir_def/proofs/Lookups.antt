@@ -1,26 +1,26 @@
 -- Laws of the lookups: reads of numbered records, and loops over them.
-use Prim.Native.Nat.{ℕ, zero, suc, _+_, _-_, _*_, _/_, _%_, _≤_, _<_}
+use Prim.Native.Nat.{ℕ, _+_, _-_, _*_, _/_, _%_, _≤_, _<_}
 use mathlib.Core.Path.{_≡_, refl, sym, _∙_, ap, ap₂}
 use mathlib.Core.List.{List, [], _∷_, _++_, reverse, reverse-append}
 use mathlib.Core.Bool.{Bool, true, false, _&&_, _||_, not, and-true, or-true, false≢true}
 use mathlib.Core.Option.{Option, none, some}
 use native.Mathlib.Omega.{arith}
-use native.Mathlib.Nat.{sub-zero, one-mul}
+use native.Mathlib.Nat.{one-mul}
 use lib.ListN.{length, getD, List·getD-eq-default}
 use lib.Dec.{eqb}
 use borrow.Author.Tests.{eq-eqb, ne-eqb}
 use Rattle.snapshot.specs.Lists.{rows}
 use Rattle.snapshot.specs.Words.{payOf}
-use Rattle.snapshot.specs.Records.{Snapshot, Definition, Dependency, Crate, definitionAt, crateAt, dependencyAt, scopeAt, importAt}
+use Rattle.snapshot.specs.Records.{Snapshot, Dependency, definitionAt, crateAt, dependencyAt, scopeAt, importAt}
 use Rattle.snapshot.specs.Layouts.{crateBase, dependencyBase, definitionBase, scopeBase, importBase, snapOf}
 use Rattle.snapshot.specs.declared.layout.Layout.{Layout}
 use Rattle.snapshot.proofs.Laws.{rows-next, rows-none, rows-whole, rows-snoc, length-rows, getD-rows, past}
 use Rattle.hir_def.specs.Finds.{firstOf, select}
-use Rattle.hir_def.specs.Items.{definitionOf, crateData, itemOf, sameItem, homeBy}
+use Rattle.hir_def.specs.Items.{definitionOf, crateData, itemOf, homeBy}
 use Rattle.hir_def.specs.ItemScope.{isFor, nameOf, namesOf, isModuleEntry, modulesInScope}
 use Rattle.hir_def.specs.ImportMap.{isImport, importInfoFor}
 use Rattle.hir_def.specs.Nameres.{isDependency, isSysroot, isLangSysroot, bySysroot, dependenciesOf, langOf, sysrootFirst}
-use Rattle.hir_def.specs.Entries.{leftOf, Meets, NextOf, entryOf}
+use Rattle.hir_def.specs.Entries.{leftOf, Meets}
 use Rattle.hir_def.specs.declared.Item.{Item}
 use Rattle.hir_def.specs.declared.Item.the-variants.{Mod, Def}
 

@@ -1,10 +1,11 @@
 -- What the lookups answer.
-use Prim.Native.Nat.{ℕ, _+_, _-_, _*_, _^_, _≤_, _<_}
+use Prim.Native.Nat.{ℕ, _+_, _-_, _*_, _≤_, _<_}
 use mathlib.Core.Path.{_≡_}
 use mathlib.Core.List.{List, [], _∷_}
 use mathlib.Core.Bool.{Bool, true}
 use mathlib.Core.Option.{Option, none, some}
 use Rattle.snapshot.specs.Lists.{rows}
+use Rattle.snapshot.specs.declared.layout.Layout.{Layout}
 use Rattle.hir_def.specs.Finds.{select}
 use Rattle.hir_def.specs.declared.Item.{Item}
 use Rattle.hir_def.specs.declared.Item.the-variants.{Mod, Def}
@@ -13,10 +14,10 @@ use Rattle.hir_def.specs.declared.Entry.the-variants.{At, Nothing}
 use Rattle.hir_def.specs.declared.Next.{Next}
 use Rattle.hir_def.specs.declared.Next.the-variants.{Record, End}
 
--- a module's number has a number after it
-abbrev pub Small : Item → Type 0
-Small (Mod m) = m < 2 ^ 32
-Small (Def ns d) = Unit
+-- an item of the snapshot: its number is in range
+abbrev pub Known : Layout → Item → Type 0
+Known l (Mod m) = m < l .modules
+Known l (Def ns d) = d < l .definitions
 
 -- the record with its head at the place that is answered
 abbrev pub entryOf : {R : Type 0} → (List ℕ → ℕ → R) → List ℕ → Entry → Option R

@@ -9,11 +9,10 @@ ghost use Rattle.hir_def.specs.Nameres.{isExtern, isDependency, bySysroo
 ghost use Rattle.hir_def.specs.Entries.{entryOf, NextOf};
 use crate::Entry;
 use crate::Next;
-use crate::items::crate_head;
+use crate::items::origin_of;
 use snapshot::ids::Crate;
 use snapshot::ids::ModuleId;
 use snapshot::layout::Layout;
-use snapshot::record::crate_origin;
 use snapshot::record::dependency_crate;
 use snapshot::record::dependency_owner;
 use snapshot::record::dependency_sysroot;
@@ -118,7 +117,7 @@ fn is_lang_sysroot(words: &[u32], l: Layout, h: usize, c: Crate, lang: usize) ->
 {
     let owner = dependency_owner(words, h);
     let inside = dependency_sysroot(words, h) == 1;
-    let origin = crate_origin(words, crate_head(words, l, dependency_crate(words, h)));
+    let origin = origin_of(words, l, dependency_crate(words, h));
     (owner.0 == c.0) & (inside & (origin == lang))
 }
 

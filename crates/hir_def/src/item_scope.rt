@@ -13,13 +13,12 @@ use crate::Item;
 use crate::Next;
 use crate::items::DefinitionKind;
 use crate::items::Namespace;
-use crate::items::definition_head;
 use crate::items::item_of;
+use crate::items::kind_of;
 use crate::items::same_item;
 use snapshot::ids::ModuleId;
 use snapshot::ids::Name;
 use snapshot::layout::Layout;
-use snapshot::record::definition_kind;
 use snapshot::record::scope_declared;
 use snapshot::record::scope_definition;
 use snapshot::record::scope_name;
@@ -106,9 +105,11 @@ fn is_module_entry(words: &[u32], l: Layout, h: usize, m: ModuleId) -> bool
     ensures { λ r. ⌜ ((A : List ℕ) → r ≡ isModuleEntry (snapOf (now (words .entry)) A l) (m .0) (scopeAt (now (words .entry)) h)) ⌝ }
 {
     let owner = scope_owner(words, h);
-    let ns = scope_ns(words, h);
-    let kind = definition_kind(words, definition_head(words, l, scope_definition(words, h)));
-    (owner.0 == m.0) & ((ns == Namespace::TYPES) & (kind == DefinitionKind::MODULE))
+    if owner.0 != m.0 {
+        return false;
+    }
+    let kind = kind_of(words, l, scope_definition(words, h));
+    (scope_ns(words, h) == Namespace::TYPES) & (kind == DefinitionKind::MODULE)
 }
 
 /// The next of the module's entries for a module in types, from the entry number k on.

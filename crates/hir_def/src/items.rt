@@ -1,18 +1,21 @@
 //! Definitions, crates and items of a snapshot, after lib.rs.
 ghost use mathlib.Core.Path.{_≡_};
 ghost use mathlib.Core.List.{List};
-ghost use Prim.Native.Nat.{ℕ, _+_, _^_, _<_};
+ghost use Prim.Native.Nat.{ℕ, _^_, _<_};
+ghost use lib.Dec.{eqb};
 ghost use Rattle.snapshot.specs.Records.{crateAt, definitionAt};
 ghost use Rattle.snapshot.specs.Layouts.{wordCount, snapOf};
 ghost use Rattle.hir_def.specs.Items.{definitionOf, crateData, isLang, itemOf, sameItem, nsOf, homeBy, homeOf};
-ghost use Rattle.hir_def.specs.Entries.{Small};
+ghost use Rattle.hir_def.specs.Entries.{Known};
 use crate::Item;
 use snapshot::ids::Crate;
 use snapshot::ids::DefinitionId;
 use snapshot::layout::Layout;
+use snapshot::record::crate_no_std;
 use snapshot::record::crate_origin;
 use snapshot::record::definition_first;
 use snapshot::record::definition_kind;
+use snapshot::record::definition_second;
 
 /// Namespaces.
 pub struct Namespace(pub usize);
@@ -60,12 +63,52 @@ pub fn crate_head(words: &[u32], l: Layout, c: Crate) -> usize
     l.text + c.0
 }
 
+/// The kind of a definition, 0 where there is none.
+pub fn kind_of(words: &[u32], l: Layout, d: DefinitionId) -> usize
+    requires { ⌜ wordCount l < 2 ^ 32 ⌝ }
+    ensures { λ r. ⌜ ((A : List ℕ) → r ≡ definitionOf (snapOf (now (words .entry)) A l) (d .0) .kind) ⌝ }
+{
+    definition_kind(words, definition_head(words, l, d))
+}
+
+/// The first field of a definition, 0 where there is none.
+pub fn first_of(words: &[u32], l: Layout, d: DefinitionId) -> usize
+    requires { ⌜ wordCount l < 2 ^ 32 ⌝ }
+    ensures { λ r. ⌜ ((A : List ℕ) → r ≡ definitionOf (snapOf (now (words .entry)) A l) (d .0) .first) ⌝ }
+{
+    definition_first(words, definition_head(words, l, d))
+}
+
+/// The second field of a definition, 0 where there is none.
+pub fn second_of(words: &[u32], l: Layout, d: DefinitionId) -> usize
+    requires { ⌜ wordCount l < 2 ^ 32 ⌝ }
+    ensures { λ r. ⌜ ((A : List ℕ) → r ≡ definitionOf (snapOf (now (words .entry)) A l) (d .0) .second) ⌝ }
+{
+    definition_second(words, definition_head(words, l, d))
+}
+
+/// The origin of a crate.
+pub fn origin_of(words: &[u32], l: Layout, c: Crate) -> usize
+    requires { ⌜ wordCount l < 2 ^ 32 ⌝ }
+    ensures { λ r. ⌜ ((A : List ℕ) → r ≡ crateData (snapOf (now (words .entry)) A l) (c .0) .origin) ⌝ }
+{
+    crate_origin(words, crate_head(words, l, c))
+}
+
+/// Whether a crate supports no_std.
+pub fn supports_no_std(words: &[u32], l: Layout, c: Crate) -> bool
+    requires { ⌜ wordCount l < 2 ^ 32 ⌝ }
+    ensures { λ r. ⌜ ((A : List ℕ) → r ≡ eqb (crateData (snapOf (now (words .entry)) A l) (c .0) .noStd) 1) ⌝ }
+{
+    crate_no_std(words, crate_head(words, l, c)) == 1
+}
+
 /// Whether a crate is core, alloc, std or another language's.
 pub fn is_lang(words: &[u32], l: Layout, c: Crate) -> bool
     requires { ⌜ wordCount l < 2 ^ 32 ⌝ }
     ensures { λ r. ⌜ ((A : List ℕ) → r ≡ isLang (snapOf (now (words .entry)) A l) (c .0)) ⌝ }
 {
-    crate_origin(words, crate_head(words, l, c)) != 0
+    origin_of(words, l, c) != 0
 }
 
 /// The item that a definition is in a namespace.
@@ -123,7 +166,7 @@ fn home_at(words: &[u32], l: Layout, h: usize) -> usize
 
 /// The home of an item, +1: its module, a module itself, its parent's for a variant; none for a builtin.
 pub fn home_of(words: &[u32], l: Layout, item: Item) -> usize
-    requires { ⌜ (wordCount l < 2 ^ 32) × (Small item) ⌝ }
+    requires { ⌜ (wordCount l < 2 ^ 32) × Known l item ⌝ }
     ensures { λ r. ⌜ ((A : List ℕ) → r ≡ homeOf (snapOf (now (words .entry)) A l) item) ⌝ }
 {
     match item {

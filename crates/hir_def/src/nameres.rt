@@ -7,18 +7,29 @@ ghost use Rattle.snapshot.specs.Layouts.{wordCount, snapOf};
 ghost use Rattle.accept.specs.Post.{Reads};
 ghost use Rattle.hir_def.specs.Nameres.{scopeEntry, entryNamed, isOther, occupied as occupiedBy};
 ghost use Rattle.hir_def.specs.Entries.{entryOf};
-
 use crate::Entry;
 use crate::Item;
-use crate::item_scope::{get, names_of};
-use crate::items::{item_of, same_item, Namespace};
+use crate::item_scope::get;
+use crate::item_scope::names_of;
+use crate::items::Namespace;
+use crate::items::item_of;
+use crate::items::same_item;
 use crate::modules::block;
-use snapshot::ids::{ModuleId, Name};
+use snapshot::ids::ModuleId;
+use snapshot::ids::Name;
 use snapshot::layout::Layout;
-use snapshot::record::{scope_definition, scope_ns};
+use snapshot::record::scope_definition;
+use snapshot::record::scope_ns;
 
 /// The item's first entry in a module, or around its blocks; only entries declared there where these alone count.
-pub fn scope_entry(words: &[u32], area: &[u32], l: Layout, from: ModuleId, item: Item, declared_only: bool) -> Entry
+pub fn scope_entry(
+    words: &[u32],
+    area: &[u32],
+    l: Layout,
+    from: ModuleId,
+    item: Item,
+    declared_only: bool,
+) -> Entry
     requires { ⌜ Reads (now words) (now area) l × (from .0 < l .modules) ⌝ }
     ensures { λ r. ⌜ entryOf scopeAt (now (words .entry)) r ≡ scopeEntry (snapOf (now (words .entry)) (now (area .entry)) l) (from .0) item «declared_only» ⌝ }
 {
@@ -37,7 +48,14 @@ pub fn scope_entry(words: &[u32], area: &[u32], l: Layout, from: ModuleId, item:
 }
 
 /// The first entry with a namespace and a name in a module, or around its blocks.
-pub fn entry_named(words: &[u32], area: &[u32], l: Layout, from: ModuleId, ns: usize, name: Name) -> Entry
+pub fn entry_named(
+    words: &[u32],
+    area: &[u32],
+    l: Layout,
+    from: ModuleId,
+    ns: usize,
+    name: Name,
+) -> Entry
     requires { ⌜ Reads (now words) (now area) l × (from .0 < l .modules) ⌝ }
     ensures { λ r. ⌜ entryOf scopeAt (now (words .entry)) r ≡ entryNamed (snapOf (now (words .entry)) (now (area .entry)) l) (from .0) ns (name .0) ⌝ }
 {
@@ -68,7 +86,14 @@ fn is_other(words: &[u32], l: Layout, e: Entry, m: ModuleId) -> bool
 }
 
 /// Whether a name is another thing's than a module's in types, in the module `from` or around its blocks.
-pub fn occupied(words: &[u32], area: &[u32], l: Layout, from: ModuleId, m: ModuleId, name: Name) -> bool
+pub fn occupied(
+    words: &[u32],
+    area: &[u32],
+    l: Layout,
+    from: ModuleId,
+    m: ModuleId,
+    name: Name,
+) -> bool
     requires { ⌜ Reads (now words) (now area) l × (from .0 < l .modules) ⌝ }
     ensures { λ r. ⌜ r ≡ occupiedBy (snapOf (now (words .entry)) (now (area .entry)) l) (from .0) (m .0) (name .0) ⌝ }
 {

@@ -1,4 +1,7 @@
 use borrow.Author.Needs.{needs}
+use mathlib.Core.Path.{ap₂}
+use mathlib.Core.Bool.{_&&_, not}
+use lib.Dec.{eqb}
 use Rattle.hir_def.proofs.Lookups.{sysroot-yes, sysroot-no}
 use Rattle.hir_def.proofs.crate_graph.by_sysroot.Statement.{statement}
 use Rattle.hir_def.proofs.crate_graph.by_sysroot.Tie as tie
@@ -10,10 +13,14 @@ dependency-sysroot-requires : tie.Need-dependency-sysroot-requires
 dependency-sysroot-requires c κs = search needs
 
 returns : tie.Need-returns
-returns c = sysroot-yes _ _ _ (c .before .before .if1 .taken) (cc)
+returns c =
+    let s = c .before .before .before .before .before .before in
+    sysroot-yes _ _ _ (c .before .before .if1 .taken) (ap₂ (λ o n. eqb o (s .args .c .0) && eqb n 1) (c .before .before .before .before .dependency-owner .ensures) (c .before .before .before .dependency-sysroot .ensures))
 
 returns-2 : tie.Need-returns-2
-returns-2 c = sysroot-no _ _ _ (c .before .before .if1 .left) (cc)
+returns-2 c =
+    let s = c .before .before .before .before .before .before in
+    sysroot-no _ _ _ (c .before .before .if1 .left) (ap₂ (λ o n. eqb o (s .args .c .0) && not (eqb n 1)) (c .before .before .before .before .dependency-owner .ensures) (c .before .before .before .dependency-sysroot .ensures))
 
 pub by-sysroot-spec : {M : Type 1} → statement M
 by-sysroot-spec =

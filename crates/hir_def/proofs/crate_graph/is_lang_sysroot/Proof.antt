@@ -1,6 +1,8 @@
 use borrow.Author.Needs.{needs}
-use mathlib.Core.Path.{_≡_, refl, sym, ap, ap₂, _∙_}
+use mathlib.Core.Path.{ap, ap₂, _∙_}
 use denote.Ref.{now}
+use mathlib.Core.Bool.{_&&_}
+use lib.Dec.{eqb}
 use Rattle.snapshot.specs.Layouts.{snapOf}
 use Rattle.hir_def.specs.Items.{crateData}
 use Rattle.hir_def.proofs.crate_graph.is_lang_sysroot.Statement.{statement}
@@ -15,18 +17,16 @@ dependency-sysroot-requires c κs = search needs
 dependency-crate-requires : tie.Need-dependency-crate-requires
 dependency-crate-requires c κs = search needs
 
-crate-head-requires : tie.Need-crate-head-requires
-crate-head-requires c κs = search needs
-
-crate-origin-requires : tie.Need-crate-origin-requires
-crate-origin-requires c κs = search needs
+origin-of-requires : tie.Need-origin-of-requires
+origin-of-requires c κs = search needs
 
 returns : tie.Need-returns
 returns c =
     λ A.
-    let s = c .before .before .before .before .before .before .before .before in
+    let s = c .before .before .before .before .before .before .before in
     let S = snapOf (now (s .args .words)) A (s .args .l) in
-    cc (c .before .before .crate-origin .ensures ∙ ap (λ x. x .origin) (c .before .before .before .crate-head .ensures A) ∙ ap (λ d. crateData S d .origin) (c .before .before .before .before .dependency-crate .ensures))
+    ap₂ (λ o t. eqb o (s .args .c .0) && t) (c .before .before .before .before .before .dependency-owner .ensures)
+    (ap₂ (λ n o. eqb n 1 && eqb o (s .args .lang)) (c .before .before .before .before .dependency-sysroot .ensures) (c .before .before .origin-of .ensures A ∙ ap (λ d. crateData S d .origin) (c .before .before .before .dependency-crate .ensures)))
 
 pub is-lang-sysroot-spec : {M : Type 1} → statement M
 is-lang-sysroot-spec =
@@ -35,6 +35,5 @@ is-lang-sysroot-spec =
     dependency-owner-requires
     dependency-sysroot-requires
     dependency-crate-requires
-    crate-head-requires
-    crate-origin-requires
+    origin-of-requires
     returns)

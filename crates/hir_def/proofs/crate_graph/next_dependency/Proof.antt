@@ -1,10 +1,9 @@
 use borrow.Author.Needs.{needs}
-use Prim.Native.Nat.{ℕ, _+_, _-_, _*_, _≤_, _<_}
-use mathlib.Core.Path.{_≡_, refl, sym, ap, ap₂, _∙_}
-use mathlib.Core.List.{List, reverse}
+use Prim.Native.Nat.{_+_, _-_, _*_}
+use mathlib.Core.Path.{refl, sym, ap, _∙_}
 use native.Mathlib.Omega.{arith}
 use borrow.Author.Tests.{eq-eqb, ne-eqb}
-use Rattle.snapshot.specs.Layouts.{dependencyBase, snapOf}
+use Rattle.snapshot.specs.Layouts.{dependencyBase}
 use Rattle.snapshot.specs.Records.{dependencyAt}
 use Rattle.hir_def.specs.Nameres.{isDependency}
 use Rattle.hir_def.proofs.Lookups.{Came, next-start, next-hit, next-miss, next-end}

@@ -1,6 +1,6 @@
 use borrow.Author.Needs.{needs}
-use mathlib.Core.Path.{_≡_, refl, sym, ap, ap₂, _∙_}
-use mathlib.Core.Bool.{Bool, true, false, _&&_, _||_, not}
+use mathlib.Core.Path.{ap₂}
+use mathlib.Core.Bool.{_&&_, _||_, not}
 use lib.Dec.{eqb}
 use Rattle.hir_def.proofs.item_scope.is_entry.Statement.{statement}
 use Rattle.hir_def.proofs.item_scope.is_entry.Tie as tie

@@ -1,5 +1,5 @@
 use borrow.Author.Needs.{needs}
-use mathlib.Core.Path.{_≡_, refl, sym, ap, _∙_}
+use mathlib.Core.Path.{_∙_}
 use Rattle.hir_def.proofs.Lookups.{names-name}
 use Rattle.hir_def.proofs.item_scope.name_of.Statement.{statement}
 use Rattle.hir_def.proofs.item_scope.name_of.Tie as tie

@@ -1,5 +1,4 @@
 use borrow.Author.Needs.{needs}
-use mathlib.Core.Path.{_≡_, refl, sym, ap, _∙_}
 use denote.Ref.{now}
 use Rattle.hir_def.proofs.Lookups.{definition-none, definition-there}
 use Rattle.hir_def.proofs.items.definition_head.Statement.{statement}

@@ -1,11 +1,10 @@
 use borrow.Author.Needs.{needs}
-use mathlib.Core.Path.{_≡_, refl, sym, ap, ap₂, subst, _∙_}
+use mathlib.Core.Path.{sym, ap, ap₂, subst, _∙_}
 use denote.Ref.{now}
 use native.Mathlib.Omega.{arith}
 use Rattle.snapshot.specs.Layouts.{snapOf}
 use Rattle.hir_def.specs.Items.{homeBy, homeOf}
-use Rattle.hir_def.specs.Entries.{Small}
-use Rattle.hir_def.specs.declared.Item.{Item}
+use Rattle.hir_def.specs.Entries.{Known}
 use Rattle.hir_def.specs.declared.Item.the-variants.{Mod}
 use Rattle.hir_def.proofs.items.home_of.Statement.{statement}
 use Rattle.hir_def.proofs.items.home_of.Tie as tie
@@ -16,8 +15,8 @@ enum-known-item c = search needs
 add-result : tie.Need-add-result
 add-result c =
     let s = c .before .before .before .before in
-    let p : Small (Mod (c .before .item .given .0 .0)) = subst (λ x. Small x) (c .before .item .given .1) (s .pre .1) in
-    record { fits = omega (arith, p) }
+    let p : Known (s .args .l) (Mod (c .before .item .given .0 .0)) = subst (Known (s .args .l)) (c .before .item .given .1) (s .pre .1) in
+    record { fits = omega (arith, p, s .pre .0) }
 
 enum-known-item-2 : tie.Need-enum-known-item-2
 enum-known-item-2 c = search needs

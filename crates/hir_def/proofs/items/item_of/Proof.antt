@@ -1,6 +1,5 @@
 use borrow.Author.Needs.{needs}
-use mathlib.Core.Path.{_≡_, refl, sym, ap, _∙_}
-use denote.Ref.{now}
+use mathlib.Core.Path.{ap, _∙_}
 use Rattle.hir_def.proofs.Lookups.{item-module, item-other}
 use Rattle.hir_def.proofs.items.item_of.Statement.{statement}
 use Rattle.hir_def.proofs.items.item_of.Tie as tie

@@ -1,0 +1,16 @@
+use borrow.Author.Needs.{needs}
+use mathlib.Core.Path.{ap, _∙_}
+use Rattle.hir_def.proofs.items.kind_of.Statement.{statement}
+use Rattle.hir_def.proofs.items.kind_of.Tie as tie
+
+definition-head-requires : tie.Need-definition-head-requires
+definition-head-requires c κs = search needs
+
+definition-kind-requires : tie.Need-definition-kind-requires
+definition-kind-requires c κs = search needs
+
+returns : tie.Need-returns
+returns c = λ A. c .definition-kind .ensures ∙ ap (λ x. x .kind) (c .before .definition-head .ensures A)
+
+pub kind-of-spec : {M : Type 1} → statement M
+kind-of-spec = tie.close (tie.spec definition-head-requires definition-kind-requires returns)
