@@ -2,7 +2,7 @@
 use mathlib.Core.Path.{_≡_, refl, subst}
 use Prim.Native.Nat.{ℕ, zero, suc, _+_}
 use native.Mathlib.Omega.{arith}
-use mathlib.Core.List.{List}
+use mathlib.Core.List.{List, [], _∷_, _++_}
 use mathlib.Core.Bool.{Bool, true, false, _&&_}
 use lib.Dec.{eqb, ltb, leb}
 use lib.ListN.{length, getD}
@@ -61,6 +61,34 @@ pub record Keeps (P : Snapshot → Type 0) : Type 0 where
       → P s → P (addImport s y)
   pub externs : (s : Snapshot) (y : Extern)
       → Passed true (externDefined (countsOf s) y) (any (sameExtern y) (s .externs)) true true → P s → P (addExtern s y)
+
+-- A property of maps, modules and definitions alone.
+pub keeps-of : (P : List Map → List Module → List Definition → Type 0)
+    → ((s : Snapshot) (y : Map)
+    → Passed (mapRange y) (mapDefined (countsOf s) y) (mapRepeated s y) (mapPlaced s y) true
+    → P (s .maps) (s .modules) (s .definitions) → P (s .maps ++ (y ∷ [])) (s .modules) (s .definitions))
+    → ((s : Snapshot) (y : Module)
+    → Passed true (moduleDefined (countsOf s) y) false (modulePlaced s y) (ltb (length (s .modules)) moduleLimit)
+    → P (s .maps) (s .modules) (s .definitions) → P (s .maps) (s .modules ++ (y ∷ [])) (s .definitions))
+    → ((s : Snapshot) (y : Definition)
+    → Passed (definitionRange s y) (definitionDefined (countsOf s) y) (definitionRepeated s y) (definitionPlaced s y)
+    (ltb (length (s .definitions)) definitionLimit)
+    → P (s .maps) (s .modules) (s .definitions) → P (s .maps) (s .modules) (s .definitions ++ (y ∷ [])))
+    → Keeps (λ s. P (s .maps) (s .modules) (s .definitions))
+keeps-of P f g k =
+    record {
+      names = λ s y p h. h;
+      crates = λ s y p h. h;
+      dependencies = λ s y p h. h;
+      maps = f;
+      modules = g;
+      children = λ s y p h. h;
+      preludes = λ s y p h. h;
+      definitions = k;
+      scopes = λ s y p h. h;
+      imports = λ s y p h. h;
+      externs = λ s y p h. h;
+    }
 
 record Taken (range defined repeated placed room : Bool) (t u : Snapshot) : Type 0 where
   passed : Passed range defined repeated placed room

@@ -12,7 +12,7 @@ use Rattle.snapshot.specs.Records.{Snapshot, Map, Module, Child, Definition, Sc
 use Rattle.accept.specs.Tests.{countsOf, noName, noMap, noModule, noDefinition, mapOf, kindOfDefinition, isIn, isOwn, mapsFilled, cratesOwn, childDefined, childPlaced, nsPlaced, mapRepeated, sameDefinition, definitionRepeated, sameName, sameChild, samePrelude, sameEntry, sameExtern, scopeDefined, importDefined}
 use Rattle.accept.specs.Verdict.{accept, verdict}
 use Rattle.accept.specs.Valid.{Each, none, mapIn, parentIn, blockIn, crateIn, definitionIn, Under, MacroOnly, Distinct, Owned, DefinedOnce, Once}
-use Rattle.accept.proofs.Accepted.{by-test, Keeps, verdict-keeps}
+use Rattle.accept.proofs.Accepted.{Keeps, keeps-of, verdict-keeps}
 use Rattle.accept.proofs.Bools.{and-two, and-four, and-five, unless-right, length-snoc, getD-old, getD-new, old-or-new, any-none, any-some, all-below, distinct-snoc, each-map, each-snoc}
 
 -- children
@@ -162,20 +162,7 @@ own-added s y e h i j l k a b c = old-or-new (s .maps) y j k
     (sym (crate-is fi) ∙ c ∙ crate-is fj) (sym (block-is fi) ∙ a))
 
 own-kept : Keeps HasOwnOnce
-own-kept =
-    record {
-      names = λ s y p h. h;
-      crates = λ s y p h. h;
-      dependencies = λ s y p h. h;
-      maps = λ s y p h. own-added s y (p .new) h;
-      modules = λ s y p h. h;
-      children = λ s y p h. h;
-      preludes = λ s y p h. h;
-      definitions = λ s y p h. h;
-      scopes = λ s y p h. h;
-      imports = λ s y p h. h;
-      externs = λ s y p h. h;
-    }
+own-kept = keeps-of (λ ms xs ds. OwnOnce ms) (λ s y p h. own-added s y (p .new) h) (λ s y p h. h) (λ s y p h. h)
 
 -- definitions of modules and of builtins
 
@@ -208,19 +195,7 @@ module _ (k : ℕ) (once : eqb k 1 || eqb k 3 ≡ true) where
 
   definitions-kept : Keeps HasOnce
   definitions-kept =
-      record {
-        names = λ s y p h. h;
-        crates = λ s y p h. h;
-        dependencies = λ s y p h. h;
-        maps = λ s y p h. h;
-        modules = λ s y p h. h;
-        children = λ s y p h. h;
-        preludes = λ s y p h. h;
-        definitions = λ s y p h. definition-added s y (p .new) h;
-        scopes = λ s y p h. h;
-        imports = λ s y p h. h;
-        externs = λ s y p h. h;
-      }
+      keeps-of (λ ms xs ds. DefinedOnce k ds) (λ s y p h. h) (λ s y p h. h) (λ s y p h. definition-added s y (p .new) h)
 
   pub accepted-defined : (W : List ℕ) (s : Snapshot) → verdict W ≡ accept s → DefinedOnce k (s .definitions)
   accepted-defined W s e = verdict-keeps HasOnce definitions-kept (λ i j l b p q r. omega arith) W s e .kept

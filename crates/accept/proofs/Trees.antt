@@ -12,7 +12,7 @@ use Rattle.snapshot.specs.Lists.{any}
 use Rattle.accept.specs.Tests.{isIn, countsOf, noMap, noModule, noDefinition, mapDefined, mapPlaced, moduleDefined, modulePlaced, definitionDefined, definitionPlaced}
 use Rattle.accept.specs.Verdict.{accept, verdict}
 use Rattle.accept.specs.Valid.{mapIn, parentIn, blockIn, crateIn, definitionIn, Tree, Enums}
-use Rattle.accept.proofs.Accepted.{by-test, Keeps, verdict-keeps}
+use Rattle.accept.proofs.Accepted.{by-test, Keeps, keeps-of, verdict-keeps}
 use Rattle.accept.proofs.Bools.{and-left, and-right, unless-right, or-right, any-none, length-snoc, getD-old, getD-new, old-or-new}
 
 module _ (s : Snapshot) (y : Definition) (defined : definitionDefined (countsOf s) y ≡ true) (placed : definitionPlaced s y ≡ true) where
@@ -181,35 +181,12 @@ HasEnums s = Enums (s .definitions)
 
 tree-kept : Keeps HasTree
 tree-kept =
-    record {
-      names = λ s y p h. h;
-      crates = λ s y p h. h;
-      dependencies = λ s y p h. h;
-      maps = λ s y p h. map-added s h y (p .known) (p .right);
-      modules = λ s y p h. module-added s h y (p .known) (p .right);
-      children = λ s y p h. h;
-      preludes = λ s y p h. h;
-      definitions = λ s y p h. h;
-      scopes = λ s y p h. h;
-      imports = λ s y p h. h;
-      externs = λ s y p h. h;
-    }
+    keeps-of (λ ms xs ds. Tree ms xs) (λ s y p h. map-added s h y (p .known) (p .right))
+    (λ s y p h. module-added s h y (p .known) (p .right)) (λ s y p h. h)
 
 enums-are-kept : Keeps HasEnums
 enums-are-kept =
-    record {
-      names = λ s y p h. h;
-      crates = λ s y p h. h;
-      dependencies = λ s y p h. h;
-      maps = λ s y p h. h;
-      modules = λ s y p h. h;
-      children = λ s y p h. h;
-      preludes = λ s y p h. h;
-      definitions = λ s y p h. enums-kept s y (p .known) (p .right) h;
-      scopes = λ s y p h. h;
-      imports = λ s y p h. h;
-      externs = λ s y p h. h;
-    }
+    keeps-of (λ ms xs ds. Enums ds) (λ s y p h. h) (λ s y p h. h) (λ s y p h. enums-kept s y (p .known) (p .right) h)
 
 module _ (W : List ℕ) (s : Snapshot) (e : verdict W ≡ accept s) where
   pub accepted-tree : Tree (s .maps) (s .modules)

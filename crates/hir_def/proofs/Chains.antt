@@ -23,6 +23,11 @@ unless-falls v w b true q f = absurd (omega arith)
 unless-falls v w b false q f = f (omega arith)
 
 module _ (s : Snapshot) (t : Tree (s .maps) (s .modules)) where
+  -- a module's map is there
+  pub map-known : (m : ℕ) → m < length (s .modules) → mapNo s m < length (s .maps)
+  unfolding moduleOf
+  map-known m h = t .known m h
+
   -- a module's parent is an earlier module of its map
   pub parent-fits : (m p : ℕ) → m < length (s .modules) → parentOf s m ≡ suc p → (p < m) × (mapNo s p ≡ mapNo s m)
   unfolding moduleOf

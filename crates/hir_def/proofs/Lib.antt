@@ -11,3 +11,4 @@ pub mod Compared
 pub mod Private
 pub mod Privately
 pub mod Differences
+pub mod Roots

@@ -1,6 +1,6 @@
 -- The walk is privacy, but for the condition of `Differs`, and there it says visible.
 use mathlib.Core.Path.{_≡_, refl, ap, sym, _∙_, subst}
-use mathlib.Core.Bool.{Bool, true, true≢false}
+use mathlib.Core.Bool.{Bool, true, false, true≢false}
 use mathlib.Core.Logic.{_⊎_, inl, ⊎-elim, _↔_}
 use Prim.Native.Nat.{ℕ, zero, suc, _≤_, _<_}
 use native.Mathlib.Omega.{arith}
@@ -19,7 +19,7 @@ use Rattle.hir_def.specs.Visibility.{met, climb, inModule, isVisibleFrom
 use Rattle.hir_def.specs.Privacy.{StandsIn, inner, outermost, block, Visible, Privacy}
 use Rattle.hir_def.specs.Differs.{Leaves, here, later, Differs, Exception, Known, Answers, InBlock}
 use Rattle.hir_def.proofs.Laws.{by-number}
-use Rattle.hir_def.proofs.Chains.{parent-fits, block-fits, containing-falls}
+use Rattle.hir_def.proofs.Chains.{map-known, parent-fits, block-fits, containing-falls}
 use Rattle.hir_def.proofs.Ways.{met-meets, meets-met, meets-below}
 use Rattle.hir_def.proofs.Compared.{walk-within, privacy-walk, walk-privacy, differs-walk, differs-privacy, leaves-stands, stands-one, stands-within, step-on}
 
@@ -82,9 +82,14 @@ module _ (W : List ℕ) (s : Snapshot) (accepted : verdict W ≡ accept s) where
         let z : blockOf s (d .left) ≡ 0 = ap (blockOf s) same ∙ e in
         omega (arith, left-in-block d .around, z)
 
-    -- They are equal where the target is in a crate's own map: always, in a crate without blocks.
+    -- They are equal where the target is in a crate's own map.
     pub in-own-map : blockOf s t ≡ 0 → (inModule s v t ≡ true) ↔ Visible s v t
     in-own-map e = by-number (parentOf s t) (λ z. own-map t (outermost z e refl) e) (λ p z. own-map t (inner z refl) e)
+
+    -- They are equal in a crate without blocks.
+    pub no-blocks : ((k : ℕ) → k < length (s .maps) → mapOf s k .crate ≡ crateOf s t → mapOf s k .block ≡ 0)
+        → (inModule s v t ≡ true) ↔ Visible s v t
+    no-blocks f = in-own-map (f (mapNo s t) (map-known s tree t q) refl)
 
     -- They are equal where the target is the root of a block whose parent is in a crate's own map.
     pub block-of-own-map : (b : ℕ) → parentOf s t ≡ 0 → blockOf s t ≡ suc b → blockOf s b ≡ 0 → (inModule s v t ≡ true) ↔ Visible s v t
@@ -140,6 +145,10 @@ module _ (W : List ℕ) (s : Snapshot) (accepted : verdict W ≡ accept s) where
   -- Privacy implies the walk: what the Reference shows, the walk never hides.
   pub privacy-implies-walk : (k n v : ℕ) → v < length (s .modules) → Known s k n → Privacy s k n v → isVisibleFrom s k n v ≡ true
   privacy-implies-walk k n v r h p = walk-is-privacy-but k n v r h .complete p
+
+  -- The difference is only towards visible: where the walk says hidden, privacy does not hold.
+  pub hidden-is-private : (k n v : ℕ) → v < length (s .modules) → Known s k n → isVisibleFrom s k n v ≡ false → Privacy s k n v → ⊥
+  hidden-is-private k n v r h z p = true≢false (sym (privacy-implies-walk k n v r h p) ∙ z)
 
   -- the number of an entry's visibility is in range
   known-number : (x : Scope) (k : ℕ) → x .visibility ≡ k → ScopeFits (countsOf s) x → Known s k (x .number)

@@ -12,11 +12,11 @@ use Rattle.snapshot.specs.Records.{Map, Module, crateAt, mapAt}
 use Rattle.snapshot.specs.Layouts.{crateBase, moduleMap, moduleHead, moduleParent, mapRoot, ownMap, moduleRow, modulesOf, mapsOf, snapOf}
 use Rattle.snapshot.specs.declared.layout.Layout.{Layout}
 use Rattle.snapshot.proofs.Laws.{getD-rows, length-rows}
-use Rattle.accept.specs.Tests.{isOwn, noMap}
+use Rattle.accept.specs.Tests.{isOwn}
 use Rattle.accept.specs.Stands.{ownFrom}
 use Rattle.accept.specs.Post.{Tables, Reads}
 use Rattle.accept.proofs.Valid.{accepted-valid}
-use Rattle.accept.proofs.Reading.{map-read as map-fits}
+use Rattle.hir_def.proofs.Roots.{crate-known}
 use Rattle.hir_def.specs.Finds.{placeOf}
 use Rattle.hir_def.specs.Items.{moduleOf, mapOf, mapNo, crateOf, parentOf, blockOf, rootOf, ownMap as ownOf, orElse, containing}
 
@@ -106,11 +106,7 @@ pub length-crates : (W A : List ℕ) (l : Layout) → length (snapOf W A l .crat
 length-crates W A l = length-rows (λ k. crateAt W (crateBase l + 1 * k)) (l .crates)
 
 -- the crate of a module is there
-pub crate-known : (W A : List ℕ) (l : Layout) → Reads W A l → (m : ℕ) → m < l .modules → crateOf (snapOf W A l) m < l .crates
-crate-known W A l r m h =
-    let t = r .tables in
-    let k = t .below m h in
-    let f = map-fits W A l (accepted-valid W (snapOf W A l) (r .same)) (moduleMap A m) k in
-    let e : mapAt W (moduleHead A (mapRoot A (moduleMap A m))) ≡ mapAt W (moduleHead A m) =
-    sym (getD-rows (λ j. mapAt W (moduleHead A (mapRoot A j))) noMap (l .maps) (moduleMap A m) k) ∙ t .mapped m h in
-    subst (λ x. x < l .crates) (ap (λ x. x .crate) e ∙ crate-read W A l t m h) (f .crate)
+pub crate-there : (W A : List ℕ) (l : Layout) → Reads W A l → (m : ℕ) → m < l .modules → crateOf (snapOf W A l) m < l .crates
+crate-there W A l r m h =
+    let g : m < length (snapOf W A l .modules) = rw (length-modules W A l) h in
+    rw (length-crates W A l) at (crate-known (snapOf W A l) (accepted-valid W (snapOf W A l) (r .same)) m g)

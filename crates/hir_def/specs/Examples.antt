@@ -21,6 +21,23 @@ aMap b = record { crate = 0; block = b; noStd = 0 }
 abbrev pub aModule : ℕ → ℕ → Module
 aModule k p = record { map = k; parent = p }
 
+-- maps and modules of one ordinary crate
+abbrev pub oneCrate : List Map → List Module → Snapshot
+oneCrate ms xs =
+    record {
+      names = [];
+      crates = record { origin = 0; noStd = 0 } ∷ [];
+      dependencies = [];
+      maps = ms;
+      modules = xs;
+      children = [];
+      preludes = [];
+      definitions = [];
+      scopes = [];
+      imports = [];
+      externs = [];
+    }
+
 -- what the two say of a viewer and a target
 abbrev pub Both : Type 0
 Both = record { walk : Bool; privacy : Bool }
@@ -36,20 +53,7 @@ smallest =
     0x20000000 ∷ 0x40000000 ∷ 0 ∷ 0 ∷ 0x50000000 ∷ 0 ∷ 0x40000000 ∷ 1 ∷ 0 ∷ 0x50000001 ∷ 0 ∷ 0x50000001 ∷ 2 ∷ []
 
 abbrev pub smallestSnapshot : Snapshot
-smallestSnapshot =
-    record {
-      names = [];
-      crates = record { origin = 0; noStd = 0 } ∷ [];
-      dependencies = [];
-      maps = aMap 0 ∷ aMap 1 ∷ [];
-      modules = aModule 0 0 ∷ aModule 1 0 ∷ aModule 1 2 ∷ [];
-      children = [];
-      preludes = [];
-      definitions = [];
-      scopes = [];
-      imports = [];
-      externs = [];
-    }
+smallestSnapshot = oneCrate (aMap 0 ∷ aMap 1 ∷ []) (aModule 0 0 ∷ aModule 1 0 ∷ aModule 1 2 ∷ [])
 
 pub smallest-accepted : verdict smallest ≡ accept smallestSnapshot
 unfolding verdict records stepAt recordStep finish argumentsFrom argumentsOf crateStep mapStep moduleStep rows any all
@@ -67,20 +71,7 @@ outside =
     0x20000000 ∷ 0x40000000 ∷ 0 ∷ 0 ∷ 0x50000000 ∷ 0 ∷ 0x40000000 ∷ 1 ∷ 0 ∷ 0x50000001 ∷ 0 ∷ 0x50000001 ∷ 2 ∷ 0x40000000 ∷ 2 ∷ 0 ∷ 0x50000002 ∷ 0 ∷ []
 
 abbrev pub outsideSnapshot : Snapshot
-outsideSnapshot =
-    record {
-      names = [];
-      crates = record { origin = 0; noStd = 0 } ∷ [];
-      dependencies = [];
-      maps = aMap 0 ∷ aMap 1 ∷ aMap 2 ∷ [];
-      modules = aModule 0 0 ∷ aModule 1 0 ∷ aModule 1 2 ∷ aModule 2 0 ∷ [];
-      children = [];
-      preludes = [];
-      definitions = [];
-      scopes = [];
-      imports = [];
-      externs = [];
-    }
+outsideSnapshot = oneCrate (aMap 0 ∷ aMap 1 ∷ aMap 2 ∷ []) (aModule 0 0 ∷ aModule 1 0 ∷ aModule 1 2 ∷ aModule 2 0 ∷ [])
 
 pub outside-accepted : verdict outside ≡ accept outsideSnapshot
 unfolding verdict records stepAt recordStep finish argumentsFrom argumentsOf crateStep mapStep moduleStep rows any all
@@ -101,20 +92,7 @@ deeper =
     0x20000000 ∷ 0x40000000 ∷ 0 ∷ 0 ∷ 0x50000000 ∷ 0 ∷ 0x40000000 ∷ 1 ∷ 0 ∷ 0x50000001 ∷ 0 ∷ 0x50000001 ∷ 2 ∷ 0x40000000 ∷ 3 ∷ 0 ∷ 0x50000002 ∷ 0 ∷ 0x40000000 ∷ 2 ∷ 0 ∷ 0x50000003 ∷ 0 ∷ []
 
 abbrev pub deeperSnapshot : Snapshot
-deeperSnapshot =
-    record {
-      names = [];
-      crates = record { origin = 0; noStd = 0 } ∷ [];
-      dependencies = [];
-      maps = aMap 0 ∷ aMap 1 ∷ aMap 3 ∷ aMap 2 ∷ [];
-      modules = aModule 0 0 ∷ aModule 1 0 ∷ aModule 1 2 ∷ aModule 2 0 ∷ aModule 3 0 ∷ [];
-      children = [];
-      preludes = [];
-      definitions = [];
-      scopes = [];
-      imports = [];
-      externs = [];
-    }
+deeperSnapshot = oneCrate (aMap 0 ∷ aMap 1 ∷ aMap 3 ∷ aMap 2 ∷ []) (aModule 0 0 ∷ aModule 1 0 ∷ aModule 1 2 ∷ aModule 2 0 ∷ aModule 3 0 ∷ [])
 
 pub deeper-accepted : verdict deeper ≡ accept deeperSnapshot
 unfolding verdict records stepAt recordStep finish argumentsFrom argumentsOf crateStep mapStep moduleStep rows any all
@@ -131,20 +109,7 @@ nested =
     0x20000000 ∷ 0x40000000 ∷ 0 ∷ 0 ∷ 0x50000000 ∷ 0 ∷ 0x50000000 ∷ 1 ∷ 0x40000000 ∷ 2 ∷ 0 ∷ 0x50000001 ∷ 0 ∷ 0x40000000 ∷ 3 ∷ 0 ∷ 0x50000002 ∷ 0 ∷ 0x40000000 ∷ 4 ∷ 0 ∷ 0x50000003 ∷ 0 ∷ []
 
 abbrev pub nestedSnapshot : Snapshot
-nestedSnapshot =
-    record {
-      names = [];
-      crates = record { origin = 0; noStd = 0 } ∷ [];
-      dependencies = [];
-      maps = aMap 0 ∷ aMap 2 ∷ aMap 3 ∷ aMap 4 ∷ [];
-      modules = aModule 0 0 ∷ aModule 0 1 ∷ aModule 1 0 ∷ aModule 2 0 ∷ aModule 3 0 ∷ [];
-      children = [];
-      preludes = [];
-      definitions = [];
-      scopes = [];
-      imports = [];
-      externs = [];
-    }
+nestedSnapshot = oneCrate (aMap 0 ∷ aMap 2 ∷ aMap 3 ∷ aMap 4 ∷ []) (aModule 0 0 ∷ aModule 0 1 ∷ aModule 1 0 ∷ aModule 2 0 ∷ aModule 3 0 ∷ [])
 
 pub nested-accepted : verdict nested ≡ accept nestedSnapshot
 unfolding verdict records stepAt recordStep finish argumentsFrom argumentsOf crateStep mapStep moduleStep rows any all

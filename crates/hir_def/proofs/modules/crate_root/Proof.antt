@@ -4,7 +4,7 @@ use denote.Ref.{now}
 use native.Mathlib.Omega.{arith}
 use Rattle.snapshot.specs.Layouts.{snapOf}
 use Rattle.hir_def.specs.Items.{rootOf, ownMap, crateRoot}
-use Rattle.hir_def.proofs.Reading.{crate-known}
+use Rattle.hir_def.proofs.Reading.{crate-there}
 use Rattle.hir_def.proofs.modules.crate_root.Statement.{statement}
 use Rattle.hir_def.proofs.modules.crate_root.Tie as tie
 
@@ -14,7 +14,7 @@ krate-requires c κs = search needs
 own-requires : tie.Need-own-requires
 own-requires c κs =
     let s = c .before .before .before in
-    (s .pre .0, rw (c .krate .ensures) (crate-known (now (s .args .words)) (now (s .args .area)) (s .args .l) (s .pre .0) (s .args .m .0) (s .pre .1)))
+    (s .pre .0, rw (c .krate .ensures) (crate-there (now (s .args .words)) (now (s .args .area)) (s .args .l) (s .pre .0) (s .args .m .0) (s .pre .1)))
 
 root-requires : tie.Need-root-requires
 root-requires c κs = (c .before .before .before .before .pre .0, c .own .ensures .1)
