@@ -1,6 +1,6 @@
 -- Laws of the lookups: reads of numbered records, and loops over them.
 use Prim.Native.Nat.{ℕ, _+_, _-_, _*_, _/_, _%_, _≤_, _<_}
-use mathlib.Core.Path.{_≡_, refl, sym, _∙_, ap, ap₂}
+use mathlib.Core.Path.{_≡_, refl, sym, _∙_, ap, ap₂, subst}
 use mathlib.Core.List.{List, [], _∷_, _++_, reverse, reverse-append}
 use mathlib.Core.Bool.{Bool, true, false, _&&_, _||_, not, and-true, or-true, false≢true}
 use mathlib.Core.Option.{Option, none, some}
@@ -20,9 +20,11 @@ use Rattle.hir_def.specs.Items.{definitionOf, crateData, itemOf, homeBy}
 use Rattle.hir_def.specs.ItemScope.{isFor, nameOf, namesOf, isModuleEntry, modulesInScope}
 use Rattle.hir_def.specs.ImportMap.{isImport, importInfoFor}
 use Rattle.hir_def.specs.Nameres.{isDependency, isSysroot, isLangSysroot, bySysroot, dependenciesOf, langOf, sysrootFirst}
-use Rattle.hir_def.specs.Entries.{leftOf, Meets}
+use Rattle.hir_def.specs.Entries.{leftOf, Meets, Ends, NextOf}
 use Rattle.hir_def.specs.declared.Item.{Item}
 use Rattle.hir_def.specs.declared.Item.the-variants.{Mod, Def}
+use Rattle.hir_def.specs.declared.Next.{Next}
+use Rattle.hir_def.specs.declared.Next.the-variants.{Record, End}
 
 -- the record of a number: none past the last, where the words past the end read the same
 past-rows : {R : Type 0} (f : ℕ → R) (n i : ℕ) (d : R) → n ≤ i → d ≡ getD (rows f 0 n) i d
@@ -164,12 +166,22 @@ module _ {R : Type 0} {p : R → Bool} {f : List ℕ → ℕ → R} {size : ℕ}
             ∙ select-miss p (f W (base + size * j)) (rows (λ x. f W (base + size * x)) (j + 1) (n - (j + 1))) q;
       }
 
-  pub next-end : n ≤ j → leftOf p (λ i. f W (base + size * i)) n k ≡ []
+  pub next-end : n ≤ j → Ends p f size W base n k
   unfolding select
-  next-end i = c .same ∙ ap (select p) (rows-none (λ x. f W (base + size * x)) j n i)
+  next-end i = record { none = c .same ∙ ap (select p) (rows-none (λ x. f W (base + size * x)) j n i) }
 
 pub next-start : {R : Type 0} (p : R → Bool) (f : List ℕ → ℕ → R) (size : ℕ) (W : List ℕ) (base n k : ℕ) → Came p f size W base n k k
 next-start p f size W base n k = record { from = omega arith; same = refl }
+
+-- what a caller learns from the answer
+module _ {R : Type 0} {p : R → Bool} {f : List ℕ → ℕ → R} {size : ℕ} {W : List ℕ} {base n k : ℕ} where
+  pub next-record : {r : Next} {j h : ℕ} → NextOf p f size W base n k r → r ≡ Record j h → Meets p f size W base n k j h
+  unfolding NextOf
+  next-record x e = subst (NextOf p f size W base n k) e x
+
+  pub next-none : {r : Next} → NextOf p f size W base n k r → r ≡ End → Ends p f size W base n k
+  unfolding NextOf
+  next-none x e = subst (NextOf p f size W base n k) e x
 
 -- the records that pass two tests in turn
 module _ {R : Type 0} (p q : R → Bool) where

@@ -36,7 +36,11 @@ pub record Meets {R : Type 0} (p : R → Bool) (f : List ℕ → ℕ → R) (siz
   pub passes : p (f W h) ≡ true
   pub next : leftOf p (λ i. f W (base + size * i)) n k ≡ f W h ∷ leftOf p (λ i. f W (base + size * i)) n (j + 1)
 
+-- none is left
+pub record Ends {R : Type 0} (p : R → Bool) (f : List ℕ → ℕ → R) (size : ℕ) (W : List ℕ) (base n k : ℕ) : Type 0 where
+  pub none : leftOf p (λ i. f W (base + size * i)) n k ≡ []
+
 -- the next record that passes the test, of n of one size from a place on, from the number k on
-abbrev pub NextOf : {R : Type 0} → (R → Bool) → (List ℕ → ℕ → R) → ℕ → List ℕ → ℕ → ℕ → ℕ → Next → Type 0
+unfoldable pub NextOf : {R : Type 0} → (R → Bool) → (List ℕ → ℕ → R) → ℕ → List ℕ → ℕ → ℕ → ℕ → Next → Type 0
 NextOf p f size W base n k (Record j h) = Meets p f size W base n k j h
-NextOf p f size W base n k End = leftOf p (λ i. f W (base + size * i)) n k ≡ []
+NextOf p f size W base n k End = Ends p f size W base n k

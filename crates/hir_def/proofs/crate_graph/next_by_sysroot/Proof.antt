@@ -5,6 +5,7 @@ use native.Mathlib.Omega.{arith}
 use Rattle.snapshot.specs.Layouts.{dependencyBase}
 use Rattle.snapshot.specs.Records.{dependencyAt}
 use Rattle.hir_def.specs.Nameres.{bySysroot}
+use Rattle.hir_def.specs.Entries.{NextOf}
 use Rattle.hir_def.proofs.Lookups.{Came, next-start, next-hit, next-miss, next-end}
 use Rattle.hir_def.proofs.crate_graph.next_by_sysroot.Statement.{statement}
 use Rattle.hir_def.proofs.crate_graph.next_by_sysroot.Tie as tie
@@ -31,6 +32,7 @@ by-sysroot-requires : tie.Need-by-sysroot-requires Inv-loop μ-loop
 by-sysroot-requires c κs = search needs
 
 returns : tie.Need-returns Inv-loop μ-loop
+unfolding NextOf
 returns c =
     let w = c .before .before .before .before .loop in
     next-hit (w .inv) (c .before .before .if1 .taken) (ap (λ b. b + 3 * w .j) (c .before .before .before .before .before .dependency-base .ensures)) (c .before .by-sysroot .ensures) (c .if2 .taken)
@@ -47,6 +49,7 @@ loop-again c =
     next-miss (w .inv) (c .before .before .if1 .taken) (ap (λ b. b + 3 * w .j) (c .before .before .before .before .before .dependency-base .ensures)) (c .before .by-sysroot .ensures) (c .if2 .left)
 
 returns-2 : tie.Need-returns-2 Inv-loop μ-loop
+unfolding NextOf
 returns-2 c = next-end (c .before .before .loop .inv) (c .if1 .left)
 
 pub next-by-sysroot-spec : {M : Type 1} → statement M

@@ -6,6 +6,7 @@ use borrow.Author.Tests.{eq-eqb, ne-eqb}
 use Rattle.snapshot.specs.Layouts.{dependencyBase}
 use Rattle.snapshot.specs.Records.{dependencyAt}
 use Rattle.hir_def.specs.Nameres.{isDependency}
+use Rattle.hir_def.specs.Entries.{NextOf}
 use Rattle.hir_def.proofs.Lookups.{Came, next-start, next-hit, next-miss, next-end}
 use Rattle.hir_def.proofs.crate_graph.next_dependency.Statement.{statement}
 use Rattle.hir_def.proofs.crate_graph.next_dependency.Tie as tie
@@ -32,6 +33,7 @@ dependency-owner-requires : tie.Need-dependency-owner-requires Inv-loop μ-loop
 dependency-owner-requires c κs = search needs
 
 returns : tie.Need-returns Inv-loop μ-loop
+unfolding NextOf
 returns c =
     let w = c .before .before .before .before .before .before .loop in
     next-hit (w .inv) (c .before .before .before .before .if1 .taken) (ap (λ b. b + 3 * w .j) (c .before .before .before .before .before .before .before .dependency-base .ensures)) refl (eq-eqb _ _ (sym (c .before .before .before .dependency-owner .ensures) ∙ c .if2 .taken))
@@ -48,6 +50,7 @@ loop-again c =
     next-miss (w .inv) (c .before .before .before .before .if1 .taken) (ap (λ b. b + 3 * w .j) (c .before .before .before .before .before .before .before .dependency-base .ensures)) refl (ne-eqb _ _ (λ e. c .if2 .left (c .before .before .before .dependency-owner .ensures ∙ e)))
 
 returns-2 : tie.Need-returns-2 Inv-loop μ-loop
+unfolding NextOf
 returns-2 c = next-end (c .before .before .loop .inv) (c .if1 .left)
 
 pub next-dependency-spec : {M : Type 1} → statement M

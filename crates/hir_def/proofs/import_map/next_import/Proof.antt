@@ -6,6 +6,7 @@ use native.Mathlib.Omega.{arith}
 use Rattle.snapshot.specs.Layouts.{importBase, snapOf}
 use Rattle.snapshot.specs.Records.{importAt}
 use Rattle.hir_def.specs.ImportMap.{isImport}
+use Rattle.hir_def.specs.Entries.{NextOf}
 use Rattle.hir_def.proofs.Lookups.{Came, next-start, next-hit, next-miss, next-end}
 use Rattle.hir_def.proofs.import_map.next_import.Statement.{statement}
 use Rattle.hir_def.proofs.import_map.next_import.Tie as tie
@@ -32,6 +33,7 @@ is-import-requires : tie.Need-is-import-requires Inv-loop μ-loop
 is-import-requires c κs = search needs
 
 returns : tie.Need-returns Inv-loop μ-loop
+unfolding NextOf
 returns c =
     λ A.
     let w = c .before .before .before .before .loop in
@@ -50,6 +52,7 @@ loop-again c =
     next-miss (w .inv A) (c .before .before .if1 .taken) (ap (λ b. b + 6 * w .j) (c .before .before .before .before .before .import-base .ensures)) (c .before .is-import .ensures A) (c .if2 .left)
 
 returns-2 : tie.Need-returns-2 Inv-loop μ-loop
+unfolding NextOf
 returns-2 c = λ A. next-end (c .before .before .loop .inv A) (c .if1 .left)
 
 pub next-import-spec : {M : Type 1} → statement M

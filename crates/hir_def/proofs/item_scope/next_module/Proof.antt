@@ -6,6 +6,7 @@ use native.Mathlib.Omega.{arith}
 use Rattle.snapshot.specs.Layouts.{scopeBase, snapOf}
 use Rattle.snapshot.specs.Records.{scopeAt}
 use Rattle.hir_def.specs.ItemScope.{isModuleEntry}
+use Rattle.hir_def.specs.Entries.{NextOf}
 use Rattle.hir_def.proofs.Lookups.{Came, next-start, next-hit, next-miss, next-end}
 use Rattle.hir_def.proofs.item_scope.next_module.Statement.{statement}
 use Rattle.hir_def.proofs.item_scope.next_module.Tie as tie
@@ -32,6 +33,7 @@ is-module-entry-requires : tie.Need-is-module-entry-requires Inv-loop μ-loop
 is-module-entry-requires c κs = search needs
 
 returns : tie.Need-returns Inv-loop μ-loop
+unfolding NextOf
 returns c =
     λ A.
     let w = c .before .before .before .before .loop in
@@ -50,6 +52,7 @@ loop-again c =
     next-miss (w .inv A) (c .before .before .if1 .taken) (ap (λ b. b + 7 * w .j) (c .before .before .before .before .before .scope-base .ensures)) (c .before .is-module-entry .ensures A) (c .if2 .left)
 
 returns-2 : tie.Need-returns-2 Inv-loop μ-loop
+unfolding NextOf
 returns-2 c = λ A. next-end (c .before .before .loop .inv A) (c .if1 .left)
 
 pub next-module-spec : {M : Type 1} → statement M

@@ -1,0 +1,244 @@
+//! The queries, each answered where its numbers are in range.
+ghost use Prim.Native.Nat.{ℕ, _<_, _^_};
+ghost use Rattle.snapshot.specs.Layouts.{wordCount};
+ghost use Rattle.accept.specs.Post.{Reads};
+use hir_def::Entry;
+use hir_def::Item;
+use hir_def::crate_graph::extern_of;
+use hir_def::item_scope::name_of;
+use hir_def::items::home_of;
+use hir_def::items::item_of;
+use hir_def::modules::containing;
+use hir_def::modules::crate_root;
+use hir_def::nameres::entry_named;
+use hir_def::nameres::occupied;
+use hir_def::nameres::scope_entry;
+use hir_def::visibility::is_visible_from;
+use snapshot::ids::Crate;
+use snapshot::ids::DefinitionId;
+use snapshot::ids::ModuleId;
+use snapshot::ids::Name;
+use snapshot::layout::Layout;
+use snapshot::record::extern_name;
+use snapshot::record::scope_definition;
+use snapshot::record::scope_name;
+
+/// What a query answers.
+pub enum Reply {
+    Yes,
+    No,
+    Number(usize),
+    Nothing,
+    OutOfRange,
+}
+
+fn yes_or_no(b: bool) -> Reply {
+    if b {
+        return Reply::Yes;
+    }
+    Reply::No
+}
+
+// A number, of number +1.
+fn number_before(n: usize) -> Reply {
+    if n == 0 {
+        return Reply::Nothing;
+    }
+    Reply::Number(n - 1)
+}
+
+// The name of an entry.
+fn name_at(words: &[u32], e: Entry) -> Reply {
+    match e {
+        Entry::At(h) => {
+            let n = scope_name(words, h);
+            Reply::Number(n.0)
+        }
+        Entry::Nothing => Reply::Nothing,
+    }
+}
+
+// The definition of an entry.
+fn definition_at(words: &[u32], e: Entry) -> Reply {
+    match e {
+        Entry::At(h) => {
+            let d = scope_definition(words, h);
+            Reply::Number(d.0)
+        }
+        Entry::Nothing => Reply::Nothing,
+    }
+}
+
+fn visible(
+    words: &[u32],
+    area: &[u32],
+    l: Layout,
+    kind: usize,
+    number: usize,
+    viewer: usize,
+) -> Reply
+    requires { ⌜ Reads (now words) (now area) l ⌝ }
+{
+    if l.modules <= viewer {
+        return Reply::OutOfRange;
+    }
+    if 1 < kind {
+        if l.modules <= number {
+            return Reply::OutOfRange;
+        }
+    }
+    yes_or_no(is_visible_from(words, area, l, kind, number, ModuleId(viewer)))
+}
+
+fn name(words: &[u32], l: Layout, m: usize, ns: usize, d: usize) -> Reply
+    requires { ⌜ wordCount l < 2 ^ 32 ⌝ }
+{
+    if l.modules <= m {
+        return Reply::OutOfRange;
+    }
+    if l.definitions <= d {
+        return Reply::OutOfRange;
+    }
+    let item = item_of(words, l, ns, DefinitionId(d));
+    name_at(words, name_of(words, l, ModuleId(m), item))
+}
+
+fn scope(
+    words: &[u32],
+    area: &[u32],
+    l: Layout,
+    from: usize,
+    ns: usize,
+    d: usize,
+    declared: bool,
+) -> Reply
+    requires { ⌜ Reads (now words) (now area) l ⌝ }
+{
+    if l.modules <= from {
+        return Reply::OutOfRange;
+    }
+    if l.definitions <= d {
+        return Reply::OutOfRange;
+    }
+    let item = item_of(words, l, ns, DefinitionId(d));
+    name_at(
+        words,
+        scope_entry(words, area, l, ModuleId(from), item, declared),
+    )
+}
+
+fn named(words: &[u32], area: &[u32], l: Layout, from: usize, ns: usize, n: usize) -> Reply
+    requires { ⌜ Reads (now words) (now area) l ⌝ }
+{
+    if l.modules <= from {
+        return Reply::OutOfRange;
+    }
+    if l.names <= n {
+        return Reply::OutOfRange;
+    }
+    definition_at(
+        words,
+        entry_named(words, area, l, ModuleId(from), ns, Name(n)),
+    )
+}
+
+fn taken(words: &[u32], area: &[u32], l: Layout, from: usize, m: usize, n: usize) -> Reply
+    requires { ⌜ Reads (now words) (now area) l ⌝ }
+{
+    if l.modules <= from {
+        return Reply::OutOfRange;
+    }
+    if l.modules <= m {
+        return Reply::OutOfRange;
+    }
+    if l.names <= n {
+        return Reply::OutOfRange;
+    }
+    yes_or_no(occupied(words, area, l, ModuleId(from), ModuleId(m), Name(n)))
+}
+
+fn root(words: &[u32], area: &[u32], l: Layout, m: usize) -> Reply
+    requires { ⌜ Reads (now words) (now area) l ⌝ }
+{
+    if l.modules <= m {
+        return Reply::OutOfRange;
+    }
+    let r = crate_root(words, area, l, ModuleId(m));
+    Reply::Number(r.0)
+}
+
+fn container(words: &[u32], area: &[u32], l: Layout, m: usize) -> Reply
+    requires { ⌜ Reads (now words) (now area) l ⌝ }
+{
+    if l.modules <= m {
+        return Reply::OutOfRange;
+    }
+    number_before(containing(words, area, l, ModuleId(m)))
+}
+
+fn extern_named(words: &[u32], l: Layout, c: usize, m: usize) -> Reply
+    requires { ⌜ wordCount l < 2 ^ 32 ⌝ }
+{
+    if l.crates <= c {
+        return Reply::OutOfRange;
+    }
+    if l.modules <= m {
+        return Reply::OutOfRange;
+    }
+    let e = extern_of(words, l, Crate(c), ModuleId(m));
+    let Entry::At(h) = e else {
+        return Reply::Nothing;
+    };
+    let n = extern_name(words, h);
+    Reply::Number(n.0)
+}
+
+fn home(words: &[u32], l: Layout, ns: usize, d: usize) -> Reply
+    requires { ⌜ wordCount l < 2 ^ 32 ⌝ }
+{
+    if l.definitions <= d {
+        return Reply::OutOfRange;
+    }
+    let item = item_of(words, l, ns, DefinitionId(d));
+    match item {
+        Item::Mod(m) => {
+            if l.modules <= m {
+                return Reply::OutOfRange;
+            }
+            number_before(home_of(words, l, Item::Mod(m)))
+        }
+        Item::Def(n, e) => {
+            if l.definitions <= e {
+                return Reply::OutOfRange;
+            }
+            number_before(home_of(words, l, Item::Def(n, e)))
+        }
+    }
+}
+
+/// The answer to the query with that code and those numbers.
+pub fn answer(
+    words: &[u32],
+    area: &[u32],
+    l: Layout,
+    code: usize,
+    a: usize,
+    b: usize,
+    c: usize,
+    d: usize,
+) -> Reply
+    requires { ⌜ Reads (now words) (now area) l ⌝ }
+{
+    match code {
+        1 => visible(words, area, l, a, b, c),
+        2 => name(words, l, a, b, c),
+        3 => scope(words, area, l, a, b, c, d == 1),
+        4 => named(words, area, l, a, b, c),
+        5 => taken(words, area, l, a, b, c),
+        6 => root(words, area, l, a),
+        7 => container(words, area, l, a),
+        8 => extern_named(words, l, a, b),
+        9 => home(words, l, a, b),
+        _ => Reply::OutOfRange,
+    }
+}
