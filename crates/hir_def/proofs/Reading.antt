@@ -41,6 +41,9 @@ module _ (W A : List ℕ) (l : Layout) (t : Tables W A l) where
   pub block-read : (m : ℕ) → m < l .modules → mapAt W (moduleHead A m) .block ≡ blockOf (snapOf W A l) m
   block-read m h = ap (λ r. r .block) (record-read m h)
 
+  pub no-std-read : (m : ℕ) → m < l .modules → mapAt W (moduleHead A m) .noStd ≡ mapOf (snapOf W A l) (mapNo (snapOf W A l) m) .noStd
+  no-std-read m h = ap (λ r. r .noStd) (record-read m h)
+
   -- the first place of a map's modules is the one that the table has
   root-from : (k i n : ℕ) → i ≤ mapRoot A k → mapRoot A k < i + n → moduleMap A (mapRoot A k) ≡ k → ((j : ℕ) → j < i + n → moduleMap A j ≡ k → mapRoot A k ≤ j)
       → mapRoot A k ≡ placeOf (λ x. eqb (x .map) k) i (rows (moduleRow A) i n)

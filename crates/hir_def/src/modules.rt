@@ -5,12 +5,13 @@ ghost use Prim.Native.Nat.{ℕ, _<_};
 ghost use lib.Dec.{eqb};
 ghost use Rattle.snapshot.specs.Layouts.{snapOf};
 ghost use Rattle.accept.specs.Post.{Reads};
-ghost use Rattle.hir_def.specs.Items.{mapNo, crateOf, parentOf, blockOf, inBlock as inBlockOf, containing as containingOf, rootOf, ownMap, crateRoot};
+ghost use Rattle.hir_def.specs.Items.{mapNo, mapOf, crateOf, parentOf, blockOf, inBlock as inBlockOf, containing as containingOf, rootOf, ownMap, crateRoot};
 use snapshot::ids::Crate;
 use snapshot::ids::ModuleId;
 use snapshot::layout::Layout;
 use snapshot::record::map_block;
 use snapshot::record::map_crate;
+use snapshot::record::map_no_std;
 use snapshot::table::map_root;
 use snapshot::table::module_head;
 use snapshot::table::module_map;
@@ -55,6 +56,14 @@ pub fn in_block(words: &[u32], area: &[u32], l: Layout, m: ModuleId) -> bool
     ensures { λ r. ⌜ r ≡ inBlockOf (snapOf (now (words .entry)) (now (area .entry)) l) (m .0) ⌝ }
 {
     block(words, area, l, m) != 0
+}
+
+/// Whether a module's map is no_std.
+pub fn no_std(words: &[u32], area: &[u32], l: Layout, m: ModuleId) -> bool
+    requires { ⌜ Reads (now words) (now area) l × (m .0 < l .modules) ⌝ }
+    ensures { λ r. ⌜ r ≡ eqb (mapOf (snapOf (now (words .entry)) (now (area .entry)) l) (mapNo (snapOf (now (words .entry)) (now (area .entry)) l) (m .0)) .noStd) 1 ⌝ }
+{
+    map_no_std(words, module_head(area, m)) == 1
 }
 
 /// The containing module, +1: the parent, and from a map's root the block's parent.
