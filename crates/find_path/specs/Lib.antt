@@ -4,6 +4,7 @@ pub mod Rules
 pub mod Local
 pub mod Charged
 pub mod Search
+pub mod Conditions
 pub mod Meters
 pub mod Report
 pub mod Line

@@ -1,0 +1,36 @@
+-- What the code of the search relies on, and what it leaves.
+use Prim.Native.Nat.{ℕ, _≤_, _<_}
+use mathlib.Core.Path.{_≡_}
+use mathlib.Core.List.{List}
+use lib.ListN.{length, take}
+use Rattle.snapshot.specs.Layouts.{tableWords}
+use Rattle.snapshot.specs.declared.layout.Layout.{Layout}
+use Rattle.accept.specs.Post.{Reads}
+use Rattle.hir_def.specs.Items.{nsOf}
+use Rattle.hir_def.specs.Entries.{Known}
+use Rattle.hir_def.specs.declared.Item.{Item}
+use Rattle.find_path.specs.declared.Choice.{Choice}
+use Rattle.find_path.specs.declared.Tank.{Tank}
+use Rattle.find_path.specs.declared.Found.{Found}
+use Rattle.find_path.specs.declared.FindPathCtx.{FindPathCtx}
+use Rattle.find_path.specs.Charged.{Out, foundOf}
+
+-- accepted words with their tables, a viewing module that is there, and the whole work area
+pub record Prepared (W A : List ℕ) (l : Layout) (x : FindPathCtx) : Type 0 where
+  pub reads : Reads W A l
+  pub from : x .from < l .modules
+  pub area : length A ≡ 16384
+
+-- an item that can be asked for
+abbrev pub Asked : Layout → Item → Type 0
+Asked l item = Known l item × (nsOf item ≤ 2)
+
+-- A local search answers the choice, and the tables stay.
+pub record Chosen (A₀ : List ℕ) (c : Choice) (A : List ℕ) (r : Choice) : Type 0 where
+  pub same : r ≡ c
+  pub tables : take tableWords A ≡ take tableWords A₀
+
+-- A search that charges answers the choice and the tank, and the tables stay.
+pub record Searched (A₀ : List ℕ) (o : Out Tank) (A : List ℕ) (r : Found) : Type 0 where
+  pub same : r ≡ foundOf o
+  pub tables : take tableWords A ≡ take tableWords A₀
