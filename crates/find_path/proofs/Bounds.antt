@@ -1,6 +1,6 @@
--- Names of a path: at most the length left, sixteen places, zero past the names.
+-- Names of a path: at most the length left, sixteen places, zero past the names; and how long its text is.
 use mathlib.Core.Path.{_≡_, refl, ap, sym, _∙_}
-use Prim.Native.Nat.{ℕ, zero, suc, _+_, _≤_, _<_}
+use Prim.Native.Nat.{ℕ, zero, suc, _+_, _*_, _≤_, _<_}
 use native.Mathlib.Omega.{arith}
 use mathlib.Core.List.{List, [], _∷_, _++_}
 use mathlib.Core.Bool.{Bool, true, false, _&&_, _||_, not}
@@ -22,7 +22,7 @@ use Rattle.find_path.specs.declared.KwKind.{KwKind}
 use Rattle.find_path.specs.declared.KwKind.the-variants.{Kw, NoKw}
 use Rattle.find_path.specs.declared.FindPathCtx.{FindPathCtx}
 use Rattle.find_path.specs.declared.Query.{Query}
-use Rattle.find_path.specs.Choices.{plainPath, cratePath, nothing, keyword, choiceNew, extended, push, unstably, better, trySelect, lengthLeft}
+use Rattle.find_path.specs.Choices.{nameLen, pathKindLen, plainPath, cratePath, nothing, keyword, choiceNew, extended, push, unstably, better, trySelect, lengthLeft}
 use Rattle.find_path.specs.Walk.{Level}
 use Rattle.find_path.specs.Rules.{byCrate, mayBeInScope, prefixPathKind, contextOf, firstFound, single, scopeRule, preludeRule, externName, rootRule, keywordOf, moduleRules, isKwKindRelativeToFrom, findInScope, findInPrelude}
 use Rattle.find_path.specs.Local.{LocalSearch, offer, importableName, location, eachLocation, calculateBestPathLocal, orLocal, findPathForModuleLocal}
@@ -31,77 +31,94 @@ use Rattle.find_path.specs.Charged.{Out, Search, Inner, langs, oneOrNone
 use Rattle.find_path.specs.Search.{localTo, searchLocal, bestLocal, moduleTo, searchModule, itemTo, searchItem, fromHome, fromItem, findPath}
 use Rattle.find_path.proofs.Unfold.{length-falls}
 
-pub record Fits (left : ℕ) (c : Choice) : Type 0 where
+-- no name is longer than 255 bytes
+abbrev pub Short : Snapshot → Type 0
+Short s = (n : ℕ) → nameLen s n ≤ 255
+
+pub record Fits (s : Snapshot) (left : ℕ) (c : Choice) : Type 0 where
   pub few : c .count ≤ left
   pub long : length (c .names) ≡ 16
   pub rest : (i : ℕ) → c .count ≤ i → getD (c .names) i 0 ≡ 0
+  -- the text of a path is short where the names are
+  pub text : Short s → c .text ≤ 5 + 255 * c .count
 
-zeros : (n i : ℕ) → _≡_ {A = ℕ} (getD (replicate n 0) i 0) 0
+pub zeros : (n i : ℕ) → _≡_ {A = ℕ} (getD (replicate n 0) i 0) 0
 zeros zero i = refl
 zeros (suc n) zero = refl
 zeros (suc n) (suc i) = zeros n i
 
-pub more : {c : Choice} (l left : ℕ) → l ≤ left → Fits l c → Fits left c
-more l left h f = record { few = omega (arith, f .few); long = f .long; rest = f .rest }
+kind-short : (k : ℕ) → pathKindLen k ≤ 5
+unfolding pathKindLen
+kind-short zero = omega arith
+kind-short (suc zero) = omega arith
+kind-short (suc (suc zero)) = omega arith
+kind-short (suc (suc (suc zero))) = omega arith
+kind-short (suc (suc (suc (suc zero)))) = omega arith
+kind-short (suc (suc (suc (suc (suc k))))) = omega arith
 
-pub nothing-fits : (left : ℕ) → Fits left nothing
-nothing-fits left = record { few = omega arith; long = refl; rest = λ i _. zeros 16 i }
+pub more : {s : Snapshot} {c : Choice} (l left : ℕ) → l ≤ left → Fits s l c → Fits s left c
+more l left h f = record { few = omega (arith, f .few); long = f .long; rest = f .rest; text = f .text }
 
-keyword-fits : (left k : ℕ) → Fits left (keyword k)
+pub nothing-fits : {s : Snapshot} (left : ℕ) → Fits s left nothing
+nothing-fits left = record { few = omega arith; long = refl; rest = λ i _. zeros 16 i; text = λ h. omega arith }
+
+keyword-fits : {s : Snapshot} (left k : ℕ) → Fits s left (keyword k)
 unfolding keyword
-keyword-fits left k = record { few = omega arith; long = refl; rest = λ i _. zeros 16 i }
+keyword-fits left k = record { few = omega arith; long = refl; rest = λ i _. zeros 16 i; text = λ h. omega (arith, kind-short k) }
 
-extended-fits : (s : Snapshot) (l : ℕ) (c : Choice) (n : ℕ) (b : Bool) → Fits l c → Fits (suc l) (extended s c n b)
+extended-fits : (s : Snapshot) (l : ℕ) (c : Choice) (n : ℕ) (b : Bool) → Fits s l c → Fits s (suc l) (extended s c n b)
 unfolding extended
 extended-fits s l c n b f = record {
   few = omega (arith, f .few);
   long = length-set (c .names) (c .count) n ∙ f .long;
   rest = λ i h. getD-set-other (c .names) (c .count) i n 0 (λ e. omega arith) ∙ f .rest i (omega arith);
+  text = λ h. let a = f .text h in let b = h n in omega arith;
 }
 
-new-fits : (s : Snapshot) (l k n : ℕ) → Fits (suc l) (choiceNew s k n)
+new-fits : (s : Snapshot) (l k n : ℕ) → Fits s (suc l) (choiceNew s k n)
 unfolding choiceNew
 new-fits s l k n = record {
   few = omega arith;
   long = refl;
   rest = λ i h. getD-set-other (replicate 16 0) 0 i n 0 (λ e. omega arith) ∙ zeros 16 i;
+  text = λ h. let a = kind-short k in let b = h n in omega arith;
 }
 
-push-fits : (s : Snapshot) (l : ℕ) (c : Choice) (n : ℕ) → Fits l c → Fits (suc l) (push s c n)
+pub push-fits : (s : Snapshot) (l : ℕ) (c : Choice) (n : ℕ) → Fits s l c → Fits s (suc l) (push s c n)
 unfolding push
 push-fits s l c n f = extended-fits s l c n _ f
 
 -- of two choices, the one that a test takes
-pub either-fits : (left : ℕ) (b : Bool) (c d : Choice) → Fits left c → Fits left d → Fits left (elim b [ true ↦ c | false ↦ d ])
+pub either-fits : {s : Snapshot} (left : ℕ) (b : Bool) (c d : Choice) → Fits s left c → Fits s left d → Fits s left (elim b [ true ↦ c | false ↦ d ])
 either-fits left true c d f g = f
 either-fits left false c d f g = g
 
-first-none : (left : ℕ) → Fits left (firstFound [])
+first-none : {s : Snapshot} (left : ℕ) → Fits s left (firstFound [])
 unfolding firstFound
 first-none left = nothing-fits left
 
-first-fits : (left : ℕ) (c : Choice) (cs : List Choice) → Fits left c → Fits left (firstFound cs) → Fits left (firstFound (c ∷ cs))
+first-fits : {s : Snapshot} (left : ℕ) (c : Choice) (cs : List Choice) → Fits s left c → Fits s left (firstFound cs) → Fits s left (firstFound (c ∷ cs))
 unfolding firstFound
 first-fits left c cs f g = either-fits left (c .found) c (firstFound cs) f g
 
 module _ (s : Snapshot) (x : FindPathCtx) where
-  select-fits : (l : ℕ) (best c : Choice) (n : ℕ) → Fits (suc l) best → Fits l c → Fits (suc l) (trySelect s (x .prelude) best c n)
+  select-fits : (l : ℕ) (best c : Choice) (n : ℕ) → Fits s (suc l) best → Fits s l c → Fits s (suc l) (trySelect s (x .prelude) best c n)
   unfolding trySelect
   select-fits l best c n f g =
       either-fits (suc l) (best .found) _ _
       (either-fits (suc l) (better s (x .prelude) best c n) _ _ (extended-fits s l c n _ g) f) (push-fits s l c n g)
 
-  offer-fits : (l left : ℕ) (best c : Choice) (n : ℕ) → l < left → Fits left best → Fits l c → Fits left (offer s x best c n)
+  pub offer-fits : (l left : ℕ) (best c : Choice) (n : ℕ) → l < left → Fits s left best → Fits s l c → Fits s left (offer s x best c n)
   unfolding offer
   offer-fits l zero best c n h f g = absurd (omega arith)
   offer-fits l (suc k) best c n h f g =
       either-fits (suc k) (c .found) _ _ (select-fits k best c n f (more l k (omega arith) g)) f
 
-  unstably-fits : (l : ℕ) (c : Choice) → Fits l c → Fits l (unstably c)
+  unstably-fits : (l : ℕ) (c : Choice) → Fits s l c → Fits s l (unstably c)
   unfolding unstably
-  unstably-fits l c f = record { few = f .few; long = f .long; rest = f .rest }
+  unstably-fits l c f = record { few = f .few; long = f .long; rest = f .rest; text = f .text }
 
-  offer-import-fits : (l left : ℕ) (best c : Choice) (i : Import) → l < left → Fits left best → Fits l c → Fits left (offerImport s x best c i)
+  pub offer-import-fits : (l left : ℕ) (best c : Choice) (i : Import) → l < left → Fits s left best → Fits s l c → Fits s left (offerImport s x best c i)
   unfolding offerImport
   offer-import-fits l left best c i h f g =
       either-fits left (isUnstable i) _ _
@@ -109,38 +126,38 @@ module _ (s : Snapshot) (x : FindPathCtx) where
       (offer-fits l left best c (i .name) h f g)
 
   -- the rules without a search give a name at most
-  single-fits : (l kind : ℕ) (a : Answer) → Fits (suc l) (single s x kind a)
+  single-fits : (l kind : ℕ) (a : Answer) → Fits s (suc l) (single s x kind a)
   unfolding single
   single-fits l kind Nothing = nothing-fits (suc l)
   single-fits l kind (Name n) = new-fits s l kind n
 
-  scope-fits : (l : ℕ) (item : Item) → Fits (suc l) (scopeRule s x item)
+  pub scope-fits : (l : ℕ) (item : Item) → Fits s (suc l) (scopeRule s x item)
   unfolding scopeRule
   scope-fits l item =
       either-fits (suc l) (mayBeInScope s x) _ _ (single-fits l (prefixPathKind (x .prefix)) (findInScope s x item)) (nothing-fits (suc l))
 
-  prelude-fits : (l : ℕ) (item : Item) → Fits (suc l) (preludeRule s x item)
+  pub prelude-fits : (l : ℕ) (item : Item) → Fits s (suc l) (preludeRule s x item)
   unfolding preludeRule
   prelude-fits l item = single-fits l plainPath _
 
-  extern-fits : (l m : ℕ) (e : Option Extern) → Fits (suc l) (externName s x m e)
+  extern-fits : (l m : ℕ) (e : Option Extern) → Fits s (suc l) (externName s x m e)
   unfolding externName
   extern-fits l m none = nothing-fits (suc l)
   extern-fits l m (some e) = new-fits s l _ _
 
-  root-fits : (l : ℕ) (b : Bool) (m : ℕ) → Fits (suc l) (rootRule s x b m)
+  root-fits : (l : ℕ) (b : Bool) (m : ℕ) → Fits s (suc l) (rootRule s x b m)
   unfolding rootRule
   root-fits l b m =
       either-fits (suc l) (eqb (crateRoot s m) m) _ _
       (either-fits (suc l) (not b || eqb m (x .root)) _ _ (keyword-fits (suc l) cratePath) (extern-fits l m (externOf s (x .krate) m)))
       (nothing-fits (suc l))
 
-  keyword-of-fits : (l : ℕ) (k : KwKind) → Fits (suc l) (keywordOf s x k)
+  keyword-of-fits : (l : ℕ) (k : KwKind) → Fits s (suc l) (keywordOf s x k)
   unfolding keywordOf
   keyword-of-fits l NoKw = nothing-fits (suc l)
   keyword-of-fits l (Kw k) = either-fits (suc l) (not (eqb (x .prefix) byCrate) || eqb k cratePath) _ _ (keyword-fits (suc l) k) (nothing-fits (suc l))
 
-  rules-fit : (l : ℕ) (b : Bool) (m : ℕ) → Fits (suc l) (moduleRules s x b m)
+  pub rules-fit : (l : ℕ) (b : Bool) (m : ℕ) → Fits s (suc l) (moduleRules s x b m)
   unfolding moduleRules
   rules-fit l b m =
       first-fits (suc l) _ _ (root-fits l b m)
@@ -149,27 +166,27 @@ module _ (s : Snapshot) (x : FindPathCtx) where
       (first-fits (suc l) _ _ (prelude-fits l (Mod m)) (first-none (suc l)))))
 
   abbrev FitsLocal : LocalSearch → Type 0
-  FitsLocal rec = (left : ℕ) (ls : List Level) (m : ℕ) → Fits left (rec left ls m)
+  FitsLocal rec = (left : ℕ) (ls : List Level) (m : ℕ) → Fits s left (rec left ls m)
 
   module _ (rec : LocalSearch) (fits : FitsLocal rec) where
-    location-fits : (l : ℕ) (ls : List Level) (best : Choice) (m : ℕ) (a : Answer) → Fits (suc l) best → Fits (suc l) (location s x rec (suc l) ls best m a)
+    pub location-fits : (l : ℕ) (ls : List Level) (best : Choice) (m : ℕ) (a : Answer) → Fits s (suc l) best → Fits s (suc l) (location s x rec (suc l) ls best m a)
     unfolding location
     location-fits l ls best m Nothing f = f
     location-fits l ls best m (Name n) f =
         offer-fits (lengthLeft (suc l) best) (suc l) best _ n (length-falls (suc l) best (omega arith)) f (fits (lengthLeft (suc l) best) ls m)
 
-    each-fits : (l : ℕ) (ls : List Level) (item : Item) (done : List ℕ) (best : Choice) (ms : List ℕ) → Fits (suc l) best
-        → Fits (suc l) (eachLocation s x rec (suc l) ls item done best ms)
+    pub each-fits : (l : ℕ) (ls : List Level) (item : Item) (done : List ℕ) (best : Choice) (ms : List ℕ) → Fits s (suc l) best
+        → Fits s (suc l) (eachLocation s x rec (suc l) ls item done best ms)
     unfolding eachLocation
     each-fits l ls item done best [] f = f
     each-fits l ls item done best (m ∷ ms) f =
         each-fits l ls item (done ++ (m ∷ [])) _ ms (location-fits l _ best m (importableName s x item m) f)
 
-    pub local-fits : (l : ℕ) (ls : List Level) (item : Item) → Fits (suc l) (calculateBestPathLocal s x rec (suc l) ls item)
+    pub local-fits : (l : ℕ) (ls : List Level) (item : Item) → Fits s (suc l) (calculateBestPathLocal s x rec (suc l) ls item)
     unfolding calculateBestPathLocal
     local-fits l ls item = each-fits l ls item [] nothing _ (nothing-fits (suc l))
 
-    or-local-fits : (l : ℕ) (ls : List Level) (m : ℕ) (c : Choice) (b : Bool) → Fits (suc l) c → Fits (suc l) (orLocal s x rec (suc l) ls m c b)
+    or-local-fits : (l : ℕ) (ls : List Level) (m : ℕ) (c : Choice) (b : Bool) → Fits s (suc l) c → Fits s (suc l) (orLocal s x rec (suc l) ls m c b)
     unfolding orLocal
     or-local-fits l ls m c true f = f
     or-local-fits l ls m c false f = local-fits l ls (Mod m)
@@ -180,39 +197,44 @@ module _ (s : Snapshot) (x : FindPathCtx) where
   localTo-fits (suc d) zero ls m = nothing-fits 0
   localTo-fits (suc d) (suc l) ls m = or-local-fits (localTo s x d) (localTo-fits d) l ls m _ _ (rules-fit l false m)
 
-  best-local-fits : (l : ℕ) (item : Item) → Fits (suc l) (bestLocal s x (suc l) item)
-  unfolding bestLocal searchLocal
-  best-local-fits l item = local-fits (searchLocal s x) (λ left ls m. localTo-fits left left ls m) l [] item
+  -- what a local module search finds
+  pub search-local-fits : FitsLocal (searchLocal s x)
+  unfolding searchLocal
+  search-local-fits left ls m = localTo-fits left left ls m
+
+  pub best-local-fits : (l : ℕ) (item : Item) → Fits s (suc l) (bestLocal s x (suc l) item)
+  unfolding bestLocal
+  best-local-fits l item = local-fits (searchLocal s x) search-local-fits l [] item
 
 module _ (M : Type 0) (charge : M → Charged M) (s : Snapshot) where
   abbrev FitsSearch : Search M → Type 0
-  FitsSearch rec = (left m : ℕ) (t : M) → Fits left (rec left m t .choice)
+  FitsSearch rec = (left m : ℕ) (t : M) → Fits s left (rec left m t .choice)
 
   abbrev FitsInner : ℕ → Inner M → Type 0
-  FitsInner n inner = (item : Item) (t : M) → Fits n (inner item t .choice)
+  FitsInner n inner = (item : Item) (t : M) → Fits s n (inner item t .choice)
 
-  module _ (x : FindPathCtx) (here : ℕ → Item → Choice) (local : (l : ℕ) (item : Item) → Fits (suc l) (here (suc l) item))
+  module _ (x : FindPathCtx) (here : ℕ → Item → Choice) (local : (l : ℕ) (item : Item) → Fits s (suc l) (here (suc l) item))
       (rec : Search M) (fits : FitsSearch rec) where
-    import-fits : (l : ℕ) (o : Out M) (i : Import) (b : Bool) → Fits (suc l) (o .choice) → Fits (suc l) (findImport M charge s x here rec (suc l) o i b .choice)
+    pub import-fits : (l : ℕ) (o : Out M) (i : Import) (b : Bool) → Fits s (suc l) (o .choice) → Fits s (suc l) (findImport M charge s x here rec (suc l) o i b .choice)
     unfolding findImport
     import-fits l o i true f = f
     import-fits l o i false f =
         offer-import-fits s x (lengthLeft (suc l) (o .choice)) (suc l) (o .choice) _ i (length-falls (suc l) (o .choice) (omega arith)) f
         (fits (lengthLeft (suc l) (o .choice)) (i .container) (o .meter))
 
-    imports-fit : (l : ℕ) (o : Out M) (is : List Import) → Fits (suc l) (o .choice) → Fits (suc l) (findImports M charge s x here rec (suc l) o is .choice)
+    pub imports-fit : (l : ℕ) (o : Out M) (is : List Import) → Fits s (suc l) (o .choice) → Fits s (suc l) (findImports M charge s x here rec (suc l) o is .choice)
     unfolding findImports
     imports-fit l o [] f = f
     imports-fit l o (i ∷ is) f = imports-fit l _ is (import-fits l o i (isHidden i) f)
 
-    deps-fit : (l : ℕ) (item : Item) (o : Out M) (ds : List Dependency) → Fits (suc l) (o .choice)
-        → Fits (suc l) (findInDeps M charge s x here rec (suc l) item o ds .choice)
+    pub deps-fit : (l : ℕ) (item : Item) (o : Out M) (ds : List Dependency) → Fits s (suc l) (o .choice)
+        → Fits s (suc l) (findInDeps M charge s x here rec (suc l) item o ds .choice)
     unfolding findInDeps findInDep
     deps-fit l item o [] f = f
     deps-fit l item o (d ∷ ds) f = deps-fit l item _ ds (imports-fit l o (importInfoFor s (d .crate) item) f)
 
-    sysroot-fits : (l : ℕ) (item : Item) (o : Out M) (ls : List ℕ) (b : Bool) → Fits (suc l) (o .choice)
-        → Fits (suc l) (findInSysroot M charge s x here rec (suc l) item o ls b .choice)
+    pub sysroot-fits : (l : ℕ) (item : Item) (o : Out M) (ls : List ℕ) (b : Bool) → Fits s (suc l) (o .choice)
+        → Fits s (suc l) (findInSysroot M charge s x here rec (suc l) item o ls b .choice)
     unfolding findInSysroot
     sysroot-fits l item o [] true f = f
     sysroot-fits l item o [] false f = deps-fit l item o (sysrootFirst s (x .krate)) f
@@ -220,22 +242,22 @@ module _ (M : Type 0) (charge : M → Charged M) (s : Snapshot) where
     sysroot-fits l item o (n ∷ ls) false f =
         sysroot-fits l item _ ls _ (deps-fit l item o (oneOrNone (langOf s (x .krate) n)) f)
 
-    go-fits : (l : ℕ) (item : Item) (t : M) (a b : Bool) → Fits (suc l) (goOn M charge s x here rec (suc l) item t a b .choice)
+    go-fits : (l : ℕ) (item : Item) (t : M) (a b : Bool) → Fits s (suc l) (goOn M charge s x here rec (suc l) item t a b .choice)
     unfolding goOn
     go-fits l item t true b = local l item
     go-fits l item t false true = sysroot-fits l item _ (langs (x .nostd)) false (nothing-fits (suc l))
     go-fits l item t false false = deps-fit l item _ (dependenciesOf s (x .krate)) (nothing-fits (suc l))
 
-    after-fits : (l : ℕ) (item : Item) (c : Charged M) → Fits (suc l) (afterCharge M charge s x here rec (suc l) item c .choice)
+    after-fits : (l : ℕ) (item : Item) (c : Charged M) → Fits s (suc l) (afterCharge M charge s x here rec (suc l) item c .choice)
     unfolding afterCharge
     after-fits l item (go t) = go-fits l item t _ _
     after-fits l item (stop t) = nothing-fits (suc l)
 
-    best-fits : (l : ℕ) (item : Item) (t : M) → Fits (suc l) (calculateBestPath M charge s x here rec (suc l) item t .choice)
+    pub best-fits : (l : ℕ) (item : Item) (t : M) → Fits s (suc l) (calculateBestPath M charge s x here rec (suc l) item t .choice)
     unfolding calculateBestPath
     best-fits l item t = after-fits l item (charge t)
 
-    or-fits : (l m : ℕ) (t : M) (c : Choice) (b : Bool) → Fits (suc l) c → Fits (suc l) (orCharged M charge s x here rec (suc l) m t c b .choice)
+    or-fits : (l m : ℕ) (t : M) (c : Choice) (b : Bool) → Fits s (suc l) c → Fits s (suc l) (orCharged M charge s x here rec (suc l) m t c b .choice)
     unfolding orCharged
     or-fits l m t c true f = f
     or-fits l m t c false f = best-fits l (Mod m) t
@@ -247,31 +269,31 @@ module _ (M : Type 0) (charge : M → Charged M) (s : Snapshot) where
 
     -- a variant has one name more than its enum
     module _ (n : ℕ) (inner : Inner M) (within : FitsInner n inner) (wide : 14 ≤ n) where
-      item-best : (item : Item) (t : M) → Fits (suc n) (calculateBestPath M charge s x here rec pathLimit item t .choice)
+      item-best : (item : Item) (t : M) → Fits s (suc n) (calculateBestPath M charge s x here rec pathLimit item t .choice)
       item-best item t = more 15 (suc n) (omega arith) (best-fits 14 item t)
 
-      enum-fits : (item : Item) (name : ℕ) (o : Out M) (b : Bool) → Fits n (o .choice) → Fits (suc n) (afterEnum M charge s x here rec item name o b .choice)
+      enum-fits : (item : Item) (name : ℕ) (o : Out M) (b : Bool) → Fits s n (o .choice) → Fits s (suc n) (afterEnum M charge s x here rec item name o b .choice)
       unfolding afterEnum
       enum-fits item name o true f = push-fits s n (o .choice) name f
       enum-fits item name o false f = item-best item (o .meter)
 
-      via-fits : (item : Item) (t : M) (v : Option Definition) → Fits (suc n) (viaEnum M charge s x here rec inner item t v .choice)
+      via-fits : (item : Item) (t : M) (v : Option Definition) → Fits s (suc n) (viaEnum M charge s x here rec inner item t v .choice)
       unfolding viaEnum
       via-fits item t none = item-best item t
       via-fits item t (some v) = enum-fits item (v .second) _ _ (within (itemOf s types (v .first)) t)
 
-      named-fits : (item : Item) (t : M) (c : Choice) (b : Bool) → Fits (suc n) c → Fits (suc n) (orEnum M charge s x here rec inner item t c b .choice)
+      named-fits : (item : Item) (t : M) (c : Choice) (b : Bool) → Fits s (suc n) c → Fits s (suc n) (orEnum M charge s x here rec inner item t c b .choice)
       unfolding orEnum
       named-fits item t c true f = f
       named-fits item t c false f = via-fits item t (variantOf s item)
 
-      by-name-fits : (item : Item) (t : M) → Fits (suc n) (byName M charge s x here rec inner item t .choice)
+      by-name-fits : (item : Item) (t : M) → Fits s (suc n) (byName M charge s x here rec inner item t .choice)
       unfolding byName
       by-name-fits item t =
           named-fits item t _ _
           (first-fits (suc n) _ _ (scope-fits s x n item) (first-fits (suc n) _ _ (prelude-fits s x n item) (first-none (suc n))))
 
-      of-fits : (m : ℕ) (t : M) (b : Bool) → Fits (suc n) (ofModule M charge s x here rec inner m t b .choice)
+      of-fits : (m : ℕ) (t : M) (b : Bool) → Fits s (suc n) (ofModule M charge s x here rec inner m t b .choice)
       unfolding ofModule
       of-fits m t true = by-name-fits (Mod m) t
       of-fits m t false = more 15 (suc n) (omega arith) (fits pathLimit m t)
@@ -287,11 +309,11 @@ module _ (M : Type 0) (charge : M → Charged M) (s : Snapshot) where
   moduleTo-fits x (suc d) left m t =
       module-fits x (bestLocal s x) (best-local-fits s x) (moduleTo M charge s x d) (moduleTo-fits x d) left m t
 
-  module-search-fits : (x : FindPathCtx) → FitsSearch (searchModule M charge s x)
+  pub module-search-fits : (x : FindPathCtx) → FitsSearch (searchModule M charge s x)
   unfolding searchModule
   module-search-fits x left m t = moduleTo-fits x left left m t
 
-  itemTo-fits : (x : FindPathCtx) (d : ℕ) → FitsInner (14 + d) (itemTo M charge s x d)
+  pub itemTo-fits : (x : FindPathCtx) (d : ℕ) → FitsInner (14 + d) (itemTo M charge s x d)
   unfolding itemTo
   itemTo-fits x zero item t = nothing-fits 14
   itemTo-fits x (suc d) item t =
@@ -299,17 +321,17 @@ module _ (M : Type 0) (charge : M → Charged M) (s : Snapshot) where
       (item-fits x (bestLocal s x) (best-local-fits s x) (searchModule M charge s x) (module-search-fits x) (14 + d)
       (itemTo M charge s x d) (itemTo-fits x d) (omega arith) item t)
 
-  home-fits : (q : Query) (item : Item) (t : M) (h : ℕ) → Fits 16 (fromHome M charge s q item t h .choice)
+  home-fits : (q : Query) (item : Item) (t : M) (h : ℕ) → Fits s 16 (fromHome M charge s q item t h .choice)
   unfolding fromHome searchItem
   home-fits q item t zero = nothing-fits 16
   home-fits q item t (suc home) = itemTo-fits (contextOf s q home) 2 item t
 
-  start-fits : (q : Query) (t : M) (b : Bool) → Fits 16 (fromItem M charge s q t b .choice)
+  start-fits : (q : Query) (t : M) (b : Bool) → Fits s 16 (fromItem M charge s q t b .choice)
   unfolding fromItem
   start-fits q t true = new-fits s 15 plainPath _
   start-fits q t false = home-fits q _ t _
 
   -- Every path has at most sixteen names, and zeros past them.
-  pub search-fits : (q : Query) (t : M) → Fits 16 (findPath M charge s q t .choice)
+  pub search-fits : (q : Query) (t : M) → Fits s 16 (findPath M charge s q t .choice)
   unfolding findPath
   search-fits q t = start-fits q t _

@@ -10,3 +10,4 @@ pub mod Chains
 pub mod Lines
 pub mod Worked
 pub mod ChoiceLaws
+pub mod Tables

@@ -15,7 +15,7 @@ use Rattle.find_path.specs.Meters.{fromTank}
 use Rattle.find_path.specs.Charged.{Out}
 use Rattle.find_path.specs.Report.{callFault, questionFault, refused, flag, reported, searched, searchedFreely, answerUnless, reportBy, reportUnless, reportOf}
 use Rattle.find_path.specs.Fuels.{IsRefused, Tells, Bounded}
-use Rattle.find_path.proofs.Bounds.{Fits, nothing-fits, search-fits}
+use Rattle.find_path.proofs.Bounds.{zeros, search-fits}
 use Rattle.find_path.proofs.Fuels.{searched-tells}
 
 flag-small : (b : Bool) → flag b ≤ 1
@@ -50,8 +50,7 @@ kind-of words area q = by-call words (q .query) (q .fuel) _
 refused-bounded : (fuel n : ℕ) → Bounded fuel (refused n)
 unfolding refused
 refused-bounded fuel n =
-    let f = nothing-fits 16 in
-    record { few = f .few; long = f .long; rest = f .rest; charges = omega arith; flagged = omega arith }
+    record { few = omega arith; long = refl; rest = λ i _. zeros 16 i; charges = omega arith; flagged = omega arith }
 
 searched-bounded : (s : Snapshot) (q : Query) (fuel : ℕ) → Bounded fuel (reported (searched s q fuel))
 unfolding reported searched
