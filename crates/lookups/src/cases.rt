@@ -8,27 +8,13 @@ use crate::line::print_query;
 use crate::line::print_refusal;
 use crate::line::print_reply;
 use crate::query::answer;
-use crate::words::read_words;
 use accept::check::Checked;
 use accept::check::check;
+use case_text::text::next_stop;
+use case_text::words::read_words;
 use libc::STDOUT_FILENO;
 use snapshot::layout::Layout;
 use snapshot::words::word;
-
-// The place of the next byte of that value, or the length.
-fn next_stop(text: &[u8], from: usize, stop: u8) -> usize
-    requires { ⌜ from ≤ length (now text) ⌝ }
-    ensures { λ r. ⌜ (from ≤ r) × (r ≤ length (now (text .entry))) ⌝ }
-{
-    let mut i = from;
-    while i < text.len() {
-        if text[i] == stop {
-            return i;
-        }
-        i += 1;
-    }
-    i
-}
 
 // The query that begins at a place.
 fn run_query(words: &[u32], area: &[u32], l: Layout, queries: &[u32], k: usize)

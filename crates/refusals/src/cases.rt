@@ -3,22 +3,8 @@ ghost use mathlib.Core.Path.{_≡_};
 ghost use Prim.Native.Nat.{_≤_};
 ghost use lib.ListN.{length};
 use crate::line::print_case;
-use crate::words::read_words;
-
-// The place of the next byte of that value, or the length.
-fn next_stop(text: &[u8], from: usize, stop: u8) -> usize
-    requires { ⌜ from ≤ length (now text) ⌝ }
-    ensures { λ r. ⌜ (from ≤ r) × (r ≤ length (now (text .entry))) ⌝ }
-{
-    let mut i = from;
-    while i < text.len() {
-        if text[i] == stop {
-            return i;
-        }
-        i += 1;
-    }
-    i
-}
+use case_text::text::next_stop;
+use case_text::words::read_words;
 
 fn run_case(line: &[u8], words: &mut [u32], area: &mut [u32]) {
     let a = next_stop(line, 0, b' ');

@@ -5,7 +5,6 @@ ghost use lib.ListN.{length};
 mod area;
 mod cases;
 mod line;
-mod words;
 
 fn list() -> [u8; 65536]
     ensures { λ r. ⌜ 65536 ≡ length r ⌝ }

@@ -2,8 +2,8 @@ use Prim.Native.Nat.{_+_, _-_, _≤_}
 use mathlib.Core.Path.{_≡_, refl, _∙_}
 use lib.ListN.{length}
 use borrow.Author.Needs.{needs}
-use Rattle.refusals.proofs.words.read_words.Statement.{statement}
-use Rattle.refusals.proofs.words.read_words.Tie as tie
+use Rattle.case_text.proofs.words.read_words.Statement.{statement}
+use Rattle.case_text.proofs.words.read_words.Tie as tie
 
 abbrev Inv-loop : tie.InvT-loop
 Inv-loop text words₀ n₀ w₀ i₀ words n w i = length words ≡ length words₀

@@ -2,8 +2,8 @@ use Prim.Native.Nat.{_+_, _-_, _≤_}
 use mathlib.Core.Path.{_≡_, refl, _∙_}
 use lib.ListN.{length}
 use borrow.Author.Needs.{needs}
-use Rattle.refusals.proofs.words.copy_on.Statement.{statement}
-use Rattle.refusals.proofs.words.copy_on.Tie as tie
+use Rattle.case_text.proofs.words.copy_on.Statement.{statement}
+use Rattle.case_text.proofs.words.copy_on.Tie as tie
 
 abbrev Inv-loop : tie.InvT-loop
 Inv-loop words₀ from k n heads arguments back i₀ left₀ words i left = length words ≡ length words₀

@@ -2,8 +2,8 @@ use Prim.Native.Nat.{_+_, _-_, _≤_}
 use mathlib.Core.Path.{_≡_}
 use lib.ListN.{length}
 use borrow.Author.Needs.{needs}
-use Rattle.refusals.proofs.cases.next_stop.Statement.{statement}
-use Rattle.refusals.proofs.cases.next_stop.Tie as tie
+use Rattle.case_text.proofs.text.next_stop.Statement.{statement}
+use Rattle.case_text.proofs.text.next_stop.Tie as tie
 
 abbrev Inv-loop : tie.InvT-loop
 Inv-loop text from stop i₀ i = (from ≤ i) × (i ≤ length text)
