@@ -62,7 +62,7 @@ module _ (W A : List ℕ) (l : Layout) (r : Reads W A l) where
 
   pub extern-fits : (c m h : ℕ) → some (externAt W h) ≡ externOf (snapOf W A l) c m → ExternFits (countsIn l) (externAt W h)
   unfolding externOf
-  extern-fits c m h e = each-first _ _ (each-back (ranges .externs) Each.none) (sym e)
+  extern-fits c m h e = each-first {P = ExternFits (countsIn l)} _ _ (search (ranges .externs, each-back, Each.none)) (sym e)
 
   pub lang-fits : (c lang h : ℕ) → some (dependencyAt W h) ≡ langOf (snapOf W A l) c lang → DependencyFits (countsIn l) (dependencyAt W h)
   unfolding langOf dependenciesOf
