@@ -11,3 +11,4 @@ pub mod Lines
 pub mod Worked
 pub mod ChoiceLaws
 pub mod Tables
+pub mod RuleLaws

@@ -9,6 +9,8 @@ use Rattle.accept.specs.Post.{Reads}
 use Rattle.hir_def.specs.Items.{nsOf}
 use Rattle.hir_def.specs.Entries.{Known}
 use Rattle.hir_def.specs.declared.Item.{Item}
+use Rattle.hir_def.specs.declared.Answer.{Answer}
+use Rattle.hir_def.specs.declared.Answer.the-variants.{Name, Nothing}
 use Rattle.find_path.specs.declared.Choice.{Choice}
 use Rattle.find_path.specs.declared.Tank.{Tank}
 use Rattle.find_path.specs.declared.Found.{Found}
@@ -24,6 +26,11 @@ pub record Prepared (W A : List ℕ) (l : Layout) (x : FindPathCtx) : Type 0 whe
 -- an item that can be asked for
 abbrev pub Asked : Layout → Item → Type 0
 Asked l item = Known l item × (nsOf item ≤ 2)
+
+-- a name that is answered is there
+abbrev pub Named : Layout → Answer → Type 0
+Named l (Name n) = n < l .names
+Named l Nothing = Unit {0}
 
 -- A local search answers the choice, and the tables stay.
 pub record Chosen (A₀ : List ℕ) (c : Choice) (A : List ℕ) (r : Choice) : Type 0 where

@@ -1,5 +1,6 @@
 //! What the search takes and answers.
 pub mod choices;
+pub mod rules;
 
 // What is set once for a question (`FindPathCtx`): `nostd` is prefer_no_std, `declared` ignore_local_imports, `std` is_std_item.
 pub struct FindPathCtx {
