@@ -12,3 +12,4 @@ pub mod Worked
 pub mod ChoiceLaws
 pub mod Tables
 pub mod RuleLaws
+pub mod OfferLaws

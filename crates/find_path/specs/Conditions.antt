@@ -13,8 +13,11 @@ use Rattle.hir_def.specs.declared.Answer.{Answer}
 use Rattle.hir_def.specs.declared.Answer.the-variants.{Name, Nothing}
 use Rattle.find_path.specs.declared.Choice.{Choice}
 use Rattle.find_path.specs.declared.Tank.{Tank}
+use Rattle.find_path.specs.declared.Drawn.{Drawn}
+use Rattle.find_path.specs.declared.Drawn.the-variants.{Go, Stop}
 use Rattle.find_path.specs.declared.Found.{Found}
 use Rattle.find_path.specs.declared.FindPathCtx.{FindPathCtx}
+use Rattle.find_path.specs.Meters.{Charged, go, stop}
 use Rattle.find_path.specs.Charged.{Out, foundOf}
 
 -- accepted words with their tables, a viewing module that is there, and the whole work area
@@ -31,6 +34,11 @@ Asked l item = Known l item × (nsOf item ≤ 2)
 abbrev pub Named : Layout → Answer → Type 0
 Named l (Name n) = n < l .names
 Named l Nothing = Unit {0}
+
+-- what the code's charge answers, as the meter's
+unfoldable pub chargedBy : Drawn → Charged Tank
+chargedBy (Go t) = go t
+chargedBy (Stop t) = stop t
 
 -- A local search answers the choice, and the tables stay.
 pub record Chosen (A₀ : List ℕ) (c : Choice) (A : List ℕ) (r : Choice) : Type 0 where

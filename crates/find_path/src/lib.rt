@@ -1,5 +1,7 @@
 //! What the search takes and answers.
 pub mod choices;
+pub mod context;
+pub mod offers;
 pub mod rules;
 
 // What is set once for a question (`FindPathCtx`): `nostd` is prefer_no_std, `declared` ignore_local_imports, `std` is_std_item.
@@ -39,6 +41,12 @@ pub struct Tank {
     pub fuel: usize,
     pub spent: usize,
     pub empty: bool,
+}
+
+// What a charge leaves: it goes on, or stops.
+pub enum Drawn {
+    Go(Tank),
+    Stop(Tank),
 }
 
 // What a search answers: its choice, and the tank that it leaves.
