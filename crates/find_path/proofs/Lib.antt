@@ -9,7 +9,5 @@ pub mod Walks
 pub mod Chains
 pub mod Lines
 pub mod Worked
-pub mod ChoiceLaws
+pub mod Names
 pub mod Tables
-pub mod RuleLaws
-pub mod OfferLaws

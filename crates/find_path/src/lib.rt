@@ -1,8 +1,4 @@
 //! What the search takes and answers.
-pub mod choices;
-pub mod context;
-pub mod offers;
-pub mod rules;
 
 // What is set once for a question (`FindPathCtx`): `nostd` is prefer_no_std, `declared` ignore_local_imports, `std` is_std_item.
 pub struct FindPathCtx {

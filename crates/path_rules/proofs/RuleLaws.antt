@@ -1,0 +1,201 @@
+-- Laws of the rules, for the code.
+use Prim.Native.Nat.{ℕ, zero, suc, _+_, _≤_, _<_}
+use mathlib.Core.Path.{_≡_, refl, sym, _∙_, ap, ap₂, subst}
+use mathlib.Core.List.{List, [], _∷_}
+use mathlib.Core.Bool.{Bool, true, false, _&&_, _||_, not, true≢false, false≢true}
+use mathlib.Core.Option.{Option, none, some}
+use native.Mathlib.Omega.{arith}
+use lib.Dec.{eqb}
+use lib.ListN.{getD}
+use borrow.Author.Tests.{eq-eqb, ne-eqb}
+use Rattle.snapshot.specs.Records.{Snapshot, Scope, Prelude, Extern}
+use Rattle.snapshot.specs.Layouts.{snapOf}
+use Rattle.snapshot.specs.declared.layout.Layout.{Layout}
+use Rattle.snapshot.proofs.Laws.{past}
+use Rattle.accept.specs.Stands.{countsIn}
+use Rattle.accept.specs.Post.{Reads}
+use Rattle.accept.specs.Valid.{ScopeFits}
+use Rattle.accept.proofs.Valid.{accepted-valid}
+use Rattle.accept.proofs.Reading.{ranges-read}
+use Rattle.hir_def.specs.Finds.{firstSome}
+use Rattle.hir_def.specs.Items.{mapNo, crateOf, inBlock, parentOf, rootOf, crateRoot, nsOf}
+use Rattle.hir_def.specs.Visibility.{sees}
+use Rattle.hir_def.specs.ItemScope.{nameOf, namesOf}
+use Rattle.hir_def.specs.Nameres.{scopeEntry, entryNamed, occupied, preludeOf, externOf}
+use Rattle.hir_def.specs.declared.Item.{Item}
+use Rattle.hir_def.specs.declared.Item.the-variants.{Mod}
+use Rattle.hir_def.specs.declared.Answer.{Answer}
+use Rattle.hir_def.specs.declared.Answer.the-variants.{Name, Nothing}
+use Rattle.hir_def.proofs.Found.{each-first}
+use Rattle.find_path.specs.declared.Choice.{Choice}
+use Rattle.find_path.specs.declared.KwKind.{KwKind}
+use Rattle.find_path.specs.declared.KwKind.the-variants.{Kw, NoKw}
+use Rattle.find_path.specs.declared.FindPathCtx.{FindPathCtx}
+use Rattle.find_path.specs.Choices.{nothing, keyword, choiceNew}
+use Rattle.find_path.specs.Conditions.{Named}
+use Rattle.find_path.specs.Rules.{prefixPathKind, firstFound, entryName, single, findInScope, mayBeInScope, scopeRule, sameHere, preludeEntry, inPrelude, findInPrelude, preludeRule, externKind, externName, rootRule, parentKind, isKwKindRelativeToFrom, keywordOf, moduleRules}
+
+-- the branch of a test
+module _ {A : Type 0} (a b : A) where
+  pub taken-true : (t : Bool) → t ≡ true → a ≡ elim t [ true ↦ a | false ↦ b ]
+  taken-true true e = refl
+  taken-true false e = absurd (false≢true e)
+
+  pub taken-false : (t : Bool) → t ≡ false → b ≡ elim t [ true ↦ a | false ↦ b ]
+  taken-false true e = absurd (true≢false e)
+  taken-false false e = refl
+
+pub prefix-past : (p : ℕ) → 3 ≤ p → 0 ≡ prefixPathKind p
+unfolding prefixPathKind
+prefix-past p h = past (1 ∷ 0 ∷ 3 ∷ []) p h
+
+-- the first of the choices
+module _ {c d : Choice} (cs : List Choice) (e : c ≡ d) where
+  pub first-hit : c .found ≡ true → c ≡ firstFound (d ∷ cs)
+  unfolding firstFound
+  first-hit t = taken-true c (firstFound cs) (c .found) t ∙ ap (λ z. firstFound (z ∷ cs)) e
+
+  pub first-miss : c .found ≡ false → firstFound cs ≡ firstFound (d ∷ cs)
+  unfolding firstFound
+  first-miss t = taken-false c (firstFound cs) (c .found) t ∙ ap (λ z. firstFound (z ∷ cs)) e
+
+pub single-last : (s : Snapshot) (x : FindPathCtx) (k : ℕ) (a : Answer) → single s x k a ≡ firstFound (single s x k a ∷ [])
+unfolding single firstFound choiceNew
+single-last s x k Nothing = refl
+single-last s x k (Name n) = refl
+
+-- what is found in one of several places
+some-first : {A B : Type 0} {P : B → Type 0} (f : A → Option B) → ((x : A) (y : B) → f x ≡ some y → P y) → (xs : List A) (y : B) → firstSome f xs ≡ some y → P y
+unfolding firstSome
+some-first f g [] y e = let z : _≡_ {A = ℕ} 0 1 = cc in absurd (omega arith)
+some-first {A} {B} {P} f g (x ∷ xs) y e = by (f x) refl (λ k. some-first f g xs y k) e
+  where
+    by : (o : Option B) → f x ≡ o → (firstSome f xs ≡ some y → P y) → elim o [ some z ↦ some z | none ↦ firstSome f xs ] ≡ some y → P y
+    by none h rec k = rec k
+    by (some z) h rec k = g x y (h ∙ k)
+
+module _ (W A : List ℕ) (l : Layout) (r : Reads W A l) where
+  scope-entry-fits : (m : ℕ) (item : Item) (b : Bool) (y : Scope) → scopeEntry (snapOf W A l) m item b ≡ some y → ScopeFits (countsIn l) y
+  unfolding scopeEntry namesOf
+  scope-entry-fits m item b y e =
+      some-first _ (λ a z h. each-first _ z (ranges-read W A l (accepted-valid W (snapOf W A l) (r .same)) .scopes) h) _ y e
+
+  entry-below : (o : Option Scope) → ((y : Scope) → o ≡ some y → ScopeFits (countsIn l) y) → Named l (entryName o)
+  unfolding entryName
+  entry-below none f = tt
+  entry-below (some y) f = f y refl .name
+
+  pub scope-below : (x : FindPathCtx) (item : Item) {a : Answer} → a ≡ findInScope (snapOf W A l) x item → Named l a
+  unfolding findInScope
+  scope-below x item e =
+      subst (Named l) (sym e) (entry-below (scopeEntry (snapOf W A l) (x .from) item (x .declared)) (scope-entry-fits (x .from) item (x .declared)))
+
+module _ (s : Snapshot) (x : FindPathCtx) where
+  pub scope-out : (item : Item) → mayBeInScope s x ≡ false → nothing ≡ scopeRule s x item
+  unfolding scopeRule
+  scope-out item e = taken-false _ nothing (mayBeInScope s x) e
+
+  pub scope-in : (item : Item) {k : ℕ} {a : Answer} → k ≡ prefixPathKind (x .prefix) → a ≡ findInScope s x item → mayBeInScope s x ≡ true
+      → single s x k a ≡ scopeRule s x item
+  unfolding scopeRule
+  scope-in item e f t = ap₂ (single s x) e f ∙ taken-true _ nothing (mayBeInScope s x) t
+
+  -- a prelude's entry
+  module _ (item : Item) (e : Scope) {n k : ℕ} {o : Option Scope} {a b : Bool} (en : n ≡ e .name) (ek : k ≡ nsOf item)
+      (ea : a ≡ sees s (x .from) e) (eo : o ≡ entryNamed s (x .from) k n) (eb : b ≡ sameHere s x item o) where
+    tested : a && b ≡ (sees s (x .from) e && sameHere s x item (entryNamed s (x .from) (nsOf item) (e .name)))
+    tested = cc
+
+    pub entry-taken : a && b ≡ true → Name n ≡ preludeEntry s x item (some e)
+    unfolding preludeEntry
+    entry-taken t = ap Name en ∙ taken-true _ _ _ (sym tested ∙ t)
+
+    pub entry-left : a && b ≡ false → Nothing ≡ preludeEntry s x item (some e)
+    unfolding preludeEntry
+    entry-left t = taken-false _ _ _ (sym tested ∙ t)
+
+  pub prelude-none : (item : Item) {k : ℕ} → k ≡ mapNo s (x .from) → none ≡ preludeOf s k → Nothing ≡ findInPrelude s x item
+  unfolding findInPrelude inPrelude
+  prelude-none item e f = ap (inPrelude s x item) (f ∙ ap (preludeOf s) e)
+
+  pub prelude-some : (item : Item) (p : Prelude) {k t : ℕ} {o : Option Scope} → k ≡ mapNo s (x .from) → some p ≡ preludeOf s k → t ≡ p .target
+      → o ≡ nameOf s t item → preludeEntry s x item o ≡ findInPrelude s x item
+  unfolding findInPrelude inPrelude
+  prelude-some item p e f g h =
+      ap (preludeEntry s x item) (h ∙ ap (λ t. nameOf s t item) g) ∙ ap (inPrelude s x item) (f ∙ ap (preludeOf s) e)
+
+  -- an extern's name
+  pub extern-some : (m : ℕ) (e : Extern) {n : ℕ} {o : Bool} (t : Bool) → n ≡ e .name → o ≡ occupied s (x .from) m n → o || x .absolute ≡ t
+      → choiceNew s (externKind s x t) n ≡ externName s x m (some e)
+  unfolding externName
+  extern-some m e t en eo et =
+      ap₂ (λ k n. choiceNew s (externKind s x k) n) (sym et ∙ ap (λ o. o || x .absolute) (eo ∙ ap (occupied s (x .from) m) en)) en
+
+  module _ (b : Bool) (m : ℕ) {r : ℕ} (er : r ≡ crateRoot s m) where
+    pub root-other : (r ≡ m → ⊥) → nothing ≡ rootRule s x b m
+    unfolding rootRule
+    root-other h = taken-false _ nothing (eqb (crateRoot s m) m) (ne-eqb _ m (λ e. h (er ∙ e)))
+
+    at-root : r ≡ m → eqb (crateRoot s m) m ≡ true
+    at-root e = eq-eqb _ m (sym er ∙ e)
+
+    pub root-crate : r ≡ m → not b || eqb m (x .root) ≡ true → keyword 3 ≡ rootRule s x b m
+    unfolding rootRule
+    root-crate e t = taken-true (keyword 3) _ (not b || eqb m (x .root)) t ∙ taken-true _ nothing (eqb (crateRoot s m) m) (at-root e)
+
+    pub root-extern : r ≡ m → not b || eqb m (x .root) ≡ false → {o : Option Extern} → o ≡ externOf s (x .krate) m → externName s x m o ≡ rootRule s x b m
+    unfolding rootRule
+    root-extern e t eo =
+        ap (externName s x m) eo ∙ taken-false (keyword 3) _ (not b || eqb m (x .root)) t ∙ taken-true _ nothing (eqb (crateRoot s m) m) (at-root e)
+
+  pub parent-no : (m p : ℕ) → (p ≡ m + 1 → ⊥) → NoKw ≡ parentKind s x m p
+  unfolding parentKind
+  parent-no m zero h = refl
+  parent-no m (suc q) h = taken-false _ NoKw (eqb m q) (ne-eqb m q (λ e. h (omega arith)))
+
+  module _ (m : ℕ) {k r : ℕ} (ek : k ≡ mapNo s (x .from)) (er : r ≡ rootOf s k) where
+    rooted : r ≡ rootOf s (mapNo s (x .from))
+    rooted = er ∙ ap (rootOf s) ek
+
+    pub parent-crate : (p : ℕ) → p ≡ m + 1 → m ≡ r → Kw 3 ≡ parentKind s x m p
+    unfolding parentKind
+    parent-crate zero e f = absurd (omega arith)
+    parent-crate (suc q) e f =
+        let same : m ≡ q = omega arith in
+        taken-true (Kw 3) (Kw 2) _ (eq-eqb q _ (sym same ∙ f ∙ rooted)) ∙ taken-true _ NoKw (eqb m q) (eq-eqb m q same)
+
+    pub parent-super : (p : ℕ) → p ≡ m + 1 → (m ≡ r → ⊥) → Kw 2 ≡ parentKind s x m p
+    unfolding parentKind
+    parent-super zero e f = absurd (omega arith)
+    parent-super (suc q) e f =
+        let same : m ≡ q = omega arith in
+        taken-false (Kw 3) (Kw 2) _ (ne-eqb q _ (λ z. f (same ∙ z ∙ sym rooted))) ∙ taken-true _ NoKw (eqb m q) (eq-eqb m q same)
+
+  module _ (m : ℕ) {c d : ℕ} {a b : Bool} (ec : c ≡ crateOf s m) (ed : d ≡ crateOf s (x .from)) (ea : a ≡ inBlock s m) (eb : b ≡ inBlock s (x .from)) where
+    apart : not (eqb c d) || (a || b) ≡ (not (eqb (crateOf s m) (crateOf s (x .from))) || (inBlock s m || inBlock s (x .from)))
+    apart = cc
+
+    pub kw-none : not (eqb c d) || (a || b) ≡ true → NoKw ≡ isKwKindRelativeToFrom s x m
+    unfolding isKwKindRelativeToFrom
+    kw-none t = taken-true NoKw _ _ (sym apart ∙ t)
+
+    pub kw-self : not (eqb c d) || (a || b) ≡ false → m ≡ x .from → Kw 1 ≡ isKwKindRelativeToFrom s x m
+    unfolding isKwKindRelativeToFrom
+    kw-self t e = taken-true (Kw 1) _ (eqb m (x .from)) (eq-eqb m _ e) ∙ taken-false NoKw _ _ (sym apart ∙ t)
+
+    pub kw-parent : not (eqb c d) || (a || b) ≡ false → (m ≡ x .from → ⊥) → parentKind s x m (parentOf s (x .from)) ≡ isKwKindRelativeToFrom s x m
+    unfolding isKwKindRelativeToFrom
+    kw-parent t e = taken-false (Kw 1) _ (eqb m (x .from)) (ne-eqb m _ e) ∙ taken-false NoKw _ _ (sym apart ∙ t)
+
+  pub keyword-none : {k : KwKind} → k ≡ NoKw → nothing ≡ keywordOf s x k
+  unfolding keywordOf
+  keyword-none e = sym (ap (keywordOf s x) e)
+
+  module _ (n : ℕ) {k : KwKind} (e : k ≡ Kw n) where
+    pub keyword-taken : not (eqb (x .prefix) 2) || eqb n 3 ≡ true → keyword n ≡ keywordOf s x k
+    unfolding keywordOf
+    keyword-taken t = taken-true (keyword n) nothing _ t ∙ sym (ap (keywordOf s x) e)
+
+    pub keyword-left : not (eqb (x .prefix) 2) || eqb n 3 ≡ false → nothing ≡ keywordOf s x k
+    unfolding keywordOf
+    keyword-left t = taken-false (keyword n) nothing _ t ∙ sym (ap (keywordOf s x) e)

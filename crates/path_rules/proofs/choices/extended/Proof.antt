@@ -1,0 +1,32 @@
+use borrow.Author.Needs.{needs}
+use Prim.Native.Nat.{_+_}
+use mathlib.Core.Path.{_≡_, refl, sym, ap, _∙_}
+use denote.Ref.{now}
+use Rattle.snapshot.specs.Layouts.{snapOf}
+use Rattle.path_rules.proofs.ChoiceLaws.{extended-same}
+use Rattle.path_rules.proofs.choices.extended.Statement.{statement}
+use Rattle.path_rules.proofs.choices.extended.Tie as tie
+
+mul-names : tie.Need-mul-names
+mul-names c = search needs
+
+array-write-names : tie.Need-array-write-names
+array-write-names c = search needs
+
+name-len-requires : tie.Need-name-len-requires
+name-len-requires c κs = search needs
+
+add-text : tie.Need-add-text
+add-text c = search needs
+
+add-t10 : tie.Need-add-t10
+add-t10 c = search needs
+
+returns : tie.Need-returns
+returns c =
+    let s = c .before .before .before .before .before in
+    extended-same (snapOf (now (s .args .words)) (now (s .args .area)) (s .args .l)) (s .args .c) (s .args .n .0) (s .args .flag) (ap (λ x. s .args .c .text + x) (c .before .name-len .ensures .0))
+
+pub extended-spec : {M : Type 1} → statement M
+extended-spec =
+    tie.close (tie.spec mul-names array-write-names name-len-requires add-text add-t10 returns)

@@ -1,0 +1,14 @@
+use borrow.Author.Needs.{needs}
+use mathlib.Core.Path.{_≡_, refl, sym, ap, _∙_}
+use Rattle.path_rules.proofs.ChoiceLaws.{keyword-same}
+use Rattle.path_rules.proofs.choices.keyword.Statement.{statement}
+use Rattle.path_rules.proofs.choices.keyword.Tie as tie
+
+path-kind-len-requires : tie.Need-path-kind-len-requires
+path-kind-len-requires c κs = search needs
+
+returns : tie.Need-returns
+returns c = keyword-same (c .before .args .kind) (c .path-kind-len .ensures .0)
+
+pub keyword-spec : {M : Type 1} → statement M
+keyword-spec = tie.close (tie.spec path-kind-len-requires returns)

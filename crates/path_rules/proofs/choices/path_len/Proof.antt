@@ -1,0 +1,33 @@
+use borrow.Author.Needs.{needs}
+use mathlib.Core.Path.{_≡_, refl, sym, ap, _∙_}
+use native.Mathlib.Omega.{arith}
+use Rattle.find_path.specs.Choices.{pathLen}
+use Rattle.path_rules.proofs.ChoiceLaws.{len-past, kind-names}
+use Rattle.path_rules.proofs.choices.path_len.Statement.{statement}
+use Rattle.path_rules.proofs.choices.path_len.Tie as tie
+
+returns : tie.Need-returns
+returns c = (len-past (c .before .args .c) (c .if1 .taken), omega arith)
+
+mul-result : tie.Need-mul-result
+mul-result c = search needs
+
+array-read-result : tie.Need-array-read-result
+array-read-result c = search needs
+
+add-result : tie.Need-add-result
+add-result c =
+    let s = c .before .before in
+    let h = kind-names (s .args .c .kind) in
+    let g = s .pre in
+    omega arith
+
+returns-2 : tie.Need-returns-2
+unfolding pathLen
+returns-2 c =
+    let s = c .before .before in
+    let h = kind-names (s .args .c .kind) in
+    (refl, omega arith)
+
+pub path-len-spec : {M : Type 1} → statement M
+path-len-spec = tie.close (tie.spec returns mul-result array-read-result add-result returns-2)

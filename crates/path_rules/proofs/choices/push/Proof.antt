@@ -1,0 +1,24 @@
+use borrow.Author.Needs.{needs}
+use mathlib.Core.Path.{_≡_, refl, sym, ap, _∙_}
+use denote.Ref.{now}
+use mathlib.Core.Bool.{_||_}
+use Rattle.snapshot.specs.Layouts.{snapOf}
+use Rattle.find_path.specs.Choices.{extended, push}
+use Rattle.path_rules.proofs.choices.push.Statement.{statement}
+use Rattle.path_rules.proofs.choices.push.Tie as tie
+
+is-prelude-requires : tie.Need-is-prelude-requires
+is-prelude-requires c κs = search needs
+
+extended-requires : tie.Need-extended-requires
+extended-requires c κs = search needs
+
+returns : tie.Need-returns
+unfolding push
+returns c =
+    let s = c .before .before .before .before .before in
+    let n = snapOf (now (s .args .words)) (now (s .args .area)) (s .args .l) in
+    c .extended .ensures ∙ ap (λ b. extended n (s .args .c) (s .args .n .0) (s .args .c .prelude || b)) (c .before .before .is-prelude .ensures)
+
+pub push-spec : {M : Type 1} → statement M
+push-spec = tie.close (tie.spec is-prelude-requires extended-requires returns)

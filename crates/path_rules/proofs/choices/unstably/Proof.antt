@@ -1,0 +1,12 @@
+use borrow.Author.Needs.{needs}
+use mathlib.Core.Path.{_≡_, refl, sym, ap, _∙_}
+use Rattle.find_path.specs.Choices.{unstably}
+use Rattle.path_rules.proofs.choices.unstably.Statement.{statement}
+use Rattle.path_rules.proofs.choices.unstably.Tie as tie
+
+returns : tie.Need-returns
+unfolding unstably
+returns c = refl
+
+pub unstably-spec : {M : Type 1} → statement M
+unstably-spec = tie.close (tie.spec returns)

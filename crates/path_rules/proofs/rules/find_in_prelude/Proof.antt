@@ -1,0 +1,67 @@
+use borrow.Author.Needs.{needs}
+use mathlib.Core.Path.{sym, ap, _∙_}
+use denote.Ref.{now}
+use Rattle.snapshot.specs.Records.{preludeAt, scopeAt}
+use Rattle.snapshot.specs.Layouts.{snapOf}
+use Rattle.hir_def.specs.Entries.{entryOf}
+use Rattle.hir_def.proofs.Fits.{name-fits}
+use Rattle.path_rules.proofs.RuleLaws.{prelude-none, prelude-some}
+use Rattle.path_rules.proofs.rules.find_in_prelude.Statement.{statement}
+use Rattle.path_rules.proofs.rules.find_in_prelude.Tie as tie
+
+map-requires : tie.Need-map-requires
+map-requires c κs = search needs
+
+prelude-of-requires : tie.Need-prelude-of-requires
+prelude-of-requires c κs = search needs
+
+enum-known-p : tie.Need-enum-known-p
+enum-known-p c = search needs
+
+enum-told : tie.Need-enum-told
+enum-told c = search needs
+
+returns : tie.Need-returns
+returns c =
+    let s = c .before .before .before .before .before .before in
+    let n = snapOf (now (s .args .words)) (now (s .args .area)) (s .args .l) in
+    let e = sym (ap (entryOf preludeAt (now (s .args .words))) (c .enum-told .given .1)) ∙ c .before .before .prelude-of .ensures (now (s .args .area)) in
+    (prelude-none n (s .args .x) (s .args .item) (c .before .before .before .map .ensures) e, tt)
+
+prelude-target-requires : tie.Need-prelude-target-requires
+prelude-target-requires c κs = search needs
+
+name-of-requires : tie.Need-name-of-requires
+name-of-requires c κs = search needs
+
+prelude-entry-requires : tie.Need-prelude-entry-requires
+prelude-entry-requires c κs =
+    let s = c .before .before .before .before .before .before .before .before .before in
+    let W = now (s .args .words) in
+    let A = now (s .args .area) in
+    (s .pre .0, s .pre .1, λ h e. name-fits W A (s .args .l) (s .pre .0) (c .before .prelude-target .result .0) h (s .args .item) (sym (ap (entryOf scopeAt W) e) ∙ c .name-of .ensures A))
+
+returns-2 : tie.Need-returns-2
+returns-2 c =
+    let s = c .before .before .before .before .before .before .before .before .before .before in
+    let n = snapOf (now (s .args .words)) (now (s .args .area)) (s .args .l) in
+    let W = now (s .args .words) in
+    let A = now (s .args .area) in
+    let g = c .before .before .before .before .p .given in
+    let e = sym (ap (entryOf preludeAt W) (g .1)) ∙ c .before .before .before .before .before .before .prelude-of .ensures A in
+    let k = prelude-some n (s .args .x) (s .args .item) (preludeAt W (g .0 .0)) (c .before .before .before .before .before .before .before .map .ensures) e (c .before .before .prelude-target .ensures) (c .before .name-of .ensures A) in
+    (c .prelude-entry .ensures .0 ∙ k, c .prelude-entry .ensures .1)
+
+pub find-in-prelude-spec : {M : Type 1} → statement M
+find-in-prelude-spec =
+    tie.close
+    (tie.spec
+    map-requires
+    prelude-of-requires
+    enum-known-p
+    enum-told
+    returns
+    prelude-target-requires
+    name-of-requires
+    prelude-entry-requires
+    returns-2)

@@ -1,0 +1,29 @@
+use borrow.Author.Needs.{needs}
+use mathlib.Core.Path.{ap₂, _∙_}
+use denote.Ref.{now}
+use Rattle.snapshot.specs.Layouts.{snapOf}
+use Rattle.hir_def.specs.Visibility.{isVisibleFrom}
+use Rattle.path_rules.proofs.rules.sees.Statement.{statement}
+use Rattle.path_rules.proofs.rules.sees.Tie as tie
+
+scope-visibility-requires : tie.Need-scope-visibility-requires
+scope-visibility-requires c κs = search needs
+
+scope-number-requires : tie.Need-scope-number-requires
+scope-number-requires c κs = search needs
+
+is-visible-from-requires : tie.Need-is-visible-from-requires
+is-visible-from-requires c κs =
+    let s = c .before .before .before .before in
+    (s .pre .0, s .pre .1, rw (c .before .scope-visibility .ensures, c .scope-number .ensures) (s .pre .2))
+
+returns : tie.Need-returns
+returns c =
+    let s = c .before .before .before .before .before in
+    let n = snapOf (now (s .args .words)) (now (s .args .area)) (s .args .l) in
+    c .is-visible-from .ensures ∙ ap₂ (λ k m. isVisibleFrom n k m (s .args .x .from)) (c .before .before .scope-visibility .ensures) (c .before .scope-number .ensures)
+
+pub sees-spec : {M : Type 1} → statement M
+sees-spec =
+    tie.close
+    (tie.spec scope-visibility-requires scope-number-requires is-visible-from-requires returns)

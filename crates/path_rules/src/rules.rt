@@ -1,0 +1,335 @@
+//! The rules that answer without a search.
+ghost use mathlib.Core.Path.{_≡_};
+ghost use mathlib.Core.List.{List};
+ghost use Prim.Native.Nat.{ℕ, _≤_, _<_, _^_};
+ghost use Rattle.snapshot.specs.Records.{Snapshot, scopeAt, externAt};
+ghost use Rattle.snapshot.specs.Layouts.{wordCount, snapOf};
+ghost use Rattle.accept.specs.Stands.{countsIn};
+ghost use Rattle.accept.specs.Post.{Reads};
+ghost use Rattle.accept.specs.Valid.{ScopeFits};
+ghost use Rattle.hir_def.specs.Items.{parentOf};
+ghost use Rattle.hir_def.specs.Visibility.{sees as seesOf};
+ghost use Rattle.hir_def.specs.Entries.{entryOf};
+ghost use Rattle.hir_def.specs.declared.Entry.the-variants.{At};
+ghost use Rattle.find_path.specs.declared.FindPathCtx.{FindPathCtx};
+ghost use Rattle.find_path.specs.Conditions.{Named};
+ghost use Rattle.find_path.specs.Rules.{prefixPathKind, entryName, single as singleOf, findInScope, mayBeInScope, scopeRule, sameHere, preludeEntry, findInPrelude, preludeRule, externName, rootRule, parentKind, isKwKindRelativeToFrom, keywordOf, moduleRules};
+use crate::choices::choice_new;
+use crate::choices::keyword;
+use crate::choices::nothing;
+use find_path::Choice;
+use find_path::FindPathCtx;
+use find_path::KwKind;
+use hir_def::Answer;
+use hir_def::Entry;
+use hir_def::Item;
+use hir_def::crate_graph::extern_of;
+use hir_def::crate_graph::prelude_of;
+use hir_def::item_scope::name_of;
+use hir_def::items::item_of;
+use hir_def::items::ns_of;
+use hir_def::items::same_item;
+use hir_def::modules::crate_root;
+use hir_def::modules::in_block;
+use hir_def::modules::krate;
+use hir_def::modules::map;
+use hir_def::modules::parent;
+use hir_def::modules::root;
+use hir_def::nameres::entry_named;
+use hir_def::nameres::occupied;
+use hir_def::nameres::scope_entry;
+use hir_def::visibility::is_visible_from;
+use snapshot::ids::Crate;
+use snapshot::ids::ModuleId;
+use snapshot::ids::Name;
+use snapshot::layout::Layout;
+use snapshot::record::extern_name;
+use snapshot::record::prelude_target;
+use snapshot::record::scope_definition;
+use snapshot::record::scope_name;
+use snapshot::record::scope_ns;
+use snapshot::record::scope_number;
+use snapshot::record::scope_visibility;
+
+/// Path kinds.
+pub struct PathKind(pub usize);
+
+impl PathKind {
+    pub const PLAIN: usize = 0;
+
+    pub const SELF: usize = 1;
+
+    pub const SUPER: usize = 2;
+
+    pub const CRATE: usize = 3;
+
+    pub const ABSOLUTE: usize = 4;
+}
+
+/// Prefixes.
+pub struct PrefixKind(pub usize);
+
+impl PrefixKind {
+    pub const BY_SELF: usize = 0;
+
+    pub const PLAIN: usize = 1;
+
+    pub const BY_CRATE: usize = 2;
+}
+
+// The path kinds of the prefixes.
+const PREFIX_KINDS: [usize; 3] = [1, 0, 3];
+
+// The path kind of a prefix.
+fn prefix_path_kind(prefix: usize) -> usize
+    ensures { λ r. ⌜ r ≡ prefixPathKind prefix ⌝ }
+{
+    if 3 <= prefix {
+        return PathKind::PLAIN;
+    }
+    PREFIX_KINDS[prefix]
+}
+
+// The name of an entry.
+fn entry_name(words: &[u32], e: Entry) -> Answer
+    ensures { λ r. ⌜ r ≡ entryName (entryOf scopeAt (now (words .entry)) e) ⌝ }
+{
+    let Entry::At(h) = e else {
+        return Answer::Nothing;
+    };
+    let n = scope_name(words, h);
+    Answer::Name(n.0)
+}
+
+// A single name, or nothing.
+fn single(words: &[u32], area: &[u32], l: Layout, kind: usize, a: Answer) -> Choice
+    requires { ⌜ Reads (now words) (now area) l × Named l a ⌝ }
+    ensures { λ r. ⌜ ((x : FindPathCtx) → r ≡ singleOf (snapOf (now (words .entry)) (now (area .entry)) l) x kind a) ⌝ }
+{
+    let Answer::Name(n) = a else {
+        return nothing();
+    };
+    choice_new(words, area, l, kind, Name(n))
+}
+
+/// The item's name in the viewing module, or around its blocks.
+pub fn find_in_scope(words: &[u32], area: &[u32], l: Layout, x: FindPathCtx, item: Item) -> Answer
+    requires { ⌜ Reads (now words) (now area) l × (x .from < l .modules) ⌝ }
+    ensures { λ r. ⌜ (r ≡ findInScope (snapOf (now (words .entry)) (now (area .entry)) l) x item) × Named l r ⌝ }
+{
+    let e = scope_entry(words, area, l, ModuleId(x.from), item, x.declared);
+    entry_name(words, e)
+}
+
+// Whether the scope is used: under ByCrate only the crate's root does.
+fn may_be_in_scope(x: FindPathCtx) -> bool
+    ensures { λ r. ⌜ ((s : Snapshot) → r ≡ mayBeInScope s x) ⌝ }
+{
+    (x.prefix != PrefixKind::BY_CRATE) | (x.root == x.from)
+}
+
+/// The item by its name in scope.
+pub fn scope_rule(words: &[u32], area: &[u32], l: Layout, x: FindPathCtx, item: Item) -> Choice
+    requires { ⌜ Reads (now words) (now area) l × (x .from < l .modules) ⌝ }
+    ensures { λ r. ⌜ r ≡ scopeRule (snapOf (now (words .entry)) (now (area .entry)) l) x item ⌝ }
+{
+    if !may_be_in_scope(x) {
+        return nothing();
+    }
+    let a = find_in_scope(words, area, l, x, item);
+    single(words, area, l, prefix_path_kind(x.prefix), a)
+}
+
+/// Whether the viewer sees the entry with its head at a place.
+pub fn sees(words: &[u32], area: &[u32], l: Layout, x: FindPathCtx, h: usize) -> bool
+    requires { ⌜ Reads (now words) (now area) l × (x .from < l .modules) × (2 ≤ scopeAt (now words) h .visibility → scopeAt (now words) h .number < l .modules) ⌝ }
+    ensures { λ r. ⌜ r ≡ seesOf (snapOf (now (words .entry)) (now (area .entry)) l) (x .from) (scopeAt (now (words .entry)) h) ⌝ }
+{
+    let kind = scope_visibility(words, h);
+    let number = scope_number(words, h);
+    is_visible_from(words, area, l, kind, number, ModuleId(x.from))
+}
+
+// Whether an entry stands for the item, or there is none.
+fn same_here(words: &[u32], l: Layout, item: Item, e: Entry) -> bool
+    requires { ⌜ wordCount l < 2 ^ 32 ⌝ }
+    ensures { λ r. ⌜ ((A : List ℕ) (x : FindPathCtx) → r ≡ sameHere (snapOf (now (words .entry)) A l) x item (entryOf scopeAt (now (words .entry)) e)) ⌝ }
+{
+    let Entry::At(h) = e else {
+        return true;
+    };
+    let its = item_of(words, l, scope_ns(words, h), scope_definition(words, h));
+    same_item(its, item)
+}
+
+// The name of a prelude's entry, if visible and not another thing's name here.
+fn prelude_entry(
+    words: &[u32],
+    area: &[u32],
+    l: Layout,
+    x: FindPathCtx,
+    item: Item,
+    e: Entry,
+) -> Answer
+    requires { ⌜ Reads (now words) (now area) l × (x .from < l .modules) × ((h : ℕ) → e ≡ At h → ScopeFits (countsIn l) (scopeAt (now words) h)) ⌝ }
+    ensures { λ r. ⌜ (r ≡ preludeEntry (snapOf (now (words .entry)) (now (area .entry)) l) x item (entryOf scopeAt (now (words .entry)) e)) × Named l r ⌝ }
+{
+    let Entry::At(h) = e else {
+        return Answer::Nothing;
+    };
+    let seen = sees(words, area, l, x, h);
+    let name = scope_name(words, h);
+    let here = entry_named(words, area, l, ModuleId(x.from), ns_of(item), name);
+    if seen & same_here(words, l, item, here) {
+        return Answer::Name(name.0);
+    }
+    Answer::Nothing
+}
+
+/// The item's first name in the prelude, if visible and not another thing's name here.
+pub fn find_in_prelude(words: &[u32], area: &[u32], l: Layout, x: FindPathCtx, item: Item) -> Answer
+    requires { ⌜ Reads (now words) (now area) l × (x .from < l .modules) ⌝ }
+    ensures { λ r. ⌜ (r ≡ findInPrelude (snapOf (now (words .entry)) (now (area .entry)) l) x item) × Named l r ⌝ }
+{
+    let p = prelude_of(words, l, map(words, area, l, ModuleId(x.from)));
+    let Entry::At(h) = p else {
+        return Answer::Nothing;
+    };
+    let e = name_of(words, l, prelude_target(words, h), item);
+    prelude_entry(words, area, l, x, item, e)
+}
+
+/// The item by its name in the prelude.
+pub fn prelude_rule(words: &[u32], area: &[u32], l: Layout, x: FindPathCtx, item: Item) -> Choice
+    requires { ⌜ Reads (now words) (now area) l × (x .from < l .modules) ⌝ }
+    ensures { λ r. ⌜ r ≡ preludeRule (snapOf (now (words .entry)) (now (area .entry)) l) x item ⌝ }
+{
+    let a = find_in_prelude(words, area, l, x, item);
+    single(words, area, l, PathKind::PLAIN, a)
+}
+
+// The crate's root by its extern name, with `::` where the name is another thing's here.
+fn extern_rule(
+    words: &[u32],
+    area: &[u32],
+    l: Layout,
+    x: FindPathCtx,
+    m: ModuleId,
+    e: Entry,
+) -> Choice
+    requires { ⌜ Reads (now words) (now area) l × (x .from < l .modules) × ((h : ℕ) → e ≡ At h → externAt (now words) h .name < l .names) ⌝ }
+    ensures { λ r. ⌜ r ≡ externName (snapOf (now (words .entry)) (now (area .entry)) l) x (m .0) (entryOf externAt (now (words .entry)) e) ⌝ }
+{
+    let Entry::At(h) = e else {
+        return nothing();
+    };
+    let name = extern_name(words, h);
+    if occupied(words, area, l, ModuleId(x.from), m, name) | x.absolute {
+        return choice_new(words, area, l, PathKind::ABSOLUTE, name);
+    }
+    choice_new(words, area, l, PathKind::PLAIN, name)
+}
+
+/// A crate's root: `crate` in the viewer's crate or where no extern may be used, else its extern name.
+pub fn root_rule(
+    words: &[u32],
+    area: &[u32],
+    l: Layout,
+    x: FindPathCtx,
+    maybe_extern: bool,
+    m: ModuleId,
+) -> Choice
+    requires { ⌜ Reads (now words) (now area) l × (x .from < l .modules) × (m .0 < l .modules) ⌝ }
+    ensures { λ r. ⌜ r ≡ rootRule (snapOf (now (words .entry)) (now (area .entry)) l) x «maybe_extern» (m .0) ⌝ }
+{
+    let top = crate_root(words, area, l, m);
+    if top.0 != m.0 {
+        return nothing();
+    }
+    if !maybe_extern | (m.0 == x.root) {
+        return keyword(PathKind::CRATE);
+    }
+    let e = extern_of(words, l, Crate(x.krate), m);
+    extern_rule(words, area, l, x, m, e)
+}
+
+// The module as the parent of the viewer's.
+fn parent_kind(words: &[u32], area: &[u32], l: Layout, x: FindPathCtx, m: ModuleId) -> KwKind
+    requires { ⌜ Reads (now words) (now area) l × (x .from < l .modules) × (m .0 < l .modules) ⌝ }
+    ensures { λ r. ⌜ r ≡ parentKind (snapOf (now (words .entry)) (now (area .entry)) l) x (m .0) (parentOf (snapOf (now (words .entry)) (now (area .entry)) l) (x .from)) ⌝ }
+{
+    if parent(words, area, l, ModuleId(x.from)) != m.0 + 1 {
+        return KwKind::NoKw;
+    }
+    let top = root(words, area, l, map(words, area, l, ModuleId(x.from)));
+    if m.0 == top.0 {
+        return KwKind::Kw(PathKind::CRATE);
+    }
+    KwKind::Kw(PathKind::SUPER)
+}
+
+/// The viewer's own module, or its parent, where neither is in a block.
+pub fn is_kw_kind_relative_to_from(
+    words: &[u32],
+    area: &[u32],
+    l: Layout,
+    x: FindPathCtx,
+    m: ModuleId,
+) -> KwKind
+    requires { ⌜ Reads (now words) (now area) l × (x .from < l .modules) × (m .0 < l .modules) ⌝ }
+    ensures { λ r. ⌜ r ≡ isKwKindRelativeToFrom (snapOf (now (words .entry)) (now (area .entry)) l) x (m .0) ⌝ }
+{
+    let from = ModuleId(x.from);
+    let there = krate(words, area, l, m);
+    let here = krate(words, area, l, from);
+    let block = in_block(words, area, l, m) | in_block(words, area, l, from);
+    if (there.0 != here.0) | block {
+        return KwKind::NoKw;
+    }
+    if m.0 == x.from {
+        return KwKind::Kw(PathKind::SELF);
+    }
+    parent_kind(words, area, l, x, m)
+}
+
+/// The module by a keyword; ByCrate takes none but `crate`.
+pub fn keyword_rule(words: &[u32], area: &[u32], l: Layout, x: FindPathCtx, m: ModuleId) -> Choice
+    requires { ⌜ Reads (now words) (now area) l × (x .from < l .modules) × (m .0 < l .modules) ⌝ }
+    ensures { λ r. ⌜ r ≡ keywordOf (snapOf (now (words .entry)) (now (area .entry)) l) x (isKwKindRelativeToFrom (snapOf (now (words .entry)) (now (area .entry)) l) x (m .0)) ⌝ }
+{
+    let k = is_kw_kind_relative_to_from(words, area, l, x, m);
+    let KwKind::Kw(kind) = k else {
+        return nothing();
+    };
+    if (x.prefix != PrefixKind::BY_CRATE) | (kind == PathKind::CRATE) {
+        return keyword(kind);
+    }
+    nothing()
+}
+
+/// The first of root, extern, scope, keyword and prelude that has a path to the module.
+pub fn module_rules(
+    words: &[u32],
+    area: &[u32],
+    l: Layout,
+    x: FindPathCtx,
+    maybe_extern: bool,
+    m: ModuleId,
+) -> Choice
+    requires { ⌜ Reads (now words) (now area) l × (x .from < l .modules) × (m .0 < l .modules) ⌝ }
+    ensures { λ r. ⌜ r ≡ moduleRules (snapOf (now (words .entry)) (now (area .entry)) l) x «maybe_extern» (m .0) ⌝ }
+{
+    let first = root_rule(words, area, l, x, maybe_extern, m);
+    if first.found {
+        return first;
+    }
+    let second = scope_rule(words, area, l, x, Item::Mod(m.0));
+    if second.found {
+        return second;
+    }
+    let third = keyword_rule(words, area, l, x, m);
+    if third.found {
+        return third;
+    }
+    prelude_rule(words, area, l, x, Item::Mod(m.0))
+}
