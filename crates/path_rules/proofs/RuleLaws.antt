@@ -1,12 +1,11 @@
 -- Laws of the rules, for the code.
-use Prim.Native.Nat.{ℕ, zero, suc, _+_, _≤_, _<_}
+use Prim.Native.Nat.{ℕ, zero, suc, _+_, _≤_}
 use mathlib.Core.Path.{_≡_, refl, sym, _∙_, ap, ap₂, subst}
 use mathlib.Core.List.{List, [], _∷_}
 use mathlib.Core.Bool.{Bool, true, false, _&&_, _||_, not, true≢false, false≢true}
 use mathlib.Core.Option.{Option, none, some}
 use native.Mathlib.Omega.{arith}
 use lib.Dec.{eqb}
-use lib.ListN.{getD}
 use borrow.Author.Tests.{eq-eqb, ne-eqb}
 use Rattle.snapshot.specs.Records.{Snapshot, Scope, Prelude, Extern}
 use Rattle.snapshot.specs.Layouts.{snapOf}
@@ -23,7 +22,6 @@ use Rattle.hir_def.specs.Visibility.{sees}
 use Rattle.hir_def.specs.ItemScope.{nameOf, namesOf}
 use Rattle.hir_def.specs.Nameres.{scopeEntry, entryNamed, occupied, preludeOf, externOf}
 use Rattle.hir_def.specs.declared.Item.{Item}
-use Rattle.hir_def.specs.declared.Item.the-variants.{Mod}
 use Rattle.hir_def.specs.declared.Answer.{Answer}
 use Rattle.hir_def.specs.declared.Answer.the-variants.{Name, Nothing}
 use Rattle.hir_def.proofs.Found.{each-first}
@@ -33,7 +31,7 @@ use Rattle.find_path.specs.declared.KwKind.the-variants.{Kw, NoKw}
 use Rattle.find_path.specs.declared.FindPathCtx.{FindPathCtx}
 use Rattle.find_path.specs.Choices.{nothing, keyword, choiceNew}
 use Rattle.find_path.specs.Conditions.{Named}
-use Rattle.find_path.specs.Rules.{prefixPathKind, firstFound, entryName, single, findInScope, mayBeInScope, scopeRule, sameHere, preludeEntry, inPrelude, findInPrelude, preludeRule, externKind, externName, rootRule, parentKind, isKwKindRelativeToFrom, keywordOf, moduleRules}
+use Rattle.find_path.specs.Rules.{prefixPathKind, firstFound, entryName, single, findInScope, mayBeInScope, scopeRule, sameHere, preludeEntry, inPrelude, findInPrelude, externKind, externName, rootRule, parentKind, isKwKindRelativeToFrom, keywordOf}
 
 -- the branch of a test
 module _ {A : Type 0} (a b : A) where
