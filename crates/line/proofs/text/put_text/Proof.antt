@@ -1,0 +1,78 @@
+use Prim.Native.Nat.{_+_, _-_, _≤_, _<_}
+use mathlib.Core.Path.{_≡_, refl, _∙_, ap}
+use mathlib.Core.List.{_++_}
+use native.Mathlib.Omega.{arith}
+use denote.Ref.{now}
+use lib.ListN.{length, take, set, length-set}
+use Rattle.line.proofs.Laws.{length-unpacked, put-bytes}
+use Rattle.printing.proofs.Laws.{put-start, put-next}
+use Rattle.find_path.specs.Line.{unpacked}
+use Rattle.line.proofs.text.put_text.Statement.{statement}
+use Rattle.line.proofs.text.put_text.Tie as tie
+
+abbrev Inv-loop : tie.InvT-loop
+Inv-loop out₀ at text n i₀ out i = (i ≤ n) × (length out ≡ length out₀) × (take (at + i) out ≡ take at out₀ ++ take i (unpacked text))
+
+abbrev μ-loop : tie.MeasureT-loop
+μ-loop out₀ at text n i₀ out i = n - i
+
+loop-holds : tie.Need-loop-holds Inv-loop μ-loop
+loop-holds c = (omega arith, refl, put-start (now (c .before .before .args .out)) (unpacked (now (c .before .before .args .text))) (c .before .before .args .at))
+
+text-byte-requires : tie.Need-text-byte-requires Inv-loop μ-loop
+text-byte-requires c κs = tt
+
+add-out : tie.Need-add-out Inv-loop μ-loop
+add-out c = omega arith
+
+slice-write-out : tie.Need-slice-write-out Inv-loop μ-loop
+slice-write-out c = omega arith
+
+add-i : tie.Need-add-i Inv-loop μ-loop
+add-i c = omega arith
+
+loop-less : tie.Need-loop-less Inv-loop μ-loop
+loop-less c = omega arith
+
+loop-again : tie.Need-loop-again Inv-loop μ-loop
+loop-again c =
+    let a = c .before .before .before .before .before .args in
+    let l = c .before .before .loop in
+    let u = length-unpacked (now (a .text)) in
+    let h : a .at + l .i < length (l .out) = omega arith in
+    let p : l .i < length (unpacked (now (a .text))) = omega arith in (
+      omega arith,
+      (simp length-set) ∙ l .inv .1,
+      ap (λ v. take (a .at + (l .i + 1)) (set (l .out) (a .at + l .i) v)) (c .text-byte .ensures)
+          ∙ put-next (now (a .out)) (l .out) (unpacked (now (a .text))) (a .at) (l .i) (l .inv .2) h p,
+    )
+
+add-result : tie.Need-add-result Inv-loop μ-loop
+add-result c = omega arith
+
+same-length : tie.Need-same-length Inv-loop μ-loop
+same-length c = c .before .loop .inv .1
+
+returns : tie.Need-returns Inv-loop μ-loop
+returns c =
+    let l = c .before .loop in
+    let a = c .before .before .before .before .args in
+    let u = length-unpacked (now (a .text)) in
+    (put-bytes (now (a .out)) (l .out) (unpacked (now (a .text))) (a .at) (l .i) (a .n) (l .inv .2) (omega arith) (omega arith) (omega arith), omega arith)
+
+pub put-text-spec : {M : Type 1} → statement M
+put-text-spec =
+    tie.close
+    (tie.spec
+    Inv-loop
+    μ-loop
+    loop-holds
+    text-byte-requires
+    add-out
+    slice-write-out
+    add-i
+    loop-less
+    loop-again
+    add-result
+    same-length
+    returns)
