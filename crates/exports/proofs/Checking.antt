@@ -1,0 +1,91 @@
+-- The check's answer as numbers.
+use Prim.Native.Nat.{ℕ, _<_}
+use mathlib.Core.Path.{_≡_, refl, sym, _∙_, ap, subst}
+use mathlib.Core.List.{List, [], _∷_}
+use mathlib.Core.Bool.{true, false}
+use lib.Dec.{ltb}
+use lib.ListN.{length}
+use Rattle.snapshot.specs.Limits.{areaLimit}
+use Rattle.snapshot.specs.Records.{Snapshot}
+use Rattle.snapshot.specs.Layouts.{snapOf}
+use Rattle.snapshot.specs.declared.layout.Layout.{Layout}
+use Rattle.snapshot.proofs.Laws.{length-rows}
+use Rattle.accept.specs.Verdict.{Verdict, refuse, accept, verdict, empty}
+use Rattle.accept.specs.Post.{Reads, Checks, checkOf}
+use Rattle.accept.specs.declared.check.Checked.{Checked}
+use Rattle.accept.specs.declared.check.Checked.the-variants.{Refused, Accepted}
+use Rattle.accept.proofs.Accepted.{by-test}
+use Rattle.exports.specs.Answers.{numberOf, answerOf, Answered}
+
+IsRefused : Verdict → Type 0
+IsRefused (refuse n at) = Unit
+IsRefused (accept s) = ⊥
+
+apart : (n at : ℕ) (s : Snapshot) → refuse n at ≡ accept s → ⊥
+unfolding IsRefused
+apart n at s e = subst IsRefused e tt
+
+snapshotIn : Verdict → Snapshot
+snapshotIn (refuse n at) = empty
+snapshotIn (accept s) = s
+
+same-snapshot : (s t : Snapshot) → accept s ≡ accept t → s ≡ t
+unfolding snapshotIn
+same-snapshot s t e = ap snapshotIn e
+
+-- accepted words have a work area that serves
+judged : (n : ℕ) (W : List ℕ) (s : Snapshot) → checkOf n W ≡ accept s → verdict W ≡ accept s
+unfolding checkOf
+judged n W s e =
+    by-test (ltb n areaLimit)
+    (λ t. absurd (apart 20 0 s (sym (rw (checkOf, t)) ∙ e)))
+    (λ t. sym (rw (checkOf, t)) ∙ e)
+
+-- the numbers of accepted words
+abbrev counted : Layout → List ℕ
+counted l =
+    0
+    ∷ 0
+    ∷ l .names
+    ∷ l .crates
+    ∷ l .dependencies
+    ∷ l .maps
+    ∷ l .modules
+    ∷ l .children
+    ∷ l .preludes
+    ∷ l .definitions
+    ∷ l .scopes
+    ∷ l .imports
+    ∷ l .externs
+    ∷ []
+
+counted-same : (W A : List ℕ) (l : Layout) → counted l ≡ answerOf (accept (snapOf W A l))
+counted-same W A l = simp length-rows
+
+module _ (W A₀ A : List ℕ) (r : Checked) (k : Checks W A₀ A r) where
+  pub answered-refused : (n at : ℕ) → r ≡ Refused n at → Answered W A₀ A (n ∷ at ∷ 0 ∷ 0 ∷ 0 ∷ 0 ∷ 0 ∷ 0 ∷ 0 ∷ 0 ∷ 0 ∷ 0 ∷ 0 ∷ []) n
+  answered-refused n at e =
+      let q : Checks W A₀ A (Refused n at) = subst (Checks W A₀ A) e k in
+      record {
+        same = ap answerOf (q .same);
+        number = ap numberOf (q .same);
+        tables = λ s h. absurd (apart n at s (q .same ∙ h));
+        rest = q .rest;
+        untouched = q .untouched;
+      }
+
+  pub answered-accepted : (l : Layout) → r ≡ Accepted l
+      → Answered W A₀ A (counted l) 0
+  answered-accepted l e =
+      let q : Checks W A₀ A (Accepted l) = subst (Checks W A₀ A) e k in
+      record {
+        same = counted-same W A l ∙ ap answerOf (q .same);
+        number = ap numberOf (q .same);
+        tables = λ s h. (
+          l,
+          record { same = judged (length A₀) W (snapOf W A l) (sym (q .same)); tables = q .tables },
+          same-snapshot (snapOf W A l) s (q .same ∙ h),
+        );
+        rest = q .rest;
+        untouched = q .untouched;
+      }

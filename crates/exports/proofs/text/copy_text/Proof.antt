@@ -1,0 +1,76 @@
+use Prim.Native.Nat.{_+_, _-_, _*_, _≤_, _<_}
+use mathlib.Core.Path.{_≡_, refl, sym, ap, _∙_}
+use mathlib.Core.List.{_++_}
+use native.Mathlib.Omega.{arith}
+use native.Mathlib.Numerals.{add-one}
+use denote.Ref.{now}
+use borrow.Author.Needs.{needs}
+use lib.ListN.{length, take, drop, set}
+use Rattle.find_path.specs.Line.{unpacked}
+use Rattle.exports.proofs.Texts.{copy-again, copy-long, copy-end}
+use Rattle.exports.proofs.text.copy_text.Statement.{statement}
+use Rattle.exports.proofs.text.copy_text.Tie as tie
+
+abbrev Inv-loop : tie.InvT-loop
+Inv-loop out₀ text n i₀ out i = (i ≤ n) × (out ≡ take i (unpacked text) ++ drop i out₀)
+
+abbrev μ-loop : tie.MeasureT-loop
+μ-loop out₀ text n i₀ out i = n - i
+
+loop-holds : tie.Need-loop-holds Inv-loop μ-loop
+loop-holds c = (omega arith, refl)
+
+text-byte-requires : tie.Need-text-byte-requires Inv-loop μ-loop
+text-byte-requires c κs = search needs
+
+slice-write-out : tie.Need-slice-write-out Inv-loop μ-loop
+slice-write-out c =
+    let l = c .before .before .loop in
+    let a = c .before .before .before .before .before .args in
+    let p = c .before .before .before .before .before .pre in
+    let e = copy-long (now (a .text)) (now (a .out)) (l .out) (a .n) (l .i) (p .0) (p .1) (l .inv .1) (omega arith) in
+    omega arith
+
+add-i : tie.Need-add-i Inv-loop μ-loop
+add-i c = omega arith
+
+loop-less : tie.Need-loop-less Inv-loop μ-loop
+loop-less c = omega arith
+
+loop-again : tie.Need-loop-again Inv-loop μ-loop
+loop-again c =
+    let l = c .before .before .loop in
+    let a = c .before .before .before .before .before .args in
+    let p = c .before .before .before .before .before .pre in (
+      omega arith,
+      copy-again (now (a .text)) (now (a .out)) (l .out) (a .n) (l .i) (p .0) (p .1) (l .inv .1) (omega arith) _ (c .text-byte .ensures),
+    )
+
+same-length : tie.Need-same-length Inv-loop μ-loop
+same-length c =
+    let l = c .before .loop in
+    let a = c .before .before .before .before .args in
+    let p = c .before .before .before .before .pre in
+    copy-long (now (a .text)) (now (a .out)) (l .out) (a .n) (l .i) (p .0) (p .1) (l .inv .1) (l .inv .0)
+
+returns : tie.Need-returns Inv-loop μ-loop
+returns c =
+    let l = c .before .loop in
+    let a = c .before .before .before .before .args in
+    let p = c .before .before .before .before .pre in
+    copy-end (now (a .text)) (now (a .out)) (l .out) (a .n) (l .i) (p .0) (p .1) (l .inv .1) (l .inv .0) (omega arith)
+
+pub copy-text-spec : {M : Type 1} → statement M
+copy-text-spec =
+    tie.close
+    (tie.spec
+    Inv-loop
+    μ-loop
+    loop-holds
+    text-byte-requires
+    slice-write-out
+    add-i
+    loop-less
+    loop-again
+    same-length
+    returns)

@@ -1,0 +1,78 @@
+//! The functions of the static library, for programs in Rust and C. None keeps a state, and none asks anything of its caller.
+ghost use mathlib.Core.Path.{_≡_};
+ghost use Rattle.exports.specs.Answers.{Answered};
+ghost use Rattle.exports.specs.Texts.{nameText, Copied, Named};
+
+mod text;
+
+use crate::text::copy_text;
+use crate::text::held;
+use accept::check::Checked;
+use accept::check::check;
+use snapshot::ids::Name;
+use snapshot::table::name_head;
+use snapshot::text::text_at;
+use snapshot::words::payload;
+
+/// Checks a snapshot, and leaves the tables of accepted words in the work area. Answers the number of the refusal, 0 for none;
+/// writes that number, its place, and how many records of each kind there are.
+#[no_mangle]
+pub extern "C" fn kelumavor_check(
+    words: &[u32],
+    area: &mut [u32],
+    answer: &mut [usize; 13],
+) -> usize
+    ensures { λ r. ⌜ Answered (now (words .entry)) (now (area .entry)) (now (area .exit)) (now (answer .exit)) r ⌝ }
+{
+    let c = check(words, area);
+    match c {
+        Checked::Refused(n, at) => {
+            let number = n as usize;
+            *answer = [number, at, 0, 0, 0, 0, 0, 0, 0, 0, 0, 0, 0];
+            number
+        }
+        Checked::Accepted(l) => {
+            *answer = [
+                0,
+                0,
+                l.names,
+                l.crates,
+                l.dependencies,
+                l.maps,
+                l.modules,
+                l.children,
+                l.preludes,
+                l.definitions,
+                l.scopes,
+                l.imports,
+                l.externs,
+            ];
+            0
+        }
+    }
+}
+
+/// Copies the text of a name to the front, where there is room for all of it, and answers its length. The tables are the work
+/// area as the check of these words left it, or its first words, one for each name.
+#[no_mangle]
+pub extern "C" fn kelumavor_name(
+    words: &[u32],
+    tables: &[u32],
+    name: usize,
+    out: &mut [u8],
+) -> usize
+    ensures { λ r. ⌜ Copied (nameText (now (words .entry)) (now (tables .entry)) name) (now (out .entry)) (now (out .exit)) r ⌝ }
+    ensures { λ _. ⌜ Named (now (words .entry)) (now (tables .entry)) name (nameText (now (words .entry)) (now (tables .entry)) name) ⌝ }
+{
+    if tables.len() <= name {
+        return 0;
+    }
+    let head = name_head(tables, Name(name));
+    let text = text_at(words, head);
+    let n = held(text, payload(words, head));
+    if out.len() < n {
+        return n;
+    }
+    copy_text(out, text, n);
+    n
+}
