@@ -1,0 +1,86 @@
+//! A question.
+use crate::ids::{DefinitionId, ModuleId, Namespace};
+
+/// How the path should begin.
+#[derive(Clone, Copy, Debug, Default, PartialEq, Eq, Hash)]
+pub enum Prefix {
+    /// With `self`, `super` or `crate` where the item is of this crate.
+    BySelf = 0,
+    #[default]
+    Plain = 1,
+    /// With `crate` where the item is of this crate.
+    ByCrate = 2,
+}
+
+/// What is preferred, allowed or left out.
+#[derive(Clone, Copy, Debug, Default, PartialEq, Eq, Hash)]
+pub struct Options {
+    pub prefer_no_std: bool,
+    pub prefer_prelude: bool,
+    pub prefer_absolute: bool,
+    pub allow_unstable: bool,
+    pub ignore_local_imports: bool,
+}
+
+impl Options {
+    fn bits(self) -> u32 {
+        u32::from(self.prefer_no_std)
+            + 2 * u32::from(self.prefer_prelude)
+            + 4 * u32::from(self.prefer_absolute)
+            + 8 * u32::from(self.allow_unstable)
+            + 16 * u32::from(self.ignore_local_imports)
+    }
+}
+
+/// Which path names a definition in a module?
+#[derive(Clone, Copy, Debug, PartialEq, Eq, Hash)]
+pub struct Question {
+    pub namespace: Namespace,
+    pub definition: DefinitionId,
+    /// The module in which the path is to stand.
+    pub from: ModuleId,
+    pub prefix: Prefix,
+    pub options: Options,
+    /// Charges that the search may make.
+    pub fuel: u32,
+}
+
+impl Question {
+    /// Fuel of a question, at most.
+    pub const FUEL: u32 = 10_000;
+
+    /// A question with a plain prefix, no options and all the fuel.
+    pub fn new(namespace: Namespace, definition: DefinitionId, from: ModuleId) -> Self {
+        Question {
+            namespace,
+            definition,
+            from,
+            prefix: Prefix::default(),
+            options: Options::default(),
+            fuel: Self::FUEL,
+        }
+    }
+
+    pub fn prefix(self, prefix: Prefix) -> Self {
+        Question { prefix, ..self }
+    }
+
+    pub fn options(self, options: Options) -> Self {
+        Question { options, ..self }
+    }
+
+    pub fn fuel(self, fuel: u32) -> Self {
+        Question { fuel, ..self }
+    }
+
+    pub(crate) fn words(&self) -> [u32; 6] {
+        [
+            self.namespace as u32,
+            self.definition.0,
+            self.from.0,
+            self.prefix as u32,
+            self.options.bits(),
+            self.fuel,
+        ]
+    }
+}

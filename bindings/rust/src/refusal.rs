@@ -1,0 +1,122 @@
+//! Why a snapshot or a question is refused.
+use std::fmt;
+
+/// The reason of a refusal; each has a number.
+#[derive(Clone, Copy, Debug, PartialEq, Eq, Hash)]
+#[non_exhaustive]
+pub enum RefusalKind {
+    /// 20
+    SmallWorkArea = 20,
+    /// 21
+    TooMuchFuel = 21,
+    /// 22
+    OutOfRange = 22,
+    /// 23
+    NoSuchItem = 23,
+    /// 24
+    NoMacro = 24,
+    /// 30
+    TooManyWords = 30,
+    /// 31
+    WrongKind = 31,
+    /// 32
+    WrongField = 32,
+    /// 33
+    Undefined = 33,
+    /// 34
+    Repeated = 34,
+    /// 35
+    Misplaced = 35,
+    /// 36
+    TooManyRecords = 36,
+}
+
+impl RefusalKind {
+    const ALL: [RefusalKind; 12] = [
+        Self::SmallWorkArea,
+        Self::TooMuchFuel,
+        Self::OutOfRange,
+        Self::NoSuchItem,
+        Self::NoMacro,
+        Self::TooManyWords,
+        Self::WrongKind,
+        Self::WrongField,
+        Self::Undefined,
+        Self::Repeated,
+        Self::Misplaced,
+        Self::TooManyRecords,
+    ];
+
+    /// The reason with a number.
+    pub fn from_number(number: u32) -> Option<Self> {
+        Self::ALL.into_iter().find(|kind| kind.number() == number)
+    }
+
+    pub fn number(self) -> u32 {
+        self as u32
+    }
+}
+
+impl fmt::Display for RefusalKind {
+    fn fmt(&self, f: &mut fmt::Formatter<'_>) -> fmt::Result {
+        f.write_str(match self {
+            Self::SmallWorkArea => "the work area has fewer than 16,384 words",
+            Self::TooMuchFuel => "the fuel is above 10,000",
+            Self::OutOfRange => "the namespace, the prefix or the options are outside their range",
+            Self::NoSuchItem => "the snapshot has no such definition or module",
+            Self::NoMacro => "the macros namespace is asked for a definition that is no macro",
+            Self::TooManyWords => "more than 16,384 words",
+            Self::WrongKind => "an unknown or falling kind, or an argument that is missing or has a kind",
+            Self::WrongField => "a field outside its range, bits past a name's text, or a builtin with another name",
+            Self::Undefined => "the number of a thing that is not defined yet",
+            Self::Repeated => "something that may stand once only is repeated",
+            Self::Misplaced => "a record that does not fit the records before it, or a map or a crate left incomplete",
+            Self::TooManyRecords => "more than 64 crates, 512 modules, 2,048 names or 2,048 definitions",
+        })
+    }
+}
+
+/// A refusal: its reason, and for a snapshot the place.
+///
+/// ```
+/// use kelumavor::{RefusalKind, Snapshot};
+///
+/// // A crate that is left without its own map: that shows after the last word.
+/// let refusal = Snapshot::check(&[0x2000_0000]).unwrap_err();
+/// assert_eq!(refusal.kind(), RefusalKind::Misplaced);
+/// assert_eq!(refusal.place(), Some(1));
+/// ```
+#[derive(Clone, Copy, Debug, PartialEq, Eq, Hash)]
+pub struct Refusal {
+    kind: RefusalKind,
+    place: Option<usize>,
+}
+
+impl Refusal {
+    /// The refusal by a number of the library, which gives no other numbers than those of `RefusalKind`.
+    pub(crate) fn new(number: u32, place: Option<usize>) -> Self {
+        let kind = RefusalKind::from_number(number).expect("a number of the library");
+        Refusal { kind, place }
+    }
+
+    pub fn kind(&self) -> RefusalKind {
+        self.kind
+    }
+
+    /// The word at which the refused record begins, or the number of words for what shows only after the last.
+    pub fn place(&self) -> Option<usize> {
+        self.place
+    }
+}
+
+impl fmt::Display for Refusal {
+    fn fmt(&self, f: &mut fmt::Formatter<'_>) -> fmt::Result {
+        write!(f, "refused {}", self.kind.number())?;
+        if let Some(place) = self.place {
+            write!(f, " at word {place}")?;
+        }
+        write!(f, ": {}", self.kind)
+    }
+}
+
+impl std::error::Error for Refusal {}

@@ -1,0 +1,92 @@
+//! The answer to a question.
+use std::fmt;
+
+use crate::path::Path;
+use crate::refusal::Refusal;
+use crate::snapshot::Snapshot;
+use crate::sys;
+
+/// What a question came to.
+#[derive(Clone, Debug)]
+pub enum Outcome<'s> {
+    /// The path of a search that went through.
+    Found(Path<'s>),
+    /// A search that went through, and there is no path.
+    NoPath,
+    /// The fuel ran out before the search was through. A path that was found so far names the item, but a whole search may
+    /// find another; without one, nothing is known.
+    TankEmpty(Option<Path<'s>>),
+    /// There was no search.
+    Refused(Refusal),
+}
+
+/// The answer to a question: its outcome, and the charges that the search made.
+///
+/// It prints as the line of the path printer:
+///
+/// ```
+/// use kelumavor::{DefinitionId, ModuleId, Namespace, Outcome, Question, Snapshot};
+///
+/// // The worked snapshot: a crate with a module `a` that holds a function `f`.
+/// let words = [
+///     0x10000001, 0x61, 0x10000001, 0x66, 0x20000000, 0x40000000, 0, 0, 0x50000000, 0, 0x50000000, 1, 0x60000000, 1,
+///     0x80000001, 1, 0, 0x80000004, 1, 0, 0x90000000, 0, 0, 0, 0, 0, 1, 0x90000001, 1, 1, 1, 0, 0, 1,
+/// ];
+/// let snapshot = Snapshot::check(&words)?;
+/// let question = Question::new(Namespace::Values, DefinitionId(1), ModuleId(0));
+///
+/// let report = snapshot.find_path(&question);
+/// assert_eq!(report.to_string(), "found a::f 1 0");
+/// let Outcome::Found(path) = report.outcome else { panic!() };
+/// assert_eq!(path.to_string(), "a::f");
+/// assert_eq!(path.names().map(|name| name.to_string()).collect::<Vec<_>>(), ["a", "f"]);
+///
+/// // Without fuel nothing is known, and the outcome says so.
+/// let report = snapshot.find_path(&question.fuel(0));
+/// assert!(matches!(report.outcome, Outcome::TankEmpty(None)));
+/// # Ok::<(), kelumavor::Refusal>(())
+/// ```
+#[derive(Clone, Debug)]
+pub struct Report<'s> {
+    pub outcome: Outcome<'s>,
+    /// Charges that the search made; 0 where the question was refused.
+    pub charges: u32,
+}
+
+impl<'s> Report<'s> {
+    pub(crate) fn new(snapshot: &'s Snapshot<'s>, words: [u32; sys::REPORT]) -> Self {
+        let [outcome, number, kind, names @ .., count, charges, empty] = words;
+        let path = || Path::new(snapshot, kind, names, count);
+        let outcome = match (outcome, empty) {
+            (0, 0) => Outcome::Found(path()),
+            (1, 0) => Outcome::NoPath,
+            (0, _) => Outcome::TankEmpty(Some(path())),
+            (1, _) => Outcome::TankEmpty(None),
+            _ => Outcome::Refused(Refusal::new(number, None)),
+        };
+        Report { outcome, charges }
+    }
+
+    /// The path of a search that went through, or the one found so far where the fuel ran out.
+    pub fn path(&self) -> Option<&Path<'s>> {
+        match &self.outcome {
+            Outcome::Found(path) | Outcome::TankEmpty(Some(path)) => Some(path),
+            _ => None,
+        }
+    }
+}
+
+impl fmt::Display for Report<'_> {
+    fn fmt(&self, f: &mut fmt::Formatter<'_>) -> fmt::Result {
+        let charges = self.charges;
+        match &self.outcome {
+            Outcome::Found(path) => write!(f, "found {path} {charges} 0"),
+            Outcome::NoPath => write!(f, "none - {charges} 0"),
+            Outcome::TankEmpty(Some(path)) => write!(f, "found {path} {charges} 1"),
+            Outcome::TankEmpty(None) => write!(f, "none - {charges} 1"),
+            Outcome::Refused(refusal) => {
+                write!(f, "refused {} {charges} 0", refusal.kind().number())
+            }
+        }
+    }
+}

@@ -1,0 +1,146 @@
+//! A checked snapshot.
+use crate::ids::NameId;
+use crate::refusal::Refusal;
+use crate::sys;
+use crate::text::Text;
+
+/// Words that the library works in. A call needs one, and leaves nothing in it that a later call reads.
+pub struct WorkArea(Box<[u32]>);
+
+impl WorkArea {
+    /// Words of a work area.
+    pub const WORDS: usize = 16384;
+
+    pub fn new() -> Self {
+        WorkArea(vec![0; Self::WORDS].into_boxed_slice())
+    }
+}
+
+impl Default for WorkArea {
+    fn default() -> Self {
+        Self::new()
+    }
+}
+
+/// How many records of each kind a snapshot has.
+#[derive(Clone, Copy, Debug, PartialEq, Eq, Hash)]
+pub struct Counts {
+    pub names: usize,
+    pub crates: usize,
+    pub dependencies: usize,
+    pub maps: usize,
+    pub modules: usize,
+    pub children: usize,
+    pub preludes: usize,
+    pub definitions: usize,
+    pub scopes: usize,
+    pub imports: usize,
+    pub externs: usize,
+}
+
+/// The words of a snapshot that the check accepted.
+#[derive(Clone, Debug)]
+pub struct Snapshot<'w> {
+    words: &'w [u32],
+    /// Where each name begins, as the check found it.
+    heads: Box<[u32]>,
+    counts: Counts,
+}
+
+impl<'w> Snapshot<'w> {
+    /// Checks the words.
+    ///
+    /// ```
+    /// # use kelumavor::Snapshot;
+    /// let empty = Snapshot::check(&[])?;
+    /// assert_eq!(empty.counts().modules, 0);
+    ///
+    /// let refusal = Snapshot::check(&[0]).unwrap_err();
+    /// assert_eq!(
+    ///     refusal.to_string(),
+    ///     "refused 31 at word 0: an unknown or falling kind, or an argument that is missing or has a kind"
+    /// );
+    /// # Ok::<(), kelumavor::Refusal>(())
+    /// ```
+    pub fn check(words: &'w [u32]) -> Result<Self, Refusal> {
+        Self::check_in(words, &mut WorkArea::new())
+    }
+
+    /// Checks the words in a work area of the caller's.
+    pub fn check_in(words: &'w [u32], area: &mut WorkArea) -> Result<Self, Refusal> {
+        let [number, place, counts @ ..] = sys::check(words, &mut area.0);
+        if number != 0 {
+            return Err(Refusal::new(number as u32, Some(place)));
+        }
+        let [
+            names,
+            crates,
+            dependencies,
+            maps,
+            modules,
+            children,
+            preludes,
+            definitions,
+            scopes,
+            imports,
+            externs,
+        ] = counts;
+        let counts = Counts {
+            names,
+            crates,
+            dependencies,
+            maps,
+            modules,
+            children,
+            preludes,
+            definitions,
+            scopes,
+            imports,
+            externs,
+        };
+        Ok(Snapshot {
+            words,
+            heads: area.0[..names].into(),
+            counts,
+        })
+    }
+
+    pub fn words(&self) -> &'w [u32] {
+        self.words
+    }
+
+    pub fn counts(&self) -> &Counts {
+        &self.counts
+    }
+
+    /// The text of a name, where the snapshot has that name.
+    pub fn name(&self, name: NameId) -> Option<Text> {
+        let mut bytes = vec![0; Text::LIMIT];
+        let length = sys::name(self.words, &self.heads, name.0 as usize, &mut bytes);
+        if length == 0 {
+            return None;
+        }
+        bytes.truncate(length);
+        Some(Text(bytes))
+    }
+}
+
+#[cfg(feature = "search")]
+impl<'w> Snapshot<'w> {
+    /// Answers a question.
+    pub fn find_path(&self, question: &crate::Question) -> crate::Report<'_> {
+        self.find_path_in(question, &mut WorkArea::new())
+    }
+
+    /// Answers a question in a work area of the caller's.
+    pub fn find_path_in(
+        &self,
+        question: &crate::Question,
+        area: &mut WorkArea,
+    ) -> crate::Report<'_> {
+        crate::Report::new(
+            self,
+            sys::find_path(self.words, &mut area.0, &question.words()),
+        )
+    }
+}

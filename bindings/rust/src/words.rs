@@ -1,0 +1,174 @@
+//! Writing the words of a snapshot.
+use crate::ids::{CrateId, DefinitionId, MapId, ModuleId, NameId, Namespace};
+
+/// Where a crate comes from.
+#[derive(Clone, Copy, Debug, Default, PartialEq, Eq, Hash)]
+pub enum Origin {
+    #[default]
+    Ordinary = 0,
+    Core = 1,
+    Alloc = 2,
+    Std = 3,
+    OtherLanguage = 4,
+}
+
+/// The visibility of an entry of a scope. `Explicit` and `Implicit` say whether the module was written out.
+#[derive(Clone, Copy, Debug, PartialEq, Eq, Hash)]
+pub enum Visibility {
+    Public,
+    Crate(CrateId),
+    Explicit(ModuleId),
+    Implicit(ModuleId),
+}
+
+/// The words of a snapshot, one record after the other. A kind of records follows the other in the order of the functions
+/// here, but a map may follow a module. What is wrong with the records is found by [`Snapshot::check`](crate::Snapshot::check).
+#[derive(Clone, Debug, Default, PartialEq, Eq)]
+pub struct SnapshotWords {
+    words: Vec<u32>,
+    /// Records written of each kind.
+    counts: [u32; 12],
+}
+
+impl SnapshotWords {
+    pub fn new() -> Self {
+        Self::default()
+    }
+
+    pub fn as_words(&self) -> &[u32] {
+        &self.words
+    }
+
+    pub fn into_words(self) -> Vec<u32> {
+        self.words
+    }
+
+    /// A record; answers its number among those of its kind.
+    fn record(&mut self, kind: u32, payload: u32, arguments: &[u32]) -> u32 {
+        self.words.push(kind << 28 | payload);
+        self.words.extend_from_slice(arguments);
+        let number = self.counts[kind as usize];
+        self.counts[kind as usize] += 1;
+        number
+    }
+
+    pub fn name(&mut self, text: &str) -> NameId {
+        let packed: Vec<u32> = text
+            .as_bytes()
+            .chunks(3)
+            .map(|bytes| {
+                bytes
+                    .iter()
+                    .rev()
+                    .fold(0, |word, byte| word << 8 | u32::from(*byte))
+            })
+            .collect();
+        NameId(self.record(1, text.len() as u32, &packed))
+    }
+
+    pub fn krate(&mut self, origin: Origin, supports_no_std: bool) -> CrateId {
+        CrateId(self.record(2, origin as u32 + 8 * u32::from(supports_no_std), &[]))
+    }
+
+    pub fn dependency(&mut self, owner: CrateId, dependency: CrateId, sysroot: bool) {
+        self.record(3, owner.0, &[dependency.0, sysroot.into()]);
+    }
+
+    /// A map of a crate: its own, or that of a block in a module.
+    pub fn map(&mut self, krate: CrateId, block_in: Option<ModuleId>, no_std: bool) -> MapId {
+        MapId(self.record(4, krate.0, &[plus_one(block_in), no_std.into()]))
+    }
+
+    /// A module of the latest map; its first is its root.
+    pub fn module(&mut self, map: MapId, parent: Option<ModuleId>) -> ModuleId {
+        ModuleId(self.record(5, map.0, &[plus_one(parent)]))
+    }
+
+    pub fn child(&mut self, owner: ModuleId, child: ModuleId) {
+        self.record(6, owner.0, &[child.0]);
+    }
+
+    pub fn prelude(&mut self, map: MapId, prelude: ModuleId) {
+        self.record(7, map.0, &[prelude.0]);
+    }
+
+    pub fn module_definition(&mut self, module: ModuleId) -> DefinitionId {
+        DefinitionId(self.record(8, 1, &[module.0, 0]))
+    }
+
+    pub fn variant_definition(&mut self, parent: DefinitionId, name: NameId) -> DefinitionId {
+        DefinitionId(self.record(8, 2, &[parent.0, name.0]))
+    }
+
+    pub fn builtin_definition(&mut self, name: NameId) -> DefinitionId {
+        DefinitionId(self.record(8, 3, &[name.0, 0]))
+    }
+
+    /// A definition that is no module, variant, builtin or macro.
+    pub fn other_definition(&mut self, home: ModuleId) -> DefinitionId {
+        DefinitionId(self.record(8, 4, &[home.0, 0]))
+    }
+
+    pub fn macro_definition(&mut self, home: ModuleId) -> DefinitionId {
+        DefinitionId(self.record(8, 5, &[home.0, 0]))
+    }
+
+    /// An entry of a module's scope; `declared` says that it is no import.
+    pub fn scope(
+        &mut self,
+        module: ModuleId,
+        namespace: Namespace,
+        name: NameId,
+        definition: DefinitionId,
+        visibility: Visibility,
+        declared: bool,
+    ) {
+        let (kind, number) = match visibility {
+            Visibility::Public => (0, 0),
+            Visibility::Crate(krate) => (1, krate.0),
+            Visibility::Explicit(module) => (2, module.0),
+            Visibility::Implicit(module) => (3, module.0),
+        };
+        self.record(
+            9,
+            module.0,
+            &[
+                namespace as u32,
+                name.0,
+                definition.0,
+                kind,
+                number,
+                declared.into(),
+            ],
+        );
+    }
+
+    /// An entry of a crate's import map.
+    #[allow(clippy::too_many_arguments)]
+    pub fn import(
+        &mut self,
+        krate: CrateId,
+        namespace: Namespace,
+        definition: DefinitionId,
+        name: NameId,
+        container: ModuleId,
+        hidden: bool,
+        unstable: bool,
+    ) {
+        let bits = u32::from(hidden) + 2 * u32::from(unstable);
+        self.record(
+            10,
+            krate.0,
+            &[namespace as u32, definition.0, name.0, container.0, bits],
+        );
+    }
+
+    /// An entry of a crate's extern prelude.
+    pub fn extern_prelude(&mut self, krate: CrateId, name: NameId, root: ModuleId) {
+        self.record(11, krate.0, &[name.0, root.0]);
+    }
+}
+
+fn plus_one(module: Option<ModuleId>) -> u32 {
+    module.map_or(0, |module| module.0 + 1)
+}

@@ -1,0 +1,146 @@
+//! Questions: the worked cases, and random ones against the path printer.
+#![cfg(feature = "search")]
+mod common;
+
+use std::io::Write;
+use std::process::{Command, Stdio};
+
+use common::{WORKED, random, repository};
+use kelumavor::{
+    DefinitionId, ModuleId, Namespace, Options, Outcome, Prefix, Question, RefusalKind, Snapshot,
+    WorkArea,
+};
+
+const NAMESPACES: [Namespace; 3] = [Namespace::Types, Namespace::Values, Namespace::Macros];
+const PREFIXES: [Prefix; 3] = [Prefix::BySelf, Prefix::Plain, Prefix::ByCrate];
+
+fn question(definition: u32, ns: usize, module: u32, prefix: usize, fuel: u32) -> Question {
+    Question::new(NAMESPACES[ns], DefinitionId(definition), ModuleId(module))
+        .prefix(PREFIXES[prefix])
+        .fuel(fuel)
+}
+
+#[test]
+fn worked_cases() {
+    let snapshot = Snapshot::check(&WORKED).unwrap();
+    let cases = [
+        ((1, 1, 0, 1, 1), "found a::f 1 0"),
+        ((1, 1, 0, 1, 0), "none - 0 1"),
+        ((1, 1, 0, 1, 10_001), "refused 21 0 0"),
+        ((1, 1, 0, 0, 9), "found self::a::f 1 0"),
+        ((1, 1, 0, 2, 9), "found crate::a::f 1 0"),
+        ((1, 1, 1, 1, 0), "found f 0 0"),
+        ((1, 1, 1, 2, 9), "found crate::a::f 1 0"),
+        ((0, 0, 0, 1, 0), "found a 0 0"),
+        ((0, 0, 1, 1, 9), "found self 0 0"),
+        ((0, 0, 1, 2, 9), "found crate::a 1 0"),
+        ((1, 0, 0, 1, 9), "none - 1 0"),
+        ((2, 0, 0, 1, 9), "refused 23 0 0"),
+        ((0, 2, 0, 1, 9), "refused 24 0 0"),
+        ((1, 1, 0, 1, 10_000), "found a::f 1 0"),
+    ];
+    for ((definition, ns, module, prefix, fuel), line) in cases {
+        assert_eq!(
+            snapshot
+                .find_path(&question(definition, ns, module, prefix, fuel))
+                .to_string(),
+            line
+        );
+    }
+}
+
+#[test]
+fn outcomes_are_told_apart() {
+    let snapshot = Snapshot::check(&WORKED).unwrap();
+    let ask = |definition, ns, fuel| snapshot.find_path(&question(definition, ns, 0, 1, fuel));
+    assert!(matches!(ask(1, 1, 1).outcome, Outcome::Found(path) if path.names().len() == 2));
+    assert!(matches!(ask(1, 1, 0).outcome, Outcome::TankEmpty(None)));
+    assert!(matches!(ask(1, 0, 9).outcome, Outcome::NoPath));
+    assert!(
+        matches!(ask(0, 2, 9).outcome, Outcome::Refused(refusal) if refusal.kind() == RefusalKind::NoMacro)
+    );
+    assert_eq!(ask(1, 1, 9).charges, 1);
+}
+
+fn random_question(random: &mut random::Random, snapshot: &random::Snapshot) -> Question {
+    let options = Options {
+        prefer_no_std: random.chance(20),
+        prefer_prelude: random.chance(30),
+        prefer_absolute: random.chance(30),
+        allow_unstable: random.chance(50),
+        ignore_local_imports: random.chance(30),
+    };
+    let fuel = if random.chance(30) {
+        random.below(8)
+    } else {
+        Question::FUEL
+    };
+    let ns = random.below(20) as usize % 3;
+    question(
+        random.below(snapshot.definitions + 1),
+        ns,
+        random.below(snapshot.modules + 1),
+        random.below(3) as usize,
+        fuel,
+    )
+    .options(options)
+}
+
+/// The words of a question in the printer's input.
+fn printer_words(question: &Question) -> [u32; 6] {
+    let options = question.options;
+    let bits = [
+        options.prefer_no_std,
+        options.prefer_prelude,
+        options.prefer_absolute,
+        options.allow_unstable,
+        options.ignore_local_imports,
+    ];
+    let bits = bits
+        .iter()
+        .rev()
+        .fold(0, |sum, bit| 2 * sum + u32::from(*bit));
+    [
+        0xc000_0000 + question.definition.0,
+        question.namespace as u32,
+        question.from.0,
+        question.prefix as u32,
+        bits,
+        question.fuel,
+    ]
+}
+
+fn printed(words: &[u32]) -> String {
+    let mut printer = Command::new(repository("target/bin/path_printer"))
+        .stdin(Stdio::piped())
+        .stdout(Stdio::piped())
+        .spawn()
+        .expect("the path printer: `rt check path_printer` makes it");
+    let bytes: Vec<u8> = words.iter().flat_map(|word| word.to_le_bytes()).collect();
+    printer.stdin.take().unwrap().write_all(&bytes).unwrap();
+    String::from_utf8(printer.wait_with_output().unwrap().stdout).unwrap()
+}
+
+#[test]
+fn random_questions_as_printed() {
+    let mut area = WorkArea::new();
+    for seed in 0..60 {
+        let mut random = random::Random::new(seed);
+        let snapshot = random::snapshot(&mut random);
+        let questions: Vec<Question> = (0..100)
+            .map(|_| random_question(&mut random, &snapshot))
+            .collect();
+        let mut input = snapshot.words.clone();
+        input.extend(questions.iter().flat_map(printer_words));
+        let checked = Snapshot::check(&snapshot.words).unwrap();
+        let lines: Vec<String> = questions
+            .iter()
+            .map(|q| checked.find_path_in(q, &mut area).to_string())
+            .collect();
+        assert_eq!(
+            printed(&input).lines().collect::<Vec<_>>(),
+            lines,
+            "seed {seed}"
+        );
+    }
+}
