@@ -1,0 +1,58 @@
+/* Asks for the path of a function, and prints it. */
+#include "find_path.h"
+
+#include <stdio.h>
+
+/* A crate with a module `a` that holds a function `f`. */
+static const uint32_t words[] = {
+    0x10000001, 0x61, 0x10000001, 0x66, 0x20000000, 0x40000000, 0, 0, 0x50000000, 0, 0x50000000, 1,
+    0x60000000, 1, 0x80000001, 1, 0, 0x80000004, 1, 0, 0x90000000, 0, 0, 0, 0, 0, 1,
+    0x90000001, 1, 1, 1, 0, 0, 1,
+};
+static const size_t words_len = sizeof words / sizeof *words;
+
+static uint32_t area[KELUMAVOR_AREA];
+
+static void print_path(const uint32_t *report, const uint32_t *tables, size_t names)
+{
+    static const char *const prefixes[] = {"", "self", "super", "crate", ""};
+    fputs(prefixes[report[KELUMAVOR_KIND]], stdout);
+    for (uint32_t i = 0; i < report[KELUMAVOR_COUNT]; i++) {
+        uint8_t text[KELUMAVOR_TEXT];
+        size_t n = kelumavor_name(words, words_len, tables, names, report[KELUMAVOR_PATH + i], text, sizeof text);
+        if (i > 0 || report[KELUMAVOR_KIND] != 0)
+            fputs("::", stdout);
+        fwrite(text, 1, n, stdout);
+    }
+    putchar('\n');
+}
+
+int main(void)
+{
+    size_t checked[KELUMAVOR_CHECKED];
+    if (kelumavor_check(words, words_len, area, KELUMAVOR_AREA, checked) != 0) {
+        printf("refused %zu at word %zu\n", checked[KELUMAVOR_REFUSAL], checked[KELUMAVOR_PLACE]);
+        return 1;
+    }
+    /* The answer to a question clears the area, so the tables are kept. */
+    uint32_t tables[2048];
+    size_t names = checked[KELUMAVOR_NAMES];
+    for (size_t i = 0; i < names; i++)
+        tables[i] = area[i];
+
+    /* Definition 1 in the values namespace, seen from module 0; a plain path; no options; all the fuel. */
+    const uint32_t question[KELUMAVOR_QUESTION] = {1, 1, 0, 1, 0, 10000};
+    uint32_t report[KELUMAVOR_REPORT];
+    kelumavor_find_path(words, words_len, area, KELUMAVOR_AREA, question, report, KELUMAVOR_REPORT);
+    switch (report[KELUMAVOR_OUTCOME]) {
+    case 0:
+        print_path(report, tables, names);
+        return 0;
+    case 1:
+        puts(report[KELUMAVOR_EMPTY] ? "the fuel ran out" : "there is no path");
+        return 1;
+    default:
+        printf("refused %u\n", report[KELUMAVOR_NUMBER]);
+        return 1;
+    }
+}

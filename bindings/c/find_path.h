@@ -1,0 +1,87 @@
+/* Kelumavor: which path names an item in a module. Link libexports.a, which `rt staticlib exports` writes to target/staticlib/.
+ *
+ * The functions are proved. They keep no state, may be called from several threads, and take any lengths and numbers. Each
+ * pointer must be that of as many elements as the length beside it says, not null even where that is 0, and what a function
+ * writes to must not overlap what else it is given. */
+#ifndef KELUMAVOR_FIND_PATH_H
+#define KELUMAVOR_FIND_PATH_H
+
+#include <stdbool.h>
+#include <stddef.h>
+#include <stdint.h>
+
+#ifdef __cplusplus
+extern "C" {
+#endif
+
+/* Words of a work area, at least. */
+#define KELUMAVOR_AREA 16384
+
+/* Bytes of a name's text, at most. */
+#define KELUMAVOR_TEXT 255
+
+/* What the check answers: the number of the refusal, 0 for none; the word at which the refused record begins, or the number of
+ * words for a fault that shows only after the last; and for accepted words how many records of each kind there are. */
+enum kelumavor_checked {
+    KELUMAVOR_REFUSAL,
+    KELUMAVOR_PLACE,
+    KELUMAVOR_NAMES,
+    KELUMAVOR_CRATES,
+    KELUMAVOR_DEPENDENCIES,
+    KELUMAVOR_MAPS,
+    KELUMAVOR_MODULES,
+    KELUMAVOR_CHILDREN,
+    KELUMAVOR_PRELUDES,
+    KELUMAVOR_DEFINITIONS,
+    KELUMAVOR_SCOPES,
+    KELUMAVOR_IMPORTS,
+    KELUMAVOR_EXTERNS,
+    KELUMAVOR_CHECKED /* how many */
+};
+
+/* Checks a snapshot, and answers the number of the refusal as well. For accepted words the first words of the area, one for each
+ * name, are the tables of kelumavor_name. */
+size_t kelumavor_check(const uint32_t *words, size_t words_len, uint32_t *area, size_t area_len,
+                       size_t answer[KELUMAVOR_CHECKED]);
+
+/* Copies the text of a name, without an end mark, where there is room for all of it, and answers its length. A number that is
+ * not below tables_len has no text: the answer is 0. */
+size_t kelumavor_name(const uint32_t *words, size_t words_len, const uint32_t *tables, size_t tables_len, size_t name,
+                      uint8_t *out, size_t out_len);
+
+/* A question: namespace (0 types, 1 values, 2 macros), definition, viewing module, prefix (0 by self, 1 plain, 2 by crate),
+ * options (1 prefer no_std, 2 prefer the prelude, 4 prefer absolute, 8 allow unstable, 16 ignore local imports), fuel. */
+enum kelumavor_question {
+    KELUMAVOR_NAMESPACE,
+    KELUMAVOR_DEFINITION,
+    KELUMAVOR_FROM,
+    KELUMAVOR_PREFIX,
+    KELUMAVOR_OPTIONS,
+    KELUMAVOR_FUEL,
+    KELUMAVOR_QUESTION /* how many */
+};
+
+/* A report: outcome (0 found, 1 none, 2 refused), number of the refusal; path kind (0 plain, 1 self, 2 super, 3 crate, 4 a
+ * leading ::), sixteen names and how many of them are the path's; charges; 1 where the fuel ran out. Only where that is 0 does
+ * none say that there is no path. */
+enum kelumavor_report {
+    KELUMAVOR_OUTCOME,
+    KELUMAVOR_NUMBER,
+    KELUMAVOR_KIND,
+    KELUMAVOR_PATH,
+    KELUMAVOR_COUNT = KELUMAVOR_PATH + 16,
+    KELUMAVOR_CHARGES,
+    KELUMAVOR_EMPTY,
+    KELUMAVOR_REPORT /* how many */
+};
+
+/* Answers a question on a snapshot, which is checked again. Writes the report where there is room for it, and says whether there
+ * was. The first 16,384 words of the area are 0 afterwards; an area that is smaller stays as it is. */
+bool kelumavor_find_path(const uint32_t *words, size_t words_len, uint32_t *area, size_t area_len,
+                         const uint32_t question[KELUMAVOR_QUESTION], uint32_t *report, size_t report_len);
+
+#ifdef __cplusplus
+}
+#endif
+
+#endif
