@@ -1,0 +1,64 @@
+//! Times of the proved code, through the Rust bindings: the check by the size of the snapshot, and questions.
+//!
+//! `bench` prints tables. `bench check SHAPE COUNT` checks one snapshot so many times and prints nothing, for a profiler.
+#[cfg(feature = "search")]
+mod questions;
+mod shapes;
+mod timing;
+
+use kelumavor::{Snapshot, WorkArea};
+use shapes::Shape;
+
+fn main() {
+    let words: Vec<String> = std::env::args().skip(1).collect();
+    match words.iter().map(String::as_str).collect::<Vec<_>>()[..] {
+        [] => {
+            print_checks("The check, by the size of a workspace", &shapes::growing());
+            print_checks("The check, by shape", &shapes::all());
+            #[cfg(feature = "search")]
+            questions::print_all();
+        }
+        ["check", shape, count] => repeat_check(shape, count.parse().expect("a number")),
+        _ => panic!("usage: bench [check SHAPE COUNT]"),
+    }
+}
+
+fn print_checks(title: &str, shapes: &[Shape]) {
+    println!("{title}\n");
+    println!(
+        "| snapshot | words | names | modules | definitions | scopes | imports | µs a check | ns a word |"
+    );
+    println!("|---|---|---|---|---|---|---|---|---|");
+    let mut area = WorkArea::new();
+    for shape in shapes {
+        let snapshot = Snapshot::check(&shape.words).expect(&shape.name);
+        let counts = snapshot.counts();
+        let ns = timing::nanoseconds(|| {
+            std::hint::black_box(kelumavor::Snapshot::check_in(&shape.words, &mut area)).is_ok()
+        });
+        println!(
+            "| {} | {} | {} | {} | {} | {} | {} | {:.1} | {:.1} |",
+            shape.name,
+            shape.words.len(),
+            counts.names,
+            counts.modules,
+            counts.definitions,
+            counts.scopes,
+            counts.imports,
+            ns / 1000.0,
+            ns / shape.words.len() as f64
+        );
+    }
+    println!();
+}
+
+fn repeat_check(name: &str, count: usize) {
+    let shape = shapes::all()
+        .into_iter()
+        .find(|shape| shape.name == name)
+        .expect("a shape");
+    let mut area = WorkArea::new();
+    for _ in 0..count {
+        assert!(Snapshot::check_in(&shape.words, &mut area).is_ok());
+    }
+}
