@@ -6,7 +6,7 @@ ghost use Rattle.snapshot.specs.Layouts.{snapOf};
 ghost use Rattle.accept.specs.Post.{Reads};
 ghost use Rattle.printing.specs.Output.{Put};
 ghost use Rattle.find_path.specs.Line.{unpacked, textOf, decimal};
-use find_path::choices::name_len;
+use path_rules::choices::name_len;
 use printing::output::Digits;
 use printing::output::put_digits;
 use snapshot::ids::Name;
