@@ -1,0 +1,66 @@
+use borrow.Author.Needs.{needs}
+use Prim.Native.Nat.{ℕ, _≤_, _<_, _-_, _+_, _*_}
+use mathlib.Core.Path.{_≡_, refl, sym, ap, _∙_}
+use native.Mathlib.Omega.{arith}
+use denote.Ref.{now}
+use Rattle.snapshot.specs.Layouts.{snapOf}
+use Rattle.snapshot.specs.Records.{scopeAt}
+use Rattle.local_search.proofs.Nexts.{leads-no, leads-by}
+use Rattle.local_search.proofs.locations.leads.Statement.{statement}
+use Rattle.local_search.proofs.locations.leads.Tie as tie
+use Rattle.local_search.proofs.locations.leads.Reads as reads
+use Rattle.local_search.proofs.locations.leads.Lts as lts
+use Rattle.hir_def.proofs.modules.krate.Reads as krate-reads
+use Rattle.hir_def.proofs.visibility.is_visible_from.Reads as is-visible-from-reads
+use Rattle.snapshot.proofs.record.scope_number.Reads as scope-number-reads
+use Rattle.snapshot.proofs.record.scope_visibility.Reads as scope-visibility-reads
+
+-- src/locations.rt:94:9
+krate-requires : tie.Need-krate-requires
+krate-requires c κs = search needs
+
+-- src/locations.rt:95:9
+krate-requires-2 : tie.Need-krate-requires-2
+krate-requires-2 c κs = search needs
+
+-- src/locations.rt:97:9
+returns : tie.Need-returns
+returns c =
+    let k = c .before .before .before in
+    let s = k .before .before .before .before in
+    leads-no (snapOf (now (s .args .words)) (now (s .args .area)) (s .args .l)) (s .args .from .0) (s .args .to .0) (scopeAt (now (s .args .words)) (s .args .h)) (k .before .krate .ensures) (k .krate2 .ensures) (c .if1 .taken)
+
+-- src/locations.rt:99:9
+scope-visibility-requires : tie.Need-scope-visibility-requires
+scope-visibility-requires c κs = search needs
+
+-- src/locations.rt:100:43
+scope-number-requires : tie.Need-scope-number-requires
+scope-number-requires c κs = search needs
+
+-- src/locations.rt:100:5
+is-visible-from-requires : tie.Need-is-visible-from-requires
+is-visible-from-requires c κs =
+    let s = c .before .before .before .before .before .before .before .before .before in
+    (s .pre .0, s .pre .1, λ h. let g = s .pre .3 (omega (arith, h, c .before .scope-visibility .ensures)) in omega (arith, g, c .scope-number .ensures))
+
+-- src/locations.rt:90:1
+returns-2 : tie.Need-returns-2
+returns-2 c =
+    let n = c .before in
+    let e = n .before .before in
+    let k = e .before .before .before in
+    let s = k .before .before .before .before in
+    leads-by (snapOf (now (s .args .words)) (now (s .args .area)) (s .args .l)) (s .args .from .0) (s .args .to .0) (scopeAt (now (s .args .words)) (s .args .h)) (k .before .krate .ensures) (k .krate2 .ensures) (e .if1 .left) (n .before .scope-visibility .ensures) (n .scope-number .ensures) (c .is-visible-from .ensures)
+
+pub leads-spec : {M : Type 1} → statement M
+leads-spec =
+    tie.close
+    (tie.spec
+    krate-requires
+    krate-requires-2
+    returns
+    scope-visibility-requires
+    scope-number-requires
+    is-visible-from-requires
+    returns-2)
