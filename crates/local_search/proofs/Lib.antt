@@ -5,3 +5,6 @@ pub mod Codes
 pub mod Stacks
 pub mod Nexts
 pub mod Gathers
+pub mod Knowns
+pub mod Nests
+pub mod Searches

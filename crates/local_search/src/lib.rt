@@ -1,6 +1,31 @@
 //! The local search, which is never charged: `calculate_best_path_local` and the searches below it.
+ghost use mathlib.Core.Path.{_≡_};
+ghost use Prim.Native.Nat.{ℕ, _-_, _≤_, _<_, _^_};
+ghost use Rattle.snapshot.specs.Layouts.{snapOf};
+ghost use Rattle.find_path.specs.Local.{importableName, location as locationOf, calculateBestPathLocal};
+ghost use Rattle.find_path.specs.Search.{searchLocal, bestLocal};
+ghost use Rattle.find_path.specs.Conditions.{Prepared, Asked, Chosen};
+ghost use Rattle.local_search.specs.Levels.{Small, levelsOf};
+ghost use Rattle.local_search.specs.Post.{Searchable, Answered};
+
 pub mod levels;
 pub mod locations;
+
+use crate::levels::code_of;
+use crate::locations::find_local_import_locations;
+use find_path::Choice;
+use find_path::FindPathCtx;
+use find_path::choices::length_left;
+use find_path::choices::nothing;
+use find_path::offers::importable_name;
+use find_path::offers::offer;
+use find_path::rules::module_rules;
+use hir_def::Answer;
+use hir_def::Item;
+use snapshot::ids::ModuleId;
+use snapshot::ids::Name;
+use snapshot::layout::Layout;
+use snapshot::words::word;
 
 // The local searches under way, as levels in the work area: the first free word, the place of the last level's run, and how
 // many there are.
@@ -8,4 +33,115 @@ pub struct Stack {
     pub top: usize,
     pub place: usize,
     pub depth: usize,
+}
+
+// The words of the tables, which the levels lie above.
+const TABLES: usize = 4160;
+
+// One module of the run: its path with the item's name there, against the choice so far.
+fn location(
+    words: &[u32],
+    area: &mut [u32],
+    l: Layout,
+    x: FindPathCtx,
+    left: usize,
+    best: Choice,
+    item: Item,
+    m: ModuleId,
+    s: Stack,
+) -> Choice
+    requires { ⌜ (0 < left) × Searchable (now words) (now area) l x (left - 1) s × (m .0 < l .modules) × (best .count < 2 ^ 32) ⌝ }
+    ensures { λ r. ⌜ Answered (now (area .entry)) (s .top) (locationOf (snapOf (now (words .entry)) (now (area .entry)) l) x (searchLocal (snapOf (now (words .entry)) (now (area .entry)) l) x) left (levelsOf (now (area .entry)) (s .place) (s .depth)) best (m .0) (importableName (snapOf (now (words .entry)) (now (area .entry)) l) x item (m .0))) (now (area .exit)) r ⌝ }
+{
+    let a = importable_name(words, area, l, x, item, m);
+    let Answer::Name(n) = a else {
+        return best;
+    };
+    let c = find_path_for_module_local(words, area, l, x, length_left(left, best), m, s);
+    offer(words, area, l, x, best, c, Name(n))
+}
+
+// The module search without externs.
+fn find_path_for_module_local(
+    words: &[u32],
+    area: &mut [u32],
+    l: Layout,
+    x: FindPathCtx,
+    left: usize,
+    m: ModuleId,
+    s: Stack,
+) -> Choice
+    requires { ⌜ Searchable (now words) (now area) l x left s × (m .0 < l .modules) ⌝ }
+    ensures { λ r. ⌜ Answered (now (area .entry)) (s .top) (searchLocal (snapOf (now (words .entry)) (now (area .entry)) l) x left (levelsOf (now (area .entry)) (s .place) (s .depth)) (m .0)) (now (area .exit)) r ⌝ }
+{
+    if left == 0 {
+        return nothing();
+    }
+    let c = module_rules(words, area, l, x, false, m);
+    if c.found {
+        return c;
+    }
+    local_at(words, area, l, x, left, Item::Mod(m.0), s)
+}
+
+// A local search: it opens a level at the top, gathers its run, and searches for each module of it one level up.
+fn local_at(
+    words: &[u32],
+    area: &mut [u32],
+    l: Layout,
+    x: FindPathCtx,
+    left: usize,
+    item: Item,
+    s: Stack,
+) -> Choice
+    requires { ⌜ (0 < left) × Searchable (now words) (now area) l x left s × Small item ⌝ }
+    ensures { λ r. ⌜ Answered (now (area .entry)) (s .top) (calculateBestPathLocal (snapOf (now (words .entry)) (now (area .entry)) l) x (searchLocal (snapOf (now (words .entry)) (now (area .entry)) l) x) left (levelsOf (now (area .entry)) (s .place) (s .depth)) item) (now (area .exit)) r ⌝ }
+{
+    let top = s.top;
+    let base = top + 3;
+    let code = code_of(item);
+    area[top] = code as u32;
+    area[top + 1] = s.place as u32;
+    let here = Stack {
+        top: base,
+        place: s.place,
+        depth: s.depth,
+    };
+    let n = find_local_import_locations(words, area, l, ModuleId(x.from), here, item);
+    let up = Stack {
+        top: base + n,
+        place: base,
+        depth: s.depth + 1,
+    };
+    let mut best = nothing();
+    let mut k = 0;
+    while k < n {
+        let cursor = s.top + 2;
+        area[cursor] = k as u32;
+        let m = word(area, base + k);
+        best = location(words, area, l, x, left, best, item, ModuleId(m), up);
+        k += 1;
+    }
+    best
+}
+
+/// `calculate_best_path_local`: the best path to the item through the modules of the viewer's crate. Words after the tables are
+/// used as scratch.
+pub fn calculate_best_path_local(
+    words: &[u32],
+    area: &mut [u32],
+    l: Layout,
+    x: FindPathCtx,
+    left: usize,
+    item: Item,
+) -> Choice
+    requires { ⌜ Prepared (now words) (now area) l x × Asked l item × (0 < left) × (left ≤ 15) ⌝ }
+    ensures { λ r. ⌜ Chosen (now (area .entry)) (bestLocal (snapOf (now (words .entry)) (now (area .entry)) l) x left item) (now (area .exit)) r ⌝ }
+{
+    let none = Stack {
+        top: TABLES,
+        place: 0,
+        depth: 0,
+    };
+    local_at(words, area, l, x, left, item, none)
 }

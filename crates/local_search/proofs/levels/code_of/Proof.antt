@@ -8,43 +8,36 @@ use Rattle.local_search.proofs.levels.code_of.Tie as tie
 use Rattle.local_search.proofs.levels.code_of.Reads as reads
 use Rattle.local_search.proofs.levels.code_of.Lts as lts
 
--- src/levels.rt:19:19
 enum-known-item : tie.Need-enum-known-item
 enum-known-item c = search needs
 
--- src/levels.rt:19:25
 mul-result : tie.Need-mul-result
 mul-result c =
     let g = c .before .item .given in
     let p : Small (Mod (g .0 .0)) = subst Small (g .1) (c .before .before .before .pre) in
     record { fits = omega (arith, p) }
 
--- src/levels.rt:19:25
 add-result : tie.Need-add-result
 add-result c =
     let g = c .before .item .given in
     let p : Small (Mod (g .0 .0)) = subst Small (g .1) (c .before .before .before .pre) in
     record { fits = omega (arith, p) }
 
--- src/levels.rt:20:19
 enum-known-item-2 : tie.Need-enum-known-item-2
 enum-known-item-2 c = search needs
 
--- src/levels.rt:20:29
 mul-result-2 : tie.Need-mul-result-2
 mul-result-2 c =
     let g = c .before .item2 .given in
     let p : Small (Def (g .0 .0) (g .0 .1 .0)) = subst Small (g .1) (c .before .before .before .pre) in
     record { fits = omega (arith, p .0) }
 
--- src/levels.rt:20:29
 add-result-2 : tie.Need-add-result-2
 add-result-2 c =
     let g = c .before .item2 .given in
     let p : Small (Def (g .0 .0) (g .0 .1 .0)) = subst Small (g .1) (c .before .before .before .pre) in
     record { fits = omega (arith, p .0, p .1) }
 
--- src/levels.rt:14:1
 returns : tie.Need-returns
 unfolding codeOf
 returns c =
@@ -52,7 +45,6 @@ returns c =
     let p : Small (Mod (g .0 .0)) = subst Small (g .1) (c .before .before .before .pre) in
     (sym (ap codeOf (g .1)), omega (arith, p))
 
--- src/levels.rt:14:1
 returns-2 : tie.Need-returns-2
 unfolding codeOf
 returns-2 c =

@@ -22,43 +22,35 @@ Inv-loop area from n m i₀ i =
 abbrev μ-loop : tie.MeasureT-loop
 μ-loop area from n m i₀ i = n - i
 
--- src/levels.rt:30:5
 loop-holds : tie.Need-loop-holds Inv-loop μ-loop
 loop-holds c =
     let s = c .before in
     (omega arith, has-start (now (s .args .area)) _ _ _)
 
--- src/levels.rt:31:28
 add-word : tie.Need-add-word Inv-loop μ-loop
 add-word c = search needs
 
--- src/levels.rt:31:17
 word-requires : tie.Need-word-requires Inv-loop μ-loop
 word-requires c κs = tt
 
--- src/levels.rt:32:13
 returns : tie.Need-returns Inv-loop μ-loop
 returns c =
     let i = c .before .before in
     let s = i .before .before .before in
     has-hit (now (s .args .area)) _ _ _ _ (i .before .loop .inv .1) (i .loop-test .taken) (c .before .word .ensures) (c .if1 .taken)
 
--- src/levels.rt:34:9
 add-i : tie.Need-add-i Inv-loop μ-loop
 add-i c = search needs
 
--- src/levels.rt:30:5
 loop-less : tie.Need-loop-less Inv-loop μ-loop
 loop-less c = omega arith
 
--- src/levels.rt:30:5
 loop-again : tie.Need-loop-again Inv-loop μ-loop
 loop-again c =
     let i = c .before .before in
     let s = i .before .before .before in
     (omega arith, has-miss (now (s .args .area)) _ _ _ _ (i .before .loop .inv .1) (i .loop-test .taken) (c .before .word .ensures) (c .if1 .left))
 
--- src/levels.rt:25:1
 returns-2 : tie.Need-returns-2 Inv-loop μ-loop
 returns-2 c =
     let s = c .before .before .before in

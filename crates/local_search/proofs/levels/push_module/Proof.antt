@@ -11,50 +11,40 @@ use Rattle.local_search.proofs.levels.push_module.Lts as lts
 use Rattle.local_search.proofs.levels.has.Reads as has-reads
 use Rattle.local_search.proofs.levels.visited.Reads as visited-reads
 
--- src/levels.rt:65:8
 visited-requires : tie.Need-visited-requires
 visited-requires c κs =
     let s = c .before .before in
     (chain-within (now (s .args .area)) _ _ (s .args .s .top) _ (omega (arith, s .pre .0 .space)) (s .pre .0 .chain), s .pre .1)
 
--- src/levels.rt:66:9
 same-length : tie.Need-same-length
 same-length c = search needs
 
--- src/levels.rt:66:9
 returns : tie.Need-returns
 returns c =
     let s = c .before .before .before .before in
     push-seen (now (s .args .area)) _ _ _ _ (s .pre .0) (c .before .visited .ensures) (c .if1 .taken)
 
--- src/levels.rt:68:8
 has-requires : tie.Need-has-requires
 has-requires c κs = search needs
 
--- src/levels.rt:69:9
 same-length-2 : tie.Need-same-length-2
 same-length-2 c = search needs
 
--- src/levels.rt:69:9
 returns-2 : tie.Need-returns-2
 returns-2 c =
     let b = c .before .before .before in
     let s = b .before .before .before .before in
     push-there (now (s .args .area)) _ _ _ _ (s .pre .0) (b .before .visited .ensures) (b .if1 .left) (c .before .has .ensures) (c .if2 .taken)
 
--- src/levels.rt:71:23
 cast-area : tie.Need-cast-area
 cast-area c = search needs
 
--- src/levels.rt:71:10
 add-area : tie.Need-add-area
 add-area c = search needs
 
--- src/levels.rt:71:5
 mul-area : tie.Need-mul-area
 mul-area c = search needs
 
--- src/levels.rt:71:5
 slice-write-area : tie.Need-slice-write-area
 slice-write-area c =
     let e = c .before in
@@ -62,15 +52,12 @@ slice-write-area c =
     let s = b .before .before .before .before in
     omega (arith, s .pre .0 .space, push-place (now (s .args .area)) _ _ (s .args .item) _ (s .pre .0) (s .pre .2) (e .before .has .ensures) (e .if2 .left))
 
--- src/levels.rt:72:5
 add-result : tie.Need-add-result
 add-result c = search needs
 
--- src/levels.rt:61:1
 same-length-3 : tie.Need-same-length-3
 same-length-3 c = search needs
 
--- src/levels.rt:61:1
 returns-3 : tie.Need-returns-3
 returns-3 c =
     let e = c .before in

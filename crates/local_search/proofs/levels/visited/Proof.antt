@@ -30,39 +30,30 @@ first : (c : lts.In-loop (code-of-reads.Asked, code-of-reads.Learnt, word-reads.
     → First (now (c .before .before .before .before .args .area)) (c .before .loop .p) (c .before .loop .d) (length (now (c .before .before .before .before .args .area)))
 first c = chain-first _ _ _ _ (c .loop-test .taken) (c .before .loop .inv .1)
 
--- src/levels.rt:44:9
 code-of-requires : tie.Need-code-of-requires Inv-loop μ-loop
 code-of-requires c κs = c .before .pre .1
 
--- src/levels.rt:47:5
 loop-holds : tie.Need-loop-holds Inv-loop μ-loop
 loop-holds c = (λ item s e. refl, c .before .before .pre .0)
 
--- src/levels.rt:48:23
 sub-word : tie.Need-sub-word Inv-loop μ-loop
 sub-word c = omega (arith, first c .header)
 
--- src/levels.rt:48:12
 word-requires : tie.Need-word-requires Inv-loop μ-loop
 word-requires c κs = tt
 
--- src/levels.rt:49:37
 sub-word-2 : tie.Need-sub-word-2 Inv-loop μ-loop
 sub-word-2 c = omega (arith, first (c .before .before) .header)
 
--- src/levels.rt:49:17
 word-requires-2 : tie.Need-word-requires-2 Inv-loop μ-loop
 word-requires-2 c κs = tt
 
--- src/levels.rt:50:29
 add-has : tie.Need-add-has Inv-loop μ-loop
 add-has c = omega (arith, first (c .before .before .before) .within, c .word2 .ensures)
 
--- src/levels.rt:50:16
 has-requires : tie.Need-has-requires Inv-loop μ-loop
 has-requires c κs = omega (arith, first (c .before .before .before) .within, c .word2 .ensures)
 
--- src/levels.rt:51:17
 returns : tie.Need-returns Inv-loop μ-loop
 returns c =
     let w = c .before .before in
@@ -73,23 +64,18 @@ returns c =
     let s = o .before .before in
     visited-hit (now (s .args .area)) _ _ _ (l .p) (l .d) (l .inv .0 _ (s .pre .1) (o .code-of .ensures .0)) (s .pre .1) (i .loop-test .taken) (b .word .ensures) (o .code-of .ensures .0) (w .before .if1 .taken) (w .word2 .ensures) (c .before .has .ensures) (c .if2 .taken)
 
--- src/levels.rt:54:24
 sub-word-3 : tie.Need-sub-word-3 Inv-loop μ-loop
 sub-word-3 c = omega (arith, first (c .before .before) .header)
 
--- src/levels.rt:54:9
 word-requires-3 : tie.Need-word-requires-3 Inv-loop μ-loop
 word-requires-3 c κs = tt
 
--- src/levels.rt:55:9
 sub-d : tie.Need-sub-d Inv-loop μ-loop
 sub-d c = omega (arith, c .before .before .before .loop-test .taken)
 
--- src/levels.rt:47:5
 loop-less : tie.Need-loop-less Inv-loop μ-loop
 loop-less c = omega (arith, c .before .before .before .loop-test .taken)
 
--- src/levels.rt:47:5
 loop-again : tie.Need-loop-again Inv-loop μ-loop
 loop-again c =
     let i = c .before .before .before in
@@ -104,7 +90,6 @@ loop-again c =
       rw (c .word3 .ensures) (first i .rest),
     )
 
--- src/levels.rt:40:1
 returns-2 : tie.Need-returns-2 Inv-loop μ-loop
 returns-2 c =
     let l = c .before .loop in

@@ -21,20 +21,17 @@ Inv-loop words area₀ l from s item children n₀ k₀ area n k =
 abbrev μ-loop : tie.MeasureT-loop
 μ-loop words area₀ l from s item children n₀ k₀ area n k = 512 - k
 
--- src/locations.rt:144:9
 push-children-requires : tie.Need-push-children-requires Inv-loop μ-loop
 push-children-requires c κs =
     let s = c .before .before .before in
     (s .pre .0, ready-start (now (s .args .words)) (now (s .args .area)) (s .args .l) (s .args .from .0) (s .args .s) (s .args .item) (s .pre .0) (s .pre .2) (s .pre .3) (s .pre .4), s .pre .5)
 
--- src/locations.rt:145:9
 push-containers-requires : tie.Need-push-containers-requires Inv-loop μ-loop
 push-containers-requires c κs =
     let p = c .before .before .before in
     let s = p .before .before .before .before in
     (reads-children (now (s .args .words)) (now (s .args .area)) (s .args .l) (s .args .from .0) (s .args .s) (s .args .item) (s .pre .0) (s .pre .2) (s .pre .3) (s .pre .4) _ _ (p .push-children .ensures) (p .push-children .kept .1 .0), s .pre .1, ready-children (now (s .args .words)) (now (s .args .area)) (s .args .l) (s .args .from .0) (s .args .s) (s .args .item) (s .pre .0) (s .pre .2) (s .pre .3) (s .pre .4) _ _ (p .push-children .ensures) (p .push-children .kept .1 .0), s .pre .5)
 
--- src/locations.rt:147:5
 loop-holds : tie.Need-loop-holds Inv-loop μ-loop
 loop-holds c =
     let w = c in
@@ -43,17 +40,14 @@ loop-holds c =
     let s = p .before .before .before .before in
     walking-start (now (s .args .words)) _ (s .args .l) _ _ _ _ (ready-begun (now (s .args .words)) (now (s .args .area)) (s .args .l) (s .args .from .0) (s .args .s) (s .args .item) (s .pre .0) (s .pre .2) (s .pre .3) (s .pre .4) _ _ (p .push-children .ensures) (p .push-children .kept .1 .0) _ _ (q .push-containers .ensures) (q .push-containers .kept .1 .0))
 
--- src/locations.rt:148:28
 add-word : tie.Need-add-word Inv-loop μ-loop
 add-word c =
     let l = c .before .before .before .loop in
     omega (arith, l .inv .ready .space, c .before .before .loop-test .taken, l .inv .ready .fits)
 
--- src/locations.rt:148:13
 word-requires : tie.Need-word-requires Inv-loop μ-loop
 word-requires c κs = tt
 
--- src/locations.rt:149:9
 push-next-requires : tie.Need-push-next-requires Inv-loop μ-loop
 push-next-requires c κs =
     let a = c .before .before .before .before .before in
@@ -63,19 +57,16 @@ push-next-requires c κs =
     let s = p .before .before .before .before in
     (walking-reads (now (s .args .words)) _ (s .args .l) (s .args .from .0) (s .args .s) (s .args .item) _ (reads-begun (now (s .args .words)) (now (s .args .area)) (s .args .l) (s .args .from .0) (s .args .s) (s .args .item) (s .pre .0) (s .pre .2) (s .pre .3) (s .pre .4) _ _ (p .push-children .ensures) (p .push-children .kept .1 .0) _ _ (q .push-containers .ensures) (q .push-containers .kept .1 .0)) (a .loop .area) (a .loop .n) (a .loop .k) (a .loop .inv), s .pre .1, a .loop .inv .ready, s .pre .5)
 
--- src/locations.rt:150:9
 add-k : tie.Need-add-k Inv-loop μ-loop
 add-k c =
     let i = c .before .before .before .before .before .before .before in
     omega (arith, i .before .loop .inv .ready .fits, i .loop-test .taken)
 
--- src/locations.rt:147:5
 loop-less : tie.Need-loop-less Inv-loop μ-loop
 loop-less c =
     let i = c .before .before .before .before .before .before .before in
     omega (arith, i .before .loop .inv .ready .fits, i .loop-test .taken)
 
--- src/locations.rt:147:5
 loop-again : tie.Need-loop-again Inv-loop μ-loop
 loop-again c =
     let o = c .before .before in
@@ -88,7 +79,6 @@ loop-again c =
     let s = p .before .before .before .before in
     walking-next (now (s .args .words)) _ (s .args .l) (s .args .from .0) (s .args .s) (s .args .item) _ (reads-begun (now (s .args .words)) (now (s .args .area)) (s .args .l) (s .args .from .0) (s .args .s) (s .args .item) (s .pre .0) (s .pre .2) (s .pre .3) (s .pre .4) _ _ (p .push-children .ensures) (p .push-children .kept .1 .0) _ _ (q .push-containers .ensures) (q .push-containers .kept .1 .0)) (a .loop .area) (a .loop .n) (a .loop .k) (a .loop .inv) _ _ (i .loop-test .taken) (d .word .ensures) (o .push-next .ensures) (o .push-next .kept .1 .0)
 
--- src/locations.rt:133:1
 same-length : tie.Need-same-length Inv-loop μ-loop
 same-length c =
     let w = c .before .before in
@@ -96,7 +86,6 @@ same-length c =
     let p = q .before .before .before .before in
     c .before .loop .inv .size ∙ q .push-containers .kept .1 .0 ∙ p .push-children .kept .1 .0
 
--- src/locations.rt:133:1
 returns : tie.Need-returns Inv-loop μ-loop
 returns c =
     let a = c .before in

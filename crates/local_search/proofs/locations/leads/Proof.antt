@@ -15,36 +15,29 @@ use Rattle.hir_def.proofs.visibility.is_visible_from.Reads as is-visible-from-r
 use Rattle.snapshot.proofs.record.scope_number.Reads as scope-number-reads
 use Rattle.snapshot.proofs.record.scope_visibility.Reads as scope-visibility-reads
 
--- src/locations.rt:94:9
 krate-requires : tie.Need-krate-requires
 krate-requires c κs = search needs
 
--- src/locations.rt:95:9
 krate-requires-2 : tie.Need-krate-requires-2
 krate-requires-2 c κs = search needs
 
--- src/locations.rt:97:9
 returns : tie.Need-returns
 returns c =
     let k = c .before .before .before in
     let s = k .before .before .before .before in
     leads-no (snapOf (now (s .args .words)) (now (s .args .area)) (s .args .l)) (s .args .from .0) (s .args .to .0) (scopeAt (now (s .args .words)) (s .args .h)) (k .before .krate .ensures) (k .krate2 .ensures) (c .if1 .taken)
 
--- src/locations.rt:99:9
 scope-visibility-requires : tie.Need-scope-visibility-requires
 scope-visibility-requires c κs = search needs
 
--- src/locations.rt:100:43
 scope-number-requires : tie.Need-scope-number-requires
 scope-number-requires c κs = search needs
 
--- src/locations.rt:100:5
 is-visible-from-requires : tie.Need-is-visible-from-requires
 is-visible-from-requires c κs =
     let s = c .before .before .before .before .before .before .before .before .before in
     (s .pre .0, s .pre .1, λ h. let g = s .pre .3 (omega (arith, h, c .before .scope-visibility .ensures)) in omega (arith, g, c .scope-number .ensures))
 
--- src/locations.rt:90:1
 returns-2 : tie.Need-returns-2
 returns-2 c =
     let n = c .before in

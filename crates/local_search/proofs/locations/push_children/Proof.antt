@@ -26,40 +26,33 @@ Inv-loop words area₀ l from s n item base run₀ k₀ area run k =
 abbrev μ-loop : tie.MeasureT-loop
 μ-loop words area₀ l from s n item base run₀ k₀ area run k = l .children - k
 
--- src/locations.rt:49:9
 child-base-requires : tie.Need-child-base-requires Inv-loop μ-loop
 child-base-requires c κs =
     let s = c .before .before in
     few-words (now (s .args .words)) (now (s .args .area)) _ (s .pre .0)
 
--- src/locations.rt:52:5
 loop-holds : tie.Need-loop-holds Inv-loop μ-loop
 loop-holds c =
     let s = c .before .before .before in
     pushing-skip _ _ _ _ _ (pushing-start (now (s .args .area)) _ _ (s .args .item) _ (s .pre .1)) (children-start (now (s .args .words)) (now (s .args .area)) (s .args .l) (s .args .from .0)) refl refl
 
--- src/locations.rt:53:24
 mul-h : tie.Need-mul-h Inv-loop μ-loop
 mul-h c =
     let s = c .before .before .before .before .before .before in
     record { fits = omega (arith, c .if1 .taken, few-words (now (s .args .words)) (now (s .args .area)) (s .args .l) (s .pre .0)) }
 
--- src/locations.rt:53:17
 add-h : tie.Need-add-h Inv-loop μ-loop
 add-h c =
     let b = c .before .before .before in
     let s = b .before .before .before in
     record { fits = omega (arith, c .if1 .taken, b .child-base .ensures, few-words (now (s .args .words)) (now (s .args .area)) (s .args .l) (s .pre .0)) }
 
--- src/locations.rt:54:13
 child-owner-requires : tie.Need-child-owner-requires Inv-loop μ-loop
 child-owner-requires c κs = tt
 
--- src/locations.rt:56:17
 child-child-requires : tie.Need-child-child-requires Inv-loop μ-loop
 child-child-requires c κs = tt
 
--- src/locations.rt:57:13
 push-module-requires : tie.Need-push-module-requires Inv-loop μ-loop
 push-module-requires c κs =
     let i = c .before .before .before .before .before .before in
@@ -68,18 +61,15 @@ push-module-requires c κs =
     let s = b .before .before .before in
     (l .inv .ready, s .pre .2, child-below (now (s .args .words)) (now (s .args .area)) (s .args .l) (s .pre .0) (i .if1 .taken) (b .child-base .ensures) (c .before .child-child .ensures))
 
--- src/locations.rt:59:9
 add-k : tie.Need-add-k Inv-loop μ-loop
 add-k c =
     let i = c .before .before .before .before in
     let s = i .before .before .before .before .before .before in
     record { fits = omega (arith, i .if1 .taken, few-words (now (s .args .words)) (now (s .args .area)) (s .args .l) (s .pre .0)) }
 
--- src/locations.rt:52:5
 loop-less : tie.Need-loop-less Inv-loop μ-loop
 loop-less c = omega (arith, c .before .before .before .before .if1 .taken)
 
--- src/locations.rt:52:5
 loop-again : tie.Need-loop-again Inv-loop μ-loop
 loop-again c =
     let o = c .before .before .before in
@@ -93,11 +83,9 @@ loop-again c =
     (λ w. pushing-skip _ _ _ _ _ (l .inv) (child-miss W (s .args .l) (s .args .from .0) (l .k) (i .if1 .taken) (b .child-base .ensures) (o .child-owner .ensures) (w .0 .left)) (w .1) (w .2))
     (c .if2 .came)
 
--- src/locations.rt:37:1
 same-length : tie.Need-same-length Inv-loop μ-loop
 same-length c = c .before .before .loop .inv .size
 
--- src/locations.rt:37:1
 returns : tie.Need-returns Inv-loop μ-loop
 returns c =
     let l = c .before .before .loop in

@@ -23,35 +23,29 @@ Inv-loop words area₀ l s n item run₀ m₀ area run m =
 abbrev μ-loop : tie.MeasureT-loop
 μ-loop words area₀ l s n item run₀ m₀ area run m = m
 
--- src/locations.rt:79:5
 loop-holds : tie.Need-loop-holds Inv-loop μ-loop
 loop-holds c =
     let s = c .before .before in
     (s .pre .1, pushing-start (now (s .args .area)) _ _ (s .args .item) _ (s .pre .2))
 
--- src/locations.rt:80:13
 containing-requires : tie.Need-containing-requires Inv-loop μ-loop
 containing-requires c κs =
     let l = c .before .loop in
     let s = c .before .before .before .before in
     (reads-at (now (s .args .words)) (now (s .args .area)) (l .area) _ (s .args .s .top) (s .pre .0) (s .pre .2 .tables) (l .inv .1 .below), l .inv .0)
 
--- src/locations.rt:82:13
 same-length : tie.Need-same-length Inv-loop μ-loop
 same-length c = c .before .before .before .loop .inv .1 .size
 
--- src/locations.rt:82:13
 returns : tie.Need-returns Inv-loop μ-loop
 returns c =
     let l = c .before .before .before .loop in
     let s = c .before .before .before .before .before .before in
     pushing-done _ _ _ _ _ (l .inv .1) (containers-end (now (s .args .words)) (now (s .args .area)) (s .args .l) (s .pre .0) (l .m) (l .inv .0) (c .before .containing .ensures ∙ ap (λ x. containing x (l .m)) (snap-at (now (s .args .words)) (now (s .args .area)) (l .area) (s .args .l) (s .args .s .top) (s .pre .0) (s .pre .2 .tables) (l .inv .1 .below))) (c .if1 .taken))
 
--- src/locations.rt:84:13
 sub-m : tie.Need-sub-m Inv-loop μ-loop
 sub-m c = let h = c .if1 .left in omega arith
 
--- src/locations.rt:85:9
 push-module-requires : tie.Need-push-module-requires Inv-loop μ-loop
 push-module-requires c κs =
     let e = c .before in
@@ -59,7 +53,6 @@ push-module-requires c κs =
     let s = e .before .before .before .before .before .before in
     (l .inv .1 .ready, s .pre .3, omega (arith, s .pre .0 .tables .limited .modules, l .inv .0, containers-less (now (s .args .words)) (now (s .args .area)) (s .args .l) (s .pre .0) (l .m) (l .inv .0) (e .before .containing .ensures ∙ ap (λ x. containing x (l .m)) (snap-at (now (s .args .words)) (now (s .args .area)) (l .area) (s .args .l) (s .args .s .top) (s .pre .0) (s .pre .2 .tables) (l .inv .1 .below))) (e .if1 .left)))
 
--- src/locations.rt:79:5
 loop-less : tie.Need-loop-less Inv-loop μ-loop
 loop-less c =
     let e = c .before .before .before .before in
@@ -67,7 +60,6 @@ loop-less c =
     let s = e .before .before .before .before .before .before in
     containers-less (now (s .args .words)) (now (s .args .area)) (s .args .l) (s .pre .0) (l .m) (l .inv .0) (e .before .containing .ensures ∙ ap (λ x. containing x (l .m)) (snap-at (now (s .args .words)) (now (s .args .area)) (l .area) (s .args .l) (s .args .s .top) (s .pre .0) (s .pre .2 .tables) (l .inv .1 .below))) (e .if1 .left)
 
--- src/locations.rt:79:5
 loop-again : tie.Need-loop-again Inv-loop μ-loop
 loop-again c =
     let p = c .before .before in

@@ -32,31 +32,25 @@ Inv-loop words area₀ l from s n item m run₀ k₀ area run k =
 abbrev μ-loop : tie.MeasureT-loop
 μ-loop words area₀ l from s n item m run₀ k₀ area run k = l .scopes - k
 
--- src/locations.rt:119:5
 loop-holds : tie.Need-loop-holds Inv-loop μ-loop
 loop-holds c =
     let s = c .before .before in
     pushing-skip _ _ _ _ _ (pushing-start (now (s .args .area)) _ _ (s .args .item) _ (s .pre .2)) (leads-start (now (s .args .words)) (now (s .args .area)) (s .args .l) (s .args .from .0) (s .args .m .0)) refl refl
 
--- src/locations.rt:120:13
 next-module-requires : tie.Need-next-module-requires Inv-loop μ-loop
 next-module-requires c κs =
     let s = c .before .before .before in
     few-words (now (s .args .words)) (now (s .args .area)) (s .args .l) (s .pre .0)
 
--- src/locations.rt:121:26
 enum-known-e : tie.Need-enum-known-e Inv-loop μ-loop
 enum-known-e c = search needs
 
--- src/locations.rt:122:13
 enum-told : tie.Need-enum-told Inv-loop μ-loop
 enum-told c = search needs
 
--- src/locations.rt:122:13
 same-length : tie.Need-same-length Inv-loop μ-loop
 same-length c = c .before .before .before .loop .inv .size
 
--- src/locations.rt:122:13
 returns : tie.Need-returns Inv-loop μ-loop
 returns c =
     let n = c .before .before in
@@ -64,17 +58,14 @@ returns c =
     let A = now (s .args .area) in
     pushing-done _ _ _ _ _ (n .before .loop .inv) (leads-end (now (s .args .words)) A (s .args .l) (s .args .from .0) (s .args .m .0) (next-none (n .next-module .ensures A) (c .enum-told .given .1)))
 
--- src/locations.rt:124:37
 scope-definition-requires : tie.Need-scope-definition-requires Inv-loop μ-loop
 scope-definition-requires c κs = tt
 
--- src/locations.rt:124:13
 first-of-requires : tie.Need-first-of-requires Inv-loop μ-loop
 first-of-requires c κs =
     let s = c .before .before .before .before .before .before .before .before in
     few-words (now (s .args .words)) (now (s .args .area)) (s .args .l) (s .pre .0)
 
--- src/locations.rt:125:12
 leads-requires : tie.Need-leads-requires Inv-loop μ-loop
 leads-requires c κs =
     let f = c .before in
@@ -88,7 +79,6 @@ leads-requires c κs =
     let t = f .first-of .ensures A ∙ ap (λ y. definitionOf (snapOf W A (s .args .l)) y .first) (f .before .scope-definition .ensures) in
     (reads-at W A (l .area) (s .args .l) (s .args .s .top) (s .pre .0) (s .pre .2 .tables) (l .inv .below), s .pre .1, leads-below W A (s .args .l) (s .args .from .0) (s .args .m .0) x (s .pre .0) t, module-meets W A (s .args .l) (s .pre .0) x .inside)
 
--- src/locations.rt:126:13
 push-module-requires : tie.Need-push-module-requires Inv-loop μ-loop
 push-module-requires c κs =
     let f = c .before .before .before .before in
@@ -102,7 +92,6 @@ push-module-requires c κs =
     let t = f .first-of .ensures A ∙ ap (λ y. definitionOf (snapOf W A (s .args .l)) y .first) (f .before .scope-definition .ensures) in
     (l .inv .ready, s .pre .3, omega (arith, s .pre .0 .tables .limited .modules, leads-below W A (s .args .l) (s .args .from .0) (s .args .m .0) x (s .pre .0) t))
 
--- src/locations.rt:128:13
 add-k : tie.Need-add-k Inv-loop μ-loop
 add-k c =
     let e = c .before .before .before .before .before .before in
@@ -114,7 +103,6 @@ add-k c =
     let x = next-record (n .next-module .ensures A) (e .e .given .1) in
     record { fits = omega (arith, x .below, few-words W A (s .args .l) (s .pre .0)) }
 
--- src/locations.rt:119:5
 loop-less : tie.Need-loop-less Inv-loop μ-loop
 loop-less c =
     let e = c .before .before .before .before .before .before in
@@ -126,7 +114,6 @@ loop-less c =
     let x = next-record (n .next-module .ensures A) (e .e .given .1) in
     omega (arith, x .below, x .from)
 
--- src/locations.rt:119:5
 loop-again : tie.Need-loop-again Inv-loop μ-loop
 loop-again c =
     let g = c .before in

@@ -1,0 +1,854 @@
+use mathlib.Core.Path.{_≡_, refl, sym, ap, _∙_}
+use native.Mathlib.Omega.{arith}
+use borrow.Author.Needs.{needs}
+use lib.ListN.{length, length-set}
+use denote.Ref.{now}
+use Rattle.snapshot.specs.Layouts.{snapOf}
+use Rattle.local_search.specs.Levels.{levelsOf}
+use Rattle.local_search.proofs.Nests.{Nesting, room, head-reads, head-space, head-chain, start-few, nesting-start, loop-size, nesting-call, nesting-known, nesting-next, nesting-done}
+use Rattle.local_search.proofs.Searches.{module-small, search-none, search-rules, search-on, location-none, location-shorter, location-call, location-reads, location-few, location-text, location-some, named-at}
+use Prim.Native.Nat.{ℕ, _<_, _+_, _-_, _*_}
+use borrow.Fn.Kinds.{In}
+use borrow.Fn.PlainCycle.{Measures, is, falls, and}
+use Rattle.local_search.proofs.find_path_for_module_local.Reads as find-path-for-module-local
+use Rattle.local_search.proofs.find_path_for_module_local.Kinds as find-path-for-module-local-kinds
+use Rattle.local_search.proofs.+find_path_for_module_local+local_at+location.Lts-find_path_for_module_local as find-path-for-module-local-lts
+use Rattle.local_search.proofs.local_at.Reads as local-at
+use Rattle.local_search.proofs.local_at.Kinds as local-at-kinds
+use Rattle.local_search.proofs.+find_path_for_module_local+local_at+location.Lts-local_at as local-at-lts
+use Rattle.local_search.proofs.location.Reads as location
+use Rattle.local_search.proofs.location.Kinds as location-kinds
+use Rattle.local_search.proofs.+find_path_for_module_local+local_at+location.Lts-location as location-lts
+use Rattle.find_path.proofs.choices.length_left.Reads as length-left-reads
+use Rattle.find_path.proofs.choices.nothing.Reads as nothing-reads
+use Rattle.find_path.proofs.offers.importable_name.Reads as importable-name-reads
+use Rattle.find_path.proofs.offers.offer.Reads as offer-reads
+use Rattle.find_path.proofs.rules.module_rules.Reads as module-rules-reads
+use Rattle.local_search.proofs.levels.code_of.Reads as code-of-reads
+use Rattle.local_search.proofs.locations.find_local_import_locations.Reads as find-local-import-locations-reads
+use Rattle.snapshot.proofs.words.word.Reads as word-reads
+use Rattle.local_search.proofs.+find_path_for_module_local+local_at+location.{statement}
+use Rattle.local_search.proofs.+find_path_for_module_local+local_at+location.Tie.{close}
+
+abbrev μ-find-path-for-module-local : Measures 2 find-path-for-module-local-kinds.ps ℕ
+μ-find-path-for-module-local κs a = 3 * a .1 .1 .1 .1 .0 + 2
+
+abbrev μ-local-at : Measures 2 local-at-kinds.ps ℕ
+μ-local-at κs a = 3 * a .1 .1 .1 .1 .0 + 1
+
+abbrev μ-location : Measures 2 location-kinds.ps ℕ
+μ-location κs a = 3 * a .1 .1 .1 .1 .0
+
+abbrev find-path-for-module-local-at : ℕ → In 2 find-path-for-module-local-kinds.ps
+find-path-for-module-local-at t =
+    and
+    2
+    find-path-for-module-local-kinds.ps
+    (is 2 find-path-for-module-local-kinds.ps μ-find-path-for-module-local t)
+    find-path-for-module-local.Pre
+
+abbrev find-path-for-module-local-below : ℕ → In 2 find-path-for-module-local-kinds.ps
+find-path-for-module-local-below t =
+    and
+    2
+    find-path-for-module-local-kinds.ps
+    (falls 2 find-path-for-module-local-kinds.ps _<_ μ-find-path-for-module-local t)
+    find-path-for-module-local.Pre
+
+abbrev local-at-at : ℕ → In 2 local-at-kinds.ps
+local-at-at t = and 2 local-at-kinds.ps (is 2 local-at-kinds.ps μ-local-at t) local-at.Pre
+
+abbrev local-at-below : ℕ → In 2 local-at-kinds.ps
+local-at-below t =
+    and 2 local-at-kinds.ps (falls 2 local-at-kinds.ps _<_ μ-local-at t) local-at.Pre
+
+abbrev location-at : ℕ → In 2 location-kinds.ps
+location-at t = and 2 location-kinds.ps (is 2 location-kinds.ps μ-location t) location.Pre
+
+abbrev location-below : ℕ → In 2 location-kinds.ps
+location-below t =
+    and 2 location-kinds.ps (falls 2 location-kinds.ps _<_ μ-location t) location.Pre
+
+find-path-for-module-local-nothing-requires :
+    (t : ℕ) → find-path-for-module-local-lts.Need-nothing-requires (
+      nothing-reads.Asked,
+      nothing-reads.Learnt,
+      module-rules-reads.Asked,
+      module-rules-reads.Learnt,
+      local-at-below t,
+      local-at.Post,
+    ) (find-path-for-module-local-at t) find-path-for-module-local.Post
+find-path-for-module-local-nothing-requires t c κs =
+    tt
+
+find-path-for-module-local-returns : (t : ℕ) → find-path-for-module-local-lts.Need-returns (
+  nothing-reads.Asked,
+  nothing-reads.Learnt,
+  module-rules-reads.Asked,
+  module-rules-reads.Learnt,
+  local-at-below t,
+  local-at.Post,
+) (find-path-for-module-local-at t) find-path-for-module-local.Post
+find-path-for-module-local-returns t c =
+    let s = c .before .before .before .before in
+    record { same = search-none (snapOf (now (s .args .words)) (now (s .args .area)) (s .args .l)) (s .args .x) (s .args .left) (levelsOf (now (s .args .area)) (s .args .s .place) (s .args .s .depth)) (s .args .m .0) (c .before .if1 .taken) (c .nothing .ensures); below = refl }
+
+find-path-for-module-local-module-rules-requires :
+    (t : ℕ) → find-path-for-module-local-lts.Need-module-rules-requires (
+      nothing-reads.Asked,
+      nothing-reads.Learnt,
+      module-rules-reads.Asked,
+      module-rules-reads.Learnt,
+      local-at-below t,
+      local-at.Post,
+    ) (find-path-for-module-local-at t) find-path-for-module-local.Post
+find-path-for-module-local-module-rules-requires t c κs =
+    let s = c .before .before .before .before in
+    (s .pre .1 .0 .reads, s .pre .1 .0 .from, s .pre .1 .1)
+
+find-path-for-module-local-same-length : (t : ℕ) → find-path-for-module-local-lts.Need-same-length (
+  nothing-reads.Asked,
+  nothing-reads.Learnt,
+  module-rules-reads.Asked,
+  module-rules-reads.Learnt,
+  local-at-below t,
+  local-at.Post,
+) (find-path-for-module-local-at t) find-path-for-module-local.Post
+find-path-for-module-local-same-length t c =
+    refl
+
+find-path-for-module-local-returns-2 : (t : ℕ) → find-path-for-module-local-lts.Need-returns-2 (
+  nothing-reads.Asked,
+  nothing-reads.Learnt,
+  module-rules-reads.Asked,
+  module-rules-reads.Learnt,
+  local-at-below t,
+  local-at.Post,
+) (find-path-for-module-local-at t) find-path-for-module-local.Post
+find-path-for-module-local-returns-2 t c =
+    let e = c .before .before .before in
+    let s = e .before .before .before in
+    record { same = search-rules (snapOf (now (s .args .words)) (now (s .args .area)) (s .args .l)) (s .args .x) (s .args .left) (levelsOf (now (s .args .area)) (s .args .s .place) (s .args .s .depth)) (s .args .m .0) (e .if1 .left) (c .before .module-rules .ensures) (c .if2 .taken); below = refl }
+
+find-path-for-module-local-local-at-requires :
+    (t : ℕ) → find-path-for-module-local-lts.Need-local-at-requires (
+      nothing-reads.Asked,
+      nothing-reads.Learnt,
+      module-rules-reads.Asked,
+      module-rules-reads.Learnt,
+      local-at-below t,
+      local-at.Post,
+    ) (find-path-for-module-local-at t) find-path-for-module-local.Post
+find-path-for-module-local-local-at-requires t c κs =
+    let e = c .before .before .before .before in
+    let s = e .before .before .before in
+    let h = e .if1 .left in
+    (omega (arith, s .pre .0), (omega arith, s .pre .1 .0, module-small (now (s .args .words)) (now (s .args .area)) (s .args .l) (s .pre .1 .0 .reads) (s .args .m .0) (s .pre .1 .1)))
+
+find-path-for-module-local-same-length-2 :
+    (t : ℕ) → find-path-for-module-local-lts.Need-same-length-2 (
+      nothing-reads.Asked,
+      nothing-reads.Learnt,
+      module-rules-reads.Asked,
+      module-rules-reads.Learnt,
+      local-at-below t,
+      local-at.Post,
+    ) (find-path-for-module-local-at t) find-path-for-module-local.Post
+find-path-for-module-local-same-length-2 t c =
+    c .before .before .local-at .kept .1 .0
+
+find-path-for-module-local-returns-3 : (t : ℕ) → find-path-for-module-local-lts.Need-returns-3 (
+  nothing-reads.Asked,
+  nothing-reads.Learnt,
+  module-rules-reads.Asked,
+  module-rules-reads.Learnt,
+  local-at-below t,
+  local-at.Post,
+) (find-path-for-module-local-at t) find-path-for-module-local.Post
+find-path-for-module-local-returns-3 t c =
+    let a = c .before .before in
+    let e = a .before .before in
+    let r = e .before in
+    let i = r .before .before in
+    let s = i .before .before .before in
+    record { same = search-on (snapOf (now (s .args .words)) (now (s .args .area)) (s .args .l)) (s .args .x) (s .args .left) (levelsOf (now (s .args .area)) (s .args .s .place) (s .args .s .depth)) (s .args .m .0) (i .if1 .left) (r .module-rules .ensures) (e .if2 .left) (a .local-at .ensures .same); below = a .local-at .ensures .below }
+
+abbrev local-at-Inv-loop : local-at-lts.InvT-loop
+local-at-Inv-loop words area₀ l x left item s top base code n up best₀ k₀ area best k =
+    Nesting (snapOf words area₀ l) x left item area₀ s n area best k
+
+abbrev local-at-μ-loop : local-at-lts.MeasureT-loop
+local-at-μ-loop words area₀ l x left item s top base code n up best₀ k₀ area best k =
+    n - k
+
+local-at-add-base : (t : ℕ) → local-at-lts.Need-add-base (
+  code-of-reads.Asked,
+  code-of-reads.Learnt,
+  find-local-import-locations-reads.Asked,
+  find-local-import-locations-reads.Learnt,
+  nothing-reads.Asked,
+  nothing-reads.Learnt,
+  word-reads.Asked,
+  word-reads.Learnt,
+  location-below t,
+  location.Post,
+) (local-at-at t) local-at.Post local-at-Inv-loop local-at-μ-loop
+local-at-add-base t c =
+    let s = c .before .before in
+    omega (arith, s .pre .1 .1 .space, s .pre .1 .0)
+
+local-at-code-of-requires : (t : ℕ) → local-at-lts.Need-code-of-requires (
+  code-of-reads.Asked,
+  code-of-reads.Learnt,
+  find-local-import-locations-reads.Asked,
+  find-local-import-locations-reads.Learnt,
+  nothing-reads.Asked,
+  nothing-reads.Learnt,
+  word-reads.Asked,
+  word-reads.Learnt,
+  location-below t,
+  location.Post,
+) (local-at-at t) local-at.Post local-at-Inv-loop local-at-μ-loop
+local-at-code-of-requires t c κs =
+    c .before .before .pre .1 .2
+
+local-at-cast-area : (t : ℕ) → local-at-lts.Need-cast-area (
+  code-of-reads.Asked,
+  code-of-reads.Learnt,
+  find-local-import-locations-reads.Asked,
+  find-local-import-locations-reads.Learnt,
+  nothing-reads.Asked,
+  nothing-reads.Learnt,
+  word-reads.Asked,
+  word-reads.Learnt,
+  location-below t,
+  location.Post,
+) (local-at-at t) local-at.Post local-at-Inv-loop local-at-μ-loop
+local-at-cast-area t c =
+    omega (arith, c .code-of .ensures .1)
+
+local-at-mul-area : (t : ℕ) → local-at-lts.Need-mul-area (
+  code-of-reads.Asked,
+  code-of-reads.Learnt,
+  find-local-import-locations-reads.Asked,
+  find-local-import-locations-reads.Learnt,
+  nothing-reads.Asked,
+  nothing-reads.Learnt,
+  word-reads.Asked,
+  word-reads.Learnt,
+  location-below t,
+  location.Post,
+) (local-at-at t) local-at.Post local-at-Inv-loop local-at-μ-loop
+local-at-mul-area t c =
+    let s = c .before .before .before in
+    omega (arith, s .pre .1 .1 .space, s .pre .1 .0)
+
+local-at-slice-write-area : (t : ℕ) → local-at-lts.Need-slice-write-area (
+  code-of-reads.Asked,
+  code-of-reads.Learnt,
+  find-local-import-locations-reads.Asked,
+  find-local-import-locations-reads.Learnt,
+  nothing-reads.Asked,
+  nothing-reads.Learnt,
+  word-reads.Asked,
+  word-reads.Learnt,
+  location-below t,
+  location.Post,
+) (local-at-at t) local-at.Post local-at-Inv-loop local-at-μ-loop
+local-at-slice-write-area t c =
+    let s = c .before .before .before in
+    omega (arith, s .pre .1 .1 .space, s .pre .1 .0, s .pre .1 .1 .area)
+
+local-at-cast-area-2 : (t : ℕ) → local-at-lts.Need-cast-area-2 (
+  code-of-reads.Asked,
+  code-of-reads.Learnt,
+  find-local-import-locations-reads.Asked,
+  find-local-import-locations-reads.Learnt,
+  nothing-reads.Asked,
+  nothing-reads.Learnt,
+  word-reads.Asked,
+  word-reads.Learnt,
+  location-below t,
+  location.Post,
+) (local-at-at t) local-at.Post local-at-Inv-loop local-at-μ-loop
+local-at-cast-area-2 t c =
+    let s = c .before .before .before .before in
+    omega (arith, s .pre .1 .1 .space, s .pre .1 .0, s .pre .1 .1 .under)
+
+local-at-add-area : (t : ℕ) → local-at-lts.Need-add-area (
+  code-of-reads.Asked,
+  code-of-reads.Learnt,
+  find-local-import-locations-reads.Asked,
+  find-local-import-locations-reads.Learnt,
+  nothing-reads.Asked,
+  nothing-reads.Learnt,
+  word-reads.Asked,
+  word-reads.Learnt,
+  location-below t,
+  location.Post,
+) (local-at-at t) local-at.Post local-at-Inv-loop local-at-μ-loop
+local-at-add-area t c =
+    let s = c .before .before .before .before in
+    omega (arith, s .pre .1 .1 .space, s .pre .1 .0)
+
+local-at-mul-area-2 : (t : ℕ) → local-at-lts.Need-mul-area-2 (
+  code-of-reads.Asked,
+  code-of-reads.Learnt,
+  find-local-import-locations-reads.Asked,
+  find-local-import-locations-reads.Learnt,
+  nothing-reads.Asked,
+  nothing-reads.Learnt,
+  word-reads.Asked,
+  word-reads.Learnt,
+  location-below t,
+  location.Post,
+) (local-at-at t) local-at.Post local-at-Inv-loop local-at-μ-loop
+local-at-mul-area-2 t c =
+    let s = c .before .before .before .before in
+    omega (arith, s .pre .1 .1 .space, s .pre .1 .0)
+
+local-at-slice-write-area-2 : (t : ℕ) → local-at-lts.Need-slice-write-area-2 (
+  code-of-reads.Asked,
+  code-of-reads.Learnt,
+  find-local-import-locations-reads.Asked,
+  find-local-import-locations-reads.Learnt,
+  nothing-reads.Asked,
+  nothing-reads.Learnt,
+  word-reads.Asked,
+  word-reads.Learnt,
+  location-below t,
+  location.Post,
+) (local-at-at t) local-at.Post local-at-Inv-loop local-at-μ-loop
+local-at-slice-write-area-2 t c =
+    let s = c .before .before .before .before in
+    omega (arith, s .pre .1 .1 .space, s .pre .1 .0, s .pre .1 .1 .area, length-set (now (s .args .area)) (s .args .s .top) (c .before .code-of .result))
+
+local-at-find-local-import-locations-requires :
+    (t : ℕ) → local-at-lts.Need-find-local-import-locations-requires (
+      code-of-reads.Asked,
+      code-of-reads.Learnt,
+      find-local-import-locations-reads.Asked,
+      find-local-import-locations-reads.Learnt,
+      nothing-reads.Asked,
+      nothing-reads.Learnt,
+      word-reads.Asked,
+      word-reads.Learnt,
+      location-below t,
+      location.Post,
+    ) (local-at-at t) local-at.Post local-at-Inv-loop local-at-μ-loop
+local-at-find-local-import-locations-requires t c κs =
+    let o = c .before .before in
+    let s = o .before .before .before in
+    (head-reads (now (s .args .words)) (now (s .args .area)) (s .args .l) (s .args .x) (s .args .left) (s .args .item) (s .args .s) (s .pre .1 .0) (s .pre .1 .1) (s .pre .1 .2) (o .code-of .result) (o .code-of .ensures .0), s .pre .1 .1 .from, omega (arith, s .pre .1 .1 .tables), head-space (now (s .args .words)) (now (s .args .area)) (s .args .l) (s .args .x) (s .args .left) (s .args .item) (s .args .s) (s .pre .1 .0) (s .pre .1 .1) (s .pre .1 .2) (o .code-of .result) (o .code-of .ensures .0), head-chain (now (s .args .words)) (now (s .args .area)) (s .args .l) (s .args .x) (s .args .left) (s .args .item) (s .args .s) (s .pre .1 .0) (s .pre .1 .1) (s .pre .1 .2) (o .code-of .result) (o .code-of .ensures .0), s .pre .1 .2)
+
+local-at-add-t19 : (t : ℕ) → local-at-lts.Need-add-t19 (
+  code-of-reads.Asked,
+  code-of-reads.Learnt,
+  find-local-import-locations-reads.Asked,
+  find-local-import-locations-reads.Learnt,
+  nothing-reads.Asked,
+  nothing-reads.Learnt,
+  word-reads.Asked,
+  word-reads.Learnt,
+  location-below t,
+  location.Post,
+) (local-at-at t) local-at.Post local-at-Inv-loop local-at-μ-loop
+local-at-add-t19 t c =
+    let f = c .before .before in
+    let o = f .before .before .before in
+    let s = o .before .before .before in
+    omega (arith, s .pre .1 .1 .space, s .pre .1 .0, start-few (now (s .args .words)) (now (s .args .area)) (s .args .l) (s .args .x) (s .args .left) (s .args .item) (s .args .s) (s .pre .1 .0) (s .pre .1 .1) (s .pre .1 .2) (o .code-of .result) (o .code-of .ensures .0) _ _ (f .find-local-import-locations .ensures) (f .find-local-import-locations .kept .1 .0))
+
+local-at-add-t21 : (t : ℕ) → local-at-lts.Need-add-t21 (
+  code-of-reads.Asked,
+  code-of-reads.Learnt,
+  find-local-import-locations-reads.Asked,
+  find-local-import-locations-reads.Learnt,
+  nothing-reads.Asked,
+  nothing-reads.Learnt,
+  word-reads.Asked,
+  word-reads.Learnt,
+  location-below t,
+  location.Post,
+) (local-at-at t) local-at.Post local-at-Inv-loop local-at-μ-loop
+local-at-add-t21 t c =
+    let s = c .before .before .before .before .before .before .before .before .before in
+    omega (arith, s .pre .1 .1 .deep)
+
+local-at-nothing-requires : (t : ℕ) → local-at-lts.Need-nothing-requires (
+  code-of-reads.Asked,
+  code-of-reads.Learnt,
+  find-local-import-locations-reads.Asked,
+  find-local-import-locations-reads.Learnt,
+  nothing-reads.Asked,
+  nothing-reads.Learnt,
+  word-reads.Asked,
+  word-reads.Learnt,
+  location-below t,
+  location.Post,
+) (local-at-at t) local-at.Post local-at-Inv-loop local-at-μ-loop
+local-at-nothing-requires t c κs =
+    tt
+
+local-at-loop-holds : (t : ℕ) → local-at-lts.Need-loop-holds (
+  code-of-reads.Asked,
+  code-of-reads.Learnt,
+  find-local-import-locations-reads.Asked,
+  find-local-import-locations-reads.Learnt,
+  nothing-reads.Asked,
+  nothing-reads.Learnt,
+  word-reads.Asked,
+  word-reads.Learnt,
+  location-below t,
+  location.Post,
+) (local-at-at t) local-at.Post local-at-Inv-loop local-at-μ-loop
+local-at-loop-holds t c =
+    let f = c .before .before .before .before in
+    let o = f .before .before .before in
+    let s = o .before .before .before in
+    nesting-start (now (s .args .words)) (now (s .args .area)) (s .args .l) (s .args .x) (s .args .left) (s .args .item) (s .args .s) (s .pre .1 .0) (s .pre .1 .1) (s .pre .1 .2) (o .code-of .result) (o .code-of .ensures .0) _ _ (f .find-local-import-locations .ensures) (f .find-local-import-locations .kept .1 .0) (c .nothing .ensures)
+
+local-at-add-cursor : (t : ℕ) → local-at-lts.Need-add-cursor (
+  code-of-reads.Asked,
+  code-of-reads.Learnt,
+  find-local-import-locations-reads.Asked,
+  find-local-import-locations-reads.Learnt,
+  nothing-reads.Asked,
+  nothing-reads.Learnt,
+  word-reads.Asked,
+  word-reads.Learnt,
+  location-below t,
+  location.Post,
+) (local-at-at t) local-at.Post local-at-Inv-loop local-at-μ-loop
+local-at-add-cursor t c =
+    let s = c .before .before .before .before .before .before .before .before .before .before .before .before .before in
+    omega (arith, s .pre .1 .1 .space, s .pre .1 .0)
+
+local-at-cast-area-3 : (t : ℕ) → local-at-lts.Need-cast-area-3 (
+  code-of-reads.Asked,
+  code-of-reads.Learnt,
+  find-local-import-locations-reads.Asked,
+  find-local-import-locations-reads.Learnt,
+  nothing-reads.Asked,
+  nothing-reads.Learnt,
+  word-reads.Asked,
+  word-reads.Learnt,
+  location-below t,
+  location.Post,
+) (local-at-at t) local-at.Post local-at-Inv-loop local-at-μ-loop
+local-at-cast-area-3 t c =
+    let h = c .before in
+    omega (arith, h .loop-test .taken, h .before .loop .inv .few)
+
+local-at-mul-area-3 : (t : ℕ) → local-at-lts.Need-mul-area-3 (
+  code-of-reads.Asked,
+  code-of-reads.Learnt,
+  find-local-import-locations-reads.Asked,
+  find-local-import-locations-reads.Learnt,
+  nothing-reads.Asked,
+  nothing-reads.Learnt,
+  word-reads.Asked,
+  word-reads.Learnt,
+  location-below t,
+  location.Post,
+) (local-at-at t) local-at.Post local-at-Inv-loop local-at-μ-loop
+local-at-mul-area-3 t c =
+    let s = c .before .before .before .before .before .before .before .before .before .before .before .before .before in
+    omega (arith, s .pre .1 .1 .space, s .pre .1 .0)
+
+local-at-slice-write-area-3 : (t : ℕ) → local-at-lts.Need-slice-write-area-3 (
+  code-of-reads.Asked,
+  code-of-reads.Learnt,
+  find-local-import-locations-reads.Asked,
+  find-local-import-locations-reads.Learnt,
+  nothing-reads.Asked,
+  nothing-reads.Learnt,
+  word-reads.Asked,
+  word-reads.Learnt,
+  location-below t,
+  location.Post,
+) (local-at-at t) local-at.Post local-at-Inv-loop local-at-μ-loop
+local-at-slice-write-area-3 t c =
+    let i = c .before .before in
+    let f = i .before .before .before .before .before in
+    let o = f .before .before .before in
+    let s = o .before .before .before in
+    omega (arith, room (now (s .args .words)) (now (s .args .area)) (s .args .l) (s .args .x) (s .args .left) (s .args .item) (s .args .s) (s .pre .1 .0) (s .pre .1 .1) (s .pre .1 .2) (o .code-of .result) (o .code-of .ensures .0), loop-size (now (s .args .words)) (now (s .args .area)) (s .args .l) (s .args .x) (s .args .left) (s .args .item) (s .args .s) (s .pre .1 .0) (s .pre .1 .1) (s .pre .1 .2) (o .code-of .result) (o .code-of .ensures .0) _ _ (f .find-local-import-locations .ensures) (f .find-local-import-locations .kept .1 .0) (i .loop .area) (i .loop .best) (i .loop .k) (i .loop .inv))
+
+local-at-add-word : (t : ℕ) → local-at-lts.Need-add-word (
+  code-of-reads.Asked,
+  code-of-reads.Learnt,
+  find-local-import-locations-reads.Asked,
+  find-local-import-locations-reads.Learnt,
+  nothing-reads.Asked,
+  nothing-reads.Learnt,
+  word-reads.Asked,
+  word-reads.Learnt,
+  location-below t,
+  location.Post,
+) (local-at-at t) local-at.Post local-at-Inv-loop local-at-μ-loop
+local-at-add-word t c =
+    let h = c .before .before in
+    let s = c .before .before .before .before .before .before .before .before .before .before .before .before .before .before in
+    omega (arith, s .pre .1 .1 .space, s .pre .1 .0, h .loop-test .taken, h .before .loop .inv .few)
+
+local-at-word-requires : (t : ℕ) → local-at-lts.Need-word-requires (
+  code-of-reads.Asked,
+  code-of-reads.Learnt,
+  find-local-import-locations-reads.Asked,
+  find-local-import-locations-reads.Learnt,
+  nothing-reads.Asked,
+  nothing-reads.Learnt,
+  word-reads.Asked,
+  word-reads.Learnt,
+  location-below t,
+  location.Post,
+) (local-at-at t) local-at.Post local-at-Inv-loop local-at-μ-loop
+local-at-word-requires t c κs =
+    tt
+
+local-at-location-requires : (t : ℕ) → local-at-lts.Need-location-requires (
+  code-of-reads.Asked,
+  code-of-reads.Learnt,
+  find-local-import-locations-reads.Asked,
+  find-local-import-locations-reads.Learnt,
+  nothing-reads.Asked,
+  nothing-reads.Learnt,
+  word-reads.Asked,
+  word-reads.Learnt,
+  location-below t,
+  location.Post,
+) (local-at-at t) local-at.Post local-at-Inv-loop local-at-μ-loop
+local-at-location-requires t c κs =
+    let w = c .before in
+    let h = w .before .before .before in
+    let i = h .before in
+    let f = i .before .before .before .before .before in
+    let o = f .before .before .before in
+    let s = o .before .before .before in
+    (omega (arith, s .pre .0), (s .pre .1 .0, nesting-call (now (s .args .words)) (now (s .args .area)) (s .args .l) (s .args .x) (s .args .left) (s .args .item) (s .args .s) (s .pre .1 .0) (s .pre .1 .1) (s .pre .1 .2) (o .code-of .result) (o .code-of .ensures .0) _ _ (f .find-local-import-locations .ensures) (f .find-local-import-locations .kept .1 .0) (i .loop .area) (i .loop .best) (i .loop .k) (i .loop .inv) (h .loop-test .taken), nesting-known (now (s .args .words)) (now (s .args .area)) (s .args .l) (s .args .x) (s .args .left) (s .args .item) (s .args .s) (s .pre .1 .0) (s .pre .1 .1) (s .pre .1 .2) (o .code-of .result) (o .code-of .ensures .0) _ _ (f .find-local-import-locations .ensures) (f .find-local-import-locations .kept .1 .0) (i .loop .area) (i .loop .best) (i .loop .k) (i .loop .inv) (h .loop-test .taken) (w .word .ensures), omega (arith, i .loop .inv .fits .few, s .pre .1 .1 .deep)))
+
+local-at-add-k : (t : ℕ) → local-at-lts.Need-add-k (
+  code-of-reads.Asked,
+  code-of-reads.Learnt,
+  find-local-import-locations-reads.Asked,
+  find-local-import-locations-reads.Learnt,
+  nothing-reads.Asked,
+  nothing-reads.Learnt,
+  word-reads.Asked,
+  word-reads.Learnt,
+  location-below t,
+  location.Post,
+) (local-at-at t) local-at.Post local-at-Inv-loop local-at-μ-loop
+local-at-add-k t c =
+    let h = c .before .before .before .before .before .before .before in
+    omega (arith, h .loop-test .taken, h .before .loop .inv .few)
+
+local-at-loop-less : (t : ℕ) → local-at-lts.Need-loop-less (
+  code-of-reads.Asked,
+  code-of-reads.Learnt,
+  find-local-import-locations-reads.Asked,
+  find-local-import-locations-reads.Learnt,
+  nothing-reads.Asked,
+  nothing-reads.Learnt,
+  word-reads.Asked,
+  word-reads.Learnt,
+  location-below t,
+  location.Post,
+) (local-at-at t) local-at.Post local-at-Inv-loop local-at-μ-loop
+local-at-loop-less t c =
+    omega (arith, c .before .before .before .before .before .before .before .loop-test .taken)
+
+local-at-loop-again : (t : ℕ) → local-at-lts.Need-loop-again (
+  code-of-reads.Asked,
+  code-of-reads.Learnt,
+  find-local-import-locations-reads.Asked,
+  find-local-import-locations-reads.Learnt,
+  nothing-reads.Asked,
+  nothing-reads.Learnt,
+  word-reads.Asked,
+  word-reads.Learnt,
+  location-below t,
+  location.Post,
+) (local-at-at t) local-at.Post local-at-Inv-loop local-at-μ-loop
+local-at-loop-again t c =
+    let e = c .before .before in
+    let w = e .before .before in
+    let h = w .before .before .before in
+    let i = h .before in
+    let f = i .before .before .before .before .before in
+    let o = f .before .before .before in
+    let s = o .before .before .before in
+    nesting-next (now (s .args .words)) (now (s .args .area)) (s .args .l) (s .args .x) (s .args .left) (s .args .item) (s .args .s) (s .pre .1 .0) (s .pre .1 .1) (s .pre .1 .2) (o .code-of .result) (o .code-of .ensures .0) _ _ (f .find-local-import-locations .ensures) (f .find-local-import-locations .kept .1 .0) (i .loop .area) (i .loop .best) (i .loop .k) (i .loop .inv) (h .loop-test .taken) (w .word .ensures) _ (e .location .ensures) (e .location .kept .1 .0)
+
+local-at-same-length : (t : ℕ) → local-at-lts.Need-same-length (
+  code-of-reads.Asked,
+  code-of-reads.Learnt,
+  find-local-import-locations-reads.Asked,
+  find-local-import-locations-reads.Learnt,
+  nothing-reads.Asked,
+  nothing-reads.Learnt,
+  word-reads.Asked,
+  word-reads.Learnt,
+  location-below t,
+  location.Post,
+) (local-at-at t) local-at.Post local-at-Inv-loop local-at-μ-loop
+local-at-same-length t c =
+    let i = c .before in
+    let f = i .before .before .before .before .before in
+    let o = f .before .before .before in
+    let s = o .before .before .before in
+    loop-size (now (s .args .words)) (now (s .args .area)) (s .args .l) (s .args .x) (s .args .left) (s .args .item) (s .args .s) (s .pre .1 .0) (s .pre .1 .1) (s .pre .1 .2) (o .code-of .result) (o .code-of .ensures .0) _ _ (f .find-local-import-locations .ensures) (f .find-local-import-locations .kept .1 .0) (i .loop .area) (i .loop .best) (i .loop .k) (i .loop .inv) ∙ sym (s .pre .1 .1 .area)
+
+local-at-returns : (t : ℕ) → local-at-lts.Need-returns (
+  code-of-reads.Asked,
+  code-of-reads.Learnt,
+  find-local-import-locations-reads.Asked,
+  find-local-import-locations-reads.Learnt,
+  nothing-reads.Asked,
+  nothing-reads.Learnt,
+  word-reads.Asked,
+  word-reads.Learnt,
+  location-below t,
+  location.Post,
+) (local-at-at t) local-at.Post local-at-Inv-loop local-at-μ-loop
+local-at-returns t c =
+    let i = c .before in
+    let f = i .before .before .before .before .before in
+    let o = f .before .before .before in
+    let s = o .before .before .before in
+    nesting-done (now (s .args .words)) (now (s .args .area)) (s .args .l) (s .args .x) (s .args .left) (s .args .item) (s .args .s) (s .pre .1 .0) (s .pre .1 .1) (s .pre .1 .2) (o .code-of .result) (o .code-of .ensures .0) _ _ (f .find-local-import-locations .ensures) (f .find-local-import-locations .kept .1 .0) (i .loop .area) (i .loop .best) (i .loop .k) (i .loop .inv) (c .loop-test .left)
+
+location-importable-name-requires : (t : ℕ) → location-lts.Need-importable-name-requires (
+  importable-name-reads.Asked,
+  importable-name-reads.Learnt,
+  length-left-reads.Asked,
+  length-left-reads.Learnt,
+  find-path-for-module-local-below t,
+  find-path-for-module-local.Post,
+  offer-reads.Asked,
+  offer-reads.Learnt,
+) (location-at t) location.Post
+location-importable-name-requires t c κs =
+    let s = c .before .before .before in
+    (s .pre .1 .1 .reads, s .pre .1 .1 .from, s .pre .1 .2)
+
+location-enum-known-a : (t : ℕ) → location-lts.Need-enum-known-a (
+  importable-name-reads.Asked,
+  importable-name-reads.Learnt,
+  length-left-reads.Asked,
+  length-left-reads.Learnt,
+  find-path-for-module-local-below t,
+  find-path-for-module-local.Post,
+  offer-reads.Asked,
+  offer-reads.Learnt,
+) (location-at t) location.Post
+location-enum-known-a t c =
+    search needs
+
+location-enum-told : (t : ℕ) → location-lts.Need-enum-told (
+  importable-name-reads.Asked,
+  importable-name-reads.Learnt,
+  length-left-reads.Asked,
+  length-left-reads.Learnt,
+  find-path-for-module-local-below t,
+  find-path-for-module-local.Post,
+  offer-reads.Asked,
+  offer-reads.Learnt,
+) (location-at t) location.Post
+location-enum-told t c =
+    search needs
+
+location-same-length : (t : ℕ) → location-lts.Need-same-length (
+  importable-name-reads.Asked,
+  importable-name-reads.Learnt,
+  length-left-reads.Asked,
+  length-left-reads.Learnt,
+  find-path-for-module-local-below t,
+  find-path-for-module-local.Post,
+  offer-reads.Asked,
+  offer-reads.Learnt,
+) (location-at t) location.Post
+location-same-length t c =
+    refl
+
+location-returns : (t : ℕ) → location-lts.Need-returns (
+  importable-name-reads.Asked,
+  importable-name-reads.Learnt,
+  length-left-reads.Asked,
+  length-left-reads.Learnt,
+  find-path-for-module-local-below t,
+  find-path-for-module-local.Post,
+  offer-reads.Asked,
+  offer-reads.Learnt,
+) (location-at t) location.Post
+location-returns t c =
+    let n = c .before .before in
+    let s = n .before .before .before .before in
+    record { same = location-none (now (s .args .words)) (now (s .args .area)) (s .args .l) (s .args .x) (s .args .left) (s .args .s) (s .pre .1 .0) (s .pre .1 .1) (s .args .best) (s .args .item) (s .args .m .0) (n .importable-name .ensures .0) (c .enum-told .given .1); below = refl }
+
+location-length-left-requires : (t : ℕ) → location-lts.Need-length-left-requires (
+  importable-name-reads.Asked,
+  importable-name-reads.Learnt,
+  length-left-reads.Asked,
+  length-left-reads.Learnt,
+  find-path-for-module-local-below t,
+  find-path-for-module-local.Post,
+  offer-reads.Asked,
+  offer-reads.Learnt,
+) (location-at t) location.Post
+location-length-left-requires t c κs =
+    c .before .before .before .before .before .before .before .before .pre .1 .3
+
+location-find-path-for-module-local-requires :
+    (t : ℕ) → location-lts.Need-find-path-for-module-local-requires (
+      importable-name-reads.Asked,
+      importable-name-reads.Learnt,
+      length-left-reads.Asked,
+      length-left-reads.Learnt,
+      find-path-for-module-local-below t,
+      find-path-for-module-local.Post,
+      offer-reads.Asked,
+      offer-reads.Learnt,
+    ) (location-at t) location.Post
+location-find-path-for-module-local-requires t c κs =
+    let s = c .before .before .before .before .before .before .before .before .before in
+    (omega (arith, s .pre .0, location-shorter (now (s .args .words)) (now (s .args .area)) (s .args .l) (s .args .x) (s .args .left) (s .args .s) (s .pre .1 .0) (s .pre .1 .1) (s .args .best) (s .args .item) (s .args .m .0) (c .length-left .ensures)), (location-call (now (s .args .words)) (now (s .args .area)) (s .args .l) (s .args .x) (s .args .left) (s .args .s) (s .pre .1 .0) (s .pre .1 .1) (s .args .best) (s .args .item) (s .args .m .0) (c .length-left .ensures), s .pre .1 .2))
+
+location-offer-requires : (t : ℕ) → location-lts.Need-offer-requires (
+  importable-name-reads.Asked,
+  importable-name-reads.Learnt,
+  length-left-reads.Asked,
+  length-left-reads.Learnt,
+  find-path-for-module-local-below t,
+  find-path-for-module-local.Post,
+  offer-reads.Asked,
+  offer-reads.Learnt,
+) (location-at t) location.Post
+location-offer-requires t c κs =
+    let f = c .before .before .before in
+    let e = f .before in
+    let a = e .before .before .before in
+    let n = a .before .before in
+    let s = n .before .before .before .before in
+    (location-reads (now (s .args .words)) (now (s .args .area)) (s .args .l) (s .args .x) (s .args .left) (s .args .s) (s .pre .1 .0) (s .pre .1 .1) (s .args .best) (s .args .item) (s .args .m .0) (e .length-left .ensures) _ (f .find-path-for-module-local .ensures), named-at (s .args .l) (n .importable-name .ensures .1) (a .a .given .1), s .pre .1 .3, location-few (now (s .args .words)) (now (s .args .area)) (s .args .l) (s .args .x) (s .args .left) (s .args .s) (s .pre .1 .0) (s .pre .1 .1) (s .args .best) (s .args .item) (s .args .m .0) (e .length-left .ensures) _ (f .find-path-for-module-local .ensures), location-text (now (s .args .words)) (now (s .args .area)) (s .args .l) (s .args .x) (s .args .left) (s .args .s) (s .pre .1 .0) (s .pre .1 .1) (s .args .best) (s .args .item) (s .args .m .0) (e .length-left .ensures) _ (f .find-path-for-module-local .ensures))
+
+location-same-length-2 : (t : ℕ) → location-lts.Need-same-length-2 (
+  importable-name-reads.Asked,
+  importable-name-reads.Learnt,
+  length-left-reads.Asked,
+  length-left-reads.Learnt,
+  find-path-for-module-local-below t,
+  find-path-for-module-local.Post,
+  offer-reads.Asked,
+  offer-reads.Learnt,
+) (location-at t) location.Post
+location-same-length-2 t c =
+    c .before .before .before .before .find-path-for-module-local .kept .1 .0
+
+location-returns-2 : (t : ℕ) → location-lts.Need-returns-2 (
+  importable-name-reads.Asked,
+  importable-name-reads.Learnt,
+  length-left-reads.Asked,
+  length-left-reads.Learnt,
+  find-path-for-module-local-below t,
+  find-path-for-module-local.Post,
+  offer-reads.Asked,
+  offer-reads.Learnt,
+) (location-at t) location.Post
+location-returns-2 t c =
+    let f = c .before .before .before .before in
+    let e = f .before in
+    let a = e .before .before .before in
+    let n = a .before .before in
+    let s = n .before .before .before .before in
+    location-some (now (s .args .words)) (now (s .args .area)) (s .args .l) (s .args .x) (s .args .left) (s .args .s) (s .pre .1 .0) (s .pre .1 .1) (s .args .best) (s .args .item) (s .args .m .0) (e .length-left .ensures) _ (f .find-path-for-module-local .ensures) (n .importable-name .ensures .0) (a .a .given .1) (c .offer .ensures)
+
+pub +find-path-for-module-local+local-at+location-spec : {M : Type 1} → statement M
++find-path-for-module-local+local-at+location-spec =
+    close
+    μ-find-path-for-module-local
+    μ-local-at
+    μ-location
+    (λ t. find-path-for-module-local-lts.spec (
+      nothing-reads.Asked,
+      nothing-reads.Learnt,
+      module-rules-reads.Asked,
+      module-rules-reads.Learnt,
+      local-at-below t,
+      local-at.Post,
+    )
+    (find-path-for-module-local-at t)
+    find-path-for-module-local.Post
+    (find-path-for-module-local-nothing-requires t)
+    (find-path-for-module-local-returns t)
+    (find-path-for-module-local-module-rules-requires t)
+    (find-path-for-module-local-same-length t)
+    (find-path-for-module-local-returns-2 t)
+    (find-path-for-module-local-local-at-requires t)
+    (find-path-for-module-local-same-length-2 t)
+    (find-path-for-module-local-returns-3 t))
+    (λ t. local-at-lts.spec (
+      code-of-reads.Asked,
+      code-of-reads.Learnt,
+      find-local-import-locations-reads.Asked,
+      find-local-import-locations-reads.Learnt,
+      nothing-reads.Asked,
+      nothing-reads.Learnt,
+      word-reads.Asked,
+      word-reads.Learnt,
+      location-below t,
+      location.Post,
+    )
+    (local-at-at t)
+    local-at.Post
+    local-at-Inv-loop
+    local-at-μ-loop
+    (local-at-add-base t)
+    (local-at-code-of-requires t)
+    (local-at-cast-area t)
+    (local-at-mul-area t)
+    (local-at-slice-write-area t)
+    (local-at-cast-area-2 t)
+    (local-at-add-area t)
+    (local-at-mul-area-2 t)
+    (local-at-slice-write-area-2 t)
+    (local-at-find-local-import-locations-requires t)
+    (local-at-add-t19 t)
+    (local-at-add-t21 t)
+    (local-at-nothing-requires t)
+    (local-at-loop-holds t)
+    (local-at-add-cursor t)
+    (local-at-cast-area-3 t)
+    (local-at-mul-area-3 t)
+    (local-at-slice-write-area-3 t)
+    (local-at-add-word t)
+    (local-at-word-requires t)
+    (local-at-location-requires t)
+    (local-at-add-k t)
+    (local-at-loop-less t)
+    (local-at-loop-again t)
+    (local-at-same-length t)
+    (local-at-returns t))
+    λ t. location-lts.spec (
+      importable-name-reads.Asked,
+      importable-name-reads.Learnt,
+      length-left-reads.Asked,
+      length-left-reads.Learnt,
+      find-path-for-module-local-below t,
+      find-path-for-module-local.Post,
+      offer-reads.Asked,
+      offer-reads.Learnt,
+    )
+    (location-at t)
+    location.Post
+    (location-importable-name-requires t)
+    (location-enum-known-a t)
+    (location-enum-told t)
+    (location-same-length t)
+    (location-returns t)
+    (location-length-left-requires t)
+    (location-find-path-for-module-local-requires t)
+    (location-offer-requires t)
+    (location-same-length-2 t)
+    (location-returns-2 t)

@@ -1,0 +1,154 @@
+-- The laws of the module search and of one location.
+use Prim.Native.Nat.{ℕ, zero, suc, _+_, _-_, _*_, _≤_, _<_, _^_}
+use mathlib.Core.Path.{_≡_, refl, sym, _∙_, ap, ap₂, subst}
+use mathlib.Core.List.{List, [], _∷_}
+use mathlib.Core.Bool.{Bool, true, false}
+use native.Mathlib.Omega.{arith}
+use lib.ListN.{length, take}
+use Rattle.snapshot.specs.Records.{Snapshot}
+use Rattle.snapshot.specs.Layouts.{snapOf}
+use Rattle.snapshot.specs.declared.layout.Layout.{Layout}
+use Rattle.accept.specs.Post.{Reads}
+use Rattle.hir_def.specs.Items.{nsOf}
+use Rattle.hir_def.specs.Entries.{Known}
+use Rattle.hir_def.specs.declared.Item.{Item}
+use Rattle.hir_def.specs.declared.Item.the-variants.{Mod, Def}
+use Rattle.hir_def.specs.declared.Answer.{Answer}
+use Rattle.hir_def.specs.declared.Answer.the-variants.{Name, Nothing}
+use Rattle.find_path.specs.declared.Choice.{Choice}
+use Rattle.find_path.specs.declared.FindPathCtx.{FindPathCtx}
+use Rattle.find_path.specs.Choices.{nothing, lengthLeft}
+use Rattle.find_path.specs.Walk.{Level}
+use Rattle.find_path.specs.Rules.{moduleRules}
+use Rattle.find_path.specs.Local.{offer, importableName, location, calculateBestPathLocal, orLocal, findPathForModuleLocal}
+use Rattle.find_path.specs.Search.{searchLocal, bestLocal}
+use Rattle.find_path.specs.Conditions.{Prepared, Asked, Named, Chosen}
+use Rattle.find_path.proofs.Unfold.{length-falls, local-more}
+use Rattle.find_path.proofs.Bounds.{Fits, search-local-fits}
+use Rattle.find_path.proofs.Tables.{names-short}
+use Rattle.local_search.specs.declared.Stack.{Stack}
+use Rattle.local_search.specs.Levels.{Small, levelsOf}
+use Rattle.local_search.specs.Post.{Searchable, Answered}
+use Rattle.local_search.proofs.Stacks.{chain-none, snap-at, reads-at}
+
+-- a smaller length can be searched too
+pub searchable-less : {W A : List ℕ} {l : Layout} {x : FindPathCtx} {left : ℕ} {s : Stack} (j : ℕ) → Searchable W A l x left s → j ≤ left → Searchable W A l x j s
+searchable-less j y h =
+    record {
+      reads = y .reads;
+      from = y .from;
+      area = y .area;
+      tables = y .tables;
+      space = omega (arith, y .space);
+      deep = omega (arith, y .deep);
+      chain = y .chain;
+      under = y .under;
+    }
+
+-- the items that are asked for fit a word
+pub asked-small : (W A : List ℕ) (l : Layout) → Reads W A l → (item : Item) → Asked l item → Small item
+unfolding nsOf
+asked-small W A l r (Mod m) h = omega (arith, h .0, r .tables .limited .modules)
+asked-small W A l r (Def ns d) h = (omega (arith, h .0, r .tables .limited .definitions), h .1)
+
+pub module-small : (W A : List ℕ) (l : Layout) → Reads W A l → (m : ℕ) → m < l .modules → Small (Mod m)
+module-small W A l r m h = omega (arith, h, r .tables .limited .modules)
+
+-- the module search
+module _ (S : Snapshot) (x : FindPathCtx) (left : ℕ) (ls : List Level) (m : ℕ) where
+  pub search-none : left ≡ 0 → {r : Choice} → r ≡ nothing → r ≡ searchLocal S x left ls m
+  unfolding findPathForModuleLocal
+  search-none e q = q ∙ sym (local-more S x left ls m ∙ ap (λ n. findPathForModuleLocal S x (searchLocal S x) n ls m) e)
+
+  search-or : (left ≡ 0 → ⊥) → searchLocal S x left ls m ≡ orLocal S x (searchLocal S x) left ls m (moduleRules S x false m) (moduleRules S x false m .found)
+  unfolding findPathForModuleLocal
+  search-or h = local-more S x left ls m ∙ by left h
+    where
+      by : (n : ℕ) → (n ≡ 0 → ⊥)
+          → findPathForModuleLocal S x (searchLocal S x) n ls m ≡ orLocal S x (searchLocal S x) n ls m (moduleRules S x false m) (moduleRules S x false m .found)
+      by zero h = absurd (h refl)
+      by (suc n) h = refl
+
+  pub search-rules : {c : Choice} → (left ≡ 0 → ⊥) → c ≡ moduleRules S x false m → c .found ≡ true → c ≡ searchLocal S x left ls m
+  unfolding orLocal
+  search-rules {c} h e t =
+      e
+      ∙ sym (search-or h ∙ ap (orLocal S x (searchLocal S x) left ls m (moduleRules S x false m)) (sym (ap (λ (z : Choice). z .found) e) ∙ t))
+
+  pub search-on : {c r : Choice} → (left ≡ 0 → ⊥) → c ≡ moduleRules S x false m → c .found ≡ false
+      → r ≡ calculateBestPathLocal S x (searchLocal S x) left ls (Mod m) → r ≡ searchLocal S x left ls m
+  unfolding orLocal
+  search-on {c} h e t q =
+      q
+      ∙ sym (search-or h ∙ ap (orLocal S x (searchLocal S x) left ls m (moduleRules S x false m)) (sym (ap (λ (z : Choice). z .found) e) ∙ t))
+
+-- one location
+module _ (W A : List ℕ) (l : Layout) (x : FindPathCtx) (left : ℕ) (s : Stack) (some : 0 < left) (y : Searchable W A l x (left - 1) s) (best : Choice) (item : Item) (m : ℕ) where
+  abbrev S : Snapshot
+  S = snapOf W A l
+
+  abbrev ls : List Level
+  ls = levelsOf A (s .place) (s .depth)
+
+  abbrev here : Answer → Choice
+  here a = location S x (searchLocal S x) left ls best m a
+
+  pub location-none : {a : Answer} → a ≡ importableName S x item m → a ≡ Nothing → best ≡ here (importableName S x item m)
+  unfolding location
+  location-none e q = sym (ap here (sym e ∙ q))
+
+  module _ {j : ℕ} (e : j ≡ lengthLeft left best) where
+    pub location-shorter : j < left
+    location-shorter = rw e (length-falls left best some)
+
+    pub location-call : Searchable W A l x j s
+    location-call = searchable-less j y (omega (arith, location-shorter))
+
+    module _ (B : List ℕ) {c : Choice} (a : Answered A (s .top) (searchLocal S x j ls m) B c) where
+      pub location-reads : Reads W B l
+      location-reads = reads-at W A B l (s .top) (y .reads) (y .tables) (a .below)
+
+      fits : Fits S j c
+      fits = rw (a .same) (search-local-fits S x j ls m)
+
+      pub location-few : c .count < 16
+      location-few = omega (arith, fits .few, location-shorter, y .deep)
+
+      pub location-text : c .text < 2 ^ 32
+      location-text = omega (arith, fits .text (names-short W A l (y .reads)), location-few)
+
+      pub location-some : {n : ℕ} {b : Answer} {r : Choice} → b ≡ importableName S x item m → b ≡ Name n → r ≡ offer (snapOf W B l) x best c n
+          → Answered A (s .top) (here (importableName S x item m)) B r
+      unfolding location
+      location-some {n} {b} {r} p q o =
+          record {
+            same =
+                o
+                ∙ ap (λ (z : Snapshot). offer z x best c n) (snap-at W A B l (s .top) (y .reads) (y .tables) (a .below))
+                ∙ ap (λ (z : Choice). offer S x best z n) (a .same ∙ ap (λ i. searchLocal S x i ls m) e)
+                ∙ sym (ap here (sym p ∙ q));
+            below = a .below;
+          }
+
+-- the name that was answered is there
+pub named-at : (l : Layout) {a : Answer} {n : ℕ} → Named l a → a ≡ Name n → n < l .names
+named-at l h e = subst (Named l) e h
+
+-- nothing is under way
+pub search-start : (W A : List ℕ) (l : Layout) (x : FindPathCtx) (left : ℕ) → Prepared W A l x → left ≤ 15 → Searchable W A l x left (record { top = 4160; place = 0; depth = 0 })
+search-start W A l x left p h =
+    record {
+      reads = p .reads;
+      from = p .from;
+      area = p .area;
+      tables = omega arith;
+      space = omega arith;
+      deep = omega arith;
+      chain = chain-none A 0 4160;
+      under = omega arith;
+    }
+
+pub search-done : (S : Snapshot) (x : FindPathCtx) (left : ℕ) (item : Item) (A₀ A : List ℕ) (r : Choice)
+    → Answered A₀ 4160 (calculateBestPathLocal S x (searchLocal S x) left (levelsOf A₀ 0 0) item) A r → Chosen A₀ (bestLocal S x left item) A r
+unfolding bestLocal levelsOf
+search-done S x left item A₀ A r a = record { same = a .same; tables = a .below }
