@@ -1,7 +1,7 @@
 -- Every module that a local search takes is there.
 use Prim.Native.Nat.{ℕ, zero, suc, _<_}
-use mathlib.Core.Path.{_≡_, refl, sym, _∙_, ap, subst}
-use mathlib.Core.List.{List, [], _∷_, _++_, map}
+use mathlib.Core.Path.{_≡_, subst}
+use mathlib.Core.List.{List, _++_, map}
 use mathlib.Core.Bool.{Bool, true, _||_, _&&_}
 use native.Mathlib.Omega.{arith}
 use lib.Dec.{eqb}

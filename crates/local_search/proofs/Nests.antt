@@ -1,13 +1,11 @@
 -- The laws of a search that opens a level.
-use Prim.Native.Nat.{ℕ, zero, suc, _+_, _-_, _*_, _≤_, _<_, _^_}
+use Prim.Native.Nat.{ℕ, zero, suc, _+_, _-_, _≤_, _<_}
 use mathlib.Core.Path.{_≡_, refl, sym, _∙_, ap, ap₂, subst}
 use mathlib.Core.List.{List, [], _∷_, _++_}
-use mathlib.Core.Bool.{Bool, true, false}
 use native.Mathlib.Omega.{arith}
 use native.Mathlib.Numerals.{add-one}
 use lib.ListN.{length, getD, set, take, drop, drop-of-length-le, length-set}
 use lib.Seq.{getD-set-same, getD-set-other, take-set-le, drop-cons, take-suc}
-use Rattle.snapshot.specs.Lists.{rows}
 use Rattle.snapshot.specs.Records.{Snapshot}
 use Rattle.snapshot.specs.Layouts.{snapOf}
 use Rattle.snapshot.specs.declared.layout.Layout.{Layout}
@@ -15,29 +13,21 @@ use Rattle.snapshot.proofs.Laws.{length-rows, getD-rows}
 use Rattle.accept.specs.Post.{Reads}
 use Rattle.accept.specs.Valid.{Each}
 use Rattle.accept.proofs.Bools.{each-at}
-use Rattle.hir_def.specs.Items.{nsOf}
-use Rattle.hir_def.specs.Entries.{Known}
 use Rattle.hir_def.specs.declared.Item.{Item}
-use Rattle.hir_def.specs.declared.Item.the-variants.{Mod, Def}
 use Rattle.hir_def.specs.declared.Answer.{Answer}
-use Rattle.hir_def.specs.declared.Answer.the-variants.{Name, Nothing}
 use Rattle.find_path.specs.declared.Choice.{Choice}
 use Rattle.find_path.specs.declared.FindPathCtx.{FindPathCtx}
-use Rattle.find_path.specs.Choices.{nothing, lengthLeft}
+use Rattle.find_path.specs.Choices.{nothing}
 use Rattle.find_path.specs.Walk.{Level, visited, findLocalImportLocations}
-use Rattle.find_path.specs.Rules.{moduleRules}
-use Rattle.find_path.specs.Local.{LocalSearch, offer, importableName, location, eachLocation, calculateBestPathLocal, orLocal, findPathForModuleLocal}
-use Rattle.find_path.specs.Search.{searchLocal, bestLocal}
-use Rattle.find_path.specs.Conditions.{Prepared, Asked, Chosen}
-use Rattle.find_path.proofs.Unfold.{length-falls, local-more}
+use Rattle.find_path.specs.Local.{importableName, location, eachLocation, calculateBestPathLocal}
+use Rattle.find_path.specs.Search.{searchLocal}
 use Rattle.find_path.proofs.Bounds.{Fits, nothing-fits, location-fits, search-local-fits}
-use Rattle.find_path.proofs.Tables.{names-short}
 use Rattle.local_search.specs.declared.Stack.{Stack}
 use Rattle.local_search.specs.Levels.{Small, codeOf, itemAt, runAt, levelsOf, Chain}
 use Rattle.local_search.specs.Post.{Gathered, Searchable, Answered}
 use Rattle.local_search.proofs.Rows.{run-other, run-take, take-less, agree, run-same}
 use Rattle.local_search.proofs.Codes.{item-back}
-use Rattle.local_search.proofs.Stacks.{chain-within, chain-none, levels-same, chain-same, snap-at, reads-at}
+use Rattle.local_search.proofs.Stacks.{chain-wider, levels-same, chain-same, snap-at, reads-at}
 use Rattle.local_search.proofs.Knowns.{locations-there}
 
 -- An open level: its header and its run stand, and all below is as where the loop began.
@@ -195,7 +185,7 @@ module _ (W A₀ : List ℕ) (l : Layout) (x : FindPathCtx) (left : ℕ) (item :
 
   pub head-chain : Chain H (s .place) (s .depth) (s .top + 3)
   head-chain =
-      chain-within H (s .place) (s .depth) (s .top) (s .top + 3) (omega arith)
+      chain-wider H (s .place) (s .depth) (s .top) (s .top + 3) (omega arith)
       (chain-same A₀ H (s .top) (sym (head-below A₀ s code)) (s .depth) (s .place) (y .chain))
 
   module _ (A₁ : List ℕ) (n : ℕ)

@@ -1,6 +1,6 @@
 -- The modules that go to a run, one after the other: children, containing modules, and those that a module leads to.
-use Prim.Native.Nat.{ℕ, suc, _+_, _-_, _*_, _≤_, _<_}
-use mathlib.Core.Path.{_≡_, refl, sym, _∙_, ap, ap₂, subst}
+use Prim.Native.Nat.{ℕ, _+_, _-_, _*_, _≤_, _<_}
+use mathlib.Core.Path.{_≡_, sym, _∙_, ap, ap₂}
 use mathlib.Core.List.{List, [], _∷_, map}
 use mathlib.Core.Bool.{Bool, true, false, _&&_}
 use native.Mathlib.Omega.{arith}
@@ -19,7 +19,7 @@ use Rattle.accept.proofs.Trees.{accepted-tree}
 use Rattle.accept.proofs.Reading.{child-read}
 use Rattle.hir_def.specs.Finds.{select}
 use Rattle.hir_def.specs.Items.{crateOf, containing, definitionOf}
-use Rattle.hir_def.specs.ItemScope.{isModuleEntry, modulesInScope, entryModule}
+use Rattle.hir_def.specs.ItemScope.{isModuleEntry, entryModule}
 use Rattle.hir_def.specs.Visibility.{sees, isVisibleFrom}
 use Rattle.hir_def.specs.Nameres.{childrenOf, containers, steps, stepsOr}
 use Rattle.hir_def.specs.Entries.{leftOf, Meets, Ends}

@@ -8,15 +8,14 @@ use lib.Dec.{eqb}
 use lib.ListN.{length, getD, set, take}
 use lib.Seq.{take-set-le}
 use borrow.Author.Tests.{eq-eqb, ne-eqb}
-use Rattle.snapshot.specs.Lists.{any, rows}
+use Rattle.snapshot.specs.Lists.{any}
 use Rattle.snapshot.specs.declared.layout.Layout.{Layout}
 use Rattle.snapshot.specs.Layouts.{snapOf}
 use Rattle.snapshot.proofs.Laws.{length-rows}
 use Rattle.accept.specs.Post.{Reads}
 use Rattle.accept.proofs.Stable.{snap-stays, reads-stay}
-use Rattle.hir_def.specs.Items.{sameItem}
 use Rattle.hir_def.specs.declared.Item.{Item}
-use Rattle.find_path.specs.Walk.{Level, has, visited}
+use Rattle.find_path.specs.Walk.{has, visited}
 use Rattle.local_search.specs.declared.Stack.{Stack}
 use Rattle.local_search.specs.Levels.{Small, codeOf, itemAt, runAt, levelsOf, Chain, room}
 use Rattle.local_search.specs.Push.{push}
@@ -27,13 +26,10 @@ use Rattle.local_search.proofs.Rooms.{Fits, fits-snoc, fits-place, fits
 use Rattle.local_search.proofs.Codes.{code-item}
 
 -- the levels, one after the other
-chain-wider : (A : List ℕ) (p d t u : ℕ) → t ≤ u → Chain A p d t → Chain A p d u
+pub chain-wider : (A : List ℕ) (p d t u : ℕ) → t ≤ u → Chain A p d t → Chain A p d u
 unfolding Chain
 chain-wider A p zero t u h c = c
 chain-wider A p (suc d) t u h c = (c .0, omega arith, c .2)
-
-pub chain-within : (A : List ℕ) (p d t u : ℕ) → t ≤ u → Chain A p d t → Chain A p d u
-chain-within A p d t u h c = chain-wider A p d t u h c
 
 pub chain-none : (A : List ℕ) (place top : ℕ) → Chain A place 0 top
 unfolding Chain

@@ -2,9 +2,9 @@
 use Prim.Native.Nat.{ℕ, zero, suc, _+_, _-_, _≤_, _<_}
 use mathlib.Core.Path.{_≡_, refl, sym, _∙_, ap}
 use mathlib.Core.List.{List, [], _∷_, _++_, append-nil, append-assoc}
-use mathlib.Core.Bool.{Bool, true, false, _||_, not, or-false, true≢false}
+use mathlib.Core.Bool.{Bool, true, false, _||_, not, true≢false}
 use native.Mathlib.Omega.{arith}
-use lib.Dec.{eqb, ltb}
+use lib.Dec.{eqb}
 use lib.ListN.{length, getD, length-append}
 use lib.Seq.{getD-at, append-snoc}
 use borrow.Author.Tests.{lt-ltb, le-ltb}

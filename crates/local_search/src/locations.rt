@@ -1,6 +1,6 @@
 //! `find_local_import_locations`: the modules that a local search takes, as a run of the work area.
 ghost use mathlib.Core.Path.{_≡_};
-ghost use mathlib.Core.List.{List, map};
+ghost use mathlib.Core.List.{map};
 ghost use mathlib.Core.Bool.{_&&_};
 ghost use Prim.Native.Nat.{ℕ, _+_, _<_, _≤_};
 ghost use lib.Dec.{eqb};
@@ -9,10 +9,9 @@ ghost use Rattle.snapshot.specs.Layouts.{tableWords, snapOf};
 ghost use Rattle.snapshot.specs.Records.{scopeAt};
 ghost use Rattle.accept.specs.Post.{Reads};
 ghost use Rattle.hir_def.specs.Items.{crateOf};
-ghost use Rattle.hir_def.specs.ItemScope.{entryModule};
 ghost use Rattle.hir_def.specs.Visibility.{sees};
 ghost use Rattle.hir_def.specs.Nameres.{childrenOf, containers};
-ghost use Rattle.find_path.specs.Walk.{visited, startFrom, leadsTo, findLocalImportLocations};
+ghost use Rattle.find_path.specs.Walk.{visited, leadsTo, findLocalImportLocations};
 ghost use Rattle.local_search.specs.Levels.{Small, levelsOf, Chain};
 ghost use Rattle.local_search.specs.Post.{Ready, Pushed, Gathered};
 use crate::Stack;

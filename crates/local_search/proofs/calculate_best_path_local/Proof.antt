@@ -5,8 +5,6 @@ use Rattle.local_search.proofs.Searches.{asked-small, search-start, sea
 use Rattle.local_search.proofs.calculate_best_path_local.Statement.{statement}
 use Rattle.local_search.proofs.calculate_best_path_local.Tie as tie
 use Rattle.local_search.proofs.calculate_best_path_local.Reads as reads
-use Rattle.local_search.proofs.calculate_best_path_local.Lts as lts
-use Rattle.local_search.proofs.local_at.Reads as local-at-reads
 
 local-at-requires : tie.Need-local-at-requires
 local-at-requires c κs =

@@ -1,12 +1,10 @@
-use mathlib.Core.Path.{_≡_, sym, ap, subst}
+use mathlib.Core.Path.{sym, ap, subst}
 use native.Mathlib.Omega.{arith}
 use Rattle.hir_def.specs.declared.Item.the-variants.{Mod, Def}
 use Rattle.local_search.specs.Levels.{Small, codeOf}
 use borrow.Author.Needs.{needs}
 use Rattle.local_search.proofs.levels.code_of.Statement.{statement}
 use Rattle.local_search.proofs.levels.code_of.Tie as tie
-use Rattle.local_search.proofs.levels.code_of.Reads as reads
-use Rattle.local_search.proofs.levels.code_of.Lts as lts
 
 enum-known-item : tie.Need-enum-known-item
 enum-known-item c = search needs

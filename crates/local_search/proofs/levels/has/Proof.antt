@@ -1,5 +1,5 @@
 use borrow.Author.Needs.{needs}
-use Prim.Native.Nat.{ℕ, _≤_, _-_, _+_}
+use Prim.Native.Nat.{_≤_, _-_, _+_}
 use mathlib.Core.Path.{_≡_}
 use native.Mathlib.Omega.{arith}
 use denote.Ref.{now}
@@ -11,9 +11,6 @@ use Rattle.local_search.specs.Levels.{runAt}
 use Rattle.local_search.proofs.Rows.{has-start, has-hit, has-miss, has-end}
 use Rattle.local_search.proofs.levels.has.Statement.{statement}
 use Rattle.local_search.proofs.levels.has.Tie as tie
-use Rattle.local_search.proofs.levels.has.Reads as reads
-use Rattle.local_search.proofs.levels.has.Lts as lts
-use Rattle.snapshot.proofs.words.word.Reads as word-reads
 
 abbrev Inv-loop : tie.InvT-loop
 Inv-loop area from n m i₀ i =

@@ -1,20 +1,15 @@
 use borrow.Author.Needs.{needs}
-use Prim.Native.Nat.{_+_}
-use mathlib.Core.Path.{_≡_, refl}
+use mathlib.Core.Path.{refl}
 use native.Mathlib.Omega.{arith}
 use denote.Ref.{now}
-use Rattle.local_search.proofs.Stacks.{chain-within, push-seen, push-there, push-place, push-new}
+use Rattle.local_search.proofs.Stacks.{chain-wider, push-seen, push-there, push-place, push-new}
 use Rattle.local_search.proofs.levels.push_module.Statement.{statement}
 use Rattle.local_search.proofs.levels.push_module.Tie as tie
-use Rattle.local_search.proofs.levels.push_module.Reads as reads
-use Rattle.local_search.proofs.levels.push_module.Lts as lts
-use Rattle.local_search.proofs.levels.has.Reads as has-reads
-use Rattle.local_search.proofs.levels.visited.Reads as visited-reads
 
 visited-requires : tie.Need-visited-requires
 visited-requires c κs =
     let s = c .before .before in
-    (chain-within (now (s .args .area)) _ _ (s .args .s .top) _ (omega (arith, s .pre .0 .space)) (s .pre .0 .chain), s .pre .1)
+    (chain-wider (now (s .args .area)) _ _ (s .args .s .top) _ (omega (arith, s .pre .0 .space)) (s .pre .0 .chain), s .pre .1)
 
 same-length : tie.Need-same-length
 same-length c = search needs

@@ -1,10 +1,9 @@
-use borrow.Author.Needs.{needs}
-use Prim.Native.Nat.{ℕ, _≤_, _<_, _-_, _+_}
-use mathlib.Core.Path.{_≡_, refl, sym, _∙_}
+use Prim.Native.Nat.{_-_}
+use mathlib.Core.Path.{_≡_, refl}
 use mathlib.Core.Logic.{⊎-elim}
 use native.Mathlib.Omega.{arith}
 use denote.Ref.{now}
-use lib.ListN.{getD, length}
+use lib.ListN.{length}
 use Rattle.hir_def.specs.declared.Item.{Item}
 use Rattle.find_path.specs.Walk.{visited}
 use Rattle.local_search.specs.Levels.{Small, codeOf, levelsOf, Chain}

@@ -1,18 +1,11 @@
-use borrow.Author.Needs.{needs}
-use Prim.Native.Nat.{ℕ, _≤_, _<_, _-_, _+_}
-use mathlib.Core.Path.{_≡_, refl, sym, ap, _∙_}
+use Prim.Native.Nat.{_-_}
+use mathlib.Core.Path.{_∙_}
 use native.Mathlib.Omega.{arith}
 use denote.Ref.{now}
 use Rattle.snapshot.specs.Layouts.{snapOf}
 use Rattle.local_search.proofs.Gathers.{ready-start, ready-children, reads-children, ready-begun, reads-begun, begun, Walking, walking-start, walking-reads, walking-next, gathered}
 use Rattle.local_search.proofs.locations.find_local_import_locations.Statement.{statement}
 use Rattle.local_search.proofs.locations.find_local_import_locations.Tie as tie
-use Rattle.local_search.proofs.locations.find_local_import_locations.Reads as reads
-use Rattle.local_search.proofs.locations.find_local_import_locations.Lts as lts
-use Rattle.local_search.proofs.locations.push_children.Reads as push-children-reads
-use Rattle.local_search.proofs.locations.push_containers.Reads as push-containers-reads
-use Rattle.local_search.proofs.locations.push_next.Reads as push-next-reads
-use Rattle.snapshot.proofs.words.word.Reads as word-reads
 
 abbrev Inv-loop : tie.InvT-loop
 Inv-loop words area₀ l from s item children n₀ k₀ area n k =

@@ -1,6 +1,5 @@
 use borrow.Author.Needs.{needs}
-use Prim.Native.Nat.{ℕ, _≤_, _<_, _-_, _+_, _*_}
-use mathlib.Core.Path.{_≡_, refl, sym, ap, _∙_}
+use Prim.Native.Nat.{_-_}
 use native.Mathlib.Omega.{arith}
 use denote.Ref.{now}
 use Rattle.snapshot.specs.Layouts.{snapOf}
@@ -8,12 +7,6 @@ use Rattle.snapshot.specs.Records.{scopeAt}
 use Rattle.local_search.proofs.Nexts.{leads-no, leads-by}
 use Rattle.local_search.proofs.locations.leads.Statement.{statement}
 use Rattle.local_search.proofs.locations.leads.Tie as tie
-use Rattle.local_search.proofs.locations.leads.Reads as reads
-use Rattle.local_search.proofs.locations.leads.Lts as lts
-use Rattle.hir_def.proofs.modules.krate.Reads as krate-reads
-use Rattle.hir_def.proofs.visibility.is_visible_from.Reads as is-visible-from-reads
-use Rattle.snapshot.proofs.record.scope_number.Reads as scope-number-reads
-use Rattle.snapshot.proofs.record.scope_visibility.Reads as scope-visibility-reads
 
 krate-requires : tie.Need-krate-requires
 krate-requires c κs = search needs

@@ -1,6 +1,5 @@
-use borrow.Author.Needs.{needs}
-use Prim.Native.Nat.{ℕ, _≤_, _<_, _-_, _+_, _*_}
-use mathlib.Core.Path.{_≡_, refl, sym, ap, _∙_}
+use Prim.Native.Nat.{_-_}
+use mathlib.Core.Path.{refl}
 use native.Mathlib.Omega.{arith}
 use denote.Ref.{now}
 use mathlib.Core.List.{map}
@@ -12,12 +11,6 @@ use Rattle.local_search.proofs.Stacks.{Pushing, pushing-start, pushing-
 use Rattle.local_search.proofs.Nexts.{childrenFrom, children-start, child-hit, child-miss, child-end, child-below}
 use Rattle.local_search.proofs.locations.push_children.Statement.{statement}
 use Rattle.local_search.proofs.locations.push_children.Tie as tie
-use Rattle.local_search.proofs.locations.push_children.Reads as reads
-use Rattle.local_search.proofs.locations.push_children.Lts as lts
-use Rattle.local_search.proofs.levels.push_module.Reads as push-module-reads
-use Rattle.snapshot.proofs.layout.Layout.child_base.Reads as child-base-reads
-use Rattle.snapshot.proofs.record.child_child.Reads as child-child-reads
-use Rattle.snapshot.proofs.record.child_owner.Reads as child-owner-reads
 
 abbrev Inv-loop : tie.InvT-loop
 Inv-loop words area₀ l from s n item base run₀ k₀ area run k =

@@ -1,9 +1,7 @@
-use borrow.Author.Needs.{needs}
-use Prim.Native.Nat.{ℕ, _≤_, _<_, _-_, _+_, _*_}
-use mathlib.Core.Path.{_≡_, refl, sym, ap, _∙_}
+use Prim.Native.Nat.{_<_, _-_}
+use mathlib.Core.Path.{ap, _∙_}
 use native.Mathlib.Omega.{arith}
 use denote.Ref.{now}
-use lib.ListN.{take}
 use Rattle.snapshot.specs.Layouts.{snapOf}
 use Rattle.hir_def.specs.Items.{containing}
 use Rattle.hir_def.specs.Nameres.{containers}
@@ -11,10 +9,6 @@ use Rattle.local_search.proofs.Stacks.{Pushing, snap-at, reads-at, push
 use Rattle.local_search.proofs.Nexts.{containers-end, containers-on, containers-less}
 use Rattle.local_search.proofs.locations.push_containers.Statement.{statement}
 use Rattle.local_search.proofs.locations.push_containers.Tie as tie
-use Rattle.local_search.proofs.locations.push_containers.Reads as reads
-use Rattle.local_search.proofs.locations.push_containers.Lts as lts
-use Rattle.hir_def.proofs.modules.containing.Reads as containing-reads
-use Rattle.local_search.proofs.levels.push_module.Reads as push-module-reads
 
 abbrev Inv-loop : tie.InvT-loop
 Inv-loop words area₀ l s n item run₀ m₀ area run m =

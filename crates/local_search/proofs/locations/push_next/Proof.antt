@@ -1,6 +1,6 @@
 use borrow.Author.Needs.{needs}
-use Prim.Native.Nat.{ℕ, _≤_, _<_, _-_, _+_, _*_}
-use mathlib.Core.Path.{_≡_, refl, sym, ap, _∙_}
+use Prim.Native.Nat.{_-_}
+use mathlib.Core.Path.{refl, ap, _∙_}
 use native.Mathlib.Omega.{arith}
 use denote.Ref.{now}
 use mathlib.Core.Bool.{_&&_}
@@ -17,13 +17,6 @@ use Rattle.local_search.proofs.Stacks.{Pushing, snap-at, reads-at, push
 use Rattle.local_search.proofs.Nexts.{leadsFrom, leads-start, leads-hit, leads-miss, leads-end, leads-below}
 use Rattle.local_search.proofs.locations.push_next.Statement.{statement}
 use Rattle.local_search.proofs.locations.push_next.Tie as tie
-use Rattle.local_search.proofs.locations.push_next.Reads as reads
-use Rattle.local_search.proofs.locations.push_next.Lts as lts
-use Rattle.hir_def.proofs.item_scope.next_module.Reads as next-module-reads
-use Rattle.hir_def.proofs.items.first_of.Reads as first-of-reads
-use Rattle.local_search.proofs.levels.push_module.Reads as push-module-reads
-use Rattle.local_search.proofs.locations.leads.Reads as leads-reads
-use Rattle.snapshot.proofs.record.scope_definition.Reads as scope-definition-reads
 
 abbrev Inv-loop : tie.InvT-loop
 Inv-loop words area₀ l from s n item m run₀ k₀ area run k =
