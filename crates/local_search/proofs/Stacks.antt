@@ -13,14 +13,14 @@ use Rattle.snapshot.specs.declared.layout.Layout.{Layout}
 use Rattle.snapshot.specs.Layouts.{snapOf}
 use Rattle.snapshot.proofs.Laws.{length-rows}
 use Rattle.accept.specs.Post.{Reads}
-use Rattle.accept.proofs.Stable.{snap-stays, reads-stay}
 use Rattle.hir_def.specs.declared.Item.{Item}
 use Rattle.find_path.specs.Walk.{has, visited}
+use Rattle.find_path.proofs.Tables.{same-snap, same-reads}
 use Rattle.local_search.specs.declared.Stack.{Stack}
 use Rattle.local_search.specs.Levels.{Small, codeOf, itemAt, runAt, levelsOf, Chain, room}
 use Rattle.local_search.specs.Push.{push}
 use Rattle.local_search.specs.Post.{Ready, Pushed}
-use Rattle.local_search.proofs.Rows.{run-none, run-put, agree, run-same}
+use Rattle.local_search.proofs.Rows.{run-none, run-put, take-less, agree, run-same}
 use Rattle.local_search.proofs.Walks.{push-skip, push-take, push-none, push-append}
 use Rattle.local_search.proofs.Rooms.{Fits, fits-snoc, fits-place, fits-none}
 use Rattle.local_search.proofs.Codes.{code-item}
@@ -107,10 +107,10 @@ module _ (A B : List ℕ) (top : ℕ) (same : take top A ≡ take top B) where
 -- The tables lie below top: accepted words stay readable, and the snapshot stays.
 module _ (W A B : List ℕ) (l : Layout) (top : ℕ) (r : Reads W A l) (low : 4160 ≤ top) (same : take top B ≡ take top A) where
   pub snap-at : snapOf W B l ≡ snapOf W A l
-  snap-at = snap-stays W A B l (r .tables) (λ i p q. agree B A top same i (omega arith))
+  snap-at = same-snap W A B l (take-less B A 4160 top low same) r
 
   pub reads-at : Reads W B l
-  reads-at = reads-stay W A B l r (λ i p q. agree B A top same i (omega arith))
+  reads-at = same-reads W A B l (take-less B A 4160 top low same) r
 
 -- One module more, or not.
 module _ (A : List ℕ) (s : Stack) (n : ℕ) (item : Item) (m : ℕ) (y : Ready A s n) where
