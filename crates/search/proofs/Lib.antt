@@ -1,0 +1,5 @@
+pub mod Parts
+pub mod Holding
+pub mod Runs
+pub mod Items
+pub mod Starts

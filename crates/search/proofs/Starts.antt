@@ -1,0 +1,161 @@
+-- The whole search, step by step, and the runs of an item's search.
+use mathlib.Core.Path.{_≡_, refl, sym, _∙_, ap, subst}
+use Prim.Native.Nat.{ℕ, zero, suc, _+_, _-_, _*_, _≤_, _<_, _^_}
+use native.Mathlib.Omega.{arith}
+use mathlib.Core.List.{List, [], _∷_}
+use mathlib.Core.Bool.{Bool, true, false, _&&_, false≢true}
+use mathlib.Core.Option.{Option, none, some}
+use lib.Dec.{eqb}
+use lib.ListN.{length, take}
+use borrow.Author.Tests.{eqb-true}
+use Rattle.snapshot.specs.Records.{Snapshot, Definition}
+use Rattle.snapshot.specs.Layouts.{tableWords, snapOf}
+use Rattle.snapshot.specs.declared.layout.Layout.{Layout}
+use Rattle.accept.specs.Post.{Reads}
+use Rattle.accept.proofs.Bools.{and-right}
+use Rattle.hir_def.specs.Items.{definitionOf, itemOf, homeOf}
+use Rattle.hir_def.specs.Entries.{Known}
+use Rattle.hir_def.specs.declared.Item.{Item}
+use Rattle.hir_def.specs.declared.Item.the-variants.{Mod, Def}
+use Rattle.hir_def.specs.declared.Entry.{Entry}
+use Rattle.hir_def.specs.declared.Entry.the-variants.{At, Nothing}
+use Rattle.hir_def.proofs.Fits.{definition-fits, home-fits}
+use Rattle.find_path.specs.declared.Choice.{Choice}
+use Rattle.find_path.specs.declared.Tank.{Tank}
+use Rattle.find_path.specs.declared.Found.{Found}
+use Rattle.find_path.specs.declared.FindPathCtx.{FindPathCtx}
+use Rattle.find_path.specs.declared.Query.{Query}
+use Rattle.find_path.specs.Choices.{nothing, choiceNew, push}
+use Rattle.find_path.specs.Rules.{contextOf, firstFound, scopeRule, preludeRule}
+use Rattle.find_path.specs.Meters.{fromTank}
+use Rattle.find_path.specs.Charged.{Out, foundOf, variantOf}
+use Rattle.find_path.specs.Search.{fromHome, fromItem, findPath}
+use Rattle.find_path.specs.Report.{searched}
+use Rattle.find_path.specs.Conditions.{Prepared, Searched}
+use Rattle.find_path.proofs.Tanks.{item-sum}
+use Rattle.find_path.proofs.Tables.{names-short, same-snap}
+use Rattle.search.specs.Parts.{modules, items, names, bestPath, straight, Begun}
+use Rattle.search.proofs.Parts.{found}
+use Rattle.search.proofs.Holding.{Offered}
+use Rattle.search.proofs.Runs.{later}
+use Rattle.search.proofs.Items.{plain-fits, enum-found, enum-none}
+
+pub begun-whole : {W A : List ℕ} {l : Layout} {x : FindPathCtx} → Prepared W A l x → Begun W A l x 15
+begun-whole p = record { ready = p; some = omega arith; limit = omega arith }
+
+pub straight-known : (l : Layout) (b : Bool) (item : Item) {m : ℕ} → At m ≡ straight b item → Known l item → m < l .modules
+unfolding straight
+straight-known l true item e h = let z : _≡_ {A = ℕ} 0 1 = cc in absurd (omega arith)
+straight-known l false (Mod n) {m} e h = let k : m ≡ n = cc in omega (arith, k, h)
+straight-known l false (Def n d) e h = let z : _≡_ {A = ℕ} 0 1 = cc in absurd (omega arith)
+
+-- the path of an enum can be offered with a name
+pub enum-offered : (W A : List ℕ) (l : Layout) (x : FindPathCtx) (i : Item) (t : Tank) (r : Found) → Reads W A l
+    → variantOf (snapOf W A l) i ≡ none → r ≡ foundOf (items (snapOf W A l) x i t) → Offered (r .choice)
+enum-offered W A l x i t r a h e =
+    let q = plain-fits (snapOf W A l) x i t h in
+    let f = q .few in
+    let u = q .text (names-short W A l a) in
+    let p = ap (λ (y : Found). y .choice .count) e in
+    let w = ap (λ (y : Found). y .choice .text) e in
+    record { few = omega arith; text = omega arith }
+
+pub tank-stays : (s : Snapshot) (x : FindPathCtx) (i : Item) (t : Tank) (r : Found) → r ≡ foundOf (items s x i t) → t .fuel + t .spent < 2 ^ 32
+    → r .meter .fuel + r .meter .spent < 2 ^ 32
+tank-stays s x i t r e h =
+    let k = item-sum s x i t in
+    let p = ap (λ (y : Found). y .meter .fuel + y .meter .spent) e in
+    omega (arith, k, p, h)
+
+-- a variant by its enum, and else by itself
+module _ {W A₀ B : List ℕ} {l : Layout} {x : FindPathCtx} (p : Prepared W A₀ l x) (item : Item) (t : Tank) {c : Choice}
+    (e : c ≡ firstFound (scopeRule (snapOf W A₀ l) x item ∷ preludeRule (snapOf W A₀ l) x item ∷ [])) (f : c .found ≡ false)
+    (v : Definition) (h : some v ≡ variantOf (snapOf W A₀ l) item) {i : Item} (g : i ≡ itemOf (snapOf W A₀ l) 0 (v .first)) {o : Found}
+    (d : Searched A₀ (items (snapOf W A₀ l) x i t) B o) where
+  parent-same : o ≡ foundOf (items (snapOf W A₀ l) x (itemOf (snapOf W A₀ l) 0 (v .first)) t)
+  parent-same = d .same ∙ ap (λ (y : Item). foundOf (items (snapOf W A₀ l) x y t)) g
+
+  pub enum-run : {n : ℕ} {r : Choice} → o .choice .found ≡ true → n ≡ v .second → r ≡ push (snapOf W B l) (o .choice) n
+      → Searched A₀ (names (snapOf W A₀ l) x item t) B (found r (o .meter))
+  enum-run {n} k m q =
+      record {
+        same =
+            ap (λ (y : Choice). found y (o .meter))
+            (q ∙ ap (λ (s : Snapshot). push s (o .choice) n) (same-snap W A₀ B l (d .tables) (p .reads)) ∙ ap (push (snapOf W A₀ l) (o .choice)) m)
+            ∙ enum-found (snapOf W A₀ l) x item t e v f h parent-same k;
+        tables = d .tables;
+      }
+
+  pub else-run : {D : List ℕ} {r : Found} → o .choice .found ≡ false → Searched B (bestPath (snapOf W B l) x 15 item (o .meter)) D r
+      → Searched A₀ (names (snapOf W A₀ l) x item t) D r
+  else-run k q =
+      let y = later W A₀ B l x p (d .tables) (λ (s : Snapshot). bestPath s x 15 item (o .meter)) q in
+      record {
+        same = y .same ∙ ap foundOf (enum-none (snapOf W A₀ l) x item t e v f h parent-same k);
+        tables = y .tables;
+      }
+
+-- the whole search
+abbrev pub full : ℕ → Tank
+full fuel = record { fuel = fuel; spent = 0; empty = false }
+
+module _ (s : Snapshot) (q : Query) (fuel : ℕ) where
+  abbrev from : Bool → Out Tank
+  from = fromItem Tank fromTank s q (full fuel)
+
+  -- the test for a builtin
+  abbrev builtin : ℕ → Bool
+  builtin k = eqb (q .ns) 0 && eqb k 3
+
+  by-builtin : (b : Bool) {k : ℕ} → k ≡ definitionOf s (q .definition) .kind → builtin k ≡ b → from b ≡ searched s q fuel
+  unfolding searched findPath
+  by-builtin b e h = ap from (sym h ∙ ap builtin e)
+
+  pub start-builtin : {k n : ℕ} {c : Choice} → k ≡ definitionOf s (q .definition) .kind → builtin k ≡ true → n ≡ definitionOf s (q .definition) .first
+      → c ≡ choiceNew s 0 n → found c (full fuel) ≡ foundOf (searched s q fuel)
+  unfolding fromItem
+  start-builtin e h g k =
+      ap (λ (y : Choice). found y (full fuel)) (k ∙ ap (choiceNew s 0) g) ∙ ap foundOf (by-builtin true e h)
+
+  by-home : {k : ℕ} (item : Item) (h : ℕ) → k ≡ definitionOf s (q .definition) .kind → builtin k ≡ false → item ≡ itemOf s (q .ns) (q .definition)
+      → h ≡ homeOf s item → fromHome Tank fromTank s q item (full fuel) h ≡ searched s q fuel
+  unfolding fromItem
+  by-home item h e f g k =
+      ap (fromHome Tank fromTank s q item (full fuel)) k
+      ∙ ap (λ (y : Item). fromHome Tank fromTank s q y (full fuel) (homeOf s y)) g
+      ∙ by-builtin false e f
+
+  pub start-none : {k : ℕ} {c : Choice} (item : Item) (h : ℕ) → k ≡ definitionOf s (q .definition) .kind → builtin k ≡ false
+      → item ≡ itemOf s (q .ns) (q .definition) → h ≡ homeOf s item → h ≡ 0 → c ≡ nothing → found c (full fuel) ≡ foundOf (searched s q fuel)
+  unfolding fromHome
+  start-none item zero e f g k z n = ap (λ (y : Choice). found y (full fuel)) n ∙ ap foundOf (by-home item zero e f g k)
+  start-none item (suc m) e f g k z n = absurd (omega arith)
+
+  pub start-item : {k : ℕ} {x : FindPathCtx} (item : Item) (h : ℕ) → k ≡ definitionOf s (q .definition) .kind → builtin k ≡ false
+      → item ≡ itemOf s (q .ns) (q .definition) → h ≡ homeOf s item → (h ≡ 0 → ⊥) → x ≡ contextOf s q (h - 1)
+      → items s x item (full fuel) ≡ searched s q fuel
+  unfolding fromHome
+  start-item item zero e f g k z n = absurd (z refl)
+  start-item item (suc m) e f g k z n =
+      let u : suc m - 1 ≡ m = omega arith in
+      ap (λ (y : FindPathCtx). items s y item (full fuel)) (n ∙ ap (contextOf s q) u) ∙ by-home item (suc m) e f g k
+
+-- a builtin's name, and the home of an item that has one
+module _ (W A : List ℕ) (l : Layout) (r : Reads W A l) where
+  pub builtin-name : (ns d : ℕ) {k n : ℕ} → d < l .definitions → k ≡ definitionOf (snapOf W A l) d .kind → (eqb ns 0 && eqb k 3) ≡ true
+      → n ≡ definitionOf (snapOf W A l) d .first → n < l .names
+  builtin-name ns d {k} h e f g =
+      let t = eqb-true k 3 (and-right (eqb ns 0) (eqb k 3) f) in
+      let z = definition-fits W A l r d h .builtin (sym e ∙ t) in
+      omega (arith, g, z)
+
+  home-below-one : (item : Item) (h : ℕ) → Known l item → h ≡ homeOf (snapOf W A l) item → (h ≡ 0 → ⊥) → h - 1 < l .modules
+  home-below-one item zero k e z = absurd (z refl)
+  home-below-one item (suc m) k e z = let q = home-fits W A l r item m k (sym e) in omega arith
+
+  pub home-there : (item : Item) {h : ℕ} → Known l item → h ≡ homeOf (snapOf W A l) item → (h ≡ 0 → ⊥) → h - 1 < l .modules
+  home-there item {h} k e z = home-below-one item h k e z
+
+pub context-from : (s : Snapshot) (q : Query) (h : ℕ) {x : FindPathCtx} → x ≡ contextOf s q h → x .from ≡ q .from
+unfolding contextOf
+context-from s q h e = ap (λ (y : FindPathCtx). y .from) e

@@ -1,0 +1,22 @@
+use borrow.Author.Needs.{needs}
+use Rattle.search.proofs.Items.{straight-std, straight-module, straight-other}
+use Rattle.search.proofs.inner.straight_of.Statement.{statement}
+use Rattle.search.proofs.inner.straight_of.Tie as tie
+
+returns : tie.Need-returns
+returns c = straight-std _ _ (c .if1 .taken)
+
+enum-known-item : tie.Need-enum-known-item
+enum-known-item c = search needs
+
+enum-told : tie.Need-enum-told
+enum-told c = search needs
+
+returns-2 : tie.Need-returns-2
+returns-2 c = straight-module _ (c .before .before .before .if1 .left) (c .before .item .given .1)
+
+returns-3 : tie.Need-returns-3
+returns-3 c = straight-other _ (c .before .before .if1 .left) (c .enum-told .given .1)
+
+pub straight-of-spec : {M : Type 1} → statement M
+straight-of-spec = tie.close (tie.spec returns enum-known-item enum-told returns-2 returns-3)

@@ -1,0 +1,353 @@
+//! The charged search: a cycle of calls in which the length left falls.
+ghost use mathlib.Core.Path.{_≡_};
+ghost use mathlib.Core.List.{List, [], _∷_};
+ghost use Prim.Native.Nat.{ℕ, _+_, _≤_, _<_, _^_};
+ghost use Rattle.snapshot.specs.Layouts.{snapOf};
+ghost use Rattle.snapshot.specs.Records.{importAt};
+ghost use Rattle.accept.specs.Post.{Reads};
+ghost use Rattle.hir_def.specs.Nameres.{dependenciesOf, bySysroot};
+ghost use Rattle.hir_def.specs.ImportMap.{importInfoFor, isHidden};
+ghost use Rattle.hir_def.specs.Finds.{select};
+ghost use Rattle.find_path.specs.Charged.{isStable, isAt, langs, afterCharge};
+ghost use Rattle.find_path.specs.Meters.{fromTank, go};
+ghost use Rattle.find_path.specs.Search.{bestLocal, searchModule};
+ghost use Rattle.find_path.specs.declared.Tank.{Tank};
+ghost use Rattle.find_path.specs.Conditions.{Prepared, Asked, Searched};
+ghost use Rattle.search.specs.Parts.{outOf, modules, bestPath, oneImport, imports, dependencies, sysroot, inLang, Begun, Held};
+use find_path::Drawn;
+use find_path::FindPathCtx;
+use find_path::Found;
+use find_path::Tank;
+use hir_def::Entry;
+use hir_def::Item;
+use hir_def::Next;
+use hir_def::crate_graph::lang_of;
+use hir_def::crate_graph::next_by_sysroot;
+use hir_def::crate_graph::next_dependency;
+use hir_def::import_map::is_hidden;
+use hir_def::import_map::next_import;
+use hir_def::items::home_of;
+use hir_def::modules::krate;
+use local_search::calculate_best_path_local;
+use path_rules::choices::length_left;
+use path_rules::choices::nothing;
+use path_rules::context::charge;
+use path_rules::offers::offer_import;
+use path_rules::rules::module_rules;
+use snapshot::ids::Crate;
+use snapshot::ids::ModuleId;
+use snapshot::layout::Layout;
+use snapshot::record::dependency_crate;
+use snapshot::record::import_container;
+
+// Whether a home, +1, is in the crate.
+fn is_at(words: &[u32], area: &[u32], l: Layout, home: usize, c: Crate) -> bool
+    requires { ⌜ Reads (now words) (now area) l × (home ≤ l .modules) ⌝ }
+    ensures { λ r. ⌜ r ≡ isAt (snapOf (now (words .entry)) (now (area .entry)) l) home (c .0) ⌝ }
+{
+    if home == 0 {
+        return false;
+    }
+    let k = krate(words, area, l, ModuleId(home - 1));
+    k.0 == c.0
+}
+
+// Three origins, in the order in which their crates are tried.
+struct Langs {
+    first: usize,
+    second: usize,
+    third: usize,
+}
+
+fn langs_for(nostd: bool) -> Langs
+    ensures { λ r. ⌜ r .first ∷ r .second ∷ r .third ∷ [] ≡ langs nostd ⌝ }
+{
+    if nostd {
+        return Langs {
+            first: 1,
+            second: 2,
+            third: 3,
+        };
+    }
+    Langs {
+        first: 3,
+        second: 1,
+        third: 2,
+    }
+}
+
+/// The search for a module, where externs count: the rules, else the charged search. Length 0 finds no module.
+pub fn find_path_for_module(
+    words: &[u32],
+    area: &mut [u32],
+    l: Layout,
+    x: FindPathCtx,
+    left: usize,
+    m: ModuleId,
+    t: Tank,
+) -> Found
+    requires { ⌜ Prepared (now words) (now area) l x × (m .0 < l .modules) × (left ≤ 15) × (t .fuel + t .spent < 2 ^ 32) ⌝ }
+    ensures { λ r. ⌜ Searched (now (area .entry)) (searchModule Tank fromTank (snapOf (now (words .entry)) (now (area .entry)) l) x left (m .0) t) (now (area .exit)) r ⌝ }
+{
+    if left == 0 {
+        let choice = nothing();
+        return Found {
+            choice: choice,
+            meter: t,
+        };
+    }
+    let choice = module_rules(words, area, l, x, true, m);
+    if choice.found {
+        return Found {
+            choice: choice,
+            meter: t,
+        };
+    }
+    calculate_best_path(words, area, l, x, left, Item::Mod(m.0), t)
+}
+
+/// The only rule that charges: the local search in the viewer's crate, else the sysroot for a std item, else the dependencies.
+pub fn calculate_best_path(
+    words: &[u32],
+    area: &mut [u32],
+    l: Layout,
+    x: FindPathCtx,
+    left: usize,
+    item: Item,
+    t: Tank,
+) -> Found
+    requires { ⌜ Begun (now words) (now area) l x left × Asked l item × (t .fuel + t .spent < 2 ^ 32) ⌝ }
+    ensures { λ r. ⌜ Searched (now (area .entry)) (bestPath (snapOf (now (words .entry)) (now (area .entry)) l) x left item t) (now (area .exit)) r ⌝ }
+{
+    match charge(t) {
+        Drawn::Stop(meter) => {
+            let choice = nothing();
+            Found {
+                choice: choice,
+                meter: meter,
+            }
+        }
+        Drawn::Go(meter) => search_charged(words, area, l, x, left, item, meter),
+    }
+}
+
+// What follows a charge.
+fn search_charged(
+    words: &[u32],
+    area: &mut [u32],
+    l: Layout,
+    x: FindPathCtx,
+    left: usize,
+    item: Item,
+    t: Tank,
+) -> Found
+    requires { ⌜ Begun (now words) (now area) l x left × Asked l item × (t .fuel + t .spent < 2 ^ 32) ⌝ }
+    ensures { λ r. ⌜ Searched (now (area .entry)) (afterCharge Tank fromTank (snapOf (now (words .entry)) (now (area .entry)) l) x (bestLocal (snapOf (now (words .entry)) (now (area .entry)) l) x) (modules (snapOf (now (words .entry)) (now (area .entry)) l) x) left item (go t)) (now (area .exit)) r ⌝ }
+{
+    let home = home_of(words, l, item);
+    if is_at(words, area, l, home, Crate(x.krate)) {
+        let choice = calculate_best_path_local(words, area, l, x, left, item);
+        return Found {
+            choice: choice,
+            meter: t,
+        };
+    }
+    let choice = nothing();
+    let o = Found {
+        choice: choice,
+        meter: t,
+    };
+    if x.std {
+        return find_in_sysroot(words, area, l, x, left, item, o);
+    }
+    find_in_deps(words, area, l, x, left, item, o)
+}
+
+// Core, alloc and std, until the choice is stable; then every dependency, those of the sysroot first.
+fn find_in_sysroot(
+    words: &[u32],
+    area: &mut [u32],
+    l: Layout,
+    x: FindPathCtx,
+    left: usize,
+    item: Item,
+    o: Found,
+) -> Found
+    requires { ⌜ Begun (now words) (now area) l x left × Held left o ⌝ }
+    ensures { λ r. ⌜ Searched (now (area .entry)) (sysroot (snapOf (now (words .entry)) (now (area .entry)) l) x left item (outOf o) (langs (x .nostd)) (isStable (o .choice))) (now (area .exit)) r ⌝ }
+{
+    let langs = langs_for(x.nostd);
+    let a = find_in_lang(words, area, l, x, left, item, langs.first, o);
+    let b = find_in_lang(words, area, l, x, left, item, langs.second, a);
+    let c = find_in_lang(words, area, l, x, left, item, langs.third, b);
+    find_in_rest(words, area, l, x, left, item, c)
+}
+
+// The crate of one language in the sysroot, unless the choice is stable.
+fn find_in_lang(
+    words: &[u32],
+    area: &mut [u32],
+    l: Layout,
+    x: FindPathCtx,
+    left: usize,
+    item: Item,
+    lang: usize,
+    o: Found,
+) -> Found
+    requires { ⌜ Begun (now words) (now area) l x left × Held left o ⌝ }
+    ensures { λ r. ⌜ Searched (now (area .entry)) (inLang (snapOf (now (words .entry)) (now (area .entry)) l) x left item (outOf o) lang (isStable (o .choice))) (now (area .exit)) r ⌝ }
+{
+    if o.choice.found & o.choice.stable {
+        return o;
+    }
+    let Entry::At(h) = lang_of(words, l, Crate(x.krate), lang) else {
+        return o;
+    };
+    find_in_dep(words, area, l, x, left, item, dependency_crate(words, h), o)
+}
+
+// Every dependency, those of the sysroot first, unless the choice is stable.
+fn find_in_rest(
+    words: &[u32],
+    area: &mut [u32],
+    l: Layout,
+    x: FindPathCtx,
+    left: usize,
+    item: Item,
+    o: Found,
+) -> Found
+    requires { ⌜ Begun (now words) (now area) l x left × Held left o ⌝ }
+    ensures { λ r. ⌜ Searched (now (area .entry)) (sysroot (snapOf (now (words .entry)) (now (area .entry)) l) x left item (outOf o) [] (isStable (o .choice))) (now (area .exit)) r ⌝ }
+{
+    if o.choice.found & o.choice.stable {
+        return o;
+    }
+    let a = find_in_deps_by_sysroot(words, area, l, x, left, item, true, o);
+    find_in_deps_by_sysroot(words, area, l, x, left, item, false, a)
+}
+
+// The dependencies that are in the sysroot, or those that are not.
+fn find_in_deps_by_sysroot(
+    words: &[u32],
+    area: &mut [u32],
+    l: Layout,
+    x: FindPathCtx,
+    left: usize,
+    item: Item,
+    inside: bool,
+    o: Found,
+) -> Found
+    requires { ⌜ Begun (now words) (now area) l x left × Held left o ⌝ }
+    ensures { λ r. ⌜ Searched (now (area .entry)) (dependencies (snapOf (now (words .entry)) (now (area .entry)) l) x left item (outOf o) (select (bySysroot (x .krate) inside) ((snapOf (now (words .entry)) (now (area .entry)) l) .dependencies))) (now (area .exit)) r ⌝ }
+{
+    let c = Crate(x.krate);
+    let mut best = o;
+    let mut k = 0;
+    while k < l.dependencies {
+        let Next::Record(j, h) = next_by_sysroot(words, l, k, c, inside) else {
+            return best;
+        };
+        best = find_in_dep(
+            words,
+            area,
+            l,
+            x,
+            left,
+            item,
+            dependency_crate(words, h),
+            best,
+        );
+        k = j + 1;
+    }
+    best
+}
+
+// Every dependency.
+fn find_in_deps(
+    words: &[u32],
+    area: &mut [u32],
+    l: Layout,
+    x: FindPathCtx,
+    left: usize,
+    item: Item,
+    o: Found,
+) -> Found
+    requires { ⌜ Begun (now words) (now area) l x left × Held left o ⌝ }
+    ensures { λ r. ⌜ Searched (now (area .entry)) (dependencies (snapOf (now (words .entry)) (now (area .entry)) l) x left item (outOf o) (dependenciesOf (snapOf (now (words .entry)) (now (area .entry)) l) (x .krate))) (now (area .exit)) r ⌝ }
+{
+    let c = Crate(x.krate);
+    let mut best = o;
+    let mut k = 0;
+    while k < l.dependencies {
+        let Next::Record(j, h) = next_dependency(words, l, k, c) else {
+            return best;
+        };
+        best = find_in_dep(
+            words,
+            area,
+            l,
+            x,
+            left,
+            item,
+            dependency_crate(words, h),
+            best,
+        );
+        k = j + 1;
+    }
+    best
+}
+
+// The imports of the item in a crate.
+fn find_in_dep(
+    words: &[u32],
+    area: &mut [u32],
+    l: Layout,
+    x: FindPathCtx,
+    left: usize,
+    item: Item,
+    c: Crate,
+    o: Found,
+) -> Found
+    requires { ⌜ Begun (now words) (now area) l x left × Held left o ⌝ }
+    ensures { λ r. ⌜ Searched (now (area .entry)) (imports (snapOf (now (words .entry)) (now (area .entry)) l) x left (outOf o) (importInfoFor (snapOf (now (words .entry)) (now (area .entry)) l) (c .0) item)) (now (area .exit)) r ⌝ }
+{
+    let mut best = o;
+    let mut k = 0;
+    while k < l.imports {
+        let Next::Record(j, h) = next_import(words, l, k, c, item) else {
+            return best;
+        };
+        best = find_import(words, area, l, x, left, h, best);
+        k = j + 1;
+    }
+    best
+}
+
+// One import, unless it is hidden: the best path of its container is offered with its name.
+fn find_import(
+    words: &[u32],
+    area: &mut [u32],
+    l: Layout,
+    x: FindPathCtx,
+    left: usize,
+    h: usize,
+    o: Found,
+) -> Found
+    requires { ⌜ Begun (now words) (now area) l x left × (importAt (now words) h .container < l .modules) × (importAt (now words) h .name < l .names) × Held left o ⌝ }
+    ensures { λ r. ⌜ Searched (now (area .entry)) (oneImport (snapOf (now (words .entry)) (now (area .entry)) l) x left (outOf o) (importAt (now (words .entry)) h) (isHidden (importAt (now (words .entry)) h))) (now (area .exit)) r ⌝ }
+{
+    if is_hidden(words, h) {
+        return o;
+    }
+    let best = o.choice;
+    let t = o.meter;
+    let n = length_left(left, best);
+    let r = find_path_for_module(words, area, l, x, n, import_container(words, h), t);
+    let c = r.choice;
+    let meter = r.meter;
+    let choice = offer_import(words, area, l, x, best, c, h);
+    Found {
+        choice: choice,
+        meter: meter,
+    }
+}

@@ -1,0 +1,3 @@
+//! The search with a tank: modules, items, dependencies and imports.
+pub mod charged;
+pub mod inner;
