@@ -1,0 +1,51 @@
+//! compare PRINTER FROM TO: runs a path printer and the text of rust-analyzer on the inputs of a range of seeds.
+use std::time::Instant;
+
+use differential::compare::{Other, Totals, compare_input};
+use differential::generate::case;
+use differential::{damage, generate};
+
+const USAGE: &str = "compare PRINTER FROM TO [--damaged] [--questions N] [--steps N] [--show N]
+  PRINTER    a program that reads a printer's input on stdin; `rules` is the one that follows the definitions
+  FROM TO    seeds, the last one not taken
+  --damaged  damaged copies of the inputs, some for each seed
+  --questions N   questions to a seed (120; damaged: 12)
+  --steps N  a question that takes the Rust more steps is not asked (300000)
+  --show N   how many differences are printed whole (3)";
+
+fn main() {
+    let mut places = Vec::new();
+    let (mut damaged, mut questions, mut steps, mut show) = (false, None, 300_000u64, 3);
+    let mut arguments = std::env::args().skip(1);
+    while let Some(argument) = arguments.next() {
+        let mut number = || arguments.next().and_then(|text| text.parse::<u64>().ok()).unwrap_or_else(|| usage());
+        match argument.as_str() {
+            "--damaged" => damaged = true,
+            "--questions" => questions = Some(number() as usize),
+            "--steps" => steps = number(),
+            "--show" => show = number() as usize,
+            _ => places.push(argument),
+        }
+    }
+    let [printer, from, to] = &places[..] else { usage() };
+    let (Ok(from), Ok(to)) = (from.parse::<u64>(), to.parse::<u64>()) else { usage() };
+    let other = if printer == "rules" { Other::Rules } else { Other::Program(printer.into()) };
+    let start = Instant::now();
+    let mut totals = Totals::default();
+    for seed in from..to {
+        let (_, case): (generate::Shape, _) = case(seed, questions.unwrap_or(if damaged { 12 } else { 120 }), steps);
+        let inputs = if damaged { damage::copies(seed, &case, steps) } else { vec![case.input()] };
+        for (copy, input) in inputs.iter().enumerate() {
+            compare_input(&format!("seed {seed} copy {copy}"), input, &other, &mut totals, show);
+        }
+    }
+    println!("{totals}, {:.1} s", start.elapsed().as_secs_f64());
+    if totals.differences > 0 {
+        std::process::exit(1);
+    }
+}
+
+fn usage() -> ! {
+    eprintln!("{USAGE}");
+    std::process::exit(2);
+}

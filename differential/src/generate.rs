@@ -1,0 +1,628 @@
+//! Accepted snapshots with questions, from a seed. The shapes together reach every rule of the search.
+use crate::check::{BUILTINS, Child, DefMap, Definition, Dependency, Extern, Import, Krate, Module, Prelude, Scope, Snapshot};
+use crate::printer::refusal;
+use crate::random::Random;
+use crate::right::fill::Filled;
+use crate::tables::Set;
+use crate::{Answers, Question};
+
+/// A snapshot and questions on it.
+pub struct Case {
+    pub words: Vec<u32>,
+    pub questions: Vec<Question>,
+}
+
+impl Case {
+    pub fn input(&self) -> Vec<u8> {
+        let questions = self.questions.iter().flat_map(crate::encode::question_words);
+        crate::encode::bytes(&self.words.iter().copied().chain(questions).collect::<Vec<_>>())
+    }
+}
+
+#[derive(Clone, Copy, PartialEq, Debug)]
+pub enum Shape {
+    Mixed,
+    Small,
+    Std,
+    Chain,
+    Cycle,
+    Blocks,
+    Ties,
+    Preludes,
+    Limits,
+}
+
+/// What a shape asks for. Percentages, and ranges from to.
+struct Plan {
+    crates: (usize, usize),
+    lang: usize,
+    modules: (usize, usize),
+    /// the next module below the latest, and not below any
+    deep: usize,
+    blocks: (usize, usize),
+    names: (usize, usize),
+    long_names: usize,
+    items: (usize, usize),
+    /// entries and imports that are no item's own
+    more_entries: (usize, usize),
+    more_imports: (usize, usize),
+    /// a module, an item has its own entry and import
+    declared: usize,
+    exported: usize,
+    unstable: usize,
+    hidden: usize,
+    externs: usize,
+    preludes: usize,
+    public: usize,
+}
+
+const MIXED: Plan = Plan {
+    crates: (1, 4),
+    lang: 30,
+    modules: (1, 6),
+    deep: 40,
+    blocks: (0, 3),
+    names: (4, 14),
+    long_names: 3,
+    items: (3, 14),
+    more_entries: (0, 24),
+    more_imports: (0, 16),
+    declared: 80,
+    exported: 70,
+    unstable: 18,
+    hidden: 8,
+    externs: 80,
+    preludes: 40,
+    public: 55,
+};
+
+fn plan(shape: Shape, r: &mut Random) -> Plan {
+    match shape {
+        Shape::Mixed => MIXED,
+        Shape::Small => Plan { crates: (1, 2), modules: (1, 4), items: (1, 4), more_entries: (0, 6), more_imports: (0, 5), blocks: (0, 1), names: (3, 6), ..MIXED },
+        Shape::Std => Plan { crates: (3, 7), lang: 85, modules: (1, 4), blocks: (0, 1), more_imports: (4, 30), unstable: 45, exported: 85, ..MIXED },
+        Shape::Chain => Plan { crates: (1, 2), modules: (12, 18), deep: 93, blocks: (0, 1), items: (4, 8), more_entries: (0, 4), more_imports: (0, 3), declared: 97, exported: 97, unstable: 4, hidden: 2, public: 85, preludes: 10, names: (8, 24), ..MIXED },
+        Shape::Cycle => Plan { crates: (2, 3), lang: 20, modules: (2, 7), deep: 30, blocks: (0, 1), items: (1, 4), more_entries: (0, 10), more_imports: (6, 24), exported: 60, externs: 25, hidden: 4, ..MIXED },
+        Shape::Blocks => Plan { crates: (1, 2), lang: 5, modules: (1, 4), blocks: (2, 6), more_entries: (6, 30), more_imports: (0, 4), public: 30, ..MIXED },
+        Shape::Ties => Plan { crates: (1, 3), modules: (3, 8), deep: 15, blocks: (0, 1), names: (5, 12), items: (1, 4), more_entries: (10, 50), more_imports: (0, 30), public: 80, long_names: 0, ..MIXED },
+        Shape::Preludes => Plan { crates: (1, 4), preludes: 95, modules: (2, 6), more_entries: (6, 24), names: (3, 7), ..MIXED },
+        Shape::Limits => {
+            let big = r.below(4);
+            Plan {
+                crates: if big == 0 { (64, 64) } else { (1, 6) },
+                lang: 10,
+                modules: if big == 1 { (90, 500) } else { (1, 7) },
+                names: if big == 2 { (2048, 2048) } else { (10, 60) },
+                items: if big == 3 { (2040, 2047) } else { (20, 200) },
+                more_entries: (0, 700),
+                more_imports: (0, 300),
+                ..MIXED
+            }
+        }
+    }
+}
+
+struct Builder {
+    r: Random,
+    plan: Plan,
+    s: Snapshot,
+    /// entries taken: module, namespace, name
+    entries: Set<(usize, usize, usize)>,
+    /// the module's own name
+    own_names: Vec<usize>,
+}
+
+/// The snapshot of a seed.
+pub fn snapshot(seed: u64) -> (Shape, Snapshot) {
+    let mut r = Random::new(seed);
+    let shapes = [
+        (Shape::Mixed, 22),
+        (Shape::Small, 16),
+        (Shape::Std, 15),
+        (Shape::Chain, 9),
+        (Shape::Cycle, 8),
+        (Shape::Blocks, 10),
+        (Shape::Ties, 10),
+        (Shape::Preludes, 9),
+        (Shape::Limits, 1),
+    ];
+    let mut draw = r.below(100);
+    let mut shape = Shape::Mixed;
+    for (one, weight) in shapes {
+        shape = one;
+        if draw < weight {
+            break;
+        }
+        draw -= weight;
+    }
+    let plan = plan(shape, &mut r);
+    let mut b = Builder { r, plan, s: Snapshot::default(), entries: Set::default(), own_names: Vec::new() };
+    b.names();
+    b.crates();
+    b.modules();
+    b.definitions();
+    b.scopes();
+    b.imports();
+    b.externs();
+    b.trim();
+    (shape, b.s)
+}
+
+impl Builder {
+    fn range(&mut self, range: (usize, usize)) -> usize {
+        self.r.from_to(range.0, range.1)
+    }
+
+    fn name(&mut self) -> usize {
+        self.r.below(self.s.names.len())
+    }
+
+    fn names(&mut self) {
+        let count = self.range(self.plan.names);
+        let mut texts: Vec<Vec<u8>> = Vec::new();
+        if self.r.percent(70) {
+            texts.push(b"prelude".to_vec());
+        }
+        for near in ["prelud", "preludes", "Prelude", "prelude\0"] {
+            if self.r.percent(6) {
+                texts.push(near.as_bytes().to_vec());
+            }
+        }
+        let builtins = if self.r.percent(60) { self.r.from_to(1, 3) } else { 0 };
+        for _ in 0..builtins {
+            texts.push(self.r.pick(&BUILTINS).as_bytes().to_vec());
+        }
+        let same_length = self.r.percent(40).then(|| self.r.from_to(1, 3));
+        while texts.len() < count {
+            let length = match same_length {
+                Some(length) if self.r.percent(80) => length,
+                _ if self.r.percent(self.plan.long_names) => self.r.from_to(200, 255),
+                _ => self.r.from_to(1, 8),
+            };
+            let any_bytes = self.r.percent(4);
+            let text = (0..length).map(|_| if any_bytes { self.r.from_to(11, 255) as u8 } else { b'a' + self.r.below(26) as u8 });
+            texts.push(text.collect());
+        }
+        self.r.shuffle(&mut texts);
+        let mut seen = Set::default();
+        texts.retain(|text| seen.insert(text.clone()));
+        // room for the texts of a full table
+        if texts.len() > 1000 {
+            texts.iter_mut().for_each(|text| text.truncate(3));
+            let mut seen = Set::default();
+            texts.retain(|text| seen.insert(text.clone()));
+            let mut next = 0usize;
+            while texts.len() < count {
+                let text = vec![b'0' + (next % 10) as u8, b'a' + (next / 10 % 26) as u8, b'A' + (next / 260 % 26) as u8];
+                if seen.insert(text.clone()) {
+                    texts.push(text);
+                }
+                next += 1;
+            }
+        }
+        self.s.names = texts;
+    }
+
+    fn crates(&mut self) {
+        let count = self.range(self.plan.crates);
+        for c in 0..count {
+            let lang = self.r.percent(if c == 0 { 5 } else { self.plan.lang });
+            let origin = if lang { self.r.pick(&[1, 1, 2, 2, 3, 3, 3, 4]) } else { 0 };
+            let no_std = self.r.percent(12);
+            self.s.crates.push(Krate { origin, no_std });
+        }
+        let mut pairs = Vec::new();
+        for owner in 0..count.min(8) {
+            for krate in 0..count.min(20) {
+                if owner != krate && self.r.percent(if owner == 0 { 85 } else { 25 }) {
+                    pairs.push((owner, krate));
+                }
+            }
+        }
+        for _ in 0..self.r.below(3) {
+            let any = (self.r.below(count), self.r.below(count));
+            pairs.push(any);
+        }
+        self.r.shuffle(&mut pairs);
+        for (owner, krate) in pairs {
+            let lang = self.s.crates[krate].origin != 0;
+            let sysroot = self.r.percent(if lang { 85 } else { 10 });
+            self.s.dependencies.push(Dependency { owner, krate, sysroot });
+        }
+    }
+
+    fn add_map(&mut self, krate: usize, block: usize, modules: usize) {
+        let map = self.s.maps.len();
+        let no_std = self.r.percent(12);
+        self.s.maps.push(DefMap { krate, block, no_std });
+        let first = self.s.modules.len();
+        for k in 0..modules {
+            let parent = match k {
+                0 => 0,
+                _ if self.r.percent(self.plan.deep) => first + k,
+                _ => first + 1 + self.r.below(k),
+            };
+            self.s.modules.push(Module { map, parent });
+            let name = self.name();
+            self.own_names.push(name);
+        }
+    }
+
+    fn modules(&mut self) {
+        let crates = self.s.crates.len();
+        let many = crates > 8;
+        for krate in 0..crates {
+            let mut modules = self.range(self.plan.modules);
+            if many || (modules > 30 && krate > 0) {
+                modules = 1 + modules % 3;
+            }
+            self.add_map(krate, 0, modules.min(512 - crates - self.s.modules.len().min(400)));
+        }
+        for _ in 0..self.range(self.plan.blocks) {
+            // in the latest block, in the viewer's crate, or anywhere
+            let all = self.s.modules.len();
+            let parent = match self.r.below(10) {
+                0..=4 => all - 1,
+                5..=8 => self.module_of(0),
+                _ => self.r.below(all),
+            };
+            let krate = self.s.maps[self.s.modules[parent].map].krate;
+            let modules = self.r.pick(&[1, 1, 2, 3]);
+            if self.s.modules.len() + modules <= 512 {
+                self.add_map(krate, parent + 1, modules);
+            }
+        }
+        self.children();
+        for map in 0..self.s.maps.len() {
+            if self.r.percent(self.plan.preludes) {
+                let target = self.r.below(self.s.modules.len());
+                self.s.preludes.push(Prelude { map, target });
+            }
+        }
+        let mut preludes = std::mem::take(&mut self.s.preludes);
+        self.r.shuffle(&mut preludes);
+        self.s.preludes = preludes;
+    }
+
+    fn children(&mut self) {
+        let mut children = Vec::new();
+        for (child, module) in self.s.modules.iter().enumerate() {
+            if module.parent != 0 && self.r.percent(90) {
+                children.push(Child { owner: module.parent - 1, child });
+            }
+        }
+        if self.r.percent(60) {
+            self.r.shuffle(&mut children);
+        }
+        self.s.children = children;
+    }
+
+    fn krate_of(&self, module: usize) -> usize {
+        self.s.maps[self.s.modules[module].map].krate
+    }
+
+    fn module_of(&mut self, krate: usize) -> usize {
+        let modules: Vec<usize> = (0..self.s.modules.len()).filter(|&m| self.krate_of(m) == krate).collect();
+        self.r.pick(&modules)
+    }
+
+    fn definitions(&mut self) {
+        let mut definitions = Vec::new();
+        for module in 0..self.s.modules.len() {
+            if self.r.percent(90) {
+                definitions.push(Definition { kind: 1, first: module, second: 0 });
+            }
+        }
+        let builtins: Vec<usize> = (0..self.s.names.len())
+            .filter(|&n| BUILTINS.iter().any(|builtin| builtin.as_bytes() == &self.s.names[n][..]))
+            .collect();
+        for name in builtins {
+            if self.r.percent(80) {
+                definitions.push(Definition { kind: 3, first: name, second: 0 });
+            }
+        }
+        for _ in 0..self.range(self.plan.items) {
+            let kind = self.r.pick(&[4, 4, 4, 4, 5]);
+            // in a long chain the last modules are the interesting ones
+            let all = self.s.modules.len();
+            let low = if self.plan.deep > 90 && self.r.percent(70) { all - all.min(6) } else { 0 };
+            let first = self.r.from_to(low, all - 1);
+            definitions.push(Definition { kind, first, second: 0 });
+        }
+        self.r.shuffle(&mut definitions);
+        for definition in definitions {
+            self.s.definitions.push(definition);
+            if self.r.percent(12) {
+                self.variant();
+            }
+        }
+        for _ in 0..self.r.below(3) {
+            self.variant();
+        }
+        self.s.definitions.truncate(2048);
+    }
+
+    fn variant(&mut self) {
+        let parents: Vec<usize> = (0..self.s.definitions.len()).filter(|&d| self.s.definitions[d].kind == 4).collect();
+        if !parents.is_empty() {
+            let first = self.r.pick(&parents);
+            let second = self.name();
+            self.s.definitions.push(Definition { kind: 2, first, second });
+        }
+    }
+
+    fn home(&self, d: usize) -> Option<usize> {
+        let definition = &self.s.definitions[d];
+        match definition.kind {
+            2 => self.home(definition.first),
+            3 => None,
+            _ => Some(definition.first),
+        }
+    }
+
+    /// A namespace for a definition.
+    fn ns(&mut self, d: usize) -> usize {
+        match self.s.definitions[d].kind {
+            1 => self.r.pick(&[0, 0, 0, 0, 0, 0, 0, 1]),
+            5 => self.r.pick(&[2, 2, 2, 0, 1]),
+            2 => self.r.pick(&[0, 1]),
+            _ => self.r.pick(&[0, 0, 1]),
+        }
+    }
+
+    fn visibility(&mut self, owner: usize) -> (usize, usize) {
+        if self.r.percent(self.plan.public) {
+            return (0, 0);
+        }
+        let krate = self.krate_of(owner);
+        if self.r.percent(15) {
+            let any = self.r.below(self.s.crates.len());
+            return (1, if self.r.percent(85) { krate } else { any });
+        }
+        let module = match self.r.below(10) {
+            0..=3 => owner,
+            4..=5 if self.s.modules[owner].parent != 0 => self.s.modules[owner].parent - 1,
+            4..=8 => self.module_of(krate),
+            _ => self.r.below(self.s.modules.len()),
+        };
+        (self.r.pick(&[2, 3]), module)
+    }
+
+    fn entry(&mut self, owner: usize, ns: usize, name: usize, definition: usize, declared: bool) {
+        if ns == 2 && self.s.definitions[definition].kind != 5 {
+            return;
+        }
+        if self.entries.insert((owner, ns, name)) {
+            let (visibility, number) = self.visibility(owner);
+            self.s.scopes.push(Scope { owner, ns, name, definition, visibility, number, declared });
+        }
+    }
+
+    fn scopes(&mut self) {
+        for d in 0..self.s.definitions.len() {
+            let Definition { kind, first, .. } = self.s.definitions[d];
+            if !self.r.percent(self.plan.declared) {
+                continue;
+            }
+            if kind == 1 {
+                let parent = self.s.modules[first].parent;
+                if parent != 0 {
+                    let name = self.own_names[first];
+                    let declared = self.r.percent(90);
+                    self.entry(parent - 1, 0, name, d, declared);
+                }
+            } else if let Some(home) = self.home(d)
+                && kind != 2
+            {
+                let (ns, name, declared) = (self.ns(d), self.name(), self.r.percent(90));
+                self.entry(home, ns, name, d, declared);
+                if self.r.percent(15) {
+                    let (ns, name) = (self.ns(d), self.name());
+                    self.entry(home, ns, name, d, false);
+                }
+            }
+        }
+        for _ in 0..self.range(self.plan.more_entries) {
+            let d = self.r.below(self.s.definitions.len());
+            let owner = if self.r.percent(60) { self.module_of(0) } else { self.r.below(self.s.modules.len()) };
+            let (ns, name, declared) = (self.ns(d), self.name(), self.r.percent(25));
+            self.entry(owner, ns, name, d, declared);
+        }
+        // what the preludes lead to
+        for p in 0..self.s.preludes.len() {
+            let target = self.s.preludes[p].target;
+            for _ in 0..self.r.below(5) {
+                let d = self.r.below(self.s.definitions.len());
+                let (ns, name, declared) = (self.ns(d), self.name(), self.r.percent(50));
+                self.entry(target, ns, name, d, declared);
+            }
+        }
+        if self.r.percent(60) {
+            let mut scopes = std::mem::take(&mut self.s.scopes);
+            self.r.shuffle(&mut scopes);
+            self.s.scopes = scopes;
+        }
+    }
+
+    fn import(&mut self, owner: usize, ns: usize, definition: usize, name: usize, container: usize) {
+        if ns == 2 && self.s.definitions[definition].kind != 5 {
+            return;
+        }
+        let bits = usize::from(self.r.percent(self.plan.hidden)) + 2 * usize::from(self.r.percent(self.plan.unstable));
+        self.s.imports.push(Import { owner, ns, definition, name, container, bits });
+    }
+
+    fn imports(&mut self) {
+        for d in 0..self.s.definitions.len() {
+            let Some(home) = self.home(d) else { continue };
+            let krate = self.krate_of(home);
+            if !self.r.percent(self.plan.exported) || (krate == 0 && self.r.percent(85)) {
+                continue;
+            }
+            if self.s.definitions[d].kind == 1 {
+                let parent = self.s.modules[home].parent;
+                if parent != 0 {
+                    let name = self.own_names[home];
+                    self.import(krate, 0, d, name, parent - 1);
+                }
+            } else {
+                let (ns, name) = (self.ns(d), self.name());
+                self.import(krate, ns, d, name, home);
+            }
+        }
+        for _ in 0..self.range(self.plan.more_imports) {
+            let d = self.r.below(self.s.definitions.len());
+            let crates = self.s.crates.len();
+            let owner = self.r.below(crates);
+            let container = if self.r.percent(85) { self.module_of(owner) } else { self.r.below(self.s.modules.len()) };
+            let (ns, name) = (self.ns(d), self.name());
+            self.import(owner, ns, d, name, container);
+        }
+        if self.r.percent(60) {
+            let mut imports = std::mem::take(&mut self.s.imports);
+            self.r.shuffle(&mut imports);
+            self.s.imports = imports;
+        }
+    }
+
+    fn root(&self, krate: usize) -> usize {
+        let map = self.s.maps.iter().position(|map| map.krate == krate && map.block == 0).unwrap();
+        self.s.modules.iter().position(|module| module.map == map).unwrap()
+    }
+
+    fn externs(&mut self) {
+        let mut taken = Set::default();
+        let mut externs = Vec::new();
+        for d in 0..self.s.dependencies.len() {
+            let Dependency { owner, krate, .. } = self.s.dependencies[d];
+            while self.r.percent(self.plan.externs) && externs.len() < 200 {
+                let target = if self.r.percent(92) { self.root(krate) } else { self.r.below(self.s.modules.len()) };
+                let name = self.name();
+                if taken.insert((owner, name)) {
+                    externs.push(Extern { owner, name, target });
+                }
+                if self.r.percent(60) {
+                    break;
+                }
+            }
+        }
+        self.r.shuffle(&mut externs);
+        self.s.externs = externs;
+    }
+
+    /// No more words than leave room for questions.
+    fn trim(&mut self) {
+        const ROOM: usize = 15_600;
+        while crate::encode::words(&self.s).len() > ROOM {
+            let imports = self.s.imports.len();
+            let scopes = self.s.scopes.len();
+            if imports > 20 {
+                self.s.imports.truncate(imports * 3 / 4);
+            } else if scopes > 20 {
+                self.s.scopes.truncate(scopes * 3 / 4);
+            } else {
+                let definitions = self.s.definitions.len() * 3 / 4;
+                self.s.definitions.truncate(definitions);
+                self.s.scopes.retain(|e| e.definition < definitions);
+                self.s.imports.retain(|i| i.definition < definitions);
+            }
+        }
+    }
+}
+
+/// Questions on a snapshot, none of which takes more steps than given.
+pub fn questions(seed: u64, s: &Snapshot, shape: Shape, count: usize, steps: u64) -> Vec<Question> {
+    let mut r = Random::new(seed ^ 0xA5A5_5A5A_1234_4321);
+    let program = Filled::new(s);
+    let snapshot = Ok(s.clone());
+    let targets = Targets::new(s);
+    let mut questions = Vec::new();
+    let mut tries = 0;
+    while questions.len() < count && tries < 4 * count {
+        tries += 1;
+        let mut question = targets.question(&mut r, s, shape);
+        if refusal(&snapshot, &question).is_none() {
+            let (answer, taken) = crate::budget::within(steps, || program.put(&question));
+            let Some(answer) = answer else { continue };
+            let _ = taken;
+            question.fuel = match r.below(20) {
+                0..=2 => answer.charges,
+                3..=5 => answer.charges.saturating_sub(1),
+                6..=7 => answer.charges + 1,
+                8 => 0,
+                9 if answer.charges > 0 => r.below(answer.charges),
+                _ => 10_000,
+            };
+            question.fuel = question.fuel.min(10_000);
+        }
+        if r.below(70) == 0 {
+            spoil(&mut r, s, &mut question);
+        }
+        questions.push(question);
+    }
+    questions
+}
+
+/// A question that may be refused.
+fn spoil(r: &mut Random, s: &Snapshot, q: &mut Question) {
+    for _ in 0..r.from_to(1, 2) {
+        match r.below(8) {
+            0 => q.fuel = r.pick(&[10_001, 10_001, 20_000, 0x0FFF_FFFF]),
+            1 => q.ns = r.pick(&[3, 4, 0x0FFF_FFFF]),
+            2 => q.prefix = r.pick(&[3, 4, 0x0FFF_FFFF]),
+            3 => q.options = r.pick(&[32, 33, 64, 0x0FFF_FFFF]),
+            4 => q.definition = s.definitions.len() + r.below(2),
+            5 => q.from = s.modules.len() + r.below(2),
+            6 => q.ns = 2,
+            _ => q.definition = 0x0FFF_FFFF,
+        }
+    }
+}
+
+/// Definitions with the namespaces in which something names them.
+struct Targets {
+    named: Vec<(usize, usize)>,
+    of_viewer: Vec<usize>,
+}
+
+impl Targets {
+    fn new(s: &Snapshot) -> Targets {
+        let entries = s.scopes.iter().map(|e| (e.definition, e.ns));
+        let imports = s.imports.iter().map(|i| (i.definition, i.ns));
+        let of_viewer = (0..s.modules.len()).filter(|&m| s.maps[s.modules[m].map].krate == 0).collect();
+        Targets { named: entries.chain(imports).collect(), of_viewer }
+    }
+
+    fn question(&self, r: &mut Random, s: &Snapshot, shape: Shape) -> Question {
+        let (mut definition, mut ns) = if !self.named.is_empty() && r.percent(70) {
+            self.named[r.below(self.named.len())]
+        } else {
+            (r.below(s.definitions.len().max(1)), r.pick(&[0, 0, 1]))
+        };
+        let variants: Vec<usize> = (0..s.definitions.len()).filter(|&d| s.definitions[d].kind == 2).collect();
+        if !variants.is_empty() && r.percent(15) {
+            (definition, ns) = (r.pick(&variants), r.below(2));
+        }
+        if s.definitions.get(definition).is_some_and(|d| d.kind == 5) && r.percent(50) {
+            ns = 2;
+        }
+        let all = s.modules.len().max(1);
+        let from = match r.below(10) {
+            0..=2 if shape == Shape::Chain => 0,
+            0..=5 if !self.of_viewer.is_empty() => r.pick(&self.of_viewer),
+            6 => all - 1,
+            _ => r.below(all),
+        };
+        let options = if r.percent(35) { 0 } else { r.below(32) };
+        Question { definition, ns, from, prefix: r.below(3), options, fuel: 10_000 }
+    }
+}
+
+/// The case of a seed.
+pub fn case(seed: u64, count: usize, steps: u64) -> (Shape, Case) {
+    let (shape, s) = snapshot(seed);
+    let words = crate::encode::words(&s);
+    let room = (crate::check::WORDS - words.len()) / 6;
+    let questions = questions(seed, &s, shape, count.min(room), steps);
+    (shape, Case { words, questions })
+}

@@ -1,0 +1,91 @@
+//! The printer of document 01: input bytes to lines, over any program that answers.
+use crate::check::{Snapshot, check, kind, payload};
+use crate::{Answer, Answers, Question};
+
+/// The words of an input, or the refusal of its length (40, 41).
+pub fn words_of(input: &[u8]) -> Result<Vec<u32>, u32> {
+    if input.len() > 65_536 {
+        return Err(40);
+    }
+    if input.len() % 4 != 0 {
+        return Err(41);
+    }
+    Ok(input.chunks(4).map(|bytes| u32::from_le_bytes(bytes.try_into().unwrap())).collect())
+}
+
+/// The snapshot's words, the whole questions, and whether a word is outside of them (42).
+pub fn parts_of(words: &[u32]) -> (&[u32], Vec<Question>, bool) {
+    let start = words.iter().position(|&word| kind(word) == 12).unwrap_or(words.len());
+    let mut questions = Vec::new();
+    let mut rest = &words[start..];
+    while rest.len() >= 6 && kind(rest[0]) == 12 && rest[1..6].iter().all(|&word| kind(word) == 0) {
+        let [ns, from, prefix, options, fuel] = std::array::from_fn(|place| rest[1 + place] as usize);
+        questions.push(Question { definition: payload(rest[0]), ns, from, prefix, options, fuel });
+        rest = &rest[6..];
+    }
+    (&words[..start], questions, !rest.is_empty())
+}
+
+/// The refusal of a question before any search, for a snapshot that was accepted or refused.
+pub fn refusal(snapshot: &Result<Snapshot, u32>, q: &Question) -> Option<u32> {
+    if q.fuel > 10_000 {
+        return Some(21);
+    }
+    if q.ns > 2 || q.prefix > 2 || q.options > 31 {
+        return Some(22);
+    }
+    let s = match snapshot {
+        Err(number) => return Some(*number),
+        Ok(s) => s,
+    };
+    if q.definition >= s.definitions.len() || q.from >= s.modules.len() {
+        return Some(23);
+    }
+    (q.ns == 2 && s.definitions[q.definition].kind != 5).then_some(24)
+}
+
+pub fn refused_line(number: u32) -> Vec<u8> {
+    format!("refused {number} 0 0").into_bytes()
+}
+
+pub fn line(s: &Snapshot, answer: &Answer) -> Vec<u8> {
+    let mut line: Vec<u8> = Vec::new();
+    match &answer.path {
+        None => line.extend(b"none -"),
+        Some(path) => {
+            line.extend(b"found ");
+            let prefix = [None, Some("self"), Some("super"), Some("crate"), Some("")][path.kind];
+            let names = path.names.iter().map(|&name| s.names[name].as_slice());
+            let parts: Vec<&[u8]> = prefix.iter().map(|text| text.as_bytes()).chain(names).collect();
+            line.extend(parts.join(&b"::"[..]));
+        }
+    }
+    line.extend(format!(" {} {}", answer.charges, u8::from(answer.empty)).into_bytes());
+    line
+}
+
+/// The lines of an input. A program that gives up a question has no line for it.
+pub fn lines<A: Answers>(input: &[u8], fill: impl Fn(&Snapshot) -> A, steps: u64) -> Vec<Option<Vec<u8>>> {
+    let words = match words_of(input) {
+        Err(number) => return vec![Some(refused_line(number))],
+        Ok(words) => words,
+    };
+    let (snapshot, questions, outside) = parts_of(&words);
+    let snapshot = check(snapshot);
+    let program = snapshot.as_ref().ok().filter(|_| !questions.is_empty()).map(&fill);
+    let mut lines: Vec<Option<Vec<u8>>> = Vec::new();
+    for question in &questions {
+        lines.push(match refusal(&snapshot, question) {
+            Some(number) => Some(refused_line(number)),
+            None => {
+                let program = program.as_ref().unwrap();
+                let (answer, _) = crate::budget::within(steps, || program.put(question));
+                answer.map(|answer| line(snapshot.as_ref().unwrap(), &answer))
+            }
+        });
+    }
+    if outside {
+        lines.push(Some(refused_line(42)));
+    }
+    lines
+}
