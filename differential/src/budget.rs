@@ -2,12 +2,16 @@
 use std::cell::Cell;
 use std::panic::{AssertUnwindSafe, catch_unwind, panic_any, set_hook, take_hook};
 use std::sync::Once;
+use std::sync::atomic::{AtomicBool, Ordering};
 
 thread_local! {
     static LEFT: Cell<u64> = const { Cell::new(u64::MAX) };
 }
 
 struct TooLong;
+
+/// Whether a program that panics is given up too, as a wrong one may be.
+pub static FORGIVING: AtomicBool = AtomicBool::new(false);
 
 pub fn step() {
     LEFT.with(|left| {
@@ -34,7 +38,7 @@ pub fn within<T>(steps: u64, f: impl FnOnce() -> T) -> (Option<T>, u64) {
     let taken = steps - LEFT.replace(u64::MAX);
     match result {
         Ok(value) => (Some(value), taken),
-        Err(payload) if payload.is::<TooLong>() => (None, taken),
+        Err(payload) if payload.is::<TooLong>() || FORGIVING.load(Ordering::Relaxed) => (None, taken),
         Err(payload) => std::panic::resume_unwind(payload),
     }
 }

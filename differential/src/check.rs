@@ -154,8 +154,17 @@ struct Known {
 
 /// An accepted snapshot, or the number of its refusal (30 to 36).
 pub fn check(words: &[u32]) -> Result<Snapshot, u32> {
+    checked(words).map_err(|(number, _)| number)
+}
+
+/// The refusal with the place of the record.
+pub fn refused_at(words: &[u32]) -> Option<(u32, usize)> {
+    checked(words).err()
+}
+
+fn checked(words: &[u32]) -> Result<Snapshot, (u32, usize)> {
     if words.len() > WORDS {
-        return Err(30);
+        return Err((30, WORDS));
     }
     let mut s = Snapshot::default();
     let mut known = Known::default();
@@ -165,22 +174,22 @@ pub fn check(words: &[u32]) -> Result<Snapshot, u32> {
         let (kind, payload) = (kind(words[at]), payload(words[at]));
         let falls = kind < last && !(last == 5 && kind == 4);
         if kind == 0 || kind > 11 || falls {
-            return Err(31);
+            return Err((31, at));
         }
         let end = at + 1 + arguments(kind, payload);
         if end > words.len() || words[at + 1..end].iter().any(|&word| self::kind(word) != 0) {
-            return Err(31);
+            return Err((31, at));
         }
         let record = Record { payload, arguments: &words[at + 1..end] };
         if let Some(number) = add(&mut s, &mut known, kind, &record).refusal() {
-            return Err(number);
+            return Err((number, at));
         }
         at = end;
         last = kind;
     }
     let empty_map = (0..s.maps.len()).any(|map| !known.roots.contains_key(&map));
     let no_own_map = (0..s.crates.len()).any(|krate| !known.own_maps.contains(&krate));
-    if empty_map || no_own_map { Err(35) } else { Ok(s) }
+    if empty_map || no_own_map { Err((35, words.len())) } else { Ok(s) }
 }
 
 fn add(s: &mut Snapshot, known: &mut Known, kind: usize, record: &Record) -> Judged {

@@ -1,30 +1,47 @@
 //! An input put to the text of rust-analyzer and to another program, and their lines compared.
 use std::fmt;
 use std::io::Write;
-use std::path::PathBuf;
 use std::process::{Command, Stdio};
 
-use crate::check::check;
+use crate::Question;
+use crate::check::{Snapshot, check};
+use crate::encode::words;
 use crate::printer::{lines, parts_of, words_of};
-use crate::right::fill::Filled;
-use crate::show::{question_text, snapshot_text};
+use crate::right::ask::Program;
+use crate::show::{hexadecimal, question_text, snapshot_text};
+use crate::shrink::{input, shrink};
 
 pub enum Other {
+    /// what follows the definitions
     Rules,
-    Program(PathBuf),
+    /// the text of rust-analyzer itself
+    Original,
+    /// a program with its arguments
+    Program(Vec<String>),
 }
 
 impl Other {
+    /// By name: `rules`, `original`, or a program with its arguments.
+    pub fn named(text: &str) -> Other {
+        match text {
+            "rules" => Other::Rules,
+            "original" => Other::Original,
+            _ => Other::Program(text.split_whitespace().map(str::to_string).collect()),
+        }
+    }
+
     /// What the program prints for the input.
-    fn output(&self, input: &[u8]) -> Vec<u8> {
+    pub fn output(&self, input: &[u8]) -> Vec<u8> {
         match self {
             Other::Rules => joined(crate::rules::lines(input)),
-            Other::Program(path) => {
-                let mut child = Command::new(path)
+            Other::Original => joined(original(input)),
+            Other::Program(command) => {
+                let mut child = Command::new(&command[0])
+                    .args(&command[1..])
                     .stdin(Stdio::piped())
                     .stdout(Stdio::piped())
                     .spawn()
-                    .unwrap_or_else(|error| panic!("{} does not run: {error}", path.display()));
+                    .unwrap_or_else(|error| panic!("{} does not run: {error}", command[0]));
                 let mut stdin = child.stdin.take().unwrap();
                 let input = input.to_vec();
                 // a program may end before it has read everything
@@ -35,6 +52,11 @@ impl Other {
             }
         }
     }
+}
+
+/// The lines of the text of rust-analyzer.
+fn original(input: &[u8]) -> Vec<Vec<u8>> {
+    lines(input, Program::new, u64::MAX).into_iter().map(|line| line.expect("no limit")).collect()
 }
 
 fn joined(lines: Vec<Vec<u8>>) -> Vec<u8> {
@@ -96,9 +118,22 @@ impl fmt::Display for Totals {
     }
 }
 
+/// The difference on a snapshot with as few records as it shows on.
+fn show_smallest(s: Snapshot, question: Question, other: &Other) {
+    let (s, question) = shrink(s, question, |s, question| {
+        let input = input(s, question);
+        Other::Original.output(&input) != other.output(&input)
+    });
+    let input = input(&s, &question);
+    println!("  smallest: {}", question_text(&question));
+    println!("  Rust:  {}", String::from_utf8_lossy(&Other::Original.output(&input)).trim_end());
+    println!("  other: {}", String::from_utf8_lossy(&other.output(&input)).trim_end());
+    print!("{}", snapshot_text(&s));
+    println!("  words: {}", hexadecimal(&words(&s)));
+}
+
 pub fn compare_input(title: &str, input: &[u8], other: &Other, totals: &mut Totals, show: usize) {
-    let right: Vec<Vec<u8>> =
-        lines(input, Filled::new, u64::MAX).into_iter().map(|line| line.expect("no limit")).collect();
+    let right = original(input);
     totals.inputs += 1;
     for line in &right {
         totals.count(line);
@@ -124,12 +159,10 @@ pub fn compare_input(title: &str, input: &[u8], other: &Other, totals: &mut Tota
     println!("  other: {}", printed(theirs.get(place).copied()));
     if let Ok(words) = &words {
         let (snapshot, questions, _) = parts_of(words);
-        if let Some(question) = questions.get(place) {
-            println!("  question: {}", question_text(question));
-        }
-        match check(snapshot) {
-            Ok(s) => println!("{}", snapshot_text(&s)),
-            Err(number) => println!("  a snapshot of {} words, refused {number}", snapshot.len()),
+        match (check(snapshot), questions.get(place)) {
+            (Ok(s), Some(question)) => show_smallest(s, *question, other),
+            (Ok(s), None) => println!("{}", snapshot_text(&s)),
+            (Err(number), _) => println!("  a snapshot of {} words, refused {number}: {snapshot:08X?}", snapshot.len()),
         }
     }
 }

@@ -4,7 +4,7 @@ use crate::encode::{bytes, head, question_words};
 use crate::generate::Case;
 use crate::printer::{parts_of, refusal};
 use crate::random::Random;
-use crate::right::fill::Filled;
+use crate::right::ask::Program;
 use crate::{Answers, Question};
 
 /// Some damaged copies. Questions that take the Rust more steps are left out.
@@ -22,6 +22,9 @@ pub fn copies(seed: u64, case: &Case, steps: u64) -> Vec<Vec<u8>> {
     copies.push(spoiled_questions(&mut r, case, steps));
     if r.below(10) == 0 {
         copies.push(long(&mut r, case));
+    }
+    if r.below(25) == 0 {
+        copies.push(full(&mut r));
     }
     copies
 }
@@ -89,7 +92,7 @@ fn small(r: &mut Random) -> u32 {
 fn asked(words: &[u32], questions: &[Question], steps: u64) -> Vec<u8> {
     let (snapshot, own, _) = parts_of(words);
     let checked = check(snapshot);
-    let program = checked.as_ref().ok().map(Filled::new);
+    let program = checked.as_ref().ok().map(Program::new);
     let in_time = |question: &Question| match &program {
         Some(program) if refusal(&checked, question).is_none() => {
             crate::budget::within(steps, || program.put(question)).0.is_some()
@@ -112,7 +115,7 @@ fn asked(words: &[u32], questions: &[Question], steps: u64) -> Vec<u8> {
 fn in_time(words: &[u32], steps: u64) -> bool {
     let (snapshot, questions, _) = parts_of(words);
     let checked = check(snapshot);
-    let Some(program) = checked.as_ref().ok().map(Filled::new) else { return true };
+    let Some(program) = checked.as_ref().ok().map(Program::new) else { return true };
     questions.iter().all(|question| {
         refusal(&checked, question).is_some() || crate::budget::within(steps, || program.put(question)).0.is_some()
     })
@@ -145,14 +148,57 @@ fn spoiled_questions(r: &mut Random, case: &Case, steps: u64) -> Vec<u8> {
     input
 }
 
-/// Inputs of nearly, exactly and more than 65,536 bytes.
-fn long(r: &mut Random, case: &Case) -> Vec<u8> {
-    let question = Question { definition: 0x0FFF_FFFF, ns: 0, from: 0, prefix: 0, options: 0, fuel: 0 };
-    let mut input = bytes(&case.words);
-    while input.len() + 24 <= 65_536 {
-        input.extend(bytes(&question_words(&question)));
+/// A table that is full, or has one record more, which may have a fault of its own.
+fn full(r: &mut Random) -> Vec<u8> {
+    let (which, more, fault) = (r.below(4), r.below(3).min(1), r.below(3) == 0);
+    let names = if which == 0 { 2048 + more } else { 3 };
+    let crates = if which == 1 { 64 + more } else { 1 };
+    let modules = if which == 2 { 512 + more } else { crates };
+    let definitions = if which == 3 { 2048 + more } else { 3 };
+    let mut words = Vec::new();
+    for n in 0..names {
+        let text = if fault && n == 2048 { 0 } else { n };
+        words.extend([head(1, 2), 0x6161 + (text % 200) as u32 + ((text / 200) << 8) as u32]);
     }
-    let size = 65_536 + r.pick(&[0, 0, 1, 2, 3, 4, 5, 8, 24]) - r.pick(&[0, 0, 1, 4]);
-    input.resize(size.max(input.len()), 0);
+    words.extend((0..crates).map(|c| head(2, if fault && c == 64 { 7 } else { 0 })));
+    for c in 0..crates.min(64) {
+        words.extend([head(4, c), 0, 0, head(5, c), 0]);
+    }
+    let last = crates.min(64) - 1;
+    for m in crates..modules {
+        words.extend([head(5, last), if fault && m == 512 { 0 } else { m as u32 }]);
+    }
+    for d in 0..definitions {
+        words.extend([head(8, 4), if fault && d == 2048 { 600 } else { 0 }, 0]);
+    }
+    for definition in [0, 2] {
+        let question = Question { definition, ns: 0, from: 0, prefix: 1, options: 0, fuel: 5 };
+        words.extend(question_words(&question));
+    }
+    bytes(&words)
+}
+
+/// Inputs of nearly, exactly and more than 65,536 bytes: long names after those of the case.
+fn long(r: &mut Random, case: &Case) -> Vec<u8> {
+    let mut words = case.words.clone();
+    let questions: Vec<u32> = case.questions.iter().flat_map(question_words).collect();
+    let mut place = 0;
+    while place < words.len() && kind(words[place]) == 1 {
+        place += 1 + (words[place] & 0x0FFF_FFFF).div_ceil(3) as usize;
+    }
+    let size = 16_384 + r.pick(&[0, 0, 0, 1, 2, 7]) - r.pick(&[0, 0, 1, 5]);
+    while words.len() + questions.len() + 2 <= size {
+        let gap = size - words.len() - questions.len();
+        let text = if gap > 90 { 85 } else { gap.min(85) - 1 };
+        let number = words.len() as u32;
+        let mut name = vec![0x0020_2020; text];
+        name[0] = 0x0030_3030 + (number & 0xFF) + (number >> 8 << 16);
+        name.insert(0, head(1, 3 * text));
+        words.splice(place..place, name);
+    }
+    words.extend(questions);
+    let mut input = bytes(&words);
+    let extra = r.pick(&[0, 0, 0, 1, 2, 3]);
+    input.extend(std::iter::repeat_n(0, extra));
     input
 }

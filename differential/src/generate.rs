@@ -2,7 +2,7 @@
 use crate::check::{BUILTINS, Child, DefMap, Definition, Dependency, Extern, Import, Krate, Module, Prelude, Scope, Snapshot};
 use crate::printer::refusal;
 use crate::random::Random;
-use crate::right::fill::Filled;
+use crate::right::ask::Program;
 use crate::tables::Set;
 use crate::{Answers, Question};
 
@@ -29,6 +29,9 @@ pub enum Shape {
     Blocks,
     Ties,
     Preludes,
+    Root,
+    Knot,
+    Stairs,
     Limits,
 }
 
@@ -54,6 +57,20 @@ struct Plan {
     externs: usize,
     preludes: usize,
     public: usize,
+    /// names of one length, names beyond ASCII
+    same_length: usize,
+    wide: usize,
+    /// a further entry or import is of an item, and not of any definition
+    item_entries: usize,
+    /// an exported item is exported by another crate too
+    reexported: usize,
+    /// a module of another crate stands in the scope of the first crate's root
+    outside: usize,
+    /// the name of an extern stands in a scope
+    occupied: usize,
+    no_std: usize,
+    /// a name is `prelude`, where there is one
+    prelude_names: usize,
 }
 
 const MIXED: Plan = Plan {
@@ -74,18 +91,28 @@ const MIXED: Plan = Plan {
     externs: 80,
     preludes: 40,
     public: 55,
+    same_length: 40,
+    wide: 6,
+    item_entries: 30,
+    reexported: 10,
+    outside: 5,
+    occupied: 30,
+    no_std: 12,
+    prelude_names: 8,
 };
 
 fn plan(shape: Shape, r: &mut Random) -> Plan {
     match shape {
         Shape::Mixed => MIXED,
         Shape::Small => Plan { crates: (1, 2), modules: (1, 4), items: (1, 4), more_entries: (0, 6), more_imports: (0, 5), blocks: (0, 1), names: (3, 6), ..MIXED },
-        Shape::Std => Plan { crates: (3, 7), lang: 85, modules: (1, 4), blocks: (0, 1), more_imports: (4, 30), unstable: 45, exported: 85, ..MIXED },
+        Shape::Std => Plan { crates: (3, 7), lang: 85, modules: (1, 4), blocks: (0, 3), more_imports: (4, 30), unstable: 40, exported: 85, reexported: 60, no_std: 25, item_entries: 60, ..MIXED },
         Shape::Chain => Plan { crates: (1, 2), modules: (12, 18), deep: 93, blocks: (0, 1), items: (4, 8), more_entries: (0, 4), more_imports: (0, 3), declared: 97, exported: 97, unstable: 4, hidden: 2, public: 85, preludes: 10, names: (8, 24), ..MIXED },
         Shape::Cycle => Plan { crates: (2, 3), lang: 20, modules: (2, 7), deep: 30, blocks: (0, 1), items: (1, 4), more_entries: (0, 10), more_imports: (6, 24), exported: 60, externs: 25, hidden: 4, ..MIXED },
-        Shape::Blocks => Plan { crates: (1, 2), lang: 5, modules: (1, 4), blocks: (2, 6), more_entries: (6, 30), more_imports: (0, 4), public: 30, ..MIXED },
-        Shape::Ties => Plan { crates: (1, 3), modules: (3, 8), deep: 15, blocks: (0, 1), names: (5, 12), items: (1, 4), more_entries: (10, 50), more_imports: (0, 30), public: 80, long_names: 0, ..MIXED },
-        Shape::Preludes => Plan { crates: (1, 4), preludes: 95, modules: (2, 6), more_entries: (6, 24), names: (3, 7), ..MIXED },
+        Shape::Blocks => Plan { crates: (1, 3), lang: 5, occupied: 65, externs: 90, modules: (1, 4), blocks: (2, 6), more_entries: (6, 30), more_imports: (0, 4), public: 30, ..MIXED },
+        Shape::Ties => Plan { crates: (1, 3), modules: (3, 9), deep: 15, blocks: (0, 1), names: (5, 14), items: (1, 4), more_entries: (10, 50), more_imports: (0, 30), public: 85, long_names: 0, same_length: 85, wide: 30, item_entries: 75, declared: 90, unstable: 10, prelude_names: 20, ..MIXED },
+        Shape::Preludes => Plan { crates: (1, 4), preludes: 95, modules: (2, 6), more_entries: (6, 24), names: (3, 7), prelude_names: 20, ..MIXED },
+        Shape::Root => Plan { crates: (2, 3), lang: 10, modules: (2, 6), blocks: (0, 0), items: (1, 4), more_entries: (0, 16), more_imports: (6, 30), externs: 30, outside: 40, item_entries: 40, public: 70, preludes: 70, same_length: 70, prelude_names: 15, ..MIXED },
+        Shape::Knot | Shape::Stairs => Plan { crates: (1, 1), modules: (7, 9), deep: 0, blocks: (0, 0), names: (6, 12), long_names: 0, items: (1, 3), more_entries: (0, 4), more_imports: (0, 0), declared: 0, public: 97, preludes: 5, prelude_names: 5, ..MIXED },
         Shape::Limits => {
             let big = r.below(4);
             Plan {
@@ -116,14 +143,17 @@ struct Builder {
 pub fn snapshot(seed: u64) -> (Shape, Snapshot) {
     let mut r = Random::new(seed);
     let shapes = [
-        (Shape::Mixed, 22),
-        (Shape::Small, 16),
-        (Shape::Std, 15),
+        (Shape::Mixed, 13),
+        (Shape::Small, 12),
+        (Shape::Knot, 2),
+        (Shape::Stairs, 2),
+        (Shape::Std, 14),
         (Shape::Chain, 9),
-        (Shape::Cycle, 8),
+        (Shape::Cycle, 7),
         (Shape::Blocks, 10),
-        (Shape::Ties, 10),
+        (Shape::Ties, 14),
         (Shape::Preludes, 9),
+        (Shape::Root, 7),
         (Shape::Limits, 1),
     ];
     let mut draw = r.below(100);
@@ -141,9 +171,14 @@ pub fn snapshot(seed: u64) -> (Shape, Snapshot) {
     b.crates();
     b.modules();
     b.definitions();
+    b.externs();
+    match shape {
+        Shape::Knot => b.knot(),
+        Shape::Stairs => b.stairs(),
+        _ => (),
+    }
     b.scopes();
     b.imports();
-    b.externs();
     b.trim();
     (shape, b.s)
 }
@@ -154,7 +189,17 @@ impl Builder {
     }
 
     fn name(&mut self) -> usize {
+        if self.r.percent(self.plan.prelude_names)
+            && let Some(prelude) = self.prelude()
+        {
+            return prelude;
+        }
         self.r.below(self.s.names.len())
+    }
+
+    /// The number of the name `prelude`.
+    fn prelude(&self) -> Option<usize> {
+        self.s.names.iter().position(|text| text == b"prelude")
     }
 
     fn names(&mut self) {
@@ -172,16 +217,14 @@ impl Builder {
         for _ in 0..builtins {
             texts.push(self.r.pick(&BUILTINS).as_bytes().to_vec());
         }
-        let same_length = self.r.percent(40).then(|| self.r.from_to(1, 3));
+        let same_length = self.r.percent(self.plan.same_length).then(|| self.r.from_to(1, 3));
         while texts.len() < count {
             let length = match same_length {
                 Some(length) if self.r.percent(80) => length,
                 _ if self.r.percent(self.plan.long_names) => self.r.from_to(200, 255),
                 _ => self.r.from_to(1, 8),
             };
-            let any_bytes = self.r.percent(4);
-            let text = (0..length).map(|_| if any_bytes { self.r.from_to(11, 255) as u8 } else { b'a' + self.r.below(26) as u8 });
-            texts.push(text.collect());
+            texts.push(self.text(length));
         }
         self.r.shuffle(&mut texts);
         let mut seen = Set::default();
@@ -203,12 +246,23 @@ impl Builder {
         self.s.names = texts;
     }
 
+    /// A text of that length, or a bit longer where it is beyond ASCII.
+    fn text(&mut self, length: usize) -> Vec<u8> {
+        if self.r.percent(self.plan.wide) {
+            let letters = ['é', 'ß', 'λ', 'ж', '字', '𝔸', 'x'];
+            let text: String = (0..length.min(60)).map(|_| self.r.pick(&letters)).collect();
+            return text.into_bytes();
+        }
+        let any_bytes = self.r.percent(2);
+        (0..length).map(|_| if any_bytes { self.r.from_to(11, 255) as u8 } else { b'a' + self.r.below(26) as u8 }).collect()
+    }
+
     fn crates(&mut self) {
         let count = self.range(self.plan.crates);
         for c in 0..count {
             let lang = self.r.percent(if c == 0 { 5 } else { self.plan.lang });
             let origin = if lang { self.r.pick(&[1, 1, 2, 2, 3, 3, 3, 4]) } else { 0 };
-            let no_std = self.r.percent(12);
+            let no_std = self.r.percent(self.plan.no_std);
             self.s.crates.push(Krate { origin, no_std });
         }
         let mut pairs = Vec::new();
@@ -233,7 +287,7 @@ impl Builder {
 
     fn add_map(&mut self, krate: usize, block: usize, modules: usize) {
         let map = self.s.maps.len();
-        let no_std = self.r.percent(12);
+        let no_std = self.r.percent(self.plan.no_std);
         self.s.maps.push(DefMap { krate, block, no_std });
         let first = self.s.modules.len();
         for k in 0..modules {
@@ -360,6 +414,16 @@ impl Builder {
         }
     }
 
+    /// A definition, of an item as often as the plan says.
+    fn any_definition(&mut self) -> usize {
+        let items: Vec<usize> = (0..self.s.definitions.len()).filter(|&d| self.s.definitions[d].kind == 4).collect();
+        if !items.is_empty() && self.r.percent(self.plan.item_entries) {
+            self.r.pick(&items)
+        } else {
+            self.r.below(self.s.definitions.len())
+        }
+    }
+
     /// A namespace for a definition.
     fn ns(&mut self, d: usize) -> usize {
         match self.s.definitions[d].kind {
@@ -423,11 +487,12 @@ impl Builder {
             }
         }
         for _ in 0..self.range(self.plan.more_entries) {
-            let d = self.r.below(self.s.definitions.len());
+            let d = self.any_definition();
             let owner = if self.r.percent(60) { self.module_of(0) } else { self.r.below(self.s.modules.len()) };
             let (ns, name, declared) = (self.ns(d), self.name(), self.r.percent(25));
             self.entry(owner, ns, name, d, declared);
         }
+        self.more_scopes();
         // what the preludes lead to
         for p in 0..self.s.preludes.len() {
             let target = self.s.preludes[p].target;
@@ -441,6 +506,77 @@ impl Builder {
             let mut scopes = std::mem::take(&mut self.s.scopes);
             self.r.shuffle(&mut scopes);
             self.s.scopes = scopes;
+        }
+    }
+
+    /// The entry of a module in another, where it has a definition.
+    fn put_module(&mut self, owner: usize, module: usize, prelude: bool) {
+        let d = self.s.definitions.iter().position(|d| d.kind == 1 && d.first == module);
+        let name = self.prelude().filter(|_| prelude).unwrap_or_else(|| self.r.below(self.s.names.len()));
+        if let Some(d) = d {
+            self.entry(owner, 0, name, d, true);
+        }
+    }
+
+    /// A module found by a long path through `prelude`, by a short one, and by one that leads through itself: only the
+    /// visited set keeps the last one out.
+    fn knot(&mut self) {
+        let mut places: Vec<usize> = (1..7).collect();
+        if self.r.percent(40) {
+            self.r.shuffle(&mut places);
+        }
+        let [long, short, through, prelude, inside, target] = places[..] else { unreachable!() };
+        self.put_module(0, short, false);
+        self.put_module(0, prelude, true);
+        self.put_module(prelude, inside, false);
+        self.put_module(inside, long, false);
+        for owner in [long, short, through] {
+            self.put_module(owner, target, false);
+        }
+        self.put_module(target, through, true);
+    }
+
+    /// Paths from the root that are one longer than the length left.
+    fn stairs(&mut self) {
+        let mut places: Vec<usize> = (1..7).collect();
+        if self.r.percent(40) {
+            self.r.shuffle(&mut places);
+        }
+        let [first, second, prelude, inside, last, _] = places[..] else { unreachable!() };
+        self.put_module(0, first, false);
+        self.put_module(0, second, false);
+        self.put_module(0, prelude, true);
+        self.put_module(prelude, inside, false);
+        self.put_module(second, last, false);
+        self.put_module(inside, last, false);
+        for d in 0..self.s.definitions.len() {
+            if self.s.definitions[d].kind == 4 {
+                for owner in [first, last] {
+                    let name = self.name();
+                    self.entry(owner, 0, name, d, true);
+                }
+            }
+        }
+    }
+
+    /// Modules of other crates in the first root, and the names of externs.
+    fn more_scopes(&mut self) {
+        for d in 0..self.s.definitions.len() {
+            let outside = self.s.definitions[d].kind == 1 && self.krate_of(self.s.definitions[d].first) != 0;
+            if outside && self.r.percent(self.plan.outside) {
+                let name = self.name();
+                self.entry(0, 0, name, d, false);
+            }
+        }
+        for e in 0..self.s.externs.len().min(20) {
+            let Extern { owner, name, target } = self.s.externs[e];
+            let root = self.s.definitions.iter().position(|d| d.kind == 1 && d.first == target);
+            while self.r.percent(self.plan.occupied) {
+                let module = self.module_of(owner);
+                let any = self.any_definition();
+                let d = root.filter(|_| self.r.percent(50)).unwrap_or(any);
+                self.entry(module, 0, name, d, false);
+            }
         }
     }
 
@@ -468,10 +604,15 @@ impl Builder {
             } else {
                 let (ns, name) = (self.ns(d), self.name());
                 self.import(krate, ns, d, name, home);
+                if self.r.percent(self.plan.reexported) {
+                    let other = self.r.below(self.s.crates.len());
+                    let container = if self.r.percent(60) { self.root(other) } else { self.module_of(other) };
+                    self.import(other, ns, d, name, container);
+                }
             }
         }
         for _ in 0..self.range(self.plan.more_imports) {
-            let d = self.r.below(self.s.definitions.len());
+            let d = self.any_definition();
             let crates = self.s.crates.len();
             let owner = self.r.below(crates);
             let container = if self.r.percent(85) { self.module_of(owner) } else { self.r.below(self.s.modules.len()) };
@@ -533,7 +674,7 @@ impl Builder {
 /// Questions on a snapshot, none of which takes more steps than given.
 pub fn questions(seed: u64, s: &Snapshot, shape: Shape, count: usize, steps: u64) -> Vec<Question> {
     let mut r = Random::new(seed ^ 0xA5A5_5A5A_1234_4321);
-    let program = Filled::new(s);
+    let program = Program::new(s);
     let snapshot = Ok(s.clone());
     let targets = Targets::new(s);
     let mut questions = Vec::new();
@@ -549,7 +690,7 @@ pub fn questions(seed: u64, s: &Snapshot, shape: Shape, count: usize, steps: u64
                 0..=2 => answer.charges,
                 3..=5 => answer.charges.saturating_sub(1),
                 6..=7 => answer.charges + 1,
-                8 => 0,
+                8 => r.below(2),
                 9 if answer.charges > 0 => r.below(answer.charges),
                 _ => 10_000,
             };
@@ -609,12 +750,14 @@ impl Targets {
         let all = s.modules.len().max(1);
         let from = match r.below(10) {
             0..=2 if shape == Shape::Chain => 0,
+            0..=6 if matches!(shape, Shape::Root | Shape::Knot | Shape::Stairs) => 0,
             0..=5 if !self.of_viewer.is_empty() => r.pick(&self.of_viewer),
             6 => all - 1,
             _ => r.below(all),
         };
         let options = if r.percent(35) { 0 } else { r.below(32) };
-        Question { definition, ns, from, prefix: r.below(3), options, fuel: 10_000 }
+        let prefix = if matches!(shape, Shape::Root | Shape::Stairs) && r.percent(50) { 2 } else { r.below(3) };
+        Question { definition, ns, from, prefix, options, fuel: 10_000 }
     }
 }
 

@@ -1,16 +1,20 @@
 //! The text of rust-analyzer's `find_path` over stand-ins, and what compares a path printer with it.
 
 pub mod budget;
+pub mod check;
 pub mod compare;
 pub mod damage;
 pub mod encode;
 pub mod generate;
-pub mod random;
-pub mod show;
-pub mod check;
 pub mod printer;
+pub mod question;
+pub mod random;
 pub mod rules;
+pub mod show;
+pub mod shrink;
+pub mod stored;
 pub mod tables;
+pub mod wrongs;
 
 /// The text as it is, with the changes that `build.rs` names.
 #[allow(dead_code, unused_unsafe, unused_imports)]
@@ -18,38 +22,4 @@ pub mod right {
     include!(concat!(env!("OUT_DIR"), "/right.rs"));
 }
 
-/// The wrong programs, where the feature asks for them.
-#[allow(warnings)]
-pub mod wrong {
-    include!(concat!(env!("OUT_DIR"), "/wrong.rs"));
-}
-
-#[derive(Clone, Copy, PartialEq, Eq, Debug, Hash)]
-pub struct Question {
-    pub definition: usize,
-    pub ns: usize,
-    pub from: usize,
-    pub prefix: usize,
-    pub options: usize,
-    pub fuel: usize,
-}
-
-/// A path kind (0 plain, 1 `self`, 2 `super`, 3 `crate`, 4 leading `::`) and the numbers of the names.
-#[derive(Clone, PartialEq, Eq, Debug)]
-pub struct Path {
-    pub kind: usize,
-    pub names: Vec<usize>,
-}
-
-#[derive(Clone, PartialEq, Eq, Debug)]
-pub struct Answer {
-    pub path: Option<Path>,
-    pub charges: usize,
-    pub empty: bool,
-}
-
-/// A program that answers questions on one accepted snapshot. A question names a definition and a module that are there,
-/// and no other definition than a macro in the macros namespace.
-pub trait Answers {
-    fn put(&self, question: &Question) -> Answer;
-}
+pub use question::{Answer, Answers, Path, Question};

@@ -78,3 +78,8 @@ pub fn snapshot_text(s: &Snapshot) -> String {
     }
     text
 }
+
+/// Words as document 01 writes them.
+pub fn hexadecimal(words: &[u32]) -> String {
+    words.iter().map(|word| format!("{word:08X}")).collect::<Vec<_>>().join(" ")
+}

@@ -3,10 +3,11 @@ use std::time::Instant;
 
 use differential::compare::{Other, Totals, compare_input};
 use differential::generate::case;
-use differential::{damage, generate};
+use differential::damage;
 
 const USAGE: &str = "compare PRINTER FROM TO [--damaged] [--questions N] [--steps N] [--show N]
-  PRINTER    a program that reads a printer's input on stdin; `rules` is the one that follows the definitions
+  PRINTER    a program that reads a printer's input on stdin, with its arguments; `rules` is the one that follows the
+             definitions
   FROM TO    seeds, the last one not taken
   --damaged  damaged copies of the inputs, some for each seed
   --questions N   questions to a seed (120; damaged: 12)
@@ -29,11 +30,11 @@ fn main() {
     }
     let [printer, from, to] = &places[..] else { usage() };
     let (Ok(from), Ok(to)) = (from.parse::<u64>(), to.parse::<u64>()) else { usage() };
-    let other = if printer == "rules" { Other::Rules } else { Other::Program(printer.into()) };
+    let other = Other::named(printer);
     let start = Instant::now();
     let mut totals = Totals::default();
     for seed in from..to {
-        let (_, case): (generate::Shape, _) = case(seed, questions.unwrap_or(if damaged { 12 } else { 120 }), steps);
+        let (_, case) = case(seed, questions.unwrap_or(if damaged { 12 } else { 120 }), steps);
         let inputs = if damaged { damage::copies(seed, &case, steps) } else { vec![case.input()] };
         for (copy, input) in inputs.iter().enumerate() {
             compare_input(&format!("seed {seed} copy {copy}"), input, &other, &mut totals, show);

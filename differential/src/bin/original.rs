@@ -2,13 +2,13 @@
 use std::io::{Read, Write};
 
 use differential::printer::lines;
-use differential::right::fill::Filled;
+use differential::right::ask::Program;
 
 fn main() {
     let mut input = Vec::new();
     std::io::stdin().read_to_end(&mut input).unwrap();
     let mut out = Vec::new();
-    for line in lines(&input, Filled::new, u64::MAX) {
+    for line in lines(&input, Program::new, u64::MAX) {
         out.extend(line.unwrap());
         out.push(b'\n');
     }

@@ -1,9 +1,7 @@
-// The stand-ins, filled from a snapshot, and a question put to find_path.
+// The stand-ins, filled from a snapshot.
 use std::cell::Cell;
 
 use super::base_db::{Crate, CrateData, CrateOrigin, Dependency, LangCrateOrigin, SourceDatabase};
-use super::find_path::{FindPathConfig, PrefixKind, find_path};
-use super::hir_expand::mod_path::{ModPath, PathKind};
 use super::hir_expand::name::Name;
 use super::import_map::{ImportInfo, ImportMap};
 use super::item_scope::{ImportOrExternCrate, ItemInNs, ItemScope};
@@ -13,7 +11,6 @@ use super::visibility::{Visibility, VisibilityExplicitness};
 use super::{BlockIdLt, BlockId, BuiltinType, EnumId, EnumVariantId, MacroId, ModuleDefId, ModuleId, module_id};
 use crate::check::{BUILTINS, Snapshot};
 use crate::tables::{IndexMap, Map};
-use crate::{Answer, Question};
 
 pub struct Store {
     pub crates: Vec<CrateData>,
@@ -54,9 +51,9 @@ impl SourceDatabase for Store {
 }
 
 pub struct Filled {
-    store: Store,
-    definitions: Vec<ModuleDefId>,
-    names: Map<Name, usize>,
+    pub store: Store,
+    pub definitions: Vec<ModuleDefId>,
+    pub names: Map<Name, usize>,
 }
 
 fn number_below(plus_one: usize) -> Option<ModuleId> {
@@ -124,7 +121,7 @@ fn home(s: &Snapshot, d: usize) -> Option<ModuleId> {
     }
 }
 
-fn item(ns: usize, definition: ModuleDefId) -> ItemInNs {
+pub fn item(ns: usize, definition: ModuleDefId) -> ItemInNs {
     match (ns, definition) {
         (0, definition) => ItemInNs::Types(definition),
         (1, definition) => ItemInNs::Values(definition),
@@ -217,39 +214,5 @@ fn map(s: &Snapshot, number: usize) -> DefMap {
         modules: Map::default(),
         prelude: s.preludes.iter().find(|prelude| prelude.map == number).map(|prelude| (module_id(prelude.target), None)),
         data: DefMapCrateData { no_core: false, no_std: record.no_std },
-    }
-}
-
-impl crate::Answers for Filled {
-    fn put(&self, question: &Question) -> Answer {
-        let tank = &self.store.tank;
-        tank.fuel.set(question.fuel);
-        tank.charges.set(0);
-        tank.empty.set(false);
-        let option = |bit: usize| question.options & bit != 0;
-        let prefix = [PrefixKind::BySelf, PrefixKind::Plain, PrefixKind::ByCrate][question.prefix];
-        let cfg = FindPathConfig {
-            prefer_no_std: option(1),
-            prefer_prelude: option(2),
-            prefer_absolute: option(4),
-            allow_unstable: option(8),
-        };
-        let item = item(question.ns, self.definitions[question.definition]);
-        let path = find_path(&self.store, item, module_id(question.from), prefix, option(16), cfg);
-        Answer { path: path.map(|path| self.printed(path)), charges: tank.charges.get(), empty: tank.empty.get() }
-    }
-}
-
-impl Filled {
-    fn printed(&self, path: ModPath) -> crate::Path {
-        let kind = match path.kind {
-            PathKind::Plain => 0,
-            PathKind::Super(0) => 1,
-            PathKind::Super(1) => 2,
-            PathKind::Crate => 3,
-            PathKind::Abs => 4,
-            other => panic!("no path of a report: {other:?}"),
-        };
-        crate::Path { kind, names: path.segments.iter().map(|name| self.names[name]).collect() }
     }
 }

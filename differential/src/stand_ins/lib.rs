@@ -12,7 +12,7 @@ pub mod tracing {
     macro_rules! warning {
         ($($any:tt)*) => {};
     }
-    pub(super) use {info_span, warning as warn};
+    pub(crate) use {info_span, warning as warn};
     pub struct Span;
     impl Span {
         pub fn entered(self) {}
@@ -23,7 +23,7 @@ pub mod cov_mark {
     macro_rules! hit {
         ($any:tt) => {};
     }
-    pub(super) use hit;
+    pub(crate) use hit;
 }
 
 pub mod base_db {

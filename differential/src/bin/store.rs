@@ -1,0 +1,123 @@
+//! store WRONG FROM TO FOLDER: searches a range of seeds for inputs that tell the wrong programs and that are refused in
+//! every way, and writes them with the lines of the text of rust-analyzer to FOLDER/list, and the counts to FOLDER/told.
+use std::collections::BTreeMap;
+use std::path::Path;
+
+use differential::check::{kind, refused_at};
+use differential::compare::Other;
+use differential::damage;
+use differential::encode::{bytes, question_words};
+use differential::generate::{Case, case};
+use differential::printer::{parts_of, words_of};
+use differential::random::Random;
+use differential::stored::{Entry, to_bytes};
+use differential::wrongs::{Wrongs, table};
+
+/// Questions that tell a wrong program, and inputs they come from.
+const WANTED: usize = 8;
+/// Further questions to an input.
+const FURTHER: usize = 4;
+/// Words of a snapshot.
+const LARGEST: usize = 500;
+/// Damaged inputs to a number and a kind of record.
+const DAMAGED: usize = 6;
+
+fn main() {
+    let arguments: Vec<String> = std::env::args().skip(1).collect();
+    let [wrong, from, to, folder] = &arguments[..] else {
+        eprintln!("store WRONG FROM TO FOLDER\n  WRONG    the program of the package `wrong`");
+        std::process::exit(2);
+    };
+    let (from, to): (u64, u64) = (from.parse().unwrap(), to.parse().unwrap());
+    let mut wrongs = Wrongs::start(wrong);
+    let mut inputs = telling(&mut wrongs, from, to);
+    inputs.extend(refused(from, to));
+    let entries: Vec<Entry> =
+        inputs.into_iter().map(|input| Entry { output: Other::Original.output(&input), input }).collect();
+    let mut counts = vec![(0, 0); wrongs.programs.len()];
+    for entry in &entries {
+        for (program, places) in wrongs.told(&entry.input) {
+            counts[program].0 += places.len();
+            counts[program].1 += 1;
+        }
+    }
+    let lines: usize = entries.iter().map(|entry| entry.output.iter().filter(|&&byte| byte == b'\n').count()).sum();
+    let list = to_bytes(&entries);
+    let summary = format!("{} inputs, {lines} lines, {} bytes", entries.len(), list.len());
+    let folder = Path::new(folder);
+    std::fs::create_dir_all(folder).unwrap();
+    std::fs::write(folder.join("list"), list).unwrap();
+    let told = format!(
+        "{summary}\nEach wrong program with the questions and the inputs of the list that tell it.\n\n{}",
+        table(&wrongs.programs, &counts)
+    );
+    std::fs::write(folder.join("told"), told).unwrap();
+    println!("{summary}");
+}
+
+/// Inputs with the questions that tell some program that few others told, and some further ones.
+fn telling(wrongs: &mut Wrongs, from: u64, to: u64) -> Vec<Vec<u8>> {
+    let mut counts = vec![0; wrongs.programs.len()];
+    let mut inputs = Vec::new();
+    for seed in from..to {
+        if counts.iter().zip(&wrongs.programs).all(|(&count, (_, same))| count >= WANTED || !same.is_empty()) {
+            break;
+        }
+        let (_, case) = case(seed, 60, 20_000);
+        if case.words.len() > LARGEST {
+            continue;
+        }
+        let told = wrongs.told(&case.input());
+        let mut chosen: Vec<usize> = Vec::new();
+        for (program, places) in &told {
+            if counts[*program] < WANTED {
+                chosen.extend(places.iter().take(2));
+                counts[*program] += 1;
+            }
+        }
+        if !chosen.is_empty() {
+            let mut r = Random::new(seed);
+            chosen.extend((0..FURTHER).map(|_| r.below(case.questions.len())));
+            chosen.sort();
+            chosen.dedup();
+            let questions = chosen.iter().map(|&place| case.questions[place]).collect();
+            inputs.push(Case { words: case.words, questions }.input());
+        }
+    }
+    inputs
+}
+
+/// Damaged inputs, some for each number and kind of record, with few questions.
+fn refused(from: u64, to: u64) -> Vec<Vec<u8>> {
+    let mut counts: BTreeMap<(u32, usize), usize> = BTreeMap::new();
+    let mut inputs = Vec::new();
+    for seed in from..to.min(from + 3000) {
+        let (_, case) = case(seed, 3, 20_000);
+        if case.words.len() > 250 {
+            continue;
+        }
+        for input in damage::copies(seed, &case, 20_000) {
+            if input.len() > 1500 {
+                continue;
+            }
+            let sort = match words_of(&input) {
+                Err(number) => (number, 0),
+                Ok(words) => match (refused_at(parts_of(&words).0), parts_of(&words).2) {
+                    (Some((number, place)), _) => (number, words.get(place).map_or(0, |&word| kind(word))),
+                    (None, true) => (42, 0),
+                    (None, false) => (0, 0),
+                },
+            };
+            let count = counts.entry(sort).or_default();
+            if *count < DAMAGED {
+                *count += 1;
+                inputs.push(input);
+            }
+        }
+    }
+    for q in [10_000, 10_001] {
+        let question = differential::Question { definition: 1, ns: 1, from: 0, prefix: 1, options: 0, fuel: q };
+        inputs.push(bytes(&question_words(&question)));
+    }
+    inputs
+}

@@ -1,0 +1,68 @@
+//! The program with the wrong programs (package `wrong`), run beside this one.
+use std::io::{BufRead, BufReader, Write};
+use std::process::{Child, ChildStdin, ChildStdout, Command, Stdio};
+
+pub struct Wrongs {
+    child: Child,
+    stdin: Option<ChildStdin>,
+    stdout: BufReader<ChildStdout>,
+    /// Names, with the reason where a program can not be told.
+    pub programs: Vec<(String, String)>,
+}
+
+impl Wrongs {
+    pub fn start(path: &str) -> Wrongs {
+        let list = Command::new(path).arg("--list").output().unwrap_or_else(|error| panic!("{path} does not run: {error}"));
+        let programs = String::from_utf8(list.stdout)
+            .unwrap()
+            .lines()
+            .map(|line| {
+                let (name, same) = line.split_once(": ").unwrap();
+                (name.to_string(), same.to_string())
+            })
+            .collect();
+        let mut child = Command::new(path).stdin(Stdio::piped()).stdout(Stdio::piped()).spawn().unwrap();
+        let stdin = child.stdin.take();
+        let stdout = BufReader::new(child.stdout.take().unwrap());
+        Wrongs { child, stdin, stdout, programs }
+    }
+
+    /// The programs that answer the input otherwise than the right one, by number, with the lines that differ.
+    pub fn told(&mut self, input: &[u8]) -> Vec<(usize, Vec<usize>)> {
+        let stdin = self.stdin.as_mut().unwrap();
+        stdin.write_all(&(input.len() as u32).to_le_bytes()).unwrap();
+        stdin.write_all(input).unwrap();
+        stdin.flush().unwrap();
+        let mut told = Vec::new();
+        loop {
+            let mut line = String::new();
+            assert!(self.stdout.read_line(&mut line).unwrap() > 0, "the wrong programs have ended");
+            let mut parts = line.split_whitespace();
+            let Some(name) = parts.next() else { return told };
+            let number = self.programs.iter().position(|(own, _)| own == name).unwrap();
+            told.push((number, parts.map(|place| place.parse().unwrap()).collect()));
+        }
+    }
+}
+
+impl Drop for Wrongs {
+    fn drop(&mut self) {
+        drop(self.stdin.take());
+        let _ = self.child.wait();
+    }
+}
+
+/// A table of counts, a line a program.
+pub fn table(programs: &[(String, String)], counts: &[(usize, usize)]) -> String {
+    let mut text = String::new();
+    for ((name, same), (questions, inputs)) in programs.iter().zip(counts) {
+        let note = match (questions, same.as_str()) {
+            (0, "") => "  NOT TOLD".to_string(),
+            (0, same) => format!("  the same: {same}"),
+            (_, "") => String::new(),
+            _ => "  TOLD, though said to be the same".to_string(),
+        };
+        text += &format!("{name:45} {questions:7} {inputs:6}{note}\n");
+    }
+    text
+}
