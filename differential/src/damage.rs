@@ -29,37 +29,28 @@ pub fn copies(seed: u64, case: &Case, steps: u64) -> Vec<Vec<u8>> {
     copies
 }
 
-/// One change of the words.
+/// One change of the words; most leave heads and arguments in their places.
 fn spoil(r: &mut Random, words: &mut Vec<u32>) {
     if words.is_empty() {
         words.push(r.next() as u32);
         return;
     }
     let place = r.below(words.len());
-    match r.below(14) {
-        0..=1 => words[place] = words[place].wrapping_add(1),
-        2..=3 => words[place] = words[place].wrapping_sub(1),
-        4 => words[place] ^= 1 << r.below(32),
-        5 => words[place] = small(r),
-        6 => words[place] = head(r.below(12), r.below(6)),
-        7 => words.truncate(place),
-        8 => {
+    let other = r.below(words.len());
+    match r.below(20) {
+        0..=3 => words[place] = words[place].wrapping_add(1),
+        4..=6 => words[place] = words[place].wrapping_sub(1),
+        7 => words[place] ^= 1 << r.below(32),
+        8..=11 => words[place] = (words[place] & 0xF000_0000) | (small(r) & 0x0FFF_FFFF),
+        12 => words[place] = small(r),
+        13 => words[place] = head(r.below(12), r.below(6)),
+        14 => words.truncate(place),
+        15 => {
             words.remove(place);
         }
-        9 => words.insert(place, small(r)),
-        10 => {
-            let again = words[place];
-            words.insert(place, again);
-        }
-        11 => {
-            let other = r.below(words.len());
-            words.swap(place, other);
-        }
-        12 => spoil_record(r, words),
-        _ => {
-            let from = words[r.below(words.len())];
-            words[place] = from;
-        }
+        16 => words.insert(place, r.pick(&[0, 1, words[other]])),
+        17 => words.swap(place, other),
+        _ => spoil_record(r, words),
     }
 }
 

@@ -44,6 +44,7 @@ struct Plan {
     deep: usize,
     blocks: (usize, usize),
     names: (usize, usize),
+    longest_name: usize,
     long_names: usize,
     items: (usize, usize),
     /// entries and imports that are no item's own
@@ -80,6 +81,7 @@ const MIXED: Plan = Plan {
     deep: 40,
     blocks: (0, 3),
     names: (4, 14),
+    longest_name: 8,
     long_names: 3,
     items: (3, 14),
     more_entries: (0, 24),
@@ -111,7 +113,7 @@ fn plan(shape: Shape, r: &mut Random) -> Plan {
         Shape::Blocks => Plan { crates: (1, 3), lang: 5, occupied: 65, externs: 90, modules: (1, 4), blocks: (2, 6), more_entries: (6, 30), more_imports: (0, 4), public: 30, ..MIXED },
         Shape::Ties => Plan { crates: (1, 3), modules: (3, 9), deep: 15, blocks: (0, 1), names: (5, 14), items: (1, 4), more_entries: (10, 50), more_imports: (0, 30), public: 85, long_names: 0, same_length: 85, wide: 30, item_entries: 75, declared: 90, unstable: 10, prelude_names: 20, ..MIXED },
         Shape::Preludes => Plan { crates: (1, 4), preludes: 95, modules: (2, 6), more_entries: (6, 24), names: (3, 7), prelude_names: 20, ..MIXED },
-        Shape::Root => Plan { crates: (2, 3), lang: 10, modules: (2, 6), blocks: (0, 0), items: (1, 4), more_entries: (0, 16), more_imports: (6, 30), externs: 30, outside: 40, item_entries: 40, public: 70, preludes: 70, same_length: 70, prelude_names: 15, ..MIXED },
+        Shape::Root => Plan { crates: (2, 3), lang: 10, modules: (2, 6), blocks: (0, 0), items: (1, 4), more_entries: (0, 16), more_imports: (6, 30), externs: 60, outside: 45, item_entries: 40, public: 75, preludes: 70, same_length: 20, longest_name: 5, prelude_names: 12, ..MIXED },
         Shape::Knot | Shape::Stairs => Plan { crates: (1, 1), modules: (7, 9), deep: 0, blocks: (0, 0), names: (6, 12), long_names: 0, items: (1, 3), more_entries: (0, 4), more_imports: (0, 0), declared: 0, public: 97, preludes: 5, prelude_names: 5, ..MIXED },
         Shape::Limits => {
             let big = r.below(4);
@@ -143,8 +145,8 @@ struct Builder {
 pub fn snapshot(seed: u64) -> (Shape, Snapshot) {
     let mut r = Random::new(seed);
     let shapes = [
-        (Shape::Mixed, 13),
-        (Shape::Small, 12),
+        (Shape::Mixed, 12),
+        (Shape::Small, 11),
         (Shape::Knot, 2),
         (Shape::Stairs, 2),
         (Shape::Std, 14),
@@ -153,7 +155,7 @@ pub fn snapshot(seed: u64) -> (Shape, Snapshot) {
         (Shape::Blocks, 10),
         (Shape::Ties, 14),
         (Shape::Preludes, 9),
-        (Shape::Root, 7),
+        (Shape::Root, 9),
         (Shape::Limits, 1),
     ];
     let mut draw = r.below(100);
@@ -222,7 +224,7 @@ impl Builder {
             let length = match same_length {
                 Some(length) if self.r.percent(80) => length,
                 _ if self.r.percent(self.plan.long_names) => self.r.from_to(200, 255),
-                _ => self.r.from_to(1, 8),
+                _ => self.r.from_to(1, self.plan.longest_name),
             };
             texts.push(self.text(length));
         }

@@ -3,6 +3,7 @@ use std::io::{BufRead, BufReader, Write};
 use std::process::{Child, ChildStdin, ChildStdout, Command, Stdio};
 
 pub struct Wrongs {
+    path: String,
     child: Child,
     stdin: Option<ChildStdin>,
     stdout: BufReader<ChildStdout>,
@@ -21,10 +22,23 @@ impl Wrongs {
                 (name.to_string(), same.to_string())
             })
             .collect();
-        let mut child = Command::new(path).stdin(Stdio::piped()).stdout(Stdio::piped()).spawn().unwrap();
-        let stdin = child.stdin.take();
-        let stdout = BufReader::new(child.stdout.take().unwrap());
-        Wrongs { child, stdin, stdout, programs }
+        let (child, stdin, stdout) = spawn(Command::new(path));
+        Wrongs { path: path.to_string(), child, stdin: Some(stdin), stdout, programs }
+    }
+
+    /// Runs from now on only the programs of these numbers.
+    pub fn only(&mut self, numbers: &[usize]) {
+        self.stop();
+        let names: Vec<&str> = numbers.iter().map(|&number| self.programs[number].0.as_str()).collect();
+        let mut command = Command::new(&self.path);
+        command.args(["--only", &names.join(",")]);
+        let (child, stdin, stdout) = spawn(command);
+        (self.child, self.stdin, self.stdout) = (child, Some(stdin), stdout);
+    }
+
+    fn stop(&mut self) {
+        drop(self.stdin.take());
+        let _ = self.child.wait();
     }
 
     /// The programs that answer the input otherwise than the right one, by number, with the lines that differ.
@@ -47,9 +61,15 @@ impl Wrongs {
 
 impl Drop for Wrongs {
     fn drop(&mut self) {
-        drop(self.stdin.take());
-        let _ = self.child.wait();
+        self.stop();
     }
+}
+
+fn spawn(mut command: Command) -> (Child, ChildStdin, BufReader<ChildStdout>) {
+    let mut child = command.stdin(Stdio::piped()).stdout(Stdio::piped()).spawn().expect("the wrong programs");
+    let stdin = child.stdin.take().unwrap();
+    let stdout = BufReader::new(child.stdout.take().unwrap());
+    (child, stdin, stdout)
 }
 
 /// A table of counts, a line a program.

@@ -13,10 +13,10 @@ use differential::random::Random;
 use differential::stored::{Entry, to_bytes};
 use differential::wrongs::{Wrongs, table};
 
-/// Questions that tell a wrong program, and inputs they come from.
+/// Inputs that tell a wrong program.
 const WANTED: usize = 8;
 /// Further questions to an input.
-const FURTHER: usize = 4;
+const FURTHER: usize = 8;
 /// Words of a snapshot.
 const LARGEST: usize = 500;
 /// Damaged inputs to a number and a kind of record.
@@ -34,6 +34,7 @@ fn main() {
     inputs.extend(refused(from, to));
     let entries: Vec<Entry> =
         inputs.into_iter().map(|input| Entry { output: Other::Original.output(&input), input }).collect();
+    let mut wrongs = Wrongs::start(wrong);
     let mut counts = vec![(0, 0); wrongs.programs.len()];
     for entry in &entries {
         for (program, places) in wrongs.told(&entry.input) {
@@ -60,8 +61,14 @@ fn telling(wrongs: &mut Wrongs, from: u64, to: u64) -> Vec<Vec<u8>> {
     let mut counts = vec![0; wrongs.programs.len()];
     let mut inputs = Vec::new();
     for seed in from..to {
-        if counts.iter().zip(&wrongs.programs).all(|(&count, (_, same))| count >= WANTED || !same.is_empty()) {
-            break;
+        if (seed - from) % 200 == 0 {
+            let wanted: Vec<usize> =
+                (0..counts.len()).filter(|&p| counts[p] < WANTED && wrongs.programs[p].1.is_empty()).collect();
+            if wanted.is_empty() {
+                break;
+            }
+            println!("seed {seed}: {} inputs, {} programs to tell", inputs.len(), wanted.len());
+            wrongs.only(&wanted);
         }
         let (_, case) = case(seed, 60, 20_000);
         if case.words.len() > LARGEST {

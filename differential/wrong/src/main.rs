@@ -1,11 +1,12 @@
 //! Reads inputs on stdin, each after its length in bytes as four bytes, lowest first. Prints for each input a line for every
 //! wrong program that answers it otherwise than the right one: its name and the numbers of the lines that differ. An empty
-//! line ends an input. With `--list` it prints the programs, and the reason where one can not be told; with `--as NAME` it is
+//! line ends an input. With `--only` it runs the programs named. With `--list` it prints the programs, and the reason where one can not be told; with `--as NAME` it is
 //! that program, a path printer.
 use std::io::{Read, Write};
 
 #[path = "../../src/budget.rs"]
 mod budget;
+#[allow(dead_code)]
 #[path = "../../src/check.rs"]
 mod check;
 #[path = "../../src/printer.rs"]
@@ -33,10 +34,11 @@ const STEPS: u64 = 1_000_000;
 fn main() {
     let arguments: Vec<String> = std::env::args().skip(1).collect();
     match &arguments[..] {
-        [] => tell(),
+        [] => tell(|_| true),
+        [only, names] if only == "--only" => tell(|name| names.split(',').any(|own| own == name)),
         [list] if list == "--list" => wrong::WRONG.iter().for_each(|(name, same, _)| println!("{name}: {same}")),
         [as_one, name] if as_one == "--as" => print(name),
-        _ => panic!("no arguments, or --list, or --as NAME"),
+        _ => panic!("no arguments, --only NAME,NAME, --list, or --as NAME"),
     }
 }
 
@@ -53,7 +55,7 @@ fn print(name: &str) {
     std::io::stdout().write_all(&out).unwrap();
 }
 
-fn tell() {
+fn tell(wanted: impl Fn(&str) -> bool) {
     std::panic::set_hook(Box::new(|_| ()));
     budget::FORGIVING.store(true, std::sync::atomic::Ordering::Relaxed);
     let mut stdin = std::io::stdin().lock();
@@ -63,7 +65,7 @@ fn tell() {
         stdin.read_exact(&mut input).unwrap();
         let right = printer::lines(&input, right::ask::Program::new, u64::MAX);
         let mut out = String::new();
-        for (name, _, fill) in wrong::WRONG {
+        for (name, _, fill) in wrong::WRONG.iter().filter(|(name, ..)| wanted(name)) {
             let theirs = printer::lines(&input, |s| fill(s), STEPS);
             let places: Vec<String> =
                 (0..right.len()).filter(|&place| right[place] != theirs[place]).map(|place| place.to_string()).collect();
