@@ -145,10 +145,10 @@ struct Builder {
 pub fn snapshot(seed: u64) -> (Shape, Snapshot) {
     let mut r = Random::new(seed);
     let shapes = [
-        (Shape::Mixed, 12),
+        (Shape::Mixed, 11),
         (Shape::Small, 11),
         (Shape::Knot, 2),
-        (Shape::Stairs, 2),
+        (Shape::Stairs, 3),
         (Shape::Std, 14),
         (Shape::Chain, 9),
         (Shape::Cycle, 7),
@@ -541,7 +541,7 @@ impl Builder {
     /// Paths from the root that are one longer than the length left.
     fn stairs(&mut self) {
         let mut places: Vec<usize> = (1..7).collect();
-        if self.r.percent(40) {
+        if self.r.percent(20) {
             self.r.shuffle(&mut places);
         }
         let [first, second, prelude, inside, last, _] = places[..] else { unreachable!() };
@@ -607,7 +607,7 @@ impl Builder {
                 let (ns, name) = (self.ns(d), self.name());
                 self.import(krate, ns, d, name, home);
                 if self.r.percent(self.plan.reexported) {
-                    let other = self.r.below(self.s.crates.len());
+                    let other = self.another_crate(krate);
                     let container = if self.r.percent(60) { self.root(other) } else { self.module_of(other) };
                     self.import(other, ns, d, name, container);
                 }
@@ -625,6 +625,17 @@ impl Builder {
             let mut imports = std::mem::take(&mut self.s.imports);
             self.r.shuffle(&mut imports);
             self.s.imports = imports;
+        }
+    }
+
+    /// Another crate, of the standard library if there is one.
+    fn another_crate(&mut self, krate: usize) -> usize {
+        let others: Vec<usize> = (0..self.s.crates.len()).filter(|&c| c != krate).collect();
+        let langs: Vec<usize> = others.iter().copied().filter(|&c| self.s.crates[c].origin != 0).collect();
+        match (others.is_empty(), langs.is_empty()) {
+            (true, _) => krate,
+            (_, false) if self.r.percent(80) => self.r.pick(&langs),
+            _ => self.r.pick(&others),
         }
     }
 
@@ -757,7 +768,8 @@ impl Targets {
             6 => all - 1,
             _ => r.below(all),
         };
-        let options = if r.percent(35) { 0 } else { r.below(32) };
+        let plain = if shape == Shape::Std { 55 } else { 35 };
+        let options = if r.percent(plain) { 0 } else { r.below(32) };
         let prefix = if matches!(shape, Shape::Root | Shape::Stairs) && r.percent(50) { 2 } else { r.below(3) };
         Question { definition, ns, from, prefix, options, fuel: 10_000 }
     }

@@ -31,7 +31,14 @@ mod wrong {
 /// A wrong program may run for ever.
 const STEPS: u64 = 1_000_000;
 
+/// A wrong program may call itself as often as there is fuel.
+const STACK: usize = 1 << 30;
+
 fn main() {
+    std::thread::Builder::new().stack_size(STACK).spawn(run).unwrap().join().unwrap();
+}
+
+fn run() {
     let arguments: Vec<String> = std::env::args().skip(1).collect();
     match &arguments[..] {
         [] => tell(|_| true),
