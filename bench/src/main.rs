@@ -2,6 +2,8 @@
 //!
 //! `bench` prints tables. `bench check SHAPE COUNT` checks one snapshot so many times and prints nothing, for a profiler.
 #[cfg(feature = "search")]
+mod library;
+#[cfg(feature = "search")]
 mod questions;
 mod shapes;
 mod timing;
@@ -25,9 +27,7 @@ fn main() {
 
 fn print_checks(title: &str, shapes: &[Shape]) {
     println!("{title}\n");
-    println!(
-        "| snapshot | words | names | modules | definitions | scopes | imports | µs a check | ns a word |"
-    );
+    println!("| snapshot | words | names | modules | definitions | scopes | imports | µs a check | ns a word |");
     println!("|---|---|---|---|---|---|---|---|---|");
     let mut area = WorkArea::new();
     for shape in shapes {
@@ -53,10 +53,7 @@ fn print_checks(title: &str, shapes: &[Shape]) {
 }
 
 fn repeat_check(name: &str, count: usize) {
-    let shape = shapes::all()
-        .into_iter()
-        .find(|shape| shape.name == name)
-        .expect("a shape");
+    let shape = shapes::all().into_iter().find(|shape| shape.name == name).expect("a shape");
     let mut area = WorkArea::new();
     for _ in 0..count {
         assert!(Snapshot::check_in(&shape.words, &mut area).is_ok());

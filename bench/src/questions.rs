@@ -1,95 +1,90 @@
 //! Times of questions, by what they come to.
-use kelumavor::{DefinitionId, ModuleId, Namespace, Outcome, Prefix, Question, Snapshot, WorkArea};
-
 use crate::shapes::{self, Shape};
 use crate::timing;
 
-/// What a question comes to.
-#[derive(Clone, Copy, PartialEq, Eq)]
-enum Class {
-    AtOnce,
-    Found,
-    NoPath,
-    TankEmpty,
+/// A definition in the types namespace, seen from a module, with no options and all the fuel.
+#[derive(Clone, Copy)]
+pub struct Question {
+    pub definition: u32,
+    pub from: u32,
+    /// 0 by `self`, 1 plain, 2 by `crate`.
+    pub prefix: u32,
 }
 
-const CLASSES: [(Class, &str); 4] = [
-    (Class::AtOnce, "found at once"),
-    (Class::Found, "found by a search"),
-    (Class::NoPath, "none"),
-    (Class::TankEmpty, "tank empty"),
-];
+impl Question {
+    pub const FUEL: u32 = 10_000;
+}
 
-struct Asked {
-    question: Question,
-    class: Class,
-    charges: u32,
+#[derive(Clone, Copy, Debug, PartialEq, Eq)]
+pub struct Answer {
+    pub found: bool,
+    pub charges: u32,
+    pub empty: bool,
+}
+
+impl Answer {
+    /// What the question came to, in words.
+    fn class(self) -> &'static str {
+        match self {
+            Answer { empty: true, .. } => "tank empty",
+            Answer { found: false, .. } => "none",
+            Answer { charges: 0, .. } => "found at once",
+            Answer { .. } => "found by a search",
+        }
+    }
+}
+
+/// A program that answers questions on one snapshot.
+pub trait Answers {
+    fn put(&mut self, question: &Question) -> Answer;
+}
+
+/// A program, and the head of its column.
+struct Program<'w> {
+    name: &'static str,
+    answers: Box<dyn Answers + 'w>,
+}
+
+/// The programs that this one is built with.
+fn programs(words: &[u32]) -> Vec<Program<'_>> {
+    vec![Program { name: "the library", answers: Box::new(crate::library::Library::new(words)) }]
 }
 
 pub fn print_all() {
+    let columns: String = programs(&[]).iter().map(|program| format!(" ns, {} |", program.name)).collect();
     println!("Questions\n");
-    println!("| snapshot | question | how many | charges | µs a question | of these the check |");
-    println!("|---|---|---|---|---|---|");
+    println!("| snapshot | question | how many | charges |{columns}");
+    println!("|---|---|---|---|{}", "---|".repeat(programs(&[]).len()));
     for shape in shapes::all() {
-        let snapshot = Snapshot::check(&shape.words).expect(&shape.name);
-        let asked = ask(&snapshot);
-        for (class, name) in CLASSES {
-            let chosen: Vec<&Asked> = asked.iter().filter(|asked| asked.class == class).collect();
-            if !chosen.is_empty() {
-                print_row(&shape, &snapshot, name, &chosen);
-            }
+        let mut programs = programs(&shape.words);
+        let mut asked: Vec<(Question, Answer)> =
+            questions(&shape).map(|question| (question, programs[0].answers.put(&question))).collect();
+        asked.sort_by_key(|(_, answer)| answer.class());
+        for chosen in asked.chunk_by(|(_, one), (_, next)| one.class() == next.class()) {
+            print_row(&shape.name, chosen, &mut programs);
         }
     }
     println!();
 }
 
-/// Each of some two hundred definitions, from a module near and one far, in a plain path and by `crate`.
-fn ask<'s>(snapshot: &'s Snapshot<'s>) -> Vec<Asked> {
+/// Some fifty definitions, each from two modules, as a plain path and by `crate`.
+fn questions(shape: &Shape) -> impl Iterator<Item = Question> {
+    let snapshot = kelumavor::Snapshot::check(&shape.words).expect(&shape.name);
     let definitions = snapshot.counts().definitions as u32;
     let modules = snapshot.counts().modules as u32;
-    let mut area = WorkArea::new();
-    let mut asked = Vec::new();
-    for definition in (0..definitions).step_by((definitions as usize / 50).max(1)) {
-        for from in [definition % modules, modules - 1] {
-            for prefix in [Prefix::Plain, Prefix::ByCrate] {
-                let question =
-                    Question::new(Namespace::Types, DefinitionId(definition), ModuleId(from))
-                        .prefix(prefix);
-                let report = snapshot.find_path_in(&question, &mut area);
-                let class = match report.outcome {
-                    Outcome::Found(_) if report.charges == 0 => Class::AtOnce,
-                    Outcome::Found(_) => Class::Found,
-                    Outcome::NoPath => Class::NoPath,
-                    Outcome::TankEmpty(_) => Class::TankEmpty,
-                    Outcome::Refused(refusal) => panic!("{refusal}"),
-                };
-                asked.push(Asked {
-                    question,
-                    class,
-                    charges: report.charges,
-                });
-            }
-        }
-    }
-    asked
+    (0..definitions).step_by((definitions as usize / 50) | 1).flat_map(move |definition| {
+        let from = [definition % modules, modules - 1];
+        from.into_iter().flat_map(move |from| [1, 2].map(|prefix| Question { definition, from, prefix }))
+    })
 }
 
-fn print_row(shape: &Shape, snapshot: &Snapshot<'_>, name: &str, chosen: &[&Asked]) {
-    let mut area = WorkArea::new();
-    let check = timing::nanoseconds(|| Snapshot::check_in(&shape.words, &mut area).is_ok());
-    let all = timing::nanoseconds(|| {
-        chosen
-            .iter()
-            .all(|asked| snapshot.find_path_in(&asked.question, &mut area).charges == asked.charges)
-    });
-    let charges: u32 = chosen.iter().map(|asked| asked.charges).sum();
+fn print_row(shape: &str, chosen: &[(Question, Answer)], programs: &mut [Program<'_>]) {
     let count = chosen.len() as f64;
-    println!(
-        "| {} | {name} | {} | {:.1} | {:.1} | {:.1} |",
-        shape.name,
-        chosen.len(),
-        f64::from(charges) / count,
-        all / count / 1000.0,
-        check / 1000.0
-    );
+    let charges: u32 = chosen.iter().map(|(_, answer)| answer.charges).sum();
+    print!("| {shape} | {} | {count} | {:.1} |", chosen[0].1.class(), f64::from(charges) / count);
+    for program in programs {
+        let all = || chosen.iter().all(|(question, answer)| program.answers.put(question) == *answer);
+        print!(" {:.0} |", timing::nanoseconds(all) / count);
+    }
+    println!();
 }

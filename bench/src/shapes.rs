@@ -1,7 +1,5 @@
 //! Snapshots to be timed.
-use kelumavor::{
-    CrateId, DefinitionId, ModuleId, NameId, Namespace, Origin, SnapshotWords, Visibility,
-};
+use kelumavor::{CrateId, DefinitionId, ModuleId, NameId, Namespace, Origin, SnapshotWords, Visibility};
 
 pub struct Shape {
     pub name: String,
@@ -10,18 +8,13 @@ pub struct Shape {
 
 impl Shape {
     fn new(name: impl Into<String>, words: SnapshotWords) -> Self {
-        Shape {
-            name: name.into(),
-            words: words.into_words(),
-        }
+        Shape { name: name.into(), words: words.into_words() }
     }
 }
 
 /// Workspaces of several sizes.
 pub fn growing() -> Vec<Shape> {
-    [2000, 4000, 6000, 8000, 12000, 16384]
-        .map(|size| Shape::new(format!("workspace-{size}"), workspace(size)))
-        .into()
+    [2000, 4000, 6000, 8000, 12000, 16384].map(|size| Shape::new(format!("workspace-{size}"), workspace(size))).into()
 }
 
 pub fn all() -> Vec<Shape> {
@@ -35,8 +28,7 @@ pub fn all() -> Vec<Shape> {
     ]
 }
 
-/// Crates of some forty modules, each with a handful of items that are used in the next module and exported by the crate:
-/// at most so many words, some 65 a module.
+/// Crates of some forty modules, each with a handful of items, of which most are public: at most so many words, 65 a module.
 pub fn workspace(size: usize) -> SnapshotWords {
     let modules = (size / 65).max(2);
     let mut items = 0;
@@ -54,102 +46,79 @@ pub fn workspace(size: usize) -> SnapshotWords {
     }
 }
 
+/// Modules of a crate, at most.
+const IN_A_CRATE: usize = 42;
+
+/// An item, and the module that declares it.
+struct Entry {
+    krate: CrateId,
+    home: ModuleId,
+    name: NameId,
+    definition: DefinitionId,
+    public: bool,
+}
+
 fn workspace_of(modules: usize, items: usize) -> SnapshotWords {
-    const IN_A_CRATE: usize = 42;
     let mut words = SnapshotWords::new();
-    let module_names: Vec<NameId> = (0..modules)
-        .map(|k| words.name(&format!("module_{k}")))
-        .collect();
-    let item_names: Vec<NameId> = (0..items)
-        .map(|k| words.name(&format!("Item{k}")))
-        .collect();
-    let count = modules.div_ceil(IN_A_CRATE);
-    let crates: Vec<CrateId> = (0..count)
-        .map(|_| words.krate(Origin::Ordinary, false))
-        .collect();
+    let module_names = numbered(&mut words, "module_", modules);
+    let item_names = numbered(&mut words, "Item", items);
+    let crates: Vec<CrateId> =
+        (0..modules.div_ceil(IN_A_CRATE)).map(|_| words.krate(Origin::Ordinary, false)).collect();
     for (k, krate) in crates.iter().enumerate() {
         for dependency in &crates[..k] {
             words.dependency(*krate, *dependency, false);
         }
     }
-    let homes = tree(&mut words, &crates, modules, IN_A_CRATE);
-    let definitions: Vec<DefinitionId> = homes
-        .iter()
-        .map(|(module, _)| words.module_definition(*module))
-        .collect();
-    let item_homes: Vec<usize> = (0..items).map(|k| k * modules / items.max(1)).collect();
-    let item_definitions: Vec<DefinitionId> = item_homes
-        .iter()
-        .map(|home| words.other_definition(homes[*home].0))
-        .collect();
-    for (k, (_, parent)) in homes.iter().enumerate() {
-        if let Some(parent) = parent {
-            let visibility = if k % 3 == 0 {
-                Visibility::Implicit(*parent)
-            } else {
-                Visibility::Public
-            };
-            words.scope(
-                *parent,
-                Namespace::Types,
-                module_names[k],
-                definitions[k],
-                visibility,
-                true,
-            );
-        }
+    let homes = tree(&mut words, &crates, modules);
+    let mut entries = Vec::new();
+    for (k, (module, parent)) in homes.iter().enumerate() {
+        let definition = words.module_definition(*module);
+        let krate = crates[k / IN_A_CRATE];
+        entries.extend(parent.map(|home| {
+            let (name, public) = (module_names[k], k % 7 != 0);
+            Entry { krate, home, name, definition, public }
+        }));
     }
-    for (k, home) in item_homes.iter().enumerate() {
-        let home = homes[*home].0;
-        let visibility = if k % 4 == 0 {
-            Visibility::Implicit(home)
-        } else {
-            Visibility::Public
-        };
-        words.scope(
-            home,
-            Namespace::Types,
-            item_names[k],
-            item_definitions[k],
-            visibility,
-            true,
-        );
+    for (k, name) in item_names.iter().enumerate() {
+        let module = k * modules / items;
+        let home = homes[module].0;
+        let definition = words.other_definition(home);
+        let (krate, name, public) = (crates[module / IN_A_CRATE], *name, k % 4 != 0);
+        entries.push(Entry { krate, home, name, definition, public });
     }
-    for (k, home) in item_homes.iter().enumerate() {
-        if k % 2 == 0 {
-            let krate = crates[home / IN_A_CRATE];
-            words.import(
-                krate,
-                Namespace::Types,
-                item_definitions[k],
-                item_names[k],
-                homes[*home].0,
-                false,
-                k % 16 == 0,
-            );
-        }
-    }
+    scopes_and_imports(&mut words, &entries);
     for krate in &crates {
-        for (k, _) in crates.iter().enumerate() {
-            let root = k * IN_A_CRATE;
+        for root in (0..modules).step_by(IN_A_CRATE) {
             words.extern_prelude(*krate, module_names[root], homes[root].0);
         }
     }
     words
 }
 
+fn numbered(words: &mut SnapshotWords, text: &str, count: usize) -> Vec<NameId> {
+    (0..count).map(|k| words.name(&format!("{text}{k}"))).collect()
+}
+
+/// Each entry in the scope of its home, and the public ones in their crate's import map.
+fn scopes_and_imports(words: &mut SnapshotWords, entries: &[Entry]) {
+    for entry in entries {
+        let private = Visibility::Implicit(entry.home);
+        let visibility = if entry.public { Visibility::Public } else { private };
+        words.scope(entry.home, Namespace::Types, entry.name, entry.definition, visibility, true);
+    }
+    for (k, entry) in entries.iter().enumerate().filter(|(_, entry)| entry.public) {
+        let unstable = k % 16 == 0;
+        words.import(entry.krate, Namespace::Types, entry.definition, entry.name, entry.home, false, unstable);
+    }
+}
+
 /// The maps and modules: in each crate a tree in which a module has four children. Answers each module and its parent.
-fn tree(
-    words: &mut SnapshotWords,
-    crates: &[CrateId],
-    modules: usize,
-    in_a_crate: usize,
-) -> Vec<(ModuleId, Option<ModuleId>)> {
+fn tree(words: &mut SnapshotWords, crates: &[CrateId], modules: usize) -> Vec<(ModuleId, Option<ModuleId>)> {
     let mut homes: Vec<(ModuleId, Option<ModuleId>)> = Vec::new();
     for (c, krate) in crates.iter().enumerate() {
         let map = words.map(*krate, None, false);
-        for k in 0..in_a_crate.min(modules - c * in_a_crate) {
-            let parent = (k > 0).then(|| homes[c * in_a_crate + (k - 1) / 4].0);
+        for k in 0..IN_A_CRATE.min(modules - c * IN_A_CRATE) {
+            let parent = (k > 0).then(|| homes[c * IN_A_CRATE + (k - 1) / 4].0);
             homes.push((words.module(map, parent), parent));
         }
     }
@@ -164,7 +133,7 @@ fn tree(
 /// Modules one in the other.
 pub fn chain(modules: usize) -> SnapshotWords {
     let mut words = SnapshotWords::new();
-    let names: Vec<NameId> = (0..modules).map(|k| words.name(&format!("m{k}"))).collect();
+    let names = numbered(&mut words, "m", modules);
     let krate = words.krate(Origin::Ordinary, false);
     let map = words.map(krate, None, false);
     let mut homes: Vec<ModuleId> = Vec::new();
@@ -174,19 +143,9 @@ pub fn chain(modules: usize) -> SnapshotWords {
     for pair in homes.windows(2) {
         words.child(pair[0], pair[1]);
     }
-    let definitions: Vec<DefinitionId> = homes
-        .iter()
-        .map(|module| words.module_definition(*module))
-        .collect();
+    let definitions: Vec<DefinitionId> = homes.iter().map(|module| words.module_definition(*module)).collect();
     for k in 1..modules {
-        words.scope(
-            homes[k - 1],
-            Namespace::Types,
-            names[k],
-            definitions[k],
-            Visibility::Public,
-            true,
-        );
+        words.scope(homes[k - 1], Namespace::Types, names[k], definitions[k], Visibility::Public, true);
     }
     words
 }
@@ -195,12 +154,8 @@ pub fn chain(modules: usize) -> SnapshotWords {
 pub fn dependencies() -> SnapshotWords {
     const CRATES: usize = 64;
     let mut words = SnapshotWords::new();
-    let names: Vec<NameId> = (0..CRATES)
-        .map(|k| words.name(&format!("crate_{k}")))
-        .collect();
-    let crates: Vec<CrateId> = (0..CRATES)
-        .map(|_| words.krate(Origin::Ordinary, false))
-        .collect();
+    let names = numbered(&mut words, "crate_", CRATES);
+    let crates: Vec<CrateId> = (0..CRATES).map(|_| words.krate(Origin::Ordinary, false)).collect();
     for (k, krate) in crates.iter().enumerate() {
         for dependency in &crates[..k] {
             words.dependency(*krate, *dependency, false);
@@ -213,30 +168,12 @@ pub fn dependencies() -> SnapshotWords {
             words.module(map, None)
         })
         .collect();
-    let items: Vec<DefinitionId> = roots
-        .iter()
-        .map(|root| words.other_definition(*root))
-        .collect();
+    let items: Vec<DefinitionId> = roots.iter().map(|root| words.other_definition(*root)).collect();
     for k in 0..CRATES {
-        words.scope(
-            roots[k],
-            Namespace::Types,
-            names[k],
-            items[k],
-            Visibility::Public,
-            true,
-        );
+        words.scope(roots[k], Namespace::Types, names[k], items[k], Visibility::Public, true);
     }
     for k in 0..CRATES {
-        words.import(
-            crates[k],
-            Namespace::Types,
-            items[k],
-            names[k],
-            roots[k],
-            false,
-            false,
-        );
+        words.import(crates[k], Namespace::Types, items[k], names[k], roots[k], false, false);
     }
     for (k, krate) in crates.iter().enumerate() {
         for (name, root) in names.iter().zip(&roots).take(k) {
@@ -259,22 +196,13 @@ pub fn names() -> SnapshotWords {
 pub fn one_scope() -> SnapshotWords {
     const ENTRIES: usize = 1160;
     let mut words = SnapshotWords::new();
-    let names: Vec<NameId> = (0..ENTRIES)
-        .map(|k| words.name(&format!("n{k:05}")))
-        .collect();
+    let names: Vec<NameId> = (0..ENTRIES).map(|k| words.name(&format!("n{k:05}"))).collect();
     let krate = words.krate(Origin::Ordinary, false);
     let map = words.map(krate, None, false);
     let root = words.module(map, None);
     let items: Vec<DefinitionId> = names.iter().map(|_| words.other_definition(root)).collect();
     for (name, item) in names.iter().zip(&items) {
-        words.scope(
-            root,
-            Namespace::Values,
-            *name,
-            *item,
-            Visibility::Public,
-            true,
-        );
+        words.scope(root, Namespace::Types, *name, *item, Visibility::Public, true);
     }
     words
 }

@@ -4,9 +4,7 @@ use std::time::{Duration, Instant};
 /// Nanoseconds a call: the least of twenty rounds, each of as many calls as take some ten milliseconds.
 pub fn nanoseconds(mut call: impl FnMut() -> bool) -> f64 {
     let calls = calls_within(Duration::from_millis(10), &mut call);
-    (0..20)
-        .map(|_| elapsed(calls, &mut call).as_nanos() as f64 / calls as f64)
-        .fold(f64::INFINITY, f64::min)
+    (0..20).map(|_| elapsed(calls, &mut call).as_nanos() as f64 / calls as f64).fold(f64::INFINITY, f64::min)
 }
 
 fn calls_within(time: Duration, call: &mut impl FnMut() -> bool) -> u32 {

@@ -23,11 +23,7 @@ fn built(root: &Path) -> PathBuf {
     if folder.join("libexports.a").exists() {
         return folder;
     }
-    match Command::new("rt")
-        .args(["staticlib", "exports"])
-        .current_dir(root)
-        .output()
-    {
+    match Command::new("rt").args(["staticlib", "exports"]).current_dir(root).output() {
         Ok(output) if output.status.success() => folder,
         Ok(output) => fail(&format!(
             "`rt staticlib exports` failed in {}:\n{}{}",
@@ -35,9 +31,9 @@ fn built(root: &Path) -> PathBuf {
             String::from_utf8_lossy(&output.stdout),
             String::from_utf8_lossy(&output.stderr)
         )),
-        Err(error) => fail(&format!(
-            "`rt`, the toolchain that proves and compiles the library, cannot be run: {error}"
-        )),
+        Err(error) => {
+            fail(&format!("`rt`, the toolchain that proves and compiles the library, cannot be run: {error}"))
+        }
     }
 }
 

@@ -69,18 +69,8 @@ impl<'s> Path<'s> {
     /// Names of a path, at most.
     pub const NAMES: usize = 16;
 
-    pub(crate) fn new(
-        snapshot: &'s Snapshot<'s>,
-        kind: u32,
-        names: [u32; Path::NAMES],
-        count: u32,
-    ) -> Self {
-        Path {
-            snapshot,
-            kind: PathKind::from_number(kind),
-            names,
-            count: count as usize,
-        }
+    pub(crate) fn new(snapshot: &'s Snapshot<'s>, kind: u32, names: [u32; Path::NAMES], count: u32) -> Self {
+        Path { snapshot, kind: PathKind::from_number(kind), names, count: count as usize }
     }
 
     pub fn kind(&self) -> PathKind {
@@ -94,20 +84,12 @@ impl<'s> Path<'s> {
 
     /// The texts of its names.
     pub fn names(&self) -> Names<'_> {
-        Names {
-            snapshot: self.snapshot,
-            names: self.names[..self.count].iter(),
-        }
+        Names { snapshot: self.snapshot, names: self.names[..self.count].iter() }
     }
 
     /// The path as the path printer prints it.
     pub fn to_bytes(&self) -> Vec<u8> {
-        let mut parts: Vec<Vec<u8>> = self
-            .kind
-            .part()
-            .map(|part| part.into())
-            .into_iter()
-            .collect();
+        let mut parts: Vec<Vec<u8>> = self.kind.part().map(|part| part.into()).into_iter().collect();
         parts.extend(self.names().map(|text| text.0));
         parts.join(&b"::"[..])
     }
@@ -146,11 +128,7 @@ impl Iterator for Names<'_> {
 
     fn next(&mut self) -> Option<Text> {
         let name = NameId(*self.names.next()?);
-        Some(
-            self.snapshot
-                .name(name)
-                .expect("a path has names of its snapshot"),
-        )
+        Some(self.snapshot.name(name).expect("a path has names of its snapshot"))
     }
 
     fn size_hint(&self) -> (usize, Option<usize>) {

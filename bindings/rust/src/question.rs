@@ -74,13 +74,6 @@ impl Question {
     }
 
     pub(crate) fn words(&self) -> [u32; 6] {
-        [
-            self.namespace as u32,
-            self.definition.0,
-            self.from.0,
-            self.prefix as u32,
-            self.options.bits(),
-            self.fuel,
-        ]
+        [self.namespace as u32, self.definition.0, self.from.0, self.prefix as u32, self.options.bits(), self.fuel]
     }
 }

@@ -72,19 +72,8 @@ impl<'w> Snapshot<'w> {
         if number != 0 {
             return Err(Refusal::new(number as u32, Some(place)));
         }
-        let [
-            names,
-            crates,
-            dependencies,
-            maps,
-            modules,
-            children,
-            preludes,
-            definitions,
-            scopes,
-            imports,
-            externs,
-        ] = counts;
+        let [names, crates, dependencies, maps, modules, children, preludes, definitions, scopes, imports, externs] =
+            counts;
         let counts = Counts {
             names,
             crates,
@@ -98,11 +87,7 @@ impl<'w> Snapshot<'w> {
             imports,
             externs,
         };
-        Ok(Snapshot {
-            words,
-            heads: area.0[..names].into(),
-            counts,
-        })
+        Ok(Snapshot { words, heads: area.0[..names].into(), counts })
     }
 
     pub fn words(&self) -> &'w [u32] {
@@ -133,14 +118,7 @@ impl<'w> Snapshot<'w> {
     }
 
     /// Answers a question in a work area of the caller's.
-    pub fn find_path_in(
-        &self,
-        question: &crate::Question,
-        area: &mut WorkArea,
-    ) -> crate::Report<'_> {
-        crate::Report::new(
-            self,
-            sys::find_path(self.words, &mut area.0, &question.words()),
-        )
+    pub fn find_path_in(&self, question: &crate::Question, area: &mut WorkArea) -> crate::Report<'_> {
+        crate::Report::new(self, sys::find_path(self.words, &mut area.0, &question.words()))
     }
 }

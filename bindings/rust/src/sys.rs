@@ -43,15 +43,7 @@ mod raw {
 pub fn check(words: &[u32], area: &mut [u32]) -> [usize; CHECKED] {
     let mut answer = [0; CHECKED];
     // SAFETY: each pointer and length is that of a reference, and the references do not overlap.
-    unsafe {
-        raw::kelumavor_check(
-            words.as_ptr(),
-            words.len(),
-            area.as_mut_ptr(),
-            area.len(),
-            &mut answer,
-        )
-    };
+    unsafe { raw::kelumavor_check(words.as_ptr(), words.len(), area.as_mut_ptr(), area.len(), &mut answer) };
     answer
 }
 

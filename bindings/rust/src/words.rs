@@ -56,12 +56,7 @@ impl SnapshotWords {
         let packed: Vec<u32> = text
             .as_bytes()
             .chunks(3)
-            .map(|bytes| {
-                bytes
-                    .iter()
-                    .rev()
-                    .fold(0, |word, byte| word << 8 | u32::from(*byte))
-            })
+            .map(|bytes| bytes.iter().rev().fold(0, |word, byte| word << 8 | u32::from(*byte)))
             .collect();
         NameId(self.record(1, text.len() as u32, &packed))
     }
@@ -129,18 +124,7 @@ impl SnapshotWords {
             Visibility::Explicit(module) => (2, module.0),
             Visibility::Implicit(module) => (3, module.0),
         };
-        self.record(
-            9,
-            module.0,
-            &[
-                namespace as u32,
-                name.0,
-                definition.0,
-                kind,
-                number,
-                declared.into(),
-            ],
-        );
+        self.record(9, module.0, &[namespace as u32, name.0, definition.0, kind, number, declared.into()]);
     }
 
     /// An entry of a crate's import map.
@@ -156,11 +140,7 @@ impl SnapshotWords {
         unstable: bool,
     ) {
         let bits = u32::from(hidden) + 2 * u32::from(unstable);
-        self.record(
-            10,
-            krate.0,
-            &[namespace as u32, definition.0, name.0, container.0, bits],
-        );
+        self.record(10, krate.0, &[namespace as u32, definition.0, name.0, container.0, bits]);
     }
 
     /// An entry of a crate's extern prelude.

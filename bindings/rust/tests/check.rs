@@ -8,24 +8,8 @@ use kelumavor::{NameId, Refusal, RefusalKind, Snapshot, SnapshotWords, WorkArea}
 fn counts_of_the_worked_snapshot() {
     let snapshot = Snapshot::check(&WORKED).unwrap();
     let counts = snapshot.counts();
-    assert_eq!(
-        [
-            counts.names,
-            counts.crates,
-            counts.dependencies,
-            counts.maps
-        ],
-        [2, 1, 0, 1]
-    );
-    assert_eq!(
-        [
-            counts.modules,
-            counts.children,
-            counts.preludes,
-            counts.definitions
-        ],
-        [2, 1, 0, 2]
-    );
+    assert_eq!([counts.names, counts.crates, counts.dependencies, counts.maps], [2, 1, 0, 1]);
+    assert_eq!([counts.modules, counts.children, counts.preludes, counts.definitions], [2, 1, 0, 2]);
     assert_eq!([counts.scopes, counts.imports, counts.externs], [2, 0, 0]);
 }
 
@@ -42,11 +26,7 @@ fn stored_cases() {
             Ok(_) => format!("{name} accepted"),
             Err(refusal) => {
                 kinds.insert(refusal.kind());
-                format!(
-                    "{name} refused {} at {}",
-                    refusal.kind().number(),
-                    refusal.place().unwrap()
-                )
+                format!("{name} refused {} at {}", refusal.kind().number(), refusal.place().unwrap())
             }
         };
         assert_eq!(printed, answer);
@@ -94,10 +74,7 @@ fn texts_that_are_no_utf8() {
 #[test]
 fn refusals_in_words() {
     let refusal: Refusal = Snapshot::check(&[0x1000_0001]).unwrap_err();
-    assert_eq!(
-        (refusal.kind(), refusal.place()),
-        (RefusalKind::WrongKind, Some(0))
-    );
+    assert_eq!((refusal.kind(), refusal.place()), (RefusalKind::WrongKind, Some(0)));
     for number in (20..=24).chain(30..=36) {
         let kind = RefusalKind::from_number(number).unwrap();
         assert_eq!(kind.number(), number);

@@ -7,17 +7,14 @@ use std::process::{Command, Stdio};
 
 use common::{WORKED, random, repository};
 use kelumavor::{
-    DefinitionId, ModuleId, Namespace, Options, Outcome, Prefix, Question, RefusalKind, Snapshot,
-    WorkArea,
+    DefinitionId, ModuleId, Namespace, Options, Outcome, Prefix, Question, RefusalKind, Snapshot, WorkArea,
 };
 
 const NAMESPACES: [Namespace; 3] = [Namespace::Types, Namespace::Values, Namespace::Macros];
 const PREFIXES: [Prefix; 3] = [Prefix::BySelf, Prefix::Plain, Prefix::ByCrate];
 
 fn question(definition: u32, ns: usize, module: u32, prefix: usize, fuel: u32) -> Question {
-    Question::new(NAMESPACES[ns], DefinitionId(definition), ModuleId(module))
-        .prefix(PREFIXES[prefix])
-        .fuel(fuel)
+    Question::new(NAMESPACES[ns], DefinitionId(definition), ModuleId(module)).prefix(PREFIXES[prefix]).fuel(fuel)
 }
 
 #[test]
@@ -40,12 +37,7 @@ fn worked_cases() {
         ((1, 1, 0, 1, 10_000), "found a::f 1 0"),
     ];
     for ((definition, ns, module, prefix, fuel), line) in cases {
-        assert_eq!(
-            snapshot
-                .find_path(&question(definition, ns, module, prefix, fuel))
-                .to_string(),
-            line
-        );
+        assert_eq!(snapshot.find_path(&question(definition, ns, module, prefix, fuel)).to_string(), line);
     }
 }
 
@@ -56,9 +48,7 @@ fn outcomes_are_told_apart() {
     assert!(matches!(ask(1, 1, 1).outcome, Outcome::Found(path) if path.names().len() == 2));
     assert!(matches!(ask(1, 1, 0).outcome, Outcome::TankEmpty(None)));
     assert!(matches!(ask(1, 0, 9).outcome, Outcome::NoPath));
-    assert!(
-        matches!(ask(0, 2, 9).outcome, Outcome::Refused(refusal) if refusal.kind() == RefusalKind::NoMacro)
-    );
+    assert!(matches!(ask(0, 2, 9).outcome, Outcome::Refused(refusal) if refusal.kind() == RefusalKind::NoMacro));
     assert_eq!(ask(1, 1, 9).charges, 1);
 }
 
@@ -70,11 +60,7 @@ fn random_question(random: &mut random::Random, snapshot: &random::Snapshot) -> 
         allow_unstable: random.chance(50),
         ignore_local_imports: random.chance(30),
     };
-    let fuel = if random.chance(30) {
-        random.below(8)
-    } else {
-        Question::FUEL
-    };
+    let fuel = if random.chance(30) { random.below(8) } else { Question::FUEL };
     let ns = random.below(20) as usize % 3;
     question(
         random.below(snapshot.definitions + 1),
@@ -96,10 +82,7 @@ fn printer_words(question: &Question) -> [u32; 6] {
         options.allow_unstable,
         options.ignore_local_imports,
     ];
-    let bits = bits
-        .iter()
-        .rev()
-        .fold(0, |sum, bit| 2 * sum + u32::from(*bit));
+    let bits = bits.iter().rev().fold(0, |sum, bit| 2 * sum + u32::from(*bit));
     [
         0xc000_0000 + question.definition.0,
         question.namespace as u32,
@@ -127,20 +110,11 @@ fn random_questions_as_printed() {
     for seed in 0..60 {
         let mut random = random::Random::new(seed);
         let snapshot = random::snapshot(&mut random);
-        let questions: Vec<Question> = (0..100)
-            .map(|_| random_question(&mut random, &snapshot))
-            .collect();
+        let questions: Vec<Question> = (0..100).map(|_| random_question(&mut random, &snapshot)).collect();
         let mut input = snapshot.words.clone();
         input.extend(questions.iter().flat_map(printer_words));
         let checked = Snapshot::check(&snapshot.words).unwrap();
-        let lines: Vec<String> = questions
-            .iter()
-            .map(|q| checked.find_path_in(q, &mut area).to_string())
-            .collect();
-        assert_eq!(
-            printed(&input).lines().collect::<Vec<_>>(),
-            lines,
-            "seed {seed}"
-        );
+        let lines: Vec<String> = questions.iter().map(|q| checked.find_path_in(q, &mut area).to_string()).collect();
+        assert_eq!(printed(&input).lines().collect::<Vec<_>>(), lines, "seed {seed}");
     }
 }

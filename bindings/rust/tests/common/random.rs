@@ -1,9 +1,7 @@
 //! Snapshots that the check accepts, by chance.
 use std::collections::HashSet;
 
-use kelumavor::{
-    CrateId, DefinitionId, MapId, ModuleId, NameId, Namespace, Origin, SnapshotWords, Visibility,
-};
+use kelumavor::{CrateId, DefinitionId, MapId, ModuleId, NameId, Namespace, Origin, SnapshotWords, Visibility};
 
 pub struct Random(u64);
 
@@ -30,27 +28,8 @@ impl Random {
     }
 }
 
-const NAMES: [&str; 12] = [
-    "a",
-    "bb",
-    "c",
-    "dd",
-    "e",
-    "f",
-    "prelude",
-    "std",
-    "core",
-    "u8",
-    "Long_name",
-    "r#type",
-];
-const ORIGINS: [Origin; 5] = [
-    Origin::Ordinary,
-    Origin::Core,
-    Origin::Alloc,
-    Origin::Std,
-    Origin::OtherLanguage,
-];
+const NAMES: [&str; 12] = ["a", "bb", "c", "dd", "e", "f", "prelude", "std", "core", "u8", "Long_name", "r#type"];
+const ORIGINS: [Origin; 5] = [Origin::Ordinary, Origin::Core, Origin::Alloc, Origin::Std, Origin::OtherLanguage];
 const NAMESPACES: [Namespace; 3] = [Namespace::Types, Namespace::Values, Namespace::Macros];
 
 #[derive(Clone, Copy)]
@@ -111,11 +90,7 @@ impl Writer<'_> {
 
     fn crates(&mut self) {
         for _ in 0..1 + self.random.below(4) {
-            let origin = if self.random.chance(60) {
-                Origin::Ordinary
-            } else {
-                self.random.of(&ORIGINS)
-            };
+            let origin = if self.random.chance(60) { Origin::Ordinary } else { self.random.of(&ORIGINS) };
             let no_std = self.random.chance(30);
             self.crates.push(self.words.krate(origin, no_std));
         }
@@ -188,11 +163,9 @@ impl Writer<'_> {
         for _ in 0..self.random.below(3) {
             let parent = self.random.of(&others);
             let name = self.random.of(&self.names);
-            self.definitions
-                .push((self.words.variant_definition(parent, name), false));
+            self.definitions.push((self.words.variant_definition(parent, name), false));
         }
-        self.definitions
-            .push((self.words.builtin_definition(self.names[9]), false));
+        self.definitions.push((self.words.builtin_definition(self.names[9]), false));
         for _ in 0..self.random.below(3) {
             let home = self.random.of(&self.modules).id;
             let id = self.words.macro_definition(home);
@@ -228,17 +201,12 @@ impl Writer<'_> {
             6 => Visibility::Implicit(self.random.of(&self.modules).id),
             _ => Visibility::Implicit(module),
         };
-        self.words
-            .scope(module, namespace, name, definition, visibility, declared);
+        self.words.scope(module, namespace, name, definition, visibility, declared);
     }
 
     /// A namespace in which the definition may stand.
     fn namespace(&mut self, definition: DefinitionId) -> Namespace {
-        let any = if self.definitions[definition.0 as usize].1 {
-            3
-        } else {
-            2
-        };
+        let any = if self.definitions[definition.0 as usize].1 { 3 } else { 2 };
         NAMESPACES[self.random.below(any) as usize]
     }
 
@@ -251,9 +219,7 @@ impl Writer<'_> {
             let container = self.random.of(&self.modules).id;
             let hidden = self.random.chance(20);
             let unstable = self.random.chance(20);
-            self.words.import(
-                krate, namespace, definition, name, container, hidden, unstable,
-            );
+            self.words.import(krate, namespace, definition, name, container, hidden, unstable);
         }
         let mut externs = HashSet::new();
         for _ in 0..self.random.below(6) {
