@@ -1,8 +1,7 @@
 -- The check's answer as numbers.
-use Prim.Native.Nat.{ℕ, _<_}
-use mathlib.Core.Path.{_≡_, refl, sym, _∙_, ap, subst}
+use Prim.Native.Nat.{ℕ}
+use mathlib.Core.Path.{_≡_, sym, _∙_, ap, subst}
 use mathlib.Core.List.{List, [], _∷_}
-use mathlib.Core.Bool.{true, false}
 use lib.Dec.{ltb}
 use lib.ListN.{length}
 use Rattle.snapshot.specs.Limits.{areaLimit}
@@ -11,7 +10,7 @@ use Rattle.snapshot.specs.Layouts.{snapOf}
 use Rattle.snapshot.specs.declared.layout.Layout.{Layout}
 use Rattle.snapshot.proofs.Laws.{length-rows}
 use Rattle.accept.specs.Verdict.{Verdict, refuse, accept, verdict, empty}
-use Rattle.accept.specs.Post.{Reads, Checks, checkOf}
+use Rattle.accept.specs.Post.{Checks, checkOf}
 use Rattle.accept.specs.declared.check.Checked.{Checked}
 use Rattle.accept.specs.declared.check.Checked.the-variants.{Refused, Accepted}
 use Rattle.accept.proofs.Accepted.{by-test}

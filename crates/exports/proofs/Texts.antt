@@ -1,6 +1,6 @@
 -- The text of a name.
-use Prim.Native.Nat.{ℕ, zero, suc, _+_, _*_, _/_, _%_, _≤_, _<_, min}
-use mathlib.Core.Path.{_≡_, refl, sym, _∙_, ap, ap₂, subst}
+use Prim.Native.Nat.{ℕ, zero, suc, _+_, _*_, _≤_, _<_}
+use mathlib.Core.Path.{_≡_, refl, sym, _∙_, ap, ap₂}
 use mathlib.Core.List.{List, [], _∷_, _++_}
 use native.Mathlib.Omega.{arith}
 use native.Mathlib.Numerals.{add-one}
@@ -11,56 +11,11 @@ use Rattle.snapshot.specs.Words.{payOf, wordsOf, textAt}
 use Rattle.snapshot.specs.Records.{nameAt}
 use Rattle.snapshot.specs.Layouts.{nameHead, snapOf}
 use Rattle.snapshot.specs.declared.layout.Layout.{Layout}
-use Rattle.snapshot.proofs.Laws.{getD-rows, rows-part}
-use Rattle.accept.specs.Post.{Reads}
-use Rattle.find_path.specs.Choices.{nameData}
-use Rattle.find_path.specs.Line.{unpacked, textOf}
+use Rattle.snapshot.proofs.Laws.{getD-rows}
+use Rattle.find_path.specs.Choices.{nameData, nameLen}
+use Rattle.find_path.specs.Line.{unpacked}
+use Rattle.line.proofs.Laws.{length-unpacked, name-text}
 use Rattle.exports.specs.Texts.{textFrom, nameText, Copied, Named}
-
--- bytes in words, three a word
-
-pub length-unpacked : (ws : List ℕ) → length (unpacked ws) ≡ 3 * length ws
-unfolding unpacked
-length-unpacked [] = refl
-length-unpacked (w ∷ ws) = let e = length-unpacked ws in omega arith
-
--- the bytes of a word
-part : ℕ → ℕ → ℕ
-part w zero = w % 256
-part w (suc zero) = w / 256 % 256
-part w (suc (suc k)) = w / 65536 % 256
-
-part-zero : (k : ℕ) → part 0 k ≡ 0
-unfolding part
-part-zero zero = refl
-part-zero (suc zero) = refl
-part-zero (suc (suc k)) = refl
-
-byte-at : (ws : List ℕ) (i : ℕ) → part (getD ws (i / 3) 0) (i % 3) ≡ getD (unpacked ws) i 0
-unfolding unpacked part
-byte-at [] i = part-zero (i % 3)
-byte-at (w ∷ ws) zero = refl
-byte-at (w ∷ ws) (suc zero) = refl
-byte-at (w ∷ ws) (suc (suc zero)) = refl
-byte-at (w ∷ ws) (suc (suc (suc i))) =
-    let p : suc (suc (suc i)) / 3 ≡ suc (i / 3) = omega arith in
-    let q : suc (suc (suc i)) % 3 ≡ i % 3 = omega arith in
-    ap₂ (λ x y. part (getD (w ∷ ws) x 0) y) p q ∙ byte-at ws i
-
-pub first-byte : (ws : List ℕ) (i w : ℕ) → w ≡ getD ws (i / 3) 0 → i % 3 ≡ 0 → w % 256 ≡ getD (unpacked ws) i 0
-unfolding part
-first-byte ws i w e h = ap₂ part e (sym h) ∙ byte-at ws i
-
-pub second-byte : (ws : List ℕ) (i w : ℕ) → w ≡ getD ws (i / 3) 0 → i % 3 ≡ 1 → w / 256 % 256 ≡ getD (unpacked ws) i 0
-unfolding part
-second-byte ws i w e h = ap₂ part e (sym h) ∙ byte-at ws i
-
-pub third-byte : (ws : List ℕ) (i w : ℕ) → w ≡ getD ws (i / 3) 0 → (i % 3 ≡ 0 → ⊥) → (i % 3 ≡ 1 → ⊥)
-    → w / 65536 % 256 ≡ getD (unpacked ws) i 0
-unfolding part
-third-byte ws i w e h g =
-    let q : 2 ≡ i % 3 = omega arith in
-    ap₂ part e q ∙ byte-at ws i
 
 -- how many bytes the words hold
 pub held-all : (ws : List ℕ) (b : ℕ) → wordsOf b ≤ length ws → b ≡ length (take b (unpacked ws))
@@ -151,16 +106,16 @@ module _ (W T O X : List ℕ) (k n b head : ℕ) (h : k < length T) (place : hea
         kept = λ m. absurd (omega arith);
       }
 
+name-bytes : (W A : List ℕ) (l : Layout) (k : ℕ) → k < l .names → payOf (getD W (nameHead A k) 0) ≡ nameLen (snapOf W A l) k
+unfolding nameData
+name-bytes W A l k h =
+    ap (λ x. x .bytes) (sym (getD-rows (λ j. nameAt W (nameHead A j)) (record { bytes = 0; text = [] }) (l .names) k h))
+
 -- the text is the snapshot's
 pub named : (W T : List ℕ) (k : ℕ) → Named W T k (nameText W T k)
-unfolding textOf nameData
 named W T k A l r e g h =
     let q : k < length T = omega arith in
     let p : nameHead T k ≡ nameHead A k = ap (λ x. getD x k 0) e ∙ getD-take (length T) A k 0 q in
-    let n : nameAt W (nameHead A k) ≡ nameData (snapOf W A l) k =
-    sym (getD-rows (λ j. nameAt W (nameHead A j)) (record { bytes = 0; text = [] }) (l .names) k h) in
     sym (name-some W T k q)
     ∙ ap (textFrom W) p
-    ∙ ap (λ x. take (payOf (getD W (nameHead A k) 0)) (unpacked x))
-    (sym (rows-part W (nameHead A k + 1) (wordsOf (payOf (getD W (nameHead A k) 0))) (r .tables .heads k h)))
-    ∙ ap (λ x. take (x .bytes) (unpacked (x .text))) n
+    ∙ name-text W A l r k h (textAt W (nameHead A k)) (payOf (getD W (nameHead A k) 0)) refl (name-bytes W A l k h)

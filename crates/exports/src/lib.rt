@@ -1,5 +1,4 @@
 //! The functions of the static library, for programs in Rust and C. None keeps a state, and none asks anything of its caller.
-ghost use mathlib.Core.Path.{_≡_};
 ghost use Rattle.exports.specs.Answers.{Answered};
 ghost use Rattle.exports.specs.Texts.{nameText, Copied, Named};
 

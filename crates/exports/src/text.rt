@@ -1,32 +1,11 @@
 //! The text of a name, copied into bytes.
 ghost use mathlib.Core.Path.{_≡_};
 ghost use mathlib.Core.List.{_++_};
-ghost use Prim.Native.Nat.{ℕ, _*_, _^_, _≤_, _<_};
-ghost use lib.ListN.{length, take, drop, getD};
+ghost use Prim.Native.Nat.{_*_, _^_, _≤_, _<_};
+ghost use lib.ListN.{length, take, drop};
 ghost use Rattle.find_path.specs.Line.{unpacked};
+use line::text::text_byte;
 use snapshot::kind::text_words;
-use snapshot::words::word;
-
-fn narrow(x: usize) -> u8
-    requires { ⌜ x < 256 ⌝ }
-    ensures { λ r. ⌜ r ≡ x ⌝ }
-{
-    x as u8
-}
-
-// The byte at a place of a text that stands in words, three bytes a word.
-fn text_byte(text: &[u32], i: usize) -> u8
-    ensures { λ r. ⌜ r ≡ getD (unpacked (now (text .entry))) i 0 ⌝ }
-{
-    let w = word(text, i / 3);
-    if i % 3 == 0 {
-        return narrow(w % 256);
-    }
-    if i % 3 == 1 {
-        return narrow(w / 256 % 256);
-    }
-    narrow(w / 65536 % 256)
-}
 
 /// How many of so many bytes the words hold.
 pub fn held(text: &[u32], bytes: usize) -> usize

@@ -21,8 +21,8 @@ fn narrow(x: usize) -> u8
     x as u8
 }
 
-// The byte at a place of a text that stands in words, three bytes a word.
-fn text_byte(text: &[u32], i: usize) -> u8
+/// The byte at a place of a text that stands in words, three bytes a word.
+pub fn text_byte(text: &[u32], i: usize) -> u8
     ensures { λ r. ⌜ r ≡ getD (unpacked (now (text .entry))) i 0 ⌝ }
 {
     let w = word(text, i / 3);

@@ -1,11 +1,10 @@
-use Prim.Native.Nat.{_+_, _-_, _*_, _≤_, _<_}
-use mathlib.Core.Path.{_≡_, refl, sym, ap, _∙_}
+use Prim.Native.Nat.{_+_, _-_, _≤_}
+use mathlib.Core.Path.{_≡_, refl}
 use mathlib.Core.List.{_++_}
 use native.Mathlib.Omega.{arith}
-use native.Mathlib.Numerals.{add-one}
 use denote.Ref.{now}
 use borrow.Author.Needs.{needs}
-use lib.ListN.{length, take, drop, set}
+use lib.ListN.{take, drop}
 use Rattle.find_path.specs.Line.{unpacked}
 use Rattle.exports.proofs.Texts.{copy-again, copy-long, copy-end}
 use Rattle.exports.proofs.text.copy_text.Statement.{statement}
