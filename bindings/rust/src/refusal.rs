@@ -29,10 +29,16 @@ pub enum RefusalKind {
     Misplaced = 35,
     /// 36
     TooManyRecords = 36,
+    /// 40, by the path printer alone
+    InputTooLong = 40,
+    /// 41, by the path printer alone
+    InputNotWords = 41,
+    /// 42, by the path printer alone
+    WordsOutsideQuestion = 42,
 }
 
 impl RefusalKind {
-    const ALL: [RefusalKind; 12] = [
+    const ALL: [RefusalKind; 15] = [
         Self::SmallWorkArea,
         Self::TooMuchFuel,
         Self::OutOfRange,
@@ -45,6 +51,9 @@ impl RefusalKind {
         Self::Repeated,
         Self::Misplaced,
         Self::TooManyRecords,
+        Self::InputTooLong,
+        Self::InputNotWords,
+        Self::WordsOutsideQuestion,
     ];
 
     /// The reason with a number.
@@ -72,6 +81,9 @@ impl fmt::Display for RefusalKind {
             Self::Repeated => "something that may stand once only is repeated",
             Self::Misplaced => "a record that does not fit the records before it, or a map or a crate left incomplete",
             Self::TooManyRecords => "more than 64 crates, 512 modules, 2,048 names or 2,048 definitions",
+            Self::InputTooLong => "more than 65,536 bytes of input",
+            Self::InputNotWords => "a number of bytes that is not a multiple of 4",
+            Self::WordsOutsideQuestion => "a word after the snapshot that is in no whole question",
         })
     }
 }
