@@ -1,0 +1,26 @@
+-- A report in words: outcome, refusal number, path kind, sixteen names, their count, charges, empty.
+use Prim.Native.Nat.{ℕ, _%_}
+use mathlib.Core.Path.{_≡_}
+use mathlib.Core.List.{List, [], _∷_, _++_, map}
+use mathlib.Core.Bool.{Bool, true, false}
+use lib.Dec.{ltb, leb}
+use lib.ListN.{length, drop}
+use Rattle.find_path.specs.declared.Report.{Report}
+
+-- a word holds the lowest 32 bits of a number; the numbers of a question's report have no more
+abbrev pub low : ℕ → ℕ
+low x = x % 4294967296
+
+unfoldable pub reportWords : Report → List ℕ
+reportWords r =
+    map low (r .outcome ∷ r .number ∷ r .kind ∷ [])
+    ++ (map low (r .names) ++ map low (r .count ∷ r .charges ∷ r .empty ∷ []))
+
+-- a report at the front; the words past it stay, and fewer words than a report has stay all
+unfoldable pub writtenTo : Report → List ℕ → List ℕ
+writtenTo r out = elim (ltb (length out) 22) [ true ↦ out | false ↦ reportWords r ++ drop 22 out ]
+
+-- b says whether the report was written
+pub record Written (r : Report) (old new : List ℕ) (b : Bool) : Type 0 where
+  pub words : new ≡ writtenTo r old
+  pub done : b ≡ leb 22 (length old)

@@ -1,0 +1,46 @@
+//! What a caller may be refused for, in order.
+ghost use mathlib.Core.Path.{_≡_};
+ghost use mathlib.Core.List.{List};
+ghost use Prim.Native.Nat.{ℕ, _^_, _<_};
+ghost use Rattle.snapshot.specs.Layouts.{wordCount, snapOf};
+ghost use Rattle.find_path.specs.Report.{callFault, questionFault};
+use find_path::Query;
+use hir_def::items::DefinitionKind;
+use hir_def::items::Namespace;
+use hir_def::items::kind_of;
+use snapshot::ids::DefinitionId;
+use snapshot::ids::Fuel;
+use snapshot::ids::WordCount;
+use snapshot::layout::Layout;
+
+/// The first fault that needs no snapshot: 20 a small work area, 21 too much fuel, 22 a field out of range; 0 for none.
+pub fn call_fault(area: usize, q: Query, fuel: usize) -> usize
+    ensures { λ r. ⌜ r ≡ callFault area q fuel ⌝ }
+{
+    if area < WordCount::AREA {
+        return 20;
+    }
+    if Fuel::LIMIT < fuel {
+        return 21;
+    }
+    if (2 < q.ns) | ((2 < q.prefix) | (31 < q.options)) {
+        return 22;
+    }
+    0
+}
+
+/// The first fault that needs one: 23 no such definition or module, 24 a macro that is none; 0 for none.
+pub fn question_fault(words: &[u32], l: Layout, q: Query) -> usize
+    requires { ⌜ wordCount l < 2 ^ 32 ⌝ }
+    ensures { λ r. ⌜ ((A : List ℕ) → r ≡ questionFault (snapOf (now (words .entry)) A l) q) ⌝ }
+{
+    let known = (q.definition < l.definitions) & (q.from < l.modules);
+    if !known {
+        return 23;
+    }
+    let kind = kind_of(words, l, DefinitionId(q.definition));
+    if (q.ns == Namespace::MACROS) & (kind != DefinitionKind::MACRO) {
+        return 24;
+    }
+    0
+}
