@@ -1,0 +1,60 @@
+-- Demand 3 of two reports of the code.
+use Prim.Native.Nat.{ℕ, _≤_, _<_}
+use mathlib.Core.Path.{_≡_, refl, sym, _∙_, ap, subst}
+use mathlib.Core.List.{List}
+use native.Mathlib.Omega.{arith}
+use native.Mathlib.Decide.{decLe}
+use lib.ListN.{length}
+use Rattle.find_path.specs.declared.Query.{Query}
+use Rattle.find_path.specs.declared.Question.{Question}
+use Rattle.find_path.specs.declared.Report.{Report}
+use Rattle.find_path.specs.Report.{refused, callFault, reportOf, searchedFreely}
+use Rattle.find_path.specs.Fuels.{IsRefused, Tells, Compared, reportAt}
+use Rattle.find_path.proofs.Fuels.{fuels-compared}
+use Rattle.answer.specs.Answers.{Answers}
+use Rattle.answer.specs.Twice.{FuelsTold, AnswersTwice}
+use Rattle.answer.specs.declared.twice.Reports.{Reports}
+use Rattle.answer.proofs.Laws.{small, much, report-fault, same-report}
+
+module _ (W : List ℕ) (n : ℕ) (q : Question) where
+  refused-two : (k : ℕ) → IsRefused (refused k)
+  unfolding refused
+  refused-two k = refl
+
+  -- a report that is no refusal had a work area that serves, and fuel within the limit
+  serves : (IsRefused (reportOf W n q) → ⊥) → 16384 ≤ n
+  serves h = elim (decLe 16384 n) [
+    | yes p ↦ p
+    | no p ↦ absurd (h (subst (λ (r : Report). IsRefused r)
+        (report-fault W n q (refused 20) 20 (small n (q .query) (q .fuel) (omega arith)) (λ z. omega arith) refl) (refused-two 20)))
+  ]
+
+  fuelled : (IsRefused (reportOf W n q) → ⊥) → q .fuel ≤ 10000
+  fuelled h = elim (decLe (q .fuel) 10000) [
+    | yes p ↦ p
+    | no p ↦ absurd (h (subst (λ (r : Report). IsRefused r)
+        (report-fault W n q (refused 21) 21 (much n (q .query) (q .fuel) (serves h) (omega arith)) (λ z. omega arith) refl) (refused-two 21)))
+  ]
+
+told-of : (W : List ℕ) (q : Query) (F G : ℕ) (r s : Report) → Compared W 16384 q F G → r ≡ reportAt W 16384 q F → s ≡ reportAt W 16384 q G
+    → FuelsTold W q F G r s
+told-of W q F G r s c e f = rw (e, f) (record { snapshot = c .snapshot; accepted = c .accepted; equal = c .equal; smaller = c .smaller; larger = c .larger })
+
+pub told : (W : List ℕ) (a b : ℕ) (q : Query) (F G : ℕ) (r s : Report) → r ≡ reportAt W a q F → s ≡ reportAt W b q G → F < G
+    → (IsRefused r → ⊥) → (IsRefused s → ⊥) → FuelsTold W q F G r s
+told W a b q F G r s e f lt hr hs =
+    let Q : Question = record { query = q; fuel = F } in
+    let P : Question = record { query = q; fuel = G } in
+    let ha : (IsRefused (reportOf W a Q) → ⊥) = rw e at hr in
+    let hb : (IsRefused (reportOf W b P) → ⊥) = rw f at hs in
+    let i : 16384 ≤ a = serves W a Q ha in
+    let j : 16384 ≤ b = serves W b P hb in
+    let x : reportOf W a Q ≡ reportOf W 16384 Q = same-report W a 16384 Q i (omega arith) in
+    let y : reportOf W b P ≡ reportOf W 16384 P = same-report W b 16384 P j (omega arith) in
+    told-of W q F G r s (fuels-compared W 16384 q F G lt (fuelled W b P hb) (rw x at ha) (rw y at hb)) (e ∙ x) (f ∙ y)
+
+pub answers-twice : (W A₀ B₀ : List ℕ) (q : Query) (F G : ℕ) (A B : List ℕ) (r : Reports)
+    → Answers W A₀ (record { query = q; fuel = F }) A (r .first) → Answers W B₀ (record { query = q; fuel = G }) B (r .second)
+    → AnswersTwice W A₀ B₀ q F G A B r
+answers-twice W A₀ B₀ q F G A B r a b =
+    record { first = a; second = b; told = λ lt h k. told W (length A₀) (length B₀) q F G (r .first) (r .second) (a .report) (b .report) lt h k }

@@ -1,0 +1,49 @@
+//! A question put to words that nobody checked yet.
+ghost use mathlib.Core.Path.{_≡_};
+ghost use Prim.Native.Nat.{ℕ, _≤_};
+ghost use lib.ListN.{length};
+ghost use Rattle.find_path.specs.Report.{reportOf};
+ghost use Rattle.answer.specs.Answers.{zeros, Answers};
+use crate::area::clear;
+use crate::checked::report_on;
+use crate::faults::call_fault;
+use crate::report::refused;
+use accept::check::check;
+use find_path::Question;
+use find_path::Report;
+use snapshot::ids::WordCount;
+
+// The report, in a work area that serves. The question's own faults come before those of the words.
+fn report_within(words: &[u32], area: &mut [u32], question: Question) -> Report
+    requires { ⌜ length (now area) ≡ 16384 ⌝ }
+    ensures { λ r. ⌜ r ≡ reportOf (now (words .entry)) 16384 question ⌝ }
+{
+    let n = call_fault(area.len(), question.query, question.fuel);
+    if n != 0 {
+        return refused(n);
+    }
+    let c = check(words, area);
+    report_on(words, area, c, question)
+}
+
+// The same, with the work area cleared.
+fn find_path_within(words: &[u32], area: &mut [u32], question: Question) -> Report
+    requires { ⌜ length (now area) ≡ 16384 ⌝ }
+    ensures { λ r. ⌜ r ≡ reportOf (now (words .entry)) 16384 question ⌝ }
+    ensures { λ _. ⌜ now (area .exit) ≡ zeros 16384 ⌝ }
+{
+    let r = report_within(words, area, question);
+    clear(area);
+    r
+}
+
+/// The report of a question on the words of a snapshot. A work area of 16,384 words or more is cleared in its first 16,384 words
+/// and otherwise left; a smaller one is refused and left.
+pub fn find_path(words: &[u32], area: &mut [u32], question: Question) -> Report
+    ensures { λ r. ⌜ Answers (now (words .entry)) (now (area .entry)) question (now (area .exit)) r ⌝ }
+{
+    if area.len() < WordCount::AREA {
+        return refused(20);
+    }
+    find_path_within(words, &mut area[..16384], question)
+}
