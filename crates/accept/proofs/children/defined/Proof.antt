@@ -16,7 +16,9 @@ child-child-requires c κs = search needs
 
 -- src/children.rt:20:1
 returns : tie.Need-returns
-returns c = cc
+returns c =
+    let d = c .before .before .before .before in
+    rw (d .child-child .ensures, d .before .child-owner .ensures)
 
 pub defined-spec : {M : Type 1} → statement M
 defined-spec = tie.close (tie.spec child-owner-requires child-child-requires returns)

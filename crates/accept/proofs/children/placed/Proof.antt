@@ -23,7 +23,7 @@ add-result : tie.Need-add-result
 add-result c = search needs
 
 returns : tie.Need-returns
-returns c = cc
+returns c = rw (c .before .module-parent .ensures, c .before .before .module-map2 .ensures, c .before .before .before .module-map .ensures, c .before .before .before .before .child-child .ensures, c .before .before .before .before .before .child-owner .ensures)
 
 pub placed-spec : {M : Type 1} → statement M
 placed-spec =

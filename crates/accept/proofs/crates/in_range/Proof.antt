@@ -16,7 +16,7 @@ crate-no-std-requires c κs = search needs
 
 -- src/crates.rt:16:1
 returns : tie.Need-returns
-returns c = cc
+returns c = rw (c .crate-no-std .ensures, c .before .crate-origin .ensures)
 
 pub in-range-spec : {M : Type 1} → statement M
 in-range-spec = tie.close (tie.spec crate-origin-requires crate-no-std-requires returns)

@@ -21,7 +21,9 @@ definition-second-requires c κs = search needs
 
 -- src/definitions.rt:51:1
 returns : tie.Need-returns
-returns c = cc
+returns c =
+    let d = c .before .before .before .before in
+    rw (d .definition-second .ensures, d .before .definition-first .ensures, d .before .before .definition-kind .ensures)
 
 pub defined-spec : {M : Type 1} → statement M
 defined-spec =

@@ -1,9 +1,4 @@
 use borrow.Author.Needs.{needs}
-use mathlib.Core.Path.{_≡_, refl, sym, ap, _∙_}
-use denote.Ref.{now}
-use Rattle.snapshot.specs.Records.{nameAt}
-use Rattle.snapshot.specs.Layouts.{nameHead}
-use Rattle.accept.specs.Tests.{isBuiltin}
 use Rattle.accept.proofs.definitions.in_range.Statement.{statement}
 use Rattle.accept.proofs.definitions.in_range.Tie as tie
 
@@ -24,8 +19,8 @@ is-builtin-requires c κs = search needs
 
 returns : tie.Need-returns
 returns c =
-    let s = c .before .before .before .before .before .before .before .before in
-    cc (c .before .is-builtin .ensures ∙ ap (λ h. isBuiltin (nameAt (now (s .args .words)) h)) (c .before .before .name-head .ensures ∙ ap (nameHead (now (s .args .area))) (c .before .before .before .before .definition-first .ensures)))
+    let d = c .before .before in
+    rw (c .before .is-builtin .ensures, d .name-head .ensures, d .before .definition-second .ensures, d .before .before .definition-first .ensures, d .before .before .before .definition-kind .ensures)
 
 pub in-range-spec : {M : Type 1} → statement M
 in-range-spec =

@@ -24,7 +24,7 @@ definition-kind-requires c κs = search needs
 
 -- src/definitions.rt:25:1
 returns : tie.Need-returns
-returns c = cc
+returns c = rw (c .definition-kind .ensures, c .before .before .definition-base .ensures)
 
 pub kind-at-spec : {M : Type 1} → statement M
 kind-at-spec =

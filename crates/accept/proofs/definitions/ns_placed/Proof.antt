@@ -11,7 +11,7 @@ kind-at-requires c κs = search needs
 
 -- src/definitions.rt:33:1
 returns : tie.Need-returns
-returns c = cc
+returns c = rw (c .kind-at .ensures)
 
 pub ns-placed-spec : {M : Type 1} → statement M
 ns-placed-spec = tie.close (tie.spec kind-at-requires returns)

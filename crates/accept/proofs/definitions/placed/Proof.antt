@@ -14,7 +14,7 @@ kind-at-requires : tie.Need-kind-at-requires
 kind-at-requires c κs = (omega arith, omega (arith, c .before .definition-first .ensures, c .before .before .shared-slice-known .given (c .before .before .before .args .at + 1)))
 
 returns : tie.Need-returns
-returns c = cc
+returns c = rw (c .kind-at .ensures, c .before .definition-kind .ensures, c .before .before .definition-first .ensures)
 
 pub placed-spec : {M : Type 1} → statement M
 placed-spec =

@@ -16,7 +16,9 @@ dependency-crate-requires c κs = search needs
 
 -- src/dependencies.rt:20:1
 returns : tie.Need-returns
-returns c = cc
+returns c =
+    let d = c .before .before .before .before in
+    rw (d .dependency-crate .ensures, d .before .dependency-owner .ensures)
 
 pub defined-spec : {M : Type 1} → statement M
 defined-spec = tie.close (tie.spec dependency-owner-requires dependency-crate-requires returns)

@@ -11,7 +11,7 @@ dependency-sysroot-requires c κs = search needs
 
 -- src/dependencies.rt:14:1
 returns : tie.Need-returns
-returns c = cc
+returns c = rw (c .dependency-sysroot .ensures)
 
 pub in-range-spec : {M : Type 1} → statement M
 in-range-spec = tie.close (tie.spec dependency-sysroot-requires returns)

@@ -21,7 +21,9 @@ extern-target-requires c κs = search needs
 
 -- src/externs.rt:15:1
 returns : tie.Need-returns
-returns c = cc
+returns c =
+    let d = c .before .before .before .before .before .before in
+    rw (d .extern-target .ensures, d .before .extern-name .ensures, d .before .before .extern-owner .ensures)
 
 pub defined-spec : {M : Type 1} → statement M
 defined-spec =

@@ -26,7 +26,9 @@ import-container-requires c κs = search needs
 
 -- src/imports.rt:21:1
 returns : tie.Need-returns
-returns c = cc
+returns c =
+    let d = c .before .before .before .before .before .before .before .before in
+    rw (d .import-container .ensures, d .before .import-name .ensures, d .before .before .import-definition .ensures, d .before .before .before .import-owner .ensures)
 
 pub defined-spec : {M : Type 1} → statement M
 defined-spec =

@@ -16,7 +16,7 @@ import-bits-requires c κs = search needs
 
 -- src/imports.rt:15:1
 returns : tie.Need-returns
-returns c = cc
+returns c = rw (c .import-bits .ensures, c .before .import-ns .ensures)
 
 pub in-range-spec : {M : Type 1} → statement M
 in-range-spec = tie.close (tie.spec import-ns-requires import-bits-requires returns)

@@ -11,7 +11,7 @@ map-no-std-requires c κs = search needs
 
 -- src/maps.rt:20:1
 returns : tie.Need-returns
-returns c = cc
+returns c = rw (c .map-no-std .ensures)
 
 pub in-range-spec : {M : Type 1} → statement M
 in-range-spec = tie.close (tie.spec map-no-std-requires returns)

@@ -1,6 +1,6 @@
 use borrow.Author.Needs.{needs}
 use Prim.Native.Nat.{_+_}
-use mathlib.Core.Path.{_≡_, refl, sym, ap, _∙_}
+use mathlib.Core.Path.{sym, _∙_}
 use native.Mathlib.Omega.{arith}
 use borrow.Author.Tests.{eq-eqb, ne-eqb}
 use Rattle.accept.proofs.Laws.{or-yes, or-no}
@@ -26,7 +26,9 @@ map-crate-requires-2 : tie.Need-map-crate-requires-2
 map-crate-requires-2 c κs = search needs
 
 returns-2 : tie.Need-returns-2
-returns-2 c = or-no (ne-eqb _ _ (λ e. c .before .before .before .before .before .if1 .left (c .before .before .before .before .before .before .map-block .ensures ∙ e))) (cc)
+returns-2 c =
+    let d = c .before .before in
+    or-no (ne-eqb _ _ (λ e. d .before .before .before .if1 .left (d .before .before .before .before .map-block .ensures ∙ e))) (rw (d .map-crate2 .ensures, d .before .map-crate .ensures, d .before .before .module-head .ensures, d .before .before .before .before .map-block .ensures))
 
 pub placed-spec : {M : Type 1} → statement M
 placed-spec =

@@ -21,7 +21,7 @@ own-map-requires c κs = search needs
 
 -- src/maps.rt:34:1
 returns : tie.Need-returns
-returns c = cc
+returns c = rw (c .own-map .ensures, c .before .map-crate .ensures, c .before .before .map-block .ensures)
 
 pub repeated-spec : {M : Type 1} → statement M
 repeated-spec = tie.close (tie.spec map-block-requires map-crate-requires own-map-requires returns)

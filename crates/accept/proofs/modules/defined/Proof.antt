@@ -16,7 +16,7 @@ module-parent-requires c κs = search needs
 
 -- src/modules.rt:21:1
 returns : tie.Need-returns
-returns c = cc
+returns c = rw (c .before .module-parent .ensures, c .before .before .before .module-map .ensures)
 
 pub defined-spec : {M : Type 1} → statement M
 defined-spec = tie.close (tie.spec module-map-requires module-parent-requires returns)

@@ -1,6 +1,6 @@
 use borrow.Author.Needs.{needs}
 use Prim.Native.Nat.{_+_}
-use mathlib.Core.Path.{_≡_, refl, sym, ap, _∙_}
+use mathlib.Core.Path.{sym, _∙_}
 use native.Mathlib.Omega.{arith}
 use borrow.Author.Tests.{eq-eqb, ne-eqb}
 use Rattle.accept.proofs.Laws.{or-yes, or-no}
@@ -23,7 +23,7 @@ module-map-requires-2 : tie.Need-module-map-requires-2
 module-map-requires-2 c κs = search needs
 
 returns-2 : tie.Need-returns-2
-returns-2 c = or-no (ne-eqb _ _ (λ e. c .before .before .if1 .left (c .before .before .before .module-parent .ensures ∙ e))) (cc)
+returns-2 c = or-no (ne-eqb _ _ (λ e. c .before .before .if1 .left (c .before .before .before .module-parent .ensures ∙ e))) (rw (c .module-map2 .ensures, c .before .module-map .ensures, c .before .before .before .module-parent .ensures))
 
 pub parent-placed-spec : {M : Type 1} → statement M
 parent-placed-spec =

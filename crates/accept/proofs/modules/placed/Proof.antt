@@ -1,9 +1,4 @@
 use borrow.Author.Needs.{needs}
-use mathlib.Core.Path.{_≡_, refl, sym, ap, _∙_}
-use denote.Ref.{now}
-use Rattle.snapshot.specs.Lists.{any}
-use Rattle.snapshot.specs.Layouts.{modulesOf}
-use Rattle.accept.specs.Tests.{isIn}
 use Rattle.accept.proofs.modules.placed.Statement.{statement}
 use Rattle.accept.proofs.modules.placed.Tie as tie
 
@@ -24,8 +19,8 @@ parent-placed-requires c κs = search needs
 
 returns : tie.Need-returns
 returns c =
-    let s = c .before .before .before .before .before .before .before in
-    cc (ap (λ x. any (isIn x) (modulesOf (now (s .args .area)) (s .args .l .modules))) (c .before .before .before .before .module-map .ensures))
+    let d = c .before .before in
+    rw (c .parent-placed .ensures, d .has-module .ensures, d .before .module-parent .ensures, d .before .before .module-map .ensures)
 
 pub placed-spec : {M : Type 1} → statement M
 placed-spec =

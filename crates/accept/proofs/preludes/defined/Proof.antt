@@ -16,7 +16,9 @@ prelude-map-requires c κs = search needs
 
 -- src/preludes.rt:15:1
 returns : tie.Need-returns
-returns c = cc
+returns c =
+    let d = c .before .before .before in
+    rw (d .prelude-map .ensures, d .before .prelude-target .ensures)
 
 pub defined-spec : {M : Type 1} → statement M
 defined-spec = tie.close (tie.spec prelude-target-requires prelude-map-requires returns)

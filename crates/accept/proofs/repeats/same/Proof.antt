@@ -32,7 +32,7 @@ field-requires-4 c κs = search needs
 
 -- src/repeats.rt:10:1
 returns : tie.Need-returns
-returns c = cc
+returns c = rw (c .field4 .ensures, c .before .field3 .ensures, c .before .before .field2 .ensures, c .before .before .before .field .ensures, c .before .before .before .before .payload2 .ensures, c .before .before .before .before .before .payload .ensures)
 
 pub same-spec : {M : Type 1} → statement M
 same-spec =

@@ -31,7 +31,9 @@ scope-number-requires c κs = search needs
 
 -- src/scopes.rt:24:1
 returns : tie.Need-returns
-returns c = cc
+returns c =
+    let d = c .before .before .before .before .before .before .before .before in
+    rw (d .scope-number .ensures, d .before .scope-visibility .ensures, d .before .before .scope-definition .ensures, d .before .before .before .scope-name .ensures, d .before .before .before .before .scope-owner .ensures)
 
 pub defined-spec : {M : Type 1} → statement M
 defined-spec =

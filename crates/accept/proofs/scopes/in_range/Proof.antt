@@ -26,7 +26,7 @@ scope-declared-requires c κs = search needs
 
 -- src/scopes.rt:16:1
 returns : tie.Need-returns
-returns c = cc
+returns c = rw (c .scope-declared .ensures, c .before .scope-ns .ensures, c .before .before .scope-number .ensures, c .before .before .before .scope-visibility .ensures)
 
 pub in-range-spec : {M : Type 1} → statement M
 in-range-spec =
