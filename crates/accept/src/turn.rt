@@ -7,9 +7,9 @@ ghost use Rattle.snapshot.specs.Words.{kindOf, argumentsAt};
 ghost use Rattle.snapshot.specs.Records.{Map};
 ghost use Rattle.snapshot.specs.Layouts.{snapWith};
 ghost use Rattle.accept.specs.Verdict.{follows as followsOf, recordStep, stepAt};
-ghost use Rattle.accept.specs.Stands.{Ready, Here, Stands, Answered};
+ghost use Rattle.rules.specs.Stands.{Ready, Here, Stands, Answered};
 use crate::arguments::arguments_from;
-use crate::judge::Step;
+use rules::judge::Step;
 use snapshot::kind::Kind;
 use snapshot::kind::arguments;
 use snapshot::layout::Layout;
@@ -30,17 +30,17 @@ fn by_kind(words: &[u32], area: &mut [u32], l: Layout, at: usize, k: usize) -> S
     ensures { λ r. ⌜ ((ms : List Map) → Stands (now (words .entry)) (now (area .entry)) k at l ms → Answered (now (words .entry)) (now (area .exit)) k (at + 1 + argumentsAt (now (words .entry)) at) (recordStep k (now (words .entry)) at (snapWith (now (words .entry)) (now (area .entry)) l ms)) r) ⌝ }
 {
     match k {
-        1 => crate::names::step(words, area, l, at),
-        2 => crate::crates::step(words, area, l, at),
-        3 => crate::dependencies::step(words, area, l, at),
-        4 => crate::maps::step(words, area, l, at),
-        5 => crate::modules::step(words, area, l, at),
-        6 => crate::children::step(words, area, l, at),
-        7 => crate::preludes::step(words, area, l, at),
-        8 => crate::definitions::step(words, area, l, at),
-        9 => crate::scopes::step(words, area, l, at),
-        10 => crate::imports::step(words, area, l, at),
-        _ => crate::externs::step(words, area, l, at),
+        1 => rules::names::step(words, area, l, at),
+        2 => records::crates::step(words, area, l, at),
+        3 => records::dependencies::step(words, area, l, at),
+        4 => records::maps::step(words, area, l, at),
+        5 => records::modules::step(words, area, l, at),
+        6 => records::children::step(words, area, l, at),
+        7 => records::preludes::step(words, area, l, at),
+        8 => records::definitions::step(words, area, l, at),
+        9 => records::scopes::step(words, area, l, at),
+        10 => records::imports::step(words, area, l, at),
+        _ => records::externs::step(words, area, l, at),
     }
 }
 

@@ -1,0 +1,459 @@
+-- One record more of a kind that has no table: the lists and what stands.
+use Prim.Native.Nat.{ℕ, _+_, _*_, _≤_, _<_}
+use mathlib.Core.Path.{_≡_, _∙_, ap}
+use mathlib.Core.List.{List, [], _∷_, _++_}
+use native.Mathlib.Omega.{arith}
+use native.Mathlib.Nat.{lt-irrefl}
+use lib.Dec.{lit<}
+use lib.ListN.{length}
+use Rattle.snapshot.specs.Lists.{rows}
+use Rattle.snapshot.specs.Records.{Map, Dependency, Child, Prelude, Definition, Scope, Import, Extern, crateAt, dependencyAt, childAt, preludeAt, definitionAt, scopeAt, importAt, externAt}
+use Rattle.snapshot.specs.Layouts.{crateBase, dependencyBase, childBase, preludeBase, definitionBase, scopeBase, importBase, externBase, namesOf, modulesOf, recordsOf, snapWith}
+use Rattle.snapshot.specs.declared.layout.Layout.{Layout}
+use Rattle.snapshot.proofs.Laws.{rows-snoc, rows-zero}
+use Rattle.rules.specs.Steps.{addDependency, addChild, addPrelude, addDefinition, addScope, addImport, addExtern}
+use Rattle.rules.specs.Stands.{Stands}
+
+-- one dependency more
+
+abbrev pub dependencyOn : Layout → Layout
+dependencyOn l =
+    record {
+      text = l .text;
+      names = l .names;
+      crates = l .crates;
+      dependencies = l .dependencies + 1;
+      maps = l .maps;
+      modules = l .modules;
+      children = l .children;
+      preludes = l .preludes;
+      definitions = l .definitions;
+      scopes = l .scopes;
+      imports = l .imports;
+      externs = l .externs;
+      latest = l .latest;
+    }
+
+module _ (W A : List ℕ) (at : ℕ) (l : Layout) (ms : List Map) (st : Stands W A 3 at l ms) where
+  pub dependency-added : snapWith W A (dependencyOn l) ms ≡ addDependency (snapWith W A l ms) (dependencyAt W at)
+  dependency-added =
+      let z-maps : l .maps ≡ 0 = st .upto .maps (lit< tt) in
+      let z-modules : l .modules ≡ 0 = st .upto .modules (lit< tt) in
+      let z-children : l .children ≡ 0 = st .upto .children (lit< tt) in
+      let z-preludes : l .preludes ≡ 0 = st .upto .preludes (lit< tt) in
+      let z-definitions : l .definitions ≡ 0 = st .upto .definitions (lit< tt) in
+      let z-scopes : l .scopes ≡ 0 = st .upto .scopes (lit< tt) in
+      let z-imports : l .imports ≡ 0 = st .upto .imports (lit< tt) in
+      let z-externs : l .externs ≡ 0 = st .upto .externs (lit< tt) in
+      let f : ℕ → Dependency = λ j. dependencyAt W (dependencyBase l + 3 * j) in
+      let e : dependencyBase l + 3 * l .dependencies ≡ at = (let q = st .place in omega arith) in
+      let p : rows f 0 (l .dependencies + 1) ≡ rows f 0 (l .dependencies) ++ (dependencyAt W at ∷ []) =
+      rows-snoc f (l .dependencies) ∙ ap (λ h. rows f 0 (l .dependencies) ++ (dependencyAt W h ∷ [])) e in
+      let q-children : recordsOf childAt 2 W (childBase (dependencyOn l)) ((dependencyOn l) .children) ≡ recordsOf childAt 2 W (childBase l) (l .children) = rows-zero _ _ _ z-children in
+      let q-preludes : recordsOf preludeAt 2 W (preludeBase (dependencyOn l)) ((dependencyOn l) .preludes) ≡ recordsOf preludeAt 2 W (preludeBase l) (l .preludes) = rows-zero _ _ _ z-preludes in
+      let q-definitions : recordsOf definitionAt 3 W (definitionBase (dependencyOn l)) ((dependencyOn l) .definitions) ≡ recordsOf definitionAt 3 W (definitionBase l) (l .definitions) = rows-zero _ _ _ z-definitions in
+      let q-scopes : recordsOf scopeAt 7 W (scopeBase (dependencyOn l)) ((dependencyOn l) .scopes) ≡ recordsOf scopeAt 7 W (scopeBase l) (l .scopes) = rows-zero _ _ _ z-scopes in
+      let q-imports : recordsOf importAt 6 W (importBase (dependencyOn l)) ((dependencyOn l) .imports) ≡ recordsOf importAt 6 W (importBase l) (l .imports) = rows-zero _ _ _ z-imports in
+      let q-externs : recordsOf externAt 3 W (externBase (dependencyOn l)) ((dependencyOn l) .externs) ≡ recordsOf externAt 3 W (externBase l) (l .externs) = rows-zero _ _ _ z-externs in
+      λ i. record { names = namesOf W A (l .names); crates = recordsOf crateAt 1 W (crateBase l) (l .crates); dependencies = p i; maps = ms; modules = modulesOf A (l .modules); children = q-children i; preludes = q-preludes i; definitions = q-definitions i; scopes = q-scopes i; imports = q-imports i; externs = q-externs i }
+
+  pub dependency-stands : at + 3 ≤ length W → Stands W A 3 (at + 3) (dependencyOn l) ms
+  dependency-stands fits =
+      record {
+        place = (let q = st .place in omega arith);
+        within = fits;
+        upto =
+            record {
+              crates = st .upto .crates;
+              dependencies = λ h. absurd (lt-irrefl 3 h);
+              maps = st .upto .maps;
+              modules = st .upto .modules;
+              children = st .upto .children;
+              preludes = st .upto .preludes;
+              definitions = st .upto .definitions;
+              scopes = st .upto .scopes;
+              imports = st .upto .imports;
+              externs = st .upto .externs;
+            };
+        limited = record { names = st .limited .names; crates = st .limited .crates; modules = st .limited .modules; definitions = st .limited .definitions };
+        heads = st .heads;
+        count = st .count;
+        latest = st .latest;
+        below = st .below;
+        rising = st .rising;
+        inside = st .inside;
+        own = st .own;
+      }
+
+-- one child more
+
+abbrev pub childOn : Layout → Layout
+childOn l =
+    record {
+      text = l .text;
+      names = l .names;
+      crates = l .crates;
+      dependencies = l .dependencies;
+      maps = l .maps;
+      modules = l .modules;
+      children = l .children + 1;
+      preludes = l .preludes;
+      definitions = l .definitions;
+      scopes = l .scopes;
+      imports = l .imports;
+      externs = l .externs;
+      latest = l .latest;
+    }
+
+module _ (W A : List ℕ) (at : ℕ) (l : Layout) (ms : List Map) (st : Stands W A 6 at l ms) where
+  pub child-added : snapWith W A (childOn l) ms ≡ addChild (snapWith W A l ms) (childAt W at)
+  child-added =
+      let z-preludes : l .preludes ≡ 0 = st .upto .preludes (lit< tt) in
+      let z-definitions : l .definitions ≡ 0 = st .upto .definitions (lit< tt) in
+      let z-scopes : l .scopes ≡ 0 = st .upto .scopes (lit< tt) in
+      let z-imports : l .imports ≡ 0 = st .upto .imports (lit< tt) in
+      let z-externs : l .externs ≡ 0 = st .upto .externs (lit< tt) in
+      let f : ℕ → Child = λ j. childAt W (childBase l + 2 * j) in
+      let e : childBase l + 2 * l .children ≡ at = (let q = st .place in omega arith) in
+      let p : rows f 0 (l .children + 1) ≡ rows f 0 (l .children) ++ (childAt W at ∷ []) =
+      rows-snoc f (l .children) ∙ ap (λ h. rows f 0 (l .children) ++ (childAt W h ∷ [])) e in
+      let q-preludes : recordsOf preludeAt 2 W (preludeBase (childOn l)) ((childOn l) .preludes) ≡ recordsOf preludeAt 2 W (preludeBase l) (l .preludes) = rows-zero _ _ _ z-preludes in
+      let q-definitions : recordsOf definitionAt 3 W (definitionBase (childOn l)) ((childOn l) .definitions) ≡ recordsOf definitionAt 3 W (definitionBase l) (l .definitions) = rows-zero _ _ _ z-definitions in
+      let q-scopes : recordsOf scopeAt 7 W (scopeBase (childOn l)) ((childOn l) .scopes) ≡ recordsOf scopeAt 7 W (scopeBase l) (l .scopes) = rows-zero _ _ _ z-scopes in
+      let q-imports : recordsOf importAt 6 W (importBase (childOn l)) ((childOn l) .imports) ≡ recordsOf importAt 6 W (importBase l) (l .imports) = rows-zero _ _ _ z-imports in
+      let q-externs : recordsOf externAt 3 W (externBase (childOn l)) ((childOn l) .externs) ≡ recordsOf externAt 3 W (externBase l) (l .externs) = rows-zero _ _ _ z-externs in
+      λ i. record { names = namesOf W A (l .names); crates = recordsOf crateAt 1 W (crateBase l) (l .crates); dependencies = recordsOf dependencyAt 3 W (dependencyBase l) (l .dependencies); maps = ms; modules = modulesOf A (l .modules); children = p i; preludes = q-preludes i; definitions = q-definitions i; scopes = q-scopes i; imports = q-imports i; externs = q-externs i }
+
+  pub child-stands : at + 2 ≤ length W → Stands W A 6 (at + 2) (childOn l) ms
+  child-stands fits =
+      record {
+        place = (let q = st .place in omega arith);
+        within = fits;
+        upto =
+            record {
+              crates = st .upto .crates;
+              dependencies = st .upto .dependencies;
+              maps = st .upto .maps;
+              modules = st .upto .modules;
+              children = λ h. absurd (lt-irrefl 6 h);
+              preludes = st .upto .preludes;
+              definitions = st .upto .definitions;
+              scopes = st .upto .scopes;
+              imports = st .upto .imports;
+              externs = st .upto .externs;
+            };
+        limited = record { names = st .limited .names; crates = st .limited .crates; modules = st .limited .modules; definitions = st .limited .definitions };
+        heads = st .heads;
+        count = st .count;
+        latest = st .latest;
+        below = st .below;
+        rising = st .rising;
+        inside = st .inside;
+        own = st .own;
+      }
+
+-- one prelude more
+
+abbrev pub preludeOn : Layout → Layout
+preludeOn l =
+    record {
+      text = l .text;
+      names = l .names;
+      crates = l .crates;
+      dependencies = l .dependencies;
+      maps = l .maps;
+      modules = l .modules;
+      children = l .children;
+      preludes = l .preludes + 1;
+      definitions = l .definitions;
+      scopes = l .scopes;
+      imports = l .imports;
+      externs = l .externs;
+      latest = l .latest;
+    }
+
+module _ (W A : List ℕ) (at : ℕ) (l : Layout) (ms : List Map) (st : Stands W A 7 at l ms) where
+  pub prelude-added : snapWith W A (preludeOn l) ms ≡ addPrelude (snapWith W A l ms) (preludeAt W at)
+  prelude-added =
+      let z-definitions : l .definitions ≡ 0 = st .upto .definitions (lit< tt) in
+      let z-scopes : l .scopes ≡ 0 = st .upto .scopes (lit< tt) in
+      let z-imports : l .imports ≡ 0 = st .upto .imports (lit< tt) in
+      let z-externs : l .externs ≡ 0 = st .upto .externs (lit< tt) in
+      let f : ℕ → Prelude = λ j. preludeAt W (preludeBase l + 2 * j) in
+      let e : preludeBase l + 2 * l .preludes ≡ at = (let q = st .place in omega arith) in
+      let p : rows f 0 (l .preludes + 1) ≡ rows f 0 (l .preludes) ++ (preludeAt W at ∷ []) =
+      rows-snoc f (l .preludes) ∙ ap (λ h. rows f 0 (l .preludes) ++ (preludeAt W h ∷ [])) e in
+      let q-definitions : recordsOf definitionAt 3 W (definitionBase (preludeOn l)) ((preludeOn l) .definitions) ≡ recordsOf definitionAt 3 W (definitionBase l) (l .definitions) = rows-zero _ _ _ z-definitions in
+      let q-scopes : recordsOf scopeAt 7 W (scopeBase (preludeOn l)) ((preludeOn l) .scopes) ≡ recordsOf scopeAt 7 W (scopeBase l) (l .scopes) = rows-zero _ _ _ z-scopes in
+      let q-imports : recordsOf importAt 6 W (importBase (preludeOn l)) ((preludeOn l) .imports) ≡ recordsOf importAt 6 W (importBase l) (l .imports) = rows-zero _ _ _ z-imports in
+      let q-externs : recordsOf externAt 3 W (externBase (preludeOn l)) ((preludeOn l) .externs) ≡ recordsOf externAt 3 W (externBase l) (l .externs) = rows-zero _ _ _ z-externs in
+      λ i. record { names = namesOf W A (l .names); crates = recordsOf crateAt 1 W (crateBase l) (l .crates); dependencies = recordsOf dependencyAt 3 W (dependencyBase l) (l .dependencies); maps = ms; modules = modulesOf A (l .modules); children = recordsOf childAt 2 W (childBase l) (l .children); preludes = p i; definitions = q-definitions i; scopes = q-scopes i; imports = q-imports i; externs = q-externs i }
+
+  pub prelude-stands : at + 2 ≤ length W → Stands W A 7 (at + 2) (preludeOn l) ms
+  prelude-stands fits =
+      record {
+        place = (let q = st .place in omega arith);
+        within = fits;
+        upto =
+            record {
+              crates = st .upto .crates;
+              dependencies = st .upto .dependencies;
+              maps = st .upto .maps;
+              modules = st .upto .modules;
+              children = st .upto .children;
+              preludes = λ h. absurd (lt-irrefl 7 h);
+              definitions = st .upto .definitions;
+              scopes = st .upto .scopes;
+              imports = st .upto .imports;
+              externs = st .upto .externs;
+            };
+        limited = record { names = st .limited .names; crates = st .limited .crates; modules = st .limited .modules; definitions = st .limited .definitions };
+        heads = st .heads;
+        count = st .count;
+        latest = st .latest;
+        below = st .below;
+        rising = st .rising;
+        inside = st .inside;
+        own = st .own;
+      }
+
+-- one definition more
+
+abbrev pub definitionOn : Layout → Layout
+definitionOn l =
+    record {
+      text = l .text;
+      names = l .names;
+      crates = l .crates;
+      dependencies = l .dependencies;
+      maps = l .maps;
+      modules = l .modules;
+      children = l .children;
+      preludes = l .preludes;
+      definitions = l .definitions + 1;
+      scopes = l .scopes;
+      imports = l .imports;
+      externs = l .externs;
+      latest = l .latest;
+    }
+
+module _ (W A : List ℕ) (at : ℕ) (l : Layout) (ms : List Map) (st : Stands W A 8 at l ms) where
+  pub definition-added : snapWith W A (definitionOn l) ms ≡ addDefinition (snapWith W A l ms) (definitionAt W at)
+  definition-added =
+      let z-scopes : l .scopes ≡ 0 = st .upto .scopes (lit< tt) in
+      let z-imports : l .imports ≡ 0 = st .upto .imports (lit< tt) in
+      let z-externs : l .externs ≡ 0 = st .upto .externs (lit< tt) in
+      let f : ℕ → Definition = λ j. definitionAt W (definitionBase l + 3 * j) in
+      let e : definitionBase l + 3 * l .definitions ≡ at = (let q = st .place in omega arith) in
+      let p : rows f 0 (l .definitions + 1) ≡ rows f 0 (l .definitions) ++ (definitionAt W at ∷ []) =
+      rows-snoc f (l .definitions) ∙ ap (λ h. rows f 0 (l .definitions) ++ (definitionAt W h ∷ [])) e in
+      let q-scopes : recordsOf scopeAt 7 W (scopeBase (definitionOn l)) ((definitionOn l) .scopes) ≡ recordsOf scopeAt 7 W (scopeBase l) (l .scopes) = rows-zero _ _ _ z-scopes in
+      let q-imports : recordsOf importAt 6 W (importBase (definitionOn l)) ((definitionOn l) .imports) ≡ recordsOf importAt 6 W (importBase l) (l .imports) = rows-zero _ _ _ z-imports in
+      let q-externs : recordsOf externAt 3 W (externBase (definitionOn l)) ((definitionOn l) .externs) ≡ recordsOf externAt 3 W (externBase l) (l .externs) = rows-zero _ _ _ z-externs in
+      λ i. record { names = namesOf W A (l .names); crates = recordsOf crateAt 1 W (crateBase l) (l .crates); dependencies = recordsOf dependencyAt 3 W (dependencyBase l) (l .dependencies); maps = ms; modules = modulesOf A (l .modules); children = recordsOf childAt 2 W (childBase l) (l .children); preludes = recordsOf preludeAt 2 W (preludeBase l) (l .preludes); definitions = p i; scopes = q-scopes i; imports = q-imports i; externs = q-externs i }
+
+  pub definition-stands : at + 3 ≤ length W → l .definitions < 2048 → Stands W A 8 (at + 3) (definitionOn l) ms
+  definition-stands fits room =
+      record {
+        place = (let q = st .place in omega arith);
+        within = fits;
+        upto =
+            record {
+              crates = st .upto .crates;
+              dependencies = st .upto .dependencies;
+              maps = st .upto .maps;
+              modules = st .upto .modules;
+              children = st .upto .children;
+              preludes = st .upto .preludes;
+              definitions = λ h. absurd (lt-irrefl 8 h);
+              scopes = st .upto .scopes;
+              imports = st .upto .imports;
+              externs = st .upto .externs;
+            };
+        limited =
+            record { names = st .limited .names; crates = st .limited .crates; modules = st .limited .modules; definitions = omega arith };
+        heads = st .heads;
+        count = st .count;
+        latest = st .latest;
+        below = st .below;
+        rising = st .rising;
+        inside = st .inside;
+        own = st .own;
+      }
+
+-- one scope more
+
+abbrev pub scopeOn : Layout → Layout
+scopeOn l =
+    record {
+      text = l .text;
+      names = l .names;
+      crates = l .crates;
+      dependencies = l .dependencies;
+      maps = l .maps;
+      modules = l .modules;
+      children = l .children;
+      preludes = l .preludes;
+      definitions = l .definitions;
+      scopes = l .scopes + 1;
+      imports = l .imports;
+      externs = l .externs;
+      latest = l .latest;
+    }
+
+module _ (W A : List ℕ) (at : ℕ) (l : Layout) (ms : List Map) (st : Stands W A 9 at l ms) where
+  pub scope-added : snapWith W A (scopeOn l) ms ≡ addScope (snapWith W A l ms) (scopeAt W at)
+  scope-added =
+      let z-imports : l .imports ≡ 0 = st .upto .imports (lit< tt) in
+      let z-externs : l .externs ≡ 0 = st .upto .externs (lit< tt) in
+      let f : ℕ → Scope = λ j. scopeAt W (scopeBase l + 7 * j) in
+      let e : scopeBase l + 7 * l .scopes ≡ at = (let q = st .place in omega arith) in
+      let p : rows f 0 (l .scopes + 1) ≡ rows f 0 (l .scopes) ++ (scopeAt W at ∷ []) =
+      rows-snoc f (l .scopes) ∙ ap (λ h. rows f 0 (l .scopes) ++ (scopeAt W h ∷ [])) e in
+      let q-imports : recordsOf importAt 6 W (importBase (scopeOn l)) ((scopeOn l) .imports) ≡ recordsOf importAt 6 W (importBase l) (l .imports) = rows-zero _ _ _ z-imports in
+      let q-externs : recordsOf externAt 3 W (externBase (scopeOn l)) ((scopeOn l) .externs) ≡ recordsOf externAt 3 W (externBase l) (l .externs) = rows-zero _ _ _ z-externs in
+      λ i. record { names = namesOf W A (l .names); crates = recordsOf crateAt 1 W (crateBase l) (l .crates); dependencies = recordsOf dependencyAt 3 W (dependencyBase l) (l .dependencies); maps = ms; modules = modulesOf A (l .modules); children = recordsOf childAt 2 W (childBase l) (l .children); preludes = recordsOf preludeAt 2 W (preludeBase l) (l .preludes); definitions = recordsOf definitionAt 3 W (definitionBase l) (l .definitions); scopes = p i; imports = q-imports i; externs = q-externs i }
+
+  pub scope-stands : at + 7 ≤ length W → Stands W A 9 (at + 7) (scopeOn l) ms
+  scope-stands fits =
+      record {
+        place = (let q = st .place in omega arith);
+        within = fits;
+        upto =
+            record {
+              crates = st .upto .crates;
+              dependencies = st .upto .dependencies;
+              maps = st .upto .maps;
+              modules = st .upto .modules;
+              children = st .upto .children;
+              preludes = st .upto .preludes;
+              definitions = st .upto .definitions;
+              scopes = λ h. absurd (lt-irrefl 9 h);
+              imports = st .upto .imports;
+              externs = st .upto .externs;
+            };
+        limited = record { names = st .limited .names; crates = st .limited .crates; modules = st .limited .modules; definitions = st .limited .definitions };
+        heads = st .heads;
+        count = st .count;
+        latest = st .latest;
+        below = st .below;
+        rising = st .rising;
+        inside = st .inside;
+        own = st .own;
+      }
+
+-- one import more
+
+abbrev pub importOn : Layout → Layout
+importOn l =
+    record {
+      text = l .text;
+      names = l .names;
+      crates = l .crates;
+      dependencies = l .dependencies;
+      maps = l .maps;
+      modules = l .modules;
+      children = l .children;
+      preludes = l .preludes;
+      definitions = l .definitions;
+      scopes = l .scopes;
+      imports = l .imports + 1;
+      externs = l .externs;
+      latest = l .latest;
+    }
+
+module _ (W A : List ℕ) (at : ℕ) (l : Layout) (ms : List Map) (st : Stands W A 10 at l ms) where
+  pub import-added : snapWith W A (importOn l) ms ≡ addImport (snapWith W A l ms) (importAt W at)
+  import-added =
+      let z-externs : l .externs ≡ 0 = st .upto .externs (lit< tt) in
+      let f : ℕ → Import = λ j. importAt W (importBase l + 6 * j) in
+      let e : importBase l + 6 * l .imports ≡ at = (let q = st .place in omega arith) in
+      let p : rows f 0 (l .imports + 1) ≡ rows f 0 (l .imports) ++ (importAt W at ∷ []) =
+      rows-snoc f (l .imports) ∙ ap (λ h. rows f 0 (l .imports) ++ (importAt W h ∷ [])) e in
+      let q-externs : recordsOf externAt 3 W (externBase (importOn l)) ((importOn l) .externs) ≡ recordsOf externAt 3 W (externBase l) (l .externs) = rows-zero _ _ _ z-externs in
+      λ i. record { names = namesOf W A (l .names); crates = recordsOf crateAt 1 W (crateBase l) (l .crates); dependencies = recordsOf dependencyAt 3 W (dependencyBase l) (l .dependencies); maps = ms; modules = modulesOf A (l .modules); children = recordsOf childAt 2 W (childBase l) (l .children); preludes = recordsOf preludeAt 2 W (preludeBase l) (l .preludes); definitions = recordsOf definitionAt 3 W (definitionBase l) (l .definitions); scopes = recordsOf scopeAt 7 W (scopeBase l) (l .scopes); imports = p i; externs = q-externs i }
+
+  pub import-stands : at + 6 ≤ length W → Stands W A 10 (at + 6) (importOn l) ms
+  import-stands fits =
+      record {
+        place = (let q = st .place in omega arith);
+        within = fits;
+        upto =
+            record {
+              crates = st .upto .crates;
+              dependencies = st .upto .dependencies;
+              maps = st .upto .maps;
+              modules = st .upto .modules;
+              children = st .upto .children;
+              preludes = st .upto .preludes;
+              definitions = st .upto .definitions;
+              scopes = st .upto .scopes;
+              imports = λ h. absurd (lt-irrefl 10 h);
+              externs = st .upto .externs;
+            };
+        limited = record { names = st .limited .names; crates = st .limited .crates; modules = st .limited .modules; definitions = st .limited .definitions };
+        heads = st .heads;
+        count = st .count;
+        latest = st .latest;
+        below = st .below;
+        rising = st .rising;
+        inside = st .inside;
+        own = st .own;
+      }
+
+-- one extern more
+
+abbrev pub externOn : Layout → Layout
+externOn l =
+    record {
+      text = l .text;
+      names = l .names;
+      crates = l .crates;
+      dependencies = l .dependencies;
+      maps = l .maps;
+      modules = l .modules;
+      children = l .children;
+      preludes = l .preludes;
+      definitions = l .definitions;
+      scopes = l .scopes;
+      imports = l .imports;
+      externs = l .externs + 1;
+      latest = l .latest;
+    }
+
+module _ (W A : List ℕ) (at : ℕ) (l : Layout) (ms : List Map) (st : Stands W A 11 at l ms) where
+  pub extern-added : snapWith W A (externOn l) ms ≡ addExtern (snapWith W A l ms) (externAt W at)
+  extern-added =
+      let f : ℕ → Extern = λ j. externAt W (externBase l + 3 * j) in
+      let e : externBase l + 3 * l .externs ≡ at = (let q = st .place in omega arith) in
+      let p : rows f 0 (l .externs + 1) ≡ rows f 0 (l .externs) ++ (externAt W at ∷ []) =
+      rows-snoc f (l .externs) ∙ ap (λ h. rows f 0 (l .externs) ++ (externAt W h ∷ [])) e in
+      λ i. record { names = namesOf W A (l .names); crates = recordsOf crateAt 1 W (crateBase l) (l .crates); dependencies = recordsOf dependencyAt 3 W (dependencyBase l) (l .dependencies); maps = ms; modules = modulesOf A (l .modules); children = recordsOf childAt 2 W (childBase l) (l .children); preludes = recordsOf preludeAt 2 W (preludeBase l) (l .preludes); definitions = recordsOf definitionAt 3 W (definitionBase l) (l .definitions); scopes = recordsOf scopeAt 7 W (scopeBase l) (l .scopes); imports = recordsOf importAt 6 W (importBase l) (l .imports); externs = p i }
+
+  pub extern-stands : at + 3 ≤ length W → Stands W A 11 (at + 3) (externOn l) ms
+  extern-stands fits =
+      record {
+        place = (let q = st .place in omega arith);
+        within = fits;
+        upto =
+            record {
+              crates = st .upto .crates;
+              dependencies = st .upto .dependencies;
+              maps = st .upto .maps;
+              modules = st .upto .modules;
+              children = st .upto .children;
+              preludes = st .upto .preludes;
+              definitions = st .upto .definitions;
+              scopes = st .upto .scopes;
+              imports = st .upto .imports;
+              externs = λ h. absurd (lt-irrefl 11 h);
+            };
+        limited = record { names = st .limited .names; crates = st .limited .crates; modules = st .limited .modules; definitions = st .limited .definitions };
+        heads = st .heads;
+        count = st .count;
+        latest = st .latest;
+        below = st .below;
+        rising = st .rising;
+        inside = st .inside;
+        own = st .own;
+      }

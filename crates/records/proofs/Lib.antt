@@ -1,0 +1,5 @@
+-- Laws that belong to no one function.
+pub mod Grows
+pub mod Steps
+pub mod Regions
+pub mod ModuleRows

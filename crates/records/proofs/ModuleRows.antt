@@ -1,0 +1,205 @@
+-- The step of a module.
+use Prim.Native.Nat.{ℕ, zero, suc, _+_, _-_, _*_, _≤_, _<_}
+use mathlib.Core.Path.{_≡_, refl, sym, _∙_, ap, ap₂}
+use mathlib.Core.Logic.{_≢_}
+use mathlib.Core.List.{List, [], _∷_, _++_}
+use mathlib.Core.Bool.{Bool, true, false, _&&_, _||_, not}
+use native.Mathlib.Omega.{arith}
+use native.Mathlib.Nat.{lt-irrefl, le-refl}
+use lib.Dec.{eqb, leb, ltb, lit<}
+use lib.ListN.{length, getD, set, length-set}
+use lib.Seq.{getD-set-same, getD-set-other}
+use borrow.Author.Count.{below-more}
+use borrow.Author.Tests.{ltb-true, leb-true, eqb-true}
+use Rattle.snapshot.specs.Lists.{any}
+use Rattle.snapshot.specs.Records.{Map, Module, Snapshot, mapAt, moduleAt, nameAt, crateAt, dependencyAt, childAt, preludeAt, definitionAt, scopeAt, importAt, externAt}
+use Rattle.snapshot.specs.Layouts.{crateBase, dependencyBase, childBase, preludeBase, definitionBase, scopeBase, importBase, externBase, moduleMap, moduleHead, moduleParent, ownMap, moduleRow, namesOf, modulesOf, recordsOf, snapWith}
+use Rattle.snapshot.specs.declared.layout.Layout.{Layout}
+use Rattle.snapshot.proofs.Laws.{rows-zero, rows-put, length-rows, getD-rows}
+use Rattle.rules.specs.Tests.{Counts, countsOf, mapOf, noMap, noModule, isIn, moduleDefined, modulePlaced}
+use Rattle.rules.specs.Steps.{no, on, moduleStep, addModule}
+use Rattle.rules.specs.Stands.{numberOf, countsIn, ownOf, Stands, Answered}
+use Rattle.rules.specs.declared.judge.Step.the-variants.{On}
+use Rattle.rules.proofs.Judged.{number-of, judge-no, judge-on, passes, Passed, counts-same, and-left, and-right}
+use Rattle.rules.proofs.Tabled.{Kept, names-kept, heads-kept}
+
+-- a row of the table, written
+abbrev rowSet : List ℕ → ℕ → ℕ → ℕ → ℕ → List ℕ
+rowSet A m x y z = set (set (set A (2048 + 3 * m) x) (2048 + 3 * m + 1) y) (2048 + 3 * m + 2) z
+
+module _ (A : List ℕ) (m x y z : ℕ) where
+  row-other : (i : ℕ) → i ≢ 2048 + 3 * m → i ≢ 2048 + 3 * m + 1 → i ≢ 2048 + 3 * m + 2 → getD (rowSet A m x y z) i 0 ≡ getD A i 0
+  row-other i p q r = getD-set-other (set (set A (2048 + 3 * m) x) (2048 + 3 * m + 1) y) (2048 + 3 * m + 2) i z 0 r ∙ getD-set-other (set A (2048 + 3 * m) x) (2048 + 3 * m + 1) i y 0 q ∙ getD-set-other A (2048 + 3 * m) i x 0 p
+
+  row-map : 2048 + 3 * m + 2 < length A → moduleMap (rowSet A m x y z) m ≡ x
+  row-map h = getD-set-other (set (set A (2048 + 3 * m) x) (2048 + 3 * m + 1) y) (2048 + 3 * m + 2) (2048 + 3 * m) z 0 (omega arith) ∙ getD-set-other (set A (2048 + 3 * m) x) (2048 + 3 * m + 1) (2048 + 3 * m) y 0 (omega arith) ∙ getD-set-same A (2048 + 3 * m) x 0 (omega arith)
+
+  row-head : 2048 + 3 * m + 2 < length A → moduleHead (rowSet A m x y z) m ≡ y
+  row-head h =
+      getD-set-other (set (set A (2048 + 3 * m) x) (2048 + 3 * m + 1) y) (2048 + 3 * m + 2) (2048 + 3 * m + 1) z 0 (omega arith)
+      ∙ getD-set-same (set A (2048 + 3 * m) x) (2048 + 3 * m + 1) y 0 (simp length-set (omega arith))
+
+  row-parent : 2048 + 3 * m + 2 < length A → moduleParent (rowSet A m x y z) m ≡ z
+  row-parent h = getD-set-same (set (set A (2048 + 3 * m) x) (2048 + 3 * m + 1) y) (2048 + 3 * m + 2) z 0 (simp length-set (omega arith))
+
+module-parent : (n : Counts) (x : Module) → moduleDefined n x ≡ true → x .parent ≤ n .modules
+module-parent n x h = leb-true _ _ (and-right (ltb (x .map) (n .maps)) (leb (x .parent) (n .modules)) h)
+
+latest-map : (s : Snapshot) (x : Module) → modulePlaced s x ≡ true → x .map + 1 ≡ length (s .maps)
+latest-map s x h =
+    let p = eqb (x .map + 1) (length (s .maps)) in
+    let q = any (isIn (x .map)) (s .modules) || eqb (x .parent) 0 in
+    let r = not (any (isIn (x .map)) (s .modules)) || not (eqb (x .parent) 0) in
+    let t = eqb (x .parent) 0 || eqb (mapOf s (x .parent - 1)) (x .map) in
+    eqb-true _ _ (and-left p q (and-left (p && q) r (and-left (p && q && r) t h)))
+
+abbrev pub moduleOn : Layout → Layout
+moduleOn l =
+    record {
+      text = l .text;
+      names = l .names;
+      crates = l .crates;
+      dependencies = l .dependencies;
+      maps = l .maps;
+      modules = l .modules + 1;
+      children = l .children;
+      preludes = l .preludes;
+      definitions = l .definitions;
+      scopes = l .scopes;
+      imports = l .imports;
+      externs = l .externs;
+      latest = l .latest;
+    }
+
+module _ (W A : List ℕ) (at : ℕ) (l : Layout) (ms : List Map) (st : Stands W A 5 at l ms) (room : l .modules < 512) (large : 16384 ≤ length A)
+    {x y z : ℕ} (ex : x ≡ moduleAt W at .map) (ey : y ≡ l .latest) (ez : z ≡ moduleAt W at .parent)
+  where
+    fits-row : 2048 + 3 * l .modules + 2 < length A
+    fits-row = omega arith
+
+    old-map : (k : ℕ) → k < l .modules → moduleMap (rowSet A (l .modules) x y z) k ≡ moduleMap A k
+    old-map k h = row-other A (l .modules) x y z (2048 + 3 * k) (omega arith) (omega arith) (omega arith)
+
+    old-head : (k : ℕ) → k < l .modules → moduleHead (rowSet A (l .modules) x y z) k ≡ moduleHead A k
+    old-head k h = row-other A (l .modules) x y z (2048 + 3 * k + 1) (omega arith) (omega arith) (omega arith)
+
+    old-row : (k : ℕ) → k < l .modules → moduleRow (rowSet A (l .modules) x y z) k ≡ moduleRow A k
+    old-row k h =
+        let p = old-map k h in
+        let q = row-other A (l .modules) x y z (2048 + 3 * k + 2) (omega arith) (omega arith) (omega arith) in
+        λ i. record { map = p i; parent = q i }
+
+    new-row : moduleRow (rowSet A (l .modules) x y z) (l .modules) ≡ moduleAt W at
+    new-row =
+        let p = row-map A (l .modules) x y z fits-row ∙ ex in
+        let q = row-parent A (l .modules) x y z fits-row ∙ ez in
+        λ i. record { map = p i; parent = q i }
+
+    names-stay : Kept A (rowSet A (l .modules) x y z) 0 2048
+    names-stay i p q = row-other A (l .modules) x y z i (omega arith) (omega arith) (omega arith)
+
+    module-added : snapWith W (rowSet A (l .modules) x y z) (moduleOn l) ms ≡ addModule (snapWith W A l ms) (moduleAt W at)
+    module-added =
+        let z-children : l .children ≡ 0 = st .upto .children (lit< tt) in
+        let z-preludes : l .preludes ≡ 0 = st .upto .preludes (lit< tt) in
+        let z-definitions : l .definitions ≡ 0 = st .upto .definitions (lit< tt) in
+        let z-scopes : l .scopes ≡ 0 = st .upto .scopes (lit< tt) in
+        let z-imports : l .imports ≡ 0 = st .upto .imports (lit< tt) in
+        let z-externs : l .externs ≡ 0 = st .upto .externs (lit< tt) in
+        let q-names : namesOf W (rowSet A (l .modules) x y z) (l .names) ≡ namesOf W A (l .names) = names-kept W A (rowSet A (l .modules) x y z) (l .names) (st .limited .names) names-stay in
+        let p : modulesOf (rowSet A (l .modules) x y z) (l .modules + 1) ≡ modulesOf A (l .modules) ++ (moduleAt W at ∷ []) = rows-put (moduleRow A) _ (l .modules) (moduleAt W at) old-row new-row in
+        let q-children : recordsOf childAt 2 W (childBase (moduleOn l)) ((moduleOn l) .children) ≡ recordsOf childAt 2 W (childBase l) (l .children) = rows-zero _ _ _ z-children in
+        let q-preludes : recordsOf preludeAt 2 W (preludeBase (moduleOn l)) ((moduleOn l) .preludes) ≡ recordsOf preludeAt 2 W (preludeBase l) (l .preludes) = rows-zero _ _ _ z-preludes in
+        let q-definitions : recordsOf definitionAt 3 W (definitionBase (moduleOn l)) ((moduleOn l) .definitions) ≡ recordsOf definitionAt 3 W (definitionBase l) (l .definitions) = rows-zero _ _ _ z-definitions in
+        let q-scopes : recordsOf scopeAt 7 W (scopeBase (moduleOn l)) ((moduleOn l) .scopes) ≡ recordsOf scopeAt 7 W (scopeBase l) (l .scopes) = rows-zero _ _ _ z-scopes in
+        let q-imports : recordsOf importAt 6 W (importBase (moduleOn l)) ((moduleOn l) .imports) ≡ recordsOf importAt 6 W (importBase l) (l .imports) = rows-zero _ _ _ z-imports in
+        let q-externs : recordsOf externAt 3 W (externBase (moduleOn l)) ((moduleOn l) .externs) ≡ recordsOf externAt 3 W (externBase l) (l .externs) = rows-zero _ _ _ z-externs in
+        λ i. record { names = q-names i; crates = recordsOf crateAt 1 W (crateBase l) (l .crates); dependencies = recordsOf dependencyAt 3 W (dependencyBase l) (l .dependencies); maps = ms; modules = p i; children = q-children i; preludes = q-preludes i; definitions = q-definitions i; scopes = q-scopes i; imports = q-imports i; externs = q-externs i }
+
+    module _ (last : moduleAt W at .map + 1 ≡ l .maps) where
+      new-map : moduleMap (rowSet A (l .modules) x y z) (l .modules) ≡ l .maps - 1
+      new-map = let p = row-map A (l .modules) x y z fits-row ∙ ex in omega arith
+
+      module-stands : at + 2 ≤ length W → Stands W (rowSet A (l .modules) x y z) 5 (at + 2) (moduleOn l) ms
+      module-stands fits =
+          record {
+            place = (let q = st .place in omega arith);
+            within = fits;
+            upto =
+                record {
+                  crates = st .upto .crates;
+                  dependencies = st .upto .dependencies;
+                  maps = st .upto .maps;
+                  modules = λ h. absurd (omega arith);
+                  children = st .upto .children;
+                  preludes = st .upto .preludes;
+                  definitions = st .upto .definitions;
+                  scopes = st .upto .scopes;
+                  imports = st .upto .imports;
+                  externs = st .upto .externs;
+                };
+            limited = record { names = st .limited .names; crates = st .limited .crates; modules = omega arith; definitions = st .limited .definitions };
+            heads = heads-kept W A (rowSet A (l .modules) x y z) (l .names) (st .limited .names) names-stay (st .heads);
+            count = st .count;
+            latest = st .latest;
+            below = below-more (λ m. moduleMap (rowSet A (l .modules) x y z) m < l .maps) (l .modules) (λ m h. rw (old-map m h) (st .below m h)) (let p = new-map in omega arith);
+            rising = λ i j h k. rises j k i h;
+            inside =
+                below-more (λ m. getD ms (moduleMap (rowSet A (l .modules) x y z) m) noMap ≡ mapAt W (moduleHead (rowSet A (l .modules) x y z) m)) (l .modules)
+                (λ m h. ap (λ k. getD ms k noMap) (old-map m h) ∙ st .inside m h ∙ ap (mapAt W) (sym (old-head m h)))
+                (ap (λ k. getD ms k noMap) new-map ∙ st .latest (omega arith) ∙ ap (mapAt W) (sym (row-head A (l .modules) x y z fits-row ∙ ey)));
+            own = λ c h.
+                (let q = st .limited .crates in
+                row-other A (l .modules) x y z (4096 + c) (omega arith) (omega arith) (omega arith) ∙ st .own c h);
+          }
+        where
+          rises : (j : ℕ) → j < l .modules + 1 → (i : ℕ) → i ≤ j → moduleMap (rowSet A (l .modules) x y z) i ≤ moduleMap (rowSet A (l .modules) x y z) j
+          rises =
+              below-more (λ j. (i : ℕ) → i ≤ j → moduleMap (rowSet A (l .modules) x y z) i ≤ moduleMap (rowSet A (l .modules) x y z) j) (l .modules)
+              (λ j h i p. (let q = old-map i (omega arith) in let r = old-map j h in let s = st .rising i j p h in omega arith))
+              (λ i p.
+              below-more (λ k. moduleMap (rowSet A (l .modules) x y z) k ≤ moduleMap (rowSet A (l .modules) x y z) (l .modules)) (l .modules)
+              (λ k h. (let q = old-map k h in let r = st .below k h in let s = new-map in omega arith)) (le-refl _) i (omega arith))
+
+module _ (W A : List ℕ) (at : ℕ) (l : Layout) (ms : List Map) (st : Stands W A 5 at l ms)
+    {n : ℕ} {b d e : Bool}
+    (j : n ≡ numberOf true b false d e)
+    (eb : b ≡ moduleDefined (countsIn l) (moduleAt W at))
+    (ed : d ≡ (eqb (moduleAt W at .map + 1) (l .maps) && (any (isIn (moduleAt W at .map)) (modulesOf A (l .modules)) || eqb (moduleAt W at .parent) 0) && (not (any (isIn (moduleAt W at .map)) (modulesOf A (l .modules))) || not (eqb (moduleAt W at .parent) 0)) && (eqb (moduleAt W at .parent) 0 || eqb (moduleMap A (moduleAt W at .parent - 1)) (moduleAt W at .map))))
+    (ee : e ≡ ltb (l .modules) 512)
+  where
+    parent-by : (k : ℕ) → k ≤ l .modules → (eqb k 0 || eqb (moduleMap A (k - 1)) (moduleAt W at .map)) ≡ (eqb k 0 || eqb (mapOf (snapWith W A l ms) (k - 1)) (moduleAt W at .map))
+    parent-by zero h = refl
+    parent-by (suc k) h = ap (λ r. eqb (suc k) 0 || eqb (r .map) (moduleAt W at .map)) (sym (getD-rows (moduleRow A) noModule (l .modules) (suc k - 1) (omega arith)))
+
+    module-places : b ≡ true → d ≡ modulePlaced (snapWith W A l ms) (moduleAt W at)
+    module-places h =
+        ed ∙ ap (λ m. (eqb (moduleAt W at .map + 1) m && (any (isIn (moduleAt W at .map)) (modulesOf A (l .modules)) || eqb (moduleAt W at .parent) 0) && (not (any (isIn (moduleAt W at .map)) (modulesOf A (l .modules))) || not (eqb (moduleAt W at .parent) 0)) && (eqb (moduleAt W at .parent) 0 || eqb (moduleMap A (moduleAt W at .parent - 1)) (moduleAt W at .map)))) (sym (st .count))
+        ∙ ap (λ q. (eqb (moduleAt W at .map + 1) (length ms) && (any (isIn (moduleAt W at .map)) (modulesOf A (l .modules)) || eqb (moduleAt W at .parent) 0) && (not (any (isIn (moduleAt W at .map)) (modulesOf A (l .modules))) || not (eqb (moduleAt W at .parent) 0)) && q)) (parent-by (moduleAt W at .parent) (module-parent (countsIn l) (moduleAt W at) (sym eb ∙ h)))
+
+    module-number : n ≡ numberOf true (moduleDefined (countsOf (snapWith W A l ms)) (moduleAt W at)) false (modulePlaced (snapWith W A l ms) (moduleAt W at)) (ltb (length ((snapWith W A l ms) .modules)) 512)
+    module-number =
+        number-of true b false d e true (moduleDefined (countsOf (snapWith W A l ms)) (moduleAt W at)) false (modulePlaced (snapWith W A l ms) (moduleAt W at)) (ltb (length ((snapWith W A l ms) .modules)) 512) j refl (eb ∙ ap (λ m. moduleDefined m (moduleAt W at)) (counts-same W A 5 at l ms st)) (λ h. refl) module-places
+        (ee ∙ ap (λ m. ltb m 512) (sym (length-rows _ (l .modules))))
+
+    pub module-no : (n ≡ 0 → ⊥) → moduleStep (snapWith W A l ms) (moduleAt W at) ≡ no n
+    unfolding moduleStep
+    module-no z = judge-no true (moduleDefined (countsOf (snapWith W A l ms)) (moduleAt W at)) false (modulePlaced (snapWith W A l ms) (moduleAt W at)) (ltb (length ((snapWith W A l ms) .modules)) 512) (addModule (snapWith W A l ms) (moduleAt W at)) module-number z
+
+    module-passes : n ≡ 0 → Passed true (moduleDefined (countsOf (snapWith W A l ms)) (moduleAt W at)) false (modulePlaced (snapWith W A l ms) (moduleAt W at)) (ltb (length ((snapWith W A l ms) .modules)) 512)
+    module-passes z = passes true (moduleDefined (countsOf (snapWith W A l ms)) (moduleAt W at)) false (modulePlaced (snapWith W A l ms) (moduleAt W at)) (ltb (length ((snapWith W A l ms) .modules)) 512) (sym z ∙ module-number)
+
+    module-room : n ≡ 0 → l .modules < 512
+    module-room z = ltb-true (l .modules) 512 (ap (λ m. ltb m 512) (sym (length-rows (moduleRow A) (l .modules))) ∙ module-passes z .room)
+
+    module-last : n ≡ 0 → moduleAt W at .map + 1 ≡ l .maps
+    module-last z = latest-map (snapWith W A l ms) (moduleAt W at) (module-passes z .placed) ∙ st .count
+
+    pub module-on : {x y w : ℕ} → n ≡ 0 → at + 2 ≤ length W → 16384 ≤ length A → x ≡ moduleAt W at .map → y ≡ l .latest → w ≡ moduleAt W at .parent
+        → Answered W (rowSet A (l .modules) x y w) 5 (at + 2) (moduleStep (snapWith W A l ms) (moduleAt W at)) (On (moduleOn l))
+    unfolding moduleStep
+    module-on z fits large ex ey ew = (
+      ms,
+      judge-on true (moduleDefined (countsOf (snapWith W A l ms)) (moduleAt W at)) false (modulePlaced (snapWith W A l ms) (moduleAt W at)) (ltb (length ((snapWith W A l ms) .modules)) 512) (addModule (snapWith W A l ms) (moduleAt W at)) (module-passes z) ∙ ap on (sym (module-added W A at l ms st (module-room z) large ex ey ew)),
+      module-stands W A at l ms st (module-room z) large ex ey ew (module-last z) fits,
+    )

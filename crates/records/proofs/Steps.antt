@@ -1,0 +1,245 @@
+-- The steps of the kinds that have no table.
+use Prim.Native.Nat.{ℕ, _+_, _*_, _≤_, _<_}
+use mathlib.Core.Path.{_≡_, refl, sym, _∙_, ap, ap₂}
+use mathlib.Core.List.{List}
+use mathlib.Core.Bool.{Bool, true, false, _&&_, _||_, not}
+use native.Mathlib.Omega.{arith}
+use lib.ListN.{length, getD}
+use lib.Dec.{eqb, leb, ltb}
+use borrow.Author.Tests.{ltb-true, le-leb, lt-leb, leb-false}
+use Rattle.snapshot.specs.Lists.{rows, any}
+use Rattle.snapshot.specs.Records.{Map, nameAt, dependencyAt, childAt, preludeAt, definitionAt, scopeAt, importAt, externAt}
+use Rattle.snapshot.specs.Layouts.{childBase, preludeBase, definitionBase, scopeBase, externBase, moduleMap, moduleParent, nameHead, snapWith}
+use Rattle.snapshot.specs.declared.layout.Layout.{Layout}
+use Rattle.snapshot.proofs.Laws.{length-rows, getD-rows}
+use Rattle.rules.specs.Tests.{countsOf, noName, isBuiltin, dependencyRange, dependencyDefined, childDefined, sameChild, childPlaced, preludeDefined, samePrelude, definitionRange, definitionDefined, definitionRepeated, definitionPlaced, scopeRange, scopeDefined, sameEntry, nsPlaced, importRange, importDefined, externDefined, sameExtern}
+use Rattle.rules.specs.Steps.{Next, no, on, dependencyStep, childStep, preludeStep, definitionStep, scopeStep, importStep, externStep, addDependency, addChild, addPrelude, addDefinition, addScope, addImport, addExtern}
+use Rattle.rules.specs.Stands.{numberOf, sameBy, countsIn, Stands, Answered}
+use Rattle.rules.specs.declared.judge.Step.the-variants.{No, On}
+use Rattle.records.proofs.Grows.{dependencyOn, dependency-added, dependency-stands, childOn, child-added, child-stands, preludeOn, prelude-added, prelude-stands, definitionOn, definition-added, definition-stands, scopeOn, scope-added, scope-stands, importOn, import-added, import-stands, externOn, extern-added, extern-stands}
+use Rattle.rules.proofs.Judged.{number-of, judge-no, judge-on, passes, counts-same, child-again, prelude-again, definition-again, scope-again, extern-again, scope-definition, import-definition, ns-same, child-same, parent-same}
+
+-- the names of a builtin definition that is in range
+builtin-same : (W A : List ℕ) (names first : ℕ) → (leb names first || isBuiltin (nameAt W (nameHead A first))) ≡ (leb names first || isBuiltin (getD (rows (λ k. nameAt W (nameHead A k)) 0 names) first noName))
+builtin-same W A names first = by (leb names first) refl
+  where
+    by : (b : Bool) → leb names first ≡ b → (leb names first || isBuiltin (nameAt W (nameHead A first))) ≡ (leb names first || isBuiltin (getD (rows (λ k. nameAt W (nameHead A k)) 0 names) first noName))
+    by true e = rw e
+    by false e = ap (λ x. leb names first || isBuiltin x) (sym (getD-rows (λ k. nameAt W (nameHead A k)) noName names first (leb-false _ _ e)))
+
+module _ (W A : List ℕ) (at : ℕ) (l : Layout) (ms : List Map) (st : Stands W A 3 at l ms)
+    {n : ℕ} {a b : Bool}
+    (j : n ≡ numberOf a b false true true)
+    (ea : a ≡ dependencyRange (dependencyAt W at))
+    (eb : b ≡ dependencyDefined (countsIn l) (dependencyAt W at))
+  where
+    dependency-number : n ≡ numberOf (dependencyRange (dependencyAt W at)) (dependencyDefined (countsOf (snapWith W A l ms)) (dependencyAt W at)) false true true
+    dependency-number =
+        number-of a b false true true (dependencyRange (dependencyAt W at)) (dependencyDefined (countsOf (snapWith W A l ms)) (dependencyAt W at)) false true true j
+        ea
+        (eb ∙ ap (λ m. dependencyDefined m (dependencyAt W at)) (counts-same W A 3 at l ms st))
+        (λ h. refl)
+        (λ h. refl)
+        refl
+
+    pub dependency-no : (n ≡ 0 → ⊥) → dependencyStep (snapWith W A l ms) (dependencyAt W at) ≡ no n
+    unfolding dependencyStep
+    dependency-no z = judge-no (dependencyRange (dependencyAt W at)) (dependencyDefined (countsOf (snapWith W A l ms)) (dependencyAt W at)) false true true (addDependency (snapWith W A l ms) (dependencyAt W at)) dependency-number z
+
+    pub dependency-on : n ≡ 0 → at + 3 ≤ length W → Answered W A 3 (at + 3) (dependencyStep (snapWith W A l ms) (dependencyAt W at)) (On (dependencyOn l))
+    unfolding dependencyStep
+    dependency-on z fits = (
+      ms,
+      judge-on (dependencyRange (dependencyAt W at)) (dependencyDefined (countsOf (snapWith W A l ms)) (dependencyAt W at)) false true true (addDependency (snapWith W A l ms) (dependencyAt W at)) (passes (dependencyRange (dependencyAt W at)) (dependencyDefined (countsOf (snapWith W A l ms)) (dependencyAt W at)) false true true (sym z ∙ dependency-number)) ∙ ap on (sym (dependency-added W A at l ms st)),
+      dependency-stands W A at l ms st fits,
+    )
+
+module _ (W A : List ℕ) (at : ℕ) (l : Layout) (ms : List Map) (st : Stands W A 6 at l ms)
+    {n : ℕ} {b c d : Bool}
+    {base : ℕ}
+    (j : n ≡ numberOf true b c d true)
+    (eb : b ≡ childDefined (countsIn l) (childAt W at))
+    (es : base ≡ childBase l)
+    (ec : c ≡ any (sameBy W false 1 at) (rows (λ k. base + 2 * k) 0 (l .children)))
+    (ed : d ≡ (eqb (moduleMap A (childAt W at .child)) (moduleMap A (childAt W at .owner)) && eqb (moduleParent A (childAt W at .child)) (childAt W at .owner + 1)))
+  where
+    child-number : n ≡ numberOf true (childDefined (countsOf (snapWith W A l ms)) (childAt W at)) (any (sameChild (childAt W at)) ((snapWith W A l ms) .children)) (childPlaced (snapWith W A l ms) (childAt W at)) true
+    child-number =
+        number-of true b c d true true (childDefined (countsOf (snapWith W A l ms)) (childAt W at)) (any (sameChild (childAt W at)) ((snapWith W A l ms) .children)) (childPlaced (snapWith W A l ms) (childAt W at)) true j
+        refl
+        (eb ∙ ap (λ m. childDefined m (childAt W at)) (counts-same W A 6 at l ms st))
+        (λ h. ec ∙ ap (λ m. any (sameBy W false 1 at) (rows (λ k. m + 2 * k) 0 (l .children))) es ∙ child-again W at (childBase l) (l .children))
+        (λ h. ed ∙ child-same W A l ms (childAt W at) (sym eb ∙ h))
+        refl
+
+    pub child-no : (n ≡ 0 → ⊥) → childStep (snapWith W A l ms) (childAt W at) ≡ no n
+    unfolding childStep
+    child-no z = judge-no true (childDefined (countsOf (snapWith W A l ms)) (childAt W at)) (any (sameChild (childAt W at)) ((snapWith W A l ms) .children)) (childPlaced (snapWith W A l ms) (childAt W at)) true (addChild (snapWith W A l ms) (childAt W at)) child-number z
+
+    pub child-on : n ≡ 0 → at + 2 ≤ length W → Answered W A 6 (at + 2) (childStep (snapWith W A l ms) (childAt W at)) (On (childOn l))
+    unfolding childStep
+    child-on z fits = (
+      ms,
+      judge-on true (childDefined (countsOf (snapWith W A l ms)) (childAt W at)) (any (sameChild (childAt W at)) ((snapWith W A l ms) .children)) (childPlaced (snapWith W A l ms) (childAt W at)) true (addChild (snapWith W A l ms) (childAt W at)) (passes true (childDefined (countsOf (snapWith W A l ms)) (childAt W at)) (any (sameChild (childAt W at)) ((snapWith W A l ms) .children)) (childPlaced (snapWith W A l ms) (childAt W at)) true (sym z ∙ child-number)) ∙ ap on (sym (child-added W A at l ms st)),
+      child-stands W A at l ms st fits,
+    )
+
+module _ (W A : List ℕ) (at : ℕ) (l : Layout) (ms : List Map) (st : Stands W A 7 at l ms)
+    {n : ℕ} {b c : Bool}
+    {base : ℕ}
+    (j : n ≡ numberOf true b c true true)
+    (eb : b ≡ preludeDefined (countsIn l) (preludeAt W at))
+    (es : base ≡ preludeBase l)
+    (ec : c ≡ any (sameBy W true 0 at) (rows (λ k. base + 2 * k) 0 (l .preludes)))
+  where
+    prelude-number : n ≡ numberOf true (preludeDefined (countsOf (snapWith W A l ms)) (preludeAt W at)) (any (samePrelude (preludeAt W at)) ((snapWith W A l ms) .preludes)) true true
+    prelude-number =
+        number-of true b c true true true (preludeDefined (countsOf (snapWith W A l ms)) (preludeAt W at)) (any (samePrelude (preludeAt W at)) ((snapWith W A l ms) .preludes)) true true j
+        refl
+        (eb ∙ ap (λ m. preludeDefined m (preludeAt W at)) (counts-same W A 7 at l ms st))
+        (λ h. ec ∙ ap (λ m. any (sameBy W true 0 at) (rows (λ k. m + 2 * k) 0 (l .preludes))) es ∙ prelude-again W at (preludeBase l) (l .preludes))
+        (λ h. refl)
+        refl
+
+    pub prelude-no : (n ≡ 0 → ⊥) → preludeStep (snapWith W A l ms) (preludeAt W at) ≡ no n
+    unfolding preludeStep
+    prelude-no z = judge-no true (preludeDefined (countsOf (snapWith W A l ms)) (preludeAt W at)) (any (samePrelude (preludeAt W at)) ((snapWith W A l ms) .preludes)) true true (addPrelude (snapWith W A l ms) (preludeAt W at)) prelude-number z
+
+    pub prelude-on : n ≡ 0 → at + 2 ≤ length W → Answered W A 7 (at + 2) (preludeStep (snapWith W A l ms) (preludeAt W at)) (On (preludeOn l))
+    unfolding preludeStep
+    prelude-on z fits = (
+      ms,
+      judge-on true (preludeDefined (countsOf (snapWith W A l ms)) (preludeAt W at)) (any (samePrelude (preludeAt W at)) ((snapWith W A l ms) .preludes)) true true (addPrelude (snapWith W A l ms) (preludeAt W at)) (passes true (preludeDefined (countsOf (snapWith W A l ms)) (preludeAt W at)) (any (samePrelude (preludeAt W at)) ((snapWith W A l ms) .preludes)) true true (sym z ∙ prelude-number)) ∙ ap on (sym (prelude-added W A at l ms st)),
+      prelude-stands W A at l ms st fits,
+    )
+
+module _ (W A : List ℕ) (at : ℕ) (l : Layout) (ms : List Map) (st : Stands W A 8 at l ms)
+    {n : ℕ} {a b c d : Bool}
+    {base : ℕ}
+    {e : Bool}
+    {kind : ℕ}
+    (j : n ≡ numberOf a b ((eqb kind 1 || eqb kind 3) && c) d e)
+    (ea : a ≡ (leb 1 (definitionAt W at .kind) && leb (definitionAt W at .kind) 5 && (eqb (definitionAt W at .kind) 2 || eqb (definitionAt W at .second) 0) && (not (eqb (definitionAt W at .kind) 3) || leb (l .names) (definitionAt W at .first) || isBuiltin (nameAt W (nameHead A (definitionAt W at .first))))))
+    (eb : b ≡ definitionDefined (countsIn l) (definitionAt W at))
+    (es : base ≡ definitionBase l)
+    (ec : c ≡ any (sameBy W true 1 at) (rows (λ k. base + 3 * k) 0 (l .definitions)))
+    (ed : d ≡ (not (eqb (definitionAt W at .kind) 2) || eqb (definitionAt W (definitionBase l + 3 * definitionAt W at .first) .kind) 4))
+    (ee : e ≡ ltb (l .definitions) 2048)
+    (ek : kind ≡ definitionAt W at .kind)
+  where
+    range-same : (v : Bool) → (not v || leb (l .names) (definitionAt W at .first) || isBuiltin (nameAt W (nameHead A (definitionAt W at .first)))) ≡ (not v || leb (l .names) (definitionAt W at .first) || isBuiltin (getD (snapWith W A l ms .names) (definitionAt W at .first) noName))
+    range-same true = builtin-same W A (l .names) (definitionAt W at .first)
+    range-same false = refl
+
+    definition-number : n ≡ numberOf (definitionRange (snapWith W A l ms) (definitionAt W at)) (definitionDefined (countsOf (snapWith W A l ms)) (definitionAt W at)) (definitionRepeated (snapWith W A l ms) (definitionAt W at)) (definitionPlaced (snapWith W A l ms) (definitionAt W at)) (ltb (length ((snapWith W A l ms) .definitions)) 2048)
+    definition-number =
+        number-of a b ((eqb kind 1 || eqb kind 3) && c) d e (definitionRange (snapWith W A l ms) (definitionAt W at)) (definitionDefined (countsOf (snapWith W A l ms)) (definitionAt W at)) (definitionRepeated (snapWith W A l ms) (definitionAt W at)) (definitionPlaced (snapWith W A l ms) (definitionAt W at)) (ltb (length ((snapWith W A l ms) .definitions)) 2048) j
+        (ea ∙ ap (λ x. leb 1 (definitionAt W at .kind) && leb (definitionAt W at .kind) 5 && (eqb (definitionAt W at .kind) 2 || eqb (definitionAt W at .second) 0) && x) (range-same (eqb (definitionAt W at .kind) 3)) ∙ ap (λ m. leb 1 (definitionAt W at .kind) && leb (definitionAt W at .kind) 5 && (eqb (definitionAt W at .kind) 2 || eqb (definitionAt W at .second) 0) && (not (eqb (definitionAt W at .kind) 3) || leb m (definitionAt W at .first) || isBuiltin (getD (snapWith W A l ms .names) (definitionAt W at .first) noName))) (sym (length-rows _ (l .names))))
+        (eb ∙ ap (λ m. definitionDefined m (definitionAt W at)) (counts-same W A 8 at l ms st))
+        (λ h. ap₂ (λ k x. (eqb k 1 || eqb k 3) && x) ek (ec ∙ ap (λ m. any (sameBy W true 1 at) (rows (λ k. m + 3 * k) 0 (l .definitions))) es ∙ definition-again W at (definitionBase l) (l .definitions)))
+        (λ h. ed ∙ parent-same W A l ms (definitionAt W at) (sym eb ∙ h))
+        (ee ∙ ap (λ m. ltb m 2048) (sym (length-rows _ (l .definitions))))
+
+    pub definition-no : (n ≡ 0 → ⊥) → definitionStep (snapWith W A l ms) (definitionAt W at) ≡ no n
+    unfolding definitionStep
+    definition-no z = judge-no (definitionRange (snapWith W A l ms) (definitionAt W at)) (definitionDefined (countsOf (snapWith W A l ms)) (definitionAt W at)) (definitionRepeated (snapWith W A l ms) (definitionAt W at)) (definitionPlaced (snapWith W A l ms) (definitionAt W at)) (ltb (length ((snapWith W A l ms) .definitions)) 2048) (addDefinition (snapWith W A l ms) (definitionAt W at)) definition-number z
+
+    pub definition-on : n ≡ 0 → at + 3 ≤ length W → Answered W A 8 (at + 3) (definitionStep (snapWith W A l ms) (definitionAt W at)) (On (definitionOn l))
+    unfolding definitionStep
+    definition-on z fits = (
+      ms,
+      judge-on (definitionRange (snapWith W A l ms) (definitionAt W at)) (definitionDefined (countsOf (snapWith W A l ms)) (definitionAt W at)) (definitionRepeated (snapWith W A l ms) (definitionAt W at)) (definitionPlaced (snapWith W A l ms) (definitionAt W at)) (ltb (length ((snapWith W A l ms) .definitions)) 2048) (addDefinition (snapWith W A l ms) (definitionAt W at)) (passes (definitionRange (snapWith W A l ms) (definitionAt W at)) (definitionDefined (countsOf (snapWith W A l ms)) (definitionAt W at)) (definitionRepeated (snapWith W A l ms) (definitionAt W at)) (definitionPlaced (snapWith W A l ms) (definitionAt W at)) (ltb (length ((snapWith W A l ms) .definitions)) 2048) (sym z ∙ definition-number)) ∙ ap on (sym (definition-added W A at l ms st)),
+      definition-stands W A at l ms st fits (ltb-true (l .definitions) 2048 (ap (λ m. ltb m 2048) (sym (length-rows (λ j. definitionAt W (definitionBase l + 3 * j)) (l .definitions))) ∙ passes (definitionRange (snapWith W A l ms) (definitionAt W at)) (definitionDefined (countsOf (snapWith W A l ms)) (definitionAt W at)) (definitionRepeated (snapWith W A l ms) (definitionAt W at)) (definitionPlaced (snapWith W A l ms) (definitionAt W at)) (ltb (length ((snapWith W A l ms) .definitions)) 2048) (sym z ∙ definition-number) .room)),
+    )
+
+module _ (W A : List ℕ) (at : ℕ) (l : Layout) (ms : List Map) (st : Stands W A 9 at l ms)
+    {n : ℕ} {a b c d : Bool}
+    {base : ℕ}
+    {ns def : ℕ}
+    (j : n ≡ numberOf a b c d true)
+    (ea : a ≡ scopeRange (scopeAt W at))
+    (eb : b ≡ scopeDefined (countsIn l) (scopeAt W at))
+    (es : base ≡ scopeBase l)
+    (ec : c ≡ any (sameBy W true 2 at) (rows (λ k. base + 7 * k) 0 (l .scopes)))
+    (en : ns ≡ scopeAt W at .ns) (ef : def ≡ scopeAt W at .definition)
+    (ed : d ≡ (not (eqb ns 2) || eqb (definitionAt W (definitionBase l + 3 * def) .kind) 5))
+  where
+    scope-number : n ≡ numberOf (scopeRange (scopeAt W at)) (scopeDefined (countsOf (snapWith W A l ms)) (scopeAt W at)) (any (sameEntry (scopeAt W at)) ((snapWith W A l ms) .scopes)) (nsPlaced (snapWith W A l ms) (scopeAt W at .ns) (scopeAt W at .definition)) true
+    scope-number =
+        number-of a b c d true (scopeRange (scopeAt W at)) (scopeDefined (countsOf (snapWith W A l ms)) (scopeAt W at)) (any (sameEntry (scopeAt W at)) ((snapWith W A l ms) .scopes)) (nsPlaced (snapWith W A l ms) (scopeAt W at .ns) (scopeAt W at .definition)) true j
+        ea
+        (eb ∙ ap (λ m. scopeDefined m (scopeAt W at)) (counts-same W A 9 at l ms st))
+        (λ h. ec ∙ ap (λ m. any (sameBy W true 2 at) (rows (λ k. m + 7 * k) 0 (l .scopes))) es ∙ scope-again W at (scopeBase l) (l .scopes))
+        (λ h. ed ∙ ap₂ (λ m f. not (eqb m 2) || eqb (definitionAt W (definitionBase l + 3 * f) .kind) 5) en ef ∙ ns-same W A l ms (scopeAt W at .ns) (scopeAt W at .definition) (scope-definition (countsIn l) (scopeAt W at) (sym eb ∙ h)))
+        refl
+
+    pub scope-no : (n ≡ 0 → ⊥) → scopeStep (snapWith W A l ms) (scopeAt W at) ≡ no n
+    unfolding scopeStep
+    scope-no z = judge-no (scopeRange (scopeAt W at)) (scopeDefined (countsOf (snapWith W A l ms)) (scopeAt W at)) (any (sameEntry (scopeAt W at)) ((snapWith W A l ms) .scopes)) (nsPlaced (snapWith W A l ms) (scopeAt W at .ns) (scopeAt W at .definition)) true (addScope (snapWith W A l ms) (scopeAt W at)) scope-number z
+
+    pub scope-on : n ≡ 0 → at + 7 ≤ length W → Answered W A 9 (at + 7) (scopeStep (snapWith W A l ms) (scopeAt W at)) (On (scopeOn l))
+    unfolding scopeStep
+    scope-on z fits = (
+      ms,
+      judge-on (scopeRange (scopeAt W at)) (scopeDefined (countsOf (snapWith W A l ms)) (scopeAt W at)) (any (sameEntry (scopeAt W at)) ((snapWith W A l ms) .scopes)) (nsPlaced (snapWith W A l ms) (scopeAt W at .ns) (scopeAt W at .definition)) true (addScope (snapWith W A l ms) (scopeAt W at)) (passes (scopeRange (scopeAt W at)) (scopeDefined (countsOf (snapWith W A l ms)) (scopeAt W at)) (any (sameEntry (scopeAt W at)) ((snapWith W A l ms) .scopes)) (nsPlaced (snapWith W A l ms) (scopeAt W at .ns) (scopeAt W at .definition)) true (sym z ∙ scope-number)) ∙ ap on (sym (scope-added W A at l ms st)),
+      scope-stands W A at l ms st fits,
+    )
+
+module _ (W A : List ℕ) (at : ℕ) (l : Layout) (ms : List Map) (st : Stands W A 10 at l ms)
+    {n : ℕ} {a b d : Bool}
+    {ns def : ℕ}
+    (j : n ≡ numberOf a b false d true)
+    (ea : a ≡ importRange (importAt W at))
+    (eb : b ≡ importDefined (countsIn l) (importAt W at))
+    (en : ns ≡ importAt W at .ns) (ef : def ≡ importAt W at .definition)
+    (ed : d ≡ (not (eqb ns 2) || eqb (definitionAt W (definitionBase l + 3 * def) .kind) 5))
+  where
+    import-number : n ≡ numberOf (importRange (importAt W at)) (importDefined (countsOf (snapWith W A l ms)) (importAt W at)) false (nsPlaced (snapWith W A l ms) (importAt W at .ns) (importAt W at .definition)) true
+    import-number =
+        number-of a b false d true (importRange (importAt W at)) (importDefined (countsOf (snapWith W A l ms)) (importAt W at)) false (nsPlaced (snapWith W A l ms) (importAt W at .ns) (importAt W at .definition)) true j
+        ea
+        (eb ∙ ap (λ m. importDefined m (importAt W at)) (counts-same W A 10 at l ms st))
+        (λ h. refl)
+        (λ h. ed ∙ ap₂ (λ m f. not (eqb m 2) || eqb (definitionAt W (definitionBase l + 3 * f) .kind) 5) en ef ∙ ns-same W A l ms (importAt W at .ns) (importAt W at .definition) (import-definition (countsIn l) (importAt W at) (sym eb ∙ h)))
+        refl
+
+    pub import-no : (n ≡ 0 → ⊥) → importStep (snapWith W A l ms) (importAt W at) ≡ no n
+    unfolding importStep
+    import-no z = judge-no (importRange (importAt W at)) (importDefined (countsOf (snapWith W A l ms)) (importAt W at)) false (nsPlaced (snapWith W A l ms) (importAt W at .ns) (importAt W at .definition)) true (addImport (snapWith W A l ms) (importAt W at)) import-number z
+
+    pub import-on : n ≡ 0 → at + 6 ≤ length W → Answered W A 10 (at + 6) (importStep (snapWith W A l ms) (importAt W at)) (On (importOn l))
+    unfolding importStep
+    import-on z fits = (
+      ms,
+      judge-on (importRange (importAt W at)) (importDefined (countsOf (snapWith W A l ms)) (importAt W at)) false (nsPlaced (snapWith W A l ms) (importAt W at .ns) (importAt W at .definition)) true (addImport (snapWith W A l ms) (importAt W at)) (passes (importRange (importAt W at)) (importDefined (countsOf (snapWith W A l ms)) (importAt W at)) false (nsPlaced (snapWith W A l ms) (importAt W at .ns) (importAt W at .definition)) true (sym z ∙ import-number)) ∙ ap on (sym (import-added W A at l ms st)),
+      import-stands W A at l ms st fits,
+    )
+
+module _ (W A : List ℕ) (at : ℕ) (l : Layout) (ms : List Map) (st : Stands W A 11 at l ms)
+    {n : ℕ} {b c : Bool}
+    {base : ℕ}
+    (j : n ≡ numberOf true b c true true)
+    (eb : b ≡ externDefined (countsIn l) (externAt W at))
+    (es : base ≡ externBase l)
+    (ec : c ≡ any (sameBy W true 1 at) (rows (λ k. base + 3 * k) 0 (l .externs)))
+  where
+    extern-number : n ≡ numberOf true (externDefined (countsOf (snapWith W A l ms)) (externAt W at)) (any (sameExtern (externAt W at)) ((snapWith W A l ms) .externs)) true true
+    extern-number =
+        number-of true b c true true true (externDefined (countsOf (snapWith W A l ms)) (externAt W at)) (any (sameExtern (externAt W at)) ((snapWith W A l ms) .externs)) true true j
+        refl
+        (eb ∙ ap (λ m. externDefined m (externAt W at)) (counts-same W A 11 at l ms st))
+        (λ h. ec ∙ ap (λ m. any (sameBy W true 1 at) (rows (λ k. m + 3 * k) 0 (l .externs))) es ∙ extern-again W at (externBase l) (l .externs))
+        (λ h. refl)
+        refl
+
+    pub extern-no : (n ≡ 0 → ⊥) → externStep (snapWith W A l ms) (externAt W at) ≡ no n
+    unfolding externStep
+    extern-no z = judge-no true (externDefined (countsOf (snapWith W A l ms)) (externAt W at)) (any (sameExtern (externAt W at)) ((snapWith W A l ms) .externs)) true true (addExtern (snapWith W A l ms) (externAt W at)) extern-number z
+
+    pub extern-on : n ≡ 0 → at + 3 ≤ length W → Answered W A 11 (at + 3) (externStep (snapWith W A l ms) (externAt W at)) (On (externOn l))
+    unfolding externStep
+    extern-on z fits = (
+      ms,
+      judge-on true (externDefined (countsOf (snapWith W A l ms)) (externAt W at)) (any (sameExtern (externAt W at)) ((snapWith W A l ms) .externs)) true true (addExtern (snapWith W A l ms) (externAt W at)) (passes true (externDefined (countsOf (snapWith W A l ms)) (externAt W at)) (any (sameExtern (externAt W at)) ((snapWith W A l ms) .externs)) true true (sym z ∙ extern-number)) ∙ ap on (sym (extern-added W A at l ms st)),
+      extern-stands W A at l ms st fits,
+    )

@@ -1,0 +1,57 @@
+use borrow.Author.Needs.{needs}
+use mathlib.Core.Path.{_≡_, refl, sym, ap, _∙_}
+use denote.Ref.{now}
+use native.Mathlib.Omega.{arith}
+use Rattle.rules.specs.Steps.{externStep}
+use Rattle.records.proofs.Steps.{extern-no, extern-on}
+use Rattle.records.proofs.externs.step.Statement.{statement}
+use Rattle.records.proofs.externs.step.Tie as tie
+
+extern-base-requires : tie.Need-extern-base-requires
+extern-base-requires c κs = search needs
+
+repeated-requires : tie.Need-repeated-requires
+repeated-requires c κs = search needs
+
+defined-requires : tie.Need-defined-requires
+defined-requires c κs = search needs
+
+judge-requires : tie.Need-judge-requires
+judge-requires c κs = search needs
+
+returns : tie.Need-returns
+returns c ms st =
+    let k = c .before in
+    let s = k .before .before .before .before .before .before in
+    extern-no (now (s .args .words)) (now (s .args .area)) (s .args .at) (s .args .l) ms st
+    (k .judge .ensures)
+    (k .before .defined .ensures)
+    (k .before .before .before .extern-base .ensures)
+    (k .before .before .repeated .ensures)
+    (c .if1 .taken)
+
+add-m : tie.Need-add-m
+add-m c = search needs
+
+returns-2 : tie.Need-returns-2
+returns-2 c ms st =
+    let k = c .before .before in
+    let s = k .before .before .before .before .before .before in
+    extern-on (now (s .args .words)) (now (s .args .area)) (s .args .at) (s .args .l) ms st
+    (k .judge .ensures)
+    (k .before .defined .ensures)
+    (k .before .before .before .extern-base .ensures)
+    (k .before .before .repeated .ensures)
+    (c .before .if1 .left) (s .pre .fits)
+
+pub step-spec : {M : Type 1} → statement M
+step-spec =
+    tie.close
+    (tie.spec
+    extern-base-requires
+    repeated-requires
+    defined-requires
+    judge-requires
+    returns
+    add-m
+    returns-2)

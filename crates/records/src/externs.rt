@@ -1,0 +1,40 @@
+//! Kind 11: a name of a crate's extern prelude.
+ghost use mathlib.Core.Path.{_≡_};
+ghost use mathlib.Core.List.{List};
+ghost use Prim.Native.Nat.{_+_};
+ghost use Rattle.snapshot.specs.Records.{Map, externAt};
+ghost use Rattle.snapshot.specs.Layouts.{snapWith};
+ghost use Rattle.rules.specs.Tests.{externDefined, sameExtern};
+ghost use Rattle.rules.specs.Steps.{externStep};
+ghost use Rattle.rules.specs.Stands.{Ready, Stands, Answered, countsIn};
+use crate::repeats::repeated;
+use rules::judge::Step;
+use rules::judge::judge;
+use snapshot::layout::Layout;
+use snapshot::record::extern_name;
+use snapshot::record::extern_owner;
+use snapshot::record::extern_target;
+
+fn defined(words: &[u32], l: Layout, at: usize) -> bool
+    ensures { λ r. ⌜ r ≡ externDefined (countsIn l) (externAt (now (words .entry)) at) ⌝ }
+{
+    let owner = extern_owner(words, at);
+    let name = extern_name(words, at);
+    let target = extern_target(words, at);
+    (owner.0 < l.crates) & (name.0 < l.names) & (target.0 < l.modules)
+}
+
+/// An extern.
+pub fn step(words: &[u32], area: &[u32], l: Layout, at: usize) -> Step
+    requires { ⌜ Ready (now words) (now area) l at (at + 3) ⌝ }
+    ensures { λ r. ⌜ ((ms : List Map) → Stands (now (words .entry)) (now (area .entry)) 11 at l ms → Answered (now (words .entry)) (now (area .entry)) 11 (at + 3) (externStep (snapWith (now (words .entry)) (now (area .entry)) l ms) (externAt (now (words .entry)) at)) r) ⌝ }
+{
+    let old = repeated(words, true, 1, at, l.extern_base(), 3, l.externs);
+    let n = judge(true, defined(words, l, at), old, true, true);
+    if n != 0 {
+        return Step::No(n);
+    }
+    let mut m = l;
+    m.externs = l.externs + 1;
+    Step::On(m)
+}

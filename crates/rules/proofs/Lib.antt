@@ -1,0 +1,4 @@
+-- Laws that belong to no one function.
+pub mod Laws
+pub mod Judged
+pub mod Tabled

@@ -1,0 +1,4 @@
+pub mod Tests
+pub mod Builtins
+pub mod Steps
+pub mod Stands

@@ -1,0 +1,3 @@
+//! What is asked of each record, and the step of a name.
+pub mod judge;
+pub mod names;
