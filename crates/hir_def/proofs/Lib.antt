@@ -6,9 +6,3 @@ pub mod Fits
 pub mod Reading
 pub mod Climbs
 pub mod Ancestors
-pub mod Ways
-pub mod Compared
-pub mod Private
-pub mod Privately
-pub mod Differences
-pub mod Roots

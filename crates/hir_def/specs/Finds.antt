@@ -1,18 +1,13 @@
 -- Finding in lists.
-use Prim.Native.Nat.{ℕ, _+_}
 use mathlib.Core.List.{List, [], _∷_}
 use mathlib.Core.Bool.{Bool, true, false}
 use mathlib.Core.Option.{Option, none, some}
+unfoldable pub use Rattle.module_tree.specs.Modules.{placeOf}
 
 -- the first element that passes the test
 unfoldable pub firstOf : {A : Type 0} → (A → Bool) → List A → Option A
 firstOf p [] = none
 firstOf p (x ∷ xs) = elim (p x) [ true ↦ some x | false ↦ firstOf p xs ]
-
--- the place of the first element that passes the test, in a list whose first place is k
-unfoldable pub placeOf : {A : Type 0} → (A → Bool) → ℕ → List A → ℕ
-placeOf p k [] = k
-placeOf p k (x ∷ xs) = elim (p x) [ true ↦ k | false ↦ placeOf p (k + 1) xs ]
 
 -- the elements that pass the test, in order
 unfoldable pub select : {A : Type 0} → (A → Bool) → List A → List A

@@ -1,13 +1,13 @@
--- Modules, crates and items of a snapshot (lib.rs). "+1" means number plus one, 0 for none.
-use Prim.Native.Nat.{ℕ, zero, suc, _+_, _/_, _%_}
-use mathlib.Core.List.{List, [], _∷_}
+-- Items of a snapshot (lib.rs), and its modules from the crate below. "+1" means number plus one, 0 for none.
+use Prim.Native.Nat.{ℕ, _+_}
 use mathlib.Core.Bool.{Bool, true, false, _&&_, not}
 use lib.Dec.{eqb}
 use lib.ListN.{getD}
-use Rattle.snapshot.specs.Records.{Snapshot, Crate, Map, Module, Definition}
-use Rattle.hir_def.specs.Finds.{placeOf}
+use Rattle.snapshot.specs.Records.{Snapshot, Crate, Definition}
 use Rattle.hir_def.specs.declared.Item.{Item}
 use Rattle.hir_def.specs.declared.Item.the-variants.{Mod, Def}
+pub use Rattle.module_tree.specs.Modules.{mapNo, crateOf, parentOf, blockOf, inBlock}
+unfoldable pub use Rattle.module_tree.specs.Modules.{moduleOf, mapOf, rootOf, ownMap, crateRoot, orElse, containing}
 
 -- namespaces, with values between them
 
@@ -31,56 +31,11 @@ builtinKind = 3
 abbrev pub macroKind : ℕ
 macroKind = 5
 
-unfoldable pub moduleOf : Snapshot → ℕ → Module
-moduleOf s m = getD (s .modules) m (record { map = 0; parent = 0 })
-
-unfoldable pub mapOf : Snapshot → ℕ → Map
-mapOf s k = getD (s .maps) k (record { crate = 0; block = 0; noStd = 0 })
-
 unfoldable pub definitionOf : Snapshot → ℕ → Definition
 definitionOf s d = getD (s .definitions) d (record { kind = 0; first = 0; second = 0 })
 
 unfoldable pub crateData : Snapshot → ℕ → Crate
 crateData s c = getD (s .crates) c (record { origin = 0; noStd = 0 })
-
--- `ModuleId::def_map`
-abbrev pub mapNo : Snapshot → ℕ → ℕ
-mapNo s m = moduleOf s m .map
-
--- `ModuleId::krate`
-abbrev pub crateOf : Snapshot → ℕ → ℕ
-crateOf s m = mapOf s (mapNo s m) .crate
-
--- the parent module +1, in the module's own map
-abbrev pub parentOf : Snapshot → ℕ → ℕ
-parentOf s m = moduleOf s m .parent
-
--- the parent module +1 of the block that the module's map belongs to; 0 in a crate's own map
-abbrev pub blockOf : Snapshot → ℕ → ℕ
-blockOf s m = mapOf s (mapNo s m) .block
-
-abbrev pub inBlock : Snapshot → ℕ → Bool
-inBlock s m = not (eqb (blockOf s m) 0)
-
--- the root of a map: its first module
-unfoldable pub rootOf : Snapshot → ℕ → ℕ
-rootOf s k = placeOf (λ x. eqb (x .map) k) 0 (s .modules)
-
--- a crate's own map
-unfoldable pub ownMap : Snapshot → ℕ → ℕ
-ownMap s c = placeOf (λ x. eqb (x .crate) c && eqb (x .block) 0) 0 (s .maps)
-
--- `DefMap::crate_root` of a module's map
-unfoldable pub crateRoot : Snapshot → ℕ → ℕ
-crateRoot s m = rootOf s (ownMap s (crateOf s m))
-
--- `ModuleId::containing_module`, +1: the parent, and from a map's root the block's parent
-unfoldable pub orElse : ℕ → ℕ → ℕ
-orElse zero b = b
-orElse (suc p) b = suc p
-
-unfoldable pub containing : Snapshot → ℕ → ℕ
-containing s m = orElse (parentOf s m) (blockOf s m)
 
 -- origins 1 core, 2 alloc, 3 std, 4 another language: `CrateOrigin::is_lang`
 abbrev pub isLang : Snapshot → ℕ → Bool

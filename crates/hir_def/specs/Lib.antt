@@ -5,7 +5,3 @@ pub mod ItemScope
 pub mod Nameres
 pub mod ImportMap
 pub mod Entries
-pub mod Privacy
-pub mod Differs
-pub mod Privately
-pub mod Examples

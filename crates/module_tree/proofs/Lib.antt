@@ -1,0 +1,10 @@
+pub mod Laws
+pub mod Chains
+pub mod Reading
+pub mod Climbs
+pub mod Ways
+pub mod Compared
+pub mod Private
+pub mod Privately
+pub mod Differences
+pub mod Roots

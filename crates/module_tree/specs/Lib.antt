@@ -1,0 +1,6 @@
+pub mod Modules
+pub mod Visibility
+pub mod Privacy
+pub mod Differs
+pub mod Privately
+pub mod Examples
