@@ -3,6 +3,7 @@ pub mod Laws
 pub mod Turns
 pub mod Folds
 pub mod Filling
+pub mod Tabled
 pub mod Ending
 pub mod Stable
 pub mod Accepted

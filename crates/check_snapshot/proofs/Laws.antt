@@ -16,7 +16,8 @@ use Rattle.accept.specs.Post.{checkOf, outcome}
 use Rattle.accept.specs.declared.check.Checked.{Checked}
 use Rattle.printing.specs.Output.{Put, bytesOf}
 use Rattle.check_snapshot.specs.Verdict.{wordsOf, verdictOf}
-use Rattle.check_snapshot.specs.Text.{laterMeaning, meaning, firstLines, lastLines, textOf}
+use Rattle.wording.specs.Text.{firstLines, lastLines}
+use Rattle.check_snapshot.specs.Text.{textOf}
 
 -- the verdict
 
@@ -42,16 +43,6 @@ verdict-same B W A n r e q h p m =
     subst (λ (x : List ℕ). outcome x A r ≡ checkOf n x) e q ∙ check-large n (wordsOf B) h ∙ verdict-whole B p m
 
 -- the text
-
-pub later-other : (n : ℕ) → (n ≡ 35 → ⊥) → (n ≡ 36 → ⊥) → (n ≡ 40 → ⊥) → (n ≡ 41 → ⊥)
-    → bytesOf "a work area of fewer than 16384 words\n" ≡ laterMeaning n
-unfolding laterMeaning
-later-other n a b c d = rw (laterMeaning, ne-eqb _ _ a, ne-eqb _ _ b, ne-eqb _ _ c, ne-eqb _ _ d)
-
-pub meaning-other : (n : ℕ) → (n ≡ 30 → ⊥) → (n ≡ 31 → ⊥) → (n ≡ 32 → ⊥) → (n ≡ 33 → ⊥) → (n ≡ 34 → ⊥)
-    → laterMeaning n ≡ meaning n
-unfolding meaning
-meaning-other n a b c d e = rw (meaning, ne-eqb _ _ a, ne-eqb _ _ b, ne-eqb _ _ c, ne-eqb _ _ d, ne-eqb _ _ e)
 
 pub text-accepted : (W A : List ℕ) (l : Layout)
     → bytesOf "accepted\n"

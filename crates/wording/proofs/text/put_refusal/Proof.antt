@@ -1,7 +1,7 @@
 use borrow.Author.Needs.{needs}
 use Rattle.printing.proofs.Laws.{put-two}
-use Rattle.check_snapshot.proofs.report.put_refusal.Statement.{statement}
-use Rattle.check_snapshot.proofs.report.put_refusal.Tie as tie
+use Rattle.wording.proofs.text.put_refusal.Statement.{statement}
+use Rattle.wording.proofs.text.put_refusal.Tie as tie
 
 slice-aggregate-put-labelled : tie.Need-slice-aggregate-put-labelled
 slice-aggregate-put-labelled c = search needs

@@ -1,7 +1,7 @@
 use borrow.Author.Needs.{needs}
 use Rattle.printing.proofs.Laws.{put-two}
-use Rattle.check_snapshot.proofs.report.put_counts.Statement.{statement}
-use Rattle.check_snapshot.proofs.report.put_counts.Tie as tie
+use Rattle.wording.proofs.text.put_counts.Statement.{statement}
+use Rattle.wording.proofs.text.put_counts.Tie as tie
 
 slice-aggregate-put : tie.Need-slice-aggregate-put
 slice-aggregate-put c = search needs

@@ -1,8 +1,8 @@
 use borrow.Author.Needs.{needs}
 use native.Mathlib.Omega.{arith}
 use Rattle.printing.proofs.Laws.{put-two}
-use Rattle.check_snapshot.proofs.report.put_line.Statement.{statement}
-use Rattle.check_snapshot.proofs.report.put_line.Tie as tie
+use Rattle.wording.proofs.text.put_line.Statement.{statement}
+use Rattle.wording.proofs.text.put_line.Tie as tie
 
 put-labelled-requires : tie.Need-put-labelled-requires
 put-labelled-requires c κs = search needs

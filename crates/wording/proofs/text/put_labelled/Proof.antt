@@ -1,8 +1,8 @@
 use borrow.Author.Needs.{needs}
 use native.Mathlib.Omega.{arith}
 use Rattle.printing.proofs.Laws.{put-two, length-decimal}
-use Rattle.check_snapshot.proofs.report.put_labelled.Statement.{statement}
-use Rattle.check_snapshot.proofs.report.put_labelled.Tie as tie
+use Rattle.wording.proofs.text.put_labelled.Statement.{statement}
+use Rattle.wording.proofs.text.put_labelled.Tie as tie
 
 put-requires : tie.Need-put-requires
 put-requires c κs = search needs

@@ -1,10 +1,10 @@
 use borrow.Author.Needs.{needs}
 use mathlib.Core.Path.{sym, ap}
 use Rattle.printing.proofs.Laws.{put-as}
-use Rattle.check_snapshot.specs.Text.{meaning}
-use Rattle.check_snapshot.proofs.Laws.{meaning-other}
-use Rattle.check_snapshot.proofs.report.put_meaning.Statement.{statement}
-use Rattle.check_snapshot.proofs.report.put_meaning.Tie as tie
+use Rattle.wording.specs.Text.{meaning}
+use Rattle.wording.proofs.Laws.{meaning-other}
+use Rattle.wording.proofs.text.put_meaning.Statement.{statement}
+use Rattle.wording.proofs.text.put_meaning.Tie as tie
 
 slice-aggregate-put : tie.Need-slice-aggregate-put
 slice-aggregate-put c = search needs

@@ -1,0 +1,2 @@
+-- Passed on to the crates above.
+pub use Rattle.rules.proofs.Tabled.{Kept, names-kept, modules-kept, set-kept, heads-kept}

@@ -1,0 +1,82 @@
+-- The text that is printed of a refusal, and of how many records of each kind there are.
+use Prim.Native.Nat.{ℕ}
+use Prim.Native.String.{String}
+use mathlib.Core.List.{List, _++_}
+use mathlib.Core.Bool.{true, false}
+use lib.Dec.{eqb}
+use Rattle.printing.specs.Output.{bytesOf, decimal}
+
+-- what a refusal's number means: the later numbers, 20 last
+unfoldable pub laterMeaning : ℕ → List ℕ
+laterMeaning n =
+    elim (eqb n 35) [
+      | true ↦ bytesOf "a record that does not fit the records before it, or a map or crate left incomplete\n"
+      | false ↦
+          elim (eqb n 36) [
+            | true ↦ bytesOf "more than 64 crates, 512 modules, 2048 names or 2048 definitions\n"
+            | false ↦
+                elim (eqb n 40) [
+                  | true ↦ bytesOf "more than 65536 bytes\n"
+                  | false ↦
+                      elim (eqb n 41) [
+                        | true ↦ bytesOf "a number of bytes that is not a multiple of 4\n"
+                        | false ↦ bytesOf "a work area of fewer than 16384 words\n"
+                      ]
+                ]
+          ]
+    ]
+
+-- what a refusal's number means
+unfoldable pub meaning : ℕ → List ℕ
+meaning n =
+    elim (eqb n 30) [
+      | true ↦ bytesOf "more than 16384 words\n"
+      | false ↦
+          elim (eqb n 31) [
+            | true ↦ bytesOf "an unknown or falling kind, a wrong argument kind, or a missing argument\n"
+            | false ↦
+                elim (eqb n 32) [
+                  | true ↦ bytesOf "a field outside its range, bad padding, or a builtin with another name\n"
+                  | false ↦
+                      elim (eqb n 33) [
+                        | true ↦ bytesOf "a number that is not defined yet\n"
+                        | false ↦
+                            elim (eqb n 34) [
+                              | true ↦ bytesOf "something that may stand once only is repeated\n"
+                              | false ↦ laterMeaning n
+                            ]
+                      ]
+                ]
+          ]
+    ]
+
+-- a number after its label
+abbrev pub labelled : String → ℕ → List ℕ
+labelled label n = bytesOf label ++ decimal n
+
+-- the same, up to the end of the line
+abbrev pub line : String → ℕ → List ℕ
+line label n = labelled label n ++ bytesOf "\n"
+
+-- the number and its place on a line, then the meaning
+abbrev pub refusal : ℕ → ℕ → List ℕ
+refusal n at = labelled "refused " n ++ (line " at " at ++ meaning n)
+
+-- the kinds up to modules
+abbrev pub firstLines : ℕ → ℕ → ℕ → ℕ → ℕ → List ℕ
+firstLines names crates dependencies maps modules =
+    line "names " names
+    ++ (line "crates " crates
+    ++ (line "dependencies " dependencies
+    ++ (line "maps " maps
+    ++ line "modules " modules)))
+
+-- the kinds after modules
+abbrev pub lastLines : ℕ → ℕ → ℕ → ℕ → ℕ → ℕ → List ℕ
+lastLines children preludes definitions scopes imports externs =
+    line "children " children
+    ++ (line "preludes " preludes
+    ++ (line "definitions " definitions
+    ++ (line "scopes " scopes
+    ++ (line "imports " imports
+    ++ line "externs " externs))))

@@ -1,0 +1,2 @@
+//! The words of an answer.
+pub mod text;
