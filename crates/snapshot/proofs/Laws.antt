@@ -11,11 +11,8 @@ use lib.Seq.{getD-take, getD-drop, ext-getD, take-all, take-nil}
 use lib.Dec.{eqb}
 use borrow.Author.Tests.{eq-eqb, ne-eqb}
 use Rattle.snapshot.specs.Lists.{rows, any, all, eqList}
-use Rattle.snapshot.specs.Words.{payOf, wordsOf, argumentTable, argumentsOf, textAt}
-
--- a word past the end
-pub past : (W : List ℕ) (i : ℕ) → length W ≤ i → 0 ≡ getD W i 0
-past W i h = sym (List·getD-eq-default W 0 h)
+use Rattle.reading.specs.Words.{payOf, wordsOf, argumentTable, argumentsOf, textAt}
+pub use Rattle.reading.proofs.Laws.{past}
 
 pub arguments-name : (k p : ℕ) → k ≡ 1 → wordsOf p ≡ argumentsOf k p
 unfolding argumentsOf

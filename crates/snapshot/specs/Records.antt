@@ -3,7 +3,7 @@ use Prim.Native.Nat.{ℕ, _+_, _/_, _%_}
 use mathlib.Core.List.{List, [], _∷_, _++_}
 use lib.ListN.{getD}
 use Rattle.snapshot.specs.Lists.{rows}
-use Rattle.snapshot.specs.Words.{payOf, wordsOf}
+use Rattle.reading.specs.Words.{payOf, wordsOf}
 
 -- kind 1: the bytes of the text, and the words that hold them
 pub record Name : Type 0 where

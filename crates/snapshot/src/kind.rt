@@ -2,7 +2,7 @@
 ghost use mathlib.Core.Path.{_≡_};
 ghost use Prim.Native.Nat.{ℕ, _+_, _^_, _<_};
 ghost use lib.ListN.{getD};
-ghost use Rattle.snapshot.specs.Words.{kindOf, payOf, wordsOf, argumentTable, argumentsOf, argumentsAt};
+ghost use Rattle.reading.specs.Words.{kindOf, payOf, wordsOf, argumentTable, argumentsOf, argumentsAt};
 use crate::words::kind;
 use crate::words::payload;
 

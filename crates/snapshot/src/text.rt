@@ -1,6 +1,6 @@
 //! The text of a name, handed back as the part of the snapshot that holds it.
 ghost use mathlib.Core.Path.{_≡_};
-ghost use Rattle.snapshot.specs.Words.{textAt};
+ghost use Rattle.reading.specs.Words.{textAt};
 ghost use Rattle.snapshot.specs.Layouts.{nameHead};
 use crate::ids::Name;
 use crate::kind::text_words;

@@ -1,7 +1,7 @@
 use borrow.Author.Needs.{needs}
 use mathlib.Core.Path.{_≡_, ap, sym, _∙_}
 use native.Mathlib.Omega.{arith}
-use Rattle.snapshot.specs.Words.{wordsOf, argumentTable}
+use Rattle.reading.specs.Words.{wordsOf, argumentTable}
 use lib.ListN.{getD}
 use Rattle.snapshot.proofs.Laws.{arguments-name, arguments-fixed}
 use Rattle.snapshot.proofs.kind.arguments.Statement.{statement}

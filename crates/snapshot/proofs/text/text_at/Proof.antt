@@ -1,7 +1,7 @@
 use borrow.Author.Needs.{needs}
 use mathlib.Core.Path.{ap, _∙_}
 use denote.Ref.{now}
-use Rattle.snapshot.specs.Words.{wordsOf}
+use Rattle.reading.specs.Words.{wordsOf}
 use Rattle.snapshot.proofs.Laws.{text-none, text-cut, text-whole}
 use Rattle.snapshot.proofs.text.text_at.Statement.{statement}
 use Rattle.snapshot.proofs.text.text_at.Tie as tie

@@ -1,7 +1,7 @@
 use borrow.Author.Needs.{needs}
 use mathlib.Core.Path.{ap, _∙_}
 use denote.Ref.{now}
-use Rattle.snapshot.specs.Words.{textAt}
+use Rattle.reading.specs.Words.{textAt}
 use Rattle.snapshot.proofs.text.text_of.Statement.{statement}
 use Rattle.snapshot.proofs.text.text_of.Tie as tie
 

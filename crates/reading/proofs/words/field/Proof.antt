@@ -2,9 +2,9 @@ use borrow.Author.Needs.{needs}
 use native.Mathlib.Omega.{arith}
 use denote.Ref.{now}
 use Prim.Native.Nat.{_+_}
-use Rattle.snapshot.proofs.Laws.{past}
-use Rattle.snapshot.proofs.words.field.Statement.{statement}
-use Rattle.snapshot.proofs.words.field.Tie as tie
+use Rattle.reading.proofs.Laws.{past}
+use Rattle.reading.proofs.words.field.Statement.{statement}
+use Rattle.reading.proofs.words.field.Tie as tie
 
 returns : tie.Need-returns
 returns c = let s = c .before .before in past (now (s .args .words)) (s .args .at + s .args .i) (omega arith)

@@ -1,8 +1,8 @@
 use borrow.Author.Needs.{needs}
 use denote.Ref.{now}
-use Rattle.snapshot.proofs.Laws.{past}
-use Rattle.snapshot.proofs.words.word.Statement.{statement}
-use Rattle.snapshot.proofs.words.word.Tie as tie
+use Rattle.reading.proofs.Laws.{past}
+use Rattle.reading.proofs.words.word.Statement.{statement}
+use Rattle.reading.proofs.words.word.Tie as tie
 
 mul-wide : tie.Need-mul-wide
 mul-wide c = search needs

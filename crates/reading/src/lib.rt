@@ -1,0 +1,2 @@
+//! Words, and their kinds and payloads.
+pub mod words;
