@@ -4,8 +4,8 @@ use denote.Ref.{now}
 use mathlib.Core.Bool.{_||_}
 use Rattle.snapshot.specs.Layouts.{snapOf}
 use Rattle.find_path.specs.Choices.{extended, push}
-use Rattle.path_rules.proofs.choices.push.Statement.{statement}
-use Rattle.path_rules.proofs.choices.push.Tie as tie
+use Rattle.path_choices.proofs.choices.push.Statement.{statement}
+use Rattle.path_choices.proofs.choices.push.Tie as tie
 
 is-prelude-requires : tie.Need-is-prelude-requires
 is-prelude-requires c κs = search needs

@@ -1,9 +1,9 @@
 use borrow.Author.Needs.{needs}
 use mathlib.Core.Path.{_≡_, refl, sym, ap, _∙_}
 use borrow.Author.Tests.{not-true, not-false}
-use Rattle.path_rules.proofs.ChoiceLaws.{left-none, left-less, left-more}
-use Rattle.path_rules.proofs.choices.length_left.Statement.{statement}
-use Rattle.path_rules.proofs.choices.length_left.Tie as tie
+use Rattle.path_choices.proofs.ChoiceLaws.{left-none, left-less, left-more}
+use Rattle.path_choices.proofs.choices.length_left.Statement.{statement}
+use Rattle.path_choices.proofs.choices.length_left.Tie as tie
 
 less-one-requires : tie.Need-less-one-requires
 less-one-requires c κs = search needs

@@ -3,9 +3,9 @@ use Prim.Native.Nat.{_+_}
 use mathlib.Core.Path.{_≡_, refl, sym, ap, _∙_}
 use denote.Ref.{now}
 use Rattle.snapshot.specs.Layouts.{snapOf}
-use Rattle.path_rules.proofs.ChoiceLaws.{extended-same}
-use Rattle.path_rules.proofs.choices.extended.Statement.{statement}
-use Rattle.path_rules.proofs.choices.extended.Tie as tie
+use Rattle.path_choices.proofs.ChoiceLaws.{extended-same}
+use Rattle.path_choices.proofs.choices.extended.Statement.{statement}
+use Rattle.path_choices.proofs.choices.extended.Tie as tie
 
 mul-names : tie.Need-mul-names
 mul-names c = search needs

@@ -1,8 +1,8 @@
 use borrow.Author.Needs.{needs}
 use mathlib.Core.Path.{_≡_, refl, sym, ap, _∙_}
-use Rattle.path_rules.proofs.ChoiceLaws.{keyword-same}
-use Rattle.path_rules.proofs.choices.keyword.Statement.{statement}
-use Rattle.path_rules.proofs.choices.keyword.Tie as tie
+use Rattle.path_choices.proofs.ChoiceLaws.{keyword-same}
+use Rattle.path_choices.proofs.choices.keyword.Statement.{statement}
+use Rattle.path_choices.proofs.choices.keyword.Tie as tie
 
 path-kind-len-requires : tie.Need-path-kind-len-requires
 path-kind-len-requires c κs = search needs

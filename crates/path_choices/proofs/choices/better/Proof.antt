@@ -3,9 +3,9 @@ use mathlib.Core.Path.{_≡_, refl, sym, ap, _∙_}
 use denote.Ref.{now}
 use native.Mathlib.Omega.{arith}
 use Rattle.snapshot.specs.Layouts.{snapOf}
-use Rattle.path_rules.proofs.ChoiceLaws.{better-same}
-use Rattle.path_rules.proofs.choices.better.Statement.{statement}
-use Rattle.path_rules.proofs.choices.better.Tie as tie
+use Rattle.path_choices.proofs.ChoiceLaws.{better-same}
+use Rattle.path_choices.proofs.choices.better.Statement.{statement}
+use Rattle.path_choices.proofs.choices.better.Tie as tie
 
 path-len-requires : tie.Need-path-len-requires
 path-len-requires c κs = search needs

@@ -1,8 +1,8 @@
 use borrow.Author.Needs.{needs}
 use mathlib.Core.Path.{_≡_, refl, sym, ap, _∙_}
 use Rattle.find_path.specs.Choices.{unstably}
-use Rattle.path_rules.proofs.choices.unstably.Statement.{statement}
-use Rattle.path_rules.proofs.choices.unstably.Tie as tie
+use Rattle.path_choices.proofs.choices.unstably.Statement.{statement}
+use Rattle.path_choices.proofs.choices.unstably.Tie as tie
 
 returns : tie.Need-returns
 unfolding unstably

@@ -1,9 +1,8 @@
 use borrow.Author.Needs.{needs}
-use mathlib.Core.Path.{_≡_, refl, sym, ap, _∙_}
 use denote.Ref.{now}
-use Rattle.path_rules.proofs.ChoiceLaws.{name-prelude}
-use Rattle.path_rules.proofs.choices.is_prelude.Statement.{statement}
-use Rattle.path_rules.proofs.choices.is_prelude.Tie as tie
+use Rattle.path_choices.proofs.ChoiceLaws.{name-prelude}
+use Rattle.path_choices.proofs.choices.is_prelude.Statement.{statement}
+use Rattle.path_choices.proofs.choices.is_prelude.Tie as tie
 
 name-head-requires : tie.Need-name-head-requires
 name-head-requires c κs = search needs
@@ -23,8 +22,9 @@ payload-requires c κs = search needs
 returns : tie.Need-returns
 returns c =
     let s = c .before .before .before .before .before .before .before in
-    let e = c .before .before .before .before .name-head .ensures in
-    cc (name-prelude (now (s .args .words)) (now (s .args .area)) (s .args .l) (s .pre .0) (s .args .n .0) (s .pre .1))
+    rw
+    (c .payload .ensures, c .before .field3 .ensures, c .before .before .field2 .ensures, c .before .before .before .field .ensures, c .before .before .before .before .name-head .ensures)
+    (name-prelude (now (s .args .words)) (now (s .args .area)) (s .args .l) (s .pre .0) (s .args .n .0) (s .pre .1))
 
 pub is-prelude-spec : {M : Type 1} → statement M
 is-prelude-spec =

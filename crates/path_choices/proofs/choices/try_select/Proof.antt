@@ -3,9 +3,9 @@ use mathlib.Core.Path.{_≡_, refl, sym, ap, _∙_}
 use denote.Ref.{now}
 use borrow.Author.Tests.{not-true, not-false}
 use Rattle.snapshot.specs.Layouts.{snapOf}
-use Rattle.path_rules.proofs.ChoiceLaws.{select-first, select-new, select-old}
-use Rattle.path_rules.proofs.choices.try_select.Statement.{statement}
-use Rattle.path_rules.proofs.choices.try_select.Tie as tie
+use Rattle.path_choices.proofs.ChoiceLaws.{select-first, select-new, select-old}
+use Rattle.path_choices.proofs.choices.try_select.Statement.{statement}
+use Rattle.path_choices.proofs.choices.try_select.Tie as tie
 
 push-requires : tie.Need-push-requires
 push-requires c κs = search needs

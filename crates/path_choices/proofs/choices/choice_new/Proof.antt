@@ -3,9 +3,9 @@ use Prim.Native.Nat.{_+_}
 use mathlib.Core.Path.{ap₂}
 use denote.Ref.{now}
 use Rattle.snapshot.specs.Layouts.{snapOf}
-use Rattle.path_rules.proofs.ChoiceLaws.{new-same}
-use Rattle.path_rules.proofs.choices.choice_new.Statement.{statement}
-use Rattle.path_rules.proofs.choices.choice_new.Tie as tie
+use Rattle.path_choices.proofs.ChoiceLaws.{new-same}
+use Rattle.path_choices.proofs.choices.choice_new.Statement.{statement}
+use Rattle.path_choices.proofs.choices.choice_new.Tie as tie
 
 array-write-names : tie.Need-array-write-names
 array-write-names c = search needs

@@ -5,8 +5,8 @@ use native.Mathlib.Omega.{arith}
 use lib.ListN.{getD}
 use Rattle.snapshot.specs.Words.{payOf}
 use Rattle.find_path.proofs.Names.{name-bytes, name-short}
-use Rattle.path_rules.proofs.choices.name_len.Statement.{statement}
-use Rattle.path_rules.proofs.choices.name_len.Tie as tie
+use Rattle.path_choices.proofs.choices.name_len.Statement.{statement}
+use Rattle.path_choices.proofs.choices.name_len.Tie as tie
 
 name-head-requires : tie.Need-name-head-requires
 name-head-requires c κs = search needs

@@ -1,0 +1,223 @@
+//! Paths to choose from: their lengths, one name more, and which of two is better.
+ghost use mathlib.Core.Path.{_≡_};
+ghost use Prim.Native.Nat.{ℕ, _+_, _-_, _≤_, _<_, _^_};
+ghost use lib.ListN.{length};
+ghost use Rattle.snapshot.specs.Layouts.{snapOf};
+ghost use Rattle.accept.specs.Post.{Reads};
+ghost use Rattle.find_path.specs.Choices.{nameLen, isPrelude, pathKindLen, pathLen, nothing as nothingOf, keyword as keywordOf, choiceNew, extended as extendedOf, push as pushOf, unstably as unstablyOf, better as betterOf, trySelect, lengthLeft};
+use find_path::Choice;
+use snapshot::ids::Name;
+use snapshot::layout::Layout;
+use snapshot::table::name_head;
+use snapshot::words::field;
+use snapshot::words::payload;
+
+/// The bytes of a name's text.
+pub fn name_len(words: &[u32], area: &[u32], l: Layout, n: Name) -> usize
+    requires { ⌜ Reads (now words) (now area) l × (n .0 < l .names) ⌝ }
+    ensures { λ r. ⌜ (r ≡ nameLen (snapOf (now (words .entry)) (now (area .entry)) l) (n .0)) × (r ≤ 255) ⌝ }
+{
+    payload(words, name_head(area, n))
+}
+
+/// Whether a name is `prelude`.
+pub fn is_prelude(words: &[u32], area: &[u32], l: Layout, n: Name) -> bool
+    requires { ⌜ Reads (now words) (now area) l × (n .0 < l .names) ⌝ }
+    ensures { λ r. ⌜ r ≡ isPrelude (snapOf (now (words .entry)) (now (area .entry)) l) (n .0) ⌝ }
+{
+    let h = name_head(area, n);
+    let first = field(words, h, 1) == 0x657270;
+    let second = field(words, h, 2) == 0x64756C;
+    let third = field(words, h, 3) == 0x65;
+    (payload(words, h) == 7) & (first & (second & third))
+}
+
+// The text lengths of the path kinds, and the names that they count for.
+const KIND_TEXT: [usize; 5] = [0, 4, 5, 5, 2];
+
+const KIND_NAMES: [usize; 5] = [0, 0, 1, 1, 0];
+
+/// The text length of a path kind.
+pub fn path_kind_len(kind: usize) -> usize
+    ensures { λ r. ⌜ (r ≡ pathKindLen kind) × (r ≤ 5) ⌝ }
+{
+    if 5 <= kind {
+        return 0;
+    }
+    KIND_TEXT[kind]
+}
+
+/// The length of a path: its names, and one more for `super` and for `crate`.
+pub fn path_len(c: Choice) -> usize
+    requires { ⌜ c .count < 2 ^ 32 ⌝ }
+    ensures { λ r. ⌜ (r ≡ pathLen c) × (r ≤ c .count + 1) ⌝ }
+{
+    let kind = c.kind;
+    if 5 <= kind {
+        return c.count;
+    }
+    KIND_NAMES[kind] + c.count
+}
+
+/// No path.
+pub fn nothing() -> Choice
+    ensures { λ r. ⌜ r ≡ nothingOf ⌝ }
+{
+    let names = [0usize; 16];
+    Choice {
+        found: false,
+        kind: 0,
+        names: names,
+        count: 0,
+        text: 0,
+        stable: false,
+        prelude: false,
+    }
+}
+
+/// A keyword without names.
+pub fn keyword(kind: usize) -> Choice
+    ensures { λ r. ⌜ r ≡ keywordOf kind ⌝ }
+{
+    let names = [0usize; 16];
+    let text = path_kind_len(kind);
+    Choice {
+        found: true,
+        kind: kind,
+        names: names,
+        count: 0,
+        text: text,
+        stable: true,
+        prelude: false,
+    }
+}
+
+/// One name, stable.
+pub fn choice_new(words: &[u32], area: &[u32], l: Layout, kind: usize, n: Name) -> Choice
+    requires { ⌜ Reads (now words) (now area) l × (n .0 < l .names) ⌝ }
+    ensures { λ r. ⌜ r ≡ choiceNew (snapOf (now (words .entry)) (now (area .entry)) l) kind (n .0) ⌝ }
+{
+    let mut names = [0usize; 16];
+    names[0] = n.0;
+    let text = path_kind_len(kind) + name_len(words, area, l, n);
+    let prelude = is_prelude(words, area, l, n);
+    Choice {
+        found: true,
+        kind: kind,
+        names: names,
+        count: 1,
+        text: text,
+        stable: true,
+        prelude: prelude,
+    }
+}
+
+// One name more, with a flag given for `prelude`.
+fn extended(words: &[u32], area: &[u32], l: Layout, c: Choice, n: Name, flag: bool) -> Choice
+    requires { ⌜ Reads (now words) (now area) l × (n .0 < l .names) × (c .count < 16) × (c .text < 2 ^ 32) ⌝ }
+    ensures { λ r. ⌜ r ≡ extendedOf (snapOf (now (words .entry)) (now (area .entry)) l) c (n .0) flag ⌝ }
+{
+    let count = c.count;
+    let mut names = c.names;
+    names[count] = n.0;
+    let text = c.text + name_len(words, area, l, n);
+    Choice {
+        found: true,
+        kind: c.kind,
+        names: names,
+        count: count + 1,
+        text: text,
+        stable: c.stable,
+        prelude: flag,
+    }
+}
+
+/// One name more.
+pub fn push(words: &[u32], area: &[u32], l: Layout, c: Choice, n: Name) -> Choice
+    requires { ⌜ Reads (now words) (now area) l × (n .0 < l .names) × (c .count < 16) × (c .text < 2 ^ 32) ⌝ }
+    ensures { λ r. ⌜ r ≡ pushOf (snapOf (now (words .entry)) (now (area .entry)) l) c (n .0) ⌝ }
+{
+    let flag = is_prelude(words, area, l, n);
+    extended(words, area, l, c, n, c.prelude | flag)
+}
+
+/// The choice, unstable.
+pub fn unstably(c: Choice) -> Choice
+    ensures { λ r. ⌜ r ≡ unstablyOf c ⌝ }
+{
+    let mut d = c;
+    d.stable = false;
+    d
+}
+
+// Whether the newcomer, with the name to come, takes the place of the current choice.
+fn better(
+    words: &[u32],
+    area: &[u32],
+    l: Layout,
+    prefer: bool,
+    current: Choice,
+    other: Choice,
+    n: Name,
+) -> bool
+    requires { ⌜ Reads (now words) (now area) l × (n .0 < l .names) × (current .count < 2 ^ 32) × (other .count < 2 ^ 32) × (other .text < 2 ^ 32) ⌝ }
+    ensures { λ r. ⌜ r ≡ betterOf (snapOf (now (words .entry)) (now (area .entry)) l) prefer current other (n .0) ⌝ }
+{
+    let a = path_len(current);
+    let b = path_len(other) + 1;
+    let shorter = other.text + name_len(words, area, l, n) < current.text;
+    let by_length = !(a <= b) | ((a == b) & shorter);
+    let x = (prefer & other.prelude) | (!prefer & current.prelude);
+    let y = (prefer & current.prelude) | (!prefer & other.prelude);
+    let by_prelude = (x & !y) | (((x & y) | (!x & !y)) & by_length);
+    let s = other.stable;
+    let t = current.stable;
+    (s & !t) | (((s & t) | (!s & !t)) & by_prelude)
+}
+
+/// The better of the current choice and a newcomer with one name more; the first choice counts that name for `prelude`.
+pub fn try_select(
+    words: &[u32],
+    area: &[u32],
+    l: Layout,
+    prefer: bool,
+    current: Choice,
+    other: Choice,
+    n: Name,
+) -> Choice
+    requires { ⌜ Reads (now words) (now area) l × (n .0 < l .names) × (current .count < 2 ^ 32) × (other .count < 16) × (other .text < 2 ^ 32) ⌝ }
+    ensures { λ r. ⌜ r ≡ trySelect (snapOf (now (words .entry)) (now (area .entry)) l) prefer current other (n .0) ⌝ }
+{
+    if !current.found {
+        return push(words, area, l, other, n);
+    }
+    if better(words, area, l, prefer, current, other, n) {
+        return extended(words, area, l, other, n, other.prelude);
+    }
+    current
+}
+
+// One less, or 0.
+fn less_one(n: usize) -> usize
+    ensures { λ r. ⌜ r ≡ n - 1 ⌝ }
+{
+    if n == 0 {
+        return 0;
+    }
+    n - 1
+}
+
+/// The length left for a step: one less than the caller's, or than that of the choice so far if it is smaller.
+pub fn length_left(left: usize, best: Choice) -> usize
+    requires { ⌜ best .count < 2 ^ 32 ⌝ }
+    ensures { λ r. ⌜ r ≡ lengthLeft left best ⌝ }
+{
+    if !best.found {
+        return less_one(left);
+    }
+    let n = path_len(best);
+    if n < left {
+        return less_one(n);
+    }
+    less_one(left)
+}

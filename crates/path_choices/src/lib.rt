@@ -1,0 +1,2 @@
+//! Paths to choose from.
+pub mod choices;
