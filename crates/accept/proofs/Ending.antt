@@ -15,16 +15,16 @@ use Rattle.snapshot.specs.Records.{Map, mapAt, crateAt, dependencyAt, childAt, 
 use Rattle.snapshot.specs.Layouts.{crateBase, dependencyBase, childBase, preludeBase, definitionBase, scopeBase, importBase, externBase, moduleMap, moduleHead, mapRoot, ownMap, moduleRow, namesOf, mapsOf, modulesOf, recordsOf, snapWith, snapOf}
 use Rattle.snapshot.specs.declared.layout.Layout.{Layout}
 use Rattle.snapshot.proofs.Laws.{length-rows, getD-rows, rows-ext}
-use Rattle.rules.specs.Tests.{noMap, isOwn, isIn, mapsFilled, cratesOwn}
+use Rattle.record_rules.specs.Tests.{noMap, isOwn, isIn, mapsFilled, cratesOwn}
 use Rattle.accept.specs.Verdict.{Verdict, refuse, accept, finish, verdict}
-use Rattle.rules.specs.Stands.{ownFrom, ownOf, Stands, Rooted}
+use Rattle.record_rules.specs.Stands.{ownFrom, ownOf, Stands, Rooted}
 use Rattle.accept.specs.Post.{Tables, Judged}
 use Rattle.accept.specs.Ends.{Ended}
 use Rattle.accept.specs.declared.check.Checked.{Checked}
 use Rattle.accept.specs.declared.check.Checked.the-variants.{Refused, Accepted}
-use Rattle.rules.proofs.Judged.{and-left, and-right}
+use Rattle.record_rules.proofs.Judged.{and-left, and-right}
 use Rattle.records.proofs.Regions.{own-any}
-use Rattle.rules.proofs.Tabled.{Kept, names-kept, modules-kept, heads-kept}
+use Rattle.record_rules.proofs.Tabled.{Kept, names-kept, modules-kept, heads-kept}
 
 -- tests over numbered things
 

@@ -9,7 +9,7 @@ use lib.Seq.{getD-set-same, getD-set-other}
 use lib.Dec.{eqb}
 use borrow.Author.Tests.{eqb-true, eqb-false}
 use Rattle.snapshot.specs.Layouts.{moduleMap, mapRoot, ownMap}
-use Rattle.rules.specs.Stands.{Rooted}
+use Rattle.record_rules.specs.Stands.{Rooted}
 
 -- the modules from m on have their maps' first modules from m on in the table
 pub record Filled (A₀ A : List ℕ) (n m : ℕ) : Type 0 where

@@ -11,12 +11,12 @@ use Rattle.snapshot.specs.Words.{kindOf, argumentsAt}
 use Rattle.snapshot.specs.Records.{Map, Snapshot}
 use Rattle.snapshot.specs.Layouts.{noRecords, snapWith}
 use Rattle.snapshot.specs.declared.layout.Layout.{Layout}
-use Rattle.rules.specs.Steps.{no, on}
+use Rattle.record_rules.specs.Steps.{no, on}
 use Rattle.accept.specs.Verdict.{stepAt, Verdict, refuse, finish, records, verdict}
-use Rattle.rules.specs.Stands.{Here, Stands, Answered}
+use Rattle.record_rules.specs.Stands.{Here, Stands, Answered}
 use Rattle.accept.specs.Ends.{Ended}
-use Rattle.rules.specs.declared.judge.Step.{Step}
-use Rattle.rules.specs.declared.judge.Step.the-variants.{No, On}
+use Rattle.record_rules.specs.declared.judge.Step.{Step}
+use Rattle.record_rules.specs.declared.judge.Step.the-variants.{No, On}
 use Rattle.accept.specs.declared.check.Checked.the-variants.{Accepted}
 
 module _ (W : List ℕ) (at last : ℕ) (s : Snapshot) where

@@ -9,7 +9,7 @@ use lib.Dec.{eqb, ltb}
 use borrow.Author.Tests.{eq-eqb, ne-eqb, lt-ltb, le-ltb}
 use Rattle.snapshot.specs.Words.{kindOf}
 use Rattle.accept.specs.Verdict.{argumentsFrom}
-pub use Rattle.rules.proofs.Laws.{or-yes, or-no, and-no, and-yes}
+pub use Rattle.record_rules.proofs.Laws.{or-yes, or-no, and-no, and-yes}
 
 -- a loop over argument words
 module _ (W : List ℕ) (whole : Bool) (i left : ℕ) (e : whole ≡ argumentsFrom W i left) where

@@ -9,7 +9,7 @@ use lib.ListN.{length, getD}
 use borrow.Author.Tests.{eqb-true, eq-eqb, ltb-true}
 use Rattle.snapshot.specs.Lists.{any}
 use Rattle.snapshot.specs.Records.{Snapshot, Map, Module, Child, Definition, Scope, Import}
-use Rattle.rules.specs.Tests.{countsOf, noName, noMap, noModule, noDefinition, mapOf, kindOfDefinition, isIn, isOwn, mapsFilled, cratesOwn, childDefined, childPlaced, nsPlaced, mapRepeated, sameDefinition, definitionRepeated, sameName, sameChild, samePrelude, sameEntry, sameExtern, scopeDefined, importDefined}
+use Rattle.record_rules.specs.Tests.{countsOf, noName, noMap, noModule, noDefinition, mapOf, kindOfDefinition, isIn, isOwn, mapsFilled, cratesOwn, childDefined, childPlaced, nsPlaced, mapRepeated, sameDefinition, definitionRepeated, sameName, sameChild, samePrelude, sameEntry, sameExtern, scopeDefined, importDefined}
 use Rattle.accept.specs.Verdict.{accept, verdict}
 use Rattle.accept.specs.Valid.{Each, none, mapIn, parentIn, blockIn, crateIn, definitionIn, Under, MacroOnly, Distinct, Owned, DefinedOnce, Once}
 use Rattle.accept.proofs.Accepted.{Keeps, keeps-of, verdict-keeps}

@@ -8,8 +8,8 @@ use lib.Dec.{eqb, ltb, leb}
 use lib.ListN.{length, getD}
 use borrow.Author.Tests.{eqb-true, eqb-false, eq-eqb, ne-eqb, ltb-true, leb-true}
 use Rattle.snapshot.specs.Records.{Name, Crate, Dependency, Map, Module, Child, Prelude, Definition, Scope, Import, Extern, Snapshot}
-use Rattle.rules.specs.Tests.{Counts, countsOf, padded, nameRange, crateRange, dependencyRange, dependencyDefined, mapRange, mapDefined, moduleDefined, childDefined, preludeDefined, definitionRange, definitionDefined, scopeRange, scopeDefined, importRange, importDefined, externDefined}
-use Rattle.rules.specs.Steps.{addName, addCrate, addDependency, addMap, addModule, addChild, addPrelude, addDefinition, addScope, addImport, addExtern}
+use Rattle.record_rules.specs.Tests.{Counts, countsOf, padded, nameRange, crateRange, dependencyRange, dependencyDefined, mapRange, mapDefined, moduleDefined, childDefined, preludeDefined, definitionRange, definitionDefined, scopeRange, scopeDefined, importRange, importDefined, externDefined}
+use Rattle.record_rules.specs.Steps.{addName, addCrate, addDependency, addMap, addModule, addChild, addPrelude, addDefinition, addScope, addImport, addExtern}
 use Rattle.accept.specs.Verdict.{accept, verdict, empty}
 use Rattle.accept.specs.Valid.{Each, none, NameFits, CrateFits, DependencyFits, MapFits, ModuleFits, ChildFits, PreludeFits, DefinitionFits, ScopeFits, ImportFits, ExternFits, Ranges, Limits}
 use Rattle.accept.proofs.Accepted.{by-test, Keeps, Ends, verdict-keeps}

@@ -7,8 +7,8 @@ use Rattle.snapshot.specs.Records.{Snapshot, crateAt, dependencyAt, mapAt, chil
 use Rattle.snapshot.specs.Layouts.{crateBase, dependencyBase, childBase, preludeBase, definitionBase, scopeBase, importBase, externBase, nameHead, moduleRow, moduleHead, mapRoot, snapOf}
 use Rattle.snapshot.specs.declared.layout.Layout.{Layout}
 use Rattle.snapshot.proofs.Laws.{length-rows}
-use Rattle.rules.specs.Tests.{Counts, countsOf}
-use Rattle.rules.specs.Stands.{countsIn}
+use Rattle.record_rules.specs.Tests.{Counts, countsOf}
+use Rattle.record_rules.specs.Stands.{countsIn}
 use Rattle.accept.specs.Verdict.{accept, verdict}
 use Rattle.accept.specs.Valid.{CrateFits, DependencyFits, MapFits, ModuleFits, ChildFits, PreludeFits, DefinitionFits, ScopeFits, ImportFits, ExternFits, Ranges, Valid}
 use Rattle.accept.proofs.Bools.{each-rows}

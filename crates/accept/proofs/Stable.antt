@@ -11,13 +11,13 @@ use Rattle.snapshot.specs.Records.{mapAt, crateAt, dependencyAt, childAt, prelu
 use Rattle.snapshot.specs.Layouts.{crateBase, dependencyBase, childBase, preludeBase, definitionBase, scopeBase, importBase, externBase, moduleMap, moduleHead, mapRoot, ownMap, namesOf, mapsOf, modulesOf, recordsOf, snapOf}
 use Rattle.snapshot.specs.declared.layout.Layout.{Layout}
 use Rattle.snapshot.proofs.Laws.{rows-ext}
-use Rattle.rules.specs.Tests.{noMap}
+use Rattle.record_rules.specs.Tests.{noMap}
 use Rattle.accept.specs.Verdict.{refuse, accept}
-use Rattle.rules.specs.Stands.{ownOf}
+use Rattle.record_rules.specs.Stands.{ownOf}
 use Rattle.accept.specs.Post.{Tables, Reads, Judged, Checks, checkOf, outcome, Readable}
 use Rattle.accept.specs.declared.check.Checked.{Checked}
 use Rattle.accept.specs.declared.check.Checked.the-variants.{Refused, Accepted}
-use Rattle.rules.proofs.Tabled.{Kept, names-kept, modules-kept, heads-kept}
+use Rattle.record_rules.proofs.Tabled.{Kept, names-kept, modules-kept, heads-kept}
 
 module _ (W A B : List ℕ) (l : Layout) (t : Tables W A l) (kept : Kept A B 0 4160) where
   map-stays : (m : ℕ) → m < l .modules → moduleMap B m ≡ moduleMap A m

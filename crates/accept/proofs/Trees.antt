@@ -9,7 +9,7 @@ use lib.ListN.{length, getD}
 use borrow.Author.Tests.{eqb-true, eqb-false, eq-eqb, ne-eqb, ltb-true, leb-true}
 use Rattle.snapshot.specs.Records.{Snapshot, Map, Module, Definition}
 use Rattle.snapshot.specs.Lists.{any}
-use Rattle.rules.specs.Tests.{isIn, countsOf, noMap, noModule, noDefinition, mapDefined, mapPlaced, moduleDefined, modulePlaced, definitionDefined, definitionPlaced}
+use Rattle.record_rules.specs.Tests.{isIn, countsOf, noMap, noModule, noDefinition, mapDefined, mapPlaced, moduleDefined, modulePlaced, definitionDefined, definitionPlaced}
 use Rattle.accept.specs.Verdict.{accept, verdict}
 use Rattle.accept.specs.Valid.{mapIn, parentIn, blockIn, crateIn, definitionIn, Tree, Enums}
 use Rattle.accept.proofs.Accepted.{by-test, Keeps, keeps-of, verdict-keeps}

@@ -10,11 +10,11 @@ use borrow.Author.Tests.{ltb-true, leb-true, eqb-true}
 use Rattle.snapshot.specs.Words.{kindOf, payOf, wordsOf, argumentTable, argumentsOf, argumentsAt}
 use Rattle.snapshot.specs.Records.{Map, Snapshot}
 use Rattle.snapshot.specs.declared.layout.Layout.{Layout}
-use Rattle.rules.specs.Steps.{Next, no, on, need}
+use Rattle.record_rules.specs.Steps.{Next, no, on, need}
 use Rattle.accept.specs.Verdict.{follows, argumentsFrom, recordStep, stepAt}
-use Rattle.rules.specs.Stands.{Upto, Here, Ready, Stands, Answered}
-use Rattle.rules.specs.declared.judge.Step.{Step}
-use Rattle.rules.proofs.Judged.{and-left, and-right}
+use Rattle.record_rules.specs.Stands.{Upto, Here, Ready, Stands, Answered}
+use Rattle.record_rules.specs.declared.judge.Step.{Step}
+use Rattle.record_rules.proofs.Judged.{and-left, and-right}
 
 -- the place after a record of a kind
 pub next-of : (W : List ℕ) (at j s : ℕ) {k : ℕ} → k ≡ kindOf (getD W at 0) → k ≡ j → 1 + argumentsOf j (payOf (getD W at 0)) ≡ s → at + 1 + argumentsAt W at ≡ at + s

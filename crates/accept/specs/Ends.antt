@@ -6,7 +6,7 @@ use lib.ListN.{length}
 use Rattle.snapshot.specs.Records.{Map}
 use Rattle.snapshot.specs.Layouts.{snapWith}
 use Rattle.accept.specs.Verdict.{refuse, finish, verdict}
-use Rattle.rules.specs.Stands.{Stands}
+use Rattle.record_rules.specs.Stands.{Stands}
 use Rattle.accept.specs.declared.check.Checked.{Checked}
 use Rattle.accept.specs.declared.check.Checked.the-variants.{Refused, Accepted}
 

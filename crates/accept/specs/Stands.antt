@@ -1,3 +1,3 @@
 -- Passed on to the crates above.
-pub use Rattle.rules.specs.Stands.{sameBy, countsIn, ownOf, Upto, Limited, Here, Ready, Stands, Answered, Rooted}
-unfoldable pub use Rattle.rules.specs.Stands.{numberOf, ownFrom}
+pub use Rattle.record_rules.specs.Stands.{sameBy, countsIn, ownOf, Upto, Limited, Here, Ready, Stands, Answered, Rooted}
+unfoldable pub use Rattle.record_rules.specs.Stands.{numberOf, ownFrom}

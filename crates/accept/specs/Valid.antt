@@ -5,7 +5,7 @@ use mathlib.Core.List.{List, [], _∷_}
 use mathlib.Core.Bool.{Bool, false}
 use lib.ListN.{length, getD}
 use Rattle.snapshot.specs.Records.{Name, Crate, Dependency, Map, Module, Child, Prelude, Definition, Scope, Import, Extern, Snapshot}
-use Rattle.rules.specs.Tests.{Counts, countsOf, noName, noMap, noModule, noDefinition, sameName, sameChild, samePrelude, sameEntry, sameExtern}
+use Rattle.record_rules.specs.Tests.{Counts, countsOf, noName, noMap, noModule, noDefinition, sameName, sameChild, samePrelude, sameEntry, sameExtern}
 
 -- every element has P
 pub data Each {A : Type 0} (P : A → Type 0) : List A → Type 0 where

@@ -7,8 +7,8 @@ use lib.ListN.{length, getD}
 use Rattle.snapshot.specs.Limits.{wordLimit}
 use Rattle.snapshot.specs.Words.{kindOf, argumentsAt}
 use Rattle.snapshot.specs.Records.{Snapshot, nameAt, crateAt, dependencyAt, mapAt, moduleAt, childAt, preludeAt, definitionAt, scopeAt, importAt, externAt}
-use Rattle.rules.specs.Tests.{mapsFilled, cratesOwn}
-use Rattle.rules.specs.Steps.{Next, no, on, need, nameStep, crateStep, dependencyStep, mapStep, moduleStep, childStep, preludeStep, definitionStep, scopeStep, importStep, externStep}
+use Rattle.record_rules.specs.Tests.{mapsFilled, cratesOwn}
+use Rattle.record_rules.specs.Steps.{Next, no, on, need, nameStep, crateStep, dependencyStep, mapStep, moduleStep, childStep, preludeStep, definitionStep, scopeStep, importStep, externStep}
 
 -- a known kind that does not fall; a map may follow a module
 abbrev pub follows : ℕ → ℕ → Bool

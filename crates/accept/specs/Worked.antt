@@ -5,8 +5,8 @@ use mathlib.Core.List.{List, [], _∷_}
 use Rattle.snapshot.specs.Lists.{rows, any, all, eqList}
 use Rattle.snapshot.specs.Words.{argumentsOf}
 use Rattle.snapshot.specs.Records.{Snapshot}
-use Rattle.rules.specs.Tests.{textBound, padded}
-use Rattle.rules.specs.Steps.{nameStep, crateStep, dependencyStep, mapStep, moduleStep, childStep, preludeStep, definitionStep, scopeStep, importStep, externStep}
+use Rattle.record_rules.specs.Tests.{textBound, padded}
+use Rattle.record_rules.specs.Steps.{nameStep, crateStep, dependencyStep, mapStep, moduleStep, childStep, preludeStep, definitionStep, scopeStep, importStep, externStep}
 use Rattle.accept.specs.Verdict.{argumentsFrom, recordStep, stepAt, finish, records, verdict, accept}
 
 abbrev pub worked : List ℕ

@@ -8,7 +8,7 @@ use crate::finish::crates_own;
 use crate::finish::fill_roots;
 use crate::finish::maps_filled;
 use crate::turn::turn;
-use rules::judge::Step;
+use record_rules::judge::Step;
 use snapshot::ids::WordCount;
 use snapshot::kind::arguments;
 use snapshot::layout::Layout;

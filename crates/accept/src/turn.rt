@@ -7,9 +7,9 @@ ghost use Rattle.snapshot.specs.Words.{kindOf, argumentsAt};
 ghost use Rattle.snapshot.specs.Records.{Map};
 ghost use Rattle.snapshot.specs.Layouts.{snapWith};
 ghost use Rattle.accept.specs.Verdict.{follows as followsOf, recordStep, stepAt};
-ghost use Rattle.rules.specs.Stands.{Ready, Here, Stands, Answered};
+ghost use Rattle.record_rules.specs.Stands.{Ready, Here, Stands, Answered};
 use crate::arguments::arguments_from;
-use rules::judge::Step;
+use record_rules::judge::Step;
 use snapshot::kind::Kind;
 use snapshot::kind::arguments;
 use snapshot::layout::Layout;
@@ -30,7 +30,7 @@ fn by_kind(words: &[u32], area: &mut [u32], l: Layout, at: usize, k: usize) -> S
     ensures { λ r. ⌜ ((ms : List Map) → Stands (now (words .entry)) (now (area .entry)) k at l ms → Answered (now (words .entry)) (now (area .exit)) k (at + 1 + argumentsAt (now (words .entry)) at) (recordStep k (now (words .entry)) at (snapWith (now (words .entry)) (now (area .entry)) l ms)) r) ⌝ }
 {
     match k {
-        1 => rules::names::step(words, area, l, at),
+        1 => record_rules::names::step(words, area, l, at),
         2 => records::crates::step(words, area, l, at),
         3 => records::dependencies::step(words, area, l, at),
         4 => records::maps::step(words, area, l, at),

@@ -11,8 +11,8 @@ use Rattle.snapshot.specs.Records.{Map, Dependency, Child, Prelude, Definition,
 use Rattle.snapshot.specs.Layouts.{crateBase, dependencyBase, childBase, preludeBase, definitionBase, scopeBase, importBase, externBase, namesOf, modulesOf, recordsOf, snapWith}
 use Rattle.snapshot.specs.declared.layout.Layout.{Layout}
 use Rattle.snapshot.proofs.Laws.{rows-snoc, rows-zero}
-use Rattle.rules.specs.Steps.{addDependency, addChild, addPrelude, addDefinition, addScope, addImport, addExtern}
-use Rattle.rules.specs.Stands.{Stands}
+use Rattle.record_rules.specs.Steps.{addDependency, addChild, addPrelude, addDefinition, addScope, addImport, addExtern}
+use Rattle.record_rules.specs.Stands.{Stands}
 
 -- one dependency more
 

@@ -16,12 +16,12 @@ use Rattle.snapshot.specs.Records.{Map, Module, Snapshot, mapAt, moduleAt, name
 use Rattle.snapshot.specs.Layouts.{crateBase, dependencyBase, childBase, preludeBase, definitionBase, scopeBase, importBase, externBase, moduleMap, moduleHead, moduleParent, ownMap, moduleRow, namesOf, modulesOf, recordsOf, snapWith}
 use Rattle.snapshot.specs.declared.layout.Layout.{Layout}
 use Rattle.snapshot.proofs.Laws.{rows-zero, rows-put, length-rows, getD-rows}
-use Rattle.rules.specs.Tests.{Counts, countsOf, mapOf, noMap, noModule, isIn, moduleDefined, modulePlaced}
-use Rattle.rules.specs.Steps.{no, on, moduleStep, addModule}
-use Rattle.rules.specs.Stands.{numberOf, countsIn, ownOf, Stands, Answered}
-use Rattle.rules.specs.declared.judge.Step.the-variants.{On}
-use Rattle.rules.proofs.Judged.{number-of, judge-no, judge-on, passes, Passed, counts-same, and-left, and-right}
-use Rattle.rules.proofs.Tabled.{Kept, names-kept, heads-kept}
+use Rattle.record_rules.specs.Tests.{Counts, countsOf, mapOf, noMap, noModule, isIn, moduleDefined, modulePlaced}
+use Rattle.record_rules.specs.Steps.{no, on, moduleStep, addModule}
+use Rattle.record_rules.specs.Stands.{numberOf, countsIn, ownOf, Stands, Answered}
+use Rattle.record_rules.specs.declared.judge.Step.the-variants.{On}
+use Rattle.record_rules.proofs.Judged.{number-of, judge-no, judge-on, passes, Passed, counts-same, and-left, and-right}
+use Rattle.record_rules.proofs.Tabled.{Kept, names-kept, heads-kept}
 
 -- a row of the table, written
 abbrev rowSet : List ℕ → ℕ → ℕ → ℕ → ℕ → List ℕ

@@ -16,12 +16,12 @@ use Rattle.snapshot.specs.Records.{Map, Module, Snapshot, nameAt, crateAt, depe
 use Rattle.snapshot.specs.Layouts.{crateBase, dependencyBase, childBase, preludeBase, definitionBase, scopeBase, importBase, externBase, nameHead, moduleMap, moduleHead, moduleParent, ownMap, moduleRow, namesOf, modulesOf, recordsOf, snapWith}
 use Rattle.snapshot.specs.declared.layout.Layout.{Layout}
 use Rattle.snapshot.proofs.Laws.{rows-zero, rows-put, length-rows, getD-rows}
-use Rattle.rules.specs.Tests.{Counts, countsOf, crateOf, mapOf, noMap, noModule, isOwn, isIn, mapRange, mapDefined, mapRepeated, mapPlaced, moduleDefined, modulePlaced}
-use Rattle.rules.specs.Steps.{Next, no, on, mapStep, moduleStep, addMap, addModule}
-use Rattle.rules.specs.Stands.{numberOf, countsIn, ownFrom, ownOf, Stands, Answered}
-use Rattle.rules.specs.declared.judge.Step.the-variants.{No, On}
-use Rattle.rules.proofs.Judged.{number-of, judge-no, judge-on, passes, Passed, counts-same, and-left, and-right}
-use Rattle.rules.proofs.Tabled.{Kept, names-kept, modules-kept, heads-kept, set-kept}
+use Rattle.record_rules.specs.Tests.{Counts, countsOf, crateOf, mapOf, noMap, noModule, isOwn, isIn, mapRange, mapDefined, mapRepeated, mapPlaced, moduleDefined, modulePlaced}
+use Rattle.record_rules.specs.Steps.{Next, no, on, mapStep, moduleStep, addMap, addModule}
+use Rattle.record_rules.specs.Stands.{numberOf, countsIn, ownFrom, ownOf, Stands, Answered}
+use Rattle.record_rules.specs.declared.judge.Step.the-variants.{No, On}
+use Rattle.record_rules.proofs.Judged.{number-of, judge-no, judge-on, passes, Passed, counts-same, and-left, and-right}
+use Rattle.record_rules.proofs.Tabled.{Kept, names-kept, modules-kept, heads-kept, set-kept}
 
 -- the own map of a crate, with one map more
 

@@ -12,12 +12,12 @@ use Rattle.snapshot.specs.Records.{Map, nameAt, dependencyAt, childAt, preludeA
 use Rattle.snapshot.specs.Layouts.{childBase, preludeBase, definitionBase, scopeBase, externBase, moduleMap, moduleParent, nameHead, snapWith}
 use Rattle.snapshot.specs.declared.layout.Layout.{Layout}
 use Rattle.snapshot.proofs.Laws.{length-rows, getD-rows}
-use Rattle.rules.specs.Tests.{countsOf, noName, isBuiltin, dependencyRange, dependencyDefined, childDefined, sameChild, childPlaced, preludeDefined, samePrelude, definitionRange, definitionDefined, definitionRepeated, definitionPlaced, scopeRange, scopeDefined, sameEntry, nsPlaced, importRange, importDefined, externDefined, sameExtern}
-use Rattle.rules.specs.Steps.{Next, no, on, dependencyStep, childStep, preludeStep, definitionStep, scopeStep, importStep, externStep, addDependency, addChild, addPrelude, addDefinition, addScope, addImport, addExtern}
-use Rattle.rules.specs.Stands.{numberOf, sameBy, countsIn, Stands, Answered}
-use Rattle.rules.specs.declared.judge.Step.the-variants.{No, On}
+use Rattle.record_rules.specs.Tests.{countsOf, noName, isBuiltin, dependencyRange, dependencyDefined, childDefined, sameChild, childPlaced, preludeDefined, samePrelude, definitionRange, definitionDefined, definitionRepeated, definitionPlaced, scopeRange, scopeDefined, sameEntry, nsPlaced, importRange, importDefined, externDefined, sameExtern}
+use Rattle.record_rules.specs.Steps.{Next, no, on, dependencyStep, childStep, preludeStep, definitionStep, scopeStep, importStep, externStep, addDependency, addChild, addPrelude, addDefinition, addScope, addImport, addExtern}
+use Rattle.record_rules.specs.Stands.{numberOf, sameBy, countsIn, Stands, Answered}
+use Rattle.record_rules.specs.declared.judge.Step.the-variants.{No, On}
 use Rattle.records.proofs.Grows.{dependencyOn, dependency-added, dependency-stands, childOn, child-added, child-stands, preludeOn, prelude-added, prelude-stands, definitionOn, definition-added, definition-stands, scopeOn, scope-added, scope-stands, importOn, import-added, import-stands, externOn, extern-added, extern-stands}
-use Rattle.rules.proofs.Judged.{number-of, judge-no, judge-on, passes, counts-same, child-again, prelude-again, definition-again, scope-again, extern-again, scope-definition, import-definition, ns-same, child-same, parent-same}
+use Rattle.record_rules.proofs.Judged.{number-of, judge-no, judge-on, passes, counts-same, child-again, prelude-again, definition-again, scope-again, extern-again, scope-definition, import-definition, ns-same, child-same, parent-same}
 
 -- the names of a builtin definition that is in range
 builtin-same : (W A : List ℕ) (names first : ℕ) → (leb names first || isBuiltin (nameAt W (nameHead A first))) ≡ (leb names first || isBuiltin (getD (rows (λ k. nameAt W (nameHead A k)) 0 names) first noName))

@@ -2,7 +2,7 @@
 ghost use mathlib.Core.Path.{_≡_};
 ghost use Prim.Native.Nat.{ℕ, _+_, _*_, _^_, _<_, _≤_};
 ghost use Rattle.snapshot.specs.Lists.{rows, any};
-ghost use Rattle.rules.specs.Stands.{sameBy};
+ghost use Rattle.record_rules.specs.Stands.{sameBy};
 use snapshot::words::field;
 use snapshot::words::payload;
 

@@ -2,7 +2,7 @@ use borrow.Author.Needs.{needs}
 use mathlib.Core.Path.{_≡_, refl, sym, ap, _∙_}
 use denote.Ref.{now}
 use native.Mathlib.Omega.{arith}
-use Rattle.rules.specs.Steps.{childStep}
+use Rattle.record_rules.specs.Steps.{childStep}
 use Rattle.records.proofs.Steps.{child-no, child-on}
 use Rattle.records.proofs.children.step.Statement.{statement}
 use Rattle.records.proofs.children.step.Tie as tie

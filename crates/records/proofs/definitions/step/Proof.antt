@@ -2,7 +2,7 @@ use borrow.Author.Needs.{needs}
 use mathlib.Core.Path.{_≡_, refl, sym, ap, _∙_}
 use denote.Ref.{now}
 use native.Mathlib.Omega.{arith}
-use Rattle.rules.specs.Steps.{definitionStep}
+use Rattle.record_rules.specs.Steps.{definitionStep}
 use Rattle.records.proofs.Steps.{definition-no, definition-on}
 use Rattle.records.proofs.definitions.step.Statement.{statement}
 use Rattle.records.proofs.definitions.step.Tie as tie

@@ -3,7 +3,7 @@ use Prim.Native.Nat.{_+_}
 use mathlib.Core.Path.{sym, _∙_}
 use native.Mathlib.Omega.{arith}
 use borrow.Author.Tests.{eq-eqb, ne-eqb}
-use Rattle.rules.proofs.Laws.{or-yes, or-no}
+use Rattle.record_rules.proofs.Laws.{or-yes, or-no}
 use Rattle.records.proofs.maps.placed.Statement.{statement}
 use Rattle.records.proofs.maps.placed.Tie as tie
 

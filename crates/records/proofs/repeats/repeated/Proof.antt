@@ -4,9 +4,9 @@ use mathlib.Core.Path.{_≡_, refl, sym, ap, _∙_}
 use native.Mathlib.Omega.{arith}
 use denote.Ref.{now}
 use Rattle.snapshot.specs.Lists.{rows, any}
-use Rattle.rules.specs.Stands.{sameBy}
+use Rattle.record_rules.specs.Stands.{sameBy}
 use Rattle.snapshot.proofs.Laws.{rows-whole, any-hit, any-miss, any-none}
-use Rattle.rules.proofs.Laws.{step-le}
+use Rattle.record_rules.proofs.Laws.{step-le}
 use Rattle.records.proofs.repeats.repeated.Statement.{statement}
 use Rattle.records.proofs.repeats.repeated.Tie as tie
 

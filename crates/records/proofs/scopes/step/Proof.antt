@@ -2,7 +2,7 @@ use borrow.Author.Needs.{needs}
 use mathlib.Core.Path.{_≡_, refl, sym, ap, _∙_}
 use denote.Ref.{now}
 use native.Mathlib.Omega.{arith}
-use Rattle.rules.specs.Steps.{scopeStep}
+use Rattle.record_rules.specs.Steps.{scopeStep}
 use Rattle.records.proofs.Steps.{scope-no, scope-on}
 use Prim.Native.Nat.{_+_}
 use Rattle.records.proofs.scopes.step.Statement.{statement}

@@ -1,0 +1,289 @@
+-- The steps of the kinds that have a table: names, crates, maps and modules.
+use Prim.Native.Nat.{ℕ, zero, suc, _+_, _-_, _*_, _≤_, _<_}
+use mathlib.Core.Path.{_≡_, refl, sym, _∙_, ap, ap₂, subst}
+use mathlib.Core.Logic.{_≢_}
+use mathlib.Core.List.{List, [], _∷_, _++_}
+use mathlib.Core.Bool.{Bool, true, false, _&&_, _||_, not}
+use native.Mathlib.Omega.{arith}
+use native.Mathlib.Nat.{lt-irrefl}
+use lib.Dec.{eqb, leb, ltb, lit<}
+use lib.ListN.{length, getD, set, length-append, List·getD-append}
+use lib.Seq.{getD-set-same, getD-set-other, getD-at}
+use borrow.Author.Count.{below-more}
+use borrow.Author.Tests.{ltb-true, leb-true, eqb-true, eqb-false, eq-eqb, ne-eqb, not-false}
+use Rattle.snapshot.specs.Lists.{rows, any}
+use Rattle.snapshot.specs.Words.{payOf, wordsOf}
+use Rattle.snapshot.specs.Records.{Map, Module, Crate, nameAt, crateAt, dependencyAt, mapAt, moduleAt, childAt, preludeAt, definitionAt, scopeAt, importAt, externAt}
+use Rattle.snapshot.specs.Layouts.{crateBase, dependencyBase, childBase, preludeBase, definitionBase, scopeBase, importBase, externBase, nameHead, moduleMap, moduleHead, moduleParent, ownMap, moduleRow, namesOf, modulesOf, recordsOf, snapWith}
+use Rattle.snapshot.specs.declared.layout.Layout.{Layout}
+use Rattle.snapshot.proofs.Laws.{rows-snoc, rows-zero, rows-ext, rows-put, length-rows, getD-rows}
+use Rattle.record_rules.specs.Tests.{countsOf, noMap, noModule, isOwn, isIn, nameRange, sameName, crateRange, mapRange, mapDefined, mapRepeated, mapPlaced, moduleDefined, modulePlaced}
+use Rattle.record_rules.specs.Steps.{Next, no, on, nameStep, crateStep, mapStep, moduleStep, addName, addCrate, addMap, addModule}
+use Rattle.record_rules.specs.Stands.{numberOf, countsIn, ownFrom, ownOf, Stands, Answered}
+use Rattle.record_rules.specs.declared.judge.Step.the-variants.{No, On}
+use Rattle.record_rules.proofs.Judged.{number-of, judge-no, judge-on, passes, counts-same, and-left, and-right}
+
+-- the words of a table, from one place to another, are kept
+abbrev pub Kept : List ℕ → List ℕ → ℕ → ℕ → Type 0
+Kept A B from to = (i : ℕ) → from ≤ i → i < to → getD B i 0 ≡ getD A i 0
+
+pub names-kept : (W A B : List ℕ) (n : ℕ) → n ≤ 2048 → Kept A B 0 2048 → namesOf W B n ≡ namesOf W A n
+names-kept W A B n h kept = rows-ext _ _ n (λ k p. ap (nameAt W) (kept k (omega arith) (omega arith)))
+
+row-kept : (A B : List ℕ) (m : ℕ) → m < 512 → Kept A B 2048 3584 → moduleRow B m ≡ moduleRow A m
+row-kept A B m h kept =
+    let p = kept (2048 + 3 * m) (omega arith) (omega arith) in
+    let q = kept (2048 + 3 * m + 2) (omega arith) (omega arith) in
+    λ i. record { map = p i; parent = q i }
+
+pub modules-kept : (A B : List ℕ) (n : ℕ) → n ≤ 512 → Kept A B 2048 3584 → modulesOf B n ≡ modulesOf A n
+modules-kept A B n h kept = rows-ext _ _ n (λ k p. row-kept A B k (omega arith) kept)
+
+pub set-kept : (A : List ℕ) (i v from to : ℕ) → ((j : ℕ) → from ≤ j → j < to → j ≢ i) → Kept A (set A i v) from to
+set-kept A i v from to h j p q = getD-set-other A i j v 0 (h j p q)
+
+pub heads-kept : (W A B : List ℕ) (n : ℕ) → n ≤ 2048 → Kept A B 0 2048
+    → ((j : ℕ) → j < n → nameHead A j + 1 + wordsOf (payOf (getD W (nameHead A j) 0)) ≤ length W)
+    → (j : ℕ) → j < n → nameHead B j + 1 + wordsOf (payOf (getD W (nameHead B j) 0)) ≤ length W
+heads-kept W A B n h kept old j p = rw (kept j (omega arith) (omega arith)) (old j p)
+
+none-yet : (c : ℕ) (ms : List Map) → length ms ≡ 0 → ownOf c ms ≡ 0
+unfolding ownFrom
+none-yet c [] e = refl
+none-yet c (x ∷ xs) e = absurd (omega arith)
+
+-- names
+
+abbrev pub nameOn : Layout → ℕ → Layout
+nameOn l next =
+    record {
+      text = next;
+      names = l .names + 1;
+      crates = l .crates;
+      dependencies = l .dependencies;
+      maps = l .maps;
+      modules = l .modules;
+      children = l .children;
+      preludes = l .preludes;
+      definitions = l .definitions;
+      scopes = l .scopes;
+      imports = l .imports;
+      externs = l .externs;
+      latest = l .latest;
+    }
+
+module _ (W A : List ℕ) (at next : ℕ) (l : Layout) (ms : List Map) (st : Stands W A 1 at l ms) (room : l .names < 2048) (large : 16384 ≤ length A) where
+  name-old : (k : ℕ) → k < l .names → getD (set A (l .names) at) k 0 ≡ getD A k 0
+  name-old k h = getD-set-other A (l .names) k at 0 (omega arith)
+
+  name-new : getD (set A (l .names) at) (l .names) 0 ≡ at
+  name-new = getD-set-same A (l .names) at 0 (omega arith)
+
+  name-added : snapWith W (set A (l .names) at) (nameOn l next) ms ≡ addName (snapWith W A l ms) (nameAt W at)
+  name-added =
+      let z-crates : l .crates ≡ 0 = st .upto .crates (lit< tt) in
+      let z-dependencies : l .dependencies ≡ 0 = st .upto .dependencies (lit< tt) in
+      let z-maps : l .maps ≡ 0 = st .upto .maps (lit< tt) in
+      let z-modules : l .modules ≡ 0 = st .upto .modules (lit< tt) in
+      let z-children : l .children ≡ 0 = st .upto .children (lit< tt) in
+      let z-preludes : l .preludes ≡ 0 = st .upto .preludes (lit< tt) in
+      let z-definitions : l .definitions ≡ 0 = st .upto .definitions (lit< tt) in
+      let z-scopes : l .scopes ≡ 0 = st .upto .scopes (lit< tt) in
+      let z-imports : l .imports ≡ 0 = st .upto .imports (lit< tt) in
+      let z-externs : l .externs ≡ 0 = st .upto .externs (lit< tt) in
+      let p : namesOf W (set A (l .names) at) (l .names + 1) ≡ namesOf W A (l .names) ++ (nameAt W at ∷ []) =
+      rows-put (λ k. nameAt W (getD A k 0)) _ (l .names) (nameAt W at) (λ k h. ap (nameAt W) (name-old k h)) (ap (nameAt W) name-new) in
+      let q-crates : recordsOf crateAt 1 W (crateBase (nameOn l next)) ((nameOn l next) .crates) ≡ recordsOf crateAt 1 W (crateBase l) (l .crates) = rows-zero _ _ _ z-crates in
+      let q-dependencies : recordsOf dependencyAt 3 W (dependencyBase (nameOn l next)) ((nameOn l next) .dependencies) ≡ recordsOf dependencyAt 3 W (dependencyBase l) (l .dependencies) = rows-zero _ _ _ z-dependencies in
+      let q-children : recordsOf childAt 2 W (childBase (nameOn l next)) ((nameOn l next) .children) ≡ recordsOf childAt 2 W (childBase l) (l .children) = rows-zero _ _ _ z-children in
+      let q-preludes : recordsOf preludeAt 2 W (preludeBase (nameOn l next)) ((nameOn l next) .preludes) ≡ recordsOf preludeAt 2 W (preludeBase l) (l .preludes) = rows-zero _ _ _ z-preludes in
+      let q-definitions : recordsOf definitionAt 3 W (definitionBase (nameOn l next)) ((nameOn l next) .definitions) ≡ recordsOf definitionAt 3 W (definitionBase l) (l .definitions) = rows-zero _ _ _ z-definitions in
+      let q-scopes : recordsOf scopeAt 7 W (scopeBase (nameOn l next)) ((nameOn l next) .scopes) ≡ recordsOf scopeAt 7 W (scopeBase l) (l .scopes) = rows-zero _ _ _ z-scopes in
+      let q-imports : recordsOf importAt 6 W (importBase (nameOn l next)) ((nameOn l next) .imports) ≡ recordsOf importAt 6 W (importBase l) (l .imports) = rows-zero _ _ _ z-imports in
+      let q-externs : recordsOf externAt 3 W (externBase (nameOn l next)) ((nameOn l next) .externs) ≡ recordsOf externAt 3 W (externBase l) (l .externs) = rows-zero _ _ _ z-externs in
+      let q-modules : modulesOf (set A (l .names) at) (l .modules) ≡ modulesOf A (l .modules) = rows-zero _ _ _ z-modules in
+      λ i. record { names = p i; maps = ms; modules = q-modules i; crates = q-crates i; dependencies = q-dependencies i; children = q-children i; preludes = q-preludes i; definitions = q-definitions i; scopes = q-scopes i; imports = q-imports i; externs = q-externs i }
+
+  name-stands : next ≡ at + 1 + wordsOf (payOf (getD W at 0)) → next ≤ length W → Stands W (set A (l .names) at) 1 next (nameOn l next) ms
+  name-stands e fits =
+      let z-crates : l .crates ≡ 0 = st .upto .crates (lit< tt) in
+      let z-dependencies : l .dependencies ≡ 0 = st .upto .dependencies (lit< tt) in
+      let z-maps : l .maps ≡ 0 = st .upto .maps (lit< tt) in
+      let z-modules : l .modules ≡ 0 = st .upto .modules (lit< tt) in
+      let z-children : l .children ≡ 0 = st .upto .children (lit< tt) in
+      let z-preludes : l .preludes ≡ 0 = st .upto .preludes (lit< tt) in
+      let z-definitions : l .definitions ≡ 0 = st .upto .definitions (lit< tt) in
+      let z-scopes : l .scopes ≡ 0 = st .upto .scopes (lit< tt) in
+      let z-imports : l .imports ≡ 0 = st .upto .imports (lit< tt) in
+      let z-externs : l .externs ≡ 0 = st .upto .externs (lit< tt) in
+      record {
+        place = omega arith;
+        within = fits;
+        upto =
+            record {
+              crates = st .upto .crates;
+              dependencies = st .upto .dependencies;
+              maps = st .upto .maps;
+              modules = st .upto .modules;
+              children = st .upto .children;
+              preludes = st .upto .preludes;
+              definitions = st .upto .definitions;
+              scopes = st .upto .scopes;
+              imports = st .upto .imports;
+              externs = st .upto .externs;
+            };
+        limited = record { names = omega arith; crates = st .limited .crates; modules = st .limited .modules; definitions = st .limited .definitions };
+        heads =
+            below-more (λ k. nameHead (set A (l .names) at) k + 1 + wordsOf (payOf (getD W (nameHead (set A (l .names) at) k) 0)) ≤ length W) (l .names)
+            (λ k h. rw (name-old k h) (st .heads k h)) (rw name-new (rw e at fits));
+        count = st .count;
+        latest = λ h. absurd (omega arith);
+        below = λ m h. absurd (omega arith);
+        rising = λ i j h k. absurd (omega arith);
+        inside = λ m h. absurd (omega arith);
+        own = λ c h. absurd (omega arith);
+      }
+
+module _ (W A : List ℕ) (at : ℕ) (l : Layout) (ms : List Map) (st : Stands W A 1 at l ms)
+    {n : ℕ} {a c e : Bool}
+    (j : n ≡ numberOf a true c true e)
+    (ea : a ≡ nameRange (nameAt W at))
+    (ec : c ≡ any (sameName (nameAt W at)) (namesOf W A (l .names)))
+    (ee : e ≡ ltb (l .names) 2048)
+  where
+    name-number : n ≡ numberOf (nameRange (nameAt W at)) true (any (sameName (nameAt W at)) ((snapWith W A l ms) .names)) true (ltb (length ((snapWith W A l ms) .names)) 2048)
+    name-number = number-of a true c true e (nameRange (nameAt W at)) true (any (sameName (nameAt W at)) ((snapWith W A l ms) .names)) true (ltb (length ((snapWith W A l ms) .names)) 2048) j ea refl (λ h. ec) (λ h. refl) (ee ∙ ap (λ m. ltb m 2048) (sym (length-rows _ (l .names))))
+
+    pub name-room : n ≡ 0 → l .names < 2048
+    name-room z = ltb-true (l .names) 2048 (ap (λ m. ltb m 2048) (sym (length-rows (λ k. nameAt W (nameHead A k)) (l .names))) ∙ passes (nameRange (nameAt W at)) true (any (sameName (nameAt W at)) ((snapWith W A l ms) .names)) true (ltb (length ((snapWith W A l ms) .names)) 2048) (sym z ∙ name-number) .room)
+
+    pub name-no : (n ≡ 0 → ⊥) → nameStep (snapWith W A l ms) (nameAt W at) ≡ no n
+    unfolding nameStep
+    name-no z = judge-no (nameRange (nameAt W at)) true (any (sameName (nameAt W at)) ((snapWith W A l ms) .names)) true (ltb (length ((snapWith W A l ms) .names)) 2048) (addName (snapWith W A l ms) (nameAt W at)) name-number z
+
+    pub name-on : n ≡ 0 → 16384 ≤ length A → {text : ℕ} → text ≡ at + 1 + wordsOf (payOf (getD W at 0)) → at + 1 + wordsOf (payOf (getD W at 0)) ≤ length W
+        → Answered W (set A (l .names) at) 1 (at + 1 + wordsOf (payOf (getD W at 0))) (nameStep (snapWith W A l ms) (nameAt W at)) (On (nameOn l text))
+    unfolding nameStep
+    name-on z large e fits =
+        let next : ℕ = at + 1 + wordsOf (payOf (getD W at 0)) in
+        subst (λ t. Answered W (set A (l .names) at) 1 next (nameStep (snapWith W A l ms) (nameAt W at)) (On (nameOn l t))) (sym e) (
+          ms,
+          judge-on (nameRange (nameAt W at)) true (any (sameName (nameAt W at)) ((snapWith W A l ms) .names)) true (ltb (length ((snapWith W A l ms) .names)) 2048) (addName (snapWith W A l ms) (nameAt W at)) (passes (nameRange (nameAt W at)) true (any (sameName (nameAt W at)) ((snapWith W A l ms) .names)) true (ltb (length ((snapWith W A l ms) .names)) 2048) (sym z ∙ name-number)) ∙ ap on (sym (name-added W A at next l ms st (name-room z) large)),
+          name-stands W A at next l ms st (name-room z) large refl fits,
+        )
+
+-- crates
+
+abbrev pub crateOn : Layout → Layout
+crateOn l =
+    record {
+      text = l .text;
+      names = l .names;
+      crates = l .crates + 1;
+      dependencies = l .dependencies;
+      maps = l .maps;
+      modules = l .modules;
+      children = l .children;
+      preludes = l .preludes;
+      definitions = l .definitions;
+      scopes = l .scopes;
+      imports = l .imports;
+      externs = l .externs;
+      latest = l .latest;
+    }
+
+module _ (W A : List ℕ) (at : ℕ) (l : Layout) (ms : List Map) (st : Stands W A 2 at l ms) (room : l .crates < 64) (large : 16384 ≤ length A) where
+  crate-kept : Kept A (set A (4096 + l .crates) 0) 0 4096
+  crate-kept = set-kept A (4096 + l .crates) 0 0 4096 (λ j p q. omega arith)
+
+  crate-added : snapWith W (set A (4096 + l .crates) 0) (crateOn l) ms ≡ addCrate (snapWith W A l ms) (crateAt W at)
+  crate-added =
+      let z-dependencies : l .dependencies ≡ 0 = st .upto .dependencies (lit< tt) in
+      let z-maps : l .maps ≡ 0 = st .upto .maps (lit< tt) in
+      let z-modules : l .modules ≡ 0 = st .upto .modules (lit< tt) in
+      let z-children : l .children ≡ 0 = st .upto .children (lit< tt) in
+      let z-preludes : l .preludes ≡ 0 = st .upto .preludes (lit< tt) in
+      let z-definitions : l .definitions ≡ 0 = st .upto .definitions (lit< tt) in
+      let z-scopes : l .scopes ≡ 0 = st .upto .scopes (lit< tt) in
+      let z-imports : l .imports ≡ 0 = st .upto .imports (lit< tt) in
+      let z-externs : l .externs ≡ 0 = st .upto .externs (lit< tt) in
+      let f : ℕ → Crate = λ j. crateAt W (crateBase l + 1 * j) in
+      let e : crateBase l + 1 * l .crates ≡ at = (let q = st .place in omega arith) in
+      let p : rows f 0 (l .crates + 1) ≡ rows f 0 (l .crates) ++ (crateAt W at ∷ []) =
+      rows-snoc f (l .crates) ∙ ap (λ h. rows f 0 (l .crates) ++ (crateAt W h ∷ [])) e in
+      let q-names : namesOf W (set A (4096 + l .crates) 0) (l .names) ≡ namesOf W A (l .names) = names-kept W A (set A (4096 + l .crates) 0) (l .names) (st .limited .names) (λ i u v. crate-kept i u (omega arith)) in
+      let q-dependencies : recordsOf dependencyAt 3 W (dependencyBase (crateOn l)) ((crateOn l) .dependencies) ≡ recordsOf dependencyAt 3 W (dependencyBase l) (l .dependencies) = rows-zero _ _ _ z-dependencies in
+      let q-children : recordsOf childAt 2 W (childBase (crateOn l)) ((crateOn l) .children) ≡ recordsOf childAt 2 W (childBase l) (l .children) = rows-zero _ _ _ z-children in
+      let q-preludes : recordsOf preludeAt 2 W (preludeBase (crateOn l)) ((crateOn l) .preludes) ≡ recordsOf preludeAt 2 W (preludeBase l) (l .preludes) = rows-zero _ _ _ z-preludes in
+      let q-definitions : recordsOf definitionAt 3 W (definitionBase (crateOn l)) ((crateOn l) .definitions) ≡ recordsOf definitionAt 3 W (definitionBase l) (l .definitions) = rows-zero _ _ _ z-definitions in
+      let q-scopes : recordsOf scopeAt 7 W (scopeBase (crateOn l)) ((crateOn l) .scopes) ≡ recordsOf scopeAt 7 W (scopeBase l) (l .scopes) = rows-zero _ _ _ z-scopes in
+      let q-imports : recordsOf importAt 6 W (importBase (crateOn l)) ((crateOn l) .imports) ≡ recordsOf importAt 6 W (importBase l) (l .imports) = rows-zero _ _ _ z-imports in
+      let q-externs : recordsOf externAt 3 W (externBase (crateOn l)) ((crateOn l) .externs) ≡ recordsOf externAt 3 W (externBase l) (l .externs) = rows-zero _ _ _ z-externs in
+      let q-modules : modulesOf (set A (4096 + l .crates) 0) (l .modules) ≡ modulesOf A (l .modules) = rows-zero _ _ _ z-modules in
+      λ i. record { names = q-names i; crates = p i; maps = ms; modules = q-modules i; dependencies = q-dependencies i; children = q-children i; preludes = q-preludes i; definitions = q-definitions i; scopes = q-scopes i; imports = q-imports i; externs = q-externs i }
+
+  crate-stands : at + 1 ≤ length W → Stands W (set A (4096 + l .crates) 0) 2 (at + 1) (crateOn l) ms
+  crate-stands fits =
+      let z-dependencies : l .dependencies ≡ 0 = st .upto .dependencies (lit< tt) in
+      let z-maps : l .maps ≡ 0 = st .upto .maps (lit< tt) in
+      let z-modules : l .modules ≡ 0 = st .upto .modules (lit< tt) in
+      let z-children : l .children ≡ 0 = st .upto .children (lit< tt) in
+      let z-preludes : l .preludes ≡ 0 = st .upto .preludes (lit< tt) in
+      let z-definitions : l .definitions ≡ 0 = st .upto .definitions (lit< tt) in
+      let z-scopes : l .scopes ≡ 0 = st .upto .scopes (lit< tt) in
+      let z-imports : l .imports ≡ 0 = st .upto .imports (lit< tt) in
+      let z-externs : l .externs ≡ 0 = st .upto .externs (lit< tt) in
+      let q-count = st .count in
+      record {
+        place = (let q = st .place in omega arith);
+        within = fits;
+        upto =
+            record {
+              crates = λ h. absurd (lt-irrefl 2 h);
+              dependencies = st .upto .dependencies;
+              maps = st .upto .maps;
+              modules = st .upto .modules;
+              children = st .upto .children;
+              preludes = st .upto .preludes;
+              definitions = st .upto .definitions;
+              scopes = st .upto .scopes;
+              imports = st .upto .imports;
+              externs = st .upto .externs;
+            };
+        limited = record { names = st .limited .names; crates = omega arith; modules = st .limited .modules; definitions = st .limited .definitions };
+        heads = heads-kept W A (set A (4096 + l .crates) 0) (l .names) (st .limited .names) (λ i u v. crate-kept i u (omega arith)) (st .heads);
+        count = st .count;
+        latest = λ h. absurd (omega arith);
+        below = λ m h. absurd (omega arith);
+        rising = λ i j h k. absurd (omega arith);
+        inside = λ m h. absurd (omega arith);
+        own =
+            below-more (λ c. ownMap (set A (4096 + l .crates) 0) c ≡ ownOf c ms) (l .crates)
+            (λ c h. getD-set-other A (4096 + l .crates) (4096 + c) 0 0 (omega arith) ∙ st .own c h)
+            (getD-set-same A (4096 + l .crates) 0 0 (omega arith) ∙ sym (none-yet (l .crates) ms (omega arith)));
+      }
+
+module _ (W A : List ℕ) (at : ℕ) (l : Layout) (ms : List Map) (st : Stands W A 2 at l ms)
+    {n : ℕ} {a e : Bool}
+    (j : n ≡ numberOf a true false true e)
+    (ea : a ≡ crateRange (crateAt W at))
+    (ee : e ≡ ltb (l .crates) 64)
+  where
+    crate-number : n ≡ numberOf (crateRange (crateAt W at)) true false true (ltb (length ((snapWith W A l ms) .crates)) 64)
+    crate-number = number-of a true false true e (crateRange (crateAt W at)) true false true (ltb (length ((snapWith W A l ms) .crates)) 64) j ea refl (λ h. refl) (λ h. refl) (ee ∙ ap (λ m. ltb m 64) (sym (length-rows _ (l .crates))))
+
+    pub crate-no : (n ≡ 0 → ⊥) → crateStep (snapWith W A l ms) (crateAt W at) ≡ no n
+    unfolding crateStep
+    crate-no z = judge-no (crateRange (crateAt W at)) true false true (ltb (length ((snapWith W A l ms) .crates)) 64) (addCrate (snapWith W A l ms) (crateAt W at)) crate-number z
+
+    crate-room : n ≡ 0 → l .crates < 64
+    crate-room z = ltb-true (l .crates) 64 (ap (λ m. ltb m 64) (sym (length-rows (λ k. crateAt W (crateBase l + 1 * k)) (l .crates))) ∙ passes (crateRange (crateAt W at)) true false true (ltb (length ((snapWith W A l ms) .crates)) 64) (sym z ∙ crate-number) .room)
+
+    pub crate-on : n ≡ 0 → 16384 ≤ length A → at + 1 ≤ length W
+        → Answered W (set A (4096 + l .crates) 0) 2 (at + 1) (crateStep (snapWith W A l ms) (crateAt W at)) (On (crateOn l))
+    unfolding crateStep
+    crate-on z large fits = (
+      ms,
+      judge-on (crateRange (crateAt W at)) true false true (ltb (length ((snapWith W A l ms) .crates)) 64) (addCrate (snapWith W A l ms) (crateAt W at)) (passes (crateRange (crateAt W at)) true false true (ltb (length ((snapWith W A l ms) .crates)) 64) (sym z ∙ crate-number)) ∙ ap on (sym (crate-added W A at l ms st (crate-room z) large)),
+      crate-stands W A at l ms st (crate-room z) large fits,
+    )

@@ -1,0 +1,63 @@
+use borrow.Author.Needs.{needs}
+use Prim.Native.Nat.{_+_, _-_, _≤_}
+use mathlib.Core.Path.{_≡_, refl, sym, ap, _∙_}
+use native.Mathlib.Omega.{arith}
+use denote.Ref.{now}
+use lib.ListN.{getD}
+use Rattle.snapshot.specs.Lists.{rows, any}
+use Rattle.snapshot.specs.Records.{nameAt}
+use Rattle.record_rules.specs.Tests.{sameName}
+use Rattle.snapshot.proofs.Laws.{rows-whole, any-hit, any-miss, any-none}
+use Rattle.record_rules.proofs.names.known.Statement.{statement}
+use Rattle.record_rules.proofs.names.known.Tie as tie
+
+abbrev Inv-loop : tie.InvT-loop
+Inv-loop words at names heads n k₀ k = (k ≤ n) × (any (sameName (nameAt words at)) (rows (λ j. nameAt names (getD heads j 0)) 0 n) ≡ any (sameName (nameAt words at)) (rows (λ j. nameAt names (getD heads j 0)) k (n - k)))
+
+abbrev μ-loop : tie.MeasureT-loop
+μ-loop words at names heads n k₀ k = n - k
+
+loop-holds : tie.Need-loop-holds Inv-loop μ-loop
+loop-holds c = (omega arith, rows-whole (any _) _ _)
+
+word-requires : tie.Need-word-requires Inv-loop μ-loop
+word-requires c κs = search needs
+
+same-text-requires : tie.Need-same-text-requires Inv-loop μ-loop
+same-text-requires c κs = search needs
+
+returns : tie.Need-returns Inv-loop μ-loop
+returns c =
+    let s = c .before .before .before .before .before .before .before .before in
+    let l = c .before .before .before .before .loop in
+    any-hit _ _ _ _ _ (l .inv .1) (omega arith) (ap (λ h. sameName (nameAt (now (s .args .words)) (s .args .at)) (nameAt (now (s .args .names)) h)) (sym (c .before .before .word .ensures)) ∙ sym (c .before .same-text .ensures) ∙ c .if1 .taken)
+
+add-k : tie.Need-add-k Inv-loop μ-loop
+add-k c = search needs
+
+loop-less : tie.Need-loop-less Inv-loop μ-loop
+loop-less c = search needs
+
+loop-again : tie.Need-loop-again Inv-loop μ-loop
+loop-again c =
+    let s = c .before .before .before .before .before .before .before .before in
+    let l = c .before .before .before .before .loop in
+    (omega arith, any-miss _ _ _ _ _ (l .inv .1) (omega arith) (ap (λ h. sameName (nameAt (now (s .args .words)) (s .args .at)) (nameAt (now (s .args .names)) h)) (sym (c .before .before .word .ensures)) ∙ sym (c .before .same-text .ensures) ∙ c .if1 .left))
+
+returns-2 : tie.Need-returns-2 Inv-loop μ-loop
+returns-2 c = any-none _ _ _ _ _ (c .before .loop .inv .1) (omega arith)
+
+pub known-spec : {M : Type 1} → statement M
+known-spec =
+    tie.close
+    (tie.spec
+    Inv-loop
+    μ-loop
+    loop-holds
+    word-requires
+    same-text-requires
+    returns
+    add-k
+    loop-less
+    loop-again
+    returns-2)

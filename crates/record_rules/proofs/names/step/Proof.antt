@@ -1,0 +1,91 @@
+use borrow.Author.Needs.{needs}
+use mathlib.Core.Path.{_≡_, refl, sym, ap, _∙_}
+use denote.Ref.{now}
+use native.Mathlib.Omega.{arith}
+use Rattle.record_rules.specs.Steps.{nameStep}
+use Rattle.record_rules.proofs.Tabled.{name-no, name-on}
+use Prim.Native.Nat.{_+_}
+use Rattle.snapshot.specs.Words.{wordsOf}
+use Rattle.record_rules.proofs.names.step.Statement.{statement}
+use Rattle.record_rules.proofs.names.step.Tie as tie
+
+in-range-requires : tie.Need-in-range-requires
+in-range-requires c κs = search needs
+
+known-requires : tie.Need-known-requires
+known-requires c κs = search needs
+
+judge-requires : tie.Need-judge-requires
+judge-requires c κs = search needs
+
+same-length : tie.Need-same-length
+same-length c = search needs
+
+returns : tie.Need-returns
+returns c ms st =
+    let k = c .before in
+    let s = k .before .before .before .before .before .before in
+    name-no (now (s .args .words)) (now (s .args .area)) (s .args .at) (s .args .l) ms st
+    (k .judge .ensures)
+    (k .before .before .before .in-range .ensures)
+    (k .before .known .ensures)
+    refl
+    (c .if1 .taken)
+
+cast-area : tie.Need-cast-area
+cast-area c = search needs
+
+mul-area : tie.Need-mul-area
+mul-area c = search needs
+
+slice-write-area : tie.Need-slice-write-area
+slice-write-area c = search needs
+
+add-m : tie.Need-add-m
+add-m c = search needs
+
+add-m-2 : tie.Need-add-m-2
+add-m-2 c = search needs
+
+payload-requires : tie.Need-payload-requires
+payload-requires c κs = search needs
+
+text-words-requires : tie.Need-text-words-requires
+text-words-requires c κs = search needs
+
+add-m-3 : tie.Need-add-m-3
+add-m-3 c = search needs
+
+same-length-2 : tie.Need-same-length-2
+same-length-2 c = search needs
+
+returns-2 : tie.Need-returns-2
+returns-2 c ms st =
+    let k = c .before .before .before in
+    let s = k .before .before .before .before .before .before in
+    name-on (now (s .args .words)) (now (s .args .area)) (s .args .at) (s .args .l) ms st
+    (k .judge .ensures)
+    (k .before .before .before .in-range .ensures)
+    (k .before .known .ensures)
+    refl
+    (c .before .before .if1 .left) (s .pre .room) (ap (λ x. s .args .at + 1 + x) (c .text-words .ensures ∙ ap wordsOf (c .before .payload .ensures))) (s .pre .fits)
+
+pub step-spec : {M : Type 1} → statement M
+step-spec =
+    tie.close
+    (tie.spec
+    in-range-requires
+    known-requires
+    judge-requires
+    same-length
+    returns
+    cast-area
+    mul-area
+    slice-write-area
+    add-m
+    add-m-2
+    payload-requires
+    text-words-requires
+    add-m-3
+    same-length-2
+    returns-2)
