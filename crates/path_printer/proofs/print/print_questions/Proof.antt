@@ -1,0 +1,85 @@
+use borrow.Author.Needs.{needs}
+use Prim.Native.Nat.{_+_, _-_, _≤_, _<_}
+use mathlib.Core.Path.{_≡_, refl, sym, _∙_}
+use native.Mathlib.Omega.{arith}
+use denote.Ref.{now}
+use lib.ListN.{length, take}
+use lib.Seq.{length-take-le}
+use Rattle.printer.proofs.Laws.{next-more}
+use Rattle.answer.proofs.Laws.{checks-judged}
+use Rattle.accept.specs.Post.{Judged}
+use Rattle.path_printer.proofs.print.print_questions.Statement.{statement}
+use Rattle.path_printer.proofs.print.print_questions.Tie as tie
+
+abbrev Inv-loop : tie.InvT-loop
+Inv-loop words k area₀ out₀ snapshot c at₀ area out at =
+    Judged snapshot area c × (length area ≡ length area₀) × (length out ≡ length out₀) × (length area₀ ≡ 16384) × (4166 ≤ length out₀)
+
+abbrev μ-loop : tie.MeasureT-loop
+μ-loop words k area₀ out₀ snapshot c at₀ area out at = length words - at
+
+slice-aggregate-snapshot : tie.Need-slice-aggregate-snapshot Inv-loop μ-loop
+slice-aggregate-snapshot c = sym (length-take-le _ _ (omega arith))
+
+check-requires : tie.Need-check-requires Inv-loop μ-loop
+check-requires c κs = search needs
+
+loop-holds : tie.Need-loop-holds Inv-loop μ-loop
+loop-holds c =
+    let s = c .before .before .before .before .before .before .before .before in
+    let k = c .before .before .check in
+    (checks-judged _ (now (s .args .area)) _ _ (sym (s .pre .2)) (k .ensures), refl, refl, k .kept .1 .0 ∙ sym (s .pre .2), s .pre .3)
+
+next-line-requires : tie.Need-next-line-requires Inv-loop μ-loop
+next-line-requires c κs =
+    let s = c .before .before .before .before .before .before .before .before .before .before .before .before in
+    let l = c .before .before .before .loop .inv in
+    (l .0, l .1 ∙ l .3, omega (arith, l .2, l .4), c .before .before .loop-test .taken, s .pre .1)
+
+slice-reshare-prefix-write-all : tie.Need-slice-reshare-prefix-write-all Inv-loop μ-loop
+slice-reshare-prefix-write-all c = search needs
+
+slice-aggregate-write-all : tie.Need-slice-aggregate-write-all Inv-loop μ-loop
+slice-aggregate-write-all c = search needs
+
+write-all-requires : tie.Need-write-all-requires Inv-loop μ-loop
+write-all-requires c κs = search needs
+
+loop-less : tie.Need-loop-less Inv-loop μ-loop
+loop-less c =
+    let m = next-more _ (c .before .before .before .before .before .before .before .before .before .before .loop .at) _ (c .before .before .before .before .before .before .before .before .before .loop-test .taken) (c .before .before .before .before .before .before .next-line .ensures .next) in
+    omega (arith, m, c .before .before .before .before .before .before .before .before .before .loop-test .taken)
+
+loop-again : tie.Need-loop-again Inv-loop μ-loop
+loop-again c =
+    let l = c .before .before .before .before .before .before .before .before .before .before .loop .inv in
+    let t = c .before .before .before .before .before .before .next-line in
+    (t .ensures .checked, t .kept .1 .1 .0 ∙ l .1, t .kept .1 .1 .1 .1 .1 .0 ∙ l .2, l .3, l .4)
+
+same-length : tie.Need-same-length Inv-loop μ-loop
+same-length c = c .before .loop .inv .1 ∙ c .before .before .before .before .check .kept .1 .0
+
+same-length-2 : tie.Need-same-length-2 Inv-loop μ-loop
+same-length-2 c = c .before .loop .inv .2
+
+returns : tie.Need-returns Inv-loop μ-loop
+returns c = search needs
+
+pub print-questions-spec : {M : Type 1} → statement M
+print-questions-spec =
+    tie.close
+    (tie.spec
+    Inv-loop
+    μ-loop
+    slice-aggregate-snapshot
+    check-requires
+    loop-holds
+    next-line-requires
+    slice-reshare-prefix-write-all
+    slice-aggregate-write-all
+    write-all-requires
+    loop-less
+    loop-again
+    same-length
+    same-length-2
+    returns)

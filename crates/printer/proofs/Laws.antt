@@ -1,0 +1,191 @@
+-- Laws of the printed lines.
+use Prim.Native.Nat.{ℕ, zero, suc, _+_, _-_, _%_, _≤_, _<_, min}
+use mathlib.Core.Path.{_≡_, refl, sym, _∙_, ap, ap₂, subst}
+use mathlib.Core.List.{List, [], _∷_, _++_}
+use mathlib.Core.Bool.{Bool, true, false, _&&_}
+use native.Mathlib.Omega.{arith}
+use native.Mathlib.Nat.{sub-zero}
+use borrow.Author.Tests.{eq-eqb, ne-eqb, lt-ltb, le-ltb, ltb-true, ltb-false}
+use lib.Dec.{eqb, leb, ltb}
+use lib.ListN.{length, getD, take, length-take}
+use lib.Seq.{length-take-le}
+use Rattle.io.specs.Counts.{Counts}
+use Rattle.snapshot.specs.Words.{kindOf, payOf}
+use Rattle.snapshot.specs.Records.{Snapshot}
+use Rattle.snapshot.specs.Layouts.{snapOf}
+use Rattle.snapshot.specs.declared.layout.Layout.{Layout}
+use Rattle.accept.specs.Verdict.{Verdict, refuse, accept, verdict, empty}
+use Rattle.accept.specs.Post.{Reads, Judged}
+use Rattle.accept.specs.declared.check.Checked.{Checked}
+use Rattle.accept.specs.declared.check.Checked.the-variants.{Refused, Accepted}
+use Rattle.accept.proofs.Accepted.{by-test}
+use Rattle.printing.specs.Output.{Put}
+use Rattle.find_path.specs.declared.Question.{Question}
+use Rattle.find_path.specs.declared.Report.{Report}
+use Rattle.find_path.specs.Report.{callFault, refused, reportBy, reportUnless, reportOf}
+use Rattle.find_path.specs.Line.{bytesOf, lineIn, lineOf, snapshotOf}
+use Rattle.find_path.proofs.Reports.{report-bounded}
+use Rattle.answer.specs.Answers.{Questioned}
+use Rattle.printer.specs.declared.lines.Turn.{Turn}
+use Rattle.printer.specs.Printed.{firstFrom, questionsAt, isArgument, wholeAt, questionAt, lineAt, nextAt, inputFault, Printed}
+use Rattle.printer.specs.Lines.{LineOf}
+
+-- faults of an input
+
+module _ (B : List ℕ) where
+  pub too-long : 65536 < length B → 40 ≡ inputFault B
+  unfolding inputFault
+  too-long h = rw (inputFault, lt-ltb _ _ h)
+
+  pub a-rest : length B ≤ 65536 → (length B % 4 ≡ 0 → ⊥) → 41 ≡ inputFault B
+  unfolding inputFault
+  a-rest h p = rw (inputFault, le-ltb _ _ h, ne-eqb _ _ p)
+
+  pub no-fault : length B ≤ 65536 → length B % 4 ≡ 0 → 0 ≡ inputFault B
+  unfolding inputFault
+  no-fault h p = rw (inputFault, le-ltb _ _ h, eq-eqb _ _ p)
+
+  pub fault-free : 0 ≡ inputFault B → length B ≤ 65536
+  fault-free e = by-test (ltb 65536 (length B)) (λ t. absurd (omega (arith, e, too-long (ltb-true _ _ t)))) (λ t. ltb-false _ _ t)
+
+-- where the questions begin
+
+module _ (W : List ℕ) where
+  pub first-start : questionsAt W ≡ firstFrom W 0 (length W - 0)
+  unfolding questionsAt
+  first-start = rw sub-zero
+
+  module _ (i : ℕ) (e : questionsAt W ≡ firstFrom W i (length W - i)) where
+    left : i < length W → length W - i ≡ suc (length W - (i + 1))
+    left h = omega arith
+
+    pub first-here : (k : ℕ) → i < length W → k ≡ kindOf (getD W i 0) → k ≡ 12 → i ≡ questionsAt W
+    unfolding firstFrom
+    first-here k h q t = let z : kindOf (getD W i 0) ≡ 12 = sym q ∙ t in sym (e ∙ rw (left h, firstFrom, eq-eqb _ _ z))
+
+    pub first-later : (k : ℕ) → i < length W → k ≡ kindOf (getD W i 0) → (k ≡ 12 → ⊥) → questionsAt W ≡ firstFrom W (i + 1) (length W - (i + 1))
+    unfolding firstFrom
+    first-later k h q t = let z : (kindOf (getD W i 0) ≡ 12 → ⊥) = λ y. t (q ∙ y) in e ∙ rw (left h, firstFrom, ne-eqb _ _ z)
+
+    pub first-none : length W ≤ i → i ≡ questionsAt W
+    unfolding firstFrom
+    first-none h = let z : length W - i ≡ 0 = omega arith in sym (e ∙ rw (z, firstFrom))
+
+-- questions
+
+pub whole-same : (W : List ℕ) (i k : ℕ) (a b c d e : Bool) → k ≡ kindOf (getD W i 0) → a ≡ isArgument W (i + 1) → b ≡ isArgument W (i + 2)
+    → c ≡ isArgument W (i + 3) → d ≡ isArgument W (i + 4) → e ≡ isArgument W (i + 5)
+    → (eqb k 12 && ((a && b) && ((c && d) && (e && leb (i + 6) (length W))))) ≡ wholeAt W i
+unfolding wholeAt
+whole-same W i k a b c d e p q r s t u =
+    ap₂ (λ x y. x && y) (ap (λ x. eqb x 12) p)
+    (ap₂ (λ x y. x && y) (ap₂ (λ x y. x && y) q r) (ap₂ (λ x y. x && y) (ap₂ (λ x y. x && y) s t) (ap (λ x. x && leb (i + 6) (length W)) u)))
+
+pub question-same : (W : List ℕ) (i ns d m p o f : ℕ) → ns ≡ getD W (i + 1) 0 → d ≡ payOf (getD W i 0) → m ≡ getD W (i + 2) 0
+    → p ≡ getD W (i + 3) 0 → o ≡ getD W (i + 4) 0 → f ≡ getD W (i + 5) 0
+    → _≡_ {A = Question} (record { query = record { ns = ns; definition = d; from = m; prefix = p; options = o }; fuel = f }) (questionAt W i)
+unfolding questionAt
+question-same W i ns d m p o f a b c e g h =
+    λ j. record { query = record { ns = a j; definition = b j; from = c j; prefix = e j; options = g j }; fuel = h j }
+
+-- the line of a question
+
+counts-of : {old out t : List ℕ} {n : ℕ} → Put old 0 t out n → Counts n out
+counts-of {old} {out} {t} {n} p =
+    let e : length (take n out) ≡ length t = ap length (p .same) in
+    let q : length (take n out) ≡ min n (length out) = length-take n out in
+    let x = p .next in
+    let h : n ≤ length out = omega arith in
+    (h, sym (length-take-le n out h))
+
+pub refusal-counts : {old out : List ℕ} {n : ℕ} (k : ℕ) → ((s : Snapshot) → Put old 0 (lineIn s (refused k) ++ bytesOf "\n") out n) → Counts n out
+refusal-counts k p = counts-of (p empty)
+
+numbered : (r : Report) (k : ℕ) → r ≡ refused k → r ≡ refused (r .number)
+unfolding refused
+numbered r k e = e ∙ ap refused (sym (ap (λ (x : Report). x .number) e))
+
+module _ (S : List ℕ) (q : Question) where
+  by-verdict : (v : Verdict) (n place : ℕ) → v ≡ refuse n place → reportBy (q .query) (q .fuel) v ≡ refused n
+  unfolding reportBy
+  by-verdict v n place e = ap (reportBy (q .query) (q .fuel)) e
+
+  by-call : (m n place : ℕ) → verdict S ≡ refuse n place
+      → reportUnless S (q .query) (q .fuel) m ≡ refused (reportUnless S (q .query) (q .fuel) m .number)
+  unfolding reportUnless
+  by-call zero n place e = numbered _ n (by-verdict (verdict S) n place e)
+  by-call (suc m) n place e = numbered _ (suc m) refl
+
+  -- a refused snapshot refuses each question
+  refusal-only : (n place : ℕ) → verdict S ≡ refuse n place → reportOf S 16384 q ≡ refused (reportOf S 16384 q .number)
+  unfolding reportOf
+  refusal-only n place e = by-call (callFault 16384 (q .query) (q .fuel)) n place e
+
+  module _ (A : List ℕ) (c : Checked) (r : Report) (a : Questioned S q c A r) where
+    pub reads-of : (l : Layout) → c ≡ Accepted l → Reads S A l
+    reads-of l e =
+        let j : Judged S A (Accepted l) = subst (λ (x : Checked). Judged S A x) e (a .checked) in
+        record { same = sym (j .same); tables = j .tables }
+
+    pub few-names : r .count ≤ 16
+    few-names = rw (a .report) (report-bounded S 16384 q .few)
+
+    module _ (old out : List ℕ) (t : ℕ) where
+      pub line-refused : (n place : ℕ) → c ≡ Refused n place
+          → ((s : Snapshot) → Put old 0 (lineIn s (refused (r .number)) ++ bytesOf "\n") out t) → LineOf S c q A out t
+      unfolding lineOf
+      line-refused n place e p =
+          let v : verdict S ≡ refuse n place = sym (subst (λ (x : Checked). Judged S A x) e (a .checked) .same) in
+          let u : refused (r .number) ≡ reportOf S 16384 q = ap (λ (x : Report). refused (x .number)) (a .report) ∙ sym (refusal-only n place v) in
+          let w = p (snapshotOf (verdict S)) in
+          record {
+            line = w .same ∙ ap (λ x. lineIn (snapshotOf (verdict S)) x ++ bytesOf "\n") u;
+            counts = counts-of w;
+            checked = a .checked;
+          }
+
+      pub line-accepted : (l : Layout) → c ≡ Accepted l → Put old 0 (lineIn (snapOf S A l) r ++ bytesOf "\n") out t → LineOf S c q A out t
+      unfolding lineOf snapshotOf
+      line-accepted l e p =
+          let v : snapOf S A l ≡ snapshotOf (verdict S) = ap snapshotOf (subst (λ (x : Checked). Judged S A x) e (a .checked) .same) in
+          record {
+            line = p .same ∙ ap₂ (λ x y. lineIn x y ++ bytesOf "\n") v (a .report);
+            counts = counts-of p;
+            checked = a .checked;
+          }
+
+-- a turn
+
+module _ (W S : List ℕ) (c : Checked) (i : ℕ) (A out : List ℕ) where
+  pub turn-refused : (old : List ℕ) (n : ℕ) (b : Bool) → b ≡ wholeAt W i → b ≡ false → Judged S A c
+      → ((s : Snapshot) → Put old 0 (lineIn s (refused 42) ++ bytesOf "\n") out n)
+      → Printed W S c i A out (record { bytes = n; next = length W })
+  unfolding lineAt nextAt
+  turn-refused old n b e t j p =
+      let f : wholeAt W i ≡ false = sym e ∙ t in
+      let w = p empty in
+      record {
+        line = w .same ∙ sym (rw (lineAt, f));
+        counts = counts-of w;
+        next = sym (rw (nextAt, f));
+        checked = j;
+      }
+
+  pub turn-line : (n : ℕ) (b : Bool) (q : Question) → b ≡ wholeAt W i → b ≡ true → q ≡ questionAt W i → LineOf S c q A out n
+      → Printed W S c i A out (record { bytes = n; next = i + 6 })
+  unfolding lineAt nextAt
+  turn-line n b q e t h p =
+      let f : wholeAt W i ≡ true = sym e ∙ t in
+      record {
+        line = p .line ∙ ap (λ x. lineOf S x ++ bytesOf "\n") h ∙ sym (rw (lineAt, f));
+        counts = p .counts;
+        next = sym (rw (nextAt, f));
+        checked = p .checked;
+      }
+
+pub next-more : (W : List ℕ) (i n : ℕ) → i < length W → n ≡ nextAt W i → i < n
+unfolding nextAt
+next-more W i n h e =
+    by-test (wholeAt W i)
+    (λ t. let f : n ≡ i + 6 = e ∙ rw (nextAt, t) in omega arith)
+    (λ t. let f : n ≡ length W = e ∙ rw (nextAt, t) in omega arith)

@@ -1,0 +1,66 @@
+use borrow.Author.Needs.{needs}
+use denote.Ref.{now}
+use Rattle.printer.proofs.Laws.{reads-of, few-names, line-refused, line-accepted}
+use Rattle.printer.proofs.lines.question_line.Statement.{statement}
+use Rattle.printer.proofs.lines.question_line.Tie as tie
+
+report-on-requires : tie.Need-report-on-requires
+report-on-requires c κs = search needs
+
+enum-told : tie.Need-enum-told
+enum-told c = search needs
+
+put-refusal-requires : tie.Need-put-refusal-requires
+put-refusal-requires c κs = search needs
+
+enum-known-c : tie.Need-enum-known-c
+enum-known-c c = search needs
+
+put-line-requires : tie.Need-put-line-requires
+put-line-requires c κs =
+    let s = c .before .before .before .before .before .before .before .before .before .before .before .before in
+    let a = c .before .before .before .before .before .before .before .report-on in (
+      reads-of (now (s .args .snapshot)) (s .args .q) (a .last .1 .0) (s .args .c) (a .result) (a .ensures) _ (c .before .before .before .c .given .1),
+      s .pre .2,
+      few-names (now (s .args .snapshot)) (s .args .q) (a .last .1 .0) (s .args .c) (a .result) (a .ensures),
+    )
+
+same-length : tie.Need-same-length
+same-length c = search needs
+
+same-length-2 : tie.Need-same-length-2
+same-length-2 c = search needs
+
+returns : tie.Need-returns
+returns c =
+    let s = c .before .before .before .before .before .before .before .before .before .before .before .before .before .args in
+    let a = c .before .before .before .before .before .before .before .before .report-on in
+    line-refused (now (s .snapshot)) (s .q) (a .last .1 .0) (s .c) (a .result) (a .ensures) _ _ _ _ _ (c .before .before .before .before .enum-told .given .1) (c .before .before .put-refusal .ensures)
+
+same-length-3 : tie.Need-same-length-3
+same-length-3 c = search needs
+
+same-length-4 : tie.Need-same-length-4
+same-length-4 c = search needs
+
+returns-2 : tie.Need-returns-2
+returns-2 c =
+    let s = c .before .before .before .before .before .before .before .before .before .before .before .before .before .before .before .args in
+    let a = c .before .before .before .before .before .before .before .before .before .before .report-on in
+    line-accepted (now (s .snapshot)) (s .q) (a .last .1 .0) (s .c) (a .result) (a .ensures) _ _ _ _ (c .before .before .before .before .before .before .c .given .1) (c .before .before .put-line .ensures)
+
+pub question-line-spec : {M : Type 1} → statement M
+question-line-spec =
+    tie.close
+    (tie.spec
+    report-on-requires
+    enum-told
+    put-refusal-requires
+    enum-known-c
+    put-line-requires
+    same-length
+    same-length-2
+    returns
+    same-length-3
+    same-length-4
+    returns-2)

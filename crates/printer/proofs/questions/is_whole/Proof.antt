@@ -1,0 +1,64 @@
+use borrow.Author.Needs.{needs}
+use denote.Ref.{now}
+use Rattle.printer.proofs.Laws.{whole-same}
+use Rattle.printer.proofs.questions.is_whole.Statement.{statement}
+use Rattle.printer.proofs.questions.is_whole.Tie as tie
+
+kind-requires : tie.Need-kind-requires
+kind-requires c κs = search needs
+
+add-is-argument : tie.Need-add-is-argument
+add-is-argument c = search needs
+
+is-argument-requires : tie.Need-is-argument-requires
+is-argument-requires c κs = search needs
+
+add-is-argument-2 : tie.Need-add-is-argument-2
+add-is-argument-2 c = search needs
+
+is-argument-requires-2 : tie.Need-is-argument-requires-2
+is-argument-requires-2 c κs = search needs
+
+add-is-argument-3 : tie.Need-add-is-argument-3
+add-is-argument-3 c = search needs
+
+is-argument-requires-3 : tie.Need-is-argument-requires-3
+is-argument-requires-3 c κs = search needs
+
+add-is-argument-4 : tie.Need-add-is-argument-4
+add-is-argument-4 c = search needs
+
+is-argument-requires-4 : tie.Need-is-argument-requires-4
+is-argument-requires-4 c κs = search needs
+
+add-is-argument-5 : tie.Need-add-is-argument-5
+add-is-argument-5 c = search needs
+
+is-argument-requires-5 : tie.Need-is-argument-requires-5
+is-argument-requires-5 c κs = search needs
+
+add-third : tie.Need-add-third
+add-third c = search needs
+
+returns : tie.Need-returns
+returns c =
+    let s = c .before .before .before .before .before .before .before .args in
+    whole-same (now (s .words)) (s .at) _ _ _ _ _ _ (c .before .before .before .before .before .kind .ensures) (c .before .before .before .before .is-argument .ensures) (c .before .before .before .is-argument2 .ensures) (c .before .before .is-argument3 .ensures) (c .before .is-argument4 .ensures) (c .is-argument5 .ensures)
+
+pub is-whole-spec : {M : Type 1} → statement M
+is-whole-spec =
+    tie.close
+    (tie.spec
+    kind-requires
+    add-is-argument
+    is-argument-requires
+    add-is-argument-2
+    is-argument-requires-2
+    add-is-argument-3
+    is-argument-requires-3
+    add-is-argument-4
+    is-argument-requires-4
+    add-is-argument-5
+    is-argument-requires-5
+    add-third
+    returns)

@@ -1,0 +1,90 @@
+-- The lines that are printed for an input.
+use Prim.Native.Nat.{ℕ, zero, suc, _+_, _/_, _%_}
+use mathlib.Core.Path.{_≡_}
+use mathlib.Core.List.{List, [], _∷_, _++_}
+use mathlib.Core.Bool.{Bool, true, false, _&&_}
+use lib.Dec.{eqb, leb, ltb}
+use lib.ListN.{length, getD, take}
+use Rattle.io.specs.Counts.{Counts}
+use Rattle.snapshot.specs.Words.{kindOf, payOf}
+use Rattle.accept.specs.Verdict.{empty}
+use Rattle.accept.specs.Post.{Judged}
+use Rattle.accept.specs.declared.check.Checked.{Checked}
+use Rattle.printing.specs.Input.{wordsIn}
+use Rattle.find_path.specs.declared.Question.{Question}
+use Rattle.find_path.specs.Report.{refused}
+use Rattle.find_path.specs.Line.{bytesOf, lineIn, lineOf}
+use Rattle.printer.specs.declared.lines.Turn.{Turn}
+
+-- the first place of a head of kind 12, from a place on; n words are left there
+unfoldable pub firstFrom : List ℕ → ℕ → ℕ → ℕ
+firstFrom W i zero = i
+firstFrom W i (suc n) = elim (eqb (kindOf (getD W i 0)) 12) [ true ↦ i | false ↦ firstFrom W (i + 1) n ]
+
+-- where the questions begin, or the number of words
+unfoldable pub questionsAt : List ℕ → ℕ
+questionsAt W = firstFrom W 0 (length W)
+
+abbrev pub isArgument : List ℕ → ℕ → Bool
+isArgument W i = eqb (kindOf (getD W i 0)) 0
+
+-- a whole question: a head of kind 12 and five arguments
+unfoldable pub wholeAt : List ℕ → ℕ → Bool
+wholeAt W i =
+    eqb (kindOf (getD W i 0)) 12
+    && ((isArgument W (i + 1) && isArgument W (i + 2))
+    && ((isArgument W (i + 3) && isArgument W (i + 4))
+    && (isArgument W (i + 5) && leb (i + 6) (length W))))
+
+-- head: definition; arguments: namespace, viewing module, prefix, options, fuel
+unfoldable pub questionAt : List ℕ → ℕ → Question
+questionAt W i =
+    record {
+      query = record {
+        ns = getD W (i + 1) 0;
+        definition = payOf (getD W i 0);
+        from = getD W (i + 2) 0;
+        prefix = getD W (i + 3) 0;
+        options = getD W (i + 4) 0;
+      };
+      fuel = getD W (i + 5) 0;
+    }
+
+-- the line of a refusal of the input
+abbrev pub refusalLine : ℕ → List ℕ
+refusalLine n = lineIn empty (refused n)
+
+-- S are the words of the snapshot: the line of what stands at a place of the words W, and the place after it
+unfoldable pub lineAt : List ℕ → List ℕ → ℕ → List ℕ
+lineAt W S i = elim (wholeAt W i) [ true ↦ lineOf S (questionAt W i) | false ↦ refusalLine 42 ]
+
+unfoldable pub nextAt : List ℕ → ℕ → ℕ
+nextAt W i = elim (wholeAt W i) [ true ↦ i + 6 | false ↦ length W ]
+
+-- the lines from a place on; n is at least the number of words left
+unfoldable pub linesFrom : ℕ → List ℕ → List ℕ → ℕ → List (List ℕ)
+linesFrom zero W S i = []
+linesFrom (suc n) W S i = elim (ltb i (length W)) [ true ↦ lineAt W S i ∷ linesFrom n W S (nextAt W i) | false ↦ [] ]
+
+-- too many bytes, a rest of 1 to 3 bytes, or 0 for none
+unfoldable pub inputFault : List ℕ → ℕ
+inputFault B = elim (ltb 65536 (length B)) [ true ↦ 40 | false ↦ elim (eqb (length B % 4) 0) [ true ↦ 0 | false ↦ 41 ] ]
+
+unfoldable pub linesOf : List ℕ → List (List ℕ)
+linesOf W = linesFrom (length W) W (take (questionsAt W) W) (questionsAt W)
+
+unfoldable pub linesUnless : List ℕ → ℕ → List (List ℕ)
+linesUnless B zero = linesOf (wordsIn B (length B / 4))
+linesUnless B (suc n) = refusalLine (suc n) ∷ []
+
+-- the lines for the bytes of an input; each is printed with a byte 10 after it
+unfoldable pub printed : List ℕ → List (List ℕ)
+printed B = linesUnless B (inputFault B)
+
+-- One turn of the printer: the line of a place stands at the front of the bytes, with its end, the next place is right, and
+-- the snapshot stays checked.
+pub record Printed (W S : List ℕ) (c : Checked) (i : ℕ) (A out : List ℕ) (r : Turn) : Type 0 where
+  pub line : take (r .bytes) out ≡ lineAt W S i ++ bytesOf "\n"
+  pub counts : Counts (r .bytes) out
+  pub next : r .next ≡ nextAt W i
+  pub checked : Judged S A c

@@ -1,0 +1,68 @@
+//! The line of a question.
+ghost use mathlib.Core.Path.{_≡_};
+ghost use mathlib.Core.List.{_++_};
+ghost use Prim.Native.Nat.{ℕ, _+_, _^_, _≤_, _<_};
+ghost use lib.ListN.{length, take};
+ghost use Rattle.io.specs.Counts.{Counts};
+ghost use Rattle.accept.specs.Post.{Judged};
+ghost use Rattle.find_path.specs.Line.{bytesOf, lineOf};
+ghost use Rattle.printer.specs.Printed.{Printed};
+ghost use Rattle.printer.specs.Lines.{LineOf};
+use crate::questions::is_whole;
+use crate::questions::question_at;
+use accept::check::Checked;
+use answer::checked::report_on;
+use find_path::Question;
+use line::line::put_line;
+use line::line::put_refusal;
+
+// The line of a question on checked words, which stay so.
+fn question_line(
+    snapshot: &[u32],
+    area: &mut [u32],
+    c: Checked,
+    q: Question,
+    out: &mut [u8],
+) -> usize
+    requires { ⌜ Judged (now snapshot) (now area) c × (length (now area) ≡ 16384) × (4166 ≤ length (now out)) ⌝ }
+    ensures { λ r. ⌜ LineOf (now (snapshot .entry)) c q (now (area .exit)) (now (out .exit)) r ⌝ }
+{
+    let r = report_on(snapshot, area, c, q);
+    match c {
+        Checked::Refused(_, _) => put_refusal(out, r.number),
+        Checked::Accepted(l) => put_line(out, snapshot, area, l, r),
+    }
+}
+
+/// How many bytes a line has, and the place after what it is for.
+pub struct Turn {
+    pub bytes: usize,
+    pub next: usize,
+}
+
+/// The line of what stands at a place: of a whole question, or the refusal of words that are none.
+pub fn next_line(
+    words: &[u32],
+    snapshot: &[u32],
+    area: &mut [u32],
+    c: Checked,
+    at: usize,
+    out: &mut [u8],
+) -> Turn
+    requires { ⌜ Judged (now snapshot) (now area) c × (length (now area) ≡ 16384) × (4166 ≤ length (now out)) × (at < length (now words)) × (length (now words) ≤ 16384) ⌝ }
+    ensures { λ r. ⌜ Printed (now (words .entry)) (now (snapshot .entry)) c at (now (area .exit)) (now (out .exit)) r ⌝ }
+{
+    if !is_whole(words, at) {
+        let n = put_refusal(out, 42);
+        return Turn {
+            bytes: n,
+            next: words.len(),
+        };
+    }
+    let q = question_at(words, at);
+    let n = question_line(snapshot, area, c, q, out);
+    Turn {
+        bytes: n,
+        next: at + 6,
+    }
+}
