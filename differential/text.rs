@@ -75,8 +75,7 @@ fn parts(folder: &Path, stand_ins: &Path) -> Vec<Part> {
         &["def_map", "local_def_map", "only_local_def_map", "containing_module"],
     );
     let walk = with_impl("impl Visibility", &visibility, &["is_visible_from", "is_visible_from_def_map_"]);
-    let scopes =
-        with_impl("impl ItemScope", &item_scope, &["modules_in_scope", "get", "type_", "name_of", "names_of"]);
+    let scopes = with_impl("impl ItemScope", &item_scope, &["modules_in_scope", "get", "type_", "name_of", "names_of"]);
     let items = item(&item_scope, "pub enum ItemInNs") + "\n" + &item(&item_scope, "impl ItemInNs");
     let maps = with_impl(
         "impl DefMap",
@@ -90,11 +89,11 @@ fn parts(folder: &Path, stand_ins: &Path) -> Vec<Part> {
 
     let mut parts = vec![
         Part { name: "lib", text: stand_in("lib") + &modules },
-        Part { name: "visibility", text: stand_in("visibility") + DERIVED + &item(&visibility, "pub enum Visibility") + &walk },
         Part {
-            name: "item_scope",
-            text: stand_in("item_scope") + DERIVED + &items + &scopes,
+            name: "visibility",
+            text: stand_in("visibility") + DERIVED + &item(&visibility, "pub enum Visibility") + &walk,
         },
+        Part { name: "item_scope", text: stand_in("item_scope") + DERIVED + &items + &scopes },
         Part { name: "nameres", text: stand_in("nameres") + &index + "\n" + &root + &maps + &locals },
         Part { name: "import_map", text: stand_in("import_map") + &infos },
         Part { name: "find_path", text: source(folder, "find_path") + &stand_in("find_path") },
@@ -114,16 +113,46 @@ const EDITS: &[Edit] = &[
     Edit { part: "find_path", within: "", times: 1, old: "use hir_expand::{", new: "use super::hir_expand::{" },
     Edit { part: "find_path", within: "", times: 1, old: "use intern::", new: "use super::intern::" },
     Edit { part: "find_path", within: "", times: 1, old: "use rustc_hash::", new: "use super::rustc_hash::" },
-    Edit { part: "find_path", within: "", times: 1, old: "use crate::{", new: "use super::{cov_mark, tracing};\nuse super::{" },
+    Edit {
+        part: "find_path",
+        within: "",
+        times: 1,
+        old: "use crate::{",
+        new: "use super::{cov_mark, tracing};\nuse super::{",
+    },
     // tracing; its spans and the coverage marks are empty macros of the stand-ins
     Edit { part: "find_path", within: "", times: 2, old: "#[tracing::instrument(skip_all)]", new: "" },
     // the tank: the question's fuel, charges counted, an empty tank noted
     Edit { part: "find_path", within: "find_path", times: 1, old: "FIND_PATH_FUEL", new: "db.store().tank.fuel.get()" },
-    Edit { part: "find_path", within: "calculate_best_path", times: 1, old: "if fuel == 0 {", new: "if fuel == 0 {\n        ctx.db.store().tank.empty.set(true);" },
-    Edit { part: "find_path", within: "calculate_best_path", times: 1, old: "ctx.fuel.set(fuel - 1);", new: "ctx.fuel.set(fuel - 1);\n    ctx.db.store().tank.charge();" },
+    Edit {
+        part: "find_path",
+        within: "calculate_best_path",
+        times: 1,
+        old: "if fuel == 0 {",
+        new: "if fuel == 0 {\n        ctx.db.store().tank.empty.set(true);",
+    },
+    Edit {
+        part: "find_path",
+        within: "calculate_best_path",
+        times: 1,
+        old: "ctx.fuel.set(fuel - 1);",
+        new: "ctx.fuel.set(fuel - 1);\n    ctx.db.store().tank.charge();",
+    },
     // the length left
-    Edit { part: "find_path", within: "find_in_dep", times: 1, old: "max_len - 1", new: "length_left(max_len, best_choice)" },
-    Edit { part: "find_path", within: "calculate_best_path_local", times: 1, old: "false, max_len - 1", new: "false, length_left(max_len, best_choice)" },
+    Edit {
+        part: "find_path",
+        within: "find_in_dep",
+        times: 1,
+        old: "max_len - 1",
+        new: "length_left(max_len, best_choice)",
+    },
+    Edit {
+        part: "find_path",
+        within: "calculate_best_path_local",
+        times: 1,
+        old: "false, max_len - 1",
+        new: "false, length_left(max_len, best_choice)",
+    },
 ];
 
 fn with_impl(head: &str, text: &str, names: &[&str]) -> String {
@@ -195,7 +224,10 @@ pub fn write(out: &Path, name: &str, parts: &[Part]) {
 /// The parts that are not as in the right program, over those of the right one.
 pub fn write_over(out: &Path, name: &str, parts: &[Part], right: &[Part]) {
     let changed = |part: &Part, right: &Part| part.name == "ask" || part.text != right.text;
-    let shared = parts.iter().zip(right).all(|(part, right)| matches!(part.name, "find_path" | "ask") || part.text == right.text);
+    let shared = parts
+        .iter()
+        .zip(right)
+        .all(|(part, right)| matches!(part.name, "find_path" | "ask") || part.text == right.text);
     if !shared {
         return write(out, name, parts);
     }

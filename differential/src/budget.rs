@@ -22,8 +22,8 @@ pub fn step() {
     });
 }
 
-/// The answer, or none after so many steps; and the steps taken.
-pub fn within<T>(steps: u64, f: impl FnOnce() -> T) -> (Option<T>, u64) {
+/// The answer, or none after so many steps.
+pub fn within<T>(steps: u64, f: impl FnOnce() -> T) -> Option<T> {
     static QUIET: Once = Once::new();
     QUIET.call_once(|| {
         let hook = take_hook();
@@ -35,10 +35,10 @@ pub fn within<T>(steps: u64, f: impl FnOnce() -> T) -> (Option<T>, u64) {
     });
     LEFT.set(steps);
     let result = catch_unwind(AssertUnwindSafe(f));
-    let taken = steps - LEFT.replace(u64::MAX);
+    LEFT.set(u64::MAX);
     match result {
-        Ok(value) => (Some(value), taken),
-        Err(payload) if payload.is::<TooLong>() || FORGIVING.load(Ordering::Relaxed) => (None, taken),
+        Ok(value) => Some(value),
+        Err(payload) if payload.is::<TooLong>() || FORGIVING.load(Ordering::Relaxed) => None,
         Err(payload) => std::panic::resume_unwind(payload),
     }
 }

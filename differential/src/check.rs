@@ -2,8 +2,8 @@
 use crate::tables::{Map, Set};
 
 pub const BUILTINS: [&str; 19] = [
-    "char", "bool", "str", "isize", "i8", "i16", "i32", "i64", "i128", "usize", "u8", "u16", "u32", "u64", "u128", "f16",
-    "f32", "f64", "f128",
+    "char", "bool", "str", "isize", "i8", "i16", "i32", "i64", "i128", "usize", "u8", "u16", "u32", "u64", "u128",
+    "f16", "f32", "f64", "f128",
 ];
 
 pub const WORDS: usize = 16_384;
@@ -321,10 +321,7 @@ fn add_scope(s: &mut Snapshot, known: &mut Known, record: &Record) -> Judged {
         1 => number < s.crates.len(),
         _ => number < s.modules.len(),
     };
-    let defined = owner < s.modules.len()
-        && name < s.names.len()
-        && definition < s.definitions.len()
-        && number_defined;
+    let defined = owner < s.modules.len() && name < s.names.len() && definition < s.definitions.len() && number_defined;
     let repeated = !known.entries.insert((owner, ns, name));
     let placed = ns_placed(s, ns, definition);
     s.scopes.push(Scope { owner, ns, name, definition, visibility, number, declared: declared == 1 });

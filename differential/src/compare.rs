@@ -60,10 +60,13 @@ fn original(input: &[u8]) -> Vec<Vec<u8>> {
 }
 
 fn joined(lines: Vec<Vec<u8>>) -> Vec<u8> {
-    lines.into_iter().flat_map(|mut line| {
-        line.push(b'\n');
-        line
-    }).collect()
+    lines
+        .into_iter()
+        .flat_map(|mut line| {
+            line.push(b'\n');
+            line
+        })
+        .collect()
 }
 
 /// What was compared, by the first word of the line and the refusal's number.
@@ -76,6 +79,8 @@ pub struct Totals {
     pub empty: usize,
     pub refused: std::collections::BTreeMap<u32, usize>,
     pub most_charges: usize,
+    /// of the accepted inputs: names, crates, modules, definitions, words
+    pub largest: [usize; 5],
     pub differences: usize,
 }
 
@@ -103,7 +108,7 @@ impl fmt::Display for Totals {
         let refused: usize = self.refused.values().sum();
         write!(
             f,
-            "{} inputs ({} accepted), {} lines: {} found, {} none, {} with an empty tank, most charges {}, {} refused {:?}; {} differences",
+            "{} inputs ({} accepted), {} lines: {} found, {} none, {} with an empty tank, most charges {}, {} refused {:?}; at most {} names, {} crates, {} modules, {} definitions, {} words; {} differences",
             self.inputs,
             self.accepted_inputs,
             self.found + self.none + refused,
@@ -113,6 +118,11 @@ impl fmt::Display for Totals {
             self.most_charges,
             refused,
             self.refused,
+            self.largest[0],
+            self.largest[1],
+            self.largest[2],
+            self.largest[3],
+            self.largest[4],
             self.differences
         )
     }
@@ -140,7 +150,11 @@ pub fn compare_input(title: &str, input: &[u8], other: &Other, totals: &mut Tota
     }
     let words = words_of(input);
     if let Ok(words) = &words {
-        totals.accepted_inputs += usize::from(check(parts_of(words).0).is_ok());
+        if let Ok(s) = check(parts_of(words).0) {
+            totals.accepted_inputs += 1;
+            let sizes = [s.names.len(), s.crates.len(), s.modules.len(), s.definitions.len(), words.len()];
+            totals.largest.iter_mut().zip(sizes).for_each(|(largest, size)| *largest = size.max(*largest));
+        }
     }
     let output = other.output(input);
     if output == joined(right.clone()) {
@@ -153,7 +167,8 @@ pub fn compare_input(title: &str, input: &[u8], other: &Other, totals: &mut Tota
     println!("difference: {title}");
     let theirs: Vec<&[u8]> = output.split(|&byte| byte == b'\n').collect();
     let place = right.iter().zip(&theirs).position(|(a, b)| a != b).unwrap_or(right.len().min(theirs.len()));
-    let printed = |line: Option<&[u8]>| line.map_or("no line".to_string(), |line| String::from_utf8_lossy(line).into_owned());
+    let printed =
+        |line: Option<&[u8]>| line.map_or("no line".to_string(), |line| String::from_utf8_lossy(line).into_owned());
     println!("  line {place}");
     println!("  Rust:  {}", printed(right.get(place).map(|line| &line[..])));
     println!("  other: {}", printed(theirs.get(place).copied()));

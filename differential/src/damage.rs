@@ -76,7 +76,32 @@ fn spoil_record(r: &mut Random, words: &mut Vec<u32>) {
 }
 
 fn small(r: &mut Random) -> u32 {
-    r.pick(&[0, 1, 2, 3, 4, 5, 7, 8, 9, 15, 63, 64, 255, 256, 511, 512, 2047, 2048, 0x00FF_FFFF, 0x0100_0000, 0x0FFF_FFFF, 0x1000_0000, 0xC000_0000, 0xF000_0000])
+    r.pick(&[
+        0,
+        1,
+        2,
+        3,
+        4,
+        5,
+        7,
+        8,
+        9,
+        15,
+        63,
+        64,
+        255,
+        256,
+        511,
+        512,
+        2047,
+        2048,
+        0x00FF_FFFF,
+        0x0100_0000,
+        0x0FFF_FFFF,
+        0x1000_0000,
+        0xC000_0000,
+        0xF000_0000,
+    ])
 }
 
 /// The words with the questions that the Rust answers in time.
@@ -86,7 +111,7 @@ fn asked(words: &[u32], questions: &[Question], steps: u64) -> Vec<u8> {
     let program = checked.as_ref().ok().map(Program::new);
     let in_time = |question: &Question| match &program {
         Some(program) if refusal(&checked, question).is_none() => {
-            crate::budget::within(steps, || program.put(question)).0.is_some()
+            crate::budget::within(steps, || program.put(question)).is_some()
         }
         _ => true,
     };
@@ -108,7 +133,7 @@ fn in_time(words: &[u32], steps: u64) -> bool {
     let checked = check(snapshot);
     let Some(program) = checked.as_ref().ok().map(Program::new) else { return true };
     questions.iter().all(|question| {
-        refusal(&checked, question).is_some() || crate::budget::within(steps, || program.put(question)).0.is_some()
+        refusal(&checked, question).is_some() || crate::budget::within(steps, || program.put(question)).is_some()
     })
 }
 

@@ -1,5 +1,7 @@
 //! Accepted snapshots with questions, from a seed. The shapes together reach every rule of the search.
-use crate::check::{BUILTINS, Child, DefMap, Definition, Dependency, Extern, Import, Krate, Module, Prelude, Scope, Snapshot};
+use crate::check::{
+    BUILTINS, Child, DefMap, Definition, Dependency, Extern, Import, Krate, Module, Prelude, Scope, Snapshot,
+};
 use crate::printer::refusal;
 use crate::random::Random;
 use crate::right::ask::Program;
@@ -106,21 +108,140 @@ const MIXED: Plan = Plan {
 fn plan(shape: Shape, r: &mut Random) -> Plan {
     match shape {
         Shape::Mixed => MIXED,
-        Shape::Small => Plan { crates: (1, 2), modules: (1, 4), items: (1, 4), more_entries: (0, 6), more_imports: (0, 5), blocks: (0, 1), names: (3, 6), ..MIXED },
-        Shape::Std => Plan { crates: (3, 7), lang: 85, modules: (1, 4), blocks: (0, 3), more_imports: (4, 30), unstable: 40, exported: 85, reexported: 60, no_std: 25, item_entries: 60, ..MIXED },
-        Shape::Chain => Plan { crates: (1, 2), modules: (12, 18), deep: 93, blocks: (0, 1), items: (4, 8), more_entries: (0, 4), more_imports: (0, 3), declared: 97, exported: 97, unstable: 4, hidden: 2, public: 85, preludes: 10, names: (8, 24), ..MIXED },
-        Shape::Cycle => Plan { crates: (2, 3), lang: 20, modules: (2, 7), deep: 30, blocks: (0, 1), items: (1, 4), more_entries: (0, 10), more_imports: (6, 24), exported: 60, externs: 25, hidden: 4, ..MIXED },
-        Shape::Blocks => Plan { crates: (1, 3), lang: 5, occupied: 65, externs: 90, modules: (1, 4), blocks: (2, 6), more_entries: (6, 30), more_imports: (0, 4), public: 30, ..MIXED },
-        Shape::Ties => Plan { crates: (1, 3), modules: (3, 9), deep: 15, blocks: (0, 1), names: (5, 14), items: (1, 4), more_entries: (10, 50), more_imports: (0, 30), public: 85, long_names: 0, same_length: 85, wide: 30, item_entries: 75, declared: 90, unstable: 10, prelude_names: 20, ..MIXED },
-        Shape::Preludes => Plan { crates: (1, 4), preludes: 95, modules: (2, 6), more_entries: (6, 24), names: (3, 7), prelude_names: 20, ..MIXED },
-        Shape::Root => Plan { crates: (2, 3), lang: 10, modules: (2, 6), blocks: (0, 0), items: (1, 4), more_entries: (0, 16), more_imports: (6, 30), externs: 60, outside: 45, item_entries: 40, public: 75, preludes: 70, same_length: 20, longest_name: 5, prelude_names: 12, ..MIXED },
-        Shape::Knot | Shape::Stairs => Plan { crates: (1, 1), modules: (7, 9), deep: 0, blocks: (0, 0), names: (6, 12), long_names: 0, items: (1, 3), more_entries: (0, 4), more_imports: (0, 0), declared: 0, public: 97, preludes: 5, prelude_names: 5, ..MIXED },
+        Shape::Small => Plan {
+            crates: (1, 2),
+            modules: (1, 4),
+            items: (1, 4),
+            more_entries: (0, 6),
+            more_imports: (0, 5),
+            blocks: (0, 1),
+            names: (3, 6),
+            ..MIXED
+        },
+        Shape::Std => Plan {
+            crates: (3, 7),
+            lang: 85,
+            modules: (1, 4),
+            blocks: (0, 3),
+            more_imports: (4, 30),
+            unstable: 40,
+            exported: 85,
+            reexported: 60,
+            no_std: 25,
+            item_entries: 60,
+            ..MIXED
+        },
+        Shape::Chain => Plan {
+            crates: (1, 2),
+            modules: (12, 18),
+            deep: 93,
+            blocks: (0, 1),
+            items: (4, 8),
+            more_entries: (0, 4),
+            more_imports: (0, 3),
+            declared: 97,
+            exported: 97,
+            unstable: 4,
+            hidden: 2,
+            public: 85,
+            preludes: 10,
+            names: (8, 24),
+            ..MIXED
+        },
+        Shape::Cycle => Plan {
+            crates: (2, 3),
+            lang: 20,
+            modules: (2, 7),
+            deep: 30,
+            blocks: (0, 1),
+            items: (1, 4),
+            more_entries: (0, 10),
+            more_imports: (6, 24),
+            exported: 60,
+            externs: 25,
+            hidden: 4,
+            ..MIXED
+        },
+        Shape::Blocks => Plan {
+            crates: (1, 3),
+            lang: 5,
+            occupied: 65,
+            externs: 90,
+            modules: (1, 4),
+            blocks: (2, 6),
+            more_entries: (6, 30),
+            more_imports: (0, 4),
+            public: 30,
+            ..MIXED
+        },
+        Shape::Ties => Plan {
+            crates: (1, 3),
+            modules: (3, 9),
+            deep: 15,
+            blocks: (0, 1),
+            names: (5, 14),
+            items: (1, 4),
+            more_entries: (10, 50),
+            more_imports: (0, 30),
+            public: 85,
+            long_names: 0,
+            same_length: 85,
+            wide: 30,
+            item_entries: 75,
+            declared: 90,
+            unstable: 10,
+            prelude_names: 20,
+            ..MIXED
+        },
+        Shape::Preludes => Plan {
+            crates: (1, 4),
+            preludes: 95,
+            modules: (2, 6),
+            more_entries: (6, 24),
+            names: (3, 7),
+            prelude_names: 20,
+            ..MIXED
+        },
+        Shape::Root => Plan {
+            crates: (2, 3),
+            lang: 10,
+            modules: (2, 6),
+            blocks: (0, 0),
+            items: (1, 4),
+            more_entries: (0, 16),
+            more_imports: (6, 30),
+            externs: 60,
+            outside: 45,
+            item_entries: 40,
+            public: 75,
+            preludes: 70,
+            same_length: 20,
+            longest_name: 5,
+            prelude_names: 12,
+            ..MIXED
+        },
+        Shape::Knot | Shape::Stairs => Plan {
+            crates: (1, 1),
+            modules: (7, 9),
+            deep: 0,
+            blocks: (0, 0),
+            names: (6, 12),
+            long_names: 0,
+            items: (1, 3),
+            more_entries: (0, 4),
+            more_imports: (0, 0),
+            declared: 0,
+            public: 97,
+            preludes: 5,
+            prelude_names: 5,
+            ..MIXED
+        },
         Shape::Limits => {
             let big = r.below(4);
             Plan {
                 crates: if big == 0 { (64, 64) } else { (1, 6) },
                 lang: 10,
-                modules: if big == 1 { (90, 500) } else { (1, 7) },
+                modules: if big == 1 { (r.pick(&[90, 512]), 512) } else { (1, 7) },
                 names: if big == 2 { (2048, 2048) } else { (10, 60) },
                 items: if big == 3 { (2040, 2047) } else { (20, 200) },
                 more_entries: (0, 700),
@@ -238,7 +359,8 @@ impl Builder {
             texts.retain(|text| seen.insert(text.clone()));
             let mut next = 0usize;
             while texts.len() < count {
-                let text = vec![b'0' + (next % 10) as u8, b'a' + (next / 10 % 26) as u8, b'A' + (next / 260 % 26) as u8];
+                let text =
+                    vec![b'0' + (next % 10) as u8, b'a' + (next / 10 % 26) as u8, b'A' + (next / 260 % 26) as u8];
                 if seen.insert(text.clone()) {
                     texts.push(text);
                 }
@@ -256,7 +378,9 @@ impl Builder {
             return text.into_bytes();
         }
         let any_bytes = self.r.percent(2);
-        (0..length).map(|_| if any_bytes { self.r.from_to(11, 255) as u8 } else { b'a' + self.r.below(26) as u8 }).collect()
+        (0..length)
+            .map(|_| if any_bytes { self.r.from_to(11, 255) as u8 } else { b'a' + self.r.below(26) as u8 })
+            .collect()
     }
 
     fn crates(&mut self) {
@@ -312,7 +436,8 @@ impl Builder {
             if many || (modules > 30 && krate > 0) {
                 modules = 1 + modules % 3;
             }
-            self.add_map(krate, 0, modules.min(512 - crates - self.s.modules.len().min(400)));
+            let room = 512 - self.s.modules.len() - (crates - krate - 1);
+            self.add_map(krate, 0, modules.min(room));
         }
         for _ in 0..self.range(self.plan.blocks) {
             // in the latest block, in the viewer's crate, or anywhere
@@ -696,9 +821,7 @@ pub fn questions(seed: u64, s: &Snapshot, shape: Shape, count: usize, steps: u64
         tries += 1;
         let mut question = targets.question(&mut r, s, shape);
         if refusal(&snapshot, &question).is_none() {
-            let (answer, taken) = crate::budget::within(steps, || program.put(&question));
-            let Some(answer) = answer else { continue };
-            let _ = taken;
+            let Some(answer) = crate::budget::within(steps, || program.put(&question)) else { continue };
             question.fuel = match r.below(20) {
                 0..=2 => answer.charges,
                 3..=5 => answer.charges.saturating_sub(1),
@@ -765,6 +888,7 @@ impl Targets {
             0..=2 if shape == Shape::Chain => 0,
             0..=6 if matches!(shape, Shape::Root | Shape::Knot | Shape::Stairs) => 0,
             0..=5 if !self.of_viewer.is_empty() => r.pick(&self.of_viewer),
+            7 if shape == Shape::Std => all - 1,
             6 => all - 1,
             _ => r.below(all),
         };

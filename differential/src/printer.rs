@@ -79,7 +79,7 @@ pub fn lines<A: Answers>(input: &[u8], fill: impl Fn(&Snapshot) -> A, steps: u64
             Some(number) => Some(refused_line(number)),
             None => {
                 let program = program.as_ref().unwrap();
-                let (answer, _) = crate::budget::within(steps, || program.put(question));
+                let answer = crate::budget::within(steps, || program.put(question));
                 answer.map(|answer| line(snapshot.as_ref().unwrap(), &answer))
             }
         });

@@ -239,8 +239,8 @@ impl Snapshot {
         let defined = (x.kind != 2 || x.first < self.definitions.len() && x.second < self.names.len())
             && (x.kind != 3 || x.first < self.names.len())
             && (x.kind == 2 || x.kind == 3 || x.first < self.modules.len());
-        let repeated = (x.kind == 1 || x.kind == 3)
-            && self.definitions.iter().any(|y| x.kind == y.kind && x.first == y.first);
+        let repeated =
+            (x.kind == 1 || x.kind == 3) && self.definitions.iter().any(|y| x.kind == y.kind && x.first == y.first);
         let placed = || x.kind != 2 || definitionKind(self, x.first) == 4;
         judge(range, defined, repeated, placed, self.definitions.len() < 2048)?;
         self.definitions.push(x);
@@ -529,13 +529,9 @@ fn push(s: &Snapshot, c: Choice, n: usize) -> Choice {
 }
 
 fn better(s: &Snapshot, prefer: bool, current: &Choice, other: &Choice, n: usize) -> bool {
-    let comparePrelude =
-        if prefer { other.prelude.cmp(&current.prelude) } else { current.prelude.cmp(&other.prelude) };
-    let order = other
-        .stable
-        .cmp(&current.stable)
-        .then(comparePrelude)
-        .then(pathLen(current).cmp(&(pathLen(other) + 1)));
+    let comparePrelude = if prefer { other.prelude.cmp(&current.prelude) } else { current.prelude.cmp(&other.prelude) };
+    let order =
+        other.stable.cmp(&current.stable).then(comparePrelude).then(pathLen(current).cmp(&(pathLen(other) + 1)));
     match order {
         std::cmp::Ordering::Less => false,
         std::cmp::Ordering::Equal => other.text + nameLen(s, n) < current.text,

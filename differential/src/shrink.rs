@@ -11,7 +11,11 @@ pub fn input(s: &Snapshot, q: &Question) -> Vec<u8> {
 }
 
 /// Records are left out one by one while the snapshot stays accepted and the test holds.
-pub fn shrink(mut s: Snapshot, mut q: Question, mut holds: impl FnMut(&Snapshot, &Question) -> bool) -> (Snapshot, Question) {
+pub fn shrink(
+    mut s: Snapshot,
+    mut q: Question,
+    mut holds: impl FnMut(&Snapshot, &Question) -> bool,
+) -> (Snapshot, Question) {
     loop {
         let before = words(&s).len() + q.options.count_ones() as usize;
         for kind in [9, 10, 11, 7, 6, 3, 8, 5, 4, 2, 1] {
@@ -170,9 +174,8 @@ fn without_map(s: &mut Snapshot, gone: usize) -> Option<()> {
 /// A map's only module goes with the map.
 fn without_module(s: &mut Snapshot, q: &mut Question, gone: usize) -> Option<()> {
     let map = s.modules[gone].map;
-    let used = q.from == gone
-        || s.modules.iter().any(|m| m.parent == gone + 1)
-        || s.maps.iter().any(|m| m.block == gone + 1);
+    let used =
+        q.from == gone || s.modules.iter().any(|m| m.parent == gone + 1) || s.maps.iter().any(|m| m.block == gone + 1);
     if used {
         return None;
     }

@@ -13,7 +13,8 @@ pub struct Wrongs {
 
 impl Wrongs {
     pub fn start(path: &str) -> Wrongs {
-        let list = Command::new(path).arg("--list").output().unwrap_or_else(|error| panic!("{path} does not run: {error}"));
+        let list =
+            Command::new(path).arg("--list").output().unwrap_or_else(|error| panic!("{path} does not run: {error}"));
         let programs = String::from_utf8(list.stdout)
             .unwrap()
             .lines()

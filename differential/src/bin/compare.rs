@@ -2,8 +2,8 @@
 use std::time::Instant;
 
 use differential::compare::{Other, Totals, compare_input};
-use differential::generate::case;
 use differential::damage;
+use differential::generate::case;
 
 const USAGE: &str = "compare PRINTER FROM TO [--damaged] [--questions N] [--steps N] [--show N]
   PRINTER    a program that reads a printer's input on stdin, with its arguments; `rules` is the one that follows the

@@ -1,4 +1,5 @@
-//! smallest PRINTER FROM TO: for each sort of difference between a printer and the Rust, the smallest snapshot found.
+//! smallest PRINTER FROM TO [OPTIONS]: for each sort of difference between a printer and the Rust, the smallest snapshot found.
+//! With OPTIONS only differences that are gone without these options.
 use std::collections::BTreeMap;
 
 use differential::Question;
@@ -14,10 +15,11 @@ type Sort = (String, usize);
 
 fn main() {
     let arguments: Vec<String> = std::env::args().skip(1).collect();
-    let [printer, from, to] = &arguments[..] else {
-        eprintln!("smallest PRINTER FROM TO");
+    let [printer, from, to, rest @ ..] = &arguments[..] else {
+        eprintln!("smallest PRINTER FROM TO [OPTIONS]");
         std::process::exit(2);
     };
+    let needs: usize = rest.first().map_or(0, |text| text.parse().unwrap());
     let other = Other::named(printer);
     let mut found: BTreeMap<Sort, (Snapshot, Question)> = BTreeMap::new();
     for seed in from.parse::<u64>().unwrap()..to.parse().unwrap() {
@@ -27,8 +29,7 @@ fn main() {
         let (right, theirs) = (Other::Original.output(&all), other.output(&all));
         let lines = right.split(|&byte| byte == b'\n').zip(theirs.split(|&byte| byte == b'\n'));
         for (place, (a, b)) in lines.enumerate() {
-            if a != b && place < case.questions.len() {
-                keep(&mut found, &s, &case.questions[place], &other);
+            if a != b && place < case.questions.len() && keep(&mut found, &s, &case.questions[place], &other, needs) {
                 break;
             }
         }
@@ -68,13 +69,27 @@ fn sort(s: &Snapshot, q: &Question, other: &Other) -> Option<Sort> {
 }
 
 /// The difference made smaller, as long as it is of its sort; the sort is then taken with the options left.
-fn keep(found: &mut BTreeMap<Sort, (Snapshot, Question)>, s: &Snapshot, q: &Question, other: &Other) {
+fn keep(
+    found: &mut BTreeMap<Sort, (Snapshot, Question)>,
+    s: &Snapshot,
+    q: &Question,
+    other: &Other,
+    needs: usize,
+) -> bool {
     let q = &Question { fuel: 10_000, ..*q };
-    let Some((what, _)) = sort(s, q, other) else { return };
-    let (s, q) = shrink(s.clone(), *q, |s, q| sort(s, q, other).is_some_and(|(own, _)| own == what));
+    let Some((what, _)) = sort(s, q, other) else { return false };
+    let holds = |s: &Snapshot, q: &Question| {
+        let without = Question { options: q.options & !needs, ..*q };
+        sort(s, q, other).is_some_and(|(own, _)| own == what) && (needs == 0 || sort(s, &without, other).is_none())
+    };
+    if !holds(s, q) {
+        return false;
+    }
+    let (s, q) = shrink(s.clone(), *q, holds);
     let size = words(&s).len();
     let best = found.get(&(what.clone(), q.options)).map_or(usize::MAX, |(s, _)| words(s).len());
     if size < best {
         found.insert((what, q.options), (s, q));
     }
+    true
 }

@@ -74,8 +74,10 @@ fn tell(wanted: impl Fn(&str) -> bool) {
         let mut out = String::new();
         for (name, _, fill) in wrong::WRONG.iter().filter(|(name, ..)| wanted(name)) {
             let theirs = printer::lines(&input, |s| fill(s), STEPS);
-            let places: Vec<String> =
-                (0..right.len()).filter(|&place| right[place] != theirs[place]).map(|place| place.to_string()).collect();
+            let places: Vec<String> = (0..right.len())
+                .filter(|&place| right[place] != theirs[place])
+                .map(|place| place.to_string())
+                .collect();
             if !places.is_empty() {
                 out += &format!("{name} {}\n", places.join(" "));
             }
