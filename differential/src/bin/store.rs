@@ -3,6 +3,7 @@
 use std::collections::BTreeMap;
 use std::path::Path;
 
+use differential::Question;
 use differential::check::{kind, refused_at};
 use differential::compare::Other;
 use differential::damage;
@@ -44,7 +45,13 @@ fn main() {
     }
     let lines: usize = entries.iter().map(|entry| entry.output.iter().filter(|&&byte| byte == b'\n').count()).sum();
     let list = to_bytes(&entries);
-    let summary = format!("{} inputs, {lines} lines, {} bytes", entries.len(), list.len());
+    let longest = entries.iter().map(|entry| entry.input.len()).max().unwrap_or(0);
+    let most = entries.iter().map(|entry| entry.output.len()).max().unwrap_or(0);
+    let summary = format!(
+        "{} inputs, {lines} lines, {} bytes; the longest input has {longest} bytes, the longest output {most}",
+        entries.len(),
+        list.len()
+    );
     let folder = Path::new(folder);
     std::fs::create_dir_all(folder).unwrap();
     std::fs::write(folder.join("list"), list).unwrap();
@@ -94,9 +101,9 @@ fn telling(wrongs: &mut Wrongs, from: u64, to: u64) -> Vec<Vec<u8>> {
     inputs
 }
 
-/// Damaged inputs, some for each number and kind of record, with few questions.
+/// Damaged inputs, some for each number and kind of record, with few questions. Long ones are few.
 fn refused(from: u64, to: u64) -> Vec<Vec<u8>> {
-    let mut counts: BTreeMap<(u32, usize), usize> = BTreeMap::new();
+    let mut counts: BTreeMap<(u32, usize, bool), usize> = BTreeMap::new();
     let mut inputs = Vec::new();
     for seed in from..to.min(from + 3000) {
         let (_, case) = case(seed, 3, 20_000);
@@ -104,27 +111,37 @@ fn refused(from: u64, to: u64) -> Vec<Vec<u8>> {
             continue;
         }
         for input in damage::copies(seed, &case, 20_000) {
-            if input.len() > 1500 {
-                continue;
-            }
-            let sort = match words_of(&input) {
-                Err(number) => (number, 0),
-                Ok(words) => match (refused_at(parts_of(&words).0), parts_of(&words).2) {
-                    (Some((number, place)), _) => (number, words.get(place).map_or(0, |&word| kind(word))),
-                    (None, true) => (42, 0),
-                    (None, false) => (0, 0),
-                },
+            let (number, kind) = sort(&input);
+            let long = input.len() > 1500;
+            let wanted = match (number, long) {
+                (_, false) => DAMAGED,
+                (36, true) => 2,
+                (40, true) => 1,
+                (_, true) => usize::from(input.len() == 65_536),
             };
-            let count = counts.entry(sort).or_default();
-            if *count < DAMAGED {
+            let count = counts.entry((number, kind, long)).or_default();
+            if *count < wanted {
                 *count += 1;
                 inputs.push(input);
             }
         }
     }
-    for q in [10_000, 10_001] {
-        let question = differential::Question { definition: 1, ns: 1, from: 0, prefix: 1, options: 0, fuel: q };
+    for fuel in [10_000, 10_001] {
+        let question = Question { definition: 1, ns: 1, from: 0, prefix: 1, options: 0, fuel };
         inputs.push(bytes(&question_words(&question)));
     }
     inputs
+}
+
+/// The number of the refusal and the kind of the record; 0 where nothing is refused.
+fn sort(input: &[u8]) -> (u32, usize) {
+    let words = match words_of(input) {
+        Err(number) => return (number, 0),
+        Ok(words) => words,
+    };
+    let (snapshot, _, outside) = parts_of(&words);
+    match refused_at(snapshot) {
+        Some((number, place)) => (number, snapshot.get(place).map_or(0, |&word| kind(word))),
+        None => (if outside { 42 } else { 0 }, 0),
+    }
 }
