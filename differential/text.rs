@@ -11,8 +11,8 @@ const DERIVED: &str = "#[derive(Clone, Copy, PartialEq, Eq, Debug, Hash)]";
 /// A part of the program: its file, and what has become of its text.
 #[derive(Clone)]
 pub struct Part {
-    name: &'static str,
-    text: String,
+    pub name: &'static str,
+    pub text: String,
 }
 
 /// A change of one part, within one function of it or anywhere; what it looks for must stand there so many times.
@@ -165,7 +165,7 @@ fn function(text: &str, name: &str) -> String {
     text[range(text, name)].to_string()
 }
 
-fn range(text: &str, name: &str) -> std::ops::Range<usize> {
+pub fn range(text: &str, name: &str) -> std::ops::Range<usize> {
     let places: Vec<usize> = ["(", "<"]
         .iter()
         .flat_map(|after| text.match_indices(&format!("fn {name}{after}")).map(|(place, _)| place).collect::<Vec<_>>())

@@ -612,3 +612,15 @@ pub const WRONG_PROGRAMS: &[Wrong] = &[
         )],
     ),
 ];
+
+/// Flips that no input tells, with the reason.
+pub const SAME_FLIPS: &[(&str, &str)] = &[
+    ("flip_find_path_329_39_or", IN_ONE_MAP),
+    ("flip_find_path_329_67_or", IN_ONE_MAP),
+    (
+        "flip_find_path_662_39_false",
+        "what is pushed was not visited at entry, so that nothing of the caller's is given up",
+    ),
+];
+
+const IN_ONE_MAP: &str = "the viewer's own module and its parent are of the viewer's map, in a block or not";

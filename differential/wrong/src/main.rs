@@ -29,7 +29,7 @@ mod wrong {
 }
 
 /// A wrong program may run for ever.
-const STEPS: u64 = 1_000_000;
+const STEPS: u64 = 300_000;
 
 /// A wrong program may call itself as often as there is fuel.
 const STACK: usize = 1 << 30;
