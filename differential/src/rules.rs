@@ -1,11 +1,11 @@
-//! The definitions of `crates/accept/specs`, `crates/hir_def/specs` and `crates/find_path/specs`, written out in Rust
-//! function by function and under their names. It follows the definitions and not the text of rust-analyzer, so a
-//! difference between the two is a fault of one of them. Lists are scanned as the definitions say: it is slow.
+//! The definitions of the check, the lookups and the search (`crates/*/specs`), written out in Rust function by function
+//! and under their names. It follows the definitions and not the text of rust-analyzer, so a difference between the two is a
+//! fault of one of them. Lists are scanned as the definitions say: it is slow.
 #![allow(non_snake_case)]
 use crate::printer::{parts_of, refused_line, words_of};
 use crate::{Path, Question};
 
-// snapshot/specs/Records.antt; accept/specs: Tests, Steps, Verdict
+// Records.antt, Tests.antt, Steps.antt, Verdict.antt
 
 #[derive(Clone, PartialEq)]
 struct Name {
@@ -307,7 +307,7 @@ pub fn verdict(W: &[usize]) -> Result<Snapshot, usize> {
     Ok(s)
 }
 
-// hir_def/specs/Items.antt
+// Items.antt, Modules.antt
 
 #[derive(Clone, Copy, PartialEq)]
 enum Item {
@@ -372,7 +372,7 @@ fn homeOf(s: &Snapshot, item: Item) -> usize {
     }
 }
 
-// hir_def/specs/Visibility.antt
+// Visibility.antt
 
 fn climb(s: &Snapshot, k: usize, mut t: usize) -> usize {
     let step = |t| if mapNo(s, t) == k { 0 } else { blockOf(s, t) };
@@ -410,7 +410,7 @@ fn sees(s: &Snapshot, v: usize, e: &Scope) -> bool {
     }
 }
 
-// hir_def/specs/ItemScope.antt
+// ItemScope.antt
 
 fn isFor(s: &Snapshot, m: usize, item: Item, e: &Scope) -> bool {
     e.owner == m && itemOf(s, e.ns, e.definition) == item
@@ -422,7 +422,7 @@ fn get(s: &Snapshot, m: usize, ns: usize, name: usize) -> Option<&Scope> {
     s.scopes.iter().find(|e| e.owner == m && e.ns == ns && e.name == name)
 }
 
-// hir_def/specs/Nameres.antt
+// Nameres.antt
 
 fn steps(s: &Snapshot, step: fn(&Snapshot, usize) -> usize, m: usize) -> Vec<usize> {
     let mut reached = Vec::new();
@@ -474,7 +474,7 @@ fn sysrootFirst(s: &Snapshot, c: usize) -> Vec<Dependency> {
     first
 }
 
-// find_path/specs/Choices.antt
+// Choices.antt
 
 #[derive(Clone)]
 struct Choice {
@@ -554,7 +554,7 @@ fn lengthLeft(left: usize, best: &Choice) -> usize {
     if best.found { left.min(pathLen(best)) - 1 } else { left - 1 }
 }
 
-// find_path/specs/Rules.antt
+// Rules.antt
 
 struct FindPathCtx {
     prefix: usize,
@@ -677,7 +677,7 @@ impl Rules<'_> {
     }
 }
 
-// find_path/specs/Walk.antt
+// Walk.antt
 
 #[derive(Clone)]
 struct Level {
@@ -723,7 +723,7 @@ impl Rules<'_> {
     }
 }
 
-// find_path/specs/Local.antt
+// Local.antt
 
 impl Rules<'_> {
     fn offer(&self, best: Choice, c: Choice, n: usize) -> Choice {
@@ -758,7 +758,7 @@ impl Rules<'_> {
     }
 }
 
-// find_path/specs/Meters.antt, Charged.antt, Search.antt; the meter is the tank
+// Meters.antt, Charged.antt, Search.antt; the meter is the tank
 
 #[derive(Clone, Copy)]
 struct Tank {
@@ -876,7 +876,7 @@ fn findPath(s: &Snapshot, q: &Question, t: &mut Tank) -> Choice {
     }
 }
 
-// find_path/specs/Report.antt, Line.antt
+// Report.antt, Line.antt
 
 fn lineOf(snapshot: &Result<Snapshot, usize>, q: &Question) -> Vec<u8> {
     let refused = |n: usize| refused_line(n as u32);
