@@ -106,7 +106,7 @@ pub const WRONG_PROGRAMS: &[Wrong] = &[
             F,
             INNER,
             "let loc = variant.lookup(ctx.db);",
-            "let loc = variant.lookup(ctx.db); { let mut best = None; calculate_best_path(ctx, &mut FxHashSet::default(), item, max_len, &mut best); if let Some(choice) = best { return Some(choice.path); } }",
+            "let loc = variant.lookup(ctx.db); let (mut own, mut seen) = (None, FxHashSet::default()); calculate_best_path(ctx, &mut seen, item, max_len, &mut own); if own.is_some() { return own.map(|it| it.path); }",
         )],
     ),
     wrong(
@@ -123,7 +123,7 @@ pub const WRONG_PROGRAMS: &[Wrong] = &[
             F,
             INNER,
             "if may_be_in_scope {",
-            "if let Some(value) = find_in_prelude(ctx.db, ctx.from_def_map, item, ctx.from) { return Some(value.path); } if may_be_in_scope {",
+            "let early = find_in_prelude(ctx.db, &*ctx.from_def_map, item, ctx.from); if early.is_some() { return early.map(|it| it.path); } if may_be_in_scope {",
         )],
     ),
     wrong(
@@ -154,14 +154,8 @@ pub const WRONG_PROGRAMS: &[Wrong] = &[
         &[once(F, MODULE, "|&(id, _)| id", "|&(id, vis)| vis.is_visible_from(ctx.db, ctx.from) && id")],
     ),
     wrong("absolute_not_preferred", &[once(F, MODULE, "ctx.cfg.prefer_absolute", "false")]),
-    wrong(
-        "module_scope_under_by_crate",
-        &[once(F, MODULE, "PrefixKind::ByCrate => ctx.crate_root == ctx.from", "PrefixKind::ByCrate => true")],
-    ),
-    wrong(
-        "no_module_scope_under_by_crate",
-        &[once(F, MODULE, "PrefixKind::ByCrate => ctx.crate_root == ctx.from", "PrefixKind::ByCrate => false")],
-    ),
+    wrong("module_scope_under_by_crate", &[once(F, MODULE, "=> ctx.crate_root == ctx.from", "=> true")]),
+    wrong("no_module_scope_under_by_crate", &[once(F, MODULE, "=> ctx.crate_root == ctx.from", "=> false")]),
     wrong("module_scope_without_prefix", &[once(F, MODULE, "ctx.prefix.path_kind()", "PathKind::Plain")]),
     wrong(
         "keyword_before_scope",
@@ -169,7 +163,7 @@ pub const WRONG_PROGRAMS: &[Wrong] = &[
             F,
             MODULE,
             "if may_be_in_scope {",
-            "if may_be_in_scope && !is_kw_kind_relative_to_from(ctx.db, ctx.from_def_map, module_id, ctx.from).is_some_and(|kind| ctx.prefix != PrefixKind::ByCrate || kind == PathKind::Crate) {",
+            "if may_be_in_scope && !is_kw_kind_relative_to_from(ctx.db, &*ctx.from_def_map, module_id, ctx.from).is_some_and(|kind| ctx.prefix != PrefixKind::ByCrate || kind == PathKind::Crate) {",
         )],
     ),
     wrong("any_keyword_under_by_crate", &[once(F, MODULE, "ctx.prefix != PrefixKind::ByCrate ||", "true ||")]),
@@ -329,7 +323,7 @@ pub const WRONG_PROGRAMS: &[Wrong] = &[
             F,
             DEP,
             "if info.is_doc_hidden {",
-            "if info.is_doc_hidden { find_path_for_module(ctx, visited_modules, info.container, true, length_left(max_len, best_choice));",
+            "if info.is_doc_hidden { let place = info.container; find_path_for_module(ctx, visited_modules, place, true, length_left(max_len, best_choice));",
         )],
     ),
     wrong(
@@ -409,7 +403,7 @@ pub const WRONG_PROGRAMS: &[Wrong] = &[
             F,
             "try_select",
             ".then_with(|| {",
-            ".then_with(|| (current.path.len()).cmp(&(other.path.len() + 1))).then_with(|| {",
+            ".then_with(|| current.path.len().cmp(&(1 + other.path.len()))).then_with(|| {",
         )],
     ),
     wrong(
@@ -425,10 +419,7 @@ pub const WRONG_PROGRAMS: &[Wrong] = &[
             "other.has_prelude_segment |= name == sym::prelude; other.path.push_segment(name);",
         )],
     ),
-    wrong(
-        "first_choice_without_its_last_name",
-        &[once(F, "push", "self.has_prelude_segment |= name == sym::prelude;", "")],
-    ),
+    wrong("first_choice_without_its_last_name", &[once(F, "push", "name == sym::prelude", "false")]),
     wrong("first_name_not_prelude", &[once(F, "new", "name == sym::prelude", "false")]),
     wrong("newcomer_one_shorter", &[once(F, "try_select", "other.path.len() + 1", "other.path.len()")]),
     wrong(
