@@ -1,6 +1,6 @@
 -- What the search passes on stays in range.
 use mathlib.Core.Path.{_≡_, refl, sym, _∙_, ap}
-use Prim.Native.Nat.{ℕ, zero, suc, _+_, _*_, _≤_, _<_, _^_}
+use Prim.Native.Nat.{ℕ, zero, suc, _+_, _≤_, _<_, _^_}
 use native.Mathlib.Omega.{arith}
 use mathlib.Core.List.{List, [], _∷_}
 use mathlib.Core.Bool.{Bool, true, false}
@@ -22,14 +22,14 @@ use Rattle.find_path.specs.declared.Found.{Found}
 use Rattle.find_path.specs.declared.FindPathCtx.{FindPathCtx}
 use Rattle.find_path.specs.Choices.{nothing, extended, push, unstably, better, trySelect, lengthLeft}
 use Rattle.find_path.specs.Local.{offer}
-use Rattle.find_path.specs.Meters.{Charged, go, draw, fromTank}
+use Rattle.find_path.specs.Meters.{go, draw, fromTank}
 use Rattle.find_path.specs.Conditions.{chargedBy}
 use Rattle.find_path.specs.Charged.{Out, foundOf, oneOrNone, offerImport, findImport, findImports, findInDep, findInDeps}
 use Rattle.find_path.proofs.Unfold.{length-falls}
 use Rattle.find_path.proofs.Tanks.{module-sum}
 use Rattle.find_path.proofs.Bounds.{module-search-fits}
 use Rattle.find_path.proofs.Tables.{names-short}
-use Rattle.search.specs.Parts.{outOf, modules, oneImport, imports, dependencies, inLang, Held}
+use Rattle.search.specs.Parts.{modules, oneImport, imports, dependencies, inLang, Held}
 
 abbrev Few : ℕ → Choice → Type 0
 Few n c = c .count ≤ n

@@ -1,18 +1,18 @@
 -- The rules of the search, step by step, as the code takes them.
 use mathlib.Core.Path.{_≡_, refl, sym, _∙_, ap}
-use Prim.Native.Nat.{ℕ, zero, suc, _+_, _-_, _≤_, _<_}
+use Prim.Native.Nat.{ℕ, zero, suc, _+_, _-_, _≤_}
 use native.Mathlib.Omega.{arith}
 use mathlib.Core.List.{List, [], _∷_, _++_}
-use mathlib.Core.Bool.{Bool, true, false, _&&_, not, false≢true}
+use mathlib.Core.Bool.{Bool, true, false, not, false≢true}
 use mathlib.Core.Option.{Option, none, some}
 use lib.Dec.{eqb}
 use Rattle.snapshot.specs.Records.{Snapshot, Dependency, Import}
 use Rattle.hir_def.specs.Finds.{select}
 use Rattle.hir_def.specs.Items.{crateOf, homeOf, nsOf}
 use Rattle.hir_def.specs.Nameres.{isDependency, isSysroot, bySysroot, dependenciesOf, langOf, sysrootFirst}
-use Rattle.hir_def.specs.ImportMap.{importInfoFor, isHidden}
+use Rattle.hir_def.specs.ImportMap.{importInfoFor}
 use Rattle.hir_def.specs.declared.Item.{Item}
-use Rattle.hir_def.specs.declared.Item.the-variants.{Mod, Def}
+use Rattle.hir_def.specs.declared.Item.the-variants.{Mod}
 use Rattle.hir_def.proofs.Lookups.{select-select}
 use Rattle.find_path.specs.declared.Choice.{Choice}
 use Rattle.find_path.specs.declared.Tank.{Tank}
@@ -24,10 +24,10 @@ use Rattle.find_path.specs.Choices.{nothing, lengthLeft}
 use Rattle.find_path.specs.Rules.{moduleRules}
 use Rattle.find_path.specs.Meters.{Charged, go, stop, fromTank}
 use Rattle.find_path.specs.Conditions.{chargedBy}
-use Rattle.find_path.specs.Charged.{Out, foundOf, isStable, langs, oneOrNone, isAt, offerImport, findImport, findImports, findInDep, findInDeps, findInSysroot, goOn, afterCharge, calculateBestPath, orCharged, findPathForModule}
+use Rattle.find_path.specs.Charged.{Out, foundOf, isStable, langs, oneOrNone, isAt, offerImport, findImport, findInDep, findInDeps, findInSysroot, goOn, afterCharge, calculateBestPath, orCharged, findPathForModule}
 use Rattle.find_path.specs.Search.{bestLocal, moduleTo, searchModule}
 use Rattle.find_path.proofs.Unfold.{module-more}
-use Rattle.search.specs.Parts.{outOf, modules, bestPath, oneImport, imports, dependencies, sysroot, inLang}
+use Rattle.search.specs.Parts.{modules, bestPath, oneImport, imports, dependencies, sysroot, inLang}
 
 -- an answer of the code, from its parts
 abbrev pub found : Choice → Tank → Found

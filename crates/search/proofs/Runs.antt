@@ -1,7 +1,6 @@
 -- Searches one after the other: the tables stay, so each speaks of the first one's snapshot. And the loops over records.
-use mathlib.Core.Path.{_≡_, refl, sym, _∙_, ap, subst}
-use Prim.Native.Nat.{ℕ, _+_, _-_, _*_, _≤_, _<_}
-use native.Mathlib.Omega.{arith}
+use mathlib.Core.Path.{_≡_, sym, _∙_, ap, subst}
+use Prim.Native.Nat.{ℕ, _+_, _*_, _≤_, _<_}
 use mathlib.Core.List.{List, [], _∷_}
 use mathlib.Core.Bool.{Bool, true, false}
 use lib.ListN.{length, take}
@@ -12,7 +11,7 @@ use Rattle.snapshot.proofs.Laws.{rows-none}
 use Rattle.hir_def.specs.Finds.{select}
 use Rattle.hir_def.specs.Nameres.{bySysroot}
 use Rattle.hir_def.specs.ImportMap.{importInfoFor, isHidden}
-use Rattle.hir_def.specs.Entries.{leftOf, Meets, Ends}
+use Rattle.hir_def.specs.Entries.{leftOf, Meets}
 use Rattle.hir_def.specs.declared.Item.{Item}
 use Rattle.find_path.specs.declared.Choice.{Choice}
 use Rattle.find_path.specs.declared.Tank.{Tank}

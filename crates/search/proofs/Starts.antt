@@ -1,15 +1,14 @@
 -- The whole search, step by step, and the runs of an item's search.
-use mathlib.Core.Path.{_≡_, refl, sym, _∙_, ap, subst}
-use Prim.Native.Nat.{ℕ, zero, suc, _+_, _-_, _*_, _≤_, _<_, _^_}
+use mathlib.Core.Path.{_≡_, refl, sym, _∙_, ap}
+use Prim.Native.Nat.{ℕ, zero, suc, _+_, _-_, _≤_, _<_, _^_}
 use native.Mathlib.Omega.{arith}
 use mathlib.Core.List.{List, [], _∷_}
-use mathlib.Core.Bool.{Bool, true, false, _&&_, false≢true}
-use mathlib.Core.Option.{Option, none, some}
+use mathlib.Core.Bool.{Bool, true, false, _&&_}
+use mathlib.Core.Option.{none, some}
 use lib.Dec.{eqb}
-use lib.ListN.{length, take}
 use borrow.Author.Tests.{eqb-true}
 use Rattle.snapshot.specs.Records.{Snapshot, Definition}
-use Rattle.snapshot.specs.Layouts.{tableWords, snapOf}
+use Rattle.snapshot.specs.Layouts.{snapOf}
 use Rattle.snapshot.specs.declared.layout.Layout.{Layout}
 use Rattle.accept.specs.Post.{Reads}
 use Rattle.accept.proofs.Bools.{and-right}
@@ -17,8 +16,7 @@ use Rattle.hir_def.specs.Items.{definitionOf, itemOf, homeOf}
 use Rattle.hir_def.specs.Entries.{Known}
 use Rattle.hir_def.specs.declared.Item.{Item}
 use Rattle.hir_def.specs.declared.Item.the-variants.{Mod, Def}
-use Rattle.hir_def.specs.declared.Entry.{Entry}
-use Rattle.hir_def.specs.declared.Entry.the-variants.{At, Nothing}
+use Rattle.hir_def.specs.declared.Entry.the-variants.{At}
 use Rattle.hir_def.proofs.Fits.{definition-fits, home-fits}
 use Rattle.find_path.specs.declared.Choice.{Choice}
 use Rattle.find_path.specs.declared.Tank.{Tank}
@@ -40,8 +38,8 @@ use Rattle.search.proofs.Holding.{Offered}
 use Rattle.search.proofs.Runs.{later}
 use Rattle.search.proofs.Items.{plain-fits, enum-found, enum-none}
 
-pub begun-whole : {W A : List ℕ} {l : Layout} {x : FindPathCtx} → Prepared W A l x → Begun W A l x 15
-begun-whole p = record { ready = p; some = omega arith; limit = omega arith }
+pub begun-at : {W A : List ℕ} {l : Layout} {x : FindPathCtx} (left : ℕ) → Prepared W A l x → 0 < left → left ≤ 15 → Begun W A l x left
+begun-at left p h k = record { ready = p; some = h; limit = k }
 
 pub straight-known : (l : Layout) (b : Bool) (item : Item) {m : ℕ} → At m ≡ straight b item → Known l item → m < l .modules
 unfolding straight

@@ -1,6 +1,6 @@
 -- The parts of the search at the tank, over the finished search; and what its steps pass on.
 use Prim.Native.Nat.{ℕ, _+_, _≤_, _<_, _^_}
-use mathlib.Core.List.{List, [], _∷_}
+use mathlib.Core.List.{List}
 use mathlib.Core.Bool.{Bool, true, false}
 use Rattle.snapshot.specs.Records.{Snapshot, Dependency, Import}
 use Rattle.snapshot.specs.declared.layout.Layout.{Layout}
@@ -22,17 +22,23 @@ abbrev pub outOf : Found → Out Tank
 outOf f = record { choice = f .choice; meter = f .meter }
 
 module _ (s : Snapshot) (x : FindPathCtx) where
+  -- the search for a module, and for an item
+
   abbrev pub modules : Search Tank
   modules = searchModule Tank fromTank s x
 
   abbrev pub items : Inner Tank
   items = searchItem Tank fromTank s x
 
+  -- an item by its names, and by a charged search
+
   abbrev pub names : Inner Tank
   names = byName Tank fromTank s x (bestLocal s x) modules items
 
   abbrev pub bestPath : ℕ → Item → Tank → Out Tank
   bestPath = calculateBestPath Tank fromTank s x (bestLocal s x) modules
+
+  -- an import, the imports of a crate, the dependencies, the sysroot
 
   abbrev pub oneImport : ℕ → Out Tank → Import → Bool → Out Tank
   oneImport = findImport Tank fromTank s x (bestLocal s x) modules

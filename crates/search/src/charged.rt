@@ -1,7 +1,7 @@
 //! The charged search: a cycle of calls in which the length left falls.
 ghost use mathlib.Core.Path.{_≡_};
-ghost use mathlib.Core.List.{List, [], _∷_};
-ghost use Prim.Native.Nat.{ℕ, _+_, _≤_, _<_, _^_};
+ghost use mathlib.Core.List.{[], _∷_};
+ghost use Prim.Native.Nat.{_+_, _≤_, _<_, _^_};
 ghost use Rattle.snapshot.specs.Layouts.{snapOf};
 ghost use Rattle.snapshot.specs.Records.{importAt};
 ghost use Rattle.accept.specs.Post.{Reads};
@@ -14,6 +14,7 @@ ghost use Rattle.find_path.specs.Search.{bestLocal, searchModule};
 ghost use Rattle.find_path.specs.declared.Tank.{Tank};
 ghost use Rattle.find_path.specs.Conditions.{Prepared, Asked, Searched};
 ghost use Rattle.search.specs.Parts.{outOf, modules, bestPath, oneImport, imports, dependencies, sysroot, inLang, Begun, Held};
+use find_path::Choice;
 use find_path::Drawn;
 use find_path::FindPathCtx;
 use find_path::Found;
@@ -50,6 +51,20 @@ fn is_at(words: &[u32], area: &[u32], l: Layout, home: usize, c: Crate) -> bool
     }
     let k = krate(words, area, l, ModuleId(home - 1));
     k.0 == c.0
+}
+
+// Whether a choice ends the search of the sysroot.
+fn is_stable(c: Choice) -> bool
+    ensures { λ r. ⌜ r ≡ isStable c ⌝ }
+{
+    c.found & c.stable
+}
+
+// Whether an import is left out at once. An unstable one is searched for, and charged, even where it is not allowed.
+fn is_left_out(words: &[u32], h: usize) -> bool
+    ensures { λ r. ⌜ r ≡ isHidden (importAt (now (words .entry)) h) ⌝ }
+{
+    is_hidden(words, h)
 }
 
 // Three origins, in the order in which their crates are tried.
@@ -197,7 +212,8 @@ fn find_in_lang(
     requires { ⌜ Begun (now words) (now area) l x left × Held left o ⌝ }
     ensures { λ r. ⌜ Searched (now (area .entry)) (inLang (snapOf (now (words .entry)) (now (area .entry)) l) x left item (outOf o) lang (isStable (o .choice))) (now (area .exit)) r ⌝ }
 {
-    if o.choice.found & o.choice.stable {
+    let choice = o.choice;
+    if is_stable(choice) {
         return o;
     }
     let Entry::At(h) = lang_of(words, l, Crate(x.krate), lang) else {
@@ -219,7 +235,8 @@ fn find_in_rest(
     requires { ⌜ Begun (now words) (now area) l x left × Held left o ⌝ }
     ensures { λ r. ⌜ Searched (now (area .entry)) (sysroot (snapOf (now (words .entry)) (now (area .entry)) l) x left item (outOf o) [] (isStable (o .choice))) (now (area .exit)) r ⌝ }
 {
-    if o.choice.found & o.choice.stable {
+    let choice = o.choice;
+    if is_stable(choice) {
         return o;
     }
     let a = find_in_deps_by_sysroot(words, area, l, x, left, item, true, o);
@@ -336,7 +353,7 @@ fn find_import(
     requires { ⌜ Begun (now words) (now area) l x left × (importAt (now words) h .container < l .modules) × (importAt (now words) h .name < l .names) × Held left o ⌝ }
     ensures { λ r. ⌜ Searched (now (area .entry)) (oneImport (snapOf (now (words .entry)) (now (area .entry)) l) x left (outOf o) (importAt (now (words .entry)) h) (isHidden (importAt (now (words .entry)) h))) (now (area .exit)) r ⌝ }
 {
-    if is_hidden(words, h) {
+    if is_left_out(words, h) {
         return o;
     }
     let best = o.choice;

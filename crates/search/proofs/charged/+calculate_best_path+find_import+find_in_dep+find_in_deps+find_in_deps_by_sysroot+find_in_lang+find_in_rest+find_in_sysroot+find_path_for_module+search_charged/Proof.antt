@@ -2,7 +2,7 @@ use Prim.Native.Nat.{ℕ, _+_, _-_, _*_, _<_}
 use native.Mathlib.Omega.{arith}
 use borrow.Author.Needs.{needs}
 use denote.Ref.{now}
-use mathlib.Core.Path.{_≡_, refl, sym, ap, _∙_, subst}
+use mathlib.Core.Path.{refl, sym, ap, _∙_, subst}
 use mathlib.Core.List.{List}
 use Rattle.snapshot.specs.Records.{importAt, dependencyAt}
 use Rattle.snapshot.specs.Layouts.{importBase, dependencyBase, snapOf}
@@ -56,17 +56,18 @@ use Rattle.search.proofs.charged.+calculate_best_path+find_import+find_
 use Rattle.hir_def.proofs.crate_graph.lang_of.Reads as lang-of-reads
 use Rattle.hir_def.proofs.crate_graph.next_by_sysroot.Reads as next-by-sysroot-reads
 use Rattle.hir_def.proofs.crate_graph.next_dependency.Reads as next-dependency-reads
-use Rattle.hir_def.proofs.import_map.is_hidden.Reads as is-hidden-reads
 use Rattle.hir_def.proofs.import_map.next_import.Reads as next-import-reads
 use Rattle.hir_def.proofs.items.home_of.Reads as home-of-reads
+use Rattle.local_search.proofs.calculate_best_path_local.Reads as calculate-best-path-local-reads
 use Rattle.path_rules.proofs.choices.length_left.Reads as length-left-reads
 use Rattle.path_rules.proofs.choices.nothing.Reads as nothing-reads
 use Rattle.path_rules.proofs.context.charge.Reads as charge-reads
 use Rattle.path_rules.proofs.offers.offer_import.Reads as offer-import-reads
 use Rattle.path_rules.proofs.rules.module_rules.Reads as module-rules-reads
 use Rattle.search.proofs.charged.is_at.Reads as is-at-reads
+use Rattle.search.proofs.charged.is_left_out.Reads as is-left-out-reads
+use Rattle.search.proofs.charged.is_stable.Reads as is-stable-reads
 use Rattle.search.proofs.charged.langs_for.Reads as langs-for-reads
-use Rattle.local_search.proofs.calculate_best_path_local.Reads as calculate-best-path-local-reads
 use Rattle.snapshot.proofs.record.dependency_crate.Reads as dependency-crate-reads
 use Rattle.snapshot.proofs.record.import_container.Reads as import-container-reads
 use Rattle.search.proofs.charged.+calculate_best_path+find_import+find_in_dep+find_in_deps+find_in_deps_by_sysroot+find_in_lang+find_in_rest+find_in_sysroot+find_path_for_module+search_charged.{
@@ -335,9 +336,9 @@ calculate-best-path-returns-2 t c =
       tables = f .ensures .tables;
     }
 
-find-import-is-hidden-requires : (t : ℕ) → find-import-lts.Need-is-hidden-requires (
-  is-hidden-reads.Asked,
-  is-hidden-reads.Learnt,
+find-import-is-left-out-requires : (t : ℕ) → find-import-lts.Need-is-left-out-requires (
+  is-left-out-reads.Asked,
+  is-left-out-reads.Learnt,
   length-left-reads.Asked,
   length-left-reads.Learnt,
   import-container-reads.Asked,
@@ -347,11 +348,11 @@ find-import-is-hidden-requires : (t : ℕ) → find-import-lts.Need-is-hidden-re
   offer-import-reads.Asked,
   offer-import-reads.Learnt,
 ) (find-import-at t) find-import.Post
-find-import-is-hidden-requires t c κs = tt
+find-import-is-left-out-requires t c κs = tt
 
 find-import-returns : (t : ℕ) → find-import-lts.Need-returns (
-  is-hidden-reads.Asked,
-  is-hidden-reads.Learnt,
+  is-left-out-reads.Asked,
+  is-left-out-reads.Learnt,
   length-left-reads.Asked,
   length-left-reads.Learnt,
   import-container-reads.Asked,
@@ -365,13 +366,13 @@ find-import-returns t c =
     let o = c .before .before .before .before in
     let a = o .args in
     record {
-      same = ap foundOf (import-hidden (snapOf (now (a .words)) (now (a .area)) (a .l)) (a .x) (a .left) (outOf (a .o)) (importAt (now (a .words)) (a .h)) _ (sym (c .before .is-hidden .ensures) ∙ c .if1 .taken));
+      same = ap foundOf (import-hidden (snapOf (now (a .words)) (now (a .area)) (a .l)) (a .x) (a .left) (outOf (a .o)) (importAt (now (a .words)) (a .h)) _ (sym (c .before .is-left-out .ensures) ∙ c .if1 .taken));
       tables = refl;
     }
 
 find-import-length-left-requires : (t : ℕ) → find-import-lts.Need-length-left-requires (
-  is-hidden-reads.Asked,
-  is-hidden-reads.Learnt,
+  is-left-out-reads.Asked,
+  is-left-out-reads.Learnt,
   length-left-reads.Asked,
   length-left-reads.Learnt,
   import-container-reads.Asked,
@@ -384,8 +385,8 @@ find-import-length-left-requires : (t : ℕ) → find-import-lts.Need-length-lef
 find-import-length-left-requires t c κs = let o = c .before .before .before .before .before .before in omega (arith, o .pre .1 .3 .few, o .pre .1 .0 .limit)
 
 find-import-import-container-requires : (t : ℕ) → find-import-lts.Need-import-container-requires (
-  is-hidden-reads.Asked,
-  is-hidden-reads.Learnt,
+  is-left-out-reads.Asked,
+  is-left-out-reads.Learnt,
   length-left-reads.Asked,
   length-left-reads.Learnt,
   import-container-reads.Asked,
@@ -399,8 +400,8 @@ find-import-import-container-requires t c κs = tt
 
 find-import-find-path-for-module-requires :
     (t : ℕ) → find-import-lts.Need-find-path-for-module-requires (
-      is-hidden-reads.Asked,
-      is-hidden-reads.Learnt,
+      is-left-out-reads.Asked,
+      is-left-out-reads.Learnt,
       length-left-reads.Asked,
       length-left-reads.Learnt,
       import-container-reads.Asked,
@@ -421,8 +422,8 @@ find-import-find-path-for-module-requires t c κs =
     )
 
 find-import-offer-import-requires : (t : ℕ) → find-import-lts.Need-offer-import-requires (
-  is-hidden-reads.Asked,
-  is-hidden-reads.Learnt,
+  is-left-out-reads.Asked,
+  is-left-out-reads.Learnt,
   length-left-reads.Asked,
   length-left-reads.Learnt,
   import-container-reads.Asked,
@@ -447,8 +448,8 @@ find-import-offer-import-requires t c κs =
     )
 
 find-import-same-length : (t : ℕ) → find-import-lts.Need-same-length (
-  is-hidden-reads.Asked,
-  is-hidden-reads.Learnt,
+  is-left-out-reads.Asked,
+  is-left-out-reads.Learnt,
   length-left-reads.Asked,
   length-left-reads.Learnt,
   import-container-reads.Asked,
@@ -461,8 +462,8 @@ find-import-same-length : (t : ℕ) → find-import-lts.Need-same-length (
 find-import-same-length t c = c .before .before .before .before .before .before .find-path-for-module .kept .1 .0
 
 find-import-returns-2 : (t : ℕ) → find-import-lts.Need-returns-2 (
-  is-hidden-reads.Asked,
-  is-hidden-reads.Learnt,
+  is-left-out-reads.Asked,
+  is-left-out-reads.Learnt,
   length-left-reads.Asked,
   length-left-reads.Learnt,
   import-container-reads.Asked,
@@ -476,7 +477,7 @@ find-import-returns-2 t c =
     let o = c .before .before .before .before .before .before .before .before .before .before .before .before .before .before .before .before in
     let a = o .args in
     let f = c .before .before .before .before .before .before .find-path-for-module in
-    import-run (a .left) (a .h) (a .o) (o .pre .1 .0 .ready) (sym (c .before .before .before .before .before .before .before .before .before .before .before .before .before .is-hidden .ensures) ∙ c .before .before .before .before .before .before .before .before .before .before .before .before .if1 .left) (c .before .before .before .before .before .before .before .before .before .length-left .ensures) (c .before .before .before .before .before .before .before .import-container .ensures) (f .ensures) (c .offer-import .ensures)
+    import-run (a .left) (a .h) (a .o) (o .pre .1 .0 .ready) (sym (c .before .before .before .before .before .before .before .before .before .before .before .before .before .is-left-out .ensures) ∙ c .before .before .before .before .before .before .before .before .before .before .before .before .if1 .left) (c .before .before .before .before .before .before .before .before .before .length-left .ensures) (c .before .before .before .before .before .before .before .import-container .ensures) (f .ensures) (c .offer-import .ensures)
 
 abbrev find-in-dep-Inv-loop : find-in-dep-lts.InvT-loop
 find-in-dep-Inv-loop words area₀ l x left item c best₀ k₀ area best k =
@@ -1020,7 +1021,21 @@ find-in-deps-by-sysroot-returns-2 t c =
     let g = c .before .before .loop in
     running-done (g .inv) (deps-end (now (a .words)) (now (a .area)) (g .area) (a .l) (a .x) (a .left) (o .pre .1 .0 .ready) (o .pre .1 .0 .some) (a .item) (g .best) _ (left-none _ _ _ _ (c .if1 .left)))
 
+find-in-lang-is-stable-requires : (t : ℕ) → find-in-lang-lts.Need-is-stable-requires (
+  is-stable-reads.Asked,
+  is-stable-reads.Learnt,
+  lang-of-reads.Asked,
+  lang-of-reads.Learnt,
+  dependency-crate-reads.Asked,
+  dependency-crate-reads.Learnt,
+  find-in-dep-below t,
+  find-in-dep.Post,
+) (find-in-lang-at t) find-in-lang.Post
+find-in-lang-is-stable-requires t c κs = tt
+
 find-in-lang-returns : (t : ℕ) → find-in-lang-lts.Need-returns (
+  is-stable-reads.Asked,
+  is-stable-reads.Learnt,
   lang-of-reads.Asked,
   lang-of-reads.Learnt,
   dependency-crate-reads.Asked,
@@ -1029,11 +1044,13 @@ find-in-lang-returns : (t : ℕ) → find-in-lang-lts.Need-returns (
   find-in-dep.Post,
 ) (find-in-lang-at t) find-in-lang.Post
 find-in-lang-returns t c =
-    let o = c .before .before .before .before in
+    let o = c .before .before .before .before .before in
     let a = o .args in
-    record { same = ap foundOf (lang-stable (snapOf (now (a .words)) (now (a .area)) (a .l)) (a .x) (a .left) (a .item) (outOf (a .o)) (a .lang) _ (c .if1 .taken)); tables = refl }
+    record { same = ap foundOf (lang-stable (snapOf (now (a .words)) (now (a .area)) (a .l)) (a .x) (a .left) (a .item) (outOf (a .o)) (a .lang) _ (sym (c .before .is-stable .ensures) ∙ c .if1 .taken)); tables = refl }
 
 find-in-lang-lang-of-requires : (t : ℕ) → find-in-lang-lts.Need-lang-of-requires (
+  is-stable-reads.Asked,
+  is-stable-reads.Learnt,
   lang-of-reads.Asked,
   lang-of-reads.Learnt,
   dependency-crate-reads.Asked,
@@ -1041,9 +1058,11 @@ find-in-lang-lang-of-requires : (t : ℕ) → find-in-lang-lts.Need-lang-of-requ
   find-in-dep-below t,
   find-in-dep.Post,
 ) (find-in-lang-at t) find-in-lang.Post
-find-in-lang-lang-of-requires t c κs = let o = c .before .before .before .before in few-words _ _ _ (o .pre .1 .0 .ready .reads)
+find-in-lang-lang-of-requires t c κs = let o = c .before .before .before .before .before in few-words _ _ _ (o .pre .1 .0 .ready .reads)
 
 find-in-lang-enum-known-h : (t : ℕ) → find-in-lang-lts.Need-enum-known-h (
+  is-stable-reads.Asked,
+  is-stable-reads.Learnt,
   lang-of-reads.Asked,
   lang-of-reads.Learnt,
   dependency-crate-reads.Asked,
@@ -1054,6 +1073,8 @@ find-in-lang-enum-known-h : (t : ℕ) → find-in-lang-lts.Need-enum-known-h (
 find-in-lang-enum-known-h t c = search needs
 
 find-in-lang-enum-told : (t : ℕ) → find-in-lang-lts.Need-enum-told (
+  is-stable-reads.Asked,
+  is-stable-reads.Learnt,
   lang-of-reads.Asked,
   lang-of-reads.Learnt,
   dependency-crate-reads.Asked,
@@ -1064,6 +1085,8 @@ find-in-lang-enum-told : (t : ℕ) → find-in-lang-lts.Need-enum-told (
 find-in-lang-enum-told t c = search needs
 
 find-in-lang-returns-2 : (t : ℕ) → find-in-lang-lts.Need-returns-2 (
+  is-stable-reads.Asked,
+  is-stable-reads.Learnt,
   lang-of-reads.Asked,
   lang-of-reads.Learnt,
   dependency-crate-reads.Asked,
@@ -1072,12 +1095,14 @@ find-in-lang-returns-2 : (t : ℕ) → find-in-lang-lts.Need-returns-2 (
   find-in-dep.Post,
 ) (find-in-lang-at t) find-in-lang.Post
 find-in-lang-returns-2 t c =
-    let o = c .before .before .before .before .before .before .before in
+    let o = c .before .before .before .before .before .before .before .before in
     let a = o .args in
     let e = sym (ap (entryOf dependencyAt (now (a .words))) (c .enum-told .given .1)) ∙ c .before .before .lang-of .ensures (now (a .area)) in
-    record { same = ap foundOf (lang-none (snapOf (now (a .words)) (now (a .area)) (a .l)) (a .x) (a .left) (a .item) (outOf (a .o)) (a .lang) _ (c .before .before .before .if1 .left) e); tables = refl }
+    record { same = ap foundOf (lang-none (snapOf (now (a .words)) (now (a .area)) (a .l)) (a .x) (a .left) (a .item) (outOf (a .o)) (a .lang) _ (sym (c .before .before .before .before .is-stable .ensures) ∙ c .before .before .before .if1 .left) e); tables = refl }
 
 find-in-lang-dependency-crate-requires : (t : ℕ) → find-in-lang-lts.Need-dependency-crate-requires (
+  is-stable-reads.Asked,
+  is-stable-reads.Learnt,
   lang-of-reads.Asked,
   lang-of-reads.Learnt,
   dependency-crate-reads.Asked,
@@ -1088,6 +1113,8 @@ find-in-lang-dependency-crate-requires : (t : ℕ) → find-in-lang-lts.Need-dep
 find-in-lang-dependency-crate-requires t c κs = tt
 
 find-in-lang-find-in-dep-requires : (t : ℕ) → find-in-lang-lts.Need-find-in-dep-requires (
+  is-stable-reads.Asked,
+  is-stable-reads.Learnt,
   lang-of-reads.Asked,
   lang-of-reads.Learnt,
   dependency-crate-reads.Asked,
@@ -1095,9 +1122,11 @@ find-in-lang-find-in-dep-requires : (t : ℕ) → find-in-lang-lts.Need-find-in-
   find-in-dep-below t,
   find-in-dep.Post,
 ) (find-in-lang-at t) find-in-lang.Post
-find-in-lang-find-in-dep-requires t c κs = let o = c .before .before .before .before .before .before .before .before .before .before in (omega (arith, o .pre .0), (o .pre .1 .0, o .pre .1 .1))
+find-in-lang-find-in-dep-requires t c κs = let o = c .before .before .before .before .before .before .before .before .before .before .before in (omega (arith, o .pre .0), (o .pre .1 .0, o .pre .1 .1))
 
 find-in-lang-same-length : (t : ℕ) → find-in-lang-lts.Need-same-length (
+  is-stable-reads.Asked,
+  is-stable-reads.Learnt,
   lang-of-reads.Asked,
   lang-of-reads.Learnt,
   dependency-crate-reads.Asked,
@@ -1108,6 +1137,8 @@ find-in-lang-same-length : (t : ℕ) → find-in-lang-lts.Need-same-length (
 find-in-lang-same-length t c = c .before .before .find-in-dep .kept .1 .0
 
 find-in-lang-returns-3 : (t : ℕ) → find-in-lang-lts.Need-returns-3 (
+  is-stable-reads.Asked,
+  is-stable-reads.Learnt,
   lang-of-reads.Asked,
   lang-of-reads.Learnt,
   dependency-crate-reads.Asked,
@@ -1116,7 +1147,7 @@ find-in-lang-returns-3 : (t : ℕ) → find-in-lang-lts.Need-returns-3 (
   find-in-dep.Post,
 ) (find-in-lang-at t) find-in-lang.Post
 find-in-lang-returns-3 t c =
-    let o = c .before .before .before .before .before .before .before .before .before .before .before .before .before in
+    let o = c .before .before .before .before .before .before .before .before .before .before .before .before .before .before in
     let a = o .args in
     let f = c .before .before .find-in-dep in
     let h = c .before .before .before .before .before .before .h .given in
@@ -1125,54 +1156,72 @@ find-in-lang-returns-3 t c =
       same =
           f .ensures .same
           ∙ ap (λ (z : ℕ). foundOf (imports (snapOf (now (a .words)) (now (a .area)) (a .l)) (a .x) (a .left) (outOf (a .o)) (importInfoFor (snapOf (now (a .words)) (now (a .area)) (a .l)) z (a .item)))) (c .before .before .before .dependency-crate .ensures)
-          ∙ ap foundOf (lang-some (snapOf (now (a .words)) (now (a .area)) (a .l)) (a .x) (a .left) (a .item) (outOf (a .o)) (a .lang) _ _ (c .before .before .before .before .before .before .before .before .before .if1 .left) e);
+          ∙ ap foundOf (lang-some (snapOf (now (a .words)) (now (a .area)) (a .l)) (a .x) (a .left) (a .item) (outOf (a .o)) (a .lang) _ _ (sym (c .before .before .before .before .before .before .before .before .before .before .is-stable .ensures) ∙ c .before .before .before .before .before .before .before .before .before .if1 .left) e);
       tables = f .ensures .tables;
     }
 
+find-in-rest-is-stable-requires : (t : ℕ) → find-in-rest-lts.Need-is-stable-requires (
+  is-stable-reads.Asked,
+  is-stable-reads.Learnt,
+  find-in-deps-by-sysroot-below t,
+  find-in-deps-by-sysroot.Post,
+) (find-in-rest-at t) find-in-rest.Post
+find-in-rest-is-stable-requires t c κs = tt
+
 find-in-rest-returns : (t : ℕ) → find-in-rest-lts.Need-returns (
+  is-stable-reads.Asked,
+  is-stable-reads.Learnt,
   find-in-deps-by-sysroot-below t,
   find-in-deps-by-sysroot.Post,
 ) (find-in-rest-at t) find-in-rest.Post
 find-in-rest-returns t c =
-    let o = c .before .before .before .before in
+    let o = c .before .before .before .before .before in
     let a = o .args in
-    record { same = ap foundOf (rest-stable (snapOf (now (a .words)) (now (a .area)) (a .l)) (a .x) (a .left) (a .item) (outOf (a .o)) _ (c .if1 .taken)); tables = refl }
+    record { same = ap foundOf (rest-stable (snapOf (now (a .words)) (now (a .area)) (a .l)) (a .x) (a .left) (a .item) (outOf (a .o)) _ (sym (c .before .is-stable .ensures) ∙ c .if1 .taken)); tables = refl }
 
 find-in-rest-find-in-deps-by-sysroot-requires :
     (t : ℕ) → find-in-rest-lts.Need-find-in-deps-by-sysroot-requires (
+      is-stable-reads.Asked,
+      is-stable-reads.Learnt,
       find-in-deps-by-sysroot-below t,
       find-in-deps-by-sysroot.Post,
     ) (find-in-rest-at t) find-in-rest.Post
-find-in-rest-find-in-deps-by-sysroot-requires t c κs = let o = c .before .before .before .before .before in (omega (arith, o .pre .0), (o .pre .1 .0, o .pre .1 .1))
+find-in-rest-find-in-deps-by-sysroot-requires t c κs = let o = c .before .before .before .before .before .before in (omega (arith, o .pre .0), (o .pre .1 .0, o .pre .1 .1))
 
 find-in-rest-find-in-deps-by-sysroot-requires-2 :
     (t : ℕ) → find-in-rest-lts.Need-find-in-deps-by-sysroot-requires-2 (
+      is-stable-reads.Asked,
+      is-stable-reads.Learnt,
       find-in-deps-by-sysroot-below t,
       find-in-deps-by-sysroot.Post,
     ) (find-in-rest-at t) find-in-rest.Post
 find-in-rest-find-in-deps-by-sysroot-requires-2 t c κs =
-    let o = c .before .before .before .before .before .before .before .before .before in
+    let o = c .before .before .before .before .before .before .before .before .before .before in
     let a = o .args in
     let f = c .before .before .before .find-in-deps-by-sysroot in
     let p = deps-passed (a .item) _ (record { begun = o .pre .1 .0; held = o .pre .1 .1 }) (f .ensures) (f .kept .1 .0) in
     (omega (arith, o .pre .0), (p .begun, p .held))
 
 find-in-rest-same-length : (t : ℕ) → find-in-rest-lts.Need-same-length (
+  is-stable-reads.Asked,
+  is-stable-reads.Learnt,
   find-in-deps-by-sysroot-below t,
   find-in-deps-by-sysroot.Post,
 ) (find-in-rest-at t) find-in-rest.Post
 find-in-rest-same-length t c = c .before .before .find-in-deps-by-sysroot2 .kept .1 .0 ∙ c .before .before .before .before .before .before .find-in-deps-by-sysroot .kept .1 .0
 
 find-in-rest-returns-2 : (t : ℕ) → find-in-rest-lts.Need-returns-2 (
+  is-stable-reads.Asked,
+  is-stable-reads.Learnt,
   find-in-deps-by-sysroot-below t,
   find-in-deps-by-sysroot.Post,
 ) (find-in-rest-at t) find-in-rest.Post
 find-in-rest-returns-2 t c =
-    let o = c .before .before .before .before .before .before .before .before .before .before .before .before in
+    let o = c .before .before .before .before .before .before .before .before .before .before .before .before .before in
     let a = o .args in
     let f = c .before .before .before .before .before .before .find-in-deps-by-sysroot in
     let r = c .before .before .find-in-deps-by-sysroot2 in
-    rest-run (a .left) (a .item) (a .o) (o .pre .1 .0 .ready) (c .before .before .before .before .before .before .before .before .if1 .left) (f .ensures) (r .ensures)
+    rest-run (a .left) (a .item) (a .o) (o .pre .1 .0 .ready) (sym (c .before .before .before .before .before .before .before .before .before .is-stable .ensures) ∙ c .before .before .before .before .before .before .before .before .if1 .left) (f .ensures) (r .ensures)
 
 find-in-sysroot-langs-for-requires : (t : ℕ) → find-in-sysroot-lts.Need-langs-for-requires (
   langs-for-reads.Asked,
@@ -1636,8 +1685,8 @@ pub +calculate-best-path+find-import+find-in-dep+find-in-deps+find-in-deps-by-sy
     (calculate-best-path-same-length t)
     (calculate-best-path-returns-2 t))
     (λ t. find-import-lts.spec (
-      is-hidden-reads.Asked,
-      is-hidden-reads.Learnt,
+      is-left-out-reads.Asked,
+      is-left-out-reads.Learnt,
       length-left-reads.Asked,
       length-left-reads.Learnt,
       import-container-reads.Asked,
@@ -1649,7 +1698,7 @@ pub +calculate-best-path+find-import+find-in-dep+find-in-deps+find-in-deps-by-sy
     )
     (find-import-at t)
     find-import.Post
-    (find-import-is-hidden-requires t)
+    (find-import-is-left-out-requires t)
     (find-import-returns t)
     (find-import-length-left-requires t)
     (find-import-import-container-requires t)
@@ -1730,6 +1779,8 @@ pub +calculate-best-path+find-import+find-in-dep+find-in-deps+find-in-deps-by-sy
     (find-in-deps-by-sysroot-same-length-2 t)
     (find-in-deps-by-sysroot-returns-2 t))
     (λ t. find-in-lang-lts.spec (
+      is-stable-reads.Asked,
+      is-stable-reads.Learnt,
       lang-of-reads.Asked,
       lang-of-reads.Learnt,
       dependency-crate-reads.Asked,
@@ -1739,6 +1790,7 @@ pub +calculate-best-path+find-import+find-in-dep+find-in-deps+find-in-deps-by-sy
     )
     (find-in-lang-at t)
     find-in-lang.Post
+    (find-in-lang-is-stable-requires t)
     (find-in-lang-returns t)
     (find-in-lang-lang-of-requires t)
     (find-in-lang-enum-known-h t)
@@ -1748,10 +1800,15 @@ pub +calculate-best-path+find-import+find-in-dep+find-in-deps+find-in-deps-by-sy
     (find-in-lang-find-in-dep-requires t)
     (find-in-lang-same-length t)
     (find-in-lang-returns-3 t))
-    (λ t. find-in-rest-lts.spec
-    (find-in-deps-by-sysroot-below t, find-in-deps-by-sysroot.Post)
+    (λ t. find-in-rest-lts.spec (
+      is-stable-reads.Asked,
+      is-stable-reads.Learnt,
+      find-in-deps-by-sysroot-below t,
+      find-in-deps-by-sysroot.Post,
+    )
     (find-in-rest-at t)
     find-in-rest.Post
+    (find-in-rest-is-stable-requires t)
     (find-in-rest-returns t)
     (find-in-rest-find-in-deps-by-sysroot-requires t)
     (find-in-rest-find-in-deps-by-sysroot-requires-2 t)

@@ -1,6 +1,5 @@
 use borrow.Author.Needs.{needs}
 use denote.Ref.{now}
-use native.Mathlib.Omega.{arith}
 use Rattle.snapshot.specs.Layouts.{snapOf}
 use Rattle.search.proofs.Parts.{at-none, at-some}
 use Rattle.search.proofs.charged.is_at.Statement.{statement}

@@ -1,6 +1,4 @@
 use borrow.Author.Needs.{needs}
-use denote.Ref.{now}
-use Rattle.snapshot.specs.Layouts.{snapOf}
 use Rattle.search.proofs.Items.{variant-module, variant-yes, variant-no}
 use Rattle.search.proofs.inner.variant_of.Statement.{statement}
 use Rattle.search.proofs.inner.variant_of.Tie as tie
