@@ -1,9 +1,9 @@
 //! Times of the proved code, through the Rust bindings: the check by the size of the snapshot, and questions.
 //!
 //! `bench` prints tables. `bench check SHAPE COUNT` checks one snapshot so many times and prints nothing, for a profiler.
-#[cfg(feature = "search")]
 mod library;
-#[cfg(feature = "search")]
+#[cfg(feature = "original")]
+mod original;
 mod questions;
 mod shapes;
 mod timing;
@@ -17,7 +17,6 @@ fn main() {
         [] => {
             print_checks("The check, by the size of a workspace", &shapes::growing());
             print_checks("The check, by shape", &shapes::all());
-            #[cfg(feature = "search")]
             questions::print_all();
         }
         ["check", shape, count] => repeat_check(shape, count.parse().expect("a number")),

@@ -47,7 +47,11 @@ struct Program<'w> {
 
 /// The programs that this one is built with.
 fn programs(words: &[u32]) -> Vec<Program<'_>> {
-    vec![Program { name: "the library", answers: Box::new(crate::library::Library::new(words)) }]
+    vec![
+        #[cfg(feature = "original")]
+        Program { name: "the Rust", answers: Box::new(crate::original::Original::new(words)) },
+        Program { name: "the library", answers: Box::new(crate::library::Library::new(words)) },
+    ]
 }
 
 pub fn print_all() {

@@ -7,12 +7,11 @@
 //! the fuel ran out before the search was through, which says nothing about the item.
 //!
 //! ```
-//! use kelumavor::{Snapshot, SnapshotWords, Visibility};
+//! use kelumavor::{Namespace, Outcome, Question, Snapshot, SnapshotWords, Visibility};
 //!
 //! // A crate with a module `a` that holds a function `f`.
 //! let mut words = SnapshotWords::new();
-//! let a = words.name("a");
-//! let f = words.name("f");
+//! let [a, f] = ["a", "f"].map(|text| words.name(text));
 //! let krate = words.krate(Default::default(), false);
 //! let map = words.map(krate, None, false);
 //! let root = words.module(map, None);
@@ -20,21 +19,23 @@
 //! words.child(root, module);
 //! let a_module = words.module_definition(module);
 //! let f_function = words.other_definition(module);
-//! words.scope(root, kelumavor::Namespace::Types, a, a_module, Visibility::Public, true);
-//! words.scope(module, kelumavor::Namespace::Values, f, f_function, Visibility::Public, true);
+//! words.scope(root, Namespace::Types, a, a_module, Visibility::Public, true);
+//! words.scope(module, Namespace::Values, f, f_function, Visibility::Public, true);
 //!
 //! let snapshot = Snapshot::check(words.as_words())?;
-//! assert_eq!(snapshot.counts().modules, 2);
-//! assert_eq!(snapshot.name(f).unwrap().to_string(), "f");
+//! let report = snapshot.find_path(&Question::new(Namespace::Values, f_function, root));
+//! match report.outcome {
+//!     Outcome::Found(path) => assert_eq!(path.to_string(), "a::f"),
+//!     Outcome::NoPath => panic!("the function cannot be named here"),
+//!     Outcome::TankEmpty(_) => panic!("not known: the search needs more fuel"),
+//!     Outcome::Refused(refusal) => return Err(refusal),
+//! }
 //! # Ok::<(), kelumavor::Refusal>(())
 //! ```
 mod ids;
-#[cfg(feature = "search")]
 mod path;
-#[cfg(feature = "search")]
 mod question;
 mod refusal;
-#[cfg(feature = "search")]
 mod report;
 mod snapshot;
 mod sys;
@@ -42,12 +43,9 @@ mod text;
 mod words;
 
 pub use ids::{CrateId, DefinitionId, MapId, ModuleId, NameId, Namespace};
-#[cfg(feature = "search")]
 pub use path::{Names, Path, PathKind};
-#[cfg(feature = "search")]
 pub use question::{Options, Prefix, Question};
 pub use refusal::{Refusal, RefusalKind};
-#[cfg(feature = "search")]
 pub use report::{Outcome, Report};
 pub use snapshot::{Counts, Snapshot, WorkArea};
 pub use text::Text;

@@ -1,6 +1,8 @@
 //! A checked snapshot.
 use crate::ids::NameId;
+use crate::question::Question;
 use crate::refusal::Refusal;
+use crate::report::Report;
 use crate::sys;
 use crate::text::Text;
 
@@ -108,17 +110,14 @@ impl<'w> Snapshot<'w> {
         bytes.truncate(length);
         Some(Text(bytes))
     }
-}
 
-#[cfg(feature = "search")]
-impl<'w> Snapshot<'w> {
-    /// Answers a question.
-    pub fn find_path(&self, question: &crate::Question) -> crate::Report<'_> {
+    /// Answers a question. The library keeps nothing between calls, so it checks the words again.
+    pub fn find_path(&self, question: &Question) -> Report<'_> {
         self.find_path_in(question, &mut WorkArea::new())
     }
 
     /// Answers a question in a work area of the caller's.
-    pub fn find_path_in(&self, question: &crate::Question, area: &mut WorkArea) -> crate::Report<'_> {
-        crate::Report::new(self, sys::find_path(self.words, &mut area.0, &question.words()))
+    pub fn find_path_in(&self, question: &Question, area: &mut WorkArea) -> Report<'_> {
+        Report::new(self, sys::find_path(self.words, &mut area.0, &question.words()))
     }
 }

@@ -4,7 +4,6 @@
 pub const CHECKED: usize = 13;
 
 /// Words of a report.
-#[cfg(feature = "search")]
 pub const REPORT: usize = 22;
 
 mod raw {
@@ -27,7 +26,6 @@ mod raw {
             out_len: usize,
         ) -> usize;
 
-        #[cfg(feature = "search")]
         pub fn kelumavor_find_path(
             words: *const u32,
             words_len: usize,
@@ -62,7 +60,6 @@ pub fn name(words: &[u32], tables: &[u32], name: usize, out: &mut [u8]) -> usize
     }
 }
 
-#[cfg(feature = "search")]
 pub fn find_path(words: &[u32], area: &mut [u32], question: &[u32; 6]) -> [u32; REPORT] {
     let mut report = [0; REPORT];
     // SAFETY: as in `check`.

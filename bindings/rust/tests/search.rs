@@ -1,5 +1,4 @@
 //! Questions: the worked cases, and random ones against the path printer.
-#![cfg(feature = "search")]
 mod common;
 
 use std::io::Write;

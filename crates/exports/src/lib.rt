@@ -1,13 +1,18 @@
 //! The functions of the static library, for programs in Rust and C. None keeps a state, and none asks anything of its caller.
 ghost use Rattle.exports.specs.Answers.{Answered};
+ghost use Rattle.exports.specs.Questions.{questionOf, Reported};
 ghost use Rattle.exports.specs.Texts.{nameText, Copied, Named};
 
+mod question;
 mod text;
 
+use crate::question::question_of;
 use crate::text::copy_text;
 use crate::text::held;
 use accept::check::Checked;
 use accept::check::check;
+use answer::answer::find_path;
+use answer::report::write_report;
 use snapshot::ids::Name;
 use snapshot::table::name_head;
 use snapshot::text::text_at;
@@ -74,4 +79,19 @@ pub extern "C" fn kelumavor_name(
     }
     copy_text(out, text, n);
     n
+}
+
+/// Answers a question on a snapshot, and writes the report, a word a field, where there is room for all of it; answers whether
+/// there was.
+#[no_mangle]
+pub extern "C" fn kelumavor_find_path(
+    words: &[u32],
+    area: &mut [u32],
+    question: &[u32; 6],
+    report: &mut [u32],
+) -> bool
+    ensures { λ r. ⌜ Reported (now (words .entry)) (now (area .entry)) (questionOf (now (question .entry))) (now (area .exit)) (now (report .entry)) (now (report .exit)) r ⌝ }
+{
+    let answer = find_path(words, area, question_of(question));
+    write_report(answer, report)
 }
