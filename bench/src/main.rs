@@ -1,6 +1,7 @@
 //! Times of the proved code, through the Rust bindings: the check by the size of the snapshot, and questions.
 //!
-//! `bench` prints tables. `bench check SHAPE COUNT` checks one snapshot so many times and prints nothing, for a profiler.
+//! `bench` prints tables. For a profiler, `bench check SHAPE COUNT` checks one snapshot so many times, and
+//! `bench ask SHAPE COUNT` puts so many questions to the library; both print nothing.
 mod library;
 #[cfg(feature = "original")]
 mod original;
@@ -19,8 +20,9 @@ fn main() {
             print_checks("The check, by shape", &shapes::all());
             questions::print_all();
         }
-        ["check", shape, count] => repeat_check(shape, count.parse().expect("a number")),
-        _ => panic!("usage: bench [check SHAPE COUNT]"),
+        ["check", shape, count] => repeat_check(&named(shape), count.parse().expect("a number")),
+        ["ask", shape, count] => questions::ask(&named(shape), count.parse().expect("a number")),
+        _ => panic!("usage: bench [check SHAPE COUNT | ask SHAPE COUNT]"),
     }
 }
 
@@ -51,8 +53,11 @@ fn print_checks(title: &str, shapes: &[Shape]) {
     println!();
 }
 
-fn repeat_check(name: &str, count: usize) {
-    let shape = shapes::all().into_iter().find(|shape| shape.name == name).expect("a shape");
+fn named(name: &str) -> Shape {
+    shapes::all().into_iter().find(|shape| shape.name == name).expect("a shape")
+}
+
+fn repeat_check(shape: &Shape, count: usize) {
     let mut area = WorkArea::new();
     for _ in 0..count {
         assert!(Snapshot::check_in(&shape.words, &mut area).is_ok());

@@ -71,8 +71,16 @@ pub fn print_all() {
     println!();
 }
 
+/// Puts so many questions to the library.
+pub fn ask(shape: &Shape, count: usize) {
+    let mut library = crate::library::Library::new(&shape.words);
+    for question in questions(shape).cycle().take(count) {
+        std::hint::black_box(library.put(&question));
+    }
+}
+
 /// Some fifty definitions, each from two modules, as a plain path and by `crate`.
-fn questions(shape: &Shape) -> impl Iterator<Item = Question> {
+fn questions(shape: &Shape) -> impl Iterator<Item = Question> + Clone {
     let snapshot = kelumavor::Snapshot::check(&shape.words).expect(&shape.name);
     let definitions = snapshot.counts().definitions as u32;
     let modules = snapshot.counts().modules as u32;
