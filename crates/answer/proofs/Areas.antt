@@ -2,7 +2,7 @@
 use Prim.Native.Nat.{ℕ, zero, suc, _+_, _≤_, _<_}
 use mathlib.Core.Path.{_≡_, refl, sym, _∙_, ap, ap₂}
 use mathlib.Core.List.{List, [], _∷_, _++_, map, append-assoc}
-use mathlib.Core.Bool.{Bool, true, false}
+use mathlib.Core.Bool.{true, false}
 use native.Mathlib.Omega.{arith}
 use native.Mathlib.Numerals.{add-one}
 use native.Mathlib.Nat.{add-zero}
@@ -10,7 +10,6 @@ use borrow.Author.Tests.{lt-ltb, le-ltb, lt-leb, le-leb}
 use borrow.Author.Fill.{fill-more}
 use lib.ListN.{length, length-append, take-append-drop, getD, set, take, drop, replicate, drop-of-length-le}
 use lib.Seq.{take-at, drop-at, take-length}
-use Rattle.snapshot.specs.Limits.{areaLimit}
 use Rattle.find_path.specs.declared.Question.{Question}
 use Rattle.find_path.specs.declared.Report.{Report}
 use Rattle.find_path.specs.Report.{refused, reportOf}

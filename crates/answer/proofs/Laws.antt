@@ -8,8 +8,8 @@ use borrow.Author.Tests.{lt-ltb, le-ltb, ltb-true, ltb-false}
 use lib.Dec.{eqb, ltb}
 use lib.ListN.{length, getD, take}
 use lib.Seq.{getD-take}
-use Rattle.snapshot.specs.Records.{Snapshot, definitionAt}
-use Rattle.snapshot.specs.Layouts.{definitionBase, moduleRow, snapOf}
+use Rattle.snapshot.specs.Records.{Snapshot}
+use Rattle.snapshot.specs.Layouts.{snapOf}
 use Rattle.snapshot.specs.declared.layout.Layout.{Layout}
 use Rattle.snapshot.proofs.Laws.{length-rows}
 use Rattle.accept.specs.Verdict.{refuse, accept, verdict}
@@ -27,7 +27,7 @@ use Rattle.find_path.specs.declared.Found.{Found}
 use Rattle.find_path.specs.declared.Tank.{Tank}
 use Rattle.find_path.specs.Charged.{Out, foundOf}
 use Rattle.find_path.specs.Report.{callFault, questionFault, refused, flag, reported, searched, answerUnless, reportBy, reportUnless, reportOf}
-use Rattle.answer.specs.Answers.{outOf, Questioned}
+use Rattle.answer.specs.Answers.{outOf}
 
 -- faults of a call
 

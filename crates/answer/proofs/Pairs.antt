@@ -1,6 +1,6 @@
 -- Demand 3 of two reports of the code.
 use Prim.Native.Nat.{ℕ, _≤_, _<_}
-use mathlib.Core.Path.{_≡_, refl, sym, _∙_, ap, subst}
+use mathlib.Core.Path.{_≡_, refl, _∙_, subst}
 use mathlib.Core.List.{List}
 use native.Mathlib.Omega.{arith}
 use native.Mathlib.Decide.{decLe}
@@ -8,8 +8,8 @@ use lib.ListN.{length}
 use Rattle.find_path.specs.declared.Query.{Query}
 use Rattle.find_path.specs.declared.Question.{Question}
 use Rattle.find_path.specs.declared.Report.{Report}
-use Rattle.find_path.specs.Report.{refused, callFault, reportOf, searchedFreely}
-use Rattle.find_path.specs.Fuels.{IsRefused, Tells, Compared, reportAt}
+use Rattle.find_path.specs.Report.{refused, reportOf}
+use Rattle.find_path.specs.Fuels.{IsRefused, Compared, reportAt}
 use Rattle.find_path.proofs.Fuels.{fuels-compared}
 use Rattle.answer.specs.Answers.{Answers}
 use Rattle.answer.specs.Twice.{FuelsTold, AnswersTwice}

@@ -7,7 +7,7 @@ use lib.Dec.{ltb, leb}
 use lib.ListN.{length, drop}
 use Rattle.find_path.specs.declared.Report.{Report}
 
--- a word holds the lowest 32 bits of a number; the numbers of a question's report have no more
+-- a word holds the lowest 32 bits of a number
 abbrev pub low : ℕ → ℕ
 low x = x % 4294967296
 

@@ -1,6 +1,5 @@
 //! A question put to words that nobody checked yet.
 ghost use mathlib.Core.Path.{_≡_};
-ghost use Prim.Native.Nat.{ℕ, _≤_};
 ghost use lib.ListN.{length};
 ghost use Rattle.find_path.specs.Report.{reportOf};
 ghost use Rattle.answer.specs.Answers.{zeros, Answers};

@@ -1,11 +1,11 @@
 //! Questions put to words that were checked.
 ghost use mathlib.Core.Path.{_≡_};
-ghost use Prim.Native.Nat.{ℕ, _≤_, _<_};
+ghost use Prim.Native.Nat.{_≤_};
 ghost use lib.ListN.{length, take};
 ghost use Rattle.snapshot.specs.Layouts.{tableWords, snapOf};
 ghost use Rattle.accept.specs.Post.{Reads, Judged};
 ghost use Rattle.accept.specs.Verdict.{verdict};
-ghost use Rattle.find_path.specs.Report.{questionFault, answerUnless, reportBy, reportOf};
+ghost use Rattle.find_path.specs.Report.{questionFault, answerUnless, reportBy};
 ghost use Rattle.answer.specs.Answers.{Questioned};
 use crate::faults::call_fault;
 use crate::faults::question_fault;

@@ -1,8 +1,7 @@
 //! Reports: made of a refusal or of what a search found, and written to words.
 ghost use mathlib.Core.Path.{_≡_};
-ghost use mathlib.Core.Bool.{Bool};
-ghost use mathlib.Core.List.{List, map, _++_};
-ghost use Prim.Native.Nat.{ℕ, _+_, _≤_};
+ghost use mathlib.Core.List.{map, _++_};
+ghost use Prim.Native.Nat.{_+_, _≤_};
 ghost use lib.ListN.{length, take, drop};
 ghost use Rattle.find_path.specs.Report.{flag as flagOf, refused as refusedOf, reported as reportedOf};
 ghost use Rattle.answer.specs.Answers.{outOf};
