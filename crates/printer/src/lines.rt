@@ -1,11 +1,8 @@
 //! The line of a question.
 ghost use mathlib.Core.Path.{_≡_};
-ghost use mathlib.Core.List.{_++_};
-ghost use Prim.Native.Nat.{ℕ, _+_, _^_, _≤_, _<_};
-ghost use lib.ListN.{length, take};
-ghost use Rattle.io.specs.Counts.{Counts};
+ghost use Prim.Native.Nat.{ℕ, _≤_, _<_};
+ghost use lib.ListN.{length};
 ghost use Rattle.accept.specs.Post.{Judged};
-ghost use Rattle.find_path.specs.Line.{bytesOf, lineOf};
 ghost use Rattle.printer.specs.Printed.{Printed};
 ghost use Rattle.printer.specs.Lines.{LineOf};
 use crate::questions::is_whole;

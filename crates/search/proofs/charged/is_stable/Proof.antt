@@ -1,0 +1,9 @@
+use mathlib.Core.Path.{refl}
+use Rattle.search.proofs.charged.is_stable.Statement.{statement}
+use Rattle.search.proofs.charged.is_stable.Tie as tie
+
+returns : tie.Need-returns
+returns c = refl
+
+pub is-stable-spec : {M : Type 1} → statement M
+is-stable-spec = tie.close (tie.spec returns)
