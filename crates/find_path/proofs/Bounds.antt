@@ -173,7 +173,7 @@ module _ (s : Snapshot) (x : FindPathCtx) where
     unfolding location
     location-fits l ls best m Nothing f = f
     location-fits l ls best m (Name n) f =
-        offer-fits (lengthLeft (suc l) best) (suc l) best _ n (length-falls (suc l) best (omega arith)) f (fits (lengthLeft (suc l) best) ls m)
+        offer-fits _ (suc l) best _ n (length-falls (suc l) _ (omega arith)) f (fits _ ls m)
 
     pub each-fits : (l : ℕ) (ls : List Level) (item : Item) (done : List ℕ) (best : Choice) (ms : List ℕ) → Fits s (suc l) best
         → Fits s (suc l) (eachLocation s x rec (suc l) ls item done best ms)
@@ -219,8 +219,7 @@ module _ (M : Type 0) (charge : M → Charged M) (s : Snapshot) where
     unfolding findImport
     import-fits l o i true f = f
     import-fits l o i false f =
-        offer-import-fits s x (lengthLeft (suc l) (o .choice)) (suc l) (o .choice) _ i (length-falls (suc l) (o .choice) (omega arith)) f
-        (fits (lengthLeft (suc l) (o .choice)) (i .container) (o .meter))
+        offer-import-fits s x _ (suc l) (o .choice) _ i (length-falls (suc l) _ (omega arith)) f (fits _ (i .container) (o .meter))
 
     pub imports-fit : (l : ℕ) (o : Out M) (is : List Import) → Fits s (suc l) (o .choice) → Fits s (suc l) (findImports M charge s x here rec (suc l) o is .choice)
     unfolding findImports

@@ -35,7 +35,7 @@ module _ (M : Type 0) (charge : M → Charged M) (s : Snapshot) (P : M → Type 
     pub import-keeps : (left : ℕ) (o : Out M) (i : Import) (b : Bool) → P (o .meter) → P (findImport M charge s x here rec left o i b .meter)
     unfolding findImport
     import-keeps left o i true h = h
-    import-keeps left o i false h = k (lengthLeft left (o .choice)) (i .container) (o .meter) h
+    import-keeps left o i false h = k _ (i .container) (o .meter) h
 
     imports-keep : (left : ℕ) (o : Out M) (is : List Import) → P (o .meter) → P (findImports M charge s x here rec left o is .meter)
     unfolding findImports

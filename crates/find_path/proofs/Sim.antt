@@ -65,19 +65,20 @@ AlikeWithin F it ic = (item : Item) (t : Tank) (n : ℕ) → Sync F t n → Sim 
 module _ (F : ℕ) (s : Snapshot) where
   module _ (x : FindPathCtx) (here : ℕ → Item → Choice) (rt : Search Tank) (rc : Search ℕ)
       (kt : KeptBy (Dry F) rt) (kc : KeptBy (Over F) rc) (al : Alike F rt rc) where
-    offered : (a c : Choice) (i : Import) (p : Out Tank) (q : Out ℕ) → a ≡ c → Sim F p q
-        → Sim F (record { choice = offerImport s x a (p .choice) i; meter = p .meter }) (record { choice = offerImport s x c (q .choice) i; meter = q .meter })
-    offered a c i p q e (same e′ h) = same (cc) h
-    offered a c i p q e (dry d o) = dry d o
+    offered : (a : Choice) (i : Import) (p : Out Tank) (q : Out ℕ) → Sim F p q
+        → Sim F (record { choice = offerImport s x a (p .choice) i; meter = p .meter }) (record { choice = offerImport s x a (q .choice) i; meter = q .meter })
+    offered a i p q (same e h) = same (cc) h
+    offered a i p q (dry d o) = dry d o
 
     import-sim : (left : ℕ) (a : Out Tank) (c : Out ℕ) (i : Import) (b : Bool) → Sim F a c
         → Sim F (findImport Tank fromTank s x here rt left a i b) (findImport ℕ counted s x here rc left c i b)
     unfolding findImport
     import-sim left a c i true h = h
     import-sim left a c i false (same e h) =
-        offered (a .choice) (c .choice) i _ _ e (rw (← e) (al (lengthLeft left (a .choice)) (i .container) (a .meter) (c .meter) h))
+        subst (λ (z : Choice). Sim F (findImport Tank fromTank s x here rt left a i false) (findImport ℕ counted s x here rc left (record { choice = z; meter = c .meter }) i false)) e
+        (offered (a .choice) i _ _ (al _ (i .container) (a .meter) (c .meter) h))
     import-sim left a c i false (dry d o) =
-        dry (kt (lengthLeft left (a .choice)) (i .container) (a .meter) d) (kc (lengthLeft left (c .choice)) (i .container) (c .meter) o)
+        dry (kt _ (i .container) (a .meter) d) (kc _ (i .container) (c .meter) o)
 
     imports-sim : (left : ℕ) (a : Out Tank) (c : Out ℕ) (is : List Import) → Sim F a c
         → Sim F (findImports Tank fromTank s x here rt left a is) (findImports ℕ counted s x here rc left c is)

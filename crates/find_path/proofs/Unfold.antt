@@ -42,7 +42,7 @@ module _ (s : Snapshot) (x : FindPathCtx) where
     location-same : (ls : List Level) (best : Choice) (m : ℕ) (a : Answer) → location s x f left ls best m a ≡ location s x g left ls best m a
     unfolding location
     location-same ls best m Nothing = refl
-    location-same ls best m (Name n) = ap (λ (c : Choice). offer s x best c n) (agree (lengthLeft left best) ls m (length-falls left best pos))
+    location-same ls best m (Name n) = ap (λ (c : Choice). offer s x best c n) (agree _ ls m (length-falls left _ pos))
 
     each-same : (ls : List Level) (item : Item) (done : List ℕ) (best : Choice) (ms : List ℕ)
         → eachLocation s x f left ls item done best ms ≡ eachLocation s x g left ls item done best ms
@@ -98,7 +98,7 @@ module _ (M : Type 0) (charge : M → Charged M) (s : Snapshot) (x : FindPathCtx
     import-same o i true = refl
     import-same o i false =
         ap {B = Out M} (λ (r : Out M). record { choice = offerImport s x (o .choice) (r .choice) i; meter = r .meter })
-        (agree (lengthLeft left (o .choice)) (i .container) (o .meter) (length-falls left (o .choice) pos))
+        (agree _ (i .container) (o .meter) (length-falls left _ pos))
 
     imports-same : (o : Out M) (is : List Import) → findImports M charge s x here f left o is ≡ findImports M charge s x here g left o is
     unfolding findImports

@@ -197,7 +197,7 @@ std-cases = refl
 -- `inner`; 8 `y` in `prelude` and `d`; 9 `prelude` in `a` and a long name in `b`; 10 a long name in `a` and `d`, `prelude` in
 -- `b`; 11 `u` in `a`, a private import, and `xx` in `b`; 12 `v` in `a`, for `a` alone, and `inner` in `b`; 13 `y` in `inner` and
 -- `x` in the root; 14 `s` in `a` and `w` in the root; 15 `t` in the block; 16 `u` in the root, for the block; 17 `v` in the
--- root, for the module 9; 18 `w` in `e`; 19 `y` in `e`, for `e` alone.
+-- root, for the module 9; 18 `w` in `e`; 19 `y` in `e`, for `e` alone; 20 `y` in `a`, for `a` alone, and then `xx` in `a`.
 pub withModules : List ℕ
 withModules =
     named "a" ++ named "b" ++ named "prelude" ++ named "d" ++ named "inner" ++ named "e" ++ named "x" ++ named "y"
@@ -212,7 +212,7 @@ withModules =
     ∷ head 8 1 ∷ 1 ∷ 0 ∷ head 8 1 ∷ 2 ∷ 0 ∷ head 8 1 ∷ 3 ∷ 0 ∷ head 8 1 ∷ 4 ∷ 0 ∷ head 8 1 ∷ 5 ∷ 0 ∷ head 8 1 ∷ 6 ∷ 0
     ∷ head 8 4 ∷ 1 ∷ 0 ∷ head 8 4 ∷ 5 ∷ 0 ∷ head 8 4 ∷ 4 ∷ 0 ∷ head 8 4 ∷ 1 ∷ 0 ∷ head 8 4 ∷ 1 ∷ 0 ∷ head 8 4 ∷ 1 ∷ 0
     ∷ head 8 4 ∷ 1 ∷ 0 ∷ head 8 4 ∷ 5 ∷ 0 ∷ head 8 4 ∷ 1 ∷ 0 ∷ head 8 4 ∷ 7 ∷ 0 ∷ head 8 4 ∷ 0 ∷ 0 ∷ head 8 4 ∷ 7 ∷ 0
-    ∷ head 8 4 ∷ 6 ∷ 0 ∷ head 8 4 ∷ 6 ∷ 0
+    ∷ head 8 4 ∷ 6 ∷ 0 ∷ head 8 4 ∷ 6 ∷ 0 ∷ head 8 4 ∷ 1 ∷ 0
     -- scopes: the modules
     ∷ head 9 0 ∷ 0 ∷ 0 ∷ 0 ∷ 0 ∷ 0 ∷ 1 ∷ head 9 0 ∷ 0 ∷ 1 ∷ 1 ∷ 0 ∷ 0 ∷ 1 ∷ head 9 0 ∷ 0 ∷ 2 ∷ 2 ∷ 0 ∷ 0 ∷ 1
     ∷ head 9 0 ∷ 0 ∷ 3 ∷ 3 ∷ 0 ∷ 0 ∷ 1 ∷ head 9 1 ∷ 0 ∷ 4 ∷ 4 ∷ 0 ∷ 0 ∷ 1 ∷ head 9 1 ∷ 0 ∷ 5 ∷ 5 ∷ 0 ∷ 0 ∷ 1
@@ -227,7 +227,8 @@ withModules =
     ∷ head 9 5 ∷ 0 ∷ 7 ∷ 13 ∷ 0 ∷ 0 ∷ 1 ∷ head 9 0 ∷ 0 ∷ 6 ∷ 13 ∷ 0 ∷ 0 ∷ 0
     ∷ head 9 1 ∷ 0 ∷ 10 ∷ 14 ∷ 0 ∷ 0 ∷ 1 ∷ head 9 0 ∷ 0 ∷ 14 ∷ 14 ∷ 0 ∷ 0 ∷ 0
     ∷ head 9 7 ∷ 0 ∷ 11 ∷ 15 ∷ 0 ∷ 0 ∷ 1 ∷ head 9 0 ∷ 0 ∷ 12 ∷ 16 ∷ 2 ∷ 7 ∷ 1 ∷ head 9 0 ∷ 0 ∷ 13 ∷ 17 ∷ 2 ∷ 9 ∷ 1
-    ∷ head 9 6 ∷ 0 ∷ 14 ∷ 18 ∷ 0 ∷ 0 ∷ 1 ∷ head 9 6 ∷ 0 ∷ 7 ∷ 19 ∷ 2 ∷ 6 ∷ 1 ∷ [])
+    ∷ head 9 6 ∷ 0 ∷ 14 ∷ 18 ∷ 0 ∷ 0 ∷ 1 ∷ head 9 6 ∷ 0 ∷ 7 ∷ 19 ∷ 2 ∷ 6 ∷ 1
+    ∷ head 9 1 ∷ 0 ∷ 7 ∷ 20 ∷ 2 ∷ 1 ∷ 1 ∷ head 9 1 ∷ 0 ∷ 8 ∷ 20 ∷ 0 ∷ 0 ∷ 0 ∷ [])
 
 -- Worked out by hand from find_path.rs. Each item asked for costs one charge; the search in the crate is free.
 pub moduleCases : List Row
@@ -247,6 +248,9 @@ moduleCases =
     -- a private import does not count, nor what is not visible
     ∷ row 11 0 0 1 0 9 "found b::xx 1 0"
     ∷ row 12 0 0 1 0 9 "found b::inner 1 0"
+    -- the first entry of an item in a module decides, visible or not
+    ∷ row 20 0 1 1 0 9 "found y 0 0"
+    ∷ row 20 0 0 1 0 9 "none - 1 0"
     -- children before containing modules; `crate` counts one; the text has `self::` and `crate`
     ∷ row 13 0 1 1 0 9 "found inner::y 1 0"
     ∷ row 13 0 1 0 0 9 "found crate::x 1 0"
