@@ -1,21 +1,17 @@
--- Laws of words that are cleared or written.
-use Prim.Native.Nat.{ℕ, zero, suc, _+_, _≤_, _<_}
-use mathlib.Core.Path.{_≡_, refl, sym, _∙_, ap, ap₂}
-use mathlib.Core.List.{List, [], _∷_, _++_, map, append-assoc}
+-- Laws of a work area that is cleared, and of an entry point.
+use Prim.Native.Nat.{ℕ, _+_, _≤_, _<_}
+use mathlib.Core.Path.{_≡_, refl, sym, _∙_, ap}
+use mathlib.Core.List.{List, [], _∷_, _++_}
 use mathlib.Core.Bool.{true, false}
 use native.Mathlib.Omega.{arith}
-use native.Mathlib.Numerals.{add-one}
-use native.Mathlib.Nat.{add-zero}
-use borrow.Author.Tests.{lt-ltb, le-ltb, lt-leb, le-leb}
+use borrow.Author.Tests.{lt-ltb, le-ltb}
 use borrow.Author.Fill.{fill-more}
-use lib.ListN.{length, length-append, take-append-drop, getD, set, take, drop, replicate, drop-of-length-le}
-use lib.Seq.{take-at, drop-at, take-length}
+use lib.ListN.{length, set, drop, replicate, drop-of-length-le}
 use Rattle.find_path.specs.declared.Question.{Question}
 use Rattle.find_path.specs.declared.Report.{Report}
 use Rattle.find_path.specs.Report.{refused, reportOf}
+use Rattle.checked.proofs.Laws.{small, report-fault, same-report}
 use Rattle.answer.specs.Answers.{zeros, areaAfter, Answers}
-use Rattle.answer.specs.Written.{low, reportWords, writtenTo, Written}
-use Rattle.answer.proofs.Laws.{small, report-fault, same-report}
 
 append-empty : (l : List ℕ) → l ++ [] ≡ l
 append-empty [] = refl
@@ -31,101 +27,6 @@ unfolding zeros
 clear-done A B i e h k =
     let q : i ≡ length B = omega arith in
     e ∙ ap (λ x. replicate i 0 ++ x) (drop-of-length-le B k) ∙ append-empty (replicate i 0) ∙ ap (λ n. replicate n 0) q
-
--- numbers written from a place on
-
-put-front : (old ns : List ℕ) (i : ℕ) → i < length old → i < length ns
-    → set (map low (take i ns) ++ drop i old) i (low (getD ns i 0)) ≡ map low (take (suc i) ns) ++ drop (suc i) old
-put-front [] ns i h k = absurd (omega arith)
-put-front (x ∷ old) [] i h k = absurd (omega arith)
-put-front (x ∷ old) (n ∷ ns) zero h k = refl
-put-front (x ∷ old) (n ∷ ns) (suc i) h k = ap (λ l. low n ∷ l) (put-front old ns i (omega arith) (omega arith))
-
-put-from : (old ns : List ℕ) (at i k : ℕ) → k ≡ at + i → k < length old → i < length ns
-    → set (take at old ++ (map low (take i ns) ++ drop k old)) k (low (getD ns i 0)) ≡ take at old ++ (map low (take (suc i) ns) ++ drop (suc k) old)
-put-from old ns zero i k e h p =
-    let q : k ≡ i = omega arith in
-    let g : i < length old = omega arith in
-    ap (λ z. set (map low (take i ns) ++ drop z old) z (low (getD ns i 0))) q ∙ put-front old ns i g p
-    ∙ ap (λ z. map low (take (suc i) ns) ++ drop (suc z) old) (sym q)
-put-from [] ns (suc at) i k e h p = absurd (omega arith)
-put-from (x ∷ old) ns (suc at) i zero e h p = absurd (omega arith)
-put-from (x ∷ old) ns (suc at) i (suc k) e h p = ap (λ l. x ∷ l) (put-from old ns at i k (omega arith) (omega arith) p)
-
-pub words-start : (old ns : List ℕ) (at : ℕ) → old ≡ take at old ++ (map low (take 0 ns) ++ drop (at + 0) old)
-words-start old ns at = sym (take-append-drop at old) ∙ ap (λ n. take at old ++ drop n old) (sym (add-zero at))
-
-pub words-next : (old out ns : List ℕ) (at i v : ℕ) → out ≡ take at old ++ (map low (take i ns) ++ drop (at + i) old)
-    → at + i < length old → i < length ns → v ≡ low (getD ns i 0)
-    → set out (at + i) v ≡ take at old ++ (map low (take (i + 1) ns) ++ drop (at + (i + 1)) old)
-words-next old out ns at i v e h p q =
-    let z : suc (at + i) ≡ at + (i + 1) = omega arith in
-    ap₂ (λ x y. set x (at + i) y) e q ∙ put-from old ns at i (at + i) refl h p
-    ∙ ap₂ (λ x y. take at old ++ (map low (take x ns) ++ drop y old)) (sym (add-one i)) z
-
-pub words-done : (old out ns : List ℕ) (at i : ℕ) → out ≡ take at old ++ (map low (take i ns) ++ drop (at + i) old)
-    → i ≤ length ns → length ns ≤ i → out ≡ take at old ++ (map low ns ++ drop (at + length ns) old)
-words-done old out ns at i e h k =
-    let q : i ≡ length ns = omega arith in
-    e ∙ ap (λ z. take at old ++ (map low (take z ns) ++ drop (at + z) old)) q
-    ∙ ap (λ z. take at old ++ (map low z ++ drop (at + length ns) old)) (take-length ns)
-
-drop-nil : (k : ℕ) → _≡_ {A = List ℕ} (drop k []) []
-drop-nil zero = refl
-drop-nil (suc k) = refl
-
-drop-drop : (a b n : ℕ) (l : List ℕ) → n ≡ a + b → drop b (drop a l) ≡ drop n l
-drop-drop zero b n l e = let q : b ≡ n = omega arith in ap (λ k. drop k l) q
-drop-drop (suc a) b n [] e = drop-nil b ∙ sym (drop-nil n)
-drop-drop (suc a) b zero (x ∷ l) e = absurd (omega arith)
-drop-drop (suc a) b (suc n) (x ∷ l) e = drop-drop a b n l (omega arith)
-
--- a piece after a piece
-paste : (X P T L : List ℕ) (a b n : ℕ) → length P ≡ a → n ≡ a + b → X ≡ P ++ T → take a X ++ (L ++ drop n X) ≡ (P ++ L) ++ drop b T
-paste X P T L a b n h q e =
-    let t : take a X ≡ P = ap (take a) e ∙ take-at P T a h in
-    let d : drop n X ≡ drop b T = sym (drop-drop a b n X q) ∙ ap (λ x. drop b (drop a x)) e ∙ ap (drop b) (drop-at P T a h) in
-    ap₂ (λ x y. x ++ (L ++ y)) t d ∙ sym (append-assoc P L (drop b T))
-
-length-map : (ns : List ℕ) → length (map low ns) ≡ length ns
-length-map [] = refl
-length-map (n ∷ ns) = ap suc (length-map ns)
-
-module _ (r : Report) (old : List ℕ) where
-  -- the three parts of a report, one after the other
-  parts-written : (x y z : List ℕ) → length (r .names) ≡ 16
-      → x ≡ take 0 old ++ (map low (r .outcome ∷ r .number ∷ r .kind ∷ []) ++ drop 3 old)
-      → y ≡ take 3 x ++ (map low (r .names) ++ drop 19 x)
-      → z ≡ take 19 y ++ (map low (r .count ∷ r .charges ∷ r .empty ∷ []) ++ drop 22 y)
-      → z ≡ reportWords r ++ drop 22 old
-  unfolding reportWords
-  parts-written x y z l ex ey ez =
-      let H : List ℕ = map low (r .outcome ∷ r .number ∷ r .kind ∷ []) in
-      let N : List ℕ = map low (r .names) in
-      let R : List ℕ = map low (r .count ∷ r .charges ∷ r .empty ∷ []) in
-      let m : length N ≡ 16 = length-map (r .names) ∙ l in
-      let n : length (H ++ N) ≡ 19 = length-append H N ∙ ap (λ k. 3 + k) m in
-      let a : y ≡ (H ++ N) ++ drop 16 (drop 3 old) = ey ∙ paste x H (drop 3 old) N 3 16 19 refl refl ex in
-      let b : z ≡ ((H ++ N) ++ R) ++ drop 3 (drop 16 (drop 3 old)) = ez ∙ paste y (H ++ N) (drop 16 (drop 3 old)) R 19 3 22 n refl a in
-      let d : drop 3 (drop 16 (drop 3 old)) ≡ drop 22 old = drop-drop 16 3 19 (drop 3 old) refl ∙ drop-drop 3 19 22 old refl in
-      b ∙ ap₂ (λ u v. u ++ v) (append-assoc H N R) d
-
-  pub written : (x y z : List ℕ) → 22 ≤ length old → length (r .names) ≡ 16
-      → x ≡ take 0 old ++ (map low (r .outcome ∷ r .number ∷ r .kind ∷ []) ++ drop 3 old)
-      → y ≡ take 3 x ++ (map low (r .names) ++ drop (3 + length (r .names)) x)
-      → z ≡ take 19 y ++ (map low (r .count ∷ r .charges ∷ r .empty ∷ []) ++ drop 22 y)
-      → Written r old z true
-  unfolding writtenTo
-  written x y z h l ex ey ez =
-      let e : 3 + length (r .names) ≡ 19 = omega arith in
-      record {
-        words = parts-written x y z l ex (ey ∙ ap (λ k. take 3 x ++ (map low (r .names) ++ drop k x)) e) ez ∙ sym (rw (writtenTo, le-ltb _ _ h));
-        done = sym (le-leb _ _ h);
-      }
-
-  pub not-written : length old < 22 → Written r old old false
-  unfolding writtenTo
-  not-written h = record { words = sym (rw (writtenTo, lt-ltb _ _ h)); done = sym (lt-leb _ _ h) }
 
 -- an entry point
 

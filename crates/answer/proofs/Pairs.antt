@@ -14,7 +14,7 @@ use Rattle.find_path.proofs.Fuels.{fuels-compared}
 use Rattle.answer.specs.Answers.{Answers}
 use Rattle.answer.specs.Twice.{FuelsTold, AnswersTwice}
 use Rattle.answer.specs.declared.twice.Reports.{Reports}
-use Rattle.answer.proofs.Laws.{small, much, report-fault, same-report}
+use Rattle.checked.proofs.Laws.{small, much, report-fault, same-report}
 
 module _ (W : List ℕ) (n : ℕ) (q : Question) where
   refused-two : (k : ℕ) → IsRefused (refused k)

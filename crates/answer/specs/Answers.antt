@@ -6,13 +6,8 @@ use mathlib.Core.Bool.{true, false}
 use lib.Dec.{ltb}
 use lib.ListN.{length, drop, replicate}
 use Rattle.snapshot.specs.Limits.{areaLimit}
-use Rattle.accept.specs.Post.{Judged}
-use Rattle.accept.specs.declared.check.Checked.{Checked}
-use Rattle.find_path.specs.declared.Found.{Found}
-use Rattle.find_path.specs.declared.Tank.{Tank}
 use Rattle.find_path.specs.declared.Question.{Question}
 use Rattle.find_path.specs.declared.Report.{Report}
-use Rattle.find_path.specs.Charged.{Out}
 use Rattle.find_path.specs.Report.{reportOf}
 
 unfoldable pub zeros : ℕ → List ℕ
@@ -26,12 +21,3 @@ areaAfter A = elim (ltb (length A) areaLimit) [ true ↦ A | false ↦ zeros are
 pub record Answers (W A₀ : List ℕ) (q : Question) (A : List ℕ) (r : Report) : Type 0 where
   pub report : r ≡ reportOf W (length A₀) q
   pub area : A ≡ areaAfter A₀
-
--- On words that were checked the report is the same as alone, and the words stay checked for the next question.
-pub record Questioned (W : List ℕ) (q : Question) (c : Checked) (A : List ℕ) (r : Report) : Type 0 where
-  pub report : r ≡ reportOf W areaLimit q
-  pub checked : Judged W A c
-
--- what a search of the code answered, as the definitions have it
-abbrev pub outOf : Found → Out Tank
-outOf f = record { choice = f .choice; meter = f .meter }

@@ -4,12 +4,12 @@ ghost use lib.ListN.{length};
 ghost use Rattle.find_path.specs.Report.{reportOf};
 ghost use Rattle.answer.specs.Answers.{zeros, Answers};
 use crate::area::clear;
-use crate::checked::report_on;
-use crate::faults::call_fault;
-use crate::report::refused;
 use accept::check::check;
+use checked::checked::report_on;
+use checked::faults::call_fault;
 use find_path::Question;
 use find_path::Report;
+use reports::report::refused;
 use snapshot::ids::WordCount;
 
 // The report, in a work area that serves. The question's own faults come before those of the words.

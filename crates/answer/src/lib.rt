@@ -1,7 +1,5 @@
-//! The entry points: a question put to the words of a snapshot, with a work area.
+//! The entry points: a question put to the words of a snapshot, with a work area. None asks anything of its caller.
 pub mod answer;
 pub mod area;
-pub mod checked;
-pub mod faults;
 pub mod report;
 pub mod twice;

@@ -8,7 +8,7 @@ use Rattle.find_path.specs.declared.Question.{Question}
 use Rattle.find_path.specs.declared.Report.{Report}
 use Rattle.find_path.specs.Report.{reportOf}
 use Rattle.answer.specs.Answers.{Answers}
-use Rattle.answer.specs.Written.{Written, writtenTo}
+use Rattle.reports.specs.Written.{Written, writtenTo}
 use Rattle.exports.specs.Questions.{Reported}
 
 pub asked : (W A₀ A : List ℕ) (q p : Question) (r : Report) (old new : List ℕ) (b : Bool) → p ≡ q → Answers W A₀ p A r

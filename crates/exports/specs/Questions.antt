@@ -8,7 +8,7 @@ use lib.ListN.{length, getD}
 use Rattle.find_path.specs.declared.Question.{Question}
 use Rattle.find_path.specs.Report.{reportOf}
 use Rattle.answer.specs.Answers.{areaAfter}
-use Rattle.answer.specs.Written.{writtenTo}
+use Rattle.reports.specs.Written.{writtenTo}
 
 -- a word a field: namespace, definition, viewing module, prefix, options, fuel
 abbrev pub questionOf : List ℕ → Question

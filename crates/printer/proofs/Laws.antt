@@ -25,7 +25,7 @@ use Rattle.find_path.specs.declared.Report.{Report}
 use Rattle.find_path.specs.Report.{callFault, refused, reportBy, reportUnless, reportOf}
 use Rattle.find_path.specs.Line.{bytesOf, lineIn, lineOf, snapshotOf}
 use Rattle.find_path.proofs.Reports.{report-bounded}
-use Rattle.answer.specs.Answers.{Questioned}
+use Rattle.checked.specs.Questioned.{Questioned}
 use Rattle.printer.specs.declared.lines.Turn.{Turn}
 use Rattle.printer.specs.Printed.{firstFrom, questionsAt, isArgument, wholeAt, questionAt, lineAt, nextAt, inputFault, Printed}
 use Rattle.printer.specs.Lines.{LineOf}

@@ -8,7 +8,7 @@ ghost use Rattle.printer.specs.Lines.{LineOf};
 use crate::questions::is_whole;
 use crate::questions::question_at;
 use accept::check::Checked;
-use answer::checked::report_on;
+use checked::checked::report_on;
 use find_path::Question;
 use line::line::put_line;
 use line::line::put_refusal;

@@ -1,7 +1,7 @@
 use borrow.Author.Needs.{needs}
 use mathlib.Core.Path.{_∙_}
 use denote.Ref.{now}
-use Rattle.answer.proofs.Laws.{fault-at, report-fault, checks-judged}
+use Rattle.checked.proofs.Laws.{fault-at, report-fault, checks-judged}
 use Rattle.answer.proofs.answer.report_within.Statement.{statement}
 use Rattle.answer.proofs.answer.report_within.Tie as tie
 

@@ -6,7 +6,7 @@ use denote.Ref.{now}
 use lib.ListN.{length, take}
 use lib.Seq.{length-take-le}
 use Rattle.printer.proofs.Laws.{next-more}
-use Rattle.answer.proofs.Laws.{checks-judged}
+use Rattle.checked.proofs.Laws.{checks-judged}
 use Rattle.accept.specs.Post.{Judged}
 use Rattle.path_printer.proofs.print.print_questions.Statement.{statement}
 use Rattle.path_printer.proofs.print.print_questions.Tie as tie

@@ -6,7 +6,7 @@ use denote.Ref.{now}
 use lib.ListN.{length, take}
 use lib.Seq.{length-take-le}
 use Rattle.accept.specs.Post.{Judged}
-use Rattle.answer.proofs.Laws.{checks-judged}
+use Rattle.checked.proofs.Laws.{checks-judged}
 use Rattle.printer.proofs.Laws.{next-more}
 use Rattle.replay.proofs.compare.same_lines.Statement.{statement}
 use Rattle.replay.proofs.compare.same_lines.Tie as tie

@@ -1,0 +1,185 @@
+-- Laws of faults and of questions on checked words.
+use Prim.Native.Nat.{ℕ, zero, suc, _≤_, _<_}
+use mathlib.Core.Path.{_≡_, refl, sym, _∙_, ap, subst}
+use mathlib.Core.List.{List}
+use mathlib.Core.Bool.{Bool, true, false, _&&_, _||_, not, false≢true}
+use native.Mathlib.Omega.{arith}
+use borrow.Author.Tests.{lt-ltb, le-ltb, ltb-true, ltb-false}
+use lib.Dec.{eqb, ltb}
+use lib.ListN.{length, getD, take}
+use lib.Seq.{getD-take}
+use Rattle.snapshot.specs.Records.{Snapshot}
+use Rattle.snapshot.specs.Layouts.{snapOf}
+use Rattle.snapshot.specs.declared.layout.Layout.{Layout}
+use Rattle.snapshot.proofs.Laws.{length-rows}
+use Rattle.accept.specs.Verdict.{refuse, accept, verdict}
+use Rattle.accept.specs.Post.{Reads, Judged, Checks, checkOf}
+use Rattle.accept.specs.declared.check.Checked.{Checked}
+use Rattle.accept.specs.declared.check.Checked.the-variants.{Refused, Accepted}
+use Rattle.accept.proofs.Accepted.{by-test}
+use Rattle.accept.proofs.Tabled.{Kept}
+use Rattle.accept.proofs.Stable.{snap-stays, tables-stay}
+use Rattle.hir_def.specs.Items.{definitionOf}
+use Rattle.find_path.specs.declared.Query.{Query}
+use Rattle.find_path.specs.declared.Question.{Question}
+use Rattle.find_path.specs.declared.Report.{Report}
+use Rattle.find_path.specs.Report.{callFault, questionFault, refused, reported, searched, answerUnless, reportBy, reportUnless, reportOf}
+
+-- faults of a call
+
+module _ (area : ℕ) (q : Query) (fuel : ℕ) where
+  pub small : area < 16384 → 20 ≡ callFault area q fuel
+  unfolding callFault
+  small h = rw (callFault, lt-ltb _ _ h)
+
+  module _ (large : 16384 ≤ area) where
+    pub much : 10000 < fuel → 21 ≡ callFault area q fuel
+    unfolding callFault
+    much h = rw (callFault, le-ltb _ _ large, lt-ltb _ _ h)
+
+    pub outside : fuel ≤ 10000 → (ltb 2 (q .ns) || (ltb 2 (q .prefix) || ltb 31 (q .options))) ≡ true → 22 ≡ callFault area q fuel
+    unfolding callFault
+    outside h t = rw (callFault, le-ltb _ _ large, le-ltb _ _ h, t)
+
+    pub no-fault : fuel ≤ 10000 → (ltb 2 (q .ns) || (ltb 2 (q .prefix) || ltb 31 (q .options))) ≡ false → 0 ≡ callFault area q fuel
+    unfolding callFault
+    no-fault h t = rw (callFault, le-ltb _ _ large, le-ltb _ _ h, t)
+
+  or-false : (a b : Bool) → (a || b) ≡ false → a ≡ false
+  or-false true b e = e
+  or-false false b e = refl
+
+  -- what a question without a fault of the call has
+  pub fault-free : 0 ≡ callFault area q fuel → (16384 ≤ area) × (fuel ≤ 10000) × (q .ns ≤ 2)
+  fault-free e =
+      by-test (ltb area 16384) (λ t. absurd (omega (arith, e, small (ltb-true _ _ t)))) (λ t.
+      let a = ltb-false area 16384 t in
+      by-test (ltb 10000 fuel) (λ u. absurd (omega (arith, e, much a (ltb-true _ _ u)))) (λ u.
+      let f = ltb-false 10000 fuel u in
+      by-test (ltb 2 (q .ns) || (ltb 2 (q .prefix) || ltb 31 (q .options)))
+      (λ v. absurd (omega (arith, e, outside a f v)))
+      (λ v. (a, f, ltb-false 2 (q .ns) (or-false _ _ v)))))
+
+pub fault-at : (a n : ℕ) (q : Query) (fuel : ℕ) → a ≡ 16384 → n ≡ callFault a q fuel → n ≡ callFault 16384 q fuel
+fault-at a n q fuel e h = h ∙ ap (λ x. callFault x q fuel) e
+
+-- the work area counts only by being large enough
+pub same-fault : (a b : ℕ) (q : Query) (fuel : ℕ) → 16384 ≤ a → 16384 ≤ b → callFault a q fuel ≡ callFault b q fuel
+unfolding callFault
+same-fault a b q fuel h k = rw (callFault, le-ltb _ _ h, le-ltb _ _ k)
+
+-- faults of a question
+
+module _ (s : Snapshot) (q : Query) (D M : ℕ) (d : length (s .definitions) ≡ D) (m : length (s .modules) ≡ M) where
+  pub unknown : (ltb (q .definition) D && ltb (q .from) M) ≡ false → 23 ≡ questionFault s q
+  unfolding questionFault
+  unknown h = rw (questionFault, d, m, h)
+
+  pub no-macro : (k : ℕ) → (ltb (q .definition) D && ltb (q .from) M) ≡ true → k ≡ definitionOf s (q .definition) .kind
+      → (eqb (q .ns) 2 && not (eqb k 5)) ≡ true → 24 ≡ questionFault s q
+  unfolding questionFault
+  no-macro k h e t = let t′ = rw e at t in rw (questionFault, d, m, h, t′)
+
+  pub sound : (k : ℕ) → (ltb (q .definition) D && ltb (q .from) M) ≡ true → k ≡ definitionOf s (q .definition) .kind
+      → (eqb (q .ns) 2 && not (eqb k 5)) ≡ false → 0 ≡ questionFault s q
+  unfolding questionFault
+  sound k h e t = let t′ = rw e at t in rw (questionFault, d, m, h, t′)
+
+  both : (a b : Bool) → (a && b) ≡ true → (a ≡ true) × (b ≡ true)
+  both true b e = (refl, e)
+  both false b e = absurd (false≢true e)
+
+  pub fault-known : 0 ≡ questionFault s q → (q .definition < D) × (q .from < M)
+  fault-known e =
+      by-test (ltb (q .definition) D && ltb (q .from) M)
+      (λ t. let p = both _ _ t in (ltb-true _ _ (p .0), ltb-true _ _ (p .1)))
+      (λ t. absurd (omega (arith, e, unknown t)))
+
+pub definitions-count : (W A : List ℕ) (l : Layout) → length (snapOf W A l .definitions) ≡ l .definitions
+definitions-count W A l = length-rows _ (l .definitions)
+
+pub modules-count : (W A : List ℕ) (l : Layout) → length (snapOf W A l .modules) ≡ l .modules
+modules-count W A l = length-rows _ (l .modules)
+
+-- answers on accepted words
+
+module _ (s : Snapshot) (q : Query) (fuel : ℕ) (r : Report) where
+  fault-by : (n : ℕ) → (n ≡ 0 → ⊥) → refused n ≡ answerUnless s q fuel n
+  unfolding answerUnless
+  fault-by zero h = absurd (h refl)
+  fault-by (suc n) h = refl
+
+  pub answer-fault : (n : ℕ) → n ≡ questionFault s q → (n ≡ 0 → ⊥) → r ≡ refused n → r ≡ answerUnless s q fuel (questionFault s q)
+  answer-fault n e h p = p ∙ fault-by n h ∙ ap (answerUnless s q fuel) e
+
+  pub answer-found : (n : ℕ) → n ≡ questionFault s q → n ≡ 0 → r ≡ reported (searched s q fuel) → r ≡ answerUnless s q fuel (questionFault s q)
+  unfolding answerUnless
+  answer-found n e z p = p ∙ ap (answerUnless s q fuel) (sym z ∙ e)
+
+-- reports on checked words
+
+module _ (W : List ℕ) (q : Query) (fuel : ℕ) (r : Report) where
+  pub by-refusal : (n at : ℕ) → refuse n at ≡ verdict W → r ≡ refused n → r ≡ reportBy q fuel (verdict W)
+  unfolding reportBy
+  by-refusal n at e p = p ∙ ap (reportBy q fuel) e
+
+  pub by-answer : (s : Snapshot) → accept s ≡ verdict W → r ≡ answerUnless s q fuel (questionFault s q) → r ≡ reportBy q fuel (verdict W)
+  unfolding reportBy
+  by-answer s e p = p ∙ ap (reportBy q fuel) e
+
+kept-by : (A B : List ℕ) → take 4160 B ≡ take 4160 A → Kept A B 0 4160
+kept-by A B e i u v = sym (getD-take 4160 B i 0 v) ∙ ap (λ (x : List ℕ). getD x i 0) e ∙ getD-take 4160 A i 0 v
+
+judged-reads : (W A : List ℕ) (l : Layout) → Judged W A (Accepted l) → Reads W A l
+judged-reads W A l j = record { same = sym (j .same); tables = j .tables }
+
+judged-stays : (W A B : List ℕ) (l : Layout) → Judged W A (Accepted l) → take 4160 B ≡ take 4160 A → Judged W B (Accepted l)
+judged-stays W A B l j e =
+    record {
+      same = ap accept (snap-stays W A B l (j .tables) (kept-by A B e)) ∙ j .same;
+      tables = tables-stay W A B l (j .tables) (kept-by A B e);
+    }
+
+module _ (W A : List ℕ) (c : Checked) (j : Judged W A c) where
+  pub reads-of : (l : Layout) → c ≡ Accepted l → Reads W A l
+  reads-of l e = judged-reads W A l (subst (λ x. Judged W A x) e j)
+
+  module _ (q : Query) (fuel : ℕ) (r : Report) where
+    pub report-refused : (n at : ℕ) → c ≡ Refused n at → r ≡ refused n → (r ≡ reportBy q fuel (verdict W)) × Judged W A c
+    report-refused n at e p =
+        let k : Judged W A (Refused n at) = subst (λ x. Judged W A x) e j in
+        (by-refusal W q fuel r n at (k .same) p, j)
+
+    pub report-accepted : (l : Layout) (B : List ℕ) → c ≡ Accepted l → take 4160 B ≡ take 4160 A
+        → r ≡ answerUnless (snapOf W A l) q fuel (questionFault (snapOf W A l) q) → (r ≡ reportBy q fuel (verdict W)) × Judged W B c
+    report-accepted l B e t p =
+        let k : Judged W A (Accepted l) = subst (λ x. Judged W A x) e j in
+        (by-answer W q fuel r (snapOf W A l) (k .same) p, subst (λ x. Judged W B x) (sym e) (judged-stays W A B l k t))
+
+-- a check in an area that serves
+pub checks-judged : (W A₀ A : List ℕ) (c : Checked) → length A₀ ≡ 16384 → Checks W A₀ A c → Judged W A c
+unfolding checkOf
+checks-judged W A₀ A c e k =
+    let h : 16384 ≤ length A₀ = omega arith in
+    record { same = k .same ∙ rw (checkOf, le-ltb _ _ h); tables = k .tables }
+
+-- reports of questions
+
+module _ (W : List ℕ) (area : ℕ) (q : Question) (r : Report) where
+  call-by : (n : ℕ) → (n ≡ 0 → ⊥) → refused n ≡ reportUnless W (q .query) (q .fuel) n
+  unfolding reportUnless
+  call-by zero h = absurd (h refl)
+  call-by (suc n) h = refl
+
+  pub report-fault : (n : ℕ) → n ≡ callFault area (q .query) (q .fuel) → (n ≡ 0 → ⊥) → r ≡ refused n → r ≡ reportOf W area q
+  unfolding reportOf
+  report-fault n e h p = p ∙ call-by n h ∙ ap (reportUnless W (q .query) (q .fuel)) e
+
+  pub report-verdict : (n : ℕ) → n ≡ callFault area (q .query) (q .fuel) → n ≡ 0 → r ≡ reportBy (q .query) (q .fuel) (verdict W)
+      → r ≡ reportOf W area q
+  unfolding reportOf reportUnless
+  report-verdict n e z p = p ∙ ap (reportUnless W (q .query) (q .fuel)) (sym z ∙ e)
+
+pub same-report : (W : List ℕ) (a b : ℕ) (q : Question) → 16384 ≤ a → 16384 ≤ b → reportOf W a q ≡ reportOf W b q
+unfolding reportOf
+same-report W a b q h k = ap (reportUnless W (q .query) (q .fuel)) (same-fault a b (q .query) (q .fuel) h k)

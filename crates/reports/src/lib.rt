@@ -1,0 +1,2 @@
+//! Reports of questions: made, and written to words.
+pub mod report;
