@@ -22,7 +22,8 @@ fn main() {
         }
         ["check", shape, count] => repeat_check(&named(shape), count.parse().expect("a number")),
         ["ask", shape, count] => questions::ask(&named(shape), count.parse().expect("a number")),
-        _ => panic!("usage: bench [check SHAPE COUNT | ask SHAPE COUNT]"),
+        ["input", shape, count] => questions::write_input(shape, count.parse().expect("a number")),
+        _ => panic!("usage: bench [check SHAPE COUNT | ask SHAPE COUNT | input SHAPE COUNT]"),
     }
 }
 
@@ -54,7 +55,7 @@ fn print_checks(title: &str, shapes: &[Shape]) {
 }
 
 fn named(name: &str) -> Shape {
-    shapes::all().into_iter().find(|shape| shape.name == name).expect("a shape")
+    shapes::beside(name, 0)
 }
 
 fn repeat_check(shape: &Shape, count: usize) {

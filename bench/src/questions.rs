@@ -1,6 +1,7 @@
 //! Times of questions, by what they come to.
 use crate::shapes::{self, Shape};
 use crate::timing;
+use std::io::Write;
 
 /// A definition in the types namespace, seen from a module, with no options and all the fuel.
 #[derive(Clone, Copy)]
@@ -69,6 +70,18 @@ pub fn print_all() {
         }
     }
     println!();
+}
+
+/// Writes an input of the path printer with so many questions; a workspace fills it.
+pub fn write_input(shape: &str, count: usize) {
+    let shape = shapes::beside(shape, 6 * count);
+    let every = (questions(&shape).count() / count).max(1);
+    let mut words = shape.words.clone();
+    for question in questions(&shape).step_by(every).take(count) {
+        words.extend([12 << 28 | question.definition, 0, question.from, question.prefix, 0, Question::FUEL]);
+    }
+    let bytes: Vec<u8> = words.iter().flat_map(|word| word.to_le_bytes()).collect();
+    std::io::stdout().write_all(&bytes).expect("a place to write to");
 }
 
 /// Puts so many questions to the library.

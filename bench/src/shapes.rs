@@ -28,6 +28,14 @@ pub fn all() -> Vec<Shape> {
     ]
 }
 
+/// The shape of that name, where so many words are wanted for something else.
+pub fn beside(name: &str, others: usize) -> Shape {
+    match name {
+        "workspace" => Shape::new(name, workspace(16384 - others)),
+        _ => all().into_iter().find(|shape| shape.name == name).expect("a shape"),
+    }
+}
+
 /// Crates of some forty modules, each with a handful of items, of which most are public: at most so many words, 65 a module.
 pub fn workspace(size: usize) -> SnapshotWords {
     let modules = (size / 65).max(2);
