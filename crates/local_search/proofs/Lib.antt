@@ -1,10 +1,3 @@
-pub mod Rows
-pub mod Walks
-pub mod Rooms
-pub mod Codes
-pub mod Stacks
-pub mod Nexts
-pub mod Gathers
 pub mod Knowns
 pub mod Nests
 pub mod Searches

@@ -22,12 +22,13 @@ use Rattle.find_path.specs.Walk.{Level, visited, findLocalImportLocations}
 use Rattle.find_path.specs.Local.{importableName, location, eachLocation, calculateBestPathLocal}
 use Rattle.find_path.specs.Search.{searchLocal}
 use Rattle.find_path.proofs.Bounds.{Fits, nothing-fits, location-fits, search-local-fits}
-use Rattle.local_search.specs.declared.Stack.{Stack}
-use Rattle.local_search.specs.Levels.{Small, codeOf, itemAt, runAt, levelsOf, Chain}
-use Rattle.local_search.specs.Post.{Gathered, Searchable, Answered}
-use Rattle.local_search.proofs.Rows.{run-other, run-take, take-less, agree, run-same}
-use Rattle.local_search.proofs.Codes.{item-back}
-use Rattle.local_search.proofs.Stacks.{chain-wider, levels-same, chain-same, snap-at, reads-at}
+use Rattle.local_levels.specs.declared.Stack.{Stack}
+use Rattle.local_levels.specs.Levels.{Small, codeOf, itemAt, runAt, levelsOf, Chain}
+use Rattle.local_levels.specs.Post.{Gathered}
+use Rattle.local_search.specs.Post.{Searchable, Answered}
+use Rattle.local_levels.proofs.Rows.{run-other, run-take, take-less, agree, run-same}
+use Rattle.local_levels.proofs.Codes.{item-back}
+use Rattle.local_levels.proofs.Stacks.{chain-wider, levels-same, chain-same, snap-at, reads-at}
 use Rattle.local_search.proofs.Knowns.{locations-there}
 
 -- An open level: its header and its run stand, and all below is as where the loop began.

@@ -25,10 +25,10 @@ use Rattle.find_path.specs.Conditions.{Prepared, Asked, Named, Chosen}
 use Rattle.find_path.proofs.Unfold.{length-falls, local-more}
 use Rattle.find_path.proofs.Bounds.{Fits, search-local-fits}
 use Rattle.find_path.proofs.Tables.{names-short}
-use Rattle.local_search.specs.declared.Stack.{Stack}
-use Rattle.local_search.specs.Levels.{Small, levelsOf}
+use Rattle.local_levels.specs.declared.Stack.{Stack}
+use Rattle.local_levels.specs.Levels.{Small, levelsOf}
 use Rattle.local_search.specs.Post.{Searchable, Answered}
-use Rattle.local_search.proofs.Stacks.{chain-none, snap-at, reads-at}
+use Rattle.local_levels.proofs.Stacks.{chain-none, snap-at, reads-at}
 
 -- a smaller length can be searched too
 pub searchable-less : {W A : List ℕ} {l : Layout} {x : FindPathCtx} {left : ℕ} {s : Stack} (j : ℕ) → Searchable W A l x left s → j ≤ left → Searchable W A l x j s

@@ -4,18 +4,15 @@ ghost use Rattle.snapshot.specs.Layouts.{snapOf};
 ghost use Rattle.find_path.specs.Local.{importableName, location as locationOf, calculateBestPathLocal};
 ghost use Rattle.find_path.specs.Search.{searchLocal, bestLocal};
 ghost use Rattle.find_path.specs.Conditions.{Prepared, Asked, Chosen};
-ghost use Rattle.local_search.specs.Levels.{Small, levelsOf};
+ghost use Rattle.local_levels.specs.Levels.{Small, levelsOf};
 ghost use Rattle.local_search.specs.Post.{Searchable, Answered};
-
-pub mod levels;
-pub mod locations;
-
-use crate::levels::code_of;
-use crate::locations::find_local_import_locations;
 use find_path::Choice;
 use find_path::FindPathCtx;
 use hir_def::Answer;
 use hir_def::Item;
+use local_levels::Stack;
+use local_levels::levels::code_of;
+use local_levels::locations::find_local_import_locations;
 use path_rules::choices::length_left;
 use path_rules::choices::nothing;
 use path_rules::offers::importable_name;
@@ -25,14 +22,6 @@ use snapshot::ids::ModuleId;
 use snapshot::ids::Name;
 use snapshot::layout::Layout;
 use snapshot::words::word;
-
-// The local searches under way, as levels in the work area: the first free word, the place of the last level's run, and how
-// many there are.
-pub struct Stack {
-    pub top: usize,
-    pub place: usize,
-    pub depth: usize,
-}
 
 // The words of the tables, which the levels lie above.
 const TABLES: usize = 4160;

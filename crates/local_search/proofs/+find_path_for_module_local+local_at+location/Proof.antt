@@ -4,7 +4,7 @@ use borrow.Author.Needs.{needs}
 use lib.ListN.{length-set}
 use denote.Ref.{now}
 use Rattle.snapshot.specs.Layouts.{snapOf}
-use Rattle.local_search.specs.Levels.{levelsOf}
+use Rattle.local_levels.specs.Levels.{levelsOf}
 use Rattle.local_search.proofs.Nests.{Nesting, room, head-reads, head-space, head-chain, start-few, nesting-start, loop-size, nesting-call, nesting-known, nesting-next, nesting-done}
 use Rattle.local_search.proofs.Searches.{module-small, search-none, search-rules, search-on, location-none, location-shorter, location-call, location-reads, location-few, location-text, location-some, named-at}
 use Prim.Native.Nat.{ℕ, _<_, _+_, _-_, _*_}
@@ -24,8 +24,8 @@ use Rattle.path_rules.proofs.choices.nothing.Reads as nothing-reads
 use Rattle.path_rules.proofs.offers.importable_name.Reads as importable-name-reads
 use Rattle.path_rules.proofs.offers.offer.Reads as offer-reads
 use Rattle.path_rules.proofs.rules.module_rules.Reads as module-rules-reads
-use Rattle.local_search.proofs.levels.code_of.Reads as code-of-reads
-use Rattle.local_search.proofs.locations.find_local_import_locations.Reads as find-local-import-locations-reads
+use Rattle.local_levels.proofs.levels.code_of.Reads as code-of-reads
+use Rattle.local_levels.proofs.locations.find_local_import_locations.Reads as find-local-import-locations-reads
 use Rattle.snapshot.proofs.words.word.Reads as word-reads
 use Rattle.local_search.proofs.+find_path_for_module_local+local_at+location.{statement}
 use Rattle.local_search.proofs.+find_path_for_module_local+local_at+location.Tie.{close}
