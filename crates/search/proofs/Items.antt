@@ -34,8 +34,9 @@ use Rattle.find_path.specs.Charged.{Out, foundOf, variantOf, afterEnum, viaEnum
 use Rattle.find_path.specs.Search.{bestLocal}
 use Rattle.find_path.proofs.Unfold.{EnumNoVariant, inner-more}
 use Rattle.find_path.proofs.Bounds.{Fits, either-fits, nothing-fits, scope-fits, prelude-fits, best-local-fits, best-fits, module-search-fits}
-use Rattle.search.specs.Parts.{modules, items, names, bestPath, straight}
-use Rattle.search.proofs.Parts.{found}
+use Rattle.charged_search.specs.Parts.{modules, bestPath}
+use Rattle.search.specs.Parts.{items, names, straight}
+use Rattle.charged_search.proofs.Parts.{found}
 
 -- a module at once, or not
 pub straight-std : (b : Bool) (item : Item) → b ≡ true → Nothing ≡ straight b item

@@ -1,5 +1,2 @@
-pub mod Parts
-pub mod Holding
-pub mod Runs
 pub mod Items
 pub mod Starts

@@ -32,10 +32,11 @@ use Rattle.find_path.specs.Report.{searched}
 use Rattle.find_path.specs.Conditions.{Prepared, Searched}
 use Rattle.find_path.proofs.Tanks.{item-sum}
 use Rattle.find_path.proofs.Tables.{names-short, same-snap}
-use Rattle.search.specs.Parts.{modules, items, names, bestPath, straight, Begun}
-use Rattle.search.proofs.Parts.{found}
-use Rattle.search.proofs.Holding.{Offered}
-use Rattle.search.proofs.Runs.{later}
+use Rattle.charged_search.specs.Parts.{modules, bestPath, Begun}
+use Rattle.search.specs.Parts.{items, names, straight}
+use Rattle.charged_search.proofs.Parts.{found}
+use Rattle.charged_search.proofs.Holding.{Offered}
+use Rattle.charged_search.proofs.Runs.{later}
 use Rattle.search.proofs.Items.{plain-fits, enum-found, enum-none}
 
 pub begun-at : {W A : List ℕ} {l : Layout} {x : FindPathCtx} (left : ℕ) → Prepared W A l x → 0 < left → left ≤ 15 → Begun W A l x left

@@ -1,3 +1,2 @@
-//! The search with a tank: modules, items, dependencies and imports.
-pub mod charged;
+//! The search of a question with a tank.
 pub mod inner;

@@ -12,7 +12,7 @@ use Rattle.hir_def.specs.declared.Item.{Item}
 use Rattle.hir_def.proofs.Fits.{few-words}
 use Rattle.find_path.specs.Charged.{foundOf, variantOf}
 use Rattle.find_path.proofs.Tables.{same-reads}
-use Rattle.search.proofs.Runs.{begun-later}
+use Rattle.charged_search.proofs.Runs.{begun-later}
 use Rattle.search.proofs.Items.{number, item-ns, enum-no-variant, parent-of, inner-at-once, inner-by-name, name-found, name-plain}
 use Rattle.search.proofs.Starts.{begun-at, straight-known, enum-offered, tank-stays, enum-run, else-run}
 use borrow.Fn.Kinds.{In}
@@ -25,8 +25,8 @@ use Rattle.search.proofs.inner.find_path_inner.Kinds as find-path-inner
 use Rattle.search.proofs.inner.+find_by_name+find_path_inner.Lts-find_path_inner as find-path-inner-lts
 use Rattle.path_rules.proofs.choices.push.Reads as push-reads
 use Rattle.hir_def.proofs.items.item_of.Reads as item-of-reads
-use Rattle.search.proofs.charged.calculate_best_path.Reads as calculate-best-path-reads
-use Rattle.search.proofs.charged.find_path_for_module.Reads as find-path-for-module-reads
+use Rattle.charged_search.proofs.calculate_best_path.Reads as calculate-best-path-reads
+use Rattle.charged_search.proofs.find_path_for_module.Reads as find-path-for-module-reads
 use Rattle.search.proofs.inner.named.Reads as named-reads
 use Rattle.search.proofs.inner.straight_of.Reads as straight-of-reads
 use Rattle.search.proofs.inner.variant_of.Reads as variant-of-reads

@@ -1,9 +1,9 @@
 use borrow.Author.Needs.{needs}
 use denote.Ref.{now}
 use Rattle.snapshot.specs.Layouts.{snapOf}
-use Rattle.search.proofs.Parts.{at-none, at-some}
-use Rattle.search.proofs.charged.is_at.Statement.{statement}
-use Rattle.search.proofs.charged.is_at.Tie as tie
+use Rattle.charged_search.proofs.Parts.{at-none, at-some}
+use Rattle.charged_search.proofs.is_at.Statement.{statement}
+use Rattle.charged_search.proofs.is_at.Tie as tie
 
 returns : tie.Need-returns
 returns c =

@@ -17,42 +17,42 @@ use Rattle.find_path.specs.Charged.{foundOf, isStable}
 use Rattle.find_path.specs.Conditions.{Searched}
 use Rattle.find_path.proofs.Unfold.{length-falls}
 use Rattle.find_path.proofs.Tables.{same-reads}
-use Rattle.search.specs.Parts.{outOf, imports, dependencies, sysroot}
-use Rattle.search.proofs.Parts.{at-home, module-ns, module-none, module-found, module-charged, best-empty, best-charged, go-here, go-sysroot, go-dependencies, lang-stable, lang-none, lang-some, rest-stable, import-hidden}
-use Rattle.search.proofs.Holding.{offered, charge-sum, held-nothing, home-below}
-use Rattle.search.proofs.Runs.{Running, begun-later, lang-passed, deps-passed, lang-run, rest-run, import-run, running-done, left-none, imports-end, imports-next, deps-end, deps-next}
+use Rattle.charged_search.specs.Parts.{outOf, imports, dependencies, sysroot}
+use Rattle.charged_search.proofs.Parts.{at-home, module-ns, module-none, module-found, module-charged, best-empty, best-charged, go-here, go-sysroot, go-dependencies, lang-stable, lang-none, lang-some, rest-stable, import-hidden}
+use Rattle.charged_search.proofs.Holding.{offered, charge-sum, held-nothing, home-below}
+use Rattle.charged_search.proofs.Runs.{Running, begun-later, lang-passed, deps-passed, lang-run, rest-run, import-run, running-done, left-none, imports-end, imports-next, deps-end, deps-next}
 use borrow.Fn.Kinds.{In}
 use borrow.Fn.PlainCycle.{Measures, is, falls, and}
-use Rattle.search.proofs.charged.calculate_best_path.Reads as calculate-best-path
-use Rattle.search.proofs.charged.calculate_best_path.Kinds as calculate-best-path-kinds
-use Rattle.search.proofs.charged.+calculate_best_path+find_import+find_in_dep+find_in_deps+find_in_deps_by_sysroot+find_in_lang+find_in_rest+find_in_sysroot+find_path_for_module+search_charged.Lts-calculate_best_path as calculate-best-path-lts
-use Rattle.search.proofs.charged.find_import.Reads as find-import
-use Rattle.search.proofs.charged.find_import.Kinds as find-import-kinds
-use Rattle.search.proofs.charged.+calculate_best_path+find_import+find_in_dep+find_in_deps+find_in_deps_by_sysroot+find_in_lang+find_in_rest+find_in_sysroot+find_path_for_module+search_charged.Lts-find_import as find-import-lts
-use Rattle.search.proofs.charged.find_in_dep.Reads as find-in-dep
-use Rattle.search.proofs.charged.find_in_dep.Kinds as find-in-dep-kinds
-use Rattle.search.proofs.charged.+calculate_best_path+find_import+find_in_dep+find_in_deps+find_in_deps_by_sysroot+find_in_lang+find_in_rest+find_in_sysroot+find_path_for_module+search_charged.Lts-find_in_dep as find-in-dep-lts
-use Rattle.search.proofs.charged.find_in_deps.Reads as find-in-deps
-use Rattle.search.proofs.charged.find_in_deps.Kinds as find-in-deps-kinds
-use Rattle.search.proofs.charged.+calculate_best_path+find_import+find_in_dep+find_in_deps+find_in_deps_by_sysroot+find_in_lang+find_in_rest+find_in_sysroot+find_path_for_module+search_charged.Lts-find_in_deps as find-in-deps-lts
-use Rattle.search.proofs.charged.find_in_deps_by_sysroot.Reads as find-in-deps-by-sysroot
-use Rattle.search.proofs.charged.find_in_deps_by_sysroot.Kinds as find-in-deps-by-sysroot-kinds
-use Rattle.search.proofs.charged.+calculate_best_path+find_import+find_in_dep+find_in_deps+find_in_deps_by_sysroot+find_in_lang+find_in_rest+find_in_sysroot+find_path_for_module+search_charged.Lts-find_in_deps_by_sysroot as find-in-deps-by-sysroot-lts
-use Rattle.search.proofs.charged.find_in_lang.Reads as find-in-lang
-use Rattle.search.proofs.charged.find_in_lang.Kinds as find-in-lang-kinds
-use Rattle.search.proofs.charged.+calculate_best_path+find_import+find_in_dep+find_in_deps+find_in_deps_by_sysroot+find_in_lang+find_in_rest+find_in_sysroot+find_path_for_module+search_charged.Lts-find_in_lang as find-in-lang-lts
-use Rattle.search.proofs.charged.find_in_rest.Reads as find-in-rest
-use Rattle.search.proofs.charged.find_in_rest.Kinds as find-in-rest-kinds
-use Rattle.search.proofs.charged.+calculate_best_path+find_import+find_in_dep+find_in_deps+find_in_deps_by_sysroot+find_in_lang+find_in_rest+find_in_sysroot+find_path_for_module+search_charged.Lts-find_in_rest as find-in-rest-lts
-use Rattle.search.proofs.charged.find_in_sysroot.Reads as find-in-sysroot
-use Rattle.search.proofs.charged.find_in_sysroot.Kinds as find-in-sysroot-kinds
-use Rattle.search.proofs.charged.+calculate_best_path+find_import+find_in_dep+find_in_deps+find_in_deps_by_sysroot+find_in_lang+find_in_rest+find_in_sysroot+find_path_for_module+search_charged.Lts-find_in_sysroot as find-in-sysroot-lts
-use Rattle.search.proofs.charged.find_path_for_module.Reads as find-path-for-module
-use Rattle.search.proofs.charged.find_path_for_module.Kinds as find-path-for-module-kinds
-use Rattle.search.proofs.charged.+calculate_best_path+find_import+find_in_dep+find_in_deps+find_in_deps_by_sysroot+find_in_lang+find_in_rest+find_in_sysroot+find_path_for_module+search_charged.Lts-find_path_for_module as find-path-for-module-lts
-use Rattle.search.proofs.charged.search_charged.Reads as search-charged
-use Rattle.search.proofs.charged.search_charged.Kinds as search-charged-kinds
-use Rattle.search.proofs.charged.+calculate_best_path+find_import+find_in_dep+find_in_deps+find_in_deps_by_sysroot+find_in_lang+find_in_rest+find_in_sysroot+find_path_for_module+search_charged.Lts-search_charged as search-charged-lts
+use Rattle.charged_search.proofs.calculate_best_path.Reads as calculate-best-path
+use Rattle.charged_search.proofs.calculate_best_path.Kinds as calculate-best-path-kinds
+use Rattle.charged_search.proofs.+calculate_best_path+find_import+find_in_dep+find_in_deps+find_in_deps_by_sysroot+find_in_lang+find_in_rest+find_in_sysroot+find_path_for_module+search_charged.Lts-calculate_best_path as calculate-best-path-lts
+use Rattle.charged_search.proofs.find_import.Reads as find-import
+use Rattle.charged_search.proofs.find_import.Kinds as find-import-kinds
+use Rattle.charged_search.proofs.+calculate_best_path+find_import+find_in_dep+find_in_deps+find_in_deps_by_sysroot+find_in_lang+find_in_rest+find_in_sysroot+find_path_for_module+search_charged.Lts-find_import as find-import-lts
+use Rattle.charged_search.proofs.find_in_dep.Reads as find-in-dep
+use Rattle.charged_search.proofs.find_in_dep.Kinds as find-in-dep-kinds
+use Rattle.charged_search.proofs.+calculate_best_path+find_import+find_in_dep+find_in_deps+find_in_deps_by_sysroot+find_in_lang+find_in_rest+find_in_sysroot+find_path_for_module+search_charged.Lts-find_in_dep as find-in-dep-lts
+use Rattle.charged_search.proofs.find_in_deps.Reads as find-in-deps
+use Rattle.charged_search.proofs.find_in_deps.Kinds as find-in-deps-kinds
+use Rattle.charged_search.proofs.+calculate_best_path+find_import+find_in_dep+find_in_deps+find_in_deps_by_sysroot+find_in_lang+find_in_rest+find_in_sysroot+find_path_for_module+search_charged.Lts-find_in_deps as find-in-deps-lts
+use Rattle.charged_search.proofs.find_in_deps_by_sysroot.Reads as find-in-deps-by-sysroot
+use Rattle.charged_search.proofs.find_in_deps_by_sysroot.Kinds as find-in-deps-by-sysroot-kinds
+use Rattle.charged_search.proofs.+calculate_best_path+find_import+find_in_dep+find_in_deps+find_in_deps_by_sysroot+find_in_lang+find_in_rest+find_in_sysroot+find_path_for_module+search_charged.Lts-find_in_deps_by_sysroot as find-in-deps-by-sysroot-lts
+use Rattle.charged_search.proofs.find_in_lang.Reads as find-in-lang
+use Rattle.charged_search.proofs.find_in_lang.Kinds as find-in-lang-kinds
+use Rattle.charged_search.proofs.+calculate_best_path+find_import+find_in_dep+find_in_deps+find_in_deps_by_sysroot+find_in_lang+find_in_rest+find_in_sysroot+find_path_for_module+search_charged.Lts-find_in_lang as find-in-lang-lts
+use Rattle.charged_search.proofs.find_in_rest.Reads as find-in-rest
+use Rattle.charged_search.proofs.find_in_rest.Kinds as find-in-rest-kinds
+use Rattle.charged_search.proofs.+calculate_best_path+find_import+find_in_dep+find_in_deps+find_in_deps_by_sysroot+find_in_lang+find_in_rest+find_in_sysroot+find_path_for_module+search_charged.Lts-find_in_rest as find-in-rest-lts
+use Rattle.charged_search.proofs.find_in_sysroot.Reads as find-in-sysroot
+use Rattle.charged_search.proofs.find_in_sysroot.Kinds as find-in-sysroot-kinds
+use Rattle.charged_search.proofs.+calculate_best_path+find_import+find_in_dep+find_in_deps+find_in_deps_by_sysroot+find_in_lang+find_in_rest+find_in_sysroot+find_path_for_module+search_charged.Lts-find_in_sysroot as find-in-sysroot-lts
+use Rattle.charged_search.proofs.find_path_for_module.Reads as find-path-for-module
+use Rattle.charged_search.proofs.find_path_for_module.Kinds as find-path-for-module-kinds
+use Rattle.charged_search.proofs.+calculate_best_path+find_import+find_in_dep+find_in_deps+find_in_deps_by_sysroot+find_in_lang+find_in_rest+find_in_sysroot+find_path_for_module+search_charged.Lts-find_path_for_module as find-path-for-module-lts
+use Rattle.charged_search.proofs.search_charged.Reads as search-charged
+use Rattle.charged_search.proofs.search_charged.Kinds as search-charged-kinds
+use Rattle.charged_search.proofs.+calculate_best_path+find_import+find_in_dep+find_in_deps+find_in_deps_by_sysroot+find_in_lang+find_in_rest+find_in_sysroot+find_path_for_module+search_charged.Lts-search_charged as search-charged-lts
 use Rattle.hir_def.proofs.crate_graph.lang_of.Reads as lang-of-reads
 use Rattle.hir_def.proofs.crate_graph.next_by_sysroot.Reads as next-by-sysroot-reads
 use Rattle.hir_def.proofs.crate_graph.next_dependency.Reads as next-dependency-reads
@@ -64,16 +64,16 @@ use Rattle.path_rules.proofs.choices.nothing.Reads as nothing-reads
 use Rattle.path_rules.proofs.context.charge.Reads as charge-reads
 use Rattle.path_rules.proofs.offers.offer_import.Reads as offer-import-reads
 use Rattle.path_rules.proofs.rules.module_rules.Reads as module-rules-reads
-use Rattle.search.proofs.charged.is_at.Reads as is-at-reads
-use Rattle.search.proofs.charged.is_left_out.Reads as is-left-out-reads
-use Rattle.search.proofs.charged.is_stable.Reads as is-stable-reads
-use Rattle.search.proofs.charged.langs_for.Reads as langs-for-reads
+use Rattle.charged_search.proofs.is_at.Reads as is-at-reads
+use Rattle.charged_search.proofs.is_left_out.Reads as is-left-out-reads
+use Rattle.charged_search.proofs.is_stable.Reads as is-stable-reads
+use Rattle.charged_search.proofs.langs_for.Reads as langs-for-reads
 use Rattle.snapshot.proofs.record.dependency_crate.Reads as dependency-crate-reads
 use Rattle.snapshot.proofs.record.import_container.Reads as import-container-reads
-use Rattle.search.proofs.charged.+calculate_best_path+find_import+find_in_dep+find_in_deps+find_in_deps_by_sysroot+find_in_lang+find_in_rest+find_in_sysroot+find_path_for_module+search_charged.{
+use Rattle.charged_search.proofs.+calculate_best_path+find_import+find_in_dep+find_in_deps+find_in_deps_by_sysroot+find_in_lang+find_in_rest+find_in_sysroot+find_path_for_module+search_charged.{
   statement,
 }
-use Rattle.search.proofs.charged.+calculate_best_path+find_import+find_in_dep+find_in_deps+find_in_deps_by_sysroot+find_in_lang+find_in_rest+find_in_sysroot+find_path_for_module+search_charged.Tie.{
+use Rattle.charged_search.proofs.+calculate_best_path+find_import+find_in_dep+find_in_deps+find_in_deps_by_sysroot+find_in_lang+find_in_rest+find_in_sysroot+find_path_for_module+search_charged.Tie.{
   close,
 }
 

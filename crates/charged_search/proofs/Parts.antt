@@ -27,7 +27,7 @@ use Rattle.find_path.specs.Conditions.{chargedBy}
 use Rattle.find_path.specs.Charged.{Out, foundOf, isStable, langs, oneOrNone, isAt, offerImport, findImport, findInDep, findInDeps, findInSysroot, goOn, afterCharge, calculateBestPath, orCharged, findPathForModule}
 use Rattle.find_path.specs.Search.{bestLocal, moduleTo, searchModule}
 use Rattle.find_path.proofs.Unfold.{module-more}
-use Rattle.search.specs.Parts.{modules, bestPath, oneImport, imports, dependencies, sysroot, inLang}
+use Rattle.charged_search.specs.Parts.{modules, bestPath, oneImport, imports, dependencies, sysroot, inLang}
 
 -- an answer of the code, from its parts
 abbrev pub found : Choice → Tank → Found

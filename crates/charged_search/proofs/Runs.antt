@@ -21,9 +21,9 @@ use Rattle.find_path.specs.Choices.{lengthLeft}
 use Rattle.find_path.specs.Charged.{Out, foundOf, isStable, offerImport, findImports, findInDep, findInDeps}
 use Rattle.find_path.specs.Conditions.{Prepared, Searched}
 use Rattle.find_path.proofs.Tables.{same-snap, same-prepared}
-use Rattle.search.specs.Parts.{outOf, modules, oneImport, imports, dependencies, sysroot, inLang, Begun, Held}
-use Rattle.search.proofs.Parts.{found, lang-next, rest-more, import-seen}
-use Rattle.search.proofs.Holding.{held-import, held-imports, held-deps, held-lang}
+use Rattle.charged_search.specs.Parts.{outOf, modules, oneImport, imports, dependencies, sysroot, inLang, Begun, Held}
+use Rattle.charged_search.proofs.Parts.{found, lang-next, rest-more, import-seen}
+use Rattle.charged_search.proofs.Holding.{held-import, held-imports, held-deps, held-lang}
 
 module _ (W A₀ A : List ℕ) (l : Layout) (x : FindPathCtx) (p : Prepared W A₀ l x) (same : take tableWords A ≡ take tableWords A₀) where
   -- a search that begins where the tables have stayed

@@ -13,7 +13,7 @@ ghost use Rattle.find_path.specs.Meters.{fromTank, go};
 ghost use Rattle.find_path.specs.Search.{bestLocal, searchModule};
 ghost use Rattle.find_path.specs.declared.Tank.{Tank};
 ghost use Rattle.find_path.specs.Conditions.{Prepared, Asked, Searched};
-ghost use Rattle.search.specs.Parts.{outOf, modules, bestPath, oneImport, imports, dependencies, sysroot, inLang, Begun, Held};
+ghost use Rattle.charged_search.specs.Parts.{outOf, modules, bestPath, oneImport, imports, dependencies, sysroot, inLang, Begun, Held};
 use find_path::Choice;
 use find_path::Drawn;
 use find_path::FindPathCtx;

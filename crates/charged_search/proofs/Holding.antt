@@ -29,7 +29,7 @@ use Rattle.find_path.proofs.Unfold.{length-falls}
 use Rattle.find_path.proofs.Tanks.{module-sum}
 use Rattle.find_path.proofs.Bounds.{module-search-fits}
 use Rattle.find_path.proofs.Tables.{names-short}
-use Rattle.search.specs.Parts.{modules, oneImport, imports, dependencies, inLang, Held}
+use Rattle.charged_search.specs.Parts.{modules, oneImport, imports, dependencies, inLang, Held}
 
 abbrev Few : ℕ → Choice → Type 0
 Few n c = c .count ≤ n
