@@ -60,13 +60,6 @@ fn is_stable(c: Choice) -> bool
     c.found & c.stable
 }
 
-// Whether an import is left out at once. An unstable one is searched for, and charged, even where it is not allowed.
-fn is_left_out(words: &[u32], h: usize) -> bool
-    ensures { λ r. ⌜ r ≡ isHidden (importAt (now (words .entry)) h) ⌝ }
-{
-    is_hidden(words, h)
-}
-
 // Three origins, in the order in which their crates are tried.
 struct Langs {
     first: usize,
@@ -340,7 +333,8 @@ fn find_in_dep(
     best
 }
 
-// One import, unless it is hidden: the best path of its container is offered with its name.
+// One import, unless it is hidden: the best path of its container is offered with its name. An unstable one is searched for,
+// and charged, even where it is not allowed.
 fn find_import(
     words: &[u32],
     area: &mut [u32],
@@ -353,7 +347,7 @@ fn find_import(
     requires { ⌜ Begun (now words) (now area) l x left × (importAt (now words) h .container < l .modules) × (importAt (now words) h .name < l .names) × Held left o ⌝ }
     ensures { λ r. ⌜ Searched (now (area .entry)) (oneImport (snapOf (now (words .entry)) (now (area .entry)) l) x left (outOf o) (importAt (now (words .entry)) h) (isHidden (importAt (now (words .entry)) h))) (now (area .exit)) r ⌝ }
 {
-    if is_left_out(words, h) {
+    if is_hidden(words, h) {
         return o;
     }
     let best = o.choice;

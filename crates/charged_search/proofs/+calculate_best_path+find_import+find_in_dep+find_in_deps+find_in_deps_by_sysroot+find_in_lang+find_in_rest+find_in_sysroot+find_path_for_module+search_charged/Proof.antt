@@ -56,6 +56,7 @@ use Rattle.charged_search.proofs.+calculate_best_path+find_import+find_
 use Rattle.hir_def.proofs.crate_graph.lang_of.Reads as lang-of-reads
 use Rattle.hir_def.proofs.crate_graph.next_by_sysroot.Reads as next-by-sysroot-reads
 use Rattle.hir_def.proofs.crate_graph.next_dependency.Reads as next-dependency-reads
+use Rattle.hir_def.proofs.import_map.is_hidden.Reads as is-hidden-reads
 use Rattle.hir_def.proofs.import_map.next_import.Reads as next-import-reads
 use Rattle.hir_def.proofs.items.home_of.Reads as home-of-reads
 use Rattle.local_search.proofs.calculate_best_path_local.Reads as calculate-best-path-local-reads
@@ -65,7 +66,6 @@ use Rattle.path_rules.proofs.context.charge.Reads as charge-reads
 use Rattle.path_rules.proofs.offers.offer_import.Reads as offer-import-reads
 use Rattle.path_rules.proofs.rules.module_rules.Reads as module-rules-reads
 use Rattle.charged_search.proofs.is_at.Reads as is-at-reads
-use Rattle.charged_search.proofs.is_left_out.Reads as is-left-out-reads
 use Rattle.charged_search.proofs.is_stable.Reads as is-stable-reads
 use Rattle.charged_search.proofs.langs_for.Reads as langs-for-reads
 use Rattle.snapshot.proofs.record.dependency_crate.Reads as dependency-crate-reads
@@ -336,9 +336,9 @@ calculate-best-path-returns-2 t c =
       tables = f .ensures .tables;
     }
 
-find-import-is-left-out-requires : (t : ℕ) → find-import-lts.Need-is-left-out-requires (
-  is-left-out-reads.Asked,
-  is-left-out-reads.Learnt,
+find-import-is-hidden-requires : (t : ℕ) → find-import-lts.Need-is-hidden-requires (
+  is-hidden-reads.Asked,
+  is-hidden-reads.Learnt,
   length-left-reads.Asked,
   length-left-reads.Learnt,
   import-container-reads.Asked,
@@ -348,11 +348,11 @@ find-import-is-left-out-requires : (t : ℕ) → find-import-lts.Need-is-left-ou
   offer-import-reads.Asked,
   offer-import-reads.Learnt,
 ) (find-import-at t) find-import.Post
-find-import-is-left-out-requires t c κs = tt
+find-import-is-hidden-requires t c κs = tt
 
 find-import-returns : (t : ℕ) → find-import-lts.Need-returns (
-  is-left-out-reads.Asked,
-  is-left-out-reads.Learnt,
+  is-hidden-reads.Asked,
+  is-hidden-reads.Learnt,
   length-left-reads.Asked,
   length-left-reads.Learnt,
   import-container-reads.Asked,
@@ -366,13 +366,13 @@ find-import-returns t c =
     let o = c .before .before .before .before in
     let a = o .args in
     record {
-      same = ap foundOf (import-hidden (snapOf (now (a .words)) (now (a .area)) (a .l)) (a .x) (a .left) (outOf (a .o)) (importAt (now (a .words)) (a .h)) _ (sym (c .before .is-left-out .ensures) ∙ c .if1 .taken));
+      same = ap foundOf (import-hidden (snapOf (now (a .words)) (now (a .area)) (a .l)) (a .x) (a .left) (outOf (a .o)) (importAt (now (a .words)) (a .h)) _ (sym (c .before .is-hidden .ensures) ∙ c .if1 .taken));
       tables = refl;
     }
 
 find-import-length-left-requires : (t : ℕ) → find-import-lts.Need-length-left-requires (
-  is-left-out-reads.Asked,
-  is-left-out-reads.Learnt,
+  is-hidden-reads.Asked,
+  is-hidden-reads.Learnt,
   length-left-reads.Asked,
   length-left-reads.Learnt,
   import-container-reads.Asked,
@@ -385,8 +385,8 @@ find-import-length-left-requires : (t : ℕ) → find-import-lts.Need-length-lef
 find-import-length-left-requires t c κs = let o = c .before .before .before .before .before .before in omega (arith, o .pre .1 .3 .few, o .pre .1 .0 .limit)
 
 find-import-import-container-requires : (t : ℕ) → find-import-lts.Need-import-container-requires (
-  is-left-out-reads.Asked,
-  is-left-out-reads.Learnt,
+  is-hidden-reads.Asked,
+  is-hidden-reads.Learnt,
   length-left-reads.Asked,
   length-left-reads.Learnt,
   import-container-reads.Asked,
@@ -400,8 +400,8 @@ find-import-import-container-requires t c κs = tt
 
 find-import-find-path-for-module-requires :
     (t : ℕ) → find-import-lts.Need-find-path-for-module-requires (
-      is-left-out-reads.Asked,
-      is-left-out-reads.Learnt,
+      is-hidden-reads.Asked,
+      is-hidden-reads.Learnt,
       length-left-reads.Asked,
       length-left-reads.Learnt,
       import-container-reads.Asked,
@@ -422,8 +422,8 @@ find-import-find-path-for-module-requires t c κs =
     )
 
 find-import-offer-import-requires : (t : ℕ) → find-import-lts.Need-offer-import-requires (
-  is-left-out-reads.Asked,
-  is-left-out-reads.Learnt,
+  is-hidden-reads.Asked,
+  is-hidden-reads.Learnt,
   length-left-reads.Asked,
   length-left-reads.Learnt,
   import-container-reads.Asked,
@@ -448,8 +448,8 @@ find-import-offer-import-requires t c κs =
     )
 
 find-import-same-length : (t : ℕ) → find-import-lts.Need-same-length (
-  is-left-out-reads.Asked,
-  is-left-out-reads.Learnt,
+  is-hidden-reads.Asked,
+  is-hidden-reads.Learnt,
   length-left-reads.Asked,
   length-left-reads.Learnt,
   import-container-reads.Asked,
@@ -462,8 +462,8 @@ find-import-same-length : (t : ℕ) → find-import-lts.Need-same-length (
 find-import-same-length t c = c .before .before .before .before .before .before .find-path-for-module .kept .1 .0
 
 find-import-returns-2 : (t : ℕ) → find-import-lts.Need-returns-2 (
-  is-left-out-reads.Asked,
-  is-left-out-reads.Learnt,
+  is-hidden-reads.Asked,
+  is-hidden-reads.Learnt,
   length-left-reads.Asked,
   length-left-reads.Learnt,
   import-container-reads.Asked,
@@ -477,7 +477,7 @@ find-import-returns-2 t c =
     let o = c .before .before .before .before .before .before .before .before .before .before .before .before .before .before .before .before in
     let a = o .args in
     let f = c .before .before .before .before .before .before .find-path-for-module in
-    import-run (a .left) (a .h) (a .o) (o .pre .1 .0 .ready) (sym (c .before .before .before .before .before .before .before .before .before .before .before .before .before .is-left-out .ensures) ∙ c .before .before .before .before .before .before .before .before .before .before .before .before .if1 .left) (c .before .before .before .before .before .before .before .before .before .length-left .ensures) (c .before .before .before .before .before .before .before .import-container .ensures) (f .ensures) (c .offer-import .ensures)
+    import-run (a .left) (a .h) (a .o) (o .pre .1 .0 .ready) (sym (c .before .before .before .before .before .before .before .before .before .before .before .before .before .is-hidden .ensures) ∙ c .before .before .before .before .before .before .before .before .before .before .before .before .if1 .left) (c .before .before .before .before .before .before .before .before .before .length-left .ensures) (c .before .before .before .before .before .before .before .import-container .ensures) (f .ensures) (c .offer-import .ensures)
 
 abbrev find-in-dep-Inv-loop : find-in-dep-lts.InvT-loop
 find-in-dep-Inv-loop words area₀ l x left item c best₀ k₀ area best k =
@@ -1685,8 +1685,8 @@ pub +calculate-best-path+find-import+find-in-dep+find-in-deps+find-in-deps-by-sy
     (calculate-best-path-same-length t)
     (calculate-best-path-returns-2 t))
     (λ t. find-import-lts.spec (
-      is-left-out-reads.Asked,
-      is-left-out-reads.Learnt,
+      is-hidden-reads.Asked,
+      is-hidden-reads.Learnt,
       length-left-reads.Asked,
       length-left-reads.Learnt,
       import-container-reads.Asked,
@@ -1698,7 +1698,7 @@ pub +calculate-best-path+find-import+find-in-dep+find-in-deps+find-in-deps-by-sy
     )
     (find-import-at t)
     find-import.Post
-    (find-import-is-left-out-requires t)
+    (find-import-is-hidden-requires t)
     (find-import-returns t)
     (find-import-length-left-requires t)
     (find-import-import-container-requires t)
