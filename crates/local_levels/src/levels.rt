@@ -58,7 +58,7 @@ fn visited(area: &[u32], s: Stack, item: Item, m: usize) -> bool
 }
 
 // One module goes to the end of the run of n modules at the top, unless it is visited or on it.
-pub fn push_module(area: &mut [u32], s: Stack, n: usize, item: Item, m: usize) -> usize
+pub(crate) fn push_module(area: &mut [u32], s: Stack, n: usize, item: Item, m: usize) -> usize
     requires { ⌜ Ready (now area) s n × Small item × (m < 512) ⌝ }
     ensures { λ r. ⌜ Pushed (now (area .entry)) s n item (m ∷ []) (now (area .exit)) r ⌝ }
 {
