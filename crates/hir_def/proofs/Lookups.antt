@@ -11,15 +11,15 @@ use lib.Dec.{eqb}
 use borrow.Author.Tests.{eq-eqb, ne-eqb}
 use Rattle.snapshot.specs.Lists.{rows}
 use Rattle.snapshot.specs.Words.{payOf}
-use Rattle.snapshot.specs.Records.{Snapshot, Dependency, definitionAt, crateAt, dependencyAt, scopeAt, importAt}
-use Rattle.snapshot.specs.Layouts.{crateBase, dependencyBase, definitionBase, scopeBase, importBase, snapOf}
+use Rattle.snapshot.specs.Records.{Snapshot, Dependency, definitionAt, crateAt, dependencyAt, scopeAt, importAt, externAt}
+use Rattle.snapshot.specs.Layouts.{crateBase, dependencyBase, definitionBase, scopeBase, importBase, externBase, snapOf}
 use Rattle.snapshot.specs.declared.layout.Layout.{Layout}
 use Rattle.snapshot.proofs.Laws.{rows-next, rows-none, rows-whole, rows-snoc, length-rows, getD-rows, past}
 use Rattle.hir_def.specs.Finds.{firstOf, select}
 use Rattle.hir_def.specs.Items.{definitionOf, crateData, itemOf, homeBy}
 use Rattle.hir_def.specs.ItemScope.{isFor, nameOf, namesOf, isModuleEntry, modulesInScope}
 use Rattle.hir_def.specs.ImportMap.{isImport, importInfoFor}
-use Rattle.hir_def.specs.Nameres.{isDependency, isSysroot, isLangSysroot, bySysroot, dependenciesOf, langOf, sysrootFirst}
+use Rattle.hir_def.specs.Nameres.{isExtern, externOf, isDependency, isSysroot, isLangSysroot, bySysroot, dependenciesOf, langOf, sysrootFirst}
 use Rattle.hir_def.specs.Entries.{leftOf, Meets, Ends, NextOf}
 use Rattle.hir_def.specs.declared.Item.{Item}
 use Rattle.hir_def.specs.declared.Item.the-variants.{Mod, Def}
@@ -232,6 +232,11 @@ sysroot-no c false d h e = e
 
 -- the whole lists, where a loop begins
 module _ (W A : List ℕ) (l : Layout) where
+  pub extern-whole : (c m : ℕ) {b : ℕ} → b ≡ externBase l
+      → firstOf (isExtern c m) (reverse (rows (λ i. externAt W (b + 3 * i)) 0 (l .externs))) ≡ externOf (snapOf W A l) c m
+  unfolding externOf
+  extern-whole c m e = ap (λ x. firstOf (isExtern c m) (reverse (rows (λ i. externAt W (x + 3 * i)) 0 (l .externs)))) e
+
   pub lang-whole : (c lang : ℕ)
       → langOf (snapOf W A l) c lang
       ≡ firstOf (λ d. isDependency c d && isLangSysroot (snapOf W A l) lang d) (rows (λ i. dependencyAt W (dependencyBase l + 3 * i)) 0 (l .dependencies - 0))

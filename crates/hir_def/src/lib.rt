@@ -1,10 +1,6 @@
 //! What the lookups over an accepted snapshot answer.
-pub mod crate_graph;
-pub mod import_map;
-pub mod item_scope;
 pub mod items;
 pub mod modules;
-pub mod nameres;
 pub mod visibility;
 
 // An item: a module in the types namespace, by the module's number, or a namespace and another definition.

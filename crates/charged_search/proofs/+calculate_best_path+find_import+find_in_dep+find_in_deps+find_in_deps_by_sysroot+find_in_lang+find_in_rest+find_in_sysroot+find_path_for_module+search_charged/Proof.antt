@@ -53,11 +53,11 @@ use Rattle.charged_search.proofs.+calculate_best_path+find_import+find_
 use Rattle.charged_search.proofs.search_charged.Reads as search-charged
 use Rattle.charged_search.proofs.search_charged.Kinds as search-charged-kinds
 use Rattle.charged_search.proofs.+calculate_best_path+find_import+find_in_dep+find_in_deps+find_in_deps_by_sysroot+find_in_lang+find_in_rest+find_in_sysroot+find_path_for_module+search_charged.Lts-search_charged as search-charged-lts
-use Rattle.hir_def.proofs.crate_graph.lang_of.Reads as lang-of-reads
-use Rattle.hir_def.proofs.crate_graph.next_by_sysroot.Reads as next-by-sysroot-reads
-use Rattle.hir_def.proofs.crate_graph.next_dependency.Reads as next-dependency-reads
-use Rattle.hir_def.proofs.import_map.is_hidden.Reads as is-hidden-reads
-use Rattle.hir_def.proofs.import_map.next_import.Reads as next-import-reads
+use Rattle.crate_graph.proofs.lang_of.Reads as lang-of-reads
+use Rattle.crate_graph.proofs.next_by_sysroot.Reads as next-by-sysroot-reads
+use Rattle.crate_graph.proofs.next_dependency.Reads as next-dependency-reads
+use Rattle.import_map.proofs.is_hidden.Reads as is-hidden-reads
+use Rattle.import_map.proofs.next_import.Reads as next-import-reads
 use Rattle.hir_def.proofs.items.home_of.Reads as home-of-reads
 use Rattle.local_search.proofs.calculate_best_path_local.Reads as calculate-best-path-local-reads
 use Rattle.path_rules.proofs.choices.length_left.Reads as length-left-reads

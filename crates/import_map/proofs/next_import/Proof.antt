@@ -1,0 +1,73 @@
+use borrow.Author.Needs.{needs}
+use Prim.Native.Nat.{ℕ, _+_, _-_, _*_}
+use mathlib.Core.Path.{ap}
+use mathlib.Core.List.{List}
+use native.Mathlib.Omega.{arith}
+use Rattle.snapshot.specs.Layouts.{importBase, snapOf}
+use Rattle.snapshot.specs.Records.{importAt}
+use Rattle.hir_def.specs.ImportMap.{isImport}
+use Rattle.hir_def.specs.Entries.{NextOf}
+use Rattle.hir_def.proofs.Lookups.{Came, next-start, next-hit, next-miss, next-end}
+use Rattle.import_map.proofs.next_import.Statement.{statement}
+use Rattle.import_map.proofs.next_import.Tie as tie
+
+abbrev Inv-loop : tie.InvT-loop
+Inv-loop words l k c item base j₀ j = (A : List ℕ) → Came (isImport (snapOf words A l) (c .0) item) importAt 6 words (importBase l) (l .imports) k j
+
+abbrev μ-loop : tie.MeasureT-loop
+μ-loop words l k c item base j₀ j = l .imports - j
+
+import-base-requires : tie.Need-import-base-requires Inv-loop μ-loop
+import-base-requires c κs = search needs
+
+loop-holds : tie.Need-loop-holds Inv-loop μ-loop
+loop-holds c = λ A. next-start _ _ _ _ _ _ _
+
+mul-h : tie.Need-mul-h Inv-loop μ-loop
+mul-h c = record { fits = omega (arith, c .if1 .taken, c .before .before .before .before .before .pre) }
+
+add-h : tie.Need-add-h Inv-loop μ-loop
+add-h c = record { fits = omega (arith, c .if1 .taken, c .before .before .before .import-base .ensures, c .before .before .before .before .before .pre) }
+
+is-import-requires : tie.Need-is-import-requires Inv-loop μ-loop
+is-import-requires c κs = search needs
+
+returns : tie.Need-returns Inv-loop μ-loop
+unfolding NextOf
+returns c =
+    λ A.
+    let w = c .before .before .before .before .loop in
+    next-hit (w .inv A) (c .before .before .if1 .taken) (ap (λ b. b + 6 * w .j) (c .before .before .before .before .before .import-base .ensures)) (c .before .is-import .ensures A) (c .if2 .taken)
+
+add-j : tie.Need-add-j Inv-loop μ-loop
+add-j c = record { fits = omega (arith, c .before .before .if1 .taken, c .before .before .before .before .before .before .before .pre) }
+
+loop-less : tie.Need-loop-less Inv-loop μ-loop
+loop-less c = omega (arith, c .before .before .if1 .taken)
+
+loop-again : tie.Need-loop-again Inv-loop μ-loop
+loop-again c =
+    λ A.
+    let w = c .before .before .before .before .loop in
+    next-miss (w .inv A) (c .before .before .if1 .taken) (ap (λ b. b + 6 * w .j) (c .before .before .before .before .before .import-base .ensures)) (c .before .is-import .ensures A) (c .if2 .left)
+
+returns-2 : tie.Need-returns-2 Inv-loop μ-loop
+unfolding NextOf
+returns-2 c = λ A. next-end (c .before .before .loop .inv A) (c .if1 .left)
+
+pub next-import-spec : {M : Type 1} → statement M
+next-import-spec =
+    tie.close
+    (tie.spec
+    Inv-loop
+    μ-loop
+    import-base-requires
+    loop-holds
+    mul-h
+    add-h
+    is-import-requires
+    returns
+    add-j
+    loop-less
+    loop-again
+    returns-2)

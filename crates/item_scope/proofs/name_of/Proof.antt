@@ -1,0 +1,14 @@
+use borrow.Author.Needs.{needs}
+use mathlib.Core.Path.{_∙_}
+use Rattle.hir_def.proofs.Lookups.{names-name}
+use Rattle.item_scope.proofs.name_of.Statement.{statement}
+use Rattle.item_scope.proofs.name_of.Tie as tie
+
+names-of-requires : tie.Need-names-of-requires
+names-of-requires c κs = search needs
+
+returns : tie.Need-returns
+returns c = λ A. c .names-of .ensures A ∙ names-name _ _ _
+
+pub name-of-spec : {M : Type 1} → statement M
+name-of-spec = tie.close (tie.spec names-of-requires returns)

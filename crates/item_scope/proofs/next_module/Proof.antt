@@ -1,0 +1,73 @@
+use borrow.Author.Needs.{needs}
+use Prim.Native.Nat.{ℕ, _+_, _-_, _*_}
+use mathlib.Core.Path.{ap}
+use mathlib.Core.List.{List}
+use native.Mathlib.Omega.{arith}
+use Rattle.snapshot.specs.Layouts.{scopeBase, snapOf}
+use Rattle.snapshot.specs.Records.{scopeAt}
+use Rattle.hir_def.specs.ItemScope.{isModuleEntry}
+use Rattle.hir_def.specs.Entries.{NextOf}
+use Rattle.hir_def.proofs.Lookups.{Came, next-start, next-hit, next-miss, next-end}
+use Rattle.item_scope.proofs.next_module.Statement.{statement}
+use Rattle.item_scope.proofs.next_module.Tie as tie
+
+abbrev Inv-loop : tie.InvT-loop
+Inv-loop words l k m base j₀ j = (A : List ℕ) → Came (isModuleEntry (snapOf words A l) (m .0)) scopeAt 7 words (scopeBase l) (l .scopes) k j
+
+abbrev μ-loop : tie.MeasureT-loop
+μ-loop words l k m base j₀ j = l .scopes - j
+
+scope-base-requires : tie.Need-scope-base-requires Inv-loop μ-loop
+scope-base-requires c κs = search needs
+
+loop-holds : tie.Need-loop-holds Inv-loop μ-loop
+loop-holds c = λ A. next-start _ _ _ _ _ _ _
+
+mul-h : tie.Need-mul-h Inv-loop μ-loop
+mul-h c = record { fits = omega (arith, c .if1 .taken, c .before .before .before .before .before .pre) }
+
+add-h : tie.Need-add-h Inv-loop μ-loop
+add-h c = record { fits = omega (arith, c .if1 .taken, c .before .before .before .scope-base .ensures, c .before .before .before .before .before .pre) }
+
+is-module-entry-requires : tie.Need-is-module-entry-requires Inv-loop μ-loop
+is-module-entry-requires c κs = search needs
+
+returns : tie.Need-returns Inv-loop μ-loop
+unfolding NextOf
+returns c =
+    λ A.
+    let w = c .before .before .before .before .loop in
+    next-hit (w .inv A) (c .before .before .if1 .taken) (ap (λ b. b + 7 * w .j) (c .before .before .before .before .before .scope-base .ensures)) (c .before .is-module-entry .ensures A) (c .if2 .taken)
+
+add-j : tie.Need-add-j Inv-loop μ-loop
+add-j c = record { fits = omega (arith, c .before .before .if1 .taken, c .before .before .before .before .before .before .before .pre) }
+
+loop-less : tie.Need-loop-less Inv-loop μ-loop
+loop-less c = omega (arith, c .before .before .if1 .taken)
+
+loop-again : tie.Need-loop-again Inv-loop μ-loop
+loop-again c =
+    λ A.
+    let w = c .before .before .before .before .loop in
+    next-miss (w .inv A) (c .before .before .if1 .taken) (ap (λ b. b + 7 * w .j) (c .before .before .before .before .before .scope-base .ensures)) (c .before .is-module-entry .ensures A) (c .if2 .left)
+
+returns-2 : tie.Need-returns-2 Inv-loop μ-loop
+unfolding NextOf
+returns-2 c = λ A. next-end (c .before .before .loop .inv A) (c .if1 .left)
+
+pub next-module-spec : {M : Type 1} → statement M
+next-module-spec =
+    tie.close
+    (tie.spec
+    Inv-loop
+    μ-loop
+    scope-base-requires
+    loop-holds
+    mul-h
+    add-h
+    is-module-entry-requires
+    returns
+    add-j
+    loop-less
+    loop-again
+    returns-2)

@@ -1,0 +1,130 @@
+//! The scope of a module, after item_scope.rs: its entries in record order.
+ghost use mathlib.Core.Path.{_≡_};
+ghost use mathlib.Core.List.{List};
+ghost use mathlib.Core.Bool.{_&&_, _||_, not};
+ghost use Prim.Native.Nat.{ℕ, _^_, _<_};
+ghost use lib.Dec.{eqb};
+ghost use Rattle.snapshot.specs.Records.{scopeAt};
+ghost use Rattle.snapshot.specs.Layouts.{wordCount, scopeBase, snapOf};
+ghost use Rattle.hir_def.specs.ItemScope.{isFor, isNamed, isModuleEntry, nameOf, namesOf, get as entryNamed};
+ghost use Rattle.hir_def.specs.Entries.{entryOf, NextOf};
+use hir_def::Entry;
+use hir_def::Item;
+use hir_def::Next;
+use hir_def::items::DefinitionKind;
+use hir_def::items::Namespace;
+use hir_def::items::item_of;
+use hir_def::items::kind_of;
+use hir_def::items::same_item;
+use snapshot::ids::ModuleId;
+use snapshot::ids::Name;
+use snapshot::layout::Layout;
+use snapshot::record::scope_declared;
+use snapshot::record::scope_definition;
+use snapshot::record::scope_name;
+use snapshot::record::scope_ns;
+use snapshot::record::scope_owner;
+
+/// Whether the entry with its head at a place is one of the module's for the item.
+pub fn is_for(words: &[u32], l: Layout, h: usize, m: ModuleId, item: Item) -> bool
+    requires { ⌜ wordCount l < 2 ^ 32 ⌝ }
+    ensures { λ r. ⌜ ((A : List ℕ) → r ≡ isFor (snapOf (now (words .entry)) A l) (m .0) item (scopeAt (now (words .entry)) h)) ⌝ }
+{
+    let owner = scope_owner(words, h);
+    if owner.0 != m.0 {
+        return false;
+    }
+    let ns = scope_ns(words, h);
+    let d = scope_definition(words, h);
+    same_item(item_of(words, l, ns, d), item)
+}
+
+// The same, and the entry was declared there where only such entries count.
+fn is_entry(words: &[u32], l: Layout, h: usize, m: ModuleId, item: Item, declared: bool) -> bool
+    requires { ⌜ wordCount l < 2 ^ 32 ⌝ }
+    ensures { λ r. ⌜ ((A : List ℕ) → r ≡ (isFor (snapOf (now (words .entry)) A l) (m .0) item (scopeAt (now (words .entry)) h) && (eqb (scopeAt (now (words .entry)) h .declared) 1 || not declared))) ⌝ }
+{
+    let here = scope_declared(words, h) == 1;
+    is_for(words, l, h, m, item) & (here | !declared)
+}
+
+/// The first of the module's entries for the item; of those declared there, where only such entries count.
+pub fn names_of(words: &[u32], l: Layout, m: ModuleId, item: Item, declared: bool) -> Entry
+    requires { ⌜ wordCount l < 2 ^ 32 ⌝ }
+    ensures { λ r. ⌜ ((A : List ℕ) → entryOf scopeAt (now (words .entry)) r ≡ namesOf (snapOf (now (words .entry)) A l) (m .0) item (λ e. eqb (e .declared) 1 || not declared)) ⌝ }
+{
+    let base = l.scope_base();
+    let mut k = 0;
+    while k < l.scopes {
+        let h = base + 7 * k;
+        if is_entry(words, l, h, m, item, declared) {
+            return Entry::At(h);
+        }
+        k += 1;
+    }
+    Entry::Nothing
+}
+
+/// The first of the module's entries for the item.
+pub fn name_of(words: &[u32], l: Layout, m: ModuleId, item: Item) -> Entry
+    requires { ⌜ wordCount l < 2 ^ 32 ⌝ }
+    ensures { λ r. ⌜ ((A : List ℕ) → entryOf scopeAt (now (words .entry)) r ≡ nameOf (snapOf (now (words .entry)) A l) (m .0) item) ⌝ }
+{
+    names_of(words, l, m, item, false)
+}
+
+// Whether the entry with its head at a place is the module's with that namespace and name.
+fn is_named(words: &[u32], h: usize, m: ModuleId, ns: usize, name: Name) -> bool
+    ensures { λ r. ⌜ r ≡ isNamed (m .0) ns (name .0) (scopeAt (now (words .entry)) h) ⌝ }
+{
+    let owner = scope_owner(words, h);
+    let its = scope_name(words, h);
+    (owner.0 == m.0) & ((scope_ns(words, h) == ns) & (its.0 == name.0))
+}
+
+/// The module's entry with that namespace and name.
+pub fn get(words: &[u32], l: Layout, m: ModuleId, ns: usize, name: Name) -> Entry
+    requires { ⌜ wordCount l < 2 ^ 32 ⌝ }
+    ensures { λ r. ⌜ ((A : List ℕ) → entryOf scopeAt (now (words .entry)) r ≡ entryNamed (snapOf (now (words .entry)) A l) (m .0) ns (name .0)) ⌝ }
+{
+    let base = l.scope_base();
+    let mut k = 0;
+    while k < l.scopes {
+        let h = base + 7 * k;
+        if is_named(words, h, m, ns, name) {
+            return Entry::At(h);
+        }
+        k += 1;
+    }
+    Entry::Nothing
+}
+
+// Whether the entry with its head at a place is the module's, for a module in types.
+fn is_module_entry(words: &[u32], l: Layout, h: usize, m: ModuleId) -> bool
+    requires { ⌜ wordCount l < 2 ^ 32 ⌝ }
+    ensures { λ r. ⌜ ((A : List ℕ) → r ≡ isModuleEntry (snapOf (now (words .entry)) A l) (m .0) (scopeAt (now (words .entry)) h)) ⌝ }
+{
+    let owner = scope_owner(words, h);
+    if owner.0 != m.0 {
+        return false;
+    }
+    let kind = kind_of(words, l, scope_definition(words, h));
+    (scope_ns(words, h) == Namespace::TYPES) & (kind == DefinitionKind::MODULE)
+}
+
+/// The next of the module's entries for a module in types, from the entry number k on.
+pub fn next_module(words: &[u32], l: Layout, k: usize, m: ModuleId) -> Next
+    requires { ⌜ wordCount l < 2 ^ 32 ⌝ }
+    ensures { λ r. ⌜ ((A : List ℕ) → NextOf (isModuleEntry (snapOf (now (words .entry)) A l) (m .0)) scopeAt 7 (now (words .entry)) (scopeBase l) (l .scopes) k r) ⌝ }
+{
+    let base = l.scope_base();
+    let mut j = k;
+    while j < l.scopes {
+        let h = base + 7 * j;
+        if is_module_entry(words, l, h, m) {
+            return Next::Record(j, h);
+        }
+        j += 1;
+    }
+    Next::End
+}

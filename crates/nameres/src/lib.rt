@@ -1,0 +1,112 @@
+//! Names in a module and around its blocks: the uses of `with_ancestor_maps`.
+ghost use mathlib.Core.Path.{_≡_};
+ghost use mathlib.Core.List.{List};
+ghost use Prim.Native.Nat.{ℕ, _<_, _^_};
+ghost use Rattle.snapshot.specs.Records.{scopeAt};
+ghost use Rattle.snapshot.specs.Layouts.{wordCount, snapOf};
+ghost use Rattle.accept.specs.Post.{Reads};
+ghost use Rattle.hir_def.specs.Nameres.{scopeEntry, entryNamed, isOther, occupied as occupiedBy};
+ghost use Rattle.hir_def.specs.Entries.{entryOf};
+use hir_def::Entry;
+use hir_def::Item;
+use hir_def::items::Namespace;
+use hir_def::items::item_of;
+use hir_def::items::same_item;
+use hir_def::modules::block;
+use item_scope::get;
+use item_scope::names_of;
+use snapshot::ids::ModuleId;
+use snapshot::ids::Name;
+use snapshot::layout::Layout;
+use snapshot::record::scope_definition;
+use snapshot::record::scope_ns;
+
+/// The item's first entry in a module, or around its blocks; only entries declared there where these alone count.
+pub fn scope_entry(
+    words: &[u32],
+    area: &[u32],
+    l: Layout,
+    from: ModuleId,
+    item: Item,
+    declared_only: bool,
+) -> Entry
+    requires { ⌜ Reads (now words) (now area) l × (from .0 < l .modules) ⌝ }
+    ensures { λ r. ⌜ entryOf scopeAt (now (words .entry)) r ≡ scopeEntry (snapOf (now (words .entry)) (now (area .entry)) l) (from .0) item «declared_only» ⌝ }
+{
+    let mut m = from.0;
+    loop {
+        let e = names_of(words, l, ModuleId(m), item, declared_only);
+        if let Entry::At(h) = e {
+            return Entry::At(h);
+        }
+        let b = block(words, area, l, ModuleId(m));
+        if b == 0 {
+            return Entry::Nothing;
+        }
+        m = b - 1;
+    }
+}
+
+/// The first entry with a namespace and a name in a module, or around its blocks.
+pub fn entry_named(
+    words: &[u32],
+    area: &[u32],
+    l: Layout,
+    from: ModuleId,
+    ns: usize,
+    name: Name,
+) -> Entry
+    requires { ⌜ Reads (now words) (now area) l × (from .0 < l .modules) ⌝ }
+    ensures { λ r. ⌜ entryOf scopeAt (now (words .entry)) r ≡ entryNamed (snapOf (now (words .entry)) (now (area .entry)) l) (from .0) ns (name .0) ⌝ }
+{
+    let mut m = from.0;
+    loop {
+        let e = get(words, l, ModuleId(m), ns, name);
+        if let Entry::At(h) = e {
+            return Entry::At(h);
+        }
+        let b = block(words, area, l, ModuleId(m));
+        if b == 0 {
+            return Entry::Nothing;
+        }
+        m = b - 1;
+    }
+}
+
+// Whether an entry stands for something else than a module.
+fn is_other(words: &[u32], l: Layout, e: Entry, m: ModuleId) -> bool
+    requires { ⌜ wordCount l < 2 ^ 32 ⌝ }
+    ensures { λ r. ⌜ ((A : List ℕ) → r ≡ isOther (snapOf (now (words .entry)) A l) (m .0) (entryOf scopeAt (now (words .entry)) e)) ⌝ }
+{
+    let Entry::At(h) = e else {
+        return false;
+    };
+    let item = item_of(words, l, scope_ns(words, h), scope_definition(words, h));
+    !same_item(item, Item::Mod(m.0))
+}
+
+/// Whether a name is another thing's than a module's in types, in the module `from` or around its blocks.
+pub fn occupied(
+    words: &[u32],
+    area: &[u32],
+    l: Layout,
+    from: ModuleId,
+    m: ModuleId,
+    name: Name,
+) -> bool
+    requires { ⌜ Reads (now words) (now area) l × (from .0 < l .modules) ⌝ }
+    ensures { λ r. ⌜ r ≡ occupiedBy (snapOf (now (words .entry)) (now (area .entry)) l) (from .0) (m .0) (name .0) ⌝ }
+{
+    let mut a = from.0;
+    loop {
+        let e = get(words, l, ModuleId(a), Namespace::TYPES, name);
+        if is_other(words, l, e, m) {
+            return true;
+        }
+        let b = block(words, area, l, ModuleId(a));
+        if b == 0 {
+            return false;
+        }
+        a = b - 1;
+    }
+}
