@@ -22,6 +22,16 @@ use Rattle.find_path.specs.declared.Choice.{Choice}
 use Rattle.find_path.proofs.Names.{name-read}
 use Rattle.find_path.specs.Choices.{nameData, nameLen, isPrelude, pathKindLen, pathLen, keyword, choiceNew, extended, push, trySelect, compareBool, andThen, comparePrelude, taken, better, shorterIf, lengthLeft}
 
+-- the branch of a test
+module _ {A : Type 0} (a b : A) where
+  pub taken-true : (t : Bool) → t ≡ true → a ≡ elim t [ true ↦ a | false ↦ b ]
+  taken-true true e = refl
+  taken-true false e = absurd (false≢true e)
+
+  pub taken-false : (t : Bool) → t ≡ false → b ≡ elim t [ true ↦ a | false ↦ b ]
+  taken-false true e = absurd (true≢false e)
+  taken-false false e = refl
+
 module _ (W A : List ℕ) (l : Layout) (r : Reads W A l) (n : ℕ) (h : n < l .names) where
   -- seven bytes stand in three words
   three : (b : ℕ) (f : ℕ → ℕ) → (eqb b 7 && (eqb (f 0) 0x657270 && (eqb (f 1) 0x64756C && eqb (f 2) 0x65)))

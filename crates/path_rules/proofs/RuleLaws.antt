@@ -2,7 +2,7 @@
 use Prim.Native.Nat.{ℕ, zero, suc, _+_, _≤_}
 use mathlib.Core.Path.{_≡_, refl, sym, _∙_, ap, ap₂, subst}
 use mathlib.Core.List.{List, [], _∷_}
-use mathlib.Core.Bool.{Bool, true, false, _&&_, _||_, not, true≢false, false≢true}
+use mathlib.Core.Bool.{Bool, true, false, _&&_, _||_, not}
 use mathlib.Core.Option.{Option, none, some}
 use native.Mathlib.Omega.{arith}
 use lib.Dec.{eqb}
@@ -32,16 +32,7 @@ use Rattle.find_path.specs.declared.FindPathCtx.{FindPathCtx}
 use Rattle.find_path.specs.Choices.{nothing, keyword, choiceNew}
 use Rattle.find_path.specs.Conditions.{Named}
 use Rattle.find_path.specs.Rules.{prefixPathKind, firstFound, entryName, single, findInScope, mayBeInScope, scopeRule, sameHere, preludeEntry, inPrelude, findInPrelude, externKind, externName, rootRule, parentKind, isKwKindRelativeToFrom, keywordOf}
-
--- the branch of a test
-module _ {A : Type 0} (a b : A) where
-  pub taken-true : (t : Bool) → t ≡ true → a ≡ elim t [ true ↦ a | false ↦ b ]
-  taken-true true e = refl
-  taken-true false e = absurd (false≢true e)
-
-  pub taken-false : (t : Bool) → t ≡ false → b ≡ elim t [ true ↦ a | false ↦ b ]
-  taken-false true e = absurd (true≢false e)
-  taken-false false e = refl
+use Rattle.path_choices.proofs.ChoiceLaws.{taken-true, taken-false}
 
 pub prefix-past : (p : ℕ) → 3 ≤ p → 0 ≡ prefixPathKind p
 unfolding prefixPathKind

@@ -1,5 +1,4 @@
-//! Choices, and the rules that answer without a search.
+//! The rules that answer without a search. Choices and the context of a question are passed on.
 pub mod choices;
 pub mod context;
-pub mod offers;
 pub mod rules;

@@ -1,14 +1,13 @@
 //! The rules that answer without a search.
 ghost use mathlib.Core.Path.{_≡_};
 ghost use mathlib.Core.List.{List};
-ghost use Prim.Native.Nat.{ℕ, _≤_, _<_, _^_};
+ghost use Prim.Native.Nat.{ℕ, _<_, _^_};
 ghost use Rattle.snapshot.specs.Records.{Snapshot, scopeAt, externAt};
 ghost use Rattle.snapshot.specs.Layouts.{wordCount, snapOf};
 ghost use Rattle.accept.specs.Stands.{countsIn};
 ghost use Rattle.accept.specs.Post.{Reads};
 ghost use Rattle.accept.specs.Valid.{ScopeFits};
 ghost use Rattle.hir_def.specs.Items.{parentOf};
-ghost use Rattle.hir_def.specs.Visibility.{sees as seesOf};
 ghost use Rattle.hir_def.specs.Entries.{entryOf};
 ghost use Rattle.hir_def.specs.declared.Entry.the-variants.{At};
 ghost use Rattle.find_path.specs.declared.FindPathCtx.{FindPathCtx};
@@ -17,6 +16,8 @@ ghost use Rattle.find_path.specs.Rules.{prefixPathKind, entryName, single as si
 use crate::choices::choice_new;
 use crate::choices::keyword;
 use crate::choices::nothing;
+use crate::context::PrefixKind;
+use crate::context::sees;
 use crate_graph::extern_of;
 use crate_graph::prelude_of;
 use find_path::Choice;
@@ -34,7 +35,6 @@ use hir_def::modules::krate;
 use hir_def::modules::map;
 use hir_def::modules::parent;
 use hir_def::modules::root;
-use hir_def::visibility::is_visible_from;
 use item_scope::name_of;
 use nameres::entry_named;
 use nameres::occupied;
@@ -48,8 +48,6 @@ use snapshot::record::prelude_target;
 use snapshot::record::scope_definition;
 use snapshot::record::scope_name;
 use snapshot::record::scope_ns;
-use snapshot::record::scope_number;
-use snapshot::record::scope_visibility;
 
 /// Path kinds.
 pub struct PathKind(pub usize);
@@ -64,17 +62,6 @@ impl PathKind {
     pub const CRATE: usize = 3;
 
     pub const ABSOLUTE: usize = 4;
-}
-
-/// Prefixes.
-pub struct PrefixKind(pub usize);
-
-impl PrefixKind {
-    pub const BY_SELF: usize = 0;
-
-    pub const PLAIN: usize = 1;
-
-    pub const BY_CRATE: usize = 2;
 }
 
 // The path kinds of the prefixes.
@@ -138,16 +125,6 @@ pub fn scope_rule(words: &[u32], area: &[u32], l: Layout, x: FindPathCtx, item: 
     }
     let a = find_in_scope(words, area, l, x, item);
     single(words, area, l, prefix_path_kind(x.prefix), a)
-}
-
-/// Whether the viewer sees the entry with its head at a place.
-pub fn sees(words: &[u32], area: &[u32], l: Layout, x: FindPathCtx, h: usize) -> bool
-    requires { ⌜ Reads (now words) (now area) l × (x .from < l .modules) × (2 ≤ scopeAt (now words) h .visibility → scopeAt (now words) h .number < l .modules) ⌝ }
-    ensures { λ r. ⌜ r ≡ seesOf (snapOf (now (words .entry)) (now (area .entry)) l) (x .from) (scopeAt (now (words .entry)) h) ⌝ }
-{
-    let kind = scope_visibility(words, h);
-    let number = scope_number(words, h);
-    is_visible_from(words, area, l, kind, number, ModuleId(x.from))
 }
 
 // Whether an entry stands for the item, or there is none.

@@ -63,7 +63,7 @@ use Rattle.local_search.proofs.calculate_best_path_local.Reads as calculate-bes
 use Rattle.path_rules.proofs.choices.length_left.Reads as length-left-reads
 use Rattle.path_rules.proofs.choices.nothing.Reads as nothing-reads
 use Rattle.path_rules.proofs.context.charge.Reads as charge-reads
-use Rattle.path_rules.proofs.offers.offer_import.Reads as offer-import-reads
+use Rattle.path_offers.proofs.offers.offer_import.Reads as offer-import-reads
 use Rattle.path_rules.proofs.rules.module_rules.Reads as module-rules-reads
 use Rattle.charged_search.proofs.is_at.Reads as is-at-reads
 use Rattle.charged_search.proofs.is_stable.Reads as is-stable-reads

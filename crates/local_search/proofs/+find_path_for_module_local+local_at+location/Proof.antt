@@ -21,8 +21,8 @@ use Rattle.local_search.proofs.location.Kinds as location-kinds
 use Rattle.local_search.proofs.+find_path_for_module_local+local_at+location.Lts-location as location-lts
 use Rattle.path_rules.proofs.choices.length_left.Reads as length-left-reads
 use Rattle.path_rules.proofs.choices.nothing.Reads as nothing-reads
-use Rattle.path_rules.proofs.offers.importable_name.Reads as importable-name-reads
-use Rattle.path_rules.proofs.offers.offer.Reads as offer-reads
+use Rattle.path_offers.proofs.offers.importable_name.Reads as importable-name-reads
+use Rattle.path_offers.proofs.offers.offer.Reads as offer-reads
 use Rattle.path_rules.proofs.rules.module_rules.Reads as module-rules-reads
 use Rattle.local_levels.proofs.levels.code_of.Reads as code-of-reads
 use Rattle.local_levels.proofs.locations.find_local_import_locations.Reads as find-local-import-locations-reads

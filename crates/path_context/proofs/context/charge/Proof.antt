@@ -1,9 +1,9 @@
 use borrow.Author.Needs.{needs}
 use Rattle.find_path.specs.Meters.{fromTank}
 use Rattle.find_path.specs.Conditions.{chargedBy}
-use Rattle.path_rules.proofs.OfferLaws.{charge-stops, charge-goes}
-use Rattle.path_rules.proofs.context.charge.Statement.{statement}
-use Rattle.path_rules.proofs.context.charge.Tie as tie
+use Rattle.path_context.proofs.ContextLaws.{charge-stops, charge-goes}
+use Rattle.path_context.proofs.context.charge.Statement.{statement}
+use Rattle.path_context.proofs.context.charge.Tie as tie
 
 returns : tie.Need-returns
 unfolding chargedBy fromTank

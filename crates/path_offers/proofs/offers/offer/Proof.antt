@@ -3,9 +3,9 @@ use mathlib.Core.Path.{_∙_}
 use denote.Ref.{now}
 use borrow.Author.Tests.{not-true, not-false}
 use Rattle.snapshot.specs.Layouts.{snapOf}
-use Rattle.path_rules.proofs.OfferLaws.{offer-none, offer-some}
-use Rattle.path_rules.proofs.offers.offer.Statement.{statement}
-use Rattle.path_rules.proofs.offers.offer.Tie as tie
+use Rattle.path_offers.proofs.OfferLaws.{offer-none, offer-some}
+use Rattle.path_offers.proofs.offers.offer.Statement.{statement}
+use Rattle.path_offers.proofs.offers.offer.Tie as tie
 
 returns : tie.Need-returns
 returns c =

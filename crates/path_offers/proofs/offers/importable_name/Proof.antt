@@ -6,9 +6,9 @@ use Rattle.snapshot.specs.Layouts.{snapOf}
 use Rattle.hir_def.specs.Entries.{entryOf}
 use Rattle.hir_def.proofs.Fits.{name-fits}
 use Rattle.find_path.specs.Local.{nameIf, importableName}
-use Rattle.path_rules.proofs.OfferLaws.{name-taken, name-left}
-use Rattle.path_rules.proofs.offers.importable_name.Statement.{statement}
-use Rattle.path_rules.proofs.offers.importable_name.Tie as tie
+use Rattle.path_offers.proofs.OfferLaws.{name-taken, name-left}
+use Rattle.path_offers.proofs.offers.importable_name.Statement.{statement}
+use Rattle.path_offers.proofs.offers.importable_name.Tie as tie
 
 name-of-requires : tie.Need-name-of-requires
 name-of-requires c κs = search needs

@@ -4,9 +4,9 @@ use denote.Ref.{now}
 use borrow.Author.Tests.{not-true, not-false}
 use Rattle.snapshot.specs.Records.{importAt}
 use Rattle.snapshot.specs.Layouts.{snapOf}
-use Rattle.path_rules.proofs.OfferLaws.{unstably-fits, import-stable, import-barred, import-unstable}
-use Rattle.path_rules.proofs.offers.offer_import.Statement.{statement}
-use Rattle.path_rules.proofs.offers.offer_import.Tie as tie
+use Rattle.path_offers.proofs.OfferLaws.{unstably-fits, import-stable, import-barred, import-unstable}
+use Rattle.path_offers.proofs.offers.offer_import.Statement.{statement}
+use Rattle.path_offers.proofs.offers.offer_import.Tie as tie
 
 import-name-requires : tie.Need-import-name-requires
 import-name-requires c κs = search needs

@@ -1,6 +1,6 @@
-use Rattle.path_rules.proofs.context.plain_if.Statement.{statement}
-use Rattle.path_rules.proofs.OfferLaws.{plain-block, plain-other}
-use Rattle.path_rules.proofs.context.plain_if.Tie as tie
+use Rattle.path_context.proofs.context.plain_if.Statement.{statement}
+use Rattle.path_context.proofs.ContextLaws.{plain-block, plain-other}
+use Rattle.path_context.proofs.context.plain_if.Tie as tie
 
 returns : tie.Need-returns
 returns c = plain-block _ (c .before .args .prefix) (c .if1 .taken)

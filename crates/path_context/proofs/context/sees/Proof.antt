@@ -3,8 +3,8 @@ use mathlib.Core.Path.{ap₂, _∙_}
 use denote.Ref.{now}
 use Rattle.snapshot.specs.Layouts.{snapOf}
 use Rattle.hir_def.specs.Visibility.{isVisibleFrom}
-use Rattle.path_rules.proofs.rules.sees.Statement.{statement}
-use Rattle.path_rules.proofs.rules.sees.Tie as tie
+use Rattle.path_context.proofs.context.sees.Statement.{statement}
+use Rattle.path_context.proofs.context.sees.Tie as tie
 
 scope-visibility-requires : tie.Need-scope-visibility-requires
 scope-visibility-requires c κs = search needs

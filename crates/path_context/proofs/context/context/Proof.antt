@@ -2,9 +2,9 @@ use borrow.Author.Needs.{needs}
 use denote.Ref.{now}
 use Rattle.snapshot.specs.Layouts.{snapOf}
 use Rattle.hir_def.proofs.Fits.{few-words}
-use Rattle.path_rules.proofs.OfferLaws.{context-same}
-use Rattle.path_rules.proofs.context.context.Statement.{statement}
-use Rattle.path_rules.proofs.context.context.Tie as tie
+use Rattle.path_context.proofs.ContextLaws.{context-same}
+use Rattle.path_context.proofs.context.context.Statement.{statement}
+use Rattle.path_context.proofs.context.context.Tie as tie
 
 in-block-requires : tie.Need-in-block-requires
 in-block-requires c κs = search needs

@@ -1,0 +1,116 @@
+//! What is set for a question, what its viewer sees, and the charges on its tank.
+ghost use mathlib.Core.Path.{_≡_};
+ghost use Prim.Native.Nat.{ℕ, _+_, _≤_, _<_, _^_};
+ghost use Rattle.snapshot.specs.Records.{scopeAt};
+ghost use Rattle.snapshot.specs.Layouts.{snapOf};
+ghost use Rattle.accept.specs.Post.{Reads};
+ghost use Rattle.hir_def.specs.Visibility.{sees as seesOf};
+ghost use Rattle.find_path.specs.Rules.{bit as bitOf, plainIf, contextOf};
+ghost use Rattle.find_path.specs.Meters.{fromTank};
+ghost use Rattle.find_path.specs.Conditions.{chargedBy};
+use find_path::Drawn;
+use find_path::FindPathCtx;
+use find_path::Query;
+use find_path::Tank;
+use hir_def::items::is_lang;
+use hir_def::items::supports_no_std;
+use hir_def::modules::crate_root;
+use hir_def::modules::in_block;
+use hir_def::modules::krate;
+use hir_def::modules::no_std;
+use hir_def::visibility::is_visible_from;
+use snapshot::ids::ModuleId;
+use snapshot::layout::Layout;
+use snapshot::record::scope_number;
+use snapshot::record::scope_visibility;
+
+/// Prefixes.
+pub struct PrefixKind(pub usize);
+
+impl PrefixKind {
+    pub const BY_SELF: usize = 0;
+
+    pub const PLAIN: usize = 1;
+
+    pub const BY_CRATE: usize = 2;
+}
+
+// The bit of that value.
+fn bit(n: usize, value: usize) -> bool
+    requires { ⌜ 0 < value ⌝ }
+    ensures { λ r. ⌜ r ≡ bitOf n value ⌝ }
+{
+    n / value % 2 == 1
+}
+
+fn plain_if(block: bool, prefix: usize) -> usize
+    ensures { λ r. ⌜ r ≡ plainIf block prefix ⌝ }
+{
+    if block {
+        return PrefixKind::PLAIN;
+    }
+    prefix
+}
+
+/// What is set for a question about an item of that home.
+pub fn context(words: &[u32], area: &[u32], l: Layout, q: Query, home: ModuleId) -> FindPathCtx
+    requires { ⌜ Reads (now words) (now area) l × (q .from < l .modules) × (home .0 < l .modules) ⌝ }
+    ensures { λ r. ⌜ r ≡ contextOf (snapOf (now (words .entry)) (now (area .entry)) l) q (home .0) ⌝ }
+{
+    let options = q.options;
+    let from = ModuleId(q.from);
+    let prefix = plain_if(in_block(words, area, l, home), q.prefix);
+    let here = krate(words, area, l, from);
+    let map = no_std(words, area, l, from);
+    let its = supports_no_std(words, l, here);
+    let nostd = bit(options, 1) | (map | its);
+    let prelude = bit(options, 2);
+    let absolute = bit(options, 4);
+    let unstable = bit(options, 8);
+    let declared = bit(options, 16);
+    let std = is_lang(words, l, krate(words, area, l, home));
+    let root = crate_root(words, area, l, from);
+    FindPathCtx {
+        prefix: prefix,
+        nostd: nostd,
+        prelude: prelude,
+        absolute: absolute,
+        unstable: unstable,
+        declared: declared,
+        std: std,
+        from: q.from,
+        krate: here.0,
+        root: root.0,
+    }
+}
+
+/// Whether the viewer sees the entry with its head at a place.
+pub fn sees(words: &[u32], area: &[u32], l: Layout, x: FindPathCtx, h: usize) -> bool
+    requires { ⌜ Reads (now words) (now area) l × (x .from < l .modules) × (2 ≤ scopeAt (now words) h .visibility → scopeAt (now words) h .number < l .modules) ⌝ }
+    ensures { λ r. ⌜ r ≡ seesOf (snapOf (now (words .entry)) (now (area .entry)) l) (x .from) (scopeAt (now (words .entry)) h) ⌝ }
+{
+    let kind = scope_visibility(words, h);
+    let number = scope_number(words, h);
+    is_visible_from(words, area, l, kind, number, ModuleId(x.from))
+}
+
+/// A charge: it takes one from the fuel and is counted; at fuel 0 it stops, and the tank is found empty.
+pub fn charge(t: Tank) -> Drawn
+    requires { ⌜ t .fuel + t .spent < 2 ^ 32 ⌝ }
+    ensures { λ r. ⌜ chargedBy r ≡ fromTank t ⌝ }
+{
+    let fuel = t.fuel;
+    let spent = t.spent;
+    if fuel == 0 {
+        return Drawn::Stop(Tank {
+            fuel: 0,
+            spent: spent,
+            empty: true,
+        });
+    }
+    Drawn::Go(Tank {
+        fuel: fuel - 1,
+        spent: spent + 1,
+        empty: t.empty,
+    })
+}

@@ -1,0 +1,2 @@
+//! What is set for a question.
+pub mod context;

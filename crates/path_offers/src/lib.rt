@@ -1,0 +1,2 @@
+//! What a step of a search offers.
+pub mod offers;
