@@ -17,7 +17,6 @@ use Rattle.snapshot.proofs.Laws.{getD-rows, length-rows, rows-part}
 use Rattle.accept.specs.Post.{Reads}
 use Rattle.accept.proofs.Accepted.{by-test}
 use Rattle.printing.specs.Output as P
-use Rattle.printing.specs.Output.{Put}
 use Rattle.printing.proofs.Laws.{decimal-last, decimal-more as P-more}
 use Rattle.find_path.specs.declared.Report.{Report}
 use Rattle.find_path.specs.Choices.{nameData, nameLen}
@@ -70,14 +69,6 @@ unfolding part
 third-byte ws i w e h g =
     let q : 2 ≡ i % 3 = omega arith in
     ap₂ part e q ∙ byte-at ws i
-
--- a text of which so many bytes stand
-pub put-bytes : (old new T : List ℕ) (at i n : ℕ) → take (at + i) new ≡ take at old ++ take i T → i ≤ n → n ≤ i → n ≤ length T
-    → Put old at (take n T) new (at + i)
-put-bytes old new T at i n e h k g =
-    let q : i ≡ n = omega arith in
-    let m : length (take n T) ≡ n = simp length-take (omega arith) in
-    record { next = omega arith; same = e ∙ ap (λ x. take at old ++ take x T) q }
 
 -- names
 

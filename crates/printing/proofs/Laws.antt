@@ -1,15 +1,15 @@
 -- Laws of words that are read from bytes, and of text that is put into bytes.
 use Prim.Native.Nat.{ℕ, zero, suc, _+_, _-_, _≤_, _<_, _/_, _%_}
 use mathlib.Core.Path.{_≡_, refl, sym, _∙_, ap, ap₂, subst}
-use mathlib.Core.List.{List, [], _∷_, _++_, append-assoc}
+use mathlib.Core.List.{List, [], _∷_, _++_, append-assoc, append-nil}
 use mathlib.Core.Bool.{Bool, true, false}
 use native.Mathlib.Omega.{arith}
 use native.Mathlib.Numerals.{add-one}
 use native.Mathlib.Nat.{add-zero}
 use borrow.Author.Tests.{lt-ltb, le-ltb}
 use lib.Dec.{ltb}
-use lib.ListN.{length, getD, take, set, length-append}
-use lib.Seq.{take-suc, take-suc-set, take-length}
+use lib.ListN.{length, getD, take, drop, set, length-append, take-append-drop}
+use lib.Seq.{take-suc, take-suc-set, take-length, length-take-le, drop-set-lt, drop-drop}
 use Rattle.snapshot.specs.Lists.{rows}
 use Rattle.snapshot.proofs.Laws.{rows-snoc}
 use Rattle.printing.specs.Output.{Put, decimalTo}
@@ -24,46 +24,65 @@ pub words-next : (f : ℕ → ℕ) (ws : List ℕ) (k v : ℕ) → k < length ws
 words-next f ws k v h e q =
     ap (λ n. take n (set ws k v)) (add-one k) ∙ take-suc-set ws k v h ∙ ap₂ (λ l x. l ++ (x ∷ [])) e q ∙ sym (rows-snoc f k)
 
-append-none : (l : List ℕ) → l ≡ l ++ []
-append-none [] = refl
-append-none (x ∷ l) = ap (λ m. x ∷ m) (append-none l)
-
--- one byte more of a text
-pub put-next : (old out text : List ℕ) (at i : ℕ) → take (at + i) out ≡ take at old ++ take i text → at + i < length out
-    → i < length text → take (at + (i + 1)) (set out (at + i) (getD text i 0)) ≡ take at old ++ take (i + 1) text
-put-next old out text at i e h p =
-    let q : at + (i + 1) ≡ suc (at + i) = omega arith in
-    ap (λ n. take n (set out (at + i) (getD text i 0))) q
-    ∙ take-suc-set out (at + i) (getD text i 0) h
-    ∙ ap (λ l. l ++ (getD text i 0 ∷ [])) e
-    ∙ append-assoc (take at old) (take i text) (getD text i 0 ∷ [])
-    ∙ ap (λ l. take at old ++ l) (sym (take-suc text i 0 p) ∙ ap (λ n. take n text) (sym (add-one i)))
-
-pub put-start : (old text : List ℕ) (at : ℕ) → take (at + 0) old ≡ take at old ++ take 0 text
-put-start old text at = ap (λ n. take n old) (add-zero at) ∙ append-none _
-
-pub put-end : (old new text : List ℕ) (at i : ℕ) → take (at + i) new ≡ take at old ++ take i text → i ≤ length text
-    → length text ≤ i → Put old at text new (at + i)
-put-end old new text at i e h p =
-    let q : i ≡ length text = omega arith in
-    record { next = ap (λ n. at + n) q; same = e ∙ ap (λ n. take at old ++ take n text) q ∙ ap (λ l. take at old ++ l) (take-length text) }
-
 -- no piece
 pub put-none : (old : List ℕ) (at : ℕ) → Put old at [] old at
-put-none old at = record { next = omega arith; same = append-none _ }
+put-none old at = record { next = omega arith; same = sym (append-nil _); rest = refl }
 
 -- the same text, told otherwise
 pub put-as : {old new a b : List ℕ} {at r : ℕ} → a ≡ b → Put old at a new r → Put old at b new r
 put-as {old} {new} {a} {b} {at} {r} e p = subst (λ (x : List ℕ). Put old at x new r) e p
 
+-- what stays from a place on stays from a later one on
+later : (a b : List ℕ) (r t : ℕ) → r ≤ t → drop r a ≡ drop r b → drop t a ≡ drop t b
+later a b r t h e =
+    let q : r + (t - r) ≡ t = omega arith in
+    ap (λ k. drop k a) (sym q) ∙ sym (drop-drop (t - r) r a) ∙ ap (drop (t - r)) e ∙ drop-drop (t - r) r b ∙ ap (λ k. drop k b) q
+
 -- a piece after a piece
 pub put-two : {old mid new a b : List ℕ} {at r t : ℕ} → Put old at a mid r → Put mid r b new t → Put old at (a ++ b) new t
 put-two {old} {mid} {new} {a} {b} {at} {r} {t} p q =
     let l : length (a ++ b) ≡ length a + length b = length-append a b in
+    let x = p .next in
+    let y = q .next in
     record {
-      next = let x = p .next in let y = q .next in omega arith;
+      next = omega arith;
       same = q .same ∙ ap (λ l. l ++ b) (p .same) ∙ append-assoc (take at old) a b;
+      rest = q .rest ∙ later mid old r t (omega arith) (p .rest);
     }
+
+-- bytes with a text at their front, whole
+pub put-whole : {old new text : List ℕ} {r : ℕ} → Put old 0 text new r → new ≡ text ++ drop r old
+put-whole {old} {new} {text} {r} p = sym (take-append-drop r new) ∙ ap₂ (λ x y. x ++ y) (p .same) (p .rest)
+
+-- a text of which i bytes stand
+
+pub put-start : (old text : List ℕ) (at : ℕ) → Put old at (take 0 text) old (at + 0)
+put-start old text at =
+    record { next = refl; same = ap (λ n. take n old) (add-zero at) ∙ sym (append-nil _); rest = refl }
+
+-- one byte more
+pub put-next : (old out text : List ℕ) (at i v : ℕ) → Put old at (take i text) out (at + i) → at + i < length out → i < length text
+    → v ≡ getD text i 0 → Put old at (take (i + 1) text) (set out (at + i) v) (at + (i + 1))
+put-next old out text at i v e h p q =
+    let n : at + (i + 1) ≡ suc (at + i) = omega arith in
+    let m : length (take (i + 1) text) ≡ i + 1 = length-take-le (i + 1) text (omega arith) in
+    let t : take i text ++ (v ∷ []) ≡ take (i + 1) text =
+    ap (λ x. take i text ++ (x ∷ [])) q ∙ sym (take-suc text i 0 p) ∙ ap (λ k. take k text) (sym (add-one i)) in
+    record {
+      next = ap (λ k. at + k) (sym m);
+      same = ap (λ k. take k (set out (at + i) v)) n
+          ∙ take-suc-set out (at + i) v h
+          ∙ ap (λ l. l ++ (v ∷ [])) (e .same)
+          ∙ append-assoc (take at old) (take i text) (v ∷ [])
+          ∙ ap (λ l. take at old ++ l) t;
+      rest = drop-set-lt (at + (i + 1)) out (at + i) v (omega arith) ∙ later out old (at + i) (at + (i + 1)) (omega arith) (e .rest);
+    }
+
+pub put-end : (old new text : List ℕ) (at i : ℕ) → Put old at (take i text) new (at + i) → i ≤ length text → length text ≤ i
+    → Put old at text new (at + i)
+put-end old new text at i e h p =
+    let q : i ≡ length text = omega arith in
+    put-as (ap (λ n. take n text) q ∙ take-length text) e
 
 -- digits
 

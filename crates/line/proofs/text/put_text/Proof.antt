@@ -1,17 +1,17 @@
 use Prim.Native.Nat.{_+_, _-_, _≤_, _<_}
 use mathlib.Core.Path.{_≡_, refl, _∙_, ap}
-use mathlib.Core.List.{_++_}
 use native.Mathlib.Omega.{arith}
 use denote.Ref.{now}
-use lib.ListN.{length, take, set, length-set}
-use Rattle.line.proofs.Laws.{length-unpacked, put-bytes}
-use Rattle.printing.proofs.Laws.{put-start, put-next}
+use lib.ListN.{length, take, length-set}
+use Rattle.line.proofs.Laws.{length-unpacked}
+use Rattle.printing.specs.Output.{Put}
+use Rattle.printing.proofs.Laws.{put-start, put-next, put-as}
 use Rattle.find_path.specs.Line.{unpacked}
 use Rattle.line.proofs.text.put_text.Statement.{statement}
 use Rattle.line.proofs.text.put_text.Tie as tie
 
 abbrev Inv-loop : tie.InvT-loop
-Inv-loop out₀ at text n i₀ out i = (i ≤ n) × (length out ≡ length out₀) × (take (at + i) out ≡ take at out₀ ++ take i (unpacked text))
+Inv-loop out₀ at text n i₀ out i = (i ≤ n) × (length out ≡ length out₀) × Put out₀ at (take i (unpacked text)) out (at + i)
 
 abbrev μ-loop : tie.MeasureT-loop
 μ-loop out₀ at text n i₀ out i = n - i
@@ -43,8 +43,7 @@ loop-again c =
     let p : l .i < length (unpacked (now (a .text))) = omega arith in (
       omega arith,
       (simp length-set) ∙ l .inv .1,
-      ap (λ v. take (a .at + (l .i + 1)) (set (l .out) (a .at + l .i) v)) (c .text-byte .ensures)
-          ∙ put-next (now (a .out)) (l .out) (unpacked (now (a .text))) (a .at) (l .i) (l .inv .2) h p,
+      put-next (now (a .out)) (l .out) (unpacked (now (a .text))) (a .at) (l .i) _ (l .inv .2) h p (c .text-byte .ensures),
     )
 
 add-result : tie.Need-add-result Inv-loop μ-loop
@@ -57,8 +56,8 @@ returns : tie.Need-returns Inv-loop μ-loop
 returns c =
     let l = c .before .loop in
     let a = c .before .before .before .before .args in
-    let u = length-unpacked (now (a .text)) in
-    (put-bytes (now (a .out)) (l .out) (unpacked (now (a .text))) (a .at) (l .i) (a .n) (l .inv .2) (omega arith) (omega arith) (omega arith), omega arith)
+    let e : l .i ≡ a .n = omega arith in
+    (put-as (ap (λ n. take n (unpacked (now (a .text)))) e) (l .inv .2), omega arith)
 
 pub put-text-spec : {M : Type 1} → statement M
 put-text-spec =

@@ -1,15 +1,15 @@
 use Prim.Native.Nat.{_+_, _-_, _≤_, _<_}
 use mathlib.Core.Path.{_≡_, refl, _∙_}
-use mathlib.Core.List.{_++_}
 use native.Mathlib.Omega.{arith}
 use denote.Ref.{now}
 use lib.ListN.{length, take, length-set}
+use Rattle.printing.specs.Output.{Put}
 use Rattle.printing.proofs.Laws.{put-start, put-next, put-end}
 use Rattle.printing.proofs.output.put.Statement.{statement}
 use Rattle.printing.proofs.output.put.Tie as tie
 
 abbrev Inv-loop : tie.InvT-loop
-Inv-loop out₀ at text i₀ out i = (i ≤ length text) × (length out ≡ length out₀) × (take (at + i) out ≡ take at out₀ ++ take i text)
+Inv-loop out₀ at text i₀ out i = (i ≤ length text) × (length out ≡ length out₀) × Put out₀ at (take i text) out (at + i)
 
 abbrev μ-loop : tie.MeasureT-loop
 μ-loop out₀ at text i₀ out i = length text - i
@@ -38,7 +38,7 @@ loop-again c =
     let l = c .before .before .loop in
     let h : a .at + l .i < length (l .out) = omega arith in
     let p : l .i < length (now (a .text)) = omega arith in
-    (omega arith, (simp length-set) ∙ l .inv .1, put-next (now (a .out)) (l .out) (now (a .text)) (a .at) (l .i) (l .inv .2) h p)
+    (omega arith, (simp length-set) ∙ l .inv .1, put-next (now (a .out)) (l .out) (now (a .text)) (a .at) (l .i) _ (l .inv .2) h p refl)
 
 add-result : tie.Need-add-result Inv-loop μ-loop
 add-result c = omega arith
