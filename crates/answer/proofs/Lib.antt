@@ -1,2 +1,3 @@
 pub mod Areas
+pub mod Lined
 pub mod Pairs

@@ -1,1 +1,2 @@
 pub mod Questioned
+pub mod Lines

@@ -1,3 +1,4 @@
-//! Questions put to words that were checked: what a caller is refused for, and the report.
+//! Questions put to words that were checked: what a caller is refused for, the report, and its line.
 pub mod checked;
 pub mod faults;
+pub mod lines;

@@ -1,6 +1,6 @@
 -- Laws of the printed lines.
 use Prim.Native.Nat.{ℕ, zero, suc, _+_, _-_, _%_, _≤_, _<_, min}
-use mathlib.Core.Path.{_≡_, refl, sym, _∙_, ap, ap₂, subst}
+use mathlib.Core.Path.{_≡_, sym, _∙_, ap, ap₂}
 use mathlib.Core.List.{List, [], _∷_, _++_}
 use mathlib.Core.Bool.{Bool, true, false, _&&_}
 use native.Mathlib.Omega.{arith}
@@ -12,23 +12,17 @@ use lib.Seq.{length-take-le}
 use Rattle.io.specs.Counts.{Counts}
 use Rattle.snapshot.specs.Words.{kindOf, payOf}
 use Rattle.snapshot.specs.Records.{Snapshot}
-use Rattle.snapshot.specs.Layouts.{snapOf}
-use Rattle.snapshot.specs.declared.layout.Layout.{Layout}
-use Rattle.accept.specs.Verdict.{Verdict, refuse, accept, verdict, empty}
-use Rattle.accept.specs.Post.{Reads, Judged}
+use Rattle.accept.specs.Verdict.{empty}
+use Rattle.accept.specs.Post.{Judged}
 use Rattle.accept.specs.declared.check.Checked.{Checked}
-use Rattle.accept.specs.declared.check.Checked.the-variants.{Refused, Accepted}
 use Rattle.accept.proofs.Accepted.{by-test}
 use Rattle.printing.specs.Output.{Put}
 use Rattle.find_path.specs.declared.Question.{Question}
-use Rattle.find_path.specs.declared.Report.{Report}
-use Rattle.find_path.specs.Report.{callFault, refused, reportBy, reportUnless, reportOf}
-use Rattle.find_path.specs.Line.{bytesOf, lineIn, lineOf, snapshotOf}
-use Rattle.find_path.proofs.Reports.{report-bounded}
-use Rattle.checked.specs.Questioned.{Questioned}
+use Rattle.find_path.specs.Report.{refused}
+use Rattle.find_path.specs.Line.{bytesOf, lineIn, lineOf}
+use Rattle.checked.specs.Lines.{LineOn}
 use Rattle.printer.specs.declared.lines.Turn.{Turn}
 use Rattle.printer.specs.Printed.{firstFrom, questionsAt, isArgument, wholeAt, questionAt, lineAt, nextAt, inputFault, Printed}
-use Rattle.printer.specs.Lines.{LineOf}
 
 -- faults of an input
 
@@ -101,59 +95,6 @@ counts-of {old} {out} {t} {n} p =
 pub refusal-counts : {old out : List ℕ} {n : ℕ} (k : ℕ) → ((s : Snapshot) → Put old 0 (lineIn s (refused k) ++ bytesOf "\n") out n) → Counts n out
 refusal-counts k p = counts-of (p empty)
 
-numbered : (r : Report) (k : ℕ) → r ≡ refused k → r ≡ refused (r .number)
-unfolding refused
-numbered r k e = e ∙ ap refused (sym (ap (λ (x : Report). x .number) e))
-
-module _ (S : List ℕ) (q : Question) where
-  by-verdict : (v : Verdict) (n place : ℕ) → v ≡ refuse n place → reportBy (q .query) (q .fuel) v ≡ refused n
-  unfolding reportBy
-  by-verdict v n place e = ap (reportBy (q .query) (q .fuel)) e
-
-  by-call : (m n place : ℕ) → verdict S ≡ refuse n place
-      → reportUnless S (q .query) (q .fuel) m ≡ refused (reportUnless S (q .query) (q .fuel) m .number)
-  unfolding reportUnless
-  by-call zero n place e = numbered _ n (by-verdict (verdict S) n place e)
-  by-call (suc m) n place e = numbered _ (suc m) refl
-
-  -- a refused snapshot refuses each question
-  refusal-only : (n place : ℕ) → verdict S ≡ refuse n place → reportOf S 16384 q ≡ refused (reportOf S 16384 q .number)
-  unfolding reportOf
-  refusal-only n place e = by-call (callFault 16384 (q .query) (q .fuel)) n place e
-
-  module _ (A : List ℕ) (c : Checked) (r : Report) (a : Questioned S q c A r) where
-    pub reads-of : (l : Layout) → c ≡ Accepted l → Reads S A l
-    reads-of l e =
-        let j : Judged S A (Accepted l) = subst (λ (x : Checked). Judged S A x) e (a .checked) in
-        record { same = sym (j .same); tables = j .tables }
-
-    pub few-names : r .count ≤ 16
-    few-names = rw (a .report) (report-bounded S 16384 q .few)
-
-    module _ (old out : List ℕ) (t : ℕ) where
-      pub line-refused : (n place : ℕ) → c ≡ Refused n place
-          → ((s : Snapshot) → Put old 0 (lineIn s (refused (r .number)) ++ bytesOf "\n") out t) → LineOf S c q A out t
-      unfolding lineOf
-      line-refused n place e p =
-          let v : verdict S ≡ refuse n place = sym (subst (λ (x : Checked). Judged S A x) e (a .checked) .same) in
-          let u : refused (r .number) ≡ reportOf S 16384 q = ap (λ (x : Report). refused (x .number)) (a .report) ∙ sym (refusal-only n place v) in
-          let w = p (snapshotOf (verdict S)) in
-          record {
-            line = w .same ∙ ap (λ x. lineIn (snapshotOf (verdict S)) x ++ bytesOf "\n") u;
-            counts = counts-of w;
-            checked = a .checked;
-          }
-
-      pub line-accepted : (l : Layout) → c ≡ Accepted l → Put old 0 (lineIn (snapOf S A l) r ++ bytesOf "\n") out t → LineOf S c q A out t
-      unfolding lineOf snapshotOf
-      line-accepted l e p =
-          let v : snapOf S A l ≡ snapshotOf (verdict S) = ap snapshotOf (subst (λ (x : Checked). Judged S A x) e (a .checked) .same) in
-          record {
-            line = p .same ∙ ap₂ (λ x y. lineIn x y ++ bytesOf "\n") v (a .report);
-            counts = counts-of p;
-            checked = a .checked;
-          }
-
 -- a turn
 
 module _ (W S : List ℕ) (c : Checked) (i : ℕ) (A out : List ℕ) where
@@ -171,14 +112,14 @@ module _ (W S : List ℕ) (c : Checked) (i : ℕ) (A out : List ℕ) where
         checked = j;
       }
 
-  pub turn-line : (n : ℕ) (b : Bool) (q : Question) → b ≡ wholeAt W i → b ≡ true → q ≡ questionAt W i → LineOf S c q A out n
+  pub turn-line : (old : List ℕ) (n : ℕ) (b : Bool) (q : Question) → b ≡ wholeAt W i → b ≡ true → q ≡ questionAt W i → LineOn S q c A old out n
       → Printed W S c i A out (record { bytes = n; next = i + 6 })
   unfolding lineAt nextAt
-  turn-line n b q e t h p =
+  turn-line old n b q e t h p =
       let f : wholeAt W i ≡ true = sym e ∙ t in
       record {
-        line = p .line ∙ ap (λ x. lineOf S x ++ bytesOf "\n") h ∙ sym (rw (lineAt, f));
-        counts = p .counts;
+        line = p .line .same ∙ ap (λ x. lineOf S x ++ bytesOf "\n") h ∙ sym (rw (lineAt, f));
+        counts = counts-of (p .line);
         next = sym (rw (nextAt, f));
         checked = p .checked;
       }

@@ -4,32 +4,11 @@ ghost use Prim.Native.Nat.{ℕ, _≤_, _<_};
 ghost use lib.ListN.{length};
 ghost use Rattle.accept.specs.Post.{Judged};
 ghost use Rattle.printer.specs.Printed.{Printed};
-ghost use Rattle.printer.specs.Lines.{LineOf};
 use crate::questions::is_whole;
 use crate::questions::question_at;
 use accept::check::Checked;
-use checked::checked::report_on;
-use find_path::Question;
-use line::line::put_line;
+use checked::lines::line_on;
 use line::line::put_refusal;
-
-// The line of a question on checked words, which stay so.
-fn question_line(
-    snapshot: &[u32],
-    area: &mut [u32],
-    c: Checked,
-    q: Question,
-    out: &mut [u8],
-) -> usize
-    requires { ⌜ Judged (now snapshot) (now area) c × (length (now area) ≡ 16384) × (4166 ≤ length (now out)) ⌝ }
-    ensures { λ r. ⌜ LineOf (now (snapshot .entry)) c q (now (area .exit)) (now (out .exit)) r ⌝ }
-{
-    let r = report_on(snapshot, area, c, q);
-    match c {
-        Checked::Refused(_, _) => put_refusal(out, r.number),
-        Checked::Accepted(l) => put_line(out, snapshot, area, l, r),
-    }
-}
 
 /// How many bytes a line has, and the place after what it is for.
 pub struct Turn {
@@ -57,7 +36,7 @@ pub fn next_line(
         };
     }
     let q = question_at(words, at);
-    let n = question_line(snapshot, area, c, q, out);
+    let n = line_on(snapshot, area, c, q, out);
     Turn {
         bytes: n,
         next: at + 6,

@@ -22,8 +22,8 @@ returns c =
 question-at-requires : tie.Need-question-at-requires
 question-at-requires c κs = search needs
 
-question-line-requires : tie.Need-question-line-requires
-question-line-requires c κs = search needs
+line-on-requires : tie.Need-line-on-requires
+line-on-requires c κs = search needs
 
 add-t19 : tie.Need-add-t19
 add-t19 c = search needs
@@ -37,7 +37,7 @@ same-length-3 c = search needs
 returns-2 : tie.Need-returns-2
 returns-2 c =
     let s = c .before .before .before .before .before .before .before .before .before .before .before .before .before .before .args in
-    turn-line (now (s .words)) (now (s .snapshot)) (s .c) (s .at) _ _ _ _ _ (c .before .before .before .before .before .before .before .before .before .is-whole .ensures) (not-false _ (c .before .before .before .before .before .before .before .before .if1 .left)) (c .before .before .before .before .before .before .before .question-at .ensures) (c .before .before .before .before .question-line .ensures)
+    turn-line (now (s .words)) (now (s .snapshot)) (s .c) (s .at) _ _ _ _ _ _ (c .before .before .before .before .before .before .before .before .before .is-whole .ensures) (not-false _ (c .before .before .before .before .before .before .before .before .if1 .left)) (c .before .before .before .before .before .before .before .question-at .ensures) (c .before .before .before .before .line-on .ensures)
 
 pub next-line-spec : {M : Type 1} → statement M
 next-line-spec =
@@ -48,7 +48,7 @@ next-line-spec =
     same-length
     returns
     question-at-requires
-    question-line-requires
+    line-on-requires
     add-t19
     same-length-2
     same-length-3

@@ -1,8 +1,9 @@
 use borrow.Author.Needs.{needs}
 use denote.Ref.{now}
-use Rattle.printer.proofs.Laws.{reads-of, few-names, line-refused, line-accepted}
-use Rattle.printer.proofs.lines.question_line.Statement.{statement}
-use Rattle.printer.proofs.lines.question_line.Tie as tie
+use Rattle.checked.proofs.Laws.{reads-of}
+use Rattle.checked.proofs.Putting.{few-names, line-refused, line-accepted}
+use Rattle.checked.proofs.lines.line_on.Statement.{statement}
+use Rattle.checked.proofs.lines.line_on.Tie as tie
 
 report-on-requires : tie.Need-report-on-requires
 report-on-requires c κs = search needs
@@ -20,9 +21,9 @@ put-line-requires : tie.Need-put-line-requires
 put-line-requires c κs =
     let s = c .before .before .before .before .before .before .before .before .before .before .before .before in
     let a = c .before .before .before .before .before .before .before .report-on in (
-      reads-of (now (s .args .snapshot)) (s .args .q) (a .last .1 .0) (s .args .c) (a .result) (a .ensures) _ (c .before .before .before .c .given .1),
+      reads-of (now (s .args .words)) (a .last .1 .0) (s .args .c) (a .ensures .checked) _ (c .before .before .before .c .given .1),
       s .pre .2,
-      few-names (now (s .args .snapshot)) (s .args .q) (a .last .1 .0) (s .args .c) (a .result) (a .ensures),
+      few-names (now (s .args .words)) (s .args .question) (a .last .1 .0) (s .args .c) (a .result) (a .ensures),
     )
 
 same-length : tie.Need-same-length
@@ -35,7 +36,7 @@ returns : tie.Need-returns
 returns c =
     let s = c .before .before .before .before .before .before .before .before .before .before .before .before .before .args in
     let a = c .before .before .before .before .before .before .before .before .report-on in
-    line-refused (now (s .snapshot)) (s .q) (a .last .1 .0) (s .c) (a .result) (a .ensures) _ _ _ _ _ (c .before .before .before .before .enum-told .given .1) (c .before .before .put-refusal .ensures)
+    line-refused (now (s .words)) (s .question) (a .last .1 .0) (s .c) (a .result) (a .ensures) _ _ _ _ _ (c .before .before .before .before .enum-told .given .1) (c .before .before .put-refusal .ensures)
 
 same-length-3 : tie.Need-same-length-3
 same-length-3 c = search needs
@@ -47,10 +48,10 @@ returns-2 : tie.Need-returns-2
 returns-2 c =
     let s = c .before .before .before .before .before .before .before .before .before .before .before .before .before .before .before .args in
     let a = c .before .before .before .before .before .before .before .before .before .before .report-on in
-    line-accepted (now (s .snapshot)) (s .q) (a .last .1 .0) (s .c) (a .result) (a .ensures) _ _ _ _ (c .before .before .before .before .before .before .c .given .1) (c .before .before .put-line .ensures)
+    line-accepted (now (s .words)) (s .question) (a .last .1 .0) (s .c) (a .result) (a .ensures) _ _ _ _ (c .before .before .before .before .before .before .c .given .1) (c .before .before .put-line .ensures)
 
-pub question-line-spec : {M : Type 1} → statement M
-question-line-spec =
+pub line-on-spec : {M : Type 1} → statement M
+line-on-spec =
     tie.close
     (tie.spec
     report-on-requires

@@ -1,0 +1,53 @@
+-- Laws of the entry point that prints a line.
+use Prim.Native.Nat.{ℕ, _≤_, _<_}
+use mathlib.Core.Path.{_≡_, refl, sym, _∙_, ap}
+use mathlib.Core.List.{List, _++_}
+use mathlib.Core.Bool.{true, false}
+use native.Mathlib.Omega.{arith}
+use borrow.Author.Tests.{lt-ltb, le-ltb}
+use lib.ListN.{length, drop}
+use Rattle.snapshot.specs.Records.{Snapshot}
+use Rattle.accept.specs.Verdict.{verdict}
+use Rattle.printing.specs.Output.{Put}
+use Rattle.printing.proofs.Laws.{put-as, put-whole}
+use Rattle.find_path.specs.declared.Question.{Question}
+use Rattle.find_path.specs.declared.Report.{Report}
+use Rattle.find_path.specs.Report.{refused, reportOf}
+use Rattle.find_path.specs.Line.{bytesOf, lineIn, lineOf, snapshotOf}
+use Rattle.answer.specs.Answers.{zeros, Answers}
+use Rattle.answer.specs.Lined.{endedLine, areaLined, Lined}
+use Rattle.answer.proofs.Areas.{answers-small, answers-large}
+
+module _ (W A : List ℕ) (q : Question) (old : List ℕ) where
+  pub lined-none : length old < 4166 → Lined W A q old A old 0
+  unfolding endedLine areaLined
+  lined-none h =
+      record {
+        count = sym (rw (endedLine, lt-ltb _ _ h));
+        bytes = sym (rw (endedLine, lt-ltb _ _ h));
+        area = sym (rw (areaLined, lt-ltb _ _ h));
+      }
+
+  module _ (room : 4166 ≤ length old) (new : List ℕ) (n : ℕ) where
+    -- the line of a report that is the answer's
+    lined : (B : List ℕ) (r : Report) → Answers W A q B r → Put old 0 (lineIn (snapshotOf (verdict W)) r ++ bytesOf "\n") new n
+        → Lined W A q old B new n
+    unfolding endedLine areaLined
+    lined B r a p =
+        let e : lineIn (snapshotOf (verdict W)) r ++ bytesOf "\n" ≡ endedLine W (length A) q (length old) =
+        ap (λ x. lineIn (snapshotOf (verdict W)) x ++ bytesOf "\n") (a .report) ∙ sym (rw (endedLine, le-ltb _ _ room)) in
+        let t = put-as e p in
+        let c = t .next in
+        record {
+          count = omega (arith, c);
+          bytes = put-whole t;
+          area = a .area ∙ sym (rw (areaLined, le-ltb _ _ room));
+        }
+
+    pub lined-small : length A < 16384 → ((s : Snapshot) → Put old 0 (lineIn s (refused 20) ++ bytesOf "\n") new n) → Lined W A q old A new n
+    lined-small h p = lined A (refused 20) (answers-small W A q (refused 20) h refl) (p (snapshotOf (verdict W)))
+
+    pub lined-large : (B : List ℕ) → 16384 ≤ length A → B ≡ zeros 16384 → Put old 0 (lineOf W q ++ bytesOf "\n") new n
+        → Lined W A q old (B ++ drop 16384 A) new n
+    unfolding lineOf
+    lined-large B h z p = lined (B ++ drop 16384 A) (reportOf W 16384 q) (answers-large W A q (reportOf W 16384 q) B h refl z) p

@@ -1,0 +1,42 @@
+//! The line of a question put to words that nobody checked yet.
+ghost use mathlib.Core.Path.{_≡_};
+ghost use mathlib.Core.List.{_++_};
+ghost use Prim.Native.Nat.{_≤_};
+ghost use lib.ListN.{length};
+ghost use Rattle.printing.specs.Output.{Put};
+ghost use Rattle.find_path.specs.Line.{bytesOf, lineOf};
+ghost use Rattle.answer.specs.Answers.{zeros};
+ghost use Rattle.answer.specs.Lined.{Lined};
+use crate::area::clear;
+use accept::check::check;
+use checked::lines::LineBytes;
+use checked::lines::line_on;
+use checked::lines::put_refusal;
+use find_path::Question;
+use snapshot::ids::WordCount;
+
+// The line, in a work area that serves and is cleared.
+fn line_within(words: &[u32], area: &mut [u32], question: Question, out: &mut [u8]) -> usize
+    requires { ⌜ (length (now area) ≡ 16384) × (4166 ≤ length (now out)) ⌝ }
+    ensures { λ n. ⌜ Put (now (out .entry)) 0 (lineOf (now (words .entry)) question ++ bytesOf "\n") (now (out .exit)) n ⌝ }
+    ensures { λ _. ⌜ now (area .exit) ≡ zeros 16384 ⌝ }
+{
+    let c = check(words, area);
+    let n = line_on(words, area, c, question, out);
+    clear(area);
+    n
+}
+
+/// Puts the line of a question on the words of a snapshot at the front, with its end (byte 10), and answers how many bytes these
+/// are. The work area is left as `find_path` leaves it. With fewer than `LineBytes::LIMIT` bytes it answers 0 and changes nothing.
+pub fn find_line(words: &[u32], area: &mut [u32], question: Question, out: &mut [u8]) -> usize
+    ensures { λ n. ⌜ Lined (now (words .entry)) (now (area .entry)) question (now (out .entry)) (now (area .exit)) (now (out .exit)) n ⌝ }
+{
+    if out.len() < LineBytes::LIMIT {
+        return 0;
+    }
+    if area.len() < WordCount::AREA {
+        return put_refusal(out, 20);
+    }
+    line_within(words, &mut area[..16384], question, out)
+}
