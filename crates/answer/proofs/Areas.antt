@@ -30,19 +30,25 @@ clear-done A B i e h k =
 
 -- an entry point
 
+pub area-small : (A : List ℕ) → length A < 16384 → A ≡ areaAfter A
+unfolding areaAfter
+area-small A h = sym (rw (areaAfter, lt-ltb _ _ h))
+
+pub area-large : (A B : List ℕ) → 16384 ≤ length A → B ≡ zeros 16384 → B ++ drop 16384 A ≡ areaAfter A
+unfolding areaAfter
+area-large A B h z = ap (λ x. x ++ drop 16384 A) z ∙ sym (rw (areaAfter, le-ltb _ _ h))
+
 module _ (W A : List ℕ) (q : Question) (r : Report) where
   pub answers-small : length A < 16384 → r ≡ refused 20 → Answers W A q A r
-  unfolding areaAfter
   answers-small h e =
       record {
         report = report-fault W (length A) q r 20 (small (length A) (q .query) (q .fuel) h) (λ z. omega arith) e;
-        area = sym (rw (areaAfter, lt-ltb _ _ h));
+        area = area-small A h;
       }
 
   pub answers-large : (B : List ℕ) → 16384 ≤ length A → r ≡ reportOf W 16384 q → B ≡ zeros 16384 → Answers W A q (B ++ drop 16384 A) r
-  unfolding areaAfter
   answers-large B h e z =
       record {
         report = e ∙ same-report W 16384 (length A) q (omega arith) h;
-        area = ap (λ x. x ++ drop 16384 A) z ∙ sym (rw (areaAfter, le-ltb _ _ h));
+        area = area-large A B h z;
       }

@@ -1,18 +1,20 @@
 //! The functions of the static library, for programs in Rust and C. None keeps a state, and none asks anything of its caller.
+ghost use Rattle.batch.specs.Batch.{Batch};
+ghost use Rattle.batch.specs.Questions.{questionOf};
 ghost use Rattle.exports.specs.Answers.{Answered};
-ghost use Rattle.exports.specs.Questions.{questionOf, Reported};
+ghost use Rattle.exports.specs.Questions.{Reported};
 ghost use Rattle.exports.specs.Texts.{nameText, Copied, Named};
 
-mod question;
 mod text;
 
-use crate::question::question_of;
 use crate::text::copy_text;
 use crate::text::held;
 use accept::check::Checked;
 use accept::check::check;
 use answer::answer::find_path;
 use answer::report::write_report;
+use batch::batch::find_paths;
+use batch::question::question_of;
 use snapshot::ids::Name;
 use snapshot::table::name_head;
 use snapshot::text::text_at;
@@ -94,4 +96,19 @@ pub extern "C" fn kelumavor_find_path(
 {
     let answer = find_path(words, area, question_of(question));
     write_report(answer, report)
+}
+
+/// Answers up to 64 questions of six words each on a snapshot, which is checked once, and writes their reports of 22 words each, one
+/// after the other. Answers 0, or the number by which the whole call is refused, with the reports unwritten: 20 a small work area,
+/// 44 too many questions, a part of one, or too few words for the reports.
+#[no_mangle]
+pub extern "C" fn kelumavor_find_paths(
+    words: &[u32],
+    area: &mut [u32],
+    questions: &[u32],
+    reports: &mut [u32],
+) -> usize
+    ensures { λ r. ⌜ Batch (now (words .entry)) (now (area .entry)) (now (questions .entry)) (now (reports .entry)) (now (area .exit)) (now (reports .exit)) r ⌝ }
+{
+    find_paths(words, area, questions, reports)
 }

@@ -1,9 +1,17 @@
 //! A question that comes in as words.
 ghost use mathlib.Core.Path.{_≡_};
-ghost use Rattle.exports.specs.Questions.{questionOf};
+ghost use Rattle.batch.specs.Questions.{questionOf};
 use find_path::Query;
 use find_path::Question;
 use snapshot::words::word;
+
+/// A number of words.
+pub struct QuestionWords(pub usize);
+
+impl QuestionWords {
+    /// Words of a question.
+    pub const COUNT: usize = 6;
+}
 
 /// The question whose fields the words are.
 pub fn question_of(words: &[u32]) -> Question

@@ -1,0 +1,136 @@
+-- Laws of questions and reports, one after the other.
+use Prim.Native.Nat.{ℕ, zero, suc, _+_, _-_, _*_, _/_, _%_, _≤_, _<_}
+use mathlib.Core.Path.{_≡_, refl, sym, _∙_, ap, ap₂}
+use mathlib.Core.Bool.{Bool, true, false, _&&_, false≢true}
+use mathlib.Core.List.{List, [], _∷_, _++_, append-assoc, append-nil}
+use native.Mathlib.Omega.{arith}
+use native.Mathlib.Numerals.{add-one}
+use borrow.Author.Tests.{lt-ltb, le-ltb, lt-leb, le-leb, leb-true}
+use borrow.Rule.Slice.PartMut.{midOf, putMid, post-is}
+use lib.Dec.{eqb, leb}
+use lib.ListN.{length, take, drop, length-append, length-drop}
+use lib.Seq.{take-all, take-at, drop-at, drop-drop, drop-length}
+use Rattle.find_path.specs.declared.Question.{Question}
+use Rattle.find_path.specs.declared.Report.{Report}
+use Rattle.find_path.specs.Report.{reportOf}
+use Rattle.reports.specs.Written.{reportWords, writtenTo, Written}
+use Rattle.answer.specs.Answers.{zeros}
+use Rattle.answer.proofs.Areas.{area-small, area-large}
+use Rattle.batch.specs.Questions.{questionOf, questionsOf}
+use Rattle.batch.specs.Batch.{batchFits, batchFault, reportsOf, reportsAfter, Batch}
+
+-- what fits
+
+pub fits-not : (n m : ℕ) → 64 < n / 6 → false ≡ batchFits n m
+unfolding batchFits
+fits-not n m h = rw (batchFits, lt-leb _ _ h)
+
+pub fits-by : (n m : ℕ) → n / 6 ≤ 64 → (eqb (n % 6) 0 && leb (22 * (n / 6)) m) ≡ batchFits n m
+unfolding batchFits
+fits-by n m h = rw (batchFits, le-leb _ _ h)
+
+and-true : (a b c : Bool) → (a && (b && c)) ≡ true → c ≡ true
+and-true true true c e = e
+and-true true false c e = absurd (false≢true e)
+and-true false b c e = absurd (false≢true e)
+
+pub fits-room : (n m : ℕ) → batchFits n m ≡ true → 22 * (n / 6) ≤ m
+unfolding batchFits
+fits-room n m e = leb-true _ _ (and-true (leb (n / 6) 64) (eqb (n % 6) 0) (leb (22 * (n / 6)) m) e)
+
+-- the whole call
+
+module _ (W A Q R : List ℕ) where
+  pub batch-small : length A < 16384 → Batch W A Q R A R 20
+  unfolding batchFault reportsAfter
+  batch-small h = record { number = sym (rw (batchFault, lt-ltb _ _ h)); area = area-small A h; reports = refl }
+
+  module _ (h : 16384 ≤ length A) (B : List ℕ) (z : B ≡ zeros 16384) (b : Bool) (e : b ≡ batchFits (length Q) (length R)) where
+    pub batch-not : b ≡ false → Batch W A Q R (B ++ drop 16384 A) R 44
+    unfolding batchFault reportsAfter
+    batch-not f = record { number = sym (rw (batchFault, le-ltb _ _ h, sym e, f)); area = area-large A B h z; reports = refl }
+
+    pub batch-all : b ≡ true → (S : List ℕ) → S ≡ reportsOf W (questionsOf (length Q / 6) Q) ++ drop (22 * (length Q / 6)) R
+        → Batch W A Q R (B ++ drop 16384 A) S 0
+    unfolding batchFault reportsAfter
+    batch-all f S k = record { number = sym (rw (batchFault, le-ltb _ _ h, sym e, f)); area = area-large A B h z; reports = k }
+
+-- one question more
+
+questions-next : (n : ℕ) (Q : List ℕ) → questionsOf (suc n) Q ≡ questionsOf n Q ++ (questionOf (drop (6 * n) Q) ∷ [])
+unfolding questionsOf
+questions-next zero Q = refl
+questions-next (suc n) Q =
+    let e : 6 + 6 * n ≡ 6 * suc n = omega arith in
+    ap (λ qs. questionOf Q ∷ qs) (questions-next n (drop 6 Q))
+    ∙ ap (λ (x : List ℕ). questionOf Q ∷ (questionsOf n (drop 6 Q) ++ (questionOf x ∷ []))) (drop-drop (6 * n) 6 Q ∙ ap (λ k. drop k Q) e)
+
+reports-next : (W : List ℕ) (qs : List Question) (q : Question) → reportsOf W (qs ++ (q ∷ [])) ≡ reportsOf W qs ++ reportWords (reportOf W 16384 q)
+unfolding reportsOf
+reports-next W [] q = append-nil (reportWords (reportOf W 16384 q))
+reports-next W (p ∷ qs) q =
+    ap (λ x. reportWords (reportOf W 16384 p) ++ x) (reports-next W qs q)
+    ∙ sym (append-assoc (reportWords (reportOf W 16384 p)) (reportsOf W qs) (reportWords (reportOf W 16384 q)))
+
+-- a part that goes on to the end
+
+pub mid-end : (a : ℕ) (l : List ℕ) → midOf a (length l - a) l ≡ drop a l
+mid-end a l = take-all (length l - a) (drop a l) (omega (arith, length-drop a l))
+
+put-end : (a : ℕ) (l m : List ℕ) → a ≤ length l → putMid a (length l - a) l m ≡ take a l ++ m
+put-end a l m h =
+    ap (λ x. take a l ++ (m ++ x)) (post-is a (length l) l h ∙ drop-length l) ∙ ap (λ x. take a l ++ x) (append-nil m)
+
+module _ (W Q R₀ : List ℕ) where
+  -- the first i reports are written
+  pub record Reported (i : ℕ) (R : List ℕ) : Type 0 where
+    pub long : length (reportsOf W (questionsOf i Q)) ≡ 22 * i
+    pub same : R ≡ reportsOf W (questionsOf i Q) ++ drop (22 * i) R₀
+
+  pub none-reported : Reported 0 R₀
+  unfolding questionsOf reportsOf
+  none-reported = record { long = refl; same = refl }
+
+  pub all-reported : (i : ℕ) (R : List ℕ) → Reported i R → (n : ℕ) → i ≤ n → n ≤ i → R ≡ reportsOf W (questionsOf n Q) ++ drop (22 * n) R₀
+  all-reported i R p n h k =
+      let e : i ≡ n = omega arith in
+      p .same ∙ ap (λ x. reportsOf W (questionsOf x Q) ++ drop (22 * x) R₀) e
+
+  module _ (i : ℕ) (R : List ℕ) (p : Reported i R) (q : Question) (r : Report) (e : q ≡ questionOf (midOf (6 * i) (length Q - 6 * i) Q)) (f : r ≡ reportOf W 16384 q) where
+    -- the words of the reports with that of one question more
+    next-words : reportsOf W (questionsOf (i + 1) Q) ≡ reportsOf W (questionsOf i Q) ++ reportWords r
+    next-words =
+        ap (λ n. reportsOf W (questionsOf n Q)) (add-one i)
+        ∙ ap (reportsOf W) (questions-next i Q)
+        ∙ reports-next W (questionsOf i Q) (questionOf (drop (6 * i) Q))
+        ∙ ap (λ (x : Report). reportsOf W (questionsOf i Q) ++ reportWords x)
+        (ap (λ (x : List ℕ). reportOf W 16384 (questionOf x)) (sym (mid-end (6 * i) Q)) ∙ ap (reportOf W 16384) (sym e) ∙ sym f)
+
+    module _ (l : length R ≡ length R₀) (h : 22 * (i + 1) ≤ length R₀) (m : List ℕ) (b : Bool) (w : Written r (midOf (22 * i) (length R - 22 * i) R) m b) where
+      rest : midOf (22 * i) (length R - 22 * i) R ≡ drop (22 * i) R₀
+      rest = mid-end (22 * i) R ∙ ap (drop (22 * i)) (p .same) ∙ drop-at (reportsOf W (questionsOf i Q)) (drop (22 * i) R₀) (22 * i) (p .long)
+
+      enough : 22 ≤ length (drop (22 * i) R₀)
+      enough = omega (arith, h, length-drop (22 * i) R₀)
+
+      put-words : m ≡ reportWords r ++ drop 22 (drop (22 * i) R₀)
+      unfolding writtenTo
+      put-words = w .words ∙ ap (writtenTo r) rest ∙ rw (writtenTo, le-ltb _ _ enough)
+
+      pub one-more : length m ≡ length (midOf (22 * i) (length R - 22 * i) R) → Reported (i + 1) (putMid (22 * i) (length R - 22 * i) R m)
+      one-more k =
+          let P : List ℕ = reportsOf W (questionsOf i Q) in
+          let T : List ℕ = drop (22 * i) R₀ in
+          let a : length m ≡ length T = k ∙ ap (λ (x : List ℕ). length x) rest in
+          let c : length m ≡ length (reportWords r) + length (drop 22 T) = ap (λ (x : List ℕ). length x) put-words ∙ length-append (reportWords r) (drop 22 T) in
+          let n : length (reportWords r) ≡ 22 = omega (arith, a, c, enough, length-drop 22 T) in
+          let u : take (22 * i) R ≡ P = ap (take (22 * i)) (p .same) ∙ take-at P T (22 * i) (p .long) in
+          let v : 22 * i + 22 ≡ 22 * (i + 1) = omega arith in
+          record {
+            long = ap (λ (x : List ℕ). length x) next-words ∙ length-append P (reportWords r) ∙ ap₂ (λ x y. x + y) (p .long) n ∙ v;
+            same =
+                put-end (22 * i) R m (omega (arith, h, l))
+                ∙ ap₂ (λ x y. x ++ y) u put-words
+                ∙ sym (append-assoc P (reportWords r) (drop 22 T))
+                ∙ ap₂ (λ x y. x ++ y) (sym next-words) (drop-drop 22 (22 * i) R₀ ∙ ap (λ n. drop n R₀) v);
+          }

@@ -1,0 +1,39 @@
+-- Up to 64 questions with one snapshot.
+use Prim.Native.Nat.{ℕ, zero, suc, _*_, _/_, _%_}
+use mathlib.Core.Path.{_≡_}
+use mathlib.Core.List.{List, [], _∷_, _++_}
+use mathlib.Core.Bool.{Bool, true, false, _&&_}
+use lib.Dec.{eqb, ltb, leb}
+use lib.ListN.{length, drop}
+use Rattle.snapshot.specs.Limits.{areaLimit}
+use Rattle.find_path.specs.declared.Question.{Question}
+use Rattle.find_path.specs.Report.{reportOf}
+use Rattle.answer.specs.Answers.{areaAfter}
+use Rattle.reports.specs.Written.{reportWords}
+use Rattle.batch.specs.Questions.{questionsOf}
+
+-- so many words are at most 64 whole questions, and there are words enough for their reports
+unfoldable pub batchFits : ℕ → ℕ → Bool
+batchFits questions reports = leb (questions / 6) 64 && (eqb (questions % 6) 0 && leb (22 * (questions / 6)) reports)
+
+-- 20 a small work area; 44 too many questions, a part of one, or too few words for the reports; 0 for none
+unfoldable pub batchFault : ℕ → ℕ → ℕ → ℕ
+batchFault area questions reports =
+    elim (ltb area areaLimit) [ true ↦ 20 | false ↦ elim (batchFits questions reports) [ true ↦ 0 | false ↦ 44 ] ]
+
+-- the words of the reports that the questions get one at a time, in order
+unfoldable pub reportsOf : List ℕ → List Question → List ℕ
+reportsOf W [] = []
+reportsOf W (q ∷ qs) = reportWords (reportOf W areaLimit q) ++ reportsOf W qs
+
+-- the reports at the front, and the words past them as they were; after a refusal all as they were
+unfoldable pub reportsAfter : List ℕ → List ℕ → List ℕ → ℕ → List ℕ
+reportsAfter W Q R zero = reportsOf W (questionsOf (length Q / 6) Q) ++ drop (22 * (length Q / 6)) R
+reportsAfter W Q R (suc n) = R
+
+-- W are the words of the snapshot, Q those of the questions; A₀ and R₀ are the work area and the words for the reports before the
+-- call, A and R after it; r is the number of the refusal of the whole call
+pub record Batch (W A₀ Q R₀ A R : List ℕ) (r : ℕ) : Type 0 where
+  pub number : r ≡ batchFault (length A₀) (length Q) (length R₀)
+  pub area : A ≡ areaAfter A₀
+  pub reports : R ≡ reportsAfter W Q R₀ r

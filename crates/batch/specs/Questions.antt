@@ -1,0 +1,18 @@
+-- Questions as words.
+use Prim.Native.Nat.{ℕ, zero, suc}
+use mathlib.Core.List.{List, [], _∷_}
+use lib.ListN.{getD, drop}
+use Rattle.find_path.specs.declared.Question.{Question}
+
+-- a word a field: namespace, definition, viewing module, prefix, options, fuel
+abbrev pub questionOf : List ℕ → Question
+questionOf q =
+    record {
+      query = record { ns = getD q 0 0; definition = getD q 1 0; from = getD q 2 0; prefix = getD q 3 0; options = getD q 4 0 };
+      fuel = getD q 5 0;
+    }
+
+-- so many questions, one after the other
+unfoldable pub questionsOf : ℕ → List ℕ → List Question
+questionsOf zero words = []
+questionsOf (suc n) words = questionOf words ∷ questionsOf n (drop 6 words)
