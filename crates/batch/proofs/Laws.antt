@@ -17,7 +17,7 @@ use Rattle.reports.specs.Written.{reportWords, writtenTo, Written}
 use Rattle.answer.specs.Answers.{zeros}
 use Rattle.answer.proofs.Areas.{area-small, area-large}
 use Rattle.batch.specs.Questions.{questionOf, questionsOf}
-use Rattle.batch.specs.Batch.{batchFits, batchFault, reportsOf, reportsAfter, Batch}
+use Rattle.batch.specs.Batch.{batchFits, batchFault, reportsOf, reportsTo, reportsAfter, Batch}
 
 -- what fits
 
@@ -50,8 +50,7 @@ module _ (W A Q R : List ℕ) where
     unfolding batchFault reportsAfter
     batch-not f = record { number = sym (rw (batchFault, le-ltb _ _ h, sym e, f)); area = area-large A B h z; reports = refl }
 
-    pub batch-all : b ≡ true → (S : List ℕ) → S ≡ reportsOf W (questionsOf (length Q / 6) Q) ++ drop (22 * (length Q / 6)) R
-        → Batch W A Q R (B ++ drop 16384 A) S 0
+    pub batch-all : b ≡ true → (S : List ℕ) → S ≡ reportsTo W Q R → Batch W A Q R (B ++ drop 16384 A) S 0
     unfolding batchFault reportsAfter
     batch-all f S k = record { number = sym (rw (batchFault, le-ltb _ _ h, sym e, f)); area = area-large A B h z; reports = k }
 

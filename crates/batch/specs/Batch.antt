@@ -26,9 +26,13 @@ unfoldable pub reportsOf : List ℕ → List Question → List ℕ
 reportsOf W [] = []
 reportsOf W (q ∷ qs) = reportWords (reportOf W areaLimit q) ++ reportsOf W qs
 
--- the reports at the front, and the words past them as they were; after a refusal all as they were
+-- the reports of the questions whose words Q are at the front of R, and the words past them as they were
+abbrev pub reportsTo : List ℕ → List ℕ → List ℕ → List ℕ
+reportsTo W Q R = reportsOf W (questionsOf (length Q / 6) Q) ++ drop (22 * (length Q / 6)) R
+
+-- a refusal of the whole call leaves all as it was
 unfoldable pub reportsAfter : List ℕ → List ℕ → List ℕ → ℕ → List ℕ
-reportsAfter W Q R zero = reportsOf W (questionsOf (length Q / 6) Q) ++ drop (22 * (length Q / 6)) R
+reportsAfter W Q R zero = reportsTo W Q R
 reportsAfter W Q R (suc n) = R
 
 -- W are the words of the snapshot, Q those of the questions; A₀ and R₀ are the work area and the words for the reports before the

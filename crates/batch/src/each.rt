@@ -1,12 +1,10 @@
 //! The questions one after the other, on words that are checked once.
 ghost use mathlib.Core.Path.{_≡_};
-ghost use mathlib.Core.List.{_++_};
 ghost use Prim.Native.Nat.{_*_, _/_, _≤_};
-ghost use lib.ListN.{length, drop};
+ghost use lib.ListN.{length};
 ghost use Rattle.accept.specs.Post.{Judged};
 ghost use Rattle.answer.specs.Answers.{zeros};
-ghost use Rattle.batch.specs.Questions.{questionsOf};
-ghost use Rattle.batch.specs.Batch.{reportsOf};
+ghost use Rattle.batch.specs.Batch.{reportsTo};
 use crate::question::QuestionWords;
 use crate::question::question_of;
 use accept::check::Checked;
@@ -19,7 +17,7 @@ use reports::report::write_report;
 // Writes the report of each question on checked words.
 fn report_each(words: &[u32], area: &mut [u32], c: Checked, questions: &[u32], reports: &mut [u32])
     requires { ⌜ Judged (now words) (now area) c × (length (now area) ≡ 16384) × (22 * (length (now questions) / 6) ≤ length (now reports)) ⌝ }
-    ensures { λ _. ⌜ now (reports .exit) ≡ reportsOf (now (words .entry)) (questionsOf (length (now (questions .entry)) / 6) (now (questions .entry))) ++ drop (22 * (length (now (questions .entry)) / 6)) (now (reports .entry)) ⌝ }
+    ensures { λ _. ⌜ now (reports .exit) ≡ reportsTo (now (words .entry)) (now (questions .entry)) (now (reports .entry)) ⌝ }
 {
     let n = questions.len() / QuestionWords::COUNT;
     let mut i = 0;
@@ -36,7 +34,7 @@ fn report_each(words: &[u32], area: &mut [u32], c: Checked, questions: &[u32], r
 pub fn answer_each(words: &[u32], area: &mut [u32], questions: &[u32], reports: &mut [u32])
     requires { ⌜ (length (now area) ≡ 16384) × (22 * (length (now questions) / 6) ≤ length (now reports)) ⌝ }
     ensures { λ _. ⌜ now (area .exit) ≡ zeros 16384 ⌝ }
-    ensures { λ _. ⌜ now (reports .exit) ≡ reportsOf (now (words .entry)) (questionsOf (length (now (questions .entry)) / 6) (now (questions .entry))) ++ drop (22 * (length (now (questions .entry)) / 6)) (now (reports .entry)) ⌝ }
+    ensures { λ _. ⌜ now (reports .exit) ≡ reportsTo (now (words .entry)) (now (questions .entry)) (now (reports .entry)) ⌝ }
 {
     let c = check(words, area);
     report_each(words, area, c, questions, reports);

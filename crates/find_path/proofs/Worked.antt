@@ -38,7 +38,7 @@ pub row : ℕ → ℕ → ℕ → ℕ → ℕ → ℕ → String → Row
 row d ns m p o f l = record { question = record { query = record { ns = ns; definition = d; from = m; prefix = p; options = o }; fuel = f }; line = l }
 
 -- the lines are those of the questions
-pub passes : List ℕ → List Row → Bool
+unfoldable pub passes : List ℕ → List Row → Bool
 unfolding lineOf snapshotOf lineIn lineParts pathText prefixParts joined decimal decimalTo textOf unpacked reportOf reportUnless reportBy answerUnless searched reported flag refused questionFault callFault findPath fromItem fromHome searchItem itemTo searchModule moduleTo bestLocal searchLocal localTo findPathInner ofModule byName orEnum viaEnum afterEnum findPathForModule orCharged calculateBestPath afterCharge goOn findInSysroot findInDeps findInDep findImports findImport offerImport isAt variantOf oneOrNone langs fromTank draw findPathForModuleLocal orLocal calculateBestPathLocal eachLocation location importableName nameIf offer moduleRules keywordOf isKwKindRelativeToFrom parentKind rootRule externName externKind occupied isOther scopeEntry entryNamed preludeRule findInPrelude inPrelude preludeEntry sameHere scopeRule mayBeInScope findInScope single entryName firstFound contextOf plainIf prefixPathKind findLocalImportLocations walk unmet leadsTo startFrom visited has lengthLeft shorterIf trySelect better taken comparePrelude andThen compareBool unstably push extended choiceNew keyword pathLen pathKindLen isPrelude nameData importInfoFor sysrootFirst langOf dependenciesOf externOf preludeOf childrenOf containers ancestorMaps steps stepsTo stepsOr modulesInScope get namesOf nameOf isFor isVisibleFrom inModule climb climbStep unless met metTo metOr last lastTo lastOr homeOf homeBy nsOf sameItem itemOf containing orElse crateRoot ownMap rootOf crateData definitionOf mapOf moduleOf firstSome select placeOf firstOf verdict records stepAt recordStep finish argumentsFrom argumentsOf nameStep crateStep dependencyStep mapStep moduleStep childStep preludeStep definitionStep scopeStep importStep externStep textBound padded rows any all eqList
 passes words table = all (λ r. eqList (lineOf words (r .question)) (bytesOf (r .line))) table
 

@@ -1,0 +1,56 @@
+-- Three questions at once on document 01's worked snapshot, a refused one among them, and calls that are refused whole.
+use Prim.Native.Nat.{ℕ}
+use mathlib.Core.Path.{_≡_, refl}
+use mathlib.Core.Bool.{Bool, true, _&&_}
+use mathlib.Core.List.{List, [], _∷_, _++_}
+use lib.Dec.{eqb}
+use lib.ListN.{length, replicate}
+use Rattle.snapshot.specs.Lists.{all, eqList}
+use Rattle.accept.specs.Worked.{worked}
+use Rattle.find_path.proofs.Worked.{passes}
+use Rattle.reports.specs.Written.{reportWords}
+use Rattle.batch.specs.Questions.{questionsOf}
+use Rattle.batch.specs.Batch.{batchFits, batchFault, reportsOf, reportsAfter}
+
+-- the words of the work area, of the questions and of the reports before the call; the number, and the reports after it
+pub record Row : Type 0 where
+  pub area : ℕ
+  pub questions : List ℕ
+  pub old : List ℕ
+  pub number : ℕ
+  pub new : List ℕ
+
+-- the numbers and the reports are those of the definitions; `passes` unfolds the search
+pub passesAll : List Row → Bool
+unfolding passes batchFits batchFault questionsOf reportsOf reportsAfter reportWords
+passesAll table =
+    all (λ r. eqb (batchFault (r .area) (length (r .questions)) (length (r .old))) (r .number)
+    && eqList (reportsAfter worked (r .questions) (r .old) (r .number)) (r .new)) table
+
+-- the function `f` from the root, with fuel 1, 10,001 and 0
+abbrev asked : List ℕ
+asked = 1 ∷ 1 ∷ 0 ∷ 1 ∷ 0 ∷ 1 ∷ 1 ∷ 1 ∷ 0 ∷ 1 ∷ 0 ∷ 10001 ∷ 1 ∷ 1 ∷ 0 ∷ 1 ∷ 0 ∷ 0 ∷ []
+
+-- `found a::f 1 0`, `refused 21 0 0`, `none - 0 1`
+abbrev told : List ℕ
+told = (0 ∷ 0 ∷ 0 ∷ 0 ∷ 1 ∷ replicate 14 0 ++ (2 ∷ 1 ∷ 0 ∷ [])) ++ ((2 ∷ 21 ∷ replicate 20 0) ++ (1 ∷ replicate 20 0 ++ (1 ∷ [])))
+
+abbrev row : ℕ → List ℕ → ℕ → ℕ → List ℕ → Row
+row a q n r l = record { area = a; questions = q; old = replicate n 7; number = r; new = l }
+
+pub cases : List Row
+cases =
+    -- the words past the reports stay
+    row 16384 asked 68 0 (told ++ (7 ∷ 7 ∷ []))
+    ∷ row 16384 [] 1 0 (7 ∷ [])
+    ∷ row 16383 asked 66 20 (replicate 66 7)
+    ∷ row 16384 asked 65 44 (replicate 65 7)
+    ∷ row 16384 (7 ∷ asked) 68 44 (replicate 68 7)
+    -- 65 questions; 20 comes before 44
+    ∷ row 16384 (replicate 390 0) 1430 44 (replicate 1430 7)
+    ∷ row 16383 (replicate 390 0) 0 20 []
+    ∷ []
+
+pub worked-batch : passesAll cases ≡ true
+unfolding passesAll cases
+worked-batch = refl
