@@ -1,5 +1,5 @@
 //! The static library, by way of the Rust bindings.
-use kelumavor::{DefinitionId, ModuleId, Namespace, Outcome, Prefix, Snapshot, WorkArea};
+use kelumavor::{DefinitionId, ModuleId, Namespace, Outcome, Prefix, Report, Snapshot, WorkArea};
 
 use crate::questions::{Answer, Answers, Question};
 
@@ -14,18 +14,31 @@ impl<'w> Library<'w> {
     }
 }
 
+impl Library<'_> {
+    /// Puts questions in one call.
+    pub fn put_all(&mut self, questions: &[Question]) -> Vec<Answer> {
+        let asked: Vec<_> = questions.iter().map(asked).collect();
+        self.snapshot.find_paths_in(&asked, &mut self.area).iter().map(answer).collect()
+    }
+}
+
 impl Answers for Library<'_> {
     fn put(&mut self, question: &Question) -> Answer {
-        let prefix = [Prefix::BySelf, Prefix::Plain, Prefix::ByCrate][question.prefix as usize];
-        let asked =
-            kelumavor::Question::new(Namespace::Types, DefinitionId(question.definition), ModuleId(question.from))
-                .prefix(prefix)
-                .fuel(Question::FUEL);
-        let report = self.snapshot.find_path_in(&asked, &mut self.area);
-        Answer {
-            found: report.path().is_some(),
-            charges: report.charges,
-            empty: matches!(report.outcome, Outcome::TankEmpty(_)),
-        }
+        answer(&self.snapshot.find_path_in(&asked(question), &mut self.area))
+    }
+}
+
+fn asked(question: &Question) -> kelumavor::Question {
+    let prefix = [Prefix::BySelf, Prefix::Plain, Prefix::ByCrate][question.prefix as usize];
+    kelumavor::Question::new(Namespace::Types, DefinitionId(question.definition), ModuleId(question.from))
+        .prefix(prefix)
+        .fuel(Question::FUEL)
+}
+
+fn answer(report: &Report<'_>) -> Answer {
+    Answer {
+        found: report.path().is_some(),
+        charges: report.charges,
+        empty: matches!(report.outcome, Outcome::TankEmpty(_)),
     }
 }

@@ -1,6 +1,6 @@
 //! Times of the proved code, through the Rust bindings: the check by the size of the snapshot, and questions.
 //!
-//! `bench` prints tables. For a profiler, `bench check SHAPE COUNT` checks one snapshot so many times, and
+//! `bench` prints tables, `bench files` that of several questions at once. For a profiler, `bench check SHAPE COUNT` checks one snapshot so many times, and
 //! `bench ask SHAPE COUNT` puts so many questions to the library; both print nothing.
 mod library;
 #[cfg(feature = "original")]
@@ -19,11 +19,13 @@ fn main() {
             print_checks("The check, by the size of a workspace", &shapes::growing());
             print_checks("The check, by shape", &shapes::all());
             questions::print_all();
+            questions::print_files();
         }
+        ["files"] => questions::print_files(),
         ["check", shape, count] => repeat_check(&named(shape), count.parse().expect("a number")),
         ["ask", shape, count] => questions::ask(&named(shape), count.parse().expect("a number")),
         ["input", shape, count] => questions::write_input(shape, count.parse().expect("a number")),
-        _ => panic!("usage: bench [check SHAPE COUNT | ask SHAPE COUNT | input SHAPE COUNT]"),
+        _ => panic!("usage: bench [files | check SHAPE COUNT | ask SHAPE COUNT | input SHAPE COUNT]"),
     }
 }
 

@@ -84,6 +84,29 @@ pub fn write_input(shape: &str, count: usize) {
     std::io::stdout().write_all(&bytes).expect("a place to write to");
 }
 
+/// Questions of a rewritten file.
+const FILE: usize = 40;
+
+/// The questions of a file, one at a time and all at once.
+pub fn print_files() {
+    println!("{FILE} questions at once\n");
+    println!("| snapshot | ns a question, one at a time | ns a question, at once |");
+    println!("|---|---|---|");
+    for shape in shapes::all() {
+        let all: Vec<Question> = questions(&shape).collect();
+        if all.len() < FILE {
+            continue;
+        }
+        let file: Vec<Question> = all.iter().step_by(all.len() / FILE).take(FILE).copied().collect();
+        let mut library = crate::library::Library::new(&shape.words);
+        let answers = library.put_all(&file);
+        let single = timing::nanoseconds(|| file.iter().zip(&answers).all(|(one, answer)| library.put(one) == *answer));
+        let at_once = timing::nanoseconds(|| library.put_all(&file) == answers);
+        println!("| {} | {:.0} | {:.0} |", shape.name, single / FILE as f64, at_once / FILE as f64);
+    }
+    println!();
+}
+
 /// Puts so many questions to the library.
 pub fn ask(shape: &Shape, count: usize) {
     let mut library = crate::library::Library::new(&shape.words);

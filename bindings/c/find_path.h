@@ -80,6 +80,17 @@ enum kelumavor_report {
 bool kelumavor_find_path(const uint32_t *words, size_t words_len, uint32_t *area, size_t area_len,
                          const uint32_t question[KELUMAVOR_QUESTION], uint32_t *report, size_t report_len);
 
+/* Questions of a call of kelumavor_find_paths, at most. */
+#define KELUMAVOR_QUESTIONS 64
+
+/* Answers several questions on a snapshot, which is checked once. The questions are KELUMAVOR_QUESTION words each, one after the
+ * other; the reports, KELUMAVOR_REPORT words each, are written in the same order, and each is the one that kelumavor_find_path
+ * writes for its question, a refusal included. Answers 0, or the number by which the whole call is refused, with the reports
+ * unwritten: 20 for an area of fewer than 16,384 words; 44 for more than KELUMAVOR_QUESTIONS questions, a number of words that is
+ * not a multiple of KELUMAVOR_QUESTION, or a reports_len that is too small. The area is left as by kelumavor_find_path. */
+size_t kelumavor_find_paths(const uint32_t *words, size_t words_len, uint32_t *area, size_t area_len,
+                            const uint32_t *questions, size_t questions_len, uint32_t *reports, size_t reports_len);
+
 #ifdef __cplusplus
 }
 #endif

@@ -1,5 +1,6 @@
 //! A question.
 use crate::ids::{DefinitionId, ModuleId, Namespace};
+use crate::sys;
 
 /// How the path should begin.
 #[derive(Clone, Copy, Debug, Default, PartialEq, Eq, Hash)]
@@ -73,7 +74,7 @@ impl Question {
         Question { fuel, ..self }
     }
 
-    pub(crate) fn words(&self) -> [u32; 6] {
+    pub(crate) fn words(&self) -> [u32; sys::QUESTION] {
         [self.namespace as u32, self.definition.0, self.from.0, self.prefix as u32, self.options.bits(), self.fuel]
     }
 }

@@ -35,10 +35,12 @@ pub enum RefusalKind {
     InputNotWords = 41,
     /// 42, by the path printer alone
     WordsOutsideQuestion = 42,
+    /// 44, by a call of the library with several questions; `Snapshot::find_paths` takes any number of them
+    BatchTooLong = 44,
 }
 
 impl RefusalKind {
-    const ALL: [RefusalKind; 15] = [
+    const ALL: [RefusalKind; 16] = [
         Self::SmallWorkArea,
         Self::TooMuchFuel,
         Self::OutOfRange,
@@ -54,6 +56,7 @@ impl RefusalKind {
         Self::InputTooLong,
         Self::InputNotWords,
         Self::WordsOutsideQuestion,
+        Self::BatchTooLong,
     ];
 
     /// The reason with a number.
@@ -84,6 +87,7 @@ impl fmt::Display for RefusalKind {
             Self::InputTooLong => "more than 65,536 bytes of input",
             Self::InputNotWords => "a number of bytes that is not a multiple of 4",
             Self::WordsOutsideQuestion => "a word after the snapshot that is in no whole question",
+            Self::BatchTooLong => "more than 64 questions, a part of one, or too few words for their reports",
         })
     }
 }

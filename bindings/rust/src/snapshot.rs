@@ -111,7 +111,8 @@ impl<'w> Snapshot<'w> {
         Some(Text(bytes))
     }
 
-    /// Answers a question. The library keeps nothing between calls, so it checks the words again.
+    /// Answers a question. The library keeps nothing between calls, so it checks the words again; [`Snapshot::find_paths`]
+    /// checks them once for several questions.
     pub fn find_path(&self, question: &Question) -> Report<'_> {
         self.find_path_in(question, &mut WorkArea::new())
     }
@@ -119,5 +120,38 @@ impl<'w> Snapshot<'w> {
     /// Answers a question in a work area of the caller's.
     pub fn find_path_in(&self, question: &Question, area: &mut WorkArea) -> Report<'_> {
         Report::new(self, sys::find_path(self.words, &mut area.0, &question.words()))
+    }
+
+    /// Answers questions in order, each as [`Snapshot::find_path`] does, a refused one included. The library takes them by 64,
+    /// and checks the words once for all of a call.
+    ///
+    /// ```
+    /// use kelumavor::{DefinitionId, ModuleId, Namespace, Question, Snapshot};
+    ///
+    /// # let words = [
+    /// #     0x10000001, 0x61, 0x10000001, 0x66, 0x20000000, 0x40000000, 0, 0, 0x50000000, 0, 0x50000000, 1, 0x60000000, 1,
+    /// #     0x80000001, 1, 0, 0x80000004, 1, 0, 0x90000000, 0, 0, 0, 0, 0, 1, 0x90000001, 1, 1, 1, 0, 0, 1,
+    /// # ];
+    /// // A crate with a module `a` that holds a function `f`.
+    /// let snapshot = Snapshot::check(&words)?;
+    /// let question = Question::new(Namespace::Values, DefinitionId(1), ModuleId(0));
+    /// let reports = snapshot.find_paths(&[question, question.fuel(10_001), question.fuel(0)]);
+    /// let lines: Vec<String> = reports.iter().map(|report| report.to_string()).collect();
+    /// assert_eq!(lines, ["found a::f 1 0", "refused 21 0 0", "none - 0 1"]);
+    /// # Ok::<(), kelumavor::Refusal>(())
+    /// ```
+    pub fn find_paths(&self, questions: &[Question]) -> Vec<Report<'_>> {
+        self.find_paths_in(questions, &mut WorkArea::new())
+    }
+
+    /// Answers questions in order in a work area of the caller's.
+    pub fn find_paths_in(&self, questions: &[Question], area: &mut WorkArea) -> Vec<Report<'_>> {
+        let mut reports = Vec::with_capacity(questions.len());
+        for call in questions.chunks(sys::QUESTIONS) {
+            let asked: Vec<_> = call.iter().map(Question::words).collect();
+            let told = sys::find_paths(self.words, &mut area.0, &asked);
+            reports.extend(told.into_iter().map(|words| Report::new(self, words)));
+        }
+        reports
     }
 }

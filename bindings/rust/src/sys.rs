@@ -3,8 +3,14 @@
 /// Numbers that the check answers: the refusal, its place, and a count for each of the eleven kinds of records.
 pub const CHECKED: usize = 13;
 
+/// Words of a question.
+pub const QUESTION: usize = 6;
+
 /// Words of a report.
 pub const REPORT: usize = 22;
+
+/// Questions of a call, at most.
+pub const QUESTIONS: usize = 64;
 
 mod raw {
     unsafe extern "C" {
@@ -31,10 +37,21 @@ mod raw {
             words_len: usize,
             area: *mut u32,
             area_len: usize,
-            question: *const [u32; 6],
+            question: *const [u32; super::QUESTION],
             report: *mut u32,
             report_len: usize,
         ) -> bool;
+
+        pub fn kelumavor_find_paths(
+            words: *const u32,
+            words_len: usize,
+            area: *mut u32,
+            area_len: usize,
+            questions: *const u32,
+            questions_len: usize,
+            reports: *mut u32,
+            reports_len: usize,
+        ) -> usize;
     }
 }
 
@@ -60,7 +77,7 @@ pub fn name(words: &[u32], tables: &[u32], name: usize, out: &mut [u8]) -> usize
     }
 }
 
-pub fn find_path(words: &[u32], area: &mut [u32], question: &[u32; 6]) -> [u32; REPORT] {
+pub fn find_path(words: &[u32], area: &mut [u32], question: &[u32; QUESTION]) -> [u32; REPORT] {
     let mut report = [0; REPORT];
     // SAFETY: as in `check`.
     let written = unsafe {
@@ -76,4 +93,25 @@ pub fn find_path(words: &[u32], area: &mut [u32], question: &[u32; 6]) -> [u32; 
     };
     assert!(written, "a report has {REPORT} words");
     report
+}
+
+/// The report of each question; of at most `QUESTIONS`.
+pub fn find_paths(words: &[u32], area: &mut [u32], questions: &[[u32; QUESTION]]) -> Vec<[u32; REPORT]> {
+    let mut reports = vec![[0; REPORT]; questions.len()];
+    let (asked, told) = (questions.as_flattened(), reports.as_flattened_mut());
+    // SAFETY: as in `check`.
+    let refusal = unsafe {
+        raw::kelumavor_find_paths(
+            words.as_ptr(),
+            words.len(),
+            area.as_mut_ptr(),
+            area.len(),
+            asked.as_ptr(),
+            asked.len(),
+            told.as_mut_ptr(),
+            told.len(),
+        )
+    };
+    assert_eq!(refusal, 0, "at most {QUESTIONS} questions, with a work area and words for the reports");
+    reports
 }

@@ -75,7 +75,7 @@ fn texts_that_are_no_utf8() {
 fn refusals_in_words() {
     let refusal: Refusal = Snapshot::check(&[0x1000_0001]).unwrap_err();
     assert_eq!((refusal.kind(), refusal.place()), (RefusalKind::WrongKind, Some(0)));
-    for number in (20..=24).chain(30..=36).chain(40..=42) {
+    for number in (20..=24).chain(30..=36).chain(40..=42).chain([44]) {
         let kind = RefusalKind::from_number(number).unwrap();
         assert_eq!(kind.number(), number);
         assert!(!kind.to_string().is_empty());

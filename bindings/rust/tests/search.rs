@@ -6,7 +6,8 @@ use std::process::{Command, Stdio};
 
 use common::{WORKED, random, repository};
 use kelumavor::{
-    DefinitionId, ModuleId, Namespace, Options, Outcome, Prefix, Question, RefusalKind, Snapshot, WorkArea,
+    DefinitionId, ModuleId, NameId, Namespace, Options, Outcome, PathKind, Prefix, Question, RefusalKind, Report,
+    Snapshot, WorkArea,
 };
 
 const NAMESPACES: [Namespace; 3] = [Namespace::Types, Namespace::Values, Namespace::Macros];
@@ -101,6 +102,29 @@ fn printed(words: &[u32]) -> String {
     let bytes: Vec<u8> = words.iter().flat_map(|word| word.to_le_bytes()).collect();
     printer.stdin.take().unwrap().write_all(&bytes).unwrap();
     String::from_utf8(printer.wait_with_output().unwrap().stdout).unwrap()
+}
+
+/// What a report says, its names by number too.
+fn told(report: &Report<'_>) -> (String, Option<(PathKind, Vec<NameId>)>) {
+    (report.to_string(), report.path().map(|path| (path.kind(), path.ids().collect())))
+}
+
+#[test]
+fn several_questions_as_one_at_a_time() {
+    let mut area = WorkArea::new();
+    for seed in 0..60 {
+        let mut random = random::Random::new(seed);
+        let snapshot = random::snapshot(&mut random);
+        let checked = Snapshot::check(&snapshot.words).unwrap();
+        for count in [0, 1, 40, 64, 65, 130] {
+            let questions: Vec<Question> = (0..count).map(|_| random_question(&mut random, &snapshot)).collect();
+            let reports = checked.find_paths_in(&questions, &mut area);
+            assert_eq!(reports.len(), count);
+            for (question, report) in questions.iter().zip(&reports) {
+                assert_eq!(told(report), told(&checked.find_path(question)), "seed {seed}: {question:?}");
+            }
+        }
+    }
 }
 
 #[test]
