@@ -2,11 +2,12 @@
 use Prim.Native.Nat.{ℕ, zero, suc, _+_, _-_, _*_, _≤_, _<_}
 use mathlib.Core.Path.{_≡_, refl, sym, _∙_, ap, ap₂}
 use mathlib.Core.List.{List, [], _∷_}
-use mathlib.Core.Bool.{Bool, true, false, _&&_, _||_, not, and-true, false≢true}
+use mathlib.Core.Bool.{Bool, true, false, _&&_, _||_, not, and-true, and-false, false≢true}
 use native.Mathlib.Omega.{arith}
+use native.Mathlib.Nat.{add-zero}
 use lib.ListN.{length, getD}
 use lib.Dec.{eqb, leb, ltb}
-use borrow.Author.Tests.{ltb-true}
+use borrow.Author.Tests.{ltb-true, ne-eqb}
 use Rattle.snapshot.specs.Lists.{rows, any}
 use Rattle.snapshot.specs.Words.{payOf}
 use Rattle.snapshot.specs.Records.{Map, Snapshot, Child, Definition, Scope, Import, nameAt, crateAt, childAt, preludeAt, definitionAt, scopeAt, externAt}
@@ -81,6 +82,16 @@ any-same : {A B : Type 0} (p : A → Bool) (q : B → Bool) (f : ℕ → A) (g :
 unfolding rows any
 any-same p q f g k zero h = refl
 any-same p q f g k (suc n) h = rw (h k, any-same p q f g (k + 1) n h)
+
+-- records that differ in the last word that counts are not the same
+pub unlike : (W : List ℕ) (owner : Bool) (fields a b : ℕ) → fields ≤ 2 → (leb 1 fields || owner) ≡ true
+    → (payOf (getD W (b + fields) 0) ≡ payOf (getD W (a + fields) 0) → ⊥) → false ≡ sameBy W owner fields a b
+unlike W owner zero a b h o d =
+    let e : eqb (payOf (getD W a 0)) (payOf (getD W b 0)) ≡ false = ne-eqb _ _ (λ q. d (rw (add-zero, add-zero) (sym q))) in
+    rw (o, e)
+unlike W owner (suc zero) a b h o d = rw (ne-eqb (getD W (a + 1) 0) (getD W (b + 1) 0) (λ e. d (ap payOf (sym e))), and-false)
+unlike W owner (suc (suc zero)) a b h o d = rw (ne-eqb (getD W (a + 2) 0) (getD W (b + 2) 0) (λ e. d (ap payOf (sym e))), and-false)
+unlike W owner (suc (suc (suc n))) a b h o d = absurd (omega arith)
 
 -- a record that repeats an earlier one
 module _ (W : List ℕ) (at base n : ℕ) where

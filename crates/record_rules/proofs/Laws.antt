@@ -2,18 +2,19 @@
 use Prim.Native.Nat.{ℕ, zero, suc, _+_, _-_, _*_, _≤_, _<_}
 use mathlib.Core.Path.{_≡_, refl, sym, _∙_, ap, ap₂}
 use mathlib.Core.List.{List, [], _∷_, _++_}
-use mathlib.Core.Bool.{Bool, true, false, _&&_, _||_, not}
+use mathlib.Core.Bool.{Bool, true, false, _&&_, _||_, not, false≢true}
 use native.Mathlib.Omega.{arith}
 use lib.ListN.{length, getD}
 use lib.Dec.{eqb, leb, ltb}
-use borrow.Author.Tests.{eq-eqb, ne-eqb, lt-ltb, le-ltb}
+use borrow.Author.Tests.{eq-eqb, ne-eqb, eqb-true, lt-ltb, le-ltb}
 use Rattle.snapshot.specs.Lists.{rows, any, all, eqList}
 use Rattle.snapshot.specs.Words.{payOf, wordsOf}
 use Rattle.snapshot.specs.Records.{nameAt}
-use Rattle.snapshot.proofs.Laws.{rows-next, rows-none}
+use Rattle.snapshot.proofs.Laws.{rows-next, rows-none, getD-rows}
 use Rattle.record_rules.specs.Tests.{textBound, padded, sameName}
-use native.Mathlib.Nat.{mul-le-mul-left}
+use native.Mathlib.Nat.{add-zero, mul-le-mul-left}
 use Rattle.record_rules.specs.Stands.{numberOf}
+use Rattle.record_rules.proofs.Judged.{and-left, and-right}
 
 pub bound-rest : (b : ℕ) → (b ≡ 0 → ⊥) → (b ≡ 1 → ⊥) → (b ≡ 2 → ⊥) → 16777216 ≡ textBound b
 unfolding textBound
@@ -85,3 +86,40 @@ pub text-same : (L R : List ℕ) (a b : ℕ) {x y n : ℕ} {r : Bool} → x ≡ 
 text-same L R a b ex ey e en h =
     and-yes (eq-eqb _ _ (sym ex ∙ e ∙ ey))
     (h ∙ ap₂ (λ m k. eqList (rows (λ i. getD L (a + 1 + i) 0) 0 m) (rows (λ i. getD R (b + 1 + i) 0) 0 k)) (en ∙ ap wordsOf ex) (en ∙ ap wordsOf (e ∙ ey)))
+
+-- equal lists have the same number at each place
+eq-at : (xs ys : List ℕ) (i : ℕ) → eqList xs ys ≡ true → getD xs i 0 ≡ getD ys i 0
+unfolding eqList
+eq-at [] [] i e = refl
+eq-at [] (y ∷ ys) i e = absurd (false≢true e)
+eq-at (x ∷ xs) [] i e = absurd (false≢true e)
+eq-at (x ∷ xs) (y ∷ ys) zero e = eqb-true x y (and-left (eqb x y) (eqList xs ys) e)
+eq-at (x ∷ xs) (y ∷ ys) (suc i) e = eq-at xs ys i (and-right (eqb x y) (eqList xs ys) e)
+
+-- names of the same text agree in the last word of the first one
+last-same : (L R : List ℕ) (a b n : ℕ) → n ≡ wordsOf (payOf (getD L a 0)) → sameName (nameAt L a) (nameAt R b) ≡ true
+    → payOf (getD R (b + n) 0) ≡ payOf (getD L (a + n) 0)
+last-same L R a b n en e = by n en
+  where
+    bytes : payOf (getD L a 0) ≡ payOf (getD R b 0)
+    bytes = eqb-true _ _ (and-left (eqb (nameAt L a .bytes) (nameAt R b .bytes)) (eqList (nameAt L a .text) (nameAt R b .text)) e)
+
+    by : (n : ℕ) → n ≡ wordsOf (payOf (getD L a 0)) → payOf (getD R (b + n) 0) ≡ payOf (getD L (a + n) 0)
+    by zero q = rw (add-zero, add-zero) (sym bytes)
+    by (suc i) q =
+        let f : ℕ → ℕ = λ j. getD L (a + 1 + j) 0 in
+        let g : ℕ → ℕ = λ j. getD R (b + 1 + j) 0 in
+        let t = eq-at (nameAt L a .text) (nameAt R b .text) i (and-right (eqb (nameAt L a .bytes) (nameAt R b .bytes)) (eqList (nameAt L a .text) (nameAt R b .text)) e) in
+        let x : a + suc i ≡ a + 1 + i = omega arith in
+        let y : b + suc i ≡ b + 1 + i = omega arith in
+        let h : i < wordsOf (payOf (getD L a 0)) = rw (← q) (omega arith) in
+        let k : i < wordsOf (payOf (getD R b 0)) = rw (← bytes) h in
+        rw (x, y) (ap payOf (sym (getD-rows g 0 _ i k) ∙ sym t ∙ getD-rows f 0 _ i h))
+
+pub text-unlike : (L R : List ℕ) (a b n : ℕ) → n ≡ wordsOf (payOf (getD L a 0)) → (payOf (getD R (b + n) 0) ≡ payOf (getD L (a + n) 0) → ⊥)
+    → false ≡ sameName (nameAt L a) (nameAt R b)
+text-unlike L R a b n en d = not-so (sameName (nameAt L a) (nameAt R b)) (λ e. d (last-same L R a b n en e))
+  where
+    not-so : (t : Bool) → (t ≡ true → ⊥) → false ≡ t
+    not-so true h = absurd (h refl)
+    not-so false h = refl

@@ -17,6 +17,7 @@ use snapshot::kind::text_words;
 use snapshot::layout::Layout;
 use snapshot::words::field;
 use snapshot::words::payload;
+use snapshot::words::payload_of;
 use snapshot::words::word;
 
 // What a word that holds b more bytes of text stays below.
@@ -89,16 +90,20 @@ fn same_words(left: &[u32], a: usize, right: &[u32], b: usize, n: usize) -> bool
     true
 }
 
-// Whether two names have the same text.
-fn same_text(left: &[u32], a: usize, right: &[u32], b: usize) -> bool
+// Whether two names have the same text, with the words of the first one and the last of them: mostly that one differs.
+fn same_text(left: &[u32], a: usize, right: &[u32], b: usize, n: usize, last: usize) -> bool
+    requires { ⌜ (b + n < 2 ^ 33) × (n ≡ wordsOf (payOf (getD (now left) a 0))) × (last ≡ payOf (getD (now left) (a + n) 0)) ⌝ }
     ensures { λ r. ⌜ r ≡ sameName (nameAt (now (left .entry)) a) (nameAt (now (right .entry)) b) ⌝ }
 {
+    if payload(right, b + n) != last {
+        return false;
+    }
     let x = payload(left, a);
     let y = payload(right, b);
     if x != y {
         return false;
     }
-    same_words(left, a, right, b, text_words(x))
+    same_words(left, a, right, b, n)
 }
 
 // Whether one of the n names with these heads has the text of the name at a place.
@@ -106,9 +111,11 @@ fn known(words: &[u32], at: usize, names: &[u32], heads: &[u32], n: usize) -> bo
     requires { ⌜ n < 2 ^ 32 ⌝ }
     ensures { λ r. ⌜ r ≡ any (sameName (nameAt (now (words .entry)) at)) (rows (λ k. nameAt (now (names .entry)) (getD (now (heads .entry)) k 0)) 0 n) ⌝ }
 {
+    let size = text_words(payload(words, at));
+    let last = payload_of(field(words, at, size));
     let mut k = 0;
     while k < n {
-        if same_text(words, at, names, word(heads, k)) {
+        if same_text(words, at, names, word(heads, k), size, last) {
             return true;
         }
         k += 1;

@@ -5,6 +5,7 @@ use native.Mathlib.Omega.{arith}
 use denote.Ref.{now}
 use lib.ListN.{getD}
 use Rattle.snapshot.specs.Lists.{rows, any}
+use Rattle.snapshot.specs.Words.{payOf, wordsOf}
 use Rattle.snapshot.specs.Records.{nameAt}
 use Rattle.record_rules.specs.Tests.{sameName}
 use Rattle.snapshot.proofs.Laws.{rows-whole, any-hit, any-miss, any-none}
@@ -12,10 +13,22 @@ use Rattle.record_rules.proofs.names.known.Statement.{statement}
 use Rattle.record_rules.proofs.names.known.Tie as tie
 
 abbrev Inv-loop : tie.InvT-loop
-Inv-loop words at names heads n k₀ k = (k ≤ n) × (any (sameName (nameAt words at)) (rows (λ j. nameAt names (getD heads j 0)) 0 n) ≡ any (sameName (nameAt words at)) (rows (λ j. nameAt names (getD heads j 0)) k (n - k)))
+Inv-loop words at names heads n size last k₀ k = (k ≤ n) × (any (sameName (nameAt words at)) (rows (λ j. nameAt names (getD heads j 0)) 0 n) ≡ any (sameName (nameAt words at)) (rows (λ j. nameAt names (getD heads j 0)) k (n - k)))
 
 abbrev μ-loop : tie.MeasureT-loop
-μ-loop words at names heads n k₀ k = n - k
+μ-loop words at names heads n size last k₀ k = n - k
+
+payload-requires : tie.Need-payload-requires Inv-loop μ-loop
+payload-requires c κs = search needs
+
+text-words-requires : tie.Need-text-words-requires Inv-loop μ-loop
+text-words-requires c κs = search needs
+
+field-requires : tie.Need-field-requires Inv-loop μ-loop
+field-requires c κs = search needs
+
+payload-of-requires : tie.Need-payload-of-requires Inv-loop μ-loop
+payload-of-requires c κs = search needs
 
 loop-holds : tie.Need-loop-holds Inv-loop μ-loop
 loop-holds c = (omega arith, rows-whole (any _) _ _)
@@ -24,12 +37,16 @@ word-requires : tie.Need-word-requires Inv-loop μ-loop
 word-requires c κs = search needs
 
 same-text-requires : tie.Need-same-text-requires Inv-loop μ-loop
-same-text-requires c κs = search needs
+same-text-requires c κs =
+    let d = c .before .before .before in
+    let t = d .before .before in
+    let e = t .before .payload .ensures in
+    (omega (arith, c .word .ensures, t .before .before .shared-slice-known3 .given (c .before .before .loop .k), t .text-words .ensures, e), t .text-words .ensures ∙ ap wordsOf e, d .payload-of .ensures ∙ ap payOf (d .before .field .ensures))
 
 returns : tie.Need-returns Inv-loop μ-loop
 returns c =
-    let s = c .before .before .before .before .before .before .before .before in
     let l = c .before .before .before .before .loop in
+    let s = c .before .before .before .before .before .before .before .before .before .before .before .before in
     any-hit _ _ _ _ _ (l .inv .1) (omega arith) (ap (λ h. sameName (nameAt (now (s .args .words)) (s .args .at)) (nameAt (now (s .args .names)) h)) (sym (c .before .before .word .ensures)) ∙ sym (c .before .same-text .ensures) ∙ c .if1 .taken)
 
 add-k : tie.Need-add-k Inv-loop μ-loop
@@ -40,8 +57,8 @@ loop-less c = search needs
 
 loop-again : tie.Need-loop-again Inv-loop μ-loop
 loop-again c =
-    let s = c .before .before .before .before .before .before .before .before in
     let l = c .before .before .before .before .loop in
+    let s = c .before .before .before .before .before .before .before .before .before .before .before .before in
     (omega arith, any-miss _ _ _ _ _ (l .inv .1) (omega arith) (ap (λ h. sameName (nameAt (now (s .args .words)) (s .args .at)) (nameAt (now (s .args .names)) h)) (sym (c .before .before .word .ensures)) ∙ sym (c .before .same-text .ensures) ∙ c .if1 .left))
 
 returns-2 : tie.Need-returns-2 Inv-loop μ-loop
@@ -53,6 +70,10 @@ known-spec =
     (tie.spec
     Inv-loop
     μ-loop
+    payload-requires
+    text-words-requires
+    field-requires
+    payload-of-requires
     loop-holds
     word-requires
     same-text-requires
