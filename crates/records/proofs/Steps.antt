@@ -115,17 +115,13 @@ module _ (W A : List ℕ) (at : ℕ) (l : Layout) (ms : List Map) (st : Stands W
 
 module _ (W A : List ℕ) (at : ℕ) (l : Layout) (ms : List Map) (st : Stands W A 8 at l ms)
     {n : ℕ} {a b c d : Bool}
-    {base : ℕ}
     {e : Bool}
-    {kind : ℕ}
-    (j : n ≡ numberOf a b ((eqb kind 1 || eqb kind 3) && c) d e)
+    (j : n ≡ numberOf a b c d e)
     (ea : a ≡ (leb 1 (definitionAt W at .kind) && leb (definitionAt W at .kind) 5 && (eqb (definitionAt W at .kind) 2 || eqb (definitionAt W at .second) 0) && (not (eqb (definitionAt W at .kind) 3) || leb (l .names) (definitionAt W at .first) || isBuiltin (nameAt W (nameHead A (definitionAt W at .first))))))
     (eb : b ≡ definitionDefined (countsIn l) (definitionAt W at))
-    (es : base ≡ definitionBase l)
-    (ec : c ≡ any (sameBy W true 1 at) (rows (λ k. base + 3 * k) 0 (l .definitions)))
+    (ec : c ≡ ((eqb (definitionAt W at .kind) 1 || eqb (definitionAt W at .kind) 3) && any (sameBy W true 1 at) (rows (λ k. definitionBase l + 3 * k) 0 (l .definitions))))
     (ed : d ≡ (not (eqb (definitionAt W at .kind) 2) || eqb (definitionAt W (definitionBase l + 3 * definitionAt W at .first) .kind) 4))
     (ee : e ≡ ltb (l .definitions) 2048)
-    (ek : kind ≡ definitionAt W at .kind)
   where
     range-same : (v : Bool) → (not v || leb (l .names) (definitionAt W at .first) || isBuiltin (nameAt W (nameHead A (definitionAt W at .first)))) ≡ (not v || leb (l .names) (definitionAt W at .first) || isBuiltin (getD (snapWith W A l ms .names) (definitionAt W at .first) noName))
     range-same true = builtin-same W A (l .names) (definitionAt W at .first)
@@ -133,10 +129,10 @@ module _ (W A : List ℕ) (at : ℕ) (l : Layout) (ms : List Map) (st : Stands W
 
     definition-number : n ≡ numberOf (definitionRange (snapWith W A l ms) (definitionAt W at)) (definitionDefined (countsOf (snapWith W A l ms)) (definitionAt W at)) (definitionRepeated (snapWith W A l ms) (definitionAt W at)) (definitionPlaced (snapWith W A l ms) (definitionAt W at)) (ltb (length ((snapWith W A l ms) .definitions)) 2048)
     definition-number =
-        number-of a b ((eqb kind 1 || eqb kind 3) && c) d e (definitionRange (snapWith W A l ms) (definitionAt W at)) (definitionDefined (countsOf (snapWith W A l ms)) (definitionAt W at)) (definitionRepeated (snapWith W A l ms) (definitionAt W at)) (definitionPlaced (snapWith W A l ms) (definitionAt W at)) (ltb (length ((snapWith W A l ms) .definitions)) 2048) j
+        number-of a b c d e (definitionRange (snapWith W A l ms) (definitionAt W at)) (definitionDefined (countsOf (snapWith W A l ms)) (definitionAt W at)) (definitionRepeated (snapWith W A l ms) (definitionAt W at)) (definitionPlaced (snapWith W A l ms) (definitionAt W at)) (ltb (length ((snapWith W A l ms) .definitions)) 2048) j
         (ea ∙ ap (λ x. leb 1 (definitionAt W at .kind) && leb (definitionAt W at .kind) 5 && (eqb (definitionAt W at .kind) 2 || eqb (definitionAt W at .second) 0) && x) (range-same (eqb (definitionAt W at .kind) 3)) ∙ ap (λ m. leb 1 (definitionAt W at .kind) && leb (definitionAt W at .kind) 5 && (eqb (definitionAt W at .kind) 2 || eqb (definitionAt W at .second) 0) && (not (eqb (definitionAt W at .kind) 3) || leb m (definitionAt W at .first) || isBuiltin (getD (snapWith W A l ms .names) (definitionAt W at .first) noName))) (sym (length-rows _ (l .names))))
         (eb ∙ ap (λ m. definitionDefined m (definitionAt W at)) (counts-same W A 8 at l ms st))
-        (λ h. ap₂ (λ k x. (eqb k 1 || eqb k 3) && x) ek (ec ∙ ap (λ m. any (sameBy W true 1 at) (rows (λ k. m + 3 * k) 0 (l .definitions))) es ∙ definition-again W at (definitionBase l) (l .definitions)))
+        (λ h. ec ∙ ap (λ x. (eqb (definitionAt W at .kind) 1 || eqb (definitionAt W at .kind) 3) && x) (definition-again W at (definitionBase l) (l .definitions)))
         (λ h. ed ∙ parent-same W A l ms (definitionAt W at) (sym eb ∙ h))
         (ee ∙ ap (λ m. ltb m 2048) (sym (length-rows _ (l .definitions))))
 

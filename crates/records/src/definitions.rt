@@ -4,14 +4,15 @@ ghost use mathlib.Core.List.{List};
 ghost use Prim.Native.Nat.{ℕ, _+_, _*_, _^_, _<_};
 ghost use lib.ListN.{getD};
 ghost use lib.Dec.{eqb, leb, ltb};
-ghost use mathlib.Core.Bool.{_&&_, _||_, not};
+ghost use mathlib.Core.Bool.{true, _&&_, _||_, not};
+ghost use Rattle.snapshot.specs.Lists.{rows, any};
 ghost use Rattle.snapshot.specs.Records.{nameAt};
 ghost use Rattle.snapshot.specs.Layouts.{wordCount, definitionBase, nameHead};
 ghost use Rattle.snapshot.specs.Records.{Map, definitionAt};
 ghost use Rattle.snapshot.specs.Layouts.{snapWith};
 ghost use Rattle.record_rules.specs.Tests.{definitionDefined, definitionRange, definitionRepeated, definitionPlaced, nsPlaced, isBuiltin, sameDefinition};
 ghost use Rattle.record_rules.specs.Steps.{definitionStep};
-ghost use Rattle.record_rules.specs.Stands.{Ready, Stands, Answered, countsIn};
+ghost use Rattle.record_rules.specs.Stands.{Ready, Stands, Answered, countsIn, sameBy};
 use crate::repeats::repeated;
 use record_rules::judge::Step;
 use record_rules::judge::judge;
@@ -40,15 +41,27 @@ pub fn ns_placed(words: &[u32], l: Layout, ns: usize, d: DefinitionId) -> bool
     (ns != 2) | (kind_at(words, l, d) == 5)
 }
 
+// A builtin's name, where it is defined, is one of the builtins.
+fn builtin_named(words: &[u32], area: &[u32], l: Layout, at: usize) -> bool
+    ensures { λ r. ⌜ r ≡ (not (eqb (definitionAt (now (words .entry)) at .kind) 3) || leb (l .names) (definitionAt (now (words .entry)) at .first) || isBuiltin (nameAt (now (words .entry)) (nameHead (now (area .entry)) (definitionAt (now (words .entry)) at .first)))) ⌝ }
+{
+    if definition_kind(words, at) != 3 {
+        return true;
+    }
+    let first = definition_first(words, at);
+    if l.names <= first {
+        return true;
+    }
+    is_builtin(words, name_head(area, Name(first)))
+}
+
 fn in_range(words: &[u32], area: &[u32], l: Layout, at: usize) -> bool
     ensures { λ r. ⌜ r ≡ (leb 1 (definitionAt (now (words .entry)) at .kind) && leb (definitionAt (now (words .entry)) at .kind) 5 && (eqb (definitionAt (now (words .entry)) at .kind) 2 || eqb (definitionAt (now (words .entry)) at .second) 0) && (not (eqb (definitionAt (now (words .entry)) at .kind) 3) || leb (l .names) (definitionAt (now (words .entry)) at .first) || isBuiltin (nameAt (now (words .entry)) (nameHead (now (area .entry)) (definitionAt (now (words .entry)) at .first))))) ⌝ }
 {
     let kind = definition_kind(words, at);
-    let first = definition_first(words, at);
     let second = definition_second(words, at);
-    let builtin = is_builtin(words, name_head(area, Name(first)));
-    let known = (1 <= kind) & (kind <= 5);
-    known & ((kind == 2) | (second == 0)) & ((kind != 3) | (l.names <= first) | builtin)
+    let builtin = builtin_named(words, area, l, at);
+    (1 <= kind) & (kind <= 5) & ((kind == 2) | (second == 0)) & builtin
 }
 
 fn defined(words: &[u32], l: Layout, at: usize) -> bool
@@ -70,19 +83,28 @@ fn placed(words: &[u32], l: Layout, at: usize) -> bool
     (definition_kind(words, at) != 2) | (kind_at(words, l, parent) == 4)
 }
 
+// A module or a builtin that has a definition already; the other kinds may stand again.
+fn again(words: &[u32], l: Layout, at: usize) -> bool
+    requires { ⌜ wordCount l < 2 ^ 32 ⌝ }
+    ensures { λ r. ⌜ r ≡ ((eqb (definitionAt (now (words .entry)) at .kind) 1 || eqb (definitionAt (now (words .entry)) at .kind) 3) && any (sameBy (now (words .entry)) true 1 at) (rows (λ k. definitionBase l + 3 * k) 0 (l .definitions))) ⌝ }
+{
+    let kind = definition_kind(words, at);
+    if (kind != 1) & (kind != 3) {
+        return false;
+    }
+    repeated(words, true, 1, at, l.definition_base(), 3, l.definitions)
+}
+
 /// A definition.
 pub fn step(words: &[u32], area: &[u32], l: Layout, at: usize) -> Step
     requires { ⌜ Ready (now words) (now area) l at (at + 3) ⌝ }
     ensures { λ r. ⌜ ((ms : List Map) → Stands (now (words .entry)) (now (area .entry)) 8 at l ms → Answered (now (words .entry)) (now (area .entry)) 8 (at + 3) (definitionStep (snapWith (now (words .entry)) (now (area .entry)) l ms) (definitionAt (now (words .entry)) at)) r) ⌝ }
 {
-    let kind = definition_kind(words, at);
-    let same = repeated(words, true, 1, at, l.definition_base(), 3, l.definitions);
-    let old = ((kind == 1) | (kind == 3)) & same;
     let room = l.definitions < DefinitionId::LIMIT;
     let n = judge(
         in_range(words, area, l, at),
         defined(words, l, at),
-        old,
+        again(words, l, at),
         placed(words, l, at),
         room,
     );

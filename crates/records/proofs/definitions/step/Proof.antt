@@ -7,20 +7,14 @@ use Rattle.records.proofs.Steps.{definition-no, definition-on}
 use Rattle.records.proofs.definitions.step.Statement.{statement}
 use Rattle.records.proofs.definitions.step.Tie as tie
 
-definition-kind-requires : tie.Need-definition-kind-requires
-definition-kind-requires c κs = search needs
-
-definition-base-requires : tie.Need-definition-base-requires
-definition-base-requires c κs = search needs
-
-repeated-requires : tie.Need-repeated-requires
-repeated-requires c κs = search needs
-
 in-range-requires : tie.Need-in-range-requires
 in-range-requires c κs = search needs
 
 defined-requires : tie.Need-defined-requires
 defined-requires c κs = search needs
+
+again-requires : tie.Need-again-requires
+again-requires c κs = search needs
 
 placed-requires : tie.Need-placed-requires
 placed-requires c κs = search needs
@@ -31,16 +25,14 @@ judge-requires c κs = search needs
 returns : tie.Need-returns
 returns c ms st =
     let k = c .before in
-    let s = k .before .before .before .before .before .before .before .before .before .before in
+    let s = k .before .before .before .before .before .before .before .before in
     definition-no (now (s .args .words)) (now (s .args .area)) (s .args .at) (s .args .l) ms st
     (k .judge .ensures)
-    (k .before .before .before .in-range .ensures)
-    (k .before .before .defined .ensures)
-    (k .before .before .before .before .before .before .definition-base .ensures)
-    (k .before .before .before .before .before .repeated .ensures)
+    (k .before .before .before .before .in-range .ensures)
+    (k .before .before .before .defined .ensures)
+    (k .before .before .again .ensures)
     (k .before .placed .ensures)
     refl
-    (k .before .before .before .before .before .before .before .definition-kind .ensures)
     (c .if1 .taken)
 
 add-m : tie.Need-add-m
@@ -49,27 +41,23 @@ add-m c = search needs
 returns-2 : tie.Need-returns-2
 returns-2 c ms st =
     let k = c .before .before in
-    let s = k .before .before .before .before .before .before .before .before .before .before in
+    let s = k .before .before .before .before .before .before .before .before in
     definition-on (now (s .args .words)) (now (s .args .area)) (s .args .at) (s .args .l) ms st
     (k .judge .ensures)
-    (k .before .before .before .in-range .ensures)
-    (k .before .before .defined .ensures)
-    (k .before .before .before .before .before .before .definition-base .ensures)
-    (k .before .before .before .before .before .repeated .ensures)
+    (k .before .before .before .before .in-range .ensures)
+    (k .before .before .before .defined .ensures)
+    (k .before .before .again .ensures)
     (k .before .placed .ensures)
     refl
-    (k .before .before .before .before .before .before .before .definition-kind .ensures)
     (c .before .if1 .left) (s .pre .fits)
 
 pub step-spec : {M : Type 1} → statement M
 step-spec =
     tie.close
     (tie.spec
-    definition-kind-requires
-    definition-base-requires
-    repeated-requires
     in-range-requires
     defined-requires
+    again-requires
     placed-requires
     judge-requires
     returns

@@ -1,43 +1,27 @@
 use borrow.Author.Needs.{needs}
+use mathlib.Core.Path.{_≡_, sym, _∙_}
+use denote.Ref.{now}
+use Rattle.record_rules.proofs.Judged.{unlike}
 use Rattle.records.proofs.repeats.same.Statement.{statement}
 use Rattle.records.proofs.repeats.same.Tie as tie
 
--- src/repeats.rt:13:13
+add-payload : tie.Need-add-payload
+add-payload c = search needs
+
 payload-requires : tie.Need-payload-requires
 payload-requires c κs = search needs
 
--- src/repeats.rt:13:34
-payload-requires-2 : tie.Need-payload-requires-2
-payload-requires-2 c κs = search needs
-
--- src/repeats.rt:14:13
-field-requires : tie.Need-field-requires
-field-requires c κs = search needs
-
--- src/repeats.rt:14:35
-field-requires-2 : tie.Need-field-requires-2
-field-requires-2 c κs = search needs
-
--- src/repeats.rt:15:13
-field-requires-3 : tie.Need-field-requires-3
-field-requires-3 c κs = search needs
-
--- src/repeats.rt:15:35
-field-requires-4 : tie.Need-field-requires-4
-field-requires-4 c κs = search needs
-
--- src/repeats.rt:10:1
 returns : tie.Need-returns
-returns c = rw (c .field4 .ensures, c .before .field3 .ensures, c .before .before .field2 .ensures, c .before .before .before .field .ensures, c .before .before .before .before .payload2 .ensures, c .before .before .before .before .before .payload .ensures)
+returns c =
+    let s = c .before .before .before in
+    unlike (now (s .args .words)) (s .args .owner) (s .args .fields) (s .args .a) (s .args .b) (s .pre .1) (s .pre .2) (λ e. c .if1 .taken (c .before .payload .ensures ∙ e ∙ sym (s .pre .3)))
+
+same-fields-requires : tie.Need-same-fields-requires
+same-fields-requires c κs = search needs
+
+returns-2 : tie.Need-returns-2
+returns-2 c = search needs
 
 pub same-spec : {M : Type 1} → statement M
 same-spec =
-    tie.close
-    (tie.spec
-    payload-requires
-    payload-requires-2
-    field-requires
-    field-requires-2
-    field-requires-3
-    field-requires-4
-    returns)
+    tie.close (tie.spec add-payload payload-requires returns same-fields-requires returns-2)
