@@ -1,7 +1,7 @@
 //! Levels in the work area: three words (item, place of the level below, cursor), and then a run of modules.
 ghost use mathlib.Core.Path.{_≡_};
 ghost use mathlib.Core.List.{[], _∷_};
-ghost use Prim.Native.Nat.{ℕ, _+_, _<_, _≤_};
+ghost use Prim.Native.Nat.{_+_, _<_, _≤_};
 ghost use lib.ListN.{length};
 ghost use Rattle.find_path.specs.Walk.{has as hasIn, visited as visitedIn};
 ghost use Rattle.local_levels.specs.Levels.{Small, codeOf, runAt, levelsOf, Chain};

@@ -1,5 +1,5 @@
 //! The local search, which is never charged: `calculate_best_path_local` and the searches below it.
-ghost use Prim.Native.Nat.{ℕ, _-_, _≤_, _<_, _^_};
+ghost use Prim.Native.Nat.{_-_, _≤_, _<_, _^_};
 ghost use Rattle.snapshot.specs.Layouts.{snapOf};
 ghost use Rattle.find_path.specs.Local.{importableName, location as locationOf, calculateBestPathLocal};
 ghost use Rattle.find_path.specs.Search.{searchLocal, bestLocal};

@@ -32,7 +32,7 @@ use Rattle.find_path.specs.Report.{searched}
 use Rattle.find_path.specs.Conditions.{Prepared, Searched}
 use Rattle.find_path.proofs.Tanks.{item-sum}
 use Rattle.find_path.proofs.Tables.{names-short, same-snap}
-use Rattle.charged_search.specs.Parts.{modules, bestPath, Begun}
+use Rattle.charged_search.specs.Parts.{bestPath, Begun}
 use Rattle.search.specs.Parts.{items, names, straight}
 use Rattle.charged_search.proofs.Parts.{found}
 use Rattle.charged_search.proofs.Holding.{Offered}

@@ -1,5 +1,4 @@
 -- The search for an item at the tank, over the finished search; and the module that it is asked for at once.
-use Prim.Native.Nat.{ℕ}
 use mathlib.Core.Bool.{Bool, true, false}
 use Rattle.snapshot.specs.Records.{Snapshot}
 use Rattle.hir_def.specs.declared.Item.{Item}
