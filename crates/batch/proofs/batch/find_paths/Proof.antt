@@ -1,5 +1,6 @@
 use borrow.Author.Needs.{needs}
 use mathlib.Core.Path.{sym, ap, _∙_}
+use native.Mathlib.Omega.{arith}
 use denote.Ref.{now}
 use borrow.Author.Tests.{not-true, not-false}
 use lib.ListN.{length}
@@ -23,7 +24,7 @@ slice-relend-prefix-clear c = search needs
 slice-aggregate-clear : tie.Need-slice-aggregate-clear
 slice-aggregate-clear c =
     let e = c .before .before .before in
-    sym (length-take-le 16384 (now (e .before .before .before .before .before .args .area)) (e .if1 .left))
+    sym (length-take-le _ (now (e .before .before .before .before .before .args .area)) (omega (arith, e .if1 .left)))
 
 clear-requires : tie.Need-clear-requires
 clear-requires c κs = search needs
@@ -46,7 +47,7 @@ slice-relend-prefix-answer-each c = search needs
 slice-aggregate-answer-each : tie.Need-slice-aggregate-answer-each
 slice-aggregate-answer-each c =
     let e = c .before .before .before in
-    sym (length-take-le 16384 (now (e .before .before .before .before .before .args .area)) (e .if1 .left))
+    sym (length-take-le _ (now (e .before .before .before .before .before .args .area)) (omega (arith, e .if1 .left)))
 
 answer-each-requires : tie.Need-answer-each-requires
 answer-each-requires c κs =
