@@ -8,7 +8,7 @@ use line::text::text_byte;
 use snapshot::kind::text_words;
 
 /// How many of so many bytes the words hold.
-pub fn held(text: &[u32], bytes: usize) -> usize
+pub(crate) fn held(text: &[u32], bytes: usize) -> usize
     requires { ⌜ bytes < 2 ^ 32 ⌝ }
     ensures { λ r. ⌜ r ≡ length (take bytes (unpacked (now (text .entry)))) ⌝ }
 {
@@ -19,7 +19,7 @@ pub fn held(text: &[u32], bytes: usize) -> usize
 }
 
 /// Copies the first bytes of a text that stands in words to the front.
-pub fn copy_text(out: &mut [u8], text: &[u32], n: usize)
+pub(crate) fn copy_text(out: &mut [u8], text: &[u32], n: usize)
     requires { ⌜ (n ≤ length (now out)) × (n ≤ 3 * length (now text)) ⌝ }
     ensures { λ _. ⌜ now (out .exit) ≡ take n (unpacked (now (text .entry))) ++ drop n (now (out .entry)) ⌝ }
 {

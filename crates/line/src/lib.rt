@@ -1,4 +1,4 @@
 //! The printed line of a report, as bytes.
 pub mod line;
-pub mod path;
+mod path;
 pub mod text;

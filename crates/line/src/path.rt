@@ -53,7 +53,7 @@ fn put_part(
 }
 
 /// Puts a path: its prefix and its names, with joints between them.
-pub fn put_path(
+pub(crate) fn put_path(
     out: &mut [u8],
     at: usize,
     words: &[u32],

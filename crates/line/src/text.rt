@@ -50,7 +50,14 @@ fn put_text(out: &mut [u8], at: usize, text: &[u32], n: usize) -> usize
 }
 
 /// Puts the text of a name; a number that is no name's puts nothing.
-pub fn put_name(out: &mut [u8], at: usize, words: &[u32], area: &[u32], l: Layout, n: Name) -> usize
+pub(crate) fn put_name(
+    out: &mut [u8],
+    at: usize,
+    words: &[u32],
+    area: &[u32],
+    l: Layout,
+    n: Name,
+) -> usize
     requires { ⌜ Reads (now words) (now area) l × (at + 255 ≤ length (now out)) ⌝ }
     ensures { λ r. ⌜ Put (now (out .entry)) at (textOf (snapOf (now (words .entry)) (now (area .entry)) l) (n .0)) (now (out .exit)) r ⌝ }
     ensures { λ r. ⌜ r ≤ at + 255 ⌝ }
@@ -64,7 +71,7 @@ pub fn put_name(out: &mut [u8], at: usize, words: &[u32], area: &[u32], l: Layou
 }
 
 /// Puts a number in decimal.
-pub fn put_number(out: &mut [u8], at: usize, n: usize) -> usize
+pub(crate) fn put_number(out: &mut [u8], at: usize, n: usize) -> usize
     requires { ⌜ at + 20 ≤ length (now out) ⌝ }
     ensures { λ r. ⌜ Put (now (out .entry)) at (decimal n) (now (out .exit)) r ⌝ }
     ensures { λ r. ⌜ r ≤ at + 20 ⌝ }

@@ -1,11 +1,11 @@
 -- Laws of the printed lines.
 use Prim.Native.Nat.{ℕ, zero, suc, _+_, _-_, _%_, _≤_, _<_, min}
-use mathlib.Core.Path.{_≡_, sym, _∙_, ap, ap₂}
+use mathlib.Core.Path.{_≡_, refl, sym, _∙_, ap, ap₂}
 use mathlib.Core.List.{List, [], _∷_, _++_}
 use mathlib.Core.Bool.{Bool, true, false, _&&_}
 use native.Mathlib.Omega.{arith}
 use native.Mathlib.Nat.{sub-zero}
-use borrow.Author.Tests.{eq-eqb, ne-eqb, lt-ltb, le-ltb, ltb-true, ltb-false}
+use borrow.Author.Tests.{eq-eqb, ne-eqb, lt-ltb, le-ltb, lt-leb, ltb-true, ltb-false}
 use lib.Dec.{eqb, leb, ltb}
 use lib.ListN.{length, getD, take, length-take}
 use lib.Seq.{length-take-le}
@@ -74,6 +74,20 @@ unfolding wholeAt
 whole-same W i k a b c d e p q r s t u =
     ap₂ (λ x y. x && y) (ap (λ x. eqb x 12) p)
     (ap₂ (λ x y. x && y) (ap₂ (λ x y. x && y) q r) (ap₂ (λ x y. x && y) (ap₂ (λ x y. x && y) s t) (ap (λ x. x && leb (i + 6) (length W)) u)))
+
+none-false : (a b c d : Bool) → false ≡ (a && (b && (c && (d && false))))
+none-false false b c d = refl
+none-false true false c d = refl
+none-false true true false d = refl
+none-false true true true false = refl
+none-false true true true true = refl
+
+pub not-whole : (W : List ℕ) (i : ℕ) → length W ≤ i → false ≡ wholeAt W i
+unfolding wholeAt
+not-whole W i h =
+    let g : length W < i + 6 = omega arith in
+    rw (wholeAt, lt-leb _ _ g)
+    (none-false (eqb (kindOf (getD W i 0)) 12) (isArgument W (i + 1) && isArgument W (i + 2)) (isArgument W (i + 3) && isArgument W (i + 4)) (isArgument W (i + 5)))
 
 pub question-same : (W : List ℕ) (i ns d m p o f : ℕ) → ns ≡ getD W (i + 1) 0 → d ≡ payOf (getD W i 0) → m ≡ getD W (i + 2) 0
     → p ≡ getD W (i + 3) 0 → o ≡ getD W (i + 4) 0 → f ≡ getD W (i + 5) 0

@@ -1,6 +1,6 @@
 //! The questions among the words of an input.
 ghost use mathlib.Core.Path.{_≡_};
-ghost use Prim.Native.Nat.{ℕ, _+_, _^_, _≤_, _<_};
+ghost use Prim.Native.Nat.{ℕ, _+_, _≤_};
 ghost use lib.ListN.{length};
 ghost use Rattle.printer.specs.Printed.{questionsAt, isArgument, wholeAt, questionAt};
 use find_path::Query;
@@ -39,9 +39,11 @@ fn is_argument(words: &[u32], i: usize) -> bool
 
 /// Whether a whole question stands at a place.
 pub fn is_whole(words: &[u32], at: usize) -> bool
-    requires { ⌜ at < 2 ^ 32 ⌝ }
     ensures { λ r. ⌜ r ≡ wholeAt (now (words .entry)) at ⌝ }
 {
+    if words.len() <= at {
+        return false;
+    }
     let head = kind(words, at) == QuestionKind::HEAD;
     let first = is_argument(words, at + 1) & is_argument(words, at + 2);
     let second = is_argument(words, at + 3) & is_argument(words, at + 4);

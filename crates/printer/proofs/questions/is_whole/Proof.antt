@@ -1,8 +1,11 @@
 use borrow.Author.Needs.{needs}
 use denote.Ref.{now}
-use Rattle.printer.proofs.Laws.{whole-same}
+use Rattle.printer.proofs.Laws.{not-whole, whole-same}
 use Rattle.printer.proofs.questions.is_whole.Statement.{statement}
 use Rattle.printer.proofs.questions.is_whole.Tie as tie
+
+returns : tie.Need-returns
+returns c = not-whole (now (c .before .before .args .words)) (c .before .before .args .at) (c .if1 .taken)
 
 kind-requires : tie.Need-kind-requires
 kind-requires c κs = search needs
@@ -40,15 +43,16 @@ is-argument-requires-5 c κs = search needs
 add-third : tie.Need-add-third
 add-third c = search needs
 
-returns : tie.Need-returns
-returns c =
-    let s = c .before .before .before .before .before .before .before .args in
+returns-2 : tie.Need-returns-2
+returns-2 c =
+    let s = c .before .before .before .before .before .before .before .before .args in
     whole-same (now (s .words)) (s .at) _ _ _ _ _ _ (c .before .before .before .before .before .kind .ensures) (c .before .before .before .before .is-argument .ensures) (c .before .before .before .is-argument2 .ensures) (c .before .before .is-argument3 .ensures) (c .before .is-argument4 .ensures) (c .is-argument5 .ensures)
 
 pub is-whole-spec : {M : Type 1} → statement M
 is-whole-spec =
     tie.close
     (tie.spec
+    returns
     kind-requires
     add-is-argument
     is-argument-requires
@@ -61,4 +65,4 @@ is-whole-spec =
     add-is-argument-5
     is-argument-requires-5
     add-third
-    returns)
+    returns-2)
