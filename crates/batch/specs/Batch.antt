@@ -10,11 +10,21 @@ use Rattle.find_path.specs.declared.Question.{Question}
 use Rattle.find_path.specs.Report.{reportOf}
 use Rattle.answer.specs.Answers.{areaAfter}
 use Rattle.reports.specs.Written.{reportWords}
-use Rattle.batch.specs.Questions.{questionsOf}
+use Rattle.batch.specs.Questions.{questionSize, questionsOf}
+
+-- questions of a call, at most
+abbrev pub questionLimit : ℕ
+questionLimit = 64
+
+-- words of a report
+abbrev pub reportSize : ℕ
+reportSize = 22
 
 -- so many words are at most 64 whole questions, and there are words enough for their reports
 unfoldable pub batchFits : ℕ → ℕ → Bool
-batchFits questions reports = leb (questions / 6) 64 && (eqb (questions % 6) 0 && leb (22 * (questions / 6)) reports)
+batchFits questions reports =
+    leb (questions / questionSize) questionLimit
+    && (eqb (questions % questionSize) 0 && leb (reportSize * (questions / questionSize)) reports)
 
 -- 20 a small work area; 44 too many questions, a part of one, or too few words for the reports; 0 for none
 unfoldable pub batchFault : ℕ → ℕ → ℕ → ℕ
@@ -28,7 +38,7 @@ reportsOf W (q ∷ qs) = reportWords (reportOf W areaLimit q) ++ reportsOf W qs
 
 -- the reports of the questions whose words Q are at the front of R, and the words past them as they were
 abbrev pub reportsTo : List ℕ → List ℕ → List ℕ → List ℕ
-reportsTo W Q R = reportsOf W (questionsOf (length Q / 6) Q) ++ drop (22 * (length Q / 6)) R
+reportsTo W Q R = reportsOf W (questionsOf (length Q / questionSize) Q) ++ drop (reportSize * (length Q / questionSize)) R
 
 -- a refusal of the whole call leaves all as it was
 unfoldable pub reportsAfter : List ℕ → List ℕ → List ℕ → ℕ → List ℕ

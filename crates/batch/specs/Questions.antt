@@ -4,6 +4,10 @@ use mathlib.Core.List.{List, [], _∷_}
 use lib.ListN.{getD, drop}
 use Rattle.find_path.specs.declared.Question.{Question}
 
+-- words of a question
+abbrev pub questionSize : ℕ
+questionSize = 6
+
 -- a word a field: namespace, definition, viewing module, prefix, options, fuel
 abbrev pub questionOf : List ℕ → Question
 questionOf q =
@@ -15,4 +19,4 @@ questionOf q =
 -- so many questions, one after the other
 unfoldable pub questionsOf : ℕ → List ℕ → List Question
 questionsOf zero words = []
-questionsOf (suc n) words = questionOf words ∷ questionsOf n (drop 6 words)
+questionsOf (suc n) words = questionOf words ∷ questionsOf n (drop questionSize words)
