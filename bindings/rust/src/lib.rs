@@ -1,7 +1,8 @@
 //! Which path names an item in a module, for programs that rewrite Rust code.
 //!
 //! A [`Snapshot`] of a workspace is checked once; a [`Question`] asks for the path of an item as seen from a module, as
-//! rust-analyzer's `find_path` does. The answers come from proved code in a static library; this crate adds the types.
+//! rust-analyzer's `find_path` does. [`Snapshot::find_paths`] answers the questions of a whole file at once. The answers come from
+//! proved code in a static library; this crate adds the types.
 //!
 //! [`Outcome`] keeps apart what the Rust does not: [`Outcome::NoPath`] says that there is no path, [`Outcome::TankEmpty`] that
 //! the fuel ran out before the search was through, which says nothing about the item.
