@@ -3,11 +3,11 @@ use mathlib.Core.Path.{_≡_, refl, ap, sym, _∙_}
 use mathlib.Core.List.{List}
 use mathlib.Core.Bool.{Bool, true, false, not, true≢false}
 use mathlib.Core.Logic.{_↔_}
-use Prim.Native.Nat.{ℕ, zero, suc, _+_, _≤_, _<_, min}
+use Prim.Native.Nat.{ℕ, _+_, _≤_, _<_, min}
 use native.Mathlib.Omega.{arith}
 use Rattle.snapshot.specs.Limits.{fuelLimit}
 use Rattle.snapshot.specs.Records.{Snapshot}
-use Rattle.accept.specs.Verdict.{Verdict, refuse, accept, verdict}
+use Rattle.accept.specs.Verdict.{accept, verdict}
 use Rattle.find_path.specs.declared.Choice.{Choice}
 use Rattle.find_path.specs.declared.Tank.{Tank}
 use Rattle.find_path.specs.declared.Query.{Query}
@@ -15,8 +15,9 @@ use Rattle.find_path.specs.declared.Report.{Report}
 use Rattle.find_path.specs.Meters.{fromTank, counted}
 use Rattle.find_path.specs.Charged.{Out}
 use Rattle.find_path.specs.Search.{findPath}
-use Rattle.find_path.specs.Report.{callFault, questionFault, refused, flag, reported, searched, searchedFreely, answerUnless, reportBy, reportUnless, reportOf}
+use Rattle.find_path.specs.Report.{refused, flag, reported, searched, searchedFreely}
 use Rattle.find_path.specs.Fuels.{reportAt, IsRefused, Shows, Tells, Compared, FuelsCompared}
+use Rattle.find_path.proofs.Outcomes.{Kind, refusal, answer, kind-of}
 use Rattle.find_path.proofs.Sim.{Dry, Sync, Sim, same, dry, search-sim}
 
 -- a report that is not refused is that of a search on an accepted snapshot
@@ -25,27 +26,14 @@ pub record Searched (words : List ℕ) (q : Query) (fuel : ℕ) (r : Report) : T
   pub accepted : verdict words ≡ accept snapshot
   pub answer : r ≡ reported (searched snapshot q fuel)
 
-by-question : (words : List ℕ) (q : Query) (fuel : ℕ) (s : Snapshot) → verdict words ≡ accept s → (n : ℕ)
-    → (IsRefused (answerUnless s q fuel n) → ⊥) → Searched words q fuel (answerUnless s q fuel n)
-unfolding answerUnless refused
-by-question words q fuel s e zero h = record { snapshot = s; accepted = e; answer = refl }
-by-question words q fuel s e (suc n) h = absurd (h refl)
-
-by-verdict : (words : List ℕ) (q : Query) (fuel : ℕ) (v : Verdict) → verdict words ≡ v
-    → (IsRefused (reportBy q fuel v) → ⊥) → Searched words q fuel (reportBy q fuel v)
-unfolding reportBy refused
-by-verdict words q fuel (refuse n place) e h = absurd (h refl)
-by-verdict words q fuel (accept s) e h = by-question words q fuel s e (questionFault s q) h
-
-by-call : (words : List ℕ) (q : Query) (fuel n : ℕ) → (IsRefused (reportUnless words q fuel n) → ⊥) → Searched words q fuel (reportUnless words q fuel n)
-unfolding reportUnless refused
-by-call words q fuel zero h = by-verdict words q fuel (verdict words) refl h
-by-call words q fuel (suc n) h = absurd (h refl)
+by-kind : (words : List ℕ) (q : Query) (fuel : ℕ) (r : Report) → Kind words q fuel r → (IsRefused r → ⊥) → Searched words q fuel r
+unfolding refused
+by-kind words q fuel r (refusal n l e) h = absurd (h (ap (λ (z : Report). z .outcome) e))
+by-kind words q fuel r (answer s a l e) h = record { snapshot = s; accepted = a; answer = e }
 
 pub not-refused : (words : List ℕ) (area : ℕ) (q : Query) (fuel : ℕ) → (IsRefused (reportAt words area q fuel) → ⊥)
     → Searched words q fuel (reportAt words area q fuel)
-unfolding reportOf
-not-refused words area q fuel h = by-call words q fuel (callFault area q fuel) h
+not-refused words area q fuel h = by-kind words q fuel (reportAt words area q fuel) (kind-of words area (record { query = q; fuel = fuel })) h
 
 -- what the simulation says of a report
 told : (F : ℕ) (a : Out Tank) (c : Out ℕ) → Sim F a c → Tells F c (reported a)

@@ -1,9 +1,12 @@
 pub mod Keeps
 pub mod Tanks
 pub mod Sim
+pub mod Refusals
+pub mod Outcomes
 pub mod Fuels
 pub mod Unfold
 pub mod Bounds
+pub mod Known
 pub mod Reports
 pub mod Walks
 pub mod Chains

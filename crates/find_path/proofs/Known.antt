@@ -1,0 +1,470 @@
+-- Every name of a path is the number of a name of the snapshot, and its kind is one of the five.
+use mathlib.Core.Path.{_≡_, refl, ap, sym, _∙_, subst}
+use Prim.Native.Nat.{ℕ, zero, suc, _≤_, _<_}
+use native.Mathlib.Omega.{arith}
+use native.Mathlib.Decide.{decLe}
+use mathlib.Core.List.{List, [], _∷_, _++_, reverseAux}
+use mathlib.Core.Bool.{Bool, true, false, _&&_, _||_, not}
+use mathlib.Core.Option.{Option, none, some}
+use lib.Dec.{eqb}
+use lib.ListN.{length, getD, set, replicate, List·getD-eq-default}
+use borrow.Author.Tests.{eqb-true}
+use Rattle.snapshot.specs.Limits.{pathLimit}
+use Rattle.snapshot.specs.Records.{Snapshot, Scope, Prelude, Dependency, Definition, Import, Extern}
+use Rattle.accept.specs.Tests.{countsOf, noDefinition}
+use Rattle.accept.specs.Valid.{Each, more, ScopeFits, ImportFits, ExternFits, DefinitionFits, Ranges}
+use Rattle.accept.specs.Verdict.{accept, verdict}
+use Rattle.accept.proofs.Accepted.{by-test}
+use Rattle.accept.proofs.Bools.{and-right, each-at}
+use Rattle.accept.proofs.Ranges.{accepted-ranges}
+use Rattle.hir_def.specs.Finds.{firstOf, firstSome}
+use Rattle.hir_def.specs.Items.{types, variantKind, builtinKind, mapNo, parentOf, rootOf, crateOf, crateRoot, inBlock, definitionOf, itemOf, nsOf}
+use Rattle.hir_def.specs.Visibility.{sees}
+use Rattle.hir_def.specs.ItemScope.{nameOf, namesOf}
+use Rattle.hir_def.specs.Nameres.{ancestorMaps, scopeEntry, entryNamed, preludeOf, dependenciesOf, langOf, sysrootFirst, externOf}
+use Rattle.hir_def.specs.ImportMap.{importInfoFor, isHidden, isUnstable}
+use Rattle.hir_def.specs.declared.Item.{Item}
+use Rattle.hir_def.specs.declared.Item.the-variants.{Mod, Def}
+use Rattle.hir_def.specs.declared.Answer.{Answer}
+use Rattle.hir_def.specs.declared.Answer.the-variants.{Name, Nothing}
+use Rattle.hir_def.proofs.Found.{each-first, each-select}
+use Rattle.find_path.specs.declared.Choice.{Choice}
+use Rattle.find_path.specs.declared.KwKind.{KwKind}
+use Rattle.find_path.specs.declared.KwKind.the-variants.{Kw, NoKw}
+use Rattle.find_path.specs.declared.FindPathCtx.{FindPathCtx}
+use Rattle.find_path.specs.declared.Query.{Query}
+use Rattle.find_path.specs.declared.Question.{Question}
+use Rattle.find_path.specs.declared.Report.{Report}
+use Rattle.find_path.specs.declared.Tank.{Tank}
+use Rattle.find_path.specs.Choices.{plainPath, selfPath, superPath, cratePath, nothing, keyword, choiceNew, extended, push, unstably, better, trySelect}
+use Rattle.find_path.specs.Walk.{Level}
+use Rattle.find_path.specs.Rules.{byCrate, mayBeInScope, prefixPathKind, contextOf, firstFound, entryName, single, findInScope, scopeRule, sameHere, preludeEntry, inPrelude, findInPrelude, preludeRule, externKind, externName, rootRule, parentKind, isKwKindRelativeToFrom, keywordOf, moduleRules}
+use Rattle.find_path.specs.Local.{LocalSearch, offer, nameIf, importableName, location, eachLocation, calculateBestPathLocal, orLocal, findPathForModuleLocal}
+use Rattle.find_path.specs.Meters.{Charged, go, stop, fromTank}
+use Rattle.find_path.specs.Charged.{Out, Search, Inner, langs, oneOrNone, variantOf, offerImport, findImport, findImports, findInDep, findInDeps, findInSysroot, goOn, afterCharge, calculateBestPath, orCharged, findPathForModule, afterEnum, viaEnum, orEnum, byName, ofModule, findPathInner}
+use Rattle.find_path.specs.Search.{localTo, searchLocal, bestLocal, moduleTo, searchModule, itemTo, searchItem, fromHome, fromItem, findPath}
+use Rattle.find_path.specs.Report.{refused, reported, searched, reportOf}
+use Rattle.find_path.specs.Fuels.{NamesKnown}
+use Rattle.find_path.proofs.Outcomes.{Kind, refusal, answer, kind-of}
+
+pub record Known (s : Snapshot) (c : Choice) : Type 0 where
+  pub kind : c .kind ≤ 4
+  pub names : (i : ℕ) → i < c .count → getD (c .names) i 0 < length (s .names)
+
+-- what may be there, and has P if it is
+abbrev Held : {A : Type 0} → (A → Type 0) → Option A → Type 0
+Held P none = Unit {0}
+Held P (some y) = P y
+
+-- a name that is answered is a name of the snapshot
+abbrev Named : Snapshot → Answer → Type 0
+Named s (Name n) = n < length (s .names)
+Named s Nothing = Unit {0}
+
+-- the path kind of a keyword is one of the five
+abbrev KindSmall : KwKind → Type 0
+KindSmall (Kw k) = k ≤ 4
+KindSmall NoKw = Unit {0}
+
+held : {A : Type 0} {P : A → Type 0} (o : Option A) → ((y : A) → o ≡ some y → P y) → Held P o
+held none f = tt
+held (some y) f = f y refl
+
+first-held : {A : Type 0} {P : A → Type 0} {xs : List A} (p : A → Bool) → Each P xs → Held P (firstOf p xs)
+first-held p h = held _ (λ y e. each-first p y h e)
+
+or-held : {A : Type 0} (P : A → Type 0) (a b : Option A) → Held P a → Held P b → Held P (elim a [ some y ↦ some y | none ↦ b ])
+or-held P none b h g = g
+or-held P (some y) b h g = h
+
+some-held : {A B : Type 0} (P : B → Type 0) (f : A → Option B) (xs : List A) → ((x : A) → Held P (f x)) → Held P (firstSome f xs)
+unfolding firstSome
+some-held P f [] h = tt
+some-held P f (x ∷ xs) h = or-held P (f x) (firstSome f xs) (h x) (some-held P f xs h)
+
+each-back : {A : Type 0} {P : A → Type 0} {xs ys : List A} → Each P xs → Each P ys → Each P (reverseAux xs ys)
+each-back Each.none h = h
+each-back (more q g) h = each-back g (more q h)
+
+-- one place of a list set to a number below m
+put-below : (l : List ℕ) (k n i m : ℕ) → n < m → ((i ≡ k → ⊥) → getD l i 0 < m) → getD (set l k n) i 0 < m
+put-below [] k n i m h g = omega arith
+put-below (x ∷ l) zero n zero m h g = h
+put-below (x ∷ l) zero n (suc i) m h g = g (λ e. omega arith)
+put-below (x ∷ l) (suc k) n zero m h g = g (λ e. omega arith)
+put-below (x ∷ l) (suc k) n (suc i) m h g = put-below l k n i m h (λ e. g (λ z. e (omega arith)))
+
+nothing-known : {s : Snapshot} → Known s nothing
+nothing-known = record { kind = omega arith; names = λ i h. absurd (omega arith) }
+
+keyword-known : {s : Snapshot} (k : ℕ) → k ≤ 4 → Known s (keyword k)
+unfolding keyword
+keyword-known k h = record { kind = h; names = λ i l. absurd (omega arith) }
+
+new-known : (s : Snapshot) (k n : ℕ) → k ≤ 4 → n < length (s .names) → Known s (choiceNew s k n)
+unfolding choiceNew
+new-known s k n h g = record { kind = h; names = λ i l. put-below (replicate 16 0) 0 n i _ g (λ e. absurd (e (omega arith))) }
+
+extended-known : (s : Snapshot) (c : Choice) (n : ℕ) (b : Bool) → Known s c → n < length (s .names) → Known s (extended s c n b)
+unfolding extended
+extended-known s c n b f g =
+    record { kind = f .kind; names = λ i l. put-below (c .names) (c .count) n i _ g (λ e. f .names i (omega arith)) }
+
+push-known : (s : Snapshot) (c : Choice) (n : ℕ) → Known s c → n < length (s .names) → Known s (push s c n)
+unfolding push
+push-known s c n f g = extended-known s c n _ f g
+
+-- of two choices, the one that a test takes
+either-known : {s : Snapshot} (b : Bool) (c d : Choice) → Known s c → Known s d → Known s (elim b [ true ↦ c | false ↦ d ])
+either-known true c d f g = f
+either-known false c d f g = g
+
+first-none : {s : Snapshot} → Known s (firstFound [])
+unfolding firstFound
+first-none = nothing-known
+
+first-known : {s : Snapshot} (c : Choice) (cs : List Choice) → Known s c → Known s (firstFound cs) → Known s (firstFound (c ∷ cs))
+unfolding firstFound
+first-known c cs f g = either-known (c .found) c (firstFound cs) f g
+
+-- path kinds
+
+prefix-small : (p : ℕ) → prefixPathKind p ≤ 4
+unfolding prefixPathKind
+prefix-small zero = omega arith
+prefix-small (suc zero) = omega arith
+prefix-small (suc (suc zero)) = omega arith
+prefix-small (suc (suc (suc p))) = omega arith
+
+either-small : (b : Bool) (k l : KwKind) → KindSmall k → KindSmall l → KindSmall (elim b [ true ↦ k | false ↦ l ])
+either-small true k l f g = f
+either-small false k l f g = g
+
+named-if : (s : Snapshot) (b : Bool) (n : ℕ) → n < length (s .names) → Named s (elim b [ true ↦ Name n | false ↦ Nothing ])
+named-if s true n h = h
+named-if s false n h = tt
+
+entry-named : (s : Snapshot) (o : Option Scope) → Held (ScopeFits (countsOf s)) o → Named s (entryName o)
+unfolding entryName
+entry-named s none h = tt
+entry-named s (some e) h = h .name
+
+module _ (s : Snapshot) (r : Ranges (countsOf s) s) where
+  -- a definition of a kind is there
+  definition-known : (d k : ℕ) → definitionOf s d .kind ≡ suc k → DefinitionFits (countsOf s) (definitionOf s d)
+  unfolding definitionOf
+  definition-known d k e =
+      elim (decLe (length (s .definitions)) d) [
+        | yes h ↦ let z = sym (ap (λ (y : Definition). y .kind) (List·getD-eq-default (s .definitions) noDefinition h)) ∙ e in absurd (omega arith)
+        | no h ↦ each-at noDefinition d (r .definitions) (omega arith)
+      ]
+
+  -- the name of a variant
+  variant-held : (item : Item) → Held (λ v. v .second < length (s .names)) (variantOf s item)
+  unfolding variantOf
+  variant-held (Mod m) = tt
+  variant-held (Def ns d) =
+      by-test (eqb (definitionOf s d .kind) variantKind)
+      (λ t. rw (variantOf, t) (let k = eqb-true _ _ t in definition-known d 1 k .variant k .1))
+      (λ t. rw (variantOf, t) tt)
+
+  name-held : (m : ℕ) (item : Item) → Held (ScopeFits (countsOf s)) (nameOf s m item)
+  unfolding nameOf
+  name-held m item = first-held _ (r .scopes)
+
+  entry-held : (m : ℕ) (item : Item) (b : Bool) → Held (ScopeFits (countsOf s)) (scopeEntry s m item b)
+  unfolding scopeEntry namesOf
+  entry-held m item b = some-held (ScopeFits (countsOf s)) _ (ancestorMaps s m) (λ a. first-held _ (r .scopes))
+
+  extern-held : (c m : ℕ) → Held (ExternFits (countsOf s)) (externOf s c m)
+  unfolding externOf
+  extern-held c m = first-held {P = ExternFits (countsOf s)} _ (search (r .externs, each-back, Each.none))
+
+  module _ (x : FindPathCtx) where
+    select-known : (best c : Choice) (n : ℕ) → Known s best → Known s c → n < length (s .names) → Known s (trySelect s (x .prelude) best c n)
+    unfolding trySelect
+    select-known best c n f g h =
+        either-known (best .found) _ _
+        (either-known (better s (x .prelude) best c n) _ _ (extended-known s c n _ g h) f) (push-known s c n g h)
+
+    offer-known : (best c : Choice) (n : ℕ) → Known s best → Known s c → n < length (s .names) → Known s (offer s x best c n)
+    unfolding offer
+    offer-known best c n f g h = either-known (c .found) _ _ (select-known best c n f g h) f
+
+    unstably-known : (c : Choice) → Known s c → Known s (unstably c)
+    unfolding unstably
+    unstably-known c f = record { kind = f .kind; names = f .names }
+
+    offer-import-known : (best c : Choice) (i : Import) → Known s best → Known s c → ImportFits (countsOf s) i → Known s (offerImport s x best c i)
+    unfolding offerImport
+    offer-import-known best c i f g h =
+        either-known (isUnstable i) _ _
+        (either-known (x .unstable) _ _ (offer-known best (unstably c) (i .name) f (unstably-known c g) (h .name)) f)
+        (offer-known best c (i .name) f g (h .name))
+
+    -- the rules without a search
+
+    single-known : (kind : ℕ) (a : Answer) → kind ≤ 4 → Named s a → Known s (single s x kind a)
+    unfolding single
+    single-known kind Nothing k h = nothing-known
+    single-known kind (Name n) k h = new-known s kind n k h
+
+    scope-named : (item : Item) → Named s (findInScope s x item)
+    unfolding findInScope
+    scope-named item = entry-named s _ (entry-held (x .from) item (x .declared))
+
+    scope-known : (item : Item) → Known s (scopeRule s x item)
+    unfolding scopeRule
+    scope-known item =
+        either-known (mayBeInScope s x) _ _ (single-known _ (findInScope s x item) (prefix-small (x .prefix)) (scope-named item)) nothing-known
+
+    prelude-entry-named : (item : Item) (o : Option Scope) → Held (ScopeFits (countsOf s)) o → Named s (preludeEntry s x item o)
+    unfolding preludeEntry
+    prelude-entry-named item none h = tt
+    prelude-entry-named item (some e) h =
+        named-if s (sees s (x .from) e && sameHere s x item (entryNamed s (x .from) (nsOf item) (e .name))) (e .name) (h .name)
+
+    in-prelude-named : (item : Item) (o : Option Prelude) → Named s (inPrelude s x item o)
+    unfolding inPrelude
+    in-prelude-named item none = tt
+    in-prelude-named item (some p) = prelude-entry-named item _ (name-held (p .target) item)
+
+    prelude-known : (item : Item) → Known s (preludeRule s x item)
+    unfolding preludeRule findInPrelude
+    prelude-known item = single-known plainPath _ (omega arith) (in-prelude-named item (preludeOf s (mapNo s (x .from))))
+
+    extern-small : (b : Bool) → externKind s x b ≤ 4
+    unfolding externKind
+    extern-small true = omega arith
+    extern-small false = omega arith
+
+    extern-known : (m : ℕ) (e : Option Extern) → Held (ExternFits (countsOf s)) e → Known s (externName s x m e)
+    unfolding externName
+    extern-known m none h = nothing-known
+    extern-known m (some e) h = new-known s _ (e .name) (extern-small _) (h .name)
+
+    root-known : (b : Bool) (m : ℕ) → Known s (rootRule s x b m)
+    unfolding rootRule
+    root-known b m =
+        either-known (eqb (crateRoot s m) m) _ _
+        (either-known (not b || eqb m (x .root)) _ _ (keyword-known cratePath (omega arith))
+        (extern-known m (externOf s (x .krate) m) (extern-held (x .krate) m)))
+        nothing-known
+
+    parent-small : (m p : ℕ) → KindSmall (parentKind s x m p)
+    unfolding parentKind
+    parent-small m zero = tt
+    parent-small m (suc p) =
+        either-small (eqb m p) _ _
+        (either-small (eqb p (rootOf s (mapNo s (x .from)))) (Kw cratePath) (Kw superPath) (omega arith) (omega arith)) tt
+
+    kind-small : (m : ℕ) → KindSmall (isKwKindRelativeToFrom s x m)
+    unfolding isKwKindRelativeToFrom
+    kind-small m =
+        either-small (not (eqb (crateOf s m) (crateOf s (x .from))) || (inBlock s m || inBlock s (x .from))) NoKw _ tt
+        (either-small (eqb m (x .from)) (Kw selfPath) _ (omega arith) (parent-small m (parentOf s (x .from))))
+
+    keyword-of-known : (k : KwKind) → KindSmall k → Known s (keywordOf s x k)
+    unfolding keywordOf
+    keyword-of-known NoKw h = nothing-known
+    keyword-of-known (Kw k) h = either-known (not (eqb (x .prefix) byCrate) || eqb k cratePath) _ _ (keyword-known k h) nothing-known
+
+    rules-known : (b : Bool) (m : ℕ) → Known s (moduleRules s x b m)
+    unfolding moduleRules
+    rules-known b m =
+        first-known _ _ (root-known b m)
+        (first-known _ _ (scope-known (Mod m))
+        (first-known _ _ (keyword-of-known (isKwKindRelativeToFrom s x m) (kind-small m))
+        (first-known _ _ (prelude-known (Mod m)) first-none)))
+
+    -- the local search
+
+    name-if-named : (o : Option Scope) → Held (ScopeFits (countsOf s)) o → Named s (nameIf s x o)
+    unfolding nameIf
+    name-if-named none h = tt
+    name-if-named (some e) h =
+        named-if s (sees s (x .from) e && (eqb (e .declared) 1 || not (eqb (e .visibility) 3))) (e .name) (h .name)
+
+    importable-named : (item : Item) (m : ℕ) → Named s (importableName s x item m)
+    unfolding importableName
+    importable-named item m = name-if-named _ (name-held m item)
+
+    abbrev KnownLocal : LocalSearch → Type 0
+    KnownLocal rec = (left : ℕ) (ls : List Level) (m : ℕ) → Known s (rec left ls m)
+
+    module _ (rec : LocalSearch) (known : KnownLocal rec) where
+      location-known : (left : ℕ) (ls : List Level) (best : Choice) (m : ℕ) (a : Answer) → Known s best → Named s a → Known s (location s x rec left ls best m a)
+      unfolding location
+      location-known left ls best m Nothing f h = f
+      location-known left ls best m (Name n) f h = offer-known best _ n f (known _ ls m) h
+
+      each-known : (left : ℕ) (ls : List Level) (item : Item) (done : List ℕ) (best : Choice) (ms : List ℕ) → Known s best
+          → Known s (eachLocation s x rec left ls item done best ms)
+      unfolding eachLocation
+      each-known left ls item done best [] f = f
+      each-known left ls item done best (m ∷ ms) f =
+          each-known left ls item (done ++ (m ∷ [])) _ ms (location-known left _ best m (importableName s x item m) f (importable-named item m))
+
+      local-known : (left : ℕ) (ls : List Level) (item : Item) → Known s (calculateBestPathLocal s x rec left ls item)
+      unfolding calculateBestPathLocal
+      local-known left ls item = each-known left ls item [] nothing _ nothing-known
+
+      or-local-known : (left : ℕ) (ls : List Level) (m : ℕ) (c : Choice) (b : Bool) → Known s c → Known s (orLocal s x rec left ls m c b)
+      unfolding orLocal
+      or-local-known left ls m c true f = f
+      or-local-known left ls m c false f = local-known left ls (Mod m)
+
+    localTo-known : (d : ℕ) → KnownLocal (localTo s x d)
+    unfolding localTo findPathForModuleLocal
+    localTo-known zero left ls m = nothing-known
+    localTo-known (suc d) zero ls m = nothing-known
+    localTo-known (suc d) (suc l) ls m = or-local-known (localTo s x d) (localTo-known d) (suc l) ls m _ _ (rules-known false m)
+
+    best-local-known : (left : ℕ) (item : Item) → Known s (bestLocal s x left item)
+    unfolding bestLocal searchLocal
+    best-local-known left item = local-known (searchLocal s x) (λ l ls m. localTo-known l l ls m) left [] item
+
+module _ (M : Type 0) (charge : M → Charged M) (s : Snapshot) (r : Ranges (countsOf s) s) where
+  abbrev KnownSearch : Search M → Type 0
+  KnownSearch rec = (left m : ℕ) (t : M) → Known s (rec left m t .choice)
+
+  abbrev KnownInner : Inner M → Type 0
+  KnownInner inner = (item : Item) (t : M) → Known s (inner item t .choice)
+
+  module _ (x : FindPathCtx) (here : ℕ → Item → Choice) (local : (left : ℕ) (item : Item) → Known s (here left item))
+      (rec : Search M) (known : KnownSearch rec) where
+    import-known : (left : ℕ) (o : Out M) (i : Import) (b : Bool) → Known s (o .choice) → ImportFits (countsOf s) i
+        → Known s (findImport M charge s x here rec left o i b .choice)
+    unfolding findImport
+    import-known left o i true f h = f
+    import-known left o i false f h = offer-import-known s r x (o .choice) _ i f (known _ (i .container) (o .meter)) h
+
+    imports-known : (left : ℕ) (o : Out M) {is : List Import} → Known s (o .choice) → Each (ImportFits (countsOf s)) is
+        → Known s (findImports M charge s x here rec left o is .choice)
+    unfolding findImports
+    imports-known left o f Each.none = f
+    imports-known left o f (more {x = i} h hs) = imports-known left _ (import-known left o i (isHidden i) f h) hs
+
+    deps-known : (left : ℕ) (item : Item) (o : Out M) (ds : List Dependency) → Known s (o .choice)
+        → Known s (findInDeps M charge s x here rec left item o ds .choice)
+    unfolding findInDeps findInDep importInfoFor
+    deps-known left item o [] f = f
+    deps-known left item o (d ∷ ds) f = deps-known left item _ ds (imports-known left o f (each-select _ (r .imports)))
+
+    sysroot-known : (left : ℕ) (item : Item) (o : Out M) (ls : List ℕ) (b : Bool) → Known s (o .choice)
+        → Known s (findInSysroot M charge s x here rec left item o ls b .choice)
+    unfolding findInSysroot
+    sysroot-known left item o [] true f = f
+    sysroot-known left item o [] false f = deps-known left item o (sysrootFirst s (x .krate)) f
+    sysroot-known left item o (n ∷ ls) true f = f
+    sysroot-known left item o (n ∷ ls) false f =
+        sysroot-known left item _ ls _ (deps-known left item o (oneOrNone (langOf s (x .krate) n)) f)
+
+    go-known : (left : ℕ) (item : Item) (t : M) (a b : Bool) → Known s (goOn M charge s x here rec left item t a b .choice)
+    unfolding goOn
+    go-known left item t true b = local left item
+    go-known left item t false true = sysroot-known left item _ (langs (x .nostd)) false nothing-known
+    go-known left item t false false = deps-known left item _ (dependenciesOf s (x .krate)) nothing-known
+
+    after-known : (left : ℕ) (item : Item) (c : Charged M) → Known s (afterCharge M charge s x here rec left item c .choice)
+    unfolding afterCharge
+    after-known left item (go t) = go-known left item t _ _
+    after-known left item (stop t) = nothing-known
+
+    best-known : (left : ℕ) (item : Item) (t : M) → Known s (calculateBestPath M charge s x here rec left item t .choice)
+    unfolding calculateBestPath
+    best-known left item t = after-known left item (charge t)
+
+    or-known : (left m : ℕ) (t : M) (c : Choice) (b : Bool) → Known s c → Known s (orCharged M charge s x here rec left m t c b .choice)
+    unfolding orCharged
+    or-known left m t c true f = f
+    or-known left m t c false f = best-known left (Mod m) t
+
+    module-known : KnownSearch (findPathForModule M charge s x here rec)
+    unfolding findPathForModule
+    module-known zero m t = nothing-known
+    module-known (suc l) m t = or-known (suc l) m t _ _ (rules-known s r x true m)
+
+    module _ (inner : Inner M) (within : KnownInner inner) where
+      enum-known : (item : Item) (name : ℕ) (o : Out M) (b : Bool) → Known s (o .choice) → name < length (s .names)
+          → Known s (afterEnum M charge s x here rec item name o b .choice)
+      unfolding afterEnum
+      enum-known item name o true f h = push-known s (o .choice) name f h
+      enum-known item name o false f h = best-known pathLimit item (o .meter)
+
+      via-known : (item : Item) (t : M) (v : Option Definition) → Held (λ v. v .second < length (s .names)) v
+          → Known s (viaEnum M charge s x here rec inner item t v .choice)
+      unfolding viaEnum
+      via-known item t none h = best-known pathLimit item t
+      via-known item t (some v) h = enum-known item (v .second) _ _ (within (itemOf s types (v .first)) t) h
+
+      named-known : (item : Item) (t : M) (c : Choice) (b : Bool) → Known s c → Known s (orEnum M charge s x here rec inner item t c b .choice)
+      unfolding orEnum
+      named-known item t c true f = f
+      named-known item t c false f = via-known item t (variantOf s item) (variant-held s r item)
+
+      by-name-known : (item : Item) (t : M) → Known s (byName M charge s x here rec inner item t .choice)
+      unfolding byName
+      by-name-known item t =
+          named-known item t _ _ (first-known _ _ (scope-known s r x item) (first-known _ _ (prelude-known s r x item) first-none))
+
+      of-known : (m : ℕ) (t : M) (b : Bool) → Known s (ofModule M charge s x here rec inner m t b .choice)
+      unfolding ofModule
+      of-known m t true = by-name-known (Mod m) t
+      of-known m t false = known pathLimit m t
+
+      item-known : KnownInner (findPathInner M charge s x here rec inner)
+      unfolding findPathInner
+      item-known (Mod m) t = of-known m t (x .std)
+      item-known (Def ns d) t = by-name-known (Def ns d) t
+
+  moduleTo-known : (x : FindPathCtx) (d : ℕ) → KnownSearch (moduleTo M charge s x d)
+  unfolding moduleTo
+  moduleTo-known x zero left m t = nothing-known
+  moduleTo-known x (suc d) left m t =
+      module-known x (bestLocal s x) (best-local-known s r x) (moduleTo M charge s x d) (moduleTo-known x d) left m t
+
+  module-search-known : (x : FindPathCtx) → KnownSearch (searchModule M charge s x)
+  unfolding searchModule
+  module-search-known x left m t = moduleTo-known x left left m t
+
+  itemTo-known : (x : FindPathCtx) (d : ℕ) → KnownInner (itemTo M charge s x d)
+  unfolding itemTo
+  itemTo-known x zero item t = nothing-known
+  itemTo-known x (suc d) item t =
+      item-known x (bestLocal s x) (best-local-known s r x) (searchModule M charge s x) (module-search-known x)
+      (itemTo M charge s x d) (itemTo-known x d) item t
+
+  home-known : (q : Query) (item : Item) (t : M) (h : ℕ) → Known s (fromHome M charge s q item t h .choice)
+  unfolding fromHome searchItem
+  home-known q item t zero = nothing-known
+  home-known q item t (suc home) = itemTo-known (contextOf s q home) 2 item t
+
+  start-known : (q : Query) (t : M) (b : Bool) → (b ≡ true → definitionOf s (q .definition) .kind ≡ builtinKind)
+      → Known s (fromItem M charge s q t b .choice)
+  unfolding fromItem
+  start-known q t true k = let e = k refl in new-known s plainPath _ (omega arith) (definition-known s r (q .definition) 2 e .builtin e)
+  start-known q t false k = home-known q _ t _
+
+  -- Every path that a search finds has names of the snapshot alone.
+  pub search-known : (q : Query) (t : M) → Known s (findPath M charge s q t .choice)
+  unfolding findPath
+  search-known q t =
+      start-known q t _
+      (λ e. eqb-true _ _ (and-right (eqb (q .ns) types) (eqb (definitionOf s (q .definition) .kind) builtinKind) e))
+
+-- what the search of a question on accepted words finds
+pub searched-known : (words : List ℕ) (s : Snapshot) → verdict words ≡ accept s → (q : Query) (fuel : ℕ) → Known s (searched s q fuel .choice)
+unfolding searched
+searched-known words s e q fuel = search-known Tank fromTank s (accepted-ranges words s e) q _
+
+kind-known : {words : List ℕ} {q : Query} {fuel : ℕ} (s : Snapshot) → verdict words ≡ accept s → (r : Report) → Kind words q fuel r → NamesKnown s r
+unfolding refused reported
+kind-known s a r (refusal n h e) = let z = ap (λ (y : Report). y .count) e in λ i l. absurd (omega arith)
+kind-known {words = words} {q = q} {fuel = fuel} s a r (answer u b h e) =
+    let same : u ≡ s = cc (a, b) in
+    subst (λ z. NamesKnown z r) same (rw e (searched-known words u b q fuel .names))
+
+-- Every name of a report is the number of a name of the snapshot that the words were accepted as.
+pub report-known : (words : List ℕ) (area : ℕ) (q : Question) (s : Snapshot) → verdict words ≡ accept s → NamesKnown s (reportOf words area q)
+report-known words area q s e = kind-known s e (reportOf words area q) (kind-of words area q)
