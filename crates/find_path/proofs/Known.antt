@@ -39,7 +39,7 @@ use Rattle.find_path.specs.declared.Tank.{Tank}
 use Rattle.find_path.specs.Choices.{plainPath, selfPath, superPath, cratePath, nothing, keyword, choiceNew, extended, push, unstably, better, trySelect}
 use Rattle.find_path.specs.Walk.{Level}
 use Rattle.find_path.specs.Rules.{byCrate, mayBeInScope, prefixPathKind, contextOf, firstFound, entryName, single, findInScope, scopeRule, sameHere, preludeEntry, inPrelude, findInPrelude, preludeRule, externKind, externName, rootRule, parentKind, isKwKindRelativeToFrom, keywordOf, moduleRules}
-use Rattle.find_path.specs.Local.{LocalSearch, offer, nameIf, importableName, location, eachLocation, calculateBestPathLocal, orLocal, findPathForModuleLocal}
+use Rattle.find_path.specs.Local.{LocalSearch, offer, isImportable, nameIf, importableName, location, eachLocation, calculateBestPathLocal, orLocal, findPathForModuleLocal}
 use Rattle.find_path.specs.Meters.{Charged, go, stop, fromTank}
 use Rattle.find_path.specs.Charged.{Out, Search, Inner, langs, oneOrNone, variantOf, offerImport, findImport, findImports, findInDep, findInDeps, findInSysroot, goOn, afterCharge, calculateBestPath, orCharged, findPathForModule, afterEnum, viaEnum, orEnum, byName, ofModule, findPathInner}
 use Rattle.find_path.specs.Search.{localTo, searchLocal, bestLocal, moduleTo, searchModule, itemTo, searchItem, fromHome, fromItem, findPath}
@@ -282,12 +282,11 @@ module _ (s : Snapshot) (r : Ranges (countsOf s) s) where
     name-if-named : (o : Option Scope) → Held (ScopeFits (countsOf s)) o → Named s (nameIf s x o)
     unfolding nameIf
     name-if-named none h = tt
-    name-if-named (some e) h =
-        named-if s (sees s (x .from) e && (eqb (e .declared) 1 || not (eqb (e .visibility) 3))) (e .name) (h .name)
+    name-if-named (some e) h = named-if s (isImportable s x e) (e .name) (h .name)
 
     importable-named : (item : Item) (m : ℕ) → Named s (importableName s x item m)
-    unfolding importableName
-    importable-named item m = name-if-named _ (name-held m item)
+    unfolding importableName nameOf namesOf
+    importable-named item m = name-if-named _ (first-held _ (r .scopes))
 
     abbrev KnownLocal : LocalSearch → Type 0
     KnownLocal rec = (left : ℕ) (ls : List Level) (m : ℕ) → Known s (rec left ls m)

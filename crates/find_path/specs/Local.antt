@@ -26,15 +26,15 @@ module _ (s : Snapshot) (x : FindPathCtx) where
   unfoldable pub offer : Choice → Choice → ℕ → Choice
   offer best c n = elim (c .found) [ true ↦ trySelect s (x .prelude) best c n | false ↦ best ]
 
+  -- visible, and declared there or no implicitly private import
+  abbrev pub isImportable : Scope → Bool
+  isImportable e = sees s (x .from) e && (eqb (e .declared) 1 || not (eqb (e .visibility) 3))
+
   unfoldable pub nameIf : Option Scope → Answer
   nameIf none = Nothing
-  nameIf (some e) =
-      elim (sees s (x .from) e && (eqb (e .declared) 1 || not (eqb (e .visibility) 3))) [
-        | true ↦ Name (e .name)
-        | false ↦ Nothing
-      ]
+  nameIf (some e) = elim (isImportable e) [ true ↦ Name (e .name) | false ↦ Nothing ]
 
-  -- the name by which the viewer can import the item from the module: visible, and declared there or no implicitly private import
+  -- the name by which the viewer can import the item from the module
   unfoldable pub importableName : Item → ℕ → Answer
   importableName item m = nameIf (nameOf s m item)
 
