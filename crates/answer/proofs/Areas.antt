@@ -1,7 +1,7 @@
 -- Laws of a work area that is cleared, and of an entry point.
 use Prim.Native.Nat.{ℕ, _+_, _≤_, _<_}
-use mathlib.Core.Path.{_≡_, refl, sym, _∙_, ap}
-use mathlib.Core.List.{List, [], _∷_, _++_}
+use mathlib.Core.Path.{_≡_, sym, _∙_, ap}
+use mathlib.Core.List.{List, _++_, append-nil}
 use mathlib.Core.Bool.{true, false}
 use native.Mathlib.Omega.{arith}
 use borrow.Author.Tests.{lt-ltb, le-ltb}
@@ -13,10 +13,6 @@ use Rattle.find_path.specs.Report.{refused, reportOf}
 use Rattle.checked.proofs.Laws.{small, report-fault, same-report}
 use Rattle.answer.specs.Answers.{zeros, areaAfter, Answers}
 
-append-empty : (l : List ℕ) → l ++ [] ≡ l
-append-empty [] = refl
-append-empty (x ∷ l) = ap (λ m. x ∷ m) (append-empty l)
-
 -- clearing: the first i words are zero
 
 pub clear-next : (A B : List ℕ) (i : ℕ) → A ≡ replicate i 0 ++ drop i B → i < length B → set A i 0 ≡ replicate (i + 1) 0 ++ drop (i + 1) B
@@ -26,7 +22,7 @@ pub clear-done : (A B : List ℕ) (i : ℕ) → A ≡ replicate i 0 ++ drop i B 
 unfolding zeros
 clear-done A B i e h k =
     let q : i ≡ length B = omega arith in
-    e ∙ ap (λ x. replicate i 0 ++ x) (drop-of-length-le B k) ∙ append-empty (replicate i 0) ∙ ap (λ n. replicate n 0) q
+    e ∙ ap (λ x. replicate i 0 ++ x) (drop-of-length-le B k) ∙ append-nil (replicate i 0) ∙ ap (λ n. replicate n 0) q
 
 -- an entry point
 

@@ -9,7 +9,7 @@ ghost use Rattle.answer.specs.Answers.{zeros};
 ghost use Rattle.answer.specs.Lined.{Lined};
 use crate::area::clear;
 use accept::check::check;
-use checked::lines::LineBytes;
+pub use checked::lines::LineBytes;
 use checked::lines::line_on;
 use checked::lines::put_refusal;
 use find_path::Question;

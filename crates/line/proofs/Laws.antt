@@ -1,7 +1,7 @@
 -- Laws of the texts that a line is made of.
 use Prim.Native.Nat.{ℕ, zero, suc, _+_, _*_, _/_, _%_, _^_, _≤_, _<_}
 use mathlib.Core.Path.{_≡_, refl, sym, _∙_, ap, ap₂, subst}
-use mathlib.Core.List.{List, [], _∷_, _++_, map, append-assoc}
+use mathlib.Core.List.{List, [], _∷_, _++_, map, append-assoc, append-nil}
 use mathlib.Core.Bool.{Bool, true, false, _||_}
 use native.Mathlib.Omega.{arith}
 use native.Mathlib.Numerals.{add-one}
@@ -200,13 +200,9 @@ path-whole : (f : ℕ → List ℕ) (k : ℕ) (ns : List ℕ) (i : ℕ) → path
 unfolding pathTo
 path-whole f k ns i = refl
 
-append-none : (ps : List (List ℕ)) → ps ≡ ps ++ []
-append-none [] = refl
-append-none (p ∷ ps) = ap (λ z. p ∷ z) (append-none ps)
-
 path-start : (f : ℕ → List ℕ) (k : ℕ) (ns : List ℕ) → joined (bytesOf "::") (prefixParts k) ≡ pathTo f k ns 0
 unfolding pathTo
-path-start f k ns = ap (joined (bytesOf "::")) (append-none (prefixParts k))
+path-start f k ns = ap (joined (bytesOf "::")) (sym (append-nil (prefixParts k)))
 
 path-next : (f : ℕ → List ℕ) (k : ℕ) (ns : List ℕ) (i n : ℕ) (leading : Bool) → i < length ns → n ≡ getD ns i 0
     → leading ≡ (eqb k 1 || (eqb k 2 || (eqb k 3 || eqb k 4)))
@@ -234,14 +230,10 @@ pub tail-next : (f : ℕ → List ℕ) (leading : Bool) (ns : List ℕ) (i : ℕ
 unfolding tailTo
 tail-next f leading ns i = ap (tailTo f leading ns) (sym (add-one i))
 
-append-empty : (l : List ℕ) → l ++ [] ≡ l
-append-empty [] = refl
-append-empty (x ∷ l) = ap (λ m. x ∷ m) (append-empty l)
-
 tail-path : (f : ℕ → List ℕ) (k : ℕ) (ns : List ℕ) (i : ℕ) → i ≤ length ns
     → joined (bytesOf "::") (prefixParts k) ++ tailTo f (eqb k 1 || (eqb k 2 || (eqb k 3 || eqb k 4))) ns i ≡ pathTo f k ns i
 unfolding tailTo
-tail-path f k ns zero h = append-empty _ ∙ path-start f k ns
+tail-path f k ns zero h = append-nil _ ∙ path-start f k ns
 tail-path f k ns (suc i) h =
     sym (append-assoc (joined (bytesOf "::") (prefixParts k)) _ _)
     ∙ ap (λ x. x ++ (jointIf ((eqb k 1 || (eqb k 2 || (eqb k 3 || eqb k 4))) || ltb 0 i) ++ f (getD ns i 0))) (tail-path f k ns i (omega arith))

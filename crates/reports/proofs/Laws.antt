@@ -8,7 +8,7 @@ use native.Mathlib.Numerals.{add-one}
 use native.Mathlib.Nat.{add-zero}
 use borrow.Author.Tests.{lt-ltb, le-ltb, lt-leb, le-leb}
 use lib.ListN.{length, length-append, take-append-drop, getD, set, take, drop}
-use lib.Seq.{take-at, drop-at, take-length}
+use lib.Seq.{take-at, drop-at, take-length, drop-drop}
 use Rattle.find_path.specs.declared.Found.{Found}
 use Rattle.find_path.specs.declared.Report.{Report}
 use Rattle.find_path.specs.declared.Tank.{Tank}
@@ -79,21 +79,11 @@ words-done old out ns at i e h k =
     e ∙ ap (λ z. take at old ++ (map low (take z ns) ++ drop (at + z) old)) q
     ∙ ap (λ z. take at old ++ (map low z ++ drop (at + length ns) old)) (take-length ns)
 
-drop-nil : (k : ℕ) → _≡_ {A = List ℕ} (drop k []) []
-drop-nil zero = refl
-drop-nil (suc k) = refl
-
-drop-drop : (a b n : ℕ) (l : List ℕ) → n ≡ a + b → drop b (drop a l) ≡ drop n l
-drop-drop zero b n l e = let q : b ≡ n = omega arith in ap (λ k. drop k l) q
-drop-drop (suc a) b n [] e = drop-nil b ∙ sym (drop-nil n)
-drop-drop (suc a) b zero (x ∷ l) e = absurd (omega arith)
-drop-drop (suc a) b (suc n) (x ∷ l) e = drop-drop a b n l (omega arith)
-
 -- a piece after a piece
 paste : (X P T L : List ℕ) (a b n : ℕ) → length P ≡ a → n ≡ a + b → X ≡ P ++ T → take a X ++ (L ++ drop n X) ≡ (P ++ L) ++ drop b T
 paste X P T L a b n h q e =
     let t : take a X ≡ P = ap (take a) e ∙ take-at P T a h in
-    let d : drop n X ≡ drop b T = sym (drop-drop a b n X q) ∙ ap (λ x. drop b (drop a x)) e ∙ ap (drop b) (drop-at P T a h) in
+    let d : drop n X ≡ drop b T = ap (λ k. drop k X) q ∙ sym (drop-drop b a X) ∙ ap (λ x. drop b (drop a x)) e ∙ ap (drop b) (drop-at P T a h) in
     ap₂ (λ x y. x ++ (L ++ y)) t d ∙ sym (append-assoc P L (drop b T))
 
 length-map : (ns : List ℕ) → length (map low ns) ≡ length ns
@@ -116,7 +106,7 @@ module _ (r : Report) (old : List ℕ) where
       let n : length (H ++ N) ≡ 19 = length-append H N ∙ ap (λ k. 3 + k) m in
       let a : y ≡ (H ++ N) ++ drop 16 (drop 3 old) = ey ∙ paste x H (drop 3 old) N 3 16 19 refl refl ex in
       let b : z ≡ ((H ++ N) ++ R) ++ drop 3 (drop 16 (drop 3 old)) = ez ∙ paste y (H ++ N) (drop 16 (drop 3 old)) R 19 3 22 n refl a in
-      let d : drop 3 (drop 16 (drop 3 old)) ≡ drop 22 old = drop-drop 16 3 19 (drop 3 old) refl ∙ drop-drop 3 19 22 old refl in
+      let d : drop 3 (drop 16 (drop 3 old)) ≡ drop 22 old = drop-drop 3 16 (drop 3 old) ∙ drop-drop 19 3 old in
       b ∙ ap₂ (λ u v. u ++ v) (append-assoc H N R) d
 
   pub written : (x y z : List ℕ) → 22 ≤ length old → length (r .names) ≡ 16
