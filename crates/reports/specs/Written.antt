@@ -16,6 +16,11 @@ reportWords r =
     map low (r .outcome ∷ r .number ∷ r .kind ∷ [])
     ++ (map low (r .names) ++ map low (r .count ∷ r .charges ∷ r .empty ∷ []))
 
+-- the numbers of a report, whole
+unfoldable pub reportNumbers : Report → List ℕ
+reportNumbers r =
+    (r .outcome ∷ r .number ∷ r .kind ∷ []) ++ (r .names ++ (r .count ∷ r .charges ∷ r .empty ∷ []))
+
 -- a report at the front; the words past it stay, and fewer words than a report has stay all
 unfoldable pub writtenTo : Report → List ℕ → List ℕ
 writtenTo r out = elim (ltb (length out) 22) [ true ↦ out | false ↦ reportWords r ++ drop 22 out ]

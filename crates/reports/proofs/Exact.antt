@@ -1,0 +1,34 @@
+-- The words of a report are its numbers: no number needs more than 32 bits.
+use Prim.Native.Nat.{ℕ, suc, _≤_}
+use mathlib.Core.Path.{_≡_, refl, ap₂}
+use mathlib.Core.List.{List, [], _∷_, _++_, map}
+use native.Mathlib.Omega.{arith}
+use lib.ListN.{getD}
+use Rattle.find_path.specs.declared.Question.{Question}
+use Rattle.find_path.specs.declared.Report.{Report}
+use Rattle.find_path.specs.Report.{reportOf}
+use Rattle.find_path.specs.Fuels.{Bounded, Small}
+use Rattle.find_path.proofs.Reports.{report-bounded, report-small}
+use Rattle.reports.specs.Written.{low, reportWords, reportNumbers}
+
+low-same : (x : ℕ) → x ≤ 10000 → low x ≡ x
+low-same x h = omega arith
+
+all-low : (ns : List ℕ) → ((i : ℕ) → getD ns i 0 ≤ 10000) → map low ns ≡ ns
+all-low [] h = refl
+all-low (n ∷ ns) h = ap₂ (λ x l. x ∷ l) (low-same n (h 0)) (all-low ns (λ i. h (suc i)))
+
+three-low : (a b c : ℕ) → a ≤ 10000 → b ≤ 10000 → c ≤ 10000 → map low (a ∷ b ∷ c ∷ []) ≡ a ∷ b ∷ c ∷ []
+three-low a b c h k l = ap₂ (λ x l. x ∷ l) (low-same a h) (ap₂ (λ x y. x ∷ y ∷ []) (low-same b k) (low-same c l))
+
+exact : (fuel : ℕ) (r : Report) → Bounded fuel r → Small r → reportWords r ≡ reportNumbers r
+unfolding reportWords reportNumbers
+exact fuel r b s =
+    ap₂ (λ x y. x ++ y)
+    (three-low _ _ _ (omega (arith, s .outcome)) (omega (arith, s .number)) (omega (arith, s .kind)))
+    (ap₂ (λ x y. x ++ y) (all-low (r .names) (λ i. omega (arith, s .names i)))
+    (three-low _ _ _ (omega (arith, b .few)) (s .charges) (omega (arith, b .flagged))))
+
+-- A report in words loses nothing: they are its numbers.
+pub report-exact : (words : List ℕ) (area : ℕ) (q : Question) → reportWords (reportOf words area q) ≡ reportNumbers (reportOf words area q)
+report-exact words area q = exact (q .fuel) (reportOf words area q) (report-bounded words area q) (report-small words area q)
