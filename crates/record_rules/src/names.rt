@@ -1,8 +1,8 @@
 //! Kind 1: a name.
 ghost use mathlib.Core.Path.{_≡_};
 ghost use mathlib.Core.List.{List};
-ghost use Prim.Native.Nat.{ℕ, _+_, _-_, _^_, _<_};
-ghost use lib.ListN.{getD};
+ghost use Prim.Native.Nat.{ℕ, _+_, _-_, _^_, _<_, _≤_};
+ghost use lib.ListN.{length, getD};
 ghost use Rattle.snapshot.specs.Lists.{rows, any, eqList};
 ghost use Rattle.snapshot.specs.Words.{payOf, wordsOf};
 ghost use Rattle.snapshot.specs.Records.{Map, nameAt};
@@ -18,7 +18,6 @@ use snapshot::layout::Layout;
 use snapshot::words::field;
 use snapshot::words::payload;
 use snapshot::words::payload_of;
-use snapshot::words::word;
 
 // What a word that holds b more bytes of text stays below.
 fn text_bound(b: usize) -> usize
@@ -108,14 +107,14 @@ fn same_text(left: &[u32], a: usize, right: &[u32], b: usize, n: usize, last: us
 
 // Whether one of the n names with these heads has the text of the name at a place.
 fn known(words: &[u32], at: usize, names: &[u32], heads: &[u32], n: usize) -> bool
-    requires { ⌜ n < 2 ^ 32 ⌝ }
+    requires { ⌜ (n < 2 ^ 32) × (n ≤ length (now heads)) ⌝ }
     ensures { λ r. ⌜ r ≡ any (sameName (nameAt (now (words .entry)) at)) (rows (λ k. nameAt (now (names .entry)) (getD (now (heads .entry)) k 0)) 0 n) ⌝ }
 {
     let size = text_words(payload(words, at));
     let last = payload_of(field(words, at, size));
     let mut k = 0;
     while k < n {
-        if same_text(words, at, names, word(heads, k), size, last) {
+        if same_text(words, at, names, heads[k] as usize, size, last) {
             return true;
         }
         k += 1;

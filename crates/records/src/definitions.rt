@@ -1,8 +1,8 @@
 //! Kind 8: a definition.
 ghost use mathlib.Core.Path.{_≡_};
 ghost use mathlib.Core.List.{List};
-ghost use Prim.Native.Nat.{ℕ, _+_, _*_, _^_, _<_};
-ghost use lib.ListN.{getD};
+ghost use Prim.Native.Nat.{ℕ, _+_, _*_, _^_, _<_, _≤_};
+ghost use lib.ListN.{length, getD};
 ghost use lib.Dec.{eqb, leb, ltb};
 ghost use mathlib.Core.Bool.{true, _&&_, _||_, not};
 ghost use Rattle.snapshot.specs.Lists.{rows, any};
@@ -85,7 +85,7 @@ fn placed(words: &[u32], l: Layout, at: usize) -> bool
 
 // A module or a builtin that has a definition already; the other kinds may stand again.
 fn again(words: &[u32], l: Layout, at: usize) -> bool
-    requires { ⌜ wordCount l < 2 ^ 32 ⌝ }
+    requires { ⌜ (wordCount l ≤ at) × (at + 3 ≤ length (now words)) × (length (now words) < 2 ^ 32) ⌝ }
     ensures { λ r. ⌜ r ≡ ((eqb (definitionAt (now (words .entry)) at .kind) 1 || eqb (definitionAt (now (words .entry)) at .kind) 3) && any (sameBy (now (words .entry)) true 1 at) (rows (λ k. definitionBase l + 3 * k) 0 (l .definitions))) ⌝ }
 {
     let kind = definition_kind(words, at);

@@ -2,7 +2,6 @@ use borrow.Author.Needs.{needs}
 use Prim.Native.Nat.{_+_, _-_, _≤_}
 use mathlib.Core.Path.{_≡_, refl, sym, ap, _∙_}
 use native.Mathlib.Omega.{arith}
-use denote.Ref.{now}
 use lib.ListN.{getD}
 use Rattle.snapshot.specs.Lists.{rows, any}
 use Rattle.snapshot.specs.Words.{payOf, wordsOf}
@@ -33,21 +32,26 @@ payload-of-requires c κs = search needs
 loop-holds : tie.Need-loop-holds Inv-loop μ-loop
 loop-holds c = (omega arith, rows-whole (any _) _ _)
 
-word-requires : tie.Need-word-requires Inv-loop μ-loop
-word-requires c κs = search needs
+mul-same-text : tie.Need-mul-same-text Inv-loop μ-loop
+mul-same-text c = search needs
+
+shared-slice-read-same-text : tie.Need-shared-slice-read-same-text Inv-loop μ-loop
+shared-slice-read-same-text c = search needs
+
+cast-same-text : tie.Need-cast-same-text Inv-loop μ-loop
+cast-same-text c = record { fits = omega (arith, c .before .before .before .before .before .before .before .shared-slice-known3 .given (c .before .before .loop .k)) }
 
 same-text-requires : tie.Need-same-text-requires Inv-loop μ-loop
 same-text-requires c κs =
     let d = c .before .before .before in
     let t = d .before .before in
     let e = t .before .payload .ensures in
-    (omega (arith, c .word .ensures, t .before .before .shared-slice-known3 .given (c .before .before .loop .k), t .text-words .ensures, e), t .text-words .ensures ∙ ap wordsOf e, d .payload-of .ensures ∙ ap payOf (d .before .field .ensures))
+    (omega (arith, t .before .before .shared-slice-known3 .given (c .before .before .loop .k), t .text-words .ensures, e), t .text-words .ensures ∙ ap wordsOf e, d .payload-of .ensures ∙ ap payOf (d .before .field .ensures))
 
 returns : tie.Need-returns Inv-loop μ-loop
 returns c =
     let l = c .before .before .before .before .loop in
-    let s = c .before .before .before .before .before .before .before .before .before .before .before .before in
-    any-hit _ _ _ _ _ (l .inv .1) (omega arith) (ap (λ h. sameName (nameAt (now (s .args .words)) (s .args .at)) (nameAt (now (s .args .names)) h)) (sym (c .before .before .word .ensures)) ∙ sym (c .before .same-text .ensures) ∙ c .if1 .taken)
+    any-hit _ _ _ _ _ (l .inv .1) (omega arith) (sym (c .before .same-text .ensures) ∙ c .if1 .taken)
 
 add-k : tie.Need-add-k Inv-loop μ-loop
 add-k c = search needs
@@ -58,8 +62,7 @@ loop-less c = search needs
 loop-again : tie.Need-loop-again Inv-loop μ-loop
 loop-again c =
     let l = c .before .before .before .before .loop in
-    let s = c .before .before .before .before .before .before .before .before .before .before .before .before in
-    (omega arith, any-miss _ _ _ _ _ (l .inv .1) (omega arith) (ap (λ h. sameName (nameAt (now (s .args .words)) (s .args .at)) (nameAt (now (s .args .names)) h)) (sym (c .before .before .word .ensures)) ∙ sym (c .before .same-text .ensures) ∙ c .if1 .left))
+    (omega arith, any-miss _ _ _ _ _ (l .inv .1) (omega arith) (sym (c .before .same-text .ensures) ∙ c .if1 .left))
 
 returns-2 : tie.Need-returns-2 Inv-loop μ-loop
 returns-2 c = any-none _ _ _ _ _ (c .before .loop .inv .1) (omega arith)
@@ -75,7 +78,9 @@ known-spec =
     field-requires
     payload-of-requires
     loop-holds
-    word-requires
+    mul-same-text
+    shared-slice-read-same-text
+    cast-same-text
     same-text-requires
     returns
     add-k

@@ -1,10 +1,9 @@
 use borrow.Author.Needs.{needs}
-use Prim.Native.Nat.{_+_, _-_, _*_, _≤_, _<_}
+use Prim.Native.Nat.{ℕ, _+_, _-_, _*_, _≤_, _<_}
 use mathlib.Core.Path.{_≡_, refl, sym, ap, _∙_}
 use native.Mathlib.Omega.{arith}
 use denote.Ref.{now}
 use Rattle.snapshot.specs.Lists.{rows, any}
-use Rattle.snapshot.specs.Words.{payOf}
 use Rattle.record_rules.specs.Stands.{sameBy}
 use Rattle.snapshot.proofs.Laws.{rows-whole, any-hit, any-miss, any-none}
 use Rattle.record_rules.proofs.Laws.{step-le}
@@ -12,16 +11,25 @@ use Rattle.records.proofs.repeats.repeated.Statement.{statement}
 use Rattle.records.proofs.repeats.repeated.Tie as tie
 
 abbrev Inv-loop : tie.InvT-loop
-Inv-loop words owner fields at base size count last h₀ k₀ h k = (k ≤ count) × (h ≡ base + size * k) × (any (sameBy words owner fields at) (rows (λ j. base + size * j) 0 count) ≡ any (sameBy words owner fields at) (rows (λ j. base + size * j) k (count - k)))
+Inv-loop words owner fields at base size count last p₀ k₀ p k = (k ≤ count) × (p ≡ base + size * k + fields) × (any (sameBy words owner fields at) (rows (λ j. base + size * j) 0 count) ≡ any (sameBy words owner fields at) (rows (λ j. base + size * j) k (count - k)))
 
 abbrev μ-loop : tie.MeasureT-loop
-μ-loop words owner fields at base size count last h₀ k₀ h k = count - k
+μ-loop words owner fields at base size count last p₀ k₀ p k = count - k
 
-field-requires : tie.Need-field-requires Inv-loop μ-loop
-field-requires c κs = search needs
+add-low : tie.Need-add-low Inv-loop μ-loop
+add-low c = search needs
 
-payload-of-requires : tie.Need-payload-of-requires Inv-loop μ-loop
-payload-of-requires c κs = search needs
+mul-low : tie.Need-mul-low Inv-loop μ-loop
+mul-low c = search needs
+
+shared-slice-read-low : tie.Need-shared-slice-read-low Inv-loop μ-loop
+shared-slice-read-low c = search needs
+
+low-requires : tie.Need-low-requires Inv-loop μ-loop
+low-requires c κs = search needs
+
+add-p : tie.Need-add-p Inv-loop μ-loop
+add-p c = search needs
 
 loop-holds : tie.Need-loop-holds Inv-loop μ-loop
 loop-holds c = (omega arith, omega arith, rows-whole (any _) _ _)
@@ -29,22 +37,25 @@ loop-holds c = (omega arith, omega arith, rows-whole (any _) _ _)
 same-requires : tie.Need-same-requires Inv-loop μ-loop
 same-requires c κs =
     let l = c .before .loop in
-    let d = c .before .before in
-    let s = d .before .before .before in
+    let s = c .before .before .before .before .before in
     let e = step-le (s .args .size) (l .k) (s .args .count) (c .loop-test .taken) in
-    (omega (arith, l .inv .1, s .pre .0, s .pre .2), s .pre .2, s .pre .3, d .payload-of .ensures ∙ ap payOf (d .before .field .ensures))
+    (omega (arith, l .inv .1, s .pre .0, s .pre .3), omega (arith, l .inv .1), s .pre .5, s .pre .6, c .before .before .low .ensures)
+
+-- the record at a step of the loop
+here : (b size k p fields : ℕ) → p ≡ b + size * k + fields → b + size * k ≡ p - fields
+here b size k p fields e = omega (arith, e)
 
 returns : tie.Need-returns Inv-loop μ-loop
 returns c =
-    let s = c .before .before .before .before .before .before .before in
     let l = c .before .before .before .loop in
-    any-hit _ _ _ _ _ (l .inv .2) (omega arith) (sym (ap (sameBy (now (s .args .words)) (s .args .owner) (s .args .fields) (s .args .at)) (l .inv .1)) ∙ sym (c .before .same .ensures) ∙ c .if1 .taken)
+    let s = c .before .before .before .before .before .before .before in
+    any-hit _ _ _ _ _ (l .inv .2) (omega arith) (ap (sameBy (now (s .args .words)) (s .args .owner) (s .args .fields) (s .args .at)) (here (s .args .base) (s .args .size) (l .k) (l .p) (s .args .fields) (l .inv .1)) ∙ sym (c .before .same .ensures) ∙ c .if1 .taken)
 
-add-h : tie.Need-add-h Inv-loop μ-loop
-add-h c =
-    let s = c .before .before .before .before .before .before .before in
+add-p-2 : tie.Need-add-p-2 Inv-loop μ-loop
+add-p-2 c =
     let l = c .before .before .before .loop in
-    record { fits = (let e = step-le (s .args .size) (l .k) (s .args .count) (omega arith) in omega (arith, l .inv .1, s .pre .0)) }
+    let s = c .before .before .before .before .before .before .before in
+    record { fits = (let e = step-le (s .args .size) (l .k) (s .args .count) (omega arith) in omega (arith, l .inv .1, s .pre .0, s .pre .2, s .pre .5)) }
 
 add-k : tie.Need-add-k Inv-loop μ-loop
 add-k c = search needs
@@ -54,9 +65,9 @@ loop-less c = search needs
 
 loop-again : tie.Need-loop-again Inv-loop μ-loop
 loop-again c =
-    let s = c .before .before .before .before .before .before .before in
     let l = c .before .before .before .loop in
-    (omega arith, omega (arith, l .inv .1), any-miss _ _ _ _ _ (l .inv .2) (omega arith) (sym (ap (sameBy (now (s .args .words)) (s .args .owner) (s .args .fields) (s .args .at)) (l .inv .1)) ∙ sym (c .before .same .ensures) ∙ c .if1 .left))
+    let s = c .before .before .before .before .before .before .before in
+    (omega arith, omega (arith, l .inv .1), any-miss _ _ _ _ _ (l .inv .2) (omega arith) (ap (sameBy (now (s .args .words)) (s .args .owner) (s .args .fields) (s .args .at)) (here (s .args .base) (s .args .size) (l .k) (l .p) (s .args .fields) (l .inv .1)) ∙ sym (c .before .same .ensures) ∙ c .if1 .left))
 
 returns-2 : tie.Need-returns-2 Inv-loop μ-loop
 returns-2 c = any-none _ _ _ _ _ (c .before .loop .inv .2) (omega arith)
@@ -67,12 +78,15 @@ repeated-spec =
     (tie.spec
     Inv-loop
     μ-loop
-    field-requires
-    payload-of-requires
+    add-low
+    mul-low
+    shared-slice-read-low
+    low-requires
+    add-p
     loop-holds
     same-requires
     returns
-    add-h
+    add-p-2
     add-k
     loop-less
     loop-again

@@ -1,20 +1,32 @@
 use borrow.Author.Needs.{needs}
-use mathlib.Core.Path.{_≡_, sym, _∙_}
+use Prim.Native.Nat.{_+_, _-_}
+use mathlib.Core.Path.{_≡_, sym, ap, _∙_}
+use native.Mathlib.Omega.{arith}
 use denote.Ref.{now}
+use lib.ListN.{getD}
+use Rattle.snapshot.specs.Words.{payOf}
 use Rattle.record_rules.proofs.Judged.{unlike}
 use Rattle.records.proofs.repeats.same.Statement.{statement}
 use Rattle.records.proofs.repeats.same.Tie as tie
 
-add-payload : tie.Need-add-payload
-add-payload c = search needs
+mul-low : tie.Need-mul-low
+mul-low c = search needs
 
-payload-requires : tie.Need-payload-requires
-payload-requires c κs = search needs
+shared-slice-read-low : tie.Need-shared-slice-read-low
+shared-slice-read-low c = search needs
+
+low-requires : tie.Need-low-requires
+low-requires c κs = search needs
 
 returns : tie.Need-returns
 returns c =
-    let s = c .before .before .before in
-    unlike (now (s .args .words)) (s .args .owner) (s .args .fields) (s .args .a) (s .args .b) (s .pre .1) (s .pre .2) (λ e. c .if1 .taken (c .before .payload .ensures ∙ e ∙ sym (s .pre .3)))
+    let s = c .before .before .before .before in
+    let q : s .args .p - s .args .fields + s .args .fields ≡ s .args .p = omega (arith, s .pre .1) in
+    unlike (now (s .args .words)) (s .args .owner) (s .args .fields) (s .args .a) (s .args .p - s .args .fields) (s .pre .2) (s .pre .3)
+    (λ e. c .if1 .taken (c .before .low .ensures ∙ ap (λ x. payOf (getD (now (s .args .words)) x 0)) (sym q) ∙ e ∙ sym (s .pre .4)))
+
+sub-same-fields : tie.Need-sub-same-fields
+sub-same-fields c = search needs
 
 same-fields-requires : tie.Need-same-fields-requires
 same-fields-requires c κs = search needs
@@ -24,4 +36,12 @@ returns-2 c = search needs
 
 pub same-spec : {M : Type 1} → statement M
 same-spec =
-    tie.close (tie.spec add-payload payload-requires returns same-fields-requires returns-2)
+    tie.close
+    (tie.spec
+    mul-low
+    shared-slice-read-low
+    low-requires
+    returns
+    sub-same-fields
+    same-fields-requires
+    returns-2)
