@@ -160,7 +160,7 @@ module _ (s : Snapshot) (r : Ranges (countsOf s) s) where
       ]
 
   -- the name of a variant
-  variant-held : (item : Item) → Held (λ v. v .second < length (s .names)) (variantOf s item)
+  variant-held : (item : Item) → Held (λ d. d .second < length (s .names)) (variantOf s item)
   unfolding variantOf
   variant-held (Mod m) = tt
   variant-held (Def ns d) =
@@ -241,7 +241,7 @@ module _ (s : Snapshot) (r : Ranges (countsOf s) s) where
     extern-known : (m : ℕ) (e : Option Extern) → Held (ExternFits (countsOf s)) e → Known s (externName s x m e)
     unfolding externName
     extern-known m none h = nothing-known
-    extern-known m (some e) h = new-known s _ (e .name) (extern-small _) (h .name)
+    extern-known m (some e) h = new-known s _ _ (extern-small _) (omega (arith, h .name))
 
     root-known : (b : Bool) (m : ℕ) → Known s (rootRule s x b m)
     unfolding rootRule
@@ -391,7 +391,7 @@ module _ (M : Type 0) (charge : M → Charged M) (s : Snapshot) (r : Ranges (cou
       enum-known item name o true f h = push-known s (o .choice) name f h
       enum-known item name o false f h = best-known pathLimit item (o .meter)
 
-      via-known : (item : Item) (t : M) (v : Option Definition) → Held (λ v. v .second < length (s .names)) v
+      via-known : (item : Item) (t : M) (v : Option Definition) → Held (λ d. d .second < length (s .names)) v
           → Known s (viaEnum M charge s x here rec inner item t v .choice)
       unfolding viaEnum
       via-known item t none h = best-known pathLimit item t
