@@ -11,7 +11,7 @@ use Rattle.snapshot.specs.Lists.{rows, any, all, eqList}
 use Rattle.snapshot.specs.Words.{payOf, wordsOf}
 use Rattle.snapshot.specs.Records.{nameAt}
 use Rattle.snapshot.proofs.Laws.{rows-next, rows-none, getD-rows}
-use Rattle.record_rules.specs.Tests.{textBound, padded, sameName}
+use Rattle.record_rules.specs.Tests.{textBound, padded, nameRange, sameName}
 use native.Mathlib.Nat.{add-zero, mul-le-mul-left}
 use Rattle.record_rules.specs.Stands.{numberOf}
 use Rattle.record_rules.proofs.Judged.{and-left, and-right}
@@ -123,3 +123,8 @@ text-unlike L R a b n en d = not-so (sameName (nameAt L a) (nameAt R b)) (λ e. 
     not-so : (t : Bool) → (t ≡ true → ⊥) → false ≡ t
     not-so true h = absurd (h refl)
     not-so false h = refl
+
+-- the test of a name's range, of what is read of it
+pub range-is : (W : List ℕ) (at : ℕ) {bytes n : ℕ} {clean : Bool} → bytes ≡ payOf (getD W at 0) → n ≡ wordsOf bytes
+    → clean ≡ padded bytes (rows (λ i. getD W (at + 1 + i) 0) 0 n) → (leb 1 bytes && leb bytes 255 && clean) ≡ nameRange (nameAt W at)
+range-is W at e f g = cc
