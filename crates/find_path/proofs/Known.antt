@@ -3,7 +3,7 @@ use mathlib.Core.Path.{_≡_, refl, ap, sym, _∙_, subst}
 use Prim.Native.Nat.{ℕ, zero, suc, _≤_, _<_}
 use native.Mathlib.Omega.{arith}
 use native.Mathlib.Decide.{decLe}
-use mathlib.Core.List.{List, [], _∷_, _++_, reverseAux}
+use mathlib.Core.List.{List, [], _∷_, _++_}
 use mathlib.Core.Bool.{Bool, true, false, _&&_, _||_, not}
 use mathlib.Core.Option.{Option, none, some}
 use lib.Dec.{eqb}
@@ -28,6 +28,7 @@ use Rattle.hir_def.specs.declared.Item.the-variants.{Mod, Def}
 use Rattle.hir_def.specs.declared.Answer.{Answer}
 use Rattle.hir_def.specs.declared.Answer.the-variants.{Name, Nothing}
 use Rattle.hir_def.proofs.Found.{each-first, each-select}
+use Rattle.hir_def.proofs.Fits.{each-back}
 use Rattle.find_path.specs.declared.Choice.{Choice}
 use Rattle.find_path.specs.declared.KwKind.{KwKind}
 use Rattle.find_path.specs.declared.KwKind.the-variants.{Kw, NoKw}
@@ -81,10 +82,6 @@ some-held : {A B : Type 0} (P : B → Type 0) (f : A → Option B) (xs : List A)
 unfolding firstSome
 some-held P f [] h = tt
 some-held P f (x ∷ xs) h = or-held P (f x) (firstSome f xs) (h x) (some-held P f xs h)
-
-each-back : {A : Type 0} {P : A → Type 0} {xs ys : List A} → Each P xs → Each P ys → Each P (reverseAux xs ys)
-each-back Each.none h = h
-each-back (more q g) h = each-back g (more q h)
 
 -- one place of a list set to a number below m
 put-below : (l : List ℕ) (k n i m : ℕ) → n < m → ((i ≡ k → ⊥) → getD l i 0 < m) → getD (set l k n) i 0 < m

@@ -28,7 +28,7 @@ use Rattle.hir_def.specs.declared.Item.the-variants.{Mod, Def}
 use Rattle.hir_def.proofs.Found.{each-first, each-select}
 use Rattle.hir_def.proofs.Lookups.{definition-there, item-module, item-other, home-builtin, home-variant, home-other}
 
-each-back : {R : Type 0} {P : R → Type 0} {xs ys : List R} → Each P xs → Each P ys → Each P (reverseAux xs ys)
+pub each-back : {R : Type 0} {P : R → Type 0} {xs ys : List R} → Each P xs → Each P ys → Each P (reverseAux xs ys)
 each-back Each.none h = h
 each-back (more q g) h = each-back g (more q h)
 
