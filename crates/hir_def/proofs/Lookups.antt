@@ -11,13 +11,13 @@ use lib.Dec.{eqb}
 use borrow.Author.Tests.{eq-eqb, ne-eqb}
 use Rattle.snapshot.specs.Lists.{rows}
 use Rattle.snapshot.specs.Words.{payOf}
-use Rattle.snapshot.specs.Records.{Snapshot, Dependency, definitionAt, crateAt, dependencyAt, scopeAt, importAt, externAt}
+use Rattle.snapshot.specs.Records.{Snapshot, Dependency, Scope, definitionAt, crateAt, dependencyAt, scopeAt, importAt, externAt}
 use Rattle.snapshot.specs.Layouts.{crateBase, dependencyBase, definitionBase, scopeBase, importBase, externBase, snapOf}
 use Rattle.snapshot.specs.declared.layout.Layout.{Layout}
 use Rattle.snapshot.proofs.Laws.{rows-next, rows-none, rows-whole, rows-snoc, length-rows, getD-rows, past}
-use Rattle.hir_def.specs.Finds.{firstOf, select}
+use Rattle.hir_def.specs.Finds.{firstOf, readsOf, select}
 use Rattle.hir_def.specs.Items.{definitionOf, crateData, itemOf, homeBy}
-use Rattle.hir_def.specs.ItemScope.{isFor, nameOf, namesOf, isModuleEntry, modulesInScope}
+use Rattle.hir_def.specs.ItemScope.{isFor, nameOf, namesOf, nameReads, namesReads, isModuleEntry, modulesInScope}
 use Rattle.hir_def.specs.ImportMap.{isImport, importInfoFor}
 use Rattle.hir_def.specs.Nameres.{isExtern, externOf, isDependency, isSysroot, isLangSysroot, bySysroot, dependenciesOf, langOf, sysrootFirst}
 use Rattle.hir_def.specs.Entries.{leftOf, Meets, Ends, NextOf}
@@ -110,6 +110,20 @@ module _ {R : Type 0} (p : R → Bool) (f : ℕ → R) (whole : Option R) (k n :
   pub first-none : n ≤ k → none ≡ whole
   unfolding firstOf
   first-none h = rw (e, rows-none f k n h)
+
+-- the same loop counts the records that it reads: k so far
+module _ {R : Type 0} (p : R → Bool) (f : ℕ → R) (whole k n : ℕ) (e : whole ≡ k + readsOf p (rows f k (n - k))) where
+  pub reads-hit : {x : R} {t : Bool} → k < n → x ≡ f k → t ≡ p x → t ≡ true → k + 1 ≡ whole
+  unfolding readsOf
+  reads-hit h u v w = let q = ap p (sym u) ∙ sym v ∙ w in rw (e, rows-next f k n h, readsOf, q)
+
+  pub reads-miss : {x : R} {t : Bool} → k < n → x ≡ f k → t ≡ p x → t ≡ false → whole ≡ k + 1 + readsOf p (rows f (k + 1) (n - (k + 1)))
+  unfolding readsOf
+  reads-miss h u v w = let q = ap p (sym u) ∙ sym v ∙ w in rw (e, rows-next f k n h, readsOf, q) (omega arith)
+
+  pub reads-none : n ≤ k → k ≡ whole
+  unfolding readsOf
+  reads-none h = rw (e, rows-none f k n h, readsOf) (omega arith)
 
 -- a loop that looks backwards
 module _ {R : Type 0} (p : R → Bool) (f : ℕ → R) (whole : Option R) (k : ℕ) (e : whole ≡ firstOf p (reverse (rows f 0 k))) where
@@ -216,11 +230,17 @@ pub first-same : {R : Type 0} (p q : R → Bool) (xs : List R) → ((x : R) → 
 first-same p q xs h = ap (λ t. firstOf t xs) (λ i x. h x i)
 
 -- where declared entries do not count alone, `names_of` is `name_of`
+any-declared : (s : Snapshot) (m : ℕ) (item : Item) (e : Scope) → (isFor s m item e && (eqb (e .declared) 1 || not false)) ≡ isFor s m item e
+any-declared s m item e = ap (λ b. isFor s m item e && b) (or-true (eqb (e .declared) 1)) ∙ and-true (isFor s m item e)
+
 pub names-name : (s : Snapshot) (m : ℕ) (item : Item) → namesOf s m item (λ e. eqb (e .declared) 1 || not false) ≡ nameOf s m item
 unfolding namesOf nameOf
 names-name s m item =
-    first-same (λ e. isFor s m item e && (eqb (e .declared) 1 || not false)) (isFor s m item) (s .scopes)
-    (λ e. ap (λ b. isFor s m item e && b) (or-true (eqb (e .declared) 1)) ∙ and-true (isFor s m item e))
+    first-same (λ e. isFor s m item e && (eqb (e .declared) 1 || not false)) (isFor s m item) (s .scopes) (any-declared s m item)
+
+pub names-name-reads : (s : Snapshot) (m : ℕ) (item : Item) → namesReads s m item (λ e. eqb (e .declared) 1 || not false) ≡ nameReads s m item
+unfolding namesReads nameReads
+names-name-reads s m item = ap (λ t. readsOf t (s .scopes)) (λ i e. any-declared s m item e i)
 
 pub sysroot-yes : (c : ℕ) (b : Bool) (d : Dependency) {t : Bool} → b ≡ true → t ≡ (isDependency c d && isSysroot d) → t ≡ bySysroot c b d
 sysroot-yes c true d h e = e

@@ -24,6 +24,11 @@ abbrev pub entryOf : {R : Type 0} → (List ℕ → ℕ → R) → List ℕ → 
 entryOf f W (At h) = some (f W h)
 entryOf f W Nothing = none
 
+-- of n records of one size from a place on, the number of those up to and with the one that is answered, or of all
+abbrev pub UpTo : ℕ → ℕ → ℕ → Entry → ℕ → Type 0
+UpTo size base n (At h) k = h + size ≡ base + size * k
+UpTo size base n Nothing k = k ≡ n
+
 -- the records that pass a test, of those with numbers from k up to n
 abbrev pub leftOf : {R : Type 0} → (R → Bool) → (ℕ → R) → ℕ → ℕ → List R
 leftOf p f n k = select p (rows f k (n - k))

@@ -1,4 +1,5 @@
 -- Finding in lists.
+use Prim.Native.Nat.{ℕ, _+_}
 use mathlib.Core.List.{List, [], _∷_}
 use mathlib.Core.Bool.{Bool, true, false}
 use mathlib.Core.Option.{Option, none, some}
@@ -8,6 +9,11 @@ unfoldable pub use Rattle.module_tree.specs.Modules.{placeOf}
 unfoldable pub firstOf : {A : Type 0} → (A → Bool) → List A → Option A
 firstOf p [] = none
 firstOf p (x ∷ xs) = elim (p x) [ true ↦ some x | false ↦ firstOf p xs ]
+
+-- how many elements are read to find it: those up to and with it, or all where none passes
+unfoldable pub readsOf : {A : Type 0} → (A → Bool) → List A → ℕ
+readsOf p [] = 0
+readsOf p (x ∷ xs) = elim (p x) [ true ↦ 1 | false ↦ readsOf p xs + 1 ]
 
 -- the elements that pass the test, in order
 unfoldable pub select : {A : Type 0} → (A → Bool) → List A → List A

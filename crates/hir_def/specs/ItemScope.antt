@@ -5,7 +5,7 @@ use mathlib.Core.Bool.{Bool, _&&_}
 use mathlib.Core.Option.{Option}
 use lib.Dec.{eqb}
 use Rattle.snapshot.specs.Records.{Snapshot, Scope}
-use Rattle.hir_def.specs.Finds.{firstOf, select}
+use Rattle.hir_def.specs.Finds.{firstOf, readsOf, select}
 use Rattle.hir_def.specs.Items.{types, moduleKind, definitionOf, itemOf, sameItem}
 use Rattle.hir_def.specs.declared.Item.{Item}
 
@@ -20,6 +20,13 @@ nameOf s m item = firstOf (isFor s m item) (s .scopes)
 -- `names_of`: the first entry for the item that passes the test
 unfoldable pub namesOf : Snapshot → ℕ → Item → (Scope → Bool) → Option Scope
 namesOf s m item p = firstOf (λ e. isFor s m item e && p e) (s .scopes)
+
+-- how many scope records `name_of` and `names_of` read
+unfoldable pub nameReads : Snapshot → ℕ → Item → ℕ
+nameReads s m item = readsOf (isFor s m item) (s .scopes)
+
+unfoldable pub namesReads : Snapshot → ℕ → Item → (Scope → Bool) → ℕ
+namesReads s m item p = readsOf (λ e. isFor s m item e && p e) (s .scopes)
 
 -- the entry of the module m with that namespace and name
 abbrev pub isNamed : ℕ → ℕ → ℕ → Scope → Bool

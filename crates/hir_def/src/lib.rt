@@ -21,6 +21,12 @@ pub enum Entry {
     Nothing,
 }
 
+/// An item's entry in a scope, and how many scope records were read for it.
+pub struct Lookup {
+    pub entry: Entry,
+    pub read: usize,
+}
+
 /// The number of a record of its kind and the place of its head, or no record.
 pub enum Next {
     Record(usize, usize),

@@ -6,10 +6,11 @@ ghost use Prim.Native.Nat.{ℕ, _^_, _<_};
 ghost use lib.Dec.{eqb};
 ghost use Rattle.snapshot.specs.Records.{scopeAt};
 ghost use Rattle.snapshot.specs.Layouts.{wordCount, scopeBase, snapOf};
-ghost use Rattle.hir_def.specs.ItemScope.{isFor, isNamed, isModuleEntry, nameOf, namesOf, get as entryNamed};
-ghost use Rattle.hir_def.specs.Entries.{entryOf, NextOf};
+ghost use Rattle.hir_def.specs.ItemScope.{isFor, isNamed, isModuleEntry, nameOf, namesOf, nameReads, namesReads, get as entryNamed};
+ghost use Rattle.hir_def.specs.Entries.{entryOf, UpTo, NextOf};
 use hir_def::Entry;
 use hir_def::Item;
+use hir_def::Lookup;
 use hir_def::Next;
 use hir_def::items::DefinitionKind;
 use hir_def::items::Namespace;
@@ -44,31 +45,40 @@ fn is_entry(words: &[u32], l: Layout, h: usize, m: ModuleId, item: Item, declare
     requires { ⌜ wordCount l < 2 ^ 32 ⌝ }
     ensures { λ r. ⌜ ((A : List ℕ) → r ≡ (isFor (snapOf (now (words .entry)) A l) (m .0) item (scopeAt (now (words .entry)) h) && (eqb (scopeAt (now (words .entry)) h .declared) 1 || not declared))) ⌝ }
 {
-    let here = scope_declared(words, h) == 1;
-    is_for(words, l, h, m, item) & (here | !declared)
+    if is_for(words, l, h, m, item) {
+        let here = scope_declared(words, h) == 1;
+        return here | !declared;
+    }
+    false
 }
 
-/// The first of the module's entries for the item; of those declared there, where only such entries count.
-pub fn names_of(words: &[u32], l: Layout, m: ModuleId, item: Item, declared: bool) -> Entry
+/// The first of the module's entries for the item; of those declared there, where only such entries count. Counts the records that it reads.
+pub fn names_of(words: &[u32], l: Layout, m: ModuleId, item: Item, declared: bool) -> Lookup
     requires { ⌜ wordCount l < 2 ^ 32 ⌝ }
-    ensures { λ r. ⌜ ((A : List ℕ) → entryOf scopeAt (now (words .entry)) r ≡ namesOf (snapOf (now (words .entry)) A l) (m .0) item (λ e. eqb (e .declared) 1 || not declared)) ⌝ }
+    ensures { λ r. ⌜ ((A : List ℕ) → entryOf scopeAt (now (words .entry)) (r .entry) ≡ namesOf (snapOf (now (words .entry)) A l) (m .0) item (λ e. eqb (e .declared) 1 || not declared)) × ((A : List ℕ) → r .read ≡ namesReads (snapOf (now (words .entry)) A l) (m .0) item (λ e. eqb (e .declared) 1 || not declared)) × UpTo 7 (scopeBase l) (l .scopes) (r .entry) (r .read) ⌝ }
 {
     let base = l.scope_base();
-    let mut k = 0;
-    while k < l.scopes {
-        let h = base + 7 * k;
+    let mut read = 0;
+    while read < l.scopes {
+        let h = base + 7 * read;
+        read += 1;
         if is_entry(words, l, h, m, item, declared) {
-            return Entry::At(h);
+            return Lookup {
+                entry: Entry::At(h),
+                read,
+            };
         }
-        k += 1;
     }
-    Entry::Nothing
+    Lookup {
+        entry: Entry::Nothing,
+        read,
+    }
 }
 
 /// The first of the module's entries for the item.
-pub fn name_of(words: &[u32], l: Layout, m: ModuleId, item: Item) -> Entry
+pub fn name_of(words: &[u32], l: Layout, m: ModuleId, item: Item) -> Lookup
     requires { ⌜ wordCount l < 2 ^ 32 ⌝ }
-    ensures { λ r. ⌜ ((A : List ℕ) → entryOf scopeAt (now (words .entry)) r ≡ nameOf (snapOf (now (words .entry)) A l) (m .0) item) ⌝ }
+    ensures { λ r. ⌜ ((A : List ℕ) → entryOf scopeAt (now (words .entry)) (r .entry) ≡ nameOf (snapOf (now (words .entry)) A l) (m .0) item) × ((A : List ℕ) → r .read ≡ nameReads (snapOf (now (words .entry)) A l) (m .0) item) × UpTo 7 (scopeBase l) (l .scopes) (r .entry) (r .read) ⌝ }
 {
     names_of(words, l, m, item, false)
 }

@@ -100,7 +100,8 @@ fn name(words: &[u32], l: Layout, m: usize, ns: usize, d: usize) -> Reply
         return Reply::OutOfRange;
     }
     let item = item_of(words, l, ns, DefinitionId(d));
-    name_at(words, name_of(words, l, ModuleId(m), item))
+    let e = name_of(words, l, ModuleId(m), item).entry;
+    name_at(words, e)
 }
 
 fn scope(

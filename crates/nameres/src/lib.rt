@@ -35,7 +35,7 @@ pub fn scope_entry(
 {
     let mut m = from.0;
     loop {
-        let e = names_of(words, l, ModuleId(m), item, declared_only);
+        let e = names_of(words, l, ModuleId(m), item, declared_only).entry;
         if let Entry::At(h) = e {
             return Entry::At(h);
         }

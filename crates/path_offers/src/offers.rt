@@ -37,7 +37,7 @@ pub fn importable_name(
     requires { ⌜ Reads (now words) (now area) l × (x .from < l .modules) × (m .0 < l .modules) ⌝ }
     ensures { λ r. ⌜ (r ≡ importableName (snapOf (now (words .entry)) (now (area .entry)) l) x item (m .0)) × Named l r ⌝ }
 {
-    let e = name_of(words, l, m, item);
+    let e = name_of(words, l, m, item).entry;
     let Entry::At(h) = e else {
         return Answer::Nothing;
     };

@@ -172,7 +172,7 @@ pub fn find_in_prelude(words: &[u32], area: &[u32], l: Layout, x: FindPathCtx, i
     let Entry::At(h) = p else {
         return Answer::Nothing;
     };
-    let e = name_of(words, l, prelude_target(words, h), item);
+    let e = name_of(words, l, prelude_target(words, h), item).entry;
     prelude_entry(words, area, l, x, item, e)
 }
 

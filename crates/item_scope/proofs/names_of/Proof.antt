@@ -1,6 +1,6 @@
 use borrow.Author.Needs.{needs}
-use Prim.Native.Nat.{ℕ, _+_, _-_, _*_}
-use mathlib.Core.Path.{_≡_, ap}
+use Prim.Native.Nat.{ℕ, _+_, _-_, _*_, _≤_}
+use mathlib.Core.Path.{_≡_, ap, _∙_}
 use mathlib.Core.Bool.{_&&_, _||_, not}
 use mathlib.Core.List.{List}
 use native.Mathlib.Omega.{arith}
@@ -10,24 +10,24 @@ use Rattle.snapshot.specs.Lists.{rows}
 use Rattle.snapshot.specs.Layouts.{scopeBase, snapOf}
 use Rattle.snapshot.specs.Records.{scopeAt}
 use Rattle.snapshot.proofs.Laws.{rows-whole}
-use Rattle.hir_def.specs.Finds.{firstOf}
-use Rattle.hir_def.specs.ItemScope.{isFor, namesOf}
-use Rattle.hir_def.proofs.Lookups.{first-hit, first-miss, first-none}
+use Rattle.hir_def.specs.Finds.{firstOf, readsOf}
+use Rattle.hir_def.specs.ItemScope.{isFor, namesOf, namesReads}
+use Rattle.hir_def.proofs.Lookups.{first-hit, first-miss, first-none, reads-hit, reads-miss, reads-none}
 use Rattle.item_scope.proofs.names_of.Statement.{statement}
 use Rattle.item_scope.proofs.names_of.Tie as tie
 
 abbrev Inv-loop : tie.InvT-loop
-Inv-loop words l m item declared base k₀ k = (A : List ℕ) → namesOf (snapOf words A l) (m .0) item (λ e. eqb (e .declared) 1 || not declared) ≡ firstOf (λ e. isFor (snapOf words A l) (m .0) item e && (eqb (e .declared) 1 || not declared)) (rows (λ i. scopeAt words (scopeBase l + 7 * i)) k (l .scopes - k))
+Inv-loop words l m item declared base read₀ read = ((A : List ℕ) → namesOf (snapOf words A l) (m .0) item (λ e. eqb (e .declared) 1 || not declared) ≡ firstOf (λ e. isFor (snapOf words A l) (m .0) item e && (eqb (e .declared) 1 || not declared)) (rows (λ i. scopeAt words (scopeBase l + 7 * i)) read (l .scopes - read))) × ((A : List ℕ) → namesReads (snapOf words A l) (m .0) item (λ e. eqb (e .declared) 1 || not declared) ≡ read + readsOf (λ e. isFor (snapOf words A l) (m .0) item e && (eqb (e .declared) 1 || not declared)) (rows (λ i. scopeAt words (scopeBase l + 7 * i)) read (l .scopes - read))) × (read ≤ l .scopes)
 
 abbrev μ-loop : tie.MeasureT-loop
-μ-loop words l m item declared base k₀ k = l .scopes - k
+μ-loop words l m item declared base read₀ read = l .scopes - read
 
 scope-base-requires : tie.Need-scope-base-requires Inv-loop μ-loop
 scope-base-requires c κs = search needs
 
 loop-holds : tie.Need-loop-holds Inv-loop μ-loop
-unfolding namesOf
-loop-holds c = λ A. rows-whole (firstOf _) _ _
+unfolding namesOf namesReads
+loop-holds c = (λ A. rows-whole (firstOf _) _ _, λ A. rows-whole (readsOf _) _ _ ∙ omega arith, omega arith)
 
 mul-h : tie.Need-mul-h Inv-loop μ-loop
 mul-h c = record { fits = omega (arith, c .if1 .taken, c .before .before .before .before .before .pre) }
@@ -35,31 +35,34 @@ mul-h c = record { fits = omega (arith, c .if1 .taken, c .before .before .before
 add-h : tie.Need-add-h Inv-loop μ-loop
 add-h c = record { fits = omega (arith, c .if1 .taken, c .before .before .before .scope-base .ensures, c .before .before .before .before .before .pre) }
 
+add-read : tie.Need-add-read Inv-loop μ-loop
+add-read c = record { fits = omega (arith, c .if1 .taken, c .before .before .before .before .before .pre) }
+
 is-entry-requires : tie.Need-is-entry-requires Inv-loop μ-loop
 is-entry-requires c κs = search needs
 
 returns : tie.Need-returns Inv-loop μ-loop
 returns c =
-    λ A.
     let s = c .before .before .before .before .before .before .before in
     let w = c .before .before .before .before .loop in
-    first-hit _ _ _ _ _ (w .inv A) (c .before .before .if1 .taken) (ap (λ b. scopeAt (now (s .args .words)) (b + 7 * w .k)) (c .before .before .before .before .before .scope-base .ensures)) (c .before .is-entry .ensures A) (c .if2 .taken)
-
-add-k : tie.Need-add-k Inv-loop μ-loop
-add-k c = record { fits = omega (arith, c .before .before .if1 .taken, c .before .before .before .before .before .before .before .pre) }
+    let b = c .before .before .before .before .before .scope-base .ensures in
+    let u = ap (λ x. scopeAt (now (s .args .words)) (x + 7 * w .read)) b in
+    (λ A. first-hit _ _ _ _ _ (w .inv .0 A) (c .before .before .if1 .taken) u (c .before .is-entry .ensures A) (c .if2 .taken), λ A. reads-hit _ _ _ _ _ (w .inv .1 A) (c .before .before .if1 .taken) u (c .before .is-entry .ensures A) (c .if2 .taken), omega (arith, b))
 
 loop-less : tie.Need-loop-less Inv-loop μ-loop
 loop-less c = omega (arith, c .before .before .if1 .taken)
 
 loop-again : tie.Need-loop-again Inv-loop μ-loop
 loop-again c =
-    λ A.
     let s = c .before .before .before .before .before .before .before in
     let w = c .before .before .before .before .loop in
-    first-miss _ _ _ _ _ (w .inv A) (c .before .before .if1 .taken) (ap (λ b. scopeAt (now (s .args .words)) (b + 7 * w .k)) (c .before .before .before .before .before .scope-base .ensures)) (c .before .is-entry .ensures A) (c .if2 .left)
+    let u = ap (λ x. scopeAt (now (s .args .words)) (x + 7 * w .read)) (c .before .before .before .before .before .scope-base .ensures) in
+    (λ A. first-miss _ _ _ _ _ (w .inv .0 A) (c .before .before .if1 .taken) u (c .before .is-entry .ensures A) (c .if2 .left), λ A. reads-miss _ _ _ _ _ (w .inv .1 A) (c .before .before .if1 .taken) u (c .before .is-entry .ensures A) (c .if2 .left), omega (arith, c .before .before .if1 .taken))
 
 returns-2 : tie.Need-returns-2 Inv-loop μ-loop
-returns-2 c = λ A. first-none _ _ _ _ _ (c .before .before .loop .inv A) (c .if1 .left)
+returns-2 c =
+    let w = c .before .before .loop in
+    (λ A. first-none _ _ _ _ _ (w .inv .0 A) (c .if1 .left), λ A. reads-none _ _ _ _ _ (w .inv .1 A) (c .if1 .left), omega (arith, c .if1 .left, w .inv .2))
 
 pub names-of-spec : {M : Type 1} → statement M
 names-of-spec =
@@ -71,9 +74,9 @@ names-of-spec =
     loop-holds
     mul-h
     add-h
+    add-read
     is-entry-requires
     returns
-    add-k
     loop-less
     loop-again
     returns-2)

@@ -42,7 +42,7 @@ unfolding scopeEntry
 returns c =
     let s = c .before .before .before .before .before .before .before in
     let g = c .before .before .before .before .loop in
-    answer-here (snapOf (now (s .args .words)) (now (s .args .area)) (s .args .l)) (block-falls (snapOf (now (s .args .words)) (now (s .args .area)) (s .args .l)) (accepted-tree (now (s .args .words)) (snapOf (now (s .args .words)) (now (s .args .area)) (s .args .l)) (s .pre .0 .same))) (g .m) (rw (length-modules (now (s .args .words)) (now (s .args .area)) (s .args .l)) (g .inv .1)) (λ a. namesOf (snapOf (now (s .args .words)) (now (s .args .area)) (s .args .l)) a (s .args .item) (λ e. eqb (e .declared) 1 || not (s .args .declared-only))) (sym (c .before .before .before .names-of .ensures (now (s .args .area))) ∙ ap (entryOf scopeAt (now (s .args .words))) (c .before .e .given .1)) ∙ sym (g .inv .0)
+    answer-here (snapOf (now (s .args .words)) (now (s .args .area)) (s .args .l)) (block-falls (snapOf (now (s .args .words)) (now (s .args .area)) (s .args .l)) (accepted-tree (now (s .args .words)) (snapOf (now (s .args .words)) (now (s .args .area)) (s .args .l)) (s .pre .0 .same))) (g .m) (rw (length-modules (now (s .args .words)) (now (s .args .area)) (s .args .l)) (g .inv .1)) (λ a. namesOf (snapOf (now (s .args .words)) (now (s .args .area)) (s .args .l)) a (s .args .item) (λ e. eqb (e .declared) 1 || not (s .args .declared-only))) (sym (c .before .before .before .names-of .ensures .0 (now (s .args .area))) ∙ ap (entryOf scopeAt (now (s .args .words))) (c .before .e .given .1)) ∙ sym (g .inv .0)
 
 enum-told : tie.Need-enum-told Inv-loop μ-loop
 enum-told c = search needs
@@ -55,7 +55,7 @@ unfolding scopeEntry
 returns-2 c =
     let s = c .before .before .before .before .before .before .before .before in
     let g = c .before .before .before .before .before .loop in
-    answer-none (snapOf (now (s .args .words)) (now (s .args .area)) (s .args .l)) (block-falls (snapOf (now (s .args .words)) (now (s .args .area)) (s .args .l)) (accepted-tree (now (s .args .words)) (snapOf (now (s .args .words)) (now (s .args .area)) (s .args .l)) (s .pre .0 .same))) (g .m) (rw (length-modules (now (s .args .words)) (now (s .args .area)) (s .args .l)) (g .inv .1)) (λ a. namesOf (snapOf (now (s .args .words)) (now (s .args .area)) (s .args .l)) a (s .args .item) (λ e. eqb (e .declared) 1 || not (s .args .declared-only))) (sym (c .before .before .before .before .names-of .ensures (now (s .args .area))) ∙ ap (entryOf scopeAt (now (s .args .words))) (c .before .before .enum-told .given .1)) (sym (c .before .block .ensures) ∙ c .if1 .taken) ∙ sym (g .inv .0)
+    answer-none (snapOf (now (s .args .words)) (now (s .args .area)) (s .args .l)) (block-falls (snapOf (now (s .args .words)) (now (s .args .area)) (s .args .l)) (accepted-tree (now (s .args .words)) (snapOf (now (s .args .words)) (now (s .args .area)) (s .args .l)) (s .pre .0 .same))) (g .m) (rw (length-modules (now (s .args .words)) (now (s .args .area)) (s .args .l)) (g .inv .1)) (λ a. namesOf (snapOf (now (s .args .words)) (now (s .args .area)) (s .args .l)) a (s .args .item) (λ e. eqb (e .declared) 1 || not (s .args .declared-only))) (sym (c .before .before .before .before .names-of .ensures .0 (now (s .args .area))) ∙ ap (entryOf scopeAt (now (s .args .words))) (c .before .before .enum-told .given .1)) (sym (c .before .block .ensures) ∙ c .if1 .taken) ∙ sym (g .inv .0)
 
 sub-m : tie.Need-sub-m Inv-loop μ-loop
 sub-m c = let h = c .if1 .left in omega arith
@@ -73,7 +73,7 @@ loop-again c =
     let g = c .before .before .before .before .before .loop in
     let d = (block-falls (snapOf (now (s .args .words)) (now (s .args .area)) (s .args .l)) (accepted-tree (now (s .args .words)) (snapOf (now (s .args .words)) (now (s .args .area)) (s .args .l)) (s .pre .0 .same))) (g .m) (c .before .block .result - 1) (rw (length-modules (now (s .args .words)) (now (s .args .area)) (s .args .l)) (g .inv .1)) (sym (c .before .block .ensures) ∙ one-more _ (c .if1 .left)) in
     let k = g .inv .1 in
-    (g .inv .0 ∙ answer-on (snapOf (now (s .args .words)) (now (s .args .area)) (s .args .l)) (block-falls (snapOf (now (s .args .words)) (now (s .args .area)) (s .args .l)) (accepted-tree (now (s .args .words)) (snapOf (now (s .args .words)) (now (s .args .area)) (s .args .l)) (s .pre .0 .same))) (g .m) (rw (length-modules (now (s .args .words)) (now (s .args .area)) (s .args .l)) (g .inv .1)) (λ a. namesOf (snapOf (now (s .args .words)) (now (s .args .area)) (s .args .l)) a (s .args .item) (λ e. eqb (e .declared) 1 || not (s .args .declared-only))) (sym (c .before .before .before .before .names-of .ensures (now (s .args .area))) ∙ ap (entryOf scopeAt (now (s .args .words))) (c .before .before .enum-told .given .1)) (c .before .block .result - 1) (sym (c .before .block .ensures) ∙ one-more _ (c .if1 .left)), omega arith)
+    (g .inv .0 ∙ answer-on (snapOf (now (s .args .words)) (now (s .args .area)) (s .args .l)) (block-falls (snapOf (now (s .args .words)) (now (s .args .area)) (s .args .l)) (accepted-tree (now (s .args .words)) (snapOf (now (s .args .words)) (now (s .args .area)) (s .args .l)) (s .pre .0 .same))) (g .m) (rw (length-modules (now (s .args .words)) (now (s .args .area)) (s .args .l)) (g .inv .1)) (λ a. namesOf (snapOf (now (s .args .words)) (now (s .args .area)) (s .args .l)) a (s .args .item) (λ e. eqb (e .declared) 1 || not (s .args .declared-only))) (sym (c .before .before .before .before .names-of .ensures .0 (now (s .args .area))) ∙ ap (entryOf scopeAt (now (s .args .words))) (c .before .before .enum-told .given .1)) (c .before .block .result - 1) (sym (c .before .block .ensures) ∙ one-more _ (c .if1 .left)), omega arith)
 
 pub scope-entry-spec : {M : Type 1} → statement M
 scope-entry-spec =

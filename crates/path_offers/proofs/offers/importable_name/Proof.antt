@@ -25,14 +25,14 @@ returns c =
     let s = c .before .before .before .before .before in
     let n = snapOf (now (s .args .words)) (now (s .args .area)) (s .args .l) in
     let W = now (s .args .words) in
-    (ap (nameIf n (s .args .x)) (sym (ap (entryOf scopeAt W) (c .enum-told .given .1)) ∙ c .before .before .name-of .ensures (now (s .args .area))), tt)
+    (ap (nameIf n (s .args .x)) (sym (ap (entryOf scopeAt W) (c .enum-told .given .1)) ∙ c .before .before .name-of .ensures .0 (now (s .args .area))), tt)
 
 sees-requires : tie.Need-sees-requires
 sees-requires c κs =
     let s = c .before .before .before .before .before .before in
     let W = now (s .args .words) in
     let A = now (s .args .area) in
-    let o = sym (ap (entryOf scopeAt W) (c .before .e .given .1)) ∙ c .before .before .before .name-of .ensures A in
+    let o = sym (ap (entryOf scopeAt W) (c .before .e .given .1)) ∙ c .before .before .before .name-of .ensures .0 A in
     (s .pre .0, s .pre .1, name-fits W A (s .args .l) (s .pre .0) (s .args .m .0) (c .before .e .given .0 .0) (s .args .item) o .inside)
 
 scope-declared-requires : tie.Need-scope-declared-requires
@@ -52,7 +52,7 @@ returns-2 c =
     let W = now (s .args .words) in
     let A = now (s .args .area) in
     let g = c .before .before .before .before .before .before .e .given in
-    let o = sym (ap (entryOf scopeAt W) (g .1)) ∙ c .before .before .before .before .before .before .before .before .name-of .ensures A in
+    let o = sym (ap (entryOf scopeAt W) (g .1)) ∙ c .before .before .before .before .before .before .before .before .name-of .ensures .0 A in
     let e = name-taken n (s .args .x) (scopeAt W (g .0 .0)) (c .before .scope-name .ensures) (c .before .before .scope-visibility .ensures) (c .before .before .before .scope-declared .ensures) (c .before .before .before .before .sees .ensures) (c .if1 .taken) in
     (e ∙ ap (nameIf n (s .args .x)) o, rw (c .before .scope-name .ensures) (name-fits W A (s .args .l) (s .pre .0) (s .args .m .0) (g .0 .0) (s .args .item) o .name))
 
@@ -64,7 +64,7 @@ returns-3 c =
     let W = now (s .args .words) in
     let A = now (s .args .area) in
     let g = c .before .before .before .before .before .before .e .given in
-    let o = sym (ap (entryOf scopeAt W) (g .1)) ∙ c .before .before .before .before .before .before .before .before .name-of .ensures A in
+    let o = sym (ap (entryOf scopeAt W) (g .1)) ∙ c .before .before .before .before .before .before .before .before .name-of .ensures .0 A in
     let e = name-left n (s .args .x) (scopeAt W (g .0 .0)) (c .before .scope-name .ensures) (c .before .before .scope-visibility .ensures) (c .before .before .before .scope-declared .ensures) (c .before .before .before .before .sees .ensures) (c .if1 .left) in
     (e ∙ ap (nameIf n (s .args .x)) o, tt)
 

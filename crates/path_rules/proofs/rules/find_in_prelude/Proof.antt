@@ -39,7 +39,7 @@ prelude-entry-requires c κs =
     let s = c .before .before .before .before .before .before .before .before .before in
     let W = now (s .args .words) in
     let A = now (s .args .area) in
-    (s .pre .0, s .pre .1, λ h e. name-fits W A (s .args .l) (s .pre .0) (c .before .prelude-target .result .0) h (s .args .item) (sym (ap (entryOf scopeAt W) e) ∙ c .name-of .ensures A))
+    (s .pre .0, s .pre .1, λ h e. name-fits W A (s .args .l) (s .pre .0) (c .before .prelude-target .result .0) h (s .args .item) (sym (ap (entryOf scopeAt W) e) ∙ c .name-of .ensures .0 A))
 
 returns-2 : tie.Need-returns-2
 returns-2 c =
@@ -49,7 +49,7 @@ returns-2 c =
     let A = now (s .args .area) in
     let g = c .before .before .before .before .p .given in
     let e = sym (ap (entryOf preludeAt W) (g .1)) ∙ c .before .before .before .before .before .before .prelude-of .ensures A in
-    let k = prelude-some n (s .args .x) (s .args .item) (preludeAt W (g .0 .0)) (c .before .before .before .before .before .before .before .map .ensures) e (c .before .before .prelude-target .ensures) (c .before .name-of .ensures A) in
+    let k = prelude-some n (s .args .x) (s .args .item) (preludeAt W (g .0 .0)) (c .before .before .before .before .before .before .before .map .ensures) e (c .before .before .prelude-target .ensures) (c .before .name-of .ensures .0 A) in
     (c .prelude-entry .ensures .0 ∙ k, c .prelude-entry .ensures .1)
 
 pub find-in-prelude-spec : {M : Type 1} → statement M
