@@ -13,6 +13,7 @@ fn print_label(code: usize) {
         7 => io::write_all(STDOUT_FILENO, b"containing"),
         8 => io::write_all(STDOUT_FILENO, b"extern"),
         9 => io::write_all(STDOUT_FILENO, b"home"),
+        10 => io::write_all(STDOUT_FILENO, b"reads"),
         _ => io::write_all(STDOUT_FILENO, b"unknown"),
     }
     ;

@@ -11,6 +11,7 @@ use hir_def::modules::containing;
 use hir_def::modules::crate_root;
 use hir_def::visibility::is_visible_from;
 use item_scope::name_of;
+use item_scope::names_of;
 use nameres::entry_named;
 use nameres::occupied;
 use nameres::scope_entry;
@@ -102,6 +103,21 @@ fn name(words: &[u32], l: Layout, m: usize, ns: usize, d: usize) -> Reply
     let item = item_of(words, l, ns, DefinitionId(d));
     let e = name_of(words, l, ModuleId(m), item).entry;
     name_at(words, e)
+}
+
+// How many scope records the lookup of the item reads.
+fn reads(words: &[u32], l: Layout, m: usize, ns: usize, d: usize, declared: bool) -> Reply
+    requires { ⌜ wordCount l < 2 ^ 32 ⌝ }
+{
+    if l.modules <= m {
+        return Reply::OutOfRange;
+    }
+    if l.definitions <= d {
+        return Reply::OutOfRange;
+    }
+    let item = item_of(words, l, ns, DefinitionId(d));
+    let found = names_of(words, l, ModuleId(m), item, declared);
+    Reply::Number(found.read)
 }
 
 fn scope(
@@ -240,6 +256,7 @@ pub fn answer(
         7 => container(words, area, l, a),
         8 => extern_named(words, l, a, b),
         9 => home(words, l, a, b),
+        10 => reads(words, l, a, b, c, d == 1),
         _ => Reply::OutOfRange,
     }
 }
