@@ -1,0 +1,68 @@
+use Prim.Native.Nat.{_≤_, _<_}
+use mathlib.Core.Path.{_≡_, sym, _∙_}
+use native.Mathlib.Omega.{arith}
+use Rattle.windows.specs.States.{firstFrom, served}
+use Rattle.windows.proofs.Laws.{served-start, first-here, first-next, first-none}
+use Rattle.windows.proofs.rows.next_waiting.Statement.{statement}
+use Rattle.windows.proofs.rows.next_waiting.Tie as tie
+
+abbrev Inv-loop : tie.InvT-loop
+Inv-loop state window₀ left₀ window left = (window < 8) × (left ≤ 8) × (served state ≡ firstFrom state window left)
+
+abbrev μ-loop : tie.MeasureT-loop
+μ-loop state window₀ left₀ window left = left
+
+array-read-window : tie.Need-array-read-window Inv-loop μ-loop
+array-read-window c = omega arith
+
+cast-window : tie.Need-cast-window Inv-loop μ-loop
+cast-window c = omega arith
+
+loop-holds : tie.Need-loop-holds Inv-loop μ-loop
+loop-holds c = (omega arith, omega arith, served-start _)
+
+waits-requires : tie.Need-waits-requires Inv-loop μ-loop
+waits-requires c κs = c .before .loop .inv .0
+
+returns : tie.Need-returns Inv-loop μ-loop
+returns c =
+    let t = c .before .before in
+    let l = t .before .loop in
+    sym (l .inv .2 ∙ first-here _ (l .window) _ (c .before .waits .ensures) (l .left) (t .loop-test .taken) (c .if1 .taken))
+
+add-window : tie.Need-add-window Inv-loop μ-loop
+add-window c = omega arith
+
+sub-left : tie.Need-sub-left Inv-loop μ-loop
+sub-left c = omega arith
+
+loop-less : tie.Need-loop-less Inv-loop μ-loop
+loop-less c = omega arith
+
+loop-again : tie.Need-loop-again Inv-loop μ-loop
+loop-again c =
+    let t = c .before .before in
+    let l = t .before .loop in
+    (omega arith, omega arith, l .inv .2 ∙ first-next _ (l .window) _ (c .before .waits .ensures) (l .left) (t .loop-test .taken) (c .if1 .left))
+
+returns-2 : tie.Need-returns-2 Inv-loop μ-loop
+returns-2 c =
+    let l = c .before .loop in
+    sym (l .inv .2 ∙ first-none _ (l .window) (l .left) (c .loop-test .left))
+
+pub next-waiting-spec : {M : Type 1} → statement M
+next-waiting-spec =
+    tie.close
+    (tie.spec
+    Inv-loop
+    μ-loop
+    array-read-window
+    cast-window
+    loop-holds
+    waits-requires
+    returns
+    add-window
+    sub-left
+    loop-less
+    loop-again
+    returns-2)

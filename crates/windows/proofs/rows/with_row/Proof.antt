@@ -1,0 +1,73 @@
+use Prim.Native.Nat.{_+_, _-_, _*_, _≤_, _<_}
+use mathlib.Core.Path.{_≡_, refl, _∙_}
+use native.Mathlib.Omega.{arith}
+use lib.ListN.{length, length-set}
+use lib.Seq.{paste}
+use Rattle.windows.proofs.Laws.{row-start, row-next, row-done}
+use Rattle.windows.proofs.rows.with_row.Statement.{statement}
+use Rattle.windows.proofs.rows.with_row.Tie as tie
+
+abbrev Inv-loop : tie.InvT-loop
+Inv-loop window state₀ row at i₀ state i = (i ≤ 7) × (length state ≡ 57) × (state ≡ paste state₀ at row i)
+
+abbrev μ-loop : tie.MeasureT-loop
+μ-loop window state₀ row at i₀ state i = 7 - i
+
+mul-at : tie.Need-mul-at Inv-loop μ-loop
+mul-at c = omega arith
+
+add-at : tie.Need-add-at Inv-loop μ-loop
+add-at c = omega arith
+
+loop-holds : tie.Need-loop-holds Inv-loop μ-loop
+loop-holds c = (omega arith, c .good .0 .1 .0 .1, row-start (c .args .t1) (c .args .t3) (1 + 7 * c .args .window))
+
+mul-state : tie.Need-mul-state Inv-loop μ-loop
+mul-state c = omega arith
+
+array-read-state : tie.Need-array-read-state Inv-loop μ-loop
+array-read-state c = omega arith
+
+add-state : tie.Need-add-state Inv-loop μ-loop
+add-state c = omega arith
+
+mul-state-2 : tie.Need-mul-state-2 Inv-loop μ-loop
+mul-state-2 c = omega arith
+
+array-write-state : tie.Need-array-write-state Inv-loop μ-loop
+array-write-state c = omega arith
+
+add-i : tie.Need-add-i Inv-loop μ-loop
+add-i c = omega arith
+
+loop-less : tie.Need-loop-less Inv-loop μ-loop
+loop-less c = omega arith
+
+loop-again : tie.Need-loop-again Inv-loop μ-loop
+loop-again c =
+    let l = c .before .loop in
+    (omega arith, (simp length-set) ∙ l .inv .1, row-next _ (l .state) _ _ (l .i) (l .inv .2) (omega arith) (omega arith))
+
+returns : tie.Need-returns Inv-loop μ-loop
+returns c =
+    let l = c .before .loop in
+    row-done _ (l .state) _ _ (l .i) (l .inv .2) (l .inv .0) (c .loop-test .left) (c .before .before .good .1 .1 .0 .1 .0 .1)
+
+pub with-row-spec : {M : Type 1} → statement M
+with-row-spec =
+    tie.close
+    (tie.spec
+    Inv-loop
+    μ-loop
+    mul-at
+    add-at
+    loop-holds
+    mul-state
+    array-read-state
+    add-state
+    mul-state-2
+    array-write-state
+    add-i
+    loop-less
+    loop-again
+    returns)

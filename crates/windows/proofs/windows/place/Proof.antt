@@ -1,0 +1,28 @@
+use borrow.Author.Needs.{needs}
+use mathlib.Core.Path.{_∙_, sym}
+use denote.Ref.{now}
+use Rattle.windows.proofs.Laws.{fault-room, placed-not, placed-so}
+use Rattle.windows.proofs.windows.place.Statement.{statement}
+use Rattle.windows.proofs.windows.place.Tie as tie
+
+place-fault-requires : tie.Need-place-fault-requires
+place-fault-requires c κs = search needs
+
+returns : tie.Need-returns
+returns c =
+    let s = c .before .before .before .args in
+    placed-not (now (s .state)) (s .window) _ _ (c .before .place-fault .ensures) (c .if1 .taken)
+
+with-question-requires : tie.Need-with-question-requires
+with-question-requires c κs =
+    let s = c .before .before .before .args in
+    fault-room (now (s .state)) (s .window) (sym (c .before .place-fault .ensures) ∙ c .if1 .left)
+
+returns-2 : tie.Need-returns-2
+returns-2 c =
+    let f = c .before .before in
+    let s = f .before .before .args in
+    placed-so (now (s .state)) (s .window) _ _ (f .place-fault .ensures) (c .before .if1 .left) _ (c .with-question .ensures)
+
+pub place-spec : {M : Type 1} → statement M
+place-spec = tie.close (tie.spec place-fault-requires returns with-question-requires returns-2)

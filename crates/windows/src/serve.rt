@@ -1,0 +1,61 @@
+//! Questions placed and served, in a state by value.
+ghost use mathlib.Core.Path.{_≡_};
+ghost use Prim.Native.Nat.{_<_};
+ghost use Rattle.batch.specs.Questions.{questionOf};
+ghost use Rattle.windows.specs.States.{placeFault, withRow, waiting, askedBy, afterServing};
+use crate::rows::StateWords;
+use crate::rows::WindowCount;
+use crate::rows::waits;
+use crate::rows::with_row;
+use batch::question::question_of;
+use find_path::Question;
+
+/// The number by which a question of a window is refused, 0 for none.
+pub fn place_fault(state: [u32; 57], window: usize) -> usize
+    ensures { λ r. ⌜ r ≡ placeFault state window ⌝ }
+{
+    if WindowCount::LIMIT <= window {
+        return 49;
+    }
+    if waits(state, window) {
+        return 50;
+    }
+    0
+}
+
+/// The state in which a question of a window waits.
+pub fn with_question(state: [u32; 57], window: usize, question: &[u32; 6]) -> [u32; 57]
+    requires { ⌜ window < 8 ⌝ }
+    ensures { λ r. ⌜ r ≡ withRow state window (waiting (questionOf (now (question .entry)))) ⌝ }
+{
+    let row = [
+        1,
+        question[0],
+        question[1],
+        question[2],
+        question[3],
+        question[4],
+        question[5],
+    ];
+    with_row(state, window, row)
+}
+
+/// The question of a window.
+pub fn asked_by(state: [u32; 57], window: usize) -> Question
+    requires { ⌜ window < 8 ⌝ }
+    ensures { λ r. ⌜ r ≡ askedBy state window ⌝ }
+{
+    let from = 1 + StateWords::ROW * window + 1;
+    question_of(&state[from..])
+}
+
+/// The state after a window was served: its question waits no more, and the next turn counts from the window after it.
+pub fn after_serving(state: [u32; 57], window: usize) -> [u32; 57]
+    requires { ⌜ window < 8 ⌝ }
+    ensures { λ r. ⌜ r ≡ afterServing state window ⌝ }
+{
+    let row = [0u32; 7];
+    let mut s = with_row(state, window, row);
+    s[0] = ((window + 1) % WindowCount::LIMIT) as u32;
+    s
+}
