@@ -85,6 +85,13 @@ fault-room S w e = room (ltb 7 w) refl
     room true t = omega (arith, fault-window S w (omega (arith, ltb-true 7 w t)), e)
     room false t = omega (arith, ltb-false 7 w t)
 
+pub fault-free : (S : List ℕ) (w : ℕ) → placeFault S w ≡ 0 → waits S w ≡ false
+fault-free S w e = free (waits S w) refl
+  where
+    free : (b : Bool) → waits S w ≡ b → b ≡ false
+    free true t = absurd (omega (arith, fault-waits S w (fault-room S w e) true (sym t) refl, e))
+    free false t = refl
+
 kept-unless : (S : List ℕ) (w : ℕ) (q : Question) (n : ℕ) → (n ≡ 0 → ⊥) → S ≡ placedUnless S w q n
 unfolding placedUnless
 kept-unless S w q zero h = absurd (h refl)
