@@ -1,10 +1,11 @@
 use borrow.Author.Needs.{needs}
+use native.Mathlib.Omega.{arith}
 use Rattle.windows.proofs.Laws.{fault-window, fault-waits, fault-none}
 use Rattle.windows.proofs.serve.place_fault.Statement.{statement}
 use Rattle.windows.proofs.serve.place_fault.Tie as tie
 
 returns : tie.Need-returns
-returns c = fault-window _ _ (c .if1 .taken)
+returns c = fault-window _ _ (omega (arith, c .if1 .taken))
 
 waits-requires : tie.Need-waits-requires
 waits-requires c κs = search needs
