@@ -1,3 +1,4 @@
 pub mod Checking
 pub mod Texts
 pub mod Asking
+pub mod Serving

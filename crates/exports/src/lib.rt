@@ -1,9 +1,12 @@
-//! The functions of the static library, for programs in Rust and C. None keeps a state, and none asks anything of its caller.
+//! The functions of the static library, for programs in Rust and C. None keeps a state but the one that the caller lends, and none asks
+//! anything of its caller.
 ghost use Rattle.batch.specs.Batch.{Batch};
 ghost use Rattle.batch.specs.Questions.{questionOf};
 ghost use Rattle.exports.specs.Answers.{Answered};
 ghost use Rattle.exports.specs.Questions.{Reported};
 ghost use Rattle.exports.specs.Texts.{nameText, Copied, Named};
+ghost use Rattle.exports.specs.Turns.{Served};
+ghost use Rattle.windows.specs.Windows.{Placed};
 
 mod text;
 
@@ -19,6 +22,8 @@ use snapshot::ids::Name;
 use snapshot::table::name_head;
 use snapshot::text::text_at;
 use snapshot::words::payload;
+use windows::windows::place;
+use windows::windows::turn;
 
 /// Checks a snapshot, and leaves the tables of accepted words in the work area. Answers the number of the refusal, 0 for none;
 /// writes that number, its place, and how many records of each kind there are.
@@ -111,4 +116,39 @@ pub extern "C" fn kelumavor_find_paths(
     ensures { λ r. ⌜ Batch (now (words .entry)) (now (area .entry)) (now (questions .entry)) (now (reports .entry)) (now (area .exit)) (now (reports .exit)) r ⌝ }
 {
     find_paths(words, area, questions, reports)
+}
+
+/// Places a question for one of the eight windows whose state the caller lends; 57 zeros are the state in which none waits. Answers 0,
+/// or the number by which the question is refused, with the state unchanged: 49 no such window, 50 a question of the window waits
+/// already.
+#[no_mangle]
+pub extern "C" fn kelumavor_place(
+    state: &mut [u32; 57],
+    window: usize,
+    question: &[u32; 6],
+) -> usize
+    ensures { λ r. ⌜ Placed (now (state .entry)) window (questionOf (now (question .entry))) (now (state .exit)) r ⌝ }
+{
+    place(state, window, question)
+}
+
+/// Serves the next window that waits, on a snapshot, and writes the report of its question. Answers the window, or 8 where no question
+/// waits; nothing is changed then.
+#[no_mangle]
+pub extern "C" fn kelumavor_turn(
+    state: &mut [u32; 57],
+    words: &[u32],
+    area: &mut [u32],
+    report: &mut [u32; 22],
+) -> usize
+    ensures { λ r. ⌜ Served (now (state .entry)) (now (words .entry)) (now (area .entry)) (now (report .entry)) (now (state .exit)) (now (area .exit)) (now (report .exit)) r ⌝ }
+{
+    let t = turn(state, words, area);
+    let idle = t.idle;
+    if idle {
+        return 8;
+    }
+    let answer = t.report;
+    write_report(answer, report);
+    t.window
 }

@@ -1,0 +1,42 @@
+-- A turn, and its report as words.
+use Prim.Native.Nat.{ℕ}
+use mathlib.Core.Path.{_≡_, refl, sym, _∙_, ap}
+use mathlib.Core.Bool.{Bool, true, false, false≢true}
+use mathlib.Core.List.{List}
+use borrow.Author.Tests.{eqb-true}
+use lib.Dec.{eqb}
+use lib.ListN.{length}
+use Rattle.reports.specs.Written.{Written, writtenTo}
+use Rattle.windows.specs.declared.turns.Turn.{Turn}
+use Rattle.windows.specs.States.{served}
+use Rattle.windows.specs.Windows.{idleTurn, servingTurn, turnOf, Turned}
+use Rattle.exports.specs.Turns.{reportTurned, Served}
+
+module _ (S W A T B old : List ℕ) (t : Turn) (k : Turned S W A T B t) where
+  pub served-none : t .idle ≡ true → Served S W A old T B old 8
+  unfolding turnOf servingTurn reportTurned
+  served-none h = at (eqb (served S) 8) refl
+    where
+      at : (b : Bool) → eqb (served S) 8 ≡ b → Served S W A old T B old 8
+      at true e =
+          record { window = sym (eqb-true (served S) 8 e); state = k .state; area = k .area; report = sym (rw (reportTurned, e)) }
+      at false e =
+          let f : turnOf S W (length A) ≡ servingTurn S W (length A) (served S) = rw (turnOf, e) in
+          absurd (false≢true (sym (ap (λ (x : Turn). x .idle) (k .turn ∙ f)) ∙ h))
+
+  pub served-one : t .idle ≡ false → (new : List ℕ) (b : Bool) → Written (t .report) old new b → Served S W A old T B new (t .window)
+  unfolding turnOf idleTurn servingTurn reportTurned
+  served-one h new b w = at (eqb (served S) 8) refl
+    where
+      at : (c : Bool) → eqb (served S) 8 ≡ c → Served S W A old T B new (t .window)
+      at true e =
+          let f : turnOf S W (length A) ≡ idleTurn = rw (turnOf, e) in
+          absurd (false≢true (sym h ∙ ap (λ (x : Turn). x .idle) (k .turn ∙ f)))
+      at false e =
+          let f : turnOf S W (length A) ≡ servingTurn S W (length A) (served S) = rw (turnOf, e) in
+          record {
+            window = ap (λ (x : Turn). x .window) (k .turn ∙ f);
+            state = k .state;
+            area = k .area;
+            report = w .words ∙ ap (λ (x : Turn). writtenTo (x .report) old) (k .turn ∙ f) ∙ sym (rw (reportTurned, e));
+          }
