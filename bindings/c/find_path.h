@@ -1,6 +1,6 @@
 /* Kelumavor: which path names an item in a module. Link libexports.a, which `rt staticlib exports` writes to target/staticlib/.
  *
- * The functions are proved. They keep no state, may be called from several threads, and take any lengths and numbers. Each
+ * The functions are proved. They keep no state but what the caller lends, may be called from several threads, and take any lengths and numbers. Each
  * pointer must be that of as many elements as the length beside it says, not null even where that is 0, and what a function
  * writes to must not overlap what else it is given. */
 #ifndef KELUMAVOR_FIND_PATH_H
@@ -90,6 +90,23 @@ bool kelumavor_find_path(const uint32_t *words, size_t words_len, uint32_t *area
  * not a multiple of KELUMAVOR_QUESTION, or a reports_len that is too small. The area is left as by kelumavor_find_path. */
 size_t kelumavor_find_paths(const uint32_t *words, size_t words_len, uint32_t *area, size_t area_len,
                             const uint32_t *questions, size_t questions_len, uint32_t *reports, size_t reports_len);
+
+/* Windows that share one search, each with a question that waits or none. The state is the caller's; all zeros is the one in which no
+ * question waits. Word 0 is the window from which the next turn counts; a row of seven words for each window follows: 1 where its
+ * question waits, and the question. */
+#define KELUMAVOR_WINDOWS 8
+#define KELUMAVOR_STATE (1 + KELUMAVOR_WINDOWS * (1 + KELUMAVOR_QUESTION))
+
+/* Places a question for a window. Answers 0, or the number by which it is refused, with the state unchanged: 49 for a window above 7,
+ * 50 for one whose question waits already. */
+size_t kelumavor_place(uint32_t state[KELUMAVOR_STATE], size_t window, const uint32_t question[KELUMAVOR_QUESTION]);
+
+/* Serves the next window that waits, counting round from the one after that served last: writes the report that kelumavor_find_path
+ * writes for its question on these words, a refusal included, and answers the window, whose question waits no more. The area is left
+ * as by kelumavor_find_path. Where no question waits it answers KELUMAVOR_WINDOWS and changes nothing. A question placed is served
+ * within eight turns, whatever the other windows place. */
+size_t kelumavor_turn(uint32_t state[KELUMAVOR_STATE], const uint32_t *words, size_t words_len, uint32_t *area, size_t area_len,
+                      uint32_t report[KELUMAVOR_REPORT]);
 
 #ifdef __cplusplus
 }

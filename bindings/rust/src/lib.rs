@@ -41,6 +41,7 @@ mod report;
 mod snapshot;
 mod sys;
 mod text;
+mod windows;
 mod words;
 
 pub use ids::{CrateId, DefinitionId, MapId, ModuleId, NameId, Namespace};
@@ -50,4 +51,5 @@ pub use refusal::{Refusal, RefusalKind};
 pub use report::{Outcome, Report};
 pub use snapshot::{Counts, Snapshot, WorkArea};
 pub use text::Text;
+pub use windows::Windows;
 pub use words::{Origin, SnapshotWords, Visibility};

@@ -37,10 +37,14 @@ pub enum RefusalKind {
     WordsOutsideQuestion = 42,
     /// 44, by a call of the library with several questions; `Snapshot::find_paths` takes any number of them
     BatchTooLong = 44,
+    /// 49, by [`Windows::place`](crate::Windows::place)
+    NoSuchWindow = 49,
+    /// 50, by [`Windows::place`](crate::Windows::place)
+    WindowWaits = 50,
 }
 
 impl RefusalKind {
-    const ALL: [RefusalKind; 16] = [
+    const ALL: [RefusalKind; 18] = [
         Self::SmallWorkArea,
         Self::TooMuchFuel,
         Self::OutOfRange,
@@ -57,6 +61,8 @@ impl RefusalKind {
         Self::InputNotWords,
         Self::WordsOutsideQuestion,
         Self::BatchTooLong,
+        Self::NoSuchWindow,
+        Self::WindowWaits,
     ];
 
     /// The reason with a number.
@@ -88,6 +94,8 @@ impl fmt::Display for RefusalKind {
             Self::InputNotWords => "a number of bytes that is not a multiple of 4",
             Self::WordsOutsideQuestion => "a word after the snapshot that is in no whole question",
             Self::BatchTooLong => "more than 64 questions, a part of one, or too few words for their reports",
+            Self::NoSuchWindow => "a window above 7",
+            Self::WindowWaits => "the window has a question that waits already",
         })
     }
 }

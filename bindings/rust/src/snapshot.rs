@@ -16,6 +16,10 @@ impl WorkArea {
     pub fn new() -> Self {
         WorkArea(vec![0; Self::WORDS].into_boxed_slice())
     }
+
+    pub(crate) fn words(&mut self) -> &mut [u32] {
+        &mut self.0
+    }
 }
 
 impl Default for WorkArea {

@@ -1,4 +1,5 @@
-//! The functions of the static library. They keep no state and take any lengths and numbers; a slice is a pointer and a length.
+//! The functions of the static library. They keep no state but what is lent to them, and take any lengths and numbers; a slice is a
+//! pointer and a length.
 
 /// Numbers that the check answers: the refusal, its place, and a count for each of the eleven kinds of records.
 pub const CHECKED: usize = 13;
@@ -11,6 +12,12 @@ pub const REPORT: usize = 22;
 
 /// Questions of a call, at most.
 pub const QUESTIONS: usize = 64;
+
+/// Windows that share one search.
+pub const WINDOWS: usize = 8;
+
+/// Words of the windows' state.
+pub const STATE: usize = 1 + WINDOWS * (1 + QUESTION);
 
 mod raw {
     unsafe extern "C" {
@@ -51,6 +58,21 @@ mod raw {
             questions_len: usize,
             reports: *mut u32,
             reports_len: usize,
+        ) -> usize;
+
+        pub fn kelumavor_place(
+            state: *mut [u32; super::STATE],
+            window: usize,
+            question: *const [u32; super::QUESTION],
+        ) -> usize;
+
+        pub fn kelumavor_turn(
+            state: *mut [u32; super::STATE],
+            words: *const u32,
+            words_len: usize,
+            area: *mut u32,
+            area_len: usize,
+            report: *mut [u32; super::REPORT],
         ) -> usize;
     }
 }
@@ -114,4 +136,19 @@ pub fn find_paths(words: &[u32], area: &mut [u32], questions: &[[u32; QUESTION]]
     };
     assert_eq!(refusal, 0, "at most {QUESTIONS} questions, with a work area and words for the reports");
     reports
+}
+
+/// The number of the refusal, 0 for none.
+pub fn place(state: &mut [u32; STATE], window: usize, question: &[u32; QUESTION]) -> usize {
+    // SAFETY: as in `check`.
+    unsafe { raw::kelumavor_place(state, window, question) }
+}
+
+/// The window that was served, and its report.
+pub fn turn(state: &mut [u32; STATE], words: &[u32], area: &mut [u32]) -> Option<(usize, [u32; REPORT])> {
+    let mut report = [0; REPORT];
+    // SAFETY: as in `check`.
+    let window =
+        unsafe { raw::kelumavor_turn(state, words.as_ptr(), words.len(), area.as_mut_ptr(), area.len(), &mut report) };
+    (window < WINDOWS).then_some((window, report))
 }
