@@ -1,8 +1,8 @@
 /* Kelumavor: which path names an item in a module. Link libexports.a, which `rt staticlib exports` writes to target/staticlib/.
  *
- * The functions are proved. They keep no state but what the caller lends, may be called from several threads, and take any lengths and numbers. Each
- * pointer must be that of as many elements as the length beside it says, not null even where that is 0, and what a function
- * writes to must not overlap what else it is given. */
+ * The functions are proved. They keep no state but what the caller lends, may be called from several threads, and take any lengths
+ * and numbers. Each pointer must be that of as many elements as the length beside it says, not null even where that is 0, and what a
+ * function writes to must not overlap what else it is given. */
 #ifndef KELUMAVOR_FIND_PATH_H
 #define KELUMAVOR_FIND_PATH_H
 
