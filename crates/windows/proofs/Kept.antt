@@ -2,11 +2,11 @@
 use Prim.Native.Nat.{ℕ, zero, suc, _+_, _-_, _*_, _%_, _<_, min}
 use mathlib.Core.Path.{_≡_, refl, sym, _∙_, ap}
 use mathlib.Core.Bool.{Bool, true, false, not, false≢true}
-use mathlib.Core.List.{List, [], _∷_, _++_, append-assoc}
+use mathlib.Core.List.{List, _++_, append-assoc}
 use native.Mathlib.Omega.{arith}
 use borrow.Author.Tests.{leb-true, leb-false, eqb-true, eqb-false, ne-eqb}
 use lib.Dec.{eqb, leb}
-use lib.ListN.{length, getD, set, take, drop, replicate, length-append, length-take, length-drop, length-set, List·getD-append}
+use lib.ListN.{length, getD, take, drop, replicate, length-append, length-take, length-drop, length-set, List·getD-append}
 use lib.Seq.{length-take-le, getD-take, getD-drop, getD-append-add, getD-set-same, getD-set-other, ext-getD}
 use Rattle.find_path.specs.declared.Question.{Question}
 use Rattle.windows.specs.States.{rowOf, withRow, waits, askedBy, waiting, placeFault, placedUnless, afterPlace, served, afterServing, afterTurn}
@@ -79,10 +79,9 @@ row-same S T w l m f =
 
 pub row-waits : (S : List ℕ) (w : ℕ) → waits S w ≡ not (eqb (getD (rowOf S w) 0 0) 0)
 unfolding waits
-row-waits S w = ap (λ x. not (eqb x 0)) (ap (λ x. getD S x 0) (add-zero′ w) ∙ sym (row-word S w 0 (omega arith)))
-  where
-    add-zero′ : (v : ℕ) → 1 + 7 * v ≡ 1 + 7 * v + 0
-    add-zero′ v = omega arith
+row-waits S w =
+    let e : 1 + 7 * w ≡ 1 + 7 * w + 0 = omega arith in
+    ap (λ x. not (eqb x 0)) (ap (λ x. getD S x 0) e ∙ sym (row-word S w 0 (omega arith)))
 
 -- a row as a question
 abbrev pub asking : List ℕ → Question

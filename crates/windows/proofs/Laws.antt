@@ -8,12 +8,12 @@ use native.Mathlib.Numerals.{add-one}
 use borrow.Author.Tests.{lt-ltb, le-ltb, eq-eqb, ne-eqb, ltb-true, ltb-false}
 use borrow.Rule.Slice.PartMut.{midOf}
 use lib.Dec.{eqb, ltb}
-use lib.ListN.{length, getD, set, take, drop, replicate}
-use lib.Seq.{take-all, paste, paste-zero, paste-suc}
+use lib.ListN.{length, getD, set, take, drop}
+use lib.Seq.{take-all, paste, paste-suc}
 use Rattle.find_path.specs.declared.Question.{Question}
 use Rattle.find_path.specs.declared.Report.{Report}
 use Rattle.find_path.specs.Report.{reportOf}
-use Rattle.answer.specs.Answers.{areaAfter, Answers}
+use Rattle.answer.specs.Answers.{Answers}
 use Rattle.batch.specs.Questions.{questionOf}
 use Rattle.batch.proofs.Laws.{mid-end}
 use Rattle.windows.specs.declared.turns.Turn.{Turn}
@@ -45,9 +45,6 @@ first-none S w zero h = refl
 first-none S w (suc n) h = omega arith
 
 -- the row of a window, word by word
-
-pub row-start : (S row : List ℕ) (at : ℕ) → S ≡ paste S at row 0
-row-start S row at = paste-zero S at row
 
 pub row-next : (S T row : List ℕ) (at i : ℕ) → T ≡ paste S at row i → at + i < length S → i < length row
     → set T (at + i) (getD row i 0) ≡ paste S at row (i + 1)

@@ -2,16 +2,18 @@
 use Prim.Native.Nat.{ℕ, zero, suc, _+_, _-_, _%_, _≤_, _<_}
 use mathlib.Core.Path.{_≡_, refl, sym, _∙_, ap, subst}
 use mathlib.Core.Bool.{Bool, true, false, not, false≢true}
-use mathlib.Core.List.{List, [], _∷_, _++_}
+use mathlib.Core.List.{List, [], _∷_}
 use mathlib.Core.Logic.{_↔_}
 use native.Mathlib.Omega.{arith}
-use borrow.Author.Tests.{eqb-true, eqb-false}
+use borrow.Author.Tests.{eqb-true, eqb-false, eq-eqb}
 use lib.Dec.{eqb}
 use lib.ListN.{length, getD, take}
 use lib.Seq.{take-nil}
 use Rattle.find_path.specs.declared.Question.{Question}
 use Rattle.windows.specs.States.{rowOf, waits, askedBy, waiting, placeFault, afterPlace, firstFrom, served, afterServing, afterTurn}
-use Rattle.windows.specs.Runs.{emptyState, Operation, placing, turning, afterOne, afterRun, turns, Serving, servingIn, servings, ServedWithin}
+use Rattle.windows.specs.declared.turns.Turn.{Turn}
+use Rattle.windows.specs.Windows.{idleTurn, servingTurn, turnOf}
+use Rattle.windows.specs.Runs.{emptyState, Operation, placing, turning, afterOne, afterRun, turns, servingIn, servings, ServedWithin}
 use Rattle.windows.proofs.Laws.{served-start, first-here, first-next, fault-room}
 use Rattle.windows.proofs.Kept.{asking, row-waits, row-asked, placed-row, place-puts, turn-serves, place-length, place-next, place-row, serving-next, serving-row, turn-length}
 
@@ -81,8 +83,23 @@ idle-none S e w h = at (waits S w) refl
         absurd (omega (arith, e, served-start S, m .same))
     at false t = refl
 
-pub idle-exactly : (S : List ℕ) → (served S ≡ 8) ↔ ((w : ℕ) → w < 8 → waits S w ≡ false)
-idle-exactly S = (idle-none S, λ f. served-start S ∙ none-first S f 8 (nextOf S) (omega arith))
+idle-is : (S W : List ℕ) (area : ℕ) → turnOf S W area .idle ≡ eqb (served S) 8
+unfolding turnOf idleTurn servingTurn
+idle-is S W area = at (eqb (served S) 8) refl
+  where
+    at : (b : Bool) → eqb (served S) 8 ≡ b → turnOf S W area .idle ≡ b
+    at true e =
+        let f : turnOf S W area ≡ idleTurn = rw (turnOf, e) in
+        ap (λ (x : Turn). x .idle) f
+    at false e =
+        let f : turnOf S W area ≡ servingTurn S W area (served S) = rw (turnOf, e) in
+        ap (λ (x : Turn). x .idle) f
+
+pub idle-exactly : (S W : List ℕ) (area : ℕ) → (turnOf S W area .idle ≡ true) ↔ ((w : ℕ) → w < 8 → waits S w ≡ false)
+idle-exactly S W area = (
+  λ e. idle-none S (eqb-true (served S) 8 (sym (idle-is S W area) ∙ e)),
+  λ f. idle-is S W area ∙ eq-eqb (served S) 8 (served-start S ∙ none-first S f 8 (nextOf S) (omega arith)),
+)
 
 -- the row of a window tells whether its question waits, and the question
 

@@ -1,9 +1,9 @@
-use Prim.Native.Nat.{_+_, _-_, _*_, _≤_, _<_}
-use mathlib.Core.Path.{_≡_, refl, _∙_}
+use Prim.Native.Nat.{_+_, _-_, _*_, _≤_}
+use mathlib.Core.Path.{_≡_, _∙_}
 use native.Mathlib.Omega.{arith}
 use lib.ListN.{length, length-set}
-use lib.Seq.{paste}
-use Rattle.windows.proofs.Laws.{row-start, row-next, row-done}
+use lib.Seq.{paste, paste-zero}
+use Rattle.windows.proofs.Laws.{row-next, row-done}
 use Rattle.windows.proofs.rows.with_row.Statement.{statement}
 use Rattle.windows.proofs.rows.with_row.Tie as tie
 
@@ -20,7 +20,7 @@ add-at : tie.Need-add-at Inv-loop μ-loop
 add-at c = omega arith
 
 loop-holds : tie.Need-loop-holds Inv-loop μ-loop
-loop-holds c = (omega arith, c .good .0 .1 .0 .1, row-start (c .args .t1) (c .args .t3) (1 + 7 * c .args .window))
+loop-holds c = (omega arith, c .good .0 .1 .0 .1, paste-zero (c .args .t1) (1 + 7 * c .args .window) (c .args .t3))
 
 mul-state : tie.Need-mul-state Inv-loop μ-loop
 mul-state c = omega arith
