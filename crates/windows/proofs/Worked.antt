@@ -13,7 +13,7 @@ use Rattle.find_path.proofs.Worked.{passes}
 use Rattle.reports.specs.Written.{reportWords}
 use Rattle.windows.specs.declared.turns.Turn.{Turn}
 use Rattle.windows.specs.States.{withRow, waits, askedBy, waiting, placeFault, placedUnless, afterPlace, firstFrom, served, afterServing, afterTurn}
-use Rattle.windows.specs.Windows.{noReport, idleTurn, servingTurn, turnOf}
+use Rattle.windows.specs.Windows.{idleTurn, servingTurn, turnOf}
 use Rattle.windows.specs.Runs.{emptyState, Operation, placing, turning, afterOne, afterRun}
 
 -- a turn as words: idle 0 or 1, the window, the report
@@ -33,7 +33,7 @@ pub record Row : Type 0 where
 
 -- the turns are those of the definitions; `passes` unfolds the search
 pub passesAll : List Row → Bool
-unfolding passes turnWords told reportWords withRow waits askedBy waiting placeFault placedUnless afterPlace firstFrom served afterServing afterTurn noReport idleTurn servingTurn turnOf emptyState
+unfolding passes turnWords told reportWords withRow waits askedBy waiting placeFault placedUnless afterPlace firstFrom served afterServing afterTurn idleTurn servingTurn turnOf emptyState
 passesAll table = all (λ r. eqList (told emptyState (r .operations)) (r .turns)) table
 
 -- the function `f` from the root, with a fuel
@@ -48,7 +48,7 @@ abbrev refused : ℕ → List ℕ
 refused w = 0 ∷ w ∷ 2 ∷ 21 ∷ replicate 20 0
 
 abbrev idle : List ℕ
-idle = 1 ∷ replicate 23 0
+idle = 1 ∷ 8 ∷ 2 ∷ replicate 21 0
 
 abbrev row : List Operation → List ℕ → Row
 row os t = record { operations = os; turns = t }

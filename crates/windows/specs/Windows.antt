@@ -4,10 +4,9 @@ use mathlib.Core.Path.{_≡_}
 use mathlib.Core.Bool.{true, false}
 use mathlib.Core.List.{List}
 use lib.Dec.{eqb}
-use lib.ListN.{length, replicate}
+use lib.ListN.{length}
 use Rattle.find_path.specs.declared.Question.{Question}
-use Rattle.find_path.specs.declared.Report.{Report}
-use Rattle.find_path.specs.Report.{reportOf}
+use Rattle.find_path.specs.Report.{refused, reportOf}
 use Rattle.answer.specs.Answers.{areaAfter}
 use Rattle.windows.specs.declared.turns.Turn.{Turn}
 use Rattle.windows.specs.States.{placeFault, afterPlace, askedBy, served, afterTurn}
@@ -17,12 +16,9 @@ pub record Placed (S₀ : List ℕ) (w : ℕ) (q : Question) (S : List ℕ) (r :
   pub number : r ≡ placeFault S₀ w
   pub state : S ≡ afterPlace S₀ w q
 
--- the report of an idle turn
-unfoldable pub noReport : Report
-noReport = record { outcome = 0; number = 0; kind = 0; names = replicate 16 0; count = 0; charges = 0; empty = 0 }
-
+-- no window, and a report that is neither a path nor none
 unfoldable pub idleTurn : Turn
-idleTurn = record { idle = true; window = 0; report = noReport }
+idleTurn = record { idle = true; window = 8; report = refused 0 }
 
 -- a window, and the report of its question put alone
 unfoldable pub servingTurn : List ℕ → List ℕ → ℕ → ℕ → Turn

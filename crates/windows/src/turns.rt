@@ -1,6 +1,7 @@
 //! What a turn gives.
 ghost use mathlib.Core.Path.{_≡_};
 ghost use Rattle.windows.specs.Windows.{idleTurn};
+use crate::rows::WindowCount;
 use find_path::Report;
 
 /// A turn: idle, or the window that was served and the report of its question.
@@ -10,13 +11,13 @@ pub struct Turn {
     pub report: Report,
 }
 
-/// No window, and a report of zeros.
+/// No window, and a report that is neither a path nor none.
 pub fn idle_turn() -> Turn
     ensures { λ r. ⌜ r ≡ idleTurn ⌝ }
 {
     let names = [0usize; 16];
     let report = Report {
-        outcome: 0,
+        outcome: 2,
         number: 0,
         kind: 0,
         names: names,
@@ -26,7 +27,7 @@ pub fn idle_turn() -> Turn
     };
     Turn {
         idle: true,
-        window: 0,
+        window: WindowCount::LIMIT,
         report: report,
     }
 }

@@ -1,10 +1,11 @@
 use mathlib.Core.Path.{refl}
-use Rattle.windows.specs.Windows.{idleTurn, noReport}
+use Rattle.find_path.specs.Report.{refused}
+use Rattle.windows.specs.Windows.{idleTurn}
 use Rattle.windows.proofs.turns.idle_turn.Statement.{statement}
 use Rattle.windows.proofs.turns.idle_turn.Tie as tie
 
 returns : tie.Need-returns
-unfolding idleTurn noReport
+unfolding idleTurn refused
 returns c = refl
 
 pub idle-turn-spec : {M : Type 1} → statement M
