@@ -9,3 +9,4 @@ pub mod Meters
 pub mod Report
 pub mod Line
 pub mod Fuels
+pub mod Routes

@@ -1,0 +1,82 @@
+-- Every step of a path has its record: how a path starts, which records its names stand in, and where it ends.
+use mathlib.Core.Path.{_≡_}
+use mathlib.Core.List.{List, [], _∷_, _++_, List·Memᴰ}
+use mathlib.Core.Bool.{Bool, true, false, _||_}
+use mathlib.Core.Option.{Option, some}
+use Prim.Native.Nat.{ℕ, _-_, _≤_}
+use lib.ListN.{length, take}
+use Rattle.snapshot.specs.Limits.{pathLimit}
+use Rattle.snapshot.specs.Records.{Snapshot, Definition, Scope, Import, Extern}
+use Rattle.hir_def.specs.Items.{types, builtinKind, crateRoot, definitionOf, itemOf, homeOf}
+use Rattle.hir_def.specs.Visibility.{sees}
+use Rattle.hir_def.specs.Nameres.{occupied, externOf}
+use Rattle.hir_def.specs.ImportMap.{isHidden, isUnstable}
+use Rattle.hir_def.specs.declared.Item.{Item}
+use Rattle.hir_def.specs.declared.Item.the-variants.{Mod}
+use Rattle.hir_def.specs.declared.Answer.the-variants.{Name}
+use Rattle.find_path.specs.declared.KwKind.the-variants.{Kw}
+use Rattle.find_path.specs.declared.FindPathCtx.{FindPathCtx}
+use Rattle.find_path.specs.declared.Query.{Query}
+use Rattle.find_path.specs.declared.Report.{Report}
+use Rattle.find_path.specs.Choices.{plainPath, cratePath}
+use Rattle.find_path.specs.Rules.{bit, prefixPathKind, contextOf, findInScope, findInPrelude, externKind, isKwKindRelativeToFrom}
+use Rattle.find_path.specs.Charged.{variantOf}
+
+infix 50 _∈_
+abbrev pub _∈_ : {A : Type 0} → A → List A → Type 0
+a ∈ xs = List·Memᴰ a xs
+
+-- A path of that kind starts with these names, and so reaches the item.
+pub data Start (s : Snapshot) (x : FindPathCtx) : ℕ → List ℕ → Item → Type 0 where
+  -- `crate`, the root of a crate
+  root : (m : ℕ) → crateRoot s m ≡ m → Start s x cratePath [] (Mod m)
+  -- `self`, `super` or `crate`, by where the module is from the viewing one
+  keyword : (m k : ℕ) → isKwKindRelativeToFrom s x m ≡ Kw k → Start s x k [] (Mod m)
+  -- a first name by the scope, the prelude or an extern of the viewer's crate
+  scope : (item : Item) (n : ℕ) → findInScope s x item ≡ Name n → Start s x (prefixPathKind (x .prefix)) (n ∷ []) item
+  prelude : (item : Item) (n : ℕ) → findInPrelude s x item ≡ Name n → Start s x plainPath (n ∷ []) item
+  extern : (m : ℕ) (e : Extern) → externOf s (x .krate) m ≡ some e
+      → Start s x (externKind s x (occupied s (x .from) m (e .name) || x .absolute)) (e .name ∷ []) (Mod m)
+  -- a builtin is its name
+  builtin : (d : ℕ) → definitionOf s d .kind ≡ builtinKind → Start s x plainPath (definitionOf s d .first ∷ []) (itemOf s types d)
+
+-- A name leads from a module to an item.
+pub data Step (s : Snapshot) (x : FindPathCtx) : ℕ → ℕ → Item → Type 0 where
+  -- by a scope record of the module that is visible from the viewing one
+  entry : (e : Scope) → e ∈ s .scopes → sees s (x .from) e ≡ true
+      → Step s x (e .owner) (e .name) (itemOf s (e .ns) (e .definition))
+  -- by an import record that is not hidden, and is stable unless the question allows others
+  imported : (i : Import) → i ∈ s .imports → isHidden i ≡ false → (isUnstable i ≡ true → x .unstable ≡ true)
+      → Step s x (i .container) (i .name) (itemOf s (i .ns) (i .definition))
+
+-- A path of that kind with these names reaches the item: its start, and then each name leads on from the module reached so far.
+pub data Route (s : Snapshot) (x : FindPathCtx) : ℕ → List ℕ → Item → Type 0 where
+  start : {k : ℕ} {ns : List ℕ} {item : Item} → Start s x k ns item → Route s x k ns item
+  step : {k m n : ℕ} {ns : List ℕ} {item : Item} → Route s x k ns (Mod m) → Step s x m n item → Route s x k (ns ++ (n ∷ [])) item
+
+-- A path is a route of 15 names at most, or one to the enum of a variant and the variant's own name.
+pub data Path (s : Snapshot) (x : FindPathCtx) : ℕ → List ℕ → Item → Type 0 where
+  direct : {k : ℕ} {ns : List ℕ} {item : Item} → Route s x k ns item → length ns ≤ pathLimit → Path s x k ns item
+  variant : {k : ℕ} {ns : List ℕ} {item : Item} (v : Definition) → variantOf s item ≡ some v
+      → Route s x k ns (itemOf s types (v .first)) → length ns ≤ pathLimit → Path s x k (ns ++ (v .second ∷ [])) item
+
+-- the item of a question
+abbrev pub askedItem : Snapshot → Query → Item
+askedItem s q = itemOf s (q .ns) (q .definition)
+
+-- what is set for a question, by its item's home
+abbrev pub askedContext : Snapshot → Query → FindPathCtx
+askedContext s q = contextOf s q (homeOf s (askedItem s q) - 1)
+
+-- the names of a report
+abbrev pub pathNames : Report → List ℕ
+pathNames r = take (r .count) (r .names)
+
+-- What a report that found a path says of the snapshot.
+pub record Routed (s : Snapshot) (q : Query) (r : Report) : Type 0 where
+  -- its kind and names lead from the viewing module to the item
+  pub path : Path s (askedContext s q) (r .kind) (pathNames r) (askedItem s q)
+  -- its names are as many as it counts
+  pub count : length (pathNames r) ≡ r .count
+  -- unstable imports are allowed by bit 8 of the options
+  pub unstable : askedContext s q .unstable ≡ bit (q .options) 8
