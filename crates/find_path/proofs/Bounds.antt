@@ -75,7 +75,7 @@ extended-fits s l c n b f = record {
   text = λ h. let a = f .text h in let b = h n in omega arith;
 }
 
-new-fits : (s : Snapshot) (l k n : ℕ) → Fits s (suc l) (choiceNew s k n)
+pub new-fits : (s : Snapshot) (l k n : ℕ) → Fits s (suc l) (choiceNew s k n)
 unfolding choiceNew
 new-fits s l k n = record {
   few = omega arith;
@@ -93,11 +93,11 @@ pub either-fits : {s : Snapshot} (left : ℕ) (b : Bool) (c d : Choice) → Fits
 either-fits left true c d f g = f
 either-fits left false c d f g = g
 
-first-none : {s : Snapshot} (left : ℕ) → Fits s left (firstFound [])
+pub first-none : {s : Snapshot} (left : ℕ) → Fits s left (firstFound [])
 unfolding firstFound
 first-none left = nothing-fits left
 
-first-fits : {s : Snapshot} (left : ℕ) (c : Choice) (cs : List Choice) → Fits s left c → Fits s left (firstFound cs) → Fits s left (firstFound (c ∷ cs))
+pub first-fits : {s : Snapshot} (left : ℕ) (c : Choice) (cs : List Choice) → Fits s left c → Fits s left (firstFound cs) → Fits s left (firstFound (c ∷ cs))
 unfolding firstFound
 first-fits left c cs f g = either-fits left (c .found) c (firstFound cs) f g
 

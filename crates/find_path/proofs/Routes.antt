@@ -1,0 +1,502 @@
+-- Every step of a found path has its record.
+use mathlib.Core.Path.{_≡_, refl, ap, ap₂, sym, _∙_, subst}
+use Prim.Native.Nat.{ℕ, zero, suc, _+_, _-_, _≤_, _<_}
+use native.Mathlib.Omega.{arith}
+use native.Mathlib.Numerals.{add-one}
+use mathlib.Core.List.{List, [], _∷_, _++_, List·Memᴰ, List·Memᴰ·head, List·Memᴰ·tail}
+use mathlib.Core.Bool.{Bool, true, false, _&&_, _||_, not, true≢false, false≢true}
+use mathlib.Core.Option.{Option, none, some}
+use lib.Dec.{eqb}
+use lib.ListN.{length, set, take, length-set}
+use lib.Seq.{take-suc-set, length-take-le}
+use borrow.Author.Tests.{eqb-true}
+use Rattle.snapshot.specs.Limits.{pathLimit}
+use Rattle.snapshot.specs.Records.{Snapshot, Scope, Dependency, Definition, Import, Extern}
+use Rattle.accept.specs.Valid.{Each, more}
+use Rattle.accept.specs.Verdict.{accept, verdict}
+use Rattle.accept.proofs.Accepted.{by-test}
+use Rattle.accept.proofs.Bools.{and-left, and-right, and-two}
+use Rattle.hir_def.specs.Finds.{firstOf, select}
+use Rattle.hir_def.specs.Items.{types, builtinKind, crateRoot, definitionOf, itemOf, sameItem, homeOf}
+use Rattle.hir_def.specs.Visibility.{sees}
+use Rattle.hir_def.specs.ItemScope.{isFor, nameOf}
+use Rattle.hir_def.specs.Nameres.{dependenciesOf, langOf, sysrootFirst, externOf}
+use Rattle.hir_def.specs.ImportMap.{isImport, importInfoFor, isHidden, isUnstable}
+use Rattle.hir_def.specs.declared.Item.{Item}
+use Rattle.hir_def.specs.declared.Item.the-variants.{Mod, Def}
+use Rattle.hir_def.specs.declared.Answer.{Answer}
+use Rattle.hir_def.specs.declared.Answer.the-variants.{Name, Nothing}
+use Rattle.find_path.specs.declared.Choice.{Choice}
+use Rattle.find_path.specs.declared.KwKind.{KwKind}
+use Rattle.find_path.specs.declared.KwKind.the-variants.{Kw, NoKw}
+use Rattle.find_path.specs.declared.FindPathCtx.{FindPathCtx}
+use Rattle.find_path.specs.declared.Query.{Query}
+use Rattle.find_path.specs.declared.Question.{Question}
+use Rattle.find_path.specs.declared.Report.{Report}
+use Rattle.find_path.specs.declared.Tank.{Tank}
+use Rattle.find_path.specs.Choices.{plainPath, cratePath, nothing, keyword, choiceNew, extended, push, unstably, better, trySelect}
+use Rattle.find_path.specs.Walk.{Level}
+use Rattle.find_path.specs.Rules.{bit, byCrate, mayBeInScope, prefixPathKind, contextOf, firstFound, single, findInScope, scopeRule, findInPrelude, preludeRule, externName, rootRule, isKwKindRelativeToFrom, keywordOf, moduleRules}
+use Rattle.find_path.specs.Local.{LocalSearch, offer, isImportable, nameIf, importableName, location, eachLocation, calculateBestPathLocal, orLocal, findPathForModuleLocal}
+use Rattle.find_path.specs.Meters.{Charged, go, stop, fromTank}
+use Rattle.find_path.specs.Charged.{Out, Search, Inner, langs, oneOrNone, variantOf, offerImport, findImport, findImports, findInDep, findInDeps, findInSysroot, goOn, afterCharge, calculateBestPath, orCharged, findPathForModule, afterEnum, viaEnum, orEnum, byName, ofModule, findPathInner}
+use Rattle.find_path.specs.Search.{localTo, searchLocal, bestLocal, moduleTo, searchModule, itemTo, searchItem, fromHome, fromItem, findPath}
+use Rattle.find_path.specs.Report.{refused, flag, reported, searched, reportOf}
+use Rattle.find_path.specs.Routes.{_∈_, Start, root, keyword as by-keyword, scope, prelude, extern, builtin, Step, entry, imported, Route, start, step, Path, direct, variant, askedItem, askedContext, Routed}
+use Rattle.find_path.proofs.Bounds.{Fits, first-none as none-fits, first-fits, new-fits, scope-fits, prelude-fits, best-local-fits, best-fits, module-search-fits, itemTo-fits, search-fits}
+use Rattle.find_path.proofs.Outcomes.{Kind, refusal, answer, kind-of}
+
+-- what is found in a list stands there and passes the test
+first-found : {A : Type 0} (p : A → Bool) (xs : List A) (y : A) → firstOf p xs ≡ some y → (y ∈ xs) × (p y ≡ true)
+unfolding firstOf
+first-found p [] y e = let z : _≡_ {A = ℕ} 0 1 = cc in absurd (omega arith)
+first-found p (x ∷ xs) y e =
+    by-test (p x)
+    (λ t. let f : some x ≡ some y = rw (t, firstOf) at e in let same : y ≡ x = cc in (List·Memᴰ·head same, ap p same ∙ t))
+    (λ t. let f = first-found p xs y (rw (t, firstOf) at e) in (List·Memᴰ·tail (f .0), f .1))
+
+select-found : {A : Type 0} {P : A → Type 0} (p : A → Bool) (xs : List A) → ((y : A) → y ∈ xs → p y ≡ true → P y) → Each P (select p xs)
+unfolding select
+select-found p [] f = Each.none
+select-found p (x ∷ xs) f =
+    let g = select-found p xs (λ y h. f y (List·Memᴰ·tail h)) in
+    by-test (p x) (λ t. rw (t, select) (more (f x (List·Memᴰ·head refl) t) g)) (λ t. rw (t, select) g)
+
+same-item : (a b : Item) → sameItem a b ≡ true → a ≡ b
+unfolding sameItem
+same-item (Mod m) (Mod n) e = ap Mod (eqb-true m n e)
+same-item (Mod m) (Def ns d) e = absurd (false≢true e)
+same-item (Def ns d) (Mod n) e = absurd (false≢true e)
+same-item (Def ns d) (Def ns′ d′) e =
+    let f = and-two (eqb ns ns′) (eqb d d′) e in ap₂ Def (eqb-true ns ns′ (f .0)) (eqb-true d d′ (f .1))
+
+-- one name more in the array, where it has room
+names-more : (names : List ℕ) (k n : ℕ) → k < length names → take (k + 1) (set names k n) ≡ take k names ++ (n ∷ [])
+names-more names k n h = ap (λ (j : ℕ). take j (set names k n)) (add-one k) ∙ take-suc-set names k n h
+
+-- a choice that is one is a route to the item, where its names fit the array
+pub record Leads (s : Snapshot) (x : FindPathCtx) (item : Item) (c : Choice) : Type 0 where
+  pub route : c .found ≡ true → c .count ≤ length (c .names) → Route s x (c .kind) (take (c .count) (c .names)) item
+
+-- an import record of the item
+record Listed (s : Snapshot) (item : Item) (i : Import) : Type 0 where
+  stands : i ∈ s .imports
+  same : itemOf s (i .ns) (i .definition) ≡ item
+
+-- a name that is answered leads from the module to the item
+abbrev Led : Snapshot → FindPathCtx → ℕ → Item → Answer → Type 0
+Led s x m item (Name n) = Step s x m n item
+Led s x m item Nothing = Unit {0}
+
+module _ (s : Snapshot) where
+  imports-listed : (c : ℕ) (item : Item) → Each (Listed s item) (importInfoFor s c item)
+  unfolding importInfoFor
+  imports-listed c item =
+      select-found (isImport s c item) (s .imports)
+      (λ i h t. record { stands = h; same = same-item _ item (and-right (eqb (i .owner) c) _ t) })
+
+  module _ (x : FindPathCtx) where
+    entry-step : (m : ℕ) (item : Item) (e : Scope) → e ∈ s .scopes → isFor s m item e ≡ true → sees s (x .from) e ≡ true
+        → Step s x m (e .name) item
+    unfolding isFor
+    entry-step m item e h p v =
+        let f = and-two (eqb (e .owner) m) (sameItem (itemOf s (e .ns) (e .definition)) item) p in
+        subst (λ (k : ℕ). Step s x k (e .name) item) (eqb-true (e .owner) m (f .0))
+        (subst (Step s x (e .owner) (e .name)) (same-item _ item (f .1)) (entry e h v))
+
+    import-step : (item : Item) (i : Import) → Listed s item i → isHidden i ≡ false → (isUnstable i ≡ true → x .unstable ≡ true)
+        → Step s x (i .container) (i .name) item
+    import-step item i h v u = subst (Step s x (i .container) (i .name)) (h .same) (imported i (h .stands) v u)
+
+    -- choices
+
+    nothing-leads : {item : Item} → Leads s x item nothing
+    nothing-leads = record { route = λ e h. absurd (false≢true e) }
+
+    keyword-leads : (m k : ℕ) → Start s x k [] (Mod m) → Leads s x (Mod m) (keyword k)
+    unfolding keyword
+    keyword-leads m k b = record { route = λ e h. start b }
+
+    new-leads : (item : Item) (k n : ℕ) → Start s x k (n ∷ []) item → Leads s x item (choiceNew s k n)
+    unfolding choiceNew
+    new-leads item k n b = record { route = λ e h. start b }
+
+    extended-leads : (m : ℕ) (item : Item) (c : Choice) (n : ℕ) (b : Bool) → Leads s x (Mod m) c → c .found ≡ true → Step s x m n item
+        → Leads s x item (extended s c n b)
+    unfolding extended
+    extended-leads m item c n b f e g = record {
+      route = λ _ h.
+          let l : c .count < length (c .names) = omega (arith, h, length-set (c .names) (c .count) n) in
+          subst (λ (ns : List ℕ). Route s x (c .kind) ns item) (sym (names-more (c .names) (c .count) n l))
+          (step (f .route e (omega arith)) g);
+    }
+
+    push-leads : (m : ℕ) (item : Item) (c : Choice) (n : ℕ) → Leads s x (Mod m) c → c .found ≡ true → Step s x m n item
+        → Leads s x item (push s c n)
+    unfolding push
+    push-leads m item c n f e g = extended-leads m item c n _ f e g
+
+    unstably-leads : (item : Item) (c : Choice) → Leads s x item c → Leads s x item (unstably c)
+    unfolding unstably
+    unstably-leads item c f = record { route = f .route }
+
+    -- of two choices, the one that a test takes
+    either-leads : {item : Item} (b : Bool) (c d : Choice) → (b ≡ true → Leads s x item c) → (b ≡ false → Leads s x item d)
+        → Leads s x item (elim b [ true ↦ c | false ↦ d ])
+    either-leads true c d f g = f refl
+    either-leads false c d f g = g refl
+
+    first-none : {item : Item} → Leads s x item (firstFound [])
+    unfolding firstFound
+    first-none = nothing-leads
+
+    first-leads : {item : Item} (c : Choice) (cs : List Choice) → Leads s x item c → Leads s x item (firstFound cs) → Leads s x item (firstFound (c ∷ cs))
+    unfolding firstFound
+    first-leads c cs f g = either-leads (c .found) c (firstFound cs) (λ _. f) (λ _. g)
+
+    select-leads : (m : ℕ) (item : Item) (best c : Choice) (n : ℕ) → Leads s x item best → Leads s x (Mod m) c → c .found ≡ true
+        → Step s x m n item → Leads s x item (trySelect s (x .prelude) best c n)
+    unfolding trySelect
+    select-leads m item best c n f g e h =
+        either-leads (best .found) _ _
+        (λ _. either-leads (better s (x .prelude) best c n) _ _ (λ _. extended-leads m item c n _ g e h) (λ _. f))
+        (λ _. push-leads m item c n g e h)
+
+    offer-leads : (m : ℕ) (item : Item) (best c : Choice) (n : ℕ) → Leads s x item best → Leads s x (Mod m) c → Step s x m n item
+        → Leads s x item (offer s x best c n)
+    unfolding offer
+    offer-leads m item best c n f g h = either-leads (c .found) _ _ (λ e. select-leads m item best c n f g e h) (λ _. f)
+
+    offer-import-leads : (item : Item) (best c : Choice) (i : Import) → Leads s x item best → Leads s x (Mod (i .container)) c
+        → Listed s item i → isHidden i ≡ false → Leads s x item (offerImport s x best c i)
+    unfolding offerImport
+    offer-import-leads item best c i f g h v =
+        either-leads (isUnstable i) _ _
+        (λ _. either-leads (x .unstable) _ _
+        (λ a. offer-leads (i .container) item best (unstably c) (i .name) f (unstably-leads _ c g) (import-step item i h v (λ _. a)))
+        (λ _. f))
+        (λ u. offer-leads (i .container) item best c (i .name) f g (import-step item i h v (λ t. absurd (true≢false (sym t ∙ u)))))
+
+    -- the rules without a search
+
+    single-leads : (item : Item) (kind : ℕ) (a : Answer) → ((n : ℕ) → a ≡ Name n → Start s x kind (n ∷ []) item)
+        → Leads s x item (single s x kind a)
+    unfolding single
+    single-leads item kind Nothing f = nothing-leads
+    single-leads item kind (Name n) f = new-leads item kind n (f n refl)
+
+    scope-leads : (item : Item) → Leads s x item (scopeRule s x item)
+    unfolding scopeRule
+    scope-leads item =
+        either-leads (mayBeInScope s x) _ _
+        (λ _. single-leads item (prefixPathKind (x .prefix)) (findInScope s x item) (λ n e. scope item n e)) (λ _. nothing-leads)
+
+    prelude-leads : (item : Item) → Leads s x item (preludeRule s x item)
+    unfolding preludeRule
+    prelude-leads item = single-leads item plainPath (findInPrelude s x item) (λ n e. prelude item n e)
+
+    extern-leads : (m : ℕ) (o : Option Extern) → externOf s (x .krate) m ≡ o → Leads s x (Mod m) (externName s x m o)
+    unfolding externName
+    extern-leads m none h = nothing-leads
+    extern-leads m (some e) h = new-leads (Mod m) _ (e .name) (extern m e h)
+
+    root-leads : (b : Bool) (m : ℕ) → Leads s x (Mod m) (rootRule s x b m)
+    unfolding rootRule
+    root-leads b m =
+        either-leads (eqb (crateRoot s m) m) _ _
+        (λ e. either-leads (not b || eqb m (x .root)) _ _
+        (λ _. keyword-leads m cratePath (root m (eqb-true (crateRoot s m) m e)))
+        (λ _. extern-leads m (externOf s (x .krate) m) refl))
+        (λ _. nothing-leads)
+
+    keyword-of-leads : (m : ℕ) (k : KwKind) → isKwKindRelativeToFrom s x m ≡ k → Leads s x (Mod m) (keywordOf s x k)
+    unfolding keywordOf
+    keyword-of-leads m NoKw h = nothing-leads
+    keyword-of-leads m (Kw k) h =
+        either-leads (not (eqb (x .prefix) byCrate) || eqb k cratePath) _ _ (λ _. keyword-leads m k (by-keyword m k h)) (λ _. nothing-leads)
+
+    rules-lead : (b : Bool) (m : ℕ) → Leads s x (Mod m) (moduleRules s x b m)
+    unfolding moduleRules
+    rules-lead b m =
+        first-leads _ _ (root-leads b m)
+        (first-leads _ _ (scope-leads (Mod m))
+        (first-leads _ _ (keyword-of-leads m (isKwKindRelativeToFrom s x m) refl)
+        (first-leads _ _ (prelude-leads (Mod m)) first-none)))
+
+    -- the local search
+
+    led-if : (m : ℕ) (item : Item) (b : Bool) (n : ℕ) → (b ≡ true → Step s x m n item) → Led s x m item (elim b [ true ↦ Name n | false ↦ Nothing ])
+    led-if m item true n f = f refl
+    led-if m item false n f = tt
+
+    name-if-led : (m : ℕ) (item : Item) (o : Option Scope) → nameOf s m item ≡ o → Led s x m item (nameIf s x o)
+    unfolding nameIf nameOf
+    name-if-led m item none h = tt
+    name-if-led m item (some e) h =
+        let f = first-found (isFor s m item) (s .scopes) e h in
+        led-if m item (isImportable s x e) (e .name) (λ t. entry-step m item e (f .0) (f .1) (and-left (sees s (x .from) e) _ t))
+
+    importable-led : (item : Item) (m : ℕ) → Led s x m item (importableName s x item m)
+    unfolding importableName
+    importable-led item m = name-if-led m item (nameOf s m item) refl
+
+    abbrev LeadsLocal : LocalSearch → Type 0
+    LeadsLocal rec = (left : ℕ) (ls : List Level) (m : ℕ) → Leads s x (Mod m) (rec left ls m)
+
+    module _ (rec : LocalSearch) (leads : LeadsLocal rec) where
+      location-leads : (item : Item) (left : ℕ) (ls : List Level) (best : Choice) (m : ℕ) (a : Answer) → Leads s x item best → Led s x m item a
+          → Leads s x item (location s x rec left ls best m a)
+      unfolding location
+      location-leads item left ls best m Nothing f h = f
+      location-leads item left ls best m (Name n) f h = offer-leads m item best _ n f (leads _ ls m) h
+
+      each-leads : (left : ℕ) (ls : List Level) (item : Item) (done : List ℕ) (best : Choice) (ms : List ℕ) → Leads s x item best
+          → Leads s x item (eachLocation s x rec left ls item done best ms)
+      unfolding eachLocation
+      each-leads left ls item done best [] f = f
+      each-leads left ls item done best (m ∷ ms) f =
+          each-leads left ls item (done ++ (m ∷ [])) _ ms
+          (location-leads item left _ best m (importableName s x item m) f (importable-led item m))
+
+      local-leads : (left : ℕ) (ls : List Level) (item : Item) → Leads s x item (calculateBestPathLocal s x rec left ls item)
+      unfolding calculateBestPathLocal
+      local-leads left ls item = each-leads left ls item [] nothing _ nothing-leads
+
+      or-local-leads : (left : ℕ) (ls : List Level) (m : ℕ) (c : Choice) (b : Bool) → Leads s x (Mod m) c → Leads s x (Mod m) (orLocal s x rec left ls m c b)
+      unfolding orLocal
+      or-local-leads left ls m c true f = f
+      or-local-leads left ls m c false f = local-leads left ls (Mod m)
+
+    localTo-leads : (d : ℕ) → LeadsLocal (localTo s x d)
+    unfolding localTo findPathForModuleLocal
+    localTo-leads zero left ls m = nothing-leads
+    localTo-leads (suc d) zero ls m = nothing-leads
+    localTo-leads (suc d) (suc l) ls m = or-local-leads (localTo s x d) (localTo-leads d) (suc l) ls m _ _ (rules-lead false m)
+
+    best-local-leads : (left : ℕ) (item : Item) → Leads s x item (bestLocal s x left item)
+    unfolding bestLocal searchLocal
+    best-local-leads left item = local-leads (searchLocal s x) (λ l ls m. localTo-leads l l ls m) left [] item
+
+module _ (M : Type 0) (charge : M → Charged M) (s : Snapshot) (x : FindPathCtx) where
+  abbrev LeadsSearch : Search M → Type 0
+  LeadsSearch rec = (left m : ℕ) (t : M) → Leads s x (Mod m) (rec left m t .choice)
+
+  module _ (rec : Search M) (leads : LeadsSearch rec) where
+    import-leads : (item : Item) (left : ℕ) (o : Out M) (i : Import) (b : Bool) → isHidden i ≡ b → Leads s x item (o .choice) → Listed s item i
+        → Leads s x item (findImport M charge s x (bestLocal s x) rec left o i b .choice)
+    unfolding findImport
+    import-leads item left o i true v f h = f
+    import-leads item left o i false v f h =
+        offer-import-leads s x item (o .choice) _ i f (leads _ (i .container) (o .meter)) h v
+
+    imports-lead : (item : Item) (left : ℕ) (o : Out M) {is : List Import} → Leads s x item (o .choice) → Each (Listed s item) is
+        → Leads s x item (findImports M charge s x (bestLocal s x) rec left o is .choice)
+    unfolding findImports
+    imports-lead item left o f Each.none = f
+    imports-lead item left o f (more {x = i} h hs) =
+        imports-lead item left _ (import-leads item left o i (isHidden i) refl f h) hs
+
+    deps-lead : (left : ℕ) (item : Item) (o : Out M) (ds : List Dependency) → Leads s x item (o .choice)
+        → Leads s x item (findInDeps M charge s x (bestLocal s x) rec left item o ds .choice)
+    unfolding findInDeps findInDep
+    deps-lead left item o [] f = f
+    deps-lead left item o (d ∷ ds) f = deps-lead left item _ ds (imports-lead item left o f (imports-listed s (d .crate) item))
+
+    sysroot-leads : (left : ℕ) (item : Item) (o : Out M) (ls : List ℕ) (b : Bool) → Leads s x item (o .choice)
+        → Leads s x item (findInSysroot M charge s x (bestLocal s x) rec left item o ls b .choice)
+    unfolding findInSysroot
+    sysroot-leads left item o [] true f = f
+    sysroot-leads left item o [] false f = deps-lead left item o (sysrootFirst s (x .krate)) f
+    sysroot-leads left item o (n ∷ ls) true f = f
+    sysroot-leads left item o (n ∷ ls) false f =
+        sysroot-leads left item _ ls _ (deps-lead left item o (oneOrNone (langOf s (x .krate) n)) f)
+
+    go-leads : (left : ℕ) (item : Item) (t : M) (a b : Bool) → Leads s x item (goOn M charge s x (bestLocal s x) rec left item t a b .choice)
+    unfolding goOn
+    go-leads left item t true b = best-local-leads s x left item
+    go-leads left item t false true = sysroot-leads left item _ (langs (x .nostd)) false (nothing-leads s x)
+    go-leads left item t false false = deps-lead left item _ (dependenciesOf s (x .krate)) (nothing-leads s x)
+
+    after-leads : (left : ℕ) (item : Item) (c : Charged M) → Leads s x item (afterCharge M charge s x (bestLocal s x) rec left item c .choice)
+    unfolding afterCharge
+    after-leads left item (go t) = go-leads left item t _ _
+    after-leads left item (stop t) = nothing-leads s x
+
+    best-leads : (left : ℕ) (item : Item) (t : M) → Leads s x item (calculateBestPath M charge s x (bestLocal s x) rec left item t .choice)
+    unfolding calculateBestPath
+    best-leads left item t = after-leads left item (charge t)
+
+    or-leads : (left m : ℕ) (t : M) (c : Choice) (b : Bool) → Leads s x (Mod m) c → Leads s x (Mod m) (orCharged M charge s x (bestLocal s x) rec left m t c b .choice)
+    unfolding orCharged
+    or-leads left m t c true f = f
+    or-leads left m t c false f = best-leads left (Mod m) t
+
+    module-leads : LeadsSearch (findPathForModule M charge s x (bestLocal s x) rec)
+    unfolding findPathForModule
+    module-leads zero m t = nothing-leads s x
+    module-leads (suc l) m t = or-leads (suc l) m t _ _ (rules-lead s x true m)
+
+  moduleTo-leads : (d : ℕ) → LeadsSearch (moduleTo M charge s x d)
+  unfolding moduleTo
+  moduleTo-leads zero left m t = nothing-leads s x
+  moduleTo-leads (suc d) left m t = module-leads (moduleTo M charge s x d) (moduleTo-leads d) left m t
+
+  module-search-leads : LeadsSearch (searchModule M charge s x)
+  unfolding searchModule
+  module-search-leads left m t = moduleTo-leads left left m t
+
+-- the names of a choice that fits are as many as it counts
+names-count : {s : Snapshot} {c : Choice} (left : ℕ) → left ≤ 16 → Fits s left c → length (take (c .count) (c .names)) ≡ c .count
+names-count {c = c} left h f = length-take-le (c .count) (c .names) (omega (arith, f .few, f .long))
+
+-- a choice that is one is a path to the item
+pub record Paths (s : Snapshot) (x : FindPathCtx) (item : Item) (c : Choice) : Type 0 where
+  pub path : c .found ≡ true → Path s x (c .kind) (take (c .count) (c .names)) item
+
+module _ (s : Snapshot) (x : FindPathCtx) where
+  direct-path : (item : Item) (c : Choice) → Leads s x item c → Fits s 15 c → Paths s x item c
+  direct-path item c f g = record {
+    path = λ e.
+        let n = names-count 15 (omega arith) g in
+        direct (f .route e (omega (arith, g .few, g .long))) (omega (arith, n, g .few));
+  }
+
+  variant-path : (item : Item) (v : Definition) (c : Choice) → variantOf s item ≡ some v → Leads s x (itemOf s types (v .first)) c
+      → Fits s 15 c → c .found ≡ true → Paths s x item (push s c (v .second))
+  unfolding push extended
+  variant-path item v c q f g e = record {
+    path = λ _.
+        let n = names-count 15 (omega arith) g in
+        subst (λ (ns : List ℕ). Path s x (c .kind) ns item)
+        (sym (names-more (c .names) (c .count) (v .second) (omega (arith, g .few, g .long))))
+        (variant v q (f .route e (omega (arith, g .few, g .long))) (omega (arith, n, g .few)));
+  }
+
+module _ (M : Type 0) (charge : M → Charged M) (s : Snapshot) (x : FindPathCtx) where
+  -- P holds of every route of 15 names at most, and of what the enum's search gives a variant
+  module _ (inner : Inner M) (P : Item → Choice → Type 0)
+      (short : (item : Item) (c : Choice) → Leads s x item c → Fits s 15 c → P item c)
+      (within : (item : Item) (t : M) (v : Definition) → variantOf s item ≡ some v → inner (itemOf s types (v .first)) t .choice .found ≡ true
+      → P item (push s (inner (itemOf s types (v .first)) t .choice) (v .second))) where
+    best-path : (item : Item) (t : M) → P item (calculateBestPath M charge s x (bestLocal s x) (searchModule M charge s x) pathLimit item t .choice)
+    best-path item t =
+        short item _ (best-leads M charge s x (searchModule M charge s x) (module-search-leads M charge s x) pathLimit item t)
+        (best-fits M charge s x (bestLocal s x) (best-local-fits s x) (searchModule M charge s x) (module-search-fits M charge s x) 14 item t)
+
+    enum-path : (item : Item) (name : ℕ) (o : Out M) (b : Bool) → (b ≡ true → P item (push s (o .choice) name))
+        → P item (afterEnum M charge s x (bestLocal s x) (searchModule M charge s x) item name o b .choice)
+    unfolding afterEnum
+    enum-path item name o true f = f refl
+    enum-path item name o false f = best-path item (o .meter)
+
+    via-path : (item : Item) (t : M) (v : Option Definition) → variantOf s item ≡ v
+        → P item (viaEnum M charge s x (bestLocal s x) (searchModule M charge s x) inner item t v .choice)
+    unfolding viaEnum
+    via-path item t none q = best-path item t
+    via-path item t (some v) q = enum-path item (v .second) _ _ (within item t v q)
+
+    named-path : (item : Item) (t : M) (c : Choice) (b : Bool) → P item c
+        → P item (orEnum M charge s x (bestLocal s x) (searchModule M charge s x) inner item t c b .choice)
+    unfolding orEnum
+    named-path item t c true f = f
+    named-path item t c false f = via-path item t (variantOf s item) refl
+
+    by-name-path : (item : Item) (t : M) → P item (byName M charge s x (bestLocal s x) (searchModule M charge s x) inner item t .choice)
+    unfolding byName
+    by-name-path item t =
+        named-path item t _ _
+        (short item _
+        (first-leads s x _ _ (scope-leads s x item) (first-leads s x _ _ (prelude-leads s x item) (first-none s x)))
+        (first-fits 15 _ _ (scope-fits s x 14 item) (first-fits 15 _ _ (prelude-fits s x 14 item) (none-fits 15))))
+
+    of-path : (m : ℕ) (t : M) (b : Bool) → P (Mod m) (ofModule M charge s x (bestLocal s x) (searchModule M charge s x) inner m t b .choice)
+    unfolding ofModule
+    of-path m t true = by-name-path (Mod m) t
+    of-path m t false = short (Mod m) _ (module-search-leads M charge s x pathLimit m t) (module-search-fits M charge s x pathLimit m t)
+
+    inner-path : (item : Item) (t : M) → P item (findPathInner M charge s x (bestLocal s x) (searchModule M charge s x) inner item t .choice)
+    unfolding findPathInner
+    inner-path (Mod m) t = of-path m t (x .std)
+    inner-path (Def ns d) t = by-name-path (Def ns d) t
+
+  -- the search for an enum, which tries no enum above it
+  enum-leads : (item : Item) (t : M) → Leads s x item (itemTo M charge s x 1 item t .choice)
+  unfolding itemTo
+  enum-leads item t = inner-path (itemTo M charge s x 0) (Leads s x) (λ i c f g. f) (λ i u v q e. absurd (false≢true e)) item t
+
+  item-path : (item : Item) (t : M) → Paths s x item (searchItem M charge s x item t .choice)
+  unfolding searchItem itemTo
+  item-path item t =
+      inner-path (itemTo M charge s x 1) (Paths s x) (direct-path s x)
+      (λ i u v q e. variant-path s x i v _ q (enum-leads (itemOf s types (v .first)) u) (itemTo-fits M charge s x 1 (itemOf s types (v .first)) u) e)
+      item t
+
+module _ (M : Type 0) (charge : M → Charged M) (s : Snapshot) (q : Query) where
+  abbrev Asked : Choice → Type 0
+  Asked c = Paths s (askedContext s q) (askedItem s q) c
+
+  home-path : (t : M) (h : ℕ) → homeOf s (askedItem s q) ≡ h → Asked (fromHome M charge s q (askedItem s q) t h .choice)
+  unfolding fromHome
+  home-path t zero e = record { path = λ z. absurd (false≢true z) }
+  home-path t (suc home) e =
+      let same : home ≡ homeOf s (askedItem s q) - 1 = omega (arith, e) in
+      subst (λ (k : ℕ). Paths s (contextOf s q k) (askedItem s q) (searchItem M charge s (contextOf s q home) (askedItem s q) t .choice)) same
+      (item-path M charge s (contextOf s q home) (askedItem s q) t)
+
+  builtin-path : q .ns ≡ types → definitionOf s (q .definition) .kind ≡ builtinKind
+      → Asked (choiceNew s plainPath (definitionOf s (q .definition) .first))
+  builtin-path e k =
+      let b = builtin (q .definition) k in
+      let n = definitionOf s (q .definition) .first in
+      direct-path s (askedContext s q) (askedItem s q) _
+      (new-leads s (askedContext s q) (askedItem s q) plainPath n
+      (subst (λ (ns : ℕ). Start s (askedContext s q) plainPath (n ∷ []) (itemOf s ns (q .definition))) (sym e) b))
+      (new-fits s 14 plainPath n)
+
+  start-path : (t : M) (b : Bool) → (b ≡ true → (q .ns ≡ types) × (definitionOf s (q .definition) .kind ≡ builtinKind))
+      → Asked (fromItem M charge s q t b .choice)
+  unfolding fromItem
+  start-path t true k = let e = k refl in builtin-path (e .0) (e .1)
+  start-path t false k = home-path t _ refl
+
+  -- Every path that a search finds has a record for each of its steps.
+  pub search-path : (t : M) → Asked (findPath M charge s q t .choice)
+  unfolding findPath
+  search-path t =
+      start-path t _
+      (λ e.
+      let f = and-two (eqb (q .ns) types) (eqb (definitionOf s (q .definition) .kind) builtinKind) e in
+      (eqb-true _ _ (f .0), eqb-true _ _ (f .1)))
+
+allowed : (s : Snapshot) (q : Query) → askedContext s q .unstable ≡ bit (q .options) 8
+unfolding contextOf
+allowed s q = refl
+
+searched-routed : (s : Snapshot) (q : Query) (fuel : ℕ) → searched s q fuel .choice .found ≡ true → Routed s q (reported (searched s q fuel))
+unfolding searched reported
+searched-routed s q fuel e =
+    let t : Tank = record { fuel = fuel; spent = 0; empty = false } in
+    record {
+      path = search-path Tank fromTank s q t .path e;
+      count = names-count 16 (omega arith) (search-fits Tank fromTank s q t);
+      unstable = allowed s q;
+    }
+
+found-of : (b : Bool) → flag (not b) ≡ 0 → b ≡ true
+unfolding flag
+found-of true e = refl
+found-of false e = absurd (omega arith)
+
+kind-routed : {words : List ℕ} {q : Query} {fuel : ℕ} (s : Snapshot) → verdict words ≡ accept s → (r : Report) → Kind words q fuel r
+    → r .outcome ≡ 0 → Routed s q r
+unfolding refused reported
+kind-routed s a r (refusal n h e) z = let y = ap (λ (w : Report). w .outcome) e in absurd (omega arith)
+kind-routed {q = q} {fuel = fuel} s a r (answer u b h e) z =
+    let same : u ≡ s = cc (a, b) in
+    let y : flag (not (searched u q fuel .choice .found)) ≡ 0 = sym (ap (λ (w : Report). w .outcome) e) ∙ z in
+    subst (λ w. Routed w q r) same (rw e (searched-routed u q fuel (found-of _ y)))
+
+-- Every step of a path that is found has its record in the snapshot that the words were accepted as.
+pub found-route : (words : List ℕ) (area : ℕ) (q : Question) (s : Snapshot) → verdict words ≡ accept s
+    → reportOf words area q .outcome ≡ 0 → Routed s (q .query) (reportOf words area q)
+found-route words area q s e z = kind-routed s e (reportOf words area q) (kind-of words area q) z
