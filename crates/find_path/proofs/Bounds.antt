@@ -12,7 +12,7 @@ use Rattle.snapshot.specs.Records.{Snapshot, Dependency, Definition, Import, Ex
 use Rattle.hir_def.specs.Items.{types, crateRoot, definitionOf, itemOf}
 use lib.Dec.{eqb}
 use Rattle.hir_def.specs.Nameres.{dependenciesOf, langOf, sysrootFirst, externOf}
-use Rattle.hir_def.specs.ImportMap.{importInfoFor, isHidden, isUnstable}
+use Rattle.hir_def.specs.ImportMap.{importInfoFor, isUnstable}
 use Rattle.hir_def.specs.declared.Item.{Item}
 use Rattle.hir_def.specs.declared.Item.the-variants.{Mod, Def}
 use Rattle.hir_def.specs.declared.Answer.{Answer}
@@ -224,7 +224,7 @@ module _ (M : Type 0) (charge : M → Charged M) (s : Snapshot) where
     pub imports-fit : (l : ℕ) (o : Out M) (is : List Import) → Fits s (suc l) (o .choice) → Fits s (suc l) (findImports M charge s x here rec (suc l) o is .choice)
     unfolding findImports
     imports-fit l o [] f = f
-    imports-fit l o (i ∷ is) f = imports-fit l _ is (import-fits l o i (isHidden i) f)
+    imports-fit l o (i ∷ is) f = imports-fit l _ is (import-fits l o i _ f)
 
     pub deps-fit : (l : ℕ) (item : Item) (o : Out M) (ds : List Dependency) → Fits s (suc l) (o .choice)
         → Fits s (suc l) (findInDeps M charge s x here rec (suc l) item o ds .choice)

@@ -7,7 +7,7 @@ use Rattle.snapshot.specs.Limits.{pathLimit}
 use Rattle.snapshot.specs.Records.{Snapshot, Dependency, Definition, Import}
 use Rattle.hir_def.specs.Items.{types, itemOf, homeOf}
 use Rattle.hir_def.specs.Nameres.{dependenciesOf, langOf, sysrootFirst}
-use Rattle.hir_def.specs.ImportMap.{importInfoFor, isHidden}
+use Rattle.hir_def.specs.ImportMap.{importInfoFor}
 use Rattle.hir_def.specs.declared.Item.{Item}
 use Rattle.hir_def.specs.declared.Item.the-variants.{Mod, Def}
 use Rattle.find_path.specs.declared.Choice.{Choice}
@@ -40,7 +40,7 @@ module _ (M : Type 0) (charge : M → Charged M) (s : Snapshot) (P : M → Type 
     imports-keep : (left : ℕ) (o : Out M) (is : List Import) → P (o .meter) → P (findImports M charge s x here rec left o is .meter)
     unfolding findImports
     imports-keep left o [] h = h
-    imports-keep left o (i ∷ is) h = imports-keep left _ is (import-keeps left o i (isHidden i) h)
+    imports-keep left o (i ∷ is) h = imports-keep left _ is (import-keeps left o i _ h)
 
     pub deps-keep : (left : ℕ) (item : Item) (o : Out M) (ds : List Dependency) → P (o .meter) → P (findInDeps M charge s x here rec left item o ds .meter)
     unfolding findInDeps findInDep

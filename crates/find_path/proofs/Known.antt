@@ -22,7 +22,7 @@ use Rattle.hir_def.specs.Items.{types, variantKind, builtinKind, mapNo, parentO
 use Rattle.hir_def.specs.Visibility.{sees}
 use Rattle.hir_def.specs.ItemScope.{nameOf, namesOf}
 use Rattle.hir_def.specs.Nameres.{ancestorMaps, scopeEntry, entryNamed, preludeOf, dependenciesOf, langOf, sysrootFirst, externOf}
-use Rattle.hir_def.specs.ImportMap.{importInfoFor, isHidden, isUnstable}
+use Rattle.hir_def.specs.ImportMap.{importInfoFor, isUnstable}
 use Rattle.hir_def.specs.declared.Item.{Item}
 use Rattle.hir_def.specs.declared.Item.the-variants.{Mod, Def}
 use Rattle.hir_def.specs.declared.Answer.{Answer}
@@ -339,7 +339,7 @@ module _ (M : Type 0) (charge : M → Charged M) (s : Snapshot) (r : Ranges (cou
         → Known s (findImports M charge s x here rec left o is .choice)
     unfolding findImports
     imports-known left o f Each.none = f
-    imports-known left o f (more {x = i} h hs) = imports-known left _ (import-known left o i (isHidden i) f h) hs
+    imports-known left o f (more {x = i} h hs) = imports-known left _ (import-known left o i _ f h) hs
 
     deps-known : (left : ℕ) (item : Item) (o : Out M) (ds : List Dependency) → Known s (o .choice)
         → Known s (findInDeps M charge s x here rec left item o ds .choice)

@@ -7,6 +7,7 @@ pub mod Fuels
 pub mod Unfold
 pub mod Bounds
 pub mod Known
+pub mod Crates
 pub mod Routes
 pub mod Reports
 pub mod Walks

@@ -3,21 +3,22 @@ use mathlib.Core.Path.{_≡_, refl, ap, ap₂, sym, _∙_, subst}
 use Prim.Native.Nat.{ℕ, zero, suc, _+_, _-_, _≤_, _<_}
 use native.Mathlib.Omega.{arith}
 use native.Mathlib.Numerals.{add-one}
-use mathlib.Core.List.{List, [], _∷_, _++_, List·Memᴰ, List·Memᴰ·head, List·Memᴰ·tail}
-use mathlib.Core.Bool.{Bool, true, false, _&&_, _||_, not, true≢false, false≢true}
+use mathlib.Core.List.{List, [], _∷_, _++_, List·Memᴰ·head, List·Memᴰ·tail}
+use mathlib.Core.Bool.{Bool, true, false, _||_, not, true≢false, false≢true}
 use mathlib.Core.Option.{Option, none, some}
 use lib.Dec.{eqb}
 use lib.ListN.{length, set, take, length-set}
 use lib.Seq.{take-suc-set, length-take-le}
-use borrow.Author.Tests.{eqb-true}
+use borrow.Author.Tests.{eqb-true, not-false}
 use Rattle.snapshot.specs.Limits.{pathLimit}
 use Rattle.snapshot.specs.Records.{Snapshot, Scope, Dependency, Definition, Import, Extern}
-use Rattle.accept.specs.Valid.{Each, more}
+use Rattle.accept.specs.Valid.{Each, more, Valid}
 use Rattle.accept.specs.Verdict.{accept, verdict}
 use Rattle.accept.proofs.Accepted.{by-test}
-use Rattle.accept.proofs.Bools.{and-left, and-right, and-two}
-use Rattle.hir_def.specs.Finds.{firstOf, select}
-use Rattle.hir_def.specs.Items.{types, builtinKind, crateRoot, definitionOf, itemOf, sameItem, homeOf}
+use Rattle.accept.proofs.Bools.{and-left, and-right, and-two, or-none}
+use Rattle.accept.proofs.Valid.{accepted-valid}
+use Rattle.hir_def.specs.Finds.{firstOf}
+use Rattle.hir_def.specs.Items.{types, builtinKind, mapNo, crateOf, crateRoot, rootOf, parentOf, blockOf, inBlock, definitionOf, itemOf, sameItem, homeOf}
 use Rattle.hir_def.specs.Visibility.{sees}
 use Rattle.hir_def.specs.ItemScope.{isFor, nameOf}
 use Rattle.hir_def.specs.Nameres.{dependenciesOf, langOf, sysrootFirst, externOf}
@@ -34,16 +35,17 @@ use Rattle.find_path.specs.declared.Query.{Query}
 use Rattle.find_path.specs.declared.Question.{Question}
 use Rattle.find_path.specs.declared.Report.{Report}
 use Rattle.find_path.specs.declared.Tank.{Tank}
-use Rattle.find_path.specs.Choices.{plainPath, cratePath, nothing, keyword, choiceNew, extended, push, unstably, better, trySelect}
-use Rattle.find_path.specs.Walk.{Level}
-use Rattle.find_path.specs.Rules.{bit, byCrate, mayBeInScope, prefixPathKind, contextOf, firstFound, single, findInScope, scopeRule, findInPrelude, preludeRule, externName, rootRule, isKwKindRelativeToFrom, keywordOf, moduleRules}
+use Rattle.find_path.specs.Choices.{plainPath, selfPath, superPath, cratePath, nothing, keyword, choiceNew, extended, push, unstably, better, trySelect}
+use Rattle.find_path.specs.Walk.{Level, visited}
+use Rattle.find_path.specs.Rules.{bit, byCrate, mayBeInScope, prefixPathKind, contextOf, firstFound, single, findInScope, scopeRule, findInPrelude, preludeRule, externName, rootRule, parentKind, isKwKindRelativeToFrom, keywordOf, moduleRules}
 use Rattle.find_path.specs.Local.{LocalSearch, offer, isImportable, nameIf, importableName, location, eachLocation, calculateBestPathLocal, orLocal, findPathForModuleLocal}
 use Rattle.find_path.specs.Meters.{Charged, go, stop, fromTank}
 use Rattle.find_path.specs.Charged.{Out, Search, Inner, langs, oneOrNone, variantOf, offerImport, findImport, findImports, findInDep, findInDeps, findInSysroot, goOn, afterCharge, calculateBestPath, orCharged, findPathForModule, afterEnum, viaEnum, orEnum, byName, ofModule, findPathInner}
 use Rattle.find_path.specs.Search.{localTo, searchLocal, bestLocal, moduleTo, searchModule, itemTo, searchItem, fromHome, fromItem, findPath}
 use Rattle.find_path.specs.Report.{refused, flag, reported, searched, reportOf}
-use Rattle.find_path.specs.Routes.{_∈_, Start, root, keyword as by-keyword, scope, prelude, extern, builtin, Step, entry, imported, Route, start, step, Path, direct, variant, askedItem, askedContext, Routed}
+use Rattle.find_path.specs.Routes.{_∈_, Start, self, super, crate, scope, prelude, extern, builtin, Step, entry, imported, Route, start, step, Path, direct, variant, askedItem, askedContext, Routed}
 use Rattle.find_path.proofs.Bounds.{Fits, first-none as none-fits, first-fits, new-fits, scope-fits, prelude-fits, best-local-fits, best-fits, module-search-fits, itemTo-fits, search-fits}
+use Rattle.find_path.proofs.Crates.{Near, select-found, own-root, crate-root, locations-near}
 use Rattle.find_path.proofs.Outcomes.{Kind, refusal, answer, kind-of}
 
 -- what is found in a list stands there and passes the test
@@ -54,13 +56,6 @@ first-found p (x ∷ xs) y e =
     by-test (p x)
     (λ t. let f : some x ≡ some y = rw (t, firstOf) at e in let same : y ≡ x = cc in (List·Memᴰ·head same, ap p same ∙ t))
     (λ t. let f = first-found p xs y (rw (t, firstOf) at e) in (List·Memᴰ·tail (f .0), f .1))
-
-select-found : {A : Type 0} {P : A → Type 0} (p : A → Bool) (xs : List A) → ((y : A) → y ∈ xs → p y ≡ true → P y) → Each P (select p xs)
-unfolding select
-select-found p [] f = Each.none
-select-found p (x ∷ xs) f =
-    let g = select-found p xs (λ y h. f y (List·Memᴰ·tail h)) in
-    by-test (p x) (λ t. rw (t, select) (more (f x (List·Memᴰ·head refl) t) g)) (λ t. rw (t, select) g)
 
 same-item : (a b : Item) → sameItem a b ≡ true → a ≡ b
 unfolding sameItem
@@ -87,6 +82,11 @@ record Listed (s : Snapshot) (item : Item) (i : Import) : Type 0 where
 abbrev Led : Snapshot → FindPathCtx → ℕ → Item → Answer → Type 0
 Led s x m item (Name n) = Step s x m n item
 Led s x m item Nothing = Unit {0}
+
+-- the path of a keyword without names reaches the module
+abbrev Started : Snapshot → FindPathCtx → ℕ → KwKind → Type 0
+Started s x m (Kw k) = Start s x k [] (Mod m)
+Started s x m NoKw = Unit {0}
 
 module _ (s : Snapshot) where
   imports-listed : (c : ℕ) (item : Item) → Each (Listed s item) (importInfoFor s c item)
@@ -177,6 +177,9 @@ module _ (s : Snapshot) where
         (λ _. f))
         (λ u. offer-leads (i .container) item best c (i .name) f g (import-step item i h v (λ t. absurd (true≢false (sym t ∙ u)))))
 
+    crate-start : (m : ℕ) → x .root ≡ m → Start s x cratePath [] (Mod m)
+    crate-start m e = subst (λ (k : ℕ). Start s x cratePath [] (Mod k)) e crate
+
     -- the rules without a search
 
     single-leads : (item : Item) (kind : ℕ) (a : Answer) → ((n : ℕ) → a ≡ Name n → Start s x kind (n ∷ []) item)
@@ -200,84 +203,122 @@ module _ (s : Snapshot) where
     extern-leads m none h = nothing-leads
     extern-leads m (some e) h = new-leads (Mod m) _ (e .name) (extern m e h)
 
-    root-leads : (b : Bool) (m : ℕ) → Leads s x (Mod m) (rootRule s x b m)
-    unfolding rootRule
-    root-leads b m =
-        either-leads (eqb (crateRoot s m) m) _ _
-        (λ e. either-leads (not b || eqb m (x .root)) _ _
-        (λ _. keyword-leads m cratePath (root m (eqb-true (crateRoot s m) m e)))
-        (λ _. extern-leads m (externOf s (x .krate) m) refl))
-        (λ _. nothing-leads)
+    -- in a valid snapshot, with the root that is set for the viewing module
+    module _ (valid : Valid s) (rooted : x .root ≡ crateRoot s (x .from)) where
+      -- the root of a crate that has the keyword is the viewer's
+      root-here : (b : Bool) (m : ℕ) → (b ≡ false → Near s valid (x .from) m) → crateRoot s m ≡ m → not b || eqb m (x .root) ≡ true
+          → x .root ≡ m
+      root-here true m near r e = sym (eqb-true m (x .root) e)
+      root-here false m near r e = rooted ∙ sym (crate-root s valid m (x .from) (near refl)) ∙ r
 
-    keyword-of-leads : (m : ℕ) (k : KwKind) → isKwKindRelativeToFrom s x m ≡ k → Leads s x (Mod m) (keywordOf s x k)
-    unfolding keywordOf
-    keyword-of-leads m NoKw h = nothing-leads
-    keyword-of-leads m (Kw k) h =
-        either-leads (not (eqb (x .prefix) byCrate) || eqb k cratePath) _ _ (λ _. keyword-leads m k (by-keyword m k h)) (λ _. nothing-leads)
+      root-leads : (b : Bool) (m : ℕ) → (b ≡ false → Near s valid (x .from) m) → Leads s x (Mod m) (rootRule s x b m)
+      unfolding rootRule
+      root-leads b m near =
+          either-leads (eqb (crateRoot s m) m) _ _
+          (λ e. either-leads (not b || eqb m (x .root)) _ _
+          (λ t. keyword-leads m cratePath (crate-start m (root-here b m near (eqb-true (crateRoot s m) m e) t)))
+          (λ _. extern-leads m (externOf s (x .krate) m) refl))
+          (λ _. nothing-leads)
 
-    rules-lead : (b : Bool) (m : ℕ) → Leads s x (Mod m) (moduleRules s x b m)
-    unfolding moduleRules
-    rules-lead b m =
-        first-leads _ _ (root-leads b m)
-        (first-leads _ _ (scope-leads (Mod m))
-        (first-leads _ _ (keyword-of-leads m (isKwKindRelativeToFrom s x m) refl)
-        (first-leads _ _ (prelude-leads (Mod m)) first-none)))
+      either-started : (m : ℕ) (b : Bool) (k l : KwKind) → (b ≡ true → Started s x m k) → (b ≡ false → Started s x m l)
+          → Started s x m (elim b [ true ↦ k | false ↦ l ])
+      either-started m true k l f g = f refl
+      either-started m false k l f g = g refl
 
-    -- the local search
+      parent-started : (m p : ℕ) → parentOf s (x .from) ≡ p → blockOf s (x .from) ≡ 0 → Started s x m (parentKind s x m p)
+      unfolding parentKind
+      parent-started m zero e b = tt
+      parent-started m (suc p) e b =
+          either-started m (eqb m p) _ _
+          (λ t.
+          let same : p ≡ m = sym (eqb-true m p t) in
+          either-started m (eqb p (rootOf s (mapNo s (x .from)))) (Kw cratePath) (Kw superPath)
+          (λ r. crate-start m (rooted ∙ sym (own-root s valid (x .from) p e b) ∙ sym (eqb-true p _ r) ∙ same))
+          (λ _. subst (λ (k : ℕ). Start s x superPath [] (Mod k)) same (super p e)))
+          (λ _. tt)
 
-    led-if : (m : ℕ) (item : Item) (b : Bool) (n : ℕ) → (b ≡ true → Step s x m n item) → Led s x m item (elim b [ true ↦ Name n | false ↦ Nothing ])
-    led-if m item true n f = f refl
-    led-if m item false n f = tt
+      keyword-started : (m : ℕ) → Started s x m (isKwKindRelativeToFrom s x m)
+      unfolding isKwKindRelativeToFrom
+      keyword-started m =
+          either-started m (not (eqb (crateOf s m) (crateOf s (x .from))) || (inBlock s m || inBlock s (x .from))) NoKw _ (λ _. tt)
+          (λ t.
+          let f = or-none (inBlock s m) (inBlock s (x .from)) (or-none (not (eqb (crateOf s m) (crateOf s (x .from)))) _ t .1) .1 in
+          either-started m (eqb m (x .from)) (Kw selfPath) _
+          (λ e. subst (λ (k : ℕ). Start s x selfPath [] (Mod k)) (sym (eqb-true m (x .from) e)) self)
+          (λ _. parent-started m (parentOf s (x .from)) refl (eqb-true (blockOf s (x .from)) 0 (not-false _ f))))
 
-    name-if-led : (m : ℕ) (item : Item) (o : Option Scope) → nameOf s m item ≡ o → Led s x m item (nameIf s x o)
-    unfolding nameIf nameOf
-    name-if-led m item none h = tt
-    name-if-led m item (some e) h =
-        let f = first-found (isFor s m item) (s .scopes) e h in
-        led-if m item (isImportable s x e) (e .name) (λ t. entry-step m item e (f .0) (f .1) (and-left (sees s (x .from) e) _ t))
+      keyword-of-leads : (m : ℕ) (k : KwKind) → Started s x m k → Leads s x (Mod m) (keywordOf s x k)
+      unfolding keywordOf
+      keyword-of-leads m NoKw b = nothing-leads
+      keyword-of-leads m (Kw k) b =
+          either-leads (not (eqb (x .prefix) byCrate) || eqb k cratePath) _ _ (λ _. keyword-leads m k b) (λ _. nothing-leads)
 
-    importable-led : (item : Item) (m : ℕ) → Led s x m item (importableName s x item m)
-    unfolding importableName
-    importable-led item m = name-if-led m item (nameOf s m item) refl
+      rules-lead : (b : Bool) (m : ℕ) → (b ≡ false → Near s valid (x .from) m) → Leads s x (Mod m) (moduleRules s x b m)
+      unfolding moduleRules
+      rules-lead b m near =
+          first-leads _ _ (root-leads b m near)
+          (first-leads _ _ (scope-leads (Mod m))
+          (first-leads _ _ (keyword-of-leads m (isKwKindRelativeToFrom s x m) (keyword-started m))
+          (first-leads _ _ (prelude-leads (Mod m)) first-none)))
 
-    abbrev LeadsLocal : LocalSearch → Type 0
-    LeadsLocal rec = (left : ℕ) (ls : List Level) (m : ℕ) → Leads s x (Mod m) (rec left ls m)
+      -- the local search
 
-    module _ (rec : LocalSearch) (leads : LeadsLocal rec) where
-      location-leads : (item : Item) (left : ℕ) (ls : List Level) (best : Choice) (m : ℕ) (a : Answer) → Leads s x item best → Led s x m item a
-          → Leads s x item (location s x rec left ls best m a)
-      unfolding location
-      location-leads item left ls best m Nothing f h = f
-      location-leads item left ls best m (Name n) f h = offer-leads m item best _ n f (leads _ ls m) h
+      led-if : (m : ℕ) (item : Item) (b : Bool) (n : ℕ) → (b ≡ true → Step s x m n item) → Led s x m item (elim b [ true ↦ Name n | false ↦ Nothing ])
+      led-if m item true n f = f refl
+      led-if m item false n f = tt
 
-      each-leads : (left : ℕ) (ls : List Level) (item : Item) (done : List ℕ) (best : Choice) (ms : List ℕ) → Leads s x item best
-          → Leads s x item (eachLocation s x rec left ls item done best ms)
-      unfolding eachLocation
-      each-leads left ls item done best [] f = f
-      each-leads left ls item done best (m ∷ ms) f =
-          each-leads left ls item (done ++ (m ∷ [])) _ ms
-          (location-leads item left _ best m (importableName s x item m) f (importable-led item m))
+      name-if-led : (m : ℕ) (item : Item) (o : Option Scope) → nameOf s m item ≡ o → Led s x m item (nameIf s x o)
+      unfolding nameIf nameOf
+      name-if-led m item none h = tt
+      name-if-led m item (some e) h =
+          let f = first-found (isFor s m item) (s .scopes) e h in
+          led-if m item (isImportable s x e) (e .name) (λ t. entry-step m item e (f .0) (f .1) (and-left (sees s (x .from) e) _ t))
 
-      local-leads : (left : ℕ) (ls : List Level) (item : Item) → Leads s x item (calculateBestPathLocal s x rec left ls item)
-      unfolding calculateBestPathLocal
-      local-leads left ls item = each-leads left ls item [] nothing _ nothing-leads
+      importable-led : (item : Item) (m : ℕ) → Led s x m item (importableName s x item m)
+      unfolding importableName
+      importable-led item m = name-if-led m item (nameOf s m item) refl
 
-      or-local-leads : (left : ℕ) (ls : List Level) (m : ℕ) (c : Choice) (b : Bool) → Leads s x (Mod m) c → Leads s x (Mod m) (orLocal s x rec left ls m c b)
-      unfolding orLocal
-      or-local-leads left ls m c true f = f
-      or-local-leads left ls m c false f = local-leads left ls (Mod m)
+      abbrev LeadsLocal : LocalSearch → Type 0
+      LeadsLocal rec = (left : ℕ) (ls : List Level) (m : ℕ) → Near s valid (x .from) m → Leads s x (Mod m) (rec left ls m)
 
-    localTo-leads : (d : ℕ) → LeadsLocal (localTo s x d)
-    unfolding localTo findPathForModuleLocal
-    localTo-leads zero left ls m = nothing-leads
-    localTo-leads (suc d) zero ls m = nothing-leads
-    localTo-leads (suc d) (suc l) ls m = or-local-leads (localTo s x d) (localTo-leads d) (suc l) ls m _ _ (rules-lead false m)
+      module _ (rec : LocalSearch) (leads : LeadsLocal rec) where
+        location-leads : (item : Item) (left : ℕ) (ls : List Level) (best : Choice) (m : ℕ) (a : Answer) → Near s valid (x .from) m
+            → Leads s x item best → Led s x m item a
+            → Leads s x item (location s x rec left ls best m a)
+        unfolding location
+        location-leads item left ls best m Nothing near f h = f
+        location-leads item left ls best m (Name n) near f h = offer-leads m item best _ n f (leads _ ls m near) h
 
-    best-local-leads : (left : ℕ) (item : Item) → Leads s x item (bestLocal s x left item)
-    unfolding bestLocal searchLocal
-    best-local-leads left item = local-leads (searchLocal s x) (λ l ls m. localTo-leads l l ls m) left [] item
+        each-leads : (left : ℕ) (ls : List Level) (item : Item) (done : List ℕ) (best : Choice) {ms : List ℕ} → Each (Near s valid (x .from)) ms
+            → Leads s x item best
+            → Leads s x item (eachLocation s x rec left ls item done best ms)
+        unfolding eachLocation
+        each-leads left ls item done best Each.none f = f
+        each-leads left ls item done best (more {x = m} near ms) f =
+            each-leads left ls item (done ++ (m ∷ [])) _ ms
+            (location-leads item left _ best m (importableName s x item m) near f (importable-led item m))
 
-module _ (M : Type 0) (charge : M → Charged M) (s : Snapshot) (x : FindPathCtx) where
+        local-leads : (left : ℕ) (ls : List Level) (item : Item) → Leads s x item (calculateBestPathLocal s x rec left ls item)
+        unfolding calculateBestPathLocal
+        local-leads left ls item = each-leads left ls item [] nothing (locations-near s valid (x .from) (visited ls item)) nothing-leads
+
+        or-local-leads : (left : ℕ) (ls : List Level) (m : ℕ) (c : Choice) (b : Bool) → Leads s x (Mod m) c → Leads s x (Mod m) (orLocal s x rec left ls m c b)
+        unfolding orLocal
+        or-local-leads left ls m c true f = f
+        or-local-leads left ls m c false f = local-leads left ls (Mod m)
+
+      localTo-leads : (d : ℕ) → LeadsLocal (localTo s x d)
+      unfolding localTo findPathForModuleLocal
+      localTo-leads zero left ls m near = nothing-leads
+      localTo-leads (suc d) zero ls m near = nothing-leads
+      localTo-leads (suc d) (suc l) ls m near =
+          or-local-leads (localTo s x d) (localTo-leads d) (suc l) ls m _ _ (rules-lead false m (λ _. near))
+
+      best-local-leads : (left : ℕ) (item : Item) → Leads s x item (bestLocal s x left item)
+      unfolding bestLocal searchLocal
+      best-local-leads left item = local-leads (searchLocal s x) (λ l ls m. localTo-leads l l ls m) left [] item
+
+module _ (M : Type 0) (charge : M → Charged M) (s : Snapshot) (x : FindPathCtx) (valid : Valid s) (rooted : x .root ≡ crateRoot s (x .from)) where
   abbrev LeadsSearch : Search M → Type 0
   LeadsSearch rec = (left m : ℕ) (t : M) → Leads s x (Mod m) (rec left m t .choice)
 
@@ -294,7 +335,7 @@ module _ (M : Type 0) (charge : M → Charged M) (s : Snapshot) (x : FindPathCtx
     unfolding findImports
     imports-lead item left o f Each.none = f
     imports-lead item left o f (more {x = i} h hs) =
-        imports-lead item left _ (import-leads item left o i (isHidden i) refl f h) hs
+        imports-lead item left _ (import-leads item left o i _ refl f h) hs
 
     deps-lead : (left : ℕ) (item : Item) (o : Out M) (ds : List Dependency) → Leads s x item (o .choice)
         → Leads s x item (findInDeps M charge s x (bestLocal s x) rec left item o ds .choice)
@@ -313,7 +354,7 @@ module _ (M : Type 0) (charge : M → Charged M) (s : Snapshot) (x : FindPathCtx
 
     go-leads : (left : ℕ) (item : Item) (t : M) (a b : Bool) → Leads s x item (goOn M charge s x (bestLocal s x) rec left item t a b .choice)
     unfolding goOn
-    go-leads left item t true b = best-local-leads s x left item
+    go-leads left item t true b = best-local-leads s x valid rooted left item
     go-leads left item t false true = sysroot-leads left item _ (langs (x .nostd)) false (nothing-leads s x)
     go-leads left item t false false = deps-lead left item _ (dependenciesOf s (x .krate)) (nothing-leads s x)
 
@@ -334,7 +375,7 @@ module _ (M : Type 0) (charge : M → Charged M) (s : Snapshot) (x : FindPathCtx
     module-leads : LeadsSearch (findPathForModule M charge s x (bestLocal s x) rec)
     unfolding findPathForModule
     module-leads zero m t = nothing-leads s x
-    module-leads (suc l) m t = or-leads (suc l) m t _ _ (rules-lead s x true m)
+    module-leads (suc l) m t = or-leads (suc l) m t _ _ (rules-lead s x valid rooted true m (λ e. absurd (true≢false e)))
 
   moduleTo-leads : (d : ℕ) → LeadsSearch (moduleTo M charge s x d)
   unfolding moduleTo
@@ -372,7 +413,7 @@ module _ (s : Snapshot) (x : FindPathCtx) where
         (variant v q (f .route e (omega (arith, g .few, g .long))) (omega (arith, n, g .few)));
   }
 
-module _ (M : Type 0) (charge : M → Charged M) (s : Snapshot) (x : FindPathCtx) where
+module _ (M : Type 0) (charge : M → Charged M) (s : Snapshot) (x : FindPathCtx) (valid : Valid s) (rooted : x .root ≡ crateRoot s (x .from)) where
   -- P holds of every route of 15 names at most, and of what the enum's search gives a variant
   module _ (inner : Inner M) (P : Item → Choice → Type 0)
       (short : (item : Item) (c : Choice) → Leads s x item c → Fits s 15 c → P item c)
@@ -380,7 +421,7 @@ module _ (M : Type 0) (charge : M → Charged M) (s : Snapshot) (x : FindPathCtx
       → P item (push s (inner (itemOf s types (v .first)) t .choice) (v .second))) where
     best-path : (item : Item) (t : M) → P item (calculateBestPath M charge s x (bestLocal s x) (searchModule M charge s x) pathLimit item t .choice)
     best-path item t =
-        short item _ (best-leads M charge s x (searchModule M charge s x) (module-search-leads M charge s x) pathLimit item t)
+        short item _ (best-leads M charge s x valid rooted (searchModule M charge s x) (module-search-leads M charge s x valid rooted) pathLimit item t)
         (best-fits M charge s x (bestLocal s x) (best-local-fits s x) (searchModule M charge s x) (module-search-fits M charge s x) 14 item t)
 
     enum-path : (item : Item) (name : ℕ) (o : Out M) (b : Bool) → (b ≡ true → P item (push s (o .choice) name))
@@ -412,7 +453,7 @@ module _ (M : Type 0) (charge : M → Charged M) (s : Snapshot) (x : FindPathCtx
     of-path : (m : ℕ) (t : M) (b : Bool) → P (Mod m) (ofModule M charge s x (bestLocal s x) (searchModule M charge s x) inner m t b .choice)
     unfolding ofModule
     of-path m t true = by-name-path (Mod m) t
-    of-path m t false = short (Mod m) _ (module-search-leads M charge s x pathLimit m t) (module-search-fits M charge s x pathLimit m t)
+    of-path m t false = short (Mod m) _ (module-search-leads M charge s x valid rooted pathLimit m t) (module-search-fits M charge s x pathLimit m t)
 
     inner-path : (item : Item) (t : M) → P item (findPathInner M charge s x (bestLocal s x) (searchModule M charge s x) inner item t .choice)
     unfolding findPathInner
@@ -431,7 +472,11 @@ module _ (M : Type 0) (charge : M → Charged M) (s : Snapshot) (x : FindPathCtx
       (λ i u v q e. variant-path s x i v _ q (enum-leads (itemOf s types (v .first)) u) (itemTo-fits M charge s x 1 (itemOf s types (v .first)) u) e)
       item t
 
-module _ (M : Type 0) (charge : M → Charged M) (s : Snapshot) (q : Query) where
+context-rooted : (s : Snapshot) (q : Query) (home : ℕ) → contextOf s q home .root ≡ crateRoot s (contextOf s q home .from)
+unfolding contextOf
+context-rooted s q home = refl
+
+module _ (M : Type 0) (charge : M → Charged M) (s : Snapshot) (valid : Valid s) (q : Query) where
   abbrev Asked : Choice → Type 0
   Asked c = Paths s (askedContext s q) (askedItem s q) c
 
@@ -441,7 +486,7 @@ module _ (M : Type 0) (charge : M → Charged M) (s : Snapshot) (q : Query) wher
   home-path t (suc home) e =
       let same : home ≡ homeOf s (askedItem s q) - 1 = omega (arith, e) in
       subst (λ (k : ℕ). Paths s (contextOf s q k) (askedItem s q) (searchItem M charge s (contextOf s q home) (askedItem s q) t .choice)) same
-      (item-path M charge s (contextOf s q home) (askedItem s q) t)
+      (item-path M charge s (contextOf s q home) valid (context-rooted s q home) (askedItem s q) t)
 
   builtin-path : q .ns ≡ types → definitionOf s (q .definition) .kind ≡ builtinKind
       → Asked (choiceNew s plainPath (definitionOf s (q .definition) .first))
@@ -472,12 +517,12 @@ allowed : (s : Snapshot) (q : Query) → askedContext s q .unstable ≡ bit (q .
 unfolding contextOf
 allowed s q = refl
 
-searched-routed : (s : Snapshot) (q : Query) (fuel : ℕ) → searched s q fuel .choice .found ≡ true → Routed s q (reported (searched s q fuel))
+searched-routed : (s : Snapshot) → Valid s → (q : Query) (fuel : ℕ) → searched s q fuel .choice .found ≡ true → Routed s q (reported (searched s q fuel))
 unfolding searched reported
-searched-routed s q fuel e =
+searched-routed s valid q fuel e =
     let t : Tank = record { fuel = fuel; spent = 0; empty = false } in
     record {
-      path = search-path Tank fromTank s q t .path e;
+      path = search-path Tank fromTank s valid q t .path e;
       count = names-count 16 (omega arith) (search-fits Tank fromTank s q t);
       unstable = allowed s q;
     }
@@ -491,10 +536,10 @@ kind-routed : {words : List ℕ} {q : Query} {fuel : ℕ} (s : Snapshot) → ver
     → r .outcome ≡ 0 → Routed s q r
 unfolding refused reported
 kind-routed s a r (refusal n h e) z = let y = ap (λ (w : Report). w .outcome) e in absurd (omega arith)
-kind-routed {q = q} {fuel = fuel} s a r (answer u b h e) z =
+kind-routed {words = words} {q = q} {fuel = fuel} s a r (answer u b h e) z =
     let same : u ≡ s = cc (a, b) in
     let y : flag (not (searched u q fuel .choice .found)) ≡ 0 = sym (ap (λ (w : Report). w .outcome) e) ∙ z in
-    subst (λ w. Routed w q r) same (rw e (searched-routed u q fuel (found-of _ y)))
+    subst (λ w. Routed w q r) same (rw e (searched-routed u (accepted-valid words u b) q fuel (found-of _ y)))
 
 -- Every step of a path that is found has its record in the snapshot that the words were accepted as.
 pub found-route : (words : List ℕ) (area : ℕ) (q : Question) (s : Snapshot) → verdict words ≡ accept s

@@ -9,7 +9,7 @@ use Rattle.snapshot.specs.Limits.{pathLimit}
 use Rattle.snapshot.specs.Records.{Snapshot, Dependency, Definition, Import}
 use Rattle.hir_def.specs.Items.{types, itemOf, homeOf}
 use Rattle.hir_def.specs.Nameres.{dependenciesOf, langOf, sysrootFirst}
-use Rattle.hir_def.specs.ImportMap.{importInfoFor, isHidden}
+use Rattle.hir_def.specs.ImportMap.{importInfoFor}
 use Rattle.hir_def.specs.declared.Item.{Item}
 use Rattle.hir_def.specs.declared.Item.the-variants.{Mod, Def}
 use Rattle.find_path.specs.declared.Choice.{Choice}
@@ -84,7 +84,7 @@ module _ (F : ℕ) (s : Snapshot) where
         → Sim F (findImports Tank fromTank s x here rt left a is) (findImports ℕ counted s x here rc left c is)
     unfolding findImports
     imports-sim left a c [] h = h
-    imports-sim left a c (i ∷ is) h = imports-sim left _ _ is (import-sim left a c i (isHidden i) h)
+    imports-sim left a c (i ∷ is) h = imports-sim left _ _ is (import-sim left a c i _ h)
 
     deps-sim : (left : ℕ) (item : Item) (a : Out Tank) (c : Out ℕ) (ds : List Dependency) → Sim F a c
         → Sim F (findInDeps Tank fromTank s x here rt left item a ds) (findInDeps ℕ counted s x here rc left item c ds)

@@ -9,7 +9,7 @@ use Rattle.snapshot.specs.Limits.{pathLimit}
 use Rattle.snapshot.specs.Records.{Snapshot, Dependency, Definition, Import}
 use Rattle.hir_def.specs.Items.{types, itemOf}
 use Rattle.hir_def.specs.Nameres.{dependenciesOf, langOf, sysrootFirst}
-use Rattle.hir_def.specs.ImportMap.{importInfoFor, isHidden}
+use Rattle.hir_def.specs.ImportMap.{importInfoFor}
 use Rattle.hir_def.specs.declared.Item.{Item}
 use Rattle.hir_def.specs.declared.Item.the-variants.{Mod, Def}
 use Rattle.hir_def.specs.declared.Answer.{Answer}
@@ -104,7 +104,7 @@ module _ (M : Type 0) (charge : M → Charged M) (s : Snapshot) (x : FindPathCtx
     unfolding findImports
     imports-same o [] = refl
     imports-same o (i ∷ is) =
-        ap (λ (r : Out M). findImports M charge s x here f left r is) (import-same o i (isHidden i)) ∙ imports-same _ is
+        ap (λ (r : Out M). findImports M charge s x here f left r is) (import-same o i _) ∙ imports-same _ is
 
     deps-same : (item : Item) (o : Out M) (ds : List Dependency) → findInDeps M charge s x here f left item o ds ≡ findInDeps M charge s x here g left item o ds
     unfolding findInDeps findInDep

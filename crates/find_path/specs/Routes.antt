@@ -1,25 +1,24 @@
 -- Every step of a path has its record: how a path starts, which records its names stand in, and where it ends.
 use mathlib.Core.Path.{_≡_}
 use mathlib.Core.List.{List, [], _∷_, _++_, List·Memᴰ}
-use mathlib.Core.Bool.{Bool, true, false, _||_}
-use mathlib.Core.Option.{Option, some}
-use Prim.Native.Nat.{ℕ, _-_, _≤_}
+use mathlib.Core.Bool.{true, false, _||_}
+use mathlib.Core.Option.{some}
+use Prim.Native.Nat.{ℕ, suc, _-_, _≤_}
 use lib.ListN.{length, take}
 use Rattle.snapshot.specs.Limits.{pathLimit}
 use Rattle.snapshot.specs.Records.{Snapshot, Definition, Scope, Import, Extern}
-use Rattle.hir_def.specs.Items.{types, builtinKind, crateRoot, definitionOf, itemOf, homeOf}
+use Rattle.hir_def.specs.Items.{types, builtinKind, parentOf, definitionOf, itemOf, homeOf}
 use Rattle.hir_def.specs.Visibility.{sees}
 use Rattle.hir_def.specs.Nameres.{occupied, externOf}
 use Rattle.hir_def.specs.ImportMap.{isHidden, isUnstable}
 use Rattle.hir_def.specs.declared.Item.{Item}
 use Rattle.hir_def.specs.declared.Item.the-variants.{Mod}
 use Rattle.hir_def.specs.declared.Answer.the-variants.{Name}
-use Rattle.find_path.specs.declared.KwKind.the-variants.{Kw}
 use Rattle.find_path.specs.declared.FindPathCtx.{FindPathCtx}
 use Rattle.find_path.specs.declared.Query.{Query}
 use Rattle.find_path.specs.declared.Report.{Report}
-use Rattle.find_path.specs.Choices.{plainPath, cratePath}
-use Rattle.find_path.specs.Rules.{bit, prefixPathKind, contextOf, findInScope, findInPrelude, externKind, isKwKindRelativeToFrom}
+use Rattle.find_path.specs.Choices.{plainPath, selfPath, superPath, cratePath}
+use Rattle.find_path.specs.Rules.{bit, prefixPathKind, contextOf, findInScope, findInPrelude, externKind}
 use Rattle.find_path.specs.Charged.{variantOf}
 
 infix 50 _∈_
@@ -28,10 +27,10 @@ a ∈ xs = List·Memᴰ a xs
 
 -- A path of that kind starts with these names, and so reaches the item.
 pub data Start (s : Snapshot) (x : FindPathCtx) : ℕ → List ℕ → Item → Type 0 where
-  -- `crate`, the root of a crate
-  root : (m : ℕ) → crateRoot s m ≡ m → Start s x cratePath [] (Mod m)
-  -- `self`, `super` or `crate`, by where the module is from the viewing one
-  keyword : (m k : ℕ) → isKwKindRelativeToFrom s x m ≡ Kw k → Start s x k [] (Mod m)
+  -- a keyword without names: the viewing module, its parent, the root of its crate
+  self : Start s x selfPath [] (Mod (x .from))
+  super : (p : ℕ) → parentOf s (x .from) ≡ suc p → Start s x superPath [] (Mod p)
+  crate : Start s x cratePath [] (Mod (x .root))
   -- a first name by the scope, the prelude or an extern of the viewer's crate
   scope : (item : Item) (n : ℕ) → findInScope s x item ≡ Name n → Start s x (prefixPathKind (x .prefix)) (n ∷ []) item
   prelude : (item : Item) (n : ℕ) → findInPrelude s x item ≡ Name n → Start s x plainPath (n ∷ []) item
