@@ -323,19 +323,21 @@ module _ (M : Type 0) (charge : M → Charged M) (s : Snapshot) (x : FindPathCtx
   LeadsSearch rec = (left m : ℕ) (t : M) → Leads s x (Mod m) (rec left m t .choice)
 
   module _ (rec : Search M) (leads : LeadsSearch rec) where
-    import-leads : (item : Item) (left : ℕ) (o : Out M) (i : Import) (b : Bool) → isHidden i ≡ b → Leads s x item (o .choice) → Listed s item i
-        → Leads s x item (findImport M charge s x (bestLocal s x) rec left o i b .choice)
+    -- an import that is not passed over is not hidden
+    import-leads : (item : Item) (left : ℕ) (o : Out M) (i : Import) (b : Bool) → (b ≡ false → isHidden i ≡ false) → Leads s x item (o .choice)
+        → Listed s item i → Leads s x item (findImport M charge s x (bestLocal s x) rec left o i b .choice)
     unfolding findImport
     import-leads item left o i true v f h = f
     import-leads item left o i false v f h =
-        offer-import-leads s x item (o .choice) _ i f (leads _ (i .container) (o .meter)) h v
+        offer-import-leads s x item (o .choice) _ i f (leads _ (i .container) (o .meter)) h (v refl)
 
     imports-lead : (item : Item) (left : ℕ) (o : Out M) {is : List Import} → Leads s x item (o .choice) → Each (Listed s item) is
         → Leads s x item (findImports M charge s x (bestLocal s x) rec left o is .choice)
     unfolding findImports
     imports-lead item left o f Each.none = f
     imports-lead item left o f (more {x = i} h hs) =
-        imports-lead item left _ (import-leads item left o i _ refl f h) hs
+        imports-lead item left (findImport M charge s x (bestLocal s x) rec left o i (isHidden i))
+        (import-leads item left o i (isHidden i) (λ e. e) f h) hs
 
     deps-lead : (left : ℕ) (item : Item) (o : Out M) (ds : List Dependency) → Leads s x item (o .choice)
         → Leads s x item (findInDeps M charge s x (bestLocal s x) rec left item o ds .choice)

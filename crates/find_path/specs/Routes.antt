@@ -21,6 +21,7 @@ use Rattle.find_path.specs.Choices.{plainPath, selfPath, superPath, crat
 use Rattle.find_path.specs.Rules.{bit, prefixPathKind, contextOf, findInScope, findInPrelude, externKind}
 use Rattle.find_path.specs.Charged.{variantOf}
 
+-- the element stands in the list
 infix 50 _∈_
 abbrev pub _∈_ : {A : Type 0} → A → List A → Type 0
 a ∈ xs = List·Memᴰ a xs
@@ -44,7 +45,7 @@ pub data Step (s : Snapshot) (x : FindPathCtx) : ℕ → ℕ → Item → Type 0
   -- by a scope record of the module that is visible from the viewing one
   entry : (e : Scope) → e ∈ s .scopes → sees s (x .from) e ≡ true
       → Step s x (e .owner) (e .name) (itemOf s (e .ns) (e .definition))
-  -- by an import record that is not hidden, and is stable unless the question allows others
+  -- by an import record in the module that is not hidden, and is stable unless the question allows others
   imported : (i : Import) → i ∈ s .imports → isHidden i ≡ false → (isUnstable i ≡ true → x .unstable ≡ true)
       → Step s x (i .container) (i .name) (itemOf s (i .ns) (i .definition))
 
