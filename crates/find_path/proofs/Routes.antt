@@ -20,7 +20,7 @@ use Rattle.accept.proofs.Valid.{accepted-valid}
 use Rattle.hir_def.specs.Finds.{firstOf}
 use Rattle.hir_def.specs.Items.{types, builtinKind, mapNo, crateOf, crateRoot, rootOf, parentOf, blockOf, inBlock, definitionOf, itemOf, sameItem, homeOf}
 use Rattle.hir_def.specs.Visibility.{sees}
-use Rattle.hir_def.specs.ItemScope.{isFor, nameOf}
+use Rattle.hir_def.specs.ItemScope.{isFor, nameOf, namesOf}
 use Rattle.hir_def.specs.Nameres.{dependenciesOf, langOf, sysrootFirst, externOf}
 use Rattle.hir_def.specs.ImportMap.{isImport, importInfoFor, isHidden, isUnstable}
 use Rattle.hir_def.specs.declared.Item.{Item}
@@ -47,6 +47,9 @@ use Rattle.find_path.specs.Routes.{_∈_, Start, self, super, crate, sco
 use Rattle.find_path.proofs.Bounds.{Fits, first-none as none-fits, first-fits, new-fits, scope-fits, prelude-fits, best-local-fits, best-fits, module-search-fits, itemTo-fits, search-fits}
 use Rattle.find_path.proofs.Crates.{Near, select-found, own-root, crate-root, locations-near}
 use Rattle.find_path.proofs.Outcomes.{Kind, refusal, answer, kind-of}
+
+-- what a test says alone or joined with another
+ruleset passed = (and-left, and-right)
 
 -- what is found in a list stands there and passes the test
 first-found : {A : Type 0} (p : A → Bool) (xs : List A) (y : A) → firstOf p xs ≡ some y → (y ∈ xs) × (p y ≡ true)
@@ -267,16 +270,17 @@ module _ (s : Snapshot) where
       led-if m item true n f = f refl
       led-if m item false n f = tt
 
-      name-if-led : (m : ℕ) (item : Item) (o : Option Scope) → nameOf s m item ≡ o → Led s x m item (nameIf s x o)
-      unfolding nameIf nameOf
-      name-if-led m item none h = tt
-      name-if-led m item (some e) h =
-          let f = first-found (isFor s m item) (s .scopes) e h in
-          led-if m item (isImportable s x e) (e .name) (λ t. entry-step m item e (f .0) (f .1) (and-left (sees s (x .from) e) _ t))
+      name-if-led : (m : ℕ) (item : Item) (p : Scope → Bool) (o : Option Scope) → firstOf p (s .scopes) ≡ o
+          → ((e : Scope) → p e ≡ true → isFor s m item e ≡ true) → Led s x m item (nameIf s x o)
+      unfolding nameIf
+      name-if-led m item p none h g = tt
+      name-if-led m item p (some e) h g =
+          let f = first-found p (s .scopes) e h in
+          led-if m item (isImportable s x e) (e .name) (λ t. entry-step m item e (f .0) (g e (f .1)) (and-left (sees s (x .from) e) _ t))
 
       importable-led : (item : Item) (m : ℕ) → Led s x m item (importableName s x item m)
-      unfolding importableName
-      importable-led item m = name-if-led m item (nameOf s m item) refl
+      unfolding importableName nameOf namesOf
+      importable-led item m = name-if-led m item _ _ refl (λ e t. search passed)
 
       abbrev LeadsLocal : LocalSearch → Type 0
       LeadsLocal rec = (left : ℕ) (ls : List Level) (m : ℕ) → Near s valid (x .from) m → Leads s x (Mod m) (rec left ls m)
