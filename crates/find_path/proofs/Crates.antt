@@ -39,11 +39,11 @@ each-in Each.none m = absurd (List·Memᴰ·not-nil m)
 each-in {P = P} (more p h) (List·Memᴰ·head e) = subst P (sym e) p
 each-in (more p h) (List·Memᴰ·tail m) = each-in h m
 
-each-append : {A : Type 0} {P : A → Type 0} {xs ys : List A} → Each P xs → Each P ys → Each P (xs ++ ys)
+pub each-append : {A : Type 0} {P : A → Type 0} {xs ys : List A} → Each P xs → Each P ys → Each P (xs ++ ys)
 each-append Each.none h = h
 each-append (more p g) h = more p (each-append g h)
 
-each-of : {A B : Type 0} (P : B → Type 0) (f : A → B) {xs : List A} → Each (λ x. P (f x)) xs → Each P (map f xs)
+pub each-of : {A B : Type 0} (P : B → Type 0) (f : A → B) {xs : List A} → Each (λ x. P (f x)) xs → Each P (map f xs)
 each-of P f Each.none = Each.none
 each-of P f (more p h) = more p (each-of P f h)
 
@@ -64,7 +64,7 @@ or-either zero b w q f g = g q
 or-either (suc p) b w q f g = f q
 
 module _ (P : ℕ → Type 0) (next : ℕ → List ℕ) (seen : ℕ → Bool) (leads : (m : ℕ) → Each P (next m)) where
-  walk-each : (b : ℕ) {d ws : List ℕ} → Each P d → Each P ws → Each P (walk next seen b d ws)
+  pub walk-each : (b : ℕ) {d ws : List ℕ} → Each P d → Each P ws → Each P (walk next seen b d ws)
   unfolding walk unmet
   walk-each zero h g = h
   walk-each (suc b) h Each.none = h

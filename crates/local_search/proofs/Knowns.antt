@@ -1,8 +1,8 @@
 -- Every module that a local search takes is there.
 use Prim.Native.Nat.{ℕ, zero, suc, _<_}
 use mathlib.Core.Path.{_≡_, subst}
-use mathlib.Core.List.{List, _++_, map}
-use mathlib.Core.Bool.{Bool, true, _||_, _&&_}
+use mathlib.Core.List.{List, map}
+use mathlib.Core.Bool.{Bool, true, _&&_}
 use native.Mathlib.Omega.{arith}
 use lib.Dec.{eqb}
 use lib.ListN.{length}
@@ -14,7 +14,7 @@ use Rattle.accept.specs.Post.{Reads}
 use Rattle.accept.specs.Stands.{countsIn}
 use Rattle.accept.specs.Valid.{Each, none, more, ScopeFits, Ranges}
 use Rattle.accept.proofs.Accepted.{by-test}
-use Rattle.accept.proofs.Bools.{and-right, each-map, each-snoc}
+use Rattle.accept.proofs.Bools.{and-right, each-map}
 use Rattle.accept.proofs.Reading.{ranges-read}
 use Rattle.accept.proofs.Trees.{accepted-tree}
 use Rattle.accept.proofs.Valid.{accepted-valid}
@@ -28,15 +28,8 @@ use Rattle.hir_def.proofs.Found.{each-select}
 use Rattle.hir_def.proofs.Chains.{containing-falls}
 use Rattle.hir_def.proofs.Fits.{module-known}
 use Rattle.hir_def.proofs.Reading.{length-modules}
-use Rattle.find_path.specs.Walk.{has, unmet, walk, startFrom, leadsTo, findLocalImportLocations}
-
-each-append : {A : Type 0} {P : A → Type 0} {xs ys : List A} → Each P xs → Each P ys → Each P (xs ++ ys)
-each-append none h = h
-each-append (more p g) h = more p (each-append g h)
-
-each-of : {A B : Type 0} (P : B → Type 0) (f : A → B) {xs : List A} → Each (λ x. P (f x)) xs → Each P (map f xs)
-each-of P f none = none
-each-of P f (more p h) = more p (each-of P f h)
+use Rattle.find_path.specs.Walk.{startFrom, leadsTo, findLocalImportLocations}
+use Rattle.find_path.proofs.Crates.{each-append, each-of, walk-each}
 
 -- those that pass a test
 each-passing : {A : Type 0} {P Q : A → Type 0} {xs : List A} (p : A → Bool) → ((x : A) → P x → p x ≡ true → Q x) → Each P xs → Each Q (select p xs)
@@ -44,15 +37,6 @@ unfolding select
 each-passing p f none = none
 each-passing p f (more {x = x} q h) =
     by-test (p x) (λ t. rw (t, select) (more (f x q t) (each-passing p f h))) (λ t. rw (t, select) (each-passing p f h))
-
-module _ (P : ℕ → Type 0) (next : ℕ → List ℕ) (seen : ℕ → Bool) (leads : (m : ℕ) → Each P (next m)) where
-  walk-each : (b : ℕ) {d ws : List ℕ} → Each P d → Each P ws → Each P (walk next seen b d ws)
-  unfolding walk unmet
-  walk-each zero h g = h
-  walk-each (suc b) h none = h
-  walk-each (suc b) {d = d} h (more {x = m} p g) =
-      by-test (seen m || has d m) (λ t. rw (walk, t) (walk-each b h g))
-      (λ t. rw (walk, t) (walk-each b (each-snoc h p) (each-append g (each-select _ (leads m)))))
 
 -- steps that fall stay below
 module _ (step : ℕ → ℕ) (n : ℕ) (falls : Falls step n) where
