@@ -8,7 +8,7 @@ use lib.Dec.{eqb}
 use lib.ListN.{length}
 use Rattle.reports.specs.Written.{Written, writtenTo}
 use Rattle.windows.specs.declared.turns.Turn.{Turn}
-use Rattle.windows.specs.States.{served}
+use Rattle.window_state.specs.States.{served}
 use Rattle.windows.specs.Windows.{idleTurn, servingTurn, turnOf, Turned}
 use Rattle.exports.specs.Turns.{reportTurned, Served}
 

@@ -9,8 +9,8 @@ use lib.Dec.{eqb, leb}
 use lib.ListN.{length, getD, take, drop, replicate, length-append, length-take, length-drop, length-set, List·getD-append}
 use lib.Seq.{length-take-le, getD-take, getD-drop, getD-append-add, getD-set-same, getD-set-other, ext-getD}
 use Rattle.find_path.specs.declared.Question.{Question}
-use Rattle.windows.specs.States.{rowOf, withRow, waits, askedBy, waiting, placeFault, placedUnless, afterPlace, served, afterServing, afterTurn}
-use Rattle.windows.proofs.Laws.{fault-room, fault-free, served-bound}
+use Rattle.window_state.specs.States.{rowOf, withRow, waits, askedBy, waiting, placeFault, placedUnless, afterPlace, served, afterServing, afterTurn}
+use Rattle.window_state.proofs.Laws.{fault-room, fault-free, served-bound}
 
 -- other words for a window
 

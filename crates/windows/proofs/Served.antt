@@ -10,11 +10,11 @@ use lib.Dec.{eqb}
 use lib.ListN.{length, getD, take}
 use lib.Seq.{take-nil}
 use Rattle.find_path.specs.declared.Question.{Question}
-use Rattle.windows.specs.States.{rowOf, waits, askedBy, waiting, placeFault, afterPlace, firstFrom, served, afterServing, afterTurn}
+use Rattle.window_state.specs.States.{rowOf, waits, askedBy, waiting, placeFault, afterPlace, firstFrom, served, afterServing, afterTurn}
 use Rattle.windows.specs.declared.turns.Turn.{Turn}
 use Rattle.windows.specs.Windows.{idleTurn, servingTurn, turnOf}
 use Rattle.windows.specs.Runs.{emptyState, Operation, placing, turning, afterOne, afterRun, turns, servingIn, servings, ServedWithin}
-use Rattle.windows.proofs.Laws.{served-start, first-here, first-next, fault-room}
+use Rattle.window_state.proofs.Laws.{served-start, first-here, first-next, fault-room}
 use Rattle.windows.proofs.Kept.{asking, row-waits, row-asked, placed-row, place-puts, turn-serves, place-length, place-next, place-row, serving-next, serving-row, turn-length}
 
 -- Counting round, the first window that waits is as near as any other that waits.

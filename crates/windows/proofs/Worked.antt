@@ -12,7 +12,7 @@ use Rattle.find_path.specs.Report.{flag}
 use Rattle.find_path.proofs.Worked.{passes}
 use Rattle.reports.specs.Written.{reportWords}
 use Rattle.windows.specs.declared.turns.Turn.{Turn}
-use Rattle.windows.specs.States.{withRow, waits, askedBy, waiting, placeFault, placedUnless, afterPlace, firstFrom, served, afterServing, afterTurn}
+use Rattle.window_state.specs.States.{withRow, waits, askedBy, waiting, placeFault, placedUnless, afterPlace, firstFrom, served, afterServing, afterTurn}
 use Rattle.windows.specs.Windows.{idleTurn, servingTurn, turnOf}
 use Rattle.windows.specs.Runs.{emptyState, Operation, placing, turning, afterOne, afterRun}
 

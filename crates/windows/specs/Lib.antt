@@ -1,3 +1,2 @@
-pub mod States
 pub mod Windows
 pub mod Runs

@@ -1,8 +1,8 @@
 //! What a turn gives.
 ghost use mathlib.Core.Path.{_≡_};
 ghost use Rattle.windows.specs.Windows.{idleTurn};
-use crate::rows::WindowCount;
 use find_path::Report;
+use window_state::rows::WindowCount;
 
 /// A turn: idle, or the window that was served and the report of its question.
 pub struct Turn {

@@ -1,15 +1,15 @@
 //! Eight windows and their turns. The caller lends the state; 57 zeros are the one in which no question waits.
 ghost use Rattle.batch.specs.Questions.{questionOf};
 ghost use Rattle.windows.specs.Windows.{Placed, Turned};
-use crate::rows::WindowCount;
-use crate::rows::next_waiting;
-use crate::serve::after_serving;
-use crate::serve::asked_by;
-use crate::serve::place_fault;
-use crate::serve::with_question;
 use crate::turns::Turn;
 use crate::turns::idle_turn;
 use answer::answer::find_path;
+use window_state::rows::WindowCount;
+use window_state::rows::next_waiting;
+use window_state::serve::after_serving;
+use window_state::serve::asked_by;
+use window_state::serve::place_fault;
+use window_state::serve::with_question;
 
 /// Places a question, six words, for a window. Answers 0, or the number by which it is refused, with the state unchanged: 49 no such
 /// window, 50 a question of the window waits already.

@@ -1,7 +1,8 @@
 use borrow.Author.Needs.{needs}
 use mathlib.Core.Path.{_∙_, sym}
 use denote.Ref.{now}
-use Rattle.windows.proofs.Laws.{fault-room, placed-not, placed-so}
+use Rattle.window_state.proofs.Laws.{fault-room}
+use Rattle.windows.proofs.Laws.{placed-not, placed-so}
 use Rattle.windows.proofs.windows.place.Statement.{statement}
 use Rattle.windows.proofs.windows.place.Tie as tie
 

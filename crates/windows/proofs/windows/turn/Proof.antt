@@ -1,6 +1,7 @@
 use borrow.Author.Needs.{needs}
 use denote.Ref.{now}
-use Rattle.windows.proofs.Laws.{served-bound, turned-not, turned-so}
+use Rattle.window_state.proofs.Laws.{served-bound}
+use Rattle.windows.proofs.Laws.{turned-not, turned-so}
 use Rattle.windows.proofs.windows.turn.Statement.{statement}
 use Rattle.windows.proofs.windows.turn.Tie as tie
 

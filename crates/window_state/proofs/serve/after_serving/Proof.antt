@@ -2,9 +2,9 @@ use borrow.Author.Needs.{needs}
 use mathlib.Core.Path.{ap}
 use Prim.Native.Nat.{_+_, _%_}
 use lib.ListN.{set}
-use Rattle.windows.specs.States.{afterServing}
-use Rattle.windows.proofs.serve.after_serving.Statement.{statement}
-use Rattle.windows.proofs.serve.after_serving.Tie as tie
+use Rattle.window_state.specs.States.{afterServing}
+use Rattle.window_state.proofs.serve.after_serving.Statement.{statement}
+use Rattle.window_state.proofs.serve.after_serving.Tie as tie
 
 with-row-requires : tie.Need-with-row-requires
 with-row-requires c κs = search needs

@@ -1,7 +1,7 @@
 use borrow.Author.Needs.{needs}
-use Rattle.windows.proofs.Laws.{asked-part}
-use Rattle.windows.proofs.serve.asked_by.Statement.{statement}
-use Rattle.windows.proofs.serve.asked_by.Tie as tie
+use Rattle.window_state.proofs.Laws.{asked-part}
+use Rattle.window_state.proofs.serve.asked_by.Statement.{statement}
+use Rattle.window_state.proofs.serve.asked_by.Tie as tie
 
 mul-from : tie.Need-mul-from
 mul-from c = search needs

@@ -1,8 +1,8 @@
 use borrow.Author.Needs.{needs}
 use native.Mathlib.Omega.{arith}
-use Rattle.windows.proofs.Laws.{fault-window, fault-waits, fault-none}
-use Rattle.windows.proofs.serve.place_fault.Statement.{statement}
-use Rattle.windows.proofs.serve.place_fault.Tie as tie
+use Rattle.window_state.proofs.Laws.{fault-window, fault-waits, fault-none}
+use Rattle.window_state.proofs.serve.place_fault.Statement.{statement}
+use Rattle.window_state.proofs.serve.place_fault.Tie as tie
 
 returns : tie.Need-returns
 returns c = fault-window _ _ (omega (arith, c .if1 .taken))

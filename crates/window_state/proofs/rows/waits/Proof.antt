@@ -1,8 +1,8 @@
 use borrow.Author.Needs.{needs}
 use mathlib.Core.Path.{refl}
-use Rattle.windows.specs.States.{waits}
-use Rattle.windows.proofs.rows.waits.Statement.{statement}
-use Rattle.windows.proofs.rows.waits.Tie as tie
+use Rattle.window_state.specs.States.{waits}
+use Rattle.window_state.proofs.rows.waits.Statement.{statement}
+use Rattle.window_state.proofs.rows.waits.Tie as tie
 
 mul-at : tie.Need-mul-at
 mul-at c = search needs

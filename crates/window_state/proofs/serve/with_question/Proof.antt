@@ -1,7 +1,7 @@
 use borrow.Author.Needs.{needs}
-use Rattle.windows.specs.States.{waiting}
-use Rattle.windows.proofs.serve.with_question.Statement.{statement}
-use Rattle.windows.proofs.serve.with_question.Tie as tie
+use Rattle.window_state.specs.States.{waiting}
+use Rattle.window_state.proofs.serve.with_question.Statement.{statement}
+use Rattle.window_state.proofs.serve.with_question.Tie as tie
 
 element-copy-out-t7 : tie.Need-element-copy-out-t7
 element-copy-out-t7 c = search needs

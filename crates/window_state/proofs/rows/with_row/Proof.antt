@@ -3,9 +3,9 @@ use mathlib.Core.Path.{_≡_, _∙_}
 use native.Mathlib.Omega.{arith}
 use lib.ListN.{length, length-set}
 use lib.Seq.{paste, paste-zero}
-use Rattle.windows.proofs.Laws.{row-next, row-done}
-use Rattle.windows.proofs.rows.with_row.Statement.{statement}
-use Rattle.windows.proofs.rows.with_row.Tie as tie
+use Rattle.window_state.proofs.Laws.{row-next, row-done}
+use Rattle.window_state.proofs.rows.with_row.Statement.{statement}
+use Rattle.window_state.proofs.rows.with_row.Tie as tie
 
 abbrev Inv-loop : tie.InvT-loop
 Inv-loop window state₀ row at i₀ state i = (i ≤ 7) × (length state ≡ 57) × (state ≡ paste state₀ at row i)

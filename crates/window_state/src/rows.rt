@@ -1,7 +1,7 @@
 //! The state: a word for the window from which the next turn counts, then eight rows of seven words.
 ghost use mathlib.Core.Path.{_≡_};
 ghost use Prim.Native.Nat.{_<_};
-ghost use Rattle.windows.specs.States.{waits as waitsOf, served, withRow};
+ghost use Rattle.window_state.specs.States.{waits as waitsOf, served, withRow};
 
 /// A number of windows.
 pub struct WindowCount(pub usize);

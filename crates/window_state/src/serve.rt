@@ -2,7 +2,7 @@
 ghost use mathlib.Core.Path.{_≡_};
 ghost use Prim.Native.Nat.{_<_};
 ghost use Rattle.batch.specs.Questions.{questionOf};
-ghost use Rattle.windows.specs.States.{placeFault, withRow, waiting, askedBy, afterServing};
+ghost use Rattle.window_state.specs.States.{placeFault, withRow, waiting, askedBy, afterServing};
 use crate::rows::StateWords;
 use crate::rows::WindowCount;
 use crate::rows::waits;

@@ -1,10 +1,10 @@
 use Prim.Native.Nat.{_≤_, _<_}
 use mathlib.Core.Path.{_≡_, sym, _∙_}
 use native.Mathlib.Omega.{arith}
-use Rattle.windows.specs.States.{firstFrom, served}
-use Rattle.windows.proofs.Laws.{served-start, first-here, first-next, first-none}
-use Rattle.windows.proofs.rows.next_waiting.Statement.{statement}
-use Rattle.windows.proofs.rows.next_waiting.Tie as tie
+use Rattle.window_state.specs.States.{firstFrom, served}
+use Rattle.window_state.proofs.Laws.{served-start, first-here, first-next, first-none}
+use Rattle.window_state.proofs.rows.next_waiting.Statement.{statement}
+use Rattle.window_state.proofs.rows.next_waiting.Tie as tie
 
 abbrev Inv-loop : tie.InvT-loop
 Inv-loop state window₀ left₀ window left = (window < 8) × (left ≤ 8) × (served state ≡ firstFrom state window left)
