@@ -47,14 +47,6 @@ at-some s (suc n) c h e = let q : suc n - 1 ≡ n = omega arith in ap (λ (k : �
 pub at-home : (s : Snapshot) (item : Item) (c : ℕ) {h : ℕ} {b : Bool} → h ≡ homeOf s item → b ≡ isAt s h c → isAt s (homeOf s item) c ≡ b
 at-home s item c e f = sym (f ∙ ap (λ (h : ℕ). isAt s h c) e)
 
-pub langs-first : (b : Bool) → b ≡ true → 1 ∷ 2 ∷ 3 ∷ [] ≡ langs b
-unfolding langs
-langs-first b e = sym (ap langs e)
-
-pub langs-other : (b : Bool) → b ≡ false → 3 ∷ 1 ∷ 2 ∷ [] ≡ langs b
-unfolding langs
-langs-other b e = sym (ap langs e)
-
 pub module-ns : (m : ℕ) → nsOf (Mod m) ≤ 2
 unfolding nsOf
 module-ns m = omega arith

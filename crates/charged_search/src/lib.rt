@@ -1,6 +1,6 @@
 //! The charged search: a cycle of calls in which the length left falls.
 ghost use mathlib.Core.Path.{_≡_};
-ghost use mathlib.Core.List.{[], _∷_};
+ghost use mathlib.Core.List.{[]};
 ghost use Prim.Native.Nat.{_+_, _≤_, _<_, _^_};
 ghost use Rattle.snapshot.specs.Layouts.{snapOf};
 ghost use Rattle.snapshot.specs.Records.{importAt};
@@ -17,7 +17,6 @@ ghost use Rattle.charged_search.specs.Parts.{outOf, modules, bestPath, o
 use crate_graph::lang_of;
 use crate_graph::next_by_sysroot;
 use crate_graph::next_dependency;
-use find_path::Choice;
 use find_path::Drawn;
 use find_path::FindPathCtx;
 use find_path::Found;
@@ -35,6 +34,8 @@ use path_rules::choices::length_left;
 use path_rules::choices::nothing;
 use path_rules::context::charge;
 use path_rules::rules::module_rules;
+use search_parts::is_stable;
+use search_parts::langs_for;
 use snapshot::ids::Crate;
 use snapshot::ids::ModuleId;
 use snapshot::layout::Layout;
@@ -51,37 +52,6 @@ fn is_at(words: &[u32], area: &[u32], l: Layout, home: usize, c: Crate) -> bool
     }
     let k = krate(words, area, l, ModuleId(home - 1));
     k.0 == c.0
-}
-
-// Whether a choice ends the search of the sysroot.
-fn is_stable(c: Choice) -> bool
-    ensures { λ r. ⌜ r ≡ isStable c ⌝ }
-{
-    c.found & c.stable
-}
-
-// Three origins, in the order in which their crates are tried.
-struct Langs {
-    first: usize,
-    second: usize,
-    third: usize,
-}
-
-fn langs_for(nostd: bool) -> Langs
-    ensures { λ r. ⌜ r .first ∷ r .second ∷ r .third ∷ [] ≡ langs nostd ⌝ }
-{
-    if nostd {
-        return Langs {
-            first: 1,
-            second: 2,
-            third: 3,
-        };
-    }
-    Langs {
-        first: 3,
-        second: 1,
-        third: 2,
-    }
 }
 
 /// The search for a module, where externs count: the rules, else the charged search. Length 0 finds no module.

@@ -35,24 +35,9 @@ use Rattle.find_path.specs.Search.{bestLocal}
 use Rattle.find_path.proofs.Unfold.{EnumNoVariant, inner-more}
 use Rattle.find_path.proofs.Bounds.{Fits, either-fits, nothing-fits, scope-fits, prelude-fits, best-local-fits, best-fits, module-search-fits}
 use Rattle.charged_search.specs.Parts.{modules, bestPath}
-use Rattle.search.specs.Parts.{items, names, straight}
+use Rattle.search_parts.specs.Parts.{straight}
+use Rattle.search.specs.Parts.{items, names}
 use Rattle.charged_search.proofs.Parts.{found}
-
--- a module at once, or not
-pub straight-std : (b : Bool) (item : Item) → b ≡ true → Nothing ≡ straight b item
-unfolding straight
-straight-std true item e = refl
-straight-std false item e = absurd (false≢true e)
-
-pub straight-module : (b : Bool) {item : Item} {m : ℕ} → b ≡ false → item ≡ Mod m → At m ≡ straight b item
-unfolding straight
-straight-module true e h = absurd (false≢true (sym e))
-straight-module false e h = sym (ap (straight false) h)
-
-pub straight-other : (b : Bool) {item : Item} {n d : ℕ} → b ≡ false → item ≡ Def n d → Nothing ≡ straight b item
-unfolding straight
-straight-other true e h = absurd (false≢true (sym e))
-straight-other false e h = sym (ap (straight false) h)
 
 -- the first that is found, of two
 module _ (p q : Choice) where

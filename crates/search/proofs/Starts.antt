@@ -33,7 +33,8 @@ use Rattle.find_path.specs.Conditions.{Prepared, Searched}
 use Rattle.find_path.proofs.Tanks.{item-sum}
 use Rattle.find_path.proofs.Tables.{names-short, same-snap}
 use Rattle.charged_search.specs.Parts.{bestPath, Begun}
-use Rattle.search.specs.Parts.{items, names, straight}
+use Rattle.search_parts.specs.Parts.{straight}
+use Rattle.search.specs.Parts.{items, names}
 use Rattle.charged_search.proofs.Parts.{found}
 use Rattle.charged_search.proofs.Holding.{Offered}
 use Rattle.charged_search.proofs.Runs.{later}

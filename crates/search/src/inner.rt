@@ -14,7 +14,7 @@ ghost use Rattle.find_path.specs.Search.{searchItem};
 ghost use Rattle.find_path.specs.Report.{searched};
 ghost use Rattle.find_path.specs.Conditions.{Prepared, Asked, Searched};
 ghost use Rattle.find_path.specs.declared.Tank.{Tank};
-ghost use Rattle.search.specs.Parts.{names, straight};
+ghost use Rattle.search.specs.Parts.{names};
 use charged_search::calculate_best_path;
 use charged_search::find_path_for_module;
 use find_path::Choice;
@@ -37,6 +37,7 @@ use path_rules::choices::push;
 use path_rules::context::context;
 use path_rules::rules::prelude_rule;
 use path_rules::rules::scope_rule;
+use search_parts::straight_of;
 use snapshot::ids::DefinitionId;
 use snapshot::ids::ModuleId;
 use snapshot::ids::Name;
@@ -45,19 +46,6 @@ use snapshot::layout::Layout;
 use snapshot::record::definition_first;
 use snapshot::record::definition_kind;
 use snapshot::record::definition_second;
-
-// The module that the module search is asked for at once.
-fn straight_of(std: bool, item: Item) -> Entry
-    ensures { λ r. ⌜ r ≡ straight std item ⌝ }
-{
-    if std {
-        return Entry::Nothing;
-    }
-    match item {
-        Item::Mod(m) => Entry::At(m),
-        Item::Def(_, _) => Entry::Nothing,
-    }
-}
 
 // The item's name in scope, else in the prelude.
 fn named(words: &[u32], area: &[u32], l: Layout, x: FindPathCtx, item: Item) -> Choice

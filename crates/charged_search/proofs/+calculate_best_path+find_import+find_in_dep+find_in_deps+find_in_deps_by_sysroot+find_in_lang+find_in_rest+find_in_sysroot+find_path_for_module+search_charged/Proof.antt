@@ -66,8 +66,8 @@ use Rattle.path_rules.proofs.context.charge.Reads as charge-reads
 use Rattle.path_offers.proofs.offers.offer_import.Reads as offer-import-reads
 use Rattle.path_rules.proofs.rules.module_rules.Reads as module-rules-reads
 use Rattle.charged_search.proofs.is_at.Reads as is-at-reads
-use Rattle.charged_search.proofs.is_stable.Reads as is-stable-reads
-use Rattle.charged_search.proofs.langs_for.Reads as langs-for-reads
+use Rattle.search_parts.proofs.is_stable.Reads as is-stable-reads
+use Rattle.search_parts.proofs.langs_for.Reads as langs-for-reads
 use Rattle.snapshot.proofs.record.dependency_crate.Reads as dependency-crate-reads
 use Rattle.snapshot.proofs.record.import_container.Reads as import-container-reads
 use Rattle.charged_search.proofs.+calculate_best_path+find_import+find_in_dep+find_in_deps+find_in_deps_by_sysroot+find_in_lang+find_in_rest+find_in_sysroot+find_path_for_module+search_charged.{

@@ -28,7 +28,7 @@ use Rattle.hir_def.proofs.items.item_of.Reads as item-of-reads
 use Rattle.charged_search.proofs.calculate_best_path.Reads as calculate-best-path-reads
 use Rattle.charged_search.proofs.find_path_for_module.Reads as find-path-for-module-reads
 use Rattle.search.proofs.inner.named.Reads as named-reads
-use Rattle.search.proofs.inner.straight_of.Reads as straight-of-reads
+use Rattle.search_parts.proofs.straight_of.Reads as straight-of-reads
 use Rattle.search.proofs.inner.variant_of.Reads as variant-of-reads
 use Rattle.snapshot.proofs.record.definition_first.Reads as definition-first-reads
 use Rattle.snapshot.proofs.record.definition_second.Reads as definition-second-reads

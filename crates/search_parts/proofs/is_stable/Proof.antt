@@ -1,6 +1,6 @@
 use mathlib.Core.Path.{refl}
-use Rattle.charged_search.proofs.is_stable.Statement.{statement}
-use Rattle.charged_search.proofs.is_stable.Tie as tie
+use Rattle.search_parts.proofs.is_stable.Statement.{statement}
+use Rattle.search_parts.proofs.is_stable.Tie as tie
 
 returns : tie.Need-returns
 returns c = refl

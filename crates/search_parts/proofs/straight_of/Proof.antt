@@ -1,7 +1,7 @@
 use borrow.Author.Needs.{needs}
-use Rattle.search.proofs.Items.{straight-std, straight-module, straight-other}
-use Rattle.search.proofs.inner.straight_of.Statement.{statement}
-use Rattle.search.proofs.inner.straight_of.Tie as tie
+use Rattle.search_parts.proofs.Parts.{straight-std, straight-module, straight-other}
+use Rattle.search_parts.proofs.straight_of.Statement.{statement}
+use Rattle.search_parts.proofs.straight_of.Tie as tie
 
 returns : tie.Need-returns
 returns c = straight-std _ _ (c .if1 .taken)

@@ -1,6 +1,6 @@
-use Rattle.charged_search.proofs.Parts.{langs-first, langs-other}
-use Rattle.charged_search.proofs.langs_for.Statement.{statement}
-use Rattle.charged_search.proofs.langs_for.Tie as tie
+use Rattle.search_parts.proofs.Parts.{langs-first, langs-other}
+use Rattle.search_parts.proofs.langs_for.Statement.{statement}
+use Rattle.search_parts.proofs.langs_for.Tie as tie
 
 returns : tie.Need-returns
 returns c = langs-first (c .before .args .nostd) (c .if1 .taken)
