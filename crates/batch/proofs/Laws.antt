@@ -1,42 +1,24 @@
 -- Laws of questions and reports, one after the other.
-use Prim.Native.Nat.{ℕ, zero, suc, _+_, _-_, _*_, _/_, _%_, _≤_, _<_}
+use Prim.Native.Nat.{ℕ, zero, suc, _+_, _-_, _*_, _≤_, _<_}
 use mathlib.Core.Path.{_≡_, refl, sym, _∙_, ap, ap₂}
-use mathlib.Core.Bool.{Bool, true, false, _&&_, false≢true}
+use mathlib.Core.Bool.{Bool, true, false}
 use mathlib.Core.List.{List, [], _∷_, _++_, append-assoc, append-nil}
 use native.Mathlib.Omega.{arith}
 use native.Mathlib.Numerals.{add-one}
-use borrow.Author.Tests.{lt-ltb, le-ltb, lt-leb, le-leb, leb-true}
+use borrow.Author.Tests.{lt-ltb, le-ltb}
 use borrow.Rule.Slice.PartMut.{midOf, putMid, post-is}
-use lib.Dec.{eqb, leb}
 use lib.ListN.{length, take, drop, length-append, length-drop}
-use lib.Seq.{take-all, take-at, drop-at, drop-drop, drop-length}
+use lib.Seq.{take-at, drop-at, drop-drop, drop-length}
 use Rattle.find_path.specs.declared.Question.{Question}
 use Rattle.find_path.specs.declared.Report.{Report}
 use Rattle.find_path.specs.Report.{reportOf}
 use Rattle.reports.specs.Written.{reportWords, writtenTo, Written}
+use Rattle.questions.specs.Questions.{questionOf, questionsOf}
+use Rattle.questions.specs.Fits.{batchFits}
+use Rattle.questions.proofs.Laws.{mid-end}
 use Rattle.answer.specs.Answers.{zeros}
 use Rattle.answer.proofs.Areas.{area-small, area-large}
-use Rattle.batch.specs.Questions.{questionOf, questionsOf}
-use Rattle.batch.specs.Batch.{batchFits, batchFault, reportsOf, reportsTo, reportsAfter, Batch}
-
--- what fits
-
-pub fits-not : (n m : ℕ) → 64 < n / 6 → false ≡ batchFits n m
-unfolding batchFits
-fits-not n m h = rw (batchFits, lt-leb _ _ h)
-
-pub fits-by : (n m : ℕ) → n / 6 ≤ 64 → (eqb (n % 6) 0 && leb (22 * (n / 6)) m) ≡ batchFits n m
-unfolding batchFits
-fits-by n m h = rw (batchFits, le-leb _ _ h)
-
-and-true : (a b c : Bool) → (a && (b && c)) ≡ true → c ≡ true
-and-true true true c e = e
-and-true true false c e = absurd (false≢true e)
-and-true false b c e = absurd (false≢true e)
-
-pub fits-room : (n m : ℕ) → batchFits n m ≡ true → 22 * (n / 6) ≤ m
-unfolding batchFits
-fits-room n m e = leb-true _ _ (and-true (leb (n / 6) 64) (eqb (n % 6) 0) (leb (22 * (n / 6)) m) e)
+use Rattle.batch.specs.Batch.{batchFault, reportsOf, reportsTo, reportsAfter, Batch}
 
 -- the whole call
 
@@ -72,9 +54,6 @@ reports-next W (p ∷ qs) q =
     ∙ sym (append-assoc (reportWords (reportOf W 16384 p)) (reportsOf W qs) (reportWords (reportOf W 16384 q)))
 
 -- a part that goes on to the end
-
-pub mid-end : (a : ℕ) (l : List ℕ) → midOf a (length l - a) l ≡ drop a l
-mid-end a l = take-all (length l - a) (drop a l) (omega (arith, length-drop a l))
 
 put-end : (a : ℕ) (l m : List ℕ) → a ≤ length l → putMid a (length l - a) l m ≡ take a l ++ m
 put-end a l m h =

@@ -9,8 +9,9 @@ use Rattle.snapshot.specs.Lists.{all, eqList}
 use Rattle.accept.specs.Worked.{worked}
 use Rattle.find_path.proofs.Worked.{passes}
 use Rattle.reports.specs.Written.{reportWords}
-use Rattle.batch.specs.Questions.{questionsOf}
-use Rattle.batch.specs.Batch.{batchFits, batchFault, reportsOf, reportsAfter}
+use Rattle.questions.specs.Questions.{questionsOf}
+use Rattle.questions.specs.Fits.{batchFits}
+use Rattle.batch.specs.Batch.{batchFault, reportsOf, reportsAfter}
 
 -- the words of the work area, of the questions and of the reports before the call; the number, and the reports after it
 pub record Row : Type 0 where

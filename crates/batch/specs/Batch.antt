@@ -1,30 +1,17 @@
 -- Up to 64 questions with one snapshot.
-use Prim.Native.Nat.{ℕ, zero, suc, _*_, _/_, _%_}
+use Prim.Native.Nat.{ℕ, zero, suc, _*_, _/_}
 use mathlib.Core.Path.{_≡_}
 use mathlib.Core.List.{List, [], _∷_, _++_}
-use mathlib.Core.Bool.{Bool, true, false, _&&_}
-use lib.Dec.{eqb, ltb, leb}
+use mathlib.Core.Bool.{true, false}
+use lib.Dec.{ltb}
 use lib.ListN.{length, drop}
 use Rattle.snapshot.specs.Limits.{areaLimit}
 use Rattle.find_path.specs.declared.Question.{Question}
 use Rattle.find_path.specs.Report.{reportOf}
-use Rattle.answer.specs.Answers.{areaAfter}
 use Rattle.reports.specs.Written.{reportWords}
-use Rattle.batch.specs.Questions.{questionSize, questionsOf}
-
--- questions of a call, at most
-abbrev pub questionLimit : ℕ
-questionLimit = 64
-
--- words of a report
-abbrev pub reportSize : ℕ
-reportSize = 22
-
--- so many words are at most 64 whole questions, and there are words enough for their reports
-unfoldable pub batchFits : ℕ → ℕ → Bool
-batchFits questions reports =
-    leb (questions / questionSize) questionLimit
-    && (eqb (questions % questionSize) 0 && leb (reportSize * (questions / questionSize)) reports)
+use Rattle.questions.specs.Questions.{questionSize, questionsOf}
+use Rattle.questions.specs.Fits.{reportSize, batchFits}
+use Rattle.answer.specs.Answers.{areaAfter}
 
 -- 20 a small work area; 44 too many questions, a part of one, or too few words for the reports; 0 for none
 unfoldable pub batchFault : ℕ → ℕ → ℕ → ℕ

@@ -1,8 +1,8 @@
 //! A file's worth of questions.
 ghost use Rattle.batch.specs.Batch.{Batch};
 use crate::each::answer_each;
-use crate::fits::fits;
 use answer::area::clear;
+use questions::fits::fits;
 use snapshot::ids::WordCount;
 
 /// Answers up to 64 questions on the words of a snapshot, which are checked once, and writes their reports one after the other:

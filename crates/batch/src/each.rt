@@ -5,12 +5,12 @@ ghost use lib.ListN.{length};
 ghost use Rattle.accept.specs.Post.{Judged};
 ghost use Rattle.answer.specs.Answers.{zeros};
 ghost use Rattle.batch.specs.Batch.{reportsTo};
-use crate::question::QuestionWords;
-use crate::question::question_of;
 use accept::check::Checked;
 use accept::check::check;
 use answer::area::clear;
 use checked::checked::report_on;
+use questions::question::QuestionWords;
+use questions::question::question_of;
 use reports::report::ReportWords;
 use reports::report::write_report;
 

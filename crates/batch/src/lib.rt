@@ -1,5 +1,3 @@
-//! Questions that come in as words: one, or a file's worth with one snapshot.
+//! A file's worth of questions, with one snapshot.
 pub mod batch;
 mod each;
-mod fits;
-pub mod question;

@@ -1,11 +1,11 @@
 //! The functions of the static library, for programs in Rust and C. None keeps a state but the one that the caller lends, and none asks
 //! anything of its caller.
 ghost use Rattle.batch.specs.Batch.{Batch};
-ghost use Rattle.batch.specs.Questions.{questionOf};
 ghost use Rattle.exports.specs.Answers.{Answered};
 ghost use Rattle.exports.specs.Questions.{Reported};
 ghost use Rattle.exports.specs.Texts.{nameText, Copied, Named};
 ghost use Rattle.exports.specs.Turns.{Served};
+ghost use Rattle.questions.specs.Questions.{questionOf};
 ghost use Rattle.windows.specs.Windows.{Placed};
 
 mod text;
@@ -17,7 +17,7 @@ use accept::check::check;
 use answer::answer::find_path;
 use answer::report::write_report;
 use batch::batch::find_paths;
-use batch::question::question_of;
+use questions::question::question_of;
 use snapshot::ids::Name;
 use snapshot::table::name_head;
 use snapshot::text::text_at;

@@ -11,8 +11,8 @@ use lib.Dec.{ltb}
 use lib.ListN.{length, getD, set, take, drop}
 use lib.Seq.{take-all, paste, paste-suc}
 use Rattle.find_path.specs.declared.Question.{Question}
-use Rattle.batch.specs.Questions.{questionOf}
-use Rattle.batch.proofs.Laws.{mid-end}
+use Rattle.questions.specs.Questions.{questionOf}
+use Rattle.questions.proofs.Laws.{mid-end}
 use Rattle.window_state.specs.States.{waits, askedBy, withRow, firstFrom, served, placeFault}
 
 -- the first window that waits

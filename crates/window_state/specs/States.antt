@@ -6,7 +6,7 @@ use mathlib.Core.List.{List, [], _∷_, _++_}
 use lib.Dec.{eqb, ltb}
 use lib.ListN.{getD, set, take, drop, replicate}
 use Rattle.find_path.specs.declared.Question.{Question}
-use Rattle.batch.specs.Questions.{questionOf}
+use Rattle.questions.specs.Questions.{questionOf}
 
 -- the words of a window
 unfoldable pub rowOf : List ℕ → ℕ → List ℕ

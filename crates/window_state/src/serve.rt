@@ -1,14 +1,14 @@
 //! Questions placed and served, in a state by value.
 ghost use mathlib.Core.Path.{_≡_};
 ghost use Prim.Native.Nat.{_<_};
-ghost use Rattle.batch.specs.Questions.{questionOf};
+ghost use Rattle.questions.specs.Questions.{questionOf};
 ghost use Rattle.window_state.specs.States.{placeFault, withRow, waiting, askedBy, afterServing};
 use crate::rows::StateWords;
 use crate::rows::WindowCount;
 use crate::rows::waits;
 use crate::rows::with_row;
-use batch::question::question_of;
 use find_path::Question;
+use questions::question::question_of;
 
 /// The number by which a question of a window is refused, 0 for none.
 pub fn place_fault(state: [u32; 57], window: usize) -> usize

@@ -1,5 +1,5 @@
 //! Eight windows and their turns. The caller lends the state; 57 zeros are the one in which no question waits.
-ghost use Rattle.batch.specs.Questions.{questionOf};
+ghost use Rattle.questions.specs.Questions.{questionOf};
 ghost use Rattle.windows.specs.Windows.{Placed, Turned};
 use crate::turns::Turn;
 use crate::turns::idle_turn;

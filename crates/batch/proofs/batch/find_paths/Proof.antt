@@ -5,8 +5,9 @@ use denote.Ref.{now}
 use borrow.Author.Tests.{not-true, not-false}
 use lib.ListN.{length}
 use lib.Seq.{length-take-le}
+use Rattle.questions.proofs.Laws.{fits-room}
 use Rattle.answer.specs.Answers.{zeros}
-use Rattle.batch.proofs.Laws.{fits-room, batch-small, batch-not, batch-all}
+use Rattle.batch.proofs.Laws.{batch-small, batch-not, batch-all}
 use Rattle.batch.proofs.batch.find_paths.Statement.{statement}
 use Rattle.batch.proofs.batch.find_paths.Tie as tie
 

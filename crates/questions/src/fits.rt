@@ -1,6 +1,6 @@
 //! How many questions go in at once.
 ghost use mathlib.Core.Path.{_≡_};
-ghost use Rattle.batch.specs.Batch.{batchFits};
+ghost use Rattle.questions.specs.Fits.{batchFits};
 use crate::question::QuestionWords;
 use reports::report::ReportWords;
 

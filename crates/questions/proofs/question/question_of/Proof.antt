@@ -1,6 +1,6 @@
 use borrow.Author.Needs.{needs}
-use Rattle.batch.proofs.question.question_of.Statement.{statement}
-use Rattle.batch.proofs.question.question_of.Tie as tie
+use Rattle.questions.proofs.question.question_of.Statement.{statement}
+use Rattle.questions.proofs.question.question_of.Tie as tie
 
 word-requires : tie.Need-word-requires
 word-requires c κs = search needs

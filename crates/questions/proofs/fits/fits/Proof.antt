@@ -1,7 +1,7 @@
 use borrow.Author.Needs.{needs}
-use Rattle.batch.proofs.Laws.{fits-not, fits-by}
-use Rattle.batch.proofs.fits.fits.Statement.{statement}
-use Rattle.batch.proofs.fits.fits.Tie as tie
+use Rattle.questions.proofs.Laws.{fits-not, fits-by}
+use Rattle.questions.proofs.fits.fits.Statement.{statement}
+use Rattle.questions.proofs.fits.fits.Tie as tie
 
 returns : tie.Need-returns
 returns c = fits-not _ _ (c .if1 .taken)

@@ -1,6 +1,6 @@
 //! A question that comes in as words.
 ghost use mathlib.Core.Path.{_≡_};
-ghost use Rattle.batch.specs.Questions.{questionOf};
+ghost use Rattle.questions.specs.Questions.{questionOf};
 use find_path::Query;
 use find_path::Question;
 use snapshot::words::word;
