@@ -9,7 +9,7 @@ use borrow.Author.Fill.{fill-more}
 use lib.ListN.{length, set, drop, replicate, drop-of-length-le}
 use Rattle.find_path.specs.declared.Question.{Question}
 use Rattle.find_path.specs.declared.Report.{Report}
-use Rattle.find_path.specs.Report.{refused, reportOf}
+use Rattle.find_path.specs.Report.{callFault, refused, reportOf}
 use Rattle.checked.proofs.Laws.{small, report-fault, same-report}
 use Rattle.answer.specs.Answers.{zeros, areaAfter, Answers}
 
@@ -48,3 +48,7 @@ module _ (W A : List ℕ) (q : Question) (r : Report) where
         report = e ∙ same-report W 16384 (length A) q (omega arith) h;
         area = area-large A B h z;
       }
+
+  pub answers-fault : (B : List ℕ) → 16384 ≤ length A → B ≡ zeros 16384 → (n : ℕ) → n ≡ callFault (length A) (q .query) (q .fuel) → (n ≡ 0 → ⊥)
+      → r ≡ refused n → Answers W A q (B ++ drop 16384 A) r
+  answers-fault B h z n e k p = record { report = report-fault W (length A) q r n e k p; area = area-large A B h z }

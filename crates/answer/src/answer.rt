@@ -12,26 +12,14 @@ use find_path::Report;
 use reports::report::refused;
 use snapshot::ids::WordCount;
 
-// The report, in a work area that serves. The question's own faults come before those of the words.
-fn report_within(words: &[u32], area: &mut [u32], question: Question) -> Report
-    requires { ⌜ length (now area) ≡ 16384 ⌝ }
-    ensures { λ r. ⌜ r ≡ reportOf (now (words .entry)) 16384 question ⌝ }
-{
-    let n = call_fault(area.len(), question.query, question.fuel);
-    if n != 0 {
-        return refused(n);
-    }
-    let c = check(words, area);
-    report_on(words, area, c, question)
-}
-
-// The same, with the work area cleared.
+// The report, in a work area that serves and is cleared.
 fn find_path_within(words: &[u32], area: &mut [u32], question: Question) -> Report
     requires { ⌜ length (now area) ≡ 16384 ⌝ }
     ensures { λ r. ⌜ r ≡ reportOf (now (words .entry)) 16384 question ⌝ }
     ensures { λ _. ⌜ now (area .exit) ≡ zeros 16384 ⌝ }
 {
-    let r = report_within(words, area, question);
+    let c = check(words, area);
+    let r = report_on(words, area, c, question);
     clear(area);
     r
 }
@@ -43,6 +31,11 @@ pub fn find_path(words: &[u32], area: &mut [u32], question: Question) -> Report
 {
     if area.len() < WordCount::AREA {
         return refused(20);
+    }
+    let n = call_fault(area.len(), question.query, question.fuel);
+    if n != 0 {
+        clear(&mut area[..16384]);
+        return refused(n);
     }
     find_path_within(words, &mut area[..16384], question)
 }

@@ -24,6 +24,7 @@ use Rattle.find_path.specs.declared.Query.{Query}
 use Rattle.find_path.specs.declared.Question.{Question}
 use Rattle.find_path.specs.declared.Report.{Report}
 use Rattle.find_path.specs.Report.{callFault, questionFault, refused, reported, searched, answerUnless, reportBy, reportUnless, reportOf}
+use Rattle.checked.specs.Order.{earlierOf, numberOf}
 
 -- faults of a call
 
@@ -179,6 +180,43 @@ module _ (W : List ℕ) (area : ℕ) (q : Question) (r : Report) where
       → r ≡ reportOf W area q
   unfolding reportOf reportUnless
   report-verdict n e z p = p ∙ ap (reportUnless W (q .query) (q .fuel)) (sym z ∙ e)
+
+-- the order of the numbers
+
+pub earlier-first : (a b : ℕ) → (a ≡ 0 → ⊥) → a ≡ earlierOf a b
+unfolding earlierOf
+earlier-first zero b h = absurd (h refl)
+earlier-first (suc a) b h = refl
+
+pub earlier-second : (a b : ℕ) → a ≡ 0 → b ≡ earlierOf a b
+unfolding earlierOf
+earlier-second a b e = ap (λ x. earlierOf x b) (sym e)
+
+pub none-earlier : (a b : ℕ) → 0 ≡ earlierOf a b → 0 ≡ a
+unfolding earlierOf
+none-earlier zero b e = refl
+none-earlier (suc a) b e = e
+
+pub number-refused : (c : Checked) (n place : ℕ) → c ≡ Refused n place → n ≡ numberOf c
+unfolding numberOf
+number-refused c n place e = ap numberOf (sym e)
+
+pub number-accepted : (c : Checked) (l : Layout) → c ≡ Accepted l → 0 ≡ numberOf c
+unfolding numberOf
+number-accepted c l e = ap numberOf (sym e)
+
+module _ (W A : List ℕ) (q : Question) (r : Report) (n : ℕ) (h : n ≡ 0 → ⊥) (p : r ≡ refused n) where
+  by-words : (c : Checked) → Judged W A c → n ≡ numberOf c → r ≡ reportBy (q .query) (q .fuel) (verdict W)
+  unfolding numberOf
+  by-words (Refused m place) j e = by-refusal W (q .query) (q .fuel) r m place (j .same) (p ∙ ap refused e)
+  by-words (Accepted l) j e = absurd (h e)
+
+  -- a number of the call comes first, then one of the words
+  pub report-earlier : (c : Checked) → Judged W A c → (f m : ℕ) → f ≡ callFault 16384 (q .query) (q .fuel) → m ≡ numberOf c → n ≡ earlierOf f m
+      → r ≡ reportOf W 16384 q
+  unfolding earlierOf
+  report-earlier c j zero m e k u = report-verdict W 16384 q r 0 e refl (by-words c j (u ∙ k))
+  report-earlier c j (suc f) m e k u = report-fault W 16384 q r n (u ∙ e) h p
 
 pub same-report : (W : List ℕ) (a b : ℕ) (q : Question) → 16384 ≤ a → 16384 ≤ b → reportOf W a q ≡ reportOf W b q
 unfolding reportOf

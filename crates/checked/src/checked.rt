@@ -8,6 +8,8 @@ ghost use Rattle.accept.specs.Verdict.{verdict};
 ghost use Rattle.find_path.specs.Report.{questionFault, answerUnless, reportBy};
 ghost use Rattle.checked.specs.Questioned.{Questioned};
 use crate::faults::call_fault;
+use crate::faults::earlier;
+use crate::faults::number_of;
 use crate::faults::question_fault;
 use accept::check::Checked;
 use find_path::Query;
@@ -48,7 +50,9 @@ pub fn report_on(words: &[u32], area: &mut [u32], c: Checked, question: Question
     ensures { λ r. ⌜ Questioned (now (words .entry)) question c (now (area .exit)) r ⌝ }
 {
     let q = question.query;
-    let n = call_fault(area.len(), q, question.fuel);
+    let call = call_fault(area.len(), q, question.fuel);
+    let number = number_of(c);
+    let n = earlier(call, number);
     if n != 0 {
         return refused(n);
     }

@@ -4,6 +4,8 @@ ghost use mathlib.Core.List.{List};
 ghost use Prim.Native.Nat.{ℕ, _^_, _<_};
 ghost use Rattle.snapshot.specs.Layouts.{wordCount, snapOf};
 ghost use Rattle.find_path.specs.Report.{callFault, questionFault};
+ghost use Rattle.checked.specs.Order.{earlierOf, numberOf};
+use accept::check::Checked;
 use find_path::Query;
 use hir_def::items::DefinitionKind;
 use hir_def::items::Namespace;
@@ -34,13 +36,34 @@ pub fn question_fault(words: &[u32], l: Layout, q: Query) -> usize
     requires { ⌜ wordCount l < 2 ^ 32 ⌝ }
     ensures { λ r. ⌜ ((A : List ℕ) → r ≡ questionFault (snapOf (now (words .entry)) A l) q) ⌝ }
 {
-    let known = (q.definition < l.definitions) & (q.from < l.modules);
-    if !known {
+    let unknown = !((q.definition < l.definitions) & (q.from < l.modules));
+    let kind = kind_of(words, l, DefinitionId(q.definition));
+    let misfit = (q.ns == Namespace::MACROS) & (kind != DefinitionKind::MACRO);
+    if unknown {
         return 23;
     }
-    let kind = kind_of(words, l, DefinitionId(q.definition));
-    if (q.ns == Namespace::MACROS) & (kind != DefinitionKind::MACRO) {
+    if misfit {
         return 24;
     }
     0
+}
+
+/// The number by which words were refused, 0 for accepted ones.
+pub fn number_of(c: Checked) -> usize
+    ensures { λ r. ⌜ r ≡ numberOf c ⌝ }
+{
+    match c {
+        Checked::Refused(n, _) => n as usize,
+        Checked::Accepted(_) => 0,
+    }
+}
+
+/// The first of two numbers that is not 0.
+pub fn earlier(first: usize, second: usize) -> usize
+    ensures { λ r. ⌜ r ≡ earlierOf first second ⌝ }
+{
+    if first != 0 {
+        return first;
+    }
+    second
 }

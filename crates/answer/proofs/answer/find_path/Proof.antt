@@ -1,8 +1,10 @@
 use borrow.Author.Needs.{needs}
-use mathlib.Core.Path.{sym}
+use mathlib.Core.Path.{sym, ap, _∙_}
+use native.Mathlib.Omega.{arith}
 use denote.Ref.{now}
 use lib.Seq.{length-take-le}
-use Rattle.answer.proofs.Areas.{answers-small, answers-large}
+use Rattle.answer.specs.Answers.{zeros}
+use Rattle.answer.proofs.Areas.{answers-small, answers-fault, answers-large}
 use Rattle.answer.proofs.answer.find_path.Statement.{statement}
 use Rattle.answer.proofs.answer.find_path.Tie as tie
 
@@ -14,23 +16,57 @@ returns c =
     let s = c .before .before .before .before .args in
     answers-small (now (s .words)) (now (s .area)) (s .question) _ (c .before .if1 .taken) (c .refused .ensures)
 
-slice-relend-prefix-find-path-within : tie.Need-slice-relend-prefix-find-path-within
-slice-relend-prefix-find-path-within c = search needs
+call-fault-requires : tie.Need-call-fault-requires
+call-fault-requires c κs = search needs
 
-slice-aggregate-find-path-within : tie.Need-slice-aggregate-find-path-within
-slice-aggregate-find-path-within c = sym (length-take-le 16384 (now (c .before .before .before .before .args .area)) (c .before .if1 .left))
+slice-relend-prefix-clear : tie.Need-slice-relend-prefix-clear
+slice-relend-prefix-clear c = search needs
 
-find-path-within-requires : tie.Need-find-path-within-requires
-find-path-within-requires c κs = length-take-le 16384 (now (c .before .before .before .before .args .area)) (c .before .if1 .left)
+slice-aggregate-clear : tie.Need-slice-aggregate-clear
+slice-aggregate-clear c =
+    let e = c .before .before .before in
+    sym (length-take-le _ (now (e .before .before .before .args .area)) (omega (arith, e .if1 .left)))
+
+clear-requires : tie.Need-clear-requires
+clear-requires c κs = search needs
+
+refused-requires-2 : tie.Need-refused-requires-2
+refused-requires-2 c κs = search needs
 
 same-length : tie.Need-same-length
 same-length c = search needs
 
 returns-2 : tie.Need-returns-2
 returns-2 c =
-    let s = c .before .before .before .before .before .before .before .args in
-    let f = c .before .before .find-path-within in
-    answers-large (now (s .words)) (now (s .area)) (s .question) _ (f .last .1 .0) (c .before .before .before .before .if1 .left) (f .ensures .0) (f .ensures .1)
+    let k = c .before .before .before in
+    let t = k .before .before in
+    let e = t .before .before in
+    let s = e .before .before .before .args in
+    let l = length-take-le 16384 (now (s .area)) (e .if1 .left) in
+    answers-fault (now (s .words)) (now (s .area)) (s .question) _ (k .clear .last .0) (e .if1 .left) (k .clear .ensures ∙ ap zeros l) _ (t .before .call-fault .ensures) (t .if2 .taken) (c .refused2 .ensures)
+
+slice-relend-prefix-find-path-within : tie.Need-slice-relend-prefix-find-path-within
+slice-relend-prefix-find-path-within c = search needs
+
+slice-aggregate-find-path-within : tie.Need-slice-aggregate-find-path-within
+slice-aggregate-find-path-within c =
+    let e = c .before .before .before in
+    sym (length-take-le _ (now (e .before .before .before .args .area)) (omega (arith, e .if1 .left)))
+
+find-path-within-requires : tie.Need-find-path-within-requires
+find-path-within-requires c κs =
+    let e = c .before .before .before in
+    length-take-le 16384 (now (e .before .before .before .args .area)) (e .if1 .left)
+
+same-length-2 : tie.Need-same-length-2
+same-length-2 c = search needs
+
+returns-3 : tie.Need-returns-3
+returns-3 c =
+    let f = c .before .before in
+    let e = f .before .before .before .before in
+    let s = e .before .before .before .args in
+    answers-large (now (s .words)) (now (s .area)) (s .question) _ (f .find-path-within .last .1 .0) (e .if1 .left) (f .find-path-within .ensures .0) (f .find-path-within .ensures .1)
 
 pub find-path-spec : {M : Type 1} → statement M
 find-path-spec =
@@ -38,8 +74,15 @@ find-path-spec =
     (tie.spec
     refused-requires
     returns
+    call-fault-requires
+    slice-relend-prefix-clear
+    slice-aggregate-clear
+    clear-requires
+    refused-requires-2
+    same-length
+    returns-2
     slice-relend-prefix-find-path-within
     slice-aggregate-find-path-within
     find-path-within-requires
-    same-length
-    returns-2)
+    same-length-2
+    returns-3)
