@@ -63,7 +63,8 @@ enum kelumavor_question {
 
 /* A report: outcome (0 found, 1 none, 2 refused), number of the refusal; path kind (0 plain, 1 self, 2 super, 3 crate, 4 a
  * leading ::), sixteen names and how many of them are the path's; charges; 1 where the fuel ran out. Only where that is 0 does
- * none say that there is no path. */
+ * none say that there is no path. Of the first search that found no fuel: the length left there, and the module that it looked for,
+ * +1, or 0 where it was the question's own item or its enum; both are 0 where the fuel did not run out. */
 enum kelumavor_report {
     KELUMAVOR_OUTCOME,
     KELUMAVOR_NUMBER,
@@ -72,6 +73,8 @@ enum kelumavor_report {
     KELUMAVOR_COUNT = KELUMAVOR_PATH + 16,
     KELUMAVOR_CHARGES,
     KELUMAVOR_EMPTY,
+    KELUMAVOR_EMPTY_LEFT,
+    KELUMAVOR_EMPTY_MODULE,
     KELUMAVOR_REPORT /* how many */
 };
 

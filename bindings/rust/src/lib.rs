@@ -48,7 +48,7 @@ pub use ids::{CrateId, DefinitionId, MapId, ModuleId, NameId, Namespace};
 pub use path::{Names, Path, PathKind};
 pub use question::{Options, Prefix, Question};
 pub use refusal::{Refusal, RefusalKind};
-pub use report::{Outcome, Report};
+pub use report::{FirstEmpty, Outcome, Report};
 pub use snapshot::{Counts, Snapshot, WorkArea};
 pub use text::Text;
 pub use windows::Windows;

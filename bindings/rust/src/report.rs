@@ -1,6 +1,7 @@
 //! The answer to a question.
 use std::fmt;
 
+use crate::ids::ModuleId;
 use crate::path::Path;
 use crate::refusal::Refusal;
 use crate::snapshot::Snapshot;
@@ -20,12 +21,21 @@ pub enum Outcome<'s> {
     Refused(Refusal),
 }
 
-/// The answer to a question: its outcome, and the charges that the search made.
+/// The first search that found the tank empty.
+#[derive(Clone, Copy, Debug, PartialEq, Eq)]
+pub struct FirstEmpty {
+    /// The length left there.
+    pub length_left: u32,
+    /// The module that it looked for; none where it was the question's own item, at any depth, or its enum.
+    pub module: Option<ModuleId>,
+}
+
+/// The answer to a question: its outcome, the charges that the search made, and where its tank was first found empty.
 ///
 /// It prints as the line of the path printer:
 ///
 /// ```
-/// use kelumavor::{DefinitionId, ModuleId, Namespace, Outcome, Question, Snapshot};
+/// use kelumavor::{DefinitionId, FirstEmpty, ModuleId, Namespace, Outcome, Question, Snapshot};
 ///
 /// // The worked snapshot: a crate with a module `a` that holds a function `f`.
 /// let words = [
@@ -44,6 +54,7 @@ pub enum Outcome<'s> {
 /// // Without fuel nothing is known, and the outcome says so.
 /// let report = snapshot.find_path(&question.fuel(0));
 /// assert!(matches!(report.outcome, Outcome::TankEmpty(None)));
+/// assert_eq!(report.first_empty, Some(FirstEmpty { length_left: 15, module: None }));
 /// # Ok::<(), kelumavor::Refusal>(())
 /// ```
 #[derive(Clone, Debug)]
@@ -51,11 +62,13 @@ pub struct Report<'s> {
     pub outcome: Outcome<'s>,
     /// Charges that the search made; 0 where the question was refused.
     pub charges: u32,
+    /// There exactly where the outcome is [`Outcome::TankEmpty`].
+    pub first_empty: Option<FirstEmpty>,
 }
 
 impl<'s> Report<'s> {
     pub(crate) fn new(snapshot: &'s Snapshot<'s>, words: [u32; sys::REPORT]) -> Self {
-        let [outcome, number, kind, names @ .., count, charges, empty] = words;
+        let [outcome, number, kind, names @ .., count, charges, empty, left, sought] = words;
         let path = || Path::new(snapshot, kind, names, count);
         let outcome = match (outcome, empty) {
             (0, 0) => Outcome::Found(path()),
@@ -64,7 +77,9 @@ impl<'s> Report<'s> {
             (1, _) => Outcome::TankEmpty(None),
             _ => Outcome::Refused(Refusal::new(number, None)),
         };
-        Report { outcome, charges }
+        let module = sought.checked_sub(1).map(ModuleId);
+        let first_empty = (empty != 0).then_some(FirstEmpty { length_left: left, module });
+        Report { outcome, charges, first_empty }
     }
 
     /// The path of a search that went through, or the one found so far where the fuel ran out.

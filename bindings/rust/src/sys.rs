@@ -8,7 +8,7 @@ pub const CHECKED: usize = 13;
 pub const QUESTION: usize = 6;
 
 /// Words of a report.
-pub const REPORT: usize = 22;
+pub const REPORT: usize = 24;
 
 /// Questions of a call, at most.
 pub const QUESTIONS: usize = 64;

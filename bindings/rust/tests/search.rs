@@ -6,7 +6,7 @@ use std::process::{Command, Stdio};
 
 use common::{WORKED, random, repository};
 use kelumavor::{
-    DefinitionId, ModuleId, NameId, Namespace, Options, Outcome, PathKind, Prefix, Question, RefusalKind, Report,
+    DefinitionId, FirstEmpty, ModuleId, NameId, Namespace, Options, Outcome, PathKind, Prefix, Question, RefusalKind, Report,
     Snapshot, WorkArea,
 };
 
@@ -50,6 +50,9 @@ fn outcomes_are_told_apart() {
     assert!(matches!(ask(1, 0, 9).outcome, Outcome::NoPath));
     assert!(matches!(ask(0, 2, 9).outcome, Outcome::Refused(refusal) if refusal.kind() == RefusalKind::NoMacro));
     assert_eq!(ask(1, 1, 9).charges, 1);
+    assert_eq!(ask(1, 1, 9).first_empty, None);
+    assert_eq!(ask(1, 1, 0).first_empty, Some(FirstEmpty { length_left: 15, module: None }));
+    assert_eq!(ask(0, 2, 9).first_empty, None);
 }
 
 fn random_question(random: &mut random::Random, snapshot: &random::Snapshot) -> Question {

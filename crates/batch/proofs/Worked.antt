@@ -32,9 +32,9 @@ passesAll table =
 abbrev asked : List ℕ
 asked = 1 ∷ 1 ∷ 0 ∷ 1 ∷ 0 ∷ 1 ∷ 1 ∷ 1 ∷ 0 ∷ 1 ∷ 0 ∷ 10001 ∷ 1 ∷ 1 ∷ 0 ∷ 1 ∷ 0 ∷ 0 ∷ []
 
--- `found a::f 1 0`, `refused 21 0 0`, `none - 0 1`
+-- `found a::f 1 0`, `refused 21 0 0`, `none - 0 1` with 15 left
 abbrev told : List ℕ
-told = (0 ∷ 0 ∷ 0 ∷ 0 ∷ 1 ∷ replicate 14 0 ++ (2 ∷ 1 ∷ 0 ∷ [])) ++ ((2 ∷ 21 ∷ replicate 20 0) ++ (1 ∷ replicate 20 0 ++ (1 ∷ [])))
+told = (0 ∷ 0 ∷ 0 ∷ 0 ∷ 1 ∷ replicate 14 0 ++ (2 ∷ 1 ∷ 0 ∷ 0 ∷ 0 ∷ [])) ++ ((2 ∷ 21 ∷ replicate 22 0) ++ (1 ∷ replicate 20 0 ++ (1 ∷ 15 ∷ 0 ∷ [])))
 
 abbrev row : ℕ → List ℕ → ℕ → ℕ → List ℕ → Row
 row a q n r l = record { area = a; questions = q; old = replicate n 7; number = r; new = l }
@@ -42,13 +42,13 @@ row a q n r l = record { area = a; questions = q; old = replicate n 7; number = 
 pub cases : List Row
 cases =
     -- the words past the reports stay
-    row 16384 asked 68 0 (told ++ (7 ∷ 7 ∷ []))
+    row 16384 asked 74 0 (told ++ (7 ∷ 7 ∷ []))
     ∷ row 16384 [] 1 0 (7 ∷ [])
-    ∷ row 16383 asked 66 20 (replicate 66 7)
-    ∷ row 16384 asked 65 44 (replicate 65 7)
-    ∷ row 16384 (7 ∷ asked) 68 44 (replicate 68 7)
+    ∷ row 16383 asked 72 20 (replicate 72 7)
+    ∷ row 16384 asked 71 44 (replicate 71 7)
+    ∷ row 16384 (7 ∷ asked) 74 44 (replicate 74 7)
     -- 65 questions; 20 comes before 44
-    ∷ row 16384 (replicate 390 0) 1430 44 (replicate 1430 7)
+    ∷ row 16384 (replicate 390 0) 1560 44 (replicate 1560 7)
     ∷ row 16383 (replicate 390 0) 0 20 []
     ∷ []
 

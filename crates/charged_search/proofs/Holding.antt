@@ -14,6 +14,7 @@ use Rattle.hir_def.specs.Entries.{Known}
 use Rattle.hir_def.proofs.Fits.{home-fits}
 use Rattle.hir_def.specs.ImportMap.{importInfoFor, isHidden, isUnstable}
 use Rattle.hir_def.specs.declared.Item.{Item}
+use Rattle.hir_def.specs.declared.Item.the-variants.{Mod, Def}
 use Rattle.find_path.specs.declared.Choice.{Choice}
 use Rattle.find_path.specs.declared.Tank.{Tank}
 use Rattle.find_path.specs.declared.Drawn.{Drawn}
@@ -21,6 +22,7 @@ use Rattle.find_path.specs.declared.Drawn.the-variants.{Go}
 use Rattle.find_path.specs.declared.Found.{Found}
 use Rattle.find_path.specs.declared.FindPathCtx.{FindPathCtx}
 use Rattle.find_path.specs.Choices.{nothing, extended, push, unstably, better, trySelect, lengthLeft}
+use Rattle.find_path.specs.Rules.{moduleIn}
 use Rattle.find_path.specs.Local.{offer}
 use Rattle.find_path.specs.Meters.{go, draw, fromTank}
 use Rattle.find_path.specs.Conditions.{chargedBy}
@@ -99,19 +101,26 @@ offered W A l x left n m t r a h k e =
     record { few = omega arith; text = omega arith }
 
 -- a charge keeps what the tank holds and has given, taken together
-draw-sum : (f n : ℕ) (b : Bool) (u : Tank) → go u ≡ draw f n b → u .fuel + u .spent ≡ f + n
+draw-sum : (left sought : ℕ) (t : Tank) (f : ℕ) (u : Tank) → go u ≡ draw left sought t f → u .fuel + u .spent ≡ f + t .spent
 unfolding draw
-draw-sum zero n b u e = let z : _≡_ {A = ℕ} 0 1 = cc in absurd (omega arith)
-draw-sum (suc f) n b u e =
-    let k : u ≡ record { fuel = f; spent = n + 1; empty = b } = cc in
+draw-sum left sought t zero u e = let z : _≡_ {A = ℕ} 0 1 = cc in absurd (omega arith)
+draw-sum left sought t (suc f) u e =
+    let k : u ≡ record { fuel = f; spent = t .spent + 1; empty = t .empty; left = t .left; sought = t .sought } = cc in
     let p = ap (λ (y : Tank). y .fuel + y .spent) k in
     omega (arith, p)
 
-pub charge-sum : (t : Tank) {d : Drawn} {u : Tank} → chargedBy d ≡ fromTank t → d ≡ Go u → t .fuel + t .spent < 2 ^ 32 → u .fuel + u .spent < 2 ^ 32
+pub charge-sum : (left sought : ℕ) (t : Tank) {d : Drawn} {u : Tank} → chargedBy d ≡ fromTank left sought t → d ≡ Go u → t .fuel + t .spent < 2 ^ 32
+    → u .fuel + u .spent < 2 ^ 32
 unfolding chargedBy fromTank
-charge-sum t {d} {u} e h k =
-    let q = draw-sum (t .fuel) (t .spent) (t .empty) u (sym (ap chargedBy h) ∙ e) in
+charge-sum left sought t {d} {u} e h k =
+    let q = draw-sum left sought t (t .fuel) u (sym (ap chargedBy h) ∙ e) in
     omega (arith, q, k)
+
+-- a module that is looked for is one of the snapshot
+pub module-small : (W A : List ℕ) (l : Layout) (item : Item) → Reads W A l → Known l item → moduleIn item < 2 ^ 32
+unfolding moduleIn
+module-small W A l (Mod m) r k = omega (arith, k, r .tables .limited .modules)
+module-small W A l (Def ns d) r k = omega arith
 
 pub held-nothing : (left : ℕ) (t : Tank) {c : Choice} → c ≡ nothing → t .fuel + t .spent < 2 ^ 32 → Held left (record { choice = c; meter = t })
 held-nothing left t e h = let z = ap (λ (c : Choice). c .count) e in record { few = omega arith; tank = h }

@@ -21,7 +21,7 @@ use Rattle.find_path.specs.declared.Drawn.the-variants.{Go, Stop}
 use Rattle.find_path.specs.declared.Found.{Found}
 use Rattle.find_path.specs.declared.FindPathCtx.{FindPathCtx}
 use Rattle.find_path.specs.Choices.{nothing, lengthLeft}
-use Rattle.find_path.specs.Rules.{moduleRules}
+use Rattle.find_path.specs.Rules.{moduleRules, soughtOf}
 use Rattle.find_path.specs.Meters.{Charged, go, stop, fromTank}
 use Rattle.find_path.specs.Conditions.{chargedBy}
 use Rattle.find_path.specs.Charged.{Out, foundOf, isStable, langs, oneOrNone, isAt, offerImport, findImport, findInDep, findInDeps, findInSysroot, goOn, afterCharge, calculateBestPath, orCharged, findPathForModule}
@@ -94,17 +94,17 @@ module _ (s : Snapshot) (x : FindPathCtx) where
     abbrev pub after : Charged Tank → Out Tank
     after = afterCharge Tank fromTank s x (bestLocal s x) (modules s x) left item
 
-    by-charge : (t : Tank) (d : Drawn) (c : Charged Tank) → chargedBy d ≡ fromTank t → chargedBy d ≡ c → after c ≡ bestPath s x left item t
+    by-charge : (t : Tank) (d : Drawn) (c : Charged Tank) → chargedBy d ≡ fromTank left (soughtOf x item) t → chargedBy d ≡ c → after c ≡ bestPath s x left item t
     unfolding calculateBestPath
     by-charge t d c e h = ap after (sym h ∙ e)
 
-    pub best-empty : (t : Tank) {c : Choice} {d : Drawn} {u : Tank} → chargedBy d ≡ fromTank t → d ≡ Stop u → c ≡ nothing
+    pub best-empty : (t : Tank) {c : Choice} {d : Drawn} {u : Tank} → chargedBy d ≡ fromTank left (soughtOf x item) t → d ≡ Stop u → c ≡ nothing
         → found c u ≡ foundOf (bestPath s x left item t)
     unfolding afterCharge chargedBy
     best-empty t {d = d} {u} e h k =
         ap (λ (c : Choice). found c u) k ∙ ap foundOf (by-charge t d (stop u) e (ap chargedBy h))
 
-    pub best-charged : (t : Tank) {d : Drawn} {u : Tank} → chargedBy d ≡ fromTank t → d ≡ Go u → after (go u) ≡ bestPath s x left item t
+    pub best-charged : (t : Tank) {d : Drawn} {u : Tank} → chargedBy d ≡ fromTank left (soughtOf x item) t → d ≡ Go u → after (go u) ≡ bestPath s x left item t
     unfolding chargedBy
     best-charged t {d} {u} e h = by-charge t d (go u) e (ap chargedBy h)
 

@@ -97,7 +97,7 @@ pub fn calculate_best_path(
     requires { ⌜ Begun (now words) (now area) l x left × Asked l item × (t .fuel + t .spent < 2 ^ 32) ⌝ }
     ensures { λ r. ⌜ Searched (now (area .entry)) (bestPath (snapOf (now (words .entry)) (now (area .entry)) l) x left item t) (now (area .exit)) r ⌝ }
 {
-    match charge(t) {
+    match charge(x, left, item, t) {
         Drawn::Stop(meter) => {
             let choice = nothing();
             Found {

@@ -103,7 +103,7 @@ pub extern "C" fn kelumavor_find_path(
     write_report(answer, report)
 }
 
-/// Answers up to 64 questions of six words each on a snapshot, which is checked once, and writes their reports of 22 words each, one
+/// Answers up to 64 questions of six words each on a snapshot, which is checked once, and writes their reports of 24 words each, one
 /// after the other. Answers 0, or the number by which the whole call is refused, with the reports unwritten: 20 a small work area,
 /// 44 too many questions, a part of one, or too few words for the reports.
 #[no_mangle]
@@ -139,7 +139,7 @@ pub extern "C" fn kelumavor_turn(
     state: &mut [u32; 57],
     words: &[u32],
     area: &mut [u32],
-    report: &mut [u32; 22],
+    report: &mut [u32; 24],
 ) -> usize
     ensures { λ r. ⌜ Served (now (state .entry)) (now (words .entry)) (now (area .entry)) (now (report .entry)) (now (state .exit)) (now (area .exit)) (now (report .exit)) r ⌝ }
 {

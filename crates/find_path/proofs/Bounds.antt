@@ -26,7 +26,7 @@ use Rattle.find_path.specs.Choices.{nameLen, pathKindLen, plainPath, cra
 use Rattle.find_path.specs.Walk.{Level}
 use Rattle.find_path.specs.Rules.{byCrate, mayBeInScope, prefixPathKind, contextOf, firstFound, single, scopeRule, preludeRule, externName, rootRule, keywordOf, moduleRules, isKwKindRelativeToFrom, findInScope, findInPrelude}
 use Rattle.find_path.specs.Local.{LocalSearch, offer, importableName, location, eachLocation, calculateBestPathLocal, orLocal, findPathForModuleLocal}
-use Rattle.find_path.specs.Meters.{Charged, go, stop}
+use Rattle.find_path.specs.Meters.{Charged, go, stop, Charge}
 use Rattle.find_path.specs.Charged.{Out, Search, Inner, langs, oneOrNone, variantOf, offerImport, findImport, findImports, findInDep, findInDeps, findInSysroot, goOn, afterCharge, calculateBestPath, orCharged, findPathForModule, afterEnum, viaEnum, orEnum, byName, ofModule, findPathInner}
 use Rattle.find_path.specs.Search.{localTo, searchLocal, bestLocal, moduleTo, searchModule, itemTo, searchItem, fromHome, fromItem, findPath}
 use Rattle.find_path.proofs.Unfold.{length-falls}
@@ -206,7 +206,7 @@ module _ (s : Snapshot) (x : FindPathCtx) where
   unfolding bestLocal
   best-local-fits l item = local-fits (searchLocal s x) search-local-fits l [] item
 
-module _ (M : Type 0) (charge : M → Charged M) (s : Snapshot) where
+module _ (M : Type 0) (charge : Charge M) (s : Snapshot) where
   abbrev FitsSearch : Search M → Type 0
   FitsSearch rec = (left m : ℕ) (t : M) → Fits s left (rec left m t .choice)
 
@@ -254,7 +254,7 @@ module _ (M : Type 0) (charge : M → Charged M) (s : Snapshot) where
 
     pub best-fits : (l : ℕ) (item : Item) (t : M) → Fits s (suc l) (calculateBestPath M charge s x here rec (suc l) item t .choice)
     unfolding calculateBestPath
-    best-fits l item t = after-fits l item (charge t)
+    best-fits l item t = after-fits l item (charge _ _ t)
 
     or-fits : (l m : ℕ) (t : M) (c : Choice) (b : Bool) → Fits s (suc l) c → Fits s (suc l) (orCharged M charge s x here rec (suc l) m t c b .choice)
     unfolding orCharged

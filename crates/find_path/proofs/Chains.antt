@@ -18,7 +18,7 @@ use Rattle.hir_def.specs.Items.{types, definitionOf, itemOf}
 use Rattle.hir_def.specs.declared.Item.{Item}
 use Rattle.hir_def.specs.declared.Item.the-variants.{Mod, Def}
 use Rattle.find_path.specs.declared.FindPathCtx.{FindPathCtx}
-use Rattle.find_path.specs.Meters.{Charged}
+use Rattle.find_path.specs.Meters.{Charged, Charge}
 use Rattle.find_path.specs.Charged.{variantOf, findPathInner}
 use Rattle.find_path.specs.Search.{bestLocal, searchModule, searchItem}
 use Rattle.find_path.proofs.Unfold.{EnumNoVariant, inner-more}
@@ -61,6 +61,6 @@ module _ (W : List ℕ) (s : Snapshot) (e : verdict W ≡ accept s) where
       rw (← f .1) (four-no-variant (definitionOf s d .first) (parent-kind d (f .0)))
 
   -- On an accepted snapshot the item search is its rule over itself.
-  pub item-more : (M : Type 0) (charge : M → Charged M) (x : FindPathCtx) (item : Item) (t : M)
+  pub item-more : (M : Type 0) (charge : Charge M) (x : FindPathCtx) (item : Item) (t : M)
       → searchItem M charge s x item t ≡ findPathInner M charge s x (bestLocal s x) (searchModule M charge s x) (searchItem M charge s x) item t
   item-more M charge x item t = inner-more M charge s x item t (enum-no-variant item)

@@ -12,7 +12,7 @@ use Rattle.find_path.specs.declared.Choice.{Choice}
 use Rattle.find_path.specs.declared.Tank.{Tank}
 use Rattle.find_path.specs.declared.Query.{Query}
 use Rattle.find_path.specs.declared.Report.{Report}
-use Rattle.find_path.specs.Meters.{fromTank, counted}
+use Rattle.find_path.specs.Meters.{fromTank, filled, counted}
 use Rattle.find_path.specs.Charged.{Out}
 use Rattle.find_path.specs.Search.{findPath}
 use Rattle.find_path.specs.Report.{refused, flag, reported, searched, searchedFreely}
@@ -60,7 +60,7 @@ told F a c (dry h n) =
 
 -- the report where the count is within the fuel: no fuel in it
 whole : Out ℕ → Report
-whole c = reported (record { choice = c .choice; meter = record { fuel = 0; spent = c .meter; empty = false } })
+whole c = reported (record { choice = c .choice; meter = record { fuel = 0; spent = c .meter; empty = false; left = 0; sought = 0 } })
 
 within : (F : ℕ) (a : Out Tank) (c : Out ℕ) → Sim F a c → c .meter ≤ F → reported a ≡ whole c
 unfolding reported whole
@@ -72,17 +72,29 @@ within F a c (same e h) l = λ i. record {
   count = e i .count;
   charges = h .spent-is i;
   empty = flag (h .silent i);
+  left = h .no-left i;
+  sought = h .no-sought i;
 }
 within F a c (dry h n) l = absurd (omega arith)
 
 searches-sim : (s : Snapshot) (q : Query) (F : ℕ) → Sim F (searched s q F) (searchedFreely s q)
-unfolding searched searchedFreely
+unfolding searched searchedFreely filled
 searches-sim s q F =
-    search-sim F s q (record { fuel = F; spent = 0; empty = false }) 0 (record { spent-is = refl; rest = omega arith; silent = refl })
+    search-sim F s q (filled F) 0 (record { spent-is = refl; rest = omega arith; silent = refl; no-left = refl; no-sought = refl })
 
 -- what the report of a search tells of the search without a tank
 pub searched-tells : (s : Snapshot) (q : Query) (F : ℕ) → Tells F (searchedFreely s q) (reported (searched s q F))
 searched-tells s q F = told F _ _ (searches-sim s q F)
+
+untold : (F : ℕ) (a : Out Tank) (c : Out ℕ) → Sim F a c → reported a .empty ≡ 0 → (reported a .left ≡ 0) × (reported a .sought ≡ 0)
+unfolding reported flag
+untold F a c (same e h) z = (h .no-left, h .no-sought)
+untold F a c (dry h n) z = let y = ap flag (h .said) in absurd (omega arith)
+
+-- nothing is told of a first empty tank where none was
+pub searched-untold : (s : Snapshot) (q : Query) (F : ℕ) → reported (searched s q F) .empty ≡ 0
+    → (reported (searched s q F) .left ≡ 0) × (reported (searched s q F) .sought ≡ 0)
+searched-untold s q F z = untold F _ _ (searches-sim s q F) z
 
 -- the second report is on the same snapshot
 moved : (words : List ℕ) (q : Query) (G : ℕ) (r : Report) (s : Snapshot) → verdict words ≡ accept s → Searched words q G r → r ≡ reported (searched s q G)

@@ -15,7 +15,7 @@ use Rattle.find_path.specs.declared.FindPathCtx.{FindPathCtx}
 use Rattle.find_path.specs.declared.Query.{Query}
 use Rattle.find_path.specs.Choices.{nothing, lengthLeft}
 use Rattle.find_path.specs.Rules.{contextOf, firstFound, scopeRule, preludeRule, moduleRules}
-use Rattle.find_path.specs.Meters.{Charged, go, stop}
+use Rattle.find_path.specs.Meters.{Charged, go, stop, Charge}
 use Rattle.find_path.specs.Charged.{Out, Search, Inner, isStable, langs, oneOrNone, isAt, variantOf, findImport, findImports, findInDep, findInDeps, findInSysroot, goOn, afterCharge, calculateBestPath, orCharged, findPathForModule, afterEnum, viaEnum, orEnum, byName, ofModule, findPathInner}
 use Rattle.find_path.specs.Search.{bestLocal, moduleTo, searchModule, itemTo, searchItem, fromHome, fromItem, findPath}
 
@@ -30,7 +30,7 @@ KeptBy {M} P rec = (left m : ℕ) (t : M) → P t → P (rec left m t .meter)
 abbrev pub KeptWithin : {M : Type 0} → (M → Type 0) → Inner M → Type 0
 KeptWithin {M} P inner = (item : Item) (t : M) → P t → P (inner item t .meter)
 
-module _ (M : Type 0) (charge : M → Charged M) (s : Snapshot) (P : M → Type 0) (kept : (t : M) → P t → P (left-by (charge t))) where
+module _ (M : Type 0) (charge : Charge M) (s : Snapshot) (P : M → Type 0) (kept : (left sought : ℕ) (t : M) → P t → P (left-by (charge left sought t))) where
   module _ (x : FindPathCtx) (here : ℕ → Item → Choice) (rec : Search M) (k : KeptBy P rec) where
     pub import-keeps : (left : ℕ) (o : Out M) (i : Import) (b : Bool) → P (o .meter) → P (findImport M charge s x here rec left o i b .meter)
     unfolding findImport
@@ -68,7 +68,7 @@ module _ (M : Type 0) (charge : M → Charged M) (s : Snapshot) (P : M → Type 
 
     pub best-keeps : (left : ℕ) (item : Item) (t : M) → P t → P (calculateBestPath M charge s x here rec left item t .meter)
     unfolding calculateBestPath
-    best-keeps left item t h = after-keeps left item (charge t) (kept t h)
+    best-keeps left item t h = after-keeps left item (charge _ _ t) (kept _ _ t h)
 
     pub enum-keeps : (item : Item) (name : ℕ) (o : Out M) (b : Bool) → P (o .meter) → P (afterEnum M charge s x here rec item name o b .meter)
     unfolding afterEnum

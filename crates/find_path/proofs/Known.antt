@@ -41,7 +41,7 @@ use Rattle.find_path.specs.Choices.{plainPath, selfPath, superPath, crat
 use Rattle.find_path.specs.Walk.{Level}
 use Rattle.find_path.specs.Rules.{byCrate, mayBeInScope, prefixPathKind, contextOf, firstFound, entryName, single, findInScope, scopeRule, sameHere, preludeEntry, inPrelude, findInPrelude, preludeRule, externKind, externName, rootRule, parentKind, isKwKindRelativeToFrom, keywordOf, moduleRules}
 use Rattle.find_path.specs.Local.{LocalSearch, offer, isImportable, nameIf, importableName, location, eachLocation, calculateBestPathLocal, orLocal, findPathForModuleLocal}
-use Rattle.find_path.specs.Meters.{Charged, go, stop, fromTank}
+use Rattle.find_path.specs.Meters.{Charged, go, stop, fromTank, Charge}
 use Rattle.find_path.specs.Charged.{Out, Search, Inner, langs, oneOrNone, variantOf, offerImport, findImport, findImports, findInDep, findInDeps, findInSysroot, goOn, afterCharge, calculateBestPath, orCharged, findPathForModule, afterEnum, viaEnum, orEnum, byName, ofModule, findPathInner}
 use Rattle.find_path.specs.Search.{localTo, searchLocal, bestLocal, moduleTo, searchModule, itemTo, searchItem, fromHome, fromItem, findPath}
 use Rattle.find_path.specs.Report.{refused, reported, searched, reportOf}
@@ -148,7 +148,7 @@ entry-named s (some e) h = h .name
 
 module _ (s : Snapshot) (r : Ranges (countsOf s) s) where
   -- a definition of a kind is there
-  definition-known : (d k : ℕ) → definitionOf s d .kind ≡ suc k → DefinitionFits (countsOf s) (definitionOf s d)
+  pub definition-known : (d k : ℕ) → definitionOf s d .kind ≡ suc k → DefinitionFits (countsOf s) (definitionOf s d)
   unfolding definitionOf
   definition-known d k e =
       elim (decLe (length (s .definitions)) d) [
@@ -320,7 +320,7 @@ module _ (s : Snapshot) (r : Ranges (countsOf s) s) where
     unfolding bestLocal searchLocal
     best-local-known left item = local-known (searchLocal s x) (λ l ls m. localTo-known l l ls m) left [] item
 
-module _ (M : Type 0) (charge : M → Charged M) (s : Snapshot) (r : Ranges (countsOf s) s) where
+module _ (M : Type 0) (charge : Charge M) (s : Snapshot) (r : Ranges (countsOf s) s) where
   abbrev KnownSearch : Search M → Type 0
   KnownSearch rec = (left m : ℕ) (t : M) → Known s (rec left m t .choice)
 
@@ -369,7 +369,7 @@ module _ (M : Type 0) (charge : M → Charged M) (s : Snapshot) (r : Ranges (cou
 
     best-known : (left : ℕ) (item : Item) (t : M) → Known s (calculateBestPath M charge s x here rec left item t .choice)
     unfolding calculateBestPath
-    best-known left item t = after-known left item (charge t)
+    best-known left item t = after-known left item (charge _ _ t)
 
     or-known : (left m : ℕ) (t : M) (c : Choice) (b : Bool) → Known s c → Known s (orCharged M charge s x here rec left m t c b .choice)
     unfolding orCharged

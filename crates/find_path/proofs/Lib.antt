@@ -1,5 +1,6 @@
 pub mod Keeps
 pub mod Tanks
+pub mod Told
 pub mod Sim
 pub mod Refusals
 pub mod Outcomes

@@ -14,13 +14,14 @@ use Rattle.find_path.specs.declared.Tank.{Tank}
 use Rattle.find_path.specs.declared.Query.{Query}
 use Rattle.find_path.specs.declared.Question.{Question}
 use Rattle.find_path.specs.declared.Report.{Report}
-use Rattle.find_path.specs.Meters.{fromTank}
+use Rattle.find_path.specs.Meters.{fromTank, filled}
 use Rattle.find_path.specs.Report.{refused, flag, reported, searched, reportOf}
 use Rattle.find_path.specs.Fuels.{IsRefused, Bounded, NamesKnown, Small}
 use Rattle.find_path.proofs.Bounds.{zeros, search-fits}
 use Rattle.find_path.proofs.Outcomes.{Kind, refusal, answer, kind-of}
 use Rattle.find_path.proofs.Known.{searched-known}
-use Rattle.find_path.proofs.Fuels.{searched-tells}
+use Rattle.find_path.proofs.Told.{searched-told}
+use Rattle.find_path.proofs.Fuels.{searched-tells, searched-untold}
 
 flag-small : (b : Bool) → flag b ≤ 1
 unfolding flag
@@ -30,19 +31,19 @@ flag-small false = omega arith
 refused-bounded : (fuel n : ℕ) → Bounded fuel (refused n)
 unfolding refused
 refused-bounded fuel n =
-    record { few = omega arith; long = refl; rest = λ i _. zeros 16 i; charges = omega arith; flagged = omega arith }
+    record { few = omega arith; long = refl; rest = λ i _. zeros 16 i; charges = omega arith; flagged = omega arith; untold = λ _. (refl, refl) }
 
 searched-bounded : (s : Snapshot) (q : Query) (fuel : ℕ) → Bounded fuel (reported (searched s q fuel))
 unfolding reported searched
 searched-bounded s q fuel =
-    let t : Tank = record { fuel = fuel; spent = 0; empty = false } in
-    let f = search-fits Tank fromTank s q t in
+    let f = search-fits Tank fromTank s q (filled fuel) in
     record {
       few = f .few;
       long = f .long;
       rest = f .rest;
       charges = omega (arith, searched-tells s q fuel .charges);
       flagged = flag-small _;
+      untold = searched-untold s q fuel;
     }
 
 bounded : {words : List ℕ} {q : Query} {fuel : ℕ} (r : Report) → Kind words q fuel r → Bounded fuel r
@@ -62,6 +63,8 @@ refused-small n h =
       kind = omega arith;
       names = λ i. let z = zeros 16 i in omega arith;
       charges = omega arith;
+      left = omega arith;
+      sought = omega arith;
     }
 
 -- names of the snapshot up to the count, zeros past it
@@ -79,19 +82,22 @@ unfolding reported
 searched-small words s q fuel e l =
     let k = searched-known words s e q fuel in
     let b = searched-bounded s q fuel in
+    let t = searched-told words s e q fuel in
     record {
       outcome = let f = flag-small (not (searched s q fuel .choice .found)) in omega arith;
       number = omega arith;
       kind = k .kind;
       names = searched-names words s e (reported (searched s q fuel)) (k .names) (b .rest);
       charges = omega (arith, b .charges);
+      left = t .left;
+      sought = omega (arith, t .sought, accepted-limits words s e .modules);
     }
 
 small : {words : List ℕ} {q : Query} {fuel : ℕ} (r : Report) → Kind words q fuel r → Small r
 small r (refusal n h e) = rw e (refused-small n h)
 small {words = words} {q = q} {fuel = fuel} r (answer s a l e) = rw e (searched-small words s q fuel a l)
 
--- Every report has a number up to 36, a kind up to 4, names below 2,048 and at most 10,000 charges.
+-- Every report has a number up to 36, a kind up to 4, names below 2,048, at most 10,000 charges, a length left up to 15 and a module, +1, up to 512.
 pub report-small : (words : List ℕ) (area : ℕ) (q : Question) → Small (reportOf words area q)
 report-small words area q = small (reportOf words area q) (kind-of words area q)
 

@@ -39,7 +39,7 @@ use Rattle.find_path.specs.Choices.{plainPath, selfPath, superPath, crat
 use Rattle.find_path.specs.Walk.{Level, visited}
 use Rattle.find_path.specs.Rules.{bit, byCrate, mayBeInScope, prefixPathKind, contextOf, firstFound, single, findInScope, scopeRule, findInPrelude, preludeRule, externName, rootRule, parentKind, isKwKindRelativeToFrom, keywordOf, moduleRules}
 use Rattle.find_path.specs.Local.{LocalSearch, offer, isImportable, nameIf, importableName, location, eachLocation, calculateBestPathLocal, orLocal, findPathForModuleLocal}
-use Rattle.find_path.specs.Meters.{Charged, go, stop, fromTank}
+use Rattle.find_path.specs.Meters.{Charged, go, stop, fromTank, Charge, filled}
 use Rattle.find_path.specs.Charged.{Out, Search, Inner, langs, oneOrNone, variantOf, offerImport, findImport, findImports, findInDep, findInDeps, findInSysroot, goOn, afterCharge, calculateBestPath, orCharged, findPathForModule, afterEnum, viaEnum, orEnum, byName, ofModule, findPathInner}
 use Rattle.find_path.specs.Search.{localTo, searchLocal, bestLocal, moduleTo, searchModule, itemTo, searchItem, fromHome, fromItem, findPath}
 use Rattle.find_path.specs.Report.{refused, flag, reported, searched, reportOf}
@@ -322,7 +322,7 @@ module _ (s : Snapshot) where
       unfolding bestLocal searchLocal
       best-local-leads left item = local-leads (searchLocal s x) (λ l ls m. localTo-leads l l ls m) left [] item
 
-module _ (M : Type 0) (charge : M → Charged M) (s : Snapshot) (x : FindPathCtx) (valid : Valid s) (rooted : x .root ≡ crateRoot s (x .from)) where
+module _ (M : Type 0) (charge : Charge M) (s : Snapshot) (x : FindPathCtx) (valid : Valid s) (rooted : x .root ≡ crateRoot s (x .from)) where
   abbrev LeadsSearch : Search M → Type 0
   LeadsSearch rec = (left m : ℕ) (t : M) → Leads s x (Mod m) (rec left m t .choice)
 
@@ -371,7 +371,7 @@ module _ (M : Type 0) (charge : M → Charged M) (s : Snapshot) (x : FindPathCtx
 
     best-leads : (left : ℕ) (item : Item) (t : M) → Leads s x item (calculateBestPath M charge s x (bestLocal s x) rec left item t .choice)
     unfolding calculateBestPath
-    best-leads left item t = after-leads left item (charge t)
+    best-leads left item t = after-leads left item (charge _ _ t)
 
     or-leads : (left m : ℕ) (t : M) (c : Choice) (b : Bool) → Leads s x (Mod m) c → Leads s x (Mod m) (orCharged M charge s x (bestLocal s x) rec left m t c b .choice)
     unfolding orCharged
@@ -419,7 +419,7 @@ module _ (s : Snapshot) (x : FindPathCtx) where
         (variant v q (f .route e (omega (arith, g .few, g .long))) (omega (arith, n, g .few)));
   }
 
-module _ (M : Type 0) (charge : M → Charged M) (s : Snapshot) (x : FindPathCtx) (valid : Valid s) (rooted : x .root ≡ crateRoot s (x .from)) where
+module _ (M : Type 0) (charge : Charge M) (s : Snapshot) (x : FindPathCtx) (valid : Valid s) (rooted : x .root ≡ crateRoot s (x .from)) where
   -- P holds of every route of 15 names at most, and of what the enum's search gives a variant
   module _ (inner : Inner M) (P : Item → Choice → Type 0)
       (short : (item : Item) (c : Choice) → Leads s x item c → Fits s 15 c → P item c)
@@ -482,7 +482,7 @@ context-rooted : (s : Snapshot) (q : Query) (home : ℕ) → contextOf s q home 
 unfolding contextOf
 context-rooted s q home = refl
 
-module _ (M : Type 0) (charge : M → Charged M) (s : Snapshot) (valid : Valid s) (q : Query) where
+module _ (M : Type 0) (charge : Charge M) (s : Snapshot) (valid : Valid s) (q : Query) where
   abbrev Asked : Choice → Type 0
   Asked c = Paths s (askedContext s q) (askedItem s q) c
 
@@ -526,7 +526,7 @@ allowed s q = refl
 searched-routed : (s : Snapshot) → Valid s → (q : Query) (fuel : ℕ) → searched s q fuel .choice .found ≡ true → Routed s q (reported (searched s q fuel))
 unfolding searched reported
 searched-routed s valid q fuel e =
-    let t : Tank = record { fuel = fuel; spent = 0; empty = false } in
+    let t : Tank = filled fuel in
     record {
       path = search-path Tank fromTank s valid q t .path e;
       count = names-count 16 (omega arith) (search-fits Tank fromTank s q t);

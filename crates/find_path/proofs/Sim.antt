@@ -18,7 +18,7 @@ use Rattle.find_path.specs.declared.FindPathCtx.{FindPathCtx}
 use Rattle.find_path.specs.declared.Query.{Query}
 use Rattle.find_path.specs.Choices.{nothing, push, lengthLeft}
 use Rattle.find_path.specs.Rules.{contextOf}
-use Rattle.find_path.specs.Meters.{Charged, go, stop, draw, fromTank, counted}
+use Rattle.find_path.specs.Meters.{Charged, go, stop, drained, draw, fromTank, counted}
 use Rattle.find_path.specs.Charged.{Out, Search, Inner, isStable, langs, oneOrNone, isAt, variantOf, offerImport, findImport, findImports, findInDep, findInDeps, findInSysroot, goOn, afterCharge, calculateBestPath, orCharged, findPathForModule, afterEnum, viaEnum, orEnum, byName, ofModule, findPathInner}
 use Rattle.find_path.specs.Search.{bestLocal, moduleTo, searchModule, itemTo, searchItem, fromHome, fromItem, findPath}
 use Rattle.find_path.proofs.Keeps.{left-by, KeptBy, KeptWithin, import-keeps, deps-keep, sysroot-keeps, go-keeps, enum-keeps, moduleTo-keeps, module-search-keeps, itemTo-keeps}
@@ -34,6 +34,8 @@ pub record Sync (F : ℕ) (t : Tank) (n : ℕ) : Type 0 where
   pub spent-is : t .spent ≡ n
   pub rest : t .fuel + n ≡ F
   pub silent : t .empty ≡ false
+  pub no-left : t .left ≡ 0
+  pub no-sought : t .sought ≡ 0
 
 -- the same choice and the same count, or a tank that was found empty and a count past F
 pub data Sim (F : ℕ) (t : Out Tank) (c : Out ℕ) : Type 0 where
@@ -43,18 +45,23 @@ pub data Sim (F : ℕ) (t : Out Tank) (c : Out ℕ) : Type 0 where
 abbrev Over : ℕ → ℕ → Type 0
 Over F n = F < n
 
-draw-dry : (F l n : ℕ) (e : Bool) → l ≡ 0 → n ≡ F → Dry F (left-by (draw l n e))
+drained-dry : (F left sought : ℕ) (t : Tank) (e : Bool) → t .spent ≡ F → Dry F (drained left sought t e)
+unfolding drained
+drained-dry F left sought t true k = record { none-left = refl; all-spent = k; said = refl }
+drained-dry F left sought t false k = record { none-left = refl; all-spent = k; said = refl }
+
+draw-dry : (F left sought : ℕ) (t : Tank) (l : ℕ) → l ≡ 0 → t .spent ≡ F → Dry F (left-by (draw left sought t l))
 unfolding draw
-draw-dry F zero n e h k = record { none-left = refl; all-spent = k; said = refl }
-draw-dry F (suc l) n e h k = absurd (omega arith)
+draw-dry F left sought t zero h k = drained-dry F left sought t (t .empty) k
+draw-dry F left sought t (suc l) h k = absurd (omega arith)
 
-dry-stays : (F : ℕ) (t : Tank) → Dry F t → Dry F (left-by (fromTank t))
+dry-stays : (F left sought : ℕ) (t : Tank) → Dry F t → Dry F (left-by (fromTank left sought t))
 unfolding fromTank
-dry-stays F t h = draw-dry F (t .fuel) (t .spent) (t .empty) (h .none-left) (h .all-spent)
+dry-stays F left sought t h = draw-dry F left sought t (t .fuel) (h .none-left) (h .all-spent)
 
-over-stays : (F n : ℕ) → Over F n → Over F (left-by (counted n))
+over-stays : (F left sought n : ℕ) → Over F n → Over F (left-by (counted left sought n))
 unfolding counted
-over-stays F n h = omega arith
+over-stays F left sought n h = omega arith
 
 abbrev Alike : ℕ → Search Tank → Search ℕ → Type 0
 Alike F rt rc = (left m : ℕ) (t : Tank) (n : ℕ) → Sync F t n → Sim F (rt left m t) (rc left m n)
@@ -120,18 +127,18 @@ module _ (F : ℕ) (s : Snapshot) where
     go-sim left item t n false true h = sysroot-sim left item _ _ (langs (x .nostd)) false (same refl h)
     go-sim left item t n false false h = deps-sim left item _ _ (dependenciesOf s (x .krate)) (same refl h)
 
-    draw-sim : (l k : ℕ) (e : Bool) (n left : ℕ) (item : Item) → k ≡ n → l + n ≡ F → e ≡ false
-        → Sim F (afterCharge Tank fromTank s x here rt left item (draw l k e)) (afterCharge ℕ counted s x here rc left item (counted n))
+    draw-sim : (t : Tank) (l n left sought : ℕ) (item : Item) → t .spent ≡ n → l + n ≡ F → t .empty ≡ false → t .left ≡ 0 → t .sought ≡ 0
+        → Sim F (afterCharge Tank fromTank s x here rt left item (draw left sought t l)) (afterCharge ℕ counted s x here rc left item (counted left sought n))
     unfolding draw afterCharge counted
-    draw-sim zero k e n left item hs hl he = dry (record { none-left = refl; all-spent = omega arith; said = refl })
+    draw-sim t zero n left sought item hs hl he hn hm = dry (drained-dry F left sought t (t .empty) (omega arith))
         (go-keeps ℕ counted s (Over F) (over-stays F) x here rc kc left item (n + 1) _ _ (omega arith))
-    draw-sim (suc l) k e n left item hs hl he =
-        go-sim left item _ _ _ _ (record { spent-is = omega arith; rest = omega arith; silent = he })
+    draw-sim t (suc l) n left sought item hs hl he hn hm =
+        go-sim left item _ _ _ _ (record { spent-is = omega arith; rest = omega arith; silent = he; no-left = hn; no-sought = hm })
 
     best-sim : (left : ℕ) (item : Item) (t : Tank) (n : ℕ) → Sync F t n
         → Sim F (calculateBestPath Tank fromTank s x here rt left item t) (calculateBestPath ℕ counted s x here rc left item n)
     unfolding calculateBestPath fromTank
-    best-sim left item t n h = draw-sim (t .fuel) (t .spent) (t .empty) n left item (h .spent-is) (h .rest) (h .silent)
+    best-sim left item t n h = draw-sim t (t .fuel) n left _ item (h .spent-is) (h .rest) (h .silent) (h .no-left) (h .no-sought)
 
     or-sim : (left m : ℕ) (t : Tank) (n : ℕ) (c : Choice) (b : Bool) → Sync F t n
         → Sim F (orCharged Tank fromTank s x here rt left m t c b) (orCharged ℕ counted s x here rc left m n c b)

@@ -2,12 +2,12 @@
 use mathlib.Core.Path.{_≡_, refl}
 use Prim.Native.Nat.{ℕ, zero, suc, _+_}
 use native.Mathlib.Omega.{arith}
-use mathlib.Core.Bool.{Bool}
+use mathlib.Core.Bool.{Bool, true, false}
 use Rattle.snapshot.specs.Records.{Snapshot}
 use Rattle.hir_def.specs.declared.Item.{Item}
 use Rattle.find_path.specs.declared.Tank.{Tank}
 use Rattle.find_path.specs.declared.FindPathCtx.{FindPathCtx}
-use Rattle.find_path.specs.Meters.{draw, fromTank}
+use Rattle.find_path.specs.Meters.{drained, draw, fromTank}
 use Rattle.find_path.specs.Charged.{calculateBestPath}
 use Rattle.find_path.specs.Search.{bestLocal, searchModule, itemTo, searchItem}
 use Rattle.find_path.proofs.Keeps.{left-by, best-keeps, module-search-keeps, itemTo-keeps}
@@ -18,14 +18,19 @@ sum t = t .fuel + t .spent
 abbrev Sum : ℕ → Tank → Type 0
 Sum n t = sum t ≡ n
 
-draw-sum : (n fuel spent : ℕ) (e : Bool) → fuel + spent ≡ n → Sum n (left-by (draw fuel spent e))
-unfolding draw
-draw-sum n zero spent e h = h
-draw-sum n (suc fuel) spent e h = omega arith
+drained-sum : (left sought : ℕ) (t : Tank) (e : Bool) → sum (drained left sought t e) ≡ t .spent
+unfolding drained
+drained-sum left sought t true = omega arith
+drained-sum left sought t false = omega arith
 
-sum-stays : (n : ℕ) (t : Tank) → Sum n t → Sum n (left-by (fromTank t))
+draw-sum : (n left sought : ℕ) (t : Tank) (fuel : ℕ) → fuel + t .spent ≡ n → Sum n (left-by (draw left sought t fuel))
+unfolding draw
+draw-sum n left sought t zero h = omega (arith, drained-sum left sought t (t .empty))
+draw-sum n left sought t (suc fuel) h = omega arith
+
+sum-stays : (n left sought : ℕ) (t : Tank) → Sum n t → Sum n (left-by (fromTank left sought t))
 unfolding fromTank
-sum-stays n t h = draw-sum n (t .fuel) (t .spent) (t .empty) h
+sum-stays n left sought t h = draw-sum n left sought t (t .fuel) h
 
 module _ (s : Snapshot) (x : FindPathCtx) where
   pub module-sum : (left m : ℕ) (t : Tank) → sum (searchModule Tank fromTank s x left m t .meter) ≡ sum t

@@ -19,7 +19,7 @@ use Rattle.find_path.specs.declared.FindPathCtx.{FindPathCtx}
 use Rattle.find_path.specs.Choices.{nothing, pathLen, shorterIf, lengthLeft}
 use Rattle.find_path.specs.Walk.{Level, visited, findLocalImportLocations}
 use Rattle.find_path.specs.Local.{LocalSearch, offer, importableName, location, eachLocation, calculateBestPathLocal, orLocal, findPathForModuleLocal}
-use Rattle.find_path.specs.Meters.{Charged, go, stop}
+use Rattle.find_path.specs.Meters.{Charged, go, stop, Charge}
 use Rattle.find_path.specs.Charged.{Out, Search, Inner, isStable, langs, oneOrNone, isAt, variantOf, offerImport, findImport, findImports, findInDep, findInDeps, findInSysroot, goOn, afterCharge, calculateBestPath, orCharged, findPathForModule, afterEnum, viaEnum, orEnum, byName, ofModule, findPathInner}
 use Rattle.find_path.specs.Search.{localTo, searchLocal, bestLocal, moduleTo, searchModule, itemTo, searchItem}
 
@@ -91,7 +91,7 @@ EnumNoVariant s item = (v : Definition) → variantOf s item ≡ some v → vari
 abbrev Agree : {M : Type 0} → ℕ → Search M → Search M → Type 0
 Agree {M} left f g = (j m : ℕ) (t : M) → j < left → f j m t ≡ g j m t
 
-module _ (M : Type 0) (charge : M → Charged M) (s : Snapshot) (x : FindPathCtx) where
+module _ (M : Type 0) (charge : Charge M) (s : Snapshot) (x : FindPathCtx) where
   module _ (here : ℕ → Item → Choice) (left : ℕ) (f g : Search M) (pos : 0 < left) (agree : Agree left f g) where
     import-same : (o : Out M) (i : Import) (b : Bool) → findImport M charge s x here f left o i b ≡ findImport M charge s x here g left o i b
     unfolding findImport
@@ -135,7 +135,7 @@ module _ (M : Type 0) (charge : M → Charged M) (s : Snapshot) (x : FindPathCtx
 
     pub best-same : (item : Item) (t : M) → calculateBestPath M charge s x here f left item t ≡ calculateBestPath M charge s x here g left item t
     unfolding calculateBestPath
-    best-same item t = after-same item (charge t)
+    best-same item t = after-same item (charge _ _ t)
 
     or-same : (m : ℕ) (t : M) (c : Choice) (b : Bool) → orCharged M charge s x here f left m t c b ≡ orCharged M charge s x here g left m t c b
     unfolding orCharged

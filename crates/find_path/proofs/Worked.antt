@@ -21,9 +21,9 @@ use Rattle.hir_def.specs.ImportMap.{importInfoFor}
 use Rattle.find_path.specs.declared.Question.{Question}
 use Rattle.find_path.specs.Choices.{nameData, isPrelude, pathKindLen, pathLen, keyword, choiceNew, extended, push, unstably, compareBool, andThen, comparePrelude, taken, better, trySelect, shorterIf, lengthLeft}
 use Rattle.find_path.specs.Walk.{has, visited, startFrom, leadsTo, unmet, walk, findLocalImportLocations}
-use Rattle.find_path.specs.Rules.{prefixPathKind, plainIf, contextOf, firstFound, entryName, single, findInScope, mayBeInScope, scopeRule, sameHere, preludeEntry, inPrelude, findInPrelude, preludeRule, externKind, externName, rootRule, parentKind, isKwKindRelativeToFrom, keywordOf, moduleRules}
+use Rattle.find_path.specs.Rules.{prefixPathKind, plainIf, moduleIn, contextOf, soughtOf, firstFound, entryName, single, findInScope, mayBeInScope, scopeRule, sameHere, preludeEntry, inPrelude, findInPrelude, preludeRule, externKind, externName, rootRule, parentKind, isKwKindRelativeToFrom, keywordOf, moduleRules}
 use Rattle.find_path.specs.Local.{offer, nameIf, importableName, location, eachLocation, calculateBestPathLocal, orLocal, findPathForModuleLocal}
-use Rattle.find_path.specs.Meters.{draw, fromTank}
+use Rattle.find_path.specs.Meters.{drained, draw, fromTank, filled}
 use Rattle.find_path.specs.Charged.{langs, oneOrNone, isAt, variantOf, offerImport, findImport, findImports, findInDep, findInDeps, findInSysroot, goOn, afterCharge, calculateBestPath, orCharged, findPathForModule, afterEnum, viaEnum, orEnum, byName, ofModule, findPathInner}
 use Rattle.find_path.specs.Search.{localTo, searchLocal, bestLocal, moduleTo, searchModule, itemTo, searchItem, fromHome, fromItem, findPath}
 use Rattle.find_path.specs.Report.{callFault, questionFault, refused, flag, reported, searched, answerUnless, reportBy, reportUnless, reportOf}
@@ -39,7 +39,7 @@ row d ns m p o f l = record { question = record { query = record { ns = ns; defi
 
 -- the lines are those of the questions
 unfoldable pub passes : List ℕ → List Row → Bool
-unfolding lineOf snapshotOf lineIn lineParts pathText prefixParts joined decimal decimalTo textOf unpacked reportOf reportUnless reportBy answerUnless searched reported flag refused questionFault callFault findPath fromItem fromHome searchItem itemTo searchModule moduleTo bestLocal searchLocal localTo findPathInner ofModule byName orEnum viaEnum afterEnum findPathForModule orCharged calculateBestPath afterCharge goOn findInSysroot findInDeps findInDep findImports findImport offerImport isAt variantOf oneOrNone langs fromTank draw findPathForModuleLocal orLocal calculateBestPathLocal eachLocation location importableName nameIf offer moduleRules keywordOf isKwKindRelativeToFrom parentKind rootRule externName externKind occupied isOther scopeEntry entryNamed preludeRule findInPrelude inPrelude preludeEntry sameHere scopeRule mayBeInScope findInScope single entryName firstFound contextOf plainIf prefixPathKind findLocalImportLocations walk unmet leadsTo startFrom visited has lengthLeft shorterIf trySelect better taken comparePrelude andThen compareBool unstably push extended choiceNew keyword pathLen pathKindLen isPrelude nameData importInfoFor sysrootFirst langOf dependenciesOf externOf preludeOf childrenOf containers ancestorMaps steps stepsTo stepsOr modulesInScope get namesOf nameOf isFor isVisibleFrom inModule climb climbStep unless met metTo metOr last lastTo lastOr homeOf homeBy nsOf sameItem itemOf containing orElse crateRoot ownMap rootOf crateData definitionOf mapOf moduleOf firstSome select placeOf firstOf verdict records stepAt recordStep finish argumentsFrom argumentsOf nameStep crateStep dependencyStep mapStep moduleStep childStep preludeStep definitionStep scopeStep importStep externStep textBound padded rows any all eqList
+unfolding lineOf snapshotOf lineIn lineParts pathText prefixParts joined decimal decimalTo textOf unpacked reportOf reportUnless reportBy answerUnless searched reported flag refused questionFault callFault findPath fromItem fromHome searchItem itemTo searchModule moduleTo bestLocal searchLocal localTo findPathInner ofModule byName orEnum viaEnum afterEnum findPathForModule orCharged calculateBestPath afterCharge goOn findInSysroot findInDeps findInDep findImports findImport offerImport isAt variantOf oneOrNone langs fromTank filled draw drained findPathForModuleLocal orLocal calculateBestPathLocal eachLocation location importableName nameIf offer moduleRules keywordOf isKwKindRelativeToFrom parentKind rootRule externName externKind occupied isOther scopeEntry entryNamed preludeRule findInPrelude inPrelude preludeEntry sameHere scopeRule mayBeInScope findInScope single entryName firstFound soughtOf contextOf moduleIn plainIf prefixPathKind findLocalImportLocations walk unmet leadsTo startFrom visited has lengthLeft shorterIf trySelect better taken comparePrelude andThen compareBool unstably push extended choiceNew keyword pathLen pathKindLen isPrelude nameData importInfoFor sysrootFirst langOf dependenciesOf externOf preludeOf childrenOf containers ancestorMaps steps stepsTo stepsOr modulesInScope get namesOf nameOf isFor isVisibleFrom inModule climb climbStep unless met metTo metOr last lastTo lastOr homeOf homeBy nsOf sameItem itemOf containing orElse crateRoot ownMap rootOf crateData definitionOf mapOf moduleOf firstSome select placeOf firstOf verdict records stepAt recordStep finish argumentsFrom argumentsOf nameStep crateStep dependencyStep mapStep moduleStep childStep preludeStep definitionStep scopeStep importStep externStep textBound padded rows any all eqList
 passes words table = all (λ r. eqList (lineOf words (r .question)) (bytesOf (r .line))) table
 
 -- module 0 is the root, module 1 its child `a`, definition 0 the module `a`, definition 1 a function `f` in it
@@ -275,3 +275,63 @@ moduleCases =
 pub module-cases : passes withModules moduleCases ≡ true
 unfolding passes moduleCases row withModules named head
 module-cases = refl
+
+-- The first charge that finds the tank empty: the length left, and the module looked for, +1.
+
+pub record First : Type 0 where
+  pub question : Question
+  pub left : ℕ
+  pub sought : ℕ
+
+-- definition, namespace, viewing module, options, fuel, and what is told; the prefix is Plain
+pub first : ℕ → ℕ → ℕ → ℕ → ℕ → ℕ → ℕ → First
+first d ns m o f left sought =
+    record { question = record { query = record { ns = ns; definition = d; from = m; prefix = 1; options = o }; fuel = f }; left = left; sought = sought }
+
+-- the reports say empty, and tell that
+unfoldable pub tells : List ℕ → List First → Bool
+unfolding reportOf reportUnless reportBy answerUnless searched reported flag refused questionFault callFault findPath fromItem fromHome searchItem itemTo searchModule moduleTo bestLocal searchLocal localTo findPathInner ofModule byName orEnum viaEnum afterEnum findPathForModule orCharged calculateBestPath afterCharge goOn findInSysroot findInDeps findInDep findImports findImport offerImport isAt variantOf oneOrNone langs fromTank filled draw drained findPathForModuleLocal orLocal calculateBestPathLocal eachLocation location importableName nameIf offer moduleRules keywordOf isKwKindRelativeToFrom parentKind rootRule externName externKind occupied isOther scopeEntry entryNamed preludeRule findInPrelude inPrelude preludeEntry sameHere scopeRule mayBeInScope findInScope single entryName firstFound soughtOf contextOf moduleIn plainIf prefixPathKind findLocalImportLocations walk unmet leadsTo startFrom visited has lengthLeft shorterIf trySelect better taken comparePrelude andThen compareBool unstably push extended choiceNew keyword pathLen pathKindLen isPrelude nameData importInfoFor sysrootFirst langOf dependenciesOf externOf preludeOf childrenOf containers ancestorMaps steps stepsTo stepsOr modulesInScope get namesOf nameOf isFor isVisibleFrom inModule climb climbStep unless met metTo metOr last lastTo lastOr homeOf homeBy nsOf sameItem itemOf containing orElse crateRoot ownMap rootOf crateData definitionOf mapOf moduleOf firstSome select placeOf firstOf verdict records stepAt recordStep finish argumentsFrom argumentsOf nameStep crateStep dependencyStep mapStep moduleStep childStep preludeStep definitionStep scopeStep importStep externStep textBound padded rows any all eqList
+tells words table =
+    all (λ r. eqList (reportOf words 16384 (r .question) .empty ∷ reportOf words 16384 (r .question) .left ∷ reportOf words 16384 (r .question) .sought ∷ [])
+    (1 ∷ r .left ∷ r .sought ∷ [])) table
+
+pub worked-first : tells worked (first 1 1 0 0 0 15 0 ∷ []) ≡ true
+unfolding tells first
+worked-first = refl
+
+pub dependencyFirsts : List First
+dependencyFirsts =
+    -- the item itself; then `inner`, module 3
+    first 2 0 0 0 0 15 0
+    ∷ first 2 0 0 0 1 14 4
+    -- a variant: `inner` is looked for its enum; an enum without a path, and then the variant itself
+    ∷ first 3 1 0 0 1 14 4
+    ∷ first 13 1 0 0 0 15 0
+    ∷ first 13 1 0 0 1 15 0
+    -- a module that is asked for
+    ∷ first 1 0 1 0 0 15 0
+    -- `k`, module 4; then, with a path of three names, `inner`
+    ∷ first 10 0 0 8 1 14 5
+    ∷ first 10 0 0 8 2 2 4
+    ∷ []
+
+pub dependency-firsts : tells withDependency dependencyFirsts ≡ true
+unfolding tells dependencyFirsts first withDependency named head
+dependency-firsts = refl
+
+-- Crate 0 depends on crate 1, which exports its modules `a` and `b` each from the other.
+pub withCycle : List ℕ
+withCycle =
+    named "a" ++ named "b"
+    ++ (head 2 0 ∷ head 2 0 ∷ head 3 0 ∷ 1 ∷ 0
+    ∷ head 4 0 ∷ 0 ∷ 0 ∷ head 5 0 ∷ 0 ∷ head 4 1 ∷ 0 ∷ 0 ∷ head 5 1 ∷ 0 ∷ head 5 1 ∷ 2 ∷ head 5 1 ∷ 2 ∷ head 6 1 ∷ 2 ∷ head 6 1 ∷ 3
+    ∷ head 8 1 ∷ 2 ∷ 0 ∷ head 8 1 ∷ 3 ∷ 0
+    ∷ head 10 1 ∷ 0 ∷ 0 ∷ 0 ∷ 3 ∷ 0 ∷ head 10 1 ∷ 0 ∷ 1 ∷ 1 ∷ 2 ∷ 0 ∷ [])
+
+-- `a` is the question's own item at any depth, and so is not named; of `b` the module is
+pub cycleFirsts : List First
+cycleFirsts = first 0 0 0 0 0 15 0 ∷ first 0 0 0 0 1 14 4 ∷ first 0 0 0 0 2 13 0 ∷ first 0 0 0 0 3 12 4 ∷ first 1 0 0 0 13 2 3 ∷ first 1 0 0 0 14 1 0 ∷ []
+
+pub cycle-firsts : tells withCycle cycleFirsts ≡ true
+unfolding tells cycleFirsts first withCycle named head
+cycle-firsts = refl

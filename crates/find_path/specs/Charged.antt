@@ -16,9 +16,9 @@ use Rattle.find_path.specs.declared.Tank.{Tank}
 use Rattle.find_path.specs.declared.Found.{Found}
 use Rattle.find_path.specs.declared.FindPathCtx.{FindPathCtx}
 use Rattle.find_path.specs.Choices.{nothing, choiceNew, push, unstably, lengthLeft}
-use Rattle.find_path.specs.Rules.{contextOf, firstFound, scopeRule, preludeRule, moduleRules}
+use Rattle.find_path.specs.Rules.{contextOf, soughtOf, firstFound, scopeRule, preludeRule, moduleRules}
 use Rattle.find_path.specs.Local.{offer}
-use Rattle.find_path.specs.Meters.{Charged, go, stop}
+use Rattle.find_path.specs.Meters.{Charged, Charge, go, stop}
 
 -- a choice, and the meter that the search leaves
 pub record Out (M : Type 0) : Type 0 where
@@ -69,7 +69,7 @@ module _ (s : Snapshot) (x : FindPathCtx) where
       ]
 
 -- `here` is the local search
-module _ (M : Type 0) (charge : M → Charged M) (s : Snapshot) (x : FindPathCtx) (here : ℕ → Item → Choice) where
+module _ (M : Type 0) (charge : Charge M) (s : Snapshot) (x : FindPathCtx) (here : ℕ → Item → Choice) where
   unfoldable pub findImport : Search M → ℕ → Out M → Import → Bool → Out M
   findImport rec left o i true = o
   findImport rec left o i false =
@@ -110,7 +110,7 @@ module _ (M : Type 0) (charge : M → Charged M) (s : Snapshot) (x : FindPathCtx
 
   -- `calculate_best_path`, the only rule that charges
   unfoldable pub calculateBestPath : Search M → ℕ → Item → M → Out M
-  calculateBestPath rec left item t = afterCharge rec left item (charge t)
+  calculateBestPath rec left item t = afterCharge rec left item (charge left (soughtOf x item) t)
 
   unfoldable pub orCharged : Search M → ℕ → ℕ → M → Choice → Bool → Out M
   orCharged rec left m t c true = record { choice = c; meter = t }

@@ -5,7 +5,7 @@ use mathlib.Core.Bool.{not}
 use mathlib.Core.Logic.{_↔_}
 use Prim.Native.Nat.{ℕ, min, _≤_, _<_}
 use lib.ListN.{length, getD}
-use Rattle.snapshot.specs.Limits.{nameLimit, fuelLimit}
+use Rattle.snapshot.specs.Limits.{moduleLimit, nameLimit, pathLimit, fuelLimit}
 use Rattle.snapshot.specs.Records.{Snapshot}
 use Rattle.accept.specs.Verdict.{accept, verdict}
 use Rattle.find_path.specs.declared.Query.{Query}
@@ -28,6 +28,8 @@ pub record Bounded (fuel : ℕ) (r : Report) : Type 0 where
   pub rest : (i : ℕ) → r .count ≤ i → getD (r .names) i 0 ≡ 0
   pub charges : r .charges ≤ fuel
   pub flagged : r .empty ≤ 1
+  -- nothing is told of a first empty tank where none was
+  pub untold : r .empty ≡ 0 → (r .left ≡ 0) × (r .sought ≡ 0)
 
 -- the names of the path are numbers of the snapshot's names
 abbrev pub NamesKnown : Snapshot → Report → Type 0
@@ -40,6 +42,8 @@ pub record Small (r : Report) : Type 0 where
   pub kind : r .kind ≤ 4
   pub names : (i : ℕ) → getD (r .names) i 0 < nameLimit
   pub charges : r .charges ≤ fuelLimit
+  pub left : r .left ≤ pathLimit
+  pub sought : r .sought ≤ moduleLimit
 
 -- the report has the path of the search without a tank, or none where it has none
 pub record Shows (free : Out ℕ) (r : Report) : Type 0 where

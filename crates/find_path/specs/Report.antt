@@ -12,7 +12,7 @@ use Rattle.find_path.specs.declared.Tank.{Tank}
 use Rattle.find_path.specs.declared.Query.{Query}
 use Rattle.find_path.specs.declared.Question.{Question}
 use Rattle.find_path.specs.declared.Report.{Report}
-use Rattle.find_path.specs.Meters.{fromTank, counted}
+use Rattle.find_path.specs.Meters.{fromTank, filled, counted}
 use Rattle.find_path.specs.Charged.{Out}
 use Rattle.find_path.specs.Search.{findPath}
 
@@ -38,13 +38,13 @@ questionFault s q =
 -- a refusal: all else is zero
 unfoldable pub refused : ℕ → Report
 refused n =
-    record { outcome = 2; number = n; kind = 0; names = replicate 16 0; count = 0; charges = 0; empty = 0 }
+    record { outcome = 2; number = n; kind = 0; names = replicate 16 0; count = 0; charges = 0; empty = 0; left = 0; sought = 0 }
 
 unfoldable pub flag : Bool → ℕ
 flag true = 1
 flag false = 0
 
--- what a search found, what it was charged, and whether it found the tank empty
+-- what a search found, what it was charged, and whether, and where first, it found the tank empty
 unfoldable pub reported : Out Tank → Report
 reported o =
     record {
@@ -55,11 +55,13 @@ reported o =
       count = o .choice .count;
       charges = o .meter .spent;
       empty = flag (o .meter .empty);
+      left = o .meter .left;
+      sought = o .meter .sought;
     }
 
 -- The search with a tank: the rules at the tank, which holds the fuel at first.
 unfoldable pub searched : Snapshot → Query → ℕ → Out Tank
-searched s q fuel = findPath Tank fromTank s q (record { fuel = fuel; spent = 0; empty = false })
+searched s q fuel = findPath Tank fromTank s q (filled fuel)
 
 -- The search without a tank: the rules at the count, which is 0 at first. It knows no fuel.
 unfoldable pub searchedFreely : Snapshot → Query → Out ℕ

@@ -1,5 +1,5 @@
 -- The rules that answer without a search, and what is set for a question.
-use Prim.Native.Nat.{ℕ, zero, suc, _/_, _%_}
+use Prim.Native.Nat.{ℕ, zero, suc, _+_, _/_, _%_}
 use mathlib.Core.List.{List, [], _∷_}
 use mathlib.Core.Bool.{Bool, true, false, _&&_, _||_, not}
 use mathlib.Core.Option.{Option, none, some}
@@ -44,6 +44,11 @@ unfoldable pub plainIf : Bool → ℕ → ℕ
 plainIf true p = plain
 plainIf false p = p
 
+-- the module that an item is, +1, or 0 where it is none
+unfoldable pub moduleIn : Item → ℕ
+moduleIn (Mod m) = m + 1
+moduleIn (Def ns d) = 0
+
 -- What `find_path` sets: Plain where the item's home is in a block; `prefer_no_std` by the option, the viewer's map or its crate.
 unfoldable pub contextOf : Snapshot → Query → ℕ → FindPathCtx
 contextOf s q home =
@@ -60,7 +65,12 @@ contextOf s q home =
       from = q .from;
       krate = crateOf s (q .from);
       root = crateRoot s (q .from);
+      own = moduleIn (itemOf s (q .ns) (q .definition));
     }
+
+-- what a charge looks for: a module, +1, or 0 for the question's own item or its enum, which is no module
+unfoldable pub soughtOf : FindPathCtx → Item → ℕ
+soughtOf x item = elim (eqb (moduleIn item) (x .own)) [ true ↦ 0 | false ↦ moduleIn item ]
 
 -- the first of the choices that is one
 unfoldable pub firstFound : List Choice → Choice

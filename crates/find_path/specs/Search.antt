@@ -14,7 +14,7 @@ use Rattle.find_path.specs.Choices.{plainPath, nothing, choiceNew}
 use Rattle.find_path.specs.Rules.{contextOf}
 use Rattle.find_path.specs.Walk.{Level}
 use Rattle.find_path.specs.Local.{LocalSearch, calculateBestPathLocal, findPathForModuleLocal}
-use Rattle.find_path.specs.Meters.{Charged}
+use Rattle.find_path.specs.Meters.{Charge}
 use Rattle.find_path.specs.Charged.{Out, Search, findPathForModule, findPathInner}
 
 module _ (s : Snapshot) (x : FindPathCtx) where
@@ -30,7 +30,7 @@ module _ (s : Snapshot) (x : FindPathCtx) where
   unfoldable pub bestLocal : ℕ → Item → Choice
   bestLocal left item = calculateBestPathLocal s x searchLocal left [] item
 
-module _ (M : Type 0) (charge : M → Charged M) (s : Snapshot) where
+module _ (M : Type 0) (charge : Charge M) (s : Snapshot) where
   module _ (x : FindPathCtx) where
     unfoldable pub moduleTo : ℕ → Search M
     moduleTo zero left m t = record { choice = nothing; meter = t }

@@ -1,6 +1,7 @@
 //! What the search takes and answers.
 
-// What is set once for a question (`FindPathCtx`): `nostd` is prefer_no_std, `declared` ignore_local_imports, `std` is_std_item.
+// What is set once for a question (`FindPathCtx`): `nostd` is prefer_no_std, `declared` ignore_local_imports, `std` is_std_item;
+// `own` is the module asked for, +1, or 0 where the item is no module.
 pub struct FindPathCtx {
     pub prefix: usize,
     pub nostd: bool,
@@ -12,6 +13,7 @@ pub struct FindPathCtx {
     pub from: usize,
     pub krate: usize,
     pub root: usize,
+    pub own: usize,
 }
 
 // A path, or none. `kind` is 0 plain, 1 self, 2 super, 3 crate, 4 a leading `::`; `text` is the length of its text;
@@ -32,11 +34,14 @@ pub enum KwKind {
     NoKw,
 }
 
-// The fuel left, the charges so far, and whether a charge found no fuel.
+// The fuel left, the charges so far, and whether a charge found no fuel. Of the first that found none: the length left, and the module
+// that it looked for, +1, or 0 for the question's own item or its enum.
 pub struct Tank {
     pub fuel: usize,
     pub spent: usize,
     pub empty: bool,
+    pub left: usize,
+    pub sought: usize,
 }
 
 // What a charge leaves: it goes on, or stops.
@@ -66,7 +71,8 @@ pub struct Question {
     pub fuel: usize,
 }
 
-// A report: outcome 0 found, 1 none, 2 refused by the number; then the path, the charges, and empty 0 or 1.
+// A report: outcome 0 found, 1 none, 2 refused by the number; then the path, the charges, and empty 0 or 1;
+// `left` and `sought` are those of the first charge that found the tank empty, 0 where none did.
 pub struct Report {
     pub outcome: usize,
     pub number: usize,
@@ -75,4 +81,6 @@ pub struct Report {
     pub count: usize,
     pub charges: usize,
     pub empty: usize,
+    pub left: usize,
+    pub sought: usize,
 }

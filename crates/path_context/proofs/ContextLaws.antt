@@ -3,17 +3,21 @@ use Prim.Native.Nat.{ℕ, zero, suc, _+_, _-_}
 use mathlib.Core.Path.{_≡_, refl, sym, _∙_, ap}
 use mathlib.Core.Bool.{Bool, true, false, _||_}
 use native.Mathlib.Omega.{arith}
+use borrow.Author.Tests.{eq-eqb, ne-eqb}
 use lib.Dec.{eqb}
 use Rattle.snapshot.specs.Records.{Snapshot}
-use Rattle.hir_def.specs.Items.{mapNo, mapOf, crateOf, crateData, inBlock, crateRoot, isLang}
+use Rattle.hir_def.specs.Items.{mapNo, mapOf, crateOf, crateData, inBlock, crateRoot, isLang, itemOf}
+use Rattle.hir_def.specs.declared.Item.{Item}
+use Rattle.hir_def.specs.declared.Item.the-variants.{Mod, Def}
+use Rattle.find_path.specs.declared.Tank.{Tank}
 use Rattle.find_path.specs.declared.FindPathCtx.{FindPathCtx}
 use Rattle.find_path.specs.declared.Query.{Query}
-use Rattle.find_path.specs.Rules.{bit, plainIf, contextOf}
-use Rattle.find_path.specs.Meters.{go, stop, draw}
+use Rattle.find_path.specs.Rules.{bit, plainIf, moduleIn, contextOf, soughtOf}
+use Rattle.find_path.specs.Meters.{go, stop, drained, draw, fromTank}
 
 -- what is set, part by part
-module _ (s : Snapshot) (q : Query) (home : ℕ) {i a b z b₁ b₂ b₃ b₄ b₅ : Bool} {p c d r : ℕ} where
-  pub context-same : i ≡ inBlock s home → p ≡ plainIf i (q .prefix) → c ≡ crateOf s (q .from)
+module _ (s : Snapshot) (q : Query) (home : ℕ) {i a b z b₁ b₂ b₃ b₄ b₅ : Bool} {p c d r o : ℕ} where
+  pub context-same : o ≡ moduleIn (itemOf s (q .ns) (q .definition)) → i ≡ inBlock s home → p ≡ plainIf i (q .prefix) → c ≡ crateOf s (q .from)
       → a ≡ eqb (mapOf s (mapNo s (q .from)) .noStd) 1 → b ≡ eqb (crateData s c .noStd) 1
       → b₁ ≡ bit (q .options) 1 → b₂ ≡ bit (q .options) 2 → b₃ ≡ bit (q .options) 4 → b₄ ≡ bit (q .options) 8 → b₅ ≡ bit (q .options) 16
       → d ≡ crateOf s home → z ≡ isLang s d → r ≡ crateRoot s (q .from)
@@ -29,10 +33,11 @@ module _ (s : Snapshot) (q : Query) (home : ℕ) {i a b z b₁ b₂ b₃ b₄ b�
         from = q .from;
         krate = c;
         root = r;
+        own = o;
       })
       (contextOf s q home)
   unfolding contextOf
-  context-same ei ep ec ea eb e₁ e₂ e₃ e₄ e₅ ed ez er =
+  context-same eo ei ep ec ea eb e₁ e₂ e₃ e₄ e₅ ed ez er =
       let kp = ep ∙ ap (λ t. plainIf t (q .prefix)) ei in
       let kb = eb ∙ ap (λ k. eqb (crateData s k .noStd) 1) ec in
       let kz = ez ∙ ap (isLang s) ed in
@@ -48,6 +53,7 @@ module _ (s : Snapshot) (q : Query) (home : ℕ) {i a b z b₁ b₂ b₃ b₄ b�
         from = q .from;
         krate = ec j;
         root = er j;
+        own = eo j;
       }
 
 pub plain-block : (b : Bool) (p : ℕ) → b ≡ true → 1 ≡ plainIf b p
@@ -59,12 +65,48 @@ unfolding plainIf
 plain-other b p e = sym (ap (λ t. plainIf t p) e)
 
 -- a charge by the fuel
-pub charge-stops : (f p : ℕ) (e : Bool) → f ≡ 0 → stop (record { fuel = 0; spent = p; empty = true }) ≡ draw f p e
-unfolding draw
-charge-stops zero p e h = refl
-charge-stops (suc f) p e h = absurd (omega arith)
 
-pub charge-goes : (f p : ℕ) (e : Bool) → (f ≡ 0 → ⊥) → go (record { fuel = f - 1; spent = p + 1; empty = e }) ≡ draw f p e
+pub charge-stops : (left sought : ℕ) (t u : Tank) → u ≡ drained left sought t (t .empty) → t .fuel ≡ 0 → stop u ≡ fromTank left sought t
+unfolding fromTank draw
+charge-stops left sought t u e h = ap stop e ∙ ap (draw left sought t) (sym h)
+
+draw-goes : (left sought : ℕ) (t : Tank) (f : ℕ) → (f ≡ 0 → ⊥)
+    → go (record { fuel = f - 1; spent = t .spent + 1; empty = t .empty; left = t .left; sought = t .sought }) ≡ draw left sought t f
 unfolding draw
-charge-goes zero p e h = absurd (h refl)
-charge-goes (suc f) p e h = let q : suc f - 1 ≡ f = omega arith in ap (λ k. go (record { fuel = k; spent = p + 1; empty = e })) q
+draw-goes left sought t zero h = absurd (h refl)
+draw-goes left sought t (suc f) h =
+    let q : suc f - 1 ≡ f = omega arith in
+    ap (λ k. go (record { fuel = k; spent = t .spent + 1; empty = t .empty; left = t .left; sought = t .sought })) q
+
+pub charge-goes : (left sought : ℕ) (t : Tank) → (t .fuel ≡ 0 → ⊥)
+    → go (record { fuel = t .fuel - 1; spent = t .spent + 1; empty = t .empty; left = t .left; sought = t .sought }) ≡ fromTank left sought t
+unfolding fromTank
+charge-goes left sought t h = draw-goes left sought t (t .fuel) h
+
+pub drained-again : (left sought : ℕ) (t : Tank) → t .empty ≡ true
+    → record { fuel = 0; spent = t .spent; empty = true; left = t .left; sought = t .sought } ≡ drained left sought t (t .empty)
+unfolding drained
+drained-again left sought t e = ap (drained left sought t) (sym e)
+
+pub drained-first : (left sought : ℕ) (t : Tank) → t .empty ≡ false
+    → record { fuel = 0; spent = t .spent; empty = true; left = left; sought = sought } ≡ drained left sought t (t .empty)
+unfolding drained
+drained-first left sought t e = ap (drained left sought t) (sym e)
+
+-- what a charge looks for
+
+pub in-module : (item : Item) (m : ℕ) → item ≡ Mod m → m + 1 ≡ moduleIn item
+unfolding moduleIn
+in-module item m e = ap moduleIn (sym e)
+
+pub in-none : (item : Item) (ns d : ℕ) → item ≡ Def ns d → 0 ≡ moduleIn item
+unfolding moduleIn
+in-none item ns d e = ap moduleIn (sym e)
+
+pub sought-own : (x : FindPathCtx) (item : Item) (m : ℕ) → m ≡ moduleIn item → m ≡ x .own → 0 ≡ soughtOf x item
+unfolding soughtOf
+sought-own x item m e h = sym (rw (soughtOf, eq-eqb _ _ (sym e ∙ h)))
+
+pub sought-other : (x : FindPathCtx) (item : Item) (m : ℕ) → m ≡ moduleIn item → (m ≡ x .own → ⊥) → m ≡ soughtOf x item
+unfolding soughtOf
+sought-other x item m e h = e ∙ sym (rw (soughtOf, ne-eqb _ _ (λ k. h (e ∙ k))))

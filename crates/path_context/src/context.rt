@@ -5,13 +5,15 @@ ghost use Rattle.snapshot.specs.Records.{scopeAt};
 ghost use Rattle.snapshot.specs.Layouts.{snapOf};
 ghost use Rattle.accept.specs.Post.{Reads};
 ghost use Rattle.hir_def.specs.Visibility.{sees as seesOf};
-ghost use Rattle.find_path.specs.Rules.{bit as bitOf, plainIf, contextOf};
-ghost use Rattle.find_path.specs.Meters.{fromTank};
+ghost use Rattle.hir_def.specs.Items.{itemOf};
+ghost use Rattle.find_path.specs.Rules.{bit as bitOf, plainIf, moduleIn, contextOf, soughtOf};
+ghost use Rattle.find_path.specs.Meters.{drained as drainedTo, fromTank};
 ghost use Rattle.find_path.specs.Conditions.{chargedBy};
 use find_path::Drawn;
 use find_path::FindPathCtx;
 use find_path::Query;
 use find_path::Tank;
+use hir_def::Item;
 use hir_def::items::is_lang;
 use hir_def::items::supports_no_std;
 use hir_def::modules::crate_root;
@@ -52,9 +54,27 @@ fn plain_if(block: bool, prefix: usize) -> usize
     prefix
 }
 
-/// What is set for a question about an item of that home.
-pub fn context(words: &[u32], area: &[u32], l: Layout, q: Query, home: ModuleId) -> FindPathCtx
-    requires { ⌜ Reads (now words) (now area) l × (q .from < l .modules) × (home .0 < l .modules) ⌝ }
+/// The module that an item is, +1, or 0 where it is none.
+pub fn module_in(item: Item) -> usize
+    requires { ⌜ moduleIn item < 2 ^ 32 ⌝ }
+    ensures { λ r. ⌜ r ≡ moduleIn item ⌝ }
+{
+    match item {
+        Item::Mod(m) => m + 1,
+        Item::Def(_, _) => 0,
+    }
+}
+
+/// What is set for a question about an item of that home; `own` is the module that the item is, +1, or 0.
+pub fn context(
+    words: &[u32],
+    area: &[u32],
+    l: Layout,
+    q: Query,
+    home: ModuleId,
+    own: usize,
+) -> FindPathCtx
+    requires { ⌜ Reads (now words) (now area) l × (q .from < l .modules) × (home .0 < l .modules) × (own ≡ moduleIn (itemOf (snapOf (now words) (now area) l) (q .ns) (q .definition))) ⌝ }
     ensures { λ r. ⌜ r ≡ contextOf (snapOf (now (words .entry)) (now (area .entry)) l) q (home .0) ⌝ }
 {
     let options = q.options;
@@ -81,6 +101,7 @@ pub fn context(words: &[u32], area: &[u32], l: Layout, q: Query, home: ModuleId)
         from: q.from,
         krate: here.0,
         root: root.0,
+        own: own,
     }
 }
 
@@ -94,23 +115,63 @@ pub fn sees(words: &[u32], area: &[u32], l: Layout, x: FindPathCtx, h: usize) ->
     is_visible_from(words, area, l, kind, number, ModuleId(x.from))
 }
 
-/// A charge: it takes one from the fuel and is counted; at fuel 0 it stops, and the tank is found empty.
-pub fn charge(t: Tank) -> Drawn
+// What a charge looks for: a module, +1, or 0 for the question's own item or its enum.
+fn sought_of(x: FindPathCtx, item: Item) -> usize
+    requires { ⌜ moduleIn item < 2 ^ 32 ⌝ }
+    ensures { λ r. ⌜ r ≡ soughtOf x item ⌝ }
+{
+    let m = module_in(item);
+    if m == x.own {
+        return 0;
+    }
+    m
+}
+
+// The tank that is found empty: the first time, with what the charge was told.
+fn drained(t: Tank, left: usize, sought: usize) -> Tank
+    ensures { λ r. ⌜ r ≡ drainedTo left sought t (t .empty) ⌝ }
+{
+    if t.empty {
+        return Tank {
+            fuel: 0,
+            spent: t.spent,
+            empty: true,
+            left: t.left,
+            sought: t.sought,
+        };
+    }
+    Tank {
+        fuel: 0,
+        spent: t.spent,
+        empty: true,
+        left: left,
+        sought: sought,
+    }
+}
+
+// Takes one from the fuel and counts it; at fuel 0 the tank is found empty.
+fn take_unit(t: Tank, left: usize, sought: usize) -> Drawn
     requires { ⌜ t .fuel + t .spent < 2 ^ 32 ⌝ }
-    ensures { λ r. ⌜ chargedBy r ≡ fromTank t ⌝ }
+    ensures { λ r. ⌜ chargedBy r ≡ fromTank left sought t ⌝ }
 {
     let fuel = t.fuel;
     let spent = t.spent;
     if fuel == 0 {
-        return Drawn::Stop(Tank {
-            fuel: 0,
-            spent: spent,
-            empty: true,
-        });
+        return Drawn::Stop(drained(t, left, sought));
     }
     Drawn::Go(Tank {
         fuel: fuel - 1,
         spent: spent + 1,
         empty: t.empty,
+        left: t.left,
+        sought: t.sought,
     })
+}
+
+/// A charge for an item at a length left: it takes one from the fuel and is counted; at fuel 0 it stops, and the tank is found empty.
+pub fn charge(x: FindPathCtx, left: usize, item: Item, t: Tank) -> Drawn
+    requires { ⌜ (moduleIn item < 2 ^ 32) × (t .fuel + t .spent < 2 ^ 32) ⌝ }
+    ensures { λ r. ⌜ chargedBy r ≡ fromTank left (soughtOf x item) t ⌝ }
+{
+    take_unit(t, left, sought_of(x, item))
 }

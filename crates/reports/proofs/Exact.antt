@@ -18,16 +18,19 @@ all-low : (ns : List ℕ) → ((i : ℕ) → getD ns i 0 ≤ 10000) → map low 
 all-low [] h = refl
 all-low (n ∷ ns) h = ap₂ (λ x l. x ∷ l) (low-same n (h 0)) (all-low ns (λ i. h (suc i)))
 
-three-low : (a b c : ℕ) → a ≤ 10000 → b ≤ 10000 → c ≤ 10000 → map low (a ∷ b ∷ c ∷ []) ≡ a ∷ b ∷ c ∷ []
-three-low a b c h k l = ap₂ (λ x l. x ∷ l) (low-same a h) (ap₂ (λ x y. x ∷ y ∷ []) (low-same b k) (low-same c l))
+none-low : map low [] ≡ []
+none-low = refl
+
+each-low : (x : ℕ) {l : List ℕ} → x ≤ 10000 → map low l ≡ l → map low (x ∷ l) ≡ x ∷ l
+each-low x h e = ap₂ (λ y l. y ∷ l) (low-same x h) e
 
 exact : (fuel : ℕ) (r : Report) → Bounded fuel r → Small r → reportWords r ≡ reportNumbers r
 unfolding reportWords reportNumbers
 exact fuel r b s =
     ap₂ (λ x y. x ++ y)
-    (three-low _ _ _ (omega (arith, s .outcome)) (omega (arith, s .number)) (omega (arith, s .kind)))
+    (each-low (r .outcome) (omega (arith, s .outcome)) (each-low (r .number) (omega (arith, s .number)) (each-low (r .kind) (omega (arith, s .kind)) none-low)))
     (ap₂ (λ x y. x ++ y) (all-low (r .names) (λ i. omega (arith, s .names i)))
-    (three-low _ _ _ (omega (arith, b .few)) (s .charges) (omega (arith, b .flagged))))
+    (each-low (r .count) (omega (arith, b .few)) (each-low (r .charges) (s .charges) (each-low (r .empty) (omega (arith, b .flagged)) (each-low (r .left) (omega (arith, s .left)) (each-low (r .sought) (omega (arith, s .sought)) none-low))))))
 
 -- A report in words loses nothing: they are its numbers.
 pub report-exact : (words : List ℕ) (area : ℕ) (q : Question) → reportWords (reportOf words area q) ≡ reportNumbers (reportOf words area q)

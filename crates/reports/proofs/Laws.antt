@@ -26,6 +26,8 @@ pub reported-same : (f : Found) (a e : ℕ) → a ≡ flag (not (f .choice .foun
       count = f .choice .count;
       charges = f .meter .spent;
       empty = e;
+      left = f .meter .left;
+      sought = f .meter .sought;
     }) (reported (outOf f))
 unfolding reported
 reported-same f a e p q = λ i. record {
@@ -36,6 +38,8 @@ reported-same f a e p q = λ i. record {
   count = f .choice .count;
   charges = f .meter .spent;
   empty = q i;
+  left = f .meter .left;
+  sought = f .meter .sought;
 }
 
 pub reported-out : (f : Found) (o : Out Tank) → f ≡ foundOf o → reported (outOf f) ≡ reported o
@@ -95,24 +99,24 @@ module _ (r : Report) (old : List ℕ) where
   parts-written : (x y z : List ℕ) → length (r .names) ≡ 16
       → x ≡ take 0 old ++ (map low (r .outcome ∷ r .number ∷ r .kind ∷ []) ++ drop 3 old)
       → y ≡ take 3 x ++ (map low (r .names) ++ drop 19 x)
-      → z ≡ take 19 y ++ (map low (r .count ∷ r .charges ∷ r .empty ∷ []) ++ drop 22 y)
-      → z ≡ reportWords r ++ drop 22 old
+      → z ≡ take 19 y ++ (map low (r .count ∷ r .charges ∷ r .empty ∷ r .left ∷ r .sought ∷ []) ++ drop 24 y)
+      → z ≡ reportWords r ++ drop 24 old
   unfolding reportWords
   parts-written x y z l ex ey ez =
       let H : List ℕ = map low (r .outcome ∷ r .number ∷ r .kind ∷ []) in
       let N : List ℕ = map low (r .names) in
-      let R : List ℕ = map low (r .count ∷ r .charges ∷ r .empty ∷ []) in
+      let R : List ℕ = map low (r .count ∷ r .charges ∷ r .empty ∷ r .left ∷ r .sought ∷ []) in
       let m : length N ≡ 16 = length-map (r .names) ∙ l in
       let n : length (H ++ N) ≡ 19 = length-append H N ∙ ap (λ k. 3 + k) m in
       let a : y ≡ (H ++ N) ++ drop 16 (drop 3 old) = ey ∙ paste x H (drop 3 old) N 3 16 19 refl refl ex in
-      let b : z ≡ ((H ++ N) ++ R) ++ drop 3 (drop 16 (drop 3 old)) = ez ∙ paste y (H ++ N) (drop 16 (drop 3 old)) R 19 3 22 n refl a in
-      let d : drop 3 (drop 16 (drop 3 old)) ≡ drop 22 old = drop-drop 3 16 (drop 3 old) ∙ drop-drop 19 3 old in
+      let b : z ≡ ((H ++ N) ++ R) ++ drop 5 (drop 16 (drop 3 old)) = ez ∙ paste y (H ++ N) (drop 16 (drop 3 old)) R 19 5 24 n refl a in
+      let d : drop 5 (drop 16 (drop 3 old)) ≡ drop 24 old = drop-drop 5 16 (drop 3 old) ∙ drop-drop 21 3 old in
       b ∙ ap₂ (λ u v. u ++ v) (append-assoc H N R) d
 
-  pub written : (x y z : List ℕ) → 22 ≤ length old → length (r .names) ≡ 16
+  pub written : (x y z : List ℕ) → 24 ≤ length old → length (r .names) ≡ 16
       → x ≡ take 0 old ++ (map low (r .outcome ∷ r .number ∷ r .kind ∷ []) ++ drop 3 old)
       → y ≡ take 3 x ++ (map low (r .names) ++ drop (3 + length (r .names)) x)
-      → z ≡ take 19 y ++ (map low (r .count ∷ r .charges ∷ r .empty ∷ []) ++ drop 22 y)
+      → z ≡ take 19 y ++ (map low (r .count ∷ r .charges ∷ r .empty ∷ r .left ∷ r .sought ∷ []) ++ drop 24 y)
       → Written r old z true
   unfolding writtenTo
   written x y z h l ex ey ez =
@@ -122,6 +126,6 @@ module _ (r : Report) (old : List ℕ) where
         done = sym (le-leb _ _ h);
       }
 
-  pub not-written : length old < 22 → Written r old old false
+  pub not-written : length old < 24 → Written r old old false
   unfolding writtenTo
   not-written h = record { words = sym (rw (writtenTo, lt-ltb _ _ h)); done = sym (lt-leb _ _ h) }

@@ -22,6 +22,8 @@ pub fn refused(number: usize) -> Report
         count: 0,
         charges: 0,
         empty: 0,
+        left: 0,
+        sought: 0,
     }
 }
 
@@ -31,7 +33,7 @@ fn flag(b: bool) -> usize
     if b { 1 } else { 0 }
 }
 
-/// What a search found, what it was charged, and whether it found the tank empty.
+/// What a search found, what it was charged, and whether, and where first, it found the tank empty.
 pub fn reported(f: Found) -> Report
     ensures { λ r. ⌜ r ≡ reportedOf (outOf f) ⌝ }
 {
@@ -46,6 +48,8 @@ pub fn reported(f: Found) -> Report
         count: c.count,
         charges: t.spent,
         empty: flag(t.empty),
+        left: t.left,
+        sought: t.sought,
     }
 }
 
@@ -54,7 +58,7 @@ pub struct ReportWords(pub usize);
 
 impl ReportWords {
     /// Words of a report.
-    pub const COUNT: usize = 22;
+    pub const COUNT: usize = 24;
 }
 
 // A number in a word: its lowest 32 bits.
@@ -87,7 +91,13 @@ pub fn write_report(report: Report, out: &mut [u32]) -> bool
     put_words(out, 0, &head);
     let names = report.names;
     put_words(out, 3, &names);
-    let rest = [report.count, report.charges, report.empty];
+    let rest = [
+        report.count,
+        report.charges,
+        report.empty,
+        report.left,
+        report.sought,
+    ];
     put_words(out, 19, &rest);
     true
 }

@@ -25,7 +25,7 @@ use Rattle.find_path.specs.declared.FindPathCtx.{FindPathCtx}
 use Rattle.find_path.specs.declared.Query.{Query}
 use Rattle.find_path.specs.Choices.{nothing, choiceNew, push}
 use Rattle.find_path.specs.Rules.{contextOf, firstFound, scopeRule, preludeRule}
-use Rattle.find_path.specs.Meters.{fromTank}
+use Rattle.find_path.specs.Meters.{fromTank, filled}
 use Rattle.find_path.specs.Charged.{Out, foundOf, variantOf}
 use Rattle.find_path.specs.Search.{fromHome, fromItem, findPath}
 use Rattle.find_path.specs.Report.{searched}
@@ -97,7 +97,7 @@ module _ {W A₀ B : List ℕ} {l : Layout} {x : FindPathCtx} (p : Prepared W A�
 
 -- the whole search
 abbrev pub full : ℕ → Tank
-full fuel = record { fuel = fuel; spent = 0; empty = false }
+full fuel = record { fuel = fuel; spent = 0; empty = false; left = 0; sought = 0 }
 
 module _ (s : Snapshot) (q : Query) (fuel : ℕ) where
   abbrev from : Bool → Out Tank
@@ -108,7 +108,7 @@ module _ (s : Snapshot) (q : Query) (fuel : ℕ) where
   builtin k = eqb (q .ns) 0 && eqb k 3
 
   by-builtin : (b : Bool) {k : ℕ} → k ≡ definitionOf s (q .definition) .kind → builtin k ≡ b → from b ≡ searched s q fuel
-  unfolding searched findPath
+  unfolding searched findPath filled
   by-builtin b e h = ap from (sym h ∙ ap builtin e)
 
   pub start-builtin : {k n : ℕ} {c : Choice} → k ≡ definitionOf s (q .definition) .kind → builtin k ≡ true → n ≡ definitionOf s (q .definition) .first

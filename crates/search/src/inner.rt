@@ -35,6 +35,7 @@ use path_rules::choices::choice_new;
 use path_rules::choices::nothing;
 use path_rules::choices::push;
 use path_rules::context::context;
+use path_rules::context::module_in;
 use path_rules::rules::prelude_rule;
 use path_rules::rules::scope_rule;
 use search_parts::straight_of;
@@ -147,6 +148,8 @@ pub fn find_path(words: &[u32], area: &mut [u32], l: Layout, q: Query, fuel: usi
         fuel: fuel,
         spent: 0,
         empty: false,
+        left: 0,
+        sought: 0,
     };
     if (q.ns == Namespace::TYPES) & (kind_of(words, l, d) == DefinitionKind::BUILTIN) {
         let choice = choice_new(words, area, l, 0, Name(first_of(words, l, d)));
@@ -164,6 +167,7 @@ pub fn find_path(words: &[u32], area: &mut [u32], l: Layout, q: Query, fuel: usi
             meter: meter,
         };
     }
-    let x = context(words, area, l, q, ModuleId(home - 1));
+    let own = module_in(item);
+    let x = context(words, area, l, q, ModuleId(home - 1), own);
     find_path_inner(words, area, l, x, item, meter)
 }

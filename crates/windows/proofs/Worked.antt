@@ -42,13 +42,13 @@ asked fuel = record { query = record { ns = 1; definition = 1; from = 0; prefix 
 
 -- `found a::f 1 0` of a window, `refused 21 0 0` of a window, and an idle turn
 abbrev found : ℕ → List ℕ
-found w = 0 ∷ w ∷ 0 ∷ 0 ∷ 0 ∷ 0 ∷ 1 ∷ replicate 14 0 ++ (2 ∷ 1 ∷ 0 ∷ [])
+found w = 0 ∷ w ∷ 0 ∷ 0 ∷ 0 ∷ 0 ∷ 1 ∷ replicate 14 0 ++ (2 ∷ 1 ∷ 0 ∷ 0 ∷ 0 ∷ [])
 
 abbrev refused : ℕ → List ℕ
-refused w = 0 ∷ w ∷ 2 ∷ 21 ∷ replicate 20 0
+refused w = 0 ∷ w ∷ 2 ∷ 21 ∷ replicate 22 0
 
 abbrev idle : List ℕ
-idle = 1 ∷ 8 ∷ 2 ∷ replicate 21 0
+idle = 1 ∷ 8 ∷ 2 ∷ replicate 23 0
 
 abbrev row : List Operation → List ℕ → Row
 row os t = record { operations = os; turns = t }

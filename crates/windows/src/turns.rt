@@ -2,6 +2,7 @@
 ghost use mathlib.Core.Path.{_≡_};
 ghost use Rattle.windows.specs.Windows.{idleTurn};
 use find_path::Report;
+use reports::report::refused;
 use window_state::rows::WindowCount;
 
 /// A turn: idle, or the window that was served and the report of its question.
@@ -15,16 +16,7 @@ pub struct Turn {
 pub fn idle_turn() -> Turn
     ensures { λ r. ⌜ r ≡ idleTurn ⌝ }
 {
-    let names = [0usize; 16];
-    let report = Report {
-        outcome: 2,
-        number: 0,
-        kind: 0,
-        names: names,
-        count: 0,
-        charges: 0,
-        empty: 0,
-    };
+    let report = refused(0);
     Turn {
         idle: true,
         window: WindowCount::LIMIT,

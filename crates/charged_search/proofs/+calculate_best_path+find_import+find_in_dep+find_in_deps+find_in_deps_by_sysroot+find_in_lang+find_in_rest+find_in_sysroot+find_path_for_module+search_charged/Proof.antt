@@ -19,7 +19,7 @@ use Rattle.find_path.proofs.Unfold.{length-falls}
 use Rattle.find_path.proofs.Tables.{same-reads}
 use Rattle.charged_search.specs.Parts.{outOf, imports, dependencies, sysroot}
 use Rattle.charged_search.proofs.Parts.{at-home, module-ns, module-none, module-found, module-charged, best-empty, best-charged, go-here, go-sysroot, go-dependencies, lang-stable, lang-none, lang-some, rest-stable, import-hidden}
-use Rattle.charged_search.proofs.Holding.{offered, charge-sum, held-nothing, home-below}
+use Rattle.charged_search.proofs.Holding.{offered, charge-sum, module-small, held-nothing, home-below}
 use Rattle.charged_search.proofs.Runs.{Running, begun-later, lang-passed, deps-passed, lang-run, rest-run, import-run, running-done, left-none, imports-end, imports-next, deps-end, deps-next}
 use borrow.Fn.Kinds.{In}
 use borrow.Fn.PlainCycle.{Measures, is, falls, and}
@@ -247,7 +247,9 @@ calculate-best-path-charge-requires : (t : ℕ) → calculate-best-path-lts.Need
   search-charged-below t,
   search-charged.Post,
 ) (calculate-best-path-at t) calculate-best-path.Post
-calculate-best-path-charge-requires t c κs = c .before .before .pre .1 .2
+calculate-best-path-charge-requires t c κs =
+    let o = c .before .before in
+    (module-small (now (o .args .words)) (now (o .args .area)) (o .args .l) (o .args .item) (o .pre .1 .0 .ready .reads) (o .pre .1 .1 .0), o .pre .1 .2)
 
 calculate-best-path-enum-known-meter : (t : ℕ) → calculate-best-path-lts.Need-enum-known-meter (
   charge-reads.Asked,
@@ -291,7 +293,7 @@ calculate-best-path-search-charged-requires :
 calculate-best-path-search-charged-requires t c κs =
     let o = c .before .before .before .before .before .before .before in
     let a = o .args in
-    (omega (arith, o .pre .0), (o .pre .1 .0, o .pre .1 .1, charge-sum (a .t) (c .before .before .before .before .charge .ensures) (c .before .before .meter2 .given .1) (o .pre .1 .2)))
+    (omega (arith, o .pre .0), (o .pre .1 .0, o .pre .1 .1, charge-sum (a .left) _ (a .t) (c .before .before .before .before .charge .ensures) (c .before .before .meter2 .given .1) (o .pre .1 .2)))
 
 calculate-best-path-returns : (t : ℕ) → calculate-best-path-lts.Need-returns (
   charge-reads.Asked,

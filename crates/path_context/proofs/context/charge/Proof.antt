@@ -1,27 +1,19 @@
 use borrow.Author.Needs.{needs}
+use mathlib.Core.Path.{ap, _∙_}
 use Rattle.find_path.specs.Meters.{fromTank}
-use Rattle.find_path.specs.Conditions.{chargedBy}
-use Rattle.path_context.proofs.ContextLaws.{charge-stops, charge-goes}
 use Rattle.path_context.proofs.context.charge.Statement.{statement}
 use Rattle.path_context.proofs.context.charge.Tie as tie
 
+sought-of-requires : tie.Need-sought-of-requires
+sought-of-requires c κs = search needs
+
+take-unit-requires : tie.Need-take-unit-requires
+take-unit-requires c κs = search needs
+
 returns : tie.Need-returns
-unfolding chargedBy fromTank
 returns c =
-    let s = c .before in
-    charge-stops (s .args .t .fuel) (s .args .t .spent) (s .args .t .empty) (c .if1 .taken)
-
-sub-t6 : tie.Need-sub-t6
-sub-t6 c = search needs
-
-add-t7 : tie.Need-add-t7
-add-t7 c = search needs
-
-returns-2 : tie.Need-returns-2
-unfolding chargedBy fromTank
-returns-2 c =
-    let s = c .before in
-    charge-goes (s .args .t .fuel) (s .args .t .spent) (s .args .t .empty) (c .if1 .left)
+    let s = c .before .before .args in
+    c .take-unit .ensures ∙ ap (λ n. fromTank (s .left) n (s .t)) (c .before .sought-of .ensures)
 
 pub charge-spec : {M : Type 1} → statement M
-charge-spec = tie.close (tie.spec returns sub-t6 add-t7 returns-2)
+charge-spec = tie.close (tie.spec sought-of-requires take-unit-requires returns)

@@ -52,7 +52,7 @@ returns c =
     let s = c .before .before .before .before .before .before .before .before .before .before .before .before .before .before .before in
     let n = snapOf (now (s .args .words)) (now (s .args .area)) (s .args .l) in
     let A = now (s .args .area) in
-    context-same n (s .args .q) (s .args .home .0) (c .before .before .before .before .before .before .before .before .before .before .before .before .in-block .ensures) (c .before .before .before .before .before .before .before .before .before .before .before .plain-if .ensures) (c .before .before .before .before .before .before .before .before .before .before .krate .ensures)
+    context-same n (s .args .q) (s .args .home .0) (s .pre .3) (c .before .before .before .before .before .before .before .before .before .before .before .before .in-block .ensures) (c .before .before .before .before .before .before .before .before .before .before .before .plain-if .ensures) (c .before .before .before .before .before .before .before .before .before .before .krate .ensures)
     (c .before .before .before .before .before .before .before .before .before .no-std .ensures) (c .before .before .before .before .before .before .before .before .supports-no-std .ensures A)
     (c .before .before .before .before .before .before .before .bit .ensures) (c .before .before .before .before .before .before .bit2 .ensures) (c .before .before .before .before .before .bit3 .ensures) (c .before .before .before .before .bit4 .ensures) (c .before .before .before .bit5 .ensures)
     (c .before .before .krate2 .ensures) (c .before .is-lang .ensures A) (c .crate-root .ensures)

@@ -7,7 +7,9 @@ use Rattle.hir_def.specs.Items.{nsOf}
 use Rattle.hir_def.specs.Entries.{Known}
 use Rattle.hir_def.specs.declared.Item.{Item}
 use Rattle.hir_def.proofs.Fits.{few-words, item-known}
+use Rattle.find_path.specs.Rules.{moduleIn}
 use Rattle.find_path.specs.Charged.{foundOf}
+use Rattle.charged_search.proofs.Holding.{module-small}
 use Rattle.search.proofs.Items.{item-ns}
 use Rattle.search.proofs.Starts.{builtin-name, home-there, context-from, start-builtin, start-none, start-item}
 use Rattle.search.proofs.inner.find_path.Statement.{statement}
@@ -52,24 +54,32 @@ returns-2 c =
     let a = o .args in
     record { same = start-none (snapOf (now (a .words)) (now (a .area)) (a .l)) (a .q) (a .fuel) _ _ (c .before .before .before .before .before .kind-of .ensures (now (a .area))) (c .before .before .before .before .if1 .left) (c .before .before .before .item-of .ensures (now (a .area))) (c .before .before .home-of .ensures (now (a .area))) (c .before .if2 .taken) (c .nothing .ensures); tables = refl }
 
-sub-t14 : tie.Need-sub-t14
-sub-t14 c = omega (arith, c .before .if2 .left)
+module-in-requires : tie.Need-module-in-requires
+module-in-requires c κs =
+    let o = c .before .before .before .before .before .before .before .before in
+    let a = o .args in
+    let k = subst (Known (a .l)) (sym (c .before .before .item-of .ensures (now (a .area)))) (item-known (now (a .words)) (now (a .area)) (a .l) (o .pre .0) (a .q .ns) (a .q .definition) (o .pre .2)) in
+    module-small (now (a .words)) (now (a .area)) (a .l) _ (o .pre .0) k
+
+sub-t15 : tie.Need-sub-t15
+sub-t15 c = omega (arith, c .before .before .if2 .left)
 
 context-requires : tie.Need-context-requires
 context-requires c κs =
-    let o = c .before .before .before .before .before .before .before .before .before in
+    let o = c .before .before .before .before .before .before .before .before .before .before in
     let a = o .args in
-    let k = subst (Known (a .l)) (sym (c .before .before .before .item-of .ensures (now (a .area)))) (item-known (now (a .words)) (now (a .area)) (a .l) (o .pre .0) (a .q .ns) (a .q .definition) (o .pre .2)) in
-    (o .pre .0, o .pre .3, home-there (now (a .words)) (now (a .area)) (a .l) (o .pre .0) _ k (c .before .before .home-of .ensures (now (a .area))) (c .before .if2 .left))
+    let i = c .before .before .before .before .item-of .ensures (now (a .area)) in
+    let k = subst (Known (a .l)) (sym (c .before .before .before .before .item-of .ensures (now (a .area)))) (item-known (now (a .words)) (now (a .area)) (a .l) (o .pre .0) (a .q .ns) (a .q .definition) (o .pre .2)) in
+    (o .pre .0, o .pre .3, home-there (now (a .words)) (now (a .area)) (a .l) (o .pre .0) _ k (c .before .before .before .home-of .ensures (now (a .area))) (c .before .before .if2 .left), c .before .module-in .ensures ∙ ap moduleIn i)
 
 find-path-inner-requires : tie.Need-find-path-inner-requires
 find-path-inner-requires c κs =
-    let o = c .before .before .before .before .before .before .before .before .before .before .before in
+    let o = c .before .before .before .before .before .before .before .before .before .before .before .before in
     let a = o .args in
-    let k = subst (Known (a .l)) (sym (c .before .before .before .before .before .item-of .ensures (now (a .area)))) (item-known (now (a .words)) (now (a .area)) (a .l) (o .pre .0) (a .q .ns) (a .q .definition) (o .pre .2)) in
+    let k = subst (Known (a .l)) (sym (c .before .before .before .before .before .before .item-of .ensures (now (a .area)))) (item-known (now (a .words)) (now (a .area)) (a .l) (o .pre .0) (a .q .ns) (a .q .definition) (o .pre .2)) in
     let f = context-from (snapOf (now (a .words)) (now (a .area)) (a .l)) (a .q) _ (c .before .context .ensures) in (
       record { reads = o .pre .0; from = omega (arith, f, o .pre .3); area = o .pre .1 },
-      (k, subst (λ (y : Item). nsOf y ≤ 2) (sym (c .before .before .before .before .before .item-of .ensures (now (a .area)))) (item-ns (snapOf (now (a .words)) (now (a .area)) (a .l)) _ _ (o .pre .4))),
+      (k, subst (λ (y : Item). nsOf y ≤ 2) (sym (c .before .before .before .before .before .before .item-of .ensures (now (a .area)))) (item-ns (snapOf (now (a .words)) (now (a .area)) (a .l)) _ _ (o .pre .4))),
       omega (arith, o .pre .5),
     )
 
@@ -78,11 +88,11 @@ same-length-2 c = c .before .before .find-path-inner .kept .1 .0
 
 returns-3 : tie.Need-returns-3
 returns-3 c =
-    let o = c .before .before .before .before .before .before .before .before .before .before .before .before .before .before in
+    let o = c .before .before .before .before .before .before .before .before .before .before .before .before .before .before .before in
     let a = o .args in
     let f = c .before .before .find-path-inner in
     record {
-      same = f .ensures .same ∙ ap foundOf (start-item (snapOf (now (a .words)) (now (a .area)) (a .l)) (a .q) (a .fuel) _ _ (c .before .before .before .before .before .before .before .before .before .before .kind-of .ensures (now (a .area))) (c .before .before .before .before .before .before .before .before .before .if1 .left) (c .before .before .before .before .before .before .before .before .item-of .ensures (now (a .area))) (c .before .before .before .before .before .before .before .home-of .ensures (now (a .area))) (c .before .before .before .before .before .before .if2 .left) (c .before .before .before .before .context .ensures));
+      same = f .ensures .same ∙ ap foundOf (start-item (snapOf (now (a .words)) (now (a .area)) (a .l)) (a .q) (a .fuel) _ _ (c .before .before .before .before .before .before .before .before .before .before .before .kind-of .ensures (now (a .area))) (c .before .before .before .before .before .before .before .before .before .before .if1 .left) (c .before .before .before .before .before .before .before .before .before .item-of .ensures (now (a .area))) (c .before .before .before .before .before .before .before .before .home-of .ensures (now (a .area))) (c .before .before .before .before .before .before .before .if2 .left) (c .before .before .before .before .context .ensures));
       tables = f .ensures .tables;
     }
 
@@ -99,7 +109,8 @@ find-path-spec =
     home-of-requires
     nothing-requires
     returns-2
-    sub-t14
+    module-in-requires
+    sub-t15
     context-requires
     find-path-inner-requires
     same-length-2
