@@ -1,10 +1,12 @@
 -- Demand 3.
 use mathlib.Core.Path.{_≡_, refl, ap, sym, _∙_}
-use mathlib.Core.List.{List}
+use mathlib.Core.List.{List, [], _∷_, _++_}
 use mathlib.Core.Bool.{Bool, true, false, not, true≢false}
 use mathlib.Core.Logic.{_↔_}
 use Prim.Native.Nat.{ℕ, _+_, _≤_, _<_, min}
 use native.Mathlib.Omega.{arith}
+use lib.ListN.{length, getD, length-append, List·getD-append}
+use lib.Seq.{getD-at}
 use Rattle.snapshot.specs.Limits.{fuelLimit}
 use Rattle.snapshot.specs.Records.{Snapshot}
 use Rattle.accept.specs.Verdict.{accept, verdict}
@@ -12,13 +14,13 @@ use Rattle.find_path.specs.declared.Choice.{Choice}
 use Rattle.find_path.specs.declared.Tank.{Tank}
 use Rattle.find_path.specs.declared.Query.{Query}
 use Rattle.find_path.specs.declared.Report.{Report}
-use Rattle.find_path.specs.Meters.{fromTank, filled, counted}
+use Rattle.find_path.specs.Meters.{Spot, fromTank, filled, counted, listed}
 use Rattle.find_path.specs.Charged.{Out}
 use Rattle.find_path.specs.Search.{findPath}
-use Rattle.find_path.specs.Report.{refused, flag, reported, searched, searchedFreely}
-use Rattle.find_path.specs.Fuels.{reportAt, IsRefused, Shows, Tells, Compared, FuelsCompared}
+use Rattle.find_path.specs.Report.{refused, flag, reported, searched, searchedFreely, searchedListing}
+use Rattle.find_path.specs.Fuels.{reportAt, IsRefused, Shows, Tells, noSpot, SameSearch, TellsFirst, Compared, FuelsCompared}
 use Rattle.find_path.proofs.Outcomes.{Kind, refusal, answer, kind-of}
-use Rattle.find_path.proofs.Sim.{Dry, Sync, Sim, same, dry, search-sim}
+use Rattle.find_path.proofs.Sim.{Dry, Sync, Free, Sim, same, dry, search-sim}
 
 -- a report that is not refused is that of a search on an accepted snapshot
 pub record Searched (words : List ℕ) (q : Query) (fuel : ℕ) (r : Report) : Type 0 where
@@ -35,8 +37,27 @@ pub not-refused : (words : List ℕ) (area : ℕ) (q : Query) (fuel : ℕ) → (
     → Searched words q fuel (reportAt words area q fuel)
 not-refused words area q fuel h = by-kind words q fuel (reportAt words area q fuel) (kind-of words area (record { query = q; fuel = fuel })) h
 
+-- the count, against the tank
+
+abbrev Over : ℕ → ℕ → ℕ → ℕ → Type 0
+Over F l m n = F < n
+
+counts-free : Free ℕ counted (λ n. n) Over
+unfolding counted
+counts-free =
+    record {
+      next = λ left sought n. n + 1;
+      goes = λ left sought n. refl;
+      grows = λ left sought n. refl;
+      meets = λ F left sought n h. omega arith;
+      stays = λ F l m left sought n h. omega arith;
+    }
+
+abbrev Counts : ℕ → Out Tank → Out ℕ → Type 0
+Counts = Sim ℕ (λ n. n) Over
+
 -- what the simulation says of a report
-told : (F : ℕ) (a : Out Tank) (c : Out ℕ) → Sim F a c → Tells F c (reported a)
+told : (F : ℕ) (a : Out Tank) (c : Out ℕ) → Counts F a c → Tells F c (reported a)
 unfolding reported flag
 told F a c (same e h) =
     let no = ap flag (h .silent) in
@@ -50,7 +71,7 @@ told F a c (same e h) =
         count = ap (λ (z : Choice). z .count) e;
       };
     }
-told F a c (dry h n) =
+told F a c (dry l m h n) =
     let yes′ = ap flag (h .said) in
     record {
       charges = omega (arith, h .all-spent);
@@ -62,7 +83,7 @@ told F a c (dry h n) =
 whole : Out ℕ → Report
 whole c = reported (record { choice = c .choice; meter = record { fuel = 0; spent = c .meter; empty = false; left = 0; sought = 0 } })
 
-within : (F : ℕ) (a : Out Tank) (c : Out ℕ) → Sim F a c → c .meter ≤ F → reported a ≡ whole c
+within : (F : ℕ) (a : Out Tank) (c : Out ℕ) → Counts F a c → c .meter ≤ F → reported a ≡ whole c
 unfolding reported whole
 within F a c (same e h) l = λ i. record {
   outcome = flag (not (e i .found));
@@ -75,26 +96,84 @@ within F a c (same e h) l = λ i. record {
   left = h .no-left i;
   sought = h .no-sought i;
 }
-within F a c (dry h n) l = absurd (omega arith)
+within F a c (dry k m h n) l = absurd (omega arith)
 
-searches-sim : (s : Snapshot) (q : Query) (F : ℕ) → Sim F (searched s q F) (searchedFreely s q)
+searches-sim : (s : Snapshot) (q : Query) (F : ℕ) → Counts F (searched s q F) (searchedFreely s q)
 unfolding searched searchedFreely filled
 searches-sim s q F =
-    search-sim F s q (filled F) 0 (record { spent-is = refl; rest = omega arith; silent = refl; no-left = refl; no-sought = refl })
+    search-sim ℕ counted (λ n. n) Over counts-free F s q (filled F) 0 (record { spent-is = refl; rest = omega arith; silent = refl; no-left = refl; no-sought = refl })
 
 -- what the report of a search tells of the search without a tank
 pub searched-tells : (s : Snapshot) (q : Query) (F : ℕ) → Tells F (searchedFreely s q) (reported (searched s q F))
 searched-tells s q F = told F _ _ (searches-sim s q F)
 
-untold : (F : ℕ) (a : Out Tank) (c : Out ℕ) → Sim F a c → reported a .empty ≡ 0 → (reported a .left ≡ 0) × (reported a .sought ≡ 0)
+untold : (F : ℕ) (a : Out Tank) (c : Out ℕ) → Counts F a c → reported a .empty ≡ 0 → (reported a .left ≡ 0) × (reported a .sought ≡ 0)
 unfolding reported flag
 untold F a c (same e h) z = (h .no-left, h .no-sought)
-untold F a c (dry h n) z = let y = ap flag (h .said) in absurd (omega arith)
+untold F a c (dry l m h n) z = let y = ap flag (h .said) in absurd (omega arith)
 
 -- nothing is told of a first empty tank where none was
 pub searched-untold : (s : Snapshot) (q : Query) (F : ℕ) → reported (searched s q F) .empty ≡ 0
     → (reported (searched s q F) .left ≡ 0) × (reported (searched s q F) .sought ≡ 0)
 searched-untold s q F z = untold F _ _ (searches-sim s q F) z
+
+-- the list of charges, against the tank
+
+abbrev At : ℕ → ℕ → ℕ → List Spot → Type 0
+At F l m ps = (F < length ps) × (getD ps F noSpot .left ≡ l) × (getD ps F noSpot .sought ≡ m)
+
+at-more : (F l m : ℕ) (ps : List Spot) (p : Spot) → At F l m ps → At F l m (ps ++ (p ∷ []))
+at-more F l m ps p h =
+    let e = List·getD-append ps (p ∷ []) noSpot F (h .0) in
+    (omega (arith, h .0, length-append ps (p ∷ [])), ap (λ (z : Spot). z .left) e ∙ h .1, ap (λ (z : Spot). z .sought) e ∙ h .2)
+
+at-last : (F : ℕ) (ps : List Spot) (p : Spot) → length ps ≡ F → At F (p .left) (p .sought) (ps ++ (p ∷ []))
+at-last F ps p h =
+    let e = getD-at ps p [] noSpot F h in
+    (omega (arith, h, length-append ps (p ∷ [])), ap (λ (z : Spot). z .left) e, ap (λ (z : Spot). z .sought) e)
+
+lists-free : Free (List Spot) listed length At
+unfolding listed
+lists-free =
+    record {
+      next = λ left sought ps. ps ++ (record { left = left; sought = sought } ∷ []);
+      goes = λ left sought ps. refl;
+      grows = λ left sought ps. length-append ps (record { left = left; sought = sought } ∷ []);
+      meets = λ F left sought ps h. at-last F ps (record { left = left; sought = sought }) h;
+      stays = λ F l m left sought ps h. at-more F l m ps (record { left = left; sought = sought }) h;
+    }
+
+abbrev Lists : ℕ → Out Tank → Out (List Spot) → Type 0
+Lists = Sim (List Spot) length At
+
+lists-sim : (s : Snapshot) (q : Query) (F : ℕ) → Lists F (searched s q F) (searchedListing s q)
+unfolding searched searchedListing filled
+lists-sim s q F =
+    search-sim (List Spot) listed length At lists-free F s q (filled F) []
+    (record { spent-is = refl; rest = omega arith; silent = refl; no-left = refl; no-sought = refl })
+
+told-first : (F : ℕ) (a : Out Tank) (c : Out (List Spot)) → Lists F a c → TellsFirst F c (reported a)
+unfolding reported flag
+told-first F a c (same e h) =
+    let no = ap flag (h .silent) in
+    record { left = λ z. absurd (omega arith); sought = λ z. absurd (omega arith) }
+told-first F a c (dry l m h n) = record { left = λ _. n .1 ∙ sym (h .left-is); sought = λ _. n .2 ∙ sym (h .sought-is) }
+
+-- A report that says empty tells of the charge of the search without a tank whose number, from 0, is its fuel.
+pub searched-first : (s : Snapshot) (q : Query) (F : ℕ) → TellsFirst F (searchedListing s q) (reported (searched s q F))
+searched-first s q F = told-first F _ _ (lists-sim s q F)
+
+both-whole : (F : ℕ) (a : Out Tank) (c : Out ℕ) (d : Out (List Spot)) → Counts F a c → Lists F a d → c .meter ≤ F → length (d .meter) ≤ F → SameSearch c d
+both-whole F a c d (same e h) (same f k) u v = record { choice = sym f ∙ e; count = omega (arith, h .spent-is, k .spent-is) }
+both-whole F a c d (same e h) (dry l m i n) u v = absurd (omega (arith, n .0))
+both-whole F a c d (dry l m h n) k u v = absurd (omega arith)
+
+-- The search that lists its charges is the one that counts them.
+pub listing-counts : (s : Snapshot) (q : Query) → SameSearch (searchedFreely s q) (searchedListing s q)
+listing-counts s q =
+    let n = searchedFreely s q .meter in
+    let l = length (searchedListing s q .meter) in
+    both-whole (n + l) _ _ _ (searches-sim s q (n + l)) (lists-sim s q (n + l)) (omega arith) (omega arith)
 
 -- the second report is on the same snapshot
 moved : (words : List ℕ) (q : Query) (G : ℕ) (r : Report) (s : Snapshot) → verdict words ≡ accept s → Searched words q G r → r ≡ reported (searched s q G)

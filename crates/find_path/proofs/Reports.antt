@@ -1,5 +1,5 @@
 -- What holds of every report.
-use mathlib.Core.Path.{_≡_, refl, ap, sym, _∙_}
+use mathlib.Core.Path.{_≡_, refl, ap, sym, _∙_, subst}
 use mathlib.Core.List.{List}
 use mathlib.Core.Bool.{Bool, true, false, not}
 use Prim.Native.Nat.{ℕ, _≤_, _<_}
@@ -15,13 +15,13 @@ use Rattle.find_path.specs.declared.Query.{Query}
 use Rattle.find_path.specs.declared.Question.{Question}
 use Rattle.find_path.specs.declared.Report.{Report}
 use Rattle.find_path.specs.Meters.{fromTank, filled}
-use Rattle.find_path.specs.Report.{refused, flag, reported, searched, reportOf}
-use Rattle.find_path.specs.Fuels.{IsRefused, Bounded, NamesKnown, Small}
+use Rattle.find_path.specs.Report.{refused, flag, reported, searched, searchedListing, reportOf}
+use Rattle.find_path.specs.Fuels.{IsRefused, Bounded, NamesKnown, Small, TellsFirst}
 use Rattle.find_path.proofs.Bounds.{zeros, search-fits}
 use Rattle.find_path.proofs.Outcomes.{Kind, refusal, answer, kind-of}
 use Rattle.find_path.proofs.Known.{searched-known}
 use Rattle.find_path.proofs.Told.{searched-told}
-use Rattle.find_path.proofs.Fuels.{searched-tells, searched-untold}
+use Rattle.find_path.proofs.Fuels.{searched-tells, searched-untold, searched-first}
 
 flag-small : (b : Bool) → flag b ≤ 1
 unfolding flag
@@ -115,3 +115,17 @@ refused-whole r (answer s a l e) h = absurd (not-two _ (sym (ap (λ (z : Report)
 pub refusal-zero : (words : List ℕ) (area : ℕ) (q : Question) → IsRefused (reportOf words area q)
     → reportOf words area q ≡ refused (reportOf words area q .number)
 refusal-zero words area q h = refused-whole (reportOf words area q) (kind-of words area q) h
+
+told-first : {words : List ℕ} {q : Query} {fuel : ℕ} (s : Snapshot) → verdict words ≡ accept s → (r : Report) → Kind words q fuel r → TellsFirst fuel (searchedListing s q) r
+unfolding refused
+told-first s a r (refusal n l e) =
+    let z = ap (λ (y : Report). y .empty) e in
+    record { left = λ h. absurd (omega arith); sought = λ h. absurd (omega arith) }
+told-first {q = q} {fuel = fuel} s a r (answer u b l e) =
+    let same : u ≡ s = cc (a, b) in
+    subst (λ (z : Snapshot). TellsFirst fuel (searchedListing z q) r) same (rw e (searched-first u q fuel))
+
+-- A report that says empty tells of the charge of the search without a tank whose number, from 0, is its fuel.
+pub report-first : (words : List ℕ) (area : ℕ) (q : Question) (s : Snapshot) → verdict words ≡ accept s
+    → TellsFirst (q .fuel) (searchedListing s (q .query)) (reportOf words area q)
+report-first words area q s e = told-first s e (reportOf words area q) (kind-of words area q)

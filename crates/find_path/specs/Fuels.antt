@@ -10,6 +10,7 @@ use Rattle.snapshot.specs.Records.{Snapshot}
 use Rattle.accept.specs.Verdict.{accept, verdict}
 use Rattle.find_path.specs.declared.Query.{Query}
 use Rattle.find_path.specs.declared.Report.{Report}
+use Rattle.find_path.specs.Meters.{Spot}
 use Rattle.find_path.specs.Charged.{Out}
 use Rattle.find_path.specs.Report.{flag, searchedFreely, reportOf}
 
@@ -52,6 +53,9 @@ pub record Shows (free : Out ℕ) (r : Report) : Type 0 where
   pub names : r .names ≡ free .choice .names
   pub count : r .count ≡ free .choice .count
 
+abbrev pub noSpot : Spot
+noSpot = record { left = 0; sought = 0 }
+
 -- what one report tells of the search without a tank
 pub record Tells (fuel : ℕ) (free : Out ℕ) (r : Report) : Type 0 where
   -- it counts the smaller of its fuel and the count
@@ -60,6 +64,16 @@ pub record Tells (fuel : ℕ) (free : Out ℕ) (r : Report) : Type 0 where
   pub empty : (r .empty ≡ 1) ↔ (fuel < free .meter)
   -- where it does not say empty, its answer is that of the search without a tank
   pub answer : (r .empty ≡ 1 → ⊥) → Shows free r
+
+-- the search without a tank that lists its charges finds the same, and has as many as the count says
+pub record SameSearch (free : Out ℕ) (listing : Out (List Spot)) : Type 0 where
+  pub choice : listing .choice ≡ free .choice
+  pub count : length (listing .meter) ≡ free .meter
+
+-- A report that says empty tells of the charge that the fuel had no more for: the one with that number, from 0, of the search without a tank.
+pub record TellsFirst (fuel : ℕ) (free : Out (List Spot)) (r : Report) : Type 0 where
+  pub left : r .empty ≡ 1 → getD (free .meter) fuel noSpot .left ≡ r .left
+  pub sought : r .empty ≡ 1 → getD (free .meter) fuel noSpot .sought ≡ r .sought
 
 -- The two reports against the search without a tank, on the snapshot that the words were accepted as.
 pub record Compared (words : List ℕ) (area : ℕ) (q : Query) (F G : ℕ) : Type 0 where

@@ -1,6 +1,7 @@
 -- A meter is a state and what a charge does to it. Here the two meters: the tank, and the count without a limit.
 use mathlib.Core.Bool.{Bool, true, false}
 use Prim.Native.Nat.{ℕ, zero, suc, _+_}
+use mathlib.Core.List.{List, [], _∷_, _++_}
 use Rattle.find_path.specs.declared.Tank.{Tank}
 
 -- A charge goes on with the body, or stops.
@@ -31,3 +32,12 @@ filled fuel = record { fuel = fuel; spent = 0; empty = false; left = 0; sought =
 -- The count: a charge adds one, and always goes on.
 unfoldable pub counted : Charge ℕ
 counted left sought n = go (n + 1)
+
+-- what a charge was told
+pub record Spot : Type 0 where
+  pub left : ℕ
+  pub sought : ℕ
+
+-- The list of charges: like the count, and each is kept.
+unfoldable pub listed : Charge (List Spot)
+listed left sought ps = go (ps ++ (record { left = left; sought = sought } ∷ []))

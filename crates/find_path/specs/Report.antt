@@ -1,6 +1,6 @@
 -- The report of a question.
 use Prim.Native.Nat.{ℕ, zero, suc}
-use mathlib.Core.List.{List}
+use mathlib.Core.List.{List, []}
 use mathlib.Core.Bool.{Bool, true, false, _&&_, _||_, not}
 use lib.Dec.{eqb, ltb, leb}
 use lib.ListN.{length, replicate}
@@ -12,7 +12,7 @@ use Rattle.find_path.specs.declared.Tank.{Tank}
 use Rattle.find_path.specs.declared.Query.{Query}
 use Rattle.find_path.specs.declared.Question.{Question}
 use Rattle.find_path.specs.declared.Report.{Report}
-use Rattle.find_path.specs.Meters.{fromTank, filled, counted}
+use Rattle.find_path.specs.Meters.{Spot, fromTank, filled, counted, listed}
 use Rattle.find_path.specs.Charged.{Out}
 use Rattle.find_path.specs.Search.{findPath}
 
@@ -66,6 +66,10 @@ searched s q fuel = findPath Tank fromTank s q (filled fuel)
 -- The search without a tank: the rules at the count, which is 0 at first. It knows no fuel.
 unfoldable pub searchedFreely : Snapshot → Query → Out ℕ
 searchedFreely s q = findPath ℕ counted s q 0
+
+-- The same, with the list of its charges.
+unfoldable pub searchedListing : Snapshot → Query → Out (List Spot)
+searchedListing s q = findPath (List Spot) listed s q []
 
 unfoldable pub answerUnless : Snapshot → Query → ℕ → ℕ → Report
 answerUnless s q fuel zero = reported (searched s q fuel)
