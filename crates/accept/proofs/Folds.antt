@@ -15,6 +15,7 @@ use Rattle.record_rules.specs.Steps.{no, on}
 use Rattle.accept.specs.Verdict.{stepAt, Verdict, refuse, finish, records, verdict}
 use Rattle.record_rules.specs.Stands.{Here, Stands, Answered}
 use Rattle.accept.specs.Ends.{Ended}
+use Rattle.record_rules.proofs.Indexed.{indexes-none}
 use Rattle.record_rules.specs.declared.judge.Step.{Step}
 use Rattle.record_rules.specs.declared.judge.Step.the-variants.{No, On}
 use Rattle.accept.specs.declared.check.Checked.the-variants.{Accepted}
@@ -44,9 +45,9 @@ pub record Going (W A : List ℕ) (at last : ℕ) (l : Layout) : Type 0 where
   pub enough : length W ≤ fuel + at
   pub same : verdict W ≡ records fuel W at last (snapWith W A l maps)
 
-stands-start : (W A : List ℕ) → Stands W A 0 0 noRecords []
+stands-start : (W A : List ℕ) → ((i : ℕ) → 4160 ≤ i → i < 5312 → getD A i 0 ≡ 0) → Stands W A 0 0 noRecords []
 unfolding rows
-stands-start W A =
+stands-start W A z =
     record {
       place = refl;
       within = omega arith;
@@ -71,17 +72,18 @@ stands-start W A =
       rising = λ i j h k. absurd (omega arith);
       inside = λ m h. absurd (omega arith);
       own = λ c h. absurd (omega arith);
+      index = indexes-none W A noRecords refl refl refl z;
     }
 
-going-none : (W A : List ℕ) → length W ≤ 16384 → Going W A 0 0 noRecords
+going-none : (W A : List ℕ) → length W ≤ 16384 → ((i : ℕ) → 4160 ≤ i → i < 5312 → getD A i 0 ≡ 0) → Going W A 0 0 noRecords
 unfolding verdict rows
-going-none W A h = record { maps = []; stands = stands-start W A; fuel = length W; enough = omega arith; same = rw (verdict, le-leb _ _ h) }
+going-none W A h z = record { maps = []; stands = stands-start W A z; fuel = length W; enough = omega arith; same = rw (verdict, le-leb _ _ h) }
 
-pub going-start : (W A : List ℕ) {l : Layout} → length W ≤ 16384 → l ≡ noRecords → Going W A 0 0 l
-going-start W A h e = subst (λ l. Going W A 0 0 l) (sym e) (going-none W A h)
+pub going-start : (W A : List ℕ) {l : Layout} → length W ≤ 16384 → ((i : ℕ) → 4160 ≤ i → i < 5312 → getD A i 0 ≡ 0) → l ≡ noRecords → Going W A 0 0 l
+going-start W A h z e = subst (λ l. Going W A 0 0 l) (sym e) (going-none W A h z)
 
 pub going-here : (W A : List ℕ) (at last : ℕ) (l : Layout) → Going W A at last l → at < length W → length W ≤ 16384 → 16384 ≤ length A → Here W A l at
-going-here W A at last l g h s r = record { place = g .stands .place; here = h; short = s; room = r; limited = g .stands .limited }
+going-here W A at last l g h s r = record { place = g .stands .place; here = h; short = s; room = r; limited = g .stands .limited; index = g .stands .index }
 
 -- r is what a turn answered, B the area after it
 module _ (W A B : List ℕ) (at last : ℕ) (l : Layout) (r : Step) (g : Going W A at last l) (h : at < length W)

@@ -115,6 +115,7 @@ stands-up W A at l ms last k h st =
       rising = st .rising;
       inside = st .inside;
       own = st .own;
+      index = st .index;
     }
 
 -- argument words that are there lie within the words
@@ -160,4 +161,4 @@ pub ready-for : (W A : List ℕ) (l : Layout) (at n : ℕ) → Here W A l at →
     → Ready W A l at (at + 1 + argumentsAt W at)
 ready-for W A l at n h e g =
     let f = arguments-fit W (at + 1) n (let p = h .here in omega arith) g in
-    record { place = h .place; fits = omega arith; short = h .short; room = h .room; limited = h .limited }
+    record { place = h .place; fits = omega arith; short = h .short; room = h .room; limited = h .limited; index = h .index }

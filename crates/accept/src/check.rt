@@ -8,6 +8,8 @@ use crate::finish::crates_own;
 use crate::finish::fill_roots;
 use crate::finish::maps_filled;
 use crate::turn::turn;
+use chains::chain::Chains;
+use chains::chain::clear;
 use record_rules::judge::Step;
 use snapshot::ids::WordCount;
 use snapshot::kind::arguments;
@@ -25,6 +27,7 @@ fn read_records(words: &[u32], area: &mut [u32]) -> Checked
     requires { ⌜ (length (now words) ≤ 16384) × (16384 ≤ length (now area)) ⌝ }
     ensures { λ r. ⌜ Ended (now (words .entry)) (now (area .exit)) r ⌝ }
 {
+    clear(area, Chains::HEADS, Chains::HEADS_END);
     let mut at = 0;
     let mut last = 0;
     let mut l = Layout::new();

@@ -2,3 +2,4 @@
 pub mod Laws
 pub mod Judged
 pub mod Tabled
+pub mod Indexed

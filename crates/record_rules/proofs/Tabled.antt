@@ -17,15 +17,14 @@ use Rattle.snapshot.specs.Records.{Map, Module, Crate, nameAt, crateAt, depende
 use Rattle.snapshot.specs.Layouts.{crateBase, dependencyBase, childBase, preludeBase, definitionBase, scopeBase, importBase, externBase, nameHead, moduleMap, moduleHead, moduleParent, ownMap, moduleRow, namesOf, modulesOf, recordsOf, snapWith}
 use Rattle.snapshot.specs.declared.layout.Layout.{Layout}
 use Rattle.snapshot.proofs.Laws.{rows-snoc, rows-zero, rows-ext, rows-put, length-rows, getD-rows}
+use Rattle.chains.specs.Chains.{nameKey, linked}
 use Rattle.record_rules.specs.Tests.{countsOf, noMap, noModule, isOwn, isIn, nameRange, sameName, crateRange, mapRange, mapDefined, mapRepeated, mapPlaced, moduleDefined, modulePlaced}
 use Rattle.record_rules.specs.Steps.{Next, no, on, nameStep, crateStep, mapStep, moduleStep, addName, addCrate, addMap, addModule}
-use Rattle.record_rules.specs.Stands.{numberOf, countsIn, ownFrom, ownOf, Stands, Answered}
+use Rattle.record_rules.specs.Stands.{numberOf, countsIn, ownFrom, ownOf, Indexes, Stands, Answered}
 use Rattle.record_rules.specs.declared.judge.Step.the-variants.{No, On}
 use Rattle.record_rules.proofs.Judged.{number-of, judge-no, judge-on, passes, counts-same, and-left, and-right}
-
--- the words of a table, from one place to another, are kept
-abbrev pub Kept : List ℕ → List ℕ → ℕ → ℕ → Type 0
-Kept A B from to = (i : ℕ) → from ≤ i → i < to → getD B i 0 ≡ getD A i 0
+use Rattle.record_rules.proofs.Indexed.{indexes-early, set-above, name-stays, names-linked}
+pub use Rattle.record_rules.proofs.Indexed.{Kept, set-kept}
 
 pub names-kept : (W A B : List ℕ) (n : ℕ) → n ≤ 2048 → Kept A B 0 2048 → namesOf W B n ≡ namesOf W A n
 names-kept W A B n h kept = rows-ext _ _ n (λ k p. ap (nameAt W) (kept k (omega arith) (omega arith)))
@@ -39,9 +38,6 @@ row-kept A B m h kept =
 pub modules-kept : (A B : List ℕ) (n : ℕ) → n ≤ 512 → Kept A B 2048 3584 → modulesOf B n ≡ modulesOf A n
 modules-kept A B n h kept = rows-ext _ _ n (λ k p. row-kept A B k (omega arith) kept)
 
-pub set-kept : (A : List ℕ) (i v from to : ℕ) → ((j : ℕ) → from ≤ j → j < to → j ≢ i) → Kept A (set A i v) from to
-set-kept A i v from to h j p q = getD-set-other A i j v 0 (h j p q)
-
 pub heads-kept : (W A B : List ℕ) (n : ℕ) → n ≤ 2048 → Kept A B 0 2048
     → ((j : ℕ) → j < n → nameHead A j + 1 + wordsOf (payOf (getD W (nameHead A j) 0)) ≤ length W)
     → (j : ℕ) → j < n → nameHead B j + 1 + wordsOf (payOf (getD W (nameHead B j) 0)) ≤ length W
@@ -53,6 +49,10 @@ none-yet c [] e = refl
 none-yet c (x ∷ xs) e = absurd (omega arith)
 
 -- names
+
+-- a name whose tests pass has room
+pub names-room : (names : ℕ) (a c : Bool) {n : ℕ} → n ≡ numberOf a true c true (ltb names 2048) → n ≡ 0 → names < 2048
+names-room names a c j z = ltb-true names 2048 (passes a true c true (ltb names 2048) (sym z ∙ j) .room)
 
 abbrev pub nameOn : Layout → ℕ → Layout
 nameOn l next =
@@ -72,77 +72,74 @@ nameOn l next =
       latest = l .latest;
     }
 
-module _ (W A : List ℕ) (at next : ℕ) (l : Layout) (ms : List Map) (st : Stands W A 1 at l ms) (room : l .names < 2048) (large : 16384 ≤ length A) where
-  name-old : (k : ℕ) → k < l .names → getD (set A (l .names) at) k 0 ≡ getD A k 0
-  name-old k h = getD-set-other A (l .names) k at 0 (omega arith)
+module _ (W A B : List ℕ) (at next : ℕ) (l : Layout) (ms : List Map) (st : Stands W A 1 at l ms) (room : l .names < 2048)
+    (name-old : (k : ℕ) → k < l .names → getD B k 0 ≡ getD A k 0) (name-new : getD B (l .names) 0 ≡ at)
+  where
+    name-added : snapWith W B (nameOn l next) ms ≡ addName (snapWith W A l ms) (nameAt W at)
+    name-added =
+        let z-crates : l .crates ≡ 0 = st .upto .crates (lit< tt) in
+        let z-dependencies : l .dependencies ≡ 0 = st .upto .dependencies (lit< tt) in
+        let z-maps : l .maps ≡ 0 = st .upto .maps (lit< tt) in
+        let z-modules : l .modules ≡ 0 = st .upto .modules (lit< tt) in
+        let z-children : l .children ≡ 0 = st .upto .children (lit< tt) in
+        let z-preludes : l .preludes ≡ 0 = st .upto .preludes (lit< tt) in
+        let z-definitions : l .definitions ≡ 0 = st .upto .definitions (lit< tt) in
+        let z-scopes : l .scopes ≡ 0 = st .upto .scopes (lit< tt) in
+        let z-imports : l .imports ≡ 0 = st .upto .imports (lit< tt) in
+        let z-externs : l .externs ≡ 0 = st .upto .externs (lit< tt) in
+        let p : namesOf W B (l .names + 1) ≡ namesOf W A (l .names) ++ (nameAt W at ∷ []) =
+        rows-put (λ k. nameAt W (getD A k 0)) _ (l .names) (nameAt W at) (λ k h. ap (nameAt W) (name-old k h)) (ap (nameAt W) name-new) in
+        let q-crates : recordsOf crateAt 1 W (crateBase (nameOn l next)) ((nameOn l next) .crates) ≡ recordsOf crateAt 1 W (crateBase l) (l .crates) = rows-zero _ _ _ z-crates in
+        let q-dependencies : recordsOf dependencyAt 3 W (dependencyBase (nameOn l next)) ((nameOn l next) .dependencies) ≡ recordsOf dependencyAt 3 W (dependencyBase l) (l .dependencies) = rows-zero _ _ _ z-dependencies in
+        let q-children : recordsOf childAt 2 W (childBase (nameOn l next)) ((nameOn l next) .children) ≡ recordsOf childAt 2 W (childBase l) (l .children) = rows-zero _ _ _ z-children in
+        let q-preludes : recordsOf preludeAt 2 W (preludeBase (nameOn l next)) ((nameOn l next) .preludes) ≡ recordsOf preludeAt 2 W (preludeBase l) (l .preludes) = rows-zero _ _ _ z-preludes in
+        let q-definitions : recordsOf definitionAt 3 W (definitionBase (nameOn l next)) ((nameOn l next) .definitions) ≡ recordsOf definitionAt 3 W (definitionBase l) (l .definitions) = rows-zero _ _ _ z-definitions in
+        let q-scopes : recordsOf scopeAt 7 W (scopeBase (nameOn l next)) ((nameOn l next) .scopes) ≡ recordsOf scopeAt 7 W (scopeBase l) (l .scopes) = rows-zero _ _ _ z-scopes in
+        let q-imports : recordsOf importAt 6 W (importBase (nameOn l next)) ((nameOn l next) .imports) ≡ recordsOf importAt 6 W (importBase l) (l .imports) = rows-zero _ _ _ z-imports in
+        let q-externs : recordsOf externAt 3 W (externBase (nameOn l next)) ((nameOn l next) .externs) ≡ recordsOf externAt 3 W (externBase l) (l .externs) = rows-zero _ _ _ z-externs in
+        let q-modules : modulesOf B (l .modules) ≡ modulesOf A (l .modules) = rows-zero _ _ _ z-modules in
+        λ i. record { names = p i; maps = ms; modules = q-modules i; crates = q-crates i; dependencies = q-dependencies i; children = q-children i; preludes = q-preludes i; definitions = q-definitions i; scopes = q-scopes i; imports = q-imports i; externs = q-externs i }
 
-  name-new : getD (set A (l .names) at) (l .names) 0 ≡ at
-  name-new = getD-set-same A (l .names) at 0 (omega arith)
-
-  name-added : snapWith W (set A (l .names) at) (nameOn l next) ms ≡ addName (snapWith W A l ms) (nameAt W at)
-  name-added =
-      let z-crates : l .crates ≡ 0 = st .upto .crates (lit< tt) in
-      let z-dependencies : l .dependencies ≡ 0 = st .upto .dependencies (lit< tt) in
-      let z-maps : l .maps ≡ 0 = st .upto .maps (lit< tt) in
-      let z-modules : l .modules ≡ 0 = st .upto .modules (lit< tt) in
-      let z-children : l .children ≡ 0 = st .upto .children (lit< tt) in
-      let z-preludes : l .preludes ≡ 0 = st .upto .preludes (lit< tt) in
-      let z-definitions : l .definitions ≡ 0 = st .upto .definitions (lit< tt) in
-      let z-scopes : l .scopes ≡ 0 = st .upto .scopes (lit< tt) in
-      let z-imports : l .imports ≡ 0 = st .upto .imports (lit< tt) in
-      let z-externs : l .externs ≡ 0 = st .upto .externs (lit< tt) in
-      let p : namesOf W (set A (l .names) at) (l .names + 1) ≡ namesOf W A (l .names) ++ (nameAt W at ∷ []) =
-      rows-put (λ k. nameAt W (getD A k 0)) _ (l .names) (nameAt W at) (λ k h. ap (nameAt W) (name-old k h)) (ap (nameAt W) name-new) in
-      let q-crates : recordsOf crateAt 1 W (crateBase (nameOn l next)) ((nameOn l next) .crates) ≡ recordsOf crateAt 1 W (crateBase l) (l .crates) = rows-zero _ _ _ z-crates in
-      let q-dependencies : recordsOf dependencyAt 3 W (dependencyBase (nameOn l next)) ((nameOn l next) .dependencies) ≡ recordsOf dependencyAt 3 W (dependencyBase l) (l .dependencies) = rows-zero _ _ _ z-dependencies in
-      let q-children : recordsOf childAt 2 W (childBase (nameOn l next)) ((nameOn l next) .children) ≡ recordsOf childAt 2 W (childBase l) (l .children) = rows-zero _ _ _ z-children in
-      let q-preludes : recordsOf preludeAt 2 W (preludeBase (nameOn l next)) ((nameOn l next) .preludes) ≡ recordsOf preludeAt 2 W (preludeBase l) (l .preludes) = rows-zero _ _ _ z-preludes in
-      let q-definitions : recordsOf definitionAt 3 W (definitionBase (nameOn l next)) ((nameOn l next) .definitions) ≡ recordsOf definitionAt 3 W (definitionBase l) (l .definitions) = rows-zero _ _ _ z-definitions in
-      let q-scopes : recordsOf scopeAt 7 W (scopeBase (nameOn l next)) ((nameOn l next) .scopes) ≡ recordsOf scopeAt 7 W (scopeBase l) (l .scopes) = rows-zero _ _ _ z-scopes in
-      let q-imports : recordsOf importAt 6 W (importBase (nameOn l next)) ((nameOn l next) .imports) ≡ recordsOf importAt 6 W (importBase l) (l .imports) = rows-zero _ _ _ z-imports in
-      let q-externs : recordsOf externAt 3 W (externBase (nameOn l next)) ((nameOn l next) .externs) ≡ recordsOf externAt 3 W (externBase l) (l .externs) = rows-zero _ _ _ z-externs in
-      let q-modules : modulesOf (set A (l .names) at) (l .modules) ≡ modulesOf A (l .modules) = rows-zero _ _ _ z-modules in
-      λ i. record { names = p i; maps = ms; modules = q-modules i; crates = q-crates i; dependencies = q-dependencies i; children = q-children i; preludes = q-preludes i; definitions = q-definitions i; scopes = q-scopes i; imports = q-imports i; externs = q-externs i }
-
-  name-stands : next ≡ at + 1 + wordsOf (payOf (getD W at 0)) → next ≤ length W → Stands W (set A (l .names) at) 1 next (nameOn l next) ms
-  name-stands e fits =
-      let z-crates : l .crates ≡ 0 = st .upto .crates (lit< tt) in
-      let z-dependencies : l .dependencies ≡ 0 = st .upto .dependencies (lit< tt) in
-      let z-maps : l .maps ≡ 0 = st .upto .maps (lit< tt) in
-      let z-modules : l .modules ≡ 0 = st .upto .modules (lit< tt) in
-      let z-children : l .children ≡ 0 = st .upto .children (lit< tt) in
-      let z-preludes : l .preludes ≡ 0 = st .upto .preludes (lit< tt) in
-      let z-definitions : l .definitions ≡ 0 = st .upto .definitions (lit< tt) in
-      let z-scopes : l .scopes ≡ 0 = st .upto .scopes (lit< tt) in
-      let z-imports : l .imports ≡ 0 = st .upto .imports (lit< tt) in
-      let z-externs : l .externs ≡ 0 = st .upto .externs (lit< tt) in
-      record {
-        place = omega arith;
-        within = fits;
-        upto =
-            record {
-              crates = st .upto .crates;
-              dependencies = st .upto .dependencies;
-              maps = st .upto .maps;
-              modules = st .upto .modules;
-              children = st .upto .children;
-              preludes = st .upto .preludes;
-              definitions = st .upto .definitions;
-              scopes = st .upto .scopes;
-              imports = st .upto .imports;
-              externs = st .upto .externs;
-            };
-        limited = record { names = omega arith; crates = st .limited .crates; modules = st .limited .modules; definitions = st .limited .definitions };
-        heads =
-            below-more (λ k. nameHead (set A (l .names) at) k + 1 + wordsOf (payOf (getD W (nameHead (set A (l .names) at) k) 0)) ≤ length W) (l .names)
-            (λ k h. rw (name-old k h) (st .heads k h)) (rw name-new (rw e at fits));
-        count = st .count;
-        latest = λ h. absurd (omega arith);
-        below = λ m h. absurd (omega arith);
-        rising = λ i j h k. absurd (omega arith);
-        inside = λ m h. absurd (omega arith);
-        own = λ c h. absurd (omega arith);
-      }
+    name-stands : next ≡ at + 1 + wordsOf (payOf (getD W at 0)) → next ≤ length W → Indexes W B (nameOn l next) → Stands W B 1 next (nameOn l next) ms
+    name-stands e fits ix =
+        let z-crates : l .crates ≡ 0 = st .upto .crates (lit< tt) in
+        let z-dependencies : l .dependencies ≡ 0 = st .upto .dependencies (lit< tt) in
+        let z-maps : l .maps ≡ 0 = st .upto .maps (lit< tt) in
+        let z-modules : l .modules ≡ 0 = st .upto .modules (lit< tt) in
+        let z-children : l .children ≡ 0 = st .upto .children (lit< tt) in
+        let z-preludes : l .preludes ≡ 0 = st .upto .preludes (lit< tt) in
+        let z-definitions : l .definitions ≡ 0 = st .upto .definitions (lit< tt) in
+        let z-scopes : l .scopes ≡ 0 = st .upto .scopes (lit< tt) in
+        let z-imports : l .imports ≡ 0 = st .upto .imports (lit< tt) in
+        let z-externs : l .externs ≡ 0 = st .upto .externs (lit< tt) in
+        record {
+          place = omega arith;
+          within = fits;
+          upto =
+              record {
+                crates = st .upto .crates;
+                dependencies = st .upto .dependencies;
+                maps = st .upto .maps;
+                modules = st .upto .modules;
+                children = st .upto .children;
+                preludes = st .upto .preludes;
+                definitions = st .upto .definitions;
+                scopes = st .upto .scopes;
+                imports = st .upto .imports;
+                externs = st .upto .externs;
+              };
+          limited = record { names = omega arith; crates = st .limited .crates; modules = st .limited .modules; definitions = st .limited .definitions };
+          heads =
+              below-more (λ k. nameHead B k + 1 + wordsOf (payOf (getD W (nameHead B k) 0)) ≤ length W) (l .names)
+              (λ k h. rw (name-old k h) (st .heads k h)) (rw name-new (rw e at fits));
+          count = st .count;
+          latest = λ h. absurd (omega arith);
+          below = λ m h. absurd (omega arith);
+          rising = λ i j h k. absurd (omega arith);
+          inside = λ m h. absurd (omega arith);
+          own = λ c h. absurd (omega arith);
+          index = ix;
+        }
 
 module _ (W A : List ℕ) (at : ℕ) (l : Layout) (ms : List Map) (st : Stands W A 1 at l ms)
     {n : ℕ} {a c e : Bool}
@@ -161,16 +158,26 @@ module _ (W A : List ℕ) (at : ℕ) (l : Layout) (ms : List Map) (st : Stands W
     unfolding nameStep
     name-no z = judge-no (nameRange (nameAt W at)) true (any (sameName (nameAt W at)) ((snapWith W A l ms) .names)) true (ltb (length ((snapWith W A l ms) .names)) 2048) (addName (snapWith W A l ms) (nameAt W at)) name-number z
 
-    pub name-on : n ≡ 0 → 16384 ≤ length A → {text : ℕ} → text ≡ at + 1 + wordsOf (payOf (getD W at 0)) → at + 1 + wordsOf (payOf (getD W at 0)) ≤ length W
-        → Answered W (set A (l .names) at) 1 (at + 1 + wordsOf (payOf (getD W at 0))) (nameStep (snapWith W A l ms) (nameAt W at)) (On (nameOn l text))
+    pub name-on : n ≡ 0 → 16384 ≤ length A → {text key : ℕ} {B : List ℕ} → text ≡ at + 1 + wordsOf (payOf (getD W at 0)) → at + 1 + wordsOf (payOf (getD W at 0)) ≤ length W
+        → key ≡ nameKey (nameAt W at) → B ≡ linked (set A (l .names) at) 4160 6336 key (l .names)
+        → Answered W B 1 (at + 1 + wordsOf (payOf (getD W at 0))) (nameStep (snapWith W A l ms) (nameAt W at)) (On (nameOn l text))
     unfolding nameStep
-    name-on z large e fits =
+    name-on z large {text} {key} e fits ek eb =
         let next : ℕ = at + 1 + wordsOf (payOf (getD W at 0)) in
-        subst (λ t. Answered W (set A (l .names) at) 1 next (nameStep (snapWith W A l ms) (nameAt W at)) (On (nameOn l t))) (sym e) (
+        let B : List ℕ = linked (set A (l .names) at) 4160 6336 key (l .names) in
+        let room = name-room z in
+        let stays = name-stays W A l at key (st .index) room large ek in
+        let old : (k : ℕ) → k < l .names → getD (linked (set A (l .names) at) 4160 6336 key (l .names)) k 0 ≡ getD A k 0 = λ k h. stays k (omega arith) ∙ getD-set-other A (l .names) k at 0 (omega arith) in
+        let new : getD (linked (set A (l .names) at) 4160 6336 key (l .names)) (l .names) 0 ≡ at = stays (l .names) (omega arith) ∙ getD-set-same A (l .names) at 0 (omega arith) in
+        let zs : l .scopes ≡ 0 = st .upto .scopes (lit< tt) in
+        let ze : l .externs ≡ 0 = st .upto .externs (lit< tt) in
+        let ix = names-linked W A l at key (st .index) room large ek (nameOn l next) zs ze refl zs ze in
+        subst (λ b. Answered W b 1 next (nameStep (snapWith W A l ms) (nameAt W at)) (On (nameOn l text))) (sym eb)
+        (subst (λ t. Answered W (linked (set A (l .names) at) 4160 6336 key (l .names)) 1 next (nameStep (snapWith W A l ms) (nameAt W at)) (On (nameOn l t))) (sym e) (
           ms,
-          judge-on (nameRange (nameAt W at)) true (any (sameName (nameAt W at)) ((snapWith W A l ms) .names)) true (ltb (length ((snapWith W A l ms) .names)) 2048) (addName (snapWith W A l ms) (nameAt W at)) (passes (nameRange (nameAt W at)) true (any (sameName (nameAt W at)) ((snapWith W A l ms) .names)) true (ltb (length ((snapWith W A l ms) .names)) 2048) (sym z ∙ name-number)) ∙ ap on (sym (name-added W A at next l ms st (name-room z) large)),
-          name-stands W A at next l ms st (name-room z) large refl fits,
-        )
+          judge-on (nameRange (nameAt W at)) true (any (sameName (nameAt W at)) ((snapWith W A l ms) .names)) true (ltb (length ((snapWith W A l ms) .names)) 2048) (addName (snapWith W A l ms) (nameAt W at)) (passes (nameRange (nameAt W at)) true (any (sameName (nameAt W at)) ((snapWith W A l ms) .names)) true (ltb (length ((snapWith W A l ms) .names)) 2048) (sym z ∙ name-number)) ∙ ap on (sym (name-added W A B at next l ms st room old new)),
+          name-stands W A B at next l ms st room old new refl fits ix,
+        ))
 
 -- crates
 
@@ -261,6 +268,9 @@ module _ (W A : List ℕ) (at : ℕ) (l : Layout) (ms : List Map) (st : Stands W
             below-more (λ c. ownMap (set A (4096 + l .crates) 0) c ≡ ownOf c ms) (l .crates)
             (λ c h. getD-set-other A (4096 + l .crates) (4096 + c) 0 0 (omega arith) ∙ st .own c h)
             (getD-set-same A (4096 + l .crates) 0 0 (omega arith) ∙ sym (none-yet (l .crates) ms (omega arith)));
+        index =
+            indexes-early W A (set A (4096 + l .crates) 0) l (crateOn l) (st .index) (st .limited .names) (λ i u v. crate-kept i u (omega arith))
+            (set-above A (4096 + l .crates) 0 (omega arith)) refl refl refl z-scopes z-externs;
       }
 
 module _ (W A : List ℕ) (at : ℕ) (l : Layout) (ms : List Map) (st : Stands W A 2 at l ms)

@@ -1,14 +1,15 @@
 -- What holds while the check goes on, and what a record's step answers. Only contracts and proofs cite it.
-use Prim.Native.Nat.{ℕ, zero, suc, _+_, _-_, _≤_, _<_}
+use Prim.Native.Nat.{ℕ, zero, suc, _+_, _-_, _*_, _≤_, _<_}
 use mathlib.Core.Path.{_≡_}
 use mathlib.Core.List.{List, [], _∷_}
 use mathlib.Core.Bool.{Bool, true, false, _&&_, _||_, not}
 use lib.Dec.{eqb, ltb}
 use lib.ListN.{length, getD}
 use Rattle.snapshot.specs.Words.{payOf, wordsOf}
-use Rattle.snapshot.specs.Records.{Map, Snapshot, mapAt}
-use Rattle.snapshot.specs.Layouts.{wordCount, nameHead, moduleMap, moduleHead, mapRoot, ownMap, snapWith}
+use Rattle.snapshot.specs.Records.{Map, Snapshot, nameAt, mapAt}
+use Rattle.snapshot.specs.Layouts.{wordCount, scopeBase, externBase, nameHead, moduleMap, moduleHead, mapRoot, ownMap, snapWith}
 use Rattle.snapshot.specs.declared.layout.Layout.{Layout}
+use Rattle.chains.specs.Chains.{nameKey, recordKey, Chained}
 use Rattle.record_rules.specs.Tests.{Counts, noMap, isOwn}
 use Rattle.record_rules.specs.Steps.{Next, no, on}
 use Rattle.record_rules.specs.declared.judge.Step.{Step}
@@ -63,6 +64,12 @@ pub record Limited (l : Layout) : Type 0 where
   pub modules : l .modules ≤ 512
   pub definitions : l .definitions ≤ 2048
 
+-- the names, scopes and externs in chains, above the tables
+pub record Indexes (W A : List ℕ) (l : Layout) : Type 0 where
+  pub names : Chained A 4160 6336 (λ i. nameKey (nameAt W (nameHead A i))) (l .names)
+  pub scopes : Chained A 4544 8384 (λ i. recordKey W 2 (scopeBase l + 7 * i)) (l .scopes)
+  pub externs : Chained A 4928 10728 (λ i. recordKey W 1 (externBase l + 3 * i)) (l .externs)
+
 -- a record's head stands at a place
 pub record Here (W A : List ℕ) (l : Layout) (at : ℕ) : Type 0 where
   pub place : wordCount l ≡ at
@@ -70,6 +77,7 @@ pub record Here (W A : List ℕ) (l : Layout) (at : ℕ) : Type 0 where
   pub short : length W ≤ 16384
   pub room : 16384 ≤ length A
   pub limited : Limited l
+  pub index : Indexes W A l
 
 -- a whole record stands at a place, up to the next one
 pub record Ready (W A : List ℕ) (l : Layout) (at next : ℕ) : Type 0 where
@@ -78,6 +86,7 @@ pub record Ready (W A : List ℕ) (l : Layout) (at next : ℕ) : Type 0 where
   pub short : length W ≤ 16384
   pub room : 16384 ≤ length A
   pub limited : Limited l
+  pub index : Indexes W A l
 
 -- the records before a place, of which the last is of kind k, are those of the layout, with the maps given
 pub record Stands (W A : List ℕ) (k at : ℕ) (l : Layout) (ms : List Map) : Type 0 where
@@ -92,6 +101,7 @@ pub record Stands (W A : List ℕ) (k at : ℕ) (l : Layout) (ms : List Map) : T
   pub rising : (i j : ℕ) → i ≤ j → j < l .modules → moduleMap A i ≤ moduleMap A j
   pub inside : (m : ℕ) → m < l .modules → getD ms (moduleMap A m) noMap ≡ mapAt W (moduleHead A m)
   pub own : (c : ℕ) → c < l .crates → ownMap A c ≡ ownOf c ms
+  pub index : Indexes W A l
 
 -- the answer of a step on a record of kind k, where x is the step's definition; A is the area after it
 abbrev pub Answered : List ℕ → List ℕ → ℕ → ℕ → Next → Step → Type 0

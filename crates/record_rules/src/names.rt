@@ -6,18 +6,24 @@ ghost use lib.ListN.{length, getD};
 ghost use Rattle.snapshot.specs.Lists.{rows, any, eqList};
 ghost use Rattle.snapshot.specs.Words.{payOf, wordsOf};
 ghost use Rattle.snapshot.specs.Records.{Map, nameAt};
-ghost use Rattle.snapshot.specs.Layouts.{snapWith};
+ghost use Rattle.snapshot.specs.Layouts.{nameHead, namesOf, snapWith};
+ghost use Rattle.chains.specs.Chains.{nameKey, Chained};
 ghost use Rattle.record_rules.specs.Tests.{textBound, padded as paddedOf, nameRange, sameName, isBuiltin};
 ghost use Rattle.record_rules.specs.Steps.{nameStep};
 ghost use Rattle.record_rules.specs.Stands.{Ready, Stands, Answered};
 use crate::judge::Step;
 use crate::judge::judge;
+use chains::chain::Chains;
+use chains::chain::link;
+use chains::keys::name_key;
 use snapshot::ids::Name;
 use snapshot::kind::text_words;
 use snapshot::layout::Layout;
+use snapshot::table::name_head;
 use snapshot::words::field;
 use snapshot::words::payload;
 use snapshot::words::payload_of;
+use snapshot::words::word;
 
 // What a word that holds b more bytes of text stays below.
 fn text_bound(b: usize) -> usize
@@ -200,6 +206,25 @@ pub fn is_builtin(words: &[u32], at: usize) -> bool
     known(words, at, &BUILTINS, &BUILTIN_HEADS, 19)
 }
 
+// Whether a name with the key has the text of the name at a place.
+fn repeated(words: &[u32], at: usize, area: &[u32], n: usize, key: usize) -> bool
+    requires { ⌜ Chained (now area) 4160 6336 (λ i. nameKey (nameAt (now words) (nameHead (now area) i))) n ⌝ }
+    requires { ⌜ (n ≤ 2048) × (key ≡ nameKey (nameAt (now words) at)) ⌝ }
+    ensures { λ r. ⌜ r ≡ any (sameName (nameAt (now (words .entry)) at)) (namesOf (now (words .entry)) (now (area .entry)) n) ⌝ }
+{
+    let size = text_words(payload(words, at));
+    let last = payload_of(field(words, at, size));
+    let mut k = word(area, Chains::NAME_HEADS + key);
+    while k != 0 {
+        let j = k - 1;
+        if same_text(words, at, words, name_head(area, Name(j)), size, last) {
+            return true;
+        }
+        k = word(area, Chains::NAME_LINKS + j);
+    }
+    false
+}
+
 /// A name.
 pub fn step(words: &[u32], area: &mut [u32], l: Layout, at: usize) -> Step
     requires { ⌜ Ready (now words) (now area) l at (at + 1 + wordsOf (payOf (getD (now words) at 0))) ⌝ }
@@ -207,12 +232,14 @@ pub fn step(words: &[u32], area: &mut [u32], l: Layout, at: usize) -> Step
 {
     let names = l.names;
     let range = in_range(words, at);
-    let old = known(words, at, words, area, names);
+    let key = name_key(words, at);
+    let old = repeated(words, at, area, names, key);
     let n = judge(range, true, old, true, names < Name::LIMIT);
     if n != 0 {
         return Step::No(n);
     }
     area[names] = at as u32;
+    link(area, Chains::NAME_HEADS, Chains::NAME_LINKS, key, names);
     let mut m = l;
     m.names = names + 1;
     m.text = at + 1 + text_words(payload(words, at));

@@ -1,18 +1,47 @@
 -- One record more of a kind that has no table: the lists and what stands.
 use Prim.Native.Nat.{ℕ, _+_, _*_, _≤_, _<_}
-use mathlib.Core.Path.{_≡_, _∙_, ap}
+use mathlib.Core.Path.{_≡_, refl, sym, _∙_, ap}
 use mathlib.Core.List.{List, [], _∷_, _++_}
 use native.Mathlib.Omega.{arith}
 use native.Mathlib.Nat.{lt-irrefl}
 use lib.Dec.{lit<}
-use lib.ListN.{length}
+use lib.ListN.{length, getD}
 use Rattle.snapshot.specs.Lists.{rows}
-use Rattle.snapshot.specs.Records.{Map, Dependency, Child, Prelude, Definition, Scope, Import, Extern, crateAt, dependencyAt, childAt, preludeAt, definitionAt, scopeAt, importAt, externAt}
-use Rattle.snapshot.specs.Layouts.{crateBase, dependencyBase, childBase, preludeBase, definitionBase, scopeBase, importBase, externBase, namesOf, modulesOf, recordsOf, snapWith}
+use Rattle.snapshot.specs.Words.{payOf, wordsOf}
+use Rattle.snapshot.specs.Records.{mapAt, Map, Dependency, Child, Prelude, Definition, Scope, Import, Extern, crateAt, dependencyAt, childAt, preludeAt, definitionAt, scopeAt, importAt, externAt}
+use Rattle.snapshot.specs.Layouts.{crateBase, dependencyBase, childBase, preludeBase, definitionBase, scopeBase, importBase, externBase, nameHead, moduleMap, moduleHead, ownMap, namesOf, modulesOf, recordsOf, snapWith}
 use Rattle.snapshot.specs.declared.layout.Layout.{Layout}
 use Rattle.snapshot.proofs.Laws.{rows-snoc, rows-zero}
 use Rattle.record_rules.specs.Steps.{addDependency, addChild, addPrelude, addDefinition, addScope, addImport, addExtern}
-use Rattle.record_rules.specs.Stands.{Stands}
+use Rattle.record_rules.specs.Tests.{noMap}
+use Rattle.record_rules.specs.Stands.{ownOf, Indexes, Stands}
+use Rattle.record_rules.proofs.Indexed.{Kept, indexes-kept, indexes-early}
+use Rattle.record_rules.proofs.Tabled.{names-kept, modules-kept, heads-kept}
+
+-- what the tables say, where they are kept
+record TablesSay (W B : List ℕ) (l : Layout) (ms : List Map) : Type 0 where
+  heads : (j : ℕ) → j < l .names → nameHead B j + 1 + wordsOf (payOf (getD W (nameHead B j) 0)) ≤ length W
+  below : (m : ℕ) → m < l .modules → moduleMap B m < l .maps
+  rising : (i j : ℕ) → i ≤ j → j < l .modules → moduleMap B i ≤ moduleMap B j
+  inside : (m : ℕ) → m < l .modules → getD ms (moduleMap B m) noMap ≡ mapAt W (moduleHead B m)
+  own : (c : ℕ) → c < l .crates → ownMap B c ≡ ownOf c ms
+
+module _ (W A B : List ℕ) (k at : ℕ) (l : Layout) (ms : List Map) (st : Stands W A k at l ms) (kept : Kept A B 0 4160) where
+  map-of : (m : ℕ) → m < l .modules → moduleMap B m ≡ moduleMap A m
+  map-of m h = let r = st .limited .modules in kept (2048 + 3 * m) (omega arith) (omega arith)
+
+  head-of : (m : ℕ) → m < l .modules → moduleHead B m ≡ moduleHead A m
+  head-of m h = let r = st .limited .modules in kept (2048 + 3 * m + 1) (omega arith) (omega arith)
+
+  tables-kept : TablesSay W B l ms
+  tables-kept =
+      record {
+        heads = heads-kept W A B (l .names) (st .limited .names) (λ i u v. kept i u (omega arith)) (st .heads);
+        below = λ m h. (let q = map-of m h in let r = st .below m h in omega arith);
+        rising = λ i j h k. (let p = map-of i (omega arith) in let q = map-of j k in let r = st .rising i j h k in omega arith);
+        inside = λ m h. ap (λ k. getD ms k noMap) (map-of m h) ∙ st .inside m h ∙ ap (mapAt W) (sym (head-of m h));
+        own = λ c h. (let r = st .limited .crates in kept (4096 + c) (omega arith) (omega arith) ∙ st .own c h);
+      }
 
 -- one dependency more
 
@@ -83,6 +112,7 @@ module _ (W A : List ℕ) (at : ℕ) (l : Layout) (ms : List Map) (st : Stands W
         rising = st .rising;
         inside = st .inside;
         own = st .own;
+        index = indexes-early W A A l (dependencyOn l) (st .index) (st .limited .names) (λ i u v. refl) (λ i u. refl) refl refl refl (st .upto .scopes (lit< tt)) (st .upto .externs (lit< tt));
       }
 
 -- one child more
@@ -150,6 +180,7 @@ module _ (W A : List ℕ) (at : ℕ) (l : Layout) (ms : List Map) (st : Stands W
         rising = st .rising;
         inside = st .inside;
         own = st .own;
+        index = indexes-early W A A l (childOn l) (st .index) (st .limited .names) (λ i u v. refl) (λ i u. refl) refl refl refl (st .upto .scopes (lit< tt)) (st .upto .externs (lit< tt));
       }
 
 -- one prelude more
@@ -215,6 +246,7 @@ module _ (W A : List ℕ) (at : ℕ) (l : Layout) (ms : List Map) (st : Stands W
         rising = st .rising;
         inside = st .inside;
         own = st .own;
+        index = indexes-early W A A l (preludeOn l) (st .index) (st .limited .names) (λ i u v. refl) (λ i u. refl) refl refl refl (st .upto .scopes (lit< tt)) (st .upto .externs (lit< tt));
       }
 
 -- one definition more
@@ -279,6 +311,7 @@ module _ (W A : List ℕ) (at : ℕ) (l : Layout) (ms : List Map) (st : Stands W
         rising = st .rising;
         inside = st .inside;
         own = st .own;
+        index = indexes-early W A A l (definitionOn l) (st .index) (st .limited .names) (λ i u v. refl) (λ i u. refl) refl refl refl (st .upto .scopes (lit< tt)) (st .upto .externs (lit< tt));
       }
 
 -- one scope more
@@ -301,8 +334,8 @@ scopeOn l =
       latest = l .latest;
     }
 
-module _ (W A : List ℕ) (at : ℕ) (l : Layout) (ms : List Map) (st : Stands W A 9 at l ms) where
-  pub scope-added : snapWith W A (scopeOn l) ms ≡ addScope (snapWith W A l ms) (scopeAt W at)
+module _ (W A B : List ℕ) (at : ℕ) (l : Layout) (ms : List Map) (st : Stands W A 9 at l ms) (kept : Kept A B 0 4160) where
+  pub scope-added : snapWith W B (scopeOn l) ms ≡ addScope (snapWith W A l ms) (scopeAt W at)
   scope-added =
       let z-imports : l .imports ≡ 0 = st .upto .imports (lit< tt) in
       let z-externs : l .externs ≡ 0 = st .upto .externs (lit< tt) in
@@ -312,10 +345,13 @@ module _ (W A : List ℕ) (at : ℕ) (l : Layout) (ms : List Map) (st : Stands W
       rows-snoc f (l .scopes) ∙ ap (λ h. rows f 0 (l .scopes) ++ (scopeAt W h ∷ [])) e in
       let q-imports : recordsOf importAt 6 W (importBase (scopeOn l)) ((scopeOn l) .imports) ≡ recordsOf importAt 6 W (importBase l) (l .imports) = rows-zero _ _ _ z-imports in
       let q-externs : recordsOf externAt 3 W (externBase (scopeOn l)) ((scopeOn l) .externs) ≡ recordsOf externAt 3 W (externBase l) (l .externs) = rows-zero _ _ _ z-externs in
-      λ i. record { names = namesOf W A (l .names); crates = recordsOf crateAt 1 W (crateBase l) (l .crates); dependencies = recordsOf dependencyAt 3 W (dependencyBase l) (l .dependencies); maps = ms; modules = modulesOf A (l .modules); children = recordsOf childAt 2 W (childBase l) (l .children); preludes = recordsOf preludeAt 2 W (preludeBase l) (l .preludes); definitions = recordsOf definitionAt 3 W (definitionBase l) (l .definitions); scopes = p i; imports = q-imports i; externs = q-externs i }
+      let q-names : namesOf W B (l .names) ≡ namesOf W A (l .names) = names-kept W A B (l .names) (st .limited .names) (λ i u v. kept i u (omega arith)) in
+      let q-modules : modulesOf B (l .modules) ≡ modulesOf A (l .modules) = modules-kept A B (l .modules) (st .limited .modules) (λ i u v. kept i (omega arith) (omega arith)) in
+      λ i. record { names = q-names i; crates = recordsOf crateAt 1 W (crateBase l) (l .crates); dependencies = recordsOf dependencyAt 3 W (dependencyBase l) (l .dependencies); maps = ms; modules = q-modules i; children = recordsOf childAt 2 W (childBase l) (l .children); preludes = recordsOf preludeAt 2 W (preludeBase l) (l .preludes); definitions = recordsOf definitionAt 3 W (definitionBase l) (l .definitions); scopes = p i; imports = q-imports i; externs = q-externs i }
 
-  pub scope-stands : at + 7 ≤ length W → Stands W A 9 (at + 7) (scopeOn l) ms
-  scope-stands fits =
+  pub scope-stands : at + 7 ≤ length W → Indexes W B (scopeOn l) → Stands W B 9 (at + 7) (scopeOn l) ms
+  scope-stands fits ix =
+      let t = tables-kept W A B 9 at l ms st kept in
       record {
         place = (let q = st .place in omega arith);
         within = fits;
@@ -333,13 +369,14 @@ module _ (W A : List ℕ) (at : ℕ) (l : Layout) (ms : List Map) (st : Stands W
               externs = st .upto .externs;
             };
         limited = record { names = st .limited .names; crates = st .limited .crates; modules = st .limited .modules; definitions = st .limited .definitions };
-        heads = st .heads;
+        heads = t .heads;
         count = st .count;
         latest = st .latest;
-        below = st .below;
-        rising = st .rising;
-        inside = st .inside;
-        own = st .own;
+        below = t .below;
+        rising = t .rising;
+        inside = t .inside;
+        own = t .own;
+        index = ix;
       }
 
 -- one import more
@@ -399,6 +436,7 @@ module _ (W A : List ℕ) (at : ℕ) (l : Layout) (ms : List Map) (st : Stands W
         rising = st .rising;
         inside = st .inside;
         own = st .own;
+        index = indexes-kept W A A l (importOn l) (st .index) (st .limited .names) (λ i u v. refl) (λ i u. refl) refl refl refl (λ h. refl) (λ h. (let z = st .upto .externs (lit< tt) in absurd (omega arith)));
       }
 
 -- one extern more
@@ -421,17 +459,20 @@ externOn l =
       latest = l .latest;
     }
 
-module _ (W A : List ℕ) (at : ℕ) (l : Layout) (ms : List Map) (st : Stands W A 11 at l ms) where
-  pub extern-added : snapWith W A (externOn l) ms ≡ addExtern (snapWith W A l ms) (externAt W at)
+module _ (W A B : List ℕ) (at : ℕ) (l : Layout) (ms : List Map) (st : Stands W A 11 at l ms) (kept : Kept A B 0 4160) where
+  pub extern-added : snapWith W B (externOn l) ms ≡ addExtern (snapWith W A l ms) (externAt W at)
   extern-added =
       let f : ℕ → Extern = λ j. externAt W (externBase l + 3 * j) in
       let e : externBase l + 3 * l .externs ≡ at = (let q = st .place in omega arith) in
       let p : rows f 0 (l .externs + 1) ≡ rows f 0 (l .externs) ++ (externAt W at ∷ []) =
       rows-snoc f (l .externs) ∙ ap (λ h. rows f 0 (l .externs) ++ (externAt W h ∷ [])) e in
-      λ i. record { names = namesOf W A (l .names); crates = recordsOf crateAt 1 W (crateBase l) (l .crates); dependencies = recordsOf dependencyAt 3 W (dependencyBase l) (l .dependencies); maps = ms; modules = modulesOf A (l .modules); children = recordsOf childAt 2 W (childBase l) (l .children); preludes = recordsOf preludeAt 2 W (preludeBase l) (l .preludes); definitions = recordsOf definitionAt 3 W (definitionBase l) (l .definitions); scopes = recordsOf scopeAt 7 W (scopeBase l) (l .scopes); imports = recordsOf importAt 6 W (importBase l) (l .imports); externs = p i }
+      let q-names : namesOf W B (l .names) ≡ namesOf W A (l .names) = names-kept W A B (l .names) (st .limited .names) (λ i u v. kept i u (omega arith)) in
+      let q-modules : modulesOf B (l .modules) ≡ modulesOf A (l .modules) = modules-kept A B (l .modules) (st .limited .modules) (λ i u v. kept i (omega arith) (omega arith)) in
+      λ i. record { names = q-names i; crates = recordsOf crateAt 1 W (crateBase l) (l .crates); dependencies = recordsOf dependencyAt 3 W (dependencyBase l) (l .dependencies); maps = ms; modules = q-modules i; children = recordsOf childAt 2 W (childBase l) (l .children); preludes = recordsOf preludeAt 2 W (preludeBase l) (l .preludes); definitions = recordsOf definitionAt 3 W (definitionBase l) (l .definitions); scopes = recordsOf scopeAt 7 W (scopeBase l) (l .scopes); imports = recordsOf importAt 6 W (importBase l) (l .imports); externs = p i }
 
-  pub extern-stands : at + 3 ≤ length W → Stands W A 11 (at + 3) (externOn l) ms
-  extern-stands fits =
+  pub extern-stands : at + 3 ≤ length W → Indexes W B (externOn l) → Stands W B 11 (at + 3) (externOn l) ms
+  extern-stands fits ix =
+      let t = tables-kept W A B 11 at l ms st kept in
       record {
         place = (let q = st .place in omega arith);
         within = fits;
@@ -449,11 +490,12 @@ module _ (W A : List ℕ) (at : ℕ) (l : Layout) (ms : List Map) (st : Stands W
               externs = λ h. absurd (lt-irrefl 11 h);
             };
         limited = record { names = st .limited .names; crates = st .limited .crates; modules = st .limited .modules; definitions = st .limited .definitions };
-        heads = st .heads;
+        heads = t .heads;
         count = st .count;
         latest = st .latest;
-        below = st .below;
-        rising = st .rising;
-        inside = st .inside;
-        own = st .own;
+        below = t .below;
+        rising = t .rising;
+        inside = t .inside;
+        own = t .own;
+        index = ix;
       }

@@ -3,3 +3,4 @@ pub mod Grows
 pub mod Steps
 pub mod Regions
 pub mod ModuleRows
+pub mod Linked

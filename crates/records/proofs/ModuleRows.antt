@@ -21,7 +21,8 @@ use Rattle.record_rules.specs.Steps.{no, on, moduleStep, addModule}
 use Rattle.record_rules.specs.Stands.{numberOf, countsIn, ownOf, Stands, Answered}
 use Rattle.record_rules.specs.declared.judge.Step.the-variants.{On}
 use Rattle.record_rules.proofs.Judged.{number-of, judge-no, judge-on, passes, Passed, counts-same, and-left, and-right}
-use Rattle.record_rules.proofs.Tabled.{Kept, names-kept, heads-kept}
+use Rattle.record_rules.proofs.Indexed.{Kept, indexes-early}
+use Rattle.record_rules.proofs.Tabled.{names-kept, heads-kept}
 
 -- a row of the table, written
 abbrev rowSet : List ℕ → ℕ → ℕ → ℕ → ℕ → List ℕ
@@ -151,6 +152,9 @@ module _ (W A : List ℕ) (at : ℕ) (l : Layout) (ms : List Map) (st : Stands W
             own = λ c h.
                 (let q = st .limited .crates in
                 row-other A (l .modules) x y z (4096 + c) (omega arith) (omega arith) (omega arith) ∙ st .own c h);
+            index =
+                indexes-early W A (rowSet A (l .modules) x y z) l (moduleOn l) (st .index) (st .limited .names) names-stay
+                (λ i u. row-other A (l .modules) x y z i (omega arith) (omega arith) (omega arith)) refl refl refl (st .upto .scopes (lit< tt)) (st .upto .externs (lit< tt));
           }
         where
           rises : (j : ℕ) → j < l .modules + 1 → (i : ℕ) → i ≤ j → moduleMap (rowSet A (l .modules) x y z) i ≤ moduleMap (rowSet A (l .modules) x y z) j

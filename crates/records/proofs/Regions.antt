@@ -21,7 +21,8 @@ use Rattle.record_rules.specs.Steps.{Next, no, on, mapStep, moduleStep, addMap,
 use Rattle.record_rules.specs.Stands.{numberOf, countsIn, ownFrom, ownOf, Stands, Answered}
 use Rattle.record_rules.specs.declared.judge.Step.the-variants.{No, On}
 use Rattle.record_rules.proofs.Judged.{number-of, judge-no, judge-on, passes, Passed, counts-same, and-left, and-right}
-use Rattle.record_rules.proofs.Tabled.{Kept, names-kept, modules-kept, heads-kept, set-kept}
+use Rattle.record_rules.proofs.Indexed.{Kept, Above, set-kept, set-above, indexes-early}
+use Rattle.record_rules.proofs.Tabled.{names-kept, modules-kept, heads-kept}
 
 -- the own map of a crate, with one map more
 
@@ -71,7 +72,7 @@ mapOn l at =
       latest = at;
     }
 
-module _ (W A B : List ℕ) (at : ℕ) (l : Layout) (ms : List Map) (st : Stands W A 4 at l ms) (kept : Kept A B 0 4096) where
+module _ (W A B : List ℕ) (at : ℕ) (l : Layout) (ms : List Map) (st : Stands W A 4 at l ms) (kept : Kept A B 0 4096) (above : Above A B) where
   map-added : snapWith W B (mapOn l at) (ms ++ (mapAt W at ∷ [])) ≡ addMap (snapWith W A l ms) (mapAt W at)
   map-added =
       let z-children : l .children ≡ 0 = st .upto .children (lit< tt) in
@@ -124,6 +125,7 @@ module _ (W A B : List ℕ) (at : ℕ) (l : Layout) (ms : List Map) (st : Stands
             ap (λ k. getD (ms ++ (mapAt W at ∷ [])) k noMap) (map-of m h) ∙ List·getD-append ms (mapAt W at ∷ []) noMap (moduleMap A m) (omega arith) ∙ st .inside m h
             ∙ ap (mapAt W) (sym (kept (2048 + 3 * m + 1) (omega arith) (omega arith))));
         own = own;
+        index = indexes-early W A B l (mapOn l at) (st .index) (st .limited .names) (λ i u v. kept i u (omega arith)) above refl refl refl (st .upto .scopes (lit< tt)) (st .upto .externs (lit< tt));
       }
 
 pub map-defined : (n : Counts) (x : Map) → mapDefined n x ≡ true → (x .crate < n .crates) × (x .block ≤ n .modules)
@@ -176,21 +178,21 @@ module _ (W A : List ℕ) (at : ℕ) (l : Layout) (ms : List Map) (st : Stands W
     pub map-crate : n ≡ 0 → mapAt W at .crate < l .crates
     map-crate z = map-defined (countsIn l) (mapAt W at) (map-numbers z) .0
 
-    pub map-on : (B : List ℕ) → n ≡ 0 → at + 3 ≤ length W → Kept A B 0 4096
+    pub map-on : (B : List ℕ) → n ≡ 0 → at + 3 ≤ length W → Kept A B 0 4096 → Above A B
         → ((c : ℕ) → c < l .crates → ownMap B c ≡ ownOf c (ms ++ (mapAt W at ∷ [])))
         → Answered W B 4 (at + 3) (mapStep (snapWith W A l ms) (mapAt W at)) (On (mapOn l at))
     unfolding mapStep
-    map-on B z fits kept own = (
+    map-on B z fits kept above own = (
       ms ++ (mapAt W at ∷ []),
-      judge-on (mapRange (mapAt W at)) (mapDefined (countsOf (snapWith W A l ms)) (mapAt W at)) (mapRepeated (snapWith W A l ms) (mapAt W at)) (mapPlaced (snapWith W A l ms) (mapAt W at)) true (addMap (snapWith W A l ms) (mapAt W at)) (map-passes z) ∙ ap on (sym (map-added W A B at l ms st kept)),
-      map-stands W A B at l ms st kept fits own,
+      judge-on (mapRange (mapAt W at)) (mapDefined (countsOf (snapWith W A l ms)) (mapAt W at)) (mapRepeated (snapWith W A l ms) (mapAt W at)) (mapPlaced (snapWith W A l ms) (mapAt W at)) true (addMap (snapWith W A l ms) (mapAt W at)) (map-passes z) ∙ ap on (sym (map-added W A B at l ms st kept above)),
+      map-stands W A B at l ms st kept above fits own,
     )
 
     -- a block's map: no crate's own map changes
     pub map-on-block : n ≡ 0 → at + 3 ≤ length W → (mapAt W at .block ≡ 0 → ⊥)
         → Answered W A 4 (at + 3) (mapStep (snapWith W A l ms) (mapAt W at)) (On (mapOn l at))
     map-on-block z fits h =
-        map-on A z fits (λ i u v. refl)
+        map-on A z fits (λ i u v. refl) (λ i u. refl)
         (λ k p. st .own k p ∙ sym (own-later k 0 ms (mapAt W at) (rw (ne-eqb _ _ h) (no-own (eqb (mapAt W at .crate) k)))))
       where
         no-own : (x : Bool) → (x && false) ≡ false
@@ -201,7 +203,8 @@ module _ (W A : List ℕ) (at : ℕ) (l : Layout) (ms : List Map) (st : Stands W
     pub map-on-own : {v i : ℕ} → n ≡ 0 → at + 3 ≤ length W → 16384 ≤ length A → mapAt W at .block ≡ 0 → v ≡ l .maps + 1 → i ≡ mapAt W at .crate
         → Answered W (set A (4096 + i) v) 4 (at + 3) (mapStep (snapWith W A l ms) (mapAt W at)) (On (mapOn l at))
     map-on-own {v} {i} z fits large h ev ei =
-        map-on (set A (4096 + i) v) z fits (set-kept A (4096 + i) v 0 4096 (λ k p q. omega arith)) owns
+        map-on (set A (4096 + i) v) z fits (set-kept A (4096 + i) v 0 4096 (λ k p q. omega arith))
+        (let c = map-crate z in let w = st .limited .crates in set-above A (4096 + i) v (omega arith)) owns
       where
         fresh : ownOf (mapAt W at .crate) ms ≡ 0
         fresh =

@@ -17,6 +17,7 @@ use Rattle.record_rules.specs.Steps.{Next, no, on, dependencyStep, childStep, p
 use Rattle.record_rules.specs.Stands.{numberOf, sameBy, countsIn, Stands, Answered}
 use Rattle.record_rules.specs.declared.judge.Step.the-variants.{No, On}
 use Rattle.records.proofs.Grows.{dependencyOn, dependency-added, dependency-stands, childOn, child-added, child-stands, preludeOn, prelude-added, prelude-stands, definitionOn, definition-added, definition-stands, scopeOn, scope-added, scope-stands, importOn, import-added, import-stands, externOn, extern-added, extern-stands}
+use Rattle.records.proofs.Linked.{Linked}
 use Rattle.record_rules.proofs.Judged.{number-of, judge-no, judge-on, passes, counts-same, child-again, prelude-again, definition-again, scope-again, extern-again, scope-definition, import-definition, ns-same, child-same, parent-same}
 
 -- the names of a builtin definition that is in range
@@ -173,12 +174,12 @@ module _ (W A : List ℕ) (at : ℕ) (l : Layout) (ms : List Map) (st : Stands W
     unfolding scopeStep
     scope-no z = judge-no (scopeRange (scopeAt W at)) (scopeDefined (countsOf (snapWith W A l ms)) (scopeAt W at)) (any (sameEntry (scopeAt W at)) ((snapWith W A l ms) .scopes)) (nsPlaced (snapWith W A l ms) (scopeAt W at .ns) (scopeAt W at .definition)) true (addScope (snapWith W A l ms) (scopeAt W at)) scope-number z
 
-    pub scope-on : n ≡ 0 → at + 7 ≤ length W → Answered W A 9 (at + 7) (scopeStep (snapWith W A l ms) (scopeAt W at)) (On (scopeOn l))
+    pub scope-on : (B : List ℕ) → n ≡ 0 → at + 7 ≤ length W → Linked W A B (scopeOn l) → Answered W B 9 (at + 7) (scopeStep (snapWith W A l ms) (scopeAt W at)) (On (scopeOn l))
     unfolding scopeStep
-    scope-on z fits = (
+    scope-on B z fits x = (
       ms,
-      judge-on (scopeRange (scopeAt W at)) (scopeDefined (countsOf (snapWith W A l ms)) (scopeAt W at)) (any (sameEntry (scopeAt W at)) ((snapWith W A l ms) .scopes)) (nsPlaced (snapWith W A l ms) (scopeAt W at .ns) (scopeAt W at .definition)) true (addScope (snapWith W A l ms) (scopeAt W at)) (passes (scopeRange (scopeAt W at)) (scopeDefined (countsOf (snapWith W A l ms)) (scopeAt W at)) (any (sameEntry (scopeAt W at)) ((snapWith W A l ms) .scopes)) (nsPlaced (snapWith W A l ms) (scopeAt W at .ns) (scopeAt W at .definition)) true (sym z ∙ scope-number)) ∙ ap on (sym (scope-added W A at l ms st)),
-      scope-stands W A at l ms st fits,
+      judge-on (scopeRange (scopeAt W at)) (scopeDefined (countsOf (snapWith W A l ms)) (scopeAt W at)) (any (sameEntry (scopeAt W at)) ((snapWith W A l ms) .scopes)) (nsPlaced (snapWith W A l ms) (scopeAt W at .ns) (scopeAt W at .definition)) true (addScope (snapWith W A l ms) (scopeAt W at)) (passes (scopeRange (scopeAt W at)) (scopeDefined (countsOf (snapWith W A l ms)) (scopeAt W at)) (any (sameEntry (scopeAt W at)) ((snapWith W A l ms) .scopes)) (nsPlaced (snapWith W A l ms) (scopeAt W at .ns) (scopeAt W at .definition)) true (sym z ∙ scope-number)) ∙ ap on (sym (scope-added W A B at l ms st (x .kept))),
+      scope-stands W A B at l ms st (x .kept) fits (x .index),
     )
 
 module _ (W A : List ℕ) (at : ℕ) (l : Layout) (ms : List Map) (st : Stands W A 10 at l ms)
@@ -232,10 +233,10 @@ module _ (W A : List ℕ) (at : ℕ) (l : Layout) (ms : List Map) (st : Stands W
     unfolding externStep
     extern-no z = judge-no true (externDefined (countsOf (snapWith W A l ms)) (externAt W at)) (any (sameExtern (externAt W at)) ((snapWith W A l ms) .externs)) true true (addExtern (snapWith W A l ms) (externAt W at)) extern-number z
 
-    pub extern-on : n ≡ 0 → at + 3 ≤ length W → Answered W A 11 (at + 3) (externStep (snapWith W A l ms) (externAt W at)) (On (externOn l))
+    pub extern-on : (B : List ℕ) → n ≡ 0 → at + 3 ≤ length W → Linked W A B (externOn l) → Answered W B 11 (at + 3) (externStep (snapWith W A l ms) (externAt W at)) (On (externOn l))
     unfolding externStep
-    extern-on z fits = (
+    extern-on B z fits x = (
       ms,
-      judge-on true (externDefined (countsOf (snapWith W A l ms)) (externAt W at)) (any (sameExtern (externAt W at)) ((snapWith W A l ms) .externs)) true true (addExtern (snapWith W A l ms) (externAt W at)) (passes true (externDefined (countsOf (snapWith W A l ms)) (externAt W at)) (any (sameExtern (externAt W at)) ((snapWith W A l ms) .externs)) true true (sym z ∙ extern-number)) ∙ ap on (sym (extern-added W A at l ms st)),
-      extern-stands W A at l ms st fits,
+      judge-on true (externDefined (countsOf (snapWith W A l ms)) (externAt W at)) (any (sameExtern (externAt W at)) ((snapWith W A l ms) .externs)) true true (addExtern (snapWith W A l ms) (externAt W at)) (passes true (externDefined (countsOf (snapWith W A l ms)) (externAt W at)) (any (sameExtern (externAt W at)) ((snapWith W A l ms) .externs)) true true (sym z ∙ extern-number)) ∙ ap on (sym (extern-added W A B at l ms st (x .kept))),
+      extern-stands W A B at l ms st (x .kept) fits (x .index),
     )

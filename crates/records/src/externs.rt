@@ -7,7 +7,10 @@ ghost use Rattle.snapshot.specs.Layouts.{snapWith};
 ghost use Rattle.record_rules.specs.Tests.{externDefined, sameExtern};
 ghost use Rattle.record_rules.specs.Steps.{externStep};
 ghost use Rattle.record_rules.specs.Stands.{Ready, Stands, Answered, countsIn};
-use crate::repeats::repeated;
+use crate::repeats::repeated_with;
+use chains::chain::Chains;
+use chains::chain::link;
+use chains::keys::record_key;
 use record_rules::judge::Step;
 use record_rules::judge::judge;
 use snapshot::layout::Layout;
@@ -25,16 +28,30 @@ fn defined(words: &[u32], l: Layout, at: usize) -> bool
 }
 
 /// An extern.
-pub fn step(words: &[u32], area: &[u32], l: Layout, at: usize) -> Step
+pub fn step(words: &[u32], area: &mut [u32], l: Layout, at: usize) -> Step
     requires { ⌜ Ready (now words) (now area) l at (at + 3) ⌝ }
-    ensures { λ r. ⌜ ((ms : List Map) → Stands (now (words .entry)) (now (area .entry)) 11 at l ms → Answered (now (words .entry)) (now (area .entry)) 11 (at + 3) (externStep (snapWith (now (words .entry)) (now (area .entry)) l ms) (externAt (now (words .entry)) at)) r) ⌝ }
+    ensures { λ r. ⌜ ((ms : List Map) → Stands (now (words .entry)) (now (area .entry)) 11 at l ms → Answered (now (words .entry)) (now (area .exit)) 11 (at + 3) (externStep (snapWith (now (words .entry)) (now (area .entry)) l ms) (externAt (now (words .entry)) at)) r) ⌝ }
 {
-    let old = repeated(words, true, 1, at, l.extern_base(), 3, l.externs);
+    let key = record_key(words, at, 1);
+    let count = l.externs;
+    let old = repeated_with(
+        words,
+        area,
+        1,
+        at,
+        l.extern_base(),
+        3,
+        count,
+        Chains::EXTERN_HEADS,
+        Chains::EXTERN_LINKS,
+        key,
+    );
     let n = judge(true, defined(words, l, at), old, true, true);
     if n != 0 {
         return Step::No(n);
     }
+    link(area, Chains::EXTERN_HEADS, Chains::EXTERN_LINKS, key, count);
     let mut m = l;
-    m.externs = l.externs + 1;
+    m.externs = count + 1;
     Step::On(m)
 }

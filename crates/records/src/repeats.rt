@@ -6,9 +6,11 @@ ghost use lib.Dec.{leb};
 ghost use lib.ListN.{length, getD};
 ghost use Rattle.snapshot.specs.Lists.{rows, any};
 ghost use Rattle.snapshot.specs.Words.{payOf};
+ghost use Rattle.chains.specs.Chains.{recordKey, Chained};
 ghost use Rattle.record_rules.specs.Stands.{sameBy};
 use snapshot::words::field;
 use snapshot::words::payload;
+use snapshot::words::word;
 
 // Whether two records have the same owner, where it counts, and the same first fields.
 fn same_fields(words: &[u32], owner: bool, fields: usize, a: usize, b: usize) -> bool
@@ -60,6 +62,36 @@ pub fn repeated(
         }
         p += size;
         k += 1;
+    }
+    false
+}
+
+/// The same among the records with a key, by their owner and first fields.
+pub fn repeated_with(
+    words: &[u32],
+    area: &[u32],
+    fields: usize,
+    at: usize,
+    base: usize,
+    size: usize,
+    count: usize,
+    heads: usize,
+    links: usize,
+    key: usize,
+) -> bool
+    requires { ⌜ Chained (now area) heads links (λ i. recordKey (now words) fields (base + size * i)) count ⌝ }
+    requires { ⌜ (key ≡ recordKey (now words) fields at) × (heads < 2 ^ 32) × (links < 2 ^ 32) × (1 ≤ fields) × (fields ≤ 2) ⌝ }
+    requires { ⌜ (base + size * count ≤ length (now words)) × (at + size ≤ length (now words)) × (length (now words) < 2 ^ 32) × (fields < size) ⌝ }
+    ensures { λ r. ⌜ r ≡ any (sameBy (now (words .entry)) true fields at) (rows (λ k. base + size * k) 0 count) ⌝ }
+{
+    let last = low(words[at + fields]);
+    let mut k = word(area, heads + key);
+    while k != 0 {
+        let j = k - 1;
+        if same(words, true, fields, at, base + size * j + fields, last) {
+            return true;
+        }
+        k = word(area, links + j);
     }
     false
 }

@@ -8,7 +8,10 @@ ghost use Rattle.record_rules.specs.Tests.{scopeRange, scopeDefined, sameEntry,
 ghost use Rattle.record_rules.specs.Steps.{scopeStep};
 ghost use Rattle.record_rules.specs.Stands.{Ready, Stands, Answered, countsIn};
 use crate::definitions::ns_placed;
-use crate::repeats::repeated;
+use crate::repeats::repeated_with;
+use chains::chain::Chains;
+use chains::chain::link;
+use chains::keys::record_key;
 use record_rules::judge::Step;
 use record_rules::judge::judge;
 use snapshot::layout::Layout;
@@ -44,11 +47,24 @@ fn defined(words: &[u32], l: Layout, at: usize) -> bool
 }
 
 /// An entry.
-pub fn step(words: &[u32], area: &[u32], l: Layout, at: usize) -> Step
+pub fn step(words: &[u32], area: &mut [u32], l: Layout, at: usize) -> Step
     requires { ⌜ Ready (now words) (now area) l at (at + 7) ⌝ }
-    ensures { λ r. ⌜ ((ms : List Map) → Stands (now (words .entry)) (now (area .entry)) 9 at l ms → Answered (now (words .entry)) (now (area .entry)) 9 (at + 7) (scopeStep (snapWith (now (words .entry)) (now (area .entry)) l ms) (scopeAt (now (words .entry)) at)) r) ⌝ }
+    ensures { λ r. ⌜ ((ms : List Map) → Stands (now (words .entry)) (now (area .entry)) 9 at l ms → Answered (now (words .entry)) (now (area .exit)) 9 (at + 7) (scopeStep (snapWith (now (words .entry)) (now (area .entry)) l ms) (scopeAt (now (words .entry)) at)) r) ⌝ }
 {
-    let old = repeated(words, true, 2, at, l.scope_base(), 7, l.scopes);
+    let key = record_key(words, at, 2);
+    let count = l.scopes;
+    let old = repeated_with(
+        words,
+        area,
+        2,
+        at,
+        l.scope_base(),
+        7,
+        count,
+        Chains::SCOPE_HEADS,
+        Chains::SCOPE_LINKS,
+        key,
+    );
     let placed = ns_placed(words, l, scope_ns(words, at), scope_definition(words, at));
     let n = judge(
         in_range(words, at),
@@ -60,7 +76,8 @@ pub fn step(words: &[u32], area: &[u32], l: Layout, at: usize) -> Step
     if n != 0 {
         return Step::No(n);
     }
+    link(area, Chains::SCOPE_HEADS, Chains::SCOPE_LINKS, key, count);
     let mut m = l;
-    m.scopes = l.scopes + 1;
+    m.scopes = count + 1;
     Step::On(m)
 }

@@ -162,9 +162,9 @@ same-length-9 c = search needs
 returns-9 : tie.Need-returns-9
 unfolding argumentsOf recordStep
 returns-9 c ms st =
-    let s = c .before .before .before .before .before in
-    let e = (c .before .before .match .keys9) in
-    answers-at (now (s .args .words)) (now (s .args .area)) (c .step9 .result) e (next-of (now (s .args .words)) (s .args .at) 9 7 (s .pre .1 .0) (c .before .before .match .keys9) refl) (ap (λ x. recordStep x (now (s .args .words)) (s .args .at) (snapWith (now (s .args .words)) (now (s .args .area)) (s .args .l) ms)) e) (c .step9 .ensures ms (stands-at (now (s .args .words)) (now (s .args .area)) (s .args .at) (s .args .l) ms e st))
+    let s = c .before .before .before .before .before .before .before in
+    let e = (c .before .before .before .before .match .keys9) in
+    answers-at (now (s .args .words)) (c .before .before .step9 .last .1 .0) (c .before .before .step9 .result) e (next-of (now (s .args .words)) (s .args .at) 9 7 (s .pre .1 .0) (c .before .before .before .before .match .keys9) refl) (ap (λ x. recordStep x (now (s .args .words)) (s .args .at) (snapWith (now (s .args .words)) (now (s .args .area)) (s .args .l) ms)) e) (c .before .before .step9 .ensures ms (stands-at (now (s .args .words)) (now (s .args .area)) (s .args .at) (s .args .l) ms e st))
 
 same-length-10 : tie.Need-same-length-10
 same-length-10 c = search needs
@@ -182,9 +182,9 @@ same-length-11 c = search needs
 returns-11 : tie.Need-returns-11
 unfolding argumentsOf recordStep
 returns-11 c ms st =
-    let s = c .before .before .before .before .before in
-    let e = (eleven _ (s .pre .1 .1) (s .pre .1 .2) (c .before .before .match .rest .0 .0 .0 .0 .0 .0 .0 .0 .0 .1) (c .before .before .match .rest .0 .0 .0 .0 .0 .0 .0 .0 .1) (c .before .before .match .rest .0 .0 .0 .0 .0 .0 .0 .1) (c .before .before .match .rest .0 .0 .0 .0 .0 .0 .1) (c .before .before .match .rest .0 .0 .0 .0 .0 .1) (c .before .before .match .rest .0 .0 .0 .0 .1) (c .before .before .match .rest .0 .0 .0 .1) (c .before .before .match .rest .0 .0 .1) (c .before .before .match .rest .0 .1) (c .before .before .match .rest .1)) in
-    answers-at (now (s .args .words)) (now (s .args .area)) (c .step11 .result) e (next-of (now (s .args .words)) (s .args .at) 11 3 (s .pre .1 .0) (eleven _ (s .pre .1 .1) (s .pre .1 .2) (c .before .before .match .rest .0 .0 .0 .0 .0 .0 .0 .0 .0 .1) (c .before .before .match .rest .0 .0 .0 .0 .0 .0 .0 .0 .1) (c .before .before .match .rest .0 .0 .0 .0 .0 .0 .0 .1) (c .before .before .match .rest .0 .0 .0 .0 .0 .0 .1) (c .before .before .match .rest .0 .0 .0 .0 .0 .1) (c .before .before .match .rest .0 .0 .0 .0 .1) (c .before .before .match .rest .0 .0 .0 .1) (c .before .before .match .rest .0 .0 .1) (c .before .before .match .rest .0 .1) (c .before .before .match .rest .1)) refl) (ap (λ x. recordStep x (now (s .args .words)) (s .args .at) (snapWith (now (s .args .words)) (now (s .args .area)) (s .args .l) ms)) e) (c .step11 .ensures ms (stands-at (now (s .args .words)) (now (s .args .area)) (s .args .at) (s .args .l) ms e st))
+    let s = c .before .before .before .before .before .before .before in
+    let e = (eleven _ (s .pre .1 .1) (s .pre .1 .2) (c .before .before .before .before .match .rest .0 .0 .0 .0 .0 .0 .0 .0 .0 .1) (c .before .before .before .before .match .rest .0 .0 .0 .0 .0 .0 .0 .0 .1) (c .before .before .before .before .match .rest .0 .0 .0 .0 .0 .0 .0 .1) (c .before .before .before .before .match .rest .0 .0 .0 .0 .0 .0 .1) (c .before .before .before .before .match .rest .0 .0 .0 .0 .0 .1) (c .before .before .before .before .match .rest .0 .0 .0 .0 .1) (c .before .before .before .before .match .rest .0 .0 .0 .1) (c .before .before .before .before .match .rest .0 .0 .1) (c .before .before .before .before .match .rest .0 .1) (c .before .before .before .before .match .rest .1)) in
+    answers-at (now (s .args .words)) (c .before .before .step11 .last .1 .0) (c .before .before .step11 .result) e (next-of (now (s .args .words)) (s .args .at) 11 3 (s .pre .1 .0) (eleven _ (s .pre .1 .1) (s .pre .1 .2) (c .before .before .before .before .match .rest .0 .0 .0 .0 .0 .0 .0 .0 .0 .1) (c .before .before .before .before .match .rest .0 .0 .0 .0 .0 .0 .0 .0 .1) (c .before .before .before .before .match .rest .0 .0 .0 .0 .0 .0 .0 .1) (c .before .before .before .before .match .rest .0 .0 .0 .0 .0 .0 .1) (c .before .before .before .before .match .rest .0 .0 .0 .0 .0 .1) (c .before .before .before .before .match .rest .0 .0 .0 .0 .1) (c .before .before .before .before .match .rest .0 .0 .0 .1) (c .before .before .before .before .match .rest .0 .0 .1) (c .before .before .before .before .match .rest .0 .1) (c .before .before .before .before .match .rest .1)) refl) (ap (λ x. recordStep x (now (s .args .words)) (s .args .at) (snapWith (now (s .args .words)) (now (s .args .area)) (s .args .l) ms)) e) (c .before .before .step11 .ensures ms (stands-at (now (s .args .words)) (now (s .args .area)) (s .args .at) (s .args .l) ms e st))
 
 pub by-kind-spec : {M : Type 1} → statement M
 by-kind-spec =

@@ -1,0 +1,58 @@
+use borrow.Author.Needs.{needs}
+use Prim.Native.Nat.{ℕ, _-_, _≤_, _<_}
+use mathlib.Core.Path.{_≡_, refl, _∙_}
+use native.Mathlib.Omega.{arith}
+use lib.ListN.{length, getD, length-set}
+use Rattle.chains.proofs.Laws.{cleared-more}
+use Rattle.chains.proofs.chain.clear.Statement.{statement}
+use Rattle.chains.proofs.chain.clear.Tie as tie
+
+abbrev Inv-loop : tie.InvT-loop
+Inv-loop area₀ from to i₀ area i = (from ≤ i) × (length area ≡ length area₀) × ((k : ℕ) → from ≤ k → k < i → getD area k 0 ≡ 0)
+
+abbrev μ-loop : tie.MeasureT-loop
+μ-loop area₀ from to i₀ area i = to - i
+
+loop-holds : tie.Need-loop-holds Inv-loop μ-loop
+loop-holds c = (omega arith, refl, λ k p q. absurd (omega arith))
+
+mul-area : tie.Need-mul-area Inv-loop μ-loop
+mul-area c = search needs
+
+slice-write-area : tie.Need-slice-write-area Inv-loop μ-loop
+slice-write-area c = (let e = c .before .loop .inv .1 in let h = c .loop-test .taken in let p = c .before .before .pre in omega arith)
+
+add-i : tie.Need-add-i Inv-loop μ-loop
+add-i c = search needs
+
+loop-less : tie.Need-loop-less Inv-loop μ-loop
+loop-less c = search needs
+
+loop-again : tie.Need-loop-again Inv-loop μ-loop
+loop-again c =
+    let l = c .before .loop in
+    let e = l .inv .1 in
+    let h = c .loop-test .taken in
+    let p = c .before .before .pre in
+    (let q = l .inv .0 in omega arith, simp length-set e, cleared-more (l .area) (c .before .before .args .from) (l .i) (omega arith) (l .inv .2))
+
+same-length : tie.Need-same-length Inv-loop μ-loop
+same-length c = c .before .loop .inv .1
+
+returns : tie.Need-returns Inv-loop μ-loop
+returns c i p q = c .before .loop .inv .2 i p (let h = c .loop-test .left in omega arith)
+
+pub clear-spec : {M : Type 1} → statement M
+clear-spec =
+    tie.close
+    (tie.spec
+    Inv-loop
+    μ-loop
+    loop-holds
+    mul-area
+    slice-write-area
+    add-i
+    loop-less
+    loop-again
+    same-length
+    returns)

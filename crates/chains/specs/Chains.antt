@@ -1,0 +1,38 @@
+-- Numbers in chains by a key. Only contracts and proofs of the check cite it.
+use Prim.Native.Nat.{ℕ, _+_, _-_, _*_, _%_, _≤_, _<_}
+use mathlib.Core.Path.{_≡_}
+use mathlib.Core.List.{List, [], _∷_}
+use lib.ListN.{getD, set}
+use Rattle.snapshot.specs.Words.{payOf}
+use Rattle.snapshot.specs.Records.{Name}
+
+-- a number mixed with words
+unfoldable pub mixed : ℕ → List ℕ → ℕ
+mixed a [] = a
+mixed a (w ∷ ws) = mixed ((a + w) * 1640531527 % 4294967296) ws
+
+-- how many keys there are
+abbrev pub keys : ℕ
+keys = 383
+
+abbrev pub nameKey : Name → ℕ
+nameKey x = mixed (x .bytes) (x .text) % keys
+
+-- of the record with its head at a place: its owner, its first field and the last one that counts
+abbrev pub recordKey : List ℕ → ℕ → ℕ → ℕ
+recordKey W fields a = (payOf (getD W a 0) * 37 + getD W (a + 1) 0 * 5 + getD W (a + fields) 0) % keys
+
+-- c is one more than the last number below n with the key b, or 0 where there is none
+pub record Last (key : ℕ → ℕ) (b n c : ℕ) : Type 0 where
+  pub within : c ≤ n
+  pub keyed : 0 < c → key (c - 1) ≡ b
+  pub none : (j : ℕ) → c ≤ j → j < n → key j ≡ b → ⊥
+
+-- the numbers below n: each key has the last with it, and each number the last before it with its key
+pub record Chained (A : List ℕ) (heads links : ℕ) (key : ℕ → ℕ) (n : ℕ) : Type 0 where
+  pub first : (b : ℕ) → b < keys → Last key b n (getD A (heads + b) 0)
+  pub next : (i : ℕ) → i < n → Last key (key i) i (getD A (links + i) 0)
+
+-- the number n before those with its key
+unfoldable pub linked : List ℕ → ℕ → ℕ → ℕ → ℕ → List ℕ
+linked A heads links b n = set (set A (links + n) (getD A (heads + b) 0)) (heads + b) (n + 1)

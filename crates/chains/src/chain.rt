@@ -1,0 +1,47 @@
+//! The heads of the chains, and one number more.
+ghost use mathlib.Core.Path.{_≡_};
+ghost use Prim.Native.Nat.{ℕ, _+_, _^_, _≤_, _<_};
+ghost use lib.ListN.{length, getD};
+ghost use Rattle.chains.specs.Chains.{linked};
+
+/// The first word of the heads, a word a key, and of the links, a word a number, of each kind; the first word past the heads.
+pub struct Chains(pub usize);
+
+impl Chains {
+    pub const HEADS: usize = 4160;
+
+    pub const HEADS_END: usize = 5312;
+
+    pub const NAME_HEADS: usize = 4160;
+
+    pub const SCOPE_HEADS: usize = 4544;
+
+    pub const EXTERN_HEADS: usize = 4928;
+
+    pub const NAME_LINKS: usize = 6336;
+
+    pub const SCOPE_LINKS: usize = 8384;
+
+    pub const EXTERN_LINKS: usize = 10728;
+}
+
+/// Clears the words from a place to another.
+pub fn clear(area: &mut [u32], from: usize, to: usize)
+    requires { ⌜ to ≤ length (now area) ⌝ }
+    ensures { λ _. ⌜ ((i : ℕ) → from ≤ i → i < to → getD (now (area .exit)) i 0 ≡ 0) ⌝ }
+{
+    let mut i = from;
+    while i < to {
+        area[i] = 0;
+        i += 1;
+    }
+}
+
+/// Puts a number before those with its key.
+pub fn link(area: &mut [u32], heads: usize, links: usize, key: usize, n: usize)
+    requires { ⌜ (heads + key < length (now area)) × (links + n < length (now area)) × (n < 2 ^ 31) ⌝ }
+    ensures { λ _. ⌜ now (area .exit) ≡ linked (now (area .entry)) heads links key n ⌝ }
+{
+    area[links + n] = area[heads + key];
+    area[heads + key] = (n + 1) as u32;
+}

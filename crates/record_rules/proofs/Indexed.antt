@@ -1,0 +1,164 @@
+-- The chains of names, scopes and externs along the steps.
+use Prim.Native.Nat.{ℕ, _+_, _-_, _*_, _%_, _≤_, _<_}
+use mathlib.Core.Path.{_≡_, refl, sym, _∙_, ap, subst}
+use mathlib.Core.Logic.{_≢_}
+use mathlib.Core.List.{List, [], _∷_}
+use mathlib.Core.Bool.{Bool, true, false, _&&_, false≢true}
+use native.Mathlib.Omega.{arith}
+use lib.Dec.{eqb}
+use lib.ListN.{length, getD, set, length-set}
+use lib.Seq.{getD-set-same, getD-set-other}
+use borrow.Author.Tests.{eqb-true}
+use Rattle.snapshot.specs.Lists.{any, eqList}
+use Rattle.snapshot.specs.Words.{payOf}
+use Rattle.snapshot.specs.Records.{Name, nameAt}
+use Rattle.snapshot.specs.Layouts.{scopeBase, externBase, nameHead, namesOf}
+use Rattle.snapshot.specs.declared.layout.Layout.{Layout}
+use Rattle.chains.specs.Chains.{mixed, keys, nameKey, recordKey, Last, Chained, linked}
+use Rattle.chains.proofs.Laws.{chained-kept, chained-none, chained-linked, linked-other, first-of, next-of, Walking, walk-start, walk-hit, walk-miss, walk-end}
+use Rattle.record_rules.specs.Tests.{sameName}
+use Rattle.record_rules.specs.Stands.{Indexes}
+use Rattle.record_rules.proofs.Judged.{and-left, and-right}
+
+-- the words of a table, from one place to another, are kept
+abbrev pub Kept : List ℕ → List ℕ → ℕ → ℕ → Type 0
+Kept A B from to = (i : ℕ) → from ≤ i → i < to → getD B i 0 ≡ getD A i 0
+
+-- the words past the tables are kept
+abbrev pub Above : List ℕ → List ℕ → Type 0
+Above A B = (i : ℕ) → 4160 ≤ i → getD B i 0 ≡ getD A i 0
+
+pub set-kept : (A : List ℕ) (i v from to : ℕ) → ((j : ℕ) → from ≤ j → j < to → j ≢ i) → Kept A (set A i v) from to
+set-kept A i v from to h j p q = getD-set-other A i j v 0 (h j p q)
+
+pub set-above : (A : List ℕ) (i v : ℕ) → i < 4160 → Above A (set A i v)
+set-above A i v h j p = getD-set-other A i j v 0 (omega arith)
+
+abbrev keyAt : List ℕ → List ℕ → ℕ → ℕ
+keyAt W B i = nameKey (nameAt W (nameHead B i))
+
+pub key-small : (n : ℕ) {key : ℕ} → key ≡ n % keys → key < keys
+key-small n e = omega arith
+
+-- before the first record
+pub indexes-none : (W A : List ℕ) (l : Layout) → l .names ≡ 0 → l .scopes ≡ 0 → l .externs ≡ 0 → ((i : ℕ) → 4160 ≤ i → i < 5312 → getD A i 0 ≡ 0)
+    → Indexes W A l
+indexes-none W A l en es ee z =
+    record {
+      names = rw en (chained-none A 4160 6336 _ (λ b h. z _ (omega arith) (omega arith)));
+      scopes = rw es (chained-none A 4544 8384 _ (λ b h. z _ (omega arith) (omega arith)));
+      externs = rw ee (chained-none A 4928 10728 _ (λ b h. z _ (omega arith) (omega arith)));
+    }
+
+-- a record of another kind: m has the same records of the kinds in chains, at the same places
+pub indexes-kept : (W A B : List ℕ) (l m : Layout) → Indexes W A l → l .names ≤ 2048 → Kept A B 0 2048 → Above A B
+    → m .names ≡ l .names → m .scopes ≡ l .scopes → m .externs ≡ l .externs
+    → (0 < l .scopes → scopeBase m ≡ scopeBase l) → (0 < l .externs → externBase m ≡ externBase l) → Indexes W B m
+indexes-kept W A B l m ix few heads above en es ee bs be =
+    record {
+      names =
+          subst (λ k. Chained B 4160 6336 (λ i. nameKey (nameAt W (nameHead B i))) k) (sym en)
+          (chained-kept A B 4160 6336 _ _ (l .names) (ix .names) (λ b h. above _ (omega arith)) (λ i h. above _ (omega arith))
+          (λ i h. ap (λ x. nameKey (nameAt W x)) (heads i (omega arith) (omega arith))));
+      scopes =
+          subst (λ k. Chained B 4544 8384 (λ i. recordKey W 2 (scopeBase m + 7 * i)) k) (sym es)
+          (chained-kept A B 4544 8384 _ _ (l .scopes) (ix .scopes) (λ b h. above _ (omega arith)) (λ i h. above _ (omega arith))
+          (λ i h. ap (λ x. recordKey W 2 (x + 7 * i)) (bs (omega arith))));
+      externs =
+          subst (λ k. Chained B 4928 10728 (λ i. recordKey W 1 (externBase m + 3 * i)) k) (sym ee)
+          (chained-kept A B 4928 10728 _ _ (l .externs) (ix .externs) (λ b h. above _ (omega arith)) (λ i h. above _ (omega arith))
+          (λ i h. ap (λ x. recordKey W 1 (x + 3 * i)) (be (omega arith))));
+    }
+
+-- a record of a kind before scopes
+pub indexes-early : (W A B : List ℕ) (l m : Layout) → Indexes W A l → l .names ≤ 2048 → Kept A B 0 2048 → Above A B
+    → m .names ≡ l .names → m .scopes ≡ l .scopes → m .externs ≡ l .externs → l .scopes ≡ 0 → l .externs ≡ 0 → Indexes W B m
+indexes-early W A B l m ix few heads above en es ee zs ze =
+    indexes-kept W A B l m ix few heads above en es ee (λ h. absurd (omega arith)) (λ h. absurd (omega arith))
+
+-- one name more: its head in the table, its number on the chain of its key
+module _ (W A : List ℕ) (l : Layout) (at key : ℕ) (ix : Indexes W A l) (room : l .names < 2048) (large : 16384 ≤ length A) (ek : key ≡ nameKey (nameAt W at)) where
+  small : key < keys
+  small = key-small _ ek
+
+  old-chain : Chained (set A (l .names) at) 4160 6336 (keyAt W (set A (l .names) at)) (l .names)
+  old-chain =
+      chained-kept A (set A (l .names) at) 4160 6336 _ _ (l .names) (ix .names)
+      (λ b h. set-above A (l .names) at (omega arith) _ (omega arith)) (λ i h. set-above A (l .names) at (omega arith) _ (omega arith))
+      (λ i h. ap (λ x. nameKey (nameAt W x)) (getD-set-other A (l .names) i at 0 (omega arith)))
+
+  new-chain : Chained (linked (set A (l .names) at) 4160 6336 key (l .names)) 4160 6336 (keyAt W (set A (l .names) at)) (l .names + 1)
+  new-chain =
+      let p = small in
+      chained-linked (set A (l .names) at) 4160 6336 key (l .names) (keyAt W (set A (l .names) at)) old-chain (omega arith) (simp length-set (omega arith)) small
+      (ap (λ x. nameKey (nameAt W x)) (getD-set-same A (l .names) at 0 (omega arith)) ∙ sym ek)
+
+  pub name-stays : (i : ℕ) → i < 4160 → getD (linked (set A (l .names) at) 4160 6336 key (l .names)) i 0 ≡ getD (set A (l .names) at) i 0
+  name-stays i h = linked-other (set A (l .names) at) 4160 6336 key (l .names) i (omega arith) (omega arith)
+
+  head-stays : (i : ℕ) → 4544 ≤ i → i < 6336 → getD (linked (set A (l .names) at) 4160 6336 key (l .names)) i 0 ≡ getD A i 0
+  head-stays i h k = let p = small in linked-other (set A (l .names) at) 4160 6336 key (l .names) i (omega arith) (omega arith) ∙ set-above A (l .names) at (omega arith) i (omega arith)
+
+  pub names-linked : (m : Layout) → l .scopes ≡ 0 → l .externs ≡ 0 → m .names ≡ l .names + 1 → m .scopes ≡ 0 → m .externs ≡ 0
+      → Indexes W (linked (set A (l .names) at) 4160 6336 key (l .names)) m
+  names-linked m zs ze en es ee =
+      record {
+        names =
+            subst (λ k. Chained (linked (set A (l .names) at) 4160 6336 key (l .names)) 4160 6336 (keyAt W (linked (set A (l .names) at) 4160 6336 key (l .names))) k) (sym en)
+            (chained-kept (linked (set A (l .names) at) 4160 6336 key (l .names)) (linked (set A (l .names) at) 4160 6336 key (l .names)) 4160 6336 _ _ (l .names + 1) new-chain
+            (λ b h. refl) (λ i h. refl) (λ i h. ap (λ x. nameKey (nameAt W x)) (name-stays i (omega arith))));
+        scopes =
+            subst (λ k. Chained (linked (set A (l .names) at) 4160 6336 key (l .names)) 4544 8384 (λ i. recordKey W 2 (scopeBase m + 7 * i)) k) (zs ∙ sym es)
+            (chained-kept A _ 4544 8384 _ _ (l .scopes) (ix .scopes) (λ b h. head-stays _ (omega arith) (omega arith)) (λ i h. absurd (omega arith)) (λ i h. absurd (omega arith)));
+        externs =
+            subst (λ k. Chained (linked (set A (l .names) at) 4160 6336 key (l .names)) 4928 10728 (λ i. recordKey W 1 (externBase m + 3 * i)) k) (ze ∙ sym ee)
+            (chained-kept A _ 4928 10728 _ _ (l .externs) (ix .externs) (λ b h. head-stays _ (omega arith) (omega arith)) (λ i h. absurd (omega arith)) (λ i h. absurd (omega arith)));
+      }
+
+-- names of the same text have the same key
+eq-lists : (xs ys : List ℕ) → eqList xs ys ≡ true → xs ≡ ys
+unfolding eqList
+eq-lists [] [] e = refl
+eq-lists [] (y ∷ ys) e = absurd (false≢true e)
+eq-lists (x ∷ xs) [] e = absurd (false≢true e)
+eq-lists (x ∷ xs) (y ∷ ys) e =
+    let p = eqb-true x y (and-left (eqb x y) (eqList xs ys) e) in
+    let q = eq-lists xs ys (and-right (eqb x y) (eqList xs ys) e) in
+    cc
+
+pub name-key-same : (x y : Name) → sameName x y ≡ true → nameKey y ≡ nameKey x
+name-key-same x y e =
+    let p = eqb-true (x .bytes) (y .bytes) (and-left (eqb (x .bytes) (y .bytes)) (eqList (x .text) (y .text)) e) in
+    let q = eq-lists (x .text) (y .text) (and-right (eqb (x .bytes) (y .bytes)) (eqList (x .text) (y .text)) e) in
+    cc
+
+-- a walk along the names with the key of the name at a place
+module _ (W A : List ℕ) (at n : ℕ) {key : ℕ} (ch : Chained A 4160 6336 (λ i. nameKey (nameAt W (nameHead A i))) n) (ek : key ≡ nameKey (nameAt W at)) where
+  only : (j : ℕ) → sameName (nameAt W at) (nameAt W (nameHead A j)) ≡ true → nameKey (nameAt W (nameHead A j)) ≡ key
+  only j h = name-key-same (nameAt W at) (nameAt W (nameHead A j)) h ∙ sym ek
+
+  pub names-start : {k : ℕ} → k ≡ getD A (4160 + key) 0 → Walking (sameName (nameAt W at)) (λ j. nameAt W (nameHead A j)) (λ i. nameKey (nameAt W (nameHead A i))) key n k
+  names-start e = walk-start _ _ _ _ _ only (first-of A 4160 6336 _ n ch (key-small _ ek) e)
+
+  module _ (k : ℕ) (w : Walking (sameName (nameAt W at)) (λ j. nameAt W (nameHead A j)) (λ i. nameKey (nameAt W (nameHead A i))) key n k)
+      (go : k ≡ 0 → ⊥) {b : ℕ} {r : Bool} (eb : b ≡ nameHead A (k - 1)) (er : r ≡ sameName (nameAt W at) (nameAt W b))
+    where
+      is : {t : Bool} → r ≡ t → sameName (nameAt W at) (nameAt W (nameHead A (k - 1))) ≡ t
+      is h = ap (λ x. sameName (nameAt W at) (nameAt W x)) (sym eb) ∙ sym er ∙ h
+
+      pub names-hit : r ≡ true → true ≡ any (sameName (nameAt W at)) (namesOf W A n)
+      names-hit h = walk-hit _ _ _ _ _ only k w (omega arith) (is h)
+
+      module _ {d : ℕ} (ed : d ≡ getD A (6336 + (k - 1)) 0) where
+        further : Last (λ i. nameKey (nameAt W (nameHead A i))) (nameKey (nameAt W (nameHead A (k - 1)))) (k - 1) d
+        further = let u = w .within in next-of A 4160 6336 _ n ch (omega arith) ed
+
+        pub names-less : d < k
+        names-less = let u = further .within in omega arith
+
+        pub names-miss : r ≡ false → Walking (sameName (nameAt W at)) (λ j. nameAt W (nameHead A j)) (λ i. nameKey (nameAt W (nameHead A i))) key n d
+        names-miss h = walk-miss _ _ _ _ _ only k w (omega arith) (is h) further
+
+  pub names-end : (k : ℕ) → Walking (sameName (nameAt W at)) (λ j. nameAt W (nameHead A j)) (λ i. nameKey (nameAt W (nameHead A i))) key n k → k ≡ 0
+      → false ≡ any (sameName (nameAt W at)) (namesOf W A n)
+  names-end k w e = walk-end _ _ _ _ _ only k w e
