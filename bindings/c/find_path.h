@@ -50,7 +50,8 @@ size_t kelumavor_name(const uint32_t *words, size_t words_len, const uint32_t *t
                       uint8_t *out, size_t out_len);
 
 /* A question: namespace (0 types, 1 values, 2 macros), definition, viewing module, prefix (0 by self, 1 plain, 2 by crate),
- * options (1 prefer no_std, 2 prefer the prelude, 4 prefer absolute, 8 allow unstable, 16 ignore local imports), fuel. */
+ * options (1 prefer no_std, 2 prefer the prelude, 4 prefer absolute, 8 allow unstable, 16 ignore local imports, 32 old names last),
+ * fuel. */
 enum kelumavor_question {
     KELUMAVOR_NAMESPACE,
     KELUMAVOR_DEFINITION,

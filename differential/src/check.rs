@@ -57,6 +57,7 @@ pub struct Scope {
     pub visibility: usize,
     pub number: usize,
     pub declared: bool,
+    pub deprecated: bool,
 }
 #[derive(Clone, Debug)]
 pub struct Import {
@@ -315,7 +316,7 @@ fn ns_placed(s: &Snapshot, ns: usize, definition: usize) -> bool {
 fn add_scope(s: &mut Snapshot, known: &mut Known, record: &Record) -> Judged {
     let owner = record.payload;
     let [ns, name, definition, visibility, number, declared] = std::array::from_fn(|place| record.argument(place));
-    let range = ns <= 2 && visibility <= 3 && (visibility != 0 || number == 0) && declared <= 1;
+    let range = ns <= 2 && visibility <= 3 && (visibility != 0 || number == 0) && declared <= 3;
     let number_defined = match visibility {
         0 => true,
         1 => number < s.crates.len(),
@@ -324,7 +325,8 @@ fn add_scope(s: &mut Snapshot, known: &mut Known, record: &Record) -> Judged {
     let defined = owner < s.modules.len() && name < s.names.len() && definition < s.definitions.len() && number_defined;
     let repeated = !known.entries.insert((owner, ns, name));
     let placed = ns_placed(s, ns, definition);
-    s.scopes.push(Scope { owner, ns, name, definition, visibility, number, declared: declared == 1 });
+    let (declared, deprecated) = (declared % 2 == 1, declared >= 2);
+    s.scopes.push(Scope { owner, ns, name, definition, visibility, number, declared, deprecated });
     Judged { range, defined, repeated, placed, ..Judged::FINE }
 }
 

@@ -39,7 +39,8 @@ pub fn words(s: &Snapshot) -> Vec<u32> {
         put(8, d.kind, &[d.first, d.second]);
     }
     for e in &s.scopes {
-        put(9, e.owner, &[e.ns, e.name, e.definition, e.visibility, e.number, e.declared.into()]);
+        let declared = usize::from(e.declared) + 2 * usize::from(e.deprecated);
+        put(9, e.owner, &[e.ns, e.name, e.definition, e.visibility, e.number, declared]);
     }
     for i in &s.imports {
         put(10, i.owner, &[i.ns, i.definition, i.name, i.container, i.bits]);

@@ -585,7 +585,9 @@ impl Builder {
         }
         if self.entries.insert((owner, ns, name)) {
             let (visibility, number) = self.visibility(owner);
-            self.s.scopes.push(Scope { owner, ns, name, definition, visibility, number, declared });
+            // without a draw, so that a seed gives the same records but for this
+            let deprecated = (owner + name + definition) % 4 == 0;
+            self.s.scopes.push(Scope { owner, ns, name, definition, visibility, number, declared, deprecated });
         }
     }
 
@@ -847,7 +849,7 @@ fn spoil(r: &mut Random, s: &Snapshot, q: &mut Question) {
             0 => q.fuel = r.pick(&[10_001, 10_001, 20_000, 0x0FFF_FFFF]),
             1 => q.ns = r.pick(&[3, 4, 0x0FFF_FFFF]),
             2 => q.prefix = r.pick(&[3, 4, 0x0FFF_FFFF]),
-            3 => q.options = r.pick(&[32, 33, 64, 0x0FFF_FFFF]),
+            3 => q.options = r.pick(&[64, 65, 128, 0x0FFF_FFFF]),
             4 => q.definition = s.definitions.len() + r.below(2),
             5 => q.from = s.modules.len() + r.below(2),
             6 => q.ns = 2,

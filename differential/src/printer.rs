@@ -31,7 +31,7 @@ pub fn refusal(snapshot: &Result<Snapshot, u32>, q: &Question) -> Option<u32> {
     if q.fuel > 10_000 {
         return Some(21);
     }
-    if q.ns > 2 || q.prefix > 2 || q.options > 31 {
+    if q.ns > 2 || q.prefix > 2 || q.options > 63 {
         return Some(22);
     }
     let s = match snapshot {

@@ -252,7 +252,7 @@ impl Snapshot {
     }
 
     fn scopeStep(&mut self, x: Scope) -> Next {
-        let range = x.ns <= 2 && x.visibility <= 3 && (x.visibility != 0 || x.number == 0) && x.declared <= 1;
+        let range = x.ns <= 2 && x.visibility <= 3 && (x.visibility != 0 || x.number == 0) && x.declared <= 3;
         let defined = x.owner < self.modules.len()
             && x.name < self.names.len()
             && x.definition < self.definitions.len()
@@ -412,11 +412,30 @@ fn sees(s: &Snapshot, v: usize, e: &Scope) -> bool {
 
 // ItemScope.antt
 
+fn isDeclared(e: &Scope) -> bool {
+    e.declared % 2 == 1
+}
+fn isDeprecated(e: &Scope) -> bool {
+    2 <= e.declared
+}
 fn isFor(s: &Snapshot, m: usize, item: Item, e: &Scope) -> bool {
     e.owner == m && itemOf(s, e.ns, e.definition) == item
 }
 fn nameOf(s: &Snapshot, m: usize, item: Item) -> Option<&Scope> {
     s.scopes.iter().find(|e| isFor(s, m, item, e))
+}
+fn namesOf<'a>(s: &'a Snapshot, m: usize, item: Item, p: &dyn Fn(&Scope) -> bool) -> Option<&'a Scope> {
+    s.scopes.iter().find(|e| isFor(s, m, item, e) && p(e))
+}
+fn preferred<'a>(
+    fresh: bool,
+    s: &'a Snapshot,
+    m: usize,
+    item: Item,
+    p: &dyn Fn(&Scope) -> bool,
+    old: Option<&'a Scope>,
+) -> Option<&'a Scope> {
+    if fresh { namesOf(s, m, item, &|e| p(e) && !isDeprecated(e)).or(old) } else { old }
 }
 fn get(s: &Snapshot, m: usize, ns: usize, name: usize) -> Option<&Scope> {
     s.scopes.iter().find(|e| e.owner == m && e.ns == ns && e.name == name)
@@ -445,9 +464,9 @@ fn ancestorMaps(s: &Snapshot, m: usize) -> Vec<usize> {
     modules
 }
 
-fn scopeEntry(s: &Snapshot, m: usize, item: Item, declaredOnly: bool) -> Option<&Scope> {
-    let test = |e: &Scope| e.declared == 1 || !declaredOnly;
-    ancestorMaps(s, m).into_iter().find_map(|a| s.scopes.iter().find(|e| isFor(s, a, item, e) && test(e)))
+fn scopeEntry(s: &Snapshot, m: usize, item: Item, declaredOnly: bool, fresh: bool) -> Option<&Scope> {
+    let counts = |e: &Scope| isDeclared(e) || !declaredOnly;
+    ancestorMaps(s, m).into_iter().find_map(|a| preferred(fresh, s, a, item, &counts, namesOf(s, a, item, &counts)))
 }
 
 fn entryNamed(s: &Snapshot, m: usize, ns: usize, name: usize) -> Option<&Scope> {
@@ -563,6 +582,7 @@ struct FindPathCtx {
     absolute: bool,
     unstable: bool,
     declared: bool,
+    fresh: bool,
     std: bool,
     from: usize,
     krate: usize,
@@ -583,6 +603,7 @@ fn contextOf(s: &Snapshot, q: &Question, home: usize) -> FindPathCtx {
         absolute: bit(q.options, 4),
         unstable: bit(q.options, 8),
         declared: bit(q.options, 16),
+        fresh: bit(q.options, 32),
         std: isLang(s, crateOf(s, home)),
         from: q.from,
         krate: crateOf(s, q.from),
@@ -605,7 +626,7 @@ impl Rules<'_> {
     fn scopeRule(&self, item: Item) -> Choice {
         let mayBeInScope = self.x.prefix != 2 || self.x.root == self.x.from;
         if mayBeInScope {
-            let entry = scopeEntry(self.s, self.x.from, item, self.x.declared);
+            let entry = scopeEntry(self.s, self.x.from, item, self.x.declared, self.x.fresh);
             self.single(getD(&[1, 0, 3], self.x.prefix), entry.map(|e| e.name))
         } else {
             nothing()
@@ -615,11 +636,11 @@ impl Rules<'_> {
     fn preludeRule(&self, item: Item) -> Choice {
         let (s, from) = (self.s, self.x.from);
         let prelude = s.preludes.iter().find(|p| p.map == mapNo(s, from));
-        let entry = prelude.and_then(|p| nameOf(s, p.target, item));
         let sameHere = |e: Option<&Scope>| e.is_none_or(|e| itemOf(s, e.ns, e.definition) == item);
-        let answer =
-            entry.filter(|e| sees(s, from, e) && sameHere(entryNamed(s, from, nsOf(item), e.name))).map(|e| e.name);
-        self.single(0, answer)
+        let isUsable = |e: &Scope| sees(s, from, e) && sameHere(entryNamed(s, from, nsOf(item), e.name));
+        let entry =
+            prelude.and_then(|p| preferred(self.x.fresh, s, p.target, item, &isUsable, nameOf(s, p.target, item)));
+        self.single(0, entry.filter(|e| isUsable(e)).map(|e| e.name))
     }
 
     fn rootRule(&self, maybeExtern: bool, m: usize) -> Choice {
@@ -731,8 +752,10 @@ impl Rules<'_> {
     }
 
     fn importableName(&self, item: Item, m: usize) -> Answer {
-        let entry = nameOf(self.s, m, item)?;
-        (sees(self.s, self.x.from, entry) && (entry.declared == 1 || entry.visibility != 3)).then_some(entry.name)
+        let s = self.s;
+        let isImportable = |e: &Scope| sees(s, self.x.from, e) && (isDeclared(e) || e.visibility != 3);
+        let entry = preferred(self.x.fresh, s, m, item, &isImportable, nameOf(s, m, item))?;
+        isImportable(entry).then_some(entry.name)
     }
 
     fn calculateBestPathLocal(&self, left: usize, ls: &[Level], item: Item) -> Choice {
@@ -883,7 +906,7 @@ fn lineOf(snapshot: &Result<Snapshot, usize>, q: &Question) -> Vec<u8> {
     if q.fuel > 10000 {
         return refused(21);
     }
-    if 2 < q.ns || 2 < q.prefix || 31 < q.options {
+    if 2 < q.ns || 2 < q.prefix || 63 < q.options {
         return refused(22);
     }
     let s = match snapshot {

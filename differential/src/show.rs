@@ -51,13 +51,14 @@ pub fn snapshot_text(s: &Snapshot) -> String {
         let visibility = ["public", "crate", "module explicit", "module implicit"][e.visibility];
         let _ = writeln!(
             text,
-            "  scope of {}: ns {} {} definition {} {visibility} {} declared {}",
+            "  scope of {}: ns {} {} definition {} {visibility} {} declared {} deprecated {}",
             e.owner,
             e.ns,
             name(e.name),
             e.definition,
             e.number,
-            e.declared
+            e.declared,
+            e.deprecated
         );
     }
     for i in &s.imports {

@@ -57,6 +57,7 @@ fn plainer(s: &mut Snapshot, q: &mut Question, holds: &mut impl FnMut(&Snapshot,
     for e in 0..s.scopes.len() {
         attempt(s, &|s| (s.scopes[e].visibility, s.scopes[e].number) = (0, 0));
         attempt(s, &|s| s.scopes[e].declared = true);
+        attempt(s, &|s| s.scopes[e].deprecated = false);
     }
     for i in 0..s.imports.len() {
         attempt(s, &|s| s.imports[i].bits = 0);

@@ -21,6 +21,8 @@ pub struct Options {
     pub prefer_absolute: bool,
     pub allow_unstable: bool,
     pub ignore_local_imports: bool,
+    /// A deprecated name only where the scope has no other that can be used.
+    pub old_names_last: bool,
 }
 
 impl Options {
@@ -30,6 +32,7 @@ impl Options {
             + 4 * u32::from(self.prefer_absolute)
             + 8 * u32::from(self.allow_unstable)
             + 16 * u32::from(self.ignore_local_imports)
+            + 32 * u32::from(self.old_names_last)
     }
 }
 

@@ -118,13 +118,38 @@ impl SnapshotWords {
         visibility: Visibility,
         declared: bool,
     ) {
+        self.entry(module, namespace, name, definition, visibility, declared.into());
+    }
+
+    /// The same, by a deprecated name.
+    pub fn deprecated_scope(
+        &mut self,
+        module: ModuleId,
+        namespace: Namespace,
+        name: NameId,
+        definition: DefinitionId,
+        visibility: Visibility,
+        declared: bool,
+    ) {
+        self.entry(module, namespace, name, definition, visibility, 2 + u32::from(declared));
+    }
+
+    fn entry(
+        &mut self,
+        module: ModuleId,
+        namespace: Namespace,
+        name: NameId,
+        definition: DefinitionId,
+        visibility: Visibility,
+        declared: u32,
+    ) {
         let (kind, number) = match visibility {
             Visibility::Public => (0, 0),
             Visibility::Crate(krate) => (1, krate.0),
             Visibility::Explicit(module) => (2, module.0),
             Visibility::Implicit(module) => (3, module.0),
         };
-        self.record(9, module.0, &[namespace as u32, name.0, definition.0, kind, number, declared.into()]);
+        self.record(9, module.0, &[namespace as u32, name.0, definition.0, kind, number, declared]);
     }
 
     /// An entry of a crate's import map.

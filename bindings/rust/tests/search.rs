@@ -6,8 +6,8 @@ use std::process::{Command, Stdio};
 
 use common::{WORKED, random, repository};
 use kelumavor::{
-    DefinitionId, FirstEmpty, ModuleId, NameId, Namespace, Options, Outcome, PathKind, Prefix, Question, RefusalKind, Report,
-    Snapshot, WorkArea,
+    DefinitionId, FirstEmpty, ModuleId, NameId, Namespace, Options, Outcome, PathKind, Prefix, Question, RefusalKind,
+    Report, Snapshot, SnapshotWords, Visibility, WorkArea,
 };
 
 const NAMESPACES: [Namespace; 3] = [Namespace::Types, Namespace::Values, Namespace::Macros];
@@ -55,6 +55,25 @@ fn outcomes_are_told_apart() {
     assert_eq!(ask(0, 2, 9).first_empty, None);
 }
 
+#[test]
+fn old_names_come_last() {
+    let mut words = SnapshotWords::new();
+    let [old, new] = ["old", "new"].map(|text| words.name(text));
+    let krate = words.krate(Default::default(), false);
+    let map = words.map(krate, None, false);
+    let root = words.module(map, None);
+    let item = words.other_definition(root);
+    words.deprecated_scope(root, Namespace::Types, old, item, Visibility::Public, true);
+    words.scope(root, Namespace::Types, new, item, Visibility::Public, false);
+    let snapshot = Snapshot::check(words.as_words()).unwrap();
+    let ask = |options| snapshot.find_path(&Question::new(Namespace::Types, item, root).options(options)).to_string();
+    assert_eq!(ask(Options::default()), "found old 0 0");
+    let last = Options { old_names_last: true, ..Options::default() };
+    assert_eq!(ask(last), "found new 0 0");
+    // `new` is an import: only `old` is declared there
+    assert_eq!(ask(Options { ignore_local_imports: true, ..last }), "found old 0 0");
+}
+
 fn random_question(random: &mut random::Random, snapshot: &random::Snapshot) -> Question {
     let options = Options {
         prefer_no_std: random.chance(20),
@@ -62,6 +81,7 @@ fn random_question(random: &mut random::Random, snapshot: &random::Snapshot) -> 
         prefer_absolute: random.chance(30),
         allow_unstable: random.chance(50),
         ignore_local_imports: random.chance(30),
+        old_names_last: random.chance(40),
     };
     let fuel = if random.chance(30) { random.below(8) } else { Question::FUEL };
     let ns = random.below(20) as usize % 3;
@@ -84,6 +104,7 @@ fn printer_words(question: &Question) -> [u32; 6] {
         options.prefer_absolute,
         options.allow_unstable,
         options.ignore_local_imports,
+        options.old_names_last,
     ];
     let bits = bits.iter().rev().fold(0, |sum, bit| 2 * sum + u32::from(*bit));
     [

@@ -89,7 +89,7 @@ module _ (n : Counts) where
 
   scope-fits : (y : Scope) → scopeRange y ≡ true → scopeDefined n y ≡ true → ScopeFits n y
   scope-fits y r e =
-      let p = and-four (leb (y .ns) 2) (leb (y .visibility) 3) (not (eqb (y .visibility) 0) || eqb (y .number) 0) (leb (y .declared) 1) r in
+      let p = and-four (leb (y .ns) 2) (leb (y .visibility) 3) (not (eqb (y .visibility) 0) || eqb (y .number) 0) (leb (y .declared) 3) r in
       let q =
       and-five (ltb (y .owner) (n .modules)) (ltb (y .name) (n .names)) (ltb (y .definition) (n .definitions))
       (not (eqb (y .visibility) 1) || ltb (y .number) (n .crates)) (leb (y .visibility) 1 || ltb (y .number) (n .modules)) e in
@@ -106,7 +106,7 @@ module _ (n : Counts) where
             ltb-true (y .number) (n .modules)
             (or-right (leb (y .visibility) 1) (ltb (y .number) (n .modules)) (q .4)
             (by-test (leb (y .visibility) 1) (λ t. let u = leb-true (y .visibility) 1 t in absurd (omega arith)) (λ t. t)));
-        declared = leb-true (y .declared) 1 (p .3);
+        declared = leb-true (y .declared) 3 (p .3);
       }
 
   import-fits : (y : Import) → importRange y ≡ true → importDefined n y ≡ true → ImportFits n y

@@ -60,7 +60,7 @@ pub record ScopeFits (n : Counts) (x : Scope) : Type 0 where
   pub public : x .visibility ≡ 0 → x .number ≡ 0
   pub crate : x .visibility ≡ 1 → x .number < n .crates
   pub inside : 2 ≤ x .visibility → x .number < n .modules
-  pub declared : x .declared ≤ 1
+  pub declared : x .declared ≤ 3
 
 pub record ImportFits (n : Counts) (x : Import) : Type 0 where
   pub owner : x .owner < n .crates

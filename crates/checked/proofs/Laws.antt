@@ -38,11 +38,11 @@ module _ (area : ℕ) (q : Query) (fuel : ℕ) where
     unfolding callFault
     much h = rw (callFault, le-ltb _ _ large, lt-ltb _ _ h)
 
-    pub outside : fuel ≤ 10000 → (ltb 2 (q .ns) || (ltb 2 (q .prefix) || ltb 31 (q .options))) ≡ true → 22 ≡ callFault area q fuel
+    pub outside : fuel ≤ 10000 → (ltb 2 (q .ns) || (ltb 2 (q .prefix) || ltb 63 (q .options))) ≡ true → 22 ≡ callFault area q fuel
     unfolding callFault
     outside h t = rw (callFault, le-ltb _ _ large, le-ltb _ _ h, t)
 
-    pub no-fault : fuel ≤ 10000 → (ltb 2 (q .ns) || (ltb 2 (q .prefix) || ltb 31 (q .options))) ≡ false → 0 ≡ callFault area q fuel
+    pub no-fault : fuel ≤ 10000 → (ltb 2 (q .ns) || (ltb 2 (q .prefix) || ltb 63 (q .options))) ≡ false → 0 ≡ callFault area q fuel
     unfolding callFault
     no-fault h t = rw (callFault, le-ltb _ _ large, le-ltb _ _ h, t)
 
@@ -57,7 +57,7 @@ module _ (area : ℕ) (q : Query) (fuel : ℕ) where
       let a = ltb-false area 16384 t in
       by-test (ltb 10000 fuel) (λ u. absurd (omega (arith, e, much a (ltb-true _ _ u)))) (λ u.
       let f = ltb-false 10000 fuel u in
-      by-test (ltb 2 (q .ns) || (ltb 2 (q .prefix) || ltb 31 (q .options)))
+      by-test (ltb 2 (q .ns) || (ltb 2 (q .prefix) || ltb 63 (q .options)))
       (λ v. absurd (omega (arith, e, outside a f v)))
       (λ v. (a, f, ltb-false 2 (q .ns) (or-false _ _ v)))))
 

@@ -25,7 +25,7 @@ pub fn call_fault(area: usize, q: Query, fuel: usize) -> usize
     if Fuel::LIMIT < fuel {
         return 21;
     }
-    if (2 < q.ns) | ((2 < q.prefix) | (31 < q.options)) {
+    if (2 < q.ns) | ((2 < q.prefix) | (63 < q.options)) {
         return 22;
     }
     0

@@ -17,10 +17,10 @@ use Rattle.accept.specs.Verdict.{accept, verdict}
 use Rattle.accept.proofs.Accepted.{by-test}
 use Rattle.accept.proofs.Bools.{and-right, each-at}
 use Rattle.accept.proofs.Ranges.{accepted-ranges}
-use Rattle.hir_def.specs.Finds.{firstOf, firstSome}
+use Rattle.hir_def.specs.Finds.{firstOf, orFirst, firstSome}
 use Rattle.hir_def.specs.Items.{types, variantKind, builtinKind, mapNo, parentOf, rootOf, crateOf, crateRoot, inBlock, definitionOf, itemOf, nsOf}
 use Rattle.hir_def.specs.Visibility.{sees}
-use Rattle.hir_def.specs.ItemScope.{nameOf, namesOf}
+use Rattle.hir_def.specs.ItemScope.{nameOf, namesOf, isFresh, preferred}
 use Rattle.hir_def.specs.Nameres.{ancestorMaps, scopeEntry, entryNamed, preludeOf, dependenciesOf, langOf, sysrootFirst, externOf}
 use Rattle.hir_def.specs.ImportMap.{importInfoFor, isUnstable}
 use Rattle.hir_def.specs.declared.Item.{Item}
@@ -39,7 +39,7 @@ use Rattle.find_path.specs.declared.Report.{Report}
 use Rattle.find_path.specs.declared.Tank.{Tank}
 use Rattle.find_path.specs.Choices.{plainPath, selfPath, superPath, cratePath, nothing, keyword, choiceNew, extended, push, unstably, better, trySelect}
 use Rattle.find_path.specs.Walk.{Level}
-use Rattle.find_path.specs.Rules.{byCrate, mayBeInScope, prefixPathKind, contextOf, firstFound, entryName, single, findInScope, scopeRule, sameHere, preludeEntry, inPrelude, findInPrelude, preludeRule, externKind, externName, rootRule, parentKind, isKwKindRelativeToFrom, keywordOf, moduleRules}
+use Rattle.find_path.specs.Rules.{byCrate, mayBeInScope, prefixPathKind, contextOf, firstFound, entryName, single, findInScope, scopeRule, isUsable, preludeEntry, inPrelude, findInPrelude, preludeRule, externKind, externName, rootRule, parentKind, isKwKindRelativeToFrom, keywordOf, moduleRules}
 use Rattle.find_path.specs.Local.{LocalSearch, offer, isImportable, nameIf, importableName, location, eachLocation, calculateBestPathLocal, orLocal, findPathForModuleLocal}
 use Rattle.find_path.specs.Meters.{Charged, go, stop, fromTank, Charge}
 use Rattle.find_path.specs.Charged.{Out, Search, Inner, langs, oneOrNone, variantOf, offerImport, findImport, findImports, findInDep, findInDeps, findInSysroot, goOn, afterCharge, calculateBestPath, orCharged, findPathForModule, afterEnum, viaEnum, orEnum, byName, ofModule, findPathInner}
@@ -165,13 +165,29 @@ module _ (s : Snapshot) (r : Ranges (countsOf s) s) where
       (λ t. rw (variantOf, t) (let k = eqb-true _ _ t in definition-known d 1 k .variant k .1))
       (λ t. rw (variantOf, t) tt)
 
+  names-held : (m : ℕ) (item : Item) (p : Scope → Bool) → Held (ScopeFits (countsOf s)) (namesOf s m item p)
+  unfolding namesOf
+  names-held m item p = first-held _ (r .scopes)
+
   name-held : (m : ℕ) (item : Item) → Held (ScopeFits (countsOf s)) (nameOf s m item)
   unfolding nameOf
   name-held m item = first-held _ (r .scopes)
 
-  entry-held : (m : ℕ) (item : Item) (b : Bool) → Held (ScopeFits (countsOf s)) (scopeEntry s m item b)
-  unfolding scopeEntry namesOf
-  entry-held m item b = some-held (ScopeFits (countsOf s)) _ (ancestorMaps s m) (λ a. first-held _ (r .scopes))
+  two-held : (o old : Option Scope) → Held (ScopeFits (countsOf s)) o → Held (ScopeFits (countsOf s)) old → Held (ScopeFits (countsOf s)) (orFirst o old)
+  unfolding orFirst
+  two-held none old f g = g
+  two-held (some e) old f g = f
+
+  preferred-held : (b : Bool) (m : ℕ) (item : Item) (p : Scope → Bool) (old : Option Scope) → Held (ScopeFits (countsOf s)) old
+      → Held (ScopeFits (countsOf s)) (preferred b s m item p old)
+  unfolding preferred
+  preferred-held true m item p old h = two-held _ old (names-held m item (isFresh p)) h
+  preferred-held false m item p old h = h
+
+  entry-held : (m : ℕ) (item : Item) (b fresh : Bool) → Held (ScopeFits (countsOf s)) (scopeEntry s m item b fresh)
+  unfolding scopeEntry
+  entry-held m item b fresh =
+      some-held (ScopeFits (countsOf s)) _ (ancestorMaps s m) (λ a. preferred-held fresh a item _ _ (names-held a item _))
 
   extern-held : (c m : ℕ) → Held (ExternFits (countsOf s)) (externOf s c m)
   unfolding externOf
@@ -208,7 +224,7 @@ module _ (s : Snapshot) (r : Ranges (countsOf s) s) where
 
     scope-named : (item : Item) → Named s (findInScope s x item)
     unfolding findInScope
-    scope-named item = entry-named s _ (entry-held (x .from) item (x .declared))
+    scope-named item = entry-named s _ (entry-held (x .from) item (x .declared) (x .fresh))
 
     scope-known : (item : Item) → Known s (scopeRule s x item)
     unfolding scopeRule
@@ -219,12 +235,12 @@ module _ (s : Snapshot) (r : Ranges (countsOf s) s) where
     unfolding preludeEntry
     prelude-entry-named item none h = tt
     prelude-entry-named item (some e) h =
-        named-if s (sees s (x .from) e && sameHere s x item (entryNamed s (x .from) (nsOf item) (e .name))) (e .name) (h .name)
+        named-if s (isUsable s x item e) (e .name) (h .name)
 
     in-prelude-named : (item : Item) (o : Option Prelude) → Named s (inPrelude s x item o)
     unfolding inPrelude
     in-prelude-named item none = tt
-    in-prelude-named item (some p) = prelude-entry-named item _ (name-held (p .target) item)
+    in-prelude-named item (some p) = prelude-entry-named item _ (preferred-held (x .fresh) (p .target) item _ _ (name-held (p .target) item))
 
     prelude-known : (item : Item) → Known s (preludeRule s x item)
     unfolding preludeRule findInPrelude
@@ -283,7 +299,7 @@ module _ (s : Snapshot) (r : Ranges (countsOf s) s) where
 
     importable-named : (item : Item) (m : ℕ) → Named s (importableName s x item m)
     unfolding importableName nameOf namesOf
-    importable-named item m = name-if-named _ (first-held _ (r .scopes))
+    importable-named item m = name-if-named _ (preferred-held (x .fresh) m item _ _ (first-held _ (r .scopes)))
 
     abbrev KnownLocal : LocalSearch → Type 0
     KnownLocal rec = (left : ℕ) (ls : List Level) (m : ℕ) → Known s (rec left ls m)

@@ -153,7 +153,7 @@ unfolding callFault
 call-small area q fuel =
     either-number (ltb area areaLimit) 20 _ (omega arith)
     (either-number (ltb fuelLimit fuel) 21 _ (omega arith)
-    (either-number (ltb 2 (q .ns) || (ltb 2 (q .prefix) || ltb 31 (q .options))) 22 0 (omega arith) (omega arith)))
+    (either-number (ltb 2 (q .ns) || (ltb 2 (q .prefix) || ltb 63 (q .options))) 22 0 (omega arith) (omega arith)))
 
 pub question-small : (s : Snapshot) (q : Query) → questionFault s q ≤ 36
 unfolding questionFault

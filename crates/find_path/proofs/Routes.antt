@@ -27,6 +27,7 @@ use Rattle.hir_def.specs.declared.Item.{Item}
 use Rattle.hir_def.specs.declared.Item.the-variants.{Mod, Def}
 use Rattle.hir_def.specs.declared.Answer.{Answer}
 use Rattle.hir_def.specs.declared.Answer.the-variants.{Name, Nothing}
+use Rattle.hir_def.proofs.Fresh.{preferred-has}
 use Rattle.find_path.specs.declared.Choice.{Choice}
 use Rattle.find_path.specs.declared.KwKind.{KwKind}
 use Rattle.find_path.specs.declared.KwKind.the-variants.{Kw, NoKw}
@@ -270,17 +271,26 @@ module _ (s : Snapshot) where
       led-if m item true n f = f refl
       led-if m item false n f = tt
 
-      name-if-led : (m : ℕ) (item : Item) (p : Scope → Bool) (o : Option Scope) → firstOf p (s .scopes) ≡ o
-          → ((e : Scope) → p e ≡ true → isFor s m item e ≡ true) → Led s x m item (nameIf s x o)
+      -- an entry of the module for the item
+      abbrev Stands : ℕ → Item → Scope → Type 0
+      Stands m item e = (e ∈ s .scopes) × (isFor s m item e ≡ true)
+
+      first-stands : (m : ℕ) (item : Item) (p : Scope → Bool) (e : Scope) → ((y : Scope) → p y ≡ true → isFor s m item y ≡ true)
+          → firstOf p (s .scopes) ≡ some e → Stands m item e
+      first-stands m item p e g h = let f = first-found p (s .scopes) e h in (f .0, g e (f .1))
+
+      name-if-led : (m : ℕ) (item : Item) (o : Option Scope) → ((e : Scope) → o ≡ some e → Stands m item e) → Led s x m item (nameIf s x o)
       unfolding nameIf
-      name-if-led m item p none h g = tt
-      name-if-led m item p (some e) h g =
-          let f = first-found p (s .scopes) e h in
-          led-if m item (isImportable s x e) (e .name) (λ t. entry-step m item e (f .0) (g e (f .1)) (and-left (sees s (x .from) e) _ t))
+      name-if-led m item none g = tt
+      name-if-led m item (some e) g =
+          led-if m item (isImportable s x e) (e .name) (λ t. let f = g e refl in entry-step m item e (f .0) (f .1) (and-left (sees s (x .from) e) _ t))
 
       importable-led : (item : Item) (m : ℕ) → Led s x m item (importableName s x item m)
       unfolding importableName nameOf namesOf
-      importable-led item m = name-if-led m item _ _ refl (λ e t. search passed)
+      importable-led item m =
+          name-if-led m item _
+          (λ e. preferred-has s m item _ _ 0 (Stands m item) (x .fresh) e
+          (first-stands m item _ e (λ y t. search passed)) (first-stands m item _ e (λ y t. search passed)))
 
       abbrev LeadsLocal : LocalSearch → Type 0
       LeadsLocal rec = (left : ℕ) (ls : List Level) (m : ℕ) → Near s valid (x .from) m → Leads s x (Mod m) (rec left ls m)

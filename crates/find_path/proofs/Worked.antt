@@ -1,4 +1,4 @@
--- Document 01's fourteen worked cases, and as many again on two further snapshots: one table each of questions and lines.
+-- Document 01's fourteen worked cases, and more on four further snapshots: one table each of questions and lines.
 use Prim.Native.Nat.{ℕ, _+_, _*_}
 use Prim.Native.String.{String}
 use mathlib.Core.Path.{_≡_, refl}
@@ -12,10 +12,10 @@ use Rattle.accept.specs.Steps.{nameStep, crateStep, dependencyStep, mapStep, mo
 use Rattle.accept.specs.Builtins.{packed}
 use Rattle.accept.specs.Verdict.{argumentsFrom, recordStep, stepAt, finish, records, verdict}
 use Rattle.accept.specs.Worked.{worked}
-use Rattle.hir_def.specs.Finds.{firstOf, placeOf, select, firstSome}
+use Rattle.hir_def.specs.Finds.{orFirst, firstOf, placeOf, select, firstSome}
 use Rattle.hir_def.specs.Items.{moduleOf, mapOf, definitionOf, crateData, rootOf, ownMap, crateRoot, orElse, containing, itemOf, sameItem, nsOf, homeBy, homeOf}
 use Rattle.hir_def.specs.Visibility.{lastOr, lastTo, last, metOr, metTo, met, unless, climbStep, climb, inModule, isVisibleFrom}
-use Rattle.hir_def.specs.ItemScope.{isFor, nameOf, namesOf, get, modulesInScope}
+use Rattle.hir_def.specs.ItemScope.{isFor, nameOf, namesOf, preferred, get, modulesInScope}
 use Rattle.hir_def.specs.Nameres.{stepsOr, stepsTo, steps, ancestorMaps, scopeEntry, entryNamed, isOther, occupied, containers, childrenOf, preludeOf, externOf, dependenciesOf, langOf, sysrootFirst}
 use Rattle.hir_def.specs.ImportMap.{importInfoFor}
 use Rattle.find_path.specs.declared.Question.{Question}
@@ -39,7 +39,7 @@ row d ns m p o f l = record { question = record { query = record { ns = ns; defi
 
 -- the lines are those of the questions
 unfoldable pub passes : List ℕ → List Row → Bool
-unfolding lineOf snapshotOf lineIn lineParts pathText prefixParts joined decimal decimalTo textOf unpacked reportOf reportUnless reportBy answerUnless searched reported flag refused questionFault callFault findPath fromItem fromHome searchItem itemTo searchModule moduleTo bestLocal searchLocal localTo findPathInner ofModule byName orEnum viaEnum afterEnum findPathForModule orCharged calculateBestPath afterCharge goOn findInSysroot findInDeps findInDep findImports findImport offerImport isAt variantOf oneOrNone langs fromTank filled draw drained findPathForModuleLocal orLocal calculateBestPathLocal eachLocation location importableName nameIf offer moduleRules keywordOf isKwKindRelativeToFrom parentKind rootRule externName externKind occupied isOther scopeEntry entryNamed preludeRule findInPrelude inPrelude preludeEntry sameHere scopeRule mayBeInScope findInScope single entryName firstFound soughtOf contextOf moduleIn plainIf prefixPathKind findLocalImportLocations walk unmet leadsTo startFrom visited has lengthLeft shorterIf trySelect better taken comparePrelude andThen compareBool unstably push extended choiceNew keyword pathLen pathKindLen isPrelude nameData importInfoFor sysrootFirst langOf dependenciesOf externOf preludeOf childrenOf containers ancestorMaps steps stepsTo stepsOr modulesInScope get namesOf nameOf isFor isVisibleFrom inModule climb climbStep unless met metTo metOr last lastTo lastOr homeOf homeBy nsOf sameItem itemOf containing orElse crateRoot ownMap rootOf crateData definitionOf mapOf moduleOf firstSome select placeOf firstOf verdict records stepAt recordStep finish argumentsFrom argumentsOf nameStep crateStep dependencyStep mapStep moduleStep childStep preludeStep definitionStep scopeStep importStep externStep textBound padded rows any all eqList
+unfolding lineOf snapshotOf lineIn lineParts pathText prefixParts joined decimal decimalTo textOf unpacked reportOf reportUnless reportBy answerUnless searched reported flag refused questionFault callFault findPath fromItem fromHome searchItem itemTo searchModule moduleTo bestLocal searchLocal localTo findPathInner ofModule byName orEnum viaEnum afterEnum findPathForModule orCharged calculateBestPath afterCharge goOn findInSysroot findInDeps findInDep findImports findImport offerImport isAt variantOf oneOrNone langs fromTank filled draw drained findPathForModuleLocal orLocal calculateBestPathLocal eachLocation location importableName nameIf offer moduleRules keywordOf isKwKindRelativeToFrom parentKind rootRule externName externKind occupied isOther scopeEntry entryNamed preludeRule findInPrelude inPrelude preludeEntry sameHere scopeRule mayBeInScope findInScope single entryName firstFound soughtOf contextOf moduleIn plainIf prefixPathKind findLocalImportLocations walk unmet leadsTo startFrom visited has lengthLeft shorterIf trySelect better taken comparePrelude andThen compareBool unstably push extended choiceNew keyword pathLen pathKindLen isPrelude nameData importInfoFor sysrootFirst langOf dependenciesOf externOf preludeOf childrenOf containers ancestorMaps steps stepsTo stepsOr modulesInScope get preferred orFirst namesOf nameOf isFor isVisibleFrom inModule climb climbStep unless met metTo metOr last lastTo lastOr homeOf homeBy nsOf sameItem itemOf containing orElse crateRoot ownMap rootOf crateData definitionOf mapOf moduleOf firstSome select placeOf firstOf verdict records stepAt recordStep finish argumentsFrom argumentsOf nameStep crateStep dependencyStep mapStep moduleStep childStep preludeStep definitionStep scopeStep importStep externStep textBound padded rows any all eqList
 passes words table = all (λ r. eqList (lineOf words (r .question)) (bytesOf (r .line))) table
 
 -- module 0 is the root, module 1 its child `a`, definition 0 the module `a`, definition 1 a function `f` in it
@@ -290,7 +290,7 @@ first d ns m o f left sought =
 
 -- the reports say empty, and tell that
 unfoldable pub tells : List ℕ → List First → Bool
-unfolding reportOf reportUnless reportBy answerUnless searched reported flag refused questionFault callFault findPath fromItem fromHome searchItem itemTo searchModule moduleTo bestLocal searchLocal localTo findPathInner ofModule byName orEnum viaEnum afterEnum findPathForModule orCharged calculateBestPath afterCharge goOn findInSysroot findInDeps findInDep findImports findImport offerImport isAt variantOf oneOrNone langs fromTank filled draw drained findPathForModuleLocal orLocal calculateBestPathLocal eachLocation location importableName nameIf offer moduleRules keywordOf isKwKindRelativeToFrom parentKind rootRule externName externKind occupied isOther scopeEntry entryNamed preludeRule findInPrelude inPrelude preludeEntry sameHere scopeRule mayBeInScope findInScope single entryName firstFound soughtOf contextOf moduleIn plainIf prefixPathKind findLocalImportLocations walk unmet leadsTo startFrom visited has lengthLeft shorterIf trySelect better taken comparePrelude andThen compareBool unstably push extended choiceNew keyword pathLen pathKindLen isPrelude nameData importInfoFor sysrootFirst langOf dependenciesOf externOf preludeOf childrenOf containers ancestorMaps steps stepsTo stepsOr modulesInScope get namesOf nameOf isFor isVisibleFrom inModule climb climbStep unless met metTo metOr last lastTo lastOr homeOf homeBy nsOf sameItem itemOf containing orElse crateRoot ownMap rootOf crateData definitionOf mapOf moduleOf firstSome select placeOf firstOf verdict records stepAt recordStep finish argumentsFrom argumentsOf nameStep crateStep dependencyStep mapStep moduleStep childStep preludeStep definitionStep scopeStep importStep externStep textBound padded rows any all eqList
+unfolding reportOf reportUnless reportBy answerUnless searched reported flag refused questionFault callFault findPath fromItem fromHome searchItem itemTo searchModule moduleTo bestLocal searchLocal localTo findPathInner ofModule byName orEnum viaEnum afterEnum findPathForModule orCharged calculateBestPath afterCharge goOn findInSysroot findInDeps findInDep findImports findImport offerImport isAt variantOf oneOrNone langs fromTank filled draw drained findPathForModuleLocal orLocal calculateBestPathLocal eachLocation location importableName nameIf offer moduleRules keywordOf isKwKindRelativeToFrom parentKind rootRule externName externKind occupied isOther scopeEntry entryNamed preludeRule findInPrelude inPrelude preludeEntry sameHere scopeRule mayBeInScope findInScope single entryName firstFound soughtOf contextOf moduleIn plainIf prefixPathKind findLocalImportLocations walk unmet leadsTo startFrom visited has lengthLeft shorterIf trySelect better taken comparePrelude andThen compareBool unstably push extended choiceNew keyword pathLen pathKindLen isPrelude nameData importInfoFor sysrootFirst langOf dependenciesOf externOf preludeOf childrenOf containers ancestorMaps steps stepsTo stepsOr modulesInScope get preferred orFirst namesOf nameOf isFor isVisibleFrom inModule climb climbStep unless met metTo metOr last lastTo lastOr homeOf homeBy nsOf sameItem itemOf containing orElse crateRoot ownMap rootOf crateData definitionOf mapOf moduleOf firstSome select placeOf firstOf verdict records stepAt recordStep finish argumentsFrom argumentsOf nameStep crateStep dependencyStep mapStep moduleStep childStep preludeStep definitionStep scopeStep importStep externStep textBound padded rows any all eqList
 tells words table =
     all (λ r. eqList (reportOf words 16384 (r .question) .empty ∷ reportOf words 16384 (r .question) .left ∷ reportOf words 16384 (r .question) .sought ∷ [])
     (1 ∷ r .left ∷ r .sought ∷ [])) table
@@ -335,3 +335,57 @@ cycleFirsts = first 0 0 0 0 0 15 0 ∷ first 0 0 0 0 1 14 4 ∷ first 0 0 0 0 2 
 pub cycle-firsts : tells withCycle cycleFirsts ≡ true
 unfolding tells cycleFirsts first withCycle named head
 cycle-firsts = refl
+
+-- One crate. Modules: 0 its root, 1 `m` and 2 `p` below it, 3 a block in the root. The prelude of the crate's own map is `p`.
+-- Definitions: 0 and 1 the modules `m` and `p`; 2 is `old` in the root, declared there and deprecated, then `new`, an import, and `t` in the
+-- block, deprecated; 3 is `x` in `p`, deprecated, then `y`, for `p` alone, and `z`; 4 is `old` in `m`, deprecated, then `new`; 5 is `t` in
+-- `m`, deprecated, then `w`, a private import; 6 is `u` in `m`, a private import and deprecated, then `z`.
+pub withOldNames : List ℕ
+withOldNames =
+    named "m" ++ named "p" ++ named "old" ++ named "new" ++ named "t" ++ named "u" ++ named "w" ++ named "x" ++ named "y" ++ named "z"
+    ++ (head 2 0
+    -- maps, modules, children, prelude
+    ∷ head 4 0 ∷ 0 ∷ 0 ∷ head 5 0 ∷ 0 ∷ head 5 0 ∷ 1 ∷ head 5 0 ∷ 1 ∷ head 4 0 ∷ 1 ∷ 0 ∷ head 5 1 ∷ 0
+    ∷ head 6 0 ∷ 1 ∷ head 6 0 ∷ 2 ∷ head 7 0 ∷ 2
+    -- definitions
+    ∷ head 8 1 ∷ 1 ∷ 0 ∷ head 8 1 ∷ 2 ∷ 0 ∷ head 8 4 ∷ 0 ∷ 0 ∷ head 8 4 ∷ 2 ∷ 0 ∷ head 8 4 ∷ 1 ∷ 0 ∷ head 8 4 ∷ 1 ∷ 0 ∷ head 8 4 ∷ 1 ∷ 0
+    -- scopes
+    ∷ head 9 0 ∷ 0 ∷ 0 ∷ 0 ∷ 0 ∷ 0 ∷ 1 ∷ head 9 0 ∷ 0 ∷ 1 ∷ 1 ∷ 0 ∷ 0 ∷ 1
+    ∷ head 9 0 ∷ 0 ∷ 2 ∷ 2 ∷ 0 ∷ 0 ∷ 3 ∷ head 9 0 ∷ 0 ∷ 3 ∷ 2 ∷ 0 ∷ 0 ∷ 0 ∷ head 9 3 ∷ 0 ∷ 4 ∷ 2 ∷ 0 ∷ 0 ∷ 2
+    ∷ head 9 2 ∷ 0 ∷ 7 ∷ 3 ∷ 0 ∷ 0 ∷ 2 ∷ head 9 2 ∷ 0 ∷ 8 ∷ 3 ∷ 2 ∷ 2 ∷ 1 ∷ head 9 2 ∷ 0 ∷ 9 ∷ 3 ∷ 0 ∷ 0 ∷ 1
+    ∷ head 9 1 ∷ 0 ∷ 2 ∷ 4 ∷ 0 ∷ 0 ∷ 3 ∷ head 9 1 ∷ 0 ∷ 3 ∷ 4 ∷ 0 ∷ 0 ∷ 0
+    ∷ head 9 1 ∷ 0 ∷ 4 ∷ 5 ∷ 0 ∷ 0 ∷ 2 ∷ head 9 1 ∷ 0 ∷ 6 ∷ 5 ∷ 3 ∷ 0 ∷ 0
+    ∷ head 9 1 ∷ 0 ∷ 5 ∷ 6 ∷ 3 ∷ 0 ∷ 2 ∷ head 9 1 ∷ 0 ∷ 9 ∷ 6 ∷ 0 ∷ 0 ∷ 1 ∷ [])
+
+-- Worked out by hand: without options bit 32 the lines are the Rust's for 0 and 1 in place of 2 and 3.
+pub oldNameCases : List Row
+oldNameCases =
+    -- the scope: the deprecated name comes first, and last with the bit
+    row 2 0 0 1 0 0 "found old 0 0"
+    ∷ row 2 0 0 1 32 0 "found new 0 0"
+    -- where only what is declared there counts, 3 acts as 1; no such entry is without deprecation, so the bit changes nothing
+    ∷ row 2 0 0 1 16 0 "found old 0 0"
+    ∷ row 2 0 0 1 48 0 "found old 0 0"
+    -- the block's scope holds the item, if only by a deprecated name: the scope around it is not tried
+    ∷ row 2 0 3 1 0 0 "found t 0 0"
+    ∷ row 2 0 3 1 32 0 "found t 0 0"
+    -- the prelude: past a name that is not visible; in `m` the name `z` means another thing, and the first name stays
+    ∷ row 3 0 0 1 0 0 "found x 0 0"
+    ∷ row 3 0 0 1 32 0 "found z 0 0"
+    ∷ row 3 0 1 1 32 0 "found x 0 0"
+    -- the local search: past the deprecated name, but not to a private import
+    ∷ row 4 0 0 1 0 9 "found m::old 1 0"
+    ∷ row 4 0 0 1 32 9 "found m::new 1 0"
+    ∷ row 5 0 0 1 0 9 "found m::t 1 0"
+    ∷ row 5 0 0 1 32 9 "found m::t 1 0"
+    -- the first entry decides without the bit
+    ∷ row 6 0 0 1 0 9 "none - 1 0"
+    ∷ row 6 0 0 1 32 9 "found m::z 1 0"
+    -- all options, and one too many
+    ∷ row 2 0 0 1 63 0 "found old 0 0"
+    ∷ row 2 0 0 1 64 0 "refused 22 0 0"
+    ∷ []
+
+pub old-name-cases : passes withOldNames oldNameCases ≡ true
+unfolding passes oldNameCases row withOldNames named head
+old-name-cases = refl

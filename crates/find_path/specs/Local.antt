@@ -6,7 +6,7 @@ use mathlib.Core.Option.{Option, none, some}
 use lib.Dec.{eqb}
 use Rattle.snapshot.specs.Records.{Snapshot, Scope}
 use Rattle.hir_def.specs.Visibility.{sees}
-use Rattle.hir_def.specs.ItemScope.{nameOf}
+use Rattle.hir_def.specs.ItemScope.{isDeclared, nameOf, preferred}
 use Rattle.hir_def.specs.declared.Item.{Item}
 use Rattle.hir_def.specs.declared.Item.the-variants.{Mod}
 use Rattle.hir_def.specs.declared.Answer.{Answer}
@@ -28,15 +28,15 @@ module _ (s : Snapshot) (x : FindPathCtx) where
 
   -- visible, and declared there or no implicitly private import
   abbrev pub isImportable : Scope → Bool
-  isImportable e = sees s (x .from) e && (eqb (e .declared) 1 || not (eqb (e .visibility) 3))
+  isImportable e = sees s (x .from) e && (isDeclared e || not (eqb (e .visibility) 3))
 
   unfoldable pub nameIf : Option Scope → Answer
   nameIf none = Nothing
   nameIf (some e) = elim (isImportable e) [ true ↦ Name (e .name) | false ↦ Nothing ]
 
-  -- the name by which the viewer can import the item from the module
+  -- the name by which the viewer can import the item from the module; by bit 32 the first such name that isn't deprecated, if there is one
   unfoldable pub importableName : Item → ℕ → Answer
-  importableName item m = nameIf (nameOf s m item)
+  importableName item m = nameIf (preferred (x .fresh) s m item isImportable (nameOf s m item))
 
   unfoldable pub location : LocalSearch → ℕ → List Level → Choice → ℕ → Answer → Choice
   location rec left ls best m Nothing = best

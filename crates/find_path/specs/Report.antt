@@ -23,7 +23,7 @@ callFault area q fuel =
       | true ↦ 20
       | false ↦ elim (ltb fuelLimit fuel) [
         | true ↦ 21
-        | false ↦ elim (ltb 2 (q .ns) || (ltb 2 (q .prefix) || ltb 31 (q .options))) [ true ↦ 22 | false ↦ 0 ]
+        | false ↦ elim (ltb 2 (q .ns) || (ltb 2 (q .prefix) || ltb 63 (q .options))) [ true ↦ 22 | false ↦ 0 ]
       ]
     ]
 

@@ -8,7 +8,7 @@ use lib.ListN.{getD}
 use Rattle.snapshot.specs.Records.{Snapshot, Scope, Prelude, Extern}
 use Rattle.hir_def.specs.Items.{mapNo, mapOf, crateOf, crateData, parentOf, inBlock, rootOf, crateRoot, isLang, itemOf, sameItem, nsOf}
 use Rattle.hir_def.specs.Visibility.{sees}
-use Rattle.hir_def.specs.ItemScope.{nameOf}
+use Rattle.hir_def.specs.ItemScope.{nameOf, preferred}
 use Rattle.hir_def.specs.Nameres.{scopeEntry, entryNamed, occupied, preludeOf, externOf}
 use Rattle.hir_def.specs.declared.Item.{Item}
 use Rattle.hir_def.specs.declared.Item.the-variants.{Mod, Def}
@@ -61,6 +61,7 @@ contextOf s q home =
       absolute = bit (q .options) 4;
       unstable = bit (q .options) 8;
       declared = bit (q .options) 16;
+      fresh = bit (q .options) 32;
       std = isLang s (crateOf s home);
       from = q .from;
       krate = crateOf s (q .from);
@@ -87,10 +88,10 @@ module _ (s : Snapshot) (x : FindPathCtx) where
   single kind Nothing = nothing
   single kind (Name n) = choiceNew s kind n
 
-  -- `find_in_scope`: the item's name in the viewing module, or around its blocks; imports only where they count
+  -- `find_in_scope`: the item's name in the viewing module, or around its blocks; imports only where they count, old names last by bit 32
   unfoldable pub findInScope : Item → Answer
   findInScope item =
-      entryName (scopeEntry s (x .from) item (x .declared))
+      entryName (scopeEntry s (x .from) item (x .declared) (x .fresh))
 
   -- `may_be_in_scope`: under ByCrate only the crate's root uses its scope
   unfoldable pub mayBeInScope : Bool
@@ -105,19 +106,21 @@ module _ (s : Snapshot) (x : FindPathCtx) where
   sameHere item none = true
   sameHere item (some e) = sameItem (itemOf s (e .ns) (e .definition)) item
 
+  -- the tests of the prelude rule: visible, and its name is not another thing's here
+  abbrev pub isUsable : Item → Scope → Bool
+  isUsable item e = sees s (x .from) e && sameHere item (entryNamed s (x .from) (nsOf item) (e .name))
+
   unfoldable pub preludeEntry : Item → Option Scope → Answer
   preludeEntry item none = Nothing
   preludeEntry item (some e) =
-      elim (sees s (x .from) e && sameHere item (entryNamed s (x .from) (nsOf item) (e .name))) [
-        | true ↦ Name (e .name)
-        | false ↦ Nothing
-      ]
+      elim (isUsable item e) [ true ↦ Name (e .name) | false ↦ Nothing ]
 
   unfoldable pub inPrelude : Item → Option Prelude → Answer
   inPrelude item none = Nothing
-  inPrelude item (some p) = preludeEntry item (nameOf s (p .target) item)
+  inPrelude item (some p) = preludeEntry item (preferred (x .fresh) s (p .target) item (isUsable item) (nameOf s (p .target) item))
 
-  -- `find_in_prelude`: the item's first name in the prelude, if visible and not another thing's name here
+  -- `find_in_prelude`: the item's first name in the prelude, if visible and not another thing's name here; by bit 32 the first such
+  -- name that isn't deprecated, if there is one
   unfoldable pub findInPrelude : Item → Answer
   findInPrelude item = inPrelude item (preludeOf s (mapNo s (x .from)))
 

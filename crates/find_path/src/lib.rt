@@ -1,7 +1,7 @@
 //! What the search takes and answers.
 
-// What is set once for a question (`FindPathCtx`): `nostd` is prefer_no_std, `declared` ignore_local_imports, `std` is_std_item;
-// `own` is the module asked for, +1, or 0 where the item is no module.
+// What is set once for a question (`FindPathCtx`): `nostd` is prefer_no_std, `declared` ignore_local_imports, `fresh` old names last,
+// `std` is_std_item; `own` is the module asked for, +1, or 0 where the item is no module.
 pub struct FindPathCtx {
     pub prefix: usize,
     pub nostd: bool,
@@ -9,6 +9,7 @@ pub struct FindPathCtx {
     pub absolute: bool,
     pub unstable: bool,
     pub declared: bool,
+    pub fresh: bool,
     pub std: bool,
     pub from: usize,
     pub krate: usize,

@@ -1,6 +1,6 @@
 -- What is found in accepted words is in range.
 use Prim.Native.Nat.{ℕ, suc, _+_, _*_, _^_, _<_}
-use mathlib.Core.Path.{_≡_, refl, sym, subst}
+use mathlib.Core.Path.{_≡_, refl, sym, subst, ap, _∙_}
 use mathlib.Core.List.{List, reverseAux}
 use mathlib.Core.Bool.{Bool, _&&_}
 use mathlib.Core.Option.{some}
@@ -20,12 +20,13 @@ use Rattle.accept.proofs.Bools.{and-right}
 use Rattle.accept.proofs.Valid.{accepted-valid}
 use Rattle.accept.proofs.Reading.{ranges-read, definition-read, scope-read, import-read, dependency-read}
 use Rattle.hir_def.specs.Items.{definitionOf, itemOf, homeOf}
-use Rattle.hir_def.specs.ItemScope.{nameOf, namesOf, get}
+use Rattle.hir_def.specs.ItemScope.{nameOf, namesOf, isFresh, preferred, get}
 use Rattle.hir_def.specs.Nameres.{preludeOf, externOf, dependenciesOf, langOf}
 use Rattle.hir_def.specs.Entries.{Known, Meets}
 use Rattle.hir_def.specs.declared.Item.{Item}
 use Rattle.hir_def.specs.declared.Item.the-variants.{Mod, Def}
 use Rattle.hir_def.proofs.Found.{each-first, each-select}
+use Rattle.hir_def.proofs.Fresh.{preferred-has}
 use Rattle.hir_def.proofs.Lookups.{definition-there, item-module, item-other, home-builtin, home-variant, home-other}
 
 pub each-back : {R : Type 0} {P : R → Type 0} {xs ys : List R} → Each P xs → Each P ys → Each P (reverseAux xs ys)
@@ -52,6 +53,12 @@ module _ (W A : List ℕ) (l : Layout) (r : Reads W A l) where
   unfolding namesOf
   names-fits m h item p e = each-first _ _ (ranges .scopes) (sym e)
 
+  pub preferred-fits : (b : Bool) (m h : ℕ) (item : Item) (p : Scope → Bool) → some (scopeAt W h) ≡ preferred b (snapOf W A l) m item p (nameOf (snapOf W A l) m item)
+      → ScopeFits (countsIn l) (scopeAt W h)
+  preferred-fits b m h item p e =
+      preferred-has (snapOf W A l) m item p (nameOf (snapOf W A l) m item) 0 (ScopeFits (countsIn l)) b (scopeAt W h)
+      (λ f. names-fits m h item (isFresh p) (sym f)) (λ f. name-fits m h item (sym f)) (sym e)
+
   pub get-fits : (m ns name h : ℕ) → some (scopeAt W h) ≡ get (snapOf W A l) m ns name → ScopeFits (countsIn l) (scopeAt W h)
   unfolding get
   get-fits m ns name h e = each-first _ _ (ranges .scopes) (sym e)
@@ -67,6 +74,10 @@ module _ (W A : List ℕ) (l : Layout) (r : Reads W A l) where
   pub lang-fits : (c lang h : ℕ) → some (dependencyAt W h) ≡ langOf (snapOf W A l) c lang → DependencyFits (countsIn l) (dependencyAt W h)
   unfolding langOf dependenciesOf
   lang-fits c lang h e = each-first _ _ (each-select _ (ranges .dependencies)) (sym e)
+
+  -- the scope record of a number
+  pub scope-fits : {j h b : ℕ} → j < l .scopes → b ≡ scopeBase l → h ≡ b + 7 * j → ScopeFits (countsIn l) (scopeAt W h)
+  scope-fits {j} i eb eh = subst (λ h. ScopeFits (countsIn l) (scopeAt W h)) (sym (eh ∙ ap (λ x. x + 7 * j) eb)) (scope-read W A l valid j i)
 
   -- the record that an enumeration meets
   pub module-meets : {p : Scope → Bool} {k j h : ℕ} → Meets p scopeAt 7 W (scopeBase l) (l .scopes) k j h → ScopeFits (countsIn l) (scopeAt W h)

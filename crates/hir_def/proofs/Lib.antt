@@ -6,3 +6,4 @@ pub mod Fits
 pub mod Reading
 pub mod Climbs
 pub mod Ancestors
+pub mod Fresh

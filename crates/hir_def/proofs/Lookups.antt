@@ -17,7 +17,7 @@ use Rattle.snapshot.specs.declared.layout.Layout.{Layout}
 use Rattle.snapshot.proofs.Laws.{rows-next, rows-none, rows-whole, rows-snoc, length-rows, getD-rows, past}
 use Rattle.hir_def.specs.Finds.{firstOf, readsOf, select}
 use Rattle.hir_def.specs.Items.{definitionOf, crateData, itemOf, homeBy}
-use Rattle.hir_def.specs.ItemScope.{isFor, nameOf, namesOf, nameReads, namesReads, isModuleEntry, modulesInScope}
+use Rattle.hir_def.specs.ItemScope.{isDeclared, counts, isFor, nameOf, namesOf, nameReads, namesReads, isModuleEntry, modulesInScope}
 use Rattle.hir_def.specs.ImportMap.{isImport, importInfoFor}
 use Rattle.hir_def.specs.Nameres.{isExtern, externOf, isDependency, isSysroot, isLangSysroot, bySysroot, dependenciesOf, langOf, sysrootFirst}
 use Rattle.hir_def.specs.Entries.{leftOf, Meets, Ends, NextOf}
@@ -230,15 +230,15 @@ pub first-same : {R : Type 0} (p q : R → Bool) (xs : List R) → ((x : R) → 
 first-same p q xs h = ap (λ t. firstOf t xs) (λ i x. h x i)
 
 -- where declared entries do not count alone, `names_of` is `name_of`
-any-declared : (s : Snapshot) (m : ℕ) (item : Item) (e : Scope) → (isFor s m item e && (eqb (e .declared) 1 || not false)) ≡ isFor s m item e
-any-declared s m item e = ap (λ b. isFor s m item e && b) (or-true (eqb (e .declared) 1)) ∙ and-true (isFor s m item e)
+any-declared : (s : Snapshot) (m : ℕ) (item : Item) (e : Scope) → (isFor s m item e && counts false e) ≡ isFor s m item e
+any-declared s m item e = ap (λ b. isFor s m item e && b) (or-true (isDeclared e)) ∙ and-true (isFor s m item e)
 
-pub names-name : (s : Snapshot) (m : ℕ) (item : Item) → namesOf s m item (λ e. eqb (e .declared) 1 || not false) ≡ nameOf s m item
+pub names-name : (s : Snapshot) (m : ℕ) (item : Item) → namesOf s m item (counts false) ≡ nameOf s m item
 unfolding namesOf nameOf
 names-name s m item =
-    first-same (λ e. isFor s m item e && (eqb (e .declared) 1 || not false)) (isFor s m item) (s .scopes) (any-declared s m item)
+    first-same (λ e. isFor s m item e && counts false e) (isFor s m item) (s .scopes) (any-declared s m item)
 
-pub names-name-reads : (s : Snapshot) (m : ℕ) (item : Item) → namesReads s m item (λ e. eqb (e .declared) 1 || not false) ≡ nameReads s m item
+pub names-name-reads : (s : Snapshot) (m : ℕ) (item : Item) → namesReads s m item (counts false) ≡ nameReads s m item
 unfolding namesReads nameReads
 names-name-reads s m item = ap (λ t. readsOf t (s .scopes)) (λ i e. any-declared s m item e i)
 

@@ -2,7 +2,7 @@
 use Prim.Native.Nat.{ℕ, _+_, _-_, _*_, _≤_, _<_}
 use mathlib.Core.Path.{_≡_}
 use mathlib.Core.List.{List, [], _∷_}
-use mathlib.Core.Bool.{Bool, true}
+use mathlib.Core.Bool.{Bool, true, false}
 use mathlib.Core.Option.{Option, none, some}
 use Rattle.snapshot.specs.Lists.{rows}
 use Rattle.snapshot.specs.declared.layout.Layout.{Layout}
@@ -23,6 +23,11 @@ Known l (Def ns d) = d < l .definitions
 abbrev pub entryOf : {R : Type 0} → (List ℕ → ℕ → R) → List ℕ → Entry → Option R
 entryOf f W (At h) = some (f W h)
 entryOf f W Nothing = none
+
+-- one record where the test says so
+abbrev pub oneIf : {R : Type 0} → Bool → R → Option R
+oneIf true x = some x
+oneIf false x = none
 
 -- of n records of one size from a place on, the number of those up to and with the one that is answered, or of all
 abbrev pub UpTo : ℕ → ℕ → ℕ → Entry → ℕ → Type 0

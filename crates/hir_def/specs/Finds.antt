@@ -15,6 +15,11 @@ unfoldable pub readsOf : {A : Type 0} → (A → Bool) → List A → ℕ
 readsOf p [] = 0
 readsOf p (x ∷ xs) = elim (p x) [ true ↦ 1 | false ↦ readsOf p xs + 1 ]
 
+-- the first answer, or else the second
+unfoldable pub orFirst : {A : Type 0} → Option A → Option A → Option A
+orFirst none o = o
+orFirst (some x) o = some x
+
 -- the elements that pass the test, in order
 unfoldable pub select : {A : Type 0} → (A → Bool) → List A → List A
 select p [] = []

@@ -1,14 +1,14 @@
 -- What the search asks of nameres.rs: the modules around a module, preludes and externs; and of the crate graph.
 use Prim.Native.Nat.{ℕ, zero, suc}
 use mathlib.Core.List.{List, [], _∷_, _++_, reverse}
-use mathlib.Core.Bool.{Bool, true, false, _&&_, _||_, not}
+use mathlib.Core.Bool.{Bool, true, false, _&&_, not}
 use mathlib.Core.Option.{Option, none, some}
 use lib.Dec.{eqb}
 use Rattle.snapshot.specs.Lists.{any}
 use Rattle.snapshot.specs.Records.{Snapshot, Scope, Prelude, Extern, Dependency, Child}
 use Rattle.hir_def.specs.Finds.{firstOf, firstSome, select}
 use Rattle.hir_def.specs.Items.{types, blockOf, containing, crateData, itemOf, sameItem}
-use Rattle.hir_def.specs.ItemScope.{namesOf, get}
+use Rattle.hir_def.specs.ItemScope.{counts, namesOf, preferred, get}
 use Rattle.hir_def.specs.declared.Item.{Item}
 use Rattle.hir_def.specs.declared.Item.the-variants.{Mod}
 
@@ -28,10 +28,13 @@ steps step m = stepsTo step m m
 unfoldable pub ancestorMaps : Snapshot → ℕ → List ℕ
 ancestorMaps s m = m ∷ steps (blockOf s) m
 
--- the item's first entry in the module, or around its blocks; only entries declared there where these alone count
-unfoldable pub scopeEntry : Snapshot → ℕ → Item → Bool → Option Scope
-scopeEntry s m item declaredOnly =
-    firstSome (λ a. namesOf s a item (λ e. eqb (e .declared) 1 || not declaredOnly)) (ancestorMaps s m)
+-- the item's entry in one scope: the first that counts, by options bit 32 the first of these that isn't deprecated, if there is one
+abbrev pub entryIn : Snapshot → Item → Bool → Bool → ℕ → Option Scope
+entryIn s item declaredOnly fresh a = preferred fresh s a item (counts declaredOnly) (namesOf s a item (counts declaredOnly))
+
+-- the item's entry in the module, or around its blocks; only entries declared there where these alone count
+unfoldable pub scopeEntry : Snapshot → ℕ → Item → Bool → Bool → Option Scope
+scopeEntry s m item declaredOnly fresh = firstSome (entryIn s item declaredOnly fresh) (ancestorMaps s m)
 
 -- the first entry with that namespace and name in the module, or around its blocks
 unfoldable pub entryNamed : Snapshot → ℕ → ℕ → ℕ → Option Scope

@@ -1,13 +1,14 @@
 //! The scope of a module, after item_scope.rs: its entries in record order.
 ghost use mathlib.Core.Path.{_≡_};
 ghost use mathlib.Core.List.{List};
-ghost use mathlib.Core.Bool.{_&&_, _||_, not};
+ghost use mathlib.Core.Bool.{true, _&&_};
 ghost use Prim.Native.Nat.{ℕ, _^_, _<_};
-ghost use lib.Dec.{eqb};
 ghost use Rattle.snapshot.specs.Records.{scopeAt};
 ghost use Rattle.snapshot.specs.Layouts.{wordCount, scopeBase, snapOf};
-ghost use Rattle.hir_def.specs.ItemScope.{isFor, isNamed, isModuleEntry, nameOf, namesOf, nameReads, namesReads, get as entryNamed};
-ghost use Rattle.hir_def.specs.Entries.{entryOf, UpTo, NextOf};
+ghost use Rattle.hir_def.specs.ItemScope.{isDeclared, isDeprecated, counts, isFor, isNamed, isModuleEntry, nameOf, namesOf, nameReads, namesReads, preferred, preferredReads, get as entryNamed};
+ghost use Rattle.hir_def.specs.Finds.{orFirst};
+ghost use Rattle.hir_def.specs.Nameres.{entryIn};
+ghost use Rattle.hir_def.specs.Entries.{entryOf, oneIf, UpTo, NextOf};
 use hir_def::Entry;
 use hir_def::Item;
 use hir_def::Lookup;
@@ -26,6 +27,20 @@ use snapshot::record::scope_name;
 use snapshot::record::scope_ns;
 use snapshot::record::scope_owner;
 
+/// Whether the entry with its head at a place was declared there: 1, or 3 where it is deprecated too.
+pub fn is_declared(words: &[u32], h: usize) -> bool
+    ensures { λ r. ⌜ r ≡ isDeclared (scopeAt (now (words .entry)) h) ⌝ }
+{
+    scope_declared(words, h) % 2 == 1
+}
+
+/// Whether it is deprecated: 2 or 3.
+pub fn is_deprecated(words: &[u32], h: usize) -> bool
+    ensures { λ r. ⌜ r ≡ isDeprecated (scopeAt (now (words .entry)) h) ⌝ }
+{
+    2 <= scope_declared(words, h)
+}
+
 /// Whether the entry with its head at a place is one of the module's for the item.
 pub fn is_for(words: &[u32], l: Layout, h: usize, m: ModuleId, item: Item) -> bool
     requires { ⌜ wordCount l < 2 ^ 32 ⌝ }
@@ -43,10 +58,10 @@ pub fn is_for(words: &[u32], l: Layout, h: usize, m: ModuleId, item: Item) -> bo
 // The same, and the entry was declared there where only such entries count.
 fn is_entry(words: &[u32], l: Layout, h: usize, m: ModuleId, item: Item, declared: bool) -> bool
     requires { ⌜ wordCount l < 2 ^ 32 ⌝ }
-    ensures { λ r. ⌜ ((A : List ℕ) → r ≡ (isFor (snapOf (now (words .entry)) A l) (m .0) item (scopeAt (now (words .entry)) h) && (eqb (scopeAt (now (words .entry)) h .declared) 1 || not declared))) ⌝ }
+    ensures { λ r. ⌜ ((A : List ℕ) → r ≡ (isFor (snapOf (now (words .entry)) A l) (m .0) item (scopeAt (now (words .entry)) h) && counts declared (scopeAt (now (words .entry)) h))) ⌝ }
 {
     if is_for(words, l, h, m, item) {
-        let here = scope_declared(words, h) == 1;
+        let here = is_declared(words, h);
         return here | !declared;
     }
     false
@@ -55,7 +70,7 @@ fn is_entry(words: &[u32], l: Layout, h: usize, m: ModuleId, item: Item, declare
 /// The first of the module's entries for the item; of those declared there, where only such entries count. Counts the records that it reads.
 pub fn names_of(words: &[u32], l: Layout, m: ModuleId, item: Item, declared: bool) -> Lookup
     requires { ⌜ wordCount l < 2 ^ 32 ⌝ }
-    ensures { λ r. ⌜ ((A : List ℕ) → entryOf scopeAt (now (words .entry)) (r .entry) ≡ namesOf (snapOf (now (words .entry)) A l) (m .0) item (λ e. eqb (e .declared) 1 || not declared)) × ((A : List ℕ) → r .read ≡ namesReads (snapOf (now (words .entry)) A l) (m .0) item (λ e. eqb (e .declared) 1 || not declared)) × UpTo 7 (scopeBase l) (l .scopes) (r .entry) (r .read) ⌝ }
+    ensures { λ r. ⌜ ((A : List ℕ) → entryOf scopeAt (now (words .entry)) (r .entry) ≡ namesOf (snapOf (now (words .entry)) A l) (m .0) item (counts declared)) × ((A : List ℕ) → r .read ≡ namesReads (snapOf (now (words .entry)) A l) (m .0) item (counts declared)) × UpTo 7 (scopeBase l) (l .scopes) (r .entry) (r .read) ⌝ }
 {
     let base = l.scope_base();
     let mut read = 0;
@@ -81,6 +96,61 @@ pub fn name_of(words: &[u32], l: Layout, m: ModuleId, item: Item) -> Lookup
     ensures { λ r. ⌜ ((A : List ℕ) → entryOf scopeAt (now (words .entry)) (r .entry) ≡ nameOf (snapOf (now (words .entry)) A l) (m .0) item) × ((A : List ℕ) → r .read ≡ nameReads (snapOf (now (words .entry)) A l) (m .0) item) × UpTo 7 (scopeBase l) (l .scopes) (r .entry) (r .read) ⌝ }
 {
     names_of(words, l, m, item, false)
+}
+
+/// The entry so far, or the one with its head at a place where it passes.
+pub fn kept(first: Entry, passes: bool, h: usize) -> Entry
+    ensures { λ r. ⌜ ((W : List ℕ) → entryOf scopeAt W r ≡ orFirst (entryOf scopeAt W first) (oneIf passes (scopeAt W h))) ⌝ }
+{
+    let Entry::At(e) = first else {
+        if passes {
+            return Entry::At(h);
+        }
+        return Entry::Nothing;
+    };
+    Entry::At(e)
+}
+
+/// The first of the entries of `names_of` that isn't deprecated; where there is none, the first of them, with all records read.
+pub fn fresh_of(words: &[u32], l: Layout, m: ModuleId, item: Item, declared: bool) -> Lookup
+    requires { ⌜ wordCount l < 2 ^ 32 ⌝ }
+    ensures { λ r. ⌜ ((A : List ℕ) → entryOf scopeAt (now (words .entry)) (r .entry) ≡ preferred true (snapOf (now (words .entry)) A l) (m .0) item (counts declared) (namesOf (snapOf (now (words .entry)) A l) (m .0) item (counts declared))) × ((A : List ℕ) (n : ℕ) → r .read ≡ preferredReads true (snapOf (now (words .entry)) A l) (m .0) item (counts declared) n) ⌝ }
+{
+    let base = l.scope_base();
+    let mut first = Entry::Nothing;
+    let mut count = 0;
+    while count < l.scopes {
+        let h = base + 7 * count;
+        count += 1;
+        let its = is_entry(words, l, h, m, item, declared);
+        if its & !is_deprecated(words, h) {
+            return Lookup {
+                entry: Entry::At(h),
+                read: count,
+            };
+        }
+        first = kept(first, its, h);
+    }
+    let read = count;
+    Lookup { entry: first, read }
+}
+
+/// The entry of `names_of`; by options bit 32 that of `fresh_of`.
+pub fn entry_in(
+    words: &[u32],
+    l: Layout,
+    m: ModuleId,
+    item: Item,
+    declared: bool,
+    fresh: bool,
+) -> Lookup
+    requires { ⌜ wordCount l < 2 ^ 32 ⌝ }
+    ensures { λ r. ⌜ ((A : List ℕ) → entryOf scopeAt (now (words .entry)) (r .entry) ≡ entryIn (snapOf (now (words .entry)) A l) item declared fresh (m .0)) × ((A : List ℕ) → r .read ≡ preferredReads fresh (snapOf (now (words .entry)) A l) (m .0) item (counts declared) (namesReads (snapOf (now (words .entry)) A l) (m .0) item (counts declared))) ⌝ }
+{
+    if fresh {
+        return fresh_of(words, l, m, item, declared);
+    }
+    names_of(words, l, m, item, declared)
 }
 
 // Whether the entry with its head at a place is the module's with that namespace and name.

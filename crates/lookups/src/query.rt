@@ -10,8 +10,8 @@ use hir_def::items::item_of;
 use hir_def::modules::containing;
 use hir_def::modules::crate_root;
 use hir_def::visibility::is_visible_from;
+use item_scope::entry_in;
 use item_scope::name_of;
-use item_scope::names_of;
 use nameres::entry_named;
 use nameres::occupied;
 use nameres::scope_entry;
@@ -106,7 +106,15 @@ fn name(words: &[u32], l: Layout, m: usize, ns: usize, d: usize) -> Reply
 }
 
 // How many scope records the lookup of the item reads.
-fn reads(words: &[u32], l: Layout, m: usize, ns: usize, d: usize, declared: bool) -> Reply
+fn reads(
+    words: &[u32],
+    l: Layout,
+    m: usize,
+    ns: usize,
+    d: usize,
+    declared: bool,
+    fresh: bool,
+) -> Reply
     requires { ⌜ wordCount l < 2 ^ 32 ⌝ }
 {
     if l.modules <= m {
@@ -116,7 +124,7 @@ fn reads(words: &[u32], l: Layout, m: usize, ns: usize, d: usize, declared: bool
         return Reply::OutOfRange;
     }
     let item = item_of(words, l, ns, DefinitionId(d));
-    let found = names_of(words, l, ModuleId(m), item, declared);
+    let found = entry_in(words, l, ModuleId(m), item, declared, fresh);
     Reply::Number(found.read)
 }
 
@@ -128,6 +136,7 @@ fn scope(
     ns: usize,
     d: usize,
     declared: bool,
+    fresh: bool,
 ) -> Reply
     requires { ⌜ Reads (now words) (now area) l ⌝ }
 {
@@ -140,7 +149,7 @@ fn scope(
     let item = item_of(words, l, ns, DefinitionId(d));
     name_at(
         words,
-        scope_entry(words, area, l, ModuleId(from), item, declared),
+        scope_entry(words, area, l, ModuleId(from), item, declared, fresh),
     )
 }
 
@@ -249,14 +258,14 @@ pub fn answer(
     match code {
         1 => visible(words, area, l, a, b, c),
         2 => name(words, l, a, b, c),
-        3 => scope(words, area, l, a, b, c, d == 1),
+        3 => scope(words, area, l, a, b, c, d % 2 == 1, 2 <= d),
         4 => named(words, area, l, a, b, c),
         5 => taken(words, area, l, a, b, c),
         6 => root(words, area, l, a),
         7 => container(words, area, l, a),
         8 => extern_named(words, l, a, b),
         9 => home(words, l, a, b),
-        10 => reads(words, l, a, b, c, d == 1),
+        10 => reads(words, l, a, b, c, d % 2 == 1, 2 <= d),
         _ => Reply::OutOfRange,
     }
 }

@@ -13,15 +13,16 @@ use hir_def::items::Namespace;
 use hir_def::items::item_of;
 use hir_def::items::same_item;
 use hir_def::modules::block;
+use item_scope::entry_in;
 use item_scope::get;
-use item_scope::names_of;
 use snapshot::ids::ModuleId;
 use snapshot::ids::Name;
 use snapshot::layout::Layout;
 use snapshot::record::scope_definition;
 use snapshot::record::scope_ns;
 
-/// The item's first entry in a module, or around its blocks; only entries declared there where these alone count.
+/// The item's entry in a module, or around its blocks: the first; only entries declared there where these alone count; by options bit 32
+/// the first in its scope that isn't deprecated, if there is one.
 pub fn scope_entry(
     words: &[u32],
     area: &[u32],
@@ -29,13 +30,14 @@ pub fn scope_entry(
     from: ModuleId,
     item: Item,
     declared_only: bool,
+    fresh: bool,
 ) -> Entry
     requires { ⌜ Reads (now words) (now area) l × (from .0 < l .modules) ⌝ }
-    ensures { λ r. ⌜ entryOf scopeAt (now (words .entry)) r ≡ scopeEntry (snapOf (now (words .entry)) (now (area .entry)) l) (from .0) item «declared_only» ⌝ }
+    ensures { λ r. ⌜ entryOf scopeAt (now (words .entry)) r ≡ scopeEntry (snapOf (now (words .entry)) (now (area .entry)) l) (from .0) item «declared_only» fresh ⌝ }
 {
     let mut m = from.0;
     loop {
-        let e = names_of(words, l, ModuleId(m), item, declared_only).entry;
+        let e = entry_in(words, l, ModuleId(m), item, declared_only, fresh).entry;
         if let Entry::At(h) = e {
             return Entry::At(h);
         }

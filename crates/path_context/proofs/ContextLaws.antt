@@ -16,10 +16,10 @@ use Rattle.find_path.specs.Rules.{bit, plainIf, moduleIn, contextOf, soughtOf}
 use Rattle.find_path.specs.Meters.{go, stop, drained, draw, fromTank}
 
 -- what is set, part by part
-module _ (s : Snapshot) (q : Query) (home : ℕ) {i a b z b₁ b₂ b₃ b₄ b₅ : Bool} {p c d r o : ℕ} where
+module _ (s : Snapshot) (q : Query) (home : ℕ) {i a b z b₁ b₂ b₃ b₄ b₅ b₆ : Bool} {p c d r o : ℕ} where
   pub context-same : o ≡ moduleIn (itemOf s (q .ns) (q .definition)) → i ≡ inBlock s home → p ≡ plainIf i (q .prefix) → c ≡ crateOf s (q .from)
       → a ≡ eqb (mapOf s (mapNo s (q .from)) .noStd) 1 → b ≡ eqb (crateData s c .noStd) 1
-      → b₁ ≡ bit (q .options) 1 → b₂ ≡ bit (q .options) 2 → b₃ ≡ bit (q .options) 4 → b₄ ≡ bit (q .options) 8 → b₅ ≡ bit (q .options) 16
+      → b₁ ≡ bit (q .options) 1 → b₂ ≡ bit (q .options) 2 → b₃ ≡ bit (q .options) 4 → b₄ ≡ bit (q .options) 8 → b₅ ≡ bit (q .options) 16 → b₆ ≡ bit (q .options) 32
       → d ≡ crateOf s home → z ≡ isLang s d → r ≡ crateRoot s (q .from)
       → _≡_ {A = FindPathCtx}
       (record {
@@ -29,6 +29,7 @@ module _ (s : Snapshot) (q : Query) (home : ℕ) {i a b z b₁ b₂ b₃ b₄ b�
         absolute = b₃;
         unstable = b₄;
         declared = b₅;
+        fresh = b₆;
         std = z;
         from = q .from;
         krate = c;
@@ -37,7 +38,7 @@ module _ (s : Snapshot) (q : Query) (home : ℕ) {i a b z b₁ b₂ b₃ b₄ b�
       })
       (contextOf s q home)
   unfolding contextOf
-  context-same eo ei ep ec ea eb e₁ e₂ e₃ e₄ e₅ ed ez er =
+  context-same eo ei ep ec ea eb e₁ e₂ e₃ e₄ e₅ e₆ ed ez er =
       let kp = ep ∙ ap (λ t. plainIf t (q .prefix)) ei in
       let kb = eb ∙ ap (λ k. eqb (crateData s k .noStd) 1) ec in
       let kz = ez ∙ ap (isLang s) ed in
@@ -49,6 +50,7 @@ module _ (s : Snapshot) (q : Query) (home : ℕ) {i a b z b₁ b₂ b₃ b₄ b�
         absolute = e₃ j;
         unstable = e₄ j;
         declared = e₅ j;
+        fresh = e₆ j;
         std = kz j;
         from = q .from;
         krate = ec j;

@@ -88,6 +88,7 @@ pub fn context(
     let absolute = bit(options, 4);
     let unstable = bit(options, 8);
     let declared = bit(options, 16);
+    let fresh = bit(options, 32);
     let std = is_lang(words, l, krate(words, area, l, home));
     let root = crate_root(words, area, l, from);
     FindPathCtx {
@@ -97,6 +98,7 @@ pub fn context(
         absolute: absolute,
         unstable: unstable,
         declared: declared,
+        fresh: fresh,
         std: std,
         from: q.from,
         krate: here.0,

@@ -1,17 +1,15 @@
 -- Laws of what a step offers, for the code.
 use Prim.Native.Nat.{ℕ, _<_, _^_}
 use mathlib.Core.Path.{_≡_, sym, _∙_, ap, ap₂, subst}
-use mathlib.Core.Bool.{Bool, true, false, _&&_, _||_, not}
+use mathlib.Core.Bool.{Bool, true, false}
 use mathlib.Core.Option.{some}
-use lib.Dec.{eqb}
 use Rattle.snapshot.specs.Records.{Snapshot, Scope, Import}
-use Rattle.hir_def.specs.Visibility.{sees}
 use Rattle.hir_def.specs.ImportMap.{isUnstable}
 use Rattle.hir_def.specs.declared.Answer.the-variants.{Name, Nothing}
 use Rattle.find_path.specs.declared.Choice.{Choice}
 use Rattle.find_path.specs.declared.FindPathCtx.{FindPathCtx}
 use Rattle.find_path.specs.Choices.{unstably, trySelect}
-use Rattle.find_path.specs.Local.{offer, nameIf}
+use Rattle.find_path.specs.Local.{offer, isImportable, nameIf}
 use Rattle.find_path.specs.Charged.{offerImport}
 use Rattle.path_choices.proofs.ChoiceLaws.{taken-true, taken-false}
 
@@ -21,17 +19,14 @@ unstably-fits c e h k = (subst (λ (z : Choice). z .count < 16) (sym e) h, subst
 
 module _ (s : Snapshot) (x : FindPathCtx) where
   -- an entry's name, where it can be imported
-  module _ (e : Scope) {n v d : ℕ} {a : Bool} (en : n ≡ e .name) (ev : v ≡ e .visibility) (ed : d ≡ e .declared) (ea : a ≡ sees s (x .from) e) where
-    tested : a && (eqb d 1 || not (eqb v 3)) ≡ (sees s (x .from) e && (eqb (e .declared) 1 || not (eqb (e .visibility) 3)))
-    tested = cc
-
-    pub name-taken : a && (eqb d 1 || not (eqb v 3)) ≡ true → Name n ≡ nameIf s x (some e)
+  module _ (e : Scope) {n : ℕ} {a : Bool} (en : n ≡ e .name) (ea : a ≡ isImportable s x e) where
+    pub name-taken : a ≡ true → Name n ≡ nameIf s x (some e)
     unfolding nameIf
-    name-taken t = ap Name en ∙ taken-true _ _ _ (sym tested ∙ t)
+    name-taken t = ap Name en ∙ taken-true _ _ _ (sym ea ∙ t)
 
-    pub name-left : a && (eqb d 1 || not (eqb v 3)) ≡ false → Nothing ≡ nameIf s x (some e)
+    pub name-left : a ≡ false → Nothing ≡ nameIf s x (some e)
     unfolding nameIf
-    name-left t = taken-false _ _ _ (sym tested ∙ t)
+    name-left t = taken-false _ _ _ (sym ea ∙ t)
 
   module _ (best c : Choice) where
     pub offer-none : (n : ℕ) → c .found ≡ false → best ≡ offer s x best c n

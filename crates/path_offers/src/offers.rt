@@ -13,19 +13,19 @@ use hir_def::Answer;
 use hir_def::Entry;
 use hir_def::Item;
 use import_map::is_unstable;
-use item_scope::name_of;
 use path_choices::choices::try_select;
 use path_choices::choices::unstably;
-use path_context::context::sees;
+use rule_lookups::Rule;
+use rule_lookups::entry_by;
+use rule_lookups::is_importable;
 use snapshot::ids::ModuleId;
 use snapshot::ids::Name;
 use snapshot::layout::Layout;
 use snapshot::record::import_name;
-use snapshot::record::scope_declared;
 use snapshot::record::scope_name;
-use snapshot::record::scope_visibility;
 
-/// The name by which the viewer can import the item from the module: visible, and declared there or no implicitly private import.
+/// The name by which the viewer can import the item from the module, by its first entry; by options bit 32 by the first such one that
+/// isn't deprecated, if there is one.
 pub fn importable_name(
     words: &[u32],
     area: &[u32],
@@ -37,15 +37,12 @@ pub fn importable_name(
     requires { ⌜ Reads (now words) (now area) l × (x .from < l .modules) × (m .0 < l .modules) ⌝ }
     ensures { λ r. ⌜ (r ≡ importableName (snapOf (now (words .entry)) (now (area .entry)) l) x item (m .0)) × Named l r ⌝ }
 {
-    let e = name_of(words, l, m, item).entry;
+    let e = entry_by(words, area, l, x, m, item, Rule::Local).entry;
     let Entry::At(h) = e else {
         return Answer::Nothing;
     };
-    let seen = sees(words, area, l, x, h);
-    let declared = scope_declared(words, h) == 1;
-    let explicit = scope_visibility(words, h) != 3;
     let name = scope_name(words, h);
-    if seen & (declared | explicit) {
+    if is_importable(words, area, l, x, h) {
         return Answer::Name(name.0);
     }
     Answer::Nothing

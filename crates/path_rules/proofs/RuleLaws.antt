@@ -17,21 +17,21 @@ use Rattle.accept.specs.Valid.{ScopeFits}
 use Rattle.accept.proofs.Valid.{accepted-valid}
 use Rattle.accept.proofs.Reading.{ranges-read}
 use Rattle.hir_def.specs.Finds.{firstSome}
-use Rattle.hir_def.specs.Items.{mapNo, crateOf, inBlock, parentOf, rootOf, crateRoot, nsOf}
-use Rattle.hir_def.specs.Visibility.{sees}
-use Rattle.hir_def.specs.ItemScope.{nameOf, namesOf}
-use Rattle.hir_def.specs.Nameres.{scopeEntry, entryNamed, occupied, preludeOf, externOf}
+use Rattle.hir_def.specs.Items.{mapNo, crateOf, inBlock, parentOf, rootOf, crateRoot}
+use Rattle.hir_def.specs.ItemScope.{counts, nameOf, namesOf, isFresh, preferred}
+use Rattle.hir_def.specs.Nameres.{scopeEntry, occupied, preludeOf, externOf}
 use Rattle.hir_def.specs.declared.Item.{Item}
 use Rattle.hir_def.specs.declared.Answer.{Answer}
 use Rattle.hir_def.specs.declared.Answer.the-variants.{Name, Nothing}
 use Rattle.hir_def.proofs.Found.{each-first}
+use Rattle.hir_def.proofs.Fresh.{preferred-has}
 use Rattle.find_path.specs.declared.Choice.{Choice}
 use Rattle.find_path.specs.declared.KwKind.{KwKind}
 use Rattle.find_path.specs.declared.KwKind.the-variants.{Kw, NoKw}
 use Rattle.find_path.specs.declared.FindPathCtx.{FindPathCtx}
 use Rattle.find_path.specs.Choices.{nothing, keyword, choiceNew}
 use Rattle.find_path.specs.Conditions.{Named}
-use Rattle.find_path.specs.Rules.{prefixPathKind, firstFound, entryName, single, findInScope, mayBeInScope, scopeRule, sameHere, preludeEntry, inPrelude, findInPrelude, externKind, externName, rootRule, parentKind, isKwKindRelativeToFrom, keywordOf}
+use Rattle.find_path.specs.Rules.{prefixPathKind, firstFound, entryName, single, findInScope, mayBeInScope, scopeRule, isUsable, preludeEntry, inPrelude, findInPrelude, externKind, externName, rootRule, parentKind, isKwKindRelativeToFrom, keywordOf}
 use Rattle.path_choices.proofs.ChoiceLaws.{taken-true, taken-false}
 
 pub prefix-past : (p : ℕ) → 3 ≤ p → 0 ≡ prefixPathKind p
@@ -64,10 +64,17 @@ some-first {A} {B} {P} f g (x ∷ xs) y e = by (f x) refl (λ k. some-first f g 
     by (some z) h rec k = g x y (h ∙ k)
 
 module _ (W A : List ℕ) (l : Layout) (r : Reads W A l) where
-  scope-entry-fits : (m : ℕ) (item : Item) (b : Bool) (y : Scope) → scopeEntry (snapOf W A l) m item b ≡ some y → ScopeFits (countsIn l) y
-  unfolding scopeEntry namesOf
-  scope-entry-fits m item b y e =
-      some-first _ (λ a z h. each-first _ z (ranges-read W A l (accepted-valid W (snapOf W A l) (r .same)) .scopes) h) _ y e
+  names-fit : (m : ℕ) (item : Item) (p : Scope → Bool) (y : Scope) → namesOf (snapOf W A l) m item p ≡ some y → ScopeFits (countsIn l) y
+  unfolding namesOf
+  names-fit m item p y e = each-first _ y (ranges-read W A l (accepted-valid W (snapOf W A l) (r .same)) .scopes) e
+
+  scope-entry-fits : (m : ℕ) (item : Item) (b fresh : Bool) (y : Scope) → scopeEntry (snapOf W A l) m item b fresh ≡ some y → ScopeFits (countsIn l) y
+  unfolding scopeEntry
+  scope-entry-fits m item b fresh y e =
+      some-first _
+      (λ a z h. preferred-has (snapOf W A l) a item (counts b) (namesOf (snapOf W A l) a item (counts b)) 0 (ScopeFits (countsIn l)) fresh z
+      (names-fit a item (isFresh (counts b)) z) (names-fit a item (counts b) z) h)
+      _ y e
 
   entry-below : (o : Option Scope) → ((y : Scope) → o ≡ some y → ScopeFits (countsIn l) y) → Named l (entryName o)
   unfolding entryName
@@ -77,7 +84,7 @@ module _ (W A : List ℕ) (l : Layout) (r : Reads W A l) where
   pub scope-below : (x : FindPathCtx) (item : Item) {a : Answer} → a ≡ findInScope (snapOf W A l) x item → Named l a
   unfolding findInScope
   scope-below x item e =
-      subst (Named l) (sym e) (entry-below (scopeEntry (snapOf W A l) (x .from) item (x .declared)) (scope-entry-fits (x .from) item (x .declared)))
+      subst (Named l) (sym e) (entry-below (scopeEntry (snapOf W A l) (x .from) item (x .declared) (x .fresh)) (scope-entry-fits (x .from) item (x .declared) (x .fresh)))
 
 module _ (s : Snapshot) (x : FindPathCtx) where
   pub scope-out : (item : Item) → mayBeInScope s x ≡ false → nothing ≡ scopeRule s x item
@@ -90,28 +97,24 @@ module _ (s : Snapshot) (x : FindPathCtx) where
   scope-in item e f t = ap₂ (single s x) e f ∙ taken-true _ nothing (mayBeInScope s x) t
 
   -- a prelude's entry
-  module _ (item : Item) (e : Scope) {n k : ℕ} {o : Option Scope} {a b : Bool} (en : n ≡ e .name) (ek : k ≡ nsOf item)
-      (ea : a ≡ sees s (x .from) e) (eo : o ≡ entryNamed s (x .from) k n) (eb : b ≡ sameHere s x item o) where
-    tested : a && b ≡ (sees s (x .from) e && sameHere s x item (entryNamed s (x .from) (nsOf item) (e .name)))
-    tested = cc
-
-    pub entry-taken : a && b ≡ true → Name n ≡ preludeEntry s x item (some e)
+  module _ (item : Item) (e : Scope) {n : ℕ} {a : Bool} (en : n ≡ e .name) (ea : a ≡ isUsable s x item e) where
+    pub entry-taken : a ≡ true → Name n ≡ preludeEntry s x item (some e)
     unfolding preludeEntry
-    entry-taken t = ap Name en ∙ taken-true _ _ _ (sym tested ∙ t)
+    entry-taken t = ap Name en ∙ taken-true _ _ _ (sym ea ∙ t)
 
-    pub entry-left : a && b ≡ false → Nothing ≡ preludeEntry s x item (some e)
+    pub entry-left : a ≡ false → Nothing ≡ preludeEntry s x item (some e)
     unfolding preludeEntry
-    entry-left t = taken-false _ _ _ (sym tested ∙ t)
+    entry-left t = taken-false _ _ _ (sym ea ∙ t)
 
   pub prelude-none : (item : Item) {k : ℕ} → k ≡ mapNo s (x .from) → none ≡ preludeOf s k → Nothing ≡ findInPrelude s x item
   unfolding findInPrelude inPrelude
   prelude-none item e f = ap (inPrelude s x item) (f ∙ ap (preludeOf s) e)
 
   pub prelude-some : (item : Item) (p : Prelude) {k t : ℕ} {o : Option Scope} → k ≡ mapNo s (x .from) → some p ≡ preludeOf s k → t ≡ p .target
-      → o ≡ nameOf s t item → preludeEntry s x item o ≡ findInPrelude s x item
+      → o ≡ preferred (x .fresh) s t item (isUsable s x item) (nameOf s t item) → preludeEntry s x item o ≡ findInPrelude s x item
   unfolding findInPrelude inPrelude
   prelude-some item p e f g h =
-      ap (preludeEntry s x item) (h ∙ ap (λ t. nameOf s t item) g) ∙ ap (inPrelude s x item) (f ∙ ap (preludeOf s) e)
+      ap (preludeEntry s x item) (h ∙ ap (λ t. preferred (x .fresh) s t item (isUsable s x item) (nameOf s t item)) g) ∙ ap (inPrelude s x item) (f ∙ ap (preludeOf s) e)
 
   -- an extern's name
   pub extern-some : (m : ℕ) (e : Extern) {n : ℕ} {o : Bool} (t : Bool) → n ≡ e .name → o ≡ occupied s (x .from) m n → o || x .absolute ≡ t

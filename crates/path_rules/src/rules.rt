@@ -12,12 +12,11 @@ ghost use Rattle.hir_def.specs.Entries.{entryOf};
 ghost use Rattle.hir_def.specs.declared.Entry.the-variants.{At};
 ghost use Rattle.find_path.specs.declared.FindPathCtx.{FindPathCtx};
 ghost use Rattle.find_path.specs.Conditions.{Named};
-ghost use Rattle.find_path.specs.Rules.{prefixPathKind, entryName, single as singleOf, findInScope, mayBeInScope, scopeRule, sameHere, preludeEntry, findInPrelude, preludeRule, externName, rootRule, parentKind, isKwKindRelativeToFrom, keywordOf, moduleRules};
+ghost use Rattle.find_path.specs.Rules.{prefixPathKind, entryName, single as singleOf, findInScope, mayBeInScope, scopeRule, preludeEntry, findInPrelude, preludeRule, externName, rootRule, parentKind, isKwKindRelativeToFrom, keywordOf, moduleRules};
 use crate::choices::choice_new;
 use crate::choices::keyword;
 use crate::choices::nothing;
 use crate::context::PrefixKind;
-use crate::context::sees;
 use crate_graph::extern_of;
 use crate_graph::prelude_of;
 use find_path::Choice;
@@ -26,28 +25,24 @@ use find_path::KwKind;
 use hir_def::Answer;
 use hir_def::Entry;
 use hir_def::Item;
-use hir_def::items::item_of;
-use hir_def::items::ns_of;
-use hir_def::items::same_item;
 use hir_def::modules::crate_root;
 use hir_def::modules::in_block;
 use hir_def::modules::krate;
 use hir_def::modules::map;
 use hir_def::modules::parent;
 use hir_def::modules::root;
-use item_scope::name_of;
-use nameres::entry_named;
 use nameres::occupied;
 use nameres::scope_entry;
+use rule_lookups::Rule;
+use rule_lookups::entry_by;
+use rule_lookups::is_usable;
 use snapshot::ids::Crate;
 use snapshot::ids::ModuleId;
 use snapshot::ids::Name;
 use snapshot::layout::Layout;
 use snapshot::record::extern_name;
 use snapshot::record::prelude_target;
-use snapshot::record::scope_definition;
 use snapshot::record::scope_name;
-use snapshot::record::scope_ns;
 
 /// Path kinds.
 pub struct PathKind(pub usize);
@@ -104,7 +99,7 @@ pub fn find_in_scope(words: &[u32], area: &[u32], l: Layout, x: FindPathCtx, ite
     requires { ⌜ Reads (now words) (now area) l × (x .from < l .modules) ⌝ }
     ensures { λ r. ⌜ (r ≡ findInScope (snapOf (now (words .entry)) (now (area .entry)) l) x item) × Named l r ⌝ }
 {
-    let e = scope_entry(words, area, l, ModuleId(x.from), item, x.declared);
+    let e = scope_entry(words, area, l, ModuleId(x.from), item, x.declared, x.fresh);
     entry_name(words, e)
 }
 
@@ -127,18 +122,6 @@ pub fn scope_rule(words: &[u32], area: &[u32], l: Layout, x: FindPathCtx, item: 
     single(words, area, l, prefix_path_kind(x.prefix), a)
 }
 
-// Whether an entry stands for the item, or there is none.
-fn same_here(words: &[u32], l: Layout, item: Item, e: Entry) -> bool
-    requires { ⌜ wordCount l < 2 ^ 32 ⌝ }
-    ensures { λ r. ⌜ ((A : List ℕ) (x : FindPathCtx) → r ≡ sameHere (snapOf (now (words .entry)) A l) x item (entryOf scopeAt (now (words .entry)) e)) ⌝ }
-{
-    let Entry::At(h) = e else {
-        return true;
-    };
-    let its = item_of(words, l, scope_ns(words, h), scope_definition(words, h));
-    same_item(its, item)
-}
-
 // The name of a prelude's entry, if visible and not another thing's name here.
 fn prelude_entry(
     words: &[u32],
@@ -154,16 +137,15 @@ fn prelude_entry(
     let Entry::At(h) = e else {
         return Answer::Nothing;
     };
-    let seen = sees(words, area, l, x, h);
     let name = scope_name(words, h);
-    let here = entry_named(words, area, l, ModuleId(x.from), ns_of(item), name);
-    if seen & same_here(words, l, item, here) {
+    if is_usable(words, area, l, x, item, h) {
         return Answer::Name(name.0);
     }
     Answer::Nothing
 }
 
-/// The item's first name in the prelude, if visible and not another thing's name here.
+/// The item's first name in the prelude, if visible and not another thing's name here; by options bit 32 the first such name that isn't
+/// deprecated, if there is one.
 pub fn find_in_prelude(words: &[u32], area: &[u32], l: Layout, x: FindPathCtx, item: Item) -> Answer
     requires { ⌜ Reads (now words) (now area) l × (x .from < l .modules) ⌝ }
     ensures { λ r. ⌜ (r ≡ findInPrelude (snapOf (now (words .entry)) (now (area .entry)) l) x item) × Named l r ⌝ }
@@ -172,7 +154,15 @@ pub fn find_in_prelude(words: &[u32], area: &[u32], l: Layout, x: FindPathCtx, i
     let Entry::At(h) = p else {
         return Answer::Nothing;
     };
-    let e = name_of(words, l, prelude_target(words, h), item).entry;
+    let e = entry_by(
+        words,
+        area,
+        l,
+        x,
+        prelude_target(words, h),
+        item,
+        Rule::Prelude,
+    ).entry;
     prelude_entry(words, area, l, x, item, e)
 }
 

@@ -179,7 +179,7 @@ scopeRange x =
     leb (x .ns) 2
     && leb (x .visibility) 3
     && (not (eqb (x .visibility) 0) || eqb (x .number) 0)
-    && leb (x .declared) 1
+    && leb (x .declared) 3
 
 -- the number of a visibility is a crate or a module
 abbrev pub scopeDefined : Counts → Scope → Bool

@@ -31,7 +31,7 @@ fn in_range(words: &[u32], at: usize) -> bool
     (scope_ns(words, at) <= 2)
         & (visibility <= 3)
         & ((visibility != 0) | (number == 0))
-        & (scope_declared(words, at) <= 1)
+        & (scope_declared(words, at) <= 3)
 }
 
 fn defined(words: &[u32], l: Layout, at: usize) -> bool

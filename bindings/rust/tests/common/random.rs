@@ -201,7 +201,11 @@ impl Writer<'_> {
             6 => Visibility::Implicit(self.random.of(&self.modules).id),
             _ => Visibility::Implicit(module),
         };
-        self.words.scope(module, namespace, name, definition, visibility, declared);
+        if self.random.chance(30) {
+            self.words.deprecated_scope(module, namespace, name, definition, visibility, declared);
+        } else {
+            self.words.scope(module, namespace, name, definition, visibility, declared);
+        }
     }
 
     /// A namespace in which the definition may stand.

@@ -1,7 +1,6 @@
 use borrow.Author.Needs.{needs}
 use mathlib.Core.Path.{sym, ap, _∙_}
 use mathlib.Core.Bool.{_||_, not}
-use lib.Dec.{eqb}
 use Rattle.accept.proofs.Laws.{and-no, and-yes}
 use Rattle.item_scope.proofs.is_entry.Statement.{statement}
 use Rattle.item_scope.proofs.is_entry.Tie as tie
@@ -9,17 +8,17 @@ use Rattle.item_scope.proofs.is_entry.Tie as tie
 is-for-requires : tie.Need-is-for-requires
 is-for-requires c κs = search needs
 
-scope-declared-requires : tie.Need-scope-declared-requires
-scope-declared-requires c κs = search needs
+is-declared-requires : tie.Need-is-declared-requires
+is-declared-requires c κs = search needs
 
 returns : tie.Need-returns
 returns c =
     λ A.
     let s = c .before .before .before .before in
-    and-yes (sym (c .before .before .is-for .ensures A) ∙ c .before .if1 .taken) (ap (λ y. eqb y 1 || not (s .args .declared)) (c .scope-declared .ensures))
+    and-yes (sym (c .before .before .is-for .ensures A) ∙ c .before .if1 .taken) (ap (λ y. y || not (s .args .declared)) (c .is-declared .ensures))
 
 returns-2 : tie.Need-returns-2
 returns-2 c = λ A. and-no _ (sym (c .before .is-for .ensures A) ∙ c .if1 .left)
 
 pub is-entry-spec : {M : Type 1} → statement M
-is-entry-spec = tie.close (tie.spec is-for-requires scope-declared-requires returns returns-2)
+is-entry-spec = tie.close (tie.spec is-for-requires is-declared-requires returns returns-2)

@@ -1,23 +1,22 @@
 use borrow.Author.Needs.{needs}
 use Prim.Native.Nat.{ℕ, _+_, _-_, _*_, _≤_}
 use mathlib.Core.Path.{_≡_, ap, _∙_}
-use mathlib.Core.Bool.{_&&_, _||_, not}
+use mathlib.Core.Bool.{_&&_}
 use mathlib.Core.List.{List}
 use native.Mathlib.Omega.{arith}
-use lib.Dec.{eqb}
 use denote.Ref.{now}
 use Rattle.snapshot.specs.Lists.{rows}
 use Rattle.snapshot.specs.Layouts.{scopeBase, snapOf}
 use Rattle.snapshot.specs.Records.{scopeAt}
 use Rattle.snapshot.proofs.Laws.{rows-whole}
 use Rattle.hir_def.specs.Finds.{firstOf, readsOf}
-use Rattle.hir_def.specs.ItemScope.{isFor, namesOf, namesReads}
+use Rattle.hir_def.specs.ItemScope.{counts, isFor, namesOf, namesReads}
 use Rattle.hir_def.proofs.Lookups.{first-hit, first-miss, first-none, reads-hit, reads-miss, reads-none}
 use Rattle.item_scope.proofs.names_of.Statement.{statement}
 use Rattle.item_scope.proofs.names_of.Tie as tie
 
 abbrev Inv-loop : tie.InvT-loop
-Inv-loop words l m item declared base read₀ read = ((A : List ℕ) → namesOf (snapOf words A l) (m .0) item (λ e. eqb (e .declared) 1 || not declared) ≡ firstOf (λ e. isFor (snapOf words A l) (m .0) item e && (eqb (e .declared) 1 || not declared)) (rows (λ i. scopeAt words (scopeBase l + 7 * i)) read (l .scopes - read))) × ((A : List ℕ) → namesReads (snapOf words A l) (m .0) item (λ e. eqb (e .declared) 1 || not declared) ≡ read + readsOf (λ e. isFor (snapOf words A l) (m .0) item e && (eqb (e .declared) 1 || not declared)) (rows (λ i. scopeAt words (scopeBase l + 7 * i)) read (l .scopes - read))) × (read ≤ l .scopes)
+Inv-loop words l m item declared base read₀ read = ((A : List ℕ) → namesOf (snapOf words A l) (m .0) item (counts declared) ≡ firstOf (λ e. isFor (snapOf words A l) (m .0) item e && counts declared e) (rows (λ i. scopeAt words (scopeBase l + 7 * i)) read (l .scopes - read))) × ((A : List ℕ) → namesReads (snapOf words A l) (m .0) item (counts declared) ≡ read + readsOf (λ e. isFor (snapOf words A l) (m .0) item e && counts declared e) (rows (λ i. scopeAt words (scopeBase l + 7 * i)) read (l .scopes - read))) × (read ≤ l .scopes)
 
 abbrev μ-loop : tie.MeasureT-loop
 μ-loop words l m item declared base read₀ read = l .scopes - read

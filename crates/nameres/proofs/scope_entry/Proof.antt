@@ -3,8 +3,6 @@ use Prim.Native.Nat.{_-_, _<_}
 use mathlib.Core.Path.{_≡_, refl, sym, ap, _∙_}
 use denote.Ref.{now}
 use native.Mathlib.Omega.{arith}
-use mathlib.Core.Bool.{_||_, not}
-use lib.Dec.{eqb}
 use Rattle.snapshot.specs.Records.{scopeAt}
 use Rattle.snapshot.specs.Layouts.{snapOf}
 use Rattle.accept.proofs.Trees.{accepted-tree}
@@ -13,22 +11,21 @@ use Rattle.hir_def.proofs.Reading.{length-modules}
 use Rattle.hir_def.proofs.Chains.{block-falls}
 use Rattle.hir_def.proofs.Climbs.{one-more}
 use Rattle.hir_def.proofs.Ancestors.{answer-here, answer-none, answer-on}
-use Rattle.hir_def.specs.ItemScope.{namesOf}
-use Rattle.hir_def.specs.Nameres.{scopeEntry}
+use Rattle.hir_def.specs.Nameres.{entryIn, scopeEntry}
 use Rattle.nameres.proofs.scope_entry.Statement.{statement}
 use Rattle.nameres.proofs.scope_entry.Tie as tie
 
 abbrev Inv-loop : tie.InvT-loop
-Inv-loop words area l item declared-only m₀ m = (scopeEntry (snapOf words area l) m₀ item declared-only ≡ scopeEntry (snapOf words area l) m item declared-only) × (m < l .modules)
+Inv-loop words area l item declared-only fresh m₀ m = (scopeEntry (snapOf words area l) m₀ item declared-only fresh ≡ scopeEntry (snapOf words area l) m item declared-only fresh) × (m < l .modules)
 
 abbrev μ-loop : tie.MeasureT-loop
-μ-loop words area l item declared-only m₀ m = m
+μ-loop words area l item declared-only fresh m₀ m = m
 
 loop-holds : tie.Need-loop-holds Inv-loop μ-loop
 loop-holds c = (refl, c .before .before .pre .1)
 
-names-of-requires : tie.Need-names-of-requires Inv-loop μ-loop
-names-of-requires c κs =
+entry-in-requires : tie.Need-entry-in-requires Inv-loop μ-loop
+entry-in-requires c κs =
     let s = c .before .before .before in
     let a = s .pre .0 .tables .whole in
     let b = s .pre .0 .tables .short in
@@ -42,7 +39,7 @@ unfolding scopeEntry
 returns c =
     let s = c .before .before .before .before .before .before .before in
     let g = c .before .before .before .before .loop in
-    answer-here (snapOf (now (s .args .words)) (now (s .args .area)) (s .args .l)) (block-falls (snapOf (now (s .args .words)) (now (s .args .area)) (s .args .l)) (accepted-tree (now (s .args .words)) (snapOf (now (s .args .words)) (now (s .args .area)) (s .args .l)) (s .pre .0 .same))) (g .m) (rw (length-modules (now (s .args .words)) (now (s .args .area)) (s .args .l)) (g .inv .1)) (λ a. namesOf (snapOf (now (s .args .words)) (now (s .args .area)) (s .args .l)) a (s .args .item) (λ e. eqb (e .declared) 1 || not (s .args .declared-only))) (sym (c .before .before .before .names-of .ensures .0 (now (s .args .area))) ∙ ap (entryOf scopeAt (now (s .args .words))) (c .before .e .given .1)) ∙ sym (g .inv .0)
+    answer-here (snapOf (now (s .args .words)) (now (s .args .area)) (s .args .l)) (block-falls (snapOf (now (s .args .words)) (now (s .args .area)) (s .args .l)) (accepted-tree (now (s .args .words)) (snapOf (now (s .args .words)) (now (s .args .area)) (s .args .l)) (s .pre .0 .same))) (g .m) (rw (length-modules (now (s .args .words)) (now (s .args .area)) (s .args .l)) (g .inv .1)) (entryIn (snapOf (now (s .args .words)) (now (s .args .area)) (s .args .l)) (s .args .item) (s .args .declared-only) (s .args .fresh)) (sym (c .before .before .before .entry-in .ensures .0 (now (s .args .area))) ∙ ap (entryOf scopeAt (now (s .args .words))) (c .before .e .given .1)) ∙ sym (g .inv .0)
 
 enum-told : tie.Need-enum-told Inv-loop μ-loop
 enum-told c = search needs
@@ -55,7 +52,7 @@ unfolding scopeEntry
 returns-2 c =
     let s = c .before .before .before .before .before .before .before .before in
     let g = c .before .before .before .before .before .loop in
-    answer-none (snapOf (now (s .args .words)) (now (s .args .area)) (s .args .l)) (block-falls (snapOf (now (s .args .words)) (now (s .args .area)) (s .args .l)) (accepted-tree (now (s .args .words)) (snapOf (now (s .args .words)) (now (s .args .area)) (s .args .l)) (s .pre .0 .same))) (g .m) (rw (length-modules (now (s .args .words)) (now (s .args .area)) (s .args .l)) (g .inv .1)) (λ a. namesOf (snapOf (now (s .args .words)) (now (s .args .area)) (s .args .l)) a (s .args .item) (λ e. eqb (e .declared) 1 || not (s .args .declared-only))) (sym (c .before .before .before .before .names-of .ensures .0 (now (s .args .area))) ∙ ap (entryOf scopeAt (now (s .args .words))) (c .before .before .enum-told .given .1)) (sym (c .before .block .ensures) ∙ c .if1 .taken) ∙ sym (g .inv .0)
+    answer-none (snapOf (now (s .args .words)) (now (s .args .area)) (s .args .l)) (block-falls (snapOf (now (s .args .words)) (now (s .args .area)) (s .args .l)) (accepted-tree (now (s .args .words)) (snapOf (now (s .args .words)) (now (s .args .area)) (s .args .l)) (s .pre .0 .same))) (g .m) (rw (length-modules (now (s .args .words)) (now (s .args .area)) (s .args .l)) (g .inv .1)) (entryIn (snapOf (now (s .args .words)) (now (s .args .area)) (s .args .l)) (s .args .item) (s .args .declared-only) (s .args .fresh)) (sym (c .before .before .before .before .entry-in .ensures .0 (now (s .args .area))) ∙ ap (entryOf scopeAt (now (s .args .words))) (c .before .before .enum-told .given .1)) (sym (c .before .block .ensures) ∙ c .if1 .taken) ∙ sym (g .inv .0)
 
 sub-m : tie.Need-sub-m Inv-loop μ-loop
 sub-m c = let h = c .if1 .left in omega arith
@@ -73,7 +70,7 @@ loop-again c =
     let g = c .before .before .before .before .before .loop in
     let d = (block-falls (snapOf (now (s .args .words)) (now (s .args .area)) (s .args .l)) (accepted-tree (now (s .args .words)) (snapOf (now (s .args .words)) (now (s .args .area)) (s .args .l)) (s .pre .0 .same))) (g .m) (c .before .block .result - 1) (rw (length-modules (now (s .args .words)) (now (s .args .area)) (s .args .l)) (g .inv .1)) (sym (c .before .block .ensures) ∙ one-more _ (c .if1 .left)) in
     let k = g .inv .1 in
-    (g .inv .0 ∙ answer-on (snapOf (now (s .args .words)) (now (s .args .area)) (s .args .l)) (block-falls (snapOf (now (s .args .words)) (now (s .args .area)) (s .args .l)) (accepted-tree (now (s .args .words)) (snapOf (now (s .args .words)) (now (s .args .area)) (s .args .l)) (s .pre .0 .same))) (g .m) (rw (length-modules (now (s .args .words)) (now (s .args .area)) (s .args .l)) (g .inv .1)) (λ a. namesOf (snapOf (now (s .args .words)) (now (s .args .area)) (s .args .l)) a (s .args .item) (λ e. eqb (e .declared) 1 || not (s .args .declared-only))) (sym (c .before .before .before .before .names-of .ensures .0 (now (s .args .area))) ∙ ap (entryOf scopeAt (now (s .args .words))) (c .before .before .enum-told .given .1)) (c .before .block .result - 1) (sym (c .before .block .ensures) ∙ one-more _ (c .if1 .left)), omega arith)
+    (g .inv .0 ∙ answer-on (snapOf (now (s .args .words)) (now (s .args .area)) (s .args .l)) (block-falls (snapOf (now (s .args .words)) (now (s .args .area)) (s .args .l)) (accepted-tree (now (s .args .words)) (snapOf (now (s .args .words)) (now (s .args .area)) (s .args .l)) (s .pre .0 .same))) (g .m) (rw (length-modules (now (s .args .words)) (now (s .args .area)) (s .args .l)) (g .inv .1)) (entryIn (snapOf (now (s .args .words)) (now (s .args .area)) (s .args .l)) (s .args .item) (s .args .declared-only) (s .args .fresh)) (sym (c .before .before .before .before .entry-in .ensures .0 (now (s .args .area))) ∙ ap (entryOf scopeAt (now (s .args .words))) (c .before .before .enum-told .given .1)) (c .before .block .result - 1) (sym (c .before .block .ensures) ∙ one-more _ (c .if1 .left)), omega arith)
 
 pub scope-entry-spec : {M : Type 1} → statement M
 scope-entry-spec =
@@ -82,7 +79,7 @@ scope-entry-spec =
     Inv-loop
     μ-loop
     loop-holds
-    names-of-requires
+    entry-in-requires
     enum-known-e
     returns
     enum-told

@@ -4,7 +4,8 @@ use denote.Ref.{now}
 use Rattle.snapshot.specs.Records.{preludeAt, scopeAt}
 use Rattle.snapshot.specs.Layouts.{snapOf}
 use Rattle.hir_def.specs.Entries.{entryOf}
-use Rattle.hir_def.proofs.Fits.{name-fits}
+use Rattle.hir_def.proofs.Fits.{preferred-fits}
+use Rattle.rule_lookups.specs.Tests.{testOf}
 use Rattle.path_rules.proofs.RuleLaws.{prelude-none, prelude-some}
 use Rattle.path_rules.proofs.rules.find_in_prelude.Statement.{statement}
 use Rattle.path_rules.proofs.rules.find_in_prelude.Tie as tie
@@ -31,17 +32,18 @@ returns c =
 prelude-target-requires : tie.Need-prelude-target-requires
 prelude-target-requires c κs = search needs
 
-name-of-requires : tie.Need-name-of-requires
-name-of-requires c κs = search needs
+entry-by-requires : tie.Need-entry-by-requires
+entry-by-requires c κs = search needs
 
 prelude-entry-requires : tie.Need-prelude-entry-requires
 prelude-entry-requires c κs =
     let s = c .before .before .before .before .before .before .before .before .before in
     let W = now (s .args .words) in
     let A = now (s .args .area) in
-    (s .pre .0, s .pre .1, λ h e. name-fits W A (s .args .l) (s .pre .0) (c .before .prelude-target .result .0) h (s .args .item) (sym (ap (entryOf scopeAt W) e) ∙ c .name-of .ensures .0 A))
+    (s .pre .0, s .pre .1, λ h e. preferred-fits W A (s .args .l) (s .pre .0) (s .args .x .fresh) (c .before .prelude-target .result .0) h (s .args .item) _ (sym (ap (entryOf scopeAt W) e) ∙ c .entry-by .ensures .0))
 
 returns-2 : tie.Need-returns-2
+unfolding testOf
 returns-2 c =
     let s = c .before .before .before .before .before .before .before .before .before .before in
     let n = snapOf (now (s .args .words)) (now (s .args .area)) (s .args .l) in
@@ -49,7 +51,7 @@ returns-2 c =
     let A = now (s .args .area) in
     let g = c .before .before .before .before .p .given in
     let e = sym (ap (entryOf preludeAt W) (g .1)) ∙ c .before .before .before .before .before .before .prelude-of .ensures A in
-    let k = prelude-some n (s .args .x) (s .args .item) (preludeAt W (g .0 .0)) (c .before .before .before .before .before .before .before .map .ensures) e (c .before .before .prelude-target .ensures) (c .before .name-of .ensures .0 A) in
+    let k = prelude-some n (s .args .x) (s .args .item) (preludeAt W (g .0 .0)) (c .before .before .before .before .before .before .before .map .ensures) e (c .before .before .prelude-target .ensures) (c .before .entry-by .ensures .0) in
     (c .prelude-entry .ensures .0 ∙ k, c .prelude-entry .ensures .1)
 
 pub find-in-prelude-spec : {M : Type 1} → statement M
@@ -62,6 +64,6 @@ find-in-prelude-spec =
     enum-told
     returns
     prelude-target-requires
-    name-of-requires
+    entry-by-requires
     prelude-entry-requires
     returns-2)

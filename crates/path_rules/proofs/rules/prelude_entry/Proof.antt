@@ -22,58 +22,35 @@ returns c =
     let n = snapOf (now (s .args .words)) (now (s .args .area)) (s .args .l) in
     (sym (ap (λ e. preludeEntry n (s .args .x) (s .args .item) (entryOf scopeAt (now (s .args .words)) e)) (c .enum-told .given .1)), tt)
 
-sees-requires : tie.Need-sees-requires
-sees-requires c κs =
-    let s = c .before .before .before .before .before in
-    (s .pre .0, s .pre .1, s .pre .2 _ (c .before .e .given .1) .inside)
-
 scope-name-requires : tie.Need-scope-name-requires
 scope-name-requires c κs = search needs
 
-ns-of-requires : tie.Need-ns-of-requires
-ns-of-requires c κs = search needs
-
-entry-named-requires : tie.Need-entry-named-requires
-entry-named-requires c κs = search needs
-
-same-here-requires : tie.Need-same-here-requires
-same-here-requires c κs = search needs
+is-usable-requires : tie.Need-is-usable-requires
+is-usable-requires c κs =
+    let s = c .before .before .before .before .before .before in
+    (s .pre .0, s .pre .1, s .pre .2 _ (c .before .before .e .given .1) .inside)
 
 returns-2 : tie.Need-returns-2
 returns-2 c =
-    let s = c .before .before .before .before .before .before .before .before .before .before .before in
+    let s = c .before .before .before .before .before .before .before .before in
     let n = snapOf (now (s .args .words)) (now (s .args .area)) (s .args .l) in
     let W = now (s .args .words) in
-    let g = c .before .before .before .before .before .before .before .e .given in
-    let n₀ = c .before .before .before .before .scope-name .ensures in
-    let e = entry-taken n (s .args .x) (s .args .item) (scopeAt W (g .0 .0)) n₀ (c .before .before .before .ns-of .ensures) (c .before .before .before .before .before .sees .ensures)
-    (c .before .before .entry-named .ensures) (c .before .same-here .ensures (now (s .args .area)) (s .args .x)) (c .if1 .taken) in
-    let k = e ∙ sym (ap (λ e. preludeEntry n (s .args .x) (s .args .item) (entryOf scopeAt W e)) (g .1)) in
-    (k, rw n₀ (s .pre .2 _ (g .1) .name))
+    let g = c .before .before .before .before .e .given in
+    let n₀ = c .before .before .scope-name .ensures in
+    let e = entry-taken n (s .args .x) (s .args .item) (scopeAt W (g .0 .0)) n₀ (c .before .is-usable .ensures) (c .if1 .taken) in
+    (e ∙ sym (ap (λ e. preludeEntry n (s .args .x) (s .args .item) (entryOf scopeAt W e)) (g .1)), rw n₀ (s .pre .2 _ (g .1) .name))
 
 returns-3 : tie.Need-returns-3
 returns-3 c =
-    let s = c .before .before .before .before .before .before .before .before .before .before .before in
+    let s = c .before .before .before .before .before .before .before .before in
     let n = snapOf (now (s .args .words)) (now (s .args .area)) (s .args .l) in
     let W = now (s .args .words) in
-    let g = c .before .before .before .before .before .before .before .e .given in
-    let n₀ = c .before .before .before .before .scope-name .ensures in
-    let e = entry-left n (s .args .x) (s .args .item) (scopeAt W (g .0 .0)) n₀ (c .before .before .before .ns-of .ensures) (c .before .before .before .before .before .sees .ensures)
-    (c .before .before .entry-named .ensures) (c .before .same-here .ensures (now (s .args .area)) (s .args .x)) (c .if1 .left) in
-    let k = e ∙ sym (ap (λ e. preludeEntry n (s .args .x) (s .args .item) (entryOf scopeAt W e)) (g .1)) in
-    (k, tt)
+    let g = c .before .before .before .before .e .given in
+    let n₀ = c .before .before .scope-name .ensures in
+    let e = entry-left n (s .args .x) (s .args .item) (scopeAt W (g .0 .0)) n₀ (c .before .is-usable .ensures) (c .if1 .left) in
+    (e ∙ sym (ap (λ e. preludeEntry n (s .args .x) (s .args .item) (entryOf scopeAt W e)) (g .1)), tt)
 
 pub prelude-entry-spec : {M : Type 1} → statement M
 prelude-entry-spec =
     tie.close
-    (tie.spec
-    enum-known-e
-    enum-told
-    returns
-    sees-requires
-    scope-name-requires
-    ns-of-requires
-    entry-named-requires
-    same-here-requires
-    returns-2
-    returns-3)
+    (tie.spec enum-known-e enum-told returns scope-name-requires is-usable-requires returns-2 returns-3)

@@ -6,8 +6,8 @@ use Rattle.snapshot.specs.Layouts.{snapOf}
 use Rattle.hir_def.specs.Items.{itemOf, sameItem}
 use Rattle.hir_def.specs.Entries.{entryOf}
 use Rattle.find_path.specs.Rules.{sameHere}
-use Rattle.path_rules.proofs.rules.same_here.Statement.{statement}
-use Rattle.path_rules.proofs.rules.same_here.Tie as tie
+use Rattle.rule_lookups.proofs.same_here.Statement.{statement}
+use Rattle.rule_lookups.proofs.same_here.Tie as tie
 
 enum-known-e : tie.Need-enum-known-e
 enum-known-e c = search needs
