@@ -7,3 +7,4 @@ pub mod Reading
 pub mod Climbs
 pub mod Ancestors
 pub mod Fresh
+pub mod Plain
