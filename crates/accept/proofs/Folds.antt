@@ -45,7 +45,7 @@ pub record Going (W A : List ℕ) (at last : ℕ) (l : Layout) : Type 0 where
   pub enough : length W ≤ fuel + at
   pub same : verdict W ≡ records fuel W at last (snapWith W A l maps)
 
-stands-start : (W A : List ℕ) → ((i : ℕ) → 4160 ≤ i → i < 5312 → getD A i 0 ≡ 0) → Stands W A 0 0 noRecords []
+stands-start : (W A : List ℕ) → ((i : ℕ) → 4160 ≤ i → i < 6336 → getD A i 0 ≡ 0) → Stands W A 0 0 noRecords []
 unfolding rows
 stands-start W A z =
     record {
@@ -72,14 +72,14 @@ stands-start W A z =
       rising = λ i j h k. absurd (omega arith);
       inside = λ m h. absurd (omega arith);
       own = λ c h. absurd (omega arith);
-      index = indexes-none W A noRecords refl refl refl z;
+      index = indexes-none W A z;
     }
 
-going-none : (W A : List ℕ) → length W ≤ 16384 → ((i : ℕ) → 4160 ≤ i → i < 5312 → getD A i 0 ≡ 0) → Going W A 0 0 noRecords
+going-none : (W A : List ℕ) → length W ≤ 16384 → ((i : ℕ) → 4160 ≤ i → i < 6336 → getD A i 0 ≡ 0) → Going W A 0 0 noRecords
 unfolding verdict rows
 going-none W A h z = record { maps = []; stands = stands-start W A z; fuel = length W; enough = omega arith; same = rw (verdict, le-leb _ _ h) }
 
-pub going-start : (W A : List ℕ) {l : Layout} → length W ≤ 16384 → ((i : ℕ) → 4160 ≤ i → i < 5312 → getD A i 0 ≡ 0) → l ≡ noRecords → Going W A 0 0 l
+pub going-start : (W A : List ℕ) {l : Layout} → length W ≤ 16384 → ((i : ℕ) → 4160 ≤ i → i < 6336 → getD A i 0 ≡ 0) → l ≡ noRecords → Going W A 0 0 l
 going-start W A h z e = subst (λ l. Going W A 0 0 l) (sym e) (going-none W A h z)
 
 pub going-here : (W A : List ℕ) (at last : ℕ) (l : Layout) → Going W A at last l → at < length W → length W ≤ 16384 → 16384 ≤ length A → Here W A l at

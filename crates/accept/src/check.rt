@@ -27,7 +27,7 @@ fn read_records(words: &[u32], area: &mut [u32]) -> Checked
     requires { ⌜ (length (now words) ≤ 16384) × (16384 ≤ length (now area)) ⌝ }
     ensures { λ r. ⌜ Ended (now (words .entry)) (now (area .exit)) r ⌝ }
 {
-    clear(area, Chains::HEADS, Chains::HEADS_END);
+    clear(area, Chains::HEADS, Chains::MARKS_END);
     let mut at = 0;
     let mut last = 0;
     let mut l = Layout::new();

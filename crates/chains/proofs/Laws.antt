@@ -3,19 +3,20 @@ use Prim.Native.Nat.{ℕ, zero, suc, _+_, _-_, _*_, _%_, _≤_, _<_}
 use mathlib.Core.Path.{_≡_, refl, sym, _∙_, ap, ap₂}
 use mathlib.Core.Logic.{_≢_}
 use mathlib.Core.List.{List, [], _∷_, _++_}
-use mathlib.Core.Bool.{Bool, true, false, _&&_, _||_, false≢true}
+use mathlib.Core.Bool.{Bool, true, false, _&&_, _||_, not, false≢true}
 use native.Mathlib.Omega.{arith}
+use native.Mathlib.Numerals.{add-one}
 use native.Mathlib.Nat.{add-zero, zero-add}
 use lib.Dec.{eqb, leb}
 use lib.ListN.{length, getD, set, length-set}
 use lib.Seq.{getD-set-same, getD-set-other}
 use borrow.Author.Count.{below-more}
-use borrow.Author.Tests.{eqb-true, eqb-false, leb-true, leb-false}
+use borrow.Author.Tests.{eqb-true, eqb-false, eq-eqb, ne-eqb, leb-true, leb-false}
 use Rattle.snapshot.specs.Lists.{rows, any}
 use Rattle.snapshot.specs.Words.{payOf, wordsOf}
 use Rattle.snapshot.specs.Records.{nameAt}
-use Rattle.snapshot.proofs.Laws.{rows-next, rows-none}
-use Rattle.chains.specs.Chains.{mixed, keys, nameKey, Last, Chained, linked}
+use Rattle.snapshot.proofs.Laws.{rows-next, rows-none, rows-ext}
+use Rattle.chains.specs.Chains.{mixed, keys, nameKey, slotOf, Marked, Last, Chained, linked}
 
 or-none : (a : Bool) → (a || false) ≡ a
 or-none true = refl
@@ -150,6 +151,45 @@ any-last p f zero h = absurd (omega arith)
 any-last p f (suc n) h =
     let e : n ≡ suc n - 1 = omega arith in
     any-more p f 0 n ∙ rw zero-add (ap (λ m. any p (rows f 0 m) || p (f m)) e)
+
+-- marks
+
+pub marked-none : (A : List ℕ) (marks : ℕ) (key : ℕ → ℕ) → ((m : ℕ) → m < 512 → getD A (marks + m) 0 ≡ 0) → Marked A marks key 0
+unfolding any rows
+marked-none A marks key z = record { same = λ m h. ap (λ x. not (eqb x 0)) (z m h) }
+
+pub marked-kept : (A B : List ℕ) (marks : ℕ) (g h : ℕ → ℕ) (n : ℕ) → Marked A marks g n → ((m : ℕ) → m < 512 → getD B (marks + m) 0 ≡ getD A (marks + m) 0)
+    → ((i : ℕ) → i < n → h i ≡ g i) → Marked B marks h n
+marked-kept A B marks g h n c p q =
+    record { same = λ m k. ap (λ x. not (eqb x 0)) (p m k) ∙ c .same m k ∙ ap (any (eqb m)) (rows-ext g h n (λ i r. sym (q i r))) }
+
+any-next : {X : Type 0} (p : X → Bool) (f : ℕ → X) (n : ℕ) → any p (rows f 0 (n + 1)) ≡ (any p (rows f 0 n) || p (f n))
+any-next p f n = rw add-one (any-more p f 0 n ∙ rw zero-add)
+
+-- one record more
+pub marked-more : (A : List ℕ) (marks : ℕ) (key : ℕ → ℕ) (n s : ℕ) → Marked A marks key n → marks + s < length A → key n ≡ s
+    → Marked (set A (marks + s) 1) marks key (n + 1)
+marked-more A marks key n s c fits e = record { same = λ m k. by m k (eqb m s) refl }
+  where
+    by : (m : ℕ) → m < 512 → (t : Bool) → eqb m s ≡ t → not (eqb (getD (set A (marks + s) 1) (marks + m) 0) 0) ≡ any (eqb m) (rows key 0 (n + 1))
+    by m k true q =
+        let r : m ≡ s = eqb-true m s q in
+        ap (λ x. not (eqb (getD (set A (marks + s) 1) (marks + x) 0) 0)) r ∙ ap (λ x. not (eqb x 0)) (getD-set-same A (marks + s) 1 0 fits)
+        ∙ sym (any-next (eqb m) key n ∙ ap (λ x. any (eqb m) (rows key 0 n) || x) (ap (eqb m) e ∙ q) ∙ or-true (any (eqb m) (rows key 0 n)))
+    by m k false q =
+        let r : (m ≡ s → ⊥) = eqb-false m s q in
+        ap (λ x. not (eqb x 0)) (getD-set-other A (marks + s) (marks + m) 1 0 (λ x. r (omega arith))) ∙ c .same m k
+        ∙ sym (any-next (eqb m) key n ∙ ap (λ x. any (eqb m) (rows key 0 n) || x) (ap (eqb m) e ∙ q) ∙ or-none (any (eqb m) (rows key 0 n)))
+
+-- the module of a definition, by its kind
+module _ (W : List ℕ) (a : ℕ) {k : ℕ} (e : k ≡ payOf (getD W a 0)) where
+  pub slot-none : (k ≡ 1 → ⊥) → 512 ≡ slotOf W a
+  unfolding slotOf
+  slot-none h = rw (slotOf, ← e, ne-eqb _ _ h)
+
+  pub slot-module : {f : ℕ} → k ≡ 1 → f ≡ getD W (a + 1) 0 → f ≡ slotOf W a
+  unfolding slotOf
+  slot-module h g = rw (slotOf, ← e, eq-eqb _ _ h) g
 
 -- no row from c on passes
 any-gap : {X : Type 0} (p : X → Bool) (f : ℕ → X) (c n : ℕ) → c ≤ n → ((j : ℕ) → c ≤ j → j < n → p (f j) ≡ false) → any p (rows f 0 n) ≡ any p (rows f 0 c)

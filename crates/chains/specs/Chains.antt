@@ -2,7 +2,10 @@
 use Prim.Native.Nat.{ℕ, _+_, _-_, _*_, _%_, _≤_, _<_}
 use mathlib.Core.Path.{_≡_}
 use mathlib.Core.List.{List, [], _∷_}
+use mathlib.Core.Bool.{Bool, true, false, not}
+use lib.Dec.{eqb}
 use lib.ListN.{getD, set}
+use Rattle.snapshot.specs.Lists.{rows, any}
 use Rattle.snapshot.specs.Words.{payOf}
 use Rattle.snapshot.specs.Records.{Name}
 
@@ -21,6 +24,14 @@ nameKey x = mixed (x .bytes) (x .text) % keys
 -- of the record with its head at a place: its owner, its first field and the last one that counts
 abbrev pub recordKey : List ℕ → ℕ → ℕ → ℕ
 recordKey W fields a = (payOf (getD W a 0) * 37 + getD W (a + 1) 0 * 5 + getD W (a + fields) 0) % keys
+
+-- of the definition with its head at a place: its module, or 512 for another kind
+unfoldable pub slotOf : List ℕ → ℕ → ℕ
+slotOf W a = elim (eqb (payOf (getD W a 0)) 1) [ true ↦ getD W (a + 1) 0 | false ↦ 512 ]
+
+-- each module has a word that is not 0 where one of the first n records is its
+pub record Marked (A : List ℕ) (marks : ℕ) (key : ℕ → ℕ) (n : ℕ) : Type 0 where
+  pub same : (m : ℕ) → m < 512 → not (eqb (getD A (marks + m) 0) 0) ≡ any (eqb m) (rows key 0 n)
 
 -- c is one more than the last number below n with the key b, or 0 where there is none
 pub record Last (key : ℕ → ℕ) (b n c : ℕ) : Type 0 where

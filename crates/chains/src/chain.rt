@@ -4,13 +4,14 @@ ghost use Prim.Native.Nat.{ℕ, _+_, _^_, _≤_, _<_};
 ghost use lib.ListN.{length, getD};
 ghost use Rattle.chains.specs.Chains.{linked};
 
-/// The first word of the heads, a word a key, and of the links, a word a number, of each kind; the first word past the heads.
+/// The first word of the heads, a word a key, of the marks, a word a module, and of the links, a word a number. What lies before the end of
+/// the marks is cleared at first; the word there is marked for definitions of no module.
 pub struct Chains(pub usize);
 
 impl Chains {
     pub const HEADS: usize = 4160;
 
-    pub const HEADS_END: usize = 5312;
+    pub const MARKS_END: usize = 6336;
 
     pub const NAME_HEADS: usize = 4160;
 
@@ -18,11 +19,15 @@ impl Chains {
 
     pub const EXTERN_HEADS: usize = 4928;
 
-    pub const NAME_LINKS: usize = 6336;
+    pub const CHILD_MARKS: usize = 5312;
 
-    pub const SCOPE_LINKS: usize = 8384;
+    pub const MODULE_MARKS: usize = 5824;
 
-    pub const EXTERN_LINKS: usize = 10728;
+    pub const NAME_LINKS: usize = 6344;
+
+    pub const SCOPE_LINKS: usize = 8392;
+
+    pub const EXTERN_LINKS: usize = 10736;
 }
 
 /// Clears the words from a place to another.

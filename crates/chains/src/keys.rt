@@ -4,7 +4,7 @@ ghost use Prim.Native.Nat.{ℕ, _+_, _^_, _<_};
 ghost use lib.ListN.{getD};
 ghost use Rattle.snapshot.specs.Lists.{rows};
 ghost use Rattle.snapshot.specs.Records.{nameAt};
-ghost use Rattle.chains.specs.Chains.{mixed, nameKey, recordKey};
+ghost use Rattle.chains.specs.Chains.{mixed, nameKey, recordKey, slotOf};
 use snapshot::kind::text_words;
 use snapshot::words::field;
 use snapshot::words::payload;
@@ -36,4 +36,14 @@ pub fn record_key(words: &[u32], at: usize, fields: usize) -> usize
     ensures { λ r. ⌜ r ≡ recordKey (now (words .entry)) fields at ⌝ }
 {
     (payload(words, at) * 37 + field(words, at, 1) * 5 + field(words, at, fields)) % 383
+}
+
+/// The module of the definition with its head at a place, or 512 for a definition of another kind.
+pub fn module_slot(words: &[u32], at: usize) -> usize
+    ensures { λ r. ⌜ r ≡ slotOf (now (words .entry)) at ⌝ }
+{
+    if payload(words, at) != 1 {
+        return 512;
+    }
+    field(words, at, 1)
 }

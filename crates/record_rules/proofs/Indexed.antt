@@ -1,4 +1,4 @@
--- The chains of names, scopes and externs along the steps.
+-- The chains and marks along the steps.
 use Prim.Native.Nat.{ℕ, _+_, _-_, _*_, _%_, _≤_, _<_}
 use mathlib.Core.Path.{_≡_, refl, sym, _∙_, ap, subst}
 use mathlib.Core.Logic.{_≢_}
@@ -12,12 +12,12 @@ use borrow.Author.Tests.{eqb-true}
 use Rattle.snapshot.specs.Lists.{any, eqList}
 use Rattle.snapshot.specs.Words.{payOf}
 use Rattle.snapshot.specs.Records.{Name, nameAt}
-use Rattle.snapshot.specs.Layouts.{scopeBase, externBase, nameHead, namesOf}
+use Rattle.snapshot.specs.Layouts.{childBase, definitionBase, scopeBase, externBase, noRecords, nameHead, namesOf}
 use Rattle.snapshot.specs.declared.layout.Layout.{Layout}
-use Rattle.chains.specs.Chains.{mixed, keys, nameKey, recordKey, Last, Chained, linked}
-use Rattle.chains.proofs.Laws.{chained-kept, chained-none, chained-linked, linked-other, first-of, next-of, Walking, walk-start, walk-hit, walk-miss, walk-end}
+use Rattle.chains.specs.Chains.{mixed, keys, nameKey, recordKey, slotOf, Marked, Last, Chained, linked}
+use Rattle.chains.proofs.Laws.{marked-none, marked-kept, chained-kept, chained-none, chained-linked, linked-other, first-of, next-of, Walking, walk-start, walk-hit, walk-miss, walk-end}
 use Rattle.record_rules.specs.Tests.{sameName}
-use Rattle.record_rules.specs.Stands.{Indexes}
+use Rattle.record_rules.specs.Stands.{Upto, Indexes}
 use Rattle.record_rules.proofs.Judged.{and-left, and-right}
 
 -- the words of a table, from one place to another, are kept
@@ -41,78 +41,132 @@ pub key-small : (n : ℕ) {key : ℕ} → key ≡ n % keys → key < keys
 key-small n e = omega arith
 
 -- before the first record
-pub indexes-none : (W A : List ℕ) (l : Layout) → l .names ≡ 0 → l .scopes ≡ 0 → l .externs ≡ 0 → ((i : ℕ) → 4160 ≤ i → i < 5312 → getD A i 0 ≡ 0)
-    → Indexes W A l
-indexes-none W A l en es ee z =
+pub indexes-none : (W A : List ℕ) → ((i : ℕ) → 4160 ≤ i → i < 6336 → getD A i 0 ≡ 0) → Indexes W A noRecords
+indexes-none W A z =
     record {
-      names = rw en (chained-none A 4160 6336 _ (λ b h. z _ (omega arith) (omega arith)));
-      scopes = rw es (chained-none A 4544 8384 _ (λ b h. z _ (omega arith) (omega arith)));
-      externs = rw ee (chained-none A 4928 10728 _ (λ b h. z _ (omega arith) (omega arith)));
+      names = chained-none A 4160 6344 _ (λ b h. z _ (omega arith) (omega arith));
+      children = marked-none A 5312 _ (λ b h. z _ (omega arith) (omega arith));
+      definitions = marked-none A 5824 _ (λ b h. z _ (omega arith) (omega arith));
+      scopes = chained-none A 4544 8392 _ (λ b h. z _ (omega arith) (omega arith));
+      externs = chained-none A 4928 10736 _ (λ b h. z _ (omega arith) (omega arith));
     }
 
--- a record of another kind: m has the same records of the kinds in chains, at the same places
-pub indexes-kept : (W A B : List ℕ) (l m : Layout) → Indexes W A l → l .names ≤ 2048 → Kept A B 0 2048 → Above A B
-    → m .names ≡ l .names → m .scopes ≡ l .scopes → m .externs ≡ l .externs
-    → (0 < l .scopes → scopeBase m ≡ scopeBase l) → (0 < l .externs → externBase m ≡ externBase l) → Indexes W B m
-indexes-kept W A B l m ix few heads above en es ee bs be =
+-- m has the records of l of the kinds that are indexed, at the same places
+pub record SameRuns (l m : Layout) : Type 0 where
+  pub names : m .names ≡ l .names
+  pub children : m .children ≡ l .children
+  pub definitions : m .definitions ≡ l .definitions
+  pub scopes : m .scopes ≡ l .scopes
+  pub externs : m .externs ≡ l .externs
+  pub child : 0 < l .children → childBase m ≡ childBase l
+  pub definition : 0 < l .definitions → definitionBase m ≡ definitionBase l
+  pub scope : 0 < l .scopes → scopeBase m ≡ scopeBase l
+  pub extern : 0 < l .externs → externBase m ≡ externBase l
+
+-- a record of another kind
+pub indexes-kept : (W A B : List ℕ) (l m : Layout) → Indexes W A l → l .names ≤ 2048 → Kept A B 0 2048 → Above A B → SameRuns l m → Indexes W B m
+indexes-kept W A B l m ix few heads above s =
     record {
       names =
-          subst (λ k. Chained B 4160 6336 (λ i. nameKey (nameAt W (nameHead B i))) k) (sym en)
-          (chained-kept A B 4160 6336 _ _ (l .names) (ix .names) (λ b h. above _ (omega arith)) (λ i h. above _ (omega arith))
+          subst (λ k. Chained B 4160 6344 (λ i. nameKey (nameAt W (nameHead B i))) k) (sym (s .names))
+          (chained-kept A B 4160 6344 _ _ (l .names) (ix .names) (λ b h. above _ (omega arith)) (λ i h. above _ (omega arith))
           (λ i h. ap (λ x. nameKey (nameAt W x)) (heads i (omega arith) (omega arith))));
+      children =
+          subst (λ k. Marked B 5312 (λ j. getD W (childBase m + 2 * j + 1) 0) k) (sym (s .children))
+          (marked-kept A B 5312 _ _ (l .children) (ix .children) (λ b h. above _ (omega arith)) (λ i h. ap (λ x. getD W (x + 2 * i + 1) 0) (s .child (omega arith))));
+      definitions =
+          subst (λ k. Marked B 5824 (λ j. slotOf W (definitionBase m + 3 * j)) k) (sym (s .definitions))
+          (marked-kept A B 5824 _ _ (l .definitions) (ix .definitions) (λ b h. above _ (omega arith)) (λ i h. ap (λ x. slotOf W (x + 3 * i)) (s .definition (omega arith))));
       scopes =
-          subst (λ k. Chained B 4544 8384 (λ i. recordKey W 2 (scopeBase m + 7 * i)) k) (sym es)
-          (chained-kept A B 4544 8384 _ _ (l .scopes) (ix .scopes) (λ b h. above _ (omega arith)) (λ i h. above _ (omega arith))
-          (λ i h. ap (λ x. recordKey W 2 (x + 7 * i)) (bs (omega arith))));
+          subst (λ k. Chained B 4544 8392 (λ i. recordKey W 2 (scopeBase m + 7 * i)) k) (sym (s .scopes))
+          (chained-kept A B 4544 8392 _ _ (l .scopes) (ix .scopes) (λ b h. above _ (omega arith)) (λ i h. above _ (omega arith))
+          (λ i h. ap (λ x. recordKey W 2 (x + 7 * i)) (s .scope (omega arith))));
       externs =
-          subst (λ k. Chained B 4928 10728 (λ i. recordKey W 1 (externBase m + 3 * i)) k) (sym ee)
-          (chained-kept A B 4928 10728 _ _ (l .externs) (ix .externs) (λ b h. above _ (omega arith)) (λ i h. above _ (omega arith))
-          (λ i h. ap (λ x. recordKey W 1 (x + 3 * i)) (be (omega arith))));
+          subst (λ k. Chained B 4928 10736 (λ i. recordKey W 1 (externBase m + 3 * i)) k) (sym (s .externs))
+          (chained-kept A B 4928 10736 _ _ (l .externs) (ix .externs) (λ b h. above _ (omega arith)) (λ i h. above _ (omega arith))
+          (λ i h. ap (λ x. recordKey W 1 (x + 3 * i)) (s .extern (omega arith))));
     }
 
--- a record of a kind before scopes
-pub indexes-early : (W A B : List ℕ) (l m : Layout) → Indexes W A l → l .names ≤ 2048 → Kept A B 0 2048 → Above A B
-    → m .names ≡ l .names → m .scopes ≡ l .scopes → m .externs ≡ l .externs → l .scopes ≡ 0 → l .externs ≡ 0 → Indexes W B m
-indexes-early W A B l m ix few heads above en es ee zs ze =
-    indexes-kept W A B l m ix few heads above en es ee (λ h. absurd (omega arith)) (λ h. absurd (omega arith))
+-- before the kinds that stand after modules
+pub record Early (k : ℕ) (l : Layout) : Type 0 where
+  pub children : l .children ≡ 0
+  pub definitions : l .definitions ≡ 0
+  pub scopes : l .scopes ≡ 0
+  pub externs : l .externs ≡ 0
+
+pub early : (k : ℕ) (l : Layout) → Upto k l → k < 6 → Early k l
+early k l u h =
+    record { children = u .children h; definitions = u .definitions (omega arith); scopes = u .scopes (omega arith); externs = u .externs (omega arith) }
+
+-- a record of a kind before children
+pub indexes-early : (W A B : List ℕ) (k : ℕ) (l m : Layout) → Indexes W A l → l .names ≤ 2048 → Kept A B 0 2048 → Above A B
+    → m .names ≡ l .names → m .children ≡ l .children → m .definitions ≡ l .definitions → m .scopes ≡ l .scopes → m .externs ≡ l .externs → Upto k l → k < 6
+    → Indexes W B m
+indexes-early W A B k l m ix few heads above en ec ed es ee u h =
+    let z = early k l u h in
+    let zc = z .children in
+    let zd = z .definitions in
+    let zs = z .scopes in
+    let ze = z .externs in
+    indexes-kept W A B l m ix few heads above
+    (record {
+      names = en;
+      children = ec;
+      definitions = ed;
+      scopes = es;
+      externs = ee;
+      child = λ p. absurd (omega arith);
+      definition = λ p. absurd (omega arith);
+      scope = λ p. absurd (omega arith);
+      extern = λ p. absurd (omega arith);
+    })
 
 -- one name more: its head in the table, its number on the chain of its key
 module _ (W A : List ℕ) (l : Layout) (at key : ℕ) (ix : Indexes W A l) (room : l .names < 2048) (large : 16384 ≤ length A) (ek : key ≡ nameKey (nameAt W at)) where
   small : key < keys
   small = key-small _ ek
 
-  old-chain : Chained (set A (l .names) at) 4160 6336 (keyAt W (set A (l .names) at)) (l .names)
+  old-chain : Chained (set A (l .names) at) 4160 6344 (keyAt W (set A (l .names) at)) (l .names)
   old-chain =
-      chained-kept A (set A (l .names) at) 4160 6336 _ _ (l .names) (ix .names)
+      chained-kept A (set A (l .names) at) 4160 6344 _ _ (l .names) (ix .names)
       (λ b h. set-above A (l .names) at (omega arith) _ (omega arith)) (λ i h. set-above A (l .names) at (omega arith) _ (omega arith))
       (λ i h. ap (λ x. nameKey (nameAt W x)) (getD-set-other A (l .names) i at 0 (omega arith)))
 
-  new-chain : Chained (linked (set A (l .names) at) 4160 6336 key (l .names)) 4160 6336 (keyAt W (set A (l .names) at)) (l .names + 1)
+  new-chain : Chained (linked (set A (l .names) at) 4160 6344 key (l .names)) 4160 6344 (keyAt W (set A (l .names) at)) (l .names + 1)
   new-chain =
       let p = small in
-      chained-linked (set A (l .names) at) 4160 6336 key (l .names) (keyAt W (set A (l .names) at)) old-chain (omega arith) (simp length-set (omega arith)) small
+      chained-linked (set A (l .names) at) 4160 6344 key (l .names) (keyAt W (set A (l .names) at)) old-chain (omega arith) (simp length-set (omega arith)) small
       (ap (λ x. nameKey (nameAt W x)) (getD-set-same A (l .names) at 0 (omega arith)) ∙ sym ek)
 
-  pub name-stays : (i : ℕ) → i < 4160 → getD (linked (set A (l .names) at) 4160 6336 key (l .names)) i 0 ≡ getD (set A (l .names) at) i 0
-  name-stays i h = linked-other (set A (l .names) at) 4160 6336 key (l .names) i (omega arith) (omega arith)
+  pub name-stays : (i : ℕ) → i < 4160 → getD (linked (set A (l .names) at) 4160 6344 key (l .names)) i 0 ≡ getD (set A (l .names) at) i 0
+  name-stays i h = linked-other (set A (l .names) at) 4160 6344 key (l .names) i (omega arith) (omega arith)
 
-  head-stays : (i : ℕ) → 4544 ≤ i → i < 6336 → getD (linked (set A (l .names) at) 4160 6336 key (l .names)) i 0 ≡ getD A i 0
-  head-stays i h k = let p = small in linked-other (set A (l .names) at) 4160 6336 key (l .names) i (omega arith) (omega arith) ∙ set-above A (l .names) at (omega arith) i (omega arith)
+  head-stays : (i : ℕ) → 4544 ≤ i → i < 6344 → getD (linked (set A (l .names) at) 4160 6344 key (l .names)) i 0 ≡ getD A i 0
+  head-stays i h k = let p = small in linked-other (set A (l .names) at) 4160 6344 key (l .names) i (omega arith) (omega arith) ∙ set-above A (l .names) at (omega arith) i (omega arith)
 
-  pub names-linked : (m : Layout) → l .scopes ≡ 0 → l .externs ≡ 0 → m .names ≡ l .names + 1 → m .scopes ≡ 0 → m .externs ≡ 0
-      → Indexes W (linked (set A (l .names) at) 4160 6336 key (l .names)) m
-  names-linked m zs ze en es ee =
+  pub names-linked : (m : Layout) → Early 1 l → Early 1 m → m .names ≡ l .names + 1 → Indexes W (linked (set A (l .names) at) 4160 6344 key (l .names)) m
+  names-linked m zl zm en =
+      let zc = zl .children in
+      let zd = zl .definitions in
+      let zs = zl .scopes in
+      let ze = zl .externs in
       record {
         names =
-            subst (λ k. Chained (linked (set A (l .names) at) 4160 6336 key (l .names)) 4160 6336 (keyAt W (linked (set A (l .names) at) 4160 6336 key (l .names))) k) (sym en)
-            (chained-kept (linked (set A (l .names) at) 4160 6336 key (l .names)) (linked (set A (l .names) at) 4160 6336 key (l .names)) 4160 6336 _ _ (l .names + 1) new-chain
+            subst (λ k. Chained (linked (set A (l .names) at) 4160 6344 key (l .names)) 4160 6344 (keyAt W (linked (set A (l .names) at) 4160 6344 key (l .names))) k) (sym en)
+            (chained-kept (linked (set A (l .names) at) 4160 6344 key (l .names)) (linked (set A (l .names) at) 4160 6344 key (l .names)) 4160 6344 _ _ (l .names + 1) new-chain
             (λ b h. refl) (λ i h. refl) (λ i h. ap (λ x. nameKey (nameAt W x)) (name-stays i (omega arith))));
+        children =
+            subst (λ k. Marked (linked (set A (l .names) at) 4160 6344 key (l .names)) 5312 (λ j. getD W (childBase m + 2 * j + 1) 0) k) (zc ∙ sym (zm .children))
+            (marked-kept A _ 5312 _ _ (l .children) (ix .children) (λ b h. head-stays _ (omega arith) (omega arith)) (λ i h. absurd (omega arith)));
+        definitions =
+            subst (λ k. Marked (linked (set A (l .names) at) 4160 6344 key (l .names)) 5824 (λ j. slotOf W (definitionBase m + 3 * j)) k) (zd ∙ sym (zm .definitions))
+            (marked-kept A _ 5824 _ _ (l .definitions) (ix .definitions) (λ b h. head-stays _ (omega arith) (omega arith)) (λ i h. absurd (omega arith)));
         scopes =
-            subst (λ k. Chained (linked (set A (l .names) at) 4160 6336 key (l .names)) 4544 8384 (λ i. recordKey W 2 (scopeBase m + 7 * i)) k) (zs ∙ sym es)
-            (chained-kept A _ 4544 8384 _ _ (l .scopes) (ix .scopes) (λ b h. head-stays _ (omega arith) (omega arith)) (λ i h. absurd (omega arith)) (λ i h. absurd (omega arith)));
+            subst (λ k. Chained (linked (set A (l .names) at) 4160 6344 key (l .names)) 4544 8392 (λ i. recordKey W 2 (scopeBase m + 7 * i)) k) (zs ∙ sym (zm .scopes))
+            (chained-kept A _ 4544 8392 _ _ (l .scopes) (ix .scopes) (λ b h. head-stays _ (omega arith) (omega arith)) (λ i h. absurd (omega arith)) (λ i h. absurd (omega arith)));
         externs =
-            subst (λ k. Chained (linked (set A (l .names) at) 4160 6336 key (l .names)) 4928 10728 (λ i. recordKey W 1 (externBase m + 3 * i)) k) (ze ∙ sym ee)
-            (chained-kept A _ 4928 10728 _ _ (l .externs) (ix .externs) (λ b h. head-stays _ (omega arith) (omega arith)) (λ i h. absurd (omega arith)) (λ i h. absurd (omega arith)));
+            subst (λ k. Chained (linked (set A (l .names) at) 4160 6344 key (l .names)) 4928 10736 (λ i. recordKey W 1 (externBase m + 3 * i)) k) (ze ∙ sym (zm .externs))
+            (chained-kept A _ 4928 10736 _ _ (l .externs) (ix .externs) (λ b h. head-stays _ (omega arith) (omega arith)) (λ i h. absurd (omega arith)) (λ i h. absurd (omega arith)));
       }
 
 -- names of the same text have the same key
@@ -133,12 +187,12 @@ name-key-same x y e =
     cc
 
 -- a walk along the names with the key of the name at a place
-module _ (W A : List ℕ) (at n : ℕ) {key : ℕ} (ch : Chained A 4160 6336 (λ i. nameKey (nameAt W (nameHead A i))) n) (ek : key ≡ nameKey (nameAt W at)) where
+module _ (W A : List ℕ) (at n : ℕ) {key : ℕ} (ch : Chained A 4160 6344 (λ i. nameKey (nameAt W (nameHead A i))) n) (ek : key ≡ nameKey (nameAt W at)) where
   only : (j : ℕ) → sameName (nameAt W at) (nameAt W (nameHead A j)) ≡ true → nameKey (nameAt W (nameHead A j)) ≡ key
   only j h = name-key-same (nameAt W at) (nameAt W (nameHead A j)) h ∙ sym ek
 
   pub names-start : {k : ℕ} → k ≡ getD A (4160 + key) 0 → Walking (sameName (nameAt W at)) (λ j. nameAt W (nameHead A j)) (λ i. nameKey (nameAt W (nameHead A i))) key n k
-  names-start e = walk-start _ _ _ _ _ only (first-of A 4160 6336 _ n ch (key-small _ ek) e)
+  names-start e = walk-start _ _ _ _ _ only (first-of A 4160 6344 _ n ch (key-small _ ek) e)
 
   module _ (k : ℕ) (w : Walking (sameName (nameAt W at)) (λ j. nameAt W (nameHead A j)) (λ i. nameKey (nameAt W (nameHead A i))) key n k)
       (go : k ≡ 0 → ⊥) {b : ℕ} {r : Bool} (eb : b ≡ nameHead A (k - 1)) (er : r ≡ sameName (nameAt W at) (nameAt W b))
@@ -149,9 +203,9 @@ module _ (W A : List ℕ) (at n : ℕ) {key : ℕ} (ch : Chained A 4160 6336 (λ
       pub names-hit : r ≡ true → true ≡ any (sameName (nameAt W at)) (namesOf W A n)
       names-hit h = walk-hit _ _ _ _ _ only k w (omega arith) (is h)
 
-      module _ {d : ℕ} (ed : d ≡ getD A (6336 + (k - 1)) 0) where
+      module _ {d : ℕ} (ed : d ≡ getD A (6344 + (k - 1)) 0) where
         further : Last (λ i. nameKey (nameAt W (nameHead A i))) (nameKey (nameAt W (nameHead A (k - 1)))) (k - 1) d
-        further = let u = w .within in next-of A 4160 6336 _ n ch (omega arith) ed
+        further = let u = w .within in next-of A 4160 6344 _ n ch (omega arith) ed
 
         pub names-less : d < k
         names-less = let u = further .within in omega arith

@@ -78,7 +78,7 @@ counts-same W A k at l ms st =
       definitions = sym (length-rows (λ j. definitionAt W (definitionBase l + 3 * j)) (l .definitions)) i;
     }
 
-any-same : {A B : Type 0} (p : A → Bool) (q : B → Bool) (f : ℕ → A) (g : ℕ → B) (k n : ℕ) → ((i : ℕ) → p (f i) ≡ q (g i)) → any p (rows f k n) ≡ any q (rows g k n)
+pub any-same : {A B : Type 0} (p : A → Bool) (q : B → Bool) (f : ℕ → A) (g : ℕ → B) (k n : ℕ) → ((i : ℕ) → p (f i) ≡ q (g i)) → any p (rows f k n) ≡ any q (rows g k n)
 unfolding rows any
 any-same p q f g k zero h = refl
 any-same p q f g k (suc n) h = rw (h k, any-same p q f g (k + 1) n h)

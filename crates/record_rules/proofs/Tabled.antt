@@ -23,7 +23,7 @@ use Rattle.record_rules.specs.Steps.{Next, no, on, nameStep, crateStep, 
 use Rattle.record_rules.specs.Stands.{numberOf, countsIn, ownFrom, ownOf, Indexes, Stands, Answered}
 use Rattle.record_rules.specs.declared.judge.Step.the-variants.{No, On}
 use Rattle.record_rules.proofs.Judged.{number-of, judge-no, judge-on, passes, counts-same, and-left, and-right}
-use Rattle.record_rules.proofs.Indexed.{indexes-early, set-above, name-stays, names-linked}
+use Rattle.record_rules.proofs.Indexed.{Early, early, indexes-early, set-above, name-stays, names-linked}
 pub use Rattle.record_rules.proofs.Indexed.{Kept, set-kept}
 
 pub names-kept : (W A B : List ℕ) (n : ℕ) → n ≤ 2048 → Kept A B 0 2048 → namesOf W B n ≡ namesOf W A n
@@ -159,21 +159,21 @@ module _ (W A : List ℕ) (at : ℕ) (l : Layout) (ms : List Map) (st : Stands W
     name-no z = judge-no (nameRange (nameAt W at)) true (any (sameName (nameAt W at)) ((snapWith W A l ms) .names)) true (ltb (length ((snapWith W A l ms) .names)) 2048) (addName (snapWith W A l ms) (nameAt W at)) name-number z
 
     pub name-on : n ≡ 0 → 16384 ≤ length A → {text key : ℕ} {B : List ℕ} → text ≡ at + 1 + wordsOf (payOf (getD W at 0)) → at + 1 + wordsOf (payOf (getD W at 0)) ≤ length W
-        → key ≡ nameKey (nameAt W at) → B ≡ linked (set A (l .names) at) 4160 6336 key (l .names)
+        → key ≡ nameKey (nameAt W at) → B ≡ linked (set A (l .names) at) 4160 6344 key (l .names)
         → Answered W B 1 (at + 1 + wordsOf (payOf (getD W at 0))) (nameStep (snapWith W A l ms) (nameAt W at)) (On (nameOn l text))
     unfolding nameStep
     name-on z large {text} {key} e fits ek eb =
         let next : ℕ = at + 1 + wordsOf (payOf (getD W at 0)) in
-        let B : List ℕ = linked (set A (l .names) at) 4160 6336 key (l .names) in
+        let B : List ℕ = linked (set A (l .names) at) 4160 6344 key (l .names) in
         let room = name-room z in
         let stays = name-stays W A l at key (st .index) room large ek in
-        let old : (k : ℕ) → k < l .names → getD (linked (set A (l .names) at) 4160 6336 key (l .names)) k 0 ≡ getD A k 0 = λ k h. stays k (omega arith) ∙ getD-set-other A (l .names) k at 0 (omega arith) in
-        let new : getD (linked (set A (l .names) at) 4160 6336 key (l .names)) (l .names) 0 ≡ at = stays (l .names) (omega arith) ∙ getD-set-same A (l .names) at 0 (omega arith) in
-        let zs : l .scopes ≡ 0 = st .upto .scopes (lit< tt) in
-        let ze : l .externs ≡ 0 = st .upto .externs (lit< tt) in
-        let ix = names-linked W A l at key (st .index) room large ek (nameOn l next) zs ze refl zs ze in
+        let old : (k : ℕ) → k < l .names → getD (linked (set A (l .names) at) 4160 6344 key (l .names)) k 0 ≡ getD A k 0 = λ k h. stays k (omega arith) ∙ getD-set-other A (l .names) k at 0 (omega arith) in
+        let new : getD (linked (set A (l .names) at) 4160 6344 key (l .names)) (l .names) 0 ≡ at = stays (l .names) (omega arith) ∙ getD-set-same A (l .names) at 0 (omega arith) in
+        let zl = early 1 l (st .upto) (lit< tt) in
+        let y : Early 1 (nameOn l next) = record { children = zl .children; definitions = zl .definitions; scopes = zl .scopes; externs = zl .externs } in
+        let ix = names-linked W A l at key (st .index) room large ek (nameOn l next) zl y refl in
         subst (λ b. Answered W b 1 next (nameStep (snapWith W A l ms) (nameAt W at)) (On (nameOn l text))) (sym eb)
-        (subst (λ t. Answered W (linked (set A (l .names) at) 4160 6336 key (l .names)) 1 next (nameStep (snapWith W A l ms) (nameAt W at)) (On (nameOn l t))) (sym e) (
+        (subst (λ t. Answered W (linked (set A (l .names) at) 4160 6344 key (l .names)) 1 next (nameStep (snapWith W A l ms) (nameAt W at)) (On (nameOn l t))) (sym e) (
           ms,
           judge-on (nameRange (nameAt W at)) true (any (sameName (nameAt W at)) ((snapWith W A l ms) .names)) true (ltb (length ((snapWith W A l ms) .names)) 2048) (addName (snapWith W A l ms) (nameAt W at)) (passes (nameRange (nameAt W at)) true (any (sameName (nameAt W at)) ((snapWith W A l ms) .names)) true (ltb (length ((snapWith W A l ms) .names)) 2048) (sym z ∙ name-number)) ∙ ap on (sym (name-added W A B at next l ms st room old new)),
           name-stands W A B at next l ms st room old new refl fits ix,
@@ -269,8 +269,8 @@ module _ (W A : List ℕ) (at : ℕ) (l : Layout) (ms : List Map) (st : Stands W
             (λ c h. getD-set-other A (4096 + l .crates) (4096 + c) 0 0 (omega arith) ∙ st .own c h)
             (getD-set-same A (4096 + l .crates) 0 0 (omega arith) ∙ sym (none-yet (l .crates) ms (omega arith)));
         index =
-            indexes-early W A (set A (4096 + l .crates) 0) l (crateOn l) (st .index) (st .limited .names) (λ i u v. crate-kept i u (omega arith))
-            (set-above A (4096 + l .crates) 0 (omega arith)) refl refl refl z-scopes z-externs;
+            indexes-early W A (set A (4096 + l .crates) 0) 2 l (crateOn l) (st .index) (st .limited .names) (λ i u v. crate-kept i u (omega arith))
+            (set-above A (4096 + l .crates) 0 (omega arith)) refl refl refl refl refl (st .upto) (lit< tt);
       }
 
 module _ (W A : List ℕ) (at : ℕ) (l : Layout) (ms : List Map) (st : Stands W A 2 at l ms)

@@ -208,7 +208,7 @@ pub fn is_builtin(words: &[u32], at: usize) -> bool
 
 // Whether a name with the key has the text of the name at a place.
 fn repeated(words: &[u32], at: usize, area: &[u32], n: usize, key: usize) -> bool
-    requires { ⌜ Chained (now area) 4160 6336 (λ i. nameKey (nameAt (now words) (nameHead (now area) i))) n ⌝ }
+    requires { ⌜ Chained (now area) 4160 6344 (λ i. nameKey (nameAt (now words) (nameHead (now area) i))) n ⌝ }
     requires { ⌜ (n ≤ 2048) × (key ≡ nameKey (nameAt (now words) at)) ⌝ }
     ensures { λ r. ⌜ r ≡ any (sameName (nameAt (now (words .entry)) at)) (namesOf (now (words .entry)) (now (area .entry)) n) ⌝ }
 {

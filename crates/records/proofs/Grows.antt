@@ -112,7 +112,7 @@ module _ (W A : List ℕ) (at : ℕ) (l : Layout) (ms : List Map) (st : Stands W
         rising = st .rising;
         inside = st .inside;
         own = st .own;
-        index = indexes-early W A A l (dependencyOn l) (st .index) (st .limited .names) (λ i u v. refl) (λ i u. refl) refl refl refl (st .upto .scopes (lit< tt)) (st .upto .externs (lit< tt));
+        index = indexes-early W A A 3 l (dependencyOn l) (st .index) (st .limited .names) (λ i u v. refl) (λ i u. refl) refl refl refl refl refl (st .upto) (lit< tt);
       }
 
 -- one child more
@@ -135,8 +135,8 @@ childOn l =
       latest = l .latest;
     }
 
-module _ (W A : List ℕ) (at : ℕ) (l : Layout) (ms : List Map) (st : Stands W A 6 at l ms) where
-  pub child-added : snapWith W A (childOn l) ms ≡ addChild (snapWith W A l ms) (childAt W at)
+module _ (W A B : List ℕ) (at : ℕ) (l : Layout) (ms : List Map) (st : Stands W A 6 at l ms) (kept : Kept A B 0 4160) where
+  pub child-added : snapWith W B (childOn l) ms ≡ addChild (snapWith W A l ms) (childAt W at)
   child-added =
       let z-preludes : l .preludes ≡ 0 = st .upto .preludes (lit< tt) in
       let z-definitions : l .definitions ≡ 0 = st .upto .definitions (lit< tt) in
@@ -152,10 +152,13 @@ module _ (W A : List ℕ) (at : ℕ) (l : Layout) (ms : List Map) (st : Stands W
       let q-scopes : recordsOf scopeAt 7 W (scopeBase (childOn l)) ((childOn l) .scopes) ≡ recordsOf scopeAt 7 W (scopeBase l) (l .scopes) = rows-zero _ _ _ z-scopes in
       let q-imports : recordsOf importAt 6 W (importBase (childOn l)) ((childOn l) .imports) ≡ recordsOf importAt 6 W (importBase l) (l .imports) = rows-zero _ _ _ z-imports in
       let q-externs : recordsOf externAt 3 W (externBase (childOn l)) ((childOn l) .externs) ≡ recordsOf externAt 3 W (externBase l) (l .externs) = rows-zero _ _ _ z-externs in
-      λ i. record { names = namesOf W A (l .names); crates = recordsOf crateAt 1 W (crateBase l) (l .crates); dependencies = recordsOf dependencyAt 3 W (dependencyBase l) (l .dependencies); maps = ms; modules = modulesOf A (l .modules); children = p i; preludes = q-preludes i; definitions = q-definitions i; scopes = q-scopes i; imports = q-imports i; externs = q-externs i }
+      let q-names : namesOf W B (l .names) ≡ namesOf W A (l .names) = names-kept W A B (l .names) (st .limited .names) (λ i u v. kept i u (omega arith)) in
+      let q-modules : modulesOf B (l .modules) ≡ modulesOf A (l .modules) = modules-kept A B (l .modules) (st .limited .modules) (λ i u v. kept i (omega arith) (omega arith)) in
+      λ i. record { names = q-names i; crates = recordsOf crateAt 1 W (crateBase l) (l .crates); dependencies = recordsOf dependencyAt 3 W (dependencyBase l) (l .dependencies); maps = ms; modules = q-modules i; children = p i; preludes = q-preludes i; definitions = q-definitions i; scopes = q-scopes i; imports = q-imports i; externs = q-externs i }
 
-  pub child-stands : at + 2 ≤ length W → Stands W A 6 (at + 2) (childOn l) ms
-  child-stands fits =
+  pub child-stands : at + 2 ≤ length W → Indexes W B (childOn l) → Stands W B 6 (at + 2) (childOn l) ms
+  child-stands fits ix =
+      let t = tables-kept W A B 6 at l ms st kept in
       record {
         place = (let q = st .place in omega arith);
         within = fits;
@@ -173,14 +176,14 @@ module _ (W A : List ℕ) (at : ℕ) (l : Layout) (ms : List Map) (st : Stands W
               externs = st .upto .externs;
             };
         limited = record { names = st .limited .names; crates = st .limited .crates; modules = st .limited .modules; definitions = st .limited .definitions };
-        heads = st .heads;
+        heads = t .heads;
         count = st .count;
         latest = st .latest;
-        below = st .below;
-        rising = st .rising;
-        inside = st .inside;
-        own = st .own;
-        index = indexes-early W A A l (childOn l) (st .index) (st .limited .names) (λ i u v. refl) (λ i u. refl) refl refl refl (st .upto .scopes (lit< tt)) (st .upto .externs (lit< tt));
+        below = t .below;
+        rising = t .rising;
+        inside = t .inside;
+        own = t .own;
+        index = ix;
       }
 
 -- one prelude more
@@ -246,7 +249,19 @@ module _ (W A : List ℕ) (at : ℕ) (l : Layout) (ms : List Map) (st : Stands W
         rising = st .rising;
         inside = st .inside;
         own = st .own;
-        index = indexes-early W A A l (preludeOn l) (st .index) (st .limited .names) (λ i u v. refl) (λ i u. refl) refl refl refl (st .upto .scopes (lit< tt)) (st .upto .externs (lit< tt));
+        index =
+            indexes-kept W A A l (preludeOn l) (st .index) (st .limited .names) (λ i u v. refl) (λ i u. refl)
+            (record {
+              names = refl;
+              children = refl;
+              definitions = refl;
+              scopes = refl;
+              externs = refl;
+              child = λ h. refl;
+              definition = (λ h. (let z = st .upto .definitions (lit< tt) in absurd (omega arith)));
+              scope = (λ h. (let z = st .upto .scopes (lit< tt) in absurd (omega arith)));
+              extern = (λ h. (let z = st .upto .externs (lit< tt) in absurd (omega arith)));
+            });
       }
 
 -- one definition more
@@ -269,8 +284,8 @@ definitionOn l =
       latest = l .latest;
     }
 
-module _ (W A : List ℕ) (at : ℕ) (l : Layout) (ms : List Map) (st : Stands W A 8 at l ms) where
-  pub definition-added : snapWith W A (definitionOn l) ms ≡ addDefinition (snapWith W A l ms) (definitionAt W at)
+module _ (W A B : List ℕ) (at : ℕ) (l : Layout) (ms : List Map) (st : Stands W A 8 at l ms) (kept : Kept A B 0 4160) where
+  pub definition-added : snapWith W B (definitionOn l) ms ≡ addDefinition (snapWith W A l ms) (definitionAt W at)
   definition-added =
       let z-scopes : l .scopes ≡ 0 = st .upto .scopes (lit< tt) in
       let z-imports : l .imports ≡ 0 = st .upto .imports (lit< tt) in
@@ -282,10 +297,13 @@ module _ (W A : List ℕ) (at : ℕ) (l : Layout) (ms : List Map) (st : Stands W
       let q-scopes : recordsOf scopeAt 7 W (scopeBase (definitionOn l)) ((definitionOn l) .scopes) ≡ recordsOf scopeAt 7 W (scopeBase l) (l .scopes) = rows-zero _ _ _ z-scopes in
       let q-imports : recordsOf importAt 6 W (importBase (definitionOn l)) ((definitionOn l) .imports) ≡ recordsOf importAt 6 W (importBase l) (l .imports) = rows-zero _ _ _ z-imports in
       let q-externs : recordsOf externAt 3 W (externBase (definitionOn l)) ((definitionOn l) .externs) ≡ recordsOf externAt 3 W (externBase l) (l .externs) = rows-zero _ _ _ z-externs in
-      λ i. record { names = namesOf W A (l .names); crates = recordsOf crateAt 1 W (crateBase l) (l .crates); dependencies = recordsOf dependencyAt 3 W (dependencyBase l) (l .dependencies); maps = ms; modules = modulesOf A (l .modules); children = recordsOf childAt 2 W (childBase l) (l .children); preludes = recordsOf preludeAt 2 W (preludeBase l) (l .preludes); definitions = p i; scopes = q-scopes i; imports = q-imports i; externs = q-externs i }
+      let q-names : namesOf W B (l .names) ≡ namesOf W A (l .names) = names-kept W A B (l .names) (st .limited .names) (λ i u v. kept i u (omega arith)) in
+      let q-modules : modulesOf B (l .modules) ≡ modulesOf A (l .modules) = modules-kept A B (l .modules) (st .limited .modules) (λ i u v. kept i (omega arith) (omega arith)) in
+      λ i. record { names = q-names i; crates = recordsOf crateAt 1 W (crateBase l) (l .crates); dependencies = recordsOf dependencyAt 3 W (dependencyBase l) (l .dependencies); maps = ms; modules = q-modules i; children = recordsOf childAt 2 W (childBase l) (l .children); preludes = recordsOf preludeAt 2 W (preludeBase l) (l .preludes); definitions = p i; scopes = q-scopes i; imports = q-imports i; externs = q-externs i }
 
-  pub definition-stands : at + 3 ≤ length W → l .definitions < 2048 → Stands W A 8 (at + 3) (definitionOn l) ms
-  definition-stands fits room =
+  pub definition-stands : at + 3 ≤ length W → l .definitions < 2048 → Indexes W B (definitionOn l) → Stands W B 8 (at + 3) (definitionOn l) ms
+  definition-stands fits room ix =
+      let t = tables-kept W A B 8 at l ms st kept in
       record {
         place = (let q = st .place in omega arith);
         within = fits;
@@ -304,14 +322,14 @@ module _ (W A : List ℕ) (at : ℕ) (l : Layout) (ms : List Map) (st : Stands W
             };
         limited =
             record { names = st .limited .names; crates = st .limited .crates; modules = st .limited .modules; definitions = omega arith };
-        heads = st .heads;
+        heads = t .heads;
         count = st .count;
         latest = st .latest;
-        below = st .below;
-        rising = st .rising;
-        inside = st .inside;
-        own = st .own;
-        index = indexes-early W A A l (definitionOn l) (st .index) (st .limited .names) (λ i u v. refl) (λ i u. refl) refl refl refl (st .upto .scopes (lit< tt)) (st .upto .externs (lit< tt));
+        below = t .below;
+        rising = t .rising;
+        inside = t .inside;
+        own = t .own;
+        index = ix;
       }
 
 -- one scope more
@@ -436,7 +454,19 @@ module _ (W A : List ℕ) (at : ℕ) (l : Layout) (ms : List Map) (st : Stands W
         rising = st .rising;
         inside = st .inside;
         own = st .own;
-        index = indexes-kept W A A l (importOn l) (st .index) (st .limited .names) (λ i u v. refl) (λ i u. refl) refl refl refl (λ h. refl) (λ h. (let z = st .upto .externs (lit< tt) in absurd (omega arith)));
+        index =
+            indexes-kept W A A l (importOn l) (st .index) (st .limited .names) (λ i u v. refl) (λ i u. refl)
+            (record {
+              names = refl;
+              children = refl;
+              definitions = refl;
+              scopes = refl;
+              externs = refl;
+              child = λ h. refl;
+              definition = λ h. refl;
+              scope = λ h. refl;
+              extern = (λ h. (let z = st .upto .externs (lit< tt) in absurd (omega arith)));
+            });
       }
 
 -- one extern more

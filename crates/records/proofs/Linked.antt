@@ -1,24 +1,26 @@
--- Scopes and externs in their chains.
+-- Records in their chains, and marks of modules.
 use Prim.Native.Nat.{ℕ, zero, suc, _+_, _-_, _*_, _≤_, _<_}
 use mathlib.Core.Path.{_≡_, refl, sym, _∙_, ap, subst}
 use mathlib.Core.List.{List}
-use mathlib.Core.Bool.{Bool, true, false, _&&_, _||_, not}
+use mathlib.Core.Bool.{Bool, true, false, _&&_, _||_, not, and-true}
 use native.Mathlib.Omega.{arith}
 use lib.Dec.{eqb, ltb, lit<}
-use lib.ListN.{length, getD}
-use borrow.Author.Tests.{eqb-true}
+use lib.ListN.{length, getD, set}
+use lib.Seq.{getD-set-other}
+use borrow.Author.Tests.{eqb-true, eqb-false, eq-eqb, ne-eqb, ltb-true}
 use Rattle.snapshot.specs.Lists.{rows, any}
 use Rattle.snapshot.specs.Words.{payOf}
-use Rattle.snapshot.specs.Records.{Map, nameAt}
-use Rattle.snapshot.specs.Layouts.{scopeBase, externBase, nameHead}
+use Rattle.snapshot.specs.Records.{Map, Definition, nameAt, childAt, definitionAt}
+use Rattle.snapshot.specs.Layouts.{childBase, definitionBase, scopeBase, externBase, nameHead}
 use Rattle.snapshot.specs.declared.layout.Layout.{Layout}
-use Rattle.chains.specs.Chains.{nameKey, recordKey, Last, Chained, linked}
-use Rattle.chains.proofs.Laws.{chained-kept, chained-linked, linked-other, first-of, next-of, Walking, walk-start, walk-hit, walk-miss, walk-end}
-use Rattle.record_rules.specs.Stands.{sameBy, Indexes, Stands}
+use Rattle.chains.specs.Chains.{nameKey, recordKey, slotOf, Marked, Last, Chained, linked}
+use Rattle.chains.proofs.Laws.{marked-kept, marked-more, chained-kept, chained-linked, linked-other, first-of, next-of, Walking, walk-start, walk-hit, walk-miss, walk-end}
+use Rattle.record_rules.specs.Tests.{Counts, childDefined, definitionDefined}
+use Rattle.record_rules.specs.Stands.{numberOf, sameBy, countsIn, Indexes, Stands}
 use Rattle.record_rules.proofs.Laws.{step-le}
-use Rattle.record_rules.proofs.Judged.{and-left, and-right}
+use Rattle.record_rules.proofs.Judged.{passes, any-same, and-left, and-right}
 use Rattle.record_rules.proofs.Indexed.{Kept, key-small}
-use Rattle.records.proofs.Grows.{scopeOn, externOn}
+use Rattle.records.proofs.Grows.{childOn, definitionOn, scopeOn, externOn}
 
 -- one record more in its chain: the tables stay, and the chains are those of the layout
 pub record Linked (W A B : List ℕ) (l : Layout) : Type 0 where
@@ -26,14 +28,14 @@ pub record Linked (W A B : List ℕ) (l : Layout) : Type 0 where
   pub index : Indexes W B l
 
 module _ (W A : List ℕ) (l : Layout) (ix : Indexes W A l) {base : ℕ} where
-  pub scope-chain : base ≡ scopeBase l → Chained A 4544 8384 (λ i. recordKey W 2 (base + 7 * i)) (l .scopes)
-  scope-chain e = subst (λ b. Chained A 4544 8384 (λ i. recordKey W 2 (b + 7 * i)) (l .scopes)) (sym e) (ix .scopes)
+  pub scope-chain : base ≡ scopeBase l → Chained A 4544 8392 (λ i. recordKey W 2 (base + 7 * i)) (l .scopes)
+  scope-chain e = subst (λ b. Chained A 4544 8392 (λ i. recordKey W 2 (b + 7 * i)) (l .scopes)) (sym e) (ix .scopes)
 
-  pub extern-chain : base ≡ externBase l → Chained A 4928 10728 (λ i. recordKey W 1 (base + 3 * i)) (l .externs)
-  extern-chain e = subst (λ b. Chained A 4928 10728 (λ i. recordKey W 1 (b + 3 * i)) (l .externs)) (sym e) (ix .externs)
+  pub extern-chain : base ≡ externBase l → Chained A 4928 10736 (λ i. recordKey W 1 (base + 3 * i)) (l .externs)
+  extern-chain e = subst (λ b. Chained A 4928 10736 (λ i. recordKey W 1 (b + 3 * i)) (l .externs)) (sym e) (ix .externs)
 
 module _ (W A : List ℕ) (at : ℕ) (l : Layout) (ms : List Map) {key : ℕ} {B : List ℕ} (short : length W ≤ 16384) (large : 16384 ≤ length A) where
-  pub scope-linked : Stands W A 9 at l ms → at + 7 ≤ length W → key ≡ recordKey W 2 at → B ≡ linked A 4544 8384 key (l .scopes) → Linked W A B (scopeOn l)
+  pub scope-linked : Stands W A 9 at l ms → at + 7 ≤ length W → key ≡ recordKey W 2 at → B ≡ linked A 4544 8392 key (l .scopes) → Linked W A B (scopeOn l)
   scope-linked st fits ek eb = subst (λ C. Linked W A C (scopeOn l)) (sym eb) (record { kept = λ i p q. other i (omega arith) (omega arith); index = grown })
     where
       small : key < 383
@@ -45,25 +47,27 @@ module _ (W A : List ℕ) (at : ℕ) (l : Layout) (ms : List Map) {key : ℕ} {B
       here : scopeBase l + 7 * l .scopes ≡ at
       here = let zi : l .imports ≡ 0 = st .upto .imports (lit< tt) in let q = ze in let p = st .place in omega arith
 
-      other : (i : ℕ) → (4544 ≤ i → i < 4927 → ⊥) → (8384 ≤ i → ⊥) → getD (linked A 4544 8384 key (l .scopes)) i 0 ≡ getD A i 0
-      other i p q = let h = small in linked-other A 4544 8384 key (l .scopes) i (λ e. p (omega arith) (omega arith)) (λ e. q (omega arith))
+      other : (i : ℕ) → (4544 ≤ i → i < 4927 → ⊥) → (8392 ≤ i → ⊥) → getD (linked A 4544 8392 key (l .scopes)) i 0 ≡ getD A i 0
+      other i p q = let h = small in linked-other A 4544 8392 key (l .scopes) i (λ e. p (omega arith) (omega arith)) (λ e. q (omega arith))
 
-      grown : Indexes W (linked A 4544 8384 key (l .scopes)) (scopeOn l)
+      grown : Indexes W (linked A 4544 8392 key (l .scopes)) (scopeOn l)
       grown =
           let ix = st .index in
           let few = st .limited .names in
           let e = here in
           record {
             names =
-                chained-kept A _ 4160 6336 _ _ (l .names) (ix .names) (λ b h. other _ (omega arith) (omega arith)) (λ i h. other _ (omega arith) (omega arith))
+                chained-kept A _ 4160 6344 _ _ (l .names) (ix .names) (λ b h. other _ (omega arith) (omega arith)) (λ i h. other _ (omega arith) (omega arith))
                 (λ i h. ap (λ x. nameKey (nameAt W x)) (other i (omega arith) (omega arith)));
-            scopes = chained-linked A 4544 8384 key (l .scopes) (λ i. recordKey W 2 (scopeBase l + 7 * i)) (ix .scopes) (omega arith) (omega arith) small (ap (recordKey W 2) here ∙ sym ek);
+            children = marked-kept A _ 5312 _ _ (l .children) (ix .children) (λ m h. other _ (omega arith) (omega arith)) (λ i h. refl);
+            definitions = marked-kept A _ 5824 _ _ (l .definitions) (ix .definitions) (λ m h. other _ (omega arith) (omega arith)) (λ i h. refl);
+            scopes = chained-linked A 4544 8392 key (l .scopes) (λ i. recordKey W 2 (scopeBase l + 7 * i)) (ix .scopes) (omega arith) (omega arith) small (ap (recordKey W 2) here ∙ sym ek);
             externs =
-                chained-kept A _ 4928 10728 _ _ (l .externs) (ix .externs) (λ b h. other _ (omega arith) (omega arith)) (λ i h. (let z = ze in absurd (omega arith)))
+                chained-kept A _ 4928 10736 _ _ (l .externs) (ix .externs) (λ b h. other _ (omega arith) (omega arith)) (λ i h. (let z = ze in absurd (omega arith)))
                 (λ i h. (let z = ze in absurd (omega arith)));
           }
 
-  pub extern-linked : Stands W A 11 at l ms → at + 3 ≤ length W → key ≡ recordKey W 1 at → B ≡ linked A 4928 10728 key (l .externs) → Linked W A B (externOn l)
+  pub extern-linked : Stands W A 11 at l ms → at + 3 ≤ length W → key ≡ recordKey W 1 at → B ≡ linked A 4928 10736 key (l .externs) → Linked W A B (externOn l)
   extern-linked st fits ek eb = subst (λ C. Linked W A C (externOn l)) (sym eb) (record { kept = λ i p q. other i (omega arith) (omega arith); index = grown })
     where
       small : key < 383
@@ -72,23 +76,122 @@ module _ (W A : List ℕ) (at : ℕ) (l : Layout) (ms : List Map) {key : ℕ} {B
       here : externBase l + 3 * l .externs ≡ at
       here = let p = st .place in omega arith
 
-      other : (i : ℕ) → (4928 ≤ i → i < 5311 → ⊥) → (10728 ≤ i → ⊥) → getD (linked A 4928 10728 key (l .externs)) i 0 ≡ getD A i 0
-      other i p q = let h = small in linked-other A 4928 10728 key (l .externs) i (λ e. p (omega arith) (omega arith)) (λ e. q (omega arith))
+      other : (i : ℕ) → (4928 ≤ i → i < 5311 → ⊥) → (10736 ≤ i → ⊥) → getD (linked A 4928 10736 key (l .externs)) i 0 ≡ getD A i 0
+      other i p q = let h = small in linked-other A 4928 10736 key (l .externs) i (λ e. p (omega arith) (omega arith)) (λ e. q (omega arith))
 
-      grown : Indexes W (linked A 4928 10728 key (l .externs)) (externOn l)
+      grown : Indexes W (linked A 4928 10736 key (l .externs)) (externOn l)
       grown =
           let ix = st .index in
           let few = st .limited .names in
           let e = here in
           record {
             names =
-                chained-kept A _ 4160 6336 _ _ (l .names) (ix .names) (λ b h. other _ (omega arith) (omega arith)) (λ i h. other _ (omega arith) (omega arith))
+                chained-kept A _ 4160 6344 _ _ (l .names) (ix .names) (λ b h. other _ (omega arith) (omega arith)) (λ i h. other _ (omega arith) (omega arith))
                 (λ i h. ap (λ x. nameKey (nameAt W x)) (other i (omega arith) (omega arith)));
+            children = marked-kept A _ 5312 _ _ (l .children) (ix .children) (λ m h. other _ (omega arith) (omega arith)) (λ i h. refl);
+            definitions = marked-kept A _ 5824 _ _ (l .definitions) (ix .definitions) (λ m h. other _ (omega arith) (omega arith)) (λ i h. refl);
             scopes =
-                chained-kept A _ 4544 8384 _ _ (l .scopes) (ix .scopes) (λ b h. other _ (omega arith) (omega arith)) (λ i h. other _ (omega arith) (omega arith))
+                chained-kept A _ 4544 8392 _ _ (l .scopes) (ix .scopes) (λ b h. other _ (omega arith) (omega arith)) (λ i h. other _ (omega arith) (omega arith))
                 (λ i h. refl);
-            externs = chained-linked A 4928 10728 key (l .externs) (λ i. recordKey W 1 (externBase l + 3 * i)) (ix .externs) (omega arith) (omega arith) small (ap (recordKey W 1) here ∙ sym ek);
+            externs = chained-linked A 4928 10736 key (l .externs) (λ i. recordKey W 1 (externBase l + 3 * i)) (ix .externs) (omega arith) (omega arith) small (ap (recordKey W 1) here ∙ sym ek);
           }
+
+-- one word of the marks set: the rest stays
+module _ (W A : List ℕ) (l : Layout) (few : l .names ≤ 2048) (i : ℕ) (low : 5312 ≤ i) (high : i ≤ 6336) (ix : Indexes W A l) where
+  mark-other : (j : ℕ) → (j ≡ i → ⊥) → getD (set A i 1) j 0 ≡ getD A j 0
+  mark-other j h = getD-set-other A i j 1 0 h
+
+  names-stay : Chained (set A i 1) 4160 6344 (λ j. nameKey (nameAt W (nameHead (set A i 1) j))) (l .names)
+  names-stay =
+      chained-kept A _ 4160 6344 _ _ (l .names) (ix .names) (λ b h. mark-other _ (omega arith)) (λ j h. mark-other _ (omega arith))
+      (λ j h. ap (λ x. nameKey (nameAt W x)) (mark-other j (omega arith)))
+
+  scopes-stay : (m : Layout) → l .scopes ≡ 0 → Chained (set A i 1) 4544 8392 (λ j. recordKey W 2 (scopeBase m + 7 * j)) (l .scopes)
+  scopes-stay m z = chained-kept A _ 4544 8392 _ _ (l .scopes) (ix .scopes) (λ b h. mark-other _ (omega arith)) (λ j h. absurd (omega arith)) (λ j h. absurd (omega arith))
+
+  externs-stay : (m : Layout) → l .externs ≡ 0 → Chained (set A i 1) 4928 10736 (λ j. recordKey W 1 (externBase m + 3 * j)) (l .externs)
+  externs-stay m z = chained-kept A _ 4928 10736 _ _ (l .externs) (ix .externs) (λ b h. mark-other _ (omega arith)) (λ j h. absurd (omega arith)) (λ j h. absurd (omega arith))
+
+module _ (W A : List ℕ) (at : ℕ) (l : Layout) (ms : List Map) {s : ℕ} (large : 16384 ≤ length A) where
+  pub child-linked : Stands W A 6 at l ms → s ≡ childAt W at .child → s < 512 → Linked W A (set A (5312 + s) 1) (childOn l)
+  child-linked st es small =
+      let few = st .limited .names in
+      let ix = st .index in
+      let zd : l .definitions ≡ 0 = st .upto .definitions (lit< tt) in
+      let zp : l .preludes ≡ 0 = st .upto .preludes (lit< tt) in
+      let zs : l .scopes ≡ 0 = st .upto .scopes (lit< tt) in
+      let zi : l .imports ≡ 0 = st .upto .imports (lit< tt) in
+      let ze : l .externs ≡ 0 = st .upto .externs (lit< tt) in
+      let here : childBase l + 2 * l .children ≡ at = (let p = st .place in omega arith) in
+      record {
+        kept = λ i p q. getD-set-other A (5312 + s) i 1 0 (omega arith);
+        index = record {
+          names = names-stay W A l few (5312 + s) (omega arith) (omega arith) ix;
+          children = marked-more A 5312 (λ j. getD W (childBase l + 2 * j + 1) 0) (l .children) s (ix .children) (omega arith) (ap (λ x. getD W (x + 1) 0) here ∙ sym es);
+          definitions = marked-kept A _ 5824 _ _ (l .definitions) (ix .definitions) (λ m h. getD-set-other A (5312 + s) (5824 + m) 1 0 (omega arith)) (λ i h. absurd (omega arith));
+          scopes = scopes-stay W A l few (5312 + s) (omega arith) (omega arith) ix (childOn l) zs;
+          externs = externs-stay W A l few (5312 + s) (omega arith) (omega arith) ix (childOn l) ze;
+        };
+      }
+
+  pub definition-linked : Stands W A 8 at l ms → s ≡ slotOf W at → s ≤ 512 → Linked W A (set A (5824 + s) 1) (definitionOn l)
+  definition-linked st es small =
+      let few = st .limited .names in
+      let ix = st .index in
+      let zs : l .scopes ≡ 0 = st .upto .scopes (lit< tt) in
+      let zi : l .imports ≡ 0 = st .upto .imports (lit< tt) in
+      let ze : l .externs ≡ 0 = st .upto .externs (lit< tt) in
+      let here : definitionBase l + 3 * l .definitions ≡ at = (let p = st .place in omega arith) in
+      record {
+        kept = λ i p q. getD-set-other A (5824 + s) i 1 0 (omega arith);
+        index = record {
+          names = names-stay W A l few (5824 + s) (omega arith) (omega arith) ix;
+          children = marked-kept A _ 5312 _ _ (l .children) (ix .children) (λ m h. getD-set-other A (5824 + s) (5312 + m) 1 0 (omega arith)) (λ i h. refl);
+          definitions = marked-more A 5824 (λ j. slotOf W (definitionBase l + 3 * j)) (l .definitions) s (ix .definitions) (omega arith) (ap (slotOf W) here ∙ sym es);
+          scopes = scopes-stay W A l few (5824 + s) (omega arith) (omega arith) ix (definitionOn l) zs;
+          externs = externs-stay W A l few (5824 + s) (omega arith) (omega arith) ix (definitionOn l) ze;
+        };
+      }
+
+-- a child whose tests pass is a module, and so is what a definition of kind 1 has
+pub child-small : (W : List ℕ) (at : ℕ) (l : Layout) {n : ℕ} (b c d : Bool) → n ≡ numberOf true b c d true → n ≡ 0 → b ≡ childDefined (countsIn l) (childAt W at)
+    → childAt W at .child < l .modules
+child-small W at l b c d j z eb =
+    let x = childAt W at in
+    ltb-true _ _ (and-right (ltb (x .owner) (l .modules)) (ltb (x .child) (l .modules)) (sym eb ∙ passes true b c d true (sym z ∙ j) .defined))
+
+pub module-small : (n : Counts) (x : Definition) → definitionDefined n x ≡ true → x .kind ≡ 1 → x .first < n .modules
+module-small n x h e =
+    let p = not (eqb (x .kind) 2) || ltb (x .first) (n .definitions) && ltb (x .second) (n .names) in
+    let q = not (eqb (x .kind) 3) || ltb (x .first) (n .names) in
+    let r = eqb (x .kind) 2 || eqb (x .kind) 3 || ltb (x .first) (n .modules) in
+    let t : (eqb (x .kind) 2 || eqb (x .kind) 3 || ltb (x .first) (n .modules)) ≡ true = and-right (p && q) r h in
+    ltb-true _ _ (ap (λ k. eqb k 2 || eqb k 3 || ltb (x .first) (n .modules)) (sym e) ∙ t)
+
+pub slot-small : (W : List ℕ) (at : ℕ) (l : Layout) {n s : ℕ} (a b c d e : Bool) → n ≡ numberOf a b c d e → n ≡ 0 → b ≡ definitionDefined (countsIn l) (definitionAt W at)
+    → l .modules ≤ 512 → s ≡ slotOf W at → s ≤ 512
+unfolding slotOf
+slot-small W at l a b c d e j z eb few es = rw es (by (eqb (payOf (getD W at 0)) 1) refl)
+  where
+    by : (t : Bool) → eqb (payOf (getD W at 0)) 1 ≡ t → _≤_ (elim t [ true ↦ getD W (at + 1) 0 | false ↦ 512 ]) 512
+    by true q = (let h = module-small (countsIn l) (definitionAt W at) (sym eb ∙ passes a b c d e (sym z ∙ j) .defined) (eqb-true _ _ q) in omega arith)
+    by false q = omega arith
+
+slot-same : (W : List ℕ) (at b : ℕ) → payOf (getD W at 0) ≡ 1 → getD W (at + 1) 0 < 512 → (t : Bool) → eqb (payOf (getD W b 0)) 1 ≡ t
+    → eqb (getD W (at + 1) 0) (slotOf W b) ≡ sameBy W true 1 at b
+unfolding slotOf
+slot-same W at b ek small true q =
+    let e : eqb (payOf (getD W at 0)) (payOf (getD W b 0)) ≡ true = eq-eqb _ _ (ek ∙ sym (eqb-true _ _ q)) in
+    rw (slotOf, q, e) (sym (and-true _))
+slot-same W at b ek small false q =
+    let e : eqb (payOf (getD W at 0)) (payOf (getD W b 0)) ≡ false = ne-eqb _ _ (λ x. eqb-false _ _ q (sym x ∙ ek)) in
+    rw (slotOf, q, e) (ne-eqb (getD W (at + 1) 0) 512 (λ x. omega arith))
+
+-- a module's definition repeats an earlier one where its mark says so
+pub module-again : (W A : List ℕ) (at base n : ℕ) → payOf (getD W at 0) ≡ 1 → getD W (at + 1) 0 < 512 → Marked A 5824 (λ j. slotOf W (base + 3 * j)) n
+    → not (eqb (getD A (5824 + getD W (at + 1) 0) 0) 0) ≡ any (sameBy W true 1 at) (rows (λ k. base + 3 * k) 0 n)
+module-again W A at base n ek small mk =
+    mk .same (getD W (at + 1) 0) small ∙ any-same _ _ _ _ 0 n (λ i. slot-same W at (base + 3 * i) ek small (eqb (payOf (getD W (base + 3 * i) 0)) 1) refl)
 
 -- records that are the same have the same key
 key-same : (W : List ℕ) (fields a b : ℕ) → 1 ≤ fields → fields ≤ 2 → sameBy W true fields a b ≡ true → recordKey W fields b ≡ recordKey W fields a

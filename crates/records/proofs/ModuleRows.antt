@@ -153,8 +153,8 @@ module _ (W A : List ℕ) (at : ℕ) (l : Layout) (ms : List Map) (st : Stands W
                 (let q = st .limited .crates in
                 row-other A (l .modules) x y z (4096 + c) (omega arith) (omega arith) (omega arith) ∙ st .own c h);
             index =
-                indexes-early W A (rowSet A (l .modules) x y z) l (moduleOn l) (st .index) (st .limited .names) names-stay
-                (λ i u. row-other A (l .modules) x y z i (omega arith) (omega arith) (omega arith)) refl refl refl (st .upto .scopes (lit< tt)) (st .upto .externs (lit< tt));
+                indexes-early W A (rowSet A (l .modules) x y z) 5 l (moduleOn l) (st .index) (st .limited .names) names-stay
+                (λ i u. row-other A (l .modules) x y z i (omega arith) (omega arith) (omega arith)) refl refl refl refl refl (st .upto) (lit< tt);
           }
         where
           rises : (j : ℕ) → j < l .modules + 1 → (i : ℕ) → i ≤ j → moduleMap (rowSet A (l .modules) x y z) i ≤ moduleMap (rowSet A (l .modules) x y z) j

@@ -125,7 +125,7 @@ module _ (W A B : List ℕ) (at : ℕ) (l : Layout) (ms : List Map) (st : Stands
             ap (λ k. getD (ms ++ (mapAt W at ∷ [])) k noMap) (map-of m h) ∙ List·getD-append ms (mapAt W at ∷ []) noMap (moduleMap A m) (omega arith) ∙ st .inside m h
             ∙ ap (mapAt W) (sym (kept (2048 + 3 * m + 1) (omega arith) (omega arith))));
         own = own;
-        index = indexes-early W A B l (mapOn l at) (st .index) (st .limited .names) (λ i u v. kept i u (omega arith)) above refl refl refl (st .upto .scopes (lit< tt)) (st .upto .externs (lit< tt));
+        index = indexes-early W A B 4 l (mapOn l at) (st .index) (st .limited .names) (λ i u v. kept i u (omega arith)) above refl refl refl refl refl (st .upto) (lit< tt);
       }
 
 pub map-defined : (n : Counts) (x : Map) → mapDefined n x ≡ true → (x .crate < n .crates) × (x .block ≤ n .modules)

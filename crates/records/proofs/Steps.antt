@@ -17,8 +17,8 @@ use Rattle.record_rules.specs.Steps.{Next, no, on, dependencyStep, childStep, p
 use Rattle.record_rules.specs.Stands.{numberOf, sameBy, countsIn, Stands, Answered}
 use Rattle.record_rules.specs.declared.judge.Step.the-variants.{No, On}
 use Rattle.records.proofs.Grows.{dependencyOn, dependency-added, dependency-stands, childOn, child-added, child-stands, preludeOn, prelude-added, prelude-stands, definitionOn, definition-added, definition-stands, scopeOn, scope-added, scope-stands, importOn, import-added, import-stands, externOn, extern-added, extern-stands}
-use Rattle.records.proofs.Linked.{Linked}
-use Rattle.record_rules.proofs.Judged.{number-of, judge-no, judge-on, passes, counts-same, child-again, prelude-again, definition-again, scope-again, extern-again, scope-definition, import-definition, ns-same, child-same, parent-same}
+use Rattle.records.proofs.Linked.{Linked, module-small}
+use Rattle.record_rules.proofs.Judged.{number-of, judge-no, judge-on, passes, counts-same, any-same, and-right, prelude-again, definition-again, scope-again, extern-again, scope-definition, import-definition, ns-same, child-same, parent-same}
 
 -- the names of a builtin definition that is in range
 builtin-same : (W A : List ℕ) (names first : ℕ) → (leb names first || isBuiltin (nameAt W (nameHead A first))) ≡ (leb names first || isBuiltin (getD (rows (λ k. nameAt W (nameHead A k)) 0 names) first noName))
@@ -57,19 +57,25 @@ module _ (W A : List ℕ) (at : ℕ) (l : Layout) (ms : List Map) (st : Stands W
 
 module _ (W A : List ℕ) (at : ℕ) (l : Layout) (ms : List Map) (st : Stands W A 6 at l ms)
     {n : ℕ} {b c d : Bool}
-    {base : ℕ}
+    {child : ℕ}
     (j : n ≡ numberOf true b c d true)
     (eb : b ≡ childDefined (countsIn l) (childAt W at))
-    (es : base ≡ childBase l)
-    (ec : c ≡ any (sameBy W false 1 at) (rows (λ k. base + 2 * k) 0 (l .children)))
+    (es : child ≡ childAt W at .child)
+    (ec : c ≡ not (eqb (getD A (5312 + child) 0) 0))
     (ed : d ≡ (eqb (moduleMap A (childAt W at .child)) (moduleMap A (childAt W at .owner)) && eqb (moduleParent A (childAt W at .child)) (childAt W at .owner + 1)))
   where
+    child-in : childDefined (countsIn l) (childAt W at) ≡ true → childAt W at .child < 512
+    child-in h =
+        let p : childAt W at .child < l .modules = ltb-true _ _ (and-right (ltb (childAt W at .owner) (l .modules)) (ltb (childAt W at .child) (l .modules)) h) in
+        let q = st .limited .modules in
+        omega arith
+
     child-number : n ≡ numberOf true (childDefined (countsOf (snapWith W A l ms)) (childAt W at)) (any (sameChild (childAt W at)) ((snapWith W A l ms) .children)) (childPlaced (snapWith W A l ms) (childAt W at)) true
     child-number =
         number-of true b c d true true (childDefined (countsOf (snapWith W A l ms)) (childAt W at)) (any (sameChild (childAt W at)) ((snapWith W A l ms) .children)) (childPlaced (snapWith W A l ms) (childAt W at)) true j
         refl
         (eb ∙ ap (λ m. childDefined m (childAt W at)) (counts-same W A 6 at l ms st))
-        (λ h. ec ∙ ap (λ m. any (sameBy W false 1 at) (rows (λ k. m + 2 * k) 0 (l .children))) es ∙ child-again W at (childBase l) (l .children))
+        (λ h. ec ∙ ap (λ m. not (eqb (getD A (5312 + m) 0) 0)) es ∙ st .index .children .same (childAt W at .child) (child-in (sym eb ∙ h)) ∙ any-same _ _ _ _ 0 (l .children) (λ i. refl))
         (λ h. ed ∙ child-same W A l ms (childAt W at) (sym eb ∙ h))
         refl
 
@@ -77,12 +83,12 @@ module _ (W A : List ℕ) (at : ℕ) (l : Layout) (ms : List Map) (st : Stands W
     unfolding childStep
     child-no z = judge-no true (childDefined (countsOf (snapWith W A l ms)) (childAt W at)) (any (sameChild (childAt W at)) ((snapWith W A l ms) .children)) (childPlaced (snapWith W A l ms) (childAt W at)) true (addChild (snapWith W A l ms) (childAt W at)) child-number z
 
-    pub child-on : n ≡ 0 → at + 2 ≤ length W → Answered W A 6 (at + 2) (childStep (snapWith W A l ms) (childAt W at)) (On (childOn l))
+    pub child-on : (B : List ℕ) → n ≡ 0 → at + 2 ≤ length W → Linked W A B (childOn l) → Answered W B 6 (at + 2) (childStep (snapWith W A l ms) (childAt W at)) (On (childOn l))
     unfolding childStep
-    child-on z fits = (
+    child-on B z fits x = (
       ms,
-      judge-on true (childDefined (countsOf (snapWith W A l ms)) (childAt W at)) (any (sameChild (childAt W at)) ((snapWith W A l ms) .children)) (childPlaced (snapWith W A l ms) (childAt W at)) true (addChild (snapWith W A l ms) (childAt W at)) (passes true (childDefined (countsOf (snapWith W A l ms)) (childAt W at)) (any (sameChild (childAt W at)) ((snapWith W A l ms) .children)) (childPlaced (snapWith W A l ms) (childAt W at)) true (sym z ∙ child-number)) ∙ ap on (sym (child-added W A at l ms st)),
-      child-stands W A at l ms st fits,
+      judge-on true (childDefined (countsOf (snapWith W A l ms)) (childAt W at)) (any (sameChild (childAt W at)) ((snapWith W A l ms) .children)) (childPlaced (snapWith W A l ms) (childAt W at)) true (addChild (snapWith W A l ms) (childAt W at)) (passes true (childDefined (countsOf (snapWith W A l ms)) (childAt W at)) (any (sameChild (childAt W at)) ((snapWith W A l ms) .children)) (childPlaced (snapWith W A l ms) (childAt W at)) true (sym z ∙ child-number)) ∙ ap on (sym (child-added W A B at l ms st (x .kept))),
+      child-stands W A B at l ms st (x .kept) fits (x .index),
     )
 
 module _ (W A : List ℕ) (at : ℕ) (l : Layout) (ms : List Map) (st : Stands W A 7 at l ms)
@@ -120,7 +126,7 @@ module _ (W A : List ℕ) (at : ℕ) (l : Layout) (ms : List Map) (st : Stands W
     (j : n ≡ numberOf a b c d e)
     (ea : a ≡ (leb 1 (definitionAt W at .kind) && leb (definitionAt W at .kind) 5 && (eqb (definitionAt W at .kind) 2 || eqb (definitionAt W at .second) 0) && (not (eqb (definitionAt W at .kind) 3) || leb (l .names) (definitionAt W at .first) || isBuiltin (nameAt W (nameHead A (definitionAt W at .first))))))
     (eb : b ≡ definitionDefined (countsIn l) (definitionAt W at))
-    (ec : c ≡ ((eqb (definitionAt W at .kind) 1 || eqb (definitionAt W at .kind) 3) && any (sameBy W true 1 at) (rows (λ k. definitionBase l + 3 * k) 0 (l .definitions))))
+    (ec : (definitionAt W at .kind ≡ 1 → definitionAt W at .first < 512) → c ≡ ((eqb (definitionAt W at .kind) 1 || eqb (definitionAt W at .kind) 3) && any (sameBy W true 1 at) (rows (λ k. definitionBase l + 3 * k) 0 (l .definitions))))
     (ed : d ≡ (not (eqb (definitionAt W at .kind) 2) || eqb (definitionAt W (definitionBase l + 3 * definitionAt W at .first) .kind) 4))
     (ee : e ≡ ltb (l .definitions) 2048)
   where
@@ -133,7 +139,7 @@ module _ (W A : List ℕ) (at : ℕ) (l : Layout) (ms : List Map) (st : Stands W
         number-of a b c d e (definitionRange (snapWith W A l ms) (definitionAt W at)) (definitionDefined (countsOf (snapWith W A l ms)) (definitionAt W at)) (definitionRepeated (snapWith W A l ms) (definitionAt W at)) (definitionPlaced (snapWith W A l ms) (definitionAt W at)) (ltb (length ((snapWith W A l ms) .definitions)) 2048) j
         (ea ∙ ap (λ x. leb 1 (definitionAt W at .kind) && leb (definitionAt W at .kind) 5 && (eqb (definitionAt W at .kind) 2 || eqb (definitionAt W at .second) 0) && x) (range-same (eqb (definitionAt W at .kind) 3)) ∙ ap (λ m. leb 1 (definitionAt W at .kind) && leb (definitionAt W at .kind) 5 && (eqb (definitionAt W at .kind) 2 || eqb (definitionAt W at .second) 0) && (not (eqb (definitionAt W at .kind) 3) || leb m (definitionAt W at .first) || isBuiltin (getD (snapWith W A l ms .names) (definitionAt W at .first) noName))) (sym (length-rows _ (l .names))))
         (eb ∙ ap (λ m. definitionDefined m (definitionAt W at)) (counts-same W A 8 at l ms st))
-        (λ h. ec ∙ ap (λ x. (eqb (definitionAt W at .kind) 1 || eqb (definitionAt W at .kind) 3) && x) (definition-again W at (definitionBase l) (l .definitions)))
+        (λ h. ec (λ e. (let p = module-small (countsIn l) (definitionAt W at) (sym eb ∙ h) e in let q = st .limited .modules in omega arith)) ∙ ap (λ x. (eqb (definitionAt W at .kind) 1 || eqb (definitionAt W at .kind) 3) && x) (definition-again W at (definitionBase l) (l .definitions)))
         (λ h. ed ∙ parent-same W A l ms (definitionAt W at) (sym eb ∙ h))
         (ee ∙ ap (λ m. ltb m 2048) (sym (length-rows _ (l .definitions))))
 
@@ -141,12 +147,12 @@ module _ (W A : List ℕ) (at : ℕ) (l : Layout) (ms : List Map) (st : Stands W
     unfolding definitionStep
     definition-no z = judge-no (definitionRange (snapWith W A l ms) (definitionAt W at)) (definitionDefined (countsOf (snapWith W A l ms)) (definitionAt W at)) (definitionRepeated (snapWith W A l ms) (definitionAt W at)) (definitionPlaced (snapWith W A l ms) (definitionAt W at)) (ltb (length ((snapWith W A l ms) .definitions)) 2048) (addDefinition (snapWith W A l ms) (definitionAt W at)) definition-number z
 
-    pub definition-on : n ≡ 0 → at + 3 ≤ length W → Answered W A 8 (at + 3) (definitionStep (snapWith W A l ms) (definitionAt W at)) (On (definitionOn l))
+    pub definition-on : (B : List ℕ) → n ≡ 0 → at + 3 ≤ length W → Linked W A B (definitionOn l) → Answered W B 8 (at + 3) (definitionStep (snapWith W A l ms) (definitionAt W at)) (On (definitionOn l))
     unfolding definitionStep
-    definition-on z fits = (
+    definition-on B z fits x = (
       ms,
-      judge-on (definitionRange (snapWith W A l ms) (definitionAt W at)) (definitionDefined (countsOf (snapWith W A l ms)) (definitionAt W at)) (definitionRepeated (snapWith W A l ms) (definitionAt W at)) (definitionPlaced (snapWith W A l ms) (definitionAt W at)) (ltb (length ((snapWith W A l ms) .definitions)) 2048) (addDefinition (snapWith W A l ms) (definitionAt W at)) (passes (definitionRange (snapWith W A l ms) (definitionAt W at)) (definitionDefined (countsOf (snapWith W A l ms)) (definitionAt W at)) (definitionRepeated (snapWith W A l ms) (definitionAt W at)) (definitionPlaced (snapWith W A l ms) (definitionAt W at)) (ltb (length ((snapWith W A l ms) .definitions)) 2048) (sym z ∙ definition-number)) ∙ ap on (sym (definition-added W A at l ms st)),
-      definition-stands W A at l ms st fits (ltb-true (l .definitions) 2048 (ap (λ m. ltb m 2048) (sym (length-rows (λ j. definitionAt W (definitionBase l + 3 * j)) (l .definitions))) ∙ passes (definitionRange (snapWith W A l ms) (definitionAt W at)) (definitionDefined (countsOf (snapWith W A l ms)) (definitionAt W at)) (definitionRepeated (snapWith W A l ms) (definitionAt W at)) (definitionPlaced (snapWith W A l ms) (definitionAt W at)) (ltb (length ((snapWith W A l ms) .definitions)) 2048) (sym z ∙ definition-number) .room)),
+      judge-on (definitionRange (snapWith W A l ms) (definitionAt W at)) (definitionDefined (countsOf (snapWith W A l ms)) (definitionAt W at)) (definitionRepeated (snapWith W A l ms) (definitionAt W at)) (definitionPlaced (snapWith W A l ms) (definitionAt W at)) (ltb (length ((snapWith W A l ms) .definitions)) 2048) (addDefinition (snapWith W A l ms) (definitionAt W at)) (passes (definitionRange (snapWith W A l ms) (definitionAt W at)) (definitionDefined (countsOf (snapWith W A l ms)) (definitionAt W at)) (definitionRepeated (snapWith W A l ms) (definitionAt W at)) (definitionPlaced (snapWith W A l ms) (definitionAt W at)) (ltb (length ((snapWith W A l ms) .definitions)) 2048) (sym z ∙ definition-number)) ∙ ap on (sym (definition-added W A B at l ms st (x .kept))),
+      definition-stands W A B at l ms st (x .kept) fits (ltb-true (l .definitions) 2048 (ap (λ m. ltb m 2048) (sym (length-rows (λ j. definitionAt W (definitionBase l + 3 * j)) (l .definitions))) ∙ passes (definitionRange (snapWith W A l ms) (definitionAt W at)) (definitionDefined (countsOf (snapWith W A l ms)) (definitionAt W at)) (definitionRepeated (snapWith W A l ms) (definitionAt W at)) (definitionPlaced (snapWith W A l ms) (definitionAt W at)) (ltb (length ((snapWith W A l ms) .definitions)) 2048) (sym z ∙ definition-number) .room)) (x .index),
     )
 
 module _ (W A : List ℕ) (at : ℕ) (l : Layout) (ms : List Map) (st : Stands W A 9 at l ms)

@@ -10,7 +10,7 @@ ghost use Rattle.snapshot.specs.Layouts.{snapWith};
 ghost use Rattle.record_rules.specs.Tests.{childDefined, sameChild, childPlaced};
 ghost use Rattle.record_rules.specs.Steps.{childStep};
 ghost use Rattle.record_rules.specs.Stands.{Ready, Stands, Answered, countsIn};
-use crate::repeats::repeated;
+use chains::chain::Chains;
 use record_rules::judge::Step;
 use record_rules::judge::judge;
 use snapshot::layout::Layout;
@@ -18,6 +18,7 @@ use snapshot::record::child_child;
 use snapshot::record::child_owner;
 use snapshot::table::module_map;
 use snapshot::table::module_parent;
+use snapshot::words::word;
 
 fn defined(words: &[u32], l: Layout, at: usize) -> bool
     ensures { λ r. ⌜ r ≡ childDefined (countsIn l) (childAt (now (words .entry)) at) ⌝ }
@@ -38,11 +39,13 @@ fn placed(words: &[u32], area: &[u32], at: usize) -> bool
 }
 
 /// A child.
-pub fn step(words: &[u32], area: &[u32], l: Layout, at: usize) -> Step
+pub fn step(words: &[u32], area: &mut [u32], l: Layout, at: usize) -> Step
     requires { ⌜ Ready (now words) (now area) l at (at + 2) ⌝ }
-    ensures { λ r. ⌜ ((ms : List Map) → Stands (now (words .entry)) (now (area .entry)) 6 at l ms → Answered (now (words .entry)) (now (area .entry)) 6 (at + 2) (childStep (snapWith (now (words .entry)) (now (area .entry)) l ms) (childAt (now (words .entry)) at)) r) ⌝ }
+    ensures { λ r. ⌜ ((ms : List Map) → Stands (now (words .entry)) (now (area .entry)) 6 at l ms → Answered (now (words .entry)) (now (area .exit)) 6 (at + 2) (childStep (snapWith (now (words .entry)) (now (area .entry)) l ms) (childAt (now (words .entry)) at)) r) ⌝ }
 {
-    let old = repeated(words, false, 1, at, l.child_base(), 2, l.children);
+    let child = child_child(words, at);
+    let mark = Chains::CHILD_MARKS + child.0;
+    let old = word(area, mark) != 0;
     let n = judge(
         true,
         defined(words, l, at),
@@ -53,6 +56,7 @@ pub fn step(words: &[u32], area: &[u32], l: Layout, at: usize) -> Step
     if n != 0 {
         return Step::No(n);
     }
+    area[mark] = 1;
     let mut m = l;
     m.children = l.children + 1;
     Step::On(m)

@@ -10,10 +10,13 @@ ghost use Rattle.snapshot.specs.Records.{nameAt};
 ghost use Rattle.snapshot.specs.Layouts.{wordCount, definitionBase, nameHead};
 ghost use Rattle.snapshot.specs.Records.{Map, definitionAt};
 ghost use Rattle.snapshot.specs.Layouts.{snapWith};
+ghost use Rattle.chains.specs.Chains.{slotOf, Marked};
 ghost use Rattle.record_rules.specs.Tests.{definitionDefined, definitionRange, definitionRepeated, definitionPlaced, nsPlaced, isBuiltin, sameDefinition};
 ghost use Rattle.record_rules.specs.Steps.{definitionStep};
 ghost use Rattle.record_rules.specs.Stands.{Ready, Stands, Answered, countsIn, sameBy};
 use crate::repeats::repeated;
+use chains::chain::Chains;
+use chains::keys::module_slot;
 use record_rules::judge::Step;
 use record_rules::judge::judge;
 use record_rules::names::is_builtin;
@@ -24,6 +27,7 @@ use snapshot::record::definition_first;
 use snapshot::record::definition_kind;
 use snapshot::record::definition_second;
 use snapshot::table::name_head;
+use snapshot::words::word;
 
 // The kind of a definition that is there, or another number.
 fn kind_at(words: &[u32], l: Layout, d: DefinitionId) -> usize
@@ -84,33 +88,40 @@ fn placed(words: &[u32], l: Layout, at: usize) -> bool
 }
 
 // A module or a builtin that has a definition already; the other kinds may stand again.
-fn again(words: &[u32], l: Layout, at: usize) -> bool
+fn again(words: &[u32], area: &[u32], l: Layout, at: usize) -> bool
+    requires { ⌜ Marked (now area) 5824 (λ j. slotOf (now words) (definitionBase l + 3 * j)) (l .definitions) ⌝ }
     requires { ⌜ (wordCount l ≤ at) × (at + 3 ≤ length (now words)) × (length (now words) < 2 ^ 32) ⌝ }
-    ensures { λ r. ⌜ r ≡ ((eqb (definitionAt (now (words .entry)) at .kind) 1 || eqb (definitionAt (now (words .entry)) at .kind) 3) && any (sameBy (now (words .entry)) true 1 at) (rows (λ k. definitionBase l + 3 * k) 0 (l .definitions))) ⌝ }
+    ensures { λ r. ⌜ ((definitionAt (now (words .entry)) at .kind ≡ 1 → definitionAt (now (words .entry)) at .first < 512) → r ≡ ((eqb (definitionAt (now (words .entry)) at .kind) 1 || eqb (definitionAt (now (words .entry)) at .kind) 3) && any (sameBy (now (words .entry)) true 1 at) (rows (λ k. definitionBase l + 3 * k) 0 (l .definitions)))) ⌝ }
 {
     let kind = definition_kind(words, at);
     if (kind != 1) & (kind != 3) {
         return false;
     }
+    if kind == 1 {
+        let mark = Chains::MODULE_MARKS + definition_first(words, at);
+        return word(area, mark) != 0;
+    }
     repeated(words, true, 1, at, l.definition_base(), 3, l.definitions)
 }
 
 /// A definition.
-pub fn step(words: &[u32], area: &[u32], l: Layout, at: usize) -> Step
+pub fn step(words: &[u32], area: &mut [u32], l: Layout, at: usize) -> Step
     requires { ⌜ Ready (now words) (now area) l at (at + 3) ⌝ }
-    ensures { λ r. ⌜ ((ms : List Map) → Stands (now (words .entry)) (now (area .entry)) 8 at l ms → Answered (now (words .entry)) (now (area .entry)) 8 (at + 3) (definitionStep (snapWith (now (words .entry)) (now (area .entry)) l ms) (definitionAt (now (words .entry)) at)) r) ⌝ }
+    ensures { λ r. ⌜ ((ms : List Map) → Stands (now (words .entry)) (now (area .entry)) 8 at l ms → Answered (now (words .entry)) (now (area .exit)) 8 (at + 3) (definitionStep (snapWith (now (words .entry)) (now (area .entry)) l ms) (definitionAt (now (words .entry)) at)) r) ⌝ }
 {
     let room = l.definitions < DefinitionId::LIMIT;
     let n = judge(
         in_range(words, area, l, at),
         defined(words, l, at),
-        again(words, l, at),
+        again(words, area, l, at),
         placed(words, l, at),
         room,
     );
     if n != 0 {
         return Step::No(n);
     }
+    let slot = module_slot(words, at);
+    area[Chains::MODULE_MARKS + slot] = 1;
     let mut m = l;
     m.definitions = l.definitions + 1;
     Step::On(m)

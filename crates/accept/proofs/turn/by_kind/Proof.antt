@@ -132,9 +132,9 @@ same-length-6 c = search needs
 returns-6 : tie.Need-returns-6
 unfolding argumentsOf recordStep
 returns-6 c ms st =
-    let s = c .before .before .before .before .before in
-    let e = (c .before .before .match .keys6) in
-    answers-at (now (s .args .words)) (now (s .args .area)) (c .step6 .result) e (next-of (now (s .args .words)) (s .args .at) 6 2 (s .pre .1 .0) (c .before .before .match .keys6) refl) (ap (λ x. recordStep x (now (s .args .words)) (s .args .at) (snapWith (now (s .args .words)) (now (s .args .area)) (s .args .l) ms)) e) (c .step6 .ensures ms (stands-at (now (s .args .words)) (now (s .args .area)) (s .args .at) (s .args .l) ms e st))
+    let s = c .before .before .before .before .before .before .before in
+    let e = (c .before .before .before .before .match .keys6) in
+    answers-at (now (s .args .words)) (c .before .before .step6 .last .1 .0) (c .before .before .step6 .result) e (next-of (now (s .args .words)) (s .args .at) 6 2 (s .pre .1 .0) (c .before .before .before .before .match .keys6) refl) (ap (λ x. recordStep x (now (s .args .words)) (s .args .at) (snapWith (now (s .args .words)) (now (s .args .area)) (s .args .l) ms)) e) (c .before .before .step6 .ensures ms (stands-at (now (s .args .words)) (now (s .args .area)) (s .args .at) (s .args .l) ms e st))
 
 same-length-7 : tie.Need-same-length-7
 same-length-7 c = search needs
@@ -152,9 +152,9 @@ same-length-8 c = search needs
 returns-8 : tie.Need-returns-8
 unfolding argumentsOf recordStep
 returns-8 c ms st =
-    let s = c .before .before .before .before .before in
-    let e = (c .before .before .match .keys8) in
-    answers-at (now (s .args .words)) (now (s .args .area)) (c .step8 .result) e (next-of (now (s .args .words)) (s .args .at) 8 3 (s .pre .1 .0) (c .before .before .match .keys8) refl) (ap (λ x. recordStep x (now (s .args .words)) (s .args .at) (snapWith (now (s .args .words)) (now (s .args .area)) (s .args .l) ms)) e) (c .step8 .ensures ms (stands-at (now (s .args .words)) (now (s .args .area)) (s .args .at) (s .args .l) ms e st))
+    let s = c .before .before .before .before .before .before .before in
+    let e = (c .before .before .before .before .match .keys8) in
+    answers-at (now (s .args .words)) (c .before .before .step8 .last .1 .0) (c .before .before .step8 .result) e (next-of (now (s .args .words)) (s .args .at) 8 3 (s .pre .1 .0) (c .before .before .before .before .match .keys8) refl) (ap (λ x. recordStep x (now (s .args .words)) (s .args .at) (snapWith (now (s .args .words)) (now (s .args .area)) (s .args .l) ms)) e) (c .before .before .step8 .ensures ms (stands-at (now (s .args .words)) (now (s .args .area)) (s .args .at) (s .args .l) ms e st))
 
 same-length-9 : tie.Need-same-length-9
 same-length-9 c = search needs
