@@ -1,8 +1,8 @@
 -- After the last record: the last tests, and the tables of accepted words.
 use Prim.Native.Nat.{ℕ, zero, suc, _+_, _-_, _*_, _≤_, _<_}
 use mathlib.Core.Path.{_≡_, refl, sym, _∙_, ap, subst}
-use mathlib.Core.List.{List, [], _∷_}
-use mathlib.Core.Bool.{Bool, true, false, _&&_, _||_, not, false≢true}
+use mathlib.Core.List.{List}
+use mathlib.Core.Bool.{Bool, true, false, _||_, not, false≢true}
 use native.Mathlib.Omega.{arith}
 use native.Mathlib.Nat.{add-zero, zero-add}
 use lib.ListN.{length, getD}
@@ -10,15 +10,14 @@ use lib.Seq.{ext-getD}
 use lib.Dec.{eqb, leb}
 use borrow.Author.Tests.{eqb-true, eqb-false, leb-true, leb-false, lt-leb, not-true}
 use Rattle.snapshot.specs.Lists.{rows, any, all}
-use Rattle.snapshot.specs.Words.{payOf, wordsOf}
 use Rattle.snapshot.specs.Records.{Map, mapAt, crateAt, dependencyAt, childAt, preludeAt, definitionAt, scopeAt, importAt, externAt}
 use Rattle.snapshot.specs.Layouts.{crateBase, dependencyBase, childBase, preludeBase, definitionBase, scopeBase, importBase, externBase, moduleMap, moduleHead, mapRoot, ownMap, moduleRow, namesOf, mapsOf, modulesOf, recordsOf, snapWith, snapOf}
 use Rattle.snapshot.specs.declared.layout.Layout.{Layout}
-use Rattle.snapshot.proofs.Laws.{length-rows, getD-rows, rows-ext}
+use Rattle.snapshot.proofs.Laws.{length-rows, getD-rows}
 use Rattle.record_rules.specs.Tests.{noMap, isOwn, isIn, mapsFilled, cratesOwn}
-use Rattle.accept.specs.Verdict.{Verdict, refuse, accept, finish, verdict}
-use Rattle.record_rules.specs.Stands.{ownFrom, ownOf, Stands, Rooted}
-use Rattle.accept.specs.Post.{Tables, Judged}
+use Rattle.accept.specs.Verdict.{refuse, accept, finish, verdict}
+use Rattle.record_rules.specs.Stands.{ownOf, Stands, Rooted}
+use Rattle.accept.specs.Post.{Judged}
 use Rattle.accept.specs.Ends.{Ended}
 use Rattle.accept.specs.declared.check.Checked.{Checked}
 use Rattle.accept.specs.declared.check.Checked.the-variants.{Refused, Accepted}

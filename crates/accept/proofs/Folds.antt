@@ -1,8 +1,7 @@
 -- The loop over the records goes along the fold of the definition.
 use Prim.Native.Nat.{ℕ, zero, suc, _+_, _-_, _≤_, _<_}
-use mathlib.Core.Path.{_≡_, refl, sym, _∙_, ap, subst}
+use mathlib.Core.Path.{_≡_, refl, sym, _∙_, subst}
 use mathlib.Core.List.{List, []}
-use mathlib.Core.Bool.{true, false}
 use native.Mathlib.Omega.{arith}
 use lib.ListN.{length, getD}
 use borrow.Author.Tests.{lt-ltb, le-ltb, le-leb}
@@ -12,7 +11,7 @@ use Rattle.snapshot.specs.Records.{Map, Snapshot}
 use Rattle.snapshot.specs.Layouts.{noRecords, snapWith}
 use Rattle.snapshot.specs.declared.layout.Layout.{Layout}
 use Rattle.record_rules.specs.Steps.{no, on}
-use Rattle.accept.specs.Verdict.{stepAt, Verdict, refuse, finish, records, verdict}
+use Rattle.accept.specs.Verdict.{stepAt, refuse, finish, records, verdict}
 use Rattle.record_rules.specs.Stands.{Here, Stands, Answered}
 use Rattle.accept.specs.Ends.{Ended}
 use Rattle.record_rules.proofs.Indexed.{indexes-none}

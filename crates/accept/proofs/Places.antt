@@ -1,6 +1,6 @@
 -- Children stand under their owners, macros are of kind 5, own maps are one a crate, and nothing stands twice.
-use mathlib.Core.Path.{_≡_, refl, ap, sym, _∙_}
-use Prim.Native.Nat.{ℕ, zero, suc, _+_, _≤_, _<_}
+use mathlib.Core.Path.{_≡_, ap, sym, _∙_}
+use Prim.Native.Nat.{ℕ, _+_, _<_}
 use native.Mathlib.Omega.{arith}
 use mathlib.Core.List.{List, [], _∷_, _++_}
 use mathlib.Core.Bool.{Bool, true, false, _&&_, _||_, not, true≢false}
@@ -11,7 +11,7 @@ use Rattle.snapshot.specs.Lists.{any}
 use Rattle.snapshot.specs.Records.{Snapshot, Map, Module, Child, Definition, Scope, Import}
 use Rattle.record_rules.specs.Tests.{countsOf, noName, noMap, noModule, noDefinition, mapOf, kindOfDefinition, isIn, isOwn, mapsFilled, cratesOwn, childDefined, childPlaced, nsPlaced, mapRepeated, sameDefinition, definitionRepeated, sameName, sameChild, samePrelude, sameEntry, sameExtern, scopeDefined, importDefined}
 use Rattle.accept.specs.Verdict.{accept, verdict}
-use Rattle.accept.specs.Valid.{Each, none, mapIn, parentIn, blockIn, crateIn, definitionIn, Under, MacroOnly, Distinct, Owned, DefinedOnce, Once}
+use Rattle.accept.specs.Valid.{Each, none, mapIn, parentIn, blockIn, crateIn, definitionIn, Under, MacroOnly, Owned, DefinedOnce, Once}
 use Rattle.accept.proofs.Accepted.{Keeps, keeps-of, verdict-keeps}
 use Rattle.accept.proofs.Bools.{and-two, and-four, and-five, unless-right, length-snoc, getD-old, getD-new, old-or-new, any-none, any-some, all-below, distinct-snoc, each-map, each-snoc}
 

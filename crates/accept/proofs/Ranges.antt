@@ -1,18 +1,18 @@
 -- The fields and numbers of an accepted snapshot are in range.
-use mathlib.Core.Path.{_≡_, refl, sym, _∙_}
-use Prim.Native.Nat.{ℕ, zero, suc, _+_, _≤_, _<_}
+use mathlib.Core.Path.{_≡_}
+use Prim.Native.Nat.{ℕ, _+_, _≤_}
 use native.Mathlib.Omega.{arith}
 use mathlib.Core.List.{List, [], _∷_, _++_}
 use mathlib.Core.Bool.{Bool, true, false, _&&_, _||_, not}
 use lib.Dec.{eqb, ltb, leb}
-use lib.ListN.{length, getD}
-use borrow.Author.Tests.{eqb-true, eqb-false, eq-eqb, ne-eqb, ltb-true, leb-true}
+use lib.ListN.{length}
+use borrow.Author.Tests.{eqb-true, eq-eqb, ne-eqb, ltb-true, leb-true}
 use Rattle.snapshot.specs.Records.{Name, Crate, Dependency, Map, Module, Child, Prelude, Definition, Scope, Import, Extern, Snapshot}
-use Rattle.record_rules.specs.Tests.{Counts, countsOf, padded, nameRange, crateRange, dependencyRange, dependencyDefined, mapRange, mapDefined, moduleDefined, childDefined, preludeDefined, definitionRange, definitionDefined, scopeRange, scopeDefined, importRange, importDefined, externDefined}
+use Rattle.record_rules.specs.Tests.{Counts, countsOf, padded, nameRange, crateRange, dependencyRange, dependencyDefined, mapRange, mapDefined, moduleDefined, childDefined, preludeDefined, definitionDefined, scopeRange, scopeDefined, importRange, importDefined, externDefined}
 use Rattle.record_rules.specs.Steps.{addName, addCrate, addDependency, addMap, addModule, addChild, addPrelude, addDefinition, addScope, addImport, addExtern}
 use Rattle.accept.specs.Verdict.{accept, verdict, empty}
-use Rattle.accept.specs.Valid.{Each, none, NameFits, CrateFits, DependencyFits, MapFits, ModuleFits, ChildFits, PreludeFits, DefinitionFits, ScopeFits, ImportFits, ExternFits, Ranges, Limits}
-use Rattle.accept.proofs.Accepted.{by-test, Keeps, Ends, verdict-keeps}
+use Rattle.accept.specs.Valid.{none, NameFits, CrateFits, DependencyFits, MapFits, ModuleFits, ChildFits, PreludeFits, DefinitionFits, ScopeFits, ImportFits, ExternFits, Ranges, Limits}
+use Rattle.accept.proofs.Accepted.{by-test, Keeps, verdict-keeps}
 use Rattle.accept.proofs.Bools.{and-two, and-three, and-four, and-five, unless-right, or-right, length-snoc, each-map, each-snoc}
 
 -- the tests of each kind

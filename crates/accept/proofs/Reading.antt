@@ -1,15 +1,13 @@
 -- The records that accepted words hold, each at its place, are in range.
 use mathlib.Core.Path.{_≡_, subst}
 use Prim.Native.Nat.{ℕ, _+_, _*_, _<_}
-use native.Mathlib.Omega.{arith}
 use mathlib.Core.List.{List}
-use Rattle.snapshot.specs.Records.{Snapshot, crateAt, dependencyAt, mapAt, childAt, preludeAt, definitionAt, scopeAt, importAt, externAt}
-use Rattle.snapshot.specs.Layouts.{crateBase, dependencyBase, childBase, preludeBase, definitionBase, scopeBase, importBase, externBase, nameHead, moduleRow, moduleHead, mapRoot, snapOf}
+use Rattle.snapshot.specs.Records.{crateAt, dependencyAt, mapAt, childAt, preludeAt, definitionAt, scopeAt, importAt, externAt}
+use Rattle.snapshot.specs.Layouts.{crateBase, dependencyBase, childBase, preludeBase, definitionBase, scopeBase, importBase, externBase, moduleRow, moduleHead, mapRoot, snapOf}
 use Rattle.snapshot.specs.declared.layout.Layout.{Layout}
 use Rattle.snapshot.proofs.Laws.{length-rows}
 use Rattle.record_rules.specs.Tests.{Counts, countsOf}
 use Rattle.record_rules.specs.Stands.{countsIn}
-use Rattle.accept.specs.Verdict.{accept, verdict}
 use Rattle.accept.specs.Valid.{CrateFits, DependencyFits, MapFits, ModuleFits, ChildFits, PreludeFits, DefinitionFits, ScopeFits, ImportFits, ExternFits, Ranges, Valid}
 use Rattle.accept.proofs.Bools.{each-rows}
 

@@ -1,10 +1,9 @@
 -- Accepted words stay readable while the words of the tables stay: what a search writes past them does not matter.
 use Prim.Native.Nat.{ℕ, _+_, _*_, _≤_, _<_}
-use mathlib.Core.Path.{_≡_, refl, sym, _∙_, ap, subst}
+use mathlib.Core.Path.{_≡_, refl, sym, _∙_, ap}
 use mathlib.Core.List.{List, _++_}
-use mathlib.Core.Bool.{true, false}
 use native.Mathlib.Omega.{arith}
-use lib.ListN.{length, getD, take, drop, List·getD-append}
+use lib.ListN.{length, getD, drop, List·getD-append}
 use lib.Seq.{drop-at}
 use borrow.Author.Tests.{lt-ltb, le-ltb}
 use Rattle.snapshot.specs.Records.{mapAt, crateAt, dependencyAt, childAt, preludeAt, definitionAt, scopeAt, importAt, externAt}
@@ -12,7 +11,7 @@ use Rattle.snapshot.specs.Layouts.{crateBase, dependencyBase, childBase, prelud
 use Rattle.snapshot.specs.declared.layout.Layout.{Layout}
 use Rattle.snapshot.proofs.Laws.{rows-ext}
 use Rattle.record_rules.specs.Tests.{noMap}
-use Rattle.accept.specs.Verdict.{refuse, accept}
+use Rattle.accept.specs.Verdict.{accept}
 use Rattle.record_rules.specs.Stands.{ownOf}
 use Rattle.accept.specs.Post.{Tables, Reads, Judged, Checks, checkOf, outcome, Readable}
 use Rattle.accept.specs.declared.check.Checked.{Checked}

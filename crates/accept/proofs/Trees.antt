@@ -1,18 +1,18 @@
 -- The maps and modules of an accepted snapshot are a tree, and a variant's parent is no variant.
 use mathlib.Core.Path.{_≡_, refl, ap, sym, _∙_}
-use Prim.Native.Nat.{ℕ, zero, suc, _+_, _-_, _≤_, _<_}
+use Prim.Native.Nat.{ℕ, suc, _+_, _-_, _≤_, _<_}
 use native.Mathlib.Omega.{arith}
 use mathlib.Core.List.{List, [], _∷_, _++_}
 use mathlib.Core.Bool.{Bool, true, false, _&&_, _||_, not, true≢false}
-use lib.Dec.{eqb, ltb, leb}
+use lib.Dec.{eqb, ltb}
 use lib.ListN.{length, getD}
-use borrow.Author.Tests.{eqb-true, eqb-false, eq-eqb, ne-eqb, ltb-true, leb-true}
+use borrow.Author.Tests.{eqb-true, eq-eqb, ne-eqb, ltb-true, leb-true}
 use Rattle.snapshot.specs.Records.{Snapshot, Map, Module, Definition}
 use Rattle.snapshot.specs.Lists.{any}
 use Rattle.record_rules.specs.Tests.{isIn, countsOf, noMap, noModule, noDefinition, mapDefined, mapPlaced, moduleDefined, modulePlaced, definitionDefined, definitionPlaced}
 use Rattle.accept.specs.Verdict.{accept, verdict}
-use Rattle.accept.specs.Valid.{mapIn, parentIn, blockIn, crateIn, definitionIn, Tree, Enums}
-use Rattle.accept.proofs.Accepted.{by-test, Keeps, keeps-of, verdict-keeps}
+use Rattle.accept.specs.Valid.{mapIn, parentIn, crateIn, definitionIn, Tree, Enums}
+use Rattle.accept.proofs.Accepted.{Keeps, keeps-of, verdict-keeps}
 use Rattle.accept.proofs.Bools.{and-left, and-right, unless-right, or-right, any-none, length-snoc, getD-old, getD-new, old-or-new}
 
 module _ (s : Snapshot) (y : Definition) (defined : definitionDefined (countsOf s) y ≡ true) (placed : definitionPlaced s y ≡ true) where

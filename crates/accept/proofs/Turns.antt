@@ -10,9 +10,9 @@ use borrow.Author.Tests.{ltb-true, leb-true, eqb-true}
 use Rattle.snapshot.specs.Words.{kindOf, payOf, wordsOf, argumentTable, argumentsOf, argumentsAt}
 use Rattle.snapshot.specs.Records.{Map, Snapshot}
 use Rattle.snapshot.specs.declared.layout.Layout.{Layout}
-use Rattle.record_rules.specs.Steps.{Next, no, on, need}
+use Rattle.record_rules.specs.Steps.{Next, no, need}
 use Rattle.accept.specs.Verdict.{follows, argumentsFrom, recordStep, stepAt}
-use Rattle.record_rules.specs.Stands.{Upto, Here, Ready, Stands, Answered}
+use Rattle.record_rules.specs.Stands.{Here, Ready, Stands, Answered}
 use Rattle.record_rules.specs.declared.judge.Step.{Step}
 use Rattle.record_rules.proofs.Judged.{and-left, and-right}
 

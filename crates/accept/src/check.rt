@@ -1,6 +1,5 @@
 //! The check of all the words.
-ghost use mathlib.Core.Path.{_≡_};
-ghost use Prim.Native.Nat.{ℕ, _≤_};
+ghost use Prim.Native.Nat.{_≤_};
 ghost use lib.ListN.{length};
 ghost use Rattle.accept.specs.Post.{Judged, Checks};
 ghost use Rattle.accept.specs.Ends.{Ended};

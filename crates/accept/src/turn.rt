@@ -1,7 +1,7 @@
 //! One record, by its kind.
 ghost use mathlib.Core.Path.{_≡_};
 ghost use mathlib.Core.List.{List};
-ghost use Prim.Native.Nat.{ℕ, _+_, _≤_};
+ghost use Prim.Native.Nat.{_+_, _≤_};
 ghost use lib.ListN.{getD};
 ghost use Rattle.snapshot.specs.Words.{kindOf, argumentsAt};
 ghost use Rattle.snapshot.specs.Records.{Map};

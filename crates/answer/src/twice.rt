@@ -1,5 +1,4 @@
 //! A question with two fuels.
-ghost use mathlib.Core.Path.{_≡_};
 ghost use Rattle.answer.specs.Twice.{AnswersTwice};
 use crate::answer::find_path;
 use find_path::Query;

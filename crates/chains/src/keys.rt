@@ -1,6 +1,6 @@
 //! The keys. Records that are the same have the same key.
 ghost use mathlib.Core.Path.{_≡_};
-ghost use Prim.Native.Nat.{ℕ, _+_, _^_, _<_};
+ghost use Prim.Native.Nat.{_+_, _^_, _<_};
 ghost use lib.ListN.{getD};
 ghost use Rattle.snapshot.specs.Lists.{rows};
 ghost use Rattle.snapshot.specs.Records.{nameAt};

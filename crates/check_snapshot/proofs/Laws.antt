@@ -1,8 +1,7 @@
 -- Laws of the verdict on bytes, and of the text.
 use Prim.Native.Nat.{ℕ, _+_, _/_, _%_, _≤_, _<_, min}
-use mathlib.Core.Path.{_≡_, refl, sym, _∙_, ap, subst}
-use mathlib.Core.List.{List, [], _∷_, _++_}
-use mathlib.Core.Bool.{Bool, true, false}
+use mathlib.Core.Path.{_≡_, sym, _∙_, ap, subst}
+use mathlib.Core.List.{List, _++_}
 use native.Mathlib.Omega.{arith}
 use borrow.Author.Tests.{eq-eqb, ne-eqb, le-ltb, le-leb, lt-leb}
 use lib.ListN.{length, take, length-take}
@@ -11,7 +10,7 @@ use Rattle.io.specs.Counts.{Counts}
 use Rattle.snapshot.specs.Layouts.{snapOf}
 use Rattle.snapshot.specs.declared.layout.Layout.{Layout}
 use Rattle.snapshot.proofs.Laws.{length-rows}
-use Rattle.accept.specs.Verdict.{Verdict, refuse, accept, verdict}
+use Rattle.accept.specs.Verdict.{refuse, accept, verdict}
 use Rattle.accept.specs.Post.{checkOf, outcome}
 use Rattle.accept.specs.declared.check.Checked.{Checked}
 use Rattle.printing.specs.Output.{Put, bytesOf}

@@ -1,6 +1,6 @@
 //! The text that is printed.
 ghost use mathlib.Core.Path.{_≡_};
-ghost use Prim.Native.Nat.{ℕ, _≤_};
+ghost use Prim.Native.Nat.{_≤_};
 ghost use lib.ListN.{length, take};
 ghost use Rattle.io.specs.Counts.{Counts};
 ghost use Rattle.check_snapshot.specs.Verdict.{verdictOf};

@@ -1,6 +1,6 @@
 //! The check of a snapshot's bytes.
 ghost use mathlib.Core.Path.{_≡_};
-ghost use Prim.Native.Nat.{ℕ, _≤_};
+ghost use Prim.Native.Nat.{_≤_};
 ghost use lib.ListN.{length};
 ghost use Rattle.accept.specs.Post.{outcome};
 ghost use Rattle.check_snapshot.specs.Verdict.{wordsOf, verdictOf};

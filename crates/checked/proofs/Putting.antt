@@ -5,7 +5,7 @@ use mathlib.Core.List.{List, _++_}
 use Rattle.snapshot.specs.Records.{Snapshot}
 use Rattle.snapshot.specs.Layouts.{snapOf}
 use Rattle.snapshot.specs.declared.layout.Layout.{Layout}
-use Rattle.accept.specs.Verdict.{Verdict, refuse, accept, verdict}
+use Rattle.accept.specs.Verdict.{Verdict, refuse, verdict}
 use Rattle.accept.specs.Post.{Judged}
 use Rattle.accept.specs.declared.check.Checked.{Checked}
 use Rattle.accept.specs.declared.check.Checked.the-variants.{Refused, Accepted}

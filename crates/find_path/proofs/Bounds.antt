@@ -1,15 +1,15 @@
 -- Names of a path: at most the length left, sixteen places, zero past the names; and how long its text is.
-use mathlib.Core.Path.{_≡_, refl, ap, sym, _∙_}
+use mathlib.Core.Path.{_≡_, refl, _∙_}
 use Prim.Native.Nat.{ℕ, zero, suc, _+_, _*_, _≤_, _<_}
 use native.Mathlib.Omega.{arith}
 use mathlib.Core.List.{List, [], _∷_, _++_}
-use mathlib.Core.Bool.{Bool, true, false, _&&_, _||_, not}
+use mathlib.Core.Bool.{Bool, true, false, _||_, not}
 use mathlib.Core.Option.{Option, none, some}
-use lib.ListN.{length, getD, set, replicate, length-set, length-replicate}
+use lib.ListN.{length, getD, replicate, length-set}
 use lib.Seq.{getD-set-other}
 use Rattle.snapshot.specs.Limits.{pathLimit}
 use Rattle.snapshot.specs.Records.{Snapshot, Dependency, Definition, Import, Extern}
-use Rattle.hir_def.specs.Items.{types, crateRoot, definitionOf, itemOf}
+use Rattle.hir_def.specs.Items.{types, crateRoot, itemOf}
 use lib.Dec.{eqb}
 use Rattle.hir_def.specs.Nameres.{dependenciesOf, langOf, sysrootFirst, externOf}
 use Rattle.hir_def.specs.ImportMap.{importInfoFor, isUnstable}
@@ -22,9 +22,9 @@ use Rattle.find_path.specs.declared.KwKind.{KwKind}
 use Rattle.find_path.specs.declared.KwKind.the-variants.{Kw, NoKw}
 use Rattle.find_path.specs.declared.FindPathCtx.{FindPathCtx}
 use Rattle.find_path.specs.declared.Query.{Query}
-use Rattle.find_path.specs.Choices.{nameLen, pathKindLen, plainPath, cratePath, nothing, keyword, choiceNew, extended, push, unstably, better, trySelect, lengthLeft}
+use Rattle.find_path.specs.Choices.{nameLen, pathKindLen, plainPath, cratePath, nothing, keyword, choiceNew, extended, push, unstably, better, trySelect}
 use Rattle.find_path.specs.Walk.{Level}
-use Rattle.find_path.specs.Rules.{byCrate, mayBeInScope, prefixPathKind, contextOf, firstFound, single, scopeRule, preludeRule, externName, rootRule, keywordOf, moduleRules, isKwKindRelativeToFrom, findInScope, findInPrelude}
+use Rattle.find_path.specs.Rules.{byCrate, mayBeInScope, prefixPathKind, contextOf, firstFound, single, scopeRule, preludeRule, externName, rootRule, keywordOf, moduleRules, isKwKindRelativeToFrom, findInScope}
 use Rattle.find_path.specs.Local.{LocalSearch, offer, importableName, location, eachLocation, calculateBestPathLocal, orLocal, findPathForModuleLocal}
 use Rattle.find_path.specs.Meters.{Charged, go, stop, Charge}
 use Rattle.find_path.specs.Charged.{Out, Search, Inner, langs, oneOrNone, variantOf, offerImport, findImport, findImports, findInDep, findInDeps, findInSysroot, goOn, afterCharge, calculateBestPath, orCharged, findPathForModule, afterEnum, viaEnum, orEnum, byName, ofModule, findPathInner}

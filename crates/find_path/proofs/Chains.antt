@@ -1,12 +1,12 @@
 -- In an accepted snapshot the parent of a variant is no variant, so the item search is its rule over itself.
 use mathlib.Core.Path.{_≡_, refl, ap, sym, _∙_}
-use Prim.Native.Nat.{ℕ, zero, suc, _≤_, _<_}
+use Prim.Native.Nat.{ℕ, zero, suc, _≤_}
 use native.Mathlib.Omega.{arith}
 use native.Mathlib.Decide.{decLe}
 use mathlib.Core.List.{List, [], _∷_}
-use mathlib.Core.Option.{Option, none, some}
+use mathlib.Core.Option.{none, some}
 use lib.Dec.{eqb}
-use lib.ListN.{length, getD}
+use lib.ListN.{length}
 use borrow.Author.Tests.{eqb-true}
 use Rattle.snapshot.specs.Records.{Snapshot, Definition}
 use Rattle.accept.specs.Tests.{noDefinition}
@@ -18,7 +18,7 @@ use Rattle.hir_def.specs.Items.{types, definitionOf, itemOf}
 use Rattle.hir_def.specs.declared.Item.{Item}
 use Rattle.hir_def.specs.declared.Item.the-variants.{Mod, Def}
 use Rattle.find_path.specs.declared.FindPathCtx.{FindPathCtx}
-use Rattle.find_path.specs.Meters.{Charged, Charge}
+use Rattle.find_path.specs.Meters.{Charge}
 use Rattle.find_path.specs.Charged.{variantOf, findPathInner}
 use Rattle.find_path.specs.Search.{bestLocal, searchModule, searchItem}
 use Rattle.find_path.proofs.Unfold.{EnumNoVariant, inner-more}

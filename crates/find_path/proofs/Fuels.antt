@@ -1,26 +1,23 @@
 -- Demand 3.
 use mathlib.Core.Path.{_≡_, refl, ap, sym, _∙_}
 use mathlib.Core.List.{List, [], _∷_, _++_}
-use mathlib.Core.Bool.{Bool, true, false, not, true≢false}
-use mathlib.Core.Logic.{_↔_}
-use Prim.Native.Nat.{ℕ, _+_, _≤_, _<_, min}
+use mathlib.Core.Bool.{false, not}
+use Prim.Native.Nat.{ℕ, _+_, _≤_, _<_}
 use native.Mathlib.Omega.{arith}
 use lib.ListN.{length, getD, length-append, List·getD-append}
 use lib.Seq.{getD-at}
-use Rattle.snapshot.specs.Limits.{fuelLimit}
 use Rattle.snapshot.specs.Records.{Snapshot}
 use Rattle.accept.specs.Verdict.{accept, verdict}
 use Rattle.find_path.specs.declared.Choice.{Choice}
 use Rattle.find_path.specs.declared.Tank.{Tank}
 use Rattle.find_path.specs.declared.Query.{Query}
 use Rattle.find_path.specs.declared.Report.{Report}
-use Rattle.find_path.specs.Meters.{Spot, fromTank, filled, counted, listed}
+use Rattle.find_path.specs.Meters.{Spot, filled, counted, listed}
 use Rattle.find_path.specs.Charged.{Out}
-use Rattle.find_path.specs.Search.{findPath}
 use Rattle.find_path.specs.Report.{refused, flag, reported, searched, searchedFreely, searchedListing}
-use Rattle.find_path.specs.Fuels.{reportAt, IsRefused, Shows, Tells, noSpot, SameSearch, TellsFirst, Compared, FuelsCompared}
+use Rattle.find_path.specs.Fuels.{reportAt, IsRefused, Tells, noSpot, SameSearch, TellsFirst, Compared, FuelsCompared}
 use Rattle.find_path.proofs.Outcomes.{Kind, refusal, answer, kind-of}
-use Rattle.find_path.proofs.Sim.{Dry, Sync, Free, Sim, same, dry, search-sim}
+use Rattle.find_path.proofs.Sim.{Free, Sim, same, dry, search-sim}
 
 -- a report that is not refused is that of a search on an accepted snapshot
 pub record Searched (words : List ℕ) (q : Query) (fuel : ℕ) (r : Report) : Type 0 where

@@ -5,7 +5,7 @@ use mathlib.Core.Bool.{Bool, true, false}
 use mathlib.Core.Option.{Option, none, some}
 use Rattle.snapshot.specs.Limits.{pathLimit}
 use Rattle.snapshot.specs.Records.{Snapshot, Dependency, Definition, Import}
-use Rattle.hir_def.specs.Items.{types, itemOf, homeOf}
+use Rattle.hir_def.specs.Items.{types, itemOf}
 use Rattle.hir_def.specs.Nameres.{dependenciesOf, langOf, sysrootFirst}
 use Rattle.hir_def.specs.ImportMap.{importInfoFor}
 use Rattle.hir_def.specs.declared.Item.{Item}
@@ -13,10 +13,9 @@ use Rattle.hir_def.specs.declared.Item.the-variants.{Mod, Def}
 use Rattle.find_path.specs.declared.Choice.{Choice}
 use Rattle.find_path.specs.declared.FindPathCtx.{FindPathCtx}
 use Rattle.find_path.specs.declared.Query.{Query}
-use Rattle.find_path.specs.Choices.{nothing, lengthLeft}
-use Rattle.find_path.specs.Rules.{contextOf, firstFound, scopeRule, preludeRule, moduleRules}
+use Rattle.find_path.specs.Rules.{contextOf}
 use Rattle.find_path.specs.Meters.{Charged, go, stop, Charge}
-use Rattle.find_path.specs.Charged.{Out, Search, Inner, isStable, langs, oneOrNone, isAt, variantOf, findImport, findImports, findInDep, findInDeps, findInSysroot, goOn, afterCharge, calculateBestPath, orCharged, findPathForModule, afterEnum, viaEnum, orEnum, byName, ofModule, findPathInner}
+use Rattle.find_path.specs.Charged.{Out, Search, Inner, langs, oneOrNone, variantOf, findImport, findImports, findInDep, findInDeps, findInSysroot, goOn, afterCharge, calculateBestPath, orCharged, findPathForModule, afterEnum, viaEnum, orEnum, byName, ofModule, findPathInner}
 use Rattle.find_path.specs.Search.{bestLocal, moduleTo, searchModule, itemTo, searchItem, fromHome, fromItem, findPath}
 
 -- the meter after a charge

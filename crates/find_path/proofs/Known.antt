@@ -4,7 +4,7 @@ use Prim.Native.Nat.{ℕ, zero, suc, _≤_, _<_}
 use native.Mathlib.Omega.{arith}
 use native.Mathlib.Decide.{decLe}
 use mathlib.Core.List.{List, [], _∷_, _++_}
-use mathlib.Core.Bool.{Bool, true, false, _&&_, _||_, not}
+use mathlib.Core.Bool.{Bool, true, false, _||_, not}
 use mathlib.Core.Option.{Option, none, some}
 use lib.Dec.{eqb}
 use lib.ListN.{length, getD, set, replicate, List·getD-eq-default}
@@ -18,10 +18,9 @@ use Rattle.accept.proofs.Accepted.{by-test}
 use Rattle.accept.proofs.Bools.{and-right, each-at}
 use Rattle.accept.proofs.Ranges.{accepted-ranges}
 use Rattle.hir_def.specs.Finds.{firstOf, orFirst, firstSome}
-use Rattle.hir_def.specs.Items.{types, variantKind, builtinKind, mapNo, parentOf, rootOf, crateOf, crateRoot, inBlock, definitionOf, itemOf, nsOf}
-use Rattle.hir_def.specs.Visibility.{sees}
+use Rattle.hir_def.specs.Items.{types, variantKind, builtinKind, mapNo, parentOf, rootOf, crateOf, crateRoot, inBlock, definitionOf, itemOf}
 use Rattle.hir_def.specs.ItemScope.{nameOf, namesOf, isFresh, preferred}
-use Rattle.hir_def.specs.Nameres.{ancestorMaps, scopeEntry, entryNamed, preludeOf, dependenciesOf, langOf, sysrootFirst, externOf}
+use Rattle.hir_def.specs.Nameres.{ancestorMaps, scopeEntry, preludeOf, dependenciesOf, langOf, sysrootFirst, externOf}
 use Rattle.hir_def.specs.ImportMap.{importInfoFor, isUnstable}
 use Rattle.hir_def.specs.declared.Item.{Item}
 use Rattle.hir_def.specs.declared.Item.the-variants.{Mod, Def}

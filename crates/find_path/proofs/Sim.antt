@@ -1,13 +1,13 @@
 -- The search with a tank against one that always goes on: they go together until the tank is found empty.
 use mathlib.Core.Path.{_≡_, refl, ap, sym, subst}
-use Prim.Native.Nat.{ℕ, zero, suc, _+_, _≤_, _<_}
+use Prim.Native.Nat.{ℕ, zero, suc, _+_}
 use native.Mathlib.Omega.{arith}
 use mathlib.Core.List.{List, [], _∷_}
 use mathlib.Core.Bool.{Bool, true, false, true≢false}
 use mathlib.Core.Option.{Option, none, some}
 use Rattle.snapshot.specs.Limits.{pathLimit}
 use Rattle.snapshot.specs.Records.{Snapshot, Dependency, Definition, Import}
-use Rattle.hir_def.specs.Items.{types, itemOf, homeOf}
+use Rattle.hir_def.specs.Items.{types, itemOf}
 use Rattle.hir_def.specs.Nameres.{dependenciesOf, langOf, sysrootFirst}
 use Rattle.hir_def.specs.ImportMap.{importInfoFor}
 use Rattle.hir_def.specs.declared.Item.{Item}
@@ -16,12 +16,11 @@ use Rattle.find_path.specs.declared.Choice.{Choice}
 use Rattle.find_path.specs.declared.Tank.{Tank}
 use Rattle.find_path.specs.declared.FindPathCtx.{FindPathCtx}
 use Rattle.find_path.specs.declared.Query.{Query}
-use Rattle.find_path.specs.Choices.{nothing, push, lengthLeft}
 use Rattle.find_path.specs.Rules.{contextOf}
-use Rattle.find_path.specs.Meters.{Charged, Charge, go, stop, drained, draw, fromTank}
-use Rattle.find_path.specs.Charged.{Out, Search, Inner, isStable, langs, oneOrNone, isAt, variantOf, offerImport, findImport, findImports, findInDep, findInDeps, findInSysroot, goOn, afterCharge, calculateBestPath, orCharged, findPathForModule, afterEnum, viaEnum, orEnum, byName, ofModule, findPathInner}
+use Rattle.find_path.specs.Meters.{Charged, Charge, go, drained, draw, fromTank}
+use Rattle.find_path.specs.Charged.{Out, Search, Inner, isStable, langs, oneOrNone, variantOf, offerImport, findImport, findImports, findInDep, findInDeps, findInSysroot, goOn, afterCharge, calculateBestPath, orCharged, findPathForModule, afterEnum, viaEnum, orEnum, byName, ofModule, findPathInner}
 use Rattle.find_path.specs.Search.{bestLocal, moduleTo, searchModule, itemTo, searchItem, fromHome, fromItem, findPath}
-use Rattle.find_path.proofs.Keeps.{left-by, KeptBy, KeptWithin, import-keeps, deps-keep, sysroot-keeps, go-keeps, enum-keeps, moduleTo-keeps, module-search-keeps, itemTo-keeps}
+use Rattle.find_path.proofs.Keeps.{left-by, KeptBy, sysroot-keeps, go-keeps, enum-keeps, moduleTo-keeps, module-search-keeps}
 
 -- the tank held F at first, is used up, and was first found empty by a charge that was told l and m
 pub record Dry (F l m : ℕ) (t : Tank) : Type 0 where

@@ -1,6 +1,6 @@
 -- What accepted words give the code of the search, and what stays while the tables stay.
-use Prim.Native.Nat.{ℕ, _+_, _*_, _≤_, _<_}
-use mathlib.Core.Path.{_≡_, refl, sym, _∙_, ap}
+use Prim.Native.Nat.{ℕ, _≤_}
+use mathlib.Core.Path.{_≡_, sym, _∙_, ap}
 use mathlib.Core.List.{List, []}
 use native.Mathlib.Omega.{arith}
 use native.Mathlib.Decide.{decLe}
@@ -14,7 +14,7 @@ use Rattle.accept.specs.Post.{Reads}
 use Rattle.accept.proofs.Tabled.{Kept}
 use Rattle.accept.proofs.Stable.{snap-stays, reads-stay}
 use Rattle.find_path.specs.declared.FindPathCtx.{FindPathCtx}
-use Rattle.find_path.specs.Choices.{nameData, nameLen}
+use Rattle.find_path.specs.Choices.{nameData}
 use Rattle.find_path.specs.Conditions.{Prepared}
 use Rattle.find_path.proofs.Names.{name-bytes, name-short}
 use Rattle.find_path.proofs.Bounds.{Short}

@@ -9,7 +9,7 @@ use Rattle.find_path.specs.declared.Tank.{Tank}
 use Rattle.find_path.specs.declared.FindPathCtx.{FindPathCtx}
 use Rattle.find_path.specs.Meters.{drained, draw, fromTank}
 use Rattle.find_path.specs.Charged.{calculateBestPath}
-use Rattle.find_path.specs.Search.{bestLocal, searchModule, itemTo, searchItem}
+use Rattle.find_path.specs.Search.{bestLocal, searchModule, searchItem}
 use Rattle.find_path.proofs.Keeps.{left-by, best-keeps, module-search-keeps, itemTo-keeps}
 
 abbrev pub sum : Tank → ℕ

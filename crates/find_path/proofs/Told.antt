@@ -1,11 +1,10 @@
 -- What a charge is told lies in bounds, a length up to 15 and a module of the snapshot, and so does what a tank keeps of it.
-use Prim.Native.Nat.{ℕ, zero, suc, _+_, _≤_, _<_}
-use mathlib.Core.Path.{_≡_, refl}
+use Prim.Native.Nat.{ℕ, zero, suc, _≤_, _<_}
+use mathlib.Core.Path.{_≡_}
 use mathlib.Core.List.{List, [], _∷_}
 use mathlib.Core.Bool.{Bool, true, false, _&&_}
 use mathlib.Core.Option.{Option, none, some}
 use native.Mathlib.Omega.{arith}
-use native.Mathlib.Decide.{decLe}
 use borrow.Author.Tests.{eqb-true}
 use lib.Dec.{eqb}
 use lib.ListN.{length}
@@ -16,7 +15,7 @@ use Rattle.accept.specs.Tests.{countsOf}
 use Rattle.accept.specs.Valid.{Each, more, ImportFits, Ranges}
 use Rattle.accept.proofs.Accepted.{by-test}
 use Rattle.accept.proofs.Ranges.{accepted-ranges}
-use Rattle.hir_def.specs.Items.{types, moduleKind, definitionOf, itemOf, homeOf}
+use Rattle.hir_def.specs.Items.{types, moduleKind, definitionOf, itemOf}
 use Rattle.hir_def.specs.Nameres.{dependenciesOf, langOf, sysrootFirst}
 use Rattle.hir_def.specs.ImportMap.{importInfoFor}
 use Rattle.hir_def.specs.declared.Item.{Item}
@@ -25,10 +24,9 @@ use Rattle.find_path.specs.declared.Choice.{Choice}
 use Rattle.find_path.specs.declared.Tank.{Tank}
 use Rattle.find_path.specs.declared.FindPathCtx.{FindPathCtx}
 use Rattle.find_path.specs.declared.Query.{Query}
-use Rattle.find_path.specs.Choices.{nothing, lengthLeft}
 use Rattle.find_path.specs.Rules.{contextOf, moduleIn, soughtOf}
 use Rattle.find_path.specs.Meters.{Charged, go, stop, drained, draw, fromTank, filled}
-use Rattle.find_path.specs.Charged.{Out, Search, Inner, isStable, langs, oneOrNone, isAt, variantOf, findImport, findImports, findInDep, findInDeps, findInSysroot, goOn, afterCharge, calculateBestPath, orCharged, findPathForModule, afterEnum, viaEnum, orEnum, byName, ofModule, findPathInner}
+use Rattle.find_path.specs.Charged.{Out, Search, Inner, langs, oneOrNone, variantOf, findImport, findImports, findInDep, findInDeps, findInSysroot, goOn, afterCharge, calculateBestPath, orCharged, findPathForModule, afterEnum, viaEnum, orEnum, byName, ofModule, findPathInner}
 use Rattle.find_path.specs.Search.{bestLocal, moduleTo, searchModule, itemTo, searchItem, fromHome, fromItem, findPath}
 use Rattle.find_path.specs.Report.{searched}
 use Rattle.find_path.proofs.Keeps.{left-by}

@@ -1,8 +1,8 @@
 -- The number of turns hidden: the walk over the worklist takes the same modules with any number of turns that is enough.
 use mathlib.Core.Path.{_≡_, refl, ap, sym, _∙_}
-use Prim.Native.Nat.{ℕ, zero, suc, _+_, _≤_, _<_}
+use Prim.Native.Nat.{ℕ, zero, suc, _+_, _≤_}
 use native.Mathlib.Omega.{arith}
-use mathlib.Core.List.{List, [], _∷_, _++_, map}
+use mathlib.Core.List.{List, [], _∷_, _++_}
 use mathlib.Core.Bool.{Bool, true, false, _&&_, _||_, not, or-false, true≢false}
 use lib.Dec.{eqb}
 use lib.ListN.{length, length-append, length-map}

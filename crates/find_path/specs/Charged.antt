@@ -15,8 +15,8 @@ use Rattle.find_path.specs.declared.Choice.{Choice}
 use Rattle.find_path.specs.declared.Tank.{Tank}
 use Rattle.find_path.specs.declared.Found.{Found}
 use Rattle.find_path.specs.declared.FindPathCtx.{FindPathCtx}
-use Rattle.find_path.specs.Choices.{nothing, choiceNew, push, unstably, lengthLeft}
-use Rattle.find_path.specs.Rules.{contextOf, soughtOf, firstFound, scopeRule, preludeRule, moduleRules}
+use Rattle.find_path.specs.Choices.{nothing, push, unstably, lengthLeft}
+use Rattle.find_path.specs.Rules.{soughtOf, firstFound, scopeRule, preludeRule, moduleRules}
 use Rattle.find_path.specs.Local.{offer}
 use Rattle.find_path.specs.Meters.{Charged, Charge, go, stop}
 

@@ -1,6 +1,6 @@
 -- `Choice`, `push`, `try_select`, and the lengths of a path.
-use Prim.Native.Nat.{ℕ, zero, suc, _+_, _-_, min, compare, Ordering, Ordering·lt, Ordering·eq, Ordering·gt}
-use mathlib.Core.List.{List, [], _∷_}
+use Prim.Native.Nat.{ℕ, _+_, _-_, min, compare, Ordering, Ordering·lt, Ordering·eq, Ordering·gt}
+use mathlib.Core.List.{[], _∷_}
 use mathlib.Core.Bool.{Bool, true, false, _&&_, _||_}
 use lib.Dec.{eqb, ltb}
 use lib.ListN.{getD, replicate, set}

@@ -1,7 +1,7 @@
 -- The searches: each rule over itself. The length left falls at each step, so it serves as the depth; proofs/Unfold.antt
 -- shows that the depth plays no part.
 use Prim.Native.Nat.{ℕ, zero, suc}
-use mathlib.Core.List.{List, [], _∷_}
+use mathlib.Core.List.{[]}
 use mathlib.Core.Bool.{Bool, true, false, _&&_}
 use lib.Dec.{eqb}
 use Rattle.snapshot.specs.Records.{Snapshot}
@@ -12,7 +12,6 @@ use Rattle.find_path.specs.declared.FindPathCtx.{FindPathCtx}
 use Rattle.find_path.specs.declared.Query.{Query}
 use Rattle.find_path.specs.Choices.{plainPath, nothing, choiceNew}
 use Rattle.find_path.specs.Rules.{contextOf}
-use Rattle.find_path.specs.Walk.{Level}
 use Rattle.find_path.specs.Local.{LocalSearch, calculateBestPathLocal, findPathForModuleLocal}
 use Rattle.find_path.specs.Meters.{Charge}
 use Rattle.find_path.specs.Charged.{Out, Search, findPathForModule, findPathInner}

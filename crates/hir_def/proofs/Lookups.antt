@@ -2,7 +2,7 @@
 use Prim.Native.Nat.{ℕ, _+_, _-_, _*_, _/_, _%_, _≤_, _<_}
 use mathlib.Core.Path.{_≡_, refl, sym, _∙_, ap, ap₂, subst}
 use mathlib.Core.List.{List, [], _∷_, _++_, reverse, reverse-append}
-use mathlib.Core.Bool.{Bool, true, false, _&&_, _||_, not, and-true, or-true, false≢true}
+use mathlib.Core.Bool.{Bool, true, false, _&&_, not, and-true, or-true, false≢true}
 use mathlib.Core.Option.{Option, none, some}
 use native.Mathlib.Omega.{arith}
 use native.Mathlib.Nat.{one-mul}

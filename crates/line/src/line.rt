@@ -1,7 +1,6 @@
 //! The line of a report.
-ghost use mathlib.Core.Path.{_≡_};
-ghost use mathlib.Core.List.{List, _++_};
-ghost use Prim.Native.Nat.{ℕ, _+_, _≤_, _<_};
+ghost use mathlib.Core.List.{_++_};
+ghost use Prim.Native.Nat.{_+_, _≤_};
 ghost use lib.ListN.{length};
 ghost use Rattle.snapshot.specs.Records.{Snapshot};
 ghost use Rattle.snapshot.specs.Layouts.{snapOf};

@@ -1,7 +1,6 @@
 //! The text of a path.
-ghost use mathlib.Core.Path.{_≡_};
-ghost use mathlib.Core.List.{List, map, _++_};
-ghost use Prim.Native.Nat.{ℕ, _+_, _≤_, _<_};
+ghost use mathlib.Core.List.{map, _++_};
+ghost use Prim.Native.Nat.{_+_, _≤_, _<_};
 ghost use lib.ListN.{length, take};
 ghost use Rattle.snapshot.specs.Layouts.{snapOf};
 ghost use Rattle.accept.specs.Post.{Reads};

@@ -1,7 +1,6 @@
 //! The cases of the list, each up to a full stop: a title, an equals sign, the words, a question mark and the queries, five
 //! words each. Text without an equals sign is a comment.
-ghost use mathlib.Core.Path.{_≡_};
-ghost use Prim.Native.Nat.{ℕ, _+_, _≤_};
+ghost use Prim.Native.Nat.{_+_, _≤_};
 ghost use lib.ListN.{length};
 ghost use Rattle.accept.specs.Post.{Reads};
 use crate::line::print_query;

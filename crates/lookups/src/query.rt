@@ -1,5 +1,5 @@
 //! The queries, each answered where its numbers are in range.
-ghost use Prim.Native.Nat.{ℕ, _<_, _^_};
+ghost use Prim.Native.Nat.{_<_, _^_};
 ghost use Rattle.snapshot.specs.Layouts.{wordCount};
 ghost use Rattle.accept.specs.Post.{Reads};
 use crate_graph::extern_of;

@@ -1,13 +1,12 @@
 -- In an accepted snapshot the chains of modules fall.
 use mathlib.Core.Path.{_≡_}
-use Prim.Native.Nat.{ℕ, zero, suc, _≤_, _<_}
+use Prim.Native.Nat.{ℕ, zero, suc, _<_}
 use native.Mathlib.Omega.{arith}
 use native.Mathlib.Decide.{decLe}
-use mathlib.Core.List.{List}
 use mathlib.Core.Bool.{Bool, true, false}
 use lib.ListN.{length}
 use Rattle.snapshot.specs.Records.{Snapshot}
-use Rattle.accept.specs.Valid.{mapIn, Tree, Valid}
+use Rattle.accept.specs.Valid.{mapIn, Tree}
 use Rattle.module_tree.specs.Modules.{moduleOf, mapOf, mapNo, crateOf, parentOf, blockOf, orElse, containing}
 use Rattle.module_tree.specs.Visibility.{unless, climbStep}
 use Rattle.module_tree.proofs.Laws.{Falls}

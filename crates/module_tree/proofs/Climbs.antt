@@ -1,14 +1,14 @@
 -- The walk of visibility, step by step.
 use Prim.Native.Nat.{ℕ, zero, suc, _-_, _<_}
-use mathlib.Core.Path.{_≡_, refl, sym, _∙_, ap}
-use mathlib.Core.Bool.{Bool, true, false, _&&_, _||_}
+use mathlib.Core.Path.{_≡_, refl, sym, _∙_}
+use mathlib.Core.Bool.{true, false}
 use native.Mathlib.Omega.{arith}
 use lib.ListN.{length}
 use lib.Dec.{eqb}
 use borrow.Author.Tests.{eq-eqb, ne-eqb}
 use Rattle.snapshot.specs.Records.{Snapshot}
 use Rattle.module_tree.specs.Modules.{mapNo, crateOf, blockOf, containing}
-use Rattle.module_tree.specs.Visibility.{lastOr, last, metOr, met, unless, climbStep, climb, inModule, isVisibleFrom}
+use Rattle.module_tree.specs.Visibility.{lastOr, metOr, met, unless, climbStep, climb, inModule, isVisibleFrom}
 use Rattle.module_tree.proofs.Laws.{Falls, last-more, met-more}
 
 pub one-more : (b : ℕ) → (b ≡ 0 → ⊥) → b ≡ suc (b - 1)

@@ -1,7 +1,6 @@
 -- The smallest snapshot where the walk and privacy differ (specs/Examples.antt).
 use mathlib.Core.Path.{_≡_, refl}
-use mathlib.Core.Bool.{true, false}
-use Prim.Native.Nat.{ℕ}
+use mathlib.Core.Bool.{true}
 use lib.Dec.{lit<}
 use Rattle.module_tree.specs.Modules.{moduleOf, mapOf, orElse, containing}
 use Rattle.module_tree.specs.Visibility.{lastOr, lastTo, last, metOr, metTo, met, unless, climbStep, climb, inModule, isVisibleFrom}

@@ -1,8 +1,8 @@
 -- The number of steps hidden: where steps fall, each chain is its step and the chain from there.
-use mathlib.Core.Path.{_≡_, refl, ap, sym, _∙_}
+use mathlib.Core.Path.{_≡_, refl, ap, sym}
 use Prim.Native.Nat.{ℕ, zero, suc, _≤_, _<_}
 use native.Mathlib.Omega.{arith}
-use mathlib.Core.Bool.{Bool, true, false, _||_, or-false}
+use mathlib.Core.Bool.{Bool, _||_, or-false}
 use lib.Dec.{eqb}
 use Rattle.module_tree.specs.Visibility.{lastOr, lastTo, last, metOr, metTo, met}
 

@@ -10,7 +10,7 @@ use borrow.Author.Tests.{eqb-true, eq-eqb}
 use Rattle.snapshot.specs.Records.{Snapshot, Scope}
 use Rattle.accept.specs.Tests.{countsOf}
 use Rattle.accept.specs.Verdict.{accept, verdict}
-use Rattle.accept.specs.Valid.{Tree, Valid, ScopeFits}
+use Rattle.accept.specs.Valid.{Tree, ScopeFits}
 use Rattle.accept.proofs.Accepted.{by-test}
 use Rattle.accept.proofs.Valid.{accepted-valid}
 use Rattle.accept.proofs.Bools.{each-at}

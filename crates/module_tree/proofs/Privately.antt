@@ -1,6 +1,6 @@
 -- The test of privacy is privacy.
 use mathlib.Core.Path.{_≡_, sym, _∙_}
-use mathlib.Core.Bool.{Bool, true, false, true≢false}
+use mathlib.Core.Bool.{true, false, true≢false}
 use mathlib.Core.Logic.{_↔_, ⊎-elim}
 use Prim.Native.Nat.{ℕ, zero, suc, _<_}
 use native.Mathlib.Omega.{arith}
@@ -12,7 +12,7 @@ use Rattle.accept.specs.Valid.{Tree}
 use Rattle.accept.proofs.Trees.{accepted-tree}
 use Rattle.accept.proofs.Accepted.{by-test}
 use Rattle.module_tree.specs.Modules.{parentOf, blockOf, containing}
-use Rattle.module_tree.specs.Visibility.{last, met, inModule}
+use Rattle.module_tree.specs.Visibility.{inModule}
 use Rattle.module_tree.specs.Privacy.{StandsIn, inner, outermost, block, Visible}
 use Rattle.module_tree.specs.Differs.{Differs}
 use Rattle.module_tree.specs.Privately.{ofRoot, blockStep, moduleAround, privately}

@@ -4,12 +4,12 @@ use mathlib.Core.Path.{_≡_, refl, sym, _∙_, ap, subst}
 use mathlib.Core.List.{List, [], _∷_}
 use mathlib.Core.Bool.{Bool, true, false}
 use native.Mathlib.Omega.{arith}
-use lib.ListN.{length, getD}
+use lib.ListN.{length}
 use lib.Dec.{eqb}
 use borrow.Author.Tests.{eqb-true, eqb-false}
 use Rattle.snapshot.specs.Lists.{rows}
-use Rattle.snapshot.specs.Records.{Map, Module, crateAt, mapAt}
-use Rattle.snapshot.specs.Layouts.{crateBase, moduleMap, moduleHead, moduleParent, mapRoot, ownMap, moduleRow, modulesOf, mapsOf, snapOf}
+use Rattle.snapshot.specs.Records.{Map, crateAt, mapAt}
+use Rattle.snapshot.specs.Layouts.{crateBase, moduleMap, moduleHead, moduleParent, mapRoot, ownMap, moduleRow, mapsOf, snapOf}
 use Rattle.snapshot.specs.declared.layout.Layout.{Layout}
 use Rattle.snapshot.proofs.Laws.{getD-rows, length-rows}
 use Rattle.accept.specs.Tests.{isOwn}
@@ -18,7 +18,7 @@ use Rattle.accept.specs.Post.{Tables, Reads}
 use Rattle.accept.proofs.Valid.{accepted-valid}
 use Rattle.module_tree.proofs.Roots.{crate-known}
 use Rattle.module_tree.specs.Modules.{placeOf}
-use Rattle.module_tree.specs.Modules.{moduleOf, mapOf, mapNo, crateOf, parentOf, blockOf, rootOf, ownMap as ownOf, orElse, containing}
+use Rattle.module_tree.specs.Modules.{moduleOf, mapOf, mapNo, crateOf, parentOf, blockOf, rootOf, ownMap as ownOf, orElse}
 
 module _ (W A : List ℕ) (l : Layout) (t : Tables W A l) where
   module-read : (m : ℕ) → m < l .modules → moduleRow A m ≡ moduleOf (snapOf W A l) m

@@ -1,15 +1,15 @@
 -- Roots and own maps of a valid snapshot are there, and are what their names say.
-use mathlib.Core.Path.{_≡_, refl, sym, _∙_, subst}
+use mathlib.Core.Path.{_≡_, refl, _∙_}
 use Prim.Native.Nat.{ℕ, zero, suc, _+_, _≤_, _<_}
 use native.Mathlib.Omega.{arith}
 use mathlib.Core.List.{List, [], _∷_}
-use mathlib.Core.Bool.{Bool, true, false, _&&_, true≢false}
+use mathlib.Core.Bool.{Bool, true, _&&_}
 use lib.Dec.{eqb}
 use lib.ListN.{length, getD}
 use borrow.Author.Tests.{eqb-true, eq-eqb}
 use Rattle.snapshot.specs.Records.{Snapshot, Map, Module}
 use Rattle.accept.specs.Tests.{noMap, noModule}
-use Rattle.accept.specs.Valid.{MapFits, Valid}
+use Rattle.accept.specs.Valid.{Valid}
 use Rattle.accept.proofs.Accepted.{by-test}
 use Rattle.accept.proofs.Bools.{and-two, each-at}
 use Rattle.module_tree.specs.Modules.{placeOf}

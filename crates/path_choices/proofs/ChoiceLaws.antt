@@ -1,26 +1,22 @@
 -- Laws of choices, for the code.
-use Prim.Native.Nat.{ℕ, zero, suc, _+_, _-_, _*_, _≤_, _<_, min, compare, Ordering, Ordering·lt, Ordering·eq, Ordering·gt}
-use mathlib.Core.Path.{_≡_, refl, sym, _∙_, ap, ap₂, subst}
+use Prim.Native.Nat.{ℕ, zero, suc, _+_, _-_, _≤_, _<_, min, compare, Ordering, Ordering·lt, Ordering·eq, Ordering·gt}
+use mathlib.Core.Path.{_≡_, refl, sym, _∙_, ap, ap₂}
 use mathlib.Core.List.{List, [], _∷_}
 use mathlib.Core.Bool.{Bool, true, false, _&&_, _||_, not, and-true, true≢false, false≢true}
 use native.Mathlib.Omega.{arith}
-use lib.Dec.{eqb, ltb, leb, lit≤, isLe, isEq}
-use lib.ListN.{length, getD, set, replicate}
-use borrow.Author.Tests.{eqb-true, eq-eqb, ne-eqb, eqb-false}
+use lib.Dec.{eqb, ltb, leb, isLe, isEq}
+use lib.ListN.{getD, set, replicate}
+use borrow.Author.Tests.{eqb-true}
 use Rattle.snapshot.specs.Lists.{rows, eqList}
 use Rattle.snapshot.specs.Words.{payOf, wordsOf}
-use Rattle.snapshot.specs.Records.{Name, Snapshot, nameAt}
+use Rattle.snapshot.specs.Records.{Snapshot}
 use Rattle.snapshot.specs.Layouts.{nameHead, snapOf}
 use Rattle.snapshot.specs.declared.layout.Layout.{Layout}
-use Rattle.snapshot.proofs.Laws.{getD-rows, past}
+use Rattle.snapshot.proofs.Laws.{past}
 use Rattle.accept.specs.Post.{Reads}
-use Rattle.accept.specs.Tests.{countsOf}
-use Rattle.accept.specs.Valid.{NameFits}
-use Rattle.accept.proofs.Valid.{accepted-valid}
-use Rattle.accept.proofs.Bools.{each-rows}
 use Rattle.find_path.specs.declared.Choice.{Choice}
 use Rattle.find_path.proofs.Names.{name-read}
-use Rattle.find_path.specs.Choices.{nameData, nameLen, isPrelude, pathKindLen, pathLen, keyword, choiceNew, extended, push, trySelect, compareBool, andThen, comparePrelude, taken, better, shorterIf, lengthLeft}
+use Rattle.find_path.specs.Choices.{nameLen, isPrelude, pathKindLen, pathLen, keyword, choiceNew, extended, push, trySelect, compareBool, andThen, comparePrelude, taken, better, shorterIf, lengthLeft}
 
 -- the branch of a test
 module _ {A : Type 0} (a b : A) where

@@ -1,7 +1,6 @@
 //! Paths to choose from: their lengths, one name more, and which of two is better.
 ghost use mathlib.Core.Path.{_≡_};
-ghost use Prim.Native.Nat.{ℕ, _+_, _-_, _≤_, _<_, _^_};
-ghost use lib.ListN.{length};
+ghost use Prim.Native.Nat.{_+_, _-_, _≤_, _<_, _^_};
 ghost use Rattle.snapshot.specs.Layouts.{snapOf};
 ghost use Rattle.accept.specs.Post.{Reads};
 ghost use Rattle.find_path.specs.Choices.{nameLen, isPrelude, pathKindLen, pathLen, nothing as nothingOf, keyword as keywordOf, choiceNew, extended as extendedOf, push as pushOf, unstably as unstablyOf, better as betterOf, trySelect, lengthLeft};

@@ -1,6 +1,6 @@
 //! The lines of an input, printed.
 ghost use mathlib.Core.Path.{_≡_};
-ghost use Prim.Native.Nat.{ℕ, _≤_};
+ghost use Prim.Native.Nat.{_≤_};
 ghost use lib.ListN.{length};
 use accept::check::check;
 use libc::STDOUT_FILENO;

@@ -1,9 +1,8 @@
 //! The rules that answer without a search.
 ghost use mathlib.Core.Path.{_≡_};
-ghost use mathlib.Core.List.{List};
-ghost use Prim.Native.Nat.{ℕ, _<_, _^_};
+ghost use Prim.Native.Nat.{ℕ, _<_};
 ghost use Rattle.snapshot.specs.Records.{Snapshot, scopeAt, externAt};
-ghost use Rattle.snapshot.specs.Layouts.{wordCount, snapOf};
+ghost use Rattle.snapshot.specs.Layouts.{snapOf};
 ghost use Rattle.accept.specs.Stands.{countsIn};
 ghost use Rattle.accept.specs.Post.{Reads};
 ghost use Rattle.accept.specs.Valid.{ScopeFits};

@@ -1,7 +1,7 @@
 -- Laws of the printed lines.
-use Prim.Native.Nat.{ℕ, zero, suc, _+_, _-_, _%_, _≤_, _<_, min}
+use Prim.Native.Nat.{ℕ, suc, _+_, _-_, _%_, _≤_, _<_, min}
 use mathlib.Core.Path.{_≡_, refl, sym, _∙_, ap, ap₂}
-use mathlib.Core.List.{List, [], _∷_, _++_}
+use mathlib.Core.List.{List, _++_}
 use mathlib.Core.Bool.{Bool, true, false, _&&_}
 use native.Mathlib.Omega.{arith}
 use native.Mathlib.Nat.{sub-zero}
@@ -21,7 +21,6 @@ use Rattle.find_path.specs.declared.Question.{Question}
 use Rattle.find_path.specs.Report.{refused}
 use Rattle.find_path.specs.Line.{bytesOf, lineIn, lineOf}
 use Rattle.checked.specs.Lines.{LineOn}
-use Rattle.printer.specs.declared.lines.Turn.{Turn}
 use Rattle.printer.specs.Printed.{firstFrom, questionsAt, isArgument, wholeAt, questionAt, lineAt, nextAt, inputFault, Printed}
 
 -- faults of an input

@@ -1,6 +1,6 @@
 //! The line of a question.
 ghost use mathlib.Core.Path.{_≡_};
-ghost use Prim.Native.Nat.{ℕ, _≤_, _<_};
+ghost use Prim.Native.Nat.{_≤_, _<_};
 ghost use lib.ListN.{length};
 ghost use Rattle.accept.specs.Post.{Judged};
 ghost use Rattle.printer.specs.Printed.{Printed};

@@ -1,6 +1,6 @@
 //! The questions among the words of an input.
 ghost use mathlib.Core.Path.{_≡_};
-ghost use Prim.Native.Nat.{ℕ, _+_, _≤_};
+ghost use Prim.Native.Nat.{_+_, _≤_};
 ghost use lib.ListN.{length};
 ghost use Rattle.printer.specs.Printed.{questionsAt, isArgument, wholeAt, questionAt};
 use find_path::Query;

@@ -1,6 +1,6 @@
 //! Words out of bytes.
 ghost use mathlib.Core.Path.{_≡_};
-ghost use Prim.Native.Nat.{ℕ, _+_, _*_, _^_, _≤_, _<_};
+ghost use Prim.Native.Nat.{_+_, _*_, _^_, _≤_, _<_};
 ghost use lib.ListN.{length, take, getD};
 ghost use Rattle.printing.specs.Input.{wordIn, wordsIn};
 

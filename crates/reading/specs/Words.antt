@@ -1,7 +1,7 @@
 -- A word is a kind and a payload; a record is a head and its arguments.
 use Prim.Native.Nat.{ℕ, _+_, _/_, _%_}
 use mathlib.Core.List.{List, [], _∷_}
-use mathlib.Core.Bool.{Bool, true, false}
+use mathlib.Core.Bool.{true, false}
 use lib.Dec.{eqb}
 use lib.ListN.{getD, take, drop}
 

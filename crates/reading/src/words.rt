@@ -1,8 +1,8 @@
 //! Reading words. A word past the end reads as 0, as in the definitions.
 ghost use mathlib.Core.Path.{_≡_};
-ghost use Prim.Native.Nat.{ℕ, _+_};
-ghost use lib.ListN.{length, getD};
-ghost use Rattle.reading.specs.Words.{kindOf, payOf, wordsOf};
+ghost use Prim.Native.Nat.{_+_};
+ghost use lib.ListN.{getD};
+ghost use Rattle.reading.specs.Words.{kindOf, payOf};
 
 fn wide(x: u32) -> usize
     ensures { λ r. ⌜ r ≡ x ⌝ }

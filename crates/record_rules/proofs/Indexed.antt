@@ -3,18 +3,17 @@ use Prim.Native.Nat.{ℕ, _+_, _-_, _*_, _%_, _≤_, _<_}
 use mathlib.Core.Path.{_≡_, refl, sym, _∙_, ap, subst}
 use mathlib.Core.Logic.{_≢_}
 use mathlib.Core.List.{List, [], _∷_}
-use mathlib.Core.Bool.{Bool, true, false, _&&_, false≢true}
+use mathlib.Core.Bool.{Bool, true, false, false≢true}
 use native.Mathlib.Omega.{arith}
 use lib.Dec.{eqb}
 use lib.ListN.{length, getD, set, length-set}
 use lib.Seq.{getD-set-same, getD-set-other}
 use borrow.Author.Tests.{eqb-true}
 use Rattle.snapshot.specs.Lists.{any, eqList}
-use Rattle.snapshot.specs.Words.{payOf}
 use Rattle.snapshot.specs.Records.{Name, nameAt}
 use Rattle.snapshot.specs.Layouts.{childBase, definitionBase, scopeBase, externBase, noRecords, nameHead, namesOf}
 use Rattle.snapshot.specs.declared.layout.Layout.{Layout}
-use Rattle.chains.specs.Chains.{mixed, keys, nameKey, recordKey, slotOf, Marked, Last, Chained, linked}
+use Rattle.chains.specs.Chains.{keys, nameKey, recordKey, slotOf, Marked, Last, Chained, linked}
 use Rattle.chains.proofs.Laws.{marked-none, marked-kept, chained-kept, chained-none, chained-linked, linked-other, first-of, next-of, Walking, walk-start, walk-hit, walk-miss, walk-end}
 use Rattle.record_rules.specs.Tests.{sameName}
 use Rattle.record_rules.specs.Stands.{Upto, Indexes}

@@ -1,21 +1,21 @@
 -- From the code's tests of a record to the step's definition.
 use Prim.Native.Nat.{ℕ, zero, suc, _+_, _-_, _*_, _≤_, _<_}
 use mathlib.Core.Path.{_≡_, refl, sym, _∙_, ap, ap₂}
-use mathlib.Core.List.{List, [], _∷_}
+use mathlib.Core.List.{List}
 use mathlib.Core.Bool.{Bool, true, false, _&&_, _||_, not, and-true, and-false, false≢true}
 use native.Mathlib.Omega.{arith}
 use native.Mathlib.Nat.{add-zero}
-use lib.ListN.{length, getD}
+use lib.ListN.{getD}
 use lib.Dec.{eqb, leb, ltb}
 use borrow.Author.Tests.{ltb-true, ne-eqb}
 use Rattle.snapshot.specs.Lists.{rows, any}
 use Rattle.snapshot.specs.Words.{payOf}
-use Rattle.snapshot.specs.Records.{Map, Snapshot, Child, Definition, Scope, Import, nameAt, crateAt, childAt, preludeAt, definitionAt, scopeAt, externAt}
+use Rattle.snapshot.specs.Records.{Map, Snapshot, Child, Definition, Scope, Import, nameAt, crateAt, preludeAt, definitionAt, scopeAt, externAt}
 use Rattle.snapshot.specs.Layouts.{recordsOf, snapWith, crateBase, definitionBase, nameHead, moduleMap, moduleParent, moduleRow}
 use Rattle.snapshot.specs.declared.layout.Layout.{Layout}
 use Rattle.snapshot.proofs.Laws.{length-rows, getD-rows}
-use Rattle.record_rules.specs.Tests.{Counts, countsOf, noModule, noDefinition, kindOfDefinition, nsPlaced, sameChild, samePrelude, sameDefinition, sameEntry, sameExtern, scopeDefined, importDefined, childDefined, childPlaced, definitionDefined, definitionPlaced}
-use Rattle.record_rules.specs.Steps.{Next, no, on, judge}
+use Rattle.record_rules.specs.Tests.{Counts, countsOf, noModule, noDefinition, kindOfDefinition, nsPlaced, samePrelude, sameDefinition, sameEntry, sameExtern, scopeDefined, importDefined, childDefined, childPlaced, definitionDefined, definitionPlaced}
+use Rattle.record_rules.specs.Steps.{no, on, judge}
 use Rattle.record_rules.specs.Stands.{numberOf, sameBy, countsIn, Stands}
 
 -- the tests that follow a failed 33 do not matter
@@ -95,9 +95,6 @@ unlike W owner (suc (suc (suc n))) a b h o d = absurd (omega arith)
 
 -- a record that repeats an earlier one
 module _ (W : List ℕ) (at base n : ℕ) where
-  pub child-again : any (sameBy W false 1 at) (rows (λ k. base + 2 * k) 0 n) ≡ any (sameChild (childAt W at)) (recordsOf childAt 2 W base n)
-  child-again = any-same _ _ _ _ 0 n (λ i. and-true _)
-
   pub prelude-again : any (sameBy W true 0 at) (rows (λ k. base + 2 * k) 0 n) ≡ any (samePrelude (preludeAt W at)) (recordsOf preludeAt 2 W base n)
   prelude-again = any-same _ _ _ _ 0 n (λ i. and-true _ ∙ and-true _)
 

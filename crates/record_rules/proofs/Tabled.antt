@@ -1,28 +1,27 @@
 -- The steps of the kinds that have a table: names, crates, maps and modules.
-use Prim.Native.Nat.{ℕ, zero, suc, _+_, _-_, _*_, _≤_, _<_}
-use mathlib.Core.Path.{_≡_, refl, sym, _∙_, ap, ap₂, subst}
-use mathlib.Core.Logic.{_≢_}
+use Prim.Native.Nat.{ℕ, _+_, _-_, _*_, _≤_, _<_}
+use mathlib.Core.Path.{_≡_, refl, sym, _∙_, ap, subst}
 use mathlib.Core.List.{List, [], _∷_, _++_}
-use mathlib.Core.Bool.{Bool, true, false, _&&_, _||_, not}
+use mathlib.Core.Bool.{Bool, true, false}
 use native.Mathlib.Omega.{arith}
 use native.Mathlib.Nat.{lt-irrefl}
-use lib.Dec.{eqb, leb, ltb, lit<}
-use lib.ListN.{length, getD, set, length-append, List·getD-append}
-use lib.Seq.{getD-set-same, getD-set-other, getD-at}
+use lib.Dec.{ltb, lit<}
+use lib.ListN.{length, getD, set}
+use lib.Seq.{getD-set-same, getD-set-other}
 use borrow.Author.Count.{below-more}
-use borrow.Author.Tests.{ltb-true, leb-true, eqb-true, eqb-false, eq-eqb, ne-eqb, not-false}
+use borrow.Author.Tests.{ltb-true}
 use Rattle.snapshot.specs.Lists.{rows, any}
 use Rattle.snapshot.specs.Words.{payOf, wordsOf}
-use Rattle.snapshot.specs.Records.{Map, Module, Crate, nameAt, crateAt, dependencyAt, mapAt, moduleAt, childAt, preludeAt, definitionAt, scopeAt, importAt, externAt}
-use Rattle.snapshot.specs.Layouts.{crateBase, dependencyBase, childBase, preludeBase, definitionBase, scopeBase, importBase, externBase, nameHead, moduleMap, moduleHead, moduleParent, ownMap, moduleRow, namesOf, modulesOf, recordsOf, snapWith}
+use Rattle.snapshot.specs.Records.{Map, Crate, nameAt, crateAt, dependencyAt, childAt, preludeAt, definitionAt, scopeAt, importAt, externAt}
+use Rattle.snapshot.specs.Layouts.{crateBase, dependencyBase, childBase, preludeBase, definitionBase, scopeBase, importBase, externBase, nameHead, ownMap, moduleRow, namesOf, modulesOf, recordsOf, snapWith}
 use Rattle.snapshot.specs.declared.layout.Layout.{Layout}
-use Rattle.snapshot.proofs.Laws.{rows-snoc, rows-zero, rows-ext, rows-put, length-rows, getD-rows}
+use Rattle.snapshot.proofs.Laws.{rows-snoc, rows-zero, rows-ext, rows-put, length-rows}
 use Rattle.chains.specs.Chains.{nameKey, linked}
-use Rattle.record_rules.specs.Tests.{countsOf, noMap, noModule, isOwn, isIn, nameRange, sameName, crateRange, mapRange, mapDefined, mapRepeated, mapPlaced, moduleDefined, modulePlaced}
-use Rattle.record_rules.specs.Steps.{Next, no, on, nameStep, crateStep, mapStep, moduleStep, addName, addCrate, addMap, addModule}
-use Rattle.record_rules.specs.Stands.{numberOf, countsIn, ownFrom, ownOf, Indexes, Stands, Answered}
-use Rattle.record_rules.specs.declared.judge.Step.the-variants.{No, On}
-use Rattle.record_rules.proofs.Judged.{number-of, judge-no, judge-on, passes, counts-same, and-left, and-right}
+use Rattle.record_rules.specs.Tests.{nameRange, sameName, crateRange}
+use Rattle.record_rules.specs.Steps.{no, on, nameStep, crateStep, addName, addCrate}
+use Rattle.record_rules.specs.Stands.{numberOf, ownFrom, ownOf, Indexes, Stands, Answered}
+use Rattle.record_rules.specs.declared.judge.Step.the-variants.{On}
+use Rattle.record_rules.proofs.Judged.{number-of, judge-no, judge-on, passes}
 use Rattle.record_rules.proofs.Indexed.{Early, early, indexes-early, set-above, name-stays, names-linked}
 pub use Rattle.record_rules.proofs.Indexed.{Kept, set-kept}
 

@@ -1,12 +1,12 @@
 -- What holds while the check goes on, and what a record's step answers. Only contracts and proofs cite it.
-use Prim.Native.Nat.{ℕ, zero, suc, _+_, _-_, _*_, _≤_, _<_}
+use Prim.Native.Nat.{ℕ, _+_, _-_, _*_, _≤_, _<_}
 use mathlib.Core.Path.{_≡_}
 use mathlib.Core.List.{List, [], _∷_}
 use mathlib.Core.Bool.{Bool, true, false, _&&_, _||_, not}
 use lib.Dec.{eqb, ltb}
 use lib.ListN.{length, getD}
 use Rattle.snapshot.specs.Words.{payOf, wordsOf}
-use Rattle.snapshot.specs.Records.{Map, Snapshot, nameAt, mapAt}
+use Rattle.snapshot.specs.Records.{Map, nameAt, mapAt}
 use Rattle.snapshot.specs.Layouts.{wordCount, childBase, definitionBase, scopeBase, externBase, nameHead, moduleMap, moduleHead, mapRoot, ownMap, snapWith}
 use Rattle.snapshot.specs.declared.layout.Layout.{Layout}
 use Rattle.chains.specs.Chains.{nameKey, recordKey, slotOf, Marked, Chained}

@@ -1,6 +1,6 @@
 -- One record: the first of its tests that fails gives the number, else the snapshot has one record more.
 use Prim.Native.Nat.{ℕ}
-use mathlib.Core.List.{List, [], _∷_, _++_}
+use mathlib.Core.List.{[], _∷_, _++_}
 use mathlib.Core.Bool.{Bool, true, false, not}
 use lib.Dec.{ltb}
 use lib.ListN.{length}

@@ -1,7 +1,7 @@
 -- What is asked of each kind of record: fields in range (32), numbers defined (33), nothing repeated (34), the right place (35).
 use Prim.Native.Nat.{ℕ, zero, suc, _+_, _-_}
 use mathlib.Core.List.{List, [], _∷_}
-use mathlib.Core.Bool.{Bool, true, false, _&&_, _||_, not}
+use mathlib.Core.Bool.{Bool, true, _&&_, _||_, not}
 use lib.Dec.{eqb, leb, ltb}
 use lib.ListN.{length, getD}
 use Rattle.snapshot.specs.Lists.{any, all, eqList, rows}

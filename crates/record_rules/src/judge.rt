@@ -1,6 +1,5 @@
 //! What one record of the check answers.
 ghost use mathlib.Core.Path.{_≡_};
-ghost use mathlib.Core.Bool.{Bool};
 ghost use Rattle.record_rules.specs.Stands.{numberOf};
 use snapshot::layout::Layout;
 

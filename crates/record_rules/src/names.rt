@@ -1,7 +1,7 @@
 //! Kind 1: a name.
 ghost use mathlib.Core.Path.{_≡_};
 ghost use mathlib.Core.List.{List};
-ghost use Prim.Native.Nat.{ℕ, _+_, _-_, _^_, _<_, _≤_};
+ghost use Prim.Native.Nat.{_+_, _-_, _^_, _<_, _≤_};
 ghost use lib.ListN.{length, getD};
 ghost use Rattle.snapshot.specs.Lists.{rows, any, eqList};
 ghost use Rattle.snapshot.specs.Words.{payOf, wordsOf};

@@ -1,24 +1,24 @@
 -- The step of a module.
 use Prim.Native.Nat.{ℕ, zero, suc, _+_, _-_, _*_, _≤_, _<_}
-use mathlib.Core.Path.{_≡_, refl, sym, _∙_, ap, ap₂}
+use mathlib.Core.Path.{_≡_, refl, sym, _∙_, ap}
 use mathlib.Core.Logic.{_≢_}
 use mathlib.Core.List.{List, [], _∷_, _++_}
 use mathlib.Core.Bool.{Bool, true, false, _&&_, _||_, not}
 use native.Mathlib.Omega.{arith}
-use native.Mathlib.Nat.{lt-irrefl, le-refl}
+use native.Mathlib.Nat.{le-refl}
 use lib.Dec.{eqb, leb, ltb, lit<}
 use lib.ListN.{length, getD, set, length-set}
 use lib.Seq.{getD-set-same, getD-set-other}
 use borrow.Author.Count.{below-more}
 use borrow.Author.Tests.{ltb-true, leb-true, eqb-true}
 use Rattle.snapshot.specs.Lists.{any}
-use Rattle.snapshot.specs.Records.{Map, Module, Snapshot, mapAt, moduleAt, nameAt, crateAt, dependencyAt, childAt, preludeAt, definitionAt, scopeAt, importAt, externAt}
-use Rattle.snapshot.specs.Layouts.{crateBase, dependencyBase, childBase, preludeBase, definitionBase, scopeBase, importBase, externBase, moduleMap, moduleHead, moduleParent, ownMap, moduleRow, namesOf, modulesOf, recordsOf, snapWith}
+use Rattle.snapshot.specs.Records.{Map, Module, Snapshot, mapAt, moduleAt, crateAt, dependencyAt, childAt, preludeAt, definitionAt, scopeAt, importAt, externAt}
+use Rattle.snapshot.specs.Layouts.{crateBase, dependencyBase, childBase, preludeBase, definitionBase, scopeBase, importBase, externBase, moduleMap, moduleHead, moduleParent, moduleRow, namesOf, modulesOf, recordsOf, snapWith}
 use Rattle.snapshot.specs.declared.layout.Layout.{Layout}
 use Rattle.snapshot.proofs.Laws.{rows-zero, rows-put, length-rows, getD-rows}
 use Rattle.record_rules.specs.Tests.{Counts, countsOf, mapOf, noMap, noModule, isIn, moduleDefined, modulePlaced}
 use Rattle.record_rules.specs.Steps.{no, on, moduleStep, addModule}
-use Rattle.record_rules.specs.Stands.{numberOf, countsIn, ownOf, Stands, Answered}
+use Rattle.record_rules.specs.Stands.{numberOf, countsIn, Stands, Answered}
 use Rattle.record_rules.specs.declared.judge.Step.the-variants.{On}
 use Rattle.record_rules.proofs.Judged.{number-of, judge-no, judge-on, passes, Passed, counts-same, and-left, and-right}
 use Rattle.record_rules.proofs.Indexed.{Kept, indexes-early}

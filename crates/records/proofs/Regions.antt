@@ -1,25 +1,23 @@
 -- The steps of maps and modules.
 use Prim.Native.Nat.{ℕ, zero, suc, _+_, _-_, _*_, _≤_, _<_}
-use mathlib.Core.Path.{_≡_, refl, sym, _∙_, ap, ap₂, subst}
-use mathlib.Core.Logic.{_≢_}
+use mathlib.Core.Path.{_≡_, refl, sym, _∙_, ap, subst}
 use mathlib.Core.List.{List, [], _∷_, _++_}
 use mathlib.Core.Bool.{Bool, true, false, _&&_, _||_, not}
 use native.Mathlib.Omega.{arith}
 use native.Mathlib.Nat.{lt-irrefl}
 use lib.Dec.{eqb, leb, ltb, lit<}
-use lib.ListN.{length, getD, set, length-set, length-append, List·getD-append}
+use lib.ListN.{length, getD, set, length-append, List·getD-append}
 use lib.Seq.{getD-set-same, getD-set-other, getD-at}
-use borrow.Author.Count.{below-more}
-use borrow.Author.Tests.{ltb-true, leb-true, eqb-true, eqb-false, eq-eqb, ne-eqb, not-false, not-true}
-use Rattle.snapshot.specs.Lists.{rows, any}
-use Rattle.snapshot.specs.Records.{Map, Module, Snapshot, nameAt, crateAt, dependencyAt, mapAt, moduleAt, childAt, preludeAt, definitionAt, scopeAt, importAt, externAt}
-use Rattle.snapshot.specs.Layouts.{crateBase, dependencyBase, childBase, preludeBase, definitionBase, scopeBase, importBase, externBase, nameHead, moduleMap, moduleHead, moduleParent, ownMap, moduleRow, namesOf, modulesOf, recordsOf, snapWith}
+use borrow.Author.Tests.{ltb-true, leb-true, eqb-true, eqb-false, eq-eqb, ne-eqb, not-false}
+use Rattle.snapshot.specs.Lists.{any}
+use Rattle.snapshot.specs.Records.{Map, crateAt, dependencyAt, mapAt, childAt, preludeAt, definitionAt, scopeAt, importAt, externAt}
+use Rattle.snapshot.specs.Layouts.{crateBase, dependencyBase, childBase, preludeBase, definitionBase, scopeBase, importBase, externBase, moduleMap, moduleHead, ownMap, moduleRow, namesOf, modulesOf, recordsOf, snapWith}
 use Rattle.snapshot.specs.declared.layout.Layout.{Layout}
-use Rattle.snapshot.proofs.Laws.{rows-zero, rows-put, length-rows, getD-rows}
-use Rattle.record_rules.specs.Tests.{Counts, countsOf, crateOf, mapOf, noMap, noModule, isOwn, isIn, mapRange, mapDefined, mapRepeated, mapPlaced, moduleDefined, modulePlaced}
-use Rattle.record_rules.specs.Steps.{Next, no, on, mapStep, moduleStep, addMap, addModule}
+use Rattle.snapshot.proofs.Laws.{rows-zero, getD-rows}
+use Rattle.record_rules.specs.Tests.{Counts, countsOf, crateOf, noMap, noModule, isOwn, mapRange, mapDefined, mapRepeated, mapPlaced}
+use Rattle.record_rules.specs.Steps.{no, on, mapStep, addMap}
 use Rattle.record_rules.specs.Stands.{numberOf, countsIn, ownFrom, ownOf, Stands, Answered}
-use Rattle.record_rules.specs.declared.judge.Step.the-variants.{No, On}
+use Rattle.record_rules.specs.declared.judge.Step.the-variants.{On}
 use Rattle.record_rules.proofs.Judged.{number-of, judge-no, judge-on, passes, Passed, counts-same, and-left, and-right}
 use Rattle.record_rules.proofs.Indexed.{Kept, Above, set-kept, set-above, indexes-early}
 use Rattle.record_rules.proofs.Tabled.{names-kept, modules-kept, heads-kept}

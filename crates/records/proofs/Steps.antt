@@ -6,16 +6,16 @@ use mathlib.Core.Bool.{Bool, true, false, _&&_, _||_, not}
 use native.Mathlib.Omega.{arith}
 use lib.ListN.{length, getD}
 use lib.Dec.{eqb, leb, ltb}
-use borrow.Author.Tests.{ltb-true, le-leb, lt-leb, leb-false}
+use borrow.Author.Tests.{ltb-true, leb-false}
 use Rattle.snapshot.specs.Lists.{rows, any}
 use Rattle.snapshot.specs.Records.{Map, nameAt, dependencyAt, childAt, preludeAt, definitionAt, scopeAt, importAt, externAt}
-use Rattle.snapshot.specs.Layouts.{childBase, preludeBase, definitionBase, scopeBase, externBase, moduleMap, moduleParent, nameHead, snapWith}
+use Rattle.snapshot.specs.Layouts.{preludeBase, definitionBase, scopeBase, externBase, moduleMap, moduleParent, nameHead, snapWith}
 use Rattle.snapshot.specs.declared.layout.Layout.{Layout}
 use Rattle.snapshot.proofs.Laws.{length-rows, getD-rows}
 use Rattle.record_rules.specs.Tests.{countsOf, noName, isBuiltin, dependencyRange, dependencyDefined, childDefined, sameChild, childPlaced, preludeDefined, samePrelude, definitionRange, definitionDefined, definitionRepeated, definitionPlaced, scopeRange, scopeDefined, sameEntry, nsPlaced, importRange, importDefined, externDefined, sameExtern}
-use Rattle.record_rules.specs.Steps.{Next, no, on, dependencyStep, childStep, preludeStep, definitionStep, scopeStep, importStep, externStep, addDependency, addChild, addPrelude, addDefinition, addScope, addImport, addExtern}
+use Rattle.record_rules.specs.Steps.{no, on, dependencyStep, childStep, preludeStep, definitionStep, scopeStep, importStep, externStep, addDependency, addChild, addPrelude, addDefinition, addScope, addImport, addExtern}
 use Rattle.record_rules.specs.Stands.{numberOf, sameBy, countsIn, Stands, Answered}
-use Rattle.record_rules.specs.declared.judge.Step.the-variants.{No, On}
+use Rattle.record_rules.specs.declared.judge.Step.the-variants.{On}
 use Rattle.records.proofs.Grows.{dependencyOn, dependency-added, dependency-stands, childOn, child-added, child-stands, preludeOn, prelude-added, prelude-stands, definitionOn, definition-added, definition-stands, scopeOn, scope-added, scope-stands, importOn, import-added, import-stands, externOn, extern-added, extern-stands}
 use Rattle.records.proofs.Linked.{Linked, module-small}
 use Rattle.record_rules.proofs.Judged.{number-of, judge-no, judge-on, passes, counts-same, any-same, and-right, prelude-again, definition-again, scope-again, extern-again, scope-definition, import-definition, ns-same, child-same, parent-same}

@@ -1,13 +1,13 @@
 //! Kind 6: a child of a module.
 ghost use mathlib.Core.Path.{_≡_};
 ghost use mathlib.Core.List.{List};
-ghost use Prim.Native.Nat.{ℕ, _+_, _^_, _<_};
+ghost use Prim.Native.Nat.{_+_, _<_};
 ghost use lib.Dec.{eqb};
 ghost use mathlib.Core.Bool.{_&&_};
 ghost use Rattle.snapshot.specs.Layouts.{moduleMap, moduleParent};
 ghost use Rattle.snapshot.specs.Records.{Map, childAt};
 ghost use Rattle.snapshot.specs.Layouts.{snapWith};
-ghost use Rattle.record_rules.specs.Tests.{childDefined, sameChild, childPlaced};
+ghost use Rattle.record_rules.specs.Tests.{childDefined};
 ghost use Rattle.record_rules.specs.Steps.{childStep};
 ghost use Rattle.record_rules.specs.Stands.{Ready, Stands, Answered, countsIn};
 use chains::chain::Chains;

@@ -1,9 +1,9 @@
 //! Kind 8: a definition.
 ghost use mathlib.Core.Path.{_≡_};
 ghost use mathlib.Core.List.{List};
-ghost use Prim.Native.Nat.{ℕ, _+_, _*_, _^_, _<_, _≤_};
-ghost use lib.ListN.{length, getD};
-ghost use lib.Dec.{eqb, leb, ltb};
+ghost use Prim.Native.Nat.{_+_, _*_, _^_, _<_, _≤_};
+ghost use lib.ListN.{length};
+ghost use lib.Dec.{eqb, leb};
 ghost use mathlib.Core.Bool.{true, _&&_, _||_, not};
 ghost use Rattle.snapshot.specs.Lists.{rows, any};
 ghost use Rattle.snapshot.specs.Records.{nameAt};
@@ -11,7 +11,7 @@ ghost use Rattle.snapshot.specs.Layouts.{wordCount, definitionBase, nameHead};
 ghost use Rattle.snapshot.specs.Records.{Map, definitionAt};
 ghost use Rattle.snapshot.specs.Layouts.{snapWith};
 ghost use Rattle.chains.specs.Chains.{slotOf, Marked};
-ghost use Rattle.record_rules.specs.Tests.{definitionDefined, definitionRange, definitionRepeated, definitionPlaced, nsPlaced, isBuiltin, sameDefinition};
+ghost use Rattle.record_rules.specs.Tests.{definitionDefined, isBuiltin};
 ghost use Rattle.record_rules.specs.Steps.{definitionStep};
 ghost use Rattle.record_rules.specs.Stands.{Ready, Stands, Answered, countsIn, sameBy};
 use crate::repeats::repeated;

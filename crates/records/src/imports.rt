@@ -4,7 +4,7 @@ ghost use mathlib.Core.List.{List};
 ghost use Prim.Native.Nat.{_+_};
 ghost use Rattle.snapshot.specs.Records.{Map, importAt};
 ghost use Rattle.snapshot.specs.Layouts.{snapWith};
-ghost use Rattle.record_rules.specs.Tests.{importRange, importDefined, nsPlaced};
+ghost use Rattle.record_rules.specs.Tests.{importRange, importDefined};
 ghost use Rattle.record_rules.specs.Steps.{importStep};
 ghost use Rattle.record_rules.specs.Stands.{Ready, Stands, Answered, countsIn};
 use crate::definitions::ns_placed;

@@ -1,13 +1,13 @@
 //! Kind 4: a map.
 ghost use mathlib.Core.Path.{_≡_};
 ghost use mathlib.Core.List.{List};
-ghost use Prim.Native.Nat.{ℕ, _+_, _-_, _*_, _^_, _<_};
+ghost use Prim.Native.Nat.{_+_, _-_, _<_};
 ghost use lib.Dec.{eqb};
 ghost use mathlib.Core.Bool.{_&&_, _||_, not};
 ghost use Rattle.snapshot.specs.Layouts.{moduleHead, ownMap};
 ghost use Rattle.snapshot.specs.Records.{Map, mapAt};
 ghost use Rattle.snapshot.specs.Layouts.{snapWith};
-ghost use Rattle.record_rules.specs.Tests.{mapRange, mapDefined, mapRepeated, mapPlaced};
+ghost use Rattle.record_rules.specs.Tests.{mapRange, mapDefined};
 ghost use Rattle.record_rules.specs.Steps.{mapStep};
 ghost use Rattle.record_rules.specs.Stands.{Ready, Stands, Answered, countsIn};
 use record_rules::judge::Step;

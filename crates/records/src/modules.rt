@@ -1,14 +1,14 @@
 //! Kind 5: a module.
 ghost use mathlib.Core.Path.{_≡_};
 ghost use mathlib.Core.List.{List};
-ghost use Prim.Native.Nat.{ℕ, _+_, _-_, _*_, _^_, _<_, _≤_};
+ghost use Prim.Native.Nat.{_+_, _-_, _*_, _<_, _≤_};
 ghost use lib.Dec.{eqb};
 ghost use mathlib.Core.Bool.{_&&_, _||_, not};
 ghost use Rattle.snapshot.specs.Lists.{any};
 ghost use Rattle.snapshot.specs.Layouts.{modulesOf, moduleMap};
 ghost use Rattle.snapshot.specs.Records.{Map, moduleAt};
 ghost use Rattle.snapshot.specs.Layouts.{snapWith};
-ghost use Rattle.record_rules.specs.Tests.{moduleDefined, modulePlaced, isIn};
+ghost use Rattle.record_rules.specs.Tests.{moduleDefined, isIn};
 ghost use Rattle.record_rules.specs.Steps.{moduleStep};
 ghost use Rattle.record_rules.specs.Stands.{Ready, Stands, Answered, countsIn};
 use record_rules::judge::Step;

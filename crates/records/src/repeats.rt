@@ -1,6 +1,6 @@
 //! Whether a record repeats an earlier one of its kind.
 ghost use mathlib.Core.Path.{_≡_};
-ghost use Prim.Native.Nat.{ℕ, _+_, _-_, _*_, _^_, _<_, _≤_};
+ghost use Prim.Native.Nat.{_+_, _-_, _*_, _^_, _<_, _≤_};
 ghost use mathlib.Core.Bool.{true, _||_};
 ghost use lib.Dec.{leb};
 ghost use lib.ListN.{length, getD};

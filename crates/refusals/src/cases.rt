@@ -1,7 +1,4 @@
 //! The cases of the list, a line each: a name, a space and the words.
-ghost use mathlib.Core.Path.{_≡_};
-ghost use Prim.Native.Nat.{_≤_};
-ghost use lib.ListN.{length};
 use crate::line::print_case;
 use case_text::text::next_stop;
 use case_text::words::read_words;

@@ -1,6 +1,6 @@
 //! Whether the lines of an input are those that are stored.
 ghost use mathlib.Core.Path.{_≡_};
-ghost use Prim.Native.Nat.{ℕ, _≤_};
+ghost use Prim.Native.Nat.{_≤_};
 ghost use lib.ListN.{length};
 use accept::check::check;
 use line::line::put_refusal;

@@ -1,7 +1,7 @@
 //! The stored list: the length of an input, the input, the length of its lines, the lines, and so on to the end.
 ghost use mathlib.Core.Path.{_≡_};
 ghost use mathlib.Core.Bool.{true};
-ghost use Prim.Native.Nat.{ℕ, _≤_};
+ghost use Prim.Native.Nat.{_≤_};
 ghost use lib.ListN.{length};
 use crate::compare::same;
 use libc::STDIN_FILENO;

@@ -1,6 +1,6 @@
 -- A snapshot as lists of records, in document 01's order of kinds. "+1" means number plus one, 0 for none.
 use Prim.Native.Nat.{ℕ, _+_, _/_, _%_}
-use mathlib.Core.List.{List, [], _∷_, _++_}
+use mathlib.Core.List.{List}
 use lib.ListN.{getD}
 use Rattle.snapshot.specs.Lists.{rows}
 use Rattle.reading.specs.Words.{payOf, wordsOf}

@@ -1,8 +1,8 @@
 //! The kinds of records and their arguments, in one table.
 ghost use mathlib.Core.Path.{_≡_};
-ghost use Prim.Native.Nat.{ℕ, _+_, _^_, _<_};
+ghost use Prim.Native.Nat.{_+_, _^_, _<_};
 ghost use lib.ListN.{getD};
-ghost use Rattle.reading.specs.Words.{kindOf, payOf, wordsOf, argumentTable, argumentsOf, argumentsAt};
+ghost use Rattle.reading.specs.Words.{wordsOf, argumentTable, argumentsAt};
 use crate::words::kind;
 use crate::words::payload;
 

@@ -1,7 +1,6 @@
 //! The tables that the check leaves in the work area.
 ghost use mathlib.Core.Path.{_≡_};
-ghost use Prim.Native.Nat.{ℕ, _+_, _*_, _^_, _<_};
-ghost use lib.ListN.{getD};
+ghost use Prim.Native.Nat.{_+_, _*_, _^_, _<_};
 ghost use Rattle.snapshot.specs.Layouts.{nameHead, moduleMap, moduleHead, moduleParent, mapRoot, ownMap};
 use crate::ids::Crate;
 use crate::ids::ModuleId;

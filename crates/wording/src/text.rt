@@ -1,7 +1,6 @@
 //! The text of a refusal, and of how many records of each kind there are.
-ghost use mathlib.Core.Path.{_≡_};
 ghost use mathlib.Core.List.{_++_};
-ghost use Prim.Native.Nat.{ℕ, _+_, _≤_};
+ghost use Prim.Native.Nat.{_+_, _≤_};
 ghost use lib.ListN.{length};
 ghost use Rattle.printing.specs.Output.{Put, bytesOf, decimal};
 ghost use Rattle.wording.specs.Text.{laterMeaning, meaning, refusal, firstLines, lastLines};

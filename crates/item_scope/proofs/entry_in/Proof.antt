@@ -2,7 +2,7 @@ use borrow.Author.Needs.{needs}
 use mathlib.Core.Path.{sym, ap, _∙_}
 use denote.Ref.{now}
 use Rattle.snapshot.specs.Layouts.{snapOf}
-use Rattle.hir_def.specs.ItemScope.{counts, namesOf, namesReads, preferred, preferredReads}
+use Rattle.hir_def.specs.ItemScope.{counts, namesReads, preferred, preferredReads}
 use Rattle.hir_def.specs.Nameres.{entryIn}
 use Rattle.item_scope.proofs.entry_in.Statement.{statement}
 use Rattle.item_scope.proofs.entry_in.Tie as tie

@@ -6,7 +6,6 @@ use mathlib.Core.List.{List}
 use native.Mathlib.Omega.{arith}
 use denote.Ref.{now}
 use Rattle.snapshot.specs.Layouts.{snapOf}
-use Rattle.snapshot.specs.Records.{scopeAt}
 use Rattle.hir_def.specs.ItemScope.{counts, isFor, namesOf}
 use Rattle.hir_def.proofs.Fresh.{fresh-test, Looking, looking-start, looking-hit, looking-next, looking-end}
 use Rattle.item_scope.proofs.fresh_of.Statement.{statement}

@@ -4,7 +4,6 @@ use Rattle.snapshot.specs.Layouts.{snapOf}
 use Rattle.local_search.proofs.Searches.{asked-small, search-start, search-done}
 use Rattle.local_search.proofs.calculate_best_path_local.Statement.{statement}
 use Rattle.local_search.proofs.calculate_best_path_local.Tie as tie
-use Rattle.local_search.proofs.calculate_best_path_local.Reads as reads
 
 local-at-requires : tie.Need-local-at-requires
 local-at-requires c κs =

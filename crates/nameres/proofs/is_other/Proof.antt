@@ -1,5 +1,5 @@
 use borrow.Author.Needs.{needs}
-use mathlib.Core.Path.{_≡_, refl, sym, ap, ap₂, _∙_}
+use mathlib.Core.Path.{sym, ap, ap₂, _∙_}
 use denote.Ref.{now}
 use mathlib.Core.Bool.{not}
 use Rattle.snapshot.specs.Records.{scopeAt}

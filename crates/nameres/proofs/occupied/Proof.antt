@@ -1,4 +1,3 @@
-use borrow.Author.Needs.{needs}
 use Prim.Native.Nat.{_-_, _<_}
 use mathlib.Core.Path.{_≡_, refl, sym, ap, _∙_}
 use denote.Ref.{now}

@@ -1,6 +1,6 @@
 use borrow.Author.Needs.{needs}
 use Prim.Native.Nat.{_+_}
-use mathlib.Core.Path.{_≡_, refl, sym, ap, _∙_}
+use mathlib.Core.Path.{_≡_, refl, sym, _∙_}
 use native.Mathlib.Omega.{arith}
 use Rattle.accept.specs.Verdict.{argumentsFrom}
 use Rattle.accept.proofs.Laws.{arguments-short, arguments-other, arguments-go, arguments-end}

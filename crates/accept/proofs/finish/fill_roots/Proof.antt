@@ -1,5 +1,3 @@
-use borrow.Author.Needs.{needs}
-use mathlib.Core.Path.{_≡_, refl, sym, ap, _∙_}
 use denote.Ref.{now}
 use native.Mathlib.Omega.{arith}
 use Rattle.accept.proofs.Filling.{Filled, filled-none, filled-small, filled-more, filled-all}

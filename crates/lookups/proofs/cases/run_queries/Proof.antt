@@ -1,7 +1,6 @@
 use borrow.Author.Needs.{needs}
 use Prim.Native.Nat.{_-_, _≤_}
 use lib.ListN.{length}
-use native.Mathlib.Omega.{arith}
 use Rattle.lookups.proofs.cases.run_queries.Statement.{statement}
 use Rattle.lookups.proofs.cases.run_queries.Tie as tie
 

@@ -1,5 +1,4 @@
-use borrow.Author.Needs.{needs}
-use mathlib.Core.Path.{_≡_, refl, sym, ap, _∙_}
+use mathlib.Core.Path.{ap}
 use mathlib.Core.Bool.{not}
 use lib.Dec.{eqb}
 use Rattle.module_tree.proofs.modules.in_block.Statement.{statement}

@@ -1,7 +1,5 @@
 use borrow.Author.Needs.{needs}
-use mathlib.Core.Path.{_≡_, refl, sym, ap, _∙_}
 use denote.Ref.{now}
-use native.Mathlib.Omega.{arith}
 use Rattle.snapshot.specs.Layouts.{snapOf}
 use Rattle.path_choices.proofs.ChoiceLaws.{better-same}
 use Rattle.path_choices.proofs.choices.better.Statement.{statement}

@@ -1,6 +1,6 @@
 use borrow.Author.Needs.{needs}
 use Prim.Native.Nat.{_+_}
-use mathlib.Core.Path.{_≡_, refl, sym, ap, _∙_}
+use mathlib.Core.Path.{ap}
 use denote.Ref.{now}
 use Rattle.snapshot.specs.Layouts.{snapOf}
 use Rattle.path_choices.proofs.ChoiceLaws.{extended-same}

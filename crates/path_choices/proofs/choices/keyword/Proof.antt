@@ -1,5 +1,4 @@
 use borrow.Author.Needs.{needs}
-use mathlib.Core.Path.{_≡_, refl, sym, ap, _∙_}
 use Rattle.path_choices.proofs.ChoiceLaws.{keyword-same}
 use Rattle.path_choices.proofs.choices.keyword.Statement.{statement}
 use Rattle.path_choices.proofs.choices.keyword.Tie as tie

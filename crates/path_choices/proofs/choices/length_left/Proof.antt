@@ -1,5 +1,5 @@
 use borrow.Author.Needs.{needs}
-use mathlib.Core.Path.{_≡_, refl, sym, ap, _∙_}
+use mathlib.Core.Path.{_∙_}
 use borrow.Author.Tests.{not-true, not-false}
 use Rattle.path_choices.proofs.ChoiceLaws.{left-none, left-less, left-more}
 use Rattle.path_choices.proofs.choices.length_left.Statement.{statement}

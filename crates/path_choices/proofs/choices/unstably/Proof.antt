@@ -1,5 +1,4 @@
-use borrow.Author.Needs.{needs}
-use mathlib.Core.Path.{_≡_, refl, sym, ap, _∙_}
+use mathlib.Core.Path.{refl}
 use Rattle.find_path.specs.Choices.{unstably}
 use Rattle.path_choices.proofs.choices.unstably.Statement.{statement}
 use Rattle.path_choices.proofs.choices.unstably.Tie as tie

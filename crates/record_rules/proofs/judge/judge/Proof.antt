@@ -1,4 +1,3 @@
-use borrow.Author.Needs.{needs}
 use borrow.Author.Tests.{not-true, not-false}
 use Rattle.record_rules.proofs.Laws.{judge-32, judge-33, judge-34, judge-35, judge-36, judge-0}
 use Rattle.record_rules.proofs.judge.judge.Statement.{statement}

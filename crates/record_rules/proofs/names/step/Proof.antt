@@ -1,11 +1,10 @@
 use borrow.Author.Needs.{needs}
-use mathlib.Core.Path.{_≡_, refl, sym, ap, _∙_}
+use mathlib.Core.Path.{refl, ap, _∙_}
 use denote.Ref.{now}
 use native.Mathlib.Omega.{arith}
-use lib.ListN.{length, length-set}
+use lib.ListN.{length-set}
 use Prim.Native.Nat.{_+_}
 use Rattle.snapshot.specs.Words.{wordsOf}
-use Rattle.record_rules.specs.Steps.{nameStep}
 use Rattle.record_rules.proofs.Indexed.{key-small}
 use Rattle.record_rules.proofs.Tabled.{names-room, name-no, name-on}
 use Rattle.record_rules.proofs.names.step.Statement.{statement}

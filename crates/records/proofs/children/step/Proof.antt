@@ -1,11 +1,10 @@
 use borrow.Author.Needs.{needs}
 use Prim.Native.Nat.{_+_}
-use mathlib.Core.Path.{_≡_, refl, sym, ap, _∙_}
+use mathlib.Core.Path.{ap}
 use mathlib.Core.Bool.{not}
 use denote.Ref.{now}
 use native.Mathlib.Omega.{arith}
 use lib.Dec.{eqb}
-use Rattle.record_rules.specs.Steps.{childStep}
 use Rattle.records.proofs.Steps.{child-no, child-on}
 use Rattle.records.proofs.Linked.{child-small, child-linked}
 use Rattle.records.proofs.children.step.Statement.{statement}

@@ -1,8 +1,6 @@
 use borrow.Author.Needs.{needs}
-use mathlib.Core.Path.{_≡_, refl, sym, ap, _∙_}
+use mathlib.Core.Path.{refl}
 use denote.Ref.{now}
-use native.Mathlib.Omega.{arith}
-use Rattle.record_rules.specs.Steps.{crateStep}
 use Rattle.record_rules.proofs.Tabled.{crate-no, crate-on}
 use Rattle.records.proofs.crates.step.Statement.{statement}
 use Rattle.records.proofs.crates.step.Tie as tie

@@ -1,8 +1,7 @@
 use borrow.Author.Needs.{needs}
-use mathlib.Core.Path.{_≡_, refl, sym, ap, _∙_}
+use mathlib.Core.Path.{refl}
 use denote.Ref.{now}
 use native.Mathlib.Omega.{arith}
-use Rattle.record_rules.specs.Steps.{definitionStep}
 use Rattle.records.proofs.Steps.{definition-no, definition-on}
 use Rattle.records.proofs.Linked.{slot-small, definition-linked}
 use Rattle.records.proofs.definitions.step.Statement.{statement}

@@ -1,8 +1,6 @@
 use borrow.Author.Needs.{needs}
-use mathlib.Core.Path.{_≡_, refl, sym, ap, _∙_}
 use denote.Ref.{now}
 use native.Mathlib.Omega.{arith}
-use Rattle.record_rules.specs.Steps.{externStep}
 use Rattle.records.proofs.Steps.{extern-no, extern-on}
 use Rattle.records.proofs.Linked.{extern-chain, extern-linked}
 use Rattle.records.proofs.externs.step.Statement.{statement}

@@ -1,8 +1,6 @@
 use borrow.Author.Needs.{needs}
-use mathlib.Core.Path.{_≡_, refl, sym, ap, _∙_}
 use denote.Ref.{now}
 use native.Mathlib.Omega.{arith}
-use Rattle.record_rules.specs.Steps.{importStep}
 use Rattle.records.proofs.Steps.{import-no, import-on}
 use Prim.Native.Nat.{_+_}
 use Rattle.records.proofs.imports.step.Statement.{statement}

@@ -1,8 +1,7 @@
 use borrow.Author.Needs.{needs}
-use mathlib.Core.Path.{_≡_, refl, sym, ap, _∙_}
+use mathlib.Core.Path.{refl, sym, _∙_}
 use denote.Ref.{now}
 use native.Mathlib.Omega.{arith}
-use Rattle.record_rules.specs.Steps.{mapStep}
 use Rattle.records.proofs.Regions.{map-no, map-on-own, map-on-block, map-crate-small}
 use Rattle.records.proofs.maps.step.Statement.{statement}
 use Rattle.records.proofs.maps.step.Tie as tie

@@ -1,8 +1,7 @@
 use borrow.Author.Needs.{needs}
-use mathlib.Core.Path.{_≡_, refl, sym, ap, _∙_}
+use mathlib.Core.Path.{refl}
 use denote.Ref.{now}
 use native.Mathlib.Omega.{arith}
-use Rattle.record_rules.specs.Steps.{moduleStep}
 use Rattle.records.proofs.ModuleRows.{module-no, module-on}
 use lib.ListN.{length-set}
 use Prim.Native.Nat.{_+_}

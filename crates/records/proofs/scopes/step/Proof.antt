@@ -1,9 +1,7 @@
 use borrow.Author.Needs.{needs}
 use Prim.Native.Nat.{_+_}
-use mathlib.Core.Path.{_≡_, refl, sym, ap, _∙_}
 use denote.Ref.{now}
 use native.Mathlib.Omega.{arith}
-use Rattle.record_rules.specs.Steps.{scopeStep}
 use Rattle.records.proofs.Steps.{scope-no, scope-on}
 use Rattle.records.proofs.Linked.{scope-chain, scope-linked}
 use Rattle.records.proofs.scopes.step.Statement.{statement}

@@ -1,6 +1,5 @@
 use borrow.Author.Needs.{needs}
-use Prim.Native.Nat.{_+_, _-_, _≤_, _<_}
-use native.Mathlib.Omega.{arith}
+use Prim.Native.Nat.{_-_, _≤_}
 use lib.ListN.{length}
 use Rattle.replay.proofs.compare.stands.Statement.{statement}
 use Rattle.replay.proofs.compare.stands.Tie as tie

@@ -1,9 +1,7 @@
 use borrow.Author.Needs.{needs}
-use Prim.Native.Nat.{_≤_}
 use mathlib.Core.Path.{sym}
 use native.Mathlib.Omega.{arith}
 use borrow.Author.Tests.{not-false}
-use lib.ListN.{length}
 use lib.Seq.{length-take-le}
 use Rattle.replay.proofs.list.compare_next.Statement.{statement}
 use Rattle.replay.proofs.list.compare_next.Tie as tie

@@ -1,6 +1,5 @@
 use borrow.Author.Needs.{needs}
-use mathlib.Core.Path.{_≡_, ap, sym, _∙_}
-use native.Mathlib.Omega.{arith}
+use mathlib.Core.Path.{ap, sym, _∙_}
 use Rattle.reading.specs.Words.{wordsOf, argumentTable}
 use lib.ListN.{getD}
 use Rattle.snapshot.proofs.Laws.{arguments-name, arguments-fixed}
