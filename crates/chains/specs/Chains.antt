@@ -44,6 +44,12 @@ pub record Chained (A : List ℕ) (heads links : ℕ) (key : ℕ → ℕ) (n : �
   pub first : (b : ℕ) → b < keys → Last key b n (getD A (heads + b) 0)
   pub next : (i : ℕ) → i < n → Last key (key i) i (getD A (links + i) 0)
 
+-- the words from a place to another are 0, and all others stay
+pub record Cleared (A₀ A : List ℕ) (from to : ℕ) : Type 0 where
+  pub zero : (i : ℕ) → from ≤ i → i < to → getD A i 0 ≡ 0
+  pub before : (i : ℕ) → i < from → getD A i 0 ≡ getD A₀ i 0
+  pub after : (i : ℕ) → to ≤ i → getD A i 0 ≡ getD A₀ i 0
+
 -- the number n before those with its key
 unfoldable pub linked : List ℕ → ℕ → ℕ → ℕ → ℕ → List ℕ
 linked A heads links b n = set (set A (links + n) (getD A (heads + b) 0)) (heads + b) (n + 1)

@@ -1,8 +1,8 @@
 //! The heads of the chains, and one number more.
 ghost use mathlib.Core.Path.{_≡_};
-ghost use Prim.Native.Nat.{ℕ, _+_, _^_, _≤_, _<_};
-ghost use lib.ListN.{length, getD};
-ghost use Rattle.chains.specs.Chains.{linked};
+ghost use Prim.Native.Nat.{_+_, _^_, _≤_, _<_};
+ghost use lib.ListN.{length};
+ghost use Rattle.chains.specs.Chains.{Cleared, linked};
 
 /// The first word of the heads, a word a key, of the marks, a word a module, and of the links, a word a number. What lies before the end of
 /// the marks is cleared at first; the word there is marked for definitions of no module.
@@ -30,10 +30,10 @@ impl Chains {
     pub const EXTERN_LINKS: usize = 10736;
 }
 
-/// Clears the words from a place to another.
+/// Clears the words from a place to another; the others stay.
 pub fn clear(area: &mut [u32], from: usize, to: usize)
     requires { ⌜ to ≤ length (now area) ⌝ }
-    ensures { λ _. ⌜ ((i : ℕ) → from ≤ i → i < to → getD (now (area .exit)) i 0 ≡ 0) ⌝ }
+    ensures { λ _. ⌜ Cleared (now (area .entry)) (now (area .exit)) from to ⌝ }
 {
     let mut i = from;
     while i < to {

@@ -22,7 +22,7 @@ new-requires : tie.Need-new-requires Inv-loop μ-loop
 new-requires c κs = search needs
 
 loop-holds : tie.Need-loop-holds Inv-loop μ-loop
-loop-holds c = (going-start _ _ (c .before .before .before .before .before .before .before .pre .0) (c .before .before .before .clear .ensures) (c .new .ensures), refl)
+loop-holds c = (going-start _ _ (c .before .before .before .before .before .before .before .pre .0) (c .before .before .before .clear .ensures .zero) (c .new .ensures), refl)
 
 turn-requires : tie.Need-turn-requires Inv-loop μ-loop
 turn-requires c κs =
