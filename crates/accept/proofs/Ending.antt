@@ -22,7 +22,7 @@ use Rattle.accept.specs.Ends.{Ended}
 use Rattle.accept.specs.declared.check.Checked.{Checked}
 use Rattle.accept.specs.declared.check.Checked.the-variants.{Refused, Accepted}
 use Rattle.record_rules.proofs.Judged.{and-left, and-right}
-use Rattle.records.proofs.Regions.{own-any}
+use Rattle.module_records.proofs.Regions.{own-any}
 use Rattle.record_rules.proofs.Tabled.{Kept, names-kept, modules-kept, heads-kept}
 
 -- tests over numbered things

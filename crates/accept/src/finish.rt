@@ -8,7 +8,7 @@ ghost use Rattle.snapshot.specs.Lists.{rows, any, all};
 ghost use Rattle.snapshot.specs.Layouts.{modulesOf, moduleMap, ownMap};
 ghost use Rattle.record_rules.specs.Tests.{isIn};
 ghost use Rattle.record_rules.specs.Stands.{Rooted};
-use records::modules::has_module;
+use module_records::modules::has_module;
 use snapshot::ids::Crate;
 use snapshot::ids::ModuleId;
 use snapshot::table::Tables;

@@ -31,16 +31,16 @@ fn by_kind(words: &[u32], area: &mut [u32], l: Layout, at: usize, k: usize) -> S
 {
     match k {
         1 => record_rules::names::step(words, area, l, at),
-        2 => records::crates::step(words, area, l, at),
+        2 => module_records::crates::step(words, area, l, at),
         3 => records::dependencies::step(words, area, l, at),
-        4 => records::maps::step(words, area, l, at),
-        5 => records::modules::step(words, area, l, at),
+        4 => module_records::maps::step(words, area, l, at),
+        5 => module_records::modules::step(words, area, l, at),
         6 => records::children::step(words, area, l, at),
         7 => records::preludes::step(words, area, l, at),
-        8 => records::definitions::step(words, area, l, at),
-        9 => records::scopes::step(words, area, l, at),
-        10 => records::imports::step(words, area, l, at),
-        _ => records::externs::step(words, area, l, at),
+        8 => item_records::definitions::step(words, area, l, at),
+        9 => item_records::scopes::step(words, area, l, at),
+        10 => item_records::imports::step(words, area, l, at),
+        _ => item_records::externs::step(words, area, l, at),
     }
 }
 

@@ -1,6 +1,4 @@
 -- Laws that belong to no one function.
 pub mod Grows
 pub mod Steps
-pub mod Regions
-pub mod ModuleRows
 pub mod Linked

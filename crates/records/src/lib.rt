@@ -1,12 +1,5 @@
-//! The step of each kind of record but a name.
+//! The step of a dependency, a child and a prelude; repeats of a record among the earlier ones.
 pub mod children;
-pub mod crates;
-pub mod definitions;
 pub mod dependencies;
-pub mod externs;
-pub mod imports;
-pub mod maps;
-pub mod modules;
 pub mod preludes;
-mod repeats;
-pub mod scopes;
+pub mod repeats;
