@@ -22,6 +22,7 @@ impl Answers for Original {
             prefix: question.prefix as usize,
             options: 0,
             fuel: Question::FUEL as usize,
+            limit: 15,
         });
         Answer { found: answer.path.is_some(), charges: answer.charges as u32, empty: answer.empty }
     }

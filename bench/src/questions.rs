@@ -78,7 +78,7 @@ pub fn write_input(shape: &str, count: usize) {
     let every = (questions(&shape).count() / count).max(1);
     let mut words = shape.words.clone();
     for question in questions(&shape).step_by(every).take(count) {
-        words.extend([12 << 28 | question.definition, 0, question.from, question.prefix, 0, Question::FUEL]);
+        words.extend([12 << 28 | question.definition, 0, question.from, question.prefix, 0, Question::FUEL, 15]);
     }
     let bytes: Vec<u8> = words.iter().flat_map(|word| word.to_le_bytes()).collect();
     std::io::stdout().write_all(&bytes).expect("a place to write to");

@@ -40,8 +40,8 @@ int main(void)
     for (size_t i = 0; i < names; i++)
         tables[i] = area[i];
 
-    /* Definition 1 in the values namespace, seen from module 0; a plain path; no options; all the fuel. */
-    const uint32_t question[KELUMAVOR_QUESTION] = {1, 1, 0, 1, 0, 10000};
+    /* Definition 1 in the values namespace, seen from module 0; a plain path; no options; all the fuel; the largest limit. */
+    const uint32_t question[KELUMAVOR_QUESTION] = {1, 1, 0, 1, 0, 10000, 15};
     uint32_t report[KELUMAVOR_REPORT];
     kelumavor_find_path(words, words_len, area, KELUMAVOR_AREA, question, report, KELUMAVOR_REPORT);
     switch (report[KELUMAVOR_OUTCOME]) {

@@ -51,7 +51,7 @@ size_t kelumavor_name(const uint32_t *words, size_t words_len, const uint32_t *t
 
 /* A question: namespace (0 types, 1 values, 2 macros), definition, viewing module, prefix (0 by self, 1 plain, 2 by crate),
  * options (1 prefer no_std, 2 prefer the prelude, 4 prefer absolute, 8 allow unstable, 16 ignore local imports, 32 old names last),
- * fuel. */
+ * fuel (10,000 at most), limit (the length left at the start, 1 to 15: names of the path, or one more for a variant). */
 enum kelumavor_question {
     KELUMAVOR_NAMESPACE,
     KELUMAVOR_DEFINITION,
@@ -59,6 +59,7 @@ enum kelumavor_question {
     KELUMAVOR_PREFIX,
     KELUMAVOR_OPTIONS,
     KELUMAVOR_FUEL,
+    KELUMAVOR_LIMIT,
     KELUMAVOR_QUESTION /* how many */
 };
 
@@ -96,7 +97,7 @@ size_t kelumavor_find_paths(const uint32_t *words, size_t words_len, uint32_t *a
                             const uint32_t *questions, size_t questions_len, uint32_t *reports, size_t reports_len);
 
 /* Windows that share one search, each with a question that waits or none. The state is the caller's; all zeros is the one in which no
- * question waits. Word 0 is the window from which the next turn counts; a row of seven words for each window follows: 1 where its
+ * question waits. Word 0 is the window from which the next turn counts; a row of eight words for each window follows: 1 where its
  * question waits, and the question. */
 #define KELUMAVOR_WINDOWS 8
 #define KELUMAVOR_STATE (1 + KELUMAVOR_WINDOWS * (1 + KELUMAVOR_QUESTION))

@@ -7,7 +7,7 @@ use crate::random::Random;
 use crate::right::ask::Program;
 use crate::{Answers, Question};
 
-/// Some damaged copies. Questions that take the Rust more steps are left out.
+/// Some damaged copies. Questions that take the Rust more steps are left out, and limits that it does not have.
 pub fn copies(seed: u64, case: &Case, steps: u64) -> Vec<Vec<u8>> {
     let mut r = Random::new(seed ^ 0x0DDB_A11D_EAD0_0001);
     let mut copies = Vec::new();
@@ -111,7 +111,7 @@ fn asked(words: &[u32], questions: &[Question], steps: u64) -> Vec<u8> {
     let program = checked.as_ref().ok().map(Program::new);
     let in_time = |question: &Question| match &program {
         Some(program) if refusal(&checked, question).is_none() => {
-            crate::budget::within(steps, || program.put(question)).is_some()
+            question.limit == 15 && crate::budget::within(steps, || program.put(question)).is_some()
         }
         _ => true,
     };
@@ -120,7 +120,7 @@ fn asked(words: &[u32], questions: &[Question], steps: u64) -> Vec<u8> {
         input.truncate(snapshot.len());
     }
     for question in questions.iter().filter(|question| in_time(question)) {
-        if input.len() + 6 <= 16_384 {
+        if input.len() + 7 <= 16_384 {
             input.extend(question_words(question));
         }
     }
@@ -133,7 +133,8 @@ fn in_time(words: &[u32], steps: u64) -> bool {
     let checked = check(snapshot);
     let Some(program) = checked.as_ref().ok().map(Program::new) else { return true };
     questions.iter().all(|question| {
-        refusal(&checked, question).is_some() || crate::budget::within(steps, || program.put(question)).is_some()
+        refusal(&checked, question).is_some()
+            || (question.limit == 15 && crate::budget::within(steps, || program.put(question)).is_some())
     })
 }
 
@@ -188,7 +189,7 @@ fn full(r: &mut Random) -> Vec<u8> {
         words.extend([head(8, 4), if fault && d == 2048 { 600 } else { 0 }, 0]);
     }
     for definition in [0, 2] {
-        let question = Question { definition, ns: 0, from: 0, prefix: 1, options: 0, fuel: 5 };
+        let question = Question { definition, ns: 0, from: 0, prefix: 1, options: 0, fuel: 5, limit: 15 };
         words.extend(question_words(&question));
     }
     bytes(&words)

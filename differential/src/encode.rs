@@ -51,8 +51,8 @@ pub fn words(s: &Snapshot) -> Vec<u32> {
     words
 }
 
-pub fn question_words(q: &Question) -> [u32; 6] {
-    let arguments = [q.ns, q.from, q.prefix, q.options, q.fuel];
+pub fn question_words(q: &Question) -> [u32; 7] {
+    let arguments = [q.ns, q.from, q.prefix, q.options, q.fuel, q.limit];
     std::array::from_fn(|place| if place == 0 { head(12, q.definition) } else { arguments[place - 1] as u32 })
 }
 

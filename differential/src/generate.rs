@@ -845,7 +845,7 @@ pub fn questions(seed: u64, s: &Snapshot, shape: Shape, count: usize, steps: u64
 /// A question that may be refused.
 fn spoil(r: &mut Random, s: &Snapshot, q: &mut Question) {
     for _ in 0..r.from_to(1, 2) {
-        match r.below(8) {
+        match r.below(9) {
             0 => q.fuel = r.pick(&[10_001, 10_001, 20_000, 0x0FFF_FFFF]),
             1 => q.ns = r.pick(&[3, 4, 0x0FFF_FFFF]),
             2 => q.prefix = r.pick(&[3, 4, 0x0FFF_FFFF]),
@@ -853,6 +853,7 @@ fn spoil(r: &mut Random, s: &Snapshot, q: &mut Question) {
             4 => q.definition = s.definitions.len() + r.below(2),
             5 => q.from = s.modules.len() + r.below(2),
             6 => q.ns = 2,
+            7 => q.limit = r.pick(&[0, 16, 17, 0x0FFF_FFFF]),
             _ => q.definition = 0x0FFF_FFFF,
         }
     }
@@ -897,7 +898,7 @@ impl Targets {
         let plain = if shape == Shape::Std { 55 } else { 35 };
         let options = if r.percent(plain) { 0 } else { r.below(32) };
         let prefix = if matches!(shape, Shape::Root | Shape::Stairs) && r.percent(50) { 2 } else { r.below(3) };
-        Question { definition, ns, from, prefix, options, fuel: 10_000 }
+        Question { definition, ns, from, prefix, options, fuel: 10_000, limit: 15 }
     }
 }
 
@@ -905,7 +906,7 @@ impl Targets {
 pub fn case(seed: u64, count: usize, steps: u64) -> (Shape, Case) {
     let (shape, s) = snapshot(seed);
     let words = crate::encode::words(&s);
-    let room = (crate::check::WORDS - words.len()) / 6;
+    let room = (crate::check::WORDS - words.len()) / 7;
     let questions = questions(seed, &s, shape, count.min(room), steps);
     (shape, Case { words, questions })
 }

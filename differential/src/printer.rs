@@ -18,10 +18,10 @@ pub fn parts_of(words: &[u32]) -> (&[u32], Vec<Question>, bool) {
     let start = words.iter().position(|&word| kind(word) == 12).unwrap_or(words.len());
     let mut questions = Vec::new();
     let mut rest = &words[start..];
-    while rest.len() >= 6 && kind(rest[0]) == 12 && rest[1..6].iter().all(|&word| kind(word) == 0) {
-        let [ns, from, prefix, options, fuel] = std::array::from_fn(|place| rest[1 + place] as usize);
-        questions.push(Question { definition: payload(rest[0]), ns, from, prefix, options, fuel });
-        rest = &rest[6..];
+    while rest.len() >= 7 && kind(rest[0]) == 12 && rest[1..7].iter().all(|&word| kind(word) == 0) {
+        let [ns, from, prefix, options, fuel, limit] = std::array::from_fn(|place| rest[1 + place] as usize);
+        questions.push(Question { definition: payload(rest[0]), ns, from, prefix, options, fuel, limit });
+        rest = &rest[7..];
     }
     (&words[..start], questions, !rest.is_empty())
 }
@@ -33,6 +33,9 @@ pub fn refusal(snapshot: &Result<Snapshot, u32>, q: &Question) -> Option<u32> {
     }
     if q.ns > 2 || q.prefix > 2 || q.options > 63 {
         return Some(22);
+    }
+    if !(1..=15).contains(&q.limit) {
+        return Some(46);
     }
     let s = match snapshot {
         Err(number) => return Some(*number),

@@ -8,6 +8,8 @@ pub struct Question {
     pub prefix: usize,
     pub options: usize,
     pub fuel: usize,
+    /// The length left at the start.
+    pub limit: usize,
 }
 
 /// A path kind (0 plain, 1 `self`, 2 `super`, 3 `crate`, 4 leading `::`) and the numbers of the names.

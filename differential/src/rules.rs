@@ -583,6 +583,7 @@ struct FindPathCtx {
     unstable: bool,
     declared: bool,
     fresh: bool,
+    limit: usize,
     std: bool,
     from: usize,
     krate: usize,
@@ -604,6 +605,7 @@ fn contextOf(s: &Snapshot, q: &Question, home: usize) -> FindPathCtx {
         unstable: bit(q.options, 8),
         declared: bit(q.options, 16),
         fresh: bit(q.options, 32),
+        limit: q.limit,
         std: isLang(s, crateOf(s, home)),
         from: q.from,
         krate: crateOf(s, q.from),
@@ -866,7 +868,7 @@ impl Rules<'_> {
             return nothing();
         }
         if let (Mod(m), false) = (item, self.x.std) {
-            return self.findPathForModule(15, m, t);
+            return self.findPathForModule(self.x.limit, m, t);
         }
         let mut c = self.scopeRule(item);
         if !c.found {
@@ -884,7 +886,7 @@ impl Rules<'_> {
                 return push(self.s, c, v.second);
             }
         }
-        self.calculateBestPath(15, item, t)
+        self.calculateBestPath(self.x.limit, item, t)
     }
 }
 
@@ -908,6 +910,9 @@ fn lineOf(snapshot: &Result<Snapshot, usize>, q: &Question) -> Vec<u8> {
     }
     if 2 < q.ns || 2 < q.prefix || 63 < q.options {
         return refused(22);
+    }
+    if q.limit == 0 || 15 < q.limit {
+        return refused(46);
     }
     let s = match snapshot {
         Err(n) => return refused(*n),

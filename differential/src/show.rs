@@ -7,8 +7,8 @@ use crate::check::Snapshot;
 pub fn question_text(q: &Question) -> String {
     let prefix = ["BySelf", "Plain", "ByCrate"].get(q.prefix).copied().unwrap_or("?");
     format!(
-        "definition {} ns {} module {} prefix {} ({prefix}) options {} fuel {}",
-        q.definition, q.ns, q.from, q.prefix, q.options, q.fuel
+        "definition {} ns {} module {} prefix {} ({prefix}) options {} fuel {} limit {}",
+        q.definition, q.ns, q.from, q.prefix, q.options, q.fuel, q.limit
     )
 }
 

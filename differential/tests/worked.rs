@@ -21,7 +21,7 @@ const CASES: [([usize; 5], &str); 14] = [
 ];
 
 fn question(&[definition, ns, from, prefix, fuel]: &[usize; 5]) -> Question {
-    Question { definition, ns, from, prefix, options: 0, fuel }
+    Question { definition, ns, from, prefix, options: 0, fuel, limit: 15 }
 }
 
 fn lines(other: &Other, input: &[u8]) -> Vec<String> {
@@ -55,7 +55,7 @@ fn chain(depth: usize) -> Vec<u8> {
         words.extend([head(9, owner), 0, 0, definition as u32, 0, 0, 1]);
     }
     for definition in [depth, depth + 1] {
-        words.extend(question_words(&Question { definition, ns: 0, from: 1, prefix: 2, options: 0, fuel: 10_000 }));
+        words.extend(question_words(&Question { definition, ns: 0, from: 1, prefix: 2, options: 0, fuel: 10_000, limit: 15 }));
     }
     bytes(&words)
 }
@@ -76,7 +76,7 @@ fn inputs_that_are_refused() {
         assert_eq!(lines(&other, &vec![0; 65_537]), ["refused 40 0 0"]);
         assert_eq!(lines(&other, &[0; 5]), ["refused 41 0 0"]);
         assert_eq!(lines(&other, &bytes(&[head(12, 0), 0, 0])), ["refused 42 0 0"]);
-        let empty = Question { definition: 0, ns: 0, from: 0, prefix: 0, options: 0, fuel: 0 };
+        let empty = Question { definition: 0, ns: 0, from: 0, prefix: 0, options: 0, fuel: 0, limit: 15 };
         assert_eq!(lines(&other, &bytes(&question_words(&empty))), ["refused 23 0 0"]);
     }
     assert_eq!(printer::words_of(&vec![0; 65_536]).unwrap().len(), 16_384);

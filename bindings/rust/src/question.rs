@@ -47,13 +47,18 @@ pub struct Question {
     pub options: Options,
     /// Charges that the search may make.
     pub fuel: u32,
+    /// The length left at the start: how many names the path may have, or one more for a variant found through its enum.
+    pub limit: u32,
 }
 
 impl Question {
     /// Fuel of a question, at most.
     pub const FUEL: u32 = 10_000;
 
-    /// A question with a plain prefix, no options and all the fuel.
+    /// The limit of a question, at most.
+    pub const LIMIT: u32 = 15;
+
+    /// A question with a plain prefix, no options, all the fuel and the largest limit.
     pub fn new(namespace: Namespace, definition: DefinitionId, from: ModuleId) -> Self {
         Question {
             namespace,
@@ -62,6 +67,7 @@ impl Question {
             prefix: Prefix::default(),
             options: Options::default(),
             fuel: Self::FUEL,
+            limit: Self::LIMIT,
         }
     }
 
@@ -77,7 +83,19 @@ impl Question {
         Question { fuel, ..self }
     }
 
+    pub fn limit(self, limit: u32) -> Self {
+        Question { limit, ..self }
+    }
+
     pub(crate) fn words(&self) -> [u32; sys::QUESTION] {
-        [self.namespace as u32, self.definition.0, self.from.0, self.prefix as u32, self.options.bits(), self.fuel]
+        [
+            self.namespace as u32,
+            self.definition.0,
+            self.from.0,
+            self.prefix as u32,
+            self.options.bits(),
+            self.fuel,
+            self.limit,
+        ]
     }
 }

@@ -37,6 +37,8 @@ pub enum RefusalKind {
     WordsOutsideQuestion = 42,
     /// 44, by a call of the library with several questions; `Snapshot::find_paths` takes any number of them
     BatchTooLong = 44,
+    /// 46
+    LimitOutOfRange = 46,
     /// 49, by [`Windows::place`](crate::Windows::place)
     NoSuchWindow = 49,
     /// 50, by [`Windows::place`](crate::Windows::place)
@@ -44,7 +46,7 @@ pub enum RefusalKind {
 }
 
 impl RefusalKind {
-    const ALL: [RefusalKind; 18] = [
+    const ALL: [RefusalKind; 19] = [
         Self::SmallWorkArea,
         Self::TooMuchFuel,
         Self::OutOfRange,
@@ -61,6 +63,7 @@ impl RefusalKind {
         Self::InputNotWords,
         Self::WordsOutsideQuestion,
         Self::BatchTooLong,
+        Self::LimitOutOfRange,
         Self::NoSuchWindow,
         Self::WindowWaits,
     ];
@@ -94,6 +97,7 @@ impl fmt::Display for RefusalKind {
             Self::InputNotWords => "a number of bytes that is not a multiple of 4",
             Self::WordsOutsideQuestion => "a word after the snapshot that is in no whole question",
             Self::BatchTooLong => "more than 64 questions, a part of one, or too few words for their reports",
+            Self::LimitOutOfRange => "the limit is outside 1 to 15",
             Self::NoSuchWindow => "a window above 7",
             Self::WindowWaits => "the window has a question that waits already",
         })

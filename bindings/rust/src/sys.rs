@@ -5,7 +5,7 @@
 pub const CHECKED: usize = 13;
 
 /// Words of a question.
-pub const QUESTION: usize = 6;
+pub const QUESTION: usize = 7;
 
 /// Words of a report.
 pub const REPORT: usize = 24;

@@ -74,6 +74,20 @@ fn old_names_come_last() {
     assert_eq!(ask(Options { ignore_local_imports: true, ..last }), "found old 0 0");
 }
 
+/// A path of two names is found with a limit of 2; limits outside 1 to 15 are refused.
+#[test]
+fn limits() {
+    let snapshot = Snapshot::check(&WORKED).unwrap();
+    let ask = |limit| snapshot.find_path(&question(1, 1, 0, 1, 9).limit(limit));
+    for limit in 2..=Question::LIMIT {
+        assert_eq!(ask(limit).to_string(), "found a::f 1 0");
+    }
+    assert_eq!(ask(1).to_string(), "none - 1 0");
+    for limit in [0, 16, u32::MAX] {
+        assert!(matches!(ask(limit).outcome, Outcome::Refused(refusal) if refusal.kind() == RefusalKind::LimitOutOfRange));
+    }
+}
+
 fn random_question(random: &mut random::Random, snapshot: &random::Snapshot) -> Question {
     let options = Options {
         prefer_no_std: random.chance(20),
@@ -84,6 +98,7 @@ fn random_question(random: &mut random::Random, snapshot: &random::Snapshot) -> 
         old_names_last: random.chance(40),
     };
     let fuel = if random.chance(30) { random.below(8) } else { Question::FUEL };
+    let limit = if random.chance(50) { random.below(18) } else { Question::LIMIT };
     let ns = random.below(20) as usize % 3;
     question(
         random.below(snapshot.definitions + 1),
@@ -93,10 +108,11 @@ fn random_question(random: &mut random::Random, snapshot: &random::Snapshot) -> 
         fuel,
     )
     .options(options)
+    .limit(limit)
 }
 
 /// The words of a question in the printer's input.
-fn printer_words(question: &Question) -> [u32; 6] {
+fn printer_words(question: &Question) -> [u32; 7] {
     let options = question.options;
     let bits = [
         options.prefer_no_std,
@@ -114,6 +130,7 @@ fn printer_words(question: &Question) -> [u32; 6] {
         question.prefix as u32,
         bits,
         question.fuel,
+        question.limit,
     ]
 }
 

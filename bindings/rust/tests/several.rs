@@ -27,7 +27,7 @@ struct Called {
 /// Calls with so many words of each; the questions are all zero but for the fuel, which is too much.
 fn called(area: usize, questions: usize, reports: usize) -> Called {
     let mut area = vec![7; area];
-    let questions: Vec<u32> = (0..questions).map(|place| if place % 6 == 5 { 10_001 } else { 0 }).collect();
+    let questions: Vec<u32> = (0..questions).map(|place| if place % 7 == 5 { 10_001 } else { 0 }).collect();
     let mut reports = vec![7; reports];
     // SAFETY: each pointer and length is that of a vector.
     let number = unsafe {
@@ -57,23 +57,23 @@ fn refused(area: usize, questions: usize, reports: usize, number: usize, cleared
 
 #[test]
 fn refused_whole() {
-    refused(16_383, 6, 24, 20, 0);
+    refused(16_383, 7, 24, 20, 0);
     refused(0, 0, 0, 20, 0);
     // 20 comes before 44
-    refused(16_383, 65 * 6, 65 * 24, 20, 0);
-    refused(16_384, 65 * 6, 65 * 24, 44, 16_384);
-    refused(16_400, 64 * 6, 64 * 24 - 1, 44, 16_384);
-    refused(16_384, 6, 21, 44, 16_384);
-    for part in 1..6 {
+    refused(16_383, 65 * 7, 65 * 24, 20, 0);
+    refused(16_384, 65 * 7, 65 * 24, 44, 16_384);
+    refused(16_400, 64 * 7, 64 * 24 - 1, 44, 16_384);
+    refused(16_384, 7, 21, 44, 16_384);
+    for part in 1..7 {
         refused(16_384, part, 100, 44, 16_384);
-        refused(16_384, 12 + part, 100, 44, 16_384);
+        refused(16_384, 14 + part, 100, 44, 16_384);
     }
 }
 
 #[test]
 fn answered() {
     for (count, area) in [(0, 16_384), (1, 16_384), (64, 16_390)] {
-        let called = called(area, 6 * count, 24 * count + 3);
+        let called = called(area, 7 * count, 24 * count + 3);
         assert_eq!(called.number, 0);
         let (reports, rest) = called.reports.split_at(24 * count);
         assert!(reports.chunks(24).all(|report| report[..2] == [2, 21] && report[2..].iter().all(|word| *word == 0)));

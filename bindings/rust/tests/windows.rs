@@ -5,9 +5,9 @@ use common::WORKED;
 use kelumavor::{DefinitionId, ModuleId, Namespace, Question, RefusalKind, Snapshot, Windows};
 
 unsafe extern "C" {
-    fn kelumavor_place(state: *mut [u32; 57], window: usize, question: *const [u32; 6]) -> usize;
+    fn kelumavor_place(state: *mut [u32; 65], window: usize, question: *const [u32; 7]) -> usize;
     fn kelumavor_turn(
-        state: *mut [u32; 57],
+        state: *mut [u32; 65],
         words: *const u32,
         words_len: usize,
         area: *mut u32,
@@ -16,25 +16,25 @@ unsafe extern "C" {
     ) -> usize;
 }
 
-fn place(state: &mut [u32; 57], window: usize, question: [u32; 6]) -> usize {
+fn place(state: &mut [u32; 65], window: usize, question: [u32; 7]) -> usize {
     // SAFETY: the pointers are those of references.
     unsafe { kelumavor_place(state, window, &question) }
 }
 
-fn turn(state: &mut [u32; 57], area: &mut [u32], report: &mut [u32; 24]) -> usize {
+fn turn(state: &mut [u32; 65], area: &mut [u32], report: &mut [u32; 24]) -> usize {
     // SAFETY: each pointer and length is that of a reference.
     unsafe { kelumavor_turn(state, WORKED.as_ptr(), WORKED.len(), area.as_mut_ptr(), area.len(), report) }
 }
 
 /// The function `f` from the root.
-const ASKED: [u32; 6] = [1, 1, 0, 1, 0, 9];
+const ASKED: [u32; 7] = [1, 1, 0, 1, 0, 9, 15];
 
 /// The state with the next window and the questions that wait.
-fn state(next: u32, waiting: &[(usize, [u32; 6])]) -> [u32; 57] {
-    let mut state = [0; 57];
+fn state(next: u32, waiting: &[(usize, [u32; 7])]) -> [u32; 65] {
+    let mut state = [0; 65];
     state[0] = next;
     for (window, question) in waiting {
-        let row = &mut state[1 + 7 * window..][..7];
+        let row = &mut state[1 + 8 * window..][..8];
         row[0] = 1;
         row[1..].copy_from_slice(question);
     }
@@ -43,11 +43,11 @@ fn state(next: u32, waiting: &[(usize, [u32; 6])]) -> [u32; 57] {
 
 #[test]
 fn placed_and_refused() {
-    let mut windows = [0; 57];
+    let mut windows = [0; 65];
     for window in 0..8 {
-        assert_eq!(place(&mut windows, window, [window as u32; 6]), 0);
+        assert_eq!(place(&mut windows, window, [window as u32; 7]), 0);
     }
-    let full: Vec<_> = (0..8).map(|window| (window, [window as u32; 6])).collect();
+    let full: Vec<_> = (0..8).map(|window| (window, [window as u32; 7])).collect();
     assert_eq!(windows, state(0, &full));
     for window in 0..8 {
         assert_eq!(place(&mut windows, window, ASKED), 50);
@@ -89,7 +89,7 @@ fn idle() {
 #[test]
 fn any_state() {
     let (mut area, mut report) = (vec![0; 16_384], [0; 24]);
-    let mut windows = [u32::MAX; 57];
+    let mut windows = [u32::MAX; 65];
     for window in [7, 0, 1, 2, 3, 4, 5, 6, 8] {
         assert_eq!(turn(&mut windows, &mut area, &mut report), window);
     }

@@ -38,13 +38,13 @@ module _ (W A Q R : List ℕ) where
 
 -- one question more
 
-questions-next : (n : ℕ) (Q : List ℕ) → questionsOf (suc n) Q ≡ questionsOf n Q ++ (questionOf (drop (6 * n) Q) ∷ [])
+questions-next : (n : ℕ) (Q : List ℕ) → questionsOf (suc n) Q ≡ questionsOf n Q ++ (questionOf (drop (7 * n) Q) ∷ [])
 unfolding questionsOf
 questions-next zero Q = refl
 questions-next (suc n) Q =
-    let e : 6 + 6 * n ≡ 6 * suc n = omega arith in
-    ap (λ qs. questionOf Q ∷ qs) (questions-next n (drop 6 Q))
-    ∙ ap (λ (x : List ℕ). questionOf Q ∷ (questionsOf n (drop 6 Q) ++ (questionOf x ∷ []))) (drop-drop (6 * n) 6 Q ∙ ap (λ k. drop k Q) e)
+    let e : 7 + 7 * n ≡ 7 * suc n = omega arith in
+    ap (λ qs. questionOf Q ∷ qs) (questions-next n (drop 7 Q))
+    ∙ ap (λ (x : List ℕ). questionOf Q ∷ (questionsOf n (drop 7 Q) ++ (questionOf x ∷ []))) (drop-drop (7 * n) 7 Q ∙ ap (λ k. drop k Q) e)
 
 reports-next : (W : List ℕ) (qs : List Question) (q : Question) → reportsOf W (qs ++ (q ∷ [])) ≡ reportsOf W qs ++ reportWords (reportOf W 16384 q)
 unfolding reportsOf
@@ -74,15 +74,15 @@ module _ (W Q R₀ : List ℕ) where
       let e : i ≡ n = omega arith in
       p .same ∙ ap (λ x. reportsOf W (questionsOf x Q) ++ drop (24 * x) R₀) e
 
-  module _ (i : ℕ) (R : List ℕ) (p : Reported i R) (q : Question) (r : Report) (e : q ≡ questionOf (midOf (6 * i) (length Q - 6 * i) Q)) (f : r ≡ reportOf W 16384 q) where
+  module _ (i : ℕ) (R : List ℕ) (p : Reported i R) (q : Question) (r : Report) (e : q ≡ questionOf (midOf (7 * i) (length Q - 7 * i) Q)) (f : r ≡ reportOf W 16384 q) where
     -- the words of the reports with that of one question more
     next-words : reportsOf W (questionsOf (i + 1) Q) ≡ reportsOf W (questionsOf i Q) ++ reportWords r
     next-words =
         ap (λ n. reportsOf W (questionsOf n Q)) (add-one i)
         ∙ ap (reportsOf W) (questions-next i Q)
-        ∙ reports-next W (questionsOf i Q) (questionOf (drop (6 * i) Q))
+        ∙ reports-next W (questionsOf i Q) (questionOf (drop (7 * i) Q))
         ∙ ap (λ (x : Report). reportsOf W (questionsOf i Q) ++ reportWords x)
-        (ap (λ (x : List ℕ). reportOf W 16384 (questionOf x)) (sym (mid-end (6 * i) Q)) ∙ ap (reportOf W 16384) (sym e) ∙ sym f)
+        (ap (λ (x : List ℕ). reportOf W 16384 (questionOf x)) (sym (mid-end (7 * i) Q)) ∙ ap (reportOf W 16384) (sym e) ∙ sym f)
 
     module _ (l : length R ≡ length R₀) (h : 24 * (i + 1) ≤ length R₀) (m : List ℕ) (b : Bool) (w : Written r (midOf (24 * i) (length R - 24 * i) R) m b) where
       rest : midOf (24 * i) (length R - 24 * i) R ≡ drop (24 * i) R₀

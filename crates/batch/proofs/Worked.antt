@@ -30,7 +30,7 @@ passesAll table =
 
 -- the function `f` from the root, with fuel 1, 10,001 and 0
 abbrev asked : List ℕ
-asked = 1 ∷ 1 ∷ 0 ∷ 1 ∷ 0 ∷ 1 ∷ 1 ∷ 1 ∷ 0 ∷ 1 ∷ 0 ∷ 10001 ∷ 1 ∷ 1 ∷ 0 ∷ 1 ∷ 0 ∷ 0 ∷ []
+asked = 1 ∷ 1 ∷ 0 ∷ 1 ∷ 0 ∷ 1 ∷ 15 ∷ 1 ∷ 1 ∷ 0 ∷ 1 ∷ 0 ∷ 10001 ∷ 15 ∷ 1 ∷ 1 ∷ 0 ∷ 1 ∷ 0 ∷ 0 ∷ 15 ∷ []
 
 -- `found a::f 1 0`, `refused 21 0 0`, `none - 0 1` with 15 left
 abbrev told : List ℕ
@@ -48,8 +48,8 @@ cases =
     ∷ row 16384 asked 71 44 (replicate 71 7)
     ∷ row 16384 (7 ∷ asked) 74 44 (replicate 74 7)
     -- 65 questions; 20 comes before 44
-    ∷ row 16384 (replicate 390 0) 1560 44 (replicate 1560 7)
-    ∷ row 16383 (replicate 390 0) 0 20 []
+    ∷ row 16384 (replicate 455 0) 1560 44 (replicate 1560 7)
+    ∷ row 16383 (replicate 455 0) 0 20 []
     ∷ []
 
 pub worked-batch : passesAll cases ≡ true

@@ -24,6 +24,7 @@ use Rattle.find_path.specs.declared.Query.{Query}
 use Rattle.find_path.specs.declared.Question.{Question}
 use Rattle.find_path.specs.declared.Report.{Report}
 use Rattle.find_path.specs.Report.{callFault, questionFault, refused, reported, searched, answerUnless, reportBy, reportUnless, reportOf}
+use Rattle.find_path.proofs.Refusals.{call-allowed}
 use Rattle.checked.specs.Order.{earlierOf, numberOf}
 
 -- faults of a call
@@ -42,24 +43,31 @@ module _ (area : ℕ) (q : Query) (fuel : ℕ) where
     unfolding callFault
     outside h t = rw (callFault, le-ltb _ _ large, le-ltb _ _ h, t)
 
-    pub no-fault : fuel ≤ 10000 → (ltb 2 (q .ns) || (ltb 2 (q .prefix) || ltb 63 (q .options))) ≡ false → 0 ≡ callFault area q fuel
+    pub beyond : fuel ≤ 10000 → (ltb 2 (q .ns) || (ltb 2 (q .prefix) || ltb 63 (q .options))) ≡ false
+        → (eqb (q .limit) 0 || ltb 15 (q .limit)) ≡ true → 46 ≡ callFault area q fuel
     unfolding callFault
-    no-fault h t = rw (callFault, le-ltb _ _ large, le-ltb _ _ h, t)
+    beyond h t u = rw (callFault, le-ltb _ _ large, le-ltb _ _ h, t, u)
+
+    pub no-fault : fuel ≤ 10000 → (ltb 2 (q .ns) || (ltb 2 (q .prefix) || ltb 63 (q .options))) ≡ false
+        → (eqb (q .limit) 0 || ltb 15 (q .limit)) ≡ false → 0 ≡ callFault area q fuel
+    unfolding callFault
+    no-fault h t u = rw (callFault, le-ltb _ _ large, le-ltb _ _ h, t, u)
 
   or-false : (a b : Bool) → (a || b) ≡ false → a ≡ false
   or-false true b e = e
   or-false false b e = refl
 
   -- what a question without a fault of the call has
-  pub fault-free : 0 ≡ callFault area q fuel → (16384 ≤ area) × (fuel ≤ 10000) × (q .ns ≤ 2)
+  pub fault-free : 0 ≡ callFault area q fuel → (16384 ≤ area) × (fuel ≤ 10000) × (q .ns ≤ 2) × (0 < q .limit) × (q .limit ≤ 15)
   fault-free e =
+      let w = call-allowed area q fuel (sym e) in
       by-test (ltb area 16384) (λ t. absurd (omega (arith, e, small (ltb-true _ _ t)))) (λ t.
       let a = ltb-false area 16384 t in
       by-test (ltb 10000 fuel) (λ u. absurd (omega (arith, e, much a (ltb-true _ _ u)))) (λ u.
       let f = ltb-false 10000 fuel u in
       by-test (ltb 2 (q .ns) || (ltb 2 (q .prefix) || ltb 63 (q .options)))
       (λ v. absurd (omega (arith, e, outside a f v)))
-      (λ v. (a, f, ltb-false 2 (q .ns) (or-false _ _ v)))))
+      (λ v. (a, f, ltb-false 2 (q .ns) (or-false _ _ v), w .some, w .limit))))
 
 pub fault-at : (a n : ℕ) (q : Query) (fuel : ℕ) → a ≡ 16384 → n ≡ callFault a q fuel → n ≡ callFault 16384 q fuel
 fault-at a n q fuel e h = h ∙ ap (λ x. callFault x q fuel) e

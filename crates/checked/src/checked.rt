@@ -1,6 +1,6 @@
 //! Questions put to words that were checked.
 ghost use mathlib.Core.Path.{_≡_};
-ghost use Prim.Native.Nat.{_≤_};
+ghost use Prim.Native.Nat.{_≤_, _<_};
 ghost use lib.ListN.{length, take};
 ghost use Rattle.snapshot.specs.Layouts.{tableWords, snapOf};
 ghost use Rattle.accept.specs.Post.{Reads, Judged};
@@ -22,7 +22,7 @@ use snapshot::layout::Layout;
 
 // The answer on accepted words; the tables stay.
 fn ask(words: &[u32], area: &mut [u32], l: Layout, q: Query, fuel: usize) -> Report
-    requires { ⌜ Reads (now words) (now area) l × (length (now area) ≡ 16384) × (q .ns ≤ 2) × (fuel ≤ 10000) ⌝ }
+    requires { ⌜ Reads (now words) (now area) l × (length (now area) ≡ 16384) × (q .ns ≤ 2) × (fuel ≤ 10000) × (0 < q .limit) × (q .limit ≤ 15) ⌝ }
     ensures { λ r. ⌜ r ≡ answerUnless (snapOf (now (words .entry)) (now (area .entry)) l) q fuel (questionFault (snapOf (now (words .entry)) (now (area .entry)) l) q) ⌝ }
     ensures { λ _. ⌜ take tableWords (now (area .exit)) ≡ take tableWords (now (area .entry)) ⌝ }
 {
@@ -35,7 +35,7 @@ fn ask(words: &[u32], area: &mut [u32], l: Layout, q: Query, fuel: usize) -> Rep
 
 // The answer on checked words, to a question without a fault of its own.
 fn report_by(words: &[u32], area: &mut [u32], c: Checked, q: Query, fuel: usize) -> Report
-    requires { ⌜ Judged (now words) (now area) c × (length (now area) ≡ 16384) × (q .ns ≤ 2) × (fuel ≤ 10000) ⌝ }
+    requires { ⌜ Judged (now words) (now area) c × (length (now area) ≡ 16384) × (q .ns ≤ 2) × (fuel ≤ 10000) × (0 < q .limit) × (q .limit ≤ 15) ⌝ }
     ensures { λ r. ⌜ (r ≡ reportBy q fuel (verdict (now (words .entry)))) × Judged (now (words .entry)) (now (area .exit)) c ⌝ }
 {
     match c {

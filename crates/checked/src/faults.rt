@@ -12,10 +12,12 @@ use hir_def::items::Namespace;
 use hir_def::items::kind_of;
 use snapshot::ids::DefinitionId;
 use snapshot::ids::Fuel;
+use snapshot::ids::PathLen;
 use snapshot::ids::WordCount;
 use snapshot::layout::Layout;
 
-/// The first fault that needs no snapshot: 20 a small work area, 21 too much fuel, 22 a field out of range; 0 for none.
+/// The first fault that needs no snapshot: 20 a small work area, 21 too much fuel, 22 a field out of range, 46 a limit out
+/// of range; 0 for none.
 pub fn call_fault(area: usize, q: Query, fuel: usize) -> usize
     ensures { λ r. ⌜ r ≡ callFault area q fuel ⌝ }
 {
@@ -25,8 +27,13 @@ pub fn call_fault(area: usize, q: Query, fuel: usize) -> usize
     if Fuel::LIMIT < fuel {
         return 21;
     }
-    if (2 < q.ns) | ((2 < q.prefix) | (63 < q.options)) {
+    let field = (2 < q.ns) | ((2 < q.prefix) | (63 < q.options));
+    let limit = (q.limit == 0) | (PathLen::LIMIT < q.limit);
+    if field {
         return 22;
+    }
+    if limit {
+        return 46;
     }
     0
 }

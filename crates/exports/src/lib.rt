@@ -94,7 +94,7 @@ pub extern "C" fn kelumavor_name(
 pub extern "C" fn kelumavor_find_path(
     words: &[u32],
     area: &mut [u32],
-    question: &[u32; 6],
+    question: &[u32; 7],
     report: &mut [u32],
 ) -> bool
     ensures { λ r. ⌜ Reported (now (words .entry)) (now (area .entry)) (questionOf (now (question .entry))) (now (area .exit)) (now (report .entry)) (now (report .exit)) r ⌝ }
@@ -103,7 +103,7 @@ pub extern "C" fn kelumavor_find_path(
     write_report(answer, report)
 }
 
-/// Answers up to 64 questions of six words each on a snapshot, which is checked once, and writes their reports of 24 words each, one
+/// Answers up to 64 questions of seven words each on a snapshot, which is checked once, and writes their reports of 24 words each, one
 /// after the other. Answers 0, or the number by which the whole call is refused, with the reports unwritten: 20 a small work area,
 /// 44 too many questions, a part of one, or too few words for the reports.
 #[no_mangle]
@@ -118,14 +118,14 @@ pub extern "C" fn kelumavor_find_paths(
     find_paths(words, area, questions, reports)
 }
 
-/// Places a question for one of the eight windows whose state the caller lends; 57 zeros are the state in which none waits. Answers 0,
+/// Places a question for one of the eight windows whose state the caller lends; 65 zeros are the state in which none waits. Answers 0,
 /// or the number by which the question is refused, with the state unchanged: 49 no such window, 50 a question of the window waits
 /// already.
 #[no_mangle]
 pub extern "C" fn kelumavor_place(
-    state: &mut [u32; 57],
+    state: &mut [u32; 65],
     window: usize,
-    question: &[u32; 6],
+    question: &[u32; 7],
 ) -> usize
     ensures { λ r. ⌜ Placed (now (state .entry)) window (questionOf (now (question .entry))) (now (state .exit)) r ⌝ }
 {
@@ -136,7 +136,7 @@ pub extern "C" fn kelumavor_place(
 /// waits; nothing is changed then.
 #[no_mangle]
 pub extern "C" fn kelumavor_turn(
-    state: &mut [u32; 57],
+    state: &mut [u32; 65],
     words: &[u32],
     area: &mut [u32],
     report: &mut [u32; 24],

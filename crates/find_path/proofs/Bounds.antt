@@ -7,7 +7,6 @@ use mathlib.Core.Bool.{Bool, true, false, _||_, not}
 use mathlib.Core.Option.{Option, none, some}
 use lib.ListN.{length, getD, replicate, length-set}
 use lib.Seq.{getD-set-other}
-use Rattle.snapshot.specs.Limits.{pathLimit}
 use Rattle.snapshot.specs.Records.{Snapshot, Dependency, Definition, Import, Extern}
 use Rattle.hir_def.specs.Items.{types, crateRoot, itemOf}
 use lib.Dec.{eqb}
@@ -252,9 +251,13 @@ module _ (M : Type 0) (charge : Charge M) (s : Snapshot) where
     after-fits l item (go t) = go-fits l item t _ _
     after-fits l item (stop t) = nothing-fits (suc l)
 
-    pub best-fits : (l : ℕ) (item : Item) (t : M) → Fits s (suc l) (calculateBestPath M charge s x here rec (suc l) item t .choice)
+    best-fits : (l : ℕ) (item : Item) (t : M) → Fits s (suc l) (calculateBestPath M charge s x here rec (suc l) item t .choice)
     unfolding calculateBestPath
     best-fits l item t = after-fits l item (charge _ _ t)
+
+    pub best-within : (left : ℕ) → 0 < left → (item : Item) (t : M) → Fits s left (calculateBestPath M charge s x here rec left item t .choice)
+    best-within zero h item t = absurd (omega arith)
+    best-within (suc l) h item t = best-fits l item t
 
     or-fits : (l m : ℕ) (t : M) (c : Choice) (b : Bool) → Fits s (suc l) c → Fits s (suc l) (orCharged M charge s x here rec (suc l) m t c b .choice)
     unfolding orCharged
@@ -267,9 +270,9 @@ module _ (M : Type 0) (charge : Charge M) (s : Snapshot) where
     module-fits (suc l) m t = or-fits l m t _ _ (rules-fit s x l true m)
 
     -- a variant has one name more than its enum
-    module _ (n : ℕ) (inner : Inner M) (within : FitsInner n inner) (wide : 14 ≤ n) where
-      item-best : (item : Item) (t : M) → Fits s (suc n) (calculateBestPath M charge s x here rec pathLimit item t .choice)
-      item-best item t = more 15 (suc n) (omega arith) (best-fits 14 item t)
+    module _ (n : ℕ) (inner : Inner M) (within : FitsInner n inner) (pos : 0 < x .limit) (wide : x .limit ≤ suc n) where
+      item-best : (item : Item) (t : M) → Fits s (suc n) (calculateBestPath M charge s x here rec (x .limit) item t .choice)
+      item-best item t = more (x .limit) (suc n) wide (best-within (x .limit) pos item t)
 
       enum-fits : (item : Item) (name : ℕ) (o : Out M) (b : Bool) → Fits s n (o .choice) → Fits s (suc n) (afterEnum M charge s x here rec item name o b .choice)
       unfolding afterEnum
@@ -295,7 +298,7 @@ module _ (M : Type 0) (charge : Charge M) (s : Snapshot) where
       of-fits : (m : ℕ) (t : M) (b : Bool) → Fits s (suc n) (ofModule M charge s x here rec inner m t b .choice)
       unfolding ofModule
       of-fits m t true = by-name-fits (Mod m) t
-      of-fits m t false = more 15 (suc n) (omega arith) (fits pathLimit m t)
+      of-fits m t false = more (x .limit) (suc n) wide (fits (x .limit) m t)
 
       item-fits : FitsInner (suc n) (findPathInner M charge s x here rec inner)
       unfolding findPathInner
@@ -312,25 +315,26 @@ module _ (M : Type 0) (charge : Charge M) (s : Snapshot) where
   unfolding searchModule
   module-search-fits x left m t = moduleTo-fits x left left m t
 
-  pub itemTo-fits : (x : FindPathCtx) (d : ℕ) → FitsInner (14 + d) (itemTo M charge s x d)
+  pub itemTo-fits : (x : FindPathCtx) (l : ℕ) → 0 < x .limit → x .limit ≤ suc l → (d : ℕ) → FitsInner (l + d) (itemTo M charge s x d)
   unfolding itemTo
-  itemTo-fits x zero item t = nothing-fits 14
-  itemTo-fits x (suc d) item t =
-      more (suc (14 + d)) (14 + suc d) (omega arith)
-      (item-fits x (bestLocal s x) (best-local-fits s x) (searchModule M charge s x) (module-search-fits x) (14 + d)
-      (itemTo M charge s x d) (itemTo-fits x d) (omega arith) item t)
+  itemTo-fits x l p h zero item t = nothing-fits (l + 0)
+  itemTo-fits x l p h (suc d) item t =
+      more (suc (l + d)) (l + suc d) (omega arith)
+      (item-fits x (bestLocal s x) (best-local-fits s x) (searchModule M charge s x) (module-search-fits x) (l + d)
+      (itemTo M charge s x d) (itemTo-fits x l p h d) p (omega arith) item t)
 
-  home-fits : (q : Query) (item : Item) (t : M) (h : ℕ) → Fits s 16 (fromHome M charge s q item t h .choice)
-  unfolding fromHome searchItem
-  home-fits q item t zero = nothing-fits 16
-  home-fits q item t (suc home) = itemTo-fits (contextOf s q home) 2 item t
+  module _ (q : Query) (p : 0 < q .limit) (l : q .limit ≤ 15) where
+    home-fits : (item : Item) (t : M) (h : ℕ) → Fits s 16 (fromHome M charge s q item t h .choice)
+    unfolding fromHome searchItem contextOf
+    home-fits item t zero = nothing-fits 16
+    home-fits item t (suc home) = itemTo-fits (contextOf s q home) 14 p l 2 item t
 
-  start-fits : (q : Query) (t : M) (b : Bool) → Fits s 16 (fromItem M charge s q t b .choice)
-  unfolding fromItem
-  start-fits q t true = new-fits s 15 plainPath _
-  start-fits q t false = home-fits q _ t _
+    start-fits : (t : M) (b : Bool) → Fits s 16 (fromItem M charge s q t b .choice)
+    unfolding fromItem
+    start-fits t true = new-fits s 15 plainPath _
+    start-fits t false = home-fits _ t _
 
-  -- Every path has at most sixteen names, and zeros past them.
-  pub search-fits : (q : Query) (t : M) → Fits s 16 (findPath M charge s q t .choice)
-  unfolding findPath
-  search-fits q t = start-fits q t _
+    -- Every path has at most sixteen names, and zeros past them.
+    pub search-fits : (t : M) → Fits s 16 (findPath M charge s q t .choice)
+    unfolding findPath
+    search-fits t = start-fits t _

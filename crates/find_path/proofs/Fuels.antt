@@ -1,7 +1,7 @@
 -- Demand 3.
 use mathlib.Core.Path.{_≡_, refl, ap, sym, _∙_}
 use mathlib.Core.List.{List, [], _∷_, _++_}
-use mathlib.Core.Bool.{false, not}
+use mathlib.Core.Bool.{Bool, true, false, not}
 use Prim.Native.Nat.{ℕ, _+_, _≤_, _<_}
 use native.Mathlib.Omega.{arith}
 use lib.ListN.{length, getD, length-append, List·getD-append}
@@ -33,6 +33,11 @@ by-kind words q fuel r (answer s a l e) h = record { snapshot = s; accepted = a;
 pub not-refused : (words : List ℕ) (area : ℕ) (q : Query) (fuel : ℕ) → (IsRefused (reportAt words area q fuel) → ⊥)
     → Searched words q fuel (reportAt words area q fuel)
 not-refused words area q fuel h = by-kind words q fuel (reportAt words area q fuel) (kind-of words area (record { query = q; fuel = fuel })) h
+
+pub found-of : (b : Bool) → flag (not b) ≡ 0 → b ≡ true
+unfolding flag
+found-of true e = refl
+found-of false e = absurd (omega arith)
 
 -- the count, against the tank
 

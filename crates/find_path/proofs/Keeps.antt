@@ -3,7 +3,6 @@ use Prim.Native.Nat.{ℕ, zero, suc}
 use mathlib.Core.List.{List, [], _∷_}
 use mathlib.Core.Bool.{Bool, true, false}
 use mathlib.Core.Option.{Option, none, some}
-use Rattle.snapshot.specs.Limits.{pathLimit}
 use Rattle.snapshot.specs.Records.{Snapshot, Dependency, Definition, Import}
 use Rattle.hir_def.specs.Items.{types, itemOf}
 use Rattle.hir_def.specs.Nameres.{dependenciesOf, langOf, sysrootFirst}
@@ -72,7 +71,7 @@ module _ (M : Type 0) (charge : Charge M) (s : Snapshot) (P : M → Type 0) (kep
     pub enum-keeps : (item : Item) (name : ℕ) (o : Out M) (b : Bool) → P (o .meter) → P (afterEnum M charge s x here rec item name o b .meter)
     unfolding afterEnum
     enum-keeps item name o true h = h
-    enum-keeps item name o false h = best-keeps pathLimit item (o .meter) h
+    enum-keeps item name o false h = best-keeps (x .limit) item (o .meter) h
 
     or-keeps : (left m : ℕ) (t : M) (c : Choice) (b : Bool) → P t → P (orCharged M charge s x here rec left m t c b .meter)
     unfolding orCharged
@@ -87,7 +86,7 @@ module _ (M : Type 0) (charge : Charge M) (s : Snapshot) (P : M → Type 0) (kep
     module _ (inner : Inner M) (within : KeptWithin P inner) where
       via-keeps : (item : Item) (t : M) (v : Option Definition) → P t → P (viaEnum M charge s x here rec inner item t v .meter)
       unfolding viaEnum
-      via-keeps item t none h = best-keeps pathLimit item t h
+      via-keeps item t none h = best-keeps (x .limit) item t h
       via-keeps item t (some v) h = enum-keeps item (v .second) _ _ (within (itemOf s types (v .first)) t h)
 
       named-keeps : (item : Item) (t : M) (c : Choice) (b : Bool) → P t → P (orEnum M charge s x here rec inner item t c b .meter)
@@ -98,7 +97,7 @@ module _ (M : Type 0) (charge : Charge M) (s : Snapshot) (P : M → Type 0) (kep
       of-keeps : (m : ℕ) (t : M) (b : Bool) → P t → P (ofModule M charge s x here rec inner m t b .meter)
       unfolding ofModule byName
       of-keeps m t true h = named-keeps (Mod m) t _ _ h
-      of-keeps m t false h = k pathLimit m t h
+      of-keeps m t false h = k (x .limit) m t h
 
       item-keeps : KeptWithin P (findPathInner M charge s x here rec inner)
       unfolding findPathInner byName

@@ -9,7 +9,6 @@ use mathlib.Core.Option.{Option, none, some}
 use lib.Dec.{eqb}
 use lib.ListN.{length, getD, set, replicate, List·getD-eq-default}
 use borrow.Author.Tests.{eqb-true}
-use Rattle.snapshot.specs.Limits.{pathLimit}
 use Rattle.snapshot.specs.Records.{Snapshot, Scope, Prelude, Dependency, Definition, Import, Extern}
 use Rattle.accept.specs.Tests.{countsOf, noDefinition}
 use Rattle.accept.specs.Valid.{Each, more, ScopeFits, ImportFits, ExternFits, DefinitionFits, Ranges}
@@ -401,12 +400,12 @@ module _ (M : Type 0) (charge : Charge M) (s : Snapshot) (r : Ranges (countsOf s
           → Known s (afterEnum M charge s x here rec item name o b .choice)
       unfolding afterEnum
       enum-known item name o true f h = push-known s (o .choice) name f h
-      enum-known item name o false f h = best-known pathLimit item (o .meter)
+      enum-known item name o false f h = best-known (x .limit) item (o .meter)
 
       via-known : (item : Item) (t : M) (v : Option Definition) → Held (λ d. d .second < length (s .names)) v
           → Known s (viaEnum M charge s x here rec inner item t v .choice)
       unfolding viaEnum
-      via-known item t none h = best-known pathLimit item t
+      via-known item t none h = best-known (x .limit) item t
       via-known item t (some v) h = enum-known item (v .second) _ _ (within (itemOf s types (v .first)) t) h
 
       named-known : (item : Item) (t : M) (c : Choice) (b : Bool) → Known s c → Known s (orEnum M charge s x here rec inner item t c b .choice)
@@ -422,7 +421,7 @@ module _ (M : Type 0) (charge : Charge M) (s : Snapshot) (r : Ranges (countsOf s
       of-known : (m : ℕ) (t : M) (b : Bool) → Known s (ofModule M charge s x here rec inner m t b .choice)
       unfolding ofModule
       of-known m t true = by-name-known (Mod m) t
-      of-known m t false = known pathLimit m t
+      of-known m t false = known (x .limit) m t
 
       item-known : KnownInner (findPathInner M charge s x here rec inner)
       unfolding findPathInner

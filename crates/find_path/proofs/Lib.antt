@@ -5,6 +5,7 @@ pub mod Sim
 pub mod Refusals
 pub mod Outcomes
 pub mod Fuels
+pub mod Limits
 pub mod Unfold
 pub mod Bounds
 pub mod Known

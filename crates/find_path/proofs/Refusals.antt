@@ -1,13 +1,13 @@
--- No number of a refusal is above 36.
+-- No number of a refusal is above 46, nor above 36 for the words.
 use mathlib.Core.Path.{_≡_}
-use Prim.Native.Nat.{ℕ, zero, suc, _+_, _≤_}
+use Prim.Native.Nat.{ℕ, zero, suc, _+_, _≤_, _<_}
 use native.Mathlib.Omega.{arith}
 use mathlib.Core.List.{List}
 use mathlib.Core.Bool.{Bool, true, false, _&&_, _||_, not}
 use lib.Dec.{eqb, ltb, leb}
 use lib.ListN.{length, getD}
-use borrow.Author.Tests.{ltb-false}
-use Rattle.snapshot.specs.Limits.{wordLimit, crateLimit, moduleLimit, nameLimit, definitionLimit, areaLimit, fuelLimit}
+use borrow.Author.Tests.{eqb-false, ltb-false}
+use Rattle.snapshot.specs.Limits.{wordLimit, crateLimit, moduleLimit, nameLimit, definitionLimit, areaLimit, fuelLimit, pathLimit}
 use Rattle.snapshot.specs.Words.{kindOf, argumentsAt}
 use Rattle.snapshot.specs.Lists.{any}
 use Rattle.snapshot.specs.Records.{Snapshot, Name, Crate, Dependency, Map, Module, Child, Prelude, Definition, Scope, Import, Extern, nameAt, crateAt, dependencyAt, mapAt, moduleAt, childAt, preludeAt, definitionAt, scopeAt, importAt, externAt}
@@ -15,6 +15,7 @@ use Rattle.accept.specs.Tests.{countsOf, nameRange, sameName, crateRange, depen
 use Rattle.accept.specs.Steps.{Next, no, on, need, judge, addName, addCrate, addDependency, addMap, addModule, addChild, addPrelude, addDefinition, addScope, addImport, addExtern, nameStep, crateStep, dependencyStep, mapStep, moduleStep, childStep, preludeStep, definitionStep, scopeStep, importStep, externStep}
 use Rattle.accept.specs.Verdict.{follows, argumentsFrom, recordStep, stepAt, Verdict, refuse, accept, finish, records, empty, verdict}
 use Rattle.accept.proofs.Accepted.{by-test}
+use Rattle.accept.proofs.Bools.{or-none}
 use Rattle.hir_def.specs.Items.{macros, macroKind, definitionOf}
 use Rattle.find_path.specs.declared.Query.{Query}
 use Rattle.find_path.specs.Report.{callFault, questionFault}
@@ -144,28 +145,38 @@ verdict-small W =
 
 -- of a call
 
-either-number : (b : Bool) (m n : ℕ) → m ≤ 36 → n ≤ 36 → elim b [ true ↦ m | false ↦ n ] ≤ 36
+either-number : (b : Bool) (m n : ℕ) → m ≤ 46 → n ≤ 46 → elim b [ true ↦ m | false ↦ n ] ≤ 46
 either-number true m n h k = h
 either-number false m n h k = k
 
-pub call-small : (area : ℕ) (q : Query) (fuel : ℕ) → callFault area q fuel ≤ 36
+pub call-small : (area : ℕ) (q : Query) (fuel : ℕ) → callFault area q fuel ≤ 46
 unfolding callFault
 call-small area q fuel =
     either-number (ltb area areaLimit) 20 _ (omega arith)
     (either-number (ltb fuelLimit fuel) 21 _ (omega arith)
-    (either-number (ltb 2 (q .ns) || (ltb 2 (q .prefix) || ltb 63 (q .options))) 22 0 (omega arith) (omega arith)))
+    (either-number (ltb 2 (q .ns) || (ltb 2 (q .prefix) || ltb 63 (q .options))) 22 _ (omega arith)
+    (either-number (eqb (q .limit) 0 || ltb pathLimit (q .limit)) 46 0 (omega arith) (omega arith))))
 
-pub question-small : (s : Snapshot) (q : Query) → questionFault s q ≤ 36
+pub question-small : (s : Snapshot) (q : Query) → questionFault s q ≤ 46
 unfolding questionFault
 question-small s q =
     either-number (ltb (q .definition) (length (s .definitions)) && ltb (q .from) (length (s .modules))) _ 23
     (either-number (eqb (q .ns) macros && not (eqb (definitionOf s (q .definition) .kind) macroKind)) 24 0 (omega arith) (omega arith))
     (omega arith)
 
--- a call without a fault has a fuel within the limit
-pub call-fuel : (area : ℕ) (q : Query) (fuel : ℕ) → callFault area q fuel ≡ 0 → fuel ≤ fuelLimit
+-- what a call without a fault has
+pub record Allowed (q : Query) (F : ℕ) : Type 0 where
+  pub fuel : F ≤ fuelLimit
+  pub some : 0 < q .limit
+  pub limit : q .limit ≤ pathLimit
+
+pub call-allowed : (area : ℕ) (q : Query) (fuel : ℕ) → callFault area q fuel ≡ 0 → Allowed q fuel
 unfolding callFault
-call-fuel area q fuel e =
-    by-test (ltb area areaLimit) (λ t. let z : 20 ≡ 0 = rw (callFault, t) at e in absurd (omega arith))
-    (λ t.
-    by-test (ltb fuelLimit fuel) (λ u. let z : 21 ≡ 0 = rw (callFault, t, u) at e in absurd (omega arith)) (λ u. ltb-false fuelLimit fuel u))
+call-allowed area q fuel e =
+    by-test (ltb area areaLimit) (λ t. let z : 20 ≡ 0 = rw (callFault, t) at e in absurd (omega arith)) (λ t.
+    by-test (ltb fuelLimit fuel) (λ u. let z : 21 ≡ 0 = rw (callFault, t, u) at e in absurd (omega arith)) (λ u.
+    by-test (ltb 2 (q .ns) || (ltb 2 (q .prefix) || ltb 63 (q .options))) (λ v. let z : 22 ≡ 0 = rw (callFault, t, u, v) at e in absurd (omega arith)) (λ v.
+    by-test (eqb (q .limit) 0 || ltb pathLimit (q .limit)) (λ w. let z : 46 ≡ 0 = rw (callFault, t, u, v, w) at e in absurd (omega arith)) (λ w.
+    let n = or-none (eqb (q .limit) 0) (ltb pathLimit (q .limit)) w in
+    let z = eqb-false (q .limit) 0 (n .0) in
+    record { fuel = ltb-false fuelLimit fuel u; some = omega (arith, z); limit = ltb-false pathLimit (q .limit) (n .1) }))))

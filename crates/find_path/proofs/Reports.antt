@@ -6,7 +6,7 @@ use Prim.Native.Nat.{ℕ, _≤_, _<_}
 use native.Mathlib.Omega.{arith}
 use native.Mathlib.Decide.{decLe}
 use lib.ListN.{getD}
-use Rattle.snapshot.specs.Limits.{nameLimit, fuelLimit}
+use Rattle.snapshot.specs.Limits.{nameLimit}
 use Rattle.snapshot.specs.Records.{Snapshot}
 use Rattle.accept.specs.Verdict.{accept, verdict}
 use Rattle.accept.proofs.Ranges.{accepted-limits}
@@ -18,6 +18,7 @@ use Rattle.find_path.specs.Meters.{fromTank, filled}
 use Rattle.find_path.specs.Report.{refused, flag, reported, searched, searchedListing, reportOf}
 use Rattle.find_path.specs.Fuels.{IsRefused, Bounded, NamesKnown, Small, TellsFirst}
 use Rattle.find_path.proofs.Bounds.{zeros, search-fits}
+use Rattle.find_path.proofs.Refusals.{Allowed}
 use Rattle.find_path.proofs.Outcomes.{Kind, refusal, answer, kind-of}
 use Rattle.find_path.proofs.Known.{searched-known}
 use Rattle.find_path.proofs.Told.{searched-told}
@@ -33,10 +34,10 @@ unfolding refused
 refused-bounded fuel n =
     record { few = omega arith; long = refl; rest = λ i _. zeros 16 i; charges = omega arith; flagged = omega arith; untold = λ _. (refl, refl) }
 
-searched-bounded : (s : Snapshot) (q : Query) (fuel : ℕ) → Bounded fuel (reported (searched s q fuel))
+searched-bounded : (s : Snapshot) (q : Query) (fuel : ℕ) → Allowed q fuel → Bounded fuel (reported (searched s q fuel))
 unfolding reported searched
-searched-bounded s q fuel =
-    let f = search-fits Tank fromTank s q (filled fuel) in
+searched-bounded s q fuel a =
+    let f = search-fits Tank fromTank s q (a .some) (a .limit) (filled fuel) in
     record {
       few = f .few;
       long = f .long;
@@ -48,13 +49,13 @@ searched-bounded s q fuel =
 
 bounded : {words : List ℕ} {q : Query} {fuel : ℕ} (r : Report) → Kind words q fuel r → Bounded fuel r
 bounded {fuel = fuel} r (refusal n l e) = rw e (refused-bounded fuel n)
-bounded {q = q} {fuel = fuel} r (answer s a l e) = rw e (searched-bounded s q fuel)
+bounded {q = q} {fuel = fuel} r (answer s a l e) = rw e (searched-bounded s q fuel l)
 
 -- Every report has at most sixteen names, zeros past them, and no more charges than fuel.
 pub report-bounded : (words : List ℕ) (area : ℕ) (q : Question) → Bounded (q .fuel) (reportOf words area q)
 report-bounded words area q = bounded (reportOf words area q) (kind-of words area q)
 
-refused-small : (n : ℕ) → n ≤ 36 → Small (refused n)
+refused-small : (n : ℕ) → n ≤ 46 → Small (refused n)
 unfolding refused
 refused-small n h =
     record {
@@ -76,19 +77,19 @@ searched-names words s e r k z i =
       | no h ↦ omega (arith, k i (omega arith), accepted-limits words s e .names)
     ]
 
-searched-small : (words : List ℕ) (s : Snapshot) (q : Query) (fuel : ℕ) → verdict words ≡ accept s → fuel ≤ fuelLimit
+searched-small : (words : List ℕ) (s : Snapshot) (q : Query) (fuel : ℕ) → verdict words ≡ accept s → Allowed q fuel
     → Small (reported (searched s q fuel))
 unfolding reported
 searched-small words s q fuel e l =
     let k = searched-known words s e q fuel in
-    let b = searched-bounded s q fuel in
-    let t = searched-told words s e q fuel in
+    let b = searched-bounded s q fuel l in
+    let t = searched-told words s e q (l .some) (l .limit) fuel in
     record {
       outcome = let f = flag-small (not (searched s q fuel .choice .found)) in omega arith;
       number = omega arith;
       kind = k .kind;
       names = searched-names words s e (reported (searched s q fuel)) (k .names) (b .rest);
-      charges = omega (arith, b .charges);
+      charges = omega (arith, b .charges, l .fuel);
       left = t .left;
       sought = omega (arith, t .sought, accepted-limits words s e .modules);
     }
@@ -97,7 +98,7 @@ small : {words : List ℕ} {q : Query} {fuel : ℕ} (r : Report) → Kind words 
 small r (refusal n h e) = rw e (refused-small n h)
 small {words = words} {q = q} {fuel = fuel} r (answer s a l e) = rw e (searched-small words s q fuel a l)
 
--- Every report has a number up to 36, a kind up to 4, names below 2,048, at most 10,000 charges, a length left up to 15 and a module, +1, up to 512.
+-- Every report has a number up to 46, a kind up to 4, names below 2,048, at most 10,000 charges, a length left up to 15 and a module, +1, up to 512.
 pub report-small : (words : List ℕ) (area : ℕ) (q : Question) → Small (reportOf words area q)
 report-small words area q = small (reportOf words area q) (kind-of words area q)
 

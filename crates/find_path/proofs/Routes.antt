@@ -10,7 +10,6 @@ use lib.Dec.{eqb}
 use lib.ListN.{length, set, take, length-set}
 use lib.Seq.{take-suc-set, length-take-le}
 use borrow.Author.Tests.{eqb-true, not-false}
-use Rattle.snapshot.specs.Limits.{pathLimit}
 use Rattle.snapshot.specs.Records.{Snapshot, Scope, Dependency, Definition, Import, Extern}
 use Rattle.accept.specs.Valid.{Each, more, Valid}
 use Rattle.accept.specs.Verdict.{accept, verdict}
@@ -45,9 +44,11 @@ use Rattle.find_path.specs.Charged.{Out, Search, Inner, langs, oneOrNone
 use Rattle.find_path.specs.Search.{localTo, searchLocal, bestLocal, moduleTo, searchModule, itemTo, searchItem, fromHome, fromItem, findPath}
 use Rattle.find_path.specs.Report.{refused, flag, reported, searched, reportOf}
 use Rattle.find_path.specs.Routes.{_∈_, Start, self, super, crate, scope, prelude, extern, builtin, Step, entry, imported, Route, start, step, Path, direct, variant, askedItem, askedContext, Routed}
-use Rattle.find_path.proofs.Bounds.{Fits, first-none as none-fits, first-fits, new-fits, scope-fits, prelude-fits, best-local-fits, best-fits, module-search-fits, itemTo-fits, search-fits}
+use Rattle.find_path.proofs.Bounds.{Fits, more as wider, first-none as none-fits, first-fits, new-fits, scope-fits, prelude-fits, best-local-fits, best-within, module-search-fits, itemTo-fits, search-fits}
 use Rattle.find_path.proofs.Crates.{Near, select-found, own-root, crate-root, locations-near}
+use Rattle.find_path.proofs.Refusals.{Allowed}
 use Rattle.find_path.proofs.Outcomes.{Kind, refusal, answer, kind-of}
+use Rattle.find_path.proofs.Fuels.{found-of}
 
 -- what a test says alone or joined with another
 ruleset passed = (and-left, and-right)
@@ -410,35 +411,36 @@ names-count {c = c} left h f = length-take-le (c .count) (c .names) (omega (arit
 pub record Paths (s : Snapshot) (x : FindPathCtx) (item : Item) (c : Choice) : Type 0 where
   pub path : c .found ≡ true → Path s x (c .kind) (take (c .count) (c .names)) item
 
-module _ (s : Snapshot) (x : FindPathCtx) where
-  direct-path : (item : Item) (c : Choice) → Leads s x item c → Fits s 15 c → Paths s x item c
+module _ (s : Snapshot) (x : FindPathCtx) (limit : x .limit ≤ 15) where
+  direct-path : (item : Item) (c : Choice) → Leads s x item c → Fits s (x .limit) c → Paths s x item c
   direct-path item c f g = record {
     path = λ e.
-        let n = names-count 15 (omega arith) g in
-        direct (f .route e (omega (arith, g .few, g .long))) (omega (arith, n, g .few));
+        let n = names-count (x .limit) (omega (arith, limit)) g in
+        direct (f .route e (omega (arith, limit, g .few, g .long))) (omega (arith, n, g .few));
   }
 
   variant-path : (item : Item) (v : Definition) (c : Choice) → variantOf s item ≡ some v → Leads s x (itemOf s types (v .first)) c
-      → Fits s 15 c → c .found ≡ true → Paths s x item (push s c (v .second))
+      → Fits s (x .limit) c → c .found ≡ true → Paths s x item (push s c (v .second))
   unfolding push extended
   variant-path item v c q f g e = record {
     path = λ _.
-        let n = names-count 15 (omega arith) g in
+        let n = names-count (x .limit) (omega (arith, limit)) g in
         subst (λ (ns : List ℕ). Path s x (c .kind) ns item)
-        (sym (names-more (c .names) (c .count) (v .second) (omega (arith, g .few, g .long))))
-        (variant v q (f .route e (omega (arith, g .few, g .long))) (omega (arith, n, g .few)));
+        (sym (names-more (c .names) (c .count) (v .second) (omega (arith, limit, g .few, g .long))))
+        (variant v q (f .route e (omega (arith, limit, g .few, g .long))) (omega (arith, n, g .few)));
   }
 
-module _ (M : Type 0) (charge : Charge M) (s : Snapshot) (x : FindPathCtx) (valid : Valid s) (rooted : x .root ≡ crateRoot s (x .from)) where
-  -- P holds of every route of 15 names at most, and of what the enum's search gives a variant
+module _ (M : Type 0) (charge : Charge M) (s : Snapshot) (x : FindPathCtx) (valid : Valid s) (rooted : x .root ≡ crateRoot s (x .from))
+    (some-limit : 0 < x .limit) (limit : x .limit ≤ 15) where
+  -- P holds of every route of as many names at most as the limit, and of what the enum's search gives a variant
   module _ (inner : Inner M) (P : Item → Choice → Type 0)
-      (short : (item : Item) (c : Choice) → Leads s x item c → Fits s 15 c → P item c)
+      (short : (item : Item) (c : Choice) → Leads s x item c → Fits s (x .limit) c → P item c)
       (within : (item : Item) (t : M) (v : Definition) → variantOf s item ≡ some v → inner (itemOf s types (v .first)) t .choice .found ≡ true
       → P item (push s (inner (itemOf s types (v .first)) t .choice) (v .second))) where
-    best-path : (item : Item) (t : M) → P item (calculateBestPath M charge s x (bestLocal s x) (searchModule M charge s x) pathLimit item t .choice)
+    best-path : (item : Item) (t : M) → P item (calculateBestPath M charge s x (bestLocal s x) (searchModule M charge s x) (x .limit) item t .choice)
     best-path item t =
-        short item _ (best-leads M charge s x valid rooted (searchModule M charge s x) (module-search-leads M charge s x valid rooted) pathLimit item t)
-        (best-fits M charge s x (bestLocal s x) (best-local-fits s x) (searchModule M charge s x) (module-search-fits M charge s x) 14 item t)
+        short item _ (best-leads M charge s x valid rooted (searchModule M charge s x) (module-search-leads M charge s x valid rooted) (x .limit) item t)
+        (best-within M charge s x (bestLocal s x) (best-local-fits s x) (searchModule M charge s x) (module-search-fits M charge s x) (x .limit) some-limit item t)
 
     enum-path : (item : Item) (name : ℕ) (o : Out M) (b : Bool) → (b ≡ true → P item (push s (o .choice) name))
         → P item (afterEnum M charge s x (bestLocal s x) (searchModule M charge s x) item name o b .choice)
@@ -464,12 +466,12 @@ module _ (M : Type 0) (charge : Charge M) (s : Snapshot) (x : FindPathCtx) (vali
         named-path item t _ _
         (short item _
         (first-leads s x _ _ (scope-leads s x item) (first-leads s x _ _ (prelude-leads s x item) (first-none s x)))
-        (first-fits 15 _ _ (scope-fits s x 14 item) (first-fits 15 _ _ (prelude-fits s x 14 item) (none-fits 15))))
+        (wider 1 (x .limit) some-limit (first-fits 1 _ _ (scope-fits s x 0 item) (first-fits 1 _ _ (prelude-fits s x 0 item) (none-fits 1)))))
 
     of-path : (m : ℕ) (t : M) (b : Bool) → P (Mod m) (ofModule M charge s x (bestLocal s x) (searchModule M charge s x) inner m t b .choice)
     unfolding ofModule
     of-path m t true = by-name-path (Mod m) t
-    of-path m t false = short (Mod m) _ (module-search-leads M charge s x valid rooted pathLimit m t) (module-search-fits M charge s x pathLimit m t)
+    of-path m t false = short (Mod m) _ (module-search-leads M charge s x valid rooted (x .limit) m t) (module-search-fits M charge s x (x .limit) m t)
 
     inner-path : (item : Item) (t : M) → P item (findPathInner M charge s x (bestLocal s x) (searchModule M charge s x) inner item t .choice)
     unfolding findPathInner
@@ -484,15 +486,20 @@ module _ (M : Type 0) (charge : Charge M) (s : Snapshot) (x : FindPathCtx) (vali
   item-path : (item : Item) (t : M) → Paths s x item (searchItem M charge s x item t .choice)
   unfolding searchItem itemTo
   item-path item t =
-      inner-path (itemTo M charge s x 1) (Paths s x) (direct-path s x)
-      (λ i u v q e. variant-path s x i v _ q (enum-leads (itemOf s types (v .first)) u) (itemTo-fits M charge s x 1 (itemOf s types (v .first)) u) e)
+      inner-path (itemTo M charge s x 1) (Paths s x) (direct-path s x limit)
+      (λ i u v q e. variant-path s x limit i v _ q (enum-leads (itemOf s types (v .first)) u)
+      (wider _ (x .limit) (omega arith) (itemTo-fits M charge s x (x .limit - 1) some-limit (omega arith) 1 (itemOf s types (v .first)) u)) e)
       item t
 
 context-rooted : (s : Snapshot) (q : Query) (home : ℕ) → contextOf s q home .root ≡ crateRoot s (contextOf s q home .from)
 unfolding contextOf
 context-rooted s q home = refl
 
-module _ (M : Type 0) (charge : Charge M) (s : Snapshot) (valid : Valid s) (q : Query) where
+context-limit : (s : Snapshot) (q : Query) (home : ℕ) → contextOf s q home .limit ≡ q .limit
+unfolding contextOf
+context-limit s q home = refl
+
+module _ (M : Type 0) (charge : Charge M) (s : Snapshot) (valid : Valid s) (q : Query) (some-limit : 0 < q .limit) (limit : q .limit ≤ 15) where
   abbrev Asked : Choice → Type 0
   Asked c = Paths s (askedContext s q) (askedItem s q) c
 
@@ -501,18 +508,20 @@ module _ (M : Type 0) (charge : Charge M) (s : Snapshot) (valid : Valid s) (q : 
   home-path t zero e = record { path = λ z. absurd (false≢true z) }
   home-path t (suc home) e =
       let same : home ≡ homeOf s (askedItem s q) - 1 = omega (arith, e) in
+      let c = context-limit s q home in
       subst (λ (k : ℕ). Paths s (contextOf s q k) (askedItem s q) (searchItem M charge s (contextOf s q home) (askedItem s q) t .choice)) same
-      (item-path M charge s (contextOf s q home) valid (context-rooted s q home) (askedItem s q) t)
+      (item-path M charge s (contextOf s q home) valid (context-rooted s q home) (omega (arith, c)) (omega (arith, c)) (askedItem s q) t)
 
   builtin-path : q .ns ≡ types → definitionOf s (q .definition) .kind ≡ builtinKind
       → Asked (choiceNew s plainPath (definitionOf s (q .definition) .first))
   builtin-path e k =
       let b = builtin (q .definition) k in
       let n = definitionOf s (q .definition) .first in
-      direct-path s (askedContext s q) (askedItem s q) _
+      let c = context-limit s q (homeOf s (askedItem s q) - 1) in
+      direct-path s (askedContext s q) (omega (arith, c)) (askedItem s q) _
       (new-leads s (askedContext s q) (askedItem s q) plainPath n
       (subst (λ (ns : ℕ). Start s (askedContext s q) plainPath (n ∷ []) (itemOf s ns (q .definition))) (sym e) b))
-      (new-fits s 14 plainPath n)
+      (wider 1 (askedContext s q .limit) (omega (arith, c)) (new-fits s 0 plainPath n))
 
   start-path : (t : M) (b : Bool) → (b ≡ true → (q .ns ≡ types) × (definitionOf s (q .definition) .kind ≡ builtinKind))
       → Asked (fromItem M charge s q t b .choice)
@@ -533,20 +542,15 @@ allowed : (s : Snapshot) (q : Query) → askedContext s q .unstable ≡ bit (q .
 unfolding contextOf
 allowed s q = refl
 
-searched-routed : (s : Snapshot) → Valid s → (q : Query) (fuel : ℕ) → searched s q fuel .choice .found ≡ true → Routed s q (reported (searched s q fuel))
+searched-routed : (s : Snapshot) → Valid s → (q : Query) (fuel : ℕ) → Allowed q fuel → searched s q fuel .choice .found ≡ true → Routed s q (reported (searched s q fuel))
 unfolding searched reported
-searched-routed s valid q fuel e =
+searched-routed s valid q fuel a e =
     let t : Tank = filled fuel in
     record {
-      path = search-path Tank fromTank s valid q t .path e;
-      count = names-count 16 (omega arith) (search-fits Tank fromTank s q t);
+      path = search-path Tank fromTank s valid q (a .some) (a .limit) t .path e;
+      count = names-count 16 (omega arith) (search-fits Tank fromTank s q (a .some) (a .limit) t);
       unstable = allowed s q;
     }
-
-found-of : (b : Bool) → flag (not b) ≡ 0 → b ≡ true
-unfolding flag
-found-of true e = refl
-found-of false e = absurd (omega arith)
 
 kind-routed : {words : List ℕ} {q : Query} {fuel : ℕ} (s : Snapshot) → verdict words ≡ accept s → (r : Report) → Kind words q fuel r
     → r .outcome ≡ 0 → Routed s q r
@@ -555,7 +559,7 @@ kind-routed s a r (refusal n h e) z = let y = ap (λ (w : Report). w .outcome) e
 kind-routed {words = words} {q = q} {fuel = fuel} s a r (answer u b h e) z =
     let same : u ≡ s = cc (a, b) in
     let y : flag (not (searched u q fuel .choice .found)) ≡ 0 = sym (ap (λ (w : Report). w .outcome) e) ∙ z in
-    subst (λ w. Routed w q r) same (rw e (searched-routed u (accepted-valid words u b) q fuel (found-of _ y)))
+    subst (λ w. Routed w q r) same (rw e (searched-routed u (accepted-valid words u b) q fuel h (found-of _ y)))
 
 -- Every step of a path that is found has its record in the snapshot that the words were accepted as.
 pub found-route : (words : List ℕ) (area : ℕ) (q : Question) (s : Snapshot) → verdict words ≡ accept s

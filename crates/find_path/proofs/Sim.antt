@@ -5,7 +5,6 @@ use native.Mathlib.Omega.{arith}
 use mathlib.Core.List.{List, [], _∷_}
 use mathlib.Core.Bool.{Bool, true, false, true≢false}
 use mathlib.Core.Option.{Option, none, some}
-use Rattle.snapshot.specs.Limits.{pathLimit}
 use Rattle.snapshot.specs.Records.{Snapshot, Dependency, Definition, Import}
 use Rattle.hir_def.specs.Items.{types, itemOf}
 use Rattle.hir_def.specs.Nameres.{dependenciesOf, langOf, sysrootFirst}
@@ -177,7 +176,7 @@ module _ (C : Type 0) (charge : Charge C) (size : C → ℕ) (Past : ℕ → ℕ
             → Both F (afterEnum Tank fromTank s x here rt item name a b) (afterEnum C charge s x here rc item name c b)
         unfolding afterEnum
         enum-same item name a c true e h = same (cc) h
-        enum-same item name a c false e h = best-sim pathLimit item (a .meter) (c .meter) h
+        enum-same item name a c false e h = best-sim (x .limit) item (a .meter) (c .meter) h
 
         enum-sim : (item : Item) (name : ℕ) (a : Out Tank) (c : Out C) → Both F a c
             → Both F (afterEnum Tank fromTank s x here rt item name a (a .choice .found)) (afterEnum C charge s x here rc item name c (c .choice .found))
@@ -191,7 +190,7 @@ module _ (C : Type 0) (charge : Charge C) (size : C → ℕ) (Past : ℕ → ℕ
         via-sim : (item : Item) (t : Tank) (n : C) (v : Option Definition) → Sync F t (size n)
             → Both F (viaEnum Tank fromTank s x here rt it item t v) (viaEnum C charge s x here rc ic item n v)
         unfolding viaEnum
-        via-sim item t n none h = best-sim pathLimit item t n h
+        via-sim item t n none h = best-sim (x .limit) item t n h
         via-sim item t n (some v) h = enum-sim item (v .second) _ _ (within (itemOf s types (v .first)) t n h)
 
         named-sim : (item : Item) (t : Tank) (n : C) (c : Choice) (b : Bool) → Sync F t (size n)
@@ -204,7 +203,7 @@ module _ (C : Type 0) (charge : Charge C) (size : C → ℕ) (Past : ℕ → ℕ
             → Both F (ofModule Tank fromTank s x here rt it m t b) (ofModule C charge s x here rc ic m n b)
         unfolding ofModule byName
         of-sim m t n true h = named-sim (Mod m) t n _ _ h
-        of-sim m t n false h = al pathLimit m t n h
+        of-sim m t n false h = al (x .limit) m t n h
 
         item-sim : AlikeWithin F (findPathInner Tank fromTank s x here rt it) (findPathInner C charge s x here rc ic)
         unfolding findPathInner byName

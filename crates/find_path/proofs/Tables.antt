@@ -44,4 +44,4 @@ module _ (W A B : List ℕ) (l : Layout) (same : take 4160 B ≡ take 4160 A) wh
 
   -- the next search can begin
   pub same-prepared : {x : FindPathCtx} → Prepared W A l x → length B ≡ length A → Prepared W B l x
-  same-prepared p e = record { reads = same-reads (p .reads); from = p .from; area = e ∙ p .area }
+  same-prepared p e = record { reads = same-reads (p .reads); from = p .from; area = e ∙ p .area; some = p .some; limit = p .limit }

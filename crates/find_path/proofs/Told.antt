@@ -8,7 +8,6 @@ use native.Mathlib.Omega.{arith}
 use borrow.Author.Tests.{eqb-true}
 use lib.Dec.{eqb}
 use lib.ListN.{length}
-use Rattle.snapshot.specs.Limits.{pathLimit}
 use Rattle.snapshot.specs.Records.{Snapshot, Dependency, Definition, Import}
 use Rattle.accept.specs.Verdict.{accept, verdict}
 use Rattle.accept.specs.Tests.{countsOf}
@@ -135,9 +134,9 @@ module _ (s : Snapshot) (r : Ranges (countsOf s) s) where
     module-told zero m t h k f = f
     module-told (suc l) m t h k f = or-told l m t _ _ h k f
 
-    module _ (inner : Inner Tank) (within : ToldWithin inner) where
-      item-best : (item : Item) (t : Tank) → Inside item → Keeps t → Keeps (calculateBestPath Tank fromTank s x here rec pathLimit item t .meter)
-      item-best item t h f = best-told pathLimit (omega arith) (omega arith) item t h f
+    module _ (some-limit : 0 < x .limit) (limit : x .limit ≤ 15) (inner : Inner Tank) (within : ToldWithin inner) where
+      item-best : (item : Item) (t : Tank) → Inside item → Keeps t → Keeps (calculateBestPath Tank fromTank s x here rec (x .limit) item t .meter)
+      item-best item t h f = best-told (x .limit) some-limit limit item t h f
 
       enum-told : (item : Item) (name : ℕ) (o : Out Tank) (b : Bool) → Inside item → Keeps (o .meter)
           → Keeps (afterEnum Tank fromTank s x here rec item name o b .meter)
@@ -158,14 +157,14 @@ module _ (s : Snapshot) (r : Ranges (countsOf s) s) where
       of-told : (m : ℕ) (t : Tank) (b : Bool) → Inside (Mod m) → Keeps t → Keeps (ofModule Tank fromTank s x here rec inner m t b .meter)
       unfolding ofModule byName
       of-told m t true h f = named-told (Mod m) t _ _ h f
-      of-told m t false h f = known pathLimit m t (omega arith) h f
+      of-told m t false h f = known (x .limit) m t limit h f
 
       item-told : ToldWithin (findPathInner Tank fromTank s x here rec inner)
       unfolding findPathInner byName
       item-told (Mod m) t h f = of-told m t (x .std) h f
       item-told (Def ns d) t h f = named-told (Def ns d) t _ _ h f
 
-  module _ (x : FindPathCtx) where
+  module _ (x : FindPathCtx) (some-limit : 0 < x .limit) (limit : x .limit ≤ 15) where
     moduleTo-told : (d : ℕ) → ToldBy (moduleTo Tank fromTank s x d)
     unfolding moduleTo
     moduleTo-told zero left m t h k f = f
@@ -179,23 +178,25 @@ module _ (s : Snapshot) (r : Ranges (countsOf s) s) where
     unfolding itemTo
     itemTo-told zero item t h f = f
     itemTo-told (suc d) item t h f =
-        item-told x (bestLocal s x) (searchModule Tank fromTank s x) module-search-told (itemTo Tank fromTank s x d) (itemTo-told d) item t h f
+        item-told x (bestLocal s x) (searchModule Tank fromTank s x) module-search-told some-limit limit (itemTo Tank fromTank s x d) (itemTo-told d) item t h f
 
-  home-told : (q : Query) (item : Item) (t : Tank) (h : ℕ) → Inside item → Keeps t → Keeps (fromHome Tank fromTank s q item t h .meter)
-  unfolding fromHome searchItem
-  home-told q item t zero k f = f
-  home-told q item t (suc home) k f = itemTo-told (contextOf s q home) 2 item t k f
+  module _ (q : Query) (p : 0 < q .limit) (l : q .limit ≤ 15) where
+    home-told : (item : Item) (t : Tank) (h : ℕ) → Inside item → Keeps t → Keeps (fromHome Tank fromTank s q item t h .meter)
+    unfolding fromHome searchItem contextOf
+    home-told item t zero k f = f
+    home-told item t (suc home) k f = itemTo-told (contextOf s q home) p l 2 item t k f
 
-  start-told : (q : Query) (t : Tank) (b : Bool) → Keeps t → Keeps (fromItem Tank fromTank s q t b .meter)
-  unfolding fromItem
-  start-told q t true f = f
-  start-told q t false f = home-told q _ t _ (item-inside (q .ns) (q .definition)) f
+    start-told : (t : Tank) (b : Bool) → Keeps t → Keeps (fromItem Tank fromTank s q t b .meter)
+    unfolding fromItem
+    start-told t true f = f
+    start-told t false f = home-told _ t _ (item-inside (q .ns) (q .definition)) f
 
-  search-told : (q : Query) (t : Tank) → Keeps t → Keeps (findPath Tank fromTank s q t .meter)
-  unfolding findPath
-  search-told q t f = start-told q t _ f
+    search-told : (t : Tank) → Keeps t → Keeps (findPath Tank fromTank s q t .meter)
+    unfolding findPath
+    search-told t f = start-told t _ f
 
--- what the tank of a question on accepted words keeps
-pub searched-told : (words : List ℕ) (s : Snapshot) → verdict words ≡ accept s → (q : Query) (fuel : ℕ) → Told (length (s .modules)) (searched s q fuel .meter)
+-- what the tank of a question on accepted words keeps, for a limit in range
+pub searched-told : (words : List ℕ) (s : Snapshot) → verdict words ≡ accept s → (q : Query) → 0 < q .limit → q .limit ≤ 15
+    → (fuel : ℕ) → Told (length (s .modules)) (searched s q fuel .meter)
 unfolding searched filled
-searched-told words s e q fuel = search-told s (accepted-ranges words s e) q (filled fuel) (record { left = omega arith; sought = omega arith })
+searched-told words s e q p l fuel = search-told s (accepted-ranges words s e) q p l (filled fuel) (record { left = omega arith; sought = omega arith })

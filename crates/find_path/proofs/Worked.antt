@@ -33,9 +33,14 @@ pub record Row : Type 0 where
   pub question : Question
   pub line : String
 
--- definition, namespace, viewing module, prefix, options, fuel, and the line
-pub row : ℕ → ℕ → ℕ → ℕ → ℕ → ℕ → String → Row
-row d ns m p o f l = record { question = record { query = record { ns = ns; definition = d; from = m; prefix = p; options = o }; fuel = f }; line = l }
+-- definition, namespace, viewing module, prefix, options, fuel, limit, and the line
+pub rowAt : ℕ → ℕ → ℕ → ℕ → ℕ → ℕ → ℕ → String → Row
+rowAt d ns m p o f n l =
+    record { question = record { query = record { ns = ns; definition = d; from = m; prefix = p; options = o; limit = n }; fuel = f }; line = l }
+
+-- the same with the largest limit
+abbrev pub row : ℕ → ℕ → ℕ → ℕ → ℕ → ℕ → String → Row
+row d ns m p o f l = rowAt d ns m p o f 15 l
 
 -- the lines are those of the questions
 unfoldable pub passes : List ℕ → List Row → Bool
@@ -62,7 +67,7 @@ cases =
     ∷ []
 
 pub worked-cases : passes worked cases ≡ true
-unfolding passes cases row
+unfolding passes cases rowAt
 worked-cases = refl
 
 -- a head, and the words of a name
@@ -75,10 +80,10 @@ named t = head 1 (length (bytesOf t)) ∷ packed (bytesOf t)
 -- Crate 0, the viewer's, depends on crate 1. Modules: 0 its root, 1 its child `m`; 2 the root of crate 1, 3 and 4 its
 -- children `inner` and `k`. Definitions: 0 `m`, 1 `inner`, 2 an enum `T` in `inner`, 3 its variant `V`, 4 the root of
 -- crate 1, 5 the builtin `u8`, 6 and 8 in the root of crate 1, 7, 10 and 11 in `inner`, 9 `k`, 12 an enum in `inner`, 13 its
--- variant `V`.
+-- variant `V`, 14 in `inner`.
 -- Crate 1 exports `T` from `inner`, `inner` from its root; 6 as `U`, unstable; 7 as `W` from `inner`, then from its root;
 -- 8 as `H`, hidden; `k` from its root, unstable; 10 as `V` from `k`, then as `dep` from `inner`; 11 as `U` from its
--- root, unstable, then from `inner`; 13, but not its enum, as `H`. Crate 0 knows the root of crate 1 as `dep`, and then
+-- root, unstable, then from `inner`; 13, but not its enum, as `H`; 14 as `U` from `inner`, then from its root, unstable. Crate 0 knows the root of crate 1 as `dep`, and then
 -- as `alias`; in `m` the name `alias` means `T`.
 pub withDependency : List ℕ
 withDependency =
@@ -92,6 +97,7 @@ withDependency =
     ∷ head 8 1 ∷ 1 ∷ 0 ∷ head 8 1 ∷ 3 ∷ 0 ∷ head 8 4 ∷ 3 ∷ 0 ∷ head 8 2 ∷ 2 ∷ 5 ∷ head 8 1 ∷ 2 ∷ 0 ∷ head 8 3 ∷ 6 ∷ 0
     ∷ head 8 4 ∷ 2 ∷ 0 ∷ head 8 4 ∷ 3 ∷ 0 ∷ head 8 4 ∷ 2 ∷ 0 ∷ head 8 1 ∷ 4 ∷ 0 ∷ head 8 4 ∷ 3 ∷ 0 ∷ head 8 4 ∷ 3 ∷ 0
     ∷ head 8 4 ∷ 3 ∷ 0 ∷ head 8 2 ∷ 12 ∷ 5
+    ∷ head 8 4 ∷ 3 ∷ 0
     -- scopes
     ∷ head 9 0 ∷ 0 ∷ 2 ∷ 0 ∷ 0 ∷ 0 ∷ 1 ∷ head 9 1 ∷ 0 ∷ 1 ∷ 2 ∷ 3 ∷ 1 ∷ 0 ∷ head 9 2 ∷ 0 ∷ 3 ∷ 1 ∷ 0 ∷ 0 ∷ 1
     ∷ head 9 3 ∷ 0 ∷ 4 ∷ 2 ∷ 0 ∷ 0 ∷ 1
@@ -100,6 +106,7 @@ withDependency =
     ∷ head 10 1 ∷ 0 ∷ 7 ∷ 8 ∷ 3 ∷ 0 ∷ head 10 1 ∷ 0 ∷ 7 ∷ 8 ∷ 2 ∷ 0 ∷ head 10 1 ∷ 0 ∷ 8 ∷ 9 ∷ 2 ∷ 1
     ∷ head 10 1 ∷ 0 ∷ 9 ∷ 10 ∷ 2 ∷ 2 ∷ head 10 1 ∷ 0 ∷ 10 ∷ 5 ∷ 4 ∷ 0 ∷ head 10 1 ∷ 0 ∷ 10 ∷ 0 ∷ 3 ∷ 0
     ∷ head 10 1 ∷ 0 ∷ 11 ∷ 7 ∷ 2 ∷ 2 ∷ head 10 1 ∷ 0 ∷ 11 ∷ 7 ∷ 3 ∷ 0 ∷ head 10 1 ∷ 1 ∷ 13 ∷ 9 ∷ 2 ∷ 0
+    ∷ head 10 1 ∷ 0 ∷ 14 ∷ 7 ∷ 3 ∷ 0 ∷ head 10 1 ∷ 0 ∷ 14 ∷ 7 ∷ 2 ∷ 2
     -- externs
     ∷ head 11 0 ∷ 0 ∷ 2 ∷ head 11 0 ∷ 1 ∷ 2 ∷ [])
 
@@ -146,7 +153,7 @@ dependencyCases =
     ∷ []
 
 pub dependency-cases : passes withDependency dependencyCases ≡ true
-unfolding passes dependencyCases row withDependency named head
+unfolding passes dependencyCases rowAt withDependency named head
 dependency-cases = refl
 
 -- Crate 0 depends on std (crate 2) and then on core (crate 1), both of the sysroot. Modules: 0 its root, in a map with no_std;
@@ -188,7 +195,7 @@ stdCases =
     ∷ []
 
 pub std-cases : passes withStd stdCases ≡ true
-unfolding passes stdCases row withStd named head
+unfolding passes stdCases rowAt withStd named head
 std-cases = refl
 
 -- One crate. Modules: 0 its root; 1 `a`, 2 `b`, 3 `prelude`, 4 `d` below it; 5 `inner`, 6 `e` below `a`; 7 a block in `a`,
@@ -273,7 +280,7 @@ moduleCases =
     ∷ []
 
 pub module-cases : passes withModules moduleCases ≡ true
-unfolding passes moduleCases row withModules named head
+unfolding passes moduleCases rowAt withModules named head
 module-cases = refl
 
 -- The first charge that finds the tank empty: the length left, and the module looked for, +1.
@@ -286,7 +293,7 @@ pub record First : Type 0 where
 -- definition, namespace, viewing module, options, fuel, and what is told; the prefix is Plain
 pub first : ℕ → ℕ → ℕ → ℕ → ℕ → ℕ → ℕ → First
 first d ns m o f left sought =
-    record { question = record { query = record { ns = ns; definition = d; from = m; prefix = 1; options = o }; fuel = f }; left = left; sought = sought }
+    record { question = record { query = record { ns = ns; definition = d; from = m; prefix = 1; options = o; limit = 15 }; fuel = f }; left = left; sought = sought }
 
 -- the reports say empty, and tell that
 unfoldable pub tells : List ℕ → List First → Bool
@@ -387,5 +394,47 @@ oldNameCases =
     ∷ []
 
 pub old-name-cases : passes withOldNames oldNameCases ≡ true
-unfolding passes oldNameCases row withOldNames named head
+unfolding passes oldNameCases rowAt withOldNames named head
 old-name-cases = refl
+
+-- Limits below 15, and limits that are refused. Worked out by hand.
+
+pub limitCases : List Row
+limitCases =
+    -- one name without a search; two with a step; `crate` is a step of its own where it is searched for
+    rowAt 1 1 1 1 0 0 1 "found f 0 0"
+    ∷ rowAt 1 1 0 1 0 9 1 "none - 1 0"
+    ∷ rowAt 1 1 0 1 0 9 2 "found a::f 1 0"
+    ∷ rowAt 1 1 1 2 0 9 2 "none - 1 0"
+    ∷ rowAt 1 1 1 2 0 9 3 "found crate::a::f 1 0"
+    -- a limit outside, after 22 and before 23
+    ∷ rowAt 1 1 0 1 0 9 0 "refused 46 0 0"
+    ∷ rowAt 1 1 0 1 0 9 16 "refused 46 0 0"
+    ∷ rowAt 1 1 0 1 64 9 16 "refused 22 0 0"
+    ∷ rowAt 2 0 0 1 0 9 16 "refused 46 0 0"
+    ∷ []
+
+pub limit-cases : passes worked limitCases ≡ true
+unfolding passes limitCases rowAt
+limit-cases = refl
+
+-- 46 comes before the check of the words
+pub limit-first : passes (0 ∷ []) (rowAt 0 0 0 1 0 9 16 "refused 46 0 0" ∷ rowAt 0 0 0 1 0 9 15 "refused 31 0 0" ∷ []) ≡ true
+unfolding passes rowAt
+limit-first = refl
+
+pub dependencyLimits : List Row
+dependencyLimits =
+    -- the stable path is longer, and past a smaller limit
+    rowAt 14 0 0 1 8 9 15 "found alias::inner::U 2 0"
+    ∷ rowAt 14 0 0 1 8 9 3 "found alias::inner::U 2 0"
+    ∷ rowAt 14 0 0 1 8 9 2 "found alias::U 2 0"
+    ∷ rowAt 14 0 0 1 8 9 1 "none - 1 0"
+    -- a variant has one name more than the limit, by its enum
+    ∷ rowAt 3 1 0 1 0 9 3 "found alias::inner::T::V 2 0"
+    ∷ rowAt 3 1 0 1 0 9 2 "none - 3 0"
+    ∷ []
+
+pub dependency-limits : passes withDependency dependencyLimits ≡ true
+unfolding passes dependencyLimits rowAt withDependency named head
+dependency-limits = refl

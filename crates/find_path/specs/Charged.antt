@@ -4,7 +4,6 @@ use mathlib.Core.List.{List, [], _∷_}
 use mathlib.Core.Bool.{Bool, true, false, _&&_}
 use mathlib.Core.Option.{Option, none, some}
 use lib.Dec.{eqb}
-use Rattle.snapshot.specs.Limits.{pathLimit}
 use Rattle.snapshot.specs.Records.{Snapshot, Dependency, Definition, Import}
 use Rattle.hir_def.specs.Items.{types, variantKind, crateOf, definitionOf, itemOf, homeOf}
 use Rattle.hir_def.specs.Nameres.{dependenciesOf, langOf, sysrootFirst}
@@ -123,11 +122,11 @@ module _ (M : Type 0) (charge : Charge M) (s : Snapshot) (x : FindPathCtx) (here
 
   unfoldable pub afterEnum : Search M → Item → ℕ → Out M → Bool → Out M
   afterEnum rec item name o true = record { choice = push s (o .choice) name; meter = o .meter }
-  afterEnum rec item name o false = calculateBestPath rec pathLimit item (o .meter)
+  afterEnum rec item name o false = calculateBestPath rec (x .limit) item (o .meter)
 
   -- a variant is its enum's path and its name, else searched like any other item, with the meter that its enum left
   unfoldable pub viaEnum : Search M → Inner M → Item → M → Option Definition → Out M
-  viaEnum rec inner item t none = calculateBestPath rec pathLimit item t
+  viaEnum rec inner item t none = calculateBestPath rec (x .limit) item t
   viaEnum rec inner item t (some v) =
       let o = inner (itemOf s types (v .first)) t in
       afterEnum rec item (v .second) o (o .choice .found)
@@ -144,7 +143,7 @@ module _ (M : Type 0) (charge : Charge M) (s : Snapshot) (x : FindPathCtx) (here
 
   unfoldable pub ofModule : Search M → Inner M → ℕ → M → Bool → Out M
   ofModule rec inner m t true = byName rec inner (Mod m) t
-  ofModule rec inner m t false = rec pathLimit m t
+  ofModule rec inner m t false = rec (x .limit) m t
 
   -- `find_path_inner`: a module goes straight to the module search, unless it is std's
   unfoldable pub findPathInner : Search M → Inner M → Inner M

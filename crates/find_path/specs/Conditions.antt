@@ -20,11 +20,13 @@ use Rattle.find_path.specs.declared.FindPathCtx.{FindPathCtx}
 use Rattle.find_path.specs.Meters.{Charged, go, stop}
 use Rattle.find_path.specs.Charged.{Out, foundOf}
 
--- accepted words with their tables, a viewing module that is there, and the whole work area
+-- accepted words with their tables, a viewing module that is there, the whole work area, and a limit in range
 pub record Prepared (W A : List ℕ) (l : Layout) (x : FindPathCtx) : Type 0 where
   pub reads : Reads W A l
   pub from : x .from < l .modules
   pub area : length A ≡ 16384
+  pub some : 0 < x .limit
+  pub limit : x .limit ≤ 15
 
 -- an item that can be asked for
 abbrev pub Asked : Layout → Item → Type 0

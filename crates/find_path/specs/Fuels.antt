@@ -39,7 +39,7 @@ NamesKnown s r = (i : ℕ) → i < r .count → getD (r .names) i 0 < length (s 
 -- bounds of the numbers of every report, whatever the words and the fuel
 pub record Small (r : Report) : Type 0 where
   pub outcome : r .outcome ≤ 2
-  pub number : r .number ≤ 36
+  pub number : r .number ≤ 46
   pub kind : r .kind ≤ 4
   pub names : (i : ℕ) → getD (r .names) i 0 < nameLimit
   pub charges : r .charges ≤ fuelLimit

@@ -9,4 +9,5 @@ pub mod Meters
 pub mod Report
 pub mod Line
 pub mod Fuels
+pub mod Limits
 pub mod Routes

@@ -4,7 +4,7 @@ use mathlib.Core.List.{List, []}
 use mathlib.Core.Bool.{Bool, true, false, _&&_, _||_, not}
 use lib.Dec.{eqb, ltb}
 use lib.ListN.{length, replicate}
-use Rattle.snapshot.specs.Limits.{areaLimit, fuelLimit}
+use Rattle.snapshot.specs.Limits.{areaLimit, fuelLimit, pathLimit}
 use Rattle.snapshot.specs.Records.{Snapshot}
 use Rattle.accept.specs.Verdict.{Verdict, refuse, accept, verdict}
 use Rattle.hir_def.specs.Items.{macros, macroKind, definitionOf}
@@ -16,14 +16,17 @@ use Rattle.find_path.specs.Meters.{Spot, fromTank, filled, counted, list
 use Rattle.find_path.specs.Charged.{Out}
 use Rattle.find_path.specs.Search.{findPath}
 
--- the first of the caller's faults that needs no snapshot: 20, 21, 22, or 0 for none
+-- the first of the caller's faults that needs no snapshot: 20, 21, 22, 46, or 0 for none
 unfoldable pub callFault : ℕ → Query → ℕ → ℕ
 callFault area q fuel =
     elim (ltb area areaLimit) [
       | true ↦ 20
       | false ↦ elim (ltb fuelLimit fuel) [
         | true ↦ 21
-        | false ↦ elim (ltb 2 (q .ns) || (ltb 2 (q .prefix) || ltb 63 (q .options))) [ true ↦ 22 | false ↦ 0 ]
+        | false ↦ elim (ltb 2 (q .ns) || (ltb 2 (q .prefix) || ltb 63 (q .options))) [
+          | true ↦ 22
+          | false ↦ elim (eqb (q .limit) 0 || ltb pathLimit (q .limit)) [ true ↦ 46 | false ↦ 0 ]
+        ]
       ]
     ]
 
@@ -84,6 +87,6 @@ reportUnless words q fuel zero = reportBy q fuel (verdict words)
 reportUnless words q fuel (suc n) = refused (suc n)
 
 -- The report of a question on the words of a snapshot, with a work area of so many words. The refusals come in the
--- order 20, 21, 22, 30, then record by record, then 23, 24.
+-- order 20, 21, 22, 46, 30, then record by record, then 23, 24.
 unfoldable pub reportOf : List ℕ → ℕ → Question → Report
 reportOf words area q = reportUnless words (q .query) (q .fuel) (callFault area (q .query) (q .fuel))

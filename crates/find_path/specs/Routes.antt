@@ -5,7 +5,6 @@ use mathlib.Core.Bool.{true, false, _||_}
 use mathlib.Core.Option.{some}
 use Prim.Native.Nat.{ℕ, suc, _-_, _≤_}
 use lib.ListN.{length, take}
-use Rattle.snapshot.specs.Limits.{pathLimit}
 use Rattle.snapshot.specs.Records.{Snapshot, Definition, Scope, Import, Extern}
 use Rattle.hir_def.specs.Items.{types, builtinKind, parentOf, definitionOf, itemOf, homeOf}
 use Rattle.hir_def.specs.Visibility.{sees}
@@ -54,11 +53,11 @@ pub data Route (s : Snapshot) (x : FindPathCtx) : ℕ → List ℕ → Item → 
   start : {k : ℕ} {ns : List ℕ} {item : Item} → Start s x k ns item → Route s x k ns item
   step : {k m n : ℕ} {ns : List ℕ} {item : Item} → Route s x k ns (Mod m) → Step s x m n item → Route s x k (ns ++ (n ∷ [])) item
 
--- A path is a route of 15 names at most, or one to the enum of a variant and the variant's own name.
+-- A path is a route of as many names at most as the question's limit, or one to the enum of a variant and the variant's own name.
 pub data Path (s : Snapshot) (x : FindPathCtx) : ℕ → List ℕ → Item → Type 0 where
-  direct : {k : ℕ} {ns : List ℕ} {item : Item} → Route s x k ns item → length ns ≤ pathLimit → Path s x k ns item
+  direct : {k : ℕ} {ns : List ℕ} {item : Item} → Route s x k ns item → length ns ≤ x .limit → Path s x k ns item
   variant : {k : ℕ} {ns : List ℕ} {item : Item} (v : Definition) → variantOf s item ≡ some v
-      → Route s x k ns (itemOf s types (v .first)) → length ns ≤ pathLimit → Path s x k (ns ++ (v .second ∷ [])) item
+      → Route s x k ns (itemOf s types (v .first)) → length ns ≤ x .limit → Path s x k (ns ++ (v .second ∷ [])) item
 
 -- the item of a question
 abbrev pub askedItem : Snapshot → Query → Item

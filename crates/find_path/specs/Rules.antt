@@ -67,6 +67,7 @@ contextOf s q home =
       krate = crateOf s (q .from);
       root = crateRoot s (q .from);
       own = moduleIn (itemOf s (q .ns) (q .definition));
+      limit = q .limit;
     }
 
 -- what a charge looks for: a module, +1, or 0 for the question's own item or its enum, which is no module

@@ -1,7 +1,7 @@
 //! What the search takes and answers.
 
 // What is set once for a question (`FindPathCtx`): `nostd` is prefer_no_std, `declared` ignore_local_imports, `fresh` old names last,
-// `std` is_std_item; `own` is the module asked for, +1, or 0 where the item is no module.
+// `std` is_std_item; `own` is the module asked for, +1, or 0 where the item is no module; `limit` is the length left at the start.
 pub struct FindPathCtx {
     pub prefix: usize,
     pub nostd: bool,
@@ -15,6 +15,7 @@ pub struct FindPathCtx {
     pub krate: usize,
     pub root: usize,
     pub own: usize,
+    pub limit: usize,
 }
 
 // A path, or none. `kind` is 0 plain, 1 self, 2 super, 3 crate, 4 a leading `::`; `text` is the length of its text;
@@ -57,13 +58,15 @@ pub struct Found {
     pub meter: Tank,
 }
 
-// A question without its fuel: the item's namespace and definition, the viewing module, prefix, options.
+// A question without its fuel: the item's namespace and definition, the viewing module, prefix, options, and the limit, the length
+// left at the start.
 pub struct Query {
     pub ns: usize,
     pub definition: usize,
     pub from: usize,
     pub prefix: usize,
     pub options: usize,
+    pub limit: usize,
 }
 
 // A question.

@@ -35,6 +35,7 @@ module _ (s : Snapshot) (q : Query) (home : ℕ) {i a b z b₁ b₂ b₃ b₄ b�
         krate = c;
         root = r;
         own = o;
+        limit = q .limit;
       })
       (contextOf s q home)
   unfolding contextOf
@@ -56,6 +57,7 @@ module _ (s : Snapshot) (q : Query) (home : ℕ) {i a b z b₁ b₂ b₃ b₄ b�
         krate = ec j;
         root = er j;
         own = eo j;
+        limit = q .limit;
       }
 
 pub plain-block : (b : Bool) (p : ℕ) → b ≡ true → 1 ≡ plainIf b p

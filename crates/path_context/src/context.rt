@@ -104,6 +104,7 @@ pub fn context(
         krate: here.0,
         root: root.0,
         own: own,
+        limit: q.limit,
     }
 }
 

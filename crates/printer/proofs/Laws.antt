@@ -66,13 +66,14 @@ module _ (W : List ℕ) where
 
 -- questions
 
-pub whole-same : (W : List ℕ) (i k : ℕ) (a b c d e : Bool) → k ≡ kindOf (getD W i 0) → a ≡ isArgument W (i + 1) → b ≡ isArgument W (i + 2)
-    → c ≡ isArgument W (i + 3) → d ≡ isArgument W (i + 4) → e ≡ isArgument W (i + 5)
-    → (eqb k 12 && ((a && b) && ((c && d) && (e && leb (i + 6) (length W))))) ≡ wholeAt W i
+pub whole-same : (W : List ℕ) (i k : ℕ) (a b c d e f : Bool) → k ≡ kindOf (getD W i 0) → a ≡ isArgument W (i + 1) → b ≡ isArgument W (i + 2)
+    → c ≡ isArgument W (i + 3) → d ≡ isArgument W (i + 4) → e ≡ isArgument W (i + 5) → f ≡ isArgument W (i + 6)
+    → (eqb k 12 && ((a && b) && ((c && d) && ((e && f) && leb (i + 7) (length W))))) ≡ wholeAt W i
 unfolding wholeAt
-whole-same W i k a b c d e p q r s t u =
+whole-same W i k a b c d e f p q r s t u v =
     ap₂ (λ x y. x && y) (ap (λ x. eqb x 12) p)
-    (ap₂ (λ x y. x && y) (ap₂ (λ x y. x && y) q r) (ap₂ (λ x y. x && y) (ap₂ (λ x y. x && y) s t) (ap (λ x. x && leb (i + 6) (length W)) u)))
+    (ap₂ (λ x y. x && y) (ap₂ (λ x y. x && y) q r)
+    (ap₂ (λ x y. x && y) (ap₂ (λ x y. x && y) s t) (ap (λ x. x && leb (i + 7) (length W)) (ap₂ (λ x y. x && y) u v))))
 
 none-false : (a b c d : Bool) → false ≡ (a && (b && (c && (d && false))))
 none-false false b c d = refl
@@ -84,16 +85,16 @@ none-false true true true true = refl
 pub not-whole : (W : List ℕ) (i : ℕ) → length W ≤ i → false ≡ wholeAt W i
 unfolding wholeAt
 not-whole W i h =
-    let g : length W < i + 6 = omega arith in
+    let g : length W < i + 7 = omega arith in
     rw (wholeAt, lt-leb _ _ g)
-    (none-false (eqb (kindOf (getD W i 0)) 12) (isArgument W (i + 1) && isArgument W (i + 2)) (isArgument W (i + 3) && isArgument W (i + 4)) (isArgument W (i + 5)))
+    (none-false (eqb (kindOf (getD W i 0)) 12) (isArgument W (i + 1) && isArgument W (i + 2)) (isArgument W (i + 3) && isArgument W (i + 4)) (isArgument W (i + 5) && isArgument W (i + 6)))
 
-pub question-same : (W : List ℕ) (i ns d m p o f : ℕ) → ns ≡ getD W (i + 1) 0 → d ≡ payOf (getD W i 0) → m ≡ getD W (i + 2) 0
-    → p ≡ getD W (i + 3) 0 → o ≡ getD W (i + 4) 0 → f ≡ getD W (i + 5) 0
-    → _≡_ {A = Question} (record { query = record { ns = ns; definition = d; from = m; prefix = p; options = o }; fuel = f }) (questionAt W i)
+pub question-same : (W : List ℕ) (i ns d m p o n f : ℕ) → ns ≡ getD W (i + 1) 0 → d ≡ payOf (getD W i 0) → m ≡ getD W (i + 2) 0
+    → p ≡ getD W (i + 3) 0 → o ≡ getD W (i + 4) 0 → n ≡ getD W (i + 6) 0 → f ≡ getD W (i + 5) 0
+    → _≡_ {A = Question} (record { query = record { ns = ns; definition = d; from = m; prefix = p; options = o; limit = n }; fuel = f }) (questionAt W i)
 unfolding questionAt
-question-same W i ns d m p o f a b c e g h =
-    λ j. record { query = record { ns = a j; definition = b j; from = c j; prefix = e j; options = g j }; fuel = h j }
+question-same W i ns d m p o n f a b c e g k h =
+    λ j. record { query = record { ns = a j; definition = b j; from = c j; prefix = e j; options = g j; limit = k j }; fuel = h j }
 
 -- the line of a question
 
@@ -126,7 +127,7 @@ module _ (W S : List ℕ) (c : Checked) (i : ℕ) (A out : List ℕ) where
       }
 
   pub turn-line : (old : List ℕ) (n : ℕ) (b : Bool) (q : Question) → b ≡ wholeAt W i → b ≡ true → q ≡ questionAt W i → LineOn S q c A old out n
-      → Printed W S c i A out (record { bytes = n; next = i + 6 })
+      → Printed W S c i A out (record { bytes = n; next = i + 7 })
   unfolding lineAt nextAt
   turn-line old n b q e t h p =
       let f : wholeAt W i ≡ true = sym e ∙ t in
@@ -141,5 +142,5 @@ pub next-more : (W : List ℕ) (i n : ℕ) → i < length W → n ≡ nextAt W i
 unfolding nextAt
 next-more W i n h e =
     by-test (wholeAt W i)
-    (λ t. let f : n ≡ i + 6 = e ∙ rw (nextAt, t) in omega arith)
+    (λ t. let f : n ≡ i + 7 = e ∙ rw (nextAt, t) in omega arith)
     (λ t. let f : n ≡ length W = e ∙ rw (nextAt, t) in omega arith)

@@ -28,15 +28,15 @@ questionsAt W = firstFrom W 0 (length W)
 abbrev pub isArgument : List ℕ → ℕ → Bool
 isArgument W i = eqb (kindOf (getD W i 0)) 0
 
--- a whole question: a head of kind 12 and five arguments
+-- a whole question: a head of kind 12 and six arguments
 unfoldable pub wholeAt : List ℕ → ℕ → Bool
 wholeAt W i =
     eqb (kindOf (getD W i 0)) 12
     && ((isArgument W (i + 1) && isArgument W (i + 2))
     && ((isArgument W (i + 3) && isArgument W (i + 4))
-    && (isArgument W (i + 5) && leb (i + 6) (length W))))
+    && ((isArgument W (i + 5) && isArgument W (i + 6)) && leb (i + 7) (length W))))
 
--- head: definition; arguments: namespace, viewing module, prefix, options, fuel
+-- head: definition; arguments: namespace, viewing module, prefix, options, fuel, limit
 unfoldable pub questionAt : List ℕ → ℕ → Question
 questionAt W i =
     record {
@@ -46,6 +46,7 @@ questionAt W i =
         from = getD W (i + 2) 0;
         prefix = getD W (i + 3) 0;
         options = getD W (i + 4) 0;
+        limit = getD W (i + 6) 0;
       };
       fuel = getD W (i + 5) 0;
     }
@@ -59,7 +60,7 @@ unfoldable pub lineAt : List ℕ → List ℕ → ℕ → List ℕ
 lineAt W S i = elim (wholeAt W i) [ true ↦ lineOf S (questionAt W i) | false ↦ refusalLine 42 ]
 
 unfoldable pub nextAt : List ℕ → ℕ → ℕ
-nextAt W i = elim (wholeAt W i) [ true ↦ i + 6 | false ↦ length W ]
+nextAt W i = elim (wholeAt W i) [ true ↦ i + 7 | false ↦ length W ]
 
 -- the lines from a place on; n is at least the number of words left
 unfoldable pub linesFrom : ℕ → List ℕ → List ℕ → ℕ → List (List ℕ)

@@ -39,6 +39,6 @@ pub fn next_line(
     let n = line_on(snapshot, area, c, q, out);
     Turn {
         bytes: n,
-        next: at + 6,
+        next: at + 7,
     }
 }

@@ -47,8 +47,9 @@ pub fn is_whole(words: &[u32], at: usize) -> bool
     let head = kind(words, at) == QuestionKind::HEAD;
     let first = is_argument(words, at + 1) & is_argument(words, at + 2);
     let second = is_argument(words, at + 3) & is_argument(words, at + 4);
-    let third = is_argument(words, at + 5) & (at + 6 <= words.len());
-    head & (first & (second & third))
+    let third = is_argument(words, at + 5) & is_argument(words, at + 6);
+    let room = at + 7 <= words.len();
+    head & (first & (second & (third & room)))
 }
 
 /// The question at a place.
@@ -61,6 +62,7 @@ pub fn question_at(words: &[u32], at: usize) -> Question
         from: field(words, at, 2),
         prefix: field(words, at, 3),
         options: field(words, at, 4),
+        limit: field(words, at, 6),
     };
     Question {
         query: q,

@@ -6,13 +6,13 @@ use Rattle.find_path.specs.declared.Question.{Question}
 
 -- words of a question
 abbrev pub questionSize : ℕ
-questionSize = 6
+questionSize = 7
 
--- a word a field: namespace, definition, viewing module, prefix, options, fuel
+-- a word a field: namespace, definition, viewing module, prefix, options, fuel, limit
 abbrev pub questionOf : List ℕ → Question
 questionOf q =
     record {
-      query = record { ns = getD q 0 0; definition = getD q 1 0; from = getD q 2 0; prefix = getD q 3 0; options = getD q 4 0 };
+      query = record { ns = getD q 0 0; definition = getD q 1 0; from = getD q 2 0; prefix = getD q 3 0; options = getD q 4 0; limit = getD q 6 0 };
       fuel = getD q 5 0;
     }
 

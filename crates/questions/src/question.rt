@@ -10,7 +10,7 @@ pub struct QuestionWords(pub usize);
 
 impl QuestionWords {
     /// Words of a question.
-    pub const COUNT: usize = 6;
+    pub const COUNT: usize = 7;
 }
 
 /// The question whose fields the words are.
@@ -23,6 +23,7 @@ pub fn question_of(words: &[u32]) -> Question
         from: word(words, 2),
         prefix: word(words, 3),
         options: word(words, 4),
+        limit: word(words, 6),
     };
     Question {
         query,

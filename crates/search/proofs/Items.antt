@@ -33,7 +33,7 @@ use Rattle.find_path.specs.Meters.{fromTank}
 use Rattle.find_path.specs.Charged.{Out, foundOf, variantOf, afterEnum, viaEnum, orEnum, byName, ofModule, findPathInner}
 use Rattle.find_path.specs.Search.{bestLocal}
 use Rattle.find_path.proofs.Unfold.{EnumNoVariant, inner-more}
-use Rattle.find_path.proofs.Bounds.{Fits, either-fits, nothing-fits, scope-fits, prelude-fits, best-local-fits, best-fits, module-search-fits}
+use Rattle.find_path.proofs.Bounds.{Fits, more, either-fits, nothing-fits, scope-fits, prelude-fits, best-local-fits, best-within, module-search-fits}
 use Rattle.charged_search.specs.Parts.{modules, bestPath}
 use Rattle.search_parts.specs.Parts.{straight}
 use Rattle.search.specs.Parts.{items, names}
@@ -156,12 +156,12 @@ module _ (W A : List ℕ) (l : Layout) (r : Reads W A l) where
 module _ (s : Snapshot) (x : FindPathCtx) where
   -- a module goes straight to the module search
   at-once : (item : Item) (m : ℕ) (t : Tank) (b : Bool) → x .std ≡ b → At m ≡ straight b item
-      → modules s x 15 m t ≡ findPathInner Tank fromTank s x (bestLocal s x) (modules s x) (items s x) item t
+      → modules s x (x .limit) m t ≡ findPathInner Tank fromTank s x (bestLocal s x) (modules s x) (items s x) item t
   unfolding findPathInner ofModule straight
   at-once (Mod n) m t true e h = let z : _≡_ {A = ℕ} 0 1 = cc in absurd (omega arith)
   at-once (Mod n) m t false e h =
       let k : m ≡ n = cc in
-      ap (λ (y : ℕ). modules s x 15 y t) k ∙ sym (ap (ofModule Tank fromTank s x (bestLocal s x) (modules s x) (items s x) n t) e)
+      ap (λ (y : ℕ). modules s x (x .limit) y t) k ∙ sym (ap (ofModule Tank fromTank s x (bestLocal s x) (modules s x) (items s x) n t) e)
   at-once (Def n d) m t true e h = let z : _≡_ {A = ℕ} 0 1 = cc in absurd (omega arith)
   at-once (Def n d) m t false e h = let z : _≡_ {A = ℕ} 0 1 = cc in absurd (omega arith)
 
@@ -172,7 +172,7 @@ module _ (s : Snapshot) (x : FindPathCtx) where
   by-name (Mod n) t false e h = let z : _≡_ {A = ℕ} 0 1 = cc in absurd (omega arith)
   by-name (Def n d) t b e h = refl
 
-  pub inner-at-once : (item : Item) (t : Tank) {m : ℕ} → EnumNoVariant s item → At m ≡ straight (x .std) item → modules s x 15 m t ≡ items s x item t
+  pub inner-at-once : (item : Item) (t : Tank) {m : ℕ} → EnumNoVariant s item → At m ≡ straight (x .std) item → modules s x (x .limit) m t ≡ items s x item t
   inner-at-once item t {m} one h = at-once item m t (x .std) refl h ∙ sym (inner-more Tank fromTank s x item t one)
 
   pub inner-by-name : (item : Item) (t : Tank) → EnumNoVariant s item → Nothing ≡ straight (x .std) item → names s x item t ≡ items s x item t
@@ -204,7 +204,7 @@ module _ (s : Snapshot) (x : FindPathCtx) where
     unfolding byName
     name-via f v h = ap via h ∙ sym (enum-no _ _ (ap (λ (y : Choice). y .found) (sym e) ∙ f))
 
-    pub name-plain : c .found ≡ false → none ≡ variantOf s item → bestPath s x 15 item t ≡ names s x item t
+    pub name-plain : c .found ≡ false → none ≡ variantOf s item → bestPath s x (x .limit) item t ≡ names s x item t
     unfolding viaEnum
     name-plain f h = name-via f none h
 
@@ -223,7 +223,7 @@ module _ (s : Snapshot) (x : FindPathCtx) where
     with-name name o false k = absurd (false≢true k)
 
     without : (name : ℕ) (o : Out Tank) (b : Bool) → b ≡ false
-        → bestPath s x 15 item (o .meter) ≡ afterEnum Tank fromTank s x (bestLocal s x) (modules s x) item name o b
+        → bestPath s x (x .limit) item (o .meter) ≡ afterEnum Tank fromTank s x (bestLocal s x) (modules s x) item name o b
     unfolding afterEnum
     without name o true k = absurd (false≢true (sym k))
     without name o false k = refl
@@ -235,44 +235,45 @@ module _ (s : Snapshot) (x : FindPathCtx) where
         ∙ ap foundOf (with-name (v .second) (parent v) _ (ap (λ (y : Found). y .choice .found) (sym g) ∙ k) ∙ enum-of v f h)
 
     pub enum-none : (v : Definition) {o : Found} → c .found ≡ false → some v ≡ variantOf s item → o ≡ foundOf (parent v) → o .choice .found ≡ false
-        → bestPath s x 15 item (o .meter) ≡ names s x item t
+        → bestPath s x (x .limit) item (o .meter) ≡ names s x item t
     enum-none v f h g k =
-        ap (λ (y : Found). bestPath s x 15 item (y .meter)) g
+        ap (λ (y : Found). bestPath s x (x .limit) item (y .meter)) g
         ∙ without (v .second) (parent v) _ (ap (λ (y : Found). y .choice .found) (sym g) ∙ k) ∙ enum-of v f h
 
-  -- an item that is no variant has fifteen names at most
-  module _ (item : Item) (t : Tank) (h : variantOf s item ≡ none) where
-    best-fifteen : Fits s 15 (bestPath s x 15 item t .choice)
-    best-fifteen = best-fits Tank fromTank s x (bestLocal s x) (best-local-fits s x) (modules s x) (module-search-fits Tank fromTank s x) 14 item t
+  -- an item that is no variant has as many names at most as the limit
+  module _ (item : Item) (t : Tank) (h : variantOf s item ≡ none) (some-limit : 0 < x .limit) where
+    best-short : Fits s (x .limit) (bestPath s x (x .limit) item t .choice)
+    best-short = best-within Tank fromTank s x (bestLocal s x) (best-local-fits s x) (modules s x) (module-search-fits Tank fromTank s x) (x .limit) some-limit item t
 
-    via-fifteen : (v : Option Definition) → v ≡ none → Fits s 15 (viaEnum Tank fromTank s x (bestLocal s x) (modules s x) (items s x) item t v .choice)
+    via-short : (v : Option Definition) → v ≡ none → Fits s (x .limit) (viaEnum Tank fromTank s x (bestLocal s x) (modules s x) (items s x) item t v .choice)
     unfolding viaEnum
-    via-fifteen none e = best-fifteen
-    via-fifteen (some v) e = let z : _≡_ {A = ℕ} 0 1 = cc in absurd (omega arith)
+    via-short none e = best-short
+    via-short (some v) e = let z : _≡_ {A = ℕ} 0 1 = cc in absurd (omega arith)
 
-    enum-fifteen : (c : Choice) (b : Bool) → Fits s 15 c → Fits s 15 (orEnum Tank fromTank s x (bestLocal s x) (modules s x) (items s x) item t c b .choice)
+    enum-short : (c : Choice) (b : Bool) → Fits s (x .limit) c → Fits s (x .limit) (orEnum Tank fromTank s x (bestLocal s x) (modules s x) (items s x) item t c b .choice)
     unfolding orEnum
-    enum-fifteen c true f = f
-    enum-fifteen c false f = via-fifteen (variantOf s item) h
+    enum-short c true f = f
+    enum-short c false f = via-short (variantOf s item) h
 
-    names-fifteen : Fits s 15 (names s x item t .choice)
+    names-short : Fits s (x .limit) (names s x item t .choice)
     unfolding byName firstFound
-    names-fifteen =
-        enum-fifteen _ _
-        (either-fits 15 (scopeRule s x item .found) _ _ (scope-fits s x 14 item)
-        (either-fits 15 (preludeRule s x item .found) _ _ (prelude-fits s x 14 item) (nothing-fits 15)))
+    names-short =
+        enum-short _ _
+        (more 1 (x .limit) some-limit
+        (either-fits 1 (scopeRule s x item .found) _ _ (scope-fits s x 0 item)
+        (either-fits 1 (preludeRule s x item .found) _ _ (prelude-fits s x 0 item) (nothing-fits 1))))
 
-    by-straight : (e : Entry) → e ≡ straight (x .std) item → Fits s 15 (items s x item t .choice)
+    by-straight : (e : Entry) → e ≡ straight (x .std) item → Fits s (x .limit) (items s x item t .choice)
     by-straight (At m) e =
-        subst (λ (o : Out Tank). Fits s 15 (o .choice)) (inner-at-once item t no-enum e) (module-search-fits Tank fromTank s x 15 m t)
+        subst (λ (o : Out Tank). Fits s (x .limit) (o .choice)) (inner-at-once item t no-enum e) (module-search-fits Tank fromTank s x (x .limit) m t)
       where
         no-enum : EnumNoVariant s item
         no-enum v k = let z : none ≡ some v = sym h ∙ k in let c : _≡_ {A = ℕ} 0 1 = cc in absurd (omega arith)
     by-straight Nothing e =
-        subst (λ (o : Out Tank). Fits s 15 (o .choice)) (inner-by-name item t no-enum e) names-fifteen
+        subst (λ (o : Out Tank). Fits s (x .limit) (o .choice)) (inner-by-name item t no-enum e) names-short
       where
         no-enum : EnumNoVariant s item
         no-enum v k = let z : none ≡ some v = sym h ∙ k in let c : _≡_ {A = ℕ} 0 1 = cc in absurd (omega arith)
 
-    pub plain-fits : Fits s 15 (items s x item t .choice)
+    pub plain-fits : Fits s (x .limit) (items s x item t .choice)
     plain-fits = by-straight _ refl

@@ -40,8 +40,8 @@ use Rattle.charged_search.proofs.Holding.{Offered}
 use Rattle.charged_search.proofs.Runs.{later}
 use Rattle.search.proofs.Items.{plain-fits, enum-found, enum-none}
 
-pub begun-at : {W A : List ℕ} {l : Layout} {x : FindPathCtx} (left : ℕ) → Prepared W A l x → 0 < left → left ≤ 15 → Begun W A l x left
-begun-at left p h k = record { ready = p; some = h; limit = k }
+pub begun : {W A : List ℕ} {l : Layout} {x : FindPathCtx} → Prepared W A l x → Begun W A l x (x .limit)
+begun p = record { ready = p; some = p .some; limit = p .limit }
 
 pub straight-known : (l : Layout) (b : Bool) (item : Item) {m : ℕ} → At m ≡ straight b item → Known l item → m < l .modules
 unfolding straight
@@ -50,15 +50,15 @@ straight-known l false (Mod n) {m} e h = let k : m ≡ n = cc in omega (arith, k
 straight-known l false (Def n d) e h = let z : _≡_ {A = ℕ} 0 1 = cc in absurd (omega arith)
 
 -- the path of an enum can be offered with a name
-pub enum-offered : (W A : List ℕ) (l : Layout) (x : FindPathCtx) (i : Item) (t : Tank) (r : Found) → Reads W A l
+pub enum-offered : (W A : List ℕ) (l : Layout) (x : FindPathCtx) (i : Item) (t : Tank) (r : Found) → Prepared W A l x
     → variantOf (snapOf W A l) i ≡ none → r ≡ foundOf (items (snapOf W A l) x i t) → Offered (r .choice)
 enum-offered W A l x i t r a h e =
-    let q = plain-fits (snapOf W A l) x i t h in
+    let q = plain-fits (snapOf W A l) x i t h (a .some) in
     let f = q .few in
-    let u = q .text (names-short W A l a) in
+    let u = q .text (names-short W A l (a .reads)) in
     let p = ap (λ (y : Found). y .choice .count) e in
     let w = ap (λ (y : Found). y .choice .text) e in
-    record { few = omega arith; text = omega arith }
+    record { few = omega (arith, a .limit, f, p); text = omega (arith, a .limit, f, p, u, w) }
 
 pub tank-stays : (s : Snapshot) (x : FindPathCtx) (i : Item) (t : Tank) (r : Found) → r ≡ foundOf (items s x i t) → t .fuel + t .spent < 2 ^ 32
     → r .meter .fuel + r .meter .spent < 2 ^ 32
@@ -86,10 +86,10 @@ module _ {W A₀ B : List ℕ} {l : Layout} {x : FindPathCtx} (p : Prepared W A�
         tables = d .tables;
       }
 
-  pub else-run : {D : List ℕ} {r : Found} → o .choice .found ≡ false → Searched B (bestPath (snapOf W B l) x 15 item (o .meter)) D r
+  pub else-run : {D : List ℕ} {r : Found} → o .choice .found ≡ false → Searched B (bestPath (snapOf W B l) x (x .limit) item (o .meter)) D r
       → Searched A₀ (names (snapOf W A₀ l) x item t) D r
   else-run k q =
-      let y = later W A₀ B l x p (d .tables) (λ (s : Snapshot). bestPath s x 15 item (o .meter)) q in
+      let y = later W A₀ B l x p (d .tables) (λ (s : Snapshot). bestPath s x (x .limit) item (o .meter)) q in
       record {
         same = y .same ∙ ap foundOf (enum-none (snapOf W A₀ l) x item t e v f h parent-same k);
         tables = y .tables;
@@ -159,3 +159,7 @@ module _ (W A : List ℕ) (l : Layout) (r : Reads W A l) where
 pub context-from : (s : Snapshot) (q : Query) (h : ℕ) {x : FindPathCtx} → x ≡ contextOf s q h → x .from ≡ q .from
 unfolding contextOf
 context-from s q h e = ap (λ (y : FindPathCtx). y .from) e
+
+pub context-limit : (s : Snapshot) (q : Query) (h : ℕ) {x : FindPathCtx} → x ≡ contextOf s q h → x .limit ≡ q .limit
+unfolding contextOf
+context-limit s q h e = ap (λ (y : FindPathCtx). y .limit) e

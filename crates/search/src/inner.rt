@@ -42,7 +42,6 @@ use search_parts::straight_of;
 use snapshot::ids::DefinitionId;
 use snapshot::ids::ModuleId;
 use snapshot::ids::Name;
-use snapshot::ids::PathLen;
 use snapshot::layout::Layout;
 use snapshot::record::definition_first;
 use snapshot::record::definition_kind;
@@ -94,7 +93,7 @@ pub fn find_path_inner(
     let Entry::At(m) = straight_of(x.std, item) else {
         return find_by_name(words, area, l, x, item, t);
     };
-    find_path_for_module(words, area, l, x, PathLen::LIMIT, ModuleId(m), t)
+    find_path_for_module(words, area, l, x, x.limit, ModuleId(m), t)
 }
 
 // The scope and the prelude, then the enum of a variant, then the charged search, with the tank that the enum left.
@@ -117,7 +116,7 @@ fn find_by_name(
         };
     }
     let Entry::At(h) = variant_of(words, l, item) else {
-        return calculate_best_path(words, area, l, x, PathLen::LIMIT, item, t);
+        return calculate_best_path(words, area, l, x, x.limit, item, t);
     };
     let parent = item_of(
         words,
@@ -135,12 +134,12 @@ fn find_by_name(
             meter: meter,
         };
     }
-    calculate_best_path(words, area, l, x, PathLen::LIMIT, item, meter)
+    calculate_best_path(words, area, l, x, x.limit, item, meter)
 }
 
-/// The search for the item of a question with a full tank.
+/// The search for the item of a question with a full tank, for a limit in range.
 pub fn find_path(words: &[u32], area: &mut [u32], l: Layout, q: Query, fuel: usize) -> Found
-    requires { ⌜ Reads (now words) (now area) l × (length (now area) ≡ 16384) × (q .definition < l .definitions) × (q .from < l .modules) × (q .ns ≤ 2) × (fuel ≤ 10000) ⌝ }
+    requires { ⌜ Reads (now words) (now area) l × (length (now area) ≡ 16384) × (q .definition < l .definitions) × (q .from < l .modules) × (q .ns ≤ 2) × (fuel ≤ 10000) × (0 < q .limit) × (q .limit ≤ 15) ⌝ }
     ensures { λ r. ⌜ Searched (now (area .entry)) (searched (snapOf (now (words .entry)) (now (area .entry)) l) q fuel) (now (area .exit)) r ⌝ }
 {
     let d = DefinitionId(q.definition);

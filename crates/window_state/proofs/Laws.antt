@@ -46,14 +46,14 @@ pub row-next : (S T row : List ℕ) (at i : ℕ) → T ≡ paste S at row i → 
 row-next S T row at i e h k =
     ap (λ x. set x (at + i) (getD row i 0)) e ∙ paste-suc S at row i 0 h k ∙ ap (paste S at row) (sym (add-one i))
 
-pub row-done : (S T row : List ℕ) (w i : ℕ) → T ≡ paste S (1 + 7 * w) row i → i ≤ 7 → 7 ≤ i → length row ≡ 7 → T ≡ withRow S w row
+pub row-done : (S T row : List ℕ) (w i : ℕ) → T ≡ paste S (1 + 8 * w) row i → i ≤ 8 → 8 ≤ i → length row ≡ 8 → T ≡ withRow S w row
 unfolding withRow
 row-done S T row w i e h k l =
-    let q : i ≡ 7 = omega arith in
+    let q : i ≡ 8 = omega arith in
     e
-    ∙ ap (paste S (1 + 7 * w) row) q
-    ∙ append-assoc (take (1 + 7 * w) S) (take 7 row) (drop (1 + 7 * w + 7) S)
-    ∙ ap (λ x. take (1 + 7 * w) S ++ (x ++ drop (1 + 7 * w + 7) S)) (take-all 7 row (omega (arith, l)))
+    ∙ ap (paste S (1 + 8 * w) row) q
+    ∙ append-assoc (take (1 + 8 * w) S) (take 8 row) (drop (1 + 8 * w + 8) S)
+    ∙ ap (λ x. take (1 + 8 * w) S ++ (x ++ drop (1 + 8 * w + 8) S)) (take-all 8 row (omega (arith, l)))
 
 -- a question placed
 
@@ -86,10 +86,10 @@ fault-free S w e = free (waits S w) refl
 
 -- a question served
 
-pub asked-part : (S : List ℕ) (w : ℕ) (q : Question) → length S ≡ 57 → q ≡ questionOf (midOf (1 + 7 * w + 1) (57 - (1 + 7 * w + 1)) S) → q ≡ askedBy S w
+pub asked-part : (S : List ℕ) (w : ℕ) (q : Question) → length S ≡ 65 → q ≡ questionOf (midOf (1 + 8 * w + 1) (65 - (1 + 8 * w + 1)) S) → q ≡ askedBy S w
 unfolding askedBy
 asked-part S w q l e =
-    e ∙ ap (λ (n : ℕ). questionOf (midOf (1 + 7 * w + 1) (n - (1 + 7 * w + 1)) S)) (sym l) ∙ ap (λ (x : List ℕ). questionOf x) (mid-end (1 + 7 * w + 1) S)
+    e ∙ ap (λ (n : ℕ). questionOf (midOf (1 + 8 * w + 1) (n - (1 + 8 * w + 1)) S)) (sym l) ∙ ap (λ (x : List ℕ). questionOf x) (mid-end (1 + 8 * w + 1) S)
 
 first-bound : (S : List ℕ) (w n : ℕ) → w < 8 → firstFrom S w n ≤ 8
 unfolding firstFrom

@@ -1,5 +1,5 @@
--- The state of eight windows: 57 words. Word 0 is the window from which the next turn counts, modulo 8; a row of seven words for each
--- window follows: whether its question waits (any word but 0), and the question's six words.
+-- The state of eight windows: 65 words. Word 0 is the window from which the next turn counts, modulo 8; a row of eight words for each
+-- window follows: whether its question waits (any word but 0), and the question's seven words.
 use Prim.Native.Nat.{ℕ, zero, suc, _+_, _*_, _%_}
 use mathlib.Core.Bool.{Bool, true, false, not}
 use mathlib.Core.List.{List, [], _∷_, _++_}
@@ -10,24 +10,24 @@ use Rattle.questions.specs.Questions.{questionOf}
 
 -- the words of a window
 unfoldable pub rowOf : List ℕ → ℕ → List ℕ
-rowOf S w = take 7 (drop (1 + 7 * w) S)
+rowOf S w = take 8 (drop (1 + 8 * w) S)
 
 -- other words for a window
 unfoldable pub withRow : List ℕ → ℕ → List ℕ → List ℕ
-withRow S w row = take (1 + 7 * w) S ++ (row ++ drop (1 + 7 * w + 7) S)
+withRow S w row = take (1 + 8 * w) S ++ (row ++ drop (1 + 8 * w + 8) S)
 
 -- the question of a window waits
 unfoldable pub waits : List ℕ → ℕ → Bool
-waits S w = not (eqb (getD S (1 + 7 * w) 0) 0)
+waits S w = not (eqb (getD S (1 + 8 * w) 0) 0)
 
 -- that question
 unfoldable pub askedBy : List ℕ → ℕ → Question
-askedBy S w = questionOf (drop (1 + 7 * w + 1) S)
+askedBy S w = questionOf (drop (1 + 8 * w + 1) S)
 
 -- the words of a window whose question waits
 unfoldable pub waiting : Question → List ℕ
 waiting q =
-    1 ∷ q .query .ns ∷ q .query .definition ∷ q .query .from ∷ q .query .prefix ∷ q .query .options ∷ q .fuel ∷ []
+    1 ∷ q .query .ns ∷ q .query .definition ∷ q .query .from ∷ q .query .prefix ∷ q .query .options ∷ q .fuel ∷ q .query .limit ∷ []
 
 -- a question placed: 49 no such window, 50 a question of the window waits already, 0 for none
 unfoldable pub placeFault : List ℕ → ℕ → ℕ
@@ -52,7 +52,7 @@ served S = firstFrom S (getD S 0 0 % 8) 8
 
 -- the window's row is empty, and the next turn counts from the window after it
 unfoldable pub afterServing : List ℕ → ℕ → List ℕ
-afterServing S w = set (withRow S w (replicate 7 0)) 0 ((w + 1) % 8)
+afterServing S w = set (withRow S w (replicate 8 0)) 0 ((w + 1) % 8)
 
 -- an idle turn leaves the state as it was
 unfoldable pub afterTurn : List ℕ → List ℕ

@@ -1,4 +1,4 @@
-//! The state: a word for the window from which the next turn counts, then eight rows of seven words.
+//! The state: a word for the window from which the next turn counts, then eight rows of eight words.
 ghost use mathlib.Core.Path.{_≡_};
 ghost use Prim.Native.Nat.{_<_};
 ghost use Rattle.window_state.specs.States.{waits as waitsOf, served, withRow};
@@ -16,11 +16,11 @@ pub struct StateWords(pub usize);
 
 impl StateWords {
     /// Words of a window's row: whether its question waits, and the question.
-    pub const ROW: usize = 7;
+    pub const ROW: usize = 8;
 }
 
 /// Whether the question of a window waits.
-pub fn waits(state: [u32; 57], window: usize) -> bool
+pub fn waits(state: [u32; 65], window: usize) -> bool
     requires { ⌜ window < 8 ⌝ }
     ensures { λ r. ⌜ r ≡ waitsOf state window ⌝ }
 {
@@ -29,7 +29,7 @@ pub fn waits(state: [u32; 57], window: usize) -> bool
 }
 
 /// The first window that waits, counting round from the one that the state names; 8 where none waits.
-pub fn next_waiting(state: [u32; 57]) -> usize
+pub fn next_waiting(state: [u32; 65]) -> usize
     ensures { λ r. ⌜ r ≡ served state ⌝ }
 {
     let mut window = (state[0] % 8) as usize;
@@ -45,7 +45,7 @@ pub fn next_waiting(state: [u32; 57]) -> usize
 }
 
 /// The state with other words in the row of a window.
-pub fn with_row(mut state: [u32; 57], window: usize, row: [u32; 7]) -> [u32; 57]
+pub fn with_row(mut state: [u32; 65], window: usize, row: [u32; 8]) -> [u32; 65]
     requires { ⌜ window < 8 ⌝ }
     ensures { λ r. ⌜ r ≡ withRow state window row ⌝ }
 {

@@ -11,7 +11,7 @@ use find_path::Question;
 use questions::question::question_of;
 
 /// The number by which a question of a window is refused, 0 for none.
-pub fn place_fault(state: [u32; 57], window: usize) -> usize
+pub fn place_fault(state: [u32; 65], window: usize) -> usize
     ensures { λ r. ⌜ r ≡ placeFault state window ⌝ }
 {
     if WindowCount::LIMIT <= window {
@@ -24,7 +24,7 @@ pub fn place_fault(state: [u32; 57], window: usize) -> usize
 }
 
 /// The state in which a question of a window waits.
-pub fn with_question(state: [u32; 57], window: usize, question: &[u32; 6]) -> [u32; 57]
+pub fn with_question(state: [u32; 65], window: usize, question: &[u32; 7]) -> [u32; 65]
     requires { ⌜ window < 8 ⌝ }
     ensures { λ r. ⌜ r ≡ withRow state window (waiting (questionOf (now (question .entry)))) ⌝ }
 {
@@ -36,12 +36,13 @@ pub fn with_question(state: [u32; 57], window: usize, question: &[u32; 6]) -> [u
         question[3],
         question[4],
         question[5],
+        question[6],
     ];
     with_row(state, window, row)
 }
 
 /// The question of a window.
-pub fn asked_by(state: [u32; 57], window: usize) -> Question
+pub fn asked_by(state: [u32; 65], window: usize) -> Question
     requires { ⌜ window < 8 ⌝ }
     ensures { λ r. ⌜ r ≡ askedBy state window ⌝ }
 {
@@ -50,11 +51,11 @@ pub fn asked_by(state: [u32; 57], window: usize) -> Question
 }
 
 /// The state after a window was served: its question waits no more, and the next turn counts from the window after it.
-pub fn after_serving(state: [u32; 57], window: usize) -> [u32; 57]
+pub fn after_serving(state: [u32; 65], window: usize) -> [u32; 65]
     requires { ⌜ window < 8 ⌝ }
     ensures { λ r. ⌜ r ≡ afterServing state window ⌝ }
 {
-    let row = [0u32; 7];
+    let row = [0u32; 8];
     let mut s = with_row(state, window, row);
     s[0] = ((window + 1) % WindowCount::LIMIT) as u32;
     s

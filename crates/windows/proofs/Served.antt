@@ -200,9 +200,9 @@ nearer n c d v x h e f =
     ∙ ap (λ y. y % 8) q
 
 -- a turn that serves another window takes the window that waits nearer: d is how far it is
-module _ (S : List ℕ) (w d : ℕ) (l : length S ≡ 57) (t : waits S w ≡ true) (e : w ≡ (nextOf S + d) % 8) (h : d < 8) (os : List Operation) where
+module _ (S : List ℕ) (w d : ℕ) (l : length S ≡ 65) (t : waits S w ≡ true) (e : w ≡ (nextOf S + d) % 8) (h : d < 8) (os : List Operation) where
   turn-to : (c : ℕ) → served S ≡ (nextOf S + c) % 8 → c ≤ d
-      → ((T : List ℕ) (b : ℕ) → length T ≡ 57 → waits T w ≡ true → w ≡ (nextOf T + b) % 8 → b + 1 ≤ d → ServedWithin (b + 1) T w (askedBy T w) os)
+      → ((T : List ℕ) (b : ℕ) → length T ≡ 65 → waits T w ≡ true → w ≡ (nextOf T + b) % 8 → b + 1 ≤ d → ServedWithin (b + 1) T w (askedBy T w) os)
       → ServedWithin (d + 1) S w (askedBy S w) (turning ∷ os)
   turn-to c g k r = at (eqb c d) refl
     where
@@ -229,7 +229,7 @@ module _ (S : List ℕ) (w d : ℕ) (l : length S ≡ 57) (t : waits S w ≡ tru
 shorter : (b d n : ℕ) → b + 1 ≤ d → d ≤ n → b < n
 shorter b d n h k = omega arith
 
-served-by : (os : List Operation) (S : List ℕ) (w d : ℕ) → length S ≡ 57 → waits S w ≡ true → w ≡ (nextOf S + d) % 8 → d < 8 → d < turns os
+served-by : (os : List Operation) (S : List ℕ) (w d : ℕ) → length S ≡ 65 → waits S w ≡ true → w ≡ (nextOf S + d) % 8 → d < 8 → d < turns os
     → ServedWithin (d + 1) S w (askedBy S w) os
 unfolding turns
 served-by [] S w d l t e h k = absurd (omega arith)
@@ -246,15 +246,15 @@ served-by (turning ∷ os) S w d l t e h k =
     (λ T b m u f g. served-by os T w b m u f (shorter b d 8 g (omega (arith, h))) (shorter b d (turns os) g (omega (arith, k))))
 
 -- In any state, a window whose question waits is served with it by one of the next eight turns.
-pub served-within-eight : (S : List ℕ) (w : ℕ) (os : List Operation) → length S ≡ 57 → w < 8 → waits S w ≡ true → 8 ≤ turns os
+pub served-within-eight : (S : List ℕ) (w : ℕ) (os : List Operation) → length S ≡ 65 → w < 8 → waits S w ≡ true → 8 ≤ turns os
     → ServedWithin 8 S w (askedBy S w) os
 served-within-eight S w os l h t k =
     let d : ℕ = (w + 8 - nextOf S) % 8 in
     served-more S w (d + 1) 8 (askedBy S w) (askedBy S w) os (omega arith) refl
     (served-by os S w d l t (omega arith) (omega arith) (omega (arith, k)))
 
--- the state after any run has 57 words
-pub run-length : (os : List Operation) (S : List ℕ) → length S ≡ 57 → length (afterRun S os) ≡ 57
+-- the state after any run has 65 words
+pub run-length : (os : List Operation) (S : List ℕ) → length S ≡ 65 → length (afterRun S os) ≡ 65
 unfolding afterRun afterOne
 run-length [] S l = l
 run-length (placing w q ∷ os) S l = run-length os (afterPlace S w q) (place-length S l w q)
@@ -267,7 +267,7 @@ pub placed-within-eight : (before os : List Operation) (w : ℕ) (q : Question) 
 unfolding emptyState waiting
 placed-within-eight before os w q e k =
     let S : List ℕ = afterRun emptyState before in
-    let l : length S ≡ 57 = run-length before emptyState refl in
+    let l : length S ≡ 65 = run-length before emptyState refl in
     let h : w < 8 = fault-room S w e in
     let T : List ℕ = afterPlace S w q in
     let z : rowOf T w ≡ waiting q = ap (λ (x : List ℕ). rowOf x w) (place-puts S w q e) ∙ placed-row S w q l h in

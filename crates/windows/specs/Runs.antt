@@ -8,7 +8,7 @@ use Rattle.window_state.specs.States.{rowOf, askedBy, afterPlace, served, after
 
 -- no question waits, and the first turn counts from window 0
 unfoldable pub emptyState : List ℕ
-emptyState = replicate 57 0
+emptyState = replicate 65 0
 
 pub data Operation : Type 0 where
   placing : ℕ → Question → Operation

@@ -127,7 +127,7 @@ fn refused(from: u64, to: u64) -> Vec<Vec<u8>> {
         }
     }
     for fuel in [10_000, 10_001] {
-        let question = Question { definition: 1, ns: 1, from: 0, prefix: 1, options: 0, fuel };
+        let question = Question { definition: 1, ns: 1, from: 0, prefix: 1, options: 0, fuel, limit: 15 };
         inputs.push(bytes(&question_words(&question)));
     }
     inputs

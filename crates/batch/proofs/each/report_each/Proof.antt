@@ -46,10 +46,16 @@ report-on-requires c κs =
     (l .inv .1, l .inv .2)
 
 mul-to : tie.Need-mul-to Inv-loop μ-loop
-mul-to c = omega arith
+mul-to c =
+    let t = c .before .before .before .before .before .before in
+    let s = t .before .before .before .before .before .before in
+    omega (arith, t .loop-test .taken, s .pre .2, s .good)
 
 mul-write-report : tie.Need-mul-write-report Inv-loop μ-loop
-mul-write-report c = omega arith
+mul-write-report c =
+    let t = c .before .before .before .before .before .before in
+    let s = t .before .before .before .before .before .before in
+    omega (arith, t .loop-test .taken, s .pre .2, s .good)
 
 sub-write-report : tie.Need-sub-write-report Inv-loop μ-loop
 sub-write-report c = omega arith

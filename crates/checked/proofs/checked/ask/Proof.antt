@@ -24,7 +24,7 @@ find-path-requires c κs =
     let s = c .before .before .before .before .before in
     let A = now (s .args .area) in
     let k = fault-known (snapOf (now (s .args .words)) A (s .args .l)) (s .args .q) (s .args .l .definitions) (s .args .l .modules) (definitions-count (now (s .args .words)) A (s .args .l)) (modules-count (now (s .args .words)) A (s .args .l)) (sym (c .before .if1 .left) ∙ c .before .before .question-fault .ensures A) in
-    (s .pre .0, s .pre .1, k .0, k .1, s .pre .2, s .pre .3)
+    (s .pre .0, s .pre .1, k .0, k .1, s .pre .2, s .pre .3, s .pre .4, s .pre .5)
 
 reported-requires : tie.Need-reported-requires
 reported-requires c κs = search needs

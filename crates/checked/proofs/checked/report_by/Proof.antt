@@ -19,7 +19,7 @@ enum-known-c-2 c = search needs
 ask-requires : tie.Need-ask-requires
 ask-requires c κs =
     let s = c .before .before .before .before .before .before in
-    (reads-of (now (s .args .words)) (now (s .args .area)) (s .args .c) (s .pre .0) _ (c .before .before .c2 .given .1), s .pre .1, s .pre .2, s .pre .3)
+    (reads-of (now (s .args .words)) (now (s .args .area)) (s .args .c) (s .pre .0) _ (c .before .before .c2 .given .1), s .pre .1, s .pre .2, s .pre .3, s .pre .4, s .pre .5)
 
 returns : tie.Need-returns
 returns c =

@@ -34,7 +34,7 @@ report-by-requires c κs =
     let s = f .before .before .before .before in
     let z = none-earlier (f .call-fault .result) (e .before .number-of .result) (sym (c .before .if1 .left) ∙ e .earlier .ensures) in
     let k = fault-free 16384 (s .args .question .query) (s .args .question .fuel) (z ∙ fault-at _ _ _ _ (s .pre .1) (f .call-fault .ensures)) in
-    (s .pre .0, s .pre .1, k .2, k .1)
+    (s .pre .0, s .pre .1, k .2, k .1, k .3, k .4)
 
 same-length : tie.Need-same-length
 same-length c = search needs

@@ -40,13 +40,20 @@ add-is-argument-5 c = search needs
 is-argument-requires-5 : tie.Need-is-argument-requires-5
 is-argument-requires-5 c κs = search needs
 
-add-third : tie.Need-add-third
-add-third c = search needs
+add-is-argument-6 : tie.Need-add-is-argument-6
+add-is-argument-6 c = search needs
+
+is-argument-requires-6 : tie.Need-is-argument-requires-6
+is-argument-requires-6 c κs = search needs
+
+add-room : tie.Need-add-room
+add-room c = search needs
 
 returns-2 : tie.Need-returns-2
 returns-2 c =
-    let s = c .before .before .before .before .before .before .before .before .args in
-    whole-same (now (s .words)) (s .at) _ _ _ _ _ _ (c .before .before .before .before .before .kind .ensures) (c .before .before .before .before .is-argument .ensures) (c .before .before .before .is-argument2 .ensures) (c .before .before .is-argument3 .ensures) (c .before .is-argument4 .ensures) (c .is-argument5 .ensures)
+    let f = c .before in
+    let s = f .before .before .before .before .before .before .before .before .args in
+    whole-same (now (s .words)) (s .at) _ _ _ _ _ _ _ (f .before .before .before .before .before .kind .ensures) (f .before .before .before .before .is-argument .ensures) (f .before .before .before .is-argument2 .ensures) (f .before .before .is-argument3 .ensures) (f .before .is-argument4 .ensures) (f .is-argument5 .ensures) (c .is-argument6 .ensures)
 
 pub is-whole-spec : {M : Type 1} → statement M
 is-whole-spec =
@@ -64,5 +71,7 @@ is-whole-spec =
     is-argument-requires-4
     add-is-argument-5
     is-argument-requires-5
-    add-third
+    add-is-argument-6
+    is-argument-requires-6
+    add-room
     returns-2)

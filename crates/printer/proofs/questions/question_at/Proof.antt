@@ -22,10 +22,14 @@ field-requires-4 c κs = search needs
 field-requires-5 : tie.Need-field-requires-5
 field-requires-5 c κs = search needs
 
+field-requires-6 : tie.Need-field-requires-6
+field-requires-6 c κs = search needs
+
 returns : tie.Need-returns
 returns c =
-    let s = c .before .before .before .before .before .before .before .args in
-    question-same (now (s .words)) (s .at) _ _ _ _ _ _ (c .before .before .before .before .before .field .ensures) (c .before .before .before .before .payload .ensures) (c .before .before .before .field2 .ensures) (c .before .before .field3 .ensures) (c .before .field4 .ensures) (c .field5 .ensures)
+    let f = c .before in
+    let s = f .before .before .before .before .before .before .before .args in
+    question-same (now (s .words)) (s .at) _ _ _ _ _ _ _ (f .before .before .before .before .before .field .ensures) (f .before .before .before .before .payload .ensures) (f .before .before .before .field2 .ensures) (f .before .before .field3 .ensures) (f .before .field4 .ensures) (f .field5 .ensures) (c .field6 .ensures)
 
 pub question-at-spec : {M : Type 1} → statement M
 question-at-spec =
@@ -37,4 +41,5 @@ question-at-spec =
     field-requires-3
     field-requires-4
     field-requires-5
+    field-requires-6
     returns)

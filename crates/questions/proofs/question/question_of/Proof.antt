@@ -20,9 +20,13 @@ word-requires-5 c κs = search needs
 word-requires-6 : tie.Need-word-requires-6
 word-requires-6 c κs = search needs
 
+word-requires-7 : tie.Need-word-requires-7
+word-requires-7 c κs = search needs
+
 returns : tie.Need-returns
 returns c =
-    let e = c .before in
+    let f = c .before in
+    let e = f .before in
     let d = e .before in
     let b = d .before in
     let a = b .before in
@@ -34,8 +38,9 @@ returns c =
             from = b .word3 .ensures i;
             prefix = d .word4 .ensures i;
             options = e .word5 .ensures i;
+            limit = f .word6 .ensures i;
           };
-      fuel = c .word6 .ensures i;
+      fuel = c .word7 .ensures i;
     }
 
 pub question-of-spec : {M : Type 1} → statement M
@@ -48,4 +53,5 @@ question-of-spec =
     word-requires-4
     word-requires-5
     word-requires-6
+    word-requires-7
     returns)

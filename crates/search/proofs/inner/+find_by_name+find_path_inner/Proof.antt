@@ -14,7 +14,7 @@ use Rattle.find_path.specs.Charged.{foundOf, variantOf}
 use Rattle.find_path.proofs.Tables.{same-reads}
 use Rattle.charged_search.proofs.Runs.{begun-later}
 use Rattle.search.proofs.Items.{number, item-ns, enum-no-variant, parent-of, inner-at-once, inner-by-name, name-found, name-plain}
-use Rattle.search.proofs.Starts.{begun-at, straight-known, enum-offered, tank-stays, enum-run, else-run}
+use Rattle.search.proofs.Starts.{begun, straight-known, enum-offered, tank-stays, enum-run, else-run}
 use borrow.Fn.Kinds.{In}
 use borrow.Fn.PlainCycle.{Measures, is, falls, and}
 use Rattle.search.proofs.inner.find_by_name.Reads as find-by-name
@@ -211,7 +211,7 @@ find-by-name-calculate-best-path-requires :
       push-reads.Asked,
       push-reads.Learnt,
     ) (find-by-name-at t) find-by-name.Post
-find-by-name-calculate-best-path-requires t c κs = let o = c .before .before .before .before .before .before .before .before .before in (begun-at _ (o .pre .1 .0) (omega arith) (omega arith), o .pre .1 .1, o .pre .1 .2)
+find-by-name-calculate-best-path-requires t c κs = let o = c .before .before .before .before .before .before .before .before .before in (begun (o .pre .1 .0), o .pre .1 .1, o .pre .1 .2)
 
 find-by-name-same-length-2 : (t : ℕ) → find-by-name-lts.Need-same-length-2 (
   named-reads.Asked,
@@ -380,7 +380,7 @@ find-by-name-push-requires t c κs =
     let g = c .before .before .before .before .before .before .before .before .before .item-of .ensures (now (a .area)) ∙ ap (itemOf (snapOf (now (a .words)) (now (a .area)) (a .l)) 0) (c .before .before .before .before .before .before .before .before .before .before .definition-first .ensures) in
     let p = parent-of (now (a .words)) (now (a .area)) (a .l) (o .pre .1 .0 .reads) (a .item) _ (o .pre .1 .1 .0) e in
     let f = c .before .before .before .before .before .before .before .find-path-inner in
-    let q = enum-offered (now (a .words)) (now (a .area)) (a .l) (a .x) _ (a .t) (f .result) (o .pre .1 .0 .reads) (subst (λ (y : Item). variantOf (snapOf (now (a .words)) (now (a .area)) (a .l)) y ≡ none) (sym g) (p .plain)) (f .ensures .same) in (
+    let q = enum-offered (now (a .words)) (now (a .area)) (a .l) (a .x) _ (a .t) (f .result) (o .pre .1 .0) (subst (λ (y : Item). variantOf (snapOf (now (a .words)) (now (a .area)) (a .l)) y ≡ none) (sym g) (p .plain)) (f .ensures .same) in (
       same-reads (now (a .words)) (now (a .area)) _ (a .l) (f .ensures .tables) (o .pre .1 .0 .reads),
       omega (arith, c .definition-second .ensures, p .name),
       q .few,
@@ -456,7 +456,7 @@ find-by-name-calculate-best-path-requires-2 t c κs =
     let o = c .before .before .before .before .before .before .before .before .before .before .before .before .before .before .before .before .before .before .before in
     let a = o .args in
     let f = c .before .before .before .before .before .before .find-path-inner in
-    (begun-later (begun-at _ (o .pre .1 .0) (omega arith) (omega arith)) (f .ensures .tables) (f .kept .1 .0), o .pre .1 .1, omega (arith, o .pre .1 .2, tank-stays (snapOf (now (a .words)) (now (a .area)) (a .l)) (a .x) _ (a .t) (f .result) (f .ensures .same) (o .pre .1 .2)))
+    (begun-later (begun (o .pre .1 .0)) (f .ensures .tables) (f .kept .1 .0), o .pre .1 .1, omega (arith, o .pre .1 .2, tank-stays (snapOf (now (a .words)) (now (a .area)) (a .l)) (a .x) _ (a .t) (f .result) (f .ensures .same) (o .pre .1 .2)))
 
 find-by-name-same-length-4 : (t : ℕ) → find-by-name-lts.Need-same-length-4 (
   named-reads.Asked,
@@ -585,7 +585,7 @@ find-path-inner-find-path-for-module-requires t c κs =
     let o = c .before .before .before .before .before .before .before in
     let a = o .args in
     let e = sym (c .before .before .m .given .1) ∙ c .before .before .before .before .straight-of .ensures in
-    (o .pre .1 .0, straight-known (a .l) _ (a .item) e (o .pre .1 .1 .0), omega arith, o .pre .1 .2)
+    (o .pre .1 .0, straight-known (a .l) _ (a .item) e (o .pre .1 .1 .0), o .pre .1 .0 .limit, o .pre .1 .2)
 
 find-path-inner-same-length-2 : (t : ℕ) → find-path-inner-lts.Need-same-length-2 (
   straight-of-reads.Asked,

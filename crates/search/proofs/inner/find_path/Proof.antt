@@ -11,7 +11,7 @@ use Rattle.find_path.specs.Rules.{moduleIn}
 use Rattle.find_path.specs.Charged.{foundOf}
 use Rattle.charged_search.proofs.Holding.{module-small}
 use Rattle.search.proofs.Items.{item-ns}
-use Rattle.search.proofs.Starts.{builtin-name, home-there, context-from, start-builtin, start-none, start-item}
+use Rattle.search.proofs.Starts.{builtin-name, home-there, context-from, context-limit, start-builtin, start-none, start-item}
 use Rattle.search.proofs.inner.find_path.Statement.{statement}
 use Rattle.search.proofs.inner.find_path.Tie as tie
 
@@ -77,8 +77,9 @@ find-path-inner-requires c κs =
     let o = c .before .before .before .before .before .before .before .before .before .before .before .before in
     let a = o .args in
     let k = subst (Known (a .l)) (sym (c .before .before .before .before .before .before .item-of .ensures (now (a .area)))) (item-known (now (a .words)) (now (a .area)) (a .l) (o .pre .0) (a .q .ns) (a .q .definition) (o .pre .2)) in
-    let f = context-from (snapOf (now (a .words)) (now (a .area)) (a .l)) (a .q) _ (c .before .context .ensures) in (
-      record { reads = o .pre .0; from = omega (arith, f, o .pre .3); area = o .pre .1 },
+    let f = context-from (snapOf (now (a .words)) (now (a .area)) (a .l)) (a .q) _ (c .before .context .ensures) in
+    let n = context-limit (snapOf (now (a .words)) (now (a .area)) (a .l)) (a .q) _ (c .before .context .ensures) in (
+      record { reads = o .pre .0; from = omega (arith, f, o .pre .3); area = o .pre .1; some = omega (arith, n, o .pre .6); limit = omega (arith, n, o .pre .7) },
       (k, subst (λ (y : Item). nsOf y ≤ 2) (sym (c .before .before .before .before .before .before .item-of .ensures (now (a .area)))) (item-ns (snapOf (now (a .words)) (now (a .area)) (a .l)) _ _ (o .pre .4))),
       omega (arith, o .pre .5),
     )

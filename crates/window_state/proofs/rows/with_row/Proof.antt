@@ -8,10 +8,10 @@ use Rattle.window_state.proofs.rows.with_row.Statement.{statement}
 use Rattle.window_state.proofs.rows.with_row.Tie as tie
 
 abbrev Inv-loop : tie.InvT-loop
-Inv-loop window state₀ row at i₀ state i = (i ≤ 7) × (length state ≡ 57) × (state ≡ paste state₀ at row i)
+Inv-loop window state₀ row at i₀ state i = (i ≤ 8) × (length state ≡ 65) × (state ≡ paste state₀ at row i)
 
 abbrev μ-loop : tie.MeasureT-loop
-μ-loop window state₀ row at i₀ state i = 7 - i
+μ-loop window state₀ row at i₀ state i = 8 - i
 
 mul-at : tie.Need-mul-at Inv-loop μ-loop
 mul-at c = omega arith
@@ -20,7 +20,7 @@ add-at : tie.Need-add-at Inv-loop μ-loop
 add-at c = omega arith
 
 loop-holds : tie.Need-loop-holds Inv-loop μ-loop
-loop-holds c = (omega arith, c .good .0 .1 .0 .1, paste-zero (c .args .t1) (1 + 7 * c .args .window) (c .args .t3))
+loop-holds c = (omega arith, c .good .0 .1 .0 .1, paste-zero (c .args .t1) (1 + 8 * c .args .window) (c .args .t3))
 
 mul-state : tie.Need-mul-state Inv-loop μ-loop
 mul-state c = omega arith

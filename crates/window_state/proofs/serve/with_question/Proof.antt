@@ -21,6 +21,9 @@ element-copy-out-t19 c = search needs
 element-copy-out-t22 : tie.Need-element-copy-out-t22
 element-copy-out-t22 c = search needs
 
+element-copy-out-t25 : tie.Need-element-copy-out-t25
+element-copy-out-t25 c = search needs
+
 with-row-requires : tie.Need-with-row-requires
 with-row-requires c κs = search needs
 
@@ -38,5 +41,6 @@ with-question-spec =
     element-copy-out-t16
     element-copy-out-t19
     element-copy-out-t22
+    element-copy-out-t25
     with-row-requires
     returns)
