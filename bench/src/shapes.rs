@@ -1,5 +1,5 @@
 //! Snapshots to be timed.
-use kelumavor::{CrateId, DefinitionId, ModuleId, NameId, Namespace, Origin, SnapshotWords, Visibility};
+use kelumavor::{CrateId, DefinitionId, Edition, ModuleId, NameId, Namespace, Origin, SnapshotWords, Visibility};
 
 pub struct Shape {
     pub name: String,
@@ -71,7 +71,7 @@ fn workspace_of(modules: usize, items: usize) -> SnapshotWords {
     let module_names = numbered(&mut words, "module_", modules);
     let item_names = numbered(&mut words, "Item", items);
     let crates: Vec<CrateId> =
-        (0..modules.div_ceil(IN_A_CRATE)).map(|_| words.krate(Origin::Ordinary, false)).collect();
+        (0..modules.div_ceil(IN_A_CRATE)).map(|_| words.krate(Origin::Ordinary, false, Edition::Rust2021)).collect();
     for (k, krate) in crates.iter().enumerate() {
         for dependency in &crates[..k] {
             words.dependency(*krate, *dependency, false);
@@ -142,7 +142,7 @@ fn tree(words: &mut SnapshotWords, crates: &[CrateId], modules: usize) -> Vec<(M
 pub fn chain(modules: usize) -> SnapshotWords {
     let mut words = SnapshotWords::new();
     let names = numbered(&mut words, "m", modules);
-    let krate = words.krate(Origin::Ordinary, false);
+    let krate = words.krate(Origin::Ordinary, false, Edition::Rust2021);
     let map = words.map(krate, None, false);
     let mut homes: Vec<ModuleId> = Vec::new();
     for _ in 0..modules {
@@ -163,7 +163,7 @@ pub fn dependencies() -> SnapshotWords {
     const CRATES: usize = 64;
     let mut words = SnapshotWords::new();
     let names = numbered(&mut words, "crate_", CRATES);
-    let crates: Vec<CrateId> = (0..CRATES).map(|_| words.krate(Origin::Ordinary, false)).collect();
+    let crates: Vec<CrateId> = (0..CRATES).map(|_| words.krate(Origin::Ordinary, false, Edition::Rust2021)).collect();
     for (k, krate) in crates.iter().enumerate() {
         for dependency in &crates[..k] {
             words.dependency(*krate, *dependency, false);
@@ -205,7 +205,7 @@ pub fn one_scope() -> SnapshotWords {
     const ENTRIES: usize = 1160;
     let mut words = SnapshotWords::new();
     let names: Vec<NameId> = (0..ENTRIES).map(|k| words.name(&format!("n{k:05}"))).collect();
-    let krate = words.krate(Origin::Ordinary, false);
+    let krate = words.krate(Origin::Ordinary, false, Edition::Rust2021);
     let map = words.map(krate, None, false);
     let root = words.module(map, None);
     let items: Vec<DefinitionId> = names.iter().map(|_| words.other_definition(root)).collect();

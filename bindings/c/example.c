@@ -3,9 +3,9 @@
 
 #include <stdio.h>
 
-/* A crate with a module `a` that holds a function `f`. */
+/* A crate of the edition 2021 with a module `a` that holds a function `f`. */
 static const uint32_t words[] = {
-    0x10000001, 0x61, 0x10000001, 0x66, 0x20000000, 0x40000000, 0, 0, 0x50000000, 0, 0x50000000, 1,
+    0x10000001, 0x61, 0x10000001, 0x66, 0x20000000, 2021, 0x40000000, 0, 0, 0x50000000, 0, 0x50000000, 1,
     0x60000000, 1, 0x80000001, 1, 0, 0x80000004, 1, 0, 0x90000000, 0, 0, 0, 0, 0, 1,
     0x90000001, 1, 1, 1, 0, 0, 1,
 };
@@ -22,6 +22,8 @@ static void print_path(const uint32_t *report, const uint32_t *tables, size_t na
         size_t n = kelumavor_name(words, words_len, tables, names, report[KELUMAVOR_PATH + i], text, sizeof text);
         if (i > 0 || report[KELUMAVOR_KIND] != 0)
             fputs("::", stdout);
+        if (kelumavor_is_raw(words, words_len, tables, names, report[KELUMAVOR_PATH + i], 2021))
+            fputs("r#", stdout);
         fwrite(text, 1, n, stdout);
     }
     putchar('\n');

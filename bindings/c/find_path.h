@@ -49,6 +49,11 @@ size_t kelumavor_check(const uint32_t *words, size_t words_len, uint32_t *area, 
 size_t kelumavor_name(const uint32_t *words, size_t words_len, const uint32_t *tables, size_t tables_len, size_t name,
                       uint8_t *out, size_t out_len);
 
+/* Whether a name is a keyword that the edition (2015, 2018, 2021 or 2024) of the viewing module's crate writes with r# in front. The
+ * tables are those of kelumavor_name; a number that is not below tables_len is no name. */
+bool kelumavor_is_raw(const uint32_t *words, size_t words_len, const uint32_t *tables, size_t tables_len, size_t name,
+                      size_t edition);
+
 /* A question: namespace (0 types, 1 values, 2 macros), definition, viewing module, prefix (0 by self, 1 plain, 2 by crate),
  * options (1 prefer no_std, 2 prefer the prelude, 4 prefer absolute, 8 allow unstable, 16 ignore local imports, 32 old names last),
  * fuel (10,000 at most), limit (the length left at the start, 1 to 15: names of the path, or one more for a variant). */

@@ -6,12 +6,15 @@ pub const BUILTINS: [&str; 19] = [
     "f16", "f32", "f64", "f128",
 ];
 
+pub const EDITIONS: [usize; 4] = [2015, 2018, 2021, 2024];
+
 pub const WORDS: usize = 16_384;
 
 #[derive(Clone, Debug)]
 pub struct Krate {
     pub origin: usize,
     pub no_std: bool,
+    pub edition: usize,
 }
 #[derive(Clone, Debug)]
 pub struct Dependency {
@@ -101,8 +104,7 @@ pub fn payload(word: u32) -> usize {
 fn arguments(kind: usize, payload: usize) -> usize {
     match kind {
         1 => payload.div_ceil(3),
-        2 => 0,
-        5..=7 => 1,
+        2 | 5..=7 => 1,
         3 | 4 | 8 | 11 => 2,
         9 => 6,
         10 => 5,
@@ -125,6 +127,7 @@ impl Record<'_> {
 /// The tests of a record, each number where its test fails.
 struct Judged {
     range: bool,
+    edition: bool,
     defined: bool,
     repeated: bool,
     placed: bool,
@@ -132,10 +135,18 @@ struct Judged {
 }
 
 impl Judged {
-    const FINE: Judged = Judged { range: true, defined: true, repeated: false, placed: true, room: true };
+    const FINE: Judged =
+        Judged { range: true, edition: true, defined: true, repeated: false, placed: true, room: true };
 
     fn refusal(&self) -> Option<u32> {
-        let tests = [(self.range, 32), (self.defined, 33), (!self.repeated, 34), (self.placed, 35), (self.room, 36)];
+        let tests = [
+            (self.range, 32),
+            (self.edition, 43),
+            (self.defined, 33),
+            (!self.repeated, 34),
+            (self.placed, 35),
+            (self.room, 36),
+        ];
         tests.iter().find(|(passed, _)| !passed).map(|&(_, number)| number)
     }
 }
@@ -153,7 +164,7 @@ struct Known {
     externs: Set<(usize, usize)>,
 }
 
-/// An accepted snapshot, or the number of its refusal (30 to 36).
+/// An accepted snapshot, or the number of its refusal (30 to 36, 43).
 pub fn check(words: &[u32]) -> Result<Snapshot, u32> {
     checked(words).map_err(|(number, _)| number)
 }
@@ -227,9 +238,14 @@ fn add_name(s: &mut Snapshot, known: &mut Known, record: &Record) -> Judged {
 }
 
 fn add_crate(s: &mut Snapshot, record: &Record) -> Judged {
-    let (origin, flag) = (record.payload % 8, record.payload / 8);
-    s.crates.push(Krate { origin, no_std: flag == 1 });
-    Judged { range: origin <= 4 && flag <= 1, room: s.crates.len() <= 64, ..Judged::FINE }
+    let (origin, flag, edition) = (record.payload % 8, record.payload / 8, record.argument(0));
+    s.crates.push(Krate { origin, no_std: flag == 1, edition });
+    Judged {
+        range: origin <= 4 && flag <= 1,
+        edition: EDITIONS.contains(&edition),
+        room: s.crates.len() <= 64,
+        ..Judged::FINE
+    }
 }
 
 fn add_dependency(s: &mut Snapshot, record: &Record) -> Judged {

@@ -37,6 +37,9 @@ fn spoil(r: &mut Random, words: &mut Vec<u32>) {
     }
     let place = r.below(words.len());
     let other = r.below(words.len());
+    if r.below(25) == 0 {
+        return spoil_edition(r, words);
+    }
     match r.below(20) {
         0..=3 => words[place] = words[place].wrapping_add(1),
         4..=6 => words[place] = words[place].wrapping_sub(1),
@@ -51,6 +54,14 @@ fn spoil(r: &mut Random, words: &mut Vec<u32>) {
         16 => words.insert(place, r.pick(&[0, 1, words[other]])),
         17 => words.swap(place, other),
         _ => spoil_record(r, words),
+    }
+}
+
+/// Another edition, a known one or not.
+fn spoil_edition(r: &mut Random, words: &mut [u32]) {
+    let crates: Vec<usize> = (0..words.len().saturating_sub(1)).filter(|&place| kind(words[place]) == 2).collect();
+    if !crates.is_empty() {
+        words[r.pick(&crates) + 1] = r.pick(&[0, 1, 2014, 2015, 2016, 2017, 2018, 2019, 2021, 2022, 2024, 2025, 2027]);
     }
 }
 
@@ -95,6 +106,8 @@ fn small(r: &mut Random) -> u32 {
         512,
         2047,
         2048,
+        2015,
+        2024,
         0x00FF_FFFF,
         0x0100_0000,
         0x0FFF_FFFF,
@@ -177,7 +190,9 @@ fn full(r: &mut Random) -> Vec<u8> {
         let text = if fault && n == 2048 { 0 } else { n };
         words.extend([head(1, 2), 0x6161 + (text % 200) as u32 + ((text / 200) << 8) as u32]);
     }
-    words.extend((0..crates).map(|c| head(2, if fault && c == 64 { 7 } else { 0 })));
+    for c in 0..crates {
+        words.extend([head(2, 0), if fault && c == 64 { 2019 } else { 2021 }]);
+    }
     for c in 0..crates.min(64) {
         words.extend([head(4, c), 0, 0, head(5, c), 0]);
     }

@@ -18,7 +18,7 @@ pub fn words(s: &Snapshot) -> Vec<u32> {
         put(1, text.len(), &text.chunks(3).map(pack).collect::<Vec<_>>());
     }
     for krate in &s.crates {
-        put(2, krate.origin + 8 * usize::from(krate.no_std), &[]);
+        put(2, krate.origin + 8 * usize::from(krate.no_std), &[krate.edition]);
     }
     for d in &s.dependencies {
         put(3, d.owner, &[d.krate, d.sysroot.into()]);

@@ -1,7 +1,8 @@
 //! Accepted snapshots with questions, from a seed. The shapes together reach every rule of the search.
 use crate::check::{
-    BUILTINS, Child, DefMap, Definition, Dependency, Extern, Import, Krate, Module, Prelude, Scope, Snapshot,
+    BUILTINS, Child, DefMap, Definition, Dependency, EDITIONS, Extern, Import, Krate, Module, Prelude, Scope, Snapshot,
 };
+use crate::keywords::pool;
 use crate::printer::refusal;
 use crate::random::Random;
 use crate::right::ask::Program;
@@ -340,6 +341,9 @@ impl Builder {
         for _ in 0..builtins {
             texts.push(self.r.pick(&BUILTINS).as_bytes().to_vec());
         }
+        for _ in 0..self.r.below(4) {
+            texts.push(self.r.pick(&pool()).as_bytes().to_vec());
+        }
         let same_length = self.r.percent(self.plan.same_length).then(|| self.r.from_to(1, 3));
         while texts.len() < count {
             let length = match same_length {
@@ -389,7 +393,8 @@ impl Builder {
             let lang = self.r.percent(if c == 0 { 5 } else { self.plan.lang });
             let origin = if lang { self.r.pick(&[1, 1, 2, 2, 3, 3, 3, 4]) } else { 0 };
             let no_std = self.r.percent(self.plan.no_std);
-            self.s.crates.push(Krate { origin, no_std });
+            let edition = self.r.pick(&EDITIONS);
+            self.s.crates.push(Krate { origin, no_std, edition });
         }
         let mut pairs = Vec::new();
         for owner in 0..count.min(8) {

@@ -6,6 +6,7 @@ pub mod compare;
 pub mod damage;
 pub mod encode;
 pub mod generate;
+pub mod keywords;
 pub mod printer;
 pub mod question;
 pub mod random;

@@ -51,15 +51,23 @@ pub fn refused_line(number: u32) -> Vec<u8> {
     format!("refused {number} 0 0").into_bytes()
 }
 
-pub fn line(s: &Snapshot, answer: &Answer) -> Vec<u8> {
+/// A name as it is written in a module.
+fn written(s: &Snapshot, from: usize, name: usize) -> Vec<u8> {
+    let edition = s.crates[s.maps[s.modules[from].map].krate].edition;
+    let text = &s.names[name];
+    if crate::keywords::is_raw(text, edition) { [b"r#", &text[..]].concat() } else { text.clone() }
+}
+
+/// The line of an answer, with the names as they are written.
+pub fn line(written: impl Fn(usize) -> Vec<u8>, answer: &Answer) -> Vec<u8> {
     let mut line: Vec<u8> = Vec::new();
     match &answer.path {
         None => line.extend(b"none -"),
         Some(path) => {
             line.extend(b"found ");
             let prefix = [None, Some("self"), Some("super"), Some("crate"), Some("")][path.kind];
-            let names = path.names.iter().map(|&name| s.names[name].as_slice());
-            let parts: Vec<&[u8]> = prefix.iter().map(|text| text.as_bytes()).chain(names).collect();
+            let names = path.names.iter().map(|&name| written(name));
+            let parts: Vec<Vec<u8>> = prefix.iter().map(|text| text.as_bytes().to_vec()).chain(names).collect();
             line.extend(parts.join(&b"::"[..]));
         }
     }
@@ -83,7 +91,8 @@ pub fn lines<A: Answers>(input: &[u8], fill: impl Fn(&Snapshot) -> A, steps: u64
             None => {
                 let program = program.as_ref().unwrap();
                 let answer = crate::budget::within(steps, || program.put(question));
-                answer.map(|answer| line(snapshot.as_ref().unwrap(), &answer))
+                let s = snapshot.as_ref().unwrap();
+                answer.map(|answer| line(|name| written(s, question.from, name), &answer))
             }
         });
     }

@@ -15,6 +15,7 @@ struct Name {
 struct Crate {
     origin: usize,
     noStd: usize,
+    edition: usize,
 }
 #[derive(Clone, Copy)]
 struct Dependency {
@@ -109,7 +110,7 @@ fn payOf(word: usize) -> usize {
 }
 
 fn argumentsOf(kind: usize, pay: usize) -> usize {
-    if kind == 1 { (pay + 2) / 3 } else { getD(&[0, 0, 0, 2, 2, 1, 1, 1, 2, 6, 5, 2], kind) }
+    if kind == 1 { (pay + 2) / 3 } else { getD(&[0, 0, 1, 2, 2, 1, 1, 1, 2, 6, 5, 2], kind) }
 }
 
 fn textBound(bytes: usize) -> usize {
@@ -126,6 +127,10 @@ fn spelled(text: &str) -> Name {
     Name { bytes: text.len(), text: text.chunks(3).map(pack).collect() }
 }
 
+fn isEdition(e: usize) -> bool {
+    e == 2015 || e == 2018 || e == 2021 || e == 2024
+}
+
 fn isBuiltin(name: &Name) -> bool {
     let builtins = [
         "char", "bool", "str", "isize", "i8", "i16", "i32", "i64", "i128", "usize", "u8", "u16", "u32", "u64", "u128",
@@ -140,7 +145,7 @@ impl Snapshot {
         let arg = |place: usize| getD(W, at + 1 + place);
         match kind {
             1 => self.nameStep(Name { bytes: pay, text: (0..(pay + 2) / 3).map(arg).collect() }),
-            2 => self.crateStep(Crate { origin: pay % 8, noStd: pay / 8 }),
+            2 => self.crateStep(Crate { origin: pay % 8, noStd: pay / 8, edition: arg(0) }),
             3 => self.dependencyStep(Dependency { owner: pay, krate: arg(0), sysroot: arg(1) }),
             4 => self.mapStep(Map { krate: pay, block: arg(0), noStd: arg(1) }),
             5 => self.moduleStep(Module { map: pay, parent: arg(0) }),
@@ -176,7 +181,9 @@ impl Snapshot {
     }
 
     fn crateStep(&mut self, x: Crate) -> Next {
-        judge(x.origin <= 4 && x.noStd <= 1, true, false, || true, self.crates.len() < 64)?;
+        need(x.origin <= 4 && x.noStd <= 1, 32)?;
+        need(isEdition(x.edition), 43)?;
+        need(self.crates.len() < 64, 36)?;
         self.crates.push(x);
         Ok(())
     }
@@ -927,9 +934,35 @@ fn lineOf(snapshot: &Result<Snapshot, usize>, q: &Question) -> Vec<u8> {
     let mut t = Tank { fuel: q.fuel, spent: 0, empty: false };
     let c = findPath(s, q, &mut t);
     let path = c.found.then(|| Path { kind: c.kind, names: c.names });
-    let names: Vec<Vec<u8>> = s.names.iter().map(textOf).collect();
-    let snapshot = crate::check::Snapshot { names, ..Default::default() };
-    crate::printer::line(&snapshot, &crate::Answer { path, charges: t.spent, empty: t.empty })
+    let e = s.crates.get(crateOf(s, q.from)).map_or(0, |x| x.edition);
+    let written = |n: usize| writtenOf(e, &s.names[n]);
+    crate::printer::line(written, &crate::Answer { path, charges: t.spent, empty: t.empty })
+}
+
+// Keywords.antt
+
+fn keywords() -> Vec<(Name, usize)> {
+    let strict = [
+        "as", "break", "const", "continue", "crate", "else", "enum", "extern", "false", "fn", "for", "if", "impl",
+        "in", "let", "loop", "match", "mod", "move", "mut", "pub", "ref", "return", "self", "Self", "static", "struct",
+        "super", "trait", "true", "type", "unsafe", "use", "where", "while", "_",
+    ];
+    let reserved = [
+        "abstract", "become", "box", "do", "final", "macro", "override", "priv", "typeof", "unsized", "virtual",
+        "yield",
+    ];
+    let always = strict.into_iter().chain(reserved).map(|text| (text, 2015));
+    let later = [("async", 2018), ("await", 2018), ("dyn", 2018), ("try", 2018), ("gen", 2024)];
+    always.chain(later).map(|(text, since)| (spelled(text), since)).collect()
+}
+
+fn isRaw(e: usize, x: &Name) -> bool {
+    let isKeyword = keywords().iter().any(|(name, since)| *since <= e && x == name);
+    isKeyword && !["_", "crate", "self", "super", "Self"].iter().any(|word| spelled(word) == *x)
+}
+
+fn writtenOf(e: usize, name: &Name) -> Vec<u8> {
+    if isRaw(e, name) { [b"r#", &textOf(name)[..]].concat() } else { textOf(name) }
 }
 
 fn textOf(name: &Name) -> Vec<u8> {

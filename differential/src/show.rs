@@ -21,7 +21,7 @@ pub fn snapshot_text(s: &Snapshot) -> String {
         let _ = writeln!(text, "  name {n} {}", name(n));
     }
     for (n, c) in s.crates.iter().enumerate() {
-        let _ = writeln!(text, "  crate {n} origin {} no_std {}", c.origin, c.no_std);
+        let _ = writeln!(text, "  crate {n} origin {} no_std {} edition {}", c.origin, c.no_std, c.edition);
     }
     for d in &s.dependencies {
         let _ = writeln!(text, "  dependency of {} on {} sysroot {}", d.owner, d.krate, d.sysroot);

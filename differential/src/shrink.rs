@@ -68,6 +68,7 @@ fn plainer(s: &mut Snapshot, q: &mut Question, holds: &mut impl FnMut(&Snapshot,
     for c in 0..s.crates.len() {
         attempt(s, &|s| s.crates[c].no_std = false);
         attempt(s, &|s| s.crates[c].origin = 0);
+        attempt(s, &|s| s.crates[c].edition = 2021);
     }
     for n in 0..s.names.len() {
         attempt(s, &|s| s.names[n] = vec![b'a' + (n % 26) as u8]);

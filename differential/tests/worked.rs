@@ -43,7 +43,7 @@ fn worked() {
 
 /// A chain of modules below the root, an enum in the last one, and a variant of it; seen from another child of the root.
 fn chain(depth: usize) -> Vec<u8> {
-    let mut words = vec![head(1, 1), 0x61, head(2, 0), head(4, 0), 0, 0, head(5, 0), 0, head(5, 0), 1];
+    let mut words = vec![head(1, 1), 0x61, head(2, 0), 2021, head(4, 0), 0, 0, head(5, 0), 0, head(5, 0), 1];
     for module in 0..depth {
         words.extend([head(5, 0), if module == 0 { 1 } else { module as u32 + 2 }]);
     }

@@ -13,7 +13,7 @@
 //! // A crate with a module `a` that holds a function `f`.
 //! let mut words = SnapshotWords::new();
 //! let [a, f] = ["a", "f"].map(|text| words.name(text));
-//! let krate = words.krate(Default::default(), false);
+//! let krate = words.krate(Default::default(), false, Default::default());
 //! let map = words.map(krate, None, false);
 //! let root = words.module(map, None);
 //! let module = words.module(map, Some(root));
@@ -52,4 +52,4 @@ pub use report::{FirstEmpty, Outcome, Report};
 pub use snapshot::{Counts, Snapshot, WorkArea};
 pub use text::Text;
 pub use windows::Windows;
-pub use words::{Origin, SnapshotWords, Visibility};
+pub use words::{Edition, Origin, SnapshotWords, Visibility};

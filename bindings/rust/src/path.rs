@@ -1,7 +1,7 @@
 //! A path.
 use std::fmt;
 
-use crate::ids::NameId;
+use crate::ids::{ModuleId, NameId};
 use crate::snapshot::Snapshot;
 use crate::text::Text;
 
@@ -56,10 +56,12 @@ impl fmt::Display for PathKind {
     }
 }
 
-/// A path that names the item of a question. It prints as it would stand in code.
+/// A path that names the item of a question. It prints as it would stand in the viewing module, keywords of its crate's edition with
+/// `r#`.
 #[derive(Clone)]
 pub struct Path<'s> {
     snapshot: &'s Snapshot<'s>,
+    from: ModuleId,
     kind: PathKind,
     names: [u32; Path::NAMES],
     count: usize,
@@ -69,8 +71,14 @@ impl<'s> Path<'s> {
     /// Names of a path, at most.
     pub const NAMES: usize = 16;
 
-    pub(crate) fn new(snapshot: &'s Snapshot<'s>, kind: u32, names: [u32; Path::NAMES], count: u32) -> Self {
-        Path { snapshot, kind: PathKind::from_number(kind), names, count: count as usize }
+    pub(crate) fn new(
+        snapshot: &'s Snapshot<'s>,
+        from: ModuleId,
+        kind: u32,
+        names: [u32; Path::NAMES],
+        count: u32,
+    ) -> Self {
+        Path { snapshot, from, kind: PathKind::from_number(kind), names, count: count as usize }
     }
 
     pub fn kind(&self) -> PathKind {
@@ -82,7 +90,7 @@ impl<'s> Path<'s> {
         self.names[..self.count].iter().map(|name| NameId(*name))
     }
 
-    /// The texts of its names.
+    /// The texts of its names, without `r#`.
     pub fn names(&self) -> Names<'_> {
         Names { snapshot: self.snapshot, names: self.names[..self.count].iter() }
     }
@@ -90,7 +98,7 @@ impl<'s> Path<'s> {
     /// The path as the path printer prints it.
     pub fn to_bytes(&self) -> Vec<u8> {
         let mut parts: Vec<Vec<u8>> = self.kind.part().map(|part| part.into()).into_iter().collect();
-        parts.extend(self.names().map(|text| text.0));
+        parts.extend(self.ids().map(|name| self.snapshot.written(name, self.from)));
         parts.join(&b"::"[..])
     }
 }

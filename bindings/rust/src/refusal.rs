@@ -35,6 +35,8 @@ pub enum RefusalKind {
     InputNotWords = 41,
     /// 42, by the path printer alone
     WordsOutsideQuestion = 42,
+    /// 43
+    UnknownEdition = 43,
     /// 44, by a call of the library with several questions; `Snapshot::find_paths` takes any number of them
     BatchTooLong = 44,
     /// 46
@@ -62,6 +64,7 @@ impl RefusalKind {
         Self::InputTooLong,
         Self::InputNotWords,
         Self::WordsOutsideQuestion,
+        Self::UnknownEdition,
         Self::BatchTooLong,
         Self::LimitOutOfRange,
         Self::NoSuchWindow,
@@ -96,6 +99,7 @@ impl fmt::Display for RefusalKind {
             Self::InputTooLong => "more than 65,536 bytes of input",
             Self::InputNotWords => "a number of bytes that is not a multiple of 4",
             Self::WordsOutsideQuestion => "a word after the snapshot that is in no whole question",
+            Self::UnknownEdition => "an edition other than 2015, 2018, 2021 and 2024",
             Self::BatchTooLong => "more than 64 questions, a part of one, or too few words for their reports",
             Self::LimitOutOfRange => "the limit is outside 1 to 15",
             Self::NoSuchWindow => "a window above 7",
@@ -110,9 +114,9 @@ impl fmt::Display for RefusalKind {
 /// use kelumavor::{RefusalKind, Snapshot};
 ///
 /// // A crate that is left without its own map: that shows after the last word.
-/// let refusal = Snapshot::check(&[0x2000_0000]).unwrap_err();
+/// let refusal = Snapshot::check(&[0x2000_0000, 2021]).unwrap_err();
 /// assert_eq!(refusal.kind(), RefusalKind::Misplaced);
-/// assert_eq!(refusal.place(), Some(1));
+/// assert_eq!(refusal.place(), Some(2));
 /// ```
 #[derive(Clone, Copy, Debug, PartialEq, Eq, Hash)]
 pub struct Refusal {

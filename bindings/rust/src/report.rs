@@ -39,7 +39,7 @@ pub struct FirstEmpty {
 ///
 /// // The worked snapshot: a crate with a module `a` that holds a function `f`.
 /// let words = [
-///     0x10000001, 0x61, 0x10000001, 0x66, 0x20000000, 0x40000000, 0, 0, 0x50000000, 0, 0x50000000, 1, 0x60000000, 1,
+///     0x10000001, 0x61, 0x10000001, 0x66, 0x20000000, 2021, 0x40000000, 0, 0, 0x50000000, 0, 0x50000000, 1, 0x60000000, 1,
 ///     0x80000001, 1, 0, 0x80000004, 1, 0, 0x90000000, 0, 0, 0, 0, 0, 1, 0x90000001, 1, 1, 1, 0, 0, 1,
 /// ];
 /// let snapshot = Snapshot::check(&words)?;
@@ -67,9 +67,10 @@ pub struct Report<'s> {
 }
 
 impl<'s> Report<'s> {
-    pub(crate) fn new(snapshot: &'s Snapshot<'s>, words: [u32; sys::REPORT]) -> Self {
+    /// The report on a question that was asked from a module.
+    pub(crate) fn new(snapshot: &'s Snapshot<'s>, from: ModuleId, words: [u32; sys::REPORT]) -> Self {
         let [outcome, number, kind, names @ .., count, charges, empty, left, sought] = words;
-        let path = || Path::new(snapshot, kind, names, count);
+        let path = || Path::new(snapshot, from, kind, names, count);
         let outcome = match (outcome, empty) {
             (0, 0) => Outcome::Found(path()),
             (1, 0) => Outcome::NoPath,

@@ -1,5 +1,5 @@
 //! A checked snapshot.
-use crate::ids::NameId;
+use crate::ids::{ModuleId, NameId};
 use crate::question::Question;
 use crate::refusal::Refusal;
 use crate::report::Report;
@@ -51,6 +51,23 @@ pub struct Snapshot<'w> {
     /// Where each name begins, as the check found it.
     heads: Box<[u32]>,
     counts: Counts,
+    /// The edition of each module's crate.
+    editions: Box<[u32]>,
+}
+
+/// The edition of each module's crate, of words that the check accepted. Arguments have no kind, so each other word is a head.
+fn editions(words: &[u32]) -> Box<[u32]> {
+    let (mut crates, mut maps, mut modules) = (Vec::new(), Vec::new(), Vec::new());
+    for (at, word) in words.iter().enumerate() {
+        let payload = (word & 0x0FFF_FFFF) as usize;
+        match word >> 28 {
+            2 => crates.push(words[at + 1]),
+            4 => maps.push(crates[payload]),
+            5 => modules.push(maps[payload]),
+            _ => (),
+        }
+    }
+    modules.into()
 }
 
 impl<'w> Snapshot<'w> {
@@ -93,7 +110,7 @@ impl<'w> Snapshot<'w> {
             imports,
             externs,
         };
-        Ok(Snapshot { words, heads: area.0[..names].into(), counts })
+        Ok(Snapshot { words, heads: area.0[..names].into(), counts, editions: editions(words) })
     }
 
     pub fn words(&self) -> &'w [u32] {
@@ -115,6 +132,19 @@ impl<'w> Snapshot<'w> {
         Some(Text(bytes))
     }
 
+    /// The edition of a module's crate, where the snapshot has that module.
+    pub fn edition(&self, module: ModuleId) -> Option<u32> {
+        self.editions.get(module.0 as usize).copied()
+    }
+
+    /// A name of the snapshot as it is written in a module: a keyword with `r#`.
+    pub(crate) fn written(&self, name: NameId, from: ModuleId) -> Vec<u8> {
+        let edition = self.edition(from).expect("a path is seen from a module of its snapshot");
+        let Text(text) = self.name(name).expect("a path has names of its snapshot");
+        let raw = sys::is_raw(self.words, &self.heads, name.0 as usize, edition as usize);
+        if raw { [b"r#", &text[..]].concat() } else { text }
+    }
+
     /// Answers a question. The library keeps nothing between calls, so it checks the words again; [`Snapshot::find_paths`]
     /// checks them once for several questions.
     pub fn find_path(&self, question: &Question) -> Report<'_> {
@@ -123,7 +153,7 @@ impl<'w> Snapshot<'w> {
 
     /// Answers a question in a work area of the caller's.
     pub fn find_path_in(&self, question: &Question, area: &mut WorkArea) -> Report<'_> {
-        Report::new(self, sys::find_path(self.words, &mut area.0, &question.words()))
+        Report::new(self, question.from, sys::find_path(self.words, &mut area.0, &question.words()))
     }
 
     /// Answers questions in order, each as [`Snapshot::find_path`] does, a refused one included. The library takes them by 64,
@@ -133,7 +163,7 @@ impl<'w> Snapshot<'w> {
     /// use kelumavor::{DefinitionId, ModuleId, Namespace, Question, Snapshot};
     ///
     /// # let words = [
-    /// #     0x10000001, 0x61, 0x10000001, 0x66, 0x20000000, 0x40000000, 0, 0, 0x50000000, 0, 0x50000000, 1, 0x60000000, 1,
+    /// #     0x10000001, 0x61, 0x10000001, 0x66, 0x20000000, 2021, 0x40000000, 0, 0, 0x50000000, 0, 0x50000000, 1, 0x60000000, 1,
     /// #     0x80000001, 1, 0, 0x80000004, 1, 0, 0x90000000, 0, 0, 0, 0, 0, 1, 0x90000001, 1, 1, 1, 0, 0, 1,
     /// # ];
     /// // A crate with a module `a` that holds a function `f`.
@@ -154,7 +184,8 @@ impl<'w> Snapshot<'w> {
         for call in questions.chunks(sys::QUESTIONS) {
             let asked: Vec<_> = call.iter().map(Question::words).collect();
             let told = sys::find_paths(self.words, &mut area.0, &asked);
-            reports.extend(told.into_iter().map(|words| Report::new(self, words)));
+            let answered = call.iter().zip(told);
+            reports.extend(answered.map(|(question, words)| Report::new(self, question.from, words)));
         }
         reports
     }

@@ -39,6 +39,15 @@ mod raw {
             out_len: usize,
         ) -> usize;
 
+        pub fn kelumavor_is_raw(
+            words: *const u32,
+            words_len: usize,
+            tables: *const u32,
+            tables_len: usize,
+            name: usize,
+            edition: usize,
+        ) -> bool;
+
         pub fn kelumavor_find_path(
             words: *const u32,
             words_len: usize,
@@ -97,6 +106,11 @@ pub fn name(words: &[u32], tables: &[u32], name: usize, out: &mut [u8]) -> usize
             out.len(),
         )
     }
+}
+
+pub fn is_raw(words: &[u32], tables: &[u32], name: usize, edition: usize) -> bool {
+    // SAFETY: as in `check`.
+    unsafe { raw::kelumavor_is_raw(words.as_ptr(), words.len(), tables.as_ptr(), tables.len(), name, edition) }
 }
 
 pub fn find_path(words: &[u32], area: &mut [u32], question: &[u32; QUESTION]) -> [u32; REPORT] {

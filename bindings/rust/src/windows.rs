@@ -1,4 +1,5 @@
 //! Windows that share one search.
+use crate::ids::ModuleId;
 use crate::question::Question;
 use crate::refusal::Refusal;
 use crate::report::Report;
@@ -12,7 +13,7 @@ use crate::sys;
 /// use kelumavor::{DefinitionId, ModuleId, Namespace, Question, Snapshot, Windows};
 ///
 /// # let words = [
-/// #     0x10000001, 0x61, 0x10000001, 0x66, 0x20000000, 0x40000000, 0, 0, 0x50000000, 0, 0x50000000, 1, 0x60000000, 1,
+/// #     0x10000001, 0x61, 0x10000001, 0x66, 0x20000000, 2021, 0x40000000, 0, 0, 0x50000000, 0, 0x50000000, 1, 0x60000000, 1,
 /// #     0x80000001, 1, 0, 0x80000004, 1, 0, 0x90000000, 0, 0, 0, 0, 0, 1, 0x90000001, 1, 1, 1, 0, 0, 1,
 /// # ];
 /// // A crate with a module `a` that holds a function `f`.
@@ -59,8 +60,10 @@ impl Windows {
 
     /// Serves the next window in a work area of the caller's.
     pub fn turn_in<'s>(&mut self, snapshot: &'s Snapshot<'s>, area: &mut WorkArea) -> Option<(usize, Report<'s>)> {
+        let before = self.state;
         let (window, report) = sys::turn(&mut self.state, snapshot.words(), area.words())?;
-        Some((window, Report::new(snapshot, report)))
+        let from = ModuleId(before[1 + window * (1 + sys::QUESTION) + 3]);
+        Some((window, Report::new(snapshot, from, report)))
     }
 }
 

@@ -12,6 +12,16 @@ pub enum Origin {
     OtherLanguage = 4,
 }
 
+/// The edition of a crate.
+#[derive(Clone, Copy, Debug, Default, PartialEq, Eq, Hash)]
+pub enum Edition {
+    Rust2015 = 2015,
+    Rust2018 = 2018,
+    #[default]
+    Rust2021 = 2021,
+    Rust2024 = 2024,
+}
+
 /// The visibility of an entry of a scope. `Explicit` and `Implicit` say whether the module was written out.
 #[derive(Clone, Copy, Debug, PartialEq, Eq, Hash)]
 pub enum Visibility {
@@ -61,8 +71,8 @@ impl SnapshotWords {
         NameId(self.record(1, text.len() as u32, &packed))
     }
 
-    pub fn krate(&mut self, origin: Origin, supports_no_std: bool) -> CrateId {
-        CrateId(self.record(2, origin as u32 + 8 * u32::from(supports_no_std), &[]))
+    pub fn krate(&mut self, origin: Origin, supports_no_std: bool, edition: Edition) -> CrateId {
+        CrateId(self.record(2, origin as u32 + 8 * u32::from(supports_no_std), &[edition as u32]))
     }
 
     pub fn dependency(&mut self, owner: CrateId, dependency: CrateId, sysroot: bool) {

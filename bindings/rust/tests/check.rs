@@ -31,7 +31,7 @@ fn stored_cases() {
         };
         assert_eq!(printed, answer);
     }
-    assert_eq!(kinds.len(), 7, "30 to 36");
+    assert_eq!(kinds.len(), 8, "30 to 36, and 43");
 }
 
 #[test]

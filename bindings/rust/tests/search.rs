@@ -6,8 +6,8 @@ use std::process::{Command, Stdio};
 
 use common::{WORKED, random, repository};
 use kelumavor::{
-    DefinitionId, FirstEmpty, ModuleId, NameId, Namespace, Options, Outcome, PathKind, Prefix, Question, RefusalKind,
-    Report, Snapshot, SnapshotWords, Visibility, WorkArea,
+    DefinitionId, Edition, FirstEmpty, ModuleId, NameId, Namespace, Options, Outcome, PathKind, Prefix, Question,
+    RefusalKind, Report, Snapshot, SnapshotWords, Visibility, Windows, WorkArea,
 };
 
 const NAMESPACES: [Namespace; 3] = [Namespace::Types, Namespace::Values, Namespace::Macros];
@@ -59,7 +59,7 @@ fn outcomes_are_told_apart() {
 fn old_names_come_last() {
     let mut words = SnapshotWords::new();
     let [old, new] = ["old", "new"].map(|text| words.name(text));
-    let krate = words.krate(Default::default(), false);
+    let krate = words.krate(Default::default(), false, Default::default());
     let map = words.map(krate, None, false);
     let root = words.module(map, None);
     let item = words.other_definition(root);
@@ -86,6 +86,42 @@ fn limits() {
     for limit in [0, 16, u32::MAX] {
         assert!(matches!(ask(limit).outcome, Outcome::Refused(refusal) if refusal.kind() == RefusalKind::LimitOutOfRange));
     }
+}
+
+#[test]
+fn keywords_are_raw_in_the_edition_of_the_viewer() {
+    let line = |edition, text: &str| {
+        let mut words = SnapshotWords::new();
+        let [name, f] = [text, "f"].map(|text| words.name(text));
+        let krate = words.krate(Default::default(), false, edition);
+        let map = words.map(krate, None, false);
+        let root = words.module(map, None);
+        let module = words.module(map, Some(root));
+        words.child(root, module);
+        let module_definition = words.module_definition(module);
+        let item = words.other_definition(module);
+        words.scope(root, Namespace::Types, name, module_definition, Visibility::Public, true);
+        words.scope(module, Namespace::Types, f, item, Visibility::Public, true);
+        let snapshot = Snapshot::check(words.as_words()).unwrap();
+        assert_eq!(snapshot.edition(root), Some(edition as u32));
+        assert_eq!(snapshot.edition(ModuleId(2)), None);
+        let question = Question::new(Namespace::Types, item, root);
+        let mut windows = Windows::new();
+        windows.place(6, &question).unwrap();
+        let (_, served) = windows.turn(&snapshot).unwrap();
+        let report = snapshot.find_path(&question);
+        assert_eq!(report.path().unwrap().names().map(|name| name.to_string()).collect::<Vec<_>>(), [text, "f"]);
+        assert_eq!(served.to_string(), report.to_string());
+        assert_eq!(snapshot.find_paths(&[question])[0].to_string(), report.to_string());
+        report.to_string()
+    };
+    assert_eq!(line(Edition::Rust2015, "type"), "found r#type::f 1 0");
+    assert_eq!(line(Edition::Rust2015, "async"), "found async::f 1 0");
+    assert_eq!(line(Edition::Rust2018, "async"), "found r#async::f 1 0");
+    assert_eq!(line(Edition::Rust2021, "gen"), "found gen::f 1 0");
+    assert_eq!(line(Edition::Rust2024, "gen"), "found r#gen::f 1 0");
+    assert_eq!(line(Edition::Rust2024, "union"), "found union::f 1 0");
+    assert_eq!(line(Edition::Rust2024, "self"), "found self::f 1 0");
 }
 
 fn random_question(random: &mut random::Random, snapshot: &random::Snapshot) -> Question {

@@ -10,8 +10,9 @@ use Rattle.snapshot.specs.Lists.{any}
 use Rattle.snapshot.specs.Limits.{wordLimit, crateLimit, moduleLimit, nameLimit, definitionLimit}
 use Rattle.snapshot.specs.Words.{kindOf, argumentsAt}
 use Rattle.snapshot.specs.Records.{Snapshot, Name, Crate, Dependency, Map, Module, Child, Prelude, Definition, Scope, Import, Extern, nameAt, crateAt, dependencyAt, mapAt, moduleAt, childAt, preludeAt, definitionAt, scopeAt, importAt, externAt}
-use Rattle.record_rules.specs.Tests.{childDefined, childPlaced, countsOf, crateRange, cratesOwn, definitionDefined, definitionPlaced, definitionRange, definitionRepeated, dependencyDefined, dependencyRange, externDefined, importDefined, importRange, mapDefined, mapPlaced, mapRange, mapRepeated, mapsFilled, moduleDefined, modulePlaced, nameRange, nsPlaced, preludeDefined, sameChild, sameEntry, sameExtern, sameName, samePrelude, scopeDefined, scopeRange}
-use Rattle.record_rules.specs.Steps.{Next, no, on, need, judge, addName, addCrate, addDependency, addMap, addModule, addChild, addPrelude, addDefinition, addScope, addImport, addExtern, nameStep, crateStep, dependencyStep, mapStep, moduleStep, childStep, preludeStep, definitionStep, scopeStep, importStep, externStep}
+use Rattle.record_rules.specs.Tests.{childDefined, childPlaced, countsOf, crateRange, isEdition, cratesOwn, definitionDefined, definitionPlaced, definitionRange, definitionRepeated, dependencyDefined, dependencyRange, externDefined, importDefined, importRange, mapDefined, mapPlaced, mapRange, mapRepeated, mapsFilled, moduleDefined, modulePlaced, nameRange, nsPlaced, preludeDefined, sameChild, sameEntry, sameExtern, sameName, samePrelude, scopeDefined, scopeRange}
+use Rattle.record_rules.specs.Steps.{Next, no, on, need, judge, judgeCrate, addName, addCrate, addDependency, addMap, addModule, addChild, addPrelude, addDefinition, addScope, addImport, addExtern, nameStep, crateStep, dependencyStep, mapStep, moduleStep, childStep, preludeStep, definitionStep, scopeStep, importStep, externStep}
+use Rattle.record_rules.proofs.Judged.{CratePassed}
 use Rattle.accept.specs.Verdict.{follows, argumentsFrom, recordStep, stepAt, refuse, accept, finish, records, empty, verdict}
 
 pub by-test : {C : Type 0} (b : Bool) → (b ≡ true → C) → (b ≡ false → C) → C
@@ -35,7 +36,7 @@ pub record Keeps (P : Snapshot → Type 0) : Type 0 where
   pub names : (s : Snapshot) (y : Name)
       → Passed (nameRange y) true (any (sameName y) (s .names)) true (ltb (length (s .names)) nameLimit) → P s → P (addName s y)
   pub crates : (s : Snapshot) (y : Crate)
-      → Passed (crateRange y) true false true (ltb (length (s .crates)) crateLimit) → P s → P (addCrate s y)
+      → CratePassed (crateRange y) (isEdition (y .edition)) (ltb (length (s .crates)) crateLimit) → P s → P (addCrate s y)
   pub dependencies : (s : Snapshot) (y : Dependency)
       → Passed (dependencyRange y) (dependencyDefined (countsOf s) y) false true true → P s → P (addDependency s y)
   pub maps : (s : Snapshot) (y : Map)
@@ -103,6 +104,16 @@ judge-on true true false true false t u h = let z : _≡_ {A = ℕ} 0 1 = cc in 
 judge-on true true false true true t u h =
     record { passed = record { ranged = refl; known = refl; new = refl; right = refl; roomy = refl }; same = cc }
 
+record CrateTaken (range edition room : Bool) (t u : Snapshot) : Type 0 where
+  passed : CratePassed range edition room
+  same : t ≡ u
+
+judge-crate-on : (a b e : Bool) (t u : Snapshot) → judgeCrate a b e t ≡ on u → CrateTaken a b e t u
+judge-crate-on false b e t u h = let z : _≡_ {A = ℕ} 0 1 = cc in absurd (omega arith)
+judge-crate-on true false e t u h = let z : _≡_ {A = ℕ} 0 1 = cc in absurd (omega arith)
+judge-crate-on true true false t u h = let z : _≡_ {A = ℕ} 0 1 = cc in absurd (omega arith)
+judge-crate-on true true true t u h = record { passed = record { range = refl; edition = refl; room = refl }; same = cc }
+
 need-on : (b : Bool) (n : ℕ) (r : Next) (u : Snapshot) → need b n r ≡ on u → r ≡ on u
 need-on true n r u h = h
 need-on false n r u h = let z : _≡_ {A = ℕ} 0 1 = cc in absurd (omega arith)
@@ -125,8 +136,8 @@ module _ (P : Snapshot → Type 0) (keeps : Keeps P) where
   crate-keeps : (s : Snapshot) (y : Crate) (u : Snapshot) → crateStep s y ≡ on u → P s → P u
   unfolding crateStep
   crate-keeps s y u e h =
-      taken-keeps (crateRange y) true false true (ltb (length (s .crates)) crateLimit) (addCrate s y) u e
-      (λ p. keeps .crates s y p h)
+      let q = judge-crate-on (crateRange y) (isEdition (y .edition)) (ltb (length (s .crates)) crateLimit) (addCrate s y) u e in
+      subst P (q .same) (keeps .crates s y (q .passed) h)
 
   dependency-keeps : (s : Snapshot) (y : Dependency) (u : Snapshot) → dependencyStep s y ≡ on u → P s → P u
   unfolding dependencyStep

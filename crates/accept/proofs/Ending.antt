@@ -159,7 +159,7 @@ module _ (W A : List ℕ) (k : ℕ) (l : Layout) (ms : List Map) (st : Stands W 
           let q-maps = maps-same in
           λ i. record {
             names = q-names i;
-            crates = recordsOf crateAt 1 W (crateBase l) (l .crates);
+            crates = recordsOf crateAt 2 W (crateBase l) (l .crates);
             dependencies = recordsOf dependencyAt 3 W (dependencyBase l) (l .dependencies);
             maps = q-maps i;
             modules = q-modules i;

@@ -8,7 +8,7 @@ use lib.Dec.{eqb, ltb, leb}
 use lib.ListN.{length}
 use borrow.Author.Tests.{eqb-true, eq-eqb, ne-eqb, ltb-true, leb-true}
 use Rattle.snapshot.specs.Records.{Name, Crate, Dependency, Map, Module, Child, Prelude, Definition, Scope, Import, Extern, Snapshot}
-use Rattle.record_rules.specs.Tests.{Counts, countsOf, padded, nameRange, crateRange, dependencyRange, dependencyDefined, mapRange, mapDefined, moduleDefined, childDefined, preludeDefined, definitionDefined, scopeRange, scopeDefined, importRange, importDefined, externDefined}
+use Rattle.record_rules.specs.Tests.{Counts, countsOf, padded, nameRange, crateRange, isEdition, dependencyRange, dependencyDefined, mapRange, mapDefined, moduleDefined, childDefined, preludeDefined, definitionDefined, scopeRange, scopeDefined, importRange, importDefined, externDefined}
 use Rattle.record_rules.specs.Steps.{addName, addCrate, addDependency, addMap, addModule, addChild, addPrelude, addDefinition, addScope, addImport, addExtern}
 use Rattle.accept.specs.Verdict.{accept, verdict, empty}
 use Rattle.accept.specs.Valid.{none, NameFits, CrateFits, DependencyFits, MapFits, ModuleFits, ChildFits, PreludeFits, DefinitionFits, ScopeFits, ImportFits, ExternFits, Ranges, Limits}
@@ -22,10 +22,10 @@ name-fits y r =
     let q = and-three (leb 1 (y .bytes)) (leb (y .bytes) 255) (padded (y .bytes) (y .text)) r in
     record { some = leb-true 1 (y .bytes) (q .0); bytes = leb-true (y .bytes) 255 (q .1) }
 
-crate-fits : (y : Crate) → crateRange y ≡ true → CrateFits y
-crate-fits y r =
+crate-fits : (y : Crate) → crateRange y ≡ true → isEdition (y .edition) ≡ true → CrateFits y
+crate-fits y r e =
     let q = and-two (leb (y .origin) 4) (leb (y .noStd) 1) r in
-    record { origin = leb-true (y .origin) 4 (q .0); noStd = leb-true (y .noStd) 1 (q .1) }
+    record { origin = leb-true (y .origin) 4 (q .0); noStd = leb-true (y .noStd) 1 (q .1); edition = e }
 
 neither : (a b c : Bool) → a || b || c ≡ true → a ≡ false → b ≡ false → c ≡ true
 neither a b c e p q = or-right (a || b) c e (rw (p, q))
@@ -295,7 +295,7 @@ ranges-kept : Keeps InRange
 ranges-kept =
     record {
       names = λ s y p h. name-ranged s h y (name-fits y (p .ranged));
-      crates = λ s y p h. crate-ranged s h y (crate-fits y (p .ranged));
+      crates = λ s y p h. crate-ranged s h y (crate-fits y (p .range) (p .edition));
       dependencies = λ s y p h. dependency-ranged s h y (dependency-fits (countsOf s) y (p .ranged) (p .known));
       maps = λ s y p h. map-ranged s h y (map-fits (countsOf s) y (p .ranged) (p .known));
       modules = λ s y p h. module-ranged s h y (module-fits (countsOf s) y (p .known));
@@ -317,7 +317,7 @@ limits-kept : Keeps Limited
 limits-kept =
     record {
       names = λ s y p h. record { names = one-more (s .names) y 2048 (p .roomy); crates = h .crates; modules = h .modules; definitions = h .definitions };
-      crates = λ s y p h. record { names = h .names; crates = one-more (s .crates) y 64 (p .roomy); modules = h .modules; definitions = h .definitions };
+      crates = λ s y p h. record { names = h .names; crates = one-more (s .crates) y 64 (p .room); modules = h .modules; definitions = h .definitions };
       dependencies = λ s y p h. h;
       maps = λ s y p h. record { names = h .names; crates = h .crates; modules = h .modules; definitions = h .definitions };
       modules = λ s y p h. record { names = h .names; crates = h .crates; modules = one-more (s .modules) y 512 (p .roomy); definitions = h .definitions };

@@ -19,8 +19,8 @@ module _ (W A : List ℕ) (l : Layout) (v : Valid (snapOf W A l)) where
   pub ranges-read : Ranges (countsIn l) (snapOf W A l)
   ranges-read = subst (λ (n : Counts). Ranges n (snapOf W A l)) (counts-read W A l) (v .ranges)
 
-  pub crate-read : (k : ℕ) → k < l .crates → CrateFits (crateAt W (crateBase l + 1 * k))
-  crate-read k h = each-rows (λ k. crateAt W (crateBase l + 1 * k)) (l .crates) k (ranges-read .crates) h
+  pub crate-read : (k : ℕ) → k < l .crates → CrateFits (crateAt W (crateBase l + 2 * k))
+  crate-read k h = each-rows (λ k. crateAt W (crateBase l + 2 * k)) (l .crates) k (ranges-read .crates) h
 
   pub dependency-read : (k : ℕ) → k < l .dependencies → DependencyFits (countsIn l) (dependencyAt W (dependencyBase l + 3 * k))
   dependency-read k h = each-rows (λ k. dependencyAt W (dependencyBase l + 3 * k)) (l .dependencies) k (ranges-read .dependencies) h

@@ -44,7 +44,7 @@ module _ (W A B : List ℕ) (l : Layout) (t : Tables W A l) (kept : Kept A B 0 4
       let q-maps = maps-stay in
       λ i. record {
         names = q-names i;
-        crates = recordsOf crateAt 1 W (crateBase l) (l .crates);
+        crates = recordsOf crateAt 2 W (crateBase l) (l .crates);
         dependencies = recordsOf dependencyAt 3 W (dependencyBase l) (l .dependencies);
         maps = q-maps i;
         modules = q-modules i;

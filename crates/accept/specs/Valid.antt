@@ -2,10 +2,10 @@
 use Prim.Native.Nat.{ℕ, suc, _+_, _≤_, _<_}
 use mathlib.Core.Path.{_≡_}
 use mathlib.Core.List.{List, [], _∷_}
-use mathlib.Core.Bool.{Bool, false}
+use mathlib.Core.Bool.{Bool, true, false}
 use lib.ListN.{length, getD}
 use Rattle.snapshot.specs.Records.{Name, Crate, Dependency, Map, Module, Child, Prelude, Definition, Scope, Import, Extern, Snapshot}
-use Rattle.record_rules.specs.Tests.{Counts, countsOf, noName, noMap, noModule, noDefinition, sameName, sameChild, samePrelude, sameEntry, sameExtern}
+use Rattle.record_rules.specs.Tests.{Counts, countsOf, noName, noMap, noModule, noDefinition, isEdition, sameName, sameChild, samePrelude, sameEntry, sameExtern}
 
 -- every element has P
 pub data Each {A : Type 0} (P : A → Type 0) : List A → Type 0 where
@@ -21,6 +21,7 @@ pub record NameFits (x : Name) : Type 0 where
 pub record CrateFits (x : Crate) : Type 0 where
   pub origin : x .origin ≤ 4
   pub noStd : x .noStd ≤ 1
+  pub edition : isEdition (x .edition) ≡ true
 
 pub record DependencyFits (n : Counts) (x : Dependency) : Type 0 where
   pub owner : x .owner < n .crates

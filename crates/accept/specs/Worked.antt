@@ -11,7 +11,7 @@ use Rattle.accept.specs.Verdict.{argumentsFrom, recordStep, stepAt, fini
 
 abbrev pub worked : List ℕ
 worked =
-    0x10000001 ∷ 0x61 ∷ 0x10000001 ∷ 0x66 ∷ 0x20000000 ∷ 0x40000000 ∷ 0 ∷ 0 ∷ 0x50000000 ∷ 0 ∷ 0x50000000 ∷ 1
+    0x10000001 ∷ 0x61 ∷ 0x10000001 ∷ 0x66 ∷ 0x20000000 ∷ 2021 ∷ 0x40000000 ∷ 0 ∷ 0 ∷ 0x50000000 ∷ 0 ∷ 0x50000000 ∷ 1
     ∷ 0x60000000 ∷ 1 ∷ 0x80000001 ∷ 1 ∷ 0 ∷ 0x80000004 ∷ 1 ∷ 0 ∷ 0x90000000 ∷ 0 ∷ 0 ∷ 0 ∷ 0 ∷ 0 ∷ 1
     ∷ 0x90000001 ∷ 1 ∷ 1 ∷ 1 ∷ 0 ∷ 0 ∷ 1 ∷ []
 
@@ -19,7 +19,7 @@ abbrev pub workedSnapshot : Snapshot
 workedSnapshot =
     record {
       names = record { bytes = 1; text = 0x61 ∷ [] } ∷ record { bytes = 1; text = 0x66 ∷ [] } ∷ [];
-      crates = record { origin = 0; noStd = 0 } ∷ [];
+      crates = record { origin = 0; noStd = 0; edition = 2021 } ∷ [];
       dependencies = [];
       maps = record { crate = 0; block = 0; noStd = 0 } ∷ [];
       modules = record { map = 0; parent = 0 } ∷ record { map = 0; parent = 1 } ∷ [];

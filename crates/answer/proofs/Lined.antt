@@ -29,12 +29,12 @@ module _ (W A : List ℕ) (q : Question) (old : List ℕ) where
 
   module _ (room : 4166 ≤ length old) (new : List ℕ) (n : ℕ) where
     -- the line of a report that is the answer's
-    lined : (B : List ℕ) (r : Report) → Answers W A q B r → Put old 0 (lineIn (snapshotOf (verdict W)) r ++ bytesOf "\n") new n
+    lined : (B : List ℕ) (r : Report) → Answers W A q B r → Put old 0 (lineIn (snapshotOf (verdict W)) (q .query .from) r ++ bytesOf "\n") new n
         → Lined W A q old B new n
     unfolding endedLine areaLined
     lined B r a p =
-        let e : lineIn (snapshotOf (verdict W)) r ++ bytesOf "\n" ≡ endedLine W (length A) q (length old) =
-        ap (λ x. lineIn (snapshotOf (verdict W)) x ++ bytesOf "\n") (a .report) ∙ sym (rw (endedLine, le-ltb _ _ room)) in
+        let e : lineIn (snapshotOf (verdict W)) (q .query .from) r ++ bytesOf "\n" ≡ endedLine W (length A) q (length old) =
+        ap (λ x. lineIn (snapshotOf (verdict W)) (q .query .from) x ++ bytesOf "\n") (a .report) ∙ sym (rw (endedLine, le-ltb _ _ room)) in
         let t = put-as e p in
         let c = t .next in
         record {
@@ -43,8 +43,8 @@ module _ (W A : List ℕ) (q : Question) (old : List ℕ) where
           area = a .area ∙ sym (rw (areaLined, le-ltb _ _ room));
         }
 
-    pub lined-small : length A < 16384 → ((s : Snapshot) → Put old 0 (lineIn s (refused 20) ++ bytesOf "\n") new n) → Lined W A q old A new n
-    lined-small h p = lined A (refused 20) (answers-small W A q (refused 20) h refl) (p (snapshotOf (verdict W)))
+    pub lined-small : length A < 16384 → ((s : Snapshot) (from : ℕ) → Put old 0 (lineIn s from (refused 20) ++ bytesOf "\n") new n) → Lined W A q old A new n
+    lined-small h p = lined A (refused 20) (answers-small W A q (refused 20) h refl) (p (snapshotOf (verdict W)) (q .query .from))
 
     pub lined-large : (B : List ℕ) → 16384 ≤ length A → B ≡ zeros 16384 → Put old 0 (lineOf W q ++ bytesOf "\n") new n
         → Lined W A q old (B ++ drop 16384 A) new n

@@ -14,7 +14,7 @@ use Rattle.answer.specs.Answers.{areaAfter}
 -- the line of a question and its end, with a work area of so many words; nothing where there is no room for the longest line
 unfoldable pub endedLine : List ℕ → ℕ → Question → ℕ → List ℕ
 endedLine W area q room =
-    elim (ltb room 4166) [ true ↦ [] | false ↦ lineIn (snapshotOf (verdict W)) (reportOf W area q) ++ bytesOf "\n" ]
+    elim (ltb room 4166) [ true ↦ [] | false ↦ lineIn (snapshotOf (verdict W)) (q .query .from) (reportOf W area q) ++ bytesOf "\n" ]
 
 unfoldable pub areaLined : List ℕ → ℕ → List ℕ
 areaLined A room = elim (ltb room 4166) [ true ↦ A | false ↦ areaAfter A ]

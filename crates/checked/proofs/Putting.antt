@@ -45,21 +45,21 @@ module _ (W : List ℕ) (q : Question) where
 
     module _ (old new : List ℕ) (t : ℕ) where
       pub line-refused : (n place : ℕ) → c ≡ Refused n place
-          → ((s : Snapshot) → Put old 0 (lineIn s (refused (r .number)) ++ bytesOf "\n") new t) → LineOn W q c A old new t
+          → ((s : Snapshot) (from : ℕ) → Put old 0 (lineIn s from (refused (r .number)) ++ bytesOf "\n") new t) → LineOn W q c A old new t
       unfolding lineOf
       line-refused n place e p =
           let v : verdict W ≡ refuse n place = sym (subst (λ (x : Checked). Judged W A x) e (a .checked) .same) in
           let u : refused (r .number) ≡ reportOf W 16384 q = ap (λ (x : Report). refused (x .number)) (a .report) ∙ sym (refusal-only n place v) in
           record {
-            line = put-as (ap (λ x. lineIn (snapshotOf (verdict W)) x ++ bytesOf "\n") u) (p (snapshotOf (verdict W)));
+            line = put-as (ap (λ x. lineIn (snapshotOf (verdict W)) (q .query .from) x ++ bytesOf "\n") u) (p (snapshotOf (verdict W)) (q .query .from));
             checked = a .checked;
           }
 
-      pub line-accepted : (l : Layout) → c ≡ Accepted l → Put old 0 (lineIn (snapOf W A l) r ++ bytesOf "\n") new t → LineOn W q c A old new t
+      pub line-accepted : (l : Layout) → c ≡ Accepted l → Put old 0 (lineIn (snapOf W A l) (q .query .from) r ++ bytesOf "\n") new t → LineOn W q c A old new t
       unfolding lineOf snapshotOf
       line-accepted l e p =
           let v : snapOf W A l ≡ snapshotOf (verdict W) = ap snapshotOf (subst (λ (x : Checked). Judged W A x) e (a .checked) .same) in
           record {
-            line = put-as (ap₂ (λ x y. lineIn x y ++ bytesOf "\n") v (a .report)) p;
+            line = put-as (ap₂ (λ x y. lineIn x (q .query .from) y ++ bytesOf "\n") v (a .report)) p;
             checked = a .checked;
           }

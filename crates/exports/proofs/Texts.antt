@@ -1,7 +1,8 @@
--- The text of a name.
+-- The text of a name, and whether an edition writes it with `r#`.
 use Prim.Native.Nat.{ℕ, zero, suc, _+_, _*_, _≤_, _<_}
 use mathlib.Core.Path.{_≡_, refl, sym, _∙_, ap, ap₂}
 use mathlib.Core.List.{List, [], _∷_, _++_}
+use mathlib.Core.Bool.{Bool, false}
 use native.Mathlib.Omega.{arith}
 use native.Mathlib.Numerals.{add-one}
 use borrow.Author.Tests.{lt-ltb, le-ltb}
@@ -13,9 +14,10 @@ use Rattle.snapshot.specs.Layouts.{nameHead, snapOf}
 use Rattle.snapshot.specs.declared.layout.Layout.{Layout}
 use Rattle.snapshot.proofs.Laws.{getD-rows}
 use Rattle.find_path.specs.Choices.{nameData, nameLen}
+use Rattle.keywords.specs.Keywords.{isRaw}
 use Rattle.find_path.specs.Line.{unpacked}
 use Rattle.line.proofs.Laws.{length-unpacked, name-text}
-use Rattle.exports.specs.Texts.{textFrom, nameText, Copied, Named}
+use Rattle.exports.specs.Texts.{textFrom, nameText, Copied, Named, nameRaw, RawNamed}
 
 -- how many bytes the words hold
 pub held-all : (ws : List ℕ) (b : ℕ) → wordsOf b ≤ length ws → b ≡ length (take b (unpacked ws))
@@ -111,11 +113,35 @@ unfolding nameData
 name-bytes W A l k h =
     ap (λ x. x .bytes) (sym (getD-rows (λ j. nameAt W (nameHead A j)) (record { bytes = 0; text = [] }) (l .names) k h))
 
+head-kept : (T A : List ℕ) (k : ℕ) → T ≡ take (length T) A → k < length T → nameHead T k ≡ nameHead A k
+head-kept T A k e q = ap (λ x. getD x k 0) e ∙ getD-take (length T) A k 0 q
+
 -- the text is the snapshot's
 pub named : (W T : List ℕ) (k : ℕ) → Named W T k (nameText W T k)
 named W T k A l r e g h =
     let q : k < length T = omega arith in
-    let p : nameHead T k ≡ nameHead A k = ap (λ x. getD x k 0) e ∙ getD-take (length T) A k 0 q in
+    let p = head-kept T A k e q in
     sym (name-some W T k q)
     ∙ ap (textFrom W) p
     ∙ name-text W A l r k h (textAt W (nameHead A k)) (payOf (getD W (nameHead A k) 0)) refl (name-bytes W A l k h)
+
+-- `r#`
+
+pub raw-none : (W T : List ℕ) (k e : ℕ) → length T ≤ k → false ≡ nameRaw W T k e
+unfolding nameRaw
+raw-none W T k e h = rw (nameRaw, le-ltb _ _ h)
+
+raw-some : (W T : List ℕ) (k e : ℕ) → k < length T → isRaw e (nameAt W (nameHead T k)) ≡ nameRaw W T k e
+unfolding nameRaw
+raw-some W T k e h = rw (nameRaw, lt-ltb _ _ h)
+
+pub raw-there : (W T : List ℕ) (k e : ℕ) {h : ℕ} {b : Bool} → k < length T → h ≡ nameHead T k → b ≡ isRaw e (nameAt W h) → b ≡ nameRaw W T k e
+raw-there W T k e q p r = r ∙ ap (λ x. isRaw e (nameAt W x)) p ∙ raw-some W T k e q
+
+pub raw-named : (W T : List ℕ) (k e : ℕ) → RawNamed W T k e
+unfolding nameData
+raw-named W T k e A l r f g h =
+    let q : k < length T = omega arith in
+    sym (raw-some W T k e q)
+    ∙ ap (λ x. isRaw e (nameAt W x)) (head-kept T A k f q)
+    ∙ ap (isRaw e) (sym (getD-rows (λ j. nameAt W (nameHead A j)) (record { bytes = 0; text = [] }) (l .names) k h))

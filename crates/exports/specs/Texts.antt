@@ -1,14 +1,17 @@
--- The text of a name, by the tables that the check left.
+-- The text of a name, and whether an edition writes it with `r#`, by the tables that the check left.
 use Prim.Native.Nat.{ℕ, _≤_, _<_}
 use mathlib.Core.Path.{_≡_}
 use mathlib.Core.List.{List, [], _++_}
-use mathlib.Core.Bool.{true, false}
+use mathlib.Core.Bool.{Bool, true, false}
 use lib.Dec.{ltb}
 use lib.ListN.{length, getD, take, drop}
 use Rattle.snapshot.specs.Words.{payOf, textAt}
+use Rattle.snapshot.specs.Records.{nameAt}
 use Rattle.snapshot.specs.Layouts.{nameHead, snapOf}
 use Rattle.snapshot.specs.declared.layout.Layout.{Layout}
+use Rattle.keywords.specs.Keywords.{isRaw}
 use Rattle.accept.specs.Post.{Reads}
+use Rattle.find_path.specs.Choices.{nameData}
 use Rattle.find_path.specs.Line.{unpacked, textOf}
 
 -- the bytes of the name with its head at a place, as far as the words go
@@ -30,3 +33,13 @@ abbrev pub Named : List ℕ → List ℕ → ℕ → List ℕ → Type 0
 Named W T k text =
     (A : List ℕ) (l : Layout) → Reads W A l → T ≡ take (length T) A → l .names ≤ length T → k < l .names
     → text ≡ textOf (snapOf W A l) k
+
+-- whether an edition writes the name with `r#`; a number past the heads names nothing
+unfoldable pub nameRaw : List ℕ → List ℕ → ℕ → ℕ → Bool
+nameRaw W T k e = elim (ltb k (length T)) [ true ↦ isRaw e (nameAt W (nameHead T k)) | false ↦ false ]
+
+-- with tables as for `Named`, it is asked of the snapshot's name
+abbrev pub RawNamed : List ℕ → List ℕ → ℕ → ℕ → Type 0
+RawNamed W T k e =
+    (A : List ℕ) (l : Layout) → Reads W A l → T ≡ take (length T) A → l .names ≤ length T → k < l .names
+    → nameRaw W T k e ≡ isRaw e (nameData (snapOf W A l) k)

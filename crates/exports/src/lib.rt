@@ -1,9 +1,10 @@
 //! The functions of the static library, for programs in Rust and C. None keeps a state but the one that the caller lends, and none asks
 //! anything of its caller.
+ghost use mathlib.Core.Path.{_≡_};
 ghost use Rattle.batch.specs.Batch.{Batch};
 ghost use Rattle.exports.specs.Answers.{Answered};
 ghost use Rattle.exports.specs.Questions.{Reported};
-ghost use Rattle.exports.specs.Texts.{nameText, Copied, Named};
+ghost use Rattle.exports.specs.Texts.{nameText, Copied, Named, nameRaw, RawNamed};
 ghost use Rattle.exports.specs.Turns.{Served};
 ghost use Rattle.questions.specs.Questions.{questionOf};
 ghost use Rattle.windows.specs.Windows.{Placed};
@@ -17,6 +18,7 @@ use accept::check::check;
 use answer::answer::find_path;
 use answer::report::write_report;
 use batch::batch::find_paths;
+use keywords::is_raw;
 use questions::question::question_of;
 use snapshot::ids::Name;
 use snapshot::table::name_head;
@@ -86,6 +88,24 @@ pub extern "C" fn kelumavor_name(
     }
     copy_text(out, text, n);
     n
+}
+
+/// Whether an edition writes a name with `r#` in front of its text: the edition of the viewing module's crate. The tables are those of
+/// `kelumavor_name`.
+#[no_mangle]
+pub extern "C" fn kelumavor_is_raw(
+    words: &[u32],
+    tables: &[u32],
+    name: usize,
+    edition: usize,
+) -> bool
+    ensures { λ r. ⌜ r ≡ nameRaw (now (words .entry)) (now (tables .entry)) name edition ⌝ }
+    ensures { λ _. ⌜ RawNamed (now (words .entry)) (now (tables .entry)) name edition ⌝ }
+{
+    if name < tables.len() {
+        return is_raw(words, name_head(tables, Name(name)), edition);
+    }
+    false
 }
 
 /// Answers a question on a snapshot, and writes the report, a word a field, where there is room for all of it; answers whether

@@ -1,4 +1,4 @@
--- No number of a refusal is above 46, nor above 36 for the words.
+-- No number of a refusal is above 46.
 use mathlib.Core.Path.{_≡_}
 use Prim.Native.Nat.{ℕ, zero, suc, _+_, _≤_, _<_}
 use native.Mathlib.Omega.{arith}
@@ -11,8 +11,8 @@ use Rattle.snapshot.specs.Limits.{wordLimit, crateLimit, moduleLimit, nameLimit
 use Rattle.snapshot.specs.Words.{kindOf, argumentsAt}
 use Rattle.snapshot.specs.Lists.{any}
 use Rattle.snapshot.specs.Records.{Snapshot, Name, Crate, Dependency, Map, Module, Child, Prelude, Definition, Scope, Import, Extern, nameAt, crateAt, dependencyAt, mapAt, moduleAt, childAt, preludeAt, definitionAt, scopeAt, importAt, externAt}
-use Rattle.accept.specs.Tests.{countsOf, nameRange, sameName, crateRange, dependencyRange, dependencyDefined, mapRange, mapDefined, mapRepeated, mapPlaced, moduleDefined, modulePlaced, childDefined, sameChild, childPlaced, preludeDefined, samePrelude, definitionRange, definitionDefined, definitionRepeated, definitionPlaced, scopeRange, scopeDefined, sameEntry, nsPlaced, importRange, importDefined, externDefined, sameExtern, mapsFilled, cratesOwn}
-use Rattle.accept.specs.Steps.{Next, no, on, need, judge, addName, addCrate, addDependency, addMap, addModule, addChild, addPrelude, addDefinition, addScope, addImport, addExtern, nameStep, crateStep, dependencyStep, mapStep, moduleStep, childStep, preludeStep, definitionStep, scopeStep, importStep, externStep}
+use Rattle.accept.specs.Tests.{countsOf, nameRange, sameName, crateRange, isEdition, dependencyRange, dependencyDefined, mapRange, mapDefined, mapRepeated, mapPlaced, moduleDefined, modulePlaced, childDefined, sameChild, childPlaced, preludeDefined, samePrelude, definitionRange, definitionDefined, definitionRepeated, definitionPlaced, scopeRange, scopeDefined, sameEntry, nsPlaced, importRange, importDefined, externDefined, sameExtern, mapsFilled, cratesOwn}
+use Rattle.accept.specs.Steps.{Next, no, on, need, judge, judgeCrate, addName, addCrate, addDependency, addMap, addModule, addChild, addPrelude, addDefinition, addScope, addImport, addExtern, nameStep, crateStep, dependencyStep, mapStep, moduleStep, childStep, preludeStep, definitionStep, scopeStep, importStep, externStep}
 use Rattle.accept.specs.Verdict.{follows, argumentsFrom, recordStep, stepAt, Verdict, refuse, accept, finish, records, empty, verdict}
 use Rattle.accept.proofs.Accepted.{by-test}
 use Rattle.accept.proofs.Bools.{or-none}
@@ -23,14 +23,14 @@ use Rattle.find_path.specs.Report.{callFault, questionFault}
 -- of a record that is refused, and of words
 
 abbrev NextSmall : Next → Type 0
-NextSmall (no n) = n ≤ 36
+NextSmall (no n) = n ≤ 46
 NextSmall (on s) = Unit {0}
 
 abbrev pub NumberSmall : Verdict → Type 0
-NumberSmall (refuse n place) = n ≤ 36
+NumberSmall (refuse n place) = n ≤ 46
 NumberSmall (accept s) = Unit {0}
 
-need-small : (b : Bool) (n : ℕ) (r : Next) → n ≤ 36 → NextSmall r → NextSmall (need b n r)
+need-small : (b : Bool) (n : ℕ) (r : Next) → n ≤ 46 → NextSmall r → NextSmall (need b n r)
 need-small true n r h k = k
 need-small false n r h k = h
 
@@ -38,6 +38,10 @@ judge-small : (range defined repeated placed room : Bool) (s : Snapshot) → Nex
 judge-small range defined repeated placed room s =
     need-small range 32 _ (omega arith) (need-small defined 33 _ (omega arith)
     (need-small (not repeated) 34 _ (omega arith) (need-small placed 35 _ (omega arith) (need-small room 36 (on s) (omega arith) tt))))
+
+judge-crate-small : (range edition room : Bool) (s : Snapshot) → NextSmall (judgeCrate range edition room s)
+judge-crate-small range edition room s =
+    need-small range 32 _ (omega arith) (need-small edition 43 _ (omega arith) (need-small room 36 (on s) (omega arith) tt))
 
 either-next : (b : Bool) (x y : Next) → NextSmall x → NextSmall y → NextSmall (elim b [ true ↦ x | false ↦ y ])
 either-next true x y h k = h
@@ -51,7 +55,7 @@ name-small s x =
 crate-small : (s : Snapshot) (x : Crate) → NextSmall (crateStep s x)
 unfolding crateStep
 crate-small s x =
-    judge-small (crateRange x) true false true (ltb (length (s .crates)) crateLimit) (addCrate s x)
+    judge-crate-small (crateRange x) (isEdition (x .edition)) (ltb (length (s .crates)) crateLimit) (addCrate s x)
 
 dependency-small : (s : Snapshot) (x : Dependency) → NextSmall (dependencyStep s x)
 unfolding dependencyStep

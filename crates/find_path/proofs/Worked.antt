@@ -1,12 +1,13 @@
--- Document 01's fourteen worked cases, and more on four further snapshots: one table each of questions and lines.
+-- Document 01's fourteen worked cases, and more on five further snapshots: one table each of questions and lines.
 use Prim.Native.Nat.{ℕ, _+_, _*_}
 use Prim.Native.String.{String}
 use mathlib.Core.Path.{_≡_, refl}
 use mathlib.Core.List.{List, [], _∷_, _++_}
-use mathlib.Core.Bool.{Bool, true}
+use mathlib.Core.Bool.{Bool, true, _&&_}
 use lib.ListN.{length}
 use Rattle.snapshot.specs.Lists.{rows, any, all, eqList}
 use Rattle.snapshot.specs.Words.{argumentsOf}
+use Rattle.keywords.specs.Keywords.{isKeyword, isRaw}
 use Rattle.accept.specs.Tests.{textBound, padded}
 use Rattle.accept.specs.Steps.{nameStep, crateStep, dependencyStep, mapStep, moduleStep, childStep, preludeStep, definitionStep, scopeStep, importStep, externStep}
 use Rattle.accept.specs.Builtins.{packed}
@@ -27,7 +28,7 @@ use Rattle.find_path.specs.Meters.{drained, draw, fromTank, filled}
 use Rattle.find_path.specs.Charged.{langs, oneOrNone, isAt, variantOf, offerImport, findImport, findImports, findInDep, findInDeps, findInSysroot, goOn, afterCharge, calculateBestPath, orCharged, findPathForModule, afterEnum, viaEnum, orEnum, byName, ofModule, findPathInner}
 use Rattle.find_path.specs.Search.{localTo, searchLocal, bestLocal, moduleTo, searchModule, itemTo, searchItem, fromHome, fromItem, findPath}
 use Rattle.find_path.specs.Report.{callFault, questionFault, refused, flag, reported, searched, answerUnless, reportBy, reportUnless, reportOf}
-use Rattle.find_path.specs.Line.{bytesOf, unpacked, textOf, decimalTo, decimal, joined, prefixParts, pathText, lineParts, lineIn, snapshotOf, lineOf}
+use Rattle.find_path.specs.Line.{bytesOf, unpacked, textOf, editionIn, writtenOf, decimalTo, decimal, joined, prefixParts, pathText, lineParts, lineIn, snapshotOf, lineOf}
 
 pub record Row : Type 0 where
   pub question : Question
@@ -44,7 +45,7 @@ row d ns m p o f l = rowAt d ns m p o f 15 l
 
 -- the lines are those of the questions
 unfoldable pub passes : List ℕ → List Row → Bool
-unfolding lineOf snapshotOf lineIn lineParts pathText prefixParts joined decimal decimalTo textOf unpacked reportOf reportUnless reportBy answerUnless searched reported flag refused questionFault callFault findPath fromItem fromHome searchItem itemTo searchModule moduleTo bestLocal searchLocal localTo findPathInner ofModule byName orEnum viaEnum afterEnum findPathForModule orCharged calculateBestPath afterCharge goOn findInSysroot findInDeps findInDep findImports findImport offerImport isAt variantOf oneOrNone langs fromTank filled draw drained findPathForModuleLocal orLocal calculateBestPathLocal eachLocation location importableName nameIf offer moduleRules keywordOf isKwKindRelativeToFrom parentKind rootRule externName externKind occupied isOther scopeEntry entryNamed preludeRule findInPrelude inPrelude preludeEntry sameHere scopeRule mayBeInScope findInScope single entryName firstFound soughtOf contextOf moduleIn plainIf prefixPathKind findLocalImportLocations walk unmet leadsTo startFrom visited has lengthLeft shorterIf trySelect better taken comparePrelude andThen compareBool unstably push extended choiceNew keyword pathLen pathKindLen isPrelude nameData importInfoFor sysrootFirst langOf dependenciesOf externOf preludeOf childrenOf containers ancestorMaps steps stepsTo stepsOr modulesInScope get preferred orFirst namesOf nameOf isFor isVisibleFrom inModule climb climbStep unless met metTo metOr last lastTo lastOr homeOf homeBy nsOf sameItem itemOf containing orElse crateRoot ownMap rootOf crateData definitionOf mapOf moduleOf firstSome select placeOf firstOf verdict records stepAt recordStep finish argumentsFrom argumentsOf nameStep crateStep dependencyStep mapStep moduleStep childStep preludeStep definitionStep scopeStep importStep externStep textBound padded rows any all eqList
+unfolding lineOf snapshotOf lineIn lineParts pathText prefixParts joined decimal decimalTo writtenOf editionIn isRaw isKeyword textOf unpacked reportOf reportUnless reportBy answerUnless searched reported flag refused questionFault callFault findPath fromItem fromHome searchItem itemTo searchModule moduleTo bestLocal searchLocal localTo findPathInner ofModule byName orEnum viaEnum afterEnum findPathForModule orCharged calculateBestPath afterCharge goOn findInSysroot findInDeps findInDep findImports findImport offerImport isAt variantOf oneOrNone langs fromTank filled draw drained findPathForModuleLocal orLocal calculateBestPathLocal eachLocation location importableName nameIf offer moduleRules keywordOf isKwKindRelativeToFrom parentKind rootRule externName externKind occupied isOther scopeEntry entryNamed preludeRule findInPrelude inPrelude preludeEntry sameHere scopeRule mayBeInScope findInScope single entryName firstFound soughtOf contextOf moduleIn plainIf prefixPathKind findLocalImportLocations walk unmet leadsTo startFrom visited has lengthLeft shorterIf trySelect better taken comparePrelude andThen compareBool unstably push extended choiceNew keyword pathLen pathKindLen isPrelude nameData importInfoFor sysrootFirst langOf dependenciesOf externOf preludeOf childrenOf containers ancestorMaps steps stepsTo stepsOr modulesInScope get preferred orFirst namesOf nameOf isFor isVisibleFrom inModule climb climbStep unless met metTo metOr last lastTo lastOr homeOf homeBy nsOf sameItem itemOf containing orElse crateRoot ownMap rootOf crateData definitionOf mapOf moduleOf firstSome select placeOf firstOf verdict records stepAt recordStep finish argumentsFrom argumentsOf nameStep crateStep dependencyStep mapStep moduleStep childStep preludeStep definitionStep scopeStep importStep externStep textBound padded rows any all eqList
 passes words table = all (λ r. eqList (lineOf words (r .question)) (bytesOf (r .line))) table
 
 -- module 0 is the root, module 1 its child `a`, definition 0 the module `a`, definition 1 a function `f` in it
@@ -89,7 +90,7 @@ pub withDependency : List ℕ
 withDependency =
     named "dep" ++ named "alias" ++ named "m" ++ named "inner" ++ named "T" ++ named "V" ++ named "u8" ++ named "U"
     ++ named "W" ++ named "H" ++ named "k"
-    ++ (head 2 0 ∷ head 2 0 ∷ head 3 0 ∷ 1 ∷ 0
+    ++ (head 2 0 ∷ 2021 ∷ head 2 0 ∷ 2021 ∷ head 3 0 ∷ 1 ∷ 0
     -- maps, modules, children
     ∷ head 4 0 ∷ 0 ∷ 0 ∷ head 5 0 ∷ 0 ∷ head 5 0 ∷ 1 ∷ head 4 1 ∷ 0 ∷ 0 ∷ head 5 1 ∷ 0 ∷ head 5 1 ∷ 3 ∷ head 5 1 ∷ 3
     ∷ head 6 0 ∷ 1 ∷ head 6 2 ∷ 3 ∷ head 6 2 ∷ 4
@@ -163,7 +164,7 @@ dependency-cases = refl
 pub withStd : List ℕ
 withStd =
     named "core" ++ named "std" ++ named "O" ++ named "P" ++ named "m" ++ named "U"
-    ++ (head 2 0 ∷ head 2 1 ∷ head 2 3 ∷ head 3 0 ∷ 2 ∷ 1 ∷ head 3 0 ∷ 1 ∷ 1
+    ++ (head 2 0 ∷ 2021 ∷ head 2 1 ∷ 2021 ∷ head 2 3 ∷ 2021 ∷ head 3 0 ∷ 2 ∷ 1 ∷ head 3 0 ∷ 1 ∷ 1
     ∷ head 4 0 ∷ 0 ∷ 1 ∷ head 5 0 ∷ 0 ∷ head 4 1 ∷ 0 ∷ 0 ∷ head 5 1 ∷ 0 ∷ head 4 2 ∷ 0 ∷ 0 ∷ head 5 2 ∷ 0
     ∷ head 4 0 ∷ 1 ∷ 0 ∷ head 5 3 ∷ 0
     ∷ head 7 3 ∷ 2
@@ -209,7 +210,7 @@ pub withModules : List ℕ
 withModules =
     named "a" ++ named "b" ++ named "prelude" ++ named "d" ++ named "inner" ++ named "e" ++ named "x" ++ named "y"
     ++ named "xx" ++ named "yyyyyyyyyy" ++ named "s" ++ named "t" ++ named "u" ++ named "v" ++ named "w"
-    ++ (head 2 0
+    ++ (head 2 0 ∷ 2021
     -- maps, modules, children, prelude
     ∷ head 4 0 ∷ 0 ∷ 0 ∷ head 5 0 ∷ 0 ∷ head 5 0 ∷ 1 ∷ head 5 0 ∷ 1 ∷ head 5 0 ∷ 1 ∷ head 5 0 ∷ 1 ∷ head 5 0 ∷ 2 ∷ head 5 0 ∷ 2
     ∷ head 4 0 ∷ 2 ∷ 0 ∷ head 5 1 ∷ 0 ∷ head 5 1 ∷ 8 ∷ head 5 1 ∷ 8
@@ -283,6 +284,71 @@ pub module-cases : passes withModules moduleCases ≡ true
 unfolding passes moduleCases rowAt withModules named head
 module-cases = refl
 
+-- Keywords. Crate 0 is of the edition given and depends on crate 1, of 2024. Modules: 0 the root of crate 0, 1 to 5 its children `type`,
+-- `async`, `gen`, `union` and `self`, 6 the root of crate 1. Definitions: 0 to 4 these children, 5 to 9 an item `f` in each, 10 an item
+-- `gen` in the root of crate 1, which exports it.
+pub withKeywords : ℕ → List ℕ
+withKeywords e =
+    named "type" ++ named "async" ++ named "gen" ++ named "union" ++ named "self" ++ named "f" ++ named "dep"
+    ++ (head 2 0 ∷ e ∷ head 2 0 ∷ 2024 ∷ head 3 0 ∷ 1 ∷ 0
+    ∷ head 4 0 ∷ 0 ∷ 0 ∷ head 5 0 ∷ 0 ∷ head 5 0 ∷ 1 ∷ head 5 0 ∷ 1 ∷ head 5 0 ∷ 1 ∷ head 5 0 ∷ 1 ∷ head 5 0 ∷ 1
+    ∷ head 4 1 ∷ 0 ∷ 0 ∷ head 5 1 ∷ 0
+    ∷ head 6 0 ∷ 1 ∷ head 6 0 ∷ 2 ∷ head 6 0 ∷ 3 ∷ head 6 0 ∷ 4 ∷ head 6 0 ∷ 5
+    ∷ head 8 1 ∷ 1 ∷ 0 ∷ head 8 1 ∷ 2 ∷ 0 ∷ head 8 1 ∷ 3 ∷ 0 ∷ head 8 1 ∷ 4 ∷ 0 ∷ head 8 1 ∷ 5 ∷ 0
+    ∷ head 8 4 ∷ 1 ∷ 0 ∷ head 8 4 ∷ 2 ∷ 0 ∷ head 8 4 ∷ 3 ∷ 0 ∷ head 8 4 ∷ 4 ∷ 0 ∷ head 8 4 ∷ 5 ∷ 0 ∷ head 8 4 ∷ 6 ∷ 0
+    ∷ head 9 0 ∷ 0 ∷ 0 ∷ 0 ∷ 0 ∷ 0 ∷ 1 ∷ head 9 0 ∷ 0 ∷ 1 ∷ 1 ∷ 0 ∷ 0 ∷ 1 ∷ head 9 0 ∷ 0 ∷ 2 ∷ 2 ∷ 0 ∷ 0 ∷ 1
+    ∷ head 9 0 ∷ 0 ∷ 3 ∷ 3 ∷ 0 ∷ 0 ∷ 1 ∷ head 9 0 ∷ 0 ∷ 4 ∷ 4 ∷ 0 ∷ 0 ∷ 1
+    ∷ head 9 1 ∷ 0 ∷ 5 ∷ 5 ∷ 0 ∷ 0 ∷ 1 ∷ head 9 2 ∷ 0 ∷ 5 ∷ 6 ∷ 0 ∷ 0 ∷ 1 ∷ head 9 3 ∷ 0 ∷ 5 ∷ 7 ∷ 0 ∷ 0 ∷ 1
+    ∷ head 9 4 ∷ 0 ∷ 5 ∷ 8 ∷ 0 ∷ 0 ∷ 1 ∷ head 9 5 ∷ 0 ∷ 5 ∷ 9 ∷ 0 ∷ 0 ∷ 1 ∷ head 9 6 ∷ 0 ∷ 2 ∷ 10 ∷ 0 ∷ 0 ∷ 1
+    ∷ head 10 1 ∷ 0 ∷ 10 ∷ 2 ∷ 6 ∷ 0 ∷ head 11 0 ∷ 6 ∷ 6 ∷ [])
+
+-- strict in every edition; weak; and what cannot be raw
+pub keywordsAlways : List Row
+keywordsAlways =
+    row 5 0 0 1 0 9 "found r#type::f 1 0"
+    ∷ row 0 0 0 0 0 9 "found self::r#type 0 0"
+    ∷ row 5 0 0 2 0 9 "found crate::r#type::f 1 0"
+    ∷ row 8 0 0 1 0 9 "found union::f 1 0"
+    ∷ row 9 0 0 1 0 9 "found self::f 1 0"
+    -- by the edition of the viewer's crate
+    ∷ row 10 0 6 1 0 9 "found r#gen 0 0"
+    -- a refusal, and no path, are not written in an edition
+    ∷ row 5 0 7 1 0 9 "refused 23 0 0"
+    ∷ row 5 1 0 1 0 9 "none - 1 0"
+    ∷ []
+
+pub keywords2015 : List Row
+keywords2015 =
+    row 6 0 0 1 0 9 "found async::f 1 0"
+    ∷ row 7 0 0 1 0 9 "found gen::f 1 0"
+    ∷ row 10 0 0 1 0 9 "found dep::gen 1 0"
+    ∷ []
+
+-- strict from 2018 on, and reserved from 2024 on
+pub keywords2018 : List Row
+keywords2018 =
+    row 6 0 0 1 0 9 "found r#async::f 1 0"
+    ∷ row 7 0 0 1 0 9 "found gen::f 1 0"
+    ∷ row 10 0 0 1 0 9 "found dep::gen 1 0"
+    ∷ []
+
+pub keywords2024 : List Row
+keywords2024 =
+    row 6 0 0 1 0 9 "found r#async::f 1 0"
+    ∷ row 7 0 0 1 0 9 "found r#gen::f 1 0"
+    ∷ row 10 0 0 1 0 9 "found dep::r#gen 1 0"
+    ∷ []
+
+pub keyword-cases :
+    (passes (withKeywords 2015) (keywordsAlways ++ keywords2015)
+    && passes (withKeywords 2018) (keywordsAlways ++ keywords2018)
+    && passes (withKeywords 2021) (keywordsAlways ++ keywords2018)
+    && passes (withKeywords 2024) (keywordsAlways ++ keywords2024)
+    && passes (withKeywords 2022) (row 5 0 0 1 0 9 "refused 43 0 0" ∷ []))
+    ≡ true
+unfolding passes keywordsAlways keywords2015 keywords2018 keywords2024 row withKeywords named head
+keyword-cases = refl
+
 -- The first charge that finds the tank empty: the length left, and the module looked for, +1.
 
 pub record First : Type 0 where
@@ -330,7 +396,7 @@ dependency-firsts = refl
 pub withCycle : List ℕ
 withCycle =
     named "a" ++ named "b"
-    ++ (head 2 0 ∷ head 2 0 ∷ head 3 0 ∷ 1 ∷ 0
+    ++ (head 2 0 ∷ 2021 ∷ head 2 0 ∷ 2021 ∷ head 3 0 ∷ 1 ∷ 0
     ∷ head 4 0 ∷ 0 ∷ 0 ∷ head 5 0 ∷ 0 ∷ head 4 1 ∷ 0 ∷ 0 ∷ head 5 1 ∷ 0 ∷ head 5 1 ∷ 2 ∷ head 5 1 ∷ 2 ∷ head 6 1 ∷ 2 ∷ head 6 1 ∷ 3
     ∷ head 8 1 ∷ 2 ∷ 0 ∷ head 8 1 ∷ 3 ∷ 0
     ∷ head 10 1 ∷ 0 ∷ 0 ∷ 0 ∷ 3 ∷ 0 ∷ head 10 1 ∷ 0 ∷ 1 ∷ 1 ∷ 2 ∷ 0 ∷ [])
@@ -350,7 +416,7 @@ cycle-firsts = refl
 pub withOldNames : List ℕ
 withOldNames =
     named "m" ++ named "p" ++ named "old" ++ named "new" ++ named "t" ++ named "u" ++ named "w" ++ named "x" ++ named "y" ++ named "z"
-    ++ (head 2 0
+    ++ (head 2 0 ∷ 2021
     -- maps, modules, children, prelude
     ∷ head 4 0 ∷ 0 ∷ 0 ∷ head 5 0 ∷ 0 ∷ head 5 0 ∷ 1 ∷ head 5 0 ∷ 1 ∷ head 4 0 ∷ 1 ∷ 0 ∷ head 5 1 ∷ 0
     ∷ head 6 0 ∷ 1 ∷ head 6 0 ∷ 2 ∷ head 7 0 ∷ 2

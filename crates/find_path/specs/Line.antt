@@ -5,10 +5,12 @@ use Prim.Native.String.{String}
 use mathlib.Core.List.{List, [], _∷_, _++_, map}
 use mathlib.Core.Bool.{true, false}
 use lib.Dec.{eqb, ltb}
-use lib.ListN.{take}
+use lib.ListN.{length, take}
 use Rattle.snapshot.specs.Limits.{areaLimit}
 use Rattle.snapshot.specs.Records.{Snapshot}
+use Rattle.keywords.specs.Keywords.{isRaw}
 use Rattle.accept.specs.Verdict.{Verdict, refuse, accept, verdict, empty}
+use Rattle.hir_def.specs.Items.{crateOf, crateData}
 use Rattle.find_path.specs.declared.Question.{Question}
 use Rattle.find_path.specs.declared.Report.{Report}
 use Rattle.find_path.specs.Choices.{selfPath, superPath, cratePath, absolutePath, nameData}
@@ -26,6 +28,14 @@ unpacked (w ∷ ws) = w % 256 ∷ w / 256 % 256 ∷ w / 65536 % 256 ∷ unpacked
 
 unfoldable pub textOf : Snapshot → ℕ → List ℕ
 textOf s n = take (nameData s n .bytes) (unpacked (nameData s n .text))
+
+-- the edition of a module's crate; 0 where there is no such module
+unfoldable pub editionIn : Snapshot → ℕ → ℕ
+editionIn s m = elim (ltb m (length (s .modules))) [ true ↦ crateData s (crateOf s m) .edition | false ↦ 0 ]
+
+-- the text of a name as an edition writes it
+unfoldable pub writtenOf : Snapshot → ℕ → ℕ → List ℕ
+writtenOf s e n = elim (isRaw e (nameData s n)) [ true ↦ bytesOf "r#" ++ textOf s n | false ↦ textOf s n ]
 
 -- a number in decimal; d + 1 digits are enough
 unfoldable pub decimalTo : ℕ → ℕ → List ℕ
@@ -55,22 +65,23 @@ prefixParts k =
       ]
     ]
 
-unfoldable pub pathText : Snapshot → Report → List ℕ
-pathText s r = joined (bytesOf "::") (prefixParts (r .kind) ++ map (textOf s) (take (r .count) (r .names)))
+unfoldable pub pathText : Snapshot → ℕ → Report → List ℕ
+pathText s e r = joined (bytesOf "::") (prefixParts (r .kind) ++ map (writtenOf s e) (take (r .count) (r .names)))
 
 -- outcome, path, charges, empty: `-` for none, the number for refused
-unfoldable pub lineParts : Snapshot → Report → List (List ℕ)
-lineParts s r =
+unfoldable pub lineParts : Snapshot → ℕ → Report → List (List ℕ)
+lineParts s e r =
     elim (eqb (r .outcome) 0) [
-      | true ↦ bytesOf "found" ∷ pathText s r ∷ []
+      | true ↦ bytesOf "found" ∷ pathText s e r ∷ []
       | false ↦ elim (eqb (r .outcome) 1) [
         | true ↦ bytesOf "none" ∷ bytesOf "-" ∷ []
         | false ↦ bytesOf "refused" ∷ decimal (r .number) ∷ []
       ]
     ]
 
-unfoldable pub lineIn : Snapshot → Report → List ℕ
-lineIn s r = joined (bytesOf " ") (lineParts s r ++ (decimal (r .charges) ∷ decimal (r .empty) ∷ []))
+-- as it is written in a module
+unfoldable pub lineIn : Snapshot → ℕ → Report → List ℕ
+lineIn s from r = joined (bytesOf " ") (lineParts s (editionIn s from) r ++ (decimal (r .charges) ∷ decimal (r .empty) ∷ []))
 
 -- the snapshot whose names are printed; a refused one has none
 unfoldable pub snapshotOf : Verdict → Snapshot
@@ -79,4 +90,4 @@ snapshotOf (accept s) = s
 
 -- the line of a question on the words of a snapshot, with a work area that serves
 unfoldable pub lineOf : List ℕ → Question → List ℕ
-lineOf words q = lineIn (snapshotOf (verdict words)) (reportOf words areaLimit q)
+lineOf words q = lineIn (snapshotOf (verdict words)) (q .query .from) (reportOf words areaLimit q)

@@ -5,7 +5,6 @@ use mathlib.Core.List.{List, [], _∷_, _++_, reverse, reverse-append}
 use mathlib.Core.Bool.{Bool, true, false, _&&_, not, and-true, or-true, false≢true}
 use mathlib.Core.Option.{Option, none, some}
 use native.Mathlib.Omega.{arith}
-use native.Mathlib.Nat.{one-mul}
 use lib.ListN.{length, getD, List·getD-eq-default}
 use lib.Dec.{eqb}
 use borrow.Author.Tests.{eq-eqb, ne-eqb}
@@ -48,12 +47,13 @@ pub crate-none : (W A : List ℕ) (l : Layout) (c : ℕ) → l .crates ≤ c →
 unfolding crateData
 crate-none W A l c h =
     let p = past W (length W) (omega arith) in
-    (λ i. record { origin = payOf (sym p i) % 8; noStd = payOf (sym p i) / 8 }) ∙ past-rows (λ k. crateAt W (crateBase l + 1 * k)) (l .crates) c _ h
+    let q = past W (length W + 1) (omega arith) in
+    (λ i. record { origin = payOf (sym p i) % 8; noStd = payOf (sym p i) / 8; edition = sym q i }) ∙ past-rows (λ k. crateAt W (crateBase l + 2 * k)) (l .crates) c _ h
 
-pub crate-there : (W A : List ℕ) (l : Layout) (c : ℕ) → c < l .crates → crateAt W (l .text + c) ≡ crateData (snapOf W A l) c
+pub crate-there : (W A : List ℕ) (l : Layout) (c : ℕ) → c < l .crates → crateAt W (l .text + 2 * c) ≡ crateData (snapOf W A l) c
 unfolding crateData
 crate-there W A l c h =
-    ap (λ x. crateAt W (l .text + x)) (sym (one-mul c)) ∙ sym (getD-rows (λ k. crateAt W (crateBase l + 1 * k)) _ (l .crates) c h)
+    sym (getD-rows (λ k. crateAt W (crateBase l + 2 * k)) _ (l .crates) c h)
 
 -- the item by the test of its definition
 module _ (s : Snapshot) (ns d : ℕ) {k : ℕ} (e : k ≡ definitionOf s d .kind) where

@@ -35,7 +35,7 @@ unfoldable pub definitionOf : Snapshot → ℕ → Definition
 definitionOf s d = getD (s .definitions) d (record { kind = 0; first = 0; second = 0 })
 
 unfoldable pub crateData : Snapshot → ℕ → Crate
-crateData s c = getD (s .crates) c (record { origin = 0; noStd = 0 })
+crateData s c = getD (s .crates) c (record { origin = 0; noStd = 0; edition = 0 })
 
 -- origins 1 core, 2 alloc, 3 std, 4 another language: `CrateOrigin::is_lang`
 abbrev pub isLang : Snapshot → ℕ → Bool

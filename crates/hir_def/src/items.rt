@@ -11,6 +11,7 @@ use crate::Item;
 use snapshot::ids::Crate;
 use snapshot::ids::DefinitionId;
 use snapshot::layout::Layout;
+use snapshot::record::crate_edition;
 use snapshot::record::crate_no_std;
 use snapshot::record::crate_origin;
 use snapshot::record::definition_first;
@@ -60,7 +61,7 @@ pub fn crate_head(words: &[u32], l: Layout, c: Crate) -> usize
     if l.crates <= c.0 {
         return words.len();
     }
-    l.text + c.0
+    l.text + 2 * c.0
 }
 
 /// The kind of a definition, 0 where there is none.
@@ -101,6 +102,14 @@ pub fn supports_no_std(words: &[u32], l: Layout, c: Crate) -> bool
     ensures { λ r. ⌜ ((A : List ℕ) → r ≡ eqb (crateData (snapOf (now (words .entry)) A l) (c .0) .noStd) 1) ⌝ }
 {
     crate_no_std(words, crate_head(words, l, c)) == 1
+}
+
+/// The edition of a crate, 0 where there is none.
+pub fn edition_of(words: &[u32], l: Layout, c: Crate) -> usize
+    requires { ⌜ wordCount l < 2 ^ 32 ⌝ }
+    ensures { λ r. ⌜ ((A : List ℕ) → r ≡ crateData (snapOf (now (words .entry)) A l) (c .0) .edition) ⌝ }
+{
+    crate_edition(words, crate_head(words, l, c))
 }
 
 /// Whether a crate is core, alloc, std or another language's.

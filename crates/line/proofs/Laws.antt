@@ -14,14 +14,17 @@ use Rattle.snapshot.specs.Records.{Name, Snapshot, nameAt}
 use Rattle.snapshot.specs.Layouts.{nameHead, snapOf}
 use Rattle.snapshot.specs.declared.layout.Layout.{Layout}
 use Rattle.snapshot.proofs.Laws.{getD-rows, length-rows, rows-part}
+use Rattle.keywords.specs.Keywords.{isRaw}
+use Rattle.keywords.proofs.Laws.{raw-short}
 use Rattle.accept.specs.Post.{Reads}
 use Rattle.accept.proofs.Accepted.{by-test}
 use Rattle.printing.specs.Output as P
 use Rattle.printing.proofs.Laws.{decimal-last, decimal-more as P-more}
+use Rattle.hir_def.specs.Items.{crateOf, crateData}
 use Rattle.find_path.specs.declared.Report.{Report}
 use Rattle.find_path.specs.Choices.{nameData, nameLen}
 use Rattle.find_path.specs.Report.{refused}
-use Rattle.find_path.specs.Line.{bytesOf, unpacked, textOf, decimalTo, decimal, joined, prefixParts, pathText, lineParts, lineIn}
+use Rattle.find_path.specs.Line.{bytesOf, unpacked, textOf, editionIn, writtenOf, decimalTo, decimal, joined, prefixParts, pathText, lineParts, lineIn}
 use Rattle.find_path.proofs.Lines.{decimal-digit, decimal-more}
 use Rattle.line.specs.Joints.{jointIf}
 
@@ -96,11 +99,44 @@ module _ (W A : List ℕ) (l : Layout) (r : Reads W A l) (n : ℕ) where
       ap₂ (λ x y. take x (unpacked y)) q
       (e ∙ sym (rows-part W (nameHead A n + 1) (wordsOf (payOf (getD W (nameHead A n) 0))) (within h)) ∙ ap (λ x. x .text) (name-read h))
 
-  pub no-name : l .names ≤ n → [] ≡ textOf (snapOf W A l) n
-  unfolding textOf nameData unpacked
-  no-name h =
+  nothing-there : l .names ≤ n → nameData (snapOf W A l) n ≡ record { bytes = 0; text = [] }
+  unfolding nameData
+  nothing-there h =
       let z : length (snapOf W A l .names) ≤ n = rw (length-rows (λ k. nameAt W (nameHead A k)) (l .names)) h in
-      sym (ap (λ (x : Name). take (x .bytes) (unpacked (x .text))) (List·getD-eq-default (snapOf W A l .names) (record { bytes = 0; text = [] }) z))
+      List·getD-eq-default (snapOf W A l .names) (record { bytes = 0; text = [] }) z
+
+  -- the name as an edition writes it
+  module _ (e : ℕ) where
+    pub raw-read : n < l .names → {b : Bool} {h : ℕ} → b ≡ isRaw e (nameAt W h) → h ≡ nameHead A n → b ≡ isRaw e (nameData (snapOf W A l) n)
+    raw-read h p q = p ∙ ap (λ k. isRaw e (nameAt W k)) q ∙ ap (isRaw e) (name-read h)
+
+    pub raw-few : isRaw e (nameData (snapOf W A l) n) ≡ true → {b : ℕ} → b ≡ nameLen (snapOf W A l) n → b ≤ 8
+    raw-few p q = let s = raw-short e (nameData (snapOf W A l) n) p .few in omega arith
+
+    pub written-raw : isRaw e (nameData (snapOf W A l) n) ≡ true → bytesOf "r#" ++ textOf (snapOf W A l) n ≡ writtenOf (snapOf W A l) e n
+    unfolding writtenOf
+    written-raw p = rw (writtenOf, p)
+
+    pub written-plain : isRaw e (nameData (snapOf W A l) n) ≡ false → textOf (snapOf W A l) n ≡ writtenOf (snapOf W A l) e n
+    unfolding writtenOf
+    written-plain p = rw (writtenOf, p)
+
+    pub no-name : l .names ≤ n → [] ≡ writtenOf (snapOf W A l) e n
+    unfolding textOf unpacked
+    no-name h =
+        by-test (isRaw e (nameData (snapOf W A l) n))
+        (λ t. absurd (let s = raw-short e (nameData (snapOf W A l) n) t .some in let z = ap (λ (x : Name). x .bytes) (nothing-there h) in omega arith))
+        (λ t. sym (ap (λ (x : Name). take (x .bytes) (unpacked (x .text))) (nothing-there h)) ∙ written-plain t)
+
+-- the edition of a module's crate
+module _ (s : Snapshot) (m : ℕ) where
+  pub edition-none : length (s .modules) ≤ m → 0 ≡ editionIn s m
+  unfolding editionIn
+  edition-none h = rw (editionIn, le-ltb m (length (s .modules)) h)
+
+  pub edition-there : m < length (s .modules) → {c e : ℕ} → c ≡ crateOf s m → e ≡ crateData s c .edition → e ≡ editionIn s m
+  unfolding editionIn
+  edition-there h p q = q ∙ ap (λ x. crateData s x .edition) p ∙ sym (rw (editionIn, lt-ltb m (length (s .modules)) h))
 
 -- numbers
 
@@ -262,10 +298,12 @@ two-parts : (o p a b : List ℕ) → joined (bytesOf " ") (o ∷ p ∷ []) ++ (b
 unfolding joined
 two-parts o p a b = append-assoc o (bytesOf " " ++ p) (bytesOf " " ++ (a ++ (bytesOf " " ++ b)))
 
-pub line-whole : (s : Snapshot) (r : Report)
-    → joined (bytesOf " ") (lineParts s r) ++ (bytesOf " " ++ (decimal (r .charges) ++ (bytesOf " " ++ decimal (r .empty)))) ≡ lineIn s r
+pub line-whole : (s : Snapshot) (from : ℕ) {e : ℕ} (r : Report) → e ≡ editionIn s from
+    → joined (bytesOf " ") (lineParts s e r) ++ (bytesOf " " ++ (decimal (r .charges) ++ (bytesOf " " ++ decimal (r .empty)))) ≡ lineIn s from r
 unfolding lineIn lineParts
-line-whole s r = by (eqb (r .outcome) 0) (eqb (r .outcome) 1) _ _ _ _ _ _
+line-whole s from r q =
+    ap (λ x. joined (bytesOf " ") (lineParts s x r) ++ (bytesOf " " ++ (decimal (r .charges) ++ (bytesOf " " ++ decimal (r .empty))))) q
+    ∙ by (eqb (r .outcome) 0) (eqb (r .outcome) 1) _ _ _ _ _ _
   where
     by : (a b : Bool) (o p q t u v : List ℕ)
         → joined (bytesOf " ") (elim a [ true ↦ o ∷ p ∷ [] | false ↦ elim b [ true ↦ q ∷ t ∷ [] | false ↦ u ∷ v ∷ [] ] ])
@@ -276,19 +314,19 @@ line-whole s r = by (eqb (r .outcome) 0) (eqb (r .outcome) 1) _ _ _ _ _ _
     by false true o p q t u v = two-parts q t _ _
     by false false o p q t u v = two-parts u v _ _
 
-pub found-text : (s : Snapshot) (r : Report) → r .outcome ≡ 0 → bytesOf "found " ++ pathText s r ≡ joined (bytesOf " ") (lineParts s r)
+pub found-text : (s : Snapshot) (y : ℕ) (r : Report) → r .outcome ≡ 0 → bytesOf "found " ++ pathText s y r ≡ joined (bytesOf " ") (lineParts s y r)
 unfolding lineParts joined
-found-text s r e = rw (lineParts, eq-eqb _ _ e)
+found-text s y r e = rw (lineParts, eq-eqb _ _ e)
 
-pub none-text : (s : Snapshot) (r : Report) → r .outcome ≡ 1 → bytesOf "none -" ≡ joined (bytesOf " ") (lineParts s r)
+pub none-text : (s : Snapshot) (y : ℕ) (r : Report) → r .outcome ≡ 1 → bytesOf "none -" ≡ joined (bytesOf " ") (lineParts s y r)
 unfolding lineParts joined
-none-text s r e = let h : (r .outcome ≡ 0 → ⊥) = λ z. omega arith in rw (lineParts, ne-eqb _ _ h, eq-eqb _ _ e)
+none-text s y r e = let h : (r .outcome ≡ 0 → ⊥) = λ z. omega arith in rw (lineParts, ne-eqb _ _ h, eq-eqb _ _ e)
 
-pub refused-text : (s : Snapshot) (r : Report) → (r .outcome ≡ 0 → ⊥) → (r .outcome ≡ 1 → ⊥)
-    → bytesOf "refused " ++ decimal (r .number) ≡ joined (bytesOf " ") (lineParts s r)
+pub refused-text : (s : Snapshot) (y : ℕ) (r : Report) → (r .outcome ≡ 0 → ⊥) → (r .outcome ≡ 1 → ⊥)
+    → bytesOf "refused " ++ decimal (r .number) ≡ joined (bytesOf " ") (lineParts s y r)
 unfolding lineParts joined
-refused-text s r a b = rw (lineParts, ne-eqb _ _ a, ne-eqb _ _ b)
+refused-text s y r a b = rw (lineParts, ne-eqb _ _ a, ne-eqb _ _ b)
 
-pub refusal-line : (s : Snapshot) (n : ℕ) → bytesOf "refused " ++ (decimal n ++ bytesOf " 0 0\n") ≡ lineIn s (refused n) ++ bytesOf "\n"
+pub refusal-line : (s : Snapshot) (from n : ℕ) → bytesOf "refused " ++ (decimal n ++ bytesOf " 0 0\n") ≡ lineIn s from (refused n) ++ bytesOf "\n"
 unfolding lineIn lineParts joined refused decimal decimalTo
-refusal-line s n = ap (λ z. bytesOf "refused " ++ z) (sym (append-assoc (decimal n) (bytesOf " 0 0") (bytesOf "\n")))
+refusal-line s from n = ap (λ z. bytesOf "refused " ++ z) (sym (append-assoc (decimal n) (bytesOf " 0 0") (bytesOf "\n")))

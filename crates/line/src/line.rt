@@ -1,6 +1,6 @@
 //! The line of a report.
 ghost use mathlib.Core.List.{_++_};
-ghost use Prim.Native.Nat.{_+_, _≤_};
+ghost use Prim.Native.Nat.{ℕ, _+_, _≤_};
 ghost use lib.ListN.{length};
 ghost use Rattle.snapshot.specs.Records.{Snapshot};
 ghost use Rattle.snapshot.specs.Layouts.{snapOf};
@@ -8,17 +8,19 @@ ghost use Rattle.accept.specs.Post.{Reads};
 ghost use Rattle.printing.specs.Output.{Put};
 ghost use Rattle.find_path.specs.Line.{bytesOf, decimal, joined, lineParts, lineIn};
 ghost use Rattle.find_path.specs.Report.{refused};
+use crate::edition::edition_in;
 use crate::path::put_path;
 use crate::text::put_number;
 use find_path::Report;
 use printing::output::put;
+use snapshot::ids::ModuleId;
 use snapshot::layout::Layout;
 
 /// A number of bytes.
 pub struct LineBytes(pub usize);
 
 impl LineBytes {
-    /// Bytes of a line and its end, at most: an outcome, a prefix, 16 names of 255 bytes with joints, two numbers.
+    /// Bytes of a line and its end, at most: an outcome, a prefix, 16 names of 255 bytes, `r#` included, with joints, two numbers.
     pub const LIMIT: usize = 4166;
 }
 
@@ -35,15 +37,22 @@ fn put_meter(out: &mut [u8], at: usize, charges: usize, empty: usize) -> usize
 }
 
 // Puts the outcome, and after a blank the path, `-` or the number.
-fn put_outcome(out: &mut [u8], words: &[u32], area: &[u32], l: Layout, r: Report) -> usize
+fn put_outcome(
+    out: &mut [u8],
+    words: &[u32],
+    area: &[u32],
+    l: Layout,
+    edition: usize,
+    r: Report,
+) -> usize
     requires { ⌜ Reads (now words) (now area) l × (4123 ≤ length (now out)) × (r .count ≤ 16) ⌝ }
-    ensures { λ n. ⌜ Put (now (out .entry)) 0 (joined (bytesOf " ") (lineParts (snapOf (now (words .entry)) (now (area .entry)) l) r)) (now (out .exit)) n ⌝ }
+    ensures { λ n. ⌜ Put (now (out .entry)) 0 (joined (bytesOf " ") (lineParts (snapOf (now (words .entry)) (now (area .entry)) l) edition r)) (now (out .exit)) n ⌝ }
     ensures { λ n. ⌜ n ≤ 4123 ⌝ }
 {
     let names = r.names;
     if r.outcome == 0 {
         let a = put(out, 0, b"found ");
-        return put_path(out, a, words, area, l, r.kind, &names, r.count);
+        return put_path(out, a, words, area, l, edition, r.kind, &names, r.count);
     }
     if r.outcome == 1 {
         return put(out, 0, b"none -");
@@ -52,12 +61,20 @@ fn put_outcome(out: &mut [u8], words: &[u32], area: &[u32], l: Layout, r: Report
     put_number(out, b, r.number)
 }
 
-/// Puts the line of a report and its end at the front, and answers its length.
-pub fn put_line(out: &mut [u8], words: &[u32], area: &[u32], l: Layout, r: Report) -> usize
+/// Puts the line of a report, as it is written in a module, and its end at the front, and answers its length.
+pub fn put_line(
+    out: &mut [u8],
+    words: &[u32],
+    area: &[u32],
+    l: Layout,
+    from: ModuleId,
+    r: Report,
+) -> usize
     requires { ⌜ Reads (now words) (now area) l × (4166 ≤ length (now out)) × (r .count ≤ 16) ⌝ }
-    ensures { λ n. ⌜ Put (now (out .entry)) 0 (lineIn (snapOf (now (words .entry)) (now (area .entry)) l) r ++ bytesOf "\n") (now (out .exit)) n ⌝ }
+    ensures { λ n. ⌜ Put (now (out .entry)) 0 (lineIn (snapOf (now (words .entry)) (now (area .entry)) l) (from .0) r ++ bytesOf "\n") (now (out .exit)) n ⌝ }
 {
-    let a = put_outcome(out, words, area, l, r);
+    let edition = edition_in(words, area, l, from);
+    let a = put_outcome(out, words, area, l, edition, r);
     let b = put_meter(out, a, r.charges, r.empty);
     put(out, b, b"\n")
 }
@@ -65,7 +82,7 @@ pub fn put_line(out: &mut [u8], words: &[u32], area: &[u32], l: Layout, r: Repor
 /// Puts the line of a refusal and its end at the front, and answers its length.
 pub fn put_refusal(out: &mut [u8], number: usize) -> usize
     requires { ⌜ 4166 ≤ length (now out) ⌝ }
-    ensures { λ n. ⌜ ((s : Snapshot) → Put (now (out .entry)) 0 (lineIn s (refused number) ++ bytesOf "\n") (now (out .exit)) n) ⌝ }
+    ensures { λ n. ⌜ ((s : Snapshot) (from : ℕ) → Put (now (out .entry)) 0 (lineIn s from (refused number) ++ bytesOf "\n") (now (out .exit)) n) ⌝ }
 {
     let a = put(out, 0, b"refused ");
     let b = put_number(out, a, number);

@@ -5,12 +5,15 @@ ghost use lib.ListN.{length, take, getD};
 ghost use Rattle.snapshot.specs.Layouts.{snapOf};
 ghost use Rattle.accept.specs.Post.{Reads};
 ghost use Rattle.printing.specs.Output.{Put};
-ghost use Rattle.find_path.specs.Line.{unpacked, textOf, decimal};
+ghost use Rattle.find_path.specs.Line.{unpacked, writtenOf, decimal};
+use keywords::is_raw;
 use path_rules::choices::name_len;
 use printing::output::Digits;
+use printing::output::put;
 use printing::output::put_digits;
 use snapshot::ids::Name;
 use snapshot::layout::Layout;
+use snapshot::table::name_head;
 use snapshot::text::text_of;
 use snapshot::words::word;
 
@@ -49,17 +52,18 @@ fn put_text(out: &mut [u8], at: usize, text: &[u32], n: usize) -> usize
     at + i
 }
 
-/// Puts the text of a name; a number that is no name's puts nothing.
+/// Puts the text of a name as an edition writes it; a number that is no name's puts nothing.
 pub(crate) fn put_name(
     out: &mut [u8],
     at: usize,
     words: &[u32],
     area: &[u32],
     l: Layout,
+    edition: usize,
     n: Name,
 ) -> usize
     requires { ⌜ Reads (now words) (now area) l × (at + 255 ≤ length (now out)) ⌝ }
-    ensures { λ r. ⌜ Put (now (out .entry)) at (textOf (snapOf (now (words .entry)) (now (area .entry)) l) (n .0)) (now (out .exit)) r ⌝ }
+    ensures { λ r. ⌜ Put (now (out .entry)) at (writtenOf (snapOf (now (words .entry)) (now (area .entry)) l) edition (n .0)) (now (out .exit)) r ⌝ }
     ensures { λ r. ⌜ r ≤ at + 255 ⌝ }
 {
     if l.names <= n.0 {
@@ -67,6 +71,11 @@ pub(crate) fn put_name(
     }
     let bytes = name_len(words, area, l, n);
     let text = text_of(words, area, n);
+    let raw = is_raw(words, name_head(area, n), edition);
+    if raw {
+        let to = put(out, at, b"r#");
+        return put_text(out, to, text, bytes);
+    }
     put_text(out, at, text, bytes)
 }
 

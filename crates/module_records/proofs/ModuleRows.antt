@@ -115,7 +115,7 @@ module _ (W A : List ℕ) (at : ℕ) (l : Layout) (ms : List Map) (st : Stands W
         let q-scopes : recordsOf scopeAt 7 W (scopeBase (moduleOn l)) ((moduleOn l) .scopes) ≡ recordsOf scopeAt 7 W (scopeBase l) (l .scopes) = rows-zero _ _ _ z-scopes in
         let q-imports : recordsOf importAt 6 W (importBase (moduleOn l)) ((moduleOn l) .imports) ≡ recordsOf importAt 6 W (importBase l) (l .imports) = rows-zero _ _ _ z-imports in
         let q-externs : recordsOf externAt 3 W (externBase (moduleOn l)) ((moduleOn l) .externs) ≡ recordsOf externAt 3 W (externBase l) (l .externs) = rows-zero _ _ _ z-externs in
-        λ i. record { names = q-names i; crates = recordsOf crateAt 1 W (crateBase l) (l .crates); dependencies = recordsOf dependencyAt 3 W (dependencyBase l) (l .dependencies); maps = ms; modules = p i; children = q-children i; preludes = q-preludes i; definitions = q-definitions i; scopes = q-scopes i; imports = q-imports i; externs = q-externs i }
+        λ i. record { names = q-names i; crates = recordsOf crateAt 2 W (crateBase l) (l .crates); dependencies = recordsOf dependencyAt 3 W (dependencyBase l) (l .dependencies); maps = ms; modules = p i; children = q-children i; preludes = q-preludes i; definitions = q-definitions i; scopes = q-scopes i; imports = q-imports i; externs = q-externs i }
 
     module _ (last : moduleAt W at .map + 1 ≡ l .maps) where
       new-map : moduleMap (rowSet A (l .modules) x y z) (l .modules) ≡ l .maps - 1

@@ -87,7 +87,7 @@ module _ (W A B : List ℕ) (at : ℕ) (l : Layout) (ms : List Map) (st : Stands
       let q-scopes : recordsOf scopeAt 7 W (scopeBase (mapOn l at)) ((mapOn l at) .scopes) ≡ recordsOf scopeAt 7 W (scopeBase l) (l .scopes) = rows-zero _ _ _ z-scopes in
       let q-imports : recordsOf importAt 6 W (importBase (mapOn l at)) ((mapOn l at) .imports) ≡ recordsOf importAt 6 W (importBase l) (l .imports) = rows-zero _ _ _ z-imports in
       let q-externs : recordsOf externAt 3 W (externBase (mapOn l at)) ((mapOn l at) .externs) ≡ recordsOf externAt 3 W (externBase l) (l .externs) = rows-zero _ _ _ z-externs in
-      λ i. record { names = q-names i; crates = recordsOf crateAt 1 W (crateBase l) (l .crates); dependencies = recordsOf dependencyAt 3 W (dependencyBase l) (l .dependencies); maps = ms ++ (mapAt W at ∷ []); modules = q-modules i; children = q-children i; preludes = q-preludes i; definitions = q-definitions i; scopes = q-scopes i; imports = q-imports i; externs = q-externs i }
+      λ i. record { names = q-names i; crates = recordsOf crateAt 2 W (crateBase l) (l .crates); dependencies = recordsOf dependencyAt 3 W (dependencyBase l) (l .dependencies); maps = ms ++ (mapAt W at ∷ []); modules = q-modules i; children = q-children i; preludes = q-preludes i; definitions = q-definitions i; scopes = q-scopes i; imports = q-imports i; externs = q-externs i }
 
   map-of : (m : ℕ) → m < l .modules → moduleMap B m ≡ moduleMap A m
   map-of m h = let r = st .limited .modules in kept (2048 + 3 * m) (omega arith) (omega arith)

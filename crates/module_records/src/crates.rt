@@ -4,13 +4,14 @@ ghost use mathlib.Core.List.{List};
 ghost use Prim.Native.Nat.{_+_};
 ghost use Rattle.snapshot.specs.Records.{Map, crateAt};
 ghost use Rattle.snapshot.specs.Layouts.{snapWith};
-ghost use Rattle.record_rules.specs.Tests.{crateRange};
+ghost use Rattle.record_rules.specs.Tests.{crateRange, isEdition};
 ghost use Rattle.record_rules.specs.Steps.{crateStep};
 ghost use Rattle.record_rules.specs.Stands.{Ready, Stands, Answered};
+use record_rules::crates::judge_crate;
 use record_rules::judge::Step;
-use record_rules::judge::judge;
 use snapshot::ids::Crate;
 use snapshot::layout::Layout;
+use snapshot::record::crate_edition;
 use snapshot::record::crate_no_std;
 use snapshot::record::crate_origin;
 use snapshot::table::Tables;
@@ -21,17 +22,22 @@ fn in_range(words: &[u32], at: usize) -> bool
     (crate_origin(words, at) <= 4) & (crate_no_std(words, at) <= 1)
 }
 
+fn edition_known(words: &[u32], at: usize) -> bool
+    ensures { λ r. ⌜ r ≡ isEdition (crateAt (now (words .entry)) at .edition) ⌝ }
+{
+    let e = crate_edition(words, at);
+    (e == 2015) | (e == 2018) | (e == 2021) | (e == 2024)
+}
+
 /// A crate; it has no own map yet.
 pub fn step(words: &[u32], area: &mut [u32], l: Layout, at: usize) -> Step
-    requires { ⌜ Ready (now words) (now area) l at (at + 1) ⌝ }
-    ensures { λ r. ⌜ ((ms : List Map) → Stands (now (words .entry)) (now (area .entry)) 2 at l ms → Answered (now (words .entry)) (now (area .exit)) 2 (at + 1) (crateStep (snapWith (now (words .entry)) (now (area .entry)) l ms) (crateAt (now (words .entry)) at)) r) ⌝ }
+    requires { ⌜ Ready (now words) (now area) l at (at + 2) ⌝ }
+    ensures { λ r. ⌜ ((ms : List Map) → Stands (now (words .entry)) (now (area .entry)) 2 at l ms → Answered (now (words .entry)) (now (area .exit)) 2 (at + 2) (crateStep (snapWith (now (words .entry)) (now (area .entry)) l ms) (crateAt (now (words .entry)) at)) r) ⌝ }
 {
     let crates = l.crates;
-    let n = judge(
+    let n = judge_crate(
         in_range(words, at),
-        true,
-        false,
-        true,
+        edition_known(words, at),
         crates < Crate::LIMIT,
     );
     if n != 0 {

@@ -106,7 +106,7 @@ own-read W A l t c h =
     (omega arith, omega arith)
 
 pub length-crates : (W A : List ℕ) (l : Layout) → length (snapOf W A l .crates) ≡ l .crates
-length-crates W A l = length-rows (λ k. crateAt W (crateBase l + 1 * k)) (l .crates)
+length-crates W A l = length-rows (λ k. crateAt W (crateBase l + 2 * k)) (l .crates)
 
 -- the crate of a module is there
 pub crate-there : (W A : List ℕ) (l : Layout) → Reads W A l → (m : ℕ) → m < l .modules → crateOf (snapOf W A l) m < l .crates

@@ -26,7 +26,7 @@ abbrev pub oneCrate : List Map → List Module → Snapshot
 oneCrate ms xs =
     record {
       names = [];
-      crates = record { origin = 0; noStd = 0 } ∷ [];
+      crates = record { origin = 0; noStd = 0; edition = 2021 } ∷ [];
       dependencies = [];
       maps = ms;
       modules = xs;
@@ -50,7 +50,7 @@ asked s v t = record { walk = inModule s v t; privacy = privately s v t }
 -- (`differs-needs-three`).
 abbrev pub smallest : List ℕ
 smallest =
-    0x20000000 ∷ 0x40000000 ∷ 0 ∷ 0 ∷ 0x50000000 ∷ 0 ∷ 0x40000000 ∷ 1 ∷ 0 ∷ 0x50000001 ∷ 0 ∷ 0x50000001 ∷ 2 ∷ []
+    0x20000000 ∷ 2021 ∷ 0x40000000 ∷ 0 ∷ 0 ∷ 0x50000000 ∷ 0 ∷ 0x40000000 ∷ 1 ∷ 0 ∷ 0x50000001 ∷ 0 ∷ 0x50000001 ∷ 2 ∷ []
 
 abbrev pub smallestSnapshot : Snapshot
 smallestSnapshot = oneCrate (aMap 0 ∷ aMap 1 ∷ []) (aModule 0 0 ∷ aModule 1 0 ∷ aModule 1 2 ∷ [])
@@ -68,7 +68,7 @@ smallest-answers = refl
 -- 3 is the root of the inner block, HERE.
 abbrev pub outside : List ℕ
 outside =
-    0x20000000 ∷ 0x40000000 ∷ 0 ∷ 0 ∷ 0x50000000 ∷ 0 ∷ 0x40000000 ∷ 1 ∷ 0 ∷ 0x50000001 ∷ 0 ∷ 0x50000001 ∷ 2 ∷ 0x40000000 ∷ 2 ∷ 0 ∷ 0x50000002 ∷ 0 ∷ []
+    0x20000000 ∷ 2021 ∷ 0x40000000 ∷ 0 ∷ 0 ∷ 0x50000000 ∷ 0 ∷ 0x40000000 ∷ 1 ∷ 0 ∷ 0x50000001 ∷ 0 ∷ 0x50000001 ∷ 2 ∷ 0x40000000 ∷ 2 ∷ 0 ∷ 0x50000002 ∷ 0 ∷ []
 
 abbrev pub outsideSnapshot : Snapshot
 outsideSnapshot = oneCrate (aMap 0 ∷ aMap 1 ∷ aMap 2 ∷ []) (aModule 0 0 ∷ aModule 1 0 ∷ aModule 1 2 ∷ aModule 2 0 ∷ [])
@@ -89,7 +89,7 @@ outside-answers = refl
 -- h is private in the root 3 of f's block, which stands in m; HERE is 4. Also a block's root can be where they differ.
 abbrev pub deeper : List ℕ
 deeper =
-    0x20000000 ∷ 0x40000000 ∷ 0 ∷ 0 ∷ 0x50000000 ∷ 0 ∷ 0x40000000 ∷ 1 ∷ 0 ∷ 0x50000001 ∷ 0 ∷ 0x50000001 ∷ 2 ∷ 0x40000000 ∷ 3 ∷ 0 ∷ 0x50000002 ∷ 0 ∷ 0x40000000 ∷ 2 ∷ 0 ∷ 0x50000003 ∷ 0 ∷ []
+    0x20000000 ∷ 2021 ∷ 0x40000000 ∷ 0 ∷ 0 ∷ 0x50000000 ∷ 0 ∷ 0x40000000 ∷ 1 ∷ 0 ∷ 0x50000001 ∷ 0 ∷ 0x50000001 ∷ 2 ∷ 0x40000000 ∷ 3 ∷ 0 ∷ 0x50000002 ∷ 0 ∷ 0x40000000 ∷ 2 ∷ 0 ∷ 0x50000003 ∷ 0 ∷ []
 
 abbrev pub deeperSnapshot : Snapshot
 deeperSnapshot = oneCrate (aMap 0 ∷ aMap 1 ∷ aMap 3 ∷ aMap 2 ∷ []) (aModule 0 0 ∷ aModule 1 0 ∷ aModule 1 2 ∷ aModule 2 0 ∷ aModule 3 0 ∷ [])
@@ -106,7 +106,7 @@ deeper-answers = refl
 -- 0 is the crate's root, 1 is a, and 2, 3, 4 are three blocks, one in the other.
 abbrev pub nested : List ℕ
 nested =
-    0x20000000 ∷ 0x40000000 ∷ 0 ∷ 0 ∷ 0x50000000 ∷ 0 ∷ 0x50000000 ∷ 1 ∷ 0x40000000 ∷ 2 ∷ 0 ∷ 0x50000001 ∷ 0 ∷ 0x40000000 ∷ 3 ∷ 0 ∷ 0x50000002 ∷ 0 ∷ 0x40000000 ∷ 4 ∷ 0 ∷ 0x50000003 ∷ 0 ∷ []
+    0x20000000 ∷ 2021 ∷ 0x40000000 ∷ 0 ∷ 0 ∷ 0x50000000 ∷ 0 ∷ 0x50000000 ∷ 1 ∷ 0x40000000 ∷ 2 ∷ 0 ∷ 0x50000001 ∷ 0 ∷ 0x40000000 ∷ 3 ∷ 0 ∷ 0x50000002 ∷ 0 ∷ 0x40000000 ∷ 4 ∷ 0 ∷ 0x50000003 ∷ 0 ∷ []
 
 abbrev pub nestedSnapshot : Snapshot
 nestedSnapshot = oneCrate (aMap 0 ∷ aMap 2 ∷ aMap 3 ∷ aMap 4 ∷ []) (aModule 0 0 ∷ aModule 0 1 ∷ aModule 1 0 ∷ aModule 2 0 ∷ aModule 3 0 ∷ [])

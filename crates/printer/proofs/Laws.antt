@@ -106,19 +106,19 @@ counts-of {old} {out} {t} {n} p =
     let h : n ≤ length out = omega arith in
     (h, sym (length-take-le n out h))
 
-pub refusal-counts : {old out : List ℕ} {n : ℕ} (k : ℕ) → ((s : Snapshot) → Put old 0 (lineIn s (refused k) ++ bytesOf "\n") out n) → Counts n out
-refusal-counts k p = counts-of (p empty)
+pub refusal-counts : {old out : List ℕ} {n : ℕ} (k : ℕ) → ((s : Snapshot) (from : ℕ) → Put old 0 (lineIn s from (refused k) ++ bytesOf "\n") out n) → Counts n out
+refusal-counts k p = counts-of (p empty 0)
 
 -- a turn
 
 module _ (W S : List ℕ) (c : Checked) (i : ℕ) (A out : List ℕ) where
   pub turn-refused : (old : List ℕ) (n : ℕ) (b : Bool) → b ≡ wholeAt W i → b ≡ false → Judged S A c
-      → ((s : Snapshot) → Put old 0 (lineIn s (refused 42) ++ bytesOf "\n") out n)
+      → ((s : Snapshot) (from : ℕ) → Put old 0 (lineIn s from (refused 42) ++ bytesOf "\n") out n)
       → Printed W S c i A out (record { bytes = n; next = length W })
   unfolding lineAt nextAt
   turn-refused old n b e t j p =
       let f : wholeAt W i ≡ false = sym e ∙ t in
-      let w = p empty in
+      let w = p empty 0 in
       record {
         line = w .same ∙ sym (rw (lineAt, f));
         counts = counts-of w;

@@ -53,7 +53,7 @@ questionAt W i =
 
 -- the line of a refusal of the input
 abbrev pub refusalLine : ℕ → List ℕ
-refusalLine n = lineIn empty (refused n)
+refusalLine n = lineIn empty 0 (refused n)
 
 -- S are the words of the snapshot: the line of what stands at a place of the words W, and the place after it
 unfoldable pub lineAt : List ℕ → List ℕ → ℕ → List ℕ

@@ -19,7 +19,7 @@ wordsOf b = (b + 2) / 3
 
 -- the arguments of a record of each kind: none of kind 0; a name's are its text
 abbrev pub argumentTable : List ℕ
-argumentTable = 0 ∷ 0 ∷ 0 ∷ 2 ∷ 2 ∷ 1 ∷ 1 ∷ 1 ∷ 2 ∷ 6 ∷ 5 ∷ 2 ∷ []
+argumentTable = 0 ∷ 0 ∷ 1 ∷ 2 ∷ 2 ∷ 1 ∷ 1 ∷ 1 ∷ 2 ∷ 6 ∷ 5 ∷ 2 ∷ []
 
 -- the arguments of a record with that kind and payload
 unfoldable pub argumentsOf : ℕ → ℕ → ℕ

@@ -15,8 +15,8 @@ use Rattle.snapshot.specs.Layouts.{recordsOf, snapWith, crateBase, definitionBa
 use Rattle.snapshot.specs.declared.layout.Layout.{Layout}
 use Rattle.snapshot.proofs.Laws.{length-rows, getD-rows}
 use Rattle.record_rules.specs.Tests.{Counts, countsOf, noModule, noDefinition, kindOfDefinition, nsPlaced, samePrelude, sameDefinition, sameEntry, sameExtern, scopeDefined, importDefined, childDefined, childPlaced, definitionDefined, definitionPlaced}
-use Rattle.record_rules.specs.Steps.{no, on, judge}
-use Rattle.record_rules.specs.Stands.{numberOf, sameBy, countsIn, Stands}
+use Rattle.record_rules.specs.Steps.{no, on, judge, judgeCrate}
+use Rattle.record_rules.specs.Stands.{numberOf, crateNumberOf, sameBy, countsIn, Stands}
 
 -- the tests that follow a failed 33 do not matter
 number-same : (a b c d e c′ d′ : Bool) → (b ≡ true → c ≡ c′) → (b ≡ true → d ≡ d′) → numberOf a b c d e ≡ numberOf a b c′ d′ e
@@ -59,6 +59,30 @@ pub number-of : {n : ℕ} (a b c d e a′ b′ c′ d′ e′ : Bool) → n ≡ 
     → e ≡ e′ → n ≡ numberOf a′ b′ c′ d′ e′
 number-of a b c d e a′ b′ c′ d′ e′ j ea eb ec ed ee = j ∙ number-same a b c d e c′ d′ ec ed ∙ cc
 
+-- the same for a crate
+
+pub crate-judge-no : (a b e : Bool) (s : Snapshot) {n : ℕ} → n ≡ crateNumberOf a b e → (n ≡ 0 → ⊥) → judgeCrate a b e s ≡ no n
+unfolding crateNumberOf
+crate-judge-no false b e s h z = ap no (sym h)
+crate-judge-no true false e s h z = ap no (sym h)
+crate-judge-no true true false s h z = ap no (sym h)
+crate-judge-no true true true s h z = absurd (z h)
+
+pub record CratePassed (a b e : Bool) : Type 0 where
+  pub range : a ≡ true
+  pub edition : b ≡ true
+  pub room : e ≡ true
+
+pub crate-passes : (a b e : Bool) → 0 ≡ crateNumberOf a b e → CratePassed a b e
+unfolding crateNumberOf
+crate-passes false b e h = absurd (omega arith)
+crate-passes true false e h = absurd (omega arith)
+crate-passes true true false h = absurd (omega arith)
+crate-passes true true true h = record { range = refl; edition = refl; room = refl }
+
+pub crate-judge-on : (a b e : Bool) (s : Snapshot) → CratePassed a b e → judgeCrate a b e s ≡ on s
+crate-judge-on a b e s p = rw (p .range, p .edition, p .room)
+
 pub and-left : (a b : Bool) → (a && b) ≡ true → a ≡ true
 and-left true b h = refl
 and-left false b h = h
@@ -72,7 +96,7 @@ pub counts-same : (W A : List ℕ) (k at : ℕ) (l : Layout) (ms : List Map) →
 counts-same W A k at l ms st =
     λ i. record {
       names = sym (length-rows (λ j. nameAt W (nameHead A j)) (l .names)) i;
-      crates = sym (length-rows (λ j. crateAt W (crateBase l + 1 * j)) (l .crates)) i;
+      crates = sym (length-rows (λ j. crateAt W (crateBase l + 2 * j)) (l .crates)) i;
       maps = sym (st .count) i;
       modules = sym (length-rows (moduleRow A) (l .modules)) i;
       definitions = sym (length-rows (λ j. definitionAt W (definitionBase l + 3 * j)) (l .definitions)) i;

@@ -13,7 +13,7 @@ use Rattle.snapshot.specs.Records.{nameAt}
 use Rattle.snapshot.proofs.Laws.{rows-next, rows-none, getD-rows}
 use Rattle.record_rules.specs.Tests.{textBound, padded, nameRange, sameName}
 use native.Mathlib.Nat.{add-zero, mul-le-mul-left}
-use Rattle.record_rules.specs.Stands.{numberOf}
+use Rattle.record_rules.specs.Stands.{numberOf, crateNumberOf}
 use Rattle.record_rules.proofs.Judged.{and-left, and-right}
 
 pub bound-rest : (b : ℕ) → (b ≡ 0 → ⊥) → (b ≡ 1 → ⊥) → (b ≡ 2 → ⊥) → 16777216 ≡ textBound b
@@ -63,6 +63,23 @@ module _ (a b c d e : Bool) where
   pub judge-0 : a ≡ true → b ≡ true → c ≡ false → d ≡ true → e ≡ true → 0 ≡ numberOf a b c d e
   unfolding numberOf
   judge-0 h i j k l = rw (h, i, j, k, l)
+
+module _ (a b e : Bool) where
+  pub crate-32 : a ≡ false → 32 ≡ crateNumberOf a b e
+  unfolding crateNumberOf
+  crate-32 h = rw h
+
+  pub crate-43 : a ≡ true → b ≡ false → 43 ≡ crateNumberOf a b e
+  unfolding crateNumberOf
+  crate-43 h i = rw (h, i)
+
+  pub crate-36 : a ≡ true → b ≡ true → e ≡ false → 36 ≡ crateNumberOf a b e
+  unfolding crateNumberOf
+  crate-36 h i j = rw (h, i, j)
+
+  pub crate-0 : a ≡ true → b ≡ true → e ≡ true → 0 ≡ crateNumberOf a b e
+  unfolding crateNumberOf
+  crate-0 h i j = rw (h, i, j)
 
 -- one more step of a size stays within all of them
 pub step-le : (size k count : ℕ) → k < count → size * (k + 1) ≤ size * count

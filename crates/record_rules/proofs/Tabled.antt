@@ -2,7 +2,7 @@
 use Prim.Native.Nat.{ℕ, _+_, _-_, _*_, _≤_, _<_}
 use mathlib.Core.Path.{_≡_, refl, sym, _∙_, ap, subst}
 use mathlib.Core.List.{List, [], _∷_, _++_}
-use mathlib.Core.Bool.{Bool, true, false}
+use mathlib.Core.Bool.{Bool, true}
 use native.Mathlib.Omega.{arith}
 use native.Mathlib.Nat.{lt-irrefl}
 use lib.Dec.{ltb, lit<}
@@ -17,11 +17,11 @@ use Rattle.snapshot.specs.Layouts.{crateBase, dependencyBase, childBase, prelud
 use Rattle.snapshot.specs.declared.layout.Layout.{Layout}
 use Rattle.snapshot.proofs.Laws.{rows-snoc, rows-zero, rows-ext, rows-put, length-rows}
 use Rattle.chains.specs.Chains.{nameKey, linked}
-use Rattle.record_rules.specs.Tests.{nameRange, sameName, crateRange}
+use Rattle.record_rules.specs.Tests.{nameRange, sameName, crateRange, isEdition}
 use Rattle.record_rules.specs.Steps.{no, on, nameStep, crateStep, addName, addCrate}
-use Rattle.record_rules.specs.Stands.{numberOf, ownFrom, ownOf, Indexes, Stands, Answered}
+use Rattle.record_rules.specs.Stands.{numberOf, crateNumberOf, ownFrom, ownOf, Indexes, Stands, Answered}
 use Rattle.record_rules.specs.declared.judge.Step.the-variants.{On}
-use Rattle.record_rules.proofs.Judged.{number-of, judge-no, judge-on, passes}
+use Rattle.record_rules.proofs.Judged.{number-of, judge-no, judge-on, passes, crate-judge-no, crate-judge-on, CratePassed, crate-passes}
 use Rattle.record_rules.proofs.Indexed.{Early, early, indexes-early, set-above, name-stays, names-linked}
 pub use Rattle.record_rules.proofs.Indexed.{Kept, set-kept}
 
@@ -88,7 +88,7 @@ module _ (W A B : List ℕ) (at next : ℕ) (l : Layout) (ms : List Map) (st : S
         let z-externs : l .externs ≡ 0 = st .upto .externs (lit< tt) in
         let p : namesOf W B (l .names + 1) ≡ namesOf W A (l .names) ++ (nameAt W at ∷ []) =
         rows-put (λ k. nameAt W (getD A k 0)) _ (l .names) (nameAt W at) (λ k h. ap (nameAt W) (name-old k h)) (ap (nameAt W) name-new) in
-        let q-crates : recordsOf crateAt 1 W (crateBase (nameOn l next)) ((nameOn l next) .crates) ≡ recordsOf crateAt 1 W (crateBase l) (l .crates) = rows-zero _ _ _ z-crates in
+        let q-crates : recordsOf crateAt 2 W (crateBase (nameOn l next)) ((nameOn l next) .crates) ≡ recordsOf crateAt 2 W (crateBase l) (l .crates) = rows-zero _ _ _ z-crates in
         let q-dependencies : recordsOf dependencyAt 3 W (dependencyBase (nameOn l next)) ((nameOn l next) .dependencies) ≡ recordsOf dependencyAt 3 W (dependencyBase l) (l .dependencies) = rows-zero _ _ _ z-dependencies in
         let q-children : recordsOf childAt 2 W (childBase (nameOn l next)) ((nameOn l next) .children) ≡ recordsOf childAt 2 W (childBase l) (l .children) = rows-zero _ _ _ z-children in
         let q-preludes : recordsOf preludeAt 2 W (preludeBase (nameOn l next)) ((nameOn l next) .preludes) ≡ recordsOf preludeAt 2 W (preludeBase l) (l .preludes) = rows-zero _ _ _ z-preludes in
@@ -213,8 +213,8 @@ module _ (W A : List ℕ) (at : ℕ) (l : Layout) (ms : List Map) (st : Stands W
       let z-scopes : l .scopes ≡ 0 = st .upto .scopes (lit< tt) in
       let z-imports : l .imports ≡ 0 = st .upto .imports (lit< tt) in
       let z-externs : l .externs ≡ 0 = st .upto .externs (lit< tt) in
-      let f : ℕ → Crate = λ j. crateAt W (crateBase l + 1 * j) in
-      let e : crateBase l + 1 * l .crates ≡ at = (let q = st .place in omega arith) in
+      let f : ℕ → Crate = λ j. crateAt W (crateBase l + 2 * j) in
+      let e : crateBase l + 2 * l .crates ≡ at = (let q = st .place in omega arith) in
       let p : rows f 0 (l .crates + 1) ≡ rows f 0 (l .crates) ++ (crateAt W at ∷ []) =
       rows-snoc f (l .crates) ∙ ap (λ h. rows f 0 (l .crates) ++ (crateAt W h ∷ [])) e in
       let q-names : namesOf W (set A (4096 + l .crates) 0) (l .names) ≡ namesOf W A (l .names) = names-kept W A (set A (4096 + l .crates) 0) (l .names) (st .limited .names) (λ i u v. crate-kept i u (omega arith)) in
@@ -228,7 +228,7 @@ module _ (W A : List ℕ) (at : ℕ) (l : Layout) (ms : List Map) (st : Stands W
       let q-modules : modulesOf (set A (4096 + l .crates) 0) (l .modules) ≡ modulesOf A (l .modules) = rows-zero _ _ _ z-modules in
       λ i. record { names = q-names i; crates = p i; maps = ms; modules = q-modules i; dependencies = q-dependencies i; children = q-children i; preludes = q-preludes i; definitions = q-definitions i; scopes = q-scopes i; imports = q-imports i; externs = q-externs i }
 
-  crate-stands : at + 1 ≤ length W → Stands W (set A (4096 + l .crates) 0) 2 (at + 1) (crateOn l) ms
+  crate-stands : at + 2 ≤ length W → Stands W (set A (4096 + l .crates) 0) 2 (at + 2) (crateOn l) ms
   crate-stands fits =
       let z-dependencies : l .dependencies ≡ 0 = st .upto .dependencies (lit< tt) in
       let z-maps : l .maps ≡ 0 = st .upto .maps (lit< tt) in
@@ -273,26 +273,33 @@ module _ (W A : List ℕ) (at : ℕ) (l : Layout) (ms : List Map) (st : Stands W
       }
 
 module _ (W A : List ℕ) (at : ℕ) (l : Layout) (ms : List Map) (st : Stands W A 2 at l ms)
-    {n : ℕ} {a e : Bool}
-    (j : n ≡ numberOf a true false true e)
+    {n : ℕ} {a b e : Bool}
+    (j : n ≡ crateNumberOf a b e)
     (ea : a ≡ crateRange (crateAt W at))
+    (eb : b ≡ isEdition (crateAt W at .edition))
     (ee : e ≡ ltb (l .crates) 64)
   where
-    crate-number : n ≡ numberOf (crateRange (crateAt W at)) true false true (ltb (length ((snapWith W A l ms) .crates)) 64)
-    crate-number = number-of a true false true e (crateRange (crateAt W at)) true false true (ltb (length ((snapWith W A l ms) .crates)) 64) j ea refl (λ h. refl) (λ h. refl) (ee ∙ ap (λ m. ltb m 64) (sym (length-rows _ (l .crates))))
+    abbrev room : Bool
+    room = ltb (length ((snapWith W A l ms) .crates)) 64
+
+    crate-number : n ≡ crateNumberOf (crateRange (crateAt W at)) (isEdition (crateAt W at .edition)) room
+    crate-number = let er : e ≡ room = ee ∙ ap (λ m. ltb m 64) (sym (length-rows _ (l .crates))) in cc
 
     pub crate-no : (n ≡ 0 → ⊥) → crateStep (snapWith W A l ms) (crateAt W at) ≡ no n
     unfolding crateStep
-    crate-no z = judge-no (crateRange (crateAt W at)) true false true (ltb (length ((snapWith W A l ms) .crates)) 64) (addCrate (snapWith W A l ms) (crateAt W at)) crate-number z
+    crate-no z = crate-judge-no (crateRange (crateAt W at)) (isEdition (crateAt W at .edition)) room (addCrate (snapWith W A l ms) (crateAt W at)) crate-number z
+
+    crate-passed : n ≡ 0 → CratePassed (crateRange (crateAt W at)) (isEdition (crateAt W at .edition)) room
+    crate-passed z = crate-passes (crateRange (crateAt W at)) (isEdition (crateAt W at .edition)) room (sym z ∙ crate-number)
 
     crate-room : n ≡ 0 → l .crates < 64
-    crate-room z = ltb-true (l .crates) 64 (ap (λ m. ltb m 64) (sym (length-rows (λ k. crateAt W (crateBase l + 1 * k)) (l .crates))) ∙ passes (crateRange (crateAt W at)) true false true (ltb (length ((snapWith W A l ms) .crates)) 64) (sym z ∙ crate-number) .room)
+    crate-room z = ltb-true (l .crates) 64 (ap (λ m. ltb m 64) (sym (length-rows (λ k. crateAt W (crateBase l + 2 * k)) (l .crates))) ∙ crate-passed z .room)
 
-    pub crate-on : n ≡ 0 → 16384 ≤ length A → at + 1 ≤ length W
-        → Answered W (set A (4096 + l .crates) 0) 2 (at + 1) (crateStep (snapWith W A l ms) (crateAt W at)) (On (crateOn l))
+    pub crate-on : n ≡ 0 → 16384 ≤ length A → at + 2 ≤ length W
+        → Answered W (set A (4096 + l .crates) 0) 2 (at + 2) (crateStep (snapWith W A l ms) (crateAt W at)) (On (crateOn l))
     unfolding crateStep
     crate-on z large fits = (
       ms,
-      judge-on (crateRange (crateAt W at)) true false true (ltb (length ((snapWith W A l ms) .crates)) 64) (addCrate (snapWith W A l ms) (crateAt W at)) (passes (crateRange (crateAt W at)) true false true (ltb (length ((snapWith W A l ms) .crates)) 64) (sym z ∙ crate-number)) ∙ ap on (sym (crate-added W A at l ms st (crate-room z) large)),
+      crate-judge-on (crateRange (crateAt W at)) (isEdition (crateAt W at .edition)) room (addCrate (snapWith W A l ms) (crateAt W at)) (crate-passed z) ∙ ap on (sym (crate-added W A at l ms st (crate-room z) large)),
       crate-stands W A at l ms st (crate-room z) large fits,
     )

@@ -24,6 +24,13 @@ numberOf true true false false room = 35
 numberOf true true false true false = 36
 numberOf true true false true true = 0
 
+-- the same for a crate
+unfoldable pub crateNumberOf : Bool → Bool → Bool → ℕ
+crateNumberOf false edition room = 32
+crateNumberOf true false room = 43
+crateNumberOf true true false = 36
+crateNumberOf true true true = 0
+
 -- two records have the same owner, if that counts, and the same first fields
 abbrev pub sameBy : List ℕ → Bool → ℕ → ℕ → ℕ → Bool
 sameBy W owner fields a b =

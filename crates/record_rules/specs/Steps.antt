@@ -7,7 +7,7 @@ use lib.ListN.{length}
 use Rattle.snapshot.specs.Lists.{any}
 use Rattle.snapshot.specs.Limits.{crateLimit, moduleLimit, nameLimit, definitionLimit}
 use Rattle.snapshot.specs.Records.{Name, Crate, Dependency, Map, Module, Child, Prelude, Definition, Scope, Import, Extern, Snapshot}
-use Rattle.record_rules.specs.Tests.{countsOf, nameRange, sameName, crateRange, dependencyRange, dependencyDefined, mapRange, mapDefined, mapRepeated, mapPlaced, moduleDefined, modulePlaced, childDefined, sameChild, childPlaced, preludeDefined, samePrelude, definitionRange, definitionDefined, definitionRepeated, definitionPlaced, scopeRange, scopeDefined, sameEntry, nsPlaced, importRange, importDefined, externDefined, sameExtern}
+use Rattle.record_rules.specs.Tests.{countsOf, nameRange, sameName, crateRange, isEdition, dependencyRange, dependencyDefined, mapRange, mapDefined, mapRepeated, mapPlaced, moduleDefined, modulePlaced, childDefined, sameChild, childPlaced, preludeDefined, samePrelude, definitionRange, definitionDefined, definitionRepeated, definitionPlaced, scopeRange, scopeDefined, sameEntry, nsPlaced, importRange, importDefined, externDefined, sameExtern}
 
 -- a refusal, or the snapshot with the record
 pub data Next : Type 0 where
@@ -22,6 +22,10 @@ need false n r = no n
 abbrev pub judge : Bool → Bool → Bool → Bool → Bool → Snapshot → Next
 judge range defined repeated placed room s =
     need range 32 (need defined 33 (need (not repeated) 34 (need placed 35 (need room 36 (on s)))))
+
+-- a crate's: fields in range, a known edition, room for it
+abbrev pub judgeCrate : Bool → Bool → Bool → Snapshot → Next
+judgeCrate range edition room s = need range 32 (need edition 43 (need room 36 (on s)))
 
 -- the snapshot with one record more
 
@@ -207,7 +211,7 @@ unfoldable pub nameStep : Snapshot → Name → Next
 nameStep s x = judge (nameRange x) true (any (sameName x) (s .names)) true (ltb (length (s .names)) nameLimit) (addName s x)
 
 unfoldable pub crateStep : Snapshot → Crate → Next
-crateStep s x = judge (crateRange x) true false true (ltb (length (s .crates)) crateLimit) (addCrate s x)
+crateStep s x = judgeCrate (crateRange x) (isEdition (x .edition)) (ltb (length (s .crates)) crateLimit) (addCrate s x)
 
 unfoldable pub dependencyStep : Snapshot → Dependency → Next
 dependencyStep s x = judge (dependencyRange x) (dependencyDefined (countsOf s) x) false true true (addDependency s x)

@@ -1,4 +1,4 @@
--- What is asked of each kind of record: fields in range (32), numbers defined (33), nothing repeated (34), the right place (35).
+-- What is asked of each kind of record: fields in range (32), a known edition (43), numbers defined (33), nothing repeated (34), the right place (35).
 use Prim.Native.Nat.{ℕ, zero, suc, _+_, _-_}
 use mathlib.Core.List.{List, [], _∷_}
 use mathlib.Core.Bool.{Bool, true, _&&_, _||_, not}
@@ -76,6 +76,9 @@ sameName x y = eqb (x .bytes) (y .bytes) && eqList (x .text) (y .text)
 
 abbrev pub crateRange : Crate → Bool
 crateRange x = leb (x .origin) 4 && leb (x .noStd) 1
+
+abbrev pub isEdition : ℕ → Bool
+isEdition e = eqb e 2015 || eqb e 2018 || eqb e 2021 || eqb e 2024
 
 -- dependencies
 

@@ -111,8 +111,8 @@ fn same_text(left: &[u32], a: usize, right: &[u32], b: usize, n: usize, last: us
     same_words(left, a, right, b, n)
 }
 
-// Whether one of the n names with these heads has the text of the name at a place.
-fn known(words: &[u32], at: usize, names: &[u32], heads: &[u32], n: usize) -> bool
+/// Whether one of the n names with these heads has the text of the name at a place.
+pub fn known(words: &[u32], at: usize, names: &[u32], heads: &[u32], n: usize) -> bool
     requires { ⌜ (n < 2 ^ 32) × (n ≤ length (now heads)) ⌝ }
     ensures { λ r. ⌜ r ≡ any (sameName (nameAt (now (words .entry)) at)) (rows (λ k. nameAt (now (names .entry)) (getD (now (heads .entry)) k 0)) 0 n) ⌝ }
 {

@@ -84,7 +84,7 @@ module _ (W A : List ℕ) (at : ℕ) (l : Layout) (ms : List Map) (st : Stands W
       let q-scopes : recordsOf scopeAt 7 W (scopeBase (dependencyOn l)) ((dependencyOn l) .scopes) ≡ recordsOf scopeAt 7 W (scopeBase l) (l .scopes) = rows-zero _ _ _ z-scopes in
       let q-imports : recordsOf importAt 6 W (importBase (dependencyOn l)) ((dependencyOn l) .imports) ≡ recordsOf importAt 6 W (importBase l) (l .imports) = rows-zero _ _ _ z-imports in
       let q-externs : recordsOf externAt 3 W (externBase (dependencyOn l)) ((dependencyOn l) .externs) ≡ recordsOf externAt 3 W (externBase l) (l .externs) = rows-zero _ _ _ z-externs in
-      λ i. record { names = namesOf W A (l .names); crates = recordsOf crateAt 1 W (crateBase l) (l .crates); dependencies = p i; maps = ms; modules = modulesOf A (l .modules); children = q-children i; preludes = q-preludes i; definitions = q-definitions i; scopes = q-scopes i; imports = q-imports i; externs = q-externs i }
+      λ i. record { names = namesOf W A (l .names); crates = recordsOf crateAt 2 W (crateBase l) (l .crates); dependencies = p i; maps = ms; modules = modulesOf A (l .modules); children = q-children i; preludes = q-preludes i; definitions = q-definitions i; scopes = q-scopes i; imports = q-imports i; externs = q-externs i }
 
   pub dependency-stands : at + 3 ≤ length W → Stands W A 3 (at + 3) (dependencyOn l) ms
   dependency-stands fits =
@@ -154,7 +154,7 @@ module _ (W A B : List ℕ) (at : ℕ) (l : Layout) (ms : List Map) (st : Stands
       let q-externs : recordsOf externAt 3 W (externBase (childOn l)) ((childOn l) .externs) ≡ recordsOf externAt 3 W (externBase l) (l .externs) = rows-zero _ _ _ z-externs in
       let q-names : namesOf W B (l .names) ≡ namesOf W A (l .names) = names-kept W A B (l .names) (st .limited .names) (λ i u v. kept i u (omega arith)) in
       let q-modules : modulesOf B (l .modules) ≡ modulesOf A (l .modules) = modules-kept A B (l .modules) (st .limited .modules) (λ i u v. kept i (omega arith) (omega arith)) in
-      λ i. record { names = q-names i; crates = recordsOf crateAt 1 W (crateBase l) (l .crates); dependencies = recordsOf dependencyAt 3 W (dependencyBase l) (l .dependencies); maps = ms; modules = q-modules i; children = p i; preludes = q-preludes i; definitions = q-definitions i; scopes = q-scopes i; imports = q-imports i; externs = q-externs i }
+      λ i. record { names = q-names i; crates = recordsOf crateAt 2 W (crateBase l) (l .crates); dependencies = recordsOf dependencyAt 3 W (dependencyBase l) (l .dependencies); maps = ms; modules = q-modules i; children = p i; preludes = q-preludes i; definitions = q-definitions i; scopes = q-scopes i; imports = q-imports i; externs = q-externs i }
 
   pub child-stands : at + 2 ≤ length W → Indexes W B (childOn l) → Stands W B 6 (at + 2) (childOn l) ms
   child-stands fits ix =
@@ -221,7 +221,7 @@ module _ (W A : List ℕ) (at : ℕ) (l : Layout) (ms : List Map) (st : Stands W
       let q-scopes : recordsOf scopeAt 7 W (scopeBase (preludeOn l)) ((preludeOn l) .scopes) ≡ recordsOf scopeAt 7 W (scopeBase l) (l .scopes) = rows-zero _ _ _ z-scopes in
       let q-imports : recordsOf importAt 6 W (importBase (preludeOn l)) ((preludeOn l) .imports) ≡ recordsOf importAt 6 W (importBase l) (l .imports) = rows-zero _ _ _ z-imports in
       let q-externs : recordsOf externAt 3 W (externBase (preludeOn l)) ((preludeOn l) .externs) ≡ recordsOf externAt 3 W (externBase l) (l .externs) = rows-zero _ _ _ z-externs in
-      λ i. record { names = namesOf W A (l .names); crates = recordsOf crateAt 1 W (crateBase l) (l .crates); dependencies = recordsOf dependencyAt 3 W (dependencyBase l) (l .dependencies); maps = ms; modules = modulesOf A (l .modules); children = recordsOf childAt 2 W (childBase l) (l .children); preludes = p i; definitions = q-definitions i; scopes = q-scopes i; imports = q-imports i; externs = q-externs i }
+      λ i. record { names = namesOf W A (l .names); crates = recordsOf crateAt 2 W (crateBase l) (l .crates); dependencies = recordsOf dependencyAt 3 W (dependencyBase l) (l .dependencies); maps = ms; modules = modulesOf A (l .modules); children = recordsOf childAt 2 W (childBase l) (l .children); preludes = p i; definitions = q-definitions i; scopes = q-scopes i; imports = q-imports i; externs = q-externs i }
 
   pub prelude-stands : at + 2 ≤ length W → Stands W A 7 (at + 2) (preludeOn l) ms
   prelude-stands fits =
@@ -299,7 +299,7 @@ module _ (W A B : List ℕ) (at : ℕ) (l : Layout) (ms : List Map) (st : Stands
       let q-externs : recordsOf externAt 3 W (externBase (definitionOn l)) ((definitionOn l) .externs) ≡ recordsOf externAt 3 W (externBase l) (l .externs) = rows-zero _ _ _ z-externs in
       let q-names : namesOf W B (l .names) ≡ namesOf W A (l .names) = names-kept W A B (l .names) (st .limited .names) (λ i u v. kept i u (omega arith)) in
       let q-modules : modulesOf B (l .modules) ≡ modulesOf A (l .modules) = modules-kept A B (l .modules) (st .limited .modules) (λ i u v. kept i (omega arith) (omega arith)) in
-      λ i. record { names = q-names i; crates = recordsOf crateAt 1 W (crateBase l) (l .crates); dependencies = recordsOf dependencyAt 3 W (dependencyBase l) (l .dependencies); maps = ms; modules = q-modules i; children = recordsOf childAt 2 W (childBase l) (l .children); preludes = recordsOf preludeAt 2 W (preludeBase l) (l .preludes); definitions = p i; scopes = q-scopes i; imports = q-imports i; externs = q-externs i }
+      λ i. record { names = q-names i; crates = recordsOf crateAt 2 W (crateBase l) (l .crates); dependencies = recordsOf dependencyAt 3 W (dependencyBase l) (l .dependencies); maps = ms; modules = q-modules i; children = recordsOf childAt 2 W (childBase l) (l .children); preludes = recordsOf preludeAt 2 W (preludeBase l) (l .preludes); definitions = p i; scopes = q-scopes i; imports = q-imports i; externs = q-externs i }
 
   pub definition-stands : at + 3 ≤ length W → l .definitions < 2048 → Indexes W B (definitionOn l) → Stands W B 8 (at + 3) (definitionOn l) ms
   definition-stands fits room ix =
@@ -365,7 +365,7 @@ module _ (W A B : List ℕ) (at : ℕ) (l : Layout) (ms : List Map) (st : Stands
       let q-externs : recordsOf externAt 3 W (externBase (scopeOn l)) ((scopeOn l) .externs) ≡ recordsOf externAt 3 W (externBase l) (l .externs) = rows-zero _ _ _ z-externs in
       let q-names : namesOf W B (l .names) ≡ namesOf W A (l .names) = names-kept W A B (l .names) (st .limited .names) (λ i u v. kept i u (omega arith)) in
       let q-modules : modulesOf B (l .modules) ≡ modulesOf A (l .modules) = modules-kept A B (l .modules) (st .limited .modules) (λ i u v. kept i (omega arith) (omega arith)) in
-      λ i. record { names = q-names i; crates = recordsOf crateAt 1 W (crateBase l) (l .crates); dependencies = recordsOf dependencyAt 3 W (dependencyBase l) (l .dependencies); maps = ms; modules = q-modules i; children = recordsOf childAt 2 W (childBase l) (l .children); preludes = recordsOf preludeAt 2 W (preludeBase l) (l .preludes); definitions = recordsOf definitionAt 3 W (definitionBase l) (l .definitions); scopes = p i; imports = q-imports i; externs = q-externs i }
+      λ i. record { names = q-names i; crates = recordsOf crateAt 2 W (crateBase l) (l .crates); dependencies = recordsOf dependencyAt 3 W (dependencyBase l) (l .dependencies); maps = ms; modules = q-modules i; children = recordsOf childAt 2 W (childBase l) (l .children); preludes = recordsOf preludeAt 2 W (preludeBase l) (l .preludes); definitions = recordsOf definitionAt 3 W (definitionBase l) (l .definitions); scopes = p i; imports = q-imports i; externs = q-externs i }
 
   pub scope-stands : at + 7 ≤ length W → Indexes W B (scopeOn l) → Stands W B 9 (at + 7) (scopeOn l) ms
   scope-stands fits ix =
@@ -426,7 +426,7 @@ module _ (W A : List ℕ) (at : ℕ) (l : Layout) (ms : List Map) (st : Stands W
       let p : rows f 0 (l .imports + 1) ≡ rows f 0 (l .imports) ++ (importAt W at ∷ []) =
       rows-snoc f (l .imports) ∙ ap (λ h. rows f 0 (l .imports) ++ (importAt W h ∷ [])) e in
       let q-externs : recordsOf externAt 3 W (externBase (importOn l)) ((importOn l) .externs) ≡ recordsOf externAt 3 W (externBase l) (l .externs) = rows-zero _ _ _ z-externs in
-      λ i. record { names = namesOf W A (l .names); crates = recordsOf crateAt 1 W (crateBase l) (l .crates); dependencies = recordsOf dependencyAt 3 W (dependencyBase l) (l .dependencies); maps = ms; modules = modulesOf A (l .modules); children = recordsOf childAt 2 W (childBase l) (l .children); preludes = recordsOf preludeAt 2 W (preludeBase l) (l .preludes); definitions = recordsOf definitionAt 3 W (definitionBase l) (l .definitions); scopes = recordsOf scopeAt 7 W (scopeBase l) (l .scopes); imports = p i; externs = q-externs i }
+      λ i. record { names = namesOf W A (l .names); crates = recordsOf crateAt 2 W (crateBase l) (l .crates); dependencies = recordsOf dependencyAt 3 W (dependencyBase l) (l .dependencies); maps = ms; modules = modulesOf A (l .modules); children = recordsOf childAt 2 W (childBase l) (l .children); preludes = recordsOf preludeAt 2 W (preludeBase l) (l .preludes); definitions = recordsOf definitionAt 3 W (definitionBase l) (l .definitions); scopes = recordsOf scopeAt 7 W (scopeBase l) (l .scopes); imports = p i; externs = q-externs i }
 
   pub import-stands : at + 6 ≤ length W → Stands W A 10 (at + 6) (importOn l) ms
   import-stands fits =
@@ -498,7 +498,7 @@ module _ (W A B : List ℕ) (at : ℕ) (l : Layout) (ms : List Map) (st : Stands
       rows-snoc f (l .externs) ∙ ap (λ h. rows f 0 (l .externs) ++ (externAt W h ∷ [])) e in
       let q-names : namesOf W B (l .names) ≡ namesOf W A (l .names) = names-kept W A B (l .names) (st .limited .names) (λ i u v. kept i u (omega arith)) in
       let q-modules : modulesOf B (l .modules) ≡ modulesOf A (l .modules) = modules-kept A B (l .modules) (st .limited .modules) (λ i u v. kept i (omega arith) (omega arith)) in
-      λ i. record { names = q-names i; crates = recordsOf crateAt 1 W (crateBase l) (l .crates); dependencies = recordsOf dependencyAt 3 W (dependencyBase l) (l .dependencies); maps = ms; modules = q-modules i; children = recordsOf childAt 2 W (childBase l) (l .children); preludes = recordsOf preludeAt 2 W (preludeBase l) (l .preludes); definitions = recordsOf definitionAt 3 W (definitionBase l) (l .definitions); scopes = recordsOf scopeAt 7 W (scopeBase l) (l .scopes); imports = recordsOf importAt 6 W (importBase l) (l .imports); externs = p i }
+      λ i. record { names = q-names i; crates = recordsOf crateAt 2 W (crateBase l) (l .crates); dependencies = recordsOf dependencyAt 3 W (dependencyBase l) (l .dependencies); maps = ms; modules = q-modules i; children = recordsOf childAt 2 W (childBase l) (l .children); preludes = recordsOf preludeAt 2 W (preludeBase l) (l .preludes); definitions = recordsOf definitionAt 3 W (definitionBase l) (l .definitions); scopes = recordsOf scopeAt 7 W (scopeBase l) (l .scopes); imports = recordsOf importAt 6 W (importBase l) (l .imports); externs = p i }
 
   pub extern-stands : at + 3 ≤ length W → Indexes W B (externOn l) → Stands W B 11 (at + 3) (externOn l) ms
   extern-stands fits ix =

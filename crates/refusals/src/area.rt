@@ -56,6 +56,7 @@ pub fn run(area: &mut [u32]) {
         0x10000001u32,
         0x61,
         0x20000000,
+        2021,
         0x40000000,
         0,
         0,
@@ -64,6 +65,6 @@ pub fn run(area: &mut [u32]) {
     ];
     run_small(&words, area);
     run_large(&words, area);
-    area_of(b"area-16383-bad-words", 16383, 0, &words[..4], area);
-    area_of(b"area-16400-bad-words", 16400, 16384, &words[..4], area);
+    area_of(b"area-16383-bad-words", 16383, 0, &words[..5], area);
+    area_of(b"area-16400-bad-words", 16400, 16384, &words[..5], area);
 }

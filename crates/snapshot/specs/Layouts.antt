@@ -12,7 +12,7 @@ abbrev pub crateBase : Layout → ℕ
 crateBase l = l .text
 
 abbrev pub dependencyBase : Layout → ℕ
-dependencyBase l = crateBase l + l .crates
+dependencyBase l = crateBase l + 2 * l .crates
 
 abbrev pub mapBase : Layout → ℕ
 mapBase l = dependencyBase l + 3 * l .dependencies
@@ -103,7 +103,7 @@ abbrev pub snapWith : List ℕ → List ℕ → Layout → List Map → Snapshot
 snapWith W A l ms =
     record {
       names = namesOf W A (l .names);
-      crates = recordsOf crateAt 1 W (crateBase l) (l .crates);
+      crates = recordsOf crateAt 2 W (crateBase l) (l .crates);
       dependencies = recordsOf dependencyAt 3 W (dependencyBase l) (l .dependencies);
       maps = ms;
       modules = modulesOf A (l .modules);

@@ -10,10 +10,11 @@ pub record Name : Type 0 where
   pub bytes : ℕ
   pub text : List ℕ
 
--- kind 2: origin 0 ordinary, 1 core, 2 alloc, 3 std, 4 other language; whether it supports no_std
+-- kind 2: origin 0 ordinary, 1 core, 2 alloc, 3 std, 4 other language; whether it supports no_std; its edition
 pub record Crate : Type 0 where
   pub origin : ℕ
   pub noStd : ℕ
+  pub edition : ℕ
 
 -- kind 3
 pub record Dependency : Type 0 where
@@ -93,7 +94,7 @@ nameAt W h =
     record { bytes = payOf (getD W h 0); text = rows (λ i. getD W (h + 1 + i) 0) 0 (wordsOf (payOf (getD W h 0))) }
 
 abbrev pub crateAt : List ℕ → ℕ → Crate
-crateAt W h = record { origin = payOf (getD W h 0) % 8; noStd = payOf (getD W h 0) / 8 }
+crateAt W h = record { origin = payOf (getD W h 0) % 8; noStd = payOf (getD W h 0) / 8; edition = getD W (h + 1) 0 }
 
 abbrev pub dependencyAt : List ℕ → ℕ → Dependency
 dependencyAt W h = record { owner = payOf (getD W h 0); crate = getD W (h + 1) 0; sysroot = getD W (h + 2) 0 }

@@ -36,7 +36,7 @@ impl Kind {
 }
 
 // The arguments of a record of each kind; a name's depend on its text.
-const ARGUMENTS: [usize; 12] = [0, 0, 0, 2, 2, 1, 1, 1, 2, 6, 5, 2];
+const ARGUMENTS: [usize; 12] = [0, 0, 1, 2, 2, 1, 1, 1, 2, 6, 5, 2];
 
 fn fixed(kind: usize) -> usize
     ensures { λ r. ⌜ r ≡ getD argumentTable kind 0 ⌝ }

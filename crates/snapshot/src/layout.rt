@@ -48,7 +48,7 @@ impl Layout {
         requires { ⌜ wordCount self < 2 ^ 32 ⌝ }
         ensures { λ r. ⌜ r ≡ dependencyBase self ⌝ }
     {
-        self.text + self.crates
+        self.text + 2 * self.crates
     }
 
     pub fn map_base(self) -> usize

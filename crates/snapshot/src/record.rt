@@ -22,6 +22,12 @@ pub fn crate_no_std(words: &[u32], at: usize) -> usize
     payload(words, at) / 8
 }
 
+pub fn crate_edition(words: &[u32], at: usize) -> usize
+    ensures { λ r. ⌜ r ≡ crateAt (now (words .entry)) at .edition ⌝ }
+{
+    field(words, at, 1)
+}
+
 pub fn dependency_owner(words: &[u32], at: usize) -> Crate
     ensures { λ r. ⌜ r .0 ≡ dependencyAt (now (words .entry)) at .owner ⌝ }
 {

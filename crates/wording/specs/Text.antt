@@ -20,7 +20,11 @@ laterMeaning n =
                   | false ↦
                       elim (eqb n 41) [
                         | true ↦ bytesOf "a number of bytes that is not a multiple of 4\n"
-                        | false ↦ bytesOf "a work area of fewer than 16384 words\n"
+                        | false ↦
+                            elim (eqb n 43) [
+                              | true ↦ bytesOf "an edition other than 2015, 2018, 2021 and 2024\n"
+                              | false ↦ bytesOf "a work area of fewer than 16384 words\n"
+                            ]
                       ]
                 ]
           ]

@@ -34,6 +34,13 @@ fn put_later_meaning(out: &mut [u8], at: usize, n: u32) -> usize
     if n == 41 {
         return put(out, at, b"a number of bytes that is not a multiple of 4\n");
     }
+    if n == 43 {
+        return put(
+            out,
+            at,
+            b"an edition other than 2015, 2018, 2021 and 2024\n",
+        );
+    }
     put(out, at, b"a work area of fewer than 16384 words\n")
 }
 

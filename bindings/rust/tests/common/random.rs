@@ -1,7 +1,9 @@
 //! Snapshots that the check accepts, by chance.
 use std::collections::HashSet;
 
-use kelumavor::{CrateId, DefinitionId, MapId, ModuleId, NameId, Namespace, Origin, SnapshotWords, Visibility};
+use kelumavor::{
+    CrateId, DefinitionId, Edition, MapId, ModuleId, NameId, Namespace, Origin, SnapshotWords, Visibility,
+};
 
 pub struct Random(u64);
 
@@ -28,7 +30,26 @@ impl Random {
     }
 }
 
-const NAMES: [&str; 12] = ["a", "bb", "c", "dd", "e", "f", "prelude", "std", "core", "u8", "Long_name", "r#type"];
+const NAMES: [&str; 17] = [
+    "a",
+    "bb",
+    "c",
+    "dd",
+    "e",
+    "f",
+    "prelude",
+    "std",
+    "core",
+    "u8",
+    "Long_name",
+    "r#type",
+    "type",
+    "async",
+    "gen",
+    "union",
+    "self",
+];
+const EDITIONS: [Edition; 4] = [Edition::Rust2015, Edition::Rust2018, Edition::Rust2021, Edition::Rust2024];
 const ORIGINS: [Origin; 5] = [Origin::Ordinary, Origin::Core, Origin::Alloc, Origin::Std, Origin::OtherLanguage];
 const NAMESPACES: [Namespace; 3] = [Namespace::Types, Namespace::Values, Namespace::Macros];
 
@@ -92,7 +113,8 @@ impl Writer<'_> {
         for _ in 0..1 + self.random.below(4) {
             let origin = if self.random.chance(60) { Origin::Ordinary } else { self.random.of(&ORIGINS) };
             let no_std = self.random.chance(30);
-            self.crates.push(self.words.krate(origin, no_std));
+            let edition = self.random.of(&EDITIONS);
+            self.crates.push(self.words.krate(origin, no_std, edition));
         }
         for _ in 0..self.random.below(6) {
             let owner = self.random.of(&self.crates);

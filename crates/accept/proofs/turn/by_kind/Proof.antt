@@ -20,7 +20,7 @@ step-requires-2 : tie.Need-step-requires-2
 unfolding argumentsOf
 step-requires-2 c κs =
     let s = c .before .before .before .before in
-    ready-at (now (s .args .words)) (now (s .args .area)) (s .args .l) (s .args .at) (next-of (now (s .args .words)) (s .args .at) 2 1 (s .pre .1 .0) (c .before .match .keys2) refl) (s .pre .0)
+    ready-at (now (s .args .words)) (now (s .args .area)) (s .args .l) (s .args .at) (next-of (now (s .args .words)) (s .args .at) 2 2 (s .pre .1 .0) (c .before .match .keys2) refl) (s .pre .0)
 
 step-requires-3 : tie.Need-step-requires-3
 unfolding argumentsOf
@@ -94,7 +94,7 @@ unfolding argumentsOf recordStep
 returns-2 c ms st =
     let s = c .before .before .before .before .before .before .before in
     let e = (c .before .before .before .before .match .keys2) in
-    answers-at (now (s .args .words)) (c .before .before .step2 .last .1 .0) (c .before .before .step2 .result) e (next-of (now (s .args .words)) (s .args .at) 2 1 (s .pre .1 .0) (c .before .before .before .before .match .keys2) refl) (ap (λ x. recordStep x (now (s .args .words)) (s .args .at) (snapWith (now (s .args .words)) (now (s .args .area)) (s .args .l) ms)) e) (c .before .before .step2 .ensures ms (stands-at (now (s .args .words)) (now (s .args .area)) (s .args .at) (s .args .l) ms e st))
+    answers-at (now (s .args .words)) (c .before .before .step2 .last .1 .0) (c .before .before .step2 .result) e (next-of (now (s .args .words)) (s .args .at) 2 2 (s .pre .1 .0) (c .before .before .before .before .match .keys2) refl) (ap (λ x. recordStep x (now (s .args .words)) (s .args .at) (snapWith (now (s .args .words)) (now (s .args .area)) (s .args .l) ms)) e) (c .before .before .step2 .ensures ms (stands-at (now (s .args .words)) (now (s .args .area)) (s .args .at) (s .args .l) ms e st))
 
 same-length-3 : tie.Need-same-length-3
 same-length-3 c = search needs

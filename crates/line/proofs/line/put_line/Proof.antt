@@ -9,6 +9,9 @@ use Rattle.snapshot.specs.Layouts.{snapOf}
 use Rattle.line.proofs.line.put_line.Statement.{statement}
 use Rattle.line.proofs.line.put_line.Tie as tie
 
+edition-in-requires : tie.Need-edition-in-requires
+edition-in-requires c κs = search needs
+
 put-outcome-requires : tie.Need-put-outcome-requires
 put-outcome-requires c κs = search needs
 
@@ -26,14 +29,15 @@ same-length c = search needs
 
 returns : tie.Need-returns
 returns c =
-    let s = c .before .before .before .before .before .before .before .before .before .before .before .before .before .before .before .before .args in
-    put-as (ap (λ x. x ++ bytesOf "\n") (line-whole (snapOf (now (s .words)) (now (s .area)) (s .l)) (s .r)))
+    let s = c .before .before .before .before .before .before .before .before .before .before .before .before .before .before .before .before .before .args in
+    put-as (ap (λ x. x ++ bytesOf "\n") (line-whole (snapOf (now (s .words)) (now (s .area)) (s .l)) (s .from .0) (s .r) (c .before .before .before .before .before .before .before .before .before .before .before .before .before .edition-in .ensures)))
     (put-two (put-two (c .before .before .before .before .before .before .before .before .before .before .before .put-outcome .ensures .0) (c .before .before .before .before .before .before .before .put-meter .ensures .0)) (c .before .before .put .ensures))
 
 pub put-line-spec : {M : Type 1} → statement M
 put-line-spec =
     tie.close
     (tie.spec
+    edition-in-requires
     put-outcome-requires
     put-meter-requires
     slice-aggregate-put

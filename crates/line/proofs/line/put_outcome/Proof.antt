@@ -17,7 +17,7 @@ put-requires : tie.Need-put-requires
 put-requires c κs = search needs
 
 slice-aggregate-put-path : tie.Need-slice-aggregate-put-path
-slice-aggregate-put-path c = search needs
+slice-aggregate-put-path c = search (needs, c .before .before .before .before .before .before .before .before .before .before .before .before .before .good .1 .1 .1 .1 .1 .0)
 
 put-path-requires : tie.Need-put-path-requires
 put-path-requires c κs =
@@ -34,7 +34,7 @@ returns c =
     let s = c .before .before .before .before .before .before .before .before .before .before .before .before .before .before .before .before .args in
     let p = c .before .before .before .before .before .before .before .put .ensures in
     let q = c .before .before .put-path .ensures in
-    (put-as (found-text (snapOf (now (s .words)) (now (s .area)) (s .l)) (s .r) (c .before .before .before .before .before .before .before .before .before .before .if1 .taken)) (put-two p (q .0)), omega (arith, p .next, q .1))
+    (put-as (found-text (snapOf (now (s .words)) (now (s .area)) (s .l)) (s .edition) (s .r) (c .before .before .before .before .before .before .before .before .before .before .if1 .taken)) (put-two p (q .0)), omega (arith, p .next, q .1))
 
 slice-aggregate-put-2 : tie.Need-slice-aggregate-put-2
 slice-aggregate-put-2 c = search needs
@@ -49,7 +49,7 @@ returns-2 : tie.Need-returns-2
 returns-2 c =
     let s = c .before .before .before .before .before .before .before .before .before .before .before .before .before .args in
     let p = c .before .before .put2 .ensures in
-    (put-as (none-text (snapOf (now (s .words)) (now (s .area)) (s .l)) (s .r) (c .before .before .before .before .before .if2 .taken)) p, omega (arith, p .next))
+    (put-as (none-text (snapOf (now (s .words)) (now (s .area)) (s .l)) (s .edition) (s .r) (c .before .before .before .before .before .if2 .taken)) p, omega (arith, p .next))
 
 slice-aggregate-put-3 : tie.Need-slice-aggregate-put-3
 slice-aggregate-put-3 c = search needs
@@ -68,7 +68,7 @@ returns-3 c =
     let s = c .before .before .before .before .before .before .before .before .before .before .before .before .before .before .before .before .before .args in
     let p = c .before .before .before .before .before .before .put3 .ensures in
     let q = c .before .before .put-number .ensures in
-    (put-as (refused-text (snapOf (now (s .words)) (now (s .area)) (s .l)) (s .r) (c .before .before .before .before .before .before .before .before .before .before .before .if1 .left) (c .before .before .before .before .before .before .before .before .before .if2 .left)) (put-two p (q .0)), omega (arith, p .next, q .1))
+    (put-as (refused-text (snapOf (now (s .words)) (now (s .area)) (s .l)) (s .edition) (s .r) (c .before .before .before .before .before .before .before .before .before .before .before .if1 .left) (c .before .before .before .before .before .before .before .before .before .if2 .left)) (put-two p (q .0)), omega (arith, p .next, q .1))
 
 pub put-outcome-spec : {M : Type 1} → statement M
 put-outcome-spec =

@@ -24,7 +24,7 @@ same-length c = search needs
 
 returns : tie.Need-returns
 returns c =
-    λ s. put-as (refusal-line s (c .before .before .before .before .before .before .before .before .before .before .before .before .before .before .before .args .number)) (put-two (c .before .before .before .before .before .before .before .before .before .before .before .put .ensures) (put-two (c .before .before .before .before .before .before .before .put-number .ensures .0) (c .before .before .put2 .ensures)))
+    λ s from. put-as (refusal-line s from (c .before .before .before .before .before .before .before .before .before .before .before .before .before .before .before .args .number)) (put-two (c .before .before .before .before .before .before .before .before .before .before .before .put .ensures) (put-two (c .before .before .before .before .before .before .before .put-number .ensures .0) (c .before .before .put2 .ensures)))
 
 pub put-refusal-spec : {M : Type 1} → statement M
 put-refusal-spec =

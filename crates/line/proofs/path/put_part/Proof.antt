@@ -5,7 +5,7 @@ use denote.Ref.{now}
 use native.Mathlib.Omega.{arith}
 use Rattle.printing.proofs.Laws.{put-as, put-two}
 use Rattle.line.specs.Joints.{jointIf}
-use Rattle.find_path.specs.Line.{textOf}
+use Rattle.find_path.specs.Line.{writtenOf}
 use Rattle.snapshot.specs.Layouts.{snapOf}
 use Rattle.line.proofs.path.put_part.Statement.{statement}
 use Rattle.line.proofs.path.put_part.Tie as tie
@@ -27,7 +27,7 @@ returns c =
     let s = c .before .before .before .before .before .before .before .before .before .before .before .before .before .args in
     let p = c .before .before .before .before .before .before .put .ensures in
     let q = c .before .before .put-name .ensures in (
-      put-as (ap (λ b. jointIf b ++ textOf (snapOf (now (s .words)) (now (s .area)) (s .l)) (s .n .0)) (sym (c .before .before .before .before .before .before .before .before .before .if1 .taken))) (put-two p (q .0)),
+      put-as (ap (λ b. jointIf b ++ writtenOf (snapOf (now (s .words)) (now (s .area)) (s .l)) (s .edition) (s .n .0)) (sym (c .before .before .before .before .before .before .before .before .before .if1 .taken))) (put-two p (q .0)),
       omega (arith, p .next, q .1),
     )
 
@@ -41,7 +41,7 @@ returns-2 : tie.Need-returns-2
 returns-2 c =
     let s = c .before .before .before .before .before .before .before .before .args in
     let q = c .before .before .put-name2 .ensures in (
-      put-as (ap (λ b. jointIf b ++ textOf (snapOf (now (s .words)) (now (s .area)) (s .l)) (s .n .0)) (sym (c .before .before .before .before .if1 .left))) (q .0),
+      put-as (ap (λ b. jointIf b ++ writtenOf (snapOf (now (s .words)) (now (s .area)) (s .l)) (s .edition) (s .n .0)) (sym (c .before .before .before .before .if1 .left))) (q .0),
       omega (arith, q .1),
     )
 

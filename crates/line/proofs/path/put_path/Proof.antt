@@ -5,18 +5,18 @@ use denote.Ref.{now}
 use lib.ListN.{length}
 use Rattle.line.proofs.Laws.{tailTo, tail-none, tail-next, path-done}
 use Rattle.printing.proofs.Laws.{put-as, put-two, put-none}
-use Rattle.find_path.specs.Line.{textOf}
+use Rattle.find_path.specs.Line.{writtenOf}
 use Rattle.printing.specs.Output.{Put}
 use Rattle.snapshot.specs.Layouts.{snapOf}
 use Rattle.line.proofs.path.put_path.Statement.{statement}
 use Rattle.line.proofs.path.put_path.Tie as tie
 
 abbrev Inv-loop : tie.InvT-loop
-Inv-loop out₀ at words area l kind names count leading to₀ i₀ out to i =
-    (i ≤ count) × (length out ≡ length out₀) × Put out₀ to₀ (tailTo (textOf (snapOf words area l)) leading names i) out to × (to ≤ to₀ + 257 * i)
+Inv-loop out₀ at words area l edition kind names count leading to₀ i₀ out to i =
+    (i ≤ count) × (length out ≡ length out₀) × Put out₀ to₀ (tailTo (writtenOf (snapOf words area l) edition) leading names i) out to × (to ≤ to₀ + 257 * i)
 
 abbrev μ-loop : tie.MeasureT-loop
-μ-loop out₀ at words area l kind names count leading to₀ i₀ out to i = count - i
+μ-loop out₀ at words area l edition kind names count leading to₀ i₀ out to i = count - i
 
 put-prefix-requires : tie.Need-put-prefix-requires Inv-loop μ-loop
 put-prefix-requires c κs = omega arith
@@ -24,11 +24,11 @@ put-prefix-requires c κs = omega arith
 loop-holds : tie.Need-loop-holds Inv-loop μ-loop
 loop-holds c = (omega arith, refl, put-as (tail-none _ _ _) (put-none _ _), omega arith)
 
-mul-t22 : tie.Need-mul-t22 Inv-loop μ-loop
-mul-t22 c = omega arith
+mul-t23 : tie.Need-mul-t23 Inv-loop μ-loop
+mul-t23 c = omega arith
 
-shared-slice-read-t24 : tie.Need-shared-slice-read-t24 Inv-loop μ-loop
-shared-slice-read-t24 c = omega arith
+shared-slice-read-t25 : tie.Need-shared-slice-read-t25 Inv-loop μ-loop
+shared-slice-read-t25 c = omega arith
 
 put-part-requires : tie.Need-put-part-requires Inv-loop μ-loop
 put-part-requires c κs =
@@ -49,7 +49,7 @@ loop-again c =
     let p = c .before .before .put-part in (
       omega arith,
       p .kept .0 ∙ l .inv .1,
-      put-as (tail-next (textOf (snapOf (now (s .words)) (now (s .area)) (s .l))) _ (now (s .names)) (l .i)) (put-two (l .inv .2) (p .ensures .0)),
+      put-as (tail-next (writtenOf (snapOf (now (s .words)) (now (s .area)) (s .l)) (s .edition)) _ (now (s .names)) (l .i)) (put-two (l .inv .2) (p .ensures .0)),
       omega (arith, l .inv .3, p .ensures .1),
     )
 
@@ -61,7 +61,7 @@ returns c =
     let s = c .before .before .before .before .before .before .before .before .before .before in
     let l = c .before .loop in
     let p = c .before .before .before .before .put-prefix .ensures in (
-      put-as (path-done (textOf (snapOf (now (s .args .words)) (now (s .args .area)) (s .args .l))) (s .args .kind) (now (s .args .names)) (l .i) (s .args .count) (l .inv .0) (c .loop-test .left) (s .pre .1 .1)) (put-two (p .0) (l .inv .2)),
+      put-as (path-done (writtenOf (snapOf (now (s .args .words)) (now (s .args .area)) (s .args .l)) (s .args .edition)) (s .args .kind) (now (s .args .names)) (l .i) (s .args .count) (l .inv .0) (c .loop-test .left) (s .pre .1 .1)) (put-two (p .0) (l .inv .2)),
       omega (arith, l .inv .0, l .inv .3, p .1, s .pre .1 .0),
     )
 
@@ -73,8 +73,8 @@ put-path-spec =
     μ-loop
     put-prefix-requires
     loop-holds
-    mul-t22
-    shared-slice-read-t24
+    mul-t23
+    shared-slice-read-t25
     put-part-requires
     add-i
     loop-less

@@ -8,16 +8,20 @@ use Rattle.module_records.proofs.crates.step.Tie as tie
 in-range-requires : tie.Need-in-range-requires
 in-range-requires c κs = search needs
 
-judge-requires : tie.Need-judge-requires
-judge-requires c κs = search needs
+edition-known-requires : tie.Need-edition-known-requires
+edition-known-requires c κs = search needs
+
+judge-crate-requires : tie.Need-judge-crate-requires
+judge-crate-requires c κs = search needs
 
 returns : tie.Need-returns
 returns c ms st =
     let k = c .before in
-    let s = k .before .before .before .before in
+    let s = k .before .before .before .before .before in
     crate-no (now (s .args .words)) (now (s .args .area)) (s .args .at) (s .args .l) ms st
-    (k .judge .ensures)
-    (k .before .in-range .ensures)
+    (k .judge-crate .ensures)
+    (k .before .before .in-range .ensures)
+    (k .before .edition-known .ensures)
     refl
     (c .if1 .taken)
 
@@ -39,10 +43,11 @@ same-length c = search needs
 returns-2 : tie.Need-returns-2
 returns-2 c ms st =
     let k = c .before in
-    let s = k .before .before .before .before in
+    let s = k .before .before .before .before .before in
     crate-on (now (s .args .words)) (now (s .args .area)) (s .args .at) (s .args .l) ms st
-    (k .judge .ensures)
-    (k .before .in-range .ensures)
+    (k .judge-crate .ensures)
+    (k .before .before .in-range .ensures)
+    (k .before .edition-known .ensures)
     refl
     (c .if1 .left) (s .pre .room) (s .pre .fits)
 
@@ -51,7 +56,8 @@ step-spec =
     tie.close
     (tie.spec
     in-range-requires
-    judge-requires
+    edition-known-requires
+    judge-crate-requires
     returns
     add-area
     mul-area

@@ -68,8 +68,21 @@ same-length-5 : tie.Need-same-length-5
 same-length-5 c = search needs
 
 returns-5 : tie.Need-returns-5
-returns-5 c =
-    put-as (later-other _ (c .before .before .before .before .before .before .before .before .if1 .left) (c .before .before .before .before .before .before .before .if2 .left) (c .before .before .before .before .before .before .if3 .left) (c .before .before .before .before .before .if4 .left)) (c .before .before .put5 .ensures)
+unfolding laterMeaning
+returns-5 c = put-as (ap laterMeaning (sym (c .before .before .before .before .before .if5 .taken))) (c .before .before .put5 .ensures)
+
+slice-aggregate-put-6 : tie.Need-slice-aggregate-put-6
+slice-aggregate-put-6 c = search needs
+
+put-requires-6 : tie.Need-put-requires-6
+put-requires-6 c κs = search needs
+
+same-length-6 : tie.Need-same-length-6
+same-length-6 c = search needs
+
+returns-6 : tie.Need-returns-6
+returns-6 c =
+    put-as (later-other _ (c .before .before .before .before .before .before .before .before .before .if1 .left) (c .before .before .before .before .before .before .before .before .if2 .left) (c .before .before .before .before .before .before .before .if3 .left) (c .before .before .before .before .before .before .if4 .left) (c .before .before .before .before .before .if5 .left)) (c .before .before .put6 .ensures)
 
 pub put-later-meaning-spec : {M : Type 1} → statement M
 put-later-meaning-spec =
@@ -94,4 +107,8 @@ put-later-meaning-spec =
     slice-aggregate-put-5
     put-requires-5
     same-length-5
-    returns-5)
+    returns-5
+    slice-aggregate-put-6
+    put-requires-6
+    same-length-6
+    returns-6)
