@@ -1,6 +1,6 @@
 use borrow.Author.Needs.{needs}
-use Rattle.records.proofs.crates.edition_known.Statement.{statement}
-use Rattle.records.proofs.crates.edition_known.Tie as tie
+use Rattle.module_records.proofs.crates.edition_known.Statement.{statement}
+use Rattle.module_records.proofs.crates.edition_known.Tie as tie
 
 crate-edition-requires : tie.Need-crate-edition-requires
 crate-edition-requires c κs = search needs
