@@ -550,6 +550,7 @@ searched-routed s valid q fuel a e =
       path = search-path Tank fromTank s valid q (a .some) (a .limit) t .path e;
       count = names-count 16 (omega arith) (search-fits Tank fromTank s q (a .some) (a .limit) t);
       unstable = allowed s q;
+      limit = context-limit s q _;
     }
 
 kind-routed : {words : List ℕ} {q : Query} {fuel : ℕ} (s : Snapshot) → verdict words ≡ accept s → (r : Report) → Kind words q fuel r

@@ -346,7 +346,7 @@ pub keyword-cases :
     && passes (withKeywords 2024) (keywordsAlways ++ keywords2024)
     && passes (withKeywords 2022) (row 5 0 0 1 0 9 "refused 43 0 0" ∷ []))
     ≡ true
-unfolding passes keywordsAlways keywords2015 keywords2018 keywords2024 row withKeywords named head
+unfolding passes keywordsAlways keywords2015 keywords2018 keywords2024 rowAt withKeywords named head
 keyword-cases = refl
 
 -- The first charge that finds the tank empty: the length left, and the module looked for, +1.

@@ -79,3 +79,5 @@ pub record Routed (s : Snapshot) (q : Query) (r : Report) : Type 0 where
   pub count : length (pathNames r) ≡ r .count
   -- unstable imports are allowed by bit 8 of the options
   pub unstable : askedContext s q .unstable ≡ bit (q .options) 8
+  -- its names are bounded by the question's limit
+  pub limit : askedContext s q .limit ≡ q .limit

@@ -16,7 +16,7 @@ nameLimit = 2048
 abbrev pub definitionLimit : ℕ
 definitionLimit = 2048
 
--- names of the longest path that the search starts with
+-- the length left where a search begins, at most
 abbrev pub pathLimit : ℕ
 pathLimit = 15
 

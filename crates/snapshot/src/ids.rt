@@ -38,7 +38,7 @@ impl Name {
 pub struct PathLen(pub usize);
 
 impl PathLen {
-    /// The length left where a search begins.
+    /// The length left where a search begins, at most.
     pub const LIMIT: usize = 15;
 }
 
