@@ -71,7 +71,10 @@ enum kelumavor_question {
 /* A report: outcome (0 found, 1 none, 2 refused), number of the refusal; path kind (0 plain, 1 self, 2 super, 3 crate, 4 a
  * leading ::), sixteen names and how many of them are the path's; charges; 1 where the fuel ran out. Only where that is 0 does
  * none say that there is no path. Of the first search that found no fuel: the length left there, and the module that it looked for,
- * +1, or 0 where it was the question's own item or its enum; both are 0 where the fuel did not run out. */
+ * +1, or 0 where it was the question's own item or its enum; both are 0 where the fuel did not run out. How the path came about: the
+ * number of steps, and seventeen of them. A step is 8 times the word at which the record used begins, 0 for a keyword, plus the rule
+ * (enum kelumavor_rule); there is one for the path's start, a keyword without names or the first name with any prefix, then one for
+ * each further name. */
 enum kelumavor_report {
     KELUMAVOR_OUTCOME,
     KELUMAVOR_NUMBER,
@@ -82,7 +85,21 @@ enum kelumavor_report {
     KELUMAVOR_EMPTY,
     KELUMAVOR_EMPTY_LEFT,
     KELUMAVOR_EMPTY_MODULE,
-    KELUMAVOR_REPORT /* how many */
+    KELUMAVOR_STEPS,
+    KELUMAVOR_ROUTE,
+    KELUMAVOR_REPORT = KELUMAVOR_ROUTE + 17 /* how many */
+};
+
+/* The rules of a route. */
+enum kelumavor_rule {
+    KELUMAVOR_BUILTIN,
+    KELUMAVOR_SCOPE,
+    KELUMAVOR_PRELUDE,
+    KELUMAVOR_EXTERN,
+    KELUMAVOR_KEYWORD,
+    KELUMAVOR_VARIANT,
+    KELUMAVOR_LOCAL,
+    KELUMAVOR_IMPORT
 };
 
 /* Answers a question on a snapshot, which is checked again. Writes the report where there is room for it, and says whether there
@@ -117,6 +134,31 @@ size_t kelumavor_place(uint32_t state[KELUMAVOR_STATE], size_t window, const uin
  * within eight turns, whatever the other windows place. */
 size_t kelumavor_turn(uint32_t state[KELUMAVOR_STATE], const uint32_t *words, size_t words_len, uint32_t *area, size_t area_len,
                       uint32_t report[KELUMAVOR_REPORT]);
+
+/* An entry of a module's scope: module, namespace, name, definition, visibility (0 public, 1 crate, 2 module explicit, 3 module
+ * implicit) and its number, declared (0 imported, 1 declared there, 2 and 3 the same and deprecated). */
+enum kelumavor_entry {
+    KELUMAVOR_ENTRY_MODULE,
+    KELUMAVOR_ENTRY_NAMESPACE,
+    KELUMAVOR_ENTRY_NAME,
+    KELUMAVOR_ENTRY_DEFINITION,
+    KELUMAVOR_ENTRY_VISIBILITY,
+    KELUMAVOR_ENTRY_NUMBER,
+    KELUMAVOR_ENTRY_DECLARED,
+    KELUMAVOR_ENTRY /* how many */
+};
+
+/* Adds an entry to the snapshot in the first count words, after its last scope record; the words after it move up, those past the new
+ * end become 0, and count grows. Answers 0, or the number by which the edit is refused, with words and count unchanged: 20 for an area
+ * of fewer than 16,384 words; 30 for a count above words_len; 30 to 36 and 43 for the snapshot; 32, 33 and 35 for the entry; 47 for a name that
+ * is there already; 48 for an entry that would pass 16,384 words or words_len. The area is left as by kelumavor_find_path. */
+size_t kelumavor_add_entry(uint32_t *words, size_t words_len, size_t *count, uint32_t *area, size_t area_len,
+                           const uint32_t entry[KELUMAVOR_ENTRY]);
+
+/* Removes the entry of a module, a namespace and a name; the words after its record move down, those past the new end become 0, and
+ * count falls. Answers as kelumavor_add_entry does, with 47 for a name that is not there. */
+size_t kelumavor_remove_entry(uint32_t *words, size_t words_len, size_t *count, uint32_t *area, size_t area_len, size_t module,
+                              size_t name_space, size_t name);
 
 #ifdef __cplusplus
 }

@@ -4,10 +4,11 @@ use std::io::Write;
 use std::process::{Command, Stdio};
 
 use crate::Question;
-use crate::check::{Snapshot, check};
-use crate::encode::words;
+use crate::check::{Snapshot, check, kind};
+use crate::encode::{bytes, head, words};
 use crate::printer::{lines, parts_of, words_of};
 use crate::right::ask::Program;
+use crate::route;
 use crate::show::{hexadecimal, question_text, snapshot_text};
 use crate::shrink::{input, shrink};
 
@@ -81,6 +82,10 @@ pub struct Totals {
     pub most_charges: usize,
     /// of the accepted inputs: names, crates, modules, definitions, words
     pub largest: [usize; 5],
+    /// lines of questions of kind 14
+    pub routed: usize,
+    /// lines of questions for a reach
+    pub reaches: usize,
     pub differences: usize,
 }
 
@@ -108,7 +113,7 @@ impl fmt::Display for Totals {
         let refused: usize = self.refused.values().sum();
         write!(
             f,
-            "{} inputs ({} accepted), {} lines: {} found, {} none, {} with an empty tank, most charges {}, {} refused {:?}; at most {} names, {} crates, {} modules, {} definitions, {} words; {} differences",
+            "{} inputs ({} accepted), {} lines: {} found, {} none, {} with an empty tank, most charges {}, {} refused {:?}; at most {} names, {} crates, {} modules, {} definitions, {} words; {} lines with a route, {} of a reach; {} differences",
             self.inputs,
             self.accepted_inputs,
             self.found + self.none + refused,
@@ -123,6 +128,8 @@ impl fmt::Display for Totals {
             self.largest[2],
             self.largest[3],
             self.largest[4],
+            self.routed,
+            self.reaches,
             self.differences
         )
     }
@@ -142,7 +149,69 @@ fn show_smallest(s: Snapshot, question: Question, other: &Other) {
     println!("  words: {}", hexadecimal(&words(&s)));
 }
 
-pub fn compare_input(title: &str, input: &[u8], other: &Other, totals: &mut Totals, show: usize) {
+/// Whether the output has these lines; a question of kind 14 has its route after the line.
+fn same(words: &Result<Vec<u32>, u32>, right: &[Vec<u8>], output: &[u8]) -> bool {
+    let Ok(words) = words else { return output == joined(right.to_vec()) };
+    let (snapshot, questions, _) = parts_of(words);
+    let asked = |place: usize| place < questions.len() && kind(words[snapshot.len() + 7 * place]) == 14;
+    let theirs: Vec<&[u8]> = output.split(|&byte| byte == b'\n').collect();
+    // names of the input may hold line feeds, so that only whole outputs can be compared without a route
+    if !(0..questions.len()).any(asked) {
+        return output == joined(right.to_vec());
+    }
+    theirs.len() == right.len() + 1
+        && right
+            .iter()
+            .zip(&theirs)
+            .enumerate()
+            .all(|(place, (line, other))| if asked(place) { route::agrees(words, line, other) } else { line == other })
+}
+
+/// The questions once more, as kind 14.
+fn compare_routes(words: &[u32], right: &[Vec<u8>], other: &Other) -> Result<(), String> {
+    let (snapshot, questions, _) = parts_of(words);
+    let output = other.output(&bytes(&route::routed(words, snapshot.len(), questions.len())));
+    let mut rest = &output[..];
+    for (place, line) in right.iter().enumerate() {
+        // a name may hold a line feed: the line of kind 12 is taken off first
+        let begin = rest.starts_with(line).then_some(line.len()).unwrap_or(0);
+        let end = begin + rest[begin..].iter().position(|&byte| byte == b'\n').unwrap_or(rest.len() - begin);
+        let theirs = &rest[..end];
+        let agrees = if place < questions.len() { route::agrees(words, line, theirs) } else { line == theirs };
+        if !agrees {
+            return Err(format!(
+                "  line {place}\n  Rust:  {}\n  other: {}",
+                String::from_utf8_lossy(line),
+                String::from_utf8_lossy(theirs)
+            ));
+        }
+        rest = &rest[(end + 1).min(rest.len())..];
+    }
+    if rest.is_empty() { Ok(()) } else { Err("  more lines".to_string()) }
+}
+
+/// How much can be named from the first and the last module, with little fuel and with much. A search of the Rust that takes long is not waited for.
+fn compare_reach(words: &[u32], other: &Other, totals: &mut Totals) -> Result<(), String> {
+    let start = parts_of(words).0.len();
+    let Ok(s) = check(&words[..start]) else { return Ok(()) };
+    for (module, prefix, fuel) in [(0, 1, 10), (s.modules.len() - 1, 0, 300)] {
+        let input = bytes(&[&words[..start], &[head(15, module), prefix, 0, fuel, 15]].concat());
+        let [Some(right)] = &lines(&input, Program::new, 20_000)[..] else { continue };
+        totals.reaches += 1;
+        let theirs = other.output(&input);
+        if theirs != joined(vec![right.clone()]) {
+            return Err(format!(
+                "  module {module}\n  Rust:  {}\n  other: {}",
+                String::from_utf8_lossy(right),
+                String::from_utf8_lossy(&theirs)
+            ));
+        }
+    }
+    Ok(())
+}
+
+/// With `routes` the questions are put a second time, as kind 14, and two for a reach after them.
+pub fn compare_input(title: &str, input: &[u8], other: &Other, totals: &mut Totals, show: usize, routes: bool) {
     let right = original(input);
     totals.inputs += 1;
     for line in &right {
@@ -157,7 +226,20 @@ pub fn compare_input(title: &str, input: &[u8], other: &Other, totals: &mut Tota
         }
     }
     let output = other.output(input);
-    if output == joined(right.clone()) {
+    if let (true, Ok(words), Other::Program(_)) = (routes, &words, other) {
+        totals.routed += right.len();
+        if let Err(text) = compare_routes(words, &right, other) {
+            totals.differences += 1;
+            println!("difference: {title}, with its routes\n{text}");
+            return;
+        }
+        if let Err(text) = compare_reach(words, other, totals) {
+            totals.differences += 1;
+            println!("difference: {title}, the reach\n{text}");
+            return;
+        }
+    }
+    if same(&words, &right, &output) {
         return;
     }
     totals.differences += 1;

@@ -10,6 +10,8 @@ pub mod keywords;
 pub mod printer;
 pub mod question;
 pub mod random;
+pub mod reach;
+pub mod route;
 pub mod rules;
 pub mod show;
 pub mod shrink;

@@ -1,6 +1,6 @@
 //! The printer of document 01: input bytes to lines, over any program that answers.
 use crate::check::{Snapshot, check, kind, payload};
-use crate::{Answer, Answers, Question};
+use crate::{Answer, Answers, Question, reach};
 
 /// The words of an input, or the refusal of its length (40, 41).
 pub fn words_of(input: &[u8]) -> Result<Vec<u32>, u32> {
@@ -13,17 +13,29 @@ pub fn words_of(input: &[u8]) -> Result<Vec<u32>, u32> {
     Ok(input.chunks(4).map(|bytes| u32::from_le_bytes(bytes.try_into().unwrap())).collect())
 }
 
-/// The snapshot's words, the whole questions, and whether a word is outside of them (42).
+/// A question, for its path (12) or its route too (14).
+fn is_question(word: u32) -> bool {
+    matches!(kind(word), 12 | 14)
+}
+
+/// The snapshot's words, the whole questions before any for a reach (15), and whether a word is outside of them.
 pub fn parts_of(words: &[u32]) -> (&[u32], Vec<Question>, bool) {
-    let start = words.iter().position(|&word| kind(word) == 12).unwrap_or(words.len());
+    let start = words.iter().position(|&word| is_question(word) || kind(word) == 15).unwrap_or(words.len());
     let mut questions = Vec::new();
     let mut rest = &words[start..];
-    while rest.len() >= 7 && kind(rest[0]) == 12 && rest[1..7].iter().all(|&word| kind(word) == 0) {
-        let [ns, from, prefix, options, fuel, limit] = std::array::from_fn(|place| rest[1 + place] as usize);
-        questions.push(Question { definition: payload(rest[0]), ns, from, prefix, options, fuel, limit });
+    while let Some(question) = question_of(rest) {
+        questions.push(question);
         rest = &rest[7..];
     }
     (&words[..start], questions, !rest.is_empty())
+}
+
+/// The whole question at the front of the words.
+fn question_of(words: &[u32]) -> Option<Question> {
+    let whole = words.len() >= 7 && is_question(words[0]) && words[1..7].iter().all(|&word| kind(word) == 0);
+    let [ns, from, prefix, options, fuel, limit] =
+        std::array::from_fn(|place| words.get(1 + place).map_or(0, |&word| word as usize));
+    whole.then(|| Question { definition: payload(words[0]), ns, from, prefix, options, fuel, limit })
 }
 
 /// The refusal of a question before any search, for a snapshot that was accepted or refused.
@@ -81,23 +93,29 @@ pub fn lines<A: Answers>(input: &[u8], fill: impl Fn(&Snapshot) -> A, steps: u64
         Err(number) => return vec![Some(refused_line(number))],
         Ok(words) => words,
     };
-    let (snapshot, questions, outside) = parts_of(&words);
-    let snapshot = check(snapshot);
-    let program = snapshot.as_ref().ok().filter(|_| !questions.is_empty()).map(&fill);
+    let start = parts_of(&words).0.len();
+    let snapshot = check(&words[..start]);
+    let program = snapshot.as_ref().ok().filter(|_| start < words.len()).map(&fill);
     let mut lines: Vec<Option<Vec<u8>>> = Vec::new();
-    for question in &questions {
-        lines.push(match refusal(&snapshot, question) {
+    let mut rest = &words[start..];
+    while !rest.is_empty() {
+        let answered = |number: Option<u32>, answer: &dyn Fn(&Snapshot, &A) -> Option<Vec<u8>>| match number {
             Some(number) => Some(refused_line(number)),
-            None => {
-                let program = program.as_ref().unwrap();
-                let answer = crate::budget::within(steps, || program.put(question));
-                let s = snapshot.as_ref().unwrap();
-                answer.map(|answer| line(|name| written(s, question.from, name), &answer))
-            }
-        });
-    }
-    if outside {
-        lines.push(Some(refused_line(42)));
+            None => answer(snapshot.as_ref().unwrap(), program.as_ref().unwrap()),
+        };
+        if let Some(viewer) = reach::viewer(rest) {
+            lines.push(answered(reach::refusal(&snapshot, &viewer), &|s, program| reach::line(s, program, &viewer, steps)));
+            rest = &rest[5..];
+        } else if let Some(question) = question_of(rest) {
+            lines.push(answered(refusal(&snapshot, &question), &|s, program| {
+                let answer = crate::budget::within(steps, || program.put(&question))?;
+                Some(line(|name| written(s, question.from, name), &answer))
+            }));
+            rest = &rest[7..];
+        } else {
+            lines.push(Some(refused_line(42)));
+            break;
+        }
     }
     lines
 }

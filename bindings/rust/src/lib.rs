@@ -33,22 +33,26 @@
 //! }
 //! # Ok::<(), kelumavor::Refusal>(())
 //! ```
+mod edits;
 mod ids;
 mod path;
 mod question;
 mod refusal;
 mod report;
+mod route;
 mod snapshot;
 mod sys;
 mod text;
 mod windows;
 mod words;
 
+pub use edits::{EditedWords, Entry};
 pub use ids::{CrateId, DefinitionId, MapId, ModuleId, NameId, Namespace};
 pub use path::{Names, Path, PathKind};
 pub use question::{Options, Prefix, Question};
 pub use refusal::{Refusal, RefusalKind};
 pub use report::{FirstEmpty, Outcome, Report};
+pub use route::{Rule, Step};
 pub use snapshot::{Counts, Snapshot, WorkArea};
 pub use text::Text;
 pub use windows::Windows;

@@ -2,6 +2,7 @@
 use std::fmt;
 
 use crate::ids::{ModuleId, NameId};
+use crate::route::Step;
 use crate::snapshot::Snapshot;
 use crate::text::Text;
 
@@ -65,11 +66,16 @@ pub struct Path<'s> {
     kind: PathKind,
     names: [u32; Path::NAMES],
     count: usize,
+    route: [u32; Path::STEPS],
+    steps: usize,
 }
 
 impl<'s> Path<'s> {
     /// Names of a path, at most.
     pub const NAMES: usize = 16;
+
+    /// Steps of its route, at most.
+    pub const STEPS: usize = 17;
 
     pub(crate) fn new(
         snapshot: &'s Snapshot<'s>,
@@ -77,8 +83,11 @@ impl<'s> Path<'s> {
         kind: u32,
         names: [u32; Path::NAMES],
         count: u32,
+        route: [u32; Path::STEPS],
+        steps: u32,
     ) -> Self {
-        Path { snapshot, from, kind: PathKind::from_number(kind), names, count: count as usize }
+        let kind = PathKind::from_number(kind);
+        Path { snapshot, from, kind, names, count: count as usize, route, steps: steps as usize }
     }
 
     pub fn kind(&self) -> PathKind {
@@ -93,6 +102,12 @@ impl<'s> Path<'s> {
     /// The texts of its names, without `r#`.
     pub fn names(&self) -> Names<'_> {
         Names { snapshot: self.snapshot, names: self.names[..self.count].iter() }
+    }
+
+    /// How it came about: a step for its start, which is a keyword without names, or its first name with any prefix; then one for
+    /// each further name.
+    pub fn route(&self) -> impl ExactSizeIterator<Item = Step> + '_ {
+        self.route[..self.steps].iter().map(|word| Step::new(*word))
     }
 
     /// The path as the path printer prints it.

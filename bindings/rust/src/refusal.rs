@@ -41,6 +41,10 @@ pub enum RefusalKind {
     BatchTooLong = 44,
     /// 46
     LimitOutOfRange = 46,
+    /// 47, by an edit of [`EditedWords`](crate::EditedWords)
+    EntryThereOrNot = 47,
+    /// 48, by [`EditedWords::add`](crate::EditedWords::add)
+    NoRoom = 48,
     /// 49, by [`Windows::place`](crate::Windows::place)
     NoSuchWindow = 49,
     /// 50, by [`Windows::place`](crate::Windows::place)
@@ -48,7 +52,7 @@ pub enum RefusalKind {
 }
 
 impl RefusalKind {
-    const ALL: [RefusalKind; 19] = [
+    const ALL: [RefusalKind; 22] = [
         Self::SmallWorkArea,
         Self::TooMuchFuel,
         Self::OutOfRange,
@@ -67,6 +71,8 @@ impl RefusalKind {
         Self::UnknownEdition,
         Self::BatchTooLong,
         Self::LimitOutOfRange,
+        Self::EntryThereOrNot,
+        Self::NoRoom,
         Self::NoSuchWindow,
         Self::WindowWaits,
     ];
@@ -102,6 +108,8 @@ impl fmt::Display for RefusalKind {
             Self::UnknownEdition => "an edition other than 2015, 2018, 2021 and 2024",
             Self::BatchTooLong => "more than 64 questions, a part of one, or too few words for their reports",
             Self::LimitOutOfRange => "the limit is outside 1 to 15",
+            Self::EntryThereOrNot => "an added name that is there already, or a removal of one that isn't",
+            Self::NoRoom => "an addition that would pass 16,384 words or the lent slice",
             Self::NoSuchWindow => "a window above 7",
             Self::WindowWaits => "the window has a question that waits already",
         })

@@ -50,6 +50,8 @@ pub struct FirstEmpty {
 /// let Outcome::Found(path) = report.outcome else { panic!() };
 /// assert_eq!(path.to_string(), "a::f");
 /// assert_eq!(path.names().map(|name| name.to_string()).collect::<Vec<_>>(), ["a", "f"]);
+/// // `a` by the scope record at word 21, `f` by the one at word 28, which the search in the crate found.
+/// assert_eq!(path.route().map(|step| step.to_string()).collect::<Vec<_>>(), ["scope@21", "local@28"]);
 ///
 /// // Without fuel nothing is known, and the outcome says so.
 /// let report = snapshot.find_path(&question.fuel(0));
@@ -69,8 +71,12 @@ pub struct Report<'s> {
 impl<'s> Report<'s> {
     /// The report on a question that was asked from a module.
     pub(crate) fn new(snapshot: &'s Snapshot<'s>, from: ModuleId, words: [u32; sys::REPORT]) -> Self {
-        let [outcome, number, kind, names @ .., count, charges, empty, left, sought] = words;
-        let path = || Path::new(snapshot, from, kind, names, count);
+        let [outcome, number, kind, rest @ ..] = words;
+        let (names, rest) = rest.split_at(Path::NAMES);
+        let names = names.try_into().expect("sixteen names");
+        let [count, charges, empty, left, sought, steps, route @ ..]: [u32; 6 + Path::STEPS] =
+            rest.try_into().expect("as many as a report has");
+        let path = || Path::new(snapshot, from, kind, names, count, route, steps);
         let outcome = match (outcome, empty) {
             (0, 0) => Outcome::Found(path()),
             (1, 0) => Outcome::NoPath,

@@ -8,7 +8,7 @@ pub const CHECKED: usize = 13;
 pub const QUESTION: usize = 7;
 
 /// Words of a report.
-pub const REPORT: usize = 24;
+pub const REPORT: usize = 42;
 
 /// Questions of a call, at most.
 pub const QUESTIONS: usize = 64;
@@ -18,6 +18,9 @@ pub const WINDOWS: usize = 8;
 
 /// Words of the windows' state.
 pub const STATE: usize = 1 + WINDOWS * (1 + QUESTION);
+
+/// Words of an entry of a scope.
+pub const ENTRY: usize = 7;
 
 mod raw {
     unsafe extern "C" {
@@ -82,6 +85,26 @@ mod raw {
             area: *mut u32,
             area_len: usize,
             report: *mut [u32; super::REPORT],
+        ) -> usize;
+
+        pub fn kelumavor_add_entry(
+            words: *mut u32,
+            words_len: usize,
+            count: *mut usize,
+            area: *mut u32,
+            area_len: usize,
+            entry: *const [u32; super::ENTRY],
+        ) -> usize;
+
+        pub fn kelumavor_remove_entry(
+            words: *mut u32,
+            words_len: usize,
+            count: *mut usize,
+            area: *mut u32,
+            area_len: usize,
+            module: usize,
+            namespace: usize,
+            name: usize,
         ) -> usize;
     }
 }
@@ -165,4 +188,28 @@ pub fn turn(state: &mut [u32; STATE], words: &[u32], area: &mut [u32]) -> Option
     let window =
         unsafe { raw::kelumavor_turn(state, words.as_ptr(), words.len(), area.as_mut_ptr(), area.len(), &mut report) };
     (window < WINDOWS).then_some((window, report))
+}
+
+/// The number of the refusal, 0 for none.
+pub fn add_entry(words: &mut [u32], count: &mut usize, area: &mut [u32], entry: &[u32; ENTRY]) -> usize {
+    // SAFETY: as in `check`.
+    unsafe { raw::kelumavor_add_entry(words.as_mut_ptr(), words.len(), count, area.as_mut_ptr(), area.len(), entry) }
+}
+
+/// The number of the refusal, 0 for none.
+pub fn remove_entry(words: &mut [u32], count: &mut usize, area: &mut [u32], key: [usize; 3]) -> usize {
+    let [module, namespace, name] = key;
+    // SAFETY: as in `check`.
+    unsafe {
+        raw::kelumavor_remove_entry(
+            words.as_mut_ptr(),
+            words.len(),
+            count,
+            area.as_mut_ptr(),
+            area.len(),
+            module,
+            namespace,
+            name,
+        )
+    }
 }

@@ -31,6 +31,18 @@ pub enum Visibility {
     Implicit(ModuleId),
 }
 
+impl Visibility {
+    /// Its number, and that of the crate or the module.
+    pub(crate) fn numbers(self) -> (u32, u32) {
+        match self {
+            Visibility::Public => (0, 0),
+            Visibility::Crate(krate) => (1, krate.0),
+            Visibility::Explicit(module) => (2, module.0),
+            Visibility::Implicit(module) => (3, module.0),
+        }
+    }
+}
+
 /// The words of a snapshot, one record after the other. A kind of records follows the other in the order of the functions
 /// here, but a map may follow a module. What is wrong with the records is found by [`Snapshot::check`](crate::Snapshot::check).
 #[derive(Clone, Debug, Default, PartialEq, Eq)]
@@ -153,12 +165,7 @@ impl SnapshotWords {
         visibility: Visibility,
         declared: u32,
     ) {
-        let (kind, number) = match visibility {
-            Visibility::Public => (0, 0),
-            Visibility::Crate(krate) => (1, krate.0),
-            Visibility::Explicit(module) => (2, module.0),
-            Visibility::Implicit(module) => (3, module.0),
-        };
+        let (kind, number) = visibility.numbers();
         self.record(9, module.0, &[namespace as u32, name.0, definition.0, kind, number, declared]);
     }
 

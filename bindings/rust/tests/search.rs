@@ -7,7 +7,7 @@ use std::process::{Command, Stdio};
 use common::{WORKED, random, repository};
 use kelumavor::{
     DefinitionId, Edition, FirstEmpty, ModuleId, NameId, Namespace, Options, Outcome, PathKind, Prefix, Question,
-    RefusalKind, Report, Snapshot, SnapshotWords, Visibility, Windows, WorkArea,
+    RefusalKind, Report, Rule, Snapshot, SnapshotWords, Step, Visibility, Windows, WorkArea,
 };
 
 const NAMESPACES: [Namespace; 3] = [Namespace::Types, Namespace::Values, Namespace::Macros];
@@ -53,6 +53,19 @@ fn outcomes_are_told_apart() {
     assert_eq!(ask(1, 1, 9).first_empty, None);
     assert_eq!(ask(1, 1, 0).first_empty, Some(FirstEmpty { length_left: 15, module: None }));
     assert_eq!(ask(0, 2, 9).first_empty, None);
+}
+
+#[test]
+fn routes_name_their_records() {
+    let snapshot = Snapshot::check(&WORKED).unwrap();
+    let ask = |module, prefix| {
+        let report = snapshot.find_path(&question(1, 1, module, prefix, 9));
+        report.path().unwrap().route().collect::<Vec<_>>()
+    };
+    assert_eq!(ask(0, 1), [Step { rule: Rule::Scope, place: 21 }, Step { rule: Rule::Local, place: 28 }]);
+    assert_eq!(ask(1, 1), [Step { rule: Rule::Scope, place: 28 }]);
+    let keyword = Step { rule: Rule::Keyword, place: 0 };
+    assert_eq!(ask(1, 2), [keyword, Step { rule: Rule::Local, place: 21 }, Step { rule: Rule::Local, place: 28 }]);
 }
 
 #[test]
@@ -147,8 +160,8 @@ fn random_question(random: &mut random::Random, snapshot: &random::Snapshot) -> 
     .limit(limit)
 }
 
-/// The words of a question in the printer's input.
-fn printer_words(question: &Question) -> [u32; 7] {
+/// The words of a question in the printer's input, for its route too or not.
+fn printer_words(question: &Question, routed: bool) -> [u32; 7] {
     let options = question.options;
     let bits = [
         options.prefer_no_std,
@@ -160,7 +173,7 @@ fn printer_words(question: &Question) -> [u32; 7] {
     ];
     let bits = bits.iter().rev().fold(0, |sum, bit| 2 * sum + u32::from(*bit));
     [
-        0xc000_0000 + question.definition.0,
+        (if routed { 0xe000_0000 } else { 0xc000_0000 }) + question.definition.0,
         question.namespace as u32,
         question.from.0,
         question.prefix as u32,
@@ -212,9 +225,16 @@ fn random_questions_as_printed() {
         let snapshot = random::snapshot(&mut random);
         let questions: Vec<Question> = (0..100).map(|_| random_question(&mut random, &snapshot)).collect();
         let mut input = snapshot.words.clone();
-        input.extend(questions.iter().flat_map(printer_words));
+        // every second question asks for its route
+        let asked = || questions.iter().enumerate().map(|(number, question)| (question, number % 2 == 1));
+        input.extend(asked().flat_map(|(question, routed)| printer_words(question, routed)));
         let checked = Snapshot::check(&snapshot.words).unwrap();
-        let lines: Vec<String> = questions.iter().map(|q| checked.find_path_in(q, &mut area).to_string()).collect();
+        let mut lines = Vec::new();
+        for (question, routed) in asked() {
+            let report = checked.find_path_in(question, &mut area);
+            let steps = report.path().filter(|_| routed).into_iter().flat_map(|path| path.route());
+            lines.push(steps.fold(report.to_string(), |line, step| format!("{line} {step}")));
+        }
         assert_eq!(printed(&input).lines().collect::<Vec<_>>(), lines, "seed {seed}");
     }
 }

@@ -57,13 +57,13 @@ fn refused(area: usize, questions: usize, reports: usize, number: usize, cleared
 
 #[test]
 fn refused_whole() {
-    refused(16_383, 7, 24, 20, 0);
+    refused(16_383, 7, 42, 20, 0);
     refused(0, 0, 0, 20, 0);
     // 20 comes before 44
-    refused(16_383, 65 * 7, 65 * 24, 20, 0);
-    refused(16_384, 65 * 7, 65 * 24, 44, 16_384);
-    refused(16_400, 64 * 7, 64 * 24 - 1, 44, 16_384);
-    refused(16_384, 7, 21, 44, 16_384);
+    refused(16_383, 65 * 7, 65 * 42, 20, 0);
+    refused(16_384, 65 * 7, 65 * 42, 44, 16_384);
+    refused(16_400, 64 * 7, 64 * 42 - 1, 44, 16_384);
+    refused(16_384, 7, 41, 44, 16_384);
     for part in 1..7 {
         refused(16_384, part, 100, 44, 16_384);
         refused(16_384, 14 + part, 100, 44, 16_384);
@@ -73,10 +73,10 @@ fn refused_whole() {
 #[test]
 fn answered() {
     for (count, area) in [(0, 16_384), (1, 16_384), (64, 16_390)] {
-        let called = called(area, 7 * count, 24 * count + 3);
+        let called = called(area, 7 * count, 42 * count + 3);
         assert_eq!(called.number, 0);
-        let (reports, rest) = called.reports.split_at(24 * count);
-        assert!(reports.chunks(24).all(|report| report[..2] == [2, 21] && report[2..].iter().all(|word| *word == 0)));
+        let (reports, rest) = called.reports.split_at(42 * count);
+        assert!(reports.chunks(42).all(|report| report[..2] == [2, 21] && report[2..].iter().all(|word| *word == 0)));
         assert_eq!(rest, [7; 3]);
         assert!(called.area[..16_384].iter().all(|word| *word == 0));
         assert!(called.area[16_384..].iter().all(|word| *word == 7));

@@ -12,7 +12,7 @@ unsafe extern "C" {
         words_len: usize,
         area: *mut u32,
         area_len: usize,
-        report: *mut [u32; 24],
+        report: *mut [u32; 42],
     ) -> usize;
 }
 
@@ -21,7 +21,7 @@ fn place(state: &mut [u32; 65], window: usize, question: [u32; 7]) -> usize {
     unsafe { kelumavor_place(state, window, &question) }
 }
 
-fn turn(state: &mut [u32; 65], area: &mut [u32], report: &mut [u32; 24]) -> usize {
+fn turn(state: &mut [u32; 65], area: &mut [u32], report: &mut [u32; 42]) -> usize {
     // SAFETY: each pointer and length is that of a reference.
     unsafe { kelumavor_turn(state, WORKED.as_ptr(), WORKED.len(), area.as_mut_ptr(), area.len(), report) }
 }
@@ -60,7 +60,7 @@ fn placed_and_refused() {
 
 #[test]
 fn served_round() {
-    let (mut area, mut report) = (vec![7; 16_390], [7; 24]);
+    let (mut area, mut report) = (vec![7; 16_390], [7; 42]);
     let mut windows = state(6, &[(2, ASKED), (5, ASKED), (7, ASKED)]);
     assert_eq!(turn(&mut windows, &mut area, &mut report), 7);
     assert_eq!(windows, state(0, &[(2, ASKED), (5, ASKED)]));
@@ -76,7 +76,7 @@ fn served_round() {
 
 #[test]
 fn idle() {
-    let (mut area, mut report) = (vec![7; 16_384], [7; 24]);
+    let (mut area, mut report) = (vec![7; 16_384], [7; 42]);
     for next in [0, 7, 8, u32::MAX] {
         let mut windows = state(next, &[]);
         assert_eq!(turn(&mut windows, &mut area, &mut report), 8);
@@ -88,7 +88,7 @@ fn idle() {
 /// Any words are a state: word 0 counts modulo 8, and any word but 0 waits.
 #[test]
 fn any_state() {
-    let (mut area, mut report) = (vec![0; 16_384], [0; 24]);
+    let (mut area, mut report) = (vec![0; 16_384], [0; 42]);
     let mut windows = [u32::MAX; 65];
     for window in [7, 0, 1, 2, 3, 4, 5, 6, 8] {
         assert_eq!(turn(&mut windows, &mut area, &mut report), window);

@@ -1,11 +1,12 @@
 -- What each record that is taken keeps, an accepted snapshot has.
 use mathlib.Core.Path.{_≡_, refl, subst}
-use Prim.Native.Nat.{ℕ, zero, suc, _+_}
+use Prim.Native.Nat.{ℕ, zero, suc, _+_, _≤_, _<_}
 use native.Mathlib.Omega.{arith}
 use mathlib.Core.List.{List, [], _∷_, _++_}
 use mathlib.Core.Bool.{Bool, true, false, _&&_}
 use lib.Dec.{eqb, ltb, leb}
 use lib.ListN.{length, getD}
+use borrow.Author.Tests.{eqb-true, eqb-false, ltb-true, leb-true}
 use Rattle.snapshot.specs.Lists.{any}
 use Rattle.snapshot.specs.Limits.{wordLimit, crateLimit, moduleLimit, nameLimit, definitionLimit}
 use Rattle.snapshot.specs.Words.{kindOf, argumentsAt}
@@ -13,13 +14,14 @@ use Rattle.snapshot.specs.Records.{Snapshot, Name, Crate, Dependency, Map, Modu
 use Rattle.record_rules.specs.Tests.{childDefined, childPlaced, countsOf, crateRange, isEdition, cratesOwn, definitionDefined, definitionPlaced, definitionRange, definitionRepeated, dependencyDefined, dependencyRange, externDefined, importDefined, importRange, mapDefined, mapPlaced, mapRange, mapRepeated, mapsFilled, moduleDefined, modulePlaced, nameRange, nsPlaced, preludeDefined, sameChild, sameEntry, sameExtern, sameName, samePrelude, scopeDefined, scopeRange}
 use Rattle.record_rules.specs.Steps.{Next, no, on, need, judge, judgeCrate, addName, addCrate, addDependency, addMap, addModule, addChild, addPrelude, addDefinition, addScope, addImport, addExtern, nameStep, crateStep, dependencyStep, mapStep, moduleStep, childStep, preludeStep, definitionStep, scopeStep, importStep, externStep}
 use Rattle.record_rules.proofs.Judged.{CratePassed}
+use Rattle.accept.specs.Valid.{Stands}
 use Rattle.accept.specs.Verdict.{follows, argumentsFrom, recordStep, stepAt, refuse, accept, finish, records, empty, verdict}
 
 pub by-test : {C : Type 0} (b : Bool) → (b ≡ true → C) → (b ≡ false → C) → C
 by-test true y n = y refl
 by-test false y n = n refl
 
-by-next : {C : Type 0} (r : Next) → ((n : ℕ) → r ≡ no n → C) → ((t : Snapshot) → r ≡ on t → C) → C
+pub by-next : {C : Type 0} (r : Next) → ((n : ℕ) → r ≡ no n → C) → ((t : Snapshot) → r ≡ on t → C) → C
 by-next (no n) f g = f n refl
 by-next (on t) f g = g t refl
 
@@ -31,8 +33,8 @@ pub record Passed (range defined repeated placed room : Bool) : Type 0 where
   pub right : placed ≡ true
   pub roomy : room ≡ true
 
--- Each record that passed its tests keeps P.
-pub record Keeps (P : Snapshot → Type 0) : Type 0 where
+-- Each record of the words that passed its tests keeps P.
+pub record Keeps (W : List ℕ) (P : Snapshot → Type 0) : Type 0 where
   pub names : (s : Snapshot) (y : Name)
       → Passed (nameRange y) true (any (sameName y) (s .names)) true (ltb (length (s .names)) nameLimit) → P s → P (addName s y)
   pub crates : (s : Snapshot) (y : Crate)
@@ -50,21 +52,21 @@ pub record Keeps (P : Snapshot → Type 0) : Type 0 where
   pub preludes : (s : Snapshot) (y : Prelude)
       → Passed true (preludeDefined (countsOf s) y) (any (samePrelude y) (s .preludes)) true true
       → P s → P (addPrelude s y)
-  pub definitions : (s : Snapshot) (y : Definition)
+  pub definitions : (s : Snapshot) (y : Definition) → Stands W definitionAt 8 (y .place) y
       → Passed (definitionRange s y) (definitionDefined (countsOf s) y) (definitionRepeated s y) (definitionPlaced s y)
       (ltb (length (s .definitions)) definitionLimit)
       → P s → P (addDefinition s y)
-  pub scopes : (s : Snapshot) (y : Scope)
+  pub scopes : (s : Snapshot) (y : Scope) → Stands W scopeAt 9 (y .place) y
       → Passed (scopeRange y) (scopeDefined (countsOf s) y) (any (sameEntry y) (s .scopes)) (nsPlaced s (y .ns) (y .definition)) true
       → P s → P (addScope s y)
-  pub imports : (s : Snapshot) (y : Import)
+  pub imports : (s : Snapshot) (y : Import) → Stands W importAt 10 (y .place) y
       → Passed (importRange y) (importDefined (countsOf s) y) false (nsPlaced s (y .ns) (y .definition)) true
       → P s → P (addImport s y)
-  pub externs : (s : Snapshot) (y : Extern)
+  pub externs : (s : Snapshot) (y : Extern) → Stands W externAt 11 (y .place) y
       → Passed true (externDefined (countsOf s) y) (any (sameExtern y) (s .externs)) true true → P s → P (addExtern s y)
 
 -- A property of maps, modules and definitions alone.
-pub keeps-of : (P : List Map → List Module → List Definition → Type 0)
+pub keeps-of : {W : List ℕ} (P : List Map → List Module → List Definition → Type 0)
     → ((s : Snapshot) (y : Map)
     → Passed (mapRange y) (mapDefined (countsOf s) y) (mapRepeated s y) (mapPlaced s y) true
     → P (s .maps) (s .modules) (s .definitions) → P (s .maps ++ (y ∷ [])) (s .modules) (s .definitions))
@@ -75,7 +77,7 @@ pub keeps-of : (P : List Map → List Module → List Definition → Type 0)
     → Passed (definitionRange s y) (definitionDefined (countsOf s) y) (definitionRepeated s y) (definitionPlaced s y)
     (ltb (length (s .definitions)) definitionLimit)
     → P (s .maps) (s .modules) (s .definitions) → P (s .maps) (s .modules) (s .definitions ++ (y ∷ [])))
-    → Keeps (λ s. P (s .maps) (s .modules) (s .definitions))
+    → Keeps W (λ s. P (s .maps) (s .modules) (s .definitions))
 keeps-of P f g k =
     record {
       names = λ s y p h. h;
@@ -85,17 +87,17 @@ keeps-of P f g k =
       modules = g;
       children = λ s y p h. h;
       preludes = λ s y p h. h;
-      definitions = k;
-      scopes = λ s y p h. h;
-      imports = λ s y p h. h;
-      externs = λ s y p h. h;
+      definitions = λ s y o. k s y;
+      scopes = λ s y o p h. h;
+      imports = λ s y o p h. h;
+      externs = λ s y o p h. h;
     }
 
-record Taken (range defined repeated placed room : Bool) (t u : Snapshot) : Type 0 where
-  passed : Passed range defined repeated placed room
-  same : t ≡ u
+pub record Taken (range defined repeated placed room : Bool) (t u : Snapshot) : Type 0 where
+  pub passed : Passed range defined repeated placed room
+  pub same : t ≡ u
 
-judge-on : (a b c d e : Bool) (t u : Snapshot) → judge a b c d e t ≡ on u → Taken a b c d e t u
+pub judge-on : (a b c d e : Bool) (t u : Snapshot) → judge a b c d e t ≡ on u → Taken a b c d e t u
 judge-on false b c d e t u h = let z : _≡_ {A = ℕ} 0 1 = cc in absurd (omega arith)
 judge-on true false c d e t u h = let z : _≡_ {A = ℕ} 0 1 = cc in absurd (omega arith)
 judge-on true true true d e t u h = let z : _≡_ {A = ℕ} 0 1 = cc in absurd (omega arith)
@@ -104,11 +106,11 @@ judge-on true true false true false t u h = let z : _≡_ {A = ℕ} 0 1 = cc in 
 judge-on true true false true true t u h =
     record { passed = record { ranged = refl; known = refl; new = refl; right = refl; roomy = refl }; same = cc }
 
-record CrateTaken (range edition room : Bool) (t u : Snapshot) : Type 0 where
-  passed : CratePassed range edition room
-  same : t ≡ u
+pub record CrateTaken (range edition room : Bool) (t u : Snapshot) : Type 0 where
+  pub passed : CratePassed range edition room
+  pub same : t ≡ u
 
-judge-crate-on : (a b e : Bool) (t u : Snapshot) → judgeCrate a b e t ≡ on u → CrateTaken a b e t u
+pub judge-crate-on : (a b e : Bool) (t u : Snapshot) → judgeCrate a b e t ≡ on u → CrateTaken a b e t u
 judge-crate-on false b e t u h = let z : _≡_ {A = ℕ} 0 1 = cc in absurd (omega arith)
 judge-crate-on true false e t u h = let z : _≡_ {A = ℕ} 0 1 = cc in absurd (omega arith)
 judge-crate-on true true false t u h = let z : _≡_ {A = ℕ} 0 1 = cc in absurd (omega arith)
@@ -118,12 +120,32 @@ need-on : (b : Bool) (n : ℕ) (r : Next) (u : Snapshot) → need b n r ≡ on u
 need-on true n r u h = h
 need-on false n r u h = let z : _≡_ {A = ℕ} 0 1 = cc in absurd (omega arith)
 
+-- a kind that follows is one of the eleven
+follows-on : (last k : ℕ) (r : Next) (u : Snapshot) → need (follows last k) 31 r ≡ on u → ((1 ≤ k) × (k ≤ 11)) × (r ≡ on u)
+follows-on last k r u e =
+    by-test (leb 1 k)
+    (λ a.
+    by-test (leb k 11) (λ b. ((leb-true 1 k a, leb-true k 11 b), need-on (follows last k) 31 r u e))
+    (λ b. let f : no 31 ≡ on u = rw (a, b) at e in let z : _≡_ {A = ℕ} 0 1 = cc in absurd (omega arith)))
+    (λ a. let f : no 31 ≡ on u = rw a at e in let z : _≡_ {A = ℕ} 0 1 = cc in absurd (omega arith))
+
+above : (k n : ℕ) → n ≤ k → eqb k n ≡ false → n + 1 ≤ k
+above k n l e = let d = eqb-false k n e in omega arith
+
+-- the last kind is the one that is none of the others
+eleven : (k : ℕ) → 1 ≤ k → k ≤ 11 → eqb k 1 ≡ false → eqb k 2 ≡ false → eqb k 3 ≡ false → eqb k 4 ≡ false → eqb k 5 ≡ false
+    → eqb k 6 ≡ false → eqb k 7 ≡ false → eqb k 8 ≡ false → eqb k 9 ≡ false → eqb k 10 ≡ false → k ≡ 11
+eleven k low high n1 n2 n3 n4 n5 n6 n7 n8 n9 n10 =
+    let five = above k 5 (above k 4 (above k 3 (above k 2 (above k 1 low n1) n2) n3) n4) n5 in
+    let ten = above k 10 (above k 9 (above k 8 (above k 7 (above k 6 five n6) n7) n8) n9) n10 in
+    omega (arith, ten, high)
+
 -- what holds at the end, the last tests too
 pub record Ends (P : Snapshot → Type 0) (s : Snapshot) : Type 0 where
   pub kept : P s
   pub whole : mapsFilled s && cratesOwn s ≡ true
 
-module _ (P : Snapshot → Type 0) (keeps : Keeps P) where
+module _ (W : List ℕ) (P : Snapshot → Type 0) (keeps : Keeps W P) where
   taken-keeps : (a b c d e : Bool) (t u : Snapshot) → judge a b c d e t ≡ on u → (Passed a b c d e → P t) → P u
   taken-keeps a b c d e t u h f = let q = judge-on a b c d e t u h in subst P (q .same) (f (q .passed))
 
@@ -169,34 +191,40 @@ module _ (P : Snapshot → Type 0) (keeps : Keeps P) where
       taken-keeps true (preludeDefined (countsOf s) y) (any (samePrelude y) (s .preludes)) true true (addPrelude s y) u e
       (λ p. keeps .preludes s y p h)
 
-  definition-keeps : (s : Snapshot) (y : Definition) (u : Snapshot) → definitionStep s y ≡ on u → P s → P u
+  definition-keeps : (s : Snapshot) (y : Definition) (u : Snapshot) → Stands W definitionAt 8 (y .place) y → definitionStep s y ≡ on u → P s → P u
   unfolding definitionStep
-  definition-keeps s y u e h =
+  definition-keeps s y u o e h =
       taken-keeps (definitionRange s y) (definitionDefined (countsOf s) y) (definitionRepeated s y) (definitionPlaced s y)
       (ltb (length (s .definitions)) definitionLimit) (addDefinition s y) u e
-      (λ p. keeps .definitions s y p h)
+      (λ p. keeps .definitions s y o p h)
 
-  scope-keeps : (s : Snapshot) (y : Scope) (u : Snapshot) → scopeStep s y ≡ on u → P s → P u
+  scope-keeps : (s : Snapshot) (y : Scope) (u : Snapshot) → Stands W scopeAt 9 (y .place) y → scopeStep s y ≡ on u → P s → P u
   unfolding scopeStep
-  scope-keeps s y u e h =
+  scope-keeps s y u o e h =
       taken-keeps (scopeRange y) (scopeDefined (countsOf s) y) (any (sameEntry y) (s .scopes)) (nsPlaced s (y .ns) (y .definition)) true (addScope s y) u e
-      (λ p. keeps .scopes s y p h)
+      (λ p. keeps .scopes s y o p h)
 
-  import-keeps : (s : Snapshot) (y : Import) (u : Snapshot) → importStep s y ≡ on u → P s → P u
+  import-keeps : (s : Snapshot) (y : Import) (u : Snapshot) → Stands W importAt 10 (y .place) y → importStep s y ≡ on u → P s → P u
   unfolding importStep
-  import-keeps s y u e h =
+  import-keeps s y u o e h =
       taken-keeps (importRange y) (importDefined (countsOf s) y) false (nsPlaced s (y .ns) (y .definition)) true (addImport s y) u e
-      (λ p. keeps .imports s y p h)
+      (λ p. keeps .imports s y o p h)
 
-  extern-keeps : (s : Snapshot) (y : Extern) (u : Snapshot) → externStep s y ≡ on u → P s → P u
+  extern-keeps : (s : Snapshot) (y : Extern) (u : Snapshot) → Stands W externAt 11 (y .place) y → externStep s y ≡ on u → P s → P u
   unfolding externStep
-  extern-keeps s y u e h =
+  extern-keeps s y u o e h =
       taken-keeps true (externDefined (countsOf s) y) (any (sameExtern y) (s .externs)) true true (addExtern s y) u e
-      (λ p. keeps .externs s y p h)
+      (λ p. keeps .externs s y o p h)
 
-  record-keeps : (k : ℕ) (W : List ℕ) (at : ℕ) (s u : Snapshot) → recordStep k W at s ≡ on u → P s → P u
+  -- a record of the words, with its head at a place
+  stands : {R : Type 0} (read : List ℕ → ℕ → R) (k at : ℕ) → at < wordLimit → kindOf (getD W at 0) ≡ k → Stands W read k at (read W at)
+  stands read k at l e = record { head = e; same = refl; inside = l }
+
+  record-keeps : (at : ℕ) (s u : Snapshot) → at < wordLimit → 1 ≤ kindOf (getD W at 0) → kindOf (getD W at 0) ≤ 11
+      → recordStep (kindOf (getD W at 0)) W at s ≡ on u → P s → P u
   unfolding recordStep
-  record-keeps k W at s u e h =
+  record-keeps at s u l low high e h =
+      let k = kindOf (getD W at 0) in
       by-test (eqb k 1) (λ a. name-keeps s (nameAt W at) u (rw (recordStep, a) at e) h) (λ n1.
       by-test (eqb k 2) (λ a. crate-keeps s (crateAt W at) u (rw (recordStep, n1, a) at e) h) (λ n2.
       by-test (eqb k 3) (λ a. dependency-keeps s (dependencyAt W at) u (rw (recordStep, n1, n2, a) at e) h) (λ n3.
@@ -204,17 +232,22 @@ module _ (P : Snapshot → Type 0) (keeps : Keeps P) where
       by-test (eqb k 5) (λ a. module-keeps s (moduleAt W at) u (rw (recordStep, n1, n2, n3, n4, a) at e) h) (λ n5.
       by-test (eqb k 6) (λ a. child-keeps s (childAt W at) u (rw (recordStep, n1, n2, n3, n4, n5, a) at e) h) (λ n6.
       by-test (eqb k 7) (λ a. prelude-keeps s (preludeAt W at) u (rw (recordStep, n1, n2, n3, n4, n5, n6, a) at e) h) (λ n7.
-      by-test (eqb k 8) (λ a. definition-keeps s (definitionAt W at) u (rw (recordStep, n1, n2, n3, n4, n5, n6, n7, a) at e) h) (λ n8.
-      by-test (eqb k 9) (λ a. scope-keeps s (scopeAt W at) u (rw (recordStep, n1, n2, n3, n4, n5, n6, n7, n8, a) at e) h) (λ n9.
-      by-test (eqb k 10) (λ a. import-keeps s (importAt W at) u (rw (recordStep, n1, n2, n3, n4, n5, n6, n7, n8, n9, a) at e) h) (λ n10.
-      extern-keeps s (externAt W at) u (rw (recordStep, n1, n2, n3, n4, n5, n6, n7, n8, n9, n10) at e) h))))))))))
+      by-test (eqb k 8)
+      (λ a. definition-keeps s (definitionAt W at) u (stands definitionAt 8 at l (eqb-true k 8 a)) (rw (recordStep, n1, n2, n3, n4, n5, n6, n7, a) at e) h) (λ n8.
+      by-test (eqb k 9)
+      (λ a. scope-keeps s (scopeAt W at) u (stands scopeAt 9 at l (eqb-true k 9 a)) (rw (recordStep, n1, n2, n3, n4, n5, n6, n7, n8, a) at e) h) (λ n9.
+      by-test (eqb k 10)
+      (λ a. import-keeps s (importAt W at) u (stands importAt 10 at l (eqb-true k 10 a)) (rw (recordStep, n1, n2, n3, n4, n5, n6, n7, n8, n9, a) at e) h) (λ n10.
+      extern-keeps s (externAt W at) u (stands externAt 11 at l (eleven k low high n1 n2 n3 n4 n5 n6 n7 n8 n9 n10))
+      (rw (recordStep, n1, n2, n3, n4, n5, n6, n7, n8, n9, n10) at e) h))))))))))
 
-  step-keeps : (W : List ℕ) (at last : ℕ) (s u : Snapshot) → stepAt W at last s ≡ on u → P s → P u
+  step-keeps : (at last : ℕ) (s u : Snapshot) → at < wordLimit → stepAt W at last s ≡ on u → P s → P u
   unfolding stepAt
-  step-keeps W at last s u e h =
-      let a = need-on (follows last (kindOf (getD W at 0))) 31 _ u e in
-      let b = need-on (argumentsFrom W (at + 1) (argumentsAt W at)) 31 _ u a in
-      record-keeps (kindOf (getD W at 0)) W at s u b h
+  step-keeps at last s u l e h =
+      let k = kindOf (getD W at 0) in
+      let f = follows-on last k _ u e in
+      let b = need-on (argumentsFrom W (at + 1) (argumentsAt W at)) 31 _ u (f .1) in
+      record-keeps at s u l (f .0 .0) (f .0 .1) b h
 
   finish-keeps : (at : ℕ) (s u : Snapshot) → finish at s ≡ accept u → P s → Ends P u
   unfolding finish
@@ -223,20 +256,22 @@ module _ (P : Snapshot → Type 0) (keeps : Keeps P) where
       (λ a. let f : accept s ≡ accept u = rw (finish, a) at e in let q : s ≡ u = cc in subst (Ends P) q (record { kept = h; whole = a }))
       (λ a. let f : refuse 35 at ≡ accept u = rw (finish, a) at e in let z : _≡_ {A = ℕ} 0 1 = cc in absurd (omega arith))
 
-  records-keep : (n : ℕ) (W : List ℕ) (at last : ℕ) (s u : Snapshot) → records n W at last s ≡ accept u → P s → Ends P u
+  records-keep : length W ≤ wordLimit → (n at last : ℕ) (s u : Snapshot) → records n W at last s ≡ accept u → P s → Ends P u
   unfolding records
-  records-keep zero W at last s u e h = finish-keeps (length W) s u e h
-  records-keep (suc n) W at last s u e h =
+  records-keep l zero at last s u e h = finish-keeps (length W) s u e h
+  records-keep l (suc n) at last s u e h =
       by-test (ltb at (length W))
-      (λ a. by-next (stepAt W at last s)
+      (λ a.
+      let b : at < wordLimit = omega (arith, ltb-true at (length W) a, l) in
+      by-next (stepAt W at last s)
       (λ m q. let f : refuse m at ≡ accept u = rw (records, a, q) at e in let z : _≡_ {A = ℕ} 0 1 = cc in absurd (omega arith))
-      (λ t q. records-keep n W (at + 1 + argumentsAt W at) (kindOf (getD W at 0)) t u (rw (records, a, q) at e) (step-keeps W at last s t q h)))
+      (λ t q. records-keep l n (at + 1 + argumentsAt W at) (kindOf (getD W at 0)) t u (rw (records, a, q) at e) (step-keeps at last s t b q h)))
       (λ a. finish-keeps (length W) s u (rw (records, a) at e) h)
 
   -- What holds of no records, and is kept, holds of an accepted snapshot; so do the last tests.
-  pub verdict-keeps : P empty → (W : List ℕ) (s : Snapshot) → verdict W ≡ accept s → Ends P s
+  pub verdict-keeps : P empty → (s : Snapshot) → verdict W ≡ accept s → Ends P s
   unfolding verdict
-  verdict-keeps start W s e =
+  verdict-keeps start s e =
       by-test (leb (length W) wordLimit)
-      (λ a. records-keep (length W) W 0 0 empty s (rw (verdict, a) at e) start)
+      (λ a. records-keep (leb-true (length W) wordLimit a) (length W) 0 0 empty s (rw (verdict, a) at e) start)
       (λ a. let f : refuse 30 wordLimit ≡ accept s = rw (verdict, a) at e in let z : _≡_ {A = ℕ} 0 1 = cc in absurd (omega arith))

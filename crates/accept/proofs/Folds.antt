@@ -25,13 +25,13 @@ module _ (W : List ℕ) (at last : ℕ) (s : Snapshot) where
   records-stop zero n h g e = absurd (omega arith)
   records-stop (suc f) n h g e = rw (records, lt-ltb _ _ h, e)
 
-  records-go : (f : ℕ) (t : Snapshot) → at < length W → length W ≤ f + at → stepAt W at last s ≡ on t
+  pub records-go : (f : ℕ) (t : Snapshot) → at < length W → length W ≤ f + at → stepAt W at last s ≡ on t
       → (f′ : ℕ) × (length W ≤ f′ + (at + 1 + argumentsAt W at)) × (records f W at last s ≡ records f′ W (at + 1 + argumentsAt W at) (kindOf (getD W at 0)) t)
   unfolding records
   records-go zero t h g e = absurd (omega arith)
   records-go (suc f) t h g e = (f, omega arith, rw (records, lt-ltb _ _ h, e))
 
-  records-end : (f : ℕ) → length W ≤ at → records f W at last s ≡ finish (length W) s
+  pub records-end : (f : ℕ) → length W ≤ at → records f W at last s ≡ finish (length W) s
   unfolding records
   records-end zero h = refl
   records-end (suc f) h = rw (records, le-ltb _ _ h)

@@ -1,4 +1,4 @@
--- Children stand under their owners, macros are of kind 5, own maps are one a crate, and nothing stands twice.
+-- Children stand under their owners, macros are of kind 5, own maps are one a crate, and nothing stands twice. Every record stands at its place.
 use mathlib.Core.Path.{_≡_, ap, sym, _∙_}
 use Prim.Native.Nat.{ℕ, _+_, _<_}
 use native.Mathlib.Omega.{arith}
@@ -11,7 +11,7 @@ use Rattle.snapshot.specs.Lists.{any}
 use Rattle.snapshot.specs.Records.{Snapshot, Map, Module, Child, Definition, Scope, Import}
 use Rattle.record_rules.specs.Tests.{countsOf, noName, noMap, noModule, noDefinition, mapOf, kindOfDefinition, isIn, isOwn, mapsFilled, cratesOwn, childDefined, childPlaced, nsPlaced, mapRepeated, sameDefinition, definitionRepeated, sameName, sameChild, samePrelude, sameEntry, sameExtern, scopeDefined, importDefined}
 use Rattle.accept.specs.Verdict.{accept, verdict}
-use Rattle.accept.specs.Valid.{Each, none, mapIn, parentIn, blockIn, crateIn, definitionIn, Under, MacroOnly, Owned, DefinedOnce, Once}
+use Rattle.accept.specs.Valid.{Each, none, Placed as PlacedIn, mapIn, parentIn, blockIn, crateIn, definitionIn, Under, MacroOnly, Owned, DefinedOnce, Once}
 use Rattle.accept.proofs.Accepted.{Keeps, keeps-of, verdict-keeps}
 use Rattle.accept.proofs.Bools.{and-two, and-four, and-five, unless-right, length-snoc, getD-old, getD-new, old-or-new, any-none, any-some, all-below, distinct-snoc, each-map, each-snoc}
 
@@ -35,7 +35,7 @@ child-placed s y d p =
     let r = and-two (eqb (mapOf s (y .child)) (mapOf s (y .owner))) (eqb (parentIn (s .modules) (y .child)) (y .owner + 1)) p in
     record { known = ltb-true (y .child) (length (s .modules)) (q .1); under = eqb-true (parentIn (s .modules) (y .child)) (y .owner + 1) (r .1) }
 
-children-kept : Keeps Children
+children-kept : {W : List ℕ} → Keeps W Children
 children-kept =
     record {
       names = λ s y p h. h;
@@ -45,10 +45,10 @@ children-kept =
       modules = λ s y p h. each-map (child-kept (s .modules) y) h;
       children = λ s y p h. each-snoc h (child-placed s y (p .known) (p .right));
       preludes = λ s y p h. h;
-      definitions = λ s y p h. h;
-      scopes = λ s y p h. h;
-      imports = λ s y p h. h;
-      externs = λ s y p h. h;
+      definitions = λ s y o p h. h;
+      scopes = λ s y o p h. h;
+      imports = λ s y o p h. h;
+      externs = λ s y o p h. h;
     }
 
 -- macros
@@ -89,7 +89,7 @@ record Macros (ds : List Definition) (xs : List Scope) (is : List Import) : Type
 abbrev HasMacros : Snapshot → Type 0
 HasMacros s = Macros (s .definitions) (s .scopes) (s .imports)
 
-macros-kept : Keeps HasMacros
+macros-kept : {W : List ℕ} → Keeps W HasMacros
 macros-kept =
     record {
       names = λ s y p h. h;
@@ -99,22 +99,22 @@ macros-kept =
       modules = λ s y p h. h;
       children = λ s y p h. h;
       preludes = λ s y p h. h;
-      definitions = λ s y p h.
+      definitions = λ s y o p h.
           record {
             entries = each-map (λ (x : Scope) q. macro-kept (s .definitions) y (x .ns) (x .definition) q) (h .entries);
             imported = each-map (λ (x : Import) q. macro-kept (s .definitions) y (x .ns) (x .definition) q) (h .imported);
           };
-      scopes = λ s y p h.
+      scopes = λ s y o p h.
           record {
             entries = each-snoc (h .entries) (macro-placed s (y .ns) (y .definition) (scope-definition s y (p .known)) (p .right));
             imported = h .imported;
           };
-      imports = λ s y p h.
+      imports = λ s y o p h.
           record {
             entries = h .entries;
             imported = each-snoc (h .imported) (macro-placed s (y .ns) (y .definition) (import-definition s y (p .known)) (p .right));
           };
-      externs = λ s y p h. h;
+      externs = λ s y o p h. h;
     }
 
 -- own maps
@@ -161,7 +161,7 @@ own-added s y e h i j l k a b c = old-or-new (s .maps) y j k
     own-new (getD (s .maps) i noMap) (y .crate) (any-none (isOwn (y .crate)) (s .maps) noMap i first oi)
     (sym (crate-is fi) ∙ c ∙ crate-is fj) (sym (block-is fi) ∙ a))
 
-own-kept : Keeps HasOwnOnce
+own-kept : {W : List ℕ} → Keeps W HasOwnOnce
 own-kept = keeps-of (λ ms xs ds. OwnOnce ms) (λ s y p h. own-added s y (p .new) h) (λ s y p h. h) (λ s y p h. h)
 
 -- definitions of modules and of builtins
@@ -193,16 +193,16 @@ module _ (k : ℕ) (once : eqb k 1 || eqb k 3 ≡ true) where
       definition-new y (definitionIn (s .definitions) i) (any-none (sameDefinition y) (s .definitions) noDefinition i none-such oi)
       (sym (kind-is fi) ∙ p ∙ sym yk) (sym (first-is fi) ∙ r ∙ first-is fj))
 
-  definitions-kept : Keeps HasOnce
+  definitions-kept : {W : List ℕ} → Keeps W HasOnce
   definitions-kept =
       keeps-of (λ ms xs ds. DefinedOnce k ds) (λ s y p h. h) (λ s y p h. h) (λ s y p h. definition-added s y (p .new) h)
 
   pub accepted-defined : (W : List ℕ) (s : Snapshot) → verdict W ≡ accept s → DefinedOnce k (s .definitions)
-  accepted-defined W s e = verdict-keeps HasOnce definitions-kept (λ i j l b p q r. omega arith) W s e .kept
+  accepted-defined W s e = verdict-keeps W HasOnce definitions-kept (λ i j l b p q r. omega arith) s e .kept
 
 -- nothing twice
 
-once-kept : Keeps Once
+once-kept : {W : List ℕ} → Keeps W Once
 once-kept =
     record {
       names = λ s y p h. record { names = distinct-snoc sameName noName (s .names) y (p .new) (h .names); children = h .children; preludes = h .preludes; scopes = h .scopes; externs = h .externs };
@@ -212,18 +212,36 @@ once-kept =
       modules = λ s y p h. record { names = h .names; children = h .children; preludes = h .preludes; scopes = h .scopes; externs = h .externs };
       children = λ s y p h. record { names = h .names; children = distinct-snoc sameChild _ (s .children) y (p .new) (h .children); preludes = h .preludes; scopes = h .scopes; externs = h .externs };
       preludes = λ s y p h. record { names = h .names; children = h .children; preludes = distinct-snoc samePrelude _ (s .preludes) y (p .new) (h .preludes); scopes = h .scopes; externs = h .externs };
-      definitions = λ s y p h. record { names = h .names; children = h .children; preludes = h .preludes; scopes = h .scopes; externs = h .externs };
-      scopes = λ s y p h. record { names = h .names; children = h .children; preludes = h .preludes; scopes = distinct-snoc sameEntry _ (s .scopes) y (p .new) (h .scopes); externs = h .externs };
-      imports = λ s y p h. record { names = h .names; children = h .children; preludes = h .preludes; scopes = h .scopes; externs = h .externs };
-      externs = λ s y p h. record { names = h .names; children = h .children; preludes = h .preludes; scopes = h .scopes; externs = distinct-snoc sameExtern _ (s .externs) y (p .new) (h .externs) };
+      definitions = λ s y o p h. record { names = h .names; children = h .children; preludes = h .preludes; scopes = h .scopes; externs = h .externs };
+      scopes = λ s y o p h. record { names = h .names; children = h .children; preludes = h .preludes; scopes = distinct-snoc sameEntry _ (s .scopes) y (p .new) (h .scopes); externs = h .externs };
+      imports = λ s y o p h. record { names = h .names; children = h .children; preludes = h .preludes; scopes = h .scopes; externs = h .externs };
+      externs = λ s y o p h. record { names = h .names; children = h .children; preludes = h .preludes; scopes = h .scopes; externs = distinct-snoc sameExtern _ (s .externs) y (p .new) (h .externs) };
+    }
+
+-- places
+
+places-kept : {W : List ℕ} → Keeps W (PlacedIn W)
+places-kept =
+    record {
+      names = λ s y p h. record { definitions = h .definitions; scopes = h .scopes; imports = h .imports; externs = h .externs };
+      crates = λ s y p h. record { definitions = h .definitions; scopes = h .scopes; imports = h .imports; externs = h .externs };
+      dependencies = λ s y p h. record { definitions = h .definitions; scopes = h .scopes; imports = h .imports; externs = h .externs };
+      maps = λ s y p h. record { definitions = h .definitions; scopes = h .scopes; imports = h .imports; externs = h .externs };
+      modules = λ s y p h. record { definitions = h .definitions; scopes = h .scopes; imports = h .imports; externs = h .externs };
+      children = λ s y p h. record { definitions = h .definitions; scopes = h .scopes; imports = h .imports; externs = h .externs };
+      preludes = λ s y p h. record { definitions = h .definitions; scopes = h .scopes; imports = h .imports; externs = h .externs };
+      definitions = λ s y o p h. record { definitions = each-snoc (h .definitions) o; scopes = h .scopes; imports = h .imports; externs = h .externs };
+      scopes = λ s y o p h. record { definitions = h .definitions; scopes = each-snoc (h .scopes) o; imports = h .imports; externs = h .externs };
+      imports = λ s y o p h. record { definitions = h .definitions; scopes = h .scopes; imports = each-snoc (h .imports) o; externs = h .externs };
+      externs = λ s y o p h. record { definitions = h .definitions; scopes = h .scopes; imports = h .imports; externs = each-snoc (h .externs) o };
     }
 
 module _ (W : List ℕ) (s : Snapshot) (e : verdict W ≡ accept s) where
   pub accepted-children : Each (Under (s .modules)) (s .children)
-  accepted-children = each-map (λ x h. h .under) (verdict-keeps Children children-kept none W s e .kept)
+  accepted-children = each-map (λ x h. h .under) (verdict-keeps W Children children-kept none s e .kept)
 
   kept-macros : HasMacros s
-  kept-macros = verdict-keeps HasMacros macros-kept (record { entries = none; imported = none }) W s e .kept
+  kept-macros = verdict-keeps W HasMacros macros-kept (record { entries = none; imported = none }) s e .kept
 
   pub accepted-scopes : Each (λ x. MacroOnly (s .definitions) (x .ns) (x .definition)) (s .scopes)
   accepted-scopes = each-map (λ x h. h .only) (kept-macros .entries)
@@ -232,7 +250,7 @@ module _ (W : List ℕ) (s : Snapshot) (e : verdict W ≡ accept s) where
   accepted-imports = each-map (λ x h. h .only) (kept-macros .imported)
 
   last-tests : (mapsFilled s ≡ true) × (cratesOwn s ≡ true)
-  last-tests = and-two (mapsFilled s) (cratesOwn s) (verdict-keeps HasOwnOnce own-kept (λ i j l k a b c. omega arith) W s e .whole)
+  last-tests = and-two (mapsFilled s) (cratesOwn s) (verdict-keeps W HasOwnOnce own-kept (λ i j l k a b c. omega arith) s e .whole)
 
   pub accepted-filled : (k : ℕ) → k < length (s .maps) → (m : ℕ) × (m < length (s .modules)) × (mapIn (s .modules) m ≡ k)
   accepted-filled k h =
@@ -246,12 +264,12 @@ module _ (W : List ℕ) (s : Snapshot) (e : verdict W ≡ accept s) where
             let f = any-some (isOwn c) (s .maps) noMap (all-below (λ c. any (isOwn c) (s .maps)) (length (s .crates)) c (last-tests .1) h) in
             let g = and-two (eqb (crateIn (s .maps) (f .0)) c) (eqb (blockIn (s .maps) (f .0)) 0) (f .2) in
             (f .0, f .1, eqb-true (crateIn (s .maps) (f .0)) c (g .0), eqb-true (blockIn (s .maps) (f .0)) 0 (g .1));
-        once = verdict-keeps HasOwnOnce own-kept (λ i j l k a b c. omega arith) W s e .kept;
+        once = verdict-keeps W HasOwnOnce own-kept (λ i j l k a b c. omega arith) s e .kept;
       }
 
   pub accepted-once : Once s
   accepted-once =
-      verdict-keeps Once once-kept
+      verdict-keeps W Once once-kept
       (record {
         names = λ i j l h. absurd (omega arith);
         children = λ i j l h. absurd (omega arith);
@@ -259,4 +277,9 @@ module _ (W : List ℕ) (s : Snapshot) (e : verdict W ≡ accept s) where
         scopes = λ i j l h. absurd (omega arith);
         externs = λ i j l h. absurd (omega arith);
       })
-      W s e .kept
+      s e .kept
+
+  -- Every record that a path can be found by stands at its place.
+  pub accepted-placed : PlacedIn W s
+  accepted-placed =
+      verdict-keeps W (PlacedIn W) places-kept (record { definitions = none; scopes = none; imports = none; externs = none }) s e .kept

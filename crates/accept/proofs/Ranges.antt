@@ -1,12 +1,13 @@
 -- The fields and numbers of an accepted snapshot are in range.
 use mathlib.Core.Path.{_≡_}
-use Prim.Native.Nat.{ℕ, _+_, _≤_}
+use Prim.Native.Nat.{ℕ, _+_, _≤_, _<_}
 use native.Mathlib.Omega.{arith}
 use mathlib.Core.List.{List, [], _∷_, _++_}
 use mathlib.Core.Bool.{Bool, true, false, _&&_, _||_, not}
 use lib.Dec.{eqb, ltb, leb}
 use lib.ListN.{length}
 use borrow.Author.Tests.{eqb-true, eq-eqb, ne-eqb, ltb-true, leb-true}
+use Rattle.snapshot.specs.Limits.{wordLimit}
 use Rattle.snapshot.specs.Records.{Name, Crate, Dependency, Map, Module, Child, Prelude, Definition, Scope, Import, Extern, Snapshot}
 use Rattle.record_rules.specs.Tests.{Counts, countsOf, padded, nameRange, crateRange, isEdition, dependencyRange, dependencyDefined, mapRange, mapDefined, moduleDefined, childDefined, preludeDefined, definitionDefined, scopeRange, scopeDefined, importRange, importDefined, externDefined}
 use Rattle.record_rules.specs.Steps.{addName, addCrate, addDependency, addMap, addModule, addChild, addPrelude, addDefinition, addScope, addImport, addExtern}
@@ -64,10 +65,10 @@ module _ (n : Counts) where
       let q = and-two (ltb (y .map) (n .maps)) (ltb (y .target) (n .modules)) e in
       record { map = ltb-true (y .map) (n .maps) (q .0); target = ltb-true (y .target) (n .modules) (q .1) }
 
-  definition-fits : (y : Definition) (rest : Bool)
+  definition-fits : (y : Definition) (rest : Bool) → y .place < wordLimit
       → leb 1 (y .kind) && leb (y .kind) 5 && (eqb (y .kind) 2 || eqb (y .second) 0) && rest ≡ true
       → definitionDefined n y ≡ true → DefinitionFits n y
-  definition-fits y rest r e =
+  definition-fits y rest i r e =
       let p = and-four (leb 1 (y .kind)) (leb (y .kind) 5) (eqb (y .kind) 2 || eqb (y .second) 0) rest r in
       let q =
       and-three (not (eqb (y .kind) 2) || ltb (y .first) (n .definitions) && ltb (y .second) (n .names))
@@ -85,10 +86,11 @@ module _ (n : Counts) where
         home = λ a b.
             ltb-true (y .first) (n .modules)
             (neither (eqb (y .kind) 2) (eqb (y .kind) 3) (ltb (y .first) (n .modules)) (q .2) (ne-eqb (y .kind) 2 a) (ne-eqb (y .kind) 3 b));
+        place = i;
       }
 
-  scope-fits : (y : Scope) → scopeRange y ≡ true → scopeDefined n y ≡ true → ScopeFits n y
-  scope-fits y r e =
+  pub scope-fits : (y : Scope) → y .place < wordLimit → scopeRange y ≡ true → scopeDefined n y ≡ true → ScopeFits n y
+  scope-fits y i r e =
       let p = and-four (leb (y .ns) 2) (leb (y .visibility) 3) (not (eqb (y .visibility) 0) || eqb (y .number) 0) (leb (y .declared) 3) r in
       let q =
       and-five (ltb (y .owner) (n .modules)) (ltb (y .name) (n .names)) (ltb (y .definition) (n .definitions))
@@ -107,10 +109,11 @@ module _ (n : Counts) where
             (or-right (leb (y .visibility) 1) (ltb (y .number) (n .modules)) (q .4)
             (by-test (leb (y .visibility) 1) (λ t. let u = leb-true (y .visibility) 1 t in absurd (omega arith)) (λ t. t)));
         declared = leb-true (y .declared) 3 (p .3);
+        place = i;
       }
 
-  import-fits : (y : Import) → importRange y ≡ true → importDefined n y ≡ true → ImportFits n y
-  import-fits y r e =
+  import-fits : (y : Import) → y .place < wordLimit → importRange y ≡ true → importDefined n y ≡ true → ImportFits n y
+  import-fits y i r e =
       let p = and-two (leb (y .ns) 2) (leb (y .bits) 3) r in
       let q =
       and-four (ltb (y .owner) (n .crates)) (ltb (y .definition) (n .definitions)) (ltb (y .name) (n .names))
@@ -122,15 +125,17 @@ module _ (n : Counts) where
         name = ltb-true (y .name) (n .names) (q .2);
         container = ltb-true (y .container) (n .modules) (q .3);
         bits = leb-true (y .bits) 3 (p .1);
+        place = i;
       }
 
-  extern-fits : (y : Extern) → externDefined n y ≡ true → ExternFits n y
-  extern-fits y e =
+  extern-fits : (y : Extern) → y .place < wordLimit → externDefined n y ≡ true → ExternFits n y
+  extern-fits y i e =
       let q = and-three (ltb (y .owner) (n .crates)) (ltb (y .name) (n .names)) (ltb (y .target) (n .modules)) e in
       record {
         owner = ltb-true (y .owner) (n .crates) (q .0);
         name = ltb-true (y .name) (n .names) (q .1);
         target = ltb-true (y .target) (n .modules) (q .2);
+        place = i;
       }
 
 -- more of each kind
@@ -160,6 +165,7 @@ module _ (n m : Counts) (a : AtLeast n m) where
               variant = λ q. let g = f .variant q in (omega (arith, g .0, a .definitions), omega (arith, g .1, a .names));
               builtin = λ q. omega (arith, f .builtin q, a .names);
               home = λ p q. omega (arith, f .home p q, a .modules);
+              place = f .place;
             })
             (h .definitions);
         scopes = each-map
@@ -174,6 +180,7 @@ module _ (n m : Counts) (a : AtLeast n m) where
               crate = λ q. omega (arith, f .crate q, a .crates);
               inside = λ q. omega (arith, f .inside q, a .modules);
               declared = f .declared;
+              place = f .place;
             })
             (h .scopes);
         imports = each-map
@@ -185,9 +192,10 @@ module _ (n m : Counts) (a : AtLeast n m) where
               name = omega arith;
               container = omega arith;
               bits = f .bits;
+              place = f .place;
             })
             (h .imports);
-        externs = each-map (λ x f. record { owner = omega arith; name = omega arith; target = omega arith }) (h .externs);
+        externs = each-map (λ x f. record { owner = omega arith; name = omega arith; target = omega arith; place = f .place }) (h .externs);
       }
 
 abbrev InRange : Snapshot → Type 0
@@ -273,7 +281,7 @@ module _ (s : Snapshot) where
           children = r .children;
           preludes = r .preludes;
           definitions = each-snoc (r .definitions)
-              (record { known = f .known; kind = f .kind; variant = λ q. let g = f .variant q in (omega (arith, g .0), g .1); builtin = f .builtin; home = f .home });
+              (record { known = f .known; kind = f .kind; variant = λ q. let g = f .variant q in (omega (arith, g .0), g .1); builtin = f .builtin; home = f .home; place = f .place });
           scopes = r .scopes;
           imports = r .imports;
           externs = r .externs;
@@ -291,7 +299,7 @@ module _ (s : Snapshot) where
     extern-ranged y f =
         record { names = h .names; crates = h .crates; dependencies = h .dependencies; maps = h .maps; modules = h .modules; children = h .children; preludes = h .preludes; definitions = h .definitions; scopes = h .scopes; imports = h .imports; externs = each-snoc (h .externs) f }
 
-ranges-kept : Keeps InRange
+ranges-kept : {W : List ℕ} → Keeps W InRange
 ranges-kept =
     record {
       names = λ s y p h. name-ranged s h y (name-fits y (p .ranged));
@@ -301,10 +309,10 @@ ranges-kept =
       modules = λ s y p h. module-ranged s h y (module-fits (countsOf s) y (p .known));
       children = λ s y p h. child-ranged s h y (child-fits (countsOf s) y (p .known));
       preludes = λ s y p h. prelude-ranged s h y (prelude-fits (countsOf s) y (p .known));
-      definitions = λ s y p h. definition-ranged s h y (definition-fits (countsOf s) y _ (p .ranged) (p .known));
-      scopes = λ s y p h. scope-ranged s h y (scope-fits (countsOf s) y (p .ranged) (p .known));
-      imports = λ s y p h. import-ranged s h y (import-fits (countsOf s) y (p .ranged) (p .known));
-      externs = λ s y p h. extern-ranged s h y (extern-fits (countsOf s) y (p .known));
+      definitions = λ s y o p h. definition-ranged s h y (definition-fits (countsOf s) y _ (o .inside) (p .ranged) (p .known));
+      scopes = λ s y o p h. scope-ranged s h y (scope-fits (countsOf s) y (o .inside) (p .ranged) (p .known));
+      imports = λ s y o p h. import-ranged s h y (import-fits (countsOf s) y (o .inside) (p .ranged) (p .known));
+      externs = λ s y o p h. extern-ranged s h y (extern-fits (countsOf s) y (o .inside) (p .known));
     }
 
 abbrev Limited : Snapshot → Type 0
@@ -313,7 +321,7 @@ Limited s = Limits (countsOf s)
 one-more : {A : Type 0} (l : List A) (y : A) (n : ℕ) → ltb (length l) n ≡ true → length (l ++ (y ∷ [])) ≤ n
 one-more l y n e = let q = length-snoc l y in let h = ltb-true (length l) n e in omega arith
 
-limits-kept : Keeps Limited
+limits-kept : {W : List ℕ} → Keeps W Limited
 limits-kept =
     record {
       names = λ s y p h. record { names = one-more (s .names) y 2048 (p .roomy); crates = h .crates; modules = h .modules; definitions = h .definitions };
@@ -323,19 +331,19 @@ limits-kept =
       modules = λ s y p h. record { names = h .names; crates = h .crates; modules = one-more (s .modules) y 512 (p .roomy); definitions = h .definitions };
       children = λ s y p h. h;
       preludes = λ s y p h. h;
-      definitions = λ s y p h. record { names = h .names; crates = h .crates; modules = h .modules; definitions = one-more (s .definitions) y 2048 (p .roomy) };
-      scopes = λ s y p h. h;
-      imports = λ s y p h. h;
-      externs = λ s y p h. h;
+      definitions = λ s y o p h. record { names = h .names; crates = h .crates; modules = h .modules; definitions = one-more (s .definitions) y 2048 (p .roomy) };
+      scopes = λ s y o p h. h;
+      imports = λ s y o p h. h;
+      externs = λ s y o p h. h;
     }
 
 module _ (W : List ℕ) (s : Snapshot) (e : verdict W ≡ accept s) where
   -- The fields and numbers of an accepted snapshot are in range.
   pub accepted-ranges : Ranges (countsOf s) s
-  accepted-ranges = verdict-keeps InRange ranges-kept no-ranges W s e .kept
+  accepted-ranges = verdict-keeps W InRange ranges-kept no-ranges s e .kept
 
   -- Its counts are within the limits.
   pub accepted-limits : Limits (countsOf s)
   accepted-limits =
-      verdict-keeps Limited limits-kept
-      (record { names = omega arith; crates = omega arith; modules = omega arith; definitions = omega arith }) W s e .kept
+      verdict-keeps W Limited limits-kept
+      (record { names = omega arith; crates = omega arith; modules = omega arith; definitions = omega arith }) s e .kept

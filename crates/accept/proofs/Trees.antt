@@ -179,19 +179,19 @@ HasTree s = Tree (s .maps) (s .modules)
 abbrev HasEnums : Snapshot → Type 0
 HasEnums s = Enums (s .definitions)
 
-tree-kept : Keeps HasTree
+tree-kept : {W : List ℕ} → Keeps W HasTree
 tree-kept =
     keeps-of (λ ms xs ds. Tree ms xs) (λ s y p h. map-added s h y (p .known) (p .right))
     (λ s y p h. module-added s h y (p .known) (p .right)) (λ s y p h. h)
 
-enums-are-kept : Keeps HasEnums
+enums-are-kept : {W : List ℕ} → Keeps W HasEnums
 enums-are-kept =
     keeps-of (λ ms xs ds. Enums ds) (λ s y p h. h) (λ s y p h. h) (λ s y p h. enums-kept s y (p .known) (p .right) h)
 
 module _ (W : List ℕ) (s : Snapshot) (e : verdict W ≡ accept s) where
   pub accepted-tree : Tree (s .maps) (s .modules)
   accepted-tree =
-      verdict-keeps HasTree tree-kept
+      verdict-keeps W HasTree tree-kept
       (record {
         known = λ m l. absurd (omega arith);
         rise = λ i j l k. absurd (omega arith);
@@ -199,7 +199,7 @@ module _ (W : List ℕ) (s : Snapshot) (e : verdict W ≡ accept s) where
         roots = λ m j l z lt same. omega arith;
         blocks = λ k b l e. absurd (omega arith);
       })
-      W s e .kept
+      s e .kept
 
   pub accepted-enums : Enums (s .definitions)
-  accepted-enums = verdict-keeps HasEnums enums-are-kept (λ d l k. absurd (omega arith)) W s e .kept
+  accepted-enums = verdict-keeps W HasEnums enums-are-kept (λ d l k. absurd (omega arith)) s e .kept

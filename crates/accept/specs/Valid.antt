@@ -4,7 +4,9 @@ use mathlib.Core.Path.{_≡_}
 use mathlib.Core.List.{List, [], _∷_}
 use mathlib.Core.Bool.{Bool, true, false}
 use lib.ListN.{length, getD}
-use Rattle.snapshot.specs.Records.{Name, Crate, Dependency, Map, Module, Child, Prelude, Definition, Scope, Import, Extern, Snapshot}
+use Rattle.snapshot.specs.Limits.{wordLimit}
+use Rattle.snapshot.specs.Words.{kindOf}
+use Rattle.snapshot.specs.Records.{Name, Crate, Dependency, Map, Module, Child, Prelude, Definition, Scope, Import, Extern, Snapshot, definitionAt, scopeAt, importAt, externAt}
 use Rattle.record_rules.specs.Tests.{Counts, countsOf, noName, noMap, noModule, noDefinition, isEdition, sameName, sameChild, samePrelude, sameEntry, sameExtern}
 
 -- every element has P
@@ -51,6 +53,7 @@ pub record DefinitionFits (n : Counts) (x : Definition) : Type 0 where
   pub variant : x .kind ≡ 2 → (x .first < n .definitions) × (x .second < n .names)
   pub builtin : x .kind ≡ 3 → x .first < n .names
   pub home : (x .kind ≡ 2 → ⊥) → (x .kind ≡ 3 → ⊥) → x .first < n .modules
+  pub place : x .place < wordLimit
 
 pub record ScopeFits (n : Counts) (x : Scope) : Type 0 where
   pub owner : x .owner < n .modules
@@ -62,6 +65,7 @@ pub record ScopeFits (n : Counts) (x : Scope) : Type 0 where
   pub crate : x .visibility ≡ 1 → x .number < n .crates
   pub inside : 2 ≤ x .visibility → x .number < n .modules
   pub declared : x .declared ≤ 3
+  pub place : x .place < wordLimit
 
 pub record ImportFits (n : Counts) (x : Import) : Type 0 where
   pub owner : x .owner < n .crates
@@ -70,11 +74,13 @@ pub record ImportFits (n : Counts) (x : Import) : Type 0 where
   pub name : x .name < n .names
   pub container : x .container < n .modules
   pub bits : x .bits ≤ 3
+  pub place : x .place < wordLimit
 
 pub record ExternFits (n : Counts) (x : Extern) : Type 0 where
   pub owner : x .owner < n .crates
   pub name : x .name < n .names
   pub target : x .target < n .modules
+  pub place : x .place < wordLimit
 
 pub record Ranges (n : Counts) (s : Snapshot) : Type 0 where
   pub names : Each NameFits (s .names)
@@ -88,6 +94,19 @@ pub record Ranges (n : Counts) (s : Snapshot) : Type 0 where
   pub scopes : Each (ScopeFits n) (s .scopes)
   pub imports : Each (ImportFits n) (s .imports)
   pub externs : Each (ExternFits n) (s .externs)
+
+-- the words hold the record at its place, with a head of its kind
+pub record Stands {R : Type 0} (W : List ℕ) (read : List ℕ → ℕ → R) (kind place : ℕ) (x : R) : Type 0 where
+  pub head : kindOf (getD W place 0) ≡ kind
+  pub same : read W place ≡ x
+  pub inside : place < wordLimit
+
+-- every record that a path can be found by stands at its place
+pub record Placed (W : List ℕ) (s : Snapshot) : Type 0 where
+  pub definitions : Each (λ x. Stands W definitionAt 8 (x .place) x) (s .definitions)
+  pub scopes : Each (λ x. Stands W scopeAt 9 (x .place) x) (s .scopes)
+  pub imports : Each (λ x. Stands W importAt 10 (x .place) x) (s .imports)
+  pub externs : Each (λ x. Stands W externAt 11 (x .place) x) (s .externs)
 
 -- the limits of document 01
 pub record Limits (n : Counts) : Type 0 where
@@ -158,8 +177,8 @@ pub record Once (s : Snapshot) : Type 0 where
   pub children : Distinct sameChild (record { owner = 0; child = 0 }) (s .children)
   pub preludes : Distinct samePrelude (record { map = 0; target = 0 }) (s .preludes)
   pub scopes : Distinct sameEntry
-      (record { owner = 0; ns = 0; name = 0; definition = 0; visibility = 0; number = 0; declared = 0 }) (s .scopes)
-  pub externs : Distinct sameExtern (record { owner = 0; name = 0; target = 0 }) (s .externs)
+      (record { owner = 0; ns = 0; name = 0; definition = 0; visibility = 0; number = 0; declared = 0; place = 0 }) (s .scopes)
+  pub externs : Distinct sameExtern (record { owner = 0; name = 0; target = 0; place = 0 }) (s .externs)
 
 pub record Valid (s : Snapshot) : Type 0 where
   pub ranges : Ranges (countsOf s) s

@@ -25,10 +25,10 @@ workedSnapshot =
       modules = record { map = 0; parent = 0 } ∷ record { map = 0; parent = 1 } ∷ [];
       children = record { owner = 0; child = 1 } ∷ [];
       preludes = [];
-      definitions = record { kind = 1; first = 1; second = 0 } ∷ record { kind = 4; first = 1; second = 0 } ∷ [];
+      definitions = record { kind = 1; first = 1; second = 0; place = 15 } ∷ record { kind = 4; first = 1; second = 0; place = 18 } ∷ [];
       scopes =
-          record { owner = 0; ns = 0; name = 0; definition = 0; visibility = 0; number = 0; declared = 1 }
-          ∷ record { owner = 1; ns = 1; name = 1; definition = 1; visibility = 0; number = 0; declared = 1 }
+          record { owner = 0; ns = 0; name = 0; definition = 0; visibility = 0; number = 0; declared = 1; place = 21 }
+          ∷ record { owner = 1; ns = 1; name = 1; definition = 1; visibility = 0; number = 0; declared = 1; place = 28 }
           ∷ [];
       imports = [];
       externs = [];

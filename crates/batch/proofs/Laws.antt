@@ -62,17 +62,17 @@ put-end a l m h =
 module _ (W Q R₀ : List ℕ) where
   -- the first i reports are written
   pub record Reported (i : ℕ) (R : List ℕ) : Type 0 where
-    pub long : length (reportsOf W (questionsOf i Q)) ≡ 24 * i
-    pub same : R ≡ reportsOf W (questionsOf i Q) ++ drop (24 * i) R₀
+    pub long : length (reportsOf W (questionsOf i Q)) ≡ 42 * i
+    pub same : R ≡ reportsOf W (questionsOf i Q) ++ drop (42 * i) R₀
 
   pub none-reported : Reported 0 R₀
   unfolding questionsOf reportsOf
   none-reported = record { long = refl; same = refl }
 
-  pub all-reported : (i : ℕ) (R : List ℕ) → Reported i R → (n : ℕ) → i ≤ n → n ≤ i → R ≡ reportsOf W (questionsOf n Q) ++ drop (24 * n) R₀
+  pub all-reported : (i : ℕ) (R : List ℕ) → Reported i R → (n : ℕ) → i ≤ n → n ≤ i → R ≡ reportsOf W (questionsOf n Q) ++ drop (42 * n) R₀
   all-reported i R p n h k =
       let e : i ≡ n = omega arith in
-      p .same ∙ ap (λ x. reportsOf W (questionsOf x Q) ++ drop (24 * x) R₀) e
+      p .same ∙ ap (λ x. reportsOf W (questionsOf x Q) ++ drop (42 * x) R₀) e
 
   module _ (i : ℕ) (R : List ℕ) (p : Reported i R) (q : Question) (r : Report) (e : q ≡ questionOf (midOf (7 * i) (length Q - 7 * i) Q)) (f : r ≡ reportOf W 16384 q) where
     -- the words of the reports with that of one question more
@@ -84,31 +84,31 @@ module _ (W Q R₀ : List ℕ) where
         ∙ ap (λ (x : Report). reportsOf W (questionsOf i Q) ++ reportWords x)
         (ap (λ (x : List ℕ). reportOf W 16384 (questionOf x)) (sym (mid-end (7 * i) Q)) ∙ ap (reportOf W 16384) (sym e) ∙ sym f)
 
-    module _ (l : length R ≡ length R₀) (h : 24 * (i + 1) ≤ length R₀) (m : List ℕ) (b : Bool) (w : Written r (midOf (24 * i) (length R - 24 * i) R) m b) where
-      rest : midOf (24 * i) (length R - 24 * i) R ≡ drop (24 * i) R₀
-      rest = mid-end (24 * i) R ∙ ap (drop (24 * i)) (p .same) ∙ drop-at (reportsOf W (questionsOf i Q)) (drop (24 * i) R₀) (24 * i) (p .long)
+    module _ (l : length R ≡ length R₀) (h : 42 * (i + 1) ≤ length R₀) (m : List ℕ) (b : Bool) (w : Written r (midOf (42 * i) (length R - 42 * i) R) m b) where
+      rest : midOf (42 * i) (length R - 42 * i) R ≡ drop (42 * i) R₀
+      rest = mid-end (42 * i) R ∙ ap (drop (42 * i)) (p .same) ∙ drop-at (reportsOf W (questionsOf i Q)) (drop (42 * i) R₀) (42 * i) (p .long)
 
-      enough : 24 ≤ length (drop (24 * i) R₀)
-      enough = omega (arith, h, length-drop (24 * i) R₀)
+      enough : 42 ≤ length (drop (42 * i) R₀)
+      enough = omega (arith, h, length-drop (42 * i) R₀)
 
-      put-words : m ≡ reportWords r ++ drop 24 (drop (24 * i) R₀)
+      put-words : m ≡ reportWords r ++ drop 42 (drop (42 * i) R₀)
       unfolding writtenTo
       put-words = w .words ∙ ap (writtenTo r) rest ∙ rw (writtenTo, le-ltb _ _ enough)
 
-      pub one-more : length m ≡ length (midOf (24 * i) (length R - 24 * i) R) → Reported (i + 1) (putMid (24 * i) (length R - 24 * i) R m)
+      pub one-more : length m ≡ length (midOf (42 * i) (length R - 42 * i) R) → Reported (i + 1) (putMid (42 * i) (length R - 42 * i) R m)
       one-more k =
           let P : List ℕ = reportsOf W (questionsOf i Q) in
-          let T : List ℕ = drop (24 * i) R₀ in
+          let T : List ℕ = drop (42 * i) R₀ in
           let a : length m ≡ length T = k ∙ ap (λ (x : List ℕ). length x) rest in
-          let c : length m ≡ length (reportWords r) + length (drop 24 T) = ap (λ (x : List ℕ). length x) put-words ∙ length-append (reportWords r) (drop 24 T) in
-          let n : length (reportWords r) ≡ 24 = omega (arith, a, c, enough, length-drop 24 T) in
-          let u : take (24 * i) R ≡ P = ap (take (24 * i)) (p .same) ∙ take-at P T (24 * i) (p .long) in
-          let v : 24 * i + 24 ≡ 24 * (i + 1) = omega arith in
+          let c : length m ≡ length (reportWords r) + length (drop 42 T) = ap (λ (x : List ℕ). length x) put-words ∙ length-append (reportWords r) (drop 42 T) in
+          let n : length (reportWords r) ≡ 42 = omega (arith, a, c, enough, length-drop 42 T) in
+          let u : take (42 * i) R ≡ P = ap (take (42 * i)) (p .same) ∙ take-at P T (42 * i) (p .long) in
+          let v : 42 * i + 42 ≡ 42 * (i + 1) = omega arith in
           record {
             long = ap (λ (x : List ℕ). length x) next-words ∙ length-append P (reportWords r) ∙ ap₂ (λ x y. x + y) (p .long) n ∙ v;
             same =
-                put-end (24 * i) R m (omega (arith, h, l))
+                put-end (42 * i) R m (omega (arith, h, l))
                 ∙ ap₂ (λ x y. x ++ y) u put-words
-                ∙ sym (append-assoc P (reportWords r) (drop 24 T))
-                ∙ ap₂ (λ x y. x ++ y) (sym next-words) (drop-drop 24 (24 * i) R₀ ∙ ap (λ n. drop n R₀) v);
+                ∙ sym (append-assoc P (reportWords r) (drop 42 T))
+                ∙ ap₂ (λ x y. x ++ y) (sym next-words) (drop-drop 42 (42 * i) R₀ ∙ ap (λ n. drop n R₀) v);
           }

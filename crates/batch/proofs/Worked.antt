@@ -32,9 +32,11 @@ passesAll table =
 abbrev asked : List ℕ
 asked = 1 ∷ 1 ∷ 0 ∷ 1 ∷ 0 ∷ 1 ∷ 15 ∷ 1 ∷ 1 ∷ 0 ∷ 1 ∷ 0 ∷ 10001 ∷ 15 ∷ 1 ∷ 1 ∷ 0 ∷ 1 ∷ 0 ∷ 0 ∷ 15 ∷ []
 
--- `found a::f 1 0`, `refused 21 0 0`, `none - 0 1` with 15 left
+-- `found a::f 1 0 scope@21 local@28`, `refused 21 0 0`, `none - 0 1` with 15 left
 abbrev told : List ℕ
-told = (0 ∷ 0 ∷ 0 ∷ 0 ∷ 1 ∷ replicate 14 0 ++ (2 ∷ 1 ∷ 0 ∷ 0 ∷ 0 ∷ [])) ++ ((2 ∷ 21 ∷ replicate 22 0) ++ (1 ∷ replicate 20 0 ++ (1 ∷ 15 ∷ 0 ∷ [])))
+told =
+    (0 ∷ 0 ∷ 0 ∷ 0 ∷ 1 ∷ replicate 14 0 ++ (2 ∷ 1 ∷ 0 ∷ 0 ∷ 0 ∷ 2 ∷ 169 ∷ 230 ∷ replicate 15 0))
+    ++ ((2 ∷ 21 ∷ replicate 40 0) ++ (1 ∷ replicate 20 0 ++ (1 ∷ 15 ∷ 0 ∷ replicate 18 0)))
 
 abbrev row : ℕ → List ℕ → ℕ → ℕ → List ℕ → Row
 row a q n r l = record { area = a; questions = q; old = replicate n 7; number = r; new = l }
@@ -42,13 +44,13 @@ row a q n r l = record { area = a; questions = q; old = replicate n 7; number = 
 pub cases : List Row
 cases =
     -- the words past the reports stay
-    row 16384 asked 74 0 (told ++ (7 ∷ 7 ∷ []))
+    row 16384 asked 128 0 (told ++ (7 ∷ 7 ∷ []))
     ∷ row 16384 [] 1 0 (7 ∷ [])
-    ∷ row 16383 asked 72 20 (replicate 72 7)
-    ∷ row 16384 asked 71 44 (replicate 71 7)
-    ∷ row 16384 (7 ∷ asked) 74 44 (replicate 74 7)
+    ∷ row 16383 asked 126 20 (replicate 126 7)
+    ∷ row 16384 asked 125 44 (replicate 125 7)
+    ∷ row 16384 (7 ∷ asked) 128 44 (replicate 128 7)
     -- 65 questions; 20 comes before 44
-    ∷ row 16384 (replicate 455 0) 1560 44 (replicate 1560 7)
+    ∷ row 16384 (replicate 455 0) 2730 44 (replicate 2730 7)
     ∷ row 16383 (replicate 455 0) 0 20 []
     ∷ []
 

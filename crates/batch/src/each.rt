@@ -16,7 +16,7 @@ use reports::report::write_report;
 
 // Writes the report of each question on checked words.
 fn report_each(words: &[u32], area: &mut [u32], c: Checked, questions: &[u32], reports: &mut [u32])
-    requires { ⌜ Judged (now words) (now area) c × (length (now area) ≡ 16384) × (24 * (length (now questions) / 7) ≤ length (now reports)) ⌝ }
+    requires { ⌜ Judged (now words) (now area) c × (length (now area) ≡ 16384) × (42 * (length (now questions) / 7) ≤ length (now reports)) ⌝ }
     ensures { λ _. ⌜ now (reports .exit) ≡ reportsTo (now (words .entry)) (now (questions .entry)) (now (reports .entry)) ⌝ }
 {
     let n = questions.len() / QuestionWords::COUNT;
@@ -32,7 +32,7 @@ fn report_each(words: &[u32], area: &mut [u32], c: Checked, questions: &[u32], r
 
 /// Checks the words, writes the report of each question, and clears the work area.
 pub fn answer_each(words: &[u32], area: &mut [u32], questions: &[u32], reports: &mut [u32])
-    requires { ⌜ (length (now area) ≡ 16384) × (24 * (length (now questions) / 7) ≤ length (now reports)) ⌝ }
+    requires { ⌜ (length (now area) ≡ 16384) × (42 * (length (now questions) / 7) ≤ length (now reports)) ⌝ }
     ensures { λ _. ⌜ now (area .exit) ≡ zeros 16384 ⌝ }
     ensures { λ _. ⌜ now (reports .exit) ≡ reportsTo (now (words .entry)) (now (questions .entry)) (now (reports .entry)) ⌝ }
 {

@@ -41,20 +41,20 @@ either-few n true c d f g = f
 either-few n false c d f g = g
 
 module _ (s : Snapshot) (x : FindPathCtx) where
-  offer-few : (left : ℕ) (best c : Choice) (n : ℕ) → best .count ≤ left → c .count < left → Few left (offer s x best c n)
+  offer-few : (left : ℕ) (best c : Choice) (n via : ℕ) → best .count ≤ left → c .count < left → Few left (offer s x best c n via)
   unfolding offer trySelect push extended
-  offer-few left best c n f g =
+  offer-few left best c n via f g =
       either-few left (c .found) _ _
       (either-few left (best .found) _ _
-      (either-few left (better s (x .prelude) best c n) (extended s c n (c .prelude)) best (omega arith) f) (omega arith))
+      (either-few left (better s (x .prelude) best c n) (extended s c n via (c .prelude)) best (omega arith) f) (omega arith))
       f
 
   import-few : (left : ℕ) (best c : Choice) (i : Import) → best .count ≤ left → c .count < left → Few left (offerImport s x best c i)
   unfolding offerImport unstably
   import-few left best c i f g =
       either-few left (isUnstable i) _ _
-      (either-few left (x .unstable) _ _ (offer-few left best (unstably c) (i .name) f g) f)
-      (offer-few left best c (i .name) f g)
+      (either-few left (x .unstable) _ _ (offer-few left best (unstably c) (i .name) _ f g) f)
+      (offer-few left best c (i .name) _ f g)
 
   pub held-import : (left : ℕ) (o : Out Tank) (i : Import) (b : Bool) → 0 < left → Held left (foundOf o) → Held left (foundOf (oneImport s x left o i b))
   unfolding findImport
@@ -89,6 +89,7 @@ module _ (s : Snapshot) (x : FindPathCtx) where
 pub record Offered (c : Choice) : Type 0 where
   pub few : c .count < 16
   pub text : c .text < 2 ^ 32
+  pub steps : c .steps < 17
 
 pub offered : (W A : List ℕ) (l : Layout) (x : FindPathCtx) (left n m : ℕ) (t : Tank) (r : Found) → Reads W A l → left ≤ 15 → n < left
     → r ≡ foundOf (modules (snapOf W A l) x n m t) → Offered (r .choice)
@@ -98,7 +99,8 @@ offered W A l x left n m t r a h k e =
     let u = q .text (names-short W A l a) in
     let p = ap (λ (y : Found). y .choice .count) e in
     let w = ap (λ (y : Found). y .choice .text) e in
-    record { few = omega arith; text = omega arith }
+    let z = ap (λ (y : Found). y .choice .steps) e in
+    record { few = omega arith; text = omega arith; steps = omega (arith, z, q .once, f, k, h) }
 
 -- a charge keeps what the tank holds and has given, taken together
 draw-sum : (left sought : ℕ) (t : Tank) (f : ℕ) (u : Tank) → go u ≡ draw left sought t f → u .fuel + u .spent ≡ f + t .spent

@@ -4,7 +4,9 @@ ghost use mathlib.Core.List.{[]};
 ghost use Prim.Native.Nat.{_+_, _≤_, _<_, _^_};
 ghost use Rattle.snapshot.specs.Layouts.{snapOf};
 ghost use Rattle.snapshot.specs.Records.{importAt};
+ghost use Rattle.accept.specs.Stands.{countsIn};
 ghost use Rattle.accept.specs.Post.{Reads};
+ghost use Rattle.accept.specs.Valid.{ImportFits};
 ghost use Rattle.hir_def.specs.Nameres.{dependenciesOf, bySysroot};
 ghost use Rattle.hir_def.specs.ImportMap.{importInfoFor, isHidden};
 ghost use Rattle.hir_def.specs.Finds.{select};
@@ -314,7 +316,7 @@ fn find_import(
     h: usize,
     o: Found,
 ) -> Found
-    requires { ⌜ Begun (now words) (now area) l x left × (importAt (now words) h .container < l .modules) × (importAt (now words) h .name < l .names) × Held left o ⌝ }
+    requires { ⌜ Begun (now words) (now area) l x left × (importAt (now words) h .container < l .modules) × ImportFits (countsIn l) (importAt (now words) h) × Held left o ⌝ }
     ensures { λ r. ⌜ Searched (now (area .entry)) (oneImport (snapOf (now (words .entry)) (now (area .entry)) l) x left (outOf o) (importAt (now (words .entry)) h) (isHidden (importAt (now (words .entry)) h))) (now (area .exit)) r ⌝ }
 {
     if is_hidden(words, h) {

@@ -142,7 +142,7 @@ kept-by A B e i u v = sym (getD-take 4160 B i 0 v) ∙ ap (λ (x : List ℕ). ge
 judged-reads : (W A : List ℕ) (l : Layout) → Judged W A (Accepted l) → Reads W A l
 judged-reads W A l j = record { same = sym (j .same); tables = j .tables }
 
-judged-stays : (W A B : List ℕ) (l : Layout) → Judged W A (Accepted l) → take 4160 B ≡ take 4160 A → Judged W B (Accepted l)
+pub judged-stays : (W A B : List ℕ) (l : Layout) → Judged W A (Accepted l) → take 4160 B ≡ take 4160 A → Judged W B (Accepted l)
 judged-stays W A B l j e =
     record {
       same = ap accept (snap-stays W A B l (j .tables) (kept-by A B e)) ∙ j .same;

@@ -35,7 +35,7 @@ module _ (W : List ℕ) (q : Question) where
   by-call (suc m) n place e = numbered _ (suc m) refl
 
   -- a refused snapshot refuses each question
-  refusal-only : (n place : ℕ) → verdict W ≡ refuse n place → reportOf W 16384 q ≡ refused (reportOf W 16384 q .number)
+  pub refusal-only : (n place : ℕ) → verdict W ≡ refuse n place → reportOf W 16384 q ≡ refused (reportOf W 16384 q .number)
   unfolding reportOf
   refusal-only n place e = by-call (callFault 16384 (q .query) (q .fuel)) n place e
 

@@ -13,5 +13,5 @@ use Rattle.reports.specs.Written.{writtenTo}
 -- the report of the question q is written to the words old, where they are enough, of which b tells
 pub record Reported (W A₀ : List ℕ) (q : Question) (A old new : List ℕ) (b : Bool) : Type 0 where
   pub report : new ≡ writtenTo (reportOf W (length A₀) q) old
-  pub done : b ≡ leb 24 (length old)
+  pub done : b ≡ leb 42 (length old)
   pub area : A ≡ areaAfter A₀

@@ -2,11 +2,14 @@
 //! anything of its caller.
 ghost use mathlib.Core.Path.{_≡_};
 ghost use Rattle.batch.specs.Batch.{Batch};
+ghost use Rattle.edits.specs.Edits.{EditsIn};
 ghost use Rattle.exports.specs.Answers.{Answered};
 ghost use Rattle.exports.specs.Questions.{Reported};
 ghost use Rattle.exports.specs.Texts.{nameText, Copied, Named, nameRaw, RawNamed};
 ghost use Rattle.exports.specs.Turns.{Served};
 ghost use Rattle.questions.specs.Questions.{questionOf};
+ghost use Rattle.scope_edits.specs.Edits.{adding, removing};
+ghost use Rattle.scope_edits.specs.Entries.{entryOf};
 ghost use Rattle.windows.specs.Windows.{Placed};
 
 mod text;
@@ -18,6 +21,8 @@ use accept::check::check;
 use answer::answer::find_path;
 use answer::report::write_report;
 use batch::batch::find_paths;
+use edits::edits::add_entry;
+use edits::edits::remove_entry;
 use keywords::is_raw;
 use questions::question::question_of;
 use snapshot::ids::Name;
@@ -123,7 +128,7 @@ pub extern "C" fn kelumavor_find_path(
     write_report(answer, report)
 }
 
-/// Answers up to 64 questions of seven words each on a snapshot, which is checked once, and writes their reports of 24 words each, one
+/// Answers up to 64 questions of seven words each on a snapshot, which is checked once, and writes their reports of 42 words each, one
 /// after the other. Answers 0, or the number by which the whole call is refused, with the reports unwritten: 20 a small work area,
 /// 44 too many questions, a part of one, or too few words for the reports.
 #[no_mangle]
@@ -159,7 +164,7 @@ pub extern "C" fn kelumavor_turn(
     state: &mut [u32; 65],
     words: &[u32],
     area: &mut [u32],
-    report: &mut [u32; 24],
+    report: &mut [u32; 42],
 ) -> usize
     ensures { λ r. ⌜ Served (now (state .entry)) (now (words .entry)) (now (area .entry)) (now (report .entry)) (now (state .exit)) (now (area .exit)) (now (report .exit)) r ⌝ }
 {
@@ -171,4 +176,39 @@ pub extern "C" fn kelumavor_turn(
     let answer = t.report;
     write_report(answer, report);
     t.window
+}
+
+/// Adds an entry of a scope to the snapshot in the first words, as many as `count` says, which becomes the new count: module,
+/// namespace, name, definition, visibility and its number, declared. Answers 0, or the number by which the edit is refused, with words
+/// and count unchanged: 20 a small work area, 30 to 36 and 43 the snapshot, 30 also a count above the words, 32, 33 and 35 the entry, 47 a name
+/// that is there already, 48 no room.
+#[no_mangle]
+pub extern "C" fn kelumavor_add_entry(
+    words: &mut [u32],
+    count: &mut usize,
+    area: &mut [u32],
+    entry: &[u32; 7],
+) -> usize
+    ensures { λ r. ⌜ EditsIn (now (words .entry)) (now (count .entry)) (now (area .entry)) (adding (entryOf (now (entry .entry)))) (now (words .exit)) (now (area .exit)) (record { number = r; count = now (count .exit) }) ⌝ }
+{
+    let r = add_entry(words, *count, area, entry);
+    *count = r.count;
+    r.number
+}
+
+/// Removes the entry of a module, a namespace and a name, and answers as `kelumavor_add_entry` does, with 47 for a name that isn't there.
+#[no_mangle]
+pub extern "C" fn kelumavor_remove_entry(
+    words: &mut [u32],
+    count: &mut usize,
+    area: &mut [u32],
+    owner: usize,
+    ns: usize,
+    name: usize,
+) -> usize
+    ensures { λ r. ⌜ EditsIn (now (words .entry)) (now (count .entry)) (now (area .entry)) (removing owner ns name) (now (words .exit)) (now (area .exit)) (record { number = r; count = now (count .exit) }) ⌝ }
+{
+    let r = remove_entry(words, *count, area, owner, ns, name);
+    *count = r.count;
+    r.number
 }

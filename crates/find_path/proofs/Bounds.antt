@@ -5,17 +5,15 @@ use native.Mathlib.Omega.{arith}
 use mathlib.Core.List.{List, [], _∷_, _++_}
 use mathlib.Core.Bool.{Bool, true, false, _||_, not}
 use mathlib.Core.Option.{Option, none, some}
-use lib.ListN.{length, getD, replicate, length-set}
+use lib.ListN.{length, getD, replicate, set, length-set}
 use lib.Seq.{getD-set-other}
-use Rattle.snapshot.specs.Records.{Snapshot, Dependency, Definition, Import, Extern}
+use Rattle.snapshot.specs.Records.{Snapshot, Scope, Dependency, Definition, Import, Extern}
 use Rattle.hir_def.specs.Items.{types, crateRoot, itemOf}
 use lib.Dec.{eqb}
 use Rattle.hir_def.specs.Nameres.{dependenciesOf, langOf, sysrootFirst, externOf}
 use Rattle.hir_def.specs.ImportMap.{importInfoFor, isUnstable}
 use Rattle.hir_def.specs.declared.Item.{Item}
 use Rattle.hir_def.specs.declared.Item.the-variants.{Mod, Def}
-use Rattle.hir_def.specs.declared.Answer.{Answer}
-use Rattle.hir_def.specs.declared.Answer.the-variants.{Name, Nothing}
 use Rattle.find_path.specs.declared.Choice.{Choice}
 use Rattle.find_path.specs.declared.KwKind.{KwKind}
 use Rattle.find_path.specs.declared.KwKind.the-variants.{Kw, NoKw}
@@ -24,10 +22,10 @@ use Rattle.find_path.specs.declared.Query.{Query}
 use Rattle.find_path.specs.Choices.{nameLen, pathKindLen, plainPath, cratePath, nothing, keyword, choiceNew, extended, push, unstably, better, trySelect}
 use Rattle.find_path.specs.Walk.{Level}
 use Rattle.find_path.specs.Rules.{byCrate, mayBeInScope, prefixPathKind, contextOf, firstFound, single, scopeRule, preludeRule, externName, rootRule, keywordOf, moduleRules, isKwKindRelativeToFrom, findInScope}
-use Rattle.find_path.specs.Local.{LocalSearch, offer, importableName, location, eachLocation, calculateBestPathLocal, orLocal, findPathForModuleLocal}
+use Rattle.find_path.specs.Local.{LocalSearch, offer, offerEntry, importableName, location, eachLocation, calculateBestPathLocal, orLocal, findPathForModuleLocal}
 use Rattle.find_path.specs.Meters.{Charged, go, stop, Charge}
-use Rattle.find_path.specs.Charged.{Out, Search, Inner, langs, oneOrNone, variantOf, offerImport, findImport, findImports, findInDep, findInDeps, findInSysroot, goOn, afterCharge, calculateBestPath, orCharged, findPathForModule, afterEnum, viaEnum, orEnum, byName, ofModule, findPathInner}
-use Rattle.find_path.specs.Search.{localTo, searchLocal, bestLocal, moduleTo, searchModule, itemTo, searchItem, fromHome, fromItem, findPath}
+use Rattle.find_path.specs.Charged.{Out, Search, Inner, langs, oneOrNone, variantOf, pushVariant, offerImport, findImport, findImports, findInDep, findInDeps, findInSysroot, goOn, afterCharge, calculateBestPath, orCharged, findPathForModule, afterEnum, viaEnum, orEnum, byName, ofModule, findPathInner}
+use Rattle.find_path.specs.Search.{builtinChoice, localTo, searchLocal, bestLocal, moduleTo, searchModule, itemTo, searchItem, fromHome, fromItem, findPath}
 use Rattle.find_path.proofs.Unfold.{length-falls}
 
 -- no name is longer than 255 bytes
@@ -40,6 +38,11 @@ pub record Fits (s : Snapshot) (left : ℕ) (c : Choice) : Type 0 where
   pub rest : (i : ℕ) → c .count ≤ i → getD (c .names) i 0 ≡ 0
   -- the text of a path is short where the names are
   pub text : Short s → c .text ≤ 5 + 255 * c .count
+  -- a step for each name, and one more after a keyword; zeros past them
+  pub each : c .count ≤ c .steps
+  pub once : c .steps ≤ c .count + 1
+  pub wide : length (c .route) ≡ 17
+  pub past : (i : ℕ) → c .steps ≤ i → getD (c .route) i 0 ≡ 0
 
 pub zeros : (n i : ℕ) → _≡_ {A = ℕ} (getD (replicate n 0) i 0) 0
 zeros zero i = refl
@@ -56,36 +59,69 @@ kind-short (suc (suc (suc (suc zero)))) = omega arith
 kind-short (suc (suc (suc (suc (suc k))))) = omega arith
 
 pub more : {s : Snapshot} {c : Choice} (l left : ℕ) → l ≤ left → Fits s l c → Fits s left c
-more l left h f = record { few = omega (arith, f .few); long = f .long; rest = f .rest; text = f .text }
+more l left h f =
+    record { few = omega (arith, f .few); long = f .long; rest = f .rest; text = f .text; each = f .each; once = f .once; wide = f .wide; past = f .past }
 
 pub nothing-fits : {s : Snapshot} (left : ℕ) → Fits s left nothing
-nothing-fits left = record { few = omega arith; long = refl; rest = λ i _. zeros 16 i; text = λ h. omega arith }
+nothing-fits left =
+    record {
+      few = omega arith;
+      long = refl;
+      rest = λ i _. zeros 16 i;
+      text = λ h. omega arith;
+      each = omega arith;
+      once = omega arith;
+      wide = refl;
+      past = λ i _. zeros 17 i;
+    }
+
+-- zeros past the first step
+one-past : (t i : ℕ) → 1 ≤ i → getD (set (replicate 17 0) 0 t) i 0 ≡ 0
+one-past t i h = getD-set-other (replicate 17 0) 0 i t 0 (λ e. omega arith) ∙ zeros 17 i
 
 keyword-fits : {s : Snapshot} (left k : ℕ) → Fits s left (keyword k)
 unfolding keyword
-keyword-fits left k = record { few = omega arith; long = refl; rest = λ i _. zeros 16 i; text = λ h. omega (arith, kind-short k) }
+keyword-fits left k =
+    record {
+      few = omega arith;
+      long = refl;
+      rest = λ i _. zeros 16 i;
+      text = λ h. omega (arith, kind-short k);
+      each = omega arith;
+      once = omega arith;
+      wide = refl;
+      past = one-past 4;
+    }
 
-extended-fits : (s : Snapshot) (l : ℕ) (c : Choice) (n : ℕ) (b : Bool) → Fits s l c → Fits s (suc l) (extended s c n b)
+extended-fits : (s : Snapshot) (l : ℕ) (c : Choice) (n t : ℕ) (b : Bool) → Fits s l c → Fits s (suc l) (extended s c n t b)
 unfolding extended
-extended-fits s l c n b f = record {
+extended-fits s l c n t b f = record {
   few = omega (arith, f .few);
   long = length-set (c .names) (c .count) n ∙ f .long;
   rest = λ i h. getD-set-other (c .names) (c .count) i n 0 (λ e. omega arith) ∙ f .rest i (omega arith);
   text = λ h. let a = f .text h in let b = h n in omega arith;
+  each = omega (arith, f .each);
+  once = omega (arith, f .once);
+  wide = length-set (c .route) (c .steps) t ∙ f .wide;
+  past = λ i h. getD-set-other (c .route) (c .steps) i t 0 (λ e. omega arith) ∙ f .past i (omega arith);
 }
 
-pub new-fits : (s : Snapshot) (l k n : ℕ) → Fits s (suc l) (choiceNew s k n)
+pub new-fits : (s : Snapshot) (l k n t : ℕ) → Fits s (suc l) (choiceNew s k n t)
 unfolding choiceNew
-new-fits s l k n = record {
+new-fits s l k n t = record {
   few = omega arith;
   long = refl;
   rest = λ i h. getD-set-other (replicate 16 0) 0 i n 0 (λ e. omega arith) ∙ zeros 16 i;
   text = λ h. let a = kind-short k in let b = h n in omega arith;
+  each = omega arith;
+  once = omega arith;
+  wide = refl;
+  past = one-past t;
 }
 
-pub push-fits : (s : Snapshot) (l : ℕ) (c : Choice) (n : ℕ) → Fits s l c → Fits s (suc l) (push s c n)
+pub push-fits : (s : Snapshot) (l : ℕ) (c : Choice) (n t : ℕ) → Fits s l c → Fits s (suc l) (push s c n t)
 unfolding push
-push-fits s l c n f = extended-fits s l c n _ f
+push-fits s l c n t f = extended-fits s l c n t _ f
 
 -- of two choices, the one that a test takes
 pub either-fits : {s : Snapshot} (left : ℕ) (b : Bool) (c d : Choice) → Fits s left c → Fits s left d → Fits s left (elim b [ true ↦ c | false ↦ d ])
@@ -101,48 +137,49 @@ unfolding firstFound
 first-fits left c cs f g = either-fits left (c .found) c (firstFound cs) f g
 
 module _ (s : Snapshot) (x : FindPathCtx) where
-  select-fits : (l : ℕ) (best c : Choice) (n : ℕ) → Fits s (suc l) best → Fits s l c → Fits s (suc l) (trySelect s (x .prelude) best c n)
+  select-fits : (l : ℕ) (best c : Choice) (n t : ℕ) → Fits s (suc l) best → Fits s l c → Fits s (suc l) (trySelect s (x .prelude) best c n t)
   unfolding trySelect
-  select-fits l best c n f g =
+  select-fits l best c n t f g =
       either-fits (suc l) (best .found) _ _
-      (either-fits (suc l) (better s (x .prelude) best c n) _ _ (extended-fits s l c n _ g) f) (push-fits s l c n g)
+      (either-fits (suc l) (better s (x .prelude) best c n) _ _ (extended-fits s l c n t _ g) f) (push-fits s l c n t g)
 
-  pub offer-fits : (l left : ℕ) (best c : Choice) (n : ℕ) → l < left → Fits s left best → Fits s l c → Fits s left (offer s x best c n)
+  pub offer-fits : (l left : ℕ) (best c : Choice) (n t : ℕ) → l < left → Fits s left best → Fits s l c → Fits s left (offer s x best c n t)
   unfolding offer
-  offer-fits l zero best c n h f g = absurd (omega arith)
-  offer-fits l (suc k) best c n h f g =
-      either-fits (suc k) (c .found) _ _ (select-fits k best c n f (more l k (omega arith) g)) f
+  offer-fits l zero best c n t h f g = absurd (omega arith)
+  offer-fits l (suc k) best c n t h f g =
+      either-fits (suc k) (c .found) _ _ (select-fits k best c n t f (more l k (omega arith) g)) f
 
   unstably-fits : (l : ℕ) (c : Choice) → Fits s l c → Fits s l (unstably c)
   unfolding unstably
-  unstably-fits l c f = record { few = f .few; long = f .long; rest = f .rest; text = f .text }
+  unstably-fits l c f =
+      record { few = f .few; long = f .long; rest = f .rest; text = f .text; each = f .each; once = f .once; wide = f .wide; past = f .past }
 
   pub offer-import-fits : (l left : ℕ) (best c : Choice) (i : Import) → l < left → Fits s left best → Fits s l c → Fits s left (offerImport s x best c i)
   unfolding offerImport
   offer-import-fits l left best c i h f g =
       either-fits left (isUnstable i) _ _
-      (either-fits left (x .unstable) _ _ (offer-fits l left best (unstably c) (i .name) h f (unstably-fits l c g)) f)
-      (offer-fits l left best c (i .name) h f g)
+      (either-fits left (x .unstable) _ _ (offer-fits l left best (unstably c) (i .name) _ h f (unstably-fits l c g)) f)
+      (offer-fits l left best c (i .name) _ h f g)
 
   -- the rules without a search give a name at most
-  single-fits : (l kind : ℕ) (a : Answer) → Fits s (suc l) (single s x kind a)
+  single-fits : (l kind rule : ℕ) (o : Option Scope) → Fits s (suc l) (single s x kind rule o)
   unfolding single
-  single-fits l kind Nothing = nothing-fits (suc l)
-  single-fits l kind (Name n) = new-fits s l kind n
+  single-fits l kind rule none = nothing-fits (suc l)
+  single-fits l kind rule (some e) = new-fits s l kind (e .name) _
 
   pub scope-fits : (l : ℕ) (item : Item) → Fits s (suc l) (scopeRule s x item)
   unfolding scopeRule
   scope-fits l item =
-      either-fits (suc l) (mayBeInScope s x) _ _ (single-fits l (prefixPathKind (x .prefix)) (findInScope s x item)) (nothing-fits (suc l))
+      either-fits (suc l) (mayBeInScope s x) _ _ (single-fits l (prefixPathKind (x .prefix)) _ (findInScope s x item)) (nothing-fits (suc l))
 
   pub prelude-fits : (l : ℕ) (item : Item) → Fits s (suc l) (preludeRule s x item)
   unfolding preludeRule
-  prelude-fits l item = single-fits l plainPath _
+  prelude-fits l item = single-fits l plainPath _ _
 
   extern-fits : (l m : ℕ) (e : Option Extern) → Fits s (suc l) (externName s x m e)
   unfolding externName
   extern-fits l m none = nothing-fits (suc l)
-  extern-fits l m (some e) = new-fits s l _ _
+  extern-fits l m (some e) = new-fits s l _ _ _
 
   root-fits : (l : ℕ) (b : Bool) (m : ℕ) → Fits s (suc l) (rootRule s x b m)
   unfolding rootRule
@@ -168,11 +205,11 @@ module _ (s : Snapshot) (x : FindPathCtx) where
   FitsLocal rec = (left : ℕ) (ls : List Level) (m : ℕ) → Fits s left (rec left ls m)
 
   module _ (rec : LocalSearch) (fits : FitsLocal rec) where
-    pub location-fits : (l : ℕ) (ls : List Level) (best : Choice) (m : ℕ) (a : Answer) → Fits s (suc l) best → Fits s (suc l) (location s x rec (suc l) ls best m a)
-    unfolding location
-    location-fits l ls best m Nothing f = f
-    location-fits l ls best m (Name n) f =
-        offer-fits _ (suc l) best _ n (length-falls (suc l) _ (omega arith)) f (fits _ ls m)
+    pub location-fits : (l : ℕ) (ls : List Level) (best : Choice) (m : ℕ) (a : Option Scope) → Fits s (suc l) best → Fits s (suc l) (location s x rec (suc l) ls best m a)
+    unfolding location offerEntry
+    location-fits l ls best m none f = f
+    location-fits l ls best m (some e) f =
+        offer-fits _ (suc l) best _ (e .name) _ (length-falls (suc l) _ (omega arith)) f (fits _ ls m)
 
     pub each-fits : (l : ℕ) (ls : List Level) (item : Item) (done : List ℕ) (best : Choice) (ms : List ℕ) → Fits s (suc l) best
         → Fits s (suc l) (eachLocation s x rec (suc l) ls item done best ms)
@@ -274,15 +311,15 @@ module _ (M : Type 0) (charge : Charge M) (s : Snapshot) where
       item-best : (item : Item) (t : M) → Fits s (suc n) (calculateBestPath M charge s x here rec (x .limit) item t .choice)
       item-best item t = more (x .limit) (suc n) wide (best-within (x .limit) pos item t)
 
-      enum-fits : (item : Item) (name : ℕ) (o : Out M) (b : Bool) → Fits s n (o .choice) → Fits s (suc n) (afterEnum M charge s x here rec item name o b .choice)
-      unfolding afterEnum
-      enum-fits item name o true f = push-fits s n (o .choice) name f
-      enum-fits item name o false f = item-best item (o .meter)
+      enum-fits : (item : Item) (v : Definition) (o : Out M) (b : Bool) → Fits s n (o .choice) → Fits s (suc n) (afterEnum M charge s x here rec item v o b .choice)
+      unfolding afterEnum pushVariant
+      enum-fits item v o true f = push-fits s n (o .choice) (v .second) _ f
+      enum-fits item v o false f = item-best item (o .meter)
 
       via-fits : (item : Item) (t : M) (v : Option Definition) → Fits s (suc n) (viaEnum M charge s x here rec inner item t v .choice)
       unfolding viaEnum
       via-fits item t none = item-best item t
-      via-fits item t (some v) = enum-fits item (v .second) _ _ (within (itemOf s types (v .first)) t)
+      via-fits item t (some v) = enum-fits item v _ _ (within (itemOf s types (v .first)) t)
 
       named-fits : (item : Item) (t : M) (c : Choice) (b : Bool) → Fits s (suc n) c → Fits s (suc n) (orEnum M charge s x here rec inner item t c b .choice)
       unfolding orEnum
@@ -330,8 +367,8 @@ module _ (M : Type 0) (charge : Charge M) (s : Snapshot) where
     home-fits item t (suc home) = itemTo-fits (contextOf s q home) 14 p l 2 item t
 
     start-fits : (t : M) (b : Bool) → Fits s 16 (fromItem M charge s q t b .choice)
-    unfolding fromItem
-    start-fits t true = new-fits s 15 plainPath _
+    unfolding fromItem builtinChoice
+    start-fits t true = new-fits s 15 plainPath _ _
     start-fits t false = home-fits _ t _
 
     -- Every path has at most sixteen names, and zeros past them.

@@ -34,7 +34,7 @@ select-found p (x ∷ xs) f =
     let g = select-found p xs (λ y h. f y (List·Memᴰ·tail h)) in
     by-test (p x) (λ t. rw (t, select) (more (f x (List·Memᴰ·head refl) t) g)) (λ t. rw (t, select) g)
 
-each-in : {A : Type 0} {P : A → Type 0} {y : A} {xs : List A} → Each P xs → y ∈ xs → P y
+pub each-in : {A : Type 0} {P : A → Type 0} {y : A} {xs : List A} → Each P xs → y ∈ xs → P y
 each-in Each.none m = absurd (List·Memᴰ·not-nil m)
 each-in {P = P} (more p h) (List·Memᴰ·head e) = subst P (sym e) p
 each-in (more p h) (List·Memᴰ·tail m) = each-in h m

@@ -71,6 +71,8 @@ told F a c (same e h) =
         kind = ap (λ (z : Choice). z .kind) e;
         names = ap (λ (z : Choice). z .names) e;
         count = ap (λ (z : Choice). z .count) e;
+        route = ap (λ (z : Choice). z .route) e;
+        steps = ap (λ (z : Choice). z .steps) e;
       };
     }
 told F a c (dry l m h n) =
@@ -97,6 +99,8 @@ within F a c (same e h) l = λ i. record {
   empty = flag (h .silent i);
   left = h .no-left i;
   sought = h .no-sought i;
+  route = e i .route;
+  steps = e i .steps;
 }
 within F a c (dry k m h n) l = absurd (omega arith)
 

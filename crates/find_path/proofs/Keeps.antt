@@ -68,10 +68,10 @@ module _ (M : Type 0) (charge : Charge M) (s : Snapshot) (P : M → Type 0) (kep
     unfolding calculateBestPath
     best-keeps left item t h = after-keeps left item (charge _ _ t) (kept _ _ t h)
 
-    pub enum-keeps : (item : Item) (name : ℕ) (o : Out M) (b : Bool) → P (o .meter) → P (afterEnum M charge s x here rec item name o b .meter)
+    pub enum-keeps : (item : Item) (v : Definition) (o : Out M) (b : Bool) → P (o .meter) → P (afterEnum M charge s x here rec item v o b .meter)
     unfolding afterEnum
-    enum-keeps item name o true h = h
-    enum-keeps item name o false h = best-keeps (x .limit) item (o .meter) h
+    enum-keeps item v o true h = h
+    enum-keeps item v o false h = best-keeps (x .limit) item (o .meter) h
 
     or-keeps : (left m : ℕ) (t : M) (c : Choice) (b : Bool) → P t → P (orCharged M charge s x here rec left m t c b .meter)
     unfolding orCharged
@@ -87,7 +87,7 @@ module _ (M : Type 0) (charge : Charge M) (s : Snapshot) (P : M → Type 0) (kep
       via-keeps : (item : Item) (t : M) (v : Option Definition) → P t → P (viaEnum M charge s x here rec inner item t v .meter)
       unfolding viaEnum
       via-keeps item t none h = best-keeps (x .limit) item t h
-      via-keeps item t (some v) h = enum-keeps item (v .second) _ _ (within (itemOf s types (v .first)) t h)
+      via-keeps item t (some v) h = enum-keeps item v _ _ (within (itemOf s types (v .first)) t h)
 
       named-keeps : (item : Item) (t : M) (c : Choice) (b : Bool) → P t → P (orEnum M charge s x here rec inner item t c b .meter)
       unfolding orEnum

@@ -1,14 +1,15 @@
--- Every name of a path is the number of a name of the snapshot, and its kind is one of the five.
+-- Every name of a path is the number of a name of the snapshot, its kind is one of the five, and its steps are small.
 use mathlib.Core.Path.{_≡_, refl, ap, sym, _∙_, subst}
 use Prim.Native.Nat.{ℕ, zero, suc, _≤_, _<_}
 use native.Mathlib.Omega.{arith}
 use native.Mathlib.Decide.{decLe}
-use mathlib.Core.List.{List, [], _∷_, _++_}
+use mathlib.Core.List.{List, [], _∷_, _++_, List·Memᴰ·head, List·Memᴰ·tail}
 use mathlib.Core.Bool.{Bool, true, false, _||_, not}
 use mathlib.Core.Option.{Option, none, some}
 use lib.Dec.{eqb}
 use lib.ListN.{length, getD, set, replicate, List·getD-eq-default}
 use borrow.Author.Tests.{eqb-true}
+use Rattle.snapshot.specs.Limits.{wordLimit}
 use Rattle.snapshot.specs.Records.{Snapshot, Scope, Prelude, Dependency, Definition, Import, Extern}
 use Rattle.accept.specs.Tests.{countsOf, noDefinition}
 use Rattle.accept.specs.Valid.{Each, more, ScopeFits, ImportFits, ExternFits, DefinitionFits, Ranges}
@@ -23,8 +24,6 @@ use Rattle.hir_def.specs.Nameres.{ancestorMaps, scopeEntry, preludeOf, dependen
 use Rattle.hir_def.specs.ImportMap.{importInfoFor, isUnstable}
 use Rattle.hir_def.specs.declared.Item.{Item}
 use Rattle.hir_def.specs.declared.Item.the-variants.{Mod, Def}
-use Rattle.hir_def.specs.declared.Answer.{Answer}
-use Rattle.hir_def.specs.declared.Answer.the-variants.{Name, Nothing}
 use Rattle.hir_def.proofs.Found.{each-first, each-select}
 use Rattle.hir_def.proofs.Fits.{each-back}
 use Rattle.find_path.specs.declared.Choice.{Choice}
@@ -35,30 +34,28 @@ use Rattle.find_path.specs.declared.Query.{Query}
 use Rattle.find_path.specs.declared.Question.{Question}
 use Rattle.find_path.specs.declared.Report.{Report}
 use Rattle.find_path.specs.declared.Tank.{Tank}
-use Rattle.find_path.specs.Choices.{plainPath, selfPath, superPath, cratePath, nothing, keyword, choiceNew, extended, push, unstably, better, trySelect}
+use Rattle.find_path.specs.Choices.{plainPath, selfPath, superPath, cratePath, viaScope, viaPrelude, stepBy, stepLimit, nothing, keyword, choiceNew, extended, push, unstably, better, trySelect}
 use Rattle.find_path.specs.Walk.{Level}
-use Rattle.find_path.specs.Rules.{byCrate, mayBeInScope, prefixPathKind, contextOf, firstFound, entryName, single, findInScope, scopeRule, isUsable, preludeEntry, inPrelude, findInPrelude, preludeRule, externKind, externName, rootRule, parentKind, isKwKindRelativeToFrom, keywordOf, moduleRules}
-use Rattle.find_path.specs.Local.{LocalSearch, offer, isImportable, nameIf, importableName, location, eachLocation, calculateBestPathLocal, orLocal, findPathForModuleLocal}
+use Rattle.find_path.specs.Rules.{byCrate, mayBeInScope, prefixPathKind, contextOf, firstFound, single, findInScope, scopeRule, isUsable, preludeEntry, inPrelude, findInPrelude, preludeRule, externKind, externName, rootRule, parentKind, isKwKindRelativeToFrom, keywordOf, moduleRules}
+use Rattle.find_path.specs.Local.{LocalSearch, offer, offerEntry, isImportable, entryIf, importableName, location, eachLocation, calculateBestPathLocal, orLocal, findPathForModuleLocal}
 use Rattle.find_path.specs.Meters.{Charged, go, stop, fromTank, Charge}
-use Rattle.find_path.specs.Charged.{Out, Search, Inner, langs, oneOrNone, variantOf, offerImport, findImport, findImports, findInDep, findInDeps, findInSysroot, goOn, afterCharge, calculateBestPath, orCharged, findPathForModule, afterEnum, viaEnum, orEnum, byName, ofModule, findPathInner}
-use Rattle.find_path.specs.Search.{localTo, searchLocal, bestLocal, moduleTo, searchModule, itemTo, searchItem, fromHome, fromItem, findPath}
+use Rattle.find_path.specs.Charged.{Out, Search, Inner, langs, oneOrNone, variantOf, pushVariant, offerImport, findImport, findImports, findInDep, findInDeps, findInSysroot, goOn, afterCharge, calculateBestPath, orCharged, findPathForModule, afterEnum, viaEnum, orEnum, byName, ofModule, findPathInner}
+use Rattle.find_path.specs.Search.{builtinChoice, localTo, searchLocal, bestLocal, moduleTo, searchModule, itemTo, searchItem, fromHome, fromItem, findPath}
 use Rattle.find_path.specs.Report.{refused, reported, searched, reportOf}
 use Rattle.find_path.specs.Fuels.{NamesKnown}
+use Rattle.find_path.specs.Routes.{_∈_}
+use Rattle.find_path.proofs.Bounds.{zeros}
 use Rattle.find_path.proofs.Outcomes.{Kind, refusal, answer, kind-of}
 
 pub record Known (s : Snapshot) (c : Choice) : Type 0 where
   pub kind : c .kind ≤ 4
   pub names : (i : ℕ) → i < c .count → getD (c .names) i 0 < length (s .names)
+  pub route : (i : ℕ) → getD (c .route) i 0 < stepLimit
 
 -- what may be there, and has P if it is
-abbrev Held : {A : Type 0} → (A → Type 0) → Option A → Type 0
+abbrev pub Held : {A : Type 0} → (A → Type 0) → Option A → Type 0
 Held P none = Unit {0}
 Held P (some y) = P y
-
--- a name that is answered is a name of the snapshot
-abbrev Named : Snapshot → Answer → Type 0
-Named s (Name n) = n < length (s .names)
-Named s Nothing = Unit {0}
 
 -- the path kind of a keyword is one of the five
 abbrev KindSmall : KwKind → Type 0
@@ -68,6 +65,10 @@ KindSmall NoKw = Unit {0}
 held : {A : Type 0} {P : A → Type 0} (o : Option A) → ((y : A) → o ≡ some y → P y) → Held P o
 held none f = tt
 held (some y) f = f y refl
+
+pub held-at : {A : Type 0} (P : A → Type 0) {y : A} (o : Option A) → Held P o → o ≡ some y → P y
+held-at P none h e = let z : _≡_ {A = ℕ} 0 1 = cc in absurd (omega arith)
+held-at P {y = y} (some w) h e = let same : w ≡ y = cc in subst P same h
 
 first-held : {A : Type 0} {P : A → Type 0} {xs : List A} (p : A → Bool) → Each P xs → Held P (firstOf p xs)
 first-held p h = held _ (λ y e. each-first p y h e)
@@ -89,25 +90,47 @@ put-below (x ∷ l) zero n (suc i) m h g = g (λ e. omega arith)
 put-below (x ∷ l) (suc k) n zero m h g = g (λ e. omega arith)
 put-below (x ∷ l) (suc k) n (suc i) m h g = put-below l k n i m h (λ e. g (λ z. e (omega arith)))
 
+-- a name of the snapshot, by a step that is small
+record NameBy (s : Snapshot) (n t : ℕ) : Type 0 where
+  name : n < length (s .names)
+  step : t < stepLimit
+
+-- a rule, and a place of the words
+by-rule : {s : Snapshot} (n rule place : ℕ) → n < length (s .names) → rule ≤ 7 → place < wordLimit → NameBy s n (stepBy rule place)
+by-rule n rule place h k l = record { name = h; step = omega (arith, k, l) }
+
+no-steps : (i : ℕ) → getD (replicate 17 0) i 0 < stepLimit
+no-steps i = let z = zeros 17 i in omega (arith, z)
+
 nothing-known : {s : Snapshot} → Known s nothing
-nothing-known = record { kind = omega arith; names = λ i h. absurd (omega arith) }
+nothing-known = record { kind = omega arith; names = λ i h. absurd (omega arith); route = no-steps }
 
 keyword-known : {s : Snapshot} (k : ℕ) → k ≤ 4 → Known s (keyword k)
 unfolding keyword
-keyword-known k h = record { kind = h; names = λ i l. absurd (omega arith) }
+keyword-known k h =
+    record { kind = h; names = λ i l. absurd (omega arith); route = λ i. put-below (replicate 17 0) 0 4 i _ (omega arith) (λ e. no-steps i) }
 
-new-known : (s : Snapshot) (k n : ℕ) → k ≤ 4 → n < length (s .names) → Known s (choiceNew s k n)
+new-known : (s : Snapshot) (k n t : ℕ) → k ≤ 4 → NameBy s n t → Known s (choiceNew s k n t)
 unfolding choiceNew
-new-known s k n h g = record { kind = h; names = λ i l. put-below (replicate 16 0) 0 n i _ g (λ e. absurd (e (omega arith))) }
+new-known s k n t h g =
+    record {
+      kind = h;
+      names = λ i l. put-below (replicate 16 0) 0 n i _ (g .name) (λ e. absurd (e (omega arith)));
+      route = λ i. put-below (replicate 17 0) 0 t i _ (g .step) (λ e. no-steps i);
+    }
 
-extended-known : (s : Snapshot) (c : Choice) (n : ℕ) (b : Bool) → Known s c → n < length (s .names) → Known s (extended s c n b)
+extended-known : (s : Snapshot) (c : Choice) (n t : ℕ) (b : Bool) → Known s c → NameBy s n t → Known s (extended s c n t b)
 unfolding extended
-extended-known s c n b f g =
-    record { kind = f .kind; names = λ i l. put-below (c .names) (c .count) n i _ g (λ e. f .names i (omega arith)) }
+extended-known s c n t b f g =
+    record {
+      kind = f .kind;
+      names = λ i l. put-below (c .names) (c .count) n i _ (g .name) (λ e. f .names i (omega arith));
+      route = λ i. put-below (c .route) (c .steps) t i _ (g .step) (λ e. f .route i);
+    }
 
-push-known : (s : Snapshot) (c : Choice) (n : ℕ) → Known s c → n < length (s .names) → Known s (push s c n)
+push-known : (s : Snapshot) (c : Choice) (n t : ℕ) → Known s c → NameBy s n t → Known s (push s c n t)
 unfolding push
-push-known s c n f g = extended-known s c n _ f g
+push-known s c n t f g = extended-known s c n t _ f g
 
 -- of two choices, the one that a test takes
 either-known : {s : Snapshot} (b : Bool) (c d : Choice) → Known s c → Known s d → Known s (elim b [ true ↦ c | false ↦ d ])
@@ -135,17 +158,90 @@ either-small : (b : Bool) (k l : KwKind) → KindSmall k → KindSmall l → Kin
 either-small true k l f g = f
 either-small false k l f g = g
 
-named-if : (s : Snapshot) (b : Bool) (n : ℕ) → n < length (s .names) → Named s (elim b [ true ↦ Name n | false ↦ Nothing ])
-named-if s true n h = h
-named-if s false n h = tt
+held-if : {A : Type 0} (P : A → Type 0) (b : Bool) (y : A) → P y → Held P (elim b [ true ↦ some y | false ↦ none ])
+held-if P true y h = h
+held-if P false y h = tt
 
-entry-named : (s : Snapshot) (o : Option Scope) → Held (ScopeFits (countsOf s)) o → Named s (entryName o)
-unfolding entryName
-entry-named s none h = tt
-entry-named s (some e) h = h .name
+-- the entries that the rules find have what all entries have
+module _ (s : Snapshot) (P : Scope → Type 0) (all : Each P (s .scopes)) where
+  names-held : (m : ℕ) (item : Item) (p : Scope → Bool) → Held P (namesOf s m item p)
+  unfolding namesOf
+  names-held m item p = first-held _ all
+
+  name-held : (m : ℕ) (item : Item) → Held P (nameOf s m item)
+  unfolding nameOf
+  name-held m item = first-held _ all
+
+  two-held : (o old : Option Scope) → Held P o → Held P old → Held P (orFirst o old)
+  unfolding orFirst
+  two-held none old f g = g
+  two-held (some e) old f g = f
+
+  preferred-held : (b : Bool) (m : ℕ) (item : Item) (p : Scope → Bool) (old : Option Scope) → Held P old → Held P (preferred b s m item p old)
+  unfolding preferred
+  preferred-held true m item p old h = two-held _ old (names-held m item (isFresh p)) h
+  preferred-held false m item p old h = h
+
+  module _ (x : FindPathCtx) where
+    pub scope-held : (item : Item) → Held P (findInScope s x item)
+    unfolding findInScope scopeEntry
+    scope-held item = some-held P _ (ancestorMaps s (x .from)) (λ a. preferred-held (x .fresh) a item _ _ (names-held a item _))
+
+    prelude-entry-held : (item : Item) (o : Option Scope) → Held P o → Held P (preludeEntry s x item o)
+    unfolding preludeEntry
+    prelude-entry-held item none h = tt
+    prelude-entry-held item (some e) h = held-if P (isUsable s x item e) e h
+
+    in-prelude-held : (item : Item) (o : Option Prelude) → Held P (inPrelude s x item o)
+    unfolding inPrelude
+    in-prelude-held item none = tt
+    in-prelude-held item (some p) = prelude-entry-held item _ (preferred-held (x .fresh) (p .target) item _ _ (name-held (p .target) item))
+
+    pub prelude-held : (item : Item) → Held P (findInPrelude s x item)
+    unfolding findInPrelude
+    prelude-held item = in-prelude-held item (preludeOf s (mapNo s (x .from)))
+
+    entry-if-held : (o : Option Scope) → Held P o → Held P (entryIf s x o)
+    unfolding entryIf
+    entry-if-held none h = tt
+    entry-if-held (some e) h = held-if P (isImportable s x e) e h
+
+    pub importable-held : (item : Item) (m : ℕ) → Held P (importableName s x item m)
+    unfolding importableName
+    importable-held item m = entry-if-held _ (preferred-held (x .fresh) m item _ _ (name-held m item))
+
+pub extern-held : (s : Snapshot) (P : Extern → Type 0) → Each P (s .externs) → (c m : ℕ) → Held P (externOf s c m)
+unfolding externOf
+extern-held s P all c m = first-held {P = P} _ (search (all, each-back, Each.none))
+
+-- what stands at a place of a list stands in it
+at-in : {A : Type 0} (xs : List A) (d : A) (i : ℕ) → i < length xs → getD xs i d ∈ xs
+at-in [] d i h = absurd (omega arith)
+at-in (x ∷ xs) d zero h = List·Memᴰ·head refl
+at-in (x ∷ xs) d (suc i) h = List·Memᴰ·tail (at-in xs d i (omega arith))
+
+-- a definition of a kind is there
+pub definition-in : (s : Snapshot) (d k : ℕ) → definitionOf s d .kind ≡ suc k → definitionOf s d ∈ s .definitions
+unfolding definitionOf
+definition-in s d k e =
+    elim (decLe (length (s .definitions)) d) [
+      | yes h ↦ let z = sym (ap (λ (y : Definition). y .kind) (List·getD-eq-default (s .definitions) noDefinition h)) ∙ e in absurd (omega arith)
+      | no h ↦ at-in (s .definitions) noDefinition d (omega arith)
+    ]
+
+pub variant-in : (s : Snapshot) (item : Item) (v : Definition) → variantOf s item ≡ some v → v ∈ s .definitions
+unfolding variantOf
+variant-in s (Mod m) v e = let z : _≡_ {A = ℕ} 0 1 = cc in absurd (omega arith)
+variant-in s (Def ns d) v e =
+    by-test (eqb (definitionOf s d .kind) variantKind)
+    (λ t.
+    let f : some (definitionOf s d) ≡ some v = rw (variantOf, t) at e in
+    let same : definitionOf s d ≡ v = cc in
+    subst (λ z. z ∈ s .definitions) same (definition-in s d 1 (eqb-true _ _ t)))
+    (λ t. let f : none ≡ some v = rw (variantOf, t) at e in let z : _≡_ {A = ℕ} 0 1 = cc in absurd (omega arith))
 
 module _ (s : Snapshot) (r : Ranges (countsOf s) s) where
-  -- a definition of a kind is there
+  -- a definition of a kind is in range
   pub definition-known : (d k : ℕ) → definitionOf s d .kind ≡ suc k → DefinitionFits (countsOf s) (definitionOf s d)
   unfolding definitionOf
   definition-known d k e =
@@ -154,95 +250,57 @@ module _ (s : Snapshot) (r : Ranges (countsOf s) s) where
         | no h ↦ each-at noDefinition d (r .definitions) (omega arith)
       ]
 
-  -- the name of a variant
-  variant-held : (item : Item) → Held (λ d. d .second < length (s .names)) (variantOf s item)
+  -- the name of a variant, and the step to it
+  variant-held : (item : Item) → Held (λ d. NameBy s (d .second) (stepBy 5 (d .place))) (variantOf s item)
   unfolding variantOf
   variant-held (Mod m) = tt
   variant-held (Def ns d) =
       by-test (eqb (definitionOf s d .kind) variantKind)
-      (λ t. rw (variantOf, t) (let k = eqb-true _ _ t in definition-known d 1 k .variant k .1))
+      (λ t.
+      rw (variantOf, t)
+      (let k = eqb-true _ _ t in let f = definition-known d 1 k in by-rule (definitionOf s d .second) 5 _ (f .variant k .1) (omega arith) (f .place)))
       (λ t. rw (variantOf, t) tt)
 
-  names-held : (m : ℕ) (item : Item) (p : Scope → Bool) → Held (ScopeFits (countsOf s)) (namesOf s m item p)
-  unfolding namesOf
-  names-held m item p = first-held _ (r .scopes)
-
-  name-held : (m : ℕ) (item : Item) → Held (ScopeFits (countsOf s)) (nameOf s m item)
-  unfolding nameOf
-  name-held m item = first-held _ (r .scopes)
-
-  two-held : (o old : Option Scope) → Held (ScopeFits (countsOf s)) o → Held (ScopeFits (countsOf s)) old → Held (ScopeFits (countsOf s)) (orFirst o old)
-  unfolding orFirst
-  two-held none old f g = g
-  two-held (some e) old f g = f
-
-  preferred-held : (b : Bool) (m : ℕ) (item : Item) (p : Scope → Bool) (old : Option Scope) → Held (ScopeFits (countsOf s)) old
-      → Held (ScopeFits (countsOf s)) (preferred b s m item p old)
-  unfolding preferred
-  preferred-held true m item p old h = two-held _ old (names-held m item (isFresh p)) h
-  preferred-held false m item p old h = h
-
-  entry-held : (m : ℕ) (item : Item) (b fresh : Bool) → Held (ScopeFits (countsOf s)) (scopeEntry s m item b fresh)
-  unfolding scopeEntry
-  entry-held m item b fresh =
-      some-held (ScopeFits (countsOf s)) _ (ancestorMaps s m) (λ a. preferred-held fresh a item _ _ (names-held a item _))
-
-  extern-held : (c m : ℕ) → Held (ExternFits (countsOf s)) (externOf s c m)
-  unfolding externOf
-  extern-held c m = first-held {P = ExternFits (countsOf s)} _ (search (r .externs, each-back, Each.none))
-
   module _ (x : FindPathCtx) where
-    select-known : (best c : Choice) (n : ℕ) → Known s best → Known s c → n < length (s .names) → Known s (trySelect s (x .prelude) best c n)
+    select-known : (best c : Choice) (n t : ℕ) → Known s best → Known s c → NameBy s n t → Known s (trySelect s (x .prelude) best c n t)
     unfolding trySelect
-    select-known best c n f g h =
+    select-known best c n t f g h =
         either-known (best .found) _ _
-        (either-known (better s (x .prelude) best c n) _ _ (extended-known s c n _ g h) f) (push-known s c n g h)
+        (either-known (better s (x .prelude) best c n) _ _ (extended-known s c n t _ g h) f) (push-known s c n t g h)
 
-    offer-known : (best c : Choice) (n : ℕ) → Known s best → Known s c → n < length (s .names) → Known s (offer s x best c n)
+    offer-known : (best c : Choice) (n t : ℕ) → Known s best → Known s c → NameBy s n t → Known s (offer s x best c n t)
     unfolding offer
-    offer-known best c n f g h = either-known (c .found) _ _ (select-known best c n f g h) f
+    offer-known best c n t f g h = either-known (c .found) _ _ (select-known best c n t f g h) f
 
     unstably-known : (c : Choice) → Known s c → Known s (unstably c)
     unfolding unstably
-    unstably-known c f = record { kind = f .kind; names = f .names }
+    unstably-known c f = record { kind = f .kind; names = f .names; route = f .route }
 
     offer-import-known : (best c : Choice) (i : Import) → Known s best → Known s c → ImportFits (countsOf s) i → Known s (offerImport s x best c i)
     unfolding offerImport
     offer-import-known best c i f g h =
+        let n = by-rule (i .name) 7 (i .place) (h .name) (omega arith) (h .place) in
         either-known (isUnstable i) _ _
-        (either-known (x .unstable) _ _ (offer-known best (unstably c) (i .name) f (unstably-known c g) (h .name)) f)
-        (offer-known best c (i .name) f g (h .name))
+        (either-known (x .unstable) _ _ (offer-known best (unstably c) (i .name) _ f (unstably-known c g) n) f)
+        (offer-known best c (i .name) _ f g n)
 
     -- the rules without a search
 
-    single-known : (kind : ℕ) (a : Answer) → kind ≤ 4 → Named s a → Known s (single s x kind a)
+    single-known : (kind rule : ℕ) (o : Option Scope) → kind ≤ 4 → rule ≤ 7 → Held (ScopeFits (countsOf s)) o → Known s (single s x kind rule o)
     unfolding single
-    single-known kind Nothing k h = nothing-known
-    single-known kind (Name n) k h = new-known s kind n k h
-
-    scope-named : (item : Item) → Named s (findInScope s x item)
-    unfolding findInScope
-    scope-named item = entry-named s _ (entry-held (x .from) item (x .declared) (x .fresh))
+    single-known kind rule none k l h = nothing-known
+    single-known kind rule (some e) k l h = new-known s kind (e .name) _ k (by-rule (e .name) rule (e .place) (h .name) l (h .place))
 
     scope-known : (item : Item) → Known s (scopeRule s x item)
     unfolding scopeRule
     scope-known item =
-        either-known (mayBeInScope s x) _ _ (single-known _ (findInScope s x item) (prefix-small (x .prefix)) (scope-named item)) nothing-known
-
-    prelude-entry-named : (item : Item) (o : Option Scope) → Held (ScopeFits (countsOf s)) o → Named s (preludeEntry s x item o)
-    unfolding preludeEntry
-    prelude-entry-named item none h = tt
-    prelude-entry-named item (some e) h =
-        named-if s (isUsable s x item e) (e .name) (h .name)
-
-    in-prelude-named : (item : Item) (o : Option Prelude) → Named s (inPrelude s x item o)
-    unfolding inPrelude
-    in-prelude-named item none = tt
-    in-prelude-named item (some p) = prelude-entry-named item _ (preferred-held (x .fresh) (p .target) item _ _ (name-held (p .target) item))
+        either-known (mayBeInScope s x) _ _
+        (single-known _ viaScope (findInScope s x item) (prefix-small (x .prefix)) (omega arith) (scope-held s (ScopeFits (countsOf s)) (r .scopes) x item)) nothing-known
 
     prelude-known : (item : Item) → Known s (preludeRule s x item)
-    unfolding preludeRule findInPrelude
-    prelude-known item = single-known plainPath _ (omega arith) (in-prelude-named item (preludeOf s (mapNo s (x .from))))
+    unfolding preludeRule
+    prelude-known item =
+        single-known plainPath viaPrelude _ (omega arith) (omega arith) (prelude-held s (ScopeFits (countsOf s)) (r .scopes) x item)
 
     extern-small : (b : Bool) → externKind s x b ≤ 4
     unfolding externKind
@@ -252,14 +310,14 @@ module _ (s : Snapshot) (r : Ranges (countsOf s) s) where
     extern-known : (m : ℕ) (e : Option Extern) → Held (ExternFits (countsOf s)) e → Known s (externName s x m e)
     unfolding externName
     extern-known m none h = nothing-known
-    extern-known m (some e) h = new-known s _ _ (extern-small _) (omega (arith, h .name))
+    extern-known m (some e) h = new-known s _ _ _ (extern-small _) (by-rule (e .name) 3 (e .place) (h .name) (omega arith) (h .place))
 
     root-known : (b : Bool) (m : ℕ) → Known s (rootRule s x b m)
     unfolding rootRule
     root-known b m =
         either-known (eqb (crateRoot s m) m) _ _
         (either-known (not b || eqb m (x .root)) _ _ (keyword-known cratePath (omega arith))
-        (extern-known m (externOf s (x .krate) m) (extern-held (x .krate) m)))
+        (extern-known m (externOf s (x .krate) m) (extern-held s (ExternFits (countsOf s)) (r .externs) (x .krate) m)))
         nothing-known
 
     parent-small : (m p : ℕ) → KindSmall (parentKind s x m p)
@@ -290,30 +348,23 @@ module _ (s : Snapshot) (r : Ranges (countsOf s) s) where
 
     -- the local search
 
-    name-if-named : (o : Option Scope) → Held (ScopeFits (countsOf s)) o → Named s (nameIf s x o)
-    unfolding nameIf
-    name-if-named none h = tt
-    name-if-named (some e) h = named-if s (isImportable s x e) (e .name) (h .name)
-
-    importable-named : (item : Item) (m : ℕ) → Named s (importableName s x item m)
-    unfolding importableName nameOf namesOf
-    importable-named item m = name-if-named _ (preferred-held (x .fresh) m item _ _ (first-held _ (r .scopes)))
-
     abbrev KnownLocal : LocalSearch → Type 0
     KnownLocal rec = (left : ℕ) (ls : List Level) (m : ℕ) → Known s (rec left ls m)
 
     module _ (rec : LocalSearch) (known : KnownLocal rec) where
-      location-known : (left : ℕ) (ls : List Level) (best : Choice) (m : ℕ) (a : Answer) → Known s best → Named s a → Known s (location s x rec left ls best m a)
-      unfolding location
-      location-known left ls best m Nothing f h = f
-      location-known left ls best m (Name n) f h = offer-known best _ n f (known _ ls m) h
+      location-known : (left : ℕ) (ls : List Level) (best : Choice) (m : ℕ) (o : Option Scope) → Known s best → Held (ScopeFits (countsOf s)) o
+          → Known s (location s x rec left ls best m o)
+      unfolding location offerEntry
+      location-known left ls best m none f h = f
+      location-known left ls best m (some e) f h =
+          offer-known best _ (e .name) _ f (known _ ls m) (by-rule (e .name) 6 (e .place) (h .name) (omega arith) (h .place))
 
       each-known : (left : ℕ) (ls : List Level) (item : Item) (done : List ℕ) (best : Choice) (ms : List ℕ) → Known s best
           → Known s (eachLocation s x rec left ls item done best ms)
       unfolding eachLocation
       each-known left ls item done best [] f = f
       each-known left ls item done best (m ∷ ms) f =
-          each-known left ls item (done ++ (m ∷ [])) _ ms (location-known left _ best m (importableName s x item m) f (importable-named item m))
+          each-known left ls item (done ++ (m ∷ [])) _ ms (location-known left _ best m (importableName s x item m) f (importable-held s (ScopeFits (countsOf s)) (r .scopes) x item m))
 
       local-known : (left : ℕ) (ls : List Level) (item : Item) → Known s (calculateBestPathLocal s x rec left ls item)
       unfolding calculateBestPathLocal
@@ -396,17 +447,17 @@ module _ (M : Type 0) (charge : Charge M) (s : Snapshot) (r : Ranges (countsOf s
     module-known (suc l) m t = or-known (suc l) m t _ _ (rules-known s r x true m)
 
     module _ (inner : Inner M) (within : KnownInner inner) where
-      enum-known : (item : Item) (name : ℕ) (o : Out M) (b : Bool) → Known s (o .choice) → name < length (s .names)
-          → Known s (afterEnum M charge s x here rec item name o b .choice)
-      unfolding afterEnum
-      enum-known item name o true f h = push-known s (o .choice) name f h
-      enum-known item name o false f h = best-known (x .limit) item (o .meter)
+      enum-known : (item : Item) (v : Definition) (o : Out M) (b : Bool) → Known s (o .choice) → NameBy s (v .second) (stepBy 5 (v .place))
+          → Known s (afterEnum M charge s x here rec item v o b .choice)
+      unfolding afterEnum pushVariant
+      enum-known item v o true f h = push-known s (o .choice) (v .second) _ f h
+      enum-known item v o false f h = best-known (x .limit) item (o .meter)
 
-      via-known : (item : Item) (t : M) (v : Option Definition) → Held (λ d. d .second < length (s .names)) v
+      via-known : (item : Item) (t : M) (v : Option Definition) → Held (λ d. NameBy s (d .second) (stepBy 5 (d .place))) v
           → Known s (viaEnum M charge s x here rec inner item t v .choice)
       unfolding viaEnum
       via-known item t none h = best-known (x .limit) item t
-      via-known item t (some v) h = enum-known item (v .second) _ _ (within (itemOf s types (v .first)) t) h
+      via-known item t (some v) h = enum-known item v _ _ (within (itemOf s types (v .first)) t) h
 
       named-known : (item : Item) (t : M) (c : Choice) (b : Bool) → Known s c → Known s (orEnum M charge s x here rec inner item t c b .choice)
       unfolding orEnum
@@ -452,8 +503,11 @@ module _ (M : Type 0) (charge : Charge M) (s : Snapshot) (r : Ranges (countsOf s
 
   start-known : (q : Query) (t : M) (b : Bool) → (b ≡ true → definitionOf s (q .definition) .kind ≡ builtinKind)
       → Known s (fromItem M charge s q t b .choice)
-  unfolding fromItem
-  start-known q t true k = let e = k refl in new-known s plainPath _ (omega arith) (definition-known s r (q .definition) 2 e .builtin e)
+  unfolding fromItem builtinChoice
+  start-known q t true k =
+      let e = k refl in
+      let f = definition-known s r (q .definition) 2 e in
+      new-known s plainPath _ _ (omega arith) (by-rule (definitionOf s (q .definition) .first) 0 _ (f .builtin e) (omega arith) (f .place))
   start-known q t false k = home-known q _ t _
 
   -- Every path that a search finds has names of the snapshot alone.

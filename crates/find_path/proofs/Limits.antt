@@ -16,20 +16,18 @@ use Rattle.hir_def.specs.Nameres.{entryNamed, occupied, preludeOf, externOf, de
 use Rattle.hir_def.specs.ImportMap.{importInfoFor, isHidden, isUnstable}
 use Rattle.hir_def.specs.declared.Item.{Item}
 use Rattle.hir_def.specs.declared.Item.the-variants.{Mod, Def}
-use Rattle.hir_def.specs.declared.Answer.{Answer}
-use Rattle.hir_def.specs.declared.Answer.the-variants.{Name, Nothing}
 use Rattle.find_path.specs.declared.Choice.{Choice}
 use Rattle.find_path.specs.declared.KwKind.{KwKind}
 use Rattle.find_path.specs.declared.KwKind.the-variants.{Kw, NoKw}
 use Rattle.find_path.specs.declared.FindPathCtx.{FindPathCtx}
 use Rattle.find_path.specs.declared.Query.{Query}
 use Rattle.find_path.specs.declared.Report.{Report}
-use Rattle.find_path.specs.Choices.{plainPath, selfPath, cratePath, nothing, keyword, choiceNew, extended, push, unstably, better, trySelect, pathLen, shorterIf, lengthLeft}
+use Rattle.find_path.specs.Choices.{plainPath, selfPath, cratePath, viaScope, viaPrelude, viaExtern, viaImport, stepBy, nothing, keyword, choiceNew, extended, push, unstably, better, trySelect, pathLen, shorterIf, lengthLeft}
 use Rattle.find_path.specs.Walk.{Level}
 use Rattle.find_path.specs.Rules.{prefixPathKind, contextOf, firstFound, single, findInScope, mayBeInScope, scopeRule, sameHere, isUsable, preludeEntry, inPrelude, findInPrelude, preludeRule, externKind, externName, rootRule, parentKind, isKwKindRelativeToFrom, keywordOf, moduleRules}
-use Rattle.find_path.specs.Local.{LocalSearch, offer, isImportable, nameIf, importableName, location, eachLocation, calculateBestPathLocal, orLocal, findPathForModuleLocal}
+use Rattle.find_path.specs.Local.{LocalSearch, offer, offerEntry, isImportable, entryIf, importableName, location, eachLocation, calculateBestPathLocal, orLocal, findPathForModuleLocal}
 use Rattle.find_path.specs.Meters.{counted}
-use Rattle.find_path.specs.Charged.{Out, Search, Inner, isStable, langs, oneOrNone, variantOf, offerImport, findImport, findImports, findInDep, findInDeps, findInSysroot, goOn, afterCharge, calculateBestPath, orCharged, findPathForModule, afterEnum, viaEnum, orEnum, byName, ofModule, findPathInner}
+use Rattle.find_path.specs.Charged.{Out, Search, Inner, isStable, langs, oneOrNone, variantOf, pushVariant, offerImport, findImport, findImports, findInDep, findInDeps, findInSysroot, goOn, afterCharge, calculateBestPath, orCharged, findPathForModule, afterEnum, viaEnum, orEnum, byName, ofModule, findPathInner}
 use Rattle.find_path.specs.Search.{localTo, searchLocal, bestLocal, moduleTo, searchModule, itemTo, searchItem, fromHome, fromItem, findPath}
 use Rattle.find_path.specs.Report.{flag, searchedFreely}
 use Rattle.find_path.specs.Fuels.{reportAt}
@@ -52,22 +50,22 @@ either-implies : (b : Bool) (c d c′ d′ : Choice) → Implies c c′ → Impl
 either-implies true c d c′ d′ f g = f
 either-implies false c d c′ d′ f g = g
 
-extended-found : (s : Snapshot) (c : Choice) (n : ℕ) (b : Bool) → IsFound (extended s c n b)
+extended-found : (s : Snapshot) (c : Choice) (n t : ℕ) (b : Bool) → IsFound (extended s c n t b)
 unfolding extended
-extended-found s c n b = refl
+extended-found s c n t b = refl
 
-push-found : (s : Snapshot) (c : Choice) (n : ℕ) → IsFound (push s c n)
+push-found : (s : Snapshot) (c : Choice) (n t : ℕ) → IsFound (push s c n t)
 unfolding push
-push-found s c n = extended-found s c n _
+push-found s c n t = extended-found s c n t _
 
-select-found : (s : Snapshot) (prefer : Bool) (best c : Choice) (n : ℕ) → IsFound (trySelect s prefer best c n)
+select-found : (s : Snapshot) (prefer : Bool) (best c : Choice) (n t : ℕ) → IsFound (trySelect s prefer best c n t)
 unfolding trySelect
-select-found s prefer best c n = by (best .found) refl
+select-found s prefer best c n t = by (best .found) refl
   where
     by : (b : Bool) → best .found ≡ b
-        → IsFound (elim b [ true ↦ elim (better s prefer best c n) [ true ↦ extended s c n (c .prelude) | false ↦ best ] | false ↦ push s c n ])
-    by true e = either-found (better s prefer best c n) _ _ (extended-found s c n _) e
-    by false e = push-found s c n
+        → IsFound (elim b [ true ↦ elim (better s prefer best c n) [ true ↦ extended s c n t (c .prelude) | false ↦ best ] | false ↦ push s c n t ])
+    by true e = either-found (better s prefer best c n) _ _ (extended-found s c n t _) e
+    by false e = push-found s c n t
 
 -- While nothing is found, the length left for a step is the caller's less one.
 left-none : (b : Bool) (left n : ℕ) → b ≡ false → shorterIf b left n ≡ left - 1
@@ -87,27 +85,27 @@ length-grows left left′ best best′ l h e =
 -- an offer keeps what was found, and takes what is offered
 
 module _ (s : Snapshot) (y : FindPathCtx) where
-  offer-keeps : (best c : Choice) (n : ℕ) → IsFound best → IsFound (offer s y best c n)
+  offer-keeps : (best c : Choice) (n t : ℕ) → IsFound best → IsFound (offer s y best c n t)
   unfolding offer
-  offer-keeps best c n h = either-found (c .found) _ _ (select-found s (y .prelude) best c n) h
+  offer-keeps best c n t h = either-found (c .found) _ _ (select-found s (y .prelude) best c n t) h
 
   import-keeps : (best c : Choice) (i : Import) → IsFound best → IsFound (offerImport s y best c i)
   unfolding offerImport
   import-keeps best c i h =
-      either-found (isUnstable i) _ _ (either-found (y .unstable) _ _ (offer-keeps best (unstably c) (i .name) h) h) (offer-keeps best c (i .name) h)
+      either-found (isUnstable i) _ _ (either-found (y .unstable) _ _ (offer-keeps best (unstably c) (i .name) _ h) h) (offer-keeps best c (i .name) _ h)
 
-  offer-taken : (best c : Choice) (n : ℕ) → IsFound c → IsFound (offer s y best c n)
+  offer-taken : (best c : Choice) (n t : ℕ) → IsFound c → IsFound (offer s y best c n t)
   unfolding offer
-  offer-taken best c n h = rw (offer, h) (select-found s (y .prelude) best c n)
+  offer-taken best c n t h = rw (offer, h) (select-found s (y .prelude) best c n t)
 
-  offer-from : (x : FindPathCtx) (best c : Choice) (n : ℕ) → IsFound (offer s x best c n) → (c .found ≡ false) → IsFound best
+  offer-from : (x : FindPathCtx) (best c : Choice) (n t : ℕ) → IsFound (offer s x best c n t) → (c .found ≡ false) → IsFound best
   unfolding offer
-  offer-from x best c n h e = rw (offer, e) at h
+  offer-from x best c n t h e = rw (offer, e) at h
 
-  offer-implies : (x : FindPathCtx) (best best′ c c′ : Choice) (n : ℕ) → Implies best best′ → Implies c c′
-      → Implies (offer s x best c n) (offer s y best′ c′ n)
-  offer-implies x best best′ c c′ n h k f =
-      by-test (c .found) (λ t. offer-taken best′ c′ n (k t)) (λ t. offer-keeps best′ c′ n (h (offer-from x best c n f t)))
+  offer-implies : (x : FindPathCtx) (best best′ c c′ : Choice) (n t : ℕ) → Implies best best′ → Implies c c′
+      → Implies (offer s x best c n t) (offer s y best′ c′ n t)
+  offer-implies x best best′ c c′ n t h k f =
+      by-test (c .found) (λ e. offer-taken best′ c′ n t (k e)) (λ e. offer-keeps best′ c′ n t (h (offer-from x best c n t f e)))
 
   import-implies : (x : FindPathCtx) (best best′ c c′ : Choice) (i : Import) → x .unstable ≡ y .unstable → Implies best best′ → Implies c c′
       → Implies (offerImport s x best c i) (offerImport s y best′ c′ i)
@@ -115,11 +113,15 @@ module _ (s : Snapshot) (y : FindPathCtx) where
   import-implies x best best′ c c′ i e h k =
       subst (λ (b : Bool). Implies (by x best c b) (offerImport s y best′ c′ i)) (sym e)
       (either-implies (isUnstable i) _ _ _ _
-      (either-implies (y .unstable) _ _ _ _ (offer-implies x best best′ (unstably c) (unstably c′) (i .name) h k) h)
-      (offer-implies x best best′ c c′ (i .name) h k))
+      (either-implies (y .unstable) _ _ _ _ (offer-implies x best best′ (unstably c) (unstably c′) (i .name) _ h k) h)
+      (offer-implies x best best′ c c′ (i .name) _ h k))
     where
       by : FindPathCtx → Choice → Choice → Bool → Choice
-      by z b d u = elim (isUnstable i) [ true ↦ elim u [ true ↦ offer s z b (unstably d) (i .name) | false ↦ b ] | false ↦ offer s z b d (i .name) ]
+      by z b d u =
+          elim (isUnstable i) [
+            | true ↦ elim u [ true ↦ offer s z b (unstably d) (i .name) (stepBy viaImport (i .place)) | false ↦ b ]
+            | false ↦ offer s z b d (i .name) (stepBy viaImport (i .place))
+          ]
 
 -- the context with another limit
 abbrev limited : FindPathCtx → ℕ → FindPathCtx
@@ -145,14 +147,14 @@ module _ (s : Snapshot) (x : FindPathCtx) (n : ℕ) where
   abbrev y : FindPathCtx
   y = limited x n
 
-  single-same : (kind : ℕ) (a : Answer) → single s x kind a ≡ single s y kind a
+  single-same : (kind rule : ℕ) (e : Option Scope) → single s x kind rule e ≡ single s y kind rule e
   unfolding single
-  single-same kind Nothing = refl
-  single-same kind (Name m) = refl
+  single-same kind rule none = refl
+  single-same kind rule (some e) = refl
 
   scope-same : (item : Item) → scopeRule s x item ≡ scopeRule s y item
   unfolding scopeRule mayBeInScope findInScope
-  scope-same item = λ i. elim (mayBeInScope s x) [ true ↦ single-same (prefixPathKind (x .prefix)) (findInScope s x item) i | false ↦ nothing ]
+  scope-same item = λ i. elim (mayBeInScope s x) [ true ↦ single-same (prefixPathKind (x .prefix)) viaScope (findInScope s x item) i | false ↦ nothing ]
 
   here-same : (item : Item) (e : Option Scope) → sameHere s x item e ≡ sameHere s y item e
   unfolding sameHere
@@ -165,7 +167,7 @@ module _ (s : Snapshot) (x : FindPathCtx) (n : ℕ) where
   entry-same : (item : Item) (e : Option Scope) → preludeEntry s x item e ≡ preludeEntry s y item e
   unfolding preludeEntry
   entry-same item none = refl
-  entry-same item (some e) = λ i. elim (usable item e i) [ true ↦ Name (e .name) | false ↦ Nothing ]
+  entry-same item (some e) = λ i. elim (usable item e i) [ true ↦ some e | false ↦ none ]
 
   in-prelude-same : (item : Item) (p : Option Prelude) → inPrelude s x item p ≡ inPrelude s y item p
   unfolding inPrelude
@@ -174,7 +176,7 @@ module _ (s : Snapshot) (x : FindPathCtx) (n : ℕ) where
 
   prelude-same : (item : Item) → preludeRule s x item ≡ preludeRule s y item
   unfolding preludeRule findInPrelude
-  prelude-same item = λ i. single-same plainPath (in-prelude-same item (preludeOf s (mapNo s (x .from))) i) i
+  prelude-same item = λ i. single-same plainPath viaPrelude (in-prelude-same item (preludeOf s (mapNo s (x .from))) i) i
 
   extern-kind-same : (b : Bool) → externKind s x b ≡ externKind s y b
   unfolding externKind
@@ -184,7 +186,7 @@ module _ (s : Snapshot) (x : FindPathCtx) (n : ℕ) where
   extern-same : (m : ℕ) (e : Option Extern) → externName s x m e ≡ externName s y m e
   unfolding externName
   extern-same m none = refl
-  extern-same m (some e) = λ i. choiceNew s (extern-kind-same (occupied s (x .from) m (e .name) || x .absolute) i) (e .name)
+  extern-same m (some e) = λ i. choiceNew s (extern-kind-same (occupied s (x .from) m (e .name) || x .absolute) i) (e .name) (stepBy viaExtern (e .place))
 
   root-same : (b : Bool) (m : ℕ) → rootRule s x b m ≡ rootRule s y b m
   unfolding rootRule
@@ -214,8 +216,8 @@ module _ (s : Snapshot) (x : FindPathCtx) (n : ℕ) where
   unfolding moduleRules
   rules-same b m = λ i. firstFound (root-same b m i ∷ scope-same (Mod m) i ∷ keyword-same (kind-same m i) i ∷ prelude-same (Mod m) i ∷ [])
 
-  name-same : (e : Option Scope) → nameIf s x e ≡ nameIf s y e
-  unfolding nameIf
+  name-same : (e : Option Scope) → entryIf s x e ≡ entryIf s y e
+  unfolding entryIf
   name-same none = refl
   name-same (some e) = refl
 
@@ -230,13 +232,13 @@ module _ (s : Snapshot) (x : FindPathCtx) (n : ℕ) where
   GrowsLocal f g = (l m : ℕ) (ls : List Level) (k : ℕ) → l ≤ m → Implies (f l ls k) (g m ls k)
 
   module _ (f g : LocalSearch) (grows : GrowsLocal f g) (left left′ : ℕ) (h : left ≤ left′) where
-    location-grows : (ls : List Level) (best best′ : Choice) (k : ℕ) (a : Answer) → Implies best best′
+    location-grows : (ls : List Level) (best best′ : Choice) (k : ℕ) (a : Option Scope) → Implies best best′
         → Implies (location s x f left ls best k a) (location s (limited x n) g left′ ls best′ k a)
-    unfolding location
-    location-grows ls best best′ k Nothing i = i
-    location-grows ls best best′ k (Name m) i =
-        by-test (best′ .found) (λ t _. offer-keeps s (limited x n) best′ _ m t)
-        (λ t. offer-implies s (limited x n) x best best′ _ _ m i (grows _ _ ls k (length-grows left left′ best best′ h i t)))
+    unfolding location offerEntry
+    location-grows ls best best′ k none i = i
+    location-grows ls best best′ k (some e) i =
+        by-test (best′ .found) (λ t _. offer-keeps s (limited x n) best′ _ (e .name) _ t)
+        (λ t. offer-implies s (limited x n) x best best′ _ _ (e .name) _ i (grows _ _ ls k (length-grows left left′ best best′ h i t)))
 
     each-grows : (ls : List Level) (item : Item) (done : List ℕ) (best best′ : Choice) (ms : List ℕ) → Implies best best′
         → Implies (eachLocation s x f left ls item done best ms) (eachLocation s (limited x n) g left′ ls item done best′ ms)
@@ -246,7 +248,7 @@ module _ (s : Snapshot) (x : FindPathCtx) (n : ℕ) where
         let ls′ : List Level = record { item = item; modules = done ++ (k ∷ []) } ∷ ls in
         each-grows ls item (done ++ (k ∷ [])) (location s x f left ls′ best k (importableName s x item k))
         (location s (limited x n) g left′ ls′ best′ k (importableName s (limited x n) item k)) ms
-        (subst (λ (a : Answer). Implies (location s x f left ls′ best k (importableName s x item k)) (location s (limited x n) g left′ ls′ best′ k a))
+        (subst (λ (a : Option Scope). Implies (location s x f left ls′ best k (importableName s x item k)) (location s (limited x n) g left′ ls′ best′ k a))
         (importable-same s x n item k) (location-grows ls′ best best′ k (importableName s x item k) i))
 
     local-grows : (ls : List Level) (item : Item)
@@ -383,18 +385,18 @@ module _ (s : Snapshot) (x : FindPathCtx) (n : ℕ) where
         (or-grows (suc l) (suc m) h k t u _ _)
 
     module _ (limit : x .limit ≤ n) (v w : Inner ℕ) (within : (item : Item) (t u : ℕ) → Both (v item t) (w item u)) where
-      enum-grows : (item : Item) (name : ℕ) (o p : Out ℕ) (a b : Bool) → (a ≡ true → b ≡ true)
-          → Both (afterEnum ℕ counted s x here f item name o a) (afterEnum ℕ counted s (limited x n) here′ g item name p b)
-      unfolding afterEnum
-      enum-grows item name o p a true k = λ _. push-found s (p .choice) name
-      enum-grows item name o p true false k = absurd (false≢true (k refl))
-      enum-grows item name o p false false k = best-grows (x .limit) n limit item (o .meter) (p .meter)
+      enum-grows : (item : Item) (d : Definition) (o p : Out ℕ) (a b : Bool) → (a ≡ true → b ≡ true)
+          → Both (afterEnum ℕ counted s x here f item d o a) (afterEnum ℕ counted s (limited x n) here′ g item d p b)
+      unfolding afterEnum pushVariant
+      enum-grows item d o p a true k = λ _. push-found s (p .choice) (d .second) _
+      enum-grows item d o p true false k = absurd (false≢true (k refl))
+      enum-grows item d o p false false k = best-grows (x .limit) n limit item (o .meter) (p .meter)
 
       via-grows : (item : Item) (t u : ℕ) (d : Option Definition)
           → Both (viaEnum ℕ counted s x here f v item t d) (viaEnum ℕ counted s (limited x n) here′ g w item u d)
       unfolding viaEnum
       via-grows item t u none = best-grows (x .limit) n limit item t u
-      via-grows item t u (some d) = enum-grows item (d .second) _ _ _ _ (within (itemOf s types (d .first)) t u)
+      via-grows item t u (some d) = enum-grows item d _ _ _ _ (within (itemOf s types (d .first)) t u)
 
       named-grows : (item : Item) (t u : ℕ) (c : Choice) (b : Bool)
           → Both (orEnum ℕ counted s x here f v item t c b) (orEnum ℕ counted s (limited x n) here′ g w item u c b)

@@ -32,7 +32,18 @@ flag-small false = omega arith
 refused-bounded : (fuel n : ℕ) → Bounded fuel (refused n)
 unfolding refused
 refused-bounded fuel n =
-    record { few = omega arith; long = refl; rest = λ i _. zeros 16 i; charges = omega arith; flagged = omega arith; untold = λ _. (refl, refl) }
+    record {
+      few = omega arith;
+      long = refl;
+      rest = λ i _. zeros 16 i;
+      charges = omega arith;
+      flagged = omega arith;
+      each = omega arith;
+      once = omega arith;
+      wide = refl;
+      past = λ i _. zeros 17 i;
+      untold = λ _. (refl, refl);
+    }
 
 searched-bounded : (s : Snapshot) (q : Query) (fuel : ℕ) → Allowed q fuel → Bounded fuel (reported (searched s q fuel))
 unfolding reported searched
@@ -44,6 +55,10 @@ searched-bounded s q fuel a =
       rest = f .rest;
       charges = omega (arith, searched-tells s q fuel .charges);
       flagged = flag-small _;
+      each = f .each;
+      once = f .once;
+      wide = f .wide;
+      past = f .past;
       untold = searched-untold s q fuel;
     }
 
@@ -51,7 +66,7 @@ bounded : {words : List ℕ} {q : Query} {fuel : ℕ} (r : Report) → Kind word
 bounded {fuel = fuel} r (refusal n l e) = rw e (refused-bounded fuel n)
 bounded {q = q} {fuel = fuel} r (answer s a l e) = rw e (searched-bounded s q fuel l)
 
--- Every report has at most sixteen names, zeros past them, and no more charges than fuel.
+-- Every report has at most sixteen names, a step for each and one more after a keyword, zeros past them, and no more charges than fuel.
 pub report-bounded : (words : List ℕ) (area : ℕ) (q : Question) → Bounded (q .fuel) (reportOf words area q)
 report-bounded words area q = bounded (reportOf words area q) (kind-of words area q)
 
@@ -66,6 +81,8 @@ refused-small n h =
       charges = omega arith;
       left = omega arith;
       sought = omega arith;
+      route = λ i. let z = zeros 17 i in omega (arith, z);
+      steps = omega arith;
     }
 
 -- names of the snapshot up to the count, zeros past it
@@ -92,13 +109,16 @@ searched-small words s q fuel e l =
       charges = omega (arith, b .charges, l .fuel);
       left = t .left;
       sought = omega (arith, t .sought, accepted-limits words s e .modules);
+      route = k .route;
+      steps = omega (arith, b .few, b .once);
     }
 
 small : {words : List ℕ} {q : Query} {fuel : ℕ} (r : Report) → Kind words q fuel r → Small r
 small r (refusal n h e) = rw e (refused-small n h)
 small {words = words} {q = q} {fuel = fuel} r (answer s a l e) = rw e (searched-small words s q fuel a l)
 
--- Every report has a number up to 46, a kind up to 4, names below 2,048, at most 10,000 charges, a length left up to 15 and a module, +1, up to 512.
+-- Every report has a number up to 46, a kind up to 4, names below 2,048, at most 10,000 charges, a length left up to 15, a module, +1, up to 512,
+-- and at most 17 steps at places below 16,384.
 pub report-small : (words : List ℕ) (area : ℕ) (q : Question) → Small (reportOf words area q)
 report-small words area q = small (reportOf words area q) (kind-of words area q)
 

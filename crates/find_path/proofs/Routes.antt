@@ -1,4 +1,4 @@
--- Every step of a found path has its record.
+-- Every step of a found path has its record, which its route names.
 use mathlib.Core.Path.{_≡_, refl, ap, ap₂, sym, _∙_, subst}
 use Prim.Native.Nat.{ℕ, zero, suc, _+_, _-_, _≤_, _<_}
 use native.Mathlib.Omega.{arith}
@@ -11,10 +11,11 @@ use lib.ListN.{length, set, take, length-set}
 use lib.Seq.{take-suc-set, length-take-le}
 use borrow.Author.Tests.{eqb-true, not-false}
 use Rattle.snapshot.specs.Records.{Snapshot, Scope, Dependency, Definition, Import, Extern}
-use Rattle.accept.specs.Valid.{Each, more, Valid}
+use Rattle.accept.specs.Valid.{Each, more, Placed, Valid}
 use Rattle.accept.specs.Verdict.{accept, verdict}
 use Rattle.accept.proofs.Accepted.{by-test}
-use Rattle.accept.proofs.Bools.{and-left, and-right, and-two, or-none}
+use Rattle.accept.proofs.Bools.{and-left, and-right, and-two, or-none, each-map, each-snoc}
+use Rattle.accept.proofs.Places.{accepted-placed}
 use Rattle.accept.proofs.Valid.{accepted-valid}
 use Rattle.hir_def.specs.Finds.{firstOf}
 use Rattle.hir_def.specs.Items.{types, builtinKind, mapNo, crateOf, crateRoot, rootOf, parentOf, blockOf, inBlock, definitionOf, itemOf, sameItem, homeOf}
@@ -24,8 +25,6 @@ use Rattle.hir_def.specs.Nameres.{dependenciesOf, langOf, sysrootFirst, externO
 use Rattle.hir_def.specs.ImportMap.{isImport, importInfoFor, isHidden, isUnstable}
 use Rattle.hir_def.specs.declared.Item.{Item}
 use Rattle.hir_def.specs.declared.Item.the-variants.{Mod, Def}
-use Rattle.hir_def.specs.declared.Answer.{Answer}
-use Rattle.hir_def.specs.declared.Answer.the-variants.{Name, Nothing}
 use Rattle.hir_def.proofs.Fresh.{preferred-has}
 use Rattle.find_path.specs.declared.Choice.{Choice}
 use Rattle.find_path.specs.declared.KwKind.{KwKind}
@@ -35,17 +34,18 @@ use Rattle.find_path.specs.declared.Query.{Query}
 use Rattle.find_path.specs.declared.Question.{Question}
 use Rattle.find_path.specs.declared.Report.{Report}
 use Rattle.find_path.specs.declared.Tank.{Tank}
-use Rattle.find_path.specs.Choices.{plainPath, selfPath, superPath, cratePath, nothing, keyword, choiceNew, extended, push, unstably, better, trySelect}
+use Rattle.find_path.specs.Choices.{plainPath, selfPath, superPath, cratePath, viaBuiltin, viaScope, viaPrelude, viaExtern, viaKeyword, viaVariant, viaLocal, viaImport, stepBy, nothing, keyword, choiceNew, extended, push, unstably, better, trySelect}
 use Rattle.find_path.specs.Walk.{Level, visited}
 use Rattle.find_path.specs.Rules.{bit, byCrate, mayBeInScope, prefixPathKind, contextOf, firstFound, single, findInScope, scopeRule, findInPrelude, preludeRule, externName, rootRule, parentKind, isKwKindRelativeToFrom, keywordOf, moduleRules}
-use Rattle.find_path.specs.Local.{LocalSearch, offer, isImportable, nameIf, importableName, location, eachLocation, calculateBestPathLocal, orLocal, findPathForModuleLocal}
+use Rattle.find_path.specs.Local.{LocalSearch, offer, offerEntry, isImportable, entryIf, importableName, location, eachLocation, calculateBestPathLocal, orLocal, findPathForModuleLocal}
 use Rattle.find_path.specs.Meters.{Charged, go, stop, fromTank, Charge, filled}
-use Rattle.find_path.specs.Charged.{Out, Search, Inner, langs, oneOrNone, variantOf, offerImport, findImport, findImports, findInDep, findInDeps, findInSysroot, goOn, afterCharge, calculateBestPath, orCharged, findPathForModule, afterEnum, viaEnum, orEnum, byName, ofModule, findPathInner}
-use Rattle.find_path.specs.Search.{localTo, searchLocal, bestLocal, moduleTo, searchModule, itemTo, searchItem, fromHome, fromItem, findPath}
+use Rattle.find_path.specs.Charged.{Out, Search, Inner, langs, oneOrNone, variantOf, pushVariant, offerImport, findImport, findImports, findInDep, findInDeps, findInSysroot, goOn, afterCharge, calculateBestPath, orCharged, findPathForModule, afterEnum, viaEnum, orEnum, byName, ofModule, findPathInner}
+use Rattle.find_path.specs.Search.{builtinChoice, localTo, searchLocal, bestLocal, moduleTo, searchModule, itemTo, searchItem, fromHome, fromItem, findPath}
 use Rattle.find_path.specs.Report.{refused, flag, reported, searched, reportOf}
-use Rattle.find_path.specs.Routes.{_∈_, Start, self, super, crate, scope, prelude, extern, builtin, Step, entry, imported, Route, start, step, Path, direct, variant, askedItem, askedContext, Routed}
+use Rattle.find_path.specs.Routes.{_∈_, Start, self, super, crate, scope, prelude, extern, builtin, Step, entry, imported, Route, start, step, Path, direct, variant, Shown, byKeyword, byRecord, askedItem, askedContext, routeSteps, Routed}
 use Rattle.find_path.proofs.Bounds.{Fits, more as wider, first-none as none-fits, first-fits, new-fits, scope-fits, prelude-fits, best-local-fits, best-within, module-search-fits, itemTo-fits, search-fits}
-use Rattle.find_path.proofs.Crates.{Near, select-found, own-root, crate-root, locations-near}
+use Rattle.find_path.proofs.Crates.{Near, each-in, select-found, own-root, crate-root, locations-near}
+use Rattle.find_path.proofs.Known.{held-at, scope-held, prelude-held, extern-held, definition-in, variant-in}
 use Rattle.find_path.proofs.Refusals.{Allowed}
 use Rattle.find_path.proofs.Outcomes.{Kind, refusal, answer, kind-of}
 use Rattle.find_path.proofs.Fuels.{found-of}
@@ -62,7 +62,7 @@ first-found p (x ∷ xs) y e =
     (λ t. let f : some x ≡ some y = rw (t, firstOf) at e in let same : y ≡ x = cc in (List·Memᴰ·head same, ap p same ∙ t))
     (λ t. let f = first-found p xs y (rw (t, firstOf) at e) in (List·Memᴰ·tail (f .0), f .1))
 
-same-item : (a b : Item) → sameItem a b ≡ true → a ≡ b
+pub same-item : (a b : Item) → sameItem a b ≡ true → a ≡ b
 unfolding sameItem
 same-item (Mod m) (Mod n) e = ap Mod (eqb-true m n e)
 same-item (Mod m) (Def ns d) e = absurd (false≢true e)
@@ -70,27 +70,33 @@ same-item (Def ns d) (Mod n) e = absurd (false≢true e)
 same-item (Def ns d) (Def ns′ d′) e =
     let f = and-two (eqb ns ns′) (eqb d d′) e in ap₂ Def (eqb-true ns ns′ (f .0)) (eqb-true d d′ (f .1))
 
--- one name more in the array, where it has room
+-- every element stands in its list
+each-self : {A : Type 0} (xs : List A) → Each (λ y. y ∈ xs) xs
+each-self [] = Each.none
+each-self (x ∷ xs) = more (List·Memᴰ·head refl) (each-map (λ y h. List·Memᴰ·tail h) (each-self xs))
+
+-- one number more in the array, where it has room
 names-more : (names : List ℕ) (k n : ℕ) → k < length names → take (k + 1) (set names k n) ≡ take k names ++ (n ∷ [])
 names-more names k n h = ap (λ (j : ℕ). take j (set names k n)) (add-one k) ∙ take-suc-set names k n h
 
 -- a choice that is one is a route to the item, where its names fit the array
 pub record Leads (s : Snapshot) (x : FindPathCtx) (item : Item) (c : Choice) : Type 0 where
-  pub route : c .found ≡ true → c .count ≤ length (c .names) → Route s x (c .kind) (take (c .count) (c .names)) item
+  pub route : c .found ≡ true → c .count ≤ length (c .names) → c .steps ≤ length (c .route)
+      → Route s x (c .kind) (take (c .count) (c .names)) (take (c .steps) (c .route)) item
 
 -- an import record of the item
 record Listed (s : Snapshot) (item : Item) (i : Import) : Type 0 where
   stands : i ∈ s .imports
   same : itemOf s (i .ns) (i .definition) ≡ item
 
--- a name that is answered leads from the module to the item
-abbrev Led : Snapshot → FindPathCtx → ℕ → Item → Answer → Type 0
-Led s x m item (Name n) = Step s x m n item
-Led s x m item Nothing = Unit {0}
+-- an entry that is answered leads from the module to the item
+abbrev Led : Snapshot → FindPathCtx → ℕ → Item → Option Scope → Type 0
+Led s x m item (some e) = Step s x m (e .name) (stepBy viaLocal (e .place)) item
+Led s x m item none = Unit {0}
 
 -- the path of a keyword without names reaches the module
 abbrev Started : Snapshot → FindPathCtx → ℕ → KwKind → Type 0
-Started s x m (Kw k) = Start s x k [] (Mod m)
+Started s x m (Kw k) = Start s x k [] (stepBy viaKeyword 0) (Mod m)
 Started s x m NoKw = Unit {0}
 
 module _ (s : Snapshot) where
@@ -101,45 +107,49 @@ module _ (s : Snapshot) where
       (λ i h t. record { stands = h; same = same-item _ item (and-right (eqb (i .owner) c) _ t) })
 
   module _ (x : FindPathCtx) where
-    entry-step : (m : ℕ) (item : Item) (e : Scope) → e ∈ s .scopes → isFor s m item e ≡ true → sees s (x .from) e ≡ true
-        → Step s x m (e .name) item
+    entry-step : (m : ℕ) (item : Item) (e : Scope) → e ∈ s .scopes → isFor s m item e ≡ true → importableName s x item m ≡ some e
+        → sees s (x .from) e ≡ true → Step s x m (e .name) (stepBy viaLocal (e .place)) item
     unfolding isFor
-    entry-step m item e h p v =
+    entry-step m item e h p o v =
         let f = and-two (eqb (e .owner) m) (sameItem (itemOf s (e .ns) (e .definition)) item) p in
-        subst (λ (k : ℕ). Step s x k (e .name) item) (eqb-true (e .owner) m (f .0))
-        (subst (Step s x (e .owner) (e .name)) (same-item _ item (f .1)) (entry e h v))
+        let a = eqb-true (e .owner) m (f .0) in
+        let b = same-item _ item (f .1) in
+        subst (λ (k : ℕ). Step s x k (e .name) (stepBy viaLocal (e .place)) item) a
+        (subst (Step s x (e .owner) (e .name) (stepBy viaLocal (e .place))) b (entry e h (ap₂ (importableName s x) b a ∙ o) v))
 
     import-step : (item : Item) (i : Import) → Listed s item i → isHidden i ≡ false → (isUnstable i ≡ true → x .unstable ≡ true)
-        → Step s x (i .container) (i .name) item
-    import-step item i h v u = subst (Step s x (i .container) (i .name)) (h .same) (imported i (h .stands) v u)
+        → Step s x (i .container) (i .name) (stepBy viaImport (i .place)) item
+    import-step item i h v u = subst (Step s x (i .container) (i .name) (stepBy viaImport (i .place))) (h .same) (imported i (h .stands) v u)
 
     -- choices
 
     nothing-leads : {item : Item} → Leads s x item nothing
-    nothing-leads = record { route = λ e h. absurd (false≢true e) }
+    nothing-leads = record { route = λ e h l. absurd (false≢true e) }
 
-    keyword-leads : (m k : ℕ) → Start s x k [] (Mod m) → Leads s x (Mod m) (keyword k)
+    keyword-leads : (m k : ℕ) → Start s x k [] (stepBy viaKeyword 0) (Mod m) → Leads s x (Mod m) (keyword k)
     unfolding keyword
-    keyword-leads m k b = record { route = λ e h. start b }
+    keyword-leads m k b = record { route = λ e h l. start b }
 
-    new-leads : (item : Item) (k n : ℕ) → Start s x k (n ∷ []) item → Leads s x item (choiceNew s k n)
+    new-leads : (item : Item) (k n t : ℕ) → Start s x k (n ∷ []) t item → Leads s x item (choiceNew s k n t)
     unfolding choiceNew
-    new-leads item k n b = record { route = λ e h. start b }
+    new-leads item k n t b = record { route = λ e h l. start b }
 
-    extended-leads : (m : ℕ) (item : Item) (c : Choice) (n : ℕ) (b : Bool) → Leads s x (Mod m) c → c .found ≡ true → Step s x m n item
-        → Leads s x item (extended s c n b)
+    extended-leads : (m : ℕ) (item : Item) (c : Choice) (n t : ℕ) (b : Bool) → Leads s x (Mod m) c → c .found ≡ true → Step s x m n t item
+        → Leads s x item (extended s c n t b)
     unfolding extended
-    extended-leads m item c n b f e g = record {
-      route = λ _ h.
-          let l : c .count < length (c .names) = omega (arith, h, length-set (c .names) (c .count) n) in
-          subst (λ (ns : List ℕ). Route s x (c .kind) ns item) (sym (names-more (c .names) (c .count) n l))
-          (step (f .route e (omega arith)) g);
+    extended-leads m item c n t b f e g = record {
+      route = λ _ h l.
+          let i : c .count < length (c .names) = omega (arith, h, length-set (c .names) (c .count) n) in
+          let j : c .steps < length (c .route) = omega (arith, l, length-set (c .route) (c .steps) t) in
+          subst (λ (ts : List ℕ). Route s x (c .kind) (take (c .count + 1) (set (c .names) (c .count) n)) ts item) (sym (names-more (c .route) (c .steps) t j))
+          (subst (λ (ns : List ℕ). Route s x (c .kind) ns (take (c .steps) (c .route) ++ (t ∷ [])) item) (sym (names-more (c .names) (c .count) n i))
+          (step (f .route e (omega (arith, i)) (omega (arith, j))) g));
     }
 
-    push-leads : (m : ℕ) (item : Item) (c : Choice) (n : ℕ) → Leads s x (Mod m) c → c .found ≡ true → Step s x m n item
-        → Leads s x item (push s c n)
+    push-leads : (m : ℕ) (item : Item) (c : Choice) (n t : ℕ) → Leads s x (Mod m) c → c .found ≡ true → Step s x m n t item
+        → Leads s x item (push s c n t)
     unfolding push
-    push-leads m item c n f e g = extended-leads m item c n _ f e g
+    push-leads m item c n t f e g = extended-leads m item c n t _ f e g
 
     unstably-leads : (item : Item) (c : Choice) → Leads s x item c → Leads s x item (unstably c)
     unfolding unstably
@@ -159,18 +169,18 @@ module _ (s : Snapshot) where
     unfolding firstFound
     first-leads c cs f g = either-leads (c .found) c (firstFound cs) (λ _. f) (λ _. g)
 
-    select-leads : (m : ℕ) (item : Item) (best c : Choice) (n : ℕ) → Leads s x item best → Leads s x (Mod m) c → c .found ≡ true
-        → Step s x m n item → Leads s x item (trySelect s (x .prelude) best c n)
+    select-leads : (m : ℕ) (item : Item) (best c : Choice) (n t : ℕ) → Leads s x item best → Leads s x (Mod m) c → c .found ≡ true
+        → Step s x m n t item → Leads s x item (trySelect s (x .prelude) best c n t)
     unfolding trySelect
-    select-leads m item best c n f g e h =
+    select-leads m item best c n t f g e h =
         either-leads (best .found) _ _
-        (λ _. either-leads (better s (x .prelude) best c n) _ _ (λ _. extended-leads m item c n _ g e h) (λ _. f))
-        (λ _. push-leads m item c n g e h)
+        (λ _. either-leads (better s (x .prelude) best c n) _ _ (λ _. extended-leads m item c n t _ g e h) (λ _. f))
+        (λ _. push-leads m item c n t g e h)
 
-    offer-leads : (m : ℕ) (item : Item) (best c : Choice) (n : ℕ) → Leads s x item best → Leads s x (Mod m) c → Step s x m n item
-        → Leads s x item (offer s x best c n)
+    offer-leads : (m : ℕ) (item : Item) (best c : Choice) (n t : ℕ) → Leads s x item best → Leads s x (Mod m) c → Step s x m n t item
+        → Leads s x item (offer s x best c n t)
     unfolding offer
-    offer-leads m item best c n f g h = either-leads (c .found) _ _ (λ e. select-leads m item best c n f g e h) (λ _. f)
+    offer-leads m item best c n t f g h = either-leads (c .found) _ _ (λ e. select-leads m item best c n t f g e h) (λ _. f)
 
     offer-import-leads : (item : Item) (best c : Choice) (i : Import) → Leads s x item best → Leads s x (Mod (i .container)) c
         → Listed s item i → isHidden i ≡ false → Leads s x item (offerImport s x best c i)
@@ -178,35 +188,40 @@ module _ (s : Snapshot) where
     offer-import-leads item best c i f g h v =
         either-leads (isUnstable i) _ _
         (λ _. either-leads (x .unstable) _ _
-        (λ a. offer-leads (i .container) item best (unstably c) (i .name) f (unstably-leads _ c g) (import-step item i h v (λ _. a)))
+        (λ a. offer-leads (i .container) item best (unstably c) (i .name) _ f (unstably-leads _ c g) (import-step item i h v (λ _. a)))
         (λ _. f))
-        (λ u. offer-leads (i .container) item best c (i .name) f g (import-step item i h v (λ t. absurd (true≢false (sym t ∙ u)))))
+        (λ u. offer-leads (i .container) item best c (i .name) _ f g (import-step item i h v (λ t. absurd (true≢false (sym t ∙ u)))))
 
-    crate-start : (m : ℕ) → x .root ≡ m → Start s x cratePath [] (Mod m)
-    crate-start m e = subst (λ (k : ℕ). Start s x cratePath [] (Mod k)) e crate
+    crate-start : (m : ℕ) → x .root ≡ m → Start s x cratePath [] (stepBy viaKeyword 0) (Mod m)
+    crate-start m e = subst (λ (k : ℕ). Start s x cratePath [] (stepBy viaKeyword 0) (Mod k)) e crate
 
     -- the rules without a search
 
-    single-leads : (item : Item) (kind : ℕ) (a : Answer) → ((n : ℕ) → a ≡ Name n → Start s x kind (n ∷ []) item)
-        → Leads s x item (single s x kind a)
+    single-leads : (item : Item) (kind rule : ℕ) (o : Option Scope)
+        → ((e : Scope) → o ≡ some e → Start s x kind (e .name ∷ []) (stepBy rule (e .place)) item) → Leads s x item (single s x kind rule o)
     unfolding single
-    single-leads item kind Nothing f = nothing-leads
-    single-leads item kind (Name n) f = new-leads item kind n (f n refl)
+    single-leads item kind rule none f = nothing-leads
+    single-leads item kind rule (some e) f = new-leads item kind (e .name) _ (f e refl)
 
     scope-leads : (item : Item) → Leads s x item (scopeRule s x item)
     unfolding scopeRule
     scope-leads item =
         either-leads (mayBeInScope s x) _ _
-        (λ _. single-leads item (prefixPathKind (x .prefix)) (findInScope s x item) (λ n e. scope item n e)) (λ _. nothing-leads)
+        (λ _. single-leads item (prefixPathKind (x .prefix)) viaScope (findInScope s x item)
+        (λ e h. scope item e (held-at (λ y. y ∈ s .scopes) _ (scope-held s (λ y. y ∈ s .scopes) (each-self (s .scopes)) x item) h) h))
+        (λ _. nothing-leads)
 
     prelude-leads : (item : Item) → Leads s x item (preludeRule s x item)
     unfolding preludeRule
-    prelude-leads item = single-leads item plainPath (findInPrelude s x item) (λ n e. prelude item n e)
+    prelude-leads item =
+        single-leads item plainPath viaPrelude (findInPrelude s x item)
+        (λ e h. prelude item e (held-at (λ y. y ∈ s .scopes) _ (prelude-held s (λ y. y ∈ s .scopes) (each-self (s .scopes)) x item) h) h)
 
     extern-leads : (m : ℕ) (o : Option Extern) → externOf s (x .krate) m ≡ o → Leads s x (Mod m) (externName s x m o)
     unfolding externName
     extern-leads m none h = nothing-leads
-    extern-leads m (some e) h = new-leads (Mod m) _ (e .name) (extern m e h)
+    extern-leads m (some e) h =
+        new-leads (Mod m) _ (e .name) _ (extern m e (held-at (λ y. y ∈ s .externs) _ (extern-held s (λ y. y ∈ s .externs) (each-self (s .externs)) (x .krate) m) h) h)
 
     -- in a valid snapshot, with the root that is set for the viewing module
     module _ (valid : Valid s) (rooted : x .root ≡ crateRoot s (x .from)) where
@@ -239,7 +254,7 @@ module _ (s : Snapshot) where
           let same : p ≡ m = sym (eqb-true m p t) in
           either-started m (eqb p (rootOf s (mapNo s (x .from)))) (Kw cratePath) (Kw superPath)
           (λ r. crate-start m (rooted ∙ sym (own-root s valid (x .from) p e b) ∙ sym (eqb-true p _ r) ∙ same))
-          (λ _. subst (λ (k : ℕ). Start s x superPath [] (Mod k)) same (super p e)))
+          (λ _. subst (λ (k : ℕ). Start s x superPath [] (stepBy viaKeyword 0) (Mod k)) same (super p e)))
           (λ _. tt)
 
       keyword-started : (m : ℕ) → Started s x m (isKwKindRelativeToFrom s x m)
@@ -249,7 +264,7 @@ module _ (s : Snapshot) where
           (λ t.
           let f = or-none (inBlock s m) (inBlock s (x .from)) (or-none (not (eqb (crateOf s m) (crateOf s (x .from)))) _ t .1) .1 in
           either-started m (eqb m (x .from)) (Kw selfPath) _
-          (λ e. subst (λ (k : ℕ). Start s x selfPath [] (Mod k)) (sym (eqb-true m (x .from) e)) self)
+          (λ e. subst (λ (k : ℕ). Start s x selfPath [] (stepBy viaKeyword 0) (Mod k)) (sym (eqb-true m (x .from) e)) self)
           (λ _. parent-started m (parentOf s (x .from)) refl (eqb-true (blockOf s (x .from)) 0 (not-false _ f))))
 
       keyword-of-leads : (m : ℕ) (k : KwKind) → Started s x m k → Leads s x (Mod m) (keywordOf s x k)
@@ -268,10 +283,6 @@ module _ (s : Snapshot) where
 
       -- the local search
 
-      led-if : (m : ℕ) (item : Item) (b : Bool) (n : ℕ) → (b ≡ true → Step s x m n item) → Led s x m item (elim b [ true ↦ Name n | false ↦ Nothing ])
-      led-if m item true n f = f refl
-      led-if m item false n f = tt
-
       -- an entry of the module for the item
       abbrev Stands : ℕ → Item → Scope → Type 0
       Stands m item e = (e ∈ s .scopes) × (isFor s m item e ≡ true)
@@ -280,29 +291,45 @@ module _ (s : Snapshot) where
           → firstOf p (s .scopes) ≡ some e → Stands m item e
       first-stands m item p e g h = let f = first-found p (s .scopes) e h in (f .0, g e (f .1))
 
-      name-if-led : (m : ℕ) (item : Item) (o : Option Scope) → ((e : Scope) → o ≡ some e → Stands m item e) → Led s x m item (nameIf s x o)
-      unfolding nameIf
-      name-if-led m item none g = tt
-      name-if-led m item (some e) g =
-          led-if m item (isImportable s x e) (e .name) (λ t. let f = g e refl in entry-step m item e (f .0) (f .1) (and-left (sees s (x .from) e) _ t))
+      -- what passes the test of the local rule is the entry itself, and is visible
+      entry-if : (o : Option Scope) (e : Scope) → entryIf s x o ≡ some e → (o ≡ some e) × (sees s (x .from) e ≡ true)
+      unfolding entryIf
+      entry-if none e h = let z : _≡_ {A = ℕ} 0 1 = cc in absurd (omega arith)
+      entry-if (some y) e h =
+          by-test (isImportable s x y)
+          (λ t.
+          let f : some y ≡ some e = rw (entryIf, t) at h in
+          let same : y ≡ e = cc in
+          (f, subst (λ z. sees s (x .from) z ≡ true) same (and-left (sees s (x .from) y) _ t)))
+          (λ t. let f : none ≡ some e = rw (entryIf, t) at h in let z : _≡_ {A = ℕ} 0 1 = cc in absurd (omega arith))
+
+      importable-step : (item : Item) (m : ℕ) (e : Scope) → importableName s x item m ≡ some e
+          → Step s x m (e .name) (stepBy viaLocal (e .place)) item
+      unfolding importableName nameOf namesOf
+      importable-step item m e o =
+          let f = entry-if _ e o in
+          let g =
+          preferred-has s m item _ _ 0 (Stands m item) (x .fresh) e
+          (first-stands m item _ e (λ y t. search passed)) (first-stands m item _ e (λ y t. search passed)) (f .0) in
+          entry-step m item e (g .0) (g .1) o (f .1)
+
+      led : (item : Item) (m : ℕ) (o : Option Scope) → importableName s x item m ≡ o → Led s x m item o
+      led item m none h = tt
+      led item m (some e) h = importable-step item m e h
 
       importable-led : (item : Item) (m : ℕ) → Led s x m item (importableName s x item m)
-      unfolding importableName nameOf namesOf
-      importable-led item m =
-          name-if-led m item _
-          (λ e. preferred-has s m item _ _ 0 (Stands m item) (x .fresh) e
-          (first-stands m item _ e (λ y t. search passed)) (first-stands m item _ e (λ y t. search passed)))
+      importable-led item m = led item m (importableName s x item m) refl
 
       abbrev LeadsLocal : LocalSearch → Type 0
       LeadsLocal rec = (left : ℕ) (ls : List Level) (m : ℕ) → Near s valid (x .from) m → Leads s x (Mod m) (rec left ls m)
 
       module _ (rec : LocalSearch) (leads : LeadsLocal rec) where
-        location-leads : (item : Item) (left : ℕ) (ls : List Level) (best : Choice) (m : ℕ) (a : Answer) → Near s valid (x .from) m
-            → Leads s x item best → Led s x m item a
-            → Leads s x item (location s x rec left ls best m a)
-        unfolding location
-        location-leads item left ls best m Nothing near f h = f
-        location-leads item left ls best m (Name n) near f h = offer-leads m item best _ n f (leads _ ls m near) h
+        location-leads : (item : Item) (left : ℕ) (ls : List Level) (best : Choice) (m : ℕ) (o : Option Scope) → Near s valid (x .from) m
+            → Leads s x item best → Led s x m item o
+            → Leads s x item (location s x rec left ls best m o)
+        unfolding location offerEntry
+        location-leads item left ls best m none near f h = f
+        location-leads item left ls best m (some e) near f h = offer-leads m item best _ (e .name) _ f (leads _ ls m near) h
 
         each-leads : (left : ℕ) (ls : List Level) (item : Item) (done : List ℕ) (best : Choice) {ms : List ℕ} → Each (Near s valid (x .from)) ms
             → Leads s x item best
@@ -407,27 +434,35 @@ module _ (M : Type 0) (charge : Charge M) (s : Snapshot) (x : FindPathCtx) (vali
 names-count : {s : Snapshot} {c : Choice} (left : ℕ) → left ≤ 16 → Fits s left c → length (take (c .count) (c .names)) ≡ c .count
 names-count {c = c} left h f = length-take-le (c .count) (c .names) (omega (arith, f .few, f .long))
 
+-- and its steps
+steps-count : {s : Snapshot} {c : Choice} (left : ℕ) → left ≤ 16 → Fits s left c → length (take (c .steps) (c .route)) ≡ c .steps
+steps-count {c = c} left h f = length-take-le (c .steps) (c .route) (omega (arith, f .few, f .once, f .wide))
+
 -- a choice that is one is a path to the item
 pub record Paths (s : Snapshot) (x : FindPathCtx) (item : Item) (c : Choice) : Type 0 where
-  pub path : c .found ≡ true → Path s x (c .kind) (take (c .count) (c .names)) item
+  pub path : c .found ≡ true → Path s x (c .kind) (take (c .count) (c .names)) (take (c .steps) (c .route)) item
 
 module _ (s : Snapshot) (x : FindPathCtx) (limit : x .limit ≤ 15) where
   direct-path : (item : Item) (c : Choice) → Leads s x item c → Fits s (x .limit) c → Paths s x item c
   direct-path item c f g = record {
     path = λ e.
         let n = names-count (x .limit) (omega (arith, limit)) g in
-        direct (f .route e (omega (arith, limit, g .few, g .long))) (omega (arith, n, g .few));
+        direct (f .route e (omega (arith, limit, g .few, g .long)) (omega (arith, limit, g .few, g .once, g .wide))) (omega (arith, n, g .few));
   }
 
   variant-path : (item : Item) (v : Definition) (c : Choice) → variantOf s item ≡ some v → Leads s x (itemOf s types (v .first)) c
-      → Fits s (x .limit) c → c .found ≡ true → Paths s x item (push s c (v .second))
-  unfolding push extended
+      → Fits s (x .limit) c → c .found ≡ true → Paths s x item (pushVariant s c v)
+  unfolding pushVariant push extended
   variant-path item v c q f g e = record {
     path = λ _.
         let n = names-count (x .limit) (omega (arith, limit)) g in
-        subst (λ (ns : List ℕ). Path s x (c .kind) ns item)
+        let t = stepBy viaVariant (v .place) in
+        subst (λ (ts : List ℕ). Path s x (c .kind) (take (c .count + 1) (set (c .names) (c .count) (v .second))) ts item)
+        (sym (names-more (c .route) (c .steps) t (omega (arith, limit, g .few, g .once, g .wide))))
+        (subst (λ (ns : List ℕ). Path s x (c .kind) ns (take (c .steps) (c .route) ++ (t ∷ [])) item)
         (sym (names-more (c .names) (c .count) (v .second) (omega (arith, limit, g .few, g .long))))
-        (variant v q (f .route e (omega (arith, limit, g .few, g .long))) (omega (arith, n, g .few)));
+        (variant v (variant-in s item v q) q (f .route e (omega (arith, limit, g .few, g .long)) (omega (arith, limit, g .few, g .once, g .wide)))
+        (omega (arith, n, g .few))));
   }
 
 module _ (M : Type 0) (charge : Charge M) (s : Snapshot) (x : FindPathCtx) (valid : Valid s) (rooted : x .root ≡ crateRoot s (x .from))
@@ -436,23 +471,23 @@ module _ (M : Type 0) (charge : Charge M) (s : Snapshot) (x : FindPathCtx) (vali
   module _ (inner : Inner M) (P : Item → Choice → Type 0)
       (short : (item : Item) (c : Choice) → Leads s x item c → Fits s (x .limit) c → P item c)
       (within : (item : Item) (t : M) (v : Definition) → variantOf s item ≡ some v → inner (itemOf s types (v .first)) t .choice .found ≡ true
-      → P item (push s (inner (itemOf s types (v .first)) t .choice) (v .second))) where
+      → P item (pushVariant s (inner (itemOf s types (v .first)) t .choice) v)) where
     best-path : (item : Item) (t : M) → P item (calculateBestPath M charge s x (bestLocal s x) (searchModule M charge s x) (x .limit) item t .choice)
     best-path item t =
         short item _ (best-leads M charge s x valid rooted (searchModule M charge s x) (module-search-leads M charge s x valid rooted) (x .limit) item t)
         (best-within M charge s x (bestLocal s x) (best-local-fits s x) (searchModule M charge s x) (module-search-fits M charge s x) (x .limit) some-limit item t)
 
-    enum-path : (item : Item) (name : ℕ) (o : Out M) (b : Bool) → (b ≡ true → P item (push s (o .choice) name))
-        → P item (afterEnum M charge s x (bestLocal s x) (searchModule M charge s x) item name o b .choice)
+    enum-path : (item : Item) (v : Definition) (o : Out M) (b : Bool) → (b ≡ true → P item (pushVariant s (o .choice) v))
+        → P item (afterEnum M charge s x (bestLocal s x) (searchModule M charge s x) item v o b .choice)
     unfolding afterEnum
-    enum-path item name o true f = f refl
-    enum-path item name o false f = best-path item (o .meter)
+    enum-path item v o true f = f refl
+    enum-path item v o false f = best-path item (o .meter)
 
     via-path : (item : Item) (t : M) (v : Option Definition) → variantOf s item ≡ v
         → P item (viaEnum M charge s x (bestLocal s x) (searchModule M charge s x) inner item t v .choice)
     unfolding viaEnum
     via-path item t none q = best-path item t
-    via-path item t (some v) q = enum-path item (v .second) _ _ (within item t v q)
+    via-path item t (some v) q = enum-path item v _ _ (within item t v q)
 
     named-path : (item : Item) (t : M) (c : Choice) (b : Bool) → P item c
         → P item (orEnum M charge s x (bestLocal s x) (searchModule M charge s x) inner item t c b .choice)
@@ -513,15 +548,17 @@ module _ (M : Type 0) (charge : Charge M) (s : Snapshot) (valid : Valid s) (q : 
       (item-path M charge s (contextOf s q home) valid (context-rooted s q home) (omega (arith, c)) (omega (arith, c)) (askedItem s q) t)
 
   builtin-path : q .ns ≡ types → definitionOf s (q .definition) .kind ≡ builtinKind
-      → Asked (choiceNew s plainPath (definitionOf s (q .definition) .first))
+      → Asked (builtinChoice s (definitionOf s (q .definition)))
+  unfolding builtinChoice
   builtin-path e k =
-      let b = builtin (q .definition) k in
+      let b = builtin (q .definition) (definition-in s (q .definition) 2 k) k in
       let n = definitionOf s (q .definition) .first in
       let c = context-limit s q (homeOf s (askedItem s q) - 1) in
+      let t = stepBy viaBuiltin (definitionOf s (q .definition) .place) in
       direct-path s (askedContext s q) (omega (arith, c)) (askedItem s q) _
-      (new-leads s (askedContext s q) (askedItem s q) plainPath n
-      (subst (λ (ns : ℕ). Start s (askedContext s q) plainPath (n ∷ []) (itemOf s ns (q .definition))) (sym e) b))
-      (wider 1 (askedContext s q .limit) (omega (arith, c)) (new-fits s 0 plainPath n))
+      (new-leads s (askedContext s q) (askedItem s q) plainPath n t
+      (subst (λ (ns : ℕ). Start s (askedContext s q) plainPath (n ∷ []) t (itemOf s ns (q .definition))) (sym e) b))
+      (wider 1 (askedContext s q .limit) (omega (arith, c)) (new-fits s 0 plainPath n t))
 
   start-path : (t : M) (b : Bool) → (b ≡ true → (q .ns ≡ types) × (definitionOf s (q .definition) .kind ≡ builtinKind))
       → Asked (fromItem M charge s q t b .choice)
@@ -549,6 +586,7 @@ searched-routed s valid q fuel a e =
     record {
       path = search-path Tank fromTank s valid q (a .some) (a .limit) t .path e;
       count = names-count 16 (omega arith) (search-fits Tank fromTank s q (a .some) (a .limit) t);
+      steps = steps-count 16 (omega arith) (search-fits Tank fromTank s q (a .some) (a .limit) t);
       unstable = allowed s q;
       limit = context-limit s q _;
     }
@@ -566,3 +604,33 @@ kind-routed {words = words} {q = q} {fuel = fuel} s a r (answer u b h e) z =
 pub found-route : (words : List ℕ) (area : ℕ) (q : Question) (s : Snapshot) → verdict words ≡ accept s
     → reportOf words area q .outcome ≡ 0 → Routed s (q .query) (reportOf words area q)
 found-route words area q s e z = kind-routed s e (reportOf words area q) (kind-of words area q) z
+
+-- the heads in the words
+
+module _ (W : List ℕ) (s : Snapshot) (placed : Placed W s) (x : FindPathCtx) where
+  start-shown : {k t : ℕ} {ns : List ℕ} {item : Item} → Start s x k ns t item → Shown W t
+  start-shown self = byKeyword
+  start-shown (super p e) = byKeyword
+  start-shown crate = byKeyword
+  start-shown (scope item e h q) = byRecord viaScope (e .place) (each-in (placed .scopes) h .head)
+  start-shown (prelude item e h q) = byRecord viaPrelude (e .place) (each-in (placed .scopes) h .head)
+  start-shown (extern m e h q) = byRecord viaExtern (e .place) (each-in (placed .externs) h .head)
+  start-shown (builtin d h q) = byRecord viaBuiltin (definitionOf s d .place) (each-in (placed .definitions) h .head)
+
+  step-shown : {m n t : ℕ} {item : Item} → Step s x m n t item → Shown W t
+  step-shown (entry e h o v) = byRecord viaLocal (e .place) (each-in (placed .scopes) h .head)
+  step-shown (imported i h v u) = byRecord viaImport (i .place) (each-in (placed .imports) h .head)
+
+  route-shown : {k : ℕ} {ns ts : List ℕ} {item : Item} → Route s x k ns ts item → Each (Shown W) ts
+  route-shown (start b) = more (start-shown b) Each.none
+  route-shown (step r g) = each-snoc (route-shown r) (step-shown g)
+
+  path-shown : {k : ℕ} {ns ts : List ℕ} {item : Item} → Path s x k ns ts item → Each (Shown W) ts
+  path-shown (direct r l) = route-shown r
+  path-shown (variant v h q r l) = each-snoc (route-shown r) (byRecord viaVariant (v .place) (each-in (placed .definitions) h .head))
+
+-- At the place of every step of a found path the words have the head of a record that its rule uses, unless it is a keyword's.
+pub found-shown : (words : List ℕ) (area : ℕ) (q : Question) (s : Snapshot) → verdict words ≡ accept s
+    → reportOf words area q .outcome ≡ 0 → Each (Shown words) (routeSteps (reportOf words area q))
+found-shown words area q s e z =
+    path-shown words s (accepted-placed words s e) (askedContext s (q .query)) (found-route words area q s e z .path)

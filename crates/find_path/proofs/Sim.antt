@@ -172,26 +172,26 @@ module _ (C : Type 0) (charge : Charge C) (size : C → ℕ) (Past : ℕ → ℕ
       module-sim (suc l) m t n h = or-sim (suc l) m t n _ _ h
 
       module _ (it : Inner Tank) (ic : Inner C) (within : AlikeWithin F it ic) where
-        enum-same : (item : Item) (name : ℕ) (a : Out Tank) (c : Out C) (b : Bool) → a .choice ≡ c .choice → Sync F (a .meter) (size (c .meter))
-            → Both F (afterEnum Tank fromTank s x here rt item name a b) (afterEnum C charge s x here rc item name c b)
+        enum-same : (item : Item) (v : Definition) (a : Out Tank) (c : Out C) (b : Bool) → a .choice ≡ c .choice → Sync F (a .meter) (size (c .meter))
+            → Both F (afterEnum Tank fromTank s x here rt item v a b) (afterEnum C charge s x here rc item v c b)
         unfolding afterEnum
-        enum-same item name a c true e h = same (cc) h
-        enum-same item name a c false e h = best-sim (x .limit) item (a .meter) (c .meter) h
+        enum-same item v a c true e h = same (cc) h
+        enum-same item v a c false e h = best-sim (x .limit) item (a .meter) (c .meter) h
 
-        enum-sim : (item : Item) (name : ℕ) (a : Out Tank) (c : Out C) → Both F a c
-            → Both F (afterEnum Tank fromTank s x here rt item name a (a .choice .found)) (afterEnum C charge s x here rc item name c (c .choice .found))
-        enum-sim item name a c (same e h) =
-            subst (λ (b : Bool). Both F (afterEnum Tank fromTank s x here rt item name a b) (afterEnum C charge s x here rc item name c (c .choice .found)))
-            (ap (λ (z : Choice). z .found) (sym e)) (enum-same item name a c (c .choice .found) e h)
-        enum-sim item name a c (dry l′ m′ d o) =
-            dry l′ m′ (enum-keeps Tank fromTank s (Dry F l′ m′) (dry-stays F l′ m′) x here rt (kt l′ m′) item name a (a .choice .found) d)
-            (enum-keeps C charge s (Past F l′ m′) (past-stays F l′ m′) x here rc (kc l′ m′) item name c (c .choice .found) o)
+        enum-sim : (item : Item) (v : Definition) (a : Out Tank) (c : Out C) → Both F a c
+            → Both F (afterEnum Tank fromTank s x here rt item v a (a .choice .found)) (afterEnum C charge s x here rc item v c (c .choice .found))
+        enum-sim item v a c (same e h) =
+            subst (λ (b : Bool). Both F (afterEnum Tank fromTank s x here rt item v a b) (afterEnum C charge s x here rc item v c (c .choice .found)))
+            (ap (λ (z : Choice). z .found) (sym e)) (enum-same item v a c (c .choice .found) e h)
+        enum-sim item v a c (dry l′ m′ d o) =
+            dry l′ m′ (enum-keeps Tank fromTank s (Dry F l′ m′) (dry-stays F l′ m′) x here rt (kt l′ m′) item v a (a .choice .found) d)
+            (enum-keeps C charge s (Past F l′ m′) (past-stays F l′ m′) x here rc (kc l′ m′) item v c (c .choice .found) o)
 
         via-sim : (item : Item) (t : Tank) (n : C) (v : Option Definition) → Sync F t (size n)
             → Both F (viaEnum Tank fromTank s x here rt it item t v) (viaEnum C charge s x here rc ic item n v)
         unfolding viaEnum
         via-sim item t n none h = best-sim (x .limit) item t n h
-        via-sim item t n (some v) h = enum-sim item (v .second) _ _ (within (itemOf s types (v .first)) t n h)
+        via-sim item t n (some v) h = enum-sim item v _ _ (within (itemOf s types (v .first)) t n h)
 
         named-sim : (item : Item) (t : Tank) (n : C) (c : Choice) (b : Bool) → Sync F t (size n)
             → Both F (orEnum Tank fromTank s x here rt it item t c b) (orEnum C charge s x here rc ic item n c b)

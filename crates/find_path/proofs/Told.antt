@@ -138,16 +138,16 @@ module _ (s : Snapshot) (r : Ranges (countsOf s) s) where
       item-best : (item : Item) (t : Tank) → Inside item → Keeps t → Keeps (calculateBestPath Tank fromTank s x here rec (x .limit) item t .meter)
       item-best item t h f = best-told (x .limit) some-limit limit item t h f
 
-      enum-told : (item : Item) (name : ℕ) (o : Out Tank) (b : Bool) → Inside item → Keeps (o .meter)
-          → Keeps (afterEnum Tank fromTank s x here rec item name o b .meter)
+      enum-told : (item : Item) (v : Definition) (o : Out Tank) (b : Bool) → Inside item → Keeps (o .meter)
+          → Keeps (afterEnum Tank fromTank s x here rec item v o b .meter)
       unfolding afterEnum
-      enum-told item name o true h f = f
-      enum-told item name o false h f = item-best item (o .meter) h f
+      enum-told item v o true h f = f
+      enum-told item v o false h f = item-best item (o .meter) h f
 
       via-told : (item : Item) (t : Tank) (v : Option Definition) → Inside item → Keeps t → Keeps (viaEnum Tank fromTank s x here rec inner item t v .meter)
       unfolding viaEnum
       via-told item t none h f = item-best item t h f
-      via-told item t (some v) h f = enum-told item (v .second) _ _ h (within (itemOf s types (v .first)) t (item-inside types (v .first)) f)
+      via-told item t (some v) h f = enum-told item v _ _ h (within (itemOf s types (v .first)) t (item-inside types (v .first)) f)
 
       named-told : (item : Item) (t : Tank) (c : Choice) (b : Bool) → Inside item → Keeps t → Keeps (orEnum Tank fromTank s x here rec inner item t c b .meter)
       unfolding orEnum

@@ -5,19 +5,17 @@ use native.Mathlib.Omega.{arith}
 use mathlib.Core.List.{List, [], _∷_, _++_}
 use mathlib.Core.Bool.{Bool, true, false}
 use mathlib.Core.Option.{Option, none, some}
-use Rattle.snapshot.specs.Records.{Snapshot, Dependency, Definition, Import}
+use Rattle.snapshot.specs.Records.{Snapshot, Scope, Dependency, Definition, Import}
 use Rattle.hir_def.specs.Items.{types, itemOf}
 use Rattle.hir_def.specs.Nameres.{dependenciesOf, langOf, sysrootFirst}
 use Rattle.hir_def.specs.ImportMap.{importInfoFor}
 use Rattle.hir_def.specs.declared.Item.{Item}
 use Rattle.hir_def.specs.declared.Item.the-variants.{Mod, Def}
-use Rattle.hir_def.specs.declared.Answer.{Answer}
-use Rattle.hir_def.specs.declared.Answer.the-variants.{Name, Nothing}
 use Rattle.find_path.specs.declared.Choice.{Choice}
 use Rattle.find_path.specs.declared.FindPathCtx.{FindPathCtx}
 use Rattle.find_path.specs.Choices.{nothing, pathLen, shorterIf, lengthLeft}
 use Rattle.find_path.specs.Walk.{Level}
-use Rattle.find_path.specs.Local.{LocalSearch, offer, importableName, location, eachLocation, calculateBestPathLocal, orLocal, findPathForModuleLocal}
+use Rattle.find_path.specs.Local.{LocalSearch, offerEntry, importableName, location, eachLocation, calculateBestPathLocal, orLocal, findPathForModuleLocal}
 use Rattle.find_path.specs.Meters.{Charged, go, stop, Charge}
 use Rattle.find_path.specs.Charged.{Out, Search, Inner, isStable, langs, oneOrNone, variantOf, offerImport, findImport, findImports, findInDep, findInDeps, findInSysroot, goOn, afterCharge, calculateBestPath, orCharged, findPathForModule, afterEnum, viaEnum, orEnum, byName, ofModule, findPathInner}
 use Rattle.find_path.specs.Search.{localTo, searchLocal, bestLocal, moduleTo, searchModule, itemTo, searchItem}
@@ -38,10 +36,10 @@ AgreeLocal left f g = (j : ℕ) (ls : List Level) (m : ℕ) → j < left → f j
 
 module _ (s : Snapshot) (x : FindPathCtx) where
   module _ (left : ℕ) (f g : LocalSearch) (pos : 0 < left) (agree : AgreeLocal left f g) where
-    location-same : (ls : List Level) (best : Choice) (m : ℕ) (a : Answer) → location s x f left ls best m a ≡ location s x g left ls best m a
+    location-same : (ls : List Level) (best : Choice) (m : ℕ) (a : Option Scope) → location s x f left ls best m a ≡ location s x g left ls best m a
     unfolding location
-    location-same ls best m Nothing = refl
-    location-same ls best m (Name n) = ap (λ (c : Choice). offer s x best c n) (agree _ ls m (length-falls left _ pos))
+    location-same ls best m none = refl
+    location-same ls best m (some e) = ap (λ (c : Choice). offerEntry s x best c e) (agree _ ls m (length-falls left _ pos))
 
     each-same : (ls : List Level) (item : Item) (done : List ℕ) (best : Choice) (ms : List ℕ)
         → eachLocation s x f left ls item done best ms ≡ eachLocation s x g left ls item done best ms
@@ -169,7 +167,7 @@ module _ (M : Type 0) (charge : Charge M) (s : Snapshot) (x : FindPathCtx) where
     unfolding viaEnum
     via-same t none e = refl
     via-same t (some v) e =
-        ap (λ (o : Out M). afterEnum M charge s x here rec item (v .second) o (o .choice .found)) (agree v t e)
+        ap (λ (o : Out M). afterEnum M charge s x here rec item v o (o .choice .found)) (agree v t e)
 
     or-enum-same : (t : M) (c : Choice) (b : Bool) → orEnum M charge s x here rec f item t c b ≡ orEnum M charge s x here rec g item t c b
     unfolding orEnum

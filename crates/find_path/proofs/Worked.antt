@@ -22,13 +22,13 @@ use Rattle.hir_def.specs.ImportMap.{importInfoFor}
 use Rattle.find_path.specs.declared.Question.{Question}
 use Rattle.find_path.specs.Choices.{nameData, isPrelude, pathKindLen, pathLen, keyword, choiceNew, extended, push, unstably, compareBool, andThen, comparePrelude, taken, better, trySelect, shorterIf, lengthLeft}
 use Rattle.find_path.specs.Walk.{has, visited, startFrom, leadsTo, unmet, walk, findLocalImportLocations}
-use Rattle.find_path.specs.Rules.{prefixPathKind, plainIf, moduleIn, contextOf, soughtOf, firstFound, entryName, single, findInScope, mayBeInScope, scopeRule, sameHere, preludeEntry, inPrelude, findInPrelude, preludeRule, externKind, externName, rootRule, parentKind, isKwKindRelativeToFrom, keywordOf, moduleRules}
-use Rattle.find_path.specs.Local.{offer, nameIf, importableName, location, eachLocation, calculateBestPathLocal, orLocal, findPathForModuleLocal}
+use Rattle.find_path.specs.Rules.{prefixPathKind, plainIf, moduleIn, contextOf, soughtOf, firstFound, single, findInScope, mayBeInScope, scopeRule, sameHere, preludeEntry, inPrelude, findInPrelude, preludeRule, externKind, externName, rootRule, parentKind, isKwKindRelativeToFrom, keywordOf, moduleRules}
+use Rattle.find_path.specs.Local.{offer, offerEntry, entryIf, importableName, location, eachLocation, calculateBestPathLocal, orLocal, findPathForModuleLocal}
 use Rattle.find_path.specs.Meters.{drained, draw, fromTank, filled}
-use Rattle.find_path.specs.Charged.{langs, oneOrNone, isAt, variantOf, offerImport, findImport, findImports, findInDep, findInDeps, findInSysroot, goOn, afterCharge, calculateBestPath, orCharged, findPathForModule, afterEnum, viaEnum, orEnum, byName, ofModule, findPathInner}
-use Rattle.find_path.specs.Search.{localTo, searchLocal, bestLocal, moduleTo, searchModule, itemTo, searchItem, fromHome, fromItem, findPath}
+use Rattle.find_path.specs.Charged.{langs, oneOrNone, isAt, variantOf, pushVariant, offerImport, findImport, findImports, findInDep, findInDeps, findInSysroot, goOn, afterCharge, calculateBestPath, orCharged, findPathForModule, afterEnum, viaEnum, orEnum, byName, ofModule, findPathInner}
+use Rattle.find_path.specs.Search.{builtinChoice, localTo, searchLocal, bestLocal, moduleTo, searchModule, itemTo, searchItem, fromHome, fromItem, findPath}
 use Rattle.find_path.specs.Report.{callFault, questionFault, refused, flag, reported, searched, answerUnless, reportBy, reportUnless, reportOf}
-use Rattle.find_path.specs.Line.{bytesOf, unpacked, textOf, editionIn, writtenOf, decimalTo, decimal, joined, prefixParts, pathText, lineParts, lineIn, snapshotOf, lineOf}
+use Rattle.find_path.specs.Line.{bytesOf, unpacked, textOf, editionIn, writtenOf, decimalTo, decimal, joined, prefixParts, pathText, lineParts, lineIn, stepText, stepsText, routeText, routedLineIn, snapshotOf, lineOf, routedLineOf}
 
 pub record Row : Type 0 where
   pub question : Question
@@ -45,7 +45,7 @@ row d ns m p o f l = rowAt d ns m p o f 15 l
 
 -- the lines are those of the questions
 unfoldable pub passes : List ℕ → List Row → Bool
-unfolding lineOf snapshotOf lineIn lineParts pathText prefixParts joined decimal decimalTo writtenOf editionIn isRaw isKeyword textOf unpacked reportOf reportUnless reportBy answerUnless searched reported flag refused questionFault callFault findPath fromItem fromHome searchItem itemTo searchModule moduleTo bestLocal searchLocal localTo findPathInner ofModule byName orEnum viaEnum afterEnum findPathForModule orCharged calculateBestPath afterCharge goOn findInSysroot findInDeps findInDep findImports findImport offerImport isAt variantOf oneOrNone langs fromTank filled draw drained findPathForModuleLocal orLocal calculateBestPathLocal eachLocation location importableName nameIf offer moduleRules keywordOf isKwKindRelativeToFrom parentKind rootRule externName externKind occupied isOther scopeEntry entryNamed preludeRule findInPrelude inPrelude preludeEntry sameHere scopeRule mayBeInScope findInScope single entryName firstFound soughtOf contextOf moduleIn plainIf prefixPathKind findLocalImportLocations walk unmet leadsTo startFrom visited has lengthLeft shorterIf trySelect better taken comparePrelude andThen compareBool unstably push extended choiceNew keyword pathLen pathKindLen isPrelude nameData importInfoFor sysrootFirst langOf dependenciesOf externOf preludeOf childrenOf containers ancestorMaps steps stepsTo stepsOr modulesInScope get preferred orFirst namesOf nameOf isFor isVisibleFrom inModule climb climbStep unless met metTo metOr last lastTo lastOr homeOf homeBy nsOf sameItem itemOf containing orElse crateRoot ownMap rootOf crateData definitionOf mapOf moduleOf firstSome select placeOf firstOf verdict records stepAt recordStep finish argumentsFrom argumentsOf nameStep crateStep dependencyStep mapStep moduleStep childStep preludeStep definitionStep scopeStep importStep externStep textBound padded rows any all eqList
+unfolding lineOf snapshotOf lineIn lineParts pathText prefixParts joined decimal decimalTo writtenOf editionIn isRaw isKeyword textOf unpacked reportOf reportUnless reportBy answerUnless searched reported flag refused questionFault callFault findPath fromItem builtinChoice fromHome searchItem itemTo searchModule moduleTo bestLocal searchLocal localTo findPathInner ofModule byName orEnum viaEnum afterEnum findPathForModule orCharged calculateBestPath afterCharge goOn findInSysroot findInDeps findInDep findImports findImport offerImport pushVariant isAt variantOf oneOrNone langs fromTank filled draw drained findPathForModuleLocal orLocal calculateBestPathLocal eachLocation location importableName entryIf offerEntry offer moduleRules keywordOf isKwKindRelativeToFrom parentKind rootRule externName externKind occupied isOther scopeEntry entryNamed preludeRule findInPrelude inPrelude preludeEntry sameHere scopeRule mayBeInScope findInScope single firstFound soughtOf contextOf moduleIn plainIf prefixPathKind findLocalImportLocations walk unmet leadsTo startFrom visited has lengthLeft shorterIf trySelect better taken comparePrelude andThen compareBool unstably push extended choiceNew keyword pathLen pathKindLen isPrelude nameData importInfoFor sysrootFirst langOf dependenciesOf externOf preludeOf childrenOf containers ancestorMaps steps stepsTo stepsOr modulesInScope get preferred orFirst namesOf nameOf isFor isVisibleFrom inModule climb climbStep unless met metTo metOr last lastTo lastOr homeOf homeBy nsOf sameItem itemOf containing orElse crateRoot ownMap rootOf crateData definitionOf mapOf moduleOf firstSome select placeOf firstOf verdict records stepAt recordStep finish argumentsFrom argumentsOf nameStep crateStep dependencyStep mapStep moduleStep childStep preludeStep definitionStep scopeStep importStep externStep textBound padded rows any all eqList
 passes words table = all (λ r. eqList (lineOf words (r .question)) (bytesOf (r .line))) table
 
 -- module 0 is the root, module 1 its child `a`, definition 0 the module `a`, definition 1 a function `f` in it
@@ -363,7 +363,7 @@ first d ns m o f left sought =
 
 -- the reports say empty, and tell that
 unfoldable pub tells : List ℕ → List First → Bool
-unfolding reportOf reportUnless reportBy answerUnless searched reported flag refused questionFault callFault findPath fromItem fromHome searchItem itemTo searchModule moduleTo bestLocal searchLocal localTo findPathInner ofModule byName orEnum viaEnum afterEnum findPathForModule orCharged calculateBestPath afterCharge goOn findInSysroot findInDeps findInDep findImports findImport offerImport isAt variantOf oneOrNone langs fromTank filled draw drained findPathForModuleLocal orLocal calculateBestPathLocal eachLocation location importableName nameIf offer moduleRules keywordOf isKwKindRelativeToFrom parentKind rootRule externName externKind occupied isOther scopeEntry entryNamed preludeRule findInPrelude inPrelude preludeEntry sameHere scopeRule mayBeInScope findInScope single entryName firstFound soughtOf contextOf moduleIn plainIf prefixPathKind findLocalImportLocations walk unmet leadsTo startFrom visited has lengthLeft shorterIf trySelect better taken comparePrelude andThen compareBool unstably push extended choiceNew keyword pathLen pathKindLen isPrelude nameData importInfoFor sysrootFirst langOf dependenciesOf externOf preludeOf childrenOf containers ancestorMaps steps stepsTo stepsOr modulesInScope get preferred orFirst namesOf nameOf isFor isVisibleFrom inModule climb climbStep unless met metTo metOr last lastTo lastOr homeOf homeBy nsOf sameItem itemOf containing orElse crateRoot ownMap rootOf crateData definitionOf mapOf moduleOf firstSome select placeOf firstOf verdict records stepAt recordStep finish argumentsFrom argumentsOf nameStep crateStep dependencyStep mapStep moduleStep childStep preludeStep definitionStep scopeStep importStep externStep textBound padded rows any all eqList
+unfolding reportOf reportUnless reportBy answerUnless searched reported flag refused questionFault callFault findPath fromItem builtinChoice fromHome searchItem itemTo searchModule moduleTo bestLocal searchLocal localTo findPathInner ofModule byName orEnum viaEnum afterEnum findPathForModule orCharged calculateBestPath afterCharge goOn findInSysroot findInDeps findInDep findImports findImport offerImport pushVariant isAt variantOf oneOrNone langs fromTank filled draw drained findPathForModuleLocal orLocal calculateBestPathLocal eachLocation location importableName entryIf offerEntry offer moduleRules keywordOf isKwKindRelativeToFrom parentKind rootRule externName externKind occupied isOther scopeEntry entryNamed preludeRule findInPrelude inPrelude preludeEntry sameHere scopeRule mayBeInScope findInScope single firstFound soughtOf contextOf moduleIn plainIf prefixPathKind findLocalImportLocations walk unmet leadsTo startFrom visited has lengthLeft shorterIf trySelect better taken comparePrelude andThen compareBool unstably push extended choiceNew keyword pathLen pathKindLen isPrelude nameData importInfoFor sysrootFirst langOf dependenciesOf externOf preludeOf childrenOf containers ancestorMaps steps stepsTo stepsOr modulesInScope get preferred orFirst namesOf nameOf isFor isVisibleFrom inModule climb climbStep unless met metTo metOr last lastTo lastOr homeOf homeBy nsOf sameItem itemOf containing orElse crateRoot ownMap rootOf crateData definitionOf mapOf moduleOf firstSome select placeOf firstOf verdict records stepAt recordStep finish argumentsFrom argumentsOf nameStep crateStep dependencyStep mapStep moduleStep childStep preludeStep definitionStep scopeStep importStep externStep textBound padded rows any all eqList
 tells words table =
     all (λ r. eqList (reportOf words 16384 (r .question) .empty ∷ reportOf words 16384 (r .question) .left ∷ reportOf words 16384 (r .question) .sought ∷ [])
     (1 ∷ r .left ∷ r .sought ∷ [])) table
@@ -504,3 +504,89 @@ dependencyLimits =
 pub dependency-limits : passes withDependency dependencyLimits ≡ true
 unfolding passes dependencyLimits rowAt withDependency named head
 dependency-limits = refl
+
+-- Lines with their routes. The offsets were counted in the words by hand.
+
+unfoldable pub routes : List ℕ → List Row → Bool
+unfolding routedLineOf routedLineIn routeText stepsText stepText snapshotOf lineIn lineParts pathText prefixParts joined decimal decimalTo writtenOf editionIn isRaw isKeyword textOf unpacked reportOf reportUnless reportBy answerUnless searched reported flag refused questionFault callFault findPath fromItem builtinChoice fromHome searchItem itemTo searchModule moduleTo bestLocal searchLocal localTo findPathInner ofModule byName orEnum viaEnum afterEnum findPathForModule orCharged calculateBestPath afterCharge goOn findInSysroot findInDeps findInDep findImports findImport offerImport pushVariant isAt variantOf oneOrNone langs fromTank filled draw drained findPathForModuleLocal orLocal calculateBestPathLocal eachLocation location importableName entryIf offerEntry offer moduleRules keywordOf isKwKindRelativeToFrom parentKind rootRule externName externKind occupied isOther scopeEntry entryNamed preludeRule findInPrelude inPrelude preludeEntry sameHere scopeRule mayBeInScope findInScope single firstFound soughtOf contextOf moduleIn plainIf prefixPathKind findLocalImportLocations walk unmet leadsTo startFrom visited has lengthLeft shorterIf trySelect better taken comparePrelude andThen compareBool unstably push extended choiceNew keyword pathLen pathKindLen isPrelude nameData importInfoFor sysrootFirst langOf dependenciesOf externOf preludeOf childrenOf containers ancestorMaps steps stepsTo stepsOr modulesInScope get preferred orFirst namesOf nameOf isFor isVisibleFrom inModule climb climbStep unless met metTo metOr last lastTo lastOr homeOf homeBy nsOf sameItem itemOf containing orElse crateRoot ownMap rootOf crateData definitionOf mapOf moduleOf firstSome select placeOf firstOf verdict records stepAt recordStep finish argumentsFrom argumentsOf nameStep crateStep dependencyStep mapStep moduleStep childStep preludeStep definitionStep scopeStep importStep externStep textBound padded rows any all eqList
+routes words table = all (λ r. eqList (routedLineOf words (r .question)) (bytesOf (r .line))) table
+
+pub workedRoutes : List Row
+workedRoutes =
+    row 1 1 0 1 0 1 "found a::f 1 0 scope@21 local@28"
+    -- a prefix comes with the first name
+    ∷ row 1 1 0 0 0 9 "found self::a::f 1 0 scope@21 local@28"
+    ∷ row 1 1 0 2 0 9 "found crate::a::f 1 0 scope@21 local@28"
+    ∷ row 1 1 1 1 0 0 "found f 0 0 scope@28"
+    -- a keyword without names
+    ∷ row 1 1 1 2 0 9 "found crate::a::f 1 0 keyword@0 local@21 local@28"
+    ∷ row 0 0 1 1 0 9 "found self 0 0 keyword@0"
+    ∷ row 0 0 1 2 0 9 "found crate::a 1 0 keyword@0 local@21"
+    -- no path, no route
+    ∷ row 1 1 0 1 0 0 "none - 0 1"
+    ∷ row 2 0 0 1 0 9 "refused 23 0 0"
+    ∷ []
+
+pub worked-routes : routes worked workedRoutes ≡ true
+unfolding routes workedRoutes rowAt
+worked-routes = refl
+
+pub dependencyRoutes : List Row
+dependencyRoutes =
+    row 2 0 0 1 0 9 "found alias::inner::T 2 0 extern@213 import@132 import@126"
+    ∷ row 2 0 0 2 4 9 "found ::alias::inner::T 2 0 extern@213 import@132 import@126"
+    ∷ row 2 0 1 0 0 0 "found self::alias 0 0 scope@105"
+    -- a variant by its own definition, or by an import
+    ∷ row 3 1 0 1 0 2 "found alias::inner::T::V 2 0 extern@213 import@132 import@126 variant@62"
+    ∷ row 13 1 0 1 0 9 "found alias::H 2 0 extern@213 import@192"
+    ∷ row 4 0 0 1 0 0 "found alias 0 0 extern@213"
+    ∷ row 6 0 0 1 8 9 "found alias::U 1 0 extern@213 import@138"
+    -- of two imports the one that was chosen
+    ∷ row 7 0 0 1 0 9 "found alias::W 2 0 extern@213 import@150"
+    ∷ row 10 0 0 1 8 9 "found alias::inner::dep 3 0 extern@213 import@132 import@174"
+    ∷ row 5 0 0 1 0 0 "found u8 0 0 builtin@68"
+    ∷ []
+
+pub dependency-routes : routes withDependency dependencyRoutes ≡ true
+unfolding routes dependencyRoutes rowAt withDependency named head
+dependency-routes = refl
+
+pub stdRoutes : List Row
+stdRoutes =
+    row 0 0 0 1 0 9 "found core::O 1 0 extern@99 import@69"
+    ∷ row 0 0 3 1 0 9 "found std::O 1 0 extern@102 import@75"
+    ∷ row 2 0 3 1 0 0 "found P 0 0 prelude@62"
+    ∷ []
+
+pub std-routes : routes withStd stdRoutes ≡ true
+unfolding routes stdRoutes rowAt withStd named head
+std-routes = refl
+
+pub moduleRoutes : List Row
+moduleRoutes =
+    row 6 0 0 1 0 9 "found a::x 1 0 scope@141 local@183"
+    ∷ row 13 0 1 1 0 9 "found inner::y 1 0 scope@169 local@288"
+    ∷ row 13 0 1 0 0 9 "found crate::x 1 0 keyword@0 local@295"
+    ∷ row 0 0 5 1 0 0 "found super 0 0 keyword@0"
+    ∷ row 14 0 7 1 0 0 "found s 0 0 scope@302"
+    ∷ row 20 0 1 1 0 9 "found y 0 0 scope@351"
+    ∷ row 18 0 1 1 0 0 "found w 0 0 prelude@337"
+    ∷ row 18 0 0 1 0 9 "found a::e::w 1 0 scope@141 local@176 local@337"
+    ∷ []
+
+pub module-routes : routes withModules moduleRoutes ≡ true
+unfolding routes moduleRoutes rowAt withModules named head
+module-routes = refl
+
+pub oldNameRoutes : List Row
+oldNameRoutes =
+    row 2 0 0 1 0 0 "found old 0 0 scope@77"
+    ∷ row 2 0 0 1 32 0 "found new 0 0 scope@84"
+    ∷ row 3 0 0 1 32 0 "found z 0 0 prelude@112"
+    ∷ row 4 0 0 1 0 9 "found m::old 1 0 scope@63 local@119"
+    ∷ row 4 0 0 1 32 9 "found m::new 1 0 scope@63 local@126"
+    ∷ []
+
+pub old-name-routes : routes withOldNames oldNameRoutes ≡ true
+unfolding routes oldNameRoutes rowAt withOldNames named head
+old-name-routes = refl

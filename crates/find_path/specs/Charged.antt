@@ -14,7 +14,7 @@ use Rattle.find_path.specs.declared.Choice.{Choice}
 use Rattle.find_path.specs.declared.Tank.{Tank}
 use Rattle.find_path.specs.declared.Found.{Found}
 use Rattle.find_path.specs.declared.FindPathCtx.{FindPathCtx}
-use Rattle.find_path.specs.Choices.{nothing, push, unstably, lengthLeft}
+use Rattle.find_path.specs.Choices.{viaVariant, viaImport, stepBy, nothing, push, unstably, lengthLeft}
 use Rattle.find_path.specs.Rules.{soughtOf, firstFound, scopeRule, preludeRule, moduleRules}
 use Rattle.find_path.specs.Local.{offer}
 use Rattle.find_path.specs.Meters.{Charged, Charge, go, stop}
@@ -58,13 +58,17 @@ unfoldable pub variantOf : Snapshot → Item → Option Definition
 variantOf s (Mod m) = none
 variantOf s (Def ns d) = elim (eqb (definitionOf s d .kind) variantKind) [ true ↦ some (definitionOf s d) | false ↦ none ]
 
+-- a variant's name after the path of its enum
+unfoldable pub pushVariant : Snapshot → Choice → Definition → Choice
+pushVariant s c v = push s c (v .second) (stepBy viaVariant (v .place))
+
 module _ (s : Snapshot) (x : FindPathCtx) where
   -- an unstable import is offered only where it is allowed, and makes the choice unstable
   unfoldable pub offerImport : Choice → Choice → Import → Choice
   offerImport best c i =
       elim (isUnstable i) [
-        | true ↦ elim (x .unstable) [ true ↦ offer s x best (unstably c) (i .name) | false ↦ best ]
-        | false ↦ offer s x best c (i .name)
+        | true ↦ elim (x .unstable) [ true ↦ offer s x best (unstably c) (i .name) (stepBy viaImport (i .place)) | false ↦ best ]
+        | false ↦ offer s x best c (i .name) (stepBy viaImport (i .place))
       ]
 
 -- `here` is the local search
@@ -120,16 +124,16 @@ module _ (M : Type 0) (charge : Charge M) (s : Snapshot) (x : FindPathCtx) (here
   findPathForModule rec zero m t = record { choice = nothing; meter = t }
   findPathForModule rec (suc l) m t = orCharged rec (suc l) m t (moduleRules s x true m) (moduleRules s x true m .found)
 
-  unfoldable pub afterEnum : Search M → Item → ℕ → Out M → Bool → Out M
-  afterEnum rec item name o true = record { choice = push s (o .choice) name; meter = o .meter }
-  afterEnum rec item name o false = calculateBestPath rec (x .limit) item (o .meter)
+  unfoldable pub afterEnum : Search M → Item → Definition → Out M → Bool → Out M
+  afterEnum rec item v o true = record { choice = pushVariant s (o .choice) v; meter = o .meter }
+  afterEnum rec item v o false = calculateBestPath rec (x .limit) item (o .meter)
 
   -- a variant is its enum's path and its name, else searched like any other item, with the meter that its enum left
   unfoldable pub viaEnum : Search M → Inner M → Item → M → Option Definition → Out M
   viaEnum rec inner item t none = calculateBestPath rec (x .limit) item t
   viaEnum rec inner item t (some v) =
       let o = inner (itemOf s types (v .first)) t in
-      afterEnum rec item (v .second) o (o .choice .found)
+      afterEnum rec item v o (o .choice .found)
 
   unfoldable pub orEnum : Search M → Inner M → Item → M → Choice → Bool → Out M
   orEnum rec inner item t c true = record { choice = c; meter = t }

@@ -1,5 +1,5 @@
 -- `Choice`, `push`, `try_select`, and the lengths of a path.
-use Prim.Native.Nat.{ℕ, _+_, _-_, min, compare, Ordering, Ordering·lt, Ordering·eq, Ordering·gt}
+use Prim.Native.Nat.{ℕ, _+_, _-_, _*_, min, compare, Ordering, Ordering·lt, Ordering·eq, Ordering·gt}
 use mathlib.Core.List.{[], _∷_}
 use mathlib.Core.Bool.{Bool, true, false, _&&_, _||_}
 use lib.Dec.{eqb, ltb}
@@ -44,17 +44,74 @@ pathKindLen k = getD (0 ∷ 4 ∷ 5 ∷ 5 ∷ 2 ∷ []) k 0
 unfoldable pub pathLen : Choice → ℕ
 pathLen c = getD (0 ∷ 0 ∷ 1 ∷ 1 ∷ 0 ∷ []) (c .kind) 0 + c .count
 
+-- the rules of a route: a builtin, the scope, the prelude, an extern, a keyword without names; then a variant after its enum, a scope entry of
+-- a local search, an import
+
+abbrev pub viaBuiltin : ℕ
+viaBuiltin = 0
+
+abbrev pub viaScope : ℕ
+viaScope = 1
+
+abbrev pub viaPrelude : ℕ
+viaPrelude = 2
+
+abbrev pub viaExtern : ℕ
+viaExtern = 3
+
+abbrev pub viaKeyword : ℕ
+viaKeyword = 4
+
+abbrev pub viaVariant : ℕ
+viaVariant = 5
+
+abbrev pub viaLocal : ℕ
+viaLocal = 6
+
+abbrev pub viaImport : ℕ
+viaImport = 7
+
+-- a step of a route: the rule, and the place of the record used, 0 for a keyword
+abbrev pub stepBy : ℕ → ℕ → ℕ
+stepBy rule place = place * 8 + rule
+
+-- every place is below 16,384
+abbrev pub stepLimit : ℕ
+stepLimit = 131072
+
 -- no path
 abbrev pub nothing : Choice
-nothing = record { found = false; kind = 0; names = replicate 16 0; count = 0; text = 0; stable = false; prelude = false }
+nothing =
+    record {
+      found = false;
+      kind = 0;
+      names = replicate 16 0;
+      count = 0;
+      text = 0;
+      stable = false;
+      prelude = false;
+      route = replicate 17 0;
+      steps = 0;
+    }
 
 -- a keyword without names
 unfoldable pub keyword : ℕ → Choice
-keyword k = record { found = true; kind = k; names = replicate 16 0; count = 0; text = pathKindLen k; stable = true; prelude = false }
+keyword k =
+    record {
+      found = true;
+      kind = k;
+      names = replicate 16 0;
+      count = 0;
+      text = pathKindLen k;
+      stable = true;
+      prelude = false;
+      route = set (replicate 17 0) 0 (stepBy viaKeyword 0);
+      steps = 1;
+    }
 
--- `Choice::new`: one name, stable
-unfoldable pub choiceNew : Snapshot → ℕ → ℕ → Choice
-choiceNew s k n =
+-- `Choice::new`: one name, stable; t is its step
+unfoldable pub choiceNew : Snapshot → ℕ → ℕ → ℕ → Choice
+choiceNew s k n t =
     record {
       found = true;
       kind = k;
@@ -63,11 +120,13 @@ choiceNew s k n =
       text = pathKindLen k + nameLen s n;
       stable = true;
       prelude = isPrelude s n;
+      route = set (replicate 17 0) 0 t;
+      steps = 1;
     }
 
--- one name more, with a flag given for `prelude`
-unfoldable pub extended : Snapshot → Choice → ℕ → Bool → Choice
-extended s c n flag =
+-- one name more, by a step t, with a flag given for `prelude`
+unfoldable pub extended : Snapshot → Choice → ℕ → ℕ → Bool → Choice
+extended s c n t flag =
     record {
       found = true;
       kind = c .kind;
@@ -76,11 +135,13 @@ extended s c n flag =
       text = c .text + nameLen s n;
       stable = c .stable;
       prelude = flag;
+      route = set (c .route) (c .steps) t;
+      steps = c .steps + 1;
     }
 
 -- `Choice::push`
-unfoldable pub push : Snapshot → Choice → ℕ → Choice
-push s c n = extended s c n (c .prelude || isPrelude s n)
+unfoldable pub push : Snapshot → Choice → ℕ → ℕ → Choice
+push s c n t = extended s c n t (c .prelude || isPrelude s n)
 
 -- the choice, unstable
 unfoldable pub unstably : Choice → Choice
@@ -93,6 +154,8 @@ unstably c =
       text = c .text;
       stable = false;
       prelude = c .prelude;
+      route = c .route;
+      steps = c .steps;
     }
 
 -- `bool::cmp`
@@ -129,11 +192,11 @@ better s prefer current other n =
     (ltb (other .text + nameLen s n) (current .text))
 
 -- `Choice::try_select`: the first choice counts its last name for `prelude`, a later one does not
-unfoldable pub trySelect : Snapshot → Bool → Choice → Choice → ℕ → Choice
-trySelect s prefer current other n =
+unfoldable pub trySelect : Snapshot → Bool → Choice → Choice → ℕ → ℕ → Choice
+trySelect s prefer current other n t =
     elim (current .found) [
-      | true ↦ elim (better s prefer current other n) [ true ↦ extended s other n (other .prelude) | false ↦ current ]
-      | false ↦ push s other n
+      | true ↦ elim (better s prefer current other n) [ true ↦ extended s other n t (other .prelude) | false ↦ current ]
+      | false ↦ push s other n t
     ]
 
 -- The length left for a step: one less than the caller's, or than the length of the choice so far if that is smaller.

@@ -3,14 +3,17 @@ use Prim.Native.Nat.{ℕ, _≤_, _<_}
 use mathlib.Core.Path.{_≡_}
 use mathlib.Core.List.{List}
 use lib.ListN.{length, take}
+use Rattle.snapshot.specs.Records.{scopeAt}
 use Rattle.snapshot.specs.Layouts.{tableWords}
 use Rattle.snapshot.specs.declared.layout.Layout.{Layout}
+use Rattle.accept.specs.Stands.{countsIn}
 use Rattle.accept.specs.Post.{Reads}
+use Rattle.accept.specs.Valid.{ScopeFits}
 use Rattle.hir_def.specs.Items.{nsOf}
 use Rattle.hir_def.specs.Entries.{Known}
 use Rattle.hir_def.specs.declared.Item.{Item}
-use Rattle.hir_def.specs.declared.Answer.{Answer}
-use Rattle.hir_def.specs.declared.Answer.the-variants.{Name, Nothing}
+use Rattle.hir_def.specs.declared.Entry.{Entry}
+use Rattle.hir_def.specs.declared.Entry.the-variants.{At, Nothing}
 use Rattle.find_path.specs.declared.Choice.{Choice}
 use Rattle.find_path.specs.declared.Tank.{Tank}
 use Rattle.find_path.specs.declared.Drawn.{Drawn}
@@ -32,10 +35,10 @@ pub record Prepared (W A : List ℕ) (l : Layout) (x : FindPathCtx) : Type 0 whe
 abbrev pub Asked : Layout → Item → Type 0
 Asked l item = Known l item × (nsOf item ≤ 2)
 
--- a name that is answered is there
-abbrev pub Named : Layout → Answer → Type 0
-Named l (Name n) = n < l .names
-Named l Nothing = Unit {0}
+-- a scope entry that is answered is in range
+abbrev pub EntryFits : List ℕ → Layout → Entry → Type 0
+EntryFits W l (At h) = ScopeFits (countsIn l) (scopeAt W h)
+EntryFits W l Nothing = Unit {0}
 
 -- what the code's charge answers, as the meter's
 unfoldable pub chargedBy : Drawn → Charged Tank

@@ -3,13 +3,14 @@ use mathlib.Core.Path.{_≡_}
 use mathlib.Core.List.{List}
 use mathlib.Core.Bool.{not}
 use mathlib.Core.Logic.{_↔_}
-use Prim.Native.Nat.{ℕ, min, _≤_, _<_}
+use Prim.Native.Nat.{ℕ, _+_, min, _≤_, _<_}
 use lib.ListN.{length, getD}
 use Rattle.snapshot.specs.Limits.{moduleLimit, nameLimit, pathLimit, fuelLimit}
 use Rattle.snapshot.specs.Records.{Snapshot}
 use Rattle.accept.specs.Verdict.{accept, verdict}
 use Rattle.find_path.specs.declared.Query.{Query}
 use Rattle.find_path.specs.declared.Report.{Report}
+use Rattle.find_path.specs.Choices.{stepLimit}
 use Rattle.find_path.specs.Meters.{Spot}
 use Rattle.find_path.specs.Charged.{Out}
 use Rattle.find_path.specs.Report.{flag, searchedFreely, reportOf}
@@ -29,6 +30,11 @@ pub record Bounded (fuel : ℕ) (r : Report) : Type 0 where
   pub rest : (i : ℕ) → r .count ≤ i → getD (r .names) i 0 ≡ 0
   pub charges : r .charges ≤ fuel
   pub flagged : r .empty ≤ 1
+  -- a step for each name, and one more after a keyword; the steps past them are zero
+  pub each : r .count ≤ r .steps
+  pub once : r .steps ≤ r .count + 1
+  pub wide : length (r .route) ≡ 17
+  pub past : (i : ℕ) → r .steps ≤ i → getD (r .route) i 0 ≡ 0
   -- nothing is told of a first empty tank where none was
   pub untold : r .empty ≡ 0 → (r .left ≡ 0) × (r .sought ≡ 0)
 
@@ -45,6 +51,8 @@ pub record Small (r : Report) : Type 0 where
   pub charges : r .charges ≤ fuelLimit
   pub left : r .left ≤ pathLimit
   pub sought : r .sought ≤ moduleLimit
+  pub route : (i : ℕ) → getD (r .route) i 0 < stepLimit
+  pub steps : r .steps ≤ 17
 
 -- the report has the path of the search without a tank, or none where it has none
 pub record Shows (free : Out ℕ) (r : Report) : Type 0 where
@@ -52,6 +60,8 @@ pub record Shows (free : Out ℕ) (r : Report) : Type 0 where
   pub kind : r .kind ≡ free .choice .kind
   pub names : r .names ≡ free .choice .names
   pub count : r .count ≡ free .choice .count
+  pub route : r .route ≡ free .choice .route
+  pub steps : r .steps ≡ free .choice .steps
 
 abbrev pub noSpot : Spot
 noSpot = record { left = 0; sought = 0 }

@@ -5,7 +5,7 @@ use Prim.Native.String.{String}
 use mathlib.Core.List.{List, [], _∷_, _++_, map}
 use mathlib.Core.Bool.{true, false}
 use lib.Dec.{eqb, ltb}
-use lib.ListN.{length, take}
+use lib.ListN.{length, getD, take}
 use Rattle.snapshot.specs.Limits.{areaLimit}
 use Rattle.snapshot.specs.Records.{Snapshot}
 use Rattle.keywords.specs.Keywords.{isRaw}
@@ -83,6 +83,29 @@ lineParts s e r =
 unfoldable pub lineIn : Snapshot → ℕ → Report → List ℕ
 lineIn s from r = joined (bytesOf " ") (lineParts s (editionIn s from) r ++ (decimal (r .charges) ∷ decimal (r .empty) ∷ []))
 
+-- the names of the rules, by their numbers
+abbrev pub ruleNames : List (List ℕ)
+ruleNames =
+    bytesOf "builtin" ∷ bytesOf "scope" ∷ bytesOf "prelude" ∷ bytesOf "extern" ∷ bytesOf "keyword" ∷ bytesOf "variant" ∷ bytesOf "local"
+    ∷ bytesOf "import" ∷ []
+
+-- a step: the rule, and the offset of the record's head
+unfoldable pub stepText : ℕ → List ℕ
+stepText t = getD ruleNames (t % 8) [] ++ (bytesOf "@" ++ decimal (t / 8))
+
+-- each after a space
+unfoldable pub stepsText : List ℕ → List ℕ
+stepsText [] = []
+stepsText (t ∷ ts) = bytesOf " " ++ (stepText t ++ stepsText ts)
+
+-- the steps of a path that is found
+unfoldable pub routeText : Report → List ℕ
+routeText r = elim (eqb (r .outcome) 0) [ true ↦ stepsText (take (r .steps) (r .route)) | false ↦ [] ]
+
+-- the line with the route
+unfoldable pub routedLineIn : Snapshot → ℕ → Report → List ℕ
+routedLineIn s from r = lineIn s from r ++ routeText r
+
 -- the snapshot whose names are printed; a refused one has none
 unfoldable pub snapshotOf : Verdict → Snapshot
 snapshotOf (refuse n place) = empty
@@ -91,3 +114,7 @@ snapshotOf (accept s) = s
 -- the line of a question on the words of a snapshot, with a work area that serves
 unfoldable pub lineOf : List ℕ → Question → List ℕ
 lineOf words q = lineIn (snapshotOf (verdict words)) (q .query .from) (reportOf words areaLimit q)
+
+-- the same with its route
+unfoldable pub routedLineOf : List ℕ → Question → List ℕ
+routedLineOf words q = routedLineIn (snapshotOf (verdict words)) (q .query .from) (reportOf words areaLimit q)

@@ -9,11 +9,9 @@ use Rattle.hir_def.specs.Visibility.{sees}
 use Rattle.hir_def.specs.ItemScope.{isDeclared, nameOf, preferred}
 use Rattle.hir_def.specs.declared.Item.{Item}
 use Rattle.hir_def.specs.declared.Item.the-variants.{Mod}
-use Rattle.hir_def.specs.declared.Answer.{Answer}
-use Rattle.hir_def.specs.declared.Answer.the-variants.{Name, Nothing}
 use Rattle.find_path.specs.declared.Choice.{Choice}
 use Rattle.find_path.specs.declared.FindPathCtx.{FindPathCtx}
-use Rattle.find_path.specs.Choices.{nothing, trySelect, lengthLeft}
+use Rattle.find_path.specs.Choices.{viaLocal, stepBy, nothing, trySelect, lengthLeft}
 use Rattle.find_path.specs.Walk.{Level, visited, findLocalImportLocations}
 use Rattle.find_path.specs.Rules.{moduleRules}
 
@@ -22,25 +20,28 @@ abbrev pub LocalSearch : Type 0
 LocalSearch = ℕ → List Level → ℕ → Choice
 
 module _ (s : Snapshot) (x : FindPathCtx) where
-  -- a choice for the container, if there is one, is offered with the name
-  unfoldable pub offer : Choice → Choice → ℕ → Choice
-  offer best c n = elim (c .found) [ true ↦ trySelect s (x .prelude) best c n | false ↦ best ]
+  -- a choice for the container, if there is one, is offered with the name, by a step t
+  unfoldable pub offer : Choice → Choice → ℕ → ℕ → Choice
+  offer best c n t = elim (c .found) [ true ↦ trySelect s (x .prelude) best c n t | false ↦ best ]
+
+  unfoldable pub offerEntry : Choice → Choice → Scope → Choice
+  offerEntry best c e = offer best c (e .name) (stepBy viaLocal (e .place))
 
   -- visible, and declared there or no implicitly private import
   abbrev pub isImportable : Scope → Bool
   isImportable e = sees s (x .from) e && (isDeclared e || not (eqb (e .visibility) 3))
 
-  unfoldable pub nameIf : Option Scope → Answer
-  nameIf none = Nothing
-  nameIf (some e) = elim (isImportable e) [ true ↦ Name (e .name) | false ↦ Nothing ]
+  unfoldable pub entryIf : Option Scope → Option Scope
+  entryIf none = none
+  entryIf (some e) = elim (isImportable e) [ true ↦ some e | false ↦ none ]
 
-  -- the name by which the viewer can import the item from the module; by bit 32 the first such name that isn't deprecated, if there is one
-  unfoldable pub importableName : Item → ℕ → Answer
-  importableName item m = nameIf (preferred (x .fresh) s m item isImportable (nameOf s m item))
+  -- the entry by which the viewer can import the item from the module; by bit 32 the first such one that isn't deprecated, if there is one
+  unfoldable pub importableName : Item → ℕ → Option Scope
+  importableName item m = entryIf (preferred (x .fresh) s m item isImportable (nameOf s m item))
 
-  unfoldable pub location : LocalSearch → ℕ → List Level → Choice → ℕ → Answer → Choice
-  location rec left ls best m Nothing = best
-  location rec left ls best m (Name n) = offer best (rec (lengthLeft left best) ls m) n
+  unfoldable pub location : LocalSearch → ℕ → List Level → Choice → ℕ → Option Scope → Choice
+  location rec left ls best m none = best
+  location rec left ls best m (some e) = offerEntry best (rec (lengthLeft left best) ls m) e
 
   -- Each location in turn; `done` are the modules before it. While m is searched, (item, m) and those are visited.
   unfoldable pub eachLocation : LocalSearch → ℕ → List Level → Item → List ℕ → Choice → List ℕ → Choice

@@ -41,13 +41,25 @@ questionFault s q =
 -- a refusal: all else is zero
 unfoldable pub refused : ℕ → Report
 refused n =
-    record { outcome = 2; number = n; kind = 0; names = replicate 16 0; count = 0; charges = 0; empty = 0; left = 0; sought = 0 }
+    record {
+      outcome = 2;
+      number = n;
+      kind = 0;
+      names = replicate 16 0;
+      count = 0;
+      charges = 0;
+      empty = 0;
+      left = 0;
+      sought = 0;
+      route = replicate 17 0;
+      steps = 0;
+    }
 
 unfoldable pub flag : Bool → ℕ
 flag true = 1
 flag false = 0
 
--- what a search found, what it was charged, and whether, and where first, it found the tank empty
+-- what a search found and how, what it was charged, and whether, and where first, it found the tank empty
 unfoldable pub reported : Out Tank → Report
 reported o =
     record {
@@ -60,6 +72,8 @@ reported o =
       empty = flag (o .meter .empty);
       left = o .meter .left;
       sought = o .meter .sought;
+      route = o .choice .route;
+      steps = o .choice .steps;
     }
 
 -- The search with a tank: the rules at the tank, which holds the fuel at first.

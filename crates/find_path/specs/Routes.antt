@@ -1,10 +1,12 @@
--- Every step of a path has its record: how a path starts, which records its names stand in, and where it ends.
+-- Every step of a path has its record: how a path starts, which records its names stand in, and where it ends. The route of a report names
+-- these very rules and records.
 use mathlib.Core.Path.{_≡_}
 use mathlib.Core.List.{List, [], _∷_, _++_, List·Memᴰ}
 use mathlib.Core.Bool.{true, false, _||_}
 use mathlib.Core.Option.{some}
 use Prim.Native.Nat.{ℕ, suc, _-_, _≤_}
-use lib.ListN.{length, take}
+use lib.ListN.{length, getD, take}
+use Rattle.snapshot.specs.Words.{kindOf}
 use Rattle.snapshot.specs.Records.{Snapshot, Definition, Scope, Import, Extern}
 use Rattle.hir_def.specs.Items.{types, builtinKind, parentOf, definitionOf, itemOf, homeOf}
 use Rattle.hir_def.specs.Visibility.{sees}
@@ -12,12 +14,12 @@ use Rattle.hir_def.specs.Nameres.{occupied, externOf}
 use Rattle.hir_def.specs.ImportMap.{isHidden, isUnstable}
 use Rattle.hir_def.specs.declared.Item.{Item}
 use Rattle.hir_def.specs.declared.Item.the-variants.{Mod}
-use Rattle.hir_def.specs.declared.Answer.the-variants.{Name}
 use Rattle.find_path.specs.declared.FindPathCtx.{FindPathCtx}
 use Rattle.find_path.specs.declared.Query.{Query}
 use Rattle.find_path.specs.declared.Report.{Report}
-use Rattle.find_path.specs.Choices.{plainPath, selfPath, superPath, cratePath}
+use Rattle.find_path.specs.Choices.{plainPath, selfPath, superPath, cratePath, viaBuiltin, viaScope, viaPrelude, viaExtern, viaKeyword, viaVariant, viaLocal, viaImport, stepBy}
 use Rattle.find_path.specs.Rules.{bit, prefixPathKind, contextOf, findInScope, findInPrelude, externKind}
+use Rattle.find_path.specs.Local.{importableName}
 use Rattle.find_path.specs.Charged.{variantOf}
 
 -- the element stands in the list
@@ -25,39 +27,53 @@ infix 50 _∈_
 abbrev pub _∈_ : {A : Type 0} → A → List A → Type 0
 a ∈ xs = List·Memᴰ a xs
 
--- A path of that kind starts with these names, and so reaches the item.
-pub data Start (s : Snapshot) (x : FindPathCtx) : ℕ → List ℕ → Item → Type 0 where
+-- A path of that kind starts with these names, by this step, and so reaches the item.
+pub data Start (s : Snapshot) (x : FindPathCtx) : ℕ → List ℕ → ℕ → Item → Type 0 where
   -- a keyword without names: the viewing module, its parent, the root of its crate
-  self : Start s x selfPath [] (Mod (x .from))
-  super : (p : ℕ) → parentOf s (x .from) ≡ suc p → Start s x superPath [] (Mod p)
-  crate : Start s x cratePath [] (Mod (x .root))
+  self : Start s x selfPath [] (stepBy viaKeyword 0) (Mod (x .from))
+  super : (p : ℕ) → parentOf s (x .from) ≡ suc p → Start s x superPath [] (stepBy viaKeyword 0) (Mod p)
+  crate : Start s x cratePath [] (stepBy viaKeyword 0) (Mod (x .root))
   -- a first name by the scope, the prelude or an extern of the viewer's crate
-  scope : (item : Item) (n : ℕ) → findInScope s x item ≡ Name n → Start s x (prefixPathKind (x .prefix)) (n ∷ []) item
-  prelude : (item : Item) (n : ℕ) → findInPrelude s x item ≡ Name n → Start s x plainPath (n ∷ []) item
-  extern : (m : ℕ) (e : Extern) → externOf s (x .krate) m ≡ some e
-      → Start s x (externKind s x (occupied s (x .from) m (e .name) || x .absolute)) (e .name ∷ []) (Mod m)
+  scope : (item : Item) (e : Scope) → e ∈ s .scopes → findInScope s x item ≡ some e
+      → Start s x (prefixPathKind (x .prefix)) (e .name ∷ []) (stepBy viaScope (e .place)) item
+  prelude : (item : Item) (e : Scope) → e ∈ s .scopes → findInPrelude s x item ≡ some e
+      → Start s x plainPath (e .name ∷ []) (stepBy viaPrelude (e .place)) item
+  extern : (m : ℕ) (e : Extern) → e ∈ s .externs → externOf s (x .krate) m ≡ some e
+      → Start s x (externKind s x (occupied s (x .from) m (e .name) || x .absolute)) (e .name ∷ []) (stepBy viaExtern (e .place)) (Mod m)
   -- a builtin is its name
-  builtin : (d : ℕ) → definitionOf s d .kind ≡ builtinKind → Start s x plainPath (definitionOf s d .first ∷ []) (itemOf s types d)
+  builtin : (d : ℕ) → definitionOf s d ∈ s .definitions → definitionOf s d .kind ≡ builtinKind
+      → Start s x plainPath (definitionOf s d .first ∷ []) (stepBy viaBuiltin (definitionOf s d .place)) (itemOf s types d)
 
--- A name leads from a module to an item.
-pub data Step (s : Snapshot) (x : FindPathCtx) : ℕ → ℕ → Item → Type 0 where
-  -- by a scope record of the module that is visible from the viewing one
-  entry : (e : Scope) → e ∈ s .scopes → sees s (x .from) e ≡ true
-      → Step s x (e .owner) (e .name) (itemOf s (e .ns) (e .definition))
+-- A name leads from a module to an item, by this step.
+pub data Step (s : Snapshot) (x : FindPathCtx) : ℕ → ℕ → ℕ → Item → Type 0 where
+  -- by the scope record of the module that the local search finds for the item, which is visible from the viewing one
+  entry : (e : Scope) → e ∈ s .scopes → importableName s x (itemOf s (e .ns) (e .definition)) (e .owner) ≡ some e → sees s (x .from) e ≡ true
+      → Step s x (e .owner) (e .name) (stepBy viaLocal (e .place)) (itemOf s (e .ns) (e .definition))
   -- by an import record in the module that is not hidden, and is stable unless the question allows others
   imported : (i : Import) → i ∈ s .imports → isHidden i ≡ false → (isUnstable i ≡ true → x .unstable ≡ true)
-      → Step s x (i .container) (i .name) (itemOf s (i .ns) (i .definition))
+      → Step s x (i .container) (i .name) (stepBy viaImport (i .place)) (itemOf s (i .ns) (i .definition))
 
--- A path of that kind with these names reaches the item: its start, and then each name leads on from the module reached so far.
-pub data Route (s : Snapshot) (x : FindPathCtx) : ℕ → List ℕ → Item → Type 0 where
-  start : {k : ℕ} {ns : List ℕ} {item : Item} → Start s x k ns item → Route s x k ns item
-  step : {k m n : ℕ} {ns : List ℕ} {item : Item} → Route s x k ns (Mod m) → Step s x m n item → Route s x k (ns ++ (n ∷ [])) item
+-- A path of that kind with these names, by these steps, reaches the item: its start, and then each name leads on from the module reached so far.
+pub data Route (s : Snapshot) (x : FindPathCtx) : ℕ → List ℕ → List ℕ → Item → Type 0 where
+  start : {k t : ℕ} {ns : List ℕ} {item : Item} → Start s x k ns t item → Route s x k ns (t ∷ []) item
+  step : {k m n t : ℕ} {ns ts : List ℕ} {item : Item} → Route s x k ns ts (Mod m) → Step s x m n t item
+      → Route s x k (ns ++ (n ∷ [])) (ts ++ (t ∷ [])) item
 
 -- A path is a route of as many names at most as the question's limit, or one to the enum of a variant and the variant's own name.
-pub data Path (s : Snapshot) (x : FindPathCtx) : ℕ → List ℕ → Item → Type 0 where
-  direct : {k : ℕ} {ns : List ℕ} {item : Item} → Route s x k ns item → length ns ≤ x .limit → Path s x k ns item
-  variant : {k : ℕ} {ns : List ℕ} {item : Item} (v : Definition) → variantOf s item ≡ some v
-      → Route s x k ns (itemOf s types (v .first)) → length ns ≤ x .limit → Path s x k (ns ++ (v .second ∷ [])) item
+pub data Path (s : Snapshot) (x : FindPathCtx) : ℕ → List ℕ → List ℕ → Item → Type 0 where
+  direct : {k : ℕ} {ns ts : List ℕ} {item : Item} → Route s x k ns ts item → length ns ≤ x .limit → Path s x k ns ts item
+  variant : {k : ℕ} {ns ts : List ℕ} {item : Item} (v : Definition) → v ∈ s .definitions → variantOf s item ≡ some v
+      → Route s x k ns ts (itemOf s types (v .first)) → length ns ≤ x .limit
+      → Path s x k (ns ++ (v .second ∷ [])) (ts ++ (stepBy viaVariant (v .place) ∷ [])) item
+
+-- the kinds of the records that the rules use
+abbrev pub ruleKind : ℕ → ℕ
+ruleKind rule = getD (8 ∷ 9 ∷ 9 ∷ 11 ∷ 0 ∷ 8 ∷ 9 ∷ 10 ∷ []) rule 0
+
+-- a step of a keyword, or one at whose place the words have the head of a record that its rule uses
+pub data Shown (W : List ℕ) : ℕ → Type 0 where
+  byKeyword : Shown W (stepBy viaKeyword 0)
+  byRecord : (rule place : ℕ) → kindOf (getD W place 0) ≡ ruleKind rule → Shown W (stepBy rule place)
 
 -- the item of a question
 abbrev pub askedItem : Snapshot → Query → Item
@@ -71,12 +87,18 @@ askedContext s q = contextOf s q (homeOf s (askedItem s q) - 1)
 abbrev pub pathNames : Report → List ℕ
 pathNames r = take (r .count) (r .names)
 
+-- its steps
+abbrev pub routeSteps : Report → List ℕ
+routeSteps r = take (r .steps) (r .route)
+
 -- What a report that found a path says of the snapshot.
 pub record Routed (s : Snapshot) (q : Query) (r : Report) : Type 0 where
-  -- its kind and names lead from the viewing module to the item
-  pub path : Path s (askedContext s q) (r .kind) (pathNames r) (askedItem s q)
+  -- its kind and names lead from the viewing module to the item, by the steps of its route
+  pub path : Path s (askedContext s q) (r .kind) (pathNames r) (routeSteps r) (askedItem s q)
   -- its names are as many as it counts
   pub count : length (pathNames r) ≡ r .count
+  -- and its steps
+  pub steps : length (routeSteps r) ≡ r .steps
   -- unstable imports are allowed by bit 8 of the options
   pub unstable : askedContext s q .unstable ≡ bit (q .options) 8
   -- its names are bounded by the question's limit

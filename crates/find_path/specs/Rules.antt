@@ -12,14 +12,12 @@ use Rattle.hir_def.specs.ItemScope.{nameOf, preferred}
 use Rattle.hir_def.specs.Nameres.{scopeEntry, entryNamed, occupied, preludeOf, externOf}
 use Rattle.hir_def.specs.declared.Item.{Item}
 use Rattle.hir_def.specs.declared.Item.the-variants.{Mod, Def}
-use Rattle.hir_def.specs.declared.Answer.{Answer}
-use Rattle.hir_def.specs.declared.Answer.the-variants.{Name, Nothing}
 use Rattle.find_path.specs.declared.Choice.{Choice}
 use Rattle.find_path.specs.declared.KwKind.{KwKind}
 use Rattle.find_path.specs.declared.KwKind.the-variants.{Kw, NoKw}
 use Rattle.find_path.specs.declared.FindPathCtx.{FindPathCtx}
 use Rattle.find_path.specs.declared.Query.{Query}
-use Rattle.find_path.specs.Choices.{plainPath, selfPath, superPath, cratePath, absolutePath, nothing, keyword, choiceNew}
+use Rattle.find_path.specs.Choices.{plainPath, selfPath, superPath, cratePath, absolutePath, viaScope, viaPrelude, viaExtern, stepBy, nothing, keyword, choiceNew}
 
 -- the prefixes: 0 BySelf, 1 Plain, 2 ByCrate
 
@@ -79,20 +77,15 @@ unfoldable pub firstFound : List Choice → Choice
 firstFound [] = nothing
 firstFound (c ∷ cs) = elim (c .found) [ true ↦ c | false ↦ firstFound cs ]
 
-unfoldable pub entryName : Option Scope → Answer
-entryName none = Nothing
-entryName (some e) = Name (e .name)
-
 module _ (s : Snapshot) (x : FindPathCtx) where
-  -- a single name, or nothing
-  unfoldable pub single : ℕ → Answer → Choice
-  single kind Nothing = nothing
-  single kind (Name n) = choiceNew s kind n
+  -- the single name of an entry, by a rule, or nothing
+  unfoldable pub single : ℕ → ℕ → Option Scope → Choice
+  single kind rule none = nothing
+  single kind rule (some e) = choiceNew s kind (e .name) (stepBy rule (e .place))
 
-  -- `find_in_scope`: the item's name in the viewing module, or around its blocks; imports only where they count, old names last by bit 32
-  unfoldable pub findInScope : Item → Answer
-  findInScope item =
-      entryName (scopeEntry s (x .from) item (x .declared) (x .fresh))
+  -- `find_in_scope`: the item's entry in the viewing module, or around its blocks; imports only where they count, old names last by bit 32
+  unfoldable pub findInScope : Item → Option Scope
+  findInScope item = scopeEntry s (x .from) item (x .declared) (x .fresh)
 
   -- `may_be_in_scope`: under ByCrate only the crate's root uses its scope
   unfoldable pub mayBeInScope : Bool
@@ -100,7 +93,7 @@ module _ (s : Snapshot) (x : FindPathCtx) where
 
   unfoldable pub scopeRule : Item → Choice
   scopeRule item =
-      elim mayBeInScope [ true ↦ single (prefixPathKind (x .prefix)) (findInScope item) | false ↦ nothing ]
+      elim mayBeInScope [ true ↦ single (prefixPathKind (x .prefix)) viaScope (findInScope item) | false ↦ nothing ]
 
   -- the name means the item here, or nothing
   unfoldable pub sameHere : Item → Option Scope → Bool
@@ -111,22 +104,21 @@ module _ (s : Snapshot) (x : FindPathCtx) where
   abbrev pub isUsable : Item → Scope → Bool
   isUsable item e = sees s (x .from) e && sameHere item (entryNamed s (x .from) (nsOf item) (e .name))
 
-  unfoldable pub preludeEntry : Item → Option Scope → Answer
-  preludeEntry item none = Nothing
-  preludeEntry item (some e) =
-      elim (isUsable item e) [ true ↦ Name (e .name) | false ↦ Nothing ]
+  unfoldable pub preludeEntry : Item → Option Scope → Option Scope
+  preludeEntry item none = none
+  preludeEntry item (some e) = elim (isUsable item e) [ true ↦ some e | false ↦ none ]
 
-  unfoldable pub inPrelude : Item → Option Prelude → Answer
-  inPrelude item none = Nothing
+  unfoldable pub inPrelude : Item → Option Prelude → Option Scope
+  inPrelude item none = none
   inPrelude item (some p) = preludeEntry item (preferred (x .fresh) s (p .target) item (isUsable item) (nameOf s (p .target) item))
 
-  -- `find_in_prelude`: the item's first name in the prelude, if visible and not another thing's name here; by bit 32 the first such
-  -- name that isn't deprecated, if there is one
-  unfoldable pub findInPrelude : Item → Answer
+  -- `find_in_prelude`: the item's first entry in the prelude, if visible and not another thing's name here; by bit 32 the first such
+  -- entry that isn't deprecated, if there is one
+  unfoldable pub findInPrelude : Item → Option Scope
   findInPrelude item = inPrelude item (preludeOf s (mapNo s (x .from)))
 
   unfoldable pub preludeRule : Item → Choice
-  preludeRule item = single plainPath (findInPrelude item)
+  preludeRule item = single plainPath viaPrelude (findInPrelude item)
 
   unfoldable pub externKind : Bool → ℕ
   externKind true = absolutePath
@@ -134,7 +126,7 @@ module _ (s : Snapshot) (x : FindPathCtx) where
 
   unfoldable pub externName : ℕ → Option Extern → Choice
   externName m none = nothing
-  externName m (some e) = choiceNew s (externKind (occupied s (x .from) m (e .name) || x .absolute)) (e .name)
+  externName m (some e) = choiceNew s (externKind (occupied s (x .from) m (e .name) || x .absolute)) (e .name) (stepBy viaExtern (e .place))
 
   -- a crate's root is `crate`, in the viewer's crate or where no extern may be used; else its extern name
   unfoldable pub rootRule : Bool → ℕ → Choice

@@ -4,17 +4,21 @@ use Prim.Native.Nat.{ℕ, zero, suc}
 use mathlib.Core.List.{[]}
 use mathlib.Core.Bool.{Bool, true, false, _&&_}
 use lib.Dec.{eqb}
-use Rattle.snapshot.specs.Records.{Snapshot}
+use Rattle.snapshot.specs.Records.{Snapshot, Definition}
 use Rattle.hir_def.specs.Items.{types, builtinKind, definitionOf, itemOf, homeOf}
 use Rattle.hir_def.specs.declared.Item.{Item}
 use Rattle.find_path.specs.declared.Choice.{Choice}
 use Rattle.find_path.specs.declared.FindPathCtx.{FindPathCtx}
 use Rattle.find_path.specs.declared.Query.{Query}
-use Rattle.find_path.specs.Choices.{plainPath, nothing, choiceNew}
+use Rattle.find_path.specs.Choices.{plainPath, viaBuiltin, stepBy, nothing, choiceNew}
 use Rattle.find_path.specs.Rules.{contextOf}
 use Rattle.find_path.specs.Local.{LocalSearch, calculateBestPathLocal, findPathForModuleLocal}
 use Rattle.find_path.specs.Meters.{Charge}
 use Rattle.find_path.specs.Charged.{Out, Search, findPathForModule, findPathInner}
+
+-- the name of a builtin
+unfoldable pub builtinChoice : Snapshot → Definition → Choice
+builtinChoice s d = choiceNew s plainPath (d .first) (stepBy viaBuiltin (d .place))
 
 module _ (s : Snapshot) (x : FindPathCtx) where
   unfoldable pub localTo : ℕ → LocalSearch
@@ -55,7 +59,7 @@ module _ (M : Type 0) (charge : Charge M) (s : Snapshot) where
 
   -- a builtin in types is its name
   unfoldable pub fromItem : Query → M → Bool → Out M
-  fromItem q t true = record { choice = choiceNew s plainPath (definitionOf s (q .definition) .first); meter = t }
+  fromItem q t true = record { choice = builtinChoice s (definitionOf s (q .definition)); meter = t }
   fromItem q t false =
       let item = itemOf s (q .ns) (q .definition) in
       fromHome q item t (homeOf s item)

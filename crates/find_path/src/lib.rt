@@ -19,7 +19,8 @@ pub struct FindPathCtx {
 }
 
 // A path, or none. `kind` is 0 plain, 1 self, 2 super, 3 crate, 4 a leading `::`; `text` is the length of its text;
-// `prelude` says that a name of it is `prelude`.
+// `prelude` says that a name of it is `prelude`. `route` says how it came about, a step for its start and one for each further name: eight
+// times the place of the record used, plus the rule.
 pub struct Choice {
     pub found: bool,
     pub kind: usize,
@@ -28,6 +29,8 @@ pub struct Choice {
     pub text: usize,
     pub stable: bool,
     pub prelude: bool,
+    pub route: [usize; 17],
+    pub steps: usize,
 }
 
 // The path kind of a keyword, or no keyword.
@@ -76,7 +79,7 @@ pub struct Question {
 }
 
 // A report: outcome 0 found, 1 none, 2 refused by the number; then the path, the charges, and empty 0 or 1;
-// `left` and `sought` are those of the first charge that found the tank empty, 0 where none did.
+// `left` and `sought` are those of the first charge that found the tank empty, 0 where none did; `route` and `steps` are the path's.
 pub struct Report {
     pub outcome: usize,
     pub number: usize,
@@ -87,4 +90,6 @@ pub struct Report {
     pub empty: usize,
     pub left: usize,
     pub sought: usize,
+    pub route: [usize; 17],
+    pub steps: usize,
 }

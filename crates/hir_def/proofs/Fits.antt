@@ -27,7 +27,7 @@ use Rattle.hir_def.specs.declared.Item.{Item}
 use Rattle.hir_def.specs.declared.Item.the-variants.{Mod, Def}
 use Rattle.hir_def.proofs.Found.{each-first, each-select}
 use Rattle.hir_def.proofs.Fresh.{preferred-has}
-use Rattle.hir_def.proofs.Lookups.{definition-there, item-module, item-other, home-builtin, home-variant, home-other}
+use Rattle.hir_def.proofs.Lookups.{definition-same, item-module, item-other, home-builtin, home-variant, home-other}
 
 pub each-back : {R : Type 0} {P : R → Type 0} {xs ys : List R} → Each P xs → Each P ys → Each P (reverseAux xs ys)
 each-back Each.none h = h
@@ -91,7 +91,7 @@ module _ (W A : List ℕ) (l : Layout) (r : Reads W A l) where
 
   -- a definition that is there
   pub definition-fits : (d : ℕ) → d < l .definitions → DefinitionFits (countsIn l) (definitionOf (snapOf W A l) d)
-  definition-fits d h = subst (DefinitionFits (countsIn l)) (definition-there W A l d h refl) (definition-read W A l valid d h)
+  definition-fits d h = subst (DefinitionFits (countsIn l)) (definition-same W A l d h refl) (definition-read W A l valid d h)
 
   pub module-known : (d : ℕ) → d < l .definitions → definitionOf (snapOf W A l) d .kind ≡ 1 → definitionOf (snapOf W A l) d .first < l .modules
   module-known d h k = definition-fits d h .home (λ z. omega arith) (λ z. omega arith)

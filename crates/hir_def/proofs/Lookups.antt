@@ -10,7 +10,7 @@ use lib.Dec.{eqb}
 use borrow.Author.Tests.{eq-eqb, ne-eqb}
 use Rattle.snapshot.specs.Lists.{rows}
 use Rattle.snapshot.specs.Words.{payOf}
-use Rattle.snapshot.specs.Records.{Snapshot, Dependency, Scope, definitionAt, crateAt, dependencyAt, scopeAt, importAt, externAt}
+use Rattle.snapshot.specs.Records.{Snapshot, Dependency, Definition, Scope, definitionAt, crateAt, dependencyAt, scopeAt, importAt, externAt}
 use Rattle.snapshot.specs.Layouts.{crateBase, dependencyBase, definitionBase, scopeBase, importBase, externBase, snapOf}
 use Rattle.snapshot.specs.declared.layout.Layout.{Layout}
 use Rattle.snapshot.proofs.Laws.{rows-next, rows-none, rows-whole, rows-snoc, length-rows, getD-rows, past}
@@ -19,7 +19,7 @@ use Rattle.hir_def.specs.Items.{definitionOf, crateData, itemOf, homeBy}
 use Rattle.hir_def.specs.ItemScope.{isDeclared, counts, isFor, nameOf, namesOf, nameReads, namesReads, isModuleEntry, modulesInScope}
 use Rattle.hir_def.specs.ImportMap.{isImport, importInfoFor}
 use Rattle.hir_def.specs.Nameres.{isExtern, externOf, isDependency, isSysroot, isLangSysroot, bySysroot, dependenciesOf, langOf, sysrootFirst}
-use Rattle.hir_def.specs.Entries.{leftOf, Meets, Ends, NextOf}
+use Rattle.hir_def.specs.Entries.{ReadsAs, leftOf, Meets, Ends, NextOf}
 use Rattle.hir_def.specs.declared.Item.{Item}
 use Rattle.hir_def.specs.declared.Item.the-variants.{Mod, Def}
 use Rattle.hir_def.specs.declared.Next.{Next}
@@ -29,19 +29,33 @@ use Rattle.hir_def.specs.declared.Next.the-variants.{Record, End}
 past-rows : {R : Type 0} (f : ℕ → R) (n i : ℕ) (d : R) → n ≤ i → d ≡ getD (rows f 0 n) i d
 past-rows f n i d h = let e : length (rows f 0 n) ≤ i = rw (length-rows f n) h in sym (List·getD-eq-default (rows f 0 n) d e)
 
-pub definition-none : (W A : List ℕ) (l : Layout) (d : ℕ) → l .definitions ≤ d → definitionAt W (length W) ≡ definitionOf (snapOf W A l) d
+pub definition-none : (W A : List ℕ) (l : Layout) (d : ℕ) → l .definitions ≤ d → ReadsAs W (length W) (definitionOf (snapOf W A l) d)
 unfolding definitionOf
 definition-none W A l d h =
-    let p = past W (length W) (omega arith) in
-    let q = past W (length W + 1) (omega arith) in
-    let r = past W (length W + 2) (omega arith) in
-    (λ i. record { kind = payOf (sym p i); first = sym q i; second = sym r i }) ∙ past-rows (λ k. definitionAt W (definitionBase l + 3 * k)) (l .definitions) d _ h
+    let e = past-rows (λ k. definitionAt W (definitionBase l + 3 * k)) (l .definitions) d (record { kind = 0; first = 0; second = 0; place = 0 }) h in
+    record {
+      kind = ap payOf (sym (past W (length W) (omega arith))) ∙ ap (λ (x : Definition). x .kind) e;
+      first = sym (past W (length W + 1) (omega arith)) ∙ ap (λ (x : Definition). x .first) e;
+      second = sym (past W (length W + 2) (omega arith)) ∙ ap (λ (x : Definition). x .second) e;
+      whole = λ k. let z = ap (λ (x : Definition). x .kind) e in absurd (omega (arith, k, z));
+    }
 
-pub definition-there : (W A : List ℕ) (l : Layout) (d : ℕ) {b : ℕ} → d < l .definitions → b ≡ definitionBase l
+pub definition-same : (W A : List ℕ) (l : Layout) (d : ℕ) {b : ℕ} → d < l .definitions → b ≡ definitionBase l
     → definitionAt W (b + 3 * d) ≡ definitionOf (snapOf W A l) d
 unfolding definitionOf
-definition-there W A l d h e =
+definition-same W A l d h e =
     ap (λ x. definitionAt W (x + 3 * d)) e ∙ sym (getD-rows (λ k. definitionAt W (definitionBase l + 3 * k)) _ (l .definitions) d h)
+
+pub definition-there : (W A : List ℕ) (l : Layout) (d : ℕ) {b : ℕ} → d < l .definitions → b ≡ definitionBase l
+    → ReadsAs W (b + 3 * d) (definitionOf (snapOf W A l) d)
+definition-there W A l d h e =
+    let q = definition-same W A l d h e in
+    record {
+      kind = ap (λ (x : Definition). x .kind) q;
+      first = ap (λ (x : Definition). x .first) q;
+      second = ap (λ (x : Definition). x .second) q;
+      whole = λ _. q;
+    }
 
 pub crate-none : (W A : List ℕ) (l : Layout) (c : ℕ) → l .crates ≤ c → crateAt W (length W) ≡ crateData (snapOf W A l) c
 unfolding crateData

@@ -24,6 +24,7 @@ plain e =
       visibility = e .visibility;
       number = e .number;
       declared = e .declared % 2;
+      place = e .place;
     }
 
 -- the snapshot with such entries

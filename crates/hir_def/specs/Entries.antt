@@ -5,6 +5,7 @@ use mathlib.Core.List.{List, [], _∷_}
 use mathlib.Core.Bool.{Bool, true, false}
 use mathlib.Core.Option.{Option, none, some}
 use Rattle.snapshot.specs.Lists.{rows}
+use Rattle.snapshot.specs.Records.{Definition, definitionAt}
 use Rattle.snapshot.specs.declared.layout.Layout.{Layout}
 use Rattle.hir_def.specs.Finds.{select}
 use Rattle.hir_def.specs.declared.Item.{Item}
@@ -23,6 +24,13 @@ Known l (Def ns d) = d < l .definitions
 abbrev pub entryOf : {R : Type 0} → (List ℕ → ℕ → R) → List ℕ → Entry → Option R
 entryOf f W (At h) = some (f W h)
 entryOf f W Nothing = none
+
+-- the definition with its head at the place has the fields of this one, and is it where it has a kind; one that is not there has no place
+pub record ReadsAs (W : List ℕ) (h : ℕ) (x : Definition) : Type 0 where
+  pub kind : definitionAt W h .kind ≡ x .kind
+  pub first : definitionAt W h .first ≡ x .first
+  pub second : definitionAt W h .second ≡ x .second
+  pub whole : 0 < x .kind → definitionAt W h ≡ x
 
 -- one record where the test says so
 abbrev pub oneIf : {R : Type 0} → Bool → R → Option R

@@ -32,7 +32,7 @@ abbrev pub macroKind : ℕ
 macroKind = 5
 
 unfoldable pub definitionOf : Snapshot → ℕ → Definition
-definitionOf s d = getD (s .definitions) d (record { kind = 0; first = 0; second = 0 })
+definitionOf s d = getD (s .definitions) d (record { kind = 0; first = 0; second = 0; place = 0 })
 
 unfoldable pub crateData : Snapshot → ℕ → Crate
 crateData s c = getD (s .crates) c (record { origin = 0; noStd = 0; edition = 0 })

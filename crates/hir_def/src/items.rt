@@ -6,7 +6,7 @@ ghost use lib.Dec.{eqb};
 ghost use Rattle.snapshot.specs.Records.{crateAt, definitionAt};
 ghost use Rattle.snapshot.specs.Layouts.{wordCount, snapOf};
 ghost use Rattle.hir_def.specs.Items.{definitionOf, crateData, isLang, itemOf, sameItem, nsOf, homeBy, homeOf};
-ghost use Rattle.hir_def.specs.Entries.{Known};
+ghost use Rattle.hir_def.specs.Entries.{Known, ReadsAs};
 use crate::Item;
 use snapshot::ids::Crate;
 use snapshot::ids::DefinitionId;
@@ -45,7 +45,7 @@ impl DefinitionKind {
 /// The place of a definition's head; past the words, which read as 0, where there is no such definition.
 pub fn definition_head(words: &[u32], l: Layout, d: DefinitionId) -> usize
     requires { ⌜ wordCount l < 2 ^ 32 ⌝ }
-    ensures { λ r. ⌜ ((A : List ℕ) → definitionAt (now (words .entry)) r ≡ definitionOf (snapOf (now (words .entry)) A l) (d .0)) ⌝ }
+    ensures { λ r. ⌜ ((A : List ℕ) → ReadsAs (now (words .entry)) r (definitionOf (snapOf (now (words .entry)) A l) (d .0))) ⌝ }
 {
     if l.definitions <= d.0 {
         return words.len();

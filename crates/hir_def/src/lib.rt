@@ -9,12 +9,6 @@ pub enum Item {
     Def(usize, usize),
 }
 
-// The number of a name, or no name.
-pub enum Answer {
-    Name(usize),
-    Nothing,
-}
-
 /// The place of a record's head, or no record.
 pub enum Entry {
     At(usize),

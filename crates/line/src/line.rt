@@ -61,6 +61,24 @@ fn put_outcome(
     put_number(out, b, r.number)
 }
 
+/// Puts the line of a report, as it is written in a module, at the front, without its end, and answers its length.
+pub fn put_bare(
+    out: &mut [u8],
+    words: &[u32],
+    area: &[u32],
+    l: Layout,
+    from: ModuleId,
+    r: Report,
+) -> usize
+    requires { ⌜ Reads (now words) (now area) l × (4165 ≤ length (now out)) × (r .count ≤ 16) ⌝ }
+    ensures { λ n. ⌜ Put (now (out .entry)) 0 (lineIn (snapOf (now (words .entry)) (now (area .entry)) l) (from .0) r) (now (out .exit)) n ⌝ }
+    ensures { λ n. ⌜ n ≤ 4165 ⌝ }
+{
+    let edition = edition_in(words, area, l, from);
+    let a = put_outcome(out, words, area, l, edition, r);
+    put_meter(out, a, r.charges, r.empty)
+}
+
 /// Puts the line of a report, as it is written in a module, and its end at the front, and answers its length.
 pub fn put_line(
     out: &mut [u8],
@@ -73,10 +91,8 @@ pub fn put_line(
     requires { ⌜ Reads (now words) (now area) l × (4166 ≤ length (now out)) × (r .count ≤ 16) ⌝ }
     ensures { λ n. ⌜ Put (now (out .entry)) 0 (lineIn (snapOf (now (words .entry)) (now (area .entry)) l) (from .0) r ++ bytesOf "\n") (now (out .exit)) n ⌝ }
 {
-    let edition = edition_in(words, area, l, from);
-    let a = put_outcome(out, words, area, l, edition, r);
-    let b = put_meter(out, a, r.charges, r.empty);
-    put(out, b, b"\n")
+    let a = put_bare(out, words, area, l, from, r);
+    put(out, a, b"\n")
 }
 
 /// Puts the line of a refusal and its end at the front, and answers its length.

@@ -80,7 +80,7 @@ pub(crate) fn put_name(
 }
 
 /// Puts a number in decimal.
-pub(crate) fn put_number(out: &mut [u8], at: usize, n: usize) -> usize
+pub fn put_number(out: &mut [u8], at: usize, n: usize) -> usize
     requires { ⌜ at + 20 ≤ length (now out) ⌝ }
     ensures { λ r. ⌜ Put (now (out .entry)) at (decimal n) (now (out .exit)) r ⌝ }
     ensures { λ r. ⌜ r ≤ at + 20 ⌝ }

@@ -1,12 +1,13 @@
 -- The laws of a search that opens a level.
 use Prim.Native.Nat.{ℕ, zero, suc, _+_, _-_, _≤_, _<_}
 use mathlib.Core.Path.{_≡_, refl, sym, _∙_, ap, ap₂, subst}
+use mathlib.Core.Option.{Option}
 use mathlib.Core.List.{List, [], _∷_, _++_}
 use native.Mathlib.Omega.{arith}
 use native.Mathlib.Numerals.{add-one}
 use lib.ListN.{length, getD, set, take, drop, drop-of-length-le, length-set}
 use lib.Seq.{getD-set-same, getD-set-other, take-set-le, drop-cons, take-suc}
-use Rattle.snapshot.specs.Records.{Snapshot}
+use Rattle.snapshot.specs.Records.{Snapshot, Scope}
 use Rattle.snapshot.specs.Layouts.{snapOf}
 use Rattle.snapshot.specs.declared.layout.Layout.{Layout}
 use Rattle.snapshot.proofs.Laws.{length-rows, getD-rows}
@@ -14,7 +15,6 @@ use Rattle.accept.specs.Post.{Reads}
 use Rattle.accept.specs.Valid.{Each}
 use Rattle.accept.proofs.Bools.{each-at}
 use Rattle.hir_def.specs.declared.Item.{Item}
-use Rattle.hir_def.specs.declared.Answer.{Answer}
 use Rattle.find_path.specs.declared.Choice.{Choice}
 use Rattle.find_path.specs.declared.FindPathCtx.{FindPathCtx}
 use Rattle.find_path.specs.Choices.{nothing}
@@ -148,7 +148,7 @@ module _ (S : Snapshot) (x : FindPathCtx) (left : ℕ) (ls : List Level) (item :
   unfolding eachLocation
   each-end h = rw (drop-of-length-le ws h)
 
-step-fits : (S : Snapshot) (x : FindPathCtx) (left : ℕ) (ls : List Level) (best : Choice) (m : ℕ) (a : Answer) → 0 < left → Fits S left best
+step-fits : (S : Snapshot) (x : FindPathCtx) (left : ℕ) (ls : List Level) (best : Choice) (m : ℕ) (a : Option Scope) → 0 < left → Fits S left best
     → Fits S left (location S x (searchLocal S x) left ls best m a)
 step-fits S x zero ls best m a h f = absurd (omega arith)
 step-fits S x (suc l) ls best m a h f = location-fits S x (searchLocal S x) (search-local-fits S x) l ls best m a f

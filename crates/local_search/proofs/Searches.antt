@@ -3,24 +3,28 @@ use Prim.Native.Nat.{ℕ, zero, suc, _-_, _≤_, _<_, _^_}
 use mathlib.Core.Path.{_≡_, refl, sym, _∙_, ap, subst}
 use mathlib.Core.List.{List}
 use mathlib.Core.Bool.{true, false}
+use mathlib.Core.Option.{Option}
 use native.Mathlib.Omega.{arith}
-use Rattle.snapshot.specs.Records.{Snapshot}
+use Rattle.snapshot.specs.Records.{Snapshot, Scope, scopeAt}
 use Rattle.snapshot.specs.Layouts.{snapOf}
 use Rattle.snapshot.specs.declared.layout.Layout.{Layout}
+use Rattle.accept.specs.Stands.{countsIn}
 use Rattle.accept.specs.Post.{Reads}
+use Rattle.accept.specs.Valid.{ScopeFits}
 use Rattle.hir_def.specs.Items.{nsOf}
 use Rattle.hir_def.specs.declared.Item.{Item}
 use Rattle.hir_def.specs.declared.Item.the-variants.{Mod, Def}
-use Rattle.hir_def.specs.declared.Answer.{Answer}
-use Rattle.hir_def.specs.declared.Answer.the-variants.{Name, Nothing}
+use Rattle.hir_def.specs.Entries.{entryOf}
+use Rattle.hir_def.specs.declared.Entry.{Entry}
+use Rattle.hir_def.specs.declared.Entry.the-variants.{At, Nothing}
 use Rattle.find_path.specs.declared.Choice.{Choice}
 use Rattle.find_path.specs.declared.FindPathCtx.{FindPathCtx}
 use Rattle.find_path.specs.Choices.{nothing, lengthLeft}
 use Rattle.find_path.specs.Walk.{Level}
 use Rattle.find_path.specs.Rules.{moduleRules}
-use Rattle.find_path.specs.Local.{offer, importableName, location, calculateBestPathLocal, orLocal, findPathForModuleLocal}
+use Rattle.find_path.specs.Local.{offerEntry, importableName, location, calculateBestPathLocal, orLocal, findPathForModuleLocal}
 use Rattle.find_path.specs.Search.{searchLocal, bestLocal}
-use Rattle.find_path.specs.Conditions.{Prepared, Asked, Named, Chosen}
+use Rattle.find_path.specs.Conditions.{Prepared, Asked, EntryFits, Chosen}
 use Rattle.find_path.proofs.Unfold.{length-falls, local-more}
 use Rattle.find_path.proofs.Bounds.{Fits, search-local-fits}
 use Rattle.find_path.proofs.Tables.{names-short}
@@ -88,12 +92,12 @@ module _ (W A : List ℕ) (l : Layout) (x : FindPathCtx) (left : ℕ) (s : Stack
   abbrev ls : List Level
   ls = levelsOf A (s .place) (s .depth)
 
-  abbrev here : Answer → Choice
+  abbrev here : Option Scope → Choice
   here a = location S x (searchLocal S x) left ls best m a
 
-  pub location-none : {a : Answer} → a ≡ importableName S x item m → a ≡ Nothing → best ≡ here (importableName S x item m)
+  pub location-none : {a : Entry} → entryOf scopeAt W a ≡ importableName S x item m → a ≡ Nothing → best ≡ here (importableName S x item m)
   unfolding location
-  location-none e q = sym (ap here (sym e ∙ q))
+  location-none e q = sym (ap here (sym e ∙ ap (entryOf scopeAt W) q))
 
   module _ {j : ℕ} (e : j ≡ lengthLeft left best) where
     pub location-shorter : j < left
@@ -112,25 +116,28 @@ module _ (W A : List ℕ) (l : Layout) (x : FindPathCtx) (left : ℕ) (s : Stack
       pub location-few : c .count < 16
       location-few = omega (arith, fits .few, location-shorter, y .deep)
 
+      pub location-steps : c .steps < 17
+      location-steps = omega (arith, fits .once, location-few)
+
       pub location-text : c .text < 2 ^ 32
       location-text = omega (arith, fits .text (names-short W A l (y .reads)), location-few)
 
-      pub location-some : {n : ℕ} {b : Answer} {r : Choice} → b ≡ importableName S x item m → b ≡ Name n → r ≡ offer (snapOf W B l) x best c n
-          → Answered A (s .top) (here (importableName S x item m)) B r
+      pub location-some : {h : ℕ} {b : Entry} {r : Choice} → entryOf scopeAt W b ≡ importableName S x item m → b ≡ At h
+          → r ≡ offerEntry (snapOf W B l) x best c (scopeAt W h) → Answered A (s .top) (here (importableName S x item m)) B r
       unfolding location
-      location-some {n} {b} {r} p q o =
+      location-some {h} {b} {r} p q o =
           record {
             same =
                 o
-                ∙ ap (λ (z : Snapshot). offer z x best c n) (snap-at W A B l (s .top) (y .reads) (y .tables) (a .below))
-                ∙ ap (λ (z : Choice). offer S x best z n) (a .same ∙ ap (λ i. searchLocal S x i ls m) e)
-                ∙ sym (ap here (sym p ∙ q));
+                ∙ ap (λ (z : Snapshot). offerEntry z x best c (scopeAt W h)) (snap-at W A B l (s .top) (y .reads) (y .tables) (a .below))
+                ∙ ap (λ (z : Choice). offerEntry S x best z (scopeAt W h)) (a .same ∙ ap (λ i. searchLocal S x i ls m) e)
+                ∙ sym (ap here (sym p ∙ ap (entryOf scopeAt W) q));
             below = a .below;
           }
 
--- the name that was answered is there
-pub named-at : (l : Layout) {a : Answer} {n : ℕ} → Named l a → a ≡ Name n → n < l .names
-named-at l h e = subst (Named l) e h
+-- the entry that was answered is in range
+pub entry-at : (W : List ℕ) (l : Layout) {a : Entry} {h : ℕ} → EntryFits W l a → a ≡ At h → ScopeFits (countsIn l) (scopeAt W h)
+entry-at W l f e = subst (EntryFits W l) e f
 
 -- nothing is under way
 pub search-start : (W A : List ℕ) (l : Layout) (x : FindPathCtx) (left : ℕ) → Prepared W A l x → left ≤ 15 → Searchable W A l x left (record { top = 4160; place = 0; depth = 0 })

@@ -8,18 +8,17 @@ ghost use Rattle.local_levels.specs.Levels.{Small, levelsOf};
 ghost use Rattle.local_search.specs.Post.{Searchable, Answered};
 use find_path::Choice;
 use find_path::FindPathCtx;
-use hir_def::Answer;
+use hir_def::Entry;
 use hir_def::Item;
 use local_levels::Stack;
 use local_levels::levels::code_of;
 use local_levels::locations::find_local_import_locations;
 use path_offers::offers::importable_name;
-use path_offers::offers::offer;
+use path_offers::offers::offer_entry;
 use path_rules::choices::length_left;
 use path_rules::choices::nothing;
 use path_rules::rules::module_rules;
 use snapshot::ids::ModuleId;
-use snapshot::ids::Name;
 use snapshot::layout::Layout;
 use snapshot::words::word;
 
@@ -42,11 +41,11 @@ fn location(
     ensures { λ r. ⌜ Answered (now (area .entry)) (s .top) (locationOf (snapOf (now (words .entry)) (now (area .entry)) l) x (searchLocal (snapOf (now (words .entry)) (now (area .entry)) l) x) left (levelsOf (now (area .entry)) (s .place) (s .depth)) best (m .0) (importableName (snapOf (now (words .entry)) (now (area .entry)) l) x item (m .0))) (now (area .exit)) r ⌝ }
 {
     let a = importable_name(words, area, l, x, item, m);
-    let Answer::Name(n) = a else {
+    let Entry::At(h) = a else {
         return best;
     };
     let c = find_path_for_module_local(words, area, l, x, length_left(left, best), m, s);
-    offer(words, area, l, x, best, c, Name(n))
+    offer_entry(words, area, l, x, best, c, h)
 }
 
 // The module search without externs.

@@ -141,35 +141,64 @@ left-more left n c e f h = sym (ap₂ (λ b m. shorterIf b left m) e (sym f) ∙
 -- choices as the code makes them
 
 pub keyword-same : (k : ℕ) {t : ℕ} → t ≡ pathKindLen k
-    → _≡_ {A = Choice} (record { found = true; kind = k; names = replicate 16 0; count = 0; text = t; stable = true; prelude = false }) (keyword k)
+    → _≡_ {A = Choice}
+    (record { found = true; kind = k; names = replicate 16 0; count = 0; text = t; stable = true; prelude = false; route = set (replicate 17 0) 0 4; steps = 1 })
+    (keyword k)
 unfolding keyword
-keyword-same k e = λ i. record { found = true; kind = k; names = replicate 16 0; count = 0; text = e i; stable = true; prelude = false }
+keyword-same k e =
+    λ i. record { found = true; kind = k; names = replicate 16 0; count = 0; text = e i; stable = true; prelude = false; route = set (replicate 17 0) 0 4; steps = 1 }
 
-pub new-same : (s : Snapshot) (k n : ℕ) {t : ℕ} {b : Bool} → t ≡ pathKindLen k + nameLen s n → b ≡ isPrelude s n
-    → _≡_ {A = Choice} (record { found = true; kind = k; names = set (replicate 16 0) 0 n; count = 1; text = t; stable = true; prelude = b }) (choiceNew s k n)
+pub new-same : (s : Snapshot) (k n via : ℕ) {t : ℕ} {b : Bool} → t ≡ pathKindLen k + nameLen s n → b ≡ isPrelude s n
+    → _≡_ {A = Choice}
+    (record { found = true; kind = k; names = set (replicate 16 0) 0 n; count = 1; text = t; stable = true; prelude = b; route = set (replicate 17 0) 0 via; steps = 1 })
+    (choiceNew s k n via)
 unfolding choiceNew
-new-same s k n e f = λ i. record { found = true; kind = k; names = set (replicate 16 0) 0 n; count = 1; text = e i; stable = true; prelude = f i }
+new-same s k n via e f =
+    λ i. record { found = true; kind = k; names = set (replicate 16 0) 0 n; count = 1; text = e i; stable = true; prelude = f i; route = set (replicate 17 0) 0 via; steps = 1 }
 
-pub extended-same : (s : Snapshot) (c : Choice) (n : ℕ) (b : Bool) {t : ℕ} → t ≡ c .text + nameLen s n
-    → _≡_ {A = Choice} (record { found = true; kind = c .kind; names = set (c .names) (c .count) n; count = c .count + 1; text = t; stable = c .stable; prelude = b }) (extended s c n b)
+pub extended-same : (s : Snapshot) (c : Choice) (n via : ℕ) (b : Bool) {t : ℕ} → t ≡ c .text + nameLen s n
+    → _≡_ {A = Choice}
+    (record {
+      found = true;
+      kind = c .kind;
+      names = set (c .names) (c .count) n;
+      count = c .count + 1;
+      text = t;
+      stable = c .stable;
+      prelude = b;
+      route = set (c .route) (c .steps) via;
+      steps = c .steps + 1;
+    })
+    (extended s c n via b)
 unfolding extended
-extended-same s c n b e =
-    λ i. record { found = true; kind = c .kind; names = set (c .names) (c .count) n; count = c .count + 1; text = e i; stable = c .stable; prelude = b }
+extended-same s c n via b e =
+    λ i.
+    record {
+      found = true;
+      kind = c .kind;
+      names = set (c .names) (c .count) n;
+      count = c .count + 1;
+      text = e i;
+      stable = c .stable;
+      prelude = b;
+      route = set (c .route) (c .steps) via;
+      steps = c .steps + 1;
+    }
 
 kept : (x y z : Choice) (b d : Bool) → b ≡ true → d ≡ false → y ≡ elim b [ true ↦ elim d [ true ↦ x | false ↦ y ] | false ↦ z ]
 kept x y z true true e f = absurd (true≢false f)
 kept x y z true false e f = refl
 kept x y z false d e f = absurd (false≢true e)
 
-module _ (s : Snapshot) (p : Bool) (cur oth : Choice) (n : ℕ) where
-  pub select-first : cur .found ≡ false → push s oth n ≡ trySelect s p cur oth n
+module _ (s : Snapshot) (p : Bool) (cur oth : Choice) (n via : ℕ) where
+  pub select-first : cur .found ≡ false → push s oth n via ≡ trySelect s p cur oth n via
   unfolding trySelect
   select-first e = rw (trySelect, e)
 
-  pub select-new : cur .found ≡ true → better s p cur oth n ≡ true → extended s oth n (oth .prelude) ≡ trySelect s p cur oth n
+  pub select-new : cur .found ≡ true → better s p cur oth n ≡ true → extended s oth n via (oth .prelude) ≡ trySelect s p cur oth n via
   unfolding trySelect
   select-new e f = rw (trySelect, e, f)
 
-  pub select-old : cur .found ≡ true → better s p cur oth n ≡ false → cur ≡ trySelect s p cur oth n
+  pub select-old : cur .found ≡ true → better s p cur oth n ≡ false → cur ≡ trySelect s p cur oth n via
   unfolding trySelect
-  select-old e f = kept (extended s oth n (oth .prelude)) cur (push s oth n) (cur .found) (better s p cur oth n) e f
+  select-old e f = kept (extended s oth n via (oth .prelude)) cur (push s oth n via) (cur .found) (better s p cur oth n) e f

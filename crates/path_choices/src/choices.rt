@@ -3,7 +3,7 @@ ghost use mathlib.Core.Path.{_≡_};
 ghost use Prim.Native.Nat.{_+_, _-_, _≤_, _<_, _^_};
 ghost use Rattle.snapshot.specs.Layouts.{snapOf};
 ghost use Rattle.accept.specs.Post.{Reads};
-ghost use Rattle.find_path.specs.Choices.{nameLen, isPrelude, pathKindLen, pathLen, nothing as nothingOf, keyword as keywordOf, choiceNew, extended as extendedOf, push as pushOf, unstably as unstablyOf, better as betterOf, trySelect, lengthLeft};
+ghost use Rattle.find_path.specs.Choices.{nameLen, isPrelude, pathKindLen, pathLen, stepBy, nothing as nothingOf, keyword as keywordOf, choiceNew, extended as extendedOf, push as pushOf, unstably as unstablyOf, better as betterOf, trySelect, lengthLeft};
 use find_path::Choice;
 use snapshot::ids::Name;
 use snapshot::layout::Layout;
@@ -58,11 +58,41 @@ pub fn path_len(c: Choice) -> usize
     KIND_NAMES[kind] + c.count
 }
 
+/// The rules of a route.
+pub struct StepRule(pub usize);
+
+impl StepRule {
+    pub const BUILTIN: usize = 0;
+
+    pub const SCOPE: usize = 1;
+
+    pub const PRELUDE: usize = 2;
+
+    pub const EXTERN: usize = 3;
+
+    pub const KEYWORD: usize = 4;
+
+    pub const VARIANT: usize = 5;
+
+    pub const LOCAL: usize = 6;
+
+    pub const IMPORT: usize = 7;
+}
+
+/// A step of a route: its rule, and the place of the record used.
+pub fn step_by(rule: usize, place: usize) -> usize
+    requires { ⌜ (rule ≤ 7) × (place < 16384) ⌝ }
+    ensures { λ r. ⌜ r ≡ stepBy rule place ⌝ }
+{
+    place * 8 + rule
+}
+
 /// No path.
 pub fn nothing() -> Choice
     ensures { λ r. ⌜ r ≡ nothingOf ⌝ }
 {
     let names = [0usize; 16];
+    let route = [0usize; 17];
     Choice {
         found: false,
         kind: 0,
@@ -71,6 +101,8 @@ pub fn nothing() -> Choice
         text: 0,
         stable: false,
         prelude: false,
+        route: route,
+        steps: 0,
     }
 }
 
@@ -79,6 +111,8 @@ pub fn keyword(kind: usize) -> Choice
     ensures { λ r. ⌜ r ≡ keywordOf kind ⌝ }
 {
     let names = [0usize; 16];
+    let mut route = [0usize; 17];
+    route[0] = StepRule::KEYWORD;
     let text = path_kind_len(kind);
     Choice {
         found: true,
@@ -88,16 +122,27 @@ pub fn keyword(kind: usize) -> Choice
         text: text,
         stable: true,
         prelude: false,
+        route: route,
+        steps: 1,
     }
 }
 
-/// One name, stable.
-pub fn choice_new(words: &[u32], area: &[u32], l: Layout, kind: usize, n: Name) -> Choice
+/// One name, stable, by a step.
+pub fn choice_new(
+    words: &[u32],
+    area: &[u32],
+    l: Layout,
+    kind: usize,
+    n: Name,
+    via: usize,
+) -> Choice
     requires { ⌜ Reads (now words) (now area) l × (n .0 < l .names) ⌝ }
-    ensures { λ r. ⌜ r ≡ choiceNew (snapOf (now (words .entry)) (now (area .entry)) l) kind (n .0) ⌝ }
+    ensures { λ r. ⌜ r ≡ choiceNew (snapOf (now (words .entry)) (now (area .entry)) l) kind (n .0) via ⌝ }
 {
     let mut names = [0usize; 16];
     names[0] = n.0;
+    let mut route = [0usize; 17];
+    route[0] = via;
     let text = path_kind_len(kind) + name_len(words, area, l, n);
     let prelude = is_prelude(words, area, l, n);
     Choice {
@@ -108,17 +153,30 @@ pub fn choice_new(words: &[u32], area: &[u32], l: Layout, kind: usize, n: Name) 
         text: text,
         stable: true,
         prelude: prelude,
+        route: route,
+        steps: 1,
     }
 }
 
-// One name more, with a flag given for `prelude`.
-fn extended(words: &[u32], area: &[u32], l: Layout, c: Choice, n: Name, flag: bool) -> Choice
-    requires { ⌜ Reads (now words) (now area) l × (n .0 < l .names) × (c .count < 16) × (c .text < 2 ^ 32) ⌝ }
-    ensures { λ r. ⌜ r ≡ extendedOf (snapOf (now (words .entry)) (now (area .entry)) l) c (n .0) flag ⌝ }
+// One name more, by a step, with a flag given for `prelude`.
+fn extended(
+    words: &[u32],
+    area: &[u32],
+    l: Layout,
+    c: Choice,
+    n: Name,
+    via: usize,
+    flag: bool,
+) -> Choice
+    requires { ⌜ Reads (now words) (now area) l × (n .0 < l .names) × (c .count < 16) × (c .text < 2 ^ 32) × (c .steps < 17) ⌝ }
+    ensures { λ r. ⌜ r ≡ extendedOf (snapOf (now (words .entry)) (now (area .entry)) l) c (n .0) via flag ⌝ }
 {
     let count = c.count;
     let mut names = c.names;
     names[count] = n.0;
+    let steps = c.steps;
+    let mut route = c.route;
+    route[steps] = via;
     let text = c.text + name_len(words, area, l, n);
     Choice {
         found: true,
@@ -128,16 +186,18 @@ fn extended(words: &[u32], area: &[u32], l: Layout, c: Choice, n: Name, flag: bo
         text: text,
         stable: c.stable,
         prelude: flag,
+        route: route,
+        steps: steps + 1,
     }
 }
 
-/// One name more.
-pub fn push(words: &[u32], area: &[u32], l: Layout, c: Choice, n: Name) -> Choice
-    requires { ⌜ Reads (now words) (now area) l × (n .0 < l .names) × (c .count < 16) × (c .text < 2 ^ 32) ⌝ }
-    ensures { λ r. ⌜ r ≡ pushOf (snapOf (now (words .entry)) (now (area .entry)) l) c (n .0) ⌝ }
+/// One name more, by a step.
+pub fn push(words: &[u32], area: &[u32], l: Layout, c: Choice, n: Name, via: usize) -> Choice
+    requires { ⌜ Reads (now words) (now area) l × (n .0 < l .names) × (c .count < 16) × (c .text < 2 ^ 32) × (c .steps < 17) ⌝ }
+    ensures { λ r. ⌜ r ≡ pushOf (snapOf (now (words .entry)) (now (area .entry)) l) c (n .0) via ⌝ }
 {
     let flag = is_prelude(words, area, l, n);
-    extended(words, area, l, c, n, c.prelude | flag)
+    extended(words, area, l, c, n, via, c.prelude | flag)
 }
 
 /// The choice, unstable.
@@ -183,15 +243,16 @@ pub fn try_select(
     current: Choice,
     other: Choice,
     n: Name,
+    via: usize,
 ) -> Choice
-    requires { ⌜ Reads (now words) (now area) l × (n .0 < l .names) × (current .count < 2 ^ 32) × (other .count < 16) × (other .text < 2 ^ 32) ⌝ }
-    ensures { λ r. ⌜ r ≡ trySelect (snapOf (now (words .entry)) (now (area .entry)) l) prefer current other (n .0) ⌝ }
+    requires { ⌜ Reads (now words) (now area) l × (n .0 < l .names) × (current .count < 2 ^ 32) × (other .count < 16) × (other .text < 2 ^ 32) × (other .steps < 17) ⌝ }
+    ensures { λ r. ⌜ r ≡ trySelect (snapOf (now (words .entry)) (now (area .entry)) l) prefer current other (n .0) via ⌝ }
 {
     if !current.found {
-        return push(words, area, l, other, n);
+        return push(words, area, l, other, n, via);
     }
     if better(words, area, l, prefer, current, other, n) {
-        return extended(words, area, l, other, n, other.prelude);
+        return extended(words, area, l, other, n, via, other.prelude);
     }
     current
 }

@@ -2,51 +2,58 @@
 use Prim.Native.Nat.{ℕ, _<_, _^_}
 use mathlib.Core.Path.{_≡_, sym, _∙_, ap, ap₂, subst}
 use mathlib.Core.Bool.{Bool, true, false}
-use mathlib.Core.Option.{some}
+use mathlib.Core.Option.{none, some}
 use Rattle.snapshot.specs.Records.{Snapshot, Scope, Import}
 use Rattle.hir_def.specs.ImportMap.{isUnstable}
-use Rattle.hir_def.specs.declared.Answer.the-variants.{Name, Nothing}
 use Rattle.find_path.specs.declared.Choice.{Choice}
 use Rattle.find_path.specs.declared.FindPathCtx.{FindPathCtx}
-use Rattle.find_path.specs.Choices.{unstably, trySelect}
-use Rattle.find_path.specs.Local.{offer, isImportable, nameIf}
+use Rattle.find_path.specs.Choices.{viaLocal, viaImport, stepBy, unstably, trySelect}
+use Rattle.find_path.specs.Local.{offer, offerEntry, isImportable, entryIf}
 use Rattle.find_path.specs.Charged.{offerImport}
 use Rattle.path_choices.proofs.ChoiceLaws.{taken-true, taken-false}
 
-pub unstably-fits : (c : Choice) {d : Choice} → d ≡ unstably c → c .count < 16 → c .text < 2 ^ 32 → (d .count < 16) × (d .text < 2 ^ 32)
+pub unstably-fits : (c : Choice) {d : Choice} → d ≡ unstably c → c .count < 16 → c .text < 2 ^ 32 → c .steps < 17
+    → (d .count < 16) × (d .text < 2 ^ 32) × (d .steps < 17)
 unfolding unstably
-unstably-fits c e h k = (subst (λ (z : Choice). z .count < 16) (sym e) h, subst (λ (z : Choice). z .text < 2 ^ 32) (sym e) k)
+unstably-fits c e h k l =
+    (subst (λ (z : Choice). z .count < 16) (sym e) h, subst (λ (z : Choice). z .text < 2 ^ 32) (sym e) k, subst (λ (z : Choice). z .steps < 17) (sym e) l)
 
 module _ (s : Snapshot) (x : FindPathCtx) where
-  -- an entry's name, where it can be imported
-  module _ (e : Scope) {n : ℕ} {a : Bool} (en : n ≡ e .name) (ea : a ≡ isImportable s x e) where
-    pub name-taken : a ≡ true → Name n ≡ nameIf s x (some e)
-    unfolding nameIf
-    name-taken t = ap Name en ∙ taken-true _ _ _ (sym ea ∙ t)
+  -- an entry, where it can be imported
+  module _ (e : Scope) {a : Bool} (ea : a ≡ isImportable s x e) where
+    pub entry-taken : a ≡ true → some e ≡ entryIf s x (some e)
+    unfolding entryIf
+    entry-taken t = taken-true _ _ _ (sym ea ∙ t)
 
-    pub name-left : a ≡ false → Nothing ≡ nameIf s x (some e)
-    unfolding nameIf
-    name-left t = taken-false _ _ _ (sym ea ∙ t)
+    pub entry-left : a ≡ false → none ≡ entryIf s x (some e)
+    unfolding entryIf
+    entry-left t = taken-false _ _ _ (sym ea ∙ t)
 
   module _ (best c : Choice) where
-    pub offer-none : (n : ℕ) → c .found ≡ false → best ≡ offer s x best c n
+    pub offer-none : (n via : ℕ) → c .found ≡ false → best ≡ offer s x best c n via
     unfolding offer
-    offer-none n t = taken-false _ best (c .found) t
+    offer-none n via t = taken-false _ best (c .found) t
 
-    pub offer-some : (n : ℕ) → c .found ≡ true → trySelect s (x .prelude) best c n ≡ offer s x best c n
+    pub offer-some : (n via : ℕ) → c .found ≡ true → trySelect s (x .prelude) best c n via ≡ offer s x best c n via
     unfolding offer
-    offer-some n t = taken-true _ best (c .found) t
+    offer-some n via t = taken-true _ best (c .found) t
 
-    module _ (i : Import) where
-      pub import-stable : {n : ℕ} → n ≡ i .name → isUnstable i ≡ false → offer s x best c n ≡ offerImport s x best c i
+    pub entry-offered : (e : Scope) {n via : ℕ} → n ≡ e .name → via ≡ stepBy viaLocal (e .place) → offer s x best c n via ≡ offerEntry s x best c e
+    unfolding offerEntry
+    entry-offered e en ev = ap₂ (offer s x best c) en ev
+
+    module _ (i : Import) {n via : ℕ} (en : n ≡ i .name) (ev : via ≡ stepBy viaImport (i .place)) where
+      pub import-stable : isUnstable i ≡ false → offer s x best c n via ≡ offerImport s x best c i
       unfolding offerImport
-      import-stable e t = ap (offer s x best c) e ∙ taken-false _ _ (isUnstable i) t
+      import-stable t = ap₂ (offer s x best c) en ev ∙ taken-false _ _ (isUnstable i) t
 
       pub import-barred : isUnstable i ≡ true → x .unstable ≡ false → best ≡ offerImport s x best c i
       unfolding offerImport
       import-barred t u = taken-false _ best (x .unstable) u ∙ taken-true _ _ (isUnstable i) t
 
-      pub import-unstable : {n : ℕ} {d : Choice} → n ≡ i .name → d ≡ unstably c → isUnstable i ≡ true → x .unstable ≡ true
-          → offer s x best d n ≡ offerImport s x best c i
+      pub import-unstable : {d : Choice} → d ≡ unstably c → isUnstable i ≡ true → x .unstable ≡ true
+          → offer s x best d n via ≡ offerImport s x best c i
       unfolding offerImport
-      import-unstable e f t u = ap₂ (offer s x best) f e ∙ taken-true _ best (x .unstable) u ∙ taken-true _ _ (isUnstable i) t
+      import-unstable f t u =
+          ap (λ (d : Choice). offer s x best d n via) f ∙ ap₂ (offer s x best (unstably c)) en ev ∙ taken-true _ best (x .unstable) u
+          ∙ taken-true _ _ (isUnstable i) t

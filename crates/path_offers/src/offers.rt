@@ -1,18 +1,22 @@
 //! What a step of a search offers: a name for a module's path, and the choice of the two.
 ghost use mathlib.Core.Path.{_≡_};
 ghost use Prim.Native.Nat.{_<_, _^_};
-ghost use Rattle.snapshot.specs.Records.{importAt};
+ghost use Rattle.snapshot.specs.Records.{scopeAt, importAt};
 ghost use Rattle.snapshot.specs.Layouts.{snapOf};
+ghost use Rattle.accept.specs.Stands.{countsIn};
 ghost use Rattle.accept.specs.Post.{Reads};
-ghost use Rattle.find_path.specs.Conditions.{Named};
-ghost use Rattle.find_path.specs.Local.{offer as offerOf, importableName};
+ghost use Rattle.accept.specs.Valid.{ScopeFits, ImportFits};
+ghost use Rattle.hir_def.specs.Entries.{entryOf};
+ghost use Rattle.find_path.specs.Conditions.{EntryFits};
+ghost use Rattle.find_path.specs.Local.{offer as offerOf, offerEntry, importableName};
 ghost use Rattle.find_path.specs.Charged.{offerImport};
 use find_path::Choice;
 use find_path::FindPathCtx;
-use hir_def::Answer;
 use hir_def::Entry;
 use hir_def::Item;
 use import_map::is_unstable;
+use path_choices::choices::StepRule;
+use path_choices::choices::step_by;
 use path_choices::choices::try_select;
 use path_choices::choices::unstably;
 use rule_lookups::Rule;
@@ -24,8 +28,8 @@ use snapshot::layout::Layout;
 use snapshot::record::import_name;
 use snapshot::record::scope_name;
 
-/// The name by which the viewer can import the item from the module, by its first entry; by options bit 32 by the first such one that
-/// isn't deprecated, if there is one.
+/// The entry by which the viewer can import the item from the module, its first; by options bit 32 the first such one that isn't
+/// deprecated, if there is one.
 pub fn importable_name(
     words: &[u32],
     area: &[u32],
@@ -33,23 +37,22 @@ pub fn importable_name(
     x: FindPathCtx,
     item: Item,
     m: ModuleId,
-) -> Answer
+) -> Entry
     requires { ⌜ Reads (now words) (now area) l × (x .from < l .modules) × (m .0 < l .modules) ⌝ }
-    ensures { λ r. ⌜ (r ≡ importableName (snapOf (now (words .entry)) (now (area .entry)) l) x item (m .0)) × Named l r ⌝ }
+    ensures { λ r. ⌜ (entryOf scopeAt (now (words .entry)) r ≡ importableName (snapOf (now (words .entry)) (now (area .entry)) l) x item (m .0)) × EntryFits (now (words .entry)) l r ⌝ }
 {
     let e = entry_by(words, area, l, x, m, item, Rule::Local).entry;
     let Entry::At(h) = e else {
-        return Answer::Nothing;
+        return Entry::Nothing;
     };
-    let name = scope_name(words, h);
     if is_importable(words, area, l, x, h) {
-        return Answer::Name(name.0);
+        return Entry::At(h);
     }
-    Answer::Nothing
+    Entry::Nothing
 }
 
-/// The better of the choice so far and the module's choice with the name, if it has one.
-pub fn offer(
+// The better of the choice so far and the module's choice with the name, by a step, if it has one.
+fn offer(
     words: &[u32],
     area: &[u32],
     l: Layout,
@@ -57,14 +60,33 @@ pub fn offer(
     best: Choice,
     c: Choice,
     n: Name,
+    via: usize,
 ) -> Choice
-    requires { ⌜ Reads (now words) (now area) l × (n .0 < l .names) × (best .count < 2 ^ 32) × (c .count < 16) × (c .text < 2 ^ 32) ⌝ }
-    ensures { λ r. ⌜ r ≡ offerOf (snapOf (now (words .entry)) (now (area .entry)) l) x best c (n .0) ⌝ }
+    requires { ⌜ Reads (now words) (now area) l × (n .0 < l .names) × (best .count < 2 ^ 32) × (c .count < 16) × (c .text < 2 ^ 32) × (c .steps < 17) ⌝ }
+    ensures { λ r. ⌜ r ≡ offerOf (snapOf (now (words .entry)) (now (area .entry)) l) x best c (n .0) via ⌝ }
 {
     if !c.found {
         return best;
     }
-    try_select(words, area, l, x.prelude, best, c, n)
+    try_select(words, area, l, x.prelude, best, c, n, via)
+}
+
+/// The better of the choice so far and the module's choice with the name of the scope entry with its head at a place.
+pub fn offer_entry(
+    words: &[u32],
+    area: &[u32],
+    l: Layout,
+    x: FindPathCtx,
+    best: Choice,
+    c: Choice,
+    h: usize,
+) -> Choice
+    requires { ⌜ Reads (now words) (now area) l × ScopeFits (countsIn l) (scopeAt (now words) h) × (best .count < 2 ^ 32) × (c .count < 16) × (c .text < 2 ^ 32) × (c .steps < 17) ⌝ }
+    ensures { λ r. ⌜ r ≡ offerEntry (snapOf (now (words .entry)) (now (area .entry)) l) x best c (scopeAt (now (words .entry)) h) ⌝ }
+{
+    let n = scope_name(words, h);
+    let via = step_by(StepRule::LOCAL, h);
+    offer(words, area, l, x, best, c, n, via)
 }
 
 /// The same for the import with its head at a place: an unstable one only where it is allowed, and as an unstable choice.
@@ -77,15 +99,16 @@ pub fn offer_import(
     c: Choice,
     h: usize,
 ) -> Choice
-    requires { ⌜ Reads (now words) (now area) l × (importAt (now words) h .name < l .names) × (best .count < 2 ^ 32) × (c .count < 16) × (c .text < 2 ^ 32) ⌝ }
+    requires { ⌜ Reads (now words) (now area) l × ImportFits (countsIn l) (importAt (now words) h) × (best .count < 2 ^ 32) × (c .count < 16) × (c .text < 2 ^ 32) × (c .steps < 17) ⌝ }
     ensures { λ r. ⌜ r ≡ offerImport (snapOf (now (words .entry)) (now (area .entry)) l) x best c (importAt (now (words .entry)) h) ⌝ }
 {
+    let via = step_by(StepRule::IMPORT, h);
     let n = import_name(words, h);
     if !is_unstable(words, h) {
-        return offer(words, area, l, x, best, c, n);
+        return offer(words, area, l, x, best, c, n, via);
     }
     if !x.unstable {
         return best;
     }
-    offer(words, area, l, x, best, unstably(c), n)
+    offer(words, area, l, x, best, unstably(c), n, via)
 }

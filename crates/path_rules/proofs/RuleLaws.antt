@@ -1,13 +1,13 @@
 -- Laws of the rules, for the code.
 use Prim.Native.Nat.{ℕ, zero, suc, _+_, _≤_}
-use mathlib.Core.Path.{_≡_, refl, sym, _∙_, ap, ap₂, subst}
+use mathlib.Core.Path.{_≡_, refl, sym, _∙_, ap, ap₂}
 use mathlib.Core.List.{List, [], _∷_}
 use mathlib.Core.Bool.{Bool, true, false, _||_, not}
 use mathlib.Core.Option.{Option, none, some}
 use native.Mathlib.Omega.{arith}
 use lib.Dec.{eqb}
 use borrow.Author.Tests.{eq-eqb, ne-eqb}
-use Rattle.snapshot.specs.Records.{Snapshot, Scope, Prelude, Extern}
+use Rattle.snapshot.specs.Records.{Snapshot, Scope, Prelude, Extern, scopeAt}
 use Rattle.snapshot.specs.Layouts.{snapOf}
 use Rattle.snapshot.specs.declared.layout.Layout.{Layout}
 use Rattle.snapshot.proofs.Laws.{past}
@@ -21,17 +21,18 @@ use Rattle.hir_def.specs.Items.{mapNo, crateOf, inBlock, parentOf, rootOf, crat
 use Rattle.hir_def.specs.ItemScope.{counts, nameOf, namesOf, isFresh, preferred}
 use Rattle.hir_def.specs.Nameres.{scopeEntry, occupied, preludeOf, externOf}
 use Rattle.hir_def.specs.declared.Item.{Item}
-use Rattle.hir_def.specs.declared.Answer.{Answer}
-use Rattle.hir_def.specs.declared.Answer.the-variants.{Name, Nothing}
+use Rattle.hir_def.specs.Entries.{entryOf}
+use Rattle.hir_def.specs.declared.Entry.{Entry}
+use Rattle.hir_def.specs.declared.Entry.the-variants.{At, Nothing}
 use Rattle.hir_def.proofs.Found.{each-first}
 use Rattle.hir_def.proofs.Fresh.{preferred-has}
 use Rattle.find_path.specs.declared.Choice.{Choice}
 use Rattle.find_path.specs.declared.KwKind.{KwKind}
 use Rattle.find_path.specs.declared.KwKind.the-variants.{Kw, NoKw}
 use Rattle.find_path.specs.declared.FindPathCtx.{FindPathCtx}
-use Rattle.find_path.specs.Choices.{nothing, keyword, choiceNew}
-use Rattle.find_path.specs.Conditions.{Named}
-use Rattle.find_path.specs.Rules.{prefixPathKind, firstFound, entryName, single, findInScope, mayBeInScope, scopeRule, isUsable, preludeEntry, inPrelude, findInPrelude, externKind, externName, rootRule, parentKind, isKwKindRelativeToFrom, keywordOf}
+use Rattle.find_path.specs.Choices.{viaScope, viaExtern, stepBy, nothing, keyword, choiceNew}
+use Rattle.find_path.specs.Conditions.{EntryFits}
+use Rattle.find_path.specs.Rules.{prefixPathKind, firstFound, single, findInScope, mayBeInScope, scopeRule, isUsable, preludeEntry, inPrelude, findInPrelude, externKind, externName, rootRule, parentKind, isKwKindRelativeToFrom, keywordOf}
 use Rattle.path_choices.proofs.ChoiceLaws.{taken-true, taken-false}
 
 pub prefix-past : (p : ℕ) → 3 ≤ p → 0 ≡ prefixPathKind p
@@ -48,10 +49,10 @@ module _ {c d : Choice} (cs : List Choice) (e : c ≡ d) where
   unfolding firstFound
   first-miss t = taken-false c (firstFound cs) (c .found) t ∙ ap (λ z. firstFound (z ∷ cs)) e
 
-pub single-last : (s : Snapshot) (x : FindPathCtx) (k : ℕ) (a : Answer) → single s x k a ≡ firstFound (single s x k a ∷ [])
+pub single-last : (s : Snapshot) (x : FindPathCtx) (k rule : ℕ) (o : Option Scope) → single s x k rule o ≡ firstFound (single s x k rule o ∷ [])
 unfolding single firstFound choiceNew
-single-last s x k Nothing = refl
-single-last s x k (Name n) = refl
+single-last s x k rule none = refl
+single-last s x k rule (some e) = refl
 
 -- what is found in one of several places
 some-first : {A B : Type 0} {P : B → Type 0} (f : A → Option B) → ((x : A) (y : B) → f x ≡ some y → P y) → (xs : List A) (y : B) → firstSome f xs ≡ some y → P y
@@ -76,37 +77,32 @@ module _ (W A : List ℕ) (l : Layout) (r : Reads W A l) where
       (names-fit a item (isFresh (counts b)) z) (names-fit a item (counts b) z) h)
       _ y e
 
-  entry-below : (o : Option Scope) → ((y : Scope) → o ≡ some y → ScopeFits (countsIn l) y) → Named l (entryName o)
-  unfolding entryName
-  entry-below none f = tt
-  entry-below (some y) f = f y refl .name
-
-  pub scope-below : (x : FindPathCtx) (item : Item) {a : Answer} → a ≡ findInScope (snapOf W A l) x item → Named l a
+  pub scope-below : (x : FindPathCtx) (item : Item) (e : Entry) → entryOf scopeAt W e ≡ findInScope (snapOf W A l) x item → EntryFits W l e
   unfolding findInScope
-  scope-below x item e =
-      subst (Named l) (sym e) (entry-below (scopeEntry (snapOf W A l) (x .from) item (x .declared) (x .fresh)) (scope-entry-fits (x .from) item (x .declared) (x .fresh)))
+  scope-below x item (At h) q = scope-entry-fits (x .from) item (x .declared) (x .fresh) (scopeAt W h) (sym q)
+  scope-below x item Nothing q = tt
 
 module _ (s : Snapshot) (x : FindPathCtx) where
   pub scope-out : (item : Item) → mayBeInScope s x ≡ false → nothing ≡ scopeRule s x item
   unfolding scopeRule
   scope-out item e = taken-false _ nothing (mayBeInScope s x) e
 
-  pub scope-in : (item : Item) {k : ℕ} {a : Answer} → k ≡ prefixPathKind (x .prefix) → a ≡ findInScope s x item → mayBeInScope s x ≡ true
-      → single s x k a ≡ scopeRule s x item
+  pub scope-in : (item : Item) {k : ℕ} {o : Option Scope} → k ≡ prefixPathKind (x .prefix) → o ≡ findInScope s x item → mayBeInScope s x ≡ true
+      → single s x k viaScope o ≡ scopeRule s x item
   unfolding scopeRule
-  scope-in item e f t = ap₂ (single s x) e f ∙ taken-true _ nothing (mayBeInScope s x) t
+  scope-in item e f t = ap₂ (λ k o. single s x k viaScope o) e f ∙ taken-true _ nothing (mayBeInScope s x) t
 
   -- a prelude's entry
-  module _ (item : Item) (e : Scope) {n : ℕ} {a : Bool} (en : n ≡ e .name) (ea : a ≡ isUsable s x item e) where
-    pub entry-taken : a ≡ true → Name n ≡ preludeEntry s x item (some e)
+  module _ (item : Item) (e : Scope) {a : Bool} (ea : a ≡ isUsable s x item e) where
+    pub entry-taken : a ≡ true → some e ≡ preludeEntry s x item (some e)
     unfolding preludeEntry
-    entry-taken t = ap Name en ∙ taken-true _ _ _ (sym ea ∙ t)
+    entry-taken t = taken-true _ _ _ (sym ea ∙ t)
 
-    pub entry-left : a ≡ false → Nothing ≡ preludeEntry s x item (some e)
+    pub entry-left : a ≡ false → none ≡ preludeEntry s x item (some e)
     unfolding preludeEntry
     entry-left t = taken-false _ _ _ (sym ea ∙ t)
 
-  pub prelude-none : (item : Item) {k : ℕ} → k ≡ mapNo s (x .from) → none ≡ preludeOf s k → Nothing ≡ findInPrelude s x item
+  pub prelude-none : (item : Item) {k : ℕ} → k ≡ mapNo s (x .from) → none ≡ preludeOf s k → none ≡ findInPrelude s x item
   unfolding findInPrelude inPrelude
   prelude-none item e f = ap (inPrelude s x item) (f ∙ ap (preludeOf s) e)
 
@@ -117,11 +113,12 @@ module _ (s : Snapshot) (x : FindPathCtx) where
       ap (preludeEntry s x item) (h ∙ ap (λ t. preferred (x .fresh) s t item (isUsable s x item) (nameOf s t item)) g) ∙ ap (inPrelude s x item) (f ∙ ap (preludeOf s) e)
 
   -- an extern's name
-  pub extern-some : (m : ℕ) (e : Extern) {n : ℕ} {o : Bool} (t : Bool) → n ≡ e .name → o ≡ occupied s (x .from) m n → o || x .absolute ≡ t
-      → choiceNew s (externKind s x t) n ≡ externName s x m (some e)
+  pub extern-some : (m : ℕ) (e : Extern) {n via : ℕ} {o : Bool} (t : Bool) → n ≡ e .name → via ≡ stepBy viaExtern (e .place)
+      → o ≡ occupied s (x .from) m n → o || x .absolute ≡ t → choiceNew s (externKind s x t) n via ≡ externName s x m (some e)
   unfolding externName
-  extern-some m e t en eo et =
-      ap₂ (λ k n. choiceNew s (externKind s x k) n) (sym et ∙ ap (λ o. o || x .absolute) (eo ∙ ap (occupied s (x .from) m) en)) en
+  extern-some m e {via = via} t en ev eo et =
+      ap₂ (λ k n. choiceNew s (externKind s x k) n via) (sym et ∙ ap (λ o. o || x .absolute) (eo ∙ ap (occupied s (x .from) m) en)) en
+      ∙ ap (choiceNew s (externKind s x (occupied s (x .from) m (e .name) || x .absolute)) (e .name)) ev
 
   module _ (b : Bool) (m : ℕ) {r : ℕ} (er : r ≡ crateRoot s m) where
     pub root-other : (r ≡ m → ⊥) → nothing ≡ rootRule s x b m

@@ -1,27 +1,28 @@
 //! The rules that answer without a search.
 ghost use mathlib.Core.Path.{_≡_};
-ghost use Prim.Native.Nat.{ℕ, _<_};
+ghost use Prim.Native.Nat.{ℕ, _<_, _≤_};
 ghost use Rattle.snapshot.specs.Records.{Snapshot, scopeAt, externAt};
 ghost use Rattle.snapshot.specs.Layouts.{snapOf};
 ghost use Rattle.accept.specs.Stands.{countsIn};
 ghost use Rattle.accept.specs.Post.{Reads};
-ghost use Rattle.accept.specs.Valid.{ScopeFits};
+ghost use Rattle.accept.specs.Valid.{ScopeFits, ExternFits};
 ghost use Rattle.hir_def.specs.Items.{parentOf};
 ghost use Rattle.hir_def.specs.Entries.{entryOf};
 ghost use Rattle.hir_def.specs.declared.Entry.the-variants.{At};
 ghost use Rattle.find_path.specs.declared.FindPathCtx.{FindPathCtx};
-ghost use Rattle.find_path.specs.Conditions.{Named};
-ghost use Rattle.find_path.specs.Rules.{prefixPathKind, entryName, single as singleOf, findInScope, mayBeInScope, scopeRule, preludeEntry, findInPrelude, preludeRule, externName, rootRule, parentKind, isKwKindRelativeToFrom, keywordOf, moduleRules};
+ghost use Rattle.find_path.specs.Conditions.{EntryFits};
+ghost use Rattle.find_path.specs.Rules.{prefixPathKind, single as singleOf, findInScope, mayBeInScope, scopeRule, preludeEntry, findInPrelude, preludeRule, externName, rootRule, parentKind, isKwKindRelativeToFrom, keywordOf, moduleRules};
+use crate::choices::StepRule;
 use crate::choices::choice_new;
 use crate::choices::keyword;
 use crate::choices::nothing;
+use crate::choices::step_by;
 use crate::context::PrefixKind;
 use crate_graph::extern_of;
 use crate_graph::prelude_of;
 use find_path::Choice;
 use find_path::FindPathCtx;
 use find_path::KwKind;
-use hir_def::Answer;
 use hir_def::Entry;
 use hir_def::Item;
 use hir_def::modules::crate_root;
@@ -37,7 +38,6 @@ use rule_lookups::entry_by;
 use rule_lookups::is_usable;
 use snapshot::ids::Crate;
 use snapshot::ids::ModuleId;
-use snapshot::ids::Name;
 use snapshot::layout::Layout;
 use snapshot::record::extern_name;
 use snapshot::record::prelude_target;
@@ -71,35 +71,24 @@ fn prefix_path_kind(prefix: usize) -> usize
     PREFIX_KINDS[prefix]
 }
 
-// The name of an entry.
-fn entry_name(words: &[u32], e: Entry) -> Answer
-    ensures { λ r. ⌜ r ≡ entryName (entryOf scopeAt (now (words .entry)) e) ⌝ }
+// The single name of an entry, by a rule, or nothing.
+fn single(words: &[u32], area: &[u32], l: Layout, kind: usize, rule: usize, e: Entry) -> Choice
+    requires { ⌜ Reads (now words) (now area) l × (rule ≤ 7) × EntryFits (now words) l e ⌝ }
+    ensures { λ r. ⌜ ((x : FindPathCtx) → r ≡ singleOf (snapOf (now (words .entry)) (now (area .entry)) l) x kind rule (entryOf scopeAt (now (words .entry)) e)) ⌝ }
 {
     let Entry::At(h) = e else {
-        return Answer::Nothing;
-    };
-    let n = scope_name(words, h);
-    Answer::Name(n.0)
-}
-
-// A single name, or nothing.
-fn single(words: &[u32], area: &[u32], l: Layout, kind: usize, a: Answer) -> Choice
-    requires { ⌜ Reads (now words) (now area) l × Named l a ⌝ }
-    ensures { λ r. ⌜ ((x : FindPathCtx) → r ≡ singleOf (snapOf (now (words .entry)) (now (area .entry)) l) x kind a) ⌝ }
-{
-    let Answer::Name(n) = a else {
         return nothing();
     };
-    choice_new(words, area, l, kind, Name(n))
+    let via = step_by(rule, h);
+    choice_new(words, area, l, kind, scope_name(words, h), via)
 }
 
-/// The item's name in the viewing module, or around its blocks.
-pub fn find_in_scope(words: &[u32], area: &[u32], l: Layout, x: FindPathCtx, item: Item) -> Answer
+/// The item's entry in the viewing module, or around its blocks.
+pub fn find_in_scope(words: &[u32], area: &[u32], l: Layout, x: FindPathCtx, item: Item) -> Entry
     requires { ⌜ Reads (now words) (now area) l × (x .from < l .modules) ⌝ }
-    ensures { λ r. ⌜ (r ≡ findInScope (snapOf (now (words .entry)) (now (area .entry)) l) x item) × Named l r ⌝ }
+    ensures { λ r. ⌜ (entryOf scopeAt (now (words .entry)) r ≡ findInScope (snapOf (now (words .entry)) (now (area .entry)) l) x item) × EntryFits (now (words .entry)) l r ⌝ }
 {
-    let e = scope_entry(words, area, l, ModuleId(x.from), item, x.declared, x.fresh);
-    entry_name(words, e)
+    scope_entry(words, area, l, ModuleId(x.from), item, x.declared, x.fresh)
 }
 
 // Whether the scope is used: under ByCrate only the crate's root does.
@@ -117,11 +106,18 @@ pub fn scope_rule(words: &[u32], area: &[u32], l: Layout, x: FindPathCtx, item: 
     if !may_be_in_scope(x) {
         return nothing();
     }
-    let a = find_in_scope(words, area, l, x, item);
-    single(words, area, l, prefix_path_kind(x.prefix), a)
+    let e = find_in_scope(words, area, l, x, item);
+    single(
+        words,
+        area,
+        l,
+        prefix_path_kind(x.prefix),
+        StepRule::SCOPE,
+        e,
+    )
 }
 
-// The name of a prelude's entry, if visible and not another thing's name here.
+// A prelude's entry, if visible and not another thing's name here.
 fn prelude_entry(
     words: &[u32],
     area: &[u32],
@@ -129,29 +125,28 @@ fn prelude_entry(
     x: FindPathCtx,
     item: Item,
     e: Entry,
-) -> Answer
+) -> Entry
     requires { ⌜ Reads (now words) (now area) l × (x .from < l .modules) × ((h : ℕ) → e ≡ At h → ScopeFits (countsIn l) (scopeAt (now words) h)) ⌝ }
-    ensures { λ r. ⌜ (r ≡ preludeEntry (snapOf (now (words .entry)) (now (area .entry)) l) x item (entryOf scopeAt (now (words .entry)) e)) × Named l r ⌝ }
+    ensures { λ r. ⌜ (entryOf scopeAt (now (words .entry)) r ≡ preludeEntry (snapOf (now (words .entry)) (now (area .entry)) l) x item (entryOf scopeAt (now (words .entry)) e)) × EntryFits (now (words .entry)) l r ⌝ }
 {
     let Entry::At(h) = e else {
-        return Answer::Nothing;
+        return Entry::Nothing;
     };
-    let name = scope_name(words, h);
     if is_usable(words, area, l, x, item, h) {
-        return Answer::Name(name.0);
+        return Entry::At(h);
     }
-    Answer::Nothing
+    Entry::Nothing
 }
 
-/// The item's first name in the prelude, if visible and not another thing's name here; by options bit 32 the first such name that isn't
+/// The item's first entry in the prelude, if visible and not another thing's name here; by options bit 32 the first such entry that isn't
 /// deprecated, if there is one.
-pub fn find_in_prelude(words: &[u32], area: &[u32], l: Layout, x: FindPathCtx, item: Item) -> Answer
+pub fn find_in_prelude(words: &[u32], area: &[u32], l: Layout, x: FindPathCtx, item: Item) -> Entry
     requires { ⌜ Reads (now words) (now area) l × (x .from < l .modules) ⌝ }
-    ensures { λ r. ⌜ (r ≡ findInPrelude (snapOf (now (words .entry)) (now (area .entry)) l) x item) × Named l r ⌝ }
+    ensures { λ r. ⌜ (entryOf scopeAt (now (words .entry)) r ≡ findInPrelude (snapOf (now (words .entry)) (now (area .entry)) l) x item) × EntryFits (now (words .entry)) l r ⌝ }
 {
     let p = prelude_of(words, l, map(words, area, l, ModuleId(x.from)));
     let Entry::At(h) = p else {
-        return Answer::Nothing;
+        return Entry::Nothing;
     };
     let e = entry_by(
         words,
@@ -170,8 +165,8 @@ pub fn prelude_rule(words: &[u32], area: &[u32], l: Layout, x: FindPathCtx, item
     requires { ⌜ Reads (now words) (now area) l × (x .from < l .modules) ⌝ }
     ensures { λ r. ⌜ r ≡ preludeRule (snapOf (now (words .entry)) (now (area .entry)) l) x item ⌝ }
 {
-    let a = find_in_prelude(words, area, l, x, item);
-    single(words, area, l, PathKind::PLAIN, a)
+    let e = find_in_prelude(words, area, l, x, item);
+    single(words, area, l, PathKind::PLAIN, StepRule::PRELUDE, e)
 }
 
 // The crate's root by its extern name, with `::` where the name is another thing's here.
@@ -183,17 +178,18 @@ fn extern_rule(
     m: ModuleId,
     e: Entry,
 ) -> Choice
-    requires { ⌜ Reads (now words) (now area) l × (x .from < l .modules) × ((h : ℕ) → e ≡ At h → externAt (now words) h .name < l .names) ⌝ }
+    requires { ⌜ Reads (now words) (now area) l × (x .from < l .modules) × ((h : ℕ) → e ≡ At h → ExternFits (countsIn l) (externAt (now words) h)) ⌝ }
     ensures { λ r. ⌜ r ≡ externName (snapOf (now (words .entry)) (now (area .entry)) l) x (m .0) (entryOf externAt (now (words .entry)) e) ⌝ }
 {
     let Entry::At(h) = e else {
         return nothing();
     };
+    let via = step_by(StepRule::EXTERN, h);
     let name = extern_name(words, h);
     if occupied(words, area, l, ModuleId(x.from), m, name) | x.absolute {
-        return choice_new(words, area, l, PathKind::ABSOLUTE, name);
+        return choice_new(words, area, l, PathKind::ABSOLUTE, name, via);
     }
-    choice_new(words, area, l, PathKind::PLAIN, name)
+    choice_new(words, area, l, PathKind::PLAIN, name, via)
 }
 
 /// A crate's root: `crate` in the viewer's crate or where no extern may be used, else its extern name.

@@ -2,10 +2,10 @@
 use Prim.Native.Nat.{ℕ, suc, _+_, _-_, _%_, _≤_, _<_, min}
 use mathlib.Core.Path.{_≡_, refl, sym, _∙_, ap, ap₂}
 use mathlib.Core.List.{List, _++_}
-use mathlib.Core.Bool.{Bool, true, false, _&&_}
+use mathlib.Core.Bool.{Bool, true, false, _&&_, _||_}
 use native.Mathlib.Omega.{arith}
 use native.Mathlib.Nat.{sub-zero}
-use borrow.Author.Tests.{eq-eqb, ne-eqb, lt-ltb, le-ltb, lt-leb, ltb-true, ltb-false}
+use borrow.Author.Tests.{eq-eqb, ne-eqb, eqb-true, lt-ltb, le-ltb, lt-leb, ltb-true, ltb-false}
 use lib.Dec.{eqb, leb, ltb}
 use lib.ListN.{length, getD, take, length-take}
 use lib.Seq.{length-take-le}
@@ -16,12 +16,17 @@ use Rattle.accept.specs.Verdict.{empty}
 use Rattle.accept.specs.Post.{Judged}
 use Rattle.accept.specs.declared.check.Checked.{Checked}
 use Rattle.accept.proofs.Accepted.{by-test}
+use Rattle.accept.proofs.Bools.{and-left}
 use Rattle.printing.specs.Output.{Put}
 use Rattle.find_path.specs.declared.Question.{Question}
 use Rattle.find_path.specs.Report.{refused}
-use Rattle.find_path.specs.Line.{bytesOf, lineIn, lineOf}
+use Rattle.find_path.specs.Line.{bytesOf, lineIn, lineOf, routedLineOf}
 use Rattle.checked.specs.Lines.{LineOn}
-use Rattle.printer.specs.Printed.{firstFrom, questionsAt, isArgument, wholeAt, questionAt, lineAt, nextAt, inputFault, Printed}
+use Rattle.reach_parts.specs.declared.Viewer.{Viewer}
+use Rattle.reach_parts.specs.Reach.{reachOf, reachLine}
+use Rattle.reach.specs.Reached.{ReachLineOn}
+use Rattle.route_line.specs.Routed.{RoutedOn}
+use Rattle.printer.specs.Printed.{isQuestion, isHead, firstFrom, questionsAt, isArgument, wholeAt, questionAt, asksRoute, reachAt, viewerAt, lineAt, nextAt, inputFault, Printed}
 
 -- faults of an input
 
@@ -52,13 +57,14 @@ module _ (W : List ℕ) where
     left : i < length W → length W - i ≡ suc (length W - (i + 1))
     left h = omega arith
 
-    pub first-here : (k : ℕ) → i < length W → k ≡ kindOf (getD W i 0) → k ≡ 12 → i ≡ questionsAt W
+    pub first-here : (b : Bool) → i < length W → b ≡ isHead (kindOf (getD W i 0)) → b ≡ true → i ≡ questionsAt W
     unfolding firstFrom
-    first-here k h q t = let z : kindOf (getD W i 0) ≡ 12 = sym q ∙ t in sym (e ∙ rw (left h, firstFrom, eq-eqb _ _ z))
+    first-here b h q t = let z : isHead (kindOf (getD W i 0)) ≡ true = sym q ∙ t in sym (e ∙ rw (left h, firstFrom, z))
 
-    pub first-later : (k : ℕ) → i < length W → k ≡ kindOf (getD W i 0) → (k ≡ 12 → ⊥) → questionsAt W ≡ firstFrom W (i + 1) (length W - (i + 1))
+    pub first-later : (b : Bool) → i < length W → b ≡ isHead (kindOf (getD W i 0)) → b ≡ false
+        → questionsAt W ≡ firstFrom W (i + 1) (length W - (i + 1))
     unfolding firstFrom
-    first-later k h q t = let z : (kindOf (getD W i 0) ≡ 12 → ⊥) = λ y. t (q ∙ y) in e ∙ rw (left h, firstFrom, ne-eqb _ _ z)
+    first-later b h q t = let z : isHead (kindOf (getD W i 0)) ≡ false = sym q ∙ t in e ∙ rw (left h, firstFrom, z)
 
     pub first-none : length W ≤ i → i ≡ questionsAt W
     unfolding firstFrom
@@ -66,12 +72,12 @@ module _ (W : List ℕ) where
 
 -- questions
 
-pub whole-same : (W : List ℕ) (i k : ℕ) (a b c d e f : Bool) → k ≡ kindOf (getD W i 0) → a ≡ isArgument W (i + 1) → b ≡ isArgument W (i + 2)
+pub whole-same : (W : List ℕ) (i : ℕ) (h a b c d e f : Bool) → h ≡ isQuestion (kindOf (getD W i 0)) → a ≡ isArgument W (i + 1) → b ≡ isArgument W (i + 2)
     → c ≡ isArgument W (i + 3) → d ≡ isArgument W (i + 4) → e ≡ isArgument W (i + 5) → f ≡ isArgument W (i + 6)
-    → (eqb k 12 && ((a && b) && ((c && d) && ((e && f) && leb (i + 7) (length W))))) ≡ wholeAt W i
+    → (h && ((a && b) && ((c && d) && ((e && f) && leb (i + 7) (length W))))) ≡ wholeAt W i
 unfolding wholeAt
-whole-same W i k a b c d e f p q r s t u v =
-    ap₂ (λ x y. x && y) (ap (λ x. eqb x 12) p)
+whole-same W i h a b c d e f p q r s t u v =
+    ap₂ (λ x y. x && y) p
     (ap₂ (λ x y. x && y) (ap₂ (λ x y. x && y) q r)
     (ap₂ (λ x y. x && y) (ap₂ (λ x y. x && y) s t) (ap (λ x. x && leb (i + 7) (length W)) (ap₂ (λ x y. x && y) u v))))
 
@@ -87,7 +93,7 @@ unfolding wholeAt
 not-whole W i h =
     let g : length W < i + 7 = omega arith in
     rw (wholeAt, lt-leb _ _ g)
-    (none-false (eqb (kindOf (getD W i 0)) 12) (isArgument W (i + 1) && isArgument W (i + 2)) (isArgument W (i + 3) && isArgument W (i + 4)) (isArgument W (i + 5) && isArgument W (i + 6)))
+    (none-false (isQuestion (kindOf (getD W i 0))) (isArgument W (i + 1) && isArgument W (i + 2)) (isArgument W (i + 3) && isArgument W (i + 4)) (isArgument W (i + 5) && isArgument W (i + 6)))
 
 pub question-same : (W : List ℕ) (i ns d m p o n f : ℕ) → ns ≡ getD W (i + 1) 0 → d ≡ payOf (getD W i 0) → m ≡ getD W (i + 2) 0
     → p ≡ getD W (i + 3) 0 → o ≡ getD W (i + 4) 0 → n ≡ getD W (i + 6) 0 → f ≡ getD W (i + 5) 0
@@ -95,6 +101,42 @@ pub question-same : (W : List ℕ) (i ns d m p o n f : ℕ) → ns ≡ getD W (i
 unfolding questionAt
 question-same W i ns d m p o n f a b c e g k h =
     λ j. record { query = record { ns = a j; definition = b j; from = c j; prefix = e j; options = g j; limit = k j }; fuel = h j }
+
+-- questions for a reach
+
+pub reach-same : (W : List ℕ) (i k : ℕ) (a b c d : Bool) → k ≡ kindOf (getD W i 0) → a ≡ isArgument W (i + 1) → b ≡ isArgument W (i + 2)
+    → c ≡ isArgument W (i + 3) → d ≡ isArgument W (i + 4)
+    → (eqb k 15 && ((a && b) && ((c && d) && leb (i + 5) (length W)))) ≡ reachAt W i
+unfolding reachAt
+reach-same W i k a b c d p q r s t =
+    ap₂ (λ x y. x && y) (ap (λ x. eqb x 15) p)
+    (ap₂ (λ x y. x && y) (ap₂ (λ x y. x && y) q r) (ap (λ x. x && leb (i + 5) (length W)) (ap₂ (λ x y. x && y) s t)))
+
+pub not-reach : (W : List ℕ) (i : ℕ) → length W ≤ i → false ≡ reachAt W i
+unfolding reachAt
+not-reach W i h =
+    let g : length W < i + 5 = omega arith in
+    rw (reachAt, lt-leb _ _ g)
+    (none-false true (eqb (kindOf (getD W i 0)) 15) (isArgument W (i + 1) && isArgument W (i + 2)) (isArgument W (i + 3) && isArgument W (i + 4)))
+
+pub viewer-same : (W : List ℕ) (i m p o f n : ℕ) → m ≡ payOf (getD W i 0) → p ≡ getD W (i + 1) 0 → o ≡ getD W (i + 2) 0
+    → f ≡ getD W (i + 3) 0 → n ≡ getD W (i + 4) 0
+    → _≡_ {A = Viewer} (record { from = m; prefix = p; options = o; fuel = f; limit = n }) (viewerAt W i)
+unfolding viewerAt
+viewer-same W i m p o f n a b c d e = λ j. record { from = a j; prefix = b j; options = c j; fuel = d j; limit = e j }
+
+-- one place has one kind
+both-kinds : (k : ℕ) (a b : Bool) → (isQuestion k && a) ≡ true → (eqb k 15 && b) ≡ true → ⊥
+both-kinds k a b p q =
+    let y = eqb-true k 15 (and-left (eqb k 15) b q) in
+    let m : (eqb k 12 || eqb k 14) ≡ true = and-left (isQuestion k) a p in
+    by-test (eqb k 12)
+    (λ t. let x = eqb-true k 12 t in omega (arith, x, y))
+    (λ t. let h : eqb k 14 ≡ true = rw t at m in let x = eqb-true k 14 h in omega (arith, x, y))
+
+pub reach-no-question : (W : List ℕ) (i : ℕ) → reachAt W i ≡ true → wholeAt W i ≡ false
+unfolding wholeAt reachAt
+reach-no-question W i r = by-test (wholeAt W i) (λ w. absurd (both-kinds (kindOf (getD W i 0)) _ _ w r)) (λ w. w)
 
 -- the line of a question
 
@@ -112,29 +154,57 @@ refusal-counts k p = counts-of (p empty 0)
 -- a turn
 
 module _ (W S : List ℕ) (c : Checked) (i : ℕ) (A out : List ℕ) where
-  pub turn-refused : (old : List ℕ) (n : ℕ) (b : Bool) → b ≡ wholeAt W i → b ≡ false → Judged S A c
+  pub turn-refused : (old : List ℕ) (n : ℕ) (b r : Bool) → r ≡ reachAt W i → r ≡ false → b ≡ wholeAt W i → b ≡ false → Judged S A c
       → ((s : Snapshot) (from : ℕ) → Put old 0 (lineIn s from (refused 42) ++ bytesOf "\n") out n)
       → Printed W S c i A out (record { bytes = n; next = length W })
   unfolding lineAt nextAt
-  turn-refused old n b e t j p =
+  turn-refused old n b r g u e t j p =
       let f : wholeAt W i ≡ false = sym e ∙ t in
+      let x : reachAt W i ≡ false = sym g ∙ u in
       let w = p empty 0 in
       record {
-        line = w .same ∙ sym (rw (lineAt, f));
+        line = w .same ∙ sym (rw (lineAt, f, x));
         counts = counts-of w;
-        next = sym (rw (nextAt, f));
+        next = sym (rw (nextAt, f, x));
         checked = j;
       }
 
-  pub turn-line : (old : List ℕ) (n : ℕ) (b : Bool) (q : Question) → b ≡ wholeAt W i → b ≡ true → q ≡ questionAt W i → LineOn S q c A old out n
-      → Printed W S c i A out (record { bytes = n; next = i + 7 })
+  module _ (old : List ℕ) (n : ℕ) (b r : Bool) (q : Question) (e : b ≡ wholeAt W i) (t : b ≡ true) (h : q ≡ questionAt W i) (g : r ≡ asksRoute W i) where
+    whole : wholeAt W i ≡ true
+    whole = sym e ∙ t
+
+    pub turn-line : r ≡ false → LineOn S q c A old out n → Printed W S c i A out (record { bytes = n; next = i + 7 })
+    unfolding lineAt nextAt
+    turn-line u p =
+        let k : asksRoute W i ≡ false = sym g ∙ u in
+        record {
+          line = p .line .same ∙ ap (λ x. lineOf S x ++ bytesOf "\n") h ∙ sym (rw (lineAt, whole, k));
+          counts = counts-of (p .line);
+          next = sym (rw (nextAt, whole));
+          checked = p .checked;
+        }
+
+    pub turn-route : r ≡ true → RoutedOn S q c A old out n → Printed W S c i A out (record { bytes = n; next = i + 7 })
+    unfolding lineAt nextAt
+    turn-route u p =
+        let k : asksRoute W i ≡ true = sym g ∙ u in
+        record {
+          line = p .line .same ∙ ap (λ x. routedLineOf S x ++ bytesOf "\n") h ∙ sym (rw (lineAt, whole, k));
+          counts = counts-of (p .line);
+          next = sym (rw (nextAt, whole));
+          checked = p .checked;
+        }
+
+  pub turn-reach : (old : List ℕ) (n : ℕ) (r : Bool) (v : Viewer) → r ≡ reachAt W i → r ≡ true → v ≡ viewerAt W i → ReachLineOn S v c A old out n
+      → Printed W S c i A out (record { bytes = n; next = i + 5 })
   unfolding lineAt nextAt
-  turn-line old n b q e t h p =
-      let f : wholeAt W i ≡ true = sym e ∙ t in
+  turn-reach old n r v e t h p =
+      let x : reachAt W i ≡ true = sym e ∙ t in
+      let f = reach-no-question W i x in
       record {
-        line = p .line .same ∙ ap (λ x. lineOf S x ++ bytesOf "\n") h ∙ sym (rw (lineAt, f));
+        line = p .line .same ∙ ap (λ y. reachLine (reachOf S 16384 y) ++ bytesOf "\n") h ∙ sym (rw (lineAt, f, x));
         counts = counts-of (p .line);
-        next = sym (rw (nextAt, f));
+        next = sym (rw (nextAt, f, x));
         checked = p .checked;
       }
 
@@ -143,4 +213,7 @@ unfolding nextAt
 next-more W i n h e =
     by-test (wholeAt W i)
     (λ t. let f : n ≡ i + 7 = e ∙ rw (nextAt, t) in omega arith)
-    (λ t. let f : n ≡ length W = e ∙ rw (nextAt, t) in omega arith)
+    (λ t.
+    by-test (reachAt W i)
+    (λ u. let f : n ≡ i + 5 = e ∙ rw (nextAt, t, u) in omega arith)
+    (λ u. let f : n ≡ length W = e ∙ rw (nextAt, t, u) in omega arith))

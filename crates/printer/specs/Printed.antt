@@ -2,10 +2,11 @@
 use Prim.Native.Nat.{ℕ, zero, suc, _+_, _/_, _%_}
 use mathlib.Core.Path.{_≡_}
 use mathlib.Core.List.{List, [], _∷_, _++_}
-use mathlib.Core.Bool.{Bool, true, false, _&&_}
+use mathlib.Core.Bool.{Bool, true, false, _&&_, _||_}
 use lib.Dec.{eqb, leb, ltb}
 use lib.ListN.{length, getD, take}
 use Rattle.io.specs.Counts.{Counts}
+use Rattle.snapshot.specs.Limits.{areaLimit}
 use Rattle.snapshot.specs.Words.{kindOf, payOf}
 use Rattle.accept.specs.Verdict.{empty}
 use Rattle.accept.specs.Post.{Judged}
@@ -13,13 +14,23 @@ use Rattle.accept.specs.declared.check.Checked.{Checked}
 use Rattle.printing.specs.Input.{wordsIn}
 use Rattle.find_path.specs.declared.Question.{Question}
 use Rattle.find_path.specs.Report.{refused}
-use Rattle.find_path.specs.Line.{bytesOf, lineIn, lineOf}
+use Rattle.find_path.specs.Line.{bytesOf, lineIn, lineOf, routedLineOf}
+use Rattle.reach_parts.specs.declared.Viewer.{Viewer}
+use Rattle.reach_parts.specs.Reach.{reachOf, reachLine}
 use Rattle.printer.specs.declared.lines.Turn.{Turn}
 
--- the first place of a head of kind 12, from a place on; n words are left there
+-- the kinds of questions: 12, and 14 for the line with its route
+abbrev pub isQuestion : ℕ → Bool
+isQuestion k = eqb k 12 || eqb k 14
+
+-- the kinds of what is asked: a question, or 15 for the reach of a module
+abbrev pub isHead : ℕ → Bool
+isHead k = isQuestion k || eqb k 15
+
+-- the first place of such a head, from a place on; n words are left there
 unfoldable pub firstFrom : List ℕ → ℕ → ℕ → ℕ
 firstFrom W i zero = i
-firstFrom W i (suc n) = elim (eqb (kindOf (getD W i 0)) 12) [ true ↦ i | false ↦ firstFrom W (i + 1) n ]
+firstFrom W i (suc n) = elim (isHead (kindOf (getD W i 0))) [ true ↦ i | false ↦ firstFrom W (i + 1) n ]
 
 -- where the questions begin, or the number of words
 unfoldable pub questionsAt : List ℕ → ℕ
@@ -28,10 +39,10 @@ questionsAt W = firstFrom W 0 (length W)
 abbrev pub isArgument : List ℕ → ℕ → Bool
 isArgument W i = eqb (kindOf (getD W i 0)) 0
 
--- a whole question: a head of kind 12 and six arguments
+-- a whole question: a head and six arguments
 unfoldable pub wholeAt : List ℕ → ℕ → Bool
 wholeAt W i =
-    eqb (kindOf (getD W i 0)) 12
+    isQuestion (kindOf (getD W i 0))
     && ((isArgument W (i + 1) && isArgument W (i + 2))
     && ((isArgument W (i + 3) && isArgument W (i + 4))
     && ((isArgument W (i + 5) && isArgument W (i + 6)) && leb (i + 7) (length W))))
@@ -51,16 +62,41 @@ questionAt W i =
       fuel = getD W (i + 5) 0;
     }
 
+-- a whole question for a reach: a head of kind 15 and four arguments
+unfoldable pub reachAt : List ℕ → ℕ → Bool
+reachAt W i =
+    eqb (kindOf (getD W i 0)) 15
+    && ((isArgument W (i + 1) && isArgument W (i + 2)) && ((isArgument W (i + 3) && isArgument W (i + 4)) && leb (i + 5) (length W)))
+
+-- head: viewing module; arguments: prefix, options, fuel, limit
+unfoldable pub viewerAt : List ℕ → ℕ → Viewer
+viewerAt W i =
+    record {
+      from = payOf (getD W i 0);
+      prefix = getD W (i + 1) 0;
+      options = getD W (i + 2) 0;
+      fuel = getD W (i + 3) 0;
+      limit = getD W (i + 4) 0;
+    }
+
 -- the line of a refusal of the input
 abbrev pub refusalLine : ℕ → List ℕ
 refusalLine n = lineIn empty 0 (refused n)
 
+-- the question asks for its route
+abbrev pub asksRoute : List ℕ → ℕ → Bool
+asksRoute W i = eqb (kindOf (getD W i 0)) 14
+
 -- S are the words of the snapshot: the line of what stands at a place of the words W, and the place after it
 unfoldable pub lineAt : List ℕ → List ℕ → ℕ → List ℕ
-lineAt W S i = elim (wholeAt W i) [ true ↦ lineOf S (questionAt W i) | false ↦ refusalLine 42 ]
+lineAt W S i =
+    elim (wholeAt W i) [
+      | true ↦ elim (asksRoute W i) [ true ↦ routedLineOf S (questionAt W i) | false ↦ lineOf S (questionAt W i) ]
+      | false ↦ elim (reachAt W i) [ true ↦ reachLine (reachOf S areaLimit (viewerAt W i)) | false ↦ refusalLine 42 ]
+    ]
 
 unfoldable pub nextAt : List ℕ → ℕ → ℕ
-nextAt W i = elim (wholeAt W i) [ true ↦ i + 7 | false ↦ length W ]
+nextAt W i = elim (wholeAt W i) [ true ↦ i + 7 | false ↦ elim (reachAt W i) [ true ↦ i + 5 | false ↦ length W ] ]
 
 -- the lines from a place on; n is at least the number of words left
 unfoldable pub linesFrom : ℕ → List ℕ → List ℕ → ℕ → List (List ℕ)

@@ -4,11 +4,16 @@ ghost use Prim.Native.Nat.{_≤_, _<_};
 ghost use lib.ListN.{length};
 ghost use Rattle.accept.specs.Post.{Judged};
 ghost use Rattle.printer.specs.Printed.{Printed};
+use crate::questions::asks_route;
+use crate::questions::is_reach;
 use crate::questions::is_whole;
 use crate::questions::question_at;
+use crate::questions::viewer_at;
 use accept::check::Checked;
 use checked::lines::line_on;
 use line::line::put_refusal;
+use reach::lines::reach_line_on;
+use route_line::lines::routed_line_on;
 
 /// How many bytes a line has, and the place after what it is for.
 pub struct Turn {
@@ -16,7 +21,7 @@ pub struct Turn {
     pub next: usize,
 }
 
-/// The line of what stands at a place: of a whole question, or the refusal of words that are none.
+/// The line of what stands at a place: of a whole question, with its route where that is asked for, of a reach, or the refusal of words that are none.
 pub fn next_line(
     words: &[u32],
     snapshot: &[u32],
@@ -25,9 +30,17 @@ pub fn next_line(
     at: usize,
     out: &mut [u8],
 ) -> Turn
-    requires { ⌜ Judged (now snapshot) (now area) c × (length (now area) ≡ 16384) × (4166 ≤ length (now out)) × (at < length (now words)) × (length (now words) ≤ 16384) ⌝ }
+    requires { ⌜ Judged (now snapshot) (now area) c × (length (now area) ≡ 16384) × (4659 ≤ length (now out)) × (at < length (now words)) × (length (now words) ≤ 16384) ⌝ }
     ensures { λ r. ⌜ Printed (now (words .entry)) (now (snapshot .entry)) c at (now (area .exit)) (now (out .exit)) r ⌝ }
 {
+    if is_reach(words, at) {
+        let v = viewer_at(words, at);
+        let n = reach_line_on(snapshot, area, c, v, out);
+        return Turn {
+            bytes: n,
+            next: at + 5,
+        };
+    }
     if !is_whole(words, at) {
         let n = put_refusal(out, 42);
         return Turn {
@@ -36,9 +49,17 @@ pub fn next_line(
         };
     }
     let q = question_at(words, at);
+    let next = at + 7;
+    if asks_route(words, at) {
+        let n = routed_line_on(snapshot, area, c, q, out);
+        return Turn {
+            bytes: n,
+            next: next,
+        };
+    }
     let n = line_on(snapshot, area, c, q, out);
     Turn {
         bytes: n,
-        next: at + 7,
+        next: next,
     }
 }

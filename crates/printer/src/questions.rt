@@ -2,19 +2,38 @@
 ghost use mathlib.Core.Path.{_≡_};
 ghost use Prim.Native.Nat.{_+_, _≤_};
 ghost use lib.ListN.{length};
-ghost use Rattle.printer.specs.Printed.{questionsAt, isArgument, wholeAt, questionAt};
+ghost use Rattle.printer.specs.Printed.{isQuestion, isHead, questionsAt, isArgument, wholeAt, asksRoute, reachAt, questionAt, viewerAt};
 use find_path::Query;
 use find_path::Question;
+use reach_parts::Viewer;
 use snapshot::kind::Kind;
 use snapshot::words::field;
 use snapshot::words::kind;
 use snapshot::words::payload;
 
-/// A record's kind.
+/// The kinds of what is asked: a path, a path with its route, and the reach of a module.
 pub struct QuestionKind(pub usize);
 
 impl QuestionKind {
-    pub const HEAD: usize = 12;
+    pub const PATH: usize = 12;
+
+    pub const ROUTE: usize = 14;
+
+    pub const REACH: usize = 15;
+}
+
+// Whether a kind is a question's.
+fn is_question(kind: usize) -> bool
+    ensures { λ r. ⌜ r ≡ isQuestion kind ⌝ }
+{
+    (kind == QuestionKind::PATH) | (kind == QuestionKind::ROUTE)
+}
+
+// Whether a kind is one of these.
+fn is_head(kind: usize) -> bool
+    ensures { λ r. ⌜ r ≡ isHead kind ⌝ }
+{
+    is_question(kind) | (kind == QuestionKind::REACH)
 }
 
 /// The place of the first head of a question, or the number of words.
@@ -23,7 +42,7 @@ pub fn first_question(words: &[u32]) -> usize
 {
     let mut i = 0;
     while i < words.len() {
-        if kind(words, i) == QuestionKind::HEAD {
+        if is_head(kind(words, i)) {
             return i;
         }
         i += 1;
@@ -44,12 +63,33 @@ pub fn is_whole(words: &[u32], at: usize) -> bool
     if words.len() <= at {
         return false;
     }
-    let head = kind(words, at) == QuestionKind::HEAD;
+    let head = is_question(kind(words, at));
     let first = is_argument(words, at + 1) & is_argument(words, at + 2);
     let second = is_argument(words, at + 3) & is_argument(words, at + 4);
     let third = is_argument(words, at + 5) & is_argument(words, at + 6);
     let room = at + 7 <= words.len();
     head & (first & (second & (third & room)))
+}
+
+/// Whether a whole question for a reach stands at a place.
+pub fn is_reach(words: &[u32], at: usize) -> bool
+    ensures { λ r. ⌜ r ≡ reachAt (now (words .entry)) at ⌝ }
+{
+    if words.len() <= at {
+        return false;
+    }
+    let head = kind(words, at) == QuestionKind::REACH;
+    let first = is_argument(words, at + 1) & is_argument(words, at + 2);
+    let second = is_argument(words, at + 3) & is_argument(words, at + 4);
+    let room = at + 5 <= words.len();
+    head & (first & (second & room))
+}
+
+/// Whether the question at a place asks for its route.
+pub fn asks_route(words: &[u32], at: usize) -> bool
+    ensures { λ r. ⌜ r ≡ asksRoute (now (words .entry)) at ⌝ }
+{
+    kind(words, at) == QuestionKind::ROUTE
 }
 
 /// The question at a place.
@@ -67,5 +107,18 @@ pub fn question_at(words: &[u32], at: usize) -> Question
     Question {
         query: q,
         fuel: field(words, at, 5),
+    }
+}
+
+/// Who asks for a reach at a place.
+pub fn viewer_at(words: &[u32], at: usize) -> Viewer
+    ensures { λ r. ⌜ r ≡ viewerAt (now (words .entry)) at ⌝ }
+{
+    Viewer {
+        from: payload(words, at),
+        prefix: field(words, at, 1),
+        options: field(words, at, 2),
+        fuel: field(words, at, 3),
+        limit: field(words, at, 4),
     }
 }

@@ -10,7 +10,7 @@ questionLimit = 64
 
 -- words of a report
 abbrev pub reportSize : ℕ
-reportSize = 24
+reportSize = 42
 
 -- so many words are at most 64 whole questions, and there are words enough for their reports
 unfoldable pub batchFits : ℕ → ℕ → Bool

@@ -38,7 +38,7 @@ abbrev pub noModule : Module
 noModule = record { map = 0; parent = 0 }
 
 abbrev pub noDefinition : Definition
-noDefinition = record { kind = 0; first = 0; second = 0 }
+noDefinition = record { kind = 0; first = 0; second = 0; place = 0 }
 
 abbrev pub mapOf : Snapshot → ℕ → ℕ
 mapOf s m = getD (s .modules) m noModule .map

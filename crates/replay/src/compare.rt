@@ -29,7 +29,7 @@ fn stands(lines: &[u8], at: usize, line: &[u8]) -> bool {
 
 // The lines of the questions, which begin at place k.
 fn same_lines(words: &[u32], k: usize, lines: &[u8], area: &mut [u32], out: &mut [u8]) -> bool
-    requires { ⌜ (k ≤ length (now words)) × (length (now words) ≤ 16384) × (16384 ≡ length (now area)) × (4166 ≤ length (now out)) ⌝ }
+    requires { ⌜ (k ≤ length (now words)) × (length (now words) ≤ 16384) × (16384 ≡ length (now area)) × (4659 ≤ length (now out)) ⌝ }
 {
     let snapshot = &words[..k];
     let c = check(snapshot, area);
@@ -52,7 +52,7 @@ fn same_lines(words: &[u32], k: usize, lines: &[u8], area: &mut [u32], out: &mut
 
 // The lines of the words; without a question there is none.
 fn same_words(words: &[u32], lines: &[u8], area: &mut [u32], out: &mut [u8]) -> bool
-    requires { ⌜ (length (now words) ≤ 16384) × (16384 ≡ length (now area)) × (4166 ≤ length (now out)) ⌝ }
+    requires { ⌜ (length (now words) ≤ 16384) × (16384 ≡ length (now area)) × (4659 ≤ length (now out)) ⌝ }
 {
     let k = first_question(words);
     if k < words.len() {
@@ -63,7 +63,7 @@ fn same_words(words: &[u32], lines: &[u8], area: &mut [u32], out: &mut [u8]) -> 
 
 /// Whether the printer prints these lines for an input.
 pub fn same(bytes: &[u8], lines: &[u8], space: &mut [u32], area: &mut [u32], out: &mut [u8]) -> bool
-    requires { ⌜ (16384 ≤ length (now space)) × (16384 ≡ length (now area)) × (4166 ≤ length (now out)) ⌝ }
+    requires { ⌜ (16384 ≤ length (now space)) × (16384 ≡ length (now area)) × (4659 ≤ length (now out)) ⌝ }
 {
     let fault = input_fault(bytes);
     if fault != 0 {

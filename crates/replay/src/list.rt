@@ -41,7 +41,7 @@ fn compare_next(
     area: &mut [u32],
     out: &mut [u8],
 ) -> usize
-    requires { ⌜ (16384 ≤ length (now space)) × (16384 ≡ length (now area)) × (4166 ≤ length (now out)) ⌝ }
+    requires { ⌜ (16384 ≤ length (now space)) × (16384 ≡ length (now area)) × (4659 ≤ length (now out)) ⌝ }
 {
     let n = next_number();
     if !read_part(bytes, n) {
@@ -65,7 +65,7 @@ pub fn run(
     area: &mut [u32],
     out: &mut [u8],
 )
-    requires { ⌜ (16384 ≤ length (now space)) × (16384 ≡ length (now area)) × (4166 ≤ length (now out)) ⌝ }
+    requires { ⌜ (16384 ≤ length (now space)) × (16384 ≡ length (now area)) × (4659 ≤ length (now out)) ⌝ }
 {
     let mut k = 0;
     while k < 100000 {

@@ -28,6 +28,8 @@ pub reported-same : (f : Found) (a e : ℕ) → a ≡ flag (not (f .choice .foun
       empty = e;
       left = f .meter .left;
       sought = f .meter .sought;
+      route = f .choice .route;
+      steps = f .choice .steps;
     }) (reported (outOf f))
 unfolding reported
 reported-same f a e p q = λ i. record {
@@ -40,6 +42,8 @@ reported-same f a e p q = λ i. record {
   empty = q i;
   left = f .meter .left;
   sought = f .meter .sought;
+  route = f .choice .route;
+  steps = f .choice .steps;
 }
 
 pub reported-out : (f : Found) (o : Out Tank) → f ≡ foundOf o → reported (outOf f) ≡ reported o
@@ -95,37 +99,48 @@ length-map [] = refl
 length-map (n ∷ ns) = ap suc (length-map ns)
 
 module _ (r : Report) (old : List ℕ) where
-  -- the three parts of a report, one after the other
-  parts-written : (x y z : List ℕ) → length (r .names) ≡ 16
+  -- the four parts of a report, one after the other
+  parts-written : (x y z w : List ℕ) → length (r .names) ≡ 16
       → x ≡ take 0 old ++ (map low (r .outcome ∷ r .number ∷ r .kind ∷ []) ++ drop 3 old)
       → y ≡ take 3 x ++ (map low (r .names) ++ drop 19 x)
-      → z ≡ take 19 y ++ (map low (r .count ∷ r .charges ∷ r .empty ∷ r .left ∷ r .sought ∷ []) ++ drop 24 y)
-      → z ≡ reportWords r ++ drop 24 old
+      → z ≡ take 19 y ++ (map low (r .count ∷ r .charges ∷ r .empty ∷ r .left ∷ r .sought ∷ r .steps ∷ []) ++ drop 25 y)
+      → w ≡ take 25 z ++ (map low (r .route) ++ drop 42 z)
+      → w ≡ reportWords r ++ drop 42 old
   unfolding reportWords
-  parts-written x y z l ex ey ez =
+  parts-written x y z w l ex ey ez ew =
       let H : List ℕ = map low (r .outcome ∷ r .number ∷ r .kind ∷ []) in
       let N : List ℕ = map low (r .names) in
-      let R : List ℕ = map low (r .count ∷ r .charges ∷ r .empty ∷ r .left ∷ r .sought ∷ []) in
+      let R : List ℕ = map low (r .count ∷ r .charges ∷ r .empty ∷ r .left ∷ r .sought ∷ r .steps ∷ []) in
+      let T : List ℕ = map low (r .route) in
       let m : length N ≡ 16 = length-map (r .names) ∙ l in
       let n : length (H ++ N) ≡ 19 = length-append H N ∙ ap (λ k. 3 + k) m in
+      let o : length ((H ++ N) ++ R) ≡ 25 = length-append (H ++ N) R ∙ ap (λ k. k + 6) n in
       let a : y ≡ (H ++ N) ++ drop 16 (drop 3 old) = ey ∙ paste x H (drop 3 old) N 3 16 19 refl refl ex in
-      let b : z ≡ ((H ++ N) ++ R) ++ drop 5 (drop 16 (drop 3 old)) = ez ∙ paste y (H ++ N) (drop 16 (drop 3 old)) R 19 5 24 n refl a in
-      let d : drop 5 (drop 16 (drop 3 old)) ≡ drop 24 old = drop-drop 5 16 (drop 3 old) ∙ drop-drop 21 3 old in
-      b ∙ ap₂ (λ u v. u ++ v) (append-assoc H N R) d
+      let b : z ≡ ((H ++ N) ++ R) ++ drop 6 (drop 16 (drop 3 old)) = ez ∙ paste y (H ++ N) (drop 16 (drop 3 old)) R 19 6 25 n refl a in
+      let c : w ≡ (((H ++ N) ++ R) ++ T) ++ drop 17 (drop 6 (drop 16 (drop 3 old))) =
+      ew ∙ paste z ((H ++ N) ++ R) (drop 6 (drop 16 (drop 3 old))) T 25 17 42 o refl b in
+      let d : drop 17 (drop 6 (drop 16 (drop 3 old))) ≡ drop 42 old =
+      drop-drop 17 6 (drop 16 (drop 3 old)) ∙ drop-drop 23 16 (drop 3 old) ∙ drop-drop 39 3 old in
+      c ∙ ap₂ (λ u v. u ++ v) (append-assoc (H ++ N) R T ∙ append-assoc H N (R ++ T)) d
 
-  pub written : (x y z : List ℕ) → 24 ≤ length old → length (r .names) ≡ 16
+  pub written : (x y z w : List ℕ) → 42 ≤ length old → length (r .names) ≡ 16 → length (r .route) ≡ 17
       → x ≡ take 0 old ++ (map low (r .outcome ∷ r .number ∷ r .kind ∷ []) ++ drop 3 old)
       → y ≡ take 3 x ++ (map low (r .names) ++ drop (3 + length (r .names)) x)
-      → z ≡ take 19 y ++ (map low (r .count ∷ r .charges ∷ r .empty ∷ r .left ∷ r .sought ∷ []) ++ drop 24 y)
-      → Written r old z true
+      → z ≡ take 19 y ++ (map low (r .count ∷ r .charges ∷ r .empty ∷ r .left ∷ r .sought ∷ r .steps ∷ []) ++ drop 25 y)
+      → w ≡ take 25 z ++ (map low (r .route) ++ drop (25 + length (r .route)) z)
+      → Written r old w true
   unfolding writtenTo
-  written x y z h l ex ey ez =
+  written x y z w h l k ex ey ez ew =
       let e : 3 + length (r .names) ≡ 19 = omega arith in
+      let f : 25 + length (r .route) ≡ 42 = omega arith in
       record {
-        words = parts-written x y z l ex (ey ∙ ap (λ k. take 3 x ++ (map low (r .names) ++ drop k x)) e) ez ∙ sym (rw (writtenTo, le-ltb _ _ h));
+        words =
+            parts-written x y z w l ex (ey ∙ ap (λ k. take 3 x ++ (map low (r .names) ++ drop k x)) e) ez
+            (ew ∙ ap (λ k. take 25 z ++ (map low (r .route) ++ drop k z)) f)
+            ∙ sym (rw (writtenTo, le-ltb _ _ h));
         done = sym (le-leb _ _ h);
       }
 
-  pub not-written : length old < 24 → Written r old old false
+  pub not-written : length old < 42 → Written r old old false
   unfolding writtenTo
   not-written h = record { words = sym (rw (writtenTo, lt-ltb _ _ h)); done = sym (lt-leb _ _ h) }

@@ -14,6 +14,7 @@ pub fn refused(number: usize) -> Report
     ensures { λ r. ⌜ r ≡ refusedOf number ⌝ }
 {
     let names = [0usize; 16];
+    let route = [0usize; 17];
     Report {
         outcome: 2,
         number: number,
@@ -24,6 +25,8 @@ pub fn refused(number: usize) -> Report
         empty: 0,
         left: 0,
         sought: 0,
+        route: route,
+        steps: 0,
     }
 }
 
@@ -33,13 +36,14 @@ fn flag(b: bool) -> usize
     if b { 1 } else { 0 }
 }
 
-/// What a search found, what it was charged, and whether, and where first, it found the tank empty.
+/// What a search found and how, what it was charged, and whether, and where first, it found the tank empty.
 pub fn reported(f: Found) -> Report
     ensures { λ r. ⌜ r ≡ reportedOf (outOf f) ⌝ }
 {
     let c = f.choice;
     let t = f.meter;
     let names = c.names;
+    let route = c.route;
     Report {
         outcome: flag(!c.found),
         number: 0,
@@ -50,6 +54,8 @@ pub fn reported(f: Found) -> Report
         empty: flag(t.empty),
         left: t.left,
         sought: t.sought,
+        route: route,
+        steps: c.steps,
     }
 }
 
@@ -58,7 +64,7 @@ pub struct ReportWords(pub usize);
 
 impl ReportWords {
     /// Words of a report.
-    pub const COUNT: usize = 24;
+    pub const COUNT: usize = 42;
 }
 
 // A number in a word: its lowest 32 bits.
@@ -97,7 +103,10 @@ pub fn write_report(report: Report, out: &mut [u32]) -> bool
         report.empty,
         report.left,
         report.sought,
+        report.steps,
     ];
     put_words(out, 19, &rest);
+    let route = report.route;
+    put_words(out, 25, &route);
     true
 }

@@ -27,10 +27,10 @@ use Rattle.find_path.specs.declared.Choice.{Choice}
 use Rattle.find_path.specs.declared.Tank.{Tank}
 use Rattle.find_path.specs.declared.Found.{Found}
 use Rattle.find_path.specs.declared.FindPathCtx.{FindPathCtx}
-use Rattle.find_path.specs.Choices.{nothing, push}
+use Rattle.find_path.specs.Choices.{nothing}
 use Rattle.find_path.specs.Rules.{firstFound, scopeRule, preludeRule}
 use Rattle.find_path.specs.Meters.{fromTank}
-use Rattle.find_path.specs.Charged.{Out, foundOf, variantOf, afterEnum, viaEnum, orEnum, byName, ofModule, findPathInner}
+use Rattle.find_path.specs.Charged.{Out, foundOf, variantOf, pushVariant, afterEnum, viaEnum, orEnum, byName, ofModule, findPathInner}
 use Rattle.find_path.specs.Search.{bestLocal}
 use Rattle.find_path.proofs.Unfold.{EnumNoVariant, inner-more}
 use Rattle.find_path.proofs.Bounds.{Fits, more, either-fits, nothing-fits, scope-fits, prelude-fits, best-local-fits, best-within, module-search-fits}
@@ -76,10 +76,10 @@ module _ (s : Snapshot) where
       let u : eqb (definitionOf s d .kind) 2 ≡ true = eq-eqb _ _ (ap (λ (z : Definition). z .kind) (sym h) ∙ sym g ∙ k) in
       rw (e, variantOf, u) (ap some h)
 
-  pub variant-no : {item : Item} {n d k : ℕ} {y : Definition} → item ≡ Def n d → y ≡ definitionOf s d → k ≡ y .kind → (k ≡ 2 → ⊥) → none ≡ variantOf s item
+  pub variant-no : {item : Item} {n d k : ℕ} → item ≡ Def n d → k ≡ definitionOf s d .kind → (k ≡ 2 → ⊥) → none ≡ variantOf s item
   unfolding variantOf
-  variant-no {d = d} e h g k =
-      let u : eqb (definitionOf s d .kind) 2 ≡ false = ne-eqb _ _ (λ z. k (g ∙ ap (λ (w : Definition). w .kind) h ∙ z)) in
+  variant-no {d = d} e g k =
+      let u : eqb (definitionOf s d .kind) 2 ≡ false = ne-eqb _ _ (λ z. k (g ∙ z)) in
       rw (e, variantOf, u)
 
   variant-of-def : (n d : ℕ) (v : Definition) → variantOf s (Def n d) ≡ some v → (definitionOf s d .kind ≡ 2) × (v ≡ definitionOf s d)
@@ -107,7 +107,7 @@ module _ (s : Snapshot) where
   other-none d k =
       by-test (eqb 0 0 && eqb (definitionOf s d .kind) 1)
       (λ t. let q : definitionOf s d .kind ≡ 1 = eqb-true (definitionOf s d .kind) 1 t in absurd (omega (arith, q, k)))
-      (λ t. subst (λ (y : Item). variantOf s y ≡ none) (item-other s 0 d refl t) (sym (variant-no refl refl refl (λ (z : definitionOf s d .kind ≡ 2). omega (arith, z, k)))))
+      (λ t. subst (λ (y : Item). variantOf s y ≡ none) (item-other s 0 d refl t) (sym (variant-no refl refl (λ (z : definitionOf s d .kind ≡ 2). omega (arith, z, k)))))
 
 -- what acceptance gives a variant
 module _ (W A : List ℕ) (l : Layout) (r : Reads W A l) where
@@ -134,6 +134,7 @@ module _ (W A : List ℕ) (l : Layout) (r : Reads W A l) where
     pub asked : Known l (itemOf S 0 (v .first))
     pub falls : number (itemOf S 0 (v .first)) < number item
     pub name : v .second < l .names
+    pub place : v .place < 16384
     pub plain : variantOf S (itemOf S 0 (v .first)) ≡ none
 
   pub parent-of : (item : Item) (v : Definition) → Known l item → some v ≡ variantOf S item → Parent item v
@@ -142,7 +143,9 @@ module _ (W A : List ℕ) (l : Layout) (r : Reads W A l) where
   parent-of (Def n d) v h e =
       let q = variant-of-def S n d v (sym e) in
       let w = enum-before d h (q .0) in
-      let y = definition-fits W A l r d h .variant (q .0) in
+      let z = definition-fits W A l r d h in
+      let y = z .variant (q .0) in
+      let m = ap (λ (z : Definition). z .place) (q .1) in
       let i = ap (λ (z : Definition). z .first) (q .1) in
       let j = ap (λ (z : Definition). z .second) (q .1) in
       let k = number-item S 0 (v .first) in
@@ -150,6 +153,7 @@ module _ (W A : List ℕ) (l : Layout) (r : Reads W A l) where
         asked = item-known W A l r 0 (v .first) (omega (arith, i, y .0));
         falls = omega (arith, i, k, w .0);
         name = omega (arith, j, y .1);
+        place = omega (arith, m, z .place);
         plain = enum-no-variant (Def n d) h v (sym e);
       }
 
@@ -212,33 +216,33 @@ module _ (s : Snapshot) (x : FindPathCtx) where
     parent v = items s x (itemOf s 0 (v .first)) t
 
     enum-of : (v : Definition) → c .found ≡ false → some v ≡ variantOf s item
-        → afterEnum Tank fromTank s x (bestLocal s x) (modules s x) item (v .second) (parent v) (parent v .choice .found) ≡ names s x item t
+        → afterEnum Tank fromTank s x (bestLocal s x) (modules s x) item v (parent v) (parent v .choice .found) ≡ names s x item t
     unfolding viaEnum
     enum-of v f h = name-via f (some v) h
 
-    with-name : (name : ℕ) (o : Out Tank) (b : Bool) → b ≡ true
-        → record { choice = push s (o .choice) name; meter = o .meter } ≡ afterEnum Tank fromTank s x (bestLocal s x) (modules s x) item name o b
+    with-name : (v : Definition) (o : Out Tank) (b : Bool) → b ≡ true
+        → record { choice = pushVariant s (o .choice) v; meter = o .meter } ≡ afterEnum Tank fromTank s x (bestLocal s x) (modules s x) item v o b
     unfolding afterEnum
-    with-name name o true k = refl
-    with-name name o false k = absurd (false≢true k)
+    with-name v o true k = refl
+    with-name v o false k = absurd (false≢true k)
 
-    without : (name : ℕ) (o : Out Tank) (b : Bool) → b ≡ false
-        → bestPath s x (x .limit) item (o .meter) ≡ afterEnum Tank fromTank s x (bestLocal s x) (modules s x) item name o b
+    without : (v : Definition) (o : Out Tank) (b : Bool) → b ≡ false
+        → bestPath s x (x .limit) item (o .meter) ≡ afterEnum Tank fromTank s x (bestLocal s x) (modules s x) item v o b
     unfolding afterEnum
-    without name o true k = absurd (false≢true (sym k))
-    without name o false k = refl
+    without v o true k = absurd (false≢true (sym k))
+    without v o false k = refl
 
     pub enum-found : (v : Definition) {o : Found} → c .found ≡ false → some v ≡ variantOf s item → o ≡ foundOf (parent v) → o .choice .found ≡ true
-        → found (push s (o .choice) (v .second)) (o .meter) ≡ foundOf (names s x item t)
+        → found (pushVariant s (o .choice) v) (o .meter) ≡ foundOf (names s x item t)
     enum-found v f h g k =
-        ap (λ (y : Found). found (push s (y .choice) (v .second)) (y .meter)) g
-        ∙ ap foundOf (with-name (v .second) (parent v) _ (ap (λ (y : Found). y .choice .found) (sym g) ∙ k) ∙ enum-of v f h)
+        ap (λ (y : Found). found (pushVariant s (y .choice) v) (y .meter)) g
+        ∙ ap foundOf (with-name v (parent v) _ (ap (λ (y : Found). y .choice .found) (sym g) ∙ k) ∙ enum-of v f h)
 
     pub enum-none : (v : Definition) {o : Found} → c .found ≡ false → some v ≡ variantOf s item → o ≡ foundOf (parent v) → o .choice .found ≡ false
         → bestPath s x (x .limit) item (o .meter) ≡ names s x item t
     enum-none v f h g k =
         ap (λ (y : Found). bestPath s x (x .limit) item (y .meter)) g
-        ∙ without (v .second) (parent v) _ (ap (λ (y : Found). y .choice .found) (sym g) ∙ k) ∙ enum-of v f h
+        ∙ without v (parent v) _ (ap (λ (y : Found). y .choice .found) (sym g) ∙ k) ∙ enum-of v f h
 
   -- an item that is no variant has as many names at most as the limit
   module _ (item : Item) (t : Tank) (h : variantOf s item ≡ none) (some-limit : 0 < x .limit) where

@@ -1,5 +1,5 @@
 -- The whole search, step by step, and the runs of an item's search.
-use mathlib.Core.Path.{_≡_, refl, sym, _∙_, ap}
+use mathlib.Core.Path.{_≡_, refl, sym, _∙_, ap, ap₂}
 use Prim.Native.Nat.{ℕ, zero, suc, _+_, _-_, _≤_, _<_, _^_}
 use native.Mathlib.Omega.{arith}
 use mathlib.Core.List.{List, [], _∷_}
@@ -7,13 +7,13 @@ use mathlib.Core.Bool.{Bool, true, false, _&&_}
 use mathlib.Core.Option.{none, some}
 use lib.Dec.{eqb}
 use borrow.Author.Tests.{eqb-true}
-use Rattle.snapshot.specs.Records.{Snapshot, Definition}
+use Rattle.snapshot.specs.Records.{Snapshot, Definition, definitionAt}
 use Rattle.snapshot.specs.Layouts.{snapOf}
 use Rattle.snapshot.specs.declared.layout.Layout.{Layout}
 use Rattle.accept.specs.Post.{Reads}
 use Rattle.accept.proofs.Bools.{and-right}
 use Rattle.hir_def.specs.Items.{definitionOf, itemOf, homeOf}
-use Rattle.hir_def.specs.Entries.{Known}
+use Rattle.hir_def.specs.Entries.{Known, ReadsAs}
 use Rattle.hir_def.specs.declared.Item.{Item}
 use Rattle.hir_def.specs.declared.Item.the-variants.{Mod, Def}
 use Rattle.hir_def.specs.declared.Entry.the-variants.{At}
@@ -23,11 +23,11 @@ use Rattle.find_path.specs.declared.Tank.{Tank}
 use Rattle.find_path.specs.declared.Found.{Found}
 use Rattle.find_path.specs.declared.FindPathCtx.{FindPathCtx}
 use Rattle.find_path.specs.declared.Query.{Query}
-use Rattle.find_path.specs.Choices.{nothing, choiceNew, push}
+use Rattle.find_path.specs.Choices.{viaBuiltin, viaVariant, stepBy, nothing, choiceNew, push}
 use Rattle.find_path.specs.Rules.{contextOf, firstFound, scopeRule, preludeRule}
 use Rattle.find_path.specs.Meters.{fromTank, filled}
-use Rattle.find_path.specs.Charged.{Out, foundOf, variantOf}
-use Rattle.find_path.specs.Search.{fromHome, fromItem, findPath}
+use Rattle.find_path.specs.Charged.{Out, foundOf, variantOf, pushVariant}
+use Rattle.find_path.specs.Search.{builtinChoice, fromHome, fromItem, findPath}
 use Rattle.find_path.specs.Report.{searched}
 use Rattle.find_path.specs.Conditions.{Prepared, Searched}
 use Rattle.find_path.proofs.Tanks.{item-sum}
@@ -58,7 +58,12 @@ enum-offered W A l x i t r a h e =
     let u = q .text (names-short W A l (a .reads)) in
     let p = ap (λ (y : Found). y .choice .count) e in
     let w = ap (λ (y : Found). y .choice .text) e in
-    record { few = omega (arith, a .limit, f, p); text = omega (arith, a .limit, f, p, u, w) }
+    let z = ap (λ (y : Found). y .choice .steps) e in
+    record {
+      few = omega (arith, a .limit, f, p);
+      text = omega (arith, a .limit, f, p, u, w);
+      steps = omega (arith, a .limit, z, q .once, f);
+    }
 
 pub tank-stays : (s : Snapshot) (x : FindPathCtx) (i : Item) (t : Tank) (r : Found) → r ≡ foundOf (items s x i t) → t .fuel + t .spent < 2 ^ 32
     → r .meter .fuel + r .meter .spent < 2 ^ 32
@@ -75,13 +80,15 @@ module _ {W A₀ B : List ℕ} {l : Layout} {x : FindPathCtx} (p : Prepared W A�
   parent-same : o ≡ foundOf (items (snapOf W A₀ l) x (itemOf (snapOf W A₀ l) 0 (v .first)) t)
   parent-same = d .same ∙ ap (λ (y : Item). foundOf (items (snapOf W A₀ l) x y t)) g
 
-  pub enum-run : {n : ℕ} {r : Choice} → o .choice .found ≡ true → n ≡ v .second → r ≡ push (snapOf W B l) (o .choice) n
-      → Searched A₀ (names (snapOf W A₀ l) x item t) B (found r (o .meter))
+  pub enum-run : {n : ℕ} {r : Choice} → o .choice .found ≡ true → n ≡ v .second
+      → r ≡ push (snapOf W B l) (o .choice) n (stepBy viaVariant (v .place)) → Searched A₀ (names (snapOf W A₀ l) x item t) B (found r (o .meter))
+  unfolding pushVariant
   enum-run {n} k m q =
       record {
         same =
             ap (λ (y : Choice). found y (o .meter))
-            (q ∙ ap (λ (s : Snapshot). push s (o .choice) n) (same-snap W A₀ B l (d .tables) (p .reads)) ∙ ap (push (snapOf W A₀ l) (o .choice)) m)
+            (q ∙ ap (λ (s : Snapshot). push s (o .choice) n (stepBy viaVariant (v .place))) (same-snap W A₀ B l (d .tables) (p .reads))
+            ∙ ap (λ (n : ℕ). push (snapOf W A₀ l) (o .choice) n (stepBy viaVariant (v .place))) m)
             ∙ enum-found (snapOf W A₀ l) x item t e v f h parent-same k;
         tables = d .tables;
       }
@@ -111,11 +118,10 @@ module _ (s : Snapshot) (q : Query) (fuel : ℕ) where
   unfolding searched findPath filled
   by-builtin b e h = ap from (sym h ∙ ap builtin e)
 
-  pub start-builtin : {k n : ℕ} {c : Choice} → k ≡ definitionOf s (q .definition) .kind → builtin k ≡ true → n ≡ definitionOf s (q .definition) .first
-      → c ≡ choiceNew s 0 n → found c (full fuel) ≡ foundOf (searched s q fuel)
+  pub start-builtin : {k : ℕ} {c : Choice} → k ≡ definitionOf s (q .definition) .kind → builtin k ≡ true
+      → c ≡ builtinChoice s (definitionOf s (q .definition)) → found c (full fuel) ≡ foundOf (searched s q fuel)
   unfolding fromItem
-  start-builtin e h g k =
-      ap (λ (y : Choice). found y (full fuel)) (k ∙ ap (choiceNew s 0) g) ∙ ap foundOf (by-builtin true e h)
+  start-builtin e h g = ap (λ (y : Choice). found y (full fuel)) g ∙ ap foundOf (by-builtin true e h)
 
   by-home : {k : ℕ} (item : Item) (h : ℕ) → k ≡ definitionOf s (q .definition) .kind → builtin k ≡ false → item ≡ itemOf s (q .ns) (q .definition)
       → h ≡ homeOf s item → fromHome Tank fromTank s q item (full fuel) h ≡ searched s q fuel
@@ -140,14 +146,26 @@ module _ (s : Snapshot) (q : Query) (fuel : ℕ) where
       let u : suc m - 1 ≡ m = omega arith in
       ap (λ (y : FindPathCtx). items s y item (full fuel)) (n ∙ ap (contextOf s q) u) ∙ by-home item (suc m) e f g k
 
--- a builtin's name, and the home of an item that has one
+-- a builtin by its test
+pub builtin-kind : (s : Snapshot) (ns d : ℕ) {k : ℕ} → k ≡ definitionOf s d .kind → (eqb ns 0 && eqb k 3) ≡ true → definitionOf s d .kind ≡ 3
+builtin-kind s ns d {k} e f = sym e ∙ eqb-true k 3 (and-right (eqb ns 0) (eqb k 3) f)
+
+-- a builtin's definition as it is read, its name and its place; the home of an item that has one
 module _ (W A : List ℕ) (l : Layout) (r : Reads W A l) where
-  pub builtin-name : (ns d : ℕ) {k n : ℕ} → d < l .definitions → k ≡ definitionOf (snapOf W A l) d .kind → (eqb ns 0 && eqb k 3) ≡ true
-      → n ≡ definitionOf (snapOf W A l) d .first → n < l .names
-  builtin-name ns d {k} h e f g =
-      let t = eqb-true k 3 (and-right (eqb ns 0) (eqb k 3) f) in
-      let z = definition-fits W A l r d h .builtin (sym e ∙ t) in
-      omega (arith, g, z)
+  module _ (d : ℕ) (i : d < l .definitions) (k : definitionOf (snapOf W A l) d .kind ≡ 3) {h : ℕ} (e : ReadsAs W h (definitionOf (snapOf W A l) d)) where
+    builtin-read : definitionAt W h ≡ definitionOf (snapOf W A l) d
+    builtin-read = e .whole (omega (arith, k))
+
+    pub builtin-at : h < 16384
+    builtin-at = let p = ap (λ (y : Definition). y .place) builtin-read in omega (arith, p, definition-fits W A l r d i .place)
+
+    pub builtin-name : {n : ℕ} → n ≡ definitionAt W h .first → n < l .names
+    builtin-name g = omega (arith, g, e .first, definition-fits W A l r d i .builtin k)
+
+    pub builtin-same : {n t : ℕ} {c : Choice} → n ≡ definitionAt W h .first → t ≡ stepBy viaBuiltin h → c ≡ choiceNew (snapOf W A l) 0 n t
+        → c ≡ builtinChoice (snapOf W A l) (definitionOf (snapOf W A l) d)
+    unfolding builtinChoice
+    builtin-same g u q = q ∙ ap₂ (choiceNew (snapOf W A l) 0) g u ∙ ap (builtinChoice (snapOf W A l)) builtin-read
 
   home-below-one : (item : Item) (h : ℕ) → Known l item → h ≡ homeOf (snapOf W A l) item → (h ≡ 0 → ⊥) → h - 1 < l .modules
   home-below-one item zero k e z = absurd (z refl)

@@ -6,11 +6,13 @@ ghost use lib.ListN.{length};
 ghost use Rattle.snapshot.specs.Layouts.{wordCount, snapOf};
 ghost use Rattle.snapshot.specs.Records.{definitionAt};
 ghost use Rattle.accept.specs.Post.{Reads};
+ghost use Rattle.hir_def.specs.Items.{definitionOf};
 ghost use Rattle.hir_def.specs.Entries.{entryOf};
+ghost use Rattle.find_path.specs.Choices.{viaVariant, stepBy, push as pushOf};
 ghost use Rattle.find_path.specs.Rules.{firstFound, scopeRule, preludeRule};
 ghost use Rattle.find_path.specs.Charged.{variantOf};
 ghost use Rattle.find_path.specs.Meters.{fromTank};
-ghost use Rattle.find_path.specs.Search.{searchItem};
+ghost use Rattle.find_path.specs.Search.{builtinChoice, searchItem};
 ghost use Rattle.find_path.specs.Report.{searched};
 ghost use Rattle.find_path.specs.Conditions.{Prepared, Asked, Searched};
 ghost use Rattle.find_path.specs.declared.Tank.{Tank};
@@ -27,13 +29,14 @@ use hir_def::Item;
 use hir_def::items::DefinitionKind;
 use hir_def::items::Namespace;
 use hir_def::items::definition_head;
-use hir_def::items::first_of;
 use hir_def::items::home_of;
 use hir_def::items::item_of;
 use hir_def::items::kind_of;
+use path_rules::choices::StepRule;
 use path_rules::choices::choice_new;
 use path_rules::choices::nothing;
 use path_rules::choices::push;
+use path_rules::choices::step_by;
 use path_rules::context::context;
 use path_rules::context::module_in;
 use path_rules::rules::prelude_rule;
@@ -76,6 +79,25 @@ fn variant_of(words: &[u32], l: Layout, item: Item) -> Entry
         return Entry::At(h);
     }
     Entry::Nothing
+}
+
+// A variant's name, with its definition at a place, after the path of its enum.
+fn push_variant(words: &[u32], area: &[u32], l: Layout, c: Choice, n: Name, h: usize) -> Choice
+    requires { ⌜ Reads (now words) (now area) l × (n .0 < l .names) × (c .count < 16) × (c .text < 2 ^ 32) × (c .steps < 17) × (h < 16384) ⌝ }
+    ensures { λ r. ⌜ r ≡ pushOf (snapOf (now (words .entry)) (now (area .entry)) l) c (n .0) (stepBy viaVariant h) ⌝ }
+{
+    let via = step_by(StepRule::VARIANT, h);
+    push(words, area, l, c, n, via)
+}
+
+// The name of a builtin.
+fn builtin_choice(words: &[u32], area: &[u32], l: Layout, d: DefinitionId) -> Choice
+    requires { ⌜ Reads (now words) (now area) l × (d .0 < l .definitions) × (definitionOf (snapOf (now words) (now area) l) (d .0) .kind ≡ 3) ⌝ }
+    ensures { λ r. ⌜ r ≡ builtinChoice (snapOf (now (words .entry)) (now (area .entry)) l) (definitionOf (snapOf (now (words .entry)) (now (area .entry)) l) (d .0)) ⌝ }
+{
+    let h = definition_head(words, l, d);
+    let via = step_by(StepRule::BUILTIN, h);
+    choice_new(words, area, l, 0, Name(definition_first(words, h)), via)
 }
 
 /// The search for an item: a module goes straight to the module search, unless it is std's.
@@ -128,7 +150,7 @@ fn find_by_name(
     let best = o.choice;
     let meter = o.meter;
     if best.found {
-        let choice = push(words, area, l, best, Name(definition_second(words, h)));
+        let choice = push_variant(words, area, l, best, Name(definition_second(words, h)), h);
         return Found {
             choice: choice,
             meter: meter,
@@ -151,7 +173,7 @@ pub fn find_path(words: &[u32], area: &mut [u32], l: Layout, q: Query, fuel: usi
         sought: 0,
     };
     if (q.ns == Namespace::TYPES) & (kind_of(words, l, d) == DefinitionKind::BUILTIN) {
-        let choice = choice_new(words, area, l, 0, Name(first_of(words, l, d)));
+        let choice = builtin_choice(words, area, l, d);
         return Found {
             choice: choice,
             meter: meter,

@@ -1,4 +1,5 @@
--- A snapshot as lists of records, in document 01's order of kinds. "+1" means number plus one, 0 for none.
+-- A snapshot as lists of records, in document 01's order of kinds. "+1" means number plus one, 0 for none. A record that a path can be found
+-- by knows the place of its head among the words; no test of the check looks at it.
 use Prim.Native.Nat.{ℕ, _+_, _/_, _%_}
 use mathlib.Core.List.{List}
 use lib.ListN.{getD}
@@ -48,6 +49,7 @@ pub record Definition : Type 0 where
   pub kind : ℕ
   pub first : ℕ
   pub second : ℕ
+  pub place : ℕ
 
 -- kind 9: visibility 0 public, 1 crate, 2 module explicit, 3 module implicit, and its number
 pub record Scope : Type 0 where
@@ -58,6 +60,7 @@ pub record Scope : Type 0 where
   pub visibility : ℕ
   pub number : ℕ
   pub declared : ℕ
+  pub place : ℕ
 
 -- kind 10: bits 1 hidden + 2 unstable
 pub record Import : Type 0 where
@@ -67,12 +70,14 @@ pub record Import : Type 0 where
   pub name : ℕ
   pub container : ℕ
   pub bits : ℕ
+  pub place : ℕ
 
 -- kind 11
 pub record Extern : Type 0 where
   pub owner : ℕ
   pub name : ℕ
   pub target : ℕ
+  pub place : ℕ
 
 pub record Snapshot : Type 0 where
   pub names : List Name
@@ -112,7 +117,7 @@ abbrev pub preludeAt : List ℕ → ℕ → Prelude
 preludeAt W h = record { map = payOf (getD W h 0); target = getD W (h + 1) 0 }
 
 abbrev pub definitionAt : List ℕ → ℕ → Definition
-definitionAt W h = record { kind = payOf (getD W h 0); first = getD W (h + 1) 0; second = getD W (h + 2) 0 }
+definitionAt W h = record { kind = payOf (getD W h 0); first = getD W (h + 1) 0; second = getD W (h + 2) 0; place = h }
 
 abbrev pub scopeAt : List ℕ → ℕ → Scope
 scopeAt W h =
@@ -124,6 +129,7 @@ scopeAt W h =
       visibility = getD W (h + 4) 0;
       number = getD W (h + 5) 0;
       declared = getD W (h + 6) 0;
+      place = h;
     }
 
 abbrev pub importAt : List ℕ → ℕ → Import
@@ -135,7 +141,8 @@ importAt W h =
       name = getD W (h + 3) 0;
       container = getD W (h + 4) 0;
       bits = getD W (h + 5) 0;
+      place = h;
     }
 
 abbrev pub externAt : List ℕ → ℕ → Extern
-externAt W h = record { owner = payOf (getD W h 0); name = getD W (h + 1) 0; target = getD W (h + 2) 0 }
+externAt W h = record { owner = payOf (getD W h 0); name = getD W (h + 1) 0; target = getD W (h + 2) 0; place = h }

@@ -5,23 +5,25 @@ use differential::compare::{Other, Totals, compare_input};
 use differential::damage;
 use differential::generate::case;
 
-const USAGE: &str = "compare PRINTER FROM TO [--damaged] [--questions N] [--steps N] [--show N]
+const USAGE: &str = "compare PRINTER FROM TO [--damaged] [--plain] [--questions N] [--steps N] [--show N]
   PRINTER    a program that reads a printer's input on stdin, with its arguments; `rules` is the one that follows the
              definitions
   FROM TO    seeds, the last one not taken
   --damaged  damaged copies of the inputs, some for each seed
+  --plain    no questions of kind 14: for a printer without routes
   --questions N   questions to a seed (120; damaged: 12)
   --steps N  a question that takes the Rust more steps is not asked (300000)
   --show N   how many differences are printed whole (3)";
 
 fn main() {
     let mut places = Vec::new();
-    let (mut damaged, mut questions, mut steps, mut show) = (false, None, 300_000u64, 3);
+    let (mut damaged, mut plain, mut questions, mut steps, mut show) = (false, false, None, 300_000u64, 3);
     let mut arguments = std::env::args().skip(1);
     while let Some(argument) = arguments.next() {
         let mut number = || arguments.next().and_then(|text| text.parse::<u64>().ok()).unwrap_or_else(|| usage());
         match argument.as_str() {
             "--damaged" => damaged = true,
+            "--plain" => plain = true,
             "--questions" => questions = Some(number() as usize),
             "--steps" => steps = number(),
             "--show" => show = number() as usize,
@@ -37,7 +39,7 @@ fn main() {
         let (_, case) = case(seed, questions.unwrap_or(if damaged { 12 } else { 120 }), steps);
         let inputs = if damaged { damage::copies(seed, &case, steps) } else { vec![case.input()] };
         for (copy, input) in inputs.iter().enumerate() {
-            compare_input(&format!("seed {seed} copy {copy}"), input, &other, &mut totals, show);
+            compare_input(&format!("seed {seed} copy {copy}"), input, &other, &mut totals, show, !plain);
         }
     }
     println!("{totals}, {:.1} s", start.elapsed().as_secs_f64());

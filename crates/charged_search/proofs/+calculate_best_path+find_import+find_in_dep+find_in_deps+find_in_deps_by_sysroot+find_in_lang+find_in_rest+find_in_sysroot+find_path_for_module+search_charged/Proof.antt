@@ -447,6 +447,7 @@ find-import-offer-import-requires t c κs =
       omega (arith, o .pre .1 .3 .few, g .limit),
       q .few,
       q .text,
+      q .steps,
     )
 
 find-import-same-length : (t : ℕ) → find-import-lts.Need-same-length (
@@ -562,7 +563,7 @@ find-in-dep-find-import-requires t c κs =
     let g = c .before .before .before .before .before .before .before .loop in
     let m = next-record (c .before .before .before .before .next-import .ensures (now (a .area))) (c .before .before .j .given .1) in
     let q = import-meets (now (a .words)) (now (a .area)) (a .l) (o .pre .1 .0 .ready .reads) m in
-    (omega (arith, o .pre .0), (begun-later (o .pre .1 .0) (g .inv .tables) (g .inv .long), q .container, q .name, g .inv .held))
+    (omega (arith, o .pre .0), (begun-later (o .pre .1 .0) (g .inv .tables) (g .inv .long), q .container, q, g .inv .held))
 
 find-in-dep-add-k : (t : ℕ) → find-in-dep-lts.Need-add-k (
   next-import-reads.Asked,

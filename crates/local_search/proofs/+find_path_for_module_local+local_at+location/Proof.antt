@@ -6,7 +6,7 @@ use denote.Ref.{now}
 use Rattle.snapshot.specs.Layouts.{snapOf}
 use Rattle.local_levels.specs.Levels.{levelsOf}
 use Rattle.local_search.proofs.Nests.{Nesting, room, head-reads, head-space, head-chain, start-few, nesting-start, loop-size, nesting-call, nesting-known, nesting-next, nesting-done}
-use Rattle.local_search.proofs.Searches.{module-small, search-none, search-rules, search-on, location-none, location-shorter, location-call, location-reads, location-few, location-text, location-some, named-at}
+use Rattle.local_search.proofs.Searches.{module-small, search-none, search-rules, search-on, location-none, location-shorter, location-call, location-reads, location-few, location-text, location-steps, location-some, entry-at}
 use Prim.Native.Nat.{ℕ, _<_, _+_, _-_, _*_}
 use borrow.Fn.Kinds.{In}
 use borrow.Fn.PlainCycle.{Measures, is, falls, and}
@@ -22,7 +22,7 @@ use Rattle.local_search.proofs.+find_path_for_module_local+local_at+loc
 use Rattle.path_rules.proofs.choices.length_left.Reads as length-left-reads
 use Rattle.path_rules.proofs.choices.nothing.Reads as nothing-reads
 use Rattle.path_offers.proofs.offers.importable_name.Reads as importable-name-reads
-use Rattle.path_offers.proofs.offers.offer.Reads as offer-reads
+use Rattle.path_offers.proofs.offers.offer_entry.Reads as offer-entry-reads
 use Rattle.path_rules.proofs.rules.module_rules.Reads as module-rules-reads
 use Rattle.local_levels.proofs.levels.code_of.Reads as code-of-reads
 use Rattle.local_levels.proofs.locations.find_local_import_locations.Reads as find-local-import-locations-reads
@@ -626,8 +626,8 @@ location-importable-name-requires : (t : ℕ) → location-lts.Need-importable-n
   length-left-reads.Learnt,
   find-path-for-module-local-below t,
   find-path-for-module-local.Post,
-  offer-reads.Asked,
-  offer-reads.Learnt,
+  offer-entry-reads.Asked,
+  offer-entry-reads.Learnt,
 ) (location-at t) location.Post
 location-importable-name-requires t c κs =
     let s = c .before .before .before in
@@ -640,8 +640,8 @@ location-enum-known-a : (t : ℕ) → location-lts.Need-enum-known-a (
   length-left-reads.Learnt,
   find-path-for-module-local-below t,
   find-path-for-module-local.Post,
-  offer-reads.Asked,
-  offer-reads.Learnt,
+  offer-entry-reads.Asked,
+  offer-entry-reads.Learnt,
 ) (location-at t) location.Post
 location-enum-known-a t c =
     search needs
@@ -653,8 +653,8 @@ location-enum-told : (t : ℕ) → location-lts.Need-enum-told (
   length-left-reads.Learnt,
   find-path-for-module-local-below t,
   find-path-for-module-local.Post,
-  offer-reads.Asked,
-  offer-reads.Learnt,
+  offer-entry-reads.Asked,
+  offer-entry-reads.Learnt,
 ) (location-at t) location.Post
 location-enum-told t c =
     search needs
@@ -666,8 +666,8 @@ location-same-length : (t : ℕ) → location-lts.Need-same-length (
   length-left-reads.Learnt,
   find-path-for-module-local-below t,
   find-path-for-module-local.Post,
-  offer-reads.Asked,
-  offer-reads.Learnt,
+  offer-entry-reads.Asked,
+  offer-entry-reads.Learnt,
 ) (location-at t) location.Post
 location-same-length t c =
     refl
@@ -679,8 +679,8 @@ location-returns : (t : ℕ) → location-lts.Need-returns (
   length-left-reads.Learnt,
   find-path-for-module-local-below t,
   find-path-for-module-local.Post,
-  offer-reads.Asked,
-  offer-reads.Learnt,
+  offer-entry-reads.Asked,
+  offer-entry-reads.Learnt,
 ) (location-at t) location.Post
 location-returns t c =
     let n = c .before .before in
@@ -694,8 +694,8 @@ location-length-left-requires : (t : ℕ) → location-lts.Need-length-left-requ
   length-left-reads.Learnt,
   find-path-for-module-local-below t,
   find-path-for-module-local.Post,
-  offer-reads.Asked,
-  offer-reads.Learnt,
+  offer-entry-reads.Asked,
+  offer-entry-reads.Learnt,
 ) (location-at t) location.Post
 location-length-left-requires t c κs =
     c .before .before .before .before .before .before .before .before .pre .1 .3
@@ -708,30 +708,30 @@ location-find-path-for-module-local-requires :
       length-left-reads.Learnt,
       find-path-for-module-local-below t,
       find-path-for-module-local.Post,
-      offer-reads.Asked,
-      offer-reads.Learnt,
+      offer-entry-reads.Asked,
+      offer-entry-reads.Learnt,
     ) (location-at t) location.Post
 location-find-path-for-module-local-requires t c κs =
     let s = c .before .before .before .before .before .before .before .before .before in
     (omega (arith, s .pre .0, location-shorter (now (s .args .words)) (now (s .args .area)) (s .args .l) (s .args .x) (s .args .left) (s .args .s) (s .pre .1 .0) (s .pre .1 .1) (s .args .best) (s .args .item) (s .args .m .0) (c .length-left .ensures)), (location-call (now (s .args .words)) (now (s .args .area)) (s .args .l) (s .args .x) (s .args .left) (s .args .s) (s .pre .1 .0) (s .pre .1 .1) (s .args .best) (s .args .item) (s .args .m .0) (c .length-left .ensures), s .pre .1 .2))
 
-location-offer-requires : (t : ℕ) → location-lts.Need-offer-requires (
+location-offer-entry-requires : (t : ℕ) → location-lts.Need-offer-entry-requires (
   importable-name-reads.Asked,
   importable-name-reads.Learnt,
   length-left-reads.Asked,
   length-left-reads.Learnt,
   find-path-for-module-local-below t,
   find-path-for-module-local.Post,
-  offer-reads.Asked,
-  offer-reads.Learnt,
+  offer-entry-reads.Asked,
+  offer-entry-reads.Learnt,
 ) (location-at t) location.Post
-location-offer-requires t c κs =
+location-offer-entry-requires t c κs =
     let f = c .before .before .before in
     let e = f .before in
     let a = e .before .before .before in
     let n = a .before .before in
     let s = n .before .before .before .before in
-    (location-reads (now (s .args .words)) (now (s .args .area)) (s .args .l) (s .args .x) (s .args .left) (s .args .s) (s .pre .1 .0) (s .pre .1 .1) (s .args .best) (s .args .item) (s .args .m .0) (e .length-left .ensures) _ (f .find-path-for-module-local .ensures), named-at (s .args .l) (n .importable-name .ensures .1) (a .a .given .1), s .pre .1 .3, location-few (now (s .args .words)) (now (s .args .area)) (s .args .l) (s .args .x) (s .args .left) (s .args .s) (s .pre .1 .0) (s .pre .1 .1) (s .args .best) (s .args .item) (s .args .m .0) (e .length-left .ensures) _ (f .find-path-for-module-local .ensures), location-text (now (s .args .words)) (now (s .args .area)) (s .args .l) (s .args .x) (s .args .left) (s .args .s) (s .pre .1 .0) (s .pre .1 .1) (s .args .best) (s .args .item) (s .args .m .0) (e .length-left .ensures) _ (f .find-path-for-module-local .ensures))
+    (location-reads (now (s .args .words)) (now (s .args .area)) (s .args .l) (s .args .x) (s .args .left) (s .args .s) (s .pre .1 .0) (s .pre .1 .1) (s .args .best) (s .args .item) (s .args .m .0) (e .length-left .ensures) _ (f .find-path-for-module-local .ensures), entry-at (now (s .args .words)) (s .args .l) (n .importable-name .ensures .1) (a .a .given .1), s .pre .1 .3, location-few (now (s .args .words)) (now (s .args .area)) (s .args .l) (s .args .x) (s .args .left) (s .args .s) (s .pre .1 .0) (s .pre .1 .1) (s .args .best) (s .args .item) (s .args .m .0) (e .length-left .ensures) _ (f .find-path-for-module-local .ensures), location-text (now (s .args .words)) (now (s .args .area)) (s .args .l) (s .args .x) (s .args .left) (s .args .s) (s .pre .1 .0) (s .pre .1 .1) (s .args .best) (s .args .item) (s .args .m .0) (e .length-left .ensures) _ (f .find-path-for-module-local .ensures), location-steps (now (s .args .words)) (now (s .args .area)) (s .args .l) (s .args .x) (s .args .left) (s .args .s) (s .pre .1 .0) (s .pre .1 .1) (s .args .best) (s .args .item) (s .args .m .0) (e .length-left .ensures) _ (f .find-path-for-module-local .ensures))
 
 location-same-length-2 : (t : ℕ) → location-lts.Need-same-length-2 (
   importable-name-reads.Asked,
@@ -740,8 +740,8 @@ location-same-length-2 : (t : ℕ) → location-lts.Need-same-length-2 (
   length-left-reads.Learnt,
   find-path-for-module-local-below t,
   find-path-for-module-local.Post,
-  offer-reads.Asked,
-  offer-reads.Learnt,
+  offer-entry-reads.Asked,
+  offer-entry-reads.Learnt,
 ) (location-at t) location.Post
 location-same-length-2 t c =
     c .before .before .before .before .find-path-for-module-local .kept .1 .0
@@ -753,8 +753,8 @@ location-returns-2 : (t : ℕ) → location-lts.Need-returns-2 (
   length-left-reads.Learnt,
   find-path-for-module-local-below t,
   find-path-for-module-local.Post,
-  offer-reads.Asked,
-  offer-reads.Learnt,
+  offer-entry-reads.Asked,
+  offer-entry-reads.Learnt,
 ) (location-at t) location.Post
 location-returns-2 t c =
     let f = c .before .before .before .before in
@@ -762,7 +762,7 @@ location-returns-2 t c =
     let a = e .before .before .before in
     let n = a .before .before in
     let s = n .before .before .before .before in
-    location-some (now (s .args .words)) (now (s .args .area)) (s .args .l) (s .args .x) (s .args .left) (s .args .s) (s .pre .1 .0) (s .pre .1 .1) (s .args .best) (s .args .item) (s .args .m .0) (e .length-left .ensures) _ (f .find-path-for-module-local .ensures) (n .importable-name .ensures .0) (a .a .given .1) (c .offer .ensures)
+    location-some (now (s .args .words)) (now (s .args .area)) (s .args .l) (s .args .x) (s .args .left) (s .args .s) (s .pre .1 .0) (s .pre .1 .1) (s .args .best) (s .args .item) (s .args .m .0) (e .length-left .ensures) _ (f .find-path-for-module-local .ensures) (n .importable-name .ensures .0) (a .a .given .1) (c .offer-entry .ensures)
 
 pub +find-path-for-module-local+local-at+location-spec : {M : Type 1} → statement M
 +find-path-for-module-local+local-at+location-spec =
@@ -837,8 +837,8 @@ pub +find-path-for-module-local+local-at+location-spec : {M : Type 1} → statem
       length-left-reads.Learnt,
       find-path-for-module-local-below t,
       find-path-for-module-local.Post,
-      offer-reads.Asked,
-      offer-reads.Learnt,
+      offer-entry-reads.Asked,
+      offer-entry-reads.Learnt,
     )
     (location-at t)
     location.Post
@@ -849,6 +849,6 @@ pub +find-path-for-module-local+local-at+location-spec : {M : Type 1} → statem
     (location-returns t)
     (location-length-left-requires t)
     (location-find-path-for-module-local-requires t)
-    (location-offer-requires t)
+    (location-offer-entry-requires t)
     (location-same-length-2 t)
     (location-returns-2 t)

@@ -84,7 +84,7 @@ loop-again c =
     let t = o .before .before .before .before in
     let l = t .before .loop in
     let s = t .before .before .before .before .before .before in
-    let k = same-len-mid (24 * l .i) (length (l .reports) - 24 * l .i) (l .reports) (w .write-report .last .1 .0) (w .write-report .kept .1 .0) in (
+    let k = same-len-mid (42 * l .i) (length (l .reports) - 42 * l .i) (l .reports) (w .write-report .last .1 .0) (w .write-report .kept .1 .0) in (
       omega (arith, t .loop-test .taken),
       o .report-on .ensures .checked,
       o .report-on .kept .1 .0 ∙ l .inv .2,

@@ -1,5 +1,5 @@
 use borrow.Author.Needs.{needs}
-use mathlib.Core.Path.{ap, _∙_}
+use mathlib.Core.Path.{_∙_}
 use Rattle.hir_def.proofs.items.first_of.Statement.{statement}
 use Rattle.hir_def.proofs.items.first_of.Tie as tie
 
@@ -10,7 +10,7 @@ definition-first-requires : tie.Need-definition-first-requires
 definition-first-requires c κs = search needs
 
 returns : tie.Need-returns
-returns c = λ A. c .definition-first .ensures ∙ ap (λ x. x .first) (c .before .definition-head .ensures A)
+returns c = λ A. c .definition-first .ensures ∙ c .before .definition-head .ensures A .first
 
 pub first-of-spec : {M : Type 1} → statement M
 first-of-spec = tie.close (tie.spec definition-head-requires definition-first-requires returns)

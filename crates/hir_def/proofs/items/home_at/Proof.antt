@@ -29,7 +29,7 @@ returns-2 c =
     λ A.
     let k = c .before .before .before .before .before .definition-kind .ensures in
     let e = c .before .before .before .before .definition-first .ensures in
-    home-variant _ _ _ (λ z. c .before .before .before .if1 .left (k ∙ z)) (sym k ∙ c .before .before .if2 .taken) (c .definition-first2 .ensures ∙ ap (λ x. x .first) (c .before .definition-head .ensures A)) e
+    home-variant _ _ _ (λ z. c .before .before .before .if1 .left (k ∙ z)) (sym k ∙ c .before .before .if2 .taken) (c .definition-first2 .ensures ∙ c .before .definition-head .ensures A .first) e
 
 add-result-2 : tie.Need-add-result-2
 add-result-2 c = record { fits = omega (arith, c .before .before .definition-first .ensures, c .before .before .before .before .shared-slice-known .given (c .before .before .before .before .before .args .h + 1)) }

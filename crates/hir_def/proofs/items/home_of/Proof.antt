@@ -37,7 +37,7 @@ returns-2 c =
     λ A.
     let s = c .before .before .before .before .before .before in
     let x = c .before .definition-head .ensures A in
-    c .home-at .ensures A ∙ ap₂ (homeBy (snapOf (now (s .args .words)) A (s .args .l))) (ap (λ y. y .kind) x) (ap (λ y. y .first) x) ∙ sym (ap (homeOf _) (c .before .before .before .item2 .given .1))
+    c .home-at .ensures A ∙ ap₂ (homeBy (snapOf (now (s .args .words)) A (s .args .l))) (x .kind) (x .first) ∙ sym (ap (homeOf _) (c .before .before .before .item2 .given .1))
 
 pub home-of-spec : {M : Type 1} → statement M
 home-of-spec =

@@ -1,5 +1,5 @@
 use borrow.Author.Needs.{needs}
-use mathlib.Core.Path.{ap, _∙_}
+use mathlib.Core.Path.{_∙_}
 use Rattle.hir_def.proofs.items.kind_of.Statement.{statement}
 use Rattle.hir_def.proofs.items.kind_of.Tie as tie
 
@@ -10,7 +10,7 @@ definition-kind-requires : tie.Need-definition-kind-requires
 definition-kind-requires c κs = search needs
 
 returns : tie.Need-returns
-returns c = λ A. c .definition-kind .ensures ∙ ap (λ x. x .kind) (c .before .definition-head .ensures A)
+returns c = λ A. c .definition-kind .ensures ∙ c .before .definition-head .ensures A .kind
 
 pub kind-of-spec : {M : Type 1} → statement M
 kind-of-spec = tie.close (tie.spec definition-head-requires definition-kind-requires returns)

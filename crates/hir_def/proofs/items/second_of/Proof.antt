@@ -1,5 +1,5 @@
 use borrow.Author.Needs.{needs}
-use mathlib.Core.Path.{ap, _∙_}
+use mathlib.Core.Path.{_∙_}
 use Rattle.hir_def.proofs.items.second_of.Statement.{statement}
 use Rattle.hir_def.proofs.items.second_of.Tie as tie
 
@@ -10,7 +10,7 @@ definition-second-requires : tie.Need-definition-second-requires
 definition-second-requires c κs = search needs
 
 returns : tie.Need-returns
-returns c = λ A. c .definition-second .ensures ∙ ap (λ x. x .second) (c .before .definition-head .ensures A)
+returns c = λ A. c .definition-second .ensures ∙ c .before .definition-head .ensures A .second
 
 pub second-of-spec : {M : Type 1} → statement M
 second-of-spec = tie.close (tie.spec definition-head-requires definition-second-requires returns)

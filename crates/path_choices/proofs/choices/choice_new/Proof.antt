@@ -10,6 +10,9 @@ use Rattle.path_choices.proofs.choices.choice_new.Tie as tie
 array-write-names : tie.Need-array-write-names
 array-write-names c = search needs
 
+array-write-route : tie.Need-array-write-route
+array-write-route c = search needs
+
 path-kind-len-requires : tie.Need-path-kind-len-requires
 path-kind-len-requires c κs = search needs
 
@@ -25,13 +28,14 @@ is-prelude-requires c κs = search needs
 returns : tie.Need-returns
 returns c =
     let s = c .before .before .before .before .before in
-    new-same (snapOf (now (s .args .words)) (now (s .args .area)) (s .args .l)) (s .args .kind) (s .args .n .0) (ap₂ (λ x y. x + y) (c .before .before .path-kind-len .ensures .0) (c .before .name-len .ensures .0)) (c .is-prelude .ensures)
+    new-same (snapOf (now (s .args .words)) (now (s .args .area)) (s .args .l)) (s .args .kind) (s .args .n .0) (s .args .via) (ap₂ (λ x y. x + y) (c .before .before .path-kind-len .ensures .0) (c .before .name-len .ensures .0)) (c .is-prelude .ensures)
 
 pub choice-new-spec : {M : Type 1} → statement M
 choice-new-spec =
     tie.close
     (tie.spec
     array-write-names
+    array-write-route
     path-kind-len-requires
     name-len-requires
     add-text

@@ -13,7 +13,7 @@ use Rattle.path_printer.proofs.print.print_questions.Tie as tie
 
 abbrev Inv-loop : tie.InvT-loop
 Inv-loop words k area₀ out₀ snapshot c at₀ area out at =
-    Judged snapshot area c × (length area ≡ length area₀) × (length out ≡ length out₀) × (length area₀ ≡ 16384) × (4166 ≤ length out₀)
+    Judged snapshot area c × (length area ≡ length area₀) × (length out ≡ length out₀) × (length area₀ ≡ 16384) × (4659 ≤ length out₀)
 
 abbrev μ-loop : tie.MeasureT-loop
 μ-loop words k area₀ out₀ snapshot c at₀ area out at = length words - at

@@ -1,7 +1,6 @@
 use borrow.Author.Needs.{needs}
-use mathlib.Core.Path.{ap, _∙_}
 use denote.Ref.{now}
-use Rattle.find_path.specs.Rules.{entryName, findInScope}
+use Rattle.find_path.specs.Rules.{findInScope}
 use Rattle.path_rules.proofs.RuleLaws.{scope-below}
 use Rattle.path_rules.proofs.rules.find_in_scope.Statement.{statement}
 use Rattle.path_rules.proofs.rules.find_in_scope.Tie as tie
@@ -9,15 +8,12 @@ use Rattle.path_rules.proofs.rules.find_in_scope.Tie as tie
 scope-entry-requires : tie.Need-scope-entry-requires
 scope-entry-requires c κs = search needs
 
-entry-name-requires : tie.Need-entry-name-requires
-entry-name-requires c κs = search needs
-
 returns : tie.Need-returns
 unfolding findInScope
 returns c =
-    let s = c .before .before .before .before in
-    let e = c .entry-name .ensures ∙ ap entryName (c .before .scope-entry .ensures) in
-    (e, scope-below (now (s .args .words)) (now (s .args .area)) (s .args .l) (s .pre .0) (s .args .x) (s .args .item) e)
+    let s = c .before .before .before in
+    let e = c .scope-entry .ensures in
+    (e, scope-below (now (s .args .words)) (now (s .args .area)) (s .args .l) (s .pre .0) (s .args .x) (s .args .item) (c .scope-entry .result) e)
 
 pub find-in-scope-spec : {M : Type 1} → statement M
-find-in-scope-spec = tie.close (tie.spec scope-entry-requires entry-name-requires returns)
+find-in-scope-spec = tie.close (tie.spec scope-entry-requires returns)

@@ -17,7 +17,7 @@ unfolding preludeRule
 returns c =
     let s = c .before .before .before .before in
     let n = snapOf (now (s .args .words)) (now (s .args .area)) (s .args .l) in
-    c .single .ensures (s .args .x) ∙ ap (single n (s .args .x) 0) (c .before .find-in-prelude .ensures .0)
+    c .single .ensures (s .args .x) ∙ ap (single n (s .args .x) 0 2) (c .before .find-in-prelude .ensures .0)
 
 pub prelude-rule-spec : {M : Type 1} → statement M
 prelude-rule-spec = tie.close (tie.spec find-in-prelude-requires single-requires returns)

@@ -1,14 +1,17 @@
 use borrow.Author.Needs.{needs}
-use mathlib.Core.Path.{sym, ap, _∙_, subst}
+use mathlib.Core.Path.{sym, ap, ap₂, _∙_, subst}
 use denote.Ref.{now}
+use Rattle.snapshot.specs.Records.{scopeAt}
 use Rattle.snapshot.specs.Layouts.{snapOf}
-use Rattle.find_path.specs.Conditions.{Named}
+use Rattle.hir_def.specs.Entries.{entryOf}
+use Rattle.find_path.specs.Choices.{choiceNew}
+use Rattle.find_path.specs.Conditions.{EntryFits}
 use Rattle.find_path.specs.Rules.{single}
 use Rattle.path_rules.proofs.rules.single.Statement.{statement}
 use Rattle.path_rules.proofs.rules.single.Tie as tie
 
-enum-known-a : tie.Need-enum-known-a
-enum-known-a c = search needs
+enum-known-e : tie.Need-enum-known-e
+enum-known-e c = search needs
 
 enum-told : tie.Need-enum-told
 enum-told c = search needs
@@ -22,22 +25,42 @@ returns c =
     λ x.
     (let s = c .before .before .before .before .before in
     let n = snapOf (now (s .args .words)) (now (s .args .area)) (s .args .l) in
-    c .nothing .ensures ∙ sym (ap (single n x (s .args .kind)) (c .before .enum-told .given .1)))
+    c .nothing .ensures ∙ sym (ap (λ e. single n x (s .args .kind) (s .args .rule) (entryOf scopeAt (now (s .args .words)) e)) (c .before .enum-told .given .1)))
+
+step-by-requires : tie.Need-step-by-requires
+step-by-requires c κs =
+    let s = c .before .before .before .before .before in
+    (s .pre .1, subst (EntryFits (now (s .args .words)) (s .args .l)) (c .before .e .given .1) (s .pre .2) .place)
+
+scope-name-requires : tie.Need-scope-name-requires
+scope-name-requires c κs = search needs
 
 choice-new-requires : tie.Need-choice-new-requires
 choice-new-requires c κs =
-    let s = c .before .before .before .before .before in
-    (s .pre .0, subst (Named (s .args .l)) (c .before .a .given .1) (s .pre .1))
+    let s = c .before .before .before .before .before .before .before in
+    let f = subst (EntryFits (now (s .args .words)) (s .args .l)) (c .before .before .before .e .given .1) (s .pre .2) in
+    (s .pre .0, rw (c .scope-name .ensures) (f .name))
 
 returns-2 : tie.Need-returns-2
 unfolding single
 returns-2 c =
     λ x.
-    (let s = c .before .before .before .before .before .before in
-    let n = snapOf (now (s .args .words)) (now (s .args .area)) (s .args .l) in
-    c .choice-new .ensures ∙ sym (ap (single n x (s .args .kind)) (c .before .before .a .given .1)))
+    (let s = c .before .before .before .before .before .before .before .before in
+    let W = now (s .args .words) in
+    let n = snapOf W (now (s .args .area)) (s .args .l) in
+    c .choice-new .ensures
+    ∙ ap₂ (choiceNew n (s .args .kind)) (c .before .scope-name .ensures) (c .before .before .step-by .ensures)
+    ∙ sym (ap (λ e. single n x (s .args .kind) (s .args .rule) (entryOf scopeAt W e)) (c .before .before .before .before .e .given .1)))
 
 pub single-spec : {M : Type 1} → statement M
 single-spec =
     tie.close
-    (tie.spec enum-known-a enum-told nothing-requires returns choice-new-requires returns-2)
+    (tie.spec
+    enum-known-e
+    enum-told
+    nothing-requires
+    returns
+    step-by-requires
+    scope-name-requires
+    choice-new-requires
+    returns-2)

@@ -1,10 +1,10 @@
 use Prim.Native.Nat.{_-_, _≤_}
-use mathlib.Core.Path.{_≡_}
+use mathlib.Core.Path.{_≡_, ap, _∙_}
 use native.Mathlib.Omega.{arith}
 use denote.Ref.{now}
 use lib.ListN.{length}
 use Rattle.printer.proofs.Laws.{first-start, first-here, first-later, first-none}
-use Rattle.printer.specs.Printed.{questionsAt, firstFrom}
+use Rattle.printer.specs.Printed.{isHead, questionsAt, firstFrom}
 use Rattle.printer.proofs.questions.first_question.Statement.{statement}
 use Rattle.printer.proofs.questions.first_question.Tie as tie
 
@@ -20,10 +20,14 @@ loop-holds c = (omega arith, first-start (now (c .before .args .words)))
 kind-requires : tie.Need-kind-requires Inv-loop μ-loop
 kind-requires c κs = tt
 
+is-head-requires : tie.Need-is-head-requires Inv-loop μ-loop
+is-head-requires c κs = tt
+
 returns : tie.Need-returns Inv-loop μ-loop
 returns c =
-    let l = c .before .before .before .loop in
-    (first-here (now (c .before .before .before .before .before .args .words)) (l .i) (l .inv .1) _ (c .before .before .loop-test .taken) (c .before .kind .ensures) (c .if1 .taken), l .inv .0)
+    let l = c .before .before .before .before .loop in
+    let q = c .before .is-head .ensures ∙ ap isHead (c .before .before .kind .ensures) in
+    (first-here (now (c .before .before .before .before .before .before .args .words)) (l .i) (l .inv .1) _ (c .before .before .before .loop-test .taken) q (c .if1 .taken), l .inv .0)
 
 add-i : tie.Need-add-i Inv-loop μ-loop
 add-i c = omega arith
@@ -33,8 +37,9 @@ loop-less c = omega arith
 
 loop-again : tie.Need-loop-again Inv-loop μ-loop
 loop-again c =
-    let l = c .before .before .before .loop in
-    (omega arith, first-later (now (c .before .before .before .before .before .args .words)) (l .i) (l .inv .1) _ (c .before .before .loop-test .taken) (c .before .kind .ensures) (c .if1 .left))
+    let l = c .before .before .before .before .loop in
+    let q = c .before .is-head .ensures ∙ ap isHead (c .before .before .kind .ensures) in
+    (omega arith, first-later (now (c .before .before .before .before .before .before .args .words)) (l .i) (l .inv .1) _ (c .before .before .before .loop-test .taken) q (c .if1 .left))
 
 returns-2 : tie.Need-returns-2 Inv-loop μ-loop
 returns-2 c =
@@ -49,6 +54,7 @@ first-question-spec =
     μ-loop
     loop-holds
     kind-requires
+    is-head-requires
     returns
     add-i
     loop-less

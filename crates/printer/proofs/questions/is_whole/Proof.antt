@@ -1,5 +1,7 @@
 use borrow.Author.Needs.{needs}
+use mathlib.Core.Path.{ap, _∙_}
 use denote.Ref.{now}
+use Rattle.printer.specs.Printed.{isQuestion}
 use Rattle.printer.proofs.Laws.{not-whole, whole-same}
 use Rattle.printer.proofs.questions.is_whole.Statement.{statement}
 use Rattle.printer.proofs.questions.is_whole.Tie as tie
@@ -9,6 +11,9 @@ returns c = not-whole (now (c .before .before .args .words)) (c .before .before 
 
 kind-requires : tie.Need-kind-requires
 kind-requires c κs = search needs
+
+is-question-requires : tie.Need-is-question-requires
+is-question-requires c κs = search needs
 
 add-is-argument : tie.Need-add-is-argument
 add-is-argument c = search needs
@@ -52,8 +57,9 @@ add-room c = search needs
 returns-2 : tie.Need-returns-2
 returns-2 c =
     let f = c .before in
-    let s = f .before .before .before .before .before .before .before .before .args in
-    whole-same (now (s .words)) (s .at) _ _ _ _ _ _ _ (f .before .before .before .before .before .kind .ensures) (f .before .before .before .before .is-argument .ensures) (f .before .before .before .is-argument2 .ensures) (f .before .before .is-argument3 .ensures) (f .before .is-argument4 .ensures) (f .is-argument5 .ensures) (c .is-argument6 .ensures)
+    let s = f .before .before .before .before .before .before .before .before .before .args in
+    let q = f .before .before .before .before .before .is-question .ensures ∙ ap isQuestion (f .before .before .before .before .before .before .kind .ensures) in
+    whole-same (now (s .words)) (s .at) _ _ _ _ _ _ _ q (f .before .before .before .before .is-argument .ensures) (f .before .before .before .is-argument2 .ensures) (f .before .before .is-argument3 .ensures) (f .before .is-argument4 .ensures) (f .is-argument5 .ensures) (c .is-argument6 .ensures)
 
 pub is-whole-spec : {M : Type 1} → statement M
 is-whole-spec =
@@ -61,6 +67,7 @@ is-whole-spec =
     (tie.spec
     returns
     kind-requires
+    is-question-requires
     add-is-argument
     is-argument-requires
     add-is-argument-2

@@ -13,7 +13,7 @@ use Rattle.replay.proofs.compare.same_lines.Tie as tie
 
 abbrev Inv-loop : tie.InvT-loop
 Inv-loop words k lines area₀ out₀ snapshot c at₀ to₀ area out at to =
-    Judged snapshot area c × (length area ≡ length area₀) × (length out ≡ length out₀) × (length area₀ ≡ 16384) × (4166 ≤ length out₀) × (to ≤ length lines)
+    Judged snapshot area c × (length area ≡ length area₀) × (length out ≡ length out₀) × (length area₀ ≡ 16384) × (4659 ≤ length out₀) × (to ≤ length lines)
 
 abbrev μ-loop : tie.MeasureT-loop
 μ-loop words k lines area₀ out₀ snapshot c at₀ to₀ area out at to = length words - at

@@ -23,7 +23,7 @@ use Rattle.search.proofs.inner.+find_by_name+find_path_inner.Lts-find_b
 use Rattle.search.proofs.inner.find_path_inner.Reads as find-path-inner
 use Rattle.search.proofs.inner.find_path_inner.Kinds as find-path-inner-kinds
 use Rattle.search.proofs.inner.+find_by_name+find_path_inner.Lts-find_path_inner as find-path-inner-lts
-use Rattle.path_rules.proofs.choices.push.Reads as push-reads
+use Rattle.search.proofs.inner.push_variant.Reads as push-variant-reads
 use Rattle.hir_def.proofs.items.item_of.Reads as item-of-reads
 use Rattle.charged_search.proofs.calculate_best_path.Reads as calculate-best-path-reads
 use Rattle.charged_search.proofs.find_path_for_module.Reads as find-path-for-module-reads
@@ -84,8 +84,8 @@ find-by-name-named-requires : (t : ℕ) → find-by-name-lts.Need-named-requires
   find-path-inner.Post,
   definition-second-reads.Asked,
   definition-second-reads.Learnt,
-  push-reads.Asked,
-  push-reads.Learnt,
+  push-variant-reads.Asked,
+  push-variant-reads.Learnt,
 ) (find-by-name-at t) find-by-name.Post
 find-by-name-named-requires t c κs = let o = c .before .before .before in (o .pre .1 .0 .reads, o .pre .1 .0 .from)
 
@@ -104,8 +104,8 @@ find-by-name-same-length : (t : ℕ) → find-by-name-lts.Need-same-length (
   find-path-inner.Post,
   definition-second-reads.Asked,
   definition-second-reads.Learnt,
-  push-reads.Asked,
-  push-reads.Learnt,
+  push-variant-reads.Asked,
+  push-variant-reads.Learnt,
 ) (find-by-name-at t) find-by-name.Post
 find-by-name-same-length t c = refl
 
@@ -124,8 +124,8 @@ find-by-name-returns : (t : ℕ) → find-by-name-lts.Need-returns (
   find-path-inner.Post,
   definition-second-reads.Asked,
   definition-second-reads.Learnt,
-  push-reads.Asked,
-  push-reads.Learnt,
+  push-variant-reads.Asked,
+  push-variant-reads.Learnt,
 ) (find-by-name-at t) find-by-name.Post
 find-by-name-returns t c =
     let o = c .before .before .before .before .before in
@@ -147,8 +147,8 @@ find-by-name-variant-of-requires : (t : ℕ) → find-by-name-lts.Need-variant-o
   find-path-inner.Post,
   definition-second-reads.Asked,
   definition-second-reads.Learnt,
-  push-reads.Asked,
-  push-reads.Learnt,
+  push-variant-reads.Asked,
+  push-variant-reads.Learnt,
 ) (find-by-name-at t) find-by-name.Post
 find-by-name-variant-of-requires t c κs = let o = c .before .before .before .before .before in few-words _ _ _ (o .pre .1 .0 .reads)
 
@@ -167,8 +167,8 @@ find-by-name-enum-known-h : (t : ℕ) → find-by-name-lts.Need-enum-known-h (
   find-path-inner.Post,
   definition-second-reads.Asked,
   definition-second-reads.Learnt,
-  push-reads.Asked,
-  push-reads.Learnt,
+  push-variant-reads.Asked,
+  push-variant-reads.Learnt,
 ) (find-by-name-at t) find-by-name.Post
 find-by-name-enum-known-h t c = search needs
 
@@ -187,8 +187,8 @@ find-by-name-enum-told : (t : ℕ) → find-by-name-lts.Need-enum-told (
   find-path-inner.Post,
   definition-second-reads.Asked,
   definition-second-reads.Learnt,
-  push-reads.Asked,
-  push-reads.Learnt,
+  push-variant-reads.Asked,
+  push-variant-reads.Learnt,
 ) (find-by-name-at t) find-by-name.Post
 find-by-name-enum-told t c = search needs
 
@@ -208,8 +208,8 @@ find-by-name-calculate-best-path-requires :
       find-path-inner.Post,
       definition-second-reads.Asked,
       definition-second-reads.Learnt,
-      push-reads.Asked,
-      push-reads.Learnt,
+      push-variant-reads.Asked,
+      push-variant-reads.Learnt,
     ) (find-by-name-at t) find-by-name.Post
 find-by-name-calculate-best-path-requires t c κs = let o = c .before .before .before .before .before .before .before .before .before in (begun (o .pre .1 .0), o .pre .1 .1, o .pre .1 .2)
 
@@ -228,8 +228,8 @@ find-by-name-same-length-2 : (t : ℕ) → find-by-name-lts.Need-same-length-2 (
   find-path-inner.Post,
   definition-second-reads.Asked,
   definition-second-reads.Learnt,
-  push-reads.Asked,
-  push-reads.Learnt,
+  push-variant-reads.Asked,
+  push-variant-reads.Learnt,
 ) (find-by-name-at t) find-by-name.Post
 find-by-name-same-length-2 t c = c .before .before .calculate-best-path .kept .1 .0
 
@@ -248,8 +248,8 @@ find-by-name-returns-2 : (t : ℕ) → find-by-name-lts.Need-returns-2 (
   find-path-inner.Post,
   definition-second-reads.Asked,
   definition-second-reads.Learnt,
-  push-reads.Asked,
-  push-reads.Learnt,
+  push-variant-reads.Asked,
+  push-variant-reads.Learnt,
 ) (find-by-name-at t) find-by-name.Post
 find-by-name-returns-2 t c =
     let o = c .before .before .before .before .before .before .before .before .before .before .before .before in
@@ -276,8 +276,8 @@ find-by-name-definition-first-requires : (t : ℕ) → find-by-name-lts.Need-def
   find-path-inner.Post,
   definition-second-reads.Asked,
   definition-second-reads.Learnt,
-  push-reads.Asked,
-  push-reads.Learnt,
+  push-variant-reads.Asked,
+  push-variant-reads.Learnt,
 ) (find-by-name-at t) find-by-name.Post
 find-by-name-definition-first-requires t c κs = tt
 
@@ -296,8 +296,8 @@ find-by-name-item-of-requires : (t : ℕ) → find-by-name-lts.Need-item-of-requ
   find-path-inner.Post,
   definition-second-reads.Asked,
   definition-second-reads.Learnt,
-  push-reads.Asked,
-  push-reads.Learnt,
+  push-variant-reads.Asked,
+  push-variant-reads.Learnt,
 ) (find-by-name-at t) find-by-name.Post
 find-by-name-item-of-requires t c κs = let o = c .before .before .before .before .before .before .before .before .before .before in few-words _ _ _ (o .pre .1 .0 .reads)
 
@@ -316,8 +316,8 @@ find-by-name-find-path-inner-requires : (t : ℕ) → find-by-name-lts.Need-find
   find-path-inner.Post,
   definition-second-reads.Asked,
   definition-second-reads.Learnt,
-  push-reads.Asked,
-  push-reads.Learnt,
+  push-variant-reads.Asked,
+  push-variant-reads.Learnt,
 ) (find-by-name-at t) find-by-name.Post
 find-by-name-find-path-inner-requires t c κs =
     let o = c .before .before .before .before .before .before .before .before .before .before .before .before in
@@ -350,12 +350,12 @@ find-by-name-definition-second-requires :
       find-path-inner.Post,
       definition-second-reads.Asked,
       definition-second-reads.Learnt,
-      push-reads.Asked,
-      push-reads.Learnt,
+      push-variant-reads.Asked,
+      push-variant-reads.Learnt,
     ) (find-by-name-at t) find-by-name.Post
 find-by-name-definition-second-requires t c κs = tt
 
-find-by-name-push-requires : (t : ℕ) → find-by-name-lts.Need-push-requires (
+find-by-name-push-variant-requires : (t : ℕ) → find-by-name-lts.Need-push-variant-requires (
   named-reads.Asked,
   named-reads.Learnt,
   variant-of-reads.Asked,
@@ -370,10 +370,10 @@ find-by-name-push-requires : (t : ℕ) → find-by-name-lts.Need-push-requires (
   find-path-inner.Post,
   definition-second-reads.Asked,
   definition-second-reads.Learnt,
-  push-reads.Asked,
-  push-reads.Learnt,
+  push-variant-reads.Asked,
+  push-variant-reads.Learnt,
 ) (find-by-name-at t) find-by-name.Post
-find-by-name-push-requires t c κs =
+find-by-name-push-variant-requires t c κs =
     let o = c .before .before .before .before .before .before .before .before .before .before .before .before .before .before .before .before .before .before .before .before in
     let a = o .args in
     let e = sym (ap (entryOf definitionAt (now (a .words))) (c .before .before .before .before .before .before .before .before .before .before .before .before .h .given .1)) ∙ c .before .before .before .before .before .before .before .before .before .before .before .before .before .before .variant-of .ensures (now (a .area)) in
@@ -385,6 +385,8 @@ find-by-name-push-requires t c κs =
       omega (arith, c .definition-second .ensures, p .name),
       q .few,
       q .text,
+      q .steps,
+      p .place,
     )
 
 find-by-name-same-length-3 : (t : ℕ) → find-by-name-lts.Need-same-length-3 (
@@ -402,8 +404,8 @@ find-by-name-same-length-3 : (t : ℕ) → find-by-name-lts.Need-same-length-3 (
   find-path-inner.Post,
   definition-second-reads.Asked,
   definition-second-reads.Learnt,
-  push-reads.Asked,
-  push-reads.Learnt,
+  push-variant-reads.Asked,
+  push-variant-reads.Learnt,
 ) (find-by-name-at t) find-by-name.Post
 find-by-name-same-length-3 t c = c .before .before .before .before .before .before .before .before .find-path-inner .kept .1 .0
 
@@ -422,8 +424,8 @@ find-by-name-returns-3 : (t : ℕ) → find-by-name-lts.Need-returns-3 (
   find-path-inner.Post,
   definition-second-reads.Asked,
   definition-second-reads.Learnt,
-  push-reads.Asked,
-  push-reads.Learnt,
+  push-variant-reads.Asked,
+  push-variant-reads.Learnt,
 ) (find-by-name-at t) find-by-name.Post
 find-by-name-returns-3 t c =
     let o = c .before .before .before .before .before .before .before .before .before .before .before .before .before .before .before .before .before .before .before .before .before in
@@ -431,7 +433,7 @@ find-by-name-returns-3 t c =
     let e = sym (ap (entryOf definitionAt (now (a .words))) (c .before .before .before .before .before .before .before .before .before .before .before .before .before .h .given .1)) ∙ c .before .before .before .before .before .before .before .before .before .before .before .before .before .before .before .variant-of .ensures (now (a .area)) in
     let g = c .before .before .before .before .before .before .before .before .before .before .item-of .ensures (now (a .area)) ∙ ap (itemOf (snapOf (now (a .words)) (now (a .area)) (a .l)) 0) (c .before .before .before .before .before .before .before .before .before .before .before .definition-first .ensures) in
     let f = c .before .before .before .before .before .before .before .before .find-path-inner in
-    enum-run (o .pre .1 .0) (a .item) (a .t) (c .before .before .before .before .before .before .before .before .before .before .before .before .before .before .before .before .before .named .ensures) (c .before .before .before .before .before .before .before .before .before .before .before .before .before .before .before .before .if1 .left) _ e g (f .ensures) (c .before .before .before .if2 .taken) (c .before .definition-second .ensures) (c .push .ensures)
+    enum-run (o .pre .1 .0) (a .item) (a .t) (c .before .before .before .before .before .before .before .before .before .before .before .before .before .before .before .before .before .named .ensures) (c .before .before .before .before .before .before .before .before .before .before .before .before .before .before .before .before .if1 .left) _ e g (f .ensures) (c .before .before .before .if2 .taken) (c .before .definition-second .ensures) (c .push-variant .ensures)
 
 find-by-name-calculate-best-path-requires-2 :
     (t : ℕ) → find-by-name-lts.Need-calculate-best-path-requires-2 (
@@ -449,8 +451,8 @@ find-by-name-calculate-best-path-requires-2 :
       find-path-inner.Post,
       definition-second-reads.Asked,
       definition-second-reads.Learnt,
-      push-reads.Asked,
-      push-reads.Learnt,
+      push-variant-reads.Asked,
+      push-variant-reads.Learnt,
     ) (find-by-name-at t) find-by-name.Post
 find-by-name-calculate-best-path-requires-2 t c κs =
     let o = c .before .before .before .before .before .before .before .before .before .before .before .before .before .before .before .before .before .before .before in
@@ -473,8 +475,8 @@ find-by-name-same-length-4 : (t : ℕ) → find-by-name-lts.Need-same-length-4 (
   find-path-inner.Post,
   definition-second-reads.Asked,
   definition-second-reads.Learnt,
-  push-reads.Asked,
-  push-reads.Learnt,
+  push-variant-reads.Asked,
+  push-variant-reads.Learnt,
 ) (find-by-name-at t) find-by-name.Post
 find-by-name-same-length-4 t c = c .before .before .calculate-best-path2 .kept .1 .0 ∙ c .before .before .before .before .before .before .before .before .before .find-path-inner .kept .1 .0
 
@@ -493,8 +495,8 @@ find-by-name-returns-4 : (t : ℕ) → find-by-name-lts.Need-returns-4 (
   find-path-inner.Post,
   definition-second-reads.Asked,
   definition-second-reads.Learnt,
-  push-reads.Asked,
-  push-reads.Learnt,
+  push-variant-reads.Asked,
+  push-variant-reads.Learnt,
 ) (find-by-name-at t) find-by-name.Post
 find-by-name-returns-4 t c =
     let o = c .before .before .before .before .before .before .before .before .before .before .before .before .before .before .before .before .before .before .before .before .before .before in
@@ -632,8 +634,8 @@ pub +find-by-name+find-path-inner-spec : {M : Type 1} → statement M
       find-path-inner.Post,
       definition-second-reads.Asked,
       definition-second-reads.Learnt,
-      push-reads.Asked,
-      push-reads.Learnt,
+      push-variant-reads.Asked,
+      push-variant-reads.Learnt,
     )
     (find-by-name-at t)
     find-by-name.Post
@@ -650,7 +652,7 @@ pub +find-by-name+find-path-inner-spec : {M : Type 1} → statement M
     (find-by-name-item-of-requires t)
     (find-by-name-find-path-inner-requires t)
     (find-by-name-definition-second-requires t)
-    (find-by-name-push-requires t)
+    (find-by-name-push-variant-requires t)
     (find-by-name-same-length-3 t)
     (find-by-name-returns-3 t)
     (find-by-name-calculate-best-path-requires-2 t)

@@ -11,30 +11,27 @@ use Rattle.find_path.specs.Rules.{moduleIn}
 use Rattle.find_path.specs.Charged.{foundOf}
 use Rattle.charged_search.proofs.Holding.{module-small}
 use Rattle.search.proofs.Items.{item-ns}
-use Rattle.search.proofs.Starts.{builtin-name, home-there, context-from, context-limit, start-builtin, start-none, start-item}
+use Rattle.search.proofs.Starts.{builtin-kind, home-there, context-from, context-limit, start-builtin, start-none, start-item}
 use Rattle.search.proofs.inner.find_path.Statement.{statement}
 use Rattle.search.proofs.inner.find_path.Tie as tie
 
 kind-of-requires : tie.Need-kind-of-requires
 kind-of-requires c κs = let o = c .before .before .before in few-words _ _ _ (o .pre .0)
 
-first-of-requires : tie.Need-first-of-requires
-first-of-requires c κs = let o = c .before .before .before .before .before .before in few-words _ _ _ (o .pre .0)
-
-choice-new-requires : tie.Need-choice-new-requires
-choice-new-requires c κs =
-    let o = c .before .before .before .before .before .before .before in
+builtin-choice-requires : tie.Need-builtin-choice-requires
+builtin-choice-requires c κs =
+    let o = c .before .before .before .before .before .before in
     let a = o .args in
-    (o .pre .0, builtin-name (now (a .words)) (now (a .area)) (a .l) (o .pre .0) (a .q .ns) (a .q .definition) (o .pre .2) (c .before .before .before .kind-of .ensures (now (a .area))) (c .before .before .if1 .taken) (c .first-of .ensures (now (a .area))))
+    (o .pre .0, o .pre .2, builtin-kind (snapOf (now (a .words)) (now (a .area)) (a .l)) (a .q .ns) (a .q .definition) (c .before .before .kind-of .ensures (now (a .area))) (c .before .if1 .taken))
 
 same-length : tie.Need-same-length
 same-length c = refl
 
 returns : tie.Need-returns
 returns c =
-    let o = c .before .before .before .before .before .before .before .before in
+    let o = c .before .before .before .before .before .before .before in
     let a = o .args in
-    record { same = start-builtin (snapOf (now (a .words)) (now (a .area)) (a .l)) (a .q) (a .fuel) (c .before .before .before .before .kind-of .ensures (now (a .area))) (c .before .before .before .if1 .taken) (c .before .first-of .ensures (now (a .area))) (c .choice-new .ensures); tables = refl }
+    record { same = start-builtin (snapOf (now (a .words)) (now (a .area)) (a .l)) (a .q) (a .fuel) (c .before .before .before .kind-of .ensures (now (a .area))) (c .before .before .if1 .taken) (c .builtin-choice .ensures); tables = refl }
 
 item-of-requires : tie.Need-item-of-requires
 item-of-requires c κs = let o = c .before .before .before .before .before in few-words _ _ _ (o .pre .0)
@@ -102,8 +99,7 @@ find-path-spec =
     tie.close
     (tie.spec
     kind-of-requires
-    first-of-requires
-    choice-new-requires
+    builtin-choice-requires
     same-length
     returns
     item-of-requires

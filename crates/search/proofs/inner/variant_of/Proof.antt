@@ -1,4 +1,6 @@
 use borrow.Author.Needs.{needs}
+use mathlib.Core.Path.{_∙_}
+use native.Mathlib.Omega.{arith}
 use Rattle.search.proofs.Items.{variant-module, variant-yes, variant-no}
 use Rattle.search.proofs.inner.variant_of.Statement.{statement}
 use Rattle.search.proofs.inner.variant_of.Tie as tie
@@ -21,12 +23,14 @@ definition-kind-requires c κs = search needs
 returns-2 : tie.Need-returns-2
 returns-2 c =
     λ A.
-    variant-yes _ (c .before .before .before .before .item .given .1) (c .before .before .definition-head .ensures A) (c .before .definition-kind .ensures) (c .if1 .taken)
+    let r = c .before .before .definition-head .ensures A in
+    let k = c .before .definition-kind .ensures in
+    variant-yes _ (c .before .before .before .before .item .given .1) (r .whole (omega (arith, r .kind, k, c .if1 .taken))) k (c .if1 .taken)
 
 returns-3 : tie.Need-returns-3
 returns-3 c =
     λ A.
-    variant-no _ (c .before .before .before .before .item .given .1) (c .before .before .definition-head .ensures A) (c .before .definition-kind .ensures) (c .if1 .left)
+    variant-no _ (c .before .before .before .before .item .given .1) (c .before .definition-kind .ensures ∙ c .before .before .definition-head .ensures A .kind) (c .if1 .left)
 
 pub variant-of-spec : {M : Type 1} → statement M
 variant-of-spec =

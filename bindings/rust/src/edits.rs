@@ -1,0 +1,95 @@
+//! A snapshot whose scope entries come and go.
+use crate::ids::{DefinitionId, ModuleId, NameId, Namespace};
+use crate::refusal::Refusal;
+use crate::snapshot::WorkArea;
+use crate::sys;
+use crate::words::Visibility;
+
+/// An entry of a module's scope.
+#[derive(Clone, Copy, Debug, PartialEq, Eq, Hash)]
+pub struct Entry {
+    pub module: ModuleId,
+    pub namespace: Namespace,
+    pub name: NameId,
+    pub definition: DefinitionId,
+    pub visibility: Visibility,
+    /// It is no import.
+    pub declared: bool,
+    pub deprecated: bool,
+}
+
+impl Entry {
+    fn words(&self) -> [u32; sys::ENTRY] {
+        let (kind, number) = self.visibility.numbers();
+        let declared = u32::from(self.declared) + 2 * u32::from(self.deprecated);
+        [self.module.0, self.namespace as u32, self.name.0, self.definition.0, kind, number, declared]
+    }
+}
+
+/// The words of a snapshot, kept while `use` lines come and go. Each report on them is the one for a snapshot written afresh with its
+/// scope entries in this order.
+///
+/// ```
+/// use kelumavor::{DefinitionId, EditedWords, Entry, ModuleId, NameId, Namespace, Question, Snapshot, Visibility};
+///
+/// # let words = [
+/// #     0x10000001, 0x61, 0x10000001, 0x66, 0x20000000, 2021, 0x40000000, 0, 0, 0x50000000, 0, 0x50000000, 1, 0x60000000, 1,
+/// #     0x80000001, 1, 0, 0x80000004, 1, 0, 0x90000000, 0, 0, 0, 0, 0, 1, 0x90000001, 1, 1, 1, 0, 0, 1,
+/// # ];
+/// // A crate with a module `a` that holds a function `f`; the root imports `f`.
+/// let mut edited = EditedWords::new(&words);
+/// let entry = Entry {
+///     module: ModuleId(0),
+///     namespace: Namespace::Values,
+///     name: NameId(1),
+///     definition: DefinitionId(1),
+///     visibility: Visibility::Implicit(ModuleId(0)),
+///     declared: false,
+///     deprecated: false,
+/// };
+/// edited.add(&entry)?;
+/// let question = Question::new(Namespace::Values, DefinitionId(1), ModuleId(0));
+/// assert_eq!(Snapshot::check(edited.words())?.find_path(&question).to_string(), "found f 0 0");
+///
+/// edited.remove(ModuleId(0), Namespace::Values, NameId(1))?;
+/// assert_eq!(edited.words(), words);
+/// # Ok::<(), kelumavor::Refusal>(())
+/// ```
+#[derive(Clone, Debug, PartialEq, Eq)]
+pub struct EditedWords {
+    slice: Vec<u32>,
+    count: usize,
+}
+
+impl EditedWords {
+    /// The words of a snapshot, with room for as many more as a snapshot may have. They are checked by each edit.
+    pub fn new(words: &[u32]) -> Self {
+        let mut slice = words.to_vec();
+        slice.resize(words.len().max(WorkArea::WORDS), 0);
+        EditedWords { slice, count: words.len() }
+    }
+
+    pub fn words(&self) -> &[u32] {
+        &self.slice[..self.count]
+    }
+
+    /// Adds an entry after the last one. A refusal changes nothing.
+    pub fn add(&mut self, entry: &Entry) -> Result<(), Refusal> {
+        let area = &mut WorkArea::new();
+        refusal(sys::add_entry(&mut self.slice, &mut self.count, area.words(), &entry.words()))
+    }
+
+    /// Removes an entry. A refusal changes nothing.
+    pub fn remove(&mut self, module: ModuleId, namespace: Namespace, name: NameId) -> Result<(), Refusal> {
+        let area = &mut WorkArea::new();
+        let key = [module.0 as usize, namespace as usize, name.0 as usize];
+        refusal(sys::remove_entry(&mut self.slice, &mut self.count, area.words(), key))
+    }
+}
+
+fn refusal(number: usize) -> Result<(), Refusal> {
+    match number {
+        0 => Ok(()),
+        number => Err(Refusal::new(number as u32, None)),
+    }
+}

@@ -1,0 +1,5 @@
+-- Laws that belong to no one function.
+pub mod Laws
+pub mod Fresh
+pub mod Numbers
+pub mod Worked

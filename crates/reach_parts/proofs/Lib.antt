@@ -1,0 +1,4 @@
+-- Laws that belong to no one function.
+pub mod Laws
+pub mod Distinct
+pub mod Worked

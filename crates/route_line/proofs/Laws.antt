@@ -1,0 +1,101 @@
+-- Laws of the line with its route.
+use Prim.Native.Nat.{ℕ, _+_, _/_, _%_, _≤_, _<_}
+use mathlib.Core.Path.{_≡_, refl, sym, _∙_, ap, ap₂, subst}
+use mathlib.Core.List.{List, [], _∷_, _++_, append-assoc, append-nil}
+use native.Mathlib.Omega.{arith}
+use native.Mathlib.Numerals.{add-one}
+use borrow.Author.Tests.{eq-eqb, ne-eqb}
+use lib.ListN.{length, getD, take}
+use lib.Seq.{take-suc}
+use Rattle.snapshot.specs.Records.{Snapshot}
+use Rattle.snapshot.specs.Layouts.{snapOf}
+use Rattle.snapshot.specs.declared.layout.Layout.{Layout}
+use Rattle.accept.specs.Verdict.{refuse, verdict}
+use Rattle.accept.specs.Post.{Judged}
+use Rattle.accept.specs.declared.check.Checked.{Checked}
+use Rattle.accept.specs.declared.check.Checked.the-variants.{Refused, Accepted}
+use Rattle.printing.specs.Output.{Put}
+use Rattle.printing.proofs.Laws.{put-as}
+use Rattle.find_path.specs.declared.Question.{Question}
+use Rattle.find_path.specs.declared.Report.{Report}
+use Rattle.find_path.specs.Report.{refused, reportOf}
+use Rattle.find_path.specs.Line.{bytesOf, decimal, ruleNames, stepText, stepsText, routeText, lineIn, routedLineIn, routedLineOf, snapshotOf}
+use Rattle.find_path.proofs.Reports.{report-bounded}
+use Rattle.checked.specs.Questioned.{Questioned}
+use Rattle.checked.proofs.Putting.{refusal-only}
+use Rattle.route_line.specs.Routed.{RoutedOn}
+
+-- a rule by its number
+pub rule-name : {rule k : ℕ} → rule ≡ k → getD ruleNames k [] ≡ getD ruleNames rule []
+rule-name e = ap (λ x. getD ruleNames x []) (sym e)
+
+pub step-whole : (t : ℕ) → bytesOf " " ++ (getD ruleNames (t % 8) [] ++ (bytesOf "@" ++ decimal (t / 8))) ≡ bytesOf " " ++ stepText t
+unfolding stepText
+step-whole t = refl
+
+steps-snoc : (ts : List ℕ) (t : ℕ) → stepsText ts ++ (bytesOf " " ++ stepText t) ≡ stepsText (ts ++ (t ∷ []))
+unfolding stepsText
+steps-snoc [] t = ap (λ x. bytesOf " " ++ x) (sym (append-nil (stepText t)))
+steps-snoc (x ∷ ts) t =
+    ap (λ y. bytesOf " " ++ y)
+    (append-assoc (stepText x) (stepsText ts) (bytesOf " " ++ stepText t) ∙ ap (λ y. stepText x ++ y) (steps-snoc ts t))
+
+pub steps-none : (ts : List ℕ) → [] ≡ stepsText (take 0 ts)
+unfolding stepsText
+steps-none ts = refl
+
+pub steps-next : (ts : List ℕ) (i : ℕ) → i < length ts → stepsText (take i ts) ++ (bytesOf " " ++ stepText (getD ts i 0)) ≡ stepsText (take (i + 1) ts)
+steps-next ts i h =
+    steps-snoc (take i ts) (getD ts i 0) ∙ ap stepsText (sym (take-suc ts i 0 h) ∙ ap (λ k. take k ts) (sym (add-one i)))
+
+pub steps-done : (ts : List ℕ) (i n : ℕ) → i ≤ n → n ≤ i → stepsText (take i ts) ≡ stepsText (take n ts)
+steps-done ts i n h k = let e : i ≡ n = omega arith in ap (λ j. stepsText (take j ts)) e
+
+-- the steps of a path that is found, and of no other
+
+pub route-none : (r : Report) → (r .outcome ≡ 0 → ⊥) → [] ≡ routeText r
+unfolding routeText
+route-none r h = rw (routeText, ne-eqb _ _ h)
+
+pub route-found : (r : Report) → r .outcome ≡ 0 → stepsText (take (r .steps) (r .route)) ≡ routeText r
+unfolding routeText
+route-found r e = rw (routeText, eq-eqb _ _ e)
+
+pub routed-whole : (s : Snapshot) (from : ℕ) (r : Report) → (lineIn s from r ++ routeText r) ++ bytesOf "\n" ≡ routedLineIn s from r ++ bytesOf "\n"
+unfolding routedLineIn
+routed-whole s from r = refl
+
+-- a refusal has no route
+refused-routed : (s : Snapshot) (from n : ℕ) → lineIn s from (refused n) ≡ routedLineIn s from (refused n)
+unfolding routedLineIn refused
+refused-routed s from n =
+    sym (append-nil (lineIn s from (refused n))) ∙ ap (λ x. lineIn s from (refused n) ++ x) (route-none (refused n) (λ e. omega (arith, e)))
+
+module _ (W : List ℕ) (q : Question) (A : List ℕ) (c : Checked) (r : Report) (a : Questioned W q c A r) where
+  pub few-names : r .count ≤ 16
+  few-names = rw (a .report) (report-bounded W 16384 q .few)
+
+  pub few-steps : r .steps ≤ 17
+  few-steps = let b = report-bounded W 16384 q in rw (a .report) (omega (arith, b .few, b .once))
+
+  module _ (old new : List ℕ) (t : ℕ) where
+    pub routed-refused : (n place : ℕ) → c ≡ Refused n place
+        → ((s : Snapshot) (from : ℕ) → Put old 0 (lineIn s from (refused (r .number)) ++ bytesOf "\n") new t) → RoutedOn W q c A old new t
+    unfolding routedLineOf
+    routed-refused n place e p =
+        let s : Snapshot = snapshotOf (verdict W) in
+        let v : verdict W ≡ refuse n place = sym (subst (λ (x : Checked). Judged W A x) e (a .checked) .same) in
+        let u : refused (r .number) ≡ reportOf W 16384 q = ap (λ (x : Report). refused (x .number)) (a .report) ∙ sym (refusal-only W q n place v) in
+        record {
+          line = put-as (ap (λ x. x ++ bytesOf "\n") (refused-routed s (q .query .from) (r .number) ∙ ap (routedLineIn s (q .query .from)) u)) (p s (q .query .from));
+          checked = a .checked;
+        }
+
+    pub routed-accepted : (l : Layout) → c ≡ Accepted l → Put old 0 (routedLineIn (snapOf W A l) (q .query .from) r ++ bytesOf "\n") new t → RoutedOn W q c A old new t
+    unfolding routedLineOf snapshotOf
+    routed-accepted l e p =
+        let v : snapOf W A l ≡ snapshotOf (verdict W) = ap snapshotOf (subst (λ (x : Checked). Judged W A x) e (a .checked) .same) in
+        record {
+          line = put-as (ap₂ (λ x y. routedLineIn x (q .query .from) y ++ bytesOf "\n") v (a .report)) p;
+          checked = a .checked;
+        }

@@ -1,0 +1,3 @@
+//! The printed line with its route.
+pub mod lines;
+pub mod route;

@@ -1,0 +1,79 @@
+use Prim.Native.Nat.{_-_, _≤_}
+use mathlib.Core.Path.{_≡_, refl, _∙_}
+use native.Mathlib.Omega.{arith}
+use denote.Ref.{now}
+use lib.ListN.{length, length-set}
+use lib.Seq.{paste, paste-zero}
+use Rattle.scope_edits.proofs.Shifted.{put-next, put-end}
+use Rattle.scope_edits.proofs.moves.put_record.Statement.{statement}
+use Rattle.scope_edits.proofs.moves.put_record.Tie as tie
+
+abbrev Inv-loop : tie.InvT-loop
+Inv-loop words₀ at added i₀ words i = (i ≤ 7) × (length words ≡ length words₀) × (words ≡ paste words₀ at added i)
+
+abbrev μ-loop : tie.MeasureT-loop
+μ-loop words₀ at added i₀ words i = 7 - i
+
+loop-holds : tie.Need-loop-holds Inv-loop μ-loop
+loop-holds c = (omega arith, refl, paste-zero (now (c .args .words)) (c .args .at) (now (c .args .added)))
+
+mul-words : tie.Need-mul-words Inv-loop μ-loop
+mul-words c = omega arith
+
+shared-slice-read-words : tie.Need-shared-slice-read-words Inv-loop μ-loop
+shared-slice-read-words c = omega arith
+
+add-words : tie.Need-add-words Inv-loop μ-loop
+add-words c = omega arith
+
+mul-words-2 : tie.Need-mul-words-2 Inv-loop μ-loop
+mul-words-2 c = omega arith
+
+slice-write-words : tie.Need-slice-write-words Inv-loop μ-loop
+slice-write-words c = omega arith
+
+add-i : tie.Need-add-i Inv-loop μ-loop
+add-i c = omega arith
+
+loop-less : tie.Need-loop-less Inv-loop μ-loop
+loop-less c = omega arith
+
+loop-again : tie.Need-loop-again Inv-loop μ-loop
+loop-again c =
+    let l = c .before .before .loop in
+    let s = c .before .before .before in
+    let p = s .pre in
+    let k = l .inv in
+    let t = c .before .loop-test .taken in (
+      omega arith,
+      (simp length-set) ∙ k .1,
+      put-next (now (s .args .words)) (l .words) (now (s .args .added)) (s .args .at) (l .i) (p .0) (p .1) t (k .2),
+    )
+
+same-length : tie.Need-same-length Inv-loop μ-loop
+same-length c = c .before .loop .inv .1
+
+returns : tie.Need-returns Inv-loop μ-loop
+returns c =
+    let l = c .before .loop in
+    let s = c .before .before in
+    let k = l .inv in
+    put-end (now (s .args .words)) (l .words) (now (s .args .added)) (s .args .at) (l .i) (s .pre .1) (k .0) (c .loop-test .left) (k .2)
+
+pub put-record-spec : {M : Type 1} → statement M
+put-record-spec =
+    tie.close
+    (tie.spec
+    Inv-loop
+    μ-loop
+    loop-holds
+    mul-words
+    shared-slice-read-words
+    add-words
+    mul-words-2
+    slice-write-words
+    add-i
+    loop-less
+    loop-again
+    same-length
+    returns)

@@ -1,0 +1,17 @@
+use borrow.Author.Needs.{needs}
+use mathlib.Core.Path.{ap, _∙_}
+use Rattle.find_path.specs.Choices.{push}
+use Rattle.search.proofs.inner.push_variant.Statement.{statement}
+use Rattle.search.proofs.inner.push_variant.Tie as tie
+
+step-by-requires : tie.Need-step-by-requires
+step-by-requires c κs = search needs
+
+push-requires : tie.Need-push-requires
+push-requires c κs = search needs
+
+returns : tie.Need-returns
+returns c = c .push .ensures ∙ ap (push _ _ _) (c .before .step-by .ensures)
+
+pub push-variant-spec : {M : Type 1} → statement M
+push-variant-spec = tie.close (tie.spec step-by-requires push-requires returns)
