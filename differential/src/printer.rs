@@ -31,7 +31,7 @@ pub fn parts_of(words: &[u32]) -> (&[u32], Vec<Question>, bool) {
 }
 
 /// The whole question at the front of the words.
-fn question_of(words: &[u32]) -> Option<Question> {
+pub fn question_of(words: &[u32]) -> Option<Question> {
     let whole = words.len() >= 7 && is_question(words[0]) && words[1..7].iter().all(|&word| kind(word) == 0);
     let [ns, from, prefix, options, fuel, limit] =
         std::array::from_fn(|place| words.get(1 + place).map_or(0, |&word| word as usize));

@@ -2,7 +2,7 @@
 //! and under their names. It follows the definitions and not the text of rust-analyzer, so a difference between the two is a
 //! fault of one of them. Lists are scanned as the definitions say: it is slow.
 #![allow(non_snake_case)]
-use crate::printer::{parts_of, refused_line, words_of};
+use crate::printer::{parts_of, question_of, refused_line, words_of};
 use crate::{Path, Question};
 
 // Records.antt, Tests.antt, Steps.antt, Verdict.antt
@@ -970,18 +970,62 @@ fn textOf(name: &Name) -> Vec<u8> {
     unpacked.map(|byte| byte as u8).take(name.bytes).collect()
 }
 
+// Reach.antt, Printed.antt
+
+fn reachLine(snapshot: &Result<Snapshot, usize>, v: &Question) -> Vec<u8> {
+    let refused = |n: usize| refused_line(n as u32);
+    if v.fuel > 10000 {
+        return refused(21);
+    }
+    if 2 < v.prefix || 63 < v.options {
+        return refused(22);
+    }
+    if v.limit == 0 || 15 < v.limit {
+        return refused(46);
+    }
+    let s = match snapshot {
+        Err(n) => return refused(*n),
+        Ok(s) => s,
+    };
+    if v.from >= s.modules.len() {
+        return refused(23);
+    }
+    let mut counts = [0; 21];
+    for (k, e) in s.scopes.iter().enumerate() {
+        let item = itemOf(s, e.ns, e.definition);
+        if s.scopes[..k].iter().any(|d| itemOf(s, d.ns, d.definition) == item) {
+            continue;
+        }
+        let mut t = Tank { fuel: v.fuel, spent: 0, empty: false };
+        let c = findPath(s, &Question { ns: e.ns, definition: e.definition, ..*v }, &mut t);
+        counts[if c.found { c.names.len() } else { 18 + usize::from(t.empty) }] += 1;
+        counts[20] += if c.found { c.names.len() } else { 0 };
+    }
+    counts.map(|count: usize| count.to_string()).join(" ").into_bytes()
+}
+
 /// The lines of an input.
 pub fn lines(input: &[u8]) -> Vec<Vec<u8>> {
     let words = match words_of(input) {
         Err(number) => return vec![refused_line(number)],
         Ok(words) => words,
     };
-    let (snapshot, questions, outside) = parts_of(&words);
-    let snapshot: Vec<usize> = snapshot.iter().map(|&word| word as usize).collect();
+    let start = parts_of(&words).0.len();
+    let snapshot: Vec<usize> = words[..start].iter().map(|&word| word as usize).collect();
     let snapshot = verdict(&snapshot);
-    let mut lines: Vec<Vec<u8>> = questions.iter().map(|q| lineOf(&snapshot, q)).collect();
-    if outside {
-        lines.push(refused_line(42));
+    let mut lines: Vec<Vec<u8>> = Vec::new();
+    let mut rest = &words[start..];
+    while !rest.is_empty() {
+        if let Some(v) = crate::reach::viewer(rest) {
+            lines.push(reachLine(&snapshot, &v));
+            rest = &rest[5..];
+        } else if let Some(q) = question_of(rest) {
+            lines.push(lineOf(&snapshot, &q));
+            rest = &rest[7..];
+        } else {
+            lines.push(refused_line(42));
+            break;
+        }
     }
     lines
 }
