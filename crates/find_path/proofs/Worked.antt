@@ -505,7 +505,7 @@ pub dependency-limits : passes withDependency dependencyLimits ≡ true
 unfolding passes dependencyLimits rowAt withDependency named head
 dependency-limits = refl
 
--- Lines with their routes. The offsets were counted in the words by hand.
+-- Lines with their routes. The rules were worked out by hand, the offsets read off a list of the records in the words.
 
 unfoldable pub routes : List ℕ → List Row → Bool
 unfolding routedLineOf routedLineIn routeText stepsText stepText snapshotOf lineIn lineParts pathText prefixParts joined decimal decimalTo writtenOf editionIn isRaw isKeyword textOf unpacked reportOf reportUnless reportBy answerUnless searched reported flag refused questionFault callFault findPath fromItem builtinChoice fromHome searchItem itemTo searchModule moduleTo bestLocal searchLocal localTo findPathInner ofModule byName orEnum viaEnum afterEnum findPathForModule orCharged calculateBestPath afterCharge goOn findInSysroot findInDeps findInDep findImports findImport offerImport pushVariant isAt variantOf oneOrNone langs fromTank filled draw drained findPathForModuleLocal orLocal calculateBestPathLocal eachLocation location importableName entryIf offerEntry offer moduleRules keywordOf isKwKindRelativeToFrom parentKind rootRule externName externKind occupied isOther scopeEntry entryNamed preludeRule findInPrelude inPrelude preludeEntry sameHere scopeRule mayBeInScope findInScope single firstFound soughtOf contextOf moduleIn plainIf prefixPathKind findLocalImportLocations walk unmet leadsTo startFrom visited has lengthLeft shorterIf trySelect better taken comparePrelude andThen compareBool unstably push extended choiceNew keyword pathLen pathKindLen isPrelude nameData importInfoFor sysrootFirst langOf dependenciesOf externOf preludeOf childrenOf containers ancestorMaps steps stepsTo stepsOr modulesInScope get preferred orFirst namesOf nameOf isFor isVisibleFrom inModule climb climbStep unless met metTo metOr last lastTo lastOr homeOf homeBy nsOf sameItem itemOf containing orElse crateRoot ownMap rootOf crateData definitionOf mapOf moduleOf firstSome select placeOf firstOf verdict records stepAt recordStep finish argumentsFrom argumentsOf nameStep crateStep dependencyStep mapStep moduleStep childStep preludeStep definitionStep scopeStep importStep externStep textBound padded rows any all eqList
