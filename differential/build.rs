@@ -7,5 +7,7 @@ mod text;
 
 fn main() {
     println!("cargo:rerun-if-changed=build.rs");
-    text::write(&text::out(), "right", &text::right(Path::new(env!("CARGO_MANIFEST_DIR"))));
+    let root = Path::new(env!("CARGO_MANIFEST_DIR"));
+    text::write(&text::out(), "right", &text::right(root));
+    text::write(&text::out(), "collect", &text::collect(root));
 }

@@ -106,6 +106,24 @@ fn parts(folder: &Path, stand_ins: &Path) -> Vec<Part> {
     parts
 }
 
+/// The program that collects the imports of a crate: its own stand-ins, with the functions of the Rust in their places.
+pub fn collect(root: &Path) -> Vec<Part> {
+    let folder = match env::var(FOLDER) {
+        Ok(given) => PathBuf::from(given),
+        Err(_) => root.join("../../shared/docs/src"),
+    };
+    let stand_in = fs::read_to_string(root.join("src/stand_ins/collect.rs")).unwrap();
+    let item_scope = source(&folder, "item_scope");
+    let import_map = source(&folder, "import_map");
+    let derived = "#[derive(Clone, Copy, PartialEq, Eq, Debug, Hash)]";
+    let items =
+        item(&item_scope, "pub enum ItemInNs") + &with_impl("impl ItemInNs", &item_scope, &["as_module_def_id"]);
+    let scopes = with_impl("impl ItemScope", &item_scope, &["entries", "get"]);
+    let names = ["collect_import_map", "collect_enum_variants", "collect_trait_assoc_items"];
+    let imports = with_impl("impl ImportMap", &import_map, &names);
+    vec![Part { name: "collect", text: stand_in + derived + &items + &scopes + &imports }]
+}
+
 /// What changes in the text so that it runs over the stand-ins: imports, the tank, and document 01's length left.
 const EDITS: &[Edit] = &[
     // imports

@@ -6,8 +6,8 @@
 /* A crate of the edition 2021 with a module `a` that holds a function `f`. */
 static const uint32_t words[] = {
     0x10000001, 0x61, 0x10000001, 0x66, 0x20000000, 2021, 0x40000000, 0, 0, 0x50000000, 0, 0x50000000, 1,
-    0x60000000, 1, 0x80000001, 1, 0, 0x80000004, 1, 0, 0x90000000, 0, 0, 0, 0, 0, 1,
-    0x90000001, 1, 1, 1, 0, 0, 1,
+    0x60000000, 1, 0x80000001, 1, 0, 0x80000004, 1, 0, 0x90000000, 0, 0, 0, 0, 0, 1, 0,
+    0x90000001, 1, 1, 1, 0, 0, 1, 0,
 };
 static const size_t words_len = sizeof words / sizeof *words;
 

@@ -36,6 +36,7 @@ enum kelumavor_checked {
     KELUMAVOR_SCOPES,
     KELUMAVOR_IMPORTS,
     KELUMAVOR_EXTERNS,
+    KELUMAVOR_MEMBERS,
     KELUMAVOR_CHECKED /* how many */
 };
 
@@ -136,7 +137,8 @@ size_t kelumavor_turn(uint32_t state[KELUMAVOR_STATE], const uint32_t *words, si
                       uint32_t report[KELUMAVOR_REPORT]);
 
 /* An entry of a module's scope: module, namespace, name, definition, visibility (0 public, 1 crate, 2 module explicit, 3 module
- * implicit) and its number, declared (0 imported, 1 declared there, 2 and 3 the same and deprecated). */
+ * implicit) and its number, declared (0 imported, 1 declared there, 2 and 3 the same and deprecated), bits (1 hidden plus 2
+ * unstable). */
 enum kelumavor_entry {
     KELUMAVOR_ENTRY_MODULE,
     KELUMAVOR_ENTRY_NAMESPACE,
@@ -145,6 +147,7 @@ enum kelumavor_entry {
     KELUMAVOR_ENTRY_VISIBILITY,
     KELUMAVOR_ENTRY_NUMBER,
     KELUMAVOR_ENTRY_DECLARED,
+    KELUMAVOR_ENTRY_BITS,
     KELUMAVOR_ENTRY /* how many */
 };
 

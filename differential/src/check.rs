@@ -61,8 +61,9 @@ pub struct Scope {
     pub number: usize,
     pub declared: bool,
     pub deprecated: bool,
+    pub bits: usize,
 }
-#[derive(Clone, Debug)]
+#[derive(Clone, Debug, PartialEq, Eq)]
 pub struct Import {
     pub owner: usize,
     pub ns: usize,
@@ -76,6 +77,14 @@ pub struct Extern {
     pub owner: usize,
     pub name: usize,
     pub target: usize,
+}
+#[derive(Clone, Debug)]
+pub struct Member {
+    pub parent: usize,
+    pub name: usize,
+    pub definition: usize,
+    pub kind: usize,
+    pub bits: usize,
 }
 
 #[derive(Clone, Debug, Default)]
@@ -91,6 +100,7 @@ pub struct Snapshot {
     pub scopes: Vec<Scope>,
     pub imports: Vec<Import>,
     pub externs: Vec<Extern>,
+    pub members: Vec<Member>,
 }
 
 pub fn kind(word: u32) -> usize {
@@ -106,8 +116,9 @@ fn arguments(kind: usize, payload: usize) -> usize {
         1 => payload.div_ceil(3),
         2 | 5..=7 => 1,
         3 | 4 | 8 | 11 => 2,
-        9 => 6,
+        9 => 7,
         10 => 5,
+        13 => 4,
         _ => unreachable!(),
     }
 }
@@ -185,7 +196,7 @@ fn checked(words: &[u32]) -> Result<Snapshot, (u32, usize)> {
     while at < words.len() {
         let (kind, payload) = (kind(words[at]), payload(words[at]));
         let falls = kind < last && !(last == 5 && kind == 4);
-        if kind == 0 || kind > 11 || falls {
+        if kind == 0 || kind == 12 || kind > 13 || falls {
             return Err((31, at));
         }
         let end = at + 1 + arguments(kind, payload);
@@ -216,7 +227,8 @@ fn add(s: &mut Snapshot, known: &mut Known, kind: usize, record: &Record) -> Jud
         8 => add_definition(s, known, record),
         9 => add_scope(s, known, record),
         10 => add_import(s, record),
-        _ => add_extern(s, known, record),
+        11 => add_extern(s, known, record),
+        _ => add_member(s, record),
     }
 }
 
@@ -331,8 +343,9 @@ fn ns_placed(s: &Snapshot, ns: usize, definition: usize) -> bool {
 
 fn add_scope(s: &mut Snapshot, known: &mut Known, record: &Record) -> Judged {
     let owner = record.payload;
-    let [ns, name, definition, visibility, number, declared] = std::array::from_fn(|place| record.argument(place));
-    let range = ns <= 2 && visibility <= 3 && (visibility != 0 || number == 0) && declared <= 3;
+    let [ns, name, definition, visibility, number, declared, bits] =
+        std::array::from_fn(|place| record.argument(place));
+    let range = ns <= 2 && visibility <= 3 && (visibility != 0 || number == 0) && declared <= 3 && bits <= 3;
     let number_defined = match visibility {
         0 => true,
         1 => number < s.crates.len(),
@@ -342,7 +355,7 @@ fn add_scope(s: &mut Snapshot, known: &mut Known, record: &Record) -> Judged {
     let repeated = !known.entries.insert((owner, ns, name));
     let placed = ns_placed(s, ns, definition);
     let (declared, deprecated) = (declared % 2 == 1, declared >= 2);
-    s.scopes.push(Scope { owner, ns, name, definition, visibility, number, declared, deprecated });
+    s.scopes.push(Scope { owner, ns, name, definition, visibility, number, declared, deprecated, bits });
     Judged { range, defined, repeated, placed, ..Judged::FINE }
 }
 
@@ -364,4 +377,16 @@ fn add_extern(s: &mut Snapshot, known: &mut Known, record: &Record) -> Judged {
     let repeated = !known.externs.insert((owner, name));
     s.externs.push(Extern { owner, name, target });
     Judged { defined, repeated, ..Judged::FINE }
+}
+
+fn add_member(s: &mut Snapshot, record: &Record) -> Judged {
+    let parent = record.payload;
+    let [name, definition, kind, bits] = std::array::from_fn(|place| record.argument(place));
+    let defined = parent < s.definitions.len() && name < s.names.len() && definition < s.definitions.len();
+    let placed = defined && s.definitions[parent].kind == 4 && {
+        let d = &s.definitions[definition];
+        if kind == 0 { (d.kind, d.first, d.second) == (2, parent, name) } else { d.kind == 4 }
+    };
+    s.members.push(Member { parent, name, definition, kind, bits });
+    Judged { range: kind <= 3 && bits <= 3, defined, placed, ..Judged::FINE }
 }

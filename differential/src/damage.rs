@@ -46,7 +46,7 @@ fn spoil(r: &mut Random, words: &mut Vec<u32>) {
         7 => words[place] ^= 1 << r.below(32),
         8..=11 => words[place] = (words[place] & 0xF000_0000) | (small(r) & 0x0FFF_FFFF),
         12 => words[place] = small(r),
-        13 => words[place] = head(r.below(12), r.below(6)),
+        13 => words[place] = head([0, 1, 2, 3, 4, 5, 6, 7, 8, 9, 10, 11, 13][r.below(13)], r.below(6)),
         14 => words.truncate(place),
         15 => {
             words.remove(place);

@@ -40,13 +40,16 @@ pub fn words(s: &Snapshot) -> Vec<u32> {
     }
     for e in &s.scopes {
         let declared = usize::from(e.declared) + 2 * usize::from(e.deprecated);
-        put(9, e.owner, &[e.ns, e.name, e.definition, e.visibility, e.number, declared]);
+        put(9, e.owner, &[e.ns, e.name, e.definition, e.visibility, e.number, declared, e.bits]);
     }
     for i in &s.imports {
         put(10, i.owner, &[i.ns, i.definition, i.name, i.container, i.bits]);
     }
     for e in &s.externs {
         put(11, e.owner, &[e.name, e.target]);
+    }
+    for m in &s.members {
+        put(13, m.parent, &[m.name, m.definition, m.kind, m.bits]);
     }
     words
 }

@@ -1,6 +1,6 @@
 //! Accepted snapshots with questions, from a seed. The shapes together reach every rule of the search.
 use crate::check::{
-    BUILTINS, Child, DefMap, Definition, Dependency, EDITIONS, Extern, Import, Krate, Module, Prelude, Scope, Snapshot,
+    BUILTINS, Child, DefMap, Definition, Dependency, EDITIONS, Extern, Import, Krate, Member, Module, Prelude, Scope, Snapshot,
 };
 use crate::keywords::pool;
 use crate::printer::refusal;
@@ -304,8 +304,17 @@ pub fn snapshot(seed: u64) -> (Shape, Snapshot) {
     b.scopes();
     b.imports();
     b.trim();
+    b.members();
     (shape, b.s)
 }
+
+/// Hidden and unstable, mostly neither.
+fn bits_of(draw: usize) -> usize {
+    [0, 1, 0, 2, 0, 3, 0][draw % 7]
+}
+
+/// Words of a snapshot, at most.
+const ROOM: usize = 15_600;
 
 impl Builder {
     fn range(&mut self, range: (usize, usize)) -> usize {
@@ -592,7 +601,10 @@ impl Builder {
             let (visibility, number) = self.visibility(owner);
             // without a draw, so that a seed gives the same records but for this
             let deprecated = (owner + name + definition) % 4 == 0;
-            self.s.scopes.push(Scope { owner, ns, name, definition, visibility, number, declared, deprecated });
+            // the attributes of a builtin are not asked for
+            let builtin = declared && self.s.definitions[definition].kind == 3;
+            let bits = if builtin { 0 } else { bits_of(owner + 3 * name + 5 * definition) };
+            self.s.scopes.push(Scope { owner, ns, name, definition, visibility, number, declared, deprecated, bits });
         }
     }
 
@@ -796,9 +808,37 @@ impl Builder {
         self.s.externs = externs;
     }
 
+    /// Most variants, and others of kind 4, as members, without a draw: the other records are those of the seed without members.
+    fn members(&mut self) {
+        let definitions = self.s.definitions.len();
+        let names = self.s.names.len();
+        let enums: Set<usize> = self.s.definitions.iter().filter(|d| d.kind == 2).map(|d| d.first).collect();
+        let mut room = ROOM.saturating_sub(crate::encode::words(&self.s).len()) / 5;
+        for d in 0..definitions {
+            let Definition { kind, first, second } = self.s.definitions[d];
+            let member = match kind {
+                2 if d % 5 != 0 => Member { parent: first, name: second, definition: d, kind: 0, bits: bits_of(d) },
+                4 if d % 2 == 0 && !enums.contains(&((7 * d + 3) % (d + 1))) => {
+                    let parent = (7 * d + 3) % (d + 1);
+                    Member {
+                        parent,
+                        name: (3 * d + 1) % names,
+                        definition: d,
+                        kind: 1 + d / 2 % 3,
+                        bits: bits_of(d + 1),
+                    }
+                }
+                _ => continue,
+            };
+            if room > 0 && self.s.definitions[member.parent].kind == 4 {
+                self.s.members.push(member);
+                room -= 1;
+            }
+        }
+    }
+
     /// No more words than leave room for questions.
     fn trim(&mut self) {
-        const ROOM: usize = 15_600;
         while crate::encode::words(&self.s).len() > ROOM {
             let imports = self.s.imports.len();
             let scopes = self.s.scopes.len();

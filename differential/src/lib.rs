@@ -23,6 +23,7 @@ pub mod wrongs;
 #[allow(dead_code, unused_unsafe, unused_imports)]
 pub mod right {
     include!(concat!(env!("OUT_DIR"), "/right.rs"));
+    include!(concat!(env!("OUT_DIR"), "/collect.rs"));
 }
 
 pub use question::{Answer, Answers, Path, Question};

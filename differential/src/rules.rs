@@ -53,6 +53,7 @@ struct Scope {
     visibility: usize,
     number: usize,
     declared: usize,
+    bits: usize,
 }
 struct Import {
     owner: usize,
@@ -66,6 +67,13 @@ struct Extern {
     owner: usize,
     name: usize,
     target: usize,
+}
+struct Member {
+    parent: usize,
+    name: usize,
+    definition: usize,
+    kind: usize,
+    bits: usize,
 }
 
 #[derive(Default)]
@@ -81,6 +89,7 @@ pub struct Snapshot {
     scopes: Vec<Scope>,
     imports: Vec<Import>,
     externs: Vec<Extern>,
+    members: Vec<Member>,
 }
 
 type Next = Result<(), usize>;
@@ -110,7 +119,7 @@ fn payOf(word: usize) -> usize {
 }
 
 fn argumentsOf(kind: usize, pay: usize) -> usize {
-    if kind == 1 { (pay + 2) / 3 } else { getD(&[0, 0, 1, 2, 2, 1, 1, 1, 2, 6, 5, 2], kind) }
+    if kind == 1 { (pay + 2) / 3 } else { getD(&[0, 0, 1, 2, 2, 1, 1, 1, 2, 7, 5, 2, 0, 4], kind) }
 }
 
 fn textBound(bytes: usize) -> usize {
@@ -160,6 +169,7 @@ impl Snapshot {
                 visibility: arg(3),
                 number: arg(4),
                 declared: arg(5),
+                bits: arg(6),
             }),
             10 => self.importStep(Import {
                 owner: pay,
@@ -169,7 +179,8 @@ impl Snapshot {
                 container: arg(3),
                 bits: arg(4),
             }),
-            _ => self.externStep(Extern { owner: pay, name: arg(0), target: arg(1) }),
+            11 => self.externStep(Extern { owner: pay, name: arg(0), target: arg(1) }),
+            _ => self.memberStep(Member { parent: pay, name: arg(0), definition: arg(1), kind: arg(2), bits: arg(3) }),
         }
     }
 
@@ -259,7 +270,8 @@ impl Snapshot {
     }
 
     fn scopeStep(&mut self, x: Scope) -> Next {
-        let range = x.ns <= 2 && x.visibility <= 3 && (x.visibility != 0 || x.number == 0) && x.declared <= 3;
+        let range =
+            x.ns <= 2 && x.visibility <= 3 && (x.visibility != 0 || x.number == 0) && x.declared <= 3 && x.bits <= 3;
         let defined = x.owner < self.modules.len()
             && x.name < self.names.len()
             && x.definition < self.definitions.len()
@@ -290,9 +302,22 @@ impl Snapshot {
         Ok(())
     }
 
+    fn memberStep(&mut self, x: Member) -> Next {
+        let range = x.kind <= 3 && x.bits <= 3;
+        let defined =
+            x.parent < self.definitions.len() && x.name < self.names.len() && x.definition < self.definitions.len();
+        let isMember = |d: &Definition| {
+            (x.kind != 0 || d.kind == 2 && d.first == x.parent && d.second == x.name) && (x.kind == 0 || d.kind == 4)
+        };
+        let placed = || definitionKind(self, x.parent) == 4 && isMember(&self.definitions[x.definition]);
+        judge(range, defined, false, placed, true)?;
+        self.members.push(x);
+        Ok(())
+    }
+
     fn stepAt(&mut self, W: &[usize], at: usize, last: usize) -> Next {
         let kind = kindOf(W[at]);
-        need(1 <= kind && kind <= 11 && (last <= kind || last == 5 && kind == 4), 31)?;
+        need(1 <= kind && kind <= 13 && kind != 12 && (last <= kind || last == 5 && kind == 4), 31)?;
         let count = argumentsOf(kind, payOf(W[at]));
         need((at + 1..at + 1 + count).all(|i| i < W.len() && kindOf(W[i]) == 0), 31)?;
         self.recordStep(kind, W, at)
@@ -1005,6 +1030,58 @@ fn reachLine(snapshot: &Result<Snapshot, usize>, v: &Question) -> Vec<u8> {
 }
 
 /// The lines of an input.
+// Collect.antt
+
+fn textBefore(x: &[u8], y: &[u8]) -> bool {
+    match (x, y) {
+        (_, []) => false,
+        ([], _) => true,
+        ([a, xs @ ..], [b, ys @ ..]) => a < b || a == b && textBefore(xs, ys),
+    }
+}
+
+fn entryBefore(s: &Snapshot, x: &Scope, y: &Scope) -> bool {
+    textBefore(&textOf(&s.names[x.name]), &textOf(&s.names[y.name])) || x.name == y.name && x.ns < y.ns
+}
+
+fn entriesOf(s: &Snapshot, m: usize) -> Vec<&Scope> {
+    let mut sorted: Vec<&Scope> = Vec::new();
+    for e in s.scopes.iter().filter(|e| e.owner == m && e.visibility == 0) {
+        let place = sorted.iter().position(|y| entryBefore(s, e, y)).unwrap_or(sorted.len());
+        sorted.insert(place, e);
+    }
+    sorted
+}
+
+fn modulesFrom(s: &Snapshot, c: usize) -> Vec<usize> {
+    let own = s.maps.iter().position(|map| map.krate == c && map.block == 0).unwrap();
+    let mut pile = vec![s.modules.iter().position(|module| module.map == own).unwrap()];
+    let mut seen = Vec::new();
+    for _ in 0..s.scopes.len() + 1 {
+        let Some(m) = pile.pop() else { break };
+        if !seen.contains(&m) {
+            seen.push(m);
+            let modules = entriesOf(s, m).into_iter().filter(|e| definitionKind(s, e.definition) == 1);
+            pile.extend(modules.map(|e| s.definitions[e.definition].first));
+        }
+    }
+    seen
+}
+
+/// The imports of a crate: namespace, definition, name, container, bits.
+pub fn collected(s: &Snapshot, c: usize) -> Vec<[usize; 5]> {
+    let mut all = Vec::new();
+    for m in modulesFrom(s, c) {
+        for e in entriesOf(s, m) {
+            for x in s.members.iter().filter(|x| x.parent == e.definition && x.kind != 3) {
+                all.push([if x.kind == 0 { 0 } else { e.ns }, x.definition, x.name, e.owner, x.bits]);
+            }
+            all.push([e.ns, e.definition, e.name, e.owner, e.bits]);
+        }
+    }
+    all
+}
+
 pub fn lines(input: &[u8]) -> Vec<Vec<u8>> {
     let words = match words_of(input) {
         Err(number) => return vec![refused_line(number)],

@@ -51,14 +51,15 @@ pub fn snapshot_text(s: &Snapshot) -> String {
         let visibility = ["public", "crate", "module explicit", "module implicit"][e.visibility];
         let _ = writeln!(
             text,
-            "  scope of {}: ns {} {} definition {} {visibility} {} declared {} deprecated {}",
+            "  scope of {}: ns {} {} definition {} {visibility} {} declared {} deprecated {} bits {}",
             e.owner,
             e.ns,
             name(e.name),
             e.definition,
             e.number,
             e.declared,
-            e.deprecated
+            e.deprecated,
+            e.bits
         );
     }
     for i in &s.imports {
@@ -76,6 +77,17 @@ pub fn snapshot_text(s: &Snapshot) -> String {
     }
     for e in &s.externs {
         let _ = writeln!(text, "  extern of crate {}: {} module {}", e.owner, name(e.name), e.target);
+    }
+    for m in &s.members {
+        let kind = ["variant", "function", "constant", "type alias"][m.kind];
+        let _ = writeln!(
+            text,
+            "  member of {}: {kind} {} definition {} bits {}",
+            m.parent,
+            name(m.name),
+            m.definition,
+            m.bits
+        );
     }
     text
 }

@@ -18,7 +18,7 @@ pub fn shrink(
 ) -> (Snapshot, Question) {
     loop {
         let before = words(&s).len() + q.options.count_ones() as usize;
-        for kind in [9, 10, 11, 7, 6, 3, 8, 5, 4, 2, 1] {
+        for kind in [13, 9, 10, 11, 7, 6, 3, 8, 5, 4, 2, 1] {
             let mut number = count(&s, kind);
             while number > 0 {
                 number -= 1;
@@ -58,6 +58,7 @@ fn plainer(s: &mut Snapshot, q: &mut Question, holds: &mut impl FnMut(&Snapshot,
         attempt(s, &|s| (s.scopes[e].visibility, s.scopes[e].number) = (0, 0));
         attempt(s, &|s| s.scopes[e].declared = true);
         attempt(s, &|s| s.scopes[e].deprecated = false);
+        attempt(s, &|s| s.scopes[e].bits = 0);
     }
     for i in 0..s.imports.len() {
         attempt(s, &|s| s.imports[i].bits = 0);
@@ -87,7 +88,8 @@ fn count(s: &Snapshot, kind: usize) -> usize {
         8 => s.definitions.len(),
         9 => s.scopes.len(),
         10 => s.imports.len(),
-        _ => s.externs.len(),
+        11 => s.externs.len(),
+        _ => s.members.len(),
     }
 }
 
@@ -112,7 +114,8 @@ fn without(s: &Snapshot, q: &Question, kind: usize, gone: usize) -> Option<(Snap
         8 => without_definition(&mut s, &mut q, gone)?,
         9 => drop(s.scopes.remove(gone)),
         10 => drop(s.imports.remove(gone)),
-        _ => drop(s.externs.remove(gone)),
+        11 => drop(s.externs.remove(gone)),
+        _ => drop(s.members.remove(gone)),
     }
     Some((s, q))
 }
@@ -121,6 +124,7 @@ fn without_name(s: &mut Snapshot, gone: usize) -> Option<()> {
     let used = s.scopes.iter().any(|e| e.name == gone)
         || s.imports.iter().any(|i| i.name == gone)
         || s.externs.iter().any(|e| e.name == gone)
+        || s.members.iter().any(|m| m.name == gone)
         || s.definitions.iter().any(|d| (d.kind == 2 && d.second == gone) || (d.kind == 3 && d.first == gone));
     if used {
         return None;
@@ -129,6 +133,7 @@ fn without_name(s: &mut Snapshot, gone: usize) -> Option<()> {
     s.scopes.iter_mut().for_each(|e| lower(&mut e.name, gone));
     s.imports.iter_mut().for_each(|i| lower(&mut i.name, gone));
     s.externs.iter_mut().for_each(|e| lower(&mut e.name, gone));
+    s.members.iter_mut().for_each(|m| lower(&mut m.name, gone));
     for d in &mut s.definitions {
         match d.kind {
             2 => lower(&mut d.second, gone),
@@ -221,9 +226,14 @@ fn without_definition(s: &mut Snapshot, q: &mut Question, gone: usize) -> Option
     s.definitions.remove(gone);
     s.scopes.retain(|e| e.definition != gone);
     s.imports.retain(|i| i.definition != gone);
+    s.members.retain(|m| m.definition != gone && m.parent != gone);
     s.definitions.iter_mut().filter(|d| d.kind == 2).for_each(|d| lower(&mut d.first, gone));
     s.scopes.iter_mut().for_each(|e| lower(&mut e.definition, gone));
     s.imports.iter_mut().for_each(|i| lower(&mut i.definition, gone));
+    for m in &mut s.members {
+        lower(&mut m.definition, gone);
+        lower(&mut m.parent, gone);
+    }
     lower(&mut q.definition, gone);
     Some(())
 }

@@ -3,7 +3,7 @@ use crate::ids::{DefinitionId, ModuleId, NameId, Namespace};
 use crate::refusal::Refusal;
 use crate::snapshot::WorkArea;
 use crate::sys;
-use crate::words::Visibility;
+use crate::words::{Visibility, bits};
 
 /// An entry of a module's scope.
 #[derive(Clone, Copy, Debug, PartialEq, Eq, Hash)]
@@ -16,13 +16,16 @@ pub struct Entry {
     /// It is no import.
     pub declared: bool,
     pub deprecated: bool,
+    pub hidden: bool,
+    pub unstable: bool,
 }
 
 impl Entry {
     fn words(&self) -> [u32; sys::ENTRY] {
         let (kind, number) = self.visibility.numbers();
         let declared = u32::from(self.declared) + 2 * u32::from(self.deprecated);
-        [self.module.0, self.namespace as u32, self.name.0, self.definition.0, kind, number, declared]
+        let bits = bits(self.hidden, self.unstable);
+        [self.module.0, self.namespace as u32, self.name.0, self.definition.0, kind, number, declared, bits]
     }
 }
 
@@ -34,7 +37,7 @@ impl Entry {
 ///
 /// # let words = [
 /// #     0x10000001, 0x61, 0x10000001, 0x66, 0x20000000, 2021, 0x40000000, 0, 0, 0x50000000, 0, 0x50000000, 1, 0x60000000, 1,
-/// #     0x80000001, 1, 0, 0x80000004, 1, 0, 0x90000000, 0, 0, 0, 0, 0, 1, 0x90000001, 1, 1, 1, 0, 0, 1,
+/// #     0x80000001, 1, 0, 0x80000004, 1, 0, 0x90000000, 0, 0, 0, 0, 0, 1, 0, 0x90000001, 1, 1, 1, 0, 0, 1, 0,
 /// # ];
 /// // A crate with a module `a` that holds a function `f`; the root imports `f`.
 /// let mut edited = EditedWords::new(&words);
@@ -46,6 +49,8 @@ impl Entry {
 ///     visibility: Visibility::Implicit(ModuleId(0)),
 ///     declared: false,
 ///     deprecated: false,
+///     hidden: false,
+///     unstable: false,
 /// };
 /// edited.add(&entry)?;
 /// let question = Question::new(Namespace::Values, DefinitionId(1), ModuleId(0));

@@ -56,4 +56,4 @@ pub use route::{Rule, Step};
 pub use snapshot::{Counts, Snapshot, WorkArea};
 pub use text::Text;
 pub use windows::Windows;
-pub use words::{Edition, Origin, SnapshotWords, Visibility};
+pub use words::{Edition, MemberKind, Origin, SnapshotWords, Visibility};

@@ -40,7 +40,7 @@ pub struct FirstEmpty {
 /// // The worked snapshot: a crate with a module `a` that holds a function `f`.
 /// let words = [
 ///     0x10000001, 0x61, 0x10000001, 0x66, 0x20000000, 2021, 0x40000000, 0, 0, 0x50000000, 0, 0x50000000, 1, 0x60000000, 1,
-///     0x80000001, 1, 0, 0x80000004, 1, 0, 0x90000000, 0, 0, 0, 0, 0, 1, 0x90000001, 1, 1, 1, 0, 0, 1,
+///     0x80000001, 1, 0, 0x80000004, 1, 0, 0x90000000, 0, 0, 0, 0, 0, 1, 0, 0x90000001, 1, 1, 1, 0, 0, 1, 0,
 /// ];
 /// let snapshot = Snapshot::check(&words)?;
 /// let question = Question::new(Namespace::Values, DefinitionId(1), ModuleId(0));
@@ -51,7 +51,7 @@ pub struct FirstEmpty {
 /// assert_eq!(path.to_string(), "a::f");
 /// assert_eq!(path.names().map(|name| name.to_string()).collect::<Vec<_>>(), ["a", "f"]);
 /// // `a` by the scope record at word 21, `f` by the one at word 28, which the search in the crate found.
-/// assert_eq!(path.route().map(|step| step.to_string()).collect::<Vec<_>>(), ["scope@21", "local@28"]);
+/// assert_eq!(path.route().map(|step| step.to_string()).collect::<Vec<_>>(), ["scope@21", "local@29"]);
 ///
 /// // Without fuel nothing is known, and the outcome says so.
 /// let report = snapshot.find_path(&question.fuel(0));

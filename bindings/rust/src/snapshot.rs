@@ -42,6 +42,7 @@ pub struct Counts {
     pub scopes: usize,
     pub imports: usize,
     pub externs: usize,
+    pub members: usize,
 }
 
 /// The words of a snapshot that the check accepted.
@@ -95,8 +96,20 @@ impl<'w> Snapshot<'w> {
         if number != 0 {
             return Err(Refusal::new(number as u32, Some(place)));
         }
-        let [names, crates, dependencies, maps, modules, children, preludes, definitions, scopes, imports, externs] =
-            counts;
+        let [
+            names,
+            crates,
+            dependencies,
+            maps,
+            modules,
+            children,
+            preludes,
+            definitions,
+            scopes,
+            imports,
+            externs,
+            members,
+        ] = counts;
         let counts = Counts {
             names,
             crates,
@@ -109,6 +122,7 @@ impl<'w> Snapshot<'w> {
             scopes,
             imports,
             externs,
+            members,
         };
         Ok(Snapshot { words, heads: area.0[..names].into(), counts, editions: editions(words) })
     }
@@ -164,7 +178,7 @@ impl<'w> Snapshot<'w> {
     ///
     /// # let words = [
     /// #     0x10000001, 0x61, 0x10000001, 0x66, 0x20000000, 2021, 0x40000000, 0, 0, 0x50000000, 0, 0x50000000, 1, 0x60000000, 1,
-    /// #     0x80000001, 1, 0, 0x80000004, 1, 0, 0x90000000, 0, 0, 0, 0, 0, 1, 0x90000001, 1, 1, 1, 0, 0, 1,
+    /// #     0x80000001, 1, 0, 0x80000004, 1, 0, 0x90000000, 0, 0, 0, 0, 0, 1, 0, 0x90000001, 1, 1, 1, 0, 0, 1, 0,
     /// # ];
     /// // A crate with a module `a` that holds a function `f`.
     /// let snapshot = Snapshot::check(&words)?;

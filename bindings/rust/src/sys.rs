@@ -1,8 +1,8 @@
 //! The functions of the static library. They keep no state but what is lent to them, and take any lengths and numbers; a slice is a
 //! pointer and a length.
 
-/// Numbers that the check answers: the refusal, its place, and a count for each of the eleven kinds of records.
-pub const CHECKED: usize = 13;
+/// Numbers that the check answers: the refusal, its place, and a count for each of the twelve kinds of records.
+pub const CHECKED: usize = 14;
 
 /// Words of a question.
 pub const QUESTION: usize = 7;
@@ -20,7 +20,7 @@ pub const WINDOWS: usize = 8;
 pub const STATE: usize = 1 + WINDOWS * (1 + QUESTION);
 
 /// Words of an entry of a scope.
-pub const ENTRY: usize = 7;
+pub const ENTRY: usize = 8;
 
 mod raw {
     unsafe extern "C" {

@@ -31,6 +31,15 @@ pub enum Visibility {
     Implicit(ModuleId),
 }
 
+/// What a member is.
+#[derive(Clone, Copy, Debug, PartialEq, Eq, Hash)]
+pub enum MemberKind {
+    Variant = 0,
+    Function = 1,
+    Constant = 2,
+    TypeAlias = 3,
+}
+
 impl Visibility {
     /// Its number, and that of the crate or the module.
     pub(crate) fn numbers(self) -> (u32, u32) {
@@ -49,7 +58,9 @@ impl Visibility {
 pub struct SnapshotWords {
     words: Vec<u32>,
     /// Records written of each kind.
-    counts: [u32; 12],
+    counts: [u32; 14],
+    /// The last record is an entry of a scope.
+    scope_last: bool,
 }
 
 impl SnapshotWords {
@@ -71,6 +82,7 @@ impl SnapshotWords {
         self.words.extend_from_slice(arguments);
         let number = self.counts[kind as usize];
         self.counts[kind as usize] += 1;
+        self.scope_last = kind == 9;
         number
     }
 
@@ -166,7 +178,14 @@ impl SnapshotWords {
         declared: u32,
     ) {
         let (kind, number) = visibility.numbers();
-        self.record(9, module.0, &[namespace as u32, name.0, definition.0, kind, number, declared]);
+        self.record(9, module.0, &[namespace as u32, name.0, definition.0, kind, number, declared, 0]);
+    }
+
+    /// Says that the last entry, of those by [`scope`](Self::scope) and [`deprecated_scope`](Self::deprecated_scope), is hidden or
+    /// unstable. It is neither without this.
+    pub fn scope_attributes(&mut self, hidden: bool, unstable: bool) {
+        assert!(self.scope_last, "the last record is an entry of a scope");
+        *self.words.last_mut().unwrap() = bits(hidden, unstable);
     }
 
     /// An entry of a crate's import map.
@@ -181,7 +200,7 @@ impl SnapshotWords {
         hidden: bool,
         unstable: bool,
     ) {
-        let bits = u32::from(hidden) + 2 * u32::from(unstable);
+        let bits = bits(hidden, unstable);
         self.record(10, krate.0, &[namespace as u32, definition.0, name.0, container.0, bits]);
     }
 
@@ -189,6 +208,23 @@ impl SnapshotWords {
     pub fn extern_prelude(&mut self, krate: CrateId, name: NameId, root: ModuleId) {
         self.record(11, krate.0, &[name.0, root.0]);
     }
+
+    /// A member of an enum or a trait.
+    pub fn member(
+        &mut self,
+        parent: DefinitionId,
+        name: NameId,
+        definition: DefinitionId,
+        kind: MemberKind,
+        hidden: bool,
+        unstable: bool,
+    ) {
+        self.record(13, parent.0, &[name.0, definition.0, kind as u32, bits(hidden, unstable)]);
+    }
+}
+
+pub(crate) fn bits(hidden: bool, unstable: bool) -> u32 {
+    u32::from(hidden) + 2 * u32::from(unstable)
 }
 
 fn plus_one(module: Option<ModuleId>) -> u32 {

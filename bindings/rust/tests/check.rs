@@ -10,7 +10,7 @@ fn counts_of_the_worked_snapshot() {
     let counts = snapshot.counts();
     assert_eq!([counts.names, counts.crates, counts.dependencies, counts.maps], [2, 1, 0, 1]);
     assert_eq!([counts.modules, counts.children, counts.preludes, counts.definitions], [2, 1, 0, 2]);
-    assert_eq!([counts.scopes, counts.imports, counts.externs], [2, 0, 0]);
+    assert_eq!([counts.scopes, counts.imports, counts.externs, counts.members], [2, 0, 0, 0]);
 }
 
 /// The stored list of the check's test program, each case with the answer that the program prints.

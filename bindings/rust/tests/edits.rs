@@ -13,7 +13,7 @@ unsafe extern "C" {
         count: *mut usize,
         area: *mut u32,
         area_len: usize,
-        entry: *const [u32; 7],
+        entry: *const [u32; 8],
     ) -> usize;
     fn kelumavor_remove_entry(
         words: *mut u32,
@@ -28,7 +28,7 @@ unsafe extern "C" {
 }
 
 /// The number, the new count and the slice after an addition.
-fn add(words: &[u32], slice: usize, area: usize, entry: [u32; 7]) -> (usize, usize, Vec<u32>) {
+fn add(words: &[u32], slice: usize, area: usize, entry: [u32; 8]) -> (usize, usize, Vec<u32>) {
     let (mut lent, mut count) = lend(words, slice);
     let mut area = vec![9; area];
     let (lent_len, area_len) = (lent.len(), area.len());
@@ -72,9 +72,9 @@ fn padded(words: &[u32], slice: usize) -> Vec<u32> {
 }
 
 /// The function `f` in the root, its record, and records of the kinds after scopes.
-const ENTRY: [u32; 7] = [0, 1, 1, 1, 3, 0, 2];
-const RECORD: [u32; 7] = [0x90000000, 1, 1, 1, 3, 0, 2];
-const LATER: [u32; 9] = [0xA0000000, 1, 1, 1, 1, 0, 0xB0000000, 0, 1];
+const ENTRY: [u32; 8] = [0, 1, 1, 1, 3, 0, 2, 1];
+const RECORD: [u32; 8] = [0x90000000, 1, 1, 1, 3, 0, 2, 1];
+const LATER: [u32; 14] = [0xA0000000, 1, 1, 1, 1, 0, 0xB0000000, 0, 1, 0xD0000001, 0, 1, 1, 0];
 
 #[test]
 fn placed_after_the_last_scope() {
@@ -94,7 +94,7 @@ fn placed_after_the_last_scope() {
 #[test]
 fn removed_from_the_middle() {
     let words = [&WORKED[..], &LATER].concat();
-    let after = [&WORKED[..21], &WORKED[28..], &LATER].concat();
+    let after = [&WORKED[..21], &WORKED[29..], &LATER].concat();
     assert_eq!(remove(&words, words.len(), 16384, [0, 0, 0]), (0, after.len(), padded(&after, words.len())));
 }
 
@@ -105,19 +105,20 @@ fn refused_unchanged() {
         entry[field] = value;
         entry
     };
-    let there = [1, 1, 1, 1, 0, 0, 0];
+    let there = [1, 1, 1, 1, 0, 0, 0, 0];
     for (words, slice, area, entry, number) in [
-        (&WORKED[..], 42, 16383, ENTRY, 20),
-        (&WORKED[..], 34, 16384, ENTRY, 30),
-        (&WORKED[..34], 42, 16384, ENTRY, 31),
-        (&WORKED[..], 42, 16384, changed(1, 3), 32),
-        (&WORKED[..], 42, 16384, changed(6, 4), 32),
-        (&WORKED[..], 42, 16384, changed(0, 2), 33),
-        (&WORKED[..], 42, 16384, changed(0, 1 << 28), 33),
-        (&WORKED[..], 42, 16384, changed(1, 2), 35),
-        (&WORKED[..], 42, 16384, there, 47),
-        (&WORKED[..], 41, 16384, there, 47),
-        (&WORKED[..], 41, 16384, ENTRY, 48),
+        (&WORKED[..], 45, 16383, ENTRY, 20),
+        (&WORKED[..], 36, 16384, ENTRY, 30),
+        (&WORKED[..36], 45, 16384, ENTRY, 31),
+        (&WORKED[..], 45, 16384, changed(1, 3), 32),
+        (&WORKED[..], 45, 16384, changed(6, 4), 32),
+        (&WORKED[..], 45, 16384, changed(7, 4), 32),
+        (&WORKED[..], 45, 16384, changed(0, 2), 33),
+        (&WORKED[..], 45, 16384, changed(0, 1 << 28), 33),
+        (&WORKED[..], 45, 16384, changed(1, 2), 35),
+        (&WORKED[..], 45, 16384, there, 47),
+        (&WORKED[..], 44, 16384, there, 47),
+        (&WORKED[..], 44, 16384, ENTRY, 48),
     ] {
         // a count above the slice: lend a shorter slice than the count says
         let (mut lent, mut count) = lend(words, slice.max(words.len()));
@@ -131,8 +132,8 @@ fn refused_unchanged() {
         assert_eq!((answer, count, lent), (number, words.len(), before));
         left_clear(&area);
     }
-    assert_eq!(remove(&WORKED, 41, 16384, [0, 1, 1]), (47, 35, lend(&WORKED, 41).0));
-    assert_eq!(remove(&WORKED, 41, 16384, [1 << 28, 0, 0]), (47, 35, lend(&WORKED, 41).0));
+    assert_eq!(remove(&WORKED, 44, 16384, [0, 1, 1]), (47, 37, lend(&WORKED, 44).0));
+    assert_eq!(remove(&WORKED, 44, 16384, [1 << 28, 0, 0]), (47, 37, lend(&WORKED, 44).0));
 }
 
 #[test]
@@ -145,6 +146,8 @@ fn reports_of_words_written_afresh() {
         visibility: Visibility::Public,
         declared: false,
         deprecated: false,
+        hidden: false,
+        unstable: false,
     };
     let question = Question::new(Namespace::Values, DefinitionId(1), ModuleId(0));
     let told = |edited: &EditedWords| Snapshot::check(edited.words()).unwrap().find_path(&question).to_string();
@@ -156,7 +159,7 @@ fn reports_of_words_written_afresh() {
     assert_eq!(edited.add(&entry(0, 1)).unwrap_err().kind(), RefusalKind::EntryThereOrNot);
     edited.remove(ModuleId(0), Namespace::Values, NameId(0)).unwrap();
     assert_eq!(told(&edited), "found f 0 0");
-    let afresh = [&WORKED[..], &[0x90000000, 1, 1, 1, 0, 0, 0]].concat();
+    let afresh = [&WORKED[..], &[0x90000000, 1, 1, 1, 0, 0, 0, 0]].concat();
     assert_eq!(edited.words(), afresh);
     edited.remove(ModuleId(0), Namespace::Values, NameId(1)).unwrap();
     assert_eq!(edited.words(), WORKED);

@@ -62,10 +62,10 @@ fn routes_name_their_records() {
         let report = snapshot.find_path(&question(1, 1, module, prefix, 9));
         report.path().unwrap().route().collect::<Vec<_>>()
     };
-    assert_eq!(ask(0, 1), [Step { rule: Rule::Scope, place: 21 }, Step { rule: Rule::Local, place: 28 }]);
-    assert_eq!(ask(1, 1), [Step { rule: Rule::Scope, place: 28 }]);
+    assert_eq!(ask(0, 1), [Step { rule: Rule::Scope, place: 21 }, Step { rule: Rule::Local, place: 29 }]);
+    assert_eq!(ask(1, 1), [Step { rule: Rule::Scope, place: 29 }]);
     let keyword = Step { rule: Rule::Keyword, place: 0 };
-    assert_eq!(ask(1, 2), [keyword, Step { rule: Rule::Local, place: 21 }, Step { rule: Rule::Local, place: 28 }]);
+    assert_eq!(ask(1, 2), [keyword, Step { rule: Rule::Local, place: 21 }, Step { rule: Rule::Local, place: 29 }]);
 }
 
 #[test]

@@ -6,13 +6,13 @@ use mathlib.Core.List.{List, [], _∷_, _++_}
 use mathlib.Core.Bool.{Bool, true, false, _&&_}
 use lib.Dec.{eqb, ltb, leb}
 use lib.ListN.{length, getD}
-use borrow.Author.Tests.{eqb-true, eqb-false, ltb-true, leb-true}
+use borrow.Author.Tests.{eqb-true, ltb-true, leb-true}
 use Rattle.snapshot.specs.Lists.{any}
 use Rattle.snapshot.specs.Limits.{wordLimit, crateLimit, moduleLimit, nameLimit, definitionLimit}
 use Rattle.snapshot.specs.Words.{kindOf, argumentsAt}
-use Rattle.snapshot.specs.Records.{Snapshot, Name, Crate, Dependency, Map, Module, Child, Prelude, Definition, Scope, Import, Extern, nameAt, crateAt, dependencyAt, mapAt, moduleAt, childAt, preludeAt, definitionAt, scopeAt, importAt, externAt}
-use Rattle.record_rules.specs.Tests.{childDefined, childPlaced, countsOf, crateRange, isEdition, cratesOwn, definitionDefined, definitionPlaced, definitionRange, definitionRepeated, dependencyDefined, dependencyRange, externDefined, importDefined, importRange, mapDefined, mapPlaced, mapRange, mapRepeated, mapsFilled, moduleDefined, modulePlaced, nameRange, nsPlaced, preludeDefined, sameChild, sameEntry, sameExtern, sameName, samePrelude, scopeDefined, scopeRange}
-use Rattle.record_rules.specs.Steps.{Next, no, on, need, judge, judgeCrate, addName, addCrate, addDependency, addMap, addModule, addChild, addPrelude, addDefinition, addScope, addImport, addExtern, nameStep, crateStep, dependencyStep, mapStep, moduleStep, childStep, preludeStep, definitionStep, scopeStep, importStep, externStep}
+use Rattle.snapshot.specs.Records.{Snapshot, Name, Crate, Dependency, Map, Module, Child, Prelude, Definition, Scope, Import, Extern, Member, nameAt, crateAt, dependencyAt, mapAt, moduleAt, childAt, preludeAt, definitionAt, scopeAt, importAt, externAt, memberAt}
+use Rattle.record_rules.specs.Tests.{childDefined, childPlaced, countsOf, crateRange, isEdition, cratesOwn, definitionDefined, definitionPlaced, definitionRange, definitionRepeated, dependencyDefined, dependencyRange, externDefined, importDefined, importRange, mapDefined, mapPlaced, mapRange, mapRepeated, mapsFilled, memberDefined, memberPlaced, memberRange, moduleDefined, modulePlaced, nameRange, nsPlaced, preludeDefined, sameChild, sameEntry, sameExtern, sameName, samePrelude, scopeDefined, scopeRange}
+use Rattle.record_rules.specs.Steps.{Next, no, on, need, judge, judgeCrate, addName, addCrate, addDependency, addMap, addModule, addChild, addPrelude, addDefinition, addScope, addImport, addExtern, addMember, nameStep, crateStep, dependencyStep, mapStep, moduleStep, childStep, preludeStep, definitionStep, scopeStep, importStep, externStep, memberStep}
 use Rattle.record_rules.proofs.Judged.{CratePassed}
 use Rattle.accept.specs.Valid.{Stands}
 use Rattle.accept.specs.Verdict.{follows, argumentsFrom, recordStep, stepAt, refuse, accept, finish, records, empty, verdict}
@@ -64,6 +64,8 @@ pub record Keeps (W : List ℕ) (P : Snapshot → Type 0) : Type 0 where
       → P s → P (addImport s y)
   pub externs : (s : Snapshot) (y : Extern) → Stands W externAt 11 (y .place) y
       → Passed true (externDefined (countsOf s) y) (any (sameExtern y) (s .externs)) true true → P s → P (addExtern s y)
+  pub members : (s : Snapshot) (y : Member)
+      → Passed (memberRange y) (memberDefined (countsOf s) y) false (memberPlaced s y) true → P s → P (addMember s y)
 
 -- A property of maps, modules and definitions alone.
 pub keeps-of : {W : List ℕ} (P : List Map → List Module → List Definition → Type 0)
@@ -91,6 +93,7 @@ keeps-of P f g k =
       scopes = λ s y o p h. h;
       imports = λ s y o p h. h;
       externs = λ s y o p h. h;
+      members = λ s y p h. h;
     }
 
 pub record Taken (range defined repeated placed room : Bool) (t u : Snapshot) : Type 0 where
@@ -119,26 +122,6 @@ judge-crate-on true true true t u h = record { passed = record { range = refl; e
 need-on : (b : Bool) (n : ℕ) (r : Next) (u : Snapshot) → need b n r ≡ on u → r ≡ on u
 need-on true n r u h = h
 need-on false n r u h = let z : _≡_ {A = ℕ} 0 1 = cc in absurd (omega arith)
-
--- a kind that follows is one of the eleven
-follows-on : (last k : ℕ) (r : Next) (u : Snapshot) → need (follows last k) 31 r ≡ on u → ((1 ≤ k) × (k ≤ 11)) × (r ≡ on u)
-follows-on last k r u e =
-    by-test (leb 1 k)
-    (λ a.
-    by-test (leb k 11) (λ b. ((leb-true 1 k a, leb-true k 11 b), need-on (follows last k) 31 r u e))
-    (λ b. let f : no 31 ≡ on u = rw (a, b) at e in let z : _≡_ {A = ℕ} 0 1 = cc in absurd (omega arith)))
-    (λ a. let f : no 31 ≡ on u = rw a at e in let z : _≡_ {A = ℕ} 0 1 = cc in absurd (omega arith))
-
-above : (k n : ℕ) → n ≤ k → eqb k n ≡ false → n + 1 ≤ k
-above k n l e = let d = eqb-false k n e in omega arith
-
--- the last kind is the one that is none of the others
-eleven : (k : ℕ) → 1 ≤ k → k ≤ 11 → eqb k 1 ≡ false → eqb k 2 ≡ false → eqb k 3 ≡ false → eqb k 4 ≡ false → eqb k 5 ≡ false
-    → eqb k 6 ≡ false → eqb k 7 ≡ false → eqb k 8 ≡ false → eqb k 9 ≡ false → eqb k 10 ≡ false → k ≡ 11
-eleven k low high n1 n2 n3 n4 n5 n6 n7 n8 n9 n10 =
-    let five = above k 5 (above k 4 (above k 3 (above k 2 (above k 1 low n1) n2) n3) n4) n5 in
-    let ten = above k 10 (above k 9 (above k 8 (above k 7 (above k 6 five n6) n7) n8) n9) n10 in
-    omega (arith, ten, high)
 
 -- what holds at the end, the last tests too
 pub record Ends (P : Snapshot → Type 0) (s : Snapshot) : Type 0 where
@@ -216,14 +199,19 @@ module _ (W : List ℕ) (P : Snapshot → Type 0) (keeps : Keeps W P) where
       taken-keeps true (externDefined (countsOf s) y) (any (sameExtern y) (s .externs)) true true (addExtern s y) u e
       (λ p. keeps .externs s y o p h)
 
+  member-keeps : (s : Snapshot) (y : Member) (u : Snapshot) → memberStep s y ≡ on u → P s → P u
+  unfolding memberStep
+  member-keeps s y u e h =
+      taken-keeps (memberRange y) (memberDefined (countsOf s) y) false (memberPlaced s y) true (addMember s y) u e
+      (λ p. keeps .members s y p h)
+
   -- a record of the words, with its head at a place
   stands : {R : Type 0} (read : List ℕ → ℕ → R) (k at : ℕ) → at < wordLimit → kindOf (getD W at 0) ≡ k → Stands W read k at (read W at)
   stands read k at l e = record { head = e; same = refl; inside = l }
 
-  record-keeps : (at : ℕ) (s u : Snapshot) → at < wordLimit → 1 ≤ kindOf (getD W at 0) → kindOf (getD W at 0) ≤ 11
-      → recordStep (kindOf (getD W at 0)) W at s ≡ on u → P s → P u
+  record-keeps : (at : ℕ) (s u : Snapshot) → at < wordLimit → recordStep (kindOf (getD W at 0)) W at s ≡ on u → P s → P u
   unfolding recordStep
-  record-keeps at s u l low high e h =
+  record-keeps at s u l e h =
       let k = kindOf (getD W at 0) in
       by-test (eqb k 1) (λ a. name-keeps s (nameAt W at) u (rw (recordStep, a) at e) h) (λ n1.
       by-test (eqb k 2) (λ a. crate-keeps s (crateAt W at) u (rw (recordStep, n1, a) at e) h) (λ n2.
@@ -238,16 +226,17 @@ module _ (W : List ℕ) (P : Snapshot → Type 0) (keeps : Keeps W P) where
       (λ a. scope-keeps s (scopeAt W at) u (stands scopeAt 9 at l (eqb-true k 9 a)) (rw (recordStep, n1, n2, n3, n4, n5, n6, n7, n8, a) at e) h) (λ n9.
       by-test (eqb k 10)
       (λ a. import-keeps s (importAt W at) u (stands importAt 10 at l (eqb-true k 10 a)) (rw (recordStep, n1, n2, n3, n4, n5, n6, n7, n8, n9, a) at e) h) (λ n10.
-      extern-keeps s (externAt W at) u (stands externAt 11 at l (eleven k low high n1 n2 n3 n4 n5 n6 n7 n8 n9 n10))
-      (rw (recordStep, n1, n2, n3, n4, n5, n6, n7, n8, n9, n10) at e) h))))))))))
+      by-test (eqb k 11)
+      (λ a. extern-keeps s (externAt W at) u (stands externAt 11 at l (eqb-true k 11 a)) (rw (recordStep, n1, n2, n3, n4, n5, n6, n7, n8, n9, n10, a) at e) h) (λ n11.
+      member-keeps s (memberAt W at) u (rw (recordStep, n1, n2, n3, n4, n5, n6, n7, n8, n9, n10, n11) at e) h)))))))))))
 
   step-keeps : (at last : ℕ) (s u : Snapshot) → at < wordLimit → stepAt W at last s ≡ on u → P s → P u
   unfolding stepAt
   step-keeps at last s u l e h =
       let k = kindOf (getD W at 0) in
-      let f = follows-on last k _ u e in
-      let b = need-on (argumentsFrom W (at + 1) (argumentsAt W at)) 31 _ u (f .1) in
-      record-keeps at s u l (f .0 .0) (f .0 .1) b h
+      let a = need-on (follows last k) 31 _ u e in
+      let b = need-on (argumentsFrom W (at + 1) (argumentsAt W at)) 31 _ u a in
+      record-keeps at s u l b h
 
   finish-keeps : (at : ℕ) (s u : Snapshot) → finish at s ≡ accept u → P s → Ends P u
   unfolding finish

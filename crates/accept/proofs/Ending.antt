@@ -10,8 +10,8 @@ use lib.Seq.{ext-getD}
 use lib.Dec.{eqb, leb}
 use borrow.Author.Tests.{eqb-true, eqb-false, leb-true, leb-false, lt-leb, not-true}
 use Rattle.snapshot.specs.Lists.{rows, any, all}
-use Rattle.snapshot.specs.Records.{Map, mapAt, crateAt, dependencyAt, childAt, preludeAt, definitionAt, scopeAt, importAt, externAt}
-use Rattle.snapshot.specs.Layouts.{crateBase, dependencyBase, childBase, preludeBase, definitionBase, scopeBase, importBase, externBase, moduleMap, moduleHead, mapRoot, ownMap, moduleRow, namesOf, mapsOf, modulesOf, recordsOf, snapWith, snapOf}
+use Rattle.snapshot.specs.Records.{Map, mapAt, crateAt, dependencyAt, childAt, preludeAt, definitionAt, scopeAt, importAt, externAt, memberAt}
+use Rattle.snapshot.specs.Layouts.{crateBase, dependencyBase, childBase, preludeBase, definitionBase, scopeBase, importBase, externBase, memberBase, moduleMap, moduleHead, mapRoot, ownMap, moduleRow, namesOf, mapsOf, modulesOf, recordsOf, snapWith, snapOf}
 use Rattle.snapshot.specs.declared.layout.Layout.{Layout}
 use Rattle.snapshot.proofs.Laws.{length-rows, getD-rows}
 use Rattle.record_rules.specs.Tests.{noMap, isOwn, isIn, mapsFilled, cratesOwn}
@@ -166,9 +166,10 @@ module _ (W A : List ℕ) (k : ℕ) (l : Layout) (ms : List Map) (st : Stands W 
             children = recordsOf childAt 2 W (childBase l) (l .children);
             preludes = recordsOf preludeAt 2 W (preludeBase l) (l .preludes);
             definitions = recordsOf definitionAt 3 W (definitionBase l) (l .definitions);
-            scopes = recordsOf scopeAt 7 W (scopeBase l) (l .scopes);
+            scopes = recordsOf scopeAt 8 W (scopeBase l) (l .scopes);
             imports = recordsOf importAt 6 W (importBase l) (l .imports);
             externs = recordsOf externAt 3 W (externBase l) (l .externs);
+            members = recordsOf memberAt 5 W (memberBase l) (l .members);
           }
 
       pub accepted : length W ≤ 16384 → verdict W ≡ finish (length W) (snapWith W A l ms) → all (λ c. not (eqb (ownMap A c) 0)) (rows (λ c. c) 0 (l .crates)) ≡ true

@@ -62,6 +62,7 @@ stands-start W A z =
             scopes = λ h. refl;
             imports = λ h. refl;
             externs = λ h. refl;
+            members = λ h. refl;
           };
       limited = record { names = omega arith; crates = omega arith; modules = omega arith; definitions = omega arith };
       heads = λ j h. absurd (omega arith);

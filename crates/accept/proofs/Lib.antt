@@ -10,6 +10,7 @@ pub mod Accepted
 pub mod Bools
 pub mod Ranges
 pub mod Trees
+pub mod Members
 pub mod Places
 pub mod Valid
 pub mod Reading

@@ -49,6 +49,7 @@ children-kept =
       scopes = λ s y o p h. h;
       imports = λ s y o p h. h;
       externs = λ s y o p h. h;
+      members = λ s y p h. h;
     }
 
 -- macros
@@ -115,6 +116,7 @@ macros-kept =
             imported = each-snoc (h .imported) (macro-placed s (y .ns) (y .definition) (import-definition s y (p .known)) (p .right));
           };
       externs = λ s y o p h. h;
+      members = λ s y p h. h;
     }
 
 -- own maps
@@ -216,6 +218,7 @@ once-kept =
       scopes = λ s y o p h. record { names = h .names; children = h .children; preludes = h .preludes; scopes = distinct-snoc sameEntry _ (s .scopes) y (p .new) (h .scopes); externs = h .externs };
       imports = λ s y o p h. record { names = h .names; children = h .children; preludes = h .preludes; scopes = h .scopes; externs = h .externs };
       externs = λ s y o p h. record { names = h .names; children = h .children; preludes = h .preludes; scopes = h .scopes; externs = distinct-snoc sameExtern _ (s .externs) y (p .new) (h .externs) };
+      members = λ s y p h. record { names = h .names; children = h .children; preludes = h .preludes; scopes = h .scopes; externs = h .externs };
     }
 
 -- places
@@ -234,6 +237,7 @@ places-kept =
       scopes = λ s y o p h. record { definitions = h .definitions; scopes = each-snoc (h .scopes) o; imports = h .imports; externs = h .externs };
       imports = λ s y o p h. record { definitions = h .definitions; scopes = h .scopes; imports = each-snoc (h .imports) o; externs = h .externs };
       externs = λ s y o p h. record { definitions = h .definitions; scopes = h .scopes; imports = h .imports; externs = each-snoc (h .externs) o };
+      members = λ s y p h. record { definitions = h .definitions; scopes = h .scopes; imports = h .imports; externs = h .externs };
     }
 
 module _ (W : List ℕ) (s : Snapshot) (e : verdict W ≡ accept s) where

@@ -8,11 +8,11 @@ use lib.Dec.{eqb, ltb, leb}
 use lib.ListN.{length}
 use borrow.Author.Tests.{eqb-true, eq-eqb, ne-eqb, ltb-true, leb-true}
 use Rattle.snapshot.specs.Limits.{wordLimit}
-use Rattle.snapshot.specs.Records.{Name, Crate, Dependency, Map, Module, Child, Prelude, Definition, Scope, Import, Extern, Snapshot}
-use Rattle.record_rules.specs.Tests.{Counts, countsOf, padded, nameRange, crateRange, isEdition, dependencyRange, dependencyDefined, mapRange, mapDefined, moduleDefined, childDefined, preludeDefined, definitionDefined, scopeRange, scopeDefined, importRange, importDefined, externDefined}
-use Rattle.record_rules.specs.Steps.{addName, addCrate, addDependency, addMap, addModule, addChild, addPrelude, addDefinition, addScope, addImport, addExtern}
+use Rattle.snapshot.specs.Records.{Name, Crate, Dependency, Map, Module, Child, Prelude, Definition, Scope, Import, Extern, Member, Snapshot}
+use Rattle.record_rules.specs.Tests.{Counts, countsOf, padded, nameRange, crateRange, isEdition, dependencyRange, dependencyDefined, mapRange, mapDefined, moduleDefined, childDefined, preludeDefined, definitionDefined, scopeRange, scopeDefined, importRange, importDefined, externDefined, memberRange, memberDefined}
+use Rattle.record_rules.specs.Steps.{addName, addCrate, addDependency, addMap, addModule, addChild, addPrelude, addDefinition, addScope, addImport, addExtern, addMember}
 use Rattle.accept.specs.Verdict.{accept, verdict, empty}
-use Rattle.accept.specs.Valid.{none, NameFits, CrateFits, DependencyFits, MapFits, ModuleFits, ChildFits, PreludeFits, DefinitionFits, ScopeFits, ImportFits, ExternFits, Ranges, Limits}
+use Rattle.accept.specs.Valid.{none, NameFits, CrateFits, DependencyFits, MapFits, ModuleFits, ChildFits, PreludeFits, DefinitionFits, ScopeFits, ImportFits, ExternFits, MemberFits, Ranges, Limits}
 use Rattle.accept.proofs.Accepted.{by-test, Keeps, verdict-keeps}
 use Rattle.accept.proofs.Bools.{and-two, and-three, and-four, and-five, unless-right, or-right, length-snoc, each-map, each-snoc}
 
@@ -91,7 +91,7 @@ module _ (n : Counts) where
 
   pub scope-fits : (y : Scope) → y .place < wordLimit → scopeRange y ≡ true → scopeDefined n y ≡ true → ScopeFits n y
   scope-fits y i r e =
-      let p = and-four (leb (y .ns) 2) (leb (y .visibility) 3) (not (eqb (y .visibility) 0) || eqb (y .number) 0) (leb (y .declared) 3) r in
+      let p = and-five (leb (y .ns) 2) (leb (y .visibility) 3) (not (eqb (y .visibility) 0) || eqb (y .number) 0) (leb (y .declared) 3) (leb (y .bits) 3) r in
       let q =
       and-five (ltb (y .owner) (n .modules)) (ltb (y .name) (n .names)) (ltb (y .definition) (n .definitions))
       (not (eqb (y .visibility) 1) || ltb (y .number) (n .crates)) (leb (y .visibility) 1 || ltb (y .number) (n .modules)) e in
@@ -109,6 +109,7 @@ module _ (n : Counts) where
             (or-right (leb (y .visibility) 1) (ltb (y .number) (n .modules)) (q .4)
             (by-test (leb (y .visibility) 1) (λ t. let u = leb-true (y .visibility) 1 t in absurd (omega arith)) (λ t. t)));
         declared = leb-true (y .declared) 3 (p .3);
+        bits = leb-true (y .bits) 3 (p .4);
         place = i;
       }
 
@@ -136,6 +137,18 @@ module _ (n : Counts) where
         name = ltb-true (y .name) (n .names) (q .1);
         target = ltb-true (y .target) (n .modules) (q .2);
         place = i;
+      }
+
+  member-fits : (y : Member) → memberRange y ≡ true → memberDefined n y ≡ true → MemberFits n y
+  member-fits y r e =
+      let p = and-two (leb (y .kind) 3) (leb (y .bits) 3) r in
+      let q = and-three (ltb (y .parent) (n .definitions)) (ltb (y .name) (n .names)) (ltb (y .definition) (n .definitions)) e in
+      record {
+        parent = ltb-true (y .parent) (n .definitions) (q .0);
+        name = ltb-true (y .name) (n .names) (q .1);
+        definition = ltb-true (y .definition) (n .definitions) (q .2);
+        kind = leb-true (y .kind) 3 (p .0);
+        bits = leb-true (y .bits) 3 (p .1);
       }
 
 -- more of each kind
@@ -180,6 +193,7 @@ module _ (n m : Counts) (a : AtLeast n m) where
               crate = λ q. omega (arith, f .crate q, a .crates);
               inside = λ q. omega (arith, f .inside q, a .modules);
               declared = f .declared;
+              bits = f .bits;
               place = f .place;
             })
             (h .scopes);
@@ -196,6 +210,7 @@ module _ (n m : Counts) (a : AtLeast n m) where
             })
             (h .imports);
         externs = each-map (λ x f. record { owner = omega arith; name = omega arith; target = omega arith; place = f .place }) (h .externs);
+        members = each-map (λ x f. record { parent = omega arith; name = omega arith; definition = omega arith; kind = f .kind; bits = f .bits }) (h .members);
       }
 
 abbrev InRange : Snapshot → Type 0
@@ -215,6 +230,7 @@ no-ranges =
       scopes = none;
       imports = none;
       externs = none;
+      members = none;
     }
 
 -- the ranges with some lists longer, each by a record that fits
@@ -238,35 +254,35 @@ module _ (s : Snapshot) where
     name-ranged : (y : Name) → NameFits y → InRange (addName s y)
     name-ranged y f =
         let r = ranges-more (countsOf s) (countsOf (addName s y)) (more-names y) s h in
-        record { names = each-snoc (h .names) f; crates = h .crates; dependencies = r .dependencies; maps = r .maps; modules = r .modules; children = r .children; preludes = r .preludes; definitions = r .definitions; scopes = r .scopes; imports = r .imports; externs = r .externs }
+        record { names = each-snoc (h .names) f; crates = h .crates; dependencies = r .dependencies; maps = r .maps; modules = r .modules; children = r .children; preludes = r .preludes; definitions = r .definitions; scopes = r .scopes; imports = r .imports; externs = r .externs; members = r .members }
 
     crate-ranged : (y : Crate) → CrateFits y → InRange (addCrate s y)
     crate-ranged y f =
         let r = ranges-more (countsOf s) (countsOf (addCrate s y)) (more-crates y) s h in
-        record { names = h .names; crates = each-snoc (h .crates) f; dependencies = r .dependencies; maps = r .maps; modules = r .modules; children = r .children; preludes = r .preludes; definitions = r .definitions; scopes = r .scopes; imports = r .imports; externs = r .externs }
+        record { names = h .names; crates = each-snoc (h .crates) f; dependencies = r .dependencies; maps = r .maps; modules = r .modules; children = r .children; preludes = r .preludes; definitions = r .definitions; scopes = r .scopes; imports = r .imports; externs = r .externs; members = r .members }
 
     dependency-ranged : (y : Dependency) → DependencyFits (countsOf s) y → InRange (addDependency s y)
     dependency-ranged y f =
-        record { names = h .names; crates = h .crates; dependencies = each-snoc (h .dependencies) f; maps = h .maps; modules = h .modules; children = h .children; preludes = h .preludes; definitions = h .definitions; scopes = h .scopes; imports = h .imports; externs = h .externs }
+        record { names = h .names; crates = h .crates; dependencies = each-snoc (h .dependencies) f; maps = h .maps; modules = h .modules; children = h .children; preludes = h .preludes; definitions = h .definitions; scopes = h .scopes; imports = h .imports; externs = h .externs; members = h .members }
 
     map-ranged : (y : Map) → MapFits (countsOf s) y → InRange (addMap s y)
     map-ranged y f =
         let r = ranges-more (countsOf s) (countsOf (addMap s y)) (more-maps y) s h in
-        record { names = h .names; crates = h .crates; dependencies = r .dependencies; maps = each-snoc (r .maps) (record { crate = f .crate; block = f .block; noStd = f .noStd }); modules = r .modules; children = r .children; preludes = r .preludes; definitions = r .definitions; scopes = r .scopes; imports = r .imports; externs = r .externs }
+        record { names = h .names; crates = h .crates; dependencies = r .dependencies; maps = each-snoc (r .maps) (record { crate = f .crate; block = f .block; noStd = f .noStd }); modules = r .modules; children = r .children; preludes = r .preludes; definitions = r .definitions; scopes = r .scopes; imports = r .imports; externs = r .externs; members = r .members }
 
     module-ranged : (y : Module) → ModuleFits (countsOf s) y → InRange (addModule s y)
     module-ranged y f =
         let r = ranges-more (countsOf s) (countsOf (addModule s y)) (more-modules y) s h in
         let e = length-snoc (s .modules) y in
-        record { names = h .names; crates = h .crates; dependencies = r .dependencies; maps = r .maps; modules = each-snoc (r .modules) (record { map = f .map; parent = omega (arith, f .parent) }); children = r .children; preludes = r .preludes; definitions = r .definitions; scopes = r .scopes; imports = r .imports; externs = r .externs }
+        record { names = h .names; crates = h .crates; dependencies = r .dependencies; maps = r .maps; modules = each-snoc (r .modules) (record { map = f .map; parent = omega (arith, f .parent) }); children = r .children; preludes = r .preludes; definitions = r .definitions; scopes = r .scopes; imports = r .imports; externs = r .externs; members = r .members }
 
     child-ranged : (y : Child) → ChildFits (countsOf s) y → InRange (addChild s y)
     child-ranged y f =
-        record { names = h .names; crates = h .crates; dependencies = h .dependencies; maps = h .maps; modules = h .modules; children = each-snoc (h .children) f; preludes = h .preludes; definitions = h .definitions; scopes = h .scopes; imports = h .imports; externs = h .externs }
+        record { names = h .names; crates = h .crates; dependencies = h .dependencies; maps = h .maps; modules = h .modules; children = each-snoc (h .children) f; preludes = h .preludes; definitions = h .definitions; scopes = h .scopes; imports = h .imports; externs = h .externs; members = h .members }
 
     prelude-ranged : (y : Prelude) → PreludeFits (countsOf s) y → InRange (addPrelude s y)
     prelude-ranged y f =
-        record { names = h .names; crates = h .crates; dependencies = h .dependencies; maps = h .maps; modules = h .modules; children = h .children; preludes = each-snoc (h .preludes) f; definitions = h .definitions; scopes = h .scopes; imports = h .imports; externs = h .externs }
+        record { names = h .names; crates = h .crates; dependencies = h .dependencies; maps = h .maps; modules = h .modules; children = h .children; preludes = each-snoc (h .preludes) f; definitions = h .definitions; scopes = h .scopes; imports = h .imports; externs = h .externs; members = h .members }
 
     definition-ranged : (y : Definition) → DefinitionFits (countsOf s) y → InRange (addDefinition s y)
     definition-ranged y f =
@@ -285,19 +301,24 @@ module _ (s : Snapshot) where
           scopes = r .scopes;
           imports = r .imports;
           externs = r .externs;
+          members = r .members;
         }
 
     scope-ranged : (y : Scope) → ScopeFits (countsOf s) y → InRange (addScope s y)
     scope-ranged y f =
-        record { names = h .names; crates = h .crates; dependencies = h .dependencies; maps = h .maps; modules = h .modules; children = h .children; preludes = h .preludes; definitions = h .definitions; scopes = each-snoc (h .scopes) f; imports = h .imports; externs = h .externs }
+        record { names = h .names; crates = h .crates; dependencies = h .dependencies; maps = h .maps; modules = h .modules; children = h .children; preludes = h .preludes; definitions = h .definitions; scopes = each-snoc (h .scopes) f; imports = h .imports; externs = h .externs; members = h .members }
 
     import-ranged : (y : Import) → ImportFits (countsOf s) y → InRange (addImport s y)
     import-ranged y f =
-        record { names = h .names; crates = h .crates; dependencies = h .dependencies; maps = h .maps; modules = h .modules; children = h .children; preludes = h .preludes; definitions = h .definitions; scopes = h .scopes; imports = each-snoc (h .imports) f; externs = h .externs }
+        record { names = h .names; crates = h .crates; dependencies = h .dependencies; maps = h .maps; modules = h .modules; children = h .children; preludes = h .preludes; definitions = h .definitions; scopes = h .scopes; imports = each-snoc (h .imports) f; externs = h .externs; members = h .members }
 
     extern-ranged : (y : Extern) → ExternFits (countsOf s) y → InRange (addExtern s y)
     extern-ranged y f =
-        record { names = h .names; crates = h .crates; dependencies = h .dependencies; maps = h .maps; modules = h .modules; children = h .children; preludes = h .preludes; definitions = h .definitions; scopes = h .scopes; imports = h .imports; externs = each-snoc (h .externs) f }
+        record { names = h .names; crates = h .crates; dependencies = h .dependencies; maps = h .maps; modules = h .modules; children = h .children; preludes = h .preludes; definitions = h .definitions; scopes = h .scopes; imports = h .imports; externs = each-snoc (h .externs) f; members = h .members }
+
+    member-ranged : (y : Member) → MemberFits (countsOf s) y → InRange (addMember s y)
+    member-ranged y f =
+        record { names = h .names; crates = h .crates; dependencies = h .dependencies; maps = h .maps; modules = h .modules; children = h .children; preludes = h .preludes; definitions = h .definitions; scopes = h .scopes; imports = h .imports; externs = h .externs; members = each-snoc (h .members) f }
 
 ranges-kept : {W : List ℕ} → Keeps W InRange
 ranges-kept =
@@ -313,6 +334,7 @@ ranges-kept =
       scopes = λ s y o p h. scope-ranged s h y (scope-fits (countsOf s) y (o .inside) (p .ranged) (p .known));
       imports = λ s y o p h. import-ranged s h y (import-fits (countsOf s) y (o .inside) (p .ranged) (p .known));
       externs = λ s y o p h. extern-ranged s h y (extern-fits (countsOf s) y (o .inside) (p .known));
+      members = λ s y p h. member-ranged s h y (member-fits (countsOf s) y (p .ranged) (p .known));
     }
 
 abbrev Limited : Snapshot → Type 0
@@ -335,6 +357,7 @@ limits-kept =
       scopes = λ s y o p h. h;
       imports = λ s y o p h. h;
       externs = λ s y o p h. h;
+      members = λ s y p h. h;
     }
 
 module _ (W : List ℕ) (s : Snapshot) (e : verdict W ≡ accept s) where

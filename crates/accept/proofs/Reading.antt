@@ -2,13 +2,13 @@
 use mathlib.Core.Path.{_≡_, subst}
 use Prim.Native.Nat.{ℕ, _+_, _*_, _<_}
 use mathlib.Core.List.{List}
-use Rattle.snapshot.specs.Records.{crateAt, dependencyAt, mapAt, childAt, preludeAt, definitionAt, scopeAt, importAt, externAt}
-use Rattle.snapshot.specs.Layouts.{crateBase, dependencyBase, childBase, preludeBase, definitionBase, scopeBase, importBase, externBase, moduleRow, moduleHead, mapRoot, snapOf}
+use Rattle.snapshot.specs.Records.{crateAt, dependencyAt, mapAt, childAt, preludeAt, definitionAt, scopeAt, importAt, externAt, memberAt}
+use Rattle.snapshot.specs.Layouts.{crateBase, dependencyBase, childBase, preludeBase, definitionBase, scopeBase, importBase, externBase, memberBase, moduleRow, moduleHead, mapRoot, snapOf}
 use Rattle.snapshot.specs.declared.layout.Layout.{Layout}
 use Rattle.snapshot.proofs.Laws.{length-rows}
 use Rattle.record_rules.specs.Tests.{Counts, countsOf}
 use Rattle.record_rules.specs.Stands.{countsIn}
-use Rattle.accept.specs.Valid.{CrateFits, DependencyFits, MapFits, ModuleFits, ChildFits, PreludeFits, DefinitionFits, ScopeFits, ImportFits, ExternFits, Ranges, Valid}
+use Rattle.accept.specs.Valid.{CrateFits, DependencyFits, MapFits, ModuleFits, ChildFits, PreludeFits, DefinitionFits, ScopeFits, ImportFits, ExternFits, MemberFits, Ranges, Valid}
 use Rattle.accept.proofs.Bools.{each-rows}
 
 -- the counts of the lists are those of the layout
@@ -40,11 +40,14 @@ module _ (W A : List ℕ) (l : Layout) (v : Valid (snapOf W A l)) where
   pub definition-read : (k : ℕ) → k < l .definitions → DefinitionFits (countsIn l) (definitionAt W (definitionBase l + 3 * k))
   definition-read k h = each-rows (λ k. definitionAt W (definitionBase l + 3 * k)) (l .definitions) k (ranges-read .definitions) h
 
-  pub scope-read : (k : ℕ) → k < l .scopes → ScopeFits (countsIn l) (scopeAt W (scopeBase l + 7 * k))
-  scope-read k h = each-rows (λ k. scopeAt W (scopeBase l + 7 * k)) (l .scopes) k (ranges-read .scopes) h
+  pub scope-read : (k : ℕ) → k < l .scopes → ScopeFits (countsIn l) (scopeAt W (scopeBase l + 8 * k))
+  scope-read k h = each-rows (λ k. scopeAt W (scopeBase l + 8 * k)) (l .scopes) k (ranges-read .scopes) h
 
   pub import-read : (k : ℕ) → k < l .imports → ImportFits (countsIn l) (importAt W (importBase l + 6 * k))
   import-read k h = each-rows (λ k. importAt W (importBase l + 6 * k)) (l .imports) k (ranges-read .imports) h
 
   pub extern-read : (k : ℕ) → k < l .externs → ExternFits (countsIn l) (externAt W (externBase l + 3 * k))
   extern-read k h = each-rows (λ k. externAt W (externBase l + 3 * k)) (l .externs) k (ranges-read .externs) h
+
+  pub member-read : (k : ℕ) → k < l .members → MemberFits (countsIn l) (memberAt W (memberBase l + 5 * k))
+  member-read k h = each-rows (λ k. memberAt W (memberBase l + 5 * k)) (l .members) k (ranges-read .members) h

@@ -6,8 +6,8 @@ use native.Mathlib.Omega.{arith}
 use lib.ListN.{length, getD, drop, List·getD-append}
 use lib.Seq.{drop-at}
 use borrow.Author.Tests.{lt-ltb, le-ltb}
-use Rattle.snapshot.specs.Records.{mapAt, crateAt, dependencyAt, childAt, preludeAt, definitionAt, scopeAt, importAt, externAt}
-use Rattle.snapshot.specs.Layouts.{crateBase, dependencyBase, childBase, preludeBase, definitionBase, scopeBase, importBase, externBase, moduleMap, moduleHead, mapRoot, ownMap, namesOf, mapsOf, modulesOf, recordsOf, snapOf}
+use Rattle.snapshot.specs.Records.{mapAt, crateAt, dependencyAt, childAt, preludeAt, definitionAt, scopeAt, importAt, externAt, memberAt}
+use Rattle.snapshot.specs.Layouts.{crateBase, dependencyBase, childBase, preludeBase, definitionBase, scopeBase, importBase, externBase, memberBase, moduleMap, moduleHead, mapRoot, ownMap, namesOf, mapsOf, modulesOf, recordsOf, snapOf}
 use Rattle.snapshot.specs.declared.layout.Layout.{Layout}
 use Rattle.snapshot.proofs.Laws.{rows-ext}
 use Rattle.record_rules.specs.Tests.{noMap}
@@ -51,9 +51,10 @@ module _ (W A B : List ℕ) (l : Layout) (t : Tables W A l) (kept : Kept A B 0 4
         children = recordsOf childAt 2 W (childBase l) (l .children);
         preludes = recordsOf preludeAt 2 W (preludeBase l) (l .preludes);
         definitions = recordsOf definitionAt 3 W (definitionBase l) (l .definitions);
-        scopes = recordsOf scopeAt 7 W (scopeBase l) (l .scopes);
+        scopes = recordsOf scopeAt 8 W (scopeBase l) (l .scopes);
         imports = recordsOf importAt 6 W (importBase l) (l .imports);
         externs = recordsOf externAt 3 W (externBase l) (l .externs);
+        members = recordsOf memberAt 5 W (memberBase l) (l .members);
       }
 
   -- and so are the tables

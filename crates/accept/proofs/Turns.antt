@@ -2,11 +2,11 @@
 use Prim.Native.Nat.{ℕ, zero, suc, _+_, _≤_, _<_}
 use mathlib.Core.Path.{_≡_, refl, sym, _∙_, ap, subst}
 use mathlib.Core.List.{List}
-use mathlib.Core.Bool.{Bool, true, false, _&&_, _||_, false≢true}
+use mathlib.Core.Bool.{Bool, true, false, _&&_, _||_, not, false≢true}
 use native.Mathlib.Omega.{arith}
 use lib.ListN.{length, getD}
 use lib.Dec.{eqb, leb, ltb, lit≤}
-use borrow.Author.Tests.{ltb-true, leb-true, eqb-true}
+use borrow.Author.Tests.{ltb-true, leb-true, eqb-true, eqb-false, not-true}
 use Rattle.snapshot.specs.Words.{kindOf, payOf, wordsOf, argumentTable, argumentsOf, argumentsAt}
 use Rattle.snapshot.specs.Records.{Map, Snapshot}
 use Rattle.snapshot.specs.declared.layout.Layout.{Layout}
@@ -32,10 +32,10 @@ pub answers-at : (W A : List ℕ) (r : Step) {k j n m : ℕ} {x y : Next} → k 
 answers-at W A r {k} {j} {n} {m} {x} {y} e f g a =
     subst (λ t. Answered W A t n x r) (sym e) (subst (λ t. Answered W A j t x r) (sym f) (subst (λ t. Answered W A j m t r) (sym g) a))
 
--- none of the first ten kinds
-pub eleven : (k : ℕ) → 1 ≤ k → k ≤ 11 → (k ≡ 1 → ⊥) → (k ≡ 2 → ⊥) → (k ≡ 3 → ⊥) → (k ≡ 4 → ⊥) → (k ≡ 5 → ⊥) → (k ≡ 6 → ⊥) → (k ≡ 7 → ⊥) → (k ≡ 8 → ⊥)
-    → (k ≡ 9 → ⊥) → (k ≡ 10 → ⊥) → k ≡ 11
-eleven k p q a b c d e f g h i j =
+-- none of the first eleven kinds
+pub thirteen : (k : ℕ) → 1 ≤ k → k ≤ 13 → (k ≡ 12 → ⊥) → (k ≡ 1 → ⊥) → (k ≡ 2 → ⊥) → (k ≡ 3 → ⊥) → (k ≡ 4 → ⊥) → (k ≡ 5 → ⊥) → (k ≡ 6 → ⊥) → (k ≡ 7 → ⊥)
+    → (k ≡ 8 → ⊥) → (k ≡ 9 → ⊥) → (k ≡ 10 → ⊥) → (k ≡ 11 → ⊥) → k ≡ 13
+thirteen k p q n a b c d e f g h i j m =
     let p2 = beyond k 1 p a in
     let p3 = beyond k 2 p2 b in
     let p4 = beyond k 3 p3 c in
@@ -46,12 +46,13 @@ eleven k p q a b c d e f g h i j =
     let p9 = beyond k 8 p8 h in
     let p10 = beyond k 9 p9 i in
     let p11 = beyond k 10 p10 j in
-    last k p11 q
+    let p12 = beyond k 11 p11 m in
+    last k (beyond k 12 p12 n) q
   where
     beyond : (k n : ℕ) → n ≤ k → (k ≡ n → ⊥) → n + 1 ≤ k
     beyond k n p h = omega arith
 
-    last : (k : ℕ) → 10 + 1 ≤ k → k ≤ 11 → k ≡ 11
+    last : (k : ℕ) → 12 + 1 ≤ k → k ≤ 13 → k ≡ 13
     last k p q = omega arith
 
 -- one record of any kind
@@ -70,16 +71,19 @@ module _ (W : List ℕ) (at last : ℕ) (s : Snapshot) {k : ℕ} (ek : k ≡ kin
   pub turn-on : {n : ℕ} → follows last k ≡ true → n ≡ argumentsAt W at → argumentsFrom W (at + 1) n ≡ true → stepAt W at last s ≡ recordStep k W at s
   turn-on h e g = turn-right h ∙ ap (λ b. need b 31 (recordStep (kindOf (getD W at 0)) W at s)) (ap (argumentsFrom W (at + 1)) (sym e) ∙ g) ∙ ap (λ j. recordStep j W at s) (sym ek)
 
-pub known-kind : (last k : ℕ) → follows last k ≡ true → (1 ≤ k) × (k ≤ 11)
+pub known-kind : (last k : ℕ) → follows last k ≡ true → (1 ≤ k) × (k ≤ 13) × (k ≡ 12 → ⊥)
 known-kind last k h =
     let p = leb 1 k in
-    let q = leb k 11 in
+    let q = leb k 13 in
+    let t = not (eqb k 12) in
     let r = leb last k || eqb last 5 && eqb k 4 in
-    (leb-true _ _ (and-left p q (and-left (p && q) r h)), leb-true _ _ (and-right p q (and-left (p && q) r h)))
+    let u = and-left (p && q && t) r h in
+    let v = and-left (p && q) t u in
+    (leb-true _ _ (and-left p q v), leb-true _ _ (and-right p q v), eqb-false _ _ (not-true _ (and-right (p && q) t u)))
 
 -- a record of a later kind, or a map after a module
 rises : (last k : ℕ) → follows last k ≡ true → (t : ℕ) → (t ≡ 5 → ⊥) → k < t → last < t
-rises last k h = by (leb last k) (eqb last 5) (eqb k 4) refl refl refl (and-right (leb 1 k && leb k 11) (leb last k || eqb last 5 && eqb k 4) h)
+rises last k h = by (leb last k) (eqb last 5) (eqb k 4) refl refl refl (and-right (leb 1 k && leb k 13 && not (eqb k 12)) (leb last k || eqb last 5 && eqb k 4) h)
   where
     by : (a b c : Bool) → leb last k ≡ a → eqb last 5 ≡ b → eqb k 4 ≡ c → (a || b && c) ≡ true → (t : ℕ) → (t ≡ 5 → ⊥) → k < t → last < t
     by true b c p q r g t u v = let w : last ≤ k = leb-true last k p in omega arith
@@ -106,6 +110,7 @@ stands-up W A at l ms last k h st =
             scopes = λ p. u .scopes (up 9 (λ e. omega arith) p);
             imports = λ p. u .imports (up 10 (λ e. omega arith) p);
             externs = λ p. u .externs (up 11 (λ e. omega arith) p);
+            members = λ p. u .members (up 13 (λ e. omega arith) p);
           };
       limited = st .limited;
       heads = st .heads;
@@ -130,7 +135,7 @@ arguments-fit W i (suc n) h e =
     let r : i + 1 + n ≤ length W = arguments-fit W (i + 1) n (omega arith) (and-right (p && q) t e) in
     omega arith
 
-table-small : (k : ℕ) → getD argumentTable k 0 ≤ 6
+table-small : (k : ℕ) → getD argumentTable k 0 ≤ 7
 table-small zero = lit≤ tt
 table-small (suc zero) = lit≤ tt
 table-small (suc (suc zero)) = lit≤ tt
@@ -143,7 +148,9 @@ table-small (suc (suc (suc (suc (suc (suc (suc (suc zero)))))))) = lit≤ tt
 table-small (suc (suc (suc (suc (suc (suc (suc (suc (suc zero))))))))) = lit≤ tt
 table-small (suc (suc (suc (suc (suc (suc (suc (suc (suc (suc zero)))))))))) = lit≤ tt
 table-small (suc (suc (suc (suc (suc (suc (suc (suc (suc (suc (suc zero))))))))))) = lit≤ tt
-table-small (suc (suc (suc (suc (suc (suc (suc (suc (suc (suc (suc (suc k)))))))))))) = lit≤ tt
+table-small (suc (suc (suc (suc (suc (suc (suc (suc (suc (suc (suc (suc zero)))))))))))) = lit≤ tt
+table-small (suc (suc (suc (suc (suc (suc (suc (suc (suc (suc (suc (suc (suc zero))))))))))))) = lit≤ tt
+table-small (suc (suc (suc (suc (suc (suc (suc (suc (suc (suc (suc (suc (suc (suc k)))))))))))))) = lit≤ tt
 
 arguments-bound : (k w : ℕ) → argumentsOf k (payOf w) ≤ 268435456
 unfolding argumentsOf

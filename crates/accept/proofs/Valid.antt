@@ -7,6 +7,7 @@ use Rattle.accept.specs.Verdict.{accept, verdict}
 use Rattle.accept.specs.Valid.{Valid}
 use Rattle.accept.proofs.Ranges.{accepted-ranges, accepted-limits}
 use Rattle.accept.proofs.Trees.{accepted-tree, accepted-enums}
+use Rattle.accept.proofs.Members.{accepted-members}
 use Rattle.accept.proofs.Places.{accepted-children, accepted-scopes, accepted-imports, accepted-filled, accepted-owned, accepted-defined, accepted-once}
 
 pub accepted-valid : (W : List ℕ) (s : Snapshot) → verdict W ≡ accept s → Valid s
@@ -19,6 +20,7 @@ accepted-valid W s e =
       children = accepted-children W s e;
       scopes = accepted-scopes W s e;
       imports = accepted-imports W s e;
+      members = accepted-members W s e;
       filled = accepted-filled W s e;
       owned = accepted-owned W s e;
       once = accepted-once W s e;

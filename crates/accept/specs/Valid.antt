@@ -6,7 +6,7 @@ use mathlib.Core.Bool.{Bool, true, false}
 use lib.ListN.{length, getD}
 use Rattle.snapshot.specs.Limits.{wordLimit}
 use Rattle.snapshot.specs.Words.{kindOf}
-use Rattle.snapshot.specs.Records.{Name, Crate, Dependency, Map, Module, Child, Prelude, Definition, Scope, Import, Extern, Snapshot, definitionAt, scopeAt, importAt, externAt}
+use Rattle.snapshot.specs.Records.{Name, Crate, Dependency, Map, Module, Child, Prelude, Definition, Scope, Import, Extern, Member, Snapshot, definitionAt, scopeAt, importAt, externAt}
 use Rattle.record_rules.specs.Tests.{Counts, countsOf, noName, noMap, noModule, noDefinition, isEdition, sameName, sameChild, samePrelude, sameEntry, sameExtern}
 
 -- every element has P
@@ -65,6 +65,7 @@ pub record ScopeFits (n : Counts) (x : Scope) : Type 0 where
   pub crate : x .visibility ≡ 1 → x .number < n .crates
   pub inside : 2 ≤ x .visibility → x .number < n .modules
   pub declared : x .declared ≤ 3
+  pub bits : x .bits ≤ 3
   pub place : x .place < wordLimit
 
 pub record ImportFits (n : Counts) (x : Import) : Type 0 where
@@ -82,6 +83,13 @@ pub record ExternFits (n : Counts) (x : Extern) : Type 0 where
   pub target : x .target < n .modules
   pub place : x .place < wordLimit
 
+pub record MemberFits (n : Counts) (x : Member) : Type 0 where
+  pub parent : x .parent < n .definitions
+  pub name : x .name < n .names
+  pub definition : x .definition < n .definitions
+  pub kind : x .kind ≤ 3
+  pub bits : x .bits ≤ 3
+
 pub record Ranges (n : Counts) (s : Snapshot) : Type 0 where
   pub names : Each NameFits (s .names)
   pub crates : Each CrateFits (s .crates)
@@ -94,6 +102,7 @@ pub record Ranges (n : Counts) (s : Snapshot) : Type 0 where
   pub scopes : Each (ScopeFits n) (s .scopes)
   pub imports : Each (ImportFits n) (s .imports)
   pub externs : Each (ExternFits n) (s .externs)
+  pub members : Each (MemberFits n) (s .members)
 
 -- the words hold the record at its place, with a head of its kind
 pub record Stands {R : Type 0} (W : List ℕ) (read : List ℕ → ℕ → R) (kind place : ℕ) (x : R) : Type 0 where
@@ -157,6 +166,13 @@ Under xs x = parentIn xs (x .child) ≡ x .owner + 1
 abbrev pub MacroOnly : List Definition → ℕ → ℕ → Type 0
 MacroOnly ds ns d = ns ≡ 2 → definitionIn ds d .kind ≡ 5
 
+-- a member's parent is of kind 4; a variant is the parent's by that name, another member is of kind 4
+pub record Belongs (ds : List Definition) (x : Member) : Type 0 where
+  pub parent : definitionIn ds (x .parent) .kind ≡ 4
+  pub variant : x .kind ≡ 0
+      → (definitionIn ds (x .definition) .kind ≡ 2) × (definitionIn ds (x .definition) .first ≡ x .parent) × (definitionIn ds (x .definition) .second ≡ x .name)
+  pub other : (x .kind ≡ 0 → ⊥) → definitionIn ds (x .definition) .kind ≡ 4
+
 -- no later element is the same as an earlier one, by the test; d stands for what is not there
 abbrev pub Distinct : {A : Type 0} → (A → A → Bool) → A → List A → Type 0
 Distinct same d xs = (i j : ℕ) → i < j → j < length xs → same (getD xs j d) (getD xs i d) ≡ false
@@ -177,7 +193,7 @@ pub record Once (s : Snapshot) : Type 0 where
   pub children : Distinct sameChild (record { owner = 0; child = 0 }) (s .children)
   pub preludes : Distinct samePrelude (record { map = 0; target = 0 }) (s .preludes)
   pub scopes : Distinct sameEntry
-      (record { owner = 0; ns = 0; name = 0; definition = 0; visibility = 0; number = 0; declared = 0; place = 0 }) (s .scopes)
+      (record { owner = 0; ns = 0; name = 0; definition = 0; visibility = 0; number = 0; declared = 0; bits = 0; place = 0 }) (s .scopes)
   pub externs : Distinct sameExtern (record { owner = 0; name = 0; target = 0; place = 0 }) (s .externs)
 
 pub record Valid (s : Snapshot) : Type 0 where
@@ -188,6 +204,7 @@ pub record Valid (s : Snapshot) : Type 0 where
   pub children : Each (Under (s .modules)) (s .children)
   pub scopes : Each (λ x. MacroOnly (s .definitions) (x .ns) (x .definition)) (s .scopes)
   pub imports : Each (λ x. MacroOnly (s .definitions) (x .ns) (x .definition)) (s .imports)
+  pub members : Each (Belongs (s .definitions)) (s .members)
   -- no map is empty
   pub filled : (k : ℕ) → k < length (s .maps) → (m : ℕ) × (m < length (s .modules)) × (mapIn (s .modules) m ≡ k)
   pub owned : Owned (length (s .crates)) (s .maps)

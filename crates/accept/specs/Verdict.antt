@@ -1,18 +1,18 @@
 -- Which words are a snapshot, and by which number and at which place the others are refused.
 use Prim.Native.Nat.{ℕ, zero, suc, _+_}
 use mathlib.Core.List.{List, []}
-use mathlib.Core.Bool.{Bool, true, false, _&&_, _||_}
+use mathlib.Core.Bool.{Bool, true, false, _&&_, _||_, not}
 use lib.Dec.{eqb, leb, ltb}
 use lib.ListN.{length, getD}
 use Rattle.snapshot.specs.Limits.{wordLimit}
 use Rattle.snapshot.specs.Words.{kindOf, argumentsAt}
-use Rattle.snapshot.specs.Records.{Snapshot, nameAt, crateAt, dependencyAt, mapAt, moduleAt, childAt, preludeAt, definitionAt, scopeAt, importAt, externAt}
+use Rattle.snapshot.specs.Records.{Snapshot, nameAt, crateAt, dependencyAt, mapAt, moduleAt, childAt, preludeAt, definitionAt, scopeAt, importAt, externAt, memberAt}
 use Rattle.record_rules.specs.Tests.{mapsFilled, cratesOwn}
-use Rattle.record_rules.specs.Steps.{Next, no, on, need, nameStep, crateStep, dependencyStep, mapStep, moduleStep, childStep, preludeStep, definitionStep, scopeStep, importStep, externStep}
+use Rattle.record_rules.specs.Steps.{Next, no, on, need, nameStep, crateStep, dependencyStep, mapStep, moduleStep, childStep, preludeStep, definitionStep, scopeStep, importStep, externStep, memberStep}
 
--- a known kind that does not fall; a map may follow a module
+-- a known kind that does not fall; a map may follow a module; kind 12 is a question's
 abbrev pub follows : ℕ → ℕ → Bool
-follows last k = leb 1 k && leb k 11 && (leb last k || eqb last 5 && eqb k 4)
+follows last k = leb 1 k && leb k 13 && not (eqb k 12) && (leb last k || eqb last 5 && eqb k 4)
 
 -- n argument words stand from place i on
 unfoldable pub argumentsFrom : List ℕ → ℕ → ℕ → Bool
@@ -52,7 +52,10 @@ recordStep k W at s =
                                                           elim (eqb k 10) [
                                                             | true ↦ importStep s (importAt W at)
                                                             | false ↦
-                                                                externStep s (externAt W at)
+                                                                elim (eqb k 11) [
+                                                                  | true ↦ externStep s (externAt W at)
+                                                                  | false ↦ memberStep s (memberAt W at)
+                                                                ]
                                                           ]
                                                     ]
                                               ]
@@ -104,6 +107,7 @@ empty =
       scopes = [];
       imports = [];
       externs = [];
+      members = [];
     }
 
 -- too many words: the place is that of the first word too many

@@ -6,14 +6,14 @@ use Rattle.snapshot.specs.Lists.{rows, any, all, eqList}
 use Rattle.snapshot.specs.Words.{argumentsOf}
 use Rattle.snapshot.specs.Records.{Snapshot}
 use Rattle.record_rules.specs.Tests.{textBound, padded}
-use Rattle.record_rules.specs.Steps.{nameStep, crateStep, dependencyStep, mapStep, moduleStep, childStep, preludeStep, definitionStep, scopeStep, importStep, externStep}
+use Rattle.record_rules.specs.Steps.{nameStep, crateStep, dependencyStep, mapStep, moduleStep, childStep, preludeStep, definitionStep, scopeStep, importStep, externStep, memberStep}
 use Rattle.accept.specs.Verdict.{argumentsFrom, recordStep, stepAt, finish, records, verdict, accept}
 
 abbrev pub worked : List ℕ
 worked =
     0x10000001 ∷ 0x61 ∷ 0x10000001 ∷ 0x66 ∷ 0x20000000 ∷ 2021 ∷ 0x40000000 ∷ 0 ∷ 0 ∷ 0x50000000 ∷ 0 ∷ 0x50000000 ∷ 1
-    ∷ 0x60000000 ∷ 1 ∷ 0x80000001 ∷ 1 ∷ 0 ∷ 0x80000004 ∷ 1 ∷ 0 ∷ 0x90000000 ∷ 0 ∷ 0 ∷ 0 ∷ 0 ∷ 0 ∷ 1
-    ∷ 0x90000001 ∷ 1 ∷ 1 ∷ 1 ∷ 0 ∷ 0 ∷ 1 ∷ []
+    ∷ 0x60000000 ∷ 1 ∷ 0x80000001 ∷ 1 ∷ 0 ∷ 0x80000004 ∷ 1 ∷ 0 ∷ 0x90000000 ∷ 0 ∷ 0 ∷ 0 ∷ 0 ∷ 0 ∷ 1 ∷ 0
+    ∷ 0x90000001 ∷ 1 ∷ 1 ∷ 1 ∷ 0 ∷ 0 ∷ 1 ∷ 0 ∷ []
 
 abbrev pub workedSnapshot : Snapshot
 workedSnapshot =
@@ -27,13 +27,14 @@ workedSnapshot =
       preludes = [];
       definitions = record { kind = 1; first = 1; second = 0; place = 15 } ∷ record { kind = 4; first = 1; second = 0; place = 18 } ∷ [];
       scopes =
-          record { owner = 0; ns = 0; name = 0; definition = 0; visibility = 0; number = 0; declared = 1; place = 21 }
-          ∷ record { owner = 1; ns = 1; name = 1; definition = 1; visibility = 0; number = 0; declared = 1; place = 28 }
+          record { owner = 0; ns = 0; name = 0; definition = 0; visibility = 0; number = 0; declared = 1; bits = 0; place = 21 }
+          ∷ record { owner = 1; ns = 1; name = 1; definition = 1; visibility = 0; number = 0; declared = 1; bits = 0; place = 29 }
           ∷ [];
       imports = [];
       externs = [];
+      members = [];
     }
 
 pub worked-accepted : verdict worked ≡ accept workedSnapshot
-unfolding verdict records stepAt recordStep finish argumentsFrom argumentsOf nameStep crateStep dependencyStep mapStep moduleStep childStep preludeStep definitionStep scopeStep importStep externStep textBound padded rows any all eqList
+unfolding verdict records stepAt recordStep finish argumentsFrom argumentsOf nameStep crateStep dependencyStep mapStep moduleStep childStep preludeStep definitionStep scopeStep importStep externStep memberStep textBound padded rows any all eqList
 worked-accepted = refl

@@ -20,13 +20,13 @@ fn follows(last: usize, kind: usize) -> bool
     ensures { λ r. ⌜ r ≡ followsOf last kind ⌝ }
 {
     let again = (last == Kind::MODULE) & (kind == Kind::MAP);
-    (Kind::NAME <= kind) & (kind <= Kind::EXTERN) & ((last <= kind) | again)
+    (Kind::NAME <= kind) & (kind <= Kind::MEMBER) & (kind != 12) & ((last <= kind) | again)
 }
 
 // The record of a known kind.
 fn by_kind(words: &[u32], area: &mut [u32], l: Layout, at: usize, k: usize) -> Step
     requires { ⌜ Ready (now words) (now area) l at (at + 1 + argumentsAt (now words) at) ⌝ }
-    requires { ⌜ (k ≡ kindOf (getD (now words) at 0)) × (1 ≤ k) × (k ≤ 11) ⌝ }
+    requires { ⌜ (k ≡ kindOf (getD (now words) at 0)) × (1 ≤ k) × (k ≤ 13) × (k ≡ 12 → ⊥) ⌝ }
     ensures { λ r. ⌜ ((ms : List Map) → Stands (now (words .entry)) (now (area .entry)) k at l ms → Answered (now (words .entry)) (now (area .exit)) k (at + 1 + argumentsAt (now (words .entry)) at) (recordStep k (now (words .entry)) at (snapWith (now (words .entry)) (now (area .entry)) l ms)) r) ⌝ }
 {
     match k {
@@ -40,7 +40,8 @@ fn by_kind(words: &[u32], area: &mut [u32], l: Layout, at: usize, k: usize) -> S
         8 => item_records::definitions::step(words, area, l, at),
         9 => item_records::scopes::step(words, area, l, at),
         10 => item_records::imports::step(words, area, l, at),
-        _ => item_records::externs::step(words, area, l, at),
+        11 => item_records::externs::step(words, area, l, at),
+        _ => item_records::members::step(words, area, l, at),
     }
 }
 

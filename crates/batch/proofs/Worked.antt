@@ -32,10 +32,10 @@ passesAll table =
 abbrev asked : List ℕ
 asked = 1 ∷ 1 ∷ 0 ∷ 1 ∷ 0 ∷ 1 ∷ 15 ∷ 1 ∷ 1 ∷ 0 ∷ 1 ∷ 0 ∷ 10001 ∷ 15 ∷ 1 ∷ 1 ∷ 0 ∷ 1 ∷ 0 ∷ 0 ∷ 15 ∷ []
 
--- `found a::f 1 0 scope@21 local@28`, `refused 21 0 0`, `none - 0 1` with 15 left
+-- `found a::f 1 0 scope@21 local@29`, `refused 21 0 0`, `none - 0 1` with 15 left
 abbrev told : List ℕ
 told =
-    (0 ∷ 0 ∷ 0 ∷ 0 ∷ 1 ∷ replicate 14 0 ++ (2 ∷ 1 ∷ 0 ∷ 0 ∷ 0 ∷ 2 ∷ 169 ∷ 230 ∷ replicate 15 0))
+    (0 ∷ 0 ∷ 0 ∷ 0 ∷ 1 ∷ replicate 14 0 ++ (2 ∷ 1 ∷ 0 ∷ 0 ∷ 0 ∷ 2 ∷ 169 ∷ 238 ∷ replicate 15 0))
     ++ ((2 ∷ 21 ∷ replicate 40 0) ++ (1 ∷ replicate 20 0 ++ (1 ∷ 15 ∷ 0 ∷ replicate 18 0)))
 
 abbrev row : ℕ → List ℕ → ℕ → ℕ → List ℕ → Row

@@ -15,7 +15,7 @@ use Rattle.accept.specs.Post.{checkOf, outcome}
 use Rattle.accept.specs.declared.check.Checked.{Checked}
 use Rattle.printing.specs.Output.{Put, bytesOf}
 use Rattle.check_snapshot.specs.Verdict.{wordsOf, verdictOf}
-use Rattle.wording.specs.Text.{firstLines, lastLines}
+use Rattle.wording.specs.Text.{line, firstLines, lastLines}
 use Rattle.check_snapshot.specs.Text.{textOf}
 
 -- the verdict
@@ -46,7 +46,7 @@ verdict-same B W A n r e q h p m =
 pub text-accepted : (W A : List ℕ) (l : Layout)
     → bytesOf "accepted\n"
     ++ (firstLines (l .names) (l .crates) (l .dependencies) (l .maps) (l .modules)
-    ++ lastLines (l .children) (l .preludes) (l .definitions) (l .scopes) (l .imports) (l .externs))
+    ++ (lastLines (l .children) (l .preludes) (l .definitions) (l .scopes) (l .imports) (l .externs) ++ line "members " (l .members)))
     ≡ textOf (accept (snapOf W A l))
 text-accepted W A l = simp length-rows
 

@@ -135,7 +135,7 @@ module _ (area : ℕ) (W : List ℕ) (n : ℕ) (x : Scope) (T : List ℕ) (e : e
   own : length (take n W) ≡ n
   own = length-take-le n W (t .within)
 
-  longer : length T ≡ length (take n W) + 7
+  longer : length T ≡ length (take n W) + 8
   unfolding editedWords
   longer = ap length (sym (t .words)) ∙ add-longer (take n W) (t .snapshot) (length W) x (t .accepted) (t .fault)
 

@@ -86,7 +86,7 @@ module _ (W A : List ℕ) (n : ℕ) (o : Operation) where
   edits-large X B r h z e =
       record { edit = subst (λ y. Edits W n y X r) (sym (of-large (length A) W n o h)) e; area = area-large A B h z }
 
-pub record-long : (x : Scope) (R : List ℕ) → R ≡ scopeWords x → length R ≡ 7
+pub record-long : (x : Scope) (R : List ℕ) → R ≡ scopeWords x → length R ≡ 8
 unfolding scopeWords
 record-long x R e = ap length e
 
@@ -100,7 +100,7 @@ module _ (W : List ℕ) (n : ℕ) (h : n ≤ length W) (s : Snapshot) (acc : ver
     pub added-head : k ≡ 0 → x .owner < 268435456
     added-head z = add-small (take n W) s (length W) x acc (sym e ∙ z) .owner
 
-    pub added-fits : k ≡ 0 → (at : ℕ) → at ≡ scopesEnd (take n W) → (at ≤ n) × (n + 7 ≤ length W)
+    pub added-fits : k ≡ 0 → (at : ℕ) → at ≡ scopesEnd (take n W) → (at ≤ n) × (n + 8 ≤ length W)
     added-fits z at p =
         let l = length-take-le n W h in
         let w = end-within (take n W) s acc in
@@ -108,13 +108,13 @@ module _ (W : List ℕ) (n : ℕ) (h : n ≤ length W) (s : Snapshot) (acc : ver
         (omega arith, omega arith)
 
     pub added-done : (X : List ℕ) (at : ℕ) → k ≡ 0 → at ≡ scopesEnd (take n W)
-        → X ≡ inserted at (scopeWords x) (take n W) ++ replicate (length W - (n + 7)) 0
-        → Edits W n (editBy (take n W) (length W) (adding x) (verdict (take n W))) X (record { number = 0; count = n + 7 })
+        → X ≡ inserted at (scopeWords x) (take n W) ++ replicate (length W - (n + 8)) 0
+        → Edits W n (editBy (take n W) (length W) (adding x) (verdict (take n W))) X (record { number = 0; count = n + 8 })
     unfolding editedWords
     added-done X at z p q =
-        edits-done W (inserted (scopesEnd (take n W)) (scopeWords x) (take n W)) X n (n + 7) _ (fault-none W n (adding x) s acc k e z)
-        (sym (add-longer (take n W) s (length W) x acc (sym e ∙ z) ∙ ap (λ m. m + 7) (length-take-le n W h)))
-        (q ∙ ap (λ p. inserted p (scopeWords x) (take n W) ++ replicate (length W - (n + 7)) 0) p)
+        edits-done W (inserted (scopesEnd (take n W)) (scopeWords x) (take n W)) X n (n + 8) _ (fault-none W n (adding x) s acc k e z)
+        (sym (add-longer (take n W) s (length W) x acc (sym e ∙ z) ∙ ap (λ m. m + 8) (length-take-le n W h)))
+        (q ∙ ap (λ p. inserted p (scopeWords x) (take n W) ++ replicate (length W - (n + 8)) 0) p)
 
 -- a removal from accepted words
 module _ (W : List ℕ) (n : ℕ) (h : n ≤ length W) (s : Snapshot) (acc : verdict (take n W) ≡ accept s) (m ns name : ℕ) (at : ℕ)
@@ -139,20 +139,20 @@ module _ (W : List ℕ) (n : ℕ) (h : n ≤ length W) (s : Snapshot) (acc : ver
     found : at < n → entryPlace (isNamed m ns name) (take n W) < length (take n W)
     found g = let l = long in omega arith
 
-    pub removed-fits : at < n → at + 7 ≤ n
+    pub removed-fits : at < n → at + 8 ≤ n
     removed-fits g = let f = present (isNamed m ns name) (take n W) s acc (found g) .fits in let l = long in omega arith
 
-    pub removed-done : (X : List ℕ) → at < n → X ≡ cut at 7 (take n W) ++ replicate (length W - (n - 7)) 0
-        → Edits W n (editBy (take n W) (length W) (removing m ns name) (verdict (take n W))) X (record { number = 0; count = n - 7 })
+    pub removed-done : (X : List ℕ) → at < n → X ≡ cut at 8 (take n W) ++ replicate (length W - (n - 8)) 0
+        → Edits W n (editBy (take n W) (length W) (removing m ns name) (verdict (take n W))) X (record { number = 0; count = n - 8 })
     unfolding editedWords
     removed-done X g q =
         let f = present (isNamed m ns name) (take n W) s acc (found g) in
         let l = long in
-        let c = cut-length (take n W) (entryPlace (isNamed m ns name) (take n W)) 7 (f .fits) in
-        edits-done W (cut (entryPlace (isNamed m ns name) (take n W)) 7 (take n W)) X n (n - 7) _
+        let c = cut-length (take n W) (entryPlace (isNamed m ns name) (take n W)) 8 (f .fits) in
+        edits-done W (cut (entryPlace (isNamed m ns name) (take n W)) 8 (take n W)) X n (n - 8) _
         (fault-none W n (removing m ns name) s acc 0 (present-fault (f .there)) refl)
         (omega arith)
-        (q ∙ ap (λ p. cut p 7 (take n W) ++ replicate (length W - (n - 7)) 0) e)
+        (q ∙ ap (λ p. cut p 8 (take n W) ++ replicate (length W - (n - 8)) 0) e)
 
 -- what the check of the words answers
 

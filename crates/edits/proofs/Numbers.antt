@@ -9,9 +9,9 @@ use lib.ListN.{length, getD, take}
 use Rattle.snapshot.specs.Lists.{any}
 use Rattle.snapshot.specs.Limits.{wordLimit, areaLimit, crateLimit, moduleLimit, nameLimit, definitionLimit}
 use Rattle.snapshot.specs.Words.{kindOf, argumentsAt}
-use Rattle.snapshot.specs.Records.{Snapshot, nameAt, crateAt, dependencyAt, mapAt, moduleAt, childAt, preludeAt, definitionAt, scopeAt, importAt, externAt}
-use Rattle.record_rules.specs.Tests.{childDefined, childPlaced, countsOf, crateRange, isEdition, cratesOwn, definitionDefined, definitionPlaced, definitionRange, definitionRepeated, dependencyDefined, dependencyRange, externDefined, importDefined, importRange, mapDefined, mapPlaced, mapRange, mapRepeated, mapsFilled, moduleDefined, modulePlaced, nameRange, nsPlaced, preludeDefined, sameChild, sameEntry, sameExtern, sameName, samePrelude, scopeDefined, scopeRange}
-use Rattle.record_rules.specs.Steps.{Next, no, on, need, judge, judgeCrate, addName, addCrate, addDependency, addMap, addModule, addChild, addPrelude, addDefinition, addScope, addImport, addExtern, nameStep, crateStep, dependencyStep, mapStep, moduleStep, childStep, preludeStep, definitionStep, scopeStep, importStep, externStep}
+use Rattle.snapshot.specs.Records.{Snapshot, nameAt, crateAt, dependencyAt, mapAt, moduleAt, childAt, preludeAt, definitionAt, scopeAt, importAt, externAt, memberAt}
+use Rattle.record_rules.specs.Tests.{childDefined, childPlaced, countsOf, crateRange, isEdition, cratesOwn, definitionDefined, definitionPlaced, definitionRange, definitionRepeated, dependencyDefined, dependencyRange, externDefined, importDefined, importRange, mapDefined, mapPlaced, mapRange, mapRepeated, mapsFilled, memberDefined, memberPlaced, memberRange, moduleDefined, modulePlaced, nameRange, nsPlaced, preludeDefined, sameChild, sameEntry, sameExtern, sameName, samePrelude, scopeDefined, scopeRange}
+use Rattle.record_rules.specs.Steps.{Next, no, on, need, judge, judgeCrate, addName, addCrate, addDependency, addMap, addModule, addChild, addPrelude, addDefinition, addScope, addImport, addExtern, addMember, nameStep, crateStep, dependencyStep, mapStep, moduleStep, childStep, preludeStep, definitionStep, scopeStep, importStep, externStep, memberStep}
 use Rattle.accept.specs.Verdict.{follows, argumentsFrom, recordStep, stepAt, Verdict, refuse, accept, finish, records, empty, verdict}
 use Rattle.scope_edits.specs.Edits.{Edit, refusedBy, edited, Operation, editFault, editUnless, editBy, editWithin, editOf}
 
@@ -46,7 +46,7 @@ judge-crate-some range edition room s =
     need-some range 32 _ (omega arith) (need-some edition 43 _ (omega arith) (need-some room 36 (on s) (omega arith) tt))
 
 record-some : (k : ℕ) (W : List ℕ) (at : ℕ) (s : Snapshot) → NextSome (recordStep k W at s)
-unfolding recordStep nameStep crateStep dependencyStep mapStep moduleStep childStep preludeStep definitionStep scopeStep importStep externStep
+unfolding recordStep nameStep crateStep dependencyStep mapStep moduleStep childStep preludeStep definitionStep scopeStep importStep externStep memberStep
 record-some k W at s =
     let x1 = nameAt W at in
     let x2 = crateAt W at in
@@ -59,6 +59,7 @@ record-some k W at s =
     let x9 = scopeAt W at in
     let x10 = importAt W at in
     let x11 = externAt W at in
+    let x13 = memberAt W at in
     let n = countsOf s in
     either NextSome (eqb k 1) _ _ (judge-some (nameRange x1) true (any (sameName x1) (s .names)) true (ltb (length (s .names)) nameLimit) (addName s x1))
     (either NextSome (eqb k 2) _ _ (judge-crate-some (crateRange x2) (isEdition (x2 .edition)) (ltb (length (s .crates)) crateLimit) (addCrate s x2))
@@ -70,7 +71,8 @@ record-some k W at s =
     (either NextSome (eqb k 8) _ _ (judge-some (definitionRange s x8) (definitionDefined n x8) (definitionRepeated s x8) (definitionPlaced s x8) (ltb (length (s .definitions)) definitionLimit) (addDefinition s x8))
     (either NextSome (eqb k 9) _ _ (judge-some (scopeRange x9) (scopeDefined n x9) (any (sameEntry x9) (s .scopes)) (nsPlaced s (x9 .ns) (x9 .definition)) true (addScope s x9))
     (either NextSome (eqb k 10) _ _ (judge-some (importRange x10) (importDefined n x10) false (nsPlaced s (x10 .ns) (x10 .definition)) true (addImport s x10))
-    (judge-some true (externDefined n x11) (any (sameExtern x11) (s .externs)) true true (addExtern s x11)))))))))))
+    (either NextSome (eqb k 11) _ _ (judge-some true (externDefined n x11) (any (sameExtern x11) (s .externs)) true true (addExtern s x11))
+    (judge-some (memberRange x13) (memberDefined n x13) false (memberPlaced s x13) true (addMember s x13))))))))))))
 
 step-some : (W : List ℕ) (at last : ℕ) (s : Snapshot) → NextSome (stepAt W at last s)
 unfolding stepAt

@@ -30,7 +30,7 @@ pub struct Edited {
 }
 
 // Adds an entry to an accepted snapshot.
-fn add_accepted(words: &mut [u32], count: usize, l: Layout, entry: &[u32; 7]) -> Edited
+fn add_accepted(words: &mut [u32], count: usize, l: Layout, entry: &[u32; 8]) -> Edited
     requires { ⌜ (count ≤ length (now words)) × ((A : List ℕ) × Reads (take count (now words)) A l) ⌝ }
     ensures { λ r. ⌜ Edits (now (words .entry)) count (editBy (take count (now (words .entry))) (length (now (words .entry))) (adding (entryOf (now (entry .entry)))) (verdict (take count (now (words .entry))))) (now (words .exit)) r ⌝ }
 {
@@ -52,7 +52,7 @@ fn add_accepted(words: &mut [u32], count: usize, l: Layout, entry: &[u32; 7]) ->
 }
 
 // Checks the words, and adds an entry.
-fn add_checked(words: &mut [u32], count: usize, area: &mut [u32], entry: &[u32; 7]) -> Edited
+fn add_checked(words: &mut [u32], count: usize, area: &mut [u32], entry: &[u32; 8]) -> Edited
     requires { ⌜ length (now area) ≡ 16384 ⌝ }
     ensures { λ r. ⌜ Edits (now (words .entry)) count (editWithin (now (words .entry)) count (adding (entryOf (now (entry .entry))))) (now (words .exit)) r ⌝ }
 {
@@ -73,7 +73,7 @@ fn add_checked(words: &mut [u32], count: usize, area: &mut [u32], entry: &[u32; 
 }
 
 // The same, in a work area that serves and is cleared.
-fn add_within(words: &mut [u32], count: usize, area: &mut [u32], entry: &[u32; 7]) -> Edited
+fn add_within(words: &mut [u32], count: usize, area: &mut [u32], entry: &[u32; 8]) -> Edited
     requires { ⌜ length (now area) ≡ 16384 ⌝ }
     ensures { λ r. ⌜ Edits (now (words .entry)) count (editWithin (now (words .entry)) count (adding (entryOf (now (entry .entry))))) (now (words .exit)) r ⌝ }
     ensures { λ _. ⌜ now (area .exit) ≡ zeros 16384 ⌝ }
@@ -84,11 +84,11 @@ fn add_within(words: &mut [u32], count: usize, area: &mut [u32], entry: &[u32; 7
 }
 
 /// Adds an entry to the snapshot in the first words, so many: module, namespace, name, definition, visibility and its number,
-/// declared. Its record is written after the last scope record; where there is none, before the first record of a higher kind, or at the
+/// declared, bits. Its record is written after the last scope record; where there is none, before the first record of a higher kind, or at the
 /// end; the words after it move up, and all past the new end are zero. Answers the new count and 0, or the number by which the edit
 /// is refused, with the words unchanged: 20 a small work area, 30 to 36 and 43 the snapshot, 30 also more words than there are, 32, 33 and
 /// 35 the entry, 47 a name that is there already, 48 no room. The work area is left as `find_path` leaves it.
-pub fn add_entry(words: &mut [u32], count: usize, area: &mut [u32], entry: &[u32; 7]) -> Edited
+pub fn add_entry(words: &mut [u32], count: usize, area: &mut [u32], entry: &[u32; 8]) -> Edited
     ensures { λ r. ⌜ EditsIn (now (words .entry)) count (now (area .entry)) (adding (entryOf (now (entry .entry)))) (now (words .exit)) (now (area .exit)) r ⌝ }
 {
     if area.len() < WordCount::AREA {

@@ -56,13 +56,14 @@ counted l =
     ∷ l .scopes
     ∷ l .imports
     ∷ l .externs
+    ∷ l .members
     ∷ []
 
 counted-same : (W A : List ℕ) (l : Layout) → counted l ≡ answerOf (accept (snapOf W A l))
 counted-same W A l = simp length-rows
 
 module _ (W A₀ A : List ℕ) (r : Checked) (k : Checks W A₀ A r) where
-  pub answered-refused : (n at : ℕ) → r ≡ Refused n at → Answered W A₀ A (n ∷ at ∷ 0 ∷ 0 ∷ 0 ∷ 0 ∷ 0 ∷ 0 ∷ 0 ∷ 0 ∷ 0 ∷ 0 ∷ 0 ∷ []) n
+  pub answered-refused : (n at : ℕ) → r ≡ Refused n at → Answered W A₀ A (n ∷ at ∷ 0 ∷ 0 ∷ 0 ∷ 0 ∷ 0 ∷ 0 ∷ 0 ∷ 0 ∷ 0 ∷ 0 ∷ 0 ∷ 0 ∷ []) n
   answered-refused n at e =
       let q : Checks W A₀ A (Refused n at) = subst (Checks W A₀ A) e k in
       record {

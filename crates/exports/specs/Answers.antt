@@ -16,7 +16,7 @@ numberOf (accept s) = 0
 
 -- the number, its place, and how many records of each kind there are, in the order of the kinds
 abbrev pub answerOf : Verdict → List ℕ
-answerOf (refuse n at) = n ∷ at ∷ 0 ∷ 0 ∷ 0 ∷ 0 ∷ 0 ∷ 0 ∷ 0 ∷ 0 ∷ 0 ∷ 0 ∷ 0 ∷ []
+answerOf (refuse n at) = n ∷ at ∷ 0 ∷ 0 ∷ 0 ∷ 0 ∷ 0 ∷ 0 ∷ 0 ∷ 0 ∷ 0 ∷ 0 ∷ 0 ∷ 0 ∷ []
 answerOf (accept s) =
     0
     ∷ 0
@@ -31,6 +31,7 @@ answerOf (accept s) =
     ∷ length (s .scopes)
     ∷ length (s .imports)
     ∷ length (s .externs)
+    ∷ length (s .members)
     ∷ []
 
 -- the numbers are those of the check's definition; accepted words can be read by the tables; the area past its first 16,384 words

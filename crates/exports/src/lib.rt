@@ -38,7 +38,7 @@ use windows::windows::turn;
 pub extern "C" fn kelumavor_check(
     words: &[u32],
     area: &mut [u32],
-    answer: &mut [usize; 13],
+    answer: &mut [usize; 14],
 ) -> usize
     ensures { λ r. ⌜ Answered (now (words .entry)) (now (area .entry)) (now (area .exit)) (now (answer .exit)) r ⌝ }
 {
@@ -46,7 +46,7 @@ pub extern "C" fn kelumavor_check(
     match c {
         Checked::Refused(n, at) => {
             let number = n as usize;
-            *answer = [number, at, 0, 0, 0, 0, 0, 0, 0, 0, 0, 0, 0];
+            *answer = [number, at, 0, 0, 0, 0, 0, 0, 0, 0, 0, 0, 0, 0];
             number
         }
         Checked::Accepted(l) => {
@@ -64,6 +64,7 @@ pub extern "C" fn kelumavor_check(
                 l.scopes,
                 l.imports,
                 l.externs,
+                l.members,
             ];
             0
         }
@@ -179,7 +180,7 @@ pub extern "C" fn kelumavor_turn(
 }
 
 /// Adds an entry of a scope to the snapshot in the first words, as many as `count` says, which becomes the new count: module,
-/// namespace, name, definition, visibility and its number, declared. Answers 0, or the number by which the edit is refused, with words
+/// namespace, name, definition, visibility and its number, declared, bits. Answers 0, or the number by which the edit is refused, with words
 /// and count unchanged: 20 a small work area, 30 to 36 and 43 the snapshot, 30 also a count above the words, 32, 33 and 35 the entry, 47 a name
 /// that is there already, 48 no room.
 #[no_mangle]
@@ -187,7 +188,7 @@ pub extern "C" fn kelumavor_add_entry(
     words: &mut [u32],
     count: &mut usize,
     area: &mut [u32],
-    entry: &[u32; 7],
+    entry: &[u32; 8],
 ) -> usize
     ensures { λ r. ⌜ EditsIn (now (words .entry)) (now (count .entry)) (now (area .entry)) (adding (entryOf (now (entry .entry)))) (now (words .exit)) (now (area .exit)) (record { number = r; count = now (count .exit) }) ⌝ }
 {

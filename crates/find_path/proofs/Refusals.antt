@@ -10,9 +10,9 @@ use borrow.Author.Tests.{eqb-false, ltb-false}
 use Rattle.snapshot.specs.Limits.{wordLimit, crateLimit, moduleLimit, nameLimit, definitionLimit, areaLimit, fuelLimit, pathLimit}
 use Rattle.snapshot.specs.Words.{kindOf, argumentsAt}
 use Rattle.snapshot.specs.Lists.{any}
-use Rattle.snapshot.specs.Records.{Snapshot, Name, Crate, Dependency, Map, Module, Child, Prelude, Definition, Scope, Import, Extern, nameAt, crateAt, dependencyAt, mapAt, moduleAt, childAt, preludeAt, definitionAt, scopeAt, importAt, externAt}
-use Rattle.accept.specs.Tests.{countsOf, nameRange, sameName, crateRange, isEdition, dependencyRange, dependencyDefined, mapRange, mapDefined, mapRepeated, mapPlaced, moduleDefined, modulePlaced, childDefined, sameChild, childPlaced, preludeDefined, samePrelude, definitionRange, definitionDefined, definitionRepeated, definitionPlaced, scopeRange, scopeDefined, sameEntry, nsPlaced, importRange, importDefined, externDefined, sameExtern, mapsFilled, cratesOwn}
-use Rattle.accept.specs.Steps.{Next, no, on, need, judge, judgeCrate, addName, addCrate, addDependency, addMap, addModule, addChild, addPrelude, addDefinition, addScope, addImport, addExtern, nameStep, crateStep, dependencyStep, mapStep, moduleStep, childStep, preludeStep, definitionStep, scopeStep, importStep, externStep}
+use Rattle.snapshot.specs.Records.{Snapshot, Name, Crate, Dependency, Map, Module, Child, Prelude, Definition, Scope, Import, Extern, Member, nameAt, crateAt, dependencyAt, mapAt, moduleAt, childAt, preludeAt, definitionAt, scopeAt, importAt, externAt, memberAt}
+use Rattle.accept.specs.Tests.{countsOf, nameRange, sameName, crateRange, isEdition, dependencyRange, dependencyDefined, mapRange, mapDefined, mapRepeated, mapPlaced, moduleDefined, modulePlaced, childDefined, sameChild, childPlaced, preludeDefined, samePrelude, definitionRange, definitionDefined, definitionRepeated, definitionPlaced, scopeRange, scopeDefined, sameEntry, nsPlaced, importRange, importDefined, externDefined, sameExtern, memberRange, memberDefined, memberPlaced, mapsFilled, cratesOwn}
+use Rattle.accept.specs.Steps.{Next, no, on, need, judge, judgeCrate, addName, addCrate, addDependency, addMap, addModule, addChild, addPrelude, addDefinition, addScope, addImport, addExtern, addMember, nameStep, crateStep, dependencyStep, mapStep, moduleStep, childStep, preludeStep, definitionStep, scopeStep, importStep, externStep, memberStep}
 use Rattle.accept.specs.Verdict.{follows, argumentsFrom, recordStep, stepAt, Verdict, refuse, accept, finish, records, empty, verdict}
 use Rattle.accept.proofs.Accepted.{by-test}
 use Rattle.accept.proofs.Bools.{or-none}
@@ -102,6 +102,11 @@ unfolding externStep
 extern-small s x =
     judge-small true (externDefined (countsOf s) x) (any (sameExtern x) (s .externs)) true true (addExtern s x)
 
+member-small : (s : Snapshot) (x : Member) → NextSmall (memberStep s x)
+unfolding memberStep
+member-small s x =
+    judge-small (memberRange x) (memberDefined (countsOf s) x) false (memberPlaced s x) true (addMember s x)
+
 record-small : (k : ℕ) (W : List ℕ) (at : ℕ) (s : Snapshot) → NextSmall (recordStep k W at s)
 unfolding recordStep
 record-small k W at s =
@@ -114,7 +119,8 @@ record-small k W at s =
     (either-next (eqb k 7) _ _ (prelude-small s (preludeAt W at))
     (either-next (eqb k 8) _ _ (definition-small s (definitionAt W at))
     (either-next (eqb k 9) _ _ (scope-small s (scopeAt W at))
-    (either-next (eqb k 10) _ _ (import-small s (importAt W at)) (extern-small s (externAt W at)))))))))))
+    (either-next (eqb k 10) _ _ (import-small s (importAt W at))
+    (either-next (eqb k 11) _ _ (extern-small s (externAt W at)) (member-small s (memberAt W at))))))))))))
 
 step-small : (W : List ℕ) (at last : ℕ) (s : Snapshot) → NextSmall (stepAt W at last s)
 unfolding stepAt

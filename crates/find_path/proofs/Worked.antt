@@ -9,7 +9,7 @@ use Rattle.snapshot.specs.Lists.{rows, any, all, eqList}
 use Rattle.snapshot.specs.Words.{argumentsOf}
 use Rattle.keywords.specs.Keywords.{isKeyword, isRaw}
 use Rattle.accept.specs.Tests.{textBound, padded}
-use Rattle.accept.specs.Steps.{nameStep, crateStep, dependencyStep, mapStep, moduleStep, childStep, preludeStep, definitionStep, scopeStep, importStep, externStep}
+use Rattle.accept.specs.Steps.{nameStep, crateStep, dependencyStep, mapStep, moduleStep, childStep, preludeStep, definitionStep, scopeStep, importStep, externStep, memberStep}
 use Rattle.accept.specs.Builtins.{packed}
 use Rattle.accept.specs.Verdict.{argumentsFrom, recordStep, stepAt, finish, records, verdict}
 use Rattle.accept.specs.Worked.{worked}
@@ -45,7 +45,7 @@ row d ns m p o f l = rowAt d ns m p o f 15 l
 
 -- the lines are those of the questions
 unfoldable pub passes : List ℕ → List Row → Bool
-unfolding lineOf snapshotOf lineIn lineParts pathText prefixParts joined decimal decimalTo writtenOf editionIn isRaw isKeyword textOf unpacked reportOf reportUnless reportBy answerUnless searched reported flag refused questionFault callFault findPath fromItem builtinChoice fromHome searchItem itemTo searchModule moduleTo bestLocal searchLocal localTo findPathInner ofModule byName orEnum viaEnum afterEnum findPathForModule orCharged calculateBestPath afterCharge goOn findInSysroot findInDeps findInDep findImports findImport offerImport pushVariant isAt variantOf oneOrNone langs fromTank filled draw drained findPathForModuleLocal orLocal calculateBestPathLocal eachLocation location importableName entryIf offerEntry offer moduleRules keywordOf isKwKindRelativeToFrom parentKind rootRule externName externKind occupied isOther scopeEntry entryNamed preludeRule findInPrelude inPrelude preludeEntry sameHere scopeRule mayBeInScope findInScope single firstFound soughtOf contextOf moduleIn plainIf prefixPathKind findLocalImportLocations walk unmet leadsTo startFrom visited has lengthLeft shorterIf trySelect better taken comparePrelude andThen compareBool unstably push extended choiceNew keyword pathLen pathKindLen isPrelude nameData importInfoFor sysrootFirst langOf dependenciesOf externOf preludeOf childrenOf containers ancestorMaps steps stepsTo stepsOr modulesInScope get preferred orFirst namesOf nameOf isFor isVisibleFrom inModule climb climbStep unless met metTo metOr last lastTo lastOr homeOf homeBy nsOf sameItem itemOf containing orElse crateRoot ownMap rootOf crateData definitionOf mapOf moduleOf firstSome select placeOf firstOf verdict records stepAt recordStep finish argumentsFrom argumentsOf nameStep crateStep dependencyStep mapStep moduleStep childStep preludeStep definitionStep scopeStep importStep externStep textBound padded rows any all eqList
+unfolding lineOf snapshotOf lineIn lineParts pathText prefixParts joined decimal decimalTo writtenOf editionIn isRaw isKeyword textOf unpacked reportOf reportUnless reportBy answerUnless searched reported flag refused questionFault callFault findPath fromItem builtinChoice fromHome searchItem itemTo searchModule moduleTo bestLocal searchLocal localTo findPathInner ofModule byName orEnum viaEnum afterEnum findPathForModule orCharged calculateBestPath afterCharge goOn findInSysroot findInDeps findInDep findImports findImport offerImport pushVariant isAt variantOf oneOrNone langs fromTank filled draw drained findPathForModuleLocal orLocal calculateBestPathLocal eachLocation location importableName entryIf offerEntry offer moduleRules keywordOf isKwKindRelativeToFrom parentKind rootRule externName externKind occupied isOther scopeEntry entryNamed preludeRule findInPrelude inPrelude preludeEntry sameHere scopeRule mayBeInScope findInScope single firstFound soughtOf contextOf moduleIn plainIf prefixPathKind findLocalImportLocations walk unmet leadsTo startFrom visited has lengthLeft shorterIf trySelect better taken comparePrelude andThen compareBool unstably push extended choiceNew keyword pathLen pathKindLen isPrelude nameData importInfoFor sysrootFirst langOf dependenciesOf externOf preludeOf childrenOf containers ancestorMaps steps stepsTo stepsOr modulesInScope get preferred orFirst namesOf nameOf isFor isVisibleFrom inModule climb climbStep unless met metTo metOr last lastTo lastOr homeOf homeBy nsOf sameItem itemOf containing orElse crateRoot ownMap rootOf crateData definitionOf mapOf moduleOf firstSome select placeOf firstOf verdict records stepAt recordStep finish argumentsFrom argumentsOf nameStep crateStep dependencyStep mapStep moduleStep childStep preludeStep definitionStep scopeStep importStep externStep memberStep textBound padded rows any all eqList
 passes words table = all (λ r. eqList (lineOf words (r .question)) (bytesOf (r .line))) table
 
 -- module 0 is the root, module 1 its child `a`, definition 0 the module `a`, definition 1 a function `f` in it
@@ -100,8 +100,8 @@ withDependency =
     ∷ head 8 4 ∷ 3 ∷ 0 ∷ head 8 2 ∷ 12 ∷ 5
     ∷ head 8 4 ∷ 3 ∷ 0
     -- scopes
-    ∷ head 9 0 ∷ 0 ∷ 2 ∷ 0 ∷ 0 ∷ 0 ∷ 1 ∷ head 9 1 ∷ 0 ∷ 1 ∷ 2 ∷ 3 ∷ 1 ∷ 0 ∷ head 9 2 ∷ 0 ∷ 3 ∷ 1 ∷ 0 ∷ 0 ∷ 1
-    ∷ head 9 3 ∷ 0 ∷ 4 ∷ 2 ∷ 0 ∷ 0 ∷ 1
+    ∷ head 9 0 ∷ 0 ∷ 2 ∷ 0 ∷ 0 ∷ 0 ∷ 1 ∷ 0 ∷ head 9 1 ∷ 0 ∷ 1 ∷ 2 ∷ 3 ∷ 1 ∷ 0 ∷ 0 ∷ head 9 2 ∷ 0 ∷ 3 ∷ 1 ∷ 0 ∷ 0 ∷ 1 ∷ 0
+    ∷ head 9 3 ∷ 0 ∷ 4 ∷ 2 ∷ 0 ∷ 0 ∷ 1 ∷ 0
     -- imports
     ∷ head 10 1 ∷ 0 ∷ 2 ∷ 4 ∷ 3 ∷ 0 ∷ head 10 1 ∷ 0 ∷ 1 ∷ 3 ∷ 2 ∷ 0 ∷ head 10 1 ∷ 0 ∷ 6 ∷ 7 ∷ 2 ∷ 2
     ∷ head 10 1 ∷ 0 ∷ 7 ∷ 8 ∷ 3 ∷ 0 ∷ head 10 1 ∷ 0 ∷ 7 ∷ 8 ∷ 2 ∷ 0 ∷ head 10 1 ∷ 0 ∷ 8 ∷ 9 ∷ 2 ∷ 1
@@ -169,7 +169,7 @@ withStd =
     ∷ head 4 0 ∷ 1 ∷ 0 ∷ head 5 3 ∷ 0
     ∷ head 7 3 ∷ 2
     ∷ head 8 4 ∷ 1 ∷ 0 ∷ head 8 1 ∷ 2 ∷ 0 ∷ head 8 4 ∷ 2 ∷ 0 ∷ head 8 5 ∷ 1 ∷ 0 ∷ head 8 4 ∷ 1 ∷ 0
-    ∷ head 9 2 ∷ 0 ∷ 3 ∷ 2 ∷ 0 ∷ 0 ∷ 1
+    ∷ head 9 2 ∷ 0 ∷ 3 ∷ 2 ∷ 0 ∷ 0 ∷ 1 ∷ 0
     ∷ head 10 1 ∷ 0 ∷ 0 ∷ 2 ∷ 1 ∷ 0 ∷ head 10 2 ∷ 0 ∷ 0 ∷ 2 ∷ 2 ∷ 0 ∷ head 10 1 ∷ 2 ∷ 3 ∷ 4 ∷ 1 ∷ 0
     ∷ head 10 1 ∷ 0 ∷ 4 ∷ 5 ∷ 1 ∷ 2 ∷ head 10 2 ∷ 0 ∷ 4 ∷ 5 ∷ 2 ∷ 0
     ∷ head 11 0 ∷ 0 ∷ 1 ∷ head 11 0 ∷ 1 ∷ 2 ∷ [])
@@ -222,21 +222,21 @@ withModules =
     ∷ head 8 4 ∷ 1 ∷ 0 ∷ head 8 4 ∷ 5 ∷ 0 ∷ head 8 4 ∷ 1 ∷ 0 ∷ head 8 4 ∷ 7 ∷ 0 ∷ head 8 4 ∷ 0 ∷ 0 ∷ head 8 4 ∷ 7 ∷ 0
     ∷ head 8 4 ∷ 6 ∷ 0 ∷ head 8 4 ∷ 6 ∷ 0 ∷ head 8 4 ∷ 1 ∷ 0
     -- scopes: the modules
-    ∷ head 9 0 ∷ 0 ∷ 0 ∷ 0 ∷ 0 ∷ 0 ∷ 1 ∷ head 9 0 ∷ 0 ∷ 1 ∷ 1 ∷ 0 ∷ 0 ∷ 1 ∷ head 9 0 ∷ 0 ∷ 2 ∷ 2 ∷ 0 ∷ 0 ∷ 1
-    ∷ head 9 0 ∷ 0 ∷ 3 ∷ 3 ∷ 0 ∷ 0 ∷ 1 ∷ head 9 1 ∷ 0 ∷ 4 ∷ 4 ∷ 0 ∷ 0 ∷ 1 ∷ head 9 1 ∷ 0 ∷ 5 ∷ 5 ∷ 0 ∷ 0 ∷ 1
+    ∷ head 9 0 ∷ 0 ∷ 0 ∷ 0 ∷ 0 ∷ 0 ∷ 1 ∷ 0 ∷ head 9 0 ∷ 0 ∷ 1 ∷ 1 ∷ 0 ∷ 0 ∷ 1 ∷ 0 ∷ head 9 0 ∷ 0 ∷ 2 ∷ 2 ∷ 0 ∷ 0 ∷ 1 ∷ 0
+    ∷ head 9 0 ∷ 0 ∷ 3 ∷ 3 ∷ 0 ∷ 0 ∷ 1 ∷ 0 ∷ head 9 1 ∷ 0 ∷ 4 ∷ 4 ∷ 0 ∷ 0 ∷ 1 ∷ 0 ∷ head 9 1 ∷ 0 ∷ 5 ∷ 5 ∷ 0 ∷ 0 ∷ 1 ∷ 0
     -- scopes: the others, in order
-    ∷ head 9 1 ∷ 0 ∷ 6 ∷ 6 ∷ 0 ∷ 0 ∷ 1 ∷ head 9 2 ∷ 0 ∷ 7 ∷ 6 ∷ 0 ∷ 0 ∷ 0
-    ∷ head 9 3 ∷ 0 ∷ 6 ∷ 7 ∷ 0 ∷ 0 ∷ 0 ∷ head 9 5 ∷ 0 ∷ 6 ∷ 7 ∷ 0 ∷ 0 ∷ 1
-    ∷ head 9 3 ∷ 0 ∷ 7 ∷ 8 ∷ 0 ∷ 0 ∷ 0 ∷ head 9 4 ∷ 0 ∷ 7 ∷ 8 ∷ 0 ∷ 0 ∷ 1
-    ∷ head 9 1 ∷ 0 ∷ 2 ∷ 9 ∷ 0 ∷ 0 ∷ 1 ∷ head 9 2 ∷ 0 ∷ 9 ∷ 9 ∷ 0 ∷ 0 ∷ 0
-    ∷ head 9 1 ∷ 0 ∷ 9 ∷ 10 ∷ 0 ∷ 0 ∷ 1 ∷ head 9 2 ∷ 0 ∷ 2 ∷ 10 ∷ 0 ∷ 0 ∷ 0 ∷ head 9 4 ∷ 0 ∷ 9 ∷ 10 ∷ 0 ∷ 0 ∷ 0
-    ∷ head 9 1 ∷ 0 ∷ 12 ∷ 11 ∷ 3 ∷ 0 ∷ 0 ∷ head 9 2 ∷ 0 ∷ 8 ∷ 11 ∷ 0 ∷ 0 ∷ 0
-    ∷ head 9 1 ∷ 0 ∷ 13 ∷ 12 ∷ 2 ∷ 1 ∷ 1 ∷ head 9 2 ∷ 0 ∷ 4 ∷ 12 ∷ 0 ∷ 0 ∷ 0
-    ∷ head 9 5 ∷ 0 ∷ 7 ∷ 13 ∷ 0 ∷ 0 ∷ 1 ∷ head 9 0 ∷ 0 ∷ 6 ∷ 13 ∷ 0 ∷ 0 ∷ 0
-    ∷ head 9 1 ∷ 0 ∷ 10 ∷ 14 ∷ 0 ∷ 0 ∷ 1 ∷ head 9 0 ∷ 0 ∷ 14 ∷ 14 ∷ 0 ∷ 0 ∷ 0
-    ∷ head 9 7 ∷ 0 ∷ 11 ∷ 15 ∷ 0 ∷ 0 ∷ 1 ∷ head 9 0 ∷ 0 ∷ 12 ∷ 16 ∷ 2 ∷ 7 ∷ 1 ∷ head 9 0 ∷ 0 ∷ 13 ∷ 17 ∷ 2 ∷ 9 ∷ 1
-    ∷ head 9 6 ∷ 0 ∷ 14 ∷ 18 ∷ 0 ∷ 0 ∷ 1 ∷ head 9 6 ∷ 0 ∷ 7 ∷ 19 ∷ 2 ∷ 6 ∷ 1
-    ∷ head 9 1 ∷ 0 ∷ 7 ∷ 20 ∷ 2 ∷ 1 ∷ 1 ∷ head 9 1 ∷ 0 ∷ 8 ∷ 20 ∷ 0 ∷ 0 ∷ 0 ∷ [])
+    ∷ head 9 1 ∷ 0 ∷ 6 ∷ 6 ∷ 0 ∷ 0 ∷ 1 ∷ 0 ∷ head 9 2 ∷ 0 ∷ 7 ∷ 6 ∷ 0 ∷ 0 ∷ 0 ∷ 0
+    ∷ head 9 3 ∷ 0 ∷ 6 ∷ 7 ∷ 0 ∷ 0 ∷ 0 ∷ 0 ∷ head 9 5 ∷ 0 ∷ 6 ∷ 7 ∷ 0 ∷ 0 ∷ 1 ∷ 0
+    ∷ head 9 3 ∷ 0 ∷ 7 ∷ 8 ∷ 0 ∷ 0 ∷ 0 ∷ 0 ∷ head 9 4 ∷ 0 ∷ 7 ∷ 8 ∷ 0 ∷ 0 ∷ 1 ∷ 0
+    ∷ head 9 1 ∷ 0 ∷ 2 ∷ 9 ∷ 0 ∷ 0 ∷ 1 ∷ 0 ∷ head 9 2 ∷ 0 ∷ 9 ∷ 9 ∷ 0 ∷ 0 ∷ 0 ∷ 0
+    ∷ head 9 1 ∷ 0 ∷ 9 ∷ 10 ∷ 0 ∷ 0 ∷ 1 ∷ 0 ∷ head 9 2 ∷ 0 ∷ 2 ∷ 10 ∷ 0 ∷ 0 ∷ 0 ∷ 0 ∷ head 9 4 ∷ 0 ∷ 9 ∷ 10 ∷ 0 ∷ 0 ∷ 0 ∷ 0
+    ∷ head 9 1 ∷ 0 ∷ 12 ∷ 11 ∷ 3 ∷ 0 ∷ 0 ∷ 0 ∷ head 9 2 ∷ 0 ∷ 8 ∷ 11 ∷ 0 ∷ 0 ∷ 0 ∷ 0
+    ∷ head 9 1 ∷ 0 ∷ 13 ∷ 12 ∷ 2 ∷ 1 ∷ 1 ∷ 0 ∷ head 9 2 ∷ 0 ∷ 4 ∷ 12 ∷ 0 ∷ 0 ∷ 0 ∷ 0
+    ∷ head 9 5 ∷ 0 ∷ 7 ∷ 13 ∷ 0 ∷ 0 ∷ 1 ∷ 0 ∷ head 9 0 ∷ 0 ∷ 6 ∷ 13 ∷ 0 ∷ 0 ∷ 0 ∷ 0
+    ∷ head 9 1 ∷ 0 ∷ 10 ∷ 14 ∷ 0 ∷ 0 ∷ 1 ∷ 0 ∷ head 9 0 ∷ 0 ∷ 14 ∷ 14 ∷ 0 ∷ 0 ∷ 0 ∷ 0
+    ∷ head 9 7 ∷ 0 ∷ 11 ∷ 15 ∷ 0 ∷ 0 ∷ 1 ∷ 0 ∷ head 9 0 ∷ 0 ∷ 12 ∷ 16 ∷ 2 ∷ 7 ∷ 1 ∷ 0 ∷ head 9 0 ∷ 0 ∷ 13 ∷ 17 ∷ 2 ∷ 9 ∷ 1 ∷ 0
+    ∷ head 9 6 ∷ 0 ∷ 14 ∷ 18 ∷ 0 ∷ 0 ∷ 1 ∷ 0 ∷ head 9 6 ∷ 0 ∷ 7 ∷ 19 ∷ 2 ∷ 6 ∷ 1 ∷ 0
+    ∷ head 9 1 ∷ 0 ∷ 7 ∷ 20 ∷ 2 ∷ 1 ∷ 1 ∷ 0 ∷ head 9 1 ∷ 0 ∷ 8 ∷ 20 ∷ 0 ∷ 0 ∷ 0 ∷ 0 ∷ [])
 
 -- Worked out by hand from find_path.rs. Each item asked for costs one charge; the search in the crate is free.
 pub moduleCases : List Row
@@ -296,10 +296,10 @@ withKeywords e =
     ∷ head 6 0 ∷ 1 ∷ head 6 0 ∷ 2 ∷ head 6 0 ∷ 3 ∷ head 6 0 ∷ 4 ∷ head 6 0 ∷ 5
     ∷ head 8 1 ∷ 1 ∷ 0 ∷ head 8 1 ∷ 2 ∷ 0 ∷ head 8 1 ∷ 3 ∷ 0 ∷ head 8 1 ∷ 4 ∷ 0 ∷ head 8 1 ∷ 5 ∷ 0
     ∷ head 8 4 ∷ 1 ∷ 0 ∷ head 8 4 ∷ 2 ∷ 0 ∷ head 8 4 ∷ 3 ∷ 0 ∷ head 8 4 ∷ 4 ∷ 0 ∷ head 8 4 ∷ 5 ∷ 0 ∷ head 8 4 ∷ 6 ∷ 0
-    ∷ head 9 0 ∷ 0 ∷ 0 ∷ 0 ∷ 0 ∷ 0 ∷ 1 ∷ head 9 0 ∷ 0 ∷ 1 ∷ 1 ∷ 0 ∷ 0 ∷ 1 ∷ head 9 0 ∷ 0 ∷ 2 ∷ 2 ∷ 0 ∷ 0 ∷ 1
-    ∷ head 9 0 ∷ 0 ∷ 3 ∷ 3 ∷ 0 ∷ 0 ∷ 1 ∷ head 9 0 ∷ 0 ∷ 4 ∷ 4 ∷ 0 ∷ 0 ∷ 1
-    ∷ head 9 1 ∷ 0 ∷ 5 ∷ 5 ∷ 0 ∷ 0 ∷ 1 ∷ head 9 2 ∷ 0 ∷ 5 ∷ 6 ∷ 0 ∷ 0 ∷ 1 ∷ head 9 3 ∷ 0 ∷ 5 ∷ 7 ∷ 0 ∷ 0 ∷ 1
-    ∷ head 9 4 ∷ 0 ∷ 5 ∷ 8 ∷ 0 ∷ 0 ∷ 1 ∷ head 9 5 ∷ 0 ∷ 5 ∷ 9 ∷ 0 ∷ 0 ∷ 1 ∷ head 9 6 ∷ 0 ∷ 2 ∷ 10 ∷ 0 ∷ 0 ∷ 1
+    ∷ head 9 0 ∷ 0 ∷ 0 ∷ 0 ∷ 0 ∷ 0 ∷ 1 ∷ 0 ∷ head 9 0 ∷ 0 ∷ 1 ∷ 1 ∷ 0 ∷ 0 ∷ 1 ∷ 0 ∷ head 9 0 ∷ 0 ∷ 2 ∷ 2 ∷ 0 ∷ 0 ∷ 1 ∷ 0
+    ∷ head 9 0 ∷ 0 ∷ 3 ∷ 3 ∷ 0 ∷ 0 ∷ 1 ∷ 0 ∷ head 9 0 ∷ 0 ∷ 4 ∷ 4 ∷ 0 ∷ 0 ∷ 1 ∷ 0
+    ∷ head 9 1 ∷ 0 ∷ 5 ∷ 5 ∷ 0 ∷ 0 ∷ 1 ∷ 0 ∷ head 9 2 ∷ 0 ∷ 5 ∷ 6 ∷ 0 ∷ 0 ∷ 1 ∷ 0 ∷ head 9 3 ∷ 0 ∷ 5 ∷ 7 ∷ 0 ∷ 0 ∷ 1 ∷ 0
+    ∷ head 9 4 ∷ 0 ∷ 5 ∷ 8 ∷ 0 ∷ 0 ∷ 1 ∷ 0 ∷ head 9 5 ∷ 0 ∷ 5 ∷ 9 ∷ 0 ∷ 0 ∷ 1 ∷ 0 ∷ head 9 6 ∷ 0 ∷ 2 ∷ 10 ∷ 0 ∷ 0 ∷ 1 ∷ 0
     ∷ head 10 1 ∷ 0 ∷ 10 ∷ 2 ∷ 6 ∷ 0 ∷ head 11 0 ∷ 6 ∷ 6 ∷ [])
 
 -- strict in every edition; weak; and what cannot be raw
@@ -363,7 +363,7 @@ first d ns m o f left sought =
 
 -- the reports say empty, and tell that
 unfoldable pub tells : List ℕ → List First → Bool
-unfolding reportOf reportUnless reportBy answerUnless searched reported flag refused questionFault callFault findPath fromItem builtinChoice fromHome searchItem itemTo searchModule moduleTo bestLocal searchLocal localTo findPathInner ofModule byName orEnum viaEnum afterEnum findPathForModule orCharged calculateBestPath afterCharge goOn findInSysroot findInDeps findInDep findImports findImport offerImport pushVariant isAt variantOf oneOrNone langs fromTank filled draw drained findPathForModuleLocal orLocal calculateBestPathLocal eachLocation location importableName entryIf offerEntry offer moduleRules keywordOf isKwKindRelativeToFrom parentKind rootRule externName externKind occupied isOther scopeEntry entryNamed preludeRule findInPrelude inPrelude preludeEntry sameHere scopeRule mayBeInScope findInScope single firstFound soughtOf contextOf moduleIn plainIf prefixPathKind findLocalImportLocations walk unmet leadsTo startFrom visited has lengthLeft shorterIf trySelect better taken comparePrelude andThen compareBool unstably push extended choiceNew keyword pathLen pathKindLen isPrelude nameData importInfoFor sysrootFirst langOf dependenciesOf externOf preludeOf childrenOf containers ancestorMaps steps stepsTo stepsOr modulesInScope get preferred orFirst namesOf nameOf isFor isVisibleFrom inModule climb climbStep unless met metTo metOr last lastTo lastOr homeOf homeBy nsOf sameItem itemOf containing orElse crateRoot ownMap rootOf crateData definitionOf mapOf moduleOf firstSome select placeOf firstOf verdict records stepAt recordStep finish argumentsFrom argumentsOf nameStep crateStep dependencyStep mapStep moduleStep childStep preludeStep definitionStep scopeStep importStep externStep textBound padded rows any all eqList
+unfolding reportOf reportUnless reportBy answerUnless searched reported flag refused questionFault callFault findPath fromItem builtinChoice fromHome searchItem itemTo searchModule moduleTo bestLocal searchLocal localTo findPathInner ofModule byName orEnum viaEnum afterEnum findPathForModule orCharged calculateBestPath afterCharge goOn findInSysroot findInDeps findInDep findImports findImport offerImport pushVariant isAt variantOf oneOrNone langs fromTank filled draw drained findPathForModuleLocal orLocal calculateBestPathLocal eachLocation location importableName entryIf offerEntry offer moduleRules keywordOf isKwKindRelativeToFrom parentKind rootRule externName externKind occupied isOther scopeEntry entryNamed preludeRule findInPrelude inPrelude preludeEntry sameHere scopeRule mayBeInScope findInScope single firstFound soughtOf contextOf moduleIn plainIf prefixPathKind findLocalImportLocations walk unmet leadsTo startFrom visited has lengthLeft shorterIf trySelect better taken comparePrelude andThen compareBool unstably push extended choiceNew keyword pathLen pathKindLen isPrelude nameData importInfoFor sysrootFirst langOf dependenciesOf externOf preludeOf childrenOf containers ancestorMaps steps stepsTo stepsOr modulesInScope get preferred orFirst namesOf nameOf isFor isVisibleFrom inModule climb climbStep unless met metTo metOr last lastTo lastOr homeOf homeBy nsOf sameItem itemOf containing orElse crateRoot ownMap rootOf crateData definitionOf mapOf moduleOf firstSome select placeOf firstOf verdict records stepAt recordStep finish argumentsFrom argumentsOf nameStep crateStep dependencyStep mapStep moduleStep childStep preludeStep definitionStep scopeStep importStep externStep memberStep textBound padded rows any all eqList
 tells words table =
     all (λ r. eqList (reportOf words 16384 (r .question) .empty ∷ reportOf words 16384 (r .question) .left ∷ reportOf words 16384 (r .question) .sought ∷ [])
     (1 ∷ r .left ∷ r .sought ∷ [])) table
@@ -423,12 +423,12 @@ withOldNames =
     -- definitions
     ∷ head 8 1 ∷ 1 ∷ 0 ∷ head 8 1 ∷ 2 ∷ 0 ∷ head 8 4 ∷ 0 ∷ 0 ∷ head 8 4 ∷ 2 ∷ 0 ∷ head 8 4 ∷ 1 ∷ 0 ∷ head 8 4 ∷ 1 ∷ 0 ∷ head 8 4 ∷ 1 ∷ 0
     -- scopes
-    ∷ head 9 0 ∷ 0 ∷ 0 ∷ 0 ∷ 0 ∷ 0 ∷ 1 ∷ head 9 0 ∷ 0 ∷ 1 ∷ 1 ∷ 0 ∷ 0 ∷ 1
-    ∷ head 9 0 ∷ 0 ∷ 2 ∷ 2 ∷ 0 ∷ 0 ∷ 3 ∷ head 9 0 ∷ 0 ∷ 3 ∷ 2 ∷ 0 ∷ 0 ∷ 0 ∷ head 9 3 ∷ 0 ∷ 4 ∷ 2 ∷ 0 ∷ 0 ∷ 2
-    ∷ head 9 2 ∷ 0 ∷ 7 ∷ 3 ∷ 0 ∷ 0 ∷ 2 ∷ head 9 2 ∷ 0 ∷ 8 ∷ 3 ∷ 2 ∷ 2 ∷ 1 ∷ head 9 2 ∷ 0 ∷ 9 ∷ 3 ∷ 0 ∷ 0 ∷ 1
-    ∷ head 9 1 ∷ 0 ∷ 2 ∷ 4 ∷ 0 ∷ 0 ∷ 3 ∷ head 9 1 ∷ 0 ∷ 3 ∷ 4 ∷ 0 ∷ 0 ∷ 0
-    ∷ head 9 1 ∷ 0 ∷ 4 ∷ 5 ∷ 0 ∷ 0 ∷ 2 ∷ head 9 1 ∷ 0 ∷ 6 ∷ 5 ∷ 3 ∷ 0 ∷ 0
-    ∷ head 9 1 ∷ 0 ∷ 5 ∷ 6 ∷ 3 ∷ 0 ∷ 2 ∷ head 9 1 ∷ 0 ∷ 9 ∷ 6 ∷ 0 ∷ 0 ∷ 1 ∷ [])
+    ∷ head 9 0 ∷ 0 ∷ 0 ∷ 0 ∷ 0 ∷ 0 ∷ 1 ∷ 0 ∷ head 9 0 ∷ 0 ∷ 1 ∷ 1 ∷ 0 ∷ 0 ∷ 1 ∷ 0
+    ∷ head 9 0 ∷ 0 ∷ 2 ∷ 2 ∷ 0 ∷ 0 ∷ 3 ∷ 0 ∷ head 9 0 ∷ 0 ∷ 3 ∷ 2 ∷ 0 ∷ 0 ∷ 0 ∷ 0 ∷ head 9 3 ∷ 0 ∷ 4 ∷ 2 ∷ 0 ∷ 0 ∷ 2 ∷ 0
+    ∷ head 9 2 ∷ 0 ∷ 7 ∷ 3 ∷ 0 ∷ 0 ∷ 2 ∷ 0 ∷ head 9 2 ∷ 0 ∷ 8 ∷ 3 ∷ 2 ∷ 2 ∷ 1 ∷ 0 ∷ head 9 2 ∷ 0 ∷ 9 ∷ 3 ∷ 0 ∷ 0 ∷ 1 ∷ 0
+    ∷ head 9 1 ∷ 0 ∷ 2 ∷ 4 ∷ 0 ∷ 0 ∷ 3 ∷ 0 ∷ head 9 1 ∷ 0 ∷ 3 ∷ 4 ∷ 0 ∷ 0 ∷ 0 ∷ 0
+    ∷ head 9 1 ∷ 0 ∷ 4 ∷ 5 ∷ 0 ∷ 0 ∷ 2 ∷ 0 ∷ head 9 1 ∷ 0 ∷ 6 ∷ 5 ∷ 3 ∷ 0 ∷ 0 ∷ 0
+    ∷ head 9 1 ∷ 0 ∷ 5 ∷ 6 ∷ 3 ∷ 0 ∷ 2 ∷ 0 ∷ head 9 1 ∷ 0 ∷ 9 ∷ 6 ∷ 0 ∷ 0 ∷ 1 ∷ 0 ∷ [])
 
 -- Worked out by hand: without options bit 32 the lines are the Rust's for 0 and 1 in place of 2 and 3.
 pub oldNameCases : List Row
@@ -508,18 +508,18 @@ dependency-limits = refl
 -- Lines with their routes. The rules were worked out by hand, the offsets read off a list of the records in the words.
 
 unfoldable pub routes : List ℕ → List Row → Bool
-unfolding routedLineOf routedLineIn routeText stepsText stepText snapshotOf lineIn lineParts pathText prefixParts joined decimal decimalTo writtenOf editionIn isRaw isKeyword textOf unpacked reportOf reportUnless reportBy answerUnless searched reported flag refused questionFault callFault findPath fromItem builtinChoice fromHome searchItem itemTo searchModule moduleTo bestLocal searchLocal localTo findPathInner ofModule byName orEnum viaEnum afterEnum findPathForModule orCharged calculateBestPath afterCharge goOn findInSysroot findInDeps findInDep findImports findImport offerImport pushVariant isAt variantOf oneOrNone langs fromTank filled draw drained findPathForModuleLocal orLocal calculateBestPathLocal eachLocation location importableName entryIf offerEntry offer moduleRules keywordOf isKwKindRelativeToFrom parentKind rootRule externName externKind occupied isOther scopeEntry entryNamed preludeRule findInPrelude inPrelude preludeEntry sameHere scopeRule mayBeInScope findInScope single firstFound soughtOf contextOf moduleIn plainIf prefixPathKind findLocalImportLocations walk unmet leadsTo startFrom visited has lengthLeft shorterIf trySelect better taken comparePrelude andThen compareBool unstably push extended choiceNew keyword pathLen pathKindLen isPrelude nameData importInfoFor sysrootFirst langOf dependenciesOf externOf preludeOf childrenOf containers ancestorMaps steps stepsTo stepsOr modulesInScope get preferred orFirst namesOf nameOf isFor isVisibleFrom inModule climb climbStep unless met metTo metOr last lastTo lastOr homeOf homeBy nsOf sameItem itemOf containing orElse crateRoot ownMap rootOf crateData definitionOf mapOf moduleOf firstSome select placeOf firstOf verdict records stepAt recordStep finish argumentsFrom argumentsOf nameStep crateStep dependencyStep mapStep moduleStep childStep preludeStep definitionStep scopeStep importStep externStep textBound padded rows any all eqList
+unfolding routedLineOf routedLineIn routeText stepsText stepText snapshotOf lineIn lineParts pathText prefixParts joined decimal decimalTo writtenOf editionIn isRaw isKeyword textOf unpacked reportOf reportUnless reportBy answerUnless searched reported flag refused questionFault callFault findPath fromItem builtinChoice fromHome searchItem itemTo searchModule moduleTo bestLocal searchLocal localTo findPathInner ofModule byName orEnum viaEnum afterEnum findPathForModule orCharged calculateBestPath afterCharge goOn findInSysroot findInDeps findInDep findImports findImport offerImport pushVariant isAt variantOf oneOrNone langs fromTank filled draw drained findPathForModuleLocal orLocal calculateBestPathLocal eachLocation location importableName entryIf offerEntry offer moduleRules keywordOf isKwKindRelativeToFrom parentKind rootRule externName externKind occupied isOther scopeEntry entryNamed preludeRule findInPrelude inPrelude preludeEntry sameHere scopeRule mayBeInScope findInScope single firstFound soughtOf contextOf moduleIn plainIf prefixPathKind findLocalImportLocations walk unmet leadsTo startFrom visited has lengthLeft shorterIf trySelect better taken comparePrelude andThen compareBool unstably push extended choiceNew keyword pathLen pathKindLen isPrelude nameData importInfoFor sysrootFirst langOf dependenciesOf externOf preludeOf childrenOf containers ancestorMaps steps stepsTo stepsOr modulesInScope get preferred orFirst namesOf nameOf isFor isVisibleFrom inModule climb climbStep unless met metTo metOr last lastTo lastOr homeOf homeBy nsOf sameItem itemOf containing orElse crateRoot ownMap rootOf crateData definitionOf mapOf moduleOf firstSome select placeOf firstOf verdict records stepAt recordStep finish argumentsFrom argumentsOf nameStep crateStep dependencyStep mapStep moduleStep childStep preludeStep definitionStep scopeStep importStep externStep memberStep textBound padded rows any all eqList
 routes words table = all (λ r. eqList (routedLineOf words (r .question)) (bytesOf (r .line))) table
 
 pub workedRoutes : List Row
 workedRoutes =
-    row 1 1 0 1 0 1 "found a::f 1 0 scope@21 local@28"
+    row 1 1 0 1 0 1 "found a::f 1 0 scope@21 local@29"
     -- a prefix comes with the first name
-    ∷ row 1 1 0 0 0 9 "found self::a::f 1 0 scope@21 local@28"
-    ∷ row 1 1 0 2 0 9 "found crate::a::f 1 0 scope@21 local@28"
-    ∷ row 1 1 1 1 0 0 "found f 0 0 scope@28"
+    ∷ row 1 1 0 0 0 9 "found self::a::f 1 0 scope@21 local@29"
+    ∷ row 1 1 0 2 0 9 "found crate::a::f 1 0 scope@21 local@29"
+    ∷ row 1 1 1 1 0 0 "found f 0 0 scope@29"
     -- a keyword without names
-    ∷ row 1 1 1 2 0 9 "found crate::a::f 1 0 keyword@0 local@21 local@28"
+    ∷ row 1 1 1 2 0 9 "found crate::a::f 1 0 keyword@0 local@21 local@29"
     ∷ row 0 0 1 1 0 9 "found self 0 0 keyword@0"
     ∷ row 0 0 1 2 0 9 "found crate::a 1 0 keyword@0 local@21"
     -- no path, no route
@@ -533,17 +533,17 @@ worked-routes = refl
 
 pub dependencyRoutes : List Row
 dependencyRoutes =
-    row 2 0 0 1 0 9 "found alias::inner::T 2 0 extern@213 import@132 import@126"
-    ∷ row 2 0 0 2 4 9 "found ::alias::inner::T 2 0 extern@213 import@132 import@126"
-    ∷ row 2 0 1 0 0 0 "found self::alias 0 0 scope@105"
+    row 2 0 0 1 0 9 "found alias::inner::T 2 0 extern@217 import@136 import@130"
+    ∷ row 2 0 0 2 4 9 "found ::alias::inner::T 2 0 extern@217 import@136 import@130"
+    ∷ row 2 0 1 0 0 0 "found self::alias 0 0 scope@106"
     -- a variant by its own definition, or by an import
-    ∷ row 3 1 0 1 0 2 "found alias::inner::T::V 2 0 extern@213 import@132 import@126 variant@62"
-    ∷ row 13 1 0 1 0 9 "found alias::H 2 0 extern@213 import@192"
-    ∷ row 4 0 0 1 0 0 "found alias 0 0 extern@213"
-    ∷ row 6 0 0 1 8 9 "found alias::U 1 0 extern@213 import@138"
+    ∷ row 3 1 0 1 0 2 "found alias::inner::T::V 2 0 extern@217 import@136 import@130 variant@62"
+    ∷ row 13 1 0 1 0 9 "found alias::H 2 0 extern@217 import@196"
+    ∷ row 4 0 0 1 0 0 "found alias 0 0 extern@217"
+    ∷ row 6 0 0 1 8 9 "found alias::U 1 0 extern@217 import@142"
     -- of two imports the one that was chosen
-    ∷ row 7 0 0 1 0 9 "found alias::W 2 0 extern@213 import@150"
-    ∷ row 10 0 0 1 8 9 "found alias::inner::dep 3 0 extern@213 import@132 import@174"
+    ∷ row 7 0 0 1 0 9 "found alias::W 2 0 extern@217 import@154"
+    ∷ row 10 0 0 1 8 9 "found alias::inner::dep 3 0 extern@217 import@136 import@178"
     ∷ row 5 0 0 1 0 0 "found u8 0 0 builtin@68"
     ∷ []
 
@@ -553,8 +553,8 @@ dependency-routes = refl
 
 pub stdRoutes : List Row
 stdRoutes =
-    row 0 0 0 1 0 9 "found core::O 1 0 extern@99 import@69"
-    ∷ row 0 0 3 1 0 9 "found std::O 1 0 extern@102 import@75"
+    row 0 0 0 1 0 9 "found core::O 1 0 extern@100 import@70"
+    ∷ row 0 0 3 1 0 9 "found std::O 1 0 extern@103 import@76"
     ∷ row 2 0 3 1 0 0 "found P 0 0 prelude@62"
     ∷ []
 
@@ -564,14 +564,14 @@ std-routes = refl
 
 pub moduleRoutes : List Row
 moduleRoutes =
-    row 6 0 0 1 0 9 "found a::x 1 0 scope@141 local@183"
-    ∷ row 13 0 1 1 0 9 "found inner::y 1 0 scope@169 local@288"
-    ∷ row 13 0 1 0 0 9 "found crate::x 1 0 keyword@0 local@295"
+    row 6 0 0 1 0 9 "found a::x 1 0 scope@141 local@189"
+    ∷ row 13 0 1 1 0 9 "found inner::y 1 0 scope@173 local@309"
+    ∷ row 13 0 1 0 0 9 "found crate::x 1 0 keyword@0 local@317"
     ∷ row 0 0 5 1 0 0 "found super 0 0 keyword@0"
-    ∷ row 14 0 7 1 0 0 "found s 0 0 scope@302"
-    ∷ row 20 0 1 1 0 9 "found y 0 0 scope@351"
-    ∷ row 18 0 1 1 0 0 "found w 0 0 prelude@337"
-    ∷ row 18 0 0 1 0 9 "found a::e::w 1 0 scope@141 local@176 local@337"
+    ∷ row 14 0 7 1 0 0 "found s 0 0 scope@325"
+    ∷ row 20 0 1 1 0 9 "found y 0 0 scope@381"
+    ∷ row 18 0 1 1 0 0 "found w 0 0 prelude@365"
+    ∷ row 18 0 0 1 0 9 "found a::e::w 1 0 scope@141 local@181 local@365"
     ∷ []
 
 pub module-routes : routes withModules moduleRoutes ≡ true
@@ -580,11 +580,11 @@ module-routes = refl
 
 pub oldNameRoutes : List Row
 oldNameRoutes =
-    row 2 0 0 1 0 0 "found old 0 0 scope@77"
-    ∷ row 2 0 0 1 32 0 "found new 0 0 scope@84"
-    ∷ row 3 0 0 1 32 0 "found z 0 0 prelude@112"
-    ∷ row 4 0 0 1 0 9 "found m::old 1 0 scope@63 local@119"
-    ∷ row 4 0 0 1 32 9 "found m::new 1 0 scope@63 local@126"
+    row 2 0 0 1 0 0 "found old 0 0 scope@79"
+    ∷ row 2 0 0 1 32 0 "found new 0 0 scope@87"
+    ∷ row 3 0 0 1 32 0 "found z 0 0 prelude@119"
+    ∷ row 4 0 0 1 0 9 "found m::old 1 0 scope@63 local@127"
+    ∷ row 4 0 0 1 32 9 "found m::new 1 0 scope@63 local@135"
     ∷ []
 
 pub old-name-routes : routes withOldNames oldNameRoutes ≡ true

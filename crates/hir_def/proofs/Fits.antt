@@ -76,11 +76,11 @@ module _ (W A : List ℕ) (l : Layout) (r : Reads W A l) where
   lang-fits c lang h e = each-first _ _ (each-select _ (ranges .dependencies)) (sym e)
 
   -- the scope record of a number
-  pub scope-fits : {j h b : ℕ} → j < l .scopes → b ≡ scopeBase l → h ≡ b + 7 * j → ScopeFits (countsIn l) (scopeAt W h)
-  scope-fits {j} i eb eh = subst (λ h. ScopeFits (countsIn l) (scopeAt W h)) (sym (eh ∙ ap (λ x. x + 7 * j) eb)) (scope-read W A l valid j i)
+  pub scope-fits : {j h b : ℕ} → j < l .scopes → b ≡ scopeBase l → h ≡ b + 8 * j → ScopeFits (countsIn l) (scopeAt W h)
+  scope-fits {j} i eb eh = subst (λ h. ScopeFits (countsIn l) (scopeAt W h)) (sym (eh ∙ ap (λ x. x + 8 * j) eb)) (scope-read W A l valid j i)
 
   -- the record that an enumeration meets
-  pub module-meets : {p : Scope → Bool} {k j h : ℕ} → Meets p scopeAt 7 W (scopeBase l) (l .scopes) k j h → ScopeFits (countsIn l) (scopeAt W h)
+  pub module-meets : {p : Scope → Bool} {k j h : ℕ} → Meets p scopeAt 8 W (scopeBase l) (l .scopes) k j h → ScopeFits (countsIn l) (scopeAt W h)
   module-meets {j = j} x = subst (λ h. ScopeFits (countsIn l) (scopeAt W h)) (sym (x .head)) (scope-read W A l valid j (x .below))
 
   pub import-meets : {p : Import → Bool} {k j h : ℕ} → Meets p importAt 6 W (importBase l) (l .imports) k j h → ImportFits (countsIn l) (importAt W h)

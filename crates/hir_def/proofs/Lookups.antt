@@ -279,9 +279,9 @@ module _ (W A : List ℕ) (l : Layout) where
       first-select (isLangSysroot (snapOf W A l) lang) (isDependency c) (snapOf W A l .dependencies)
       ∙ rows-whole (firstOf (λ d. isDependency c d && isLangSysroot (snapOf W A l) lang d)) (λ i. dependencyAt W (dependencyBase l + 3 * i)) (l .dependencies)
 
-  pub modules-whole : (m : ℕ) → modulesInScope (snapOf W A l) m ≡ leftOf (isModuleEntry (snapOf W A l) m) (λ i. scopeAt W (scopeBase l + 7 * i)) (l .scopes) 0
+  pub modules-whole : (m : ℕ) → modulesInScope (snapOf W A l) m ≡ leftOf (isModuleEntry (snapOf W A l) m) (λ i. scopeAt W (scopeBase l + 8 * i)) (l .scopes) 0
   unfolding modulesInScope
-  modules-whole m = rows-whole (select (isModuleEntry (snapOf W A l) m)) (λ i. scopeAt W (scopeBase l + 7 * i)) (l .scopes)
+  modules-whole m = rows-whole (select (isModuleEntry (snapOf W A l) m)) (λ i. scopeAt W (scopeBase l + 8 * i)) (l .scopes)
 
   pub imports-whole : (c : ℕ) (item : Item) → importInfoFor (snapOf W A l) c item ≡ leftOf (isImport (snapOf W A l) c item) (λ i. importAt W (importBase l + 6 * i)) (l .imports) 0
   unfolding importInfoFor

@@ -24,6 +24,7 @@ plain e =
       visibility = e .visibility;
       number = e .number;
       declared = e .declared % 2;
+      bits = e .bits;
       place = e .place;
     }
 
@@ -42,6 +43,7 @@ plainly s =
       scopes = map plain (s .scopes);
       imports = s .imports;
       externs = s .externs;
+      members = s .members;
     }
 
 abbrev pub plainOf : Option Scope → Option Scope

@@ -29,8 +29,8 @@ use snapshot::record::definition_second;
 use snapshot::table::name_head;
 use snapshot::words::word;
 
-// The kind of a definition that is there, or another number.
-fn kind_at(words: &[u32], l: Layout, d: DefinitionId) -> usize
+/// The kind of a definition that is there, or another number.
+pub fn kind_at(words: &[u32], l: Layout, d: DefinitionId) -> usize
     requires { ⌜ (wordCount l < 2 ^ 32) × (d .0 < 2 ^ 32) ⌝ }
     ensures { λ r. ⌜ r ≡ definitionAt (now (words .entry)) (definitionBase l + 3 * d .0) .kind ⌝ }
 {

@@ -15,6 +15,7 @@ use record_rules::judge::Step;
 use record_rules::judge::judge;
 use records::repeats::repeated_with;
 use snapshot::layout::Layout;
+use snapshot::record::scope_bits;
 use snapshot::record::scope_declared;
 use snapshot::record::scope_definition;
 use snapshot::record::scope_name;
@@ -32,6 +33,7 @@ fn in_range(words: &[u32], at: usize) -> bool
         & (visibility <= 3)
         & ((visibility != 0) | (number == 0))
         & (scope_declared(words, at) <= 3)
+        & (scope_bits(words, at) <= 3)
 }
 
 fn defined(words: &[u32], l: Layout, at: usize) -> bool
@@ -48,8 +50,8 @@ fn defined(words: &[u32], l: Layout, at: usize) -> bool
 
 /// An entry.
 pub fn step(words: &[u32], area: &mut [u32], l: Layout, at: usize) -> Step
-    requires { ⌜ Ready (now words) (now area) l at (at + 7) ⌝ }
-    ensures { λ r. ⌜ ((ms : List Map) → Stands (now (words .entry)) (now (area .entry)) 9 at l ms → Answered (now (words .entry)) (now (area .exit)) 9 (at + 7) (scopeStep (snapWith (now (words .entry)) (now (area .entry)) l ms) (scopeAt (now (words .entry)) at)) r) ⌝ }
+    requires { ⌜ Ready (now words) (now area) l at (at + 8) ⌝ }
+    ensures { λ r. ⌜ ((ms : List Map) → Stands (now (words .entry)) (now (area .entry)) 9 at l ms → Answered (now (words .entry)) (now (area .exit)) 9 (at + 8) (scopeStep (snapWith (now (words .entry)) (now (area .entry)) l ms) (scopeAt (now (words .entry)) at)) r) ⌝ }
 {
     let key = record_key(words, at, 2);
     let count = l.scopes;
@@ -59,7 +61,7 @@ pub fn step(words: &[u32], area: &mut [u32], l: Layout, at: usize) -> Step
         2,
         at,
         l.scope_base(),
-        7,
+        8,
         count,
         Chains::SCOPE_HEADS,
         Chains::SCOPE_LINKS,

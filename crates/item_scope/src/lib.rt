@@ -70,12 +70,12 @@ fn is_entry(words: &[u32], l: Layout, h: usize, m: ModuleId, item: Item, declare
 /// The first of the module's entries for the item; of those declared there, where only such entries count. Counts the records that it reads.
 pub fn names_of(words: &[u32], l: Layout, m: ModuleId, item: Item, declared: bool) -> Lookup
     requires { ⌜ wordCount l < 2 ^ 32 ⌝ }
-    ensures { λ r. ⌜ ((A : List ℕ) → entryOf scopeAt (now (words .entry)) (r .entry) ≡ namesOf (snapOf (now (words .entry)) A l) (m .0) item (counts declared)) × ((A : List ℕ) → r .read ≡ namesReads (snapOf (now (words .entry)) A l) (m .0) item (counts declared)) × UpTo 7 (scopeBase l) (l .scopes) (r .entry) (r .read) ⌝ }
+    ensures { λ r. ⌜ ((A : List ℕ) → entryOf scopeAt (now (words .entry)) (r .entry) ≡ namesOf (snapOf (now (words .entry)) A l) (m .0) item (counts declared)) × ((A : List ℕ) → r .read ≡ namesReads (snapOf (now (words .entry)) A l) (m .0) item (counts declared)) × UpTo 8 (scopeBase l) (l .scopes) (r .entry) (r .read) ⌝ }
 {
     let base = l.scope_base();
     let mut read = 0;
     while read < l.scopes {
-        let h = base + 7 * read;
+        let h = base + 8 * read;
         read += 1;
         if is_entry(words, l, h, m, item, declared) {
             return Lookup {
@@ -93,7 +93,7 @@ pub fn names_of(words: &[u32], l: Layout, m: ModuleId, item: Item, declared: boo
 /// The first of the module's entries for the item.
 pub fn name_of(words: &[u32], l: Layout, m: ModuleId, item: Item) -> Lookup
     requires { ⌜ wordCount l < 2 ^ 32 ⌝ }
-    ensures { λ r. ⌜ ((A : List ℕ) → entryOf scopeAt (now (words .entry)) (r .entry) ≡ nameOf (snapOf (now (words .entry)) A l) (m .0) item) × ((A : List ℕ) → r .read ≡ nameReads (snapOf (now (words .entry)) A l) (m .0) item) × UpTo 7 (scopeBase l) (l .scopes) (r .entry) (r .read) ⌝ }
+    ensures { λ r. ⌜ ((A : List ℕ) → entryOf scopeAt (now (words .entry)) (r .entry) ≡ nameOf (snapOf (now (words .entry)) A l) (m .0) item) × ((A : List ℕ) → r .read ≡ nameReads (snapOf (now (words .entry)) A l) (m .0) item) × UpTo 8 (scopeBase l) (l .scopes) (r .entry) (r .read) ⌝ }
 {
     names_of(words, l, m, item, false)
 }
@@ -120,7 +120,7 @@ pub fn fresh_of(words: &[u32], l: Layout, m: ModuleId, item: Item, declared: boo
     let mut first = Entry::Nothing;
     let mut count = 0;
     while count < l.scopes {
-        let h = base + 7 * count;
+        let h = base + 8 * count;
         count += 1;
         let its = is_entry(words, l, h, m, item, declared);
         if its & !is_deprecated(words, h) {
@@ -170,7 +170,7 @@ pub fn get(words: &[u32], l: Layout, m: ModuleId, ns: usize, name: Name) -> Entr
     let base = l.scope_base();
     let mut k = 0;
     while k < l.scopes {
-        let h = base + 7 * k;
+        let h = base + 8 * k;
         if is_named(words, h, m, ns, name) {
             return Entry::At(h);
         }
@@ -195,12 +195,12 @@ fn is_module_entry(words: &[u32], l: Layout, h: usize, m: ModuleId) -> bool
 /// The next of the module's entries for a module in types, from the entry number k on.
 pub fn next_module(words: &[u32], l: Layout, k: usize, m: ModuleId) -> Next
     requires { ⌜ wordCount l < 2 ^ 32 ⌝ }
-    ensures { λ r. ⌜ ((A : List ℕ) → NextOf (isModuleEntry (snapOf (now (words .entry)) A l) (m .0)) scopeAt 7 (now (words .entry)) (scopeBase l) (l .scopes) k r) ⌝ }
+    ensures { λ r. ⌜ ((A : List ℕ) → NextOf (isModuleEntry (snapOf (now (words .entry)) A l) (m .0)) scopeAt 8 (now (words .entry)) (scopeBase l) (l .scopes) k r) ⌝ }
 {
     let base = l.scope_base();
     let mut j = k;
     while j < l.scopes {
-        let h = base + 7 * j;
+        let h = base + 8 * j;
         if is_module_entry(words, l, h, m) {
             return Next::Record(j, h);
         }

@@ -105,6 +105,10 @@ module _ (W A : List ℕ) (l : Layout) (r : Reads W A l) (n : ℕ) where
       let z : length (snapOf W A l .names) ≤ n = rw (length-rows (λ k. nameAt W (nameHead A k)) (l .names)) h in
       List·getD-eq-default (snapOf W A l .names) (record { bytes = 0; text = [] }) z
 
+  pub no-text : l .names ≤ n → [] ≡ textOf (snapOf W A l) n
+  unfolding textOf unpacked
+  no-text h = sym (ap (λ (x : Name). take (x .bytes) (unpacked (x .text))) (nothing-there h))
+
   -- the name as an edition writes it
   module _ (e : ℕ) where
     pub raw-read : n < l .names → {b : Bool} {h : ℕ} → b ≡ isRaw e (nameAt W h) → h ≡ nameHead A n → b ≡ isRaw e (nameData (snapOf W A l) n)
@@ -122,11 +126,10 @@ module _ (W A : List ℕ) (l : Layout) (r : Reads W A l) (n : ℕ) where
     written-plain p = rw (writtenOf, p)
 
     pub no-name : l .names ≤ n → [] ≡ writtenOf (snapOf W A l) e n
-    unfolding textOf unpacked
     no-name h =
         by-test (isRaw e (nameData (snapOf W A l) n))
         (λ t. absurd (let s = raw-short e (nameData (snapOf W A l) n) t .some in let z = ap (λ (x : Name). x .bytes) (nothing-there h) in omega arith))
-        (λ t. sym (ap (λ (x : Name). take (x .bytes) (unpacked (x .text))) (nothing-there h)) ∙ written-plain t)
+        (λ t. no-text h ∙ written-plain t)
 
 -- the edition of a module's crate
 module _ (s : Snapshot) (m : ℕ) where

@@ -104,7 +104,7 @@ module _ (W A : List ℕ) (l : Layout) (from m : ℕ) where
   near e = eqb (crateOf snapshot (entryModule snapshot e)) (crateOf snapshot from) && sees snapshot from e
 
   abbrev left : ℕ → List Scope
-  left k = leftOf (isModuleEntry snapshot m) (λ i. scopeAt W (scopeBase l + 7 * i)) (l .scopes) k
+  left k = leftOf (isModuleEntry snapshot m) (λ i. scopeAt W (scopeBase l + 8 * i)) (l .scopes) k
 
   abbrev pub leadsFrom : ℕ → List ℕ
   leadsFrom k = map (entryModule snapshot) (select near (left k))
@@ -113,7 +113,7 @@ module _ (W A : List ℕ) (l : Layout) (from m : ℕ) where
   unfolding leadsTo
   leads-start = ap (λ es. map (entryModule snapshot) (select near es)) (modules-whole W A l m)
 
-  module _ {k j h : ℕ} (x : Meets (isModuleEntry snapshot m) scopeAt 7 W (scopeBase l) (l .scopes) k j h) where
+  module _ {k j h : ℕ} (x : Meets (isModuleEntry snapshot m) scopeAt 8 W (scopeBase l) (l .scopes) k j h) where
     pub leads-hit : {t : ℕ} {b : Bool} → t ≡ entryModule snapshot (scopeAt W h)
         → b ≡ (eqb (crateOf snapshot t) (crateOf snapshot from) && sees snapshot from (scopeAt W h)) → b ≡ true → leadsFrom k ≡ t ∷ leadsFrom (j + 1)
     leads-hit e q p =
@@ -138,7 +138,7 @@ module _ (W A : List ℕ) (l : Layout) (from m : ℕ) where
         let b = and-right (eqb (s .ns) 0) (eqb (definitionOf snapshot (s .definition) .kind) 1) a in
         rw e (module-known W A l r (s .definition) (module-meets W A l r x .definition) (eqb-true _ _ b))
 
-  pub leads-end : {k : ℕ} → Ends (isModuleEntry snapshot m) scopeAt 7 W (scopeBase l) (l .scopes) k → leadsFrom k ≡ []
+  pub leads-end : {k : ℕ} → Ends (isModuleEntry snapshot m) scopeAt 8 W (scopeBase l) (l .scopes) k → leadsFrom k ≡ []
   unfolding select
   leads-end x = ap (λ es. map (entryModule snapshot) (select near es)) (x .none)
 

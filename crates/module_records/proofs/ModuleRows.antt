@@ -12,8 +12,8 @@ use lib.Seq.{getD-set-same, getD-set-other}
 use borrow.Author.Count.{below-more}
 use borrow.Author.Tests.{ltb-true, leb-true, eqb-true}
 use Rattle.snapshot.specs.Lists.{any}
-use Rattle.snapshot.specs.Records.{Map, Module, Snapshot, mapAt, moduleAt, crateAt, dependencyAt, childAt, preludeAt, definitionAt, scopeAt, importAt, externAt}
-use Rattle.snapshot.specs.Layouts.{crateBase, dependencyBase, childBase, preludeBase, definitionBase, scopeBase, importBase, externBase, moduleMap, moduleHead, moduleParent, moduleRow, namesOf, modulesOf, recordsOf, snapWith}
+use Rattle.snapshot.specs.Records.{Map, Module, Snapshot, mapAt, moduleAt, crateAt, dependencyAt, childAt, preludeAt, definitionAt, scopeAt, importAt, externAt, memberAt}
+use Rattle.snapshot.specs.Layouts.{crateBase, dependencyBase, childBase, preludeBase, definitionBase, scopeBase, importBase, externBase, memberBase, moduleMap, moduleHead, moduleParent, moduleRow, namesOf, modulesOf, recordsOf, snapWith}
 use Rattle.snapshot.specs.declared.layout.Layout.{Layout}
 use Rattle.snapshot.proofs.Laws.{rows-zero, rows-put, length-rows, getD-rows}
 use Rattle.record_rules.specs.Tests.{Counts, countsOf, mapOf, noMap, noModule, isIn, moduleDefined, modulePlaced}
@@ -69,6 +69,7 @@ moduleOn l =
       scopes = l .scopes;
       imports = l .imports;
       externs = l .externs;
+      members = l .members;
       latest = l .latest;
     }
 
@@ -107,15 +108,17 @@ module _ (W A : List ℕ) (at : ℕ) (l : Layout) (ms : List Map) (st : Stands W
         let z-scopes : l .scopes ≡ 0 = st .upto .scopes (lit< tt) in
         let z-imports : l .imports ≡ 0 = st .upto .imports (lit< tt) in
         let z-externs : l .externs ≡ 0 = st .upto .externs (lit< tt) in
+        let z-members : l .members ≡ 0 = st .upto .members (lit< tt) in
         let q-names : namesOf W (rowSet A (l .modules) x y z) (l .names) ≡ namesOf W A (l .names) = names-kept W A (rowSet A (l .modules) x y z) (l .names) (st .limited .names) names-stay in
         let p : modulesOf (rowSet A (l .modules) x y z) (l .modules + 1) ≡ modulesOf A (l .modules) ++ (moduleAt W at ∷ []) = rows-put (moduleRow A) _ (l .modules) (moduleAt W at) old-row new-row in
         let q-children : recordsOf childAt 2 W (childBase (moduleOn l)) ((moduleOn l) .children) ≡ recordsOf childAt 2 W (childBase l) (l .children) = rows-zero _ _ _ z-children in
         let q-preludes : recordsOf preludeAt 2 W (preludeBase (moduleOn l)) ((moduleOn l) .preludes) ≡ recordsOf preludeAt 2 W (preludeBase l) (l .preludes) = rows-zero _ _ _ z-preludes in
         let q-definitions : recordsOf definitionAt 3 W (definitionBase (moduleOn l)) ((moduleOn l) .definitions) ≡ recordsOf definitionAt 3 W (definitionBase l) (l .definitions) = rows-zero _ _ _ z-definitions in
-        let q-scopes : recordsOf scopeAt 7 W (scopeBase (moduleOn l)) ((moduleOn l) .scopes) ≡ recordsOf scopeAt 7 W (scopeBase l) (l .scopes) = rows-zero _ _ _ z-scopes in
+        let q-scopes : recordsOf scopeAt 8 W (scopeBase (moduleOn l)) ((moduleOn l) .scopes) ≡ recordsOf scopeAt 8 W (scopeBase l) (l .scopes) = rows-zero _ _ _ z-scopes in
         let q-imports : recordsOf importAt 6 W (importBase (moduleOn l)) ((moduleOn l) .imports) ≡ recordsOf importAt 6 W (importBase l) (l .imports) = rows-zero _ _ _ z-imports in
         let q-externs : recordsOf externAt 3 W (externBase (moduleOn l)) ((moduleOn l) .externs) ≡ recordsOf externAt 3 W (externBase l) (l .externs) = rows-zero _ _ _ z-externs in
-        λ i. record { names = q-names i; crates = recordsOf crateAt 2 W (crateBase l) (l .crates); dependencies = recordsOf dependencyAt 3 W (dependencyBase l) (l .dependencies); maps = ms; modules = p i; children = q-children i; preludes = q-preludes i; definitions = q-definitions i; scopes = q-scopes i; imports = q-imports i; externs = q-externs i }
+        let q-members : recordsOf memberAt 5 W (memberBase (moduleOn l)) ((moduleOn l) .members) ≡ recordsOf memberAt 5 W (memberBase l) (l .members) = rows-zero _ _ _ z-members in
+        λ i. record { names = q-names i; crates = recordsOf crateAt 2 W (crateBase l) (l .crates); dependencies = recordsOf dependencyAt 3 W (dependencyBase l) (l .dependencies); maps = ms; modules = p i; children = q-children i; preludes = q-preludes i; definitions = q-definitions i; scopes = q-scopes i; imports = q-imports i; externs = q-externs i; members = q-members i }
 
     module _ (last : moduleAt W at .map + 1 ≡ l .maps) where
       new-map : moduleMap (rowSet A (l .modules) x y z) (l .modules) ≡ l .maps - 1
@@ -138,6 +141,7 @@ module _ (W A : List ℕ) (at : ℕ) (l : Layout) (ms : List Map) (st : Stands W
                   scopes = st .upto .scopes;
                   imports = st .upto .imports;
                   externs = st .upto .externs;
+                  members = st .upto .members;
                 };
             limited = record { names = st .limited .names; crates = st .limited .crates; modules = omega arith; definitions = st .limited .definitions };
             heads = heads-kept W A (rowSet A (l .modules) x y z) (l .names) (st .limited .names) names-stay (st .heads);

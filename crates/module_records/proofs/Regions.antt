@@ -10,8 +10,8 @@ use lib.ListN.{length, getD, set, length-append, List·getD-append}
 use lib.Seq.{getD-set-same, getD-set-other, getD-at}
 use borrow.Author.Tests.{ltb-true, leb-true, eqb-true, eqb-false, eq-eqb, ne-eqb, not-false}
 use Rattle.snapshot.specs.Lists.{any}
-use Rattle.snapshot.specs.Records.{Map, crateAt, dependencyAt, mapAt, childAt, preludeAt, definitionAt, scopeAt, importAt, externAt}
-use Rattle.snapshot.specs.Layouts.{crateBase, dependencyBase, childBase, preludeBase, definitionBase, scopeBase, importBase, externBase, moduleMap, moduleHead, ownMap, moduleRow, namesOf, modulesOf, recordsOf, snapWith}
+use Rattle.snapshot.specs.Records.{Map, crateAt, dependencyAt, mapAt, childAt, preludeAt, definitionAt, scopeAt, importAt, externAt, memberAt}
+use Rattle.snapshot.specs.Layouts.{crateBase, dependencyBase, childBase, preludeBase, definitionBase, scopeBase, importBase, externBase, memberBase, moduleMap, moduleHead, ownMap, moduleRow, namesOf, modulesOf, recordsOf, snapWith}
 use Rattle.snapshot.specs.declared.layout.Layout.{Layout}
 use Rattle.snapshot.proofs.Laws.{rows-zero, getD-rows}
 use Rattle.record_rules.specs.Tests.{Counts, countsOf, crateOf, noMap, noModule, isOwn, mapRange, mapDefined, mapRepeated, mapPlaced}
@@ -67,6 +67,7 @@ mapOn l at =
       scopes = l .scopes;
       imports = l .imports;
       externs = l .externs;
+      members = l .members;
       latest = at;
     }
 
@@ -79,15 +80,17 @@ module _ (W A B : List ℕ) (at : ℕ) (l : Layout) (ms : List Map) (st : Stands
       let z-scopes : l .scopes ≡ 0 = st .upto .scopes (lit< tt) in
       let z-imports : l .imports ≡ 0 = st .upto .imports (lit< tt) in
       let z-externs : l .externs ≡ 0 = st .upto .externs (lit< tt) in
+      let z-members : l .members ≡ 0 = st .upto .members (lit< tt) in
       let q-names : namesOf W B (l .names) ≡ namesOf W A (l .names) = names-kept W A B (l .names) (st .limited .names) (λ i u v. kept i u (omega arith)) in
       let q-modules : modulesOf B (l .modules) ≡ modulesOf A (l .modules) = modules-kept A B (l .modules) (st .limited .modules) (λ i u v. kept i (omega arith) (omega arith)) in
       let q-children : recordsOf childAt 2 W (childBase (mapOn l at)) ((mapOn l at) .children) ≡ recordsOf childAt 2 W (childBase l) (l .children) = rows-zero _ _ _ z-children in
       let q-preludes : recordsOf preludeAt 2 W (preludeBase (mapOn l at)) ((mapOn l at) .preludes) ≡ recordsOf preludeAt 2 W (preludeBase l) (l .preludes) = rows-zero _ _ _ z-preludes in
       let q-definitions : recordsOf definitionAt 3 W (definitionBase (mapOn l at)) ((mapOn l at) .definitions) ≡ recordsOf definitionAt 3 W (definitionBase l) (l .definitions) = rows-zero _ _ _ z-definitions in
-      let q-scopes : recordsOf scopeAt 7 W (scopeBase (mapOn l at)) ((mapOn l at) .scopes) ≡ recordsOf scopeAt 7 W (scopeBase l) (l .scopes) = rows-zero _ _ _ z-scopes in
+      let q-scopes : recordsOf scopeAt 8 W (scopeBase (mapOn l at)) ((mapOn l at) .scopes) ≡ recordsOf scopeAt 8 W (scopeBase l) (l .scopes) = rows-zero _ _ _ z-scopes in
       let q-imports : recordsOf importAt 6 W (importBase (mapOn l at)) ((mapOn l at) .imports) ≡ recordsOf importAt 6 W (importBase l) (l .imports) = rows-zero _ _ _ z-imports in
       let q-externs : recordsOf externAt 3 W (externBase (mapOn l at)) ((mapOn l at) .externs) ≡ recordsOf externAt 3 W (externBase l) (l .externs) = rows-zero _ _ _ z-externs in
-      λ i. record { names = q-names i; crates = recordsOf crateAt 2 W (crateBase l) (l .crates); dependencies = recordsOf dependencyAt 3 W (dependencyBase l) (l .dependencies); maps = ms ++ (mapAt W at ∷ []); modules = q-modules i; children = q-children i; preludes = q-preludes i; definitions = q-definitions i; scopes = q-scopes i; imports = q-imports i; externs = q-externs i }
+      let q-members : recordsOf memberAt 5 W (memberBase (mapOn l at)) ((mapOn l at) .members) ≡ recordsOf memberAt 5 W (memberBase l) (l .members) = rows-zero _ _ _ z-members in
+      λ i. record { names = q-names i; crates = recordsOf crateAt 2 W (crateBase l) (l .crates); dependencies = recordsOf dependencyAt 3 W (dependencyBase l) (l .dependencies); maps = ms ++ (mapAt W at ∷ []); modules = q-modules i; children = q-children i; preludes = q-preludes i; definitions = q-definitions i; scopes = q-scopes i; imports = q-imports i; externs = q-externs i; members = q-members i }
 
   map-of : (m : ℕ) → m < l .modules → moduleMap B m ≡ moduleMap A m
   map-of m h = let r = st .limited .modules in kept (2048 + 3 * m) (omega arith) (omega arith)
@@ -110,6 +113,7 @@ module _ (W A B : List ℕ) (at : ℕ) (l : Layout) (ms : List Map) (st : Stands
               scopes = st .upto .scopes;
               imports = st .upto .imports;
               externs = st .upto .externs;
+              members = st .upto .members;
             };
         limited = record { names = st .limited .names; crates = st .limited .crates; modules = st .limited .modules; definitions = st .limited .definitions };
         heads = heads-kept W A B (l .names) (st .limited .names) (λ i u v. kept i u (omega arith)) (st .heads);

@@ -36,6 +36,7 @@ oneCrate ms xs =
       scopes = [];
       imports = [];
       externs = [];
+      members = [];
     }
 
 -- what the two say of a viewer and a target

@@ -50,7 +50,7 @@ pub fn reach_in(words: &[u32], area: &mut [u32], l: Layout, v: Viewer) -> Reach
     let mut k = 0;
     while k < l.scopes {
         if !is_met(words, l, k) {
-            let r = report_for(words, area, l, v, base + 7 * k);
+            let r = report_for(words, area, l, v, base + 8 * k);
             reach = tally(reach, r);
         }
         k += 1;

@@ -29,11 +29,11 @@ use Rattle.reach_parts.specs.Within.{Within}
 
 -- the test of one earlier record
 pub met-test : (W A : List ℕ) (l : Layout) (j k : ℕ) {b : ℕ} {x y : Item} {r : Bool} → b ≡ scopeBase l → r ≡ sameItem x y
-    → x ≡ itemIn (snapOf W A l) (scopeAt W (b + 7 * j)) → y ≡ itemIn (snapOf W A l) (scopeAt W (b + 7 * k))
-    → sameItem (itemIn (snapOf W A l) (scopeAt W (scopeBase l + 7 * j))) (itemIn (snapOf W A l) (scopeAt W (scopeBase l + 7 * k))) ≡ r
+    → x ≡ itemIn (snapOf W A l) (scopeAt W (b + 8 * j)) → y ≡ itemIn (snapOf W A l) (scopeAt W (b + 8 * k))
+    → sameItem (itemIn (snapOf W A l) (scopeAt W (scopeBase l + 8 * j))) (itemIn (snapOf W A l) (scopeAt W (scopeBase l + 8 * k))) ≡ r
 met-test W A l j k e t p q =
     let S = snapOf W A l in
-    sym (t ∙ ap₂ sameItem (p ∙ ap (λ b. itemIn S (scopeAt W (b + 7 * j))) e) (q ∙ ap (λ b. itemIn S (scopeAt W (b + 7 * k))) e))
+    sym (t ∙ ap₂ sameItem (p ∙ ap (λ b. itemIn S (scopeAt W (b + 8 * j))) e) (q ∙ ap (λ b. itemIn S (scopeAt W (b + 8 * k))) e))
 
 module _ (r : Report) where
   pub found-column : r .outcome ≡ 0 → r .count ≡ column r

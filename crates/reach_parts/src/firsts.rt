@@ -23,13 +23,13 @@ fn item_in(words: &[u32], l: Layout, h: usize) -> Item
 /// Whether a scope record before the one numbered k is for the same item.
 pub fn is_met(words: &[u32], l: Layout, k: usize) -> bool
     requires { ⌜ (wordCount l < 2 ^ 32) × (k < l .scopes) ⌝ }
-    ensures { λ r. ⌜ ((A : List ℕ) → r ≡ isMet (snapOf (now (words .entry)) A l) (recordsOf scopeAt 7 (now (words .entry)) (scopeBase l) k) (scopeAt (now (words .entry)) (scopeBase l + 7 * k))) ⌝ }
+    ensures { λ r. ⌜ ((A : List ℕ) → r ≡ isMet (snapOf (now (words .entry)) A l) (recordsOf scopeAt 8 (now (words .entry)) (scopeBase l) k) (scopeAt (now (words .entry)) (scopeBase l + 8 * k))) ⌝ }
 {
     let base = l.scope_base();
-    let item = item_in(words, l, base + 7 * k);
+    let item = item_in(words, l, base + 8 * k);
     let mut j = 0;
     while j < k {
-        if same_item(item_in(words, l, base + 7 * j), item) {
+        if same_item(item_in(words, l, base + 8 * j), item) {
             return true;
         }
         j += 1;

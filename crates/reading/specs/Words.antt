@@ -17,9 +17,9 @@ payOf w = w % 268435456
 abbrev pub wordsOf : ℕ → ℕ
 wordsOf b = (b + 2) / 3
 
--- the arguments of a record of each kind: none of kind 0; a name's are its text
+-- the arguments of a record of each kind: none of kinds 0 and 12; a name's are its text
 abbrev pub argumentTable : List ℕ
-argumentTable = 0 ∷ 0 ∷ 1 ∷ 2 ∷ 2 ∷ 1 ∷ 1 ∷ 1 ∷ 2 ∷ 6 ∷ 5 ∷ 2 ∷ []
+argumentTable = 0 ∷ 0 ∷ 1 ∷ 2 ∷ 2 ∷ 1 ∷ 1 ∷ 1 ∷ 2 ∷ 7 ∷ 5 ∷ 2 ∷ 0 ∷ 4 ∷ []
 
 -- the arguments of a record with that kind and payload
 unfoldable pub argumentsOf : ℕ → ℕ → ℕ

@@ -77,9 +77,9 @@ indexes-kept W A B l m ix few heads above s =
           subst (λ k. Marked B 5824 (λ j. slotOf W (definitionBase m + 3 * j)) k) (sym (s .definitions))
           (marked-kept A B 5824 _ _ (l .definitions) (ix .definitions) (λ b h. above _ (omega arith)) (λ i h. ap (λ x. slotOf W (x + 3 * i)) (s .definition (omega arith))));
       scopes =
-          subst (λ k. Chained B 4544 8392 (λ i. recordKey W 2 (scopeBase m + 7 * i)) k) (sym (s .scopes))
+          subst (λ k. Chained B 4544 8392 (λ i. recordKey W 2 (scopeBase m + 8 * i)) k) (sym (s .scopes))
           (chained-kept A B 4544 8392 _ _ (l .scopes) (ix .scopes) (λ b h. above _ (omega arith)) (λ i h. above _ (omega arith))
-          (λ i h. ap (λ x. recordKey W 2 (x + 7 * i)) (s .scope (omega arith))));
+          (λ i h. ap (λ x. recordKey W 2 (x + 8 * i)) (s .scope (omega arith))));
       externs =
           subst (λ k. Chained B 4928 10736 (λ i. recordKey W 1 (externBase m + 3 * i)) k) (sym (s .externs))
           (chained-kept A B 4928 10736 _ _ (l .externs) (ix .externs) (λ b h. above _ (omega arith)) (λ i h. above _ (omega arith))
@@ -161,7 +161,7 @@ module _ (W A : List ℕ) (l : Layout) (at key : ℕ) (ix : Indexes W A l) (room
             subst (λ k. Marked (linked (set A (l .names) at) 4160 6344 key (l .names)) 5824 (λ j. slotOf W (definitionBase m + 3 * j)) k) (zd ∙ sym (zm .definitions))
             (marked-kept A _ 5824 _ _ (l .definitions) (ix .definitions) (λ b h. head-stays _ (omega arith) (omega arith)) (λ i h. absurd (omega arith)));
         scopes =
-            subst (λ k. Chained (linked (set A (l .names) at) 4160 6344 key (l .names)) 4544 8392 (λ i. recordKey W 2 (scopeBase m + 7 * i)) k) (zs ∙ sym (zm .scopes))
+            subst (λ k. Chained (linked (set A (l .names) at) 4160 6344 key (l .names)) 4544 8392 (λ i. recordKey W 2 (scopeBase m + 8 * i)) k) (zs ∙ sym (zm .scopes))
             (chained-kept A _ 4544 8392 _ _ (l .scopes) (ix .scopes) (λ b h. head-stays _ (omega arith) (omega arith)) (λ i h. absurd (omega arith)) (λ i h. absurd (omega arith)));
         externs =
             subst (λ k. Chained (linked (set A (l .names) at) 4160 6344 key (l .names)) 4928 10736 (λ i. recordKey W 1 (externBase m + 3 * i)) k) (ze ∙ sym (zm .externs))

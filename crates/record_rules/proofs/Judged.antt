@@ -10,11 +10,11 @@ use lib.Dec.{eqb, leb, ltb}
 use borrow.Author.Tests.{ltb-true, ne-eqb}
 use Rattle.snapshot.specs.Lists.{rows, any}
 use Rattle.snapshot.specs.Words.{payOf}
-use Rattle.snapshot.specs.Records.{Map, Snapshot, Child, Definition, Scope, Import, nameAt, crateAt, preludeAt, definitionAt, scopeAt, externAt}
+use Rattle.snapshot.specs.Records.{Map, Snapshot, Child, Definition, Scope, Import, Member, nameAt, crateAt, preludeAt, definitionAt, scopeAt, externAt}
 use Rattle.snapshot.specs.Layouts.{recordsOf, snapWith, crateBase, definitionBase, nameHead, moduleMap, moduleParent, moduleRow}
 use Rattle.snapshot.specs.declared.layout.Layout.{Layout}
 use Rattle.snapshot.proofs.Laws.{length-rows, getD-rows}
-use Rattle.record_rules.specs.Tests.{Counts, countsOf, noModule, noDefinition, kindOfDefinition, nsPlaced, samePrelude, sameDefinition, sameEntry, sameExtern, scopeDefined, importDefined, childDefined, childPlaced, definitionDefined, definitionPlaced}
+use Rattle.record_rules.specs.Tests.{Counts, countsOf, noModule, noDefinition, kindOfDefinition, nsPlaced, samePrelude, sameDefinition, sameEntry, sameExtern, scopeDefined, importDefined, childDefined, childPlaced, definitionDefined, definitionPlaced, memberDefined, isMember, memberPlaced}
 use Rattle.record_rules.specs.Steps.{no, on, judge, judgeCrate}
 use Rattle.record_rules.specs.Stands.{numberOf, crateNumberOf, sameBy, countsIn, Stands}
 
@@ -125,7 +125,7 @@ module _ (W : List ℕ) (at base n : ℕ) where
   pub definition-again : any (sameBy W true 1 at) (rows (λ k. base + 3 * k) 0 n) ≡ any (sameDefinition (definitionAt W at)) (recordsOf definitionAt 3 W base n)
   definition-again = any-same _ _ _ _ 0 n (λ i. and-true _)
 
-  pub scope-again : any (sameBy W true 2 at) (rows (λ k. base + 7 * k) 0 n) ≡ any (sameEntry (scopeAt W at)) (recordsOf scopeAt 7 W base n)
+  pub scope-again : any (sameBy W true 2 at) (rows (λ k. base + 8 * k) 0 n) ≡ any (sameEntry (scopeAt W at)) (recordsOf scopeAt 8 W base n)
   scope-again = any-same _ _ _ _ 0 n (λ i. refl)
 
   pub extern-again : any (sameBy W true 1 at) (rows (λ k. base + 3 * k) 0 n) ≡ any (sameExtern (externAt W at)) (recordsOf externAt 3 W base n)
@@ -140,6 +140,13 @@ scope-definition n x h =
     let r = not (eqb (x .visibility) 1) || ltb (x .number) (n .crates) in
     let t = leb (x .visibility) 1 || ltb (x .number) (n .modules) in
     ltb-true _ _ (and-right p q (and-left (p && q) r (and-left (p && q && r) t h)))
+
+pub member-numbers : (n : Counts) (x : Member) → memberDefined n x ≡ true → (x .parent < n .definitions) × (x .definition < n .definitions)
+member-numbers n x h =
+    let p = ltb (x .parent) (n .definitions) in
+    let q = ltb (x .name) (n .names) in
+    let r = ltb (x .definition) (n .definitions) in
+    (ltb-true _ _ (and-left p q (and-left (p && q) r h)), ltb-true _ _ (and-right (p && q) r h))
 
 pub import-definition : (n : Counts) (x : Import) → importDefined n x ≡ true → x .definition < n .definitions
 import-definition n x h =
@@ -177,3 +184,10 @@ parent-same W A l ms x h =
         → (not v || eqb (definitionAt W (definitionBase l + 3 * d) .kind) 4) ≡ (not v || eqb (kindOfDefinition (snapWith W A l ms) d) 4)
     variant-same true d g = ap (λ k. eqb k 4) (kind-same W A l ms d (ltb-true _ _ (and-left (ltb d (l .definitions)) (ltb (x .second) (l .names)) g)))
     variant-same false d g = refl
+
+pub member-same : (W A : List ℕ) (l : Layout) (ms : List Map) (x : Member) → memberDefined (countsIn l) x ≡ true
+    → (eqb (definitionAt W (definitionBase l + 3 * x .parent) .kind) 4 && isMember (x .kind) (x .parent) (x .name) (definitionAt W (definitionBase l + 3 * x .definition))) ≡ memberPlaced (snapWith W A l ms) x
+member-same W A l ms x h =
+    let n = member-numbers (countsIn l) x h in
+    ap₂ (λ k d. eqb k 4 && isMember (x .kind) (x .parent) (x .name) d) (kind-same W A l ms (x .parent) (n .0))
+    (sym (getD-rows (λ k. definitionAt W (definitionBase l + 3 * k)) noDefinition (l .definitions) (x .definition) (n .1)))

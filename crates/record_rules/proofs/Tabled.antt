@@ -12,8 +12,8 @@ use borrow.Author.Count.{below-more}
 use borrow.Author.Tests.{ltb-true}
 use Rattle.snapshot.specs.Lists.{rows, any}
 use Rattle.snapshot.specs.Words.{payOf, wordsOf}
-use Rattle.snapshot.specs.Records.{Map, Crate, nameAt, crateAt, dependencyAt, childAt, preludeAt, definitionAt, scopeAt, importAt, externAt}
-use Rattle.snapshot.specs.Layouts.{crateBase, dependencyBase, childBase, preludeBase, definitionBase, scopeBase, importBase, externBase, nameHead, ownMap, moduleRow, namesOf, modulesOf, recordsOf, snapWith}
+use Rattle.snapshot.specs.Records.{Map, Crate, nameAt, crateAt, dependencyAt, childAt, preludeAt, definitionAt, scopeAt, importAt, externAt, memberAt}
+use Rattle.snapshot.specs.Layouts.{crateBase, dependencyBase, childBase, preludeBase, definitionBase, scopeBase, importBase, externBase, memberBase, nameHead, ownMap, moduleRow, namesOf, modulesOf, recordsOf, snapWith}
 use Rattle.snapshot.specs.declared.layout.Layout.{Layout}
 use Rattle.snapshot.proofs.Laws.{rows-snoc, rows-zero, rows-ext, rows-put, length-rows}
 use Rattle.chains.specs.Chains.{nameKey, linked}
@@ -68,6 +68,7 @@ nameOn l next =
       scopes = l .scopes;
       imports = l .imports;
       externs = l .externs;
+      members = l .members;
       latest = l .latest;
     }
 
@@ -86,6 +87,7 @@ module _ (W A B : List ℕ) (at next : ℕ) (l : Layout) (ms : List Map) (st : S
         let z-scopes : l .scopes ≡ 0 = st .upto .scopes (lit< tt) in
         let z-imports : l .imports ≡ 0 = st .upto .imports (lit< tt) in
         let z-externs : l .externs ≡ 0 = st .upto .externs (lit< tt) in
+        let z-members : l .members ≡ 0 = st .upto .members (lit< tt) in
         let p : namesOf W B (l .names + 1) ≡ namesOf W A (l .names) ++ (nameAt W at ∷ []) =
         rows-put (λ k. nameAt W (getD A k 0)) _ (l .names) (nameAt W at) (λ k h. ap (nameAt W) (name-old k h)) (ap (nameAt W) name-new) in
         let q-crates : recordsOf crateAt 2 W (crateBase (nameOn l next)) ((nameOn l next) .crates) ≡ recordsOf crateAt 2 W (crateBase l) (l .crates) = rows-zero _ _ _ z-crates in
@@ -93,11 +95,12 @@ module _ (W A B : List ℕ) (at next : ℕ) (l : Layout) (ms : List Map) (st : S
         let q-children : recordsOf childAt 2 W (childBase (nameOn l next)) ((nameOn l next) .children) ≡ recordsOf childAt 2 W (childBase l) (l .children) = rows-zero _ _ _ z-children in
         let q-preludes : recordsOf preludeAt 2 W (preludeBase (nameOn l next)) ((nameOn l next) .preludes) ≡ recordsOf preludeAt 2 W (preludeBase l) (l .preludes) = rows-zero _ _ _ z-preludes in
         let q-definitions : recordsOf definitionAt 3 W (definitionBase (nameOn l next)) ((nameOn l next) .definitions) ≡ recordsOf definitionAt 3 W (definitionBase l) (l .definitions) = rows-zero _ _ _ z-definitions in
-        let q-scopes : recordsOf scopeAt 7 W (scopeBase (nameOn l next)) ((nameOn l next) .scopes) ≡ recordsOf scopeAt 7 W (scopeBase l) (l .scopes) = rows-zero _ _ _ z-scopes in
+        let q-scopes : recordsOf scopeAt 8 W (scopeBase (nameOn l next)) ((nameOn l next) .scopes) ≡ recordsOf scopeAt 8 W (scopeBase l) (l .scopes) = rows-zero _ _ _ z-scopes in
         let q-imports : recordsOf importAt 6 W (importBase (nameOn l next)) ((nameOn l next) .imports) ≡ recordsOf importAt 6 W (importBase l) (l .imports) = rows-zero _ _ _ z-imports in
         let q-externs : recordsOf externAt 3 W (externBase (nameOn l next)) ((nameOn l next) .externs) ≡ recordsOf externAt 3 W (externBase l) (l .externs) = rows-zero _ _ _ z-externs in
+        let q-members : recordsOf memberAt 5 W (memberBase (nameOn l next)) ((nameOn l next) .members) ≡ recordsOf memberAt 5 W (memberBase l) (l .members) = rows-zero _ _ _ z-members in
         let q-modules : modulesOf B (l .modules) ≡ modulesOf A (l .modules) = rows-zero _ _ _ z-modules in
-        λ i. record { names = p i; maps = ms; modules = q-modules i; crates = q-crates i; dependencies = q-dependencies i; children = q-children i; preludes = q-preludes i; definitions = q-definitions i; scopes = q-scopes i; imports = q-imports i; externs = q-externs i }
+        λ i. record { names = p i; maps = ms; modules = q-modules i; crates = q-crates i; dependencies = q-dependencies i; children = q-children i; preludes = q-preludes i; definitions = q-definitions i; scopes = q-scopes i; imports = q-imports i; externs = q-externs i; members = q-members i }
 
     name-stands : next ≡ at + 1 + wordsOf (payOf (getD W at 0)) → next ≤ length W → Indexes W B (nameOn l next) → Stands W B 1 next (nameOn l next) ms
     name-stands e fits ix =
@@ -111,6 +114,7 @@ module _ (W A B : List ℕ) (at next : ℕ) (l : Layout) (ms : List Map) (st : S
         let z-scopes : l .scopes ≡ 0 = st .upto .scopes (lit< tt) in
         let z-imports : l .imports ≡ 0 = st .upto .imports (lit< tt) in
         let z-externs : l .externs ≡ 0 = st .upto .externs (lit< tt) in
+        let z-members : l .members ≡ 0 = st .upto .members (lit< tt) in
         record {
           place = omega arith;
           within = fits;
@@ -126,6 +130,7 @@ module _ (W A B : List ℕ) (at next : ℕ) (l : Layout) (ms : List Map) (st : S
                 scopes = st .upto .scopes;
                 imports = st .upto .imports;
                 externs = st .upto .externs;
+                members = st .upto .members;
               };
           limited = record { names = omega arith; crates = st .limited .crates; modules = st .limited .modules; definitions = st .limited .definitions };
           heads =
@@ -195,6 +200,7 @@ crateOn l =
       scopes = l .scopes;
       imports = l .imports;
       externs = l .externs;
+      members = l .members;
       latest = l .latest;
     }
 
@@ -213,6 +219,7 @@ module _ (W A : List ℕ) (at : ℕ) (l : Layout) (ms : List Map) (st : Stands W
       let z-scopes : l .scopes ≡ 0 = st .upto .scopes (lit< tt) in
       let z-imports : l .imports ≡ 0 = st .upto .imports (lit< tt) in
       let z-externs : l .externs ≡ 0 = st .upto .externs (lit< tt) in
+      let z-members : l .members ≡ 0 = st .upto .members (lit< tt) in
       let f : ℕ → Crate = λ j. crateAt W (crateBase l + 2 * j) in
       let e : crateBase l + 2 * l .crates ≡ at = (let q = st .place in omega arith) in
       let p : rows f 0 (l .crates + 1) ≡ rows f 0 (l .crates) ++ (crateAt W at ∷ []) =
@@ -222,11 +229,12 @@ module _ (W A : List ℕ) (at : ℕ) (l : Layout) (ms : List Map) (st : Stands W
       let q-children : recordsOf childAt 2 W (childBase (crateOn l)) ((crateOn l) .children) ≡ recordsOf childAt 2 W (childBase l) (l .children) = rows-zero _ _ _ z-children in
       let q-preludes : recordsOf preludeAt 2 W (preludeBase (crateOn l)) ((crateOn l) .preludes) ≡ recordsOf preludeAt 2 W (preludeBase l) (l .preludes) = rows-zero _ _ _ z-preludes in
       let q-definitions : recordsOf definitionAt 3 W (definitionBase (crateOn l)) ((crateOn l) .definitions) ≡ recordsOf definitionAt 3 W (definitionBase l) (l .definitions) = rows-zero _ _ _ z-definitions in
-      let q-scopes : recordsOf scopeAt 7 W (scopeBase (crateOn l)) ((crateOn l) .scopes) ≡ recordsOf scopeAt 7 W (scopeBase l) (l .scopes) = rows-zero _ _ _ z-scopes in
+      let q-scopes : recordsOf scopeAt 8 W (scopeBase (crateOn l)) ((crateOn l) .scopes) ≡ recordsOf scopeAt 8 W (scopeBase l) (l .scopes) = rows-zero _ _ _ z-scopes in
       let q-imports : recordsOf importAt 6 W (importBase (crateOn l)) ((crateOn l) .imports) ≡ recordsOf importAt 6 W (importBase l) (l .imports) = rows-zero _ _ _ z-imports in
       let q-externs : recordsOf externAt 3 W (externBase (crateOn l)) ((crateOn l) .externs) ≡ recordsOf externAt 3 W (externBase l) (l .externs) = rows-zero _ _ _ z-externs in
+      let q-members : recordsOf memberAt 5 W (memberBase (crateOn l)) ((crateOn l) .members) ≡ recordsOf memberAt 5 W (memberBase l) (l .members) = rows-zero _ _ _ z-members in
       let q-modules : modulesOf (set A (4096 + l .crates) 0) (l .modules) ≡ modulesOf A (l .modules) = rows-zero _ _ _ z-modules in
-      λ i. record { names = q-names i; crates = p i; maps = ms; modules = q-modules i; dependencies = q-dependencies i; children = q-children i; preludes = q-preludes i; definitions = q-definitions i; scopes = q-scopes i; imports = q-imports i; externs = q-externs i }
+      λ i. record { names = q-names i; crates = p i; maps = ms; modules = q-modules i; dependencies = q-dependencies i; children = q-children i; preludes = q-preludes i; definitions = q-definitions i; scopes = q-scopes i; imports = q-imports i; externs = q-externs i; members = q-members i }
 
   crate-stands : at + 2 ≤ length W → Stands W (set A (4096 + l .crates) 0) 2 (at + 2) (crateOn l) ms
   crate-stands fits =
@@ -239,6 +247,7 @@ module _ (W A : List ℕ) (at : ℕ) (l : Layout) (ms : List Map) (st : Stands W
       let z-scopes : l .scopes ≡ 0 = st .upto .scopes (lit< tt) in
       let z-imports : l .imports ≡ 0 = st .upto .imports (lit< tt) in
       let z-externs : l .externs ≡ 0 = st .upto .externs (lit< tt) in
+      let z-members : l .members ≡ 0 = st .upto .members (lit< tt) in
       let q-count = st .count in
       record {
         place = (let q = st .place in omega arith);
@@ -255,6 +264,7 @@ module _ (W A : List ℕ) (at : ℕ) (l : Layout) (ms : List Map) (st : Stands W
               scopes = st .upto .scopes;
               imports = st .upto .imports;
               externs = st .upto .externs;
+              members = st .upto .members;
             };
         limited = record { names = st .limited .names; crates = omega arith; modules = st .limited .modules; definitions = st .limited .definitions };
         heads = heads-kept W A (set A (4096 + l .crates) 0) (l .names) (st .limited .names) (λ i u v. crate-kept i u (omega arith)) (st .heads);

@@ -63,6 +63,7 @@ pub record Upto (k : ℕ) (l : Layout) : Type 0 where
   pub scopes : k < 9 → l .scopes ≡ 0
   pub imports : k < 10 → l .imports ≡ 0
   pub externs : k < 11 → l .externs ≡ 0
+  pub members : k < 13 → l .members ≡ 0
 
 -- the counts are within the limits
 pub record Limited (l : Layout) : Type 0 where
@@ -76,7 +77,7 @@ pub record Indexes (W A : List ℕ) (l : Layout) : Type 0 where
   pub names : Chained A 4160 6344 (λ i. nameKey (nameAt W (nameHead A i))) (l .names)
   pub children : Marked A 5312 (λ j. getD W (childBase l + 2 * j + 1) 0) (l .children)
   pub definitions : Marked A 5824 (λ j. slotOf W (definitionBase l + 3 * j)) (l .definitions)
-  pub scopes : Chained A 4544 8392 (λ i. recordKey W 2 (scopeBase l + 7 * i)) (l .scopes)
+  pub scopes : Chained A 4544 8392 (λ i. recordKey W 2 (scopeBase l + 8 * i)) (l .scopes)
   pub externs : Chained A 4928 10736 (λ i. recordKey W 1 (externBase l + 3 * i)) (l .externs)
 
 -- a record's head stands at a place

@@ -6,8 +6,8 @@ use lib.Dec.{ltb}
 use lib.ListN.{length}
 use Rattle.snapshot.specs.Lists.{any}
 use Rattle.snapshot.specs.Limits.{crateLimit, moduleLimit, nameLimit, definitionLimit}
-use Rattle.snapshot.specs.Records.{Name, Crate, Dependency, Map, Module, Child, Prelude, Definition, Scope, Import, Extern, Snapshot}
-use Rattle.record_rules.specs.Tests.{countsOf, nameRange, sameName, crateRange, isEdition, dependencyRange, dependencyDefined, mapRange, mapDefined, mapRepeated, mapPlaced, moduleDefined, modulePlaced, childDefined, sameChild, childPlaced, preludeDefined, samePrelude, definitionRange, definitionDefined, definitionRepeated, definitionPlaced, scopeRange, scopeDefined, sameEntry, nsPlaced, importRange, importDefined, externDefined, sameExtern}
+use Rattle.snapshot.specs.Records.{Name, Crate, Dependency, Map, Module, Child, Prelude, Definition, Scope, Import, Extern, Member, Snapshot}
+use Rattle.record_rules.specs.Tests.{countsOf, nameRange, sameName, crateRange, isEdition, dependencyRange, dependencyDefined, mapRange, mapDefined, mapRepeated, mapPlaced, moduleDefined, modulePlaced, childDefined, sameChild, childPlaced, preludeDefined, samePrelude, definitionRange, definitionDefined, definitionRepeated, definitionPlaced, scopeRange, scopeDefined, sameEntry, nsPlaced, importRange, importDefined, externDefined, sameExtern, memberRange, memberDefined, memberPlaced}
 
 -- a refusal, or the snapshot with the record
 pub data Next : Type 0 where
@@ -43,6 +43,7 @@ addName s x =
       scopes = s .scopes;
       imports = s .imports;
       externs = s .externs;
+      members = s .members;
     }
 
 abbrev pub addCrate : Snapshot → Crate → Snapshot
@@ -59,6 +60,7 @@ addCrate s x =
       scopes = s .scopes;
       imports = s .imports;
       externs = s .externs;
+      members = s .members;
     }
 
 abbrev pub addDependency : Snapshot → Dependency → Snapshot
@@ -75,6 +77,7 @@ addDependency s x =
       scopes = s .scopes;
       imports = s .imports;
       externs = s .externs;
+      members = s .members;
     }
 
 abbrev pub addMap : Snapshot → Map → Snapshot
@@ -91,6 +94,7 @@ addMap s x =
       scopes = s .scopes;
       imports = s .imports;
       externs = s .externs;
+      members = s .members;
     }
 
 abbrev pub addModule : Snapshot → Module → Snapshot
@@ -107,6 +111,7 @@ addModule s x =
       scopes = s .scopes;
       imports = s .imports;
       externs = s .externs;
+      members = s .members;
     }
 
 abbrev pub addChild : Snapshot → Child → Snapshot
@@ -123,6 +128,7 @@ addChild s x =
       scopes = s .scopes;
       imports = s .imports;
       externs = s .externs;
+      members = s .members;
     }
 
 abbrev pub addPrelude : Snapshot → Prelude → Snapshot
@@ -139,6 +145,7 @@ addPrelude s x =
       scopes = s .scopes;
       imports = s .imports;
       externs = s .externs;
+      members = s .members;
     }
 
 abbrev pub addDefinition : Snapshot → Definition → Snapshot
@@ -155,6 +162,7 @@ addDefinition s x =
       scopes = s .scopes;
       imports = s .imports;
       externs = s .externs;
+      members = s .members;
     }
 
 abbrev pub addScope : Snapshot → Scope → Snapshot
@@ -171,6 +179,7 @@ addScope s x =
       scopes = s .scopes ++ (x ∷ []);
       imports = s .imports;
       externs = s .externs;
+      members = s .members;
     }
 
 abbrev pub addImport : Snapshot → Import → Snapshot
@@ -187,6 +196,7 @@ addImport s x =
       scopes = s .scopes;
       imports = s .imports ++ (x ∷ []);
       externs = s .externs;
+      members = s .members;
     }
 
 abbrev pub addExtern : Snapshot → Extern → Snapshot
@@ -203,6 +213,24 @@ addExtern s x =
       scopes = s .scopes;
       imports = s .imports;
       externs = s .externs ++ (x ∷ []);
+      members = s .members;
+    }
+
+abbrev pub addMember : Snapshot → Member → Snapshot
+addMember s x =
+    record {
+      names = s .names;
+      crates = s .crates;
+      dependencies = s .dependencies;
+      maps = s .maps;
+      modules = s .modules;
+      children = s .children;
+      preludes = s .preludes;
+      definitions = s .definitions;
+      scopes = s .scopes;
+      imports = s .imports;
+      externs = s .externs;
+      members = s .members ++ (x ∷ []);
     }
 
 -- the kinds
@@ -245,3 +273,6 @@ importStep s x =
 
 unfoldable pub externStep : Snapshot → Extern → Next
 externStep s x = judge true (externDefined (countsOf s) x) (any (sameExtern x) (s .externs)) true true (addExtern s x)
+
+unfoldable pub memberStep : Snapshot → Member → Next
+memberStep s x = judge (memberRange x) (memberDefined (countsOf s) x) false (memberPlaced s x) true (addMember s x)

@@ -5,7 +5,7 @@ use mathlib.Core.Bool.{Bool, true, _&&_, _||_, not}
 use lib.Dec.{eqb, leb, ltb}
 use lib.ListN.{length, getD}
 use Rattle.snapshot.specs.Lists.{any, all, eqList, rows}
-use Rattle.snapshot.specs.Records.{Name, Crate, Dependency, Map, Module, Child, Prelude, Definition, Scope, Import, Extern, Snapshot}
+use Rattle.snapshot.specs.Records.{Name, Crate, Dependency, Map, Module, Child, Prelude, Definition, Scope, Import, Extern, Member, Snapshot}
 use Rattle.record_rules.specs.Builtins.{builtins}
 
 -- how many things of each kind a record's numbers may name so far
@@ -183,6 +183,7 @@ scopeRange x =
     && leb (x .visibility) 3
     && (not (eqb (x .visibility) 0) || eqb (x .number) 0)
     && leb (x .declared) 3
+    && leb (x .bits) 3
 
 -- the number of a visibility is a crate or a module
 abbrev pub scopeDefined : Counts → Scope → Bool
@@ -219,6 +220,26 @@ externDefined n x = ltb (x .owner) (n .crates) && ltb (x .name) (n .names) && lt
 
 abbrev pub sameExtern : Extern → Extern → Bool
 sameExtern x y = eqb (x .owner) (y .owner) && eqb (x .name) (y .name)
+
+-- members
+
+abbrev pub memberRange : Member → Bool
+memberRange x = leb (x .kind) 3 && leb (x .bits) 3
+
+abbrev pub memberDefined : Counts → Member → Bool
+memberDefined n x = ltb (x .parent) (n .definitions) && ltb (x .name) (n .names) && ltb (x .definition) (n .definitions)
+
+-- what a member of a kind with that parent and name may be: the parent's variant by that name, or a definition of kind 4
+abbrev pub isMember : ℕ → ℕ → ℕ → Definition → Bool
+isMember kind parent name d =
+    (not (eqb kind 0) || eqb (d .kind) 2 && eqb (d .first) parent && eqb (d .second) name)
+    && (eqb kind 0 || eqb (d .kind) 4)
+
+-- a parent is of kind 4
+abbrev pub memberPlaced : Snapshot → Member → Bool
+memberPlaced s x =
+    eqb (kindOfDefinition s (x .parent)) 4
+    && isMember (x .kind) (x .parent) (x .name) (getD (s .definitions) (x .definition) noDefinition)
 
 -- after the last record
 

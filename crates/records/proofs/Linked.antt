@@ -28,14 +28,14 @@ pub record Linked (W A B : List ℕ) (l : Layout) : Type 0 where
   pub index : Indexes W B l
 
 module _ (W A : List ℕ) (l : Layout) (ix : Indexes W A l) {base : ℕ} where
-  pub scope-chain : base ≡ scopeBase l → Chained A 4544 8392 (λ i. recordKey W 2 (base + 7 * i)) (l .scopes)
-  scope-chain e = subst (λ b. Chained A 4544 8392 (λ i. recordKey W 2 (b + 7 * i)) (l .scopes)) (sym e) (ix .scopes)
+  pub scope-chain : base ≡ scopeBase l → Chained A 4544 8392 (λ i. recordKey W 2 (base + 8 * i)) (l .scopes)
+  scope-chain e = subst (λ b. Chained A 4544 8392 (λ i. recordKey W 2 (b + 8 * i)) (l .scopes)) (sym e) (ix .scopes)
 
   pub extern-chain : base ≡ externBase l → Chained A 4928 10736 (λ i. recordKey W 1 (base + 3 * i)) (l .externs)
   extern-chain e = subst (λ b. Chained A 4928 10736 (λ i. recordKey W 1 (b + 3 * i)) (l .externs)) (sym e) (ix .externs)
 
 module _ (W A : List ℕ) (at : ℕ) (l : Layout) (ms : List Map) {key : ℕ} {B : List ℕ} (short : length W ≤ 16384) (large : 16384 ≤ length A) where
-  pub scope-linked : Stands W A 9 at l ms → at + 7 ≤ length W → key ≡ recordKey W 2 at → B ≡ linked A 4544 8392 key (l .scopes) → Linked W A B (scopeOn l)
+  pub scope-linked : Stands W A 9 at l ms → at + 8 ≤ length W → key ≡ recordKey W 2 at → B ≡ linked A 4544 8392 key (l .scopes) → Linked W A B (scopeOn l)
   scope-linked st fits ek eb = subst (λ C. Linked W A C (scopeOn l)) (sym eb) (record { kept = λ i p q. other i (omega arith) (omega arith); index = grown })
     where
       small : key < 383
@@ -44,8 +44,8 @@ module _ (W A : List ℕ) (at : ℕ) (l : Layout) (ms : List Map) {key : ℕ} {B
       ze : l .externs ≡ 0
       ze = st .upto .externs (lit< tt)
 
-      here : scopeBase l + 7 * l .scopes ≡ at
-      here = let zi : l .imports ≡ 0 = st .upto .imports (lit< tt) in let q = ze in let p = st .place in omega arith
+      here : scopeBase l + 8 * l .scopes ≡ at
+      here = let zi : l .imports ≡ 0 = st .upto .imports (lit< tt) in let zb : l .members ≡ 0 = st .upto .members (lit< tt) in let q = ze in let p = st .place in omega arith
 
       other : (i : ℕ) → (4544 ≤ i → i < 4927 → ⊥) → (8392 ≤ i → ⊥) → getD (linked A 4544 8392 key (l .scopes)) i 0 ≡ getD A i 0
       other i p q = let h = small in linked-other A 4544 8392 key (l .scopes) i (λ e. p (omega arith) (omega arith)) (λ e. q (omega arith))
@@ -61,7 +61,7 @@ module _ (W A : List ℕ) (at : ℕ) (l : Layout) (ms : List Map) {key : ℕ} {B
                 (λ i h. ap (λ x. nameKey (nameAt W x)) (other i (omega arith) (omega arith)));
             children = marked-kept A _ 5312 _ _ (l .children) (ix .children) (λ m h. other _ (omega arith) (omega arith)) (λ i h. refl);
             definitions = marked-kept A _ 5824 _ _ (l .definitions) (ix .definitions) (λ m h. other _ (omega arith) (omega arith)) (λ i h. refl);
-            scopes = chained-linked A 4544 8392 key (l .scopes) (λ i. recordKey W 2 (scopeBase l + 7 * i)) (ix .scopes) (omega arith) (omega arith) small (ap (recordKey W 2) here ∙ sym ek);
+            scopes = chained-linked A 4544 8392 key (l .scopes) (λ i. recordKey W 2 (scopeBase l + 8 * i)) (ix .scopes) (omega arith) (omega arith) small (ap (recordKey W 2) here ∙ sym ek);
             externs =
                 chained-kept A _ 4928 10736 _ _ (l .externs) (ix .externs) (λ b h. other _ (omega arith) (omega arith)) (λ i h. (let z = ze in absurd (omega arith)))
                 (λ i h. (let z = ze in absurd (omega arith)));
@@ -74,7 +74,7 @@ module _ (W A : List ℕ) (at : ℕ) (l : Layout) (ms : List Map) {key : ℕ} {B
       small = key-small _ ek
 
       here : externBase l + 3 * l .externs ≡ at
-      here = let p = st .place in omega arith
+      here = let zb : l .members ≡ 0 = st .upto .members (lit< tt) in let p = st .place in omega arith
 
       other : (i : ℕ) → (4928 ≤ i → i < 5311 → ⊥) → (10736 ≤ i → ⊥) → getD (linked A 4928 10736 key (l .externs)) i 0 ≡ getD A i 0
       other i p q = let h = small in linked-other A 4928 10736 key (l .externs) i (λ e. p (omega arith) (omega arith)) (λ e. q (omega arith))
@@ -106,7 +106,7 @@ module _ (W A : List ℕ) (l : Layout) (few : l .names ≤ 2048) (i : ℕ) (low 
       chained-kept A _ 4160 6344 _ _ (l .names) (ix .names) (λ b h. mark-other _ (omega arith)) (λ j h. mark-other _ (omega arith))
       (λ j h. ap (λ x. nameKey (nameAt W x)) (mark-other j (omega arith)))
 
-  scopes-stay : (m : Layout) → l .scopes ≡ 0 → Chained (set A i 1) 4544 8392 (λ j. recordKey W 2 (scopeBase m + 7 * j)) (l .scopes)
+  scopes-stay : (m : Layout) → l .scopes ≡ 0 → Chained (set A i 1) 4544 8392 (λ j. recordKey W 2 (scopeBase m + 8 * j)) (l .scopes)
   scopes-stay m z = chained-kept A _ 4544 8392 _ _ (l .scopes) (ix .scopes) (λ b h. mark-other _ (omega arith)) (λ j h. absurd (omega arith)) (λ j h. absurd (omega arith))
 
   externs-stay : (m : Layout) → l .externs ≡ 0 → Chained (set A i 1) 4928 10736 (λ j. recordKey W 1 (externBase m + 3 * j)) (l .externs)
@@ -122,6 +122,7 @@ module _ (W A : List ℕ) (at : ℕ) (l : Layout) (ms : List Map) {s : ℕ} (lar
       let zs : l .scopes ≡ 0 = st .upto .scopes (lit< tt) in
       let zi : l .imports ≡ 0 = st .upto .imports (lit< tt) in
       let ze : l .externs ≡ 0 = st .upto .externs (lit< tt) in
+      let zb : l .members ≡ 0 = st .upto .members (lit< tt) in
       let here : childBase l + 2 * l .children ≡ at = (let p = st .place in omega arith) in
       record {
         kept = λ i p q. getD-set-other A (5312 + s) i 1 0 (omega arith);
@@ -141,6 +142,7 @@ module _ (W A : List ℕ) (at : ℕ) (l : Layout) (ms : List Map) {s : ℕ} (lar
       let zs : l .scopes ≡ 0 = st .upto .scopes (lit< tt) in
       let zi : l .imports ≡ 0 = st .upto .imports (lit< tt) in
       let ze : l .externs ≡ 0 = st .upto .externs (lit< tt) in
+      let zb : l .members ≡ 0 = st .upto .members (lit< tt) in
       let here : definitionBase l + 3 * l .definitions ≡ at = (let p = st .place in omega arith) in
       record {
         kept = λ i p q. getD-set-other A (5824 + s) i 1 0 (omega arith);

@@ -8,17 +8,17 @@ use lib.ListN.{length, getD}
 use lib.Dec.{eqb, leb, ltb}
 use borrow.Author.Tests.{ltb-true, leb-false}
 use Rattle.snapshot.specs.Lists.{rows, any}
-use Rattle.snapshot.specs.Records.{Map, nameAt, dependencyAt, childAt, preludeAt, definitionAt, scopeAt, importAt, externAt}
+use Rattle.snapshot.specs.Records.{Map, nameAt, dependencyAt, childAt, preludeAt, definitionAt, scopeAt, importAt, externAt, memberAt}
 use Rattle.snapshot.specs.Layouts.{preludeBase, definitionBase, scopeBase, externBase, moduleMap, moduleParent, nameHead, snapWith}
 use Rattle.snapshot.specs.declared.layout.Layout.{Layout}
 use Rattle.snapshot.proofs.Laws.{length-rows, getD-rows}
-use Rattle.record_rules.specs.Tests.{countsOf, noName, isBuiltin, dependencyRange, dependencyDefined, childDefined, sameChild, childPlaced, preludeDefined, samePrelude, definitionRange, definitionDefined, definitionRepeated, definitionPlaced, scopeRange, scopeDefined, sameEntry, nsPlaced, importRange, importDefined, externDefined, sameExtern}
-use Rattle.record_rules.specs.Steps.{no, on, dependencyStep, childStep, preludeStep, definitionStep, scopeStep, importStep, externStep, addDependency, addChild, addPrelude, addDefinition, addScope, addImport, addExtern}
+use Rattle.record_rules.specs.Tests.{countsOf, noName, isBuiltin, dependencyRange, dependencyDefined, childDefined, sameChild, childPlaced, preludeDefined, samePrelude, definitionRange, definitionDefined, definitionRepeated, definitionPlaced, scopeRange, scopeDefined, sameEntry, nsPlaced, importRange, importDefined, externDefined, sameExtern, memberRange, memberDefined, isMember, memberPlaced}
+use Rattle.record_rules.specs.Steps.{no, on, dependencyStep, childStep, preludeStep, definitionStep, scopeStep, importStep, externStep, memberStep, addDependency, addChild, addPrelude, addDefinition, addScope, addImport, addExtern, addMember}
 use Rattle.record_rules.specs.Stands.{numberOf, sameBy, countsIn, Stands, Answered}
 use Rattle.record_rules.specs.declared.judge.Step.the-variants.{On}
-use Rattle.records.proofs.Grows.{dependencyOn, dependency-added, dependency-stands, childOn, child-added, child-stands, preludeOn, prelude-added, prelude-stands, definitionOn, definition-added, definition-stands, scopeOn, scope-added, scope-stands, importOn, import-added, import-stands, externOn, extern-added, extern-stands}
+use Rattle.records.proofs.Grows.{dependencyOn, dependency-added, dependency-stands, childOn, child-added, child-stands, preludeOn, prelude-added, prelude-stands, definitionOn, definition-added, definition-stands, scopeOn, scope-added, scope-stands, importOn, import-added, import-stands, externOn, extern-added, extern-stands, memberOn, member-added, member-stands}
 use Rattle.records.proofs.Linked.{Linked, module-small}
-use Rattle.record_rules.proofs.Judged.{number-of, judge-no, judge-on, passes, counts-same, any-same, and-right, prelude-again, definition-again, scope-again, extern-again, scope-definition, import-definition, ns-same, child-same, parent-same}
+use Rattle.record_rules.proofs.Judged.{number-of, judge-no, judge-on, passes, counts-same, any-same, and-right, prelude-again, definition-again, scope-again, extern-again, scope-definition, import-definition, ns-same, child-same, parent-same, member-same}
 
 -- the names of a builtin definition that is in range
 builtin-same : (W A : List ℕ) (names first : ℕ) → (leb names first || isBuiltin (nameAt W (nameHead A first))) ≡ (leb names first || isBuiltin (getD (rows (λ k. nameAt W (nameHead A k)) 0 names) first noName))
@@ -163,7 +163,7 @@ module _ (W A : List ℕ) (at : ℕ) (l : Layout) (ms : List Map) (st : Stands W
     (ea : a ≡ scopeRange (scopeAt W at))
     (eb : b ≡ scopeDefined (countsIn l) (scopeAt W at))
     (es : base ≡ scopeBase l)
-    (ec : c ≡ any (sameBy W true 2 at) (rows (λ k. base + 7 * k) 0 (l .scopes)))
+    (ec : c ≡ any (sameBy W true 2 at) (rows (λ k. base + 8 * k) 0 (l .scopes)))
     (en : ns ≡ scopeAt W at .ns) (ef : def ≡ scopeAt W at .definition)
     (ed : d ≡ (not (eqb ns 2) || eqb (definitionAt W (definitionBase l + 3 * def) .kind) 5))
   where
@@ -172,7 +172,7 @@ module _ (W A : List ℕ) (at : ℕ) (l : Layout) (ms : List Map) (st : Stands W
         number-of a b c d true (scopeRange (scopeAt W at)) (scopeDefined (countsOf (snapWith W A l ms)) (scopeAt W at)) (any (sameEntry (scopeAt W at)) ((snapWith W A l ms) .scopes)) (nsPlaced (snapWith W A l ms) (scopeAt W at .ns) (scopeAt W at .definition)) true j
         ea
         (eb ∙ ap (λ m. scopeDefined m (scopeAt W at)) (counts-same W A 9 at l ms st))
-        (λ h. ec ∙ ap (λ m. any (sameBy W true 2 at) (rows (λ k. m + 7 * k) 0 (l .scopes))) es ∙ scope-again W at (scopeBase l) (l .scopes))
+        (λ h. ec ∙ ap (λ m. any (sameBy W true 2 at) (rows (λ k. m + 8 * k) 0 (l .scopes))) es ∙ scope-again W at (scopeBase l) (l .scopes))
         (λ h. ed ∙ ap₂ (λ m f. not (eqb m 2) || eqb (definitionAt W (definitionBase l + 3 * f) .kind) 5) en ef ∙ ns-same W A l ms (scopeAt W at .ns) (scopeAt W at .definition) (scope-definition (countsIn l) (scopeAt W at) (sym eb ∙ h)))
         refl
 
@@ -180,7 +180,7 @@ module _ (W A : List ℕ) (at : ℕ) (l : Layout) (ms : List Map) (st : Stands W
     unfolding scopeStep
     scope-no z = judge-no (scopeRange (scopeAt W at)) (scopeDefined (countsOf (snapWith W A l ms)) (scopeAt W at)) (any (sameEntry (scopeAt W at)) ((snapWith W A l ms) .scopes)) (nsPlaced (snapWith W A l ms) (scopeAt W at .ns) (scopeAt W at .definition)) true (addScope (snapWith W A l ms) (scopeAt W at)) scope-number z
 
-    pub scope-on : (B : List ℕ) → n ≡ 0 → at + 7 ≤ length W → Linked W A B (scopeOn l) → Answered W B 9 (at + 7) (scopeStep (snapWith W A l ms) (scopeAt W at)) (On (scopeOn l))
+    pub scope-on : (B : List ℕ) → n ≡ 0 → at + 8 ≤ length W → Linked W A B (scopeOn l) → Answered W B 9 (at + 8) (scopeStep (snapWith W A l ms) (scopeAt W at)) (On (scopeOn l))
     unfolding scopeStep
     scope-on B z fits x = (
       ms,
@@ -245,4 +245,32 @@ module _ (W A : List ℕ) (at : ℕ) (l : Layout) (ms : List Map) (st : Stands W
       ms,
       judge-on true (externDefined (countsOf (snapWith W A l ms)) (externAt W at)) (any (sameExtern (externAt W at)) ((snapWith W A l ms) .externs)) true true (addExtern (snapWith W A l ms) (externAt W at)) (passes true (externDefined (countsOf (snapWith W A l ms)) (externAt W at)) (any (sameExtern (externAt W at)) ((snapWith W A l ms) .externs)) true true (sym z ∙ extern-number)) ∙ ap on (sym (extern-added W A B at l ms st (x .kept))),
       extern-stands W A B at l ms st (x .kept) fits (x .index),
+    )
+
+module _ (W A : List ℕ) (at : ℕ) (l : Layout) (ms : List Map) (st : Stands W A 13 at l ms)
+    {n : ℕ} {a b d : Bool}
+    (j : n ≡ numberOf a b false d true)
+    (ea : a ≡ memberRange (memberAt W at))
+    (eb : b ≡ memberDefined (countsIn l) (memberAt W at))
+    (ed : d ≡ (eqb (definitionAt W (definitionBase l + 3 * memberAt W at .parent) .kind) 4 && isMember (memberAt W at .kind) (memberAt W at .parent) (memberAt W at .name) (definitionAt W (definitionBase l + 3 * memberAt W at .definition))))
+  where
+    member-number : n ≡ numberOf (memberRange (memberAt W at)) (memberDefined (countsOf (snapWith W A l ms)) (memberAt W at)) false (memberPlaced (snapWith W A l ms) (memberAt W at)) true
+    member-number =
+        number-of a b false d true (memberRange (memberAt W at)) (memberDefined (countsOf (snapWith W A l ms)) (memberAt W at)) false (memberPlaced (snapWith W A l ms) (memberAt W at)) true j
+        ea
+        (eb ∙ ap (λ m. memberDefined m (memberAt W at)) (counts-same W A 13 at l ms st))
+        (λ h. refl)
+        (λ h. ed ∙ member-same W A l ms (memberAt W at) (sym eb ∙ h))
+        refl
+
+    pub member-no : (n ≡ 0 → ⊥) → memberStep (snapWith W A l ms) (memberAt W at) ≡ no n
+    unfolding memberStep
+    member-no z = judge-no (memberRange (memberAt W at)) (memberDefined (countsOf (snapWith W A l ms)) (memberAt W at)) false (memberPlaced (snapWith W A l ms) (memberAt W at)) true (addMember (snapWith W A l ms) (memberAt W at)) member-number z
+
+    pub member-on : n ≡ 0 → at + 5 ≤ length W → Answered W A 13 (at + 5) (memberStep (snapWith W A l ms) (memberAt W at)) (On (memberOn l))
+    unfolding memberStep
+    member-on z fits = (
+      ms,
+      judge-on (memberRange (memberAt W at)) (memberDefined (countsOf (snapWith W A l ms)) (memberAt W at)) false (memberPlaced (snapWith W A l ms) (memberAt W at)) true (addMember (snapWith W A l ms) (memberAt W at)) (passes (memberRange (memberAt W at)) (memberDefined (countsOf (snapWith W A l ms)) (memberAt W at)) false (memberPlaced (snapWith W A l ms) (memberAt W at)) true (sym z ∙ member-number)) ∙ ap on (sym (member-added W A at l ms st)),
+      member-stands W A at l ms st fits,
     )

@@ -137,7 +137,7 @@ fn fresh_of(
     let mut first = Entry::Nothing;
     let mut count = 0;
     while count < l.scopes {
-        let h = base + 7 * count;
+        let h = base + 8 * count;
         count += 1;
         let its = is_for(words, l, h, m, item);
         if is_fresh(words, area, l, x, item, rule, its, h) {

@@ -10,9 +10,9 @@ use lib.ListN.{length, getD}
 use borrow.Author.Tests.{ltb-true, ltb-false, lt-ltb, ne-eqb}
 use Rattle.snapshot.specs.Lists.{any}
 use Rattle.snapshot.specs.Words.{kindOf, payOf, argumentsOf, argumentsAt}
-use Rattle.snapshot.specs.Records.{Snapshot, Scope, Import, Extern, importAt, externAt}
-use Rattle.record_rules.specs.Tests.{countsOf, sameEntry, mapsFilled, cratesOwn, importRange, importDefined, nsPlaced, externDefined, sameExtern}
-use Rattle.record_rules.specs.Steps.{on, addImport, addExtern, importStep, externStep}
+use Rattle.snapshot.specs.Records.{Snapshot, Scope, Import, Extern, Member, importAt, externAt, memberAt}
+use Rattle.record_rules.specs.Tests.{countsOf, sameEntry, mapsFilled, cratesOwn, importRange, importDefined, nsPlaced, externDefined, sameExtern, memberRange, memberDefined, memberPlaced}
+use Rattle.record_rules.specs.Steps.{on, addImport, addExtern, addMember, importStep, externStep, memberStep}
 use Rattle.accept.specs.Verdict.{recordStep, stepAt, refuse, accept, finish, records}
 use Rattle.accept.proofs.Accepted.{by-test, by-next, judge-on}
 use Rattle.accept.proofs.Folds.{records-end}
@@ -164,6 +164,7 @@ base s =
       scopes = s .scopes;
       imports = [];
       externs = [];
+      members = [];
     }
 
 import-base : (s t : Snapshot) (x : Import) → importStep s x ≡ on t → base t ≡ base s
@@ -173,6 +174,10 @@ import-base s t x e = sym (ap base (judge-on (importRange x) (importDefined (cou
 extern-base : (s t : Snapshot) (x : Extern) → externStep s x ≡ on t → base t ≡ base s
 unfolding externStep
 extern-base s t x e = sym (ap base (judge-on true (externDefined (countsOf s) x) (any (sameExtern x) (s .externs)) true true (addExtern s x) t e .same))
+
+member-base : (s t : Snapshot) (x : Member) → memberStep s x ≡ on t → base t ≡ base s
+unfolding memberStep
+member-base s t x e = sym (ap base (judge-on (memberRange x) (memberDefined (countsOf s) x) false (memberPlaced s x) true (addMember s x) t e .same))
 
 late-base : (W : List ℕ) (a k : ℕ) (s t : Snapshot) → 10 ≤ k → recordStep k W a s ≡ on t → base t ≡ base s
 unfolding recordStep
@@ -189,7 +194,9 @@ late-base W a k s t h e =
     let n9 = n 9 (omega arith) in
     by-test (eqb k 10)
     (λ c. import-base s t (importAt W a) (rw (recordStep, n1, n2, n3, n4, n5, n6, n7, n8, n9, c) at e))
-    (λ c. extern-base s t (externAt W a) (rw (recordStep, n1, n2, n3, n4, n5, n6, n7, n8, n9, c) at e))
+    (λ n10. by-test (eqb k 11)
+    (λ c. extern-base s t (externAt W a) (rw (recordStep, n1, n2, n3, n4, n5, n6, n7, n8, n9, n10, c) at e))
+    (λ c. member-base s t (memberAt W a) (rw (recordStep, n1, n2, n3, n4, n5, n6, n7, n8, n9, n10, c) at e)))
 
 pub run-late : (W : List ℕ) (n a last : ℕ) (s u : Snapshot) → 10 ≤ last → length W ≤ n + a → records n W a last s ≡ accept u → base u ≡ base s
 unfolding records

@@ -35,6 +35,7 @@ pub record Small (x : Scope) : Type 0 where
   pub visibility : x .visibility < 268435456
   pub number : x .number < 268435456
   pub declared : x .declared < 268435456
+  pub bits : x .bits < 268435456
 
 number-small : (v n c m : ℕ) → (v ≡ 0 → n ≡ 0) → (v ≡ 1 → n < c) → (2 ≤ v → n < m) → c ≤ 64 → m ≤ 512 → n < 268435456
 number-small zero n c m f g h i j = let z = f refl in omega arith
@@ -53,6 +54,7 @@ fits-small u x l r e =
     let k = f .definition in
     let m = f .visibility in
     let n = f .declared in
+    let o = f .bits in
     record {
       owner = omega arith;
       ns = omega arith;
@@ -61,6 +63,7 @@ fits-small u x l r e =
       visibility = omega arith;
       number = number-small (x .visibility) (x .number) (length (u .crates)) (length (u .modules)) (f .public) (f .crate) (f .inside) (l .crates) (l .modules);
       declared = omega arith;
+      bits = omega arith;
     }
 
 follows-scope : (last : ℕ) → last ≤ 9 → follows last 9 ≡ true
@@ -70,7 +73,7 @@ kind-none : (w : ℕ) → w < 268435456 → eqb (kindOf w) 0 ≡ true
 kind-none w h = eq-eqb (w / 268435456) 0 (omega arith)
 
 module _ (x : Scope) (small : Small x) where
-  pub words-length : length (scopeWords x) ≡ 7
+  pub words-length : length (scopeWords x) ≡ 8
   unfolding scopeWords
   words-length = refl
 
@@ -91,10 +94,11 @@ module _ (x : Scope) (small : Small x) where
         visibility = x .visibility;
         number = x .number;
         declared = x .declared;
+        bits = x .bits;
         place = 0;
       }
 
-  words-arguments : argumentsFrom (scopeWords x) 1 6 ≡ true
+  words-arguments : argumentsFrom (scopeWords x) 1 7 ≡ true
   unfolding scopeWords argumentsFrom
   words-arguments =
       rw (
@@ -104,11 +108,12 @@ module _ (x : Scope) (small : Small x) where
         kind-none (x .visibility) (small .visibility),
         kind-none (x .number) (small .number),
         kind-none (x .declared) (small .declared),
+        kind-none (x .bits) (small .bits),
       )
 
   -- they stand at a place
-  module _ (X : List ℕ) (p : ℕ) (at : (i : ℕ) → i < 7 → getD X (p + i) 0 ≡ getD (scopeWords x) i 0) (fits : p + 7 ≤ length X) where
-    here : Same (scopeWords x) X 0 p 6
+  module _ (X : List ℕ) (p : ℕ) (at : (i : ℕ) → i < 8 → getD X (p + i) 0 ≡ getD (scopeWords x) i 0) (fits : p + 8 ≤ length X) where
+    here : Same (scopeWords x) X 0 p 7
     here i h = at i (omega arith) ∙ ap (λ j. getD (scopeWords x) j 0) (sym (zero-add i))
 
     pub entry-kind : kindOf (getD X p 0) ≡ 9
@@ -117,13 +122,13 @@ module _ (x : Scope) (small : Small x) where
     pub entry-is : scopeAt X p ≡ placed p x
     entry-is = scope-same (scopeWords x) X 0 p (λ n. p) refl here ∙ ap (placed p) words-entry
 
-    pub entry-size : argumentsAt X p ≡ 6
+    pub entry-size : argumentsAt X p ≡ 7
     unfolding argumentsOf
     entry-size = ap (λ k. argumentsOf k (payOf (getD X p 0))) entry-kind
 
-    entry-arguments : argumentsFrom X (p + 1) 6 ≡ true
+    entry-arguments : argumentsFrom X (p + 1) 7 ≡ true
     entry-arguments =
-        arguments-same (scopeWords x) X 1 (p + 1) 6
+        arguments-same (scopeWords x) X 1 (p + 1) 7
         (λ d h. let a : p + 1 + d ≡ p + (1 + d) = omega arith in ap (λ j. getD X j 0) a ∙ at (1 + d) (omega arith)) (omega arith) words-arguments
 
     entry-taken : (last : ℕ) (s : Snapshot) → last ≤ 9 → scopeRange x ≡ true → scopeDefined (countsOf s) x ≡ true → any (sameEntry x) (s .scopes) ≡ false
@@ -170,18 +175,18 @@ module _ (W : List ℕ) (u : Snapshot) (acc : verdict W ≡ accept u) where
   end-base = run-late W (end-split .fuel) (scopesEnd W) 10 (end-split .state) u (omega arith) (end-split .enough) end-rest
 
   module _ (x : Scope) (ranged : scopeRange x ≡ true) (known : scopeDefined (countsOf u) x ≡ true) (new : any (sameEntry x) (u .scopes) ≡ false)
-      (right : nsPlaced u (x .ns) (x .definition) ≡ true) (room : length W + 7 ≤ 16384)
+      (right : nsPlaced u (x .ns) (x .definition) ≡ true) (room : length W + 8 ≤ 16384)
     where
       small : Small x
       small = fits-small u x (accepted-limits W u acc) ranged known
 
-      longer : length (inserted (scopesEnd W) (scopeWords x) W) ≡ length W + 7
+      longer : length (inserted (scopesEnd W) (scopeWords x) W) ≡ length W + 8
       longer = inserted-length W (scopeWords x) (scopesEnd W) end-within ∙ ap (λ n. length W + n) (words-length x small)
 
-      fits : scopesEnd W + 7 ≤ length (inserted (scopesEnd W) (scopeWords x) W)
+      fits : scopesEnd W + 8 ≤ length (inserted (scopesEnd W) (scopeWords x) W)
       fits = let l = longer in let w = end-within in omega arith
 
-      stands : (i : ℕ) → i < 7 → getD (inserted (scopesEnd W) (scopeWords x) W) (scopesEnd W + i) 0 ≡ getD (scopeWords x) i 0
+      stands : (i : ℕ) → i < 8 → getD (inserted (scopesEnd W) (scopeWords x) W) (scopesEnd W + i) 0 ≡ getD (scopeWords x) i 0
       stands i h = inserted-at W (scopeWords x) (scopesEnd W) end-within i (rw (words-length x small) h)
 
       taken : Taking (inserted (scopesEnd W) (scopeWords x) W) (scopesEnd W) (end-split .before) (end-split .state) (addScope (end-split .state) (placed (scopesEnd W) x))
@@ -194,33 +199,33 @@ module _ (W : List ℕ) (u : Snapshot) (acc : verdict W ≡ accept u) where
       -- over the record that was put in
       over : (n : ℕ) → length (inserted (scopesEnd W) (scopeWords x) W) ≤ n + scopesEnd W
           → records n (inserted (scopesEnd W) (scopeWords x) W) (scopesEnd W) (end-split .before) (end-split .state)
-          ≡ records (end-split .fuel) (inserted (scopesEnd W) (scopeWords x) W) (scopesEnd W + 7) 9 (addScope (end-split .state) (placed (scopesEnd W) x))
+          ≡ records (end-split .fuel) (inserted (scopesEnd W) (scopeWords x) W) (scopesEnd W + 8) 9 (addScope (end-split .state) (placed (scopesEnd W) x))
       over zero h = let f = fits in absurd (omega arith)
       over (suc n) h =
           let f = fits in
           let l = longer in
           let m = end-split .enough in
-          let to : scopesEnd W + 1 + 6 ≡ scopesEnd W + 7 = omega arith in
+          let to : scopesEnd W + 1 + 7 ≡ scopesEnd W + 8 = omega arith in
           records-take (inserted (scopesEnd W) (scopeWords x) W) n (scopesEnd W) (end-split .before) (end-split .state) (addScope (end-split .state) (placed (scopesEnd W) x)) (omega arith)
           (taken-step (inserted (scopesEnd W) (scopeWords x) W) (scopesEnd W) (end-split .before) (end-split .state) (addScope (end-split .state) (placed (scopesEnd W) x)) taken)
           (entry-size x small (inserted (scopesEnd W) (scopeWords x) W) (scopesEnd W) stands fits)
           (entry-kind x small (inserted (scopesEnd W) (scopeWords x) W) (scopesEnd W) stands fits)
           ∙ ap (λ j. records n (inserted (scopesEnd W) (scopeWords x) W) j 9 (addScope (end-split .state) (placed (scopesEnd W) x))) to
-          ∙ records-more (inserted (scopesEnd W) (scopeWords x) W) n (end-split .fuel) (scopesEnd W + 7) 9 (addScope (end-split .state) (placed (scopesEnd W) x)) (omega arith) (omega arith)
+          ∙ records-more (inserted (scopesEnd W) (scopeWords x) W) n (end-split .fuel) (scopesEnd W + 8) 9 (addScope (end-split .state) (placed (scopesEnd W) x)) (omega arith) (omega arith)
 
       -- over the records after it
       after : (zs : List Scope) × More (end-split .state .scopes) (placed (scopesEnd W) x) (u .scopes) zs
-          × (records (end-split .fuel) (inserted (scopesEnd W) (scopeWords x) W) (scopesEnd W + 7) 9 (addScope (end-split .state) (placed (scopesEnd W) x)) ≡ accept (withScopes higher u zs))
+          × (records (end-split .fuel) (inserted (scopesEnd W) (scopeWords x) W) (scopesEnd W + 8) 9 (addScope (end-split .state) (placed (scopesEnd W) x)) ≡ accept (withScopes higher u zs))
       after =
           let l = longer in
           let y = placed (scopesEnd W) x in
           let r =
           run-moved W (inserted (scopesEnd W) (scopeWords x) W) higher (More (end-split .state .scopes) y) 10 (more-kept (end-split .state .scopes) y) (omega arith)
-          (end-split .fuel) (scopesEnd W) (scopesEnd W + 7) 10 9 (end-split .state) u (end-split .state .scopes ++ (y ∷ [])) (omega arith) (omega arith)
-          (inserted-after W (scopeWords x) (scopesEnd W) end-within 7 (sym (words-length x small))) (λ i. omega arith) (omega arith) (end-split .enough) (refl, refl) end-rest in (
+          (end-split .fuel) (scopesEnd W) (scopesEnd W + 8) 10 9 (end-split .state) u (end-split .state .scopes ++ (y ∷ [])) (omega arith) (omega arith)
+          (inserted-after W (scopeWords x) (scopesEnd W) end-within 8 (sym (words-length x small))) (λ i. omega arith) (omega arith) (end-split .enough) (refl, refl) end-rest in (
             r .0,
             r .1,
-            ap (records (end-split .fuel) (inserted (scopesEnd W) (scopeWords x) W) (scopesEnd W + 7) 9)
+            ap (records (end-split .fuel) (inserted (scopesEnd W) (scopeWords x) W) (scopesEnd W + 8) 9)
                 (sym (bare-moved higher (end-split .state) (end-split .holds .1) (end-split .state .scopes ++ (y ∷ [])))) ∙ r .2,
           )
 

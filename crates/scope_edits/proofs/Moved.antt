@@ -11,10 +11,10 @@ use borrow.Author.Tests.{eqb-true, eqb-false, eq-eqb, leb-true}
 use Rattle.snapshot.specs.Lists.{any, rows}
 use Rattle.snapshot.specs.Limits.{crateLimit, moduleLimit, nameLimit, definitionLimit}
 use Rattle.snapshot.specs.Words.{kindOf, payOf, wordsOf, argumentsOf, argumentsAt}
-use Rattle.snapshot.specs.Records.{Snapshot, Name, Crate, Dependency, Map, Module, Child, Prelude, Definition, Scope, Import, Extern, nameAt, crateAt, dependencyAt, mapAt, moduleAt, childAt, preludeAt, definitionAt, scopeAt, importAt, externAt}
+use Rattle.snapshot.specs.Records.{Snapshot, Name, Crate, Dependency, Map, Module, Child, Prelude, Definition, Scope, Import, Extern, Member, nameAt, crateAt, dependencyAt, mapAt, moduleAt, childAt, preludeAt, definitionAt, scopeAt, importAt, externAt, memberAt}
 use Rattle.snapshot.proofs.Laws.{rows-ext, after-head}
-use Rattle.record_rules.specs.Tests.{childDefined, childPlaced, countsOf, crateRange, isEdition, definitionDefined, definitionPlaced, definitionRange, definitionRepeated, dependencyDefined, dependencyRange, externDefined, importDefined, importRange, mapDefined, mapPlaced, mapRange, mapRepeated, moduleDefined, modulePlaced, nameRange, nsPlaced, preludeDefined, sameChild, sameExtern, sameName, samePrelude}
-use Rattle.record_rules.specs.Steps.{Next, on, judge, addName, addCrate, addDependency, addMap, addModule, addChild, addPrelude, addDefinition, addImport, addExtern, nameStep, crateStep, dependencyStep, mapStep, moduleStep, childStep, preludeStep, definitionStep, importStep, externStep}
+use Rattle.record_rules.specs.Tests.{childDefined, childPlaced, countsOf, crateRange, isEdition, definitionDefined, definitionPlaced, definitionRange, definitionRepeated, dependencyDefined, dependencyRange, externDefined, importDefined, importRange, mapDefined, mapPlaced, mapRange, mapRepeated, memberDefined, memberPlaced, memberRange, moduleDefined, modulePlaced, nameRange, nsPlaced, preludeDefined, sameChild, sameExtern, sameName, samePrelude}
+use Rattle.record_rules.specs.Steps.{Next, on, judge, addName, addCrate, addDependency, addMap, addModule, addChild, addPrelude, addDefinition, addImport, addExtern, addMember, nameStep, crateStep, dependencyStep, mapStep, moduleStep, childStep, preludeStep, definitionStep, importStep, externStep, memberStep}
 use Rattle.accept.specs.Verdict.{recordStep}
 use Rattle.accept.proofs.Accepted.{by-test, judge-on, judge-crate-on}
 use Rattle.scope_edits.specs.Entries.{movedScope, movedImport, movedExtern, withLists, withScopes}
@@ -76,7 +76,7 @@ module _ (W X : List ℕ) (a b : ℕ) where
       λ i. record { kind = e i; first = f i; second = g i; place = to i }
 
   -- a record's place goes by m
-  pub scope-same : (m : ℕ → ℕ) → b ≡ m a → Same W X a b 6 → scopeAt X b ≡ movedScope m (scopeAt W a)
+  pub scope-same : (m : ℕ → ℕ) → b ≡ m a → Same W X a b 7 → scopeAt X b ≡ movedScope m (scopeAt W a)
   scope-same m to h =
       let e = ap payOf (same-head W X a b _ h) in
       let f = h 1 (omega arith) in
@@ -85,7 +85,8 @@ module _ (W X : List ℕ) (a b : ℕ) where
       let l = h 4 (omega arith) in
       let n = h 5 (omega arith) in
       let o = h 6 (omega arith) in
-      λ i. record { owner = e i; ns = f i; name = g i; definition = k i; visibility = l i; number = n i; declared = o i; place = to i }
+      let p = h 7 (omega arith) in
+      λ i. record { owner = e i; ns = f i; name = g i; definition = k i; visibility = l i; number = n i; declared = o i; bits = p i; place = to i }
 
   import-same : (m : ℕ → ℕ) → b ≡ m a → Same W X a b 5 → importAt X b ≡ movedImport m (importAt W a)
   import-same m to h =
@@ -103,6 +104,15 @@ module _ (W X : List ℕ) (a b : ℕ) where
       let f = h 1 (omega arith) in
       let g = h 2 (omega arith) in
       λ i. record { owner = e i; name = f i; target = g i; place = to i }
+
+  member-same : Same W X a b 4 → memberAt X b ≡ memberAt W a
+  member-same h =
+      let e = ap payOf (same-head W X a b _ h) in
+      let f = h 1 (omega arith) in
+      let g = h 2 (omega arith) in
+      let k = h 3 (omega arith) in
+      let l = h 4 (omega arith) in
+      λ i. record { parent = e i; name = f i; definition = g i; kind = k i; bits = l i }
 
 -- a step that takes the record asks nothing of the scopes, and of no place
 
@@ -205,6 +215,11 @@ module _ (m : ℕ → ℕ) (k : ℕ) (s t : Snapshot) (ys : List Scope) where
             (withLists s ys (map (movedImport m) (s .imports)) l)) g f ∙ q .1,
       )
 
+  member-moved : (x : Member) → memberStep s x ≡ on t → Kept (λ s. memberStep s x)
+  unfolding memberStep
+  member-moved x e =
+      judged-moved (memberRange x) (memberDefined (countsOf s) x) false (memberPlaced s x) true (addMember s x) e (refl, λ h b. b)
+
 -- the arguments of a record of a known kind
 pub arguments-are : (W : List ℕ) (a k : ℕ) → kindOf (getD W a 0) ≡ k → argumentsAt W a ≡ argumentsOf k (payOf (getD W a 0))
 arguments-are W a k e = ap (λ x. argumentsOf x (payOf (getD W a 0))) e
@@ -225,9 +240,9 @@ module _ (W X : List ℕ) (m : ℕ → ℕ) (a b k : ℕ) (to : b ≡ m a) (stil
     sized : (n : ℕ) → eqb k n ≡ true → Same W X a b (argumentsOf n (payOf (getD W a 0)))
     sized n e = let q = arguments-are W a k here ∙ ap (λ x. argumentsOf x (payOf (getD W a 0))) (eqb-true k n e) in subst (λ m. Same W X a b m) q h
 
-    pub other-moved : eqb k 9 ≡ false → leb k 11 ≡ true → leb 1 k ≡ true → recordStep k W a s ≡ on t → Kept m k s t ys (recordStep k X b)
+    pub other-moved : eqb k 9 ≡ false → leb k 13 ≡ true → eqb k 12 ≡ false → leb 1 k ≡ true → recordStep k W a s ≡ on t → Kept m k s t ys (recordStep k X b)
     unfolding recordStep argumentsOf
-    other-moved n9 most least e =
+    other-moved n9 most n12 least e =
         by-test (eqb k 1)
         (λ c. rw (recordStep, c) (moved-to nameStep (nameAt W a) (nameAt X b) (name-same W X a b (sized 1 c)) (name-moved m k s t ys (nameAt W a) (rw (recordStep, c) at e)))) (λ n1.
         by-test (eqb k 2)
@@ -246,8 +261,10 @@ module _ (W X : List ℕ) (m : ℕ → ℕ) (a b k : ℕ) (to : b ≡ m a) (stil
         (λ c. rw (recordStep, n1, n2, n3, n4, n5, n6, n7, c) (moved-to definitionStep (definitionAt W a) (definitionAt X b) (definition-same W X a b (still (eqb-true k 8 c)) (sized 8 c)) (definition-moved m k s t ys (definitionAt W a) (rw (recordStep, n1, n2, n3, n4, n5, n6, n7, c) at e)))) (λ n8.
         by-test (eqb k 10)
         (λ c. rw (recordStep, n1, n2, n3, n4, n5, n6, n7, n8, n9, c) (moved-to importStep (movedImport m (importAt W a)) (importAt X b) (import-same W X a b m to (sized 10 c)) (import-moved m k s t ys (importAt W a) (let x = eqb-true k 10 c in omega arith) (rw (recordStep, n1, n2, n3, n4, n5, n6, n7, n8, n9, c) at e)))) (λ n10.
+        by-test (eqb k 11)
+        (λ c. rw (recordStep, n1, n2, n3, n4, n5, n6, n7, n8, n9, n10, c) (moved-to externStep (movedExtern m (externAt W a)) (externAt X b) (extern-same W X a b m to (sized 11 c)) (extern-moved m k s t ys (externAt W a) (let x = eqb-true k 11 c in omega arith) (rw (recordStep, n1, n2, n3, n4, n5, n6, n7, n8, n9, n10, c) at e)))) (λ n11.
         let r4 = above 4 k (above 3 k (above 2 k (above 1 k (leb-true 1 k least) n1) n2) n3) n4 in
         let r8 = above 8 k (above 7 k (above 6 k (above 5 k r4 n5) n6) n7) n8 in
-        let r10 = above 10 k (above 9 k r8 n9) n10 in
-        let c : eqb k 11 ≡ true = eq-eqb k 11 (equal k 11 (leb-true k 11 most) r10) in
-        rw (recordStep, n1, n2, n3, n4, n5, n6, n7, n8, n9, n10) (moved-to externStep (movedExtern m (externAt W a)) (externAt X b) (extern-same W X a b m to (sized 11 c)) (extern-moved m k s t ys (externAt W a) (let x = eqb-true k 11 c in omega arith) (rw (recordStep, n1, n2, n3, n4, n5, n6, n7, n8, n9, n10) at e))))))))))))
+        let r12 = above 12 k (above 11 k (above 10 k (above 9 k r8 n9) n10) n11) n12 in
+        let c : eqb k 13 ≡ true = eq-eqb k 13 (equal k 13 (leb-true k 13 most) r12) in
+        rw (recordStep, n1, n2, n3, n4, n5, n6, n7, n8, n9, n10, n11) (moved-to memberStep (memberAt W a) (memberAt X b) (member-same W X a b (sized 13 c)) (member-moved m k s t ys (memberAt W a) (rw (recordStep, n1, n2, n3, n4, n5, n6, n7, n8, n9, n10, n11) at e)))))))))))))

@@ -2,12 +2,12 @@
 use Prim.Native.Nat.{ℕ, zero, suc, _+_, _≤_, _<_}
 use mathlib.Core.Path.{_≡_, refl, sym, _∙_, ap, subst}
 use mathlib.Core.List.{List, [], _∷_, _++_}
-use mathlib.Core.Bool.{Bool, true, false, _&&_, _||_}
+use mathlib.Core.Bool.{Bool, true, false, _&&_, _||_, not}
 use native.Mathlib.Omega.{arith}
 use native.Mathlib.Nat.{add-zero}
 use lib.Dec.{eqb, leb, ltb}
 use lib.ListN.{length, getD}
-use borrow.Author.Tests.{eqb-true, ltb-true, lt-ltb, leb-true, le-leb}
+use borrow.Author.Tests.{eqb-true, ltb-true, lt-ltb, leb-true, le-leb, not-true}
 use Rattle.snapshot.specs.Lists.{any}
 use Rattle.snapshot.specs.Words.{kindOf, payOf, argumentsOf, argumentsAt}
 use Rattle.snapshot.specs.Records.{Snapshot, Scope, scopeAt}
@@ -15,30 +15,32 @@ use Rattle.record_rules.specs.Tests.{countsOf, nsPlaced, sameEntry, scopeDefine
 use Rattle.record_rules.specs.Steps.{Next, on, need, addScope, scopeStep}
 use Rattle.accept.specs.Verdict.{follows, argumentsFrom, recordStep, stepAt}
 use Rattle.accept.proofs.Accepted.{by-test, Taken, judge-on}
-use Rattle.accept.proofs.Bools.{and-three, and-two, or-right}
+use Rattle.accept.proofs.Bools.{and-four, and-three, and-two, or-right}
 use Rattle.scope_edits.specs.Entries.{movedScope, withScopes}
 use Rattle.scope_edits.proofs.Moved.{Same, same-head, scope-same, other-moved, arguments-are}
 
 -- which kinds follow one another
 
 module _ (last k : ℕ) (h : follows last k ≡ true) where
-  pub follows-parts : (leb 1 k ≡ true) × (leb k 11 ≡ true) × (leb last k || eqb last 5 && eqb k 4 ≡ true)
-  follows-parts = and-three (leb 1 k) (leb k 11) (leb last k || eqb last 5 && eqb k 4) h
+  pub follows-parts : (leb 1 k ≡ true) × (leb k 13 ≡ true) × (eqb k 12 ≡ false) × (leb last k || eqb last 5 && eqb k 4 ≡ true)
+  follows-parts =
+      let p = and-four (leb 1 k) (leb k 13) (not (eqb k 12)) (leb last k || eqb last 5 && eqb k 4) h in
+      (p .0, p .1, not-true (eqb k 12) (p .2), p .3)
 
   -- another kind before it that is not higher
   pub follows-other : (m : ℕ) → m ≤ k → follows m k ≡ true
-  follows-other m g = rw (follows-parts .0, follows-parts .1, le-leb m k g)
+  follows-other m g = rw (follows-parts .0, follows-parts .1, follows-parts .2, le-leb m k g)
 
   pub follows-rise : (last ≡ 5 → k ≡ 4 → ⊥) → last ≤ k
   follows-rise n =
       by-test (leb last k) (λ c. leb-true last k c)
-      (λ c. let q = and-two (eqb last 5) (eqb k 4) (or-right (leb last k) (eqb last 5 && eqb k 4) (follows-parts .2) c) in
+      (λ c. let q = and-two (eqb last 5) (eqb k 4) (or-right (leb last k) (eqb last 5 && eqb k 4) (follows-parts .3) c) in
       absurd (n (eqb-true last 5 (q .0)) (eqb-true k 4 (q .1))))
 
   pub follows-low : k ≤ 9 → last ≤ 9
   follows-low g =
       by-test (leb last k) (λ c. let r = leb-true last k c in omega arith)
-      (λ c. let q = and-two (eqb last 5) (eqb k 4) (or-right (leb last k) (eqb last 5 && eqb k 4) (follows-parts .2) c) in
+      (λ c. let q = and-two (eqb last 5) (eqb k 4) (or-right (leb last k) (eqb last 5 && eqb k 4) (follows-parts .3) c) in
       let r = eqb-true last 5 (q .0) in omega arith)
 
 -- the arguments
@@ -126,9 +128,9 @@ module _ (W X : List ℕ) (m : ℕ → ℕ) (R : List Scope → List Scope → T
             let q = scope-taken s t (scopeAt W a) f in
             let p = q .passed in
             let r = keep (subst (λ x. low ≤ x) k up) (s .scopes) ys (scopeAt W a) rel (p .new) in
-            let six : argumentsAt W a ≡ 6 = arguments-are W a 9 k in
+            let seven : argumentsAt W a ≡ 7 = arguments-are W a 9 k in
             let y = movedScope m (scopeAt W a) in
-            let x = scope-same W X a b m to (subst (λ n. Same W X a b n) six same) in (
+            let x = scope-same W X a b m to (subst (λ n. Same W X a b n) seven same) in (
               ys ++ (y ∷ []),
               subst (λ (u : Snapshot). R (u .scopes) (ys ++ (y ∷ []))) (q .same) (r .1),
               scope-kind X b _ (withScopes m s ys) k ∙ ap (scopeStep (withScopes m s ys)) x
@@ -141,7 +143,7 @@ module _ (W X : List ℕ) (m : ℕ → ℕ) (R : List Scope → List Scope → T
             by-test (eqb (kindOf (getD W a 0)) 9)
             (λ c. scope-moved (eqb-true (kindOf (getD W a 0)) 9 c) e)
             (λ c. let f = follows-parts last (kindOf (getD W a 0)) o in
-            let q = other-moved W X m a b (kindOf (getD W a 0)) to still refl same s t ys c (f .1) (f .0) e in
+            let q = other-moved W X m a b (kindOf (getD W a 0)) to still refl same s t ys c (f .1) (f .2) (f .0) e in
             (ys, subst (λ xs. R xs ys) (sym (q .0 .0)) rel, q .1))
 
         -- a record that is taken in W is taken in X

@@ -55,8 +55,8 @@ entry-same t W X a same head e =
     by-test (eqb (kindOf (getD W a 0)) 9)
     (λ c.
     let k = eqb-true (kindOf (getD W a 0)) 9 c in
-    let six : argumentsAt W a ≡ 6 = arguments-are W a 9 k in
-    let x = scope-same W X a a (λ n. n) refl (subst (λ n. (i : ℕ) → i ≤ n → getD X (a + i) 0 ≡ getD W (a + i) 0) six same) in
+    let seven : argumentsAt W a ≡ 7 = arguments-are W a 9 k in
+    let x = scope-same W X a a (λ n. n) refl (subst (λ n. (i : ℕ) → i ≤ n → getD X (a + i) 0 ≡ getD W (a + i) 0) seven same) in
     ap (λ w. eqb (kindOf w) 9 && t (scopeAt X a)) head ∙ ap (λ y. eqb (kindOf (getD W a 0)) 9 && t y) x ∙ e)
     (λ c. ap (λ w. eqb (kindOf w) 9 && t (scopeAt X a)) head ∙ rw c)
 

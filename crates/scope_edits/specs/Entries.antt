@@ -12,10 +12,10 @@ abbrev pub scopeKind : ℕ
 scopeKind = 9
 
 abbrev pub scopeSize : ℕ
-scopeSize = 7
+scopeSize = 8
 
--- an entry that comes in as words, a word a field: module, namespace, name, definition, visibility and its number, declared; its place is
--- known when it is written
+-- an entry that comes in as words, a word a field: module, namespace, name, definition, visibility and its number, declared, bits; its
+-- place is known when it is written
 abbrev pub entryOf : List ℕ → Scope
 entryOf e =
     record {
@@ -26,6 +26,7 @@ entryOf e =
       visibility = getD e 4 0;
       number = getD e 5 0;
       declared = getD e 6 0;
+      bits = getD e 7 0;
       place = 0;
     }
 
@@ -39,6 +40,7 @@ scopeWords x =
     ∷ x .visibility
     ∷ x .number
     ∷ x .declared
+    ∷ x .bits
     ∷ []
 
 -- the entry of a module, a namespace and a name
@@ -64,6 +66,7 @@ movedScope f x =
       visibility = x .visibility;
       number = x .number;
       declared = x .declared;
+      bits = x .bits;
       place = f (x .place);
     }
 
@@ -86,7 +89,7 @@ movedExtern f x = record { owner = x .owner; name = x .name; target = x .target;
 abbrev pub placed : ℕ → Scope → Scope
 placed at = movedScope (λ n. at)
 
--- the same lists, but for the last three
+-- the same lists, but for the scopes, the imports and the externs
 abbrev pub withLists : Snapshot → List Scope → List Import → List Extern → Snapshot
 withLists s xs is es =
     record {
@@ -101,6 +104,7 @@ withLists s xs is es =
       scopes = xs;
       imports = is;
       externs = es;
+      members = s .members;
     }
 
 -- the same lists, but for the scopes and the places of the imports and the externs, which stand after them

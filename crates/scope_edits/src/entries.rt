@@ -23,7 +23,7 @@ pub struct EntryWords(pub usize);
 
 impl EntryWords {
     /// Words of an entry, and of its record.
-    pub const COUNT: usize = 7;
+    pub const COUNT: usize = 8;
 }
 
 fn in_range(entry: &[u32]) -> bool
@@ -35,6 +35,7 @@ fn in_range(entry: &[u32]) -> bool
         & (visibility <= 3)
         & ((visibility != 0) | (number == 0))
         & (word(entry, 6) <= 3)
+        & (word(entry, 7) <= 3)
 }
 
 fn defined(l: Layout, entry: &[u32]) -> bool
@@ -93,7 +94,7 @@ pub fn add_fault(words: &[u32], l: Layout, entry: &[u32], slice: usize) -> u32
 }
 
 /// The record of an entry.
-pub fn record_of(entry: &[u32; 7]) -> [u32; 7]
+pub fn record_of(entry: &[u32; 8]) -> [u32; 8]
     requires { ⌜ getD (now entry) 0 0 < 268435456 ⌝ }
     ensures { λ r. ⌜ r ≡ scopeWords (entryOf (now (entry .entry))) ⌝ }
 {
@@ -106,5 +107,6 @@ pub fn record_of(entry: &[u32; 7]) -> [u32; 7]
         entry[4],
         entry[5],
         entry[6],
+        entry[7],
     ]
 }

@@ -9,8 +9,8 @@ use chains::chain::clear;
 
 // Moves the words from a place to another up by the words of a record.
 fn move_up(words: &mut [u32], at: usize, count: usize)
-    requires { ⌜ (at ≤ count) × (count + 7 ≤ length (now words)) ⌝ }
-    ensures { λ _. ⌜ now (words .exit) ≡ take (at + 7) (now (words .entry)) ++ (drop at (take count (now (words .entry))) ++ drop (count + 7) (now (words .entry))) ⌝ }
+    requires { ⌜ (at ≤ count) × (count + 8 ≤ length (now words)) ⌝ }
+    ensures { λ _. ⌜ now (words .exit) ≡ take (at + 8) (now (words .entry)) ++ (drop at (take count (now (words .entry))) ++ drop (count + 8) (now (words .entry))) ⌝ }
 {
     let mut i = count;
     while at < i {
@@ -21,8 +21,8 @@ fn move_up(words: &mut [u32], at: usize, count: usize)
 
 // Writes a record over the words at a place.
 fn put_record(words: &mut [u32], at: usize, added: &[u32])
-    requires { ⌜ (at + 7 ≤ length (now words)) × (length (now added) ≡ 7) ⌝ }
-    ensures { λ _. ⌜ now (words .exit) ≡ take at (now (words .entry)) ++ (now (added .entry) ++ drop (at + 7) (now (words .entry))) ⌝ }
+    requires { ⌜ (at + 8 ≤ length (now words)) × (length (now added) ≡ 8) ⌝ }
+    ensures { λ _. ⌜ now (words .exit) ≡ take at (now (words .entry)) ++ (now (added .entry) ++ drop (at + 8) (now (words .entry))) ⌝ }
 {
     let mut i = 0;
     while i < EntryWords::COUNT {
@@ -33,8 +33,8 @@ fn put_record(words: &mut [u32], at: usize, added: &[u32])
 
 /// Puts a record in at a place of the first words, so many, and clears the words past them.
 pub fn insert(words: &mut [u32], at: usize, count: usize, added: &[u32])
-    requires { ⌜ (at ≤ count) × (count + 7 ≤ length (now words)) × (length (now added) ≡ 7) ⌝ }
-    ensures { λ _. ⌜ now (words .exit) ≡ inserted at (now (added .entry)) (take count (now (words .entry))) ++ replicate (length (now (words .entry)) - (count + 7)) 0 ⌝ }
+    requires { ⌜ (at ≤ count) × (count + 8 ≤ length (now words)) × (length (now added) ≡ 8) ⌝ }
+    ensures { λ _. ⌜ now (words .exit) ≡ inserted at (now (added .entry)) (take count (now (words .entry))) ++ replicate (length (now (words .entry)) - (count + 8)) 0 ⌝ }
 {
     move_up(words, at, count);
     put_record(words, at, added);
@@ -43,8 +43,8 @@ pub fn insert(words: &mut [u32], at: usize, count: usize, added: &[u32])
 
 // Moves the words after a record down over it.
 fn move_down(words: &mut [u32], at: usize, count: usize)
-    requires { ⌜ (at + 7 ≤ count) × (count ≤ length (now words)) ⌝ }
-    ensures { λ _. ⌜ now (words .exit) ≡ cut at 7 (take count (now (words .entry))) ++ drop (count - 7) (now (words .entry)) ⌝ }
+    requires { ⌜ (at + 8 ≤ count) × (count ≤ length (now words)) ⌝ }
+    ensures { λ _. ⌜ now (words .exit) ≡ cut at 8 (take count (now (words .entry))) ++ drop (count - 8) (now (words .entry)) ⌝ }
 {
     let mut i = at;
     while i + EntryWords::COUNT < count {
@@ -55,8 +55,8 @@ fn move_down(words: &mut [u32], at: usize, count: usize)
 
 /// Takes the record at a place out of the first words, so many, and clears the words past them.
 pub fn remove(words: &mut [u32], at: usize, count: usize)
-    requires { ⌜ (at + 7 ≤ count) × (count ≤ length (now words)) ⌝ }
-    ensures { λ _. ⌜ now (words .exit) ≡ cut at 7 (take count (now (words .entry))) ++ replicate (length (now (words .entry)) - (count - 7)) 0 ⌝ }
+    requires { ⌜ (at + 8 ≤ count) × (count ≤ length (now words)) ⌝ }
+    ensures { λ _. ⌜ now (words .exit) ≡ cut at 8 (take count (now (words .entry))) ++ replicate (length (now (words .entry)) - (count - 8)) 0 ⌝ }
 {
     move_down(words, at, count);
     clear(words, count - EntryWords::COUNT, words.len());

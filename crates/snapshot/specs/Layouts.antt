@@ -3,7 +3,7 @@ use Prim.Native.Nat.{ℕ, _+_, _*_}
 use mathlib.Core.List.{List}
 use lib.ListN.{getD}
 use Rattle.snapshot.specs.Lists.{rows}
-use Rattle.snapshot.specs.Records.{Name, Map, Module, Snapshot, nameAt, crateAt, dependencyAt, mapAt, childAt, preludeAt, definitionAt, scopeAt, importAt, externAt}
+use Rattle.snapshot.specs.Records.{Name, Map, Module, Snapshot, nameAt, crateAt, dependencyAt, mapAt, childAt, preludeAt, definitionAt, scopeAt, importAt, externAt, memberAt}
 use Rattle.snapshot.specs.declared.layout.Layout.{Layout}
 
 -- the place of the first record of a kind; maps and modules share a run
@@ -30,14 +30,17 @@ abbrev pub scopeBase : Layout → ℕ
 scopeBase l = definitionBase l + 3 * l .definitions
 
 abbrev pub importBase : Layout → ℕ
-importBase l = scopeBase l + 7 * l .scopes
+importBase l = scopeBase l + 8 * l .scopes
 
 abbrev pub externBase : Layout → ℕ
 externBase l = importBase l + 6 * l .imports
 
+abbrev pub memberBase : Layout → ℕ
+memberBase l = externBase l + 3 * l .externs
+
 -- the words of all the records
 abbrev pub wordCount : Layout → ℕ
-wordCount l = externBase l + 3 * l .externs
+wordCount l = memberBase l + 5 * l .members
 
 -- no record
 abbrev pub noRecords : Layout
@@ -55,6 +58,7 @@ noRecords =
       scopes = 0;
       imports = 0;
       externs = 0;
+      members = 0;
       latest = 0;
     }
 
@@ -110,9 +114,10 @@ snapWith W A l ms =
       children = recordsOf childAt 2 W (childBase l) (l .children);
       preludes = recordsOf preludeAt 2 W (preludeBase l) (l .preludes);
       definitions = recordsOf definitionAt 3 W (definitionBase l) (l .definitions);
-      scopes = recordsOf scopeAt 7 W (scopeBase l) (l .scopes);
+      scopes = recordsOf scopeAt 8 W (scopeBase l) (l .scopes);
       imports = recordsOf importAt 6 W (importBase l) (l .imports);
       externs = recordsOf externAt 3 W (externBase l) (l .externs);
+      members = recordsOf memberAt 5 W (memberBase l) (l .members);
     }
 
 -- the lists of a layout and its tables

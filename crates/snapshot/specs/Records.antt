@@ -51,7 +51,7 @@ pub record Definition : Type 0 where
   pub second : ℕ
   pub place : ℕ
 
--- kind 9: visibility 0 public, 1 crate, 2 module explicit, 3 module implicit, and its number
+-- kind 9: visibility 0 public, 1 crate, 2 module explicit, 3 module implicit, and its number; bits 1 hidden + 2 unstable
 pub record Scope : Type 0 where
   pub owner : ℕ
   pub ns : ℕ
@@ -60,6 +60,7 @@ pub record Scope : Type 0 where
   pub visibility : ℕ
   pub number : ℕ
   pub declared : ℕ
+  pub bits : ℕ
   pub place : ℕ
 
 -- kind 10: bits 1 hidden + 2 unstable
@@ -79,6 +80,14 @@ pub record Extern : Type 0 where
   pub target : ℕ
   pub place : ℕ
 
+-- kind 13: a member of a definition, 0 variant, 1 function, 2 constant, 3 type alias; bits 1 hidden + 2 unstable
+pub record Member : Type 0 where
+  pub parent : ℕ
+  pub name : ℕ
+  pub definition : ℕ
+  pub kind : ℕ
+  pub bits : ℕ
+
 pub record Snapshot : Type 0 where
   pub names : List Name
   pub crates : List Crate
@@ -91,6 +100,7 @@ pub record Snapshot : Type 0 where
   pub scopes : List Scope
   pub imports : List Import
   pub externs : List Extern
+  pub members : List Member
 
 -- the record with its head at place h
 
@@ -129,6 +139,7 @@ scopeAt W h =
       visibility = getD W (h + 4) 0;
       number = getD W (h + 5) 0;
       declared = getD W (h + 6) 0;
+      bits = getD W (h + 7) 0;
       place = h;
     }
 
@@ -146,3 +157,13 @@ importAt W h =
 
 abbrev pub externAt : List ℕ → ℕ → Extern
 externAt W h = record { owner = payOf (getD W h 0); name = getD W (h + 1) 0; target = getD W (h + 2) 0; place = h }
+
+abbrev pub memberAt : List ℕ → ℕ → Member
+memberAt W h =
+    record {
+      parent = payOf (getD W h 0);
+      name = getD W (h + 1) 0;
+      definition = getD W (h + 2) 0;
+      kind = getD W (h + 3) 0;
+      bits = getD W (h + 4) 0;
+    }

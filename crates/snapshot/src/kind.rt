@@ -33,15 +33,17 @@ impl Kind {
     pub const IMPORT: usize = 10;
 
     pub const EXTERN: usize = 11;
+
+    pub const MEMBER: usize = 13;
 }
 
-// The arguments of a record of each kind; a name's depend on its text.
-const ARGUMENTS: [usize; 12] = [0, 0, 1, 2, 2, 1, 1, 1, 2, 6, 5, 2];
+// The arguments of a record of each kind; a name's depend on its text, and no record is of kind 12.
+const ARGUMENTS: [usize; 14] = [0, 0, 1, 2, 2, 1, 1, 1, 2, 7, 5, 2, 0, 4];
 
 fn fixed(kind: usize) -> usize
     ensures { λ r. ⌜ r ≡ getD argumentTable kind 0 ⌝ }
 {
-    if 12 <= kind {
+    if 14 <= kind {
         return 0;
     }
     ARGUMENTS[kind]

@@ -1,7 +1,7 @@
 //! Where the records of an accepted snapshot stand.
 ghost use mathlib.Core.Path.{_≡_};
 ghost use Prim.Native.Nat.{_+_, _*_, _^_, _<_};
-ghost use Rattle.snapshot.specs.Layouts.{dependencyBase, mapBase, childBase, preludeBase, definitionBase, scopeBase, importBase, externBase, wordCount, noRecords};
+ghost use Rattle.snapshot.specs.Layouts.{dependencyBase, mapBase, childBase, preludeBase, definitionBase, scopeBase, importBase, externBase, memberBase, wordCount, noRecords};
 
 /// How many records of each kind there are, and how many words the names take; the kinds stand in order, so the rest follows.
 pub struct Layout {
@@ -18,6 +18,7 @@ pub struct Layout {
     pub scopes: usize,
     pub imports: usize,
     pub externs: usize,
+    pub members: usize,
     /// The head of the last map.
     pub latest: u32,
 }
@@ -40,6 +41,7 @@ impl Layout {
             scopes: 0,
             imports: 0,
             externs: 0,
+            members: 0,
             latest: 0,
         }
     }
@@ -90,7 +92,7 @@ impl Layout {
         requires { ⌜ wordCount self < 2 ^ 32 ⌝ }
         ensures { λ r. ⌜ r ≡ importBase self ⌝ }
     {
-        self.scope_base() + 7 * self.scopes
+        self.scope_base() + 8 * self.scopes
     }
 
     pub fn extern_base(self) -> usize
@@ -98,5 +100,12 @@ impl Layout {
         ensures { λ r. ⌜ r ≡ externBase self ⌝ }
     {
         self.import_base() + 6 * self.imports
+    }
+
+    pub fn member_base(self) -> usize
+        requires { ⌜ wordCount self < 2 ^ 32 ⌝ }
+        ensures { λ r. ⌜ r ≡ memberBase self ⌝ }
+    {
+        self.extern_base() + 3 * self.externs
     }
 }

@@ -1,6 +1,6 @@
 //! The fields of the records, by the place of the record's head.
 ghost use mathlib.Core.Path.{_≡_};
-ghost use Rattle.snapshot.specs.Records.{crateAt, dependencyAt, mapAt, moduleAt, childAt, preludeAt, definitionAt, scopeAt, importAt, externAt};
+ghost use Rattle.snapshot.specs.Records.{crateAt, dependencyAt, mapAt, moduleAt, childAt, preludeAt, definitionAt, scopeAt, importAt, externAt, memberAt};
 use crate::ids::Crate;
 use crate::ids::DefinitionId;
 use crate::ids::ModuleId;
@@ -160,6 +160,13 @@ pub fn scope_declared(words: &[u32], at: usize) -> usize
     field(words, at, 6)
 }
 
+/// 1 hidden + 2 unstable.
+pub fn scope_bits(words: &[u32], at: usize) -> usize
+    ensures { λ r. ⌜ r ≡ scopeAt (now (words .entry)) at .bits ⌝ }
+{
+    field(words, at, 7)
+}
+
 pub fn import_owner(words: &[u32], at: usize) -> Crate
     ensures { λ r. ⌜ r .0 ≡ importAt (now (words .entry)) at .owner ⌝ }
 {
@@ -212,4 +219,36 @@ pub fn extern_target(words: &[u32], at: usize) -> ModuleId
     ensures { λ r. ⌜ r .0 ≡ externAt (now (words .entry)) at .target ⌝ }
 {
     ModuleId(field(words, at, 2))
+}
+
+pub fn member_parent(words: &[u32], at: usize) -> DefinitionId
+    ensures { λ r. ⌜ r .0 ≡ memberAt (now (words .entry)) at .parent ⌝ }
+{
+    DefinitionId(payload(words, at))
+}
+
+pub fn member_name(words: &[u32], at: usize) -> Name
+    ensures { λ r. ⌜ r .0 ≡ memberAt (now (words .entry)) at .name ⌝ }
+{
+    Name(field(words, at, 1))
+}
+
+pub fn member_definition(words: &[u32], at: usize) -> DefinitionId
+    ensures { λ r. ⌜ r .0 ≡ memberAt (now (words .entry)) at .definition ⌝ }
+{
+    DefinitionId(field(words, at, 2))
+}
+
+/// 0 variant, 1 function, 2 constant, 3 type alias.
+pub fn member_kind(words: &[u32], at: usize) -> usize
+    ensures { λ r. ⌜ r ≡ memberAt (now (words .entry)) at .kind ⌝ }
+{
+    field(words, at, 3)
+}
+
+/// 1 hidden + 2 unstable.
+pub fn member_bits(words: &[u32], at: usize) -> usize
+    ensures { λ r. ⌜ r ≡ memberAt (now (words .entry)) at .bits ⌝ }
+{
+    field(words, at, 4)
 }

@@ -40,9 +40,9 @@ passesAll table = all (λ r. eqList (told emptyState (r .operations)) (r .turns)
 abbrev asked : ℕ → Question
 asked fuel = record { query = record { ns = 1; definition = 1; from = 0; prefix = 1; options = 0; limit = 15 }; fuel = fuel }
 
--- `found a::f 1 0 scope@21 local@28` of a window, `refused 21 0 0` of a window, and an idle turn
+-- `found a::f 1 0 scope@21 local@29` of a window, `refused 21 0 0` of a window, and an idle turn
 abbrev found : ℕ → List ℕ
-found w = 0 ∷ w ∷ 0 ∷ 0 ∷ 0 ∷ 0 ∷ 1 ∷ replicate 14 0 ++ (2 ∷ 1 ∷ 0 ∷ 0 ∷ 0 ∷ 2 ∷ 169 ∷ 230 ∷ replicate 15 0)
+found w = 0 ∷ w ∷ 0 ∷ 0 ∷ 0 ∷ 0 ∷ 1 ∷ replicate 14 0 ++ (2 ∷ 1 ∷ 0 ∷ 0 ∷ 0 ∷ 2 ∷ 169 ∷ 238 ∷ replicate 15 0)
 
 abbrev refused : ℕ → List ℕ
 refused w = 0 ∷ w ∷ 2 ∷ 21 ∷ replicate 40 0

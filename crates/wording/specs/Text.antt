@@ -75,7 +75,7 @@ firstLines names crates dependencies maps modules =
     ++ (line "maps " maps
     ++ line "modules " modules)))
 
--- the kinds after modules
+-- the kinds from children to externs
 abbrev pub lastLines : ℕ → ℕ → ℕ → ℕ → ℕ → ℕ → List ℕ
 lastLines children preludes definitions scopes imports externs =
     line "children " children

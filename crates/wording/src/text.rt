@@ -3,7 +3,7 @@ ghost use mathlib.Core.List.{_++_};
 ghost use Prim.Native.Nat.{_+_, _≤_};
 ghost use lib.ListN.{length};
 ghost use Rattle.printing.specs.Output.{Put, bytesOf, decimal};
-ghost use Rattle.wording.specs.Text.{laterMeaning, meaning, refusal, firstLines, lastLines};
+ghost use Rattle.wording.specs.Text.{laterMeaning, meaning, refusal, line, firstLines, lastLines};
 use printing::output::Digits;
 use printing::output::put;
 use printing::output::put_digits;
@@ -118,10 +118,11 @@ fn put_first_lines(out: &mut [u8], at: usize, l: Layout) -> usize
     put_line(out, d, b"modules ", l.modules)
 }
 
-// The kinds after modules.
+// The kinds from children to externs.
 fn put_last_lines(out: &mut [u8], at: usize, l: Layout) -> usize
     requires { ⌜ at + 179 ≤ length (now out) ⌝ }
     ensures { λ r. ⌜ Put (now (out .entry)) at (lastLines (l .children) (l .preludes) (l .definitions) (l .scopes) (l .imports) (l .externs)) (now (out .exit)) r ⌝ }
+    ensures { λ r. ⌜ r ≤ at + 179 ⌝ }
 {
     let a = put_line(out, at, b"children ", l.children);
     let b = put_line(out, a, b"preludes ", l.preludes);
@@ -134,9 +135,10 @@ fn put_last_lines(out: &mut [u8], at: usize, l: Layout) -> usize
 /// How many records of each kind there are.
 pub fn put_counts(out: &mut [u8], l: Layout) -> usize
     requires { ⌜ 512 ≤ length (now out) ⌝ }
-    ensures { λ r. ⌜ Put (now (out .entry)) 0 (bytesOf "accepted\n" ++ (firstLines (l .names) (l .crates) (l .dependencies) (l .maps) (l .modules) ++ lastLines (l .children) (l .preludes) (l .definitions) (l .scopes) (l .imports) (l .externs))) (now (out .exit)) r ⌝ }
+    ensures { λ r. ⌜ Put (now (out .entry)) 0 (bytesOf "accepted\n" ++ (firstLines (l .names) (l .crates) (l .dependencies) (l .maps) (l .modules) ++ (lastLines (l .children) (l .preludes) (l .definitions) (l .scopes) (l .imports) (l .externs) ++ line "members " (l .members)))) (now (out .exit)) r ⌝ }
 {
     let a = put(out, 0, b"accepted\n");
     let b = put_first_lines(out, a, l);
-    put_last_lines(out, b, l)
+    let c = put_last_lines(out, b, l);
+    put_line(out, c, b"members ", l.members)
 }

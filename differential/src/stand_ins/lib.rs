@@ -91,7 +91,7 @@ pub mod hir_expand {
         use std::rc::Rc;
 
         /// A name is its text. Its bytes may be any.
-        #[derive(Clone, PartialEq, Eq, Hash, Debug)]
+        #[derive(Clone, PartialEq, Eq, PartialOrd, Ord, Hash, Debug)]
         pub struct Name(pub Rc<[u8]>);
 
         impl Name {

@@ -3,9 +3,9 @@
 pub mod random;
 
 /// The worked snapshot: a crate with a module `a` that holds a function `f`.
-pub const WORKED: [u32; 35] = [
+pub const WORKED: [u32; 37] = [
     0x10000001, 0x61, 0x10000001, 0x66, 0x20000000, 2021, 0x40000000, 0, 0, 0x50000000, 0, 0x50000000, 1, 0x60000000,
-    1, 0x80000001, 1, 0, 0x80000004, 1, 0, 0x90000000, 0, 0, 0, 0, 0, 1, 0x90000001, 1, 1, 1, 0, 0, 1,
+    1, 0x80000001, 1, 0, 0x80000004, 1, 0, 0x90000000, 0, 0, 0, 0, 0, 1, 0, 0x90000001, 1, 1, 1, 0, 0, 1, 0,
 ];
 
 /// The words of a line of `crates/refusals/stdin`, of which `crates/case_text` says how it is written.

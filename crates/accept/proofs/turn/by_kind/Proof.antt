@@ -6,7 +6,7 @@ use lib.ListN.{getD}
 use Rattle.snapshot.specs.Words.{payOf, argumentsOf}
 use Rattle.snapshot.specs.Layouts.{snapWith}
 use Rattle.accept.specs.Verdict.{recordStep}
-use Rattle.accept.proofs.Turns.{next-of, ready-at, stands-at, answers-at, eleven}
+use Rattle.accept.proofs.Turns.{next-of, ready-at, stands-at, answers-at, thirteen}
 use Rattle.accept.proofs.turn.by_kind.Statement.{statement}
 use Rattle.accept.proofs.turn.by_kind.Tie as tie
 
@@ -62,7 +62,7 @@ step-requires-9 : tie.Need-step-requires-9
 unfolding argumentsOf
 step-requires-9 c κs =
     let s = c .before .before .before .before in
-    ready-at (now (s .args .words)) (now (s .args .area)) (s .args .l) (s .args .at) (next-of (now (s .args .words)) (s .args .at) 9 7 (s .pre .1 .0) (c .before .match .keys9) refl) (s .pre .0)
+    ready-at (now (s .args .words)) (now (s .args .area)) (s .args .l) (s .args .at) (next-of (now (s .args .words)) (s .args .at) 9 8 (s .pre .1 .0) (c .before .match .keys9) refl) (s .pre .0)
 
 step-requires-10 : tie.Need-step-requires-10
 unfolding argumentsOf
@@ -74,7 +74,13 @@ step-requires-11 : tie.Need-step-requires-11
 unfolding argumentsOf
 step-requires-11 c κs =
     let s = c .before .before .before .before in
-    ready-at (now (s .args .words)) (now (s .args .area)) (s .args .l) (s .args .at) (next-of (now (s .args .words)) (s .args .at) 11 3 (s .pre .1 .0) (eleven _ (s .pre .1 .1) (s .pre .1 .2) (c .before .match .rest .0 .0 .0 .0 .0 .0 .0 .0 .0 .1) (c .before .match .rest .0 .0 .0 .0 .0 .0 .0 .0 .1) (c .before .match .rest .0 .0 .0 .0 .0 .0 .0 .1) (c .before .match .rest .0 .0 .0 .0 .0 .0 .1) (c .before .match .rest .0 .0 .0 .0 .0 .1) (c .before .match .rest .0 .0 .0 .0 .1) (c .before .match .rest .0 .0 .0 .1) (c .before .match .rest .0 .0 .1) (c .before .match .rest .0 .1) (c .before .match .rest .1)) refl) (s .pre .0)
+    ready-at (now (s .args .words)) (now (s .args .area)) (s .args .l) (s .args .at) (next-of (now (s .args .words)) (s .args .at) 11 3 (s .pre .1 .0) (c .before .match .keys11) refl) (s .pre .0)
+
+step-requires-12 : tie.Need-step-requires-12
+unfolding argumentsOf
+step-requires-12 c κs =
+    let s = c .before .before .before .before in
+    ready-at (now (s .args .words)) (now (s .args .area)) (s .args .l) (s .args .at) (next-of (now (s .args .words)) (s .args .at) 13 5 (s .pre .1 .0) (thirteen _ (s .pre .1 .1) (s .pre .1 .2) (s .pre .1 .3) (c .before .match .rest .0 .0 .0 .0 .0 .0 .0 .0 .0 .0 .1) (c .before .match .rest .0 .0 .0 .0 .0 .0 .0 .0 .0 .1) (c .before .match .rest .0 .0 .0 .0 .0 .0 .0 .0 .1) (c .before .match .rest .0 .0 .0 .0 .0 .0 .0 .1) (c .before .match .rest .0 .0 .0 .0 .0 .0 .1) (c .before .match .rest .0 .0 .0 .0 .0 .1) (c .before .match .rest .0 .0 .0 .0 .1) (c .before .match .rest .0 .0 .0 .1) (c .before .match .rest .0 .0 .1) (c .before .match .rest .0 .1) (c .before .match .rest .1)) refl) (s .pre .0)
 
 same-length : tie.Need-same-length
 same-length c = search needs
@@ -164,7 +170,7 @@ unfolding argumentsOf recordStep
 returns-9 c ms st =
     let s = c .before .before .before .before .before .before .before in
     let e = (c .before .before .before .before .match .keys9) in
-    answers-at (now (s .args .words)) (c .before .before .step9 .last .1 .0) (c .before .before .step9 .result) e (next-of (now (s .args .words)) (s .args .at) 9 7 (s .pre .1 .0) (c .before .before .before .before .match .keys9) refl) (ap (λ x. recordStep x (now (s .args .words)) (s .args .at) (snapWith (now (s .args .words)) (now (s .args .area)) (s .args .l) ms)) e) (c .before .before .step9 .ensures ms (stands-at (now (s .args .words)) (now (s .args .area)) (s .args .at) (s .args .l) ms e st))
+    answers-at (now (s .args .words)) (c .before .before .step9 .last .1 .0) (c .before .before .step9 .result) e (next-of (now (s .args .words)) (s .args .at) 9 8 (s .pre .1 .0) (c .before .before .before .before .match .keys9) refl) (ap (λ x. recordStep x (now (s .args .words)) (s .args .at) (snapWith (now (s .args .words)) (now (s .args .area)) (s .args .l) ms)) e) (c .before .before .step9 .ensures ms (stands-at (now (s .args .words)) (now (s .args .area)) (s .args .at) (s .args .l) ms e st))
 
 same-length-10 : tie.Need-same-length-10
 same-length-10 c = search needs
@@ -183,8 +189,18 @@ returns-11 : tie.Need-returns-11
 unfolding argumentsOf recordStep
 returns-11 c ms st =
     let s = c .before .before .before .before .before .before .before in
-    let e = (eleven _ (s .pre .1 .1) (s .pre .1 .2) (c .before .before .before .before .match .rest .0 .0 .0 .0 .0 .0 .0 .0 .0 .1) (c .before .before .before .before .match .rest .0 .0 .0 .0 .0 .0 .0 .0 .1) (c .before .before .before .before .match .rest .0 .0 .0 .0 .0 .0 .0 .1) (c .before .before .before .before .match .rest .0 .0 .0 .0 .0 .0 .1) (c .before .before .before .before .match .rest .0 .0 .0 .0 .0 .1) (c .before .before .before .before .match .rest .0 .0 .0 .0 .1) (c .before .before .before .before .match .rest .0 .0 .0 .1) (c .before .before .before .before .match .rest .0 .0 .1) (c .before .before .before .before .match .rest .0 .1) (c .before .before .before .before .match .rest .1)) in
-    answers-at (now (s .args .words)) (c .before .before .step11 .last .1 .0) (c .before .before .step11 .result) e (next-of (now (s .args .words)) (s .args .at) 11 3 (s .pre .1 .0) (eleven _ (s .pre .1 .1) (s .pre .1 .2) (c .before .before .before .before .match .rest .0 .0 .0 .0 .0 .0 .0 .0 .0 .1) (c .before .before .before .before .match .rest .0 .0 .0 .0 .0 .0 .0 .0 .1) (c .before .before .before .before .match .rest .0 .0 .0 .0 .0 .0 .0 .1) (c .before .before .before .before .match .rest .0 .0 .0 .0 .0 .0 .1) (c .before .before .before .before .match .rest .0 .0 .0 .0 .0 .1) (c .before .before .before .before .match .rest .0 .0 .0 .0 .1) (c .before .before .before .before .match .rest .0 .0 .0 .1) (c .before .before .before .before .match .rest .0 .0 .1) (c .before .before .before .before .match .rest .0 .1) (c .before .before .before .before .match .rest .1)) refl) (ap (λ x. recordStep x (now (s .args .words)) (s .args .at) (snapWith (now (s .args .words)) (now (s .args .area)) (s .args .l) ms)) e) (c .before .before .step11 .ensures ms (stands-at (now (s .args .words)) (now (s .args .area)) (s .args .at) (s .args .l) ms e st))
+    let e = (c .before .before .before .before .match .keys11) in
+    answers-at (now (s .args .words)) (c .before .before .step11 .last .1 .0) (c .before .before .step11 .result) e (next-of (now (s .args .words)) (s .args .at) 11 3 (s .pre .1 .0) (c .before .before .before .before .match .keys11) refl) (ap (λ x. recordStep x (now (s .args .words)) (s .args .at) (snapWith (now (s .args .words)) (now (s .args .area)) (s .args .l) ms)) e) (c .before .before .step11 .ensures ms (stands-at (now (s .args .words)) (now (s .args .area)) (s .args .at) (s .args .l) ms e st))
+
+same-length-12 : tie.Need-same-length-12
+same-length-12 c = search needs
+
+returns-12 : tie.Need-returns-12
+unfolding argumentsOf recordStep
+returns-12 c ms st =
+    let s = c .before .before .before .before .before in
+    let e = (thirteen _ (s .pre .1 .1) (s .pre .1 .2) (s .pre .1 .3) (c .before .before .match .rest .0 .0 .0 .0 .0 .0 .0 .0 .0 .0 .1) (c .before .before .match .rest .0 .0 .0 .0 .0 .0 .0 .0 .0 .1) (c .before .before .match .rest .0 .0 .0 .0 .0 .0 .0 .0 .1) (c .before .before .match .rest .0 .0 .0 .0 .0 .0 .0 .1) (c .before .before .match .rest .0 .0 .0 .0 .0 .0 .1) (c .before .before .match .rest .0 .0 .0 .0 .0 .1) (c .before .before .match .rest .0 .0 .0 .0 .1) (c .before .before .match .rest .0 .0 .0 .1) (c .before .before .match .rest .0 .0 .1) (c .before .before .match .rest .0 .1) (c .before .before .match .rest .1)) in
+    answers-at (now (s .args .words)) (now (s .args .area)) (c .step12 .result) e (next-of (now (s .args .words)) (s .args .at) 13 5 (s .pre .1 .0) (thirteen _ (s .pre .1 .1) (s .pre .1 .2) (s .pre .1 .3) (c .before .before .match .rest .0 .0 .0 .0 .0 .0 .0 .0 .0 .0 .1) (c .before .before .match .rest .0 .0 .0 .0 .0 .0 .0 .0 .0 .1) (c .before .before .match .rest .0 .0 .0 .0 .0 .0 .0 .0 .1) (c .before .before .match .rest .0 .0 .0 .0 .0 .0 .0 .1) (c .before .before .match .rest .0 .0 .0 .0 .0 .0 .1) (c .before .before .match .rest .0 .0 .0 .0 .0 .1) (c .before .before .match .rest .0 .0 .0 .0 .1) (c .before .before .match .rest .0 .0 .0 .1) (c .before .before .match .rest .0 .0 .1) (c .before .before .match .rest .0 .1) (c .before .before .match .rest .1)) refl) (ap (λ x. recordStep x (now (s .args .words)) (s .args .at) (snapWith (now (s .args .words)) (now (s .args .area)) (s .args .l) ms)) e) (c .step12 .ensures ms (stands-at (now (s .args .words)) (now (s .args .area)) (s .args .at) (s .args .l) ms e st))
 
 pub by-kind-spec : {M : Type 1} → statement M
 by-kind-spec =
@@ -201,6 +217,7 @@ by-kind-spec =
     step-requires-9
     step-requires-10
     step-requires-11
+    step-requires-12
     same-length
     returns
     same-length-2
@@ -222,4 +239,6 @@ by-kind-spec =
     same-length-10
     returns-10
     same-length-11
-    returns-11)
+    returns-11
+    same-length-12
+    returns-12)

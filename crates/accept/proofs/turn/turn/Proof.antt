@@ -43,7 +43,7 @@ by-kind-requires : tie.Need-by-kind-requires
 by-kind-requires c κs =
     let s = c .before .before .before .before .before .before .before .before .before in
     let e = c .before .before .before .before in
-    (ready-for (now (s .args .words)) (now (s .args .area)) (s .args .l) (s .args .at) _ (s .pre) (c .before .before .before .arguments .ensures) (sym (c .before .before .arguments-from .ensures) ∙ not-false _ (c .before .if2 .left)), (c .before .before .before .before .before .before .kind .ensures, known-kind (s .args .last) _ (sym (c .before .before .before .before .before .follows .ensures) ∙ not-false _ (e .if1 .left)) .0, known-kind (s .args .last) _ (sym (c .before .before .before .before .before .follows .ensures) ∙ not-false _ (e .if1 .left)) .1))
+    (ready-for (now (s .args .words)) (now (s .args .area)) (s .args .l) (s .args .at) _ (s .pre) (c .before .before .before .arguments .ensures) (sym (c .before .before .arguments-from .ensures) ∙ not-false _ (c .before .if2 .left)), (c .before .before .before .before .before .before .kind .ensures, known-kind (s .args .last) _ (sym (c .before .before .before .before .before .follows .ensures) ∙ not-false _ (e .if1 .left)) .0, known-kind (s .args .last) _ (sym (c .before .before .before .before .before .follows .ensures) ∙ not-false _ (e .if1 .left)) .1, known-kind (s .args .last) _ (sym (c .before .before .before .before .before .follows .ensures) ∙ not-false _ (e .if1 .left)) .2))
 
 same-length : tie.Need-same-length
 same-length c = search needs

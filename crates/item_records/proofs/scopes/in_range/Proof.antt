@@ -18,9 +18,14 @@ scope-ns-requires c κs = search needs
 scope-declared-requires : tie.Need-scope-declared-requires
 scope-declared-requires c κs = search needs
 
+scope-bits-requires : tie.Need-scope-bits-requires
+scope-bits-requires c κs = search needs
+
 -- src/scopes.rt:16:1
 returns : tie.Need-returns
-returns c = rw (c .scope-declared .ensures, c .before .scope-ns .ensures, c .before .before .scope-number .ensures, c .before .before .before .scope-visibility .ensures)
+returns c =
+    let d = c .before in
+    rw (c .scope-bits .ensures, d .scope-declared .ensures, d .before .scope-ns .ensures, d .before .before .scope-number .ensures, d .before .before .before .scope-visibility .ensures)
 
 pub in-range-spec : {M : Type 1} → statement M
 in-range-spec =
@@ -30,4 +35,5 @@ in-range-spec =
     scope-number-requires
     scope-ns-requires
     scope-declared-requires
+    scope-bits-requires
     returns)

@@ -16,8 +16,8 @@ use Rattle.reach_parts.proofs.firsts.is_met.Tie as tie
 
 abbrev Inv-loop : tie.InvT-loop
 Inv-loop words l k base item j₀ j =
-    (A : List ℕ) → isMet (snapOf words A l) (recordsOf scopeAt 7 words (scopeBase l) k) (scopeAt words (scopeBase l + 7 * k))
-    ≡ any (λ d. sameItem (itemIn (snapOf words A l) d) (itemIn (snapOf words A l) (scopeAt words (scopeBase l + 7 * k)))) (rows (λ i. scopeAt words (scopeBase l + 7 * i)) j (k - j))
+    (A : List ℕ) → isMet (snapOf words A l) (recordsOf scopeAt 8 words (scopeBase l) k) (scopeAt words (scopeBase l + 8 * k))
+    ≡ any (λ d. sameItem (itemIn (snapOf words A l) d) (itemIn (snapOf words A l) (scopeAt words (scopeBase l + 8 * k)))) (rows (λ i. scopeAt words (scopeBase l + 8 * i)) j (k - j))
 
 abbrev μ-loop : tie.MeasureT-loop
 μ-loop words l k base item j₀ j = k - j

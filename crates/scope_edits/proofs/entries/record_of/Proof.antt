@@ -28,6 +28,9 @@ element-copy-out-t19 c = search needs
 element-copy-out-t22 : tie.Need-element-copy-out-t22
 element-copy-out-t22 c = search needs
 
+element-copy-out-t25 : tie.Need-element-copy-out-t25
+element-copy-out-t25 c = search needs
+
 returns : tie.Need-returns
 unfolding scopeWords
 returns c = refl
@@ -44,4 +47,5 @@ record-of-spec =
     element-copy-out-t16
     element-copy-out-t19
     element-copy-out-t22
+    element-copy-out-t25
     returns)

@@ -11,7 +11,7 @@ use Rattle.scope_edits.proofs.moves.move_down.Tie as tie
 
 abbrev Inv-loop : tie.InvT-loop
 Inv-loop words₀ at count i₀ words i =
-    (at ≤ i) × (i + 7 ≤ count) × (length words ≡ length words₀) × (words ≡ take i (cut at 7 (take count words₀)) ++ drop i words₀)
+    (at ≤ i) × (i + 8 ≤ count) × (length words ≡ length words₀) × (words ≡ take i (cut at 8 (take count words₀)) ++ drop i words₀)
 
 abbrev μ-loop : tie.MeasureT-loop
 μ-loop words₀ at count i₀ words i = count - i

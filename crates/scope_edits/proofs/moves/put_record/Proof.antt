@@ -9,10 +9,10 @@ use Rattle.scope_edits.proofs.moves.put_record.Statement.{statement}
 use Rattle.scope_edits.proofs.moves.put_record.Tie as tie
 
 abbrev Inv-loop : tie.InvT-loop
-Inv-loop words₀ at added i₀ words i = (i ≤ 7) × (length words ≡ length words₀) × (words ≡ paste words₀ at added i)
+Inv-loop words₀ at added i₀ words i = (i ≤ 8) × (length words ≡ length words₀) × (words ≡ paste words₀ at added i)
 
 abbrev μ-loop : tie.MeasureT-loop
-μ-loop words₀ at added i₀ words i = 7 - i
+μ-loop words₀ at added i₀ words i = 8 - i
 
 loop-holds : tie.Need-loop-holds Inv-loop μ-loop
 loop-holds c = (omega arith, refl, paste-zero (now (c .args .words)) (c .args .at) (now (c .args .added)))

@@ -15,15 +15,22 @@ put-first-lines-requires c κs = search needs
 put-last-lines-requires : tie.Need-put-last-lines-requires
 put-last-lines-requires c κs = search needs
 
+slice-aggregate-put-line : tie.Need-slice-aggregate-put-line
+slice-aggregate-put-line c = search needs
+
+put-line-requires : tie.Need-put-line-requires
+put-line-requires c κs = search needs
+
 same-length : tie.Need-same-length
 same-length c = search needs
 
 returns : tie.Need-returns
 returns c =
-    let e = c .before .before in
+    let f = c .before .before in
+    let e = f .before .before .before .before .before in
     let d = e .before .before .before .before in
     let a = d .before .before .before .before in
-    put-two (a .put .ensures) (put-two (d .put-first-lines .ensures .0) (e .put-last-lines .ensures))
+    put-two (a .put .ensures) (put-two (d .put-first-lines .ensures .0) (put-two (e .put-last-lines .ensures .0) (f .put-line .ensures .0)))
 
 pub put-counts-spec : {M : Type 1} → statement M
 put-counts-spec =
@@ -33,5 +40,7 @@ put-counts-spec =
     put-requires
     put-first-lines-requires
     put-last-lines-requires
+    slice-aggregate-put-line
+    put-line-requires
     same-length
     returns)
