@@ -16,7 +16,7 @@ use Rattle.snapshot.specs.Lists.{rows, any}
 use Rattle.snapshot.specs.Words.{payOf, wordsOf}
 use Rattle.snapshot.specs.Records.{nameAt}
 use Rattle.snapshot.proofs.Laws.{rows-next, rows-none, rows-ext}
-use Rattle.chains.specs.Chains.{mixed, keys, nameKey, slotOf, Marked, Last, Chained, linked}
+use Rattle.chains.specs.Chains.{mixed, keys, nameKey, slotOf, Marked, Last, ChainedBy, linked}
 
 or-none : (a : Bool) → (a || false) ≡ a
 or-none true = refl
@@ -64,9 +64,9 @@ last-kept g h b n l e q =
     }
 
 -- the same heads, links and keys
-pub chained-kept : (A B : List ℕ) (heads links : ℕ) (g h : ℕ → ℕ) (n : ℕ) → Chained A heads links g n
-    → ((b : ℕ) → b < keys → getD B (heads + b) 0 ≡ getD A (heads + b) 0) → ((i : ℕ) → i < n → getD B (links + i) 0 ≡ getD A (links + i) 0)
-    → ((i : ℕ) → i < n → h i ≡ g i) → Chained B heads links h n
+pub chained-kept : {count : ℕ} (A B : List ℕ) (heads links : ℕ) (g h : ℕ → ℕ) (n : ℕ) → ChainedBy count A heads links g n
+    → ((b : ℕ) → b < count → getD B (heads + b) 0 ≡ getD A (heads + b) 0) → ((i : ℕ) → i < n → getD B (links + i) 0 ≡ getD A (links + i) 0)
+    → ((i : ℕ) → i < n → h i ≡ g i) → ChainedBy count B heads links h n
 chained-kept A B heads links g h n c p q r =
     record {
       first = λ b k. last-kept g h b n (c .first b k) (p b k) r;
@@ -74,15 +74,15 @@ chained-kept A B heads links g h n c p q r =
     }
 
 -- what is read at a key and at a number
-module _ (A : List ℕ) (heads links : ℕ) (key : ℕ → ℕ) (n : ℕ) (c : Chained A heads links key n) where
-  pub first-of : {b k : ℕ} → b < keys → k ≡ getD A (heads + b) 0 → Last key b n k
+module _ {count : ℕ} (A : List ℕ) (heads links : ℕ) (key : ℕ → ℕ) (n : ℕ) (c : ChainedBy count A heads links key n) where
+  pub first-of : {b k : ℕ} → b < count → k ≡ getD A (heads + b) 0 → Last key b n k
   first-of {b} h e = rw e (c .first b h)
 
   pub next-of : {i k : ℕ} → i < n → k ≡ getD A (links + i) 0 → Last key (key i) i k
   next-of {i} h e = rw e (c .next i h)
 
 -- no number yet
-pub chained-none : (A : List ℕ) (heads links : ℕ) (h : ℕ → ℕ) → ((b : ℕ) → b < keys → getD A (heads + b) 0 ≡ 0) → Chained A heads links h 0
+pub chained-none : {count : ℕ} (A : List ℕ) (heads links : ℕ) (h : ℕ → ℕ) → ((b : ℕ) → b < count → getD A (heads + b) 0 ≡ 0) → ChainedBy count A heads links h 0
 chained-none A heads links h z =
     record {
       first = λ b k. rw (z b k) (record { within = omega arith; keyed = λ p. absurd (omega arith); none = λ j p q. absurd (omega arith) });
@@ -104,9 +104,9 @@ module _ (A : List ℕ) (heads links b n : ℕ) where
   linked-link h p = getD-set-other (set A (links + n) (getD A (heads + b) 0)) (heads + b) (links + n) (n + 1) 0 p ∙ getD-set-same A (links + n) (getD A (heads + b) 0) 0 h
 
   -- one number more
-  pub chained-linked : (key : ℕ → ℕ) → Chained A heads links key n → heads + keys ≤ links → links + n < length A → b < keys → key n ≡ b
-      → Chained (linked A heads links b n) heads links key (n + 1)
-  chained-linked key c apart fits small e =
+  pub chained-linked : {count : ℕ} (key : ℕ → ℕ) → ChainedBy count A heads links key n → heads + count ≤ links → links + n < length A → b < count → key n ≡ b
+      → ChainedBy count (linked A heads links b n) heads links key (n + 1)
+  chained-linked {count} key c apart fits small e =
       record {
         first = λ x k. head x k;
         next =
@@ -127,7 +127,7 @@ module _ (A : List ℕ) (heads links b n : ℕ) where
             none = λ j q r. below-more (λ i. d ≤ i → key i ≡ x → ⊥) n (λ i s t. l .none i t s) (λ t s. p (sym s ∙ e)) j r q;
           }
 
-      head-by : (x : ℕ) → x < keys → (t : Bool) → eqb x b ≡ t → Last key x (n + 1) (getD (linked A heads links b n) (heads + x) 0)
+      head-by : (x : ℕ) → x < count → (t : Bool) → eqb x b ≡ t → Last key x (n + 1) (getD (linked A heads links b n) (heads + x) 0)
       head-by x k true q =
           let r : x ≡ b = eqb-true x b q in
           rw (r, linked-head (omega arith)) newest
@@ -135,7 +135,7 @@ module _ (A : List ℕ) (heads links b n : ℕ) where
           let r : (x ≡ b → ⊥) = eqb-false x b q in
           older x _ r (last-kept key key x n (c .first x k) (linked-other (heads + x) (λ s. r (omega arith)) (omega arith)) (λ j s. refl))
 
-      head : (x : ℕ) → x < keys → Last key x (n + 1) (getD (linked A heads links b n) (heads + x) 0)
+      head : (x : ℕ) → x < count → Last key x (n + 1) (getD (linked A heads links b n) (heads + x) 0)
       head x k = head-by x k (eqb x b) refl
 
 -- one row more

@@ -39,10 +39,13 @@ pub record Last (key : ℕ → ℕ) (b n c : ℕ) : Type 0 where
   pub keyed : 0 < c → key (c - 1) ≡ b
   pub none : (j : ℕ) → c ≤ j → j < n → key j ≡ b → ⊥
 
--- the numbers below n: each key has the last with it, and each number the last before it with its key
-pub record Chained (A : List ℕ) (heads links : ℕ) (key : ℕ → ℕ) (n : ℕ) : Type 0 where
-  pub first : (b : ℕ) → b < keys → Last key b n (getD A (heads + b) 0)
+-- the numbers below n: each of the keys below a count has the last with it, and each number the last before it with its key
+pub record ChainedBy (count : ℕ) (A : List ℕ) (heads links : ℕ) (key : ℕ → ℕ) (n : ℕ) : Type 0 where
+  pub first : (b : ℕ) → b < count → Last key b n (getD A (heads + b) 0)
   pub next : (i : ℕ) → i < n → Last key (key i) i (getD A (links + i) 0)
+
+abbrev pub Chained : List ℕ → ℕ → ℕ → (ℕ → ℕ) → ℕ → Type 0
+Chained A heads links key n = ChainedBy keys A heads links key n
 
 -- the words from a place to another are 0, and all others stay
 pub record Cleared (A₀ A : List ℕ) (from to : ℕ) : Type 0 where

@@ -2,3 +2,5 @@
 pub mod Orders
 pub mod Visits
 pub mod Worked
+pub mod Sorts
+pub mod Merges

@@ -12,12 +12,8 @@ use Rattle.snapshot.specs.Records.{Snapshot, Scope}
 use Rattle.accept.proofs.Accepted.{by-test}
 use Rattle.hir_def.specs.Finds.{select}
 use Rattle.hir_def.specs.Items.{moduleKind, definitionOf, rootOf, ownMap}
+use Rattle.import_order.specs.Lists.{waiting}
 use Rattle.import_order.specs.Collect.{entryBefore, insertBy, sortInto, isPublicIn, entriesOf, piled, visits, modulesFrom}
-
--- the entries of modules that were not visited
-waiting : List ℕ → List Scope → ℕ
-waiting seen [] = 0
-waiting seen (e ∷ es) = elim (any (eqb (e .owner)) seen) [ true ↦ waiting seen es | false ↦ suc (waiting seen es) ]
 
 length-insert : {A : Type 0} (before : A → A → Bool) (x : A) (ys : List A) → length (insertBy before x ys) ≡ suc (length ys)
 unfolding insertBy
@@ -28,7 +24,7 @@ length-insert {A} before x (y ∷ ys) = by (before x y) (length-insert before x 
     by true p = refl
     by false p = ap suc p
 
-length-sort : {A : Type 0} (before : A → A → Bool) (ys xs : List A) → length (sortInto before ys xs) ≡ length ys + length xs
+pub length-sort : {A : Type 0} (before : A → A → Bool) (ys xs : List A) → length (sortInto before ys xs) ≡ length ys + length xs
 unfolding sortInto
 length-sort before ys [] = omega arith
 length-sort before ys (x ∷ xs) =
@@ -36,7 +32,7 @@ length-sort before ys (x ∷ xs) =
     let q = length-insert before x ys in
     omega arith
 
-length-piled : (s : Snapshot) (es : List Scope) (ws : List ℕ) → length (piled s es ws) ≤ length es + length ws
+pub length-piled : (s : Snapshot) (es : List Scope) (ws : List ℕ) → length (piled s es ws) ≤ length es + length ws
 unfolding piled
 length-piled s [] ws = omega arith
 length-piled s (e ∷ es) ws = by (eqb (definitionOf s (e .definition) .kind) moduleKind) (length-piled s es)
@@ -70,23 +66,29 @@ module _ (m : ℕ) (seen : List ℕ) (new : any (eqb m) seen ≡ false) where
       by true = refl
       by false = refl
 
-waiting-all : (es : List Scope) → waiting [] es ≤ length es
+pub waiting-all : (es : List Scope) → waiting [] es ≤ length es
 unfolding waiting any
 waiting-all [] = omega arith
 waiting-all (e ∷ es) = let p = waiting-all es in omega arith
 
--- a visit leaves one turn less to be taken
-room : (n m : ℕ) (s : Snapshot) (seen ws : List ℕ) → suc (length ws) + waiting seen (s .scopes) ≤ suc n → any (eqb m) seen ≡ false
-    → length (piled s (entriesOf s m) ws) + waiting (m ∷ seen) (s .scopes) ≤ n
+-- the entries of a module that was not visited are among those that wait
+pub entries-few : (m : ℕ) (s : Snapshot) (seen : List ℕ) → any (eqb m) seen ≡ false → length (entriesOf s m) + waiting (m ∷ seen) (s .scopes) ≤ waiting seen (s .scopes)
 unfolding entriesOf
-room n m s seen ws h t =
-    let a = length-piled s (entriesOf s m) ws in
+entries-few m s seen t =
     let b : length (entriesOf s m) ≡ 0 + length (select (isPublicIn m) (s .scopes)) = length-sort (entryBefore s) [] (select (isPublicIn m) (s .scopes)) in
     let c = taken-out m seen t (s .scopes) in
     omega arith
 
+-- a visit leaves one turn less to be taken
+pub room : (n m : ℕ) (s : Snapshot) (seen ws : List ℕ) → suc (length ws) + waiting seen (s .scopes) ≤ suc n → any (eqb m) seen ≡ false
+    → length (piled s (entriesOf s m) ws) + waiting (m ∷ seen) (s .scopes) ≤ n
+room n m s seen ws h t =
+    let a = length-piled s (entriesOf s m) ws in
+    let b = entries-few m s seen t in
+    omega arith
+
 -- from any place on
-visits-same : (n k : ℕ) (s : Snapshot) (seen ws : List ℕ) → length ws + waiting seen (s .scopes) ≤ n → n ≤ k → visits k s seen ws ≡ visits n s seen ws
+pub visits-same : (n k : ℕ) (s : Snapshot) (seen ws : List ℕ) → length ws + waiting seen (s .scopes) ≤ n → n ≤ k → visits k s seen ws ≡ visits n s seen ws
 unfolding visits
 visits-same zero zero s seen ws h p = refl
 visits-same zero (suc k) s seen [] h p = refl

@@ -17,9 +17,13 @@ textBefore [] (y ∷ ys) = true
 textBefore (x ∷ xs) [] = false
 textBefore (x ∷ xs) (y ∷ ys) = ltb x y || eqb x y && textBefore xs ys
 
--- the order of a scope's entries (`ItemScope::entries`, `PerNs::iter_items`): by text, then types, values, macros
+-- by a text, then types, values, macros
+abbrev pub keyBefore : List ℕ → ℕ → List ℕ → ℕ → Bool
+keyBefore a m b n = textBefore a b || not (textBefore b a) && ltb m n
+
+-- the order of a scope's entries (`ItemScope::entries`, `PerNs::iter_items`)
 unfoldable pub entryBefore : Snapshot → Scope → Scope → Bool
-entryBefore s x y = textBefore (textOf s (x .name)) (textOf s (y .name)) || eqb (x .name) (y .name) && ltb (x .ns) (y .ns)
+entryBefore s x y = keyBefore (textOf s (x .name)) (x .ns) (textOf s (y .name)) (y .ns)
 
 -- an element put before the first that it stands before
 unfoldable pub insertBy : {A : Type 0} → (A → A → Bool) → A → List A → List A

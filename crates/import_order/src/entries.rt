@@ -16,8 +16,13 @@ pub fn entry_before(words: &[u32], area: &[u32], l: Layout, a: usize, b: usize) 
 {
     let x = scope_name(words, a);
     let y = scope_name(words, b);
-    let p = x.0;
-    let q = y.0;
-    let text = text_before(words, area, l, x, y);
-    text | ((p == q) & (scope_ns(words, a) < scope_ns(words, b)))
+    let namespace = scope_ns(words, a) < scope_ns(words, b);
+    if x.0 == y.0 {
+        return namespace;
+    }
+    if text_before(words, area, l, x, y) {
+        return true;
+    }
+    let after = text_before(words, area, l, y, x);
+    !after & namespace
 }
