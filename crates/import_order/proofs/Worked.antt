@@ -45,17 +45,17 @@ pub worked-imports : collects (verdict worked) (record {
 unfolding collects agrees line collected importsOver importsIn importsOf memberNs modulesFrom visits piled entriesOf sortInto insertBy entryBefore textBefore wordsOf textOf unpacked nameData definitionOf rootOf ownMap placeOf select verdict records stepAt recordStep finish argumentsFrom argumentsOf nameStep crateStep dependencyStep mapStep moduleStep childStep preludeStep definitionStep scopeStep importStep externStep memberStep textBound padded rows any all eqList
 worked-imports = refl
 
-pub head : ℕ → ℕ → ℕ
+unfoldable pub head : ℕ → ℕ → ℕ
 head kind payload = kind * 0x10000000 + payload
 
-pub named : String → List ℕ
+unfoldable pub named : String → List ℕ
 named t = head 1 (length (bytesOf t)) ∷ packed (bytesOf t)
 
 -- Crate 0 with the modules 0, its root, and 1 `b` and 2 `ab` below it; crate 1 with the module 3, its root. Names: 0 `b`, 1 `ab`, 2 `c`, 3 `V`, 4 `t`,
 -- 5 `k`, 6 `A`. Definitions: 0 `b`, 1 `ab`, 2 an enum, 3 its variant `V`, 4 a trait, 5 its function `t`, 6 its constant `k`, 7 its type alias `A`, 8 a macro, 9 the root of crate 1.
 -- The root has, in record order: `c` in macros, `b`, `ab`, `c` in types (the trait, hidden), `c` in values (the trait, unstable), a private `V`. `b` has
 -- `ab` again, the enum as `c` and the root of crate 1 as `b`; `ab` has its parent's module `b` as `b`. The root of crate 1 has the macro as `k`.
-pub withMembers : List ℕ
+unfoldable pub withMembers : List ℕ
 withMembers =
     named "b" ++ named "ab" ++ named "c" ++ named "V" ++ named "t" ++ named "k" ++ named "A"
     ++ (head 2 0 ∷ 2021 ∷ head 2 0 ∷ 2021

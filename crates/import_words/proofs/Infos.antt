@@ -1,20 +1,18 @@
 -- The import maps of a snapshot whose imports of one crate were replaced; what is collected is the same for it.
 use Prim.Native.Nat.{ℕ, zero, suc, _+_, _*_}
-use mathlib.Core.Path.{_≡_, refl, sym, _∙_, ap, ap₂, subst}
+use mathlib.Core.Path.{_≡_, refl, sym, _∙_, ap, ap₂}
 use mathlib.Core.List.{List, [], _∷_, _++_, map, append-nil}
 use mathlib.Core.Bool.{Bool, true, false, _&&_, not}
 use native.Mathlib.Omega.{arith}
-use native.Mathlib.Nat.{add-zero}
 use borrow.Author.Tests.{eqb-true, eqb-false, eq-eqb, ne-eqb}
 use lib.Dec.{eqb}
 use lib.ListN.{length}
 use Rattle.snapshot.specs.Lists.{any}
 use Rattle.snapshot.specs.Records.{Snapshot, Scope, Import, Extern}
-use Rattle.accept.specs.Verdict.{accept, verdict}
 use Rattle.accept.specs.Valid.{Each, none, more}
 use Rattle.accept.proofs.Accepted.{by-test}
-use Rattle.hir_def.specs.Finds.{select, placeOf}
-use Rattle.hir_def.specs.Items.{itemOf, sameItem, definitionOf, rootOf, ownMap}
+use Rattle.hir_def.specs.Finds.{select}
+use Rattle.hir_def.specs.Items.{itemOf, definitionOf, rootOf, ownMap}
 use Rattle.hir_def.specs.ImportMap.{isImport, importInfoFor}
 use Rattle.hir_def.specs.declared.Item.{Item}
 use Rattle.find_path.specs.Choices.{nameData}
@@ -22,7 +20,7 @@ use Rattle.find_path.specs.Line.{textOf}
 use Rattle.scope_edits.specs.Entries.{movedImport, withLists, scopesEnd}
 use Rattle.import_order.specs.Collect.{entryBefore, entriesOf, piled, visits, modulesFrom, importsOf, importsIn, importsOver, collected}
 use Rattle.import_words.specs.Words.{importSize, placedFrom, isOthers, othersThan, replaced, snapshotWith, isOf, unplaced}
-use Rattle.import_words.proofs.Fitting.{Owned, collected-owned}
+use Rattle.import_words.proofs.Fitting.{Owned}
 
 -- lists
 

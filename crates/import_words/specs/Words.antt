@@ -5,7 +5,7 @@ use mathlib.Core.List.{List, [], _∷_, _++_, map}
 use mathlib.Core.Bool.{Bool, true, not}
 use lib.Dec.{eqb}
 use lib.ListN.{length}
-use Rattle.snapshot.specs.Records.{Snapshot, Import, Extern}
+use Rattle.snapshot.specs.Records.{Snapshot, Import}
 use Rattle.accept.specs.Tests.{countsOf, importRange, importDefined, nsPlaced}
 use Rattle.hir_def.specs.Finds.{select}
 use Rattle.hir_def.specs.Items.{itemOf, sameItem}
