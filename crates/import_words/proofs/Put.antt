@@ -1,13 +1,13 @@
 -- Accepted words with other import records in place of their own are accepted, as the snapshot with those imports.
 use Prim.Native.Nat.{ℕ, _+_, _*_, _-_, _≤_, _<_}
 use mathlib.Core.Path.{_≡_, refl, sym, _∙_, ap, ap₂, subst}
-use mathlib.Core.List.{List, [], _∷_, _++_, map, map-id}
+use mathlib.Core.List.{List, [], _∷_, _++_, map, map-id, append-assoc}
 use mathlib.Core.Bool.{false}
 use native.Mathlib.Omega.{arith}
 use native.Mathlib.Decide.{decLe}
 use borrow.Author.Tests.{ltb-true}
-use lib.ListN.{length, getD}
-use lib.Seq.{ext-getD}
+use lib.ListN.{length, getD, take, drop}
+use lib.Seq.{ext-getD, length-take-le, take-at, drop-at}
 use Rattle.snapshot.specs.Lists.{any}
 use Rattle.snapshot.specs.Words.{kindOf}
 use Rattle.snapshot.specs.Records.{Snapshot, Scope, Import}
@@ -21,8 +21,8 @@ use Rattle.scope_edits.proofs.Folded.{base, records-more, records-after, run-la
 use Rattle.scope_edits.proofs.Split.{verdict-is}
 use Rattle.scope_edits.proofs.Inserted.{end-split}
 use Rattle.import_order.specs.Collect.{wordsOf}
-use Rattle.import_words.specs.Words.{importSize, Fits, placedFrom, wordsWith, snapshotWith}
-use Rattle.import_words.proofs.Taken.{words-length, withMore, Over, over-imports}
+use Rattle.import_words.specs.Words.{importSize, Fits, placedFrom, othersThan, replaced, wordsWith, snapshotWith}
+use Rattle.import_words.proofs.Taken.{words-length, words-append, withMore, Over, over-imports}
 use Rattle.import_words.proofs.Runs.{Run, old-imports, withThese, run-apart, run-lower}
 
 -- no scope record comes any more
@@ -117,6 +117,19 @@ module _ (W : List ℕ) (u : Snapshot) (acc : verdict W ≡ accept u) where
             ]
         | no a ↦ with-before (u .imports) i (omega arith)
       ])
+
+  -- The words of imports stand as they were written, between what stood before and behind the import records.
+  pub put-words : (c : ℕ) (xs : List Import) → wordsWith W u (replaced u c xs)
+      ≡ take (scopesEnd W) W ++ (wordsOf (othersThan c (u .imports)) ++ (wordsOf xs ++ drop (scopesEnd W + importSize * length (u .imports)) W))
+  unfolding wordsWith
+  put-words c xs =
+      let os = othersThan c (u .imports) in
+      let p = scopesEnd W in
+      let D = drop (p + importSize * length (u .imports)) W in
+      let w = imports-within in
+      let n : length (take p W) ≡ p = length-take-le p W (omega arith) in
+      ap₂ (λ a b. a ++ (wordsOf (os ++ xs) ++ b)) (take-at (take p W) D p n) (drop-at (take p W) D p n)
+      ∙ ap (λ l. take p W ++ (l ++ D)) (words-append os xs) ∙ ap (λ l. take p W ++ l) (append-assoc (wordsOf os) (wordsOf xs) D)
 
   module _ (ys : List Import) (fits : Each (Fits u) ys) (short : length (wordsWith W u ys) ≤ 16384) where
     abbrev X : List ℕ

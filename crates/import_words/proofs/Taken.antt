@@ -31,7 +31,7 @@ pub record Small (x : Import) : Type 0 where
   pub container : x .container < 268435456
   pub bits : x .bits < 268435456
 
-fits-small : (s : Snapshot) (x : Import) → Limits (countsOf s) → Fits s x → Small x
+pub fits-small : (s : Snapshot) (x : Import) → Limits (countsOf s) → Fits s x → Small x
 fits-small s x l f =
     let r = and-two (leb (x .ns) 2) (leb (x .bits) 3) (f .0) in
     let k = and-four (ltb (x .owner) (length (s .crates))) (ltb (x .definition) (length (s .definitions))) (ltb (x .name) (length (s .names)))
@@ -132,6 +132,11 @@ pub words-length : (xs : List Import) → length (wordsOf xs) ≡ importSize * l
 unfolding wordsOf
 words-length [] = refl
 words-length (x ∷ xs) = let e = words-length xs in omega arith
+
+pub words-append : (xs ys : List Import) → wordsOf (xs ++ ys) ≡ wordsOf xs ++ wordsOf ys
+unfolding wordsOf
+words-append [] ys = refl
+words-append (x ∷ xs) ys = ap (λ l. importWords x ++ l) (words-append xs ys)
 
 pub words-first : (x : Import) (xs : List Import) (i : ℕ) → i < 6 → getD (wordsOf (x ∷ xs)) i 0 ≡ getD (importWords x) i 0
 unfolding wordsOf
