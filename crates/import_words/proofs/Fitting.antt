@@ -77,8 +77,8 @@ module _ (s : Snapshot) (c : ℕ) (known : c < length (s .crates)) (e : Scope) (
   entry-fits =
       let g = f .0 in (
         ranged-is (e .ns) (e .bits) (g .ns) (g .bits),
-        known-is c (e .definition) (e .name) (e .owner) (length (s .crates)) (length (s .definitions)) (length (s .names)) (length (s .modules)) known (g .definition)
-            (g .name) (g .owner),
+        known-is c (e .definition) (e .name) (e .owner) (length (s .crates)) (length (s .definitions)) (length (s .names)) (length (s .modules))
+            known (g .definition) (g .name) (g .owner),
         right-is (e .ns) _ (f .1),
       )
 
@@ -98,8 +98,8 @@ module _ (s : Snapshot) (c : ℕ) (known : c < length (s .crates)) (e : Scope) (
       let m = p .0 in
       let d : x .parent ≡ e .definition = eqb-true (x .parent) (e .definition) (and-two (eqb (x .parent) (e .definition)) _ t .0) in (
         ranged-is (memberNs (e .ns) (x .kind)) (x .bits) (ns-small (x .kind)) (m .bits),
-        known-is c (x .definition) (x .name) (e .owner) (length (s .crates)) (length (s .definitions)) (length (s .names)) (length (s .modules)) known (m .definition)
-            (m .name) (g .owner),
+        known-is c (x .definition) (x .name) (e .owner) (length (s .crates)) (length (s .definitions)) (length (s .names)) (length (s .modules))
+            known (m .definition) (m .name) (g .owner),
         right-is (memberNs (e .ns) (x .kind)) (definitionIn (s .definitions) (x .definition) .kind)
             (λ h. absurd (no-both s d (p .1 .parent) (f .1 (ns-macros (x .kind) h)))),
       )

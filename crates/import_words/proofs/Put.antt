@@ -10,7 +10,7 @@ use lib.ListN.{length, getD, take, drop}
 use lib.Seq.{ext-getD, length-take-le, take-at, drop-at}
 use Rattle.snapshot.specs.Lists.{any}
 use Rattle.snapshot.specs.Words.{kindOf}
-use Rattle.snapshot.specs.Records.{Snapshot, Scope, Import}
+use Rattle.snapshot.specs.Records.{Snapshot, Scope, Import, Extern}
 use Rattle.accept.specs.Tests.{countsOf, sameEntry}
 use Rattle.accept.specs.Verdict.{accept, records, empty, verdict}
 use Rattle.accept.specs.Valid.{Each, Limits}
@@ -138,7 +138,21 @@ module _ (W : List ℕ) (u : Snapshot) (acc : verdict W ≡ accept u) where
     abbrev moved : ℕ → ℕ
     moved n = n + importSize * length ys - importSize * length (u .imports)
 
-    begins : scopesEnd W + importSize * length ys ≤ length X
+    -- where the records after the imports begin
+
+    abbrev behind : ℕ
+    behind = scopesEnd W + importSize * length (u .imports)
+
+    abbrev ahead : ℕ
+    ahead = scopesEnd W + importSize * length ys
+
+    abbrev placed : List Import
+    placed = placedFrom (scopesEnd W) ys
+
+    abbrev shifted : List Extern → List Extern
+    shifted es = map (movedExtern moved) es
+
+    begins : ahead ≤ length X
     begins = let l = with-length ys in let w = imports-within in omega arith
 
     -- up to the import records
@@ -153,32 +167,32 @@ module _ (W : List ℕ) (u : Snapshot) (acc : verdict W ≡ accept u) where
         over-imports X ys (first .0) (scopesEnd W) (end-split W u acc .before) start start-limits (omega arith)
         (subst (λ (s : Snapshot). Each (Fits s) ys) start-base fits) (with-at ys) begins (first .1)
 
-    roomy : length X ≤ run .fuel + (scopesEnd W + importSize * length ys)
+    roomy : length X ≤ run .fuel + ahead
     roomy = let l = with-length ys in let e = run .enough in let w = imports-within in omega arith
 
     -- the records after them, without imports
     bare-after : (zs : List Scope) × (zs ≡ u .scopes)
-        × (records (run .fuel) X (scopesEnd W + importSize * length ys) 11 (withLists start (start .scopes) [] (map (movedExtern moved) (start .externs)))
-        ≡ accept (withLists u zs [] (map (movedExtern moved) (u .externs))))
+        × (records (run .fuel) X ahead 11 (withLists start (start .scopes) [] (shifted (start .externs)))
+        ≡ accept (withLists u zs [] (shifted (u .externs))))
     bare-after =
         let l = with-length ys in
         let w = imports-within in
-        let e = run-apart W (run .fuel) (scopesEnd W + importSize * length (u .imports)) 11 (withMore start (u .imports)) u [] (omega arith) (run .enough) (run .rest) in
-        run-moved W X moved (λ xs zs. zs ≡ xs) 11 (scopes-kept moved) (omega arith) (run .fuel) (scopesEnd W + importSize * length (u .imports))
-        (scopesEnd W + importSize * length ys) 11 11 (withThese (withMore start (u .imports)) []) (withThese u []) (start .scopes) (omega arith) (omega arith)
+        let e = run-apart W (run .fuel) behind 11 (withMore start (u .imports)) u [] (omega arith) (run .enough) (run .rest) in
+        run-moved W X moved (λ xs zs. zs ≡ xs) 11 (scopes-kept moved) (omega arith) (run .fuel) behind
+        ahead 11 11 (withThese (withMore start (u .imports)) []) (withThese u []) (start .scopes) (omega arith) (omega arith)
         (with-after ys) (λ i. omega arith) (omega arith) (run .enough) refl (e .1)
 
     -- and with them
-    after : records (run .fuel) X (scopesEnd W + importSize * length ys) 11 (withMore start (placedFrom (scopesEnd W) ys))
-        ≡ accept (withLists u (u .scopes) (placedFrom (scopesEnd W) ys) (map (movedExtern moved) (u .externs)))
+    after : records (run .fuel) X ahead 11 (withMore start placed)
+        ≡ accept (withLists u (u .scopes) placed (shifted (u .externs)))
     after =
-        let is = start .imports ++ placedFrom (scopesEnd W) ys in
-        let r = run-apart X (run .fuel) (scopesEnd W + importSize * length ys) 11 (withLists start (start .scopes) [] (map (movedExtern moved) (start .externs)))
-        (withLists u (bare-after .0) [] (map (movedExtern moved) (u .externs))) is (omega arith) roomy (bare-after .2) in
-        let none : map (movedExtern moved) (start .externs) ≡ start .externs = ap (map (movedExtern moved)) (bare .1) ∙ sym (bare .1) in
-        ap (λ es. records (run .fuel) X (scopesEnd W + importSize * length ys) 11 (withLists start (start .scopes) is es)) (sym none)
+        let is = start .imports ++ placed in
+        let r = run-apart X (run .fuel) ahead 11 (withLists start (start .scopes) [] (shifted (start .externs)))
+        (withLists u (bare-after .0) [] (shifted (u .externs))) is (omega arith) roomy (bare-after .2) in
+        let none : shifted (start .externs) ≡ start .externs = ap shifted (bare .1) ∙ sym (bare .1) in
+        ap (λ es. records (run .fuel) X ahead 11 (withLists start (start .scopes) is es)) (sym none)
         ∙ r .1
-        ∙ ap₂ (λ zs l. accept (withLists u zs l (map (movedExtern moved) (u .externs)))) (bare-after .1) (ap (λ l. l ++ placedFrom (scopesEnd W) ys) (bare .0))
+        ∙ ap₂ (λ zs l. accept (withLists u zs l (shifted (u .externs)))) (bare-after .1) (ap (λ l. l ++ placed) (bare .0))
 
     -- Records that fit, whichever crates', in place of the snapshot's: the words are accepted.
     pub put-accepted : verdict (wordsWith W u ys) ≡ accept (snapshotWith W u ys)
@@ -188,9 +202,9 @@ module _ (W : List ℕ) (u : Snapshot) (acc : verdict W ≡ accept u) where
         verdict-is X short
         ∙ first .2
         ∙ over .same
-        ∙ records-more X (over .fuel) (run .fuel) (scopesEnd W + importSize * length ys) (over .before) (withMore start (placedFrom (scopesEnd W) ys)) (over .enough) roomy
-        ∙ run-lower X (run .fuel) (scopesEnd W + importSize * length ys) 11 (over .before) (withMore start (placedFrom (scopesEnd W) ys))
-        (withLists u (u .scopes) (placedFrom (scopesEnd W) ys) (map (movedExtern moved) (u .externs))) (omega arith) (omega arith) roomy after
+        ∙ records-more X (over .fuel) (run .fuel) ahead (over .before) (withMore start placed) (over .enough) roomy
+        ∙ run-lower X (run .fuel) ahead 11 (over .before) (withMore start placed)
+        (withLists u (u .scopes) placed (shifted (u .externs))) (omega arith) (omega arith) roomy after
 
   -- the imports of an accepted snapshot fit, and stand where their places say
   pub own-fits : Each (Fits u) (u .imports)

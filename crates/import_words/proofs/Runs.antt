@@ -64,15 +64,16 @@ module _ (W : List ℕ) (u : Snapshot) where
         fuel = n;
         enough = omega arith;
         within = omega arith;
-        rest = ap₂ (λ j l. records n W j 11 (withLists s (s .scopes) l (s .externs))) to (append-nil (s .imports)) ∙ records-after W n a 10 11 s u late e;
+        rest = ap₂ (λ j l. records n W j 11 (withLists s (s .scopes) l (s .externs))) to (append-nil (s .imports))
+            ∙ records-after W n a 10 11 s u late e;
         fits = none;
         words = λ i h. absurd (omega arith);
         places = refl;
       }
 
   -- one stands there
-  run-more : (a : ℕ) (s : Snapshot) (xs : List Import) → kindOf (getD W a 0) ≡ 10 → Fits s (importAt W a) → Run W u (a + 6) (addImport s (importAt W a)) xs
-      → Run W u a s (importAt W a ∷ xs)
+  run-more : (a : ℕ) (s : Snapshot) (xs : List Import) → kindOf (getD W a 0) ≡ 10 → Fits s (importAt W a)
+      → Run W u (a + 6) (addImport s (importAt W a)) xs → Run W u a s (importAt W a ∷ xs)
   unfolding placedFrom
   run-more a s xs k f r =
       let to : a + 6 + importSize * length xs ≡ a + importSize * suc (length xs) = omega arith in
@@ -114,7 +115,8 @@ module _ (W : List ℕ) (u : Snapshot) where
       let w = taking-within W a 10 s (r .state) t h in
       let to : a + 1 + argumentsAt W a ≡ a + 6 = omega arith in
       let rest : records n W (a + 6) 10 (addImport s (importAt W a)) ≡ accept u =
-      ap (λ j. records n W j 10 (addImport s (importAt W a))) (sym to) ∙ ap (λ j. records n W (a + 1 + argumentsAt W a) j (addImport s (importAt W a))) (sym k)
+      ap (λ j. records n W j 10 (addImport s (importAt W a))) (sym to)
+      ∙ ap (λ j. records n W (a + 1 + argumentsAt W a) j (addImport s (importAt W a))) (sym k)
       ∙ ap (records n W (a + 1 + argumentsAt W a) (kindOf (getD W a 0))) (q .same) ∙ r .rest in
       let i = old-imports n (a + 6) (addImport s (importAt W a)) (omega arith) (omega arith) rest in
       (importAt W a ∷ i .0, run-more a s (i .0) k (p .ranged, p .known, p .right) (i .1)))

@@ -86,45 +86,48 @@ words-arguments x h =
     )
 
 -- the words of an import at a place
-module _ (x : Import) (small : Small x) (X : List ℕ) (p : ℕ) (at : (i : ℕ) → i < 6 → getD X (p + i) 0 ≡ getD (importWords x) i 0) (fits : p + 6 ≤ length X) where
-  head-is : getD X p 0 ≡ 0xA0000000 + x .owner
-  head-is = ap (λ j. getD X j 0) (sym (add-zero p)) ∙ at 0 (omega arith)
+module _ (x : Import) (small : Small x) (X : List ℕ) (p : ℕ) (at : (i : ℕ) → i < 6 → getD X (p + i) 0 ≡ getD (importWords x) i 0)
+    (fits : p + 6 ≤ length X)
+  where
+    head-is : getD X p 0 ≡ 0xA0000000 + x .owner
+    head-is = ap (λ j. getD X j 0) (sym (add-zero p)) ∙ at 0 (omega arith)
 
-  kind-is : kindOf (getD X p 0) ≡ 10
-  kind-is = let h = small .owner in let e : (0xA0000000 + x .owner) / 268435456 ≡ 10 = omega arith in ap kindOf head-is ∙ e
+    kind-is : kindOf (getD X p 0) ≡ 10
+    kind-is = let h = small .owner in let e : (0xA0000000 + x .owner) / 268435456 ≡ 10 = omega arith in ap kindOf head-is ∙ e
 
-  import-is : importAt X p ≡ movedImport (λ n. p) x
-  import-is =
-      let h = small .owner in
-      let e : (0xA0000000 + x .owner) % 268435456 ≡ x .owner = omega arith in
-      let o : payOf (getD X p 0) ≡ x .owner = ap payOf head-is ∙ e in
-      let f = at 1 (omega arith) in
-      let g = at 2 (omega arith) in
-      let k = at 3 (omega arith) in
-      let l = at 4 (omega arith) in
-      let m = at 5 (omega arith) in
-      λ i. record { owner = o i; ns = f i; definition = g i; name = k i; container = l i; bits = m i; place = p }
+    import-is : importAt X p ≡ movedImport (λ n. p) x
+    import-is =
+        let h = small .owner in
+        let e : (0xA0000000 + x .owner) % 268435456 ≡ x .owner = omega arith in
+        let o : payOf (getD X p 0) ≡ x .owner = ap payOf head-is ∙ e in
+        let f = at 1 (omega arith) in
+        let g = at 2 (omega arith) in
+        let k = at 3 (omega arith) in
+        let l = at 4 (omega arith) in
+        let m = at 5 (omega arith) in
+        λ i. record { owner = o i; ns = f i; definition = g i; name = k i; container = l i; bits = m i; place = p }
 
-  arguments-stand : argumentsFrom X (p + 1) 5 ≡ true
-  arguments-stand =
-      arguments-same (importWords x) X 1 (p + 1) 5
-      (λ d h. let a : p + 1 + d ≡ p + (1 + d) = omega arith in ap (λ j. getD X j 0) a ∙ at (1 + d) (omega arith)) (omega arith) (words-arguments x small)
+    arguments-stand : argumentsFrom X (p + 1) 5 ≡ true
+    arguments-stand =
+        arguments-same (importWords x) X 1 (p + 1) 5
+        (λ d h. let a : p + 1 + d ≡ p + (1 + d) = omega arith in ap (λ j. getD X j 0) a ∙ at (1 + d) (omega arith))
+        (omega arith) (words-arguments x small)
 
-  import-taken : (last : ℕ) (s : Snapshot) → last ≤ 10 → Fits s x → Taking X p last s (addImport s (movedImport (λ n. p) x))
-  import-taken last s low f =
-      record {
-        order = ap (follows last) kind-is ∙ follows-import last low;
-        whole = ap (argumentsFrom X (p + 1)) (import-arguments X p kind-is) ∙ arguments-stand;
-        step = import-kind X p (kindOf (getD X p 0)) s kind-is ∙ ap (importStep s) import-is ∙ import-takes s (movedImport (λ n. p) x) f;
-      }
+    import-taken : (last : ℕ) (s : Snapshot) → last ≤ 10 → Fits s x → Taking X p last s (addImport s (movedImport (λ n. p) x))
+    import-taken last s low f =
+        record {
+          order = ap (follows last) kind-is ∙ follows-import last low;
+          whole = ap (argumentsFrom X (p + 1)) (import-arguments X p kind-is) ∙ arguments-stand;
+          step = import-kind X p (kindOf (getD X p 0)) s kind-is ∙ ap (importStep s) import-is ∙ import-takes s (movedImport (λ n. p) x) f;
+        }
 
-  pub over-import : (n last : ℕ) (s : Snapshot) → last ≤ 10 → Fits s x
-      → records (suc n) X p last s ≡ records n X (p + 6) 10 (addImport s (movedImport (λ n. p) x))
-  over-import n last s low f =
-      let t = addImport s (movedImport (λ n. p) x) in
-      let to : p + 1 + 5 ≡ p + 6 = omega arith in
-      records-take X n p last s t (omega arith) (taken-step X p last s t (import-taken last s low f)) (import-arguments X p kind-is) kind-is
-      ∙ ap (λ j. records n X j 10 t) to
+    pub over-import : (n last : ℕ) (s : Snapshot) → last ≤ 10 → Fits s x
+        → records (suc n) X p last s ≡ records n X (p + 6) 10 (addImport s (movedImport (λ n. p) x))
+    over-import n last s low f =
+        let t = addImport s (movedImport (λ n. p) x) in
+        let to : p + 1 + 5 ≡ p + 6 = omega arith in
+        records-take X n p last s t (omega arith) (taken-step X p last s t (import-taken last s low f)) (import-arguments X p kind-is) kind-is
+        ∙ ap (λ j. records n X j 10 t) to
 
 -- the words of imports
 
@@ -162,7 +165,8 @@ pub record Over (X : List ℕ) (n b last : ℕ) (s : Snapshot) (xs : List Import
   pub same : records n X b last s ≡ records fuel X (b + importSize * length xs) before (withMore s (placedFrom b xs))
 
 over-next : (X : List ℕ) (n b last : ℕ) (s : Snapshot) (x : Import) (xs : List Import)
-    → records (suc n) X b last s ≡ records n X (b + 6) 10 (addImport s (movedImport (λ n. b) x)) → Over X n (b + 6) 10 (addImport s (movedImport (λ n. b) x)) xs
+    → records (suc n) X b last s ≡ records n X (b + 6) 10 (addImport s (movedImport (λ n. b) x))
+    → Over X n (b + 6) 10 (addImport s (movedImport (λ n. b) x)) xs
     → Over X (suc n) b last s (x ∷ xs)
 unfolding placedFrom
 over-next X n b last s x xs e r =
