@@ -1,0 +1,189 @@
+//! What each command does, and the status it ends with.
+use std::ffi::OsString;
+use std::fs;
+use std::io::Write;
+
+use kelumavor::Counts;
+
+use crate::args::Args;
+use crate::assemble::assemble;
+use crate::explain::{Refused, judge, snapshot_part};
+use crate::failure::Failure;
+use crate::faults::counted;
+use crate::input::{Input, label, read};
+use crate::json::Json;
+use crate::{dump, escape};
+
+pub const FINE: u8 = 0;
+/// A snapshot or a question is refused, or there is no path.
+pub const REFUSED: u8 = 1;
+pub const FAILED: u8 = 2;
+
+const HELP: &str = include_str!("help.txt");
+
+/// The answer of a command: its status, what goes to standard output, and what to standard error.
+#[derive(Debug, Default)]
+pub struct Answer {
+    pub status: u8,
+    pub out: Vec<u8>,
+    pub notes: Vec<String>,
+}
+
+impl Answer {
+    pub fn new(status: u8, out: impl Into<Vec<u8>>) -> Self {
+        Answer { status, out: out.into(), notes: Vec::new() }
+    }
+
+    /// A line.
+    pub fn line(status: u8, line: impl std::fmt::Display) -> Self {
+        Self::new(status, format!("{line}\n"))
+    }
+}
+
+pub fn run(args: &[OsString], out: &mut dyn Write, errors: &mut dyn Write) -> u8 {
+    let written = answer(args).and_then(|answer| {
+        let written = out.write_all(&answer.out).and_then(|()| out.flush());
+        written.map_err(|error| Failure::writing("standard output", &error))?;
+        Ok(answer)
+    });
+    let (status, notes) = match written {
+        Ok(answer) => (answer.status, answer.notes),
+        Err(failure) if failure.is_silent() => (FAILED, Vec::new()),
+        Err(failure) => (FAILED, vec![failure.to_string()]),
+    };
+    for note in notes {
+        // There is nowhere to say that this failed.
+        let _ = writeln!(errors, "kelumavor: {note}");
+    }
+    status
+}
+
+fn answer(args: &[OsString]) -> Result<Answer, Failure> {
+    let Some((command, rest)) = args.split_first() else {
+        return Err(Failure::new("no command is given; `kelumavor --help` lists them"));
+    };
+    if rest.iter().take_while(|word| *word != "--").any(|word| word == "--help" || word == "-h") {
+        return Ok(Answer::new(FINE, HELP));
+    }
+    match command.to_str() {
+        Some("check") => check(rest),
+        Some("dump") => dumped(rest),
+        Some("assemble") => assembled(rest),
+        Some("help" | "--help" | "-h") => Ok(Answer::new(FINE, HELP)),
+        Some("version" | "--version" | "-V") => Ok(Answer::line(FINE, concat!("kelumavor ", env!("CARGO_PKG_VERSION")))),
+        _ => {
+            let command = escape::escaped(command.as_encoded_bytes());
+            Err(Failure::new(format!("no command `{command}`; `kelumavor --help` lists them")))
+        }
+    }
+}
+
+fn check(words: &[OsString]) -> Result<Answer, Failure> {
+    let args = Args::read(words, &["--json"], &[])?;
+    if args.files.is_empty() {
+        return Err(Failure::new("`check` takes files, or `-` for standard input, and none is given"));
+    }
+    let mut all = Answer::default();
+    for file in &args.files {
+        match read(file) {
+            Ok(input) => checked(&mut all, &input, args.flag("--json"), args.files.len() > 1),
+            Err(failure) => {
+                all.status = FAILED;
+                all.notes.push(failure.to_string());
+            }
+        }
+    }
+    Ok(all)
+}
+
+/// Adds the answer to one file.
+fn checked(all: &mut Answer, input: &Input, json: bool, several: bool) {
+    let judged = judge(input);
+    all.status = all.status.max(if judged.is_ok() { FINE } else { REFUSED });
+    let file = ("file", input.label.as_str().into());
+    let line = match &judged {
+        Ok(counts) if json => {
+            let counts = Json::Object(counted_kinds(counts).map(|(kind, count)| (kind, count.into())).into());
+            Json::Object(vec![file, ("accepted", true.into()), ("words", input.words.len().into()), ("counts", counts)])
+                .to_string()
+        }
+        Err(refused) if json => Json::Object([vec![file], refused.json()].concat()).to_string(),
+        Ok(counts) => accepted(input, counts),
+        Err(refused) => refused.to_string(),
+    };
+    let label = if several && !json { format!("{}: ", input.label) } else { String::new() };
+    all.out.extend(format!("{label}{line}\n").bytes());
+}
+
+fn counted_kinds(counts: &Counts) -> [(&'static str, usize); 12] {
+    [
+        ("names", counts.names),
+        ("crates", counts.crates),
+        ("dependencies", counts.dependencies),
+        ("maps", counts.maps),
+        ("modules", counts.modules),
+        ("children", counts.children),
+        ("preludes", counts.preludes),
+        ("definitions", counts.definitions),
+        ("scopes", counts.scopes),
+        ("imports", counts.imports),
+        ("externs", counts.externs),
+        ("members", counts.members),
+    ]
+}
+
+fn accepted(input: &Input, counts: &Counts) -> String {
+    let there = counted_kinds(counts).into_iter().filter(|(_, count)| *count > 0);
+    let lines: String = there.map(|(kind, count)| format!("\n{count:>6} {kind}")).collect();
+    format!("accepted, {}{lines}", counted(input.words.len(), "word"))
+}
+
+fn dumped(words: &[OsString]) -> Result<Answer, Failure> {
+    let args = Args::read(words, &["--json"], &[])?;
+    let input = read(args.one_file("dump")?)?;
+    let out = if args.flag("--json") { format!("{}\n", dump::json(&input)) } else { dump::text(&input) };
+    Ok(judged(&input, out.into_bytes()))
+}
+
+/// An answer that holds for refused words too: the refusal is a note, and the status says it.
+fn judged(input: &Input, out: Vec<u8>) -> Answer {
+    match judge(&snapshot_part(input).0) {
+        Ok(_) => Answer::new(FINE, out),
+        Err(refused) => Answer { status: REFUSED, out, notes: vec![refused.to_string()] },
+    }
+}
+
+fn assembled(words: &[OsString]) -> Result<Answer, Failure> {
+    let args = Args::read(words, &["--json"], &["-o"])?;
+    let file = args.one_file("assemble")?;
+    let text = read(file)?;
+    let label_in = label(file);
+    let lines = std::str::from_utf8(&text.bytes).map_err(|_| Failure::new(format!("{label_in} is no UTF-8 text")))?;
+    let bytes = assemble(lines).map_err(|(line, reason)| Failure::new(format!("{label_in}, line {line}: {reason}")))?;
+    let input = Input::new(&label_in, bytes);
+    let bytes = match args.value("-o") {
+        Some(path) => {
+            let written = fs::write(path, &input.bytes);
+            written.map_err(|error| Failure::writing(&label(path), &error))?;
+            Vec::new()
+        }
+        None => input.bytes.clone(),
+    };
+    let mut answer = judged(&input, bytes);
+    if args.flag("--json") {
+        answer.out = assembled_json(&input, args.value("-o").is_some()).into_bytes();
+    }
+    Ok(answer)
+}
+
+/// The words themselves stand in it where they are written to no file.
+fn assembled_json(input: &Input, written: bool) -> String {
+    let (snapshot, _) = snapshot_part(input);
+    let mut fields = judge(&snapshot).map_or_else(|refused: Refused| refused.json(), |_| vec![("accepted", true.into())]);
+    fields.push(("bytes", input.bytes.len().into()));
+    if !written {
+        fields.push(("words", input.words.iter().copied().collect()));
+        fields.push(("rest", input.rest().iter().map(|byte| u32::from(*byte)).collect()));
+    }
+    format!("{}\n", Json::Object(fields))
+}
