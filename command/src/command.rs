@@ -3,7 +3,7 @@ use std::ffi::OsString;
 use std::fs;
 use std::io::Write;
 
-use kelumavor::Counts;
+use kelumavor::{Counts, Outcome, Report, Snapshot};
 
 use crate::args::Args;
 use crate::assemble::assemble;
@@ -12,7 +12,8 @@ use crate::failure::Failure;
 use crate::faults::counted;
 use crate::input::{Input, label, read};
 use crate::json::Json;
-use crate::{dump, escape};
+use crate::view::View;
+use crate::{ask, dot, dump, escape, tree};
 
 pub const FINE: u8 = 0;
 /// A snapshot or a question is refused, or there is no path.
@@ -69,8 +70,12 @@ fn answer(args: &[OsString]) -> Result<Answer, Failure> {
         Some("check") => check(rest),
         Some("dump") => dumped(rest),
         Some("assemble") => assembled(rest),
+        Some("ask") => asked(rest),
+        Some("tree") => drawn(rest),
         Some("help" | "--help" | "-h") => Ok(Answer::new(FINE, HELP)),
-        Some("version" | "--version" | "-V") => Ok(Answer::line(FINE, concat!("kelumavor ", env!("CARGO_PKG_VERSION")))),
+        Some("version" | "--version" | "-V") => {
+            Ok(Answer::line(FINE, concat!("kelumavor ", env!("CARGO_PKG_VERSION"))))
+        }
         _ => {
             let command = escape::escaped(command.as_encoded_bytes());
             Err(Failure::new(format!("no command `{command}`; `kelumavor --help` lists them")))
@@ -179,11 +184,82 @@ fn assembled(words: &[OsString]) -> Result<Answer, Failure> {
 /// The words themselves stand in it where they are written to no file.
 fn assembled_json(input: &Input, written: bool) -> String {
     let (snapshot, _) = snapshot_part(input);
-    let mut fields = judge(&snapshot).map_or_else(|refused: Refused| refused.json(), |_| vec![("accepted", true.into())]);
+    let mut fields =
+        judge(&snapshot).map_or_else(|refused: Refused| refused.json(), |_| vec![("accepted", true.into())]);
     fields.push(("bytes", input.bytes.len().into()));
     if !written {
         fields.push(("words", input.words.iter().copied().collect()));
         fields.push(("rest", input.rest().iter().map(|byte| u32::from(*byte)).collect()));
     }
     format!("{}\n", Json::Object(fields))
+}
+
+/// The words of a file that the library accepts, or the answer that says why it does not.
+fn accepted_words(args: &Args, command: &str) -> Result<Result<Vec<u32>, Answer>, Failure> {
+    let input = read(args.one_file(command)?)?;
+    let refused = match judge(&input) {
+        Ok(_) => return Ok(Ok(input.words)),
+        Err(refused) => refused,
+    };
+    let json = Json::Object([vec![("file", input.label.as_str().into())], refused.json()].concat());
+    let line = if args.flag("--json") { json.to_string() } else { refused.to_string() };
+    Ok(Err(Answer::line(REFUSED, line)))
+}
+
+fn asked(words: &[OsString]) -> Result<Answer, Failure> {
+    let args = Args::read(words, &["--json"], &ask::VALUES)?;
+    let words = match accepted_words(&args, "ask")? {
+        Ok(words) => words,
+        Err(answer) => return Ok(answer),
+    };
+    let view = View::new(&words);
+    let question = ask::question(&args, &view)?;
+    let snapshot = checked_again(&words)?;
+    let report = snapshot.find_path(&question);
+    let out = match args.flag("--json") {
+        true => format!("{}\n", ask::json(&view, &question, &report)),
+        false => ask::text(&view, &question, &report),
+    };
+    Ok(Answer::new(status(&report), out))
+}
+
+fn checked_again(words: &[u32]) -> Result<Snapshot<'_>, Failure> {
+    Snapshot::check(words).map_err(|refusal| Failure::new(refusal.to_string()))
+}
+
+fn status(report: &Report) -> u8 {
+    match report.outcome {
+        Outcome::Found(_) | Outcome::TankEmpty(Some(_)) => FINE,
+        Outcome::NoPath | Outcome::TankEmpty(None) | Outcome::Refused(_) => REFUSED,
+    }
+}
+
+fn drawn(words: &[OsString]) -> Result<Answer, Failure> {
+    let args = Args::read(words, &["--json", "--dot"], &ask::VALUES)?;
+    let words = match accepted_words(&args, "tree")? {
+        Ok(words) => words,
+        Err(answer) => return Ok(answer),
+    };
+    let view = View::new(&words);
+    let wants_path = args.value("--item").is_some() || args.value("--from").is_some();
+    match (args.flag("--dot"), args.flag("--json")) {
+        (true, true) => Err(Failure::new("--dot and --json are two forms of the tree: give one")),
+        (false, _) if wants_path => {
+            Err(Failure::new("a path is drawn by --dot alone; `kelumavor ask` gives it in words"))
+        }
+        (false, true) => Ok(Answer::line(FINE, tree::json(&tree::crates(&view)))),
+        (false, false) => Ok(Answer::new(FINE, tree::text(&view))),
+        (true, false) if wants_path => routed(&args, &words, &view),
+        (true, false) => Ok(Answer::new(FINE, dot::graph(&view, None))),
+    }
+}
+
+/// The graph with a path; without one it is the graph alone, and a note says why.
+fn routed(args: &Args, words: &[u32], view: &View) -> Result<Answer, Failure> {
+    let question = ask::question(args, view)?;
+    let snapshot = checked_again(words)?;
+    let report = snapshot.find_path(&question);
+    let graph = dot::graph(view, report.path().map(|path| (question.from, path)));
+    let notes = ask::meaning(view, &question, &report).into_iter().collect();
+    Ok(Answer { status: status(&report), out: graph.into_bytes(), notes })
 }

@@ -17,7 +17,8 @@ fn heading(input: &Input) -> String {
         Ok(_) => "accepted".to_string(),
         Err(refused) => refused.to_string().replace('\n', "; "),
     };
-    let rest = if questions == 0 { String::new() } else { format!(", then {} of questions", counted(questions, "word")) };
+    let rest =
+        if questions == 0 { String::new() } else { format!(", then {} of questions", counted(questions, "word")) };
     format!("{HEADER}: {}{rest}; {answer}", counted(snapshot.words.len(), "word"))
 }
 

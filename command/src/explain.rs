@@ -155,10 +155,15 @@ fn wrong_kind(words: &[u32], place: usize) -> String {
             Ok(_) => "the words before it are a snapshot that is accepted, and a snapshot has no questions",
             Err(_) => "a snapshot has none",
         };
-        return format!("a question, kind {}{after}; {accepted}", kind as u32);
+        return format!("a question (kind {}){after}; {accepted}", kind as u32);
     }
     if let Some(last) = last.filter(|last| falls(last.kind, kind)) {
-        return format!("a {} record{after}: the kinds stand in order, {} before {}", kind.word(), kind.word(), last.kind.word());
+        return format!(
+            "a {} record{after}: the kinds stand in order, {} before {}",
+            kind.word(),
+            kind.word(),
+            last.kind.word()
+        );
     }
     wrong_arguments(words, place, kind)
 }
@@ -172,17 +177,31 @@ fn wrong_arguments(words: &[u32], place: usize, kind: Kind) -> String {
     let of = format!("{} record {number}", kind.word());
     match there.iter().position(|word| *word > PAYLOAD) {
         Some(at) => {
-            let field = fields(kind, &[payload]).get(at + 1).map(|field| format!(" ({})", field.name)).unwrap_or_default();
+            let field =
+                fields(kind, &[payload]).get(at + 1).map(|field| format!(" ({})", field.name)).unwrap_or_default();
             let other = Kind::of(there[at]).map(Kind::word).unwrap_or_default();
-            format!("argument {}{field} of {of} is {:#x}, the head of a {other} record: it has {at} of {needed} arguments", at + 1, there[at])
+            format!(
+                "argument {}{field} of {of} is {:#x}, the head of a {other} record: it has {at} of {needed} arguments",
+                at + 1,
+                there[at]
+            )
         }
-        None => format!("{of} has {} of {}: the input ends there, as a cut file does", there.len(), counted(needed, "argument")),
+        None => format!(
+            "{of} has {} of {}: the input ends there, as a cut file does",
+            there.len(),
+            counted(needed, "argument")
+        ),
     }
 }
 
 fn cut(input: &Input) -> String {
     let (words, rest) = (input.words.len(), input.rest().len());
-    format!("{} bytes are {} and {}: a cut file, or no words", input.bytes.len(), counted(words, "word"), counted(rest, "byte"))
+    format!(
+        "{} bytes are {} and {}: a cut file, or no words",
+        input.bytes.len(),
+        counted(words, "word"),
+        counted(rest, "byte")
+    )
 }
 
 /// What the whole input looks like.
@@ -195,6 +214,7 @@ fn hint(input: &Input, place: usize) -> Option<String> {
         });
     }
     let fine = |words: &[u32]| match Snapshot::check(words) {
+        Ok(_) if words.is_empty() => None,
         Ok(_) => Some("accepted".to_string()),
         Err(refusal) => {
             let other = refusal.place().unwrap_or_default();
@@ -203,13 +223,15 @@ fn hint(input: &Input, place: usize) -> Option<String> {
     };
     let turned: Vec<u32> = input.words.iter().map(|word| word.swap_bytes()).collect();
     if let Some(how) = fine(&turned) {
-        return Some(format!("the bytes of each word stand the other way round (the lowest is first); turned they are {how}"));
+        return Some(format!(
+            "the bytes of each word stand the other way round (the lowest is first); turned they are {how}"
+        ));
     }
     let half = |words: &[u32], side: usize| -> Option<Vec<u32>> {
         words.chunks_exact(2).map(|pair| (pair[1 - side] == 0).then_some(pair[side])).collect()
     };
     let halves = [half(&input.words, 0), half(&turned, 1)];
-    let how = halves.into_iter().flatten().filter(|words| !words.is_empty()).find_map(|words| fine(&words))?;
+    let how = halves.into_iter().flatten().find_map(|words| fine(&words))?;
     Some(format!("these are words of 64 bits, and a snapshot's have 32; their lower halves are {how}"))
 }
 
@@ -225,6 +247,7 @@ fn looks_dumped(bytes: &[u8]) -> bool {
     text.starts_with(crate::dump::HEADER)
         || text.lines().any(|line| {
             let mut words = line.split_whitespace();
-            words.next().is_some_and(|word| word.ends_with(':')) && words.next().is_some_and(|word| kinds.contains(&word))
+            words.next().is_some_and(|word| word.ends_with(':'))
+                && words.next().is_some_and(|word| kinds.contains(&word))
         })
 }

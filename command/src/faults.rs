@@ -1,6 +1,6 @@
 //! What is wrong with a record, in words. The number of a refusal and its place come from the library; this finds the reason.
 use crate::escape::quoted;
-use crate::record::{DEFINITIONS, Field, Kind, NAMESPACES, ORIGINS, Record, Records, Role};
+use crate::record::{DEFINITIONS, Field, Kind, MEMBERS, NAMESPACES, ORIGINS, Record, Records, Role};
 
 const BUILTINS: [&str; 19] = [
     "char", "bool", "str", "isize", "i8", "i16", "i32", "i64", "i128", "usize", "u8", "u16", "u32", "u64", "u128",
@@ -23,9 +23,10 @@ pub fn called(record: &Record) -> String {
     let (kind, number) = (record.kind.word(), record.number);
     match record.fields().first() {
         Some((Field { role: Role::Origin, .. }, _)) | None => format!("{kind} record {number}"),
-        Some((Field { role: role @ Role::Word(_), .. }, value)) => {
-            format!("{kind} record {number} ({})", role.text(*value))
-        }
+        Some((Field { role: role @ Role::Word(_), .. }, value)) => match role.text(*value) {
+            text if text == value.to_string() => format!("{kind} record {number}"),
+            text => format!("{kind} record {number} ({text})"),
+        },
         Some((field, value)) => format!("{kind} record {number} ({} {value})", field.name),
     }
 }
@@ -64,7 +65,10 @@ fn text_faults(record: &Record) -> Vec<Fault> {
     }
     if let Some(place) = (1..record.words.len()).find(|place| record.words[*place] >> 24 != 0) {
         let word = record.words[place];
-        found.push(format!("word {} of its text is {word:#010x}, and holds three bytes, so it is below 0x01000000", place));
+        found.push(format!(
+            "word {} of its text is {word:#010x}, and holds three bytes, so it is below 0x01000000",
+            place
+        ));
     } else if let (Some(last), over @ 1..) = (record.words[1..].last(), length % 3)
         && last >> (8 * over) != 0
     {
@@ -78,8 +82,11 @@ fn bytes_are(count: usize) -> &'static str {
 }
 
 fn field_faults(before: &Records, record: &Record) -> Vec<Fault> {
-    let mut found: Vec<Fault> =
-        record.fields().into_iter().filter_map(|(field, value)| field_fault(before, record.kind, field, value)).collect();
+    let mut found: Vec<Fault> = record
+        .fields()
+        .into_iter()
+        .filter_map(|(field, value)| field_fault(before, record.kind, field, value))
+        .collect();
     if record.kind == Kind::Definition
         && record.get(0) == 3
         && let Some(text) = before.name(record.get(1))
@@ -94,9 +101,11 @@ fn field_fault(before: &Records, kind: Kind, field: Field, value: u32) -> Option
     let (name, number) = (field.name, value as usize);
     let outside = |range: String| Some(fault(32, format!("{name} is {value}, and {range}")));
     match field.role {
-        Role::Of(thing) if number >= before.count(thing) => Some(undefined(before, kind, name, number, thing)),
+        Role::Of(thing) if number >= before.count(thing) => {
+            Some(undefined(before, kind, thing, &format!("{name} is {number}")))
+        }
         Role::ModuleOrNone if number > before.count(Kind::Module) => {
-            Some(undefined(before, kind, name, number - 1, Kind::Module))
+            Some(undefined(before, kind, Kind::Module, &format!("{name} is {}, written as {number}", number - 1)))
         }
         Role::Word(words) if words.get(number).is_none_or(|word| word.is_empty()) => {
             let first = words.iter().position(|word| !word.is_empty()).unwrap_or(0);
@@ -109,9 +118,10 @@ fn field_fault(before: &Records, kind: Kind, field: Field, value: u32) -> Option
         Role::Origin if number >= 16 || number % 8 >= ORIGINS.len() => {
             outside(format!("goes from 0 to 4 ({}), or from 8 to 12 with no_std", ORIGINS.join(", ")))
         }
-        Role::Zero if number != 0 => {
-            outside(format!("must be 0 {}", if kind == Kind::Scope { "where the visibility is public" } else { "here" }))
-        }
+        Role::Zero if number != 0 => outside(format!(
+            "must be 0 {}",
+            if kind == Kind::Scope { "where the visibility is public" } else { "here" }
+        )),
         Role::Edition if ![2015, 2018, 2021, 2024].contains(&number) => {
             Some(fault(43, format!("edition is {value}, and is one of 2015, 2018, 2021 and 2024")))
         }
@@ -119,10 +129,10 @@ fn field_fault(before: &Records, kind: Kind, field: Field, value: u32) -> Option
     }
 }
 
-fn undefined(before: &Records, kind: Kind, name: &str, number: usize, thing: Kind) -> Fault {
+fn undefined(before: &Records, kind: Kind, thing: Kind, what: &str) -> Fault {
     let mixed = |kind| matches!(kind, Kind::Map | Kind::Module);
     let so_far = if mixed(kind) && mixed(thing) || kind == thing { " before it" } else { "" };
-    fault(33, format!("{name} is {number}, and {}{so_far}", there_are(before.count(thing), thing.word())))
+    fault(33, format!("{what}, and {}{so_far}", there_are(before.count(thing), thing.word())))
 }
 
 /// The earlier record that this one repeats.
@@ -205,7 +215,8 @@ fn misplaced_module(before: &Records, record: &Record) -> Vec<String> {
             found.push(format!("the first module of a map is its root and has no parent, and parent is {parent}"));
         }
         (Some(root), None) => {
-            found.push(format!("it has no parent, and the map's root is module {} at word {}", root.number, root.place));
+            found
+                .push(format!("it has no parent, and the map's root is module {} at word {}", root.number, root.place));
         }
         _ => (),
     }
@@ -235,18 +246,18 @@ fn misplaced_child(before: &Records, record: &Record) -> Vec<String> {
 /// A definition with its kind.
 fn definition(before: &Records, number: usize) -> String {
     let kind = before.of(Kind::Definition)[number].get(0);
-    format!("definition {number}, of kind {kind} ({})", DEFINITIONS.get(kind).unwrap_or(&""))
+    format!("definition {number} is of kind {kind} ({})", DEFINITIONS.get(kind).unwrap_or(&""))
 }
 
 fn misplaced_variant(before: &Records, record: &Record) -> Option<String> {
     let (kind, parent) = (record.get(0), record.get(1));
     (kind == 2 && before.of(Kind::Definition)[parent].get(0) != 4)
-        .then(|| format!("its parent is {}, and a variant's is of kind 4 (other)", definition(before, parent)))
+        .then(|| format!("parent is {parent}, and {}, not 4 (other)", definition(before, parent)))
 }
 
 fn misplaced_macro(before: &Records, namespace: usize, number: usize) -> Option<String> {
     (namespace == 2 && before.of(Kind::Definition)[number].get(0) != 5)
-        .then(|| format!("namespace is 2 (macros), and it is of {}, not 5 (macro)", definition(before, number)))
+        .then(|| format!("namespace is 2 (macros), and {}, not 5 (macro)", definition(before, number)))
 }
 
 fn misplaced_member(before: &Records, record: &Record) -> Vec<String> {
@@ -254,7 +265,7 @@ fn misplaced_member(before: &Records, record: &Record) -> Vec<String> {
     let member = &before.of(Kind::Definition)[number];
     let mut found = Vec::new();
     if before.of(Kind::Definition)[parent].get(0) != 4 {
-        found.push(format!("its parent is {}, and a member's is of kind 4 (other)", definition(before, parent)));
+        found.push(format!("parent is {parent}, and {}, not 4 (other)", definition(before, parent)));
     }
     match (kind, member.get(0)) {
         (0, 2) if member.get(1) != parent => {
@@ -264,8 +275,11 @@ fn misplaced_member(before: &Records, record: &Record) -> Vec<String> {
             found.push(format!("name is {name}, and the variant's name is {}", member.get(2)));
         }
         (0, 2) | (1.., 4) => (),
-        (0, _) => found.push(format!("it is a variant, and is of {}", definition(before, number))),
-        _ => found.push(format!("it is of {}, and a member that is no variant is of kind 4 (other)", definition(before, number))),
+        (0, _) => found.push(format!("kind is 0 (variant), and {}", definition(before, number))),
+        _ => {
+            let (kind, definition) = (Role::Word(&MEMBERS).text(record.words[3]), definition(before, number));
+            found.push(format!("kind is {} ({kind}), and {definition}, not 4 (other)", record.get(3)));
+        }
     }
     found
 }
@@ -274,7 +288,8 @@ fn misplaced_member(before: &Records, record: &Record) -> Vec<String> {
 pub fn unfinished(records: &Records) -> Vec<Fault> {
     let has_modules = |map: usize| records.of(Kind::Module).iter().any(|module| module.get(0) == map);
     let has_own = |krate: usize| records.of(Kind::Map).iter().any(|map| map.get(0) == krate && map.get(1) == 0);
-    let maps = (0..records.count(Kind::Map)).filter(|map| !has_modules(*map)).map(|map| format!("map {map} has no modules"));
+    let maps =
+        (0..records.count(Kind::Map)).filter(|map| !has_modules(*map)).map(|map| format!("map {map} has no modules"));
     let crates = (0..records.count(Kind::Crate))
         .filter(|krate| !has_own(*krate))
         .map(|krate| format!("crate {krate} has no map of its own"));

@@ -19,7 +19,8 @@ pub struct Input {
 
 impl Input {
     pub fn new(label: &str, bytes: Vec<u8>) -> Self {
-        let words = bytes.chunks_exact(4).map(|word| u32::from_le_bytes(word.try_into().expect("four bytes"))).collect();
+        let words =
+            bytes.chunks_exact(4).map(|word| u32::from_le_bytes(word.try_into().expect("four bytes"))).collect();
         Input { label: label.to_string(), bytes, words }
     }
 
@@ -43,7 +44,8 @@ pub fn read(file: &OsString) -> Result<Input, Failure> {
     };
     read.map_err(|error| Failure::new(format!("cannot read {label}: {error}")))?;
     if file == "-" && bytes.is_empty() {
-        let reason = "it is closed, or what writes to it wrote nothing (an empty snapshot can be given as an empty file)";
+        let reason =
+            "it is closed, or what writes to it wrote nothing (an empty snapshot can be given as an empty file)";
         return Err(Failure::new(format!("standard input has no bytes: {reason}")));
     }
     if bytes.len() as u64 > MOST {

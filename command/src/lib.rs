@@ -1,8 +1,10 @@
 //! The parts of the command `kelumavor`. Its answers come from the proved library behind the crate of the same name; what is here
 //! reads and writes, and finds the words around the answers.
 pub mod args;
+pub mod ask;
 pub mod assemble;
 pub mod command;
+pub mod dot;
 pub mod dump;
 pub mod escape;
 pub mod explain;
@@ -11,4 +13,6 @@ pub mod faults;
 pub mod input;
 pub mod json;
 pub mod record;
+pub mod resolve;
+pub mod tree;
 pub mod view;

@@ -115,14 +115,8 @@ pub const MARKS: [&str; 2] = ["declared", "deprecated"];
 pub const ATTRIBUTES: [&str; 2] = ["hidden", "unstable"];
 pub const MEMBERS: [&str; 4] = ["variant", "function", "constant", "type-alias"];
 pub const PREFIXES: [&str; 3] = ["self", "plain", "crate"];
-pub const OPTIONS: [&str; 6] = [
-    "prefer-no-std",
-    "prefer-prelude",
-    "prefer-absolute",
-    "allow-unstable",
-    "ignore-local-imports",
-    "old-names-last",
-];
+pub const OPTIONS: [&str; 6] =
+    ["prefer-no-std", "prefer-prelude", "prefer-absolute", "allow-unstable", "ignore-local-imports", "old-names-last"];
 const NO_YES: [&str; 2] = ["no", "yes"];
 
 impl Role {
@@ -154,9 +148,7 @@ impl Role {
         match self {
             Role::ModuleOrNone | Role::Flags(_) if text == "none" => Some(0),
             Role::Word(words) => place(words, text).map(|number| number as u32),
-            Role::Flags(words) => {
-                text.split('+').try_fold(0, |sum, word| place(words, word).map(|bit| sum | 1 << bit))
-            }
+            Role::Flags(words) => text.split('+').try_fold(0, |sum, word| place(words, word).map(|bit| sum | 1 << bit)),
             Role::Origin => {
                 let (origin, more) = text.strip_suffix("+no_std").map_or((text, 0), |origin| (origin, 8));
                 place(&ORIGINS, origin).map(|number| number as u32 + more)
@@ -189,10 +181,6 @@ const ASKED: [Field; 4] = [
     field("limit", Role::Between(1, 15)),
 ];
 
-/// The field of a number that stands only with some values of another, and is 0 else.
-pub const REST: &str = "rest";
-pub const OF: &str = "of";
-
 /// The fields of a record that is no name, the payload first. `numbers` are the ones known so far: what a definition's numbers are is
 /// said by its payload, and what a visibility's number is by the visibility.
 pub fn fields(kind: Kind, numbers: &[u32]) -> Vec<Field> {
@@ -215,7 +203,7 @@ pub fn fields(kind: Kind, numbers: &[u32]) -> Vec<Field> {
             vec![field("kind", Role::Word(&DEFINITIONS)), first, second]
         }
         Kind::Scope => {
-            let of = match number(4) {
+            let within = match number(4) {
                 Some(0) => Role::Zero,
                 Some(1) => Role::Of(Kind::Crate),
                 Some(2 | 3) => Role::Of(Kind::Module),
@@ -223,7 +211,7 @@ pub fn fields(kind: Kind, numbers: &[u32]) -> Vec<Field> {
             };
             let visibility = field("visibility", Role::Word(&VISIBILITIES));
             let marks = field("marks", Role::Flags(&MARKS));
-            vec![MODULE, NAMESPACE, NAME, DEFINITION, visibility, field(OF, of), marks, ATTRIBUTE]
+            vec![MODULE, NAMESPACE, NAME, DEFINITION, visibility, field("within", within), marks, ATTRIBUTE]
         }
         Kind::Import => vec![CRATE, NAMESPACE, DEFINITION, NAME, MODULE, ATTRIBUTE],
         Kind::Extern => vec![CRATE, NAME, MODULE],
@@ -237,7 +225,7 @@ pub fn fields(kind: Kind, numbers: &[u32]) -> Vec<Field> {
 }
 
 fn definition_fields(kind: Option<u32>) -> [Field; 2] {
-    let none = field(REST, Role::Zero);
+    let none = field("second", Role::Zero);
     match kind {
         Some(1) => [MODULE, none],
         Some(2) => [field("parent", Role::Of(Kind::Definition)), NAME],
@@ -278,7 +266,8 @@ impl<'w> Record<'w> {
 
     /// The text of a name, whatever its length and the bits past it.
     pub fn bytes(&self) -> Vec<u8> {
-        let mut bytes: Vec<u8> = self.words[1..].iter().flat_map(|word| word.to_le_bytes().into_iter().take(3)).collect();
+        let mut bytes: Vec<u8> =
+            self.words[1..].iter().flat_map(|word| word.to_le_bytes().into_iter().take(3)).collect();
         bytes.truncate(self.payload() as usize);
         bytes
     }

@@ -154,7 +154,8 @@ impl<'w> View<'w> {
 
     /// A record in words, with its numbers resolved.
     pub fn comment(&self, record: &Record) -> String {
-        let [first, second, third] = [0, 1, 2].map(|place| if place < record.words.len() { record.get(place) } else { 0 });
+        let [first, second, third] =
+            [0, 1, 2].map(|place| if place < record.words.len() { record.get(place) } else { 0 });
         match record.kind {
             Kind::Name | Kind::Crate => String::new(),
             Kind::Dependency => format!("{} on {}", self.krate(first), self.krate(second)),

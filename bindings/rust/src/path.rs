@@ -104,6 +104,11 @@ impl<'s> Path<'s> {
         Names { snapshot: self.snapshot, names: self.names[..self.count].iter() }
     }
 
+    /// Its names as they are written in the viewing module, keywords with `r#`.
+    pub fn written(&self) -> impl ExactSizeIterator<Item = Vec<u8>> + '_ {
+        self.ids().map(|name| self.snapshot.written(name, self.from))
+    }
+
     /// How it came about: a step for its start, which is a keyword without names, or its first name with any prefix; then one for
     /// each further name.
     pub fn route(&self) -> impl ExactSizeIterator<Item = Step> + '_ {
@@ -113,7 +118,7 @@ impl<'s> Path<'s> {
     /// The path as the path printer prints it.
     pub fn to_bytes(&self) -> Vec<u8> {
         let mut parts: Vec<Vec<u8>> = self.kind.part().map(|part| part.into()).into_iter().collect();
-        parts.extend(self.ids().map(|name| self.snapshot.written(name, self.from)));
+        parts.extend(self.written());
         parts.join(&b"::"[..])
     }
 }

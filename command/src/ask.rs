@@ -1,0 +1,276 @@
+//! A question, its answer, and what that means.
+use kelumavor::{
+    DefinitionId, ModuleId, Namespace, Options, Outcome, Path, PathKind, Prefix, Question, Report, Rule, Step,
+};
+
+use crate::args::Args;
+use crate::escape::in_path;
+use crate::failure::Failure;
+use crate::faults::counted;
+use crate::json::Json;
+use crate::record::{NAMESPACES, OPTIONS, PREFIXES, Role};
+use crate::resolve;
+use crate::view::View;
+
+/// The options of a question, with their values.
+pub const VALUES: [&str; 7] = ["--item", "--from", "--namespace", "--prefix", "--options", "--fuel", "--limit"];
+
+/// The question that the options ask.
+pub fn question(args: &Args, view: &View) -> Result<Question, Failure> {
+    let needed = |option: &str| {
+        let missing = || Failure::new(format!("{option} is missing: a written name, or a number"));
+        args.text(option)?.ok_or_else(missing)
+    };
+    let from = resolve::module(view, needed("--from")?).map_err(Failure::new)?;
+    let namespace = value(args, "--namespace", Role::Word(&NAMESPACES))?.map(|number| number as usize);
+    let item = needed("--item")?;
+    let (definition, namespace) = resolve::item(view, item, from, namespace).map_err(Failure::new)?;
+    let namespace = [Namespace::Types, Namespace::Values, Namespace::Macros][namespace];
+    let mut question = Question::new(namespace, DefinitionId(small(definition)?), ModuleId(small(from)?));
+    if let Some(prefix) = value(args, "--prefix", Role::Word(&PREFIXES))? {
+        question.prefix = [Prefix::BySelf, Prefix::Plain, Prefix::ByCrate][prefix as usize];
+    }
+    question.options = options(value(args, "--options", Role::Flags(&OPTIONS))?.unwrap_or(0));
+    question.fuel = value(args, "--fuel", Role::Any)?.unwrap_or(question.fuel);
+    question.limit = value(args, "--limit", Role::Any)?.unwrap_or(question.limit);
+    Ok(question)
+}
+
+fn small(number: usize) -> Result<u32, Failure> {
+    number.try_into().map_err(|_| Failure::new(format!("{number} is no number of a snapshot")))
+}
+
+/// The value of an option: a word, words with `,` or `+` between them, or their number.
+fn value(args: &Args, option: &str, role: Role) -> Result<Option<u32>, Failure> {
+    let Some(text) = args.text(option)? else { return Ok(None) };
+    let (number, known) = match role {
+        Role::Word(words) => (
+            role.number(text).filter(|number| (*number as usize) < words.len()),
+            format!("one of {}", words.join(", ")),
+        ),
+        Role::Flags(words) => {
+            let number = role.number(&text.replace(',', "+")).filter(|number| *number < 1 << words.len());
+            (number, format!("words with commas between them, of {}", words.join(", ")))
+        }
+        _ => (text.parse().ok(), "a number".to_string()),
+    };
+    number.map(Some).ok_or_else(|| Failure::new(format!("{option} takes {known}; `{text}` is none")))
+}
+
+fn options(bits: u32) -> Options {
+    let bit = |place: u32| bits >> place & 1 == 1;
+    Options {
+        prefer_no_std: bit(0),
+        prefer_prelude: bit(1),
+        prefer_absolute: bit(2),
+        allow_unstable: bit(3),
+        ignore_local_imports: bit(4),
+        old_names_last: bit(5),
+    }
+}
+
+fn option_bits(options: Options) -> u32 {
+    let set = [
+        options.prefer_no_std,
+        options.prefer_prelude,
+        options.prefer_absolute,
+        options.allow_unstable,
+        options.ignore_local_imports,
+        options.old_names_last,
+    ];
+    set.iter().rev().fold(0, |bits, set| 2 * bits + u32::from(*set))
+}
+
+/// A path as it would be written, with all that is no letter of a name escaped.
+pub fn path_text(path: &Path) -> String {
+    let mut parts: Vec<String> = start(path.kind()).map(str::to_string).into_iter().collect();
+    parts.extend(path.written().map(|name| in_path(&name)));
+    parts.join("::")
+}
+
+fn start(kind: PathKind) -> Option<&'static str> {
+    match kind {
+        PathKind::Plain => None,
+        PathKind::SelfModule => Some("self"),
+        PathKind::Super => Some("super"),
+        PathKind::Crate => Some("crate"),
+        PathKind::Absolute => Some(""),
+    }
+}
+
+/// The steps of a path's route, each with the part of the path that it gave.
+pub fn steps(path: &Path) -> Vec<(String, Step)> {
+    let names: Vec<String> = path.written().map(|name| in_path(&name)).collect();
+    let keyword = path.route().next().is_some_and(|step| step.rule == Rule::Keyword);
+    let start = start(path.kind());
+    let mut parts = Vec::new();
+    if keyword {
+        parts.extend(start.map(str::to_string));
+        parts.extend(names);
+    } else {
+        parts.extend(names);
+        if let (Some(start), Some(first)) = (start, parts.first_mut()) {
+            *first = format!("{start}::{first}");
+        }
+    }
+    parts.into_iter().zip(path.route()).collect()
+}
+
+/// A step in words.
+fn step_text(view: &View, from: ModuleId, part: &str, step: Step) -> String {
+    let place = step.place as usize;
+    let Some(record) = view.records.at(place).filter(|_| step.rule != Rule::Keyword) else {
+        let crate_root = format!("the root of the crate of {}", view.module(from.0 as usize));
+        let meaning = match part {
+            "self" => "the viewing module itself".to_string(),
+            "super" => "the parent of the viewing module".to_string(),
+            _ => crate_root,
+        };
+        return format!("{part}: a keyword, {meaning}");
+    };
+    let what = match step.rule {
+        Rule::Scope | Rule::Local | Rule::Prelude => {
+            let prelude = if step.rule == Rule::Prelude { " (the prelude)" } else { "" };
+            let (module, visibility) = (view.module(record.get(0)), view.visibility(record));
+            format!("entry of module {module}{prelude}, {visibility}{}", view.marks(record))
+        }
+        Rule::Extern => format!("extern name of {}, for {}", view.krate(record.get(0)), view.module(record.get(2))),
+        Rule::Builtin => "builtin type".to_string(),
+        Rule::Import => {
+            format!("import map of {}, held by module {}", view.krate(record.get(0)), view.module(record.get(4)))
+        }
+        Rule::Variant => format!("variant of {}", view.definition(record.get(1))),
+        other => other.to_string(),
+    };
+    format!("{part}: {what}, word {place}")
+}
+
+/// The question in words.
+pub fn asked(view: &View, question: &Question) -> String {
+    let (definition, from) = (question.definition.0 as usize, question.from.0 as usize);
+    let item = format!("{} {} (definition {definition})", view.thing(definition), view.definition(definition));
+    let namespace = NAMESPACES[question.namespace as usize];
+    let prefix = PREFIXES[question.prefix as usize];
+    let options = Role::Flags(&OPTIONS).text(option_bits(question.options));
+    format!(
+        "{item} in {namespace} from {} (module {from}); prefix {prefix}, options {options}, fuel {}, limit {}",
+        view.module(from),
+        question.fuel,
+        question.limit
+    )
+}
+
+/// What an outcome means, after the path if there is one.
+pub fn meaning(view: &View, question: &Question, report: &Report) -> Option<String> {
+    let limit = question.limit;
+    let empty = || {
+        let first = report.first_empty.as_ref()?;
+        let sought = first.module.map(|module| format!(" looking for {}", view.module(module.0 as usize)));
+        let sought = sought.unwrap_or_else(|| " looking for the item itself".to_string());
+        Some(format!(" (first{sought}, with {} left)", counted(first.length_left as usize, "name")))
+    };
+    match &report.outcome {
+        Outcome::Found(_) => None,
+        Outcome::NoPath if limit < Question::LIMIT => Some(format!(
+            "the whole search under the limit {limit} found no path: that is a fact about paths of that length alone, and a longer one \
+             may be there; ask with --limit {} before acting on it",
+            Question::LIMIT
+        )),
+        Outcome::NoPath => Some("the whole search found no path: the item cannot be named here".to_string()),
+        Outcome::TankEmpty(Some(_)) => Some(format!(
+            "the fuel ran out{}: the path names the item, and a search with more fuel may find a better one",
+            empty().unwrap_or_default()
+        )),
+        Outcome::TankEmpty(None) => Some(format!(
+            "the fuel ran out{}: that says nothing about the item; ask again with more fuel, at most {}",
+            empty().unwrap_or_default(),
+            Question::FUEL
+        )),
+        Outcome::Refused(refusal) => Some(refusal.kind().to_string()),
+    }
+}
+
+/// The word for an outcome.
+fn outcome(report: &Report) -> &'static str {
+    match &report.outcome {
+        Outcome::Found(_) => "found",
+        Outcome::NoPath => "none",
+        Outcome::TankEmpty(Some(_)) => "found so far",
+        Outcome::TankEmpty(None) => "not known",
+        Outcome::Refused(_) => "refused",
+    }
+}
+
+/// A path of keywords alone cannot be imported.
+fn no_use_line(path: &Path) -> Option<String> {
+    let text = path_text(path);
+    let note = format!("`{text}` names the module, and `use {text};` is no use line: keywords alone bring in no name");
+    (path.names().len() == 0).then_some(note)
+}
+
+pub fn text(view: &View, question: &Question, report: &Report) -> String {
+    let mut lines = Vec::new();
+    let meaning = meaning(view, question, report);
+    match report.path() {
+        Some(path) => {
+            lines.push(path_text(path));
+            lines.extend(
+                steps(path).iter().map(|(part, step)| format!("  {}", step_text(view, question.from, part, *step))),
+            );
+            lines.extend(no_use_line(path).map(|note| format!("note: {note}")));
+            lines.extend(meaning.map(|meaning| format!("note: {meaning}")));
+        }
+        None => {
+            let number = match &report.outcome {
+                Outcome::Refused(refusal) => format!(" {}", refusal.kind().number()),
+                _ => String::new(),
+            };
+            lines.push(format!("{}{number}: {}", outcome(report), meaning.unwrap_or_default()));
+        }
+    }
+    lines.push(format!("asked: {}; {}", asked(view, question), counted(report.charges as usize, "charge")));
+    lines.join("\n") + "\n"
+}
+
+pub fn json(view: &View, question: &Question, report: &Report) -> Json {
+    let route = |path: &Path| -> Json {
+        let step = |(part, step): &(String, Step)| {
+            Json::Object(vec![
+                ("part", part.as_str().into()),
+                ("rule", step.rule.to_string().into()),
+                ("word", step.place.into()),
+                ("text", step_text(view, question.from, part, *step).into()),
+            ])
+        };
+        steps(path).iter().map(step).collect()
+    };
+    let refusal = match &report.outcome {
+        Outcome::Refused(refusal) => Some(refusal.kind().number()),
+        _ => None,
+    };
+    Json::Object(vec![
+        ("outcome", outcome(report).into()),
+        ("path", report.path().map(path_text).into()),
+        ("use_line", report.path().is_some_and(|path| path.names().len() > 0).into()),
+        ("route", report.path().map_or(Json::List(Vec::new()), route)),
+        ("refused", refusal.into()),
+        ("meaning", meaning(view, question, report).into()),
+        ("charges", report.charges.into()),
+        ("tank_empty", report.first_empty.is_some().into()),
+        ("question", question_json(view, question)),
+    ])
+}
+
+fn question_json(view: &View, question: &Question) -> Json {
+    Json::Object(vec![
+        ("definition", question.definition.0.into()),
+        ("item", view.definition(question.definition.0 as usize).into()),
+        ("namespace", NAMESPACES[question.namespace as usize].into()),
+        ("from", question.from.0.into()),
+        ("module", view.module(question.from.0 as usize).into()),
+        ("prefix", PREFIXES[question.prefix as usize].into()),
+        ("options", Role::Flags(&OPTIONS).text(option_bits(question.options)).into()),
+        ("fuel", question.fuel.into()),
+        ("limit", question.limit.into()),
+    ])
+}

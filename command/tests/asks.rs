@@ -1,0 +1,162 @@
+//! Questions, trees and graphs.
+mod common;
+
+use common::{WORKED, bytes, file, kelumavor, out, snapshot};
+use kelumavor::{DefinitionId, ModuleId, Namespace, Outcome, Question, Rule, Snapshot};
+use kelumavor_command::record::Kind;
+use kelumavor_command::view::View;
+use kelumavor_command::{ask, dot, resolve, tree};
+
+/// The lines of an answer about the worked snapshot.
+fn lines(name: &str, args: &[&str]) -> Vec<String> {
+    let file = file(name, &bytes(&WORKED));
+    out(&kelumavor(&[&["ask", &file][..], args].concat())).lines().map(str::to_string).collect()
+}
+
+#[test]
+fn by_names_and_by_numbers() {
+    let expected = [
+        "a::f",
+        "  a: entry of module crate, pub, word 21",
+        "  f: entry of module crate::a, pub, word 29",
+        "asked: item crate::a::f (definition 1) in values from crate (module 0); prefix plain, options none, fuel 10000, \
+         limit 15; 1 charge",
+    ];
+    for item in ["a::f", "crate::a::f", "self::a::f", "crate#0::a::f", "{module 1}::f", "crate::a::{definition 1}", "1"]
+    {
+        for from in ["crate", "crate#0", "0", "{module 0}"] {
+            assert_eq!(lines("names", &["--item", item, "--from", from]), expected, "{item} from {from}");
+        }
+    }
+    let from_a = lines("names-a", &["--item=super::a::f", "--from=crate::a", "--prefix=crate"]);
+    assert_eq!(from_a[0], "crate::a::f");
+    assert_eq!(from_a[1], "  crate: a keyword, the root of the crate of crate::a");
+}
+
+#[test]
+fn what_none_means() {
+    let none = |more: &[&str]| lines("none", &[&["--item", "a::f", "--from", "crate"], more].concat()).swap_remove(0);
+    assert_eq!(none(&["--namespace", "types"]), "none: the whole search found no path: the item cannot be named here");
+    let short = none(&["--namespace", "types", "--limit", "6"]);
+    assert!(short.starts_with(
+        "none: the whole search under the limit 6 found no path: that is a fact about paths of that length"
+    ));
+    let empty = none(&["--fuel", "0"]);
+    assert!(empty.starts_with("not known: the fuel ran out (first looking for the item itself, with 15 names left)"));
+    assert_eq!(none(&["--fuel", "10001"]), "refused 21: the fuel is above 10,000");
+    assert_eq!(none(&["--limit", "0"]), "refused 46: the limit is outside 1 to 15");
+}
+
+#[test]
+fn a_path_without_names_is_no_use_line() {
+    let lines = lines("self", &["--item", "a", "--from", "crate::a", "--prefix", "self"]);
+    assert_eq!(lines[..2], ["self", "  self: a keyword, the viewing module itself"]);
+    assert!(lines[2].starts_with("note: `self` names the module, and `use self;` is no use line"));
+}
+
+#[test]
+fn options_by_name_and_number() {
+    let asked = |options: &str| {
+        let lines = lines("options", &["--item", "a::f", "--from", "crate", "--options", options]);
+        lines.last().unwrap().split("options ").nth(1).unwrap().split(", fuel").next().unwrap().to_string()
+    };
+    let all = "prefer-no-std+prefer-prelude+prefer-absolute+allow-unstable+ignore-local-imports+old-names-last";
+    assert_eq!(asked(&all.replace('+', ",")), all);
+    assert_eq!(asked("63"), all);
+    assert_eq!(asked("allow-unstable"), "allow-unstable");
+    let file = file("options-wrong", &bytes(&WORKED));
+    for wrong in ["64", "unstable", "allow-unstable,"] {
+        let output = kelumavor(&["ask", &file, "--item", "a::f", "--from", "crate", "--options", wrong]);
+        assert_eq!(output.status.code(), Some(2), "{wrong}");
+    }
+}
+
+/// Each module of a random snapshot is found again by the name that it is given.
+#[test]
+fn modules_by_their_names() {
+    for seed in 0..300 {
+        let words = snapshot(seed);
+        let view = View::new(&words);
+        for module in 0..view.records.count(Kind::Module) {
+            assert_eq!(resolve::module(&view, &view.module(module)), Ok(module), "seed {seed}");
+        }
+    }
+}
+
+/// The words around an answer are those of the library's answer.
+#[test]
+fn answers_are_the_librarys() {
+    let (mut found, mut rules) = (0, std::collections::HashSet::new());
+    for seed in 0..150 {
+        let words = snapshot(seed);
+        let (snapshot, view) = (Snapshot::check(&words).unwrap(), View::new(&words));
+        for definition in 0..snapshot.counts().definitions as u32 {
+            let from = ModuleId((definition + seed as u32) % snapshot.counts().modules as u32);
+            let question = Question::new(Namespace::Types, DefinitionId(definition), from);
+            let report = snapshot.find_path(&question);
+            let text = ask::text(&view, &question, &report);
+            let first = text.lines().next().unwrap();
+            match &report.outcome {
+                Outcome::Found(path) => {
+                    found += 1;
+                    let steps = ask::steps(path);
+                    assert_eq!(steps.len(), path.route().len());
+                    let told: Vec<_> = steps.iter().map(|(part, _)| part.as_str()).collect();
+                    assert_eq!(told.join("::"), first);
+                    rules.extend(path.route().map(|step| step.rule));
+                    if !first.contains('\\') {
+                        assert_eq!(first, path.to_string());
+                    }
+                }
+                Outcome::NoPath => assert!(first.starts_with("none: ")),
+                other => panic!("{other:?}"),
+            }
+            dot::graph(&view, report.path().map(|path| (from, path)));
+        }
+    }
+    assert!(found > 300, "{found}");
+    for rule in [Rule::Scope, Rule::Keyword, Rule::Extern, Rule::Variant, Rule::Local, Rule::Builtin] {
+        assert!(rules.contains(&rule), "{rule}");
+    }
+}
+
+#[test]
+fn the_tree_of_the_worked_snapshot() {
+    let lines = [
+        "crate: crate 0, ordinary, edition 2021",
+        "└── root, module 0 (word 9)",
+        "    └── a: mod, pub, module 1 (word 11)",
+        "        └── f: item, pub, values, definition 1 (word 29)",
+    ];
+    assert_eq!(tree::text(&View::new(&WORKED)).lines().collect::<Vec<_>>(), lines);
+}
+
+/// The tree has each module once, and each entry that is no module's own.
+#[test]
+fn trees_are_whole() {
+    for seed in 0..200 {
+        let words = snapshot(seed);
+        let view = View::new(&words);
+        let text = tree::json(&tree::crates(&view)).to_string();
+        let count = |kind: &str| text.matches(&format!("{{\"kind\":\"{kind}\"")).count();
+        assert_eq!(count("module") + count("block"), view.records.count(Kind::Module));
+        let called = (0..view.records.count(Kind::Module)).filter(|module| view.entry_of(*module).is_some()).count();
+        assert_eq!(count("entry") + called, view.records.count(Kind::Scope));
+        assert_eq!(count("crate"), view.records.count(Kind::Crate));
+    }
+}
+
+#[test]
+fn the_graph_of_the_worked_snapshot() {
+    let file = file("graph", &bytes(&WORKED));
+    let graph = out(&kelumavor(&["tree", "--dot", &file, "--item", "a::f", "--from", "crate"]));
+    for line in [
+        "    m0 [shape=box, peripheries=2, label=\"crate\"];",
+        "  m0 -> m1 [label=\"1. a\", color=red, fontcolor=red, penwidth=2];",
+        "  m1 -> d1 [label=\"2. f\", color=red, fontcolor=red, penwidth=2];",
+    ] {
+        assert!(graph.lines().any(|other| other == line), "{line}");
+    }
+    let plain = out(&kelumavor(&["tree", "--dot", &file]));
+    assert!(plain.contains("  m1 -> d1 [label=\"pub f\"];") && !plain.contains("red"));
+}
