@@ -20,7 +20,7 @@ static void print_path(const uint32_t *report, const uint32_t *tables, size_t na
     for (uint32_t i = 0; i < report[KELUMAVOR_COUNT]; i++) {
         uint8_t text[KELUMAVOR_TEXT];
         size_t n = kelumavor_name(words, words_len, tables, names, report[KELUMAVOR_PATH + i], text, sizeof text);
-        if (i > 0 || report[KELUMAVOR_KIND] != 0)
+        if (i > 0 || report[KELUMAVOR_KIND] != KELUMAVOR_PATH_PLAIN)
             fputs("::", stdout);
         if (kelumavor_is_raw(words, words_len, tables, names, report[KELUMAVOR_PATH + i], 2021))
             fputs("r#", stdout);
@@ -37,20 +37,24 @@ int main(void)
         return 1;
     }
     /* The answer to a question clears the area, so the tables are kept. */
-    uint32_t tables[2048];
+    uint32_t tables[KELUMAVOR_MOST_NAMES];
     size_t names = checked[KELUMAVOR_NAMES];
     for (size_t i = 0; i < names; i++)
         tables[i] = area[i];
 
-    /* Definition 1 in the values namespace, seen from module 0; a plain path; no options; all the fuel; the largest limit. */
-    const uint32_t question[KELUMAVOR_QUESTION] = {1, 1, 0, 1, 0, 10000, 15};
+    /* Definition 1, seen from module 0, without options. */
+    const uint32_t question[KELUMAVOR_QUESTION] = {
+        KELUMAVOR_VALUES, 1, 0, KELUMAVOR_PLAIN, 0, KELUMAVOR_MOST_FUEL, KELUMAVOR_MOST_LIMIT,
+    };
     uint32_t report[KELUMAVOR_REPORT];
     kelumavor_find_path(words, words_len, area, KELUMAVOR_AREA, question, report, KELUMAVOR_REPORT);
     switch (report[KELUMAVOR_OUTCOME]) {
-    case 0:
+    case KELUMAVOR_FOUND:
         print_path(report, tables, names);
+        if (report[KELUMAVOR_COUNT] == 0)
+            puts("this is no use line: a keyword alone brings in no name");
         return 0;
-    case 1:
+    case KELUMAVOR_NONE:
         puts(report[KELUMAVOR_EMPTY] ? "the fuel ran out" : "there is no path");
         return 1;
     default:

@@ -20,6 +20,40 @@ extern "C" {
 /* Bytes of a name's text, at most. */
 #define KELUMAVOR_TEXT 255
 
+/* What a snapshot may have, at most. */
+#define KELUMAVOR_MOST_WORDS 16384
+#define KELUMAVOR_MOST_NAMES 2048
+#define KELUMAVOR_MOST_CRATES 64
+#define KELUMAVOR_MOST_MODULES 512
+#define KELUMAVOR_MOST_DEFINITIONS 2048
+
+/* Fuel and limit of a question, at most. */
+#define KELUMAVOR_MOST_FUEL 10000
+#define KELUMAVOR_MOST_LIMIT 15
+
+/* Why words, questions, calls or edits are refused. */
+enum kelumavor_refusal {
+    KELUMAVOR_REFUSED_SMALL_WORK_AREA = 20,
+    KELUMAVOR_REFUSED_TOO_MUCH_FUEL = 21,
+    KELUMAVOR_REFUSED_OUT_OF_RANGE = 22,       /* the namespace, the prefix or the options of a question */
+    KELUMAVOR_REFUSED_NO_SUCH_ITEM = 23,       /* no such definition, or no such module */
+    KELUMAVOR_REFUSED_NO_MACRO = 24,           /* the macros namespace, with a definition that is no macro */
+    KELUMAVOR_REFUSED_TOO_MANY_WORDS = 30,
+    KELUMAVOR_REFUSED_WRONG_KIND = 31,         /* an unknown or falling kind, an argument that is missing or has a kind */
+    KELUMAVOR_REFUSED_WRONG_FIELD = 32,        /* a field outside its range */
+    KELUMAVOR_REFUSED_UNDEFINED = 33,          /* the number of a thing that is not defined yet */
+    KELUMAVOR_REFUSED_REPEATED = 34,           /* something that may stand once only */
+    KELUMAVOR_REFUSED_MISPLACED = 35,          /* a record that does not fit those before it; a map or a crate left incomplete */
+    KELUMAVOR_REFUSED_TOO_MANY_RECORDS = 36,
+    KELUMAVOR_REFUSED_UNKNOWN_EDITION = 43,
+    KELUMAVOR_REFUSED_BATCH_TOO_LONG = 44,     /* too many questions, a part of one, or too few words for the reports */
+    KELUMAVOR_REFUSED_LIMIT_OUT_OF_RANGE = 46,
+    KELUMAVOR_REFUSED_ENTRY_THERE_OR_NOT = 47, /* an added name that is there already, or a removal of one that isn't */
+    KELUMAVOR_REFUSED_NO_ROOM = 48,
+    KELUMAVOR_REFUSED_NO_SUCH_WINDOW = 49,
+    KELUMAVOR_REFUSED_WINDOW_WAITS = 50
+};
+
 /* What the check answers: the number of the refusal, 0 for none; the word at which the refused record begins, or the number of
  * words for a fault that shows only after the last; and for accepted words how many records of each kind there are. */
 enum kelumavor_checked {
@@ -41,23 +75,40 @@ enum kelumavor_checked {
 };
 
 /* Checks a snapshot, and answers the number of the refusal as well. For accepted words the first words of the area, one for each
- * name, are the tables of kelumavor_name. */
+ * name, are the tables of kelumavor_name. The functions below that take an area clear them: who reads names later copies them first.
+ * Nothing is said of the rest of the area, nor of all of it for refused words. */
 size_t kelumavor_check(const uint32_t *words, size_t words_len, uint32_t *area, size_t area_len,
                        size_t answer[KELUMAVOR_CHECKED]);
 
 /* Copies the text of a name, without an end mark, where there is room for all of it, and answers its length. A number that is
- * not below tables_len has no text: the answer is 0. */
+ * not below tables_len has no text: the answer is 0. Takes no area, and writes to out alone. */
 size_t kelumavor_name(const uint32_t *words, size_t words_len, const uint32_t *tables, size_t tables_len, size_t name,
                       uint8_t *out, size_t out_len);
 
 /* Whether a name is a keyword that the edition (2015, 2018, 2021 or 2024) of the viewing module's crate writes with r# in front. The
- * tables are those of kelumavor_name; a number that is not below tables_len is no name. */
+ * tables are those of kelumavor_name; a number that is not below tables_len is no name. Takes no area, and writes nothing. */
 bool kelumavor_is_raw(const uint32_t *words, size_t words_len, const uint32_t *tables, size_t tables_len, size_t name,
                       size_t edition);
 
-/* A question: namespace (0 types, 1 values, 2 macros), definition, viewing module, prefix (0 by self, 1 plain, 2 by crate),
- * options (1 prefer no_std, 2 prefer the prelude, 4 prefer absolute, 8 allow unstable, 16 ignore local imports, 32 old names last),
- * fuel (10,000 at most), limit (the length left at the start, 1 to 15: names of the path, or one more for a variant). */
+/* In which namespace an item is asked for. */
+enum kelumavor_namespace { KELUMAVOR_TYPES, KELUMAVOR_VALUES, KELUMAVOR_MACROS };
+
+/* How a path should begin: with self, super or crate, with its first name, or with crate. */
+enum kelumavor_prefix { KELUMAVOR_BY_SELF, KELUMAVOR_PLAIN, KELUMAVOR_BY_CRATE };
+
+/* Options of a question, added up. */
+enum kelumavor_option {
+    KELUMAVOR_PREFER_NO_STD = 1,
+    KELUMAVOR_PREFER_PRELUDE = 2,
+    KELUMAVOR_PREFER_ABSOLUTE = 4,
+    KELUMAVOR_ALLOW_UNSTABLE = 8,
+    KELUMAVOR_IGNORE_LOCAL_IMPORTS = 16,
+    KELUMAVOR_OLD_NAMES_LAST = 32
+};
+
+/* A question: namespace (enum kelumavor_namespace), definition, viewing module, prefix (enum kelumavor_prefix), options (enum
+ * kelumavor_option), fuel (10,000 at most), limit (the length left at the start, 1 to 15: names of the path, or one more for a
+ * variant). */
 enum kelumavor_question {
     KELUMAVOR_NAMESPACE,
     KELUMAVOR_DEFINITION,
@@ -69,9 +120,21 @@ enum kelumavor_question {
     KELUMAVOR_QUESTION /* how many */
 };
 
-/* A report: outcome (0 found, 1 none, 2 refused), number of the refusal; path kind (0 plain, 1 self, 2 super, 3 crate, 4 a
- * leading ::), sixteen names and how many of them are the path's; charges; 1 where the fuel ran out. Only where that is 0 does
- * none say that there is no path. Of the first search that found no fuel: the length left there, and the module that it looked for,
+/* What a question came to. */
+enum kelumavor_outcome { KELUMAVOR_FOUND, KELUMAVOR_NONE, KELUMAVOR_REFUSED };
+
+/* What a path begins with; the last is a leading ::. A path of a keyword alone, without names, is no use line. */
+enum kelumavor_path_kind {
+    KELUMAVOR_PATH_PLAIN,
+    KELUMAVOR_PATH_SELF,
+    KELUMAVOR_PATH_SUPER,
+    KELUMAVOR_PATH_CRATE,
+    KELUMAVOR_PATH_ABSOLUTE
+};
+
+/* A report: outcome (enum kelumavor_outcome), number of the refusal; path kind (enum kelumavor_path_kind), sixteen names and how many of
+ * them are the path's; charges; 1 where the fuel ran out. Only where that is 0 does none say that there is no path, and with a limit
+ * below 15 it says so of paths of that length alone. Of the first search that found no fuel: the length left there, and the module that it looked for,
  * +1, or 0 where it was the question's own item or its enum; both are 0 where the fuel did not run out. How the path came about: the
  * number of steps, and seventeen of them. A step is 8 times the word at which the record used begins, 0 for a keyword, plus the rule
  * (enum kelumavor_rule); there is one for the path's start, a keyword without names or the first name with any prefix, then one for
