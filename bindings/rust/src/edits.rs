@@ -8,15 +8,23 @@ use crate::words::{Visibility, bits};
 /// An entry of a module's scope.
 #[derive(Clone, Copy, Debug, PartialEq, Eq, Hash)]
 pub struct Entry {
+    /// The module whose scope it is in.
     pub module: ModuleId,
+    /// Its namespace in that scope.
     pub namespace: Namespace,
+    /// By which name it is there.
     pub name: NameId,
+    /// What the name means.
     pub definition: DefinitionId,
+    /// Where it can be seen.
     pub visibility: Visibility,
     /// It is no import.
     pub declared: bool,
+    /// Its name is an old one.
     pub deprecated: bool,
+    /// It is left out of the documentation.
     pub hidden: bool,
+    /// It can be named by a question that allows it alone.
     pub unstable: bool,
 }
 
@@ -74,17 +82,27 @@ impl EditedWords {
         EditedWords { slice, count: words.len() }
     }
 
+    /// The words of the snapshot as they are now.
     pub fn words(&self) -> &[u32] {
         &self.slice[..self.count]
     }
 
-    /// Adds an entry after the last one. A refusal changes nothing.
+    /// Adds an entry after the last one.
+    ///
+    /// # Errors
+    ///
+    /// Those of the snapshot's own check; 32, 33 and 35 for the entry; 47 for a name that is there already; 48 where there is no room.
+    /// A refusal changes nothing.
     pub fn add(&mut self, entry: &Entry) -> Result<(), Refusal> {
         let area = &mut WorkArea::new();
         refusal(sys::add_entry(&mut self.slice, &mut self.count, area.words(), &entry.words()))
     }
 
-    /// Removes an entry. A refusal changes nothing.
+    /// Removes an entry.
+    ///
+    /// # Errors
+    ///
+    /// Those of the snapshot's own check; 47 for a name that is not there. A refusal changes nothing.
     pub fn remove(&mut self, module: ModuleId, namespace: Namespace, name: NameId) -> Result<(), Refusal> {
         let area = &mut WorkArea::new();
         let key = [module.0 as usize, namespace as usize, name.0 as usize];

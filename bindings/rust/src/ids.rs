@@ -4,7 +4,10 @@ macro_rules! id {
     ($(#[$doc:meta])* $name:ident) => {
         $(#[$doc])*
         #[derive(Clone, Copy, Debug, PartialEq, Eq, PartialOrd, Ord, Hash)]
-        pub struct $name(pub u32);
+        pub struct $name(
+            /// The number, from 0 among the records of its kind.
+            pub u32,
+        );
     };
 }
 
@@ -32,7 +35,10 @@ id! {
 /// The namespace in which an item is asked for.
 #[derive(Clone, Copy, Debug, PartialEq, Eq, Hash)]
 pub enum Namespace {
+    /// Modules, types, traits, builtins.
     Types = 0,
+    /// Functions, constants, statics, constructors.
     Values = 1,
+    /// Macros alone.
     Macros = 2,
 }

@@ -33,6 +33,8 @@
 //! }
 //! # Ok::<(), kelumavor::Refusal>(())
 //! ```
+#![deny(missing_docs)]
+
 mod edits;
 mod ids;
 mod path;

@@ -90,6 +90,7 @@ impl<'s> Path<'s> {
         Path { snapshot, from, kind, names, count: count as usize, route, steps: steps as usize }
     }
 
+    /// What it begins with.
     pub fn kind(&self) -> PathKind {
         self.kind
     }
@@ -145,7 +146,7 @@ impl fmt::Debug for Path<'_> {
 }
 
 /// The texts of a path's names.
-#[derive(Clone)]
+#[derive(Clone, Debug)]
 pub struct Names<'p> {
     snapshot: &'p Snapshot<'p>,
     names: std::slice::Iter<'p, u32>,

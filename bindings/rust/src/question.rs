@@ -7,6 +7,7 @@ use crate::sys;
 pub enum Prefix {
     /// With `self`, `super` or `crate` where the item is of this crate.
     BySelf = 0,
+    /// With its first name.
     #[default]
     Plain = 1,
     /// With `crate` where the item is of this crate.
@@ -16,10 +17,15 @@ pub enum Prefix {
 /// What is preferred, allowed or left out.
 #[derive(Clone, Copy, Debug, Default, PartialEq, Eq, Hash)]
 pub struct Options {
+    /// Paths through `core` and `alloc` before those through `std`.
     pub prefer_no_std: bool,
+    /// Paths through a module called `prelude` before others.
     pub prefer_prelude: bool,
+    /// Paths that begin with an extern name are written with a leading `::`.
     pub prefer_absolute: bool,
+    /// Items that are unstable may be named.
     pub allow_unstable: bool,
+    /// Names that a scope has by an import do not count.
     pub ignore_local_imports: bool,
     /// A deprecated name only where the scope has no other that can be used.
     pub old_names_last: bool,
@@ -39,11 +45,15 @@ impl Options {
 /// Which path names a definition in a module?
 #[derive(Clone, Copy, Debug, PartialEq, Eq, Hash)]
 pub struct Question {
+    /// The namespace in which the item is to be named.
     pub namespace: Namespace,
+    /// The item.
     pub definition: DefinitionId,
     /// The module in which the path is to stand.
     pub from: ModuleId,
+    /// How the path should begin.
     pub prefix: Prefix,
+    /// What is preferred, allowed or left out.
     pub options: Options,
     /// Charges that the search may make.
     pub fuel: u32,
@@ -71,18 +81,23 @@ impl Question {
         }
     }
 
+    /// The question with another prefix.
     pub fn prefix(self, prefix: Prefix) -> Self {
         Question { prefix, ..self }
     }
 
+    /// The question with other options.
     pub fn options(self, options: Options) -> Self {
         Question { options, ..self }
     }
 
+    /// The question with other fuel, at most [`Question::FUEL`].
     pub fn fuel(self, fuel: u32) -> Self {
         Question { fuel, ..self }
     }
 
+    /// The question with another limit, 1 to [`Question::LIMIT`]. With a smaller one than that, [`Outcome::NoPath`](crate::Outcome::NoPath)
+    /// is a fact about paths of that length alone.
     pub fn limit(self, limit: u32) -> Self {
         Question { limit, ..self }
     }

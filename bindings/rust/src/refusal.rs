@@ -82,6 +82,7 @@ impl RefusalKind {
         Self::ALL.into_iter().find(|kind| kind.number() == number)
     }
 
+    /// Its number.
     pub fn number(self) -> u32 {
         self as u32
     }
@@ -139,6 +140,7 @@ impl Refusal {
         Refusal { kind, place }
     }
 
+    /// The reason.
     pub fn kind(&self) -> RefusalKind {
         self.kind
     }

@@ -12,7 +12,8 @@ use crate::sys;
 pub enum Outcome<'s> {
     /// The path of a search that went through.
     Found(Path<'s>),
-    /// A search that went through, and there is no path.
+    /// A search that went through, and there is no path. With a limit below [`Question::LIMIT`](crate::Question::LIMIT) that is a fact
+    /// about paths of that length alone: a longer one may be there.
     NoPath,
     /// The fuel ran out before the search was through. A path that was found so far names the item, but a whole search may
     /// find another; without one, nothing is known.
@@ -61,6 +62,7 @@ pub struct FirstEmpty {
 /// ```
 #[derive(Clone, Debug)]
 pub struct Report<'s> {
+    /// What the question came to.
     pub outcome: Outcome<'s>,
     /// Charges that the search made; 0 where the question was refused.
     pub charges: u32,

@@ -3,6 +3,7 @@ use std::fmt;
 
 /// The rule by which a path's start or a further name of it was found.
 #[derive(Clone, Copy, Debug, PartialEq, Eq, Hash)]
+#[non_exhaustive]
 pub enum Rule {
     /// A builtin is its name.
     Builtin = 0,
@@ -55,6 +56,7 @@ impl fmt::Display for Rule {
 /// A step of a path's route. It prints as the path printer prints it.
 #[derive(Clone, Copy, Debug, PartialEq, Eq, Hash)]
 pub struct Step {
+    /// By which rule it was made.
     pub rule: Rule,
     /// The word at which the record used begins: the scope, extern or import record, or the definition of a variant or builtin; 0
     /// for a keyword.

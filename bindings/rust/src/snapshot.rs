@@ -13,12 +13,19 @@ impl WorkArea {
     /// Words of a work area.
     pub const WORDS: usize = 16384;
 
+    /// An area of that many words.
     pub fn new() -> Self {
         WorkArea(vec![0; Self::WORDS].into_boxed_slice())
     }
 
     pub(crate) fn words(&mut self) -> &mut [u32] {
         &mut self.0
+    }
+}
+
+impl std::fmt::Debug for WorkArea {
+    fn fmt(&self, f: &mut std::fmt::Formatter<'_>) -> std::fmt::Result {
+        f.debug_struct("WorkArea").finish_non_exhaustive()
     }
 }
 
@@ -30,6 +37,7 @@ impl Default for WorkArea {
 
 /// How many records of each kind a snapshot has.
 #[derive(Clone, Copy, Debug, PartialEq, Eq, Hash)]
+#[allow(missing_docs)]
 pub struct Counts {
     pub names: usize,
     pub crates: usize,
@@ -74,6 +82,10 @@ fn editions(words: &[u32]) -> Box<[u32]> {
 impl<'w> Snapshot<'w> {
     /// Checks the words.
     ///
+    /// # Errors
+    ///
+    /// The first record that is refused, by 31 to 36 or 43, or 30 for too many words.
+    ///
     /// ```
     /// # use kelumavor::Snapshot;
     /// let empty = Snapshot::check(&[])?;
@@ -91,6 +103,10 @@ impl<'w> Snapshot<'w> {
     }
 
     /// Checks the words in a work area of the caller's.
+    ///
+    /// # Errors
+    ///
+    /// Those of [`Snapshot::check`].
     pub fn check_in(words: &'w [u32], area: &mut WorkArea) -> Result<Self, Refusal> {
         let [number, place, counts @ ..] = sys::check(words, &mut area.0);
         if number != 0 {
@@ -127,10 +143,12 @@ impl<'w> Snapshot<'w> {
         Ok(Snapshot { words, heads: area.0[..names].into(), counts, editions: editions(words) })
     }
 
+    /// The words that were checked.
     pub fn words(&self) -> &'w [u32] {
         self.words
     }
 
+    /// How many records there are.
     pub fn counts(&self) -> &Counts {
         &self.counts
     }

@@ -10,10 +10,15 @@ impl Text {
     /// Bytes of a text, at most.
     pub const LIMIT: usize = 255;
 
+    /// The bytes, which may be any.
     pub fn as_bytes(&self) -> &[u8] {
         &self.0
     }
 
+    /// The text, where its bytes are UTF-8.
+    ///
+    /// # Errors
+    ///
     /// The check of a snapshot does not look at the bytes of a text, so they may be no UTF-8.
     pub fn to_str(&self) -> Result<&str, Utf8Error> {
         std::str::from_utf8(&self.0)

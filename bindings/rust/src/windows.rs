@@ -44,7 +44,11 @@ impl Windows {
         Windows { state: [0; sys::STATE] }
     }
 
-    /// Places a question. A window above 7 is refused, and one whose question waits already; nothing is changed then.
+    /// Places a question.
+    ///
+    /// # Errors
+    ///
+    /// 49 for a window above 7, 50 for one whose question waits already; nothing is changed then.
     pub fn place(&mut self, window: usize, question: &Question) -> Result<(), Refusal> {
         match sys::place(&mut self.state, window, &question.words()) {
             0 => Ok(()),

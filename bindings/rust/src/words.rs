@@ -1,19 +1,29 @@
 //! Writing the words of a snapshot.
 use crate::ids::{CrateId, DefinitionId, MapId, ModuleId, NameId, Namespace};
+use crate::refusal::Refusal;
+use crate::text::Text;
 
 /// Where a crate comes from.
 #[derive(Clone, Copy, Debug, Default, PartialEq, Eq, Hash)]
+#[non_exhaustive]
 pub enum Origin {
+    /// Of the workspace, or a library from elsewhere.
     #[default]
     Ordinary = 0,
+    /// `core`
     Core = 1,
+    /// `alloc`
     Alloc = 2,
+    /// `std`
     Std = 3,
+    /// Another crate of the language's own.
     OtherLanguage = 4,
 }
 
 /// The edition of a crate.
 #[derive(Clone, Copy, Debug, Default, PartialEq, Eq, Hash)]
+#[non_exhaustive]
+#[allow(missing_docs)]
 pub enum Edition {
     Rust2015 = 2015,
     Rust2018 = 2018,
@@ -22,17 +32,38 @@ pub enum Edition {
     Rust2024 = 2024,
 }
 
+/// From its year.
+impl TryFrom<u32> for Edition {
+    type Error = Refusal;
+
+    fn try_from(year: u32) -> Result<Self, Refusal> {
+        match year {
+            2015 => Ok(Self::Rust2015),
+            2018 => Ok(Self::Rust2018),
+            2021 => Ok(Self::Rust2021),
+            2024 => Ok(Self::Rust2024),
+            _ => Err(Refusal::new(43, None)),
+        }
+    }
+}
+
 /// The visibility of an entry of a scope. `Explicit` and `Implicit` say whether the module was written out.
 #[derive(Clone, Copy, Debug, PartialEq, Eq, Hash)]
 pub enum Visibility {
+    /// `pub`
     Public,
+    /// Within a crate.
     Crate(CrateId),
+    /// Within a module, as `pub(in ..)`, `pub(super)` or `pub(self)` says.
     Explicit(ModuleId),
+    /// Within a module, as nothing is written.
     Implicit(ModuleId),
 }
 
 /// What a member is.
 #[derive(Clone, Copy, Debug, PartialEq, Eq, Hash)]
+#[non_exhaustive]
+#[allow(missing_docs)]
 pub enum MemberKind {
     Variant = 0,
     Function = 1,
@@ -54,6 +85,10 @@ impl Visibility {
 
 /// The words of a snapshot, one record after the other. A kind of records follows the other in the order of the functions
 /// here, but a map may follow a module. What is wrong with the records is found by [`Snapshot::check`](crate::Snapshot::check).
+///
+/// # Panics
+///
+/// Its functions panic for a number of more than 28 bits, which no record can hold.
 #[derive(Clone, Debug, Default, PartialEq, Eq)]
 pub struct SnapshotWords {
     words: Vec<u32>,
@@ -64,20 +99,26 @@ pub struct SnapshotWords {
 }
 
 impl SnapshotWords {
+    /// No words.
     pub fn new() -> Self {
         Self::default()
     }
 
+    /// The words so far.
     pub fn as_words(&self) -> &[u32] {
         &self.words
     }
 
+    /// The words, without a copy.
     pub fn into_words(self) -> Vec<u32> {
         self.words
     }
 
-    /// A record; answers its number among those of its kind.
+    /// A record; answers its number among those of its kind. A number with bits of a kind would change the records.
     fn record(&mut self, kind: u32, payload: u32, arguments: &[u32]) -> u32 {
+        for number in arguments.iter().chain([&payload]) {
+            assert!(number >> 28 == 0, "{number} is no number of a record: it has more than 28 bits");
+        }
         self.words.push(kind << 28 | payload);
         self.words.extend_from_slice(arguments);
         let number = self.counts[kind as usize];
@@ -86,19 +127,28 @@ impl SnapshotWords {
         number
     }
 
+    /// A name.
+    ///
+    /// # Panics
+    ///
+    /// A text that is empty, or longer than [`Text::LIMIT`]; [`try_name`](Self::try_name) answers none for it.
     pub fn name(&mut self, text: &str) -> NameId {
-        let packed: Vec<u32> = text
-            .as_bytes()
-            .chunks(3)
-            .map(|bytes| bytes.iter().rev().fold(0, |word, byte| word << 8 | u32::from(*byte)))
-            .collect();
-        NameId(self.record(1, text.len() as u32, &packed))
+        self.try_name(text.as_bytes()).expect("a name has 1 to 255 bytes")
     }
 
+    /// A name of any bytes, where there are 1 to [`Text::LIMIT`] of them.
+    pub fn try_name(&mut self, text: &[u8]) -> Option<NameId> {
+        let packed: Vec<u32> =
+            text.chunks(3).map(|bytes| bytes.iter().rev().fold(0, |word, byte| word << 8 | u32::from(*byte))).collect();
+        (1..=Text::LIMIT).contains(&text.len()).then(|| NameId(self.record(1, text.len() as u32, &packed)))
+    }
+
+    /// A crate.
     pub fn krate(&mut self, origin: Origin, supports_no_std: bool, edition: Edition) -> CrateId {
         CrateId(self.record(2, origin as u32 + 8 * u32::from(supports_no_std), &[edition as u32]))
     }
 
+    /// A crate that another depends on; `sysroot` says that it comes with the sysroot.
     pub fn dependency(&mut self, owner: CrateId, dependency: CrateId, sysroot: bool) {
         self.record(3, owner.0, &[dependency.0, sysroot.into()]);
     }
@@ -113,22 +163,27 @@ impl SnapshotWords {
         ModuleId(self.record(5, map.0, &[plus_one(parent)]))
     }
 
+    /// A module among the children of its parent.
     pub fn child(&mut self, owner: ModuleId, child: ModuleId) {
         self.record(6, owner.0, &[child.0]);
     }
 
+    /// The prelude of a map.
     pub fn prelude(&mut self, map: MapId, prelude: ModuleId) {
         self.record(7, map.0, &[prelude.0]);
     }
 
+    /// The definition of a module.
     pub fn module_definition(&mut self, module: ModuleId) -> DefinitionId {
         DefinitionId(self.record(8, 1, &[module.0, 0]))
     }
 
+    /// A variant, of a definition by [`other_definition`](Self::other_definition).
     pub fn variant_definition(&mut self, parent: DefinitionId, name: NameId) -> DefinitionId {
         DefinitionId(self.record(8, 2, &[parent.0, name.0]))
     }
 
+    /// A builtin type, by its name.
     pub fn builtin_definition(&mut self, name: NameId) -> DefinitionId {
         DefinitionId(self.record(8, 3, &[name.0, 0]))
     }
@@ -138,6 +193,7 @@ impl SnapshotWords {
         DefinitionId(self.record(8, 4, &[home.0, 0]))
     }
 
+    /// A macro.
     pub fn macro_definition(&mut self, home: ModuleId) -> DefinitionId {
         DefinitionId(self.record(8, 5, &[home.0, 0]))
     }
@@ -228,5 +284,5 @@ pub(crate) fn bits(hidden: bool, unstable: bool) -> u32 {
 }
 
 fn plus_one(module: Option<ModuleId>) -> u32 {
-    module.map_or(0, |module| module.0 + 1)
+    module.map_or(0, |module| module.0.saturating_add(1))
 }
