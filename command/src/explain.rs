@@ -71,7 +71,7 @@ pub fn snapshot_part(input: &Input) -> (Input, usize) {
 }
 
 fn refused(input: &Input, number: u32, place: usize) -> Refused {
-    let record = record_at(&input.words, place);
+    let record = record_at(&input.words, place).filter(|_| number != 30);
     let reasons = match number {
         30 => vec![format!("it has {} words, and a snapshot at most {WORDS}", input.words.len())],
         31 => vec![wrong_kind(&input.words, place)],

@@ -7,7 +7,7 @@ use crate::escape::escaped;
 use crate::failure::Failure;
 
 /// Bytes that are read of an input, at most: far more than a snapshot may have.
-const MOST: u64 = 1 << 24;
+const MOST: u64 = 1 << 20;
 
 /// The bytes of a file as words.
 #[derive(Clone, Debug, Default)]

@@ -144,7 +144,7 @@ impl<'w> View<'w> {
     /// What else is said of an entry, each after a comma.
     pub fn marks(&self, entry: &Record) -> String {
         let marks = [
-            (entry.get(6) % 2 == 0, ", import"),
+            (entry.get(6) % 2 != 1, ", import"),
             (entry.get(6) / 2 % 2 == 1, ", deprecated"),
             (entry.get(7) % 2 == 1, ", hidden"),
             (entry.get(7) / 2 % 2 == 1, ", unstable"),
