@@ -12,6 +12,7 @@ use crate::failure::Failure;
 use crate::faults::counted;
 use crate::input::{Input, label, read};
 use crate::json::Json;
+use crate::progress::during;
 use crate::view::View;
 use crate::{ask, dot, dump, escape, tree};
 
@@ -215,7 +216,7 @@ fn asked(words: &[OsString]) -> Result<Answer, Failure> {
     let view = View::new(&words);
     let question = ask::question(&args, &view)?;
     let snapshot = checked_again(&words)?;
-    let report = snapshot.find_path(&question);
+    let report = during("searching", || snapshot.find_path(&question));
     let out = match args.flag("--json") {
         true => format!("{}\n", ask::json(&view, &question, &report)),
         false => ask::text(&view, &question, &report),
@@ -258,7 +259,7 @@ fn drawn(words: &[OsString]) -> Result<Answer, Failure> {
 fn routed(args: &Args, words: &[u32], view: &View) -> Result<Answer, Failure> {
     let question = ask::question(args, view)?;
     let snapshot = checked_again(words)?;
-    let report = snapshot.find_path(&question);
+    let report = during("searching", || snapshot.find_path(&question));
     let graph = dot::graph(view, report.path().map(|path| (question.from, path)));
     let notes = ask::meaning(view, &question, &report).into_iter().collect();
     Ok(Answer { status: status(&report), out: graph.into_bytes(), notes })

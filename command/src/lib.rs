@@ -12,6 +12,7 @@ pub mod failure;
 pub mod faults;
 pub mod input;
 pub mod json;
+pub mod progress;
 pub mod record;
 pub mod resolve;
 pub mod tree;

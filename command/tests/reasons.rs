@@ -37,6 +37,36 @@ fn random_and_damaged() {
     assert!(seen[&None] > 1000, "{seen:?}");
 }
 
+/// Words of chance, most of them heads with few arguments.
+#[test]
+fn any_words() {
+    let mut seen = std::collections::HashSet::new();
+    for seed in 0..20_000 {
+        let mut random = Random::new(seed + 5_000_000);
+        let word = |random: &mut Random| {
+            let kind = if random.chance(50) { random.below(16) as u32 } else { 0 };
+            kind << 28 | random.pick(&[0, 0, 1, 1, 2, 3, 4, 2021, 0x61, 0x0FFF_FFFF])
+        };
+        let words: Vec<u32> = (0..random.below(12)).map(|_| word(&mut random)).collect();
+        seen.insert(agrees(&words));
+    }
+    assert!(seen.len() >= 5, "{seen:?}");
+}
+
+/// Bytes that are no words are 41, whatever they are, and are said to be so.
+#[test]
+fn any_bytes() {
+    for seed in 0..2000 {
+        let mut random = Random::new(seed);
+        let letters = random.chance(50);
+        let length = 4 * random.below(30) + 1 + random.below(3);
+        let byte = |random: &mut Random| if letters { b' ' + random.below(90) as u8 } else { random.below(256) as u8 };
+        let bytes: Vec<u8> = (0..length).map(|_| byte(&mut random)).collect();
+        let refused = judge(&Input::new("test", bytes)).unwrap_err();
+        assert_eq!((refused.number, refused.place), (41, length / 4));
+    }
+}
+
 #[test]
 fn stored_refusals() {
     let cases = std::fs::read_to_string(repository("crates/refusals/stdin")).unwrap();
