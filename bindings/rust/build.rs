@@ -13,8 +13,25 @@ fn main() {
     if !library.exists() {
         fail(&format!("{} is missing", library.display()));
     }
+    let crates = Path::new("../../crates");
+    if crates.exists() {
+        println!("cargo::rerun-if-changed={}", crates.display());
+    }
+    if newer(&library, crates) {
+        println!("cargo::warning={} is older than the crates: `rt staticlib exports` makes it anew", library.display());
+    }
     println!("cargo::rustc-link-search=native={}", folder.display());
     println!("cargo::rustc-link-lib=static=exports");
+}
+
+/// A source below a folder was changed after the library was made.
+fn newer(library: &Path, folder: &Path) -> bool {
+    let changed = |path: &Path| path.metadata().and_then(|data| data.modified()).ok();
+    let Ok(entries) = folder.read_dir() else { return false };
+    entries.flatten().map(|entry| entry.path()).any(|path| {
+        let is_source = path.extension().is_some_and(|extension| extension == "rt");
+        path.is_dir() && newer(library, &path) || is_source && changed(&path) > changed(library)
+    })
 }
 
 /// The folder of the static library below the repository's root, which has it afterwards.

@@ -109,6 +109,11 @@ impl SnapshotWords {
         &self.words
     }
 
+    /// The words as the programs read them, lowest byte first.
+    pub fn to_bytes(&self) -> Vec<u8> {
+        self.words.iter().flat_map(|word| word.to_le_bytes()).collect()
+    }
+
     /// The words, without a copy.
     pub fn into_words(self) -> Vec<u32> {
         self.words

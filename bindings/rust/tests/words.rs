@@ -37,3 +37,10 @@ fn editions_by_their_years() {
     }
     assert_eq!(Edition::try_from(2019).unwrap_err().kind(), RefusalKind::UnknownEdition);
 }
+
+#[test]
+fn bytes_are_the_words_lowest_byte_first() {
+    let mut words = SnapshotWords::new();
+    words.name("ab");
+    assert_eq!(words.to_bytes(), [2, 0, 0, 0x10, b'a', b'b', 0, 0]);
+}
