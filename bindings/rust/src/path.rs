@@ -124,6 +124,15 @@ impl<'s> Path<'s> {
     }
 }
 
+/// Paths are the same where they are written the same and came about in the same way, also of two snapshots.
+impl PartialEq for Path<'_> {
+    fn eq(&self, other: &Self) -> bool {
+        self.kind == other.kind && self.written().eq(other.written()) && self.route().eq(other.route())
+    }
+}
+
+impl Eq for Path<'_> {}
+
 impl<'p> IntoIterator for &'p Path<'_> {
     type Item = Text;
     type IntoIter = Names<'p>;

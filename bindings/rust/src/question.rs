@@ -82,22 +82,26 @@ impl Question {
     }
 
     /// The question with another prefix.
+    #[must_use]
     pub fn prefix(self, prefix: Prefix) -> Self {
         Question { prefix, ..self }
     }
 
     /// The question with other options.
+    #[must_use]
     pub fn options(self, options: Options) -> Self {
         Question { options, ..self }
     }
 
     /// The question with other fuel, at most [`Question::FUEL`].
+    #[must_use]
     pub fn fuel(self, fuel: u32) -> Self {
         Question { fuel, ..self }
     }
 
     /// The question with another limit, 1 to [`Question::LIMIT`]. With a smaller one than that, [`Outcome::NoPath`](crate::Outcome::NoPath)
     /// is a fact about paths of that length alone.
+    #[must_use]
     pub fn limit(self, limit: u32) -> Self {
         Question { limit, ..self }
     }

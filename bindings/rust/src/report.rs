@@ -8,7 +8,7 @@ use crate::snapshot::Snapshot;
 use crate::sys;
 
 /// What a question came to.
-#[derive(Clone, Debug)]
+#[derive(Clone, Debug, PartialEq, Eq)]
 pub enum Outcome<'s> {
     /// The path of a search that went through.
     Found(Path<'s>),
@@ -60,7 +60,7 @@ pub struct FirstEmpty {
 /// assert_eq!(report.first_empty, Some(FirstEmpty { length_left: 15, module: None }));
 /// # Ok::<(), kelumavor::Refusal>(())
 /// ```
-#[derive(Clone, Debug)]
+#[derive(Clone, Debug, PartialEq, Eq)]
 pub struct Report<'s> {
     /// What the question came to.
     pub outcome: Outcome<'s>,

@@ -4,7 +4,10 @@ mod common;
 use std::collections::HashMap;
 
 use common::repository;
-use kelumavor::{Namespace, Path, PathKind, Prefix, Question, RefusalKind, Rule, Text, WorkArea};
+use kelumavor::{
+    CrateId, DefinitionId, ModuleId, NameId, Namespace, Path, PathKind, Prefix, Question, RefusalKind, Rule, Text,
+    WorkArea,
+};
 
 /// Constants with a number of their own, and those of enumerations that count from 0.
 fn constants() -> HashMap<String, u32> {
@@ -70,6 +73,11 @@ fn numbers_of_questions_and_reports() {
         ("KELUMAVOR_MOST_FUEL", Question::FUEL),
         ("KELUMAVOR_MOST_LIMIT", Question::LIMIT),
         ("KELUMAVOR_PATH", 3),
+        ("KELUMAVOR_MOST_WORDS", WorkArea::WORDS as u32),
+        ("KELUMAVOR_MOST_NAMES", NameId::COUNT as u32),
+        ("KELUMAVOR_MOST_CRATES", CrateId::COUNT as u32),
+        ("KELUMAVOR_MOST_MODULES", ModuleId::COUNT as u32),
+        ("KELUMAVOR_MOST_DEFINITIONS", DefinitionId::COUNT as u32),
     ];
     for (name, number) in expected {
         assert_eq!(constants.get(name), Some(&number), "{name}");

@@ -183,12 +183,25 @@ fn printer_words(question: &Question, routed: bool) -> [u32; 7] {
     ]
 }
 
+/// The path printer, which the toolchain makes where it is missing.
+fn path_printer() -> &'static std::path::Path {
+    static PRINTER: std::sync::LazyLock<std::path::PathBuf> = std::sync::LazyLock::new(|| {
+        let printer = repository("target/bin/path_printer");
+        if !printer.exists() {
+            let made = Command::new("rt").args(["check", "path_printer"]).current_dir(repository(".")).output();
+            assert!(made.is_ok_and(|made| made.status.success()), "`rt check path_printer` makes the path printer");
+        }
+        printer
+    });
+    &PRINTER
+}
+
 fn printed(words: &[u32]) -> String {
-    let mut printer = Command::new(repository("target/bin/path_printer"))
+    let mut printer = Command::new(path_printer())
         .stdin(Stdio::piped())
         .stdout(Stdio::piped())
         .spawn()
-        .expect("the path printer: `rt check path_printer` makes it");
+        .unwrap();
     let bytes: Vec<u8> = words.iter().flat_map(|word| word.to_le_bytes()).collect();
     printer.stdin.take().unwrap().write_all(&bytes).unwrap();
     String::from_utf8(printer.wait_with_output().unwrap().stdout).unwrap()
