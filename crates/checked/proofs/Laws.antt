@@ -13,7 +13,7 @@ use Rattle.snapshot.specs.Layouts.{snapOf}
 use Rattle.snapshot.specs.declared.layout.Layout.{Layout}
 use Rattle.snapshot.proofs.Laws.{length-rows}
 use Rattle.accept.specs.Verdict.{refuse, accept, verdict}
-use Rattle.accept.specs.Post.{Reads, Judged, Checks, checkOf}
+use Rattle.accept.specs.Post.{Reads, Judged, Checks, checkOf, outcome, Readable}
 use Rattle.accept.specs.declared.check.Checked.{Checked}
 use Rattle.accept.specs.declared.check.Checked.the-variants.{Refused, Accepted}
 use Rattle.accept.proofs.Accepted.{by-test}
@@ -171,6 +171,19 @@ unfolding checkOf
 checks-judged W A₀ A c e k =
     let h : 16384 ≤ length A₀ = omega arith in
     record { same = k .same ∙ rw (checkOf, le-ltb _ _ h); tables = k .tables }
+
+-- what the check of the words answers
+
+module _ (W A₀ A : List ℕ) (r : Checked) (a : length A₀ ≡ 16384) (c : Checks W A₀ A r) where
+  pub refused-verdict : (k at : ℕ) → r ≡ Refused k at → refuse k at ≡ verdict W
+  refused-verdict k at e = sym (ap (outcome W A) e) ∙ checks-judged W A₀ A r a c .same
+
+  pub accepted-reads : (l : Layout) → r ≡ Accepted l → Reads W A l
+  accepted-reads l e =
+      record {
+        same = sym (checks-judged W A₀ A r a c .same) ∙ ap (outcome W A) e;
+        tables = subst (Readable W A) e (checks-judged W A₀ A r a c .tables);
+      }
 
 -- reports of questions
 

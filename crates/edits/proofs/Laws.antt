@@ -9,12 +9,8 @@ use lib.Seq.{length-take-le}
 use borrow.Author.Tests.{lt-ltb, le-ltb}
 use Rattle.snapshot.specs.Records.{Snapshot, Scope}
 use Rattle.snapshot.specs.Lists.{any}
-use Rattle.snapshot.specs.declared.layout.Layout.{Layout}
 use Rattle.accept.specs.Verdict.{refuse, accept, verdict}
-use Rattle.accept.specs.Post.{Reads, Checks, outcome, Readable}
-use Rattle.accept.specs.declared.check.Checked.{Checked}
-use Rattle.accept.specs.declared.check.Checked.the-variants.{Refused, Accepted}
-use Rattle.checked.proofs.Laws.{checks-judged}
+pub use Rattle.checked.proofs.Laws.{refused-verdict, accepted-reads}
 use Rattle.answer.specs.Answers.{zeros}
 use Rattle.answer.proofs.Areas.{area-small, area-large}
 use Rattle.scope_edits.specs.Entries.{scopeWords, isNamed, scopesEnd, entryPlace, inserted, cut}
@@ -154,18 +150,7 @@ module _ (W : List ℕ) (n : ℕ) (h : n ≤ length W) (s : Snapshot) (acc : ver
         (omega arith)
         (q ∙ ap (λ p. cut p 8 (take n W) ++ replicate (length W - (n - 8)) 0) e)
 
--- what the check of the words answers
-
-module _ (W A₀ A : List ℕ) (r : Checked) (a : length A₀ ≡ 16384) (c : Checks W A₀ A r) where
-  pub refused-verdict : (k at : ℕ) → r ≡ Refused k at → refuse k at ≡ verdict W
-  refused-verdict k at e = sym (ap (outcome W A) e) ∙ checks-judged W A₀ A r a c .same
-
-  pub accepted-reads : (l : Layout) → r ≡ Accepted l → Reads W A l
-  accepted-reads l e =
-      record {
-        same = sym (checks-judged W A₀ A r a c .same) ∙ ap (outcome W A) e;
-        tables = subst (Readable W A) e (checks-judged W A₀ A r a c .tables);
-      }
+-- the check before an edit
 
 module _ (W : List ℕ) (n : ℕ) (o : Operation) where
   pub checked-large : length W < n → Edits W n (editWithin W n o) W (record { number = 30; count = n })
