@@ -124,7 +124,7 @@ pub fn collect(root: &Path) -> Vec<Part> {
     vec![Part { name: "collect", text: stand_in + derived + &items + &scopes + &imports }]
 }
 
-/// What changes in the text so that it runs over the stand-ins: imports, the tank, and document 01's length left.
+/// What changes in the text so that it runs over the stand-ins: imports, the tank, the question's limit, and document 01's length left.
 const EDITS: &[Edit] = &[
     // imports
     Edit { part: "find_path", within: "", times: 1, old: "use base_db::{", new: "use super::base_db::{" },
@@ -156,6 +156,8 @@ const EDITS: &[Edit] = &[
         old: "ctx.fuel.set(fuel - 1);",
         new: "ctx.fuel.set(fuel - 1);\n    ctx.db.store().tank.charge();",
     },
+    // the length left at the start: the question's limit
+    Edit { part: "find_path", within: "find_path", times: 1, old: "MAX_PATH_LEN", new: "db.store().limit.get()" },
     // the length left
     Edit {
         part: "find_path",

@@ -124,7 +124,7 @@ fn asked(words: &[u32], questions: &[Question], steps: u64) -> Vec<u8> {
     let program = checked.as_ref().ok().map(Program::new);
     let in_time = |question: &Question| match &program {
         Some(program) if refusal(&checked, question).is_none() => {
-            question.limit == 15 && crate::budget::within(steps, || program.put(question)).is_some()
+            crate::budget::within(steps, || program.put(question)).is_some()
         }
         _ => true,
     };
@@ -146,8 +146,7 @@ fn in_time(words: &[u32], steps: u64) -> bool {
     let checked = check(snapshot);
     let Some(program) = checked.as_ref().ok().map(Program::new) else { return true };
     questions.iter().all(|question| {
-        refusal(&checked, question).is_some()
-            || (question.limit == 15 && crate::budget::within(steps, || program.put(question)).is_some())
+        refusal(&checked, question).is_some() || crate::budget::within(steps, || program.put(question)).is_some()
     })
 }
 

@@ -1,6 +1,7 @@
 //! Accepted snapshots with questions, from a seed. The shapes together reach every rule of the search.
 use crate::check::{
-    BUILTINS, Child, DefMap, Definition, Dependency, EDITIONS, Extern, Import, Krate, Member, Module, Prelude, Scope, Snapshot,
+    BUILTINS, Child, DefMap, Definition, Dependency, EDITIONS, Extern, Import, Krate, Member, Module, Prelude, Scope,
+    Snapshot,
 };
 use crate::keywords::pool;
 use crate::printer::refusal;
@@ -943,7 +944,8 @@ impl Targets {
         let plain = if shape == Shape::Std { 55 } else { 35 };
         let options = if r.percent(plain) { 0 } else { r.below(32) };
         let prefix = if matches!(shape, Shape::Root | Shape::Stairs) && r.percent(50) { 2 } else { r.below(3) };
-        Question { definition, ns, from, prefix, options, fuel: 10_000, limit: 15 }
+        let limit = if r.percent(70) { 15 } else { r.from_to(1, 15) };
+        Question { definition, ns, from, prefix, options, fuel: 10_000, limit }
     }
 }
 

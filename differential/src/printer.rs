@@ -104,7 +104,9 @@ pub fn lines<A: Answers>(input: &[u8], fill: impl Fn(&Snapshot) -> A, steps: u64
             None => answer(snapshot.as_ref().unwrap(), program.as_ref().unwrap()),
         };
         if let Some(viewer) = reach::viewer(rest) {
-            lines.push(answered(reach::refusal(&snapshot, &viewer), &|s, program| reach::line(s, program, &viewer, steps)));
+            lines.push(answered(reach::refusal(&snapshot, &viewer), &|s, program| {
+                reach::line(s, program, &viewer, steps)
+            }));
             rest = &rest[5..];
         } else if let Some(question) = question_of(rest) {
             lines.push(answered(refusal(&snapshot, &question), &|s, program| {

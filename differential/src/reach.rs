@@ -7,7 +7,8 @@ use crate::{Answers, Question};
 /// Who asks at the front of the words, in a whole question of kind 15; its item plays no part.
 pub fn viewer(words: &[u32]) -> Option<Question> {
     let whole = words.len() >= 5 && kind(words[0]) == 15 && words[1..5].iter().all(|&word| kind(word) == 0);
-    let [prefix, options, fuel, limit] = std::array::from_fn(|place| words.get(1 + place).map_or(0, |&word| word as usize));
+    let [prefix, options, fuel, limit] =
+        std::array::from_fn(|place| words.get(1 + place).map_or(0, |&word| word as usize));
     whole.then(|| Question { definition: 0, ns: 0, from: payload(words[0]), prefix, options, fuel, limit })
 }
 

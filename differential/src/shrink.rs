@@ -37,15 +37,18 @@ pub fn shrink(
 
 /// Fields set to plain values, names to single letters.
 fn plainer(s: &mut Snapshot, q: &mut Question, holds: &mut impl FnMut(&Snapshot, &Question) -> bool) {
-    for bit in [1, 2, 4, 8, 16] {
+    for bit in [1, 2, 4, 8, 16, 32] {
         let question = Question { options: q.options & !bit, ..*q };
         if question != *q && holds(s, &question) {
             *q = question;
         }
     }
-    let question = Question { prefix: 1, ..*q };
-    if holds(s, &question) {
-        *q = question;
+    for question in
+        [Question { prefix: 1, ..*q }, Question { limit: 15, ..*q }, Question { prefix: 1, limit: 15, ..*q }]
+    {
+        if question != *q && holds(s, &question) {
+            *q = question;
+        }
     }
     let mut attempt = |s: &mut Snapshot, change: &dyn Fn(&mut Snapshot)| {
         let mut changed = s.clone();

@@ -42,7 +42,7 @@ fn worked() {
 }
 
 /// A chain of modules below the root, an enum in the last one, and a variant of it; seen from another child of the root.
-fn chain(depth: usize) -> Vec<u8> {
+fn chain(depth: usize, limit: usize) -> Vec<u8> {
     let mut words = vec![head(1, 1), 0x61, head(2, 0), 2021, head(4, 0), 0, 0, head(5, 0), 0, head(5, 0), 1];
     for module in 0..depth {
         words.extend([head(5, 0), if module == 0 { 1 } else { module as u32 + 2 }]);
@@ -52,10 +52,11 @@ fn chain(depth: usize) -> Vec<u8> {
     words.extend([head(8, 4), depth as u32 + 1, 0, head(8, 2), depth as u32, 0]);
     for definition in 0..=depth {
         let owner = if definition == 0 { 0 } else { definition + 1 };
-        words.extend([head(9, owner), 0, 0, definition as u32, 0, 0, 1]);
+        words.extend([head(9, owner), 0, 0, definition as u32, 0, 0, 1, 0]);
     }
     for definition in [depth, depth + 1] {
-        words.extend(question_words(&Question { definition, ns: 0, from: 1, prefix: 2, options: 0, fuel: 10_000, limit: 15 }));
+        let question = Question { definition, ns: 0, from: 1, prefix: 2, options: 0, fuel: 10_000, limit };
+        words.extend(question_words(&question));
     }
     bytes(&words)
 }
@@ -64,8 +65,10 @@ fn chain(depth: usize) -> Vec<u8> {
 fn longest_path() {
     let path = |names: usize, rest: &str| format!("found crate{} {rest}", "::a".repeat(names));
     for other in [Other::Original, Other::Rules] {
-        assert_eq!(lines(&other, &chain(13)), [path(14, "1 0"), path(15, "1 0")]);
-        assert_eq!(lines(&other, &chain(14)), ["none - 1 0", "none - 2 0"]);
+        for limit in 2..=15 {
+            assert_eq!(lines(&other, &chain(limit - 2, limit)), [path(limit - 1, "1 0"), path(limit, "1 0")]);
+            assert_eq!(lines(&other, &chain(limit - 1, limit)), ["none - 1 0", "none - 2 0"]);
+        }
     }
 }
 

@@ -83,8 +83,9 @@ pub const WRONG_PROGRAMS: &[Wrong] = &[
             "(ModuleDefId::BuiltinType(builtin)) | ItemInNs::Values(ModuleDefId::BuiltinType(builtin)) =",
         )],
     ),
-    wrong("longest_path_14", &[once(F, "", "MAX_PATH_LEN: usize = 15", "MAX_PATH_LEN: usize = 14")]),
-    wrong("longest_path_16", &[once(F, "", "MAX_PATH_LEN: usize = 15", "MAX_PATH_LEN: usize = 16")]),
+    wrong("limit_one_less", &[once(F, F, "db.store().limit.get()", "(db.store().limit.get() - 1).max(1)")]),
+    wrong("limit_one_more", &[once(F, F, "db.store().limit.get()", "db.store().limit.get() + 1")]),
+    wrong("limit_of_the_text", &[once(F, F, "db.store().limit.get()", "MAX_PATH_LEN")]),
     // item search
     wrong("std_module_by_the_module_search", &[once(F, INNER, "!ctx.is_std_item", "true")]),
     wrong("module_by_the_item_search", &[once(F, INNER, "!ctx.is_std_item", "false")]),

@@ -33,6 +33,7 @@ impl crate::Answers for Program {
         tank.fuel.set(question.fuel);
         tank.charges.set(0);
         tank.empty.set(false);
+        store.limit.set(question.limit);
         let option = |bit: usize| question.options & bit != 0;
         let prefix = [PrefixKind::BySelf, PrefixKind::Plain, PrefixKind::ByCrate][question.prefix];
         let cfg = FindPathConfig {

@@ -23,6 +23,8 @@ pub struct Store {
     pub homes: Vec<Option<ModuleId>>,
     pub variants: Vec<Option<(EnumId, Name)>>,
     pub tank: Tank,
+    /// the length left at the start
+    pub limit: Cell<usize>,
 }
 
 pub struct Place {
@@ -90,6 +92,7 @@ impl Filled {
                     .map(|d| (d.kind == 2).then(|| (EnumId(d.first), names[d.second].clone())))
                     .collect(),
                 tank: Tank::default(),
+                limit: Cell::default(),
             },
             definitions,
             names: names.iter().enumerate().map(|(number, name)| (name.clone(), number)).collect(),
