@@ -96,6 +96,7 @@ fn parts(folder: &Path, stand_ins: &Path) -> Vec<Part> {
         Part { name: "item_scope", text: stand_in("item_scope") + DERIVED + &items + &scopes },
         Part { name: "nameres", text: stand_in("nameres") + &index + "\n" + &root + &maps + &locals },
         Part { name: "import_map", text: stand_in("import_map") + &infos },
+        Part { name: "old_names", text: stand_in("old_names") },
         Part { name: "find_path", text: source(folder, "find_path") + &stand_in("find_path") },
         Part { name: "fill", text: stand_in("fill") },
         Part { name: "ask", text: stand_in("ask") },
@@ -124,7 +125,8 @@ pub fn collect(root: &Path) -> Vec<Part> {
     vec![Part { name: "collect", text: stand_in + derived + &items + &scopes + &imports }]
 }
 
-/// What changes in the text so that it runs over the stand-ins: imports, the tank, the question's limit, and document 01's length left.
+/// What changes in the text so that it runs over the stand-ins: imports, the tank, the question's limit, old names last, and document 01's length
+/// left.
 const EDITS: &[Edit] = &[
     // imports
     Edit { part: "find_path", within: "", times: 1, old: "use base_db::{", new: "use super::base_db::{" },
@@ -136,7 +138,7 @@ const EDITS: &[Edit] = &[
         within: "",
         times: 1,
         old: "use crate::{",
-        new: "use super::{cov_mark, tracing};\nuse super::{",
+        new: "use super::old_names::{names_tried, tried}; use super::{cov_mark, tracing};\nuse super::{",
     },
     // tracing; its spans and the coverage marks are empty macros of the stand-ins
     Edit { part: "find_path", within: "", times: 2, old: "#[tracing::instrument(skip_all)]", new: "" },
@@ -158,6 +160,51 @@ const EDITS: &[Edit] = &[
     },
     // the length left at the start: the question's limit
     Edit { part: "find_path", within: "find_path", times: 1, old: "MAX_PATH_LEN", new: "db.store().limit.get()" },
+    // the three lookups of an item's name, each of which goes on where options bit 32 asks for it; the end of a loop is put in before its beginning,
+    // so that a function ends within itself
+    Edit {
+        part: "find_path",
+        within: "find_in_scope",
+        times: 1,
+        old: "def_map[local_id].scope.names_of(item,",
+        new: "names_tried(db, &def_map[local_id].scope, item,",
+    },
+    Edit {
+        part: "find_path",
+        within: "find_in_prelude",
+        times: 1,
+        old: "        None\n    }",
+        new: "        continue;\n    } } None",
+    },
+    Edit {
+        part: "find_path",
+        within: "find_in_prelude",
+        times: 1,
+        old: "let (name, vis, _declared) = prelude_scope.name_of(item)?;",
+        new: "for entry in tried(db, prelude_scope, item) { let (name, vis, _declared) = entry?;",
+    },
+    Edit { part: "find_path", within: "find_in_prelude", times: 1, old: "return None;", new: "continue;" },
+    Edit {
+        part: "find_path",
+        within: "find_in_prelude",
+        times: 1,
+        old: "Some(Choice::new(PathKind::Plain, name.clone(), Stable))",
+        new: "return Some(Choice::new(PathKind::Plain, name.clone(), Stable));",
+    },
+    Edit {
+        part: "find_path",
+        within: "find_local_import_locations",
+        times: 1,
+        old: "cb(visited_modules, name, module);\n            }\n        }",
+        new: "cb(visited_modules, name, module); break;\n            }\n        } }",
+    },
+    Edit {
+        part: "find_path",
+        within: "find_local_import_locations",
+        times: 1,
+        old: "if let Some((name, vis, declared)) = data.scope.name_of(item)",
+        new: "for entry in tried(db, &data.scope, item) { if let Some((name, vis, declared)) = entry",
+    },
     // the length left
     Edit {
         part: "find_path",

@@ -190,14 +190,14 @@ fn compare_routes(words: &[u32], right: &[Vec<u8>], other: &Other) -> Result<(),
     if rest.is_empty() { Ok(()) } else { Err("  more lines".to_string()) }
 }
 
-/// How much can be named from the first and the last module, with little fuel and with much, by paths of any length and by shorter ones. A
-/// search of the Rust that takes long is not waited for.
+/// How much can be named from the first module, by shorter paths, with little fuel and with old names last, and from the last one. A search of
+/// the Rust that takes long is not waited for.
 fn compare_reach(words: &[u32], other: &Other, totals: &mut Totals) -> Result<(), String> {
     let start = parts_of(words).0.len();
     let Ok(s) = check(&words[..start]) else { return Ok(()) };
     let shorter = 1 + start as u32 % 15;
-    for (module, prefix, fuel, limit) in [(0, 1, 10, shorter), (s.modules.len() - 1, 0, 300, 15)] {
-        let input = bytes(&[&words[..start], &[head(15, module), prefix, 0, fuel, limit]].concat());
+    for (module, asked) in [(0, [1, 32, 10, shorter]), (s.modules.len() - 1, [0, 0, 300, 15])] {
+        let input = bytes(&[&words[..start], &[head(15, module)], &asked].concat());
         let [Some(right)] = &lines(&input, Program::new, 20_000)[..] else { continue };
         totals.reaches += 1;
         let theirs = other.output(&input);

@@ -942,7 +942,7 @@ impl Targets {
             _ => r.below(all),
         };
         let plain = if shape == Shape::Std { 55 } else { 35 };
-        let options = if r.percent(plain) { 0 } else { r.below(32) };
+        let options = if r.percent(plain) { 0 } else { r.below(64) };
         let prefix = if matches!(shape, Shape::Root | Shape::Stairs) && r.percent(50) { 2 } else { r.below(3) };
         let limit = if r.percent(70) { 15 } else { r.from_to(1, 15) };
         Question { definition, ns, from, prefix, options, fuel: 10_000, limit }

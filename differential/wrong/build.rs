@@ -3,6 +3,7 @@ use std::fs;
 use std::path::Path;
 
 mod programs;
+#[allow(dead_code)]
 #[path = "../text.rs"]
 mod text;
 use programs::{SAME_FLIPS, WRONG_PROGRAMS};

@@ -37,6 +37,7 @@ const WALK: &str = "find_local_import_locations";
 const PRELUDE: &str = "find_in_prelude";
 const KEYWORD: &str = "is_kw_kind_relative_to_from";
 const SEES: &str = "is_visible_from_def_map_";
+const OLD: &str = "old_names";
 
 pub const WRONG_PROGRAMS: &[Wrong] = &[
     // what is set for a question
@@ -208,8 +209,8 @@ pub const WRONG_PROGRAMS: &[Wrong] = &[
             once(
                 F,
                 PRELUDE,
-                ".name_of(item)?",
-                ".names_of(item, |n, v, d| v.is_visible_from(db, from).then(|| (n.clone(), v, d)))?",
+                "tried(db, prelude_scope, item)",
+                "[prelude_scope.names_of(item, |n, v, d| v.is_visible_from(db, from).then(|| (n.clone(), v, d)))]",
             ),
         ],
     ),
@@ -498,8 +499,8 @@ pub const WRONG_PROGRAMS: &[Wrong] = &[
             once(
                 F,
                 WALK,
-                ".name_of(item)",
-                ".names_of(item, |n, v, d| v.is_visible_from(db, ctx.from).then(|| (n.clone(), v, d)))",
+                "tried(db, &data.scope, item)",
+                "[data.scope.names_of(item, |n, v, d| v.is_visible_from(db, ctx.from).then(|| (n.clone(), v, d)))]",
             ),
         ],
     ),
@@ -603,6 +604,60 @@ pub const WRONG_PROGRAMS: &[Wrong] = &[
             "(ModuleDefId::ModuleId(module_id)) | ItemInNs::Values(ModuleDefId::ModuleId(module_id)) = item",
         )],
     ),
+    // old names last
+    wrong(
+        "old_names_not_last_in_scopes",
+        &[once(
+            F,
+            "find_in_scope",
+            "names_tried(db, &def_map[local_id].scope, item,",
+            "def_map[local_id].scope.names_of(item,",
+        )],
+    ),
+    wrong(
+        "old_names_not_last_in_preludes",
+        &[once(F, PRELUDE, "tried(db, prelude_scope, item)", "[prelude_scope.name_of(item)]")],
+    ),
+    wrong(
+        "old_names_not_last_in_walks",
+        &[once(F, WALK, "tried(db, &data.scope, item)", "[data.scope.name_of(item)]")],
+    ),
+    wrong(
+        "first_new_name_alone",
+        &[
+            once(F, PRELUDE, "tried(db, prelude_scope, item)", "tried(db, prelude_scope, item).into_iter().take(1)"),
+            once(F, WALK, "tried(db, &data.scope, item)", "tried(db, &data.scope, item).into_iter().take(1)"),
+        ],
+    ),
+    wrong(
+        "new_names_of_all_blocks_first",
+        &[once(
+            F,
+            "find_in_scope",
+            "def_map.with_ancestor_maps(",
+            "let new = def_map.with_ancestor_maps(db, from, &mut |def_map, local_id| super::old_names::new_names(db, &def_map[local_id].scope, item).into_iter().find_map(|(name, _, declared)| (declared || !ignore_local_imports).then(|| name.clone()))); if new.is_some() { return new; } def_map.with_ancestor_maps(",
+        )],
+    ),
+    wrong("old_names_always_last", &[once(OLD, "new_names", "!db.store().old_names_last.get()", "false")]),
+    wrong(
+        "old_names_never",
+        &[
+            once(
+                OLD,
+                "tried",
+                "[scope.name_of(item)]",
+                "[scope.name_of(item)].into_iter().filter(|_| !db.store().old_names_last.get())",
+            ),
+            once(
+                OLD,
+                "names_tried",
+                "new.or_else(|| scope.names_of(item, cb))",
+                "if db.store().old_names_last.get() { new } else { scope.names_of(item, cb) }",
+            ),
+        ],
+    ),
+    wrong("last_new_name", &[once(OLD, "not_deprecated", "entries.iter().filter", "entries.iter().rev().filter")]),
+    wrong("declared_names_are_new", &[once(OLD, "not_deprecated", "!item.deprecated", "item.import.is_none()")]),
 ];
 
 /// Flips that no input tells, with the reason.

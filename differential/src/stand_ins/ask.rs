@@ -35,6 +35,7 @@ impl crate::Answers for Program {
         tank.empty.set(false);
         store.limit.set(question.limit);
         let option = |bit: usize| question.options & bit != 0;
+        store.old_names_last.set(option(32));
         let prefix = [PrefixKind::BySelf, PrefixKind::Plain, PrefixKind::ByCrate][question.prefix];
         let cfg = FindPathConfig {
             prefer_no_std: option(1),

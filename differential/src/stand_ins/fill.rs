@@ -25,6 +25,8 @@ pub struct Store {
     pub tank: Tank,
     /// the length left at the start
     pub limit: Cell<usize>,
+    /// options bit 32
+    pub old_names_last: Cell<bool>,
 }
 
 pub struct Place {
@@ -93,6 +95,7 @@ impl Filled {
                     .collect(),
                 tank: Tank::default(),
                 limit: Cell::default(),
+                old_names_last: Cell::default(),
             },
             definitions,
             names: names.iter().enumerate().map(|(number, name)| (name.clone(), number)).collect(),
@@ -187,12 +190,13 @@ fn maps(s: &Snapshot, names: &[Name], definitions: &[ModuleDefId]) -> Vec<DefMap
             _ => Visibility::Module(module_id(entry.number), VisibilityExplicitness::Implicit),
         };
         let import = (!entry.declared).then_some(ImportOrExternCrate);
+        let deprecated = entry.deprecated;
         let name = names[entry.name].clone();
         let scope = &mut scopes[entry.owner];
         match item(entry.ns, definitions[entry.definition]) {
-            ItemInNs::Types(def) => scope.types.insert(name, Item { def, vis, import }),
-            ItemInNs::Values(def) => scope.values.insert(name, Item { def, vis, import }),
-            ItemInNs::Macros(def) => scope.macros.insert(name, Item { def, vis, import }),
+            ItemInNs::Types(def) => scope.types.insert(name, Item { def, vis, import, deprecated }),
+            ItemInNs::Values(def) => scope.values.insert(name, Item { def, vis, import, deprecated }),
+            ItemInNs::Macros(def) => scope.macros.insert(name, Item { def, vis, import, deprecated }),
         }
     }
     let mut children: Vec<Children> = s.modules.iter().map(|_| Children::default()).collect();

@@ -210,6 +210,7 @@ pub mod per_ns {
         pub def: Def,
         pub vis: Visibility,
         pub import: Option<ImportOrExternCrate>,
+        pub deprecated: bool,
     }
 
     pub type TypesItem = Item<ModuleDefId>;

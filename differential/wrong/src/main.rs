@@ -9,11 +9,17 @@ mod budget;
 #[allow(dead_code)]
 #[path = "../../src/check.rs"]
 mod check;
+#[allow(dead_code)]
+#[path = "../../src/keywords.rs"]
+mod keywords;
 #[path = "../../src/printer.rs"]
 #[allow(dead_code)]
 mod printer;
 #[path = "../../src/question.rs"]
 mod question;
+#[path = "../../src/reach.rs"]
+mod reach;
+#[allow(dead_code)]
 #[path = "../../src/tables.rs"]
 mod tables;
 pub use question::{Answer, Answers, Path, Question};
