@@ -6,7 +6,13 @@ pub mod compare;
 pub mod damage;
 pub mod encode;
 pub mod generate;
+pub mod import_cases;
+pub mod import_lists;
+pub mod import_rule;
+pub mod import_snapshots;
 pub mod keywords;
+#[cfg(feature = "library")]
+pub mod library;
 pub mod printer;
 pub mod question;
 pub mod random;

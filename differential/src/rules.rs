@@ -1029,7 +1029,6 @@ fn reachLine(snapshot: &Result<Snapshot, usize>, v: &Question) -> Vec<u8> {
     counts.map(|count: usize| count.to_string()).join(" ").into_bytes()
 }
 
-/// The lines of an input.
 // Collect.antt
 
 fn textBefore(x: &[u8], y: &[u8]) -> bool {
@@ -1069,7 +1068,7 @@ fn modulesFrom(s: &Snapshot, c: usize) -> Vec<usize> {
 }
 
 /// The imports of a crate: namespace, definition, name, container, bits.
-pub fn collected(s: &Snapshot, c: usize) -> Vec<[usize; 5]> {
+fn collected(s: &Snapshot, c: usize) -> Vec<[usize; 5]> {
     let mut all = Vec::new();
     for m in modulesFrom(s, c) {
         for e in entriesOf(s, m) {
@@ -1082,6 +1081,17 @@ pub fn collected(s: &Snapshot, c: usize) -> Vec<[usize; 5]> {
     all
 }
 
+/// The words of a crate's imports, or the refusal, for a target of so many words.
+pub fn import_list(W: &[usize], c: usize, room: usize) -> Result<Vec<u32>, usize> {
+    let s = verdict(W)?;
+    need(c < s.crates.len(), 23)?;
+    let importWords = |[ns, d, n, m, bits]: [usize; 5]| [0xA0000000 + c, ns, d, n, m, bits].map(|word| word as u32);
+    let wordsOf: Vec<u32> = collected(&s, c).into_iter().flat_map(importWords).collect();
+    need(wordsOf.len() <= room, 45)?;
+    Ok(wordsOf)
+}
+
+/// The lines of an input.
 pub fn lines(input: &[u8]) -> Vec<Vec<u8>> {
     let words = match words_of(input) {
         Err(number) => return vec![refused_line(number)],

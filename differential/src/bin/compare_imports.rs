@@ -1,46 +1,53 @@
-//! compare_imports FROM TO: collects the imports of each crate of the snapshots of a range of seeds by the Rust and by the definitions in
-//! `crates/import_order/specs`, and compares them item by item, in the order in which the Rust adds them.
-use differential::generate::case;
-use differential::right::collect;
-use differential::{check, rules};
+//! compare_imports PROGRAM FROM TO: puts the snapshots of a range of seeds to a program that builds import lists, crate by crate, and compares
+//! them with the Rust's, item by item in the order in which the Rust adds them; then the stored lists.
+use std::time::Instant;
+
+use differential::damage::copies;
+use differential::generate::{Case, case};
+use differential::import_cases::from_text;
+use differential::import_lists::{ImportLists, Totals, named};
+use differential::printer::words_of;
+use differential::{encode, import_snapshots};
+
+const USAGE: &str = "compare_imports PROGRAM FROM TO
+  PROGRAM   `library`, the static library (feature `library`); `rules`, the definitions; `hand`, the rule by hand
+  FROM TO   seeds, the last one not taken";
 
 fn main() {
     let arguments: Vec<String> = std::env::args().skip(1).collect();
-    let [from, to] = &arguments[..] else {
-        eprintln!("compare_imports FROM TO");
-        std::process::exit(2);
-    };
-    let (mut crates, mut items, mut longest, mut differences) = (0, 0, 0, 0);
-    for seed in from.parse::<u64>().unwrap()..to.parse().unwrap() {
-        let (_, case) = case(seed, 1, 1);
-        let words: Vec<usize> = case.words.iter().map(|&word| word as usize).collect();
-        let ours = rules::verdict(&words).unwrap_or_else(|number| panic!("seed {seed} is refused by {number}"));
-        let snapshot = check::check(&case.words).unwrap_or_else(|number| panic!("seed {seed} is refused by {number}"));
-        for krate in 0..snapshot.crates.len() {
-            let collected = collect::collected(&snapshot, krate);
-            let rust: Vec<[usize; 5]> =
-                collected.iter().map(|i| [i.ns, i.definition, i.name, i.container, i.bits]).collect();
-            let defined = rules::collected(&ours, krate);
-            crates += 1;
-            items += rust.len();
-            longest = longest.max(rust.len());
-            if rust != defined {
-                differences += 1;
-                if differences <= 3 {
-                    let place = rust.iter().zip(&defined).take_while(|(a, b)| a == b).count();
-                    println!(
-                        "seed {seed} crate {krate}: {} and {} items, the first other one is {place}: {:?} and {:?}",
-                        rust.len(),
-                        defined.len(),
-                        rust.get(place),
-                        defined.get(place)
-                    );
-                }
+    let [name, from, to] = &arguments[..] else { usage("") };
+    let (Ok(from), Ok(to)) = (from.parse::<u64>(), to.parse::<u64>()) else { usage("a seed is a number\n") };
+    let Some(mut program) = named(name) else { usage(&format!("no program `{name}` here\n")) };
+    let start = Instant::now();
+    let mut totals = Totals::default();
+    for seed in from..to {
+        compare(seed, &mut *program, &mut totals);
+    }
+    for case in from_text(include_str!("../../stored/imports")) {
+        totals.snapshot(&case.title, &case.words, &mut *program);
+    }
+    println!("{totals}, {:.1} s", start.elapsed().as_secs_f64());
+    if totals.differences > 0 {
+        std::process::exit(1);
+    }
+}
+
+/// The snapshot for import lists, that of the search, and for one in ten damaged copies.
+fn compare(seed: u64, program: &mut dyn ImportLists, totals: &mut Totals) {
+    let words = encode::words(&import_snapshots::snapshot(seed));
+    totals.snapshot(&format!("seed {seed}"), &words, program);
+    let (_, other) = case(seed, 1, 1);
+    totals.snapshot(&format!("seed {seed} of the search"), &other.words, program);
+    if seed % 10 == 0 {
+        for input in copies(seed, &Case { words, questions: Vec::new() }, 1) {
+            if let Ok(words) = words_of(&input) {
+                totals.damaged(&format!("a damaged copy of seed {seed}"), &words, program);
             }
         }
     }
-    println!("{crates} crates, {items} items, at most {longest} of a crate, {differences} differences");
-    if differences > 0 {
-        std::process::exit(1);
-    }
+}
+
+fn usage(reason: &str) -> ! {
+    eprintln!("{reason}{USAGE}");
+    std::process::exit(2);
 }

@@ -1,12 +1,11 @@
 // What `collect_import_map` needs from outside its functions, filled from a snapshot. An id has the number of what it stands for and the
 // attributes that a query for it gives, so that the rule that selects them is the text's.
-use std::collections::HashMap;
 use std::hash::{Hash, Hasher};
 
 use super::{cov_mark, tracing};
 use super::hir_expand::name::Name;
 use crate::check::{Import, Snapshot};
-use crate::tables::IndexMap;
+use crate::tables::{IndexMap, Map};
 
 pub trait SourceDatabase {
     fn store(&self) -> &Store;
@@ -251,7 +250,7 @@ pub struct ModuleData {
 #[derive(Default)]
 pub struct DefMap {
     root: usize,
-    modules: HashMap<usize, ModuleData>,
+    modules: Map<usize, ModuleData>,
 }
 
 impl DefMap {
@@ -347,8 +346,8 @@ impl SmallVec {
     }
 }
 
-type FxIndexMap<K, V> = HashMap<K, V>;
-type FxHashSet<T> = std::collections::HashSet<T>;
+type FxIndexMap<K, V> = Map<K, V>;
+type FxHashSet<T> = crate::tables::Set<T>;
 type ImportMapIndex = FxIndexMap<ItemInNs, (SmallVec, IsTraitAssocItem)>;
 
 pub struct ImportMap;
@@ -424,7 +423,7 @@ fn store(s: &Snapshot, names: &[Name]) -> Store {
 }
 
 /// The number of an item's definition in the snapshot.
-fn number(modules: &HashMap<usize, usize>, def: ModuleDefId) -> usize {
+fn number(modules: &Map<usize, usize>, def: ModuleDefId) -> usize {
     match def {
         ModuleDefId::ModuleId(ModuleId(id)) => modules[&id.number],
         ModuleDefId::FunctionId(FunctionId(id))
@@ -439,26 +438,48 @@ fn number(modules: &HashMap<usize, usize>, def: ModuleDefId) -> usize {
     }
 }
 
-/// The imports that the text collects for a crate, in the order in which it adds them.
-pub fn collected(s: &Snapshot, krate: usize) -> Vec<Import> {
-    let names: Vec<Name> = s.names.iter().map(|text| Name(text[..].into())).collect();
-    let numbers: HashMap<Name, usize> = names.iter().cloned().enumerate().map(|(n, name)| (name, n)).collect();
-    let modules = (0..s.definitions.len()).filter(|&d| s.definitions[d].kind == 1).map(|d| (s.definitions[d].first, d)).collect();
-    let store = store(s, &names);
-    ADDED.set(0);
-    let mut all = Vec::new();
-    for (item, (infos, _)) in ImportMap::collect_import_map(&store, Crate(krate)) {
-        let (ns, definition) = match item {
-            ItemInNs::Types(def) => (0, number(&modules, def)),
-            ItemInNs::Values(def) => (1, number(&modules, def)),
-            ItemInNs::Macros(MacroId(id)) => (2, id.number),
-        };
-        for (place, info) in infos.0 {
-            let bits = usize::from(info.is_doc_hidden) + 2 * usize::from(info.is_unstable);
-            let (name, container) = (numbers[&info.name], info.container.0.number);
-            all.push((place, Import { owner: krate, ns, definition, name, container, bits }));
+/// A snapshot's tables, filled once.
+pub struct Collector {
+    store: Store,
+    numbers: Map<Name, usize>,
+    modules: Map<usize, usize>,
+}
+
+impl Collector {
+    pub fn new(s: &Snapshot) -> Collector {
+        let names: Vec<Name> = s.names.iter().map(|text| Name(text[..].into())).collect();
+        let modules = (0..s.definitions.len()).filter(|&d| s.definitions[d].kind == 1).map(|d| (s.definitions[d].first, d));
+        Collector {
+            store: store(s, &names),
+            modules: modules.collect(),
+            numbers: names.into_iter().enumerate().map(|(n, name)| (name, n)).collect(),
         }
     }
-    all.sort_by_key(|&(place, _)| place);
-    all.into_iter().map(|(_, import)| import).collect()
+
+    /// How many imports the text collects for a crate.
+    pub fn count(&self, krate: usize) -> usize {
+        let map = ImportMap::collect_import_map(&self.store, Crate(krate));
+        map.values().map(|(infos, _)| infos.0.len()).sum()
+    }
+
+    /// The imports that the text collects for a crate, in the order in which it adds them.
+    pub fn collected(&self, krate: usize) -> Vec<Import> {
+        ADDED.set(0);
+        let mut all = Vec::new();
+        for (item, (infos, _)) in ImportMap::collect_import_map(&self.store, Crate(krate)) {
+            let (ns, definition) = match item {
+                ItemInNs::Types(def) => (0, number(&self.modules, def)),
+                ItemInNs::Values(def) => (1, number(&self.modules, def)),
+                ItemInNs::Macros(MacroId(id)) => (2, id.number),
+            };
+            for (place, info) in infos.0 {
+                let bits = usize::from(info.is_doc_hidden) + 2 * usize::from(info.is_unstable);
+                let (name, container) = (self.numbers[&info.name], info.container.0.number);
+                all.push((place, Import { owner: krate, ns, definition, name, container, bits }));
+            }
+        }
+        all.sort_by_key(|&(place, _)| place);
+        all.into_iter().map(|(_, import)| import).collect()
+    }
 }
+
