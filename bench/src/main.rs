@@ -1,16 +1,24 @@
 //! Times of the proved code, through the Rust bindings: the check by the size of the snapshot, and questions.
 //!
-//! `bench` prints tables, `bench files` that of several questions at once. For a profiler, `bench check SHAPE COUNT` checks one snapshot so many times, and
-//! `bench ask SHAPE COUNT` puts so many questions to the library; both print nothing.
+//! `bench` prints tables, `bench files` that of several questions at once, `bench lists` that of import lists (feature `lists`). For a profiler,
+//! `bench check SHAPE COUNT` checks one snapshot so many times, and `bench ask SHAPE COUNT` puts so many questions to the library; both print nothing.
 mod library;
+#[cfg(feature = "lists")]
+mod lists;
 #[cfg(feature = "original")]
 mod original;
 mod questions;
 mod shapes;
 mod timing;
 
+use std::io::Write;
+
 use kelumavor::{Snapshot, WorkArea};
 use shapes::Shape;
+
+const USAGE: &str = "bench [files | lists | check SHAPE COUNT | ask SHAPE COUNT | input SHAPE COUNT]
+  SHAPE   small, workspace, chain, dependencies, names or scope
+  lists   needs the feature `lists`";
 
 fn main() {
     let words: Vec<String> = std::env::args().skip(1).collect();
@@ -20,13 +28,29 @@ fn main() {
             print_checks("The check, by shape", &shapes::all());
             questions::print_all();
             questions::print_files();
+            #[cfg(feature = "lists")]
+            lists::print();
         }
         ["files"] => questions::print_files(),
-        ["check", shape, count] => repeat_check(&named(shape), count.parse().expect("a number")),
-        ["ask", shape, count] => questions::ask(&named(shape), count.parse().expect("a number")),
-        ["input", shape, count] => questions::write_input(shape, count.parse().expect("a number")),
-        _ => panic!("usage: bench [files | check SHAPE COUNT | ask SHAPE COUNT | input SHAPE COUNT]"),
+        #[cfg(feature = "lists")]
+        ["lists"] => lists::print(),
+        ["check", shape, count] => repeat_check(&named(shape), number(count)),
+        ["ask", shape, count] => questions::ask(&named(shape), number(count)),
+        ["input", shape, count] => {
+            let input = questions::input(shape, number(count)).unwrap_or_else(|| usage());
+            std::io::stdout().write_all(&input).expect("a place to write to");
+        }
+        _ => usage(),
     }
+}
+
+fn usage() -> ! {
+    eprintln!("{USAGE}");
+    std::process::exit(2);
+}
+
+fn number(text: &str) -> usize {
+    text.parse().unwrap_or_else(|_| usage())
 }
 
 fn print_checks(title: &str, shapes: &[Shape]) {
@@ -57,7 +81,7 @@ fn print_checks(title: &str, shapes: &[Shape]) {
 }
 
 fn named(name: &str) -> Shape {
-    shapes::beside(name, 0)
+    shapes::beside(name, 0).unwrap_or_else(|| usage())
 }
 
 fn repeat_check(shape: &Shape, count: usize) {

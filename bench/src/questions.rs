@@ -1,7 +1,6 @@
 //! Times of questions, by what they come to.
 use crate::shapes::{self, Shape};
 use crate::timing;
-use std::io::Write;
 
 /// A definition in the types namespace, seen from a module, with no options and all the fuel.
 #[derive(Clone, Copy)]
@@ -72,16 +71,19 @@ pub fn print_all() {
     println!();
 }
 
-/// Writes an input of the path printer with so many questions; a workspace fills it.
-pub fn write_input(shape: &str, count: usize) {
-    let shape = shapes::beside(shape, 6 * count);
-    let every = (questions(&shape).count() / count).max(1);
+/// Words of a question.
+const WORDS: usize = 7;
+
+/// An input of the path printer with so many questions; a workspace fills it.
+pub fn input(shape: &str, count: usize) -> Option<Vec<u8>> {
+    let shape = shapes::beside(shape, WORDS * count)?;
+    let every = (questions(&shape).count() / count.max(1)).max(1);
     let mut words = shape.words.clone();
     for question in questions(&shape).step_by(every).take(count) {
-        words.extend([12 << 28 | question.definition, 0, question.from, question.prefix, 0, Question::FUEL, 15]);
+        let asked = [12 << 28 | question.definition, 0, question.from, question.prefix, 0, Question::FUEL, 15];
+        words.extend::<[u32; WORDS]>(asked);
     }
-    let bytes: Vec<u8> = words.iter().flat_map(|word| word.to_le_bytes()).collect();
-    std::io::stdout().write_all(&bytes).expect("a place to write to");
+    Some(words.iter().flat_map(|word| word.to_le_bytes()).collect())
 }
 
 /// Questions of a rewritten file.
@@ -135,4 +137,31 @@ fn print_row(shape: &str, chosen: &[(Question, Answer)], programs: &mut [Program
         print!(" {:.0} |", timing::nanoseconds(all) / count);
     }
     println!();
+}
+
+#[cfg(test)]
+mod tests {
+    /// Bytes that the path printer takes.
+    const INPUT: usize = 65_536;
+
+    #[test]
+    fn inputs_are_full_and_not_too_long() {
+        for count in [1, 40, 100] {
+            let bytes = super::input("workspace", count).unwrap().len();
+            assert!((INPUT - 200..=INPUT).contains(&bytes), "{count} questions: {bytes} bytes");
+        }
+    }
+
+    #[test]
+    fn inputs_have_their_questions() {
+        let input = super::input("workspace", 40).unwrap();
+        let heads = input.chunks(4).filter(|word| word[3] >> 4 == 12).count();
+        assert_eq!(heads, 40);
+    }
+
+    #[test]
+    fn no_input_of_an_unknown_shape_or_without_room() {
+        assert!(super::input("worksapce", 40).is_none());
+        assert!(super::input("workspace", 2400).is_none());
+    }
 }

@@ -28,11 +28,11 @@ pub fn all() -> Vec<Shape> {
     ]
 }
 
-/// The shape of that name, where so many words are wanted for something else.
-pub fn beside(name: &str, others: usize) -> Shape {
+/// The shape of that name, if there is one, where so many words are wanted for something else.
+pub fn beside(name: &str, others: usize) -> Option<Shape> {
     match name {
-        "workspace" => Shape::new(name, workspace(16384 - others)),
-        _ => all().into_iter().find(|shape| shape.name == name).expect("a shape"),
+        "workspace" => Some(Shape::new(name, workspace(16384usize.checked_sub(others)?))),
+        _ => all().into_iter().find(|shape| shape.name == name),
     }
 }
 

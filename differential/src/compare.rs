@@ -11,6 +11,7 @@ use crate::right::ask::Program;
 use crate::route;
 use crate::show::{hexadecimal, question_text, snapshot_text};
 use crate::shrink::{input, shrink};
+use crate::usage::fail;
 
 pub enum Other {
     /// what follows the definitions
@@ -27,6 +28,7 @@ impl Other {
         match text {
             "rules" => Other::Rules,
             "original" => Other::Original,
+            "" => fail("a program has a name", ""),
             _ => Other::Program(text.split_whitespace().map(str::to_string).collect()),
         }
     }
@@ -42,7 +44,7 @@ impl Other {
                     .stdin(Stdio::piped())
                     .stdout(Stdio::piped())
                     .spawn()
-                    .unwrap_or_else(|error| panic!("{} does not run: {error}", command[0]));
+                    .unwrap_or_else(|error| fail(&format!("{} does not run: {error}", command[0]), ""));
                 let mut stdin = child.stdin.take().unwrap();
                 let input = input.to_vec();
                 // a program may end before it has read everything

@@ -23,6 +23,7 @@ pub mod show;
 pub mod shrink;
 pub mod stored;
 pub mod tables;
+pub mod usage;
 pub mod wrongs;
 
 /// The text as it is, with the changes that `build.rs` names.

@@ -2,6 +2,8 @@
 use std::io::{BufRead, BufReader, Write};
 use std::process::{Child, ChildStdin, ChildStdout, Command, Stdio};
 
+use crate::usage::fail;
+
 pub struct Wrongs {
     path: String,
     child: Child,
@@ -13,8 +15,10 @@ pub struct Wrongs {
 
 impl Wrongs {
     pub fn start(path: &str) -> Wrongs {
-        let list =
-            Command::new(path).arg("--list").output().unwrap_or_else(|error| panic!("{path} does not run: {error}"));
+        let list = Command::new(path)
+            .arg("--list")
+            .output()
+            .unwrap_or_else(|error| fail(&format!("{path} does not run: {error}"), ""));
         let programs = String::from_utf8(list.stdout)
             .unwrap()
             .lines()

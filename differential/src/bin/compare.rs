@@ -4,6 +4,7 @@ use std::time::Instant;
 use differential::compare::{Other, Totals, compare_input};
 use differential::damage;
 use differential::generate::case;
+use differential::usage::{fail, number, seeds};
 
 const USAGE: &str = "compare PRINTER FROM TO [--damaged] [--plain] [--questions N] [--steps N] [--show N]
   PRINTER    a program that reads a printer's input on stdin, with its arguments; `rules` is the one that follows the
@@ -20,22 +21,23 @@ fn main() {
     let (mut damaged, mut plain, mut questions, mut steps, mut show) = (false, false, None, 300_000u64, 3);
     let mut arguments = std::env::args().skip(1);
     while let Some(argument) = arguments.next() {
-        let mut number = || arguments.next().and_then(|text| text.parse::<u64>().ok()).unwrap_or_else(|| usage());
+        let mut number = || number::<u64>(&arguments.next().unwrap_or_default(), USAGE);
         match argument.as_str() {
             "--damaged" => damaged = true,
             "--plain" => plain = true,
             "--questions" => questions = Some(number() as usize),
             "--steps" => steps = number(),
             "--show" => show = number() as usize,
+            _ if argument.starts_with("--") => fail(&format!("no option `{argument}`"), USAGE),
             _ => places.push(argument),
         }
     }
-    let [printer, from, to] = &places[..] else { usage() };
-    let (Ok(from), Ok(to)) = (from.parse::<u64>(), to.parse::<u64>()) else { usage() };
+    let [printer, from, to] = &places[..] else { fail("", USAGE) };
+    let seeds = seeds(from, to, USAGE);
     let other = Other::named(printer);
     let start = Instant::now();
     let mut totals = Totals::default();
-    for seed in from..to {
+    for seed in seeds {
         let (_, case) = case(seed, questions.unwrap_or(if damaged { 12 } else { 120 }), steps);
         let inputs = if damaged { damage::copies(seed, &case, steps) } else { vec![case.input()] };
         for (copy, input) in inputs.iter().enumerate() {
@@ -46,9 +48,4 @@ fn main() {
     if totals.differences > 0 {
         std::process::exit(1);
     }
-}
-
-fn usage() -> ! {
-    eprintln!("{USAGE}");
-    std::process::exit(2);
 }

@@ -4,17 +4,17 @@ use differential::check::refused_at;
 use differential::compare::Other;
 use differential::generate::case;
 use differential::printer::words_of;
+use differential::usage::{fail, seeds};
 use differential::{damage, encode};
+
+const USAGE: &str = "compare_check PROGRAM FROM TO";
 
 fn main() {
     let arguments: Vec<String> = std::env::args().skip(1).collect();
-    let [program, from, to] = &arguments[..] else {
-        eprintln!("compare_check PROGRAM FROM TO");
-        std::process::exit(2);
-    };
+    let [program, from, to] = &arguments[..] else { fail("", USAGE) };
     let program = Other::named(program);
     let (mut inputs, mut accepted, mut differences) = (0, 0, 0);
-    for seed in from.parse::<u64>().unwrap()..to.parse().unwrap() {
+    for seed in seeds(from, to, USAGE) {
         let (_, mut case) = case(seed, 1, 1);
         case.questions.clear();
         let mut all = vec![encode::bytes(&case.words)];

@@ -7,6 +7,7 @@ use differential::generate::{Case, case};
 use differential::import_cases::from_text;
 use differential::import_lists::{ImportLists, Totals, named};
 use differential::printer::words_of;
+use differential::usage::{fail, seeds};
 use differential::{encode, import_snapshots};
 
 const USAGE: &str = "compare_imports PROGRAM FROM TO
@@ -15,12 +16,11 @@ const USAGE: &str = "compare_imports PROGRAM FROM TO
 
 fn main() {
     let arguments: Vec<String> = std::env::args().skip(1).collect();
-    let [name, from, to] = &arguments[..] else { usage("") };
-    let (Ok(from), Ok(to)) = (from.parse::<u64>(), to.parse::<u64>()) else { usage("a seed is a number\n") };
-    let Some(mut program) = named(name) else { usage(&format!("no program `{name}` here\n")) };
+    let [name, from, to] = &arguments[..] else { fail("", USAGE) };
+    let Some(mut program) = named(name) else { fail(&format!("no program `{name}` here"), USAGE) };
     let start = Instant::now();
     let mut totals = Totals::default();
-    for seed in from..to {
+    for seed in seeds(from, to, USAGE) {
         compare(seed, &mut *program, &mut totals);
     }
     for case in from_text(include_str!("../../stored/imports")) {
@@ -45,9 +45,4 @@ fn compare(seed: u64, program: &mut dyn ImportLists, totals: &mut Totals) {
             }
         }
     }
-}
-
-fn usage(reason: &str) -> ! {
-    eprintln!("{reason}{USAGE}");
-    std::process::exit(2);
 }

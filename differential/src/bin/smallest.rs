@@ -9,20 +9,20 @@ use differential::encode::words;
 use differential::generate::case;
 use differential::show::{hexadecimal, question_text, snapshot_text};
 use differential::shrink::{input, shrink};
+use differential::usage::{fail, number, seeds};
+
+const USAGE: &str = "smallest PRINTER FROM TO [OPTIONS]";
 
 /// What differs (outcome, path, charges, empty) and with which options.
 type Sort = (String, usize);
 
 fn main() {
     let arguments: Vec<String> = std::env::args().skip(1).collect();
-    let [printer, from, to, rest @ ..] = &arguments[..] else {
-        eprintln!("smallest PRINTER FROM TO [OPTIONS]");
-        std::process::exit(2);
-    };
-    let needs: usize = rest.first().map_or(0, |text| text.parse().unwrap());
+    let [printer, from, to, rest @ ..] = &arguments[..] else { fail("", USAGE) };
+    let needs: usize = rest.first().map_or(0, |text| number(text, USAGE));
     let other = Other::named(printer);
     let mut found: BTreeMap<Sort, (Snapshot, Question)> = BTreeMap::new();
-    for seed in from.parse::<u64>().unwrap()..to.parse().unwrap() {
+    for seed in seeds(from, to, USAGE) {
         let (_, case) = case(seed, 40, 20_000);
         let s = check(&case.words).expect("an accepted snapshot");
         let all = case.input();

@@ -12,7 +12,11 @@ use differential::generate::{Case, case};
 use differential::printer::{parts_of, words_of};
 use differential::random::Random;
 use differential::stored::{Entry, to_bytes};
+use differential::usage::{fail, seeds};
 use differential::wrongs::{Wrongs, table};
+
+const USAGE: &str = "store WRONG FROM TO FOLDER
+  WRONG    the program of the package `wrong`";
 
 /// Inputs that tell a wrong program.
 const WANTED: usize = 8;
@@ -25,11 +29,8 @@ const DAMAGED: usize = 6;
 
 fn main() {
     let arguments: Vec<String> = std::env::args().skip(1).collect();
-    let [wrong, from, to, folder] = &arguments[..] else {
-        eprintln!("store WRONG FROM TO FOLDER\n  WRONG    the program of the package `wrong`");
-        std::process::exit(2);
-    };
-    let (from, to): (u64, u64) = (from.parse().unwrap(), to.parse().unwrap());
+    let [wrong, from, to, folder] = &arguments[..] else { fail("", USAGE) };
+    let std::ops::Range { start: from, end: to } = seeds(from, to, USAGE);
     let mut wrongs = Wrongs::start(wrong);
     let mut inputs = telling(&mut wrongs, from, to);
     inputs.extend(refused(from, to));

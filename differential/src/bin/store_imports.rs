@@ -8,21 +8,23 @@ use differential::import_lists::{expected, from_rust};
 use differential::import_rule::{MISTAKES, Mistake, list};
 use differential::import_snapshots::snapshot;
 use differential::shrink::shrink;
+use differential::usage::{fail, seeds};
+
+const USAGE: &str = "store_imports FROM TO FILE";
 
 fn main() {
     let arguments: Vec<String> = std::env::args().skip(1).collect();
-    let [from, to, file] = &arguments[..] else { usage() };
-    let (Ok(from), Ok(to)) = (from.parse::<u64>(), to.parse::<u64>()) else { usage() };
+    let [from, to, file] = &arguments[..] else { fail("", USAGE) };
+    let seeds = seeds(from, to, USAGE);
     let mut cases = Vec::new();
     for mistake in MISTAKES {
-        match (from..to).filter_map(|seed| smallest(seed, mistake)).min_by_key(|case| case.words.len()) {
+        match seeds.clone().filter_map(|seed| smallest(seed, mistake)).min_by_key(|case| case.words.len()) {
             Some(case) => cases.push(case),
             None => println!("{mistake:?} is not told"),
         }
     }
     if let Err(error) = std::fs::write(file, to_text(&cases)) {
-        eprintln!("{file} can not be written: {error}");
-        std::process::exit(1);
+        fail(&format!("{file} can not be written: {error}"), USAGE);
     }
 }
 
@@ -44,9 +46,4 @@ fn smallest(seed: u64, mistake: Mistake) -> Option<ImportCase> {
     let (s, q) = shrink(s, q, told);
     let krate = krate_of(&s, &q);
     Some(ImportCase { title: format!("{mistake:?}"), krate, words: words(&s), list: expected(&s, krate) })
-}
-
-fn usage() -> ! {
-    eprintln!("store_imports FROM TO FILE");
-    std::process::exit(2);
 }

@@ -1,17 +1,19 @@
 //! tell WRONG FROM TO: how many questions of a range of seeds tell each wrong program from the right one.
 use differential::generate;
+use differential::usage::{fail, seeds};
 use differential::wrongs::{Wrongs, table};
+
+const USAGE: &str = "tell WRONG FROM TO
+  WRONG    the program of the package `wrong`";
 
 fn main() {
     let arguments: Vec<String> = std::env::args().skip(1).collect();
-    let [path, from, to] = &arguments[..] else {
-        eprintln!("tell WRONG FROM TO\n  WRONG    the program of the package `wrong`");
-        std::process::exit(2);
-    };
+    let [path, from, to] = &arguments[..] else { fail("", USAGE) };
+    let seeds = seeds(from, to, USAGE);
     let mut wrongs = Wrongs::start(path);
     let mut counts = vec![(0, 0); wrongs.programs.len()];
     let mut asked = 0;
-    for seed in from.parse::<u64>().unwrap()..to.parse().unwrap() {
+    for seed in seeds {
         let (_, case) = generate::case(seed, 60, 30_000);
         asked += case.questions.len();
         for (program, places) in wrongs.told(&case.input()) {

@@ -22,6 +22,9 @@ mod reach;
 #[allow(dead_code)]
 #[path = "../../src/tables.rs"]
 mod tables;
+#[allow(dead_code)]
+#[path = "../../src/usage.rs"]
+mod usage;
 pub use question::{Answer, Answers, Path, Question};
 
 #[allow(dead_code, unused_unsafe, unused_imports)]
@@ -33,6 +36,8 @@ mod right {
 mod wrong {
     include!(concat!(env!("OUT_DIR"), "/wrong.rs"));
 }
+
+const USAGE: &str = "wrong [--only NAME,NAME | --list | --as NAME]";
 
 /// A wrong program may run for ever.
 const STEPS: u64 = 300_000;
@@ -51,12 +56,13 @@ fn run() {
         [only, names] if only == "--only" => tell(|name| names.split(',').any(|own| own == name)),
         [list] if list == "--list" => wrong::WRONG.iter().for_each(|(name, same, _)| println!("{name}: {same}")),
         [as_one, name] if as_one == "--as" => print(name),
-        _ => panic!("no arguments, --only NAME,NAME, --list, or --as NAME"),
+        _ => usage::fail("", USAGE),
     }
 }
 
 fn print(name: &str) {
-    let (_, _, fill) = wrong::WRONG.iter().find(|(own, ..)| *own == name).expect("a program of that name");
+    let found = wrong::WRONG.iter().find(|(own, ..)| *own == name);
+    let (_, _, fill) = found.unwrap_or_else(|| usage::fail(&format!("no program `{name}`"), USAGE));
     budget::FORGIVING.store(true, std::sync::atomic::Ordering::Relaxed);
     let mut input = Vec::new();
     std::io::stdin().read_to_end(&mut input).unwrap();
