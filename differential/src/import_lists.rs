@@ -1,9 +1,10 @@
 //! Programs that build the import list of a crate, and their comparison with the Rust, item by item in the order in which the Rust adds them.
 use crate::check::{Import, Snapshot, WORDS, check};
-use crate::encode::head;
-use crate::import_rule;
+use crate::encode::{head, words};
 use crate::right::collect::Collector;
-use crate::rules;
+use crate::show::{hexadecimal, snapshot_text};
+use crate::shrink::shrink;
+use crate::{Question, import_rule, rules};
 
 /// Words of an import record.
 pub const RECORD: usize = 6;
@@ -124,6 +125,30 @@ fn call(
     (refusal, count, target)
 }
 
+/// The words that a program writes for the crate of a module, and those that it should write.
+fn both(s: &Snapshot, module: usize, program: &mut dyn ImportLists) -> (Vec<u32>, Vec<u32>) {
+    let krate = s.maps[s.modules[module].map].krate;
+    let right: Vec<u32> = expected(s, krate).iter().flat_map(record).collect();
+    let (_, count, mut target) = call(program, &words(s), WORDS, krate, right.len() + 600);
+    target.truncate(count);
+    (target, right)
+}
+
+/// The first other list on a snapshot with as few records as it shows on.
+fn show_smallest(s: Snapshot, program: &mut dyn ImportLists) {
+    let question = |from| Question { definition: usize::MAX, ns: 0, from, prefix: 1, options: 0, fuel: 0, limit: 15 };
+    let mut differs = |s: &Snapshot, q: &Question| {
+        let (theirs, right) = both(s, q.from, program);
+        theirs != right
+    };
+    let Some(q) = (0..s.modules.len()).map(question).find(|q| differs(&s, q)) else { return };
+    let (s, q) = shrink(s, q, differs);
+    let (theirs, right) = both(&s, q.from, program);
+    println!("  smallest, the crate of module {}:\n{}", q.from, snapshot_text(&s));
+    println!("  Rust:  {}\n  other: {}", hexadecimal(&right), hexadecimal(&theirs));
+    println!("  words: {}", hexadecimal(&words(&s)));
+}
+
 #[derive(Default)]
 pub struct Totals {
     pub snapshots: usize,
@@ -169,12 +194,13 @@ impl Totals {
         let place = list.chunks(RECORD).zip(theirs.chunks(RECORD)).take_while(|(a, b)| a == b).count();
         let item = |list: &[u32]| list.chunks(RECORD).nth(place).map(|item| format!("{item:X?}"));
         println!("  the first other item is {place}: {:?} and {:?}", item(list), item(theirs));
-        println!("  words: {}", crate::show::hexadecimal(words));
+        println!("  words: {}", hexadecimal(words));
     }
 
     /// Each crate of a snapshot with room, with just as much as is wanted, and with less; then what is refused.
     pub fn snapshot(&mut self, title: &str, words: &[u32], program: &mut dyn ImportLists) {
         let s = check(words).unwrap_or_else(|number| panic!("{title} is refused by {number}"));
+        let before = self.differences;
         self.snapshots += 1;
         self.by_hand += usize::from(!from_rust(&s));
         for krate in 0..s.crates.len() {
@@ -197,6 +223,9 @@ impl Totals {
         }
         for area in [0, WORDS - 1] {
             self.compare(title, program, (words, area, 0, 100), &Err(20));
+        }
+        if before == 0 && self.differences > 0 {
+            show_smallest(s, program);
         }
     }
 

@@ -84,3 +84,20 @@ fn inputs_that_are_refused() {
     }
     assert_eq!(printer::words_of(&vec![0; 65_536]).unwrap().len(), 16_384);
 }
+
+/// An item under an old name and a new one in the root, and under an old one alone in the module `c`, seen from the root and from another module.
+#[test]
+fn old_names_last() {
+    let mut words = vec![head(1, 1), 0x61, head(1, 1), 0x62, head(1, 1), 0x63, head(2, 0), 2021, head(4, 0), 0, 0];
+    words.extend([head(5, 0), 0, head(5, 0), 1, head(6, 0), 1, head(8, 4), 0, 0, head(8, 1), 1, 0]);
+    words.extend([head(9, 0), 0, 0, 0, 0, 0, 3, 0, head(9, 0), 0, 1, 0, 0, 0, 1, 0]);
+    words.extend([head(9, 0), 0, 2, 1, 0, 0, 1, 0, head(9, 1), 0, 0, 0, 0, 0, 2, 0]);
+    for (from, prefix, options) in [(0, 1, 0), (0, 1, 32), (1, 1, 0), (1, 1, 32), (1, 2, 0), (1, 2, 32)] {
+        let question = Question { definition: 0, ns: 0, from, prefix, options, fuel: 10_000, limit: 15 };
+        words.extend(question_words(&question));
+    }
+    for other in [Other::Original, Other::Rules] {
+        let expected = ["a 0 0", "b 0 0", "a 0 0", "a 0 0", "crate::a 1 0", "crate::b 1 0"];
+        assert_eq!(lines(&other, &bytes(&words)), expected.map(|line| format!("found {line}")));
+    }
+}
