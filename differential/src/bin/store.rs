@@ -1,4 +1,4 @@
-//! store WRONG FROM TO FOLDER: searches a range of seeds for inputs that tell the wrong programs and that are refused in
+//! store WRONG FROM TO FOLDER [CASES]: searches a range of seeds for inputs that tell the wrong programs and that are refused in
 //! every way, and writes them with the lines of the text of rust-analyzer to FOLDER/list, and the counts to FOLDER/told.
 use std::collections::BTreeMap;
 use std::path::Path;
@@ -11,12 +11,13 @@ use differential::encode::{bytes, question_words};
 use differential::generate::{Case, case};
 use differential::printer::{parts_of, words_of};
 use differential::random::Random;
-use differential::stored::{Entry, to_bytes};
+use differential::stored::{Entry, from_bytes, to_bytes};
 use differential::usage::{fail, seeds};
 use differential::wrongs::{Wrongs, table};
 
-const USAGE: &str = "store WRONG FROM TO FOLDER
-  WRONG    the program of the package `wrong`";
+const USAGE: &str = "store WRONG FROM TO FOLDER [CASES]
+  WRONG    the program of the package `wrong`
+  CASES    a list of inputs by hand, which are counted too";
 
 /// Inputs that tell a wrong program.
 const WANTED: usize = 8;
@@ -29,7 +30,12 @@ const DAMAGED: usize = 6;
 
 fn main() {
     let arguments: Vec<String> = std::env::args().skip(1).collect();
-    let [wrong, from, to, folder] = &arguments[..] else { fail("", USAGE) };
+    let [wrong, from, to, folder, rest @ ..] = &arguments[..] else { fail("", USAGE) };
+    let cases = match rest {
+        [] => Vec::new(),
+        [file] => from_bytes(&std::fs::read(file).unwrap_or_else(|error| fail(&format!("{file}: {error}"), USAGE))),
+        _ => fail("", USAGE),
+    };
     let std::ops::Range { start: from, end: to } = seeds(from, to, USAGE);
     let mut wrongs = Wrongs::start(wrong);
     let mut inputs = telling(&mut wrongs, from, to);
@@ -38,7 +44,7 @@ fn main() {
         inputs.into_iter().map(|input| Entry { output: Other::Original.output(&input), input }).collect();
     let mut wrongs = Wrongs::start(wrong);
     let mut counts = vec![(0, 0); wrongs.programs.len()];
-    for entry in &entries {
+    for entry in entries.iter().chain(&cases) {
         for (program, places) in wrongs.told(&entry.input) {
             counts[program].0 += places.len();
             counts[program].1 += 1;
@@ -57,7 +63,8 @@ fn main() {
     std::fs::create_dir_all(folder).unwrap();
     std::fs::write(folder.join("list"), list).unwrap();
     let told = format!(
-        "{summary}\nEach wrong program with the questions and the inputs of the list that tell it.\n\n{}",
+        "{summary}; {} inputs by hand after them\nEach wrong program with the questions and the inputs that tell it.\n\n{}",
+        cases.len(),
         table(&wrongs.programs, &counts)
     );
     std::fs::write(folder.join("told"), told).unwrap();
