@@ -1039,8 +1039,12 @@ fn textBefore(x: &[u8], y: &[u8]) -> bool {
     }
 }
 
+fn keyBefore(a: &[u8], m: usize, b: &[u8], n: usize) -> bool {
+    textBefore(a, b) || !textBefore(b, a) && m < n
+}
+
 fn entryBefore(s: &Snapshot, x: &Scope, y: &Scope) -> bool {
-    textBefore(&textOf(&s.names[x.name]), &textOf(&s.names[y.name])) || x.name == y.name && x.ns < y.ns
+    keyBefore(&textOf(&s.names[x.name]), x.ns, &textOf(&s.names[y.name]), y.ns)
 }
 
 fn entriesOf(s: &Snapshot, m: usize) -> Vec<&Scope> {
