@@ -1,4 +1,5 @@
-pub mod Checking
-pub mod Texts
 pub mod Asking
+pub mod Checking
+pub mod Lending
 pub mod Serving
+pub mod Texts

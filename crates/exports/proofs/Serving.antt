@@ -1,4 +1,4 @@
--- A turn, and its report as words.
+-- Questions placed and turns on the words of a state, and a turn's report as words.
 use Prim.Native.Nat.{ℕ}
 use mathlib.Core.Path.{_≡_, refl, sym, _∙_, ap}
 use mathlib.Core.Bool.{Bool, true, false, false≢true}
@@ -8,9 +8,23 @@ use lib.Dec.{eqb}
 use lib.ListN.{length}
 use Rattle.reports.specs.Written.{Written, writtenTo}
 use Rattle.windows.specs.declared.turns.Turn.{Turn}
-use Rattle.window_state.specs.States.{served}
-use Rattle.windows.specs.Windows.{idleTurn, servingTurn, turnOf, Turned}
+use Rattle.find_path.specs.declared.Question.{Question}
+use Rattle.window_state.specs.States.{placeFault, afterPlace, served, afterTurn}
+use Rattle.windows.specs.Windows.{Placed, idleTurn, servingTurn, turnOf, areaTurned, Turned}
 use Rattle.exports.specs.Turns.{reportTurned, Served}
+
+-- the words were taken apart, and put together again
+module _ (S₀ S T U : List ℕ) (e : S ≡ S₀) (f : U ≡ T) where
+  pub placed-words : (w : ℕ) (q : Question) (r : ℕ) → Placed S w q T r → Placed S₀ w q U r
+  placed-words w q r p = record { number = p .number ∙ ap (λ x. placeFault x w) e; state = f ∙ p .state ∙ ap (λ x. afterPlace x w q) e }
+
+  pub turned-words : (W A B : List ℕ) (t : Turn) → Turned S W A T B t → Turned S₀ W A U B t
+  turned-words W A B t k =
+      record {
+        turn = k .turn ∙ ap (λ x. turnOf x W (length A)) e;
+        state = f ∙ k .state ∙ ap afterTurn e;
+        area = k .area ∙ ap (λ x. areaTurned x A) e;
+      }
 
 module _ (S W A T B old : List ℕ) (t : Turn) (k : Turned S W A T B t) where
   pub served-none : t .idle ≡ true → Served S W A old T B old 8

@@ -12,8 +12,11 @@ ghost use Rattle.scope_edits.specs.Edits.{adding, removing};
 ghost use Rattle.scope_edits.specs.Entries.{entryOf};
 ghost use Rattle.windows.specs.Windows.{Placed};
 
+mod lent;
 mod text;
 
+use crate::lent::place_in;
+use crate::lent::turn_in;
 use crate::text::copy_text;
 use crate::text::held;
 use accept::check::Checked;
@@ -29,8 +32,8 @@ use snapshot::ids::Name;
 use snapshot::table::name_head;
 use snapshot::text::text_at;
 use snapshot::words::payload;
-use windows::windows::place;
-use windows::windows::turn;
+use window_state::words::windows_of;
+use window_state::words::words_of;
 
 /// Checks a snapshot, and leaves the tables of accepted words in the work area. Answers the number of the refusal, 0 for none;
 /// writes that number, its place, and how many records of each kind there are.
@@ -155,7 +158,11 @@ pub extern "C" fn kelumavor_place(
 ) -> usize
     ensures { λ r. ⌜ Placed (now (state .entry)) window (questionOf (now (question .entry))) (now (state .exit)) r ⌝ }
 {
-    place(state, window, question)
+    let p = place_in(windows_of(*state), window, question);
+    let windows = p.windows;
+    let words = words_of(windows);
+    *state = words;
+    p.number
 }
 
 /// Serves the next window that waits, on a snapshot, and writes the report of its question. Answers the window, or 8 where no question
@@ -169,7 +176,11 @@ pub extern "C" fn kelumavor_turn(
 ) -> usize
     ensures { λ r. ⌜ Served (now (state .entry)) (now (words .entry)) (now (area .entry)) (now (report .entry)) (now (state .exit)) (now (area .exit)) (now (report .exit)) r ⌝ }
 {
-    let t = turn(state, words, area);
+    let turned = turn_in(windows_of(*state), words, area);
+    let windows = turned.windows;
+    let after = words_of(windows);
+    *state = after;
+    let t = turned.turn;
     let idle = t.idle;
     if idle {
         return 8;

@@ -8,8 +8,8 @@ use native.Mathlib.Numerals.{add-one}
 use borrow.Author.Tests.{lt-ltb, le-ltb, ltb-true, ltb-false}
 use borrow.Rule.Slice.PartMut.{midOf}
 use lib.Dec.{ltb}
-use lib.ListN.{length, getD, set, take, drop}
-use lib.Seq.{take-all, paste, paste-suc}
+use lib.ListN.{length, getD, set, take, drop, length-append, length-drop}
+use lib.Seq.{length-take-le, take-all, paste, paste-suc}
 use Rattle.find_path.specs.declared.Question.{Question}
 use Rattle.questions.specs.Questions.{questionOf}
 use Rattle.questions.proofs.Laws.{mid-end}
@@ -54,6 +54,20 @@ row-done S T row w i e h k l =
     ∙ ap (paste S (1 + 8 * w) row) q
     ∙ append-assoc (take (1 + 8 * w) S) (take 8 row) (drop (1 + 8 * w + 8) S)
     ∙ ap (λ x. take (1 + 8 * w) S ++ (x ++ drop (1 + 8 * w + 8) S)) (take-all 8 row (omega (arith, l)))
+
+-- other words for a window
+
+module _ (S : List ℕ) (v : ℕ) (r : List ℕ) (l : length S ≡ 65) (h : v < 8) (m : length r ≡ 8) where
+  pub front-length : length (take (1 + 8 * v) S) ≡ 1 + 8 * v
+  front-length = length-take-le (1 + 8 * v) S (omega (arith, l))
+
+  pub with-length : length (withRow S v r) ≡ 65
+  unfolding withRow
+  with-length =
+      let a : length (withRow S v r) ≡ length (take (1 + 8 * v) S) + length (r ++ drop (1 + 8 * v + 8) S) =
+      length-append (take (1 + 8 * v) S) (r ++ drop (1 + 8 * v + 8) S) in
+      let b : length (r ++ drop (1 + 8 * v + 8) S) ≡ length r + length (drop (1 + 8 * v + 8) S) = length-append r (drop (1 + 8 * v + 8) S) in
+      omega (arith, a, b, front-length, m, l, h, length-drop (1 + 8 * v + 8) S)
 
 -- a question placed
 

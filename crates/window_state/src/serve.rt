@@ -3,60 +3,74 @@ ghost use mathlib.Core.Path.{_≡_};
 ghost use Prim.Native.Nat.{_<_};
 ghost use Rattle.questions.specs.Questions.{questionOf};
 ghost use Rattle.window_state.specs.States.{placeFault, withRow, waiting, askedBy, afterServing};
-use crate::rows::StateWords;
+ghost use Rattle.window_state.specs.Words.{wordsOf};
+use crate::rows::Row;
 use crate::rows::WindowCount;
+use crate::rows::Windows;
+use crate::rows::empty_row;
 use crate::rows::waits;
 use crate::rows::with_row;
+use find_path::Query;
 use find_path::Question;
-use questions::question::question_of;
 
 /// The number by which a question of a window is refused, 0 for none.
-pub fn place_fault(state: [u32; 65], window: usize) -> usize
-    ensures { λ r. ⌜ r ≡ placeFault state window ⌝ }
+pub fn place_fault(windows: Windows, window: usize) -> usize
+    ensures { λ r. ⌜ r ≡ placeFault (wordsOf windows) window ⌝ }
 {
     if WindowCount::LIMIT <= window {
         return 49;
     }
-    if waits(state, window) {
+    if waits(windows, window) {
         return 50;
     }
     0
 }
 
 /// The state in which a question of a window waits.
-pub fn with_question(state: [u32; 65], window: usize, question: &[u32; 7]) -> [u32; 65]
+pub fn with_question(windows: Windows, window: usize, question: &[u32; 7]) -> Windows
     requires { ⌜ window < 8 ⌝ }
-    ensures { λ r. ⌜ r ≡ withRow state window (waiting (questionOf (now (question .entry)))) ⌝ }
+    ensures { λ r. ⌜ wordsOf r ≡ withRow (wordsOf windows) window (waiting (questionOf (now (question .entry)))) ⌝ }
 {
-    let row = [
-        1,
-        question[0],
-        question[1],
-        question[2],
-        question[3],
-        question[4],
-        question[5],
-        question[6],
-    ];
-    with_row(state, window, row)
+    let row = Row {
+        waits: 1,
+        ns: question[0],
+        definition: question[1],
+        from: question[2],
+        prefix: question[3],
+        options: question[4],
+        fuel: question[5],
+        limit: question[6],
+    };
+    with_row(windows, window, row)
 }
 
 /// The question of a window.
-pub fn asked_by(state: [u32; 65], window: usize) -> Question
+pub fn asked_by(windows: Windows, window: usize) -> Question
     requires { ⌜ window < 8 ⌝ }
-    ensures { λ r. ⌜ r ≡ askedBy state window ⌝ }
+    ensures { λ r. ⌜ r ≡ askedBy (wordsOf windows) window ⌝ }
 {
-    let from = 1 + StateWords::ROW * window + 1;
-    question_of(&state[from..])
+    let row = windows.rows[window];
+    let query = Query {
+        ns: row.ns as usize,
+        definition: row.definition as usize,
+        from: row.from as usize,
+        prefix: row.prefix as usize,
+        options: row.options as usize,
+        limit: row.limit as usize,
+    };
+    Question {
+        query,
+        fuel: row.fuel as usize,
+    }
 }
 
 /// The state after a window was served: its question waits no more, and the next turn counts from the window after it.
-pub fn after_serving(state: [u32; 65], window: usize) -> [u32; 65]
+pub fn after_serving(windows: Windows, window: usize) -> Windows
     requires { ⌜ window < 8 ⌝ }
-    ensures { λ r. ⌜ r ≡ afterServing state window ⌝ }
+    ensures { λ r. ⌜ wordsOf r ≡ afterServing (wordsOf windows) window ⌝ }
 {
-    let row = [0u32; 8];
-    let mut s = with_row(state, window, row);
-    s[0] = ((window + 1) % WindowCount::LIMIT) as u32;
-    s
+    let row = empty_row();
+    let mut served = with_row(windows, window, row);
+    served.next = ((window + 1) % WindowCount::LIMIT) as u32;
+    served
 }

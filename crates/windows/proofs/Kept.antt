@@ -10,21 +10,13 @@ use lib.ListN.{length, getD, take, drop, replicate, length-append, length-take, 
 use lib.Seq.{length-take-le, getD-take, getD-drop, getD-append-add, getD-set-same, getD-set-other, ext-getD}
 use Rattle.find_path.specs.declared.Question.{Question}
 use Rattle.window_state.specs.States.{rowOf, withRow, waits, askedBy, waiting, placeFault, placedUnless, afterPlace, served, afterServing, afterTurn}
-use Rattle.window_state.proofs.Laws.{fault-room, fault-free, served-bound}
+use Rattle.window_state.proofs.Laws.{front-length, with-length, fault-room, fault-free, served-bound}
 
 -- other words for a window
 
 module _ (S : List ℕ) (v : ℕ) (r : List ℕ) (l : length S ≡ 65) (h : v < 8) (m : length r ≡ 8) where
   front : length (take (1 + 8 * v) S) ≡ 1 + 8 * v
-  front = length-take-le (1 + 8 * v) S (omega (arith, l))
-
-  pub with-length : length (withRow S v r) ≡ 65
-  unfolding withRow
-  with-length =
-      let a : length (withRow S v r) ≡ length (take (1 + 8 * v) S) + length (r ++ drop (1 + 8 * v + 8) S) =
-      length-append (take (1 + 8 * v) S) (r ++ drop (1 + 8 * v + 8) S) in
-      let b : length (r ++ drop (1 + 8 * v + 8) S) ≡ length r + length (drop (1 + 8 * v + 8) S) = length-append r (drop (1 + 8 * v + 8) S) in
-      omega (arith, a, b, front, m, l, h, length-drop (1 + 8 * v + 8) S)
+  front = front-length S v r l h m
 
   pub with-before : (j : ℕ) → j < 1 + 8 * v → getD (withRow S v r) j 0 ≡ getD S j 0
   unfolding withRow

@@ -26,9 +26,9 @@ module _ (S : List ℕ) (w : ℕ) (q : Question) (n : ℕ) (e : n ≡ placeFault
   unfolding afterPlace
   placed-not h = record { number = e; state = kept-unless S w q n h ∙ ap (placedUnless S w q) e }
 
-  pub placed-so : n ≡ 0 → (T : List ℕ) → T ≡ withRow S w (waiting q) → Placed S w q T 0
+  pub placed-so : n ≡ 0 → (T : List ℕ) → T ≡ withRow S w (waiting q) → Placed S w q T n
   unfolding afterPlace placedUnless
-  placed-so h T t = record { number = sym h ∙ e; state = t ∙ ap (placedUnless S w q) (sym h ∙ e) }
+  placed-so h T t = record { number = e; state = t ∙ ap (placedUnless S w q) (sym h ∙ e) }
 
 -- a turn
 

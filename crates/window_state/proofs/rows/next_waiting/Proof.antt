@@ -2,23 +2,22 @@ use Prim.Native.Nat.{_≤_, _<_}
 use mathlib.Core.Path.{_≡_, sym, _∙_}
 use native.Mathlib.Omega.{arith}
 use Rattle.window_state.specs.States.{firstFrom, served}
+use Rattle.window_state.specs.Words.{wordsOf}
 use Rattle.window_state.proofs.Laws.{served-start, first-here, first-next, first-none}
 use Rattle.window_state.proofs.rows.next_waiting.Statement.{statement}
 use Rattle.window_state.proofs.rows.next_waiting.Tie as tie
 
 abbrev Inv-loop : tie.InvT-loop
-Inv-loop state window₀ left₀ window left = (window < 8) × (left ≤ 8) × (served state ≡ firstFrom state window left)
+Inv-loop windows window₀ left₀ window left = (window < 8) × (left ≤ 8) × (served (wordsOf windows) ≡ firstFrom (wordsOf windows) window left)
 
 abbrev μ-loop : tie.MeasureT-loop
-μ-loop state window₀ left₀ window left = left
-
-array-read-window : tie.Need-array-read-window Inv-loop μ-loop
-array-read-window c = omega arith
+μ-loop windows window₀ left₀ window left = left
 
 cast-window : tie.Need-cast-window Inv-loop μ-loop
 cast-window c = omega arith
 
 loop-holds : tie.Need-loop-holds Inv-loop μ-loop
+unfolding wordsOf
 loop-holds c = (omega arith, omega arith, served-start _)
 
 waits-requires : tie.Need-waits-requires Inv-loop μ-loop
@@ -56,7 +55,6 @@ next-waiting-spec =
     (tie.spec
     Inv-loop
     μ-loop
-    array-read-window
     cast-window
     loop-holds
     waits-requires

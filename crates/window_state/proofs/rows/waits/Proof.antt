@@ -1,24 +1,20 @@
+use native.Mathlib.Omega.{arith}
+use Rattle.window_state.proofs.StateWords.{rows-eight, word-waits}
 use borrow.Author.Needs.{needs}
-use mathlib.Core.Path.{refl}
-use Rattle.window_state.specs.States.{waits}
 use Rattle.window_state.proofs.rows.waits.Statement.{statement}
 use Rattle.window_state.proofs.rows.waits.Tie as tie
 
-mul-at : tie.Need-mul-at
-mul-at c = search needs
+mul-row : tie.Need-mul-row
+mul-row c = search needs
 
-add-at : tie.Need-add-at
-add-at c = search needs
-
-mul-result : tie.Need-mul-result
-mul-result c = search needs
-
-array-read-result : tie.Need-array-read-result
-array-read-result c = search needs
+element-copy-out-row : tie.Need-element-copy-out-row
+element-copy-out-row c = search needs
 
 returns : tie.Need-returns
-unfolding waits
-returns c = refl
+returns c =
+    let s = c .before .before .args in
+    let l = rows-eight (s .t1) _ (c .before .before .good .0) in
+    word-waits (s .t1) (s .window) _ (omega (arith, l))
 
 pub waits-spec : {M : Type 1} → statement M
-waits-spec = tie.close (tie.spec mul-at add-at mul-result array-read-result returns)
+waits-spec = tie.close (tie.spec mul-row element-copy-out-row returns)

@@ -1,73 +1,20 @@
-use Prim.Native.Nat.{_+_, _-_, _*_, _≤_}
-use mathlib.Core.Path.{_≡_, _∙_}
 use native.Mathlib.Omega.{arith}
-use lib.ListN.{length, length-set}
-use lib.Seq.{paste, paste-zero}
-use Rattle.window_state.proofs.Laws.{row-next, row-done}
+use Rattle.window_state.specs.Words.{emptyRow}
+use Rattle.window_state.proofs.StateWords.{rows-eight, words-put}
+use borrow.Author.Needs.{needs}
 use Rattle.window_state.proofs.rows.with_row.Statement.{statement}
 use Rattle.window_state.proofs.rows.with_row.Tie as tie
 
-abbrev Inv-loop : tie.InvT-loop
-Inv-loop window state₀ row at i₀ state i = (i ≤ 8) × (length state ≡ 65) × (state ≡ paste state₀ at row i)
+mul-row : tie.Need-mul-row
+mul-row c = search needs
 
-abbrev μ-loop : tie.MeasureT-loop
-μ-loop window state₀ row at i₀ state i = 8 - i
+element-set-from-row : tie.Need-element-set-from-row
+element-set-from-row c = search needs
 
-mul-at : tie.Need-mul-at Inv-loop μ-loop
-mul-at c = omega arith
-
-add-at : tie.Need-add-at Inv-loop μ-loop
-add-at c = omega arith
-
-loop-holds : tie.Need-loop-holds Inv-loop μ-loop
-loop-holds c = (omega arith, c .good .0 .1 .0 .1, paste-zero (c .args .t1) (1 + 8 * c .args .window) (c .args .t3))
-
-mul-state : tie.Need-mul-state Inv-loop μ-loop
-mul-state c = omega arith
-
-array-read-state : tie.Need-array-read-state Inv-loop μ-loop
-array-read-state c = omega arith
-
-add-state : tie.Need-add-state Inv-loop μ-loop
-add-state c = omega arith
-
-mul-state-2 : tie.Need-mul-state-2 Inv-loop μ-loop
-mul-state-2 c = omega arith
-
-array-write-state : tie.Need-array-write-state Inv-loop μ-loop
-array-write-state c = omega arith
-
-add-i : tie.Need-add-i Inv-loop μ-loop
-add-i c = omega arith
-
-loop-less : tie.Need-loop-less Inv-loop μ-loop
-loop-less c = omega arith
-
-loop-again : tie.Need-loop-again Inv-loop μ-loop
-loop-again c =
-    let l = c .before .loop in
-    (omega arith, (simp length-set) ∙ l .inv .1, row-next _ (l .state) _ _ (l .i) (l .inv .2) (omega arith) (omega arith))
-
-returns : tie.Need-returns Inv-loop μ-loop
+returns : tie.Need-returns
 returns c =
-    let l = c .before .loop in
-    row-done _ (l .state) _ _ (l .i) (l .inv .2) (l .inv .0) (c .loop-test .left) (c .before .before .good .1 .1 .0 .1 .0 .1)
+    let l = rows-eight (c .args .t1) _ (c .good .0) in
+    words-put (c .args .t1) (c .args .window) emptyRow (omega (arith, l)) (c .args .row)
 
 pub with-row-spec : {M : Type 1} → statement M
-with-row-spec =
-    tie.close
-    (tie.spec
-    Inv-loop
-    μ-loop
-    mul-at
-    add-at
-    loop-holds
-    mul-state
-    array-read-state
-    add-state
-    mul-state-2
-    array-write-state
-    add-i
-    loop-less
-    loop-again
-    returns)
+with-row-spec = tie.close (tie.spec mul-row element-set-from-row returns)

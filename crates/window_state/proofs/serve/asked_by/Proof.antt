@@ -1,47 +1,54 @@
+use native.Mathlib.Omega.{arith}
+use Rattle.window_state.proofs.StateWords.{rows-eight, word-asked}
 use borrow.Author.Needs.{needs}
-use Rattle.window_state.proofs.Laws.{asked-part}
 use Rattle.window_state.proofs.serve.asked_by.Statement.{statement}
 use Rattle.window_state.proofs.serve.asked_by.Tie as tie
 
-mul-from : tie.Need-mul-from
-mul-from c = search needs
+mul-row : tie.Need-mul-row
+mul-row c = search needs
 
-add-from : tie.Need-add-from
-add-from c = search needs
+element-copy-out-row : tie.Need-element-copy-out-row
+element-copy-out-row c = search needs
 
-add-from-2 : tie.Need-add-from-2
-add-from-2 c = search needs
+cast-t6 : tie.Need-cast-t6
+cast-t6 c = search needs
 
-mul-question-of : tie.Need-mul-question-of
-mul-question-of c = search needs
+cast-t10 : tie.Need-cast-t10
+cast-t10 c = search needs
 
-sub-question-of : tie.Need-sub-question-of
-sub-question-of c = search needs
+cast-t11 : tie.Need-cast-t11
+cast-t11 c = search needs
 
-part-question-of-start : tie.Need-part-question-of-start
-part-question-of-start c = search needs
+cast-t12 : tie.Need-cast-t12
+cast-t12 c = search needs
 
-part-question-of-end : tie.Need-part-question-of-end
-part-question-of-end c = search needs
+cast-t13 : tie.Need-cast-t13
+cast-t13 c = search needs
 
-question-of-requires : tie.Need-question-of-requires
-question-of-requires c κs = search needs
+cast-t14 : tie.Need-cast-t14
+cast-t14 c = search needs
+
+cast-t6-2 : tie.Need-cast-t6-2
+cast-t6-2 c = search needs
 
 returns : tie.Need-returns
 returns c =
-    let s = c .before .before .before in
-    asked-part _ (s .args .window) _ (s .good .0 .1 .0 .1) (c .question-of .ensures)
+    let o = c .before .before .before .before .before .before .before .before in
+    let s = o .args in
+    let l = rows-eight (s .t1) _ (o .good .0) in
+    word-asked (s .t1) (s .window) _ (omega (arith, l, o .pre))
 
 pub asked-by-spec : {M : Type 1} → statement M
 asked-by-spec =
     tie.close
     (tie.spec
-    mul-from
-    add-from
-    add-from-2
-    mul-question-of
-    sub-question-of
-    part-question-of-start
-    part-question-of-end
-    question-of-requires
+    mul-row
+    element-copy-out-row
+    cast-t6
+    cast-t10
+    cast-t11
+    cast-t12
+    cast-t13
+    cast-t14
+    cast-t6-2
     returns)

@@ -1,5 +1,6 @@
-use borrow.Author.Needs.{needs}
 use Rattle.window_state.specs.States.{waiting}
+use Rattle.window_state.specs.Words.{rowWords}
+use borrow.Author.Needs.{needs}
 use Rattle.window_state.proofs.serve.with_question.Statement.{statement}
 use Rattle.window_state.proofs.serve.with_question.Tie as tie
 
@@ -28,7 +29,7 @@ with-row-requires : tie.Need-with-row-requires
 with-row-requires c κs = search needs
 
 returns : tie.Need-returns
-unfolding waiting
+unfolding waiting rowWords
 returns c = c .with-row .ensures
 
 pub with-question-spec : {M : Type 1} → statement M
