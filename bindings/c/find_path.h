@@ -36,7 +36,7 @@ enum kelumavor_refusal {
     KELUMAVOR_REFUSED_SMALL_WORK_AREA = 20,
     KELUMAVOR_REFUSED_TOO_MUCH_FUEL = 21,
     KELUMAVOR_REFUSED_OUT_OF_RANGE = 22,       /* the namespace, the prefix or the options of a question */
-    KELUMAVOR_REFUSED_NO_SUCH_ITEM = 23,       /* no such definition, or no such module */
+    KELUMAVOR_REFUSED_NO_SUCH_ITEM = 23,       /* no such definition, module or crate */
     KELUMAVOR_REFUSED_NO_MACRO = 24,           /* the macros namespace, with a definition that is no macro */
     KELUMAVOR_REFUSED_TOO_MANY_WORDS = 30,
     KELUMAVOR_REFUSED_WRONG_KIND = 31,         /* an unknown or falling kind, an argument that is missing or has a kind */
@@ -47,6 +47,7 @@ enum kelumavor_refusal {
     KELUMAVOR_REFUSED_TOO_MANY_RECORDS = 36,
     KELUMAVOR_REFUSED_UNKNOWN_EDITION = 43,
     KELUMAVOR_REFUSED_BATCH_TOO_LONG = 44,     /* too many questions, a part of one, or too few words for the reports */
+    KELUMAVOR_REFUSED_TARGET_TOO_SHORT = 45,   /* fewer words than an import list has */
     KELUMAVOR_REFUSED_LIMIT_OUT_OF_RANGE = 46,
     KELUMAVOR_REFUSED_ENTRY_THERE_OR_NOT = 47, /* an added name that is there already, or a removal of one that isn't */
     KELUMAVOR_REFUSED_NO_ROOM = 48,
@@ -225,6 +226,18 @@ size_t kelumavor_add_entry(uint32_t *words, size_t words_len, size_t *count, uin
  * count falls. Answers as kelumavor_add_entry does, with 47 for a name that is not there. */
 size_t kelumavor_remove_entry(uint32_t *words, size_t words_len, size_t *count, uint32_t *area, size_t area_len, size_t module,
                               size_t name_space, size_t name);
+
+/* Words of an import record: its head, 0xA0000000 and the crate; namespace, definition, name, module that holds it, bits (1 hidden plus
+ * 2 unstable). */
+#define KELUMAVOR_IMPORT_WORDS 6
+
+/* Writes the import records of a crate, built from the scope entries and members of a snapshot, to the target: those that rust-analyzer
+ * adds for it, in that order. What stands past them stays; count becomes their number of words, at most 6 for each entry and member
+ * met. Answers 0, or the number by which the call is refused, with the target unchanged and count 0: 20 for an area of fewer than 16,384
+ * words; 30 to 36 and 43 for the snapshot; 23 for an unknown crate; 45 for a target that is too short. The area is left as by
+ * kelumavor_find_path. */
+size_t kelumavor_import_list(const uint32_t *words, size_t words_len, uint32_t *area, size_t area_len, size_t crate, uint32_t *target,
+                             size_t target_len, size_t *count);
 
 #ifdef __cplusplus
 }

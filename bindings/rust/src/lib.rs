@@ -37,6 +37,7 @@
 
 mod edits;
 mod ids;
+mod imports;
 mod path;
 mod question;
 mod refusal;
@@ -50,6 +51,7 @@ mod words;
 
 pub use edits::{EditedWords, Entry};
 pub use ids::{CrateId, DefinitionId, MapId, ModuleId, NameId, Namespace};
+pub use imports::{Import, ImportList, with_import_lists};
 pub use path::{Names, Path, PathKind};
 pub use question::{Options, Prefix, Question};
 pub use refusal::{Refusal, RefusalKind};

@@ -39,6 +39,8 @@ pub enum RefusalKind {
     UnknownEdition = 43,
     /// 44, by a call of the library with several questions; `Snapshot::find_paths` takes any number of them
     BatchTooLong = 44,
+    /// 45, by a target of the library's; [`Snapshot::import_list`](crate::Snapshot::import_list) makes one that is long enough
+    TargetTooShort = 45,
     /// 46
     LimitOutOfRange = 46,
     /// 47, by an edit of [`EditedWords`](crate::EditedWords)
@@ -52,7 +54,7 @@ pub enum RefusalKind {
 }
 
 impl RefusalKind {
-    const ALL: [RefusalKind; 22] = [
+    const ALL: [RefusalKind; 23] = [
         Self::SmallWorkArea,
         Self::TooMuchFuel,
         Self::OutOfRange,
@@ -70,6 +72,7 @@ impl RefusalKind {
         Self::WordsOutsideQuestion,
         Self::UnknownEdition,
         Self::BatchTooLong,
+        Self::TargetTooShort,
         Self::LimitOutOfRange,
         Self::EntryThereOrNot,
         Self::NoRoom,
@@ -94,7 +97,7 @@ impl fmt::Display for RefusalKind {
             Self::SmallWorkArea => "the work area has fewer than 16,384 words",
             Self::TooMuchFuel => "the fuel is above 10,000",
             Self::OutOfRange => "the namespace, the prefix or the options are outside their range",
-            Self::NoSuchItem => "the snapshot has no such definition or module",
+            Self::NoSuchItem => "the snapshot has no such definition, module or crate",
             Self::NoMacro => "the macros namespace is asked for a definition that is no macro",
             Self::TooManyWords => "more than 16,384 words",
             Self::WrongKind => "an unknown or falling kind, or an argument that is missing or has a kind",
@@ -108,6 +111,7 @@ impl fmt::Display for RefusalKind {
             Self::WordsOutsideQuestion => "a word after the snapshot that is in no whole question",
             Self::UnknownEdition => "an edition other than 2015, 2018, 2021 and 2024",
             Self::BatchTooLong => "more than 64 questions, a part of one, or too few words for their reports",
+            Self::TargetTooShort => "a target with fewer words than the import list has",
             Self::LimitOutOfRange => "the limit is outside 1 to 15",
             Self::EntryThereOrNot => "an added name that is there already, or a removal of one that isn't",
             Self::NoRoom => "an addition that would pass 16,384 words or the lent slice",

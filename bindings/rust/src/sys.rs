@@ -19,6 +19,9 @@ pub const WINDOWS: usize = 8;
 /// Words of the windows' state.
 pub const STATE: usize = 1 + WINDOWS * (1 + QUESTION);
 
+/// Words of an import record.
+pub const IMPORT: usize = 6;
+
 /// Words of an entry of a scope.
 pub const ENTRY: usize = 8;
 
@@ -105,6 +108,17 @@ mod raw {
             module: usize,
             namespace: usize,
             name: usize,
+        ) -> usize;
+
+        pub fn kelumavor_import_list(
+            words: *const u32,
+            words_len: usize,
+            area: *mut u32,
+            area_len: usize,
+            krate: usize,
+            target: *mut u32,
+            target_len: usize,
+            count: *mut usize,
         ) -> usize;
     }
 }
@@ -212,4 +226,23 @@ pub fn remove_entry(words: &mut [u32], count: &mut usize, area: &mut [u32], key:
             name,
         )
     }
+}
+
+/// The number of words written, or that of the refusal.
+pub fn import_list(words: &[u32], area: &mut [u32], krate: usize, target: &mut [u32]) -> Result<usize, usize> {
+    let mut count = 0;
+    // SAFETY: as in `check`.
+    let refusal = unsafe {
+        raw::kelumavor_import_list(
+            words.as_ptr(),
+            words.len(),
+            area.as_mut_ptr(),
+            area.len(),
+            krate,
+            target.as_mut_ptr(),
+            target.len(),
+            &mut count,
+        )
+    };
+    if refusal == 0 { Ok(count) } else { Err(refusal) }
 }

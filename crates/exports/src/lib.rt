@@ -7,6 +7,7 @@ ghost use Rattle.exports.specs.Answers.{Answered};
 ghost use Rattle.exports.specs.Questions.{Reported};
 ghost use Rattle.exports.specs.Texts.{nameText, Copied, Named, nameRaw, RawNamed};
 ghost use Rattle.exports.specs.Turns.{Served};
+ghost use Rattle.imports.specs.Listings.{ListsIn};
 ghost use Rattle.questions.specs.Questions.{questionOf};
 ghost use Rattle.scope_edits.specs.Edits.{adding, removing};
 ghost use Rattle.scope_edits.specs.Entries.{entryOf};
@@ -26,8 +27,10 @@ use answer::report::write_report;
 use batch::batch::find_paths;
 use edits::edits::add_entry;
 use edits::edits::remove_entry;
+use imports::list::import_list;
 use keywords::is_raw;
 use questions::question::question_of;
+use snapshot::ids::Crate;
 use snapshot::ids::Name;
 use snapshot::table::name_head;
 use snapshot::text::text_at;
@@ -221,6 +224,23 @@ pub extern "C" fn kelumavor_remove_entry(
     ensures { λ r. ⌜ EditsIn (now (words .entry)) (now (count .entry)) (now (area .entry)) (removing owner ns name) (now (words .exit)) (now (area .exit)) (record { number = r; count = now (count .exit) }) ⌝ }
 {
     let r = remove_entry(words, *count, area, owner, ns, name);
+    *count = r.count;
+    r.number
+}
+
+/// Writes the import records of a crate, built from the maps, to the target, and their number of words to the count; what stands past
+/// them stays. Answers 0, or the number by which the call is refused, with the target unchanged and a count of 0.
+#[no_mangle]
+pub extern "C" fn kelumavor_import_list(
+    words: &[u32],
+    area: &mut [u32],
+    krate: usize,
+    target: &mut [u32],
+    count: &mut usize,
+) -> usize
+    ensures { λ r. ⌜ ListsIn (now (words .entry)) (now (area .entry)) krate (now (target .entry)) (now (target .exit)) (now (area .exit)) (record { number = r; count = now (count .exit) }) ⌝ }
+{
+    let r = import_list(words, area, Crate(krate), target);
     *count = r.count;
     r.number
 }
