@@ -10,3 +10,4 @@ pub mod Walked
 pub mod Shifted
 pub mod Numbers
 pub mod Edited
+pub mod Written

@@ -224,10 +224,10 @@ module _ (m : ℕ → ℕ) (k : ℕ) (s t : Snapshot) (ys : List Scope) where
 pub arguments-are : (W : List ℕ) (a k : ℕ) → kindOf (getD W a 0) ≡ k → argumentsAt W a ≡ argumentsOf k (payOf (getD W a 0))
 arguments-are W a k e = ap (λ x. argumentsOf x (payOf (getD W a 0))) e
 
-above : (m k : ℕ) → m ≤ k → eqb k m ≡ false → suc m ≤ k
+pub above : (m k : ℕ) → m ≤ k → eqb k m ≡ false → suc m ≤ k
 above m k h e = let n = eqb-false k m e in omega arith
 
-equal : (k m : ℕ) → k ≤ m → m ≤ k → k ≡ m
+pub equal : (k m : ℕ) → k ≤ m → m ≤ k → k ≡ m
 equal k m h g = omega arith
 
 -- A record that is no scope: its step keeps the scopes, and is taken as well at another place, after other scopes.
