@@ -77,7 +77,8 @@ enum kelumavor_checked {
 
 /* Checks a snapshot, and answers the number of the refusal as well. For accepted words the first words of the area, one for each
  * name, are the tables of kelumavor_name. The functions below that take an area clear them: who reads names later copies them first.
- * Nothing is said of the rest of the area, nor of all of it for refused words. */
+ * Of the other words up to the 16,384th nothing is said then; those past them stay. After a refusal the area is left as by
+ * kelumavor_find_path. */
 size_t kelumavor_check(const uint32_t *words, size_t words_len, uint32_t *area, size_t area_len,
                        size_t answer[KELUMAVOR_CHECKED]);
 

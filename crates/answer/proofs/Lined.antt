@@ -13,25 +13,25 @@ use Rattle.find_path.specs.declared.Question.{Question}
 use Rattle.find_path.specs.declared.Report.{Report}
 use Rattle.find_path.specs.Report.{refused, reportOf}
 use Rattle.find_path.specs.Line.{bytesOf, lineIn, lineOf, snapshotOf}
-use Rattle.answer.specs.Answers.{zeros, Answers}
-use Rattle.answer.specs.Lined.{endedLine, areaLined, Lined}
+use Rattle.answer.specs.Answers.{zeros, areaAfter, Answers}
+use Rattle.answer.specs.Lined.{endedLine, Lined}
 use Rattle.answer.proofs.Areas.{answers-small, answers-large}
 
 module _ (W A : List ℕ) (q : Question) (old : List ℕ) where
-  pub lined-none : length old < 4166 → Lined W A q old A old 0
-  unfolding endedLine areaLined
-  lined-none h =
+  pub lined-none : (B : List ℕ) → length old < 4166 → B ≡ areaAfter A → Lined W A q old B old 0
+  unfolding endedLine
+  lined-none B h e =
       record {
         count = sym (rw (endedLine, lt-ltb _ _ h));
         bytes = sym (rw (endedLine, lt-ltb _ _ h));
-        area = sym (rw (areaLined, lt-ltb _ _ h));
+        area = e;
       }
 
   module _ (room : 4166 ≤ length old) (new : List ℕ) (n : ℕ) where
     -- the line of a report that is the answer's
     lined : (B : List ℕ) (r : Report) → Answers W A q B r → Put old 0 (lineIn (snapshotOf (verdict W)) (q .query .from) r ++ bytesOf "\n") new n
         → Lined W A q old B new n
-    unfolding endedLine areaLined
+    unfolding endedLine
     lined B r a p =
         let e : lineIn (snapshotOf (verdict W)) (q .query .from) r ++ bytesOf "\n" ≡ endedLine W (length A) q (length old) =
         ap (λ x. lineIn (snapshotOf (verdict W)) (q .query .from) x ++ bytesOf "\n") (a .report) ∙ sym (rw (endedLine, le-ltb _ _ room)) in
@@ -40,7 +40,7 @@ module _ (W A : List ℕ) (q : Question) (old : List ℕ) where
         record {
           count = omega (arith, c);
           bytes = put-whole t;
-          area = a .area ∙ sym (rw (areaLined, le-ltb _ _ room));
+          area = a .area;
         }
 
     pub lined-small : length A < 16384 → ((s : Snapshot) (from : ℕ) → Put old 0 (lineIn s from (refused 20) ++ bytesOf "\n") new n) → Lined W A q old A new n

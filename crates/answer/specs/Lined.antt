@@ -16,11 +16,8 @@ unfoldable pub endedLine : List ℕ → ℕ → Question → ℕ → List ℕ
 endedLine W area q room =
     elim (ltb room 4166) [ true ↦ [] | false ↦ lineIn (snapshotOf (verdict W)) (q .query .from) (reportOf W area q) ++ bytesOf "\n" ]
 
-unfoldable pub areaLined : List ℕ → ℕ → List ℕ
-areaLined A room = elim (ltb room 4166) [ true ↦ A | false ↦ areaAfter A ]
-
 -- W are the words; A₀ and old the work area and the bytes before the call, A and new those after it; n is what it answers
 pub record Lined (W A₀ : List ℕ) (q : Question) (old A new : List ℕ) (n : ℕ) : Type 0 where
   pub count : n ≡ length (endedLine W (length A₀) q (length old))
   pub bytes : new ≡ endedLine W (length A₀) q (length old) ++ drop n old
-  pub area : A ≡ areaLined A₀ (length old)
+  pub area : A ≡ areaAfter A₀

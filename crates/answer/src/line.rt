@@ -8,6 +8,7 @@ ghost use Rattle.find_path.specs.Line.{bytesOf, lineOf};
 ghost use Rattle.answer.specs.Answers.{zeros};
 ghost use Rattle.answer.specs.Lined.{Lined};
 use crate::area::clear;
+use crate::area::clear_front;
 use accept::check::check;
 pub use checked::lines::LineBytes;
 use checked::lines::line_on;
@@ -28,11 +29,12 @@ fn line_within(words: &[u32], area: &mut [u32], question: Question, out: &mut [u
 }
 
 /// Puts the line of a question on the words of a snapshot at the front, with its end (byte 10), and answers how many bytes these
-/// are. The work area is left as `find_path` leaves it. With fewer than `LineBytes::LIMIT` bytes it answers 0 and changes nothing.
+/// are. The work area is left as `find_path` leaves it. With fewer than `LineBytes::LIMIT` bytes it answers 0 and puts nothing.
 pub fn find_line(words: &[u32], area: &mut [u32], question: Question, out: &mut [u8]) -> usize
     ensures { λ n. ⌜ Lined (now (words .entry)) (now (area .entry)) question (now (out .entry)) (now (area .exit)) (now (out .exit)) n ⌝ }
 {
     if out.len() < LineBytes::LIMIT {
+        clear_front(area);
         return 0;
     }
     if area.len() < WordCount::AREA {

@@ -1,9 +1,10 @@
 -- The check's answer as numbers.
-use Prim.Native.Nat.{ℕ}
+use Prim.Native.Nat.{ℕ, _<_}
 use mathlib.Core.Path.{_≡_, sym, _∙_, ap, subst}
 use mathlib.Core.List.{List, [], _∷_}
 use lib.Dec.{ltb}
-use lib.ListN.{length}
+use lib.ListN.{length, drop}
+use borrow.Author.Tests.{ltb-true}
 use Rattle.snapshot.specs.Limits.{areaLimit}
 use Rattle.snapshot.specs.Records.{Snapshot}
 use Rattle.snapshot.specs.Layouts.{snapOf}
@@ -14,6 +15,7 @@ use Rattle.accept.specs.Post.{Checks, checkOf}
 use Rattle.accept.specs.declared.check.Checked.{Checked}
 use Rattle.accept.specs.declared.check.Checked.the-variants.{Refused, Accepted}
 use Rattle.accept.proofs.Accepted.{by-test}
+use Rattle.answer.specs.Answers.{areaAfter}
 use Rattle.exports.specs.Answers.{numberOf, answerOf, Answered}
 
 IsRefused : Verdict → Type 0
@@ -62,16 +64,25 @@ counted l =
 counted-same : (W A : List ℕ) (l : Layout) → counted l ≡ answerOf (accept (snapOf W A l))
 counted-same W A l = simp length-rows
 
+-- an area that was used is cleared as before its use
+area-used : (A₀ A : List ℕ) → length A ≡ length A₀ → drop 16384 A ≡ drop 16384 A₀ → (length A₀ < 16384 → A ≡ A₀) → areaAfter A ≡ areaAfter A₀
+unfolding areaAfter
+area-used A₀ A n d u =
+    by-test (ltb (length A₀) 16384)
+    (λ t. ap areaAfter (u (ltb-true (length A₀) 16384 t)))
+    (λ t. rw (areaAfter, n, t, d))
+
 module _ (W A₀ A : List ℕ) (r : Checked) (k : Checks W A₀ A r) where
-  pub answered-refused : (n at : ℕ) → r ≡ Refused n at → Answered W A₀ A (n ∷ at ∷ 0 ∷ 0 ∷ 0 ∷ 0 ∷ 0 ∷ 0 ∷ 0 ∷ 0 ∷ 0 ∷ 0 ∷ 0 ∷ 0 ∷ []) n
-  answered-refused n at e =
+  pub answered-refused : (B : List ℕ) → length A ≡ length A₀ → B ≡ areaAfter A → (n at : ℕ) → r ≡ Refused n at
+      → Answered W A₀ B (n ∷ at ∷ 0 ∷ 0 ∷ 0 ∷ 0 ∷ 0 ∷ 0 ∷ 0 ∷ 0 ∷ 0 ∷ 0 ∷ 0 ∷ 0 ∷ []) n
+  answered-refused B l c n at e =
       let q : Checks W A₀ A (Refused n at) = subst (Checks W A₀ A) e k in
       record {
         same = ap answerOf (q .same);
         number = ap numberOf (q .same);
         tables = λ s h. absurd (apart n at s (q .same ∙ h));
-        rest = q .rest;
-        untouched = q .untouched;
+        rest = λ s h. absurd (apart n at s (q .same ∙ h));
+        cleared = λ m p h. c ∙ area-used A₀ A l (q .rest) (q .untouched);
       }
 
   pub answered-accepted : (l : Layout) → r ≡ Accepted l
@@ -86,6 +97,6 @@ module _ (W A₀ A : List ℕ) (r : Checked) (k : Checks W A₀ A r) where
           record { same = judged (length A₀) W (snapOf W A l) (sym (q .same)); tables = q .tables },
           same-snapshot (snapOf W A l) s (q .same ∙ h),
         );
-        rest = q .rest;
-        untouched = q .untouched;
+        rest = λ s h. q .rest;
+        cleared = λ m p h. absurd (apart m p (snapOf W A l) (sym h ∙ sym (q .same)));
       }

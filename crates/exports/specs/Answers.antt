@@ -1,5 +1,5 @@
 -- The answer of the check, as numbers.
-use Prim.Native.Nat.{ℕ, _<_}
+use Prim.Native.Nat.{ℕ}
 use mathlib.Core.Path.{_≡_}
 use mathlib.Core.List.{List, [], _∷_}
 use lib.ListN.{length, drop}
@@ -8,6 +8,7 @@ use Rattle.snapshot.specs.Layouts.{snapOf}
 use Rattle.snapshot.specs.declared.layout.Layout.{Layout}
 use Rattle.accept.specs.Verdict.{Verdict, refuse, accept}
 use Rattle.accept.specs.Post.{Reads, checkOf}
+use Rattle.answer.specs.Answers.{areaAfter}
 
 -- the number of the refusal, 0 for none
 abbrev pub numberOf : Verdict → ℕ
@@ -34,11 +35,11 @@ answerOf (accept s) =
     ∷ length (s .members)
     ∷ []
 
--- the numbers are those of the check's definition; accepted words can be read by the tables; the area past its first 16,384 words
--- stays, all of it where it is too small
+-- the numbers are those of the check's definition; accepted words can be read by the tables, and the area past its first 16,384 words stays;
+-- after a refusal the area is as after every other call
 pub record Answered (W A₀ A answer : List ℕ) (r : ℕ) : Type 0 where
   pub same : answer ≡ answerOf (checkOf (length A₀) W)
   pub number : r ≡ numberOf (checkOf (length A₀) W)
   pub tables : (s : Snapshot) → checkOf (length A₀) W ≡ accept s → (l : Layout) × Reads W A l × (snapOf W A l ≡ s)
-  pub rest : drop 16384 A ≡ drop 16384 A₀
-  pub untouched : length A₀ < 16384 → A ≡ A₀
+  pub rest : (s : Snapshot) → checkOf (length A₀) W ≡ accept s → drop 16384 A ≡ drop 16384 A₀
+  pub cleared : (n at : ℕ) → checkOf (length A₀) W ≡ refuse n at → A ≡ areaAfter A₀

@@ -23,6 +23,7 @@ use crate::text::held;
 use accept::check::Checked;
 use accept::check::check;
 use answer::answer::find_path;
+use answer::area::clear_front;
 use answer::report::write_report;
 use batch::batch::find_paths;
 use edits::edits::add_entry;
@@ -38,8 +39,8 @@ use snapshot::words::payload;
 use window_state::words::windows_of;
 use window_state::words::words_of;
 
-/// Checks a snapshot, and leaves the tables of accepted words in the work area. Answers the number of the refusal, 0 for none;
-/// writes that number, its place, and how many records of each kind there are.
+/// Checks a snapshot, and leaves the tables of accepted words in the work area; after a refusal the area is as after every other call. Answers
+/// the number of the refusal, 0 for none; writes that number, its place, and how many records of each kind there are.
 #[no_mangle]
 pub extern "C" fn kelumavor_check(
     words: &[u32],
@@ -51,6 +52,7 @@ pub extern "C" fn kelumavor_check(
     let c = check(words, area);
     match c {
         Checked::Refused(n, at) => {
+            clear_front(area);
             let number = n as usize;
             *answer = [number, at, 0, 0, 0, 0, 0, 0, 0, 0, 0, 0, 0, 0];
             number

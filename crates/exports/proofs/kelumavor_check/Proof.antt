@@ -1,5 +1,7 @@
 use borrow.Author.Needs.{needs}
+use mathlib.Core.Path.{_≡_}
 use denote.Ref.{now}
+use lib.ListN.{length}
 use Rattle.exports.proofs.Checking.{answered-refused, answered-accepted}
 use Rattle.exports.proofs.kelumavor_check.Statement.{statement}
 use Rattle.exports.proofs.kelumavor_check.Tie as tie
@@ -9,6 +11,9 @@ check-requires c κs = search needs
 
 enum-known-c : tie.Need-enum-known-c
 enum-known-c c = search needs
+
+clear-front-requires : tie.Need-clear-front-requires
+clear-front-requires c κs = search needs
 
 cast-number : tie.Need-cast-number
 cast-number c = search needs
@@ -21,10 +26,13 @@ same-length c = search needs
 
 returns : tie.Need-returns
 returns c =
-    let m = c .before .before in
+    let f = c .before .before .before in
+    let m = f .before .before .before in
     let k = m .before .before .before .before in
     let s = k .before .before .before .before in
-    answered-refused (now (s .args .words)) (now (s .args .area)) (k .check .last .1 .0) (k .check .result) (k .check .ensures) _ _ (m .c .given .1)
+    let n : length (k .check .last .1 .0) ≡ length (now (s .args .area)) = search needs in
+    answered-refused (now (s .args .words)) (now (s .args .area)) (k .check .last .1 .0) (k .check .result) (k .check .ensures) (f .clear-front .last .0) n
+    (f .clear-front .ensures) _ _ (m .c .given .1)
 
 same-length-2 : tie.Need-same-length-2
 same-length-2 c = search needs
@@ -42,6 +50,7 @@ kelumavor-check-spec =
     (tie.spec
     check-requires
     enum-known-c
+    clear-front-requires
     cast-number
     enum-known-c-2
     same-length
