@@ -1,7 +1,7 @@
 //! The text that is printed.
 ghost use mathlib.Core.Path.{_≡_};
 ghost use Prim.Native.Nat.{_≤_};
-ghost use lib.ListN.{length, take};
+ghost use lib.ListN.{length, take, drop};
 ghost use Rattle.io.specs.Counts.{Counts};
 ghost use Rattle.check_snapshot.specs.Verdict.{verdictOf};
 ghost use Rattle.check_snapshot.specs.Text.{textOf};
@@ -10,11 +10,11 @@ use accept::check::Checked;
 use wording::text::put_counts;
 use wording::text::put_refusal;
 
-/// Puts the text that answers for the bytes at the front, and answers its length.
+/// Puts the text that answers for the bytes at the front, and answers its length; the bytes past it stay.
 pub fn report(bytes: &[u8], words: &mut [u32], area: &mut [u32], out: &mut [u8]) -> usize
     requires { ⌜ (16384 ≤ length (now words)) × (16384 ≤ length (now area)) ⌝ }
     requires { ⌜ 512 ≤ length (now out) ⌝ }
-    ensures { λ r. ⌜ take r (now (out .exit)) ≡ textOf (verdictOf (now (bytes .entry))) ⌝ }
+    ensures { λ r. ⌜ (take r (now (out .exit)) ≡ textOf (verdictOf (now (bytes .entry)))) × (drop r (now (out .exit)) ≡ drop r (now (out .entry))) ⌝ }
     ensures { λ r. ⌜ Counts r (now (out .exit)) ⌝ }
 {
     let c = verdict(bytes, words, area);

@@ -156,13 +156,14 @@ refusal-counts k p = counts-of (p empty 0)
 module _ (W S : List ℕ) (c : Checked) (i : ℕ) (A out : List ℕ) where
   pub turn-refused : (old : List ℕ) (n : ℕ) (b r : Bool) → r ≡ reachAt W i → r ≡ false → b ≡ wholeAt W i → b ≡ false → Judged S A c
       → ((s : Snapshot) (from : ℕ) → Put old 0 (lineIn s from (refused 42) ++ bytesOf "\n") out n)
-      → Printed W S c i A out (record { bytes = n; next = length W })
+      → Printed W S c i A old out (record { bytes = n; next = length W })
   unfolding lineAt nextAt
   turn-refused old n b r g u e t j p =
       let f : wholeAt W i ≡ false = sym e ∙ t in
       let x : reachAt W i ≡ false = sym g ∙ u in
       let w = p empty 0 in
       record {
+        rest = w .rest;
         line = w .same ∙ sym (rw (lineAt, f, x));
         counts = counts-of w;
         next = sym (rw (nextAt, f, x));
@@ -173,22 +174,24 @@ module _ (W S : List ℕ) (c : Checked) (i : ℕ) (A out : List ℕ) where
     whole : wholeAt W i ≡ true
     whole = sym e ∙ t
 
-    pub turn-line : r ≡ false → LineOn S q c A old out n → Printed W S c i A out (record { bytes = n; next = i + 7 })
+    pub turn-line : r ≡ false → LineOn S q c A old out n → Printed W S c i A old out (record { bytes = n; next = i + 7 })
     unfolding lineAt nextAt
     turn-line u p =
         let k : asksRoute W i ≡ false = sym g ∙ u in
         record {
+          rest = p .line .rest;
           line = p .line .same ∙ ap (λ x. lineOf S x ++ bytesOf "\n") h ∙ sym (rw (lineAt, whole, k));
           counts = counts-of (p .line);
           next = sym (rw (nextAt, whole));
           checked = p .checked;
         }
 
-    pub turn-route : r ≡ true → RoutedOn S q c A old out n → Printed W S c i A out (record { bytes = n; next = i + 7 })
+    pub turn-route : r ≡ true → RoutedOn S q c A old out n → Printed W S c i A old out (record { bytes = n; next = i + 7 })
     unfolding lineAt nextAt
     turn-route u p =
         let k : asksRoute W i ≡ true = sym g ∙ u in
         record {
+          rest = p .line .rest;
           line = p .line .same ∙ ap (λ x. routedLineOf S x ++ bytesOf "\n") h ∙ sym (rw (lineAt, whole, k));
           counts = counts-of (p .line);
           next = sym (rw (nextAt, whole));
@@ -196,12 +199,13 @@ module _ (W S : List ℕ) (c : Checked) (i : ℕ) (A out : List ℕ) where
         }
 
   pub turn-reach : (old : List ℕ) (n : ℕ) (r : Bool) (v : Viewer) → r ≡ reachAt W i → r ≡ true → v ≡ viewerAt W i → ReachLineOn S v c A old out n
-      → Printed W S c i A out (record { bytes = n; next = i + 5 })
+      → Printed W S c i A old out (record { bytes = n; next = i + 5 })
   unfolding lineAt nextAt
   turn-reach old n r v e t h p =
       let x : reachAt W i ≡ true = sym e ∙ t in
       let f = reach-no-question W i x in
       record {
+        rest = p .line .rest;
         line = p .line .same ∙ ap (λ y. reachLine (reachOf S 16384 y) ++ bytesOf "\n") h ∙ sym (rw (lineAt, f, x));
         counts = counts-of (p .line);
         next = sym (rw (nextAt, f, x));

@@ -1,10 +1,10 @@
 -- The lines that are printed for an input.
-use Prim.Native.Nat.{ℕ, zero, suc, _+_, _/_, _%_}
+use Prim.Native.Nat.{ℕ, zero, suc, _+_, _/_, _%_, _≤_, _<_}
 use mathlib.Core.Path.{_≡_}
 use mathlib.Core.List.{List, [], _∷_, _++_}
 use mathlib.Core.Bool.{Bool, true, false, _&&_, _||_}
 use lib.Dec.{eqb, leb, ltb}
-use lib.ListN.{length, getD, take}
+use lib.ListN.{length, getD, take, drop}
 use Rattle.io.specs.Counts.{Counts}
 use Rattle.snapshot.specs.Limits.{areaLimit}
 use Rattle.snapshot.specs.Words.{kindOf, payOf}
@@ -118,10 +118,21 @@ linesUnless B (suc n) = refusalLine (suc n) ∷ []
 unfoldable pub printed : List ℕ → List (List ℕ)
 printed B = linesUnless B (inputFault B)
 
--- One turn of the printer: the line of a place stands at the front of the bytes, with its end, the next place is right, and
--- the snapshot stays checked.
-pub record Printed (W S : List ℕ) (c : Checked) (i : ℕ) (A out : List ℕ) (r : Turn) : Type 0 where
+-- One turn of the printer: the line of a place stands at the front of the bytes, with its end, those past it stay as they were in old, the
+-- next place is right, and the snapshot stays checked.
+pub record Printed (W S : List ℕ) (c : Checked) (i : ℕ) (A old out : List ℕ) (r : Turn) : Type 0 where
   pub line : take (r .bytes) out ≡ lineAt W S i ++ bytesOf "\n"
+  pub rest : drop (r .bytes) out ≡ drop (r .bytes) old
   pub counts : Counts (r .bytes) out
   pub next : r .next ≡ nextAt W i
   pub checked : Judged S A c
+
+-- Turns from a place to the end of the words, one after the other, with what each writes.
+pub data Turns (W S : List ℕ) (c : Checked) : ℕ → List (List ℕ) → Type 0 where
+  end : {i : ℕ} → length W ≤ i → Turns W S c i []
+  turn : {i : ℕ} {later : List (List ℕ)} (A old out : List ℕ) (r : Turn) → i < length W → Printed W S c i A old out r → Turns W S c (r .next) later
+      → Turns W S c i (take (r .bytes) out ∷ later)
+
+-- a line with its end
+abbrev pub ended : List ℕ → List ℕ
+ended l = l ++ bytesOf "\n"

@@ -21,7 +21,8 @@ pub struct Turn {
     pub next: usize,
 }
 
-/// The line of what stands at a place: of a whole question, with its route where that is asked for, of a reach, or the refusal of words that are none.
+/// The line of what stands at a place: of a whole question, with its route where that is asked for, of a reach, or the refusal of words that are none. It stands
+/// at the front of the bytes, and those past it stay.
 pub fn next_line(
     words: &[u32],
     snapshot: &[u32],
@@ -31,7 +32,7 @@ pub fn next_line(
     out: &mut [u8],
 ) -> Turn
     requires { ⌜ Judged (now snapshot) (now area) c × (length (now area) ≡ 16384) × (4659 ≤ length (now out)) × (at < length (now words)) × (length (now words) ≤ 16384) ⌝ }
-    ensures { λ r. ⌜ Printed (now (words .entry)) (now (snapshot .entry)) c at (now (area .exit)) (now (out .exit)) r ⌝ }
+    ensures { λ r. ⌜ Printed (now (words .entry)) (now (snapshot .entry)) c at (now (area .exit)) (now (out .entry)) (now (out .exit)) r ⌝ }
 {
     if is_reach(words, at) {
         let v = viewer_at(words, at);

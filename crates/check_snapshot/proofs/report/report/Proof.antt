@@ -38,7 +38,7 @@ returns c =
     let m = c .before .before .before .before .before in
     let v = m .before .before .before .before .before .before in
     let W = wordsOf (now (v .before .before .before .before .before .before .before .args .bytes)) in
-    (front p ∙ ap textOf (ap (outcome W _) (sym (m .c .given .1)) ∙ v .verdict .ensures), front-counts p)
+    ((front p ∙ ap textOf (ap (outcome W _) (sym (m .c .given .1)) ∙ v .verdict .ensures), p .rest), front-counts p)
 
 same-length-4 : tie.Need-same-length-4
 same-length-4 c = search needs
@@ -55,7 +55,7 @@ returns-2 c =
     let m = c .before .before .before .before .before in
     let v = m .before .before .before .before .before .before in
     let W = wordsOf (now (v .before .before .before .before .before .before .before .args .bytes)) in (
-      front p ∙ text-accepted W (v .verdict .last .1 .1 .0) (m .c2 .given .0 .0) ∙ ap textOf (ap (outcome W _) (sym (m .c2 .given .1)) ∙ v .verdict .ensures),
+      (front p ∙ text-accepted W (v .verdict .last .1 .1 .0) (m .c2 .given .0 .0) ∙ ap textOf (ap (outcome W _) (sym (m .c2 .given .1)) ∙ v .verdict .ensures), p .rest),
       front-counts p,
     )
 
