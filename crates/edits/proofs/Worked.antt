@@ -44,6 +44,10 @@ scopes = drop 21 worked
 abbrev later : List ℕ
 later = 0xA0000000 ∷ 1 ∷ 1 ∷ 1 ∷ 1 ∷ 0 ∷ 0xB0000000 ∷ 0 ∷ 1 ∷ 0xD0000001 ∷ 0 ∷ 1 ∷ 1 ∷ 0 ∷ []
 
+-- instead of the scopes a macro, named `a` in the root
+abbrev with-macro : List ℕ
+with-macro = front ++ (0x80000005 ∷ 0 ∷ 0 ∷ 0x90000000 ∷ 2 ∷ 0 ∷ 2 ∷ 0 ∷ 0 ∷ 1 ∷ 0 ∷ [])
+
 -- the function `f` in the root, and its record
 abbrev entry : List ℕ
 entry = 0 ∷ 1 ∷ 1 ∷ 1 ∷ 3 ∷ 0 ∷ 2 ∷ 1 ∷ []
@@ -81,6 +85,11 @@ cases =
     ∷ not-done 16384 worked 37 (put 2 2 1 1 0 0 0) 33
     ∷ not-done 16384 worked 37 (put 0 2 0 0 0 0 0) 35
     ∷ not-done 16384 worked 37 (put 0 0 0 0 0 0 0) 47
+    -- 32, 33 and 35 where the name is there already
+    ∷ not-done 16384 worked 37 (put 0 0 0 0 4 0 0) 32
+    ∷ not-done 16384 worked 37 (put 0 0 0 2 0 0 0) 33
+    ∷ not-done 16384 with-macro 32 (put 0 2 0 0 0 0 0) 35
+    ∷ not-done 16384 with-macro 32 (put 0 2 0 2 0 0 0) 47
     ∷ not-done 16384 (worked ++ replicate 7 7) 37 (adding (entryOf entry)) 48
     ∷ not-done 16384 worked 37 (removing 0 1 1) 47
     ∷ not-done 16384 worked 37 (removing 268435456 0 0) 47
