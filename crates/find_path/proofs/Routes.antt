@@ -7,9 +7,10 @@ use mathlib.Core.List.{List, [], _∷_, _++_, List·Memᴰ·head, List·Memᴰ·
 use mathlib.Core.Bool.{Bool, true, false, _||_, not, true≢false, false≢true}
 use mathlib.Core.Option.{Option, none, some}
 use lib.Dec.{eqb}
-use lib.ListN.{length, set, take, length-set}
+use lib.ListN.{length, getD, set, take, length-set}
 use lib.Seq.{take-suc-set, length-take-le}
 use borrow.Author.Tests.{eqb-true, not-false}
+use Rattle.snapshot.specs.Words.{kindOf}
 use Rattle.snapshot.specs.Records.{Snapshot, Scope, Dependency, Definition, Import, Extern}
 use Rattle.accept.specs.Valid.{Each, more, Placed, Valid}
 use Rattle.accept.specs.Verdict.{accept, verdict}
@@ -42,7 +43,7 @@ use Rattle.find_path.specs.Meters.{Charged, go, stop, fromTank, Charge, 
 use Rattle.find_path.specs.Charged.{Out, Search, Inner, langs, oneOrNone, variantOf, pushVariant, offerImport, findImport, findImports, findInDep, findInDeps, findInSysroot, goOn, afterCharge, calculateBestPath, orCharged, findPathForModule, afterEnum, viaEnum, orEnum, byName, ofModule, findPathInner}
 use Rattle.find_path.specs.Search.{builtinChoice, localTo, searchLocal, bestLocal, moduleTo, searchModule, itemTo, searchItem, fromHome, fromItem, findPath}
 use Rattle.find_path.specs.Report.{refused, flag, reported, searched, reportOf}
-use Rattle.find_path.specs.Routes.{_∈_, Start, self, super, crate, scope, prelude, extern, builtin, Step, entry, imported, Route, start, step, Path, direct, variant, Shown, byKeyword, byRecord, askedItem, askedContext, routeSteps, Routed}
+use Rattle.find_path.specs.Routes.{_∈_, Start, self, super, crate, scope, prelude, extern, builtin, Step, entry, imported, Route, start, step, Path, direct, variant, ruleKind, ruleOf, placeOf, Shown, askedItem, askedContext, routeSteps, Routed}
 use Rattle.find_path.proofs.Bounds.{Fits, more as wider, first-none as none-fits, first-fits, new-fits, scope-fits, prelude-fits, best-local-fits, best-within, module-search-fits, itemTo-fits, search-fits}
 use Rattle.find_path.proofs.Crates.{Near, each-in, select-found, own-root, crate-root, locations-near}
 use Rattle.find_path.proofs.Known.{held-at, scope-held, prelude-held, extern-held, definition-in, variant-in}
@@ -607,19 +608,37 @@ found-route words area q s e z = kind-routed s e (reportOf words area q) (kind-o
 
 -- the heads in the words
 
+-- a step has its rule and its place
+step-rule : (rule place : ℕ) → rule < 8 → ruleOf (stepBy rule place) ≡ rule
+step-rule rule place h = omega (arith, h)
+
+step-place : (rule place : ℕ) → rule < 8 → placeOf (stepBy rule place) ≡ place
+step-place rule place h = omega (arith, h)
+
+by-keyword : (W : List ℕ) → Shown W (stepBy viaKeyword 0)
+by-keyword W = record { keyword = λ _. refl; head = λ z. absurd (z refl) }
+
+by-record : {W : List ℕ} (rule place : ℕ) → rule < 8 → (rule ≡ viaKeyword → ⊥) → kindOf (getD W place 0) ≡ ruleKind rule → Shown W (stepBy rule place)
+by-record {W = W} rule place h z e =
+    let r = step-rule rule place h in
+    record {
+      keyword = λ k. absurd (z (sym r ∙ k));
+      head = λ _. ap (λ (p : ℕ). kindOf (getD W p 0)) (step-place rule place h) ∙ e ∙ ap ruleKind (sym r);
+    }
+
 module _ (W : List ℕ) (s : Snapshot) (placed : Placed W s) (x : FindPathCtx) where
   start-shown : {k t : ℕ} {ns : List ℕ} {item : Item} → Start s x k ns t item → Shown W t
-  start-shown self = byKeyword
-  start-shown (super p e) = byKeyword
-  start-shown crate = byKeyword
-  start-shown (scope item e h q) = byRecord viaScope (e .place) (each-in (placed .scopes) h .head)
-  start-shown (prelude item e h q) = byRecord viaPrelude (e .place) (each-in (placed .scopes) h .head)
-  start-shown (extern m e h q) = byRecord viaExtern (e .place) (each-in (placed .externs) h .head)
-  start-shown (builtin d h q) = byRecord viaBuiltin (definitionOf s d .place) (each-in (placed .definitions) h .head)
+  start-shown self = by-keyword W
+  start-shown (super p e) = by-keyword W
+  start-shown crate = by-keyword W
+  start-shown (scope item e h q) = by-record viaScope (e .place) (omega arith) (λ z. omega arith) (each-in (placed .scopes) h .head)
+  start-shown (prelude item e h q) = by-record viaPrelude (e .place) (omega arith) (λ z. omega arith) (each-in (placed .scopes) h .head)
+  start-shown (extern m e h q) = by-record viaExtern (e .place) (omega arith) (λ z. omega arith) (each-in (placed .externs) h .head)
+  start-shown (builtin d h q) = by-record viaBuiltin (definitionOf s d .place) (omega arith) (λ z. omega arith) (each-in (placed .definitions) h .head)
 
   step-shown : {m n t : ℕ} {item : Item} → Step s x m n t item → Shown W t
-  step-shown (entry e h o v) = byRecord viaLocal (e .place) (each-in (placed .scopes) h .head)
-  step-shown (imported i h v u) = byRecord viaImport (i .place) (each-in (placed .imports) h .head)
+  step-shown (entry e h o v) = by-record viaLocal (e .place) (omega arith) (λ z. omega arith) (each-in (placed .scopes) h .head)
+  step-shown (imported i h v u) = by-record viaImport (i .place) (omega arith) (λ z. omega arith) (each-in (placed .imports) h .head)
 
   route-shown : {k : ℕ} {ns ts : List ℕ} {item : Item} → Route s x k ns ts item → Each (Shown W) ts
   route-shown (start b) = more (start-shown b) Each.none
@@ -627,7 +646,7 @@ module _ (W : List ℕ) (s : Snapshot) (placed : Placed W s) (x : FindPathCtx) w
 
   path-shown : {k : ℕ} {ns ts : List ℕ} {item : Item} → Path s x k ns ts item → Each (Shown W) ts
   path-shown (direct r l) = route-shown r
-  path-shown (variant v h q r l) = each-snoc (route-shown r) (byRecord viaVariant (v .place) (each-in (placed .definitions) h .head))
+  path-shown (variant v h q r l) = each-snoc (route-shown r) (by-record viaVariant (v .place) (omega arith) (λ z. omega arith) (each-in (placed .definitions) h .head))
 
 -- At the place of every step of a found path the words have the head of a record that its rule uses, unless it is a keyword's.
 pub found-shown : (words : List ℕ) (area : ℕ) (q : Question) (s : Snapshot) → verdict words ≡ accept s

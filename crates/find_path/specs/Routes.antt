@@ -4,7 +4,7 @@ use mathlib.Core.Path.{_≡_}
 use mathlib.Core.List.{List, [], _∷_, _++_, List·Memᴰ}
 use mathlib.Core.Bool.{true, false, _||_}
 use mathlib.Core.Option.{some}
-use Prim.Native.Nat.{ℕ, suc, _-_, _≤_}
+use Prim.Native.Nat.{ℕ, suc, _-_, _/_, _%_, _≤_}
 use lib.ListN.{length, getD, take}
 use Rattle.snapshot.specs.Words.{kindOf}
 use Rattle.snapshot.specs.Records.{Snapshot, Definition, Scope, Import, Extern}
@@ -70,10 +70,18 @@ pub data Path (s : Snapshot) (x : FindPathCtx) : ℕ → List ℕ → List ℕ �
 abbrev pub ruleKind : ℕ → ℕ
 ruleKind rule = getD (8 ∷ 9 ∷ 9 ∷ 11 ∷ 0 ∷ 8 ∷ 9 ∷ 10 ∷ []) rule 0
 
--- a step of a keyword, or one at whose place the words have the head of a record that its rule uses
-pub data Shown (W : List ℕ) : ℕ → Type 0 where
-  byKeyword : Shown W (stepBy viaKeyword 0)
-  byRecord : (rule place : ℕ) → kindOf (getD W place 0) ≡ ruleKind rule → Shown W (stepBy rule place)
+-- the rule of a step, and the place of its record
+
+abbrev pub ruleOf : ℕ → ℕ
+ruleOf t = t % 8
+
+abbrev pub placeOf : ℕ → ℕ
+placeOf t = t / 8
+
+-- A keyword's step has place 0; at the place of any other the words have the head of a record that its rule uses.
+pub record Shown (W : List ℕ) (t : ℕ) : Type 0 where
+  pub keyword : ruleOf t ≡ viaKeyword → placeOf t ≡ 0
+  pub head : (ruleOf t ≡ viaKeyword → ⊥) → kindOf (getD W (placeOf t) 0) ≡ ruleKind (ruleOf t)
 
 -- the item of a question
 abbrev pub askedItem : Snapshot → Query → Item
