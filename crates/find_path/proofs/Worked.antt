@@ -6,28 +6,32 @@ use mathlib.Core.List.{List, [], _∷_, _++_}
 use mathlib.Core.Bool.{Bool, true, _&&_}
 use lib.ListN.{length}
 use Rattle.snapshot.specs.Lists.{rows, any, all, eqList}
+use Rattle.snapshot.specs.Limits.{areaLimit}
 use Rattle.snapshot.specs.Words.{argumentsOf}
+use Rattle.snapshot.specs.Records.{Snapshot}
 use Rattle.keywords.specs.Keywords.{isKeyword, isRaw}
 use Rattle.accept.specs.Tests.{textBound, padded}
 use Rattle.accept.specs.Steps.{nameStep, crateStep, dependencyStep, mapStep, moduleStep, childStep, preludeStep, definitionStep, scopeStep, importStep, externStep, memberStep}
 use Rattle.accept.specs.Builtins.{packed}
 use Rattle.accept.specs.Verdict.{argumentsFrom, recordStep, stepAt, finish, records, verdict}
-use Rattle.accept.specs.Worked.{worked}
+use Rattle.accept.specs.Worked.{worked, workedSnapshot}
 use Rattle.hir_def.specs.Finds.{orFirst, firstOf, placeOf, select, firstSome}
 use Rattle.hir_def.specs.Items.{moduleOf, mapOf, definitionOf, crateData, rootOf, ownMap, crateRoot, orElse, containing, itemOf, sameItem, nsOf, homeBy, homeOf}
 use Rattle.hir_def.specs.Visibility.{lastOr, lastTo, last, metOr, metTo, met, unless, climbStep, climb, inModule, isVisibleFrom}
 use Rattle.hir_def.specs.ItemScope.{isFor, nameOf, namesOf, preferred, get, modulesInScope}
 use Rattle.hir_def.specs.Nameres.{stepsOr, stepsTo, steps, ancestorMaps, scopeEntry, entryNamed, isOther, occupied, containers, childrenOf, preludeOf, externOf, dependenciesOf, langOf, sysrootFirst}
 use Rattle.hir_def.specs.ImportMap.{importInfoFor}
+use Rattle.find_path.specs.declared.Query.{Query}
 use Rattle.find_path.specs.declared.Question.{Question}
 use Rattle.find_path.specs.Choices.{nameData, isPrelude, pathKindLen, pathLen, keyword, choiceNew, extended, push, unstably, compareBool, andThen, comparePrelude, taken, better, trySelect, shorterIf, lengthLeft}
 use Rattle.find_path.specs.Walk.{has, visited, startFrom, leadsTo, unmet, walk, findLocalImportLocations}
 use Rattle.find_path.specs.Rules.{prefixPathKind, plainIf, moduleIn, contextOf, soughtOf, firstFound, single, findInScope, mayBeInScope, scopeRule, sameHere, preludeEntry, inPrelude, findInPrelude, preludeRule, externKind, externName, rootRule, parentKind, isKwKindRelativeToFrom, keywordOf, moduleRules}
 use Rattle.find_path.specs.Local.{offer, offerEntry, entryIf, importableName, location, eachLocation, calculateBestPathLocal, orLocal, findPathForModuleLocal}
-use Rattle.find_path.specs.Meters.{drained, draw, fromTank, filled}
+use Rattle.find_path.specs.Meters.{drained, draw, fromTank, filled, counted}
 use Rattle.find_path.specs.Charged.{langs, oneOrNone, isAt, variantOf, pushVariant, offerImport, findImport, findImports, findInDep, findInDeps, findInSysroot, goOn, afterCharge, calculateBestPath, orCharged, findPathForModule, afterEnum, viaEnum, orEnum, byName, ofModule, findPathInner}
 use Rattle.find_path.specs.Search.{builtinChoice, localTo, searchLocal, bestLocal, moduleTo, searchModule, itemTo, searchItem, fromHome, fromItem, findPath}
-use Rattle.find_path.specs.Report.{callFault, questionFault, refused, flag, reported, searched, answerUnless, reportBy, reportUnless, reportOf}
+use Rattle.find_path.specs.Report.{callFault, questionFault, refused, flag, reported, searched, searchedFreely, answerUnless, reportBy, reportUnless, reportOf}
+use Rattle.find_path.specs.Fuels.{reportAt}
 use Rattle.find_path.specs.Line.{bytesOf, unpacked, textOf, editionIn, writtenOf, decimalTo, decimal, joined, prefixParts, pathText, lineParts, lineIn, stepText, stepsText, routeText, routedLineIn, snapshotOf, lineOf, routedLineOf}
 
 pub record Row : Type 0 where
@@ -363,7 +367,7 @@ first d ns m o f left sought =
 
 -- the reports say empty, and tell that
 unfoldable pub tells : List ℕ → List First → Bool
-unfolding reportOf reportUnless reportBy answerUnless searched reported flag refused questionFault callFault findPath fromItem builtinChoice fromHome searchItem itemTo searchModule moduleTo bestLocal searchLocal localTo findPathInner ofModule byName orEnum viaEnum afterEnum findPathForModule orCharged calculateBestPath afterCharge goOn findInSysroot findInDeps findInDep findImports findImport offerImport pushVariant isAt variantOf oneOrNone langs fromTank filled draw drained findPathForModuleLocal orLocal calculateBestPathLocal eachLocation location importableName entryIf offerEntry offer moduleRules keywordOf isKwKindRelativeToFrom parentKind rootRule externName externKind occupied isOther scopeEntry entryNamed preludeRule findInPrelude inPrelude preludeEntry sameHere scopeRule mayBeInScope findInScope single firstFound soughtOf contextOf moduleIn plainIf prefixPathKind findLocalImportLocations walk unmet leadsTo startFrom visited has lengthLeft shorterIf trySelect better taken comparePrelude andThen compareBool unstably push extended choiceNew keyword pathLen pathKindLen isPrelude nameData importInfoFor sysrootFirst langOf dependenciesOf externOf preludeOf childrenOf containers ancestorMaps steps stepsTo stepsOr modulesInScope get preferred orFirst namesOf nameOf isFor isVisibleFrom inModule climb climbStep unless met metTo metOr last lastTo lastOr homeOf homeBy nsOf sameItem itemOf containing orElse crateRoot ownMap rootOf crateData definitionOf mapOf moduleOf firstSome select placeOf firstOf verdict records stepAt recordStep finish argumentsFrom argumentsOf nameStep crateStep dependencyStep mapStep moduleStep childStep preludeStep definitionStep scopeStep importStep externStep memberStep textBound padded rows any all eqList
+unfolding passes
 tells words table =
     all (λ r. eqList (reportOf words 16384 (r .question) .empty ∷ reportOf words 16384 (r .question) .left ∷ reportOf words 16384 (r .question) .sought ∷ [])
     (1 ∷ r .left ∷ r .sought ∷ [])) table
@@ -408,6 +412,60 @@ cycleFirsts = first 0 0 0 0 0 15 0 ∷ first 0 0 0 0 1 14 4 ∷ first 0 0 0 0 2 
 pub cycle-firsts : tells withCycle cycleFirsts ≡ true
 unfolding tells cycleFirsts first withCycle named head
 cycle-firsts = refl
+
+-- The search without a tank: outcome, path and charges.
+
+unfoldable pub freeLine : Snapshot → Query → List ℕ
+freeLine s q =
+    let o = searchedFreely s q in
+    joined (bytesOf " ") (lineParts s (editionIn s (q .from)) (reported (record { choice = o .choice; meter = filled 0 })) ++ (decimal (o .meter) ∷ []))
+
+unfoldable pub makes : List ℕ → List Row → Bool
+unfolding passes freeLine searchedFreely counted
+makes words table = all (λ r. eqList (freeLine (snapshotOf (verdict words)) (r .question .query)) (bytesOf (r .line))) table
+
+-- a row whose fuel plays no part
+abbrev pub free : ℕ → ℕ → ℕ → ℕ → ℕ → String → Row
+free d ns m o n l = rowAt d ns m 1 o 0 n l
+
+pub freeDependencies : List Row
+freeDependencies =
+    free 2 0 0 0 15 "found alias::inner::T 2"
+    -- a variant by its enum, which makes both charges
+    ∷ free 3 1 0 0 15 "found alias::inner::T::V 2"
+    -- its enum makes one, without a path, and its own search goes on from there
+    ∷ free 12 0 0 0 15 "none - 1"
+    ∷ free 13 1 0 0 15 "found alias::H 2"
+    -- the same after two
+    ∷ free 2 0 0 0 2 "none - 2"
+    ∷ free 3 1 0 0 2 "none - 3"
+    -- nothing is charged
+    ∷ free 4 0 0 0 15 "found alias 0"
+    ∷ free 5 1 0 0 15 "none - 0"
+    ∷ []
+
+pub free-dependencies : makes withDependency freeDependencies ≡ true
+unfolding makes freeDependencies rowAt withDependency named head
+free-dependencies = refl
+
+-- a charge for each length left
+pub free-cycle : makes withCycle (free 0 0 0 0 15 "none - 15" ∷ free 1 0 0 0 6 "none - 6" ∷ []) ≡ true
+unfolding makes rowAt withCycle named head
+free-cycle = refl
+
+-- document 01's question: definition 1 in values, from the root, Plain
+abbrev pub asked : Query
+asked = record { ns = 1; definition = 1; from = 0; prefix = 1; options = 0; limit = 15 }
+
+-- On the worked snapshot its search without a tank makes one charge; fuels 1 and 10,000 report alike, fuel 0 says empty and counts 0.
+pub record Instance : Type 0 where
+  pub charges : searchedFreely workedSnapshot asked .meter ≡ 1
+  pub alike : reportAt worked areaLimit asked 1 ≡ reportAt worked areaLimit asked 10000
+  pub apart : (reportAt worked areaLimit asked 0 .empty ≡ 1) × (reportAt worked areaLimit asked 0 .charges ≡ 0)
+
+pub worked-free : Instance
+unfolding makes
+worked-free = record { charges = refl; alike = refl; apart = (refl, refl) }
 
 -- One crate. Modules: 0 its root, 1 `m` and 2 `p` below it, 3 a block in the root. The prelude of the crate's own map is `p`.
 -- Definitions: 0 and 1 the modules `m` and `p`; 2 is `old` in the root, declared there and deprecated, then `new`, an import, and `t` in the
@@ -508,7 +566,7 @@ dependency-limits = refl
 -- Lines with their routes. The rules were worked out by hand, the offsets read off a list of the records in the words.
 
 unfoldable pub routes : List ℕ → List Row → Bool
-unfolding routedLineOf routedLineIn routeText stepsText stepText snapshotOf lineIn lineParts pathText prefixParts joined decimal decimalTo writtenOf editionIn isRaw isKeyword textOf unpacked reportOf reportUnless reportBy answerUnless searched reported flag refused questionFault callFault findPath fromItem builtinChoice fromHome searchItem itemTo searchModule moduleTo bestLocal searchLocal localTo findPathInner ofModule byName orEnum viaEnum afterEnum findPathForModule orCharged calculateBestPath afterCharge goOn findInSysroot findInDeps findInDep findImports findImport offerImport pushVariant isAt variantOf oneOrNone langs fromTank filled draw drained findPathForModuleLocal orLocal calculateBestPathLocal eachLocation location importableName entryIf offerEntry offer moduleRules keywordOf isKwKindRelativeToFrom parentKind rootRule externName externKind occupied isOther scopeEntry entryNamed preludeRule findInPrelude inPrelude preludeEntry sameHere scopeRule mayBeInScope findInScope single firstFound soughtOf contextOf moduleIn plainIf prefixPathKind findLocalImportLocations walk unmet leadsTo startFrom visited has lengthLeft shorterIf trySelect better taken comparePrelude andThen compareBool unstably push extended choiceNew keyword pathLen pathKindLen isPrelude nameData importInfoFor sysrootFirst langOf dependenciesOf externOf preludeOf childrenOf containers ancestorMaps steps stepsTo stepsOr modulesInScope get preferred orFirst namesOf nameOf isFor isVisibleFrom inModule climb climbStep unless met metTo metOr last lastTo lastOr homeOf homeBy nsOf sameItem itemOf containing orElse crateRoot ownMap rootOf crateData definitionOf mapOf moduleOf firstSome select placeOf firstOf verdict records stepAt recordStep finish argumentsFrom argumentsOf nameStep crateStep dependencyStep mapStep moduleStep childStep preludeStep definitionStep scopeStep importStep externStep memberStep textBound padded rows any all eqList
+unfolding passes routedLineOf routedLineIn routeText stepsText stepText
 routes words table = all (λ r. eqList (routedLineOf words (r .question)) (bytesOf (r .line))) table
 
 pub workedRoutes : List Row
