@@ -13,6 +13,7 @@ pub mod Crates
 pub mod Routes
 pub mod Reports
 pub mod Walks
+pub mod Visited
 pub mod Chains
 pub mod Lines
 pub mod Worked

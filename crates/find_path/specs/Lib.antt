@@ -11,3 +11,4 @@ pub mod Line
 pub mod Fuels
 pub mod Limits
 pub mod Routes
+pub mod Visited
