@@ -281,7 +281,7 @@ module _ (M : Type 0) (charge : Charge M) (s : Snapshot) where
     unfolding goOn
     go-fits l item t true b = local l item
     go-fits l item t false true = sysroot-fits l item _ (langs (x .nostd)) false (nothing-fits (suc l))
-    go-fits l item t false false = deps-fit l item _ (dependenciesOf s (x .krate)) (nothing-fits (suc l))
+    go-fits l item t false false = deps-fit l item _ _ (nothing-fits (suc l))
 
     after-fits : (l : ℕ) (item : Item) (c : Charged M) → Fits s (suc l) (afterCharge M charge s x here rec (suc l) item c .choice)
     unfolding afterCharge

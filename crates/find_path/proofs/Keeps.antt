@@ -57,7 +57,7 @@ module _ (M : Type 0) (charge : Charge M) (s : Snapshot) (P : M → Type 0) (kep
     unfolding goOn
     go-keeps left item t true b h = h
     go-keeps left item t false true h = sysroot-keeps left item _ (langs (x .nostd)) false h
-    go-keeps left item t false false h = deps-keep left item _ (dependenciesOf s (x .krate)) h
+    go-keeps left item t false false h = deps-keep left item _ _ h
 
     after-keeps : (left : ℕ) (item : Item) (c : Charged M) → P (left-by c) → P (afterCharge M charge s x here rec left item c .meter)
     unfolding afterCharge

@@ -425,7 +425,7 @@ module _ (M : Type 0) (charge : Charge M) (s : Snapshot) (r : Ranges (countsOf s
     unfolding goOn
     go-known left item t true b = local left item
     go-known left item t false true = sysroot-known left item _ (langs (x .nostd)) false nothing-known
-    go-known left item t false false = deps-known left item _ (dependenciesOf s (x .krate)) nothing-known
+    go-known left item t false false = deps-known left item _ _ nothing-known
 
     after-known : (left : ℕ) (item : Item) (c : Charged M) → Known s (afterCharge M charge s x here rec left item c .choice)
     unfolding afterCharge

@@ -362,7 +362,7 @@ module _ (s : Snapshot) (x : FindPathCtx) (n : ℕ) where
       unfolding goOn
       go-grows item t u true b = local left left′ item h
       go-grows item t u false true = sysroot-grows item _ _ (langs (x .nostd)) false false (λ z. z) (λ z. absurd (false≢true z))
-      go-grows item t u false false = deps-grow item _ _ (dependenciesOf s (x .krate)) (λ z. z)
+      go-grows item t u false false = deps-grow item _ _ _ (λ z. z)
 
       best-grows : (item : Item) (t u : ℕ)
           → Both (calculateBestPath ℕ counted s x here f left item t) (calculateBestPath ℕ counted s (limited x n) here′ g left′ item u)

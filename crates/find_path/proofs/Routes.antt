@@ -9,7 +9,7 @@ use mathlib.Core.Option.{Option, none, some}
 use lib.Dec.{eqb}
 use lib.ListN.{length, getD, set, take, length-set}
 use lib.Seq.{take-suc-set, length-take-le}
-use borrow.Author.Tests.{eqb-true, not-false}
+use borrow.Author.Tests.{eqb-true, eqb-false, eq-eqb, not-false}
 use Rattle.snapshot.specs.Words.{kindOf}
 use Rattle.snapshot.specs.Records.{Snapshot, Scope, Dependency, Definition, Import, Extern}
 use Rattle.accept.specs.Valid.{Each, more, Placed, Valid}
@@ -40,12 +40,12 @@ use Rattle.find_path.specs.Walk.{Level, visited}
 use Rattle.find_path.specs.Rules.{bit, byCrate, mayBeInScope, prefixPathKind, contextOf, firstFound, single, findInScope, scopeRule, findInPrelude, preludeRule, externName, rootRule, parentKind, isKwKindRelativeToFrom, keywordOf, moduleRules}
 use Rattle.find_path.specs.Local.{LocalSearch, offer, offerEntry, isImportable, entryIf, importableName, location, eachLocation, calculateBestPathLocal, orLocal, findPathForModuleLocal}
 use Rattle.find_path.specs.Meters.{Charged, go, stop, fromTank, Charge, filled}
-use Rattle.find_path.specs.Charged.{Out, Search, Inner, langs, oneOrNone, variantOf, pushVariant, offerImport, findImport, findImports, findInDep, findInDeps, findInSysroot, goOn, afterCharge, calculateBestPath, orCharged, findPathForModule, afterEnum, viaEnum, orEnum, byName, ofModule, findPathInner}
+use Rattle.find_path.specs.Charged.{Out, Search, Inner, langs, oneOrNone, isAt, variantOf, pushVariant, offerImport, findImport, findImports, findInDep, findInDeps, findInSysroot, goOn, afterCharge, calculateBestPath, orCharged, findPathForModule, afterEnum, viaEnum, orEnum, byName, ofModule, findPathInner}
 use Rattle.find_path.specs.Search.{builtinChoice, localTo, searchLocal, bestLocal, moduleTo, searchModule, itemTo, searchItem, fromHome, fromItem, findPath}
 use Rattle.find_path.specs.Report.{refused, flag, reported, searched, reportOf}
-use Rattle.find_path.specs.Routes.{_∈_, Start, self, super, crate, scope, prelude, extern, builtin, Step, entry, imported, Route, start, step, Path, direct, variant, ruleKind, ruleOf, placeOf, Shown, askedItem, askedContext, routeSteps, Routed}
+use Rattle.find_path.specs.Routes.{_∈_, Start, self, super, crate, scope, prelude, extern, builtin, Step, entry, imported, Route, start, step, Path, direct, variant, ruleKind, ruleOf, placeOf, Shown, askedItem, askedContext, routeSteps, Routed, isNear}
 use Rattle.find_path.proofs.Bounds.{Fits, more as wider, first-none as none-fits, first-fits, new-fits, scope-fits, prelude-fits, best-local-fits, best-within, module-search-fits, itemTo-fits, search-fits}
-use Rattle.find_path.proofs.Crates.{Near, each-in, select-found, own-root, crate-root, locations-near}
+use Rattle.find_path.proofs.Crates.{Near, each-in, each-append, select-found, own-root, crate-root, locations-near}
 use Rattle.find_path.proofs.Known.{held-at, scope-held, prelude-held, extern-held, definition-in, variant-in}
 use Rattle.find_path.proofs.Refusals.{Allowed}
 use Rattle.find_path.proofs.Outcomes.{Kind, refusal, answer, kind-of}
@@ -85,42 +85,56 @@ pub record Leads (s : Snapshot) (x : FindPathCtx) (item : Item) (c : Choice) : T
   pub route : c .found ≡ true → c .count ≤ length (c .names) → c .steps ≤ length (c .route)
       → Route s x (c .kind) (take (c .count) (c .names)) (take (c .steps) (c .route)) item
 
--- an import record of the item
-record Listed (s : Snapshot) (item : Item) (i : Import) : Type 0 where
+-- an import record of the item, which is of another crate, in a dependency of the viewer's
+record Listed (s : Snapshot) (x : FindPathCtx) (item : Item) (i : Import) : Type 0 where
+  dependency : Dependency
+  known : dependency ∈ dependenciesOf s (x .krate)
   stands : i ∈ s .imports
+  owner : i .owner ≡ dependency .crate
+  away : isNear s x item ≡ false
   same : itemOf s (i .ns) (i .definition) ≡ item
+
+-- what is set for the viewing module
+record Rooted (s : Snapshot) (x : FindPathCtx) : Type 0 where
+  root : x .root ≡ crateRoot s (x .from)
+  krate : x .krate ≡ crateOf s (x .from)
 
 -- an entry that is answered leads from the module to the item
 abbrev Led : Snapshot → FindPathCtx → ℕ → Item → Option Scope → Type 0
 Led s x m item (some e) = Step s x m (e .name) (stepBy viaLocal (e .place)) item
 Led s x m item none = Unit {0}
 
--- the path of a keyword without names reaches the module
+-- the path of a keyword without names, where it is taken, reaches the module
 abbrev Started : Snapshot → FindPathCtx → ℕ → KwKind → Type 0
-Started s x m (Kw k) = Start s x k [] (stepBy viaKeyword 0) (Mod m)
+Started s x m (Kw k) = not (eqb (x .prefix) byCrate) || eqb k cratePath ≡ true → Start s x k [] (stepBy viaKeyword 0) (Mod m)
 Started s x m NoKw = Unit {0}
 
 module _ (s : Snapshot) where
-  imports-listed : (c : ℕ) (item : Item) → Each (Listed s item) (importInfoFor s c item)
-  unfolding importInfoFor
-  imports-listed c item =
-      select-found (isImport s c item) (s .imports)
-      (λ i h t. record { stands = h; same = same-item _ item (and-right (eqb (i .owner) c) _ t) })
-
   module _ (x : FindPathCtx) where
-    entry-step : (m : ℕ) (item : Item) (e : Scope) → e ∈ s .scopes → isFor s m item e ≡ true → importableName s x item m ≡ some e
+    imports-listed : (d : Dependency) (item : Item) → d ∈ dependenciesOf s (x .krate) → isNear s x item ≡ false
+        → Each (Listed s x item) (importInfoFor s (d .crate) item)
+    unfolding importInfoFor
+    imports-listed d item k away =
+        select-found (isImport s (d .crate) item) (s .imports)
+        (λ i h t.
+        let f = and-two (eqb (i .owner) (d .crate)) _ t in
+        record { dependency = d; known = k; stands = h; owner = eqb-true _ _ (f .0); away = away; same = same-item _ item (f .1) })
+
+    entry-step : (m : ℕ) (item : Item) (e : Scope) → e ∈ s .scopes → isNear s x item ≡ true → isFor s m item e ≡ true → importableName s x item m ≡ some e
         → sees s (x .from) e ≡ true → Step s x m (e .name) (stepBy viaLocal (e .place)) item
     unfolding isFor
-    entry-step m item e h p o v =
+    entry-step m item e h near p o v =
         let f = and-two (eqb (e .owner) m) (sameItem (itemOf s (e .ns) (e .definition)) item) p in
         let a = eqb-true (e .owner) m (f .0) in
         let b = same-item _ item (f .1) in
         subst (λ (k : ℕ). Step s x k (e .name) (stepBy viaLocal (e .place)) item) a
-        (subst (Step s x (e .owner) (e .name) (stepBy viaLocal (e .place))) b (entry e h (ap₂ (importableName s x) b a ∙ o) v))
+        (subst (Step s x (e .owner) (e .name) (stepBy viaLocal (e .place))) b (entry e h (ap (isNear s x) b ∙ near) (ap₂ (importableName s x) b a ∙ o) v))
 
-    import-step : (item : Item) (i : Import) → Listed s item i → isHidden i ≡ false → (isUnstable i ≡ true → x .unstable ≡ true)
+    import-step : (item : Item) (i : Import) → Listed s x item i → isHidden i ≡ false → (isUnstable i ≡ true → x .unstable ≡ true)
         → Step s x (i .container) (i .name) (stepBy viaImport (i .place)) item
-    import-step item i h v u = subst (Step s x (i .container) (i .name) (stepBy viaImport (i .place))) (h .same) (imported i (h .stands) v u)
+    import-step item i h v u =
+        subst (Step s x (i .container) (i .name) (stepBy viaImport (i .place))) (h .same)
+        (imported (h .dependency) i (h .known) (h .stands) (h .owner) (ap (isNear s x) (h .same) ∙ h .away) v u)
 
     -- choices
 
@@ -184,7 +198,7 @@ module _ (s : Snapshot) where
     offer-leads m item best c n t f g h = either-leads (c .found) _ _ (λ e. select-leads m item best c n t f g e h) (λ _. f)
 
     offer-import-leads : (item : Item) (best c : Choice) (i : Import) → Leads s x item best → Leads s x (Mod (i .container)) c
-        → Listed s item i → isHidden i ≡ false → Leads s x item (offerImport s x best c i)
+        → Listed s x item i → isHidden i ≡ false → Leads s x item (offerImport s x best c i)
     unfolding offerImport
     offer-import-leads item best c i f g h v =
         either-leads (isUnstable i) _ _
@@ -208,8 +222,8 @@ module _ (s : Snapshot) where
     unfolding scopeRule
     scope-leads item =
         either-leads (mayBeInScope s x) _ _
-        (λ _. single-leads item (prefixPathKind (x .prefix)) viaScope (findInScope s x item)
-        (λ e h. scope item e (held-at (λ y. y ∈ s .scopes) _ (scope-held s (λ y. y ∈ s .scopes) (each-self (s .scopes)) x item) h) h))
+        (λ t. single-leads item (prefixPathKind (x .prefix)) viaScope (findInScope s x item)
+        (λ e h. scope item e (held-at (λ y. y ∈ s .scopes) _ (scope-held s (λ y. y ∈ s .scopes) (each-self (s .scopes)) x item) h) t h))
         (λ _. nothing-leads)
 
     prelude-leads : (item : Item) → Leads s x item (preludeRule s x item)
@@ -218,19 +232,19 @@ module _ (s : Snapshot) where
         single-leads item plainPath viaPrelude (findInPrelude s x item)
         (λ e h. prelude item e (held-at (λ y. y ∈ s .scopes) _ (prelude-held s (λ y. y ∈ s .scopes) (each-self (s .scopes)) x item) h) h)
 
-    extern-leads : (m : ℕ) (o : Option Extern) → externOf s (x .krate) m ≡ o → Leads s x (Mod m) (externName s x m o)
+    extern-leads : (m : ℕ) (o : Option Extern) → crateRoot s m ≡ m → (m ≡ x .root → ⊥) → externOf s (x .krate) m ≡ o → Leads s x (Mod m) (externName s x m o)
     unfolding externName
-    extern-leads m none h = nothing-leads
-    extern-leads m (some e) h =
-        new-leads (Mod m) _ (e .name) _ (extern m e (held-at (λ y. y ∈ s .externs) _ (extern-held s (λ y. y ∈ s .externs) (each-self (s .externs)) (x .krate) m) h) h)
+    extern-leads m none r z h = nothing-leads
+    extern-leads m (some e) r z h =
+        new-leads (Mod m) _ (e .name) _ (extern m e (held-at (λ y. y ∈ s .externs) _ (extern-held s (λ y. y ∈ s .externs) (each-self (s .externs)) (x .krate) m) h) r z h)
 
     -- in a valid snapshot, with the root that is set for the viewing module
-    module _ (valid : Valid s) (rooted : x .root ≡ crateRoot s (x .from)) where
+    module _ (valid : Valid s) (rooted : Rooted s x) where
       -- the root of a crate that has the keyword is the viewer's
       root-here : (b : Bool) (m : ℕ) → (b ≡ false → Near s valid (x .from) m) → crateRoot s m ≡ m → not b || eqb m (x .root) ≡ true
           → x .root ≡ m
       root-here true m near r e = sym (eqb-true m (x .root) e)
-      root-here false m near r e = rooted ∙ sym (crate-root s valid m (x .from) (near refl)) ∙ r
+      root-here false m near r e = rooted .root ∙ sym (crate-root s valid m (x .from) (near refl)) ∙ r
 
       root-leads : (b : Bool) (m : ℕ) → (b ≡ false → Near s valid (x .from) m) → Leads s x (Mod m) (rootRule s x b m)
       unfolding rootRule
@@ -238,8 +252,12 @@ module _ (s : Snapshot) where
           either-leads (eqb (crateRoot s m) m) _ _
           (λ e. either-leads (not b || eqb m (x .root)) _ _
           (λ t. keyword-leads m cratePath (crate-start m (root-here b m near (eqb-true (crateRoot s m) m e) t)))
-          (λ _. extern-leads m (externOf s (x .krate) m) refl))
+          (λ t. extern-leads m (externOf s (x .krate) m) (eqb-true (crateRoot s m) m e) (eqb-false m (x .root) (or-none (not b) _ t .1)) refl))
           (λ _. nothing-leads)
+
+      -- a keyword other than `crate` is not taken under ByCrate
+      not-by-crate : (k : ℕ) → eqb k cratePath ≡ false → not (eqb (x .prefix) byCrate) || eqb k cratePath ≡ true → x .prefix ≡ byCrate → ⊥
+      not-by-crate k n t e = true≢false (sym t ∙ rw (eq-eqb (x .prefix) byCrate e, n))
 
       either-started : (m : ℕ) (b : Bool) (k l : KwKind) → (b ≡ true → Started s x m k) → (b ≡ false → Started s x m l)
           → Started s x m (elim b [ true ↦ k | false ↦ l ])
@@ -254,8 +272,8 @@ module _ (s : Snapshot) where
           (λ t.
           let same : p ≡ m = sym (eqb-true m p t) in
           either-started m (eqb p (rootOf s (mapNo s (x .from)))) (Kw cratePath) (Kw superPath)
-          (λ r. crate-start m (rooted ∙ sym (own-root s valid (x .from) p e b) ∙ sym (eqb-true p _ r) ∙ same))
-          (λ _. subst (λ (k : ℕ). Start s x superPath [] (stepBy viaKeyword 0) (Mod k)) same (super p e)))
+          (λ r k. crate-start m (rooted .root ∙ sym (own-root s valid (x .from) p e b) ∙ sym (eqb-true p _ r) ∙ same))
+          (λ _ k. subst (λ (j : ℕ). Start s x superPath [] (stepBy viaKeyword 0) (Mod j)) same (super p (not-by-crate superPath refl k) e)))
           (λ _. tt)
 
       keyword-started : (m : ℕ) → Started s x m (isKwKindRelativeToFrom s x m)
@@ -265,14 +283,14 @@ module _ (s : Snapshot) where
           (λ t.
           let f = or-none (inBlock s m) (inBlock s (x .from)) (or-none (not (eqb (crateOf s m) (crateOf s (x .from)))) _ t .1) .1 in
           either-started m (eqb m (x .from)) (Kw selfPath) _
-          (λ e. subst (λ (k : ℕ). Start s x selfPath [] (stepBy viaKeyword 0) (Mod k)) (sym (eqb-true m (x .from) e)) self)
+          (λ e k. subst (λ (j : ℕ). Start s x selfPath [] (stepBy viaKeyword 0) (Mod j)) (sym (eqb-true m (x .from) e)) (self (not-by-crate selfPath refl k)))
           (λ _. parent-started m (parentOf s (x .from)) refl (eqb-true (blockOf s (x .from)) 0 (not-false _ f))))
 
       keyword-of-leads : (m : ℕ) (k : KwKind) → Started s x m k → Leads s x (Mod m) (keywordOf s x k)
       unfolding keywordOf
       keyword-of-leads m NoKw b = nothing-leads
       keyword-of-leads m (Kw k) b =
-          either-leads (not (eqb (x .prefix) byCrate) || eqb k cratePath) _ _ (λ _. keyword-leads m k b) (λ _. nothing-leads)
+          either-leads (not (eqb (x .prefix) byCrate) || eqb k cratePath) _ _ (λ t. keyword-leads m k (b t)) (λ _. nothing-leads)
 
       rules-lead : (b : Bool) (m : ℕ) → (b ≡ false → Near s valid (x .from) m) → Leads s x (Mod m) (moduleRules s x b m)
       unfolding moduleRules
@@ -304,22 +322,26 @@ module _ (s : Snapshot) where
           (f, subst (λ z. sees s (x .from) z ≡ true) same (and-left (sees s (x .from) y) _ t)))
           (λ t. let f : none ≡ some e = rw (entryIf, t) at h in let z : _≡_ {A = ℕ} 0 1 = cc in absurd (omega arith))
 
-      importable-step : (item : Item) (m : ℕ) (e : Scope) → importableName s x item m ≡ some e
+      importable-step : (item : Item) (m : ℕ) (e : Scope) → isNear s x item ≡ true → importableName s x item m ≡ some e
           → Step s x m (e .name) (stepBy viaLocal (e .place)) item
       unfolding importableName nameOf namesOf
-      importable-step item m e o =
+      importable-step item m e near o =
           let f = entry-if _ e o in
           let g =
           preferred-has s m item _ _ 0 (Stands m item) (x .fresh) e
           (first-stands m item _ e (λ y t. search passed)) (first-stands m item _ e (λ y t. search passed)) (f .0) in
-          entry-step m item e (g .0) (g .1) o (f .1)
+          entry-step m item e (g .0) near (g .1) o (f .1)
 
-      led : (item : Item) (m : ℕ) (o : Option Scope) → importableName s x item m ≡ o → Led s x m item o
-      led item m none h = tt
-      led item m (some e) h = importable-step item m e h
+      led : (item : Item) (m : ℕ) (o : Option Scope) → isNear s x item ≡ true → importableName s x item m ≡ o → Led s x m item o
+      led item m none near h = tt
+      led item m (some e) near h = importable-step item m e near h
 
-      importable-led : (item : Item) (m : ℕ) → Led s x m item (importableName s x item m)
-      importable-led item m = led item m (importableName s x item m) refl
+      importable-led : (item : Item) (m : ℕ) → isNear s x item ≡ true → Led s x m item (importableName s x item m)
+      importable-led item m near = led item m (importableName s x item m) near refl
+
+      module-near : (m : ℕ) → Near s valid (x .from) m → isNear s x (Mod m) ≡ true
+      unfolding isAt homeOf
+      module-near m e = rw (add-one m) (eq-eqb (crateOf s m) (x .krate) (e ∙ sym (rooted .krate)))
 
       abbrev LeadsLocal : LocalSearch → Type 0
       LeadsLocal rec = (left : ℕ) (ls : List Level) (m : ℕ) → Near s valid (x .from) m → Leads s x (Mod m) (rec left ls m)
@@ -332,49 +354,68 @@ module _ (s : Snapshot) where
         location-leads item left ls best m none near f h = f
         location-leads item left ls best m (some e) near f h = offer-leads m item best _ (e .name) _ f (leads _ ls m near) h
 
-        each-leads : (left : ℕ) (ls : List Level) (item : Item) (done : List ℕ) (best : Choice) {ms : List ℕ} → Each (Near s valid (x .from)) ms
-            → Leads s x item best
+        each-leads : (left : ℕ) (ls : List Level) (item : Item) (done : List ℕ) (best : Choice) {ms : List ℕ} → isNear s x item ≡ true
+            → Each (Near s valid (x .from)) ms → Leads s x item best
             → Leads s x item (eachLocation s x rec left ls item done best ms)
         unfolding eachLocation
-        each-leads left ls item done best Each.none f = f
-        each-leads left ls item done best (more {x = m} near ms) f =
-            each-leads left ls item (done ++ (m ∷ [])) _ ms
-            (location-leads item left _ best m (importableName s x item m) near f (importable-led item m))
+        each-leads left ls item done best near Each.none f = f
+        each-leads left ls item done best near (more {x = m} here ms) f =
+            each-leads left ls item (done ++ (m ∷ [])) _ near ms
+            (location-leads item left _ best m (importableName s x item m) here f (importable-led item m near))
 
-        local-leads : (left : ℕ) (ls : List Level) (item : Item) → Leads s x item (calculateBestPathLocal s x rec left ls item)
+        local-leads : (left : ℕ) (ls : List Level) (item : Item) → isNear s x item ≡ true → Leads s x item (calculateBestPathLocal s x rec left ls item)
         unfolding calculateBestPathLocal
-        local-leads left ls item = each-leads left ls item [] nothing (locations-near s valid (x .from) (visited ls item)) nothing-leads
+        local-leads left ls item near = each-leads left ls item [] nothing near (locations-near s valid (x .from) (visited ls item)) nothing-leads
 
-        or-local-leads : (left : ℕ) (ls : List Level) (m : ℕ) (c : Choice) (b : Bool) → Leads s x (Mod m) c → Leads s x (Mod m) (orLocal s x rec left ls m c b)
+        or-local-leads : (left : ℕ) (ls : List Level) (m : ℕ) (c : Choice) (b : Bool) → Near s valid (x .from) m → Leads s x (Mod m) c
+            → Leads s x (Mod m) (orLocal s x rec left ls m c b)
         unfolding orLocal
-        or-local-leads left ls m c true f = f
-        or-local-leads left ls m c false f = local-leads left ls (Mod m)
+        or-local-leads left ls m c true near f = f
+        or-local-leads left ls m c false near f = local-leads left ls (Mod m) (module-near m near)
 
       localTo-leads : (d : ℕ) → LeadsLocal (localTo s x d)
       unfolding localTo findPathForModuleLocal
       localTo-leads zero left ls m near = nothing-leads
       localTo-leads (suc d) zero ls m near = nothing-leads
       localTo-leads (suc d) (suc l) ls m near =
-          or-local-leads (localTo s x d) (localTo-leads d) (suc l) ls m _ _ (rules-lead false m (λ _. near))
+          or-local-leads (localTo s x d) (localTo-leads d) (suc l) ls m _ _ near (rules-lead false m (λ _. near))
 
-      best-local-leads : (left : ℕ) (item : Item) → Leads s x item (bestLocal s x left item)
+      best-local-leads : (left : ℕ) (item : Item) → isNear s x item ≡ true → Leads s x item (bestLocal s x left item)
       unfolding bestLocal searchLocal
-      best-local-leads left item = local-leads (searchLocal s x) (λ l ls m. localTo-leads l l ls m) left [] item
+      best-local-leads left item near = local-leads (searchLocal s x) (λ l ls m. localTo-leads l l ls m) left [] item near
 
-module _ (M : Type 0) (charge : Charge M) (s : Snapshot) (x : FindPathCtx) (valid : Valid s) (rooted : x .root ≡ crateRoot s (x .from)) where
+module _ (M : Type 0) (charge : Charge M) (s : Snapshot) (x : FindPathCtx) (valid : Valid s) (rooted : Rooted s x) where
   abbrev LeadsSearch : Search M → Type 0
   LeadsSearch rec = (left m : ℕ) (t : M) → Leads s x (Mod m) (rec left m t .choice)
+
+  -- a dependency of the viewer's crate
+  abbrev Ours : Dependency → Type 0
+  Ours d = d ∈ dependenciesOf s (x .krate)
+
+  lang-in : (o : Option Dependency) → ((d : Dependency) → o ≡ some d → Ours d) → Each Ours (oneOrNone o)
+  unfolding oneOrNone
+  lang-in none f = Each.none
+  lang-in (some d) f = more (f d refl) Each.none
+
+  lang-ours : (n : ℕ) → Each Ours (oneOrNone (langOf s (x .krate) n))
+  unfolding langOf
+  lang-ours n = lang-in _ (λ d e. first-found _ (dependenciesOf s (x .krate)) d e .0)
+
+  sysroot-ours : Each Ours (sysrootFirst s (x .krate))
+  unfolding sysrootFirst
+  sysroot-ours =
+      each-append (select-found _ (dependenciesOf s (x .krate)) (λ d h t. h)) (select-found _ (dependenciesOf s (x .krate)) (λ d h t. h))
 
   module _ (rec : Search M) (leads : LeadsSearch rec) where
     -- an import that is not passed over is not hidden
     import-leads : (item : Item) (left : ℕ) (o : Out M) (i : Import) (b : Bool) → (b ≡ false → isHidden i ≡ false) → Leads s x item (o .choice)
-        → Listed s item i → Leads s x item (findImport M charge s x (bestLocal s x) rec left o i b .choice)
+        → Listed s x item i → Leads s x item (findImport M charge s x (bestLocal s x) rec left o i b .choice)
     unfolding findImport
     import-leads item left o i true v f h = f
     import-leads item left o i false v f h =
         offer-import-leads s x item (o .choice) _ i f (leads _ (i .container) (o .meter)) h (v refl)
 
-    imports-lead : (item : Item) (left : ℕ) (o : Out M) {is : List Import} → Leads s x item (o .choice) → Each (Listed s item) is
+    imports-lead : (item : Item) (left : ℕ) (o : Out M) {is : List Import} → Leads s x item (o .choice) → Each (Listed s x item) is
         → Leads s x item (findImports M charge s x (bestLocal s x) rec left o is .choice)
     unfolding findImports
     imports-lead item left o f Each.none = f
@@ -382,30 +423,31 @@ module _ (M : Type 0) (charge : Charge M) (s : Snapshot) (x : FindPathCtx) (vali
         imports-lead item left (findImport M charge s x (bestLocal s x) rec left o i (isHidden i))
         (import-leads item left o i (isHidden i) (λ e. e) f h) hs
 
-    deps-lead : (left : ℕ) (item : Item) (o : Out M) (ds : List Dependency) → Leads s x item (o .choice)
+    deps-lead : (left : ℕ) (item : Item) (o : Out M) (ds : List Dependency) → isNear s x item ≡ false → Each Ours ds → Leads s x item (o .choice)
         → Leads s x item (findInDeps M charge s x (bestLocal s x) rec left item o ds .choice)
     unfolding findInDeps findInDep
-    deps-lead left item o [] f = f
-    deps-lead left item o (d ∷ ds) f = deps-lead left item _ ds (imports-lead item left o f (imports-listed s (d .crate) item))
+    deps-lead left item o [] away h f = f
+    deps-lead left item o (d ∷ ds) away (more k h) f =
+        deps-lead left item _ ds away h (imports-lead item left o f (imports-listed s x d item k away))
 
-    sysroot-leads : (left : ℕ) (item : Item) (o : Out M) (ls : List ℕ) (b : Bool) → Leads s x item (o .choice)
+    sysroot-leads : (left : ℕ) (item : Item) (o : Out M) (ls : List ℕ) (b : Bool) → isNear s x item ≡ false → Leads s x item (o .choice)
         → Leads s x item (findInSysroot M charge s x (bestLocal s x) rec left item o ls b .choice)
     unfolding findInSysroot
-    sysroot-leads left item o [] true f = f
-    sysroot-leads left item o [] false f = deps-lead left item o (sysrootFirst s (x .krate)) f
-    sysroot-leads left item o (n ∷ ls) true f = f
-    sysroot-leads left item o (n ∷ ls) false f =
-        sysroot-leads left item _ ls _ (deps-lead left item o (oneOrNone (langOf s (x .krate) n)) f)
+    sysroot-leads left item o [] true away f = f
+    sysroot-leads left item o [] false away f = deps-lead left item o (sysrootFirst s (x .krate)) away sysroot-ours f
+    sysroot-leads left item o (n ∷ ls) true away f = f
+    sysroot-leads left item o (n ∷ ls) false away f =
+        sysroot-leads left item _ ls _ away (deps-lead left item o (oneOrNone (langOf s (x .krate) n)) away (lang-ours n) f)
 
-    go-leads : (left : ℕ) (item : Item) (t : M) (a b : Bool) → Leads s x item (goOn M charge s x (bestLocal s x) rec left item t a b .choice)
+    go-leads : (left : ℕ) (item : Item) (t : M) (a b : Bool) → isNear s x item ≡ a → Leads s x item (goOn M charge s x (bestLocal s x) rec left item t a b .choice)
     unfolding goOn
-    go-leads left item t true b = best-local-leads s x valid rooted left item
-    go-leads left item t false true = sysroot-leads left item _ (langs (x .nostd)) false (nothing-leads s x)
-    go-leads left item t false false = deps-lead left item _ (dependenciesOf s (x .krate)) (nothing-leads s x)
+    go-leads left item t true b near = best-local-leads s x valid rooted left item near
+    go-leads left item t false true away = sysroot-leads left item _ (langs (x .nostd)) false away (nothing-leads s x)
+    go-leads left item t false false away = deps-lead left item _ _ away (each-self (dependenciesOf s (x .krate))) (nothing-leads s x)
 
     after-leads : (left : ℕ) (item : Item) (c : Charged M) → Leads s x item (afterCharge M charge s x (bestLocal s x) rec left item c .choice)
     unfolding afterCharge
-    after-leads left item (go t) = go-leads left item t _ _
+    after-leads left item (go t) = go-leads left item t _ _ refl
     after-leads left item (stop t) = nothing-leads s x
 
     best-leads : (left : ℕ) (item : Item) (t : M) → Leads s x item (calculateBestPath M charge s x (bestLocal s x) rec left item t .choice)
@@ -466,7 +508,7 @@ module _ (s : Snapshot) (x : FindPathCtx) (limit : x .limit ≤ 15) where
         (omega (arith, n, g .few))));
   }
 
-module _ (M : Type 0) (charge : Charge M) (s : Snapshot) (x : FindPathCtx) (valid : Valid s) (rooted : x .root ≡ crateRoot s (x .from))
+module _ (M : Type 0) (charge : Charge M) (s : Snapshot) (x : FindPathCtx) (valid : Valid s) (rooted : Rooted s x)
     (some-limit : 0 < x .limit) (limit : x .limit ≤ 15) where
   -- P holds of every route of as many names at most as the limit, and of what the enum's search gives a variant
   module _ (inner : Inner M) (P : Item → Choice → Type 0)
@@ -527,9 +569,9 @@ module _ (M : Type 0) (charge : Charge M) (s : Snapshot) (x : FindPathCtx) (vali
       (wider _ (x .limit) (omega arith) (itemTo-fits M charge s x (x .limit - 1) some-limit (omega arith) 1 (itemOf s types (v .first)) u)) e)
       item t
 
-context-rooted : (s : Snapshot) (q : Query) (home : ℕ) → contextOf s q home .root ≡ crateRoot s (contextOf s q home .from)
+context-rooted : (s : Snapshot) (q : Query) (home : ℕ) → Rooted s (contextOf s q home)
 unfolding contextOf
-context-rooted s q home = refl
+context-rooted s q home = record { root = refl; krate = refl }
 
 context-limit : (s : Snapshot) (q : Query) (home : ℕ) → contextOf s q home .limit ≡ q .limit
 unfolding contextOf
@@ -628,17 +670,17 @@ by-record {W = W} rule place h z e =
 
 module _ (W : List ℕ) (s : Snapshot) (placed : Placed W s) (x : FindPathCtx) where
   start-shown : {k t : ℕ} {ns : List ℕ} {item : Item} → Start s x k ns t item → Shown W t
-  start-shown self = by-keyword W
-  start-shown (super p e) = by-keyword W
+  start-shown (self b) = by-keyword W
+  start-shown (super p b e) = by-keyword W
   start-shown crate = by-keyword W
-  start-shown (scope item e h q) = by-record viaScope (e .place) (omega arith) (λ z. omega arith) (each-in (placed .scopes) h .head)
+  start-shown (scope item e h m q) = by-record viaScope (e .place) (omega arith) (λ z. omega arith) (each-in (placed .scopes) h .head)
   start-shown (prelude item e h q) = by-record viaPrelude (e .place) (omega arith) (λ z. omega arith) (each-in (placed .scopes) h .head)
-  start-shown (extern m e h q) = by-record viaExtern (e .place) (omega arith) (λ z. omega arith) (each-in (placed .externs) h .head)
+  start-shown (extern m e h r z q) = by-record viaExtern (e .place) (omega arith) (λ z. omega arith) (each-in (placed .externs) h .head)
   start-shown (builtin d h q) = by-record viaBuiltin (definitionOf s d .place) (omega arith) (λ z. omega arith) (each-in (placed .definitions) h .head)
 
   step-shown : {m n t : ℕ} {item : Item} → Step s x m n t item → Shown W t
-  step-shown (entry e h o v) = by-record viaLocal (e .place) (omega arith) (λ z. omega arith) (each-in (placed .scopes) h .head)
-  step-shown (imported i h v u) = by-record viaImport (i .place) (omega arith) (λ z. omega arith) (each-in (placed .imports) h .head)
+  step-shown (entry e h n o v) = by-record viaLocal (e .place) (omega arith) (λ z. omega arith) (each-in (placed .scopes) h .head)
+  step-shown (imported d i k h o n v u) = by-record viaImport (i .place) (omega arith) (λ z. omega arith) (each-in (placed .imports) h .head)
 
   route-shown : {k : ℕ} {ns ts : List ℕ} {item : Item} → Route s x k ns ts item → Each (Shown W) ts
   route-shown (start b) = more (start-shown b) Each.none

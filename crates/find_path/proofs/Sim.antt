@@ -138,7 +138,7 @@ module _ (C : Type 0) (charge : Charge C) (size : C → ℕ) (Past : ℕ → ℕ
       unfolding goOn
       go-sim left item t n true b h = same refl h
       go-sim left item t n false true h = sysroot-sim left item _ _ (langs (x .nostd)) false (same refl h)
-      go-sim left item t n false false h = deps-sim left item _ _ (dependenciesOf s (x .krate)) (same refl h)
+      go-sim left item t n false false h = deps-sim left item _ _ _ (same refl h)
 
       go-on : (left : ℕ) (item : Item) → Charged C → Out C
       go-on left item = afterCharge C charge s x here rc left item

@@ -112,7 +112,7 @@ module _ (s : Snapshot) (r : Ranges (countsOf s) s) where
       unfolding goOn
       go-told item t true b f = f
       go-told item t false true f = sysroot-told item _ (langs (x .nostd)) false f
-      go-told item t false false f = deps-told item _ (dependenciesOf s (x .krate)) f
+      go-told item t false false f = deps-told item _ _ f
 
       after-told : (item : Item) (c : Charged Tank) → Keeps (left-by c) → Keeps (afterCharge Tank fromTank s x here rec left item c .meter)
       unfolding afterCharge

@@ -123,7 +123,7 @@ module _ (M : Type 0) (charge : Charge M) (s : Snapshot) (x : FindPathCtx) where
     unfolding goOn
     go-same item t true b = refl
     go-same item t false true = sysroot-same item _ (langs (x .nostd)) false
-    go-same item t false false = deps-same item _ (dependenciesOf s (x .krate))
+    go-same item t false false = deps-same item _ _
 
     after-same : (item : Item) (c : Charged M) → afterCharge M charge s x here f left item c ≡ afterCharge M charge s x here g left item c
     unfolding afterCharge

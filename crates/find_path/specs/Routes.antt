@@ -2,15 +2,15 @@
 -- these very rules and records.
 use mathlib.Core.Path.{_≡_}
 use mathlib.Core.List.{List, [], _∷_, _++_, List·Memᴰ}
-use mathlib.Core.Bool.{true, false, _||_}
+use mathlib.Core.Bool.{Bool, true, false, _||_}
 use mathlib.Core.Option.{some}
 use Prim.Native.Nat.{ℕ, suc, _-_, _/_, _%_, _≤_}
 use lib.ListN.{length, getD, take}
 use Rattle.snapshot.specs.Words.{kindOf}
-use Rattle.snapshot.specs.Records.{Snapshot, Definition, Scope, Import, Extern}
-use Rattle.hir_def.specs.Items.{types, builtinKind, parentOf, definitionOf, itemOf, homeOf}
+use Rattle.snapshot.specs.Records.{Snapshot, Dependency, Definition, Scope, Import, Extern}
+use Rattle.hir_def.specs.Items.{types, builtinKind, parentOf, crateRoot, definitionOf, itemOf, homeOf}
 use Rattle.hir_def.specs.Visibility.{sees}
-use Rattle.hir_def.specs.Nameres.{occupied, externOf}
+use Rattle.hir_def.specs.Nameres.{occupied, externOf, dependenciesOf}
 use Rattle.hir_def.specs.ImportMap.{isHidden, isUnstable}
 use Rattle.hir_def.specs.declared.Item.{Item}
 use Rattle.hir_def.specs.declared.Item.the-variants.{Mod}
@@ -18,27 +18,31 @@ use Rattle.find_path.specs.declared.FindPathCtx.{FindPathCtx}
 use Rattle.find_path.specs.declared.Query.{Query}
 use Rattle.find_path.specs.declared.Report.{Report}
 use Rattle.find_path.specs.Choices.{plainPath, selfPath, superPath, cratePath, viaBuiltin, viaScope, viaPrelude, viaExtern, viaKeyword, viaVariant, viaLocal, viaImport, stepBy}
-use Rattle.find_path.specs.Rules.{bit, prefixPathKind, contextOf, findInScope, findInPrelude, externKind}
+use Rattle.find_path.specs.Rules.{byCrate, bit, prefixPathKind, contextOf, mayBeInScope, findInScope, findInPrelude, externKind}
 use Rattle.find_path.specs.Local.{importableName}
-use Rattle.find_path.specs.Charged.{variantOf}
+use Rattle.find_path.specs.Charged.{isAt, variantOf}
 
 -- the element stands in the list
 infix 50 _∈_
 abbrev pub _∈_ : {A : Type 0} → A → List A → Type 0
 a ∈ xs = List·Memᴰ a xs
 
+-- the item's home is in the viewer's crate
+abbrev pub isNear : Snapshot → FindPathCtx → Item → Bool
+isNear s x item = isAt s (homeOf s item) (x .krate)
+
 -- A path of that kind starts with these names, by this step, and so reaches the item.
 pub data Start (s : Snapshot) (x : FindPathCtx) : ℕ → List ℕ → ℕ → Item → Type 0 where
-  -- a keyword without names: the viewing module, its parent, the root of its crate
-  self : Start s x selfPath [] (stepBy viaKeyword 0) (Mod (x .from))
-  super : (p : ℕ) → parentOf s (x .from) ≡ suc p → Start s x superPath [] (stepBy viaKeyword 0) (Mod p)
+  -- a keyword without names: the viewing module, its parent, the root of its crate; ByCrate takes no other than the last
+  self : (x .prefix ≡ byCrate → ⊥) → Start s x selfPath [] (stepBy viaKeyword 0) (Mod (x .from))
+  super : (p : ℕ) → (x .prefix ≡ byCrate → ⊥) → parentOf s (x .from) ≡ suc p → Start s x superPath [] (stepBy viaKeyword 0) (Mod p)
   crate : Start s x cratePath [] (stepBy viaKeyword 0) (Mod (x .root))
-  -- a first name by the scope, the prelude or an extern of the viewer's crate
-  scope : (item : Item) (e : Scope) → e ∈ s .scopes → findInScope s x item ≡ some e
+  -- a first name by the scope, where it may be used, by the prelude, or by an extern of the viewer's crate for the root of another
+  scope : (item : Item) (e : Scope) → e ∈ s .scopes → mayBeInScope s x ≡ true → findInScope s x item ≡ some e
       → Start s x (prefixPathKind (x .prefix)) (e .name ∷ []) (stepBy viaScope (e .place)) item
   prelude : (item : Item) (e : Scope) → e ∈ s .scopes → findInPrelude s x item ≡ some e
       → Start s x plainPath (e .name ∷ []) (stepBy viaPrelude (e .place)) item
-  extern : (m : ℕ) (e : Extern) → e ∈ s .externs → externOf s (x .krate) m ≡ some e
+  extern : (m : ℕ) (e : Extern) → e ∈ s .externs → crateRoot s m ≡ m → (m ≡ x .root → ⊥) → externOf s (x .krate) m ≡ some e
       → Start s x (externKind s x (occupied s (x .from) m (e .name) || x .absolute)) (e .name ∷ []) (stepBy viaExtern (e .place)) (Mod m)
   -- a builtin is its name
   builtin : (d : ℕ) → definitionOf s d ∈ s .definitions → definitionOf s d .kind ≡ builtinKind
@@ -46,11 +50,14 @@ pub data Start (s : Snapshot) (x : FindPathCtx) : ℕ → List ℕ → ℕ → I
 
 -- A name leads from a module to an item, by this step.
 pub data Step (s : Snapshot) (x : FindPathCtx) : ℕ → ℕ → ℕ → Item → Type 0 where
-  -- by the scope record of the module that the local search finds for the item, which is visible from the viewing one
-  entry : (e : Scope) → e ∈ s .scopes → importableName s x (itemOf s (e .ns) (e .definition)) (e .owner) ≡ some e → sees s (x .from) e ≡ true
+  -- by the scope record of the module that the local search finds for the item, which is of the viewer's crate and visible from the viewing module
+  entry : (e : Scope) → e ∈ s .scopes → isNear s x (itemOf s (e .ns) (e .definition)) ≡ true
+      → importableName s x (itemOf s (e .ns) (e .definition)) (e .owner) ≡ some e → sees s (x .from) e ≡ true
       → Step s x (e .owner) (e .name) (stepBy viaLocal (e .place)) (itemOf s (e .ns) (e .definition))
-  -- by an import record in the module that is not hidden, and is stable unless the question allows others
-  imported : (i : Import) → i ∈ s .imports → isHidden i ≡ false → (isUnstable i ≡ true → x .unstable ≡ true)
+  -- by an import record of a dependency of the viewer's crate, for an item of another crate, in the module; it is not hidden, and is
+  -- stable unless the question allows others
+  imported : (d : Dependency) (i : Import) → d ∈ dependenciesOf s (x .krate) → i ∈ s .imports → i .owner ≡ d .crate
+      → isNear s x (itemOf s (i .ns) (i .definition)) ≡ false → isHidden i ≡ false → (isUnstable i ≡ true → x .unstable ≡ true)
       → Step s x (i .container) (i .name) (stepBy viaImport (i .place)) (itemOf s (i .ns) (i .definition))
 
 -- A path of that kind with these names, by these steps, reaches the item: its start, and then each name leads on from the module reached so far.
