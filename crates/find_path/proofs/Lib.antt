@@ -14,6 +14,7 @@ pub mod Routes
 pub mod Reports
 pub mod Walks
 pub mod Visited
+pub mod Plain
 pub mod Chains
 pub mod Lines
 pub mod Worked

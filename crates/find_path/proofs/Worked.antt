@@ -21,6 +21,7 @@ use Rattle.hir_def.specs.Visibility.{lastOr, lastTo, last, metOr, metTo, met, u
 use Rattle.hir_def.specs.ItemScope.{isFor, nameOf, namesOf, preferred, get, modulesInScope}
 use Rattle.hir_def.specs.Nameres.{stepsOr, stepsTo, steps, ancestorMaps, scopeEntry, entryNamed, isOther, occupied, containers, childrenOf, preludeOf, externOf, dependenciesOf, langOf, sysrootFirst}
 use Rattle.hir_def.specs.ImportMap.{importInfoFor}
+use Rattle.hir_def.proofs.Plain.{plainly}
 use Rattle.find_path.specs.declared.Query.{Query}
 use Rattle.find_path.specs.declared.Question.{Question}
 use Rattle.find_path.specs.Choices.{nameData, isPrelude, pathKindLen, pathLen, keyword, choiceNew, extended, push, unstably, compareBool, andThen, comparePrelude, taken, better, trySelect, shorterIf, lengthLeft}
@@ -209,7 +210,7 @@ std-cases = refl
 -- `inner`; 8 `y` in `prelude` and `d`; 9 `prelude` in `a` and a long name in `b`; 10 a long name in `a` and `d`, `prelude` in
 -- `b`; 11 `u` in `a`, a private import, and `xx` in `b`; 12 `v` in `a`, for `a` alone, and `inner` in `b`; 13 `y` in `inner` and
 -- `x` in the root; 14 `s` in `a` and `w` in the root; 15 `t` in the block; 16 `u` in the root, for the block; 17 `v` in the
--- root, for the module 9; 18 `w` in `e`; 19 `y` in `e`, for `e` alone; 20 `y` in `a`, for `a` alone, and then `xx` in `a`.
+-- root, for the module 9; 18 `w` in `e`, and then `s`; 19 `y` in `e`, for `e` alone; 20 `y` in `a`, for `a` alone, and then `xx` in `a`.
 pub withModules : List ℕ
 withModules =
     named "a" ++ named "b" ++ named "prelude" ++ named "d" ++ named "inner" ++ named "e" ++ named "x" ++ named "y"
@@ -240,7 +241,8 @@ withModules =
     ∷ head 9 1 ∷ 0 ∷ 10 ∷ 14 ∷ 0 ∷ 0 ∷ 1 ∷ 0 ∷ head 9 0 ∷ 0 ∷ 14 ∷ 14 ∷ 0 ∷ 0 ∷ 0 ∷ 0
     ∷ head 9 7 ∷ 0 ∷ 11 ∷ 15 ∷ 0 ∷ 0 ∷ 1 ∷ 0 ∷ head 9 0 ∷ 0 ∷ 12 ∷ 16 ∷ 2 ∷ 7 ∷ 1 ∷ 0 ∷ head 9 0 ∷ 0 ∷ 13 ∷ 17 ∷ 2 ∷ 9 ∷ 1 ∷ 0
     ∷ head 9 6 ∷ 0 ∷ 14 ∷ 18 ∷ 0 ∷ 0 ∷ 1 ∷ 0 ∷ head 9 6 ∷ 0 ∷ 7 ∷ 19 ∷ 2 ∷ 6 ∷ 1 ∷ 0
-    ∷ head 9 1 ∷ 0 ∷ 7 ∷ 20 ∷ 2 ∷ 1 ∷ 1 ∷ 0 ∷ head 9 1 ∷ 0 ∷ 8 ∷ 20 ∷ 0 ∷ 0 ∷ 0 ∷ 0 ∷ [])
+    ∷ head 9 1 ∷ 0 ∷ 7 ∷ 20 ∷ 2 ∷ 1 ∷ 1 ∷ 0 ∷ head 9 1 ∷ 0 ∷ 8 ∷ 20 ∷ 0 ∷ 0 ∷ 0 ∷ 0
+    ∷ head 9 6 ∷ 0 ∷ 10 ∷ 18 ∷ 0 ∷ 0 ∷ 1 ∷ 0 ∷ [])
 
 -- Worked out by hand from find_path.rs. Each item asked for costs one charge; the search in the crate is free.
 pub moduleCases : List Row
@@ -277,7 +279,9 @@ moduleCases =
     ∷ row 17 0 9 1 0 9 "found crate::v 1 0"
     -- the prelude, unless its name means another thing here, or is not visible
     ∷ row 18 0 1 1 0 0 "found w 0 0"
+    -- its first name decides, though the second one is free here; by bit 32 the first that passes does
     ∷ row 18 0 0 1 0 9 "found a::e::w 1 0"
+    ∷ row 18 0 0 1 32 0 "found s 0 0"
     ∷ row 19 0 0 1 0 9 "none - 1 0"
     -- `super`, but not under ByCrate
     ∷ row 0 0 5 1 0 0 "found super 0 0"
@@ -470,9 +474,9 @@ worked-free = record { charges = refl; alike = refl; apart = (refl, refl) }
 -- One crate. Modules: 0 its root, 1 `m` and 2 `p` below it, 3 a block in the root. The prelude of the crate's own map is `p`.
 -- Definitions: 0 and 1 the modules `m` and `p`; 2 is `old` in the root, declared there and deprecated, then `new`, an import, and `t` in the
 -- block, deprecated; 3 is `x` in `p`, deprecated, then `y`, for `p` alone, and `z`; 4 is `old` in `m`, deprecated, then `new`; 5 is `t` in
--- `m`, deprecated, then `w`, a private import; 6 is `u` in `m`, a private import and deprecated, then `z`.
-pub withOldNames : List ℕ
-withOldNames =
+-- `m`, deprecated, then `w`, a private import; 6 is `u` in `m`, a private import and deprecated, then `z`. `old` is 2, or 0 where none is deprecated.
+pub namesWith : ℕ → List ℕ
+namesWith old =
     named "m" ++ named "p" ++ named "old" ++ named "new" ++ named "t" ++ named "u" ++ named "w" ++ named "x" ++ named "y" ++ named "z"
     ++ (head 2 0 ∷ 2021
     -- maps, modules, children, prelude
@@ -482,11 +486,14 @@ withOldNames =
     ∷ head 8 1 ∷ 1 ∷ 0 ∷ head 8 1 ∷ 2 ∷ 0 ∷ head 8 4 ∷ 0 ∷ 0 ∷ head 8 4 ∷ 2 ∷ 0 ∷ head 8 4 ∷ 1 ∷ 0 ∷ head 8 4 ∷ 1 ∷ 0 ∷ head 8 4 ∷ 1 ∷ 0
     -- scopes
     ∷ head 9 0 ∷ 0 ∷ 0 ∷ 0 ∷ 0 ∷ 0 ∷ 1 ∷ 0 ∷ head 9 0 ∷ 0 ∷ 1 ∷ 1 ∷ 0 ∷ 0 ∷ 1 ∷ 0
-    ∷ head 9 0 ∷ 0 ∷ 2 ∷ 2 ∷ 0 ∷ 0 ∷ 3 ∷ 0 ∷ head 9 0 ∷ 0 ∷ 3 ∷ 2 ∷ 0 ∷ 0 ∷ 0 ∷ 0 ∷ head 9 3 ∷ 0 ∷ 4 ∷ 2 ∷ 0 ∷ 0 ∷ 2 ∷ 0
-    ∷ head 9 2 ∷ 0 ∷ 7 ∷ 3 ∷ 0 ∷ 0 ∷ 2 ∷ 0 ∷ head 9 2 ∷ 0 ∷ 8 ∷ 3 ∷ 2 ∷ 2 ∷ 1 ∷ 0 ∷ head 9 2 ∷ 0 ∷ 9 ∷ 3 ∷ 0 ∷ 0 ∷ 1 ∷ 0
-    ∷ head 9 1 ∷ 0 ∷ 2 ∷ 4 ∷ 0 ∷ 0 ∷ 3 ∷ 0 ∷ head 9 1 ∷ 0 ∷ 3 ∷ 4 ∷ 0 ∷ 0 ∷ 0 ∷ 0
-    ∷ head 9 1 ∷ 0 ∷ 4 ∷ 5 ∷ 0 ∷ 0 ∷ 2 ∷ 0 ∷ head 9 1 ∷ 0 ∷ 6 ∷ 5 ∷ 3 ∷ 0 ∷ 0 ∷ 0
-    ∷ head 9 1 ∷ 0 ∷ 5 ∷ 6 ∷ 3 ∷ 0 ∷ 2 ∷ 0 ∷ head 9 1 ∷ 0 ∷ 9 ∷ 6 ∷ 0 ∷ 0 ∷ 1 ∷ 0 ∷ [])
+    ∷ head 9 0 ∷ 0 ∷ 2 ∷ 2 ∷ 0 ∷ 0 ∷ (old + 1) ∷ 0 ∷ head 9 0 ∷ 0 ∷ 3 ∷ 2 ∷ 0 ∷ 0 ∷ 0 ∷ 0 ∷ head 9 3 ∷ 0 ∷ 4 ∷ 2 ∷ 0 ∷ 0 ∷ old ∷ 0
+    ∷ head 9 2 ∷ 0 ∷ 7 ∷ 3 ∷ 0 ∷ 0 ∷ old ∷ 0 ∷ head 9 2 ∷ 0 ∷ 8 ∷ 3 ∷ 2 ∷ 2 ∷ 1 ∷ 0 ∷ head 9 2 ∷ 0 ∷ 9 ∷ 3 ∷ 0 ∷ 0 ∷ 1 ∷ 0
+    ∷ head 9 1 ∷ 0 ∷ 2 ∷ 4 ∷ 0 ∷ 0 ∷ (old + 1) ∷ 0 ∷ head 9 1 ∷ 0 ∷ 3 ∷ 4 ∷ 0 ∷ 0 ∷ 0 ∷ 0
+    ∷ head 9 1 ∷ 0 ∷ 4 ∷ 5 ∷ 0 ∷ 0 ∷ old ∷ 0 ∷ head 9 1 ∷ 0 ∷ 6 ∷ 5 ∷ 3 ∷ 0 ∷ 0 ∷ 0
+    ∷ head 9 1 ∷ 0 ∷ 5 ∷ 6 ∷ 3 ∷ 0 ∷ old ∷ 0 ∷ head 9 1 ∷ 0 ∷ 9 ∷ 6 ∷ 0 ∷ 0 ∷ 1 ∷ 0 ∷ [])
+
+pub withOldNames : List ℕ
+withOldNames = namesWith 2
 
 -- Worked out by hand: without options bit 32 the lines are the Rust's for 0 and 1 in place of 2 and 3.
 pub oldNameCases : List Row
@@ -518,8 +525,13 @@ oldNameCases =
     ∷ []
 
 pub old-name-cases : passes withOldNames oldNameCases ≡ true
-unfolding passes oldNameCases rowAt withOldNames named head
+unfolding passes oldNameCases rowAt withOldNames namesWith named head
 old-name-cases = refl
+
+-- the same words with 0 and 1 for 2 and 3 are the plain snapshot
+pub old-names-plain : snapshotOf (verdict (namesWith 0)) ≡ plainly (snapshotOf (verdict withOldNames))
+unfolding passes withOldNames namesWith named head
+old-names-plain = refl
 
 -- Limits below 15, and limits that are refused. Worked out by hand.
 
@@ -646,5 +658,5 @@ oldNameRoutes =
     ∷ []
 
 pub old-name-routes : routes withOldNames oldNameRoutes ≡ true
-unfolding routes oldNameRoutes rowAt withOldNames named head
+unfolding routes oldNameRoutes rowAt withOldNames namesWith named head
 old-name-routes = refl

@@ -57,7 +57,7 @@ module _ (p q : Scope → Bool) (h : (e : Scope) → q (plain e) ≡ p e) where
   first-step e o a true r = refl
   first-step e o a false r = r
 
-  first-plain : (xs : List Scope) → firstOf q (map plain xs) ≡ plainOf (firstOf p xs)
+  pub first-plain : (xs : List Scope) → firstOf q (map plain xs) ≡ plainOf (firstOf p xs)
   unfolding firstOf
   first-plain [] = refl
   first-plain (e ∷ xs) =
