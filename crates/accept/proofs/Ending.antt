@@ -10,6 +10,7 @@ use lib.Seq.{ext-getD}
 use lib.Dec.{eqb, leb}
 use borrow.Author.Tests.{eqb-true, eqb-false, leb-true, leb-false, lt-leb, not-true}
 use Rattle.snapshot.specs.Lists.{rows, any, all}
+use Rattle.snapshot.specs.Sizes.{crateSize, dependencySize, childSize, preludeSize, definitionSize, scopeSize, importSize, externSize, memberSize}
 use Rattle.snapshot.specs.Records.{Map, mapAt, crateAt, dependencyAt, childAt, preludeAt, definitionAt, scopeAt, importAt, externAt, memberAt}
 use Rattle.snapshot.specs.Layouts.{crateBase, dependencyBase, childBase, preludeBase, definitionBase, scopeBase, importBase, externBase, memberBase, moduleMap, moduleHead, mapRoot, ownMap, moduleRow, namesOf, mapsOf, modulesOf, recordsOf, snapWith, snapOf}
 use Rattle.snapshot.specs.declared.layout.Layout.{Layout}
@@ -159,17 +160,17 @@ module _ (W A : List ℕ) (k : ℕ) (l : Layout) (ms : List Map) (st : Stands W 
           let q-maps = maps-same in
           λ i. record {
             names = q-names i;
-            crates = recordsOf crateAt 2 W (crateBase l) (l .crates);
-            dependencies = recordsOf dependencyAt 3 W (dependencyBase l) (l .dependencies);
+            crates = recordsOf crateAt crateSize W (crateBase l) (l .crates);
+            dependencies = recordsOf dependencyAt dependencySize W (dependencyBase l) (l .dependencies);
             maps = q-maps i;
             modules = q-modules i;
-            children = recordsOf childAt 2 W (childBase l) (l .children);
-            preludes = recordsOf preludeAt 2 W (preludeBase l) (l .preludes);
-            definitions = recordsOf definitionAt 3 W (definitionBase l) (l .definitions);
-            scopes = recordsOf scopeAt 8 W (scopeBase l) (l .scopes);
-            imports = recordsOf importAt 6 W (importBase l) (l .imports);
-            externs = recordsOf externAt 3 W (externBase l) (l .externs);
-            members = recordsOf memberAt 5 W (memberBase l) (l .members);
+            children = recordsOf childAt childSize W (childBase l) (l .children);
+            preludes = recordsOf preludeAt preludeSize W (preludeBase l) (l .preludes);
+            definitions = recordsOf definitionAt definitionSize W (definitionBase l) (l .definitions);
+            scopes = recordsOf scopeAt scopeSize W (scopeBase l) (l .scopes);
+            imports = recordsOf importAt importSize W (importBase l) (l .imports);
+            externs = recordsOf externAt externSize W (externBase l) (l .externs);
+            members = recordsOf memberAt memberSize W (memberBase l) (l .members);
           }
 
       pub accepted : length W ≤ 16384 → verdict W ≡ finish (length W) (snapWith W A l ms) → all (λ c. not (eqb (ownMap A c) 0)) (rows (λ c. c) 0 (l .crates)) ≡ true

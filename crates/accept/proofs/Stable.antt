@@ -6,6 +6,7 @@ use native.Mathlib.Omega.{arith}
 use lib.ListN.{length, getD, drop, List·getD-append}
 use lib.Seq.{drop-at}
 use borrow.Author.Tests.{lt-ltb, le-ltb}
+use Rattle.snapshot.specs.Sizes.{crateSize, dependencySize, childSize, preludeSize, definitionSize, scopeSize, importSize, externSize, memberSize}
 use Rattle.snapshot.specs.Records.{mapAt, crateAt, dependencyAt, childAt, preludeAt, definitionAt, scopeAt, importAt, externAt, memberAt}
 use Rattle.snapshot.specs.Layouts.{crateBase, dependencyBase, childBase, preludeBase, definitionBase, scopeBase, importBase, externBase, memberBase, moduleMap, moduleHead, mapRoot, ownMap, namesOf, mapsOf, modulesOf, recordsOf, snapOf}
 use Rattle.snapshot.specs.declared.layout.Layout.{Layout}
@@ -44,17 +45,17 @@ module _ (W A B : List ℕ) (l : Layout) (t : Tables W A l) (kept : Kept A B 0 4
       let q-maps = maps-stay in
       λ i. record {
         names = q-names i;
-        crates = recordsOf crateAt 2 W (crateBase l) (l .crates);
-        dependencies = recordsOf dependencyAt 3 W (dependencyBase l) (l .dependencies);
+        crates = recordsOf crateAt crateSize W (crateBase l) (l .crates);
+        dependencies = recordsOf dependencyAt dependencySize W (dependencyBase l) (l .dependencies);
         maps = q-maps i;
         modules = q-modules i;
-        children = recordsOf childAt 2 W (childBase l) (l .children);
-        preludes = recordsOf preludeAt 2 W (preludeBase l) (l .preludes);
-        definitions = recordsOf definitionAt 3 W (definitionBase l) (l .definitions);
-        scopes = recordsOf scopeAt 8 W (scopeBase l) (l .scopes);
-        imports = recordsOf importAt 6 W (importBase l) (l .imports);
-        externs = recordsOf externAt 3 W (externBase l) (l .externs);
-        members = recordsOf memberAt 5 W (memberBase l) (l .members);
+        children = recordsOf childAt childSize W (childBase l) (l .children);
+        preludes = recordsOf preludeAt preludeSize W (preludeBase l) (l .preludes);
+        definitions = recordsOf definitionAt definitionSize W (definitionBase l) (l .definitions);
+        scopes = recordsOf scopeAt scopeSize W (scopeBase l) (l .scopes);
+        imports = recordsOf importAt importSize W (importBase l) (l .imports);
+        externs = recordsOf externAt externSize W (externBase l) (l .externs);
+        members = recordsOf memberAt memberSize W (memberBase l) (l .members);
       }
 
   -- and so are the tables

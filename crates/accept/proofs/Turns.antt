@@ -8,6 +8,7 @@ use lib.ListN.{length, getD}
 use lib.Dec.{eqb, leb, ltb, lit≤}
 use borrow.Author.Tests.{ltb-true, leb-true, eqb-true, eqb-false, not-true}
 use Rattle.snapshot.specs.Words.{kindOf, payOf, wordsOf, argumentTable, argumentsOf, argumentsAt}
+use Rattle.snapshot.specs.Sizes.{scopeSize}
 use Rattle.snapshot.specs.Records.{Map, Snapshot}
 use Rattle.snapshot.specs.declared.layout.Layout.{Layout}
 use Rattle.record_rules.specs.Steps.{Next, no, need}
@@ -135,7 +136,7 @@ arguments-fit W i (suc n) h e =
     let r : i + 1 + n ≤ length W = arguments-fit W (i + 1) n (omega arith) (and-right (p && q) t e) in
     omega arith
 
-table-small : (k : ℕ) → getD argumentTable k 0 ≤ 7
+table-small : (k : ℕ) → getD argumentTable k 0 ≤ scopeSize
 table-small zero = lit≤ tt
 table-small (suc zero) = lit≤ tt
 table-small (suc (suc zero)) = lit≤ tt

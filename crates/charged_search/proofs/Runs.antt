@@ -4,6 +4,7 @@ use Prim.Native.Nat.{ℕ, _+_, _*_, _≤_, _<_}
 use mathlib.Core.List.{List, [], _∷_}
 use mathlib.Core.Bool.{Bool, true, false}
 use lib.ListN.{length, take}
+use Rattle.snapshot.specs.Sizes.{dependencySize, importSize}
 use Rattle.snapshot.specs.Records.{Snapshot, Dependency, Import, dependencyAt, importAt}
 use Rattle.snapshot.specs.Layouts.{tableWords, snapOf}
 use Rattle.snapshot.specs.declared.layout.Layout.{Layout}
@@ -133,11 +134,11 @@ module _ (W A₀ A : List ℕ) (l : Layout) (x : FindPathCtx) (left : ℕ) (p : 
   imports-end best is e = sym (ap (imports (snapOf W A₀ l) x left (outOf best)) e)
 
   pub imports-next : {q : Import → Bool} {base n k j h : ℕ} {best r : Found} {goal : Out Tank} {B : List ℕ}
-      → Running A₀ A left best (imports (snapOf W A₀ l) x left (outOf best) (leftOf q (λ i. importAt W (base + 6 * i)) n k)) goal
-      → Meets q importAt 6 W base n k j h
+      → Running A₀ A left best (imports (snapOf W A₀ l) x left (outOf best) (leftOf q (λ i. importAt W (base + importSize * i)) n k)) goal
+      → Meets q importAt importSize W base n k j h
       → Searched A (oneImport (snapOf W A l) x left (outOf best) (importAt W h) (isHidden (importAt W h))) B r
       → length B ≡ length A
-      → Running A₀ B left r (imports (snapOf W A₀ l) x left (outOf r) (leftOf q (λ i. importAt W (base + 6 * i)) n (j + 1))) goal
+      → Running A₀ B left r (imports (snapOf W A₀ l) x left (outOf r) (leftOf q (λ i. importAt W (base + importSize * i)) n (j + 1))) goal
   unfolding findImports
   imports-next {q} {base} {n} {k} {j} {h} {best} {r} g m d e =
       let S = snapOf W A₀ l in
@@ -146,7 +147,7 @@ module _ (W A₀ A : List ℕ) (l : Layout) (x : FindPathCtx) (left : ℕ) (p : 
       let u : outOf r ≡ oneImport S x left (outOf best) i (isHidden i) = ap outOf (a .same) in
       record {
         same =
-            ap (λ (o : Out Tank). imports S x left o (leftOf q (λ y. importAt W (base + 6 * y)) n (j + 1))) u
+            ap (λ (o : Out Tank). imports S x left o (leftOf q (λ y. importAt W (base + importSize * y)) n (j + 1))) u
             ∙ ap (imports S x left (outOf best)) (sym (m .next))
             ∙ g .same;
         tables = a .tables;
@@ -159,12 +160,12 @@ module _ (W A₀ A : List ℕ) (l : Layout) (x : FindPathCtx) (left : ℕ) (p : 
   deps-end item best ds e = sym (ap (dependencies (snapOf W A₀ l) x left item (outOf best)) e)
 
   pub deps-next : (item : Item) {q : Dependency → Bool} {base n k j h c : ℕ} {best r : Found} {goal : Out Tank} {B : List ℕ}
-      → Running A₀ A left best (dependencies (snapOf W A₀ l) x left item (outOf best) (leftOf q (λ i. dependencyAt W (base + 3 * i)) n k)) goal
-      → Meets q dependencyAt 3 W base n k j h
+      → Running A₀ A left best (dependencies (snapOf W A₀ l) x left item (outOf best) (leftOf q (λ i. dependencyAt W (base + dependencySize * i)) n k)) goal
+      → Meets q dependencyAt dependencySize W base n k j h
       → c ≡ dependencyAt W h .crate
       → Searched A (imports (snapOf W A l) x left (outOf best) (importInfoFor (snapOf W A l) c item)) B r
       → length B ≡ length A
-      → Running A₀ B left r (dependencies (snapOf W A₀ l) x left item (outOf r) (leftOf q (λ i. dependencyAt W (base + 3 * i)) n (j + 1))) goal
+      → Running A₀ B left r (dependencies (snapOf W A₀ l) x left item (outOf r) (leftOf q (λ i. dependencyAt W (base + dependencySize * i)) n (j + 1))) goal
   unfolding findInDeps findInDep
   deps-next item {q} {base} {n} {k} {j} {h} {c} {best} {r} g m y d e =
       let S = snapOf W A₀ l in
@@ -173,7 +174,7 @@ module _ (W A₀ A : List ℕ) (l : Layout) (x : FindPathCtx) (left : ℕ) (p : 
       a .same ∙ ap (λ (z : ℕ). foundOf (imports S x left (outOf best) (importInfoFor S z item))) y in
       record {
         same =
-            ap (λ (z : Found). dependencies S x left item (outOf z) (leftOf q (λ i. dependencyAt W (base + 3 * i)) n (j + 1))) v
+            ap (λ (z : Found). dependencies S x left item (outOf z) (leftOf q (λ i. dependencyAt W (base + dependencySize * i)) n (j + 1))) v
             ∙ ap (dependencies S x left item (outOf best)) (sym (m .next))
             ∙ g .same;
         tables = a .tables;

@@ -3,6 +3,7 @@ ghost use mathlib.Core.Path.{_≡_};
 ghost use mathlib.Core.List.{List};
 ghost use mathlib.Core.Bool.{_&&_};
 ghost use Prim.Native.Nat.{ℕ, _^_, _<_};
+ghost use Rattle.snapshot.specs.Sizes.{dependencySize};
 ghost use Rattle.snapshot.specs.Records.{dependencyAt, preludeAt, externAt};
 ghost use Rattle.snapshot.specs.Layouts.{wordCount, dependencyBase, snapOf};
 ghost use Rattle.hir_def.specs.Nameres.{isExtern, isDependency, bySysroot, isLangSysroot, externOf, preludeOf, langOf};
@@ -12,6 +13,7 @@ use hir_def::Next;
 use hir_def::items::origin_of;
 use snapshot::ids::Crate;
 use snapshot::ids::ModuleId;
+use snapshot::kind::Size;
 use snapshot::layout::Layout;
 use snapshot::record::dependency_crate;
 use snapshot::record::dependency_owner;
@@ -38,7 +40,7 @@ pub fn extern_of(words: &[u32], l: Layout, c: Crate, m: ModuleId) -> Entry
     let mut k = l.externs;
     while 0 < k {
         k -= 1;
-        let h = base + 3 * k;
+        let h = base + Size::EXTERN * k;
         if is_extern(words, h, c, m) {
             return Entry::At(h);
         }
@@ -54,7 +56,7 @@ pub fn prelude_of(words: &[u32], l: Layout, map: usize) -> Entry
     let base = l.prelude_base();
     let mut k = 0;
     while k < l.preludes {
-        let h = base + 2 * k;
+        let h = base + Size::PRELUDE * k;
         if prelude_map(words, h) == map {
             return Entry::At(h);
         }
@@ -66,12 +68,12 @@ pub fn prelude_of(words: &[u32], l: Layout, map: usize) -> Entry
 /// The next of the crate's dependencies, from the dependency number k on.
 pub fn next_dependency(words: &[u32], l: Layout, k: usize, c: Crate) -> Next
     requires { ⌜ wordCount l < 2 ^ 32 ⌝ }
-    ensures { λ r. ⌜ NextOf (isDependency (c .0)) dependencyAt 3 (now (words .entry)) (dependencyBase l) (l .dependencies) k r ⌝ }
+    ensures { λ r. ⌜ NextOf (isDependency (c .0)) dependencyAt dependencySize (now (words .entry)) (dependencyBase l) (l .dependencies) k r ⌝ }
 {
     let base = l.dependency_base();
     let mut j = k;
     while j < l.dependencies {
-        let h = base + 3 * j;
+        let h = base + Size::DEPENDENCY * j;
         let owner = dependency_owner(words, h);
         if owner.0 == c.0 {
             return Next::Record(j, h);
@@ -96,12 +98,12 @@ fn by_sysroot(words: &[u32], h: usize, c: Crate, sysroot: bool) -> bool
 /// The next of the crate's dependencies that are in the sysroot, or of those that are not, from the dependency number k on.
 pub fn next_by_sysroot(words: &[u32], l: Layout, k: usize, c: Crate, sysroot: bool) -> Next
     requires { ⌜ wordCount l < 2 ^ 32 ⌝ }
-    ensures { λ r. ⌜ NextOf (bySysroot (c .0) sysroot) dependencyAt 3 (now (words .entry)) (dependencyBase l) (l .dependencies) k r ⌝ }
+    ensures { λ r. ⌜ NextOf (bySysroot (c .0) sysroot) dependencyAt dependencySize (now (words .entry)) (dependencyBase l) (l .dependencies) k r ⌝ }
 {
     let base = l.dependency_base();
     let mut j = k;
     while j < l.dependencies {
-        let h = base + 3 * j;
+        let h = base + Size::DEPENDENCY * j;
         if by_sysroot(words, h, c, sysroot) {
             return Next::Record(j, h);
         }
@@ -129,7 +131,7 @@ pub fn lang_of(words: &[u32], l: Layout, c: Crate, lang: usize) -> Entry
     let base = l.dependency_base();
     let mut k = 0;
     while k < l.dependencies {
-        let h = base + 3 * k;
+        let h = base + Size::DEPENDENCY * k;
         if is_lang_sysroot(words, l, h, c, lang) {
             return Entry::At(h);
         }

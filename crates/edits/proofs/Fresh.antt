@@ -8,6 +8,7 @@ use lib.Dec.{ltb}
 use lib.ListN.{length, take, length-append, length-replicate}
 use lib.Seq.{length-take-le, take-append-seam}
 use borrow.Author.Tests.{eq-eqb, ltb-false}
+use Rattle.snapshot.specs.Sizes.{scopeSize}
 use Rattle.snapshot.specs.Records.{Snapshot, Scope}
 use Rattle.record_rules.specs.Tests.{sameEntry}
 use Rattle.accept.specs.Verdict.{Verdict, refuse, accept, verdict}
@@ -135,7 +136,7 @@ module _ (area : ℕ) (W : List ℕ) (n : ℕ) (x : Scope) (T : List ℕ) (e : e
   own : length (take n W) ≡ n
   own = length-take-le n W (t .within)
 
-  longer : length T ≡ length (take n W) + 8
+  longer : length T ≡ length (take n W) + scopeSize
   unfolding editedWords
   longer = ap length (sym (t .words)) ∙ add-longer (take n W) (t .snapshot) (length W) x (t .accepted) (t .fault)
 

@@ -9,6 +9,7 @@ use lib.Seq.{length-take-le}
 use borrow.Author.Tests.{lt-ltb, le-ltb}
 use Rattle.snapshot.specs.Records.{Snapshot, Scope}
 use Rattle.snapshot.specs.Lists.{any}
+use Rattle.snapshot.specs.Sizes.{scopeSize}
 use Rattle.accept.specs.Verdict.{refuse, accept, verdict}
 pub use Rattle.checked.proofs.Laws.{refused-verdict, accepted-reads}
 use Rattle.answer.specs.Answers.{zeros}
@@ -82,7 +83,7 @@ module _ (W A : List ℕ) (n : ℕ) (o : Operation) where
   edits-large X B r h z e =
       record { edit = subst (λ y. Edits W n y X r) (sym (of-large (length A) W n o h)) e; area = area-large A B h z }
 
-pub record-long : (x : Scope) (R : List ℕ) → R ≡ scopeWords x → length R ≡ 8
+pub record-long : (x : Scope) (R : List ℕ) → R ≡ scopeWords x → length R ≡ scopeSize
 unfolding scopeWords
 record-long x R e = ap length e
 
@@ -96,7 +97,7 @@ module _ (W : List ℕ) (n : ℕ) (h : n ≤ length W) (s : Snapshot) (acc : ver
     pub added-head : k ≡ 0 → x .owner < 268435456
     added-head z = add-small (take n W) s (length W) x acc (sym e ∙ z) .owner
 
-    pub added-fits : k ≡ 0 → (at : ℕ) → at ≡ scopesEnd (take n W) → (at ≤ n) × (n + 8 ≤ length W)
+    pub added-fits : k ≡ 0 → (at : ℕ) → at ≡ scopesEnd (take n W) → (at ≤ n) × (n + scopeSize ≤ length W)
     added-fits z at p =
         let l = length-take-le n W h in
         let w = end-within (take n W) s acc in
@@ -104,13 +105,13 @@ module _ (W : List ℕ) (n : ℕ) (h : n ≤ length W) (s : Snapshot) (acc : ver
         (omega arith, omega arith)
 
     pub added-done : (X : List ℕ) (at : ℕ) → k ≡ 0 → at ≡ scopesEnd (take n W)
-        → X ≡ inserted at (scopeWords x) (take n W) ++ replicate (length W - (n + 8)) 0
-        → Edits W n (editBy (take n W) (length W) (adding x) (verdict (take n W))) X (record { number = 0; count = n + 8 })
+        → X ≡ inserted at (scopeWords x) (take n W) ++ replicate (length W - (n + scopeSize)) 0
+        → Edits W n (editBy (take n W) (length W) (adding x) (verdict (take n W))) X (record { number = 0; count = n + scopeSize })
     unfolding editedWords
     added-done X at z p q =
-        edits-done W (inserted (scopesEnd (take n W)) (scopeWords x) (take n W)) X n (n + 8) _ (fault-none W n (adding x) s acc k e z)
-        (sym (add-longer (take n W) s (length W) x acc (sym e ∙ z) ∙ ap (λ m. m + 8) (length-take-le n W h)))
-        (q ∙ ap (λ p. inserted p (scopeWords x) (take n W) ++ replicate (length W - (n + 8)) 0) p)
+        edits-done W (inserted (scopesEnd (take n W)) (scopeWords x) (take n W)) X n (n + scopeSize) _ (fault-none W n (adding x) s acc k e z)
+        (sym (add-longer (take n W) s (length W) x acc (sym e ∙ z) ∙ ap (λ m. m + scopeSize) (length-take-le n W h)))
+        (q ∙ ap (λ p. inserted p (scopeWords x) (take n W) ++ replicate (length W - (n + scopeSize)) 0) p)
 
 -- a removal from accepted words
 module _ (W : List ℕ) (n : ℕ) (h : n ≤ length W) (s : Snapshot) (acc : verdict (take n W) ≡ accept s) (m ns name : ℕ) (at : ℕ)
@@ -135,20 +136,20 @@ module _ (W : List ℕ) (n : ℕ) (h : n ≤ length W) (s : Snapshot) (acc : ver
     found : at < n → entryPlace (isNamed m ns name) (take n W) < length (take n W)
     found g = let l = long in omega arith
 
-    pub removed-fits : at < n → at + 8 ≤ n
+    pub removed-fits : at < n → at + scopeSize ≤ n
     removed-fits g = let f = present (isNamed m ns name) (take n W) s acc (found g) .fits in let l = long in omega arith
 
-    pub removed-done : (X : List ℕ) → at < n → X ≡ cut at 8 (take n W) ++ replicate (length W - (n - 8)) 0
-        → Edits W n (editBy (take n W) (length W) (removing m ns name) (verdict (take n W))) X (record { number = 0; count = n - 8 })
+    pub removed-done : (X : List ℕ) → at < n → X ≡ cut at scopeSize (take n W) ++ replicate (length W - (n - scopeSize)) 0
+        → Edits W n (editBy (take n W) (length W) (removing m ns name) (verdict (take n W))) X (record { number = 0; count = n - scopeSize })
     unfolding editedWords
     removed-done X g q =
         let f = present (isNamed m ns name) (take n W) s acc (found g) in
         let l = long in
-        let c = cut-length (take n W) (entryPlace (isNamed m ns name) (take n W)) 8 (f .fits) in
-        edits-done W (cut (entryPlace (isNamed m ns name) (take n W)) 8 (take n W)) X n (n - 8) _
+        let c = cut-length (take n W) (entryPlace (isNamed m ns name) (take n W)) scopeSize (f .fits) in
+        edits-done W (cut (entryPlace (isNamed m ns name) (take n W)) scopeSize (take n W)) X n (n - scopeSize) _
         (fault-none W n (removing m ns name) s acc 0 (present-fault (f .there)) refl)
         (omega arith)
-        (q ∙ ap (λ p. cut p 8 (take n W) ++ replicate (length W - (n - 8)) 0) e)
+        (q ∙ ap (λ p. cut p scopeSize (take n W) ++ replicate (length W - (n - scopeSize)) 0) e)
 
 -- the check before an edit
 

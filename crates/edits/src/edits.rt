@@ -13,7 +13,6 @@ ghost use Rattle.edits.specs.Edits.{Edits, EditsIn};
 use accept::check::Checked;
 use accept::check::check;
 use answer::area::clear;
-use scope_edits::entries::EntryWords;
 use scope_edits::entries::add_fault;
 use scope_edits::entries::record_of;
 use scope_edits::moves::insert;
@@ -21,6 +20,7 @@ use scope_edits::moves::remove;
 use scope_edits::places::entry_place;
 use scope_edits::places::scopes_end;
 use snapshot::ids::WordCount;
+use snapshot::kind::Size;
 use snapshot::layout::Layout;
 
 /// The number by which an edit is refused, 0 for none, and how many words the snapshot has after it.
@@ -30,7 +30,7 @@ pub struct Edited {
 }
 
 // Adds an entry to an accepted snapshot.
-fn add_accepted(words: &mut [u32], count: usize, l: Layout, entry: &[u32; 8]) -> Edited
+fn add_accepted(words: &mut [u32], count: usize, l: Layout, entry: &[u32; Size::SCOPE]) -> Edited
     requires { ⌜ (count ≤ length (now words)) × ((A : List ℕ) × Reads (take count (now words)) A l) ⌝ }
     ensures { λ r. ⌜ Edits (now (words .entry)) count (editBy (take count (now (words .entry))) (length (now (words .entry))) (adding (entryOf (now (entry .entry)))) (verdict (take count (now (words .entry))))) (now (words .exit)) r ⌝ }
 {
@@ -47,12 +47,17 @@ fn add_accepted(words: &mut [u32], count: usize, l: Layout, entry: &[u32; 8]) ->
     insert(words, at, count, &added);
     Edited {
         number: 0,
-        count: count + EntryWords::COUNT,
+        count: count + Size::SCOPE,
     }
 }
 
 // Checks the words, and adds an entry.
-fn add_checked(words: &mut [u32], count: usize, area: &mut [u32], entry: &[u32; 8]) -> Edited
+fn add_checked(
+    words: &mut [u32],
+    count: usize,
+    area: &mut [u32],
+    entry: &[u32; Size::SCOPE],
+) -> Edited
     requires { ⌜ length (now area) ≡ 16384 ⌝ }
     ensures { λ r. ⌜ Edits (now (words .entry)) count (editWithin (now (words .entry)) count (adding (entryOf (now (entry .entry))))) (now (words .exit)) r ⌝ }
 {
@@ -73,7 +78,12 @@ fn add_checked(words: &mut [u32], count: usize, area: &mut [u32], entry: &[u32; 
 }
 
 // The same, in a work area that serves and is cleared.
-fn add_within(words: &mut [u32], count: usize, area: &mut [u32], entry: &[u32; 8]) -> Edited
+fn add_within(
+    words: &mut [u32],
+    count: usize,
+    area: &mut [u32],
+    entry: &[u32; Size::SCOPE],
+) -> Edited
     requires { ⌜ length (now area) ≡ 16384 ⌝ }
     ensures { λ r. ⌜ Edits (now (words .entry)) count (editWithin (now (words .entry)) count (adding (entryOf (now (entry .entry))))) (now (words .exit)) r ⌝ }
     ensures { λ _. ⌜ now (area .exit) ≡ zeros 16384 ⌝ }
@@ -88,7 +98,12 @@ fn add_within(words: &mut [u32], count: usize, area: &mut [u32], entry: &[u32; 8
 /// end; the words after it move up, and all past the new end are zero. Answers the new count and 0, or the number by which the edit
 /// is refused, with the words unchanged: 20 a small work area, 30 to 36 and 43 the snapshot, 30 also more words than there are, 32, 33 and
 /// 35 the entry, 47 a name that is there already, 48 no room. The work area is left as `find_path` leaves it.
-pub fn add_entry(words: &mut [u32], count: usize, area: &mut [u32], entry: &[u32; 8]) -> Edited
+pub fn add_entry(
+    words: &mut [u32],
+    count: usize,
+    area: &mut [u32],
+    entry: &[u32; Size::SCOPE],
+) -> Edited
     ensures { λ r. ⌜ EditsIn (now (words .entry)) count (now (area .entry)) (adding (entryOf (now (entry .entry)))) (now (words .exit)) (now (area .exit)) r ⌝ }
 {
     if area.len() < WordCount::AREA {
@@ -115,7 +130,7 @@ fn remove_accepted(words: &mut [u32], count: usize, owner: usize, ns: usize, nam
     remove(words, at, count);
     Edited {
         number: 0,
-        count: count - EntryWords::COUNT,
+        count: count - Size::SCOPE,
     }
 }
 

@@ -33,6 +33,7 @@ use keywords::is_raw;
 use questions::question::question_of;
 use snapshot::ids::Crate;
 use snapshot::ids::Name;
+use snapshot::kind::Size;
 use snapshot::table::name_head;
 use snapshot::text::text_at;
 use snapshot::words::payload;
@@ -204,7 +205,7 @@ pub extern "C" fn kelumavor_add_entry(
     words: &mut [u32],
     count: &mut usize,
     area: &mut [u32],
-    entry: &[u32; 8],
+    entry: &[u32; Size::SCOPE],
 ) -> usize
     ensures { λ r. ⌜ EditsIn (now (words .entry)) (now (count .entry)) (now (area .entry)) (adding (entryOf (now (entry .entry)))) (now (words .exit)) (now (area .exit)) (record { number = r; count = now (count .exit) }) ⌝ }
 {

@@ -8,6 +8,7 @@ use native.Mathlib.Omega.{arith}
 use lib.Dec.{eqb}
 use lib.ListN.{length}
 use borrow.Author.Tests.{eqb-true, eqb-false}
+use Rattle.snapshot.specs.Sizes.{dependencySize, definitionSize, scopeSize, importSize}
 use Rattle.snapshot.specs.Records.{Scope, Import, Dependency, scopeAt, importAt, dependencyAt, preludeAt, externAt, definitionAt}
 use Rattle.snapshot.specs.Layouts.{wordCount, definitionBase, scopeBase, importBase, dependencyBase, snapOf}
 use Rattle.snapshot.specs.declared.layout.Layout.{Layout}
@@ -76,17 +77,17 @@ module _ (W A : List ℕ) (l : Layout) (r : Reads W A l) where
   lang-fits c lang h e = each-first _ _ (each-select _ (ranges .dependencies)) (sym e)
 
   -- the scope record of a number
-  pub scope-fits : {j h b : ℕ} → j < l .scopes → b ≡ scopeBase l → h ≡ b + 8 * j → ScopeFits (countsIn l) (scopeAt W h)
-  scope-fits {j} i eb eh = subst (λ h. ScopeFits (countsIn l) (scopeAt W h)) (sym (eh ∙ ap (λ x. x + 8 * j) eb)) (scope-read W A l valid j i)
+  pub scope-fits : {j h b : ℕ} → j < l .scopes → b ≡ scopeBase l → h ≡ b + scopeSize * j → ScopeFits (countsIn l) (scopeAt W h)
+  scope-fits {j} i eb eh = subst (λ h. ScopeFits (countsIn l) (scopeAt W h)) (sym (eh ∙ ap (λ x. x + scopeSize * j) eb)) (scope-read W A l valid j i)
 
   -- the record that an enumeration meets
-  pub module-meets : {p : Scope → Bool} {k j h : ℕ} → Meets p scopeAt 8 W (scopeBase l) (l .scopes) k j h → ScopeFits (countsIn l) (scopeAt W h)
+  pub module-meets : {p : Scope → Bool} {k j h : ℕ} → Meets p scopeAt scopeSize W (scopeBase l) (l .scopes) k j h → ScopeFits (countsIn l) (scopeAt W h)
   module-meets {j = j} x = subst (λ h. ScopeFits (countsIn l) (scopeAt W h)) (sym (x .head)) (scope-read W A l valid j (x .below))
 
-  pub import-meets : {p : Import → Bool} {k j h : ℕ} → Meets p importAt 6 W (importBase l) (l .imports) k j h → ImportFits (countsIn l) (importAt W h)
+  pub import-meets : {p : Import → Bool} {k j h : ℕ} → Meets p importAt importSize W (importBase l) (l .imports) k j h → ImportFits (countsIn l) (importAt W h)
   import-meets {j = j} x = subst (λ h. ImportFits (countsIn l) (importAt W h)) (sym (x .head)) (import-read W A l valid j (x .below))
 
-  pub dependency-meets : {p : Dependency → Bool} {k j h : ℕ} → Meets p dependencyAt 3 W (dependencyBase l) (l .dependencies) k j h → DependencyFits (countsIn l) (dependencyAt W h)
+  pub dependency-meets : {p : Dependency → Bool} {k j h : ℕ} → Meets p dependencyAt dependencySize W (dependencyBase l) (l .dependencies) k j h → DependencyFits (countsIn l) (dependencyAt W h)
   dependency-meets {j = j} x = subst (λ h. DependencyFits (countsIn l) (dependencyAt W h)) (sym (x .head)) (dependency-read W A l valid j (x .below))
 
   -- a definition that is there
@@ -111,7 +112,7 @@ module _ (W A : List ℕ) (l : Layout) (r : Reads W A l) where
   unfolding definitionOf
   parent-home d h k =
       let S = snapOf W A l in
-      let u : d < length (S .definitions) = rw (length-rows (λ i. definitionAt W (definitionBase l + 3 * i)) (l .definitions)) h in
+      let u : d < length (S .definitions) = rw (length-rows (λ i. definitionAt W (definitionBase l + definitionSize * i)) (l .definitions)) h in
       let e = valid .enums d u k in
       let q = e .1 in
       let p : definitionOf S d .first < l .definitions = omega (arith, e .0) in

@@ -7,6 +7,7 @@ use mathlib.Core.Option.{Option, none, some}
 use native.Mathlib.Omega.{arith}
 use lib.ListN.{length}
 use Rattle.snapshot.specs.Lists.{rows}
+use Rattle.snapshot.specs.Sizes.{scopeSize}
 use Rattle.snapshot.specs.Records.{Snapshot, Scope, scopeAt}
 use Rattle.snapshot.specs.Layouts.{scopeBase, snapOf}
 use Rattle.snapshot.specs.declared.layout.Layout.{Layout}
@@ -83,11 +84,11 @@ for-test s m item p y e f = e ∙ ap (λ b. b && isFresh p y) f
 -- The loop: k scope records were read, none of them an entry that is looked for, and `e` is the first of them that passes the test q.
 pub record Looking (W A : List ℕ) (l : Layout) (m : ℕ) (item : Item) (p q : Scope → Bool) (e : Entry) (k : ℕ) : Type 0 where
   pub fresh : namesOf (snapOf W A l) m item (isFresh p)
-      ≡ firstOf (λ y. isFor (snapOf W A l) m item y && isFresh p y) (rows (λ i. scopeAt W (scopeBase l + 8 * i)) k (l .scopes - k))
+      ≡ firstOf (λ y. isFor (snapOf W A l) m item y && isFresh p y) (rows (λ i. scopeAt W (scopeBase l + scopeSize * i)) k (l .scopes - k))
   pub reads : namesReads (snapOf W A l) m item (isFresh p)
-      ≡ k + readsOf (λ y. isFor (snapOf W A l) m item y && isFresh p y) (rows (λ i. scopeAt W (scopeBase l + 8 * i)) k (l .scopes - k))
+      ≡ k + readsOf (λ y. isFor (snapOf W A l) m item y && isFresh p y) (rows (λ i. scopeAt W (scopeBase l + scopeSize * i)) k (l .scopes - k))
   pub kept : firstOf q (snapOf W A l .scopes)
-      ≡ orFirst (entryOf scopeAt W e) (firstOf q (rows (λ i. scopeAt W (scopeBase l + 8 * i)) k (l .scopes - k)))
+      ≡ orFirst (entryOf scopeAt W e) (firstOf q (rows (λ i. scopeAt W (scopeBase l + scopeSize * i)) k (l .scopes - k)))
 
 -- What the loop answers, over the lookup without the bit.
 pub record Looked (W A : List ℕ) (l : Layout) (m : ℕ) (item : Item) (p q : Scope → Bool) (e : Entry) (k : ℕ) : Type 0 where
@@ -105,24 +106,24 @@ module _ (W A : List ℕ) (l : Layout) (m : ℕ) (item : Item) (p q : Scope → 
       }
 
   module _ {e : Entry} {k : ℕ} (g : Looking W A l m item p q e k) where
-    pub looking-hit : {h b : ℕ} {t : Bool} → k < l .scopes → b ≡ scopeBase l → h ≡ b + 8 * k
+    pub looking-hit : {h b : ℕ} {t : Bool} → k < l .scopes → b ≡ scopeBase l → h ≡ b + scopeSize * k
         → t ≡ (isFor (snapOf W A l) m item (scopeAt W h) && isFresh p (scopeAt W h)) → t ≡ true
         → Looked W A l m item p q (At h) (k + 1)
     unfolding preferred preferredReads orFirst
     looking-hit {h} {b} i eb eh v w =
-        let u : scopeAt W h ≡ scopeAt W (scopeBase l + 8 * k) = ap (scopeAt W) (eh ∙ ap (λ x. x + 8 * k) eb) in
+        let u : scopeAt W h ≡ scopeAt W (scopeBase l + scopeSize * k) = ap (scopeAt W) (eh ∙ ap (λ x. x + scopeSize * k) eb) in
         record {
           entry = ap (λ o. orFirst o (firstOf q (snapOf W A l .scopes))) (first-hit _ _ _ _ _ (g .fresh) i u v w);
           reads = λ n. reads-hit _ _ _ _ _ (g .reads) i u v w;
         }
 
-    pub looking-next : {h b : ℕ} {t c : Bool} {e′ : Entry} → k < l .scopes → b ≡ scopeBase l → h ≡ b + 8 * k
+    pub looking-next : {h b : ℕ} {t c : Bool} {e′ : Entry} → k < l .scopes → b ≡ scopeBase l → h ≡ b + scopeSize * k
         → t ≡ (isFor (snapOf W A l) m item (scopeAt W h) && isFresh p (scopeAt W h)) → t ≡ false
         → c ≡ q (scopeAt W h) → entryOf scopeAt W e′ ≡ orFirst (entryOf scopeAt W e) (oneIf c (scopeAt W h))
         → Looking W A l m item p q e′ (k + 1)
     looking-next {h} {b} {t} {c} i eb eh v w z f =
-        let F : ℕ → Scope = λ j. scopeAt W (scopeBase l + 8 * j) in
-        let u : scopeAt W h ≡ scopeAt W (scopeBase l + 8 * k) = ap (scopeAt W) (eh ∙ ap (λ x. x + 8 * k) eb) in
+        let F : ℕ → Scope = λ j. scopeAt W (scopeBase l + scopeSize * j) in
+        let u : scopeAt W h ≡ scopeAt W (scopeBase l + scopeSize * k) = ap (scopeAt W) (eh ∙ ap (λ x. x + scopeSize * k) eb) in
         let rest = firstOf q (rows F (k + 1) (l .scopes - (k + 1))) in
         record {
           fresh = first-miss _ _ _ _ _ (g .fresh) i u v w;
@@ -138,7 +139,7 @@ module _ (W A : List ℕ) (l : Layout) (m : ℕ) (item : Item) (p q : Scope → 
     pub looking-end : l .scopes ≤ k → Looked W A l m item p q e k
     unfolding preferred preferredReads orFirst firstOf
     looking-end i =
-        let F : ℕ → Scope = λ j. scopeAt W (scopeBase l + 8 * j) in
+        let F : ℕ → Scope = λ j. scopeAt W (scopeBase l + scopeSize * j) in
         let o : entryOf scopeAt W e ≡ firstOf q (snapOf W A l .scopes) =
         sym (g .kept ∙ ap (λ r. orFirst (entryOf scopeAt W e) (firstOf q r)) (rows-none F k (l .scopes) i) ∙ or-none (entryOf scopeAt W e))
         in

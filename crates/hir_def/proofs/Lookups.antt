@@ -10,6 +10,7 @@ use lib.Dec.{eqb}
 use borrow.Author.Tests.{eq-eqb, ne-eqb}
 use Rattle.snapshot.specs.Lists.{rows}
 use Rattle.snapshot.specs.Words.{payOf}
+use Rattle.snapshot.specs.Sizes.{crateSize, dependencySize, definitionSize, scopeSize, importSize, externSize}
 use Rattle.snapshot.specs.Records.{Snapshot, Dependency, Definition, Scope, definitionAt, crateAt, dependencyAt, scopeAt, importAt, externAt}
 use Rattle.snapshot.specs.Layouts.{crateBase, dependencyBase, definitionBase, scopeBase, importBase, externBase, snapOf}
 use Rattle.snapshot.specs.declared.layout.Layout.{Layout}
@@ -32,7 +33,7 @@ past-rows f n i d h = let e : length (rows f 0 n) ≤ i = rw (length-rows f n) h
 pub definition-none : (W A : List ℕ) (l : Layout) (d : ℕ) → l .definitions ≤ d → ReadsAs W (length W) (definitionOf (snapOf W A l) d)
 unfolding definitionOf
 definition-none W A l d h =
-    let e = past-rows (λ k. definitionAt W (definitionBase l + 3 * k)) (l .definitions) d (record { kind = 0; first = 0; second = 0; place = 0 }) h in
+    let e = past-rows (λ k. definitionAt W (definitionBase l + definitionSize * k)) (l .definitions) d (record { kind = 0; first = 0; second = 0; place = 0 }) h in
     record {
       kind = ap payOf (sym (past W (length W) (omega arith))) ∙ ap (λ (x : Definition). x .kind) e;
       first = sym (past W (length W + 1) (omega arith)) ∙ ap (λ (x : Definition). x .first) e;
@@ -41,13 +42,13 @@ definition-none W A l d h =
     }
 
 pub definition-same : (W A : List ℕ) (l : Layout) (d : ℕ) {b : ℕ} → d < l .definitions → b ≡ definitionBase l
-    → definitionAt W (b + 3 * d) ≡ definitionOf (snapOf W A l) d
+    → definitionAt W (b + definitionSize * d) ≡ definitionOf (snapOf W A l) d
 unfolding definitionOf
 definition-same W A l d h e =
-    ap (λ x. definitionAt W (x + 3 * d)) e ∙ sym (getD-rows (λ k. definitionAt W (definitionBase l + 3 * k)) _ (l .definitions) d h)
+    ap (λ x. definitionAt W (x + definitionSize * d)) e ∙ sym (getD-rows (λ k. definitionAt W (definitionBase l + definitionSize * k)) _ (l .definitions) d h)
 
 pub definition-there : (W A : List ℕ) (l : Layout) (d : ℕ) {b : ℕ} → d < l .definitions → b ≡ definitionBase l
-    → ReadsAs W (b + 3 * d) (definitionOf (snapOf W A l) d)
+    → ReadsAs W (b + definitionSize * d) (definitionOf (snapOf W A l) d)
 definition-there W A l d h e =
     let q = definition-same W A l d h e in
     record {
@@ -62,12 +63,12 @@ unfolding crateData
 crate-none W A l c h =
     let p = past W (length W) (omega arith) in
     let q = past W (length W + 1) (omega arith) in
-    (λ i. record { origin = payOf (sym p i) % 8; noStd = payOf (sym p i) / 8; edition = sym q i }) ∙ past-rows (λ k. crateAt W (crateBase l + 2 * k)) (l .crates) c _ h
+    (λ i. record { origin = payOf (sym p i) % 8; noStd = payOf (sym p i) / 8; edition = sym q i }) ∙ past-rows (λ k. crateAt W (crateBase l + crateSize * k)) (l .crates) c _ h
 
-pub crate-there : (W A : List ℕ) (l : Layout) (c : ℕ) → c < l .crates → crateAt W (l .text + 2 * c) ≡ crateData (snapOf W A l) c
+pub crate-there : (W A : List ℕ) (l : Layout) (c : ℕ) → c < l .crates → crateAt W (l .text + crateSize * c) ≡ crateData (snapOf W A l) c
 unfolding crateData
 crate-there W A l c h =
-    sym (getD-rows (λ k. crateAt W (crateBase l + 2 * k)) _ (l .crates) c h)
+    sym (getD-rows (λ k. crateAt W (crateBase l + crateSize * k)) _ (l .crates) c h)
 
 -- the item by the test of its definition
 module _ (s : Snapshot) (ns d : ℕ) {k : ℕ} (e : k ≡ definitionOf s d .kind) where
@@ -267,37 +268,37 @@ sysroot-no c false d h e = e
 -- the whole lists, where a loop begins
 module _ (W A : List ℕ) (l : Layout) where
   pub extern-whole : (c m : ℕ) {b : ℕ} → b ≡ externBase l
-      → firstOf (isExtern c m) (reverse (rows (λ i. externAt W (b + 3 * i)) 0 (l .externs))) ≡ externOf (snapOf W A l) c m
+      → firstOf (isExtern c m) (reverse (rows (λ i. externAt W (b + externSize * i)) 0 (l .externs))) ≡ externOf (snapOf W A l) c m
   unfolding externOf
-  extern-whole c m e = ap (λ x. firstOf (isExtern c m) (reverse (rows (λ i. externAt W (x + 3 * i)) 0 (l .externs)))) e
+  extern-whole c m e = ap (λ x. firstOf (isExtern c m) (reverse (rows (λ i. externAt W (x + externSize * i)) 0 (l .externs)))) e
 
   pub lang-whole : (c lang : ℕ)
       → langOf (snapOf W A l) c lang
-      ≡ firstOf (λ d. isDependency c d && isLangSysroot (snapOf W A l) lang d) (rows (λ i. dependencyAt W (dependencyBase l + 3 * i)) 0 (l .dependencies - 0))
+      ≡ firstOf (λ d. isDependency c d && isLangSysroot (snapOf W A l) lang d) (rows (λ i. dependencyAt W (dependencyBase l + dependencySize * i)) 0 (l .dependencies - 0))
   unfolding langOf dependenciesOf
   lang-whole c lang =
       first-select (isLangSysroot (snapOf W A l) lang) (isDependency c) (snapOf W A l .dependencies)
-      ∙ rows-whole (firstOf (λ d. isDependency c d && isLangSysroot (snapOf W A l) lang d)) (λ i. dependencyAt W (dependencyBase l + 3 * i)) (l .dependencies)
+      ∙ rows-whole (firstOf (λ d. isDependency c d && isLangSysroot (snapOf W A l) lang d)) (λ i. dependencyAt W (dependencyBase l + dependencySize * i)) (l .dependencies)
 
-  pub modules-whole : (m : ℕ) → modulesInScope (snapOf W A l) m ≡ leftOf (isModuleEntry (snapOf W A l) m) (λ i. scopeAt W (scopeBase l + 8 * i)) (l .scopes) 0
+  pub modules-whole : (m : ℕ) → modulesInScope (snapOf W A l) m ≡ leftOf (isModuleEntry (snapOf W A l) m) (λ i. scopeAt W (scopeBase l + scopeSize * i)) (l .scopes) 0
   unfolding modulesInScope
-  modules-whole m = rows-whole (select (isModuleEntry (snapOf W A l) m)) (λ i. scopeAt W (scopeBase l + 8 * i)) (l .scopes)
+  modules-whole m = rows-whole (select (isModuleEntry (snapOf W A l) m)) (λ i. scopeAt W (scopeBase l + scopeSize * i)) (l .scopes)
 
-  pub imports-whole : (c : ℕ) (item : Item) → importInfoFor (snapOf W A l) c item ≡ leftOf (isImport (snapOf W A l) c item) (λ i. importAt W (importBase l + 6 * i)) (l .imports) 0
+  pub imports-whole : (c : ℕ) (item : Item) → importInfoFor (snapOf W A l) c item ≡ leftOf (isImport (snapOf W A l) c item) (λ i. importAt W (importBase l + importSize * i)) (l .imports) 0
   unfolding importInfoFor
-  imports-whole c item = rows-whole (select (isImport (snapOf W A l) c item)) (λ i. importAt W (importBase l + 6 * i)) (l .imports)
+  imports-whole c item = rows-whole (select (isImport (snapOf W A l) c item)) (λ i. importAt W (importBase l + importSize * i)) (l .imports)
 
-  pub dependencies-whole : (c : ℕ) → dependenciesOf (snapOf W A l) c ≡ leftOf (isDependency c) (λ i. dependencyAt W (dependencyBase l + 3 * i)) (l .dependencies) 0
+  pub dependencies-whole : (c : ℕ) → dependenciesOf (snapOf W A l) c ≡ leftOf (isDependency c) (λ i. dependencyAt W (dependencyBase l + dependencySize * i)) (l .dependencies) 0
   unfolding dependenciesOf
-  dependencies-whole c = rows-whole (select (isDependency c)) (λ i. dependencyAt W (dependencyBase l + 3 * i)) (l .dependencies)
+  dependencies-whole c = rows-whole (select (isDependency c)) (λ i. dependencyAt W (dependencyBase l + dependencySize * i)) (l .dependencies)
 
   pub sysroot-whole : (c : ℕ)
       → sysrootFirst (snapOf W A l) c
-      ≡ leftOf (bySysroot c true) (λ i. dependencyAt W (dependencyBase l + 3 * i)) (l .dependencies) 0
-      ++ leftOf (bySysroot c false) (λ i. dependencyAt W (dependencyBase l + 3 * i)) (l .dependencies) 0
+      ≡ leftOf (bySysroot c true) (λ i. dependencyAt W (dependencyBase l + dependencySize * i)) (l .dependencies) 0
+      ++ leftOf (bySysroot c false) (λ i. dependencyAt W (dependencyBase l + dependencySize * i)) (l .dependencies) 0
   unfolding sysrootFirst dependenciesOf
   sysroot-whole c =
-      let f : ℕ → Dependency = λ i. dependencyAt W (dependencyBase l + 3 * i) in
+      let f : ℕ → Dependency = λ i. dependencyAt W (dependencyBase l + dependencySize * i) in
       ap₂ (λ x y. x ++ y)
       (select-select isSysroot (isDependency c) (rows f 0 (l .dependencies)) ∙ rows-whole (select (bySysroot c true)) f (l .dependencies))
       (select-select (λ d. not (isSysroot d)) (isDependency c) (rows f 0 (l .dependencies)) ∙ rows-whole (select (bySysroot c false)) f (l .dependencies))

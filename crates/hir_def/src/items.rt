@@ -10,6 +10,7 @@ ghost use Rattle.hir_def.specs.Entries.{Known, ReadsAs};
 use crate::Item;
 use snapshot::ids::Crate;
 use snapshot::ids::DefinitionId;
+use snapshot::kind::Size;
 use snapshot::layout::Layout;
 use snapshot::record::crate_edition;
 use snapshot::record::crate_no_std;
@@ -50,7 +51,7 @@ pub fn definition_head(words: &[u32], l: Layout, d: DefinitionId) -> usize
     if l.definitions <= d.0 {
         return words.len();
     }
-    l.definition_base() + 3 * d.0
+    l.definition_base() + Size::DEFINITION * d.0
 }
 
 /// The place of a crate's head; past the words, which read as 0, where there is no such crate.
@@ -61,7 +62,7 @@ pub fn crate_head(words: &[u32], l: Layout, c: Crate) -> usize
     if l.crates <= c.0 {
         return words.len();
     }
-    l.text + 2 * c.0
+    l.text + Size::CRATE * c.0
 }
 
 /// The kind of a definition, 0 where there is none.

@@ -2,6 +2,7 @@
 ghost use mathlib.Core.Path.{_≡_};
 ghost use mathlib.Core.List.{List};
 ghost use Prim.Native.Nat.{ℕ, _^_, _<_};
+ghost use Rattle.snapshot.specs.Sizes.{importSize};
 ghost use Rattle.snapshot.specs.Records.{importAt};
 ghost use Rattle.snapshot.specs.Layouts.{wordCount, importBase, snapOf};
 ghost use Rattle.hir_def.specs.ImportMap.{isImport, isHidden, isUnstable};
@@ -11,6 +12,7 @@ use hir_def::Next;
 use hir_def::items::item_of;
 use hir_def::items::same_item;
 use snapshot::ids::Crate;
+use snapshot::kind::Size;
 use snapshot::layout::Layout;
 use snapshot::record::import_bits;
 use snapshot::record::import_definition;
@@ -34,12 +36,12 @@ fn is_import(words: &[u32], l: Layout, h: usize, c: Crate, item: Item) -> bool
 /// The next of the crate's imports of the item, from the import number k on.
 pub fn next_import(words: &[u32], l: Layout, k: usize, c: Crate, item: Item) -> Next
     requires { ⌜ wordCount l < 2 ^ 32 ⌝ }
-    ensures { λ r. ⌜ ((A : List ℕ) → NextOf (isImport (snapOf (now (words .entry)) A l) (c .0) item) importAt 6 (now (words .entry)) (importBase l) (l .imports) k r) ⌝ }
+    ensures { λ r. ⌜ ((A : List ℕ) → NextOf (isImport (snapOf (now (words .entry)) A l) (c .0) item) importAt importSize (now (words .entry)) (importBase l) (l .imports) k r) ⌝ }
 {
     let base = l.import_base();
     let mut j = k;
     while j < l.imports {
-        let h = base + 6 * j;
+        let h = base + Size::IMPORT * j;
         if is_import(words, l, h, c, item) {
             return Next::Record(j, h);
         }

@@ -6,6 +6,7 @@ ghost use lib.ListN.{length};
 ghost use lib.Dec.{eqb, leb};
 ghost use mathlib.Core.Bool.{true, _&&_, _||_, not};
 ghost use Rattle.snapshot.specs.Lists.{rows, any};
+ghost use Rattle.snapshot.specs.Sizes.{definitionSize};
 ghost use Rattle.snapshot.specs.Records.{nameAt};
 ghost use Rattle.snapshot.specs.Layouts.{wordCount, definitionBase, nameHead};
 ghost use Rattle.snapshot.specs.Records.{Map, definitionAt};
@@ -22,6 +23,7 @@ use record_rules::names::is_builtin;
 use records::repeats::repeated;
 use snapshot::ids::DefinitionId;
 use snapshot::ids::Name;
+use snapshot::kind::Size;
 use snapshot::layout::Layout;
 use snapshot::record::definition_first;
 use snapshot::record::definition_kind;
@@ -32,15 +34,15 @@ use snapshot::words::word;
 /// The kind of a definition that is there, or another number.
 pub fn kind_at(words: &[u32], l: Layout, d: DefinitionId) -> usize
     requires { ⌜ (wordCount l < 2 ^ 32) × (d .0 < 2 ^ 32) ⌝ }
-    ensures { λ r. ⌜ r ≡ definitionAt (now (words .entry)) (definitionBase l + 3 * d .0) .kind ⌝ }
+    ensures { λ r. ⌜ r ≡ definitionAt (now (words .entry)) (definitionBase l + definitionSize * d .0) .kind ⌝ }
 {
-    definition_kind(words, l.definition_base() + 3 * d.0)
+    definition_kind(words, l.definition_base() + Size::DEFINITION * d.0)
 }
 
 /// Whether a definition may stand in a namespace.
 pub fn ns_placed(words: &[u32], l: Layout, ns: usize, d: DefinitionId) -> bool
     requires { ⌜ (wordCount l < 2 ^ 32) × (d .0 < 2 ^ 32) ⌝ }
-    ensures { λ r. ⌜ r ≡ (not (eqb ns 2) || eqb (definitionAt (now (words .entry)) (definitionBase l + 3 * d .0) .kind) 5) ⌝ }
+    ensures { λ r. ⌜ r ≡ (not (eqb ns 2) || eqb (definitionAt (now (words .entry)) (definitionBase l + definitionSize * d .0) .kind) 5) ⌝ }
 {
     (ns != 2) | (kind_at(words, l, d) == 5)
 }
@@ -81,7 +83,7 @@ fn defined(words: &[u32], l: Layout, at: usize) -> bool
 
 fn placed(words: &[u32], l: Layout, at: usize) -> bool
     requires { ⌜ wordCount l < 2 ^ 32 ⌝ }
-    ensures { λ r. ⌜ r ≡ (not (eqb (definitionAt (now (words .entry)) at .kind) 2) || eqb (definitionAt (now (words .entry)) (definitionBase l + 3 * definitionAt (now (words .entry)) at .first) .kind) 4) ⌝ }
+    ensures { λ r. ⌜ r ≡ (not (eqb (definitionAt (now (words .entry)) at .kind) 2) || eqb (definitionAt (now (words .entry)) (definitionBase l + definitionSize * definitionAt (now (words .entry)) at .first) .kind) 4) ⌝ }
 {
     let parent = DefinitionId(definition_first(words, at));
     (definition_kind(words, at) != 2) | (kind_at(words, l, parent) == 4)
@@ -89,9 +91,9 @@ fn placed(words: &[u32], l: Layout, at: usize) -> bool
 
 // A module or a builtin that has a definition already; the other kinds may stand again.
 fn again(words: &[u32], area: &[u32], l: Layout, at: usize) -> bool
-    requires { ⌜ Marked (now area) 5824 (λ j. slotOf (now words) (definitionBase l + 3 * j)) (l .definitions) ⌝ }
-    requires { ⌜ (wordCount l ≤ at) × (at + 3 ≤ length (now words)) × (length (now words) < 2 ^ 32) ⌝ }
-    ensures { λ r. ⌜ ((definitionAt (now (words .entry)) at .kind ≡ 1 → definitionAt (now (words .entry)) at .first < 512) → r ≡ ((eqb (definitionAt (now (words .entry)) at .kind) 1 || eqb (definitionAt (now (words .entry)) at .kind) 3) && any (sameBy (now (words .entry)) true 1 at) (rows (λ k. definitionBase l + 3 * k) 0 (l .definitions)))) ⌝ }
+    requires { ⌜ Marked (now area) 5824 (λ j. slotOf (now words) (definitionBase l + definitionSize * j)) (l .definitions) ⌝ }
+    requires { ⌜ (wordCount l ≤ at) × (at + definitionSize ≤ length (now words)) × (length (now words) < 2 ^ 32) ⌝ }
+    ensures { λ r. ⌜ ((definitionAt (now (words .entry)) at .kind ≡ 1 → definitionAt (now (words .entry)) at .first < 512) → r ≡ ((eqb (definitionAt (now (words .entry)) at .kind) 1 || eqb (definitionAt (now (words .entry)) at .kind) 3) && any (sameBy (now (words .entry)) true 1 at) (rows (λ k. definitionBase l + definitionSize * k) 0 (l .definitions)))) ⌝ }
 {
     let kind = definition_kind(words, at);
     if (kind != 1) & (kind != 3) {
@@ -101,13 +103,21 @@ fn again(words: &[u32], area: &[u32], l: Layout, at: usize) -> bool
         let mark = Chains::MODULE_MARKS + definition_first(words, at);
         return word(area, mark) != 0;
     }
-    repeated(words, true, 1, at, l.definition_base(), 3, l.definitions)
+    repeated(
+        words,
+        true,
+        1,
+        at,
+        l.definition_base(),
+        Size::DEFINITION,
+        l.definitions,
+    )
 }
 
 /// A definition.
 pub fn step(words: &[u32], area: &mut [u32], l: Layout, at: usize) -> Step
-    requires { ⌜ Ready (now words) (now area) l at (at + 3) ⌝ }
-    ensures { λ r. ⌜ ((ms : List Map) → Stands (now (words .entry)) (now (area .entry)) 8 at l ms → Answered (now (words .entry)) (now (area .exit)) 8 (at + 3) (definitionStep (snapWith (now (words .entry)) (now (area .entry)) l ms) (definitionAt (now (words .entry)) at)) r) ⌝ }
+    requires { ⌜ Ready (now words) (now area) l at (at + definitionSize) ⌝ }
+    ensures { λ r. ⌜ ((ms : List Map) → Stands (now (words .entry)) (now (area .entry)) 8 at l ms → Answered (now (words .entry)) (now (area .exit)) 8 (at + definitionSize) (definitionStep (snapWith (now (words .entry)) (now (area .entry)) l ms) (definitionAt (now (words .entry)) at)) r) ⌝ }
 {
     let room = l.definitions < DefinitionId::LIMIT;
     let n = judge(

@@ -2,6 +2,7 @@
 ghost use mathlib.Core.Path.{_≡_};
 ghost use mathlib.Core.List.{List};
 ghost use Prim.Native.Nat.{_+_};
+ghost use Rattle.snapshot.specs.Sizes.{externSize};
 ghost use Rattle.snapshot.specs.Records.{Map, externAt};
 ghost use Rattle.snapshot.specs.Layouts.{snapWith};
 ghost use Rattle.record_rules.specs.Tests.{externDefined};
@@ -13,6 +14,7 @@ use chains::keys::record_key;
 use record_rules::judge::Step;
 use record_rules::judge::judge;
 use records::repeats::repeated_with;
+use snapshot::kind::Size;
 use snapshot::layout::Layout;
 use snapshot::record::extern_name;
 use snapshot::record::extern_owner;
@@ -29,8 +31,8 @@ fn defined(words: &[u32], l: Layout, at: usize) -> bool
 
 /// An extern.
 pub fn step(words: &[u32], area: &mut [u32], l: Layout, at: usize) -> Step
-    requires { ⌜ Ready (now words) (now area) l at (at + 3) ⌝ }
-    ensures { λ r. ⌜ ((ms : List Map) → Stands (now (words .entry)) (now (area .entry)) 11 at l ms → Answered (now (words .entry)) (now (area .exit)) 11 (at + 3) (externStep (snapWith (now (words .entry)) (now (area .entry)) l ms) (externAt (now (words .entry)) at)) r) ⌝ }
+    requires { ⌜ Ready (now words) (now area) l at (at + externSize) ⌝ }
+    ensures { λ r. ⌜ ((ms : List Map) → Stands (now (words .entry)) (now (area .entry)) 11 at l ms → Answered (now (words .entry)) (now (area .exit)) 11 (at + externSize) (externStep (snapWith (now (words .entry)) (now (area .entry)) l ms) (externAt (now (words .entry)) at)) r) ⌝ }
 {
     let key = record_key(words, at, 1);
     let count = l.externs;
@@ -40,7 +42,7 @@ pub fn step(words: &[u32], area: &mut [u32], l: Layout, at: usize) -> Step
         1,
         at,
         l.extern_base(),
-        3,
+        Size::EXTERN,
         count,
         Chains::EXTERN_HEADS,
         Chains::EXTERN_LINKS,

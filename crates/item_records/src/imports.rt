@@ -2,6 +2,7 @@
 ghost use mathlib.Core.Path.{_≡_};
 ghost use mathlib.Core.List.{List};
 ghost use Prim.Native.Nat.{_+_};
+ghost use Rattle.snapshot.specs.Sizes.{importSize};
 ghost use Rattle.snapshot.specs.Records.{Map, importAt};
 ghost use Rattle.snapshot.specs.Layouts.{snapWith};
 ghost use Rattle.record_rules.specs.Tests.{importRange, importDefined};
@@ -39,8 +40,8 @@ fn defined(words: &[u32], l: Layout, at: usize) -> bool
 
 /// An import.
 pub fn step(words: &[u32], area: &[u32], l: Layout, at: usize) -> Step
-    requires { ⌜ Ready (now words) (now area) l at (at + 6) ⌝ }
-    ensures { λ r. ⌜ ((ms : List Map) → Stands (now (words .entry)) (now (area .entry)) 10 at l ms → Answered (now (words .entry)) (now (area .entry)) 10 (at + 6) (importStep (snapWith (now (words .entry)) (now (area .entry)) l ms) (importAt (now (words .entry)) at)) r) ⌝ }
+    requires { ⌜ Ready (now words) (now area) l at (at + importSize) ⌝ }
+    ensures { λ r. ⌜ ((ms : List Map) → Stands (now (words .entry)) (now (area .entry)) 10 at l ms → Answered (now (words .entry)) (now (area .entry)) 10 (at + importSize) (importStep (snapWith (now (words .entry)) (now (area .entry)) l ms) (importAt (now (words .entry)) at)) r) ⌝ }
 {
     let placed = ns_placed(words, l, import_ns(words, at), import_definition(words, at));
     let n = judge(

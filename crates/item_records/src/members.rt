@@ -4,6 +4,7 @@ ghost use mathlib.Core.List.{List};
 ghost use mathlib.Core.Bool.{_&&_};
 ghost use Prim.Native.Nat.{_+_, _*_, _^_, _<_};
 ghost use lib.Dec.{eqb};
+ghost use Rattle.snapshot.specs.Sizes.{definitionSize, memberSize};
 ghost use Rattle.snapshot.specs.Records.{Map, definitionAt, memberAt};
 ghost use Rattle.snapshot.specs.Layouts.{wordCount, definitionBase, snapWith};
 ghost use Rattle.record_rules.specs.Tests.{memberRange, memberDefined, isMember};
@@ -12,6 +13,7 @@ ghost use Rattle.record_rules.specs.Stands.{Ready, Stands, Answered, countsIn};
 use crate::definitions::kind_at;
 use record_rules::judge::Step;
 use record_rules::judge::judge;
+use snapshot::kind::Size;
 use snapshot::layout::Layout;
 use snapshot::record::definition_first;
 use snapshot::record::definition_kind;
@@ -52,18 +54,18 @@ fn fits(words: &[u32], at: usize, head: usize) -> bool
 
 fn placed(words: &[u32], l: Layout, at: usize) -> bool
     requires { ⌜ wordCount l < 2 ^ 32 ⌝ }
-    ensures { λ r. ⌜ r ≡ (eqb (definitionAt (now (words .entry)) (definitionBase l + 3 * memberAt (now (words .entry)) at .parent) .kind) 4 && isMember (memberAt (now (words .entry)) at .kind) (memberAt (now (words .entry)) at .parent) (memberAt (now (words .entry)) at .name) (definitionAt (now (words .entry)) (definitionBase l + 3 * memberAt (now (words .entry)) at .definition))) ⌝ }
+    ensures { λ r. ⌜ r ≡ (eqb (definitionAt (now (words .entry)) (definitionBase l + definitionSize * memberAt (now (words .entry)) at .parent) .kind) 4 && isMember (memberAt (now (words .entry)) at .kind) (memberAt (now (words .entry)) at .parent) (memberAt (now (words .entry)) at .name) (definitionAt (now (words .entry)) (definitionBase l + definitionSize * memberAt (now (words .entry)) at .definition))) ⌝ }
 {
     let parent = kind_at(words, l, member_parent(words, at));
     let definition = member_definition(words, at);
-    let head = l.definition_base() + 3 * definition.0;
+    let head = l.definition_base() + Size::DEFINITION * definition.0;
     (parent == 4) & fits(words, at, head)
 }
 
 /// A member.
 pub fn step(words: &[u32], area: &[u32], l: Layout, at: usize) -> Step
-    requires { ⌜ Ready (now words) (now area) l at (at + 5) ⌝ }
-    ensures { λ r. ⌜ ((ms : List Map) → Stands (now (words .entry)) (now (area .entry)) 13 at l ms → Answered (now (words .entry)) (now (area .entry)) 13 (at + 5) (memberStep (snapWith (now (words .entry)) (now (area .entry)) l ms) (memberAt (now (words .entry)) at)) r) ⌝ }
+    requires { ⌜ Ready (now words) (now area) l at (at + memberSize) ⌝ }
+    ensures { λ r. ⌜ ((ms : List Map) → Stands (now (words .entry)) (now (area .entry)) 13 at l ms → Answered (now (words .entry)) (now (area .entry)) 13 (at + memberSize) (memberStep (snapWith (now (words .entry)) (now (area .entry)) l ms) (memberAt (now (words .entry)) at)) r) ⌝ }
 {
     let n = judge(
         in_range(words, at),

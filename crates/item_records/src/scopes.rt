@@ -2,6 +2,7 @@
 ghost use mathlib.Core.Path.{_≡_};
 ghost use mathlib.Core.List.{List};
 ghost use Prim.Native.Nat.{_+_};
+ghost use Rattle.snapshot.specs.Sizes.{scopeSize};
 ghost use Rattle.snapshot.specs.Records.{Map, scopeAt};
 ghost use Rattle.snapshot.specs.Layouts.{snapWith};
 ghost use Rattle.record_rules.specs.Tests.{scopeRange, scopeDefined};
@@ -14,6 +15,7 @@ use chains::keys::record_key;
 use record_rules::judge::Step;
 use record_rules::judge::judge;
 use records::repeats::repeated_with;
+use snapshot::kind::Size;
 use snapshot::layout::Layout;
 use snapshot::record::scope_bits;
 use snapshot::record::scope_declared;
@@ -50,8 +52,8 @@ fn defined(words: &[u32], l: Layout, at: usize) -> bool
 
 /// An entry.
 pub fn step(words: &[u32], area: &mut [u32], l: Layout, at: usize) -> Step
-    requires { ⌜ Ready (now words) (now area) l at (at + 8) ⌝ }
-    ensures { λ r. ⌜ ((ms : List Map) → Stands (now (words .entry)) (now (area .entry)) 9 at l ms → Answered (now (words .entry)) (now (area .exit)) 9 (at + 8) (scopeStep (snapWith (now (words .entry)) (now (area .entry)) l ms) (scopeAt (now (words .entry)) at)) r) ⌝ }
+    requires { ⌜ Ready (now words) (now area) l at (at + scopeSize) ⌝ }
+    ensures { λ r. ⌜ ((ms : List Map) → Stands (now (words .entry)) (now (area .entry)) 9 at l ms → Answered (now (words .entry)) (now (area .exit)) 9 (at + scopeSize) (scopeStep (snapWith (now (words .entry)) (now (area .entry)) l ms) (scopeAt (now (words .entry)) at)) r) ⌝ }
 {
     let key = record_key(words, at, 2);
     let count = l.scopes;
@@ -61,7 +63,7 @@ pub fn step(words: &[u32], area: &mut [u32], l: Layout, at: usize) -> Step
         2,
         at,
         l.scope_base(),
-        8,
+        Size::SCOPE,
         count,
         Chains::SCOPE_HEADS,
         Chains::SCOPE_LINKS,

@@ -3,6 +3,7 @@ ghost use mathlib.Core.Path.{_≡_};
 ghost use mathlib.Core.List.{List};
 ghost use mathlib.Core.Bool.{true, _&&_};
 ghost use Prim.Native.Nat.{ℕ, _^_, _<_};
+ghost use Rattle.snapshot.specs.Sizes.{scopeSize};
 ghost use Rattle.snapshot.specs.Records.{scopeAt};
 ghost use Rattle.snapshot.specs.Layouts.{wordCount, scopeBase, snapOf};
 ghost use Rattle.hir_def.specs.ItemScope.{isDeclared, isDeprecated, counts, isFor, isNamed, isModuleEntry, nameOf, namesOf, nameReads, namesReads, preferred, preferredReads, get as entryNamed};
@@ -20,6 +21,7 @@ use hir_def::items::kind_of;
 use hir_def::items::same_item;
 use snapshot::ids::ModuleId;
 use snapshot::ids::Name;
+use snapshot::kind::Size;
 use snapshot::layout::Layout;
 use snapshot::record::scope_declared;
 use snapshot::record::scope_definition;
@@ -75,7 +77,7 @@ pub fn names_of(words: &[u32], l: Layout, m: ModuleId, item: Item, declared: boo
     let base = l.scope_base();
     let mut read = 0;
     while read < l.scopes {
-        let h = base + 8 * read;
+        let h = base + Size::SCOPE * read;
         read += 1;
         if is_entry(words, l, h, m, item, declared) {
             return Lookup {
@@ -120,7 +122,7 @@ pub fn fresh_of(words: &[u32], l: Layout, m: ModuleId, item: Item, declared: boo
     let mut first = Entry::Nothing;
     let mut count = 0;
     while count < l.scopes {
-        let h = base + 8 * count;
+        let h = base + Size::SCOPE * count;
         count += 1;
         let its = is_entry(words, l, h, m, item, declared);
         if its & !is_deprecated(words, h) {
@@ -170,7 +172,7 @@ pub fn get(words: &[u32], l: Layout, m: ModuleId, ns: usize, name: Name) -> Entr
     let base = l.scope_base();
     let mut k = 0;
     while k < l.scopes {
-        let h = base + 8 * k;
+        let h = base + Size::SCOPE * k;
         if is_named(words, h, m, ns, name) {
             return Entry::At(h);
         }
@@ -195,12 +197,12 @@ fn is_module_entry(words: &[u32], l: Layout, h: usize, m: ModuleId) -> bool
 /// The next of the module's entries for a module in types, from the entry number k on.
 pub fn next_module(words: &[u32], l: Layout, k: usize, m: ModuleId) -> Next
     requires { ⌜ wordCount l < 2 ^ 32 ⌝ }
-    ensures { λ r. ⌜ ((A : List ℕ) → NextOf (isModuleEntry (snapOf (now (words .entry)) A l) (m .0)) scopeAt 8 (now (words .entry)) (scopeBase l) (l .scopes) k r) ⌝ }
+    ensures { λ r. ⌜ ((A : List ℕ) → NextOf (isModuleEntry (snapOf (now (words .entry)) A l) (m .0)) scopeAt scopeSize (now (words .entry)) (scopeBase l) (l .scopes) k r) ⌝ }
 {
     let base = l.scope_base();
     let mut j = k;
     while j < l.scopes {
-        let h = base + 8 * j;
+        let h = base + Size::SCOPE * j;
         if is_module_entry(words, l, h, m) {
             return Next::Record(j, h);
         }

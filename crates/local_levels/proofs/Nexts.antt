@@ -8,6 +8,7 @@ use lib.Dec.{eqb}
 use lib.ListN.{length}
 use borrow.Author.Tests.{eq-eqb, ne-eqb, eqb-true}
 use Rattle.snapshot.specs.Lists.{rows}
+use Rattle.snapshot.specs.Sizes.{childSize, scopeSize}
 use Rattle.snapshot.specs.Records.{Snapshot, Scope, Child, childAt, scopeAt}
 use Rattle.snapshot.specs.Layouts.{childBase, scopeBase, snapOf}
 use Rattle.snapshot.specs.declared.layout.Layout.{Layout}
@@ -34,30 +35,30 @@ use Rattle.find_path.proofs.Walks.{select-hit, select-miss}
 
 -- the children of a module, of the records from the number k on
 abbrev pub childrenFrom : List ℕ → Layout → ℕ → ℕ → List ℕ
-childrenFrom W l from k = map (λ c. c .child) (leftOf (λ c. eqb (c .owner) from) (λ i. childAt W (childBase l + 2 * i)) (l .children) k)
+childrenFrom W l from k = map (λ c. c .child) (leftOf (λ c. eqb (c .owner) from) (λ i. childAt W (childBase l + childSize * i)) (l .children) k)
 
 module _ (W : List ℕ) (l : Layout) (from k : ℕ) where
   abbrev place : ℕ → Child
-  place i = childAt W (childBase l + 2 * i)
+  place i = childAt W (childBase l + childSize * i)
 
   child-hit′ : k < l .children → place k .owner ≡ from → childrenFrom W l from k ≡ place k .child ∷ childrenFrom W l from (k + 1)
   child-hit′ h e =
       ap (λ cs. map (λ c. c .child) (select (λ c. eqb (c .owner) from) cs)) (rows-next place k (l .children) h)
       ∙ ap (map (λ c. c .child)) (select-hit (λ c. eqb (c .owner) from) (place k) (rows place (k + 1) (l .children - (k + 1))) (eq-eqb _ _ e))
 
-  pub child-hit : {b o t : ℕ} → k < l .children → b ≡ childBase l → o ≡ childAt W (b + 2 * k) .owner → o ≡ from → t ≡ childAt W (b + 2 * k) .child
+  pub child-hit : {b o t : ℕ} → k < l .children → b ≡ childBase l → o ≡ childAt W (b + childSize * k) .owner → o ≡ from → t ≡ childAt W (b + childSize * k) .child
       → childrenFrom W l from k ≡ t ∷ childrenFrom W l from (k + 1)
   child-hit h p e q r =
-      child-hit′ h (ap (λ b. childAt W (b + 2 * k) .owner) (sym p) ∙ sym e ∙ q)
-      ∙ ap (λ t. t ∷ childrenFrom W l from (k + 1)) (ap (λ b. childAt W (b + 2 * k) .child) (sym p) ∙ sym r)
+      child-hit′ h (ap (λ b. childAt W (b + childSize * k) .owner) (sym p) ∙ sym e ∙ q)
+      ∙ ap (λ t. t ∷ childrenFrom W l from (k + 1)) (ap (λ b. childAt W (b + childSize * k) .child) (sym p) ∙ sym r)
 
-  pub child-miss : {b o : ℕ} → k < l .children → b ≡ childBase l → o ≡ childAt W (b + 2 * k) .owner → (o ≡ from → ⊥)
+  pub child-miss : {b o : ℕ} → k < l .children → b ≡ childBase l → o ≡ childAt W (b + childSize * k) .owner → (o ≡ from → ⊥)
       → childrenFrom W l from k ≡ childrenFrom W l from (k + 1)
   child-miss h p e q =
       ap (λ cs. map (λ c. c .child) (select (λ c. eqb (c .owner) from) cs)) (rows-next place k (l .children) h)
       ∙ ap (map (λ c. c .child))
       (select-miss (λ c. eqb (c .owner) from) (place k) (rows place (k + 1) (l .children - (k + 1)))
-      (ne-eqb _ _ (λ z. q (e ∙ ap (λ b. childAt W (b + 2 * k) .owner) p ∙ z))))
+      (ne-eqb _ _ (λ z. q (e ∙ ap (λ b. childAt W (b + childSize * k) .owner) p ∙ z))))
 
   pub child-end : l .children ≤ k → childrenFrom W l from k ≡ []
   unfolding select
@@ -65,11 +66,11 @@ module _ (W : List ℕ) (l : Layout) (from k : ℕ) where
 
 pub children-start : (W A : List ℕ) (l : Layout) (from : ℕ) → map (λ c. c .child) (childrenOf (snapOf W A l) from) ≡ childrenFrom W l from 0
 unfolding childrenOf
-children-start W A l from = rows-whole (λ cs. map (λ c. c .child) (select (λ c. eqb (c .owner) from) cs)) (λ i. childAt W (childBase l + 2 * i)) (l .children)
+children-start W A l from = rows-whole (λ cs. map (λ c. c .child) (select (λ c. eqb (c .owner) from) cs)) (λ i. childAt W (childBase l + childSize * i)) (l .children)
 
-pub child-below : (W A : List ℕ) (l : Layout) → Reads W A l → {b k t : ℕ} → k < l .children → b ≡ childBase l → t ≡ childAt W (b + 2 * k) .child → t < 512
+pub child-below : (W A : List ℕ) (l : Layout) → Reads W A l → {b k t : ℕ} → k < l .children → b ≡ childBase l → t ≡ childAt W (b + childSize * k) .child → t < 512
 child-below W A l r {b} {k} {t} h p e =
-    let q : t ≡ childAt W (childBase l + 2 * k) .child = e ∙ ap (λ b. childAt W (b + 2 * k) .child) p in
+    let q : t ≡ childAt W (childBase l + childSize * k) .child = e ∙ ap (λ b. childAt W (b + childSize * k) .child) p in
     omega (arith, q, child-read W A l (accepted-valid W (snapOf W A l) (r .same)) k h .child, r .tables .limited .modules)
 
 -- the containing modules
@@ -104,7 +105,7 @@ module _ (W A : List ℕ) (l : Layout) (from m : ℕ) where
   near e = eqb (crateOf snapshot (entryModule snapshot e)) (crateOf snapshot from) && sees snapshot from e
 
   abbrev left : ℕ → List Scope
-  left k = leftOf (isModuleEntry snapshot m) (λ i. scopeAt W (scopeBase l + 8 * i)) (l .scopes) k
+  left k = leftOf (isModuleEntry snapshot m) (λ i. scopeAt W (scopeBase l + scopeSize * i)) (l .scopes) k
 
   abbrev pub leadsFrom : ℕ → List ℕ
   leadsFrom k = map (entryModule snapshot) (select near (left k))
@@ -113,7 +114,7 @@ module _ (W A : List ℕ) (l : Layout) (from m : ℕ) where
   unfolding leadsTo
   leads-start = ap (λ es. map (entryModule snapshot) (select near es)) (modules-whole W A l m)
 
-  module _ {k j h : ℕ} (x : Meets (isModuleEntry snapshot m) scopeAt 8 W (scopeBase l) (l .scopes) k j h) where
+  module _ {k j h : ℕ} (x : Meets (isModuleEntry snapshot m) scopeAt scopeSize W (scopeBase l) (l .scopes) k j h) where
     pub leads-hit : {t : ℕ} {b : Bool} → t ≡ entryModule snapshot (scopeAt W h)
         → b ≡ (eqb (crateOf snapshot t) (crateOf snapshot from) && sees snapshot from (scopeAt W h)) → b ≡ true → leadsFrom k ≡ t ∷ leadsFrom (j + 1)
     leads-hit e q p =
@@ -138,7 +139,7 @@ module _ (W A : List ℕ) (l : Layout) (from m : ℕ) where
         let b = and-right (eqb (s .ns) 0) (eqb (definitionOf snapshot (s .definition) .kind) 1) a in
         rw e (module-known W A l r (s .definition) (module-meets W A l r x .definition) (eqb-true _ _ b))
 
-  pub leads-end : {k : ℕ} → Ends (isModuleEntry snapshot m) scopeAt 8 W (scopeBase l) (l .scopes) k → leadsFrom k ≡ []
+  pub leads-end : {k : ℕ} → Ends (isModuleEntry snapshot m) scopeAt scopeSize W (scopeBase l) (l .scopes) k → leadsFrom k ≡ []
   unfolding select
   leads-end x = ap (λ es. map (entryModule snapshot) (select near es)) (x .none)
 

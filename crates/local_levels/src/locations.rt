@@ -24,6 +24,7 @@ use hir_def::modules::krate;
 use hir_def::visibility::is_visible_from;
 use item_scope::next_module;
 use snapshot::ids::ModuleId;
+use snapshot::kind::Size;
 use snapshot::layout::Layout;
 use snapshot::record::child_child;
 use snapshot::record::child_owner;
@@ -49,7 +50,7 @@ fn push_children(
     let mut run = n;
     let mut k = 0;
     while k < l.children {
-        let h = base + 2 * k;
+        let h = base + Size::CHILD * k;
         let owner = child_owner(words, h);
         if owner.0 == from.0 {
             let m = child_child(words, h);

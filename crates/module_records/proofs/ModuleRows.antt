@@ -12,6 +12,7 @@ use lib.Seq.{getD-set-same, getD-set-other}
 use borrow.Author.Count.{below-more}
 use borrow.Author.Tests.{ltb-true, leb-true, eqb-true}
 use Rattle.snapshot.specs.Lists.{any}
+use Rattle.snapshot.specs.Sizes.{crateSize, dependencySize, moduleSize, childSize, preludeSize, definitionSize, scopeSize, importSize, externSize, memberSize}
 use Rattle.snapshot.specs.Records.{Map, Module, Snapshot, mapAt, moduleAt, crateAt, dependencyAt, childAt, preludeAt, definitionAt, scopeAt, importAt, externAt, memberAt}
 use Rattle.snapshot.specs.Layouts.{crateBase, dependencyBase, childBase, preludeBase, definitionBase, scopeBase, importBase, externBase, memberBase, moduleMap, moduleHead, moduleParent, moduleRow, namesOf, modulesOf, recordsOf, snapWith}
 use Rattle.snapshot.specs.declared.layout.Layout.{Layout}
@@ -111,20 +112,20 @@ module _ (W A : List ℕ) (at : ℕ) (l : Layout) (ms : List Map) (st : Stands W
         let z-members : l .members ≡ 0 = st .upto .members (lit< tt) in
         let q-names : namesOf W (rowSet A (l .modules) x y z) (l .names) ≡ namesOf W A (l .names) = names-kept W A (rowSet A (l .modules) x y z) (l .names) (st .limited .names) names-stay in
         let p : modulesOf (rowSet A (l .modules) x y z) (l .modules + 1) ≡ modulesOf A (l .modules) ++ (moduleAt W at ∷ []) = rows-put (moduleRow A) _ (l .modules) (moduleAt W at) old-row new-row in
-        let q-children : recordsOf childAt 2 W (childBase (moduleOn l)) ((moduleOn l) .children) ≡ recordsOf childAt 2 W (childBase l) (l .children) = rows-zero _ _ _ z-children in
-        let q-preludes : recordsOf preludeAt 2 W (preludeBase (moduleOn l)) ((moduleOn l) .preludes) ≡ recordsOf preludeAt 2 W (preludeBase l) (l .preludes) = rows-zero _ _ _ z-preludes in
-        let q-definitions : recordsOf definitionAt 3 W (definitionBase (moduleOn l)) ((moduleOn l) .definitions) ≡ recordsOf definitionAt 3 W (definitionBase l) (l .definitions) = rows-zero _ _ _ z-definitions in
-        let q-scopes : recordsOf scopeAt 8 W (scopeBase (moduleOn l)) ((moduleOn l) .scopes) ≡ recordsOf scopeAt 8 W (scopeBase l) (l .scopes) = rows-zero _ _ _ z-scopes in
-        let q-imports : recordsOf importAt 6 W (importBase (moduleOn l)) ((moduleOn l) .imports) ≡ recordsOf importAt 6 W (importBase l) (l .imports) = rows-zero _ _ _ z-imports in
-        let q-externs : recordsOf externAt 3 W (externBase (moduleOn l)) ((moduleOn l) .externs) ≡ recordsOf externAt 3 W (externBase l) (l .externs) = rows-zero _ _ _ z-externs in
-        let q-members : recordsOf memberAt 5 W (memberBase (moduleOn l)) ((moduleOn l) .members) ≡ recordsOf memberAt 5 W (memberBase l) (l .members) = rows-zero _ _ _ z-members in
-        λ i. record { names = q-names i; crates = recordsOf crateAt 2 W (crateBase l) (l .crates); dependencies = recordsOf dependencyAt 3 W (dependencyBase l) (l .dependencies); maps = ms; modules = p i; children = q-children i; preludes = q-preludes i; definitions = q-definitions i; scopes = q-scopes i; imports = q-imports i; externs = q-externs i; members = q-members i }
+        let q-children : recordsOf childAt childSize W (childBase (moduleOn l)) ((moduleOn l) .children) ≡ recordsOf childAt childSize W (childBase l) (l .children) = rows-zero _ _ _ z-children in
+        let q-preludes : recordsOf preludeAt preludeSize W (preludeBase (moduleOn l)) ((moduleOn l) .preludes) ≡ recordsOf preludeAt preludeSize W (preludeBase l) (l .preludes) = rows-zero _ _ _ z-preludes in
+        let q-definitions : recordsOf definitionAt definitionSize W (definitionBase (moduleOn l)) ((moduleOn l) .definitions) ≡ recordsOf definitionAt definitionSize W (definitionBase l) (l .definitions) = rows-zero _ _ _ z-definitions in
+        let q-scopes : recordsOf scopeAt scopeSize W (scopeBase (moduleOn l)) ((moduleOn l) .scopes) ≡ recordsOf scopeAt scopeSize W (scopeBase l) (l .scopes) = rows-zero _ _ _ z-scopes in
+        let q-imports : recordsOf importAt importSize W (importBase (moduleOn l)) ((moduleOn l) .imports) ≡ recordsOf importAt importSize W (importBase l) (l .imports) = rows-zero _ _ _ z-imports in
+        let q-externs : recordsOf externAt externSize W (externBase (moduleOn l)) ((moduleOn l) .externs) ≡ recordsOf externAt externSize W (externBase l) (l .externs) = rows-zero _ _ _ z-externs in
+        let q-members : recordsOf memberAt memberSize W (memberBase (moduleOn l)) ((moduleOn l) .members) ≡ recordsOf memberAt memberSize W (memberBase l) (l .members) = rows-zero _ _ _ z-members in
+        λ i. record { names = q-names i; crates = recordsOf crateAt crateSize W (crateBase l) (l .crates); dependencies = recordsOf dependencyAt dependencySize W (dependencyBase l) (l .dependencies); maps = ms; modules = p i; children = q-children i; preludes = q-preludes i; definitions = q-definitions i; scopes = q-scopes i; imports = q-imports i; externs = q-externs i; members = q-members i }
 
     module _ (last : moduleAt W at .map + 1 ≡ l .maps) where
       new-map : moduleMap (rowSet A (l .modules) x y z) (l .modules) ≡ l .maps - 1
       new-map = let p = row-map A (l .modules) x y z fits-row ∙ ex in omega arith
 
-      module-stands : at + 2 ≤ length W → Stands W (rowSet A (l .modules) x y z) 5 (at + 2) (moduleOn l) ms
+      module-stands : at + moduleSize ≤ length W → Stands W (rowSet A (l .modules) x y z) 5 (at + moduleSize) (moduleOn l) ms
       module-stands fits =
           record {
             place = (let q = st .place in omega arith);
@@ -203,8 +204,8 @@ module _ (W A : List ℕ) (at : ℕ) (l : Layout) (ms : List Map) (st : Stands W
     module-last : n ≡ 0 → moduleAt W at .map + 1 ≡ l .maps
     module-last z = latest-map (snapWith W A l ms) (moduleAt W at) (module-passes z .placed) ∙ st .count
 
-    pub module-on : {x y w : ℕ} → n ≡ 0 → at + 2 ≤ length W → 16384 ≤ length A → x ≡ moduleAt W at .map → y ≡ l .latest → w ≡ moduleAt W at .parent
-        → Answered W (rowSet A (l .modules) x y w) 5 (at + 2) (moduleStep (snapWith W A l ms) (moduleAt W at)) (On (moduleOn l))
+    pub module-on : {x y w : ℕ} → n ≡ 0 → at + moduleSize ≤ length W → 16384 ≤ length A → x ≡ moduleAt W at .map → y ≡ l .latest → w ≡ moduleAt W at .parent
+        → Answered W (rowSet A (l .modules) x y w) 5 (at + moduleSize) (moduleStep (snapWith W A l ms) (moduleAt W at)) (On (moduleOn l))
     unfolding moduleStep
     module-on z fits large ex ey ew = (
       ms,

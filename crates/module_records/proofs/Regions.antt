@@ -10,6 +10,7 @@ use lib.ListN.{length, getD, set, length-append, List·getD-append}
 use lib.Seq.{getD-set-same, getD-set-other, getD-at}
 use borrow.Author.Tests.{ltb-true, leb-true, eqb-true, eqb-false, eq-eqb, ne-eqb, not-false}
 use Rattle.snapshot.specs.Lists.{any}
+use Rattle.snapshot.specs.Sizes.{crateSize, dependencySize, mapSize, childSize, preludeSize, definitionSize, scopeSize, importSize, externSize, memberSize}
 use Rattle.snapshot.specs.Records.{Map, crateAt, dependencyAt, mapAt, childAt, preludeAt, definitionAt, scopeAt, importAt, externAt, memberAt}
 use Rattle.snapshot.specs.Layouts.{crateBase, dependencyBase, childBase, preludeBase, definitionBase, scopeBase, importBase, externBase, memberBase, moduleMap, moduleHead, ownMap, moduleRow, namesOf, modulesOf, recordsOf, snapWith}
 use Rattle.snapshot.specs.declared.layout.Layout.{Layout}
@@ -83,19 +84,19 @@ module _ (W A B : List ℕ) (at : ℕ) (l : Layout) (ms : List Map) (st : Stands
       let z-members : l .members ≡ 0 = st .upto .members (lit< tt) in
       let q-names : namesOf W B (l .names) ≡ namesOf W A (l .names) = names-kept W A B (l .names) (st .limited .names) (λ i u v. kept i u (omega arith)) in
       let q-modules : modulesOf B (l .modules) ≡ modulesOf A (l .modules) = modules-kept A B (l .modules) (st .limited .modules) (λ i u v. kept i (omega arith) (omega arith)) in
-      let q-children : recordsOf childAt 2 W (childBase (mapOn l at)) ((mapOn l at) .children) ≡ recordsOf childAt 2 W (childBase l) (l .children) = rows-zero _ _ _ z-children in
-      let q-preludes : recordsOf preludeAt 2 W (preludeBase (mapOn l at)) ((mapOn l at) .preludes) ≡ recordsOf preludeAt 2 W (preludeBase l) (l .preludes) = rows-zero _ _ _ z-preludes in
-      let q-definitions : recordsOf definitionAt 3 W (definitionBase (mapOn l at)) ((mapOn l at) .definitions) ≡ recordsOf definitionAt 3 W (definitionBase l) (l .definitions) = rows-zero _ _ _ z-definitions in
-      let q-scopes : recordsOf scopeAt 8 W (scopeBase (mapOn l at)) ((mapOn l at) .scopes) ≡ recordsOf scopeAt 8 W (scopeBase l) (l .scopes) = rows-zero _ _ _ z-scopes in
-      let q-imports : recordsOf importAt 6 W (importBase (mapOn l at)) ((mapOn l at) .imports) ≡ recordsOf importAt 6 W (importBase l) (l .imports) = rows-zero _ _ _ z-imports in
-      let q-externs : recordsOf externAt 3 W (externBase (mapOn l at)) ((mapOn l at) .externs) ≡ recordsOf externAt 3 W (externBase l) (l .externs) = rows-zero _ _ _ z-externs in
-      let q-members : recordsOf memberAt 5 W (memberBase (mapOn l at)) ((mapOn l at) .members) ≡ recordsOf memberAt 5 W (memberBase l) (l .members) = rows-zero _ _ _ z-members in
-      λ i. record { names = q-names i; crates = recordsOf crateAt 2 W (crateBase l) (l .crates); dependencies = recordsOf dependencyAt 3 W (dependencyBase l) (l .dependencies); maps = ms ++ (mapAt W at ∷ []); modules = q-modules i; children = q-children i; preludes = q-preludes i; definitions = q-definitions i; scopes = q-scopes i; imports = q-imports i; externs = q-externs i; members = q-members i }
+      let q-children : recordsOf childAt childSize W (childBase (mapOn l at)) ((mapOn l at) .children) ≡ recordsOf childAt childSize W (childBase l) (l .children) = rows-zero _ _ _ z-children in
+      let q-preludes : recordsOf preludeAt preludeSize W (preludeBase (mapOn l at)) ((mapOn l at) .preludes) ≡ recordsOf preludeAt preludeSize W (preludeBase l) (l .preludes) = rows-zero _ _ _ z-preludes in
+      let q-definitions : recordsOf definitionAt definitionSize W (definitionBase (mapOn l at)) ((mapOn l at) .definitions) ≡ recordsOf definitionAt definitionSize W (definitionBase l) (l .definitions) = rows-zero _ _ _ z-definitions in
+      let q-scopes : recordsOf scopeAt scopeSize W (scopeBase (mapOn l at)) ((mapOn l at) .scopes) ≡ recordsOf scopeAt scopeSize W (scopeBase l) (l .scopes) = rows-zero _ _ _ z-scopes in
+      let q-imports : recordsOf importAt importSize W (importBase (mapOn l at)) ((mapOn l at) .imports) ≡ recordsOf importAt importSize W (importBase l) (l .imports) = rows-zero _ _ _ z-imports in
+      let q-externs : recordsOf externAt externSize W (externBase (mapOn l at)) ((mapOn l at) .externs) ≡ recordsOf externAt externSize W (externBase l) (l .externs) = rows-zero _ _ _ z-externs in
+      let q-members : recordsOf memberAt memberSize W (memberBase (mapOn l at)) ((mapOn l at) .members) ≡ recordsOf memberAt memberSize W (memberBase l) (l .members) = rows-zero _ _ _ z-members in
+      λ i. record { names = q-names i; crates = recordsOf crateAt crateSize W (crateBase l) (l .crates); dependencies = recordsOf dependencyAt dependencySize W (dependencyBase l) (l .dependencies); maps = ms ++ (mapAt W at ∷ []); modules = q-modules i; children = q-children i; preludes = q-preludes i; definitions = q-definitions i; scopes = q-scopes i; imports = q-imports i; externs = q-externs i; members = q-members i }
 
   map-of : (m : ℕ) → m < l .modules → moduleMap B m ≡ moduleMap A m
   map-of m h = let r = st .limited .modules in kept (2048 + 3 * m) (omega arith) (omega arith)
 
-  map-stands : at + 3 ≤ length W → ((c : ℕ) → c < l .crates → ownMap B c ≡ ownOf c (ms ++ (mapAt W at ∷ []))) → Stands W B 4 (at + 3) (mapOn l at) (ms ++ (mapAt W at ∷ []))
+  map-stands : at + mapSize ≤ length W → ((c : ℕ) → c < l .crates → ownMap B c ≡ ownOf c (ms ++ (mapAt W at ∷ []))) → Stands W B 4 (at + mapSize) (mapOn l at) (ms ++ (mapAt W at ∷ []))
   map-stands fits own =
       let q-count = st .count in
       record {
@@ -180,9 +181,9 @@ module _ (W A : List ℕ) (at : ℕ) (l : Layout) (ms : List Map) (st : Stands W
     pub map-crate : n ≡ 0 → mapAt W at .crate < l .crates
     map-crate z = map-defined (countsIn l) (mapAt W at) (map-numbers z) .0
 
-    pub map-on : (B : List ℕ) → n ≡ 0 → at + 3 ≤ length W → Kept A B 0 4096 → Above A B
+    pub map-on : (B : List ℕ) → n ≡ 0 → at + mapSize ≤ length W → Kept A B 0 4096 → Above A B
         → ((c : ℕ) → c < l .crates → ownMap B c ≡ ownOf c (ms ++ (mapAt W at ∷ [])))
-        → Answered W B 4 (at + 3) (mapStep (snapWith W A l ms) (mapAt W at)) (On (mapOn l at))
+        → Answered W B 4 (at + mapSize) (mapStep (snapWith W A l ms) (mapAt W at)) (On (mapOn l at))
     unfolding mapStep
     map-on B z fits kept above own = (
       ms ++ (mapAt W at ∷ []),
@@ -191,8 +192,8 @@ module _ (W A : List ℕ) (at : ℕ) (l : Layout) (ms : List Map) (st : Stands W
     )
 
     -- a block's map: no crate's own map changes
-    pub map-on-block : n ≡ 0 → at + 3 ≤ length W → (mapAt W at .block ≡ 0 → ⊥)
-        → Answered W A 4 (at + 3) (mapStep (snapWith W A l ms) (mapAt W at)) (On (mapOn l at))
+    pub map-on-block : n ≡ 0 → at + mapSize ≤ length W → (mapAt W at .block ≡ 0 → ⊥)
+        → Answered W A 4 (at + mapSize) (mapStep (snapWith W A l ms) (mapAt W at)) (On (mapOn l at))
     map-on-block z fits h =
         map-on A z fits (λ i u v. refl) (λ i u. refl)
         (λ k p. st .own k p ∙ sym (own-later k 0 ms (mapAt W at) (rw (ne-eqb _ _ h) (no-own (eqb (mapAt W at .crate) k)))))
@@ -202,8 +203,8 @@ module _ (W A : List ℕ) (at : ℕ) (l : Layout) (ms : List Map) (st : Stands W
         no-own false = refl
 
     -- a crate's own map
-    pub map-on-own : {v i : ℕ} → n ≡ 0 → at + 3 ≤ length W → 16384 ≤ length A → mapAt W at .block ≡ 0 → v ≡ l .maps + 1 → i ≡ mapAt W at .crate
-        → Answered W (set A (4096 + i) v) 4 (at + 3) (mapStep (snapWith W A l ms) (mapAt W at)) (On (mapOn l at))
+    pub map-on-own : {v i : ℕ} → n ≡ 0 → at + mapSize ≤ length W → 16384 ≤ length A → mapAt W at .block ≡ 0 → v ≡ l .maps + 1 → i ≡ mapAt W at .crate
+        → Answered W (set A (4096 + i) v) 4 (at + mapSize) (mapStep (snapWith W A l ms) (mapAt W at)) (On (mapOn l at))
     map-on-own {v} {i} z fits large h ev ei =
         map-on (set A (4096 + i) v) z fits (set-kept A (4096 + i) v 0 4096 (λ k p q. omega arith))
         (let c = map-crate z in let w = st .limited .crates in set-above A (4096 + i) v (omega arith)) owns

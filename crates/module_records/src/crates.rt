@@ -2,6 +2,7 @@
 ghost use mathlib.Core.Path.{_≡_};
 ghost use mathlib.Core.List.{List};
 ghost use Prim.Native.Nat.{_+_};
+ghost use Rattle.snapshot.specs.Sizes.{crateSize};
 ghost use Rattle.snapshot.specs.Records.{Map, crateAt};
 ghost use Rattle.snapshot.specs.Layouts.{snapWith};
 ghost use Rattle.record_rules.specs.Tests.{crateRange, isEdition};
@@ -31,8 +32,8 @@ fn edition_known(words: &[u32], at: usize) -> bool
 
 /// A crate; it has no own map yet.
 pub fn step(words: &[u32], area: &mut [u32], l: Layout, at: usize) -> Step
-    requires { ⌜ Ready (now words) (now area) l at (at + 2) ⌝ }
-    ensures { λ r. ⌜ ((ms : List Map) → Stands (now (words .entry)) (now (area .entry)) 2 at l ms → Answered (now (words .entry)) (now (area .exit)) 2 (at + 2) (crateStep (snapWith (now (words .entry)) (now (area .entry)) l ms) (crateAt (now (words .entry)) at)) r) ⌝ }
+    requires { ⌜ Ready (now words) (now area) l at (at + crateSize) ⌝ }
+    ensures { λ r. ⌜ ((ms : List Map) → Stands (now (words .entry)) (now (area .entry)) 2 at l ms → Answered (now (words .entry)) (now (area .exit)) 2 (at + crateSize) (crateStep (snapWith (now (words .entry)) (now (area .entry)) l ms) (crateAt (now (words .entry)) at)) r) ⌝ }
 {
     let crates = l.crates;
     let n = judge_crate(

@@ -4,6 +4,7 @@ ghost use mathlib.Core.List.{List};
 ghost use Prim.Native.Nat.{_+_, _-_, _<_};
 ghost use lib.Dec.{eqb};
 ghost use mathlib.Core.Bool.{_&&_, _||_, not};
+ghost use Rattle.snapshot.specs.Sizes.{mapSize};
 ghost use Rattle.snapshot.specs.Layouts.{moduleHead, ownMap};
 ghost use Rattle.snapshot.specs.Records.{Map, mapAt};
 ghost use Rattle.snapshot.specs.Layouts.{snapWith};
@@ -56,8 +57,8 @@ fn placed(words: &[u32], area: &[u32], at: usize) -> bool
 
 /// A map.
 pub fn step(words: &[u32], area: &mut [u32], l: Layout, at: usize) -> Step
-    requires { ⌜ Ready (now words) (now area) l at (at + 3) ⌝ }
-    ensures { λ r. ⌜ ((ms : List Map) → Stands (now (words .entry)) (now (area .entry)) 4 at l ms → Answered (now (words .entry)) (now (area .exit)) 4 (at + 3) (mapStep (snapWith (now (words .entry)) (now (area .entry)) l ms) (mapAt (now (words .entry)) at)) r) ⌝ }
+    requires { ⌜ Ready (now words) (now area) l at (at + mapSize) ⌝ }
+    ensures { λ r. ⌜ ((ms : List Map) → Stands (now (words .entry)) (now (area .entry)) 4 at l ms → Answered (now (words .entry)) (now (area .exit)) 4 (at + mapSize) (mapStep (snapWith (now (words .entry)) (now (area .entry)) l ms) (mapAt (now (words .entry)) at)) r) ⌝ }
 {
     let n = judge(
         in_range(words, at),

@@ -5,6 +5,7 @@ ghost use Prim.Native.Nat.{_+_, _-_, _*_, _<_, _≤_};
 ghost use lib.Dec.{eqb};
 ghost use mathlib.Core.Bool.{_&&_, _||_, not};
 ghost use Rattle.snapshot.specs.Lists.{any};
+ghost use Rattle.snapshot.specs.Sizes.{moduleSize};
 ghost use Rattle.snapshot.specs.Layouts.{modulesOf, moduleMap};
 ghost use Rattle.snapshot.specs.Records.{Map, moduleAt};
 ghost use Rattle.snapshot.specs.Layouts.{snapWith};
@@ -65,8 +66,8 @@ fn placed(words: &[u32], area: &[u32], l: Layout, at: usize) -> bool
 
 /// A module.
 pub fn step(words: &[u32], area: &mut [u32], l: Layout, at: usize) -> Step
-    requires { ⌜ Ready (now words) (now area) l at (at + 2) ⌝ }
-    ensures { λ r. ⌜ ((ms : List Map) → Stands (now (words .entry)) (now (area .entry)) 5 at l ms → Answered (now (words .entry)) (now (area .exit)) 5 (at + 2) (moduleStep (snapWith (now (words .entry)) (now (area .entry)) l ms) (moduleAt (now (words .entry)) at)) r) ⌝ }
+    requires { ⌜ Ready (now words) (now area) l at (at + moduleSize) ⌝ }
+    ensures { λ r. ⌜ ((ms : List Map) → Stands (now (words .entry)) (now (area .entry)) 5 at l ms → Answered (now (words .entry)) (now (area .exit)) 5 (at + moduleSize) (moduleStep (snapWith (now (words .entry)) (now (area .entry)) l ms) (moduleAt (now (words .entry)) at)) r) ⌝ }
 {
     let modules = l.modules;
     let n = judge(

@@ -8,6 +8,7 @@ use lib.ListN.{length}
 use lib.Dec.{eqb}
 use borrow.Author.Tests.{eqb-true, eqb-false}
 use Rattle.snapshot.specs.Lists.{rows}
+use Rattle.snapshot.specs.Sizes.{crateSize}
 use Rattle.snapshot.specs.Records.{Map, crateAt, mapAt}
 use Rattle.snapshot.specs.Layouts.{crateBase, moduleMap, moduleHead, moduleParent, mapRoot, ownMap, moduleRow, mapsOf, snapOf}
 use Rattle.snapshot.specs.declared.layout.Layout.{Layout}
@@ -106,7 +107,7 @@ own-read W A l t c h =
     (omega arith, omega arith)
 
 pub length-crates : (W A : List ℕ) (l : Layout) → length (snapOf W A l .crates) ≡ l .crates
-length-crates W A l = length-rows (λ k. crateAt W (crateBase l + 2 * k)) (l .crates)
+length-crates W A l = length-rows (λ k. crateAt W (crateBase l + crateSize * k)) (l .crates)
 
 -- the crate of a module is there
 pub crate-there : (W A : List ℕ) (l : Layout) → Reads W A l → (m : ℕ) → m < l .modules → crateOf (snapOf W A l) m < l .crates

@@ -8,6 +8,7 @@ use native.Mathlib.Nat.{sub-zero}
 use borrow.Author.Tests.{lt-ltb, le-ltb}
 use lib.ListN.{length, take, replicate}
 use Rattle.snapshot.specs.Lists.{rows}
+use Rattle.snapshot.specs.Sizes.{scopeSize}
 use Rattle.snapshot.specs.Records.{Snapshot, Scope, scopeAt}
 use Rattle.snapshot.specs.Layouts.{tableWords, scopeBase, snapOf}
 use Rattle.snapshot.specs.declared.layout.Layout.{Layout}
@@ -42,7 +43,7 @@ met false e = e
 
 -- the record of a number
 abbrev pub entry : List ℕ → Layout → ℕ → Scope
-entry W l k = scopeAt W (scopeBase l + 8 * k)
+entry W l k = scopeAt W (scopeBase l + scopeSize * k)
 
 module _ (s : Snapshot) (before : List Scope) (e : Scope) (es : List Scope) where
   met-next : isMet s before e ≡ true → newFrom s before (e ∷ es) ≡ newFrom s (before ++ (e ∷ [])) es
@@ -196,17 +197,17 @@ module _ (v : Viewer) (r : Reach) where
 
 -- what the searches ask of a record
 module _ (W A : List ℕ) (l : Layout) (reads : Reads W A l) (k b : ℕ) (h : k < l .scopes) (e : b ≡ scopeBase l) where
-  pub entry-fits : (scopeAt W (b + 8 * k) .definition < l .definitions) × (scopeAt W (b + 8 * k) .ns ≤ 2)
+  pub entry-fits : (scopeAt W (b + scopeSize * k) .definition < l .definitions) × (scopeAt W (b + scopeSize * k) .ns ≤ 2)
   entry-fits =
-      subst (λ x. (scopeAt W (x + 8 * k) .definition < l .definitions) × (scopeAt W (x + 8 * k) .ns ≤ 2)) (sym e)
+      subst (λ x. (scopeAt W (x + scopeSize * k) .definition < l .definitions) × (scopeAt W (x + scopeSize * k) .ns ≤ 2)) (sym e)
       (let f = scope-read W A l (accepted-valid W (snapOf W A l) (reads .same)) k h in (f .definition, f .ns))
 
   -- and the tally of its report
-  pub report-fits : (v : Viewer) → Limited v → (t : List ℕ) (r : Report) → r ≡ reportFor (snapOf W A l) v (scopeAt W (b + 8 * k)) → Within (1 + 17 * k) t
+  pub report-fits : (v : Viewer) → Limited v → (t : List ℕ) (r : Report) → r ≡ reportFor (snapOf W A l) v (scopeAt W (b + scopeSize * k)) → Within (1 + 17 * k) t
       → (r .count ≤ 16) × (r .empty ≤ 1) × Within (2 ^ 32) t
   report-fits v m t r q w =
-      (rw q (report-few (snapOf W A l) v (scopeAt W (b + 8 * k)) m), rw q (report-flag (snapOf W A l) v (scopeAt W (b + 8 * k))), λ i. omega (arith, w i, h, reads .tables .whole, reads .tables .short))
+      (rw q (report-few (snapOf W A l) v (scopeAt W (b + scopeSize * k)) m), rw q (report-flag (snapOf W A l) v (scopeAt W (b + scopeSize * k))), λ i. omega (arith, w i, h, reads .tables .whole, reads .tables .short))
 
   -- the report is that of the record numbered k
-  pub report-entry : (v : Viewer) (r : Report) → r ≡ reportFor (snapOf W A l) v (scopeAt W (b + 8 * k)) → r ≡ reportFor (snapOf W A l) v (entry W l k)
-  report-entry v r q = q ∙ ap (λ x. reportFor (snapOf W A l) v (scopeAt W (x + 8 * k))) e
+  pub report-entry : (v : Viewer) (r : Report) → r ≡ reportFor (snapOf W A l) v (scopeAt W (b + scopeSize * k)) → r ≡ reportFor (snapOf W A l) v (entry W l k)
+  report-entry v r q = q ∙ ap (λ x. reportFor (snapOf W A l) v (scopeAt W (x + scopeSize * k))) e

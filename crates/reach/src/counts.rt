@@ -15,6 +15,7 @@ use reach_parts::tally::refused;
 use reach_parts::tally::tally;
 use reports::report::reported;
 use search::inner::find_path;
+use snapshot::kind::Size;
 use snapshot::layout::Layout;
 use snapshot::record::scope_definition;
 use snapshot::record::scope_ns;
@@ -50,7 +51,7 @@ pub fn reach_in(words: &[u32], area: &mut [u32], l: Layout, v: Viewer) -> Reach
     let mut k = 0;
     while k < l.scopes {
         if !is_met(words, l, k) {
-            let r = report_for(words, area, l, v, base + 8 * k);
+            let r = report_for(words, area, l, v, base + Size::SCOPE * k);
             reach = tally(reach, r);
         }
         k += 1;

@@ -9,6 +9,7 @@ use borrow.Author.Tests.{eq-eqb, ne-eqb, eqb-true, eqb-false}
 use lib.Dec.{eqb, ltb}
 use lib.ListN.{length, take, getD, replicate, set, length-set}
 use lib.Seq.{getD-set-same, getD-set-other}
+use Rattle.snapshot.specs.Sizes.{scopeSize}
 use Rattle.snapshot.specs.Records.{Snapshot, Scope, scopeAt}
 use Rattle.snapshot.specs.Layouts.{scopeBase, snapOf}
 use Rattle.snapshot.specs.declared.layout.Layout.{Layout}
@@ -29,11 +30,11 @@ use Rattle.reach_parts.specs.Within.{Within}
 
 -- the test of one earlier record
 pub met-test : (W A : List ℕ) (l : Layout) (j k : ℕ) {b : ℕ} {x y : Item} {r : Bool} → b ≡ scopeBase l → r ≡ sameItem x y
-    → x ≡ itemIn (snapOf W A l) (scopeAt W (b + 8 * j)) → y ≡ itemIn (snapOf W A l) (scopeAt W (b + 8 * k))
-    → sameItem (itemIn (snapOf W A l) (scopeAt W (scopeBase l + 8 * j))) (itemIn (snapOf W A l) (scopeAt W (scopeBase l + 8 * k))) ≡ r
+    → x ≡ itemIn (snapOf W A l) (scopeAt W (b + scopeSize * j)) → y ≡ itemIn (snapOf W A l) (scopeAt W (b + scopeSize * k))
+    → sameItem (itemIn (snapOf W A l) (scopeAt W (scopeBase l + scopeSize * j))) (itemIn (snapOf W A l) (scopeAt W (scopeBase l + scopeSize * k))) ≡ r
 met-test W A l j k e t p q =
     let S = snapOf W A l in
-    sym (t ∙ ap₂ sameItem (p ∙ ap (λ b. itemIn S (scopeAt W (b + 8 * j))) e) (q ∙ ap (λ b. itemIn S (scopeAt W (b + 8 * k))) e))
+    sym (t ∙ ap₂ sameItem (p ∙ ap (λ b. itemIn S (scopeAt W (b + scopeSize * j))) e) (q ∙ ap (λ b. itemIn S (scopeAt W (b + scopeSize * k))) e))
 
 module _ (r : Report) where
   pub found-column : r .outcome ≡ 0 → r .count ≡ column r

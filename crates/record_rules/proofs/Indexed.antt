@@ -10,6 +10,7 @@ use lib.ListN.{length, getD, set, length-set}
 use lib.Seq.{getD-set-same, getD-set-other}
 use borrow.Author.Tests.{eqb-true}
 use Rattle.snapshot.specs.Lists.{any, eqList}
+use Rattle.snapshot.specs.Sizes.{childSize, definitionSize, scopeSize, externSize}
 use Rattle.snapshot.specs.Records.{Name, nameAt}
 use Rattle.snapshot.specs.Layouts.{childBase, definitionBase, scopeBase, externBase, noRecords, nameHead, namesOf}
 use Rattle.snapshot.specs.declared.layout.Layout.{Layout}
@@ -71,19 +72,19 @@ indexes-kept W A B l m ix few heads above s =
           (chained-kept A B 4160 6344 _ _ (l .names) (ix .names) (λ b h. above _ (omega arith)) (λ i h. above _ (omega arith))
           (λ i h. ap (λ x. nameKey (nameAt W x)) (heads i (omega arith) (omega arith))));
       children =
-          subst (λ k. Marked B 5312 (λ j. getD W (childBase m + 2 * j + 1) 0) k) (sym (s .children))
-          (marked-kept A B 5312 _ _ (l .children) (ix .children) (λ b h. above _ (omega arith)) (λ i h. ap (λ x. getD W (x + 2 * i + 1) 0) (s .child (omega arith))));
+          subst (λ k. Marked B 5312 (λ j. getD W (childBase m + childSize * j + 1) 0) k) (sym (s .children))
+          (marked-kept A B 5312 _ _ (l .children) (ix .children) (λ b h. above _ (omega arith)) (λ i h. ap (λ x. getD W (x + childSize * i + 1) 0) (s .child (omega arith))));
       definitions =
-          subst (λ k. Marked B 5824 (λ j. slotOf W (definitionBase m + 3 * j)) k) (sym (s .definitions))
-          (marked-kept A B 5824 _ _ (l .definitions) (ix .definitions) (λ b h. above _ (omega arith)) (λ i h. ap (λ x. slotOf W (x + 3 * i)) (s .definition (omega arith))));
+          subst (λ k. Marked B 5824 (λ j. slotOf W (definitionBase m + definitionSize * j)) k) (sym (s .definitions))
+          (marked-kept A B 5824 _ _ (l .definitions) (ix .definitions) (λ b h. above _ (omega arith)) (λ i h. ap (λ x. slotOf W (x + definitionSize * i)) (s .definition (omega arith))));
       scopes =
-          subst (λ k. Chained B 4544 8392 (λ i. recordKey W 2 (scopeBase m + 8 * i)) k) (sym (s .scopes))
+          subst (λ k. Chained B 4544 8392 (λ i. recordKey W 2 (scopeBase m + scopeSize * i)) k) (sym (s .scopes))
           (chained-kept A B 4544 8392 _ _ (l .scopes) (ix .scopes) (λ b h. above _ (omega arith)) (λ i h. above _ (omega arith))
-          (λ i h. ap (λ x. recordKey W 2 (x + 8 * i)) (s .scope (omega arith))));
+          (λ i h. ap (λ x. recordKey W 2 (x + scopeSize * i)) (s .scope (omega arith))));
       externs =
-          subst (λ k. Chained B 4928 10736 (λ i. recordKey W 1 (externBase m + 3 * i)) k) (sym (s .externs))
+          subst (λ k. Chained B 4928 10736 (λ i. recordKey W 1 (externBase m + externSize * i)) k) (sym (s .externs))
           (chained-kept A B 4928 10736 _ _ (l .externs) (ix .externs) (λ b h. above _ (omega arith)) (λ i h. above _ (omega arith))
-          (λ i h. ap (λ x. recordKey W 1 (x + 3 * i)) (s .extern (omega arith))));
+          (λ i h. ap (λ x. recordKey W 1 (x + externSize * i)) (s .extern (omega arith))));
     }
 
 -- before the kinds that stand after modules
@@ -155,16 +156,16 @@ module _ (W A : List ℕ) (l : Layout) (at key : ℕ) (ix : Indexes W A l) (room
             (chained-kept (linked (set A (l .names) at) 4160 6344 key (l .names)) (linked (set A (l .names) at) 4160 6344 key (l .names)) 4160 6344 _ _ (l .names + 1) new-chain
             (λ b h. refl) (λ i h. refl) (λ i h. ap (λ x. nameKey (nameAt W x)) (name-stays i (omega arith))));
         children =
-            subst (λ k. Marked (linked (set A (l .names) at) 4160 6344 key (l .names)) 5312 (λ j. getD W (childBase m + 2 * j + 1) 0) k) (zc ∙ sym (zm .children))
+            subst (λ k. Marked (linked (set A (l .names) at) 4160 6344 key (l .names)) 5312 (λ j. getD W (childBase m + childSize * j + 1) 0) k) (zc ∙ sym (zm .children))
             (marked-kept A _ 5312 _ _ (l .children) (ix .children) (λ b h. head-stays _ (omega arith) (omega arith)) (λ i h. absurd (omega arith)));
         definitions =
-            subst (λ k. Marked (linked (set A (l .names) at) 4160 6344 key (l .names)) 5824 (λ j. slotOf W (definitionBase m + 3 * j)) k) (zd ∙ sym (zm .definitions))
+            subst (λ k. Marked (linked (set A (l .names) at) 4160 6344 key (l .names)) 5824 (λ j. slotOf W (definitionBase m + definitionSize * j)) k) (zd ∙ sym (zm .definitions))
             (marked-kept A _ 5824 _ _ (l .definitions) (ix .definitions) (λ b h. head-stays _ (omega arith) (omega arith)) (λ i h. absurd (omega arith)));
         scopes =
-            subst (λ k. Chained (linked (set A (l .names) at) 4160 6344 key (l .names)) 4544 8392 (λ i. recordKey W 2 (scopeBase m + 8 * i)) k) (zs ∙ sym (zm .scopes))
+            subst (λ k. Chained (linked (set A (l .names) at) 4160 6344 key (l .names)) 4544 8392 (λ i. recordKey W 2 (scopeBase m + scopeSize * i)) k) (zs ∙ sym (zm .scopes))
             (chained-kept A _ 4544 8392 _ _ (l .scopes) (ix .scopes) (λ b h. head-stays _ (omega arith) (omega arith)) (λ i h. absurd (omega arith)) (λ i h. absurd (omega arith)));
         externs =
-            subst (λ k. Chained (linked (set A (l .names) at) 4160 6344 key (l .names)) 4928 10736 (λ i. recordKey W 1 (externBase m + 3 * i)) k) (ze ∙ sym (zm .externs))
+            subst (λ k. Chained (linked (set A (l .names) at) 4160 6344 key (l .names)) 4928 10736 (λ i. recordKey W 1 (externBase m + externSize * i)) k) (ze ∙ sym (zm .externs))
             (chained-kept A _ 4928 10736 _ _ (l .externs) (ix .externs) (λ b h. head-stays _ (omega arith) (omega arith)) (λ i h. absurd (omega arith)) (λ i h. absurd (omega arith)));
       }
 

@@ -10,6 +10,7 @@ use lib.Dec.{eqb, leb, ltb}
 use borrow.Author.Tests.{ltb-true, ne-eqb}
 use Rattle.snapshot.specs.Lists.{rows, any}
 use Rattle.snapshot.specs.Words.{payOf}
+use Rattle.snapshot.specs.Sizes.{crateSize, preludeSize, definitionSize, scopeSize, externSize}
 use Rattle.snapshot.specs.Records.{Map, Snapshot, Child, Definition, Scope, Import, Member, nameAt, crateAt, preludeAt, definitionAt, scopeAt, externAt}
 use Rattle.snapshot.specs.Layouts.{recordsOf, snapWith, crateBase, definitionBase, nameHead, moduleMap, moduleParent, moduleRow}
 use Rattle.snapshot.specs.declared.layout.Layout.{Layout}
@@ -96,10 +97,10 @@ pub counts-same : (W A : List ℕ) (k at : ℕ) (l : Layout) (ms : List Map) →
 counts-same W A k at l ms st =
     λ i. record {
       names = sym (length-rows (λ j. nameAt W (nameHead A j)) (l .names)) i;
-      crates = sym (length-rows (λ j. crateAt W (crateBase l + 2 * j)) (l .crates)) i;
+      crates = sym (length-rows (λ j. crateAt W (crateBase l + crateSize * j)) (l .crates)) i;
       maps = sym (st .count) i;
       modules = sym (length-rows (moduleRow A) (l .modules)) i;
-      definitions = sym (length-rows (λ j. definitionAt W (definitionBase l + 3 * j)) (l .definitions)) i;
+      definitions = sym (length-rows (λ j. definitionAt W (definitionBase l + definitionSize * j)) (l .definitions)) i;
     }
 
 pub any-same : {A B : Type 0} (p : A → Bool) (q : B → Bool) (f : ℕ → A) (g : ℕ → B) (k n : ℕ) → ((i : ℕ) → p (f i) ≡ q (g i)) → any p (rows f k n) ≡ any q (rows g k n)
@@ -119,16 +120,16 @@ unlike W owner (suc (suc (suc n))) a b h o d = absurd (omega arith)
 
 -- a record that repeats an earlier one
 module _ (W : List ℕ) (at base n : ℕ) where
-  pub prelude-again : any (sameBy W true 0 at) (rows (λ k. base + 2 * k) 0 n) ≡ any (samePrelude (preludeAt W at)) (recordsOf preludeAt 2 W base n)
+  pub prelude-again : any (sameBy W true 0 at) (rows (λ k. base + preludeSize * k) 0 n) ≡ any (samePrelude (preludeAt W at)) (recordsOf preludeAt preludeSize W base n)
   prelude-again = any-same _ _ _ _ 0 n (λ i. and-true _ ∙ and-true _)
 
-  pub definition-again : any (sameBy W true 1 at) (rows (λ k. base + 3 * k) 0 n) ≡ any (sameDefinition (definitionAt W at)) (recordsOf definitionAt 3 W base n)
+  pub definition-again : any (sameBy W true 1 at) (rows (λ k. base + definitionSize * k) 0 n) ≡ any (sameDefinition (definitionAt W at)) (recordsOf definitionAt definitionSize W base n)
   definition-again = any-same _ _ _ _ 0 n (λ i. and-true _)
 
-  pub scope-again : any (sameBy W true 2 at) (rows (λ k. base + 8 * k) 0 n) ≡ any (sameEntry (scopeAt W at)) (recordsOf scopeAt 8 W base n)
+  pub scope-again : any (sameBy W true 2 at) (rows (λ k. base + scopeSize * k) 0 n) ≡ any (sameEntry (scopeAt W at)) (recordsOf scopeAt scopeSize W base n)
   scope-again = any-same _ _ _ _ 0 n (λ i. refl)
 
-  pub extern-again : any (sameBy W true 1 at) (rows (λ k. base + 3 * k) 0 n) ≡ any (sameExtern (externAt W at)) (recordsOf externAt 3 W base n)
+  pub extern-again : any (sameBy W true 1 at) (rows (λ k. base + externSize * k) 0 n) ≡ any (sameExtern (externAt W at)) (recordsOf externAt externSize W base n)
   extern-again = any-same _ _ _ _ 0 n (λ i. and-true _)
 
 -- what a record's numbers may be relied on for, once 33 is passed
@@ -158,11 +159,11 @@ import-definition n x h =
 
 -- the kind of a definition that is there
 pub kind-same : (W A : List ℕ) (l : Layout) (ms : List Map) (d : ℕ) → d < l .definitions
-    → definitionAt W (definitionBase l + 3 * d) .kind ≡ kindOfDefinition (snapWith W A l ms) d
-kind-same W A l ms d h = ap (λ x. x .kind) (sym (getD-rows (λ k. definitionAt W (definitionBase l + 3 * k)) noDefinition (l .definitions) d h))
+    → definitionAt W (definitionBase l + definitionSize * d) .kind ≡ kindOfDefinition (snapWith W A l ms) d
+kind-same W A l ms d h = ap (λ x. x .kind) (sym (getD-rows (λ k. definitionAt W (definitionBase l + definitionSize * k)) noDefinition (l .definitions) d h))
 
 pub ns-same : (W A : List ℕ) (l : Layout) (ms : List Map) (ns d : ℕ) → d < l .definitions
-    → (not (eqb ns 2) || eqb (definitionAt W (definitionBase l + 3 * d) .kind) 5) ≡ nsPlaced (snapWith W A l ms) ns d
+    → (not (eqb ns 2) || eqb (definitionAt W (definitionBase l + definitionSize * d) .kind) 5) ≡ nsPlaced (snapWith W A l ms) ns d
 ns-same W A l ms ns d h = ap (λ k. not (eqb ns 2) || eqb k 5) (kind-same W A l ms d h)
 
 pub child-same : (W A : List ℕ) (l : Layout) (ms : List Map) (x : Child) → childDefined (countsIn l) x ≡ true
@@ -173,7 +174,7 @@ child-same W A l ms x h =
     ap₂ (λ u v. eqb (u .map) (v .map) && eqb (u .parent) (x .owner + 1)) (sym q) (sym p)
 
 pub parent-same : (W A : List ℕ) (l : Layout) (ms : List Map) (x : Definition) → definitionDefined (countsIn l) x ≡ true
-    → (not (eqb (x .kind) 2) || eqb (definitionAt W (definitionBase l + 3 * x .first) .kind) 4) ≡ definitionPlaced (snapWith W A l ms) x
+    → (not (eqb (x .kind) 2) || eqb (definitionAt W (definitionBase l + definitionSize * x .first) .kind) 4) ≡ definitionPlaced (snapWith W A l ms) x
 parent-same W A l ms x h =
     let p = not (eqb (x .kind) 2) || ltb (x .first) (l .definitions) && ltb (x .second) (l .names) in
     let q = not (eqb (x .kind) 3) || ltb (x .first) (l .names) in
@@ -181,13 +182,13 @@ parent-same W A l ms x h =
     variant-same (eqb (x .kind) 2) (x .first) (and-left p q (and-left (p && q) r h))
   where
     variant-same : (v : Bool) (d : ℕ) → (not v || ltb d (l .definitions) && ltb (x .second) (l .names)) ≡ true
-        → (not v || eqb (definitionAt W (definitionBase l + 3 * d) .kind) 4) ≡ (not v || eqb (kindOfDefinition (snapWith W A l ms) d) 4)
+        → (not v || eqb (definitionAt W (definitionBase l + definitionSize * d) .kind) 4) ≡ (not v || eqb (kindOfDefinition (snapWith W A l ms) d) 4)
     variant-same true d g = ap (λ k. eqb k 4) (kind-same W A l ms d (ltb-true _ _ (and-left (ltb d (l .definitions)) (ltb (x .second) (l .names)) g)))
     variant-same false d g = refl
 
 pub member-same : (W A : List ℕ) (l : Layout) (ms : List Map) (x : Member) → memberDefined (countsIn l) x ≡ true
-    → (eqb (definitionAt W (definitionBase l + 3 * x .parent) .kind) 4 && isMember (x .kind) (x .parent) (x .name) (definitionAt W (definitionBase l + 3 * x .definition))) ≡ memberPlaced (snapWith W A l ms) x
+    → (eqb (definitionAt W (definitionBase l + definitionSize * x .parent) .kind) 4 && isMember (x .kind) (x .parent) (x .name) (definitionAt W (definitionBase l + definitionSize * x .definition))) ≡ memberPlaced (snapWith W A l ms) x
 member-same W A l ms x h =
     let n = member-numbers (countsIn l) x h in
     ap₂ (λ k d. eqb k 4 && isMember (x .kind) (x .parent) (x .name) d) (kind-same W A l ms (x .parent) (n .0))
-    (sym (getD-rows (λ k. definitionAt W (definitionBase l + 3 * k)) noDefinition (l .definitions) (x .definition) (n .1)))
+    (sym (getD-rows (λ k. definitionAt W (definitionBase l + definitionSize * k)) noDefinition (l .definitions) (x .definition) (n .1)))

@@ -12,6 +12,7 @@ use borrow.Author.Count.{below-more}
 use borrow.Author.Tests.{ltb-true}
 use Rattle.snapshot.specs.Lists.{rows, any}
 use Rattle.snapshot.specs.Words.{payOf, wordsOf}
+use Rattle.snapshot.specs.Sizes.{crateSize, dependencySize, childSize, preludeSize, definitionSize, scopeSize, importSize, externSize, memberSize}
 use Rattle.snapshot.specs.Records.{Map, Crate, nameAt, crateAt, dependencyAt, childAt, preludeAt, definitionAt, scopeAt, importAt, externAt, memberAt}
 use Rattle.snapshot.specs.Layouts.{crateBase, dependencyBase, childBase, preludeBase, definitionBase, scopeBase, importBase, externBase, memberBase, nameHead, ownMap, moduleRow, namesOf, modulesOf, recordsOf, snapWith}
 use Rattle.snapshot.specs.declared.layout.Layout.{Layout}
@@ -90,15 +91,15 @@ module _ (W A B : List ℕ) (at next : ℕ) (l : Layout) (ms : List Map) (st : S
         let z-members : l .members ≡ 0 = st .upto .members (lit< tt) in
         let p : namesOf W B (l .names + 1) ≡ namesOf W A (l .names) ++ (nameAt W at ∷ []) =
         rows-put (λ k. nameAt W (getD A k 0)) _ (l .names) (nameAt W at) (λ k h. ap (nameAt W) (name-old k h)) (ap (nameAt W) name-new) in
-        let q-crates : recordsOf crateAt 2 W (crateBase (nameOn l next)) ((nameOn l next) .crates) ≡ recordsOf crateAt 2 W (crateBase l) (l .crates) = rows-zero _ _ _ z-crates in
-        let q-dependencies : recordsOf dependencyAt 3 W (dependencyBase (nameOn l next)) ((nameOn l next) .dependencies) ≡ recordsOf dependencyAt 3 W (dependencyBase l) (l .dependencies) = rows-zero _ _ _ z-dependencies in
-        let q-children : recordsOf childAt 2 W (childBase (nameOn l next)) ((nameOn l next) .children) ≡ recordsOf childAt 2 W (childBase l) (l .children) = rows-zero _ _ _ z-children in
-        let q-preludes : recordsOf preludeAt 2 W (preludeBase (nameOn l next)) ((nameOn l next) .preludes) ≡ recordsOf preludeAt 2 W (preludeBase l) (l .preludes) = rows-zero _ _ _ z-preludes in
-        let q-definitions : recordsOf definitionAt 3 W (definitionBase (nameOn l next)) ((nameOn l next) .definitions) ≡ recordsOf definitionAt 3 W (definitionBase l) (l .definitions) = rows-zero _ _ _ z-definitions in
-        let q-scopes : recordsOf scopeAt 8 W (scopeBase (nameOn l next)) ((nameOn l next) .scopes) ≡ recordsOf scopeAt 8 W (scopeBase l) (l .scopes) = rows-zero _ _ _ z-scopes in
-        let q-imports : recordsOf importAt 6 W (importBase (nameOn l next)) ((nameOn l next) .imports) ≡ recordsOf importAt 6 W (importBase l) (l .imports) = rows-zero _ _ _ z-imports in
-        let q-externs : recordsOf externAt 3 W (externBase (nameOn l next)) ((nameOn l next) .externs) ≡ recordsOf externAt 3 W (externBase l) (l .externs) = rows-zero _ _ _ z-externs in
-        let q-members : recordsOf memberAt 5 W (memberBase (nameOn l next)) ((nameOn l next) .members) ≡ recordsOf memberAt 5 W (memberBase l) (l .members) = rows-zero _ _ _ z-members in
+        let q-crates : recordsOf crateAt crateSize W (crateBase (nameOn l next)) ((nameOn l next) .crates) ≡ recordsOf crateAt crateSize W (crateBase l) (l .crates) = rows-zero _ _ _ z-crates in
+        let q-dependencies : recordsOf dependencyAt dependencySize W (dependencyBase (nameOn l next)) ((nameOn l next) .dependencies) ≡ recordsOf dependencyAt dependencySize W (dependencyBase l) (l .dependencies) = rows-zero _ _ _ z-dependencies in
+        let q-children : recordsOf childAt childSize W (childBase (nameOn l next)) ((nameOn l next) .children) ≡ recordsOf childAt childSize W (childBase l) (l .children) = rows-zero _ _ _ z-children in
+        let q-preludes : recordsOf preludeAt preludeSize W (preludeBase (nameOn l next)) ((nameOn l next) .preludes) ≡ recordsOf preludeAt preludeSize W (preludeBase l) (l .preludes) = rows-zero _ _ _ z-preludes in
+        let q-definitions : recordsOf definitionAt definitionSize W (definitionBase (nameOn l next)) ((nameOn l next) .definitions) ≡ recordsOf definitionAt definitionSize W (definitionBase l) (l .definitions) = rows-zero _ _ _ z-definitions in
+        let q-scopes : recordsOf scopeAt scopeSize W (scopeBase (nameOn l next)) ((nameOn l next) .scopes) ≡ recordsOf scopeAt scopeSize W (scopeBase l) (l .scopes) = rows-zero _ _ _ z-scopes in
+        let q-imports : recordsOf importAt importSize W (importBase (nameOn l next)) ((nameOn l next) .imports) ≡ recordsOf importAt importSize W (importBase l) (l .imports) = rows-zero _ _ _ z-imports in
+        let q-externs : recordsOf externAt externSize W (externBase (nameOn l next)) ((nameOn l next) .externs) ≡ recordsOf externAt externSize W (externBase l) (l .externs) = rows-zero _ _ _ z-externs in
+        let q-members : recordsOf memberAt memberSize W (memberBase (nameOn l next)) ((nameOn l next) .members) ≡ recordsOf memberAt memberSize W (memberBase l) (l .members) = rows-zero _ _ _ z-members in
         let q-modules : modulesOf B (l .modules) ≡ modulesOf A (l .modules) = rows-zero _ _ _ z-modules in
         λ i. record { names = p i; maps = ms; modules = q-modules i; crates = q-crates i; dependencies = q-dependencies i; children = q-children i; preludes = q-preludes i; definitions = q-definitions i; scopes = q-scopes i; imports = q-imports i; externs = q-externs i; members = q-members i }
 
@@ -220,23 +221,23 @@ module _ (W A : List ℕ) (at : ℕ) (l : Layout) (ms : List Map) (st : Stands W
       let z-imports : l .imports ≡ 0 = st .upto .imports (lit< tt) in
       let z-externs : l .externs ≡ 0 = st .upto .externs (lit< tt) in
       let z-members : l .members ≡ 0 = st .upto .members (lit< tt) in
-      let f : ℕ → Crate = λ j. crateAt W (crateBase l + 2 * j) in
-      let e : crateBase l + 2 * l .crates ≡ at = (let q = st .place in omega arith) in
+      let f : ℕ → Crate = λ j. crateAt W (crateBase l + crateSize * j) in
+      let e : crateBase l + crateSize * l .crates ≡ at = (let q = st .place in omega arith) in
       let p : rows f 0 (l .crates + 1) ≡ rows f 0 (l .crates) ++ (crateAt W at ∷ []) =
       rows-snoc f (l .crates) ∙ ap (λ h. rows f 0 (l .crates) ++ (crateAt W h ∷ [])) e in
       let q-names : namesOf W (set A (4096 + l .crates) 0) (l .names) ≡ namesOf W A (l .names) = names-kept W A (set A (4096 + l .crates) 0) (l .names) (st .limited .names) (λ i u v. crate-kept i u (omega arith)) in
-      let q-dependencies : recordsOf dependencyAt 3 W (dependencyBase (crateOn l)) ((crateOn l) .dependencies) ≡ recordsOf dependencyAt 3 W (dependencyBase l) (l .dependencies) = rows-zero _ _ _ z-dependencies in
-      let q-children : recordsOf childAt 2 W (childBase (crateOn l)) ((crateOn l) .children) ≡ recordsOf childAt 2 W (childBase l) (l .children) = rows-zero _ _ _ z-children in
-      let q-preludes : recordsOf preludeAt 2 W (preludeBase (crateOn l)) ((crateOn l) .preludes) ≡ recordsOf preludeAt 2 W (preludeBase l) (l .preludes) = rows-zero _ _ _ z-preludes in
-      let q-definitions : recordsOf definitionAt 3 W (definitionBase (crateOn l)) ((crateOn l) .definitions) ≡ recordsOf definitionAt 3 W (definitionBase l) (l .definitions) = rows-zero _ _ _ z-definitions in
-      let q-scopes : recordsOf scopeAt 8 W (scopeBase (crateOn l)) ((crateOn l) .scopes) ≡ recordsOf scopeAt 8 W (scopeBase l) (l .scopes) = rows-zero _ _ _ z-scopes in
-      let q-imports : recordsOf importAt 6 W (importBase (crateOn l)) ((crateOn l) .imports) ≡ recordsOf importAt 6 W (importBase l) (l .imports) = rows-zero _ _ _ z-imports in
-      let q-externs : recordsOf externAt 3 W (externBase (crateOn l)) ((crateOn l) .externs) ≡ recordsOf externAt 3 W (externBase l) (l .externs) = rows-zero _ _ _ z-externs in
-      let q-members : recordsOf memberAt 5 W (memberBase (crateOn l)) ((crateOn l) .members) ≡ recordsOf memberAt 5 W (memberBase l) (l .members) = rows-zero _ _ _ z-members in
+      let q-dependencies : recordsOf dependencyAt dependencySize W (dependencyBase (crateOn l)) ((crateOn l) .dependencies) ≡ recordsOf dependencyAt dependencySize W (dependencyBase l) (l .dependencies) = rows-zero _ _ _ z-dependencies in
+      let q-children : recordsOf childAt childSize W (childBase (crateOn l)) ((crateOn l) .children) ≡ recordsOf childAt childSize W (childBase l) (l .children) = rows-zero _ _ _ z-children in
+      let q-preludes : recordsOf preludeAt preludeSize W (preludeBase (crateOn l)) ((crateOn l) .preludes) ≡ recordsOf preludeAt preludeSize W (preludeBase l) (l .preludes) = rows-zero _ _ _ z-preludes in
+      let q-definitions : recordsOf definitionAt definitionSize W (definitionBase (crateOn l)) ((crateOn l) .definitions) ≡ recordsOf definitionAt definitionSize W (definitionBase l) (l .definitions) = rows-zero _ _ _ z-definitions in
+      let q-scopes : recordsOf scopeAt scopeSize W (scopeBase (crateOn l)) ((crateOn l) .scopes) ≡ recordsOf scopeAt scopeSize W (scopeBase l) (l .scopes) = rows-zero _ _ _ z-scopes in
+      let q-imports : recordsOf importAt importSize W (importBase (crateOn l)) ((crateOn l) .imports) ≡ recordsOf importAt importSize W (importBase l) (l .imports) = rows-zero _ _ _ z-imports in
+      let q-externs : recordsOf externAt externSize W (externBase (crateOn l)) ((crateOn l) .externs) ≡ recordsOf externAt externSize W (externBase l) (l .externs) = rows-zero _ _ _ z-externs in
+      let q-members : recordsOf memberAt memberSize W (memberBase (crateOn l)) ((crateOn l) .members) ≡ recordsOf memberAt memberSize W (memberBase l) (l .members) = rows-zero _ _ _ z-members in
       let q-modules : modulesOf (set A (4096 + l .crates) 0) (l .modules) ≡ modulesOf A (l .modules) = rows-zero _ _ _ z-modules in
       λ i. record { names = q-names i; crates = p i; maps = ms; modules = q-modules i; dependencies = q-dependencies i; children = q-children i; preludes = q-preludes i; definitions = q-definitions i; scopes = q-scopes i; imports = q-imports i; externs = q-externs i; members = q-members i }
 
-  crate-stands : at + 2 ≤ length W → Stands W (set A (4096 + l .crates) 0) 2 (at + 2) (crateOn l) ms
+  crate-stands : at + crateSize ≤ length W → Stands W (set A (4096 + l .crates) 0) 2 (at + crateSize) (crateOn l) ms
   crate-stands fits =
       let z-dependencies : l .dependencies ≡ 0 = st .upto .dependencies (lit< tt) in
       let z-maps : l .maps ≡ 0 = st .upto .maps (lit< tt) in
@@ -303,10 +304,10 @@ module _ (W A : List ℕ) (at : ℕ) (l : Layout) (ms : List Map) (st : Stands W
     crate-passed z = crate-passes (crateRange (crateAt W at)) (isEdition (crateAt W at .edition)) room (sym z ∙ crate-number)
 
     crate-room : n ≡ 0 → l .crates < 64
-    crate-room z = ltb-true (l .crates) 64 (ap (λ m. ltb m 64) (sym (length-rows (λ k. crateAt W (crateBase l + 2 * k)) (l .crates))) ∙ crate-passed z .room)
+    crate-room z = ltb-true (l .crates) 64 (ap (λ m. ltb m 64) (sym (length-rows (λ k. crateAt W (crateBase l + crateSize * k)) (l .crates))) ∙ crate-passed z .room)
 
-    pub crate-on : n ≡ 0 → 16384 ≤ length A → at + 2 ≤ length W
-        → Answered W (set A (4096 + l .crates) 0) 2 (at + 2) (crateStep (snapWith W A l ms) (crateAt W at)) (On (crateOn l))
+    pub crate-on : n ≡ 0 → 16384 ≤ length A → at + crateSize ≤ length W
+        → Answered W (set A (4096 + l .crates) 0) 2 (at + crateSize) (crateStep (snapWith W A l ms) (crateAt W at)) (On (crateOn l))
     unfolding crateStep
     crate-on z large fits = (
       ms,

@@ -6,6 +6,7 @@ use mathlib.Core.Bool.{Bool, true, false, _&&_, _||_, not}
 use lib.Dec.{eqb, ltb}
 use lib.ListN.{length, getD}
 use Rattle.snapshot.specs.Words.{payOf, wordsOf}
+use Rattle.snapshot.specs.Sizes.{childSize, definitionSize, scopeSize, externSize}
 use Rattle.snapshot.specs.Records.{Map, nameAt, mapAt}
 use Rattle.snapshot.specs.Layouts.{wordCount, childBase, definitionBase, scopeBase, externBase, nameHead, moduleMap, moduleHead, mapRoot, ownMap, snapWith}
 use Rattle.snapshot.specs.declared.layout.Layout.{Layout}
@@ -75,10 +76,10 @@ pub record Limited (l : Layout) : Type 0 where
 -- names, scopes and externs in chains, and the modules that are children or have a definition, above the tables
 pub record Indexes (W A : List ℕ) (l : Layout) : Type 0 where
   pub names : Chained A 4160 6344 (λ i. nameKey (nameAt W (nameHead A i))) (l .names)
-  pub children : Marked A 5312 (λ j. getD W (childBase l + 2 * j + 1) 0) (l .children)
-  pub definitions : Marked A 5824 (λ j. slotOf W (definitionBase l + 3 * j)) (l .definitions)
-  pub scopes : Chained A 4544 8392 (λ i. recordKey W 2 (scopeBase l + 8 * i)) (l .scopes)
-  pub externs : Chained A 4928 10736 (λ i. recordKey W 1 (externBase l + 3 * i)) (l .externs)
+  pub children : Marked A 5312 (λ j. getD W (childBase l + childSize * j + 1) 0) (l .children)
+  pub definitions : Marked A 5824 (λ j. slotOf W (definitionBase l + definitionSize * j)) (l .definitions)
+  pub scopes : Chained A 4544 8392 (λ i. recordKey W 2 (scopeBase l + scopeSize * i)) (l .scopes)
+  pub externs : Chained A 4928 10736 (λ i. recordKey W 1 (externBase l + externSize * i)) (l .externs)
 
 -- a record's head stands at a place
 pub record Here (W A : List ℕ) (l : Layout) (at : ℕ) : Type 0 where

@@ -8,6 +8,7 @@ use lib.Dec.{lit<}
 use lib.ListN.{length, getD}
 use Rattle.snapshot.specs.Lists.{rows}
 use Rattle.snapshot.specs.Words.{payOf, wordsOf}
+use Rattle.snapshot.specs.Sizes.{crateSize, dependencySize, childSize, preludeSize, definitionSize, scopeSize, importSize, externSize, memberSize}
 use Rattle.snapshot.specs.Records.{mapAt, Map, Dependency, Child, Prelude, Definition, Scope, Import, Extern, Member, crateAt, dependencyAt, childAt, preludeAt, definitionAt, scopeAt, importAt, externAt, memberAt}
 use Rattle.snapshot.specs.Layouts.{crateBase, dependencyBase, childBase, preludeBase, definitionBase, scopeBase, importBase, externBase, memberBase, nameHead, moduleMap, moduleHead, ownMap, namesOf, modulesOf, recordsOf, snapWith}
 use Rattle.snapshot.specs.declared.layout.Layout.{Layout}
@@ -76,20 +77,20 @@ module _ (W A : List ℕ) (at : ℕ) (l : Layout) (ms : List Map) (st : Stands W
       let z-imports : l .imports ≡ 0 = st .upto .imports (lit< tt) in
       let z-externs : l .externs ≡ 0 = st .upto .externs (lit< tt) in
       let z-members : l .members ≡ 0 = st .upto .members (lit< tt) in
-      let f : ℕ → Dependency = λ j. dependencyAt W (dependencyBase l + 3 * j) in
-      let e : dependencyBase l + 3 * l .dependencies ≡ at = (let q = st .place in omega arith) in
+      let f : ℕ → Dependency = λ j. dependencyAt W (dependencyBase l + dependencySize * j) in
+      let e : dependencyBase l + dependencySize * l .dependencies ≡ at = (let q = st .place in omega arith) in
       let p : rows f 0 (l .dependencies + 1) ≡ rows f 0 (l .dependencies) ++ (dependencyAt W at ∷ []) =
       rows-snoc f (l .dependencies) ∙ ap (λ h. rows f 0 (l .dependencies) ++ (dependencyAt W h ∷ [])) e in
-      let q-children : recordsOf childAt 2 W (childBase (dependencyOn l)) ((dependencyOn l) .children) ≡ recordsOf childAt 2 W (childBase l) (l .children) = rows-zero _ _ _ z-children in
-      let q-preludes : recordsOf preludeAt 2 W (preludeBase (dependencyOn l)) ((dependencyOn l) .preludes) ≡ recordsOf preludeAt 2 W (preludeBase l) (l .preludes) = rows-zero _ _ _ z-preludes in
-      let q-definitions : recordsOf definitionAt 3 W (definitionBase (dependencyOn l)) ((dependencyOn l) .definitions) ≡ recordsOf definitionAt 3 W (definitionBase l) (l .definitions) = rows-zero _ _ _ z-definitions in
-      let q-scopes : recordsOf scopeAt 8 W (scopeBase (dependencyOn l)) ((dependencyOn l) .scopes) ≡ recordsOf scopeAt 8 W (scopeBase l) (l .scopes) = rows-zero _ _ _ z-scopes in
-      let q-imports : recordsOf importAt 6 W (importBase (dependencyOn l)) ((dependencyOn l) .imports) ≡ recordsOf importAt 6 W (importBase l) (l .imports) = rows-zero _ _ _ z-imports in
-      let q-externs : recordsOf externAt 3 W (externBase (dependencyOn l)) ((dependencyOn l) .externs) ≡ recordsOf externAt 3 W (externBase l) (l .externs) = rows-zero _ _ _ z-externs in
-      let q-members : recordsOf memberAt 5 W (memberBase (dependencyOn l)) ((dependencyOn l) .members) ≡ recordsOf memberAt 5 W (memberBase l) (l .members) = rows-zero _ _ _ z-members in
-      λ i. record { names = namesOf W A (l .names); crates = recordsOf crateAt 2 W (crateBase l) (l .crates); dependencies = p i; maps = ms; modules = modulesOf A (l .modules); children = q-children i; preludes = q-preludes i; definitions = q-definitions i; scopes = q-scopes i; imports = q-imports i; externs = q-externs i; members = q-members i }
+      let q-children : recordsOf childAt childSize W (childBase (dependencyOn l)) ((dependencyOn l) .children) ≡ recordsOf childAt childSize W (childBase l) (l .children) = rows-zero _ _ _ z-children in
+      let q-preludes : recordsOf preludeAt preludeSize W (preludeBase (dependencyOn l)) ((dependencyOn l) .preludes) ≡ recordsOf preludeAt preludeSize W (preludeBase l) (l .preludes) = rows-zero _ _ _ z-preludes in
+      let q-definitions : recordsOf definitionAt definitionSize W (definitionBase (dependencyOn l)) ((dependencyOn l) .definitions) ≡ recordsOf definitionAt definitionSize W (definitionBase l) (l .definitions) = rows-zero _ _ _ z-definitions in
+      let q-scopes : recordsOf scopeAt scopeSize W (scopeBase (dependencyOn l)) ((dependencyOn l) .scopes) ≡ recordsOf scopeAt scopeSize W (scopeBase l) (l .scopes) = rows-zero _ _ _ z-scopes in
+      let q-imports : recordsOf importAt importSize W (importBase (dependencyOn l)) ((dependencyOn l) .imports) ≡ recordsOf importAt importSize W (importBase l) (l .imports) = rows-zero _ _ _ z-imports in
+      let q-externs : recordsOf externAt externSize W (externBase (dependencyOn l)) ((dependencyOn l) .externs) ≡ recordsOf externAt externSize W (externBase l) (l .externs) = rows-zero _ _ _ z-externs in
+      let q-members : recordsOf memberAt memberSize W (memberBase (dependencyOn l)) ((dependencyOn l) .members) ≡ recordsOf memberAt memberSize W (memberBase l) (l .members) = rows-zero _ _ _ z-members in
+      λ i. record { names = namesOf W A (l .names); crates = recordsOf crateAt crateSize W (crateBase l) (l .crates); dependencies = p i; maps = ms; modules = modulesOf A (l .modules); children = q-children i; preludes = q-preludes i; definitions = q-definitions i; scopes = q-scopes i; imports = q-imports i; externs = q-externs i; members = q-members i }
 
-  pub dependency-stands : at + 3 ≤ length W → Stands W A 3 (at + 3) (dependencyOn l) ms
+  pub dependency-stands : at + dependencySize ≤ length W → Stands W A 3 (at + dependencySize) (dependencyOn l) ms
   dependency-stands fits =
       record {
         place = (let q = st .place in omega arith);
@@ -149,21 +150,21 @@ module _ (W A B : List ℕ) (at : ℕ) (l : Layout) (ms : List Map) (st : Stands
       let z-imports : l .imports ≡ 0 = st .upto .imports (lit< tt) in
       let z-externs : l .externs ≡ 0 = st .upto .externs (lit< tt) in
       let z-members : l .members ≡ 0 = st .upto .members (lit< tt) in
-      let f : ℕ → Child = λ j. childAt W (childBase l + 2 * j) in
-      let e : childBase l + 2 * l .children ≡ at = (let q = st .place in omega arith) in
+      let f : ℕ → Child = λ j. childAt W (childBase l + childSize * j) in
+      let e : childBase l + childSize * l .children ≡ at = (let q = st .place in omega arith) in
       let p : rows f 0 (l .children + 1) ≡ rows f 0 (l .children) ++ (childAt W at ∷ []) =
       rows-snoc f (l .children) ∙ ap (λ h. rows f 0 (l .children) ++ (childAt W h ∷ [])) e in
-      let q-preludes : recordsOf preludeAt 2 W (preludeBase (childOn l)) ((childOn l) .preludes) ≡ recordsOf preludeAt 2 W (preludeBase l) (l .preludes) = rows-zero _ _ _ z-preludes in
-      let q-definitions : recordsOf definitionAt 3 W (definitionBase (childOn l)) ((childOn l) .definitions) ≡ recordsOf definitionAt 3 W (definitionBase l) (l .definitions) = rows-zero _ _ _ z-definitions in
-      let q-scopes : recordsOf scopeAt 8 W (scopeBase (childOn l)) ((childOn l) .scopes) ≡ recordsOf scopeAt 8 W (scopeBase l) (l .scopes) = rows-zero _ _ _ z-scopes in
-      let q-imports : recordsOf importAt 6 W (importBase (childOn l)) ((childOn l) .imports) ≡ recordsOf importAt 6 W (importBase l) (l .imports) = rows-zero _ _ _ z-imports in
-      let q-externs : recordsOf externAt 3 W (externBase (childOn l)) ((childOn l) .externs) ≡ recordsOf externAt 3 W (externBase l) (l .externs) = rows-zero _ _ _ z-externs in
-      let q-members : recordsOf memberAt 5 W (memberBase (childOn l)) ((childOn l) .members) ≡ recordsOf memberAt 5 W (memberBase l) (l .members) = rows-zero _ _ _ z-members in
+      let q-preludes : recordsOf preludeAt preludeSize W (preludeBase (childOn l)) ((childOn l) .preludes) ≡ recordsOf preludeAt preludeSize W (preludeBase l) (l .preludes) = rows-zero _ _ _ z-preludes in
+      let q-definitions : recordsOf definitionAt definitionSize W (definitionBase (childOn l)) ((childOn l) .definitions) ≡ recordsOf definitionAt definitionSize W (definitionBase l) (l .definitions) = rows-zero _ _ _ z-definitions in
+      let q-scopes : recordsOf scopeAt scopeSize W (scopeBase (childOn l)) ((childOn l) .scopes) ≡ recordsOf scopeAt scopeSize W (scopeBase l) (l .scopes) = rows-zero _ _ _ z-scopes in
+      let q-imports : recordsOf importAt importSize W (importBase (childOn l)) ((childOn l) .imports) ≡ recordsOf importAt importSize W (importBase l) (l .imports) = rows-zero _ _ _ z-imports in
+      let q-externs : recordsOf externAt externSize W (externBase (childOn l)) ((childOn l) .externs) ≡ recordsOf externAt externSize W (externBase l) (l .externs) = rows-zero _ _ _ z-externs in
+      let q-members : recordsOf memberAt memberSize W (memberBase (childOn l)) ((childOn l) .members) ≡ recordsOf memberAt memberSize W (memberBase l) (l .members) = rows-zero _ _ _ z-members in
       let q-names : namesOf W B (l .names) ≡ namesOf W A (l .names) = names-kept W A B (l .names) (st .limited .names) (λ i u v. kept i u (omega arith)) in
       let q-modules : modulesOf B (l .modules) ≡ modulesOf A (l .modules) = modules-kept A B (l .modules) (st .limited .modules) (λ i u v. kept i (omega arith) (omega arith)) in
-      λ i. record { names = q-names i; crates = recordsOf crateAt 2 W (crateBase l) (l .crates); dependencies = recordsOf dependencyAt 3 W (dependencyBase l) (l .dependencies); maps = ms; modules = q-modules i; children = p i; preludes = q-preludes i; definitions = q-definitions i; scopes = q-scopes i; imports = q-imports i; externs = q-externs i; members = q-members i }
+      λ i. record { names = q-names i; crates = recordsOf crateAt crateSize W (crateBase l) (l .crates); dependencies = recordsOf dependencyAt dependencySize W (dependencyBase l) (l .dependencies); maps = ms; modules = q-modules i; children = p i; preludes = q-preludes i; definitions = q-definitions i; scopes = q-scopes i; imports = q-imports i; externs = q-externs i; members = q-members i }
 
-  pub child-stands : at + 2 ≤ length W → Indexes W B (childOn l) → Stands W B 6 (at + 2) (childOn l) ms
+  pub child-stands : at + childSize ≤ length W → Indexes W B (childOn l) → Stands W B 6 (at + childSize) (childOn l) ms
   child-stands fits ix =
       let t = tables-kept W A B 6 at l ms st kept in
       record {
@@ -223,18 +224,18 @@ module _ (W A : List ℕ) (at : ℕ) (l : Layout) (ms : List Map) (st : Stands W
       let z-imports : l .imports ≡ 0 = st .upto .imports (lit< tt) in
       let z-externs : l .externs ≡ 0 = st .upto .externs (lit< tt) in
       let z-members : l .members ≡ 0 = st .upto .members (lit< tt) in
-      let f : ℕ → Prelude = λ j. preludeAt W (preludeBase l + 2 * j) in
-      let e : preludeBase l + 2 * l .preludes ≡ at = (let q = st .place in omega arith) in
+      let f : ℕ → Prelude = λ j. preludeAt W (preludeBase l + preludeSize * j) in
+      let e : preludeBase l + preludeSize * l .preludes ≡ at = (let q = st .place in omega arith) in
       let p : rows f 0 (l .preludes + 1) ≡ rows f 0 (l .preludes) ++ (preludeAt W at ∷ []) =
       rows-snoc f (l .preludes) ∙ ap (λ h. rows f 0 (l .preludes) ++ (preludeAt W h ∷ [])) e in
-      let q-definitions : recordsOf definitionAt 3 W (definitionBase (preludeOn l)) ((preludeOn l) .definitions) ≡ recordsOf definitionAt 3 W (definitionBase l) (l .definitions) = rows-zero _ _ _ z-definitions in
-      let q-scopes : recordsOf scopeAt 8 W (scopeBase (preludeOn l)) ((preludeOn l) .scopes) ≡ recordsOf scopeAt 8 W (scopeBase l) (l .scopes) = rows-zero _ _ _ z-scopes in
-      let q-imports : recordsOf importAt 6 W (importBase (preludeOn l)) ((preludeOn l) .imports) ≡ recordsOf importAt 6 W (importBase l) (l .imports) = rows-zero _ _ _ z-imports in
-      let q-externs : recordsOf externAt 3 W (externBase (preludeOn l)) ((preludeOn l) .externs) ≡ recordsOf externAt 3 W (externBase l) (l .externs) = rows-zero _ _ _ z-externs in
-      let q-members : recordsOf memberAt 5 W (memberBase (preludeOn l)) ((preludeOn l) .members) ≡ recordsOf memberAt 5 W (memberBase l) (l .members) = rows-zero _ _ _ z-members in
-      λ i. record { names = namesOf W A (l .names); crates = recordsOf crateAt 2 W (crateBase l) (l .crates); dependencies = recordsOf dependencyAt 3 W (dependencyBase l) (l .dependencies); maps = ms; modules = modulesOf A (l .modules); children = recordsOf childAt 2 W (childBase l) (l .children); preludes = p i; definitions = q-definitions i; scopes = q-scopes i; imports = q-imports i; externs = q-externs i; members = q-members i }
+      let q-definitions : recordsOf definitionAt definitionSize W (definitionBase (preludeOn l)) ((preludeOn l) .definitions) ≡ recordsOf definitionAt definitionSize W (definitionBase l) (l .definitions) = rows-zero _ _ _ z-definitions in
+      let q-scopes : recordsOf scopeAt scopeSize W (scopeBase (preludeOn l)) ((preludeOn l) .scopes) ≡ recordsOf scopeAt scopeSize W (scopeBase l) (l .scopes) = rows-zero _ _ _ z-scopes in
+      let q-imports : recordsOf importAt importSize W (importBase (preludeOn l)) ((preludeOn l) .imports) ≡ recordsOf importAt importSize W (importBase l) (l .imports) = rows-zero _ _ _ z-imports in
+      let q-externs : recordsOf externAt externSize W (externBase (preludeOn l)) ((preludeOn l) .externs) ≡ recordsOf externAt externSize W (externBase l) (l .externs) = rows-zero _ _ _ z-externs in
+      let q-members : recordsOf memberAt memberSize W (memberBase (preludeOn l)) ((preludeOn l) .members) ≡ recordsOf memberAt memberSize W (memberBase l) (l .members) = rows-zero _ _ _ z-members in
+      λ i. record { names = namesOf W A (l .names); crates = recordsOf crateAt crateSize W (crateBase l) (l .crates); dependencies = recordsOf dependencyAt dependencySize W (dependencyBase l) (l .dependencies); maps = ms; modules = modulesOf A (l .modules); children = recordsOf childAt childSize W (childBase l) (l .children); preludes = p i; definitions = q-definitions i; scopes = q-scopes i; imports = q-imports i; externs = q-externs i; members = q-members i }
 
-  pub prelude-stands : at + 2 ≤ length W → Stands W A 7 (at + 2) (preludeOn l) ms
+  pub prelude-stands : at + preludeSize ≤ length W → Stands W A 7 (at + preludeSize) (preludeOn l) ms
   prelude-stands fits =
       record {
         place = (let q = st .place in omega arith);
@@ -304,19 +305,19 @@ module _ (W A B : List ℕ) (at : ℕ) (l : Layout) (ms : List Map) (st : Stands
       let z-imports : l .imports ≡ 0 = st .upto .imports (lit< tt) in
       let z-externs : l .externs ≡ 0 = st .upto .externs (lit< tt) in
       let z-members : l .members ≡ 0 = st .upto .members (lit< tt) in
-      let f : ℕ → Definition = λ j. definitionAt W (definitionBase l + 3 * j) in
-      let e : definitionBase l + 3 * l .definitions ≡ at = (let q = st .place in omega arith) in
+      let f : ℕ → Definition = λ j. definitionAt W (definitionBase l + definitionSize * j) in
+      let e : definitionBase l + definitionSize * l .definitions ≡ at = (let q = st .place in omega arith) in
       let p : rows f 0 (l .definitions + 1) ≡ rows f 0 (l .definitions) ++ (definitionAt W at ∷ []) =
       rows-snoc f (l .definitions) ∙ ap (λ h. rows f 0 (l .definitions) ++ (definitionAt W h ∷ [])) e in
-      let q-scopes : recordsOf scopeAt 8 W (scopeBase (definitionOn l)) ((definitionOn l) .scopes) ≡ recordsOf scopeAt 8 W (scopeBase l) (l .scopes) = rows-zero _ _ _ z-scopes in
-      let q-imports : recordsOf importAt 6 W (importBase (definitionOn l)) ((definitionOn l) .imports) ≡ recordsOf importAt 6 W (importBase l) (l .imports) = rows-zero _ _ _ z-imports in
-      let q-externs : recordsOf externAt 3 W (externBase (definitionOn l)) ((definitionOn l) .externs) ≡ recordsOf externAt 3 W (externBase l) (l .externs) = rows-zero _ _ _ z-externs in
-      let q-members : recordsOf memberAt 5 W (memberBase (definitionOn l)) ((definitionOn l) .members) ≡ recordsOf memberAt 5 W (memberBase l) (l .members) = rows-zero _ _ _ z-members in
+      let q-scopes : recordsOf scopeAt scopeSize W (scopeBase (definitionOn l)) ((definitionOn l) .scopes) ≡ recordsOf scopeAt scopeSize W (scopeBase l) (l .scopes) = rows-zero _ _ _ z-scopes in
+      let q-imports : recordsOf importAt importSize W (importBase (definitionOn l)) ((definitionOn l) .imports) ≡ recordsOf importAt importSize W (importBase l) (l .imports) = rows-zero _ _ _ z-imports in
+      let q-externs : recordsOf externAt externSize W (externBase (definitionOn l)) ((definitionOn l) .externs) ≡ recordsOf externAt externSize W (externBase l) (l .externs) = rows-zero _ _ _ z-externs in
+      let q-members : recordsOf memberAt memberSize W (memberBase (definitionOn l)) ((definitionOn l) .members) ≡ recordsOf memberAt memberSize W (memberBase l) (l .members) = rows-zero _ _ _ z-members in
       let q-names : namesOf W B (l .names) ≡ namesOf W A (l .names) = names-kept W A B (l .names) (st .limited .names) (λ i u v. kept i u (omega arith)) in
       let q-modules : modulesOf B (l .modules) ≡ modulesOf A (l .modules) = modules-kept A B (l .modules) (st .limited .modules) (λ i u v. kept i (omega arith) (omega arith)) in
-      λ i. record { names = q-names i; crates = recordsOf crateAt 2 W (crateBase l) (l .crates); dependencies = recordsOf dependencyAt 3 W (dependencyBase l) (l .dependencies); maps = ms; modules = q-modules i; children = recordsOf childAt 2 W (childBase l) (l .children); preludes = recordsOf preludeAt 2 W (preludeBase l) (l .preludes); definitions = p i; scopes = q-scopes i; imports = q-imports i; externs = q-externs i; members = q-members i }
+      λ i. record { names = q-names i; crates = recordsOf crateAt crateSize W (crateBase l) (l .crates); dependencies = recordsOf dependencyAt dependencySize W (dependencyBase l) (l .dependencies); maps = ms; modules = q-modules i; children = recordsOf childAt childSize W (childBase l) (l .children); preludes = recordsOf preludeAt preludeSize W (preludeBase l) (l .preludes); definitions = p i; scopes = q-scopes i; imports = q-imports i; externs = q-externs i; members = q-members i }
 
-  pub definition-stands : at + 3 ≤ length W → l .definitions < 2048 → Indexes W B (definitionOn l) → Stands W B 8 (at + 3) (definitionOn l) ms
+  pub definition-stands : at + definitionSize ≤ length W → l .definitions < 2048 → Indexes W B (definitionOn l) → Stands W B 8 (at + definitionSize) (definitionOn l) ms
   definition-stands fits room ix =
       let t = tables-kept W A B 8 at l ms st kept in
       record {
@@ -375,18 +376,18 @@ module _ (W A B : List ℕ) (at : ℕ) (l : Layout) (ms : List Map) (st : Stands
       let z-imports : l .imports ≡ 0 = st .upto .imports (lit< tt) in
       let z-externs : l .externs ≡ 0 = st .upto .externs (lit< tt) in
       let z-members : l .members ≡ 0 = st .upto .members (lit< tt) in
-      let f : ℕ → Scope = λ j. scopeAt W (scopeBase l + 8 * j) in
-      let e : scopeBase l + 8 * l .scopes ≡ at = (let q = st .place in omega arith) in
+      let f : ℕ → Scope = λ j. scopeAt W (scopeBase l + scopeSize * j) in
+      let e : scopeBase l + scopeSize * l .scopes ≡ at = (let q = st .place in omega arith) in
       let p : rows f 0 (l .scopes + 1) ≡ rows f 0 (l .scopes) ++ (scopeAt W at ∷ []) =
       rows-snoc f (l .scopes) ∙ ap (λ h. rows f 0 (l .scopes) ++ (scopeAt W h ∷ [])) e in
-      let q-imports : recordsOf importAt 6 W (importBase (scopeOn l)) ((scopeOn l) .imports) ≡ recordsOf importAt 6 W (importBase l) (l .imports) = rows-zero _ _ _ z-imports in
-      let q-externs : recordsOf externAt 3 W (externBase (scopeOn l)) ((scopeOn l) .externs) ≡ recordsOf externAt 3 W (externBase l) (l .externs) = rows-zero _ _ _ z-externs in
-      let q-members : recordsOf memberAt 5 W (memberBase (scopeOn l)) ((scopeOn l) .members) ≡ recordsOf memberAt 5 W (memberBase l) (l .members) = rows-zero _ _ _ z-members in
+      let q-imports : recordsOf importAt importSize W (importBase (scopeOn l)) ((scopeOn l) .imports) ≡ recordsOf importAt importSize W (importBase l) (l .imports) = rows-zero _ _ _ z-imports in
+      let q-externs : recordsOf externAt externSize W (externBase (scopeOn l)) ((scopeOn l) .externs) ≡ recordsOf externAt externSize W (externBase l) (l .externs) = rows-zero _ _ _ z-externs in
+      let q-members : recordsOf memberAt memberSize W (memberBase (scopeOn l)) ((scopeOn l) .members) ≡ recordsOf memberAt memberSize W (memberBase l) (l .members) = rows-zero _ _ _ z-members in
       let q-names : namesOf W B (l .names) ≡ namesOf W A (l .names) = names-kept W A B (l .names) (st .limited .names) (λ i u v. kept i u (omega arith)) in
       let q-modules : modulesOf B (l .modules) ≡ modulesOf A (l .modules) = modules-kept A B (l .modules) (st .limited .modules) (λ i u v. kept i (omega arith) (omega arith)) in
-      λ i. record { names = q-names i; crates = recordsOf crateAt 2 W (crateBase l) (l .crates); dependencies = recordsOf dependencyAt 3 W (dependencyBase l) (l .dependencies); maps = ms; modules = q-modules i; children = recordsOf childAt 2 W (childBase l) (l .children); preludes = recordsOf preludeAt 2 W (preludeBase l) (l .preludes); definitions = recordsOf definitionAt 3 W (definitionBase l) (l .definitions); scopes = p i; imports = q-imports i; externs = q-externs i; members = q-members i }
+      λ i. record { names = q-names i; crates = recordsOf crateAt crateSize W (crateBase l) (l .crates); dependencies = recordsOf dependencyAt dependencySize W (dependencyBase l) (l .dependencies); maps = ms; modules = q-modules i; children = recordsOf childAt childSize W (childBase l) (l .children); preludes = recordsOf preludeAt preludeSize W (preludeBase l) (l .preludes); definitions = recordsOf definitionAt definitionSize W (definitionBase l) (l .definitions); scopes = p i; imports = q-imports i; externs = q-externs i; members = q-members i }
 
-  pub scope-stands : at + 8 ≤ length W → Indexes W B (scopeOn l) → Stands W B 9 (at + 8) (scopeOn l) ms
+  pub scope-stands : at + scopeSize ≤ length W → Indexes W B (scopeOn l) → Stands W B 9 (at + scopeSize) (scopeOn l) ms
   scope-stands fits ix =
       let t = tables-kept W A B 9 at l ms st kept in
       record {
@@ -443,15 +444,15 @@ module _ (W A : List ℕ) (at : ℕ) (l : Layout) (ms : List Map) (st : Stands W
   import-added =
       let z-externs : l .externs ≡ 0 = st .upto .externs (lit< tt) in
       let z-members : l .members ≡ 0 = st .upto .members (lit< tt) in
-      let f : ℕ → Import = λ j. importAt W (importBase l + 6 * j) in
-      let e : importBase l + 6 * l .imports ≡ at = (let q = st .place in omega arith) in
+      let f : ℕ → Import = λ j. importAt W (importBase l + importSize * j) in
+      let e : importBase l + importSize * l .imports ≡ at = (let q = st .place in omega arith) in
       let p : rows f 0 (l .imports + 1) ≡ rows f 0 (l .imports) ++ (importAt W at ∷ []) =
       rows-snoc f (l .imports) ∙ ap (λ h. rows f 0 (l .imports) ++ (importAt W h ∷ [])) e in
-      let q-externs : recordsOf externAt 3 W (externBase (importOn l)) ((importOn l) .externs) ≡ recordsOf externAt 3 W (externBase l) (l .externs) = rows-zero _ _ _ z-externs in
-      let q-members : recordsOf memberAt 5 W (memberBase (importOn l)) ((importOn l) .members) ≡ recordsOf memberAt 5 W (memberBase l) (l .members) = rows-zero _ _ _ z-members in
-      λ i. record { names = namesOf W A (l .names); crates = recordsOf crateAt 2 W (crateBase l) (l .crates); dependencies = recordsOf dependencyAt 3 W (dependencyBase l) (l .dependencies); maps = ms; modules = modulesOf A (l .modules); children = recordsOf childAt 2 W (childBase l) (l .children); preludes = recordsOf preludeAt 2 W (preludeBase l) (l .preludes); definitions = recordsOf definitionAt 3 W (definitionBase l) (l .definitions); scopes = recordsOf scopeAt 8 W (scopeBase l) (l .scopes); imports = p i; externs = q-externs i; members = q-members i }
+      let q-externs : recordsOf externAt externSize W (externBase (importOn l)) ((importOn l) .externs) ≡ recordsOf externAt externSize W (externBase l) (l .externs) = rows-zero _ _ _ z-externs in
+      let q-members : recordsOf memberAt memberSize W (memberBase (importOn l)) ((importOn l) .members) ≡ recordsOf memberAt memberSize W (memberBase l) (l .members) = rows-zero _ _ _ z-members in
+      λ i. record { names = namesOf W A (l .names); crates = recordsOf crateAt crateSize W (crateBase l) (l .crates); dependencies = recordsOf dependencyAt dependencySize W (dependencyBase l) (l .dependencies); maps = ms; modules = modulesOf A (l .modules); children = recordsOf childAt childSize W (childBase l) (l .children); preludes = recordsOf preludeAt preludeSize W (preludeBase l) (l .preludes); definitions = recordsOf definitionAt definitionSize W (definitionBase l) (l .definitions); scopes = recordsOf scopeAt scopeSize W (scopeBase l) (l .scopes); imports = p i; externs = q-externs i; members = q-members i }
 
-  pub import-stands : at + 6 ≤ length W → Stands W A 10 (at + 6) (importOn l) ms
+  pub import-stands : at + importSize ≤ length W → Stands W A 10 (at + importSize) (importOn l) ms
   import-stands fits =
       record {
         place = (let q = st .place in omega arith);
@@ -518,16 +519,16 @@ module _ (W A B : List ℕ) (at : ℕ) (l : Layout) (ms : List Map) (st : Stands
   pub extern-added : snapWith W B (externOn l) ms ≡ addExtern (snapWith W A l ms) (externAt W at)
   extern-added =
       let z-members : l .members ≡ 0 = st .upto .members (lit< tt) in
-      let f : ℕ → Extern = λ j. externAt W (externBase l + 3 * j) in
-      let e : externBase l + 3 * l .externs ≡ at = (let q = st .place in omega arith) in
+      let f : ℕ → Extern = λ j. externAt W (externBase l + externSize * j) in
+      let e : externBase l + externSize * l .externs ≡ at = (let q = st .place in omega arith) in
       let p : rows f 0 (l .externs + 1) ≡ rows f 0 (l .externs) ++ (externAt W at ∷ []) =
       rows-snoc f (l .externs) ∙ ap (λ h. rows f 0 (l .externs) ++ (externAt W h ∷ [])) e in
-      let q-members : recordsOf memberAt 5 W (memberBase (externOn l)) ((externOn l) .members) ≡ recordsOf memberAt 5 W (memberBase l) (l .members) = rows-zero _ _ _ z-members in
+      let q-members : recordsOf memberAt memberSize W (memberBase (externOn l)) ((externOn l) .members) ≡ recordsOf memberAt memberSize W (memberBase l) (l .members) = rows-zero _ _ _ z-members in
       let q-names : namesOf W B (l .names) ≡ namesOf W A (l .names) = names-kept W A B (l .names) (st .limited .names) (λ i u v. kept i u (omega arith)) in
       let q-modules : modulesOf B (l .modules) ≡ modulesOf A (l .modules) = modules-kept A B (l .modules) (st .limited .modules) (λ i u v. kept i (omega arith) (omega arith)) in
-      λ i. record { names = q-names i; crates = recordsOf crateAt 2 W (crateBase l) (l .crates); dependencies = recordsOf dependencyAt 3 W (dependencyBase l) (l .dependencies); maps = ms; modules = q-modules i; children = recordsOf childAt 2 W (childBase l) (l .children); preludes = recordsOf preludeAt 2 W (preludeBase l) (l .preludes); definitions = recordsOf definitionAt 3 W (definitionBase l) (l .definitions); scopes = recordsOf scopeAt 8 W (scopeBase l) (l .scopes); imports = recordsOf importAt 6 W (importBase l) (l .imports); externs = p i; members = q-members i }
+      λ i. record { names = q-names i; crates = recordsOf crateAt crateSize W (crateBase l) (l .crates); dependencies = recordsOf dependencyAt dependencySize W (dependencyBase l) (l .dependencies); maps = ms; modules = q-modules i; children = recordsOf childAt childSize W (childBase l) (l .children); preludes = recordsOf preludeAt preludeSize W (preludeBase l) (l .preludes); definitions = recordsOf definitionAt definitionSize W (definitionBase l) (l .definitions); scopes = recordsOf scopeAt scopeSize W (scopeBase l) (l .scopes); imports = recordsOf importAt importSize W (importBase l) (l .imports); externs = p i; members = q-members i }
 
-  pub extern-stands : at + 3 ≤ length W → Indexes W B (externOn l) → Stands W B 11 (at + 3) (externOn l) ms
+  pub extern-stands : at + externSize ≤ length W → Indexes W B (externOn l) → Stands W B 11 (at + externSize) (externOn l) ms
   extern-stands fits ix =
       let t = tables-kept W A B 11 at l ms st kept in
       record {
@@ -582,13 +583,13 @@ memberOn l =
 module _ (W A : List ℕ) (at : ℕ) (l : Layout) (ms : List Map) (st : Stands W A 13 at l ms) where
   pub member-added : snapWith W A (memberOn l) ms ≡ addMember (snapWith W A l ms) (memberAt W at)
   member-added =
-      let f : ℕ → Member = λ j. memberAt W (memberBase l + 5 * j) in
-      let e : memberBase l + 5 * l .members ≡ at = (let q = st .place in omega arith) in
+      let f : ℕ → Member = λ j. memberAt W (memberBase l + memberSize * j) in
+      let e : memberBase l + memberSize * l .members ≡ at = (let q = st .place in omega arith) in
       let p : rows f 0 (l .members + 1) ≡ rows f 0 (l .members) ++ (memberAt W at ∷ []) =
       rows-snoc f (l .members) ∙ ap (λ h. rows f 0 (l .members) ++ (memberAt W h ∷ [])) e in
-      λ i. record { names = namesOf W A (l .names); crates = recordsOf crateAt 2 W (crateBase l) (l .crates); dependencies = recordsOf dependencyAt 3 W (dependencyBase l) (l .dependencies); maps = ms; modules = modulesOf A (l .modules); children = recordsOf childAt 2 W (childBase l) (l .children); preludes = recordsOf preludeAt 2 W (preludeBase l) (l .preludes); definitions = recordsOf definitionAt 3 W (definitionBase l) (l .definitions); scopes = recordsOf scopeAt 8 W (scopeBase l) (l .scopes); imports = recordsOf importAt 6 W (importBase l) (l .imports); externs = recordsOf externAt 3 W (externBase l) (l .externs); members = p i }
+      λ i. record { names = namesOf W A (l .names); crates = recordsOf crateAt crateSize W (crateBase l) (l .crates); dependencies = recordsOf dependencyAt dependencySize W (dependencyBase l) (l .dependencies); maps = ms; modules = modulesOf A (l .modules); children = recordsOf childAt childSize W (childBase l) (l .children); preludes = recordsOf preludeAt preludeSize W (preludeBase l) (l .preludes); definitions = recordsOf definitionAt definitionSize W (definitionBase l) (l .definitions); scopes = recordsOf scopeAt scopeSize W (scopeBase l) (l .scopes); imports = recordsOf importAt importSize W (importBase l) (l .imports); externs = recordsOf externAt externSize W (externBase l) (l .externs); members = p i }
 
-  pub member-stands : at + 5 ≤ length W → Stands W A 13 (at + 5) (memberOn l) ms
+  pub member-stands : at + memberSize ≤ length W → Stands W A 13 (at + memberSize) (memberOn l) ms
   member-stands fits =
       record {
         place = (let q = st .place in omega arith);

@@ -10,6 +10,7 @@ use lib.Seq.{getD-set-other}
 use borrow.Author.Tests.{eqb-true, eqb-false, eq-eqb, ne-eqb, ltb-true}
 use Rattle.snapshot.specs.Lists.{rows, any}
 use Rattle.snapshot.specs.Words.{payOf}
+use Rattle.snapshot.specs.Sizes.{childSize, definitionSize, scopeSize, externSize}
 use Rattle.snapshot.specs.Records.{Map, Definition, nameAt, childAt, definitionAt}
 use Rattle.snapshot.specs.Layouts.{childBase, definitionBase, scopeBase, externBase, nameHead}
 use Rattle.snapshot.specs.declared.layout.Layout.{Layout}
@@ -28,14 +29,14 @@ pub record Linked (W A B : List ℕ) (l : Layout) : Type 0 where
   pub index : Indexes W B l
 
 module _ (W A : List ℕ) (l : Layout) (ix : Indexes W A l) {base : ℕ} where
-  pub scope-chain : base ≡ scopeBase l → Chained A 4544 8392 (λ i. recordKey W 2 (base + 8 * i)) (l .scopes)
-  scope-chain e = subst (λ b. Chained A 4544 8392 (λ i. recordKey W 2 (b + 8 * i)) (l .scopes)) (sym e) (ix .scopes)
+  pub scope-chain : base ≡ scopeBase l → Chained A 4544 8392 (λ i. recordKey W 2 (base + scopeSize * i)) (l .scopes)
+  scope-chain e = subst (λ b. Chained A 4544 8392 (λ i. recordKey W 2 (b + scopeSize * i)) (l .scopes)) (sym e) (ix .scopes)
 
-  pub extern-chain : base ≡ externBase l → Chained A 4928 10736 (λ i. recordKey W 1 (base + 3 * i)) (l .externs)
-  extern-chain e = subst (λ b. Chained A 4928 10736 (λ i. recordKey W 1 (b + 3 * i)) (l .externs)) (sym e) (ix .externs)
+  pub extern-chain : base ≡ externBase l → Chained A 4928 10736 (λ i. recordKey W 1 (base + externSize * i)) (l .externs)
+  extern-chain e = subst (λ b. Chained A 4928 10736 (λ i. recordKey W 1 (b + externSize * i)) (l .externs)) (sym e) (ix .externs)
 
 module _ (W A : List ℕ) (at : ℕ) (l : Layout) (ms : List Map) {key : ℕ} {B : List ℕ} (short : length W ≤ 16384) (large : 16384 ≤ length A) where
-  pub scope-linked : Stands W A 9 at l ms → at + 8 ≤ length W → key ≡ recordKey W 2 at → B ≡ linked A 4544 8392 key (l .scopes) → Linked W A B (scopeOn l)
+  pub scope-linked : Stands W A 9 at l ms → at + scopeSize ≤ length W → key ≡ recordKey W 2 at → B ≡ linked A 4544 8392 key (l .scopes) → Linked W A B (scopeOn l)
   scope-linked st fits ek eb = subst (λ C. Linked W A C (scopeOn l)) (sym eb) (record { kept = λ i p q. other i (omega arith) (omega arith); index = grown })
     where
       small : key < 383
@@ -44,7 +45,7 @@ module _ (W A : List ℕ) (at : ℕ) (l : Layout) (ms : List Map) {key : ℕ} {B
       ze : l .externs ≡ 0
       ze = st .upto .externs (lit< tt)
 
-      here : scopeBase l + 8 * l .scopes ≡ at
+      here : scopeBase l + scopeSize * l .scopes ≡ at
       here = let zi : l .imports ≡ 0 = st .upto .imports (lit< tt) in let zb : l .members ≡ 0 = st .upto .members (lit< tt) in let q = ze in let p = st .place in omega arith
 
       other : (i : ℕ) → (4544 ≤ i → i < 4927 → ⊥) → (8392 ≤ i → ⊥) → getD (linked A 4544 8392 key (l .scopes)) i 0 ≡ getD A i 0
@@ -61,19 +62,19 @@ module _ (W A : List ℕ) (at : ℕ) (l : Layout) (ms : List Map) {key : ℕ} {B
                 (λ i h. ap (λ x. nameKey (nameAt W x)) (other i (omega arith) (omega arith)));
             children = marked-kept A _ 5312 _ _ (l .children) (ix .children) (λ m h. other _ (omega arith) (omega arith)) (λ i h. refl);
             definitions = marked-kept A _ 5824 _ _ (l .definitions) (ix .definitions) (λ m h. other _ (omega arith) (omega arith)) (λ i h. refl);
-            scopes = chained-linked A 4544 8392 key (l .scopes) (λ i. recordKey W 2 (scopeBase l + 8 * i)) (ix .scopes) (omega arith) (omega arith) small (ap (recordKey W 2) here ∙ sym ek);
+            scopes = chained-linked A 4544 8392 key (l .scopes) (λ i. recordKey W 2 (scopeBase l + scopeSize * i)) (ix .scopes) (omega arith) (omega arith) small (ap (recordKey W 2) here ∙ sym ek);
             externs =
                 chained-kept A _ 4928 10736 _ _ (l .externs) (ix .externs) (λ b h. other _ (omega arith) (omega arith)) (λ i h. (let z = ze in absurd (omega arith)))
                 (λ i h. (let z = ze in absurd (omega arith)));
           }
 
-  pub extern-linked : Stands W A 11 at l ms → at + 3 ≤ length W → key ≡ recordKey W 1 at → B ≡ linked A 4928 10736 key (l .externs) → Linked W A B (externOn l)
+  pub extern-linked : Stands W A 11 at l ms → at + externSize ≤ length W → key ≡ recordKey W 1 at → B ≡ linked A 4928 10736 key (l .externs) → Linked W A B (externOn l)
   extern-linked st fits ek eb = subst (λ C. Linked W A C (externOn l)) (sym eb) (record { kept = λ i p q. other i (omega arith) (omega arith); index = grown })
     where
       small : key < 383
       small = key-small _ ek
 
-      here : externBase l + 3 * l .externs ≡ at
+      here : externBase l + externSize * l .externs ≡ at
       here = let zb : l .members ≡ 0 = st .upto .members (lit< tt) in let p = st .place in omega arith
 
       other : (i : ℕ) → (4928 ≤ i → i < 5311 → ⊥) → (10736 ≤ i → ⊥) → getD (linked A 4928 10736 key (l .externs)) i 0 ≡ getD A i 0
@@ -93,7 +94,7 @@ module _ (W A : List ℕ) (at : ℕ) (l : Layout) (ms : List Map) {key : ℕ} {B
             scopes =
                 chained-kept A _ 4544 8392 _ _ (l .scopes) (ix .scopes) (λ b h. other _ (omega arith) (omega arith)) (λ i h. other _ (omega arith) (omega arith))
                 (λ i h. refl);
-            externs = chained-linked A 4928 10736 key (l .externs) (λ i. recordKey W 1 (externBase l + 3 * i)) (ix .externs) (omega arith) (omega arith) small (ap (recordKey W 1) here ∙ sym ek);
+            externs = chained-linked A 4928 10736 key (l .externs) (λ i. recordKey W 1 (externBase l + externSize * i)) (ix .externs) (omega arith) (omega arith) small (ap (recordKey W 1) here ∙ sym ek);
           }
 
 -- one word of the marks set: the rest stays
@@ -106,10 +107,10 @@ module _ (W A : List ℕ) (l : Layout) (few : l .names ≤ 2048) (i : ℕ) (low 
       chained-kept A _ 4160 6344 _ _ (l .names) (ix .names) (λ b h. mark-other _ (omega arith)) (λ j h. mark-other _ (omega arith))
       (λ j h. ap (λ x. nameKey (nameAt W x)) (mark-other j (omega arith)))
 
-  scopes-stay : (m : Layout) → l .scopes ≡ 0 → Chained (set A i 1) 4544 8392 (λ j. recordKey W 2 (scopeBase m + 8 * j)) (l .scopes)
+  scopes-stay : (m : Layout) → l .scopes ≡ 0 → Chained (set A i 1) 4544 8392 (λ j. recordKey W 2 (scopeBase m + scopeSize * j)) (l .scopes)
   scopes-stay m z = chained-kept A _ 4544 8392 _ _ (l .scopes) (ix .scopes) (λ b h. mark-other _ (omega arith)) (λ j h. absurd (omega arith)) (λ j h. absurd (omega arith))
 
-  externs-stay : (m : Layout) → l .externs ≡ 0 → Chained (set A i 1) 4928 10736 (λ j. recordKey W 1 (externBase m + 3 * j)) (l .externs)
+  externs-stay : (m : Layout) → l .externs ≡ 0 → Chained (set A i 1) 4928 10736 (λ j. recordKey W 1 (externBase m + externSize * j)) (l .externs)
   externs-stay m z = chained-kept A _ 4928 10736 _ _ (l .externs) (ix .externs) (λ b h. mark-other _ (omega arith)) (λ j h. absurd (omega arith)) (λ j h. absurd (omega arith))
 
 module _ (W A : List ℕ) (at : ℕ) (l : Layout) (ms : List Map) {s : ℕ} (large : 16384 ≤ length A) where
@@ -123,12 +124,12 @@ module _ (W A : List ℕ) (at : ℕ) (l : Layout) (ms : List Map) {s : ℕ} (lar
       let zi : l .imports ≡ 0 = st .upto .imports (lit< tt) in
       let ze : l .externs ≡ 0 = st .upto .externs (lit< tt) in
       let zb : l .members ≡ 0 = st .upto .members (lit< tt) in
-      let here : childBase l + 2 * l .children ≡ at = (let p = st .place in omega arith) in
+      let here : childBase l + childSize * l .children ≡ at = (let p = st .place in omega arith) in
       record {
         kept = λ i p q. getD-set-other A (5312 + s) i 1 0 (omega arith);
         index = record {
           names = names-stay W A l few (5312 + s) (omega arith) (omega arith) ix;
-          children = marked-more A 5312 (λ j. getD W (childBase l + 2 * j + 1) 0) (l .children) s (ix .children) (omega arith) (ap (λ x. getD W (x + 1) 0) here ∙ sym es);
+          children = marked-more A 5312 (λ j. getD W (childBase l + childSize * j + 1) 0) (l .children) s (ix .children) (omega arith) (ap (λ x. getD W (x + 1) 0) here ∙ sym es);
           definitions = marked-kept A _ 5824 _ _ (l .definitions) (ix .definitions) (λ m h. getD-set-other A (5312 + s) (5824 + m) 1 0 (omega arith)) (λ i h. absurd (omega arith));
           scopes = scopes-stay W A l few (5312 + s) (omega arith) (omega arith) ix (childOn l) zs;
           externs = externs-stay W A l few (5312 + s) (omega arith) (omega arith) ix (childOn l) ze;
@@ -143,13 +144,13 @@ module _ (W A : List ℕ) (at : ℕ) (l : Layout) (ms : List Map) {s : ℕ} (lar
       let zi : l .imports ≡ 0 = st .upto .imports (lit< tt) in
       let ze : l .externs ≡ 0 = st .upto .externs (lit< tt) in
       let zb : l .members ≡ 0 = st .upto .members (lit< tt) in
-      let here : definitionBase l + 3 * l .definitions ≡ at = (let p = st .place in omega arith) in
+      let here : definitionBase l + definitionSize * l .definitions ≡ at = (let p = st .place in omega arith) in
       record {
         kept = λ i p q. getD-set-other A (5824 + s) i 1 0 (omega arith);
         index = record {
           names = names-stay W A l few (5824 + s) (omega arith) (omega arith) ix;
           children = marked-kept A _ 5312 _ _ (l .children) (ix .children) (λ m h. getD-set-other A (5824 + s) (5312 + m) 1 0 (omega arith)) (λ i h. refl);
-          definitions = marked-more A 5824 (λ j. slotOf W (definitionBase l + 3 * j)) (l .definitions) s (ix .definitions) (omega arith) (ap (slotOf W) here ∙ sym es);
+          definitions = marked-more A 5824 (λ j. slotOf W (definitionBase l + definitionSize * j)) (l .definitions) s (ix .definitions) (omega arith) (ap (slotOf W) here ∙ sym es);
           scopes = scopes-stay W A l few (5824 + s) (omega arith) (omega arith) ix (definitionOn l) zs;
           externs = externs-stay W A l few (5824 + s) (omega arith) (omega arith) ix (definitionOn l) ze;
         };
@@ -190,10 +191,10 @@ slot-same W at b ek small false q =
     rw (slotOf, q, e) (ne-eqb (getD W (at + 1) 0) 512 (λ x. omega arith))
 
 -- a module's definition repeats an earlier one where its mark says so
-pub module-again : (W A : List ℕ) (at base n : ℕ) → payOf (getD W at 0) ≡ 1 → getD W (at + 1) 0 < 512 → Marked A 5824 (λ j. slotOf W (base + 3 * j)) n
-    → not (eqb (getD A (5824 + getD W (at + 1) 0) 0) 0) ≡ any (sameBy W true 1 at) (rows (λ k. base + 3 * k) 0 n)
+pub module-again : (W A : List ℕ) (at base n : ℕ) → payOf (getD W at 0) ≡ 1 → getD W (at + 1) 0 < 512 → Marked A 5824 (λ j. slotOf W (base + definitionSize * j)) n
+    → not (eqb (getD A (5824 + getD W (at + 1) 0) 0) 0) ≡ any (sameBy W true 1 at) (rows (λ k. base + definitionSize * k) 0 n)
 module-again W A at base n ek small mk =
-    mk .same (getD W (at + 1) 0) small ∙ any-same _ _ _ _ 0 n (λ i. slot-same W at (base + 3 * i) ek small (eqb (payOf (getD W (base + 3 * i) 0)) 1) refl)
+    mk .same (getD W (at + 1) 0) small ∙ any-same _ _ _ _ 0 n (λ i. slot-same W at (base + definitionSize * i) ek small (eqb (payOf (getD W (base + definitionSize * i) 0)) 1) refl)
 
 -- records that are the same have the same key
 key-same : (W : List ℕ) (fields a b : ℕ) → 1 ≤ fields → fields ≤ 2 → sameBy W true fields a b ≡ true → recordKey W fields b ≡ recordKey W fields a

@@ -8,6 +8,7 @@ use lib.ListN.{length, getD}
 use lib.Dec.{eqb, leb, ltb}
 use borrow.Author.Tests.{ltb-true, leb-false}
 use Rattle.snapshot.specs.Lists.{rows, any}
+use Rattle.snapshot.specs.Sizes.{dependencySize, childSize, preludeSize, definitionSize, scopeSize, importSize, externSize, memberSize}
 use Rattle.snapshot.specs.Records.{Map, nameAt, dependencyAt, childAt, preludeAt, definitionAt, scopeAt, importAt, externAt, memberAt}
 use Rattle.snapshot.specs.Layouts.{preludeBase, definitionBase, scopeBase, externBase, moduleMap, moduleParent, nameHead, snapWith}
 use Rattle.snapshot.specs.declared.layout.Layout.{Layout}
@@ -47,7 +48,7 @@ module _ (W A : List ℕ) (at : ℕ) (l : Layout) (ms : List Map) (st : Stands W
     unfolding dependencyStep
     dependency-no z = judge-no (dependencyRange (dependencyAt W at)) (dependencyDefined (countsOf (snapWith W A l ms)) (dependencyAt W at)) false true true (addDependency (snapWith W A l ms) (dependencyAt W at)) dependency-number z
 
-    pub dependency-on : n ≡ 0 → at + 3 ≤ length W → Answered W A 3 (at + 3) (dependencyStep (snapWith W A l ms) (dependencyAt W at)) (On (dependencyOn l))
+    pub dependency-on : n ≡ 0 → at + dependencySize ≤ length W → Answered W A 3 (at + dependencySize) (dependencyStep (snapWith W A l ms) (dependencyAt W at)) (On (dependencyOn l))
     unfolding dependencyStep
     dependency-on z fits = (
       ms,
@@ -83,7 +84,7 @@ module _ (W A : List ℕ) (at : ℕ) (l : Layout) (ms : List Map) (st : Stands W
     unfolding childStep
     child-no z = judge-no true (childDefined (countsOf (snapWith W A l ms)) (childAt W at)) (any (sameChild (childAt W at)) ((snapWith W A l ms) .children)) (childPlaced (snapWith W A l ms) (childAt W at)) true (addChild (snapWith W A l ms) (childAt W at)) child-number z
 
-    pub child-on : (B : List ℕ) → n ≡ 0 → at + 2 ≤ length W → Linked W A B (childOn l) → Answered W B 6 (at + 2) (childStep (snapWith W A l ms) (childAt W at)) (On (childOn l))
+    pub child-on : (B : List ℕ) → n ≡ 0 → at + childSize ≤ length W → Linked W A B (childOn l) → Answered W B 6 (at + childSize) (childStep (snapWith W A l ms) (childAt W at)) (On (childOn l))
     unfolding childStep
     child-on B z fits x = (
       ms,
@@ -97,14 +98,14 @@ module _ (W A : List ℕ) (at : ℕ) (l : Layout) (ms : List Map) (st : Stands W
     (j : n ≡ numberOf true b c true true)
     (eb : b ≡ preludeDefined (countsIn l) (preludeAt W at))
     (es : base ≡ preludeBase l)
-    (ec : c ≡ any (sameBy W true 0 at) (rows (λ k. base + 2 * k) 0 (l .preludes)))
+    (ec : c ≡ any (sameBy W true 0 at) (rows (λ k. base + preludeSize * k) 0 (l .preludes)))
   where
     prelude-number : n ≡ numberOf true (preludeDefined (countsOf (snapWith W A l ms)) (preludeAt W at)) (any (samePrelude (preludeAt W at)) ((snapWith W A l ms) .preludes)) true true
     prelude-number =
         number-of true b c true true true (preludeDefined (countsOf (snapWith W A l ms)) (preludeAt W at)) (any (samePrelude (preludeAt W at)) ((snapWith W A l ms) .preludes)) true true j
         refl
         (eb ∙ ap (λ m. preludeDefined m (preludeAt W at)) (counts-same W A 7 at l ms st))
-        (λ h. ec ∙ ap (λ m. any (sameBy W true 0 at) (rows (λ k. m + 2 * k) 0 (l .preludes))) es ∙ prelude-again W at (preludeBase l) (l .preludes))
+        (λ h. ec ∙ ap (λ m. any (sameBy W true 0 at) (rows (λ k. m + preludeSize * k) 0 (l .preludes))) es ∙ prelude-again W at (preludeBase l) (l .preludes))
         (λ h. refl)
         refl
 
@@ -112,7 +113,7 @@ module _ (W A : List ℕ) (at : ℕ) (l : Layout) (ms : List Map) (st : Stands W
     unfolding preludeStep
     prelude-no z = judge-no true (preludeDefined (countsOf (snapWith W A l ms)) (preludeAt W at)) (any (samePrelude (preludeAt W at)) ((snapWith W A l ms) .preludes)) true true (addPrelude (snapWith W A l ms) (preludeAt W at)) prelude-number z
 
-    pub prelude-on : n ≡ 0 → at + 2 ≤ length W → Answered W A 7 (at + 2) (preludeStep (snapWith W A l ms) (preludeAt W at)) (On (preludeOn l))
+    pub prelude-on : n ≡ 0 → at + preludeSize ≤ length W → Answered W A 7 (at + preludeSize) (preludeStep (snapWith W A l ms) (preludeAt W at)) (On (preludeOn l))
     unfolding preludeStep
     prelude-on z fits = (
       ms,
@@ -126,8 +127,8 @@ module _ (W A : List ℕ) (at : ℕ) (l : Layout) (ms : List Map) (st : Stands W
     (j : n ≡ numberOf a b c d e)
     (ea : a ≡ (leb 1 (definitionAt W at .kind) && leb (definitionAt W at .kind) 5 && (eqb (definitionAt W at .kind) 2 || eqb (definitionAt W at .second) 0) && (not (eqb (definitionAt W at .kind) 3) || leb (l .names) (definitionAt W at .first) || isBuiltin (nameAt W (nameHead A (definitionAt W at .first))))))
     (eb : b ≡ definitionDefined (countsIn l) (definitionAt W at))
-    (ec : (definitionAt W at .kind ≡ 1 → definitionAt W at .first < 512) → c ≡ ((eqb (definitionAt W at .kind) 1 || eqb (definitionAt W at .kind) 3) && any (sameBy W true 1 at) (rows (λ k. definitionBase l + 3 * k) 0 (l .definitions))))
-    (ed : d ≡ (not (eqb (definitionAt W at .kind) 2) || eqb (definitionAt W (definitionBase l + 3 * definitionAt W at .first) .kind) 4))
+    (ec : (definitionAt W at .kind ≡ 1 → definitionAt W at .first < 512) → c ≡ ((eqb (definitionAt W at .kind) 1 || eqb (definitionAt W at .kind) 3) && any (sameBy W true 1 at) (rows (λ k. definitionBase l + definitionSize * k) 0 (l .definitions))))
+    (ed : d ≡ (not (eqb (definitionAt W at .kind) 2) || eqb (definitionAt W (definitionBase l + definitionSize * definitionAt W at .first) .kind) 4))
     (ee : e ≡ ltb (l .definitions) 2048)
   where
     range-same : (v : Bool) → (not v || leb (l .names) (definitionAt W at .first) || isBuiltin (nameAt W (nameHead A (definitionAt W at .first)))) ≡ (not v || leb (l .names) (definitionAt W at .first) || isBuiltin (getD (snapWith W A l ms .names) (definitionAt W at .first) noName))
@@ -147,12 +148,12 @@ module _ (W A : List ℕ) (at : ℕ) (l : Layout) (ms : List Map) (st : Stands W
     unfolding definitionStep
     definition-no z = judge-no (definitionRange (snapWith W A l ms) (definitionAt W at)) (definitionDefined (countsOf (snapWith W A l ms)) (definitionAt W at)) (definitionRepeated (snapWith W A l ms) (definitionAt W at)) (definitionPlaced (snapWith W A l ms) (definitionAt W at)) (ltb (length ((snapWith W A l ms) .definitions)) 2048) (addDefinition (snapWith W A l ms) (definitionAt W at)) definition-number z
 
-    pub definition-on : (B : List ℕ) → n ≡ 0 → at + 3 ≤ length W → Linked W A B (definitionOn l) → Answered W B 8 (at + 3) (definitionStep (snapWith W A l ms) (definitionAt W at)) (On (definitionOn l))
+    pub definition-on : (B : List ℕ) → n ≡ 0 → at + definitionSize ≤ length W → Linked W A B (definitionOn l) → Answered W B 8 (at + definitionSize) (definitionStep (snapWith W A l ms) (definitionAt W at)) (On (definitionOn l))
     unfolding definitionStep
     definition-on B z fits x = (
       ms,
       judge-on (definitionRange (snapWith W A l ms) (definitionAt W at)) (definitionDefined (countsOf (snapWith W A l ms)) (definitionAt W at)) (definitionRepeated (snapWith W A l ms) (definitionAt W at)) (definitionPlaced (snapWith W A l ms) (definitionAt W at)) (ltb (length ((snapWith W A l ms) .definitions)) 2048) (addDefinition (snapWith W A l ms) (definitionAt W at)) (passes (definitionRange (snapWith W A l ms) (definitionAt W at)) (definitionDefined (countsOf (snapWith W A l ms)) (definitionAt W at)) (definitionRepeated (snapWith W A l ms) (definitionAt W at)) (definitionPlaced (snapWith W A l ms) (definitionAt W at)) (ltb (length ((snapWith W A l ms) .definitions)) 2048) (sym z ∙ definition-number)) ∙ ap on (sym (definition-added W A B at l ms st (x .kept))),
-      definition-stands W A B at l ms st (x .kept) fits (ltb-true (l .definitions) 2048 (ap (λ m. ltb m 2048) (sym (length-rows (λ j. definitionAt W (definitionBase l + 3 * j)) (l .definitions))) ∙ passes (definitionRange (snapWith W A l ms) (definitionAt W at)) (definitionDefined (countsOf (snapWith W A l ms)) (definitionAt W at)) (definitionRepeated (snapWith W A l ms) (definitionAt W at)) (definitionPlaced (snapWith W A l ms) (definitionAt W at)) (ltb (length ((snapWith W A l ms) .definitions)) 2048) (sym z ∙ definition-number) .room)) (x .index),
+      definition-stands W A B at l ms st (x .kept) fits (ltb-true (l .definitions) 2048 (ap (λ m. ltb m 2048) (sym (length-rows (λ j. definitionAt W (definitionBase l + definitionSize * j)) (l .definitions))) ∙ passes (definitionRange (snapWith W A l ms) (definitionAt W at)) (definitionDefined (countsOf (snapWith W A l ms)) (definitionAt W at)) (definitionRepeated (snapWith W A l ms) (definitionAt W at)) (definitionPlaced (snapWith W A l ms) (definitionAt W at)) (ltb (length ((snapWith W A l ms) .definitions)) 2048) (sym z ∙ definition-number) .room)) (x .index),
     )
 
 module _ (W A : List ℕ) (at : ℕ) (l : Layout) (ms : List Map) (st : Stands W A 9 at l ms)
@@ -163,24 +164,24 @@ module _ (W A : List ℕ) (at : ℕ) (l : Layout) (ms : List Map) (st : Stands W
     (ea : a ≡ scopeRange (scopeAt W at))
     (eb : b ≡ scopeDefined (countsIn l) (scopeAt W at))
     (es : base ≡ scopeBase l)
-    (ec : c ≡ any (sameBy W true 2 at) (rows (λ k. base + 8 * k) 0 (l .scopes)))
+    (ec : c ≡ any (sameBy W true 2 at) (rows (λ k. base + scopeSize * k) 0 (l .scopes)))
     (en : ns ≡ scopeAt W at .ns) (ef : def ≡ scopeAt W at .definition)
-    (ed : d ≡ (not (eqb ns 2) || eqb (definitionAt W (definitionBase l + 3 * def) .kind) 5))
+    (ed : d ≡ (not (eqb ns 2) || eqb (definitionAt W (definitionBase l + definitionSize * def) .kind) 5))
   where
     scope-number : n ≡ numberOf (scopeRange (scopeAt W at)) (scopeDefined (countsOf (snapWith W A l ms)) (scopeAt W at)) (any (sameEntry (scopeAt W at)) ((snapWith W A l ms) .scopes)) (nsPlaced (snapWith W A l ms) (scopeAt W at .ns) (scopeAt W at .definition)) true
     scope-number =
         number-of a b c d true (scopeRange (scopeAt W at)) (scopeDefined (countsOf (snapWith W A l ms)) (scopeAt W at)) (any (sameEntry (scopeAt W at)) ((snapWith W A l ms) .scopes)) (nsPlaced (snapWith W A l ms) (scopeAt W at .ns) (scopeAt W at .definition)) true j
         ea
         (eb ∙ ap (λ m. scopeDefined m (scopeAt W at)) (counts-same W A 9 at l ms st))
-        (λ h. ec ∙ ap (λ m. any (sameBy W true 2 at) (rows (λ k. m + 8 * k) 0 (l .scopes))) es ∙ scope-again W at (scopeBase l) (l .scopes))
-        (λ h. ed ∙ ap₂ (λ m f. not (eqb m 2) || eqb (definitionAt W (definitionBase l + 3 * f) .kind) 5) en ef ∙ ns-same W A l ms (scopeAt W at .ns) (scopeAt W at .definition) (scope-definition (countsIn l) (scopeAt W at) (sym eb ∙ h)))
+        (λ h. ec ∙ ap (λ m. any (sameBy W true 2 at) (rows (λ k. m + scopeSize * k) 0 (l .scopes))) es ∙ scope-again W at (scopeBase l) (l .scopes))
+        (λ h. ed ∙ ap₂ (λ m f. not (eqb m 2) || eqb (definitionAt W (definitionBase l + definitionSize * f) .kind) 5) en ef ∙ ns-same W A l ms (scopeAt W at .ns) (scopeAt W at .definition) (scope-definition (countsIn l) (scopeAt W at) (sym eb ∙ h)))
         refl
 
     pub scope-no : (n ≡ 0 → ⊥) → scopeStep (snapWith W A l ms) (scopeAt W at) ≡ no n
     unfolding scopeStep
     scope-no z = judge-no (scopeRange (scopeAt W at)) (scopeDefined (countsOf (snapWith W A l ms)) (scopeAt W at)) (any (sameEntry (scopeAt W at)) ((snapWith W A l ms) .scopes)) (nsPlaced (snapWith W A l ms) (scopeAt W at .ns) (scopeAt W at .definition)) true (addScope (snapWith W A l ms) (scopeAt W at)) scope-number z
 
-    pub scope-on : (B : List ℕ) → n ≡ 0 → at + 8 ≤ length W → Linked W A B (scopeOn l) → Answered W B 9 (at + 8) (scopeStep (snapWith W A l ms) (scopeAt W at)) (On (scopeOn l))
+    pub scope-on : (B : List ℕ) → n ≡ 0 → at + scopeSize ≤ length W → Linked W A B (scopeOn l) → Answered W B 9 (at + scopeSize) (scopeStep (snapWith W A l ms) (scopeAt W at)) (On (scopeOn l))
     unfolding scopeStep
     scope-on B z fits x = (
       ms,
@@ -195,7 +196,7 @@ module _ (W A : List ℕ) (at : ℕ) (l : Layout) (ms : List Map) (st : Stands W
     (ea : a ≡ importRange (importAt W at))
     (eb : b ≡ importDefined (countsIn l) (importAt W at))
     (en : ns ≡ importAt W at .ns) (ef : def ≡ importAt W at .definition)
-    (ed : d ≡ (not (eqb ns 2) || eqb (definitionAt W (definitionBase l + 3 * def) .kind) 5))
+    (ed : d ≡ (not (eqb ns 2) || eqb (definitionAt W (definitionBase l + definitionSize * def) .kind) 5))
   where
     import-number : n ≡ numberOf (importRange (importAt W at)) (importDefined (countsOf (snapWith W A l ms)) (importAt W at)) false (nsPlaced (snapWith W A l ms) (importAt W at .ns) (importAt W at .definition)) true
     import-number =
@@ -203,14 +204,14 @@ module _ (W A : List ℕ) (at : ℕ) (l : Layout) (ms : List Map) (st : Stands W
         ea
         (eb ∙ ap (λ m. importDefined m (importAt W at)) (counts-same W A 10 at l ms st))
         (λ h. refl)
-        (λ h. ed ∙ ap₂ (λ m f. not (eqb m 2) || eqb (definitionAt W (definitionBase l + 3 * f) .kind) 5) en ef ∙ ns-same W A l ms (importAt W at .ns) (importAt W at .definition) (import-definition (countsIn l) (importAt W at) (sym eb ∙ h)))
+        (λ h. ed ∙ ap₂ (λ m f. not (eqb m 2) || eqb (definitionAt W (definitionBase l + definitionSize * f) .kind) 5) en ef ∙ ns-same W A l ms (importAt W at .ns) (importAt W at .definition) (import-definition (countsIn l) (importAt W at) (sym eb ∙ h)))
         refl
 
     pub import-no : (n ≡ 0 → ⊥) → importStep (snapWith W A l ms) (importAt W at) ≡ no n
     unfolding importStep
     import-no z = judge-no (importRange (importAt W at)) (importDefined (countsOf (snapWith W A l ms)) (importAt W at)) false (nsPlaced (snapWith W A l ms) (importAt W at .ns) (importAt W at .definition)) true (addImport (snapWith W A l ms) (importAt W at)) import-number z
 
-    pub import-on : n ≡ 0 → at + 6 ≤ length W → Answered W A 10 (at + 6) (importStep (snapWith W A l ms) (importAt W at)) (On (importOn l))
+    pub import-on : n ≡ 0 → at + importSize ≤ length W → Answered W A 10 (at + importSize) (importStep (snapWith W A l ms) (importAt W at)) (On (importOn l))
     unfolding importStep
     import-on z fits = (
       ms,
@@ -224,14 +225,14 @@ module _ (W A : List ℕ) (at : ℕ) (l : Layout) (ms : List Map) (st : Stands W
     (j : n ≡ numberOf true b c true true)
     (eb : b ≡ externDefined (countsIn l) (externAt W at))
     (es : base ≡ externBase l)
-    (ec : c ≡ any (sameBy W true 1 at) (rows (λ k. base + 3 * k) 0 (l .externs)))
+    (ec : c ≡ any (sameBy W true 1 at) (rows (λ k. base + externSize * k) 0 (l .externs)))
   where
     extern-number : n ≡ numberOf true (externDefined (countsOf (snapWith W A l ms)) (externAt W at)) (any (sameExtern (externAt W at)) ((snapWith W A l ms) .externs)) true true
     extern-number =
         number-of true b c true true true (externDefined (countsOf (snapWith W A l ms)) (externAt W at)) (any (sameExtern (externAt W at)) ((snapWith W A l ms) .externs)) true true j
         refl
         (eb ∙ ap (λ m. externDefined m (externAt W at)) (counts-same W A 11 at l ms st))
-        (λ h. ec ∙ ap (λ m. any (sameBy W true 1 at) (rows (λ k. m + 3 * k) 0 (l .externs))) es ∙ extern-again W at (externBase l) (l .externs))
+        (λ h. ec ∙ ap (λ m. any (sameBy W true 1 at) (rows (λ k. m + externSize * k) 0 (l .externs))) es ∙ extern-again W at (externBase l) (l .externs))
         (λ h. refl)
         refl
 
@@ -239,7 +240,7 @@ module _ (W A : List ℕ) (at : ℕ) (l : Layout) (ms : List Map) (st : Stands W
     unfolding externStep
     extern-no z = judge-no true (externDefined (countsOf (snapWith W A l ms)) (externAt W at)) (any (sameExtern (externAt W at)) ((snapWith W A l ms) .externs)) true true (addExtern (snapWith W A l ms) (externAt W at)) extern-number z
 
-    pub extern-on : (B : List ℕ) → n ≡ 0 → at + 3 ≤ length W → Linked W A B (externOn l) → Answered W B 11 (at + 3) (externStep (snapWith W A l ms) (externAt W at)) (On (externOn l))
+    pub extern-on : (B : List ℕ) → n ≡ 0 → at + externSize ≤ length W → Linked W A B (externOn l) → Answered W B 11 (at + externSize) (externStep (snapWith W A l ms) (externAt W at)) (On (externOn l))
     unfolding externStep
     extern-on B z fits x = (
       ms,
@@ -252,7 +253,7 @@ module _ (W A : List ℕ) (at : ℕ) (l : Layout) (ms : List Map) (st : Stands W
     (j : n ≡ numberOf a b false d true)
     (ea : a ≡ memberRange (memberAt W at))
     (eb : b ≡ memberDefined (countsIn l) (memberAt W at))
-    (ed : d ≡ (eqb (definitionAt W (definitionBase l + 3 * memberAt W at .parent) .kind) 4 && isMember (memberAt W at .kind) (memberAt W at .parent) (memberAt W at .name) (definitionAt W (definitionBase l + 3 * memberAt W at .definition))))
+    (ed : d ≡ (eqb (definitionAt W (definitionBase l + definitionSize * memberAt W at .parent) .kind) 4 && isMember (memberAt W at .kind) (memberAt W at .parent) (memberAt W at .name) (definitionAt W (definitionBase l + definitionSize * memberAt W at .definition))))
   where
     member-number : n ≡ numberOf (memberRange (memberAt W at)) (memberDefined (countsOf (snapWith W A l ms)) (memberAt W at)) false (memberPlaced (snapWith W A l ms) (memberAt W at)) true
     member-number =
@@ -267,7 +268,7 @@ module _ (W A : List ℕ) (at : ℕ) (l : Layout) (ms : List Map) (st : Stands W
     unfolding memberStep
     member-no z = judge-no (memberRange (memberAt W at)) (memberDefined (countsOf (snapWith W A l ms)) (memberAt W at)) false (memberPlaced (snapWith W A l ms) (memberAt W at)) true (addMember (snapWith W A l ms) (memberAt W at)) member-number z
 
-    pub member-on : n ≡ 0 → at + 5 ≤ length W → Answered W A 13 (at + 5) (memberStep (snapWith W A l ms) (memberAt W at)) (On (memberOn l))
+    pub member-on : n ≡ 0 → at + memberSize ≤ length W → Answered W A 13 (at + memberSize) (memberStep (snapWith W A l ms) (memberAt W at)) (On (memberOn l))
     unfolding memberStep
     member-on z fits = (
       ms,

@@ -4,6 +4,7 @@ ghost use mathlib.Core.List.{List};
 ghost use Prim.Native.Nat.{_+_, _<_};
 ghost use lib.Dec.{eqb};
 ghost use mathlib.Core.Bool.{_&&_};
+ghost use Rattle.snapshot.specs.Sizes.{childSize};
 ghost use Rattle.snapshot.specs.Layouts.{moduleMap, moduleParent};
 ghost use Rattle.snapshot.specs.Records.{Map, childAt};
 ghost use Rattle.snapshot.specs.Layouts.{snapWith};
@@ -40,8 +41,8 @@ fn placed(words: &[u32], area: &[u32], at: usize) -> bool
 
 /// A child.
 pub fn step(words: &[u32], area: &mut [u32], l: Layout, at: usize) -> Step
-    requires { ⌜ Ready (now words) (now area) l at (at + 2) ⌝ }
-    ensures { λ r. ⌜ ((ms : List Map) → Stands (now (words .entry)) (now (area .entry)) 6 at l ms → Answered (now (words .entry)) (now (area .exit)) 6 (at + 2) (childStep (snapWith (now (words .entry)) (now (area .entry)) l ms) (childAt (now (words .entry)) at)) r) ⌝ }
+    requires { ⌜ Ready (now words) (now area) l at (at + childSize) ⌝ }
+    ensures { λ r. ⌜ ((ms : List Map) → Stands (now (words .entry)) (now (area .entry)) 6 at l ms → Answered (now (words .entry)) (now (area .exit)) 6 (at + childSize) (childStep (snapWith (now (words .entry)) (now (area .entry)) l ms) (childAt (now (words .entry)) at)) r) ⌝ }
 {
     let child = child_child(words, at);
     let mark = Chains::CHILD_MARKS + child.0;

@@ -2,6 +2,7 @@
 ghost use mathlib.Core.Path.{_≡_};
 ghost use mathlib.Core.List.{List};
 ghost use Prim.Native.Nat.{_+_};
+ghost use Rattle.snapshot.specs.Sizes.{dependencySize};
 ghost use Rattle.snapshot.specs.Records.{Map, dependencyAt};
 ghost use Rattle.snapshot.specs.Layouts.{snapWith};
 ghost use Rattle.record_rules.specs.Tests.{dependencyRange, dependencyDefined};
@@ -30,8 +31,8 @@ fn defined(words: &[u32], l: Layout, at: usize) -> bool
 
 /// A dependency.
 pub fn step(words: &[u32], area: &[u32], l: Layout, at: usize) -> Step
-    requires { ⌜ Ready (now words) (now area) l at (at + 3) ⌝ }
-    ensures { λ r. ⌜ ((ms : List Map) → Stands (now (words .entry)) (now (area .entry)) 3 at l ms → Answered (now (words .entry)) (now (area .entry)) 3 (at + 3) (dependencyStep (snapWith (now (words .entry)) (now (area .entry)) l ms) (dependencyAt (now (words .entry)) at)) r) ⌝ }
+    requires { ⌜ Ready (now words) (now area) l at (at + dependencySize) ⌝ }
+    ensures { λ r. ⌜ ((ms : List Map) → Stands (now (words .entry)) (now (area .entry)) 3 at l ms → Answered (now (words .entry)) (now (area .entry)) 3 (at + dependencySize) (dependencyStep (snapWith (now (words .entry)) (now (area .entry)) l ms) (dependencyAt (now (words .entry)) at)) r) ⌝ }
 {
     let n = judge(
         in_range(words, at),

@@ -2,6 +2,7 @@
 ghost use mathlib.Core.Path.{_≡_};
 ghost use mathlib.Core.List.{List};
 ghost use Prim.Native.Nat.{_+_};
+ghost use Rattle.snapshot.specs.Sizes.{preludeSize};
 ghost use Rattle.snapshot.specs.Records.{Map, preludeAt};
 ghost use Rattle.snapshot.specs.Layouts.{snapWith};
 ghost use Rattle.record_rules.specs.Tests.{preludeDefined};
@@ -10,6 +11,7 @@ ghost use Rattle.record_rules.specs.Stands.{Ready, Stands, Answered, countsIn};
 use crate::repeats::repeated;
 use record_rules::judge::Step;
 use record_rules::judge::judge;
+use snapshot::kind::Size;
 use snapshot::layout::Layout;
 use snapshot::record::prelude_map;
 use snapshot::record::prelude_target;
@@ -23,10 +25,18 @@ fn defined(words: &[u32], l: Layout, at: usize) -> bool
 
 /// A prelude.
 pub fn step(words: &[u32], area: &[u32], l: Layout, at: usize) -> Step
-    requires { ⌜ Ready (now words) (now area) l at (at + 2) ⌝ }
-    ensures { λ r. ⌜ ((ms : List Map) → Stands (now (words .entry)) (now (area .entry)) 7 at l ms → Answered (now (words .entry)) (now (area .entry)) 7 (at + 2) (preludeStep (snapWith (now (words .entry)) (now (area .entry)) l ms) (preludeAt (now (words .entry)) at)) r) ⌝ }
+    requires { ⌜ Ready (now words) (now area) l at (at + preludeSize) ⌝ }
+    ensures { λ r. ⌜ ((ms : List Map) → Stands (now (words .entry)) (now (area .entry)) 7 at l ms → Answered (now (words .entry)) (now (area .entry)) 7 (at + preludeSize) (preludeStep (snapWith (now (words .entry)) (now (area .entry)) l ms) (preludeAt (now (words .entry)) at)) r) ⌝ }
 {
-    let old = repeated(words, true, 0, at, l.prelude_base(), 2, l.preludes);
+    let old = repeated(
+        words,
+        true,
+        0,
+        at,
+        l.prelude_base(),
+        Size::PRELUDE,
+        l.preludes,
+    );
     let n = judge(true, defined(words, l, at), old, true, true);
     if n != 0 {
         return Step::No(n);

@@ -6,6 +6,7 @@ ghost use lib.Dec.{leb};
 ghost use lib.ListN.{length, getD};
 ghost use Rattle.snapshot.specs.Lists.{rows, any};
 ghost use Rattle.snapshot.specs.Words.{payOf};
+ghost use Rattle.snapshot.specs.Sizes.{scopeSize};
 ghost use Rattle.chains.specs.Chains.{recordKey, Chained};
 ghost use Rattle.record_rules.specs.Stands.{sameBy};
 use snapshot::words::field;
@@ -50,7 +51,7 @@ pub fn repeated(
     size: usize,
     count: usize,
 ) -> bool
-    requires { ⌜ (base + size * count ≤ length (now words)) × (at + size ≤ length (now words)) × (length (now words) < 2 ^ 32) × (fields < size) × (size ≤ 8) × (fields ≤ 2) × ((leb 1 fields || owner) ≡ true) ⌝ }
+    requires { ⌜ (base + size * count ≤ length (now words)) × (at + size ≤ length (now words)) × (length (now words) < 2 ^ 32) × (fields < size) × (size ≤ scopeSize) × (fields ≤ 2) × ((leb 1 fields || owner) ≡ true) ⌝ }
     ensures { λ r. ⌜ r ≡ any (sameBy (now (words .entry)) owner fields at) (rows (λ k. base + size * k) 0 count) ⌝ }
 {
     let last = low(words[at + fields]);

@@ -27,6 +27,7 @@ use item_scope::name_of;
 use nameres::entry_named;
 use path_context::context::sees;
 use snapshot::ids::ModuleId;
+use snapshot::kind::Size;
 use snapshot::layout::Layout;
 use snapshot::record::scope_definition;
 use snapshot::record::scope_name;
@@ -137,7 +138,7 @@ fn fresh_of(
     let mut first = Entry::Nothing;
     let mut count = 0;
     while count < l.scopes {
-        let h = base + 8 * count;
+        let h = base + Size::SCOPE * count;
         count += 1;
         let its = is_for(words, l, h, m, item);
         if is_fresh(words, area, l, x, item, rule, its, h) {

@@ -8,6 +8,7 @@ use lib.Dec.{eqb, leb, ltb}
 use lib.ListN.{length, getD}
 use borrow.Author.Tests.{eq-eqb, leb-true, ltb-true, ltb-false}
 use Rattle.snapshot.specs.Lists.{any}
+use Rattle.snapshot.specs.Sizes.{scopeSize}
 use Rattle.snapshot.specs.Records.{Scope, Snapshot, scopeAt}
 use Rattle.record_rules.specs.Tests.{countsOf, scopeRange, scopeDefined, nsPlaced, sameEntry}
 use Rattle.accept.specs.Verdict.{accept, verdict}
@@ -46,22 +47,22 @@ module _ (W : List ℕ) (s : Snapshot) (slice : ℕ) (x : Scope) (acc : verdict 
   unfolding editFault
   clean = none-clean (scopeRange x) (scopeDefined (countsOf s) x) (nsPlaced s (x .ns) (x .definition)) (any (sameEntry x) (s .scopes)) (hasRoom (length W) slice) e
 
-  roomy : (leb (length W + 8) 16384 ≡ true) × (leb (length W + 8) slice ≡ true)
-  roomy = and-two (leb (length W + 8) 16384) (leb (length W + 8) slice) (clean .fits)
+  roomy : (leb (length W + scopeSize) 16384 ≡ true) × (leb (length W + scopeSize) slice ≡ true)
+  roomy = and-two (leb (length W + scopeSize) 16384) (leb (length W + scopeSize) slice) (clean .fits)
 
-  pub add-room : length W + 8 ≤ slice
-  add-room = leb-true (length W + 8) slice (roomy .1)
+  pub add-room : length W + scopeSize ≤ slice
+  add-room = leb-true (length W + scopeSize) slice (roomy .1)
 
   pub add-small : Small x
   add-small = fits-small s x (accepted-limits W s acc) (clean .ranged) (clean .known)
 
-  pub add-longer : length (inserted (scopesEnd W) (scopeWords x) W) ≡ length W + 8
+  pub add-longer : length (inserted (scopesEnd W) (scopeWords x) W) ≡ length W + scopeSize
   add-longer = inserted-length W (scopeWords x) (scopesEnd W) (end-within W s acc) ∙ ap (λ n. length W + n) (words-length x add-small)
 
   pub add-accepted : verdict (inserted (scopesEnd W) (scopeWords x) W) ≡ accept (withScopes higher s (s .scopes ++ (placed (scopesEnd W) x ∷ [])))
-  add-accepted = added-accepted W s acc x (clean .ranged) (clean .known) (clean .new) (clean .right) (leb-true (length W + 8) 16384 (roomy .0))
+  add-accepted = added-accepted W s acc x (clean .ranged) (clean .known) (clean .new) (clean .right) (leb-true (length W + scopeSize) 16384 (roomy .0))
 
-  stands : (i : ℕ) → i < 8 → getD (inserted (scopesEnd W) (scopeWords x) W) (scopesEnd W + i) 0 ≡ getD (scopeWords x) i 0
+  stands : (i : ℕ) → i < scopeSize → getD (inserted (scopesEnd W) (scopeWords x) W) (scopesEnd W + i) 0 ≡ getD (scopeWords x) i 0
   stands i h = inserted-at W (scopeWords x) (scopesEnd W) (end-within W s acc) i (rw (words-length x add-small) h)
 
   eqb-same : (n : ℕ) → eqb n n ≡ true
@@ -91,8 +92,8 @@ module _ (W : List ℕ) (s : Snapshot) (slice : ℕ) (x : Scope) (acc : verdict 
   pub add-removed : editedWords (editedWords W (adding x)) (removing (x .owner) (x .ns) (x .name)) ≡ W
   unfolding editedWords
   add-removed =
-      ap (λ p. cut p 8 (inserted (scopesEnd W) (scopeWords x) W)) add-place
-      ∙ cut-inserted W (scopeWords x) (scopesEnd W) (end-within W s acc) 8 (sym (words-length x add-small))
+      ap (λ p. cut p scopeSize (inserted (scopesEnd W) (scopeWords x) W)) add-place
+      ∙ cut-inserted W (scopeWords x) (scopesEnd W) (end-within W s acc) scopeSize (sym (words-length x add-small))
 
 -- an edit that is not refused
 pub edit-accepted : (W : List ℕ) (s : Snapshot) (slice : ℕ) (o : Operation) → verdict W ≡ accept s → editFault s (length W) slice o ≡ 0

@@ -1,6 +1,6 @@
 -- Accepted words with one scope record more, after the last, are accepted, with its entry at the end of the list; the records after it stand
 -- higher.
-use Prim.Native.Nat.{ℕ, zero, suc, _+_, _/_, _%_, _≤_, _<_}
+use Prim.Native.Nat.{ℕ, zero, suc, _+_, _-_, _/_, _%_, _≤_, _<_}
 use mathlib.Core.Path.{_≡_, refl, sym, _∙_, ap, subst}
 use mathlib.Core.List.{List, [], _∷_, _++_}
 use mathlib.Core.Bool.{true, false}
@@ -11,6 +11,7 @@ use lib.ListN.{length, getD}
 use borrow.Author.Tests.{eq-eqb, le-leb, ltb-true, ltb-false}
 use Rattle.snapshot.specs.Lists.{any}
 use Rattle.snapshot.specs.Words.{kindOf, payOf, argumentsOf, argumentsAt}
+use Rattle.snapshot.specs.Sizes.{scopeSize}
 use Rattle.snapshot.specs.Records.{Snapshot, Scope, scopeAt}
 use Rattle.record_rules.specs.Tests.{countsOf, nsPlaced, sameEntry, scopeDefined, scopeRange}
 use Rattle.record_rules.specs.Steps.{addScope, scopeStep}
@@ -73,7 +74,7 @@ kind-none : (w : ℕ) → w < 268435456 → eqb (kindOf w) 0 ≡ true
 kind-none w h = eq-eqb (w / 268435456) 0 (omega arith)
 
 module _ (x : Scope) (small : Small x) where
-  pub words-length : length (scopeWords x) ≡ 8
+  pub words-length : length (scopeWords x) ≡ scopeSize
   unfolding scopeWords
   words-length = refl
 
@@ -98,7 +99,7 @@ module _ (x : Scope) (small : Small x) where
         place = 0;
       }
 
-  words-arguments : argumentsFrom (scopeWords x) 1 7 ≡ true
+  words-arguments : argumentsFrom (scopeWords x) 1 (scopeSize - 1) ≡ true
   unfolding scopeWords argumentsFrom
   words-arguments =
       rw (
@@ -112,8 +113,8 @@ module _ (x : Scope) (small : Small x) where
       )
 
   -- they stand at a place
-  module _ (X : List ℕ) (p : ℕ) (at : (i : ℕ) → i < 8 → getD X (p + i) 0 ≡ getD (scopeWords x) i 0) (fits : p + 8 ≤ length X) where
-    here : Same (scopeWords x) X 0 p 7
+  module _ (X : List ℕ) (p : ℕ) (at : (i : ℕ) → i < scopeSize → getD X (p + i) 0 ≡ getD (scopeWords x) i 0) (fits : p + scopeSize ≤ length X) where
+    here : Same (scopeWords x) X 0 p (scopeSize - 1)
     here i h = at i (omega arith) ∙ ap (λ j. getD (scopeWords x) j 0) (sym (zero-add i))
 
     pub entry-kind : kindOf (getD X p 0) ≡ 9
@@ -122,13 +123,13 @@ module _ (x : Scope) (small : Small x) where
     pub entry-is : scopeAt X p ≡ placed p x
     entry-is = scope-same (scopeWords x) X 0 p (λ n. p) refl here ∙ ap (placed p) words-entry
 
-    pub entry-size : argumentsAt X p ≡ 7
+    pub entry-size : argumentsAt X p ≡ scopeSize - 1
     unfolding argumentsOf
     entry-size = ap (λ k. argumentsOf k (payOf (getD X p 0))) entry-kind
 
-    entry-arguments : argumentsFrom X (p + 1) 7 ≡ true
+    entry-arguments : argumentsFrom X (p + 1) (scopeSize - 1) ≡ true
     entry-arguments =
-        arguments-same (scopeWords x) X 1 (p + 1) 7
+        arguments-same (scopeWords x) X 1 (p + 1) (scopeSize - 1)
         (λ d h. let a : p + 1 + d ≡ p + (1 + d) = omega arith in ap (λ j. getD X j 0) a ∙ at (1 + d) (omega arith)) (omega arith) words-arguments
 
     entry-taken : (last : ℕ) (s : Snapshot) → last ≤ 9 → scopeRange x ≡ true → scopeDefined (countsOf s) x ≡ true → any (sameEntry x) (s .scopes) ≡ false
@@ -175,18 +176,18 @@ module _ (W : List ℕ) (u : Snapshot) (acc : verdict W ≡ accept u) where
   end-base = run-late W (end-split .fuel) (scopesEnd W) 10 (end-split .state) u (omega arith) (end-split .enough) end-rest
 
   module _ (x : Scope) (ranged : scopeRange x ≡ true) (known : scopeDefined (countsOf u) x ≡ true) (new : any (sameEntry x) (u .scopes) ≡ false)
-      (right : nsPlaced u (x .ns) (x .definition) ≡ true) (room : length W + 8 ≤ 16384)
+      (right : nsPlaced u (x .ns) (x .definition) ≡ true) (room : length W + scopeSize ≤ 16384)
     where
       small : Small x
       small = fits-small u x (accepted-limits W u acc) ranged known
 
-      longer : length (inserted (scopesEnd W) (scopeWords x) W) ≡ length W + 8
+      longer : length (inserted (scopesEnd W) (scopeWords x) W) ≡ length W + scopeSize
       longer = inserted-length W (scopeWords x) (scopesEnd W) end-within ∙ ap (λ n. length W + n) (words-length x small)
 
-      fits : scopesEnd W + 8 ≤ length (inserted (scopesEnd W) (scopeWords x) W)
+      fits : scopesEnd W + scopeSize ≤ length (inserted (scopesEnd W) (scopeWords x) W)
       fits = let l = longer in let w = end-within in omega arith
 
-      stands : (i : ℕ) → i < 8 → getD (inserted (scopesEnd W) (scopeWords x) W) (scopesEnd W + i) 0 ≡ getD (scopeWords x) i 0
+      stands : (i : ℕ) → i < scopeSize → getD (inserted (scopesEnd W) (scopeWords x) W) (scopesEnd W + i) 0 ≡ getD (scopeWords x) i 0
       stands i h = inserted-at W (scopeWords x) (scopesEnd W) end-within i (rw (words-length x small) h)
 
       taken : Taking (inserted (scopesEnd W) (scopeWords x) W) (scopesEnd W) (end-split .before) (end-split .state) (addScope (end-split .state) (placed (scopesEnd W) x))
@@ -199,33 +200,33 @@ module _ (W : List ℕ) (u : Snapshot) (acc : verdict W ≡ accept u) where
       -- over the record that was put in
       over : (n : ℕ) → length (inserted (scopesEnd W) (scopeWords x) W) ≤ n + scopesEnd W
           → records n (inserted (scopesEnd W) (scopeWords x) W) (scopesEnd W) (end-split .before) (end-split .state)
-          ≡ records (end-split .fuel) (inserted (scopesEnd W) (scopeWords x) W) (scopesEnd W + 8) 9 (addScope (end-split .state) (placed (scopesEnd W) x))
+          ≡ records (end-split .fuel) (inserted (scopesEnd W) (scopeWords x) W) (scopesEnd W + scopeSize) 9 (addScope (end-split .state) (placed (scopesEnd W) x))
       over zero h = let f = fits in absurd (omega arith)
       over (suc n) h =
           let f = fits in
           let l = longer in
           let m = end-split .enough in
-          let to : scopesEnd W + 1 + 7 ≡ scopesEnd W + 8 = omega arith in
+          let to : scopesEnd W + 1 + (scopeSize - 1) ≡ scopesEnd W + scopeSize = omega arith in
           records-take (inserted (scopesEnd W) (scopeWords x) W) n (scopesEnd W) (end-split .before) (end-split .state) (addScope (end-split .state) (placed (scopesEnd W) x)) (omega arith)
           (taken-step (inserted (scopesEnd W) (scopeWords x) W) (scopesEnd W) (end-split .before) (end-split .state) (addScope (end-split .state) (placed (scopesEnd W) x)) taken)
           (entry-size x small (inserted (scopesEnd W) (scopeWords x) W) (scopesEnd W) stands fits)
           (entry-kind x small (inserted (scopesEnd W) (scopeWords x) W) (scopesEnd W) stands fits)
           ∙ ap (λ j. records n (inserted (scopesEnd W) (scopeWords x) W) j 9 (addScope (end-split .state) (placed (scopesEnd W) x))) to
-          ∙ records-more (inserted (scopesEnd W) (scopeWords x) W) n (end-split .fuel) (scopesEnd W + 8) 9 (addScope (end-split .state) (placed (scopesEnd W) x)) (omega arith) (omega arith)
+          ∙ records-more (inserted (scopesEnd W) (scopeWords x) W) n (end-split .fuel) (scopesEnd W + scopeSize) 9 (addScope (end-split .state) (placed (scopesEnd W) x)) (omega arith) (omega arith)
 
       -- over the records after it
       after : (zs : List Scope) × More (end-split .state .scopes) (placed (scopesEnd W) x) (u .scopes) zs
-          × (records (end-split .fuel) (inserted (scopesEnd W) (scopeWords x) W) (scopesEnd W + 8) 9 (addScope (end-split .state) (placed (scopesEnd W) x)) ≡ accept (withScopes higher u zs))
+          × (records (end-split .fuel) (inserted (scopesEnd W) (scopeWords x) W) (scopesEnd W + scopeSize) 9 (addScope (end-split .state) (placed (scopesEnd W) x)) ≡ accept (withScopes higher u zs))
       after =
           let l = longer in
           let y = placed (scopesEnd W) x in
           let r =
           run-moved W (inserted (scopesEnd W) (scopeWords x) W) higher (More (end-split .state .scopes) y) 10 (more-kept (end-split .state .scopes) y) (omega arith)
-          (end-split .fuel) (scopesEnd W) (scopesEnd W + 8) 10 9 (end-split .state) u (end-split .state .scopes ++ (y ∷ [])) (omega arith) (omega arith)
-          (inserted-after W (scopeWords x) (scopesEnd W) end-within 8 (sym (words-length x small))) (λ i. omega arith) (omega arith) (end-split .enough) (refl, refl) end-rest in (
+          (end-split .fuel) (scopesEnd W) (scopesEnd W + scopeSize) 10 9 (end-split .state) u (end-split .state .scopes ++ (y ∷ [])) (omega arith) (omega arith)
+          (inserted-after W (scopeWords x) (scopesEnd W) end-within scopeSize (sym (words-length x small))) (λ i. omega arith) (omega arith) (end-split .enough) (refl, refl) end-rest in (
             r .0,
             r .1,
-            ap (records (end-split .fuel) (inserted (scopesEnd W) (scopeWords x) W) (scopesEnd W + 8) 9)
+            ap (records (end-split .fuel) (inserted (scopesEnd W) (scopeWords x) W) (scopesEnd W + scopeSize) 9)
                 (sym (bare-moved higher (end-split .state) (end-split .holds .1) (end-split .state .scopes ++ (y ∷ [])))) ∙ r .2,
           )
 

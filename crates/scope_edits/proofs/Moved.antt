@@ -1,5 +1,5 @@
 -- A record at another place, after other scopes: its step is the same.
-use Prim.Native.Nat.{ℕ, suc, _+_, _/_, _%_, _≤_}
+use Prim.Native.Nat.{ℕ, suc, _+_, _-_, _/_, _%_, _≤_}
 use mathlib.Core.Path.{_≡_, refl, sym, _∙_, ap, ap₂, subst}
 use mathlib.Core.List.{List, [], _∷_, _++_, map, map-append}
 use mathlib.Core.Bool.{Bool, true, false}
@@ -11,6 +11,7 @@ use borrow.Author.Tests.{eqb-true, eqb-false, eq-eqb, leb-true}
 use Rattle.snapshot.specs.Lists.{any, rows}
 use Rattle.snapshot.specs.Limits.{crateLimit, moduleLimit, nameLimit, definitionLimit}
 use Rattle.snapshot.specs.Words.{kindOf, payOf, wordsOf, argumentsOf, argumentsAt}
+use Rattle.snapshot.specs.Sizes.{crateSize, dependencySize, mapSize, moduleSize, childSize, preludeSize, definitionSize, scopeSize, importSize, externSize, memberSize}
 use Rattle.snapshot.specs.Records.{Snapshot, Name, Crate, Dependency, Map, Module, Child, Prelude, Definition, Scope, Import, Extern, Member, nameAt, crateAt, dependencyAt, mapAt, moduleAt, childAt, preludeAt, definitionAt, scopeAt, importAt, externAt, memberAt}
 use Rattle.snapshot.proofs.Laws.{rows-ext, after-head}
 use Rattle.record_rules.specs.Tests.{childDefined, childPlaced, countsOf, crateRange, isEdition, definitionDefined, definitionPlaced, definitionRange, definitionRepeated, dependencyDefined, dependencyRange, externDefined, importDefined, importRange, mapDefined, mapPlaced, mapRange, mapRepeated, memberDefined, memberPlaced, memberRange, moduleDefined, modulePlaced, nameRange, nsPlaced, preludeDefined, sameChild, sameExtern, sameName, samePrelude}
@@ -39,36 +40,36 @@ module _ (W X : List ℕ) (a b : ℕ) where
       let u = ap (λ m. rows (λ i. getD X (b + 1 + i) 0) 0 (wordsOf m)) n ∙ t in
       λ i. record { bytes = n i; text = u i }
 
-  crate-same : Same W X a b 1 → crateAt X b ≡ crateAt W a
+  crate-same : Same W X a b (crateSize - 1) → crateAt X b ≡ crateAt W a
   crate-same h =
       let e = ap payOf (same-head W X a b _ h) in
       let f = h 1 (omega arith) in
       λ i. record { origin = e i % 8; noStd = e i / 8; edition = f i }
 
-  dependency-same : Same W X a b 2 → dependencyAt X b ≡ dependencyAt W a
+  dependency-same : Same W X a b (dependencySize - 1) → dependencyAt X b ≡ dependencyAt W a
   dependency-same h =
       let e = ap payOf (same-head W X a b _ h) in
       let f = h 1 (omega arith) in
       let g = h 2 (omega arith) in
       λ i. record { owner = e i; crate = f i; sysroot = g i }
 
-  map-same : Same W X a b 2 → mapAt X b ≡ mapAt W a
+  map-same : Same W X a b (mapSize - 1) → mapAt X b ≡ mapAt W a
   map-same h =
       let e = ap payOf (same-head W X a b _ h) in
       let f = h 1 (omega arith) in
       let g = h 2 (omega arith) in
       λ i. record { crate = e i; block = f i; noStd = g i }
 
-  module-same : Same W X a b 1 → moduleAt X b ≡ moduleAt W a
+  module-same : Same W X a b (moduleSize - 1) → moduleAt X b ≡ moduleAt W a
   module-same h = let e = ap payOf (same-head W X a b _ h) in let f = h 1 (omega arith) in λ i. record { map = e i; parent = f i }
 
-  child-same : Same W X a b 1 → childAt X b ≡ childAt W a
+  child-same : Same W X a b (childSize - 1) → childAt X b ≡ childAt W a
   child-same h = let e = ap payOf (same-head W X a b _ h) in let f = h 1 (omega arith) in λ i. record { owner = e i; child = f i }
 
-  prelude-same : Same W X a b 1 → preludeAt X b ≡ preludeAt W a
+  prelude-same : Same W X a b (preludeSize - 1) → preludeAt X b ≡ preludeAt W a
   prelude-same h = let e = ap payOf (same-head W X a b _ h) in let f = h 1 (omega arith) in λ i. record { map = e i; target = f i }
 
-  definition-same : b ≡ a → Same W X a b 2 → definitionAt X b ≡ definitionAt W a
+  definition-same : b ≡ a → Same W X a b (definitionSize - 1) → definitionAt X b ≡ definitionAt W a
   definition-same to h =
       let e = ap payOf (same-head W X a b _ h) in
       let f = h 1 (omega arith) in
@@ -76,7 +77,7 @@ module _ (W X : List ℕ) (a b : ℕ) where
       λ i. record { kind = e i; first = f i; second = g i; place = to i }
 
   -- a record's place goes by m
-  pub scope-same : (m : ℕ → ℕ) → b ≡ m a → Same W X a b 7 → scopeAt X b ≡ movedScope m (scopeAt W a)
+  pub scope-same : (m : ℕ → ℕ) → b ≡ m a → Same W X a b (scopeSize - 1) → scopeAt X b ≡ movedScope m (scopeAt W a)
   scope-same m to h =
       let e = ap payOf (same-head W X a b _ h) in
       let f = h 1 (omega arith) in
@@ -88,7 +89,7 @@ module _ (W X : List ℕ) (a b : ℕ) where
       let p = h 7 (omega arith) in
       λ i. record { owner = e i; ns = f i; name = g i; definition = k i; visibility = l i; number = n i; declared = o i; bits = p i; place = to i }
 
-  import-same : (m : ℕ → ℕ) → b ≡ m a → Same W X a b 5 → importAt X b ≡ movedImport m (importAt W a)
+  import-same : (m : ℕ → ℕ) → b ≡ m a → Same W X a b (importSize - 1) → importAt X b ≡ movedImport m (importAt W a)
   import-same m to h =
       let e = ap payOf (same-head W X a b _ h) in
       let f = h 1 (omega arith) in
@@ -98,14 +99,14 @@ module _ (W X : List ℕ) (a b : ℕ) where
       let n = h 5 (omega arith) in
       λ i. record { owner = e i; ns = f i; definition = g i; name = k i; container = l i; bits = n i; place = to i }
 
-  extern-same : (m : ℕ → ℕ) → b ≡ m a → Same W X a b 2 → externAt X b ≡ movedExtern m (externAt W a)
+  extern-same : (m : ℕ → ℕ) → b ≡ m a → Same W X a b (externSize - 1) → externAt X b ≡ movedExtern m (externAt W a)
   extern-same m to h =
       let e = ap payOf (same-head W X a b _ h) in
       let f = h 1 (omega arith) in
       let g = h 2 (omega arith) in
       λ i. record { owner = e i; name = f i; target = g i; place = to i }
 
-  member-same : Same W X a b 4 → memberAt X b ≡ memberAt W a
+  member-same : Same W X a b (memberSize - 1) → memberAt X b ≡ memberAt W a
   member-same h =
       let e = ap payOf (same-head W X a b _ h) in
       let f = h 1 (omega arith) in

@@ -8,6 +8,7 @@ use lib.Dec.{eqb, ltb}
 use lib.ListN.{length, getD}
 use borrow.Author.Tests.{ltb-true, ltb-false}
 use Rattle.snapshot.specs.Lists.{any}
+use Rattle.snapshot.specs.Sizes.{definitionSize}
 use Rattle.snapshot.specs.Records.{Scope, Snapshot, definitionAt}
 use Rattle.snapshot.specs.Layouts.{definitionBase, mapsOf, snapOf}
 use Rattle.snapshot.specs.declared.layout.Layout.{Layout}
@@ -66,7 +67,7 @@ there-is t W u acc =
 -- the tests of an entry, on the words of an accepted snapshot
 pub entry-judged : (W A : List ℕ) (l : Layout) (E : List ℕ) {n ns d : ℕ} {a b p : Bool} → n ≡ numberOf a b false p true → a ≡ scopeRange (entryOf E)
     → b ≡ scopeDefined (countsIn l) (entryOf E) → ns ≡ getD E 1 0 → d ≡ getD E 3 0
-    → p ≡ (not (eqb ns 2) || eqb (definitionAt W (definitionBase l + 3 * d) .kind) 5)
+    → p ≡ (not (eqb ns 2) || eqb (definitionAt W (definitionBase l + definitionSize * d) .kind) 5)
     → n ≡ numberOf (scopeRange (entryOf E)) (scopeDefined (countsOf (snapOf W A l)) (entryOf E)) false
     (nsPlaced (snapOf W A l) (entryOf E .ns) (entryOf E .definition)) true
 entry-judged W A l E {a = a} {b = b} {p = p} j ea eb en ed ep =
@@ -74,7 +75,7 @@ entry-judged W A l E {a = a} {b = b} {p = p} j ea eb en ed ep =
     (nsPlaced (snapOf W A l) (entryOf E .ns) (entryOf E .definition)) true j ea
     (eb ∙ ap (λ m. scopeDefined m (entryOf E)) (sym (counts-read W A l)))
     (λ h. refl)
-    (λ h. ep ∙ ap₂ (λ m f. not (eqb m 2) || eqb (definitionAt W (definitionBase l + 3 * f) .kind) 5) en ed
+    (λ h. ep ∙ ap₂ (λ m f. not (eqb m 2) || eqb (definitionAt W (definitionBase l + definitionSize * f) .kind) 5) en ed
     ∙ ns-same W A l (mapsOf W A (l .maps)) (getD E 1 0) (getD E 3 0) (scope-definition (countsIn l) (entryOf E) (sym eb ∙ h)))
     refl
 

@@ -1,5 +1,5 @@
 -- Accepted words without one scope record are accepted, without its entry; the records after it stand lower.
-use Prim.Native.Nat.{ℕ, _+_, _≤_, _<_}
+use Prim.Native.Nat.{ℕ, _+_, _-_, _≤_, _<_}
 use mathlib.Core.Path.{_≡_, refl, sym, _∙_, ap, subst}
 use mathlib.Core.List.{List, [], _∷_, _++_, map, map-append, append-assoc, append-nil}
 use mathlib.Core.Bool.{Bool, true, false, _&&_, _||_}
@@ -9,6 +9,7 @@ use lib.ListN.{length, getD}
 use borrow.Author.Tests.{eqb-true}
 use Rattle.snapshot.specs.Lists.{any}
 use Rattle.snapshot.specs.Words.{kindOf, argumentsOf, argumentsAt}
+use Rattle.snapshot.specs.Sizes.{scopeSize}
 use Rattle.snapshot.specs.Records.{Snapshot, Scope, scopeAt}
 use Rattle.record_rules.specs.Tests.{sameEntry}
 use Rattle.record_rules.specs.Steps.{addScope}
@@ -101,9 +102,9 @@ less-kept pre y h xs ys z r e =
 pub record Found (t : Scope → Bool) (W : List ℕ) (u : Snapshot) (q : ℕ) : Type 0 where
   pub kind : kindOf (getD W q 0) ≡ 9
   pub passes : t (scopeAt W q) ≡ true
-  pub fits : q + 8 ≤ length W
+  pub fits : q + scopeSize ≤ length W
   pub there : any t (u .scopes) ≡ true
-  pub after : verdict (cut q 8 W) ≡ accept (withScopes lower u (without t (u .scopes)))
+  pub after : verdict (cut q scopeSize W) ≡ accept (withScopes lower u (without t (u .scopes)))
 
 module _ (t : Scope → Bool) (W : List ℕ) (u : Snapshot) (acc : verdict W ≡ accept u) (h : entryPlace t W < length W) where
   p : Split W u (isEntry t W) (Absent t) 0 0 empty (entryPlace t W)
@@ -121,11 +122,11 @@ module _ (t : Scope → Bool) (W : List ℕ) (u : Snapshot) (acc : verdict W ≡
   taken : Taking W (entryPlace t W) (p .before) (p .state) (first .2 .state)
   taken = taking W (entryPlace t W) (p .before) (p .state) (first .2 .state) (first .2 .step)
 
-  to : entryPlace t W + 1 + argumentsAt W (entryPlace t W) ≡ entryPlace t W + 8
+  to : entryPlace t W + 1 + argumentsAt W (entryPlace t W) ≡ entryPlace t W + scopeSize
   unfolding argumentsOf
-  to = let seven : argumentsAt W (entryPlace t W) ≡ 7 = arguments-are W (entryPlace t W) 9 kind-here in omega arith
+  to = let sized : argumentsAt W (entryPlace t W) ≡ scopeSize - 1 = arguments-are W (entryPlace t W) 9 kind-here in omega arith
 
-  fits : entryPlace t W + 8 ≤ length W
+  fits : entryPlace t W + scopeSize ≤ length W
   fits = subst (λ n. n ≤ length W) to (taking-within W (entryPlace t W) (p .before) (p .state) (first .2 .state) taken h)
 
   low : p .before ≤ 9
@@ -134,36 +135,36 @@ module _ (t : Scope → Bool) (W : List ℕ) (u : Snapshot) (acc : verdict W ≡
       (follows-rise (p .before) (kindOf (getD W (entryPlace t W) 0)) (taken .order) (λ a b. let k = kind-here in omega arith))
 
   -- after the record
-  rest : records (first .0) W (entryPlace t W + 8) 9 (addScope (p .state) (scopeAt W (entryPlace t W))) ≡ accept u
+  rest : records (first .0) W (entryPlace t W + scopeSize) 9 (addScope (p .state) (scopeAt W (entryPlace t W))) ≡ accept u
   rest =
-      ap (λ x. records (first .0) W (entryPlace t W + 8) 9 x) (scope-added W (entryPlace t W) (p .before) (p .state) (first .2 .state) taken kind-here)
+      ap (λ x. records (first .0) W (entryPlace t W + scopeSize) 9 x) (scope-added W (entryPlace t W) (p .before) (p .state) (first .2 .state) taken kind-here)
       ∙ ap (λ x. records (first .0) W x 9 (first .2 .state)) (sym to)
       ∙ ap (λ x. records (first .0) W (entryPlace t W + 1 + argumentsAt W (entryPlace t W)) x (first .2 .state)) (sym kind-here)
       ∙ first .2 .rest
 
-  shorter : length (cut (entryPlace t W) 8 W) + 8 ≡ length W
-  shorter = cut-length W (entryPlace t W) 8 fits
+  shorter : length (cut (entryPlace t W) scopeSize W) + scopeSize ≡ length W
+  shorter = cut-length W (entryPlace t W) scopeSize fits
 
-  enough : length W ≤ first .0 + (entryPlace t W + 8)
+  enough : length W ≤ first .0 + (entryPlace t W + scopeSize)
   enough = subst (λ n. length W ≤ first .0 + n) to (first .1)
 
   moved : (zs : List Scope) × Less (p .state .scopes) (scopeAt W (entryPlace t W)) (u .scopes) zs
-      × (records (first .0) (cut (entryPlace t W) 8 W) (entryPlace t W) (p .before) (p .state) ≡ accept (withScopes lower u zs))
+      × (records (first .0) (cut (entryPlace t W) scopeSize W) (entryPlace t W) (p .before) (p .state) ≡ accept (withScopes lower u zs))
   moved =
       let l = shorter in
       let r =
-      run-moved W (cut (entryPlace t W) 8 W) lower (Less (p .state .scopes) (scopeAt W (entryPlace t W))) 9 (less-kept (p .state .scopes) (scopeAt W (entryPlace t W))) (omega arith)
-      (first .0) (entryPlace t W + 8) (entryPlace t W) 9 (p .before) (addScope (p .state) (scopeAt W (entryPlace t W))) u (p .state .scopes) (omega arith) low
-      (cut-after W (entryPlace t W) 8 fits) (λ i. omega arith) (omega arith) enough ([], refl, sym (append-nil (p .state .scopes))) rest in
-      (r .0, r .1, ap (records (first .0) (cut (entryPlace t W) 8 W) (entryPlace t W) (p .before)) (sym (bare-moved lower (p .state) (p .holds .1 low) (p .state .scopes))) ∙ r .2)
+      run-moved W (cut (entryPlace t W) scopeSize W) lower (Less (p .state .scopes) (scopeAt W (entryPlace t W))) 9 (less-kept (p .state .scopes) (scopeAt W (entryPlace t W))) (omega arith)
+      (first .0) (entryPlace t W + scopeSize) (entryPlace t W) 9 (p .before) (addScope (p .state) (scopeAt W (entryPlace t W))) u (p .state .scopes) (omega arith) low
+      (cut-after W (entryPlace t W) scopeSize fits) (λ i. omega arith) (omega arith) enough ([], refl, sym (append-nil (p .state .scopes))) rest in
+      (r .0, r .1, ap (records (first .0) (cut (entryPlace t W) scopeSize W) (entryPlace t W) (p .before)) (sym (bare-moved lower (p .state) (p .holds .1 low) (p .state .scopes))) ∙ r .2)
 
   -- up to it
-  up-to : (m : ℕ) × (length (cut (entryPlace t W) 8 W) ≤ m + entryPlace t W)
-      × (records (length (cut (entryPlace t W) 8 W)) (cut (entryPlace t W) 8 W) 0 0 empty ≡ records m (cut (entryPlace t W) 8 W) (entryPlace t W) (p .before) (p .state))
+  up-to : (m : ℕ) × (length (cut (entryPlace t W) scopeSize W) ≤ m + entryPlace t W)
+      × (records (length (cut (entryPlace t W) scopeSize W)) (cut (entryPlace t W) scopeSize W) 0 0 empty ≡ records m (cut (entryPlace t W) scopeSize W) (entryPlace t W) (p .before) (p .state))
   up-to =
       let l = shorter in
       let f = fits in
-      p .same (cut (entryPlace t W) 8 W) (cut-before W (entryPlace t W) 8 fits) (omega arith) (length (cut (entryPlace t W) 8 W)) (omega arith)
+      p .same (cut (entryPlace t W) scopeSize W) (cut-before W (entryPlace t W) scopeSize fits) (omega arith) (length (cut (entryPlace t W) scopeSize W)) (omega arith)
 
   less : Less (p .state .scopes) (scopeAt W (entryPlace t W)) (u .scopes) (moved .0)
   less = moved .1
@@ -172,14 +173,14 @@ module _ (t : Scope → Bool) (W : List ℕ) (u : Snapshot) (acc : verdict W ≡
   left =
       less .2 ∙ sym (without-middle t (p .state .scopes) (scopeAt W (entryPlace t W)) (less .0) (p .holds .0) (here .1)) ∙ ap (without t) (sym (less .1))
 
-  accepted : verdict (cut (entryPlace t W) 8 W) ≡ accept (withScopes lower u (without t (u .scopes)))
+  accepted : verdict (cut (entryPlace t W) scopeSize W) ≡ accept (withScopes lower u (without t (u .scopes)))
   accepted =
       let l = shorter in
       let e = enough in
       let w = verdict-records W u acc .0 in
-      verdict-is (cut (entryPlace t W) 8 W) (omega arith)
+      verdict-is (cut (entryPlace t W) scopeSize W) (omega arith)
       ∙ up-to .2
-      ∙ records-more (cut (entryPlace t W) 8 W) (up-to .0) (first .0) (entryPlace t W) (p .before) (p .state) (up-to .1) (omega arith)
+      ∙ records-more (cut (entryPlace t W) scopeSize W) (up-to .0) (first .0) (entryPlace t W) (p .before) (p .state) (up-to .1) (omega arith)
       ∙ moved .2
       ∙ ap (λ zs. accept (withScopes lower u zs)) left
 

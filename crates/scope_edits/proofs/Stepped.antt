@@ -1,5 +1,5 @@
 -- The whole step of a record, with the tests of its kind and its arguments, at another place and after other scopes.
-use Prim.Native.Nat.{ℕ, zero, suc, _+_, _≤_, _<_}
+use Prim.Native.Nat.{ℕ, zero, suc, _+_, _-_, _≤_, _<_}
 use mathlib.Core.Path.{_≡_, refl, sym, _∙_, ap, subst}
 use mathlib.Core.List.{List, [], _∷_, _++_}
 use mathlib.Core.Bool.{Bool, true, false, _&&_, _||_, not}
@@ -10,6 +10,7 @@ use lib.ListN.{length, getD}
 use borrow.Author.Tests.{eqb-true, ltb-true, lt-ltb, leb-true, le-leb, not-true}
 use Rattle.snapshot.specs.Lists.{any}
 use Rattle.snapshot.specs.Words.{kindOf, payOf, argumentsOf, argumentsAt}
+use Rattle.snapshot.specs.Sizes.{scopeSize}
 use Rattle.snapshot.specs.Records.{Snapshot, Scope, scopeAt}
 use Rattle.record_rules.specs.Tests.{countsOf, nsPlaced, sameEntry, scopeDefined, scopeRange}
 use Rattle.record_rules.specs.Steps.{Next, on, need, addScope, scopeStep}
@@ -128,9 +129,9 @@ module _ (W X : List ℕ) (m : ℕ → ℕ) (R : List Scope → List Scope → T
             let q = scope-taken s t (scopeAt W a) f in
             let p = q .passed in
             let r = keep (subst (λ x. low ≤ x) k up) (s .scopes) ys (scopeAt W a) rel (p .new) in
-            let seven : argumentsAt W a ≡ 7 = arguments-are W a 9 k in
+            let sized : argumentsAt W a ≡ scopeSize - 1 = arguments-are W a 9 k in
             let y = movedScope m (scopeAt W a) in
-            let x = scope-same W X a b m to (subst (λ n. Same W X a b n) seven same) in (
+            let x = scope-same W X a b m to (subst (λ n. Same W X a b n) sized same) in (
               ys ++ (y ∷ []),
               subst (λ (u : Snapshot). R (u .scopes) (ys ++ (y ∷ []))) (q .same) (r .1),
               scope-kind X b _ (withScopes m s ys) k ∙ ap (scopeStep (withScopes m s ys)) x

@@ -1,5 +1,5 @@
 -- The walk to the first record at which a test holds; and the place of an entry that was just added.
-use Prim.Native.Nat.{ℕ, zero, suc, _+_, _≤_, _<_}
+use Prim.Native.Nat.{ℕ, zero, suc, _+_, _-_, _≤_, _<_}
 use mathlib.Core.Path.{_≡_, refl, sym, _∙_, ap, subst}
 use mathlib.Core.List.{List}
 use mathlib.Core.Bool.{Bool, true, false, _&&_, not}
@@ -8,6 +8,7 @@ use lib.Dec.{eqb, ltb}
 use lib.ListN.{length, getD}
 use borrow.Author.Tests.{eqb-true, ltb-true, ltb-false, lt-ltb, le-ltb}
 use Rattle.snapshot.specs.Words.{kindOf, payOf, argumentsOf, argumentsAt}
+use Rattle.snapshot.specs.Sizes.{scopeSize}
 use Rattle.snapshot.specs.Records.{Scope, scopeAt}
 use Rattle.accept.proofs.Accepted.{by-test}
 use Rattle.scope_edits.specs.Entries.{firstFrom, isLater, scopesEnd, isEntry, entryPlace}
@@ -55,8 +56,8 @@ entry-same t W X a same head e =
     by-test (eqb (kindOf (getD W a 0)) 9)
     (λ c.
     let k = eqb-true (kindOf (getD W a 0)) 9 c in
-    let seven : argumentsAt W a ≡ 7 = arguments-are W a 9 k in
-    let x = scope-same W X a a (λ n. n) refl (subst (λ n. (i : ℕ) → i ≤ n → getD X (a + i) 0 ≡ getD W (a + i) 0) seven same) in
+    let sized : argumentsAt W a ≡ scopeSize - 1 = arguments-are W a 9 k in
+    let x = scope-same W X a a (λ n. n) refl (subst (λ n. (i : ℕ) → i ≤ n → getD X (a + i) 0 ≡ getD W (a + i) 0) sized same) in
     ap (λ w. eqb (kindOf w) 9 && t (scopeAt X a)) head ∙ ap (λ y. eqb (kindOf (getD W a 0)) 9 && t y) x ∙ e)
     (λ c. ap (λ w. eqb (kindOf w) 9 && t (scopeAt X a)) head ∙ rw c)
 

@@ -6,11 +6,12 @@ use lib.Dec.{leb, ltb}
 use lib.ListN.{length, take}
 use Rattle.snapshot.specs.Limits.{wordLimit, areaLimit}
 use Rattle.snapshot.specs.Lists.{any}
+use Rattle.snapshot.specs.Sizes.{scopeSize}
 use Rattle.snapshot.specs.Records.{Scope, Snapshot}
 use Rattle.record_rules.specs.Tests.{countsOf, scopeRange, scopeDefined, nsPlaced}
 use Rattle.record_rules.specs.Stands.{numberOf}
 use Rattle.accept.specs.Verdict.{Verdict, refuse, accept, verdict}
-use Rattle.scope_edits.specs.Entries.{scopeSize, scopeWords, isNamed, higher, lower, placed, withScopes, without, scopesEnd, entryPlace, inserted, cut}
+use Rattle.scope_edits.specs.Entries.{scopeWords, isNamed, higher, lower, placed, withScopes, without, scopesEnd, entryPlace, inserted, cut}
 
 pub data Edit : Type 0 where
   refusedBy : ℕ → Edit

@@ -5,14 +5,12 @@ use mathlib.Core.Bool.{Bool, true, false, _&&_, not}
 use lib.Dec.{eqb, ltb}
 use lib.ListN.{length, getD, take, drop}
 use Rattle.snapshot.specs.Words.{kindOf, argumentsAt}
+use Rattle.snapshot.specs.Sizes.{scopeSize}
 use Rattle.snapshot.specs.Records.{Scope, Import, Extern, Snapshot, scopeAt}
 
--- the kind of a scope record, and its words
+-- the kind of a scope record
 abbrev pub scopeKind : ℕ
 scopeKind = 9
-
-abbrev pub scopeSize : ℕ
-scopeSize = 8
 
 -- an entry that comes in as words, a word a field: module, namespace, name, definition, visibility and its number, declared, bits; its
 -- place is known when it is written

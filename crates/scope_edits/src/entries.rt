@@ -15,16 +15,9 @@ use item_records::definitions::ns_placed;
 use record_rules::judge::judge;
 use snapshot::ids::DefinitionId;
 use snapshot::ids::WordCount;
+use snapshot::kind::Size;
 use snapshot::layout::Layout;
 use snapshot::words::word;
-
-/// A number of words.
-pub struct EntryWords(pub usize);
-
-impl EntryWords {
-    /// Words of an entry, and of its record.
-    pub const COUNT: usize = 8;
-}
 
 fn in_range(entry: &[u32]) -> bool
     ensures { λ r. ⌜ r ≡ scopeRange (entryOf (now (entry .entry))) ⌝ }
@@ -87,14 +80,14 @@ pub fn add_fault(words: &[u32], l: Layout, entry: &[u32], slice: usize) -> u32
     let ns = word(entry, 1);
     let name = word(entry, 2);
     let there = entry_place(words, owner, ns, name) < words.len();
-    let count = words.len() + EntryWords::COUNT;
+    let count = words.len() + Size::SCOPE;
     let room = (count <= WordCount::SNAPSHOT) & (count <= slice);
     let number = entry_number(words, l, entry);
     add_number(number, there, room)
 }
 
 /// The record of an entry.
-pub fn record_of(entry: &[u32; 8]) -> [u32; 8]
+pub fn record_of(entry: &[u32; Size::SCOPE]) -> [u32; Size::SCOPE]
     requires { ⌜ getD (now entry) 0 0 < 268435456 ⌝ }
     ensures { λ r. ⌜ r ≡ scopeWords (entryOf (now (entry .entry))) ⌝ }
 {

@@ -8,6 +8,7 @@ use mathlib.Core.Option.{Option, none, some}
 use lib.Dec.{eqb}
 use lib.ListN.{length}
 use borrow.Author.Tests.{eq-eqb, ne-eqb, eqb-true}
+use Rattle.snapshot.specs.Sizes.{definitionSize}
 use Rattle.snapshot.specs.Records.{Snapshot, Definition, definitionAt}
 use Rattle.snapshot.specs.Layouts.{definitionBase, snapOf}
 use Rattle.snapshot.specs.declared.layout.Layout.{Layout}
@@ -118,7 +119,7 @@ module _ (W A : List ℕ) (l : Layout) (r : Reads W A l) where
       → (definitionOf S d .first < d) × (definitionOf S (definitionOf S d .first) .kind ≡ 4)
   unfolding definitionOf
   enum-before d h k =
-      let u : d < length (S .definitions) = rw (length-rows (λ i. definitionAt W (definitionBase l + 3 * i)) (l .definitions)) h in
+      let u : d < length (S .definitions) = rw (length-rows (λ i. definitionAt W (definitionBase l + definitionSize * i)) (l .definitions)) h in
       accepted-valid W S (r .same) .enums d u k
 
   pub enum-no-variant : (item : Item) → Known l item → EnumNoVariant S item

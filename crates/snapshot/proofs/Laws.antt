@@ -10,7 +10,8 @@ use lib.ListN.{length, getD, take, drop, length-take, length-drop, drop-of-lengt
 use lib.Seq.{getD-take, getD-drop, ext-getD, take-all, take-nil}
 use borrow.Author.Tests.{eq-eqb, ne-eqb}
 use Rattle.snapshot.specs.Lists.{rows, any, all, eqList}
-use Rattle.reading.specs.Words.{payOf, wordsOf, argumentTable, argumentsOf, textAt}
+use Rattle.reading.specs.Words.{payOf, wordsOf, textAt}
+use Rattle.snapshot.specs.Sizes.{argumentTable, argumentsOf}
 pub use Rattle.reading.proofs.Laws.{past}
 
 pub arguments-name : (k p : ℕ) → k ≡ 1 → wordsOf p ≡ argumentsOf k p

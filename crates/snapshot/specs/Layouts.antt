@@ -3,6 +3,7 @@ use Prim.Native.Nat.{ℕ, _+_, _*_}
 use mathlib.Core.List.{List}
 use lib.ListN.{getD}
 use Rattle.snapshot.specs.Lists.{rows}
+use Rattle.snapshot.specs.Sizes.{crateSize, dependencySize, mapSize, moduleSize, childSize, preludeSize, definitionSize, scopeSize, importSize, externSize, memberSize}
 use Rattle.snapshot.specs.Records.{Name, Map, Module, Snapshot, nameAt, crateAt, dependencyAt, mapAt, childAt, preludeAt, definitionAt, scopeAt, importAt, externAt, memberAt}
 use Rattle.snapshot.specs.declared.layout.Layout.{Layout}
 
@@ -12,35 +13,35 @@ abbrev pub crateBase : Layout → ℕ
 crateBase l = l .text
 
 abbrev pub dependencyBase : Layout → ℕ
-dependencyBase l = crateBase l + 2 * l .crates
+dependencyBase l = crateBase l + crateSize * l .crates
 
 abbrev pub mapBase : Layout → ℕ
-mapBase l = dependencyBase l + 3 * l .dependencies
+mapBase l = dependencyBase l + dependencySize * l .dependencies
 
 abbrev pub childBase : Layout → ℕ
-childBase l = mapBase l + 3 * l .maps + 2 * l .modules
+childBase l = mapBase l + mapSize * l .maps + moduleSize * l .modules
 
 abbrev pub preludeBase : Layout → ℕ
-preludeBase l = childBase l + 2 * l .children
+preludeBase l = childBase l + childSize * l .children
 
 abbrev pub definitionBase : Layout → ℕ
-definitionBase l = preludeBase l + 2 * l .preludes
+definitionBase l = preludeBase l + preludeSize * l .preludes
 
 abbrev pub scopeBase : Layout → ℕ
-scopeBase l = definitionBase l + 3 * l .definitions
+scopeBase l = definitionBase l + definitionSize * l .definitions
 
 abbrev pub importBase : Layout → ℕ
-importBase l = scopeBase l + 8 * l .scopes
+importBase l = scopeBase l + scopeSize * l .scopes
 
 abbrev pub externBase : Layout → ℕ
-externBase l = importBase l + 6 * l .imports
+externBase l = importBase l + importSize * l .imports
 
 abbrev pub memberBase : Layout → ℕ
-memberBase l = externBase l + 3 * l .externs
+memberBase l = externBase l + externSize * l .externs
 
 -- the words of all the records
 abbrev pub wordCount : Layout → ℕ
-wordCount l = memberBase l + 5 * l .members
+wordCount l = memberBase l + memberSize * l .members
 
 -- no record
 abbrev pub noRecords : Layout
@@ -107,17 +108,17 @@ abbrev pub snapWith : List ℕ → List ℕ → Layout → List Map → Snapshot
 snapWith W A l ms =
     record {
       names = namesOf W A (l .names);
-      crates = recordsOf crateAt 2 W (crateBase l) (l .crates);
-      dependencies = recordsOf dependencyAt 3 W (dependencyBase l) (l .dependencies);
+      crates = recordsOf crateAt crateSize W (crateBase l) (l .crates);
+      dependencies = recordsOf dependencyAt dependencySize W (dependencyBase l) (l .dependencies);
       maps = ms;
       modules = modulesOf A (l .modules);
-      children = recordsOf childAt 2 W (childBase l) (l .children);
-      preludes = recordsOf preludeAt 2 W (preludeBase l) (l .preludes);
-      definitions = recordsOf definitionAt 3 W (definitionBase l) (l .definitions);
-      scopes = recordsOf scopeAt 8 W (scopeBase l) (l .scopes);
-      imports = recordsOf importAt 6 W (importBase l) (l .imports);
-      externs = recordsOf externAt 3 W (externBase l) (l .externs);
-      members = recordsOf memberAt 5 W (memberBase l) (l .members);
+      children = recordsOf childAt childSize W (childBase l) (l .children);
+      preludes = recordsOf preludeAt preludeSize W (preludeBase l) (l .preludes);
+      definitions = recordsOf definitionAt definitionSize W (definitionBase l) (l .definitions);
+      scopes = recordsOf scopeAt scopeSize W (scopeBase l) (l .scopes);
+      imports = recordsOf importAt importSize W (importBase l) (l .imports);
+      externs = recordsOf externAt externSize W (externBase l) (l .externs);
+      members = recordsOf memberAt memberSize W (memberBase l) (l .members);
     }
 
 -- the lists of a layout and its tables

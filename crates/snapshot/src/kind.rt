@@ -2,7 +2,8 @@
 ghost use mathlib.Core.Path.{_≡_};
 ghost use Prim.Native.Nat.{_+_, _^_, _<_};
 ghost use lib.ListN.{getD};
-ghost use Rattle.reading.specs.Words.{wordsOf, argumentTable, argumentsAt};
+ghost use Rattle.reading.specs.Words.{wordsOf};
+ghost use Rattle.snapshot.specs.Sizes.{argumentTable, argumentsAt};
 use crate::words::kind;
 use crate::words::payload;
 
@@ -37,8 +38,50 @@ impl Kind {
     pub const MEMBER: usize = 13;
 }
 
+/// The words of a record of each kind, its head included; a name's depend on its text.
+pub struct Size(pub usize);
+
+impl Size {
+    pub const CRATE: usize = 2;
+
+    pub const DEPENDENCY: usize = 3;
+
+    pub const MAP: usize = 3;
+
+    pub const MODULE: usize = 2;
+
+    pub const CHILD: usize = 2;
+
+    pub const PRELUDE: usize = 2;
+
+    pub const DEFINITION: usize = 3;
+
+    pub const SCOPE: usize = 8;
+
+    pub const IMPORT: usize = 6;
+
+    pub const EXTERN: usize = 3;
+
+    pub const MEMBER: usize = 5;
+}
+
 // The arguments of a record of each kind; a name's depend on its text, and no record is of kind 12.
-const ARGUMENTS: [usize; 14] = [0, 0, 1, 2, 2, 1, 1, 1, 2, 7, 5, 2, 0, 4];
+const ARGUMENTS: [usize; 14] = [
+    0,
+    0,
+    Size::CRATE - 1,
+    Size::DEPENDENCY - 1,
+    Size::MAP - 1,
+    Size::MODULE - 1,
+    Size::CHILD - 1,
+    Size::PRELUDE - 1,
+    Size::DEFINITION - 1,
+    Size::SCOPE - 1,
+    Size::IMPORT - 1,
+    Size::EXTERN - 1,
+    0,
+    Size::MEMBER - 1,
+];
 
 fn fixed(kind: usize) -> usize
     ensures { λ r. ⌜ r ≡ getD argumentTable kind 0 ⌝ }

@@ -2,6 +2,7 @@
 ghost use mathlib.Core.Path.{_≡_};
 ghost use Prim.Native.Nat.{_+_, _*_, _^_, _<_};
 ghost use Rattle.snapshot.specs.Layouts.{dependencyBase, mapBase, childBase, preludeBase, definitionBase, scopeBase, importBase, externBase, memberBase, wordCount, noRecords};
+use crate::kind::Size;
 
 /// How many records of each kind there are, and how many words the names take; the kinds stand in order, so the rest follows.
 pub struct Layout {
@@ -50,62 +51,62 @@ impl Layout {
         requires { ⌜ wordCount self < 2 ^ 32 ⌝ }
         ensures { λ r. ⌜ r ≡ dependencyBase self ⌝ }
     {
-        self.text + 2 * self.crates
+        self.text + Size::CRATE * self.crates
     }
 
     pub fn map_base(self) -> usize
         requires { ⌜ wordCount self < 2 ^ 32 ⌝ }
         ensures { λ r. ⌜ r ≡ mapBase self ⌝ }
     {
-        self.dependency_base() + 3 * self.dependencies
+        self.dependency_base() + Size::DEPENDENCY * self.dependencies
     }
 
     pub fn child_base(self) -> usize
         requires { ⌜ wordCount self < 2 ^ 32 ⌝ }
         ensures { λ r. ⌜ r ≡ childBase self ⌝ }
     {
-        self.map_base() + 3 * self.maps + 2 * self.modules
+        self.map_base() + Size::MAP * self.maps + Size::MODULE * self.modules
     }
 
     pub fn prelude_base(self) -> usize
         requires { ⌜ wordCount self < 2 ^ 32 ⌝ }
         ensures { λ r. ⌜ r ≡ preludeBase self ⌝ }
     {
-        self.child_base() + 2 * self.children
+        self.child_base() + Size::CHILD * self.children
     }
 
     pub fn definition_base(self) -> usize
         requires { ⌜ wordCount self < 2 ^ 32 ⌝ }
         ensures { λ r. ⌜ r ≡ definitionBase self ⌝ }
     {
-        self.prelude_base() + 2 * self.preludes
+        self.prelude_base() + Size::PRELUDE * self.preludes
     }
 
     pub fn scope_base(self) -> usize
         requires { ⌜ wordCount self < 2 ^ 32 ⌝ }
         ensures { λ r. ⌜ r ≡ scopeBase self ⌝ }
     {
-        self.definition_base() + 3 * self.definitions
+        self.definition_base() + Size::DEFINITION * self.definitions
     }
 
     pub fn import_base(self) -> usize
         requires { ⌜ wordCount self < 2 ^ 32 ⌝ }
         ensures { λ r. ⌜ r ≡ importBase self ⌝ }
     {
-        self.scope_base() + 8 * self.scopes
+        self.scope_base() + Size::SCOPE * self.scopes
     }
 
     pub fn extern_base(self) -> usize
         requires { ⌜ wordCount self < 2 ^ 32 ⌝ }
         ensures { λ r. ⌜ r ≡ externBase self ⌝ }
     {
-        self.import_base() + 6 * self.imports
+        self.import_base() + Size::IMPORT * self.imports
     }
 
     pub fn member_base(self) -> usize
         requires { ⌜ wordCount self < 2 ^ 32 ⌝ }
         ensures { λ r. ⌜ r ≡ memberBase self ⌝ }
     {
-        self.extern_base() + 3 * self.externs
+        self.extern_base() + Size::EXTERN * self.externs
     }
 }

@@ -4,6 +4,7 @@ use borrow.Author.Needs.{needs}
 use denote.Ref.{now}
 use mathlib.Core.Path.{refl, sym, ap, _∙_, subst}
 use mathlib.Core.List.{List}
+use Rattle.snapshot.specs.Sizes.{dependencySize, importSize}
 use Rattle.snapshot.specs.Records.{importAt, dependencyAt}
 use Rattle.snapshot.specs.Layouts.{importBase, dependencyBase, snapOf}
 use Rattle.snapshot.proofs.Laws.{rows-whole}
@@ -485,7 +486,7 @@ find-import-returns-2 t c =
 abbrev find-in-dep-Inv-loop : find-in-dep-lts.InvT-loop
 find-in-dep-Inv-loop words area₀ l x left item c best₀ k₀ area best k =
     Running area₀ area left best
-    (imports (snapOf words area₀ l) x left (outOf best) (leftOf (isImport (snapOf words area₀ l) (c .0) item) (λ i. importAt words (importBase l + 6 * i)) (l .imports) k))
+    (imports (snapOf words area₀ l) x left (outOf best) (leftOf (isImport (snapOf words area₀ l) (c .0) item) (λ i. importAt words (importBase l + importSize * i)) (l .imports) k))
     (imports (snapOf words area₀ l) x left (outOf best₀) (importInfoFor (snapOf words area₀ l) (c .0) item))
 
 abbrev find-in-dep-μ-loop : find-in-dep-lts.MeasureT-loop
@@ -626,7 +627,7 @@ find-in-dep-returns-2 t c =
 abbrev find-in-deps-Inv-loop : find-in-deps-lts.InvT-loop
 find-in-deps-Inv-loop words area₀ l x left item c best₀ k₀ area best k =
     Running area₀ area left best
-    (dependencies (snapOf words area₀ l) x left item (outOf best) (leftOf (isDependency (x .krate)) (λ i. dependencyAt words (dependencyBase l + 3 * i)) (l .dependencies) k))
+    (dependencies (snapOf words area₀ l) x left item (outOf best) (leftOf (isDependency (x .krate)) (λ i. dependencyAt words (dependencyBase l + dependencySize * i)) (l .dependencies) k))
     (dependencies (snapOf words area₀ l) x left item (outOf best₀) (dependenciesOf (snapOf words area₀ l) (x .krate)))
 
 abbrev find-in-deps-μ-loop : find-in-deps-lts.MeasureT-loop
@@ -799,7 +800,7 @@ find-in-deps-returns-2 t c =
 abbrev find-in-deps-by-sysroot-Inv-loop : find-in-deps-by-sysroot-lts.InvT-loop
 find-in-deps-by-sysroot-Inv-loop words area₀ l x left item inside c best₀ k₀ area best k =
     Running area₀ area left best
-    (dependencies (snapOf words area₀ l) x left item (outOf best) (leftOf (bySysroot (x .krate) inside) (λ i. dependencyAt words (dependencyBase l + 3 * i)) (l .dependencies) k))
+    (dependencies (snapOf words area₀ l) x left item (outOf best) (leftOf (bySysroot (x .krate) inside) (λ i. dependencyAt words (dependencyBase l + dependencySize * i)) (l .dependencies) k))
     (dependencies (snapOf words area₀ l) x left item (outOf best₀) (select (bySysroot (x .krate) inside) (snapOf words area₀ l .dependencies)))
 
 abbrev find-in-deps-by-sysroot-μ-loop : find-in-deps-by-sysroot-lts.MeasureT-loop
@@ -821,7 +822,7 @@ find-in-deps-by-sysroot-loop-holds t c =
     let o = c .before .before in
     let a = o .args in
     record {
-      same = ap (dependencies (snapOf (now (a .words)) (now (a .area)) (a .l)) (a .x) (a .left) (a .item) (outOf (a .o))) (sym (rows-whole (select (bySysroot (a .x .krate) (a .inside))) (λ i. dependencyAt (now (a .words)) (dependencyBase (a .l) + 3 * i)) (a .l .dependencies)));
+      same = ap (dependencies (snapOf (now (a .words)) (now (a .area)) (a .l)) (a .x) (a .left) (a .item) (outOf (a .o))) (sym (rows-whole (select (bySysroot (a .x .krate) (a .inside))) (λ i. dependencyAt (now (a .words)) (dependencyBase (a .l) + dependencySize * i)) (a .l .dependencies)));
       tables = refl;
       long = refl;
       held = o .pre .1 .1;

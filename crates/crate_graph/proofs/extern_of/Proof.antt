@@ -5,6 +5,7 @@ use mathlib.Core.List.{reverse}
 use native.Mathlib.Omega.{arith}
 use denote.Ref.{now}
 use Rattle.snapshot.specs.Lists.{rows}
+use Rattle.snapshot.specs.Sizes.{externSize}
 use Rattle.snapshot.specs.Records.{externAt}
 use Rattle.hir_def.specs.Finds.{firstOf}
 use Rattle.hir_def.specs.Nameres.{isExtern}
@@ -13,7 +14,7 @@ use Rattle.crate_graph.proofs.extern_of.Statement.{statement}
 use Rattle.crate_graph.proofs.extern_of.Tie as tie
 
 abbrev Inv-loop : tie.InvT-loop
-Inv-loop words c m base k₀ k = (k ≤ k₀) × (firstOf (isExtern (c .0) (m .0)) (reverse (rows (λ i. externAt words (base + 3 * i)) 0 k₀)) ≡ firstOf (isExtern (c .0) (m .0)) (reverse (rows (λ i. externAt words (base + 3 * i)) 0 k)))
+Inv-loop words c m base k₀ k = (k ≤ k₀) × (firstOf (isExtern (c .0) (m .0)) (reverse (rows (λ i. externAt words (base + externSize * i)) 0 k₀)) ≡ firstOf (isExtern (c .0) (m .0)) (reverse (rows (λ i. externAt words (base + externSize * i)) 0 k)))
 
 abbrev μ-loop : tie.MeasureT-loop
 μ-loop words c m base k₀ k = k

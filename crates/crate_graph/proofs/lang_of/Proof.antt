@@ -6,6 +6,7 @@ use mathlib.Core.List.{List}
 use native.Mathlib.Omega.{arith}
 use denote.Ref.{now}
 use Rattle.snapshot.specs.Lists.{rows}
+use Rattle.snapshot.specs.Sizes.{dependencySize}
 use Rattle.snapshot.specs.Layouts.{dependencyBase, snapOf}
 use Rattle.snapshot.specs.Records.{dependencyAt}
 use Rattle.hir_def.specs.Finds.{firstOf}
@@ -15,7 +16,7 @@ use Rattle.crate_graph.proofs.lang_of.Statement.{statement}
 use Rattle.crate_graph.proofs.lang_of.Tie as tie
 
 abbrev Inv-loop : tie.InvT-loop
-Inv-loop words l c lang base k₀ k = (A : List ℕ) → langOf (snapOf words A l) (c .0) lang ≡ firstOf (λ d. isDependency (c .0) d && isLangSysroot (snapOf words A l) lang d) (rows (λ i. dependencyAt words (dependencyBase l + 3 * i)) k (l .dependencies - k))
+Inv-loop words l c lang base k₀ k = (A : List ℕ) → langOf (snapOf words A l) (c .0) lang ≡ firstOf (λ d. isDependency (c .0) d && isLangSysroot (snapOf words A l) lang d) (rows (λ i. dependencyAt words (dependencyBase l + dependencySize * i)) k (l .dependencies - k))
 
 abbrev μ-loop : tie.MeasureT-loop
 μ-loop words l c lang base k₀ k = l .dependencies - k
@@ -40,7 +41,7 @@ returns c =
     λ A.
     let s = c .before .before .before .before .before .before .before in
     let w = c .before .before .before .before .loop in
-    first-hit _ _ _ _ _ (w .inv A) (c .before .before .if1 .taken) (ap (λ b. dependencyAt (now (s .args .words)) (b + 3 * w .k)) (c .before .before .before .before .before .dependency-base .ensures)) (c .before .is-lang-sysroot .ensures A) (c .if2 .taken)
+    first-hit _ _ _ _ _ (w .inv A) (c .before .before .if1 .taken) (ap (λ b. dependencyAt (now (s .args .words)) (b + dependencySize * w .k)) (c .before .before .before .before .before .dependency-base .ensures)) (c .before .is-lang-sysroot .ensures A) (c .if2 .taken)
 
 add-k : tie.Need-add-k Inv-loop μ-loop
 add-k c = record { fits = omega (arith, c .before .before .if1 .taken, c .before .before .before .before .before .before .before .pre) }
@@ -53,7 +54,7 @@ loop-again c =
     λ A.
     let s = c .before .before .before .before .before .before .before in
     let w = c .before .before .before .before .loop in
-    first-miss _ _ _ _ _ (w .inv A) (c .before .before .if1 .taken) (ap (λ b. dependencyAt (now (s .args .words)) (b + 3 * w .k)) (c .before .before .before .before .before .dependency-base .ensures)) (c .before .is-lang-sysroot .ensures A) (c .if2 .left)
+    first-miss _ _ _ _ _ (w .inv A) (c .before .before .if1 .taken) (ap (λ b. dependencyAt (now (s .args .words)) (b + dependencySize * w .k)) (c .before .before .before .before .before .dependency-base .ensures)) (c .before .is-lang-sysroot .ensures A) (c .if2 .left)
 
 returns-2 : tie.Need-returns-2 Inv-loop μ-loop
 returns-2 c = λ A. first-none _ _ _ _ _ (c .before .before .loop .inv A) (c .if1 .left)

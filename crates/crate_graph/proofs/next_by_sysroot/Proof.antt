@@ -2,6 +2,7 @@ use borrow.Author.Needs.{needs}
 use Prim.Native.Nat.{_+_, _-_, _*_}
 use mathlib.Core.Path.{ap}
 use native.Mathlib.Omega.{arith}
+use Rattle.snapshot.specs.Sizes.{dependencySize}
 use Rattle.snapshot.specs.Layouts.{dependencyBase}
 use Rattle.snapshot.specs.Records.{dependencyAt}
 use Rattle.hir_def.specs.Nameres.{bySysroot}
@@ -11,7 +12,7 @@ use Rattle.crate_graph.proofs.next_by_sysroot.Statement.{statement}
 use Rattle.crate_graph.proofs.next_by_sysroot.Tie as tie
 
 abbrev Inv-loop : tie.InvT-loop
-Inv-loop words l k c sysroot base j₀ j = Came (bySysroot (c .0) sysroot) dependencyAt 3 words (dependencyBase l) (l .dependencies) k j
+Inv-loop words l k c sysroot base j₀ j = Came (bySysroot (c .0) sysroot) dependencyAt dependencySize words (dependencyBase l) (l .dependencies) k j
 
 abbrev μ-loop : tie.MeasureT-loop
 μ-loop words l k c sysroot base j₀ j = l .dependencies - j
@@ -35,7 +36,7 @@ returns : tie.Need-returns Inv-loop μ-loop
 unfolding NextOf
 returns c =
     let w = c .before .before .before .before .loop in
-    next-hit (w .inv) (c .before .before .if1 .taken) (ap (λ b. b + 3 * w .j) (c .before .before .before .before .before .dependency-base .ensures)) (c .before .by-sysroot .ensures) (c .if2 .taken)
+    next-hit (w .inv) (c .before .before .if1 .taken) (ap (λ b. b + dependencySize * w .j) (c .before .before .before .before .before .dependency-base .ensures)) (c .before .by-sysroot .ensures) (c .if2 .taken)
 
 add-j : tie.Need-add-j Inv-loop μ-loop
 add-j c = record { fits = omega (arith, c .before .before .if1 .taken, c .before .before .before .before .before .before .before .pre) }
@@ -46,7 +47,7 @@ loop-less c = omega (arith, c .before .before .if1 .taken)
 loop-again : tie.Need-loop-again Inv-loop μ-loop
 loop-again c =
     let w = c .before .before .before .before .loop in
-    next-miss (w .inv) (c .before .before .if1 .taken) (ap (λ b. b + 3 * w .j) (c .before .before .before .before .before .dependency-base .ensures)) (c .before .by-sysroot .ensures) (c .if2 .left)
+    next-miss (w .inv) (c .before .before .if1 .taken) (ap (λ b. b + dependencySize * w .j) (c .before .before .before .before .before .dependency-base .ensures)) (c .before .by-sysroot .ensures) (c .if2 .left)
 
 returns-2 : tie.Need-returns-2 Inv-loop μ-loop
 unfolding NextOf

@@ -3,6 +3,7 @@ use Prim.Native.Nat.{_+_, _-_, _*_}
 use mathlib.Core.Path.{refl, sym, ap, _∙_}
 use native.Mathlib.Omega.{arith}
 use borrow.Author.Tests.{eq-eqb, ne-eqb}
+use Rattle.snapshot.specs.Sizes.{dependencySize}
 use Rattle.snapshot.specs.Layouts.{dependencyBase}
 use Rattle.snapshot.specs.Records.{dependencyAt}
 use Rattle.hir_def.specs.Nameres.{isDependency}
@@ -12,7 +13,7 @@ use Rattle.crate_graph.proofs.next_dependency.Statement.{statement}
 use Rattle.crate_graph.proofs.next_dependency.Tie as tie
 
 abbrev Inv-loop : tie.InvT-loop
-Inv-loop words l k c base j₀ j = Came (isDependency (c .0)) dependencyAt 3 words (dependencyBase l) (l .dependencies) k j
+Inv-loop words l k c base j₀ j = Came (isDependency (c .0)) dependencyAt dependencySize words (dependencyBase l) (l .dependencies) k j
 
 abbrev μ-loop : tie.MeasureT-loop
 μ-loop words l k c base j₀ j = l .dependencies - j
@@ -36,7 +37,7 @@ returns : tie.Need-returns Inv-loop μ-loop
 unfolding NextOf
 returns c =
     let w = c .before .before .before .before .before .before .loop in
-    next-hit (w .inv) (c .before .before .before .before .if1 .taken) (ap (λ b. b + 3 * w .j) (c .before .before .before .before .before .before .before .dependency-base .ensures)) refl (eq-eqb _ _ (sym (c .before .before .before .dependency-owner .ensures) ∙ c .if2 .taken))
+    next-hit (w .inv) (c .before .before .before .before .if1 .taken) (ap (λ b. b + dependencySize * w .j) (c .before .before .before .before .before .before .before .dependency-base .ensures)) refl (eq-eqb _ _ (sym (c .before .before .before .dependency-owner .ensures) ∙ c .if2 .taken))
 
 add-j : tie.Need-add-j Inv-loop μ-loop
 add-j c = record { fits = omega (arith, c .before .before .before .before .if1 .taken, c .before .before .before .before .before .before .before .before .before .pre) }
@@ -47,7 +48,7 @@ loop-less c = omega (arith, c .before .before .before .before .if1 .taken)
 loop-again : tie.Need-loop-again Inv-loop μ-loop
 loop-again c =
     let w = c .before .before .before .before .before .before .loop in
-    next-miss (w .inv) (c .before .before .before .before .if1 .taken) (ap (λ b. b + 3 * w .j) (c .before .before .before .before .before .before .before .dependency-base .ensures)) refl (ne-eqb _ _ (λ e. c .if2 .left (c .before .before .before .dependency-owner .ensures ∙ e)))
+    next-miss (w .inv) (c .before .before .before .before .if1 .taken) (ap (λ b. b + dependencySize * w .j) (c .before .before .before .before .before .before .before .dependency-base .ensures)) refl (ne-eqb _ _ (λ e. c .if2 .left (c .before .before .before .dependency-owner .ensures ∙ e)))
 
 returns-2 : tie.Need-returns-2 Inv-loop μ-loop
 unfolding NextOf

@@ -7,6 +7,7 @@ use lib.Dec.{eqb}
 use denote.Ref.{now}
 use borrow.Author.Tests.{eq-eqb, ne-eqb}
 use Rattle.snapshot.specs.Lists.{rows}
+use Rattle.snapshot.specs.Sizes.{preludeSize}
 use Rattle.snapshot.specs.Layouts.{preludeBase, snapOf}
 use Rattle.snapshot.specs.Records.{preludeAt}
 use Rattle.snapshot.proofs.Laws.{rows-whole}
@@ -17,7 +18,7 @@ use Rattle.crate_graph.proofs.prelude_of.Statement.{statement}
 use Rattle.crate_graph.proofs.prelude_of.Tie as tie
 
 abbrev Inv-loop : tie.InvT-loop
-Inv-loop words l map base k₀ k = (A : List ℕ) → preludeOf (snapOf words A l) map ≡ firstOf (λ p. eqb (p .map) map) (rows (λ i. preludeAt words (preludeBase l + 2 * i)) k (l .preludes - k))
+Inv-loop words l map base k₀ k = (A : List ℕ) → preludeOf (snapOf words A l) map ≡ firstOf (λ p. eqb (p .map) map) (rows (λ i. preludeAt words (preludeBase l + preludeSize * i)) k (l .preludes - k))
 
 abbrev μ-loop : tie.MeasureT-loop
 μ-loop words l map base k₀ k = l .preludes - k
@@ -43,7 +44,7 @@ returns c =
     λ A.
     let s = c .before .before .before .before .before .before .before in
     let w = c .before .before .before .before .loop in
-    first-hit _ _ _ _ _ (w .inv A) (c .before .before .if1 .taken) (ap (λ b. preludeAt (now (s .args .words)) (b + 2 * w .k)) (c .before .before .before .before .before .prelude-base .ensures)) refl (eq-eqb _ _ (sym (c .before .prelude-map .ensures) ∙ c .if2 .taken))
+    first-hit _ _ _ _ _ (w .inv A) (c .before .before .if1 .taken) (ap (λ b. preludeAt (now (s .args .words)) (b + preludeSize * w .k)) (c .before .before .before .before .before .prelude-base .ensures)) refl (eq-eqb _ _ (sym (c .before .prelude-map .ensures) ∙ c .if2 .taken))
 
 add-k : tie.Need-add-k Inv-loop μ-loop
 add-k c = record { fits = omega (arith, c .before .before .if1 .taken, c .before .before .before .before .before .before .before .pre) }
@@ -56,7 +57,7 @@ loop-again c =
     λ A.
     let s = c .before .before .before .before .before .before .before in
     let w = c .before .before .before .before .loop in
-    first-miss _ _ _ _ _ (w .inv A) (c .before .before .if1 .taken) (ap (λ b. preludeAt (now (s .args .words)) (b + 2 * w .k)) (c .before .before .before .before .before .prelude-base .ensures)) refl (ne-eqb _ _ (λ e. c .if2 .left (c .before .prelude-map .ensures ∙ e)))
+    first-miss _ _ _ _ _ (w .inv A) (c .before .before .if1 .taken) (ap (λ b. preludeAt (now (s .args .words)) (b + preludeSize * w .k)) (c .before .before .before .before .before .prelude-base .ensures)) refl (ne-eqb _ _ (λ e. c .if2 .left (c .before .prelude-map .ensures ∙ e)))
 
 returns-2 : tie.Need-returns-2 Inv-loop μ-loop
 returns-2 c = λ A. first-none _ _ _ _ _ (c .before .before .loop .inv A) (c .if1 .left)

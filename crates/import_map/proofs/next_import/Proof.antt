@@ -3,6 +3,7 @@ use Prim.Native.Nat.{ℕ, _+_, _-_, _*_}
 use mathlib.Core.Path.{ap}
 use mathlib.Core.List.{List}
 use native.Mathlib.Omega.{arith}
+use Rattle.snapshot.specs.Sizes.{importSize}
 use Rattle.snapshot.specs.Layouts.{importBase, snapOf}
 use Rattle.snapshot.specs.Records.{importAt}
 use Rattle.hir_def.specs.ImportMap.{isImport}
@@ -12,7 +13,7 @@ use Rattle.import_map.proofs.next_import.Statement.{statement}
 use Rattle.import_map.proofs.next_import.Tie as tie
 
 abbrev Inv-loop : tie.InvT-loop
-Inv-loop words l k c item base j₀ j = (A : List ℕ) → Came (isImport (snapOf words A l) (c .0) item) importAt 6 words (importBase l) (l .imports) k j
+Inv-loop words l k c item base j₀ j = (A : List ℕ) → Came (isImport (snapOf words A l) (c .0) item) importAt importSize words (importBase l) (l .imports) k j
 
 abbrev μ-loop : tie.MeasureT-loop
 μ-loop words l k c item base j₀ j = l .imports - j
@@ -37,7 +38,7 @@ unfolding NextOf
 returns c =
     λ A.
     let w = c .before .before .before .before .loop in
-    next-hit (w .inv A) (c .before .before .if1 .taken) (ap (λ b. b + 6 * w .j) (c .before .before .before .before .before .import-base .ensures)) (c .before .is-import .ensures A) (c .if2 .taken)
+    next-hit (w .inv A) (c .before .before .if1 .taken) (ap (λ b. b + importSize * w .j) (c .before .before .before .before .before .import-base .ensures)) (c .before .is-import .ensures A) (c .if2 .taken)
 
 add-j : tie.Need-add-j Inv-loop μ-loop
 add-j c = record { fits = omega (arith, c .before .before .if1 .taken, c .before .before .before .before .before .before .before .pre) }
@@ -49,7 +50,7 @@ loop-again : tie.Need-loop-again Inv-loop μ-loop
 loop-again c =
     λ A.
     let w = c .before .before .before .before .loop in
-    next-miss (w .inv A) (c .before .before .if1 .taken) (ap (λ b. b + 6 * w .j) (c .before .before .before .before .before .import-base .ensures)) (c .before .is-import .ensures A) (c .if2 .left)
+    next-miss (w .inv A) (c .before .before .if1 .taken) (ap (λ b. b + importSize * w .j) (c .before .before .before .before .before .import-base .ensures)) (c .before .is-import .ensures A) (c .if2 .left)
 
 returns-2 : tie.Need-returns-2 Inv-loop μ-loop
 unfolding NextOf

@@ -5,6 +5,7 @@ use mathlib.Core.List.{List}
 use native.Mathlib.Omega.{arith}
 use denote.Ref.{now}
 use Rattle.snapshot.specs.Lists.{rows}
+use Rattle.snapshot.specs.Sizes.{scopeSize}
 use Rattle.snapshot.specs.Layouts.{scopeBase, snapOf}
 use Rattle.snapshot.specs.Records.{scopeAt}
 use Rattle.snapshot.proofs.Laws.{rows-whole}
@@ -15,7 +16,7 @@ use Rattle.item_scope.proofs.get.Statement.{statement}
 use Rattle.item_scope.proofs.get.Tie as tie
 
 abbrev Inv-loop : tie.InvT-loop
-Inv-loop words l m ns name base k₀ k = (A : List ℕ) → entryNamed (snapOf words A l) (m .0) ns (name .0) ≡ firstOf (isNamed (m .0) ns (name .0)) (rows (λ i. scopeAt words (scopeBase l + 8 * i)) k (l .scopes - k))
+Inv-loop words l m ns name base k₀ k = (A : List ℕ) → entryNamed (snapOf words A l) (m .0) ns (name .0) ≡ firstOf (isNamed (m .0) ns (name .0)) (rows (λ i. scopeAt words (scopeBase l + scopeSize * i)) k (l .scopes - k))
 
 abbrev μ-loop : tie.MeasureT-loop
 μ-loop words l m ns name base k₀ k = l .scopes - k
@@ -41,7 +42,7 @@ returns c =
     λ A.
     let s = c .before .before .before .before .before .before .before in
     let w = c .before .before .before .before .loop in
-    first-hit _ _ _ _ _ (w .inv A) (c .before .before .if1 .taken) (ap (λ b. scopeAt (now (s .args .words)) (b + 8 * w .k)) (c .before .before .before .before .before .scope-base .ensures)) (c .before .is-named .ensures) (c .if2 .taken)
+    first-hit _ _ _ _ _ (w .inv A) (c .before .before .if1 .taken) (ap (λ b. scopeAt (now (s .args .words)) (b + scopeSize * w .k)) (c .before .before .before .before .before .scope-base .ensures)) (c .before .is-named .ensures) (c .if2 .taken)
 
 add-k : tie.Need-add-k Inv-loop μ-loop
 add-k c = record { fits = omega (arith, c .before .before .if1 .taken, c .before .before .before .before .before .before .before .pre) }
@@ -54,7 +55,7 @@ loop-again c =
     λ A.
     let s = c .before .before .before .before .before .before .before in
     let w = c .before .before .before .before .loop in
-    first-miss _ _ _ _ _ (w .inv A) (c .before .before .if1 .taken) (ap (λ b. scopeAt (now (s .args .words)) (b + 8 * w .k)) (c .before .before .before .before .before .scope-base .ensures)) (c .before .is-named .ensures) (c .if2 .left)
+    first-miss _ _ _ _ _ (w .inv A) (c .before .before .if1 .taken) (ap (λ b. scopeAt (now (s .args .words)) (b + scopeSize * w .k)) (c .before .before .before .before .before .scope-base .ensures)) (c .before .is-named .ensures) (c .if2 .left)
 
 returns-2 : tie.Need-returns-2 Inv-loop μ-loop
 returns-2 c = λ A. first-none _ _ _ _ _ (c .before .before .loop .inv A) (c .if1 .left)

@@ -6,6 +6,7 @@ use mathlib.Core.List.{List}
 use native.Mathlib.Omega.{arith}
 use denote.Ref.{now}
 use Rattle.snapshot.specs.Lists.{rows}
+use Rattle.snapshot.specs.Sizes.{scopeSize}
 use Rattle.snapshot.specs.Layouts.{scopeBase, snapOf}
 use Rattle.snapshot.specs.Records.{scopeAt}
 use Rattle.snapshot.proofs.Laws.{rows-whole}
@@ -16,7 +17,7 @@ use Rattle.item_scope.proofs.names_of.Statement.{statement}
 use Rattle.item_scope.proofs.names_of.Tie as tie
 
 abbrev Inv-loop : tie.InvT-loop
-Inv-loop words l m item declared base read₀ read = ((A : List ℕ) → namesOf (snapOf words A l) (m .0) item (counts declared) ≡ firstOf (λ e. isFor (snapOf words A l) (m .0) item e && counts declared e) (rows (λ i. scopeAt words (scopeBase l + 8 * i)) read (l .scopes - read))) × ((A : List ℕ) → namesReads (snapOf words A l) (m .0) item (counts declared) ≡ read + readsOf (λ e. isFor (snapOf words A l) (m .0) item e && counts declared e) (rows (λ i. scopeAt words (scopeBase l + 8 * i)) read (l .scopes - read))) × (read ≤ l .scopes)
+Inv-loop words l m item declared base read₀ read = ((A : List ℕ) → namesOf (snapOf words A l) (m .0) item (counts declared) ≡ firstOf (λ e. isFor (snapOf words A l) (m .0) item e && counts declared e) (rows (λ i. scopeAt words (scopeBase l + scopeSize * i)) read (l .scopes - read))) × ((A : List ℕ) → namesReads (snapOf words A l) (m .0) item (counts declared) ≡ read + readsOf (λ e. isFor (snapOf words A l) (m .0) item e && counts declared e) (rows (λ i. scopeAt words (scopeBase l + scopeSize * i)) read (l .scopes - read))) × (read ≤ l .scopes)
 
 abbrev μ-loop : tie.MeasureT-loop
 μ-loop words l m item declared base read₀ read = l .scopes - read
@@ -45,7 +46,7 @@ returns c =
     let s = c .before .before .before .before .before .before .before in
     let w = c .before .before .before .before .loop in
     let b = c .before .before .before .before .before .scope-base .ensures in
-    let u = ap (λ x. scopeAt (now (s .args .words)) (x + 8 * w .read)) b in
+    let u = ap (λ x. scopeAt (now (s .args .words)) (x + scopeSize * w .read)) b in
     (λ A. first-hit _ _ _ _ _ (w .inv .0 A) (c .before .before .if1 .taken) u (c .before .is-entry .ensures A) (c .if2 .taken), λ A. reads-hit _ _ _ _ _ (w .inv .1 A) (c .before .before .if1 .taken) u (c .before .is-entry .ensures A) (c .if2 .taken), omega (arith, b, c .before .before .if1 .taken))
 
 loop-less : tie.Need-loop-less Inv-loop μ-loop
@@ -55,7 +56,7 @@ loop-again : tie.Need-loop-again Inv-loop μ-loop
 loop-again c =
     let s = c .before .before .before .before .before .before .before in
     let w = c .before .before .before .before .loop in
-    let u = ap (λ x. scopeAt (now (s .args .words)) (x + 8 * w .read)) (c .before .before .before .before .before .scope-base .ensures) in
+    let u = ap (λ x. scopeAt (now (s .args .words)) (x + scopeSize * w .read)) (c .before .before .before .before .before .scope-base .ensures) in
     (λ A. first-miss _ _ _ _ _ (w .inv .0 A) (c .before .before .if1 .taken) u (c .before .is-entry .ensures A) (c .if2 .left), λ A. reads-miss _ _ _ _ _ (w .inv .1 A) (c .before .before .if1 .taken) u (c .before .is-entry .ensures A) (c .if2 .left), omega (arith, c .before .before .if1 .taken))
 
 returns-2 : tie.Need-returns-2 Inv-loop μ-loop

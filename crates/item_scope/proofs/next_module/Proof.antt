@@ -3,6 +3,7 @@ use Prim.Native.Nat.{ℕ, _+_, _-_, _*_}
 use mathlib.Core.Path.{ap}
 use mathlib.Core.List.{List}
 use native.Mathlib.Omega.{arith}
+use Rattle.snapshot.specs.Sizes.{scopeSize}
 use Rattle.snapshot.specs.Layouts.{scopeBase, snapOf}
 use Rattle.snapshot.specs.Records.{scopeAt}
 use Rattle.hir_def.specs.ItemScope.{isModuleEntry}
@@ -12,7 +13,7 @@ use Rattle.item_scope.proofs.next_module.Statement.{statement}
 use Rattle.item_scope.proofs.next_module.Tie as tie
 
 abbrev Inv-loop : tie.InvT-loop
-Inv-loop words l k m base j₀ j = (A : List ℕ) → Came (isModuleEntry (snapOf words A l) (m .0)) scopeAt 8 words (scopeBase l) (l .scopes) k j
+Inv-loop words l k m base j₀ j = (A : List ℕ) → Came (isModuleEntry (snapOf words A l) (m .0)) scopeAt scopeSize words (scopeBase l) (l .scopes) k j
 
 abbrev μ-loop : tie.MeasureT-loop
 μ-loop words l k m base j₀ j = l .scopes - j
@@ -37,7 +38,7 @@ unfolding NextOf
 returns c =
     λ A.
     let w = c .before .before .before .before .loop in
-    next-hit (w .inv A) (c .before .before .if1 .taken) (ap (λ b. b + 8 * w .j) (c .before .before .before .before .before .scope-base .ensures)) (c .before .is-module-entry .ensures A) (c .if2 .taken)
+    next-hit (w .inv A) (c .before .before .if1 .taken) (ap (λ b. b + scopeSize * w .j) (c .before .before .before .before .before .scope-base .ensures)) (c .before .is-module-entry .ensures A) (c .if2 .taken)
 
 add-j : tie.Need-add-j Inv-loop μ-loop
 add-j c = record { fits = omega (arith, c .before .before .if1 .taken, c .before .before .before .before .before .before .before .pre) }
@@ -49,7 +50,7 @@ loop-again : tie.Need-loop-again Inv-loop μ-loop
 loop-again c =
     λ A.
     let w = c .before .before .before .before .loop in
-    next-miss (w .inv A) (c .before .before .if1 .taken) (ap (λ b. b + 8 * w .j) (c .before .before .before .before .before .scope-base .ensures)) (c .before .is-module-entry .ensures A) (c .if2 .left)
+    next-miss (w .inv A) (c .before .before .if1 .taken) (ap (λ b. b + scopeSize * w .j) (c .before .before .before .before .before .scope-base .ensures)) (c .before .is-module-entry .ensures A) (c .if2 .left)
 
 returns-2 : tie.Need-returns-2 Inv-loop μ-loop
 unfolding NextOf

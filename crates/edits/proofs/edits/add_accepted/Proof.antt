@@ -4,6 +4,7 @@ use mathlib.Core.List.{_++_}
 use denote.Ref.{now}
 use lib.ListN.{length, take, replicate}
 use lib.Seq.{length-take-le}
+use Rattle.snapshot.specs.Sizes.{scopeSize}
 use Rattle.scope_edits.specs.Entries.{entryOf, inserted}
 use Rattle.edits.proofs.Laws.{record-long, added-not, added-head, added-fits, added-done}
 use borrow.Author.Needs.{needs}
@@ -84,7 +85,7 @@ returns-2 c =
     added-done W (s .args .count) (s .pre .0) _ (r .same) (entryOf (now (s .args .entry))) _ (f .add-fault .ensures (s .pre .1 .0) r) (i .insert .last .0) _ (e .if1 .left)
     (p .scopes-end .ensures)
     (i .insert .ensures
-    ∙ ap (λ y. inserted (p .scopes-end .result) y (take (s .args .count) W) ++ replicate (length W - (s .args .count + 8)) 0) (d .record-of .ensures))
+    ∙ ap (λ y. inserted (p .scopes-end .result) y (take (s .args .count) W) ++ replicate (length W - (s .args .count + scopeSize)) 0) (d .record-of .ensures))
 
 pub add-accepted-spec : {M : Type 1} → statement M
 add-accepted-spec =

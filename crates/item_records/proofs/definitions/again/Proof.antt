@@ -7,6 +7,7 @@ use native.Mathlib.Omega.{arith}
 use lib.Dec.{eqb}
 use lib.ListN.{getD}
 use Rattle.snapshot.specs.Lists.{rows, any}
+use Rattle.snapshot.specs.Sizes.{definitionSize}
 use Rattle.snapshot.specs.Layouts.{definitionBase}
 use Rattle.record_rules.specs.Stands.{sameBy}
 use Rattle.record_rules.proofs.Laws.{and-no, and-yes}
@@ -63,7 +64,7 @@ returns-3 : tie.Need-returns-3
 returns-3 c h =
     let s = c .before .before .before .before .before .before .before in
     and-yes (either _ (c .before .before .before .before .definition-kind .ensures) (c .before .before .before .if1 .left))
-    (c .repeated .ensures ∙ ap (λ m. any (sameBy (now (s .args .words)) true 1 (s .args .at)) (rows (λ j. m + 3 * j) 0 (s .args .l .definitions))) (c .before .definition-base .ensures))
+    (c .repeated .ensures ∙ ap (λ m. any (sameBy (now (s .args .words)) true 1 (s .args .at)) (rows (λ j. m + definitionSize * j) 0 (s .args .l .definitions))) (c .before .definition-base .ensures))
 
 pub again-spec : {M : Type 1} → statement M
 again-spec =

@@ -5,6 +5,7 @@ use mathlib.Core.List.{List}
 use native.Mathlib.Omega.{arith}
 use denote.Ref.{now}
 use Rattle.snapshot.specs.Lists.{rows, any}
+use Rattle.snapshot.specs.Sizes.{scopeSize}
 use Rattle.snapshot.specs.Layouts.{scopeBase, recordsOf, snapOf}
 use Rattle.snapshot.specs.Records.{scopeAt}
 use Rattle.snapshot.proofs.Laws.{rows-whole, any-hit, any-miss, any-none}
@@ -16,8 +17,8 @@ use Rattle.reach_parts.proofs.firsts.is_met.Tie as tie
 
 abbrev Inv-loop : tie.InvT-loop
 Inv-loop words l k base item j₀ j =
-    (A : List ℕ) → isMet (snapOf words A l) (recordsOf scopeAt 8 words (scopeBase l) k) (scopeAt words (scopeBase l + 8 * k))
-    ≡ any (λ d. sameItem (itemIn (snapOf words A l) d) (itemIn (snapOf words A l) (scopeAt words (scopeBase l + 8 * k)))) (rows (λ i. scopeAt words (scopeBase l + 8 * i)) j (k - j))
+    (A : List ℕ) → isMet (snapOf words A l) (recordsOf scopeAt scopeSize words (scopeBase l) k) (scopeAt words (scopeBase l + scopeSize * k))
+    ≡ any (λ d. sameItem (itemIn (snapOf words A l) d) (itemIn (snapOf words A l) (scopeAt words (scopeBase l + scopeSize * k)))) (rows (λ i. scopeAt words (scopeBase l + scopeSize * i)) j (k - j))
 
 abbrev μ-loop : tie.MeasureT-loop
 μ-loop words l k base item j₀ j = k - j

@@ -4,6 +4,7 @@ use mathlib.Core.List.{_++_}
 use native.Mathlib.Omega.{arith}
 use denote.Ref.{now}
 use lib.ListN.{length, take, drop, length-set}
+use Rattle.snapshot.specs.Sizes.{scopeSize}
 use Rattle.scope_edits.specs.Entries.{cut}
 use Rattle.scope_edits.proofs.Shifted.{down-start, down-next, down-end}
 use Rattle.scope_edits.proofs.moves.move_down.Statement.{statement}
@@ -11,7 +12,7 @@ use Rattle.scope_edits.proofs.moves.move_down.Tie as tie
 
 abbrev Inv-loop : tie.InvT-loop
 Inv-loop words₀ at count i₀ words i =
-    (at ≤ i) × (i + 8 ≤ count) × (length words ≡ length words₀) × (words ≡ take i (cut at 8 (take count words₀)) ++ drop i words₀)
+    (at ≤ i) × (i + scopeSize ≤ count) × (length words ≡ length words₀) × (words ≡ take i (cut at scopeSize (take count words₀)) ++ drop i words₀)
 
 abbrev μ-loop : tie.MeasureT-loop
 μ-loop words₀ at count i₀ words i = count - i

@@ -4,13 +4,14 @@ use mathlib.Core.List.{_++_}
 use native.Mathlib.Omega.{arith}
 use denote.Ref.{now}
 use lib.ListN.{length, take, drop, length-set}
+use Rattle.snapshot.specs.Sizes.{scopeSize}
 use Rattle.scope_edits.proofs.Shifted.{up-start, up-next}
 use Rattle.scope_edits.proofs.moves.move_up.Statement.{statement}
 use Rattle.scope_edits.proofs.moves.move_up.Tie as tie
 
 abbrev Inv-loop : tie.InvT-loop
 Inv-loop words₀ at count i₀ words i =
-    (at ≤ i) × (i ≤ count) × (length words ≡ length words₀) × (words ≡ take (i + 8) words₀ ++ (drop i (take count words₀) ++ drop (count + 8) words₀))
+    (at ≤ i) × (i ≤ count) × (length words ≡ length words₀) × (words ≡ take (i + scopeSize) words₀ ++ (drop i (take count words₀) ++ drop (count + scopeSize) words₀))
 
 abbrev μ-loop : tie.MeasureT-loop
 μ-loop words₀ at count i₀ words i = i
@@ -49,7 +50,7 @@ loop-again c =
       omega arith,
       omega arith,
       (simp length-set) ∙ k .2,
-      up-next (now (s .args .words)) (l .words) (drop (s .args .count + 8) (now (s .args .words))) (s .args .count) (l .i) (l .i - 1) (omega arith) (k .1) (p .1) (k .3),
+      up-next (now (s .args .words)) (l .words) (drop (s .args .count + scopeSize) (now (s .args .words))) (s .args .count) (l .i) (l .i - 1) (omega arith) (k .1) (p .1) (k .3),
     )
 
 same-length : tie.Need-same-length Inv-loop μ-loop
@@ -61,7 +62,7 @@ returns c =
     let s = c .before .before in
     let k = l .inv in
     let e : l .i ≡ s .args .at = let t = c .loop-test .left in let a = k .0 in omega arith in
-    k .3 ∙ ap (λ i. take (i + 8) (now (s .args .words)) ++ (drop i (take (s .args .count) (now (s .args .words))) ++ drop (s .args .count + 8) (now (s .args .words)))) e
+    k .3 ∙ ap (λ i. take (i + scopeSize) (now (s .args .words)) ++ (drop i (take (s .args .count) (now (s .args .words))) ++ drop (s .args .count + scopeSize) (now (s .args .words)))) e
 
 pub move-up-spec : {M : Type 1} → statement M
 move-up-spec =

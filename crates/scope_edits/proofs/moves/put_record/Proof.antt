@@ -4,15 +4,16 @@ use native.Mathlib.Omega.{arith}
 use denote.Ref.{now}
 use lib.ListN.{length, length-set}
 use lib.Seq.{paste, paste-zero}
+use Rattle.snapshot.specs.Sizes.{scopeSize}
 use Rattle.scope_edits.proofs.Shifted.{put-next, put-end}
 use Rattle.scope_edits.proofs.moves.put_record.Statement.{statement}
 use Rattle.scope_edits.proofs.moves.put_record.Tie as tie
 
 abbrev Inv-loop : tie.InvT-loop
-Inv-loop words₀ at added i₀ words i = (i ≤ 8) × (length words ≡ length words₀) × (words ≡ paste words₀ at added i)
+Inv-loop words₀ at added i₀ words i = (i ≤ scopeSize) × (length words ≡ length words₀) × (words ≡ paste words₀ at added i)
 
 abbrev μ-loop : tie.MeasureT-loop
-μ-loop words₀ at added i₀ words i = 8 - i
+μ-loop words₀ at added i₀ words i = scopeSize - i
 
 loop-holds : tie.Need-loop-holds Inv-loop μ-loop
 loop-holds c = (omega arith, refl, paste-zero (now (c .args .words)) (c .args .at) (now (c .args .added)))

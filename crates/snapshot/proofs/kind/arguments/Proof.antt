@@ -1,6 +1,7 @@
 use borrow.Author.Needs.{needs}
 use mathlib.Core.Path.{ap, sym, _∙_}
-use Rattle.reading.specs.Words.{wordsOf, argumentTable}
+use Rattle.reading.specs.Words.{wordsOf}
+use Rattle.snapshot.specs.Sizes.{argumentTable}
 use lib.ListN.{getD}
 use Rattle.snapshot.proofs.Laws.{arguments-name, arguments-fixed}
 use Rattle.snapshot.proofs.kind.arguments.Statement.{statement}

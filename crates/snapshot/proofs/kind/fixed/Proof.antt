@@ -1,6 +1,6 @@
 use borrow.Author.Needs.{needs}
+use Rattle.snapshot.specs.Sizes.{argumentTable}
 use Rattle.snapshot.proofs.Laws.{past}
-use Rattle.reading.specs.Words.{argumentTable}
 use Rattle.snapshot.proofs.kind.fixed.Statement.{statement}
 use Rattle.snapshot.proofs.kind.fixed.Tie as tie
 
