@@ -10,9 +10,10 @@ use lib.Seq.{ext-getD}
 use lib.Dec.{eqb, leb}
 use borrow.Author.Tests.{eqb-true, eqb-false, leb-true, leb-false, lt-leb, not-true}
 use Rattle.snapshot.specs.Lists.{rows, any, all}
+use Rattle.snapshot.specs.Limits.{wordLimit, moduleLimit}
 use Rattle.snapshot.specs.Sizes.{crateSize, dependencySize, childSize, preludeSize, definitionSize, scopeSize, importSize, externSize, memberSize}
 use Rattle.snapshot.specs.Records.{Map, mapAt, crateAt, dependencyAt, childAt, preludeAt, definitionAt, scopeAt, importAt, externAt, memberAt}
-use Rattle.snapshot.specs.Layouts.{crateBase, dependencyBase, childBase, preludeBase, definitionBase, scopeBase, importBase, externBase, memberBase, moduleMap, moduleHead, mapRoot, ownMap, moduleRow, namesOf, mapsOf, modulesOf, recordsOf, snapWith, snapOf}
+use Rattle.snapshot.specs.Layouts.{crateBase, dependencyBase, childBase, preludeBase, definitionBase, scopeBase, importBase, externBase, memberBase, moduleMap, moduleHead, mapRoot, ownMap, moduleRow, namesOf, mapsOf, modulesOf, recordsOf, snapWith, snapOf, moduleTable, rootTable}
 use Rattle.snapshot.specs.declared.layout.Layout.{Layout}
 use Rattle.snapshot.proofs.Laws.{length-rows, getD-rows}
 use Rattle.record_rules.specs.Tests.{noMap, isOwn, isIn, mapsFilled, cratesOwn}
@@ -123,7 +124,7 @@ module _ (W A : List ℕ) (k : ℕ) (l : Layout) (ms : List Map) (st : Stands W 
     pub maps-few : l .maps ≤ l .modules
     maps-few = few-maps (moduleMap A) (l .modules) (l .maps) (st .rising) met (st .below)
 
-    pub map-small : (m : ℕ) → m < l .modules → moduleMap A m < 512
+    pub map-small : (m : ℕ) → m < l .modules → moduleMap A m < moduleLimit
     map-small m h = let p = maps-few in let q = st .below m h in let r = st .limited .modules in omega arith
 
     -- B is the area with the roots
@@ -134,11 +135,11 @@ module _ (W A : List ℕ) (k : ℕ) (l : Layout) (ms : List Map) (st : Stands W 
           let e = x .2 in
           (subst (λ t. mapRoot B t < l .modules) e (r .below (x .0) (x .1)), subst (λ t. moduleMap A (mapRoot B t) ≡ t) e (r .inside (x .0) (x .1)))
 
-      kept : Kept A B 0 3584
+      kept : Kept A B 0 rootTable
       kept i p q = r .names i q
 
       map-stays : (m : ℕ) → m < l .modules → moduleMap B m ≡ moduleMap A m
-      map-stays m h = let q = st .limited .modules in r .names (2048 + 3 * m) (omega arith)
+      map-stays m h = let q = st .limited .modules in r .names (moduleTable + 3 * m) (omega arith)
 
       maps-same : mapsOf W B (l .maps) ≡ ms
       maps-same =
@@ -149,7 +150,7 @@ module _ (W A : List ℕ) (k : ℕ) (l : Layout) (ms : List Map) (st : Stands W 
           let y = x .0 in
           let q = st .limited .modules in
           getD-rows (λ k. mapAt W (moduleHead B (mapRoot B k))) noMap (l .maps) j g
-          ∙ ap (mapAt W) (r .names (2048 + 3 * mapRoot B j + 1) (omega arith))
+          ∙ ap (mapAt W) (r .names (moduleTable + 3 * mapRoot B j + 1) (omega arith))
           ∙ sym (st .inside (mapRoot B j) (x .0))
           ∙ ap (λ k. getD ms k noMap) (x .1))
 
@@ -173,7 +174,7 @@ module _ (W A : List ℕ) (k : ℕ) (l : Layout) (ms : List Map) (st : Stands W 
             members = recordsOf memberAt memberSize W (memberBase l) (l .members);
           }
 
-      pub accepted : length W ≤ 16384 → verdict W ≡ finish (length W) (snapWith W A l ms) → all (λ c. not (eqb (ownMap A c) 0)) (rows (λ c. c) 0 (l .crates)) ≡ true
+      pub accepted : length W ≤ wordLimit → verdict W ≡ finish (length W) (snapWith W A l ms) → all (λ c. not (eqb (ownMap A c) 0)) (rows (λ c. c) 0 (l .crates)) ≡ true
           → Judged W B (Accepted l)
       unfolding finish
       accepted short v owned =
@@ -190,7 +191,7 @@ module _ (W A : List ℕ) (k : ℕ) (l : Layout) (ms : List Map) (st : Stands W 
                   mapped = λ m h.
                       (let q = st .limited .modules in
                       ap (λ x. getD x (moduleMap B m) noMap) maps-same ∙ ap (λ k. getD ms k noMap) (map-stays m h) ∙ st .inside m h
-                      ∙ ap (mapAt W) (sym (r .names (2048 + 3 * m + 1) (omega arith))));
+                      ∙ ap (mapAt W) (sym (r .names (moduleTable + 3 * m + 1) (omega arith))));
                   rooted = λ j h. rooted j h .0;
                   inside = λ j h. map-stays (mapRoot B j) (rooted j h .0) ∙ rooted j h .1;
                   first = λ m h. rw (map-stays m h) (r .first m h);
@@ -202,7 +203,7 @@ module _ (W A : List ℕ) (k : ℕ) (l : Layout) (ms : List Map) (st : Stands W 
                 };
           }
 
-pub too-long : (W A : List ℕ) → 16384 < length W → Judged W A (Refused 30 16384)
+pub too-long : (W A : List ℕ) → wordLimit < length W → Judged W A (Refused 30 wordLimit)
 unfolding verdict
 too-long W A h = record { same = sym (rw (verdict, lt-leb _ _ h)); tables = tt }
 

@@ -5,10 +5,12 @@ use mathlib.Core.List.{List, []}
 use native.Mathlib.Omega.{arith}
 use lib.ListN.{length, getD}
 use borrow.Author.Tests.{lt-ltb, le-ltb, le-leb}
+use Rattle.chains.specs.Chains.{marksEnd}
 use Rattle.snapshot.specs.Lists.{rows}
+use Rattle.snapshot.specs.Limits.{wordLimit, areaLimit}
 use Rattle.snapshot.specs.Words.{kindOf, argumentsAt}
 use Rattle.snapshot.specs.Records.{Map, Snapshot}
-use Rattle.snapshot.specs.Layouts.{noRecords, snapWith}
+use Rattle.snapshot.specs.Layouts.{noRecords, snapWith, tableWords}
 use Rattle.snapshot.specs.declared.layout.Layout.{Layout}
 use Rattle.record_rules.specs.Steps.{no, on}
 use Rattle.accept.specs.Verdict.{stepAt, refuse, finish, records, verdict}
@@ -44,7 +46,7 @@ pub record Going (W A : List ℕ) (at last : ℕ) (l : Layout) : Type 0 where
   pub enough : length W ≤ fuel + at
   pub same : verdict W ≡ records fuel W at last (snapWith W A l maps)
 
-stands-start : (W A : List ℕ) → ((i : ℕ) → 4160 ≤ i → i < 6336 → getD A i 0 ≡ 0) → Stands W A 0 0 noRecords []
+stands-start : (W A : List ℕ) → ((i : ℕ) → tableWords ≤ i → i < marksEnd → getD A i 0 ≡ 0) → Stands W A 0 0 noRecords []
 unfolding rows
 stands-start W A z =
     record {
@@ -75,14 +77,14 @@ stands-start W A z =
       index = indexes-none W A z;
     }
 
-going-none : (W A : List ℕ) → length W ≤ 16384 → ((i : ℕ) → 4160 ≤ i → i < 6336 → getD A i 0 ≡ 0) → Going W A 0 0 noRecords
+going-none : (W A : List ℕ) → length W ≤ wordLimit → ((i : ℕ) → tableWords ≤ i → i < marksEnd → getD A i 0 ≡ 0) → Going W A 0 0 noRecords
 unfolding verdict rows
 going-none W A h z = record { maps = []; stands = stands-start W A z; fuel = length W; enough = omega arith; same = rw (verdict, le-leb _ _ h) }
 
-pub going-start : (W A : List ℕ) {l : Layout} → length W ≤ 16384 → ((i : ℕ) → 4160 ≤ i → i < 6336 → getD A i 0 ≡ 0) → l ≡ noRecords → Going W A 0 0 l
+pub going-start : (W A : List ℕ) {l : Layout} → length W ≤ wordLimit → ((i : ℕ) → tableWords ≤ i → i < marksEnd → getD A i 0 ≡ 0) → l ≡ noRecords → Going W A 0 0 l
 going-start W A h z e = subst (λ l. Going W A 0 0 l) (sym e) (going-none W A h z)
 
-pub going-here : (W A : List ℕ) (at last : ℕ) (l : Layout) → Going W A at last l → at < length W → length W ≤ 16384 → 16384 ≤ length A → Here W A l at
+pub going-here : (W A : List ℕ) (at last : ℕ) (l : Layout) → Going W A at last l → at < length W → length W ≤ wordLimit → areaLimit ≤ length A → Here W A l at
 going-here W A at last l g h s r = record { place = g .stands .place; here = h; short = s; room = r; limited = g .stands .limited; index = g .stands .index }
 
 -- r is what a turn answered, B the area after it

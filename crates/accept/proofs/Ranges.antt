@@ -7,7 +7,7 @@ use mathlib.Core.Bool.{Bool, true, false, _&&_, _||_, not}
 use lib.Dec.{eqb, ltb, leb}
 use lib.ListN.{length}
 use borrow.Author.Tests.{eqb-true, eq-eqb, ne-eqb, ltb-true, leb-true}
-use Rattle.snapshot.specs.Limits.{wordLimit}
+use Rattle.snapshot.specs.Limits.{wordLimit, crateLimit, moduleLimit, nameLimit, definitionLimit, namespaceLimit}
 use Rattle.snapshot.specs.Records.{Name, Crate, Dependency, Map, Module, Child, Prelude, Definition, Scope, Import, Extern, Member, Snapshot}
 use Rattle.record_rules.specs.Tests.{Counts, countsOf, padded, nameRange, crateRange, isEdition, dependencyRange, dependencyDefined, mapRange, mapDefined, moduleDefined, childDefined, preludeDefined, definitionDefined, scopeRange, scopeDefined, importRange, importDefined, externDefined, memberRange, memberDefined}
 use Rattle.record_rules.specs.Steps.{addName, addCrate, addDependency, addMap, addModule, addChild, addPrelude, addDefinition, addScope, addImport, addExtern, addMember}
@@ -91,13 +91,13 @@ module _ (n : Counts) where
 
   pub scope-fits : (y : Scope) → y .place < wordLimit → scopeRange y ≡ true → scopeDefined n y ≡ true → ScopeFits n y
   scope-fits y i r e =
-      let p = and-five (leb (y .ns) 2) (leb (y .visibility) 3) (not (eqb (y .visibility) 0) || eqb (y .number) 0) (leb (y .declared) 3) (leb (y .bits) 3) r in
+      let p = and-five (leb (y .ns) namespaceLimit) (leb (y .visibility) 3) (not (eqb (y .visibility) 0) || eqb (y .number) 0) (leb (y .declared) 3) (leb (y .bits) 3) r in
       let q =
       and-five (ltb (y .owner) (n .modules)) (ltb (y .name) (n .names)) (ltb (y .definition) (n .definitions))
       (not (eqb (y .visibility) 1) || ltb (y .number) (n .crates)) (leb (y .visibility) 1 || ltb (y .number) (n .modules)) e in
       record {
         owner = ltb-true (y .owner) (n .modules) (q .0);
-        ns = leb-true (y .ns) 2 (p .0);
+        ns = leb-true (y .ns) namespaceLimit (p .0);
         name = ltb-true (y .name) (n .names) (q .1);
         definition = ltb-true (y .definition) (n .definitions) (q .2);
         visibility = leb-true (y .visibility) 3 (p .1);
@@ -115,13 +115,13 @@ module _ (n : Counts) where
 
   import-fits : (y : Import) → y .place < wordLimit → importRange y ≡ true → importDefined n y ≡ true → ImportFits n y
   import-fits y i r e =
-      let p = and-two (leb (y .ns) 2) (leb (y .bits) 3) r in
+      let p = and-two (leb (y .ns) namespaceLimit) (leb (y .bits) 3) r in
       let q =
       and-four (ltb (y .owner) (n .crates)) (ltb (y .definition) (n .definitions)) (ltb (y .name) (n .names))
       (ltb (y .container) (n .modules)) e in
       record {
         owner = ltb-true (y .owner) (n .crates) (q .0);
-        ns = leb-true (y .ns) 2 (p .0);
+        ns = leb-true (y .ns) namespaceLimit (p .0);
         definition = ltb-true (y .definition) (n .definitions) (q .1);
         name = ltb-true (y .name) (n .names) (q .2);
         container = ltb-true (y .container) (n .modules) (q .3);
@@ -346,14 +346,14 @@ one-more l y n e = let q = length-snoc l y in let h = ltb-true (length l) n e in
 limits-kept : {W : List ℕ} → Keeps W Limited
 limits-kept =
     record {
-      names = λ s y p h. record { names = one-more (s .names) y 2048 (p .roomy); crates = h .crates; modules = h .modules; definitions = h .definitions };
-      crates = λ s y p h. record { names = h .names; crates = one-more (s .crates) y 64 (p .room); modules = h .modules; definitions = h .definitions };
+      names = λ s y p h. record { names = one-more (s .names) y nameLimit (p .roomy); crates = h .crates; modules = h .modules; definitions = h .definitions };
+      crates = λ s y p h. record { names = h .names; crates = one-more (s .crates) y crateLimit (p .room); modules = h .modules; definitions = h .definitions };
       dependencies = λ s y p h. h;
       maps = λ s y p h. record { names = h .names; crates = h .crates; modules = h .modules; definitions = h .definitions };
-      modules = λ s y p h. record { names = h .names; crates = h .crates; modules = one-more (s .modules) y 512 (p .roomy); definitions = h .definitions };
+      modules = λ s y p h. record { names = h .names; crates = h .crates; modules = one-more (s .modules) y moduleLimit (p .roomy); definitions = h .definitions };
       children = λ s y p h. h;
       preludes = λ s y p h. h;
-      definitions = λ s y o p h. record { names = h .names; crates = h .crates; modules = h .modules; definitions = one-more (s .definitions) y 2048 (p .roomy) };
+      definitions = λ s y o p h. record { names = h .names; crates = h .crates; modules = h .modules; definitions = one-more (s .definitions) y definitionLimit (p .roomy) };
       scopes = λ s y o p h. h;
       imports = λ s y o p h. h;
       externs = λ s y o p h. h;

@@ -5,7 +5,7 @@ use mathlib.Core.List.{List}
 use mathlib.Core.Bool.{true, false}
 use lib.Dec.{ltb}
 use lib.ListN.{length, getD, drop}
-use Rattle.snapshot.specs.Limits.{areaLimit}
+use Rattle.snapshot.specs.Limits.{areaLimit, wordLimit}
 use Rattle.snapshot.specs.Words.{payOf, wordsOf}
 use Rattle.snapshot.specs.Records.{mapAt}
 use Rattle.snapshot.specs.Layouts.{wordCount, nameHead, moduleMap, moduleHead, mapRoot, ownMap, mapsOf, snapOf}
@@ -19,7 +19,7 @@ use Rattle.accept.specs.declared.check.Checked.the-variants.{Refused, Ac
 -- the layout and the tables of accepted words: everything lies within the words, and the tables say what the lists say
 pub record Tables (W A : List ℕ) (l : Layout) : Type 0 where
   pub whole : wordCount l ≡ length W
-  pub short : length W ≤ 16384
+  pub short : length W ≤ wordLimit
   pub limited : Limited l
   -- no map is empty
   pub maps : l .maps ≤ l .modules
@@ -65,5 +65,5 @@ pub record Judged (W A : List ℕ) (r : Checked) : Type 0 where
 pub record Checks (W A₀ A : List ℕ) (r : Checked) : Type 0 where
   pub same : outcome W A r ≡ checkOf (length A₀) W
   pub tables : Readable W A r
-  pub rest : drop 16384 A ≡ drop 16384 A₀
-  pub untouched : length A₀ < 16384 → A ≡ A₀
+  pub rest : drop areaLimit A ≡ drop areaLimit A₀
+  pub untouched : length A₀ < areaLimit → A ≡ A₀

@@ -4,7 +4,7 @@ use mathlib.Core.Path.{_≡_}
 use mathlib.Core.List.{List, [], _∷_}
 use mathlib.Core.Bool.{Bool, true, false}
 use lib.ListN.{length, getD}
-use Rattle.snapshot.specs.Limits.{wordLimit}
+use Rattle.snapshot.specs.Limits.{wordLimit, crateLimit, moduleLimit, nameLimit, definitionLimit, namespaceLimit}
 use Rattle.snapshot.specs.Words.{kindOf}
 use Rattle.snapshot.specs.Records.{Name, Crate, Dependency, Map, Module, Child, Prelude, Definition, Scope, Import, Extern, Member, Snapshot, definitionAt, scopeAt, importAt, externAt}
 use Rattle.record_rules.specs.Tests.{Counts, countsOf, noName, noMap, noModule, noDefinition, isEdition, sameName, sameChild, samePrelude, sameEntry, sameExtern}
@@ -57,7 +57,7 @@ pub record DefinitionFits (n : Counts) (x : Definition) : Type 0 where
 
 pub record ScopeFits (n : Counts) (x : Scope) : Type 0 where
   pub owner : x .owner < n .modules
-  pub ns : x .ns ≤ 2
+  pub ns : x .ns ≤ namespaceLimit
   pub name : x .name < n .names
   pub definition : x .definition < n .definitions
   pub visibility : x .visibility ≤ 3
@@ -70,7 +70,7 @@ pub record ScopeFits (n : Counts) (x : Scope) : Type 0 where
 
 pub record ImportFits (n : Counts) (x : Import) : Type 0 where
   pub owner : x .owner < n .crates
-  pub ns : x .ns ≤ 2
+  pub ns : x .ns ≤ namespaceLimit
   pub definition : x .definition < n .definitions
   pub name : x .name < n .names
   pub container : x .container < n .modules
@@ -119,10 +119,10 @@ pub record Placed (W : List ℕ) (s : Snapshot) : Type 0 where
 
 -- the limits of document 01
 pub record Limits (n : Counts) : Type 0 where
-  pub names : n .names ≤ 2048
-  pub crates : n .crates ≤ 64
-  pub modules : n .modules ≤ 512
-  pub definitions : n .definitions ≤ 2048
+  pub names : n .names ≤ nameLimit
+  pub crates : n .crates ≤ crateLimit
+  pub modules : n .modules ≤ moduleLimit
+  pub definitions : n .definitions ≤ definitionLimit
 
 -- of the records numbered m, k and d
 

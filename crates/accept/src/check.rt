@@ -1,6 +1,7 @@
 //! The check of all the words.
 ghost use Prim.Native.Nat.{_≤_};
 ghost use lib.ListN.{length};
+ghost use Rattle.snapshot.specs.Limits.{wordLimit, areaLimit};
 ghost use Rattle.accept.specs.Post.{Judged, Checks};
 ghost use Rattle.accept.specs.Ends.{Ended};
 use crate::finish::crates_own;
@@ -23,7 +24,7 @@ pub enum Checked {
 
 // The records one after the other.
 fn read_records(words: &[u32], area: &mut [u32]) -> Checked
-    requires { ⌜ (length (now words) ≤ 16384) × (16384 ≤ length (now area)) ⌝ }
+    requires { ⌜ (length (now words) ≤ wordLimit) × (areaLimit ≤ length (now area)) ⌝ }
     ensures { λ r. ⌜ Ended (now (words .entry)) (now (area .exit)) r ⌝ }
 {
     clear(area, Chains::HEADS, Chains::MARKS_END);
@@ -48,7 +49,7 @@ fn read_records(words: &[u32], area: &mut [u32]) -> Checked
 
 // The check in an area that is large enough.
 fn check_within(words: &[u32], area: &mut [u32]) -> Checked
-    requires { ⌜ 16384 ≤ length (now area) ⌝ }
+    requires { ⌜ areaLimit ≤ length (now area) ⌝ }
     ensures { λ r. ⌜ Judged (now (words .entry)) (now (area .exit)) r ⌝ }
 {
     if WordCount::SNAPSHOT < words.len() {
@@ -75,5 +76,5 @@ pub fn check(words: &[u32], area: &mut [u32]) -> Checked
     if area.len() < WordCount::AREA {
         return Checked::Refused(20, 0);
     }
-    check_within(words, &mut area[..16384])
+    check_within(words, &mut area[..WordCount::AREA])
 }

@@ -5,6 +5,7 @@ ghost use Prim.Native.Nat.{ℕ, _≤_, _<_, _^_};
 ghost use lib.ListN.{length};
 ghost use lib.Dec.{eqb};
 ghost use Rattle.snapshot.specs.Lists.{rows, any, all};
+ghost use Rattle.snapshot.specs.Limits.{crateLimit, moduleLimit, areaLimit};
 ghost use Rattle.snapshot.specs.Layouts.{modulesOf, moduleMap, ownMap};
 ghost use Rattle.record_rules.specs.Tests.{isIn};
 ghost use Rattle.record_rules.specs.Stands.{Rooted};
@@ -17,7 +18,7 @@ use snapshot::table::own_map;
 
 /// Whether every map has a module.
 pub fn maps_filled(area: &[u32], maps: usize, modules: usize) -> bool
-    requires { ⌜ (maps < 2 ^ 32) × (modules ≤ 512) ⌝ }
+    requires { ⌜ (maps < 2 ^ 32) × (modules ≤ moduleLimit) ⌝ }
     ensures { λ r. ⌜ r ≡ all (λ k. any (isIn k) (modulesOf (now (area .entry)) modules)) (rows (λ k. k) 0 maps) ⌝ }
 {
     let mut k = 0;
@@ -32,7 +33,7 @@ pub fn maps_filled(area: &[u32], maps: usize, modules: usize) -> bool
 
 /// Whether every crate has an own map.
 pub fn crates_own(area: &[u32], crates: usize) -> bool
-    requires { ⌜ crates ≤ 64 ⌝ }
+    requires { ⌜ crates ≤ crateLimit ⌝ }
     ensures { λ r. ⌜ r ≡ all (λ c. not (eqb (ownMap (now (area .entry)) c) 0)) (rows (λ c. c) 0 crates) ⌝ }
 {
     let mut c = 0;
@@ -47,8 +48,8 @@ pub fn crates_own(area: &[u32], crates: usize) -> bool
 
 /// Writes each map's first module, the last module first.
 pub fn fill_roots(area: &mut [u32], modules: usize)
-    requires { ⌜ (16384 ≤ length (now area)) × (modules ≤ 512) ⌝ }
-    requires { ⌜ ((m : ℕ) → m < modules → moduleMap (now area) m < 512) ⌝ }
+    requires { ⌜ (areaLimit ≤ length (now area)) × (modules ≤ moduleLimit) ⌝ }
+    requires { ⌜ ((m : ℕ) → m < modules → moduleMap (now area) m < moduleLimit) ⌝ }
     ensures { λ _. ⌜ Rooted (now (area .entry)) (now (area .exit)) modules ⌝ }
 {
     let mut m = modules;

@@ -6,6 +6,7 @@ use native.Mathlib.Omega.{arith}
 use borrow.Author.Tests.{lt-ltb, le-ltb}
 use borrow.Author.Fill.{fill-more}
 use lib.ListN.{length, set, drop, replicate, drop-of-length-le}
+use Rattle.snapshot.specs.Limits.{areaLimit}
 use Rattle.find_path.specs.declared.Question.{Question}
 use Rattle.find_path.specs.declared.Report.{Report}
 use Rattle.find_path.specs.Report.{callFault, refused, reportOf}
@@ -25,29 +26,29 @@ clear-done A B i e h k =
 
 -- an entry point
 
-pub area-small : (A : List ℕ) → length A < 16384 → A ≡ areaAfter A
+pub area-small : (A : List ℕ) → length A < areaLimit → A ≡ areaAfter A
 unfolding areaAfter
 area-small A h = sym (rw (areaAfter, lt-ltb _ _ h))
 
-pub area-large : (A B : List ℕ) → 16384 ≤ length A → B ≡ zeros 16384 → B ++ drop 16384 A ≡ areaAfter A
+pub area-large : (A B : List ℕ) → areaLimit ≤ length A → B ≡ zeros areaLimit → B ++ drop areaLimit A ≡ areaAfter A
 unfolding areaAfter
-area-large A B h z = ap (λ x. x ++ drop 16384 A) z ∙ sym (rw (areaAfter, le-ltb _ _ h))
+area-large A B h z = ap (λ x. x ++ drop areaLimit A) z ∙ sym (rw (areaAfter, le-ltb _ _ h))
 
 module _ (W A : List ℕ) (q : Question) (r : Report) where
-  pub answers-small : length A < 16384 → r ≡ refused 20 → Answers W A q A r
+  pub answers-small : length A < areaLimit → r ≡ refused 20 → Answers W A q A r
   answers-small h e =
       record {
         report = report-fault W (length A) q r 20 (small (length A) (q .query) (q .fuel) h) (λ z. omega arith) e;
         area = area-small A h;
       }
 
-  pub answers-large : (B : List ℕ) → 16384 ≤ length A → r ≡ reportOf W 16384 q → B ≡ zeros 16384 → Answers W A q (B ++ drop 16384 A) r
+  pub answers-large : (B : List ℕ) → areaLimit ≤ length A → r ≡ reportOf W areaLimit q → B ≡ zeros areaLimit → Answers W A q (B ++ drop areaLimit A) r
   answers-large B h e z =
       record {
-        report = e ∙ same-report W 16384 (length A) q (omega arith) h;
+        report = e ∙ same-report W areaLimit (length A) q (omega arith) h;
         area = area-large A B h z;
       }
 
-  pub answers-fault : (B : List ℕ) → 16384 ≤ length A → B ≡ zeros 16384 → (n : ℕ) → n ≡ callFault (length A) (q .query) (q .fuel) → (n ≡ 0 → ⊥)
-      → r ≡ refused n → Answers W A q (B ++ drop 16384 A) r
+  pub answers-fault : (B : List ℕ) → areaLimit ≤ length A → B ≡ zeros areaLimit → (n : ℕ) → n ≡ callFault (length A) (q .query) (q .fuel) → (n ≡ 0 → ⊥)
+      → r ≡ refused n → Answers W A q (B ++ drop areaLimit A) r
   answers-fault B h z n e k p = record { report = report-fault W (length A) q r n e k p; area = area-large A B h z }

@@ -5,6 +5,7 @@ use mathlib.Core.List.{List, _++_}
 use native.Mathlib.Omega.{arith}
 use borrow.Author.Tests.{lt-ltb, le-ltb}
 use lib.ListN.{length, drop}
+use Rattle.snapshot.specs.Limits.{areaLimit, lineLimit}
 use Rattle.snapshot.specs.Records.{Snapshot}
 use Rattle.accept.specs.Verdict.{verdict}
 use Rattle.printing.specs.Output.{Put}
@@ -18,7 +19,7 @@ use Rattle.answer.specs.Lined.{endedLine, Lined}
 use Rattle.answer.proofs.Areas.{answers-small, answers-large}
 
 module _ (W A : List ℕ) (q : Question) (old : List ℕ) where
-  pub lined-none : (B : List ℕ) → length old < 4166 → B ≡ areaAfter A → Lined W A q old B old 0
+  pub lined-none : (B : List ℕ) → length old < lineLimit → B ≡ areaAfter A → Lined W A q old B old 0
   unfolding endedLine
   lined-none B h e =
       record {
@@ -27,7 +28,7 @@ module _ (W A : List ℕ) (q : Question) (old : List ℕ) where
         area = e;
       }
 
-  module _ (room : 4166 ≤ length old) (new : List ℕ) (n : ℕ) where
+  module _ (room : lineLimit ≤ length old) (new : List ℕ) (n : ℕ) where
     -- the line of a report that is the answer's
     lined : (B : List ℕ) (r : Report) → Answers W A q B r → Put old 0 (lineIn (snapshotOf (verdict W)) (q .query .from) r ++ bytesOf "\n") new n
         → Lined W A q old B new n
@@ -43,10 +44,10 @@ module _ (W A : List ℕ) (q : Question) (old : List ℕ) where
           area = a .area;
         }
 
-    pub lined-small : length A < 16384 → ((s : Snapshot) (from : ℕ) → Put old 0 (lineIn s from (refused 20) ++ bytesOf "\n") new n) → Lined W A q old A new n
+    pub lined-small : length A < areaLimit → ((s : Snapshot) (from : ℕ) → Put old 0 (lineIn s from (refused 20) ++ bytesOf "\n") new n) → Lined W A q old A new n
     lined-small h p = lined A (refused 20) (answers-small W A q (refused 20) h refl) (p (snapshotOf (verdict W)) (q .query .from))
 
-    pub lined-large : (B : List ℕ) → 16384 ≤ length A → B ≡ zeros 16384 → Put old 0 (lineOf W q ++ bytesOf "\n") new n
-        → Lined W A q old (B ++ drop 16384 A) new n
+    pub lined-large : (B : List ℕ) → areaLimit ≤ length A → B ≡ zeros areaLimit → Put old 0 (lineOf W q ++ bytesOf "\n") new n
+        → Lined W A q old (B ++ drop areaLimit A) new n
     unfolding lineOf
-    lined-large B h z p = lined (B ++ drop 16384 A) (reportOf W 16384 q) (answers-large W A q (reportOf W 16384 q) B h refl z) p
+    lined-large B h z p = lined (B ++ drop areaLimit A) (reportOf W areaLimit q) (answers-large W A q (reportOf W areaLimit q) B h refl z) p

@@ -5,6 +5,7 @@ use mathlib.Core.List.{List}
 use native.Mathlib.Omega.{arith}
 use native.Mathlib.Decide.{decLe}
 use lib.ListN.{length}
+use Rattle.snapshot.specs.Limits.{fuelLimit, areaLimit}
 use Rattle.find_path.specs.declared.Query.{Query}
 use Rattle.find_path.specs.declared.Question.{Question}
 use Rattle.find_path.specs.declared.Report.{Report}
@@ -22,21 +23,21 @@ module _ (W : List ℕ) (n : ℕ) (q : Question) where
   refused-two k = refl
 
   -- a report that is no refusal had a work area that serves, and fuel within the limit
-  serves : (IsRefused (reportOf W n q) → ⊥) → 16384 ≤ n
-  serves h = elim (decLe 16384 n) [
+  serves : (IsRefused (reportOf W n q) → ⊥) → areaLimit ≤ n
+  serves h = elim (decLe areaLimit n) [
     | yes p ↦ p
     | no p ↦ absurd (h (subst (λ (r : Report). IsRefused r)
         (report-fault W n q (refused 20) 20 (small n (q .query) (q .fuel) (omega arith)) (λ z. omega arith) refl) (refused-two 20)))
   ]
 
-  fuelled : (IsRefused (reportOf W n q) → ⊥) → q .fuel ≤ 10000
-  fuelled h = elim (decLe (q .fuel) 10000) [
+  fuelled : (IsRefused (reportOf W n q) → ⊥) → q .fuel ≤ fuelLimit
+  fuelled h = elim (decLe (q .fuel) fuelLimit) [
     | yes p ↦ p
     | no p ↦ absurd (h (subst (λ (r : Report). IsRefused r)
         (report-fault W n q (refused 21) 21 (much n (q .query) (q .fuel) (serves h) (omega arith)) (λ z. omega arith) refl) (refused-two 21)))
   ]
 
-told-of : (W : List ℕ) (q : Query) (F G : ℕ) (r s : Report) → Compared W 16384 q F G → r ≡ reportAt W 16384 q F → s ≡ reportAt W 16384 q G
+told-of : (W : List ℕ) (q : Query) (F G : ℕ) (r s : Report) → Compared W areaLimit q F G → r ≡ reportAt W areaLimit q F → s ≡ reportAt W areaLimit q G
     → FuelsTold W q F G r s
 told-of W q F G r s c e f = rw (e, f) (record { snapshot = c .snapshot; accepted = c .accepted; equal = c .equal; smaller = c .smaller; larger = c .larger })
 
@@ -47,11 +48,11 @@ told W a b q F G r s e f lt hr hs =
     let P : Question = record { query = q; fuel = G } in
     let ha : (IsRefused (reportOf W a Q) → ⊥) = rw e at hr in
     let hb : (IsRefused (reportOf W b P) → ⊥) = rw f at hs in
-    let i : 16384 ≤ a = serves W a Q ha in
-    let j : 16384 ≤ b = serves W b P hb in
-    let x : reportOf W a Q ≡ reportOf W 16384 Q = same-report W a 16384 Q i (omega arith) in
-    let y : reportOf W b P ≡ reportOf W 16384 P = same-report W b 16384 P j (omega arith) in
-    told-of W q F G r s (fuels-compared W 16384 q F G lt (fuelled W b P hb) (rw x at ha) (rw y at hb)) (e ∙ x) (f ∙ y)
+    let i : areaLimit ≤ a = serves W a Q ha in
+    let j : areaLimit ≤ b = serves W b P hb in
+    let x : reportOf W a Q ≡ reportOf W areaLimit Q = same-report W a areaLimit Q i (omega arith) in
+    let y : reportOf W b P ≡ reportOf W areaLimit P = same-report W b areaLimit P j (omega arith) in
+    told-of W q F G r s (fuels-compared W areaLimit q F G lt (fuelled W b P hb) (rw x at ha) (rw y at hb)) (e ∙ x) (f ∙ y)
 
 pub answers-twice : (W A₀ B₀ : List ℕ) (q : Query) (F G : ℕ) (A B : List ℕ) (r : Reports)
     → Answers W A₀ (record { query = q; fuel = F }) A (r .first) → Answers W B₀ (record { query = q; fuel = G }) B (r .second)

@@ -1,6 +1,7 @@
 //! A question put to words that nobody checked yet.
 ghost use mathlib.Core.Path.{_≡_};
 ghost use lib.ListN.{length};
+ghost use Rattle.snapshot.specs.Limits.{areaLimit};
 ghost use Rattle.find_path.specs.Report.{reportOf};
 ghost use Rattle.answer.specs.Answers.{zeros, Answers};
 use crate::area::clear;
@@ -14,9 +15,9 @@ use snapshot::ids::WordCount;
 
 // The report, in a work area that serves and is cleared.
 fn find_path_within(words: &[u32], area: &mut [u32], question: Question) -> Report
-    requires { ⌜ length (now area) ≡ 16384 ⌝ }
-    ensures { λ r. ⌜ r ≡ reportOf (now (words .entry)) 16384 question ⌝ }
-    ensures { λ _. ⌜ now (area .exit) ≡ zeros 16384 ⌝ }
+    requires { ⌜ length (now area) ≡ areaLimit ⌝ }
+    ensures { λ r. ⌜ r ≡ reportOf (now (words .entry)) areaLimit question ⌝ }
+    ensures { λ _. ⌜ now (area .exit) ≡ zeros areaLimit ⌝ }
 {
     let c = check(words, area);
     let r = report_on(words, area, c, question);
@@ -34,8 +35,8 @@ pub fn find_path(words: &[u32], area: &mut [u32], question: Question) -> Report
     }
     let n = call_fault(area.len(), question.query, question.fuel);
     if n != 0 {
-        clear(&mut area[..16384]);
+        clear(&mut area[..WordCount::AREA]);
         return refused(n);
     }
-    find_path_within(words, &mut area[..16384], question)
+    find_path_within(words, &mut area[..WordCount::AREA], question)
 }

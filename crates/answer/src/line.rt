@@ -3,6 +3,7 @@ ghost use mathlib.Core.Path.{_≡_};
 ghost use mathlib.Core.List.{_++_};
 ghost use Prim.Native.Nat.{_≤_};
 ghost use lib.ListN.{length};
+ghost use Rattle.snapshot.specs.Limits.{areaLimit, lineLimit};
 ghost use Rattle.printing.specs.Output.{Put};
 ghost use Rattle.find_path.specs.Line.{bytesOf, lineOf};
 ghost use Rattle.answer.specs.Answers.{zeros};
@@ -18,9 +19,9 @@ use snapshot::ids::WordCount;
 
 // The line, in a work area that serves and is cleared.
 fn line_within(words: &[u32], area: &mut [u32], question: Question, out: &mut [u8]) -> usize
-    requires { ⌜ (length (now area) ≡ 16384) × (4166 ≤ length (now out)) ⌝ }
+    requires { ⌜ (length (now area) ≡ areaLimit) × (lineLimit ≤ length (now out)) ⌝ }
     ensures { λ n. ⌜ Put (now (out .entry)) 0 (lineOf (now (words .entry)) question ++ bytesOf "\n") (now (out .exit)) n ⌝ }
-    ensures { λ _. ⌜ now (area .exit) ≡ zeros 16384 ⌝ }
+    ensures { λ _. ⌜ now (area .exit) ≡ zeros areaLimit ⌝ }
 {
     let c = check(words, area);
     let n = line_on(words, area, c, question, out);
@@ -40,5 +41,5 @@ pub fn find_line(words: &[u32], area: &mut [u32], question: Question, out: &mut 
     if area.len() < WordCount::AREA {
         return put_refusal(out, 20);
     }
-    line_within(words, &mut area[..16384], question, out)
+    line_within(words, &mut area[..WordCount::AREA], question, out)
 }

@@ -6,11 +6,12 @@ use mathlib.Core.Bool.{true, false}
 use lib.Dec.{ltb}
 use lib.ListN.{length, drop}
 use Rattle.snapshot.specs.Limits.{areaLimit}
+use Rattle.snapshot.specs.Sizes.{questionSize}
 use Rattle.find_path.specs.declared.Question.{Question}
 use Rattle.find_path.specs.Report.{reportOf}
-use Rattle.reports.specs.Written.{reportWords}
-use Rattle.questions.specs.Questions.{questionSize, questionsOf}
-use Rattle.questions.specs.Fits.{reportSize, batchFits}
+use Rattle.reports.specs.Written.{reportWords, reportSize}
+use Rattle.questions.specs.Questions.{questionsOf}
+use Rattle.questions.specs.Fits.{batchFits}
 use Rattle.answer.specs.Answers.{areaAfter}
 
 -- 20 a small work area; 44 too many questions, a part of one, or too few words for the reports; 0 for none

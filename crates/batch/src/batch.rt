@@ -16,9 +16,9 @@ pub fn find_paths(words: &[u32], area: &mut [u32], questions: &[u32], reports: &
         return 20;
     }
     if !fits(questions.len(), reports.len()) {
-        clear(&mut area[..16384]);
+        clear(&mut area[..WordCount::AREA]);
         return 44;
     }
-    answer_each(words, &mut area[..16384], questions, reports);
+    answer_each(words, &mut area[..WordCount::AREA], questions, reports);
     0
 }

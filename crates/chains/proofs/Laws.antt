@@ -13,6 +13,7 @@ use lib.Seq.{getD-set-same, getD-set-other}
 use borrow.Author.Count.{below-more}
 use borrow.Author.Tests.{eqb-true, eqb-false, eq-eqb, ne-eqb, leb-true, leb-false}
 use Rattle.snapshot.specs.Lists.{rows, any}
+use Rattle.snapshot.specs.Limits.{moduleLimit}
 use Rattle.snapshot.specs.Words.{payOf, wordsOf}
 use Rattle.snapshot.specs.Records.{nameAt}
 use Rattle.snapshot.proofs.Laws.{rows-next, rows-none, rows-ext}
@@ -154,11 +155,11 @@ any-last p f (suc n) h =
 
 -- marks
 
-pub marked-none : (A : List ℕ) (marks : ℕ) (key : ℕ → ℕ) → ((m : ℕ) → m < 512 → getD A (marks + m) 0 ≡ 0) → Marked A marks key 0
+pub marked-none : (A : List ℕ) (marks : ℕ) (key : ℕ → ℕ) → ((m : ℕ) → m < moduleLimit → getD A (marks + m) 0 ≡ 0) → Marked A marks key 0
 unfolding any rows
 marked-none A marks key z = record { same = λ m h. ap (λ x. not (eqb x 0)) (z m h) }
 
-pub marked-kept : (A B : List ℕ) (marks : ℕ) (g h : ℕ → ℕ) (n : ℕ) → Marked A marks g n → ((m : ℕ) → m < 512 → getD B (marks + m) 0 ≡ getD A (marks + m) 0)
+pub marked-kept : (A B : List ℕ) (marks : ℕ) (g h : ℕ → ℕ) (n : ℕ) → Marked A marks g n → ((m : ℕ) → m < moduleLimit → getD B (marks + m) 0 ≡ getD A (marks + m) 0)
     → ((i : ℕ) → i < n → h i ≡ g i) → Marked B marks h n
 marked-kept A B marks g h n c p q =
     record { same = λ m k. ap (λ x. not (eqb x 0)) (p m k) ∙ c .same m k ∙ ap (any (eqb m)) (rows-ext g h n (λ i r. sym (q i r))) }
@@ -171,7 +172,7 @@ pub marked-more : (A : List ℕ) (marks : ℕ) (key : ℕ → ℕ) (n s : ℕ) �
     → Marked (set A (marks + s) 1) marks key (n + 1)
 marked-more A marks key n s c fits e = record { same = λ m k. by m k (eqb m s) refl }
   where
-    by : (m : ℕ) → m < 512 → (t : Bool) → eqb m s ≡ t → not (eqb (getD (set A (marks + s) 1) (marks + m) 0) 0) ≡ any (eqb m) (rows key 0 (n + 1))
+    by : (m : ℕ) → m < moduleLimit → (t : Bool) → eqb m s ≡ t → not (eqb (getD (set A (marks + s) 1) (marks + m) 0) 0) ≡ any (eqb m) (rows key 0 (n + 1))
     by m k true q =
         let r : m ≡ s = eqb-true m s q in
         ap (λ x. not (eqb (getD (set A (marks + s) 1) (marks + x) 0) 0)) r ∙ ap (λ x. not (eqb x 0)) (getD-set-same A (marks + s) 1 0 fits)
@@ -183,7 +184,7 @@ marked-more A marks key n s c fits e = record { same = λ m k. by m k (eqb m s) 
 
 -- the module of a definition, by its kind
 module _ (W : List ℕ) (a : ℕ) {k : ℕ} (e : k ≡ payOf (getD W a 0)) where
-  pub slot-none : (k ≡ 1 → ⊥) → 512 ≡ slotOf W a
+  pub slot-none : (k ≡ 1 → ⊥) → moduleLimit ≡ slotOf W a
   unfolding slotOf
   slot-none h = rw (slotOf, ← e, ne-eqb _ _ h)
 

@@ -6,8 +6,40 @@ use mathlib.Core.Bool.{true, false, not}
 use lib.Dec.{eqb}
 use lib.ListN.{getD, set}
 use Rattle.snapshot.specs.Lists.{rows, any}
+use Rattle.snapshot.specs.Limits.{moduleLimit}
 use Rattle.snapshot.specs.Words.{payOf}
 use Rattle.snapshot.specs.Records.{Name}
+use Rattle.snapshot.specs.Layouts.{tableWords}
+
+-- Where they stand in the work area, past the tables: the heads, a word a key, the marks, a word a module, and the links, a word a number.
+
+abbrev pub nameHeads : ℕ
+nameHeads = tableWords
+
+abbrev pub scopeHeads : ℕ
+scopeHeads = 4544
+
+abbrev pub externHeads : ℕ
+externHeads = 4928
+
+abbrev pub childMarks : ℕ
+childMarks = 5312
+
+abbrev pub moduleMarks : ℕ
+moduleMarks = 5824
+
+-- heads and marks stand before it, and the mark of definitions of no module at it
+abbrev pub marksEnd : ℕ
+marksEnd = 6336
+
+abbrev pub nameLinks : ℕ
+nameLinks = 6344
+
+abbrev pub scopeLinks : ℕ
+scopeLinks = 8392
+
+abbrev pub externLinks : ℕ
+externLinks = 10736
 
 -- a number mixed with words
 unfoldable pub mixed : ℕ → List ℕ → ℕ
@@ -25,13 +57,13 @@ nameKey x = mixed (x .bytes) (x .text) % keys
 abbrev pub recordKey : List ℕ → ℕ → ℕ → ℕ
 recordKey W fields a = (payOf (getD W a 0) * 37 + getD W (a + 1) 0 * 5 + getD W (a + fields) 0) % keys
 
--- of the definition with its head at a place: its module, or 512 for another kind
+-- of the definition with its head at a place: its module, or the number past all modules for another kind
 unfoldable pub slotOf : List ℕ → ℕ → ℕ
-slotOf W a = elim (eqb (payOf (getD W a 0)) 1) [ true ↦ getD W (a + 1) 0 | false ↦ 512 ]
+slotOf W a = elim (eqb (payOf (getD W a 0)) 1) [ true ↦ getD W (a + 1) 0 | false ↦ moduleLimit ]
 
 -- each module has a word that is not 0 where one of the first n records is its
 pub record Marked (A : List ℕ) (marks : ℕ) (key : ℕ → ℕ) (n : ℕ) : Type 0 where
-  pub same : (m : ℕ) → m < 512 → not (eqb (getD A (marks + m) 0) 0) ≡ any (eqb m) (rows key 0 n)
+  pub same : (m : ℕ) → m < moduleLimit → not (eqb (getD A (marks + m) 0) 0) ≡ any (eqb m) (rows key 0 n)
 
 -- c is one more than the last number below n with the key b, or 0 where there is none
 pub record Last (key : ℕ → ℕ) (b n c : ℕ) : Type 0 where

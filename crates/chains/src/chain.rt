@@ -3,17 +3,21 @@ ghost use mathlib.Core.Path.{_≡_};
 ghost use Prim.Native.Nat.{_+_, _^_, _≤_, _<_};
 ghost use lib.ListN.{length};
 ghost use Rattle.chains.specs.Chains.{Cleared, linked};
+use snapshot::table::Tables;
 
 /// The first word of the heads, a word a key, of the marks, a word a module, and of the links, a word a number. What lies before the end of
 /// the marks is cleared at first; the word there is marked for definitions of no module.
 pub struct Chains(pub usize);
 
 impl Chains {
-    pub const HEADS: usize = 4160;
+    /// How many keys there are.
+    pub const KEYS: usize = 383;
+
+    pub const HEADS: usize = Tables::END;
 
     pub const MARKS_END: usize = 6336;
 
-    pub const NAME_HEADS: usize = 4160;
+    pub const NAME_HEADS: usize = Tables::END;
 
     pub const SCOPE_HEADS: usize = 4544;
 

@@ -5,6 +5,8 @@ ghost use lib.ListN.{getD};
 ghost use Rattle.snapshot.specs.Lists.{rows};
 ghost use Rattle.snapshot.specs.Records.{nameAt};
 ghost use Rattle.chains.specs.Chains.{mixed, nameKey, recordKey, slotOf};
+use crate::chain::Chains;
+use snapshot::ids::ModuleId;
 use snapshot::kind::text_words;
 use snapshot::words::field;
 use snapshot::words::payload;
@@ -28,22 +30,22 @@ pub fn name_key(words: &[u32], at: usize) -> usize
     ensures { λ r. ⌜ r ≡ nameKey (nameAt (now (words .entry)) at) ⌝ }
 {
     let bytes = payload(words, at);
-    mix(words, at, bytes, text_words(bytes)) % 383
+    mix(words, at, bytes, text_words(bytes)) % Chains::KEYS
 }
 
 /// The key of the record with its head at a place: its owner, its first field and the last one that counts.
 pub fn record_key(words: &[u32], at: usize, fields: usize) -> usize
     ensures { λ r. ⌜ r ≡ recordKey (now (words .entry)) fields at ⌝ }
 {
-    (payload(words, at) * 37 + field(words, at, 1) * 5 + field(words, at, fields)) % 383
+    (payload(words, at) * 37 + field(words, at, 1) * 5 + field(words, at, fields)) % Chains::KEYS
 }
 
-/// The module of the definition with its head at a place, or 512 for a definition of another kind.
+/// The module of the definition with its head at a place, or the number past all modules for a definition of another kind.
 pub fn module_slot(words: &[u32], at: usize) -> usize
     ensures { λ r. ⌜ r ≡ slotOf (now (words .entry)) at ⌝ }
 {
     if payload(words, at) != 1 {
-        return 512;
+        return ModuleId::LIMIT;
     }
     field(words, at, 1)
 }

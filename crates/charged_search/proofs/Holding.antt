@@ -4,6 +4,7 @@ use Prim.Native.Nat.{ℕ, zero, suc, _+_, _≤_, _<_, _^_}
 use native.Mathlib.Omega.{arith}
 use mathlib.Core.List.{List, [], _∷_}
 use mathlib.Core.Bool.{Bool, true, false}
+use Rattle.snapshot.specs.Limits.{pathLimit}
 use Rattle.snapshot.specs.Records.{Snapshot, Dependency, Import}
 use Rattle.snapshot.specs.Layouts.{snapOf}
 use Rattle.snapshot.specs.declared.layout.Layout.{Layout}
@@ -91,7 +92,7 @@ pub record Offered (c : Choice) : Type 0 where
   pub text : c .text < 2 ^ 32
   pub steps : c .steps < 17
 
-pub offered : (W A : List ℕ) (l : Layout) (x : FindPathCtx) (left n m : ℕ) (t : Tank) (r : Found) → Reads W A l → left ≤ 15 → n < left
+pub offered : (W A : List ℕ) (l : Layout) (x : FindPathCtx) (left n m : ℕ) (t : Tank) (r : Found) → Reads W A l → left ≤ pathLimit → n < left
     → r ≡ foundOf (modules (snapOf W A l) x n m t) → Offered (r .choice)
 offered W A l x left n m t r a h k e =
     let q = module-search-fits Tank fromTank (snapOf W A l) x n m t in

@@ -2,6 +2,7 @@
 use Prim.Native.Nat.{ℕ, _+_, _≤_, _<_, _^_}
 use mathlib.Core.List.{List}
 use mathlib.Core.Bool.{Bool, true, false}
+use Rattle.snapshot.specs.Limits.{pathLimit}
 use Rattle.snapshot.specs.Records.{Snapshot, Dependency, Import}
 use Rattle.snapshot.specs.declared.layout.Layout.{Layout}
 use Rattle.hir_def.specs.Nameres.{langOf}
@@ -50,7 +51,7 @@ module _ (s : Snapshot) (x : FindPathCtx) where
 pub record Begun (W A : List ℕ) (l : Layout) (x : FindPathCtx) (left : ℕ) : Type 0 where
   pub ready : Prepared W A l x
   pub some : 0 < left
-  pub limit : left ≤ 15
+  pub limit : left ≤ pathLimit
 
 -- what was found so far has no more names than the length left, and its tank stays in range
 pub record Held (left : ℕ) (f : Found) : Type 0 where

@@ -2,6 +2,7 @@
 ghost use mathlib.Core.Path.{_≡_};
 ghost use mathlib.Core.List.{[]};
 ghost use Prim.Native.Nat.{_+_, _≤_, _<_, _^_};
+ghost use Rattle.snapshot.specs.Limits.{pathLimit};
 ghost use Rattle.snapshot.specs.Layouts.{snapOf};
 ghost use Rattle.snapshot.specs.Records.{importAt};
 ghost use Rattle.accept.specs.Stands.{countsIn};
@@ -66,7 +67,7 @@ pub fn find_path_for_module(
     m: ModuleId,
     t: Tank,
 ) -> Found
-    requires { ⌜ Prepared (now words) (now area) l x × (m .0 < l .modules) × (left ≤ 15) × (t .fuel + t .spent < 2 ^ 32) ⌝ }
+    requires { ⌜ Prepared (now words) (now area) l x × (m .0 < l .modules) × (left ≤ pathLimit) × (t .fuel + t .spent < 2 ^ 32) ⌝ }
     ensures { λ r. ⌜ Searched (now (area .entry)) (searchModule Tank fromTank (snapOf (now (words .entry)) (now (area .entry)) l) x left (m .0) t) (now (area .exit)) r ⌝ }
 {
     if left == 0 {

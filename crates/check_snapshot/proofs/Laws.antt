@@ -7,6 +7,7 @@ use borrow.Author.Tests.{eq-eqb, ne-eqb, le-ltb, le-leb, lt-leb}
 use lib.ListN.{length, take, length-take}
 use lib.Seq.{length-take-le}
 use Rattle.io.specs.Counts.{Counts}
+use Rattle.snapshot.specs.Limits.{wordLimit, areaLimit, inputLimit}
 use Rattle.snapshot.specs.Layouts.{snapOf}
 use Rattle.snapshot.specs.declared.layout.Layout.{Layout}
 use Rattle.snapshot.proofs.Laws.{length-rows}
@@ -20,24 +21,24 @@ use Rattle.check_snapshot.specs.Text.{textOf}
 
 -- the verdict
 
-pub verdict-long : (B : List ℕ) → 65536 < length B → refuse 40 16384 ≡ verdictOf B
+pub verdict-long : (B : List ℕ) → inputLimit < length B → refuse 40 wordLimit ≡ verdictOf B
 unfolding verdictOf
 verdict-long B h = rw (verdictOf, lt-leb _ _ h)
 
-pub verdict-rest : (B : List ℕ) → length B ≤ 65536 → (length B % 4 ≡ 0 → ⊥) → refuse 41 (length B / 4) ≡ verdictOf B
+pub verdict-rest : (B : List ℕ) → length B ≤ inputLimit → (length B % 4 ≡ 0 → ⊥) → refuse 41 (length B / 4) ≡ verdictOf B
 unfolding verdictOf
 verdict-rest B h p = rw (verdictOf, le-leb _ _ h, ne-eqb _ _ p)
 
-verdict-whole : (B : List ℕ) → length B ≤ 65536 → length B % 4 ≡ 0 → verdict (wordsOf B) ≡ verdictOf B
+verdict-whole : (B : List ℕ) → length B ≤ inputLimit → length B % 4 ≡ 0 → verdict (wordsOf B) ≡ verdictOf B
 unfolding verdictOf
 verdict-whole B h p = rw (verdictOf, le-leb _ _ h, eq-eqb _ _ p)
 
-check-large : (n : ℕ) (W : List ℕ) → 16384 ≤ n → checkOf n W ≡ verdict W
+check-large : (n : ℕ) (W : List ℕ) → areaLimit ≤ n → checkOf n W ≡ verdict W
 unfolding checkOf
 check-large n W h = rw (checkOf, le-ltb _ _ h)
 
-pub verdict-same : (B W A : List ℕ) (n : ℕ) (r : Checked) → W ≡ wordsOf B → outcome W A r ≡ checkOf n W → 16384 ≤ n
-    → length B ≤ 65536 → length B % 4 ≡ 0 → outcome (wordsOf B) A r ≡ verdictOf B
+pub verdict-same : (B W A : List ℕ) (n : ℕ) (r : Checked) → W ≡ wordsOf B → outcome W A r ≡ checkOf n W → areaLimit ≤ n
+    → length B ≤ inputLimit → length B % 4 ≡ 0 → outcome (wordsOf B) A r ≡ verdictOf B
 verdict-same B W A n r e q h p m =
     subst (λ (x : List ℕ). outcome x A r ≡ checkOf n x) e q ∙ check-large n (wordsOf B) h ∙ verdict-whole B p m
 

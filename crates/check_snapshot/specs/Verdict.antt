@@ -4,7 +4,7 @@ use mathlib.Core.List.{List}
 use mathlib.Core.Bool.{true, false}
 use lib.Dec.{eqb, leb}
 use lib.ListN.{length}
-use Rattle.snapshot.specs.Limits.{wordLimit}
+use Rattle.snapshot.specs.Limits.{wordLimit, inputLimit}
 use Rattle.accept.specs.Verdict.{Verdict, refuse, verdict}
 use Rattle.printing.specs.Input.{wordsIn}
 
@@ -15,7 +15,7 @@ wordsOf B = wordsIn B (length B / 4)
 -- too many bytes, a rest of 1 to 3 bytes, or the verdict on the words
 unfoldable pub verdictOf : List ℕ → Verdict
 verdictOf B =
-    elim (leb (length B) 65536) [
+    elim (leb (length B) inputLimit) [
       | true ↦ elim (eqb (length B % 4) 0) [ true ↦ verdict (wordsOf B) | false ↦ refuse 41 (length B / 4) ]
       | false ↦ refuse 40 wordLimit
     ]

@@ -1,30 +1,36 @@
 //! Checks a snapshot on standard input: prints how many records of each kind it has, or why it is refused.
 ghost use mathlib.Core.Path.{_≡_};
+ghost use Prim.Native.Nat.{_+_};
 ghost use lib.ListN.{length};
+ghost use Rattle.snapshot.specs.Limits.{wordLimit, inputLimit};
+ghost use Rattle.wording.specs.Text.{textLimit};
 
 mod report;
 mod verdict;
 
 use libc::STDIN_FILENO;
 use libc::STDOUT_FILENO;
+use printing::input::ByteCount;
+use snapshot::ids::WordCount;
+use wording::text::TextBytes;
 
 // One byte more than an input may have.
-fn input() -> [u8; 65537]
-    ensures { λ r. ⌜ 65537 ≡ length r ⌝ }
+fn input() -> [u8; ByteCount::INPUT + 1]
+    ensures { λ r. ⌜ inputLimit + 1 ≡ length r ⌝ }
 {
-    [0; 65537]
+    [0; ByteCount::INPUT + 1]
 }
 
-fn words() -> [u32; 16384]
-    ensures { λ r. ⌜ 16384 ≡ length r ⌝ }
+fn words() -> [u32; WordCount::SNAPSHOT]
+    ensures { λ r. ⌜ wordLimit ≡ length r ⌝ }
 {
-    [0; 16384]
+    [0; WordCount::SNAPSHOT]
 }
 
-fn text() -> [u8; 512]
-    ensures { λ r. ⌜ 512 ≡ length r ⌝ }
+fn text() -> [u8; TextBytes::LIMIT]
+    ensures { λ r. ⌜ textLimit ≡ length r ⌝ }
 {
-    [0; 512]
+    [0; TextBytes::LIMIT]
 }
 
 fn main() {

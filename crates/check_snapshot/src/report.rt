@@ -2,6 +2,8 @@
 ghost use mathlib.Core.Path.{_≡_};
 ghost use Prim.Native.Nat.{_≤_};
 ghost use lib.ListN.{length, take, drop};
+ghost use Rattle.snapshot.specs.Limits.{wordLimit, areaLimit};
+ghost use Rattle.wording.specs.Text.{textLimit};
 ghost use Rattle.io.specs.Counts.{Counts};
 ghost use Rattle.check_snapshot.specs.Verdict.{verdictOf};
 ghost use Rattle.check_snapshot.specs.Text.{textOf};
@@ -12,8 +14,8 @@ use wording::text::put_refusal;
 
 /// Puts the text that answers for the bytes at the front, and answers its length; the bytes past it stay.
 pub fn report(bytes: &[u8], words: &mut [u32], area: &mut [u32], out: &mut [u8]) -> usize
-    requires { ⌜ (16384 ≤ length (now words)) × (16384 ≤ length (now area)) ⌝ }
-    requires { ⌜ 512 ≤ length (now out) ⌝ }
+    requires { ⌜ (wordLimit ≤ length (now words)) × (areaLimit ≤ length (now area)) ⌝ }
+    requires { ⌜ textLimit ≤ length (now out) ⌝ }
     ensures { λ r. ⌜ (take r (now (out .exit)) ≡ textOf (verdictOf (now (bytes .entry)))) × (drop r (now (out .exit)) ≡ drop r (now (out .entry))) ⌝ }
     ensures { λ r. ⌜ Counts r (now (out .exit)) ⌝ }
 {

@@ -2,6 +2,7 @@
 ghost use mathlib.Core.Path.{_≡_};
 ghost use Prim.Native.Nat.{_≤_};
 ghost use lib.ListN.{length};
+ghost use Rattle.snapshot.specs.Limits.{wordLimit, areaLimit};
 ghost use Rattle.accept.specs.Post.{outcome};
 ghost use Rattle.check_snapshot.specs.Verdict.{wordsOf, verdictOf};
 use accept::check::Checked;
@@ -12,7 +13,7 @@ use snapshot::ids::WordCount;
 
 /// The check of the bytes, by way of their words: 40 and 41 come first.
 pub fn verdict(bytes: &[u8], words: &mut [u32], area: &mut [u32]) -> Checked
-    requires { ⌜ (16384 ≤ length (now words)) × (16384 ≤ length (now area)) ⌝ }
+    requires { ⌜ (wordLimit ≤ length (now words)) × (areaLimit ≤ length (now area)) ⌝ }
     ensures { λ r. ⌜ outcome (wordsOf (now (bytes .entry))) (now (area .exit)) r ≡ verdictOf (now (bytes .entry)) ⌝ }
 {
     if ByteCount::INPUT < bytes.len() {

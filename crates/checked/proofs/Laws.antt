@@ -8,8 +8,9 @@ use borrow.Author.Tests.{lt-ltb, le-ltb, ltb-true, ltb-false}
 use lib.Dec.{eqb, ltb}
 use lib.ListN.{length, getD, take}
 use lib.Seq.{getD-take}
+use Rattle.snapshot.specs.Limits.{pathLimit, fuelLimit, areaLimit, namespaceLimit, prefixLimit, optionsLimit}
 use Rattle.snapshot.specs.Records.{Snapshot}
-use Rattle.snapshot.specs.Layouts.{snapOf}
+use Rattle.snapshot.specs.Layouts.{snapOf, tableWords}
 use Rattle.snapshot.specs.declared.layout.Layout.{Layout}
 use Rattle.snapshot.proofs.Laws.{length-rows}
 use Rattle.accept.specs.Verdict.{refuse, accept, verdict}
@@ -30,26 +31,26 @@ use Rattle.checked.specs.Order.{earlierOf, numberOf}
 -- faults of a call
 
 module _ (area : ℕ) (q : Query) (fuel : ℕ) where
-  pub small : area < 16384 → 20 ≡ callFault area q fuel
+  pub small : area < areaLimit → 20 ≡ callFault area q fuel
   unfolding callFault
   small h = rw (callFault, lt-ltb _ _ h)
 
-  module _ (large : 16384 ≤ area) where
-    pub much : 10000 < fuel → 21 ≡ callFault area q fuel
+  module _ (large : areaLimit ≤ area) where
+    pub much : fuelLimit < fuel → 21 ≡ callFault area q fuel
     unfolding callFault
     much h = rw (callFault, le-ltb _ _ large, lt-ltb _ _ h)
 
-    pub outside : fuel ≤ 10000 → (ltb 2 (q .ns) || (ltb 2 (q .prefix) || ltb 63 (q .options))) ≡ true → 22 ≡ callFault area q fuel
+    pub outside : fuel ≤ fuelLimit → (ltb namespaceLimit (q .ns) || (ltb prefixLimit (q .prefix) || ltb optionsLimit (q .options))) ≡ true → 22 ≡ callFault area q fuel
     unfolding callFault
     outside h t = rw (callFault, le-ltb _ _ large, le-ltb _ _ h, t)
 
-    pub beyond : fuel ≤ 10000 → (ltb 2 (q .ns) || (ltb 2 (q .prefix) || ltb 63 (q .options))) ≡ false
-        → (eqb (q .limit) 0 || ltb 15 (q .limit)) ≡ true → 46 ≡ callFault area q fuel
+    pub beyond : fuel ≤ fuelLimit → (ltb namespaceLimit (q .ns) || (ltb prefixLimit (q .prefix) || ltb optionsLimit (q .options))) ≡ false
+        → (eqb (q .limit) 0 || ltb pathLimit (q .limit)) ≡ true → 46 ≡ callFault area q fuel
     unfolding callFault
     beyond h t u = rw (callFault, le-ltb _ _ large, le-ltb _ _ h, t, u)
 
-    pub no-fault : fuel ≤ 10000 → (ltb 2 (q .ns) || (ltb 2 (q .prefix) || ltb 63 (q .options))) ≡ false
-        → (eqb (q .limit) 0 || ltb 15 (q .limit)) ≡ false → 0 ≡ callFault area q fuel
+    pub no-fault : fuel ≤ fuelLimit → (ltb namespaceLimit (q .ns) || (ltb prefixLimit (q .prefix) || ltb optionsLimit (q .options))) ≡ false
+        → (eqb (q .limit) 0 || ltb pathLimit (q .limit)) ≡ false → 0 ≡ callFault area q fuel
     unfolding callFault
     no-fault h t u = rw (callFault, le-ltb _ _ large, le-ltb _ _ h, t, u)
 
@@ -58,22 +59,22 @@ module _ (area : ℕ) (q : Query) (fuel : ℕ) where
   or-false false b e = refl
 
   -- what a question without a fault of the call has
-  pub fault-free : 0 ≡ callFault area q fuel → (16384 ≤ area) × (fuel ≤ 10000) × (q .ns ≤ 2) × (0 < q .limit) × (q .limit ≤ 15)
+  pub fault-free : 0 ≡ callFault area q fuel → (areaLimit ≤ area) × (fuel ≤ fuelLimit) × (q .ns ≤ namespaceLimit) × (0 < q .limit) × (q .limit ≤ pathLimit)
   fault-free e =
       let w = call-allowed area q fuel (sym e) in
-      by-test (ltb area 16384) (λ t. absurd (omega (arith, e, small (ltb-true _ _ t)))) (λ t.
-      let a = ltb-false area 16384 t in
-      by-test (ltb 10000 fuel) (λ u. absurd (omega (arith, e, much a (ltb-true _ _ u)))) (λ u.
-      let f = ltb-false 10000 fuel u in
-      by-test (ltb 2 (q .ns) || (ltb 2 (q .prefix) || ltb 63 (q .options)))
+      by-test (ltb area areaLimit) (λ t. absurd (omega (arith, e, small (ltb-true _ _ t)))) (λ t.
+      let a = ltb-false area areaLimit t in
+      by-test (ltb fuelLimit fuel) (λ u. absurd (omega (arith, e, much a (ltb-true _ _ u)))) (λ u.
+      let f = ltb-false fuelLimit fuel u in
+      by-test (ltb namespaceLimit (q .ns) || (ltb prefixLimit (q .prefix) || ltb optionsLimit (q .options)))
       (λ v. absurd (omega (arith, e, outside a f v)))
       (λ v. (a, f, ltb-false 2 (q .ns) (or-false _ _ v), w .some, w .limit))))
 
-pub fault-at : (a n : ℕ) (q : Query) (fuel : ℕ) → a ≡ 16384 → n ≡ callFault a q fuel → n ≡ callFault 16384 q fuel
+pub fault-at : (a n : ℕ) (q : Query) (fuel : ℕ) → a ≡ areaLimit → n ≡ callFault a q fuel → n ≡ callFault areaLimit q fuel
 fault-at a n q fuel e h = h ∙ ap (λ x. callFault x q fuel) e
 
 -- the work area counts only by being large enough
-pub same-fault : (a b : ℕ) (q : Query) (fuel : ℕ) → 16384 ≤ a → 16384 ≤ b → callFault a q fuel ≡ callFault b q fuel
+pub same-fault : (a b : ℕ) (q : Query) (fuel : ℕ) → areaLimit ≤ a → areaLimit ≤ b → callFault a q fuel ≡ callFault b q fuel
 unfolding callFault
 same-fault a b q fuel h k = rw (callFault, le-ltb _ _ h, le-ltb _ _ k)
 
@@ -136,13 +137,13 @@ module _ (W : List ℕ) (q : Query) (fuel : ℕ) (r : Report) where
   unfolding reportBy
   by-answer s e p = p ∙ ap (reportBy q fuel) e
 
-kept-by : (A B : List ℕ) → take 4160 B ≡ take 4160 A → Kept A B 0 4160
-kept-by A B e i u v = sym (getD-take 4160 B i 0 v) ∙ ap (λ (x : List ℕ). getD x i 0) e ∙ getD-take 4160 A i 0 v
+kept-by : (A B : List ℕ) → take tableWords B ≡ take tableWords A → Kept A B 0 tableWords
+kept-by A B e i u v = sym (getD-take tableWords B i 0 v) ∙ ap (λ (x : List ℕ). getD x i 0) e ∙ getD-take tableWords A i 0 v
 
 judged-reads : (W A : List ℕ) (l : Layout) → Judged W A (Accepted l) → Reads W A l
 judged-reads W A l j = record { same = sym (j .same); tables = j .tables }
 
-pub judged-stays : (W A B : List ℕ) (l : Layout) → Judged W A (Accepted l) → take 4160 B ≡ take 4160 A → Judged W B (Accepted l)
+pub judged-stays : (W A B : List ℕ) (l : Layout) → Judged W A (Accepted l) → take tableWords B ≡ take tableWords A → Judged W B (Accepted l)
 judged-stays W A B l j e =
     record {
       same = ap accept (snap-stays W A B l (j .tables) (kept-by A B e)) ∙ j .same;
@@ -159,17 +160,17 @@ module _ (W A : List ℕ) (c : Checked) (j : Judged W A c) where
         let k : Judged W A (Refused n at) = subst (λ x. Judged W A x) e j in
         (by-refusal W q fuel r n at (k .same) p, j)
 
-    pub report-accepted : (l : Layout) (B : List ℕ) → c ≡ Accepted l → take 4160 B ≡ take 4160 A
+    pub report-accepted : (l : Layout) (B : List ℕ) → c ≡ Accepted l → take tableWords B ≡ take tableWords A
         → r ≡ answerUnless (snapOf W A l) q fuel (questionFault (snapOf W A l) q) → (r ≡ reportBy q fuel (verdict W)) × Judged W B c
     report-accepted l B e t p =
         let k : Judged W A (Accepted l) = subst (λ x. Judged W A x) e j in
         (by-answer W q fuel r (snapOf W A l) (k .same) p, subst (λ x. Judged W B x) (sym e) (judged-stays W A B l k t))
 
 -- a check in an area that serves
-pub checks-judged : (W A₀ A : List ℕ) (c : Checked) → length A₀ ≡ 16384 → Checks W A₀ A c → Judged W A c
+pub checks-judged : (W A₀ A : List ℕ) (c : Checked) → length A₀ ≡ areaLimit → Checks W A₀ A c → Judged W A c
 unfolding checkOf
 checks-judged W A₀ A c e k =
-    let h : 16384 ≤ length A₀ = omega arith in
+    let h : areaLimit ≤ length A₀ = omega arith in
     record { same = k .same ∙ rw (checkOf, le-ltb _ _ h); tables = k .tables }
 
 -- what the check of the words answers
@@ -233,12 +234,12 @@ module _ (W A : List ℕ) (q : Question) (r : Report) (n : ℕ) (h : n ≡ 0 →
   by-words (Accepted l) j e = absurd (h e)
 
   -- a number of the call comes first, then one of the words
-  pub report-earlier : (c : Checked) → Judged W A c → (f m : ℕ) → f ≡ callFault 16384 (q .query) (q .fuel) → m ≡ numberOf c → n ≡ earlierOf f m
-      → r ≡ reportOf W 16384 q
+  pub report-earlier : (c : Checked) → Judged W A c → (f m : ℕ) → f ≡ callFault areaLimit (q .query) (q .fuel) → m ≡ numberOf c → n ≡ earlierOf f m
+      → r ≡ reportOf W areaLimit q
   unfolding earlierOf
-  report-earlier c j zero m e k u = report-verdict W 16384 q r 0 e refl (by-words c j (u ∙ k))
-  report-earlier c j (suc f) m e k u = report-fault W 16384 q r n (u ∙ e) h p
+  report-earlier c j zero m e k u = report-verdict W areaLimit q r 0 e refl (by-words c j (u ∙ k))
+  report-earlier c j (suc f) m e k u = report-fault W areaLimit q r n (u ∙ e) h p
 
-pub same-report : (W : List ℕ) (a b : ℕ) (q : Question) → 16384 ≤ a → 16384 ≤ b → reportOf W a q ≡ reportOf W b q
+pub same-report : (W : List ℕ) (a b : ℕ) (q : Question) → areaLimit ≤ a → areaLimit ≤ b → reportOf W a q ≡ reportOf W b q
 unfolding reportOf
 same-report W a b q h k = ap (reportUnless W (q .query) (q .fuel)) (same-fault a b (q .query) (q .fuel) h k)

@@ -2,6 +2,7 @@
 use Prim.Native.Nat.{ℕ, zero, suc, _≤_}
 use mathlib.Core.Path.{_≡_, refl, sym, _∙_, ap, ap₂, subst}
 use mathlib.Core.List.{List, _++_}
+use Rattle.snapshot.specs.Limits.{areaLimit}
 use Rattle.snapshot.specs.Records.{Snapshot}
 use Rattle.snapshot.specs.Layouts.{snapOf}
 use Rattle.snapshot.specs.declared.layout.Layout.{Layout}
@@ -35,13 +36,13 @@ module _ (W : List ℕ) (q : Question) where
   by-call (suc m) n place e = numbered _ (suc m) refl
 
   -- a refused snapshot refuses each question
-  pub refusal-only : (n place : ℕ) → verdict W ≡ refuse n place → reportOf W 16384 q ≡ refused (reportOf W 16384 q .number)
+  pub refusal-only : (n place : ℕ) → verdict W ≡ refuse n place → reportOf W areaLimit q ≡ refused (reportOf W areaLimit q .number)
   unfolding reportOf
-  refusal-only n place e = by-call (callFault 16384 (q .query) (q .fuel)) n place e
+  refusal-only n place e = by-call (callFault areaLimit (q .query) (q .fuel)) n place e
 
   module _ (A : List ℕ) (c : Checked) (r : Report) (a : Questioned W q c A r) where
     pub few-names : r .count ≤ 16
-    few-names = rw (a .report) (report-bounded W 16384 q .few)
+    few-names = rw (a .report) (report-bounded W areaLimit q .few)
 
     module _ (old new : List ℕ) (t : ℕ) where
       pub line-refused : (n place : ℕ) → c ≡ Refused n place
@@ -49,7 +50,7 @@ module _ (W : List ℕ) (q : Question) where
       unfolding lineOf
       line-refused n place e p =
           let v : verdict W ≡ refuse n place = sym (subst (λ (x : Checked). Judged W A x) e (a .checked) .same) in
-          let u : refused (r .number) ≡ reportOf W 16384 q = ap (λ (x : Report). refused (x .number)) (a .report) ∙ sym (refusal-only n place v) in
+          let u : refused (r .number) ≡ reportOf W areaLimit q = ap (λ (x : Report). refused (x .number)) (a .report) ∙ sym (refusal-only n place v) in
           record {
             line = put-as (ap (λ x. lineIn (snapshotOf (verdict W)) (q .query .from) x ++ bytesOf "\n") u) (p (snapshotOf (verdict W)) (q .query .from));
             checked = a .checked;

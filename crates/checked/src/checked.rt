@@ -2,6 +2,7 @@
 ghost use mathlib.Core.Path.{_≡_};
 ghost use Prim.Native.Nat.{_≤_, _<_};
 ghost use lib.ListN.{length, take};
+ghost use Rattle.snapshot.specs.Limits.{pathLimit, fuelLimit, areaLimit, namespaceLimit};
 ghost use Rattle.snapshot.specs.Layouts.{tableWords, snapOf};
 ghost use Rattle.accept.specs.Post.{Reads, Judged};
 ghost use Rattle.accept.specs.Verdict.{verdict};
@@ -22,7 +23,7 @@ use snapshot::layout::Layout;
 
 // The answer on accepted words; the tables stay.
 fn ask(words: &[u32], area: &mut [u32], l: Layout, q: Query, fuel: usize) -> Report
-    requires { ⌜ Reads (now words) (now area) l × (length (now area) ≡ 16384) × (q .ns ≤ 2) × (fuel ≤ 10000) × (0 < q .limit) × (q .limit ≤ 15) ⌝ }
+    requires { ⌜ Reads (now words) (now area) l × (length (now area) ≡ areaLimit) × (q .ns ≤ namespaceLimit) × (fuel ≤ fuelLimit) × (0 < q .limit) × (q .limit ≤ pathLimit) ⌝ }
     ensures { λ r. ⌜ r ≡ answerUnless (snapOf (now (words .entry)) (now (area .entry)) l) q fuel (questionFault (snapOf (now (words .entry)) (now (area .entry)) l) q) ⌝ }
     ensures { λ _. ⌜ take tableWords (now (area .exit)) ≡ take tableWords (now (area .entry)) ⌝ }
 {
@@ -35,7 +36,7 @@ fn ask(words: &[u32], area: &mut [u32], l: Layout, q: Query, fuel: usize) -> Rep
 
 // The answer on checked words, to a question without a fault of its own.
 fn report_by(words: &[u32], area: &mut [u32], c: Checked, q: Query, fuel: usize) -> Report
-    requires { ⌜ Judged (now words) (now area) c × (length (now area) ≡ 16384) × (q .ns ≤ 2) × (fuel ≤ 10000) × (0 < q .limit) × (q .limit ≤ 15) ⌝ }
+    requires { ⌜ Judged (now words) (now area) c × (length (now area) ≡ areaLimit) × (q .ns ≤ namespaceLimit) × (fuel ≤ fuelLimit) × (0 < q .limit) × (q .limit ≤ pathLimit) ⌝ }
     ensures { λ r. ⌜ (r ≡ reportBy q fuel (verdict (now (words .entry)))) × Judged (now (words .entry)) (now (area .exit)) c ⌝ }
 {
     match c {
@@ -46,7 +47,7 @@ fn report_by(words: &[u32], area: &mut [u32], c: Checked, q: Query, fuel: usize)
 
 /// The answer to a question on checked words, which stay so: the next question can follow.
 pub fn report_on(words: &[u32], area: &mut [u32], c: Checked, question: Question) -> Report
-    requires { ⌜ Judged (now words) (now area) c × (length (now area) ≡ 16384) ⌝ }
+    requires { ⌜ Judged (now words) (now area) c × (length (now area) ≡ areaLimit) ⌝ }
     ensures { λ r. ⌜ Questioned (now (words .entry)) question c (now (area .exit)) r ⌝ }
 {
     let q = question.query;

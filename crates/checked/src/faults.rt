@@ -8,11 +8,13 @@ ghost use Rattle.checked.specs.Order.{earlierOf, numberOf};
 use accept::check::Checked;
 use find_path::Query;
 use hir_def::items::DefinitionKind;
-use hir_def::items::Namespace;
 use hir_def::items::kind_of;
 use snapshot::ids::DefinitionId;
 use snapshot::ids::Fuel;
+use snapshot::ids::Namespace;
+use snapshot::ids::Options;
 use snapshot::ids::PathLen;
+use snapshot::ids::Prefix;
 use snapshot::ids::WordCount;
 use snapshot::layout::Layout;
 
@@ -27,7 +29,8 @@ pub fn call_fault(area: usize, q: Query, fuel: usize) -> usize
     if Fuel::LIMIT < fuel {
         return 21;
     }
-    let field = (2 < q.ns) | ((2 < q.prefix) | (63 < q.options));
+    let field = (Namespace::LIMIT < q.ns)
+        | ((Prefix::LIMIT < q.prefix) | (Options::LIMIT < q.options));
     let limit = (q.limit == 0) | (PathLen::LIMIT < q.limit);
     if field {
         return 22;

@@ -2,6 +2,7 @@
 ghost use mathlib.Core.Path.{_≡_};
 ghost use Prim.Native.Nat.{_≤_};
 ghost use lib.ListN.{length};
+ghost use Rattle.snapshot.specs.Limits.{areaLimit, lineLimit};
 ghost use Rattle.accept.specs.Post.{Judged};
 ghost use Rattle.checked.specs.Lines.{LineOn};
 use crate::checked::report_on;
@@ -20,7 +21,7 @@ pub fn line_on(
     question: Question,
     out: &mut [u8],
 ) -> usize
-    requires { ⌜ Judged (now words) (now area) c × (length (now area) ≡ 16384) × (4166 ≤ length (now out)) ⌝ }
+    requires { ⌜ Judged (now words) (now area) c × (length (now area) ≡ areaLimit) × (lineLimit ≤ length (now out)) ⌝ }
     ensures { λ n. ⌜ LineOn (now (words .entry)) question c (now (area .exit)) (now (out .entry)) (now (out .exit)) n ⌝ }
 {
     let r = report_on(words, area, c, question);

@@ -8,6 +8,7 @@ use lib.Dec.{ltb}
 use lib.ListN.{length, take, length-append, length-replicate}
 use lib.Seq.{length-take-le, take-append-seam}
 use borrow.Author.Tests.{eq-eqb, ltb-false}
+use Rattle.snapshot.specs.Limits.{areaLimit}
 use Rattle.snapshot.specs.Sizes.{scopeSize}
 use Rattle.snapshot.specs.Records.{Snapshot, Scope}
 use Rattle.record_rules.specs.Tests.{sameEntry}
@@ -29,7 +30,7 @@ use Rattle.edits.proofs.Laws.{fault-none, within-by, of-large}
 
 pub record Taken (area : ℕ) (W : List ℕ) (n : ℕ) (o : Operation) (T : List ℕ) : Type 0 where
   pub snapshot : Snapshot
-  pub serves : 16384 ≤ area
+  pub serves : areaLimit ≤ area
   pub within : n ≤ length W
   pub accepted : verdict (take n W) ≡ accept snapshot
   pub fault : editFault snapshot (length (take n W)) (length W) o ≡ 0
@@ -39,7 +40,7 @@ refused-not : {C : Type 0} {k : ℕ} {T : List ℕ} → refusedBy k ≡ edited T
 refused-not e = let z : _≡_ {A = ℕ} 0 1 = cc in absurd (omega arith)
 
 module _ (area : ℕ) (W : List ℕ) (n : ℕ) (o : Operation) (T : List ℕ) where
-  unless-taken : 16384 ≤ area → n ≤ length W → (s : Snapshot) → verdict (take n W) ≡ accept s → (k : ℕ) → editFault s (length (take n W)) (length W) o ≡ k
+  unless-taken : areaLimit ≤ area → n ≤ length W → (s : Snapshot) → verdict (take n W) ≡ accept s → (k : ℕ) → editFault s (length (take n W)) (length W) o ≡ k
       → editUnless (take n W) o k ≡ edited T → Taken area W n o T
   unfolding editUnless
   unless-taken h g s acc zero f e =
@@ -47,7 +48,7 @@ module _ (area : ℕ) (W : List ℕ) (n : ℕ) (o : Operation) (T : List ℕ) wh
       record { snapshot = s; serves = h; within = g; accepted = acc; fault = f; words = q }
   unless-taken h g s acc (suc k) f e = refused-not e
 
-  by-taken : 16384 ≤ area → n ≤ length W → (v : Verdict) → verdict (take n W) ≡ v → editBy (take n W) (length W) o v ≡ edited T → Taken area W n o T
+  by-taken : areaLimit ≤ area → n ≤ length W → (v : Verdict) → verdict (take n W) ≡ v → editBy (take n W) (length W) o v ≡ edited T → Taken area W n o T
   unfolding editBy
   by-taken h g (refuse k at) acc e = refused-not e
   by-taken h g (accept s) acc e = unless-taken h g s acc (editFault s (length (take n W)) (length W) o) refl e
@@ -55,14 +56,14 @@ module _ (area : ℕ) (W : List ℕ) (n : ℕ) (o : Operation) (T : List ℕ) wh
   pub taken : editOf area W n o ≡ edited T → Taken area W n o T
   unfolding editOf editWithin
   taken e =
-      by-test (ltb area 16384)
+      by-test (ltb area areaLimit)
       (λ c. let f : refusedBy 20 ≡ edited T = rw (editOf, c) at e in refused-not f)
       (λ c. by-test (ltb (length W) n)
       (λ d. let f : refusedBy 30 ≡ edited T = rw (editOf, c, editWithin, d) at e in refused-not f)
-      (λ d. by-taken (ltb-false area 16384 c) (ltb-false (length W) n d) (verdict (take n W)) refl (rw (editOf, c, editWithin, d) at e)))
+      (λ d. by-taken (ltb-false area areaLimit c) (ltb-false (length W) n d) (verdict (take n W)) refl (rw (editOf, c, editWithin, d) at e)))
 
 -- an edit that passes its tests
-taken-is : (area : ℕ) (W : List ℕ) (n : ℕ) (o : Operation) (s : Snapshot) → 16384 ≤ area → n ≤ length W → verdict (take n W) ≡ accept s
+taken-is : (area : ℕ) (W : List ℕ) (n : ℕ) (o : Operation) (s : Snapshot) → areaLimit ≤ area → n ≤ length W → verdict (take n W) ≡ accept s
     → editFault s (length (take n W)) (length W) o ≡ 0 → editOf area W n o ≡ edited (editedWords (take n W) o)
 taken-is area W n o s h g acc f = of-large area W n o h ∙ within-by W n o g ∙ fault-none W n o s acc 0 (sym f) refl
 

@@ -9,6 +9,7 @@ use lib.Seq.{length-take-le}
 use borrow.Author.Tests.{lt-ltb, le-ltb}
 use Rattle.snapshot.specs.Records.{Snapshot, Scope}
 use Rattle.snapshot.specs.Lists.{any}
+use Rattle.snapshot.specs.Limits.{areaLimit}
 use Rattle.snapshot.specs.Sizes.{scopeSize}
 use Rattle.accept.specs.Verdict.{refuse, accept, verdict}
 pub use Rattle.checked.proofs.Laws.{refused-verdict, accepted-reads}
@@ -66,20 +67,20 @@ unfolding editBy
 by-refusal W n o k at e = ap (editBy (take n W) (length W) o) (sym e)
 
 -- the work area
-pub of-small : (area : ℕ) (W : List ℕ) (n : ℕ) (o : Operation) → area < 16384 → editOf area W n o ≡ refusedBy 20
+pub of-small : (area : ℕ) (W : List ℕ) (n : ℕ) (o : Operation) → area < areaLimit → editOf area W n o ≡ refusedBy 20
 unfolding editOf
 of-small area W n o h = rw (editOf, lt-ltb _ _ h)
 
-pub of-large : (area : ℕ) (W : List ℕ) (n : ℕ) (o : Operation) → 16384 ≤ area → editOf area W n o ≡ editWithin W n o
+pub of-large : (area : ℕ) (W : List ℕ) (n : ℕ) (o : Operation) → areaLimit ≤ area → editOf area W n o ≡ editWithin W n o
 unfolding editOf
 of-large area W n o h = rw (editOf, le-ltb _ _ h)
 
 module _ (W A : List ℕ) (n : ℕ) (o : Operation) where
-  pub edits-small : length A < 16384 → EditsIn W n A o W A (record { number = 20; count = n })
+  pub edits-small : length A < areaLimit → EditsIn W n A o W A (record { number = 20; count = n })
   edits-small h = record { edit = edits-not W n 20 _ (of-small (length A) W n o h); area = area-small A h }
 
-  pub edits-large : (X B : List ℕ) (r : Edited) → 16384 ≤ length A → B ≡ zeros 16384 → Edits W n (editWithin W n o) X r
-      → EditsIn W n A o X (B ++ drop 16384 A) r
+  pub edits-large : (X B : List ℕ) (r : Edited) → areaLimit ≤ length A → B ≡ zeros areaLimit → Edits W n (editWithin W n o) X r
+      → EditsIn W n A o X (B ++ drop areaLimit A) r
   edits-large X B r h z e =
       record { edit = subst (λ y. Edits W n y X r) (sym (of-large (length A) W n o h)) e; area = area-large A B h z }
 

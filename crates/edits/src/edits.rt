@@ -3,6 +3,7 @@ ghost use mathlib.Core.Path.{_≡_};
 ghost use mathlib.Core.List.{List};
 ghost use Prim.Native.Nat.{ℕ, _≤_};
 ghost use lib.ListN.{length, take};
+ghost use Rattle.snapshot.specs.Limits.{areaLimit};
 ghost use Rattle.snapshot.specs.Records.{Snapshot};
 ghost use Rattle.accept.specs.Verdict.{verdict, accept};
 ghost use Rattle.accept.specs.Post.{Reads};
@@ -58,7 +59,7 @@ fn add_checked(
     area: &mut [u32],
     entry: &[u32; Size::SCOPE],
 ) -> Edited
-    requires { ⌜ length (now area) ≡ 16384 ⌝ }
+    requires { ⌜ length (now area) ≡ areaLimit ⌝ }
     ensures { λ r. ⌜ Edits (now (words .entry)) count (editWithin (now (words .entry)) count (adding (entryOf (now (entry .entry))))) (now (words .exit)) r ⌝ }
 {
     if words.len() < count {
@@ -84,9 +85,9 @@ fn add_within(
     area: &mut [u32],
     entry: &[u32; Size::SCOPE],
 ) -> Edited
-    requires { ⌜ length (now area) ≡ 16384 ⌝ }
+    requires { ⌜ length (now area) ≡ areaLimit ⌝ }
     ensures { λ r. ⌜ Edits (now (words .entry)) count (editWithin (now (words .entry)) count (adding (entryOf (now (entry .entry))))) (now (words .exit)) r ⌝ }
-    ensures { λ _. ⌜ now (area .exit) ≡ zeros 16384 ⌝ }
+    ensures { λ _. ⌜ now (area .exit) ≡ zeros areaLimit ⌝ }
 {
     let r = add_checked(words, count, area, entry);
     clear(area);
@@ -112,7 +113,7 @@ pub fn add_entry(
             count: count,
         };
     }
-    add_within(words, count, &mut area[..16384], entry)
+    add_within(words, count, &mut area[..WordCount::AREA], entry)
 }
 
 // Removes an entry from an accepted snapshot.
@@ -143,7 +144,7 @@ fn remove_checked(
     ns: usize,
     name: usize,
 ) -> Edited
-    requires { ⌜ length (now area) ≡ 16384 ⌝ }
+    requires { ⌜ length (now area) ≡ areaLimit ⌝ }
     ensures { λ r. ⌜ Edits (now (words .entry)) count (editWithin (now (words .entry)) count (removing owner ns name)) (now (words .exit)) r ⌝ }
 {
     if words.len() < count {
@@ -171,9 +172,9 @@ fn remove_within(
     ns: usize,
     name: usize,
 ) -> Edited
-    requires { ⌜ length (now area) ≡ 16384 ⌝ }
+    requires { ⌜ length (now area) ≡ areaLimit ⌝ }
     ensures { λ r. ⌜ Edits (now (words .entry)) count (editWithin (now (words .entry)) count (removing owner ns name)) (now (words .exit)) r ⌝ }
-    ensures { λ _. ⌜ now (area .exit) ≡ zeros 16384 ⌝ }
+    ensures { λ _. ⌜ now (area .exit) ≡ zeros areaLimit ⌝ }
 {
     let r = remove_checked(words, count, area, owner, ns, name);
     clear(area);
@@ -198,5 +199,5 @@ pub fn remove_entry(
             count: count,
         };
     }
-    remove_within(words, count, &mut area[..16384], owner, ns, name)
+    remove_within(words, count, &mut area[..WordCount::AREA], owner, ns, name)
 }

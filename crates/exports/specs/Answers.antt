@@ -3,6 +3,7 @@ use Prim.Native.Nat.{ℕ}
 use mathlib.Core.Path.{_≡_}
 use mathlib.Core.List.{List, [], _∷_}
 use lib.ListN.{length, drop}
+use Rattle.snapshot.specs.Limits.{areaLimit}
 use Rattle.snapshot.specs.Records.{Snapshot}
 use Rattle.snapshot.specs.Layouts.{snapOf}
 use Rattle.snapshot.specs.declared.layout.Layout.{Layout}
@@ -41,5 +42,5 @@ pub record Answered (W A₀ A answer : List ℕ) (r : ℕ) : Type 0 where
   pub same : answer ≡ answerOf (checkOf (length A₀) W)
   pub number : r ≡ numberOf (checkOf (length A₀) W)
   pub tables : (s : Snapshot) → checkOf (length A₀) W ≡ accept s → (l : Layout) × Reads W A l × (snapOf W A l ≡ s)
-  pub rest : (s : Snapshot) → checkOf (length A₀) W ≡ accept s → drop 16384 A ≡ drop 16384 A₀
+  pub rest : (s : Snapshot) → checkOf (length A₀) W ≡ accept s → drop areaLimit A ≡ drop areaLimit A₀
   pub cleared : (n at : ℕ) → checkOf (length A₀) W ≡ refuse n at → A ≡ areaAfter A₀

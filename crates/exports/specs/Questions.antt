@@ -8,10 +8,10 @@ use lib.ListN.{length}
 use Rattle.find_path.specs.declared.Question.{Question}
 use Rattle.find_path.specs.Report.{reportOf}
 use Rattle.answer.specs.Answers.{areaAfter}
-use Rattle.reports.specs.Written.{writtenTo}
+use Rattle.reports.specs.Written.{writtenTo, reportSize}
 
 -- the report of the question q is written to the words old, where they are enough, of which b tells
 pub record Reported (W A₀ : List ℕ) (q : Question) (A old new : List ℕ) (b : Bool) : Type 0 where
   pub report : new ≡ writtenTo (reportOf W (length A₀) q) old
-  pub done : b ≡ leb 42 (length old)
+  pub done : b ≡ leb reportSize (length old)
   pub area : A ≡ areaAfter A₀

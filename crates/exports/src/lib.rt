@@ -31,6 +31,7 @@ use edits::edits::remove_entry;
 use imports::list::import_list;
 use keywords::is_raw;
 use questions::question::question_of;
+use reports::report::ReportWords;
 use snapshot::ids::Crate;
 use snapshot::ids::Name;
 use snapshot::kind::Size;
@@ -129,7 +130,7 @@ pub extern "C" fn kelumavor_is_raw(
 pub extern "C" fn kelumavor_find_path(
     words: &[u32],
     area: &mut [u32],
-    question: &[u32; 7],
+    question: &[u32; Size::QUESTION],
     report: &mut [u32],
 ) -> bool
     ensures { λ r. ⌜ Reported (now (words .entry)) (now (area .entry)) (questionOf (now (question .entry))) (now (area .exit)) (now (report .entry)) (now (report .exit)) r ⌝ }
@@ -160,7 +161,7 @@ pub extern "C" fn kelumavor_find_paths(
 pub extern "C" fn kelumavor_place(
     state: &mut [u32; 65],
     window: usize,
-    question: &[u32; 7],
+    question: &[u32; Size::QUESTION],
 ) -> usize
     ensures { λ r. ⌜ Placed (now (state .entry)) window (questionOf (now (question .entry))) (now (state .exit)) r ⌝ }
 {
@@ -178,7 +179,7 @@ pub extern "C" fn kelumavor_turn(
     state: &mut [u32; 65],
     words: &[u32],
     area: &mut [u32],
-    report: &mut [u32; 42],
+    report: &mut [u32; ReportWords::COUNT],
 ) -> usize
     ensures { λ r. ⌜ Served (now (state .entry)) (now (words .entry)) (now (area .entry)) (now (report .entry)) (now (state .exit)) (now (area .exit)) (now (report .exit)) r ⌝ }
 {

@@ -7,6 +7,7 @@ use mathlib.Core.Bool.{Bool, true, false, _||_, not}
 use mathlib.Core.Option.{Option, none, some}
 use lib.ListN.{length, getD, replicate, set, length-set}
 use lib.Seq.{getD-set-other}
+use Rattle.snapshot.specs.Limits.{pathLimit}
 use Rattle.snapshot.specs.Records.{Snapshot, Scope, Dependency, Definition, Import, Extern}
 use Rattle.hir_def.specs.Items.{types, crateRoot, itemOf}
 use lib.Dec.{eqb}
@@ -360,7 +361,7 @@ module _ (M : Type 0) (charge : Charge M) (s : Snapshot) where
       (item-fits x (bestLocal s x) (best-local-fits s x) (searchModule M charge s x) (module-search-fits x) (l + d)
       (itemTo M charge s x d) (itemTo-fits x l p h d) p (omega arith) item t)
 
-  module _ (q : Query) (p : 0 < q .limit) (l : q .limit ≤ 15) where
+  module _ (q : Query) (p : 0 < q .limit) (l : q .limit ≤ pathLimit) where
     home-fits : (item : Item) (t : M) (h : ℕ) → Fits s 16 (fromHome M charge s q item t h .choice)
     unfolding fromHome searchItem contextOf
     home-fits item t zero = nothing-fits 16
@@ -368,7 +369,7 @@ module _ (M : Type 0) (charge : Charge M) (s : Snapshot) where
 
     start-fits : (t : M) (b : Bool) → Fits s 16 (fromItem M charge s q t b .choice)
     unfolding fromItem builtinChoice
-    start-fits t true = new-fits s 15 plainPath _ _
+    start-fits t true = new-fits s pathLimit plainPath _ _
     start-fits t false = home-fits _ t _
 
     -- Every path has at most sixteen names, and zeros past them.

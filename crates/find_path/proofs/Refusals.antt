@@ -7,7 +7,7 @@ use mathlib.Core.Bool.{Bool, true, false, _&&_, _||_, not}
 use lib.Dec.{eqb, ltb, leb}
 use lib.ListN.{length, getD}
 use borrow.Author.Tests.{eqb-false, ltb-false}
-use Rattle.snapshot.specs.Limits.{wordLimit, crateLimit, moduleLimit, nameLimit, definitionLimit, areaLimit, fuelLimit, pathLimit}
+use Rattle.snapshot.specs.Limits.{wordLimit, crateLimit, moduleLimit, nameLimit, definitionLimit, areaLimit, fuelLimit, pathLimit, namespaceLimit, prefixLimit, optionsLimit}
 use Rattle.snapshot.specs.Words.{kindOf, argumentsAt}
 use Rattle.snapshot.specs.Lists.{any}
 use Rattle.snapshot.specs.Records.{Snapshot, Name, Crate, Dependency, Map, Module, Child, Prelude, Definition, Scope, Import, Extern, Member, nameAt, crateAt, dependencyAt, mapAt, moduleAt, childAt, preludeAt, definitionAt, scopeAt, importAt, externAt, memberAt}
@@ -164,7 +164,7 @@ unfolding callFault
 call-small area q fuel =
     either-number (ltb area areaLimit) 20 _ (omega arith)
     (either-number (ltb fuelLimit fuel) 21 _ (omega arith)
-    (either-number (ltb 2 (q .ns) || (ltb 2 (q .prefix) || ltb 63 (q .options))) 22 _ (omega arith)
+    (either-number (ltb namespaceLimit (q .ns) || (ltb prefixLimit (q .prefix) || ltb optionsLimit (q .options))) 22 _ (omega arith)
     (either-number (eqb (q .limit) 0 || ltb pathLimit (q .limit)) 46 0 (omega arith) (omega arith))))
 
 pub question-small : (s : Snapshot) (q : Query) → questionFault s q ≤ 46
@@ -185,7 +185,7 @@ unfolding callFault
 call-allowed area q fuel e =
     by-test (ltb area areaLimit) (λ t. let z : 20 ≡ 0 = rw (callFault, t) at e in absurd (omega arith)) (λ t.
     by-test (ltb fuelLimit fuel) (λ u. let z : 21 ≡ 0 = rw (callFault, t, u) at e in absurd (omega arith)) (λ u.
-    by-test (ltb 2 (q .ns) || (ltb 2 (q .prefix) || ltb 63 (q .options))) (λ v. let z : 22 ≡ 0 = rw (callFault, t, u, v) at e in absurd (omega arith)) (λ v.
+    by-test (ltb namespaceLimit (q .ns) || (ltb prefixLimit (q .prefix) || ltb optionsLimit (q .options))) (λ v. let z : 22 ≡ 0 = rw (callFault, t, u, v) at e in absurd (omega arith)) (λ v.
     by-test (eqb (q .limit) 0 || ltb pathLimit (q .limit)) (λ w. let z : 46 ≡ 0 = rw (callFault, t, u, v, w) at e in absurd (omega arith)) (λ w.
     let n = or-none (eqb (q .limit) 0) (ltb pathLimit (q .limit)) w in
     let z = eqb-false (q .limit) 0 (n .0) in

@@ -11,6 +11,7 @@ use lib.ListN.{length, getD, set, take, length-set}
 use lib.Seq.{take-suc-set, length-take-le}
 use borrow.Author.Tests.{eqb-true, eqb-false, eq-eqb, not-false}
 use Rattle.snapshot.specs.Words.{kindOf}
+use Rattle.snapshot.specs.Limits.{pathLimit}
 use Rattle.snapshot.specs.Records.{Snapshot, Scope, Dependency, Definition, Import, Extern}
 use Rattle.accept.specs.Valid.{Each, more, Placed, Valid}
 use Rattle.accept.specs.Verdict.{accept, verdict}
@@ -485,7 +486,7 @@ steps-count {c = c} left h f = length-take-le (c .steps) (c .route) (omega (arit
 pub record Paths (s : Snapshot) (x : FindPathCtx) (item : Item) (c : Choice) : Type 0 where
   pub path : c .found ≡ true → Path s x (c .kind) (take (c .count) (c .names)) (take (c .steps) (c .route)) item
 
-module _ (s : Snapshot) (x : FindPathCtx) (limit : x .limit ≤ 15) where
+module _ (s : Snapshot) (x : FindPathCtx) (limit : x .limit ≤ pathLimit) where
   direct-path : (item : Item) (c : Choice) → Leads s x item c → Fits s (x .limit) c → Paths s x item c
   direct-path item c f g = record {
     path = λ e.
@@ -509,7 +510,7 @@ module _ (s : Snapshot) (x : FindPathCtx) (limit : x .limit ≤ 15) where
   }
 
 module _ (M : Type 0) (charge : Charge M) (s : Snapshot) (x : FindPathCtx) (valid : Valid s) (rooted : Rooted s x)
-    (some-limit : 0 < x .limit) (limit : x .limit ≤ 15) where
+    (some-limit : 0 < x .limit) (limit : x .limit ≤ pathLimit) where
   -- P holds of every route of as many names at most as the limit, and of what the enum's search gives a variant
   module _ (inner : Inner M) (P : Item → Choice → Type 0)
       (short : (item : Item) (c : Choice) → Leads s x item c → Fits s (x .limit) c → P item c)
@@ -577,7 +578,7 @@ context-limit : (s : Snapshot) (q : Query) (home : ℕ) → contextOf s q home .
 unfolding contextOf
 context-limit s q home = refl
 
-module _ (M : Type 0) (charge : Charge M) (s : Snapshot) (valid : Valid s) (q : Query) (some-limit : 0 < q .limit) (limit : q .limit ≤ 15) where
+module _ (M : Type 0) (charge : Charge M) (s : Snapshot) (valid : Valid s) (q : Query) (some-limit : 0 < q .limit) (limit : q .limit ≤ pathLimit) where
   abbrev Asked : Choice → Type 0
   Asked c = Paths s (askedContext s q) (askedItem s q) c
 

@@ -7,7 +7,7 @@ use native.Mathlib.Decide.{decLe}
 use lib.ListN.{length, getD, take, List·getD-eq-default}
 use lib.Seq.{getD-take}
 use Rattle.snapshot.specs.Records.{Name, nameAt}
-use Rattle.snapshot.specs.Layouts.{nameHead, snapOf, namesOf}
+use Rattle.snapshot.specs.Layouts.{nameHead, snapOf, namesOf, tableWords}
 use Rattle.snapshot.specs.declared.layout.Layout.{Layout}
 use Rattle.snapshot.proofs.Laws.{length-rows}
 use Rattle.accept.specs.Post.{Reads}
@@ -31,9 +31,9 @@ names-short W A l r n =
     past : (ns : List Name) (i : ℕ) → length ns ≤ i → getD ns i (record { bytes = 0; text = [] }) .bytes ≤ 255
     past ns i h = let e = ap (λ (x : Name). x .bytes) (List·getD-eq-default ns (record { bytes = 0; text = [] }) h) in omega arith
 
-module _ (W A B : List ℕ) (l : Layout) (same : take 4160 B ≡ take 4160 A) where
-  kept : Kept A B 0 4160
-  kept i u v = sym (getD-take 4160 B i 0 v) ∙ ap (λ (x : List ℕ). getD x i 0) same ∙ getD-take 4160 A i 0 v
+module _ (W A B : List ℕ) (l : Layout) (same : take tableWords B ≡ take tableWords A) where
+  kept : Kept A B 0 tableWords
+  kept i u v = sym (getD-take tableWords B i 0 v) ∙ ap (λ (x : List ℕ). getD x i 0) same ∙ getD-take tableWords A i 0 v
 
   -- the snapshot is the same, and can be read
   pub same-snap : Reads W A l → snapOf W B l ≡ snapOf W A l

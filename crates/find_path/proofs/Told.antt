@@ -8,6 +8,7 @@ use native.Mathlib.Omega.{arith}
 use borrow.Author.Tests.{eqb-true}
 use lib.Dec.{eqb}
 use lib.ListN.{length}
+use Rattle.snapshot.specs.Limits.{pathLimit}
 use Rattle.snapshot.specs.Records.{Snapshot, Dependency, Definition, Import}
 use Rattle.accept.specs.Verdict.{accept, verdict}
 use Rattle.accept.specs.Tests.{countsOf}
@@ -36,15 +37,15 @@ use Rattle.find_path.proofs.Unfold.{length-falls}
 
 -- what a tank keeps of a charge
 pub record Told (n : ℕ) (t : Tank) : Type 0 where
-  pub left : t .left ≤ 15
+  pub left : t .left ≤ pathLimit
   pub sought : t .sought ≤ n
 
-drained-told : (n left sought : ℕ) (t : Tank) (b : Bool) → left ≤ 15 → sought ≤ n → Told n t → Told n (drained left sought t b)
+drained-told : (n left sought : ℕ) (t : Tank) (b : Bool) → left ≤ pathLimit → sought ≤ n → Told n t → Told n (drained left sought t b)
 unfolding drained
 drained-told n left sought t true h k f = record { left = omega arith; sought = omega arith }
 drained-told n left sought t false h k f = record { left = omega arith; sought = omega arith }
 
-draw-told : (n left sought : ℕ) (t : Tank) (fuel : ℕ) → left ≤ 15 → sought ≤ n → Told n t → Told n (left-by (draw left sought t fuel))
+draw-told : (n left sought : ℕ) (t : Tank) (fuel : ℕ) → left ≤ pathLimit → sought ≤ n → Told n t → Told n (left-by (draw left sought t fuel))
 unfolding draw
 draw-told n left sought t zero h k f = drained-told n left sought t (t .empty) h k f
 draw-told n left sought t (suc fuel) h k f = record { left = f .left; sought = f .sought }
@@ -77,13 +78,13 @@ module _ (s : Snapshot) (r : Ranges (countsOf s) s) where
   Keeps t = Told (length (s .modules)) t
 
   abbrev ToldBy : Search Tank → Type 0
-  ToldBy rec = (left m : ℕ) (t : Tank) → left ≤ 15 → Inside (Mod m) → Keeps t → Keeps (rec left m t .meter)
+  ToldBy rec = (left m : ℕ) (t : Tank) → left ≤ pathLimit → Inside (Mod m) → Keeps t → Keeps (rec left m t .meter)
 
   abbrev ToldWithin : Inner Tank → Type 0
   ToldWithin inner = (item : Item) (t : Tank) → Inside item → Keeps t → Keeps (inner item t .meter)
 
   module _ (x : FindPathCtx) (here : ℕ → Item → Choice) (rec : Search Tank) (known : ToldBy rec) where
-    module _ (left : ℕ) (some-left : 0 < left) (limit : left ≤ 15) where
+    module _ (left : ℕ) (some-left : 0 < left) (limit : left ≤ pathLimit) where
       import-told : (o : Out Tank) (i : Import) (b : Bool) → ImportFits (countsOf s) i → Keeps (o .meter) → Keeps (findImport Tank fromTank s x here rec left o i b .meter)
       unfolding findImport
       import-told o i true h f = f
@@ -123,7 +124,7 @@ module _ (s : Snapshot) (r : Ranges (countsOf s) s) where
       unfolding calculateBestPath fromTank
       best-told item t h f = after-told item (fromTank left (soughtOf x item) t) (draw-told _ left _ t (t .fuel) limit (sought-inside x item h) f)
 
-    or-told : (l m : ℕ) (t : Tank) (c : Choice) (b : Bool) → suc l ≤ 15 → Inside (Mod m) → Keeps t
+    or-told : (l m : ℕ) (t : Tank) (c : Choice) (b : Bool) → suc l ≤ pathLimit → Inside (Mod m) → Keeps t
         → Keeps (orCharged Tank fromTank s x here rec (suc l) m t c b .meter)
     unfolding orCharged
     or-told l m t c true h k f = f
@@ -134,7 +135,7 @@ module _ (s : Snapshot) (r : Ranges (countsOf s) s) where
     module-told zero m t h k f = f
     module-told (suc l) m t h k f = or-told l m t _ _ h k f
 
-    module _ (some-limit : 0 < x .limit) (limit : x .limit ≤ 15) (inner : Inner Tank) (within : ToldWithin inner) where
+    module _ (some-limit : 0 < x .limit) (limit : x .limit ≤ pathLimit) (inner : Inner Tank) (within : ToldWithin inner) where
       item-best : (item : Item) (t : Tank) → Inside item → Keeps t → Keeps (calculateBestPath Tank fromTank s x here rec (x .limit) item t .meter)
       item-best item t h f = best-told (x .limit) some-limit limit item t h f
 
@@ -164,7 +165,7 @@ module _ (s : Snapshot) (r : Ranges (countsOf s) s) where
       item-told (Mod m) t h f = of-told m t (x .std) h f
       item-told (Def ns d) t h f = named-told (Def ns d) t _ _ h f
 
-  module _ (x : FindPathCtx) (some-limit : 0 < x .limit) (limit : x .limit ≤ 15) where
+  module _ (x : FindPathCtx) (some-limit : 0 < x .limit) (limit : x .limit ≤ pathLimit) where
     moduleTo-told : (d : ℕ) → ToldBy (moduleTo Tank fromTank s x d)
     unfolding moduleTo
     moduleTo-told zero left m t h k f = f
@@ -180,7 +181,7 @@ module _ (s : Snapshot) (r : Ranges (countsOf s) s) where
     itemTo-told (suc d) item t h f =
         item-told x (bestLocal s x) (searchModule Tank fromTank s x) module-search-told some-limit limit (itemTo Tank fromTank s x d) (itemTo-told d) item t h f
 
-  module _ (q : Query) (p : 0 < q .limit) (l : q .limit ≤ 15) where
+  module _ (q : Query) (p : 0 < q .limit) (l : q .limit ≤ pathLimit) where
     home-told : (item : Item) (t : Tank) (h : ℕ) → Inside item → Keeps t → Keeps (fromHome Tank fromTank s q item t h .meter)
     unfolding fromHome searchItem contextOf
     home-told item t zero k f = f
@@ -196,7 +197,7 @@ module _ (s : Snapshot) (r : Ranges (countsOf s) s) where
     search-told t f = start-told t _ f
 
 -- what the tank of a question on accepted words keeps, for a limit in range
-pub searched-told : (words : List ℕ) (s : Snapshot) → verdict words ≡ accept s → (q : Query) → 0 < q .limit → q .limit ≤ 15
+pub searched-told : (words : List ℕ) (s : Snapshot) → verdict words ≡ accept s → (q : Query) → 0 < q .limit → q .limit ≤ pathLimit
     → (fuel : ℕ) → Told (length (s .modules)) (searched s q fuel .meter)
 unfolding searched filled
 searched-told words s e q p l fuel = search-told s (accepted-ranges words s e) q p l (filled fuel) (record { left = omega arith; sought = omega arith })

@@ -3,6 +3,7 @@ use Prim.Native.Nat.{ℕ, _≤_, _<_}
 use mathlib.Core.Path.{_≡_}
 use mathlib.Core.List.{List}
 use lib.ListN.{length, take}
+use Rattle.snapshot.specs.Limits.{pathLimit, areaLimit}
 use Rattle.snapshot.specs.Records.{scopeAt}
 use Rattle.snapshot.specs.Layouts.{tableWords}
 use Rattle.snapshot.specs.declared.layout.Layout.{Layout}
@@ -27,9 +28,9 @@ use Rattle.find_path.specs.Charged.{Out, foundOf}
 pub record Prepared (W A : List ℕ) (l : Layout) (x : FindPathCtx) : Type 0 where
   pub reads : Reads W A l
   pub from : x .from < l .modules
-  pub area : length A ≡ 16384
+  pub area : length A ≡ areaLimit
   pub some : 0 < x .limit
-  pub limit : x .limit ≤ 15
+  pub limit : x .limit ≤ pathLimit
 
 -- an item that can be asked for
 abbrev pub Asked : Layout → Item → Type 0

@@ -4,7 +4,7 @@ use mathlib.Core.List.{List, []}
 use mathlib.Core.Bool.{Bool, true, false, _&&_, _||_, not}
 use lib.Dec.{eqb, ltb}
 use lib.ListN.{length, replicate}
-use Rattle.snapshot.specs.Limits.{areaLimit, fuelLimit, pathLimit}
+use Rattle.snapshot.specs.Limits.{areaLimit, fuelLimit, pathLimit, namespaceLimit, prefixLimit, optionsLimit}
 use Rattle.snapshot.specs.Records.{Snapshot}
 use Rattle.accept.specs.Verdict.{Verdict, refuse, accept, verdict}
 use Rattle.hir_def.specs.Items.{macros, macroKind, definitionOf}
@@ -23,7 +23,7 @@ callFault area q fuel =
       | true ↦ 20
       | false ↦ elim (ltb fuelLimit fuel) [
         | true ↦ 21
-        | false ↦ elim (ltb 2 (q .ns) || (ltb 2 (q .prefix) || ltb 63 (q .options))) [
+        | false ↦ elim (ltb namespaceLimit (q .ns) || (ltb prefixLimit (q .prefix) || ltb optionsLimit (q .options))) [
           | true ↦ 22
           | false ↦ elim (eqb (q .limit) 0 || ltb pathLimit (q .limit)) [ true ↦ 46 | false ↦ 0 ]
         ]

@@ -10,6 +10,7 @@ ghost use Rattle.hir_def.specs.Entries.{Known, ReadsAs};
 use crate::Item;
 use snapshot::ids::Crate;
 use snapshot::ids::DefinitionId;
+use snapshot::ids::Namespace;
 use snapshot::kind::Size;
 use snapshot::layout::Layout;
 use snapshot::record::crate_edition;
@@ -18,17 +19,6 @@ use snapshot::record::crate_origin;
 use snapshot::record::definition_first;
 use snapshot::record::definition_kind;
 use snapshot::record::definition_second;
-
-/// Namespaces.
-pub struct Namespace(pub usize);
-
-impl Namespace {
-    pub const TYPES: usize = 0;
-
-    pub const VALUES: usize = 1;
-
-    pub const MACROS: usize = 2;
-}
 
 /// Kinds of definitions; 4 is any other.
 pub struct DefinitionKind(pub usize);

@@ -6,12 +6,13 @@ ghost use lib.ListN.{length};
 ghost use lib.Dec.{eqb, leb};
 ghost use mathlib.Core.Bool.{true, _&&_, _||_, not};
 ghost use Rattle.snapshot.specs.Lists.{rows, any};
+ghost use Rattle.snapshot.specs.Limits.{moduleLimit};
 ghost use Rattle.snapshot.specs.Sizes.{definitionSize};
 ghost use Rattle.snapshot.specs.Records.{nameAt};
 ghost use Rattle.snapshot.specs.Layouts.{wordCount, definitionBase, nameHead};
 ghost use Rattle.snapshot.specs.Records.{Map, definitionAt};
 ghost use Rattle.snapshot.specs.Layouts.{snapWith};
-ghost use Rattle.chains.specs.Chains.{slotOf, Marked};
+ghost use Rattle.chains.specs.Chains.{slotOf, Marked, moduleMarks};
 ghost use Rattle.record_rules.specs.Tests.{definitionDefined, isBuiltin};
 ghost use Rattle.record_rules.specs.Steps.{definitionStep};
 ghost use Rattle.record_rules.specs.Stands.{Ready, Stands, Answered, countsIn, sameBy};
@@ -23,6 +24,7 @@ use record_rules::names::is_builtin;
 use records::repeats::repeated;
 use snapshot::ids::DefinitionId;
 use snapshot::ids::Name;
+use snapshot::ids::Namespace;
 use snapshot::kind::Size;
 use snapshot::layout::Layout;
 use snapshot::record::definition_first;
@@ -44,7 +46,7 @@ pub fn ns_placed(words: &[u32], l: Layout, ns: usize, d: DefinitionId) -> bool
     requires { ⌜ (wordCount l < 2 ^ 32) × (d .0 < 2 ^ 32) ⌝ }
     ensures { λ r. ⌜ r ≡ (not (eqb ns 2) || eqb (definitionAt (now (words .entry)) (definitionBase l + definitionSize * d .0) .kind) 5) ⌝ }
 {
-    (ns != 2) | (kind_at(words, l, d) == 5)
+    (ns != Namespace::MACROS) | (kind_at(words, l, d) == 5)
 }
 
 // A builtin's name, where it is defined, is one of the builtins.
@@ -91,9 +93,9 @@ fn placed(words: &[u32], l: Layout, at: usize) -> bool
 
 // A module or a builtin that has a definition already; the other kinds may stand again.
 fn again(words: &[u32], area: &[u32], l: Layout, at: usize) -> bool
-    requires { ⌜ Marked (now area) 5824 (λ j. slotOf (now words) (definitionBase l + definitionSize * j)) (l .definitions) ⌝ }
+    requires { ⌜ Marked (now area) moduleMarks (λ j. slotOf (now words) (definitionBase l + definitionSize * j)) (l .definitions) ⌝ }
     requires { ⌜ (wordCount l ≤ at) × (at + definitionSize ≤ length (now words)) × (length (now words) < 2 ^ 32) ⌝ }
-    ensures { λ r. ⌜ ((definitionAt (now (words .entry)) at .kind ≡ 1 → definitionAt (now (words .entry)) at .first < 512) → r ≡ ((eqb (definitionAt (now (words .entry)) at .kind) 1 || eqb (definitionAt (now (words .entry)) at .kind) 3) && any (sameBy (now (words .entry)) true 1 at) (rows (λ k. definitionBase l + definitionSize * k) 0 (l .definitions)))) ⌝ }
+    ensures { λ r. ⌜ ((definitionAt (now (words .entry)) at .kind ≡ 1 → definitionAt (now (words .entry)) at .first < moduleLimit) → r ≡ ((eqb (definitionAt (now (words .entry)) at .kind) 1 || eqb (definitionAt (now (words .entry)) at .kind) 3) && any (sameBy (now (words .entry)) true 1 at) (rows (λ k. definitionBase l + definitionSize * k) 0 (l .definitions)))) ⌝ }
 {
     let kind = definition_kind(words, at);
     if (kind != 1) & (kind != 3) {

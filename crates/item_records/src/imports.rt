@@ -11,6 +11,7 @@ ghost use Rattle.record_rules.specs.Stands.{Ready, Stands, Answered, countsIn};
 use crate::definitions::ns_placed;
 use record_rules::judge::Step;
 use record_rules::judge::judge;
+use snapshot::ids::Namespace;
 use snapshot::layout::Layout;
 use snapshot::record::import_bits;
 use snapshot::record::import_container;
@@ -22,7 +23,7 @@ use snapshot::record::import_owner;
 fn in_range(words: &[u32], at: usize) -> bool
     ensures { λ r. ⌜ r ≡ importRange (importAt (now (words .entry)) at) ⌝ }
 {
-    (import_ns(words, at) <= 2) & (import_bits(words, at) <= 3)
+    (import_ns(words, at) <= Namespace::LIMIT) & (import_bits(words, at) <= 3)
 }
 
 fn defined(words: &[u32], l: Layout, at: usize) -> bool

@@ -15,6 +15,7 @@ use chains::keys::record_key;
 use record_rules::judge::Step;
 use record_rules::judge::judge;
 use records::repeats::repeated_with;
+use snapshot::ids::Namespace;
 use snapshot::kind::Size;
 use snapshot::layout::Layout;
 use snapshot::record::scope_bits;
@@ -31,7 +32,7 @@ fn in_range(words: &[u32], at: usize) -> bool
 {
     let visibility = scope_visibility(words, at);
     let number = scope_number(words, at);
-    (scope_ns(words, at) <= 2)
+    (scope_ns(words, at) <= Namespace::LIMIT)
         & (visibility <= 3)
         & ((visibility != 0) | (number == 0))
         & (scope_declared(words, at) <= 3)

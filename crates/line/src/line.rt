@@ -2,6 +2,7 @@
 ghost use mathlib.Core.List.{_++_};
 ghost use Prim.Native.Nat.{ℕ, _+_, _≤_};
 ghost use lib.ListN.{length};
+ghost use Rattle.snapshot.specs.Limits.{lineLimit};
 ghost use Rattle.snapshot.specs.Records.{Snapshot};
 ghost use Rattle.snapshot.specs.Layouts.{snapOf};
 ghost use Rattle.accept.specs.Post.{Reads};
@@ -88,7 +89,7 @@ pub fn put_line(
     from: ModuleId,
     r: Report,
 ) -> usize
-    requires { ⌜ Reads (now words) (now area) l × (4166 ≤ length (now out)) × (r .count ≤ 16) ⌝ }
+    requires { ⌜ Reads (now words) (now area) l × (lineLimit ≤ length (now out)) × (r .count ≤ 16) ⌝ }
     ensures { λ n. ⌜ Put (now (out .entry)) 0 (lineIn (snapOf (now (words .entry)) (now (area .entry)) l) (from .0) r ++ bytesOf "\n") (now (out .exit)) n ⌝ }
 {
     let a = put_bare(out, words, area, l, from, r);
@@ -97,7 +98,7 @@ pub fn put_line(
 
 /// Puts the line of a refusal and its end at the front, and answers its length.
 pub fn put_refusal(out: &mut [u8], number: usize) -> usize
-    requires { ⌜ 4166 ≤ length (now out) ⌝ }
+    requires { ⌜ lineLimit ≤ length (now out) ⌝ }
     ensures { λ n. ⌜ ((s : Snapshot) (from : ℕ) → Put (now (out .entry)) 0 (lineIn s from (refused number) ++ bytesOf "\n") (now (out .exit)) n) ⌝ }
 {
     let a = put(out, 0, b"refused ");

@@ -5,8 +5,9 @@ use mathlib.Core.List.{List, [], map}
 use native.Mathlib.Omega.{arith}
 use native.Mathlib.Nat.{sub-zero}
 use lib.ListN.{length, getD, take, length-append}
+use Rattle.snapshot.specs.Limits.{moduleLimit}
 use Rattle.snapshot.specs.Records.{Snapshot}
-use Rattle.snapshot.specs.Layouts.{snapOf}
+use Rattle.snapshot.specs.Layouts.{snapOf, tableWords}
 use Rattle.snapshot.specs.declared.layout.Layout.{Layout}
 use Rattle.snapshot.proofs.Laws.{length-rows, getD-rows}
 use Rattle.accept.specs.Post.{Reads}
@@ -23,11 +24,11 @@ use Rattle.local_levels.proofs.Stacks.{levels-same, snap-at, reads-at, 
 
 -- turns that are enough
 abbrev pub turns : Snapshot → ℕ → ℕ
-turns S from = length (startFrom S from) + length (S .scopes) + 512
+turns S from = length (startFrom S from) + length (S .scopes) + moduleLimit
 
 -- The children, and then the containing modules.
-module _ (W A₀ : List ℕ) (l : Layout) (from : ℕ) (s : Stack) (item : Item) (r : Reads W A₀ l) (low : 4160 ≤ s .top)
-    (space : s .top + 512 ≤ length A₀) (chain : Chain A₀ (s .place) (s .depth) (s .top)) where
+module _ (W A₀ : List ℕ) (l : Layout) (from : ℕ) (s : Stack) (item : Item) (r : Reads W A₀ l) (low : tableWords ≤ s .top)
+    (space : s .top + moduleLimit ≤ length A₀) (chain : Chain A₀ (s .place) (s .depth) (s .top)) where
   abbrev S : Snapshot
   S = snapOf W A₀ l
 

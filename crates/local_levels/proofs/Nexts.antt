@@ -8,6 +8,7 @@ use lib.Dec.{eqb}
 use lib.ListN.{length}
 use borrow.Author.Tests.{eq-eqb, ne-eqb, eqb-true}
 use Rattle.snapshot.specs.Lists.{rows}
+use Rattle.snapshot.specs.Limits.{moduleLimit}
 use Rattle.snapshot.specs.Sizes.{childSize, scopeSize}
 use Rattle.snapshot.specs.Records.{Snapshot, Scope, Child, childAt, scopeAt}
 use Rattle.snapshot.specs.Layouts.{childBase, scopeBase, snapOf}
@@ -68,7 +69,7 @@ pub children-start : (W A : List ℕ) (l : Layout) (from : ℕ) → map (λ c. c
 unfolding childrenOf
 children-start W A l from = rows-whole (λ cs. map (λ c. c .child) (select (λ c. eqb (c .owner) from) cs)) (λ i. childAt W (childBase l + childSize * i)) (l .children)
 
-pub child-below : (W A : List ℕ) (l : Layout) → Reads W A l → {b k t : ℕ} → k < l .children → b ≡ childBase l → t ≡ childAt W (b + childSize * k) .child → t < 512
+pub child-below : (W A : List ℕ) (l : Layout) → Reads W A l → {b k t : ℕ} → k < l .children → b ≡ childBase l → t ≡ childAt W (b + childSize * k) .child → t < moduleLimit
 child-below W A l r {b} {k} {t} h p e =
     let q : t ≡ childAt W (childBase l + childSize * k) .child = e ∙ ap (λ b. childAt W (b + childSize * k) .child) p in
     omega (arith, q, child-read W A l (accepted-valid W (snapOf W A l) (r .same)) k h .child, r .tables .limited .modules)

@@ -9,8 +9,9 @@ use lib.ListN.{length, getD, set, take}
 use lib.Seq.{take-set-le}
 use borrow.Author.Tests.{eq-eqb, ne-eqb}
 use Rattle.snapshot.specs.Lists.{any}
+use Rattle.snapshot.specs.Limits.{moduleLimit}
 use Rattle.snapshot.specs.declared.layout.Layout.{Layout}
-use Rattle.snapshot.specs.Layouts.{snapOf}
+use Rattle.snapshot.specs.Layouts.{snapOf, tableWords}
 use Rattle.snapshot.proofs.Laws.{length-rows}
 use Rattle.accept.specs.Post.{Reads}
 use Rattle.hir_def.specs.declared.Item.{Item}
@@ -105,12 +106,12 @@ module _ (A B : List ℕ) (top : ℕ) (same : take top A ≡ take top B) where
   chain-same d p c = chain-same′ d p top (omega arith) c
 
 -- The tables lie below top: accepted words stay readable, and the snapshot stays.
-module _ (W A B : List ℕ) (l : Layout) (top : ℕ) (r : Reads W A l) (low : 4160 ≤ top) (same : take top B ≡ take top A) where
+module _ (W A B : List ℕ) (l : Layout) (top : ℕ) (r : Reads W A l) (low : tableWords ≤ top) (same : take top B ≡ take top A) where
   pub snap-at : snapOf W B l ≡ snapOf W A l
-  snap-at = same-snap W A B l (take-less B A 4160 top low same) r
+  snap-at = same-snap W A B l (take-less B A tableWords top low same) r
 
   pub reads-at : Reads W B l
-  reads-at = same-reads W A B l (take-less B A 4160 top low same) r
+  reads-at = same-reads W A B l (take-less B A tableWords top low same) r
 
 -- One module more, or not.
 module _ (A : List ℕ) (s : Stack) (n : ℕ) (item : Item) (m : ℕ) (y : Ready A s n) where
@@ -120,7 +121,7 @@ module _ (A : List ℕ) (s : Stack) (n : ℕ) (item : Item) (m : ℕ) (y : Ready
   abbrev run : List ℕ
   run = runAt A (s .top) n
 
-  run-fits : Fits 512 run
+  run-fits : Fits moduleLimit run
   run-fits = rw (length-rows (λ i. getD A (s .top + i) 0) n) (y .fits)
 
   push-kept : seen m || has run m ≡ true → Pushed A s n item (m ∷ []) A n
@@ -132,25 +133,25 @@ module _ (A : List ℕ) (s : Stack) (n : ℕ) (item : Item) (m : ℕ) (y : Ready
   pub push-there : {q r : Bool} → q ≡ seen m → q ≡ false → r ≡ has run m → r ≡ true → Pushed A s n item (m ∷ []) A n
   push-there p u z t = push-kept (ap₂ _||_ (sym p ∙ u) (sym z ∙ t))
 
-  pub push-place : {r : Bool} → m < 512 → r ≡ has run m → r ≡ false → n < 512
-  push-place h z t = omega (arith, fits-place 512 run m h (sym z ∙ t) run-fits, length-rows (λ i. getD A (s .top + i) 0) n)
+  pub push-place : {r : Bool} → m < moduleLimit → r ≡ has run m → r ≡ false → n < moduleLimit
+  push-place h z t = omega (arith, fits-place moduleLimit run m h (sym z ∙ t) run-fits, length-rows (λ i. getD A (s .top + i) 0) n)
 
-  pub push-new : {q r : Bool} (B : List ℕ) → m < 512 → q ≡ seen m → q ≡ false → r ≡ has run m → r ≡ false → B ≡ set A (s .top + n) m
+  pub push-new : {q r : Bool} (B : List ℕ) → m < moduleLimit → q ≡ seen m → q ≡ false → r ≡ has run m → r ≡ false → B ≡ set A (s .top + n) m
       → Pushed A s n item (m ∷ []) B (n + 1)
   push-new B h p u z t e =
       let o : seen m || has run m ≡ false = ap₂ _||_ (sym p ∙ u) (sym z ∙ t) in
-      let k : n < 512 = push-place h z t in
+      let k : n < moduleLimit = push-place h z t in
       let l = run ++ (m ∷ []) in
-      let f : Fits 512 l = fits-snoc 512 run m h (sym z ∙ t) run-fits in
+      let f : Fits moduleLimit l = fits-snoc moduleLimit run m h (sym z ∙ t) run-fits in
       let q : runAt B (s .top) (n + 1) ≡ l = ap (λ x. runAt x (s .top) (n + 1)) e ∙ run-put A (s .top) n m (omega (arith, y .space)) in
       record {
         same = q ∙ sym (push-take seen run m [] o ∙ push-none seen l);
         below = ap (take (s .top)) e ∙ take-set-le (s .top) A (s .top + n) m (omega arith);
-        fits = omega (arith, f, ap length (sym q) ∙ length-rows (λ i. getD B (s .top + i) 0) (n + 1), ap (room 512) q);
+        fits = omega (arith, f, ap length (sym q) ∙ length-rows (λ i. getD B (s .top + i) 0) (n + 1), ap (room moduleLimit) q);
       }
 
-pub ready-none : (A : List ℕ) (s : Stack) → 4160 ≤ s .top → s .top + 512 ≤ length A → Chain A (s .place) (s .depth) (s .top) → Ready A s 0
-ready-none A s t h c = record { tables = t; space = h; chain = c; fits = rw (run-none A (s .top)) (fits-none 512) }
+pub ready-none : (A : List ℕ) (s : Stack) → tableWords ≤ s .top → s .top + moduleLimit ≤ length A → Chain A (s .place) (s .depth) (s .top) → Ready A s 0
+ready-none A s t h c = record { tables = t; space = h; chain = c; fits = rw (run-none A (s .top)) (fits-none moduleLimit) }
 
 pub ready-after : (A : List ℕ) (s : Stack) (n : ℕ) (item : Item) (ms B : List ℕ) (r : ℕ) → Ready A s n → Pushed A s n item ms B r → length B ≡ length A → Ready B s r
 ready-after A s n item ms B r y d l =

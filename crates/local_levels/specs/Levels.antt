@@ -5,14 +5,15 @@ use mathlib.Core.Bool.{Bool, true, false}
 use lib.Dec.{eqb}
 use lib.ListN.{getD}
 use Rattle.snapshot.specs.Lists.{rows}
+use Rattle.snapshot.specs.Limits.{definitionLimit, namespaceLimit}
 use Rattle.hir_def.specs.declared.Item.{Item}
 use Rattle.hir_def.specs.declared.Item.the-variants.{Mod, Def}
 use Rattle.find_path.specs.Walk.{Level, has}
 
 -- an item that fits a word
 abbrev pub Small : Item → Type 0
-Small (Mod m) = m < 2048
-Small (Def ns d) = (d < 2048) × (ns ≤ 2)
+Small (Mod m) = m < definitionLimit
+Small (Def ns d) = (d < definitionLimit) × (ns ≤ namespaceLimit)
 
 -- an item as a word: the namespace is the remainder by 4, and 3 for a module
 unfoldable pub codeOf : Item → ℕ

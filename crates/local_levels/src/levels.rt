@@ -3,6 +3,7 @@ ghost use mathlib.Core.Path.{_≡_};
 ghost use mathlib.Core.List.{[], _∷_};
 ghost use Prim.Native.Nat.{_+_, _<_, _≤_};
 ghost use lib.ListN.{length};
+ghost use Rattle.snapshot.specs.Limits.{moduleLimit};
 ghost use Rattle.find_path.specs.Walk.{has as hasIn, visited as visitedIn};
 ghost use Rattle.local_levels.specs.Levels.{Small, codeOf, runAt, levelsOf, Chain};
 ghost use Rattle.local_levels.specs.Post.{Ready, Pushed};
@@ -59,7 +60,7 @@ fn visited(area: &[u32], s: Stack, item: Item, m: usize) -> bool
 
 // One module goes to the end of the run of n modules at the top, unless it is visited or on it.
 pub(crate) fn push_module(area: &mut [u32], s: Stack, n: usize, item: Item, m: usize) -> usize
-    requires { ⌜ Ready (now area) s n × Small item × (m < 512) ⌝ }
+    requires { ⌜ Ready (now area) s n × Small item × (m < moduleLimit) ⌝ }
     ensures { λ r. ⌜ Pushed (now (area .entry)) s n item (m ∷ []) (now (area .exit)) r ⌝ }
 {
     if visited(area, s, item, m) {

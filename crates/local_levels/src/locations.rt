@@ -5,6 +5,7 @@ ghost use mathlib.Core.Bool.{_&&_};
 ghost use Prim.Native.Nat.{_+_, _<_, _≤_};
 ghost use lib.Dec.{eqb};
 ghost use lib.ListN.{length};
+ghost use Rattle.snapshot.specs.Limits.{moduleLimit};
 ghost use Rattle.snapshot.specs.Layouts.{tableWords, snapOf};
 ghost use Rattle.snapshot.specs.Records.{scopeAt};
 ghost use Rattle.accept.specs.Post.{Reads};
@@ -138,7 +139,7 @@ pub fn find_local_import_locations(
     s: Stack,
     item: Item,
 ) -> usize
-    requires { ⌜ Reads (now words) (now area) l × (from .0 < l .modules) × (tableWords ≤ s .top) × (s .top + 512 ≤ length (now area)) × Chain (now area) (s .place) (s .depth) (s .top) × Small item ⌝ }
+    requires { ⌜ Reads (now words) (now area) l × (from .0 < l .modules) × (tableWords ≤ s .top) × (s .top + moduleLimit ≤ length (now area)) × Chain (now area) (s .place) (s .depth) (s .top) × Small item ⌝ }
     ensures { λ r. ⌜ Gathered (now (area .entry)) (s .top) (findLocalImportLocations (snapOf (now (words .entry)) (now (area .entry)) l) (from .0) (visited (levelsOf (now (area .entry)) (s .place) (s .depth)) item)) (now (area .exit)) r ⌝ }
 {
     let children = push_children(words, area, l, from, s, 0, item);

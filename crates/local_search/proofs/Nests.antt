@@ -7,6 +7,7 @@ use native.Mathlib.Omega.{arith}
 use native.Mathlib.Numerals.{add-one}
 use lib.ListN.{length, getD, set, take, drop, drop-of-length-le, length-set}
 use lib.Seq.{getD-set-same, getD-set-other, take-set-le, drop-cons, take-suc}
+use Rattle.snapshot.specs.Limits.{moduleLimit, areaLimit}
 use Rattle.snapshot.specs.Records.{Snapshot, Scope}
 use Rattle.snapshot.specs.Layouts.{snapOf}
 use Rattle.snapshot.specs.declared.layout.Layout.{Layout}
@@ -25,7 +26,7 @@ use Rattle.find_path.proofs.Bounds.{Fits, nothing-fits, location-fits, search-l
 use Rattle.local_levels.specs.declared.Stack.{Stack}
 use Rattle.local_levels.specs.Levels.{Small, codeOf, itemAt, runAt, levelsOf, Chain}
 use Rattle.local_levels.specs.Post.{Gathered}
-use Rattle.local_search.specs.Post.{Searchable, Answered}
+use Rattle.local_search.specs.Post.{Searchable, Answered, levelSize}
 use Rattle.local_levels.proofs.Rows.{run-other, run-take, take-less, agree, run-same}
 use Rattle.local_levels.proofs.Codes.{item-back}
 use Rattle.local_levels.proofs.Stacks.{chain-wider, levels-same, chain-same, snap-at, reads-at}
@@ -156,7 +157,7 @@ step-fits S x (suc l) ls best m a h f = location-fits S x (searchLocal S x) (sea
 -- What the loop of the search keeps.
 pub record Nesting (S : Snapshot) (x : FindPathCtx) (left : ℕ) (item : Item) (A₁ : List ℕ) (s : Stack) (n : ℕ) (A : List ℕ) (best : Choice) (k : ℕ) : Type 0 where
   pub within : k ≤ n
-  pub few : n ≤ 512
+  pub few : n ≤ moduleLimit
   pub fits : Fits S left best
   pub chain : Chain A₁ (s .place) (s .depth) (s .top)
   pub opened : Open A₁ s item n A
@@ -175,13 +176,13 @@ module _ (W A₀ : List ℕ) (l : Layout) (x : FindPathCtx) (left : ℕ) (item :
   abbrev H : List ℕ
   H = headed A₀ s code
 
-  pub room : s .top + 515 ≤ 16384
+  pub room : s .top + levelSize ≤ areaLimit
   room = omega (arith, y .space)
 
   pub head-reads : Reads W H l
   head-reads = reads-at W A₀ H l (s .top) (y .reads) (y .tables) (head-below A₀ s code)
 
-  pub head-space : s .top + 3 + 512 ≤ length H
+  pub head-space : s .top + 3 + moduleLimit ≤ length H
   head-space = omega (arith, head-size A₀ s code, room, y .area)
 
   pub head-chain : Chain H (s .place) (s .depth) (s .top + 3)
@@ -201,10 +202,10 @@ module _ (W A₀ : List ℕ) (l : Layout) (x : FindPathCtx) (left : ℕ) (item :
     start-below : take (s .top) A₁ ≡ take (s .top) A₀
     start-below = take-less A₁ H (s .top) (s .top + 3) (omega arith) (g .below) ∙ head-below A₀ s code
 
-    pub start-size : length A₁ ≡ 16384
+    pub start-size : length A₁ ≡ areaLimit
     start-size = long ∙ head-size A₀ s code ∙ y .area
 
-    pub start-few : n ≤ 512
+    pub start-few : n ≤ moduleLimit
     start-few = g .few
 
     start-reads : Reads W A₁ l
@@ -225,10 +226,10 @@ module _ (W A₀ : List ℕ) (l : Layout) (x : FindPathCtx) (left : ℕ) (item :
       abbrev B : List ℕ
       B = set A (s .top + 2) k
 
-      pub loop-size : length A ≡ 16384
+      pub loop-size : length A ≡ areaLimit
       loop-size = v .opened .size ∙ start-size
 
-      cursor-size : length B ≡ 16384
+      cursor-size : length B ≡ areaLimit
       cursor-size = length-set A (s .top + 2) k ∙ loop-size
 
       cursor-open : Open A₁ s item n B

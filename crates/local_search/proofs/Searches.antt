@@ -5,8 +5,9 @@ use mathlib.Core.List.{List}
 use mathlib.Core.Bool.{true, false}
 use mathlib.Core.Option.{Option}
 use native.Mathlib.Omega.{arith}
+use Rattle.snapshot.specs.Limits.{pathLimit}
 use Rattle.snapshot.specs.Records.{Snapshot, Scope, scopeAt}
-use Rattle.snapshot.specs.Layouts.{snapOf}
+use Rattle.snapshot.specs.Layouts.{snapOf, tableWords}
 use Rattle.snapshot.specs.declared.layout.Layout.{Layout}
 use Rattle.accept.specs.Stands.{countsIn}
 use Rattle.accept.specs.Post.{Reads}
@@ -140,7 +141,7 @@ pub entry-at : (W : List ℕ) (l : Layout) {a : Entry} {h : ℕ} → EntryFits W
 entry-at W l f e = subst (EntryFits W l) e f
 
 -- nothing is under way
-pub search-start : (W A : List ℕ) (l : Layout) (x : FindPathCtx) (left : ℕ) → Prepared W A l x → left ≤ 15 → Searchable W A l x left (record { top = 4160; place = 0; depth = 0 })
+pub search-start : (W A : List ℕ) (l : Layout) (x : FindPathCtx) (left : ℕ) → Prepared W A l x → left ≤ pathLimit → Searchable W A l x left (record { top = tableWords; place = 0; depth = 0 })
 search-start W A l x left p h =
     record {
       reads = p .reads;
@@ -149,11 +150,11 @@ search-start W A l x left p h =
       tables = omega arith;
       space = omega arith;
       deep = omega arith;
-      chain = chain-none A 0 4160;
+      chain = chain-none A 0 tableWords;
       under = omega arith;
     }
 
 pub search-done : (S : Snapshot) (x : FindPathCtx) (left : ℕ) (item : Item) (A₀ A : List ℕ) (r : Choice)
-    → Answered A₀ 4160 (calculateBestPathLocal S x (searchLocal S x) left (levelsOf A₀ 0 0) item) A r → Chosen A₀ (bestLocal S x left item) A r
+    → Answered A₀ tableWords (calculateBestPathLocal S x (searchLocal S x) left (levelsOf A₀ 0 0) item) A r → Chosen A₀ (bestLocal S x left item) A r
 unfolding bestLocal levelsOf
 search-done S x left item A₀ A r a = record { same = a .same; tables = a .below }

@@ -3,6 +3,7 @@ use Prim.Native.Nat.{ℕ, _+_, _*_, _≤_, _<_}
 use mathlib.Core.Path.{_≡_}
 use mathlib.Core.List.{List}
 use lib.ListN.{length, take}
+use Rattle.snapshot.specs.Limits.{moduleLimit, pathLimit, areaLimit}
 use Rattle.snapshot.specs.Layouts.{tableWords}
 use Rattle.snapshot.specs.declared.layout.Layout.{Layout}
 use Rattle.accept.specs.Post.{Reads}
@@ -11,14 +12,18 @@ use Rattle.find_path.specs.declared.FindPathCtx.{FindPathCtx}
 use Rattle.local_levels.specs.declared.Stack.{Stack}
 use Rattle.local_levels.specs.Levels.{Chain}
 
--- The arguments of a local search of that length: 515 words for each level that it can open.
+-- words of a level: three, and its run of modules
+abbrev pub levelSize : ℕ
+levelSize = 3 + moduleLimit
+
+-- The arguments of a local search of that length: the words of each level that it can open.
 pub record Searchable (W A : List ℕ) (l : Layout) (x : FindPathCtx) (left : ℕ) (s : Stack) : Type 0 where
   pub reads : Reads W A l
   pub from : x .from < l .modules
-  pub area : length A ≡ 16384
+  pub area : length A ≡ areaLimit
   pub tables : tableWords ≤ s .top
-  pub space : s .top + 515 * left ≤ 16384
-  pub deep : s .depth + left ≤ 15
+  pub space : s .top + levelSize * left ≤ areaLimit
+  pub deep : s .depth + left ≤ pathLimit
   pub chain : Chain A (s .place) (s .depth) (s .top)
   pub under : s .place ≤ s .top
 

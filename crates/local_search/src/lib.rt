@@ -1,5 +1,6 @@
 //! The local search, which is never charged: `calculate_best_path_local` and the searches below it.
 ghost use Prim.Native.Nat.{_-_, _≤_, _<_, _^_};
+ghost use Rattle.snapshot.specs.Limits.{pathLimit};
 ghost use Rattle.snapshot.specs.Layouts.{snapOf};
 ghost use Rattle.find_path.specs.Local.{importableName, location as locationOf, calculateBestPathLocal};
 ghost use Rattle.find_path.specs.Search.{searchLocal, bestLocal};
@@ -20,10 +21,8 @@ use path_rules::choices::nothing;
 use path_rules::rules::module_rules;
 use snapshot::ids::ModuleId;
 use snapshot::layout::Layout;
+use snapshot::table::Tables;
 use snapshot::words::word;
-
-// The words of the tables, which the levels lie above.
-const TABLES: usize = 4160;
 
 // One module of the run: its path with the item's name there, against the choice so far.
 fn location(
@@ -122,11 +121,11 @@ pub fn calculate_best_path_local(
     left: usize,
     item: Item,
 ) -> Choice
-    requires { ⌜ Prepared (now words) (now area) l x × Asked l item × (0 < left) × (left ≤ 15) ⌝ }
+    requires { ⌜ Prepared (now words) (now area) l x × Asked l item × (0 < left) × (left ≤ pathLimit) ⌝ }
     ensures { λ r. ⌜ Chosen (now (area .entry)) (bestLocal (snapOf (now (words .entry)) (now (area .entry)) l) x left item) (now (area .exit)) r ⌝ }
 {
     let none = Stack {
-        top: TABLES,
+        top: Tables::END,
         place: 0,
         depth: 0,
     };

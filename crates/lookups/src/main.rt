@@ -1,6 +1,7 @@
 //! Tests of the lookups and of visibility: the cases of the stored list. Prints a line a query.
 ghost use mathlib.Core.Path.{_≡_};
 ghost use lib.ListN.{length};
+use snapshot::ids::WordCount;
 
 mod cases;
 mod line;
@@ -12,10 +13,10 @@ fn list() -> [u8; 65536]
     [0; 65536]
 }
 
-fn space() -> [u32; 16384]
+fn space() -> [u32; WordCount::SNAPSHOT]
     ensures { λ r. ⌜ 16384 ≡ length r ⌝ }
 {
-    [0; 16384]
+    [0; WordCount::SNAPSHOT]
 }
 
 fn main() {

@@ -12,9 +12,10 @@ use lib.Seq.{getD-set-same, getD-set-other}
 use borrow.Author.Count.{below-more}
 use borrow.Author.Tests.{ltb-true, leb-true, eqb-true}
 use Rattle.snapshot.specs.Lists.{any}
+use Rattle.snapshot.specs.Limits.{moduleLimit, areaLimit}
 use Rattle.snapshot.specs.Sizes.{crateSize, dependencySize, moduleSize, childSize, preludeSize, definitionSize, scopeSize, importSize, externSize, memberSize}
 use Rattle.snapshot.specs.Records.{Map, Module, Snapshot, mapAt, moduleAt, crateAt, dependencyAt, childAt, preludeAt, definitionAt, scopeAt, importAt, externAt, memberAt}
-use Rattle.snapshot.specs.Layouts.{crateBase, dependencyBase, childBase, preludeBase, definitionBase, scopeBase, importBase, externBase, memberBase, moduleMap, moduleHead, moduleParent, moduleRow, namesOf, modulesOf, recordsOf, snapWith}
+use Rattle.snapshot.specs.Layouts.{crateBase, dependencyBase, childBase, preludeBase, definitionBase, scopeBase, importBase, externBase, memberBase, moduleMap, moduleHead, moduleParent, moduleRow, namesOf, modulesOf, recordsOf, snapWith, moduleTable, crateTable}
 use Rattle.snapshot.specs.declared.layout.Layout.{Layout}
 use Rattle.snapshot.proofs.Laws.{rows-zero, rows-put, length-rows, getD-rows}
 use Rattle.record_rules.specs.Tests.{Counts, countsOf, mapOf, noMap, noModule, isIn, moduleDefined, modulePlaced}
@@ -27,22 +28,22 @@ use Rattle.record_rules.proofs.Tabled.{names-kept, heads-kept}
 
 -- a row of the table, written
 abbrev rowSet : List ℕ → ℕ → ℕ → ℕ → ℕ → List ℕ
-rowSet A m x y z = set (set (set A (2048 + 3 * m) x) (2048 + 3 * m + 1) y) (2048 + 3 * m + 2) z
+rowSet A m x y z = set (set (set A (moduleTable + 3 * m) x) (moduleTable + 3 * m + 1) y) (moduleTable + 3 * m + 2) z
 
 module _ (A : List ℕ) (m x y z : ℕ) where
-  row-other : (i : ℕ) → i ≢ 2048 + 3 * m → i ≢ 2048 + 3 * m + 1 → i ≢ 2048 + 3 * m + 2 → getD (rowSet A m x y z) i 0 ≡ getD A i 0
-  row-other i p q r = getD-set-other (set (set A (2048 + 3 * m) x) (2048 + 3 * m + 1) y) (2048 + 3 * m + 2) i z 0 r ∙ getD-set-other (set A (2048 + 3 * m) x) (2048 + 3 * m + 1) i y 0 q ∙ getD-set-other A (2048 + 3 * m) i x 0 p
+  row-other : (i : ℕ) → i ≢ moduleTable + 3 * m → i ≢ moduleTable + 3 * m + 1 → i ≢ moduleTable + 3 * m + 2 → getD (rowSet A m x y z) i 0 ≡ getD A i 0
+  row-other i p q r = getD-set-other (set (set A (moduleTable + 3 * m) x) (moduleTable + 3 * m + 1) y) (moduleTable + 3 * m + 2) i z 0 r ∙ getD-set-other (set A (moduleTable + 3 * m) x) (moduleTable + 3 * m + 1) i y 0 q ∙ getD-set-other A (moduleTable + 3 * m) i x 0 p
 
-  row-map : 2048 + 3 * m + 2 < length A → moduleMap (rowSet A m x y z) m ≡ x
-  row-map h = getD-set-other (set (set A (2048 + 3 * m) x) (2048 + 3 * m + 1) y) (2048 + 3 * m + 2) (2048 + 3 * m) z 0 (omega arith) ∙ getD-set-other (set A (2048 + 3 * m) x) (2048 + 3 * m + 1) (2048 + 3 * m) y 0 (omega arith) ∙ getD-set-same A (2048 + 3 * m) x 0 (omega arith)
+  row-map : moduleTable + 3 * m + 2 < length A → moduleMap (rowSet A m x y z) m ≡ x
+  row-map h = getD-set-other (set (set A (moduleTable + 3 * m) x) (moduleTable + 3 * m + 1) y) (moduleTable + 3 * m + 2) (moduleTable + 3 * m) z 0 (omega arith) ∙ getD-set-other (set A (moduleTable + 3 * m) x) (moduleTable + 3 * m + 1) (moduleTable + 3 * m) y 0 (omega arith) ∙ getD-set-same A (moduleTable + 3 * m) x 0 (omega arith)
 
-  row-head : 2048 + 3 * m + 2 < length A → moduleHead (rowSet A m x y z) m ≡ y
+  row-head : moduleTable + 3 * m + 2 < length A → moduleHead (rowSet A m x y z) m ≡ y
   row-head h =
-      getD-set-other (set (set A (2048 + 3 * m) x) (2048 + 3 * m + 1) y) (2048 + 3 * m + 2) (2048 + 3 * m + 1) z 0 (omega arith)
-      ∙ getD-set-same (set A (2048 + 3 * m) x) (2048 + 3 * m + 1) y 0 (simp length-set (omega arith))
+      getD-set-other (set (set A (moduleTable + 3 * m) x) (moduleTable + 3 * m + 1) y) (moduleTable + 3 * m + 2) (moduleTable + 3 * m + 1) z 0 (omega arith)
+      ∙ getD-set-same (set A (moduleTable + 3 * m) x) (moduleTable + 3 * m + 1) y 0 (simp length-set (omega arith))
 
-  row-parent : 2048 + 3 * m + 2 < length A → moduleParent (rowSet A m x y z) m ≡ z
-  row-parent h = getD-set-same (set (set A (2048 + 3 * m) x) (2048 + 3 * m + 1) y) (2048 + 3 * m + 2) z 0 (simp length-set (omega arith))
+  row-parent : moduleTable + 3 * m + 2 < length A → moduleParent (rowSet A m x y z) m ≡ z
+  row-parent h = getD-set-same (set (set A (moduleTable + 3 * m) x) (moduleTable + 3 * m + 1) y) (moduleTable + 3 * m + 2) z 0 (simp length-set (omega arith))
 
 module-parent : (n : Counts) (x : Module) → moduleDefined n x ≡ true → x .parent ≤ n .modules
 module-parent n x h = leb-true _ _ (and-right (ltb (x .map) (n .maps)) (leb (x .parent) (n .modules)) h)
@@ -74,22 +75,22 @@ moduleOn l =
       latest = l .latest;
     }
 
-module _ (W A : List ℕ) (at : ℕ) (l : Layout) (ms : List Map) (st : Stands W A 5 at l ms) (room : l .modules < 512) (large : 16384 ≤ length A)
+module _ (W A : List ℕ) (at : ℕ) (l : Layout) (ms : List Map) (st : Stands W A 5 at l ms) (room : l .modules < moduleLimit) (large : areaLimit ≤ length A)
     {x y z : ℕ} (ex : x ≡ moduleAt W at .map) (ey : y ≡ l .latest) (ez : z ≡ moduleAt W at .parent)
   where
-    fits-row : 2048 + 3 * l .modules + 2 < length A
+    fits-row : moduleTable + 3 * l .modules + 2 < length A
     fits-row = omega arith
 
     old-map : (k : ℕ) → k < l .modules → moduleMap (rowSet A (l .modules) x y z) k ≡ moduleMap A k
-    old-map k h = row-other A (l .modules) x y z (2048 + 3 * k) (omega arith) (omega arith) (omega arith)
+    old-map k h = row-other A (l .modules) x y z (moduleTable + 3 * k) (omega arith) (omega arith) (omega arith)
 
     old-head : (k : ℕ) → k < l .modules → moduleHead (rowSet A (l .modules) x y z) k ≡ moduleHead A k
-    old-head k h = row-other A (l .modules) x y z (2048 + 3 * k + 1) (omega arith) (omega arith) (omega arith)
+    old-head k h = row-other A (l .modules) x y z (moduleTable + 3 * k + 1) (omega arith) (omega arith) (omega arith)
 
     old-row : (k : ℕ) → k < l .modules → moduleRow (rowSet A (l .modules) x y z) k ≡ moduleRow A k
     old-row k h =
         let p = old-map k h in
-        let q = row-other A (l .modules) x y z (2048 + 3 * k + 2) (omega arith) (omega arith) (omega arith) in
+        let q = row-other A (l .modules) x y z (moduleTable + 3 * k + 2) (omega arith) (omega arith) (omega arith) in
         λ i. record { map = p i; parent = q i }
 
     new-row : moduleRow (rowSet A (l .modules) x y z) (l .modules) ≡ moduleAt W at
@@ -98,7 +99,7 @@ module _ (W A : List ℕ) (at : ℕ) (l : Layout) (ms : List Map) (st : Stands W
         let q = row-parent A (l .modules) x y z fits-row ∙ ez in
         λ i. record { map = p i; parent = q i }
 
-    names-stay : Kept A (rowSet A (l .modules) x y z) 0 2048
+    names-stay : Kept A (rowSet A (l .modules) x y z) 0 moduleTable
     names-stay i p q = row-other A (l .modules) x y z i (omega arith) (omega arith) (omega arith)
 
     module-added : snapWith W (rowSet A (l .modules) x y z) (moduleOn l) ms ≡ addModule (snapWith W A l ms) (moduleAt W at)
@@ -156,7 +157,7 @@ module _ (W A : List ℕ) (at : ℕ) (l : Layout) (ms : List Map) (st : Stands W
                 (ap (λ k. getD ms k noMap) new-map ∙ st .latest (omega arith) ∙ ap (mapAt W) (sym (row-head A (l .modules) x y z fits-row ∙ ey)));
             own = λ c h.
                 (let q = st .limited .crates in
-                row-other A (l .modules) x y z (4096 + c) (omega arith) (omega arith) (omega arith) ∙ st .own c h);
+                row-other A (l .modules) x y z (crateTable + c) (omega arith) (omega arith) (omega arith) ∙ st .own c h);
             index =
                 indexes-early W A (rowSet A (l .modules) x y z) 5 l (moduleOn l) (st .index) (st .limited .names) names-stay
                 (λ i u. row-other A (l .modules) x y z i (omega arith) (omega arith) (omega arith)) refl refl refl refl refl (st .upto) (lit< tt);
@@ -175,7 +176,7 @@ module _ (W A : List ℕ) (at : ℕ) (l : Layout) (ms : List Map) (st : Stands W
     (j : n ≡ numberOf true b false d e)
     (eb : b ≡ moduleDefined (countsIn l) (moduleAt W at))
     (ed : d ≡ (eqb (moduleAt W at .map + 1) (l .maps) && (any (isIn (moduleAt W at .map)) (modulesOf A (l .modules)) || eqb (moduleAt W at .parent) 0) && (not (any (isIn (moduleAt W at .map)) (modulesOf A (l .modules))) || not (eqb (moduleAt W at .parent) 0)) && (eqb (moduleAt W at .parent) 0 || eqb (moduleMap A (moduleAt W at .parent - 1)) (moduleAt W at .map))))
-    (ee : e ≡ ltb (l .modules) 512)
+    (ee : e ≡ ltb (l .modules) moduleLimit)
   where
     parent-by : (k : ℕ) → k ≤ l .modules → (eqb k 0 || eqb (moduleMap A (k - 1)) (moduleAt W at .map)) ≡ (eqb k 0 || eqb (mapOf (snapWith W A l ms) (k - 1)) (moduleAt W at .map))
     parent-by zero h = refl
@@ -186,29 +187,29 @@ module _ (W A : List ℕ) (at : ℕ) (l : Layout) (ms : List Map) (st : Stands W
         ed ∙ ap (λ m. (eqb (moduleAt W at .map + 1) m && (any (isIn (moduleAt W at .map)) (modulesOf A (l .modules)) || eqb (moduleAt W at .parent) 0) && (not (any (isIn (moduleAt W at .map)) (modulesOf A (l .modules))) || not (eqb (moduleAt W at .parent) 0)) && (eqb (moduleAt W at .parent) 0 || eqb (moduleMap A (moduleAt W at .parent - 1)) (moduleAt W at .map)))) (sym (st .count))
         ∙ ap (λ q. (eqb (moduleAt W at .map + 1) (length ms) && (any (isIn (moduleAt W at .map)) (modulesOf A (l .modules)) || eqb (moduleAt W at .parent) 0) && (not (any (isIn (moduleAt W at .map)) (modulesOf A (l .modules))) || not (eqb (moduleAt W at .parent) 0)) && q)) (parent-by (moduleAt W at .parent) (module-parent (countsIn l) (moduleAt W at) (sym eb ∙ h)))
 
-    module-number : n ≡ numberOf true (moduleDefined (countsOf (snapWith W A l ms)) (moduleAt W at)) false (modulePlaced (snapWith W A l ms) (moduleAt W at)) (ltb (length ((snapWith W A l ms) .modules)) 512)
+    module-number : n ≡ numberOf true (moduleDefined (countsOf (snapWith W A l ms)) (moduleAt W at)) false (modulePlaced (snapWith W A l ms) (moduleAt W at)) (ltb (length ((snapWith W A l ms) .modules)) moduleLimit)
     module-number =
-        number-of true b false d e true (moduleDefined (countsOf (snapWith W A l ms)) (moduleAt W at)) false (modulePlaced (snapWith W A l ms) (moduleAt W at)) (ltb (length ((snapWith W A l ms) .modules)) 512) j refl (eb ∙ ap (λ m. moduleDefined m (moduleAt W at)) (counts-same W A 5 at l ms st)) (λ h. refl) module-places
-        (ee ∙ ap (λ m. ltb m 512) (sym (length-rows _ (l .modules))))
+        number-of true b false d e true (moduleDefined (countsOf (snapWith W A l ms)) (moduleAt W at)) false (modulePlaced (snapWith W A l ms) (moduleAt W at)) (ltb (length ((snapWith W A l ms) .modules)) moduleLimit) j refl (eb ∙ ap (λ m. moduleDefined m (moduleAt W at)) (counts-same W A 5 at l ms st)) (λ h. refl) module-places
+        (ee ∙ ap (λ m. ltb m moduleLimit) (sym (length-rows _ (l .modules))))
 
     pub module-no : (n ≡ 0 → ⊥) → moduleStep (snapWith W A l ms) (moduleAt W at) ≡ no n
     unfolding moduleStep
-    module-no z = judge-no true (moduleDefined (countsOf (snapWith W A l ms)) (moduleAt W at)) false (modulePlaced (snapWith W A l ms) (moduleAt W at)) (ltb (length ((snapWith W A l ms) .modules)) 512) (addModule (snapWith W A l ms) (moduleAt W at)) module-number z
+    module-no z = judge-no true (moduleDefined (countsOf (snapWith W A l ms)) (moduleAt W at)) false (modulePlaced (snapWith W A l ms) (moduleAt W at)) (ltb (length ((snapWith W A l ms) .modules)) moduleLimit) (addModule (snapWith W A l ms) (moduleAt W at)) module-number z
 
-    module-passes : n ≡ 0 → Passed true (moduleDefined (countsOf (snapWith W A l ms)) (moduleAt W at)) false (modulePlaced (snapWith W A l ms) (moduleAt W at)) (ltb (length ((snapWith W A l ms) .modules)) 512)
-    module-passes z = passes true (moduleDefined (countsOf (snapWith W A l ms)) (moduleAt W at)) false (modulePlaced (snapWith W A l ms) (moduleAt W at)) (ltb (length ((snapWith W A l ms) .modules)) 512) (sym z ∙ module-number)
+    module-passes : n ≡ 0 → Passed true (moduleDefined (countsOf (snapWith W A l ms)) (moduleAt W at)) false (modulePlaced (snapWith W A l ms) (moduleAt W at)) (ltb (length ((snapWith W A l ms) .modules)) moduleLimit)
+    module-passes z = passes true (moduleDefined (countsOf (snapWith W A l ms)) (moduleAt W at)) false (modulePlaced (snapWith W A l ms) (moduleAt W at)) (ltb (length ((snapWith W A l ms) .modules)) moduleLimit) (sym z ∙ module-number)
 
-    module-room : n ≡ 0 → l .modules < 512
-    module-room z = ltb-true (l .modules) 512 (ap (λ m. ltb m 512) (sym (length-rows (moduleRow A) (l .modules))) ∙ module-passes z .room)
+    module-room : n ≡ 0 → l .modules < moduleLimit
+    module-room z = ltb-true (l .modules) moduleLimit (ap (λ m. ltb m moduleLimit) (sym (length-rows (moduleRow A) (l .modules))) ∙ module-passes z .room)
 
     module-last : n ≡ 0 → moduleAt W at .map + 1 ≡ l .maps
     module-last z = latest-map (snapWith W A l ms) (moduleAt W at) (module-passes z .placed) ∙ st .count
 
-    pub module-on : {x y w : ℕ} → n ≡ 0 → at + moduleSize ≤ length W → 16384 ≤ length A → x ≡ moduleAt W at .map → y ≡ l .latest → w ≡ moduleAt W at .parent
+    pub module-on : {x y w : ℕ} → n ≡ 0 → at + moduleSize ≤ length W → areaLimit ≤ length A → x ≡ moduleAt W at .map → y ≡ l .latest → w ≡ moduleAt W at .parent
         → Answered W (rowSet A (l .modules) x y w) 5 (at + moduleSize) (moduleStep (snapWith W A l ms) (moduleAt W at)) (On (moduleOn l))
     unfolding moduleStep
     module-on z fits large ex ey ew = (
       ms,
-      judge-on true (moduleDefined (countsOf (snapWith W A l ms)) (moduleAt W at)) false (modulePlaced (snapWith W A l ms) (moduleAt W at)) (ltb (length ((snapWith W A l ms) .modules)) 512) (addModule (snapWith W A l ms) (moduleAt W at)) (module-passes z) ∙ ap on (sym (module-added W A at l ms st (module-room z) large ex ey ew)),
+      judge-on true (moduleDefined (countsOf (snapWith W A l ms)) (moduleAt W at)) false (modulePlaced (snapWith W A l ms) (moduleAt W at)) (ltb (length ((snapWith W A l ms) .modules)) moduleLimit) (addModule (snapWith W A l ms) (moduleAt W at)) (module-passes z) ∙ ap on (sym (module-added W A at l ms st (module-room z) large ex ey ew)),
       module-stands W A at l ms st (module-room z) large ex ey ew (module-last z) fits,
     )

@@ -10,9 +10,10 @@ use lib.ListN.{length, getD, set, length-append, List·getD-append}
 use lib.Seq.{getD-set-same, getD-set-other, getD-at}
 use borrow.Author.Tests.{ltb-true, leb-true, eqb-true, eqb-false, eq-eqb, ne-eqb, not-false}
 use Rattle.snapshot.specs.Lists.{any}
+use Rattle.snapshot.specs.Limits.{areaLimit}
 use Rattle.snapshot.specs.Sizes.{crateSize, dependencySize, mapSize, childSize, preludeSize, definitionSize, scopeSize, importSize, externSize, memberSize}
 use Rattle.snapshot.specs.Records.{Map, crateAt, dependencyAt, mapAt, childAt, preludeAt, definitionAt, scopeAt, importAt, externAt, memberAt}
-use Rattle.snapshot.specs.Layouts.{crateBase, dependencyBase, childBase, preludeBase, definitionBase, scopeBase, importBase, externBase, memberBase, moduleMap, moduleHead, ownMap, moduleRow, namesOf, modulesOf, recordsOf, snapWith}
+use Rattle.snapshot.specs.Layouts.{crateBase, dependencyBase, childBase, preludeBase, definitionBase, scopeBase, importBase, externBase, memberBase, moduleMap, moduleHead, ownMap, moduleRow, namesOf, modulesOf, recordsOf, snapWith, moduleTable, crateTable}
 use Rattle.snapshot.specs.declared.layout.Layout.{Layout}
 use Rattle.snapshot.proofs.Laws.{rows-zero, getD-rows}
 use Rattle.record_rules.specs.Tests.{Counts, countsOf, crateOf, noMap, noModule, isOwn, mapRange, mapDefined, mapRepeated, mapPlaced}
@@ -72,7 +73,7 @@ mapOn l at =
       latest = at;
     }
 
-module _ (W A B : List ℕ) (at : ℕ) (l : Layout) (ms : List Map) (st : Stands W A 4 at l ms) (kept : Kept A B 0 4096) (above : Above A B) where
+module _ (W A B : List ℕ) (at : ℕ) (l : Layout) (ms : List Map) (st : Stands W A 4 at l ms) (kept : Kept A B 0 crateTable) (above : Above A B) where
   map-added : snapWith W B (mapOn l at) (ms ++ (mapAt W at ∷ [])) ≡ addMap (snapWith W A l ms) (mapAt W at)
   map-added =
       let z-children : l .children ≡ 0 = st .upto .children (lit< tt) in
@@ -94,7 +95,7 @@ module _ (W A B : List ℕ) (at : ℕ) (l : Layout) (ms : List Map) (st : Stands
       λ i. record { names = q-names i; crates = recordsOf crateAt crateSize W (crateBase l) (l .crates); dependencies = recordsOf dependencyAt dependencySize W (dependencyBase l) (l .dependencies); maps = ms ++ (mapAt W at ∷ []); modules = q-modules i; children = q-children i; preludes = q-preludes i; definitions = q-definitions i; scopes = q-scopes i; imports = q-imports i; externs = q-externs i; members = q-members i }
 
   map-of : (m : ℕ) → m < l .modules → moduleMap B m ≡ moduleMap A m
-  map-of m h = let r = st .limited .modules in kept (2048 + 3 * m) (omega arith) (omega arith)
+  map-of m h = let r = st .limited .modules in kept (moduleTable + 3 * m) (omega arith) (omega arith)
 
   map-stands : at + mapSize ≤ length W → ((c : ℕ) → c < l .crates → ownMap B c ≡ ownOf c (ms ++ (mapAt W at ∷ []))) → Stands W B 4 (at + mapSize) (mapOn l at) (ms ++ (mapAt W at ∷ []))
   map-stands fits own =
@@ -126,7 +127,7 @@ module _ (W A B : List ℕ) (at : ℕ) (l : Layout) (ms : List Map) (st : Stands
             (let r = st .below m h in
             let u = st .limited .modules in
             ap (λ k. getD (ms ++ (mapAt W at ∷ [])) k noMap) (map-of m h) ∙ List·getD-append ms (mapAt W at ∷ []) noMap (moduleMap A m) (omega arith) ∙ st .inside m h
-            ∙ ap (mapAt W) (sym (kept (2048 + 3 * m + 1) (omega arith) (omega arith))));
+            ∙ ap (mapAt W) (sym (kept (moduleTable + 3 * m + 1) (omega arith) (omega arith))));
         own = own;
         index = indexes-early W A B 4 l (mapOn l at) (st .index) (st .limited .names) (λ i u v. kept i u (omega arith)) above refl refl refl refl refl (st .upto) (lit< tt);
       }
@@ -181,7 +182,7 @@ module _ (W A : List ℕ) (at : ℕ) (l : Layout) (ms : List Map) (st : Stands W
     pub map-crate : n ≡ 0 → mapAt W at .crate < l .crates
     map-crate z = map-defined (countsIn l) (mapAt W at) (map-numbers z) .0
 
-    pub map-on : (B : List ℕ) → n ≡ 0 → at + mapSize ≤ length W → Kept A B 0 4096 → Above A B
+    pub map-on : (B : List ℕ) → n ≡ 0 → at + mapSize ≤ length W → Kept A B 0 crateTable → Above A B
         → ((c : ℕ) → c < l .crates → ownMap B c ≡ ownOf c (ms ++ (mapAt W at ∷ [])))
         → Answered W B 4 (at + mapSize) (mapStep (snapWith W A l ms) (mapAt W at)) (On (mapOn l at))
     unfolding mapStep
@@ -203,11 +204,11 @@ module _ (W A : List ℕ) (at : ℕ) (l : Layout) (ms : List Map) (st : Stands W
         no-own false = refl
 
     -- a crate's own map
-    pub map-on-own : {v i : ℕ} → n ≡ 0 → at + mapSize ≤ length W → 16384 ≤ length A → mapAt W at .block ≡ 0 → v ≡ l .maps + 1 → i ≡ mapAt W at .crate
-        → Answered W (set A (4096 + i) v) 4 (at + mapSize) (mapStep (snapWith W A l ms) (mapAt W at)) (On (mapOn l at))
+    pub map-on-own : {v i : ℕ} → n ≡ 0 → at + mapSize ≤ length W → areaLimit ≤ length A → mapAt W at .block ≡ 0 → v ≡ l .maps + 1 → i ≡ mapAt W at .crate
+        → Answered W (set A (crateTable + i) v) 4 (at + mapSize) (mapStep (snapWith W A l ms) (mapAt W at)) (On (mapOn l at))
     map-on-own {v} {i} z fits large h ev ei =
-        map-on (set A (4096 + i) v) z fits (set-kept A (4096 + i) v 0 4096 (λ k p q. omega arith))
-        (let c = map-crate z in let w = st .limited .crates in set-above A (4096 + i) v (omega arith)) owns
+        map-on (set A (crateTable + i) v) z fits (set-kept A (crateTable + i) v 0 crateTable (λ k p q. omega arith))
+        (let c = map-crate z in let w = st .limited .crates in set-above A (crateTable + i) v (omega arith)) owns
       where
         fresh : ownOf (mapAt W at .crate) ms ≡ 0
         fresh =
@@ -215,18 +216,18 @@ module _ (W A : List ℕ) (at : ℕ) (l : Layout) (ms : List Map) (st : Stands W
             let q : any (isOwn (mapAt W at .crate)) ms ≡ false = rw (eq-eqb _ _ h) at p in
             eqb-true _ _ (not-false _ (own-any (mapAt W at .crate) 0 ms ∙ q))
 
-        own-at : (k : ℕ) → k < l .crates → (t : Bool) → eqb (mapAt W at .crate) k ≡ t → ownMap (set A (4096 + i) v) k ≡ ownOf k (ms ++ (mapAt W at ∷ []))
+        own-at : (k : ℕ) → k < l .crates → (t : Bool) → eqb (mapAt W at .crate) k ≡ t → ownMap (set A (crateTable + i) v) k ≡ ownOf k (ms ++ (mapAt W at ∷ []))
         own-at k p true e =
             let f : mapAt W at .crate ≡ k = eqb-true _ _ e in
             let g : isOwn k (mapAt W at) ≡ true = rw (e, eq-eqb _ _ h) in
-            let u : 4096 + k ≡ 4096 + i = ap (λ x. 4096 + x) (sym f ∙ sym ei) in
+            let u : crateTable + k ≡ crateTable + i = ap (λ x. crateTable + x) (sym f ∙ sym ei) in
             let w = st .limited .crates in
-            ap (λ x. getD (set A (4096 + i) v) x 0) u ∙ getD-set-same A (4096 + i) v 0 (omega arith) ∙ ev
+            ap (λ x. getD (set A (crateTable + i) v) x 0) u ∙ getD-set-same A (crateTable + i) v 0 (omega arith) ∙ ev
             ∙ sym (own-first k 0 ms (mapAt W at) (subst (λ x. ownOf x ms ≡ 0) f fresh) g ∙ (let y = st .count in omega arith))
         own-at k p false e =
             let f : (mapAt W at .crate ≡ k → ⊥) = eqb-false _ _ e in
             let g : isOwn k (mapAt W at) ≡ false = rw e in
-            getD-set-other A (4096 + i) (4096 + k) v 0 (λ u. f (sym ei ∙ sym (let q : k ≡ i = omega arith in q))) ∙ st .own k p ∙ sym (own-later k 0 ms (mapAt W at) g)
+            getD-set-other A (crateTable + i) (crateTable + k) v 0 (λ u. f (sym ei ∙ sym (let q : k ≡ i = omega arith in q))) ∙ st .own k p ∙ sym (own-later k 0 ms (mapAt W at) g)
 
-        owns : (k : ℕ) → k < l .crates → ownMap (set A (4096 + i) v) k ≡ ownOf k (ms ++ (mapAt W at ∷ []))
+        owns : (k : ℕ) → k < l .crates → ownMap (set A (crateTable + i) v) k ≡ ownOf k (ms ++ (mapAt W at ∷ []))
         owns k p = own-at k p (eqb (mapAt W at .crate) k) refl

@@ -5,6 +5,7 @@ ghost use Prim.Native.Nat.{_+_, _-_, _*_, _<_, _≤_};
 ghost use lib.Dec.{eqb};
 ghost use mathlib.Core.Bool.{_&&_, _||_, not};
 ghost use Rattle.snapshot.specs.Lists.{any};
+ghost use Rattle.snapshot.specs.Limits.{moduleLimit};
 ghost use Rattle.snapshot.specs.Sizes.{moduleSize};
 ghost use Rattle.snapshot.specs.Layouts.{modulesOf, moduleMap};
 ghost use Rattle.snapshot.specs.Records.{Map, moduleAt};
@@ -29,7 +30,7 @@ fn defined(words: &[u32], l: Layout, at: usize) -> bool
 
 /// Whether one of the first n modules is of a map.
 pub fn has_module(area: &[u32], n: usize, map: usize) -> bool
-    requires { ⌜ n ≤ 512 ⌝ }
+    requires { ⌜ n ≤ moduleLimit ⌝ }
     ensures { λ r. ⌜ r ≡ any (isIn map) (modulesOf (now (area .entry)) n) ⌝ }
 {
     let mut m = 0;
@@ -55,7 +56,7 @@ fn parent_placed(words: &[u32], area: &[u32], at: usize) -> bool
 
 // Of the latest map, which has a root and no other module without a parent.
 fn placed(words: &[u32], area: &[u32], l: Layout, at: usize) -> bool
-    requires { ⌜ l .modules ≤ 512 ⌝ }
+    requires { ⌜ l .modules ≤ moduleLimit ⌝ }
     ensures { λ r. ⌜ r ≡ (eqb (moduleAt (now (words .entry)) at .map + 1) (l .maps) && (any (isIn (moduleAt (now (words .entry)) at .map)) (modulesOf (now (area .entry)) (l .modules)) || eqb (moduleAt (now (words .entry)) at .parent) 0) && (not (any (isIn (moduleAt (now (words .entry)) at .map)) (modulesOf (now (area .entry)) (l .modules))) || not (eqb (moduleAt (now (words .entry)) at .parent) 0)) && (eqb (moduleAt (now (words .entry)) at .parent) 0 || eqb (moduleMap (now (area .entry)) (moduleAt (now (words .entry)) at .parent - 1)) (moduleAt (now (words .entry)) at .map))) ⌝ }
 {
     let map = map_named(words, at);

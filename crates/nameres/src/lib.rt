@@ -9,7 +9,6 @@ ghost use Rattle.hir_def.specs.Nameres.{scopeEntry, entryNamed, isOther, occupi
 ghost use Rattle.hir_def.specs.Entries.{entryOf};
 use hir_def::Entry;
 use hir_def::Item;
-use hir_def::items::Namespace;
 use hir_def::items::item_of;
 use hir_def::items::same_item;
 use hir_def::modules::block;
@@ -17,6 +16,7 @@ use item_scope::entry_in;
 use item_scope::get;
 use snapshot::ids::ModuleId;
 use snapshot::ids::Name;
+use snapshot::ids::Namespace;
 use snapshot::layout::Layout;
 use snapshot::record::scope_definition;
 use snapshot::record::scope_ns;

@@ -1,6 +1,7 @@
 //! Paths to choose from: their lengths, one name more, and which of two is better.
 ghost use mathlib.Core.Path.{_≡_};
 ghost use Prim.Native.Nat.{_+_, _-_, _≤_, _<_, _^_};
+ghost use Rattle.snapshot.specs.Limits.{wordLimit};
 ghost use Rattle.snapshot.specs.Layouts.{snapOf};
 ghost use Rattle.accept.specs.Post.{Reads};
 ghost use Rattle.find_path.specs.Choices.{nameLen, isPrelude, pathKindLen, pathLen, stepBy, nothing as nothingOf, keyword as keywordOf, choiceNew, extended as extendedOf, push as pushOf, unstably as unstablyOf, better as betterOf, trySelect, lengthLeft};
@@ -81,7 +82,7 @@ impl StepRule {
 
 /// A step of a route: its rule, and the place of the record used.
 pub fn step_by(rule: usize, place: usize) -> usize
-    requires { ⌜ (rule ≤ 7) × (place < 16384) ⌝ }
+    requires { ⌜ (rule ≤ 7) × (place < wordLimit) ⌝ }
     ensures { λ r. ⌜ r ≡ stepBy rule place ⌝ }
 {
     place * 8 + rule

@@ -1,28 +1,33 @@
 //! Prints the path of each question on standard input, a line each: a snapshot, then the questions.
 ghost use mathlib.Core.Path.{_≡_};
+ghost use Prim.Native.Nat.{_+_};
 ghost use lib.ListN.{length};
+ghost use Rattle.snapshot.specs.Limits.{wordLimit, routedLimit, inputLimit};
 
 mod print;
 
 use libc::STDIN_FILENO;
+use printing::input::ByteCount;
+use route_line::route::RoutedBytes;
+use snapshot::ids::WordCount;
 
 // One byte more than an input may have.
-fn input() -> [u8; 65537]
-    ensures { λ r. ⌜ 65537 ≡ length r ⌝ }
+fn input() -> [u8; ByteCount::INPUT + 1]
+    ensures { λ r. ⌜ inputLimit + 1 ≡ length r ⌝ }
 {
-    [0; 65537]
+    [0; ByteCount::INPUT + 1]
 }
 
-fn words() -> [u32; 16384]
-    ensures { λ r. ⌜ 16384 ≡ length r ⌝ }
+fn words() -> [u32; WordCount::SNAPSHOT]
+    ensures { λ r. ⌜ wordLimit ≡ length r ⌝ }
 {
-    [0; 16384]
+    [0; WordCount::SNAPSHOT]
 }
 
-fn text() -> [u8; 4659]
-    ensures { λ r. ⌜ 4659 ≡ length r ⌝ }
+fn text() -> [u8; RoutedBytes::LIMIT]
+    ensures { λ r. ⌜ routedLimit ≡ length r ⌝ }
 {
-    [0; 4659]
+    [0; RoutedBytes::LIMIT]
 }
 
 fn main() {

@@ -2,6 +2,7 @@
 ghost use mathlib.Core.Path.{_≡_};
 ghost use Prim.Native.Nat.{_≤_};
 ghost use lib.ListN.{length};
+ghost use Rattle.snapshot.specs.Limits.{wordLimit, areaLimit, routedLimit};
 use accept::check::check;
 use libc::STDOUT_FILENO;
 use line::line::put_refusal;
@@ -12,7 +13,7 @@ use printing::input::words_in;
 
 // The lines of the questions, which begin at place k; the snapshot before them is checked once.
 fn print_questions(words: &[u32], k: usize, area: &mut [u32], out: &mut [u8])
-    requires { ⌜ (k ≤ length (now words)) × (length (now words) ≤ 16384) × (16384 ≡ length (now area)) × (4659 ≤ length (now out)) ⌝ }
+    requires { ⌜ (k ≤ length (now words)) × (length (now words) ≤ wordLimit) × (areaLimit ≡ length (now area)) × (routedLimit ≤ length (now out)) ⌝ }
 {
     let snapshot = &words[..k];
     let c = check(snapshot, area);
@@ -27,7 +28,7 @@ fn print_questions(words: &[u32], k: usize, area: &mut [u32], out: &mut [u8])
 
 // The lines of the words; without a question there is none.
 fn print_words(words: &[u32], area: &mut [u32], out: &mut [u8])
-    requires { ⌜ (length (now words) ≤ 16384) × (16384 ≡ length (now area)) × (4659 ≤ length (now out)) ⌝ }
+    requires { ⌜ (length (now words) ≤ wordLimit) × (areaLimit ≡ length (now area)) × (routedLimit ≤ length (now out)) ⌝ }
 {
     let k = first_question(words);
     if k < words.len() {
@@ -37,7 +38,7 @@ fn print_words(words: &[u32], area: &mut [u32], out: &mut [u8])
 
 /// Prints the lines of an input.
 pub fn print(bytes: &[u8], words: &mut [u32], area: &mut [u32], out: &mut [u8])
-    requires { ⌜ (16384 ≤ length (now words)) × (16384 ≡ length (now area)) × (4659 ≤ length (now out)) ⌝ }
+    requires { ⌜ (wordLimit ≤ length (now words)) × (areaLimit ≡ length (now area)) × (routedLimit ≤ length (now out)) ⌝ }
 {
     let fault = input_fault(bytes);
     if fault != 0 {

@@ -10,6 +10,8 @@ use lib.Dec.{eqb, leb, ltb}
 use lib.ListN.{length, getD, take, length-take}
 use lib.Seq.{length-take-le}
 use Rattle.io.specs.Counts.{Counts}
+use Rattle.snapshot.specs.Limits.{areaLimit, inputLimit}
+use Rattle.snapshot.specs.Sizes.{questionSize, reachSize}
 use Rattle.snapshot.specs.Words.{kindOf, payOf}
 use Rattle.snapshot.specs.Records.{Snapshot}
 use Rattle.accept.specs.Verdict.{empty}
@@ -31,20 +33,20 @@ use Rattle.printer.specs.Printed.{isQuestion, isHead, firstFrom, questio
 -- faults of an input
 
 module _ (B : List ℕ) where
-  pub too-long : 65536 < length B → 40 ≡ inputFault B
+  pub too-long : inputLimit < length B → 40 ≡ inputFault B
   unfolding inputFault
   too-long h = rw (inputFault, lt-ltb _ _ h)
 
-  pub a-rest : length B ≤ 65536 → (length B % 4 ≡ 0 → ⊥) → 41 ≡ inputFault B
+  pub a-rest : length B ≤ inputLimit → (length B % 4 ≡ 0 → ⊥) → 41 ≡ inputFault B
   unfolding inputFault
   a-rest h p = rw (inputFault, le-ltb _ _ h, ne-eqb _ _ p)
 
-  pub no-fault : length B ≤ 65536 → length B % 4 ≡ 0 → 0 ≡ inputFault B
+  pub no-fault : length B ≤ inputLimit → length B % 4 ≡ 0 → 0 ≡ inputFault B
   unfolding inputFault
   no-fault h p = rw (inputFault, le-ltb _ _ h, eq-eqb _ _ p)
 
-  pub fault-free : 0 ≡ inputFault B → length B ≤ 65536
-  fault-free e = by-test (ltb 65536 (length B)) (λ t. absurd (omega (arith, e, too-long (ltb-true _ _ t)))) (λ t. ltb-false _ _ t)
+  pub fault-free : 0 ≡ inputFault B → length B ≤ inputLimit
+  fault-free e = by-test (ltb inputLimit (length B)) (λ t. absurd (omega (arith, e, too-long (ltb-true _ _ t)))) (λ t. ltb-false _ _ t)
 
 -- where the questions begin
 
@@ -74,12 +76,12 @@ module _ (W : List ℕ) where
 
 pub whole-same : (W : List ℕ) (i : ℕ) (h a b c d e f : Bool) → h ≡ isQuestion (kindOf (getD W i 0)) → a ≡ isArgument W (i + 1) → b ≡ isArgument W (i + 2)
     → c ≡ isArgument W (i + 3) → d ≡ isArgument W (i + 4) → e ≡ isArgument W (i + 5) → f ≡ isArgument W (i + 6)
-    → (h && ((a && b) && ((c && d) && ((e && f) && leb (i + 7) (length W))))) ≡ wholeAt W i
+    → (h && ((a && b) && ((c && d) && ((e && f) && leb (i + questionSize) (length W))))) ≡ wholeAt W i
 unfolding wholeAt
 whole-same W i h a b c d e f p q r s t u v =
     ap₂ (λ x y. x && y) p
     (ap₂ (λ x y. x && y) (ap₂ (λ x y. x && y) q r)
-    (ap₂ (λ x y. x && y) (ap₂ (λ x y. x && y) s t) (ap (λ x. x && leb (i + 7) (length W)) (ap₂ (λ x y. x && y) u v))))
+    (ap₂ (λ x y. x && y) (ap₂ (λ x y. x && y) s t) (ap (λ x. x && leb (i + questionSize) (length W)) (ap₂ (λ x y. x && y) u v))))
 
 none-false : (a b c d : Bool) → false ≡ (a && (b && (c && (d && false))))
 none-false false b c d = refl
@@ -91,7 +93,7 @@ none-false true true true true = refl
 pub not-whole : (W : List ℕ) (i : ℕ) → length W ≤ i → false ≡ wholeAt W i
 unfolding wholeAt
 not-whole W i h =
-    let g : length W < i + 7 = omega arith in
+    let g : length W < i + questionSize = omega arith in
     rw (wholeAt, lt-leb _ _ g)
     (none-false (isQuestion (kindOf (getD W i 0))) (isArgument W (i + 1) && isArgument W (i + 2)) (isArgument W (i + 3) && isArgument W (i + 4)) (isArgument W (i + 5) && isArgument W (i + 6)))
 
@@ -106,16 +108,16 @@ question-same W i ns d m p o n f a b c e g k h =
 
 pub reach-same : (W : List ℕ) (i k : ℕ) (a b c d : Bool) → k ≡ kindOf (getD W i 0) → a ≡ isArgument W (i + 1) → b ≡ isArgument W (i + 2)
     → c ≡ isArgument W (i + 3) → d ≡ isArgument W (i + 4)
-    → (eqb k 15 && ((a && b) && ((c && d) && leb (i + 5) (length W)))) ≡ reachAt W i
+    → (eqb k 15 && ((a && b) && ((c && d) && leb (i + reachSize) (length W)))) ≡ reachAt W i
 unfolding reachAt
 reach-same W i k a b c d p q r s t =
     ap₂ (λ x y. x && y) (ap (λ x. eqb x 15) p)
-    (ap₂ (λ x y. x && y) (ap₂ (λ x y. x && y) q r) (ap (λ x. x && leb (i + 5) (length W)) (ap₂ (λ x y. x && y) s t)))
+    (ap₂ (λ x y. x && y) (ap₂ (λ x y. x && y) q r) (ap (λ x. x && leb (i + reachSize) (length W)) (ap₂ (λ x y. x && y) s t)))
 
 pub not-reach : (W : List ℕ) (i : ℕ) → length W ≤ i → false ≡ reachAt W i
 unfolding reachAt
 not-reach W i h =
-    let g : length W < i + 5 = omega arith in
+    let g : length W < i + reachSize = omega arith in
     rw (reachAt, lt-leb _ _ g)
     (none-false true (eqb (kindOf (getD W i 0)) 15) (isArgument W (i + 1) && isArgument W (i + 2)) (isArgument W (i + 3) && isArgument W (i + 4)))
 
@@ -174,7 +176,7 @@ module _ (W S : List ℕ) (c : Checked) (i : ℕ) (A out : List ℕ) where
     whole : wholeAt W i ≡ true
     whole = sym e ∙ t
 
-    pub turn-line : r ≡ false → LineOn S q c A old out n → Printed W S c i A old out (record { bytes = n; next = i + 7 })
+    pub turn-line : r ≡ false → LineOn S q c A old out n → Printed W S c i A old out (record { bytes = n; next = i + questionSize })
     unfolding lineAt nextAt
     turn-line u p =
         let k : asksRoute W i ≡ false = sym g ∙ u in
@@ -186,7 +188,7 @@ module _ (W S : List ℕ) (c : Checked) (i : ℕ) (A out : List ℕ) where
           checked = p .checked;
         }
 
-    pub turn-route : r ≡ true → RoutedOn S q c A old out n → Printed W S c i A old out (record { bytes = n; next = i + 7 })
+    pub turn-route : r ≡ true → RoutedOn S q c A old out n → Printed W S c i A old out (record { bytes = n; next = i + questionSize })
     unfolding lineAt nextAt
     turn-route u p =
         let k : asksRoute W i ≡ true = sym g ∙ u in
@@ -199,14 +201,14 @@ module _ (W S : List ℕ) (c : Checked) (i : ℕ) (A out : List ℕ) where
         }
 
   pub turn-reach : (old : List ℕ) (n : ℕ) (r : Bool) (v : Viewer) → r ≡ reachAt W i → r ≡ true → v ≡ viewerAt W i → ReachLineOn S v c A old out n
-      → Printed W S c i A old out (record { bytes = n; next = i + 5 })
+      → Printed W S c i A old out (record { bytes = n; next = i + reachSize })
   unfolding lineAt nextAt
   turn-reach old n r v e t h p =
       let x : reachAt W i ≡ true = sym e ∙ t in
       let f = reach-no-question W i x in
       record {
         rest = p .line .rest;
-        line = p .line .same ∙ ap (λ y. reachLine (reachOf S 16384 y) ++ bytesOf "\n") h ∙ sym (rw (lineAt, f, x));
+        line = p .line .same ∙ ap (λ y. reachLine (reachOf S areaLimit y) ++ bytesOf "\n") h ∙ sym (rw (lineAt, f, x));
         counts = counts-of (p .line);
         next = sym (rw (nextAt, f, x));
         checked = p .checked;
@@ -216,8 +218,8 @@ pub next-more : (W : List ℕ) (i n : ℕ) → i < length W → n ≡ nextAt W i
 unfolding nextAt
 next-more W i n h e =
     by-test (wholeAt W i)
-    (λ t. let f : n ≡ i + 7 = e ∙ rw (nextAt, t) in omega arith)
+    (λ t. let f : n ≡ i + questionSize = e ∙ rw (nextAt, t) in omega arith)
     (λ t.
     by-test (reachAt W i)
-    (λ u. let f : n ≡ i + 5 = e ∙ rw (nextAt, t, u) in omega arith)
+    (λ u. let f : n ≡ i + reachSize = e ∙ rw (nextAt, t, u) in omega arith)
     (λ u. let f : n ≡ length W = e ∙ rw (nextAt, t, u) in omega arith))

@@ -6,7 +6,8 @@ use mathlib.Core.Bool.{Bool, true, false, _&&_, _||_}
 use lib.Dec.{eqb, leb, ltb}
 use lib.ListN.{length, getD, take, drop}
 use Rattle.io.specs.Counts.{Counts}
-use Rattle.snapshot.specs.Limits.{areaLimit}
+use Rattle.snapshot.specs.Limits.{areaLimit, inputLimit}
+use Rattle.snapshot.specs.Sizes.{questionSize, reachSize}
 use Rattle.snapshot.specs.Words.{kindOf, payOf}
 use Rattle.accept.specs.Verdict.{empty}
 use Rattle.accept.specs.Post.{Judged}
@@ -45,7 +46,7 @@ wholeAt W i =
     isQuestion (kindOf (getD W i 0))
     && ((isArgument W (i + 1) && isArgument W (i + 2))
     && ((isArgument W (i + 3) && isArgument W (i + 4))
-    && ((isArgument W (i + 5) && isArgument W (i + 6)) && leb (i + 7) (length W))))
+    && ((isArgument W (i + 5) && isArgument W (i + 6)) && leb (i + questionSize) (length W))))
 
 -- head: definition; arguments: namespace, viewing module, prefix, options, fuel, limit
 unfoldable pub questionAt : List ℕ → ℕ → Question
@@ -66,7 +67,7 @@ questionAt W i =
 unfoldable pub reachAt : List ℕ → ℕ → Bool
 reachAt W i =
     eqb (kindOf (getD W i 0)) 15
-    && ((isArgument W (i + 1) && isArgument W (i + 2)) && ((isArgument W (i + 3) && isArgument W (i + 4)) && leb (i + 5) (length W)))
+    && ((isArgument W (i + 1) && isArgument W (i + 2)) && ((isArgument W (i + 3) && isArgument W (i + 4)) && leb (i + reachSize) (length W)))
 
 -- head: viewing module; arguments: prefix, options, fuel, limit
 unfoldable pub viewerAt : List ℕ → ℕ → Viewer
@@ -96,7 +97,7 @@ lineAt W S i =
     ]
 
 unfoldable pub nextAt : List ℕ → ℕ → ℕ
-nextAt W i = elim (wholeAt W i) [ true ↦ i + 7 | false ↦ elim (reachAt W i) [ true ↦ i + 5 | false ↦ length W ] ]
+nextAt W i = elim (wholeAt W i) [ true ↦ i + questionSize | false ↦ elim (reachAt W i) [ true ↦ i + reachSize | false ↦ length W ] ]
 
 -- the lines from a place on; n is at least the number of words left
 unfoldable pub linesFrom : ℕ → List ℕ → List ℕ → ℕ → List (List ℕ)
@@ -105,7 +106,7 @@ linesFrom (suc n) W S i = elim (ltb i (length W)) [ true ↦ lineAt W S i ∷ li
 
 -- too many bytes, a rest of 1 to 3 bytes, or 0 for none
 unfoldable pub inputFault : List ℕ → ℕ
-inputFault B = elim (ltb 65536 (length B)) [ true ↦ 40 | false ↦ elim (eqb (length B % 4) 0) [ true ↦ 0 | false ↦ 41 ] ]
+inputFault B = elim (ltb inputLimit (length B)) [ true ↦ 40 | false ↦ elim (eqb (length B % 4) 0) [ true ↦ 0 | false ↦ 41 ] ]
 
 unfoldable pub linesOf : List ℕ → List (List ℕ)
 linesOf W = linesFrom (length W) W (take (questionsAt W) W) (questionsAt W)

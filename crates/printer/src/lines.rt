@@ -2,6 +2,7 @@
 ghost use mathlib.Core.Path.{_≡_};
 ghost use Prim.Native.Nat.{_≤_, _<_};
 ghost use lib.ListN.{length};
+ghost use Rattle.snapshot.specs.Limits.{wordLimit, areaLimit, routedLimit};
 ghost use Rattle.accept.specs.Post.{Judged};
 ghost use Rattle.printer.specs.Printed.{Printed};
 use crate::questions::asks_route;
@@ -14,6 +15,7 @@ use checked::lines::line_on;
 use line::line::put_refusal;
 use reach::lines::reach_line_on;
 use route_line::lines::routed_line_on;
+use snapshot::kind::Size;
 
 /// How many bytes a line has, and the place after what it is for.
 pub struct Turn {
@@ -31,7 +33,7 @@ pub fn next_line(
     at: usize,
     out: &mut [u8],
 ) -> Turn
-    requires { ⌜ Judged (now snapshot) (now area) c × (length (now area) ≡ 16384) × (4659 ≤ length (now out)) × (at < length (now words)) × (length (now words) ≤ 16384) ⌝ }
+    requires { ⌜ Judged (now snapshot) (now area) c × (length (now area) ≡ areaLimit) × (routedLimit ≤ length (now out)) × (at < length (now words)) × (length (now words) ≤ wordLimit) ⌝ }
     ensures { λ r. ⌜ Printed (now (words .entry)) (now (snapshot .entry)) c at (now (area .exit)) (now (out .entry)) (now (out .exit)) r ⌝ }
 {
     if is_reach(words, at) {
@@ -39,7 +41,7 @@ pub fn next_line(
         let n = reach_line_on(snapshot, area, c, v, out);
         return Turn {
             bytes: n,
-            next: at + 5,
+            next: at + Size::REACH,
         };
     }
     if !is_whole(words, at) {
@@ -50,7 +52,7 @@ pub fn next_line(
         };
     }
     let q = question_at(words, at);
-    let next = at + 7;
+    let next = at + Size::QUESTION;
     if asks_route(words, at) {
         let n = routed_line_on(snapshot, area, c, q, out);
         return Turn {

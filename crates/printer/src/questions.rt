@@ -7,6 +7,7 @@ use find_path::Query;
 use find_path::Question;
 use reach_parts::Viewer;
 use snapshot::kind::Kind;
+use snapshot::kind::Size;
 use snapshot::words::field;
 use snapshot::words::kind;
 use snapshot::words::payload;
@@ -67,7 +68,7 @@ pub fn is_whole(words: &[u32], at: usize) -> bool
     let first = is_argument(words, at + 1) & is_argument(words, at + 2);
     let second = is_argument(words, at + 3) & is_argument(words, at + 4);
     let third = is_argument(words, at + 5) & is_argument(words, at + 6);
-    let room = at + 7 <= words.len();
+    let room = at + Size::QUESTION <= words.len();
     head & (first & (second & (third & room)))
 }
 
@@ -81,7 +82,7 @@ pub fn is_reach(words: &[u32], at: usize) -> bool
     let head = kind(words, at) == QuestionKind::REACH;
     let first = is_argument(words, at + 1) & is_argument(words, at + 2);
     let second = is_argument(words, at + 3) & is_argument(words, at + 4);
-    let room = at + 5 <= words.len();
+    let room = at + Size::REACH <= words.len();
     head & (first & (second & room))
 }
 

@@ -2,14 +2,16 @@
 ghost use mathlib.Core.Path.{_≡_};
 ghost use Prim.Native.Nat.{_+_, _*_, _^_, _≤_, _<_};
 ghost use lib.ListN.{length, take, getD};
+ghost use Rattle.snapshot.specs.Limits.{wordLimit};
 ghost use Rattle.printing.specs.Input.{wordIn, wordsIn};
+use snapshot::ids::WordCount;
 
 /// A number of bytes.
 pub struct ByteCount(pub usize);
 
 impl ByteCount {
     /// Bytes of an input, at most: four for each word of a snapshot.
-    pub const INPUT: usize = 65536;
+    pub const INPUT: usize = 4 * WordCount::SNAPSHOT;
 }
 
 fn wide(x: u8) -> u32
@@ -39,7 +41,7 @@ pub fn word_in(bytes: &[u8], at: usize) -> u32
 
 /// Writes the first n words of the bytes.
 pub fn words_in(bytes: &[u8], words: &mut [u32], n: usize)
-    requires { ⌜ (n ≤ length (now words)) × (n ≤ 16384) ⌝ }
+    requires { ⌜ (n ≤ length (now words)) × (n ≤ wordLimit) ⌝ }
     ensures { λ _. ⌜ take n (now (words .exit)) ≡ wordsIn (now (bytes .entry)) n ⌝ }
 {
     let mut k = 0;

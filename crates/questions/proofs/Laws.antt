@@ -9,15 +9,17 @@ use borrow.Rule.Slice.PartMut.{midOf}
 use lib.Dec.{eqb, leb}
 use lib.ListN.{length, drop, length-drop}
 use lib.Seq.{take-all}
-use Rattle.questions.specs.Fits.{batchFits}
+use Rattle.reports.specs.Written.{reportSize}
+use Rattle.snapshot.specs.Sizes.{questionSize}
+use Rattle.questions.specs.Fits.{batchFits, questionLimit}
 
 -- what fits
 
-pub fits-not : (n m : ℕ) → 64 < n / 7 → false ≡ batchFits n m
+pub fits-not : (n m : ℕ) → questionLimit < n / questionSize → false ≡ batchFits n m
 unfolding batchFits
 fits-not n m h = rw (batchFits, lt-leb _ _ h)
 
-pub fits-by : (n m : ℕ) → n / 7 ≤ 64 → (eqb (n % 7) 0 && leb (42 * (n / 7)) m) ≡ batchFits n m
+pub fits-by : (n m : ℕ) → n / questionSize ≤ questionLimit → (eqb (n % questionSize) 0 && leb (reportSize * (n / questionSize)) m) ≡ batchFits n m
 unfolding batchFits
 fits-by n m h = rw (batchFits, le-leb _ _ h)
 
@@ -26,9 +28,9 @@ and-true true true c e = e
 and-true true false c e = absurd (false≢true e)
 and-true false b c e = absurd (false≢true e)
 
-pub fits-room : (n m : ℕ) → batchFits n m ≡ true → 42 * (n / 7) ≤ m
+pub fits-room : (n m : ℕ) → batchFits n m ≡ true → reportSize * (n / questionSize) ≤ m
 unfolding batchFits
-fits-room n m e = leb-true _ _ (and-true (leb (n / 7) 64) (eqb (n % 7) 0) (leb (42 * (n / 7)) m) e)
+fits-room n m e = leb-true _ _ (and-true (leb (n / questionSize) questionLimit) (eqb (n % questionSize) 0) (leb (reportSize * (n / questionSize)) m) e)
 
 -- a part that goes on to the end
 

@@ -2,11 +2,8 @@
 use Prim.Native.Nat.{ℕ, zero, suc}
 use mathlib.Core.List.{List, [], _∷_}
 use lib.ListN.{getD, drop}
+use Rattle.snapshot.specs.Sizes.{questionSize}
 use Rattle.find_path.specs.declared.Question.{Question}
-
--- words of a question
-abbrev pub questionSize : ℕ
-questionSize = 7
 
 -- a word a field: namespace, definition, viewing module, prefix, options, fuel, limit
 abbrev pub questionOf : List ℕ → Question

@@ -1,8 +1,8 @@
 //! How many questions go in at once.
 ghost use mathlib.Core.Path.{_≡_};
 ghost use Rattle.questions.specs.Fits.{batchFits};
-use crate::question::QuestionWords;
 use reports::report::ReportWords;
+use snapshot::kind::Size;
 
 /// A number of questions.
 pub struct QuestionCount(pub usize);
@@ -16,9 +16,9 @@ impl QuestionCount {
 pub fn fits(questions: usize, reports: usize) -> bool
     ensures { λ r. ⌜ r ≡ batchFits questions reports ⌝ }
 {
-    let count = questions / QuestionWords::COUNT;
+    let count = questions / Size::QUESTION;
     if QuestionCount::LIMIT < count {
         return false;
     }
-    (questions % QuestionWords::COUNT == 0) & (ReportWords::COUNT * count <= reports)
+    (questions % Size::QUESTION == 0) & (ReportWords::COUNT * count <= reports)
 }

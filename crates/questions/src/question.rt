@@ -5,14 +5,6 @@ use find_path::Query;
 use find_path::Question;
 use snapshot::words::word;
 
-/// A number of words.
-pub struct QuestionWords(pub usize);
-
-impl QuestionWords {
-    /// Words of a question.
-    pub const COUNT: usize = 7;
-}
-
 /// The question whose fields the words are.
 pub fn question_of(words: &[u32]) -> Question
     ensures { λ r. ⌜ r ≡ questionOf (now (words .entry)) ⌝ }

@@ -8,6 +8,7 @@ use native.Mathlib.Nat.{sub-zero}
 use borrow.Author.Tests.{lt-ltb, le-ltb}
 use lib.ListN.{length, take, replicate}
 use Rattle.snapshot.specs.Lists.{rows}
+use Rattle.snapshot.specs.Limits.{areaLimit, namespaceLimit}
 use Rattle.snapshot.specs.Sizes.{scopeSize}
 use Rattle.snapshot.specs.Records.{Snapshot, Scope, scopeAt}
 use Rattle.snapshot.specs.Layouts.{tableWords, scopeBase, snapOf}
@@ -163,7 +164,7 @@ module _ (v : Viewer) (r : Reach) where
             let k : Judged W A (Refused n at) = subst (λ x. Judged W A x) e j in
             (reach-refused n at (k .same) p, j)
 
-        pub by-answer : (l : Layout) (B : List ℕ) → c ≡ Accepted l → take 4160 B ≡ take 4160 A → r ≡ reachBy v (accept (snapOf W A l))
+        pub by-answer : (l : Layout) (B : List ℕ) → c ≡ Accepted l → take tableWords B ≡ take tableWords A → r ≡ reachBy v (accept (snapOf W A l))
             → (r ≡ reachBy v (verdict W)) × Judged W B c
         by-answer l B e t p =
             let k : Judged W A (Accepted l) = subst (λ x. Judged W A x) e j in
@@ -189,17 +190,17 @@ module _ (v : Viewer) (r : Reach) where
 
     module _ (A : List ℕ) (n : ℕ) (h : n ≡ 0 → ⊥) (p : r ≡ refusedReach n) where
       -- a number of the call comes first, then one of the words
-      pub reach-earlier : (c : Checked) → Judged W A c → (f m : ℕ) → f ≡ callFault 16384 (queryFor v 0 0) (v .fuel) → m ≡ numberOf c → n ≡ earlierOf f m
-          → r ≡ reachOf W 16384 v
+      pub reach-earlier : (c : Checked) → Judged W A c → (f m : ℕ) → f ≡ callFault areaLimit (queryFor v 0 0) (v .fuel) → m ≡ numberOf c → n ≡ earlierOf f m
+          → r ≡ reachOf W areaLimit v
       unfolding earlierOf
-      reach-earlier c j zero m e k u = reach-verdict 16384 0 e refl (by-words A n h p c j (u ∙ k))
-      reach-earlier c j (suc f) m e k u = reach-fault 16384 n (u ∙ e) h p
+      reach-earlier c j zero m e k u = reach-verdict areaLimit 0 e refl (by-words A n h p c j (u ∙ k))
+      reach-earlier c j (suc f) m e k u = reach-fault areaLimit n (u ∙ e) h p
 
 -- what the searches ask of a record
 module _ (W A : List ℕ) (l : Layout) (reads : Reads W A l) (k b : ℕ) (h : k < l .scopes) (e : b ≡ scopeBase l) where
-  pub entry-fits : (scopeAt W (b + scopeSize * k) .definition < l .definitions) × (scopeAt W (b + scopeSize * k) .ns ≤ 2)
+  pub entry-fits : (scopeAt W (b + scopeSize * k) .definition < l .definitions) × (scopeAt W (b + scopeSize * k) .ns ≤ namespaceLimit)
   entry-fits =
-      subst (λ x. (scopeAt W (x + scopeSize * k) .definition < l .definitions) × (scopeAt W (x + scopeSize * k) .ns ≤ 2)) (sym e)
+      subst (λ x. (scopeAt W (x + scopeSize * k) .definition < l .definitions) × (scopeAt W (x + scopeSize * k) .ns ≤ namespaceLimit)) (sym e)
       (let f = scope-read W A l (accepted-valid W (snapOf W A l) (reads .same)) k h in (f .definition, f .ns))
 
   -- and the tally of its report

@@ -2,6 +2,7 @@
 ghost use mathlib.Core.Path.{_≡_};
 ghost use Prim.Native.Nat.{_<_, _≤_};
 ghost use lib.ListN.{length, take};
+ghost use Rattle.snapshot.specs.Limits.{pathLimit, fuelLimit, areaLimit, namespaceLimit};
 ghost use Rattle.snapshot.specs.Records.{scopeAt};
 ghost use Rattle.snapshot.specs.Layouts.{tableWords, snapOf};
 ghost use Rattle.accept.specs.Post.{Reads};
@@ -22,8 +23,8 @@ use snapshot::record::scope_ns;
 
 // The report for the item of the scope record with its head at a place; the tables stay.
 fn report_for(words: &[u32], area: &mut [u32], l: Layout, v: Viewer, h: usize) -> Report
-    requires { ⌜ Reads (now words) (now area) l × (length (now area) ≡ 16384) × (v .from < l .modules) × (v .fuel ≤ 10000) × (0 < v .limit) × (v .limit ≤ 15) ⌝ }
-    requires { ⌜ (scopeAt (now words) h .definition < l .definitions) × (scopeAt (now words) h .ns ≤ 2) ⌝ }
+    requires { ⌜ Reads (now words) (now area) l × (length (now area) ≡ areaLimit) × (v .from < l .modules) × (v .fuel ≤ fuelLimit) × (0 < v .limit) × (v .limit ≤ pathLimit) ⌝ }
+    requires { ⌜ (scopeAt (now words) h .definition < l .definitions) × (scopeAt (now words) h .ns ≤ namespaceLimit) ⌝ }
     ensures { λ r. ⌜ r ≡ reportFor (snapOf (now (words .entry)) (now (area .entry)) l) v (scopeAt (now (words .entry)) h) ⌝ }
     ensures { λ _. ⌜ take tableWords (now (area .exit)) ≡ take tableWords (now (area .entry)) ⌝ }
 {
@@ -42,7 +43,7 @@ fn report_for(words: &[u32], area: &mut [u32], l: Layout, v: Viewer, h: usize) -
 
 /// The counts of the reports for all distinct items; the tables stay.
 pub fn reach_in(words: &[u32], area: &mut [u32], l: Layout, v: Viewer) -> Reach
-    requires { ⌜ Reads (now words) (now area) l × (length (now area) ≡ 16384) × (v .from < l .modules) × (v .fuel ≤ 10000) × (0 < v .limit) × (v .limit ≤ 15) ⌝ }
+    requires { ⌜ Reads (now words) (now area) l × (length (now area) ≡ areaLimit) × (v .from < l .modules) × (v .fuel ≤ fuelLimit) × (0 < v .limit) × (v .limit ≤ pathLimit) ⌝ }
     ensures { λ r. ⌜ (r .number ≡ 0) × (r .counts ≡ reachIn (snapOf (now (words .entry)) (now (area .entry)) l) v) ⌝ }
     ensures { λ _. ⌜ take tableWords (now (area .exit)) ≡ take tableWords (now (area .entry)) ⌝ }
 {

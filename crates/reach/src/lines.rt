@@ -2,6 +2,7 @@
 ghost use mathlib.Core.Path.{_≡_};
 ghost use Prim.Native.Nat.{_≤_};
 ghost use lib.ListN.{length};
+ghost use Rattle.snapshot.specs.Limits.{areaLimit, lineLimit};
 ghost use Rattle.accept.specs.Post.{Judged};
 ghost use Rattle.reach.specs.Reached.{ReachLineOn};
 use crate::reach::reach_on;
@@ -17,7 +18,7 @@ pub fn reach_line_on(
     v: Viewer,
     out: &mut [u8],
 ) -> usize
-    requires { ⌜ Judged (now words) (now area) c × (length (now area) ≡ 16384) × (4166 ≤ length (now out)) ⌝ }
+    requires { ⌜ Judged (now words) (now area) c × (length (now area) ≡ areaLimit) × (lineLimit ≤ length (now out)) ⌝ }
     ensures { λ n. ⌜ ReachLineOn (now (words .entry)) v c (now (area .exit)) (now (out .entry)) (now (out .exit)) n ⌝ }
 {
     let r = reach_on(words, area, c, v);

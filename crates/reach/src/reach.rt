@@ -2,6 +2,7 @@
 ghost use mathlib.Core.Path.{_≡_};
 ghost use Prim.Native.Nat.{_<_, _≤_};
 ghost use lib.ListN.{length, take};
+ghost use Rattle.snapshot.specs.Limits.{pathLimit, fuelLimit, areaLimit};
 ghost use Rattle.snapshot.specs.Layouts.{tableWords, snapOf};
 ghost use Rattle.accept.specs.Post.{Reads, Judged};
 ghost use Rattle.accept.specs.Verdict.{verdict, accept};
@@ -20,7 +21,7 @@ use snapshot::layout::Layout;
 
 // The reach on accepted words; the tables stay.
 fn reach_from(words: &[u32], area: &mut [u32], l: Layout, v: Viewer) -> Reach
-    requires { ⌜ Reads (now words) (now area) l × (length (now area) ≡ 16384) × (v .fuel ≤ 10000) × (0 < v .limit) × (v .limit ≤ 15) ⌝ }
+    requires { ⌜ Reads (now words) (now area) l × (length (now area) ≡ areaLimit) × (v .fuel ≤ fuelLimit) × (0 < v .limit) × (v .limit ≤ pathLimit) ⌝ }
     ensures { λ r. ⌜ r ≡ reachBy v (accept (snapOf (now (words .entry)) (now (area .entry)) l)) ⌝ }
     ensures { λ _. ⌜ take tableWords (now (area .exit)) ≡ take tableWords (now (area .entry)) ⌝ }
 {
@@ -32,7 +33,7 @@ fn reach_from(words: &[u32], area: &mut [u32], l: Layout, v: Viewer) -> Reach
 
 // The reach on checked words, for a question without a fault of its own.
 fn reach_by(words: &[u32], area: &mut [u32], c: Checked, v: Viewer) -> Reach
-    requires { ⌜ Judged (now words) (now area) c × (length (now area) ≡ 16384) × (v .fuel ≤ 10000) × (0 < v .limit) × (v .limit ≤ 15) ⌝ }
+    requires { ⌜ Judged (now words) (now area) c × (length (now area) ≡ areaLimit) × (v .fuel ≤ fuelLimit) × (0 < v .limit) × (v .limit ≤ pathLimit) ⌝ }
     ensures { λ r. ⌜ (r ≡ reachBy v (verdict (now (words .entry)))) × Judged (now (words .entry)) (now (area .exit)) c ⌝ }
 {
     match c {
@@ -43,7 +44,7 @@ fn reach_by(words: &[u32], area: &mut [u32], c: Checked, v: Viewer) -> Reach
 
 /// The reach of a module on checked words, which stay so.
 pub fn reach_on(words: &[u32], area: &mut [u32], c: Checked, v: Viewer) -> Reach
-    requires { ⌜ Judged (now words) (now area) c × (length (now area) ≡ 16384) ⌝ }
+    requires { ⌜ Judged (now words) (now area) c × (length (now area) ≡ areaLimit) ⌝ }
     ensures { λ r. ⌜ Reached (now (words .entry)) v c (now (area .exit)) r ⌝ }
 {
     let q = Query {

@@ -9,6 +9,7 @@ use borrow.Author.Tests.{eq-eqb, ne-eqb, eqb-true, eqb-false}
 use lib.Dec.{eqb, ltb}
 use lib.ListN.{length, take, getD, replicate, set, length-set}
 use lib.Seq.{getD-set-same, getD-set-other}
+use Rattle.snapshot.specs.Limits.{pathLimit}
 use Rattle.snapshot.specs.Sizes.{scopeSize}
 use Rattle.snapshot.specs.Records.{Snapshot, Scope, scopeAt}
 use Rattle.snapshot.specs.Layouts.{scopeBase, snapOf}
@@ -138,7 +139,7 @@ flag-small false = omega arith
 -- a limit that is not refused
 pub record Limited (v : Viewer) : Type 0 where
   pub some : 0 < v .limit
-  pub most : v .limit ≤ 15
+  pub most : v .limit ≤ pathLimit
 
 module _ (s : Snapshot) (v : Viewer) (e : Scope) where
   pub report-few : Limited v → reportFor s v e .count ≤ 16

@@ -5,12 +5,13 @@ use mathlib.Core.List.{List, [], _∷_}
 use mathlib.Core.Bool.{Bool, true, false, _&&_, _||_, not}
 use lib.Dec.{eqb, ltb}
 use lib.ListN.{length, getD}
+use Rattle.snapshot.specs.Limits.{wordLimit, crateLimit, moduleLimit, nameLimit, definitionLimit, areaLimit}
 use Rattle.snapshot.specs.Words.{payOf, wordsOf}
 use Rattle.snapshot.specs.Sizes.{childSize, definitionSize, scopeSize, externSize}
 use Rattle.snapshot.specs.Records.{Map, nameAt, mapAt}
-use Rattle.snapshot.specs.Layouts.{wordCount, childBase, definitionBase, scopeBase, externBase, nameHead, moduleMap, moduleHead, mapRoot, ownMap, snapWith}
+use Rattle.snapshot.specs.Layouts.{wordCount, childBase, definitionBase, scopeBase, externBase, nameHead, moduleMap, moduleHead, mapRoot, ownMap, snapWith, rootTable}
 use Rattle.snapshot.specs.declared.layout.Layout.{Layout}
-use Rattle.chains.specs.Chains.{nameKey, recordKey, slotOf, Marked, Chained}
+use Rattle.chains.specs.Chains.{nameKey, recordKey, slotOf, Marked, Chained, nameHeads, scopeHeads, externHeads, childMarks, moduleMarks, nameLinks, scopeLinks, externLinks}
 use Rattle.record_rules.specs.Tests.{Counts, noMap, isOwn}
 use Rattle.record_rules.specs.Steps.{Next, no, on}
 use Rattle.record_rules.specs.declared.judge.Step.{Step}
@@ -68,25 +69,25 @@ pub record Upto (k : ℕ) (l : Layout) : Type 0 where
 
 -- the counts are within the limits
 pub record Limited (l : Layout) : Type 0 where
-  pub names : l .names ≤ 2048
-  pub crates : l .crates ≤ 64
-  pub modules : l .modules ≤ 512
-  pub definitions : l .definitions ≤ 2048
+  pub names : l .names ≤ nameLimit
+  pub crates : l .crates ≤ crateLimit
+  pub modules : l .modules ≤ moduleLimit
+  pub definitions : l .definitions ≤ definitionLimit
 
 -- names, scopes and externs in chains, and the modules that are children or have a definition, above the tables
 pub record Indexes (W A : List ℕ) (l : Layout) : Type 0 where
-  pub names : Chained A 4160 6344 (λ i. nameKey (nameAt W (nameHead A i))) (l .names)
-  pub children : Marked A 5312 (λ j. getD W (childBase l + childSize * j + 1) 0) (l .children)
-  pub definitions : Marked A 5824 (λ j. slotOf W (definitionBase l + definitionSize * j)) (l .definitions)
-  pub scopes : Chained A 4544 8392 (λ i. recordKey W 2 (scopeBase l + scopeSize * i)) (l .scopes)
-  pub externs : Chained A 4928 10736 (λ i. recordKey W 1 (externBase l + externSize * i)) (l .externs)
+  pub names : Chained A nameHeads nameLinks (λ i. nameKey (nameAt W (nameHead A i))) (l .names)
+  pub children : Marked A childMarks (λ j. getD W (childBase l + childSize * j + 1) 0) (l .children)
+  pub definitions : Marked A moduleMarks (λ j. slotOf W (definitionBase l + definitionSize * j)) (l .definitions)
+  pub scopes : Chained A scopeHeads scopeLinks (λ i. recordKey W 2 (scopeBase l + scopeSize * i)) (l .scopes)
+  pub externs : Chained A externHeads externLinks (λ i. recordKey W 1 (externBase l + externSize * i)) (l .externs)
 
 -- a record's head stands at a place
 pub record Here (W A : List ℕ) (l : Layout) (at : ℕ) : Type 0 where
   pub place : wordCount l ≡ at
   pub here : at < length W
-  pub short : length W ≤ 16384
-  pub room : 16384 ≤ length A
+  pub short : length W ≤ wordLimit
+  pub room : areaLimit ≤ length A
   pub limited : Limited l
   pub index : Indexes W A l
 
@@ -94,8 +95,8 @@ pub record Here (W A : List ℕ) (l : Layout) (at : ℕ) : Type 0 where
 pub record Ready (W A : List ℕ) (l : Layout) (at next : ℕ) : Type 0 where
   pub place : wordCount l ≡ at
   pub fits : next ≤ length W
-  pub short : length W ≤ 16384
-  pub room : 16384 ≤ length A
+  pub short : length W ≤ wordLimit
+  pub room : areaLimit ≤ length A
   pub limited : Limited l
   pub index : Indexes W A l
 
@@ -121,7 +122,7 @@ Answered W A k next x (On l) = (ms : List Map) × (x ≡ on (snapWith W A l ms))
 
 -- the first n modules have their maps' first modules in the table; the other tables stay
 pub record Rooted (A₀ A : List ℕ) (n : ℕ) : Type 0 where
-  pub names : (i : ℕ) → i < 3584 → getD A i 0 ≡ getD A₀ i 0
+  pub names : (i : ℕ) → i < rootTable → getD A i 0 ≡ getD A₀ i 0
   pub crates : (c : ℕ) → ownMap A c ≡ ownMap A₀ c
   pub below : (m : ℕ) → m < n → mapRoot A (moduleMap A₀ m) < n
   pub inside : (m : ℕ) → m < n → moduleMap A₀ (mapRoot A (moduleMap A₀ m)) ≡ moduleMap A₀ m

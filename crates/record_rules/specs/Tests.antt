@@ -5,6 +5,7 @@ use mathlib.Core.Bool.{Bool, true, _&&_, _||_, not}
 use lib.Dec.{eqb, leb, ltb}
 use lib.ListN.{length, getD}
 use Rattle.snapshot.specs.Lists.{any, all, eqList, rows}
+use Rattle.snapshot.specs.Limits.{namespaceLimit}
 use Rattle.snapshot.specs.Records.{Name, Crate, Dependency, Map, Module, Child, Prelude, Definition, Scope, Import, Extern, Member, Snapshot}
 use Rattle.record_rules.specs.Builtins.{builtins}
 
@@ -179,7 +180,7 @@ definitionPlaced s x = not (eqb (x .kind) 2) || eqb (kindOfDefinition s (x .firs
 
 abbrev pub scopeRange : Scope → Bool
 scopeRange x =
-    leb (x .ns) 2
+    leb (x .ns) namespaceLimit
     && leb (x .visibility) 3
     && (not (eqb (x .visibility) 0) || eqb (x .number) 0)
     && leb (x .declared) 3
@@ -204,7 +205,7 @@ nsPlaced s ns d = not (eqb ns 2) || eqb (kindOfDefinition s d) 5
 -- imports
 
 abbrev pub importRange : Import → Bool
-importRange x = leb (x .ns) 2 && leb (x .bits) 3
+importRange x = leb (x .ns) namespaceLimit && leb (x .bits) 3
 
 abbrev pub importDefined : Counts → Import → Bool
 importDefined n x =

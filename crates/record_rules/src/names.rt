@@ -4,10 +4,11 @@ ghost use mathlib.Core.List.{List};
 ghost use Prim.Native.Nat.{_+_, _-_, _^_, _<_, _≤_};
 ghost use lib.ListN.{length, getD};
 ghost use Rattle.snapshot.specs.Lists.{rows, any, eqList};
+ghost use Rattle.snapshot.specs.Limits.{nameLimit};
 ghost use Rattle.snapshot.specs.Words.{payOf, wordsOf};
 ghost use Rattle.snapshot.specs.Records.{Map, nameAt};
 ghost use Rattle.snapshot.specs.Layouts.{nameHead, namesOf, snapWith};
-ghost use Rattle.chains.specs.Chains.{nameKey, Chained};
+ghost use Rattle.chains.specs.Chains.{nameKey, Chained, nameHeads, nameLinks};
 ghost use Rattle.record_rules.specs.Tests.{textBound, padded as paddedOf, nameRange, sameName, isBuiltin};
 ghost use Rattle.record_rules.specs.Steps.{nameStep};
 ghost use Rattle.record_rules.specs.Stands.{Ready, Stands, Answered};
@@ -208,8 +209,8 @@ pub fn is_builtin(words: &[u32], at: usize) -> bool
 
 // Whether a name with the key has the text of the name at a place.
 fn repeated(words: &[u32], at: usize, area: &[u32], n: usize, key: usize) -> bool
-    requires { ⌜ Chained (now area) 4160 6344 (λ i. nameKey (nameAt (now words) (nameHead (now area) i))) n ⌝ }
-    requires { ⌜ (n ≤ 2048) × (key ≡ nameKey (nameAt (now words) at)) ⌝ }
+    requires { ⌜ Chained (now area) nameHeads nameLinks (λ i. nameKey (nameAt (now words) (nameHead (now area) i))) n ⌝ }
+    requires { ⌜ (n ≤ nameLimit) × (key ≡ nameKey (nameAt (now words) at)) ⌝ }
     ensures { λ r. ⌜ r ≡ any (sameName (nameAt (now (words .entry)) at)) (namesOf (now (words .entry)) (now (area .entry)) n) ⌝ }
 {
     let size = text_words(payload(words, at));

@@ -7,10 +7,11 @@ use native.Mathlib.Nat.{lt-irrefl}
 use lib.Dec.{lit<}
 use lib.ListN.{length, getD}
 use Rattle.snapshot.specs.Lists.{rows}
+use Rattle.snapshot.specs.Limits.{definitionLimit}
 use Rattle.snapshot.specs.Words.{payOf, wordsOf}
 use Rattle.snapshot.specs.Sizes.{crateSize, dependencySize, childSize, preludeSize, definitionSize, scopeSize, importSize, externSize, memberSize}
 use Rattle.snapshot.specs.Records.{mapAt, Map, Dependency, Child, Prelude, Definition, Scope, Import, Extern, Member, crateAt, dependencyAt, childAt, preludeAt, definitionAt, scopeAt, importAt, externAt, memberAt}
-use Rattle.snapshot.specs.Layouts.{crateBase, dependencyBase, childBase, preludeBase, definitionBase, scopeBase, importBase, externBase, memberBase, nameHead, moduleMap, moduleHead, ownMap, namesOf, modulesOf, recordsOf, snapWith}
+use Rattle.snapshot.specs.Layouts.{crateBase, dependencyBase, childBase, preludeBase, definitionBase, scopeBase, importBase, externBase, memberBase, nameHead, moduleMap, moduleHead, ownMap, namesOf, modulesOf, recordsOf, snapWith, moduleTable, crateTable, tableWords}
 use Rattle.snapshot.specs.declared.layout.Layout.{Layout}
 use Rattle.snapshot.proofs.Laws.{rows-snoc, rows-zero}
 use Rattle.record_rules.specs.Steps.{addDependency, addChild, addPrelude, addDefinition, addScope, addImport, addExtern, addMember}
@@ -27,12 +28,12 @@ record TablesSay (W B : List ℕ) (l : Layout) (ms : List Map) : Type 0 where
   inside : (m : ℕ) → m < l .modules → getD ms (moduleMap B m) noMap ≡ mapAt W (moduleHead B m)
   own : (c : ℕ) → c < l .crates → ownMap B c ≡ ownOf c ms
 
-module _ (W A B : List ℕ) (k at : ℕ) (l : Layout) (ms : List Map) (st : Stands W A k at l ms) (kept : Kept A B 0 4160) where
+module _ (W A B : List ℕ) (k at : ℕ) (l : Layout) (ms : List Map) (st : Stands W A k at l ms) (kept : Kept A B 0 tableWords) where
   map-of : (m : ℕ) → m < l .modules → moduleMap B m ≡ moduleMap A m
-  map-of m h = let r = st .limited .modules in kept (2048 + 3 * m) (omega arith) (omega arith)
+  map-of m h = let r = st .limited .modules in kept (moduleTable + 3 * m) (omega arith) (omega arith)
 
   head-of : (m : ℕ) → m < l .modules → moduleHead B m ≡ moduleHead A m
-  head-of m h = let r = st .limited .modules in kept (2048 + 3 * m + 1) (omega arith) (omega arith)
+  head-of m h = let r = st .limited .modules in kept (moduleTable + 3 * m + 1) (omega arith) (omega arith)
 
   tables-kept : TablesSay W B l ms
   tables-kept =
@@ -41,7 +42,7 @@ module _ (W A B : List ℕ) (k at : ℕ) (l : Layout) (ms : List Map) (st : Stan
         below = λ m h. (let q = map-of m h in let r = st .below m h in omega arith);
         rising = λ i j h k. (let p = map-of i (omega arith) in let q = map-of j k in let r = st .rising i j h k in omega arith);
         inside = λ m h. ap (λ k. getD ms k noMap) (map-of m h) ∙ st .inside m h ∙ ap (mapAt W) (sym (head-of m h));
-        own = λ c h. (let r = st .limited .crates in kept (4096 + c) (omega arith) (omega arith) ∙ st .own c h);
+        own = λ c h. (let r = st .limited .crates in kept (crateTable + c) (omega arith) (omega arith) ∙ st .own c h);
       }
 
 -- one dependency more
@@ -141,7 +142,7 @@ childOn l =
       latest = l .latest;
     }
 
-module _ (W A B : List ℕ) (at : ℕ) (l : Layout) (ms : List Map) (st : Stands W A 6 at l ms) (kept : Kept A B 0 4160) where
+module _ (W A B : List ℕ) (at : ℕ) (l : Layout) (ms : List Map) (st : Stands W A 6 at l ms) (kept : Kept A B 0 tableWords) where
   pub child-added : snapWith W B (childOn l) ms ≡ addChild (snapWith W A l ms) (childAt W at)
   child-added =
       let z-preludes : l .preludes ≡ 0 = st .upto .preludes (lit< tt) in
@@ -298,7 +299,7 @@ definitionOn l =
       latest = l .latest;
     }
 
-module _ (W A B : List ℕ) (at : ℕ) (l : Layout) (ms : List Map) (st : Stands W A 8 at l ms) (kept : Kept A B 0 4160) where
+module _ (W A B : List ℕ) (at : ℕ) (l : Layout) (ms : List Map) (st : Stands W A 8 at l ms) (kept : Kept A B 0 tableWords) where
   pub definition-added : snapWith W B (definitionOn l) ms ≡ addDefinition (snapWith W A l ms) (definitionAt W at)
   definition-added =
       let z-scopes : l .scopes ≡ 0 = st .upto .scopes (lit< tt) in
@@ -317,7 +318,7 @@ module _ (W A B : List ℕ) (at : ℕ) (l : Layout) (ms : List Map) (st : Stands
       let q-modules : modulesOf B (l .modules) ≡ modulesOf A (l .modules) = modules-kept A B (l .modules) (st .limited .modules) (λ i u v. kept i (omega arith) (omega arith)) in
       λ i. record { names = q-names i; crates = recordsOf crateAt crateSize W (crateBase l) (l .crates); dependencies = recordsOf dependencyAt dependencySize W (dependencyBase l) (l .dependencies); maps = ms; modules = q-modules i; children = recordsOf childAt childSize W (childBase l) (l .children); preludes = recordsOf preludeAt preludeSize W (preludeBase l) (l .preludes); definitions = p i; scopes = q-scopes i; imports = q-imports i; externs = q-externs i; members = q-members i }
 
-  pub definition-stands : at + definitionSize ≤ length W → l .definitions < 2048 → Indexes W B (definitionOn l) → Stands W B 8 (at + definitionSize) (definitionOn l) ms
+  pub definition-stands : at + definitionSize ≤ length W → l .definitions < definitionLimit → Indexes W B (definitionOn l) → Stands W B 8 (at + definitionSize) (definitionOn l) ms
   definition-stands fits room ix =
       let t = tables-kept W A B 8 at l ms st kept in
       record {
@@ -370,7 +371,7 @@ scopeOn l =
       latest = l .latest;
     }
 
-module _ (W A B : List ℕ) (at : ℕ) (l : Layout) (ms : List Map) (st : Stands W A 9 at l ms) (kept : Kept A B 0 4160) where
+module _ (W A B : List ℕ) (at : ℕ) (l : Layout) (ms : List Map) (st : Stands W A 9 at l ms) (kept : Kept A B 0 tableWords) where
   pub scope-added : snapWith W B (scopeOn l) ms ≡ addScope (snapWith W A l ms) (scopeAt W at)
   scope-added =
       let z-imports : l .imports ≡ 0 = st .upto .imports (lit< tt) in
@@ -515,7 +516,7 @@ externOn l =
       latest = l .latest;
     }
 
-module _ (W A B : List ℕ) (at : ℕ) (l : Layout) (ms : List Map) (st : Stands W A 11 at l ms) (kept : Kept A B 0 4160) where
+module _ (W A B : List ℕ) (at : ℕ) (l : Layout) (ms : List Map) (st : Stands W A 11 at l ms) (kept : Kept A B 0 tableWords) where
   pub extern-added : snapWith W B (externOn l) ms ≡ addExtern (snapWith W A l ms) (externAt W at)
   extern-added =
       let z-members : l .members ≡ 0 = st .upto .members (lit< tt) in

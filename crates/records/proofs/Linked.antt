@@ -9,12 +9,13 @@ use lib.ListN.{length, getD, set}
 use lib.Seq.{getD-set-other}
 use borrow.Author.Tests.{eqb-true, eqb-false, eq-eqb, ne-eqb, ltb-true}
 use Rattle.snapshot.specs.Lists.{rows, any}
+use Rattle.snapshot.specs.Limits.{wordLimit, moduleLimit, nameLimit, areaLimit}
 use Rattle.snapshot.specs.Words.{payOf}
 use Rattle.snapshot.specs.Sizes.{childSize, definitionSize, scopeSize, externSize}
 use Rattle.snapshot.specs.Records.{Map, Definition, nameAt, childAt, definitionAt}
-use Rattle.snapshot.specs.Layouts.{childBase, definitionBase, scopeBase, externBase, nameHead}
+use Rattle.snapshot.specs.Layouts.{childBase, definitionBase, scopeBase, externBase, nameHead, tableWords}
 use Rattle.snapshot.specs.declared.layout.Layout.{Layout}
-use Rattle.chains.specs.Chains.{nameKey, recordKey, slotOf, Marked, Last, Chained, linked}
+use Rattle.chains.specs.Chains.{nameKey, recordKey, slotOf, Marked, Last, Chained, linked, keys, nameHeads, scopeHeads, externHeads, childMarks, moduleMarks, marksEnd, nameLinks, scopeLinks, externLinks}
 use Rattle.chains.proofs.Laws.{marked-kept, marked-more, chained-kept, chained-linked, linked-other, first-of, next-of, Walking, walk-start, walk-hit, walk-miss, walk-end}
 use Rattle.record_rules.specs.Tests.{Counts, childDefined, definitionDefined}
 use Rattle.record_rules.specs.Stands.{numberOf, sameBy, countsIn, Indexes, Stands}
@@ -25,21 +26,21 @@ use Rattle.records.proofs.Grows.{childOn, definitionOn, scopeOn, extern
 
 -- one record more in its chain: the tables stay, and the chains are those of the layout
 pub record Linked (W A B : List ℕ) (l : Layout) : Type 0 where
-  pub kept : Kept A B 0 4160
+  pub kept : Kept A B 0 tableWords
   pub index : Indexes W B l
 
 module _ (W A : List ℕ) (l : Layout) (ix : Indexes W A l) {base : ℕ} where
-  pub scope-chain : base ≡ scopeBase l → Chained A 4544 8392 (λ i. recordKey W 2 (base + scopeSize * i)) (l .scopes)
-  scope-chain e = subst (λ b. Chained A 4544 8392 (λ i. recordKey W 2 (b + scopeSize * i)) (l .scopes)) (sym e) (ix .scopes)
+  pub scope-chain : base ≡ scopeBase l → Chained A scopeHeads scopeLinks (λ i. recordKey W 2 (base + scopeSize * i)) (l .scopes)
+  scope-chain e = subst (λ b. Chained A scopeHeads scopeLinks (λ i. recordKey W 2 (b + scopeSize * i)) (l .scopes)) (sym e) (ix .scopes)
 
-  pub extern-chain : base ≡ externBase l → Chained A 4928 10736 (λ i. recordKey W 1 (base + externSize * i)) (l .externs)
-  extern-chain e = subst (λ b. Chained A 4928 10736 (λ i. recordKey W 1 (b + externSize * i)) (l .externs)) (sym e) (ix .externs)
+  pub extern-chain : base ≡ externBase l → Chained A externHeads externLinks (λ i. recordKey W 1 (base + externSize * i)) (l .externs)
+  extern-chain e = subst (λ b. Chained A externHeads externLinks (λ i. recordKey W 1 (b + externSize * i)) (l .externs)) (sym e) (ix .externs)
 
-module _ (W A : List ℕ) (at : ℕ) (l : Layout) (ms : List Map) {key : ℕ} {B : List ℕ} (short : length W ≤ 16384) (large : 16384 ≤ length A) where
-  pub scope-linked : Stands W A 9 at l ms → at + scopeSize ≤ length W → key ≡ recordKey W 2 at → B ≡ linked A 4544 8392 key (l .scopes) → Linked W A B (scopeOn l)
+module _ (W A : List ℕ) (at : ℕ) (l : Layout) (ms : List Map) {key : ℕ} {B : List ℕ} (short : length W ≤ wordLimit) (large : areaLimit ≤ length A) where
+  pub scope-linked : Stands W A 9 at l ms → at + scopeSize ≤ length W → key ≡ recordKey W 2 at → B ≡ linked A scopeHeads scopeLinks key (l .scopes) → Linked W A B (scopeOn l)
   scope-linked st fits ek eb = subst (λ C. Linked W A C (scopeOn l)) (sym eb) (record { kept = λ i p q. other i (omega arith) (omega arith); index = grown })
     where
-      small : key < 383
+      small : key < keys
       small = key-small _ ek
 
       ze : l .externs ≡ 0
@@ -48,73 +49,73 @@ module _ (W A : List ℕ) (at : ℕ) (l : Layout) (ms : List Map) {key : ℕ} {B
       here : scopeBase l + scopeSize * l .scopes ≡ at
       here = let zi : l .imports ≡ 0 = st .upto .imports (lit< tt) in let zb : l .members ≡ 0 = st .upto .members (lit< tt) in let q = ze in let p = st .place in omega arith
 
-      other : (i : ℕ) → (4544 ≤ i → i < 4927 → ⊥) → (8392 ≤ i → ⊥) → getD (linked A 4544 8392 key (l .scopes)) i 0 ≡ getD A i 0
-      other i p q = let h = small in linked-other A 4544 8392 key (l .scopes) i (λ e. p (omega arith) (omega arith)) (λ e. q (omega arith))
+      other : (i : ℕ) → (scopeHeads ≤ i → i < scopeHeads + keys → ⊥) → (scopeLinks ≤ i → ⊥) → getD (linked A scopeHeads scopeLinks key (l .scopes)) i 0 ≡ getD A i 0
+      other i p q = let h = small in linked-other A scopeHeads scopeLinks key (l .scopes) i (λ e. p (omega arith) (omega arith)) (λ e. q (omega arith))
 
-      grown : Indexes W (linked A 4544 8392 key (l .scopes)) (scopeOn l)
+      grown : Indexes W (linked A scopeHeads scopeLinks key (l .scopes)) (scopeOn l)
       grown =
           let ix = st .index in
           let few = st .limited .names in
           let e = here in
           record {
             names =
-                chained-kept A _ 4160 6344 _ _ (l .names) (ix .names) (λ b h. other _ (omega arith) (omega arith)) (λ i h. other _ (omega arith) (omega arith))
+                chained-kept A _ nameHeads nameLinks _ _ (l .names) (ix .names) (λ b h. other _ (omega arith) (omega arith)) (λ i h. other _ (omega arith) (omega arith))
                 (λ i h. ap (λ x. nameKey (nameAt W x)) (other i (omega arith) (omega arith)));
-            children = marked-kept A _ 5312 _ _ (l .children) (ix .children) (λ m h. other _ (omega arith) (omega arith)) (λ i h. refl);
-            definitions = marked-kept A _ 5824 _ _ (l .definitions) (ix .definitions) (λ m h. other _ (omega arith) (omega arith)) (λ i h. refl);
-            scopes = chained-linked A 4544 8392 key (l .scopes) (λ i. recordKey W 2 (scopeBase l + scopeSize * i)) (ix .scopes) (omega arith) (omega arith) small (ap (recordKey W 2) here ∙ sym ek);
+            children = marked-kept A _ childMarks _ _ (l .children) (ix .children) (λ m h. other _ (omega arith) (omega arith)) (λ i h. refl);
+            definitions = marked-kept A _ moduleMarks _ _ (l .definitions) (ix .definitions) (λ m h. other _ (omega arith) (omega arith)) (λ i h. refl);
+            scopes = chained-linked A scopeHeads scopeLinks key (l .scopes) (λ i. recordKey W 2 (scopeBase l + scopeSize * i)) (ix .scopes) (omega arith) (omega arith) small (ap (recordKey W 2) here ∙ sym ek);
             externs =
-                chained-kept A _ 4928 10736 _ _ (l .externs) (ix .externs) (λ b h. other _ (omega arith) (omega arith)) (λ i h. (let z = ze in absurd (omega arith)))
+                chained-kept A _ externHeads externLinks _ _ (l .externs) (ix .externs) (λ b h. other _ (omega arith) (omega arith)) (λ i h. (let z = ze in absurd (omega arith)))
                 (λ i h. (let z = ze in absurd (omega arith)));
           }
 
-  pub extern-linked : Stands W A 11 at l ms → at + externSize ≤ length W → key ≡ recordKey W 1 at → B ≡ linked A 4928 10736 key (l .externs) → Linked W A B (externOn l)
+  pub extern-linked : Stands W A 11 at l ms → at + externSize ≤ length W → key ≡ recordKey W 1 at → B ≡ linked A externHeads externLinks key (l .externs) → Linked W A B (externOn l)
   extern-linked st fits ek eb = subst (λ C. Linked W A C (externOn l)) (sym eb) (record { kept = λ i p q. other i (omega arith) (omega arith); index = grown })
     where
-      small : key < 383
+      small : key < keys
       small = key-small _ ek
 
       here : externBase l + externSize * l .externs ≡ at
       here = let zb : l .members ≡ 0 = st .upto .members (lit< tt) in let p = st .place in omega arith
 
-      other : (i : ℕ) → (4928 ≤ i → i < 5311 → ⊥) → (10736 ≤ i → ⊥) → getD (linked A 4928 10736 key (l .externs)) i 0 ≡ getD A i 0
-      other i p q = let h = small in linked-other A 4928 10736 key (l .externs) i (λ e. p (omega arith) (omega arith)) (λ e. q (omega arith))
+      other : (i : ℕ) → (externHeads ≤ i → i < externHeads + keys → ⊥) → (externLinks ≤ i → ⊥) → getD (linked A externHeads externLinks key (l .externs)) i 0 ≡ getD A i 0
+      other i p q = let h = small in linked-other A externHeads externLinks key (l .externs) i (λ e. p (omega arith) (omega arith)) (λ e. q (omega arith))
 
-      grown : Indexes W (linked A 4928 10736 key (l .externs)) (externOn l)
+      grown : Indexes W (linked A externHeads externLinks key (l .externs)) (externOn l)
       grown =
           let ix = st .index in
           let few = st .limited .names in
           let e = here in
           record {
             names =
-                chained-kept A _ 4160 6344 _ _ (l .names) (ix .names) (λ b h. other _ (omega arith) (omega arith)) (λ i h. other _ (omega arith) (omega arith))
+                chained-kept A _ nameHeads nameLinks _ _ (l .names) (ix .names) (λ b h. other _ (omega arith) (omega arith)) (λ i h. other _ (omega arith) (omega arith))
                 (λ i h. ap (λ x. nameKey (nameAt W x)) (other i (omega arith) (omega arith)));
-            children = marked-kept A _ 5312 _ _ (l .children) (ix .children) (λ m h. other _ (omega arith) (omega arith)) (λ i h. refl);
-            definitions = marked-kept A _ 5824 _ _ (l .definitions) (ix .definitions) (λ m h. other _ (omega arith) (omega arith)) (λ i h. refl);
+            children = marked-kept A _ childMarks _ _ (l .children) (ix .children) (λ m h. other _ (omega arith) (omega arith)) (λ i h. refl);
+            definitions = marked-kept A _ moduleMarks _ _ (l .definitions) (ix .definitions) (λ m h. other _ (omega arith) (omega arith)) (λ i h. refl);
             scopes =
-                chained-kept A _ 4544 8392 _ _ (l .scopes) (ix .scopes) (λ b h. other _ (omega arith) (omega arith)) (λ i h. other _ (omega arith) (omega arith))
+                chained-kept A _ scopeHeads scopeLinks _ _ (l .scopes) (ix .scopes) (λ b h. other _ (omega arith) (omega arith)) (λ i h. other _ (omega arith) (omega arith))
                 (λ i h. refl);
-            externs = chained-linked A 4928 10736 key (l .externs) (λ i. recordKey W 1 (externBase l + externSize * i)) (ix .externs) (omega arith) (omega arith) small (ap (recordKey W 1) here ∙ sym ek);
+            externs = chained-linked A externHeads externLinks key (l .externs) (λ i. recordKey W 1 (externBase l + externSize * i)) (ix .externs) (omega arith) (omega arith) small (ap (recordKey W 1) here ∙ sym ek);
           }
 
 -- one word of the marks set: the rest stays
-module _ (W A : List ℕ) (l : Layout) (few : l .names ≤ 2048) (i : ℕ) (low : 5312 ≤ i) (high : i ≤ 6336) (ix : Indexes W A l) where
+module _ (W A : List ℕ) (l : Layout) (few : l .names ≤ nameLimit) (i : ℕ) (low : childMarks ≤ i) (high : i ≤ marksEnd) (ix : Indexes W A l) where
   mark-other : (j : ℕ) → (j ≡ i → ⊥) → getD (set A i 1) j 0 ≡ getD A j 0
   mark-other j h = getD-set-other A i j 1 0 h
 
-  names-stay : Chained (set A i 1) 4160 6344 (λ j. nameKey (nameAt W (nameHead (set A i 1) j))) (l .names)
+  names-stay : Chained (set A i 1) nameHeads nameLinks (λ j. nameKey (nameAt W (nameHead (set A i 1) j))) (l .names)
   names-stay =
-      chained-kept A _ 4160 6344 _ _ (l .names) (ix .names) (λ b h. mark-other _ (omega arith)) (λ j h. mark-other _ (omega arith))
+      chained-kept A _ nameHeads nameLinks _ _ (l .names) (ix .names) (λ b h. mark-other _ (omega arith)) (λ j h. mark-other _ (omega arith))
       (λ j h. ap (λ x. nameKey (nameAt W x)) (mark-other j (omega arith)))
 
-  scopes-stay : (m : Layout) → l .scopes ≡ 0 → Chained (set A i 1) 4544 8392 (λ j. recordKey W 2 (scopeBase m + scopeSize * j)) (l .scopes)
-  scopes-stay m z = chained-kept A _ 4544 8392 _ _ (l .scopes) (ix .scopes) (λ b h. mark-other _ (omega arith)) (λ j h. absurd (omega arith)) (λ j h. absurd (omega arith))
+  scopes-stay : (m : Layout) → l .scopes ≡ 0 → Chained (set A i 1) scopeHeads scopeLinks (λ j. recordKey W 2 (scopeBase m + scopeSize * j)) (l .scopes)
+  scopes-stay m z = chained-kept A _ scopeHeads scopeLinks _ _ (l .scopes) (ix .scopes) (λ b h. mark-other _ (omega arith)) (λ j h. absurd (omega arith)) (λ j h. absurd (omega arith))
 
-  externs-stay : (m : Layout) → l .externs ≡ 0 → Chained (set A i 1) 4928 10736 (λ j. recordKey W 1 (externBase m + externSize * j)) (l .externs)
-  externs-stay m z = chained-kept A _ 4928 10736 _ _ (l .externs) (ix .externs) (λ b h. mark-other _ (omega arith)) (λ j h. absurd (omega arith)) (λ j h. absurd (omega arith))
+  externs-stay : (m : Layout) → l .externs ≡ 0 → Chained (set A i 1) externHeads externLinks (λ j. recordKey W 1 (externBase m + externSize * j)) (l .externs)
+  externs-stay m z = chained-kept A _ externHeads externLinks _ _ (l .externs) (ix .externs) (λ b h. mark-other _ (omega arith)) (λ j h. absurd (omega arith)) (λ j h. absurd (omega arith))
 
-module _ (W A : List ℕ) (at : ℕ) (l : Layout) (ms : List Map) {s : ℕ} (large : 16384 ≤ length A) where
-  pub child-linked : Stands W A 6 at l ms → s ≡ childAt W at .child → s < 512 → Linked W A (set A (5312 + s) 1) (childOn l)
+module _ (W A : List ℕ) (at : ℕ) (l : Layout) (ms : List Map) {s : ℕ} (large : areaLimit ≤ length A) where
+  pub child-linked : Stands W A 6 at l ms → s ≡ childAt W at .child → s < moduleLimit → Linked W A (set A (childMarks + s) 1) (childOn l)
   child-linked st es small =
       let few = st .limited .names in
       let ix = st .index in
@@ -126,17 +127,17 @@ module _ (W A : List ℕ) (at : ℕ) (l : Layout) (ms : List Map) {s : ℕ} (lar
       let zb : l .members ≡ 0 = st .upto .members (lit< tt) in
       let here : childBase l + childSize * l .children ≡ at = (let p = st .place in omega arith) in
       record {
-        kept = λ i p q. getD-set-other A (5312 + s) i 1 0 (omega arith);
+        kept = λ i p q. getD-set-other A (childMarks + s) i 1 0 (omega arith);
         index = record {
-          names = names-stay W A l few (5312 + s) (omega arith) (omega arith) ix;
-          children = marked-more A 5312 (λ j. getD W (childBase l + childSize * j + 1) 0) (l .children) s (ix .children) (omega arith) (ap (λ x. getD W (x + 1) 0) here ∙ sym es);
-          definitions = marked-kept A _ 5824 _ _ (l .definitions) (ix .definitions) (λ m h. getD-set-other A (5312 + s) (5824 + m) 1 0 (omega arith)) (λ i h. absurd (omega arith));
-          scopes = scopes-stay W A l few (5312 + s) (omega arith) (omega arith) ix (childOn l) zs;
-          externs = externs-stay W A l few (5312 + s) (omega arith) (omega arith) ix (childOn l) ze;
+          names = names-stay W A l few (childMarks + s) (omega arith) (omega arith) ix;
+          children = marked-more A childMarks (λ j. getD W (childBase l + childSize * j + 1) 0) (l .children) s (ix .children) (omega arith) (ap (λ x. getD W (x + 1) 0) here ∙ sym es);
+          definitions = marked-kept A _ moduleMarks _ _ (l .definitions) (ix .definitions) (λ m h. getD-set-other A (childMarks + s) (moduleMarks + m) 1 0 (omega arith)) (λ i h. absurd (omega arith));
+          scopes = scopes-stay W A l few (childMarks + s) (omega arith) (omega arith) ix (childOn l) zs;
+          externs = externs-stay W A l few (childMarks + s) (omega arith) (omega arith) ix (childOn l) ze;
         };
       }
 
-  pub definition-linked : Stands W A 8 at l ms → s ≡ slotOf W at → s ≤ 512 → Linked W A (set A (5824 + s) 1) (definitionOn l)
+  pub definition-linked : Stands W A 8 at l ms → s ≡ slotOf W at → s ≤ moduleLimit → Linked W A (set A (moduleMarks + s) 1) (definitionOn l)
   definition-linked st es small =
       let few = st .limited .names in
       let ix = st .index in
@@ -146,13 +147,13 @@ module _ (W A : List ℕ) (at : ℕ) (l : Layout) (ms : List Map) {s : ℕ} (lar
       let zb : l .members ≡ 0 = st .upto .members (lit< tt) in
       let here : definitionBase l + definitionSize * l .definitions ≡ at = (let p = st .place in omega arith) in
       record {
-        kept = λ i p q. getD-set-other A (5824 + s) i 1 0 (omega arith);
+        kept = λ i p q. getD-set-other A (moduleMarks + s) i 1 0 (omega arith);
         index = record {
-          names = names-stay W A l few (5824 + s) (omega arith) (omega arith) ix;
-          children = marked-kept A _ 5312 _ _ (l .children) (ix .children) (λ m h. getD-set-other A (5824 + s) (5312 + m) 1 0 (omega arith)) (λ i h. refl);
-          definitions = marked-more A 5824 (λ j. slotOf W (definitionBase l + definitionSize * j)) (l .definitions) s (ix .definitions) (omega arith) (ap (slotOf W) here ∙ sym es);
-          scopes = scopes-stay W A l few (5824 + s) (omega arith) (omega arith) ix (definitionOn l) zs;
-          externs = externs-stay W A l few (5824 + s) (omega arith) (omega arith) ix (definitionOn l) ze;
+          names = names-stay W A l few (moduleMarks + s) (omega arith) (omega arith) ix;
+          children = marked-kept A _ childMarks _ _ (l .children) (ix .children) (λ m h. getD-set-other A (moduleMarks + s) (childMarks + m) 1 0 (omega arith)) (λ i h. refl);
+          definitions = marked-more A moduleMarks (λ j. slotOf W (definitionBase l + definitionSize * j)) (l .definitions) s (ix .definitions) (omega arith) (ap (slotOf W) here ∙ sym es);
+          scopes = scopes-stay W A l few (moduleMarks + s) (omega arith) (omega arith) ix (definitionOn l) zs;
+          externs = externs-stay W A l few (moduleMarks + s) (omega arith) (omega arith) ix (definitionOn l) ze;
         };
       }
 
@@ -172,15 +173,15 @@ module-small n x h e =
     ltb-true _ _ (ap (λ k. eqb k 2 || eqb k 3 || ltb (x .first) (n .modules)) (sym e) ∙ t)
 
 pub slot-small : (W : List ℕ) (at : ℕ) (l : Layout) {n s : ℕ} (a b c d e : Bool) → n ≡ numberOf a b c d e → n ≡ 0 → b ≡ definitionDefined (countsIn l) (definitionAt W at)
-    → l .modules ≤ 512 → s ≡ slotOf W at → s ≤ 512
+    → l .modules ≤ moduleLimit → s ≡ slotOf W at → s ≤ moduleLimit
 unfolding slotOf
 slot-small W at l a b c d e j z eb few es = rw es (by (eqb (payOf (getD W at 0)) 1) refl)
   where
-    by : (t : Bool) → eqb (payOf (getD W at 0)) 1 ≡ t → _≤_ (elim t [ true ↦ getD W (at + 1) 0 | false ↦ 512 ]) 512
+    by : (t : Bool) → eqb (payOf (getD W at 0)) 1 ≡ t → _≤_ (elim t [ true ↦ getD W (at + 1) 0 | false ↦ moduleLimit ]) moduleLimit
     by true q = (let h = module-small (countsIn l) (definitionAt W at) (sym eb ∙ passes a b c d e (sym z ∙ j) .defined) (eqb-true _ _ q) in omega arith)
     by false q = omega arith
 
-slot-same : (W : List ℕ) (at b : ℕ) → payOf (getD W at 0) ≡ 1 → getD W (at + 1) 0 < 512 → (t : Bool) → eqb (payOf (getD W b 0)) 1 ≡ t
+slot-same : (W : List ℕ) (at b : ℕ) → payOf (getD W at 0) ≡ 1 → getD W (at + 1) 0 < moduleLimit → (t : Bool) → eqb (payOf (getD W b 0)) 1 ≡ t
     → eqb (getD W (at + 1) 0) (slotOf W b) ≡ sameBy W true 1 at b
 unfolding slotOf
 slot-same W at b ek small true q =
@@ -188,11 +189,11 @@ slot-same W at b ek small true q =
     rw (slotOf, q, e) (sym (and-true _))
 slot-same W at b ek small false q =
     let e : eqb (payOf (getD W at 0)) (payOf (getD W b 0)) ≡ false = ne-eqb _ _ (λ x. eqb-false _ _ q (sym x ∙ ek)) in
-    rw (slotOf, q, e) (ne-eqb (getD W (at + 1) 0) 512 (λ x. omega arith))
+    rw (slotOf, q, e) (ne-eqb (getD W (at + 1) 0) moduleLimit (λ x. omega arith))
 
 -- a module's definition repeats an earlier one where its mark says so
-pub module-again : (W A : List ℕ) (at base n : ℕ) → payOf (getD W at 0) ≡ 1 → getD W (at + 1) 0 < 512 → Marked A 5824 (λ j. slotOf W (base + definitionSize * j)) n
-    → not (eqb (getD A (5824 + getD W (at + 1) 0) 0) 0) ≡ any (sameBy W true 1 at) (rows (λ k. base + definitionSize * k) 0 n)
+pub module-again : (W A : List ℕ) (at base n : ℕ) → payOf (getD W at 0) ≡ 1 → getD W (at + 1) 0 < moduleLimit → Marked A moduleMarks (λ j. slotOf W (base + definitionSize * j)) n
+    → not (eqb (getD A (moduleMarks + getD W (at + 1) 0) 0) 0) ≡ any (sameBy W true 1 at) (rows (λ k. base + definitionSize * k) 0 n)
 module-again W A at base n ek small mk =
     mk .same (getD W (at + 1) 0) small ∙ any-same _ _ _ _ 0 n (λ i. slot-same W at (base + definitionSize * i) ek small (eqb (payOf (getD W (base + definitionSize * i) 0)) 1) refl)
 

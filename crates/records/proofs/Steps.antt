@@ -7,7 +7,9 @@ use native.Mathlib.Omega.{arith}
 use lib.ListN.{length, getD}
 use lib.Dec.{eqb, leb, ltb}
 use borrow.Author.Tests.{ltb-true, leb-false}
+use Rattle.chains.specs.Chains.{childMarks}
 use Rattle.snapshot.specs.Lists.{rows, any}
+use Rattle.snapshot.specs.Limits.{moduleLimit, definitionLimit}
 use Rattle.snapshot.specs.Sizes.{dependencySize, childSize, preludeSize, definitionSize, scopeSize, importSize, externSize, memberSize}
 use Rattle.snapshot.specs.Records.{Map, nameAt, dependencyAt, childAt, preludeAt, definitionAt, scopeAt, importAt, externAt, memberAt}
 use Rattle.snapshot.specs.Layouts.{preludeBase, definitionBase, scopeBase, externBase, moduleMap, moduleParent, nameHead, snapWith}
@@ -62,10 +64,10 @@ module _ (W A : List ℕ) (at : ℕ) (l : Layout) (ms : List Map) (st : Stands W
     (j : n ≡ numberOf true b c d true)
     (eb : b ≡ childDefined (countsIn l) (childAt W at))
     (es : child ≡ childAt W at .child)
-    (ec : c ≡ not (eqb (getD A (5312 + child) 0) 0))
+    (ec : c ≡ not (eqb (getD A (childMarks + child) 0) 0))
     (ed : d ≡ (eqb (moduleMap A (childAt W at .child)) (moduleMap A (childAt W at .owner)) && eqb (moduleParent A (childAt W at .child)) (childAt W at .owner + 1)))
   where
-    child-in : childDefined (countsIn l) (childAt W at) ≡ true → childAt W at .child < 512
+    child-in : childDefined (countsIn l) (childAt W at) ≡ true → childAt W at .child < moduleLimit
     child-in h =
         let p : childAt W at .child < l .modules = ltb-true _ _ (and-right (ltb (childAt W at .owner) (l .modules)) (ltb (childAt W at .child) (l .modules)) h) in
         let q = st .limited .modules in
@@ -76,7 +78,7 @@ module _ (W A : List ℕ) (at : ℕ) (l : Layout) (ms : List Map) (st : Stands W
         number-of true b c d true true (childDefined (countsOf (snapWith W A l ms)) (childAt W at)) (any (sameChild (childAt W at)) ((snapWith W A l ms) .children)) (childPlaced (snapWith W A l ms) (childAt W at)) true j
         refl
         (eb ∙ ap (λ m. childDefined m (childAt W at)) (counts-same W A 6 at l ms st))
-        (λ h. ec ∙ ap (λ m. not (eqb (getD A (5312 + m) 0) 0)) es ∙ st .index .children .same (childAt W at .child) (child-in (sym eb ∙ h)) ∙ any-same _ _ _ _ 0 (l .children) (λ i. refl))
+        (λ h. ec ∙ ap (λ m. not (eqb (getD A (childMarks + m) 0) 0)) es ∙ st .index .children .same (childAt W at .child) (child-in (sym eb ∙ h)) ∙ any-same _ _ _ _ 0 (l .children) (λ i. refl))
         (λ h. ed ∙ child-same W A l ms (childAt W at) (sym eb ∙ h))
         refl
 
@@ -127,33 +129,33 @@ module _ (W A : List ℕ) (at : ℕ) (l : Layout) (ms : List Map) (st : Stands W
     (j : n ≡ numberOf a b c d e)
     (ea : a ≡ (leb 1 (definitionAt W at .kind) && leb (definitionAt W at .kind) 5 && (eqb (definitionAt W at .kind) 2 || eqb (definitionAt W at .second) 0) && (not (eqb (definitionAt W at .kind) 3) || leb (l .names) (definitionAt W at .first) || isBuiltin (nameAt W (nameHead A (definitionAt W at .first))))))
     (eb : b ≡ definitionDefined (countsIn l) (definitionAt W at))
-    (ec : (definitionAt W at .kind ≡ 1 → definitionAt W at .first < 512) → c ≡ ((eqb (definitionAt W at .kind) 1 || eqb (definitionAt W at .kind) 3) && any (sameBy W true 1 at) (rows (λ k. definitionBase l + definitionSize * k) 0 (l .definitions))))
+    (ec : (definitionAt W at .kind ≡ 1 → definitionAt W at .first < moduleLimit) → c ≡ ((eqb (definitionAt W at .kind) 1 || eqb (definitionAt W at .kind) 3) && any (sameBy W true 1 at) (rows (λ k. definitionBase l + definitionSize * k) 0 (l .definitions))))
     (ed : d ≡ (not (eqb (definitionAt W at .kind) 2) || eqb (definitionAt W (definitionBase l + definitionSize * definitionAt W at .first) .kind) 4))
-    (ee : e ≡ ltb (l .definitions) 2048)
+    (ee : e ≡ ltb (l .definitions) definitionLimit)
   where
     range-same : (v : Bool) → (not v || leb (l .names) (definitionAt W at .first) || isBuiltin (nameAt W (nameHead A (definitionAt W at .first)))) ≡ (not v || leb (l .names) (definitionAt W at .first) || isBuiltin (getD (snapWith W A l ms .names) (definitionAt W at .first) noName))
     range-same true = builtin-same W A (l .names) (definitionAt W at .first)
     range-same false = refl
 
-    definition-number : n ≡ numberOf (definitionRange (snapWith W A l ms) (definitionAt W at)) (definitionDefined (countsOf (snapWith W A l ms)) (definitionAt W at)) (definitionRepeated (snapWith W A l ms) (definitionAt W at)) (definitionPlaced (snapWith W A l ms) (definitionAt W at)) (ltb (length ((snapWith W A l ms) .definitions)) 2048)
+    definition-number : n ≡ numberOf (definitionRange (snapWith W A l ms) (definitionAt W at)) (definitionDefined (countsOf (snapWith W A l ms)) (definitionAt W at)) (definitionRepeated (snapWith W A l ms) (definitionAt W at)) (definitionPlaced (snapWith W A l ms) (definitionAt W at)) (ltb (length ((snapWith W A l ms) .definitions)) definitionLimit)
     definition-number =
-        number-of a b c d e (definitionRange (snapWith W A l ms) (definitionAt W at)) (definitionDefined (countsOf (snapWith W A l ms)) (definitionAt W at)) (definitionRepeated (snapWith W A l ms) (definitionAt W at)) (definitionPlaced (snapWith W A l ms) (definitionAt W at)) (ltb (length ((snapWith W A l ms) .definitions)) 2048) j
+        number-of a b c d e (definitionRange (snapWith W A l ms) (definitionAt W at)) (definitionDefined (countsOf (snapWith W A l ms)) (definitionAt W at)) (definitionRepeated (snapWith W A l ms) (definitionAt W at)) (definitionPlaced (snapWith W A l ms) (definitionAt W at)) (ltb (length ((snapWith W A l ms) .definitions)) definitionLimit) j
         (ea ∙ ap (λ x. leb 1 (definitionAt W at .kind) && leb (definitionAt W at .kind) 5 && (eqb (definitionAt W at .kind) 2 || eqb (definitionAt W at .second) 0) && x) (range-same (eqb (definitionAt W at .kind) 3)) ∙ ap (λ m. leb 1 (definitionAt W at .kind) && leb (definitionAt W at .kind) 5 && (eqb (definitionAt W at .kind) 2 || eqb (definitionAt W at .second) 0) && (not (eqb (definitionAt W at .kind) 3) || leb m (definitionAt W at .first) || isBuiltin (getD (snapWith W A l ms .names) (definitionAt W at .first) noName))) (sym (length-rows _ (l .names))))
         (eb ∙ ap (λ m. definitionDefined m (definitionAt W at)) (counts-same W A 8 at l ms st))
         (λ h. ec (λ e. (let p = module-small (countsIn l) (definitionAt W at) (sym eb ∙ h) e in let q = st .limited .modules in omega arith)) ∙ ap (λ x. (eqb (definitionAt W at .kind) 1 || eqb (definitionAt W at .kind) 3) && x) (definition-again W at (definitionBase l) (l .definitions)))
         (λ h. ed ∙ parent-same W A l ms (definitionAt W at) (sym eb ∙ h))
-        (ee ∙ ap (λ m. ltb m 2048) (sym (length-rows _ (l .definitions))))
+        (ee ∙ ap (λ m. ltb m definitionLimit) (sym (length-rows _ (l .definitions))))
 
     pub definition-no : (n ≡ 0 → ⊥) → definitionStep (snapWith W A l ms) (definitionAt W at) ≡ no n
     unfolding definitionStep
-    definition-no z = judge-no (definitionRange (snapWith W A l ms) (definitionAt W at)) (definitionDefined (countsOf (snapWith W A l ms)) (definitionAt W at)) (definitionRepeated (snapWith W A l ms) (definitionAt W at)) (definitionPlaced (snapWith W A l ms) (definitionAt W at)) (ltb (length ((snapWith W A l ms) .definitions)) 2048) (addDefinition (snapWith W A l ms) (definitionAt W at)) definition-number z
+    definition-no z = judge-no (definitionRange (snapWith W A l ms) (definitionAt W at)) (definitionDefined (countsOf (snapWith W A l ms)) (definitionAt W at)) (definitionRepeated (snapWith W A l ms) (definitionAt W at)) (definitionPlaced (snapWith W A l ms) (definitionAt W at)) (ltb (length ((snapWith W A l ms) .definitions)) definitionLimit) (addDefinition (snapWith W A l ms) (definitionAt W at)) definition-number z
 
     pub definition-on : (B : List ℕ) → n ≡ 0 → at + definitionSize ≤ length W → Linked W A B (definitionOn l) → Answered W B 8 (at + definitionSize) (definitionStep (snapWith W A l ms) (definitionAt W at)) (On (definitionOn l))
     unfolding definitionStep
     definition-on B z fits x = (
       ms,
-      judge-on (definitionRange (snapWith W A l ms) (definitionAt W at)) (definitionDefined (countsOf (snapWith W A l ms)) (definitionAt W at)) (definitionRepeated (snapWith W A l ms) (definitionAt W at)) (definitionPlaced (snapWith W A l ms) (definitionAt W at)) (ltb (length ((snapWith W A l ms) .definitions)) 2048) (addDefinition (snapWith W A l ms) (definitionAt W at)) (passes (definitionRange (snapWith W A l ms) (definitionAt W at)) (definitionDefined (countsOf (snapWith W A l ms)) (definitionAt W at)) (definitionRepeated (snapWith W A l ms) (definitionAt W at)) (definitionPlaced (snapWith W A l ms) (definitionAt W at)) (ltb (length ((snapWith W A l ms) .definitions)) 2048) (sym z ∙ definition-number)) ∙ ap on (sym (definition-added W A B at l ms st (x .kept))),
-      definition-stands W A B at l ms st (x .kept) fits (ltb-true (l .definitions) 2048 (ap (λ m. ltb m 2048) (sym (length-rows (λ j. definitionAt W (definitionBase l + definitionSize * j)) (l .definitions))) ∙ passes (definitionRange (snapWith W A l ms) (definitionAt W at)) (definitionDefined (countsOf (snapWith W A l ms)) (definitionAt W at)) (definitionRepeated (snapWith W A l ms) (definitionAt W at)) (definitionPlaced (snapWith W A l ms) (definitionAt W at)) (ltb (length ((snapWith W A l ms) .definitions)) 2048) (sym z ∙ definition-number) .room)) (x .index),
+      judge-on (definitionRange (snapWith W A l ms) (definitionAt W at)) (definitionDefined (countsOf (snapWith W A l ms)) (definitionAt W at)) (definitionRepeated (snapWith W A l ms) (definitionAt W at)) (definitionPlaced (snapWith W A l ms) (definitionAt W at)) (ltb (length ((snapWith W A l ms) .definitions)) definitionLimit) (addDefinition (snapWith W A l ms) (definitionAt W at)) (passes (definitionRange (snapWith W A l ms) (definitionAt W at)) (definitionDefined (countsOf (snapWith W A l ms)) (definitionAt W at)) (definitionRepeated (snapWith W A l ms) (definitionAt W at)) (definitionPlaced (snapWith W A l ms) (definitionAt W at)) (ltb (length ((snapWith W A l ms) .definitions)) definitionLimit) (sym z ∙ definition-number)) ∙ ap on (sym (definition-added W A B at l ms st (x .kept))),
+      definition-stands W A B at l ms st (x .kept) fits (ltb-true (l .definitions) definitionLimit (ap (λ m. ltb m definitionLimit) (sym (length-rows (λ j. definitionAt W (definitionBase l + definitionSize * j)) (l .definitions))) ∙ passes (definitionRange (snapWith W A l ms) (definitionAt W at)) (definitionDefined (countsOf (snapWith W A l ms)) (definitionAt W at)) (definitionRepeated (snapWith W A l ms) (definitionAt W at)) (definitionPlaced (snapWith W A l ms) (definitionAt W at)) (ltb (length ((snapWith W A l ms) .definitions)) definitionLimit) (sym z ∙ definition-number) .room)) (x .index),
     )
 
 module _ (W A : List ℕ) (at : ℕ) (l : Layout) (ms : List Map) (st : Stands W A 9 at l ms)

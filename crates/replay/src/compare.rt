@@ -2,6 +2,7 @@
 ghost use mathlib.Core.Path.{_≡_};
 ghost use Prim.Native.Nat.{_≤_};
 ghost use lib.ListN.{length};
+ghost use Rattle.snapshot.specs.Limits.{wordLimit, areaLimit, routedLimit};
 use accept::check::check;
 use line::line::put_refusal;
 use printer::input::input_fault;
@@ -29,7 +30,7 @@ fn stands(lines: &[u8], at: usize, line: &[u8]) -> bool {
 
 // The lines of the questions, which begin at place k.
 fn same_lines(words: &[u32], k: usize, lines: &[u8], area: &mut [u32], out: &mut [u8]) -> bool
-    requires { ⌜ (k ≤ length (now words)) × (length (now words) ≤ 16384) × (16384 ≡ length (now area)) × (4659 ≤ length (now out)) ⌝ }
+    requires { ⌜ (k ≤ length (now words)) × (length (now words) ≤ wordLimit) × (areaLimit ≡ length (now area)) × (routedLimit ≤ length (now out)) ⌝ }
 {
     let snapshot = &words[..k];
     let c = check(snapshot, area);
@@ -52,7 +53,7 @@ fn same_lines(words: &[u32], k: usize, lines: &[u8], area: &mut [u32], out: &mut
 
 // The lines of the words; without a question there is none.
 fn same_words(words: &[u32], lines: &[u8], area: &mut [u32], out: &mut [u8]) -> bool
-    requires { ⌜ (length (now words) ≤ 16384) × (16384 ≡ length (now area)) × (4659 ≤ length (now out)) ⌝ }
+    requires { ⌜ (length (now words) ≤ wordLimit) × (areaLimit ≡ length (now area)) × (routedLimit ≤ length (now out)) ⌝ }
 {
     let k = first_question(words);
     if k < words.len() {
@@ -63,7 +64,7 @@ fn same_words(words: &[u32], lines: &[u8], area: &mut [u32], out: &mut [u8]) -> 
 
 /// Whether the printer prints these lines for an input.
 pub fn same(bytes: &[u8], lines: &[u8], space: &mut [u32], area: &mut [u32], out: &mut [u8]) -> bool
-    requires { ⌜ (16384 ≤ length (now space)) × (16384 ≡ length (now area)) × (4659 ≤ length (now out)) ⌝ }
+    requires { ⌜ (wordLimit ≤ length (now space)) × (areaLimit ≡ length (now area)) × (routedLimit ≤ length (now out)) ⌝ }
 {
     let fault = input_fault(bytes);
     if fault != 0 {

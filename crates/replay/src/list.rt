@@ -3,6 +3,7 @@ ghost use mathlib.Core.Path.{_≡_};
 ghost use mathlib.Core.Bool.{true};
 ghost use Prim.Native.Nat.{_≤_};
 ghost use lib.ListN.{length};
+ghost use Rattle.snapshot.specs.Limits.{wordLimit, areaLimit, routedLimit};
 use crate::compare::same;
 use libc::STDIN_FILENO;
 use libc::STDOUT_FILENO;
@@ -41,7 +42,7 @@ fn compare_next(
     area: &mut [u32],
     out: &mut [u8],
 ) -> usize
-    requires { ⌜ (16384 ≤ length (now space)) × (16384 ≡ length (now area)) × (4659 ≤ length (now out)) ⌝ }
+    requires { ⌜ (wordLimit ≤ length (now space)) × (areaLimit ≡ length (now area)) × (routedLimit ≤ length (now out)) ⌝ }
 {
     let n = next_number();
     if !read_part(bytes, n) {
@@ -65,7 +66,7 @@ pub fn run(
     area: &mut [u32],
     out: &mut [u8],
 )
-    requires { ⌜ (16384 ≤ length (now space)) × (16384 ≡ length (now area)) × (4659 ≤ length (now out)) ⌝ }
+    requires { ⌜ (wordLimit ≤ length (now space)) × (areaLimit ≡ length (now area)) × (routedLimit ≤ length (now out)) ⌝ }
 {
     let mut k = 0;
     while k < 100000 {

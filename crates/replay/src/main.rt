@@ -1,6 +1,9 @@
 //! Puts the stored inputs to the printer and compares its lines with those of the Rust.
 ghost use mathlib.Core.Path.{_≡_};
 ghost use lib.ListN.{length};
+ghost use Rattle.snapshot.specs.Limits.{wordLimit, routedLimit};
+use route_line::route::RoutedBytes;
+use snapshot::ids::WordCount;
 
 mod compare;
 mod list;
@@ -17,16 +20,16 @@ fn lines() -> [u8; 8192]
     [0; 8192]
 }
 
-fn words() -> [u32; 16384]
-    ensures { λ r. ⌜ 16384 ≡ length r ⌝ }
+fn words() -> [u32; WordCount::SNAPSHOT]
+    ensures { λ r. ⌜ wordLimit ≡ length r ⌝ }
 {
-    [0; 16384]
+    [0; WordCount::SNAPSHOT]
 }
 
-fn text() -> [u8; 4659]
-    ensures { λ r. ⌜ 4659 ≡ length r ⌝ }
+fn text() -> [u8; RoutedBytes::LIMIT]
+    ensures { λ r. ⌜ routedLimit ≡ length r ⌝ }
 {
-    [0; 4659]
+    [0; RoutedBytes::LIMIT]
 }
 
 fn main() {

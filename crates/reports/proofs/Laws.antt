@@ -15,7 +15,7 @@ use Rattle.find_path.specs.declared.Tank.{Tank}
 use Rattle.find_path.specs.Charged.{Out, foundOf}
 use Rattle.find_path.specs.Report.{flag, reported}
 use Rattle.reports.specs.Outcomes.{outOf}
-use Rattle.reports.specs.Written.{low, reportWords, writtenTo, Written}
+use Rattle.reports.specs.Written.{low, reportWords, writtenTo, Written, reportSize}
 
 pub reported-same : (f : Found) (a e : ℕ) → a ≡ flag (not (f .choice .found)) → e ≡ flag (f .meter .empty)
     → _≡_ {A = Report} (record {
@@ -104,8 +104,8 @@ module _ (r : Report) (old : List ℕ) where
       → x ≡ take 0 old ++ (map low (r .outcome ∷ r .number ∷ r .kind ∷ []) ++ drop 3 old)
       → y ≡ take 3 x ++ (map low (r .names) ++ drop 19 x)
       → z ≡ take 19 y ++ (map low (r .count ∷ r .charges ∷ r .empty ∷ r .left ∷ r .sought ∷ r .steps ∷ []) ++ drop 25 y)
-      → w ≡ take 25 z ++ (map low (r .route) ++ drop 42 z)
-      → w ≡ reportWords r ++ drop 42 old
+      → w ≡ take 25 z ++ (map low (r .route) ++ drop reportSize z)
+      → w ≡ reportWords r ++ drop reportSize old
   unfolding reportWords
   parts-written x y z w l ex ey ez ew =
       let H : List ℕ = map low (r .outcome ∷ r .number ∷ r .kind ∷ []) in
@@ -118,12 +118,12 @@ module _ (r : Report) (old : List ℕ) where
       let a : y ≡ (H ++ N) ++ drop 16 (drop 3 old) = ey ∙ paste x H (drop 3 old) N 3 16 19 refl refl ex in
       let b : z ≡ ((H ++ N) ++ R) ++ drop 6 (drop 16 (drop 3 old)) = ez ∙ paste y (H ++ N) (drop 16 (drop 3 old)) R 19 6 25 n refl a in
       let c : w ≡ (((H ++ N) ++ R) ++ T) ++ drop 17 (drop 6 (drop 16 (drop 3 old))) =
-      ew ∙ paste z ((H ++ N) ++ R) (drop 6 (drop 16 (drop 3 old))) T 25 17 42 o refl b in
-      let d : drop 17 (drop 6 (drop 16 (drop 3 old))) ≡ drop 42 old =
+      ew ∙ paste z ((H ++ N) ++ R) (drop 6 (drop 16 (drop 3 old))) T 25 17 reportSize o refl b in
+      let d : drop 17 (drop 6 (drop 16 (drop 3 old))) ≡ drop reportSize old =
       drop-drop 17 6 (drop 16 (drop 3 old)) ∙ drop-drop 23 16 (drop 3 old) ∙ drop-drop 39 3 old in
       c ∙ ap₂ (λ u v. u ++ v) (append-assoc (H ++ N) R T ∙ append-assoc H N (R ++ T)) d
 
-  pub written : (x y z w : List ℕ) → 42 ≤ length old → length (r .names) ≡ 16 → length (r .route) ≡ 17
+  pub written : (x y z w : List ℕ) → reportSize ≤ length old → length (r .names) ≡ 16 → length (r .route) ≡ 17
       → x ≡ take 0 old ++ (map low (r .outcome ∷ r .number ∷ r .kind ∷ []) ++ drop 3 old)
       → y ≡ take 3 x ++ (map low (r .names) ++ drop (3 + length (r .names)) x)
       → z ≡ take 19 y ++ (map low (r .count ∷ r .charges ∷ r .empty ∷ r .left ∷ r .sought ∷ r .steps ∷ []) ++ drop 25 y)
@@ -132,7 +132,7 @@ module _ (r : Report) (old : List ℕ) where
   unfolding writtenTo
   written x y z w h l k ex ey ez ew =
       let e : 3 + length (r .names) ≡ 19 = omega arith in
-      let f : 25 + length (r .route) ≡ 42 = omega arith in
+      let f : 25 + length (r .route) ≡ reportSize = omega arith in
       record {
         words =
             parts-written x y z w l ex (ey ∙ ap (λ k. take 3 x ++ (map low (r .names) ++ drop k x)) e) ez
@@ -141,6 +141,6 @@ module _ (r : Report) (old : List ℕ) where
         done = sym (le-leb _ _ h);
       }
 
-  pub not-written : length old < 42 → Written r old old false
+  pub not-written : length old < reportSize → Written r old old false
   unfolding writtenTo
   not-written h = record { words = sym (rw (writtenTo, lt-ltb _ _ h)); done = sym (lt-leb _ _ h) }

@@ -8,6 +8,10 @@ use lib.Dec.{ltb, leb}
 use lib.ListN.{length, drop}
 use Rattle.find_path.specs.declared.Report.{Report}
 
+-- words of a report
+abbrev pub reportSize : ℕ
+reportSize = 42
+
 -- a word holds the lowest 32 bits of a number
 abbrev pub low : ℕ → ℕ
 low x = x % 4294967296
@@ -24,9 +28,9 @@ reportNumbers r =
 
 -- a report at the front; the words past it stay, and fewer words than a report has stay all
 unfoldable pub writtenTo : Report → List ℕ → List ℕ
-writtenTo r out = elim (ltb (length out) 42) [ true ↦ out | false ↦ reportWords r ++ drop 42 out ]
+writtenTo r out = elim (ltb (length out) reportSize) [ true ↦ out | false ↦ reportWords r ++ drop reportSize out ]
 
 -- b says whether the report was written
 pub record Written (r : Report) (old new : List ℕ) (b : Bool) : Type 0 where
   pub words : new ≡ writtenTo r old
-  pub done : b ≡ leb 42 (length old)
+  pub done : b ≡ leb reportSize (length old)

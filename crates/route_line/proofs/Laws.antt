@@ -7,6 +7,7 @@ use native.Mathlib.Numerals.{add-one}
 use borrow.Author.Tests.{eq-eqb, ne-eqb}
 use lib.ListN.{length, getD, take}
 use lib.Seq.{take-suc}
+use Rattle.snapshot.specs.Limits.{areaLimit}
 use Rattle.snapshot.specs.Records.{Snapshot}
 use Rattle.snapshot.specs.Layouts.{snapOf}
 use Rattle.snapshot.specs.declared.layout.Layout.{Layout}
@@ -73,10 +74,10 @@ refused-routed s from n =
 
 module _ (W : List ℕ) (q : Question) (A : List ℕ) (c : Checked) (r : Report) (a : Questioned W q c A r) where
   pub few-names : r .count ≤ 16
-  few-names = rw (a .report) (report-bounded W 16384 q .few)
+  few-names = rw (a .report) (report-bounded W areaLimit q .few)
 
   pub few-steps : r .steps ≤ 17
-  few-steps = let b = report-bounded W 16384 q in rw (a .report) (omega (arith, b .few, b .once))
+  few-steps = let b = report-bounded W areaLimit q in rw (a .report) (omega (arith, b .few, b .once))
 
   module _ (old new : List ℕ) (t : ℕ) where
     pub routed-refused : (n place : ℕ) → c ≡ Refused n place
@@ -85,7 +86,7 @@ module _ (W : List ℕ) (q : Question) (A : List ℕ) (c : Checked) (r : Report)
     routed-refused n place e p =
         let s : Snapshot = snapshotOf (verdict W) in
         let v : verdict W ≡ refuse n place = sym (subst (λ (x : Checked). Judged W A x) e (a .checked) .same) in
-        let u : refused (r .number) ≡ reportOf W 16384 q = ap (λ (x : Report). refused (x .number)) (a .report) ∙ sym (refusal-only W q n place v) in
+        let u : refused (r .number) ≡ reportOf W areaLimit q = ap (λ (x : Report). refused (x .number)) (a .report) ∙ sym (refusal-only W q n place v) in
         record {
           line = put-as (ap (λ x. x ++ bytesOf "\n") (refused-routed s (q .query .from) (r .number) ∙ ap (routedLineIn s (q .query .from)) u)) (p s (q .query .from));
           checked = a .checked;

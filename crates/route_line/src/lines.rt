@@ -2,6 +2,7 @@
 ghost use mathlib.Core.Path.{_≡_};
 ghost use Prim.Native.Nat.{_≤_};
 ghost use lib.ListN.{length};
+ghost use Rattle.snapshot.specs.Limits.{areaLimit, routedLimit};
 ghost use Rattle.accept.specs.Post.{Judged};
 ghost use Rattle.route_line.specs.Routed.{RoutedOn};
 use crate::route::put_routed;
@@ -19,7 +20,7 @@ pub fn routed_line_on(
     question: Question,
     out: &mut [u8],
 ) -> usize
-    requires { ⌜ Judged (now words) (now area) c × (length (now area) ≡ 16384) × (4659 ≤ length (now out)) ⌝ }
+    requires { ⌜ Judged (now words) (now area) c × (length (now area) ≡ areaLimit) × (routedLimit ≤ length (now out)) ⌝ }
     ensures { λ n. ⌜ RoutedOn (now (words .entry)) question c (now (area .exit)) (now (out .entry)) (now (out .exit)) n ⌝ }
 {
     let r = report_on(words, area, c, question);

@@ -2,6 +2,7 @@
 ghost use mathlib.Core.List.{[], _++_};
 ghost use Prim.Native.Nat.{_+_, _≤_, _<_};
 ghost use lib.ListN.{length, getD, take};
+ghost use Rattle.snapshot.specs.Limits.{routedLimit};
 ghost use Rattle.snapshot.specs.Layouts.{snapOf};
 ghost use Rattle.accept.specs.Post.{Reads};
 ghost use Rattle.printing.specs.Output.{Put};
@@ -118,7 +119,7 @@ pub fn put_routed(
     from: ModuleId,
     r: Report,
 ) -> usize
-    requires { ⌜ Reads (now words) (now area) l × (4659 ≤ length (now out)) × (r .count ≤ 16) × (r .steps ≤ 17) ⌝ }
+    requires { ⌜ Reads (now words) (now area) l × (routedLimit ≤ length (now out)) × (r .count ≤ 16) × (r .steps ≤ 17) ⌝ }
     ensures { λ n. ⌜ Put (now (out .entry)) 0 (routedLineIn (snapOf (now (words .entry)) (now (area .entry)) l) (from .0) r ++ bytesOf "\n") (now (out .exit)) n ⌝ }
 {
     let a = put_bare(out, words, area, l, from, r);

@@ -8,6 +8,7 @@ use lib.Dec.{eqb, leb, ltb}
 use lib.ListN.{length, getD}
 use borrow.Author.Tests.{eq-eqb, leb-true, ltb-true, ltb-false}
 use Rattle.snapshot.specs.Lists.{any}
+use Rattle.snapshot.specs.Limits.{wordLimit}
 use Rattle.snapshot.specs.Sizes.{scopeSize}
 use Rattle.snapshot.specs.Records.{Scope, Snapshot, scopeAt}
 use Rattle.record_rules.specs.Tests.{countsOf, scopeRange, scopeDefined, nsPlaced, sameEntry}
@@ -47,8 +48,8 @@ module _ (W : List ℕ) (s : Snapshot) (slice : ℕ) (x : Scope) (acc : verdict 
   unfolding editFault
   clean = none-clean (scopeRange x) (scopeDefined (countsOf s) x) (nsPlaced s (x .ns) (x .definition)) (any (sameEntry x) (s .scopes)) (hasRoom (length W) slice) e
 
-  roomy : (leb (length W + scopeSize) 16384 ≡ true) × (leb (length W + scopeSize) slice ≡ true)
-  roomy = and-two (leb (length W + scopeSize) 16384) (leb (length W + scopeSize) slice) (clean .fits)
+  roomy : (leb (length W + scopeSize) wordLimit ≡ true) × (leb (length W + scopeSize) slice ≡ true)
+  roomy = and-two (leb (length W + scopeSize) wordLimit) (leb (length W + scopeSize) slice) (clean .fits)
 
   pub add-room : length W + scopeSize ≤ slice
   add-room = leb-true (length W + scopeSize) slice (roomy .1)
@@ -60,7 +61,7 @@ module _ (W : List ℕ) (s : Snapshot) (slice : ℕ) (x : Scope) (acc : verdict 
   add-longer = inserted-length W (scopeWords x) (scopesEnd W) (end-within W s acc) ∙ ap (λ n. length W + n) (words-length x add-small)
 
   pub add-accepted : verdict (inserted (scopesEnd W) (scopeWords x) W) ≡ accept (withScopes higher s (s .scopes ++ (placed (scopesEnd W) x ∷ [])))
-  add-accepted = added-accepted W s acc x (clean .ranged) (clean .known) (clean .new) (clean .right) (leb-true (length W + scopeSize) 16384 (roomy .0))
+  add-accepted = added-accepted W s acc x (clean .ranged) (clean .known) (clean .new) (clean .right) (leb-true (length W + scopeSize) wordLimit (roomy .0))
 
   stands : (i : ℕ) → i < scopeSize → getD (inserted (scopesEnd W) (scopeWords x) W) (scopesEnd W + i) 0 ≡ getD (scopeWords x) i 0
   stands i h = inserted-at W (scopeWords x) (scopesEnd W) (end-within W s acc) i (rw (words-length x add-small) h)

@@ -10,6 +10,7 @@ use lib.Dec.{eqb}
 use lib.ListN.{length, getD}
 use borrow.Author.Tests.{eq-eqb, le-leb, ltb-true, ltb-false}
 use Rattle.snapshot.specs.Lists.{any}
+use Rattle.snapshot.specs.Limits.{wordLimit, crateLimit, moduleLimit}
 use Rattle.snapshot.specs.Words.{kindOf, payOf, argumentsOf, argumentsAt}
 use Rattle.snapshot.specs.Sizes.{scopeSize}
 use Rattle.snapshot.specs.Records.{Snapshot, Scope, scopeAt}
@@ -38,7 +39,7 @@ pub record Small (x : Scope) : Type 0 where
   pub declared : x .declared < 268435456
   pub bits : x .bits < 268435456
 
-number-small : (v n c m : ℕ) → (v ≡ 0 → n ≡ 0) → (v ≡ 1 → n < c) → (2 ≤ v → n < m) → c ≤ 64 → m ≤ 512 → n < 268435456
+number-small : (v n c m : ℕ) → (v ≡ 0 → n ≡ 0) → (v ≡ 1 → n < c) → (2 ≤ v → n < m) → c ≤ crateLimit → m ≤ moduleLimit → n < 268435456
 number-small zero n c m f g h i j = let z = f refl in omega arith
 number-small (suc zero) n c m f g h i j = let z = g refl in omega arith
 number-small (suc (suc v)) n c m f g h i j = let z = h (omega arith) in omega arith
@@ -176,7 +177,7 @@ module _ (W : List ℕ) (u : Snapshot) (acc : verdict W ≡ accept u) where
   end-base = run-late W (end-split .fuel) (scopesEnd W) 10 (end-split .state) u (omega arith) (end-split .enough) end-rest
 
   module _ (x : Scope) (ranged : scopeRange x ≡ true) (known : scopeDefined (countsOf u) x ≡ true) (new : any (sameEntry x) (u .scopes) ≡ false)
-      (right : nsPlaced u (x .ns) (x .definition) ≡ true) (room : length W + scopeSize ≤ 16384)
+      (right : nsPlaced u (x .ns) (x .definition) ≡ true) (room : length W + scopeSize ≤ wordLimit)
     where
       small : Small x
       small = fits-small u x (accepted-limits W u acc) ranged known

@@ -117,13 +117,13 @@ module _ (W : List ℕ) (u : Snapshot) (stop : ℕ → Bool) (K : ℕ → Snapsh
         subst (λ p. Split W u stop K a last s p) (sym p) (split-here (suc n) a last s e enough within (λ g. absurd (omega arith)) k))
 
 -- a verdict that accepts is that of the fold
-pub verdict-records : (W : List ℕ) (u : Snapshot) → verdict W ≡ accept u → (length W ≤ 16384) × (records (length W) W 0 0 empty ≡ accept u)
+pub verdict-records : (W : List ℕ) (u : Snapshot) → verdict W ≡ accept u → (length W ≤ wordLimit) × (records (length W) W 0 0 empty ≡ accept u)
 unfolding verdict
 verdict-records W u e =
     by-test (leb (length W) wordLimit)
     (λ c. (leb-true (length W) wordLimit c, rw (verdict, c) at e))
     (λ c. let f : refuse 30 wordLimit ≡ accept u = rw (verdict, c) at e in let z : _≡_ {A = ℕ} 0 1 = cc in absurd (omega arith))
 
-pub verdict-is : (W : List ℕ) → length W ≤ 16384 → verdict W ≡ records (length W) W 0 0 empty
+pub verdict-is : (W : List ℕ) → length W ≤ wordLimit → verdict W ≡ records (length W) W 0 0 empty
 unfolding verdict
 verdict-is W h = rw (verdict, le-leb (length W) wordLimit h)

@@ -4,6 +4,7 @@ ghost use mathlib.Core.List.{List};
 ghost use mathlib.Core.Bool.{true, false};
 ghost use Prim.Native.Nat.{ℕ, _≤_, _<_};
 ghost use lib.ListN.{length, getD};
+ghost use Rattle.snapshot.specs.Limits.{wordLimit};
 ghost use Rattle.snapshot.specs.Layouts.{wordCount, snapOf};
 ghost use Rattle.record_rules.specs.Tests.{countsOf, scopeRange, scopeDefined, nsPlaced};
 ghost use Rattle.record_rules.specs.Stands.{numberOf, countsIn};
@@ -14,6 +15,7 @@ use crate::places::entry_place;
 use item_records::definitions::ns_placed;
 use record_rules::judge::judge;
 use snapshot::ids::DefinitionId;
+use snapshot::ids::Namespace;
 use snapshot::ids::WordCount;
 use snapshot::kind::Size;
 use snapshot::layout::Layout;
@@ -24,7 +26,7 @@ fn in_range(entry: &[u32]) -> bool
 {
     let visibility = word(entry, 4);
     let number = word(entry, 5);
-    (word(entry, 1) <= 2)
+    (word(entry, 1) <= Namespace::LIMIT)
         & (visibility <= 3)
         & ((visibility != 0) | (number == 0))
         & (word(entry, 6) <= 3)
@@ -45,7 +47,7 @@ fn defined(l: Layout, entry: &[u32]) -> bool
 
 // The number by which a scope record of the entry would be refused, but for a repeated one, or 0.
 fn entry_number(words: &[u32], l: Layout, entry: &[u32]) -> u32
-    requires { ⌜ wordCount l ≤ 16384 ⌝ }
+    requires { ⌜ wordCount l ≤ wordLimit ⌝ }
     ensures { λ r. ⌜ ((A : List ℕ) → r ≡ numberOf (scopeRange (entryOf (now (entry .entry)))) (scopeDefined (countsOf (snapOf (now (words .entry)) A l)) (entryOf (now (entry .entry)))) false (nsPlaced (snapOf (now (words .entry)) A l) (entryOf (now (entry .entry)) .ns) (entryOf (now (entry .entry)) .definition)) true) ⌝ }
 {
     let ns = word(entry, 1);
@@ -73,7 +75,7 @@ fn add_number(entry: u32, there: bool, room: bool) -> u32
 /// The number by which the addition of an entry to an accepted snapshot is refused, or 0; the snapshot stands in a slice of so many
 /// words.
 pub fn add_fault(words: &[u32], l: Layout, entry: &[u32], slice: usize) -> u32
-    requires { ⌜ (wordCount l ≡ length (now words)) × (length (now words) ≤ 16384) ⌝ }
+    requires { ⌜ (wordCount l ≡ length (now words)) × (length (now words) ≤ wordLimit) ⌝ }
     ensures { λ r. ⌜ ((A : List ℕ) → Reads (now (words .entry)) A l → r ≡ editFault (snapOf (now (words .entry)) A l) (length (now (words .entry))) slice (adding (entryOf (now (entry .entry))))) ⌝ }
 {
     let owner = word(entry, 0);

@@ -2,6 +2,7 @@
 ghost use mathlib.Core.Path.{_≡_};
 ghost use Prim.Native.Nat.{_≤_};
 ghost use lib.ListN.{length};
+ghost use Rattle.snapshot.specs.Limits.{wordLimit};
 ghost use Rattle.scope_edits.specs.Entries.{isNamed, scopesEnd, isEntry, entryPlace};
 use snapshot::kind::Kind;
 use snapshot::kind::arguments;
@@ -12,7 +13,7 @@ use snapshot::words::kind;
 
 /// The end of the last scope record; where there is none, the place of the first record of a higher kind, or the end.
 pub fn scopes_end(words: &[u32]) -> usize
-    requires { ⌜ length (now words) ≤ 16384 ⌝ }
+    requires { ⌜ length (now words) ≤ wordLimit ⌝ }
     ensures { λ r. ⌜ r ≡ scopesEnd (now (words .entry)) ⌝ }
 {
     let mut at = 0;
@@ -37,7 +38,7 @@ fn is_entry(words: &[u32], at: usize, owner: usize, ns: usize, name: usize) -> b
 
 /// The place of the entry of a module, a namespace and a name, or the end.
 pub fn entry_place(words: &[u32], owner: usize, ns: usize, name: usize) -> usize
-    requires { ⌜ length (now words) ≤ 16384 ⌝ }
+    requires { ⌜ length (now words) ≤ wordLimit ⌝ }
     ensures { λ r. ⌜ r ≡ entryPlace (isNamed owner ns name) (now (words .entry)) ⌝ }
 {
     let mut at = 0;

@@ -8,6 +8,7 @@ use mathlib.Core.Option.{Option, none, some}
 use lib.Dec.{eqb}
 use lib.ListN.{length}
 use borrow.Author.Tests.{eq-eqb, ne-eqb, eqb-true}
+use Rattle.snapshot.specs.Limits.{wordLimit}
 use Rattle.snapshot.specs.Sizes.{definitionSize}
 use Rattle.snapshot.specs.Records.{Snapshot, Definition, definitionAt}
 use Rattle.snapshot.specs.Layouts.{definitionBase, snapOf}
@@ -135,7 +136,7 @@ module _ (W A : List ℕ) (l : Layout) (r : Reads W A l) where
     pub asked : Known l (itemOf S 0 (v .first))
     pub falls : number (itemOf S 0 (v .first)) < number item
     pub name : v .second < l .names
-    pub place : v .place < 16384
+    pub place : v .place < wordLimit
     pub plain : variantOf S (itemOf S 0 (v .first)) ≡ none
 
   pub parent-of : (item : Item) (v : Definition) → Known l item → some v ≡ variantOf S item → Parent item v

@@ -7,6 +7,7 @@ use mathlib.Core.Bool.{Bool, true, false, _&&_}
 use mathlib.Core.Option.{none, some}
 use lib.Dec.{eqb}
 use borrow.Author.Tests.{eqb-true}
+use Rattle.snapshot.specs.Limits.{wordLimit}
 use Rattle.snapshot.specs.Records.{Snapshot, Definition, definitionAt}
 use Rattle.snapshot.specs.Layouts.{snapOf}
 use Rattle.snapshot.specs.declared.layout.Layout.{Layout}
@@ -156,7 +157,7 @@ module _ (W A : List ℕ) (l : Layout) (r : Reads W A l) where
     builtin-read : definitionAt W h ≡ definitionOf (snapOf W A l) d
     builtin-read = e .whole (omega (arith, k))
 
-    pub builtin-at : h < 16384
+    pub builtin-at : h < wordLimit
     builtin-at = let p = ap (λ (y : Definition). y .place) builtin-read in omega (arith, p, definition-fits W A l r d i .place)
 
     pub builtin-name : {n : ℕ} → n ≡ definitionAt W h .first → n < l .names

@@ -3,6 +3,7 @@ ghost use mathlib.Core.Path.{_≡_};
 ghost use mathlib.Core.List.{List, [], _∷_};
 ghost use Prim.Native.Nat.{ℕ, _+_, _≤_, _<_, _^_};
 ghost use lib.ListN.{length};
+ghost use Rattle.snapshot.specs.Limits.{wordLimit, pathLimit, fuelLimit, areaLimit, namespaceLimit};
 ghost use Rattle.snapshot.specs.Layouts.{wordCount, snapOf};
 ghost use Rattle.snapshot.specs.Records.{definitionAt};
 ghost use Rattle.accept.specs.Post.{Reads};
@@ -27,7 +28,6 @@ use find_path::Tank;
 use hir_def::Entry;
 use hir_def::Item;
 use hir_def::items::DefinitionKind;
-use hir_def::items::Namespace;
 use hir_def::items::definition_head;
 use hir_def::items::home_of;
 use hir_def::items::item_of;
@@ -45,6 +45,7 @@ use search_parts::straight_of;
 use snapshot::ids::DefinitionId;
 use snapshot::ids::ModuleId;
 use snapshot::ids::Name;
+use snapshot::ids::Namespace;
 use snapshot::layout::Layout;
 use snapshot::record::definition_first;
 use snapshot::record::definition_kind;
@@ -83,7 +84,7 @@ fn variant_of(words: &[u32], l: Layout, item: Item) -> Entry
 
 // A variant's name, with its definition at a place, after the path of its enum.
 fn push_variant(words: &[u32], area: &[u32], l: Layout, c: Choice, n: Name, h: usize) -> Choice
-    requires { ⌜ Reads (now words) (now area) l × (n .0 < l .names) × (c .count < 16) × (c .text < 2 ^ 32) × (c .steps < 17) × (h < 16384) ⌝ }
+    requires { ⌜ Reads (now words) (now area) l × (n .0 < l .names) × (c .count < 16) × (c .text < 2 ^ 32) × (c .steps < 17) × (h < wordLimit) ⌝ }
     ensures { λ r. ⌜ r ≡ pushOf (snapOf (now (words .entry)) (now (area .entry)) l) c (n .0) (stepBy viaVariant h) ⌝ }
 {
     let via = step_by(StepRule::VARIANT, h);
@@ -161,7 +162,7 @@ fn find_by_name(
 
 /// The search for the item of a question with a full tank, for a limit in range.
 pub fn find_path(words: &[u32], area: &mut [u32], l: Layout, q: Query, fuel: usize) -> Found
-    requires { ⌜ Reads (now words) (now area) l × (length (now area) ≡ 16384) × (q .definition < l .definitions) × (q .from < l .modules) × (q .ns ≤ 2) × (fuel ≤ 10000) × (0 < q .limit) × (q .limit ≤ 15) ⌝ }
+    requires { ⌜ Reads (now words) (now area) l × (length (now area) ≡ areaLimit) × (q .definition < l .definitions) × (q .from < l .modules) × (q .ns ≤ namespaceLimit) × (fuel ≤ fuelLimit) × (0 < q .limit) × (q .limit ≤ pathLimit) ⌝ }
     ensures { λ r. ⌜ Searched (now (area .entry)) (searched (snapOf (now (words .entry)) (now (area .entry)) l) q fuel) (now (area .exit)) r ⌝ }
 {
     let d = DefinitionId(q.definition);

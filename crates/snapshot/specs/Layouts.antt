@@ -3,6 +3,7 @@ use Prim.Native.Nat.{ℕ, _+_, _*_}
 use mathlib.Core.List.{List}
 use lib.ListN.{getD}
 use Rattle.snapshot.specs.Lists.{rows}
+use Rattle.snapshot.specs.Limits.{crateLimit, moduleLimit, nameLimit}
 use Rattle.snapshot.specs.Sizes.{crateSize, dependencySize, mapSize, moduleSize, childSize, preludeSize, definitionSize, scopeSize, importSize, externSize, memberSize}
 use Rattle.snapshot.specs.Records.{Name, Map, Module, Snapshot, nameAt, crateAt, dependencyAt, mapAt, childAt, preludeAt, definitionAt, scopeAt, importAt, externAt, memberAt}
 use Rattle.snapshot.specs.declared.layout.Layout.{Layout}
@@ -63,29 +64,39 @@ noRecords =
       latest = 0;
     }
 
--- the tables of the work area: a name's head; a module's map, its map's head and its parent +1; a map's root; a crate's own map +1
+-- the tables of the work area: a name's head; a module's map, its map's head and its parent +1; a map's root; a crate's own map +1. The
+-- first stands at 0; here are the first words of the others, and the words of all
+
+abbrev pub moduleTable : ℕ
+moduleTable = nameLimit
+
+abbrev pub rootTable : ℕ
+rootTable = moduleTable + 3 * moduleLimit
+
+-- a map has a module
+abbrev pub crateTable : ℕ
+crateTable = rootTable + moduleLimit
+
+abbrev pub tableWords : ℕ
+tableWords = crateTable + crateLimit
 
 abbrev pub nameHead : List ℕ → ℕ → ℕ
 nameHead A k = getD A k 0
 
 abbrev pub moduleMap : List ℕ → ℕ → ℕ
-moduleMap A m = getD A (2048 + 3 * m) 0
+moduleMap A m = getD A (moduleTable + 3 * m) 0
 
 abbrev pub moduleHead : List ℕ → ℕ → ℕ
-moduleHead A m = getD A (2048 + 3 * m + 1) 0
+moduleHead A m = getD A (moduleTable + 3 * m + 1) 0
 
 abbrev pub moduleParent : List ℕ → ℕ → ℕ
-moduleParent A m = getD A (2048 + 3 * m + 2) 0
+moduleParent A m = getD A (moduleTable + 3 * m + 2) 0
 
 abbrev pub mapRoot : List ℕ → ℕ → ℕ
-mapRoot A k = getD A (3584 + k) 0
+mapRoot A k = getD A (rootTable + k) 0
 
 abbrev pub ownMap : List ℕ → ℕ → ℕ
-ownMap A c = getD A (4096 + c) 0
-
--- the words of the tables
-abbrev pub tableWords : ℕ
-tableWords = 4160
+ownMap A c = getD A (crateTable + c) 0
 
 abbrev pub moduleRow : List ℕ → ℕ → Module
 moduleRow A m = record { map = moduleMap A m; parent = moduleParent A m }

@@ -1,8 +1,12 @@
--- The limits of a snapshot, of a question and of the work area.
-use Prim.Native.Nat.{ℕ}
+-- The limits of a snapshot, of a question, of the work area and of a printed line.
+use Prim.Native.Nat.{ℕ, _*_}
 
 abbrev pub wordLimit : ℕ
 wordLimit = 16384
+
+-- bytes of an input
+abbrev pub inputLimit : ℕ
+inputLimit = 4 * wordLimit
 
 abbrev pub crateLimit : ℕ
 crateLimit = 64
@@ -23,6 +27,25 @@ pathLimit = 15
 abbrev pub fuelLimit : ℕ
 fuelLimit = 10000
 
+-- the numbers of a namespace, of a prefix and of options, at most
+
+abbrev pub namespaceLimit : ℕ
+namespaceLimit = 2
+
+abbrev pub prefixLimit : ℕ
+prefixLimit = 2
+
+abbrev pub optionsLimit : ℕ
+optionsLimit = 63
+
 -- words of a work area that serves
 abbrev pub areaLimit : ℕ
 areaLimit = 16384
+
+-- bytes of a buffer that serves for the line of a question, without its route and with it
+
+abbrev pub lineLimit : ℕ
+lineLimit = 4166
+
+abbrev pub routedLimit : ℕ
+routedLimit = 4659

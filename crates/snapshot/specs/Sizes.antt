@@ -1,4 +1,4 @@
--- The words of a record: its head and its arguments.
+-- The words of a record and of a question: a head and arguments.
 use Prim.Native.Nat.{ℕ, _-_}
 use mathlib.Core.List.{List, [], _∷_}
 use mathlib.Core.Bool.{true, false}
@@ -40,6 +40,14 @@ externSize = 3
 
 abbrev pub memberSize : ℕ
 memberSize = 5
+
+-- the words of a question, and of one for a reach
+
+abbrev pub questionSize : ℕ
+questionSize = 7
+
+abbrev pub reachSize : ℕ
+reachSize = 5
 
 -- the arguments of a record of each kind, all its words but the head: none of kinds 0 and 12; a name's are its text
 abbrev pub argumentTable : List ℕ

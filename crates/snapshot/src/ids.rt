@@ -42,6 +42,35 @@ impl PathLen {
     pub const LIMIT: usize = 15;
 }
 
+/// Namespaces.
+pub struct Namespace(pub usize);
+
+impl Namespace {
+    pub const TYPES: usize = 0;
+
+    pub const VALUES: usize = 1;
+
+    pub const MACROS: usize = 2;
+    /// The number of a namespace, at most.
+    pub const LIMIT: usize = 2;
+}
+
+/// The prefix that a question asks for.
+pub struct Prefix(pub usize);
+
+impl Prefix {
+    /// The number of a prefix, at most.
+    pub const LIMIT: usize = 2;
+}
+
+/// The options of a question, added up.
+pub struct Options(pub usize);
+
+impl Options {
+    /// All options together.
+    pub const LIMIT: usize = 63;
+}
+
 /// Charges that a question may make.
 pub struct Fuel(pub usize);
 

@@ -38,7 +38,7 @@ impl Kind {
     pub const MEMBER: usize = 13;
 }
 
-/// The words of a record of each kind, its head included; a name's depend on its text.
+/// The words of a record of each kind, its head included; a name's depend on its text. Then those of a question, and of one for a reach.
 pub struct Size(pub usize);
 
 impl Size {
@@ -63,6 +63,10 @@ impl Size {
     pub const EXTERN: usize = 3;
 
     pub const MEMBER: usize = 5;
+
+    pub const QUESTION: usize = 7;
+
+    pub const REACH: usize = 5;
 }
 
 // The arguments of a record of each kind; a name's depend on its text, and no record is of kind 12.

@@ -14,13 +14,13 @@ impl Tables {
     /// A word a name: its head.
     pub const NAMES: usize = 0;
     /// Three words a module: its map, the map's head, its parent +1.
-    pub const MODULES: usize = 2048;
-    /// A word a map: its root.
-    pub const ROOTS: usize = 3584;
+    pub const MODULES: usize = Name::LIMIT;
+    /// A word a map: its root. A map has a module.
+    pub const ROOTS: usize = Tables::MODULES + 3 * ModuleId::LIMIT;
     /// A word a crate: its own map +1.
-    pub const CRATES: usize = 4096;
+    pub const CRATES: usize = Tables::ROOTS + ModuleId::LIMIT;
 
-    pub const END: usize = 4160;
+    pub const END: usize = Tables::CRATES + Crate::LIMIT;
 }
 
 /// The head of a name.

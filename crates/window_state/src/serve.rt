@@ -12,6 +12,7 @@ use crate::rows::waits;
 use crate::rows::with_row;
 use find_path::Query;
 use find_path::Question;
+use snapshot::kind::Size;
 
 /// The number by which a question of a window is refused, 0 for none.
 pub fn place_fault(windows: Windows, window: usize) -> usize
@@ -27,7 +28,7 @@ pub fn place_fault(windows: Windows, window: usize) -> usize
 }
 
 /// The state in which a question of a window waits.
-pub fn with_question(windows: Windows, window: usize, question: &[u32; 7]) -> Windows
+pub fn with_question(windows: Windows, window: usize, question: &[u32; Size::QUESTION]) -> Windows
     requires { ⌜ window < 8 ⌝ }
     ensures { λ r. ⌜ wordsOf r ≡ withRow (wordsOf windows) window (waiting (questionOf (now (question .entry)))) ⌝ }
 {

@@ -5,11 +5,12 @@ ghost use Rattle.windows.specs.Windows.{Placed, Turned};
 use crate::turns::Turn;
 use crate::values::placed;
 use crate::values::turned;
+use snapshot::kind::Size;
 use window_state::rows::Windows;
 
 /// Places a question, seven words, for a window. Answers 0, or the number by which it is refused, with the state unchanged: 49 no such
 /// window, 50 a question of the window waits already.
-pub fn place(windows: &mut Windows, window: usize, question: &[u32; 7]) -> usize
+pub fn place(windows: &mut Windows, window: usize, question: &[u32; Size::QUESTION]) -> usize
     ensures { λ r. ⌜ Placed (wordsOf (now (windows .entry))) window (questionOf (now (question .entry))) (wordsOf (now (windows .exit))) r ⌝ }
 {
     let p = placed(*windows, window, question);

@@ -6,6 +6,10 @@ use mathlib.Core.Bool.{true, false}
 use lib.Dec.{eqb}
 use Rattle.printing.specs.Output.{bytesOf, decimal}
 
+-- bytes of a buffer that serves for a text
+abbrev pub textLimit : ℕ
+textLimit = 512
+
 -- what a refusal's number means: the later numbers, 20 last
 unfoldable pub laterMeaning : ℕ → List ℕ
 laterMeaning n =

@@ -3,11 +3,19 @@ ghost use mathlib.Core.List.{_++_};
 ghost use Prim.Native.Nat.{_+_, _≤_};
 ghost use lib.ListN.{length};
 ghost use Rattle.printing.specs.Output.{Put, bytesOf, decimal};
-ghost use Rattle.wording.specs.Text.{laterMeaning, meaning, refusal, line, firstLines, lastLines};
+ghost use Rattle.wording.specs.Text.{laterMeaning, meaning, refusal, line, firstLines, lastLines, textLimit};
 use printing::output::Digits;
 use printing::output::put;
 use printing::output::put_digits;
 use snapshot::layout::Layout;
+
+/// A number of bytes.
+pub struct TextBytes(pub usize);
+
+impl TextBytes {
+    /// Bytes of a buffer that serves for a text.
+    pub const LIMIT: usize = 512;
+}
 
 // What a refusal's number means, where it is none of the first five.
 fn put_later_meaning(out: &mut [u8], at: usize, n: u32) -> usize
@@ -97,7 +105,7 @@ fn put_line(out: &mut [u8], at: usize, label: &[u8], n: usize) -> usize
 
 /// The number and its place, then the meaning.
 pub fn put_refusal(out: &mut [u8], n: u32, place: usize) -> usize
-    requires { ⌜ 512 ≤ length (now out) ⌝ }
+    requires { ⌜ textLimit ≤ length (now out) ⌝ }
     ensures { λ r. ⌜ Put (now (out .entry)) 0 (refusal n place) (now (out .exit)) r ⌝ }
 {
     let a = put_labelled(out, 0, b"refused ", n as u64);
@@ -134,7 +142,7 @@ fn put_last_lines(out: &mut [u8], at: usize, l: Layout) -> usize
 
 /// How many records of each kind there are.
 pub fn put_counts(out: &mut [u8], l: Layout) -> usize
-    requires { ⌜ 512 ≤ length (now out) ⌝ }
+    requires { ⌜ textLimit ≤ length (now out) ⌝ }
     ensures { λ r. ⌜ Put (now (out .entry)) 0 (bytesOf "accepted\n" ++ (firstLines (l .names) (l .crates) (l .dependencies) (l .maps) (l .modules) ++ (lastLines (l .children) (l .preludes) (l .definitions) (l .scopes) (l .imports) (l .externs) ++ line "members " (l .members)))) (now (out .exit)) r ⌝ }
 {
     let a = put(out, 0, b"accepted\n");

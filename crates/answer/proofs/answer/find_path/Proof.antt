@@ -3,6 +3,7 @@ use mathlib.Core.Path.{sym, ap, _∙_}
 use native.Mathlib.Omega.{arith}
 use denote.Ref.{now}
 use lib.Seq.{length-take-le}
+use Rattle.snapshot.specs.Limits.{areaLimit}
 use Rattle.answer.specs.Answers.{zeros}
 use Rattle.answer.proofs.Areas.{answers-small, answers-fault, answers-large}
 use Rattle.answer.proofs.answer.find_path.Statement.{statement}
@@ -42,7 +43,7 @@ returns-2 c =
     let t = k .before .before in
     let e = t .before .before in
     let s = e .before .before .before .args in
-    let l = length-take-le 16384 (now (s .area)) (e .if1 .left) in
+    let l = length-take-le areaLimit (now (s .area)) (e .if1 .left) in
     answers-fault (now (s .words)) (now (s .area)) (s .question) _ (k .clear .last .0) (e .if1 .left) (k .clear .ensures ∙ ap zeros l) _ (t .before .call-fault .ensures) (t .if2 .taken) (c .refused2 .ensures)
 
 slice-relend-prefix-find-path-within : tie.Need-slice-relend-prefix-find-path-within
@@ -56,7 +57,7 @@ slice-aggregate-find-path-within c =
 find-path-within-requires : tie.Need-find-path-within-requires
 find-path-within-requires c κs =
     let e = c .before .before .before in
-    length-take-le 16384 (now (e .before .before .before .args .area)) (e .if1 .left)
+    length-take-le areaLimit (now (e .before .before .before .args .area)) (e .if1 .left)
 
 same-length-2 : tie.Need-same-length-2
 same-length-2 c = search needs

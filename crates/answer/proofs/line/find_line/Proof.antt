@@ -2,6 +2,7 @@ use borrow.Author.Needs.{needs}
 use mathlib.Core.Path.{sym}
 use denote.Ref.{now}
 use lib.Seq.{length-take-le}
+use Rattle.snapshot.specs.Limits.{areaLimit}
 use Rattle.answer.proofs.Lined.{lined-none, lined-small, lined-large}
 use Rattle.answer.proofs.line.find_line.Statement.{statement}
 use Rattle.answer.proofs.line.find_line.Tie as tie
@@ -34,10 +35,10 @@ slice-relend-prefix-line-within : tie.Need-slice-relend-prefix-line-within
 slice-relend-prefix-line-within c = search needs
 
 slice-aggregate-line-within : tie.Need-slice-aggregate-line-within
-slice-aggregate-line-within c = sym (length-take-le 16384 (now (c .before .before .before .before .before .before .args .area)) (c .before .if2 .left))
+slice-aggregate-line-within c = sym (length-take-le areaLimit (now (c .before .before .before .before .before .before .args .area)) (c .before .if2 .left))
 
 line-within-requires : tie.Need-line-within-requires
-line-within-requires c κs = (length-take-le 16384 (now (c .before .before .before .before .before .before .before .args .area)) (c .before .before .if2 .left), c .before .before .before .if1 .left)
+line-within-requires c κs = (length-take-le areaLimit (now (c .before .before .before .before .before .before .before .args .area)) (c .before .before .if2 .left), c .before .before .before .if1 .left)
 
 same-length-3 : tie.Need-same-length-3
 same-length-3 c = search needs

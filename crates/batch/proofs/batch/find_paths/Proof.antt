@@ -5,6 +5,7 @@ use denote.Ref.{now}
 use borrow.Author.Tests.{not-true, not-false}
 use lib.ListN.{length}
 use lib.Seq.{length-take-le}
+use Rattle.snapshot.specs.Limits.{areaLimit}
 use Rattle.questions.proofs.Laws.{fits-room}
 use Rattle.answer.specs.Answers.{zeros}
 use Rattle.batch.proofs.Laws.{batch-small, batch-not, batch-all}
@@ -39,7 +40,7 @@ returns-2 c =
     let f = k .before .before .before in
     let e = f .before in
     let s = e .before .before .before .before .before .args in
-    let l = length-take-le 16384 (now (s .area)) (e .if1 .left) in
+    let l = length-take-le areaLimit (now (s .area)) (e .if1 .left) in
     batch-not (now (s .words)) (now (s .area)) (now (s .questions)) (now (s .reports)) (e .if1 .left) (k .clear .last .0) (k .clear .ensures ∙ ap zeros l) _ (f .fits2 .ensures) (not-true _ (k .before .before .if2 .taken))
 
 slice-relend-prefix-answer-each : tie.Need-slice-relend-prefix-answer-each
@@ -56,7 +57,7 @@ answer-each-requires c κs =
     let f = g .before in
     let e = f .before in
     let s = e .before .before .before .before .before .args in (
-      length-take-le 16384 (now (s .area)) (e .if1 .left),
+      length-take-le areaLimit (now (s .area)) (e .if1 .left),
       fits-room (length (now (s .questions))) (length (now (s .reports))) (sym (f .fits2 .ensures) ∙ not-false _ (g .if2 .left)),
     )
 

@@ -5,6 +5,8 @@ use native.Mathlib.Omega.{arith}
 use denote.Ref.{now}
 use borrow.Rule.Slice.PartMut.{same-len-mid}
 use lib.ListN.{length}
+use Rattle.reports.specs.Written.{reportSize}
+use Rattle.snapshot.specs.Limits.{areaLimit}
 use Rattle.accept.specs.Post.{Judged}
 use Rattle.batch.proofs.Laws.{Reported, none-reported, one-more, all-reported}
 use Rattle.batch.proofs.each.report_each.Statement.{statement}
@@ -12,7 +14,7 @@ use Rattle.batch.proofs.each.report_each.Tie as tie
 
 abbrev Inv-loop : tie.InvT-loop
 Inv-loop words area₀ c questions reports₀ n i₀ area reports i =
-    (i ≤ n) × Judged words area c × (length area ≡ 16384) × (length reports ≡ length reports₀) × Reported words questions reports₀ i reports
+    (i ≤ n) × Judged words area c × (length area ≡ areaLimit) × (length reports ≡ length reports₀) × Reported words questions reports₀ i reports
 
 abbrev μ-loop : tie.MeasureT-loop
 μ-loop words area₀ c questions reports₀ n i₀ area reports i = n - i
@@ -84,7 +86,7 @@ loop-again c =
     let t = o .before .before .before .before in
     let l = t .before .loop in
     let s = t .before .before .before .before .before .before in
-    let k = same-len-mid (42 * l .i) (length (l .reports) - 42 * l .i) (l .reports) (w .write-report .last .1 .0) (w .write-report .kept .1 .0) in (
+    let k = same-len-mid (reportSize * l .i) (length (l .reports) - reportSize * l .i) (l .reports) (w .write-report .last .1 .0) (w .write-report .kept .1 .0) in (
       omega (arith, t .loop-test .taken),
       o .report-on .ensures .checked,
       o .report-on .kept .1 .0 ∙ l .inv .2,

@@ -1,6 +1,7 @@
 use borrow.Author.Needs.{needs}
 use mathlib.Core.Path.{sym, _∙_}
 use denote.Ref.{now}
+use Rattle.snapshot.specs.Limits.{areaLimit}
 use Rattle.checked.proofs.Laws.{fault-at, fault-free, none-earlier, report-earlier, report-verdict}
 use Rattle.checked.proofs.checked.report_on.Statement.{statement}
 use Rattle.checked.proofs.checked.report_on.Tie as tie
@@ -33,7 +34,7 @@ report-by-requires c κs =
     let f = e .before .before in
     let s = f .before .before .before .before in
     let z = none-earlier (f .call-fault .result) (e .before .number-of .result) (sym (c .before .if1 .left) ∙ e .earlier .ensures) in
-    let k = fault-free 16384 (s .args .question .query) (s .args .question .fuel) (z ∙ fault-at _ _ _ _ (s .pre .1) (f .call-fault .ensures)) in
+    let k = fault-free areaLimit (s .args .question .query) (s .args .question .fuel) (z ∙ fault-at _ _ _ _ (s .pre .1) (f .call-fault .ensures)) in
     (s .pre .0, s .pre .1, k .2, k .1, k .3, k .4)
 
 same-length : tie.Need-same-length
@@ -47,7 +48,7 @@ returns-2 c =
     let s = f .before .before .before .before in
     let z = none-earlier (f .call-fault .result) (e .before .number-of .result) (sym (b .before .before .if1 .left) ∙ e .earlier .ensures) in
     record {
-      report = report-verdict (now (s .args .words)) 16384 (s .args .question) _ _ (fault-at _ _ _ _ (s .pre .1) (f .call-fault .ensures)) (sym z) (b .report-by .ensures .0);
+      report = report-verdict (now (s .args .words)) areaLimit (s .args .question) _ _ (fault-at _ _ _ _ (s .pre .1) (f .call-fault .ensures)) (sym z) (b .report-by .ensures .0);
       checked = b .report-by .ensures .1;
     }
 

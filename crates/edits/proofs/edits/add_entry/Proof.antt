@@ -2,6 +2,7 @@ use mathlib.Core.Path.{sym}
 use native.Mathlib.Omega.{arith}
 use denote.Ref.{now}
 use lib.Seq.{length-take-le}
+use Rattle.snapshot.specs.Limits.{areaLimit}
 use Rattle.edits.proofs.Laws.{edits-small, edits-large}
 use borrow.Author.Needs.{needs}
 use Rattle.edits.proofs.edits.add_entry.Statement.{statement}
@@ -23,7 +24,7 @@ slice-aggregate-add-within c =
 add-within-requires : tie.Need-add-within-requires
 add-within-requires c κs =
     let e = c .before .before in
-    length-take-le 16384 (now (e .before .before .before .args .area)) (e .if1 .left)
+    length-take-le areaLimit (now (e .before .before .before .args .area)) (e .if1 .left)
 
 same-length : tie.Need-same-length
 same-length c = search needs

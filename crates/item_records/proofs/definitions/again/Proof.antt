@@ -6,6 +6,7 @@ use denote.Ref.{now}
 use native.Mathlib.Omega.{arith}
 use lib.Dec.{eqb}
 use lib.ListN.{getD}
+use Rattle.chains.specs.Chains.{moduleMarks}
 use Rattle.snapshot.specs.Lists.{rows, any}
 use Rattle.snapshot.specs.Sizes.{definitionSize}
 use Rattle.snapshot.specs.Layouts.{definitionBase}
@@ -51,7 +52,7 @@ returns-2 c h =
     let s = c .before .before .before .before .before .before .before in
     let e = sym (c .before .before .before .before .definition-kind .ensures) ∙ c .before .before .if2 .taken in
     and-yes (either _ (c .before .before .before .before .definition-kind .ensures) (c .before .before .before .if1 .left))
-    (ap (λ x. not (eqb x 0)) (c .word .ensures ∙ ap (λ f. getD (now (s .args .area)) (5824 + f) 0) (c .before .definition-first .ensures))
+    (ap (λ x. not (eqb x 0)) (c .word .ensures ∙ ap (λ f. getD (now (s .args .area)) (moduleMarks + f) 0) (c .before .definition-first .ensures))
     ∙ module-again (now (s .args .words)) (now (s .args .area)) (s .args .at) (definitionBase (s .args .l)) (s .args .l .definitions) e (h e) (s .pre .0))
 
 definition-base-requires : tie.Need-definition-base-requires

@@ -2,6 +2,7 @@ use Prim.Native.Nat.{_-_}
 use mathlib.Core.Path.{_∙_}
 use native.Mathlib.Omega.{arith}
 use denote.Ref.{now}
+use Rattle.snapshot.specs.Limits.{moduleLimit}
 use Rattle.snapshot.specs.Layouts.{snapOf}
 use Rattle.local_levels.proofs.Gathers.{ready-start, ready-children, reads-children, ready-begun, reads-begun, begun, Walking, walking-start, walking-reads, walking-next, gathered}
 use Rattle.local_levels.proofs.locations.find_local_import_locations.Statement.{statement}
@@ -12,7 +13,7 @@ Inv-loop words area₀ l from s item children n₀ k₀ area n k =
     Walking (snapOf words area₀ l) (from .0) area₀ s item n₀ area n k
 
 abbrev μ-loop : tie.MeasureT-loop
-μ-loop words area₀ l from s item children n₀ k₀ area n k = 512 - k
+μ-loop words area₀ l from s item children n₀ k₀ area n k = moduleLimit - k
 
 push-children-requires : tie.Need-push-children-requires Inv-loop μ-loop
 push-children-requires c κs =

@@ -5,6 +5,7 @@ use native.Mathlib.Omega.{arith}
 use denote.Ref.{now}
 use lib.ListN.{length}
 use lib.Seq.{length-take-le}
+use Rattle.snapshot.specs.Limits.{areaLimit, routedLimit}
 use Rattle.printer.proofs.Laws.{next-more}
 use Rattle.checked.proofs.Laws.{checks-judged}
 use Rattle.accept.specs.Post.{Judged}
@@ -13,7 +14,7 @@ use Rattle.path_printer.proofs.print.print_questions.Tie as tie
 
 abbrev Inv-loop : tie.InvT-loop
 Inv-loop words k area₀ out₀ snapshot c at₀ area out at =
-    Judged snapshot area c × (length area ≡ length area₀) × (length out ≡ length out₀) × (length area₀ ≡ 16384) × (4659 ≤ length out₀)
+    Judged snapshot area c × (length area ≡ length area₀) × (length out ≡ length out₀) × (length area₀ ≡ areaLimit) × (routedLimit ≤ length out₀)
 
 abbrev μ-loop : tie.MeasureT-loop
 μ-loop words k area₀ out₀ snapshot c at₀ area out at = length words - at

@@ -1,6 +1,7 @@
 use borrow.Author.Needs.{needs}
 use mathlib.Core.Path.{sym, _∙_}
 use denote.Ref.{now}
+use Rattle.snapshot.specs.Limits.{areaLimit}
 use Rattle.checked.proofs.Laws.{fault-at, fault-free, none-earlier}
 use Rattle.reach_parts.specs.Reach.{queryFor}
 use Rattle.reach.proofs.Laws.{reach-earlier, reach-verdict}
@@ -35,7 +36,7 @@ reach-by-requires c κs =
     let f = e .before .before in
     let s = f .before .before .before in
     let z = none-earlier (f .call-fault .result) (e .before .number-of .result) (sym (c .before .if1 .left) ∙ e .earlier .ensures) in
-    let k = fault-free 16384 (queryFor (s .args .v) 0 0) (s .args .v .fuel) (z ∙ fault-at _ _ _ _ (s .pre .1) (f .call-fault .ensures)) in
+    let k = fault-free areaLimit (queryFor (s .args .v) 0 0) (s .args .v .fuel) (z ∙ fault-at _ _ _ _ (s .pre .1) (f .call-fault .ensures)) in
     (s .pre .0, s .pre .1, k .1, k .3, k .4)
 
 same-length : tie.Need-same-length
@@ -49,7 +50,7 @@ returns-2 c =
     let s = f .before .before .before in
     let z = none-earlier (f .call-fault .result) (e .before .number-of .result) (sym (b .before .before .if1 .left) ∙ e .earlier .ensures) in
     record {
-      reach = reach-verdict (s .args .v) _ (now (s .args .words)) 16384 _ (fault-at _ _ _ _ (s .pre .1) (f .call-fault .ensures)) (sym z) (b .reach-by .ensures .0);
+      reach = reach-verdict (s .args .v) _ (now (s .args .words)) areaLimit _ (fault-at _ _ _ _ (s .pre .1) (f .call-fault .ensures)) (sym z) (b .reach-by .ensures .0);
       checked = b .reach-by .ensures .1;
     }
 

@@ -5,6 +5,7 @@ use native.Mathlib.Omega.{arith}
 use denote.Ref.{now}
 use lib.ListN.{length}
 use lib.Seq.{length-take-le}
+use Rattle.snapshot.specs.Limits.{areaLimit, routedLimit}
 use Rattle.accept.specs.Post.{Judged}
 use Rattle.checked.proofs.Laws.{checks-judged}
 use Rattle.printer.proofs.Laws.{next-more}
@@ -13,7 +14,7 @@ use Rattle.replay.proofs.compare.same_lines.Tie as tie
 
 abbrev Inv-loop : tie.InvT-loop
 Inv-loop words k lines area₀ out₀ snapshot c at₀ to₀ area out at to =
-    Judged snapshot area c × (length area ≡ length area₀) × (length out ≡ length out₀) × (length area₀ ≡ 16384) × (4659 ≤ length out₀) × (to ≤ length lines)
+    Judged snapshot area c × (length area ≡ length area₀) × (length out ≡ length out₀) × (length area₀ ≡ areaLimit) × (routedLimit ≤ length out₀) × (to ≤ length lines)
 
 abbrev μ-loop : tie.MeasureT-loop
 μ-loop words k lines area₀ out₀ snapshot c at₀ to₀ area out at to = length words - at
