@@ -9,6 +9,7 @@ use lib.ListN.{length, getD}
 use borrow.Author.Tests.{eqb-true, ltb-true, leb-true}
 use Rattle.snapshot.specs.Lists.{any}
 use Rattle.snapshot.specs.Limits.{wordLimit, crateLimit, moduleLimit, nameLimit, definitionLimit}
+use Rattle.snapshot.specs.Refusals.{wordsRefusal, formRefusal, placeRefusal}
 use Rattle.snapshot.specs.Words.{kindOf, argumentsAt}
 use Rattle.snapshot.specs.Records.{Snapshot, Name, Crate, Dependency, Map, Module, Child, Prelude, Definition, Scope, Import, Extern, Member, nameAt, crateAt, dependencyAt, mapAt, moduleAt, childAt, preludeAt, definitionAt, scopeAt, importAt, externAt, memberAt}
 use Rattle.record_rules.specs.Tests.{childDefined, childPlaced, countsOf, crateRange, isEdition, cratesOwn, definitionDefined, definitionPlaced, definitionRange, definitionRepeated, dependencyDefined, dependencyRange, externDefined, importDefined, importRange, mapDefined, mapPlaced, mapRange, mapRepeated, mapsFilled, memberDefined, memberPlaced, memberRange, moduleDefined, modulePlaced, nameRange, nsPlaced, preludeDefined, sameChild, sameEntry, sameExtern, sameName, samePrelude, scopeDefined, scopeRange}
@@ -234,8 +235,8 @@ module _ (W : List ℕ) (P : Snapshot → Type 0) (keeps : Keeps W P) where
   unfolding stepAt
   step-keeps at last s u l e h =
       let k = kindOf (getD W at 0) in
-      let a = need-on (follows last k) 31 _ u e in
-      let b = need-on (argumentsFrom W (at + 1) (argumentsAt W at)) 31 _ u a in
+      let a = need-on (follows last k) formRefusal _ u e in
+      let b = need-on (argumentsFrom W (at + 1) (argumentsAt W at)) formRefusal _ u a in
       record-keeps at s u l b h
 
   finish-keeps : (at : ℕ) (s u : Snapshot) → finish at s ≡ accept u → P s → Ends P u
@@ -243,7 +244,7 @@ module _ (W : List ℕ) (P : Snapshot → Type 0) (keeps : Keeps W P) where
   finish-keeps at s u e h =
       by-test (mapsFilled s && cratesOwn s)
       (λ a. let f : accept s ≡ accept u = rw (finish, a) at e in let q : s ≡ u = cc in subst (Ends P) q (record { kept = h; whole = a }))
-      (λ a. let f : refuse 35 at ≡ accept u = rw (finish, a) at e in let z : _≡_ {A = ℕ} 0 1 = cc in absurd (omega arith))
+      (λ a. let f : refuse placeRefusal at ≡ accept u = rw (finish, a) at e in let z : _≡_ {A = ℕ} 0 1 = cc in absurd (omega arith))
 
   records-keep : length W ≤ wordLimit → (n at last : ℕ) (s u : Snapshot) → records n W at last s ≡ accept u → P s → Ends P u
   unfolding records
@@ -263,4 +264,4 @@ module _ (W : List ℕ) (P : Snapshot → Type 0) (keeps : Keeps W P) where
   verdict-keeps start s e =
       by-test (leb (length W) wordLimit)
       (λ a. records-keep (leb-true (length W) wordLimit a) (length W) 0 0 empty s (rw (verdict, a) at e) start)
-      (λ a. let f : refuse 30 wordLimit ≡ accept s = rw (verdict, a) at e in let z : _≡_ {A = ℕ} 0 1 = cc in absurd (omega arith))
+      (λ a. let f : refuse wordsRefusal wordLimit ≡ accept s = rw (verdict, a) at e in let z : _≡_ {A = ℕ} 0 1 = cc in absurd (omega arith))

@@ -11,6 +11,7 @@ use lib.Dec.{eqb, leb}
 use borrow.Author.Tests.{eqb-true, eqb-false, leb-true, leb-false, lt-leb, not-true}
 use Rattle.snapshot.specs.Lists.{rows, any, all}
 use Rattle.snapshot.specs.Limits.{wordLimit, moduleLimit}
+use Rattle.snapshot.specs.Refusals.{wordsRefusal, placeRefusal}
 use Rattle.snapshot.specs.Sizes.{crateSize, dependencySize, childSize, preludeSize, definitionSize, scopeSize, importSize, externSize, memberSize}
 use Rattle.snapshot.specs.Records.{Map, mapAt, crateAt, dependencyAt, childAt, preludeAt, definitionAt, scopeAt, importAt, externAt, memberAt}
 use Rattle.snapshot.specs.Layouts.{crateBase, dependencyBase, childBase, preludeBase, definitionBase, scopeBase, importBase, externBase, memberBase, moduleMap, moduleHead, mapRoot, ownMap, moduleRow, namesOf, mapsOf, modulesOf, recordsOf, snapWith, snapOf, moduleTable, rootTable}
@@ -105,12 +106,12 @@ module _ (W A : List ℕ) (k : ℕ) (l : Layout) (ms : List Map) (st : Stands W 
       ∙ ap (λ n. all (λ c. any (isOwn c) ms) (rows (λ c. c) 0 n)) (sym (length-rows _ (l .crates)))
 
   module _ (v : verdict W ≡ finish (length W) (snapWith W A l ms)) where
-    pub not-filled : {a : Bool} → a ≡ all (λ j. any (isIn j) (modulesOf A (l .modules))) (rows (λ j. j) 0 (l .maps)) → a ≡ false → Judged W A (Refused 35 (length W))
+    pub not-filled : {a : Bool} → a ≡ all (λ j. any (isIn j) (modulesOf A (l .modules))) (rows (λ j. j) 0 (l .maps)) → a ≡ false → Judged W A (Refused placeRefusal (length W))
     unfolding finish
     not-filled e h = record { same = sym (v ∙ rw (finish, ← filled-same, ← e, h)); tables = tt }
 
     pub not-owned : {a b : Bool} → a ≡ all (λ j. any (isIn j) (modulesOf A (l .modules))) (rows (λ j. j) 0 (l .maps)) → a ≡ true
-        → b ≡ all (λ c. not (eqb (ownMap A c) 0)) (rows (λ c. c) 0 (l .crates)) → b ≡ false → Judged W A (Refused 35 (length W))
+        → b ≡ all (λ c. not (eqb (ownMap A c) 0)) (rows (λ c. c) 0 (l .crates)) → b ≡ false → Judged W A (Refused placeRefusal (length W))
     unfolding finish
     not-owned e h f g = record { same = sym (v ∙ rw (finish, ← filled-same, ← e, h, ← owned-same, ← f, g)); tables = tt }
 
@@ -203,7 +204,7 @@ module _ (W A : List ℕ) (k : ℕ) (l : Layout) (ms : List Map) (st : Stands W 
                 };
           }
 
-pub too-long : (W A : List ℕ) → wordLimit < length W → Judged W A (Refused 30 wordLimit)
+pub too-long : (W A : List ℕ) → wordLimit < length W → Judged W A (Refused wordsRefusal wordLimit)
 unfolding verdict
 too-long W A h = record { same = sym (rw (verdict, lt-leb _ _ h)); tables = tt }
 

@@ -7,6 +7,7 @@ use lib.ListN.{length, getD, drop, List·getD-append}
 use lib.Seq.{drop-at}
 use borrow.Author.Tests.{lt-ltb, le-ltb}
 use Rattle.snapshot.specs.Limits.{areaLimit}
+use Rattle.snapshot.specs.Refusals.{areaRefusal}
 use Rattle.snapshot.specs.Sizes.{crateSize, dependencySize, childSize, preludeSize, definitionSize, scopeSize, importSize, externSize, memberSize}
 use Rattle.snapshot.specs.Records.{mapAt, crateAt, dependencyAt, childAt, preludeAt, definitionAt, scopeAt, importAt, externAt, memberAt}
 use Rattle.snapshot.specs.Layouts.{crateBase, dependencyBase, childBase, preludeBase, definitionBase, scopeBase, importBase, externBase, memberBase, moduleMap, moduleHead, mapRoot, ownMap, namesOf, mapsOf, modulesOf, recordsOf, snapOf, moduleTable, rootTable, crateTable, tableWords}
@@ -103,7 +104,7 @@ module _ (W A B : List ℕ) (large : areaLimit ≤ length A) (long : length B �
         untouched = λ h. absurd (omega arith);
       }
 
-pub checks-small : (W A : List ℕ) → length A < areaLimit → Checks W A A (Refused 20 0)
+pub checks-small : (W A : List ℕ) → length A < areaLimit → Checks W A A (Refused areaRefusal 0)
 unfolding checkOf
 checks-small W A h = record { same = sym (rw (checkOf, lt-ltb _ _ h)); tables = tt; rest = refl; untouched = λ g. refl }
 

@@ -7,6 +7,7 @@ use native.Mathlib.Omega.{arith}
 use lib.ListN.{length, getD}
 use lib.Dec.{eqb, leb, ltb, lit≤}
 use borrow.Author.Tests.{ltb-true, leb-true, eqb-true, eqb-false, not-true}
+use Rattle.snapshot.specs.Refusals.{formRefusal}
 use Rattle.snapshot.specs.Words.{kindOf, payOf, wordsOf, argumentTable, argumentsOf, argumentsAt}
 use Rattle.snapshot.specs.Sizes.{scopeSize}
 use Rattle.snapshot.specs.Records.{Map, Snapshot}
@@ -58,19 +59,19 @@ thirteen k p q n a b c d e f g h i j m =
 
 -- one record of any kind
 module _ (W : List ℕ) (at last : ℕ) (s : Snapshot) {k : ℕ} (ek : k ≡ kindOf (getD W at 0)) where
-  pub turn-kind : follows last k ≡ false → stepAt W at last s ≡ no 31
+  pub turn-kind : follows last k ≡ false → stepAt W at last s ≡ no formRefusal
   unfolding stepAt
-  turn-kind h = ap (λ b. need b 31 (need (argumentsFrom W (at + 1) (argumentsAt W at)) 31 (recordStep (kindOf (getD W at 0)) W at s))) (ap (follows last) (sym ek) ∙ h)
+  turn-kind h = ap (λ b. need b formRefusal (need (argumentsFrom W (at + 1) (argumentsAt W at)) formRefusal (recordStep (kindOf (getD W at 0)) W at s))) (ap (follows last) (sym ek) ∙ h)
 
-  turn-right : follows last k ≡ true → stepAt W at last s ≡ need (argumentsFrom W (at + 1) (argumentsAt W at)) 31 (recordStep (kindOf (getD W at 0)) W at s)
+  turn-right : follows last k ≡ true → stepAt W at last s ≡ need (argumentsFrom W (at + 1) (argumentsAt W at)) formRefusal (recordStep (kindOf (getD W at 0)) W at s)
   unfolding stepAt
-  turn-right h = ap (λ b. need b 31 (need (argumentsFrom W (at + 1) (argumentsAt W at)) 31 (recordStep (kindOf (getD W at 0)) W at s))) (ap (follows last) (sym ek) ∙ h)
+  turn-right h = ap (λ b. need b formRefusal (need (argumentsFrom W (at + 1) (argumentsAt W at)) formRefusal (recordStep (kindOf (getD W at 0)) W at s))) (ap (follows last) (sym ek) ∙ h)
 
-  pub turn-arguments : {n : ℕ} → follows last k ≡ true → n ≡ argumentsAt W at → argumentsFrom W (at + 1) n ≡ false → stepAt W at last s ≡ no 31
-  turn-arguments h e g = turn-right h ∙ ap (λ b. need b 31 (recordStep (kindOf (getD W at 0)) W at s)) (ap (argumentsFrom W (at + 1)) (sym e) ∙ g)
+  pub turn-arguments : {n : ℕ} → follows last k ≡ true → n ≡ argumentsAt W at → argumentsFrom W (at + 1) n ≡ false → stepAt W at last s ≡ no formRefusal
+  turn-arguments h e g = turn-right h ∙ ap (λ b. need b formRefusal (recordStep (kindOf (getD W at 0)) W at s)) (ap (argumentsFrom W (at + 1)) (sym e) ∙ g)
 
   pub turn-on : {n : ℕ} → follows last k ≡ true → n ≡ argumentsAt W at → argumentsFrom W (at + 1) n ≡ true → stepAt W at last s ≡ recordStep k W at s
-  turn-on h e g = turn-right h ∙ ap (λ b. need b 31 (recordStep (kindOf (getD W at 0)) W at s)) (ap (argumentsFrom W (at + 1)) (sym e) ∙ g) ∙ ap (λ j. recordStep j W at s) (sym ek)
+  turn-on h e g = turn-right h ∙ ap (λ b. need b formRefusal (recordStep (kindOf (getD W at 0)) W at s)) (ap (argumentsFrom W (at + 1)) (sym e) ∙ g) ∙ ap (λ j. recordStep j W at s) (sym ek)
 
 pub known-kind : (last k : ℕ) → follows last k ≡ true → (1 ≤ k) × (k ≤ 13) × (k ≡ 12 → ⊥)
 known-kind last k h =

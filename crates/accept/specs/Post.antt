@@ -6,6 +6,7 @@ use mathlib.Core.Bool.{true, false}
 use lib.Dec.{ltb}
 use lib.ListN.{length, getD, drop}
 use Rattle.snapshot.specs.Limits.{areaLimit, wordLimit}
+use Rattle.snapshot.specs.Refusals.{areaRefusal}
 use Rattle.snapshot.specs.Words.{payOf, wordsOf}
 use Rattle.snapshot.specs.Records.{mapAt}
 use Rattle.snapshot.specs.Layouts.{wordCount, nameHead, moduleMap, moduleHead, mapRoot, ownMap, mapsOf, snapOf}
@@ -44,7 +45,7 @@ pub record Reads (W A : List ℕ) (l : Layout) : Type 0 where
 
 -- the definition of the check: a work area that is too small, or the verdict
 unfoldable pub checkOf : ℕ → List ℕ → Verdict
-checkOf n W = elim (ltb n areaLimit) [ true ↦ refuse 20 0 | false ↦ verdict W ]
+checkOf n W = elim (ltb n areaLimit) [ true ↦ refuse areaRefusal 0 | false ↦ verdict W ]
 
 -- an answer as a verdict; A is the area that it leaves
 abbrev pub outcome : List ℕ → List ℕ → Checked → Verdict

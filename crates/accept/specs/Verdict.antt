@@ -5,6 +5,7 @@ use mathlib.Core.Bool.{Bool, true, false, _&&_, _||_, not}
 use lib.Dec.{eqb, leb, ltb}
 use lib.ListN.{length, getD}
 use Rattle.snapshot.specs.Limits.{wordLimit}
+use Rattle.snapshot.specs.Refusals.{wordsRefusal, formRefusal, placeRefusal}
 use Rattle.snapshot.specs.Words.{kindOf, argumentsAt}
 use Rattle.snapshot.specs.Records.{Snapshot, nameAt, crateAt, dependencyAt, mapAt, moduleAt, childAt, preludeAt, definitionAt, scopeAt, importAt, externAt, memberAt}
 use Rattle.record_rules.specs.Tests.{mapsFilled, cratesOwn}
@@ -70,8 +71,8 @@ recordStep k W at s =
 -- the record with its head at a place, after one of kind last
 unfoldable pub stepAt : List ℕ → ℕ → ℕ → Snapshot → Next
 stepAt W at last s =
-    need (follows last (kindOf (getD W at 0))) 31
-    (need (argumentsFrom W (at + 1) (argumentsAt W at)) 31 (recordStep (kindOf (getD W at 0)) W at s))
+    need (follows last (kindOf (getD W at 0))) formRefusal
+    (need (argumentsFrom W (at + 1) (argumentsAt W at)) formRefusal (recordStep (kindOf (getD W at 0)) W at s))
 
 -- a refusal has a number and a place: the offset of the record, or the number of words for a fault found after the last
 pub data Verdict : Type 0 where
@@ -80,7 +81,7 @@ pub data Verdict : Type 0 where
 
 -- after the last record: no map is empty, and no crate is without its own map
 unfoldable pub finish : ℕ → Snapshot → Verdict
-finish at s = elim (mapsFilled s && cratesOwn s) [ true ↦ accept s | false ↦ refuse 35 at ]
+finish at s = elim (mapsFilled s && cratesOwn s) [ true ↦ accept s | false ↦ refuse placeRefusal at ]
 
 -- the records from a place on; n is at least the number of words left
 unfoldable pub records : ℕ → List ℕ → ℕ → ℕ → Snapshot → Verdict
@@ -112,4 +113,4 @@ empty =
 
 -- too many words: the place is that of the first word too many
 unfoldable pub verdict : List ℕ → Verdict
-verdict W = elim (leb (length W) wordLimit) [ true ↦ records (length W) W 0 0 empty | false ↦ refuse 30 wordLimit ]
+verdict W = elim (leb (length W) wordLimit) [ true ↦ records (length W) W 0 0 empty | false ↦ refuse wordsRefusal wordLimit ]

@@ -14,6 +14,7 @@ use record_rules::judge::Step;
 use snapshot::ids::WordCount;
 use snapshot::kind::arguments;
 use snapshot::layout::Layout;
+use snapshot::refusal::CheckRefusal;
 use snapshot::words::kind;
 
 /// A refusal by its number, with the place of the record or the number of words; or where the records stand.
@@ -53,17 +54,17 @@ fn check_within(words: &[u32], area: &mut [u32]) -> Checked
     ensures { λ r. ⌜ Judged (now (words .entry)) (now (area .exit)) r ⌝ }
 {
     if WordCount::SNAPSHOT < words.len() {
-        return Checked::Refused(30, WordCount::SNAPSHOT);
+        return Checked::Refused(CheckRefusal::WORDS, WordCount::SNAPSHOT);
     }
     let k = read_records(words, area);
     let Checked::Accepted(l) = k else {
         return k;
     };
     if !maps_filled(area, l.maps, l.modules) {
-        return Checked::Refused(35, words.len());
+        return Checked::Refused(CheckRefusal::PLACE, words.len());
     }
     if !crates_own(area, l.crates) {
-        return Checked::Refused(35, words.len());
+        return Checked::Refused(CheckRefusal::PLACE, words.len());
     }
     fill_roots(area, l.modules);
     Checked::Accepted(l)
@@ -74,7 +75,7 @@ pub fn check(words: &[u32], area: &mut [u32]) -> Checked
     ensures { λ r. ⌜ Checks (now (words .entry)) (now (area .entry)) (now (area .exit)) r ⌝ }
 {
     if area.len() < WordCount::AREA {
-        return Checked::Refused(20, 0);
+        return Checked::Refused(CheckRefusal::AREA, 0);
     }
     check_within(words, &mut area[..WordCount::AREA])
 }

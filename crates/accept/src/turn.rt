@@ -13,6 +13,7 @@ use record_rules::judge::Step;
 use snapshot::kind::Kind;
 use snapshot::kind::arguments;
 use snapshot::layout::Layout;
+use snapshot::refusal::CheckRefusal;
 use snapshot::words::kind;
 
 // Whether a record of a kind may follow one of the last kind.
@@ -52,11 +53,11 @@ pub fn turn(words: &[u32], area: &mut [u32], l: Layout, at: usize, last: usize) 
 {
     let k = kind(words, at);
     if !follows(last, k) {
-        return Step::No(31);
+        return Step::No(CheckRefusal::FORM);
     }
     let n = arguments(words, at);
     if !arguments_from(words, at + 1, n) {
-        return Step::No(31);
+        return Step::No(CheckRefusal::FORM);
     }
     by_kind(words, area, l, at, k)
 }

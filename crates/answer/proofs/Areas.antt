@@ -7,6 +7,7 @@ use borrow.Author.Tests.{lt-ltb, le-ltb}
 use borrow.Author.Fill.{fill-more}
 use lib.ListN.{length, set, drop, replicate, drop-of-length-le}
 use Rattle.snapshot.specs.Limits.{areaLimit}
+use Rattle.snapshot.specs.Refusals.{areaRefusal}
 use Rattle.find_path.specs.declared.Question.{Question}
 use Rattle.find_path.specs.declared.Report.{Report}
 use Rattle.find_path.specs.Report.{callFault, refused, reportOf}
@@ -35,10 +36,10 @@ unfolding areaAfter
 area-large A B h z = ap (λ x. x ++ drop areaLimit A) z ∙ sym (rw (areaAfter, le-ltb _ _ h))
 
 module _ (W A : List ℕ) (q : Question) (r : Report) where
-  pub answers-small : length A < areaLimit → r ≡ refused 20 → Answers W A q A r
+  pub answers-small : length A < areaLimit → r ≡ refused areaRefusal → Answers W A q A r
   answers-small h e =
       record {
-        report = report-fault W (length A) q r 20 (small (length A) (q .query) (q .fuel) h) (λ z. omega arith) e;
+        report = report-fault W (length A) q r areaRefusal (small (length A) (q .query) (q .fuel) h) (λ z. omega arith) e;
         area = area-small A h;
       }
 

@@ -6,6 +6,7 @@ use native.Mathlib.Omega.{arith}
 use borrow.Author.Tests.{lt-ltb, le-ltb}
 use lib.ListN.{length, drop}
 use Rattle.snapshot.specs.Limits.{areaLimit, lineLimit}
+use Rattle.snapshot.specs.Refusals.{areaRefusal}
 use Rattle.snapshot.specs.Records.{Snapshot}
 use Rattle.accept.specs.Verdict.{verdict}
 use Rattle.printing.specs.Output.{Put}
@@ -44,8 +45,8 @@ module _ (W A : List ℕ) (q : Question) (old : List ℕ) where
           area = a .area;
         }
 
-    pub lined-small : length A < areaLimit → ((s : Snapshot) (from : ℕ) → Put old 0 (lineIn s from (refused 20) ++ bytesOf "\n") new n) → Lined W A q old A new n
-    lined-small h p = lined A (refused 20) (answers-small W A q (refused 20) h refl) (p (snapshotOf (verdict W)) (q .query .from))
+    pub lined-small : length A < areaLimit → ((s : Snapshot) (from : ℕ) → Put old 0 (lineIn s from (refused areaRefusal) ++ bytesOf "\n") new n) → Lined W A q old A new n
+    lined-small h p = lined A (refused areaRefusal) (answers-small W A q (refused areaRefusal) h refl) (p (snapshotOf (verdict W)) (q .query .from))
 
     pub lined-large : (B : List ℕ) → areaLimit ≤ length A → B ≡ zeros areaLimit → Put old 0 (lineOf W q ++ bytesOf "\n") new n
         → Lined W A q old (B ++ drop areaLimit A) new n

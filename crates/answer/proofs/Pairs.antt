@@ -6,6 +6,7 @@ use native.Mathlib.Omega.{arith}
 use native.Mathlib.Decide.{decLe}
 use lib.ListN.{length}
 use Rattle.snapshot.specs.Limits.{fuelLimit, areaLimit}
+use Rattle.snapshot.specs.Refusals.{areaRefusal, fuelRefusal}
 use Rattle.find_path.specs.declared.Query.{Query}
 use Rattle.find_path.specs.declared.Question.{Question}
 use Rattle.find_path.specs.declared.Report.{Report}
@@ -27,14 +28,14 @@ module _ (W : List ℕ) (n : ℕ) (q : Question) where
   serves h = elim (decLe areaLimit n) [
     | yes p ↦ p
     | no p ↦ absurd (h (subst (λ (r : Report). IsRefused r)
-        (report-fault W n q (refused 20) 20 (small n (q .query) (q .fuel) (omega arith)) (λ z. omega arith) refl) (refused-two 20)))
+        (report-fault W n q (refused areaRefusal) areaRefusal (small n (q .query) (q .fuel) (omega arith)) (λ z. omega arith) refl) (refused-two areaRefusal)))
   ]
 
   fuelled : (IsRefused (reportOf W n q) → ⊥) → q .fuel ≤ fuelLimit
   fuelled h = elim (decLe (q .fuel) fuelLimit) [
     | yes p ↦ p
     | no p ↦ absurd (h (subst (λ (r : Report). IsRefused r)
-        (report-fault W n q (refused 21) 21 (much n (q .query) (q .fuel) (serves h) (omega arith)) (λ z. omega arith) refl) (refused-two 21)))
+        (report-fault W n q (refused fuelRefusal) fuelRefusal (much n (q .query) (q .fuel) (serves h) (omega arith)) (λ z. omega arith) refl) (refused-two fuelRefusal)))
   ]
 
 told-of : (W : List ℕ) (q : Query) (F G : ℕ) (r s : Report) → Compared W areaLimit q F G → r ≡ reportAt W areaLimit q F → s ≡ reportAt W areaLimit q G

@@ -12,6 +12,7 @@ use find_path::Question;
 use find_path::Report;
 use reports::report::refused;
 use snapshot::ids::WordCount;
+use snapshot::refusal::Refusal;
 
 // The report, in a work area that serves and is cleared.
 fn find_path_within(words: &[u32], area: &mut [u32], question: Question) -> Report
@@ -31,7 +32,7 @@ pub fn find_path(words: &[u32], area: &mut [u32], question: Question) -> Report
     ensures { λ r. ⌜ Answers (now (words .entry)) (now (area .entry)) question (now (area .exit)) r ⌝ }
 {
     if area.len() < WordCount::AREA {
-        return refused(20);
+        return refused(Refusal::AREA);
     }
     let n = call_fault(area.len(), question.query, question.fuel);
     if n != 0 {

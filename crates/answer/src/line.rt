@@ -16,6 +16,7 @@ use checked::lines::line_on;
 use checked::lines::put_refusal;
 use find_path::Question;
 use snapshot::ids::WordCount;
+use snapshot::refusal::Refusal;
 
 // The line, in a work area that serves and is cleared.
 fn line_within(words: &[u32], area: &mut [u32], question: Question, out: &mut [u8]) -> usize
@@ -39,7 +40,7 @@ pub fn find_line(words: &[u32], area: &mut [u32], question: Question, out: &mut 
         return 0;
     }
     if area.len() < WordCount::AREA {
-        return put_refusal(out, 20);
+        return put_refusal(out, Refusal::AREA);
     }
     line_within(words, &mut area[..WordCount::AREA], question, out)
 }

@@ -10,6 +10,7 @@ use borrow.Rule.Slice.PartMut.{midOf, putMid, post-is}
 use lib.ListN.{length, take, drop, length-append, length-drop}
 use lib.Seq.{take-at, drop-at, drop-drop, drop-length}
 use Rattle.snapshot.specs.Limits.{areaLimit}
+use Rattle.snapshot.specs.Refusals.{areaRefusal, batchRefusal}
 use Rattle.snapshot.specs.Sizes.{questionSize}
 use Rattle.find_path.specs.declared.Question.{Question}
 use Rattle.find_path.specs.declared.Report.{Report}
@@ -25,12 +26,12 @@ use Rattle.batch.specs.Batch.{batchFault, reportsOf, reportsTo, reportsA
 -- the whole call
 
 module _ (W A Q R : List ℕ) where
-  pub batch-small : length A < areaLimit → Batch W A Q R A R 20
+  pub batch-small : length A < areaLimit → Batch W A Q R A R areaRefusal
   unfolding batchFault reportsAfter
   batch-small h = record { number = sym (rw (batchFault, lt-ltb _ _ h)); area = area-small A h; reports = refl }
 
   module _ (h : areaLimit ≤ length A) (B : List ℕ) (z : B ≡ zeros areaLimit) (b : Bool) (e : b ≡ batchFits (length Q) (length R)) where
-    pub batch-not : b ≡ false → Batch W A Q R (B ++ drop areaLimit A) R 44
+    pub batch-not : b ≡ false → Batch W A Q R (B ++ drop areaLimit A) R batchRefusal
     unfolding batchFault reportsAfter
     batch-not f = record { number = sym (rw (batchFault, le-ltb _ _ h, sym e, f)); area = area-large A B h z; reports = refl }
 

@@ -6,6 +6,7 @@ use mathlib.Core.Bool.{true, false}
 use lib.Dec.{ltb}
 use lib.ListN.{length, drop}
 use Rattle.snapshot.specs.Limits.{areaLimit}
+use Rattle.snapshot.specs.Refusals.{areaRefusal, batchRefusal}
 use Rattle.snapshot.specs.Sizes.{questionSize}
 use Rattle.find_path.specs.declared.Question.{Question}
 use Rattle.find_path.specs.Report.{reportOf}
@@ -17,7 +18,7 @@ use Rattle.answer.specs.Answers.{areaAfter}
 -- 20 a small work area; 44 too many questions, a part of one, or too few words for the reports; 0 for none
 unfoldable pub batchFault : ℕ → ℕ → ℕ → ℕ
 batchFault area questions reports =
-    elim (ltb area areaLimit) [ true ↦ 20 | false ↦ elim (batchFits questions reports) [ true ↦ 0 | false ↦ 44 ] ]
+    elim (ltb area areaLimit) [ true ↦ areaRefusal | false ↦ elim (batchFits questions reports) [ true ↦ 0 | false ↦ batchRefusal ] ]
 
 -- the words of the reports that the questions get one at a time, in order
 unfoldable pub reportsOf : List ℕ → List Question → List ℕ

@@ -8,6 +8,7 @@ use lib.ListN.{length, take, length-take}
 use lib.Seq.{length-take-le}
 use Rattle.io.specs.Counts.{Counts}
 use Rattle.snapshot.specs.Limits.{wordLimit, areaLimit, inputLimit}
+use Rattle.snapshot.specs.Refusals.{bytesRefusal, restRefusal}
 use Rattle.snapshot.specs.Layouts.{snapOf}
 use Rattle.snapshot.specs.declared.layout.Layout.{Layout}
 use Rattle.snapshot.proofs.Laws.{length-rows}
@@ -21,11 +22,11 @@ use Rattle.check_snapshot.specs.Text.{textOf}
 
 -- the verdict
 
-pub verdict-long : (B : List ℕ) → inputLimit < length B → refuse 40 wordLimit ≡ verdictOf B
+pub verdict-long : (B : List ℕ) → inputLimit < length B → refuse bytesRefusal wordLimit ≡ verdictOf B
 unfolding verdictOf
 verdict-long B h = rw (verdictOf, lt-leb _ _ h)
 
-pub verdict-rest : (B : List ℕ) → length B ≤ inputLimit → (length B % 4 ≡ 0 → ⊥) → refuse 41 (length B / 4) ≡ verdictOf B
+pub verdict-rest : (B : List ℕ) → length B ≤ inputLimit → (length B % 4 ≡ 0 → ⊥) → refuse restRefusal (length B / 4) ≡ verdictOf B
 unfolding verdictOf
 verdict-rest B h p = rw (verdictOf, le-leb _ _ h, ne-eqb _ _ p)
 

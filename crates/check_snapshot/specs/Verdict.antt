@@ -5,6 +5,7 @@ use mathlib.Core.Bool.{true, false}
 use lib.Dec.{eqb, leb}
 use lib.ListN.{length}
 use Rattle.snapshot.specs.Limits.{wordLimit, inputLimit}
+use Rattle.snapshot.specs.Refusals.{bytesRefusal, restRefusal}
 use Rattle.accept.specs.Verdict.{Verdict, refuse, verdict}
 use Rattle.printing.specs.Input.{wordsIn}
 
@@ -16,6 +17,6 @@ wordsOf B = wordsIn B (length B / 4)
 unfoldable pub verdictOf : List ℕ → Verdict
 verdictOf B =
     elim (leb (length B) inputLimit) [
-      | true ↦ elim (eqb (length B % 4) 0) [ true ↦ verdict (wordsOf B) | false ↦ refuse 41 (length B / 4) ]
-      | false ↦ refuse 40 wordLimit
+      | true ↦ elim (eqb (length B % 4) 0) [ true ↦ verdict (wordsOf B) | false ↦ refuse restRefusal (length B / 4) ]
+      | false ↦ refuse bytesRefusal wordLimit
     ]

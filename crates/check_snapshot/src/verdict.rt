@@ -10,6 +10,7 @@ use accept::check::check;
 use printing::input::ByteCount;
 use printing::input::words_in;
 use snapshot::ids::WordCount;
+use snapshot::refusal::CheckRefusal;
 
 /// The check of the bytes, by way of their words: 40 and 41 come first.
 pub fn verdict(bytes: &[u8], words: &mut [u32], area: &mut [u32]) -> Checked
@@ -17,11 +18,11 @@ pub fn verdict(bytes: &[u8], words: &mut [u32], area: &mut [u32]) -> Checked
     ensures { λ r. ⌜ outcome (wordsOf (now (bytes .entry))) (now (area .exit)) r ≡ verdictOf (now (bytes .entry)) ⌝ }
 {
     if ByteCount::INPUT < bytes.len() {
-        return Checked::Refused(40, WordCount::SNAPSHOT);
+        return Checked::Refused(CheckRefusal::BYTES, WordCount::SNAPSHOT);
     }
     let n = bytes.len() / 4;
     if bytes.len() % 4 != 0 {
-        return Checked::Refused(41, n);
+        return Checked::Refused(CheckRefusal::REST, n);
     }
     words_in(bytes, words, n);
     check(&words[..n], area)

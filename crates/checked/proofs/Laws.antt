@@ -9,6 +9,7 @@ use lib.Dec.{eqb, ltb}
 use lib.ListN.{length, getD, take}
 use lib.Seq.{getD-take}
 use Rattle.snapshot.specs.Limits.{pathLimit, fuelLimit, areaLimit, namespaceLimit, prefixLimit, optionsLimit}
+use Rattle.snapshot.specs.Refusals.{areaRefusal, fuelRefusal, fieldRefusal, unknownRefusal, macroRefusal, limitRefusal}
 use Rattle.snapshot.specs.Records.{Snapshot}
 use Rattle.snapshot.specs.Layouts.{snapOf, tableWords}
 use Rattle.snapshot.specs.declared.layout.Layout.{Layout}
@@ -31,21 +32,21 @@ use Rattle.checked.specs.Order.{earlierOf, numberOf}
 -- faults of a call
 
 module _ (area : ℕ) (q : Query) (fuel : ℕ) where
-  pub small : area < areaLimit → 20 ≡ callFault area q fuel
+  pub small : area < areaLimit → areaRefusal ≡ callFault area q fuel
   unfolding callFault
   small h = rw (callFault, lt-ltb _ _ h)
 
   module _ (large : areaLimit ≤ area) where
-    pub much : fuelLimit < fuel → 21 ≡ callFault area q fuel
+    pub much : fuelLimit < fuel → fuelRefusal ≡ callFault area q fuel
     unfolding callFault
     much h = rw (callFault, le-ltb _ _ large, lt-ltb _ _ h)
 
-    pub outside : fuel ≤ fuelLimit → (ltb namespaceLimit (q .ns) || (ltb prefixLimit (q .prefix) || ltb optionsLimit (q .options))) ≡ true → 22 ≡ callFault area q fuel
+    pub outside : fuel ≤ fuelLimit → (ltb namespaceLimit (q .ns) || (ltb prefixLimit (q .prefix) || ltb optionsLimit (q .options))) ≡ true → fieldRefusal ≡ callFault area q fuel
     unfolding callFault
     outside h t = rw (callFault, le-ltb _ _ large, le-ltb _ _ h, t)
 
     pub beyond : fuel ≤ fuelLimit → (ltb namespaceLimit (q .ns) || (ltb prefixLimit (q .prefix) || ltb optionsLimit (q .options))) ≡ false
-        → (eqb (q .limit) 0 || ltb pathLimit (q .limit)) ≡ true → 46 ≡ callFault area q fuel
+        → (eqb (q .limit) 0 || ltb pathLimit (q .limit)) ≡ true → limitRefusal ≡ callFault area q fuel
     unfolding callFault
     beyond h t u = rw (callFault, le-ltb _ _ large, le-ltb _ _ h, t, u)
 
@@ -81,12 +82,12 @@ same-fault a b q fuel h k = rw (callFault, le-ltb _ _ h, le-ltb _ _ k)
 -- faults of a question
 
 module _ (s : Snapshot) (q : Query) (D M : ℕ) (d : length (s .definitions) ≡ D) (m : length (s .modules) ≡ M) where
-  pub unknown : (ltb (q .definition) D && ltb (q .from) M) ≡ false → 23 ≡ questionFault s q
+  pub unknown : (ltb (q .definition) D && ltb (q .from) M) ≡ false → unknownRefusal ≡ questionFault s q
   unfolding questionFault
   unknown h = rw (questionFault, d, m, h)
 
   pub no-macro : (k : ℕ) → (ltb (q .definition) D && ltb (q .from) M) ≡ true → k ≡ definitionOf s (q .definition) .kind
-      → (eqb (q .ns) 2 && not (eqb k 5)) ≡ true → 24 ≡ questionFault s q
+      → (eqb (q .ns) 2 && not (eqb k 5)) ≡ true → macroRefusal ≡ questionFault s q
   unfolding questionFault
   no-macro k h e t = let t′ = rw e at t in rw (questionFault, d, m, h, t′)
 

@@ -17,6 +17,7 @@ use snapshot::ids::PathLen;
 use snapshot::ids::Prefix;
 use snapshot::ids::WordCount;
 use snapshot::layout::Layout;
+use snapshot::refusal::Refusal;
 
 /// The first fault that needs no snapshot: 20 a small work area, 21 too much fuel, 22 a field out of range, 46 a limit out
 /// of range; 0 for none.
@@ -24,19 +25,19 @@ pub fn call_fault(area: usize, q: Query, fuel: usize) -> usize
     ensures { λ r. ⌜ r ≡ callFault area q fuel ⌝ }
 {
     if area < WordCount::AREA {
-        return 20;
+        return Refusal::AREA;
     }
     if Fuel::LIMIT < fuel {
-        return 21;
+        return Refusal::FUEL;
     }
     let field = (Namespace::LIMIT < q.ns)
         | ((Prefix::LIMIT < q.prefix) | (Options::LIMIT < q.options));
     let limit = (q.limit == 0) | (PathLen::LIMIT < q.limit);
     if field {
-        return 22;
+        return Refusal::FIELD;
     }
     if limit {
-        return 46;
+        return Refusal::LIMIT;
     }
     0
 }
@@ -50,10 +51,10 @@ pub fn question_fault(words: &[u32], l: Layout, q: Query) -> usize
     let kind = kind_of(words, l, DefinitionId(q.definition));
     let misfit = (q.ns == Namespace::MACROS) & (kind != DefinitionKind::MACRO);
     if unknown {
-        return 23;
+        return Refusal::UNKNOWN;
     }
     if misfit {
-        return 24;
+        return Refusal::MACRO;
     }
     0
 }

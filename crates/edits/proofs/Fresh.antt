@@ -9,6 +9,7 @@ use lib.ListN.{length, take, length-append, length-replicate}
 use lib.Seq.{length-take-le, take-append-seam}
 use borrow.Author.Tests.{eq-eqb, ltb-false}
 use Rattle.snapshot.specs.Limits.{areaLimit}
+use Rattle.snapshot.specs.Refusals.{areaRefusal, wordsRefusal}
 use Rattle.snapshot.specs.Sizes.{scopeSize}
 use Rattle.snapshot.specs.Records.{Snapshot, Scope}
 use Rattle.record_rules.specs.Tests.{sameEntry}
@@ -57,9 +58,9 @@ module _ (area : ℕ) (W : List ℕ) (n : ℕ) (o : Operation) (T : List ℕ) wh
   unfolding editOf editWithin
   taken e =
       by-test (ltb area areaLimit)
-      (λ c. let f : refusedBy 20 ≡ edited T = rw (editOf, c) at e in refused-not f)
+      (λ c. let f : refusedBy areaRefusal ≡ edited T = rw (editOf, c) at e in refused-not f)
       (λ c. by-test (ltb (length W) n)
-      (λ d. let f : refusedBy 30 ≡ edited T = rw (editOf, c, editWithin, d) at e in refused-not f)
+      (λ d. let f : refusedBy wordsRefusal ≡ edited T = rw (editOf, c, editWithin, d) at e in refused-not f)
       (λ d. by-taken (ltb-false area areaLimit c) (ltb-false (length W) n d) (verdict (take n W)) refl (rw (editOf, c, editWithin, d) at e)))
 
 -- an edit that passes its tests

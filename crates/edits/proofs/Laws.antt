@@ -10,6 +10,7 @@ use borrow.Author.Tests.{lt-ltb, le-ltb}
 use Rattle.snapshot.specs.Records.{Snapshot, Scope}
 use Rattle.snapshot.specs.Lists.{any}
 use Rattle.snapshot.specs.Limits.{areaLimit}
+use Rattle.snapshot.specs.Refusals.{areaRefusal, wordsRefusal, entryRefusal}
 use Rattle.snapshot.specs.Sizes.{scopeSize}
 use Rattle.accept.specs.Verdict.{refuse, accept, verdict}
 pub use Rattle.checked.proofs.Laws.{refused-verdict, accepted-reads}
@@ -54,7 +55,7 @@ module _ (W : List ℕ) (n : ℕ) (o : Operation) (s : Snapshot) (acc : verdict 
   fault-none k e h = by-fault ∙ ap (editUnless (take n W) o) (sym e ∙ h)
 
 -- the check before it
-pub within-not : (W : List ℕ) (n : ℕ) (o : Operation) → length W < n → editWithin W n o ≡ refusedBy 30
+pub within-not : (W : List ℕ) (n : ℕ) (o : Operation) → length W < n → editWithin W n o ≡ refusedBy wordsRefusal
 unfolding editWithin
 within-not W n o h = rw (editWithin, lt-ltb _ _ h)
 
@@ -67,7 +68,7 @@ unfolding editBy
 by-refusal W n o k at e = ap (editBy (take n W) (length W) o) (sym e)
 
 -- the work area
-pub of-small : (area : ℕ) (W : List ℕ) (n : ℕ) (o : Operation) → area < areaLimit → editOf area W n o ≡ refusedBy 20
+pub of-small : (area : ℕ) (W : List ℕ) (n : ℕ) (o : Operation) → area < areaLimit → editOf area W n o ≡ refusedBy areaRefusal
 unfolding editOf
 of-small area W n o h = rw (editOf, lt-ltb _ _ h)
 
@@ -76,8 +77,8 @@ unfolding editOf
 of-large area W n o h = rw (editOf, le-ltb _ _ h)
 
 module _ (W A : List ℕ) (n : ℕ) (o : Operation) where
-  pub edits-small : length A < areaLimit → EditsIn W n A o W A (record { number = 20; count = n })
-  edits-small h = record { edit = edits-not W n 20 _ (of-small (length A) W n o h); area = area-small A h }
+  pub edits-small : length A < areaLimit → EditsIn W n A o W A (record { number = areaRefusal; count = n })
+  edits-small h = record { edit = edits-not W n areaRefusal _ (of-small (length A) W n o h); area = area-small A h }
 
   pub edits-large : (X B : List ℕ) (r : Edited) → areaLimit ≤ length A → B ≡ zeros areaLimit → Edits W n (editWithin W n o) X r
       → EditsIn W n A o X (B ++ drop areaLimit A) r
@@ -121,7 +122,7 @@ module _ (W : List ℕ) (n : ℕ) (h : n ≤ length W) (s : Snapshot) (acc : ver
     long : length (take n W) ≡ n
     long = length-take-le n W h
 
-    absent-fault : any (isNamed m ns name) (s .scopes) ≡ false → 47 ≡ editFault s (length (take n W)) (length W) (removing m ns name)
+    absent-fault : any (isNamed m ns name) (s .scopes) ≡ false → entryRefusal ≡ editFault s (length (take n W)) (length W) (removing m ns name)
     unfolding editFault
     absent-fault q = rw (editFault, q)
 
@@ -129,10 +130,10 @@ module _ (W : List ℕ) (n : ℕ) (h : n ≤ length W) (s : Snapshot) (acc : ver
     unfolding editFault
     present-fault q = rw (editFault, q)
 
-    pub removed-not : n ≤ at → Edits W n (editBy (take n W) (length W) (removing m ns name) (verdict (take n W))) W (record { number = 47; count = n })
+    pub removed-not : n ≤ at → Edits W n (editBy (take n W) (length W) (removing m ns name) (verdict (take n W))) W (record { number = entryRefusal; count = n })
     removed-not g =
         let l = long in
-        edits-not W n 47 _ (fault-not W n (removing m ns name) s acc 47 (absent-fault (absent (isNamed m ns name) (take n W) s acc (omega arith))) (λ z. omega arith))
+        edits-not W n entryRefusal _ (fault-not W n (removing m ns name) s acc entryRefusal (absent-fault (absent (isNamed m ns name) (take n W) s acc (omega arith))) (λ z. omega arith))
 
     found : at < n → entryPlace (isNamed m ns name) (take n W) < length (take n W)
     found g = let l = long in omega arith
@@ -155,8 +156,8 @@ module _ (W : List ℕ) (n : ℕ) (h : n ≤ length W) (s : Snapshot) (acc : ver
 -- the check before an edit
 
 module _ (W : List ℕ) (n : ℕ) (o : Operation) where
-  pub checked-large : length W < n → Edits W n (editWithin W n o) W (record { number = 30; count = n })
-  checked-large h = edits-not W n 30 _ (within-not W n o h)
+  pub checked-large : length W < n → Edits W n (editWithin W n o) W (record { number = wordsRefusal; count = n })
+  checked-large h = edits-not W n wordsRefusal _ (within-not W n o h)
 
   pub checked-not : n ≤ length W → (k at : ℕ) → refuse k at ≡ verdict (take n W) → Edits W n (editWithin W n o) W (record { number = k; count = n })
   checked-not h k at e = edits-not W n k _ (within-by W n o h ∙ by-refusal W n o k at e)

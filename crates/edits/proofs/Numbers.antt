@@ -8,6 +8,7 @@ use lib.Dec.{eqb, leb, ltb}
 use lib.ListN.{length, getD, take}
 use Rattle.snapshot.specs.Lists.{any}
 use Rattle.snapshot.specs.Limits.{wordLimit, areaLimit, crateLimit, moduleLimit, nameLimit, definitionLimit}
+use Rattle.snapshot.specs.Refusals.{areaRefusal, wordsRefusal, rangeRefusal, undefinedRefusal, repeatedRefusal, placeRefusal, countRefusal, editionRefusal}
 use Rattle.snapshot.specs.Words.{kindOf, argumentsAt}
 use Rattle.snapshot.specs.Records.{Snapshot, nameAt, crateAt, dependencyAt, mapAt, moduleAt, childAt, preludeAt, definitionAt, scopeAt, importAt, externAt, memberAt}
 use Rattle.record_rules.specs.Tests.{childDefined, childPlaced, countsOf, crateRange, isEdition, cratesOwn, definitionDefined, definitionPlaced, definitionRange, definitionRepeated, dependencyDefined, dependencyRange, externDefined, importDefined, importRange, mapDefined, mapPlaced, mapRange, mapRepeated, mapsFilled, memberDefined, memberPlaced, memberRange, moduleDefined, modulePlaced, nameRange, nsPlaced, preludeDefined, sameChild, sameEntry, sameExtern, sameName, samePrelude, scopeDefined, scopeRange}
@@ -38,12 +39,12 @@ need-some false n r h k = h
 
 judge-some : (range defined repeated placed room : Bool) (s : Snapshot) → NextSome (judge range defined repeated placed room s)
 judge-some range defined repeated placed room s =
-    need-some range 32 _ (omega arith) (need-some defined 33 _ (omega arith)
-    (need-some (not repeated) 34 _ (omega arith) (need-some placed 35 _ (omega arith) (need-some room 36 (on s) (omega arith) tt))))
+    need-some range rangeRefusal _ (omega arith) (need-some defined undefinedRefusal _ (omega arith)
+    (need-some (not repeated) repeatedRefusal _ (omega arith) (need-some placed placeRefusal _ (omega arith) (need-some room countRefusal (on s) (omega arith) tt))))
 
 judge-crate-some : (range edition room : Bool) (s : Snapshot) → NextSome (judgeCrate range edition room s)
 judge-crate-some range edition room s =
-    need-some range 32 _ (omega arith) (need-some edition 43 _ (omega arith) (need-some room 36 (on s) (omega arith) tt))
+    need-some range rangeRefusal _ (omega arith) (need-some edition editionRefusal _ (omega arith) (need-some room countRefusal (on s) (omega arith) tt))
 
 record-some : (k : ℕ) (W : List ℕ) (at : ℕ) (s : Snapshot) → NextSome (recordStep k W at s)
 unfolding recordStep nameStep crateStep dependencyStep mapStep moduleStep childStep preludeStep definitionStep scopeStep importStep externStep memberStep
@@ -82,7 +83,7 @@ step-some W at last s =
 
 finish-some : (at : ℕ) (s : Snapshot) → NumberSome (finish at s)
 unfolding finish
-finish-some at s = either NumberSome (mapsFilled s && cratesOwn s) (accept s) (refuse 35 at) tt (omega arith)
+finish-some at s = either NumberSome (mapsFilled s && cratesOwn s) (accept s) (refuse placeRefusal at) tt (omega arith)
 
 after-some : (x : Next) (at : ℕ) (f : Snapshot → Verdict) → NextSome x → ((t : Snapshot) → NumberSome (f t))
     → NumberSome (elim x [ no r ↦ refuse r at | on t ↦ f t ])
@@ -99,7 +100,7 @@ records-some (suc n) W at last s =
 verdict-some : (W : List ℕ) → NumberSome (verdict W)
 unfolding verdict
 verdict-some W =
-    either NumberSome (leb (length W) wordLimit) _ (refuse 30 wordLimit) (records-some (length W) W 0 0 empty) (omega arith)
+    either NumberSome (leb (length W) wordLimit) _ (refuse wordsRefusal wordLimit) (records-some (length W) W 0 0 empty) (omega arith)
 
 unless-some : (S : List ℕ) (o : Operation) (k : ℕ) → EditSome (editUnless S o k)
 unfolding editUnless
@@ -114,12 +115,12 @@ by-some S slice o (accept s) h = unless-some S o (editFault s (length S) slice o
 within-some : (W : List ℕ) (n : ℕ) (o : Operation) → EditSome (editWithin W n o)
 unfolding editWithin
 within-some W n o =
-    either EditSome (ltb (length W) n) (refusedBy 30) (editBy (take n W) (length W) o (verdict (take n W))) (omega arith)
+    either EditSome (ltb (length W) n) (refusedBy wordsRefusal) (editBy (take n W) (length W) o (verdict (take n W))) (omega arith)
     (by-some (take n W) (length W) o (verdict (take n W)) (verdict-some (take n W)))
 
 edit-some : (area : ℕ) (W : List ℕ) (n : ℕ) (o : Operation) → EditSome (editOf area W n o)
 unfolding editOf
-edit-some area W n o = either EditSome (ltb area areaLimit) (refusedBy 20) (editWithin W n o) (omega arith) (within-some W n o)
+edit-some area W n o = either EditSome (ltb area areaLimit) (refusedBy areaRefusal) (editWithin W n o) (omega arith) (within-some W n o)
 
 pub refused-number : (area : ℕ) (W : List ℕ) (n : ℕ) (o : Operation) (k : ℕ) → editOf area W n o ≡ refusedBy k → 0 < k
 refused-number area W n o k e = subst EditSome e (edit-some area W n o)

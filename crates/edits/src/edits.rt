@@ -23,6 +23,7 @@ use scope_edits::places::scopes_end;
 use snapshot::ids::WordCount;
 use snapshot::kind::Size;
 use snapshot::layout::Layout;
+use snapshot::refusal::Refusal;
 
 /// The number by which an edit is refused, 0 for none, and how many words the snapshot has after it.
 pub struct Edited {
@@ -64,7 +65,7 @@ fn add_checked(
 {
     if words.len() < count {
         return Edited {
-            number: 30,
+            number: Refusal::WORDS,
             count: count,
         };
     }
@@ -109,7 +110,7 @@ pub fn add_entry(
 {
     if area.len() < WordCount::AREA {
         return Edited {
-            number: 20,
+            number: Refusal::AREA,
             count: count,
         };
     }
@@ -124,7 +125,7 @@ fn remove_accepted(words: &mut [u32], count: usize, owner: usize, ns: usize, nam
     let at = entry_place(&words[..count], owner, ns, name);
     if count <= at {
         return Edited {
-            number: 47,
+            number: Refusal::ENTRY,
             count: count,
         };
     }
@@ -149,7 +150,7 @@ fn remove_checked(
 {
     if words.len() < count {
         return Edited {
-            number: 30,
+            number: Refusal::WORDS,
             count: count,
         };
     }
@@ -195,7 +196,7 @@ pub fn remove_entry(
 {
     if area.len() < WordCount::AREA {
         return Edited {
-            number: 20,
+            number: Refusal::AREA,
             count: count,
         };
     }

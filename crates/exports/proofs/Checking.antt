@@ -6,6 +6,7 @@ use lib.Dec.{ltb}
 use lib.ListN.{length, drop}
 use borrow.Author.Tests.{ltb-true}
 use Rattle.snapshot.specs.Limits.{areaLimit}
+use Rattle.snapshot.specs.Refusals.{areaRefusal}
 use Rattle.snapshot.specs.Records.{Snapshot}
 use Rattle.snapshot.specs.Layouts.{snapOf}
 use Rattle.snapshot.specs.declared.layout.Layout.{Layout}
@@ -39,7 +40,7 @@ judged : (n : ℕ) (W : List ℕ) (s : Snapshot) → checkOf n W ≡ accept s �
 unfolding checkOf
 judged n W s e =
     by-test (ltb n areaLimit)
-    (λ t. absurd (apart 20 0 s (sym (rw (checkOf, t)) ∙ e)))
+    (λ t. absurd (apart areaRefusal 0 s (sym (rw (checkOf, t)) ∙ e)))
     (λ t. sym (rw (checkOf, t)) ∙ e)
 
 -- the numbers of accepted words

@@ -10,6 +10,7 @@ use borrow.Author.Tests.{eqb-false, ltb-false}
 use Rattle.snapshot.specs.Limits.{wordLimit, crateLimit, moduleLimit, nameLimit, definitionLimit, areaLimit, fuelLimit, pathLimit, namespaceLimit, prefixLimit, optionsLimit}
 use Rattle.snapshot.specs.Words.{kindOf, argumentsAt}
 use Rattle.snapshot.specs.Lists.{any}
+use Rattle.snapshot.specs.Refusals.{areaRefusal, fuelRefusal, fieldRefusal, unknownRefusal, macroRefusal, wordsRefusal, formRefusal, rangeRefusal, undefinedRefusal, repeatedRefusal, placeRefusal, countRefusal, editionRefusal, limitRefusal, largestRefusal}
 use Rattle.snapshot.specs.Records.{Snapshot, Name, Crate, Dependency, Map, Module, Child, Prelude, Definition, Scope, Import, Extern, Member, nameAt, crateAt, dependencyAt, mapAt, moduleAt, childAt, preludeAt, definitionAt, scopeAt, importAt, externAt, memberAt}
 use Rattle.accept.specs.Tests.{countsOf, nameRange, sameName, crateRange, isEdition, dependencyRange, dependencyDefined, mapRange, mapDefined, mapRepeated, mapPlaced, moduleDefined, modulePlaced, childDefined, sameChild, childPlaced, preludeDefined, samePrelude, definitionRange, definitionDefined, definitionRepeated, definitionPlaced, scopeRange, scopeDefined, sameEntry, nsPlaced, importRange, importDefined, externDefined, sameExtern, memberRange, memberDefined, memberPlaced, mapsFilled, cratesOwn}
 use Rattle.accept.specs.Steps.{Next, no, on, need, judge, judgeCrate, addName, addCrate, addDependency, addMap, addModule, addChild, addPrelude, addDefinition, addScope, addImport, addExtern, addMember, nameStep, crateStep, dependencyStep, mapStep, moduleStep, childStep, preludeStep, definitionStep, scopeStep, importStep, externStep, memberStep}
@@ -23,25 +24,25 @@ use Rattle.find_path.specs.Report.{callFault, questionFault}
 -- of a record that is refused, and of words
 
 abbrev NextSmall : Next → Type 0
-NextSmall (no n) = n ≤ 46
+NextSmall (no n) = n ≤ largestRefusal
 NextSmall (on s) = Unit {0}
 
 abbrev pub NumberSmall : Verdict → Type 0
-NumberSmall (refuse n place) = n ≤ 46
+NumberSmall (refuse n place) = n ≤ largestRefusal
 NumberSmall (accept s) = Unit {0}
 
-need-small : (b : Bool) (n : ℕ) (r : Next) → n ≤ 46 → NextSmall r → NextSmall (need b n r)
+need-small : (b : Bool) (n : ℕ) (r : Next) → n ≤ largestRefusal → NextSmall r → NextSmall (need b n r)
 need-small true n r h k = k
 need-small false n r h k = h
 
 judge-small : (range defined repeated placed room : Bool) (s : Snapshot) → NextSmall (judge range defined repeated placed room s)
 judge-small range defined repeated placed room s =
-    need-small range 32 _ (omega arith) (need-small defined 33 _ (omega arith)
-    (need-small (not repeated) 34 _ (omega arith) (need-small placed 35 _ (omega arith) (need-small room 36 (on s) (omega arith) tt))))
+    need-small range rangeRefusal _ (omega arith) (need-small defined undefinedRefusal _ (omega arith)
+    (need-small (not repeated) repeatedRefusal _ (omega arith) (need-small placed placeRefusal _ (omega arith) (need-small room countRefusal (on s) (omega arith) tt))))
 
 judge-crate-small : (range edition room : Bool) (s : Snapshot) → NextSmall (judgeCrate range edition room s)
 judge-crate-small range edition room s =
-    need-small range 32 _ (omega arith) (need-small edition 43 _ (omega arith) (need-small room 36 (on s) (omega arith) tt))
+    need-small range rangeRefusal _ (omega arith) (need-small edition editionRefusal _ (omega arith) (need-small room countRefusal (on s) (omega arith) tt))
 
 either-next : (b : Bool) (x y : Next) → NextSmall x → NextSmall y → NextSmall (elim b [ true ↦ x | false ↦ y ])
 either-next true x y h k = h
@@ -125,8 +126,8 @@ record-small k W at s =
 step-small : (W : List ℕ) (at last : ℕ) (s : Snapshot) → NextSmall (stepAt W at last s)
 unfolding stepAt
 step-small W at last s =
-    need-small (follows last (kindOf (getD W at 0))) 31 _ (omega arith)
-    (need-small (argumentsFrom W (at + 1) (argumentsAt W at)) 31 _ (omega arith) (record-small _ W at s))
+    need-small (follows last (kindOf (getD W at 0))) formRefusal _ (omega arith)
+    (need-small (argumentsFrom W (at + 1) (argumentsAt W at)) formRefusal _ (omega arith) (record-small _ W at s))
 
 either-verdict : (b : Bool) (x y : Verdict) → NumberSmall x → NumberSmall y → NumberSmall (elim b [ true ↦ x | false ↦ y ])
 either-verdict true x y h k = h
@@ -134,7 +135,7 @@ either-verdict false x y h k = k
 
 finish-small : (at : ℕ) (s : Snapshot) → NumberSmall (finish at s)
 unfolding finish
-finish-small at s = either-verdict (mapsFilled s && cratesOwn s) (accept s) (refuse 35 at) tt (omega arith)
+finish-small at s = either-verdict (mapsFilled s && cratesOwn s) (accept s) (refuse placeRefusal at) tt (omega arith)
 
 after-small : (x : Next) (at : ℕ) (f : Snapshot → Verdict) → NextSmall x → ((t : Snapshot) → NumberSmall (f t))
     → NumberSmall (elim x [ no r ↦ refuse r at | on t ↦ f t ])
@@ -151,27 +152,27 @@ records-small (suc n) W at last s =
 pub verdict-small : (W : List ℕ) → NumberSmall (verdict W)
 unfolding verdict
 verdict-small W =
-    either-verdict (leb (length W) wordLimit) _ (refuse 30 wordLimit) (records-small (length W) W 0 0 empty) (omega arith)
+    either-verdict (leb (length W) wordLimit) _ (refuse wordsRefusal wordLimit) (records-small (length W) W 0 0 empty) (omega arith)
 
 -- of a call
 
-either-number : (b : Bool) (m n : ℕ) → m ≤ 46 → n ≤ 46 → elim b [ true ↦ m | false ↦ n ] ≤ 46
+either-number : (b : Bool) (m n : ℕ) → m ≤ largestRefusal → n ≤ largestRefusal → elim b [ true ↦ m | false ↦ n ] ≤ largestRefusal
 either-number true m n h k = h
 either-number false m n h k = k
 
-pub call-small : (area : ℕ) (q : Query) (fuel : ℕ) → callFault area q fuel ≤ 46
+pub call-small : (area : ℕ) (q : Query) (fuel : ℕ) → callFault area q fuel ≤ largestRefusal
 unfolding callFault
 call-small area q fuel =
-    either-number (ltb area areaLimit) 20 _ (omega arith)
-    (either-number (ltb fuelLimit fuel) 21 _ (omega arith)
-    (either-number (ltb namespaceLimit (q .ns) || (ltb prefixLimit (q .prefix) || ltb optionsLimit (q .options))) 22 _ (omega arith)
-    (either-number (eqb (q .limit) 0 || ltb pathLimit (q .limit)) 46 0 (omega arith) (omega arith))))
+    either-number (ltb area areaLimit) areaRefusal _ (omega arith)
+    (either-number (ltb fuelLimit fuel) fuelRefusal _ (omega arith)
+    (either-number (ltb namespaceLimit (q .ns) || (ltb prefixLimit (q .prefix) || ltb optionsLimit (q .options))) fieldRefusal _ (omega arith)
+    (either-number (eqb (q .limit) 0 || ltb pathLimit (q .limit)) limitRefusal 0 (omega arith) (omega arith))))
 
-pub question-small : (s : Snapshot) (q : Query) → questionFault s q ≤ 46
+pub question-small : (s : Snapshot) (q : Query) → questionFault s q ≤ largestRefusal
 unfolding questionFault
 question-small s q =
-    either-number (ltb (q .definition) (length (s .definitions)) && ltb (q .from) (length (s .modules))) _ 23
-    (either-number (eqb (q .ns) macros && not (eqb (definitionOf s (q .definition) .kind) macroKind)) 24 0 (omega arith) (omega arith))
+    either-number (ltb (q .definition) (length (s .definitions)) && ltb (q .from) (length (s .modules))) _ unknownRefusal
+    (either-number (eqb (q .ns) macros && not (eqb (definitionOf s (q .definition) .kind) macroKind)) macroRefusal 0 (omega arith) (omega arith))
     (omega arith)
 
 -- what a call without a fault has
@@ -183,10 +184,10 @@ pub record Allowed (q : Query) (F : ℕ) : Type 0 where
 pub call-allowed : (area : ℕ) (q : Query) (fuel : ℕ) → callFault area q fuel ≡ 0 → Allowed q fuel
 unfolding callFault
 call-allowed area q fuel e =
-    by-test (ltb area areaLimit) (λ t. let z : 20 ≡ 0 = rw (callFault, t) at e in absurd (omega arith)) (λ t.
-    by-test (ltb fuelLimit fuel) (λ u. let z : 21 ≡ 0 = rw (callFault, t, u) at e in absurd (omega arith)) (λ u.
-    by-test (ltb namespaceLimit (q .ns) || (ltb prefixLimit (q .prefix) || ltb optionsLimit (q .options))) (λ v. let z : 22 ≡ 0 = rw (callFault, t, u, v) at e in absurd (omega arith)) (λ v.
-    by-test (eqb (q .limit) 0 || ltb pathLimit (q .limit)) (λ w. let z : 46 ≡ 0 = rw (callFault, t, u, v, w) at e in absurd (omega arith)) (λ w.
+    by-test (ltb area areaLimit) (λ t. let z : areaRefusal ≡ 0 = rw (callFault, t) at e in absurd (omega arith)) (λ t.
+    by-test (ltb fuelLimit fuel) (λ u. let z : fuelRefusal ≡ 0 = rw (callFault, t, u) at e in absurd (omega arith)) (λ u.
+    by-test (ltb namespaceLimit (q .ns) || (ltb prefixLimit (q .prefix) || ltb optionsLimit (q .options))) (λ v. let z : fieldRefusal ≡ 0 = rw (callFault, t, u, v) at e in absurd (omega arith)) (λ v.
+    by-test (eqb (q .limit) 0 || ltb pathLimit (q .limit)) (λ w. let z : limitRefusal ≡ 0 = rw (callFault, t, u, v, w) at e in absurd (omega arith)) (λ w.
     let n = or-none (eqb (q .limit) 0) (ltb pathLimit (q .limit)) w in
     let z = eqb-false (q .limit) 0 (n .0) in
     record { fuel = ltb-false fuelLimit fuel u; some = omega (arith, z); limit = ltb-false pathLimit (q .limit) (n .1) }))))

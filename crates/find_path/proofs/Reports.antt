@@ -7,6 +7,7 @@ use native.Mathlib.Omega.{arith}
 use native.Mathlib.Decide.{decLe}
 use lib.ListN.{getD}
 use Rattle.snapshot.specs.Limits.{nameLimit}
+use Rattle.snapshot.specs.Refusals.{largestRefusal}
 use Rattle.snapshot.specs.Records.{Snapshot}
 use Rattle.accept.specs.Verdict.{accept, verdict}
 use Rattle.accept.proofs.Ranges.{accepted-limits}
@@ -70,7 +71,7 @@ bounded {q = q} {fuel = fuel} r (answer s a l e) = rw e (searched-bounded s q fu
 pub report-bounded : (words : List ℕ) (area : ℕ) (q : Question) → Bounded (q .fuel) (reportOf words area q)
 report-bounded words area q = bounded (reportOf words area q) (kind-of words area q)
 
-refused-small : (n : ℕ) → n ≤ 46 → Small (refused n)
+refused-small : (n : ℕ) → n ≤ largestRefusal → Small (refused n)
 unfolding refused
 refused-small n h =
     record {

@@ -6,6 +6,7 @@ use mathlib.Core.Logic.{_↔_}
 use Prim.Native.Nat.{ℕ, _+_, min, _≤_, _<_}
 use lib.ListN.{length, getD}
 use Rattle.snapshot.specs.Limits.{moduleLimit, nameLimit, pathLimit, fuelLimit}
+use Rattle.snapshot.specs.Refusals.{largestRefusal}
 use Rattle.snapshot.specs.Records.{Snapshot}
 use Rattle.accept.specs.Verdict.{accept, verdict}
 use Rattle.find_path.specs.declared.Query.{Query}
@@ -45,7 +46,7 @@ NamesKnown s r = (i : ℕ) → i < r .count → getD (r .names) i 0 < length (s 
 -- bounds of the numbers of every report, whatever the words and the fuel
 pub record Small (r : Report) : Type 0 where
   pub outcome : r .outcome ≤ 2
-  pub number : r .number ≤ 46
+  pub number : r .number ≤ largestRefusal
   pub kind : r .kind ≤ 4
   pub names : (i : ℕ) → getD (r .names) i 0 < nameLimit
   pub charges : r .charges ≤ fuelLimit

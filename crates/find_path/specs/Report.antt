@@ -5,6 +5,7 @@ use mathlib.Core.Bool.{Bool, true, false, _&&_, _||_, not}
 use lib.Dec.{eqb, ltb}
 use lib.ListN.{length, replicate}
 use Rattle.snapshot.specs.Limits.{areaLimit, fuelLimit, pathLimit, namespaceLimit, prefixLimit, optionsLimit}
+use Rattle.snapshot.specs.Refusals.{areaRefusal, fuelRefusal, fieldRefusal, unknownRefusal, macroRefusal, limitRefusal}
 use Rattle.snapshot.specs.Records.{Snapshot}
 use Rattle.accept.specs.Verdict.{Verdict, refuse, accept, verdict}
 use Rattle.hir_def.specs.Items.{macros, macroKind, definitionOf}
@@ -20,12 +21,12 @@ use Rattle.find_path.specs.Search.{findPath}
 unfoldable pub callFault : ℕ → Query → ℕ → ℕ
 callFault area q fuel =
     elim (ltb area areaLimit) [
-      | true ↦ 20
+      | true ↦ areaRefusal
       | false ↦ elim (ltb fuelLimit fuel) [
-        | true ↦ 21
+        | true ↦ fuelRefusal
         | false ↦ elim (ltb namespaceLimit (q .ns) || (ltb prefixLimit (q .prefix) || ltb optionsLimit (q .options))) [
-          | true ↦ 22
-          | false ↦ elim (eqb (q .limit) 0 || ltb pathLimit (q .limit)) [ true ↦ 46 | false ↦ 0 ]
+          | true ↦ fieldRefusal
+          | false ↦ elim (eqb (q .limit) 0 || ltb pathLimit (q .limit)) [ true ↦ limitRefusal | false ↦ 0 ]
         ]
       ]
     ]
@@ -34,8 +35,8 @@ callFault area q fuel =
 unfoldable pub questionFault : Snapshot → Query → ℕ
 questionFault s q =
     elim (ltb (q .definition) (length (s .definitions)) && ltb (q .from) (length (s .modules))) [
-      | true ↦ elim (eqb (q .ns) macros && not (eqb (definitionOf s (q .definition) .kind) macroKind)) [ true ↦ 24 | false ↦ 0 ]
-      | false ↦ 23
+      | true ↦ elim (eqb (q .ns) macros && not (eqb (definitionOf s (q .definition) .kind) macroKind)) [ true ↦ macroRefusal | false ↦ 0 ]
+      | false ↦ unknownRefusal
     ]
 
 -- a refusal: all else is zero

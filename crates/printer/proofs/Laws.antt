@@ -11,6 +11,7 @@ use lib.ListN.{length, getD, take, length-take}
 use lib.Seq.{length-take-le}
 use Rattle.io.specs.Counts.{Counts}
 use Rattle.snapshot.specs.Limits.{areaLimit, inputLimit}
+use Rattle.snapshot.specs.Refusals.{bytesRefusal, restRefusal, questionRefusal}
 use Rattle.snapshot.specs.Sizes.{questionSize, reachSize}
 use Rattle.snapshot.specs.Words.{kindOf, payOf}
 use Rattle.snapshot.specs.Records.{Snapshot}
@@ -33,11 +34,11 @@ use Rattle.printer.specs.Printed.{isQuestion, isHead, firstFrom, questio
 -- faults of an input
 
 module _ (B : List ℕ) where
-  pub too-long : inputLimit < length B → 40 ≡ inputFault B
+  pub too-long : inputLimit < length B → bytesRefusal ≡ inputFault B
   unfolding inputFault
   too-long h = rw (inputFault, lt-ltb _ _ h)
 
-  pub a-rest : length B ≤ inputLimit → (length B % 4 ≡ 0 → ⊥) → 41 ≡ inputFault B
+  pub a-rest : length B ≤ inputLimit → (length B % 4 ≡ 0 → ⊥) → restRefusal ≡ inputFault B
   unfolding inputFault
   a-rest h p = rw (inputFault, le-ltb _ _ h, ne-eqb _ _ p)
 
@@ -157,7 +158,7 @@ refusal-counts k p = counts-of (p empty 0)
 
 module _ (W S : List ℕ) (c : Checked) (i : ℕ) (A out : List ℕ) where
   pub turn-refused : (old : List ℕ) (n : ℕ) (b r : Bool) → r ≡ reachAt W i → r ≡ false → b ≡ wholeAt W i → b ≡ false → Judged S A c
-      → ((s : Snapshot) (from : ℕ) → Put old 0 (lineIn s from (refused 42) ++ bytesOf "\n") out n)
+      → ((s : Snapshot) (from : ℕ) → Put old 0 (lineIn s from (refused questionRefusal) ++ bytesOf "\n") out n)
       → Printed W S c i A old out (record { bytes = n; next = length W })
   unfolding lineAt nextAt
   turn-refused old n b r g u e t j p =

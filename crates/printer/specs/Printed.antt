@@ -7,6 +7,7 @@ use lib.Dec.{eqb, leb, ltb}
 use lib.ListN.{length, getD, take, drop}
 use Rattle.io.specs.Counts.{Counts}
 use Rattle.snapshot.specs.Limits.{areaLimit, inputLimit}
+use Rattle.snapshot.specs.Refusals.{bytesRefusal, restRefusal, questionRefusal}
 use Rattle.snapshot.specs.Sizes.{questionSize, reachSize}
 use Rattle.snapshot.specs.Words.{kindOf, payOf}
 use Rattle.accept.specs.Verdict.{empty}
@@ -93,7 +94,7 @@ unfoldable pub lineAt : List ℕ → List ℕ → ℕ → List ℕ
 lineAt W S i =
     elim (wholeAt W i) [
       | true ↦ elim (asksRoute W i) [ true ↦ routedLineOf S (questionAt W i) | false ↦ lineOf S (questionAt W i) ]
-      | false ↦ elim (reachAt W i) [ true ↦ reachLine (reachOf S areaLimit (viewerAt W i)) | false ↦ refusalLine 42 ]
+      | false ↦ elim (reachAt W i) [ true ↦ reachLine (reachOf S areaLimit (viewerAt W i)) | false ↦ refusalLine questionRefusal ]
     ]
 
 unfoldable pub nextAt : List ℕ → ℕ → ℕ
@@ -106,7 +107,7 @@ linesFrom (suc n) W S i = elim (ltb i (length W)) [ true ↦ lineAt W S i ∷ li
 
 -- too many bytes, a rest of 1 to 3 bytes, or 0 for none
 unfoldable pub inputFault : List ℕ → ℕ
-inputFault B = elim (ltb inputLimit (length B)) [ true ↦ 40 | false ↦ elim (eqb (length B % 4) 0) [ true ↦ 0 | false ↦ 41 ] ]
+inputFault B = elim (ltb inputLimit (length B)) [ true ↦ bytesRefusal | false ↦ elim (eqb (length B % 4) 0) [ true ↦ 0 | false ↦ restRefusal ] ]
 
 unfoldable pub linesOf : List ℕ → List (List ℕ)
 linesOf W = linesFrom (length W) W (take (questionsAt W) W) (questionsAt W)

@@ -2,16 +2,17 @@
 ghost use mathlib.Core.Path.{_≡_};
 ghost use Rattle.printer.specs.Printed.{inputFault};
 use printing::input::ByteCount;
+use snapshot::refusal::Refusal;
 
 /// What an input is refused for before it is read: 40 too many bytes, 41 a rest of 1 to 3 bytes, or 0 for none.
 pub fn input_fault(bytes: &[u8]) -> usize
     ensures { λ r. ⌜ r ≡ inputFault (now (bytes .entry)) ⌝ }
 {
     if ByteCount::INPUT < bytes.len() {
-        return 40;
+        return Refusal::BYTES;
     }
     if bytes.len() % 4 != 0 {
-        return 41;
+        return Refusal::REST;
     }
     0
 }

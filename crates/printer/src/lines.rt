@@ -16,6 +16,7 @@ use line::line::put_refusal;
 use reach::lines::reach_line_on;
 use route_line::lines::routed_line_on;
 use snapshot::kind::Size;
+use snapshot::refusal::Refusal;
 
 /// How many bytes a line has, and the place after what it is for.
 pub struct Turn {
@@ -45,7 +46,7 @@ pub fn next_line(
         };
     }
     if !is_whole(words, at) {
-        let n = put_refusal(out, 42);
+        let n = put_refusal(out, Refusal::QUESTION);
         return Turn {
             bytes: n,
             next: words.len(),

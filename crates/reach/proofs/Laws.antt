@@ -9,6 +9,7 @@ use borrow.Author.Tests.{lt-ltb, le-ltb}
 use lib.ListN.{length, take, replicate}
 use Rattle.snapshot.specs.Lists.{rows}
 use Rattle.snapshot.specs.Limits.{areaLimit, namespaceLimit}
+use Rattle.snapshot.specs.Refusals.{unknownRefusal}
 use Rattle.snapshot.specs.Sizes.{scopeSize}
 use Rattle.snapshot.specs.Records.{Snapshot, Scope, scopeAt}
 use Rattle.snapshot.specs.Layouts.{tableWords, scopeBase, snapOf}
@@ -144,7 +145,7 @@ module _ (W A₀ : List ℕ) (l : Layout) (v : Viewer) where
 -- refusals, and the reach on accepted words
 
 module _ (v : Viewer) (r : Reach) where
-  pub unknown-module : (s : Snapshot) (m : ℕ) → length (s .modules) ≡ m → m ≤ v .from → r ≡ refusedReach 23 → r ≡ reachBy v (accept s)
+  pub unknown-module : (s : Snapshot) (m : ℕ) → length (s .modules) ≡ m → m ≤ v .from → r ≡ refusedReach unknownRefusal → r ≡ reachBy v (accept s)
   unfolding reachBy
   unknown-module s m e h p = rw (reachBy, e, le-ltb _ _ h) p
 

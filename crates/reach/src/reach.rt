@@ -18,6 +18,7 @@ use reach_parts::Reach;
 use reach_parts::Viewer;
 use reach_parts::tally::refused;
 use snapshot::layout::Layout;
+use snapshot::refusal::Refusal;
 
 // The reach on accepted words; the tables stay.
 fn reach_from(words: &[u32], area: &mut [u32], l: Layout, v: Viewer) -> Reach
@@ -26,7 +27,7 @@ fn reach_from(words: &[u32], area: &mut [u32], l: Layout, v: Viewer) -> Reach
     ensures { λ _. ⌜ take tableWords (now (area .exit)) ≡ take tableWords (now (area .entry)) ⌝ }
 {
     if l.modules <= v.from {
-        return refused(23);
+        return refused(Refusal::UNKNOWN);
     }
     reach_in(words, area, l, v)
 }

@@ -10,6 +10,7 @@ use lib.Dec.{eqb, ltb}
 use lib.ListN.{length, take, getD, replicate, set, length-set}
 use lib.Seq.{getD-set-same, getD-set-other}
 use Rattle.snapshot.specs.Limits.{pathLimit}
+use Rattle.snapshot.specs.Refusals.{unknownRefusal}
 use Rattle.snapshot.specs.Sizes.{scopeSize}
 use Rattle.snapshot.specs.Records.{Snapshot, Scope, scopeAt}
 use Rattle.snapshot.specs.Layouts.{scopeBase, snapOf}
@@ -170,7 +171,7 @@ module _ (words : List ℕ) (s : Snapshot) (e : verdict words ≡ accept s) (v :
   unfolding reachBy refusedReach
   by-total m h =
       by-test (ltb (v .from) (length (s .modules))) (λ t. rw (reachBy, t) (in-total s v m))
-      (λ t. let z : 23 ≡ 0 = rw (reachBy, t) at h in absurd (omega arith))
+      (λ t. let z : unknownRefusal ≡ 0 = rw (reachBy, t) at h in absurd (omega arith))
 
   unless-total : (n : ℕ) → (n ≡ 0 → Limited v) → reachUnless words v n .number ≡ 0 → total (reachUnless words v n .counts) ≡ length (distinct s)
   unfolding reachUnless refusedReach

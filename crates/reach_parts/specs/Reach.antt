@@ -5,6 +5,7 @@ use mathlib.Core.Bool.{Bool, true, false}
 use lib.Dec.{eqb, ltb}
 use lib.ListN.{length, take, getD, replicate, set}
 use Rattle.snapshot.specs.Lists.{any}
+use Rattle.snapshot.specs.Refusals.{unknownRefusal}
 use Rattle.snapshot.specs.Records.{Snapshot, Scope}
 use Rattle.accept.specs.Verdict.{Verdict, refuse, accept, verdict, empty}
 use Rattle.hir_def.specs.Items.{itemOf, sameItem}
@@ -85,7 +86,7 @@ refusedReach n = record { number = n; counts = replicate 21 0 }
 unfoldable pub reachBy : Viewer → Verdict → Reach
 reachBy v (refuse n place) = refusedReach n
 reachBy v (accept s) =
-    elim (ltb (v .from) (length (s .modules))) [ true ↦ record { number = 0; counts = reachIn s v } | false ↦ refusedReach 23 ]
+    elim (ltb (v .from) (length (s .modules))) [ true ↦ record { number = 0; counts = reachIn s v } | false ↦ refusedReach unknownRefusal ]
 
 unfoldable pub reachUnless : List ℕ → Viewer → ℕ → Reach
 reachUnless words v zero = reachBy v (verdict words)

@@ -8,6 +8,7 @@ use lib.ListN.{getD}
 use lib.Dec.{eqb, leb}
 use borrow.Author.Tests.{eq-eqb, eqb-true, lt-ltb, le-ltb}
 use Rattle.snapshot.specs.Lists.{rows, eqList}
+use Rattle.snapshot.specs.Refusals.{rangeRefusal, undefinedRefusal, repeatedRefusal, placeRefusal, countRefusal, editionRefusal}
 use Rattle.snapshot.specs.Words.{payOf, wordsOf}
 use Rattle.snapshot.specs.Records.{nameAt}
 use Rattle.snapshot.proofs.Laws.{rows-next, rows-none, getD-rows}
@@ -40,23 +41,23 @@ module _ (f : ℕ → ℕ) (whole : Bool) (b i n : ℕ) (e : whole ≡ padded b 
 
 -- the judgement, test by test
 module _ (a b c d e : Bool) where
-  pub judge-32 : a ≡ false → 32 ≡ numberOf a b c d e
+  pub judge-32 : a ≡ false → rangeRefusal ≡ numberOf a b c d e
   unfolding numberOf
   judge-32 h = rw h
 
-  pub judge-33 : a ≡ true → b ≡ false → 33 ≡ numberOf a b c d e
+  pub judge-33 : a ≡ true → b ≡ false → undefinedRefusal ≡ numberOf a b c d e
   unfolding numberOf
   judge-33 h i = rw (h, i)
 
-  pub judge-34 : a ≡ true → b ≡ true → c ≡ true → 34 ≡ numberOf a b c d e
+  pub judge-34 : a ≡ true → b ≡ true → c ≡ true → repeatedRefusal ≡ numberOf a b c d e
   unfolding numberOf
   judge-34 h i j = rw (h, i, j)
 
-  pub judge-35 : a ≡ true → b ≡ true → c ≡ false → d ≡ false → 35 ≡ numberOf a b c d e
+  pub judge-35 : a ≡ true → b ≡ true → c ≡ false → d ≡ false → placeRefusal ≡ numberOf a b c d e
   unfolding numberOf
   judge-35 h i j k = rw (h, i, j, k)
 
-  pub judge-36 : a ≡ true → b ≡ true → c ≡ false → d ≡ true → e ≡ false → 36 ≡ numberOf a b c d e
+  pub judge-36 : a ≡ true → b ≡ true → c ≡ false → d ≡ true → e ≡ false → countRefusal ≡ numberOf a b c d e
   unfolding numberOf
   judge-36 h i j k l = rw (h, i, j, k, l)
 
@@ -65,15 +66,15 @@ module _ (a b c d e : Bool) where
   judge-0 h i j k l = rw (h, i, j, k, l)
 
 module _ (a b e : Bool) where
-  pub crate-32 : a ≡ false → 32 ≡ crateNumberOf a b e
+  pub crate-32 : a ≡ false → rangeRefusal ≡ crateNumberOf a b e
   unfolding crateNumberOf
   crate-32 h = rw h
 
-  pub crate-43 : a ≡ true → b ≡ false → 43 ≡ crateNumberOf a b e
+  pub crate-43 : a ≡ true → b ≡ false → editionRefusal ≡ crateNumberOf a b e
   unfolding crateNumberOf
   crate-43 h i = rw (h, i)
 
-  pub crate-36 : a ≡ true → b ≡ true → e ≡ false → 36 ≡ crateNumberOf a b e
+  pub crate-36 : a ≡ true → b ≡ true → e ≡ false → countRefusal ≡ crateNumberOf a b e
   unfolding crateNumberOf
   crate-36 h i j = rw (h, i, j)
 

@@ -6,6 +6,7 @@ use mathlib.Core.Bool.{Bool, true, false, _&&_, _||_, not}
 use lib.Dec.{eqb, ltb}
 use lib.ListN.{length, getD}
 use Rattle.snapshot.specs.Limits.{wordLimit, crateLimit, moduleLimit, nameLimit, definitionLimit, areaLimit}
+use Rattle.snapshot.specs.Refusals.{rangeRefusal, undefinedRefusal, repeatedRefusal, placeRefusal, countRefusal, editionRefusal}
 use Rattle.snapshot.specs.Words.{payOf, wordsOf}
 use Rattle.snapshot.specs.Sizes.{childSize, definitionSize, scopeSize, externSize}
 use Rattle.snapshot.specs.Records.{Map, nameAt, mapAt}
@@ -19,18 +20,18 @@ use Rattle.record_rules.specs.declared.judge.Step.the-variants.{No, On}
 
 -- the number of the first test that fails, or 0
 unfoldable pub numberOf : Bool → Bool → Bool → Bool → Bool → ℕ
-numberOf false defined repeated placed room = 32
-numberOf true false repeated placed room = 33
-numberOf true true true placed room = 34
-numberOf true true false false room = 35
-numberOf true true false true false = 36
+numberOf false defined repeated placed room = rangeRefusal
+numberOf true false repeated placed room = undefinedRefusal
+numberOf true true true placed room = repeatedRefusal
+numberOf true true false false room = placeRefusal
+numberOf true true false true false = countRefusal
 numberOf true true false true true = 0
 
 -- the same for a crate
 unfoldable pub crateNumberOf : Bool → Bool → Bool → ℕ
-crateNumberOf false edition room = 32
-crateNumberOf true false room = 43
-crateNumberOf true true false = 36
+crateNumberOf false edition room = rangeRefusal
+crateNumberOf true false room = editionRefusal
+crateNumberOf true true false = countRefusal
 crateNumberOf true true true = 0
 
 -- two records have the same owner, if that counts, and the same first fields

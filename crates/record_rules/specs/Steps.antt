@@ -6,6 +6,7 @@ use lib.Dec.{ltb}
 use lib.ListN.{length}
 use Rattle.snapshot.specs.Lists.{any}
 use Rattle.snapshot.specs.Limits.{crateLimit, moduleLimit, nameLimit, definitionLimit}
+use Rattle.snapshot.specs.Refusals.{rangeRefusal, undefinedRefusal, repeatedRefusal, placeRefusal, countRefusal, editionRefusal}
 use Rattle.snapshot.specs.Records.{Name, Crate, Dependency, Map, Module, Child, Prelude, Definition, Scope, Import, Extern, Member, Snapshot}
 use Rattle.record_rules.specs.Tests.{countsOf, nameRange, sameName, crateRange, isEdition, dependencyRange, dependencyDefined, mapRange, mapDefined, mapRepeated, mapPlaced, moduleDefined, modulePlaced, childDefined, sameChild, childPlaced, preludeDefined, samePrelude, definitionRange, definitionDefined, definitionRepeated, definitionPlaced, scopeRange, scopeDefined, sameEntry, nsPlaced, importRange, importDefined, externDefined, sameExtern, memberRange, memberDefined, memberPlaced}
 
@@ -21,11 +22,11 @@ need false n r = no n
 -- fields in range, numbers defined, repeated or not, in its place, room for it
 abbrev pub judge : Bool → Bool → Bool → Bool → Bool → Snapshot → Next
 judge range defined repeated placed room s =
-    need range 32 (need defined 33 (need (not repeated) 34 (need placed 35 (need room 36 (on s)))))
+    need range rangeRefusal (need defined undefinedRefusal (need (not repeated) repeatedRefusal (need placed placeRefusal (need room countRefusal (on s)))))
 
 -- a crate's: fields in range, a known edition, room for it
 abbrev pub judgeCrate : Bool → Bool → Bool → Snapshot → Next
-judgeCrate range edition room s = need range 32 (need edition 43 (need room 36 (on s)))
+judgeCrate range edition room s = need range rangeRefusal (need edition editionRefusal (need room countRefusal (on s)))
 
 -- the snapshot with one record more
 

@@ -2,6 +2,7 @@
 ghost use mathlib.Core.Path.{_≡_};
 ghost use Rattle.record_rules.specs.Stands.{numberOf};
 use snapshot::layout::Layout;
+use snapshot::refusal::CheckRefusal;
 
 /// A refusal, or the layout with the record.
 pub enum Step {
@@ -14,19 +15,19 @@ pub fn judge(range: bool, defined: bool, repeated: bool, placed: bool, room: boo
     ensures { λ r. ⌜ r ≡ numberOf range defined repeated placed room ⌝ }
 {
     if !range {
-        return 32;
+        return CheckRefusal::RANGE;
     }
     if !defined {
-        return 33;
+        return CheckRefusal::UNDEFINED;
     }
     if repeated {
-        return 34;
+        return CheckRefusal::REPEATED;
     }
     if !placed {
-        return 35;
+        return CheckRefusal::PLACE;
     }
     if !room {
-        return 36;
+        return CheckRefusal::COUNT;
     }
     0
 }

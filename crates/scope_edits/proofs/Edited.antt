@@ -9,6 +9,7 @@ use lib.ListN.{length, getD}
 use borrow.Author.Tests.{eq-eqb, leb-true, ltb-true, ltb-false}
 use Rattle.snapshot.specs.Lists.{any}
 use Rattle.snapshot.specs.Limits.{wordLimit}
+use Rattle.snapshot.specs.Refusals.{entryRefusal}
 use Rattle.snapshot.specs.Sizes.{scopeSize}
 use Rattle.snapshot.specs.Records.{Scope, Snapshot, scopeAt}
 use Rattle.record_rules.specs.Tests.{countsOf, scopeRange, scopeDefined, nsPlaced, sameEntry}
@@ -29,7 +30,7 @@ removal-there : (s : Snapshot) (n slice m ns name : ℕ) → editFault s n slice
 unfolding editFault
 removal-there s n slice m ns name e =
     by-test (any (isNamed m ns name) (s .scopes)) (λ c. c)
-    (λ c. let f : 47 ≡ 0 = rw (editFault, c) at e in absurd (omega arith))
+    (λ c. let f : entryRefusal ≡ 0 = rw (editFault, c) at e in absurd (omega arith))
 
 -- the record of an entry that is there is found
 pub found-within : (t : Scope → Bool) (W : List ℕ) (s : Snapshot) → verdict W ≡ accept s → any t (s .scopes) ≡ true → entryPlace t W < length W

@@ -9,6 +9,7 @@ use lib.Dec.{eqb, ltb}
 use lib.ListN.{length, getD}
 use borrow.Author.Tests.{ltb-true, ltb-false, lt-ltb, ne-eqb}
 use Rattle.snapshot.specs.Lists.{any}
+use Rattle.snapshot.specs.Refusals.{placeRefusal}
 use Rattle.snapshot.specs.Words.{kindOf, payOf, argumentsOf, argumentsAt}
 use Rattle.snapshot.specs.Records.{Snapshot, Scope, Import, Extern, Member, importAt, externAt, memberAt}
 use Rattle.record_rules.specs.Tests.{countsOf, sameEntry, mapsFilled, cratesOwn, importRange, importDefined, nsPlaced, externDefined, sameExtern, memberRange, memberDefined, memberPlaced}
@@ -43,7 +44,7 @@ unfolding finish
 finish-accepts at s u e =
     by-test (mapsFilled s && cratesOwn s)
     (λ c. let f : accept s ≡ accept u = rw (finish, c) at e in let q : s ≡ u = cc in (q, c))
-    (λ c. let f : refuse 35 at ≡ accept u = rw (finish, c) at e in refuse-not f)
+    (λ c. let f : refuse placeRefusal at ≡ accept u = rw (finish, c) at e in refuse-not f)
 
 finish-moved : (m : ℕ → ℕ) (at to : ℕ) (s u : Snapshot) (ys : List Scope) → finish at s ≡ accept u
     → finish to (withScopes m s ys) ≡ accept (withScopes m u ys)

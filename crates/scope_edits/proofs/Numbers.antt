@@ -8,6 +8,7 @@ use lib.Dec.{eqb, ltb}
 use lib.ListN.{length, getD}
 use borrow.Author.Tests.{ltb-true, ltb-false}
 use Rattle.snapshot.specs.Lists.{any}
+use Rattle.snapshot.specs.Refusals.{entryRefusal, roomRefusal}
 use Rattle.snapshot.specs.Sizes.{definitionSize}
 use Rattle.snapshot.specs.Records.{Scope, Snapshot, definitionAt}
 use Rattle.snapshot.specs.Layouts.{definitionBase, mapsOf, snapOf}
@@ -28,11 +29,11 @@ unfolding addNumber
 number-entry zero there room h = absurd (h refl)
 number-entry (suc n) there room h = refl
 
-pub number-47 : (n : ℕ) (there room : Bool) → n ≡ 0 → there ≡ true → 47 ≡ addNumber n there room
+pub number-47 : (n : ℕ) (there room : Bool) → n ≡ 0 → there ≡ true → entryRefusal ≡ addNumber n there room
 unfolding addNumber
 number-47 n there room e h = rw (e, h)
 
-pub number-48 : (n : ℕ) (there room : Bool) → n ≡ 0 → there ≡ false → room ≡ false → 48 ≡ addNumber n there room
+pub number-48 : (n : ℕ) (there room : Bool) → n ≡ 0 → there ≡ false → room ≡ false → roomRefusal ≡ addNumber n there room
 unfolding addNumber
 number-48 n there room e h g = rw (e, h, g)
 

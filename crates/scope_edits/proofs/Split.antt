@@ -9,6 +9,7 @@ use lib.ListN.{length, getD}
 use borrow.Author.Tests.{ltb-true, ltb-false, leb-true, le-leb}
 use Rattle.snapshot.specs.Lists.{any}
 use Rattle.snapshot.specs.Limits.{wordLimit}
+use Rattle.snapshot.specs.Refusals.{wordsRefusal}
 use Rattle.snapshot.specs.Words.{kindOf, payOf, argumentsOf, argumentsAt}
 use Rattle.snapshot.specs.Records.{Snapshot}
 use Rattle.record_rules.specs.Tests.{sameEntry}
@@ -122,7 +123,7 @@ unfolding verdict
 verdict-records W u e =
     by-test (leb (length W) wordLimit)
     (λ c. (leb-true (length W) wordLimit c, rw (verdict, c) at e))
-    (λ c. let f : refuse 30 wordLimit ≡ accept u = rw (verdict, c) at e in let z : _≡_ {A = ℕ} 0 1 = cc in absurd (omega arith))
+    (λ c. let f : refuse wordsRefusal wordLimit ≡ accept u = rw (verdict, c) at e in let z : _≡_ {A = ℕ} 0 1 = cc in absurd (omega arith))
 
 pub verdict-is : (W : List ℕ) → length W ≤ wordLimit → verdict W ≡ records (length W) W 0 0 empty
 unfolding verdict

@@ -9,6 +9,7 @@ use lib.Dec.{eqb, leb, ltb}
 use lib.ListN.{length, getD}
 use borrow.Author.Tests.{eqb-true, ltb-true, lt-ltb, leb-true, le-leb, not-true}
 use Rattle.snapshot.specs.Lists.{any}
+use Rattle.snapshot.specs.Refusals.{formRefusal}
 use Rattle.snapshot.specs.Words.{kindOf, payOf, argumentsOf, argumentsAt}
 use Rattle.snapshot.specs.Sizes.{scopeSize}
 use Rattle.snapshot.specs.Records.{Snapshot, Scope, scopeAt}
@@ -84,8 +85,8 @@ module _ (W : List ℕ) (a last : ℕ) (s t : Snapshot) where
   pub taking : stepAt W a last s ≡ on t → Taking W a last s t
   unfolding stepAt
   taking e =
-      let q = need-both (follows last (kindOf (getD W a 0))) 31 _ t e in
-      let r = need-both (argumentsFrom W (a + 1) (argumentsAt W a)) 31 _ t (q .1) in
+      let q = need-both (follows last (kindOf (getD W a 0))) formRefusal _ t e in
+      let r = need-both (argumentsFrom W (a + 1) (argumentsAt W a)) formRefusal _ t (q .1) in
       record { order = q .0; whole = r .0; step = r .1 }
 
   pub taken-step : Taking W a last s t → stepAt W a last s ≡ on t

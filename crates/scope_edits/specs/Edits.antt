@@ -6,6 +6,7 @@ use lib.Dec.{leb, ltb}
 use lib.ListN.{length, take}
 use Rattle.snapshot.specs.Limits.{wordLimit, areaLimit}
 use Rattle.snapshot.specs.Lists.{any}
+use Rattle.snapshot.specs.Refusals.{areaRefusal, wordsRefusal, entryRefusal, roomRefusal}
 use Rattle.snapshot.specs.Sizes.{scopeSize}
 use Rattle.snapshot.specs.Records.{Scope, Snapshot}
 use Rattle.record_rules.specs.Tests.{countsOf, scopeRange, scopeDefined, nsPlaced}
@@ -24,8 +25,8 @@ pub data Operation : Type 0 where
 
 -- the tests of a scope record but for repeats, then 47 for a name that is there already and 48 for no room
 unfoldable pub addNumber : ℕ → Bool → Bool → ℕ
-addNumber zero true room = 47
-addNumber zero false false = 48
+addNumber zero true room = entryRefusal
+addNumber zero false false = roomRefusal
 addNumber zero false true = 0
 addNumber (suc n) there room = suc n
 
@@ -38,7 +39,7 @@ unfoldable pub editFault : Snapshot → ℕ → ℕ → Operation → ℕ
 editFault s n slice (adding x) =
     addNumber (numberOf (scopeRange x) (scopeDefined (countsOf s) x) false (nsPlaced s (x .ns) (x .definition)) true)
     (any (isNamed (x .owner) (x .ns) (x .name)) (s .scopes)) (hasRoom n slice)
-editFault s n slice (removing m ns name) = elim (any (isNamed m ns name) (s .scopes)) [ true ↦ 0 | false ↦ 47 ]
+editFault s n slice (removing m ns name) = elim (any (isNamed m ns name) (s .scopes)) [ true ↦ 0 | false ↦ entryRefusal ]
 
 -- the words after it
 unfoldable pub editedWords : List ℕ → Operation → List ℕ
@@ -55,12 +56,12 @@ editBy S slice o (accept s) = editUnless S o (editFault s (length S) slice o)
 
 -- the edit of the snapshot in the first n words of a slice
 unfoldable pub editWithin : List ℕ → ℕ → Operation → Edit
-editWithin W n o = elim (ltb (length W) n) [ true ↦ refusedBy 30 | false ↦ editBy (take n W) (length W) o (verdict (take n W)) ]
+editWithin W n o = elim (ltb (length W) n) [ true ↦ refusedBy wordsRefusal | false ↦ editBy (take n W) (length W) o (verdict (take n W)) ]
 
 -- The same with a work area of so many words. The refusals come in the order 20, 30 where the slice has fewer words, 30 to 36 and 43
 -- of the snapshot, then 32, 33, 35, 47, 48.
 unfoldable pub editOf : ℕ → List ℕ → ℕ → Operation → Edit
-editOf area W n o = elim (ltb area areaLimit) [ true ↦ refusedBy 20 | false ↦ editWithin W n o ]
+editOf area W n o = elim (ltb area areaLimit) [ true ↦ refusedBy areaRefusal | false ↦ editWithin W n o ]
 
 -- The snapshot of the words S after an edit that is not refused. A new entry stands where the scopes of S end, and the records after the
 -- edited place are moved by the words of a record, as in words written afresh: the sizes of records are the same.

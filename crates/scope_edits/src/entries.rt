@@ -19,6 +19,7 @@ use snapshot::ids::Namespace;
 use snapshot::ids::WordCount;
 use snapshot::kind::Size;
 use snapshot::layout::Layout;
+use snapshot::refusal::CheckRefusal;
 use snapshot::words::word;
 
 fn in_range(entry: &[u32]) -> bool
@@ -64,10 +65,10 @@ fn add_number(entry: u32, there: bool, room: bool) -> u32
         return entry;
     }
     if there {
-        return 47;
+        return CheckRefusal::ENTRY;
     }
     if !room {
-        return 48;
+        return CheckRefusal::ROOM;
     }
     0
 }

@@ -1,5 +1,6 @@
 pub mod Lists
 pub mod Limits
+pub mod Refusals
 pub mod Sizes
 pub mod Words
 pub mod Records

@@ -3,6 +3,7 @@ pub mod ids;
 pub mod kind;
 pub mod layout;
 pub mod record;
+pub mod refusal;
 pub mod table;
 pub mod text;
 pub mod words;

@@ -10,6 +10,7 @@ use borrow.Rule.Slice.PartMut.{midOf}
 use lib.Dec.{ltb}
 use lib.ListN.{length, getD, set, take, drop, length-append, length-drop}
 use lib.Seq.{length-take-le, take-all, paste, paste-suc}
+use Rattle.snapshot.specs.Refusals.{windowRefusal, waitsRefusal}
 use Rattle.find_path.specs.declared.Question.{Question}
 use Rattle.questions.specs.Questions.{questionOf}
 use Rattle.questions.proofs.Laws.{mid-end}
@@ -71,12 +72,12 @@ module _ (S : List ℕ) (v : ℕ) (r : List ℕ) (l : length S ≡ 65) (h : v < 
 
 -- a question placed
 
-pub fault-window : (S : List ℕ) (w : ℕ) → 8 ≤ w → 49 ≡ placeFault S w
+pub fault-window : (S : List ℕ) (w : ℕ) → 8 ≤ w → windowRefusal ≡ placeFault S w
 unfolding placeFault
 fault-window S w h = sym (rw (placeFault, lt-ltb 7 w (omega arith)))
 
 module _ (S : List ℕ) (w : ℕ) (h : w < 8) (b : Bool) (e : b ≡ waits S w) where
-  pub fault-waits : b ≡ true → 50 ≡ placeFault S w
+  pub fault-waits : b ≡ true → waitsRefusal ≡ placeFault S w
   unfolding placeFault
   fault-waits t = sym (rw (placeFault, le-ltb 7 w (omega arith), sym e, t))
 

@@ -5,6 +5,7 @@ use mathlib.Core.Bool.{Bool, true, false, not}
 use mathlib.Core.List.{List, [], _∷_, _++_}
 use lib.Dec.{eqb, ltb}
 use lib.ListN.{getD, set, take, drop, replicate}
+use Rattle.snapshot.specs.Refusals.{windowRefusal, waitsRefusal}
 use Rattle.find_path.specs.declared.Question.{Question}
 use Rattle.questions.specs.Questions.{questionOf}
 
@@ -31,7 +32,7 @@ waiting q =
 
 -- a question placed: 49 no such window, 50 a question of the window waits already, 0 for none
 unfoldable pub placeFault : List ℕ → ℕ → ℕ
-placeFault S w = elim (ltb 7 w) [ true ↦ 49 | false ↦ elim (waits S w) [ true ↦ 50 | false ↦ 0 ] ]
+placeFault S w = elim (ltb 7 w) [ true ↦ windowRefusal | false ↦ elim (waits S w) [ true ↦ waitsRefusal | false ↦ 0 ] ]
 
 -- a refusal leaves the state as it was
 unfoldable pub placedUnless : List ℕ → ℕ → Question → ℕ → List ℕ

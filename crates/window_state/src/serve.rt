@@ -13,16 +13,17 @@ use crate::rows::with_row;
 use find_path::Query;
 use find_path::Question;
 use snapshot::kind::Size;
+use snapshot::refusal::Refusal;
 
 /// The number by which a question of a window is refused, 0 for none.
 pub fn place_fault(windows: Windows, window: usize) -> usize
     ensures { λ r. ⌜ r ≡ placeFault (wordsOf windows) window ⌝ }
 {
     if WindowCount::LIMIT <= window {
-        return 49;
+        return Refusal::WINDOW;
     }
     if waits(windows, window) {
-        return 50;
+        return Refusal::WAITS;
     }
     0
 }

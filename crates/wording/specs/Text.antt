@@ -4,6 +4,7 @@ use Prim.Native.String.{String}
 use mathlib.Core.List.{List, _++_}
 use mathlib.Core.Bool.{true, false}
 use lib.Dec.{eqb}
+use Rattle.snapshot.specs.Refusals.{wordsRefusal, formRefusal, rangeRefusal, undefinedRefusal, repeatedRefusal, placeRefusal, countRefusal, bytesRefusal, restRefusal, editionRefusal}
 use Rattle.printing.specs.Output.{bytesOf, decimal}
 
 -- bytes of a buffer that serves for a text
@@ -13,19 +14,19 @@ textLimit = 512
 -- what a refusal's number means: the later numbers, 20 last
 unfoldable pub laterMeaning : ℕ → List ℕ
 laterMeaning n =
-    elim (eqb n 35) [
+    elim (eqb n placeRefusal) [
       | true ↦ bytesOf "a record that does not fit the records before it, or a map or crate left incomplete\n"
       | false ↦
-          elim (eqb n 36) [
+          elim (eqb n countRefusal) [
             | true ↦ bytesOf "more than 64 crates, 512 modules, 2048 names or 2048 definitions\n"
             | false ↦
-                elim (eqb n 40) [
+                elim (eqb n bytesRefusal) [
                   | true ↦ bytesOf "more than 65536 bytes\n"
                   | false ↦
-                      elim (eqb n 41) [
+                      elim (eqb n restRefusal) [
                         | true ↦ bytesOf "a number of bytes that is not a multiple of 4\n"
                         | false ↦
-                            elim (eqb n 43) [
+                            elim (eqb n editionRefusal) [
                               | true ↦ bytesOf "an edition other than 2015, 2018, 2021 and 2024\n"
                               | false ↦ bytesOf "a work area of fewer than 16384 words\n"
                             ]
@@ -37,19 +38,19 @@ laterMeaning n =
 -- what a refusal's number means
 unfoldable pub meaning : ℕ → List ℕ
 meaning n =
-    elim (eqb n 30) [
+    elim (eqb n wordsRefusal) [
       | true ↦ bytesOf "more than 16384 words\n"
       | false ↦
-          elim (eqb n 31) [
+          elim (eqb n formRefusal) [
             | true ↦ bytesOf "an unknown or falling kind, a wrong argument kind, or a missing argument\n"
             | false ↦
-                elim (eqb n 32) [
+                elim (eqb n rangeRefusal) [
                   | true ↦ bytesOf "a field outside its range, bad padding, or a builtin with another name\n"
                   | false ↦
-                      elim (eqb n 33) [
+                      elim (eqb n undefinedRefusal) [
                         | true ↦ bytesOf "a number that is not defined yet\n"
                         | false ↦
-                            elim (eqb n 34) [
+                            elim (eqb n repeatedRefusal) [
                               | true ↦ bytesOf "something that may stand once only is repeated\n"
                               | false ↦ laterMeaning n
                             ]

@@ -8,6 +8,7 @@ use printing::output::Digits;
 use printing::output::put;
 use printing::output::put_digits;
 use snapshot::layout::Layout;
+use snapshot::refusal::CheckRefusal;
 
 /// A number of bytes.
 pub struct TextBytes(pub usize);
@@ -22,27 +23,27 @@ fn put_later_meaning(out: &mut [u8], at: usize, n: u32) -> usize
     requires { ⌜ at + 100 ≤ length (now out) ⌝ }
     ensures { λ r. ⌜ Put (now (out .entry)) at (laterMeaning n) (now (out .exit)) r ⌝ }
 {
-    if n == 35 {
+    if n == CheckRefusal::PLACE {
         return put(
             out,
             at,
             b"a record that does not fit the records before it, or a map or crate left incomplete\n",
         );
     }
-    if n == 36 {
+    if n == CheckRefusal::COUNT {
         return put(
             out,
             at,
             b"more than 64 crates, 512 modules, 2048 names or 2048 definitions\n",
         );
     }
-    if n == 40 {
+    if n == CheckRefusal::BYTES {
         return put(out, at, b"more than 65536 bytes\n");
     }
-    if n == 41 {
+    if n == CheckRefusal::REST {
         return put(out, at, b"a number of bytes that is not a multiple of 4\n");
     }
-    if n == 43 {
+    if n == CheckRefusal::EDITION {
         return put(
             out,
             at,
@@ -57,27 +58,27 @@ fn put_meaning(out: &mut [u8], at: usize, n: u32) -> usize
     requires { ⌜ at + 100 ≤ length (now out) ⌝ }
     ensures { λ r. ⌜ Put (now (out .entry)) at (meaning n) (now (out .exit)) r ⌝ }
 {
-    if n == 30 {
+    if n == CheckRefusal::WORDS {
         return put(out, at, b"more than 16384 words\n");
     }
-    if n == 31 {
+    if n == CheckRefusal::FORM {
         return put(
             out,
             at,
             b"an unknown or falling kind, a wrong argument kind, or a missing argument\n",
         );
     }
-    if n == 32 {
+    if n == CheckRefusal::RANGE {
         return put(
             out,
             at,
             b"a field outside its range, bad padding, or a builtin with another name\n",
         );
     }
-    if n == 33 {
+    if n == CheckRefusal::UNDEFINED {
         return put(out, at, b"a number that is not defined yet\n");
     }
-    if n == 34 {
+    if n == CheckRefusal::REPEATED {
         return put(out, at, b"something that may stand once only is repeated\n");
     }
     put_later_meaning(out, at, n)
