@@ -5,6 +5,7 @@ use mathlib.Core.List.{List}
 use mathlib.Core.Bool.{false}
 use lib.Dec.{eqb}
 use lib.ListN.{length}
+use Rattle.snapshot.specs.Sizes.{importSize}
 use Rattle.snapshot.specs.Records.{Snapshot}
 use Rattle.accept.specs.Verdict.{accept, verdict}
 use Rattle.hir_def.specs.Finds.{select}
@@ -14,7 +15,7 @@ use Rattle.hir_def.specs.ImportMap.{importInfoFor}
 use Rattle.hir_def.specs.declared.Item.{Item}
 use Rattle.scope_edits.specs.Entries.{scopesEnd}
 use Rattle.import_order.specs.Collect.{collected}
-use Rattle.import_words.specs.Words.{importSize, placedFrom, othersThan, isOthers, replaced, wordsWith, snapshotWith, isOf, unplaced}
+use Rattle.import_words.specs.Words.{placedFrom, othersThan, isOthers, replaced, wordsWith, snapshotWith, isOf, unplaced}
 use Rattle.import_words.proofs.Fitting.{collected-fits, collected-owned}
 use Rattle.import_words.proofs.Infos.{own-infos, other-infos}
 use Rattle.import_words.proofs.Put.{own-fits, put-accepted}

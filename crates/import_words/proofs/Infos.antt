@@ -8,6 +8,7 @@ use borrow.Author.Tests.{eqb-true, eqb-false, eq-eqb, ne-eqb}
 use lib.Dec.{eqb}
 use lib.ListN.{length}
 use Rattle.snapshot.specs.Lists.{any}
+use Rattle.snapshot.specs.Sizes.{importSize}
 use Rattle.snapshot.specs.Records.{Snapshot, Scope, Import, Extern}
 use Rattle.accept.specs.Valid.{Each, none, more}
 use Rattle.accept.proofs.Accepted.{by-test}
@@ -19,7 +20,7 @@ use Rattle.find_path.specs.Choices.{nameData}
 use Rattle.find_path.specs.Line.{textOf}
 use Rattle.scope_edits.specs.Entries.{movedImport, withLists, scopesEnd}
 use Rattle.import_order.specs.Collect.{entryBefore, entriesOf, piled, visits, modulesFrom, importsOf, importsIn, importsOver, collected}
-use Rattle.import_words.specs.Words.{importSize, placedFrom, isOthers, othersThan, replaced, snapshotWith, isOf, unplaced}
+use Rattle.import_words.specs.Words.{placedFrom, isOthers, othersThan, replaced, snapshotWith, isOf, unplaced}
 use Rattle.import_words.proofs.Fitting.{Owned}
 
 -- lists

@@ -10,6 +10,7 @@ use lib.ListN.{length, getD, take, drop}
 use lib.Seq.{ext-getD, length-take-le, take-at, drop-at}
 use Rattle.snapshot.specs.Lists.{any}
 use Rattle.snapshot.specs.Words.{kindOf}
+use Rattle.snapshot.specs.Sizes.{importSize}
 use Rattle.snapshot.specs.Records.{Snapshot, Scope, Import, Extern}
 use Rattle.accept.specs.Tests.{countsOf, sameEntry}
 use Rattle.accept.specs.Verdict.{accept, records, empty, verdict}
@@ -21,7 +22,7 @@ use Rattle.scope_edits.proofs.Folded.{base, records-more, records-after, run-la
 use Rattle.scope_edits.proofs.Split.{verdict-is}
 use Rattle.scope_edits.proofs.Inserted.{end-split}
 use Rattle.import_order.specs.Collect.{wordsOf}
-use Rattle.import_words.specs.Words.{importSize, Fits, placedFrom, othersThan, replaced, wordsWith, snapshotWith}
+use Rattle.import_words.specs.Words.{Fits, placedFrom, othersThan, replaced, wordsWith, snapshotWith}
 use Rattle.import_words.proofs.Taken.{words-length, words-append, withMore, Over, over-imports}
 use Rattle.import_words.proofs.Runs.{Run, old-imports, withThese, run-apart, run-lower}
 

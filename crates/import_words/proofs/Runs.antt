@@ -11,6 +11,7 @@ use lib.Dec.{eqb, ltb}
 use lib.ListN.{length, getD}
 use Rattle.snapshot.specs.Lists.{any}
 use Rattle.snapshot.specs.Words.{kindOf, payOf, argumentsAt}
+use Rattle.snapshot.specs.Sizes.{importSize}
 use Rattle.snapshot.specs.Records.{Snapshot, Import, Extern, Member, importAt, externAt, memberAt}
 use Rattle.accept.specs.Tests.{countsOf, importRange, importDefined, nsPlaced, externDefined, sameExtern, memberRange, memberDefined, memberPlaced}
 use Rattle.accept.specs.Steps.{Next, on, addImport, addExtern, addMember, importStep, externStep, memberStep}
@@ -22,11 +23,11 @@ use Rattle.scope_edits.specs.Entries.{withLists}
 use Rattle.scope_edits.proofs.Stepped.{follows-rise, taking, taken-step, taking-within}
 use Rattle.scope_edits.proofs.Folded.{finish-accepts, next-record, records-take, records-after}
 use Rattle.import_order.specs.Collect.{importWords, wordsOf}
-use Rattle.import_words.specs.Words.{importSize, Fits, placedFrom}
+use Rattle.import_words.specs.Words.{Fits, placedFrom}
 use Rattle.import_words.proofs.Taken.{import-kind, import-arguments, words-first, words-later, withMore, more-next}
 
 -- the words of the import record at a place are those of its import
-read-words : (W : List ℕ) (a : ℕ) → kindOf (getD W a 0) ≡ 10 → (i : ℕ) → i < 6 → getD W (a + i) 0 ≡ getD (importWords (importAt W a)) i 0
+read-words : (W : List ℕ) (a : ℕ) → kindOf (getD W a 0) ≡ 10 → (i : ℕ) → i < importSize → getD W (a + i) 0 ≡ getD (importWords (importAt W a)) i 0
 read-words W a e zero h =
     let f : getD W a 0 / 268435456 ≡ 10 = e in
     let g : getD W a 0 ≡ 0xA0000000 + getD W a 0 % 268435456 = omega arith in
@@ -73,10 +74,10 @@ module _ (W : List ℕ) (u : Snapshot) where
 
   -- one stands there
   run-more : (a : ℕ) (s : Snapshot) (xs : List Import) → kindOf (getD W a 0) ≡ 10 → Fits s (importAt W a)
-      → Run W u (a + 6) (addImport s (importAt W a)) xs → Run W u a s (importAt W a ∷ xs)
+      → Run W u (a + importSize) (addImport s (importAt W a)) xs → Run W u a s (importAt W a ∷ xs)
   unfolding placedFrom
   run-more a s xs k f r =
-      let to : a + 6 + importSize * length xs ≡ a + importSize * suc (length xs) = omega arith in
+      let to : a + importSize + importSize * length xs ≡ a + importSize * suc (length xs) = omega arith in
       let m = r .enough in
       let w = r .within in
       record {
@@ -85,11 +86,11 @@ module _ (W : List ℕ) (u : Snapshot) where
         within = omega arith;
         rest = sym (ap₂ (λ j t. records (r .fuel) W j 11 t) to (more-next s (importAt W a) xs)) ∙ r .rest;
         fits = more f (r .fits);
-        words = λ i h. elim (decLe 6 i) [
+        words = λ i h. elim (decLe importSize i) [
           | yes l ↦
-              let q : a + i ≡ a + 6 + (i - 6) = omega arith in
-              let p : 6 + (i - 6) ≡ i = omega arith in
-              ap (λ j. getD W j 0) q ∙ r .words (i - 6) (omega arith) ∙ sym (words-later (importAt W a) xs (i - 6))
+              let q : a + i ≡ a + importSize + (i - importSize) = omega arith in
+              let p : importSize + (i - importSize) ≡ i = omega arith in
+              ap (λ j. getD W j 0) q ∙ r .words (i - importSize) (omega arith) ∙ sym (words-later (importAt W a) xs (i - importSize))
               ∙ ap (λ j. getD (wordsOf (importAt W a ∷ xs)) j 0) p
           | no l ↦ read-words W a k i (omega arith) ∙ sym (words-first (importAt W a) xs i (omega arith))
         ];
@@ -113,12 +114,12 @@ module _ (W : List ℕ) (u : Snapshot) where
       let q = import-took s (r .state) (importAt W a) (sym (import-kind W a (kindOf (getD W a 0)) s k) ∙ t .step) in
       let p = q .passed in
       let w = taking-within W a 10 s (r .state) t h in
-      let to : a + 1 + argumentsAt W a ≡ a + 6 = omega arith in
-      let rest : records n W (a + 6) 10 (addImport s (importAt W a)) ≡ accept u =
+      let to : a + 1 + argumentsAt W a ≡ a + importSize = omega arith in
+      let rest : records n W (a + importSize) 10 (addImport s (importAt W a)) ≡ accept u =
       ap (λ j. records n W j 10 (addImport s (importAt W a))) (sym to)
       ∙ ap (λ j. records n W (a + 1 + argumentsAt W a) j (addImport s (importAt W a))) (sym k)
       ∙ ap (records n W (a + 1 + argumentsAt W a) (kindOf (getD W a 0))) (q .same) ∙ r .rest in
-      let i = old-imports n (a + 6) (addImport s (importAt W a)) (omega arith) (omega arith) rest in
+      let i = old-imports n (a + importSize) (addImport s (importAt W a)) (omega arith) (omega arith) rest in
       (importAt W a ∷ i .0, run-more a s (i .0) k (p .ranged, p .known, p .right) (i .1)))
       (λ d. let k = eqb-false (kindOf (getD W a 0)) 10 d in
       ([], run-none (suc n) a s within enough (λ g. omega arith) e)))

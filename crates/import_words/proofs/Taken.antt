@@ -1,5 +1,5 @@
 -- Import records as words: the check takes them, one after the other.
-use Prim.Native.Nat.{ℕ, zero, suc, _+_, _*_, _/_, _%_, _≤_, _<_}
+use Prim.Native.Nat.{ℕ, zero, suc, _+_, _-_, _*_, _/_, _%_, _≤_, _<_}
 use mathlib.Core.Path.{_≡_, refl, sym, _∙_, ap, ap₂}
 use mathlib.Core.List.{List, [], _∷_, _++_, append-nil}
 use mathlib.Core.Bool.{true}
@@ -10,6 +10,7 @@ use lib.Dec.{eqb, leb, ltb}
 use lib.ListN.{length, getD, List·getD-append}
 use lib.Seq.{append-snoc, getD-append-add}
 use Rattle.snapshot.specs.Words.{kindOf, payOf, argumentsOf, argumentsAt}
+use Rattle.snapshot.specs.Sizes.{importSize}
 use Rattle.snapshot.specs.Records.{Snapshot, Import, importAt}
 use Rattle.accept.specs.Tests.{countsOf}
 use Rattle.accept.specs.Steps.{on, addImport, importStep}
@@ -20,7 +21,7 @@ use Rattle.scope_edits.specs.Entries.{movedImport, withLists}
 use Rattle.scope_edits.proofs.Stepped.{Taking, taken-step, arguments-same}
 use Rattle.scope_edits.proofs.Folded.{records-take}
 use Rattle.import_order.specs.Collect.{importWords, wordsOf}
-use Rattle.import_words.specs.Words.{importSize, Fits, placedFrom}
+use Rattle.import_words.specs.Words.{Fits, placedFrom}
 
 -- a field is an argument: its word is of kind 0
 pub record Small (x : Import) : Type 0 where
@@ -66,7 +67,7 @@ pub import-kind : (W : List ℕ) (a k : ℕ) (s : Snapshot) → k ≡ 10 → rec
 unfolding recordStep
 import-kind W a k s e = rw e
 
-pub import-arguments : (W : List ℕ) (a : ℕ) → kindOf (getD W a 0) ≡ 10 → argumentsAt W a ≡ 5
+pub import-arguments : (W : List ℕ) (a : ℕ) → kindOf (getD W a 0) ≡ 10 → argumentsAt W a ≡ importSize - 1
 unfolding argumentsOf
 import-arguments W a e = ap (λ k. argumentsOf k (payOf (getD W a 0))) e
 
@@ -86,8 +87,8 @@ words-arguments x h =
     )
 
 -- the words of an import at a place
-module _ (x : Import) (small : Small x) (X : List ℕ) (p : ℕ) (at : (i : ℕ) → i < 6 → getD X (p + i) 0 ≡ getD (importWords x) i 0)
-    (fits : p + 6 ≤ length X)
+module _ (x : Import) (small : Small x) (X : List ℕ) (p : ℕ) (at : (i : ℕ) → i < importSize → getD X (p + i) 0 ≡ getD (importWords x) i 0)
+    (fits : p + importSize ≤ length X)
   where
     head-is : getD X p 0 ≡ 0xA0000000 + x .owner
     head-is = ap (λ j. getD X j 0) (sym (add-zero p)) ∙ at 0 (omega arith)
@@ -122,10 +123,10 @@ module _ (x : Import) (small : Small x) (X : List ℕ) (p : ℕ) (at : (i : ℕ)
         }
 
     pub over-import : (n last : ℕ) (s : Snapshot) → last ≤ 10 → Fits s x
-        → records (suc n) X p last s ≡ records n X (p + 6) 10 (addImport s (movedImport (λ n. p) x))
+        → records (suc n) X p last s ≡ records n X (p + importSize) 10 (addImport s (movedImport (λ n. p) x))
     over-import n last s low f =
         let t = addImport s (movedImport (λ n. p) x) in
-        let to : p + 1 + 5 ≡ p + 6 = omega arith in
+        let to : p + 1 + (importSize - 1) ≡ p + importSize = omega arith in
         records-take X n p last s t (omega arith) (taken-step X p last s t (import-taken last s low f)) (import-arguments X p kind-is) kind-is
         ∙ ap (λ j. records n X j 10 t) to
 
@@ -141,11 +142,11 @@ unfolding wordsOf
 words-append [] ys = refl
 words-append (x ∷ xs) ys = ap (λ l. importWords x ++ l) (words-append xs ys)
 
-pub words-first : (x : Import) (xs : List Import) (i : ℕ) → i < 6 → getD (wordsOf (x ∷ xs)) i 0 ≡ getD (importWords x) i 0
+pub words-first : (x : Import) (xs : List Import) (i : ℕ) → i < importSize → getD (wordsOf (x ∷ xs)) i 0 ≡ getD (importWords x) i 0
 unfolding wordsOf
 words-first x xs i h = List·getD-append (importWords x) (wordsOf xs) 0 i h
 
-pub words-later : (x : Import) (xs : List Import) (i : ℕ) → getD (wordsOf (x ∷ xs)) (6 + i) 0 ≡ getD (wordsOf xs) i 0
+pub words-later : (x : Import) (xs : List Import) (i : ℕ) → getD (wordsOf (x ∷ xs)) (importSize + i) 0 ≡ getD (wordsOf xs) i 0
 unfolding wordsOf
 words-later x xs i = getD-append-add (importWords x) (wordsOf xs) i 0
 
@@ -165,18 +166,18 @@ pub record Over (X : List ℕ) (n b last : ℕ) (s : Snapshot) (xs : List Import
   pub same : records n X b last s ≡ records fuel X (b + importSize * length xs) before (withMore s (placedFrom b xs))
 
 over-next : (X : List ℕ) (n b last : ℕ) (s : Snapshot) (x : Import) (xs : List Import)
-    → records (suc n) X b last s ≡ records n X (b + 6) 10 (addImport s (movedImport (λ n. b) x))
-    → Over X n (b + 6) 10 (addImport s (movedImport (λ n. b) x)) xs
+    → records (suc n) X b last s ≡ records n X (b + importSize) 10 (addImport s (movedImport (λ n. b) x))
+    → Over X n (b + importSize) 10 (addImport s (movedImport (λ n. b) x)) xs
     → Over X (suc n) b last s (x ∷ xs)
 unfolding placedFrom
 over-next X n b last s x xs e r =
-    let to : b + 6 + importSize * length xs ≡ b + importSize * suc (length xs) = omega arith in
+    let to : b + importSize + importSize * length xs ≡ b + importSize * suc (length xs) = omega arith in
     record {
       fuel = r .fuel;
       before = r .before;
       low = r .low;
       enough = let m = r .enough in omega arith;
-      same = e ∙ r .same ∙ ap₂ (λ j t. records (r .fuel) X j (r .before) t) to (more-next s (movedImport (λ n. b) x) (placedFrom (b + 6) xs));
+      same = e ∙ r .same ∙ ap₂ (λ j t. records (r .fuel) X j (r .before) t) to (more-next s (movedImport (λ n. b) x) (placedFrom (b + importSize) xs));
     }
 
 pub over-imports : (X : List ℕ) (xs : List Import) (n b last : ℕ) (s : Snapshot) → Limits (countsOf s) → last ≤ 10 → Each (Fits s) xs
@@ -196,6 +197,6 @@ over-imports X (x ∷ xs) zero b last s lim low fits at within enough = absurd (
 over-imports X (x ∷ xs) (suc n) b last s lim low (more f fs) at within enough =
     over-next X n b last s x xs
     (over-import x (fits-small s x lim f) X b (λ i h. at i (omega arith) ∙ words-first x xs i h) (omega arith) n last s low f)
-    (over-imports X xs n (b + 6) 10 (addImport s (movedImport (λ n. b) x)) lim (omega arith) fs
-    (λ i h. let q : b + 6 + i ≡ b + (6 + i) = omega arith in
-    ap (λ j. getD X j 0) q ∙ at (6 + i) (omega arith) ∙ words-later x xs i) (omega arith) (omega arith))
+    (over-imports X xs n (b + importSize) 10 (addImport s (movedImport (λ n. b) x)) lim (omega arith) fs
+    (λ i h. let q : b + importSize + i ≡ b + (importSize + i) = omega arith in
+    ap (λ j. getD X j 0) q ∙ at (importSize + i) (omega arith) ∙ words-later x xs i) (omega arith) (omega arith))

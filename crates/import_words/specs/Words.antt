@@ -5,6 +5,7 @@ use mathlib.Core.List.{List, [], _∷_, _++_, map}
 use mathlib.Core.Bool.{Bool, true, not}
 use lib.Dec.{eqb}
 use lib.ListN.{length}
+use Rattle.snapshot.specs.Sizes.{importSize}
 use Rattle.snapshot.specs.Records.{Snapshot, Import}
 use Rattle.accept.specs.Tests.{countsOf, importRange, importDefined, nsPlaced}
 use Rattle.hir_def.specs.Finds.{select}
@@ -12,10 +13,6 @@ use Rattle.hir_def.specs.Items.{itemOf, sameItem}
 use Rattle.hir_def.specs.declared.Item.{Item}
 use Rattle.scope_edits.specs.Entries.{movedImport, movedExtern, withLists, scopesEnd, inserted, cut}
 use Rattle.import_order.specs.Collect.{wordsOf}
-
--- the words of an import record
-abbrev pub importSize : ℕ
-importSize = 6
 
 -- what the check asks of an import record: 32, 33, 35
 abbrev pub Fits : Snapshot → Import → Type 0
