@@ -8,6 +8,7 @@ use borrow.Author.Tests.{eq-eqb, ne-eqb}
 use lib.Dec.{eqb}
 use lib.ListN.{length, getD, set, length-set}
 use lib.Seq.{getD-set-same, getD-set-other}
+use Rattle.snapshot.specs.Sizes.{scopeSize}
 use Rattle.snapshot.specs.Lists.{rows}
 use Rattle.snapshot.specs.Records.{Scope, scopeAt, memberAt}
 use Rattle.snapshot.specs.Layouts.{wordCount, scopeBase, memberBase, recordsOf, snapOf}
@@ -39,8 +40,8 @@ pub record Gathering (W A : List ℕ) (base count : ℕ) (B : List ℕ) (k n : �
   pub frame : Runs A B 4160 6208
   pub few : n ≤ k
   pub upto : k ≤ count
-  pub left : select isPublic (rows (λ j. scopeAt W (base + 8 * j)) 0 count)
-      ≡ entriesAt W B 4160 n ++ select isPublic (rows (λ j. scopeAt W (base + 8 * j)) k (count - k))
+  pub left : select isPublic (rows (λ j. scopeAt W (base + scopeSize * j)) 0 count)
+      ≡ entriesAt W B 4160 n ++ select isPublic (rows (λ j. scopeAt W (base + scopeSize * j)) k (count - k))
 
 pub gathering-start : (W A : List ℕ) (base count : ℕ) → Gathering W A base count A 0 0
 unfolding rows
@@ -49,12 +50,12 @@ gathering-start W A base count =
       frame = runs-none A 4160 6208;
       few = omega arith;
       upto = omega arith;
-      left = rows-whole (select isPublic) (λ j. scopeAt W (base + 8 * j)) count;
+      left = rows-whole (select isPublic) (λ j. scopeAt W (base + scopeSize * j)) count;
     }
 
-module _ {W A B : List ℕ} {base count k n : ℕ} (g : Gathering W A base count B k n) (more : k < count) {v : ℕ} (e : v ≡ scopeAt W (base + 8 * k) .visibility) where
+module _ {W A B : List ℕ} {base count k n : ℕ} (g : Gathering W A base count B k n) (more : k < count) {v : ℕ} (e : v ≡ scopeAt W (base + scopeSize * k) .visibility) where
   record-at : ℕ → Scope
-  record-at j = scopeAt W (base + 8 * j)
+  record-at j = scopeAt W (base + scopeSize * j)
 
   pub gathering-skip : (v ≡ 0 → ⊥) → Gathering W A base count B (k + 1) n
   unfolding record-at
@@ -69,7 +70,7 @@ module _ {W A B : List ℕ} {base count k n : ℕ} (g : Gathering W A base count
             ∙ ap (λ r. entriesAt W B 4160 n ++ r) (select-miss isPublic (record-at k) _ (ap (λ x. eqb x 0) (sym e) ∙ ne-eqb v 0 h));
       }
 
-  pub gathering-take : {at : ℕ} → length A ≡ 16384 → count ≤ 2048 → v ≡ 0 → at ≡ base + 8 * k → Gathering W A base count (set B (4160 + n) at) (k + 1) (n + 1)
+  pub gathering-take : {at : ℕ} → length A ≡ 16384 → count ≤ 2048 → v ≡ 0 → at ≡ base + scopeSize * k → Gathering W A base count (set B (4160 + n) at) (k + 1) (n + 1)
   unfolding record-at
   gathering-take {at} size small h q =
       let f = g .few in
@@ -103,8 +104,8 @@ gathering-done {W} {A} {B} {base} {count} {k} {n} l g eb ec h =
       frame = g .frame;
       few = omega arith;
       same =
-          sym (ap₂ (λ x y. select isPublic (rows (λ j. scopeAt W (x + 8 * j)) 0 y)) (sym eb) (sym ec) ∙ g .left
-          ∙ ap (λ r. entriesAt W B 4160 n ++ select isPublic r) (rows-none (λ j. scopeAt W (base + 8 * j)) k count h) ∙ append-none (entriesAt W B 4160 n));
+          sym (ap₂ (λ x y. select isPublic (rows (λ j. scopeAt W (x + scopeSize * j)) 0 y)) (sym eb) (sym ec) ∙ g .left
+          ∙ ap (λ r. entriesAt W B 4160 n ++ select isPublic r) (rows-none (λ j. scopeAt W (base + scopeSize * j)) k count h) ∙ append-none (entriesAt W B 4160 n));
     }
 
 -- threading

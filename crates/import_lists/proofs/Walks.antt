@@ -9,6 +9,7 @@ use borrow.Author.Tests.{eq-eqb, ne-eqb, eqb-true, eqb-false}
 use lib.Dec.{eqb}
 use lib.ListN.{length, getD, set, length-set}
 use lib.Seq.{getD-set-same, getD-set-other}
+use Rattle.snapshot.specs.Sizes.{scopeSize}
 use Rattle.snapshot.specs.Lists.{rows, any}
 use Rattle.snapshot.specs.Records.{Snapshot, Scope, scopeAt}
 use Rattle.snapshot.specs.Layouts.{scopeBase, snapOf}
@@ -450,7 +451,7 @@ walking-start {W} {A} {l} {n} {B} {C} {m} {base} {marks} {to} th ek et cl size e
           (λ x h. ap (λ y. getD y (marksBase l + x) 0) q ∙ getD-set-other B (pileBase l) (marksBase l + x) m 0 (λ e. omega arith) ∙ cl .zero (marksBase l + x) (omega arith) (omega arith));
       taken = Each.none;
       inside = more {x = getD C (pileBase l + 0) 0} (subst (λ x. x < l .modules) (sym top) inside) Each.none;
-      room = let a = waiting-all (snapOf W C l .scopes) in let b = length-rows (λ k. scopeAt W (scopeBase l + 8 * k)) (l .scopes) in omega arith;
+      room = let a = waiting-all (snapOf W C l .scopes) in let b = length-rows (λ k. scopeAt W (scopeBase l + scopeSize * k)) (l .scopes) in omega arith;
     }
 
 walk-whole : (W A C : List ℕ) (l : Layout) (c m : ℕ) → snapOf W C l ≡ snapOf W A l → getD C (pileBase l + 0) 0 ≡ m → m ≡ rootOf (snapOf W A l) (ownMap (snapOf W A l) c)
@@ -458,7 +459,7 @@ walk-whole : (W A C : List ℕ) (l : Layout) (c m : ℕ) → snapOf W C l ≡ sn
 unfolding downFrom modulesFrom rows
 walk-whole W A C l c m q e r =
     let a = waiting-all (snapOf W C l .scopes) in
-    let b = length-rows (λ k. scopeAt W (scopeBase l + 8 * k)) (l .scopes) in
+    let b = length-rows (λ k. scopeAt W (scopeBase l + scopeSize * k)) (l .scopes) in
     sym (visits-same (turnsAt W C l 0 1) (length (snapOf W A l .scopes) + 1) (snapOf W C l) [] (pileAt C l 1) (omega arith) (omega arith))
     ∙ ap₂ (λ x y. visits (length (snapOf W A l .scopes) + 1) x [] (y ∷ [])) q (e ∙ r)
 

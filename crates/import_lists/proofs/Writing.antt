@@ -9,6 +9,7 @@ use borrow.Author.Tests.{eq-eqb, ne-eqb}
 use lib.Dec.{eqb}
 use lib.ListN.{length, getD, take, drop, set, length-append, length-map}
 use lib.Seq.{sets, length-sets, sets-eq}
+use Rattle.snapshot.specs.Sizes.{importSize, memberSize, scopeSize}
 use Rattle.snapshot.specs.Lists.{rows}
 use Rattle.snapshot.specs.Records.{Snapshot, Scope, Import, Member, scopeAt, memberAt}
 use Rattle.snapshot.specs.Layouts.{scopeBase, memberBase, wordCount, snapOf}
@@ -82,10 +83,10 @@ wrote-size {write} {at} {r} {xs} {T} w = ap length (w .same) ∙ written-length 
 -- what the target holds after imports were written, and after they were only counted
 
 pub wrote-words : {at r : ℕ} {xs : List Import} {T U : List ℕ} → Wrote true at xs T U r → Space true at xs T
-    → U ≡ take at T ++ (wordsOf xs ++ drop (at + 6 * length xs) T)
+    → U ≡ take at T ++ (wordsOf xs ++ drop (at + importSize * length xs) T)
 unfolding written
 wrote-words {at} {r} {xs} {T} w s =
-    let n : length (wordsOf xs) ≡ 6 * length xs = words-length xs in
+    let n : length (wordsOf xs) ≡ importSize * length xs = words-length xs in
     let h = s .room refl in
     w .same ∙ sets-eq (wordsOf xs) T at (omega arith) ∙ append-assoc (take at T) (wordsOf xs) (drop (at + length (wordsOf xs)) T)
     ∙ ap (λ k. take at T ++ (wordsOf xs ++ drop (at + k) T)) n
@@ -111,7 +112,7 @@ module _ {write : Bool} {at r q : ℕ} {xs ys left : List Import} {T U X : List 
   pub wrote-both : Wrote write at left T X q
   wrote-both =
       let n = parts-length p in
-      let m : length (wordsOf xs) ≡ 6 * length xs = words-length xs in
+      let m : length (wordsOf xs) ≡ importSize * length xs = words-length xs in
       let a = w .next in
       let b = v .next in
       let e : r ≡ at + length (wordsOf xs) = omega arith in
@@ -235,16 +236,16 @@ module _ {W A : List ℕ} {l : Layout} {c : ℕ} {e : Scope} (h : Listed W A l c
       let q = h .ready .reads .tables .limited .definitions in
       let last : Last (parentOf W l) d (l .members) k = rw ek (h .members .first d (omega arith)) in (
         ap (λ r. map (memberImport c e) (select isKept r))
-            (rest-first (parentOf W l) (memberOf W l) last ∙ keyed-rows (λ (x : Member). x .parent) (λ i. memberAt W (memberBase l + 5 * i)) d (l .members))
+            (rest-first (parentOf W l) (memberOf W l) last ∙ keyed-rows (λ (x : Member). x .parent) (λ i. memberAt W (memberBase l + memberSize * i)) d (l .members))
             ∙ ap (map (memberImport c e)) (member-of d (snapOf W A l .members))
             ∙ ap (λ x. map (memberImport c e) (select (isMemberOf x) (snapOf W A l .members))) ed,
         last .within,
       )
 
   -- a number of a thread, one more, and its record
-  module _ {k : ℕ} (within : k ≤ l .members) (some : 0 < k) {x : ℕ} (ex : x ≡ memberBase l + 5 * (l .members - k)) where
+  module _ {k : ℕ} (within : k ≤ l .members) (some : 0 < k) {x : ℕ} (ex : x ≡ memberBase l + memberSize * (l .members - k)) where
     member-same : memberAt W x ≡ memberOf W l (k - 1)
-    member-same = let q : l .members - k ≡ l .members - 1 - (k - 1) = omega arith in ap (memberAt W) (ex ∙ ap (λ y. memberBase l + 5 * y) q)
+    member-same = let q : l .members - k ≡ l .members - 1 - (k - 1) = omega arith in ap (memberAt W) (ex ∙ ap (λ y. memberBase l + memberSize * y) q)
 
     pub member-bounded : Bounded (memberImport c e (memberAt W x))
     member-bounded =
@@ -256,7 +257,7 @@ module _ {W A : List ℕ} {l : Layout} {c : ℕ} {e : Scope} (h : Listed W A l c
         rw ex
         (record {
           owner = omega arith;
-          ns = ns-small (e .ns) (memberAt W (memberBase l + 5 * (l .members - k)) .kind) (g .ns);
+          ns = ns-small (e .ns) (memberAt W (memberBase l + memberSize * (l .members - k)) .kind) (g .ns);
           definition = omega arith;
           name = omega arith;
           container = omega arith;
@@ -378,10 +379,10 @@ module _ (s : Snapshot) (c : ℕ) (members : length (s .members) ≤ 3276) where
 
 -- few enough to be counted, for the modules of a walk
 pub over-small : {W A : List ℕ} {l : Layout} → Ready W A l → (c : ℕ) (ms : List ℕ) → length ms ≤ l .scopes + 1
-    → 6 * length (importsOver (snapOf W A l) c ms) ≤ 2 ^ 40
+    → importSize * length (importsOver (snapOf W A l) c ms) ≤ 2 ^ 40
 over-small {W} {A} {l} r c ms h =
-    let e = length-rows (λ k. memberAt W (memberBase l + 5 * k)) (l .members) in
-    let f = length-rows (λ k. scopeAt W (scopeBase l + 8 * k)) (l .scopes) in
+    let e = length-rows (λ k. memberAt W (memberBase l + memberSize * k)) (l .members) in
+    let f = length-rows (λ k. scopeAt W (scopeBase l + scopeSize * k)) (l .scopes) in
     let few : l .scopes ≤ 2048 = omega (arith, r .reads .tables .whole, r .reads .tables .short) in
     let g : length (snapOf W A l .members) ≤ 3276 = omega (arith, r .reads .tables .whole, r .reads .tables .short) in
     let k : length (snapOf W A l .scopes) ≤ 2048 = omega arith in

@@ -5,6 +5,7 @@ use mathlib.Core.List.{List, [], _∷_}
 use mathlib.Core.Bool.{Bool, true, false}
 use lib.Dec.{eqb}
 use lib.ListN.{length, getD}
+use Rattle.snapshot.specs.Sizes.{memberSize}
 use Rattle.snapshot.specs.Records.{Snapshot, Scope, Member, scopeAt, memberAt}
 use Rattle.snapshot.specs.Layouts.{memberBase, snapOf}
 use Rattle.snapshot.specs.declared.layout.Layout.{Layout}
@@ -35,7 +36,7 @@ entryOf W A n j = scopeAt W (getD A (4160 + (n - 1 - j)) 0)
 
 -- the member of a number, the last has the number 0
 abbrev pub memberOf : List ℕ → Layout → ℕ → Member
-memberOf W l j = memberAt W (memberBase l + 5 * (l .members - 1 - j))
+memberOf W l j = memberAt W (memberBase l + memberSize * (l .members - 1 - j))
 
 -- the public entries of all modules stand in the area, in no order
 pub record Gathered (W A : List ℕ) (l : Layout) (B : List ℕ) (n : ℕ) : Type 0 where

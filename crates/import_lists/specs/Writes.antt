@@ -6,6 +6,7 @@ use mathlib.Core.Bool.{Bool, true, false, not}
 use lib.Dec.{eqb}
 use lib.ListN.{length}
 use lib.Seq.{sets}
+use Rattle.snapshot.specs.Sizes.{importSize}
 use Rattle.snapshot.specs.Records.{Snapshot, Scope, Import, Member}
 use Rattle.snapshot.specs.declared.layout.Layout.{Layout}
 use Rattle.chains.specs.Chains.{ChainedBy}
@@ -37,11 +38,11 @@ written false at ws T = T
 
 -- the words of imports can be counted, and there is room for them at a place if they are to be written
 pub record Space (write : Bool) (at : ℕ) (xs : List Import) (T : List ℕ) : Type 0 where
-  pub small : at + 6 * length xs ≤ 2 ^ 50
-  pub room : write ≡ true → at + 6 * length xs ≤ length T
+  pub small : at + importSize * length xs ≤ 2 ^ 50
+  pub room : write ≡ true → at + importSize * length xs ≤ length T
 
 pub record Wrote (write : Bool) (at : ℕ) (xs : List Import) (A B : List ℕ) (r : ℕ) : Type 0 where
-  pub next : r ≡ at + 6 * length xs
+  pub next : r ≡ at + importSize * length xs
   pub same : B ≡ written write at (wordsOf xs) A
 
 -- of members those that are no type aliases, as imports

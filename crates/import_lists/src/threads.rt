@@ -9,6 +9,7 @@ use chains::chain::clear;
 use chains::chain::link;
 use import_order::sort::Lists;
 use import_order::sort::sort;
+use snapshot::kind::Size;
 use snapshot::layout::Layout;
 use snapshot::record::member_parent;
 use snapshot::record::scope_owner;
@@ -25,7 +26,7 @@ fn gather(words: &[u32], area: &mut [u32], l: Layout) -> usize
     let mut n = 0;
     let mut k = 0;
     while k < count {
-        let at = base + 8 * k;
+        let at = base + Size::SCOPE * k;
         if scope_visibility(words, at) == 0 {
             area[Lists::ENTRIES + n] = at as u32;
             n += 1;
@@ -60,7 +61,7 @@ fn thread_members(words: &[u32], area: &mut [u32], l: Layout)
     let count = l.members;
     let mut j = 0;
     while j < count {
-        let d = member_parent(words, base + 5 * (count - 1 - j));
+        let d = member_parent(words, base + Size::MEMBER * (count - 1 - j));
         link(area, Lists::MEMBER_HEADS, Lists::MEMBER_LINKS, d.0, j);
         j += 1;
     }

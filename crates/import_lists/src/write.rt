@@ -17,6 +17,7 @@ use snapshot::ids::DefinitionId;
 use snapshot::ids::ModuleId;
 use snapshot::ids::Name;
 use snapshot::ids::Namespace;
+use snapshot::kind::Size;
 use snapshot::layout::Layout;
 use snapshot::record::member_bits;
 use snapshot::record::member_definition;
@@ -52,7 +53,7 @@ fn put_import(
         target[at + 4] = m.0 as u32;
         target[at + 5] = bits as u32;
     }
-    at + 6
+    at + Size::IMPORT
 }
 
 // The namespace of a member: types for a variant, that of its parent's entry for another.
@@ -111,7 +112,7 @@ fn put_members(
     let mut t = at;
     let mut k = word(area, Lists::MEMBER_HEADS + d.0);
     while k != 0 {
-        let member = base + 5 * (l.members - k);
+        let member = base + Size::MEMBER * (l.members - k);
         t = put_member(words, target, t, write, c, entry, member);
         k = word(area, Lists::MEMBER_LINKS + (k - 1));
     }

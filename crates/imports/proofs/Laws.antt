@@ -8,6 +8,7 @@ use native.Mathlib.Nat.{zero-add}
 use borrow.Author.Tests.{lt-ltb, le-ltb, le-leb, lt-leb}
 use lib.ListN.{length, getD, drop}
 use lib.Seq.{sets, sets-eq}
+use Rattle.snapshot.specs.Sizes.{importSize}
 use Rattle.snapshot.specs.Records.{Snapshot, crateAt}
 use Rattle.snapshot.specs.Layouts.{crateBase, snapOf}
 use Rattle.snapshot.specs.declared.layout.Layout.{Layout}
@@ -64,7 +65,7 @@ module _ {W A B C : List ℕ} {l : Layout} {n c k : ℕ} (r : Ready W A l) (t : 
       ap (importsOver (snapOf W C l) c) (w .same) ∙ ap (λ s. importsOver s c (modulesFrom (snapOf W B l) c)) (snap-walked)
       ∙ ap (λ s. importsOver s c (modulesFrom s c)) snap-threaded
 
-  pub list-small : 0 + 6 * length (importsOver (snapOf W C l) c (orderAt C l k)) ≤ 2 ^ 50
+  pub list-small : 0 + importSize * length (importsOver (snapOf W C l) c (orderAt C l k)) ≤ 2 ^ 50
   list-small =
       let f = w .few in
       let b = length-rows (λ i. getD C (orderBase l + i) 0) k in
@@ -76,7 +77,7 @@ pub stored-front : (ws T : List ℕ) → length ws ≤ length T → sets T 0 ws 
 stored-front ws T h = let q : 0 + length ws ≤ length T = omega arith in sets-eq ws T 0 q ∙ ap (λ n. ws ++ drop n T) (zero-add (length ws))
 
 module _ {W A B C : List ℕ} {l : Layout} {n c k count : ℕ} (r : Ready W A l) (known : c < l .crates) (t : Threaded W B l n)
-    (low : (i : ℕ) → i < 4160 → getD B i 0 ≡ getD A i 0) (w : Walked W B l c C k) (e : count ≡ 0 + 6 * length (importsOver (snapOf W C l) c (orderAt C l k)))
+    (low : (i : ℕ) → i < 4160 → getD B i 0 ≡ getD A i 0) (w : Walked W B l c C k) (e : count ≡ 0 + importSize * length (importsOver (snapOf W C l) c (orderAt C l k)))
   where
     in-crates : c < length (snapOf W A l .crates)
     in-crates = omega (arith, length-rows (λ j. crateAt W (crateBase l + 2 * j)) (l .crates))

@@ -6,6 +6,7 @@ use mathlib.Core.Bool.{true, false}
 use lib.Dec.{leb, ltb}
 use lib.ListN.{length, drop}
 use Rattle.snapshot.specs.Limits.{areaLimit}
+use Rattle.snapshot.specs.Refusals.{areaRefusal, unknownRefusal, targetRefusal}
 use Rattle.snapshot.specs.Records.{Snapshot}
 use Rattle.accept.specs.Verdict.{Verdict, refuse, accept, verdict}
 use Rattle.answer.specs.Answers.{areaAfter}
@@ -20,8 +21,8 @@ pub data Listing : Type 0 where
 unfoldable pub listIn : ℕ → ℕ → Snapshot → Listing
 listIn c room s =
     elim (ltb c (length (s .crates))) [
-      | true ↦ elim (leb (length (wordsOf (collected s c))) room) [ true ↦ listed (wordsOf (collected s c)) | false ↦ refusedBy 45 ]
-      | false ↦ refusedBy 23
+      | true ↦ elim (leb (length (wordsOf (collected s c))) room) [ true ↦ listed (wordsOf (collected s c)) | false ↦ refusedBy targetRefusal ]
+      | false ↦ refusedBy unknownRefusal
     ]
 
 unfoldable pub listBy : ℕ → ℕ → Verdict → Listing
@@ -30,7 +31,7 @@ listBy c room (accept s) = listIn c room s
 
 -- The same with a work area of so many words. The refusals come in the order 20, 30 to 36 and 43 of the snapshot, 23, 45.
 unfoldable pub listOf : ℕ → List ℕ → ℕ → ℕ → Listing
-listOf area W c room = elim (ltb area areaLimit) [ true ↦ refusedBy 20 | false ↦ listBy c room (verdict W) ]
+listOf area W c room = elim (ltb area areaLimit) [ true ↦ refusedBy areaRefusal | false ↦ listBy c room (verdict W) ]
 
 -- the number of the refusal, 0 for none
 unfoldable pub numberIn : Listing → ℕ

@@ -1,6 +1,7 @@
 //! The import list of a crate that the caller names, written to the target that the caller lends.
 ghost use mathlib.Core.Path.{_≡_};
 ghost use lib.ListN.{length};
+ghost use Rattle.snapshot.specs.Limits.{areaLimit};
 ghost use Rattle.snapshot.specs.Layouts.{snapOf};
 ghost use Rattle.accept.specs.Verdict.{verdict};
 ghost use Rattle.answer.specs.Answers.{zeros};
@@ -15,6 +16,7 @@ use import_lists::write::put_modules;
 use snapshot::ids::Crate;
 use snapshot::ids::WordCount;
 use snapshot::layout::Layout;
+use snapshot::refusal::Refusal;
 
 /// The number by which a call is refused, 0 for none, and how many words were written.
 pub struct Listed {
@@ -29,7 +31,7 @@ fn list_accepted(words: &[u32], area: &mut [u32], l: Layout, c: Crate, target: &
 {
     if l.crates <= c.0 {
         return Listed {
-            number: 23,
+            number: Refusal::UNKNOWN,
             count: 0,
         };
     }
@@ -38,7 +40,7 @@ fn list_accepted(words: &[u32], area: &mut [u32], l: Layout, c: Crate, target: &
     let count = put_modules(words, area, l, n, k, target, 0, false, c);
     if target.len() < count {
         return Listed {
-            number: 45,
+            number: Refusal::TARGET,
             count: 0,
         };
     }
@@ -51,7 +53,7 @@ fn list_accepted(words: &[u32], area: &mut [u32], l: Layout, c: Crate, target: &
 
 // Checks the words, and lists.
 fn list_checked(words: &[u32], area: &mut [u32], c: Crate, target: &mut [u32]) -> Listed
-    requires { ⌜ length (now area) ≡ 16384 ⌝ }
+    requires { ⌜ length (now area) ≡ areaLimit ⌝ }
     ensures { λ r. ⌜ Lists (now (target .entry)) (listBy (c .0) (length (now (target .entry))) (verdict (now (words .entry)))) (now (target .exit)) r ⌝ }
 {
     let k = check(words, area);
@@ -66,9 +68,9 @@ fn list_checked(words: &[u32], area: &mut [u32], c: Crate, target: &mut [u32]) -
 
 // The same, in a work area that serves and is cleared.
 fn list_within(words: &[u32], area: &mut [u32], c: Crate, target: &mut [u32]) -> Listed
-    requires { ⌜ length (now area) ≡ 16384 ⌝ }
+    requires { ⌜ length (now area) ≡ areaLimit ⌝ }
     ensures { λ r. ⌜ Lists (now (target .entry)) (listBy (c .0) (length (now (target .entry))) (verdict (now (words .entry)))) (now (target .exit)) r ⌝ }
-    ensures { λ _. ⌜ now (area .exit) ≡ zeros 16384 ⌝ }
+    ensures { λ _. ⌜ now (area .exit) ≡ zeros areaLimit ⌝ }
 {
     let r = list_checked(words, area, c, target);
     clear(area);
@@ -83,9 +85,9 @@ pub fn import_list(words: &[u32], area: &mut [u32], c: Crate, target: &mut [u32]
 {
     if area.len() < WordCount::AREA {
         return Listed {
-            number: 20,
+            number: Refusal::AREA,
             count: 0,
         };
     }
-    list_within(words, &mut area[..16384], c, target)
+    list_within(words, &mut area[..WordCount::AREA], c, target)
 }

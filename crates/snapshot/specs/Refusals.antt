@@ -69,6 +69,10 @@ editionRefusal = 43
 abbrev pub batchRefusal : ℕ
 batchRefusal = 44
 
+-- a target with too few words for an import list
+abbrev pub targetRefusal : ℕ
+targetRefusal = 45
+
 -- a limit out of range
 abbrev pub limitRefusal : ℕ
 limitRefusal = 46

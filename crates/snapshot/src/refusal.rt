@@ -10,7 +10,7 @@ impl Refusal {
     pub const FUEL: usize = 21;
     /// A namespace, a prefix or options out of range.
     pub const FIELD: usize = 22;
-    /// No such definition or module.
+    /// No such definition, module or crate.
     pub const UNKNOWN: usize = 23;
     /// The macros namespace, with a definition that is no macro.
     pub const MACRO: usize = 24;
@@ -38,6 +38,8 @@ impl Refusal {
     pub const EDITION: usize = 43;
     /// Too many questions, a part of one, or too few words for their reports.
     pub const BATCH: usize = 44;
+    /// A target with too few words for an import list.
+    pub const TARGET: usize = 45;
     /// A limit out of range.
     pub const LIMIT: usize = 46;
     /// An added entry that is there already, or a removed one that isn't.
