@@ -39,10 +39,10 @@ unfolding isAt
 at-none s zero c e = refl
 at-none s (suc n) c e = absurd (omega arith)
 
-pub at-some : (s : Snapshot) (h c : ℕ) {k : ℕ} → (h ≡ 0 → ⊥) → k ≡ crateOf s (h - 1) → eqb k c ≡ isAt s h c
+pub at-some : (s : Snapshot) (h c : ℕ) {k m : ℕ} → h ≡ suc m → k ≡ crateOf s m → eqb k c ≡ isAt s h c
 unfolding isAt
-at-some s zero c h e = absurd (h refl)
-at-some s (suc n) c h e = let q : suc n - 1 ≡ n = omega arith in ap (λ (k : ℕ). eqb k c) (e ∙ ap (crateOf s) q)
+at-some s zero c h e = absurd (omega (arith, h))
+at-some s (suc n) c {m = m} h e = let q : m ≡ n = omega (arith, h) in ap (λ (k : ℕ). eqb k c) (e ∙ ap (crateOf s) q)
 
 pub at-home : (s : Snapshot) (item : Item) (c : ℕ) {h : ℕ} {b : Bool} → h ≡ homeOf s item → b ≡ isAt s h c → isAt s (homeOf s item) c ≡ b
 at-home s item c e f = sym (f ∙ ap (λ (h : ℕ). isAt s h c) e)

@@ -2,6 +2,7 @@
 ghost use mathlib.Core.Path.{_≡_};
 ghost use mathlib.Core.List.{[]};
 ghost use Prim.Native.Nat.{_+_, _≤_, _<_, _^_};
+ghost use Rattle.snapshot.specs.Ids.{plusOne};
 ghost use Rattle.snapshot.specs.Limits.{pathLimit};
 ghost use Rattle.snapshot.specs.Layouts.{snapOf};
 ghost use Rattle.snapshot.specs.Records.{importAt};
@@ -41,19 +42,20 @@ use search_parts::is_stable;
 use search_parts::langs_for;
 use snapshot::ids::Crate;
 use snapshot::ids::ModuleId;
+use snapshot::ids::OptModule;
 use snapshot::layout::Layout;
 use snapshot::record::dependency_crate;
 use snapshot::record::import_container;
 
-// Whether a home, +1, is in the crate.
-fn is_at(words: &[u32], area: &[u32], l: Layout, home: usize, c: Crate) -> bool
-    requires { ⌜ Reads (now words) (now area) l × (home ≤ l .modules) ⌝ }
-    ensures { λ r. ⌜ r ≡ isAt (snapOf (now (words .entry)) (now (area .entry)) l) home (c .0) ⌝ }
+// Whether a home is in the crate.
+fn is_at(words: &[u32], area: &[u32], l: Layout, home: OptModule, c: Crate) -> bool
+    requires { ⌜ Reads (now words) (now area) l × (plusOne home ≤ l .modules) ⌝ }
+    ensures { λ r. ⌜ r ≡ isAt (snapOf (now (words .entry)) (now (area .entry)) l) (plusOne home) (c .0) ⌝ }
 {
-    if home == 0 {
+    let OptModule::Module(m) = home else {
         return false;
-    }
-    let k = krate(words, area, l, ModuleId(home - 1));
+    };
+    let k = krate(words, area, l, m);
     k.0 == c.0
 }
 

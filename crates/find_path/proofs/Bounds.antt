@@ -16,8 +16,6 @@ use Rattle.hir_def.specs.ImportMap.{importInfoFor, isUnstable}
 use Rattle.hir_def.specs.declared.Item.{Item}
 use Rattle.hir_def.specs.declared.Item.the-variants.{Mod, Def}
 use Rattle.find_path.specs.declared.Choice.{Choice}
-use Rattle.find_path.specs.declared.KwKind.{KwKind}
-use Rattle.find_path.specs.declared.KwKind.the-variants.{Kw, NoKw}
 use Rattle.find_path.specs.declared.FindPathCtx.{FindPathCtx}
 use Rattle.find_path.specs.declared.Query.{Query}
 use Rattle.find_path.specs.Choices.{nameLen, pathKindLen, plainPath, cratePath, nothing, keyword, choiceNew, extended, push, unstably, better, trySelect}
@@ -189,10 +187,10 @@ module _ (s : Snapshot) (x : FindPathCtx) where
       (either-fits (suc l) (not b || eqb m (x .root)) _ _ (keyword-fits (suc l) cratePath) (extern-fits l m (externOf s (x .krate) m)))
       (nothing-fits (suc l))
 
-  keyword-of-fits : (l : ℕ) (k : KwKind) → Fits s (suc l) (keywordOf s x k)
+  keyword-of-fits : (l : ℕ) (k : Option ℕ) → Fits s (suc l) (keywordOf s x k)
   unfolding keywordOf
-  keyword-of-fits l NoKw = nothing-fits (suc l)
-  keyword-of-fits l (Kw k) = either-fits (suc l) (not (eqb (x .prefix) byCrate) || eqb k cratePath) _ _ (keyword-fits (suc l) k) (nothing-fits (suc l))
+  keyword-of-fits l none = nothing-fits (suc l)
+  keyword-of-fits l (some k) = either-fits (suc l) (not (eqb (x .prefix) byCrate) || eqb k cratePath) _ _ (keyword-fits (suc l) k) (nothing-fits (suc l))
 
   pub rules-fit : (l : ℕ) (b : Bool) (m : ℕ) → Fits s (suc l) (moduleRules s x b m)
   unfolding moduleRules

@@ -27,8 +27,6 @@ use Rattle.hir_def.specs.declared.Item.the-variants.{Mod, Def}
 use Rattle.hir_def.proofs.Found.{each-first, each-select}
 use Rattle.hir_def.proofs.Fits.{each-back}
 use Rattle.find_path.specs.declared.Choice.{Choice}
-use Rattle.find_path.specs.declared.KwKind.{KwKind}
-use Rattle.find_path.specs.declared.KwKind.the-variants.{Kw, NoKw}
 use Rattle.find_path.specs.declared.FindPathCtx.{FindPathCtx}
 use Rattle.find_path.specs.declared.Query.{Query}
 use Rattle.find_path.specs.declared.Question.{Question}
@@ -58,9 +56,9 @@ Held P none = Unit {0}
 Held P (some y) = P y
 
 -- the path kind of a keyword is one of the five
-abbrev KindSmall : KwKind → Type 0
-KindSmall (Kw k) = k ≤ 4
-KindSmall NoKw = Unit {0}
+abbrev KindSmall : Option ℕ → Type 0
+KindSmall (some k) = k ≤ 4
+KindSmall none = Unit {0}
 
 held : {A : Type 0} {P : A → Type 0} (o : Option A) → ((y : A) → o ≡ some y → P y) → Held P o
 held none f = tt
@@ -154,7 +152,7 @@ prefix-small (suc zero) = omega arith
 prefix-small (suc (suc zero)) = omega arith
 prefix-small (suc (suc (suc p))) = omega arith
 
-either-small : (b : Bool) (k l : KwKind) → KindSmall k → KindSmall l → KindSmall (elim b [ true ↦ k | false ↦ l ])
+either-small : (b : Bool) (k l : Option ℕ) → KindSmall k → KindSmall l → KindSmall (elim b [ true ↦ k | false ↦ l ])
 either-small true k l f g = f
 either-small false k l f g = g
 
@@ -325,18 +323,18 @@ module _ (s : Snapshot) (r : Ranges (countsOf s) s) where
     parent-small m zero = tt
     parent-small m (suc p) =
         either-small (eqb m p) _ _
-        (either-small (eqb p (rootOf s (mapNo s (x .from)))) (Kw cratePath) (Kw superPath) (omega arith) (omega arith)) tt
+        (either-small (eqb p (rootOf s (mapNo s (x .from)))) (some cratePath) (some superPath) (omega arith) (omega arith)) tt
 
     kind-small : (m : ℕ) → KindSmall (isKwKindRelativeToFrom s x m)
     unfolding isKwKindRelativeToFrom
     kind-small m =
-        either-small (not (eqb (crateOf s m) (crateOf s (x .from))) || (inBlock s m || inBlock s (x .from))) NoKw _ tt
-        (either-small (eqb m (x .from)) (Kw selfPath) _ (omega arith) (parent-small m (parentOf s (x .from))))
+        either-small (not (eqb (crateOf s m) (crateOf s (x .from))) || (inBlock s m || inBlock s (x .from))) none _ tt
+        (either-small (eqb m (x .from)) (some selfPath) _ (omega arith) (parent-small m (parentOf s (x .from))))
 
-    keyword-of-known : (k : KwKind) → KindSmall k → Known s (keywordOf s x k)
+    keyword-of-known : (k : Option ℕ) → KindSmall k → Known s (keywordOf s x k)
     unfolding keywordOf
-    keyword-of-known NoKw h = nothing-known
-    keyword-of-known (Kw k) h = either-known (not (eqb (x .prefix) byCrate) || eqb k cratePath) _ _ (keyword-known k h) nothing-known
+    keyword-of-known none h = nothing-known
+    keyword-of-known (some k) h = either-known (not (eqb (x .prefix) byCrate) || eqb k cratePath) _ _ (keyword-known k h) nothing-known
 
     rules-known : (b : Bool) (m : ℕ) → Known s (moduleRules s x b m)
     unfolding moduleRules

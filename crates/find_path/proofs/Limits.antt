@@ -17,8 +17,6 @@ use Rattle.hir_def.specs.ImportMap.{importInfoFor, isHidden, isUnstable}
 use Rattle.hir_def.specs.declared.Item.{Item}
 use Rattle.hir_def.specs.declared.Item.the-variants.{Mod, Def}
 use Rattle.find_path.specs.declared.Choice.{Choice}
-use Rattle.find_path.specs.declared.KwKind.{KwKind}
-use Rattle.find_path.specs.declared.KwKind.the-variants.{Kw, NoKw}
 use Rattle.find_path.specs.declared.FindPathCtx.{FindPathCtx}
 use Rattle.find_path.specs.declared.Query.{Query}
 use Rattle.find_path.specs.declared.Report.{Report}
@@ -203,14 +201,14 @@ module _ (s : Snapshot) (x : FindPathCtx) (n : ℕ) where
   kind-same : (m : ℕ) → isKwKindRelativeToFrom s x m ≡ isKwKindRelativeToFrom s y m
   unfolding isKwKindRelativeToFrom
   kind-same m = λ i. elim (not (eqb (crateOf s m) (crateOf s (x .from))) || (inBlock s m || inBlock s (x .from))) [
-    | true ↦ NoKw
-    | false ↦ elim (eqb m (x .from)) [ true ↦ Kw selfPath | false ↦ parent-same m (parentOf s (x .from)) i ]
+    | true ↦ none
+    | false ↦ elim (eqb m (x .from)) [ true ↦ some selfPath | false ↦ parent-same m (parentOf s (x .from)) i ]
   ]
 
-  keyword-same : (k : KwKind) → keywordOf s x k ≡ keywordOf s y k
+  keyword-same : (k : Option ℕ) → keywordOf s x k ≡ keywordOf s y k
   unfolding keywordOf
-  keyword-same NoKw = refl
-  keyword-same (Kw k) = refl
+  keyword-same none = refl
+  keyword-same (some k) = refl
 
   rules-same : (b : Bool) (m : ℕ) → moduleRules s x b m ≡ moduleRules s y b m
   unfolding moduleRules

@@ -21,8 +21,6 @@ use Rattle.hir_def.specs.declared.Item.{Item}
 use Rattle.hir_def.specs.declared.Item.the-variants.{Mod, Def}
 use Rattle.hir_def.proofs.Plain.{plain, plainly, plainOf, first-plain, name-plain, names-plain}
 use Rattle.find_path.specs.declared.Choice.{Choice}
-use Rattle.find_path.specs.declared.KwKind.{KwKind}
-use Rattle.find_path.specs.declared.KwKind.the-variants.{Kw, NoKw}
 use Rattle.find_path.specs.declared.FindPathCtx.{FindPathCtx}
 use Rattle.find_path.specs.declared.Query.{Query}
 use Rattle.find_path.specs.declared.Question.{Question}
@@ -218,14 +216,14 @@ module _ (s : Snapshot) (x : FindPathCtx) (clear : x .fresh ≡ false) where
   relative-plain : (m : ℕ) → isKwKindRelativeToFrom (plainly s) x m ≡ isKwKindRelativeToFrom s x m
   unfolding isKwKindRelativeToFrom moduleOf mapOf
   relative-plain m = λ i. elim (not (eqb (crateOf s m) (crateOf s (x .from))) || (inBlock s m || inBlock s (x .from))) [
-    | true ↦ NoKw
-    | false ↦ elim (eqb m (x .from)) [ true ↦ Kw selfPath | false ↦ parent-plain m (parentOf s (x .from)) i ]
+    | true ↦ none
+    | false ↦ elim (eqb m (x .from)) [ true ↦ some selfPath | false ↦ parent-plain m (parentOf s (x .from)) i ]
   ]
 
-  keyword-plain : (k : KwKind) → keywordOf (plainly s) x k ≡ keywordOf s x k
+  keyword-plain : (k : Option ℕ) → keywordOf (plainly s) x k ≡ keywordOf s x k
   unfolding keywordOf
-  keyword-plain NoKw = refl
-  keyword-plain (Kw k) = refl
+  keyword-plain none = refl
+  keyword-plain (some k) = refl
 
   rules-plain : (b : Bool) (m : ℕ) → moduleRules (plainly s) x b m ≡ moduleRules s x b m
   unfolding moduleRules

@@ -29,8 +29,6 @@ use Rattle.hir_def.specs.declared.Item.{Item}
 use Rattle.hir_def.specs.declared.Item.the-variants.{Mod, Def}
 use Rattle.hir_def.proofs.Fresh.{preferred-has}
 use Rattle.find_path.specs.declared.Choice.{Choice}
-use Rattle.find_path.specs.declared.KwKind.{KwKind}
-use Rattle.find_path.specs.declared.KwKind.the-variants.{Kw, NoKw}
 use Rattle.find_path.specs.declared.FindPathCtx.{FindPathCtx}
 use Rattle.find_path.specs.declared.Query.{Query}
 use Rattle.find_path.specs.declared.Question.{Question}
@@ -106,9 +104,9 @@ Led s x m item (some e) = Step s x m (e .name) (stepBy viaLocal (e .place)) item
 Led s x m item none = Unit {0}
 
 -- the path of a keyword without names, where it is taken, reaches the module
-abbrev Started : Snapshot → FindPathCtx → ℕ → KwKind → Type 0
-Started s x m (Kw k) = not (eqb (x .prefix) byCrate) || eqb k cratePath ≡ true → Start s x k [] (stepBy viaKeyword 0) (Mod m)
-Started s x m NoKw = Unit {0}
+abbrev Started : Snapshot → FindPathCtx → ℕ → Option ℕ → Type 0
+Started s x m (some k) = not (eqb (x .prefix) byCrate) || eqb k cratePath ≡ true → Start s x k [] (stepBy viaKeyword 0) (Mod m)
+Started s x m none = Unit {0}
 
 module _ (s : Snapshot) where
   module _ (x : FindPathCtx) where
@@ -260,7 +258,7 @@ module _ (s : Snapshot) where
       not-by-crate : (k : ℕ) → eqb k cratePath ≡ false → not (eqb (x .prefix) byCrate) || eqb k cratePath ≡ true → x .prefix ≡ byCrate → ⊥
       not-by-crate k n t e = true≢false (sym t ∙ rw (eq-eqb (x .prefix) byCrate e, n))
 
-      either-started : (m : ℕ) (b : Bool) (k l : KwKind) → (b ≡ true → Started s x m k) → (b ≡ false → Started s x m l)
+      either-started : (m : ℕ) (b : Bool) (k l : Option ℕ) → (b ≡ true → Started s x m k) → (b ≡ false → Started s x m l)
           → Started s x m (elim b [ true ↦ k | false ↦ l ])
       either-started m true k l f g = f refl
       either-started m false k l f g = g refl
@@ -272,7 +270,7 @@ module _ (s : Snapshot) where
           either-started m (eqb m p) _ _
           (λ t.
           let same : p ≡ m = sym (eqb-true m p t) in
-          either-started m (eqb p (rootOf s (mapNo s (x .from)))) (Kw cratePath) (Kw superPath)
+          either-started m (eqb p (rootOf s (mapNo s (x .from)))) (some cratePath) (some superPath)
           (λ r k. crate-start m (rooted .root ∙ sym (own-root s valid (x .from) p e b) ∙ sym (eqb-true p _ r) ∙ same))
           (λ _ k. subst (λ (j : ℕ). Start s x superPath [] (stepBy viaKeyword 0) (Mod j)) same (super p (not-by-crate superPath refl k) e)))
           (λ _. tt)
@@ -280,17 +278,17 @@ module _ (s : Snapshot) where
       keyword-started : (m : ℕ) → Started s x m (isKwKindRelativeToFrom s x m)
       unfolding isKwKindRelativeToFrom
       keyword-started m =
-          either-started m (not (eqb (crateOf s m) (crateOf s (x .from))) || (inBlock s m || inBlock s (x .from))) NoKw _ (λ _. tt)
+          either-started m (not (eqb (crateOf s m) (crateOf s (x .from))) || (inBlock s m || inBlock s (x .from))) none _ (λ _. tt)
           (λ t.
           let f = or-none (inBlock s m) (inBlock s (x .from)) (or-none (not (eqb (crateOf s m) (crateOf s (x .from)))) _ t .1) .1 in
-          either-started m (eqb m (x .from)) (Kw selfPath) _
+          either-started m (eqb m (x .from)) (some selfPath) _
           (λ e k. subst (λ (j : ℕ). Start s x selfPath [] (stepBy viaKeyword 0) (Mod j)) (sym (eqb-true m (x .from) e)) (self (not-by-crate selfPath refl k)))
           (λ _. parent-started m (parentOf s (x .from)) refl (eqb-true (blockOf s (x .from)) 0 (not-false _ f))))
 
-      keyword-of-leads : (m : ℕ) (k : KwKind) → Started s x m k → Leads s x (Mod m) (keywordOf s x k)
+      keyword-of-leads : (m : ℕ) (k : Option ℕ) → Started s x m k → Leads s x (Mod m) (keywordOf s x k)
       unfolding keywordOf
-      keyword-of-leads m NoKw b = nothing-leads
-      keyword-of-leads m (Kw k) b =
+      keyword-of-leads m none b = nothing-leads
+      keyword-of-leads m (some k) b =
           either-leads (not (eqb (x .prefix) byCrate) || eqb k cratePath) _ _ (λ t. keyword-leads m k (b t)) (λ _. nothing-leads)
 
       rules-lead : (b : Bool) (m : ℕ) → (b ≡ false → Near s valid (x .from) m) → Leads s x (Mod m) (moduleRules s x b m)

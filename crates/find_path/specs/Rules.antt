@@ -77,6 +77,11 @@ unfoldable pub firstFound : List Choice → Choice
 firstFound [] = nothing
 firstFound (c ∷ cs) = elim (c .found) [ true ↦ c | false ↦ firstFound cs ]
 
+-- the path kind of a keyword, 1 `self`, 2 `super` or 3 `crate`, or no keyword
+unfoldable pub keywordKind : KwKind → Option ℕ
+keywordKind (Kw k) = some k
+keywordKind NoKw = none
+
 module _ (s : Snapshot) (x : FindPathCtx) where
   -- the single name of an entry, by a rule, or nothing
   unfoldable pub single : ℕ → ℕ → Option Scope → Choice
@@ -137,26 +142,26 @@ module _ (s : Snapshot) (x : FindPathCtx) where
       ]
 
   -- the module is the parent of the viewer's
-  unfoldable pub parentKind : ℕ → ℕ → KwKind
-  parentKind m zero = NoKw
+  unfoldable pub parentKind : ℕ → ℕ → Option ℕ
+  parentKind m zero = none
   parentKind m (suc p) =
       elim (eqb m p) [
-        | true ↦ elim (eqb p (rootOf s (mapNo s (x .from)))) [ true ↦ Kw cratePath | false ↦ Kw superPath ]
-        | false ↦ NoKw
+        | true ↦ elim (eqb p (rootOf s (mapNo s (x .from)))) [ true ↦ some cratePath | false ↦ some superPath ]
+        | false ↦ none
       ]
 
   -- `is_kw_kind_relative_to_from`: the viewer's own module, or its parent, where neither is in a block
-  unfoldable pub isKwKindRelativeToFrom : ℕ → KwKind
+  unfoldable pub isKwKindRelativeToFrom : ℕ → Option ℕ
   isKwKindRelativeToFrom m =
       elim (not (eqb (crateOf s m) (crateOf s (x .from))) || (inBlock s m || inBlock s (x .from))) [
-        | true ↦ NoKw
-        | false ↦ elim (eqb m (x .from)) [ true ↦ Kw selfPath | false ↦ parentKind m (parentOf s (x .from)) ]
+        | true ↦ none
+        | false ↦ elim (eqb m (x .from)) [ true ↦ some selfPath | false ↦ parentKind m (parentOf s (x .from)) ]
       ]
 
   -- ByCrate takes no keyword but `crate`
-  unfoldable pub keywordOf : KwKind → Choice
-  keywordOf NoKw = nothing
-  keywordOf (Kw k) = elim (not (eqb (x .prefix) byCrate) || eqb k cratePath) [ true ↦ keyword k | false ↦ nothing ]
+  unfoldable pub keywordOf : Option ℕ → Choice
+  keywordOf none = nothing
+  keywordOf (some k) = elim (not (eqb (x .prefix) byCrate) || eqb k cratePath) [ true ↦ keyword k | false ↦ nothing ]
 
   -- `find_path_for_module` before its search: root, extern, scope, keyword, prelude, in this order
   unfoldable pub moduleRules : Bool → ℕ → Choice

@@ -4,13 +4,17 @@ ghost use mathlib.Core.List.{List};
 ghost use Prim.Native.Nat.{ℕ, _^_, _<_};
 ghost use lib.Dec.{eqb};
 ghost use Rattle.snapshot.specs.Records.{crateAt, definitionAt};
+ghost use Rattle.snapshot.specs.Ids.{plusOne};
 ghost use Rattle.snapshot.specs.Layouts.{wordCount, snapOf};
 ghost use Rattle.hir_def.specs.Items.{definitionOf, crateData, isLang, itemOf, sameItem, nsOf, homeBy, homeOf};
 ghost use Rattle.hir_def.specs.Entries.{Known, ReadsAs};
 use crate::Item;
 use snapshot::ids::Crate;
 use snapshot::ids::DefinitionId;
+use snapshot::ids::DefinitionKind;
+use snapshot::ids::ModuleId;
 use snapshot::ids::Namespace;
+use snapshot::ids::OptModule;
 use snapshot::kind::Size;
 use snapshot::layout::Layout;
 use snapshot::record::crate_edition;
@@ -19,19 +23,6 @@ use snapshot::record::crate_origin;
 use snapshot::record::definition_first;
 use snapshot::record::definition_kind;
 use snapshot::record::definition_second;
-
-/// Kinds of definitions; 4 is any other.
-pub struct DefinitionKind(pub usize);
-
-impl DefinitionKind {
-    pub const MODULE: usize = 1;
-
-    pub const VARIANT: usize = 2;
-
-    pub const BUILTIN: usize = 3;
-
-    pub const MACRO: usize = 5;
-}
 
 /// The place of a definition's head; past the words, which read as 0, where there is no such definition.
 pub fn definition_head(words: &[u32], l: Layout, d: DefinitionId) -> usize
@@ -147,30 +138,30 @@ pub fn ns_of(item: Item) -> usize
     }
 }
 
-// The home +1 of the definition with its head at a place.
-fn home_at(words: &[u32], l: Layout, h: usize) -> usize
+// The home of the definition with its head at a place.
+fn home_at(words: &[u32], l: Layout, h: usize) -> OptModule
     requires { ⌜ wordCount l < 2 ^ 32 ⌝ }
-    ensures { λ r. ⌜ ((A : List ℕ) → r ≡ homeBy (snapOf (now (words .entry)) A l) (definitionAt (now (words .entry)) h .kind) (definitionAt (now (words .entry)) h .first)) ⌝ }
+    ensures { λ r. ⌜ ((A : List ℕ) → plusOne r ≡ homeBy (snapOf (now (words .entry)) A l) (definitionAt (now (words .entry)) h .kind) (definitionAt (now (words .entry)) h .first)) ⌝ }
 {
     let kind = definition_kind(words, h);
     let first = definition_first(words, h);
     if kind == DefinitionKind::BUILTIN {
-        return 0;
+        return OptModule::NoModule;
     }
     if kind == DefinitionKind::VARIANT {
         let parent = definition_head(words, l, DefinitionId(first));
-        return definition_first(words, parent) + 1;
+        return OptModule::Module(ModuleId(definition_first(words, parent)));
     }
-    first + 1
+    OptModule::Module(ModuleId(first))
 }
 
-/// The home of an item, +1: its module, a module itself, its parent's for a variant; none for a builtin.
-pub fn home_of(words: &[u32], l: Layout, item: Item) -> usize
-    requires { ⌜ (wordCount l < 2 ^ 32) × Known l item ⌝ }
-    ensures { λ r. ⌜ ((A : List ℕ) → r ≡ homeOf (snapOf (now (words .entry)) A l) item) ⌝ }
+/// The home of an item: its module, a module itself, its parent's for a variant; none for a builtin.
+pub fn home_of(words: &[u32], l: Layout, item: Item) -> OptModule
+    requires { ⌜ wordCount l < 2 ^ 32 ⌝ }
+    ensures { λ r. ⌜ ((A : List ℕ) → plusOne r ≡ homeOf (snapOf (now (words .entry)) A l) item) ⌝ }
 {
     match item {
-        Item::Mod(m) => m + 1,
+        Item::Mod(m) => OptModule::Module(ModuleId(m)),
         Item::Def(_, d) => home_at(words, l, definition_head(words, l, DefinitionId(d))),
     }
 }

@@ -23,6 +23,7 @@ use record_rules::judge::judge;
 use record_rules::names::is_builtin;
 use records::repeats::repeated;
 use snapshot::ids::DefinitionId;
+use snapshot::ids::DefinitionKind;
 use snapshot::ids::Name;
 use snapshot::ids::Namespace;
 use snapshot::kind::Size;
@@ -46,14 +47,14 @@ pub fn ns_placed(words: &[u32], l: Layout, ns: usize, d: DefinitionId) -> bool
     requires { ⌜ (wordCount l < 2 ^ 32) × (d .0 < 2 ^ 32) ⌝ }
     ensures { λ r. ⌜ r ≡ (not (eqb ns 2) || eqb (definitionAt (now (words .entry)) (definitionBase l + definitionSize * d .0) .kind) 5) ⌝ }
 {
-    (ns != Namespace::MACROS) | (kind_at(words, l, d) == 5)
+    (ns != Namespace::MACROS) | (kind_at(words, l, d) == DefinitionKind::MACRO)
 }
 
 // A builtin's name, where it is defined, is one of the builtins.
 fn builtin_named(words: &[u32], area: &[u32], l: Layout, at: usize) -> bool
     ensures { λ r. ⌜ r ≡ (not (eqb (definitionAt (now (words .entry)) at .kind) 3) || leb (l .names) (definitionAt (now (words .entry)) at .first) || isBuiltin (nameAt (now (words .entry)) (nameHead (now (area .entry)) (definitionAt (now (words .entry)) at .first)))) ⌝ }
 {
-    if definition_kind(words, at) != 3 {
+    if definition_kind(words, at) != DefinitionKind::BUILTIN {
         return true;
     }
     let first = definition_first(words, at);
@@ -69,7 +70,10 @@ fn in_range(words: &[u32], area: &[u32], l: Layout, at: usize) -> bool
     let kind = definition_kind(words, at);
     let second = definition_second(words, at);
     let builtin = builtin_named(words, area, l, at);
-    (1 <= kind) & (kind <= 5) & ((kind == 2) | (second == 0)) & builtin
+    (DefinitionKind::MODULE <= kind)
+        & (kind <= DefinitionKind::MACRO)
+        & ((kind == DefinitionKind::VARIANT) | (second == 0))
+        & builtin
 }
 
 fn defined(words: &[u32], l: Layout, at: usize) -> bool
@@ -78,9 +82,14 @@ fn defined(words: &[u32], l: Layout, at: usize) -> bool
     let kind = definition_kind(words, at);
     let first = definition_first(words, at);
     let second = definition_second(words, at);
-    let variant = (kind != 2) | ((first < l.definitions) & (second < l.names));
-    let builtin = (kind != 3) | (first < l.names);
-    variant & builtin & ((kind == 2) | (kind == 3) | (first < l.modules))
+    let variant = (kind != DefinitionKind::VARIANT)
+        | ((first < l.definitions) & (second < l.names));
+    let builtin = (kind != DefinitionKind::BUILTIN) | (first < l.names);
+    variant
+        & builtin
+        & ((kind == DefinitionKind::VARIANT)
+            | (kind == DefinitionKind::BUILTIN)
+            | (first < l.modules))
 }
 
 fn placed(words: &[u32], l: Layout, at: usize) -> bool
@@ -88,7 +97,8 @@ fn placed(words: &[u32], l: Layout, at: usize) -> bool
     ensures { λ r. ⌜ r ≡ (not (eqb (definitionAt (now (words .entry)) at .kind) 2) || eqb (definitionAt (now (words .entry)) (definitionBase l + definitionSize * definitionAt (now (words .entry)) at .first) .kind) 4) ⌝ }
 {
     let parent = DefinitionId(definition_first(words, at));
-    (definition_kind(words, at) != 2) | (kind_at(words, l, parent) == 4)
+    (definition_kind(words, at) != DefinitionKind::VARIANT)
+        | (kind_at(words, l, parent) == DefinitionKind::OTHER)
 }
 
 // A module or a builtin that has a definition already; the other kinds may stand again.
@@ -98,10 +108,10 @@ fn again(words: &[u32], area: &[u32], l: Layout, at: usize) -> bool
     ensures { λ r. ⌜ ((definitionAt (now (words .entry)) at .kind ≡ 1 → definitionAt (now (words .entry)) at .first < moduleLimit) → r ≡ ((eqb (definitionAt (now (words .entry)) at .kind) 1 || eqb (definitionAt (now (words .entry)) at .kind) 3) && any (sameBy (now (words .entry)) true 1 at) (rows (λ k. definitionBase l + definitionSize * k) 0 (l .definitions)))) ⌝ }
 {
     let kind = definition_kind(words, at);
-    if (kind != 1) & (kind != 3) {
+    if (kind != DefinitionKind::MODULE) & (kind != DefinitionKind::BUILTIN) {
         return false;
     }
-    if kind == 1 {
+    if kind == DefinitionKind::MODULE {
         let mark = Chains::MODULE_MARKS + definition_first(words, at);
         return word(area, mark) != 0;
     }

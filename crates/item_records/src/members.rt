@@ -13,6 +13,7 @@ ghost use Rattle.record_rules.specs.Stands.{Ready, Stands, Answered, countsIn};
 use crate::definitions::kind_at;
 use record_rules::judge::Step;
 use record_rules::judge::judge;
+use snapshot::ids::DefinitionKind;
 use snapshot::kind::Size;
 use snapshot::layout::Layout;
 use snapshot::record::definition_first;
@@ -49,7 +50,8 @@ fn fits(words: &[u32], at: usize, head: usize) -> bool
     let of = definition_kind(words, head);
     let owned = definition_first(words, head) == parent.0;
     let named = definition_second(words, head) == name.0;
-    ((kind != 0) | ((of == 2) & owned & named)) & ((kind == 0) | (of == 4))
+    ((kind != 0) | ((of == DefinitionKind::VARIANT) & owned & named))
+        & ((kind == 0) | (of == DefinitionKind::OTHER))
 }
 
 fn placed(words: &[u32], l: Layout, at: usize) -> bool
@@ -59,7 +61,7 @@ fn placed(words: &[u32], l: Layout, at: usize) -> bool
     let parent = kind_at(words, l, member_parent(words, at));
     let definition = member_definition(words, at);
     let head = l.definition_base() + Size::DEFINITION * definition.0;
-    (parent == 4) & fits(words, at, head)
+    (parent == DefinitionKind::OTHER) & fits(words, at, head)
 }
 
 /// A member.

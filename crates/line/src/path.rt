@@ -10,6 +10,7 @@ ghost use Rattle.line.specs.Joints.{jointIf};
 use crate::text::put_name;
 use printing::output::put;
 use snapshot::ids::Name;
+use snapshot::ids::PathKind;
 use snapshot::layout::Layout;
 
 // Puts what stands before the names, and no joint.
@@ -18,13 +19,13 @@ fn put_prefix(out: &mut [u8], at: usize, kind: usize) -> usize
     ensures { λ r. ⌜ Put (now (out .entry)) at (joined (bytesOf "::") (prefixParts kind)) (now (out .exit)) r ⌝ }
     ensures { λ r. ⌜ r ≤ at + 5 ⌝ }
 {
-    if kind == 1 {
+    if kind == PathKind::SELF {
         return put(out, at, b"self");
     }
-    if kind == 2 {
+    if kind == PathKind::SUPER {
         return put(out, at, b"super");
     }
-    if kind == 3 {
+    if kind == PathKind::CRATE {
         return put(out, at, b"crate");
     }
     at
@@ -69,7 +70,8 @@ pub(crate) fn put_path(
     ensures { λ r. ⌜ Put (now (out .entry)) at (joined (bytesOf "::") (prefixParts kind ++ map (writtenOf (snapOf (now (words .entry)) (now (area .entry)) l) edition) (take count (now (names .entry))))) (now (out .exit)) r ⌝ }
     ensures { λ r. ⌜ r ≤ at + 4117 ⌝ }
 {
-    let leading = (kind == 1) | ((kind == 2) | ((kind == 3) | (kind == 4)));
+    let leading = (kind == PathKind::SELF)
+        | ((kind == PathKind::SUPER) | ((kind == PathKind::CRATE) | (kind == PathKind::ABSOLUTE)));
     let mut to = put_prefix(out, at, kind);
     let mut i = 0;
     while i < count {

@@ -1,5 +1,5 @@
 -- The modules that go to a run, one after the other: children, containing modules, and those that a module leads to.
-use Prim.Native.Nat.{ℕ, _+_, _-_, _*_, _≤_, _<_}
+use Prim.Native.Nat.{ℕ, suc, _+_, _-_, _*_, _≤_, _<_}
 use mathlib.Core.Path.{_≡_, sym, _∙_, ap, ap₂}
 use mathlib.Core.List.{List, [], _∷_, map}
 use mathlib.Core.Bool.{Bool, true, false, _&&_}
@@ -27,7 +27,6 @@ use Rattle.hir_def.specs.Nameres.{childrenOf, containers, steps, stepsOr}
 use Rattle.hir_def.specs.Entries.{leftOf, Meets, Ends}
 use Rattle.hir_def.proofs.Laws.{Falls, steps-more}
 use Rattle.hir_def.proofs.Chains.{containing-falls}
-use Rattle.hir_def.proofs.Climbs.{one-more}
 use Rattle.hir_def.proofs.Reading.{length-modules}
 use Rattle.hir_def.proofs.Lookups.{modules-whole}
 use Rattle.hir_def.proofs.Fits.{module-meets, module-known}
@@ -89,13 +88,13 @@ module _ (W A : List ℕ) (l : Layout) (r : Reads W A l) (m : ℕ) (h : m < l .m
   unfolding containers stepsOr
   containers-end z = steps-more (containing snap) (length (snap .modules)) falls m known ∙ ap (stepsOr (steps (containing snap))) (sym e ∙ z)
 
-  pub containers-on : (c ≡ 0 → ⊥) → containers snap m ≡ (c - 1) ∷ containers snap (c - 1)
+  pub containers-on : {p : ℕ} → c ≡ suc p → containers snap m ≡ p ∷ containers snap p
   unfolding containers stepsOr
   containers-on n =
-      steps-more (containing snap) (length (snap .modules)) falls m known ∙ ap (stepsOr (steps (containing snap))) (sym e ∙ one-more c n)
+      steps-more (containing snap) (length (snap .modules)) falls m known ∙ ap (stepsOr (steps (containing snap))) (sym e ∙ n)
 
-  pub containers-less : (c ≡ 0 → ⊥) → c - 1 < m
-  containers-less n = falls m (c - 1) known (sym e ∙ one-more c n)
+  pub containers-less : {p : ℕ} → c ≡ suc p → p < m
+  containers-less {p} n = falls m p known (sym e ∙ n)
 
 -- the modules that a module leads to, of the entries from the number k on
 module _ (W A : List ℕ) (l : Layout) (from m : ℕ) where

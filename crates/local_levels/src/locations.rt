@@ -25,6 +25,7 @@ use hir_def::modules::krate;
 use hir_def::visibility::is_visible_from;
 use item_scope::next_module;
 use snapshot::ids::ModuleId;
+use snapshot::ids::OptModule;
 use snapshot::kind::Size;
 use snapshot::layout::Layout;
 use snapshot::record::child_child;
@@ -76,14 +77,13 @@ fn push_containers(
     ensures { λ r. ⌜ Pushed (now (area .entry)) s n item (containers (snapOf (now (words .entry)) (now (area .entry)) l) (from .0)) (now (area .exit)) r ⌝ }
 {
     let mut run = n;
-    let mut m = from.0;
+    let mut m = from;
     loop {
-        let c = containing(words, area, l, ModuleId(m));
-        if c == 0 {
+        let OptModule::Module(c) = containing(words, area, l, m) else {
             return run;
-        }
-        m = c - 1;
-        run = push_module(area, s, run, item, m);
+        };
+        m = c;
+        run = push_module(area, s, run, item, m.0);
     }
 }
 

@@ -4,7 +4,6 @@ ghost use Rattle.snapshot.specs.Layouts.{wordCount};
 ghost use Rattle.accept.specs.Post.{Reads};
 use crate_graph::extern_of;
 use hir_def::Entry;
-use hir_def::Item;
 use hir_def::items::home_of;
 use hir_def::items::item_of;
 use hir_def::modules::containing;
@@ -19,6 +18,7 @@ use snapshot::ids::Crate;
 use snapshot::ids::DefinitionId;
 use snapshot::ids::ModuleId;
 use snapshot::ids::Name;
+use snapshot::ids::OptModule;
 use snapshot::layout::Layout;
 use snapshot::record::extern_name;
 use snapshot::record::scope_definition;
@@ -40,12 +40,12 @@ fn yes_or_no(b: bool) -> Reply {
     Reply::No
 }
 
-// A number, of number +1.
-fn number_before(n: usize) -> Reply {
-    if n == 0 {
-        return Reply::Nothing;
+// The number of a module.
+fn number_of(m: OptModule) -> Reply {
+    match m {
+        OptModule::Module(n) => Reply::Number(n.0),
+        OptModule::NoModule => Reply::Nothing,
     }
-    Reply::Number(n - 1)
 }
 
 // The name of an entry.
@@ -199,7 +199,7 @@ fn container(words: &[u32], area: &[u32], l: Layout, m: usize) -> Reply
     if l.modules <= m {
         return Reply::OutOfRange;
     }
-    number_before(containing(words, area, l, ModuleId(m)))
+    number_of(containing(words, area, l, ModuleId(m)))
 }
 
 fn extern_named(words: &[u32], l: Layout, c: usize, m: usize) -> Reply
@@ -226,20 +226,7 @@ fn home(words: &[u32], l: Layout, ns: usize, d: usize) -> Reply
         return Reply::OutOfRange;
     }
     let item = item_of(words, l, ns, DefinitionId(d));
-    match item {
-        Item::Mod(m) => {
-            if l.modules <= m {
-                return Reply::OutOfRange;
-            }
-            number_before(home_of(words, l, Item::Mod(m)))
-        }
-        Item::Def(n, e) => {
-            if l.definitions <= e {
-                return Reply::OutOfRange;
-            }
-            number_before(home_of(words, l, Item::Def(n, e)))
-        }
-    }
+    number_of(home_of(words, l, item))
 }
 
 /// The answer to the query with that code and those numbers.

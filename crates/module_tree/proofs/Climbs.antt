@@ -1,18 +1,37 @@
 -- The walk of visibility, step by step.
-use Prim.Native.Nat.{ℕ, zero, suc, _-_, _<_}
-use mathlib.Core.Path.{_≡_, refl, sym, _∙_}
-use mathlib.Core.Bool.{true, false}
+use Prim.Native.Nat.{ℕ, zero, suc, _+_, _-_, _<_}
+use mathlib.Core.Path.{_≡_, refl, sym, ap, _∙_}
+use mathlib.Core.Bool.{true, false, not}
 use native.Mathlib.Omega.{arith}
 use lib.ListN.{length}
 use lib.Dec.{eqb}
 use borrow.Author.Tests.{eq-eqb, ne-eqb}
 use Rattle.snapshot.specs.Records.{Snapshot}
 use Rattle.module_tree.specs.Modules.{mapNo, crateOf, blockOf, containing}
+use Rattle.snapshot.specs.Ids.{plusOne}
+use Rattle.snapshot.specs.declared.ids.OptModule.{OptModule}
+use Rattle.snapshot.specs.declared.ids.OptModule.the-variants.{Module, NoModule}
+use Rattle.snapshot.specs.declared.ids.ModuleId.{ModuleId}
 use Rattle.module_tree.specs.Visibility.{lastOr, metOr, met, unless, climbStep, climb, inModule, isVisibleFrom}
 use Rattle.module_tree.proofs.Laws.{Falls, last-more, met-more}
 
 pub one-more : (b : ℕ) → (b ≡ 0 → ⊥) → b ≡ suc (b - 1)
 one-more b h = omega arith
+
+after : (n : ℕ) → n + 1 ≡ suc n
+after n = omega arith
+
+-- what an answer says of its number
+pub is-some : {n : ℕ} (o : OptModule) {m : ModuleId} → plusOne o ≡ n → o ≡ Module m → n ≡ suc (m .0)
+unfolding plusOne
+is-some o {m} e h = sym e ∙ ap plusOne h ∙ after (m .0)
+
+pub is-none : {n : ℕ} (o : OptModule) → plusOne o ≡ n → o ≡ NoModule → n ≡ 0
+unfolding plusOne
+is-none o e h = sym e ∙ ap plusOne h
+
+pub some-not : {n k : ℕ} → n ≡ suc k → true ≡ not (eqb n 0)
+some-not {n} e = rw (ne-eqb n 0 (λ z. omega (arith, e, z)))
 
 module _ (s : Snapshot) (k : ℕ) (falls : Falls (climbStep s k) (length (s .modules))) (t : ℕ) (h : t < length (s .modules)) where
   climb-more : climb s k t ≡ lastOr (climb s k) t (unless (eqb (mapNo s t) k) (blockOf s t))

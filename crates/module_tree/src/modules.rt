@@ -2,11 +2,14 @@
 ghost use mathlib.Core.Path.{_≡_};
 ghost use Prim.Native.Nat.{_<_};
 ghost use lib.Dec.{eqb};
+ghost use Rattle.snapshot.specs.Ids.{plusOne};
 ghost use Rattle.snapshot.specs.Layouts.{snapOf};
 ghost use Rattle.accept.specs.Post.{Reads};
 ghost use Rattle.module_tree.specs.Modules.{mapNo, mapOf, crateOf, parentOf, blockOf, inBlock as inBlockOf, containing as containingOf, rootOf, ownMap, crateRoot};
 use snapshot::ids::Crate;
 use snapshot::ids::ModuleId;
+use snapshot::ids::OptModule;
+use snapshot::ids::opt_module;
 use snapshot::layout::Layout;
 use snapshot::record::map_block;
 use snapshot::record::map_crate;
@@ -33,20 +36,20 @@ pub fn krate(words: &[u32], area: &[u32], l: Layout, m: ModuleId) -> Crate
     map_crate(words, module_head(area, m))
 }
 
-/// The parent of a module in its own map, +1.
-pub fn parent(words: &[u32], area: &[u32], l: Layout, m: ModuleId) -> usize
+/// The parent of a module in its own map.
+pub fn parent(words: &[u32], area: &[u32], l: Layout, m: ModuleId) -> OptModule
     requires { ⌜ Reads (now words) (now area) l × (m .0 < l .modules) ⌝ }
-    ensures { λ r. ⌜ r ≡ parentOf (snapOf (now (words .entry)) (now (area .entry)) l) (m .0) ⌝ }
+    ensures { λ r. ⌜ plusOne r ≡ parentOf (snapOf (now (words .entry)) (now (area .entry)) l) (m .0) ⌝ }
 {
-    module_parent(area, m)
+    opt_module(module_parent(area, m))
 }
 
-/// The parent module of the block that a module's map belongs to, +1.
-pub fn block(words: &[u32], area: &[u32], l: Layout, m: ModuleId) -> usize
+/// The parent module of the block that a module's map belongs to.
+pub fn block(words: &[u32], area: &[u32], l: Layout, m: ModuleId) -> OptModule
     requires { ⌜ Reads (now words) (now area) l × (m .0 < l .modules) ⌝ }
-    ensures { λ r. ⌜ r ≡ blockOf (snapOf (now (words .entry)) (now (area .entry)) l) (m .0) ⌝ }
+    ensures { λ r. ⌜ plusOne r ≡ blockOf (snapOf (now (words .entry)) (now (area .entry)) l) (m .0) ⌝ }
 {
-    map_block(words, module_head(area, m))
+    opt_module(map_block(words, module_head(area, m)))
 }
 
 /// Whether a module stands in a block.
@@ -54,7 +57,10 @@ pub fn in_block(words: &[u32], area: &[u32], l: Layout, m: ModuleId) -> bool
     requires { ⌜ Reads (now words) (now area) l × (m .0 < l .modules) ⌝ }
     ensures { λ r. ⌜ r ≡ inBlockOf (snapOf (now (words .entry)) (now (area .entry)) l) (m .0) ⌝ }
 {
-    block(words, area, l, m) != 0
+    match block(words, area, l, m) {
+        OptModule::Module(_) => true,
+        OptModule::NoModule => false,
+    }
 }
 
 /// Whether a module's map is no_std.
@@ -65,16 +71,15 @@ pub fn no_std(words: &[u32], area: &[u32], l: Layout, m: ModuleId) -> bool
     map_no_std(words, module_head(area, m)) == 1
 }
 
-/// The containing module, +1: the parent, and from a map's root the block's parent.
-pub fn containing(words: &[u32], area: &[u32], l: Layout, m: ModuleId) -> usize
+/// The containing module: the parent, and from a map's root the block's parent.
+pub fn containing(words: &[u32], area: &[u32], l: Layout, m: ModuleId) -> OptModule
     requires { ⌜ Reads (now words) (now area) l × (m .0 < l .modules) ⌝ }
-    ensures { λ r. ⌜ r ≡ containingOf (snapOf (now (words .entry)) (now (area .entry)) l) (m .0) ⌝ }
+    ensures { λ r. ⌜ plusOne r ≡ containingOf (snapOf (now (words .entry)) (now (area .entry)) l) (m .0) ⌝ }
 {
-    let p = parent(words, area, l, m);
-    if p != 0 {
-        return p;
-    }
-    block(words, area, l, m)
+    let OptModule::Module(p) = parent(words, area, l, m) else {
+        return block(words, area, l, m);
+    };
+    OptModule::Module(p)
 }
 
 /// The root of a map.

@@ -10,6 +10,7 @@ use crate::modules::containing;
 use crate::modules::krate;
 use crate::modules::map;
 use snapshot::ids::ModuleId;
+use snapshot::ids::OptModule;
 use snapshot::layout::Layout;
 
 // The target, climbed out of block maps until its map is the viewer's or a crate's own.
@@ -17,15 +18,14 @@ fn climb(words: &[u32], area: &[u32], l: Layout, viewer: usize, target: ModuleId
     requires { ⌜ Reads (now words) (now area) l × (target .0 < l .modules) ⌝ }
     ensures { λ r. ⌜ (r .0 ≡ climbOf (snapOf (now (words .entry)) (now (area .entry)) l) viewer (target .0)) × (r .0 < l .modules) ⌝ }
 {
-    let mut t = target.0;
-    while map(words, area, l, ModuleId(t)) != viewer {
-        let b = block(words, area, l, ModuleId(t));
-        if b == 0 {
-            return ModuleId(t);
-        }
-        t = b - 1;
+    let mut t = target;
+    while map(words, area, l, t) != viewer {
+        let OptModule::Module(b) = block(words, area, l, t) else {
+            return t;
+        };
+        t = b;
     }
-    ModuleId(t)
+    t
 }
 
 // Whether a module is met on the way from the viewer through its containing modules.
@@ -33,14 +33,13 @@ fn meets(words: &[u32], area: &[u32], l: Layout, viewer: ModuleId, target: Modul
     requires { ⌜ Reads (now words) (now area) l × (viewer .0 < l .modules) ⌝ }
     ensures { λ r. ⌜ r ≡ metOf (containingOf (snapOf (now (words .entry)) (now (area .entry)) l)) (viewer .0) (target .0) ⌝ }
 {
-    let mut v = viewer.0;
+    let mut v = viewer;
     let t = target.0;
-    while v != t {
-        let c = containing(words, area, l, ModuleId(v));
-        if c == 0 {
+    while v.0 != t {
+        let OptModule::Module(c) = containing(words, area, l, v) else {
             return false;
-        }
-        v = c - 1;
+        };
+        v = c;
     }
     true
 }

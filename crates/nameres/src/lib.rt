@@ -17,6 +17,7 @@ use item_scope::get;
 use snapshot::ids::ModuleId;
 use snapshot::ids::Name;
 use snapshot::ids::Namespace;
+use snapshot::ids::OptModule;
 use snapshot::layout::Layout;
 use snapshot::record::scope_definition;
 use snapshot::record::scope_ns;
@@ -35,17 +36,16 @@ pub fn scope_entry(
     requires { ⌜ Reads (now words) (now area) l × (from .0 < l .modules) ⌝ }
     ensures { λ r. ⌜ entryOf scopeAt (now (words .entry)) r ≡ scopeEntry (snapOf (now (words .entry)) (now (area .entry)) l) (from .0) item «declared_only» fresh ⌝ }
 {
-    let mut m = from.0;
+    let mut m = from;
     loop {
-        let e = entry_in(words, l, ModuleId(m), item, declared_only, fresh).entry;
+        let e = entry_in(words, l, m, item, declared_only, fresh).entry;
         if let Entry::At(h) = e {
             return Entry::At(h);
         }
-        let b = block(words, area, l, ModuleId(m));
-        if b == 0 {
+        let OptModule::Module(b) = block(words, area, l, m) else {
             return Entry::Nothing;
-        }
-        m = b - 1;
+        };
+        m = b;
     }
 }
 
@@ -61,17 +61,16 @@ pub fn entry_named(
     requires { ⌜ Reads (now words) (now area) l × (from .0 < l .modules) ⌝ }
     ensures { λ r. ⌜ entryOf scopeAt (now (words .entry)) r ≡ entryNamed (snapOf (now (words .entry)) (now (area .entry)) l) (from .0) ns (name .0) ⌝ }
 {
-    let mut m = from.0;
+    let mut m = from;
     loop {
-        let e = get(words, l, ModuleId(m), ns, name);
+        let e = get(words, l, m, ns, name);
         if let Entry::At(h) = e {
             return Entry::At(h);
         }
-        let b = block(words, area, l, ModuleId(m));
-        if b == 0 {
+        let OptModule::Module(b) = block(words, area, l, m) else {
             return Entry::Nothing;
-        }
-        m = b - 1;
+        };
+        m = b;
     }
 }
 
@@ -99,16 +98,15 @@ pub fn occupied(
     requires { ⌜ Reads (now words) (now area) l × (from .0 < l .modules) ⌝ }
     ensures { λ r. ⌜ r ≡ occupiedBy (snapOf (now (words .entry)) (now (area .entry)) l) (from .0) (m .0) (name .0) ⌝ }
 {
-    let mut a = from.0;
+    let mut a = from;
     loop {
-        let e = get(words, l, ModuleId(a), Namespace::TYPES, name);
+        let e = get(words, l, a, Namespace::TYPES, name);
         if is_other(words, l, e, m) {
             return true;
         }
-        let b = block(words, area, l, ModuleId(a));
-        if b == 0 {
+        let OptModule::Module(b) = block(words, area, l, a) else {
             return false;
-        }
-        a = b - 1;
+        };
+        a = b;
     }
 }

@@ -32,7 +32,7 @@ use Rattle.find_path.specs.declared.KwKind.the-variants.{Kw, NoKw}
 use Rattle.find_path.specs.declared.FindPathCtx.{FindPathCtx}
 use Rattle.find_path.specs.Choices.{viaScope, viaExtern, stepBy, nothing, keyword, choiceNew}
 use Rattle.find_path.specs.Conditions.{EntryFits}
-use Rattle.find_path.specs.Rules.{prefixPathKind, firstFound, single, findInScope, mayBeInScope, scopeRule, isUsable, preludeEntry, inPrelude, findInPrelude, externKind, externName, rootRule, parentKind, isKwKindRelativeToFrom, keywordOf}
+use Rattle.find_path.specs.Rules.{prefixPathKind, firstFound, single, findInScope, mayBeInScope, scopeRule, isUsable, preludeEntry, inPrelude, findInPrelude, externKind, externName, rootRule, parentKind, keywordKind, isKwKindRelativeToFrom, keywordOf}
 use Rattle.path_choices.proofs.ChoiceLaws.{taken-true, taken-false}
 
 pub prefix-past : (p : ℕ) → 3 ≤ p → 0 ≡ prefixPathKind p
@@ -137,54 +137,63 @@ module _ (s : Snapshot) (x : FindPathCtx) where
     root-extern e t eo =
         ap (externName s x m) eo ∙ taken-false (keyword 3) _ (not b || eqb m (x .root)) t ∙ taken-true _ nothing (eqb (crateRoot s m) m) (at-root e)
 
-  pub parent-no : (m p : ℕ) → (p ≡ m + 1 → ⊥) → NoKw ≡ parentKind s x m p
+  pub parent-none : (m p : ℕ) → p ≡ 0 → none ≡ parentKind s x m p
   unfolding parentKind
-  parent-no m zero h = refl
-  parent-no m (suc q) h = taken-false _ NoKw (eqb m q) (ne-eqb m q (λ e. h (omega arith)))
+  parent-none m zero h = refl
+  parent-none m (suc q) h = absurd (omega arith)
+
+  pub parent-no : (m p : ℕ) {q : ℕ} → p ≡ suc q → (q ≡ m → ⊥) → none ≡ parentKind s x m p
+  unfolding parentKind
+  parent-no m zero e h = refl
+  parent-no m (suc q) e h = taken-false _ none (eqb m q) (ne-eqb m q (λ z. h (omega (arith, e, z))))
 
   module _ (m : ℕ) {k r : ℕ} (ek : k ≡ mapNo s (x .from)) (er : r ≡ rootOf s k) where
     rooted : r ≡ rootOf s (mapNo s (x .from))
     rooted = er ∙ ap (rootOf s) ek
 
-    pub parent-crate : (p : ℕ) → p ≡ m + 1 → m ≡ r → Kw 3 ≡ parentKind s x m p
+    pub parent-crate : (p : ℕ) {q : ℕ} → p ≡ suc q → q ≡ m → m ≡ r → some 3 ≡ parentKind s x m p
     unfolding parentKind
-    parent-crate zero e f = absurd (omega arith)
-    parent-crate (suc q) e f =
+    parent-crate zero e g f = absurd (omega arith)
+    parent-crate (suc q) e g f =
         let same : m ≡ q = omega arith in
-        taken-true (Kw 3) (Kw 2) _ (eq-eqb q _ (sym same ∙ f ∙ rooted)) ∙ taken-true _ NoKw (eqb m q) (eq-eqb m q same)
+        taken-true (some 3) (some 2) _ (eq-eqb q _ (sym same ∙ f ∙ rooted)) ∙ taken-true _ none (eqb m q) (eq-eqb m q same)
 
-    pub parent-super : (p : ℕ) → p ≡ m + 1 → (m ≡ r → ⊥) → Kw 2 ≡ parentKind s x m p
+    pub parent-super : (p : ℕ) {q : ℕ} → p ≡ suc q → q ≡ m → (m ≡ r → ⊥) → some 2 ≡ parentKind s x m p
     unfolding parentKind
-    parent-super zero e f = absurd (omega arith)
-    parent-super (suc q) e f =
+    parent-super zero e g f = absurd (omega arith)
+    parent-super (suc q) e g f =
         let same : m ≡ q = omega arith in
-        taken-false (Kw 3) (Kw 2) _ (ne-eqb q _ (λ z. f (same ∙ z ∙ sym rooted))) ∙ taken-true _ NoKw (eqb m q) (eq-eqb m q same)
+        taken-false (some 3) (some 2) _ (ne-eqb q _ (λ z. f (same ∙ z ∙ sym rooted))) ∙ taken-true _ none (eqb m q) (eq-eqb m q same)
 
   module _ (m : ℕ) {c d : ℕ} {a b : Bool} (ec : c ≡ crateOf s m) (ed : d ≡ crateOf s (x .from)) (ea : a ≡ inBlock s m) (eb : b ≡ inBlock s (x .from)) where
     apart : not (eqb c d) || (a || b) ≡ (not (eqb (crateOf s m) (crateOf s (x .from))) || (inBlock s m || inBlock s (x .from)))
     apart = cc
 
-    pub kw-none : not (eqb c d) || (a || b) ≡ true → NoKw ≡ isKwKindRelativeToFrom s x m
+    pub kw-none : not (eqb c d) || (a || b) ≡ true → none ≡ isKwKindRelativeToFrom s x m
     unfolding isKwKindRelativeToFrom
-    kw-none t = taken-true NoKw _ _ (sym apart ∙ t)
+    kw-none t = taken-true none _ _ (sym apart ∙ t)
 
-    pub kw-self : not (eqb c d) || (a || b) ≡ false → m ≡ x .from → Kw 1 ≡ isKwKindRelativeToFrom s x m
+    pub kw-self : not (eqb c d) || (a || b) ≡ false → m ≡ x .from → some 1 ≡ isKwKindRelativeToFrom s x m
     unfolding isKwKindRelativeToFrom
-    kw-self t e = taken-true (Kw 1) _ (eqb m (x .from)) (eq-eqb m _ e) ∙ taken-false NoKw _ _ (sym apart ∙ t)
+    kw-self t e = taken-true (some 1) _ (eqb m (x .from)) (eq-eqb m _ e) ∙ taken-false none _ _ (sym apart ∙ t)
 
     pub kw-parent : not (eqb c d) || (a || b) ≡ false → (m ≡ x .from → ⊥) → parentKind s x m (parentOf s (x .from)) ≡ isKwKindRelativeToFrom s x m
     unfolding isKwKindRelativeToFrom
-    kw-parent t e = taken-false (Kw 1) _ (eqb m (x .from)) (ne-eqb m _ e) ∙ taken-false NoKw _ _ (sym apart ∙ t)
+    kw-parent t e = taken-false (some 1) _ (eqb m (x .from)) (ne-eqb m _ e) ∙ taken-false none _ _ (sym apart ∙ t)
 
-  pub keyword-none : {k : KwKind} → k ≡ NoKw → nothing ≡ keywordOf s x k
-  unfolding keywordOf
-  keyword-none e = sym (ap (keywordOf s x) e)
+  pub keyword-none : {k : KwKind} {o : Option ℕ} → keywordKind k ≡ o → k ≡ NoKw → nothing ≡ keywordOf s x o
+  unfolding keywordKind keywordOf
+  keyword-none q e = ap (keywordOf s x) (sym (ap keywordKind e) ∙ q)
 
-  module _ (n : ℕ) {k : KwKind} (e : k ≡ Kw n) where
-    pub keyword-taken : not (eqb (x .prefix) 2) || eqb n 3 ≡ true → keyword n ≡ keywordOf s x k
+  module _ (n : ℕ) {k : KwKind} {o : Option ℕ} (q : keywordKind k ≡ o) (e : k ≡ Kw n) where
+    kind-told : some n ≡ o
+    unfolding keywordKind
+    kind-told = sym (ap keywordKind e) ∙ q
+
+    pub keyword-taken : not (eqb (x .prefix) 2) || eqb n 3 ≡ true → keyword n ≡ keywordOf s x o
     unfolding keywordOf
-    keyword-taken t = taken-true (keyword n) nothing _ t ∙ sym (ap (keywordOf s x) e)
+    keyword-taken t = taken-true (keyword n) nothing _ t ∙ ap (keywordOf s x) kind-told
 
-    pub keyword-left : not (eqb (x .prefix) 2) || eqb n 3 ≡ false → nothing ≡ keywordOf s x k
+    pub keyword-left : not (eqb (x .prefix) 2) || eqb n 3 ≡ false → nothing ≡ keywordOf s x o
     unfolding keywordOf
-    keyword-left t = taken-false (keyword n) nothing _ t ∙ sym (ap (keywordOf s x) e)
+    keyword-left t = taken-false (keyword n) nothing _ t ∙ ap (keywordOf s x) kind-told

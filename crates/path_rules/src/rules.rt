@@ -11,7 +11,7 @@ ghost use Rattle.hir_def.specs.Entries.{entryOf};
 ghost use Rattle.hir_def.specs.declared.Entry.the-variants.{At};
 ghost use Rattle.find_path.specs.declared.FindPathCtx.{FindPathCtx};
 ghost use Rattle.find_path.specs.Conditions.{EntryFits};
-ghost use Rattle.find_path.specs.Rules.{prefixPathKind, single as singleOf, findInScope, mayBeInScope, scopeRule, preludeEntry, findInPrelude, preludeRule, externName, rootRule, parentKind, isKwKindRelativeToFrom, keywordOf, moduleRules};
+ghost use Rattle.find_path.specs.Rules.{prefixPathKind, single as singleOf, findInScope, mayBeInScope, scopeRule, preludeEntry, findInPrelude, preludeRule, externName, rootRule, parentKind, keywordKind, isKwKindRelativeToFrom, keywordOf, moduleRules};
 use crate::choices::StepRule;
 use crate::choices::choice_new;
 use crate::choices::keyword;
@@ -38,25 +38,12 @@ use rule_lookups::entry_by;
 use rule_lookups::is_usable;
 use snapshot::ids::Crate;
 use snapshot::ids::ModuleId;
+use snapshot::ids::OptModule;
+use snapshot::ids::PathKind;
 use snapshot::layout::Layout;
 use snapshot::record::extern_name;
 use snapshot::record::prelude_target;
 use snapshot::record::scope_name;
-
-/// Path kinds.
-pub struct PathKind(pub usize);
-
-impl PathKind {
-    pub const PLAIN: usize = 0;
-
-    pub const SELF: usize = 1;
-
-    pub const SUPER: usize = 2;
-
-    pub const CRATE: usize = 3;
-
-    pub const ABSOLUTE: usize = 4;
-}
 
 // The path kinds of the prefixes.
 const PREFIX_KINDS: [usize; 3] = [1, 0, 3];
@@ -218,9 +205,12 @@ pub fn root_rule(
 // The module as the parent of the viewer's.
 fn parent_kind(words: &[u32], area: &[u32], l: Layout, x: FindPathCtx, m: ModuleId) -> KwKind
     requires { ⌜ Reads (now words) (now area) l × (x .from < l .modules) × (m .0 < l .modules) ⌝ }
-    ensures { λ r. ⌜ r ≡ parentKind (snapOf (now (words .entry)) (now (area .entry)) l) x (m .0) (parentOf (snapOf (now (words .entry)) (now (area .entry)) l) (x .from)) ⌝ }
+    ensures { λ r. ⌜ keywordKind r ≡ parentKind (snapOf (now (words .entry)) (now (area .entry)) l) x (m .0) (parentOf (snapOf (now (words .entry)) (now (area .entry)) l) (x .from)) ⌝ }
 {
-    if parent(words, area, l, ModuleId(x.from)) != m.0 + 1 {
+    let OptModule::Module(p) = parent(words, area, l, ModuleId(x.from)) else {
+        return KwKind::NoKw;
+    };
+    if p.0 != m.0 {
         return KwKind::NoKw;
     }
     let top = root(words, area, l, map(words, area, l, ModuleId(x.from)));
@@ -239,7 +229,7 @@ pub fn is_kw_kind_relative_to_from(
     m: ModuleId,
 ) -> KwKind
     requires { ⌜ Reads (now words) (now area) l × (x .from < l .modules) × (m .0 < l .modules) ⌝ }
-    ensures { λ r. ⌜ r ≡ isKwKindRelativeToFrom (snapOf (now (words .entry)) (now (area .entry)) l) x (m .0) ⌝ }
+    ensures { λ r. ⌜ keywordKind r ≡ isKwKindRelativeToFrom (snapOf (now (words .entry)) (now (area .entry)) l) x (m .0) ⌝ }
 {
     let from = ModuleId(x.from);
     let there = krate(words, area, l, m);

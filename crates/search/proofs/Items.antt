@@ -1,6 +1,6 @@
 -- The search for an item, step by step, as the code takes it.
 use mathlib.Core.Path.{_≡_, refl, sym, _∙_, ap, subst}
-use Prim.Native.Nat.{ℕ, _+_, _*_, _≤_, _<_}
+use Prim.Native.Nat.{ℕ, zero, suc, _+_, _*_, _≤_, _<_}
 use native.Mathlib.Omega.{arith}
 use mathlib.Core.List.{List, [], _∷_}
 use mathlib.Core.Bool.{Bool, true, false, _&&_, false≢true}
@@ -21,8 +21,6 @@ use Rattle.hir_def.specs.Items.{definitionOf, itemOf, nsOf}
 use Rattle.hir_def.specs.Entries.{Known}
 use Rattle.hir_def.specs.declared.Item.{Item}
 use Rattle.hir_def.specs.declared.Item.the-variants.{Mod, Def}
-use Rattle.hir_def.specs.declared.Entry.{Entry}
-use Rattle.hir_def.specs.declared.Entry.the-variants.{At, Nothing}
 use Rattle.hir_def.proofs.Lookups.{item-module, item-other}
 use Rattle.hir_def.proofs.Fits.{definition-fits, item-known}
 use Rattle.find_path.specs.declared.Choice.{Choice}
@@ -161,27 +159,28 @@ module _ (W A : List ℕ) (l : Layout) (r : Reads W A l) where
 
 module _ (s : Snapshot) (x : FindPathCtx) where
   -- a module goes straight to the module search
-  at-once : (item : Item) (m : ℕ) (t : Tank) (b : Bool) → x .std ≡ b → At m ≡ straight b item
+  at-once : (item : Item) (m : ℕ) (t : Tank) (b : Bool) → x .std ≡ b → straight b item ≡ suc m
       → modules s x (x .limit) m t ≡ findPathInner Tank fromTank s x (bestLocal s x) (modules s x) (items s x) item t
   unfolding findPathInner ofModule straight
-  at-once (Mod n) m t true e h = let z : _≡_ {A = ℕ} 0 1 = cc in absurd (omega arith)
+  at-once (Mod n) m t true e h = let z : 0 ≡ suc m = h in absurd (omega (arith, z))
   at-once (Mod n) m t false e h =
-      let k : m ≡ n = cc in
+      let z : n + 1 ≡ suc m = h in
+      let k : m ≡ n = omega (arith, z) in
       ap (λ (y : ℕ). modules s x (x .limit) y t) k ∙ sym (ap (ofModule Tank fromTank s x (bestLocal s x) (modules s x) (items s x) n t) e)
-  at-once (Def n d) m t true e h = let z : _≡_ {A = ℕ} 0 1 = cc in absurd (omega arith)
-  at-once (Def n d) m t false e h = let z : _≡_ {A = ℕ} 0 1 = cc in absurd (omega arith)
+  at-once (Def n d) m t true e h = let z : 0 ≡ suc m = h in absurd (omega (arith, z))
+  at-once (Def n d) m t false e h = let z : 0 ≡ suc m = h in absurd (omega (arith, z))
 
-  by-name : (item : Item) (t : Tank) (b : Bool) → x .std ≡ b → Nothing ≡ straight b item
+  by-name : (item : Item) (t : Tank) (b : Bool) → x .std ≡ b → straight b item ≡ 0
       → names s x item t ≡ findPathInner Tank fromTank s x (bestLocal s x) (modules s x) (items s x) item t
   unfolding findPathInner ofModule straight
   by-name (Mod n) t true e h = sym (ap (ofModule Tank fromTank s x (bestLocal s x) (modules s x) (items s x) n t) e)
-  by-name (Mod n) t false e h = let z : _≡_ {A = ℕ} 0 1 = cc in absurd (omega arith)
+  by-name (Mod n) t false e h = let z : n + 1 ≡ 0 = h in absurd (omega (arith, z))
   by-name (Def n d) t b e h = refl
 
-  pub inner-at-once : (item : Item) (t : Tank) {m : ℕ} → EnumNoVariant s item → At m ≡ straight (x .std) item → modules s x (x .limit) m t ≡ items s x item t
+  pub inner-at-once : (item : Item) (t : Tank) {m : ℕ} → EnumNoVariant s item → straight (x .std) item ≡ suc m → modules s x (x .limit) m t ≡ items s x item t
   inner-at-once item t {m} one h = at-once item m t (x .std) refl h ∙ sym (inner-more Tank fromTank s x item t one)
 
-  pub inner-by-name : (item : Item) (t : Tank) → EnumNoVariant s item → Nothing ≡ straight (x .std) item → names s x item t ≡ items s x item t
+  pub inner-by-name : (item : Item) (t : Tank) → EnumNoVariant s item → straight (x .std) item ≡ 0 → names s x item t ≡ items s x item t
   inner-by-name item t one h = by-name item t (x .std) refl h ∙ sym (inner-more Tank fromTank s x item t one)
 
   -- the names of an item, and then the search
@@ -269,13 +268,13 @@ module _ (s : Snapshot) (x : FindPathCtx) where
         (either-fits 1 (scopeRule s x item .found) _ _ (scope-fits s x 0 item)
         (either-fits 1 (preludeRule s x item .found) _ _ (prelude-fits s x 0 item) (nothing-fits 1))))
 
-    by-straight : (e : Entry) → e ≡ straight (x .std) item → Fits s (x .limit) (items s x item t .choice)
-    by-straight (At m) e =
+    by-straight : (n : ℕ) → straight (x .std) item ≡ n → Fits s (x .limit) (items s x item t .choice)
+    by-straight (suc m) e =
         subst (λ (o : Out Tank). Fits s (x .limit) (o .choice)) (inner-at-once item t no-enum e) (module-search-fits Tank fromTank s x (x .limit) m t)
       where
         no-enum : EnumNoVariant s item
         no-enum v k = let z : none ≡ some v = sym h ∙ k in let c : _≡_ {A = ℕ} 0 1 = cc in absurd (omega arith)
-    by-straight Nothing e =
+    by-straight zero e =
         subst (λ (o : Out Tank). Fits s (x .limit) (o .choice)) (inner-by-name item t no-enum e) names-short
       where
         no-enum : EnumNoVariant s item

@@ -17,7 +17,6 @@ use Rattle.hir_def.specs.Items.{definitionOf, itemOf, homeOf}
 use Rattle.hir_def.specs.Entries.{Known, ReadsAs}
 use Rattle.hir_def.specs.declared.Item.{Item}
 use Rattle.hir_def.specs.declared.Item.the-variants.{Mod, Def}
-use Rattle.hir_def.specs.declared.Entry.the-variants.{At}
 use Rattle.hir_def.proofs.Fits.{definition-fits, home-fits}
 use Rattle.find_path.specs.declared.Choice.{Choice}
 use Rattle.find_path.specs.declared.Tank.{Tank}
@@ -44,11 +43,11 @@ use Rattle.search.proofs.Items.{plain-fits, enum-found, enum-none}
 pub begun : {W A : List ℕ} {l : Layout} {x : FindPathCtx} → Prepared W A l x → Begun W A l x (x .limit)
 begun p = record { ready = p; some = p .some; limit = p .limit }
 
-pub straight-known : (l : Layout) (b : Bool) (item : Item) {m : ℕ} → At m ≡ straight b item → Known l item → m < l .modules
+pub straight-known : (l : Layout) (b : Bool) (item : Item) {m : ℕ} → straight b item ≡ suc m → Known l item → m < l .modules
 unfolding straight
-straight-known l true item e h = let z : _≡_ {A = ℕ} 0 1 = cc in absurd (omega arith)
-straight-known l false (Mod n) {m} e h = let k : m ≡ n = cc in omega (arith, k, h)
-straight-known l false (Def n d) e h = let z : _≡_ {A = ℕ} 0 1 = cc in absurd (omega arith)
+straight-known l true item {m} e h = let z : 0 ≡ suc m = e in absurd (omega (arith, z))
+straight-known l false (Mod n) {m} e h = let z : n + 1 ≡ suc m = e in omega (arith, z, h)
+straight-known l false (Def n d) {m} e h = let z : 0 ≡ suc m = e in absurd (omega (arith, z))
 
 -- the path of an enum can be offered with a name
 pub enum-offered : (W A : List ℕ) (l : Layout) (x : FindPathCtx) (i : Item) (t : Tank) (r : Found) → Prepared W A l x
@@ -139,12 +138,12 @@ module _ (s : Snapshot) (q : Query) (fuel : ℕ) where
   start-none item (suc m) e f g k z n = absurd (omega arith)
 
   pub start-item : {k : ℕ} {x : FindPathCtx} (item : Item) (h : ℕ) → k ≡ definitionOf s (q .definition) .kind → builtin k ≡ false
-      → item ≡ itemOf s (q .ns) (q .definition) → h ≡ homeOf s item → (h ≡ 0 → ⊥) → x ≡ contextOf s q (h - 1)
+      → item ≡ itemOf s (q .ns) (q .definition) → h ≡ homeOf s item → {m : ℕ} → h ≡ suc m → x ≡ contextOf s q m
       → items s x item (full fuel) ≡ searched s q fuel
   unfolding fromHome
-  start-item item zero e f g k z n = absurd (z refl)
-  start-item item (suc m) e f g k z n =
-      let u : suc m - 1 ≡ m = omega arith in
+  start-item item zero e f g k z n = absurd (omega (arith, z))
+  start-item item (suc m) e f g k {m = p} z n =
+      let u : p ≡ m = omega (arith, z) in
       ap (λ (y : FindPathCtx). items s y item (full fuel)) (n ∙ ap (contextOf s q) u) ∙ by-home item (suc m) e f g k
 
 -- a builtin by its test
@@ -168,12 +167,8 @@ module _ (W A : List ℕ) (l : Layout) (r : Reads W A l) where
     unfolding builtinChoice
     builtin-same g u q = q ∙ ap₂ (choiceNew (snapOf W A l) 0) g u ∙ ap (builtinChoice (snapOf W A l)) builtin-read
 
-  home-below-one : (item : Item) (h : ℕ) → Known l item → h ≡ homeOf (snapOf W A l) item → (h ≡ 0 → ⊥) → h - 1 < l .modules
-  home-below-one item zero k e z = absurd (z refl)
-  home-below-one item (suc m) k e z = let q = home-fits W A l r item m k (sym e) in omega arith
-
-  pub home-there : (item : Item) {h : ℕ} → Known l item → h ≡ homeOf (snapOf W A l) item → (h ≡ 0 → ⊥) → h - 1 < l .modules
-  home-there item {h} k e z = home-below-one item h k e z
+  pub home-there : (item : Item) {h m : ℕ} → Known l item → h ≡ homeOf (snapOf W A l) item → h ≡ suc m → m < l .modules
+  home-there item {m = m} k e z = home-fits W A l r item m k (sym e ∙ z)
 
 pub context-from : (s : Snapshot) (q : Query) (h : ℕ) {x : FindPathCtx} → x ≡ contextOf s q h → x .from ≡ q .from
 unfolding contextOf

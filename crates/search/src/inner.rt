@@ -27,7 +27,6 @@ use find_path::Query;
 use find_path::Tank;
 use hir_def::Entry;
 use hir_def::Item;
-use hir_def::items::DefinitionKind;
 use hir_def::items::definition_head;
 use hir_def::items::home_of;
 use hir_def::items::item_of;
@@ -43,9 +42,10 @@ use path_rules::rules::prelude_rule;
 use path_rules::rules::scope_rule;
 use search_parts::straight_of;
 use snapshot::ids::DefinitionId;
-use snapshot::ids::ModuleId;
+use snapshot::ids::DefinitionKind;
 use snapshot::ids::Name;
 use snapshot::ids::Namespace;
+use snapshot::ids::OptModule;
 use snapshot::layout::Layout;
 use snapshot::record::definition_first;
 use snapshot::record::definition_kind;
@@ -113,10 +113,10 @@ pub fn find_path_inner(
     requires { ⌜ Prepared (now words) (now area) l x × Asked l item × (t .fuel + t .spent < 2 ^ 32) ⌝ }
     ensures { λ r. ⌜ Searched (now (area .entry)) (searchItem Tank fromTank (snapOf (now (words .entry)) (now (area .entry)) l) x item t) (now (area .exit)) r ⌝ }
 {
-    let Entry::At(m) = straight_of(x.std, item) else {
+    let OptModule::Module(m) = straight_of(x.std, item) else {
         return find_by_name(words, area, l, x, item, t);
     };
-    find_path_for_module(words, area, l, x, x.limit, ModuleId(m), t)
+    find_path_for_module(words, area, l, x, x.limit, m, t)
 }
 
 // The scope and the prelude, then the enum of a variant, then the charged search, with the tank that the enum left.
@@ -181,15 +181,14 @@ pub fn find_path(words: &[u32], area: &mut [u32], l: Layout, q: Query, fuel: usi
         };
     }
     let item = item_of(words, l, q.ns, d);
-    let home = home_of(words, l, item);
-    if home == 0 {
+    let OptModule::Module(home) = home_of(words, l, item) else {
         let choice = nothing();
         return Found {
             choice: choice,
             meter: meter,
         };
-    }
+    };
     let own = module_in(item);
-    let x = context(words, area, l, q, ModuleId(home - 1), own);
+    let x = context(words, area, l, q, home, own);
     find_path_inner(words, area, l, x, item, meter)
 }

@@ -1,12 +1,11 @@
 -- The module that the search for an item is asked for at once.
+use Prim.Native.Nat.{ℕ, _+_}
 use mathlib.Core.Bool.{Bool, true, false}
 use Rattle.hir_def.specs.declared.Item.{Item}
 use Rattle.hir_def.specs.declared.Item.the-variants.{Mod, Def}
-use Rattle.hir_def.specs.declared.Entry.{Entry}
-use Rattle.hir_def.specs.declared.Entry.the-variants.{At, Nothing}
 
--- a module that the module search is asked for at once: any, but none for a std item
-unfoldable pub straight : Bool → Item → Entry
-straight true item = Nothing
-straight false (Mod m) = At m
-straight false (Def ns d) = Nothing
+-- a module, +1, that the module search is asked for at once: any, but none for a std item
+unfoldable pub straight : Bool → Item → ℕ
+straight true item = 0
+straight false (Mod m) = m + 1
+straight false (Def ns d) = 0

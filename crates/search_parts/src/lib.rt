@@ -2,10 +2,12 @@
 ghost use mathlib.Core.Path.{_≡_};
 ghost use mathlib.Core.List.{[], _∷_};
 ghost use Rattle.find_path.specs.Charged.{isStable, langs};
+ghost use Rattle.snapshot.specs.Ids.{plusOne};
 ghost use Rattle.search_parts.specs.Parts.{straight};
 use find_path::Choice;
-use hir_def::Entry;
 use hir_def::Item;
+use snapshot::ids::ModuleId;
+use snapshot::ids::OptModule;
 
 /// Whether a choice ends the search of the sysroot.
 pub fn is_stable(c: Choice) -> bool
@@ -40,14 +42,14 @@ pub fn langs_for(nostd: bool) -> Langs
 }
 
 /// The module that the module search is asked for at once.
-pub fn straight_of(std: bool, item: Item) -> Entry
-    ensures { λ r. ⌜ r ≡ straight std item ⌝ }
+pub fn straight_of(std: bool, item: Item) -> OptModule
+    ensures { λ r. ⌜ plusOne r ≡ straight std item ⌝ }
 {
     if std {
-        return Entry::Nothing;
+        return OptModule::NoModule;
     }
     match item {
-        Item::Mod(m) => Entry::At(m),
-        Item::Def(_, _) => Entry::Nothing,
+        Item::Mod(m) => OptModule::Module(ModuleId(m)),
+        Item::Def(_, _) => OptModule::NoModule,
     }
 }

@@ -4,4 +4,5 @@ pub mod Refusals
 pub mod Sizes
 pub mod Words
 pub mod Records
+pub mod Ids
 pub mod Layouts

@@ -1,4 +1,6 @@
 //! Numbers that never stand in for one another, with their limits.
+ghost use mathlib.Core.Path.{_≡_};
+ghost use Rattle.snapshot.specs.Ids.{plusOne};
 
 /// A module of the snapshot.
 pub struct ModuleId(pub usize);
@@ -6,6 +8,22 @@ pub struct ModuleId(pub usize);
 impl ModuleId {
     /// Modules of a snapshot, at most.
     pub const LIMIT: usize = 512;
+}
+
+/// A module, or none: a parent, a block's parent, a containing module, an item's home.
+pub enum OptModule {
+    Module(ModuleId),
+    NoModule,
+}
+
+/// The module of a number +1, none for 0.
+pub fn opt_module(n: usize) -> OptModule
+    ensures { λ r. ⌜ plusOne r ≡ n ⌝ }
+{
+    if n == 0 {
+        return OptModule::NoModule;
+    }
+    OptModule::Module(ModuleId(n - 1))
 }
 
 /// A crate of the snapshot.
@@ -34,14 +52,6 @@ impl Name {
     pub const BYTES: usize = 255;
 }
 
-/// The length that a path may still have.
-pub struct PathLen(pub usize);
-
-impl PathLen {
-    /// The length left where a search begins, at most.
-    pub const LIMIT: usize = 15;
-}
-
 /// Namespaces.
 pub struct Namespace(pub usize);
 
@@ -53,6 +63,44 @@ impl Namespace {
     pub const MACROS: usize = 2;
     /// The number of a namespace, at most.
     pub const LIMIT: usize = 2;
+}
+
+/// Kinds of definitions.
+pub struct DefinitionKind(pub usize);
+
+impl DefinitionKind {
+    pub const MODULE: usize = 1;
+
+    pub const VARIANT: usize = 2;
+
+    pub const BUILTIN: usize = 3;
+
+    pub const OTHER: usize = 4;
+
+    pub const MACRO: usize = 5;
+}
+
+/// Path kinds.
+pub struct PathKind(pub usize);
+
+impl PathKind {
+    pub const PLAIN: usize = 0;
+
+    pub const SELF: usize = 1;
+
+    pub const SUPER: usize = 2;
+
+    pub const CRATE: usize = 3;
+
+    pub const ABSOLUTE: usize = 4;
+}
+
+/// The length that a path may still have.
+pub struct PathLen(pub usize);
+
+impl PathLen {
+    /// The length left where a search begins, at most.
+    pub const LIMIT: usize = 15;
 }
 
 /// The prefix that a question asks for.

@@ -1445,7 +1445,7 @@ search-charged-home-of-requires : (t : ℕ) → search-charged-lts.Need-home-of-
   find-in-deps-below t,
   find-in-deps.Post,
 ) (search-charged-at t) search-charged.Post
-search-charged-home-of-requires t c κs = let o = c .before .before in (few-words _ _ _ (o .pre .1 .0 .ready .reads), o .pre .1 .1 .0)
+search-charged-home-of-requires t c κs = let o = c .before .before in few-words _ _ _ (o .pre .1 .0 .ready .reads)
 
 search-charged-is-at-requires : (t : ℕ) → search-charged-lts.Need-is-at-requires (
   home-of-reads.Asked,

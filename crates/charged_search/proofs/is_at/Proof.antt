@@ -1,25 +1,34 @@
 use borrow.Author.Needs.{needs}
+use mathlib.Core.Path.{refl}
+use native.Mathlib.Omega.{arith}
 use denote.Ref.{now}
+use Rattle.snapshot.specs.Ids.{plusOne}
 use Rattle.snapshot.specs.Layouts.{snapOf}
+use Rattle.hir_def.proofs.Climbs.{is-some, is-none}
 use Rattle.charged_search.proofs.Parts.{at-none, at-some}
 use Rattle.charged_search.proofs.is_at.Statement.{statement}
 use Rattle.charged_search.proofs.is_at.Tie as tie
 
+enum-known-home : tie.Need-enum-known-home
+enum-known-home c = search needs
+
+enum-told : tie.Need-enum-told
+enum-told c = search needs
+
 returns : tie.Need-returns
 returns c =
-    let a = c .before .before .before .args in
-    at-none (snapOf (now (a .words)) (now (a .area)) (a .l)) (a .home) (a .c .0) (c .if1 .taken)
-
-sub-t8 : tie.Need-sub-t8
-sub-t8 c = search needs
+    let a = c .before .before .before .before .args in
+    at-none (snapOf (now (a .words)) (now (a .area)) (a .l)) (plusOne (a .home)) (a .c .0) (is-none _ refl (c .enum-told .given .1))
 
 krate-requires : tie.Need-krate-requires
-krate-requires c κs = search needs
+krate-requires c κs =
+    let o = c .before .before .before .before .before in
+    (o .pre .0, omega (arith, is-some _ refl (c .before .home .given .1), o .pre .1))
 
 returns-2 : tie.Need-returns-2
 returns-2 c =
-    let a = c .before .before .before .before .before .before .args in
-    at-some (snapOf (now (a .words)) (now (a .area)) (a .l)) (a .home) (a .c .0) (c .before .before .before .if1 .left) (c .before .before .krate .ensures)
+    let a = c .before .before .before .before .before .before .before .before .args in
+    at-some (snapOf (now (a .words)) (now (a .area)) (a .l)) (plusOne (a .home)) (a .c .0) (is-some _ refl (c .before .before .before .before .home .given .1)) (c .before .before .krate .ensures)
 
 pub is-at-spec : {M : Type 1} → statement M
-is-at-spec = tie.close (tie.spec returns sub-t8 krate-requires returns-2)
+is-at-spec = tie.close (tie.spec enum-known-home enum-told returns krate-requires returns-2)

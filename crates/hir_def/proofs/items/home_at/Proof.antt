@@ -1,7 +1,7 @@
 use borrow.Author.Needs.{needs}
 use mathlib.Core.Path.{sym, ap, _∙_}
 use Prim.Native.Nat.{_+_}
-use native.Mathlib.Omega.{arith}
+use Rattle.snapshot.specs.Ids.{plusOne}
 use Rattle.hir_def.proofs.Lookups.{home-builtin, home-variant, home-other}
 use Rattle.hir_def.proofs.items.home_at.Statement.{statement}
 use Rattle.hir_def.proofs.items.home_at.Tie as tie
@@ -13,6 +13,7 @@ definition-first-requires : tie.Need-definition-first-requires
 definition-first-requires c κs = search needs
 
 returns : tie.Need-returns
+unfolding plusOne
 returns c = λ A. home-builtin _ _ _ (sym (c .before .before .definition-kind .ensures) ∙ c .if1 .taken)
 
 definition-head-requires : tie.Need-definition-head-requires
@@ -21,20 +22,16 @@ definition-head-requires c κs = search needs
 definition-first-requires-2 : tie.Need-definition-first-requires-2
 definition-first-requires-2 c κs = search needs
 
-add-result : tie.Need-add-result
-add-result c = record { fits = omega (arith, c .definition-first2 .ensures, c .before .before .before .before .before .before .shared-slice-known .given (c .before .definition-head .result + 1)) }
-
 returns-2 : tie.Need-returns-2
+unfolding plusOne
 returns-2 c =
     λ A.
     let k = c .before .before .before .before .before .definition-kind .ensures in
     let e = c .before .before .before .before .definition-first .ensures in
     home-variant _ _ _ (λ z. c .before .before .before .if1 .left (k ∙ z)) (sym k ∙ c .before .before .if2 .taken) (c .definition-first2 .ensures ∙ c .before .definition-head .ensures A .first) e
 
-add-result-2 : tie.Need-add-result-2
-add-result-2 c = record { fits = omega (arith, c .before .before .definition-first .ensures, c .before .before .before .before .shared-slice-known .given (c .before .before .before .before .before .args .h + 1)) }
-
 returns-3 : tie.Need-returns-3
+unfolding plusOne
 returns-3 c =
     λ A.
     let k = c .before .before .before .definition-kind .ensures in
@@ -50,7 +47,5 @@ home-at-spec =
     returns
     definition-head-requires
     definition-first-requires-2
-    add-result
     returns-2
-    add-result-2
     returns-3)

@@ -1,22 +1,14 @@
 use borrow.Author.Needs.{needs}
-use mathlib.Core.Path.{sym, ap, ap₂, subst, _∙_}
+use mathlib.Core.Path.{sym, ap, ap₂, _∙_}
 use denote.Ref.{now}
-use native.Mathlib.Omega.{arith}
+use Rattle.snapshot.specs.Ids.{plusOne}
 use Rattle.snapshot.specs.Layouts.{snapOf}
 use Rattle.hir_def.specs.Items.{homeBy, homeOf}
-use Rattle.hir_def.specs.Entries.{Known}
-use Rattle.hir_def.specs.declared.Item.the-variants.{Mod}
 use Rattle.hir_def.proofs.items.home_of.Statement.{statement}
 use Rattle.hir_def.proofs.items.home_of.Tie as tie
 
 enum-known-item : tie.Need-enum-known-item
 enum-known-item c = search needs
-
-add-result : tie.Need-add-result
-add-result c =
-    let s = c .before .before .before .before in
-    let p : Known (s .args .l) (Mod (c .before .item .given .0 .0)) = subst (Known (s .args .l)) (c .before .item .given .1) (s .pre .1) in
-    record { fits = omega (arith, p, s .pre .0) }
 
 enum-known-item-2 : tie.Need-enum-known-item-2
 enum-known-item-2 c = search needs
@@ -28,7 +20,7 @@ home-at-requires : tie.Need-home-at-requires
 home-at-requires c κs = search needs
 
 returns : tie.Need-returns
-unfolding homeOf
+unfolding plusOne homeOf
 returns c = λ A. ap (homeOf _) (sym (c .before .item .given .1))
 
 returns-2 : tie.Need-returns-2
@@ -44,7 +36,6 @@ home-of-spec =
     tie.close
     (tie.spec
     enum-known-item
-    add-result
     enum-known-item-2
     definition-head-requires
     home-at-requires

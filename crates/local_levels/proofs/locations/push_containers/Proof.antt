@@ -1,10 +1,12 @@
-use Prim.Native.Nat.{_<_, _-_}
-use mathlib.Core.Path.{ap, _∙_}
+use borrow.Author.Needs.{needs}
+use Prim.Native.Nat.{_<_}
+use mathlib.Core.Path.{refl, ap, _∙_}
 use native.Mathlib.Omega.{arith}
 use denote.Ref.{now}
 use Rattle.snapshot.specs.Layouts.{snapOf}
 use Rattle.hir_def.specs.Items.{containing}
 use Rattle.hir_def.specs.Nameres.{containers}
+use Rattle.hir_def.proofs.Climbs.{is-some, is-none}
 use Rattle.local_levels.proofs.Stacks.{Pushing, snap-at, reads-at, pushing-start, pushing-next, pushing-done}
 use Rattle.local_levels.proofs.Nexts.{containers-end, containers-on, containers-less}
 use Rattle.local_levels.proofs.locations.push_containers.Statement.{statement}
@@ -12,10 +14,10 @@ use Rattle.local_levels.proofs.locations.push_containers.Tie as tie
 
 abbrev Inv-loop : tie.InvT-loop
 Inv-loop words area₀ l s n item run₀ m₀ area run m =
-    (m < l .modules) × Pushing area₀ s n item (containers (snapOf words area₀ l) m₀) area run (containers (snapOf words area₀ l) m)
+    (m .0 < l .modules) × Pushing area₀ s n item (containers (snapOf words area₀ l) (m₀ .0)) area run (containers (snapOf words area₀ l) (m .0))
 
 abbrev μ-loop : tie.MeasureT-loop
-μ-loop words area₀ l s n item run₀ m₀ area run m = m
+μ-loop words area₀ l s n item run₀ m₀ area run m = m .0
 
 loop-holds : tie.Need-loop-holds Inv-loop μ-loop
 loop-holds c =
@@ -28,40 +30,43 @@ containing-requires c κs =
     let s = c .before .before .before .before in
     (reads-at (now (s .args .words)) (now (s .args .area)) (l .area) _ (s .args .s .top) (s .pre .0) (s .pre .2 .tables) (l .inv .1 .below), l .inv .0)
 
+enum-known-c : tie.Need-enum-known-c Inv-loop μ-loop
+enum-known-c c = search needs
+
+enum-told : tie.Need-enum-told Inv-loop μ-loop
+enum-told c = search needs
+
 same-length : tie.Need-same-length Inv-loop μ-loop
-same-length c = c .before .before .before .loop .inv .1 .size
+same-length c = c .before .before .before .before .loop .inv .1 .size
 
 returns : tie.Need-returns Inv-loop μ-loop
 returns c =
-    let l = c .before .before .before .loop in
-    let s = c .before .before .before .before .before .before in
-    pushing-done _ _ _ _ _ (l .inv .1) (containers-end (now (s .args .words)) (now (s .args .area)) (s .args .l) (s .pre .0) (l .m) (l .inv .0) (c .before .containing .ensures ∙ ap (λ x. containing x (l .m)) (snap-at (now (s .args .words)) (now (s .args .area)) (l .area) (s .args .l) (s .args .s .top) (s .pre .0) (s .pre .2 .tables) (l .inv .1 .below))) (c .if1 .taken))
-
-sub-m : tie.Need-sub-m Inv-loop μ-loop
-sub-m c = let h = c .if1 .left in omega arith
+    let l = c .before .before .before .before .loop in
+    let s = c .before .before .before .before .before .before .before in
+    pushing-done _ _ _ _ _ (l .inv .1) (containers-end (now (s .args .words)) (now (s .args .area)) (s .args .l) (s .pre .0) (l .m .0) (l .inv .0) (c .before .before .containing .ensures ∙ ap (λ x. containing x (l .m .0)) (snap-at (now (s .args .words)) (now (s .args .area)) (l .area) (s .args .l) (s .args .s .top) (s .pre .0) (s .pre .2 .tables) (l .inv .1 .below))) (is-none _ refl (c .enum-told .given .1)))
 
 push-module-requires : tie.Need-push-module-requires Inv-loop μ-loop
 push-module-requires c κs =
     let e = c .before in
-    let l = e .before .before .before .loop in
-    let s = e .before .before .before .before .before .before in
-    (l .inv .1 .ready, s .pre .3, omega (arith, s .pre .0 .tables .limited .modules, l .inv .0, containers-less (now (s .args .words)) (now (s .args .area)) (s .args .l) (s .pre .0) (l .m) (l .inv .0) (e .before .containing .ensures ∙ ap (λ x. containing x (l .m)) (snap-at (now (s .args .words)) (now (s .args .area)) (l .area) (s .args .l) (s .args .s .top) (s .pre .0) (s .pre .2 .tables) (l .inv .1 .below))) (e .if1 .left)))
+    let l = e .before .before .before .before .before .loop in
+    let s = e .before .before .before .before .before .before .before .before in
+    (l .inv .1 .ready, s .pre .3, omega (arith, s .pre .0 .tables .limited .modules, l .inv .0, containers-less (now (s .args .words)) (now (s .args .area)) (s .args .l) (s .pre .0) (l .m .0) (l .inv .0) (e .before .before .before .containing .ensures ∙ ap (λ x. containing x (l .m .0)) (snap-at (now (s .args .words)) (now (s .args .area)) (l .area) (s .args .l) (s .args .s .top) (s .pre .0) (s .pre .2 .tables) (l .inv .1 .below))) (is-some _ refl (e .before .c .given .1))))
 
 loop-less : tie.Need-loop-less Inv-loop μ-loop
 loop-less c =
     let e = c .before .before .before .before in
-    let l = e .before .before .before .loop in
-    let s = e .before .before .before .before .before .before in
-    containers-less (now (s .args .words)) (now (s .args .area)) (s .args .l) (s .pre .0) (l .m) (l .inv .0) (e .before .containing .ensures ∙ ap (λ x. containing x (l .m)) (snap-at (now (s .args .words)) (now (s .args .area)) (l .area) (s .args .l) (s .args .s .top) (s .pre .0) (s .pre .2 .tables) (l .inv .1 .below))) (e .if1 .left)
+    let l = e .before .before .before .before .before .loop in
+    let s = e .before .before .before .before .before .before .before .before in
+    containers-less (now (s .args .words)) (now (s .args .area)) (s .args .l) (s .pre .0) (l .m .0) (l .inv .0) (e .before .before .before .containing .ensures ∙ ap (λ x. containing x (l .m .0)) (snap-at (now (s .args .words)) (now (s .args .area)) (l .area) (s .args .l) (s .args .s .top) (s .pre .0) (s .pre .2 .tables) (l .inv .1 .below))) (is-some _ refl (e .before .c .given .1))
 
 loop-again : tie.Need-loop-again Inv-loop μ-loop
 loop-again c =
     let p = c .before .before in
     let e = p .before .before in
-    let l = e .before .before .before .loop in
-    let s = e .before .before .before .before .before .before in
-    let q = e .before .containing .ensures ∙ ap (λ x. containing x (l .m)) (snap-at (now (s .args .words)) (now (s .args .area)) (l .area) (s .args .l) (s .args .s .top) (s .pre .0) (s .pre .2 .tables) (l .inv .1 .below)) in
-    (omega (arith, l .inv .0, containers-less (now (s .args .words)) (now (s .args .area)) (s .args .l) (s .pre .0) (l .m) (l .inv .0) q (e .if1 .left)), pushing-next _ _ _ _ _ (l .inv .1) (containers-on (now (s .args .words)) (now (s .args .area)) (s .args .l) (s .pre .0) (l .m) (l .inv .0) q (e .if1 .left)) (p .push-module .ensures) (p .push-module .kept .0))
+    let l = e .before .before .before .before .before .loop in
+    let s = e .before .before .before .before .before .before .before .before in
+    let q = e .before .before .before .containing .ensures ∙ ap (λ x. containing x (l .m .0)) (snap-at (now (s .args .words)) (now (s .args .area)) (l .area) (s .args .l) (s .args .s .top) (s .pre .0) (s .pre .2 .tables) (l .inv .1 .below)) in
+    (omega (arith, l .inv .0, containers-less (now (s .args .words)) (now (s .args .area)) (s .args .l) (s .pre .0) (l .m .0) (l .inv .0) q (is-some _ refl (e .before .c .given .1))), pushing-next _ _ _ _ _ (l .inv .1) (containers-on (now (s .args .words)) (now (s .args .area)) (s .args .l) (s .pre .0) (l .m .0) (l .inv .0) q (is-some _ refl (e .before .c .given .1))) (p .push-module .ensures) (p .push-module .kept .0))
 
 pub push-containers-spec : {M : Type 1} → statement M
 push-containers-spec =
@@ -71,9 +76,10 @@ push-containers-spec =
     μ-loop
     loop-holds
     containing-requires
+    enum-known-c
+    enum-told
     same-length
     returns
-    sub-m
     push-module-requires
     loop-less
     loop-again)

@@ -17,10 +17,13 @@ module-head-requires c κs =
 map-block-requires : tie.Need-map-block-requires
 map-block-requires c κs = search needs
 
+opt-module-requires : tie.Need-opt-module-requires
+opt-module-requires c κs = tt
+
 returns : tie.Need-returns
 returns c =
-    let s = c .before .before .before .before in
-    c .map-block .ensures ∙ ap (λ h. mapAt (now (s .args .words)) h .block) (c .before .module-head .ensures) ∙ block-read (now (s .args .words)) (now (s .args .area)) (s .args .l) (s .pre .0 .tables) (s .args .m .0) (s .pre .1)
+    let s = c .before .before .before .before .before in
+    c .opt-module .ensures ∙ c .before .map-block .ensures ∙ ap (λ h. mapAt (now (s .args .words)) h .block) (c .before .before .module-head .ensures) ∙ block-read (now (s .args .words)) (now (s .args .area)) (s .args .l) (s .pre .0 .tables) (s .args .m .0) (s .pre .1)
 
 pub block-spec : {M : Type 1} → statement M
-block-spec = tie.close (tie.spec module-head-requires map-block-requires returns)
+block-spec = tie.close (tie.spec module-head-requires map-block-requires opt-module-requires returns)

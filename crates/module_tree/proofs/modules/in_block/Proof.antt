@@ -1,14 +1,25 @@
-use mathlib.Core.Path.{ap}
+use borrow.Author.Needs.{needs}
+use mathlib.Core.Path.{sym, ap}
 use mathlib.Core.Bool.{not}
 use lib.Dec.{eqb}
+use Rattle.module_tree.proofs.Climbs.{is-some, is-none, some-not}
 use Rattle.module_tree.proofs.modules.in_block.Statement.{statement}
 use Rattle.module_tree.proofs.modules.in_block.Tie as tie
 
 block-requires : tie.Need-block-requires
-block-requires c κs = c .before .before .pre
+block-requires c κs = search needs
+
+enum-told : tie.Need-enum-told
+enum-told c = search needs
+
+enum-told-2 : tie.Need-enum-told-2
+enum-told-2 c = search needs
 
 returns : tie.Need-returns
-returns c = ap (λ b. not (eqb b 0)) (c .block .ensures)
+returns c = some-not (is-some _ (c .before .before .block .ensures) (c .enum-told .given .1))
+
+returns-2 : tie.Need-returns-2
+returns-2 c = sym (ap (λ b. not (eqb b 0)) (is-none _ (c .before .before .block .ensures) (c .enum-told2 .given .1)))
 
 pub in-block-spec : {M : Type 1} → statement M
-in-block-spec = tie.close (tie.spec block-requires returns)
+in-block-spec = tie.close (tie.spec block-requires enum-told enum-told-2 returns returns-2)

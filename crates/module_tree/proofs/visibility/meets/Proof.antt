@@ -1,5 +1,5 @@
 use borrow.Author.Needs.{needs}
-use Prim.Native.Nat.{_<_, _-_}
+use Prim.Native.Nat.{_<_}
 use mathlib.Core.Path.{_≡_, refl, sym, _∙_}
 use denote.Ref.{now}
 use native.Mathlib.Omega.{arith}
@@ -9,50 +9,57 @@ use Rattle.module_tree.specs.Visibility.{met}
 use Rattle.module_tree.proofs.Reading.{length-modules}
 use Rattle.accept.proofs.Trees.{accepted-tree}
 use Rattle.module_tree.proofs.Chains.{containing-falls}
-use Rattle.module_tree.proofs.Climbs.{one-more, meets-here, meets-end, meets-on}
+use Rattle.module_tree.proofs.Climbs.{is-some, is-none, meets-here, meets-end, meets-on}
 use Rattle.module_tree.proofs.visibility.meets.Statement.{statement}
 use Rattle.module_tree.proofs.visibility.meets.Tie as tie
 
 abbrev Inv-loop : tie.InvT-loop
-Inv-loop words area l v₀ t v = (met (containing (snapOf words area l)) v₀ t ≡ met (containing (snapOf words area l)) v t) × (v < l .modules)
+Inv-loop words area l v₀ t v = (met (containing (snapOf words area l)) (v₀ .0) t ≡ met (containing (snapOf words area l)) (v .0) t) × (v .0 < l .modules)
 
 abbrev μ-loop : tie.MeasureT-loop
-μ-loop words area l v₀ t v = v
+μ-loop words area l v₀ t v = v .0
 
 loop-holds : tie.Need-loop-holds Inv-loop μ-loop
 loop-holds c = (refl, c .before .before .pre .1)
 
 containing-requires : tie.Need-containing-requires Inv-loop μ-loop
-containing-requires c κs = (c .before .before .before .before .pre .0, c .before .loop .inv .1)
+containing-requires c κs = (c .before .before .before .before .before .pre .0, c .before .before .loop .inv .1)
+
+enum-known-c : tie.Need-enum-known-c Inv-loop μ-loop
+enum-known-c c = search needs
+
+enum-told : tie.Need-enum-told Inv-loop μ-loop
+enum-told c = search needs
 
 returns : tie.Need-returns Inv-loop μ-loop
 returns c =
-    let s = c .before .before .before .before .before .before in
-    let g = c .before .before .before .loop in
-    meets-end (snapOf (now (s .args .words)) (now (s .args .area)) (s .args .l)) (containing-falls (snapOf (now (s .args .words)) (now (s .args .area)) (s .args .l)) (accepted-tree (now (s .args .words)) (snapOf (now (s .args .words)) (now (s .args .area)) (s .args .l)) (s .pre .0 .same))) (g .v) (s .args .target .0) (rw (length-modules (now (s .args .words)) (now (s .args .area)) (s .args .l)) (g .inv .1)) (c .before .before .loop-test .taken) (sym (c .before .containing .ensures) ∙ c .if1 .taken) ∙ sym (g .inv .0)
-
-sub-v : tie.Need-sub-v Inv-loop μ-loop
-sub-v c = search needs
+    let s = c .before .before .before .before .before .before .before .before in
+    let g = c .before .before .before .before .before .loop in
+    let n = (snapOf (now (s .args .words)) (now (s .args .area)) (s .args .l)) in
+    meets-end n (containing-falls n (accepted-tree (now (s .args .words)) (snapOf (now (s .args .words)) (now (s .args .area)) (s .args .l)) (s .pre .0 .same))) (g .v .0) (s .args .target .0) (rw (length-modules (now (s .args .words)) (now (s .args .area)) (s .args .l)) (g .inv .1)) (c .before .before .before .if1 .taken) (is-none _ (c .before .before .containing .ensures) (c .enum-told .given .1)) ∙ sym (g .inv .0)
 
 loop-less : tie.Need-loop-less Inv-loop μ-loop
 loop-less c =
-    let s = c .before .before .before .before .before .before in
-    let g = c .before .before .before .loop in
-    (containing-falls (snapOf (now (s .args .words)) (now (s .args .area)) (s .args .l)) (accepted-tree (now (s .args .words)) (snapOf (now (s .args .words)) (now (s .args .area)) (s .args .l)) (s .pre .0 .same))) (g .v) _ (rw (length-modules (now (s .args .words)) (now (s .args .area)) (s .args .l)) (g .inv .1)) (sym (c .before .containing .ensures) ∙ one-more _ (c .if1 .left))
+    let s = c .before .before .before .before .before .before .before .before .before in
+    let g = c .before .before .before .before .before .before .loop in
+    let n = (snapOf (now (s .args .words)) (now (s .args .area)) (s .args .l)) in
+    containing-falls n (accepted-tree (now (s .args .words)) (snapOf (now (s .args .words)) (now (s .args .area)) (s .args .l)) (s .pre .0 .same)) (g .v .0) _ (rw (length-modules (now (s .args .words)) (now (s .args .area)) (s .args .l)) (g .inv .1)) (is-some _ (c .before .before .before .containing .ensures) (c .before .c .given .1))
 
 loop-again : tie.Need-loop-again Inv-loop μ-loop
 loop-again c =
-    let s = c .before .before .before .before .before .before in
-    let g = c .before .before .before .loop in
-    let d = (containing-falls (snapOf (now (s .args .words)) (now (s .args .area)) (s .args .l)) (accepted-tree (now (s .args .words)) (snapOf (now (s .args .words)) (now (s .args .area)) (s .args .l)) (s .pre .0 .same))) (g .v) (c .before .containing .result - 1) (rw (length-modules (now (s .args .words)) (now (s .args .area)) (s .args .l)) (g .inv .1)) (sym (c .before .containing .ensures) ∙ one-more _ (c .if1 .left)) in
-    let k = g .inv .1 in
-    (g .inv .0 ∙ meets-on (snapOf (now (s .args .words)) (now (s .args .area)) (s .args .l)) (containing-falls (snapOf (now (s .args .words)) (now (s .args .area)) (s .args .l)) (accepted-tree (now (s .args .words)) (snapOf (now (s .args .words)) (now (s .args .area)) (s .args .l)) (s .pre .0 .same))) (g .v) (s .args .target .0) (rw (length-modules (now (s .args .words)) (now (s .args .area)) (s .args .l)) (g .inv .1)) (c .before .before .loop-test .taken) (c .before .containing .result - 1) (sym (c .before .containing .ensures) ∙ one-more _ (c .if1 .left)), omega arith)
+    let s = c .before .before .before .before .before .before .before .before .before in
+    let g = c .before .before .before .before .before .before .loop in
+    let n = (snapOf (now (s .args .words)) (now (s .args .area)) (s .args .l)) in
+    let f = containing-falls n (accepted-tree (now (s .args .words)) (snapOf (now (s .args .words)) (now (s .args .area)) (s .args .l)) (s .pre .0 .same)) in
+    let e = is-some _ (c .before .before .before .containing .ensures) (c .before .c .given .1) in
+    (g .inv .0 ∙ meets-on n f (g .v .0) (s .args .target .0) (rw (length-modules (now (s .args .words)) (now (s .args .area)) (s .args .l)) (g .inv .1)) (c .before .before .before .before .if1 .taken) _ e, omega (arith, f (g .v .0) _ (rw (length-modules (now (s .args .words)) (now (s .args .area)) (s .args .l)) (g .inv .1)) e, g .inv .1))
 
 returns-2 : tie.Need-returns-2 Inv-loop μ-loop
 returns-2 c =
-    let s = c .before .before .before .before in
-    let g = c .before .loop in
-    meets-here (snapOf (now (s .args .words)) (now (s .args .area)) (s .args .l)) (containing-falls (snapOf (now (s .args .words)) (now (s .args .area)) (s .args .l)) (accepted-tree (now (s .args .words)) (snapOf (now (s .args .words)) (now (s .args .area)) (s .args .l)) (s .pre .0 .same))) (g .v) (s .args .target .0) (rw (length-modules (now (s .args .words)) (now (s .args .area)) (s .args .l)) (g .inv .1)) (c .loop-test .left) ∙ sym (g .inv .0)
+    let s = c .before .before .before .before .before in
+    let g = c .before .before .loop in
+    let n = (snapOf (now (s .args .words)) (now (s .args .area)) (s .args .l)) in
+    meets-here n (containing-falls n (accepted-tree (now (s .args .words)) (snapOf (now (s .args .words)) (now (s .args .area)) (s .args .l)) (s .pre .0 .same))) (g .v .0) (s .args .target .0) (rw (length-modules (now (s .args .words)) (now (s .args .area)) (s .args .l)) (g .inv .1)) (c .if1 .left) ∙ sym (g .inv .0)
 
 pub meets-spec : {M : Type 1} → statement M
 meets-spec =
@@ -62,8 +69,9 @@ meets-spec =
     μ-loop
     loop-holds
     containing-requires
+    enum-known-c
+    enum-told
     returns
-    sub-v
     loop-less
     loop-again
     returns-2)

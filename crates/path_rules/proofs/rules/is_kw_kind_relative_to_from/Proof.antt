@@ -2,6 +2,7 @@ use borrow.Author.Needs.{needs}
 use mathlib.Core.Path.{_∙_}
 use denote.Ref.{now}
 use Rattle.snapshot.specs.Layouts.{snapOf}
+use Rattle.find_path.specs.Rules.{keywordKind}
 use Rattle.path_rules.proofs.RuleLaws.{kw-none, kw-self, kw-parent}
 use Rattle.path_rules.proofs.rules.is_kw_kind_relative_to_from.Statement.{statement}
 use Rattle.path_rules.proofs.rules.is_kw_kind_relative_to_from.Tie as tie
@@ -19,12 +20,14 @@ in-block-requires-2 : tie.Need-in-block-requires-2
 in-block-requires-2 c κs = search needs
 
 returns : tie.Need-returns
+unfolding keywordKind
 returns c =
     let s = c .before .before .before .before .before .before .before .before .before in
     let n = snapOf (now (s .args .words)) (now (s .args .area)) (s .args .l) in
     kw-none n (s .args .x) (s .args .m .0) (c .before .before .before .before .before .before .krate .ensures) (c .before .before .before .before .before .krate2 .ensures) (c .before .before .before .before .in-block .ensures) (c .before .before .before .in-block2 .ensures) (c .if1 .taken)
 
 returns-2 : tie.Need-returns-2
+unfolding keywordKind
 returns-2 c =
     let s = c .before .before .before .before .before .before .before .before .before .before .before .before in
     let n = snapOf (now (s .args .words)) (now (s .args .area)) (s .args .l) in
@@ -34,6 +37,7 @@ parent-kind-requires : tie.Need-parent-kind-requires
 parent-kind-requires c κs = search needs
 
 returns-3 : tie.Need-returns-3
+unfolding keywordKind
 returns-3 c =
     let s = c .before .before .before .before .before .before .before .before .before .before .before .before .before in
     let n = snapOf (now (s .args .words)) (now (s .args .area)) (s .args .l) in

@@ -22,7 +22,7 @@ returns : tie.Need-returns
 returns c =
     let s = c .before .before .before .before .before .before in
     let n = snapOf (now (s .args .words)) (now (s .args .area)) (s .args .l) in
-    c .nothing .ensures ∙ keyword-none n (s .args .x) (sym (c .before .before .before .is-kw-kind-relative-to-from .ensures) ∙ c .before .enum-told .given .1)
+    c .nothing .ensures ∙ keyword-none n (s .args .x) (c .before .before .before .is-kw-kind-relative-to-from .ensures) (c .before .enum-told .given .1)
 
 keyword-requires : tie.Need-keyword-requires
 keyword-requires c κs = search needs
@@ -31,7 +31,7 @@ returns-2 : tie.Need-returns-2
 returns-2 c =
     let s = c .before .before .before .before .before .before .before .before .before in
     let n = snapOf (now (s .args .words)) (now (s .args .area)) (s .args .l) in
-    c .keyword .ensures ∙ keyword-taken n (s .args .x) _ (sym (c .before .before .before .before .before .before .is-kw-kind-relative-to-from .ensures) ∙ c .before .before .before .before .k .given .1) (c .before .if1 .taken)
+    c .keyword .ensures ∙ keyword-taken n (s .args .x) _ (c .before .before .before .before .before .before .is-kw-kind-relative-to-from .ensures) (c .before .before .before .before .k .given .1) (c .before .if1 .taken)
 
 nothing-requires-2 : tie.Need-nothing-requires-2
 nothing-requires-2 c κs = search needs
@@ -40,7 +40,7 @@ returns-3 : tie.Need-returns-3
 returns-3 c =
     let s = c .before .before .before .before .before .before .before .before .before in
     let n = snapOf (now (s .args .words)) (now (s .args .area)) (s .args .l) in
-    c .nothing2 .ensures ∙ keyword-left n (s .args .x) _ (sym (c .before .before .before .before .before .before .is-kw-kind-relative-to-from .ensures) ∙ c .before .before .before .before .k .given .1) (c .before .if1 .left)
+    c .nothing2 .ensures ∙ keyword-left n (s .args .x) _ (c .before .before .before .before .before .before .is-kw-kind-relative-to-from .ensures) (c .before .before .before .before .k .given .1) (c .before .if1 .left)
 
 pub keyword-rule-spec : {M : Type 1} → statement M
 keyword-rule-spec =

@@ -14,6 +14,7 @@ use Rattle.find_path.specs.Charged.{foundOf, variantOf}
 use Rattle.find_path.proofs.Tables.{same-reads}
 use Rattle.charged_search.proofs.Runs.{begun-later}
 use Rattle.search.proofs.Items.{number, item-ns, enum-no-variant, parent-of, inner-at-once, inner-by-name, name-found, name-plain}
+use Rattle.hir_def.proofs.Climbs.{is-some, is-none}
 use Rattle.search.proofs.Starts.{begun, straight-known, enum-offered, tank-stays, enum-run, else-run}
 use borrow.Fn.Kinds.{In}
 use borrow.Fn.PlainCycle.{Measures, is, falls, and}
@@ -568,7 +569,7 @@ find-path-inner-returns t c =
     let o = c .before .before .before .before .before .before .before .before .before in
     let a = o .args in
     let f = c .before .before .find-by-name in
-    let e = sym (c .before .before .before .before .enum-told .given .1) ∙ c .before .before .before .before .before .before .straight-of .ensures in
+    let e = is-none _ (c .before .before .before .before .before .before .straight-of .ensures) (c .before .before .before .before .enum-told .given .1) in
     record {
       same = f .ensures .same ∙ ap foundOf (inner-by-name (snapOf (now (a .words)) (now (a .area)) (a .l)) (a .x) (a .item) (a .t) (enum-no-variant (now (a .words)) (now (a .area)) (a .l) (o .pre .1 .0 .reads) (a .item) (o .pre .1 .1 .0)) e);
       tables = f .ensures .tables;
@@ -586,7 +587,7 @@ find-path-inner-find-path-for-module-requires :
 find-path-inner-find-path-for-module-requires t c κs =
     let o = c .before .before .before .before .before .before .before in
     let a = o .args in
-    let e = sym (c .before .before .m .given .1) ∙ c .before .before .before .before .straight-of .ensures in
+    let e = is-some _ (c .before .before .before .before .straight-of .ensures) (c .before .before .m .given .1) in
     (o .pre .1 .0, straight-known (a .l) _ (a .item) e (o .pre .1 .1 .0), o .pre .1 .0 .limit, o .pre .1 .2)
 
 find-path-inner-same-length-2 : (t : ℕ) → find-path-inner-lts.Need-same-length-2 (
@@ -611,7 +612,7 @@ find-path-inner-returns-2 t c =
     let o = c .before .before .before .before .before .before .before .before .before .before in
     let a = o .args in
     let f = c .before .before .find-path-for-module in
-    let e = sym (c .before .before .before .before .before .m .given .1) ∙ c .before .before .before .before .before .before .before .straight-of .ensures in
+    let e = is-some _ (c .before .before .before .before .before .before .before .straight-of .ensures) (c .before .before .before .before .before .m .given .1) in
     record {
       same = f .ensures .same ∙ ap foundOf (inner-at-once (snapOf (now (a .words)) (now (a .area)) (a .l)) (a .x) (a .item) (a .t) (enum-no-variant (now (a .words)) (now (a .area)) (a .l) (o .pre .1 .0 .reads) (a .item) (o .pre .1 .1 .0)) e);
       tables = f .ensures .tables;
