@@ -47,14 +47,14 @@ module _ (s : Snapshot) (x : FindPathCtx) where
   offer-few left best c n via f g =
       either-few left (c .found) _ _
       (either-few left (best .found) _ _
-      (either-few left (better s (x .prelude) best c n) (extended s c n via (c .prelude)) best (omega arith) f) (omega arith))
+      (either-few left (better s (x .«prefer_prelude») best c n) (extended s c n via (c .«has_prelude_segment»)) best (omega arith) f) (omega arith))
       f
 
   import-few : (left : ℕ) (best c : Choice) (i : Import) → best .count ≤ left → c .count < left → Few left (offerImport s x best c i)
   unfolding offerImport unstably
   import-few left best c i f g =
       either-few left (isUnstable i) _ _
-      (either-few left (x .unstable) _ _ (offer-few left best (unstably c) (i .name) _ f g) f)
+      (either-few left (x .«allow_unstable») _ _ (offer-few left best (unstably c) (i .name) _ f g) f)
       (offer-few left best c (i .name) _ f g)
 
   pub held-import : (left : ℕ) (o : Out Tank) (i : Import) (b : Bool) → 0 < left → Held left (foundOf o) → Held left (foundOf (oneImport s x left o i b))
@@ -84,12 +84,12 @@ module _ (s : Snapshot) (x : FindPathCtx) where
       → Held left (foundOf (inLang s x left item o n b))
   unfolding inLang
   held-lang left item o n true h f = f
-  held-lang left item o n false h f = held-deps left item o (oneOrNone (langOf s (x .krate) n)) h f
+  held-lang left item o n false h f = held-deps left item o (oneOrNone (langOf s (x .«from_crate») n)) h f
 
 -- the choice of a module search for an import can be offered
 pub record Offered (c : Choice) : Type 0 where
   pub few : c .count < 16
-  pub text : c .text < 2 ^ 32
+  pub text : c .«path_text_len» < 2 ^ 32
   pub steps : c .steps < 17
 
 pub offered : (W A : List ℕ) (l : Layout) (x : FindPathCtx) (left n m : ℕ) (t : Tank) (r : Found) → Reads W A l → left ≤ pathLimit → n < left
@@ -99,7 +99,7 @@ offered W A l x left n m t r a h k e =
     let f = q .few in
     let u = q .text (names-short W A l a) in
     let p = ap (λ (y : Found). y .choice .count) e in
-    let w = ap (λ (y : Found). y .choice .text) e in
+    let w = ap (λ (y : Found). y .choice .«path_text_len») e in
     let z = ap (λ (y : Found). y .choice .steps) e in
     record { few = omega arith; text = omega arith; steps = omega (arith, z, q .once, f, k, h) }
 

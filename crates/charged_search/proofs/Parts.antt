@@ -109,29 +109,29 @@ module _ (s : Snapshot) (x : FindPathCtx) where
     best-charged t {d} {u} e h = by-charge t d (go u) e (ap chargedBy h)
 
     -- and what follows it
-    pub go-here : (t : Tank) {c : Choice} → c ≡ bestLocal s x left item → isAt s (homeOf s item) (x .krate) ≡ true
+    pub go-here : (t : Tank) {c : Choice} → c ≡ bestLocal s x left item → isAt s (homeOf s item) (x .«from_crate») ≡ true
         → found c t ≡ foundOf (after (go t))
     unfolding afterCharge goOn
     go-here t e h =
         ap (λ (c : Choice). found c t) e
-        ∙ sym (ap (λ (b : Bool). foundOf (goOn Tank fromTank s x (bestLocal s x) (modules s x) left item t b (x .std))) h)
+        ∙ sym (ap (λ (b : Bool). foundOf (goOn Tank fromTank s x (bestLocal s x) (modules s x) left item t b (x .«is_std_item»))) h)
 
-    pub go-sysroot : (t : Tank) {c : Choice} → c ≡ nothing → isAt s (homeOf s item) (x .krate) ≡ false → x .std ≡ true
-        → sysroot s x left item (record { choice = c; meter = t }) (langs (x .nostd)) (isStable c) ≡ after (go t)
+    pub go-sysroot : (t : Tank) {c : Choice} → c ≡ nothing → isAt s (homeOf s item) (x .«from_crate») ≡ false → x .«is_std_item» ≡ true
+        → sysroot s x left item (record { choice = c; meter = t }) (langs (x .«prefer_no_std»)) (isStable c) ≡ after (go t)
     unfolding afterCharge goOn
     go-sysroot t e h k =
-        ap (λ (c : Choice). sysroot s x left item (record { choice = c; meter = t }) (langs (x .nostd)) (isStable c)) e
+        ap (λ (c : Choice). sysroot s x left item (record { choice = c; meter = t }) (langs (x .«prefer_no_std»)) (isStable c)) e
         ∙ sym
-        (ap (λ (b : Bool). goOn Tank fromTank s x (bestLocal s x) (modules s x) left item t b (x .std)) h
+        (ap (λ (b : Bool). goOn Tank fromTank s x (bestLocal s x) (modules s x) left item t b (x .«is_std_item»)) h
         ∙ ap (λ (b : Bool). goOn Tank fromTank s x (bestLocal s x) (modules s x) left item t false b) k)
 
-    pub go-dependencies : (t : Tank) {c : Choice} → c ≡ nothing → isAt s (homeOf s item) (x .krate) ≡ false → x .std ≡ false
-        → dependencies s x left item (record { choice = c; meter = t }) (dependenciesOf s (x .krate)) ≡ after (go t)
+    pub go-dependencies : (t : Tank) {c : Choice} → c ≡ nothing → isAt s (homeOf s item) (x .«from_crate») ≡ false → x .«is_std_item» ≡ false
+        → dependencies s x left item (record { choice = c; meter = t }) (dependenciesOf s (x .«from_crate»)) ≡ after (go t)
     unfolding afterCharge goOn
     go-dependencies t e h k =
-        ap (λ (c : Choice). dependencies s x left item (record { choice = c; meter = t }) (dependenciesOf s (x .krate))) e
+        ap (λ (c : Choice). dependencies s x left item (record { choice = c; meter = t }) (dependenciesOf s (x .«from_crate»))) e
         ∙ sym
-        (ap (λ (b : Bool). goOn Tank fromTank s x (bestLocal s x) (modules s x) left item t b (x .std)) h
+        (ap (λ (b : Bool). goOn Tank fromTank s x (bestLocal s x) (modules s x) left item t b (x .«is_std_item»)) h
         ∙ ap (λ (b : Bool). goOn Tank fromTank s x (bestLocal s x) (modules s x) left item t false b) k)
 
     -- the languages in turn
@@ -156,17 +156,17 @@ module _ (s : Snapshot) (x : FindPathCtx) where
     lang-stable o n true e = refl
     lang-stable o n false e = absurd (false≢true e)
 
-    lang-by : (o : Out Tank) (n : ℕ) (b : Bool) (d : Option Dependency) → b ≡ false → d ≡ langOf s (x .krate) n
+    lang-by : (o : Out Tank) (n : ℕ) (b : Bool) (d : Option Dependency) → b ≡ false → d ≡ langOf s (x .«from_crate») n
         → dependencies s x left item o (oneOrNone d) ≡ inLang s x left item o n b
     unfolding inLang
     lang-by o n true d e h = absurd (false≢true (sym e))
     lang-by o n false d e h = ap (λ (y : Option Dependency). dependencies s x left item o (oneOrNone y)) h
 
-    pub lang-none : (o : Out Tank) (n : ℕ) (b : Bool) → b ≡ false → none ≡ langOf s (x .krate) n → o ≡ inLang s x left item o n b
+    pub lang-none : (o : Out Tank) (n : ℕ) (b : Bool) → b ≡ false → none ≡ langOf s (x .«from_crate») n → o ≡ inLang s x left item o n b
     unfolding findInDeps oneOrNone
     lang-none o n b e h = lang-by o n b none e h
 
-    pub lang-some : (o : Out Tank) (n : ℕ) (b : Bool) (d : Dependency) → b ≡ false → some d ≡ langOf s (x .krate) n
+    pub lang-some : (o : Out Tank) (n : ℕ) (b : Bool) (d : Dependency) → b ≡ false → some d ≡ langOf s (x .«from_crate») n
         → imports s x left o (importInfoFor s (d .crate) item) ≡ inLang s x left item o n b
     unfolding findInDeps findInDep oneOrNone
     lang-some o n b d e h = lang-by o n b (some d) e h
@@ -178,14 +178,14 @@ module _ (s : Snapshot) (x : FindPathCtx) where
     deps-append o [] es = refl
     deps-append o (d ∷ ds) es = deps-append _ ds es
 
-    sysroot-parts : select (bySysroot (x .krate) true) (s .dependencies) ++ select (bySysroot (x .krate) false) (s .dependencies) ≡ sysrootFirst s (x .krate)
+    sysroot-parts : select (bySysroot (x .«from_crate») true) (s .dependencies) ++ select (bySysroot (x .«from_crate») false) (s .dependencies) ≡ sysrootFirst s (x .«from_crate»)
     unfolding sysrootFirst dependenciesOf
     sysroot-parts =
         sym
-        (ap (λ (l : List Dependency). l ++ select (λ d. not (isSysroot d)) (select (isDependency (x .krate)) (s .dependencies)))
-        (select-select isSysroot (isDependency (x .krate)) (s .dependencies))
-        ∙ ap (λ (l : List Dependency). select (bySysroot (x .krate) true) (s .dependencies) ++ l)
-        (select-select (λ d. not (isSysroot d)) (isDependency (x .krate)) (s .dependencies)))
+        (ap (λ (l : List Dependency). l ++ select (λ d. not (isSysroot d)) (select (isDependency (x .«from_crate»)) (s .dependencies)))
+        (select-select isSysroot (isDependency (x .«from_crate»)) (s .dependencies))
+        ∙ ap (λ (l : List Dependency). select (bySysroot (x .«from_crate») true) (s .dependencies) ++ l)
+        (select-select (λ d. not (isSysroot d)) (isDependency (x .«from_crate»)) (s .dependencies)))
 
     pub rest-stable : (o : Out Tank) (b : Bool) → b ≡ true → o ≡ sysroot s x left item o [] b
     unfolding findInSysroot
@@ -193,8 +193,8 @@ module _ (s : Snapshot) (x : FindPathCtx) where
     rest-stable o false e = absurd (false≢true e)
 
     pub rest-more : (o : Out Tank) (b : Bool) → b ≡ false
-        → dependencies s x left item (dependencies s x left item o (select (bySysroot (x .krate) true) (s .dependencies)))
-        (select (bySysroot (x .krate) false) (s .dependencies))
+        → dependencies s x left item (dependencies s x left item o (select (bySysroot (x .«from_crate») true) (s .dependencies)))
+        (select (bySysroot (x .«from_crate») false) (s .dependencies))
         ≡ sysroot s x left item o [] b
     unfolding findInSysroot
     rest-more o true e = absurd (false≢true (sym e))

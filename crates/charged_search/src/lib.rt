@@ -30,8 +30,8 @@ use hir_def::Item;
 use hir_def::Next;
 use hir_def::items::home_of;
 use hir_def::modules::krate;
+use import_map::import_info_for;
 use import_map::is_hidden;
-use import_map::next_import;
 use local_search::calculate_best_path_local;
 use path_offers::offers::offer_import;
 use path_rules::choices::length_left;
@@ -128,7 +128,7 @@ fn search_charged(
     ensures { λ r. ⌜ Searched (now (area .entry)) (afterCharge Tank fromTank (snapOf (now (words .entry)) (now (area .entry)) l) x (bestLocal (snapOf (now (words .entry)) (now (area .entry)) l) x) (modules (snapOf (now (words .entry)) (now (area .entry)) l) x) left item (go t)) (now (area .exit)) r ⌝ }
 {
     let home = home_of(words, l, item);
-    if is_at(words, area, l, home, Crate(x.krate)) {
+    if is_at(words, area, l, home, Crate(x.from_crate)) {
         let choice = calculate_best_path_local(words, area, l, x, left, item);
         return Found {
             choice: choice,
@@ -140,7 +140,7 @@ fn search_charged(
         choice: choice,
         meter: t,
     };
-    if x.std {
+    if x.is_std_item {
         return find_in_sysroot(words, area, l, x, left, item, o);
     }
     find_in_deps(words, area, l, x, left, item, o)
@@ -157,9 +157,9 @@ fn find_in_sysroot(
     o: Found,
 ) -> Found
     requires { ⌜ Begun (now words) (now area) l x left × Held left o ⌝ }
-    ensures { λ r. ⌜ Searched (now (area .entry)) (sysroot (snapOf (now (words .entry)) (now (area .entry)) l) x left item (outOf o) (langs (x .nostd)) (isStable (o .choice))) (now (area .exit)) r ⌝ }
+    ensures { λ r. ⌜ Searched (now (area .entry)) (sysroot (snapOf (now (words .entry)) (now (area .entry)) l) x left item (outOf o) (langs (x .«prefer_no_std»)) (isStable (o .choice))) (now (area .exit)) r ⌝ }
 {
-    let langs = langs_for(x.nostd);
+    let langs = langs_for(x.prefer_no_std);
     let a = find_in_lang(words, area, l, x, left, item, langs.first, o);
     let b = find_in_lang(words, area, l, x, left, item, langs.second, a);
     let c = find_in_lang(words, area, l, x, left, item, langs.third, b);
@@ -184,7 +184,7 @@ fn find_in_lang(
     if is_stable(choice) {
         return o;
     }
-    let Entry::At(h) = lang_of(words, l, Crate(x.krate), lang) else {
+    let Entry::At(h) = lang_of(words, l, Crate(x.from_crate), lang) else {
         return o;
     };
     find_in_dep(words, area, l, x, left, item, dependency_crate(words, h), o)
@@ -223,9 +223,9 @@ fn find_in_deps_by_sysroot(
     o: Found,
 ) -> Found
     requires { ⌜ Begun (now words) (now area) l x left × Held left o ⌝ }
-    ensures { λ r. ⌜ Searched (now (area .entry)) (dependencies (snapOf (now (words .entry)) (now (area .entry)) l) x left item (outOf o) (select (bySysroot (x .krate) inside) ((snapOf (now (words .entry)) (now (area .entry)) l) .dependencies))) (now (area .exit)) r ⌝ }
+    ensures { λ r. ⌜ Searched (now (area .entry)) (dependencies (snapOf (now (words .entry)) (now (area .entry)) l) x left item (outOf o) (select (bySysroot (x .«from_crate») inside) ((snapOf (now (words .entry)) (now (area .entry)) l) .dependencies))) (now (area .exit)) r ⌝ }
 {
-    let c = Crate(x.krate);
+    let c = Crate(x.from_crate);
     let mut best = o;
     let mut k = 0;
     while k < l.dependencies {
@@ -258,9 +258,9 @@ fn find_in_deps(
     o: Found,
 ) -> Found
     requires { ⌜ Begun (now words) (now area) l x left × Held left o ⌝ }
-    ensures { λ r. ⌜ Searched (now (area .entry)) (dependencies (snapOf (now (words .entry)) (now (area .entry)) l) x left item (outOf o) (dependenciesOf (snapOf (now (words .entry)) (now (area .entry)) l) (x .krate))) (now (area .exit)) r ⌝ }
+    ensures { λ r. ⌜ Searched (now (area .entry)) (dependencies (snapOf (now (words .entry)) (now (area .entry)) l) x left item (outOf o) (dependenciesOf (snapOf (now (words .entry)) (now (area .entry)) l) (x .«from_crate»))) (now (area .exit)) r ⌝ }
 {
-    let c = Crate(x.krate);
+    let c = Crate(x.from_crate);
     let mut best = o;
     let mut k = 0;
     while k < l.dependencies {
@@ -299,7 +299,7 @@ fn find_in_dep(
     let mut best = o;
     let mut k = 0;
     while k < l.imports {
-        let Next::Record(j, h) = next_import(words, l, k, c, item) else {
+        let Next::Record(j, h) = import_info_for(words, l, k, c, item) else {
             return best;
         };
         best = find_import(words, area, l, x, left, h, best);

@@ -36,7 +36,7 @@ pub record Fits (s : Snapshot) (left : ℕ) (c : Choice) : Type 0 where
   pub long : length (c .names) ≡ 16
   pub rest : (i : ℕ) → c .count ≤ i → getD (c .names) i 0 ≡ 0
   -- the text of a path is short where the names are
-  pub text : Short s → c .text ≤ 5 + 255 * c .count
+  pub text : Short s → c .«path_text_len» ≤ 5 + 255 * c .count
   -- a step for each name, and one more after a keyword; zeros past them
   pub each : c .count ≤ c .steps
   pub once : c .steps ≤ c .count + 1
@@ -136,11 +136,11 @@ unfolding firstFound
 first-fits left c cs f g = either-fits left (c .found) c (firstFound cs) f g
 
 module _ (s : Snapshot) (x : FindPathCtx) where
-  select-fits : (l : ℕ) (best c : Choice) (n t : ℕ) → Fits s (suc l) best → Fits s l c → Fits s (suc l) (trySelect s (x .prelude) best c n t)
+  select-fits : (l : ℕ) (best c : Choice) (n t : ℕ) → Fits s (suc l) best → Fits s l c → Fits s (suc l) (trySelect s (x .«prefer_prelude») best c n t)
   unfolding trySelect
   select-fits l best c n t f g =
       either-fits (suc l) (best .found) _ _
-      (either-fits (suc l) (better s (x .prelude) best c n) _ _ (extended-fits s l c n t _ g) f) (push-fits s l c n t g)
+      (either-fits (suc l) (better s (x .«prefer_prelude») best c n) _ _ (extended-fits s l c n t _ g) f) (push-fits s l c n t g)
 
   pub offer-fits : (l left : ℕ) (best c : Choice) (n t : ℕ) → l < left → Fits s left best → Fits s l c → Fits s left (offer s x best c n t)
   unfolding offer
@@ -157,7 +157,7 @@ module _ (s : Snapshot) (x : FindPathCtx) where
   unfolding offerImport
   offer-import-fits l left best c i h f g =
       either-fits left (isUnstable i) _ _
-      (either-fits left (x .unstable) _ _ (offer-fits l left best (unstably c) (i .name) _ h f (unstably-fits l c g)) f)
+      (either-fits left (x .«allow_unstable») _ _ (offer-fits l left best (unstably c) (i .name) _ h f (unstably-fits l c g)) f)
       (offer-fits l left best c (i .name) _ h f g)
 
   -- the rules without a search give a name at most
@@ -184,7 +184,7 @@ module _ (s : Snapshot) (x : FindPathCtx) where
   unfolding rootRule
   root-fits l b m =
       either-fits (suc l) (eqb (crateRoot s m) m) _ _
-      (either-fits (suc l) (not b || eqb m (x .root)) _ _ (keyword-fits (suc l) cratePath) (extern-fits l m (externOf s (x .krate) m)))
+      (either-fits (suc l) (not b || eqb m (x .«crate_root»)) _ _ (keyword-fits (suc l) cratePath) (extern-fits l m (externOf s (x .«from_crate») m)))
       (nothing-fits (suc l))
 
   keyword-of-fits : (l : ℕ) (k : Option ℕ) → Fits s (suc l) (keywordOf s x k)
@@ -271,15 +271,15 @@ module _ (M : Type 0) (charge : Charge M) (s : Snapshot) where
         → Fits s (suc l) (findInSysroot M charge s x here rec (suc l) item o ls b .choice)
     unfolding findInSysroot
     sysroot-fits l item o [] true f = f
-    sysroot-fits l item o [] false f = deps-fit l item o (sysrootFirst s (x .krate)) f
+    sysroot-fits l item o [] false f = deps-fit l item o (sysrootFirst s (x .«from_crate»)) f
     sysroot-fits l item o (n ∷ ls) true f = f
     sysroot-fits l item o (n ∷ ls) false f =
-        sysroot-fits l item _ ls _ (deps-fit l item o (oneOrNone (langOf s (x .krate) n)) f)
+        sysroot-fits l item _ ls _ (deps-fit l item o (oneOrNone (langOf s (x .«from_crate») n)) f)
 
     go-fits : (l : ℕ) (item : Item) (t : M) (a b : Bool) → Fits s (suc l) (goOn M charge s x here rec (suc l) item t a b .choice)
     unfolding goOn
     go-fits l item t true b = local l item
-    go-fits l item t false true = sysroot-fits l item _ (langs (x .nostd)) false (nothing-fits (suc l))
+    go-fits l item t false true = sysroot-fits l item _ (langs (x .«prefer_no_std»)) false (nothing-fits (suc l))
     go-fits l item t false false = deps-fit l item _ _ (nothing-fits (suc l))
 
     after-fits : (l : ℕ) (item : Item) (c : Charged M) → Fits s (suc l) (afterCharge M charge s x here rec (suc l) item c .choice)
@@ -306,9 +306,9 @@ module _ (M : Type 0) (charge : Charge M) (s : Snapshot) where
     module-fits (suc l) m t = or-fits l m t _ _ (rules-fit s x l true m)
 
     -- a variant has one name more than its enum
-    module _ (n : ℕ) (inner : Inner M) (within : FitsInner n inner) (pos : 0 < x .limit) (wide : x .limit ≤ suc n) where
-      item-best : (item : Item) (t : M) → Fits s (suc n) (calculateBestPath M charge s x here rec (x .limit) item t .choice)
-      item-best item t = more (x .limit) (suc n) wide (best-within (x .limit) pos item t)
+    module _ (n : ℕ) (inner : Inner M) (within : FitsInner n inner) (pos : 0 < x .«max_len») (wide : x .«max_len» ≤ suc n) where
+      item-best : (item : Item) (t : M) → Fits s (suc n) (calculateBestPath M charge s x here rec (x .«max_len») item t .choice)
+      item-best item t = more (x .«max_len») (suc n) wide (best-within (x .«max_len») pos item t)
 
       enum-fits : (item : Item) (v : Definition) (o : Out M) (b : Bool) → Fits s n (o .choice) → Fits s (suc n) (afterEnum M charge s x here rec item v o b .choice)
       unfolding afterEnum pushVariant
@@ -334,11 +334,11 @@ module _ (M : Type 0) (charge : Charge M) (s : Snapshot) where
       of-fits : (m : ℕ) (t : M) (b : Bool) → Fits s (suc n) (ofModule M charge s x here rec inner m t b .choice)
       unfolding ofModule
       of-fits m t true = by-name-fits (Mod m) t
-      of-fits m t false = more (x .limit) (suc n) wide (fits (x .limit) m t)
+      of-fits m t false = more (x .«max_len») (suc n) wide (fits (x .«max_len») m t)
 
       item-fits : FitsInner (suc n) (findPathInner M charge s x here rec inner)
       unfolding findPathInner
-      item-fits (Mod m) t = of-fits m t (x .std)
+      item-fits (Mod m) t = of-fits m t (x .«is_std_item»)
       item-fits (Def ns d) t = by-name-fits (Def ns d) t
 
   moduleTo-fits : (x : FindPathCtx) (d : ℕ) → FitsSearch (moduleTo M charge s x d)
@@ -351,7 +351,7 @@ module _ (M : Type 0) (charge : Charge M) (s : Snapshot) where
   unfolding searchModule
   module-search-fits x left m t = moduleTo-fits x left left m t
 
-  pub itemTo-fits : (x : FindPathCtx) (l : ℕ) → 0 < x .limit → x .limit ≤ suc l → (d : ℕ) → FitsInner (l + d) (itemTo M charge s x d)
+  pub itemTo-fits : (x : FindPathCtx) (l : ℕ) → 0 < x .«max_len» → x .«max_len» ≤ suc l → (d : ℕ) → FitsInner (l + d) (itemTo M charge s x d)
   unfolding itemTo
   itemTo-fits x l p h zero item t = nothing-fits (l + 0)
   itemTo-fits x l p h (suc d) item t =

@@ -48,15 +48,15 @@ module _ (M : Type 0) (charge : Charge M) (s : Snapshot) (P : M → Type 0) (kep
     pub sysroot-keeps : (left : ℕ) (item : Item) (o : Out M) (ls : List ℕ) (b : Bool) → P (o .meter) → P (findInSysroot M charge s x here rec left item o ls b .meter)
     unfolding findInSysroot
     sysroot-keeps left item o [] true h = h
-    sysroot-keeps left item o [] false h = deps-keep left item o (sysrootFirst s (x .krate)) h
+    sysroot-keeps left item o [] false h = deps-keep left item o (sysrootFirst s (x .«from_crate»)) h
     sysroot-keeps left item o (l ∷ ls) true h = h
     sysroot-keeps left item o (l ∷ ls) false h =
-        sysroot-keeps left item _ ls _ (deps-keep left item o (oneOrNone (langOf s (x .krate) l)) h)
+        sysroot-keeps left item _ ls _ (deps-keep left item o (oneOrNone (langOf s (x .«from_crate») l)) h)
 
     pub go-keeps : (left : ℕ) (item : Item) (t : M) (a b : Bool) → P t → P (goOn M charge s x here rec left item t a b .meter)
     unfolding goOn
     go-keeps left item t true b h = h
-    go-keeps left item t false true h = sysroot-keeps left item _ (langs (x .nostd)) false h
+    go-keeps left item t false true h = sysroot-keeps left item _ (langs (x .«prefer_no_std»)) false h
     go-keeps left item t false false h = deps-keep left item _ _ h
 
     after-keeps : (left : ℕ) (item : Item) (c : Charged M) → P (left-by c) → P (afterCharge M charge s x here rec left item c .meter)
@@ -71,7 +71,7 @@ module _ (M : Type 0) (charge : Charge M) (s : Snapshot) (P : M → Type 0) (kep
     pub enum-keeps : (item : Item) (v : Definition) (o : Out M) (b : Bool) → P (o .meter) → P (afterEnum M charge s x here rec item v o b .meter)
     unfolding afterEnum
     enum-keeps item v o true h = h
-    enum-keeps item v o false h = best-keeps (x .limit) item (o .meter) h
+    enum-keeps item v o false h = best-keeps (x .«max_len») item (o .meter) h
 
     or-keeps : (left m : ℕ) (t : M) (c : Choice) (b : Bool) → P t → P (orCharged M charge s x here rec left m t c b .meter)
     unfolding orCharged
@@ -86,7 +86,7 @@ module _ (M : Type 0) (charge : Charge M) (s : Snapshot) (P : M → Type 0) (kep
     module _ (inner : Inner M) (within : KeptWithin P inner) where
       via-keeps : (item : Item) (t : M) (v : Option Definition) → P t → P (viaEnum M charge s x here rec inner item t v .meter)
       unfolding viaEnum
-      via-keeps item t none h = best-keeps (x .limit) item t h
+      via-keeps item t none h = best-keeps (x .«max_len») item t h
       via-keeps item t (some v) h = enum-keeps item v _ _ (within (itemOf s types (v .first)) t h)
 
       named-keeps : (item : Item) (t : M) (c : Choice) (b : Bool) → P t → P (orEnum M charge s x here rec inner item t c b .meter)
@@ -97,11 +97,11 @@ module _ (M : Type 0) (charge : Charge M) (s : Snapshot) (P : M → Type 0) (kep
       of-keeps : (m : ℕ) (t : M) (b : Bool) → P t → P (ofModule M charge s x here rec inner m t b .meter)
       unfolding ofModule byName
       of-keeps m t true h = named-keeps (Mod m) t _ _ h
-      of-keeps m t false h = k (x .limit) m t h
+      of-keeps m t false h = k (x .«max_len») m t h
 
       item-keeps : KeptWithin P (findPathInner M charge s x here rec inner)
       unfolding findPathInner byName
-      item-keeps (Mod m) t h = of-keeps m t (x .std) h
+      item-keeps (Mod m) t h = of-keeps m t (x .«is_std_item») h
       item-keeps (Def ns d) t h = named-keeps (Def ns d) t _ _ h
 
   module _ (x : FindPathCtx) where

@@ -260,11 +260,11 @@ module _ (s : Snapshot) (r : Ranges (countsOf s) s) where
       (λ t. rw (variantOf, t) tt)
 
   module _ (x : FindPathCtx) where
-    select-known : (best c : Choice) (n t : ℕ) → Known s best → Known s c → NameBy s n t → Known s (trySelect s (x .prelude) best c n t)
+    select-known : (best c : Choice) (n t : ℕ) → Known s best → Known s c → NameBy s n t → Known s (trySelect s (x .«prefer_prelude») best c n t)
     unfolding trySelect
     select-known best c n t f g h =
         either-known (best .found) _ _
-        (either-known (better s (x .prelude) best c n) _ _ (extended-known s c n t _ g h) f) (push-known s c n t g h)
+        (either-known (better s (x .«prefer_prelude») best c n) _ _ (extended-known s c n t _ g h) f) (push-known s c n t g h)
 
     offer-known : (best c : Choice) (n t : ℕ) → Known s best → Known s c → NameBy s n t → Known s (offer s x best c n t)
     unfolding offer
@@ -279,7 +279,7 @@ module _ (s : Snapshot) (r : Ranges (countsOf s) s) where
     offer-import-known best c i f g h =
         let n = by-rule (i .name) 7 (i .place) (h .name) (omega arith) (h .place) in
         either-known (isUnstable i) _ _
-        (either-known (x .unstable) _ _ (offer-known best (unstably c) (i .name) _ f (unstably-known c g) n) f)
+        (either-known (x .«allow_unstable») _ _ (offer-known best (unstably c) (i .name) _ f (unstably-known c g) n) f)
         (offer-known best c (i .name) _ f g n)
 
     -- the rules without a search
@@ -314,8 +314,8 @@ module _ (s : Snapshot) (r : Ranges (countsOf s) s) where
     unfolding rootRule
     root-known b m =
         either-known (eqb (crateRoot s m) m) _ _
-        (either-known (not b || eqb m (x .root)) _ _ (keyword-known cratePath (omega arith))
-        (extern-known m (externOf s (x .krate) m) (extern-held s (ExternFits (countsOf s)) (r .externs) (x .krate) m)))
+        (either-known (not b || eqb m (x .«crate_root»)) _ _ (keyword-known cratePath (omega arith))
+        (extern-known m (externOf s (x .«from_crate») m) (extern-held s (ExternFits (countsOf s)) (r .externs) (x .«from_crate») m)))
         nothing-known
 
     parent-small : (m p : ℕ) → KindSmall (parentKind s x m p)
@@ -414,15 +414,15 @@ module _ (M : Type 0) (charge : Charge M) (s : Snapshot) (r : Ranges (countsOf s
         → Known s (findInSysroot M charge s x here rec left item o ls b .choice)
     unfolding findInSysroot
     sysroot-known left item o [] true f = f
-    sysroot-known left item o [] false f = deps-known left item o (sysrootFirst s (x .krate)) f
+    sysroot-known left item o [] false f = deps-known left item o (sysrootFirst s (x .«from_crate»)) f
     sysroot-known left item o (n ∷ ls) true f = f
     sysroot-known left item o (n ∷ ls) false f =
-        sysroot-known left item _ ls _ (deps-known left item o (oneOrNone (langOf s (x .krate) n)) f)
+        sysroot-known left item _ ls _ (deps-known left item o (oneOrNone (langOf s (x .«from_crate») n)) f)
 
     go-known : (left : ℕ) (item : Item) (t : M) (a b : Bool) → Known s (goOn M charge s x here rec left item t a b .choice)
     unfolding goOn
     go-known left item t true b = local left item
-    go-known left item t false true = sysroot-known left item _ (langs (x .nostd)) false nothing-known
+    go-known left item t false true = sysroot-known left item _ (langs (x .«prefer_no_std»)) false nothing-known
     go-known left item t false false = deps-known left item _ _ nothing-known
 
     after-known : (left : ℕ) (item : Item) (c : Charged M) → Known s (afterCharge M charge s x here rec left item c .choice)
@@ -449,12 +449,12 @@ module _ (M : Type 0) (charge : Charge M) (s : Snapshot) (r : Ranges (countsOf s
           → Known s (afterEnum M charge s x here rec item v o b .choice)
       unfolding afterEnum pushVariant
       enum-known item v o true f h = push-known s (o .choice) (v .second) _ f h
-      enum-known item v o false f h = best-known (x .limit) item (o .meter)
+      enum-known item v o false f h = best-known (x .«max_len») item (o .meter)
 
       via-known : (item : Item) (t : M) (v : Option Definition) → Held (λ d. NameBy s (d .second) (stepBy 5 (d .place))) v
           → Known s (viaEnum M charge s x here rec inner item t v .choice)
       unfolding viaEnum
-      via-known item t none h = best-known (x .limit) item t
+      via-known item t none h = best-known (x .«max_len») item t
       via-known item t (some v) h = enum-known item v _ _ (within (itemOf s types (v .first)) t) h
 
       named-known : (item : Item) (t : M) (c : Choice) (b : Bool) → Known s c → Known s (orEnum M charge s x here rec inner item t c b .choice)
@@ -470,11 +470,11 @@ module _ (M : Type 0) (charge : Charge M) (s : Snapshot) (r : Ranges (countsOf s
       of-known : (m : ℕ) (t : M) (b : Bool) → Known s (ofModule M charge s x here rec inner m t b .choice)
       unfolding ofModule
       of-known m t true = by-name-known (Mod m) t
-      of-known m t false = known (x .limit) m t
+      of-known m t false = known (x .«max_len») m t
 
       item-known : KnownInner (findPathInner M charge s x here rec inner)
       unfolding findPathInner
-      item-known (Mod m) t = of-known m t (x .std)
+      item-known (Mod m) t = of-known m t (x .«is_std_item»)
       item-known (Def ns d) t = by-name-known (Def ns d) t
 
   moduleTo-known : (x : FindPathCtx) (d : ℕ) → KnownSearch (moduleTo M charge s x d)

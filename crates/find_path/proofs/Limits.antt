@@ -61,7 +61,7 @@ unfolding trySelect
 select-found s prefer best c n t = by (best .found) refl
   where
     by : (b : Bool) → best .found ≡ b
-        → IsFound (elim b [ true ↦ elim (better s prefer best c n) [ true ↦ extended s c n t (c .prelude) | false ↦ best ] | false ↦ push s c n t ])
+        → IsFound (elim b [ true ↦ elim (better s prefer best c n) [ true ↦ extended s c n t (c .«has_prelude_segment») | false ↦ best ] | false ↦ push s c n t ])
     by true e = either-found (better s prefer best c n) _ _ (extended-found s c n t _) e
     by false e = push-found s c n t
 
@@ -85,16 +85,16 @@ length-grows left left′ best best′ l h e =
 module _ (s : Snapshot) (y : FindPathCtx) where
   offer-keeps : (best c : Choice) (n t : ℕ) → IsFound best → IsFound (offer s y best c n t)
   unfolding offer
-  offer-keeps best c n t h = either-found (c .found) _ _ (select-found s (y .prelude) best c n t) h
+  offer-keeps best c n t h = either-found (c .found) _ _ (select-found s (y .«prefer_prelude») best c n t) h
 
   import-keeps : (best c : Choice) (i : Import) → IsFound best → IsFound (offerImport s y best c i)
   unfolding offerImport
   import-keeps best c i h =
-      either-found (isUnstable i) _ _ (either-found (y .unstable) _ _ (offer-keeps best (unstably c) (i .name) _ h) h) (offer-keeps best c (i .name) _ h)
+      either-found (isUnstable i) _ _ (either-found (y .«allow_unstable») _ _ (offer-keeps best (unstably c) (i .name) _ h) h) (offer-keeps best c (i .name) _ h)
 
   offer-taken : (best c : Choice) (n t : ℕ) → IsFound c → IsFound (offer s y best c n t)
   unfolding offer
-  offer-taken best c n t h = rw (offer, h) (select-found s (y .prelude) best c n t)
+  offer-taken best c n t h = rw (offer, h) (select-found s (y .«prefer_prelude») best c n t)
 
   offer-from : (x : FindPathCtx) (best c : Choice) (n t : ℕ) → IsFound (offer s x best c n t) → (c .found ≡ false) → IsFound best
   unfolding offer
@@ -105,13 +105,13 @@ module _ (s : Snapshot) (y : FindPathCtx) where
   offer-implies x best best′ c c′ n t h k f =
       by-test (c .found) (λ e. offer-taken best′ c′ n t (k e)) (λ e. offer-keeps best′ c′ n t (h (offer-from x best c n t f e)))
 
-  import-implies : (x : FindPathCtx) (best best′ c c′ : Choice) (i : Import) → x .unstable ≡ y .unstable → Implies best best′ → Implies c c′
+  import-implies : (x : FindPathCtx) (best best′ c c′ : Choice) (i : Import) → x .«allow_unstable» ≡ y .«allow_unstable» → Implies best best′ → Implies c c′
       → Implies (offerImport s x best c i) (offerImport s y best′ c′ i)
   unfolding offerImport unstably
   import-implies x best best′ c c′ i e h k =
       subst (λ (b : Bool). Implies (by x best c b) (offerImport s y best′ c′ i)) (sym e)
       (either-implies (isUnstable i) _ _ _ _
-      (either-implies (y .unstable) _ _ _ _ (offer-implies x best best′ (unstably c) (unstably c′) (i .name) _ h k) h)
+      (either-implies (y .«allow_unstable») _ _ _ _ (offer-implies x best best′ (unstably c) (unstably c′) (i .name) _ h k) h)
       (offer-implies x best best′ c c′ (i .name) _ h k))
     where
       by : FindPathCtx → Choice → Choice → Bool → Choice
@@ -126,18 +126,18 @@ abbrev limited : FindPathCtx → ℕ → FindPathCtx
 limited x n =
     record {
       prefix = x .prefix;
-      nostd = x .nostd;
-      prelude = x .prelude;
-      absolute = x .absolute;
-      unstable = x .unstable;
-      declared = x .declared;
+      «prefer_no_std» = x .«prefer_no_std»;
+      «prefer_prelude» = x .«prefer_prelude»;
+      «prefer_absolute» = x .«prefer_absolute»;
+      «allow_unstable» = x .«allow_unstable»;
+      «ignore_local_imports» = x .«ignore_local_imports»;
       fresh = x .fresh;
-      std = x .std;
+      «is_std_item» = x .«is_std_item»;
       from = x .from;
-      krate = x .krate;
-      root = x .root;
+      «from_crate» = x .«from_crate»;
+      «crate_root» = x .«crate_root»;
       own = x .own;
-      limit = n;
+      «max_len» = n;
     }
 
 -- The rules that answer without a search know no limit.
@@ -184,12 +184,12 @@ module _ (s : Snapshot) (x : FindPathCtx) (n : ℕ) where
   extern-same : (m : ℕ) (e : Option Extern) → externName s x m e ≡ externName s y m e
   unfolding externName
   extern-same m none = refl
-  extern-same m (some e) = λ i. choiceNew s (extern-kind-same (occupied s (x .from) m (e .name) || x .absolute) i) (e .name) (stepBy viaExtern (e .place))
+  extern-same m (some e) = λ i. choiceNew s (extern-kind-same (occupied s (x .from) m (e .name) || x .«prefer_absolute») i) (e .name) (stepBy viaExtern (e .place))
 
   root-same : (b : Bool) (m : ℕ) → rootRule s x b m ≡ rootRule s y b m
   unfolding rootRule
   root-same b m = λ i. elim (eqb (crateRoot s m) m) [
-    | true ↦ elim (not b || eqb m (x .root)) [ true ↦ keyword cratePath | false ↦ extern-same m (externOf s (x .krate) m) i ]
+    | true ↦ elim (not b || eqb m (x .«crate_root»)) [ true ↦ keyword cratePath | false ↦ extern-same m (externOf s (x .«from_crate») m) i ]
     | false ↦ nothing
   ]
 
@@ -300,9 +300,9 @@ module _ (s : Snapshot) (y : FindPathCtx) (here : ℕ → Item → Choice) (rec 
   sysroot-stays : (item : Item) (o : Out ℕ) (ls : List ℕ) (b : Bool) → Has o → Has (findInSysroot ℕ counted s y here rec left item o ls b)
   unfolding findInSysroot
   sysroot-stays item o [] true f = f
-  sysroot-stays item o [] false f = deps-stay item o (sysrootFirst s (y .krate)) f
+  sysroot-stays item o [] false f = deps-stay item o (sysrootFirst s (y .«from_crate»)) f
   sysroot-stays item o (l ∷ ls) true f = f
-  sysroot-stays item o (l ∷ ls) false f = sysroot-stays item _ ls _ (deps-stay item o (oneOrNone (langOf s (y .krate) l)) f)
+  sysroot-stays item o (l ∷ ls) false f = sysroot-stays item _ ls _ (deps-stay item o (oneOrNone (langOf s (y .«from_crate») l)) f)
 
 abbrev Both : Out ℕ → Out ℕ → Type 0
 Both o p = Implies (o .choice) (p .choice)
@@ -346,20 +346,20 @@ module _ (s : Snapshot) (x : FindPathCtx) (n : ℕ) where
       unfolding findInSysroot
       sysroot-grows item o p [] a true k e = λ _. e refl
       sysroot-grows item o p (l ∷ ls) a true k e = λ _. e refl
-      sysroot-grows item o p [] true false k e = λ z. deps-stay s (limited x n) here′ g left′ item p (sysrootFirst s (x .krate)) (k z)
-      sysroot-grows item o p [] false false k e = deps-grow item o p (sysrootFirst s (x .krate)) k
+      sysroot-grows item o p [] true false k e = λ z. deps-stay s (limited x n) here′ g left′ item p (sysrootFirst s (x .«from_crate»)) (k z)
+      sysroot-grows item o p [] false false k e = deps-grow item o p (sysrootFirst s (x .«from_crate»)) k
       sysroot-grows item o p (l ∷ ls) true false k e = λ z. sysroot-stays s (limited x n) here′ g left′ item p (l ∷ ls) false (k z)
       sysroot-grows item o p (l ∷ ls) false false k e =
-          let o′ : Out ℕ = findInDeps ℕ counted s x here f left item o (oneOrNone (langOf s (x .krate) l)) in
-          let p′ : Out ℕ = findInDeps ℕ counted s (limited x n) here′ g left′ item p (oneOrNone (langOf s (x .krate) l)) in
-          sysroot-grows item o′ p′ ls (isStable (o′ .choice)) (isStable (p′ .choice)) (deps-grow item o p (oneOrNone (langOf s (x .krate) l)) k)
+          let o′ : Out ℕ = findInDeps ℕ counted s x here f left item o (oneOrNone (langOf s (x .«from_crate») l)) in
+          let p′ : Out ℕ = findInDeps ℕ counted s (limited x n) here′ g left′ item p (oneOrNone (langOf s (x .«from_crate») l)) in
+          sysroot-grows item o′ p′ ls (isStable (o′ .choice)) (isStable (p′ .choice)) (deps-grow item o p (oneOrNone (langOf s (x .«from_crate») l)) k)
           (λ e′. and-left (p′ .choice .found) (p′ .choice .stable) e′)
 
       go-grows : (item : Item) (t u : ℕ) (a b : Bool)
           → Both (goOn ℕ counted s x here f left item t a b) (goOn ℕ counted s (limited x n) here′ g left′ item u a b)
       unfolding goOn
       go-grows item t u true b = local left left′ item h
-      go-grows item t u false true = sysroot-grows item _ _ (langs (x .nostd)) false false (λ z. z) (λ z. absurd (false≢true z))
+      go-grows item t u false true = sysroot-grows item _ _ (langs (x .«prefer_no_std»)) false false (λ z. z) (λ z. absurd (false≢true z))
       go-grows item t u false false = deps-grow item _ _ _ (λ z. z)
 
       best-grows : (item : Item) (t u : ℕ)
@@ -382,18 +382,18 @@ module _ (s : Snapshot) (x : FindPathCtx) (n : ℕ) where
         (orCharged ℕ counted s (limited x n) here′ g (suc m) k u c (c .found))) (rules-same s x n true k)
         (or-grows (suc l) (suc m) h k t u _ _)
 
-    module _ (limit : x .limit ≤ n) (v w : Inner ℕ) (within : (item : Item) (t u : ℕ) → Both (v item t) (w item u)) where
+    module _ (limit : x .«max_len» ≤ n) (v w : Inner ℕ) (within : (item : Item) (t u : ℕ) → Both (v item t) (w item u)) where
       enum-grows : (item : Item) (d : Definition) (o p : Out ℕ) (a b : Bool) → (a ≡ true → b ≡ true)
           → Both (afterEnum ℕ counted s x here f item d o a) (afterEnum ℕ counted s (limited x n) here′ g item d p b)
       unfolding afterEnum pushVariant
       enum-grows item d o p a true k = λ _. push-found s (p .choice) (d .second) _
       enum-grows item d o p true false k = absurd (false≢true (k refl))
-      enum-grows item d o p false false k = best-grows (x .limit) n limit item (o .meter) (p .meter)
+      enum-grows item d o p false false k = best-grows (x .«max_len») n limit item (o .meter) (p .meter)
 
       via-grows : (item : Item) (t u : ℕ) (d : Option Definition)
           → Both (viaEnum ℕ counted s x here f v item t d) (viaEnum ℕ counted s (limited x n) here′ g w item u d)
       unfolding viaEnum
-      via-grows item t u none = best-grows (x .limit) n limit item t u
+      via-grows item t u none = best-grows (x .«max_len») n limit item t u
       via-grows item t u (some d) = enum-grows item d _ _ _ _ (within (itemOf s types (d .first)) t u)
 
       named-grows : (item : Item) (t u : ℕ) (c : Choice) (b : Bool)
@@ -415,12 +415,12 @@ module _ (s : Snapshot) (x : FindPathCtx) (n : ℕ) where
           → Both (ofModule ℕ counted s x here f v k t b) (ofModule ℕ counted s (limited x n) here′ g w k u b)
       unfolding ofModule
       of-grows k t u true = by-name-grows (Mod k) t u
-      of-grows k t u false = grows (x .limit) n k t u limit
+      of-grows k t u false = grows (x .«max_len») n k t u limit
 
       item-grows : (item : Item) (t u : ℕ)
           → Both (findPathInner ℕ counted s x here f v item t) (findPathInner ℕ counted s (limited x n) here′ g w item u)
       unfolding findPathInner
-      item-grows (Mod k) t u = of-grows k t u (x .std)
+      item-grows (Mod k) t u = of-grows k t u (x .«is_std_item»)
       item-grows (Def ns d) t u = by-name-grows (Def ns d) t u
 
   moduleTo-grows : (d e l m k : ℕ) (t u : ℕ) → d ≤ e → l ≤ m → Both (moduleTo ℕ counted s x d l k t) (moduleTo ℕ counted s (limited x n) e m k u)
@@ -435,7 +435,7 @@ module _ (s : Snapshot) (x : FindPathCtx) (n : ℕ) where
   unfolding searchModule
   module-search-grows l m k t u h = moduleTo-grows l m l m k t u h h
 
-  itemTo-grows : x .limit ≤ n → (d : ℕ) (item : Item) (t u : ℕ) → Both (itemTo ℕ counted s x d item t) (itemTo ℕ counted s (limited x n) d item u)
+  itemTo-grows : x .«max_len» ≤ n → (d : ℕ) (item : Item) (t u : ℕ) → Both (itemTo ℕ counted s x d item t) (itemTo ℕ counted s (limited x n) d item u)
   unfolding itemTo
   itemTo-grows h zero item t u = λ z. absurd (false≢true z)
   itemTo-grows h (suc d) item t u =

@@ -135,9 +135,9 @@ module _ (s : Snapshot) (x : FindPathCtx) (clear : x .fresh ≡ false) where
   find-plain : (item : Item) → findInScope (plainly s) x item ≡ plainOf (findInScope s x item)
   unfolding findInScope
   find-plain item =
-      ap (scopeEntry (plainly s) (x .from) item (x .declared)) clear
-      ∙ scope-plain s (x .from) item (x .declared)
-      ∙ ap (λ (b : Bool). plainOf (scopeEntry s (x .from) item (x .declared) b)) (sym clear)
+      ap (scopeEntry (plainly s) (x .from) item (x .«ignore_local_imports»)) clear
+      ∙ scope-plain s (x .from) item (x .«ignore_local_imports»)
+      ∙ ap (λ (b : Bool). plainOf (scopeEntry s (x .from) item (x .«ignore_local_imports») b)) (sym clear)
 
   by-scope-plain : (item : Item) → scopeRule (plainly s) x item ≡ scopeRule s x item
   unfolding scopeRule mayBeInScope
@@ -198,13 +198,13 @@ module _ (s : Snapshot) (x : FindPathCtx) (clear : x .fresh ≡ false) where
   extern-plain m none = refl
   extern-plain m (some e) =
       ap (λ (k : ℕ). choiceNew s k (e .name) (stepBy viaExtern (e .place)))
-      (ap (λ (b : Bool). externKind (plainly s) x (b || x .absolute)) (occupied-plain s (x .from) m (e .name))
-      ∙ kind-plain (occupied s (x .from) m (e .name) || x .absolute))
+      (ap (λ (b : Bool). externKind (plainly s) x (b || x .«prefer_absolute»)) (occupied-plain s (x .from) m (e .name))
+      ∙ kind-plain (occupied s (x .from) m (e .name) || x .«prefer_absolute»))
 
   root-plain : (b : Bool) (m : ℕ) → rootRule (plainly s) x b m ≡ rootRule s x b m
   unfolding rootRule crateRoot rootOf ownMap moduleOf mapOf externOf
   root-plain b m = λ i. elim (eqb (crateRoot s m) m) [
-    | true ↦ elim (not b || eqb m (x .root)) [ true ↦ keyword cratePath | false ↦ extern-plain m (externOf s (x .krate) m) i ]
+    | true ↦ elim (not b || eqb m (x .«crate_root»)) [ true ↦ keyword cratePath | false ↦ extern-plain m (externOf s (x .«from_crate») m) i ]
     | false ↦ nothing
   ]
 
@@ -345,26 +345,26 @@ module _ (s : Snapshot) (x : FindPathCtx) (clear : x .fresh ≡ false) where
         → findInSysroot M charge (plainly s) x here rec left item o ls b ≡ findInSysroot M charge s x here rec left item o ls b
     unfolding findInSysroot sysrootFirst langOf dependenciesOf crateData
     sysroot-plain left item o [] true = refl
-    sysroot-plain left item o [] false = deps-plain left item o (sysrootFirst s (x .krate))
+    sysroot-plain left item o [] false = deps-plain left item o (sysrootFirst s (x .«from_crate»))
     sysroot-plain left item o (l ∷ ls) true = refl
     sysroot-plain left item o (l ∷ ls) false =
         ap (λ (r : Out M). findInSysroot M charge (plainly s) x here rec left item r ls (isStable (r .choice)))
-        (deps-plain left item o (oneOrNone (langOf s (x .krate) l)))
+        (deps-plain left item o (oneOrNone (langOf s (x .«from_crate») l)))
         ∙ sysroot-plain left item _ ls _
 
     go-plain : (left : ℕ) (item : Item) (t : M) (a b : Bool)
         → goOn M charge (plainly s) x here rec left item t a b ≡ goOn M charge s x here rec left item t a b
     unfolding goOn dependenciesOf
     go-plain left item t true b = refl
-    go-plain left item t false true = sysroot-plain left item _ (langs (x .nostd)) false
-    go-plain left item t false false = deps-plain left item _ (dependenciesOf s (x .krate))
+    go-plain left item t false true = sysroot-plain left item _ (langs (x .«prefer_no_std»)) false
+    go-plain left item t false false = deps-plain left item _ (dependenciesOf s (x .«from_crate»))
 
     after-plain : (left : ℕ) (item : Item) (c : Charged M)
         → afterCharge M charge (plainly s) x here rec left item c ≡ afterCharge M charge s x here rec left item c
     unfolding afterCharge
     after-plain left item (go t) =
-        ap (λ (b : Bool). goOn M charge (plainly s) x here rec left item t b (x .std))
-        (ap (λ (h : ℕ). isAt (plainly s) h (x .krate)) (home-plain item) ∙ at-plain (homeOf s item) (x .krate))
+        ap (λ (b : Bool). goOn M charge (plainly s) x here rec left item t b (x .«is_std_item»))
+        (ap (λ (h : ℕ). isAt (plainly s) h (x .«from_crate»)) (home-plain item) ∙ at-plain (homeOf s item) (x .«from_crate»))
         ∙ go-plain left item t _ _
     after-plain left item (stop t) = refl
 
@@ -390,12 +390,12 @@ module _ (s : Snapshot) (x : FindPathCtx) (clear : x .fresh ≡ false) where
           → afterEnum M charge (plainly s) x here rec item v o b ≡ afterEnum M charge s x here rec item v o b
       unfolding afterEnum pushVariant push extended isPrelude nameData
       after-enum-plain item v o true = refl
-      after-enum-plain item v o false = best-plain (x .limit) item (o .meter)
+      after-enum-plain item v o false = best-plain (x .«max_len») item (o .meter)
 
       via-plain : (item : Item) (t : M) (v : Option Definition)
           → viaEnum M charge (plainly s) x here rec inner item t v ≡ viaEnum M charge s x here rec inner item t v
       unfolding viaEnum itemOf definitionOf
-      via-plain item t none = best-plain (x .limit) item t
+      via-plain item t none = best-plain (x .«max_len») item t
       via-plain item t (some v) = after-enum-plain item v _ _
 
       named-plain′ : (item : Item) (t : M) (c : Choice) (b : Bool)
@@ -419,7 +419,7 @@ module _ (s : Snapshot) (x : FindPathCtx) (clear : x .fresh ≡ false) where
 
       inner-plain : (item : Item) (t : M) → findPathInner M charge (plainly s) x here rec inner item t ≡ findPathInner M charge s x here rec inner item t
       unfolding findPathInner
-      inner-plain (Mod m) t = of-plain m t (x .std)
+      inner-plain (Mod m) t = of-plain m t (x .«is_std_item»)
       inner-plain (Def ns d) t = by-name-plain (Def ns d) t
 
   module _ (M : Type 0) (charge : Charge M) where

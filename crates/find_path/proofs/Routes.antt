@@ -87,7 +87,7 @@ pub record Leads (s : Snapshot) (x : FindPathCtx) (item : Item) (c : Choice) : T
 -- an import record of the item, which is of another crate, in a dependency of the viewer's
 record Listed (s : Snapshot) (x : FindPathCtx) (item : Item) (i : Import) : Type 0 where
   dependency : Dependency
-  known : dependency ∈ dependenciesOf s (x .krate)
+  known : dependency ∈ dependenciesOf s (x .«from_crate»)
   stands : i ∈ s .imports
   owner : i .owner ≡ dependency .crate
   away : isNear s x item ≡ false
@@ -95,8 +95,8 @@ record Listed (s : Snapshot) (x : FindPathCtx) (item : Item) (i : Import) : Type
 
 -- what is set for the viewing module
 record Rooted (s : Snapshot) (x : FindPathCtx) : Type 0 where
-  root : x .root ≡ crateRoot s (x .from)
-  krate : x .krate ≡ crateOf s (x .from)
+  root : x .«crate_root» ≡ crateRoot s (x .from)
+  krate : x .«from_crate» ≡ crateOf s (x .from)
 
 -- an entry that is answered leads from the module to the item
 abbrev Led : Snapshot → FindPathCtx → ℕ → Item → Option Scope → Type 0
@@ -110,7 +110,7 @@ Started s x m none = Unit {0}
 
 module _ (s : Snapshot) where
   module _ (x : FindPathCtx) where
-    imports-listed : (d : Dependency) (item : Item) → d ∈ dependenciesOf s (x .krate) → isNear s x item ≡ false
+    imports-listed : (d : Dependency) (item : Item) → d ∈ dependenciesOf s (x .«from_crate») → isNear s x item ≡ false
         → Each (Listed s x item) (importInfoFor s (d .crate) item)
     unfolding importInfoFor
     imports-listed d item k away =
@@ -129,7 +129,7 @@ module _ (s : Snapshot) where
         subst (λ (k : ℕ). Step s x k (e .name) (stepBy viaLocal (e .place)) item) a
         (subst (Step s x (e .owner) (e .name) (stepBy viaLocal (e .place))) b (entry e h (ap (isNear s x) b ∙ near) (ap₂ (importableName s x) b a ∙ o) v))
 
-    import-step : (item : Item) (i : Import) → Listed s x item i → isHidden i ≡ false → (isUnstable i ≡ true → x .unstable ≡ true)
+    import-step : (item : Item) (i : Import) → Listed s x item i → isHidden i ≡ false → (isUnstable i ≡ true → x .«allow_unstable» ≡ true)
         → Step s x (i .container) (i .name) (stepBy viaImport (i .place)) item
     import-step item i h v u =
         subst (Step s x (i .container) (i .name) (stepBy viaImport (i .place))) (h .same)
@@ -184,11 +184,11 @@ module _ (s : Snapshot) where
     first-leads c cs f g = either-leads (c .found) c (firstFound cs) (λ _. f) (λ _. g)
 
     select-leads : (m : ℕ) (item : Item) (best c : Choice) (n t : ℕ) → Leads s x item best → Leads s x (Mod m) c → c .found ≡ true
-        → Step s x m n t item → Leads s x item (trySelect s (x .prelude) best c n t)
+        → Step s x m n t item → Leads s x item (trySelect s (x .«prefer_prelude») best c n t)
     unfolding trySelect
     select-leads m item best c n t f g e h =
         either-leads (best .found) _ _
-        (λ _. either-leads (better s (x .prelude) best c n) _ _ (λ _. extended-leads m item c n t _ g e h) (λ _. f))
+        (λ _. either-leads (better s (x .«prefer_prelude») best c n) _ _ (λ _. extended-leads m item c n t _ g e h) (λ _. f))
         (λ _. push-leads m item c n t g e h)
 
     offer-leads : (m : ℕ) (item : Item) (best c : Choice) (n t : ℕ) → Leads s x item best → Leads s x (Mod m) c → Step s x m n t item
@@ -201,12 +201,12 @@ module _ (s : Snapshot) where
     unfolding offerImport
     offer-import-leads item best c i f g h v =
         either-leads (isUnstable i) _ _
-        (λ _. either-leads (x .unstable) _ _
+        (λ _. either-leads (x .«allow_unstable») _ _
         (λ a. offer-leads (i .container) item best (unstably c) (i .name) _ f (unstably-leads _ c g) (import-step item i h v (λ _. a)))
         (λ _. f))
         (λ u. offer-leads (i .container) item best c (i .name) _ f g (import-step item i h v (λ t. absurd (true≢false (sym t ∙ u)))))
 
-    crate-start : (m : ℕ) → x .root ≡ m → Start s x cratePath [] (stepBy viaKeyword 0) (Mod m)
+    crate-start : (m : ℕ) → x .«crate_root» ≡ m → Start s x cratePath [] (stepBy viaKeyword 0) (Mod m)
     crate-start m e = subst (λ (k : ℕ). Start s x cratePath [] (stepBy viaKeyword 0) (Mod k)) e crate
 
     -- the rules without a search
@@ -231,27 +231,27 @@ module _ (s : Snapshot) where
         single-leads item plainPath viaPrelude (findInPrelude s x item)
         (λ e h. prelude item e (held-at (λ y. y ∈ s .scopes) _ (prelude-held s (λ y. y ∈ s .scopes) (each-self (s .scopes)) x item) h) h)
 
-    extern-leads : (m : ℕ) (o : Option Extern) → crateRoot s m ≡ m → (m ≡ x .root → ⊥) → externOf s (x .krate) m ≡ o → Leads s x (Mod m) (externName s x m o)
+    extern-leads : (m : ℕ) (o : Option Extern) → crateRoot s m ≡ m → (m ≡ x .«crate_root» → ⊥) → externOf s (x .«from_crate») m ≡ o → Leads s x (Mod m) (externName s x m o)
     unfolding externName
     extern-leads m none r z h = nothing-leads
     extern-leads m (some e) r z h =
-        new-leads (Mod m) _ (e .name) _ (extern m e (held-at (λ y. y ∈ s .externs) _ (extern-held s (λ y. y ∈ s .externs) (each-self (s .externs)) (x .krate) m) h) r z h)
+        new-leads (Mod m) _ (e .name) _ (extern m e (held-at (λ y. y ∈ s .externs) _ (extern-held s (λ y. y ∈ s .externs) (each-self (s .externs)) (x .«from_crate») m) h) r z h)
 
     -- in a valid snapshot, with the root that is set for the viewing module
     module _ (valid : Valid s) (rooted : Rooted s x) where
       -- the root of a crate that has the keyword is the viewer's
-      root-here : (b : Bool) (m : ℕ) → (b ≡ false → Near s valid (x .from) m) → crateRoot s m ≡ m → not b || eqb m (x .root) ≡ true
-          → x .root ≡ m
-      root-here true m near r e = sym (eqb-true m (x .root) e)
+      root-here : (b : Bool) (m : ℕ) → (b ≡ false → Near s valid (x .from) m) → crateRoot s m ≡ m → not b || eqb m (x .«crate_root») ≡ true
+          → x .«crate_root» ≡ m
+      root-here true m near r e = sym (eqb-true m (x .«crate_root») e)
       root-here false m near r e = rooted .root ∙ sym (crate-root s valid m (x .from) (near refl)) ∙ r
 
       root-leads : (b : Bool) (m : ℕ) → (b ≡ false → Near s valid (x .from) m) → Leads s x (Mod m) (rootRule s x b m)
       unfolding rootRule
       root-leads b m near =
           either-leads (eqb (crateRoot s m) m) _ _
-          (λ e. either-leads (not b || eqb m (x .root)) _ _
+          (λ e. either-leads (not b || eqb m (x .«crate_root»)) _ _
           (λ t. keyword-leads m cratePath (crate-start m (root-here b m near (eqb-true (crateRoot s m) m e) t)))
-          (λ t. extern-leads m (externOf s (x .krate) m) (eqb-true (crateRoot s m) m e) (eqb-false m (x .root) (or-none (not b) _ t .1)) refl))
+          (λ t. extern-leads m (externOf s (x .«from_crate») m) (eqb-true (crateRoot s m) m e) (eqb-false m (x .«crate_root») (or-none (not b) _ t .1)) refl))
           (λ _. nothing-leads)
 
       -- a keyword other than `crate` is not taken under ByCrate
@@ -340,7 +340,7 @@ module _ (s : Snapshot) where
 
       module-near : (m : ℕ) → Near s valid (x .from) m → isNear s x (Mod m) ≡ true
       unfolding isAt homeOf
-      module-near m e = rw (add-one m) (eq-eqb (crateOf s m) (x .krate) (e ∙ sym (rooted .krate)))
+      module-near m e = rw (add-one m) (eq-eqb (crateOf s m) (x .«from_crate») (e ∙ sym (rooted .krate)))
 
       abbrev LeadsLocal : LocalSearch → Type 0
       LeadsLocal rec = (left : ℕ) (ls : List Level) (m : ℕ) → Near s valid (x .from) m → Leads s x (Mod m) (rec left ls m)
@@ -389,21 +389,21 @@ module _ (M : Type 0) (charge : Charge M) (s : Snapshot) (x : FindPathCtx) (vali
 
   -- a dependency of the viewer's crate
   abbrev Ours : Dependency → Type 0
-  Ours d = d ∈ dependenciesOf s (x .krate)
+  Ours d = d ∈ dependenciesOf s (x .«from_crate»)
 
   lang-in : (o : Option Dependency) → ((d : Dependency) → o ≡ some d → Ours d) → Each Ours (oneOrNone o)
   unfolding oneOrNone
   lang-in none f = Each.none
   lang-in (some d) f = more (f d refl) Each.none
 
-  lang-ours : (n : ℕ) → Each Ours (oneOrNone (langOf s (x .krate) n))
+  lang-ours : (n : ℕ) → Each Ours (oneOrNone (langOf s (x .«from_crate») n))
   unfolding langOf
-  lang-ours n = lang-in _ (λ d e. first-found _ (dependenciesOf s (x .krate)) d e .0)
+  lang-ours n = lang-in _ (λ d e. first-found _ (dependenciesOf s (x .«from_crate»)) d e .0)
 
-  sysroot-ours : Each Ours (sysrootFirst s (x .krate))
+  sysroot-ours : Each Ours (sysrootFirst s (x .«from_crate»))
   unfolding sysrootFirst
   sysroot-ours =
-      each-append (select-found _ (dependenciesOf s (x .krate)) (λ d h t. h)) (select-found _ (dependenciesOf s (x .krate)) (λ d h t. h))
+      each-append (select-found _ (dependenciesOf s (x .«from_crate»)) (λ d h t. h)) (select-found _ (dependenciesOf s (x .«from_crate»)) (λ d h t. h))
 
   module _ (rec : Search M) (leads : LeadsSearch rec) where
     -- an import that is not passed over is not hidden
@@ -433,16 +433,16 @@ module _ (M : Type 0) (charge : Charge M) (s : Snapshot) (x : FindPathCtx) (vali
         → Leads s x item (findInSysroot M charge s x (bestLocal s x) rec left item o ls b .choice)
     unfolding findInSysroot
     sysroot-leads left item o [] true away f = f
-    sysroot-leads left item o [] false away f = deps-lead left item o (sysrootFirst s (x .krate)) away sysroot-ours f
+    sysroot-leads left item o [] false away f = deps-lead left item o (sysrootFirst s (x .«from_crate»)) away sysroot-ours f
     sysroot-leads left item o (n ∷ ls) true away f = f
     sysroot-leads left item o (n ∷ ls) false away f =
-        sysroot-leads left item _ ls _ away (deps-lead left item o (oneOrNone (langOf s (x .krate) n)) away (lang-ours n) f)
+        sysroot-leads left item _ ls _ away (deps-lead left item o (oneOrNone (langOf s (x .«from_crate») n)) away (lang-ours n) f)
 
     go-leads : (left : ℕ) (item : Item) (t : M) (a b : Bool) → isNear s x item ≡ a → Leads s x item (goOn M charge s x (bestLocal s x) rec left item t a b .choice)
     unfolding goOn
     go-leads left item t true b near = best-local-leads s x valid rooted left item near
-    go-leads left item t false true away = sysroot-leads left item _ (langs (x .nostd)) false away (nothing-leads s x)
-    go-leads left item t false false away = deps-lead left item _ _ away (each-self (dependenciesOf s (x .krate))) (nothing-leads s x)
+    go-leads left item t false true away = sysroot-leads left item _ (langs (x .«prefer_no_std»)) false away (nothing-leads s x)
+    go-leads left item t false false away = deps-lead left item _ _ away (each-self (dependenciesOf s (x .«from_crate»))) (nothing-leads s x)
 
     after-leads : (left : ℕ) (item : Item) (c : Charged M) → Leads s x item (afterCharge M charge s x (bestLocal s x) rec left item c .choice)
     unfolding afterCharge
@@ -484,20 +484,20 @@ steps-count {c = c} left h f = length-take-le (c .steps) (c .route) (omega (arit
 pub record Paths (s : Snapshot) (x : FindPathCtx) (item : Item) (c : Choice) : Type 0 where
   pub path : c .found ≡ true → Path s x (c .kind) (take (c .count) (c .names)) (take (c .steps) (c .route)) item
 
-module _ (s : Snapshot) (x : FindPathCtx) (limit : x .limit ≤ pathLimit) where
-  direct-path : (item : Item) (c : Choice) → Leads s x item c → Fits s (x .limit) c → Paths s x item c
+module _ (s : Snapshot) (x : FindPathCtx) (limit : x .«max_len» ≤ pathLimit) where
+  direct-path : (item : Item) (c : Choice) → Leads s x item c → Fits s (x .«max_len») c → Paths s x item c
   direct-path item c f g = record {
     path = λ e.
-        let n = names-count (x .limit) (omega (arith, limit)) g in
+        let n = names-count (x .«max_len») (omega (arith, limit)) g in
         direct (f .route e (omega (arith, limit, g .few, g .long)) (omega (arith, limit, g .few, g .once, g .wide))) (omega (arith, n, g .few));
   }
 
   variant-path : (item : Item) (v : Definition) (c : Choice) → variantOf s item ≡ some v → Leads s x (itemOf s types (v .first)) c
-      → Fits s (x .limit) c → c .found ≡ true → Paths s x item (pushVariant s c v)
+      → Fits s (x .«max_len») c → c .found ≡ true → Paths s x item (pushVariant s c v)
   unfolding pushVariant push extended
   variant-path item v c q f g e = record {
     path = λ _.
-        let n = names-count (x .limit) (omega (arith, limit)) g in
+        let n = names-count (x .«max_len») (omega (arith, limit)) g in
         let t = stepBy viaVariant (v .place) in
         subst (λ (ts : List ℕ). Path s x (c .kind) (take (c .count + 1) (set (c .names) (c .count) (v .second))) ts item)
         (sym (names-more (c .route) (c .steps) t (omega (arith, limit, g .few, g .once, g .wide))))
@@ -508,16 +508,16 @@ module _ (s : Snapshot) (x : FindPathCtx) (limit : x .limit ≤ pathLimit) where
   }
 
 module _ (M : Type 0) (charge : Charge M) (s : Snapshot) (x : FindPathCtx) (valid : Valid s) (rooted : Rooted s x)
-    (some-limit : 0 < x .limit) (limit : x .limit ≤ pathLimit) where
+    (some-limit : 0 < x .«max_len») (limit : x .«max_len» ≤ pathLimit) where
   -- P holds of every route of as many names at most as the limit, and of what the enum's search gives a variant
   module _ (inner : Inner M) (P : Item → Choice → Type 0)
-      (short : (item : Item) (c : Choice) → Leads s x item c → Fits s (x .limit) c → P item c)
+      (short : (item : Item) (c : Choice) → Leads s x item c → Fits s (x .«max_len») c → P item c)
       (within : (item : Item) (t : M) (v : Definition) → variantOf s item ≡ some v → inner (itemOf s types (v .first)) t .choice .found ≡ true
       → P item (pushVariant s (inner (itemOf s types (v .first)) t .choice) v)) where
-    best-path : (item : Item) (t : M) → P item (calculateBestPath M charge s x (bestLocal s x) (searchModule M charge s x) (x .limit) item t .choice)
+    best-path : (item : Item) (t : M) → P item (calculateBestPath M charge s x (bestLocal s x) (searchModule M charge s x) (x .«max_len») item t .choice)
     best-path item t =
-        short item _ (best-leads M charge s x valid rooted (searchModule M charge s x) (module-search-leads M charge s x valid rooted) (x .limit) item t)
-        (best-within M charge s x (bestLocal s x) (best-local-fits s x) (searchModule M charge s x) (module-search-fits M charge s x) (x .limit) some-limit item t)
+        short item _ (best-leads M charge s x valid rooted (searchModule M charge s x) (module-search-leads M charge s x valid rooted) (x .«max_len») item t)
+        (best-within M charge s x (bestLocal s x) (best-local-fits s x) (searchModule M charge s x) (module-search-fits M charge s x) (x .«max_len») some-limit item t)
 
     enum-path : (item : Item) (v : Definition) (o : Out M) (b : Bool) → (b ≡ true → P item (pushVariant s (o .choice) v))
         → P item (afterEnum M charge s x (bestLocal s x) (searchModule M charge s x) item v o b .choice)
@@ -543,16 +543,16 @@ module _ (M : Type 0) (charge : Charge M) (s : Snapshot) (x : FindPathCtx) (vali
         named-path item t _ _
         (short item _
         (first-leads s x _ _ (scope-leads s x item) (first-leads s x _ _ (prelude-leads s x item) (first-none s x)))
-        (wider 1 (x .limit) some-limit (first-fits 1 _ _ (scope-fits s x 0 item) (first-fits 1 _ _ (prelude-fits s x 0 item) (none-fits 1)))))
+        (wider 1 (x .«max_len») some-limit (first-fits 1 _ _ (scope-fits s x 0 item) (first-fits 1 _ _ (prelude-fits s x 0 item) (none-fits 1)))))
 
     of-path : (m : ℕ) (t : M) (b : Bool) → P (Mod m) (ofModule M charge s x (bestLocal s x) (searchModule M charge s x) inner m t b .choice)
     unfolding ofModule
     of-path m t true = by-name-path (Mod m) t
-    of-path m t false = short (Mod m) _ (module-search-leads M charge s x valid rooted (x .limit) m t) (module-search-fits M charge s x (x .limit) m t)
+    of-path m t false = short (Mod m) _ (module-search-leads M charge s x valid rooted (x .«max_len») m t) (module-search-fits M charge s x (x .«max_len») m t)
 
     inner-path : (item : Item) (t : M) → P item (findPathInner M charge s x (bestLocal s x) (searchModule M charge s x) inner item t .choice)
     unfolding findPathInner
-    inner-path (Mod m) t = of-path m t (x .std)
+    inner-path (Mod m) t = of-path m t (x .«is_std_item»)
     inner-path (Def ns d) t = by-name-path (Def ns d) t
 
   -- the search for an enum, which tries no enum above it
@@ -565,14 +565,14 @@ module _ (M : Type 0) (charge : Charge M) (s : Snapshot) (x : FindPathCtx) (vali
   item-path item t =
       inner-path (itemTo M charge s x 1) (Paths s x) (direct-path s x limit)
       (λ i u v q e. variant-path s x limit i v _ q (enum-leads (itemOf s types (v .first)) u)
-      (wider _ (x .limit) (omega arith) (itemTo-fits M charge s x (x .limit - 1) some-limit (omega arith) 1 (itemOf s types (v .first)) u)) e)
+      (wider _ (x .«max_len») (omega arith) (itemTo-fits M charge s x (x .«max_len» - 1) some-limit (omega arith) 1 (itemOf s types (v .first)) u)) e)
       item t
 
 context-rooted : (s : Snapshot) (q : Query) (home : ℕ) → Rooted s (contextOf s q home)
 unfolding contextOf
 context-rooted s q home = record { root = refl; krate = refl }
 
-context-limit : (s : Snapshot) (q : Query) (home : ℕ) → contextOf s q home .limit ≡ q .limit
+context-limit : (s : Snapshot) (q : Query) (home : ℕ) → contextOf s q home .«max_len» ≡ q .limit
 unfolding contextOf
 context-limit s q home = refl
 
@@ -600,7 +600,7 @@ module _ (M : Type 0) (charge : Charge M) (s : Snapshot) (valid : Valid s) (q : 
       direct-path s (askedContext s q) (omega (arith, c)) (askedItem s q) _
       (new-leads s (askedContext s q) (askedItem s q) plainPath n t
       (subst (λ (ns : ℕ). Start s (askedContext s q) plainPath (n ∷ []) t (itemOf s ns (q .definition))) (sym e) b))
-      (wider 1 (askedContext s q .limit) (omega (arith, c)) (new-fits s 0 plainPath n t))
+      (wider 1 (askedContext s q .«max_len») (omega (arith, c)) (new-fits s 0 plainPath n t))
 
   start-path : (t : M) (b : Bool) → (b ≡ true → (q .ns ≡ types) × (definitionOf s (q .definition) .kind ≡ builtinKind))
       → Asked (fromItem M charge s q t b .choice)
@@ -617,7 +617,7 @@ module _ (M : Type 0) (charge : Charge M) (s : Snapshot) (valid : Valid s) (q : 
       let f = and-two (eqb (q .ns) types) (eqb (definitionOf s (q .definition) .kind) builtinKind) e in
       (eqb-true _ _ (f .0), eqb-true _ _ (f .1)))
 
-allowed : (s : Snapshot) (q : Query) → askedContext s q .unstable ≡ bit (q .options) 8
+allowed : (s : Snapshot) (q : Query) → askedContext s q .«allow_unstable» ≡ bit (q .options) 8
 unfolding contextOf
 allowed s q = refl
 

@@ -128,16 +128,16 @@ module _ (C : Type 0) (charge : Charge C) (size : C → ℕ) (Past : ℕ → ℕ
           → Both F (findInSysroot Tank fromTank s x here rt left item a ls b) (findInSysroot C charge s x here rc left item c ls b)
       unfolding findInSysroot
       sysroot-sim left item a c [] true h = h
-      sysroot-sim left item a c [] false h = deps-sim left item a c (sysrootFirst s (x .krate)) h
+      sysroot-sim left item a c [] false h = deps-sim left item a c (sysrootFirst s (x .«from_crate»)) h
       sysroot-sim left item a c (l ∷ ls) true h = h
       sysroot-sim left item a c (l ∷ ls) false h =
-          sysroot-next left item ls _ _ (λ b k. sysroot-sim left item _ _ ls b k) (deps-sim left item a c (oneOrNone (langOf s (x .krate) l)) h)
+          sysroot-next left item ls _ _ (λ b k. sysroot-sim left item _ _ ls b k) (deps-sim left item a c (oneOrNone (langOf s (x .«from_crate») l)) h)
 
       go-sim : (left : ℕ) (item : Item) (t : Tank) (n : C) (a b : Bool) → Sync F t (size n)
           → Both F (goOn Tank fromTank s x here rt left item t a b) (goOn C charge s x here rc left item n a b)
       unfolding goOn
       go-sim left item t n true b h = same refl h
-      go-sim left item t n false true h = sysroot-sim left item _ _ (langs (x .nostd)) false (same refl h)
+      go-sim left item t n false true h = sysroot-sim left item _ _ (langs (x .«prefer_no_std»)) false (same refl h)
       go-sim left item t n false false h = deps-sim left item _ _ _ (same refl h)
 
       go-on : (left : ℕ) (item : Item) → Charged C → Out C
@@ -176,7 +176,7 @@ module _ (C : Type 0) (charge : Charge C) (size : C → ℕ) (Past : ℕ → ℕ
             → Both F (afterEnum Tank fromTank s x here rt item v a b) (afterEnum C charge s x here rc item v c b)
         unfolding afterEnum
         enum-same item v a c true e h = same (cc) h
-        enum-same item v a c false e h = best-sim (x .limit) item (a .meter) (c .meter) h
+        enum-same item v a c false e h = best-sim (x .«max_len») item (a .meter) (c .meter) h
 
         enum-sim : (item : Item) (v : Definition) (a : Out Tank) (c : Out C) → Both F a c
             → Both F (afterEnum Tank fromTank s x here rt item v a (a .choice .found)) (afterEnum C charge s x here rc item v c (c .choice .found))
@@ -190,7 +190,7 @@ module _ (C : Type 0) (charge : Charge C) (size : C → ℕ) (Past : ℕ → ℕ
         via-sim : (item : Item) (t : Tank) (n : C) (v : Option Definition) → Sync F t (size n)
             → Both F (viaEnum Tank fromTank s x here rt it item t v) (viaEnum C charge s x here rc ic item n v)
         unfolding viaEnum
-        via-sim item t n none h = best-sim (x .limit) item t n h
+        via-sim item t n none h = best-sim (x .«max_len») item t n h
         via-sim item t n (some v) h = enum-sim item v _ _ (within (itemOf s types (v .first)) t n h)
 
         named-sim : (item : Item) (t : Tank) (n : C) (c : Choice) (b : Bool) → Sync F t (size n)
@@ -203,11 +203,11 @@ module _ (C : Type 0) (charge : Charge C) (size : C → ℕ) (Past : ℕ → ℕ
             → Both F (ofModule Tank fromTank s x here rt it m t b) (ofModule C charge s x here rc ic m n b)
         unfolding ofModule byName
         of-sim m t n true h = named-sim (Mod m) t n _ _ h
-        of-sim m t n false h = al (x .limit) m t n h
+        of-sim m t n false h = al (x .«max_len») m t n h
 
         item-sim : AlikeWithin F (findPathInner Tank fromTank s x here rt it) (findPathInner C charge s x here rc ic)
         unfolding findPathInner byName
-        item-sim (Mod m) t n h = of-sim m t n (x .std) h
+        item-sim (Mod m) t n h = of-sim m t n (x .«is_std_item») h
         item-sim (Def ns d) t n h = named-sim (Def ns d) t n _ _ h
 
     module _ (x : FindPathCtx) where

@@ -105,14 +105,14 @@ module _ (s : Snapshot) (r : Ranges (countsOf s) s) where
       sysroot-told : (item : Item) (o : Out Tank) (ls : List ℕ) (b : Bool) → Keeps (o .meter) → Keeps (findInSysroot Tank fromTank s x here rec left item o ls b .meter)
       unfolding findInSysroot
       sysroot-told item o [] true f = f
-      sysroot-told item o [] false f = deps-told item o (sysrootFirst s (x .krate)) f
+      sysroot-told item o [] false f = deps-told item o (sysrootFirst s (x .«from_crate»)) f
       sysroot-told item o (l ∷ ls) true f = f
-      sysroot-told item o (l ∷ ls) false f = sysroot-told item _ ls _ (deps-told item o (oneOrNone (langOf s (x .krate) l)) f)
+      sysroot-told item o (l ∷ ls) false f = sysroot-told item _ ls _ (deps-told item o (oneOrNone (langOf s (x .«from_crate») l)) f)
 
       go-told : (item : Item) (t : Tank) (a b : Bool) → Keeps t → Keeps (goOn Tank fromTank s x here rec left item t a b .meter)
       unfolding goOn
       go-told item t true b f = f
-      go-told item t false true f = sysroot-told item _ (langs (x .nostd)) false f
+      go-told item t false true f = sysroot-told item _ (langs (x .«prefer_no_std»)) false f
       go-told item t false false f = deps-told item _ _ f
 
       after-told : (item : Item) (c : Charged Tank) → Keeps (left-by c) → Keeps (afterCharge Tank fromTank s x here rec left item c .meter)
@@ -135,9 +135,9 @@ module _ (s : Snapshot) (r : Ranges (countsOf s) s) where
     module-told zero m t h k f = f
     module-told (suc l) m t h k f = or-told l m t _ _ h k f
 
-    module _ (some-limit : 0 < x .limit) (limit : x .limit ≤ pathLimit) (inner : Inner Tank) (within : ToldWithin inner) where
-      item-best : (item : Item) (t : Tank) → Inside item → Keeps t → Keeps (calculateBestPath Tank fromTank s x here rec (x .limit) item t .meter)
-      item-best item t h f = best-told (x .limit) some-limit limit item t h f
+    module _ (some-limit : 0 < x .«max_len») (limit : x .«max_len» ≤ pathLimit) (inner : Inner Tank) (within : ToldWithin inner) where
+      item-best : (item : Item) (t : Tank) → Inside item → Keeps t → Keeps (calculateBestPath Tank fromTank s x here rec (x .«max_len») item t .meter)
+      item-best item t h f = best-told (x .«max_len») some-limit limit item t h f
 
       enum-told : (item : Item) (v : Definition) (o : Out Tank) (b : Bool) → Inside item → Keeps (o .meter)
           → Keeps (afterEnum Tank fromTank s x here rec item v o b .meter)
@@ -158,14 +158,14 @@ module _ (s : Snapshot) (r : Ranges (countsOf s) s) where
       of-told : (m : ℕ) (t : Tank) (b : Bool) → Inside (Mod m) → Keeps t → Keeps (ofModule Tank fromTank s x here rec inner m t b .meter)
       unfolding ofModule byName
       of-told m t true h f = named-told (Mod m) t _ _ h f
-      of-told m t false h f = known (x .limit) m t limit h f
+      of-told m t false h f = known (x .«max_len») m t limit h f
 
       item-told : ToldWithin (findPathInner Tank fromTank s x here rec inner)
       unfolding findPathInner byName
-      item-told (Mod m) t h f = of-told m t (x .std) h f
+      item-told (Mod m) t h f = of-told m t (x .«is_std_item») h f
       item-told (Def ns d) t h f = named-told (Def ns d) t _ _ h f
 
-  module _ (x : FindPathCtx) (some-limit : 0 < x .limit) (limit : x .limit ≤ pathLimit) where
+  module _ (x : FindPathCtx) (some-limit : 0 < x .«max_len») (limit : x .«max_len» ≤ pathLimit) where
     moduleTo-told : (d : ℕ) → ToldBy (moduleTo Tank fromTank s x d)
     unfolding moduleTo
     moduleTo-told zero left m t h k f = f

@@ -113,16 +113,16 @@ module _ (M : Type 0) (charge : Charge M) (s : Snapshot) (x : FindPathCtx) where
         → findInSysroot M charge s x here f left item o ls b ≡ findInSysroot M charge s x here g left item o ls b
     unfolding findInSysroot
     sysroot-same item o [] true = refl
-    sysroot-same item o [] false = deps-same item o (sysrootFirst s (x .krate))
+    sysroot-same item o [] false = deps-same item o (sysrootFirst s (x .«from_crate»))
     sysroot-same item o (l ∷ ls) true = refl
     sysroot-same item o (l ∷ ls) false =
-        ap (λ (r : Out M). findInSysroot M charge s x here f left item r ls (isStable (r .choice))) (deps-same item o (oneOrNone (langOf s (x .krate) l)))
+        ap (λ (r : Out M). findInSysroot M charge s x here f left item r ls (isStable (r .choice))) (deps-same item o (oneOrNone (langOf s (x .«from_crate») l)))
         ∙ sysroot-same item _ ls _
 
     go-same : (item : Item) (t : M) (a b : Bool) → goOn M charge s x here f left item t a b ≡ goOn M charge s x here g left item t a b
     unfolding goOn
     go-same item t true b = refl
-    go-same item t false true = sysroot-same item _ (langs (x .nostd)) false
+    go-same item t false true = sysroot-same item _ (langs (x .«prefer_no_std»)) false
     go-same item t false false = deps-same item _ _
 
     after-same : (item : Item) (c : Charged M) → afterCharge M charge s x here f left item c ≡ afterCharge M charge s x here g left item c
@@ -189,7 +189,7 @@ module _ (M : Type 0) (charge : Charge M) (s : Snapshot) (x : FindPathCtx) where
       → ((v : Definition) (t : M) → variantOf s item ≡ some v → f (itemOf s types (v .first)) t ≡ g (itemOf s types (v .first)) t)
       → (t : M) → findPathInner M charge s x here rec f item t ≡ findPathInner M charge s x here rec g item t
   unfolding findPathInner
-  item-same here rec f g (Mod m) agree t = of-same here rec f g m t (x .std) (by-name-same here rec f g (Mod m) agree t)
+  item-same here rec f g (Mod m) agree t = of-same here rec f g m t (x .«is_std_item») (by-name-same here rec f g (Mod m) agree t)
   item-same here rec f g (Def ns d) agree t = by-name-same here rec f g (Def ns d) agree t
 
   -- The item search is its rule over itself, for an item whose enum, if it has one, is no variant.

@@ -67,7 +67,7 @@ module _ (s : Snapshot) (x : FindPathCtx) where
   unfoldable pub offerImport : Choice → Choice → Import → Choice
   offerImport best c i =
       elim (isUnstable i) [
-        | true ↦ elim (x .unstable) [ true ↦ offer s x best (unstably c) (i .name) (stepBy viaImport (i .place)) | false ↦ best ]
+        | true ↦ elim (x .«allow_unstable») [ true ↦ offer s x best (unstably c) (i .name) (stepBy viaImport (i .place)) | false ↦ best ]
         | false ↦ offer s x best c (i .name) (stepBy viaImport (i .place))
       ]
 
@@ -94,21 +94,21 @@ module _ (M : Type 0) (charge : Charge M) (s : Snapshot) (x : FindPathCtx) (here
   -- `find_in_sysroot`: the three languages in turn, until the choice is stable; then every dependency, those of the sysroot first
   unfoldable pub findInSysroot : Search M → ℕ → Item → Out M → List ℕ → Bool → Out M
   findInSysroot rec left item o [] true = o
-  findInSysroot rec left item o [] false = findInDeps rec left item o (sysrootFirst s (x .krate))
+  findInSysroot rec left item o [] false = findInDeps rec left item o (sysrootFirst s (x .«from_crate»))
   findInSysroot rec left item o (l ∷ ls) true = o
   findInSysroot rec left item o (l ∷ ls) false =
-      let r = findInDeps rec left item o (oneOrNone (langOf s (x .krate) l)) in
+      let r = findInDeps rec left item o (oneOrNone (langOf s (x .«from_crate») l)) in
       findInSysroot rec left item r ls (isStable (r .choice))
 
   -- after a charge: in the viewer's crate the local search, else the sysroot for a std item, else the dependencies
   unfoldable pub goOn : Search M → ℕ → Item → M → Bool → Bool → Out M
   goOn rec left item t true std = record { choice = here left item; meter = t }
-  goOn rec left item t false true = findInSysroot rec left item (record { choice = nothing; meter = t }) (langs (x .nostd)) false
+  goOn rec left item t false true = findInSysroot rec left item (record { choice = nothing; meter = t }) (langs (x .«prefer_no_std»)) false
   goOn rec left item t false false =
-      findInDeps rec left item (record { choice = nothing; meter = t }) (dependenciesOf s (x .krate))
+      findInDeps rec left item (record { choice = nothing; meter = t }) (dependenciesOf s (x .«from_crate»))
 
   unfoldable pub afterCharge : Search M → ℕ → Item → Charged M → Out M
-  afterCharge rec left item (go t) = goOn rec left item t (isAt s (homeOf s item) (x .krate)) (x .std)
+  afterCharge rec left item (go t) = goOn rec left item t (isAt s (homeOf s item) (x .«from_crate»)) (x .«is_std_item»)
   afterCharge rec left item (stop t) = record { choice = nothing; meter = t }
 
   -- `calculate_best_path`, the only rule that charges
@@ -126,11 +126,11 @@ module _ (M : Type 0) (charge : Charge M) (s : Snapshot) (x : FindPathCtx) (here
 
   unfoldable pub afterEnum : Search M → Item → Definition → Out M → Bool → Out M
   afterEnum rec item v o true = record { choice = pushVariant s (o .choice) v; meter = o .meter }
-  afterEnum rec item v o false = calculateBestPath rec (x .limit) item (o .meter)
+  afterEnum rec item v o false = calculateBestPath rec (x .«max_len») item (o .meter)
 
   -- a variant is its enum's path and its name, else searched like any other item, with the meter that its enum left
   unfoldable pub viaEnum : Search M → Inner M → Item → M → Option Definition → Out M
-  viaEnum rec inner item t none = calculateBestPath rec (x .limit) item t
+  viaEnum rec inner item t none = calculateBestPath rec (x .«max_len») item t
   viaEnum rec inner item t (some v) =
       let o = inner (itemOf s types (v .first)) t in
       afterEnum rec item v o (o .choice .found)
@@ -147,9 +147,9 @@ module _ (M : Type 0) (charge : Charge M) (s : Snapshot) (x : FindPathCtx) (here
 
   unfoldable pub ofModule : Search M → Inner M → ℕ → M → Bool → Out M
   ofModule rec inner m t true = byName rec inner (Mod m) t
-  ofModule rec inner m t false = rec (x .limit) m t
+  ofModule rec inner m t false = rec (x .«max_len») m t
 
   -- `find_path_inner`: a module goes straight to the module search, unless it is std's
   unfoldable pub findPathInner : Search M → Inner M → Inner M
-  findPathInner rec inner (Mod m) t = ofModule rec inner m t (x .std)
+  findPathInner rec inner (Mod m) t = ofModule rec inner m t (x .«is_std_item»)
   findPathInner rec inner (Def ns d) t = byName rec inner (Def ns d) t

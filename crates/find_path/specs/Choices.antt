@@ -87,9 +87,9 @@ nothing =
       kind = 0;
       names = replicate 16 0;
       count = 0;
-      text = 0;
+      «path_text_len» = 0;
       stable = false;
-      prelude = false;
+      «has_prelude_segment» = false;
       route = replicate 17 0;
       steps = 0;
     }
@@ -102,9 +102,9 @@ keyword k =
       kind = k;
       names = replicate 16 0;
       count = 0;
-      text = pathKindLen k;
+      «path_text_len» = pathKindLen k;
       stable = true;
-      prelude = false;
+      «has_prelude_segment» = false;
       route = set (replicate 17 0) 0 (stepBy viaKeyword 0);
       steps = 1;
     }
@@ -117,9 +117,9 @@ choiceNew s k n t =
       kind = k;
       names = set (replicate 16 0) 0 n;
       count = 1;
-      text = pathKindLen k + nameLen s n;
+      «path_text_len» = pathKindLen k + nameLen s n;
       stable = true;
-      prelude = isPrelude s n;
+      «has_prelude_segment» = isPrelude s n;
       route = set (replicate 17 0) 0 t;
       steps = 1;
     }
@@ -132,16 +132,16 @@ extended s c n t flag =
       kind = c .kind;
       names = set (c .names) (c .count) n;
       count = c .count + 1;
-      text = c .text + nameLen s n;
+      «path_text_len» = c .«path_text_len» + nameLen s n;
       stable = c .stable;
-      prelude = flag;
+      «has_prelude_segment» = flag;
       route = set (c .route) (c .steps) t;
       steps = c .steps + 1;
     }
 
 -- `Choice::push`
 unfoldable pub push : Snapshot → Choice → ℕ → ℕ → Choice
-push s c n t = extended s c n t (c .prelude || isPrelude s n)
+push s c n t = extended s c n t (c .«has_prelude_segment» || isPrelude s n)
 
 -- the choice, unstable
 unfoldable pub unstably : Choice → Choice
@@ -151,9 +151,9 @@ unstably c =
       kind = c .kind;
       names = c .names;
       count = c .count;
-      text = c .text;
+      «path_text_len» = c .«path_text_len»;
       stable = false;
-      prelude = c .prelude;
+      «has_prelude_segment» = c .«has_prelude_segment»;
       route = c .route;
       steps = c .steps;
     }
@@ -187,15 +187,15 @@ unfoldable pub better : Snapshot → Bool → Choice → Choice → ℕ → Bool
 better s prefer current other n =
     taken
     (andThen (compareBool (other .stable) (current .stable))
-    (andThen (comparePrelude prefer (current .prelude) (other .prelude))
+    (andThen (comparePrelude prefer (current .«has_prelude_segment») (other .«has_prelude_segment»))
     (compare (pathLen current) (pathLen other + 1))))
-    (ltb (other .text + nameLen s n) (current .text))
+    (ltb (other .«path_text_len» + nameLen s n) (current .«path_text_len»))
 
 -- `Choice::try_select`: the first choice counts its last name for `prelude`, a later one does not
 unfoldable pub trySelect : Snapshot → Bool → Choice → Choice → ℕ → ℕ → Choice
 trySelect s prefer current other n t =
     elim (current .found) [
-      | true ↦ elim (better s prefer current other n) [ true ↦ extended s other n t (other .prelude) | false ↦ current ]
+      | true ↦ elim (better s prefer current other n) [ true ↦ extended s other n t (other .«has_prelude_segment») | false ↦ current ]
       | false ↦ push s other n t
     ]
 

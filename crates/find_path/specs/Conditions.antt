@@ -29,8 +29,8 @@ pub record Prepared (W A : List ℕ) (l : Layout) (x : FindPathCtx) : Type 0 whe
   pub reads : Reads W A l
   pub from : x .from < l .modules
   pub area : length A ≡ areaLimit
-  pub some : 0 < x .limit
-  pub limit : x .limit ≤ pathLimit
+  pub some : 0 < x .«max_len»
+  pub limit : x .«max_len» ≤ pathLimit
 
 -- an item that can be asked for
 abbrev pub Asked : Layout → Item → Type 0

@@ -22,7 +22,7 @@ LocalSearch = ℕ → List Level → ℕ → Choice
 module _ (s : Snapshot) (x : FindPathCtx) where
   -- a choice for the container, if there is one, is offered with the name, by a step t
   unfoldable pub offer : Choice → Choice → ℕ → ℕ → Choice
-  offer best c n t = elim (c .found) [ true ↦ trySelect s (x .prelude) best c n t | false ↦ best ]
+  offer best c n t = elim (c .found) [ true ↦ trySelect s (x .«prefer_prelude») best c n t | false ↦ best ]
 
   unfoldable pub offerEntry : Choice → Choice → Scope → Choice
   offerEntry best c e = offer best c (e .name) (stepBy viaLocal (e .place))

@@ -29,21 +29,21 @@ a ∈ xs = List·Memᴰ a xs
 
 -- the item's home is in the viewer's crate
 abbrev pub isNear : Snapshot → FindPathCtx → Item → Bool
-isNear s x item = isAt s (homeOf s item) (x .krate)
+isNear s x item = isAt s (homeOf s item) (x .«from_crate»)
 
 -- A path of that kind starts with these names, by this step, and so reaches the item.
 pub data Start (s : Snapshot) (x : FindPathCtx) : ℕ → List ℕ → ℕ → Item → Type 0 where
   -- a keyword without names: the viewing module, its parent, the root of its crate; ByCrate takes no other than the last
   self : (x .prefix ≡ byCrate → ⊥) → Start s x selfPath [] (stepBy viaKeyword 0) (Mod (x .from))
   super : (p : ℕ) → (x .prefix ≡ byCrate → ⊥) → parentOf s (x .from) ≡ suc p → Start s x superPath [] (stepBy viaKeyword 0) (Mod p)
-  crate : Start s x cratePath [] (stepBy viaKeyword 0) (Mod (x .root))
+  crate : Start s x cratePath [] (stepBy viaKeyword 0) (Mod (x .«crate_root»))
   -- a first name by the scope, where it may be used, by the prelude, or by an extern of the viewer's crate for the root of another
   scope : (item : Item) (e : Scope) → e ∈ s .scopes → mayBeInScope s x ≡ true → findInScope s x item ≡ some e
       → Start s x (prefixPathKind (x .prefix)) (e .name ∷ []) (stepBy viaScope (e .place)) item
   prelude : (item : Item) (e : Scope) → e ∈ s .scopes → findInPrelude s x item ≡ some e
       → Start s x plainPath (e .name ∷ []) (stepBy viaPrelude (e .place)) item
-  extern : (m : ℕ) (e : Extern) → e ∈ s .externs → crateRoot s m ≡ m → (m ≡ x .root → ⊥) → externOf s (x .krate) m ≡ some e
-      → Start s x (externKind s x (occupied s (x .from) m (e .name) || x .absolute)) (e .name ∷ []) (stepBy viaExtern (e .place)) (Mod m)
+  extern : (m : ℕ) (e : Extern) → e ∈ s .externs → crateRoot s m ≡ m → (m ≡ x .«crate_root» → ⊥) → externOf s (x .«from_crate») m ≡ some e
+      → Start s x (externKind s x (occupied s (x .from) m (e .name) || x .«prefer_absolute»)) (e .name ∷ []) (stepBy viaExtern (e .place)) (Mod m)
   -- a builtin is its name
   builtin : (d : ℕ) → definitionOf s d ∈ s .definitions → definitionOf s d .kind ≡ builtinKind
       → Start s x plainPath (definitionOf s d .first ∷ []) (stepBy viaBuiltin (definitionOf s d .place)) (itemOf s types d)
@@ -56,8 +56,8 @@ pub data Step (s : Snapshot) (x : FindPathCtx) : ℕ → ℕ → ℕ → Item �
       → Step s x (e .owner) (e .name) (stepBy viaLocal (e .place)) (itemOf s (e .ns) (e .definition))
   -- by an import record of a dependency of the viewer's crate, for an item of another crate, in the module; it is not hidden, and is
   -- stable unless the question allows others
-  imported : (d : Dependency) (i : Import) → d ∈ dependenciesOf s (x .krate) → i ∈ s .imports → i .owner ≡ d .crate
-      → isNear s x (itemOf s (i .ns) (i .definition)) ≡ false → isHidden i ≡ false → (isUnstable i ≡ true → x .unstable ≡ true)
+  imported : (d : Dependency) (i : Import) → d ∈ dependenciesOf s (x .«from_crate») → i ∈ s .imports → i .owner ≡ d .crate
+      → isNear s x (itemOf s (i .ns) (i .definition)) ≡ false → isHidden i ≡ false → (isUnstable i ≡ true → x .«allow_unstable» ≡ true)
       → Step s x (i .container) (i .name) (stepBy viaImport (i .place)) (itemOf s (i .ns) (i .definition))
 
 -- A path of that kind with these names, by these steps, reaches the item: its start, and then each name leads on from the module reached so far.
@@ -68,9 +68,9 @@ pub data Route (s : Snapshot) (x : FindPathCtx) : ℕ → List ℕ → List ℕ 
 
 -- A path is a route of as many names at most as the question's limit, or one to the enum of a variant and the variant's own name.
 pub data Path (s : Snapshot) (x : FindPathCtx) : ℕ → List ℕ → List ℕ → Item → Type 0 where
-  direct : {k : ℕ} {ns ts : List ℕ} {item : Item} → Route s x k ns ts item → length ns ≤ x .limit → Path s x k ns ts item
+  direct : {k : ℕ} {ns ts : List ℕ} {item : Item} → Route s x k ns ts item → length ns ≤ x .«max_len» → Path s x k ns ts item
   variant : {k : ℕ} {ns ts : List ℕ} {item : Item} (v : Definition) → v ∈ s .definitions → variantOf s item ≡ some v
-      → Route s x k ns ts (itemOf s types (v .first)) → length ns ≤ x .limit
+      → Route s x k ns ts (itemOf s types (v .first)) → length ns ≤ x .«max_len»
       → Path s x k (ns ++ (v .second ∷ [])) (ts ++ (stepBy viaVariant (v .place) ∷ [])) item
 
 -- the kinds of the records that the rules use
@@ -115,6 +115,6 @@ pub record Routed (s : Snapshot) (q : Query) (r : Report) : Type 0 where
   -- and its steps
   pub steps : length (routeSteps r) ≡ r .steps
   -- unstable imports are allowed by bit 8 of the options
-  pub unstable : askedContext s q .unstable ≡ bit (q .options) 8
+  pub unstable : askedContext s q .«allow_unstable» ≡ bit (q .options) 8
   -- its names are bounded by the question's limit
-  pub limit : askedContext s q .limit ≡ q .limit
+  pub limit : askedContext s q .«max_len» ≡ q .limit

@@ -52,20 +52,20 @@ unfoldable pub contextOf : Snapshot → Query → ℕ → FindPathCtx
 contextOf s q home =
     record {
       prefix = plainIf (inBlock s home) (q .prefix);
-      nostd =
+      «prefer_no_std» =
           bit (q .options) 1
           || (eqb (mapOf s (mapNo s (q .from)) .noStd) 1 || eqb (crateData s (crateOf s (q .from)) .noStd) 1);
-      prelude = bit (q .options) 2;
-      absolute = bit (q .options) 4;
-      unstable = bit (q .options) 8;
-      declared = bit (q .options) 16;
+      «prefer_prelude» = bit (q .options) 2;
+      «prefer_absolute» = bit (q .options) 4;
+      «allow_unstable» = bit (q .options) 8;
+      «ignore_local_imports» = bit (q .options) 16;
       fresh = bit (q .options) 32;
-      std = isLang s (crateOf s home);
+      «is_std_item» = isLang s (crateOf s home);
       from = q .from;
-      krate = crateOf s (q .from);
-      root = crateRoot s (q .from);
+      «from_crate» = crateOf s (q .from);
+      «crate_root» = crateRoot s (q .from);
       own = moduleIn (itemOf s (q .ns) (q .definition));
-      limit = q .limit;
+      «max_len» = q .limit;
     }
 
 -- what a charge looks for: a module, +1, or 0 for the question's own item or its enum, which is no module
@@ -90,11 +90,11 @@ module _ (s : Snapshot) (x : FindPathCtx) where
 
   -- `find_in_scope`: the item's entry in the viewing module, or around its blocks; imports only where they count, old names last by bit 32
   unfoldable pub findInScope : Item → Option Scope
-  findInScope item = scopeEntry s (x .from) item (x .declared) (x .fresh)
+  findInScope item = scopeEntry s (x .from) item (x .«ignore_local_imports») (x .fresh)
 
   -- `may_be_in_scope`: under ByCrate only the crate's root uses its scope
   unfoldable pub mayBeInScope : Bool
-  mayBeInScope = not (eqb (x .prefix) byCrate) || eqb (x .root) (x .from)
+  mayBeInScope = not (eqb (x .prefix) byCrate) || eqb (x .«crate_root») (x .from)
 
   unfoldable pub scopeRule : Item → Choice
   scopeRule item =
@@ -131,13 +131,13 @@ module _ (s : Snapshot) (x : FindPathCtx) where
 
   unfoldable pub externName : ℕ → Option Extern → Choice
   externName m none = nothing
-  externName m (some e) = choiceNew s (externKind (occupied s (x .from) m (e .name) || x .absolute)) (e .name) (stepBy viaExtern (e .place))
+  externName m (some e) = choiceNew s (externKind (occupied s (x .from) m (e .name) || x .«prefer_absolute»)) (e .name) (stepBy viaExtern (e .place))
 
   -- a crate's root is `crate`, in the viewer's crate or where no extern may be used; else its extern name
   unfoldable pub rootRule : Bool → ℕ → Choice
   rootRule maybeExtern m =
       elim (eqb (crateRoot s m) m) [
-        | true ↦ elim (not maybeExtern || eqb m (x .root)) [ true ↦ keyword cratePath | false ↦ externName m (externOf s (x .krate) m) ]
+        | true ↦ elim (not maybeExtern || eqb m (x .«crate_root»)) [ true ↦ keyword cratePath | false ↦ externName m (externOf s (x .«from_crate») m) ]
         | false ↦ nothing
       ]
 

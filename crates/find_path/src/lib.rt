@@ -1,34 +1,34 @@
 //! What the search takes and answers.
 
-// What is set once for a question (`FindPathCtx`): `nostd` is prefer_no_std, `declared` ignore_local_imports, `fresh` old names last,
-// `std` is_std_item; `own` is the module asked for, +1, or 0 where the item is no module; `limit` is the length left at the start.
+// What is set once for a question, after the Rust's `FindPathCtx` and its config; `fresh` is old names last; `own` is the module asked for, +1,
+// or 0 where the item is no module; `max_len` is the length left at the start.
 pub struct FindPathCtx {
     pub prefix: usize,
-    pub nostd: bool,
-    pub prelude: bool,
-    pub absolute: bool,
-    pub unstable: bool,
-    pub declared: bool,
+    pub prefer_no_std: bool,
+    pub prefer_prelude: bool,
+    pub prefer_absolute: bool,
+    pub allow_unstable: bool,
+    pub ignore_local_imports: bool,
     pub fresh: bool,
-    pub std: bool,
+    pub is_std_item: bool,
     pub from: usize,
-    pub krate: usize,
-    pub root: usize,
+    pub from_crate: usize,
+    pub crate_root: usize,
     pub own: usize,
-    pub limit: usize,
+    pub max_len: usize,
 }
 
-// A path, or none. `kind` is 0 plain, 1 self, 2 super, 3 crate, 4 a leading `::`; `text` is the length of its text;
-// `prelude` says that a name of it is `prelude`. `route` says how it came about, a step for its start and one for each further name: eight
+// A path, or none. `kind` is 0 plain, 1 self, 2 super, 3 crate, 4 a leading `::`; `path_text_len` is the length of its text;
+// `has_prelude_segment` says that a name of it is `prelude`. `route` says how it came about, a step for its start and one for each further name: eight
 // times the place of the record used, plus the rule.
 pub struct Choice {
     pub found: bool,
     pub kind: usize,
     pub names: [usize; 16],
     pub count: usize,
-    pub text: usize,
+    pub path_text_len: usize,
     pub stable: bool,
-    pub prelude: bool,
+    pub has_prelude_segment: bool,
     pub route: [usize; 17],
     pub steps: usize,
 }

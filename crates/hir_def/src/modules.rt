@@ -1,6 +1,6 @@
 //! Modules of an accepted snapshot: passed on.
 pub use module_tree::modules::block;
-pub use module_tree::modules::containing;
+pub use module_tree::modules::containing_module;
 pub use module_tree::modules::crate_root;
 pub use module_tree::modules::in_block;
 pub use module_tree::modules::krate;

@@ -195,7 +195,7 @@ fn is_module_entry(words: &[u32], l: Layout, h: usize, m: ModuleId) -> bool
 }
 
 /// The next of the module's entries for a module in types, from the entry number k on.
-pub fn next_module(words: &[u32], l: Layout, k: usize, m: ModuleId) -> Next
+pub fn modules_in_scope(words: &[u32], l: Layout, k: usize, m: ModuleId) -> Next
     requires { ⌜ wordCount l < 2 ^ 32 ⌝ }
     ensures { λ r. ⌜ ((A : List ℕ) → NextOf (isModuleEntry (snapOf (now (words .entry)) A l) (m .0)) scopeAt scopeSize (now (words .entry)) (scopeBase l) (l .scopes) k r) ⌝ }
 {

@@ -20,10 +20,10 @@ use crate::levels::push_module;
 use hir_def::Item;
 use hir_def::Next;
 use hir_def::items::first_of;
-use hir_def::modules::containing;
+use hir_def::modules::containing_module;
 use hir_def::modules::krate;
 use hir_def::visibility::is_visible_from;
-use item_scope::next_module;
+use item_scope::modules_in_scope;
 use snapshot::ids::ModuleId;
 use snapshot::ids::OptModule;
 use snapshot::kind::Size;
@@ -79,7 +79,7 @@ fn push_containers(
     let mut run = n;
     let mut m = from;
     loop {
-        let OptModule::Module(c) = containing(words, area, l, m) else {
+        let OptModule::Module(c) = containing_module(words, area, l, m) else {
             return run;
         };
         m = c;
@@ -118,7 +118,7 @@ fn push_next(
     let mut run = n;
     let mut k = 0;
     loop {
-        let e = next_module(words, l, k, m);
+        let e = modules_in_scope(words, l, k, m);
         let Next::Record(j, h) = e else {
             return run;
         };

@@ -120,7 +120,7 @@ module _ (W A : List ℕ) (l : Layout) (x : FindPathCtx) (left : ℕ) (s : Stack
       pub location-steps : c .steps < 17
       location-steps = omega (arith, fits .once, location-few)
 
-      pub location-text : c .text < 2 ^ 32
+      pub location-text : c .«path_text_len» < 2 ^ 32
       location-text = omega (arith, fits .text (names-short W A l (y .reads)), location-few)
 
       pub location-some : {h : ℕ} {b : Entry} {r : Choice} → entryOf scopeAt W b ≡ importableName S x item m → b ≡ At h

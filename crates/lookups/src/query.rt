@@ -6,7 +6,7 @@ use crate_graph::extern_of;
 use hir_def::Entry;
 use hir_def::items::home_of;
 use hir_def::items::item_of;
-use hir_def::modules::containing;
+use hir_def::modules::containing_module;
 use hir_def::modules::crate_root;
 use hir_def::visibility::is_visible_from;
 use item_scope::entry_in;
@@ -199,7 +199,7 @@ fn container(words: &[u32], area: &[u32], l: Layout, m: usize) -> Reply
     if l.modules <= m {
         return Reply::OutOfRange;
     }
-    number_of(containing(words, area, l, ModuleId(m)))
+    number_of(containing_module(words, area, l, ModuleId(m)))
 }
 
 fn extern_named(words: &[u32], l: Layout, c: usize, m: usize) -> Reply

@@ -72,7 +72,7 @@ pub fn no_std(words: &[u32], area: &[u32], l: Layout, m: ModuleId) -> bool
 }
 
 /// The containing module: the parent, and from a map's root the block's parent.
-pub fn containing(words: &[u32], area: &[u32], l: Layout, m: ModuleId) -> OptModule
+pub fn containing_module(words: &[u32], area: &[u32], l: Layout, m: ModuleId) -> OptModule
     requires { ⌜ Reads (now words) (now area) l × (m .0 < l .modules) ⌝ }
     ensures { λ r. ⌜ plusOne r ≡ containingOf (snapOf (now (words .entry)) (now (area .entry)) l) (m .0) ⌝ }
 {

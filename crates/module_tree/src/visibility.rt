@@ -6,7 +6,7 @@ ghost use Rattle.accept.specs.Post.{Reads};
 ghost use Rattle.module_tree.specs.Modules.{containing as containingOf};
 ghost use Rattle.module_tree.specs.Visibility.{climb as climbOf, met as metOf, inModule, isVisibleFrom};
 use crate::modules::block;
-use crate::modules::containing;
+use crate::modules::containing_module;
 use crate::modules::krate;
 use crate::modules::map;
 use snapshot::ids::ModuleId;
@@ -36,7 +36,7 @@ fn meets(words: &[u32], area: &[u32], l: Layout, viewer: ModuleId, target: Modul
     let mut v = viewer;
     let t = target.0;
     while v.0 != t {
-        let OptModule::Module(c) = containing(words, area, l, v) else {
+        let OptModule::Module(c) = containing_module(words, area, l, v) else {
             return false;
         };
         v = c;

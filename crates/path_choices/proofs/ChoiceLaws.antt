@@ -112,18 +112,18 @@ by-order Ordering·gt r = refl
 -- the code's test
 pub better-same : (s : Snapshot) (p : Bool) (cur oth : Choice) (n : ℕ) {a b k : ℕ} → a ≡ pathLen cur → b ≡ pathLen oth → k ≡ nameLen s n
     → byFlags (oth .stable) (cur .stable)
-    (byFlags (wanted p (oth .prelude) (cur .prelude)) (wanted p (cur .prelude) (oth .prelude))
-    (not (leb a (b + 1)) || (eqb a (b + 1) && ltb (oth .text + k) (cur .text))))
+    (byFlags (wanted p (oth .«has_prelude_segment») (cur .«has_prelude_segment»)) (wanted p (cur .«has_prelude_segment») (oth .«has_prelude_segment»))
+    (not (leb a (b + 1)) || (eqb a (b + 1) && ltb (oth .«path_text_len» + k) (cur .«path_text_len»))))
     ≡ better s p cur oth n
 unfolding better
 better-same s p cur oth n {a} {b} {k} ea eb ek =
-    let x = wanted p (oth .prelude) (cur .prelude) in
-    let y = wanted p (cur .prelude) (oth .prelude) in
-    let r = ltb (oth .text + k) (cur .text) in
+    let x = wanted p (oth .«has_prelude_segment») (cur .«has_prelude_segment») in
+    let y = wanted p (cur .«has_prelude_segment») (oth .«has_prelude_segment») in
+    let r = ltb (oth .«path_text_len» + k) (cur .«path_text_len») in
     let o = compare a (b + 1) in
     ap (λ z. byFlags (oth .stable) (cur .stable) (byFlags x y z)) (by-order o r)
-    ∙ ap (byFlags (oth .stable) (cur .stable)) (by-flags x y o r ∙ ap (λ z. taken (andThen z o) r) (sym (by-prefer p (cur .prelude) (oth .prelude))))
-    ∙ by-flags (oth .stable) (cur .stable) (andThen (comparePrelude p (cur .prelude) (oth .prelude)) o) r
+    ∙ ap (byFlags (oth .stable) (cur .stable)) (by-flags x y o r ∙ ap (λ z. taken (andThen z o) r) (sym (by-prefer p (cur .«has_prelude_segment») (oth .«has_prelude_segment»))))
+    ∙ by-flags (oth .stable) (cur .stable) (andThen (comparePrelude p (cur .«has_prelude_segment») (oth .«has_prelude_segment»)) o) r
     ∙ cc
 
 pub left-none : (left : ℕ) (c : Choice) → c .found ≡ false → left - 1 ≡ lengthLeft left c
@@ -142,30 +142,30 @@ left-more left n c e f h = sym (ap₂ (λ b m. shorterIf b left m) e (sym f) ∙
 
 pub keyword-same : (k : ℕ) {t : ℕ} → t ≡ pathKindLen k
     → _≡_ {A = Choice}
-    (record { found = true; kind = k; names = replicate 16 0; count = 0; text = t; stable = true; prelude = false; route = set (replicate 17 0) 0 4; steps = 1 })
+    (record { found = true; kind = k; names = replicate 16 0; count = 0; «path_text_len» = t; stable = true; «has_prelude_segment» = false; route = set (replicate 17 0) 0 4; steps = 1 })
     (keyword k)
 unfolding keyword
 keyword-same k e =
-    λ i. record { found = true; kind = k; names = replicate 16 0; count = 0; text = e i; stable = true; prelude = false; route = set (replicate 17 0) 0 4; steps = 1 }
+    λ i. record { found = true; kind = k; names = replicate 16 0; count = 0; «path_text_len» = e i; stable = true; «has_prelude_segment» = false; route = set (replicate 17 0) 0 4; steps = 1 }
 
 pub new-same : (s : Snapshot) (k n via : ℕ) {t : ℕ} {b : Bool} → t ≡ pathKindLen k + nameLen s n → b ≡ isPrelude s n
     → _≡_ {A = Choice}
-    (record { found = true; kind = k; names = set (replicate 16 0) 0 n; count = 1; text = t; stable = true; prelude = b; route = set (replicate 17 0) 0 via; steps = 1 })
+    (record { found = true; kind = k; names = set (replicate 16 0) 0 n; count = 1; «path_text_len» = t; stable = true; «has_prelude_segment» = b; route = set (replicate 17 0) 0 via; steps = 1 })
     (choiceNew s k n via)
 unfolding choiceNew
 new-same s k n via e f =
-    λ i. record { found = true; kind = k; names = set (replicate 16 0) 0 n; count = 1; text = e i; stable = true; prelude = f i; route = set (replicate 17 0) 0 via; steps = 1 }
+    λ i. record { found = true; kind = k; names = set (replicate 16 0) 0 n; count = 1; «path_text_len» = e i; stable = true; «has_prelude_segment» = f i; route = set (replicate 17 0) 0 via; steps = 1 }
 
-pub extended-same : (s : Snapshot) (c : Choice) (n via : ℕ) (b : Bool) {t : ℕ} → t ≡ c .text + nameLen s n
+pub extended-same : (s : Snapshot) (c : Choice) (n via : ℕ) (b : Bool) {t : ℕ} → t ≡ c .«path_text_len» + nameLen s n
     → _≡_ {A = Choice}
     (record {
       found = true;
       kind = c .kind;
       names = set (c .names) (c .count) n;
       count = c .count + 1;
-      text = t;
+      «path_text_len» = t;
       stable = c .stable;
-      prelude = b;
+      «has_prelude_segment» = b;
       route = set (c .route) (c .steps) via;
       steps = c .steps + 1;
     })
@@ -178,9 +178,9 @@ extended-same s c n via b e =
       kind = c .kind;
       names = set (c .names) (c .count) n;
       count = c .count + 1;
-      text = e i;
+      «path_text_len» = e i;
       stable = c .stable;
-      prelude = b;
+      «has_prelude_segment» = b;
       route = set (c .route) (c .steps) via;
       steps = c .steps + 1;
     }
@@ -195,10 +195,10 @@ module _ (s : Snapshot) (p : Bool) (cur oth : Choice) (n via : ℕ) where
   unfolding trySelect
   select-first e = rw (trySelect, e)
 
-  pub select-new : cur .found ≡ true → better s p cur oth n ≡ true → extended s oth n via (oth .prelude) ≡ trySelect s p cur oth n via
+  pub select-new : cur .found ≡ true → better s p cur oth n ≡ true → extended s oth n via (oth .«has_prelude_segment») ≡ trySelect s p cur oth n via
   unfolding trySelect
   select-new e f = rw (trySelect, e, f)
 
   pub select-old : cur .found ≡ true → better s p cur oth n ≡ false → cur ≡ trySelect s p cur oth n via
   unfolding trySelect
-  select-old e f = kept (extended s oth n via (oth .prelude)) cur (push s oth n via) (cur .found) (better s p cur oth n) e f
+  select-old e f = kept (extended s oth n via (oth .«has_prelude_segment»)) cur (push s oth n via) (cur .found) (better s p cur oth n) e f

@@ -99,9 +99,9 @@ pub fn nothing() -> Choice
         kind: 0,
         names: names,
         count: 0,
-        text: 0,
+        path_text_len: 0,
         stable: false,
-        prelude: false,
+        has_prelude_segment: false,
         route: route,
         steps: 0,
     }
@@ -120,9 +120,9 @@ pub fn keyword(kind: usize) -> Choice
         kind: kind,
         names: names,
         count: 0,
-        text: text,
+        path_text_len: text,
         stable: true,
-        prelude: false,
+        has_prelude_segment: false,
         route: route,
         steps: 1,
     }
@@ -151,9 +151,9 @@ pub fn choice_new(
         kind: kind,
         names: names,
         count: 1,
-        text: text,
+        path_text_len: text,
         stable: true,
-        prelude: prelude,
+        has_prelude_segment: prelude,
         route: route,
         steps: 1,
     }
@@ -169,7 +169,7 @@ fn extended(
     via: usize,
     flag: bool,
 ) -> Choice
-    requires { ⌜ Reads (now words) (now area) l × (n .0 < l .names) × (c .count < 16) × (c .text < 2 ^ 32) × (c .steps < 17) ⌝ }
+    requires { ⌜ Reads (now words) (now area) l × (n .0 < l .names) × (c .count < 16) × (c .«path_text_len» < 2 ^ 32) × (c .steps < 17) ⌝ }
     ensures { λ r. ⌜ r ≡ extendedOf (snapOf (now (words .entry)) (now (area .entry)) l) c (n .0) via flag ⌝ }
 {
     let count = c.count;
@@ -178,15 +178,15 @@ fn extended(
     let steps = c.steps;
     let mut route = c.route;
     route[steps] = via;
-    let text = c.text + name_len(words, area, l, n);
+    let text = c.path_text_len + name_len(words, area, l, n);
     Choice {
         found: true,
         kind: c.kind,
         names: names,
         count: count + 1,
-        text: text,
+        path_text_len: text,
         stable: c.stable,
-        prelude: flag,
+        has_prelude_segment: flag,
         route: route,
         steps: steps + 1,
     }
@@ -194,11 +194,11 @@ fn extended(
 
 /// One name more, by a step.
 pub fn push(words: &[u32], area: &[u32], l: Layout, c: Choice, n: Name, via: usize) -> Choice
-    requires { ⌜ Reads (now words) (now area) l × (n .0 < l .names) × (c .count < 16) × (c .text < 2 ^ 32) × (c .steps < 17) ⌝ }
+    requires { ⌜ Reads (now words) (now area) l × (n .0 < l .names) × (c .count < 16) × (c .«path_text_len» < 2 ^ 32) × (c .steps < 17) ⌝ }
     ensures { λ r. ⌜ r ≡ pushOf (snapOf (now (words .entry)) (now (area .entry)) l) c (n .0) via ⌝ }
 {
     let flag = is_prelude(words, area, l, n);
-    extended(words, area, l, c, n, via, c.prelude | flag)
+    extended(words, area, l, c, n, via, c.has_prelude_segment | flag)
 }
 
 /// The choice, unstable.
@@ -220,15 +220,15 @@ fn better(
     other: Choice,
     n: Name,
 ) -> bool
-    requires { ⌜ Reads (now words) (now area) l × (n .0 < l .names) × (current .count < 2 ^ 32) × (other .count < 2 ^ 32) × (other .text < 2 ^ 32) ⌝ }
+    requires { ⌜ Reads (now words) (now area) l × (n .0 < l .names) × (current .count < 2 ^ 32) × (other .count < 2 ^ 32) × (other .«path_text_len» < 2 ^ 32) ⌝ }
     ensures { λ r. ⌜ r ≡ betterOf (snapOf (now (words .entry)) (now (area .entry)) l) prefer current other (n .0) ⌝ }
 {
     let a = path_len(current);
     let b = path_len(other) + 1;
-    let shorter = other.text + name_len(words, area, l, n) < current.text;
+    let shorter = other.path_text_len + name_len(words, area, l, n) < current.path_text_len;
     let by_length = !(a <= b) | ((a == b) & shorter);
-    let x = (prefer & other.prelude) | (!prefer & current.prelude);
-    let y = (prefer & current.prelude) | (!prefer & other.prelude);
+    let x = (prefer & other.has_prelude_segment) | (!prefer & current.has_prelude_segment);
+    let y = (prefer & current.has_prelude_segment) | (!prefer & other.has_prelude_segment);
     let by_prelude = (x & !y) | (((x & y) | (!x & !y)) & by_length);
     let s = other.stable;
     let t = current.stable;
@@ -246,14 +246,14 @@ pub fn try_select(
     n: Name,
     via: usize,
 ) -> Choice
-    requires { ⌜ Reads (now words) (now area) l × (n .0 < l .names) × (current .count < 2 ^ 32) × (other .count < 16) × (other .text < 2 ^ 32) × (other .steps < 17) ⌝ }
+    requires { ⌜ Reads (now words) (now area) l × (n .0 < l .names) × (current .count < 2 ^ 32) × (other .count < 16) × (other .«path_text_len» < 2 ^ 32) × (other .steps < 17) ⌝ }
     ensures { λ r. ⌜ r ≡ trySelect (snapOf (now (words .entry)) (now (area .entry)) l) prefer current other (n .0) via ⌝ }
 {
     if !current.found {
         return push(words, area, l, other, n, via);
     }
     if better(words, area, l, prefer, current, other, n) {
-        return extended(words, area, l, other, n, via, other.prelude);
+        return extended(words, area, l, other, n, via, other.has_prelude_segment);
     }
     current
 }

@@ -24,18 +24,18 @@ module _ (s : Snapshot) (q : Query) (home : ℕ) {i a b z b₁ b₂ b₃ b₄ b�
       → _≡_ {A = FindPathCtx}
       (record {
         prefix = p;
-        nostd = b₁ || (a || b);
-        prelude = b₂;
-        absolute = b₃;
-        unstable = b₄;
-        declared = b₅;
+        «prefer_no_std» = b₁ || (a || b);
+        «prefer_prelude» = b₂;
+        «prefer_absolute» = b₃;
+        «allow_unstable» = b₄;
+        «ignore_local_imports» = b₅;
         fresh = b₆;
-        std = z;
+        «is_std_item» = z;
         from = q .from;
-        krate = c;
-        root = r;
+        «from_crate» = c;
+        «crate_root» = r;
         own = o;
-        limit = q .limit;
+        «max_len» = q .limit;
       })
       (contextOf s q home)
   unfolding contextOf
@@ -46,18 +46,18 @@ module _ (s : Snapshot) (q : Query) (home : ℕ) {i a b z b₁ b₂ b₃ b₄ b�
       λ j.
       record {
         prefix = kp j;
-        nostd = e₁ j || (ea j || kb j);
-        prelude = e₂ j;
-        absolute = e₃ j;
-        unstable = e₄ j;
-        declared = e₅ j;
+        «prefer_no_std» = e₁ j || (ea j || kb j);
+        «prefer_prelude» = e₂ j;
+        «prefer_absolute» = e₃ j;
+        «allow_unstable» = e₄ j;
+        «ignore_local_imports» = e₅ j;
         fresh = e₆ j;
-        std = kz j;
+        «is_std_item» = kz j;
         from = q .from;
-        krate = ec j;
-        root = er j;
+        «from_crate» = ec j;
+        «crate_root» = er j;
         own = eo j;
-        limit = q .limit;
+        «max_len» = q .limit;
       }
 
 pub plain-block : (b : Bool) (p : ℕ) → b ≡ true → 1 ≡ plainIf b p

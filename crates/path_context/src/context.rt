@@ -93,18 +93,18 @@ pub fn context(
     let root = crate_root(words, area, l, from);
     FindPathCtx {
         prefix: prefix,
-        nostd: nostd,
-        prelude: prelude,
-        absolute: absolute,
-        unstable: unstable,
-        declared: declared,
+        prefer_no_std: nostd,
+        prefer_prelude: prelude,
+        prefer_absolute: absolute,
+        allow_unstable: unstable,
+        ignore_local_imports: declared,
         fresh: fresh,
-        std: std,
+        is_std_item: std,
         from: q.from,
-        krate: here.0,
-        root: root.0,
+        from_crate: here.0,
+        crate_root: root.0,
         own: own,
-        limit: q.limit,
+        max_len: q.limit,
     }
 }
 

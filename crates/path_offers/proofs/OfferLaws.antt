@@ -12,11 +12,11 @@ use Rattle.find_path.specs.Local.{offer, offerEntry, isImportable, entryIf}
 use Rattle.find_path.specs.Charged.{offerImport}
 use Rattle.path_choices.proofs.ChoiceLaws.{taken-true, taken-false}
 
-pub unstably-fits : (c : Choice) {d : Choice} → d ≡ unstably c → c .count < 16 → c .text < 2 ^ 32 → c .steps < 17
-    → (d .count < 16) × (d .text < 2 ^ 32) × (d .steps < 17)
+pub unstably-fits : (c : Choice) {d : Choice} → d ≡ unstably c → c .count < 16 → c .«path_text_len» < 2 ^ 32 → c .steps < 17
+    → (d .count < 16) × (d .«path_text_len» < 2 ^ 32) × (d .steps < 17)
 unfolding unstably
 unstably-fits c e h k l =
-    (subst (λ (z : Choice). z .count < 16) (sym e) h, subst (λ (z : Choice). z .text < 2 ^ 32) (sym e) k, subst (λ (z : Choice). z .steps < 17) (sym e) l)
+    (subst (λ (z : Choice). z .count < 16) (sym e) h, subst (λ (z : Choice). z .«path_text_len» < 2 ^ 32) (sym e) k, subst (λ (z : Choice). z .steps < 17) (sym e) l)
 
 module _ (s : Snapshot) (x : FindPathCtx) where
   -- an entry, where it can be imported
@@ -34,7 +34,7 @@ module _ (s : Snapshot) (x : FindPathCtx) where
     unfolding offer
     offer-none n via t = taken-false _ best (c .found) t
 
-    pub offer-some : (n via : ℕ) → c .found ≡ true → trySelect s (x .prelude) best c n via ≡ offer s x best c n via
+    pub offer-some : (n via : ℕ) → c .found ≡ true → trySelect s (x .«prefer_prelude») best c n via ≡ offer s x best c n via
     unfolding offer
     offer-some n via t = taken-true _ best (c .found) t
 
@@ -47,13 +47,13 @@ module _ (s : Snapshot) (x : FindPathCtx) where
       unfolding offerImport
       import-stable t = ap₂ (offer s x best c) en ev ∙ taken-false _ _ (isUnstable i) t
 
-      pub import-barred : isUnstable i ≡ true → x .unstable ≡ false → best ≡ offerImport s x best c i
+      pub import-barred : isUnstable i ≡ true → x .«allow_unstable» ≡ false → best ≡ offerImport s x best c i
       unfolding offerImport
-      import-barred t u = taken-false _ best (x .unstable) u ∙ taken-true _ _ (isUnstable i) t
+      import-barred t u = taken-false _ best (x .«allow_unstable») u ∙ taken-true _ _ (isUnstable i) t
 
-      pub import-unstable : {d : Choice} → d ≡ unstably c → isUnstable i ≡ true → x .unstable ≡ true
+      pub import-unstable : {d : Choice} → d ≡ unstably c → isUnstable i ≡ true → x .«allow_unstable» ≡ true
           → offer s x best d n via ≡ offerImport s x best c i
       unfolding offerImport
       import-unstable f t u =
-          ap (λ (d : Choice). offer s x best d n via) f ∙ ap₂ (offer s x best (unstably c)) en ev ∙ taken-true _ best (x .unstable) u
+          ap (λ (d : Choice). offer s x best d n via) f ∙ ap₂ (offer s x best (unstably c)) en ev ∙ taken-true _ best (x .«allow_unstable») u
           ∙ taken-true _ _ (isUnstable i) t

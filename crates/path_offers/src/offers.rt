@@ -62,13 +62,13 @@ fn offer(
     n: Name,
     via: usize,
 ) -> Choice
-    requires { ⌜ Reads (now words) (now area) l × (n .0 < l .names) × (best .count < 2 ^ 32) × (c .count < 16) × (c .text < 2 ^ 32) × (c .steps < 17) ⌝ }
+    requires { ⌜ Reads (now words) (now area) l × (n .0 < l .names) × (best .count < 2 ^ 32) × (c .count < 16) × (c .«path_text_len» < 2 ^ 32) × (c .steps < 17) ⌝ }
     ensures { λ r. ⌜ r ≡ offerOf (snapOf (now (words .entry)) (now (area .entry)) l) x best c (n .0) via ⌝ }
 {
     if !c.found {
         return best;
     }
-    try_select(words, area, l, x.prelude, best, c, n, via)
+    try_select(words, area, l, x.prefer_prelude, best, c, n, via)
 }
 
 /// The better of the choice so far and the module's choice with the name of the scope entry with its head at a place.
@@ -81,7 +81,7 @@ pub fn offer_entry(
     c: Choice,
     h: usize,
 ) -> Choice
-    requires { ⌜ Reads (now words) (now area) l × ScopeFits (countsIn l) (scopeAt (now words) h) × (best .count < 2 ^ 32) × (c .count < 16) × (c .text < 2 ^ 32) × (c .steps < 17) ⌝ }
+    requires { ⌜ Reads (now words) (now area) l × ScopeFits (countsIn l) (scopeAt (now words) h) × (best .count < 2 ^ 32) × (c .count < 16) × (c .«path_text_len» < 2 ^ 32) × (c .steps < 17) ⌝ }
     ensures { λ r. ⌜ r ≡ offerEntry (snapOf (now (words .entry)) (now (area .entry)) l) x best c (scopeAt (now (words .entry)) h) ⌝ }
 {
     let n = scope_name(words, h);
@@ -99,7 +99,7 @@ pub fn offer_import(
     c: Choice,
     h: usize,
 ) -> Choice
-    requires { ⌜ Reads (now words) (now area) l × ImportFits (countsIn l) (importAt (now words) h) × (best .count < 2 ^ 32) × (c .count < 16) × (c .text < 2 ^ 32) × (c .steps < 17) ⌝ }
+    requires { ⌜ Reads (now words) (now area) l × ImportFits (countsIn l) (importAt (now words) h) × (best .count < 2 ^ 32) × (c .count < 16) × (c .«path_text_len» < 2 ^ 32) × (c .steps < 17) ⌝ }
     ensures { λ r. ⌜ r ≡ offerImport (snapOf (now (words .entry)) (now (area .entry)) l) x best c (importAt (now (words .entry)) h) ⌝ }
 {
     let via = step_by(StepRule::IMPORT, h);
@@ -107,7 +107,7 @@ pub fn offer_import(
     if !is_unstable(words, h) {
         return offer(words, area, l, x, best, c, n, via);
     }
-    if !x.unstable {
+    if !x.allow_unstable {
         return best;
     }
     offer(words, area, l, x, best, unstably(c), n, via)

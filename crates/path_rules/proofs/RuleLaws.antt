@@ -79,7 +79,7 @@ module _ (W A : List ℕ) (l : Layout) (r : Reads W A l) where
 
   pub scope-below : (x : FindPathCtx) (item : Item) (e : Entry) → entryOf scopeAt W e ≡ findInScope (snapOf W A l) x item → EntryFits W l e
   unfolding findInScope
-  scope-below x item (At h) q = scope-entry-fits (x .from) item (x .declared) (x .fresh) (scopeAt W h) (sym q)
+  scope-below x item (At h) q = scope-entry-fits (x .from) item (x .«ignore_local_imports») (x .fresh) (scopeAt W h) (sym q)
   scope-below x item Nothing q = tt
 
 module _ (s : Snapshot) (x : FindPathCtx) where
@@ -114,11 +114,11 @@ module _ (s : Snapshot) (x : FindPathCtx) where
 
   -- an extern's name
   pub extern-some : (m : ℕ) (e : Extern) {n via : ℕ} {o : Bool} (t : Bool) → n ≡ e .name → via ≡ stepBy viaExtern (e .place)
-      → o ≡ occupied s (x .from) m n → o || x .absolute ≡ t → choiceNew s (externKind s x t) n via ≡ externName s x m (some e)
+      → o ≡ occupied s (x .from) m n → o || x .«prefer_absolute» ≡ t → choiceNew s (externKind s x t) n via ≡ externName s x m (some e)
   unfolding externName
   extern-some m e {via = via} t en ev eo et =
-      ap₂ (λ k n. choiceNew s (externKind s x k) n via) (sym et ∙ ap (λ o. o || x .absolute) (eo ∙ ap (occupied s (x .from) m) en)) en
-      ∙ ap (choiceNew s (externKind s x (occupied s (x .from) m (e .name) || x .absolute)) (e .name)) ev
+      ap₂ (λ k n. choiceNew s (externKind s x k) n via) (sym et ∙ ap (λ o. o || x .«prefer_absolute») (eo ∙ ap (occupied s (x .from) m) en)) en
+      ∙ ap (choiceNew s (externKind s x (occupied s (x .from) m (e .name) || x .«prefer_absolute»)) (e .name)) ev
 
   module _ (b : Bool) (m : ℕ) {r : ℕ} (er : r ≡ crateRoot s m) where
     pub root-other : (r ≡ m → ⊥) → nothing ≡ rootRule s x b m
@@ -128,14 +128,14 @@ module _ (s : Snapshot) (x : FindPathCtx) where
     at-root : r ≡ m → eqb (crateRoot s m) m ≡ true
     at-root e = eq-eqb _ m (sym er ∙ e)
 
-    pub root-crate : r ≡ m → not b || eqb m (x .root) ≡ true → keyword 3 ≡ rootRule s x b m
+    pub root-crate : r ≡ m → not b || eqb m (x .«crate_root») ≡ true → keyword 3 ≡ rootRule s x b m
     unfolding rootRule
-    root-crate e t = taken-true (keyword 3) _ (not b || eqb m (x .root)) t ∙ taken-true _ nothing (eqb (crateRoot s m) m) (at-root e)
+    root-crate e t = taken-true (keyword 3) _ (not b || eqb m (x .«crate_root»)) t ∙ taken-true _ nothing (eqb (crateRoot s m) m) (at-root e)
 
-    pub root-extern : r ≡ m → not b || eqb m (x .root) ≡ false → {o : Option Extern} → o ≡ externOf s (x .krate) m → externName s x m o ≡ rootRule s x b m
+    pub root-extern : r ≡ m → not b || eqb m (x .«crate_root») ≡ false → {o : Option Extern} → o ≡ externOf s (x .«from_crate») m → externName s x m o ≡ rootRule s x b m
     unfolding rootRule
     root-extern e t eo =
-        ap (externName s x m) eo ∙ taken-false (keyword 3) _ (not b || eqb m (x .root)) t ∙ taken-true _ nothing (eqb (crateRoot s m) m) (at-root e)
+        ap (externName s x m) eo ∙ taken-false (keyword 3) _ (not b || eqb m (x .«crate_root»)) t ∙ taken-true _ nothing (eqb (crateRoot s m) m) (at-root e)
 
   pub parent-none : (m p : ℕ) → p ≡ 0 → none ≡ parentKind s x m p
   unfolding parentKind

@@ -75,14 +75,22 @@ pub fn find_in_scope(words: &[u32], area: &[u32], l: Layout, x: FindPathCtx, ite
     requires { ⌜ Reads (now words) (now area) l × (x .from < l .modules) ⌝ }
     ensures { λ r. ⌜ (entryOf scopeAt (now (words .entry)) r ≡ findInScope (snapOf (now (words .entry)) (now (area .entry)) l) x item) × EntryFits (now (words .entry)) l r ⌝ }
 {
-    scope_entry(words, area, l, ModuleId(x.from), item, x.declared, x.fresh)
+    scope_entry(
+        words,
+        area,
+        l,
+        ModuleId(x.from),
+        item,
+        x.ignore_local_imports,
+        x.fresh,
+    )
 }
 
 // Whether the scope is used: under ByCrate only the crate's root does.
 fn may_be_in_scope(x: FindPathCtx) -> bool
     ensures { λ r. ⌜ ((s : Snapshot) → r ≡ mayBeInScope s x) ⌝ }
 {
-    (x.prefix != PrefixKind::BY_CRATE) | (x.root == x.from)
+    (x.prefix != PrefixKind::BY_CRATE) | (x.crate_root == x.from)
 }
 
 /// The item by its name in scope.
@@ -173,7 +181,7 @@ fn extern_rule(
     };
     let via = step_by(StepRule::EXTERN, h);
     let name = extern_name(words, h);
-    if occupied(words, area, l, ModuleId(x.from), m, name) | x.absolute {
+    if occupied(words, area, l, ModuleId(x.from), m, name) | x.prefer_absolute {
         return choice_new(words, area, l, PathKind::ABSOLUTE, name, via);
     }
     choice_new(words, area, l, PathKind::PLAIN, name, via)
@@ -195,10 +203,10 @@ pub fn root_rule(
     if top.0 != m.0 {
         return nothing();
     }
-    if !maybe_extern | (m.0 == x.root) {
+    if !maybe_extern | (m.0 == x.crate_root) {
         return keyword(PathKind::CRATE);
     }
-    let e = extern_of(words, l, Crate(x.krate), m);
+    let e = extern_of(words, l, Crate(x.from_crate), m);
     extern_rule(words, area, l, x, m, e)
 }
 

@@ -159,29 +159,29 @@ module _ (W A : List ℕ) (l : Layout) (r : Reads W A l) where
 
 module _ (s : Snapshot) (x : FindPathCtx) where
   -- a module goes straight to the module search
-  at-once : (item : Item) (m : ℕ) (t : Tank) (b : Bool) → x .std ≡ b → straight b item ≡ suc m
-      → modules s x (x .limit) m t ≡ findPathInner Tank fromTank s x (bestLocal s x) (modules s x) (items s x) item t
+  at-once : (item : Item) (m : ℕ) (t : Tank) (b : Bool) → x .«is_std_item» ≡ b → straight b item ≡ suc m
+      → modules s x (x .«max_len») m t ≡ findPathInner Tank fromTank s x (bestLocal s x) (modules s x) (items s x) item t
   unfolding findPathInner ofModule straight
   at-once (Mod n) m t true e h = let z : 0 ≡ suc m = h in absurd (omega (arith, z))
   at-once (Mod n) m t false e h =
       let z : n + 1 ≡ suc m = h in
       let k : m ≡ n = omega (arith, z) in
-      ap (λ (y : ℕ). modules s x (x .limit) y t) k ∙ sym (ap (ofModule Tank fromTank s x (bestLocal s x) (modules s x) (items s x) n t) e)
+      ap (λ (y : ℕ). modules s x (x .«max_len») y t) k ∙ sym (ap (ofModule Tank fromTank s x (bestLocal s x) (modules s x) (items s x) n t) e)
   at-once (Def n d) m t true e h = let z : 0 ≡ suc m = h in absurd (omega (arith, z))
   at-once (Def n d) m t false e h = let z : 0 ≡ suc m = h in absurd (omega (arith, z))
 
-  by-name : (item : Item) (t : Tank) (b : Bool) → x .std ≡ b → straight b item ≡ 0
+  by-name : (item : Item) (t : Tank) (b : Bool) → x .«is_std_item» ≡ b → straight b item ≡ 0
       → names s x item t ≡ findPathInner Tank fromTank s x (bestLocal s x) (modules s x) (items s x) item t
   unfolding findPathInner ofModule straight
   by-name (Mod n) t true e h = sym (ap (ofModule Tank fromTank s x (bestLocal s x) (modules s x) (items s x) n t) e)
   by-name (Mod n) t false e h = let z : n + 1 ≡ 0 = h in absurd (omega (arith, z))
   by-name (Def n d) t b e h = refl
 
-  pub inner-at-once : (item : Item) (t : Tank) {m : ℕ} → EnumNoVariant s item → straight (x .std) item ≡ suc m → modules s x (x .limit) m t ≡ items s x item t
-  inner-at-once item t {m} one h = at-once item m t (x .std) refl h ∙ sym (inner-more Tank fromTank s x item t one)
+  pub inner-at-once : (item : Item) (t : Tank) {m : ℕ} → EnumNoVariant s item → straight (x .«is_std_item») item ≡ suc m → modules s x (x .«max_len») m t ≡ items s x item t
+  inner-at-once item t {m} one h = at-once item m t (x .«is_std_item») refl h ∙ sym (inner-more Tank fromTank s x item t one)
 
-  pub inner-by-name : (item : Item) (t : Tank) → EnumNoVariant s item → straight (x .std) item ≡ 0 → names s x item t ≡ items s x item t
-  inner-by-name item t one h = by-name item t (x .std) refl h ∙ sym (inner-more Tank fromTank s x item t one)
+  pub inner-by-name : (item : Item) (t : Tank) → EnumNoVariant s item → straight (x .«is_std_item») item ≡ 0 → names s x item t ≡ items s x item t
+  inner-by-name item t one h = by-name item t (x .«is_std_item») refl h ∙ sym (inner-more Tank fromTank s x item t one)
 
   -- the names of an item, and then the search
   module _ (item : Item) (t : Tank) {c : Choice} (e : c ≡ firstFound (scopeRule s x item ∷ preludeRule s x item ∷ [])) where
@@ -209,7 +209,7 @@ module _ (s : Snapshot) (x : FindPathCtx) where
     unfolding byName
     name-via f v h = ap via h ∙ sym (enum-no _ _ (ap (λ (y : Choice). y .found) (sym e) ∙ f))
 
-    pub name-plain : c .found ≡ false → none ≡ variantOf s item → bestPath s x (x .limit) item t ≡ names s x item t
+    pub name-plain : c .found ≡ false → none ≡ variantOf s item → bestPath s x (x .«max_len») item t ≡ names s x item t
     unfolding viaEnum
     name-plain f h = name-via f none h
 
@@ -228,7 +228,7 @@ module _ (s : Snapshot) (x : FindPathCtx) where
     with-name v o false k = absurd (false≢true k)
 
     without : (v : Definition) (o : Out Tank) (b : Bool) → b ≡ false
-        → bestPath s x (x .limit) item (o .meter) ≡ afterEnum Tank fromTank s x (bestLocal s x) (modules s x) item v o b
+        → bestPath s x (x .«max_len») item (o .meter) ≡ afterEnum Tank fromTank s x (bestLocal s x) (modules s x) item v o b
     unfolding afterEnum
     without v o true k = absurd (false≢true (sym k))
     without v o false k = refl
@@ -240,45 +240,45 @@ module _ (s : Snapshot) (x : FindPathCtx) where
         ∙ ap foundOf (with-name v (parent v) _ (ap (λ (y : Found). y .choice .found) (sym g) ∙ k) ∙ enum-of v f h)
 
     pub enum-none : (v : Definition) {o : Found} → c .found ≡ false → some v ≡ variantOf s item → o ≡ foundOf (parent v) → o .choice .found ≡ false
-        → bestPath s x (x .limit) item (o .meter) ≡ names s x item t
+        → bestPath s x (x .«max_len») item (o .meter) ≡ names s x item t
     enum-none v f h g k =
-        ap (λ (y : Found). bestPath s x (x .limit) item (y .meter)) g
+        ap (λ (y : Found). bestPath s x (x .«max_len») item (y .meter)) g
         ∙ without v (parent v) _ (ap (λ (y : Found). y .choice .found) (sym g) ∙ k) ∙ enum-of v f h
 
   -- an item that is no variant has as many names at most as the limit
-  module _ (item : Item) (t : Tank) (h : variantOf s item ≡ none) (some-limit : 0 < x .limit) where
-    best-short : Fits s (x .limit) (bestPath s x (x .limit) item t .choice)
-    best-short = best-within Tank fromTank s x (bestLocal s x) (best-local-fits s x) (modules s x) (module-search-fits Tank fromTank s x) (x .limit) some-limit item t
+  module _ (item : Item) (t : Tank) (h : variantOf s item ≡ none) (some-limit : 0 < x .«max_len») where
+    best-short : Fits s (x .«max_len») (bestPath s x (x .«max_len») item t .choice)
+    best-short = best-within Tank fromTank s x (bestLocal s x) (best-local-fits s x) (modules s x) (module-search-fits Tank fromTank s x) (x .«max_len») some-limit item t
 
-    via-short : (v : Option Definition) → v ≡ none → Fits s (x .limit) (viaEnum Tank fromTank s x (bestLocal s x) (modules s x) (items s x) item t v .choice)
+    via-short : (v : Option Definition) → v ≡ none → Fits s (x .«max_len») (viaEnum Tank fromTank s x (bestLocal s x) (modules s x) (items s x) item t v .choice)
     unfolding viaEnum
     via-short none e = best-short
     via-short (some v) e = let z : _≡_ {A = ℕ} 0 1 = cc in absurd (omega arith)
 
-    enum-short : (c : Choice) (b : Bool) → Fits s (x .limit) c → Fits s (x .limit) (orEnum Tank fromTank s x (bestLocal s x) (modules s x) (items s x) item t c b .choice)
+    enum-short : (c : Choice) (b : Bool) → Fits s (x .«max_len») c → Fits s (x .«max_len») (orEnum Tank fromTank s x (bestLocal s x) (modules s x) (items s x) item t c b .choice)
     unfolding orEnum
     enum-short c true f = f
     enum-short c false f = via-short (variantOf s item) h
 
-    names-short : Fits s (x .limit) (names s x item t .choice)
+    names-short : Fits s (x .«max_len») (names s x item t .choice)
     unfolding byName firstFound
     names-short =
         enum-short _ _
-        (more 1 (x .limit) some-limit
+        (more 1 (x .«max_len») some-limit
         (either-fits 1 (scopeRule s x item .found) _ _ (scope-fits s x 0 item)
         (either-fits 1 (preludeRule s x item .found) _ _ (prelude-fits s x 0 item) (nothing-fits 1))))
 
-    by-straight : (n : ℕ) → straight (x .std) item ≡ n → Fits s (x .limit) (items s x item t .choice)
+    by-straight : (n : ℕ) → straight (x .«is_std_item») item ≡ n → Fits s (x .«max_len») (items s x item t .choice)
     by-straight (suc m) e =
-        subst (λ (o : Out Tank). Fits s (x .limit) (o .choice)) (inner-at-once item t no-enum e) (module-search-fits Tank fromTank s x (x .limit) m t)
+        subst (λ (o : Out Tank). Fits s (x .«max_len») (o .choice)) (inner-at-once item t no-enum e) (module-search-fits Tank fromTank s x (x .«max_len») m t)
       where
         no-enum : EnumNoVariant s item
         no-enum v k = let z : none ≡ some v = sym h ∙ k in let c : _≡_ {A = ℕ} 0 1 = cc in absurd (omega arith)
     by-straight zero e =
-        subst (λ (o : Out Tank). Fits s (x .limit) (o .choice)) (inner-by-name item t no-enum e) names-short
+        subst (λ (o : Out Tank). Fits s (x .«max_len») (o .choice)) (inner-by-name item t no-enum e) names-short
       where
         no-enum : EnumNoVariant s item
         no-enum v k = let z : none ≡ some v = sym h ∙ k in let c : _≡_ {A = ℕ} 0 1 = cc in absurd (omega arith)
 
-    pub plain-fits : Fits s (x .limit) (items s x item t .choice)
+    pub plain-fits : Fits s (x .«max_len») (items s x item t .choice)
     plain-fits = by-straight _ refl

@@ -40,7 +40,7 @@ use Rattle.charged_search.proofs.Holding.{Offered}
 use Rattle.charged_search.proofs.Runs.{later}
 use Rattle.search.proofs.Items.{plain-fits, enum-found, enum-none}
 
-pub begun : {W A : List ℕ} {l : Layout} {x : FindPathCtx} → Prepared W A l x → Begun W A l x (x .limit)
+pub begun : {W A : List ℕ} {l : Layout} {x : FindPathCtx} → Prepared W A l x → Begun W A l x (x .«max_len»)
 begun p = record { ready = p; some = p .some; limit = p .limit }
 
 pub straight-known : (l : Layout) (b : Bool) (item : Item) {m : ℕ} → straight b item ≡ suc m → Known l item → m < l .modules
@@ -57,7 +57,7 @@ enum-offered W A l x i t r a h e =
     let f = q .few in
     let u = q .text (names-short W A l (a .reads)) in
     let p = ap (λ (y : Found). y .choice .count) e in
-    let w = ap (λ (y : Found). y .choice .text) e in
+    let w = ap (λ (y : Found). y .choice .«path_text_len») e in
     let z = ap (λ (y : Found). y .choice .steps) e in
     record {
       few = omega (arith, a .limit, f, p);
@@ -93,10 +93,10 @@ module _ {W A₀ B : List ℕ} {l : Layout} {x : FindPathCtx} (p : Prepared W A�
         tables = d .tables;
       }
 
-  pub else-run : {D : List ℕ} {r : Found} → o .choice .found ≡ false → Searched B (bestPath (snapOf W B l) x (x .limit) item (o .meter)) D r
+  pub else-run : {D : List ℕ} {r : Found} → o .choice .found ≡ false → Searched B (bestPath (snapOf W B l) x (x .«max_len») item (o .meter)) D r
       → Searched A₀ (names (snapOf W A₀ l) x item t) D r
   else-run k q =
-      let y = later W A₀ B l x p (d .tables) (λ (s : Snapshot). bestPath s x (x .limit) item (o .meter)) q in
+      let y = later W A₀ B l x p (d .tables) (λ (s : Snapshot). bestPath s x (x .«max_len») item (o .meter)) q in
       record {
         same = y .same ∙ ap foundOf (enum-none (snapOf W A₀ l) x item t e v f h parent-same k);
         tables = y .tables;
@@ -174,6 +174,6 @@ pub context-from : (s : Snapshot) (q : Query) (h : ℕ) {x : FindPathCtx} → x 
 unfolding contextOf
 context-from s q h e = ap (λ (y : FindPathCtx). y .from) e
 
-pub context-limit : (s : Snapshot) (q : Query) (h : ℕ) {x : FindPathCtx} → x ≡ contextOf s q h → x .limit ≡ q .limit
+pub context-limit : (s : Snapshot) (q : Query) (h : ℕ) {x : FindPathCtx} → x ≡ contextOf s q h → x .«max_len» ≡ q .limit
 unfolding contextOf
-context-limit s q h e = ap (λ (y : FindPathCtx). y .limit) e
+context-limit s q h e = ap (λ (y : FindPathCtx). y .«max_len») e

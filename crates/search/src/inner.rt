@@ -84,7 +84,7 @@ fn variant_of(words: &[u32], l: Layout, item: Item) -> Entry
 
 // A variant's name, with its definition at a place, after the path of its enum.
 fn push_variant(words: &[u32], area: &[u32], l: Layout, c: Choice, n: Name, h: usize) -> Choice
-    requires { ⌜ Reads (now words) (now area) l × (n .0 < l .names) × (c .count < 16) × (c .text < 2 ^ 32) × (c .steps < 17) × (h < wordLimit) ⌝ }
+    requires { ⌜ Reads (now words) (now area) l × (n .0 < l .names) × (c .count < 16) × (c .«path_text_len» < 2 ^ 32) × (c .steps < 17) × (h < wordLimit) ⌝ }
     ensures { λ r. ⌜ r ≡ pushOf (snapOf (now (words .entry)) (now (area .entry)) l) c (n .0) (stepBy viaVariant h) ⌝ }
 {
     let via = step_by(StepRule::VARIANT, h);
@@ -113,10 +113,10 @@ pub fn find_path_inner(
     requires { ⌜ Prepared (now words) (now area) l x × Asked l item × (t .fuel + t .spent < 2 ^ 32) ⌝ }
     ensures { λ r. ⌜ Searched (now (area .entry)) (searchItem Tank fromTank (snapOf (now (words .entry)) (now (area .entry)) l) x item t) (now (area .exit)) r ⌝ }
 {
-    let OptModule::Module(m) = straight_of(x.std, item) else {
+    let OptModule::Module(m) = straight_of(x.is_std_item, item) else {
         return find_by_name(words, area, l, x, item, t);
     };
-    find_path_for_module(words, area, l, x, x.limit, m, t)
+    find_path_for_module(words, area, l, x, x.max_len, m, t)
 }
 
 // The scope and the prelude, then the enum of a variant, then the charged search, with the tank that the enum left.
@@ -139,7 +139,7 @@ fn find_by_name(
         };
     }
     let Entry::At(h) = variant_of(words, l, item) else {
-        return calculate_best_path(words, area, l, x, x.limit, item, t);
+        return calculate_best_path(words, area, l, x, x.max_len, item, t);
     };
     let parent = item_of(
         words,
@@ -157,7 +157,7 @@ fn find_by_name(
             meter: meter,
         };
     }
-    calculate_best_path(words, area, l, x, x.limit, item, meter)
+    calculate_best_path(words, area, l, x, x.max_len, item, meter)
 }
 
 /// The search for the item of a question with a full tank, for a limit in range.

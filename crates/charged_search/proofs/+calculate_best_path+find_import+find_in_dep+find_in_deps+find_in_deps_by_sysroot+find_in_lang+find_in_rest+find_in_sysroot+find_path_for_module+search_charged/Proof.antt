@@ -58,7 +58,7 @@ use Rattle.crate_graph.proofs.lang_of.Reads as lang-of-reads
 use Rattle.crate_graph.proofs.next_by_sysroot.Reads as next-by-sysroot-reads
 use Rattle.crate_graph.proofs.next_dependency.Reads as next-dependency-reads
 use Rattle.import_map.proofs.is_hidden.Reads as is-hidden-reads
-use Rattle.import_map.proofs.next_import.Reads as next-import-reads
+use Rattle.import_map.proofs.import_info_for.Reads as import-info-for-reads
 use Rattle.hir_def.proofs.items.home_of.Reads as home-of-reads
 use Rattle.local_search.proofs.calculate_best_path_local.Reads as calculate-best-path-local-reads
 use Rattle.path_rules.proofs.choices.length_left.Reads as length-left-reads
@@ -493,8 +493,8 @@ abbrev find-in-dep-μ-loop : find-in-dep-lts.MeasureT-loop
 find-in-dep-μ-loop words area₀ l x left item c best₀ k₀ area best k = l .imports - k
 
 find-in-dep-loop-holds : (t : ℕ) → find-in-dep-lts.Need-loop-holds (
-  next-import-reads.Asked,
-  next-import-reads.Learnt,
+  import-info-for-reads.Asked,
+  import-info-for-reads.Learnt,
   find-import-below t,
   find-import.Post,
 ) (find-in-dep-at t) find-in-dep.Post find-in-dep-Inv-loop find-in-dep-μ-loop
@@ -508,41 +508,41 @@ find-in-dep-loop-holds t c =
       held = o .pre .1 .1;
     }
 
-find-in-dep-next-import-requires : (t : ℕ) → find-in-dep-lts.Need-next-import-requires (
-  next-import-reads.Asked,
-  next-import-reads.Learnt,
+find-in-dep-import-info-for-requires : (t : ℕ) → find-in-dep-lts.Need-import-info-for-requires (
+  import-info-for-reads.Asked,
+  import-info-for-reads.Learnt,
   find-import-below t,
   find-import.Post,
 ) (find-in-dep-at t) find-in-dep.Post find-in-dep-Inv-loop find-in-dep-μ-loop
-find-in-dep-next-import-requires t c κs = let o = c .before .before .before .before .before in few-words _ _ _ (o .pre .1 .0 .ready .reads)
+find-in-dep-import-info-for-requires t c κs = let o = c .before .before .before .before .before in few-words _ _ _ (o .pre .1 .0 .ready .reads)
 
 find-in-dep-enum-known-j : (t : ℕ) → find-in-dep-lts.Need-enum-known-j (
-  next-import-reads.Asked,
-  next-import-reads.Learnt,
+  import-info-for-reads.Asked,
+  import-info-for-reads.Learnt,
   find-import-below t,
   find-import.Post,
 ) (find-in-dep-at t) find-in-dep.Post find-in-dep-Inv-loop find-in-dep-μ-loop
 find-in-dep-enum-known-j t c = search needs
 
 find-in-dep-enum-told : (t : ℕ) → find-in-dep-lts.Need-enum-told (
-  next-import-reads.Asked,
-  next-import-reads.Learnt,
+  import-info-for-reads.Asked,
+  import-info-for-reads.Learnt,
   find-import-below t,
   find-import.Post,
 ) (find-in-dep-at t) find-in-dep.Post find-in-dep-Inv-loop find-in-dep-μ-loop
 find-in-dep-enum-told t c = search needs
 
 find-in-dep-same-length : (t : ℕ) → find-in-dep-lts.Need-same-length (
-  next-import-reads.Asked,
-  next-import-reads.Learnt,
+  import-info-for-reads.Asked,
+  import-info-for-reads.Learnt,
   find-import-below t,
   find-import.Post,
 ) (find-in-dep-at t) find-in-dep.Post find-in-dep-Inv-loop find-in-dep-μ-loop
 find-in-dep-same-length t c = c .before .before .before .before .before .loop .inv .long
 
 find-in-dep-returns : (t : ℕ) → find-in-dep-lts.Need-returns (
-  next-import-reads.Asked,
-  next-import-reads.Learnt,
+  import-info-for-reads.Asked,
+  import-info-for-reads.Learnt,
   find-import-below t,
   find-import.Post,
 ) (find-in-dep-at t) find-in-dep.Post find-in-dep-Inv-loop find-in-dep-μ-loop
@@ -550,11 +550,11 @@ find-in-dep-returns t c =
     let o = c .before .before .before .before .before .before .before .before in
     let a = o .args in
     let g = c .before .before .before .before .before .loop in
-    running-done (g .inv) (imports-end (now (a .words)) (now (a .area)) (g .area) (a .l) (a .x) (a .left) (o .pre .1 .0 .ready) (o .pre .1 .0 .some) (g .best) _ (next-none (c .before .before .next-import .ensures (now (a .area))) (c .enum-told .given .1) .none))
+    running-done (g .inv) (imports-end (now (a .words)) (now (a .area)) (g .area) (a .l) (a .x) (a .left) (o .pre .1 .0 .ready) (o .pre .1 .0 .some) (g .best) _ (next-none (c .before .before .import-info-for .ensures (now (a .area))) (c .enum-told .given .1) .none))
 
 find-in-dep-find-import-requires : (t : ℕ) → find-in-dep-lts.Need-find-import-requires (
-  next-import-reads.Asked,
-  next-import-reads.Learnt,
+  import-info-for-reads.Asked,
+  import-info-for-reads.Learnt,
   find-import-below t,
   find-import.Post,
 ) (find-in-dep-at t) find-in-dep.Post find-in-dep-Inv-loop find-in-dep-μ-loop
@@ -562,59 +562,59 @@ find-in-dep-find-import-requires t c κs =
     let o = c .before .before .before .before .before .before .before .before .before .before in
     let a = o .args in
     let g = c .before .before .before .before .before .before .before .loop in
-    let m = next-record (c .before .before .before .before .next-import .ensures (now (a .area))) (c .before .before .j .given .1) in
+    let m = next-record (c .before .before .before .before .import-info-for .ensures (now (a .area))) (c .before .before .j .given .1) in
     let q = import-meets (now (a .words)) (now (a .area)) (a .l) (o .pre .1 .0 .ready .reads) m in
     (omega (arith, o .pre .0), (begun-later (o .pre .1 .0) (g .inv .tables) (g .inv .long), q .container, q, g .inv .held))
 
 find-in-dep-add-k : (t : ℕ) → find-in-dep-lts.Need-add-k (
-  next-import-reads.Asked,
-  next-import-reads.Learnt,
+  import-info-for-reads.Asked,
+  import-info-for-reads.Learnt,
   find-import-below t,
   find-import.Post,
 ) (find-in-dep-at t) find-in-dep.Post find-in-dep-Inv-loop find-in-dep-μ-loop
 find-in-dep-add-k t c =
     let o = c .before .before .before .before .before .before .before .before .before .before .before .before .before in
     let a = o .args in
-    let m = next-record (c .before .before .before .before .before .before .before .next-import .ensures (now (a .area))) (c .before .before .before .before .before .j .given .1) in
+    let m = next-record (c .before .before .before .before .before .before .before .import-info-for .ensures (now (a .area))) (c .before .before .before .before .before .j .given .1) in
     record { fits = omega (arith, m .below, few-words _ _ _ (o .pre .1 .0 .ready .reads)) }
 
 find-in-dep-loop-less : (t : ℕ) → find-in-dep-lts.Need-loop-less (
-  next-import-reads.Asked,
-  next-import-reads.Learnt,
+  import-info-for-reads.Asked,
+  import-info-for-reads.Learnt,
   find-import-below t,
   find-import.Post,
 ) (find-in-dep-at t) find-in-dep.Post find-in-dep-Inv-loop find-in-dep-μ-loop
 find-in-dep-loop-less t c =
     let o = c .before .before .before .before .before .before .before .before .before .before .before .before .before in
     let a = o .args in
-    let m = next-record (c .before .before .before .before .before .before .before .next-import .ensures (now (a .area))) (c .before .before .before .before .before .j .given .1) in
+    let m = next-record (c .before .before .before .before .before .before .before .import-info-for .ensures (now (a .area))) (c .before .before .before .before .before .j .given .1) in
     omega (arith, m .from, m .below)
 
 find-in-dep-loop-again : (t : ℕ) → find-in-dep-lts.Need-loop-again (
-  next-import-reads.Asked,
-  next-import-reads.Learnt,
+  import-info-for-reads.Asked,
+  import-info-for-reads.Learnt,
   find-import-below t,
   find-import.Post,
 ) (find-in-dep-at t) find-in-dep.Post find-in-dep-Inv-loop find-in-dep-μ-loop
 find-in-dep-loop-again t c =
     let o = c .before .before .before .before .before .before .before .before .before .before .before .before .before in
     let a = o .args in
-    let m = next-record (c .before .before .before .before .before .before .before .next-import .ensures (now (a .area))) (c .before .before .before .before .before .j .given .1) in
+    let m = next-record (c .before .before .before .before .before .before .before .import-info-for .ensures (now (a .area))) (c .before .before .before .before .before .j .given .1) in
     let g = c .before .before .before .before .before .before .before .before .before .before .loop in
     let f = c .before .before .find-import in
     imports-next (now (a .words)) (now (a .area)) (g .area) (a .l) (a .x) (a .left) (o .pre .1 .0 .ready) (o .pre .1 .0 .some) (g .inv) m (f .ensures) (f .kept .1 .0)
 
 find-in-dep-same-length-2 : (t : ℕ) → find-in-dep-lts.Need-same-length-2 (
-  next-import-reads.Asked,
-  next-import-reads.Learnt,
+  import-info-for-reads.Asked,
+  import-info-for-reads.Learnt,
   find-import-below t,
   find-import.Post,
 ) (find-in-dep-at t) find-in-dep.Post find-in-dep-Inv-loop find-in-dep-μ-loop
 find-in-dep-same-length-2 t c = c .before .before .loop .inv .long
 
 find-in-dep-returns-2 : (t : ℕ) → find-in-dep-lts.Need-returns-2 (
-  next-import-reads.Asked,
-  next-import-reads.Learnt,
+  import-info-for-reads.Asked,
+  import-info-for-reads.Learnt,
   find-import-below t,
   find-import.Post,
 ) (find-in-dep-at t) find-in-dep.Post find-in-dep-Inv-loop find-in-dep-μ-loop
@@ -627,8 +627,8 @@ find-in-dep-returns-2 t c =
 abbrev find-in-deps-Inv-loop : find-in-deps-lts.InvT-loop
 find-in-deps-Inv-loop words area₀ l x left item c best₀ k₀ area best k =
     Running area₀ area left best
-    (dependencies (snapOf words area₀ l) x left item (outOf best) (leftOf (isDependency (x .krate)) (λ i. dependencyAt words (dependencyBase l + dependencySize * i)) (l .dependencies) k))
-    (dependencies (snapOf words area₀ l) x left item (outOf best₀) (dependenciesOf (snapOf words area₀ l) (x .krate)))
+    (dependencies (snapOf words area₀ l) x left item (outOf best) (leftOf (isDependency (x .«from_crate»)) (λ i. dependencyAt words (dependencyBase l + dependencySize * i)) (l .dependencies) k))
+    (dependencies (snapOf words area₀ l) x left item (outOf best₀) (dependenciesOf (snapOf words area₀ l) (x .«from_crate»)))
 
 abbrev find-in-deps-μ-loop : find-in-deps-lts.MeasureT-loop
 find-in-deps-μ-loop words area₀ l x left item c best₀ k₀ area best k = l .dependencies - k
@@ -645,7 +645,7 @@ find-in-deps-loop-holds t c =
     let o = c .before .before in
     let a = o .args in
     record {
-      same = ap (dependencies (snapOf (now (a .words)) (now (a .area)) (a .l)) (a .x) (a .left) (a .item) (outOf (a .o))) (sym (dependencies-whole (now (a .words)) (now (a .area)) (a .l) (a .x .krate)));
+      same = ap (dependencies (snapOf (now (a .words)) (now (a .area)) (a .l)) (a .x) (a .left) (a .item) (outOf (a .o))) (sym (dependencies-whole (now (a .words)) (now (a .area)) (a .l) (a .x .«from_crate»)));
       tables = refl;
       long = refl;
       held = o .pre .1 .1;
@@ -800,8 +800,8 @@ find-in-deps-returns-2 t c =
 abbrev find-in-deps-by-sysroot-Inv-loop : find-in-deps-by-sysroot-lts.InvT-loop
 find-in-deps-by-sysroot-Inv-loop words area₀ l x left item inside c best₀ k₀ area best k =
     Running area₀ area left best
-    (dependencies (snapOf words area₀ l) x left item (outOf best) (leftOf (bySysroot (x .krate) inside) (λ i. dependencyAt words (dependencyBase l + dependencySize * i)) (l .dependencies) k))
-    (dependencies (snapOf words area₀ l) x left item (outOf best₀) (select (bySysroot (x .krate) inside) (snapOf words area₀ l .dependencies)))
+    (dependencies (snapOf words area₀ l) x left item (outOf best) (leftOf (bySysroot (x .«from_crate») inside) (λ i. dependencyAt words (dependencyBase l + dependencySize * i)) (l .dependencies) k))
+    (dependencies (snapOf words area₀ l) x left item (outOf best₀) (select (bySysroot (x .«from_crate») inside) (snapOf words area₀ l .dependencies)))
 
 abbrev find-in-deps-by-sysroot-μ-loop : find-in-deps-by-sysroot-lts.MeasureT-loop
 find-in-deps-by-sysroot-μ-loop words area₀ l x left item inside c best₀ k₀ area best k = l .dependencies - k
@@ -822,7 +822,7 @@ find-in-deps-by-sysroot-loop-holds t c =
     let o = c .before .before in
     let a = o .args in
     record {
-      same = ap (dependencies (snapOf (now (a .words)) (now (a .area)) (a .l)) (a .x) (a .left) (a .item) (outOf (a .o))) (sym (rows-whole (select (bySysroot (a .x .krate) (a .inside))) (λ i. dependencyAt (now (a .words)) (dependencyBase (a .l) + dependencySize * i)) (a .l .dependencies)));
+      same = ap (dependencies (snapOf (now (a .words)) (now (a .area)) (a .l)) (a .x) (a .left) (a .item) (outOf (a .o))) (sym (rows-whole (select (bySysroot (a .x .«from_crate») (a .inside))) (λ i. dependencyAt (now (a .words)) (dependencyBase (a .l) + dependencySize * i)) (a .l .dependencies)));
       tables = refl;
       long = refl;
       held = o .pre .1 .1;
@@ -1519,7 +1519,7 @@ search-charged-returns t c =
     let a = o .args in
     let f = c .before .before .calculate-best-path-local in
     record {
-      same = go-here (snapOf (now (a .words)) (now (a .area)) (a .l)) (a .x) (a .left) (a .item) (a .t) (f .ensures .same) (at-home (snapOf (now (a .words)) (now (a .area)) (a .l)) (a .item) (a .x .krate) (c .before .before .before .before .before .before .before .home-of .ensures (now (a .area))) (c .before .before .before .before .before .is-at .ensures) ∙ c .before .before .before .before .if1 .taken);
+      same = go-here (snapOf (now (a .words)) (now (a .area)) (a .l)) (a .x) (a .left) (a .item) (a .t) (f .ensures .same) (at-home (snapOf (now (a .words)) (now (a .area)) (a .l)) (a .item) (a .x .«from_crate») (c .before .before .before .before .before .before .before .home-of .ensures (now (a .area))) (c .before .before .before .before .before .is-at .ensures) ∙ c .before .before .before .before .if1 .taken);
       tables = f .ensures .tables;
     }
 
@@ -1594,7 +1594,7 @@ search-charged-returns-2 t c =
     let a = o .args in
     let f = c .before .before .find-in-sysroot in
     record {
-      same = f .ensures .same ∙ ap foundOf (go-sysroot (snapOf (now (a .words)) (now (a .area)) (a .l)) (a .x) (a .left) (a .item) (a .t) (c .before .before .before .before .before .nothing .ensures) (at-home (snapOf (now (a .words)) (now (a .area)) (a .l)) (a .item) (a .x .krate) (c .before .before .before .before .before .before .before .before .before .home-of .ensures (now (a .area))) (c .before .before .before .before .before .before .before .is-at .ensures) ∙ c .before .before .before .before .before .before .if1 .left) (c .before .before .before .before .if2 .taken));
+      same = f .ensures .same ∙ ap foundOf (go-sysroot (snapOf (now (a .words)) (now (a .area)) (a .l)) (a .x) (a .left) (a .item) (a .t) (c .before .before .before .before .before .nothing .ensures) (at-home (snapOf (now (a .words)) (now (a .area)) (a .l)) (a .item) (a .x .«from_crate») (c .before .before .before .before .before .before .before .before .before .home-of .ensures (now (a .area))) (c .before .before .before .before .before .before .before .is-at .ensures) ∙ c .before .before .before .before .before .before .if1 .left) (c .before .before .before .before .if2 .taken));
       tables = f .ensures .tables;
     }
 
@@ -1652,7 +1652,7 @@ search-charged-returns-3 t c =
     let a = o .args in
     let f = c .before .before .find-in-deps in
     record {
-      same = f .ensures .same ∙ ap foundOf (go-dependencies (snapOf (now (a .words)) (now (a .area)) (a .l)) (a .x) (a .left) (a .item) (a .t) (c .before .before .before .before .before .nothing .ensures) (at-home (snapOf (now (a .words)) (now (a .area)) (a .l)) (a .item) (a .x .krate) (c .before .before .before .before .before .before .before .before .before .home-of .ensures (now (a .area))) (c .before .before .before .before .before .before .before .is-at .ensures) ∙ c .before .before .before .before .before .before .if1 .left) (c .before .before .before .before .if2 .left));
+      same = f .ensures .same ∙ ap foundOf (go-dependencies (snapOf (now (a .words)) (now (a .area)) (a .l)) (a .x) (a .left) (a .item) (a .t) (c .before .before .before .before .before .nothing .ensures) (at-home (snapOf (now (a .words)) (now (a .area)) (a .l)) (a .item) (a .x .«from_crate») (c .before .before .before .before .before .before .before .before .before .home-of .ensures (now (a .area))) (c .before .before .before .before .before .before .before .is-at .ensures) ∙ c .before .before .before .before .before .before .if1 .left) (c .before .before .before .before .if2 .left));
       tables = f .ensures .tables;
     }
 
@@ -1711,8 +1711,8 @@ pub +calculate-best-path+find-import+find-in-dep+find-in-deps+find-in-deps-by-sy
     (find-import-same-length t)
     (find-import-returns-2 t))
     (λ t. find-in-dep-lts.spec (
-      next-import-reads.Asked,
-      next-import-reads.Learnt,
+      import-info-for-reads.Asked,
+      import-info-for-reads.Learnt,
       find-import-below t,
       find-import.Post,
     )
@@ -1721,7 +1721,7 @@ pub +calculate-best-path+find-import+find-in-dep+find-in-deps+find-in-deps-by-sy
     find-in-dep-Inv-loop
     find-in-dep-μ-loop
     (find-in-dep-loop-holds t)
-    (find-in-dep-next-import-requires t)
+    (find-in-dep-import-info-for-requires t)
     (find-in-dep-enum-known-j t)
     (find-in-dep-enum-told t)
     (find-in-dep-same-length t)

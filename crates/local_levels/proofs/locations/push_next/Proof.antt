@@ -30,8 +30,8 @@ loop-holds c =
     let s = c .before .before in
     pushing-skip _ _ _ _ _ (pushing-start (now (s .args .area)) _ _ (s .args .item) _ (s .pre .2)) (leads-start (now (s .args .words)) (now (s .args .area)) (s .args .l) (s .args .from .0) (s .args .m .0)) refl refl
 
-next-module-requires : tie.Need-next-module-requires Inv-loop μ-loop
-next-module-requires c κs =
+modules-in-scope-requires : tie.Need-modules-in-scope-requires Inv-loop μ-loop
+modules-in-scope-requires c κs =
     let s = c .before .before .before in
     few-words (now (s .args .words)) (now (s .args .area)) (s .args .l) (s .pre .0)
 
@@ -49,7 +49,7 @@ returns c =
     let n = c .before .before in
     let s = n .before .before .before .before in
     let A = now (s .args .area) in
-    pushing-done _ _ _ _ _ (n .before .loop .inv) (leads-end (now (s .args .words)) A (s .args .l) (s .args .from .0) (s .args .m .0) (next-none (n .next-module .ensures A) (c .enum-told .given .1)))
+    pushing-done _ _ _ _ _ (n .before .loop .inv) (leads-end (now (s .args .words)) A (s .args .l) (s .args .from .0) (s .args .m .0) (next-none (n .modules-in-scope .ensures A) (c .enum-told .given .1)))
 
 scope-definition-requires : tie.Need-scope-definition-requires Inv-loop μ-loop
 scope-definition-requires c κs = tt
@@ -68,7 +68,7 @@ leads-requires c κs =
     let s = n .before .before .before .before in
     let W = now (s .args .words) in
     let A = now (s .args .area) in
-    let x = next-record (n .next-module .ensures A) (e .e .given .1) in
+    let x = next-record (n .modules-in-scope .ensures A) (e .e .given .1) in
     let t = f .first-of .ensures A ∙ ap (λ y. definitionOf (snapOf W A (s .args .l)) y .first) (f .before .scope-definition .ensures) in
     (reads-at W A (l .area) (s .args .l) (s .args .s .top) (s .pre .0) (s .pre .2 .tables) (l .inv .below), s .pre .1, leads-below W A (s .args .l) (s .args .from .0) (s .args .m .0) x (s .pre .0) t, module-meets W A (s .args .l) (s .pre .0) x .inside)
 
@@ -81,7 +81,7 @@ push-module-requires c κs =
     let s = n .before .before .before .before in
     let W = now (s .args .words) in
     let A = now (s .args .area) in
-    let x = next-record (n .next-module .ensures A) (e .e .given .1) in
+    let x = next-record (n .modules-in-scope .ensures A) (e .e .given .1) in
     let t = f .first-of .ensures A ∙ ap (λ y. definitionOf (snapOf W A (s .args .l)) y .first) (f .before .scope-definition .ensures) in
     (l .inv .ready, s .pre .3, omega (arith, s .pre .0 .tables .limited .modules, leads-below W A (s .args .l) (s .args .from .0) (s .args .m .0) x (s .pre .0) t))
 
@@ -93,7 +93,7 @@ add-k c =
     let s = n .before .before .before .before in
     let W = now (s .args .words) in
     let A = now (s .args .area) in
-    let x = next-record (n .next-module .ensures A) (e .e .given .1) in
+    let x = next-record (n .modules-in-scope .ensures A) (e .e .given .1) in
     record { fits = omega (arith, x .below, few-words W A (s .args .l) (s .pre .0)) }
 
 loop-less : tie.Need-loop-less Inv-loop μ-loop
@@ -104,7 +104,7 @@ loop-less c =
     let s = n .before .before .before .before in
     let W = now (s .args .words) in
     let A = now (s .args .area) in
-    let x = next-record (n .next-module .ensures A) (e .e .given .1) in
+    let x = next-record (n .modules-in-scope .ensures A) (e .e .given .1) in
     omega (arith, x .below, x .from)
 
 loop-again : tie.Need-loop-again Inv-loop μ-loop
@@ -117,7 +117,7 @@ loop-again c =
     let s = n .before .before .before .before in
     let W = now (s .args .words) in
     let A = now (s .args .area) in
-    let x = next-record (n .next-module .ensures A) (e .e .given .1) in
+    let x = next-record (n .modules-in-scope .ensures A) (e .e .given .1) in
     let t = f .first-of .ensures A ∙ ap (λ y. definitionOf (snapOf W A (s .args .l)) y .first) (f .before .scope-definition .ensures) in
     let q = g .leads .ensures ∙ ap (λ y. eqb (crateOf y (f .first-of .result)) (crateOf y (s .args .from .0)) && sees y (s .args .from .0) (scopeAt W (e .e .given .0 .1 .0))) (snap-at W A (l .area) (s .args .l) (s .args .s .top) (s .pre .0) (s .pre .2 .tables) (l .inv .below)) in
     ⊎-elim
@@ -132,7 +132,7 @@ push-next-spec =
     Inv-loop
     μ-loop
     loop-holds
-    next-module-requires
+    modules-in-scope-requires
     enum-known-e
     enum-told
     same-length

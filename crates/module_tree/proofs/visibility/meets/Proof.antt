@@ -22,8 +22,8 @@ abbrev μ-loop : tie.MeasureT-loop
 loop-holds : tie.Need-loop-holds Inv-loop μ-loop
 loop-holds c = (refl, c .before .before .pre .1)
 
-containing-requires : tie.Need-containing-requires Inv-loop μ-loop
-containing-requires c κs = (c .before .before .before .before .before .pre .0, c .before .before .loop .inv .1)
+containing-module-requires : tie.Need-containing-module-requires Inv-loop μ-loop
+containing-module-requires c κs = (c .before .before .before .before .before .pre .0, c .before .before .loop .inv .1)
 
 enum-known-c : tie.Need-enum-known-c Inv-loop μ-loop
 enum-known-c c = search needs
@@ -36,14 +36,14 @@ returns c =
     let s = c .before .before .before .before .before .before .before .before in
     let g = c .before .before .before .before .before .loop in
     let n = (snapOf (now (s .args .words)) (now (s .args .area)) (s .args .l)) in
-    meets-end n (containing-falls n (accepted-tree (now (s .args .words)) (snapOf (now (s .args .words)) (now (s .args .area)) (s .args .l)) (s .pre .0 .same))) (g .v .0) (s .args .target .0) (rw (length-modules (now (s .args .words)) (now (s .args .area)) (s .args .l)) (g .inv .1)) (c .before .before .before .if1 .taken) (is-none _ (c .before .before .containing .ensures) (c .enum-told .given .1)) ∙ sym (g .inv .0)
+    meets-end n (containing-falls n (accepted-tree (now (s .args .words)) (snapOf (now (s .args .words)) (now (s .args .area)) (s .args .l)) (s .pre .0 .same))) (g .v .0) (s .args .target .0) (rw (length-modules (now (s .args .words)) (now (s .args .area)) (s .args .l)) (g .inv .1)) (c .before .before .before .if1 .taken) (is-none _ (c .before .before .containing-module .ensures) (c .enum-told .given .1)) ∙ sym (g .inv .0)
 
 loop-less : tie.Need-loop-less Inv-loop μ-loop
 loop-less c =
     let s = c .before .before .before .before .before .before .before .before .before in
     let g = c .before .before .before .before .before .before .loop in
     let n = (snapOf (now (s .args .words)) (now (s .args .area)) (s .args .l)) in
-    containing-falls n (accepted-tree (now (s .args .words)) (snapOf (now (s .args .words)) (now (s .args .area)) (s .args .l)) (s .pre .0 .same)) (g .v .0) _ (rw (length-modules (now (s .args .words)) (now (s .args .area)) (s .args .l)) (g .inv .1)) (is-some _ (c .before .before .before .containing .ensures) (c .before .c .given .1))
+    containing-falls n (accepted-tree (now (s .args .words)) (snapOf (now (s .args .words)) (now (s .args .area)) (s .args .l)) (s .pre .0 .same)) (g .v .0) _ (rw (length-modules (now (s .args .words)) (now (s .args .area)) (s .args .l)) (g .inv .1)) (is-some _ (c .before .before .before .containing-module .ensures) (c .before .c .given .1))
 
 loop-again : tie.Need-loop-again Inv-loop μ-loop
 loop-again c =
@@ -51,7 +51,7 @@ loop-again c =
     let g = c .before .before .before .before .before .before .loop in
     let n = (snapOf (now (s .args .words)) (now (s .args .area)) (s .args .l)) in
     let f = containing-falls n (accepted-tree (now (s .args .words)) (snapOf (now (s .args .words)) (now (s .args .area)) (s .args .l)) (s .pre .0 .same)) in
-    let e = is-some _ (c .before .before .before .containing .ensures) (c .before .c .given .1) in
+    let e = is-some _ (c .before .before .before .containing-module .ensures) (c .before .c .given .1) in
     (g .inv .0 ∙ meets-on n f (g .v .0) (s .args .target .0) (rw (length-modules (now (s .args .words)) (now (s .args .area)) (s .args .l)) (g .inv .1)) (c .before .before .before .before .if1 .taken) _ e, omega (arith, f (g .v .0) _ (rw (length-modules (now (s .args .words)) (now (s .args .area)) (s .args .l)) (g .inv .1)) e, g .inv .1))
 
 returns-2 : tie.Need-returns-2 Inv-loop μ-loop
@@ -68,7 +68,7 @@ meets-spec =
     Inv-loop
     μ-loop
     loop-holds
-    containing-requires
+    containing-module-requires
     enum-known-c
     enum-told
     returns

@@ -18,7 +18,7 @@ unfolding push
 returns c =
     let s = c .before .before .before .before .before in
     let n = snapOf (now (s .args .words)) (now (s .args .area)) (s .args .l) in
-    c .extended .ensures ∙ ap (λ b. extended n (s .args .c) (s .args .n .0) (s .args .via) (s .args .c .prelude || b)) (c .before .before .is-prelude .ensures)
+    c .extended .ensures ∙ ap (λ b. extended n (s .args .c) (s .args .n .0) (s .args .via) (s .args .c .«has_prelude_segment» || b)) (c .before .before .is-prelude .ensures)
 
 pub push-spec : {M : Type 1} → statement M
 push-spec = tie.close (tie.spec is-prelude-requires extended-requires returns)

@@ -9,8 +9,8 @@ use Rattle.snapshot.specs.Records.{importAt}
 use Rattle.hir_def.specs.ImportMap.{isImport}
 use Rattle.hir_def.specs.Entries.{NextOf}
 use Rattle.hir_def.proofs.Lookups.{Came, next-start, next-hit, next-miss, next-end}
-use Rattle.import_map.proofs.next_import.Statement.{statement}
-use Rattle.import_map.proofs.next_import.Tie as tie
+use Rattle.import_map.proofs.import_info_for.Statement.{statement}
+use Rattle.import_map.proofs.import_info_for.Tie as tie
 
 abbrev Inv-loop : tie.InvT-loop
 Inv-loop words l k c item base j₀ j = (A : List ℕ) → Came (isImport (snapOf words A l) (c .0) item) importAt importSize words (importBase l) (l .imports) k j
@@ -56,8 +56,8 @@ returns-2 : tie.Need-returns-2 Inv-loop μ-loop
 unfolding NextOf
 returns-2 c = λ A. next-end (c .before .before .loop .inv A) (c .if1 .left)
 
-pub next-import-spec : {M : Type 1} → statement M
-next-import-spec =
+pub import-info-for-spec : {M : Type 1} → statement M
+import-info-for-spec =
     tie.close
     (tie.spec
     Inv-loop

@@ -9,8 +9,8 @@ use Rattle.snapshot.specs.Records.{scopeAt}
 use Rattle.hir_def.specs.ItemScope.{isModuleEntry}
 use Rattle.hir_def.specs.Entries.{NextOf}
 use Rattle.hir_def.proofs.Lookups.{Came, next-start, next-hit, next-miss, next-end}
-use Rattle.item_scope.proofs.next_module.Statement.{statement}
-use Rattle.item_scope.proofs.next_module.Tie as tie
+use Rattle.item_scope.proofs.modules_in_scope.Statement.{statement}
+use Rattle.item_scope.proofs.modules_in_scope.Tie as tie
 
 abbrev Inv-loop : tie.InvT-loop
 Inv-loop words l k m base j₀ j = (A : List ℕ) → Came (isModuleEntry (snapOf words A l) (m .0)) scopeAt scopeSize words (scopeBase l) (l .scopes) k j
@@ -56,8 +56,8 @@ returns-2 : tie.Need-returns-2 Inv-loop μ-loop
 unfolding NextOf
 returns-2 c = λ A. next-end (c .before .before .loop .inv A) (c .if1 .left)
 
-pub next-module-spec : {M : Type 1} → statement M
-next-module-spec =
+pub modules-in-scope-spec : {M : Type 1} → statement M
+modules-in-scope-spec =
     tie.close
     (tie.spec
     Inv-loop

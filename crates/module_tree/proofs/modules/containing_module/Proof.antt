@@ -7,8 +7,8 @@ use Rattle.snapshot.specs.Layouts.{snapOf}
 use Rattle.module_tree.specs.Modules.{parentOf, containing}
 use Rattle.module_tree.proofs.Reading.{containing-parent, containing-block}
 use Rattle.module_tree.proofs.Climbs.{is-some, is-none}
-use Rattle.module_tree.proofs.modules.containing.Statement.{statement}
-use Rattle.module_tree.proofs.modules.containing.Tie as tie
+use Rattle.module_tree.proofs.modules.containing_module.Statement.{statement}
+use Rattle.module_tree.proofs.modules.containing_module.Tie as tie
 
 parent-requires : tie.Need-parent-requires
 parent-requires c κs = search needs
@@ -37,6 +37,6 @@ returns-2 c =
     let p = c .before .p .given .1 in
     sym (ap plusOne p) ∙ e ∙ containing-parent (parentOf (snapOf (now (s .args .words)) (now (s .args .area)) (s .args .l)) (s .args .m .0)) _ (λ z. omega (arith, z, is-some _ e p))
 
-pub containing-spec : {M : Type 1} → statement M
-containing-spec =
+pub containing-module-spec : {M : Type 1} → statement M
+containing-module-spec =
     tie.close (tie.spec parent-requires enum-known-p enum-told block-requires returns returns-2)
