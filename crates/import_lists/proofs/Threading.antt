@@ -1,8 +1,7 @@
 -- Gathering the public entries, and threading by a key.
-use Prim.Native.Nat.{ℕ, zero, suc, _+_, _-_, _*_, _≤_, _<_}
-use mathlib.Core.Path.{_≡_, refl, sym, _∙_, ap, ap₂, subst}
-use mathlib.Core.List.{List, [], _∷_, _++_, append-assoc}
-use mathlib.Core.Bool.{Bool, true, false, _&&_}
+use Prim.Native.Nat.{ℕ, zero, _+_, _-_, _*_, _≤_, _<_}
+use mathlib.Core.Path.{_≡_, refl, sym, _∙_, ap, ap₂}
+use mathlib.Core.List.{List, [], _∷_, _++_, append-assoc, append-nil}
 use native.Mathlib.Omega.{arith}
 use borrow.Author.Tests.{eq-eqb, ne-eqb}
 use lib.Dec.{eqb}
@@ -10,16 +9,15 @@ use lib.ListN.{length, getD, set, length-set}
 use lib.Seq.{getD-set-same, getD-set-other}
 use Rattle.snapshot.specs.Sizes.{scopeSize}
 use Rattle.snapshot.specs.Lists.{rows}
-use Rattle.snapshot.specs.Records.{Scope, scopeAt, memberAt}
-use Rattle.snapshot.specs.Layouts.{wordCount, scopeBase, memberBase, recordsOf, snapOf}
+use Rattle.snapshot.specs.Records.{Scope, scopeAt}
+use Rattle.snapshot.specs.Layouts.{wordCount, scopeBase, snapOf}
 use Rattle.snapshot.specs.declared.layout.Layout.{Layout}
 use Rattle.snapshot.proofs.Laws.{rows-next, rows-none, rows-put, rows-ext, rows-whole}
-use Rattle.chains.specs.Chains.{ChainedBy, Cleared, linked}
+use Rattle.chains.specs.Chains.{Cleared, linked}
 use Rattle.chains.proofs.Laws.{chained-none, chained-kept, chained-linked, linked-other}
 use Rattle.accept.specs.Stands.{countsIn}
 use Rattle.accept.specs.Post.{Reads}
-use Rattle.accept.specs.Valid.{Each, ScopeFits, MemberFits}
-use Rattle.accept.proofs.Accepted.{by-test}
+use Rattle.accept.specs.Valid.{Each, ScopeFits}
 use Rattle.accept.proofs.Bools.{each-rows}
 use Rattle.accept.proofs.Stable.{snap-stays, reads-stay}
 use Rattle.accept.proofs.Valid.{accepted-valid}
@@ -28,8 +26,8 @@ use Rattle.hir_def.specs.Finds.{select}
 use Rattle.hir_def.proofs.Found.{each-select}
 use Rattle.find_path.proofs.Walks.{select-hit, select-miss}
 use Rattle.import_order.specs.Collect.{entryBefore, isPublicIn, sortInto, entriesOf}
-use Rattle.import_order.specs.Lists.{orderOf, entriesAt, Runs, Ready, Sorts}
-use Rattle.import_order.proofs.Merges.{runs-none, runs-set, runs-ready, runs-order}
+use Rattle.import_order.specs.Lists.{entriesAt, Runs, Ready, Sorts}
+use Rattle.import_order.proofs.Merges.{runs-none, runs-set}
 use Rattle.import_order.proofs.Orders.{entry-order}
 use Rattle.import_order.proofs.Sorts.{sorted-select}
 use Rattle.import_lists.specs.Threads.{keyed, isPublic, publicIn, entryOf, memberOf, Gathered, Threads, Threaded}
@@ -91,10 +89,6 @@ module _ {W A B : List ℕ} {base count k n : ℕ} (g : Gathering W A base count
             ∙ ap (λ r. r ++ left) (sym put);
       }
 
-pub append-none : {X : Type 0} (xs : List X) → xs ++ [] ≡ xs
-append-none [] = refl
-append-none (x ∷ xs) = ap (λ r. x ∷ r) (append-none xs)
-
 pub gathering-done : {W A B : List ℕ} {base count k n : ℕ} (l : Layout) → Gathering W A base count B k n → base ≡ scopeBase l → count ≡ l .scopes → count ≤ k → Gathered W A l B n
 unfolding select
 gathering-done {W} {A} {B} {base} {count} {k} {n} l g eb ec h =
@@ -105,7 +99,7 @@ gathering-done {W} {A} {B} {base} {count} {k} {n} l g eb ec h =
       few = omega arith;
       same =
           sym (ap₂ (λ x y. select isPublic (rows (λ j. scopeAt W (x + scopeSize * j)) 0 y)) (sym eb) (sym ec) ∙ g .left
-          ∙ ap (λ r. entriesAt W B 4160 n ++ select isPublic r) (rows-none (λ j. scopeAt W (base + scopeSize * j)) k count h) ∙ append-none (entriesAt W B 4160 n));
+          ∙ ap (λ r. entriesAt W B 4160 n ++ select isPublic r) (rows-none (λ j. scopeAt W (base + scopeSize * j)) k count h) ∙ append-nil (entriesAt W B 4160 n));
     }
 
 -- threading

@@ -1,11 +1,11 @@
 -- The walk over the modules: the pile, the marks and the order in the work area are those of the definition.
 use Prim.Native.Nat.{ℕ, zero, suc, _+_, _-_, _*_, _≤_, _<_}
 use mathlib.Core.Path.{_≡_, refl, sym, _∙_, ap, ap₂, subst}
-use mathlib.Core.List.{List, [], _∷_, _++_, append-assoc}
-use mathlib.Core.Bool.{Bool, true, false, _&&_, _||_, not}
+use mathlib.Core.List.{List, [], _∷_, _++_, append-assoc, append-nil}
+use mathlib.Core.Bool.{Bool, true, false, _||_, not}
 use native.Mathlib.Omega.{arith}
 use native.Mathlib.Numerals.{add-one}
-use borrow.Author.Tests.{eq-eqb, ne-eqb, eqb-true, eqb-false}
+use borrow.Author.Tests.{eq-eqb, ne-eqb, eqb-true}
 use lib.Dec.{eqb}
 use lib.ListN.{length, getD, set, length-set}
 use lib.Seq.{getD-set-same, getD-set-other}
@@ -15,7 +15,7 @@ use Rattle.snapshot.specs.Records.{Snapshot, Scope, scopeAt}
 use Rattle.snapshot.specs.Layouts.{scopeBase, snapOf}
 use Rattle.snapshot.specs.declared.layout.Layout.{Layout}
 use Rattle.snapshot.proofs.Laws.{rows-ext, rows-put, rows-snoc, length-rows}
-use Rattle.chains.specs.Chains.{ChainedBy, Marked, Last, Cleared}
+use Rattle.chains.specs.Chains.{Marked, Last, Cleared}
 use Rattle.chains.proofs.Laws.{chained-kept, marked-none, marked-kept, marked-more}
 use Rattle.accept.specs.Post.{Reads}
 use Rattle.accept.specs.Stands.{countsIn}
@@ -26,14 +26,14 @@ use Rattle.accept.proofs.Stable.{snap-stays, reads-stay}
 use Rattle.module_tree.proofs.Reading.{root-read}
 use Rattle.hir_def.specs.Items.{moduleKind, definitionOf, rootOf, ownMap}
 use Rattle.hir_def.proofs.Fits.{module-known}
-use Rattle.import_order.specs.Collect.{entryBefore, entriesOf, piled, visits, modulesFrom}
-use Rattle.import_order.specs.Lists.{orderOf, entriesAt, Ready, waiting}
+use Rattle.import_order.specs.Collect.{entriesOf, piled, visits, modulesFrom}
+use Rattle.import_order.specs.Lists.{Ready, waiting}
 use Rattle.import_order.proofs.Visits.{room, entries-few, visits-same, waiting-all, length-piled}
-use Rattle.import_lists.specs.Threads.{rest, publicIn, entryOf, memberOf, Threaded}
+use Rattle.import_lists.specs.Threads.{rest, publicIn, entryOf, Threaded}
 use Rattle.import_lists.specs.Walks.{marksBase, orderBase, pileBase, downFrom, pileAt, orderAt, seenAt, turnsAt, walkAt, Pushed, Walking, Turned, Walked}
 use Rattle.import_lists.specs.declared.walk.Turn.{Turn}
 use Rattle.import_lists.proofs.Keyed.{rest-first, rest-next, rest-none}
-use Rattle.import_lists.proofs.Threading.{threaded-fits, threaded-keyed, entries-fit, append-none}
+use Rattle.import_lists.proofs.Threading.{threaded-fits, threaded-keyed, entries-fit}
 
 -- the words of the lists past the threads lie in the area
 pub few-words : {W A : List ℕ} {l : Layout} → Ready W A l → pileBase l + l .scopes + 1 ≤ 16384
@@ -510,7 +510,7 @@ going-done {W} {A} {B} {D} {C} {l} {n} {k} {t} {base} {marks} {to} c {m} th ek c
     record {
       same =
           sym (ap (λ x. orderAt B l k ++ visits (turnsAt W B l k x) (snapOf W B l) (seenAt B l k) (pileAt B l x)) e
-          ∙ ap (λ x. orderAt B l k ++ x) (visits-none (turnsAt W B l k 0) (snapOf W B l) (seenAt B l k)) ∙ append-none (orderAt B l k))
+          ∙ ap (λ x. orderAt B l k ++ x) (visits-none (turnsAt W B l k 0) (snapOf W B l) (seenAt B l k)) ∙ append-nil (orderAt B l k))
           ∙ g .same ∙ walk-whole W A C l c m (snap-stays W A C l (th .ready .reads .tables) (λ i a b. low i (omega arith))) top em;
       few = omega arith;
       inside = g .walking .taken;

@@ -2,7 +2,7 @@
 use Prim.Native.Nat.{ℕ, suc, _+_, _-_, _*_, _^_, _≤_, _<_}
 use mathlib.Core.Path.{_≡_, refl, sym, _∙_, ap, ap₂, subst}
 use mathlib.Core.List.{List, [], _∷_, _++_, map, append-assoc}
-use mathlib.Core.Bool.{Bool, true, false, _&&_, not}
+use mathlib.Core.Bool.{Bool, true, false, _&&_}
 use native.Mathlib.Omega.{arith}
 use native.Mathlib.Nat.{add-zero}
 use borrow.Author.Tests.{eq-eqb, ne-eqb}
@@ -12,7 +12,7 @@ use lib.Seq.{sets, length-sets, sets-eq}
 use Rattle.snapshot.specs.Sizes.{importSize, memberSize, scopeSize}
 use Rattle.snapshot.specs.Lists.{rows}
 use Rattle.snapshot.specs.Records.{Snapshot, Scope, Import, Member, scopeAt, memberAt}
-use Rattle.snapshot.specs.Layouts.{scopeBase, memberBase, wordCount, snapOf}
+use Rattle.snapshot.specs.Layouts.{scopeBase, memberBase, snapOf}
 use Rattle.snapshot.specs.declared.layout.Layout.{Layout}
 use Rattle.snapshot.proofs.Laws.{rows-next, rows-none, rows-whole, length-rows}
 use Rattle.chains.specs.Chains.{Last}
@@ -21,6 +21,7 @@ use Rattle.accept.proofs.Bools.{each-rows}
 use Rattle.accept.proofs.Valid.{accepted-valid}
 use Rattle.accept.proofs.Reading.{member-read}
 use Rattle.hir_def.specs.Finds.{select}
+use Rattle.find_path.proofs.Walks.{select-short}
 use Rattle.import_order.specs.Collect.{entryBefore, isPublicIn, entriesOf, isMemberOf, memberNs, memberImport, entryImport, importsOf, importsIn, importsOver, wordsOf}
 use Rattle.import_order.specs.Lists.{Ready}
 use Rattle.import_order.proofs.Visits.{length-sort}
@@ -331,15 +332,6 @@ order-known A l order each i h e = rw e (each-rows {P = λ m. m < l .modules} (�
 
 -- a bound on all imports
 
-select-few : {X : Type 0} (p : X → Bool) (xs : List X) → length (select p xs) ≤ length xs
-unfolding select
-select-few p [] = omega arith
-select-few {X} p (x ∷ xs) = by (p x) (select-few p xs)
-  where
-    by : (b : Bool) → length (select p xs) ≤ length xs → length {A = X} (elim b [ true ↦ x ∷ select p xs | false ↦ select p xs ]) ≤ suc (length xs)
-    by true h = omega arith
-    by false h = omega arith
-
 module _ (s : Snapshot) (c : ℕ) (members : length (s .members) ≤ 3276) where
   of-few : (e : Scope) → length (importsOf s c e) ≤ 3277
   unfolding importsOf
@@ -347,7 +339,7 @@ module _ (s : Snapshot) (c : ℕ) (members : length (s .members) ≤ 3276) where
       let xs = select (isMemberOf (e .definition)) (s .members) in
       let a = length-append (map (memberImport c e) xs) (entryImport c e ∷ []) in
       let b = length-map xs (memberImport c e) in
-      let d = select-few (isMemberOf (e .definition)) (s .members) in
+      let d = select-short (isMemberOf (e .definition)) (s .members) in
       omega arith
 
   in-few : (es : List Scope) → length (importsIn s c es) ≤ 3277 * length es
@@ -364,7 +356,7 @@ module _ (s : Snapshot) (c : ℕ) (members : length (s .members) ≤ 3276) where
     unfolding entriesOf
     entries-few m =
         let a = length-sort (entryBefore s) [] (select (isPublicIn m) (s .scopes)) in
-        let b = select-few (isPublicIn m) (s .scopes) in
+        let b = select-short (isPublicIn m) (s .scopes) in
         omega arith
 
     pub over-few : (ms : List ℕ) → length (importsOver s c ms) ≤ 6711296 * length ms

@@ -1,5 +1,5 @@
 -- Merging and sorting runs of entries in the work area.
-use Prim.Native.Nat.{ℕ, zero, suc, _+_, _-_, _/_, _≤_, _<_}
+use Prim.Native.Nat.{ℕ, zero, suc, _+_, _-_, _≤_, _<_}
 use mathlib.Core.Path.{_≡_, refl, sym, _∙_, ap, ap₂}
 use mathlib.Core.List.{List, [], _∷_, _++_, append-assoc}
 use mathlib.Core.Bool.{Bool, true, false, _&&_, true≢false}
@@ -14,14 +14,12 @@ use Rattle.snapshot.specs.Lists.{rows}
 use Rattle.snapshot.specs.Records.{Scope, scopeAt}
 use Rattle.snapshot.proofs.Laws.{rows-next, rows-none, rows-put, rows-ext, rows-whole}
 use Rattle.snapshot.specs.declared.layout.Layout.{Layout}
-use Rattle.record_rules.proofs.Tabled.{Kept}
-use Rattle.accept.specs.Post.{Reads}
 use Rattle.accept.proofs.Accepted.{by-test}
 use Rattle.accept.proofs.Stable.{snap-stays, reads-stay}
 use Rattle.import_order.specs.Collect.{entryBefore, insertBy, sortInto}
 use Rattle.import_order.specs.Lists.{orderOf, entriesAt, mergeBy, Copied, Runs, Ready, Merges, Sorts}
 use Rattle.import_order.proofs.Orders.{entry-order}
-use Rattle.import_order.proofs.Sorts.{Order, merge-second, merge-first, merge-none, sorted-merge}
+use Rattle.import_order.proofs.Sorts.{merge-second, merge-first, merge-none, sorted-merge}
 
 -- copying
 

@@ -1,8 +1,8 @@
 -- Sorting by parts: two sorted parts merged are the whole sorted; the elements of a sort that pass a test are the sort of those that pass.
-use Prim.Native.Nat.{ℕ, zero, suc, _+_, _<_}
-use mathlib.Core.Path.{_≡_, refl, sym, _∙_, ap, ap₂}
+use Prim.Native.Nat.{_+_}
+use mathlib.Core.Path.{_≡_, refl, sym, _∙_, ap}
 use mathlib.Core.List.{List, [], _∷_, _++_}
-use mathlib.Core.Bool.{Bool, true, false, _&&_, _||_, not, true≢false}
+use mathlib.Core.Bool.{Bool, true, false, _&&_, not, true≢false}
 use Rattle.snapshot.specs.Lists.{any, all}
 use Rattle.accept.proofs.Accepted.{by-test}
 use Rattle.hir_def.specs.Finds.{select}

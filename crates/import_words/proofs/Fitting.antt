@@ -10,7 +10,7 @@ use lib.ListN.{length}
 use Rattle.snapshot.specs.Records.{Snapshot, Scope, Import, Member}
 use Rattle.accept.specs.Tests.{countsOf}
 use Rattle.accept.specs.Verdict.{accept, verdict}
-use Rattle.accept.specs.Valid.{Each, none, more, ScopeFits, MemberFits, MacroOnly, Belongs, Valid, definitionIn}
+use Rattle.accept.specs.Valid.{Each, none, more, ScopeFits, MemberFits, MacroOnly, Belongs, definitionIn}
 use Rattle.accept.proofs.Accepted.{by-test}
 use Rattle.accept.proofs.Bools.{and-two}
 use Rattle.accept.proofs.Valid.{accepted-valid}

@@ -1,7 +1,7 @@
 -- The import records of accepted words are the words of the snapshot's imports; the records after them do not go by imports.
 use Prim.Native.Nat.{ℕ, zero, suc, _+_, _*_, _-_, _/_, _%_, _≤_, _<_}
 use mathlib.Core.Path.{_≡_, refl, sym, _∙_, ap, ap₂}
-use mathlib.Core.List.{List, [], _∷_, _++_, append-nil}
+use mathlib.Core.List.{List, [], _∷_, append-nil}
 use mathlib.Core.Bool.{true, false}
 use native.Mathlib.Omega.{arith}
 use native.Mathlib.Nat.{add-zero}
@@ -10,12 +10,12 @@ use borrow.Author.Tests.{eqb-true, eqb-false, ltb-true, ltb-false, ne-eqb}
 use lib.Dec.{eqb, ltb}
 use lib.ListN.{length, getD}
 use Rattle.snapshot.specs.Lists.{any}
-use Rattle.snapshot.specs.Words.{kindOf, payOf, argumentsAt}
+use Rattle.snapshot.specs.Words.{kindOf, argumentsAt}
 use Rattle.snapshot.specs.Sizes.{importSize}
 use Rattle.snapshot.specs.Records.{Snapshot, Import, Extern, Member, importAt, externAt, memberAt}
 use Rattle.accept.specs.Tests.{countsOf, importRange, importDefined, nsPlaced, externDefined, sameExtern, memberRange, memberDefined, memberPlaced}
 use Rattle.accept.specs.Steps.{Next, on, addImport, addExtern, addMember, importStep, externStep, memberStep}
-use Rattle.accept.specs.Verdict.{accept, finish, recordStep, stepAt, records}
+use Rattle.accept.specs.Verdict.{accept, finish, recordStep, records}
 use Rattle.accept.specs.Valid.{Each, none, more}
 use Rattle.accept.proofs.Accepted.{by-test, Taken, judge-on}
 use Rattle.accept.proofs.Folds.{records-end}

@@ -5,7 +5,6 @@ use mathlib.Core.List.{List, [], _∷_, _++_}
 use mathlib.Core.Bool.{true, _&&_}
 use Rattle.snapshot.specs.Lists.{rows, any, all, eqList}
 use Rattle.snapshot.specs.Words.{argumentsOf}
-use Rattle.snapshot.specs.Records.{Snapshot}
 use Rattle.accept.specs.Tests.{textBound, padded}
 use Rattle.accept.specs.Steps.{nameStep, crateStep, dependencyStep, mapStep, moduleStep, childStep, preludeStep, definitionStep, scopeStep, importStep, externStep, memberStep}
 use Rattle.accept.specs.Verdict.{Verdict, refuse, accept, argumentsFrom, recordStep, stepAt, finish, records, verdict}

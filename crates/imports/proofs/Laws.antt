@@ -1,8 +1,8 @@
 -- What the entry point leaves, by the definition of a listing.
 use Prim.Native.Nat.{ℕ, _+_, _*_, _^_, _≤_, _<_}
 use mathlib.Core.Path.{_≡_, refl, sym, _∙_, ap, ap₂, subst}
-use mathlib.Core.List.{List, [], _++_}
-use mathlib.Core.Bool.{true, false}
+use mathlib.Core.List.{List, _++_}
+use mathlib.Core.Bool.{true}
 use native.Mathlib.Omega.{arith}
 use native.Mathlib.Nat.{zero-add}
 use borrow.Author.Tests.{lt-ltb, le-ltb, le-leb, lt-leb}
@@ -13,7 +13,7 @@ use Rattle.snapshot.specs.Records.{Snapshot, crateAt}
 use Rattle.snapshot.specs.Layouts.{crateBase, snapOf}
 use Rattle.snapshot.specs.declared.layout.Layout.{Layout}
 use Rattle.snapshot.proofs.Laws.{length-rows}
-use Rattle.accept.specs.Verdict.{refuse, accept, verdict}
+use Rattle.accept.specs.Verdict.{refuse, verdict}
 use Rattle.accept.specs.Post.{Reads}
 use Rattle.accept.proofs.Stable.{snap-stays}
 use Rattle.answer.specs.Answers.{zeros}

@@ -1,4 +1,3 @@
-use Prim.Native.Nat.{_+_}
 use native.Mathlib.Omega.{arith}
 use Rattle.import_order.proofs.Merges.{runs-ready}
 use Rattle.import_lists.proofs.Threading.{scopes-few, entries-required, members-required, threaded-all}

@@ -1,8 +1,7 @@
 use Prim.Native.Nat.{_-_, _≤_}
-use mathlib.Core.Path.{_≡_, refl, _∙_, sym, ap}
+use mathlib.Core.Path.{_≡_}
 use native.Mathlib.Omega.{arith}
 use borrow.Author.Needs.{needs}
-use Rattle.snapshot.specs.Records.{scopeAt}
 use Rattle.import_lists.specs.Threads.{entryOf, Threads}
 use Rattle.import_lists.proofs.Threading.{threads-none, threads-more, owner-at}
 use Rattle.import_lists.proofs.threads.thread_entries.Statement.{statement}

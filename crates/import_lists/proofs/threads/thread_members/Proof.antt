@@ -1,9 +1,9 @@
 use Prim.Native.Nat.{_+_, _-_, _*_, _≤_, _<_}
-use mathlib.Core.Path.{_≡_, refl, _∙_, sym, ap}
+use mathlib.Core.Path.{_≡_}
 use native.Mathlib.Omega.{arith}
 use borrow.Author.Needs.{needs}
 use Rattle.snapshot.specs.Records.{memberAt}
-use Rattle.import_lists.specs.Threads.{memberOf, Threads}
+use Rattle.import_lists.specs.Threads.{Threads}
 use Rattle.import_lists.proofs.Threading.{threads-none, threads-more, threads-key}
 use Rattle.import_lists.proofs.threads.thread_members.Statement.{statement}
 use Rattle.import_lists.proofs.threads.thread_members.Tie as tie

@@ -1,7 +1,6 @@
-use mathlib.Core.Path.{_≡_, refl}
 use native.Mathlib.Omega.{arith}
 use Rattle.hir_def.proofs.Fits.{module-known}
-use Rattle.import_lists.proofs.Walks.{few-words, pushed-none, pushed-one}
+use Rattle.import_lists.proofs.Walks.{pushed-none, pushed-one}
 use borrow.Author.Needs.{needs}
 use Rattle.import_lists.proofs.walk.push.Statement.{statement}
 use Rattle.import_lists.proofs.walk.push.Tie as tie

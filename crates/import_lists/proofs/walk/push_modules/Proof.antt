@@ -1,4 +1,3 @@
-use mathlib.Core.Path.{_≡_, refl}
 use native.Mathlib.Omega.{arith}
 use borrow.Author.Needs.{needs}
 use Rattle.import_lists.proofs.Walks.{Pushing, pushing-start, pushing-threaded, entry-known, pushing-room, pushing-next, pushing-falls, pushing-done}

@@ -1,4 +1,4 @@
-use mathlib.Core.Path.{_≡_, refl}
+use mathlib.Core.Path.{refl}
 use native.Mathlib.Omega.{arith}
 use lib.ListN.{length-set}
 use Rattle.import_lists.proofs.Walks.{few-words, turn-mark, turn-old, new-threaded, new-room, turn-new}

@@ -1,6 +1,5 @@
-use mathlib.Core.Path.{_≡_, refl}
+use mathlib.Core.Path.{refl}
 use native.Mathlib.Omega.{arith}
-use borrow.Author.Needs.{needs}
 use Rattle.import_lists.specs.Walks.{turnsAt}
 use Rattle.import_lists.proofs.Walks.{few-words, cleared-reads, root-of, root-inside, walking-start, Going, going-start, going-top, going-next, going-falls, going-done}
 use Rattle.import_lists.proofs.walk.walk.Statement.{statement}

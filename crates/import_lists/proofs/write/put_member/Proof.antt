@@ -1,8 +1,8 @@
-use mathlib.Core.Path.{_≡_, sym, _∙_, ap}
+use mathlib.Core.Path.{sym, _∙_, ap}
 use mathlib.Core.List.{[], _∷_}
 use borrow.Author.Needs.{needs}
 use Rattle.snapshot.specs.Records.{scopeAt, memberAt}
-use Rattle.import_lists.proofs.Writing.{space-as, wrote-as, wrote-none, wrote-size, kept-none, kept-one, member-same-import, bounded-as}
+use Rattle.import_lists.proofs.Writing.{space-as, wrote-as, wrote-none, kept-none, kept-one, member-same-import, bounded-as}
 use Rattle.import_lists.proofs.write.put_member.Statement.{statement}
 use Rattle.import_lists.proofs.write.put_member.Tie as tie
 

@@ -1,5 +1,5 @@
 use Prim.Native.Nat.{_≤_, _<_}
-use mathlib.Core.Path.{_≡_, refl, sym}
+use mathlib.Core.Path.{refl, sym}
 use native.Mathlib.Omega.{arith}
 use borrow.Author.Needs.{needs}
 use Rattle.import_lists.proofs.Writing.{space-first, space-as, wrote-as, Going, going-start, going-next, going-done, importsAt, imports-end, imports-first, imports-next, entry-listed}

@@ -1,7 +1,6 @@
 use Prim.Native.Nat.{_+_, _-_, _≤_}
 use borrow.Author.Needs.{needs}
-use borrow.Author.Tests.{ltb-true}
-use mathlib.Core.Path.{_≡_, refl, sym, _∙_, ap}
+use mathlib.Core.Path.{refl}
 use native.Mathlib.Omega.{arith}
 use lib.ListN.{length}
 use Rattle.import_order.specs.Lists.{orderOf, entriesAt, mergeBy}

@@ -1,7 +1,5 @@
 use borrow.Author.Needs.{needs}
-use mathlib.Core.Path.{refl, sym, _∙_, ap₂}
 use borrow.Author.Tests.{lt-ltb, le-ltb}
-use Rattle.import_order.specs.Lists.{orderOf}
 use Rattle.import_order.proofs.sort.second_first.Statement.{statement}
 use Rattle.import_order.proofs.sort.second_first.Tie as tie
 use Rattle.import_order.proofs.sort.second_first.Reads as reads
