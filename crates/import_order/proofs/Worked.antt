@@ -54,7 +54,7 @@ named t = head 1 (length (bytesOf t)) ∷ packed (bytesOf t)
 -- Crate 0 with the modules 0, its root, and 1 `b` and 2 `ab` below it; crate 1 with the module 3, its root. Names: 0 `b`, 1 `ab`, 2 `c`, 3 `V`, 4 `t`,
 -- 5 `k`, 6 `A`. Definitions: 0 `b`, 1 `ab`, 2 an enum, 3 its variant `V`, 4 a trait, 5 its function `t`, 6 its constant `k`, 7 its type alias `A`, 8 a macro, 9 the root of crate 1.
 -- The root has, in record order: `c` in macros, `b`, `ab`, `c` in types (the trait, hidden), `c` in values (the trait, unstable), a private `V`. `b` has
--- `ab` again, the enum as `c` and the root of crate 1 as `b`; `ab` has its parent's module `b` as `b`. The root of crate 1 has the macro as `k`.
+-- `ab` again, the enum as `c` in types and in values and the root of crate 1 as `b`; `ab` has its parent's module `b` as `b`. The root of crate 1 has the macro as `k`.
 unfoldable pub withMembers : List ℕ
 withMembers =
     named "b" ++ named "ab" ++ named "c" ++ named "V" ++ named "t" ++ named "k" ++ named "A"
@@ -67,20 +67,22 @@ withMembers =
     -- scopes
     ∷ head 9 0 ∷ 2 ∷ 2 ∷ 8 ∷ 0 ∷ 0 ∷ 1 ∷ 0 ∷ head 9 0 ∷ 0 ∷ 0 ∷ 0 ∷ 0 ∷ 0 ∷ 1 ∷ 0 ∷ head 9 0 ∷ 0 ∷ 1 ∷ 1 ∷ 0 ∷ 0 ∷ 1 ∷ 0
     ∷ head 9 0 ∷ 0 ∷ 2 ∷ 4 ∷ 0 ∷ 0 ∷ 1 ∷ 1 ∷ head 9 0 ∷ 1 ∷ 2 ∷ 4 ∷ 0 ∷ 0 ∷ 0 ∷ 2 ∷ head 9 0 ∷ 0 ∷ 3 ∷ 2 ∷ 1 ∷ 0 ∷ 0 ∷ 0
-    ∷ head 9 1 ∷ 0 ∷ 1 ∷ 1 ∷ 0 ∷ 0 ∷ 0 ∷ 0 ∷ head 9 1 ∷ 0 ∷ 2 ∷ 2 ∷ 0 ∷ 0 ∷ 1 ∷ 0 ∷ head 9 1 ∷ 0 ∷ 0 ∷ 9 ∷ 0 ∷ 0 ∷ 0 ∷ 0
+    ∷ head 9 1 ∷ 0 ∷ 1 ∷ 1 ∷ 0 ∷ 0 ∷ 0 ∷ 0 ∷ head 9 1 ∷ 0 ∷ 2 ∷ 2 ∷ 0 ∷ 0 ∷ 1 ∷ 0 ∷ head 9 1 ∷ 1 ∷ 2 ∷ 2 ∷ 0 ∷ 0 ∷ 0 ∷ 0
+    ∷ head 9 1 ∷ 0 ∷ 0 ∷ 9 ∷ 0 ∷ 0 ∷ 0 ∷ 0
     ∷ head 9 2 ∷ 0 ∷ 0 ∷ 0 ∷ 0 ∷ 0 ∷ 0 ∷ 0 ∷ head 9 3 ∷ 2 ∷ 5 ∷ 8 ∷ 0 ∷ 0 ∷ 1 ∷ 3
     -- members
     ∷ head 13 4 ∷ 4 ∷ 5 ∷ 1 ∷ 2 ∷ head 13 2 ∷ 3 ∷ 3 ∷ 0 ∷ 1 ∷ head 13 4 ∷ 6 ∷ 7 ∷ 3 ∷ 0 ∷ head 13 4 ∷ 5 ∷ 6 ∷ 2 ∷ 0 ∷ [])
 
 -- Crate 0: of the root `ab`, `b`, the trait's function and constant in types before it, the same in values, the macro; then `b`, pushed last, with `ab`,
--- the root of crate 1, the variant and its enum; then the root of crate 1, pushed last there; then `ab`, once, with `b`, which was visited.
+-- the root of crate 1, the variant and its enum, the variant in types again and the enum in values; then the root of crate 1, pushed last there; then `ab`, once, with `b`, which was visited.
 pub member-imports : collects (verdict withMembers)
     (record {
       crate = 0;
       imports =
           line 0 0 1 1 0 0 ∷ line 0 0 0 0 0 0 ∷ line 0 0 5 4 0 2 ∷ line 0 0 6 5 0 0 ∷ line 0 0 4 2 0 1
           ∷ line 0 1 5 4 0 2 ∷ line 0 1 6 5 0 0 ∷ line 0 1 4 2 0 2 ∷ line 0 2 8 2 0 0 ∷ line 0 0 1 1 1 0
-          ∷ line 0 0 9 0 1 0 ∷ line 0 0 3 3 1 1 ∷ line 0 0 2 2 1 0 ∷ line 0 2 8 5 3 3 ∷ line 0 0 0 0 2 0 ∷ [];
+          ∷ line 0 0 9 0 1 0 ∷ line 0 0 3 3 1 1 ∷ line 0 0 2 2 1 0 ∷ line 0 0 3 3 1 1 ∷ line 0 1 2 2 1 0 ∷ line 0 2 8 5 3 3
+          ∷ line 0 0 0 0 2 0 ∷ [];
     }
     ∷ record {
       crate = 1;
