@@ -1,0 +1,3 @@
+pub mod Outward
+pub mod Exact
+pub mod Worked

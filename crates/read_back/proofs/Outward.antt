@@ -1,0 +1,48 @@
+-- The steps out of blocks fall, and end.
+use Prim.Native.Nat.{ℕ, zero, suc, _<_}
+use mathlib.Core.Path.{_≡_, refl, sym, _∙_}
+use mathlib.Core.Bool.{true, false}
+use native.Mathlib.Omega.{arith}
+use borrow.Author.Tests.{eq-eqb, ne-eqb, eqb-true, eqb-false}
+use lib.Dec.{eqb}
+use lib.ListN.{length}
+use Rattle.snapshot.specs.Records.{Snapshot}
+use Rattle.accept.specs.Valid.{Tree}
+use Rattle.accept.proofs.Accepted.{by-test}
+use Rattle.module_tree.specs.Modules.{parentOf, blockOf}
+use Rattle.module_tree.specs.Visibility.{lastOr}
+use Rattle.module_tree.proofs.Chains.{block-falls}
+use Rattle.module_tree.proofs.Laws.{Falls, last-more}
+use Rattle.read_back.specs.Reads.{outward, standsFor}
+
+module _ (s : Snapshot) (m : ℕ) where
+  pub outward-root : parentOf s m ≡ 0 → outward s m ≡ blockOf s m
+  unfolding outward
+  outward-root e = rw (outward, eq-eqb _ _ e)
+
+  pub outward-not : {p : ℕ} → parentOf s m ≡ suc p → outward s m ≡ 0
+  unfolding outward
+  outward-not e = rw (outward, ne-eqb (parentOf s m) 0 (λ z. omega arith))
+
+outward-none : (s : Snapshot) (m : ℕ) → (parentOf s m ≡ 0 → ⊥) → outward s m ≡ 0
+unfolding outward
+outward-none s m h = rw (outward, ne-eqb _ _ h)
+
+pub outward-falls : (s : Snapshot) → Tree (s .maps) (s .modules) → Falls (outward s) (length (s .modules))
+outward-falls s t v w h k =
+    by-test (eqb (parentOf s v) 0)
+    (λ e. block-falls s t v w h (sym (outward-root s v (eqb-true _ _ e)) ∙ k))
+    (λ e. absurd (let z : outward s v ≡ 0 = outward-none s v (eqb-false _ _ e) in omega arith))
+
+module _ (s : Snapshot) (falls : Falls (outward s) (length (s .modules))) (t : ℕ) (h : t < length (s .modules)) where
+  stands-more : standsFor s t ≡ lastOr (standsFor s) t (outward s t)
+  unfolding standsFor
+  stands-more = last-more (outward s) (length (s .modules)) falls t h
+
+  pub stands-here : outward s t ≡ 0 → t ≡ standsFor s t
+  unfolding lastOr
+  stands-here e = sym (stands-more ∙ rw e)
+
+  pub stands-on : (b : ℕ) → outward s t ≡ suc b → standsFor s t ≡ standsFor s b
+  unfolding lastOr
+  stands-on b e = stands-more ∙ rw e

@@ -1,0 +1,166 @@
+-- Paths read from modules of a small snapshot with blocks, computed.
+use Prim.Native.Nat.{ℕ, zero, suc, _+_, _*_}
+use mathlib.Core.Path.{_≡_, refl}
+use mathlib.Core.List.{List, [], _∷_}
+use mathlib.Core.Bool.{Bool, true, false, _&&_, _||_}
+use mathlib.Core.Option.{Option, none, some}
+use lib.Dec.{eqb}
+use Rattle.snapshot.specs.Lists.{rows, any, all, eqList}
+use Rattle.snapshot.specs.Words.{argumentsOf}
+use Rattle.snapshot.specs.Records.{Snapshot}
+use Rattle.accept.specs.Tests.{textBound, padded}
+use Rattle.accept.specs.Steps.{nameStep, crateStep, dependencyStep, mapStep, moduleStep, childStep, preludeStep, definitionStep, scopeStep, importStep, externStep, memberStep}
+use Rattle.accept.specs.Verdict.{Verdict, refuse, accept, argumentsFrom, recordStep, stepAt, finish, records, verdict}
+use Rattle.module_tree.specs.Modules.{placeOf, moduleOf, mapOf, rootOf, ownMap, crateRoot, orElse, containing}
+use Rattle.module_tree.specs.Visibility.{lastOr, lastTo, last, metOr, metTo, met, unless, climbStep, climb, inModule, isVisibleFrom}
+use Rattle.hir_def.specs.Finds.{firstOf, firstSome}
+use Rattle.hir_def.specs.Items.{definitionOf, itemOf, sameItem}
+use Rattle.hir_def.specs.ItemScope.{get}
+use Rattle.hir_def.specs.Nameres.{stepsOr, stepsTo, steps, preludeOf}
+use Rattle.hir_def.specs.declared.Item.{Item}
+use Rattle.hir_def.specs.declared.Item.the-variants.{Mod, Def}
+use Rattle.read_back.specs.Reads.{outward, scopesFrom, standsFor, meaning, entryOr, externNamed, externOr, inExterns, preludeMeans, inPreludeOf, entryFrom, firstName, variantNamed, variantIn, laterName, after, lookedIn, follow, plainly, absolutely, parentMeans, readsTo}
+
+-- viewing module, namespace, kind of the path, its names, and what it means
+pub record Row : Type 0 where
+  pub from : ℕ
+  pub ns : ℕ
+  pub kind : ℕ
+  pub names : List ℕ
+  pub means : Option Item
+
+pub alike : Option Item → Option Item → Bool
+alike none none = true
+alike none (some y) = false
+alike (some x) none = false
+alike (some x) (some y) = sameItem x y
+
+pub agrees : Snapshot → List Row → Bool
+agrees s [] = true
+agrees s (r ∷ rs) = alike (readsTo s (r .from) (r .ns) (r .kind) (r .names)) (r .means) && agrees s rs
+
+pub reads : Verdict → List Row → Bool
+reads (refuse n at) rs = false
+reads (accept s) rs = agrees s rs
+
+pub head : ℕ → ℕ → ℕ
+head kind payload = kind * 0x10000000 + payload
+
+-- In Rust, with the numbers of the modules; the dependency is called `a` and `d`.
+--   mod a /* 1 */ { pub fn f() {} use super::g; }
+--   use a::f; enum E { V, V, W } pub fn g() {} struct t; const t; pub(in a) use a::f as h;
+--   fn o() { /* 2 */ fn f() {} pub(in c) fn g() {} const t; mod c /* 3 */ {} { /* 4 */ } }
+--   the dependency's root /* 5 */ { pub fn f() {} mod prelude /* 6 */ { pub fn f() {} pub fn p() {} pub fn h() {} } }
+-- The prelude is that of the crate's own map and of the inner block's. There are two variants `V`, the later definition first among the members, and
+-- none for `W`.
+-- Names: 0 `a`, 1 `f`, 2 `E`, 3 `V`, 4 `g`, 5 `W`, 6 `p`, 7 `t`, 8 `h`, 9 `c`, 10 `d`.
+-- Definitions: 0 `a`; 1 `a`'s f; 2 the block's f; 3 `E`; 4 `V`; 5 `W`; 6 g; 7 the block's g; 8 the prelude's f; 9 p; 10 the type t; 11 the value t;
+-- 12 the block's t; 13 `c`; 14 the second `V`.
+pub blocks : List ℕ
+blocks =
+    head 1 1 ∷ 0x61 ∷ head 1 1 ∷ 0x66 ∷ head 1 1 ∷ 0x45 ∷ head 1 1 ∷ 0x56 ∷ head 1 1 ∷ 0x67 ∷ head 1 1 ∷ 0x57 ∷ head 1 1 ∷ 0x70
+    ∷ head 1 1 ∷ 0x74 ∷ head 1 1 ∷ 0x68 ∷ head 1 1 ∷ 0x63 ∷ head 1 1 ∷ 0x64
+    ∷ head 2 0 ∷ 2021 ∷ head 2 0 ∷ 2021
+    ∷ head 4 0 ∷ 0 ∷ 0 ∷ head 5 0 ∷ 0 ∷ head 5 0 ∷ 1
+    ∷ head 4 0 ∷ 1 ∷ 0 ∷ head 5 1 ∷ 0 ∷ head 5 1 ∷ 3
+    ∷ head 4 0 ∷ 3 ∷ 0 ∷ head 5 2 ∷ 0
+    ∷ head 4 1 ∷ 0 ∷ 0 ∷ head 5 3 ∷ 0 ∷ head 5 3 ∷ 6
+    ∷ head 6 0 ∷ 1 ∷ head 6 2 ∷ 3 ∷ head 6 5 ∷ 6
+    ∷ head 7 0 ∷ 6 ∷ head 7 2 ∷ 6
+    ∷ head 8 1 ∷ 1 ∷ 0 ∷ head 8 4 ∷ 1 ∷ 0 ∷ head 8 4 ∷ 2 ∷ 0 ∷ head 8 4 ∷ 0 ∷ 0 ∷ head 8 2 ∷ 3 ∷ 3
+    ∷ head 8 2 ∷ 3 ∷ 5 ∷ head 8 4 ∷ 0 ∷ 0 ∷ head 8 4 ∷ 2 ∷ 0 ∷ head 8 4 ∷ 6 ∷ 0 ∷ head 8 4 ∷ 6 ∷ 0
+    ∷ head 8 4 ∷ 0 ∷ 0 ∷ head 8 4 ∷ 0 ∷ 0 ∷ head 8 4 ∷ 2 ∷ 0 ∷ head 8 1 ∷ 3 ∷ 0 ∷ head 8 2 ∷ 3 ∷ 3
+    -- the root: a, f, E, g, t twice, h for `a` alone
+    ∷ head 9 0 ∷ 0 ∷ 0 ∷ 0 ∷ 3 ∷ 0 ∷ 1 ∷ 0
+    ∷ head 9 0 ∷ 1 ∷ 1 ∷ 1 ∷ 3 ∷ 0 ∷ 0 ∷ 0
+    ∷ head 9 0 ∷ 0 ∷ 2 ∷ 3 ∷ 0 ∷ 0 ∷ 1 ∷ 0
+    ∷ head 9 0 ∷ 1 ∷ 4 ∷ 6 ∷ 0 ∷ 0 ∷ 1 ∷ 0
+    ∷ head 9 0 ∷ 0 ∷ 7 ∷ 10 ∷ 0 ∷ 0 ∷ 1 ∷ 0
+    ∷ head 9 0 ∷ 1 ∷ 7 ∷ 11 ∷ 0 ∷ 0 ∷ 1 ∷ 0
+    ∷ head 9 0 ∷ 1 ∷ 8 ∷ 1 ∷ 2 ∷ 1 ∷ 0 ∷ 0
+    -- `a`: f, and g for itself
+    ∷ head 9 1 ∷ 1 ∷ 1 ∷ 1 ∷ 0 ∷ 0 ∷ 1 ∷ 0
+    ∷ head 9 1 ∷ 1 ∷ 4 ∷ 6 ∷ 3 ∷ 1 ∷ 0 ∷ 0
+    -- the outer block: f, g for `c` alone, t, c
+    ∷ head 9 2 ∷ 1 ∷ 1 ∷ 2 ∷ 3 ∷ 2 ∷ 1 ∷ 0
+    ∷ head 9 2 ∷ 1 ∷ 4 ∷ 7 ∷ 2 ∷ 3 ∷ 1 ∷ 0
+    ∷ head 9 2 ∷ 1 ∷ 7 ∷ 12 ∷ 3 ∷ 2 ∷ 1 ∷ 0
+    ∷ head 9 2 ∷ 0 ∷ 9 ∷ 13 ∷ 3 ∷ 2 ∷ 1 ∷ 0
+    -- the dependency: f; its prelude: f, p, h
+    ∷ head 9 5 ∷ 1 ∷ 1 ∷ 8 ∷ 0 ∷ 0 ∷ 0 ∷ 0
+    ∷ head 9 6 ∷ 1 ∷ 1 ∷ 8 ∷ 0 ∷ 0 ∷ 1 ∷ 0
+    ∷ head 9 6 ∷ 1 ∷ 6 ∷ 9 ∷ 0 ∷ 0 ∷ 1 ∷ 0
+    ∷ head 9 6 ∷ 1 ∷ 8 ∷ 9 ∷ 0 ∷ 0 ∷ 0 ∷ 0
+    ∷ head 11 0 ∷ 0 ∷ 5 ∷ head 11 0 ∷ 10 ∷ 5
+    ∷ head 13 3 ∷ 3 ∷ 14 ∷ 0 ∷ 0 ∷ head 13 3 ∷ 3 ∷ 4 ∷ 0 ∷ 0
+    ∷ []
+
+pub block-reads : reads (verdict blocks)
+    -- `f`: the root's hides the prelude's; the outer block's hides the root's, in the block and in the block within
+    (record { from = 0; ns = 1; kind = 0; names = 1 ∷ []; means = some (Def 1 1) }
+    ∷ record { from = 2; ns = 1; kind = 0; names = 1 ∷ []; means = some (Def 1 2) }
+    ∷ record { from = 4; ns = 1; kind = 0; names = 1 ∷ []; means = some (Def 1 2) }
+    -- two blocks outward: `a::f`, `E`
+    ∷ record { from = 4; ns = 1; kind = 0; names = 0 ∷ 1 ∷ []; means = some (Def 1 1) }
+    ∷ record { from = 4; ns = 0; kind = 0; names = 2 ∷ []; means = some (Def 0 3) }
+    -- from `c`, which is no block's root, not outward: neither the block's `f` nor the root's
+    ∷ record { from = 3; ns = 1; kind = 0; names = 1 ∷ []; means = none }
+    -- `self` in a block is the module around it: `self::f`, `self::c`, `self`; in `c` it is `c`
+    ∷ record { from = 4; ns = 1; kind = 1; names = 1 ∷ []; means = some (Def 1 1) }
+    ∷ record { from = 4; ns = 0; kind = 1; names = 9 ∷ []; means = none }
+    ∷ record { from = 4; ns = 0; kind = 1; names = []; means = some (Mod 0) }
+    ∷ record { from = 3; ns = 0; kind = 1; names = []; means = some (Mod 3) }
+    -- `super` from `a`, from the root, from a block in the root; from `c` the block's root stands for the crate's: `super`, `super::f`, `super::c`
+    ∷ record { from = 1; ns = 0; kind = 2; names = []; means = some (Mod 0) }
+    ∷ record { from = 0; ns = 0; kind = 2; names = []; means = none }
+    ∷ record { from = 4; ns = 0; kind = 2; names = []; means = none }
+    ∷ record { from = 3; ns = 0; kind = 2; names = []; means = some (Mod 0) }
+    ∷ record { from = 3; ns = 1; kind = 2; names = 1 ∷ []; means = some (Def 1 1) }
+    ∷ record { from = 3; ns = 0; kind = 2; names = 9 ∷ []; means = none }
+    -- `crate` inside blocks: `crate::a`, `crate::f`; from the dependency its own root
+    ∷ record { from = 4; ns = 0; kind = 3; names = 0 ∷ []; means = some (Mod 1) }
+    ∷ record { from = 3; ns = 1; kind = 3; names = 1 ∷ []; means = some (Def 1 1) }
+    ∷ record { from = 6; ns = 1; kind = 3; names = 1 ∷ []; means = some (Def 1 8) }
+    -- the root's `a` hides the extern `a`, which `::a` means; in `a` nothing hides it; `d` is an extern in types alone, of the first crate alone
+    ∷ record { from = 0; ns = 0; kind = 0; names = 0 ∷ []; means = some (Mod 1) }
+    ∷ record { from = 4; ns = 0; kind = 0; names = 0 ∷ []; means = some (Mod 1) }
+    ∷ record { from = 0; ns = 0; kind = 4; names = 0 ∷ []; means = some (Mod 5) }
+    ∷ record { from = 1; ns = 0; kind = 0; names = 0 ∷ []; means = some (Mod 5) }
+    ∷ record { from = 0; ns = 1; kind = 4; names = 0 ∷ 1 ∷ []; means = some (Def 1 8) }
+    ∷ record { from = 0; ns = 1; kind = 0; names = 10 ∷ 1 ∷ []; means = some (Def 1 8) }
+    ∷ record { from = 0; ns = 1; kind = 0; names = 10 ∷ []; means = none }
+    ∷ record { from = 0; ns = 1; kind = 4; names = 10 ∷ []; means = none }
+    ∷ record { from = 5; ns = 0; kind = 0; names = 10 ∷ []; means = none }
+    -- after a keyword neither externs nor the prelude: `crate::d`, `self::p`
+    ∷ record { from = 0; ns = 0; kind = 3; names = 10 ∷ []; means = none }
+    ∷ record { from = 0; ns = 1; kind = 1; names = 6 ∷ []; means = none }
+    -- the prelude of the viewing module's map: the root's, the inner block's, and none of the outer block's
+    ∷ record { from = 0; ns = 1; kind = 0; names = 6 ∷ []; means = some (Def 1 9) }
+    ∷ record { from = 4; ns = 1; kind = 0; names = 6 ∷ []; means = some (Def 1 9) }
+    ∷ record { from = 2; ns = 1; kind = 0; names = 6 ∷ []; means = none }
+    -- An entry that is not visible ends it: `h` of the viewing module's own scope, though the prelude has one; `g` of the block, though the root has
+    -- one; `a::g`. From the inner block, and in `a`, they are visible.
+    ∷ record { from = 0; ns = 1; kind = 0; names = 8 ∷ []; means = none }
+    ∷ record { from = 2; ns = 1; kind = 0; names = 4 ∷ []; means = none }
+    ∷ record { from = 0; ns = 1; kind = 0; names = 0 ∷ 4 ∷ []; means = none }
+    ∷ record { from = 4; ns = 1; kind = 0; names = 4 ∷ []; means = some (Def 1 7) }
+    ∷ record { from = 1; ns = 1; kind = 1; names = 4 ∷ []; means = some (Def 1 6) }
+    ∷ record { from = 1; ns = 1; kind = 3; names = 8 ∷ []; means = some (Def 1 1) }
+    -- a variant in types and values and not in macros, the first member of that name; none without a member; nothing after it, nor after a struct
+    ∷ record { from = 0; ns = 0; kind = 0; names = 2 ∷ 3 ∷ []; means = some (Def 0 14) }
+    ∷ record { from = 4; ns = 1; kind = 0; names = 2 ∷ 3 ∷ []; means = some (Def 1 14) }
+    ∷ record { from = 0; ns = 2; kind = 0; names = 2 ∷ 3 ∷ []; means = none }
+    ∷ record { from = 0; ns = 0; kind = 0; names = 2 ∷ 5 ∷ []; means = none }
+    ∷ record { from = 0; ns = 1; kind = 0; names = 2 ∷ 3 ∷ 1 ∷ []; means = none }
+    ∷ record { from = 0; ns = 1; kind = 0; names = 7 ∷ 3 ∷ []; means = none }
+    -- a type and a value of one name; the block's value hides the value alone
+    ∷ record { from = 0; ns = 0; kind = 0; names = 7 ∷ []; means = some (Def 0 10) }
+    ∷ record { from = 0; ns = 1; kind = 0; names = 7 ∷ []; means = some (Def 1 11) }
+    ∷ record { from = 2; ns = 0; kind = 0; names = 7 ∷ []; means = some (Def 0 10) }
+    ∷ record { from = 2; ns = 1; kind = 0; names = 7 ∷ []; means = some (Def 1 12) }
+    -- no names
+    ∷ record { from = 0; ns = 0; kind = 0; names = []; means = none }
+    ∷ record { from = 0; ns = 0; kind = 4; names = []; means = none }
+    ∷ []) ≡ true
+unfolding reads agrees alike head blocks readsTo parentMeans absolutely plainly follow lookedIn after laterName variantIn variantNamed firstName entryFrom inPreludeOf preludeMeans inExterns externOr externNamed entryOr meaning standsFor scopesFrom outward lastOr lastTo last metOr metTo met unless climbStep climb inModule isVisibleFrom stepsOr stepsTo steps preludeOf get firstOf firstSome itemOf sameItem definitionOf moduleOf mapOf rootOf ownMap crateRoot orElse containing placeOf verdict records stepAt recordStep finish argumentsFrom argumentsOf nameStep crateStep dependencyStep mapStep moduleStep childStep preludeStep definitionStep scopeStep importStep externStep memberStep textBound padded rows any all eqList
+block-reads = refl

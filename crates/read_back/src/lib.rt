@@ -1,0 +1,1 @@
+//! What a path means where it is written: the names of a path read from the viewing module.
