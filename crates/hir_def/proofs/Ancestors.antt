@@ -12,43 +12,73 @@ use Rattle.hir_def.specs.Items.{blockOf}
 use Rattle.hir_def.specs.Nameres.{stepsOr, steps, ancestorMaps}
 use Rattle.hir_def.proofs.Laws.{Falls, steps-more}
 
-module _ (s : Snapshot) (falls : Falls (blockOf s) (length (s .modules))) (m : ℕ) (h : m < length (s .modules)) where
-  ancestors-more : ancestorMaps s m ≡ m ∷ stepsOr (steps (blockOf s)) (blockOf s m)
-  unfolding ancestorMaps
-  ancestors-more = ap (λ x. m ∷ x) (steps-more (blockOf s) (length (s .modules)) falls m h)
+-- A module and those that falling steps lead to.
+module _ (step : ℕ → ℕ) (n : ℕ) (falls : Falls step n) (m : ℕ) (h : m < n) where
+  around-more : m ∷ steps step m ≡ m ∷ stepsOr (steps step) (step m)
+  around-more = ap (λ x. m ∷ x) (steps-more step n falls m h)
 
-  ancestors-last : blockOf s m ≡ 0 → ancestorMaps s m ≡ m ∷ []
+  around-last : step m ≡ 0 → m ∷ steps step m ≡ m ∷ []
   unfolding stepsOr
-  ancestors-last e = ancestors-more ∙ ap (λ b. m ∷ stepsOr (steps (blockOf s)) b) e
+  around-last e = around-more ∙ ap (λ b. m ∷ stepsOr (steps step) b) e
 
-  ancestors-on : (p : ℕ) → blockOf s m ≡ suc p → ancestorMaps s m ≡ m ∷ ancestorMaps s p
-  unfolding stepsOr ancestorMaps
-  ancestors-on p e = ancestors-more ∙ ap (λ b. m ∷ stepsOr (steps (blockOf s)) b) e
+  around-on : (p : ℕ) → step m ≡ suc p → m ∷ steps step m ≡ m ∷ (p ∷ steps step p)
+  unfolding stepsOr
+  around-on p e = around-more ∙ ap (λ b. m ∷ stepsOr (steps step) b) e
 
   -- the first answer
   module _ {B : Type 0} (f : ℕ → Option B) where
-    pub answer-here : {y : B} → f m ≡ some y → some y ≡ firstSome f (ancestorMaps s m)
+    pub first-here : {y : B} → f m ≡ some y → some y ≡ firstSome f (m ∷ steps step m)
     unfolding firstSome
-    answer-here e = sym (ap (firstSome f) ancestors-more ∙ rw (firstSome, e))
+    first-here e = rw (firstSome, e)
+
+    pub first-end : f m ≡ none → step m ≡ 0 → none ≡ firstSome f (m ∷ steps step m)
+    unfolding firstSome
+    first-end e z = sym (ap (firstSome f) (around-last z) ∙ rw (firstSome, e))
+
+    pub first-on : f m ≡ none → (p : ℕ) → step m ≡ suc p → firstSome f (m ∷ steps step m) ≡ firstSome f (p ∷ steps step p)
+    unfolding firstSome
+    first-on e p q = ap (firstSome f) (around-on p q) ∙ rw (firstSome, e)
+
+  -- some answer
+  module _ (p : ℕ → Bool) where
+    pub any-here : p m ≡ true → true ≡ any p (m ∷ steps step m)
+    unfolding any
+    any-here e = rw (any, e)
+
+    pub any-end : p m ≡ false → step m ≡ 0 → false ≡ any p (m ∷ steps step m)
+    unfolding any
+    any-end e z = sym (ap (any p) (around-last z) ∙ rw (any, e))
+
+    pub any-on : p m ≡ false → (q : ℕ) → step m ≡ suc q → any p (m ∷ steps step m) ≡ any p (q ∷ steps step q)
+    unfolding any
+    any-on e q r = ap (any p) (around-on q r) ∙ rw (any, e)
+
+-- The module and the parents of its blocks.
+module _ (s : Snapshot) (falls : Falls (blockOf s) (length (s .modules))) (m : ℕ) (h : m < length (s .modules)) where
+  -- the first answer
+  module _ {B : Type 0} (f : ℕ → Option B) where
+    pub answer-here : {y : B} → f m ≡ some y → some y ≡ firstSome f (ancestorMaps s m)
+    unfolding ancestorMaps
+    answer-here e = first-here (blockOf s) (length (s .modules)) falls m h f e
 
     pub answer-none : f m ≡ none → blockOf s m ≡ 0 → none ≡ firstSome f (ancestorMaps s m)
-    unfolding firstSome
-    answer-none e z = sym (ap (firstSome f) (ancestors-last z) ∙ rw (firstSome, e))
+    unfolding ancestorMaps
+    answer-none e z = first-end (blockOf s) (length (s .modules)) falls m h f e z
 
     pub answer-on : f m ≡ none → (p : ℕ) → blockOf s m ≡ suc p → firstSome f (ancestorMaps s m) ≡ firstSome f (ancestorMaps s p)
-    unfolding firstSome
-    answer-on e p q = ap (firstSome f) (ancestors-on p q) ∙ rw (firstSome, e)
+    unfolding ancestorMaps
+    answer-on e p q = first-on (blockOf s) (length (s .modules)) falls m h f e p q
 
   -- some answer
   module _ (p : ℕ → Bool) where
     pub some-here : p m ≡ true → true ≡ any p (ancestorMaps s m)
-    unfolding any
-    some-here e = sym (ap (any p) ancestors-more ∙ rw (any, e))
+    unfolding ancestorMaps
+    some-here e = any-here (blockOf s) (length (s .modules)) falls m h p e
 
     pub some-none : p m ≡ false → blockOf s m ≡ 0 → false ≡ any p (ancestorMaps s m)
-    unfolding any
-    some-none e z = sym (ap (any p) (ancestors-last z) ∙ rw (any, e))
+    unfolding ancestorMaps
+    some-none e z = any-end (blockOf s) (length (s .modules)) falls m h p e z
 
     pub some-on : p m ≡ false → (q : ℕ) → blockOf s m ≡ suc q → any p (ancestorMaps s m) ≡ any p (ancestorMaps s q)
-    unfolding any
-    some-on e q r = ap (any p) (ancestors-on q r) ∙ rw (any, e)
+    unfolding ancestorMaps
+    some-on e q r = any-on (blockOf s) (length (s .modules)) falls m h p e q r

@@ -1,3 +1,5 @@
 pub mod Outward
+pub mod Found
+pub mod Cases
 pub mod Exact
 pub mod Worked

@@ -1,26 +1,29 @@
 -- The steps out of blocks fall, and end.
-use Prim.Native.Nat.{ℕ, zero, suc, _<_}
+use Prim.Native.Nat.{ℕ, zero, suc, _+_, _<_}
 use mathlib.Core.Path.{_≡_, refl, sym, _∙_}
 use mathlib.Core.Bool.{true, false}
+use mathlib.Core.Option.{none, some}
 use native.Mathlib.Omega.{arith}
 use borrow.Author.Tests.{eq-eqb, ne-eqb, eqb-true, eqb-false}
 use lib.Dec.{eqb}
 use lib.ListN.{length}
-use Rattle.snapshot.specs.Records.{Snapshot}
+use Rattle.snapshot.specs.Records.{Snapshot, Scope}
 use Rattle.accept.specs.Valid.{Tree}
 use Rattle.accept.proofs.Accepted.{by-test}
 use Rattle.module_tree.specs.Modules.{parentOf, blockOf}
 use Rattle.module_tree.specs.Visibility.{lastOr}
 use Rattle.module_tree.proofs.Chains.{block-falls}
 use Rattle.module_tree.proofs.Laws.{Falls, last-more}
-use Rattle.read_back.specs.Reads.{outward, standsFor}
+use Rattle.hir_def.specs.ItemScope.{get}
+use Rattle.hir_def.proofs.Ancestors.{first-here, first-end, first-on}
+use Rattle.read_back.specs.Reads.{outward, scopesFrom, standsFor, entryFrom}
 
 module _ (s : Snapshot) (m : ℕ) where
   pub outward-root : parentOf s m ≡ 0 → outward s m ≡ blockOf s m
   unfolding outward
   outward-root e = rw (outward, eq-eqb _ _ e)
 
-  pub outward-not : {p : ℕ} → parentOf s m ≡ suc p → outward s m ≡ 0
+  pub outward-not : {p : ℕ} → parentOf s m ≡ suc p → 0 ≡ outward s m
   unfolding outward
   outward-not e = rw (outward, ne-eqb (parentOf s m) 0 (λ z. omega arith))
 
@@ -46,3 +49,16 @@ module _ (s : Snapshot) (falls : Falls (outward s) (length (s .modules))) (t : �
   pub stands-on : (b : ℕ) → outward s t ≡ suc b → standsFor s t ≡ standsFor s b
   unfolding lastOr
   stands-on b e = stands-more ∙ rw e
+
+  module _ (ns name : ℕ) where
+    pub from-here : {e : Scope} → get s t ns name ≡ some e → some e ≡ entryFrom s t ns name
+    unfolding entryFrom scopesFrom
+    from-here e = first-here (outward s) (length (s .modules)) falls t h (λ m. get s m ns name) e
+
+    pub from-end : get s t ns name ≡ none → outward s t ≡ 0 → none ≡ entryFrom s t ns name
+    unfolding entryFrom scopesFrom
+    from-end e z = first-end (outward s) (length (s .modules)) falls t h (λ m. get s m ns name) e z
+
+    pub from-on : get s t ns name ≡ none → (b : ℕ) → outward s t ≡ suc b → entryFrom s t ns name ≡ entryFrom s b ns name
+    unfolding entryFrom scopesFrom
+    from-on e b q = first-on (outward s) (length (s .modules)) falls t h (λ m. get s m ns name) e b q

@@ -13,13 +13,13 @@ use Rattle.accept.specs.Steps.{nameStep, crateStep, dependencyStep, mapStep, mo
 use Rattle.accept.specs.Verdict.{Verdict, refuse, accept, argumentsFrom, recordStep, stepAt, finish, records, verdict}
 use Rattle.module_tree.specs.Modules.{placeOf, moduleOf, mapOf, rootOf, ownMap, crateRoot, orElse, containing}
 use Rattle.module_tree.specs.Visibility.{lastOr, lastTo, last, metOr, metTo, met, unless, climbStep, climb, inModule, isVisibleFrom}
-use Rattle.hir_def.specs.Finds.{firstOf, firstSome}
+use Rattle.hir_def.specs.Finds.{firstOf, orFirst, firstSome}
 use Rattle.hir_def.specs.Items.{definitionOf, itemOf, sameItem}
 use Rattle.hir_def.specs.ItemScope.{get}
 use Rattle.hir_def.specs.Nameres.{stepsOr, stepsTo, steps, preludeOf}
 use Rattle.hir_def.specs.declared.Item.{Item}
 use Rattle.hir_def.specs.declared.Item.the-variants.{Mod, Def}
-use Rattle.read_back.specs.Reads.{outward, scopesFrom, standsFor, meaning, entryOr, externNamed, externOr, inExterns, preludeMeans, inPreludeOf, entryFrom, firstName, variantNamed, variantIn, laterName, after, lookedIn, follow, plainly, absolutely, parentMeans, readsTo}
+use Rattle.read_back.specs.Reads.{outward, scopesFrom, standsFor, meaning, entryOr, externNamed, externMeans, inExterns, preludeMeans, inPreludeOf, entryFrom, firstName, variantNamed, variantIn, laterName, after, lookedIn, follow, plainly, absolutely, parentMeans, readsTo}
 
 -- viewing module, namespace, kind of the path, its names, and what it means
 pub record Row : Type 0 where
@@ -162,5 +162,5 @@ pub block-reads : reads (verdict blocks)
     ∷ record { from = 0; ns = 0; kind = 0; names = []; means = none }
     ∷ record { from = 0; ns = 0; kind = 4; names = []; means = none }
     ∷ []) ≡ true
-unfolding reads agrees alike head blocks readsTo parentMeans absolutely plainly follow lookedIn after laterName variantIn variantNamed firstName entryFrom inPreludeOf preludeMeans inExterns externOr externNamed entryOr meaning standsFor scopesFrom outward lastOr lastTo last metOr metTo met unless climbStep climb inModule isVisibleFrom stepsOr stepsTo steps preludeOf get firstOf firstSome itemOf sameItem definitionOf moduleOf mapOf rootOf ownMap crateRoot orElse containing placeOf verdict records stepAt recordStep finish argumentsFrom argumentsOf nameStep crateStep dependencyStep mapStep moduleStep childStep preludeStep definitionStep scopeStep importStep externStep memberStep textBound padded rows any all eqList
+unfolding reads agrees alike head blocks readsTo parentMeans absolutely plainly follow lookedIn after laterName variantIn variantNamed firstName entryFrom inPreludeOf preludeMeans inExterns externMeans externNamed entryOr meaning standsFor scopesFrom outward lastOr lastTo last metOr metTo met unless climbStep climb inModule isVisibleFrom stepsOr stepsTo steps preludeOf get firstOf orFirst firstSome itemOf sameItem definitionOf moduleOf mapOf rootOf ownMap crateRoot orElse containing placeOf verdict records stepAt recordStep finish argumentsFrom argumentsOf nameStep crateStep dependencyStep mapStep moduleStep childStep preludeStep definitionStep scopeStep importStep externStep memberStep textBound padded rows any all eqList
 block-reads = refl

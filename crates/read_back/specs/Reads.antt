@@ -7,7 +7,7 @@ use lib.Dec.{eqb, ltb}
 use Rattle.snapshot.specs.Records.{Snapshot, Scope, Prelude, Extern, Member}
 use Rattle.module_tree.specs.Modules.{mapNo, crateOf, parentOf, blockOf, crateRoot}
 use Rattle.module_tree.specs.Visibility.{last, sees}
-use Rattle.hir_def.specs.Finds.{firstOf, firstSome}
+use Rattle.hir_def.specs.Finds.{firstOf, orFirst, firstSome}
 use Rattle.hir_def.specs.Items.{types, macros, itemOf, sameItem, nsOf}
 use Rattle.hir_def.specs.ItemScope.{get}
 use Rattle.hir_def.specs.Nameres.{steps, preludeOf}
@@ -62,14 +62,13 @@ isExternNamed c name x = eqb (x .owner) c && eqb (x .name) name
 unfoldable pub externNamed : Snapshot → ℕ → ℕ → Option Extern
 externNamed s c name = firstOf (isExternNamed c name) (s .externs)
 
-unfoldable pub externOr : Option Item → Option Extern → Option Item
-externOr other none = other
-externOr other (some x) = some (Mod (x .target))
+unfoldable pub externMeans : Option Extern → Option Item
+externMeans none = none
+externMeans (some x) = some (Mod (x .target))
 
 -- by an extern of the viewer's crate, if the name is looked up in types
-unfoldable pub inExterns : Snapshot → ℕ → ℕ → ℕ → Option Item → Option Item
-inExterns s from ns name other =
-    elim (eqb ns types) [ true ↦ externOr other (externNamed s (crateOf s from) name) | false ↦ other ]
+unfoldable pub inExterns : Snapshot → ℕ → ℕ → ℕ → Option Item
+inExterns s from ns name = elim (eqb ns types) [ true ↦ externMeans (externNamed s (crateOf s from) name) | false ↦ none ]
 
 unfoldable pub preludeMeans : Snapshot → ℕ → ℕ → ℕ → Option Prelude → Option Item
 preludeMeans s from ns name none = none
@@ -86,7 +85,7 @@ entryFrom s from ns name = firstSome (λ m. get s m ns name) (scopesFrom s from)
 -- a first name: the first of scopes, externs and prelude that has it decides
 unfoldable pub firstName : Snapshot → ℕ → ℕ → ℕ → Option Item
 firstName s from ns name =
-    entryOr s from (inExterns s from ns name (inPreludeOf s from ns name)) (entryFrom s from ns name)
+    entryOr s from (orFirst (inExterns s from ns name) (inPreludeOf s from ns name)) (entryFrom s from ns name)
 
 abbrev pub isVariantNamed : ℕ → ℕ → Member → Bool
 isVariantNamed d name x = eqb (x .parent) d && (eqb (x .kind) variantMember && eqb (x .name) name)
@@ -126,7 +125,7 @@ plainly s from ns (n ∷ more) = follow s from ns (firstName s from (lookedIn ns
 -- by externs alone
 unfoldable pub absolutely : Snapshot → ℕ → ℕ → List ℕ → Option Item
 absolutely s from ns [] = none
-absolutely s from ns (n ∷ more) = follow s from ns (inExterns s from (lookedIn ns more) n none) more
+absolutely s from ns (n ∷ more) = follow s from ns (inExterns s from (lookedIn ns more) n) more
 
 -- the module with that number +1
 unfoldable pub parentMeans : Snapshot → ℕ → Option Item
