@@ -2,4 +2,5 @@ pub mod Outward
 pub mod Found
 pub mod Cases
 pub mod Exact
+pub mod Keywords
 pub mod Worked

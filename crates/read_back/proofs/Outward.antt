@@ -1,7 +1,6 @@
 -- The steps out of blocks fall, and end.
-use Prim.Native.Nat.{ℕ, zero, suc, _+_, _<_}
-use mathlib.Core.Path.{_≡_, refl, sym, _∙_}
-use mathlib.Core.Bool.{true, false}
+use Prim.Native.Nat.{ℕ, suc, _<_}
+use mathlib.Core.Path.{_≡_, sym, _∙_}
 use mathlib.Core.Option.{none, some}
 use native.Mathlib.Omega.{arith}
 use borrow.Author.Tests.{eq-eqb, ne-eqb, eqb-true, eqb-false}
@@ -27,7 +26,7 @@ module _ (s : Snapshot) (m : ℕ) where
   unfolding outward
   outward-not e = rw (outward, ne-eqb (parentOf s m) 0 (λ z. omega arith))
 
-outward-none : (s : Snapshot) (m : ℕ) → (parentOf s m ≡ 0 → ⊥) → outward s m ≡ 0
+pub outward-none : (s : Snapshot) (m : ℕ) → (parentOf s m ≡ 0 → ⊥) → outward s m ≡ 0
 unfolding outward
 outward-none s m h = rw (outward, ne-eqb _ _ h)
 

@@ -2,10 +2,9 @@
 mod blocks;
 mod lookups;
 mod names;
-mod paths;
+pub mod paths;
 
 use hir_def::Item;
-pub use paths::reads_back;
 
 /// The item that a name means, or none.
 pub enum OptItem {
