@@ -18,8 +18,8 @@ pub record FuelsTold (W : List ℕ) (q : Query) (F G : ℕ) (r s : Report) : Typ
   pub accepted : verdict W ≡ accept snapshot
   -- equal in every field exactly when the count of charges is at most the smaller fuel
   pub equal : (r ≡ s) ↔ (searchedFreely snapshot q .meter ≤ F)
-  pub smaller : Tells F (searchedFreely snapshot q) r
-  pub larger : Tells G (searchedFreely snapshot q) s
+  pub smaller : Tells snapshot q F (searchedFreely snapshot q) r
+  pub larger : Tells snapshot q G (searchedFreely snapshot q) s
 
 pub record AnswersTwice (W A₀ B₀ : List ℕ) (q : Query) (F G : ℕ) (A B : List ℕ) (r : Reports) : Type 0 where
   pub first : Answers W A₀ (record { query = q; fuel = F }) A (r .first)

@@ -123,7 +123,7 @@ module _ (s : Snapshot) (q : Query) (fuel : ℕ) (r : Report) where
   pub answer-fault : (n : ℕ) → n ≡ questionFault s q → (n ≡ 0 → ⊥) → r ≡ refused n → r ≡ answerUnless s q fuel (questionFault s q)
   answer-fault n e h p = p ∙ fault-by n h ∙ ap (answerUnless s q fuel) e
 
-  pub answer-found : (n : ℕ) → n ≡ questionFault s q → n ≡ 0 → r ≡ reported (searched s q fuel) → r ≡ answerUnless s q fuel (questionFault s q)
+  pub answer-found : (n : ℕ) → n ≡ questionFault s q → n ≡ 0 → r ≡ reported s q (searched s q fuel) → r ≡ answerUnless s q fuel (questionFault s q)
   unfolding answerUnless
   answer-found n e z p = p ∙ ap (answerUnless s q fuel) (sym z ∙ e)
 

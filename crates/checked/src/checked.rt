@@ -12,13 +12,12 @@ use crate::faults::call_fault;
 use crate::faults::earlier;
 use crate::faults::number_of;
 use crate::faults::question_fault;
+use crate::found::report_in;
 use accept::check::Checked;
 use find_path::Query;
 use find_path::Question;
 use find_path::Report;
 use reports::report::refused;
-use reports::report::reported;
-use search::inner::find_path;
 use snapshot::layout::Layout;
 
 // The answer on accepted words; the tables stay.
@@ -31,7 +30,7 @@ fn ask(words: &[u32], area: &mut [u32], l: Layout, q: Query, fuel: usize) -> Rep
     if n != 0 {
         return refused(n);
     }
-    reported(find_path(words, area, l, q, fuel))
+    report_in(words, area, l, q, fuel)
 }
 
 // The answer on checked words, to a question without a fault of its own.

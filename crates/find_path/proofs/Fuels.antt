@@ -1,7 +1,7 @@
 -- Demand 3.
 use mathlib.Core.Path.{_≡_, refl, ap, sym, _∙_}
 use mathlib.Core.List.{List, [], _∷_, _++_}
-use mathlib.Core.Bool.{Bool, true, false, not}
+use mathlib.Core.Bool.{false}
 use Prim.Native.Nat.{ℕ, _+_, _≤_, _<_}
 use native.Mathlib.Omega.{arith}
 use lib.ListN.{length, getD, length-append, List·getD-append}
@@ -14,7 +14,7 @@ use Rattle.find_path.specs.declared.Query.{Query}
 use Rattle.find_path.specs.declared.Report.{Report}
 use Rattle.find_path.specs.Meters.{Spot, filled, counted, listed}
 use Rattle.find_path.specs.Charged.{Out}
-use Rattle.find_path.specs.Report.{refused, flag, reported, searched, searchedFreely, searchedListing}
+use Rattle.find_path.specs.Report.{refused, flag, outcomeOf, reported, searched, searchedFreely, searchedListing}
 use Rattle.find_path.specs.Fuels.{reportAt, IsRefused, Tells, noSpot, SameSearch, TellsFirst, Compared, FuelsCompared}
 use Rattle.find_path.proofs.Outcomes.{Kind, refusal, answer, kind-of}
 use Rattle.find_path.proofs.Sim.{Free, Sim, same, dry, search-sim}
@@ -23,7 +23,7 @@ use Rattle.find_path.proofs.Sim.{Free, Sim, same, dry, search-sim}
 pub record Searched (words : List ℕ) (q : Query) (fuel : ℕ) (r : Report) : Type 0 where
   pub snapshot : Snapshot
   pub accepted : verdict words ≡ accept snapshot
-  pub answer : r ≡ reported (searched snapshot q fuel)
+  pub answer : r ≡ reported snapshot q (searched snapshot q fuel)
 
 by-kind : (words : List ℕ) (q : Query) (fuel : ℕ) (r : Report) → Kind words q fuel r → (IsRefused r → ⊥) → Searched words q fuel r
 unfolding refused
@@ -33,11 +33,6 @@ by-kind words q fuel r (answer s a l e) h = record { snapshot = s; accepted = a;
 pub not-refused : (words : List ℕ) (area : ℕ) (q : Query) (fuel : ℕ) → (IsRefused (reportAt words area q fuel) → ⊥)
     → Searched words q fuel (reportAt words area q fuel)
 not-refused words area q fuel h = by-kind words q fuel (reportAt words area q fuel) (kind-of words area (record { query = q; fuel = fuel })) h
-
-pub found-of : (b : Bool) → flag (not b) ≡ 0 → b ≡ true
-unfolding flag
-found-of true e = refl
-found-of false e = absurd (omega arith)
 
 -- the count, against the tank
 
@@ -59,15 +54,15 @@ abbrev Counts : ℕ → Out Tank → Out ℕ → Type 0
 Counts = Sim ℕ (λ n. n) Over
 
 -- what the simulation says of a report
-told : (F : ℕ) (a : Out Tank) (c : Out ℕ) → Counts F a c → Tells F c (reported a)
+told : (s : Snapshot) (q : Query) (F : ℕ) (a : Out Tank) (c : Out ℕ) → Counts F a c → Tells s q F c (reported s q a)
 unfolding reported flag
-told F a c (same e h) =
+told s q F a c (same e h) =
     let no = ap flag (h .silent) in
     record {
       charges = omega (arith, h .spent-is, h .rest);
       empty = ((λ z. absurd (omega arith)), λ l. absurd (omega (arith, h .rest)));
       answer = λ _. record {
-        outcome = ap (λ (z : Choice). flag (not (z .found))) e;
+        outcome = ap (outcomeOf s q) e;
         kind = ap (λ (z : Choice). z .kind) e;
         names = ap (λ (z : Choice). z .names) e;
         count = ap (λ (z : Choice). z .count) e;
@@ -75,7 +70,7 @@ told F a c (same e h) =
         steps = ap (λ (z : Choice). z .steps) e;
       };
     }
-told F a c (dry l m h n) =
+told s q F a c (dry l m h n) =
     let yes′ = ap flag (h .said) in
     record {
       charges = omega (arith, h .all-spent);
@@ -84,13 +79,13 @@ told F a c (dry l m h n) =
     }
 
 -- the report where the count is within the fuel: no fuel in it
-whole : Out ℕ → Report
-whole c = reported (record { choice = c .choice; meter = record { fuel = 0; spent = c .meter; empty = false; left = 0; sought = 0 } })
+whole : Snapshot → Query → Out ℕ → Report
+whole s q c = reported s q (record { choice = c .choice; meter = record { fuel = 0; spent = c .meter; empty = false; left = 0; sought = 0 } })
 
-within : (F : ℕ) (a : Out Tank) (c : Out ℕ) → Counts F a c → c .meter ≤ F → reported a ≡ whole c
+within : (s : Snapshot) (q : Query) (F : ℕ) (a : Out Tank) (c : Out ℕ) → Counts F a c → c .meter ≤ F → reported s q a ≡ whole s q c
 unfolding reported whole
-within F a c (same e h) l = λ i. record {
-  outcome = flag (not (e i .found));
+within s q F a c (same e h) l = λ i. record {
+  outcome = outcomeOf s q (e i);
   number = 0;
   kind = e i .kind;
   names = e i .names;
@@ -102,7 +97,7 @@ within F a c (same e h) l = λ i. record {
   route = e i .route;
   steps = e i .steps;
 }
-within F a c (dry k m h n) l = absurd (omega arith)
+within s q F a c (dry k m h n) l = absurd (omega arith)
 
 searches-sim : (s : Snapshot) (q : Query) (F : ℕ) → Counts F (searched s q F) (searchedFreely s q)
 unfolding searched searchedFreely filled
@@ -110,18 +105,19 @@ searches-sim s q F =
     search-sim ℕ counted (λ n. n) Over counts-free F s q (filled F) 0 (record { spent-is = refl; rest = omega arith; silent = refl; no-left = refl; no-sought = refl })
 
 -- what the report of a search tells of the search without a tank
-pub searched-tells : (s : Snapshot) (q : Query) (F : ℕ) → Tells F (searchedFreely s q) (reported (searched s q F))
-searched-tells s q F = told F _ _ (searches-sim s q F)
+pub searched-tells : (s : Snapshot) (q : Query) (F : ℕ) → Tells s q F (searchedFreely s q) (reported s q (searched s q F))
+searched-tells s q F = told s q F _ _ (searches-sim s q F)
 
-untold : (F : ℕ) (a : Out Tank) (c : Out ℕ) → Counts F a c → reported a .empty ≡ 0 → (reported a .left ≡ 0) × (reported a .sought ≡ 0)
+untold : (s : Snapshot) (q : Query) (F : ℕ) (a : Out Tank) (c : Out ℕ) → Counts F a c → reported s q a .empty ≡ 0
+    → (reported s q a .left ≡ 0) × (reported s q a .sought ≡ 0)
 unfolding reported flag
-untold F a c (same e h) z = (h .no-left, h .no-sought)
-untold F a c (dry l m h n) z = let y = ap flag (h .said) in absurd (omega arith)
+untold s q F a c (same e h) z = (h .no-left, h .no-sought)
+untold s q F a c (dry l m h n) z = let y = ap flag (h .said) in absurd (omega arith)
 
 -- nothing is told of a first empty tank where none was
-pub searched-untold : (s : Snapshot) (q : Query) (F : ℕ) → reported (searched s q F) .empty ≡ 0
-    → (reported (searched s q F) .left ≡ 0) × (reported (searched s q F) .sought ≡ 0)
-searched-untold s q F z = untold F _ _ (searches-sim s q F) z
+pub searched-untold : (s : Snapshot) (q : Query) (F : ℕ) → reported s q (searched s q F) .empty ≡ 0
+    → (reported s q (searched s q F) .left ≡ 0) × (reported s q (searched s q F) .sought ≡ 0)
+searched-untold s q F z = untold s q F _ _ (searches-sim s q F) z
 
 -- the list of charges, against the tank
 
@@ -158,16 +154,16 @@ lists-sim s q F =
     search-sim (List Spot) listed length At lists-free F s q (filled F) []
     (record { spent-is = refl; rest = omega arith; silent = refl; no-left = refl; no-sought = refl })
 
-told-first : (F : ℕ) (a : Out Tank) (c : Out (List Spot)) → Lists F a c → TellsFirst F c (reported a)
+told-first : (s : Snapshot) (q : Query) (F : ℕ) (a : Out Tank) (c : Out (List Spot)) → Lists F a c → TellsFirst F c (reported s q a)
 unfolding reported flag
-told-first F a c (same e h) =
+told-first s q F a c (same e h) =
     let no = ap flag (h .silent) in
     record { left = λ z. absurd (omega arith); sought = λ z. absurd (omega arith) }
-told-first F a c (dry l m h n) = record { left = λ _. n .1 ∙ sym (h .left-is); sought = λ _. n .2 ∙ sym (h .sought-is) }
+told-first s q F a c (dry l m h n) = record { left = λ _. n .1 ∙ sym (h .left-is); sought = λ _. n .2 ∙ sym (h .sought-is) }
 
 -- A report that says empty tells of the charge of the search without a tank whose number, from 0, is its fuel.
-pub searched-first : (s : Snapshot) (q : Query) (F : ℕ) → TellsFirst F (searchedListing s q) (reported (searched s q F))
-searched-first s q F = told-first F _ _ (lists-sim s q F)
+pub searched-first : (s : Snapshot) (q : Query) (F : ℕ) → TellsFirst F (searchedListing s q) (reported s q (searched s q F))
+searched-first s q F = told-first s q F _ _ (lists-sim s q F)
 
 both-whole : (F : ℕ) (a : Out Tank) (c : Out ℕ) (d : Out (List Spot)) → Counts F a c → Lists F a d → c .meter ≤ F → length (d .meter) ≤ F → SameSearch c d
 both-whole F a c d (same e h) (same f k) u v = record { choice = sym f ∙ e; count = omega (arith, h .spent-is, k .spent-is) }
@@ -182,25 +178,25 @@ listing-counts s q =
     both-whole (n + l) _ _ _ (searches-sim s q (n + l)) (lists-sim s q (n + l)) (omega arith) (omega arith)
 
 -- the second report is on the same snapshot
-moved : (words : List ℕ) (q : Query) (G : ℕ) (r : Report) (s : Snapshot) → verdict words ≡ accept s → Searched words q G r → r ≡ reported (searched s q G)
+moved : (words : List ℕ) (q : Query) (G : ℕ) (r : Report) (s : Snapshot) → verdict words ≡ accept s → Searched words q G r → r ≡ reported s q (searched s q G)
 moved words q G r s e g =
     let same-snapshot : g .snapshot ≡ s = cc (e, g .accepted) in
-    g .answer ∙ ap (λ (z : Snapshot). reported (searched z q G)) same-snapshot
+    g .answer ∙ ap (λ (z : Snapshot). reported z q (searched z q G)) same-snapshot
 
 compared : (words : List ℕ) (area : ℕ) (q : Query) (F G : ℕ) (s : Snapshot) → F < G → verdict words ≡ accept s
-    → reportAt words area q F ≡ reported (searched s q F) → reportAt words area q G ≡ reported (searched s q G)
+    → reportAt words area q F ≡ reported s q (searched s q F) → reportAt words area q G ≡ reported s q (searched s q G)
     → Compared words area q F G
 compared words area q F G s lt e f g =
     let a = searches-sim s q F in
     let b = searches-sim s q G in
-    let tf : Tells F (searchedFreely s q) (reportAt words area q F) = rw f (searched-tells s q F) in
-    let tg : Tells G (searchedFreely s q) (reportAt words area q G) = rw g (searched-tells s q G) in
+    let tf : Tells s q F (searchedFreely s q) (reportAt words area q F) = rw f (searched-tells s q F) in
+    let tg : Tells s q G (searchedFreely s q) (reportAt words area q G) = rw g (searched-tells s q G) in
     record {
       snapshot = s;
       accepted = e;
       equal = (
         (λ r. omega (arith, tf .charges, tg .charges, ap (λ (z : Report). z .charges) r)),
-        λ l. f ∙ within F _ _ a l ∙ sym (within G _ _ b (omega arith)) ∙ sym g,
+        λ l. f ∙ within s q F _ _ a l ∙ sym (within s q G _ _ b (omega arith)) ∙ sym g,
       );
       smaller = tf;
       larger = tg;

@@ -15,6 +15,7 @@ pub mod Reports
 pub mod Walks
 pub mod Visited
 pub mod Plain
+pub mod Reading
 pub mod Chains
 pub mod Lines
 pub mod Worked

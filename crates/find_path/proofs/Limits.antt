@@ -5,6 +5,7 @@ use native.Mathlib.Omega.{arith}
 use mathlib.Core.List.{List, [], _∷_, _++_}
 use mathlib.Core.Bool.{Bool, true, false, _&&_, _||_, not, true≢false, false≢true}
 use mathlib.Core.Option.{Option, none, some}
+use mathlib.Core.Logic.{_⊎_}
 use lib.Dec.{eqb}
 use Rattle.snapshot.specs.Records.{Snapshot, Scope, Prelude, Extern, Dependency, Definition, Import}
 use Rattle.accept.proofs.Accepted.{by-test}
@@ -27,10 +28,11 @@ use Rattle.find_path.specs.Local.{LocalSearch, offer, offerEntry, isImpo
 use Rattle.find_path.specs.Meters.{counted}
 use Rattle.find_path.specs.Charged.{Out, Search, Inner, isStable, langs, oneOrNone, variantOf, pushVariant, offerImport, findImport, findImports, findInDep, findInDeps, findInSysroot, goOn, afterCharge, calculateBestPath, orCharged, findPathForModule, afterEnum, viaEnum, orEnum, byName, ofModule, findPathInner}
 use Rattle.find_path.specs.Search.{localTo, searchLocal, bestLocal, moduleTo, searchModule, itemTo, searchItem, fromHome, fromItem, findPath}
-use Rattle.find_path.specs.Report.{flag, searchedFreely}
-use Rattle.find_path.specs.Fuels.{reportAt}
+use Rattle.find_path.specs.Report.{outcomeOf, searchedFreely}
+use Rattle.find_path.specs.Fuels.{reportAt, HasPath}
 use Rattle.find_path.specs.Limits.{withLimit, Whole, LimitsCompared}
-use Rattle.find_path.proofs.Fuels.{Searched, not-refused, searched-tells, found-of}
+use Rattle.find_path.proofs.Outcomes.{outcome-path, path-found}
+use Rattle.find_path.proofs.Fuels.{Searched, not-refused, searched-tells}
 
 abbrev IsFound : Choice → Type 0
 IsFound c = c .found ≡ true
@@ -462,19 +464,21 @@ module _ (s : Snapshot) (q : Query) (l m : ℕ) (h : l ≤ m) where
 
 -- what a report that does not say empty has to do with it
 
-of-found : (b : Bool) → b ≡ true → flag (not b) ≡ 0
-unfolding flag
-of-found true e = refl
-of-found false e = absurd (false≢true e)
-
 module _ (words : List ℕ) (area : ℕ) (q : Query) (fuel : ℕ) (w : Whole (reportAt words area q fuel)) where
   abbrev done : Searched words q fuel (reportAt words area q fuel)
   done = not-refused words area q fuel (w .answered)
 
-  outcome-is : reportAt words area q fuel .outcome ≡ flag (not (searchedFreely (done .snapshot) q .choice .found))
+  outcome-is : reportAt words area q fuel .outcome ≡ outcomeOf (done .snapshot) q (searchedFreely (done .snapshot) q .choice)
   outcome-is =
       ap (λ (r : Report). r .outcome) (done .answer)
       ∙ searched-tells (done .snapshot) q fuel .answer (λ e. w .full (ap (λ (r : Report). r .empty) (done .answer) ∙ e)) .outcome
+
+  -- it has a path exactly where that search finds one
+  whole-found : HasPath (reportAt words area q fuel) → IsFound (searchedFreely (done .snapshot) q .choice)
+  whole-found h = path-found (done .snapshot) q _ (subst (λ (n : ℕ). (n ≡ 0) ⊎ (n ≡ 3)) outcome-is h)
+
+  whole-path : IsFound (searchedFreely (done .snapshot) q .choice) → HasPath (reportAt words area q fuel)
+  whole-path h = subst (λ (n : ℕ). (n ≡ 0) ⊎ (n ≡ 3)) (sym outcome-is) (outcome-path (done .snapshot) q _ h)
 
 -- Of two limits with no empty tank, an item found under the smaller is found under the larger.
 pub limits-compared : LimitsCompared
@@ -482,6 +486,6 @@ limits-compared words area q l m F G h a b p =
     let c = done words area (withLimit q l) F a in
     let d = done words area (withLimit q m) G b in
     let same : c .snapshot ≡ d .snapshot = cc (c .accepted, d .accepted) in
-    let k = found-of _ (sym (outcome-is words area (withLimit q l) F a) ∙ p) in
+    let k = whole-found words area (withLimit q l) F a p in
     let f = subst (λ (s : Snapshot). IsFound (searchedFreely s (withLimit q l) .choice)) same k in
-    outcome-is words area (withLimit q m) G b ∙ of-found _ (freely-grows (d .snapshot) q l m h f)
+    whole-path words area (withLimit q m) G b (freely-grows (d .snapshot) q l m h f)

@@ -7,11 +7,11 @@ use mathlib.Core.List.{List, [], _∷_, _++_, map}
 use mathlib.Core.Bool.{Bool, true, false, _&&_, _||_, not}
 use mathlib.Core.Option.{Option, none, some}
 use lib.Dec.{eqb}
-use lib.ListN.{length, length-map}
+use lib.ListN.{length, take, length-map}
 use Rattle.snapshot.specs.Lists.{any}
-use Rattle.snapshot.specs.Records.{Snapshot, Scope, Dependency, Prelude, Definition, Import, Extern}
+use Rattle.snapshot.specs.Records.{Snapshot, Scope, Dependency, Prelude, Definition, Import, Extern, Member}
 use Rattle.accept.specs.Verdict.{accept, verdict}
-use Rattle.hir_def.specs.Finds.{firstOf, select, firstSome}
+use Rattle.hir_def.specs.Finds.{firstOf, orFirst, select, firstSome}
 use Rattle.hir_def.specs.Items.{types, moduleOf, mapOf, mapNo, crateOf, crateData, parentOf, rootOf, ownMap, crateRoot, inBlock, containing, definitionOf, itemOf, sameItem, nsOf, homeBy, homeOf}
 use Rattle.hir_def.specs.Visibility.{climbStep, climb, inModule, isVisibleFrom, sees}
 use Rattle.hir_def.specs.ItemScope.{counts, isFor, nameOf, namesOf, preferred, get, isModuleEntry, modulesInScope, entryModule}
@@ -19,19 +19,22 @@ use Rattle.hir_def.specs.Nameres.{ancestorMaps, scopeEntry, entryNamed, isOther
 use Rattle.hir_def.specs.ImportMap.{importInfoFor, isHidden}
 use Rattle.hir_def.specs.declared.Item.{Item}
 use Rattle.hir_def.specs.declared.Item.the-variants.{Mod, Def}
+use Rattle.read_back.specs.Reads as Reads
+use Rattle.read_back.specs.Reads.{selfKind, superKind, crateKind, absoluteKind, outward, scopesFrom, standsFor, meaning, entryOr, externNamed, inExterns, preludeMeans, inPreludeOf, entryFrom, firstName, variantNamed, variantIn, laterName, after, lookedIn, follow, absolutely, parentMeans, readsTo, isThe, readsBack}
 use Rattle.hir_def.proofs.Plain.{plain, plainly, plainOf, first-plain, name-plain, names-plain}
 use Rattle.find_path.specs.declared.Choice.{Choice}
 use Rattle.find_path.specs.declared.FindPathCtx.{FindPathCtx}
 use Rattle.find_path.specs.declared.Query.{Query}
 use Rattle.find_path.specs.declared.Question.{Question}
 use Rattle.find_path.specs.declared.Report.{Report}
+use Rattle.find_path.specs.declared.Tank.{Tank}
 use Rattle.find_path.specs.Choices.{plainPath, selfPath, cratePath, viaScope, viaPrelude, viaExtern, stepBy, nothing, keyword, nameData, isPrelude, choiceNew, extended, push, better, trySelect}
 use Rattle.find_path.specs.Walk.{Level, visited, startFrom, leadsTo, walk, findLocalImportLocations}
 use Rattle.find_path.specs.Rules.{bit, prefixPathKind, contextOf, firstFound, single, findInScope, mayBeInScope, scopeRule, sameHere, isUsable, preludeEntry, inPrelude, findInPrelude, preludeRule, externKind, externName, rootRule, parentKind, isKwKindRelativeToFrom, keywordOf, moduleRules}
 use Rattle.find_path.specs.Meters.{Charged, go, stop, Charge}
 use Rattle.find_path.specs.Charged.{Out, Search, Inner, isStable, langs, oneOrNone, isAt, variantOf, pushVariant, offerImport, findImport, findImports, findInDep, findInDeps, findInSysroot, goOn, afterCharge, calculateBestPath, orCharged, findPathForModule, afterEnum, viaEnum, orEnum, byName, ofModule, findPathInner}
-use Rattle.find_path.specs.Search.{builtinChoice, localTo, searchLocal, bestLocal, moduleTo, searchModule, itemTo, searchItem, fromHome, fromItem, findPath}
-use Rattle.find_path.specs.Report.{questionFault, reported, searched, answerUnless, reportBy, reportUnless, reportOf}
+use Rattle.find_path.specs.Search.{isBuiltinType, builtinChoice, localTo, searchLocal, bestLocal, moduleTo, searchModule, itemTo, searchItem, fromHome, fromItem, findPath}
+use Rattle.find_path.specs.Report.{questionFault, flag, misleads, outcomeBy, reported, searched, answerUnless, reportBy, reportUnless, reportOf}
 use Rattle.find_path.specs.Local.{LocalSearch, offer, offerEntry, isImportable, entryIf, importableName, location, eachLocation, calculateBestPathLocal, orLocal, findPathForModuleLocal}
 
 some-step : (o r r′ : Option Scope) → r′ ≡ plainOf r → elim (plainOf o) [ some y ↦ some y | none ↦ r′ ] ≡ plainOf (elim o [ some y ↦ some y | none ↦ r ])
@@ -124,6 +127,90 @@ module _ (s : Snapshot) where
   locations-plain from seen =
       let n : length (map plain (s .scopes)) ≡ length (s .scopes) = rw length-map in
       λ i. walk (λ m. leads-plain from m i) seen (length (startFrom s from) + n i) [] (startFrom s from)
+
+-- the reading of a path, which looks at no declared field
+module _ (s : Snapshot) (from : ℕ) where
+  meaning-plain : (e : Scope) → meaning (plainly s) from (plain e) ≡ meaning s from e
+  unfolding meaning itemOf definitionOf
+  meaning-plain e =
+      ap (λ (b : Bool). elim b [ true ↦ some (itemOf s (e .ns) (e .definition)) | false ↦ none ]) (visible-plain s (e .visibility) (e .number) from)
+
+  entry-means-plain : (other : Option Item) (o : Option Scope) → entryOr (plainly s) from other (plainOf o) ≡ entryOr s from other o
+  unfolding entryOr
+  entry-means-plain other none = refl
+  entry-means-plain other (some e) = meaning-plain e
+
+  -- an entry by its name
+  got-plain : (other : Option Item) (m ns name : ℕ) → entryOr (plainly s) from other (get (plainly s) m ns name) ≡ entryOr s from other (get s m ns name)
+  got-plain other m ns name = ap (entryOr (plainly s) from other) (get-plain s m ns name) ∙ entry-means-plain other (get s m ns name)
+
+  prelude-means-plain : (ns name : ℕ) (p : Option Prelude) → preludeMeans (plainly s) from ns name p ≡ preludeMeans s from ns name p
+  unfolding preludeMeans
+  prelude-means-plain ns name none = refl
+  prelude-means-plain ns name (some p) = got-plain none (p .target) ns name
+
+  first-name-plain : (ns name : ℕ) → firstName (plainly s) from ns name ≡ firstName s from ns name
+  unfolding firstName entryFrom inExterns externNamed inPreludeOf preludeOf scopesFrom outward moduleOf mapOf
+  first-name-plain ns name =
+      ap₂ (entryOr (plainly s) from) (ap (orFirst (inExterns s from ns name)) (prelude-means-plain ns name (preludeOf s (mapNo s from))))
+      (some-plain _ _ (λ m. get-plain s m ns name) (scopesFrom s from))
+      ∙ entry-means-plain _ _
+
+  variant-in-plain : (ns : ℕ) (o : Option Member) → variantIn (plainly s) ns o ≡ variantIn s ns o
+  unfolding variantIn itemOf definitionOf
+  variant-in-plain ns none = refl
+  variant-in-plain ns (some x) = refl
+
+  later-plain : (ns name : ℕ) (x : Item) → laterName (plainly s) from ns name x ≡ laterName s from ns name x
+  unfolding laterName variantNamed
+  later-plain ns name (Mod m) = got-plain none m ns name
+  later-plain ns name (Def k d) = variant-in-plain ns (variantNamed s d name)
+
+  reached-plain : (ns name : ℕ) (here : Option Item) → after here (laterName (plainly s) from ns name) ≡ after here (laterName s from ns name)
+  unfolding after
+  reached-plain ns name none = refl
+  reached-plain ns name (some x) = later-plain ns name x
+
+  follow-plain : (ns : ℕ) (here : Option Item) (names : List ℕ) → follow (plainly s) from ns here names ≡ follow s from ns here names
+  unfolding follow
+  follow-plain ns here [] = refl
+  follow-plain ns here (n ∷ more) =
+      ap (λ (x : Option Item). follow (plainly s) from ns x more) (reached-plain (lookedIn ns more) n here) ∙ follow-plain ns _ more
+
+  plainly-plain : (ns : ℕ) (names : List ℕ) → Reads.plainly (plainly s) from ns names ≡ Reads.plainly s from ns names
+  unfolding Reads.plainly
+  plainly-plain ns [] = refl
+  plainly-plain ns (n ∷ more) =
+      ap (λ (x : Option Item). follow (plainly s) from ns x more) (first-name-plain (lookedIn ns more) n) ∙ follow-plain ns _ more
+
+  absolutely-plain : (ns : ℕ) (names : List ℕ) → absolutely (plainly s) from ns names ≡ absolutely s from ns names
+  unfolding absolutely inExterns externNamed moduleOf mapOf
+  absolutely-plain ns [] = refl
+  absolutely-plain ns (n ∷ more) = follow-plain ns _ more
+
+  parent-means-plain : (p : ℕ) → parentMeans (plainly s) p ≡ parentMeans s p
+  unfolding parentMeans standsFor outward moduleOf mapOf
+  parent-means-plain zero = refl
+  parent-means-plain (suc p) = refl
+
+  reads-plain : (ns kind : ℕ) (names : List ℕ) → readsTo (plainly s) from ns kind names ≡ readsTo s from ns kind names
+  unfolding readsTo standsFor outward crateRoot rootOf ownMap moduleOf mapOf
+  reads-plain ns kind names =
+      λ i.
+      elim (eqb kind selfKind) [
+        | true ↦ follow-plain ns (some (Mod (standsFor s from))) names i
+        | false ↦ elim (eqb kind superKind) [
+          | true ↦ (ap (λ (x : Option Item). follow (plainly s) from ns x names) (parent-means-plain (parentOf s (standsFor s from))) ∙ follow-plain ns _ names) i
+          | false ↦ elim (eqb kind crateKind) [
+            | true ↦ follow-plain ns (some (Mod (crateRoot s from))) names i
+            | false ↦ elim (eqb kind absoluteKind) [ true ↦ absolutely-plain ns names i | false ↦ plainly-plain ns names i ]
+          ]
+        ]
+      ]
+
+  reads-back-plain : (item : Item) (kind : ℕ) (names : List ℕ) → readsBack (plainly s) from item kind names ≡ readsBack s from item kind names
+  unfolding readsBack
+  reads-back-plain item kind names = ap (isThe item) (reads-plain (nsOf item) kind names)
 
 -- the rules, where bit 32 is clear
 module _ (s : Snapshot) (x : FindPathCtx) (clear : x .fresh ≡ false) where
@@ -476,9 +563,31 @@ module _ (s : Snapshot) (q : Query) (clear : bit (q .options) 32 ≡ false) wher
   unfolding searched
   searched-plain fuel = search-plain _ _ _
 
+  misleads-plain : (c : Choice) → misleads (plainly s) q c ≡ misleads s q c
+  unfolding misleads itemOf definitionOf
+  misleads-plain c =
+      ap (λ (b : Bool). bit (q .options) 64 && (c .found && not (isBuiltinType s q || b)))
+      (reads-back-plain s (q .from) (itemOf s (q .ns) (q .definition)) (c .kind) (take (c .count) (c .names)))
+
+  reported-plain : (o : Out Tank) → reported (plainly s) q o ≡ reported s q o
+  unfolding reported
+  reported-plain o = λ i. record {
+    outcome = outcomeBy (misleads-plain (o .choice) i) (o .choice .found);
+    number = 0;
+    kind = o .choice .kind;
+    names = o .choice .names;
+    count = o .choice .count;
+    charges = o .meter .spent;
+    empty = flag (o .meter .empty);
+    left = o .meter .left;
+    sought = o .meter .sought;
+    route = o .choice .route;
+    steps = o .choice .steps;
+  }
+
   unless-plain : (fuel n : ℕ) → answerUnless (plainly s) q fuel n ≡ answerUnless s q fuel n
   unfolding answerUnless
-  unless-plain fuel zero = ap reported (searched-plain fuel)
+  unless-plain fuel zero = ap (reported (plainly s) q) (searched-plain fuel) ∙ reported-plain (searched s q fuel)
   unless-plain fuel (suc n) = refl
 
   question-plain : (fuel : ℕ) → answerUnless (plainly s) q fuel (questionFault (plainly s) q) ≡ answerUnless s q fuel (questionFault s q)

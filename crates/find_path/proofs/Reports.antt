@@ -1,7 +1,6 @@
 -- What holds of every report.
 use mathlib.Core.Path.{_≡_, refl, ap, sym, _∙_, subst}
 use mathlib.Core.List.{List}
-use mathlib.Core.Bool.{Bool, true, false, not}
 use Prim.Native.Nat.{ℕ, _≤_, _<_}
 use native.Mathlib.Omega.{arith}
 use native.Mathlib.Decide.{decLe}
@@ -16,19 +15,14 @@ use Rattle.find_path.specs.declared.Query.{Query}
 use Rattle.find_path.specs.declared.Question.{Question}
 use Rattle.find_path.specs.declared.Report.{Report}
 use Rattle.find_path.specs.Meters.{fromTank, filled}
-use Rattle.find_path.specs.Report.{refused, flag, reported, searched, searchedListing, reportOf}
+use Rattle.find_path.specs.Report.{refused, reported, searched, searchedListing, reportOf}
 use Rattle.find_path.specs.Fuels.{IsRefused, Bounded, NamesKnown, Small, TellsFirst}
 use Rattle.find_path.proofs.Bounds.{zeros, search-fits}
 use Rattle.find_path.proofs.Refusals.{Allowed}
-use Rattle.find_path.proofs.Outcomes.{Kind, refusal, answer, kind-of}
+use Rattle.find_path.proofs.Outcomes.{flag-small, outcome-small, outcome-answers, Kind, refusal, answer, kind-of}
 use Rattle.find_path.proofs.Known.{searched-known}
 use Rattle.find_path.proofs.Told.{searched-told}
 use Rattle.find_path.proofs.Fuels.{searched-tells, searched-untold, searched-first}
-
-flag-small : (b : Bool) → flag b ≤ 1
-unfolding flag
-flag-small true = omega arith
-flag-small false = omega arith
 
 refused-bounded : (fuel n : ℕ) → Bounded fuel (refused n)
 unfolding refused
@@ -46,7 +40,7 @@ refused-bounded fuel n =
       untold = λ _. (refl, refl);
     }
 
-searched-bounded : (s : Snapshot) (q : Query) (fuel : ℕ) → Allowed q fuel → Bounded fuel (reported (searched s q fuel))
+searched-bounded : (s : Snapshot) (q : Query) (fuel : ℕ) → Allowed q fuel → Bounded fuel (reported s q (searched s q fuel))
 unfolding reported searched
 searched-bounded s q fuel a =
     let f = search-fits Tank fromTank s q (a .some) (a .limit) (filled fuel) in
@@ -96,17 +90,17 @@ searched-names words s e r k z i =
     ]
 
 searched-small : (words : List ℕ) (s : Snapshot) (q : Query) (fuel : ℕ) → verdict words ≡ accept s → Allowed q fuel
-    → Small (reported (searched s q fuel))
+    → Small (reported s q (searched s q fuel))
 unfolding reported
 searched-small words s q fuel e l =
     let k = searched-known words s e q fuel in
     let b = searched-bounded s q fuel l in
     let t = searched-told words s e q (l .some) (l .limit) fuel in
     record {
-      outcome = let f = flag-small (not (searched s q fuel .choice .found)) in omega arith;
+      outcome = outcome-small s q (searched s q fuel .choice);
       number = omega arith;
       kind = k .kind;
-      names = searched-names words s e (reported (searched s q fuel)) (k .names) (b .rest);
+      names = searched-names words s e (reported s q (searched s q fuel)) (k .names) (b .rest);
       charges = omega (arith, b .charges, l .fuel);
       left = t .left;
       sought = omega (arith, t .sought, accepted-limits words s e .modules);
@@ -123,15 +117,10 @@ small {words = words} {q = q} {fuel = fuel} r (answer s a l e) = rw e (searched-
 pub report-small : (words : List ℕ) (area : ℕ) (q : Question) → Small (reportOf words area q)
 report-small words area q = small (reportOf words area q) (kind-of words area q)
 
-not-two : (b : Bool) → flag b ≡ 2 → ⊥
-unfolding flag
-not-two true e = omega arith
-not-two false e = omega arith
-
 refused-whole : {words : List ℕ} {q : Query} {fuel : ℕ} (r : Report) → Kind words q fuel r → IsRefused r → r ≡ refused (r .number)
 unfolding refused reported
 refused-whole r (refusal n l e) h = e ∙ ap refused (sym (ap (λ (z : Report). z .number) e))
-refused-whole r (answer s a l e) h = absurd (not-two _ (sym (ap (λ (z : Report). z .outcome) e) ∙ h))
+refused-whole r (answer s a l e) h = absurd (outcome-answers _ _ _ (sym (ap (λ (z : Report). z .outcome) e) ∙ h))
 
 -- A refusal has its number, and zeros.
 pub refusal-zero : (words : List ℕ) (area : ℕ) (q : Question) → IsRefused (reportOf words area q)

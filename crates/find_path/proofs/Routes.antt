@@ -6,6 +6,7 @@ use native.Mathlib.Numerals.{add-one}
 use mathlib.Core.List.{List, [], _∷_, _++_, List·Memᴰ·head, List·Memᴰ·tail}
 use mathlib.Core.Bool.{Bool, true, false, _||_, not, true≢false, false≢true}
 use mathlib.Core.Option.{Option, none, some}
+use mathlib.Core.Logic.{⊎-elim}
 use lib.Dec.{eqb}
 use lib.ListN.{length, getD, set, take, length-set}
 use lib.Seq.{take-suc-set, length-take-le}
@@ -28,6 +29,7 @@ use Rattle.hir_def.specs.ImportMap.{isImport, importInfoFor, isHidden, isUnstab
 use Rattle.hir_def.specs.declared.Item.{Item}
 use Rattle.hir_def.specs.declared.Item.the-variants.{Mod, Def}
 use Rattle.hir_def.proofs.Fresh.{preferred-has}
+use Rattle.read_back.proofs.Exact.{same-item}
 use Rattle.find_path.specs.declared.Choice.{Choice}
 use Rattle.find_path.specs.declared.FindPathCtx.{FindPathCtx}
 use Rattle.find_path.specs.declared.Query.{Query}
@@ -41,14 +43,14 @@ use Rattle.find_path.specs.Local.{LocalSearch, offer, offerEntry, isImpo
 use Rattle.find_path.specs.Meters.{Charged, go, stop, fromTank, Charge, filled}
 use Rattle.find_path.specs.Charged.{Out, Search, Inner, langs, oneOrNone, isAt, variantOf, pushVariant, offerImport, findImport, findImports, findInDep, findInDeps, findInSysroot, goOn, afterCharge, calculateBestPath, orCharged, findPathForModule, afterEnum, viaEnum, orEnum, byName, ofModule, findPathInner}
 use Rattle.find_path.specs.Search.{builtinChoice, localTo, searchLocal, bestLocal, moduleTo, searchModule, itemTo, searchItem, fromHome, fromItem, findPath}
-use Rattle.find_path.specs.Report.{refused, flag, reported, searched, reportOf}
+use Rattle.find_path.specs.Report.{refused, reported, searched, reportOf}
+use Rattle.find_path.specs.Fuels.{HasPath}
 use Rattle.find_path.specs.Routes.{_∈_, Start, self, super, crate, scope, prelude, extern, builtin, Step, entry, imported, Route, start, step, Path, direct, variant, ruleKind, ruleOf, placeOf, Shown, askedItem, askedContext, routeSteps, Routed, isNear}
 use Rattle.find_path.proofs.Bounds.{Fits, more as wider, first-none as none-fits, first-fits, new-fits, scope-fits, prelude-fits, best-local-fits, best-within, module-search-fits, itemTo-fits, search-fits}
 use Rattle.find_path.proofs.Crates.{Near, each-in, each-append, select-found, own-root, crate-root, locations-near}
 use Rattle.find_path.proofs.Known.{held-at, scope-held, prelude-held, extern-held, definition-in, variant-in}
 use Rattle.find_path.proofs.Refusals.{Allowed}
-use Rattle.find_path.proofs.Outcomes.{Kind, refusal, answer, kind-of}
-use Rattle.find_path.proofs.Fuels.{found-of}
+use Rattle.find_path.proofs.Outcomes.{path-found, Kind, refusal, answer, kind-of}
 
 -- what a test says alone or joined with another
 ruleset passed = (and-left, and-right)
@@ -61,14 +63,6 @@ first-found p (x ∷ xs) y e =
     by-test (p x)
     (λ t. let f : some x ≡ some y = rw (t, firstOf) at e in let same : y ≡ x = cc in (List·Memᴰ·head same, ap p same ∙ t))
     (λ t. let f = first-found p xs y (rw (t, firstOf) at e) in (List·Memᴰ·tail (f .0), f .1))
-
-pub same-item : (a b : Item) → sameItem a b ≡ true → a ≡ b
-unfolding sameItem
-same-item (Mod m) (Mod n) e = ap Mod (eqb-true m n e)
-same-item (Mod m) (Def ns d) e = absurd (false≢true e)
-same-item (Def ns d) (Mod n) e = absurd (false≢true e)
-same-item (Def ns d) (Def ns′ d′) e =
-    let f = and-two (eqb ns ns′) (eqb d d′) e in ap₂ Def (eqb-true ns ns′ (f .0)) (eqb-true d d′ (f .1))
 
 -- every element stands in its list
 each-self : {A : Type 0} (xs : List A) → Each (λ y. y ∈ xs) xs
@@ -621,7 +615,7 @@ allowed : (s : Snapshot) (q : Query) → askedContext s q .«allow_unstable» �
 unfolding contextOf
 allowed s q = refl
 
-searched-routed : (s : Snapshot) → Valid s → (q : Query) (fuel : ℕ) → Allowed q fuel → searched s q fuel .choice .found ≡ true → Routed s q (reported (searched s q fuel))
+searched-routed : (s : Snapshot) → Valid s → (q : Query) (fuel : ℕ) → Allowed q fuel → searched s q fuel .choice .found ≡ true → Routed s q (reported s q (searched s q fuel))
 unfolding searched reported
 searched-routed s valid q fuel a e =
     let t : Tank = filled fuel in
@@ -634,17 +628,19 @@ searched-routed s valid q fuel a e =
     }
 
 kind-routed : {words : List ℕ} {q : Query} {fuel : ℕ} (s : Snapshot) → verdict words ≡ accept s → (r : Report) → Kind words q fuel r
-    → r .outcome ≡ 0 → Routed s q r
+    → HasPath r → Routed s q r
 unfolding refused reported
-kind-routed s a r (refusal n h e) z = let y = ap (λ (w : Report). w .outcome) e in absurd (omega arith)
+kind-routed s a r (refusal n h e) z =
+    let y = ap (λ (w : Report). w .outcome) e in
+    absurd (⊎-elim (λ w. omega arith) (λ w. omega arith) z)
 kind-routed {words = words} {q = q} {fuel = fuel} s a r (answer u b h e) z =
     let same : u ≡ s = cc (a, b) in
-    let y : flag (not (searched u q fuel .choice .found)) ≡ 0 = sym (ap (λ (w : Report). w .outcome) e) ∙ z in
-    subst (λ w. Routed w q r) same (rw e (searched-routed u (accepted-valid words u b) q fuel h (found-of _ y)))
+    let y : HasPath (reported u q (searched u q fuel)) = subst HasPath e z in
+    subst (λ w. Routed w q r) same (rw e (searched-routed u (accepted-valid words u b) q fuel h (path-found u q _ y)))
 
--- Every step of a path that is found has its record in the snapshot that the words were accepted as.
+-- Every step of a path that is found, misleading or not, has its record in the snapshot that the words were accepted as.
 pub found-route : (words : List ℕ) (area : ℕ) (q : Question) (s : Snapshot) → verdict words ≡ accept s
-    → reportOf words area q .outcome ≡ 0 → Routed s (q .query) (reportOf words area q)
+    → HasPath (reportOf words area q) → Routed s (q .query) (reportOf words area q)
 found-route words area q s e z = kind-routed s e (reportOf words area q) (kind-of words area q) z
 
 -- the heads in the words
@@ -691,6 +687,6 @@ module _ (W : List ℕ) (s : Snapshot) (placed : Placed W s) (x : FindPathCtx) w
 
 -- At the place of every step of a found path the words have the head of a record that its rule uses, unless it is a keyword's.
 pub found-shown : (words : List ℕ) (area : ℕ) (q : Question) (s : Snapshot) → verdict words ≡ accept s
-    → reportOf words area q .outcome ≡ 0 → Each (Shown words) (routeSteps (reportOf words area q))
+    → HasPath (reportOf words area q) → Each (Shown words) (routeSteps (reportOf words area q))
 found-shown words area q s e z =
     path-shown words s (accepted-placed words s e) (askedContext s (q .query)) (found-route words area q s e z .path)

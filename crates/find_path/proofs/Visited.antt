@@ -24,7 +24,7 @@ use Rattle.find_path.specs.Rules.{moduleRules}
 use Rattle.find_path.specs.Local.{LocalSearch, offerEntry, importableName, location, eachLocation, calculateBestPathLocal, orLocal, findPathForModuleLocal}
 use Rattle.find_path.specs.Search.{localTo, searchLocal, bestLocal}
 use Rattle.find_path.specs.Visited.{Pairs, noPairs, insert, remove, removeAll, Handed, SetSearch, callback, worklist, bestInSet, orInSet, moduleInSet, setTo, searchInSet, OneSet, Enough}
-use Rattle.find_path.proofs.Routes.{same-item}
+use Rattle.read_back.proofs.Exact.{same-item}
 use Rattle.find_path.proofs.Walks.{has-snoc, locations-more}
 
 -- tests

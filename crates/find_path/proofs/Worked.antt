@@ -22,6 +22,8 @@ use Rattle.hir_def.specs.ItemScope.{isFor, nameOf, namesOf, preferred, get, mod
 use Rattle.hir_def.specs.Nameres.{stepsOr, stepsTo, steps, ancestorMaps, scopeEntry, entryNamed, isOther, occupied, containers, childrenOf, preludeOf, externOf, dependenciesOf, langOf, sysrootFirst}
 use Rattle.hir_def.specs.ImportMap.{importInfoFor}
 use Rattle.hir_def.proofs.Plain.{plainly}
+use Rattle.read_back.specs.Reads as Reads
+use Rattle.read_back.specs.Reads.{outward, scopesFrom, standsFor, meaning, entryOr, externNamed, externMeans, inExterns, preludeMeans, inPreludeOf, entryFrom, firstName, variantNamed, variantIn, laterName, after, lookedIn, follow, absolutely, parentMeans, readsTo, isThe, readsBack}
 use Rattle.find_path.specs.declared.Query.{Query}
 use Rattle.find_path.specs.declared.Question.{Question}
 use Rattle.find_path.specs.Choices.{nameData, isPrelude, pathKindLen, pathLen, keyword, choiceNew, extended, push, unstably, compareBool, andThen, comparePrelude, taken, better, trySelect, shorterIf, lengthLeft}
@@ -31,7 +33,7 @@ use Rattle.find_path.specs.Local.{offer, offerEntry, entryIf, importable
 use Rattle.find_path.specs.Meters.{drained, draw, fromTank, filled, counted}
 use Rattle.find_path.specs.Charged.{langs, oneOrNone, isAt, variantOf, pushVariant, offerImport, findImport, findImports, findInDep, findInDeps, findInSysroot, goOn, afterCharge, calculateBestPath, orCharged, findPathForModule, afterEnum, viaEnum, orEnum, byName, ofModule, findPathInner}
 use Rattle.find_path.specs.Search.{builtinChoice, localTo, searchLocal, bestLocal, moduleTo, searchModule, itemTo, searchItem, fromHome, fromItem, findPath}
-use Rattle.find_path.specs.Report.{callFault, questionFault, refused, flag, reported, searched, searchedFreely, answerUnless, reportBy, reportUnless, reportOf}
+use Rattle.find_path.specs.Report.{callFault, questionFault, refused, flag, misleads, outcomeBy, reported, searched, searchedFreely, answerUnless, reportBy, reportUnless, reportOf}
 use Rattle.find_path.specs.Fuels.{reportAt}
 use Rattle.find_path.specs.Line.{bytesOf, unpacked, textOf, editionIn, writtenOf, decimalTo, decimal, joined, prefixParts, pathText, lineParts, lineIn, stepText, stepsText, routeText, routedLineIn, snapshotOf, lineOf, routedLineOf}
 
@@ -50,7 +52,7 @@ row d ns m p o f l = rowAt d ns m p o f 15 l
 
 -- the lines are those of the questions
 unfoldable pub passes : List ℕ → List Row → Bool
-unfolding lineOf snapshotOf lineIn lineParts pathText prefixParts joined decimal decimalTo writtenOf editionIn isRaw isKeyword textOf unpacked reportOf reportUnless reportBy answerUnless searched reported flag refused questionFault callFault findPath fromItem builtinChoice fromHome searchItem itemTo searchModule moduleTo bestLocal searchLocal localTo findPathInner ofModule byName orEnum viaEnum afterEnum findPathForModule orCharged calculateBestPath afterCharge goOn findInSysroot findInDeps findInDep findImports findImport offerImport pushVariant isAt variantOf oneOrNone langs fromTank filled draw drained findPathForModuleLocal orLocal calculateBestPathLocal eachLocation location importableName entryIf offerEntry offer moduleRules keywordOf isKwKindRelativeToFrom parentKind rootRule externName externKind occupied isOther scopeEntry entryNamed preludeRule findInPrelude inPrelude preludeEntry sameHere scopeRule mayBeInScope findInScope single firstFound soughtOf contextOf moduleIn plainIf prefixPathKind findLocalImportLocations walk unmet leadsTo startFrom visited has lengthLeft shorterIf trySelect better taken comparePrelude andThen compareBool unstably push extended choiceNew keyword pathLen pathKindLen isPrelude nameData importInfoFor sysrootFirst langOf dependenciesOf externOf preludeOf childrenOf containers ancestorMaps steps stepsTo stepsOr modulesInScope get preferred orFirst namesOf nameOf isFor isVisibleFrom inModule climb climbStep unless met metTo metOr last lastTo lastOr homeOf homeBy nsOf sameItem itemOf containing orElse crateRoot ownMap rootOf crateData definitionOf mapOf moduleOf firstSome select placeOf firstOf verdict records stepAt recordStep finish argumentsFrom argumentsOf nameStep crateStep dependencyStep mapStep moduleStep childStep preludeStep definitionStep scopeStep importStep externStep memberStep textBound padded rows any all eqList
+unfolding lineOf snapshotOf lineIn lineParts pathText prefixParts joined decimal decimalTo writtenOf editionIn isRaw isKeyword textOf unpacked reportOf reportUnless reportBy answerUnless searched reported outcomeBy misleads flag readsBack isThe readsTo parentMeans absolutely Reads.plainly follow lookedIn after laterName variantIn variantNamed firstName entryFrom inPreludeOf preludeMeans inExterns externMeans externNamed entryOr meaning standsFor scopesFrom outward refused questionFault callFault findPath fromItem builtinChoice fromHome searchItem itemTo searchModule moduleTo bestLocal searchLocal localTo findPathInner ofModule byName orEnum viaEnum afterEnum findPathForModule orCharged calculateBestPath afterCharge goOn findInSysroot findInDeps findInDep findImports findImport offerImport pushVariant isAt variantOf oneOrNone langs fromTank filled draw drained findPathForModuleLocal orLocal calculateBestPathLocal eachLocation location importableName entryIf offerEntry offer moduleRules keywordOf isKwKindRelativeToFrom parentKind rootRule externName externKind occupied isOther scopeEntry entryNamed preludeRule findInPrelude inPrelude preludeEntry sameHere scopeRule mayBeInScope findInScope single firstFound soughtOf contextOf moduleIn plainIf prefixPathKind findLocalImportLocations walk unmet leadsTo startFrom visited has lengthLeft shorterIf trySelect better taken comparePrelude andThen compareBool unstably push extended choiceNew keyword pathLen pathKindLen isPrelude nameData importInfoFor sysrootFirst langOf dependenciesOf externOf preludeOf childrenOf containers ancestorMaps steps stepsTo stepsOr modulesInScope get preferred orFirst namesOf nameOf isFor isVisibleFrom inModule climb climbStep unless met metTo metOr last lastTo lastOr homeOf homeBy nsOf sameItem itemOf containing orElse crateRoot ownMap rootOf crateData definitionOf mapOf moduleOf firstSome select placeOf firstOf verdict records stepAt recordStep finish argumentsFrom argumentsOf nameStep crateStep dependencyStep mapStep moduleStep childStep preludeStep definitionStep scopeStep importStep externStep memberStep textBound padded rows any all eqList
 passes words table = all (λ r. eqList (lineOf words (r .question)) (bytesOf (r .line))) table
 
 -- module 0 is the root, module 1 its child `a`, definition 0 the module `a`, definition 1 a function `f` in it
@@ -77,10 +79,10 @@ unfolding passes cases rowAt
 worked-cases = refl
 
 -- a head, and the words of a name
-head : ℕ → ℕ → ℕ
+unfoldable pub head : ℕ → ℕ → ℕ
 head kind payload = kind * 0x10000000 + payload
 
-named : String → List ℕ
+unfoldable pub named : String → List ℕ
 named t = head 1 (length (bytesOf t)) ∷ packed (bytesOf t)
 
 -- Crate 0, the viewer's, depends on crate 1. Modules: 0 its root, 1 its child `m`; 2 the root of crate 1, 3 and 4 its
@@ -422,7 +424,7 @@ cycle-firsts = refl
 unfoldable pub freeLine : Snapshot → Query → List ℕ
 freeLine s q =
     let o = searchedFreely s q in
-    joined (bytesOf " ") (lineParts s (editionIn s (q .from)) (reported (record { choice = o .choice; meter = filled 0 })) ++ (decimal (o .meter) ∷ []))
+    joined (bytesOf " ") (lineParts s (editionIn s (q .from)) (reported s q (record { choice = o .choice; meter = filled 0 })) ++ (decimal (o .meter) ∷ []))
 
 unfoldable pub makes : List ℕ → List Row → Bool
 unfolding passes freeLine searchedFreely counted
@@ -520,8 +522,8 @@ oldNameCases =
     ∷ row 6 0 0 1 0 9 "none - 1 0"
     ∷ row 6 0 0 1 32 9 "found m::z 1 0"
     -- all options, and one too many
-    ∷ row 2 0 0 1 63 0 "found old 0 0"
-    ∷ row 2 0 0 1 64 0 "refused 22 0 0"
+    ∷ row 2 0 0 1 127 0 "found old 0 0"
+    ∷ row 2 0 0 1 128 0 "refused 22 0 0"
     ∷ []
 
 pub old-name-cases : passes withOldNames oldNameCases ≡ true
@@ -546,7 +548,7 @@ limitCases =
     -- a limit outside, after 22 and before 23
     ∷ rowAt 1 1 0 1 0 9 0 "refused 46 0 0"
     ∷ rowAt 1 1 0 1 0 9 16 "refused 46 0 0"
-    ∷ rowAt 1 1 0 1 64 9 16 "refused 22 0 0"
+    ∷ rowAt 1 1 0 1 128 9 16 "refused 22 0 0"
     ∷ rowAt 2 0 0 1 0 9 16 "refused 46 0 0"
     ∷ []
 
@@ -660,3 +662,52 @@ oldNameRoutes =
 pub old-name-routes : routes withOldNames oldNameRoutes ≡ true
 unfolding routes oldNameRoutes rowAt withOldNames namesWith named head
 old-name-routes = refl
+
+-- Paths that are read. One crate. Modules: 0 its root, 1 `a` below it, 2 a block in the root. Definitions: 0 `a`; 1 a function of `a`, `f` there
+-- and by an import in the root; 2 a function `f` of the block; 3 an enum `E` of the root, and 4 its variant `V`, which has a record of kind 13;
+-- 5 an enum `G` of the root, and 6 its variant `V`, which has none; 7 the builtin `u8`; 8 a function `h` of the root, for `a` alone.
+unfoldable pub withBlock : List ℕ
+withBlock =
+    named "a" ++ named "f" ++ named "E" ++ named "V" ++ named "G" ++ named "u8" ++ named "h"
+    ++ (head 2 0 ∷ 2021
+    ∷ head 4 0 ∷ 0 ∷ 0 ∷ head 5 0 ∷ 0 ∷ head 5 0 ∷ 1 ∷ head 4 0 ∷ 1 ∷ 0 ∷ head 5 1 ∷ 0 ∷ head 6 0 ∷ 1
+    -- definitions
+    ∷ head 8 1 ∷ 1 ∷ 0 ∷ head 8 4 ∷ 1 ∷ 0 ∷ head 8 4 ∷ 2 ∷ 0 ∷ head 8 4 ∷ 0 ∷ 0 ∷ head 8 2 ∷ 3 ∷ 3 ∷ head 8 4 ∷ 0 ∷ 0 ∷ head 8 2 ∷ 5 ∷ 3
+    ∷ head 8 3 ∷ 5 ∷ 0 ∷ head 8 4 ∷ 0 ∷ 0
+    -- scopes
+    ∷ head 9 0 ∷ 0 ∷ 0 ∷ 0 ∷ 3 ∷ 0 ∷ 1 ∷ 0 ∷ head 9 0 ∷ 1 ∷ 1 ∷ 1 ∷ 3 ∷ 0 ∷ 0 ∷ 0 ∷ head 9 0 ∷ 0 ∷ 2 ∷ 3 ∷ 0 ∷ 0 ∷ 1 ∷ 0
+    ∷ head 9 0 ∷ 0 ∷ 4 ∷ 5 ∷ 0 ∷ 0 ∷ 1 ∷ 0 ∷ head 9 0 ∷ 1 ∷ 6 ∷ 8 ∷ 2 ∷ 1 ∷ 1 ∷ 0
+    ∷ head 9 1 ∷ 1 ∷ 1 ∷ 1 ∷ 0 ∷ 0 ∷ 1 ∷ 0 ∷ head 9 2 ∷ 1 ∷ 1 ∷ 2 ∷ 3 ∷ 2 ∷ 1 ∷ 0
+    -- a member
+    ∷ head 13 3 ∷ 3 ∷ 4 ∷ 0 ∷ 0 ∷ [])
+
+-- Worked out by hand: without bit 64 by the search alone.
+pub readCases : List Row
+readCases =
+    -- in the block its own `f` hides the one around it, but not under `self` and `crate`
+    row 1 1 2 1 0 0 "found f 0 0 scope@65"
+    ∷ row 1 1 2 1 64 0 "misleads f 0 0 scope@65"
+    ∷ row 2 1 2 1 64 0 "found f 0 0 scope@105"
+    ∷ row 1 1 0 1 64 0 "found f 0 0 scope@65"
+    ∷ row 1 1 2 0 64 9 "found self::f 0 0 scope@65"
+    ∷ row 1 1 2 2 64 9 "found crate::a::f 1 0 keyword@0 local@57 local@97"
+    -- a variant with a record of kind 13, in values too, and one without
+    ∷ row 4 0 0 1 64 0 "found E::V 0 0 scope@73 variant@42"
+    ∷ row 4 1 2 1 64 0 "found E::V 0 0 scope@73 variant@42"
+    ∷ row 6 0 0 1 0 0 "found G::V 0 0 scope@81 variant@48"
+    ∷ row 6 0 0 1 64 0 "misleads G::V 0 0 scope@81 variant@48"
+    -- a builtin is not read
+    ∷ row 7 0 0 1 64 0 "found u8 0 0 builtin@51"
+    ∷ row 7 1 0 1 64 9 "none - 0 0"
+    -- the search takes an entry of the viewing module that is not visible there
+    ∷ row 8 1 0 1 0 0 "found h 0 0 scope@89"
+    ∷ row 8 1 0 1 64 0 "misleads h 0 0 scope@89"
+    ∷ row 8 1 1 1 64 9 "found crate::h 1 0 keyword@0 local@89"
+    -- nothing to read
+    ∷ row 8 1 1 1 64 0 "none - 0 1"
+    ∷ row 9 0 0 1 64 9 "refused 23 0 0"
+    ∷ []
+
+pub read-cases : routes withBlock readCases ≡ true
+unfolding routes readCases rowAt withBlock named head
+read-cases = refl

@@ -1,8 +1,7 @@
 -- What two fuels have to do with the search without a tank: the statement of demand 3.
 use mathlib.Core.Path.{_≡_}
 use mathlib.Core.List.{List}
-use mathlib.Core.Bool.{not}
-use mathlib.Core.Logic.{_↔_}
+use mathlib.Core.Logic.{_⊎_, _↔_}
 use Prim.Native.Nat.{ℕ, _+_, min, _≤_, _<_}
 use lib.ListN.{length, getD}
 use Rattle.snapshot.specs.Limits.{moduleLimit, nameLimit, pathLimit, fuelLimit}
@@ -14,7 +13,7 @@ use Rattle.find_path.specs.declared.Report.{Report}
 use Rattle.find_path.specs.Choices.{stepLimit}
 use Rattle.find_path.specs.Meters.{Spot}
 use Rattle.find_path.specs.Charged.{Out}
-use Rattle.find_path.specs.Report.{flag, searchedFreely, reportOf}
+use Rattle.find_path.specs.Report.{outcomeOf, searchedFreely, reportOf}
 
 -- the question with that fuel, on those words
 abbrev pub reportAt : List ℕ → ℕ → Query → ℕ → Report
@@ -22,6 +21,10 @@ reportAt words area q fuel = reportOf words area (record { query = q; fuel = fue
 
 abbrev pub IsRefused : Report → Type 0
 IsRefused r = r .outcome ≡ 2
+
+-- a path was found, misleading or not
+abbrev pub HasPath : Report → Type 0
+HasPath r = (r .outcome ≡ 0) ⊎ (r .outcome ≡ 3)
 
 -- bounds that hold of every report
 pub record Bounded (fuel : ℕ) (r : Report) : Type 0 where
@@ -45,7 +48,7 @@ NamesKnown s r = (i : ℕ) → i < r .count → getD (r .names) i 0 < length (s 
 
 -- bounds of the numbers of every report, whatever the words and the fuel
 pub record Small (r : Report) : Type 0 where
-  pub outcome : r .outcome ≤ 2
+  pub outcome : r .outcome ≤ 3
   pub number : r .number ≤ largestRefusal
   pub kind : r .kind ≤ 4
   pub names : (i : ℕ) → getD (r .names) i 0 < nameLimit
@@ -55,9 +58,9 @@ pub record Small (r : Report) : Type 0 where
   pub route : (i : ℕ) → getD (r .route) i 0 < stepLimit
   pub steps : r .steps ≤ 17
 
--- the report has the path of the search without a tank, or none where it has none
-pub record Shows (free : Out ℕ) (r : Report) : Type 0 where
-  pub outcome : r .outcome ≡ flag (not (free .choice .found))
+-- the report has the path of the search without a tank, or none where it has none; it says that this path misleads exactly where it does
+pub record Shows (s : Snapshot) (q : Query) (free : Out ℕ) (r : Report) : Type 0 where
+  pub outcome : r .outcome ≡ outcomeOf s q (free .choice)
   pub kind : r .kind ≡ free .choice .kind
   pub names : r .names ≡ free .choice .names
   pub count : r .count ≡ free .choice .count
@@ -68,13 +71,13 @@ abbrev pub noSpot : Spot
 noSpot = record { left = 0; sought = 0 }
 
 -- what one report tells of the search without a tank
-pub record Tells (fuel : ℕ) (free : Out ℕ) (r : Report) : Type 0 where
+pub record Tells (s : Snapshot) (q : Query) (fuel : ℕ) (free : Out ℕ) (r : Report) : Type 0 where
   -- it counts the smaller of its fuel and the count
   pub charges : r .charges ≡ min fuel (free .meter)
   -- it says empty exactly when its fuel is below the count
   pub empty : (r .empty ≡ 1) ↔ (fuel < free .meter)
   -- where it does not say empty, its answer is that of the search without a tank
-  pub answer : (r .empty ≡ 1 → ⊥) → Shows free r
+  pub answer : (r .empty ≡ 1 → ⊥) → Shows s q free r
 
 -- the search without a tank that lists its charges finds the same, and has as many as the count says
 pub record SameSearch (free : Out ℕ) (listing : Out (List Spot)) : Type 0 where
@@ -92,8 +95,8 @@ pub record Compared (words : List ℕ) (area : ℕ) (q : Query) (F G : ℕ) : Ty
   pub accepted : verdict words ≡ accept snapshot
   -- the reports are equal in every field exactly when the count is at most the smaller fuel
   pub equal : (reportAt words area q F ≡ reportAt words area q G) ↔ (searchedFreely snapshot q .meter ≤ F)
-  pub smaller : Tells F (searchedFreely snapshot q) (reportAt words area q F)
-  pub larger : Tells G (searchedFreely snapshot q) (reportAt words area q G)
+  pub smaller : Tells snapshot q F (searchedFreely snapshot q) (reportAt words area q F)
+  pub larger : Tells snapshot q G (searchedFreely snapshot q) (reportAt words area q G)
 
 -- Demand 3.
 abbrev pub FuelsCompared : Type 0

@@ -11,4 +11,5 @@ pub mod Line
 pub mod Fuels
 pub mod Limits
 pub mod Routes
+pub mod Reading
 pub mod Visited

@@ -4,15 +4,12 @@ use mathlib.Core.List.{List}
 use Prim.Native.Nat.{ℕ, _≤_}
 use Rattle.find_path.specs.declared.Query.{Query}
 use Rattle.find_path.specs.declared.Report.{Report}
-use Rattle.find_path.specs.Fuels.{reportAt, IsRefused}
+use Rattle.find_path.specs.Fuels.{reportAt, IsRefused, HasPath}
 
 -- the question with another limit
 abbrev pub withLimit : Query → ℕ → Query
 withLimit q n =
     record { ns = q .ns; definition = q .definition; from = q .from; prefix = q .prefix; options = q .options; limit = n }
-
-abbrev pub HasPath : Report → Type 0
-HasPath r = r .outcome ≡ 0
 
 -- a report that is no refusal and does not say empty
 pub record Whole (r : Report) : Type 0 where
@@ -20,7 +17,7 @@ pub record Whole (r : Report) : Type 0 where
   pub full : r .empty ≡ 1 → ⊥
 
 -- Of two questions that differ in the limit, and perhaps in the fuel, with no empty tank: an item that is found under the smaller limit
--- is found under the larger one, perhaps by another path.
+-- is found under the larger one, perhaps by another path; a misleading path counts as found.
 abbrev pub LimitsCompared : Type 0
 LimitsCompared =
     (words : List ℕ) (area : ℕ) (q : Query) (l m F G : ℕ) → l ≤ m

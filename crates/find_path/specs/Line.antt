@@ -3,7 +3,7 @@ use Prim.Native.Nat.{ℕ, zero, suc, _+_, _/_, _%_}
 use Prim.Native.Char.{code}
 use Prim.Native.String.{String}
 use mathlib.Core.List.{List, [], _∷_, _++_, map}
-use mathlib.Core.Bool.{true, false}
+use mathlib.Core.Bool.{true, false, _||_}
 use lib.Dec.{eqb, ltb}
 use lib.ListN.{length, getD, take}
 use Rattle.snapshot.specs.Limits.{areaLimit}
@@ -68,14 +68,17 @@ prefixParts k =
 unfoldable pub pathText : Snapshot → ℕ → Report → List ℕ
 pathText s e r = joined (bytesOf "::") (prefixParts (r .kind) ++ map (writtenOf s e) (take (r .count) (r .names)))
 
--- outcome, path, charges, empty: `-` for none, the number for refused
+-- outcome and path: `-` for none, the number for refused
 unfoldable pub lineParts : Snapshot → ℕ → Report → List (List ℕ)
 lineParts s e r =
     elim (eqb (r .outcome) 0) [
       | true ↦ bytesOf "found" ∷ pathText s e r ∷ []
       | false ↦ elim (eqb (r .outcome) 1) [
         | true ↦ bytesOf "none" ∷ bytesOf "-" ∷ []
-        | false ↦ bytesOf "refused" ∷ decimal (r .number) ∷ []
+        | false ↦ elim (eqb (r .outcome) 3) [
+          | true ↦ bytesOf "misleads" ∷ pathText s e r ∷ []
+          | false ↦ bytesOf "refused" ∷ decimal (r .number) ∷ []
+        ]
       ]
     ]
 
@@ -98,9 +101,9 @@ unfoldable pub stepsText : List ℕ → List ℕ
 stepsText [] = []
 stepsText (t ∷ ts) = bytesOf " " ++ (stepText t ++ stepsText ts)
 
--- the steps of a path that is found
+-- the steps of a path that is found, misleading or not
 unfoldable pub routeText : Report → List ℕ
-routeText r = elim (eqb (r .outcome) 0) [ true ↦ stepsText (take (r .steps) (r .route)) | false ↦ [] ]
+routeText r = elim (eqb (r .outcome) 0 || eqb (r .outcome) 3) [ true ↦ stepsText (take (r .steps) (r .route)) | false ↦ [] ]
 
 -- the line with the route
 unfoldable pub routedLineIn : Snapshot → ℕ → Report → List ℕ

@@ -3,19 +3,22 @@ use Prim.Native.Nat.{ℕ, zero, suc}
 use mathlib.Core.List.{List, []}
 use mathlib.Core.Bool.{Bool, true, false, _&&_, _||_, not}
 use lib.Dec.{eqb, ltb}
-use lib.ListN.{length, replicate}
+use lib.ListN.{length, take, replicate}
 use Rattle.snapshot.specs.Limits.{areaLimit, fuelLimit, pathLimit, namespaceLimit, prefixLimit, optionsLimit}
 use Rattle.snapshot.specs.Refusals.{areaRefusal, fuelRefusal, fieldRefusal, unknownRefusal, macroRefusal, limitRefusal}
 use Rattle.snapshot.specs.Records.{Snapshot}
 use Rattle.accept.specs.Verdict.{Verdict, refuse, accept, verdict}
-use Rattle.hir_def.specs.Items.{macros, macroKind, definitionOf}
+use Rattle.hir_def.specs.Items.{macros, macroKind, definitionOf, itemOf}
+use Rattle.read_back.specs.Reads.{readsBack}
+use Rattle.find_path.specs.declared.Choice.{Choice}
 use Rattle.find_path.specs.declared.Tank.{Tank}
 use Rattle.find_path.specs.declared.Query.{Query}
 use Rattle.find_path.specs.declared.Question.{Question}
 use Rattle.find_path.specs.declared.Report.{Report}
 use Rattle.find_path.specs.Meters.{Spot, fromTank, filled, counted, listed}
+use Rattle.find_path.specs.Rules.{bit}
 use Rattle.find_path.specs.Charged.{Out}
-use Rattle.find_path.specs.Search.{findPath}
+use Rattle.find_path.specs.Search.{isBuiltinType, findPath}
 
 -- the first of the caller's faults that needs no snapshot: 20, 21, 22, 46, or 0 for none
 unfoldable pub callFault : ℕ → Query → ℕ → ℕ
@@ -60,11 +63,26 @@ unfoldable pub flag : Bool → ℕ
 flag true = 1
 flag false = 0
 
+-- A path that was found misleads where options bit 64 has it read, and it does not read back to the item from the viewing module. A builtin
+-- in types is not read.
+unfoldable pub misleads : Snapshot → Query → Choice → Bool
+misleads s q c =
+    bit (q .options) 64
+    && (c .found && not (isBuiltinType s q || readsBack s (q .from) (itemOf s (q .ns) (q .definition)) (c .kind) (take (c .count) (c .names))))
+
+-- 0 found, 1 none, 3 found and misleading
+unfoldable pub outcomeBy : Bool → Bool → ℕ
+outcomeBy true found = 3
+outcomeBy false found = flag (not found)
+
+abbrev pub outcomeOf : Snapshot → Query → Choice → ℕ
+outcomeOf s q c = outcomeBy (misleads s q c) (c .found)
+
 -- what a search found and how, what it was charged, and whether, and where first, it found the tank empty
-unfoldable pub reported : Out Tank → Report
-reported o =
+unfoldable pub reported : Snapshot → Query → Out Tank → Report
+reported s q o =
     record {
-      outcome = flag (not (o .choice .found));
+      outcome = outcomeOf s q (o .choice);
       number = 0;
       kind = o .choice .kind;
       names = o .choice .names;
@@ -90,7 +108,7 @@ unfoldable pub searchedListing : Snapshot → Query → Out (List Spot)
 searchedListing s q = findPath (List Spot) listed s q []
 
 unfoldable pub answerUnless : Snapshot → Query → ℕ → ℕ → Report
-answerUnless s q fuel zero = reported (searched s q fuel)
+answerUnless s q fuel zero = reported s q (searched s q fuel)
 answerUnless s q fuel (suc n) = refused (suc n)
 
 unfoldable pub reportBy : Query → ℕ → Verdict → Report

@@ -16,6 +16,10 @@ use Rattle.find_path.specs.Local.{LocalSearch, calculateBestPathLocal, f
 use Rattle.find_path.specs.Meters.{Charge}
 use Rattle.find_path.specs.Charged.{Out, Search, findPathForModule, findPathInner}
 
+-- the question is for a builtin, in types
+abbrev pub isBuiltinType : Snapshot → Query → Bool
+isBuiltinType s q = eqb (q .ns) types && eqb (definitionOf s (q .definition) .kind) builtinKind
+
 -- the name of a builtin
 unfoldable pub builtinChoice : Snapshot → Definition → Choice
 builtinChoice s d = choiceNew s plainPath (d .first) (stepBy viaBuiltin (d .place))
@@ -66,4 +70,4 @@ module _ (M : Type 0) (charge : Charge M) (s : Snapshot) where
 
   -- `find_path`
   unfoldable pub findPath : Query → M → Out M
-  findPath q t = fromItem q t (eqb (q .ns) types && eqb (definitionOf s (q .definition) .kind) builtinKind)
+  findPath q t = fromItem q t (isBuiltinType s q)

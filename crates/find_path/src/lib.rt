@@ -78,7 +78,20 @@ pub struct Question {
     pub fuel: usize,
 }
 
-// A report: outcome 0 found, 1 none, 2 refused by the number; then the path, the charges, and empty 0 or 1;
+/// Outcomes of a report.
+pub struct Outcome(pub usize);
+
+impl Outcome {
+    pub const FOUND: usize = 0;
+
+    pub const NONE: usize = 1;
+
+    pub const REFUSED: usize = 2;
+    /// A path was found that means another thing in the viewing module, or nothing.
+    pub const MISLEADS: usize = 3;
+}
+
+// A report: an outcome, and the number of a refusal; then the path, the charges, and empty 0 or 1;
 // `left` and `sought` are those of the first charge that found the tank empty, 0 where none did; `route` and `steps` are the path's.
 pub struct Report {
     pub outcome: usize,

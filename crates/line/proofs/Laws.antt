@@ -306,16 +306,17 @@ pub line-whole : (s : Snapshot) (from : ℕ) {e : ℕ} (r : Report) → e ≡ ed
 unfolding lineIn lineParts
 line-whole s from r q =
     ap (λ x. joined (bytesOf " ") (lineParts s x r) ++ (bytesOf " " ++ (decimal (r .charges) ++ (bytesOf " " ++ decimal (r .empty))))) q
-    ∙ by (eqb (r .outcome) 0) (eqb (r .outcome) 1) _ _ _ _ _ _
+    ∙ by (eqb (r .outcome) 0) (eqb (r .outcome) 1) (eqb (r .outcome) 3) _ _ _ _ _ _ _ _
   where
-    by : (a b : Bool) (o p q t u v : List ℕ)
-        → joined (bytesOf " ") (elim a [ true ↦ o ∷ p ∷ [] | false ↦ elim b [ true ↦ q ∷ t ∷ [] | false ↦ u ∷ v ∷ [] ] ])
+    by : (a b c : Bool) (o p q t u v w x : List ℕ)
+        → joined (bytesOf " ") (elim a [ true ↦ o ∷ p ∷ [] | false ↦ elim b [ true ↦ q ∷ t ∷ [] | false ↦ elim c [ true ↦ w ∷ x ∷ [] | false ↦ u ∷ v ∷ [] ] ] ])
         ++ (bytesOf " " ++ (decimal (r .charges) ++ (bytesOf " " ++ decimal (r .empty))))
-        ≡ joined (bytesOf " ") (elim a [ true ↦ o ∷ p ∷ [] | false ↦ elim b [ true ↦ q ∷ t ∷ [] | false ↦ u ∷ v ∷ [] ] ]
+        ≡ joined (bytesOf " ") (elim a [ true ↦ o ∷ p ∷ [] | false ↦ elim b [ true ↦ q ∷ t ∷ [] | false ↦ elim c [ true ↦ w ∷ x ∷ [] | false ↦ u ∷ v ∷ [] ] ] ]
         ++ (decimal (r .charges) ∷ decimal (r .empty) ∷ []))
-    by true b o p q t u v = two-parts o p _ _
-    by false true o p q t u v = two-parts q t _ _
-    by false false o p q t u v = two-parts u v _ _
+    by true b c o p q t u v w x = two-parts o p _ _
+    by false true c o p q t u v w x = two-parts q t _ _
+    by false false true o p q t u v w x = two-parts w x _ _
+    by false false false o p q t u v w x = two-parts u v _ _
 
 pub found-text : (s : Snapshot) (y : ℕ) (r : Report) → r .outcome ≡ 0 → bytesOf "found " ++ pathText s y r ≡ joined (bytesOf " ") (lineParts s y r)
 unfolding lineParts joined
@@ -325,10 +326,17 @@ pub none-text : (s : Snapshot) (y : ℕ) (r : Report) → r .outcome ≡ 1 → b
 unfolding lineParts joined
 none-text s y r e = let h : (r .outcome ≡ 0 → ⊥) = λ z. omega arith in rw (lineParts, ne-eqb _ _ h, eq-eqb _ _ e)
 
-pub refused-text : (s : Snapshot) (y : ℕ) (r : Report) → (r .outcome ≡ 0 → ⊥) → (r .outcome ≡ 1 → ⊥)
+pub misleads-text : (s : Snapshot) (y : ℕ) (r : Report) → r .outcome ≡ 3 → bytesOf "misleads " ++ pathText s y r ≡ joined (bytesOf " ") (lineParts s y r)
+unfolding lineParts joined
+misleads-text s y r e =
+    let h : (r .outcome ≡ 0 → ⊥) = λ z. omega arith in
+    let k : (r .outcome ≡ 1 → ⊥) = λ z. omega arith in
+    rw (lineParts, ne-eqb _ _ h, ne-eqb _ _ k, eq-eqb _ _ e)
+
+pub refused-text : (s : Snapshot) (y : ℕ) (r : Report) → (r .outcome ≡ 0 → ⊥) → (r .outcome ≡ 1 → ⊥) → (r .outcome ≡ 3 → ⊥)
     → bytesOf "refused " ++ decimal (r .number) ≡ joined (bytesOf " ") (lineParts s y r)
 unfolding lineParts joined
-refused-text s y r a b = rw (lineParts, ne-eqb _ _ a, ne-eqb _ _ b)
+refused-text s y r a b c = rw (lineParts, ne-eqb _ _ a, ne-eqb _ _ b, ne-eqb _ _ c)
 
 pub refusal-line : (s : Snapshot) (from n : ℕ) → bytesOf "refused " ++ (decimal n ++ bytesOf " 0 0\n") ≡ lineIn s from (refused n) ++ bytesOf "\n"
 unfolding lineIn lineParts joined refused decimal decimalTo

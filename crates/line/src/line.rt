@@ -12,6 +12,7 @@ ghost use Rattle.find_path.specs.Report.{refused};
 use crate::edition::edition_in;
 use crate::path::put_path;
 use crate::text::put_number;
+use find_path::Outcome;
 use find_path::Report;
 use printing::output::put;
 use snapshot::ids::ModuleId;
@@ -22,7 +23,7 @@ pub struct LineBytes(pub usize);
 
 impl LineBytes {
     /// Bytes of a line and its end, at most: an outcome, a prefix, 16 names of 255 bytes, `r#` included, with joints, two numbers.
-    pub const LIMIT: usize = 4166;
+    pub const LIMIT: usize = 4169;
 }
 
 // Puts the charges and the flag, each after a blank.
@@ -46,17 +47,21 @@ fn put_outcome(
     edition: usize,
     r: Report,
 ) -> usize
-    requires { ⌜ Reads (now words) (now area) l × (4123 ≤ length (now out)) × (r .count ≤ 16) ⌝ }
+    requires { ⌜ Reads (now words) (now area) l × (4126 ≤ length (now out)) × (r .count ≤ 16) ⌝ }
     ensures { λ n. ⌜ Put (now (out .entry)) 0 (joined (bytesOf " ") (lineParts (snapOf (now (words .entry)) (now (area .entry)) l) edition r)) (now (out .exit)) n ⌝ }
-    ensures { λ n. ⌜ n ≤ 4123 ⌝ }
+    ensures { λ n. ⌜ n ≤ 4126 ⌝ }
 {
     let names = r.names;
-    if r.outcome == 0 {
+    if r.outcome == Outcome::FOUND {
         let a = put(out, 0, b"found ");
         return put_path(out, a, words, area, l, edition, r.kind, &names, r.count);
     }
-    if r.outcome == 1 {
+    if r.outcome == Outcome::NONE {
         return put(out, 0, b"none -");
+    }
+    if r.outcome == Outcome::MISLEADS {
+        let a = put(out, 0, b"misleads ");
+        return put_path(out, a, words, area, l, edition, r.kind, &names, r.count);
     }
     let b = put(out, 0, b"refused ");
     put_number(out, b, r.number)
@@ -71,9 +76,9 @@ pub fn put_bare(
     from: ModuleId,
     r: Report,
 ) -> usize
-    requires { ⌜ Reads (now words) (now area) l × (4165 ≤ length (now out)) × (r .count ≤ 16) ⌝ }
+    requires { ⌜ Reads (now words) (now area) l × (4168 ≤ length (now out)) × (r .count ≤ 16) ⌝ }
     ensures { λ n. ⌜ Put (now (out .entry)) 0 (lineIn (snapOf (now (words .entry)) (now (area .entry)) l) (from .0) r) (now (out .exit)) n ⌝ }
-    ensures { λ n. ⌜ n ≤ 4165 ⌝ }
+    ensures { λ n. ⌜ n ≤ 4168 ⌝ }
 {
     let edition = edition_in(words, area, l, from);
     let a = put_outcome(out, words, area, l, edition, r);

@@ -7,6 +7,7 @@ ghost use Rattle.snapshot.specs.Records.{scopeAt};
 ghost use Rattle.snapshot.specs.Layouts.{tableWords, snapOf};
 ghost use Rattle.accept.specs.Post.{Reads};
 ghost use Rattle.reach_parts.specs.Reach.{reportFor, reachIn};
+use checked::found::report_in;
 use find_path::Query;
 use find_path::Report;
 use reach_parts::Reach;
@@ -14,8 +15,6 @@ use reach_parts::Viewer;
 use reach_parts::firsts::is_met;
 use reach_parts::tally::refused;
 use reach_parts::tally::tally;
-use reports::report::reported;
-use search::inner::find_path;
 use snapshot::kind::Size;
 use snapshot::layout::Layout;
 use snapshot::record::scope_definition;
@@ -38,7 +37,7 @@ fn report_for(words: &[u32], area: &mut [u32], l: Layout, v: Viewer, h: usize) -
         options: v.options,
         limit: v.limit,
     };
-    reported(find_path(words, area, l, q, v.fuel))
+    report_in(words, area, l, q, v.fuel)
 }
 
 /// The counts of the reports for all distinct items; the tables stay.

@@ -11,7 +11,7 @@ use Rattle.accept.proofs.Bools.{each-map}
 use Rattle.hir_def.specs.Items.{sameItem}
 use Rattle.hir_def.specs.declared.Item.{Item}
 use Rattle.hir_def.specs.declared.Item.the-variants.{Mod, Def}
-use Rattle.find_path.proofs.Routes.{same-item}
+use Rattle.read_back.proofs.Exact.{same-item}
 use Rattle.reach_parts.specs.Reach.{itemIn, isMet, newFrom, distinct}
 
 -- no element is for the item of an earlier one

@@ -22,9 +22,10 @@ use Rattle.hir_def.specs.declared.Item.{Item}
 use Rattle.find_path.specs.declared.Report.{Report}
 use Rattle.find_path.specs.declared.Tank.{Tank}
 use Rattle.find_path.specs.Meters.{fromTank, filled}
-use Rattle.find_path.specs.Report.{callFault, flag, reported, searched}
+use Rattle.find_path.specs.Report.{callFault, reported, searched}
 use Rattle.find_path.proofs.Bounds.{search-fits}
 use Rattle.find_path.proofs.Refusals.{call-allowed}
+use Rattle.find_path.proofs.Outcomes.{flag-small}
 use Rattle.reach_parts.specs.declared.Viewer.{Viewer}
 use Rattle.reach_parts.specs.declared.Reach.{Reach}
 use Rattle.reach_parts.specs.Reach.{itemIn, distinct, queryFor, refusedReach, reachBy, reachUnless, reachOf, reportFor, column, namesFound, added, tallied, talliedReach, tallyAll, reachIn, sum, total}
@@ -131,11 +132,6 @@ pub last-fits : (t : List ℕ) (i n b : ℕ) → i < 20 → Within b t → n ≤
 last-fits t i n b h w f = let p = getD-set-other t i 20 (getD t i 0 + 1) 0 (omega arith) in omega (arith, w 20)
 
 -- the reports of a search
-
-flag-small : (b : Bool) → flag b ≤ 1
-unfolding flag
-flag-small true = omega arith
-flag-small false = omega arith
 
 -- a limit that is not refused
 pub record Limited (v : Viewer) : Type 0 where

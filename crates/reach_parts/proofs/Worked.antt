@@ -1,4 +1,4 @@
--- The reach on document 01's worked snapshot, computed.
+-- The reach on document 01's worked snapshot, and on one with paths that mislead, computed.
 use Prim.Native.Nat.{ℕ}
 use mathlib.Core.Path.{_≡_, refl}
 use mathlib.Core.Bool.{Bool, true}
@@ -7,7 +7,7 @@ use Prim.Native.String.{String}
 use Rattle.snapshot.specs.Lists.{all, eqList}
 use Rattle.accept.specs.Worked.{worked}
 use Rattle.find_path.specs.Line.{bytesOf}
-use Rattle.find_path.proofs.Worked.{passes}
+use Rattle.find_path.proofs.Worked.{passes, named, head, withBlock}
 use Rattle.reach_parts.specs.declared.Viewer.{Viewer}
 use Rattle.reach_parts.specs.Reach.{isMet, newFrom, distinct, reportFor, column, namesFound, added, tallied, tallyAll, reachIn, refusedReach, reachBy, reachUnless, reachOf, reachLine}
 
@@ -39,7 +39,7 @@ cases =
     ∷ row 16383 0 3 0 10001 0 "refused 20 0 0"
     ∷ row 16384 0 3 0 10001 0 "refused 21 0 0"
     ∷ row 16384 0 3 0 9 0 "refused 22 0 0"
-    ∷ row 16384 0 1 64 9 0 "refused 22 0 0"
+    ∷ row 16384 0 1 128 9 0 "refused 22 0 0"
     ∷ row 16384 2 1 0 9 0 "refused 46 0 0"
     ∷ row 16384 2 1 0 9 16 "refused 46 0 0"
     ∷ row 16384 2 1 0 9 15 "refused 23 0 0"
@@ -48,3 +48,18 @@ cases =
 pub worked-reach : passesAll worked cases ≡ true
 unfolding passesAll cases
 worked-reach = refl
+
+-- the items of the scope records: `a`, both `f`, `E`, `G` and `h`; without options bit 64 and with it
+pub readCases : List Row
+readCases =
+    row 16384 0 1 0 9 15 "0 5 0 0 0 0 0 0 0 0 0 0 0 0 0 0 0 0 1 0 5"
+    -- `h` is not visible from the root
+    ∷ row 16384 0 1 64 9 15 "0 4 0 0 0 0 0 0 0 0 0 0 0 0 0 0 0 1 1 0 4"
+    ∷ row 16384 2 1 0 9 15 "0 6 0 0 0 0 0 0 0 0 0 0 0 0 0 0 0 0 0 0 6"
+    -- nor from the block, where the root's `f` is hidden
+    ∷ row 16384 2 1 64 9 15 "0 4 0 0 0 0 0 0 0 0 0 0 0 0 0 0 0 2 0 0 4"
+    ∷ []
+
+pub read-reach : passesAll withBlock readCases ≡ true
+unfolding passesAll readCases withBlock named head
+read-reach = refl

@@ -39,9 +39,9 @@ distinct s = newFrom s [] (s .scopes)
 abbrev pub queryFor : Viewer → ℕ → ℕ → Query
 queryFor v ns d = record { ns = ns; definition = d; from = v .from; prefix = v .prefix; options = v .options; limit = v .limit }
 
--- the search for it, with all of the fuel
+-- the search for it, with all of the fuel, and its path read where the options ask for it
 unfoldable pub reportFor : Snapshot → Viewer → Scope → Report
-reportFor s v e = reported (searched s (queryFor v (e .ns) (e .definition)) (v .fuel))
+reportFor s v e = let q = queryFor v (e .ns) (e .definition) in reported s q (searched s q (v .fuel))
 
 -- where a report counts: 0 to 16 found, by its names; 17 misleads; 18 none with a full enough tank, 19 with an empty one
 unfoldable pub column : Report → ℕ

@@ -4,6 +4,7 @@ ghost use Prim.Native.Nat.{_^_, _<_, _≤_};
 ghost use Rattle.reach_parts.specs.Reach.{column as columnOf, namesFound, talliedReach, refusedReach};
 ghost use Rattle.reach_parts.specs.Within.{Within};
 use crate::Reach;
+use find_path::Outcome;
 use find_path::Report;
 
 // Where a report counts.
@@ -11,10 +12,10 @@ fn column(r: Report) -> usize
     requires { ⌜ r .empty ≤ 1 ⌝ }
     ensures { λ n. ⌜ n ≡ columnOf r ⌝ }
 {
-    if r.outcome == 0 {
+    if r.outcome == Outcome::FOUND {
         return r.count;
     }
-    if r.outcome == 1 {
+    if r.outcome == Outcome::NONE {
         return 18 + r.empty;
     }
     17
@@ -24,7 +25,7 @@ fn column(r: Report) -> usize
 fn names_found(r: Report) -> usize
     ensures { λ n. ⌜ n ≡ namesFound r ⌝ }
 {
-    if r.outcome == 0 {
+    if r.outcome == Outcome::FOUND {
         return r.count;
     }
     0

@@ -2,22 +2,25 @@
 use Prim.Native.Nat.{ℕ, zero, suc, _+_, _≤_, _<_}
 use mathlib.Core.Path.{_≡_, refl, sym, _∙_, ap, ap₂}
 use mathlib.Core.List.{List, [], _∷_, _++_, map, append-assoc}
-use mathlib.Core.Bool.{true, false, not}
+use mathlib.Core.Bool.{Bool, true, false}
 use native.Mathlib.Omega.{arith}
 use native.Mathlib.Numerals.{add-one}
 use native.Mathlib.Nat.{add-zero}
 use borrow.Author.Tests.{lt-ltb, le-ltb, lt-leb, le-leb}
 use lib.ListN.{length, length-append, take-append-drop, getD, set, take, drop}
 use lib.Seq.{take-at, drop-at, take-length, drop-drop}
+use Rattle.snapshot.specs.Records.{Snapshot}
 use Rattle.find_path.specs.declared.Found.{Found}
+use Rattle.find_path.specs.declared.Query.{Query}
 use Rattle.find_path.specs.declared.Report.{Report}
 use Rattle.find_path.specs.declared.Tank.{Tank}
 use Rattle.find_path.specs.Charged.{Out, foundOf}
-use Rattle.find_path.specs.Report.{flag, reported}
+use Rattle.find_path.specs.Report.{flag, misleads, outcomeBy, reported}
 use Rattle.reports.specs.Outcomes.{outOf}
 use Rattle.reports.specs.Written.{low, reportWords, writtenTo, Written, reportSize}
 
-pub reported-same : (f : Found) (a e : ℕ) → a ≡ flag (not (f .choice .found)) → e ≡ flag (f .meter .empty)
+pub reported-same : (s : Snapshot) (q : Query) (f : Found) (m : Bool) (a e : ℕ) → m ≡ misleads s q (f .choice) → a ≡ outcomeBy m (f .choice .found)
+    → e ≡ flag (f .meter .empty)
     → _≡_ {A = Report} (record {
       outcome = a;
       number = 0;
@@ -30,24 +33,24 @@ pub reported-same : (f : Found) (a e : ℕ) → a ≡ flag (not (f .choice .foun
       sought = f .meter .sought;
       route = f .choice .route;
       steps = f .choice .steps;
-    }) (reported (outOf f))
+    }) (reported s q (outOf f))
 unfolding reported
-reported-same f a e p q = λ i. record {
-  outcome = p i;
+reported-same s q f m a e h p k = λ i. record {
+  outcome = (p ∙ ap (λ (b : Bool). outcomeBy b (f .choice .found)) h) i;
   number = 0;
   kind = f .choice .kind;
   names = f .choice .names;
   count = f .choice .count;
   charges = f .meter .spent;
-  empty = q i;
+  empty = k i;
   left = f .meter .left;
   sought = f .meter .sought;
   route = f .choice .route;
   steps = f .choice .steps;
 }
 
-pub reported-out : (f : Found) (o : Out Tank) → f ≡ foundOf o → reported (outOf f) ≡ reported o
-reported-out f o e = ap (λ (x : Found). reported (outOf x)) e
+pub reported-out : (s : Snapshot) (q : Query) (f : Found) (o : Out Tank) → f ≡ foundOf o → reported s q (outOf f) ≡ reported s q o
+reported-out s q f o e = ap (λ (x : Found). reported s q (outOf x)) e
 
 -- numbers written from a place on
 

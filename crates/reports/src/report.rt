@@ -3,10 +3,13 @@ ghost use mathlib.Core.Path.{_≡_};
 ghost use mathlib.Core.List.{map, _++_};
 ghost use Prim.Native.Nat.{_+_, _≤_};
 ghost use lib.ListN.{length, take, drop};
-ghost use Rattle.find_path.specs.Report.{flag as flagOf, refused as refusedOf, reported as reportedOf};
+ghost use Rattle.snapshot.specs.Records.{Snapshot};
+ghost use Rattle.find_path.specs.declared.Query.{Query};
+ghost use Rattle.find_path.specs.Report.{flag as flagOf, misleads as misleadsIn, outcomeBy, refused as refusedOf, reported as reportedOf};
 ghost use Rattle.reports.specs.Outcomes.{outOf};
 ghost use Rattle.reports.specs.Written.{low as lowOf, Written};
 use find_path::Found;
+use find_path::Outcome;
 use find_path::Report;
 
 /// A refusal: all else is zero.
@@ -16,7 +19,7 @@ pub fn refused(number: usize) -> Report
     let names = [0usize; 16];
     let route = [0usize; 17];
     Report {
-        outcome: 2,
+        outcome: Outcome::REFUSED,
         number: number,
         kind: 0,
         names: names,
@@ -36,16 +39,25 @@ fn flag(b: bool) -> usize
     if b { 1 } else { 0 }
 }
 
-/// What a search found and how, what it was charged, and whether, and where first, it found the tank empty.
-pub fn reported(f: Found) -> Report
-    ensures { λ r. ⌜ r ≡ reportedOf (outOf f) ⌝ }
+fn outcome(misleads: bool, found: bool) -> usize
+    ensures { λ r. ⌜ r ≡ outcomeBy misleads found ⌝ }
+{
+    if misleads {
+        return Outcome::MISLEADS;
+    }
+    flag(!found)
+}
+
+/// What a search found and how, whether that misleads, what it was charged, and whether, and where first, it found the tank empty.
+pub fn reported(f: Found, misleads: bool) -> Report
+    ensures { λ r. ⌜ ((s : Snapshot) (q : Query) → misleads ≡ misleadsIn s q (f .choice) → r ≡ reportedOf s q (outOf f)) ⌝ }
 {
     let c = f.choice;
     let t = f.meter;
     let names = c.names;
     let route = c.route;
     Report {
-        outcome: flag(!c.found),
+        outcome: outcome(misleads, c.found),
         number: 0,
         kind: c.kind,
         names: names,

@@ -2,9 +2,10 @@
 use Prim.Native.Nat.{ℕ, _+_, _/_, _%_, _≤_, _<_}
 use mathlib.Core.Path.{_≡_, refl, sym, _∙_, ap, ap₂, subst}
 use mathlib.Core.List.{List, [], _∷_, _++_, append-assoc, append-nil}
+use mathlib.Core.Bool.{true, false, _||_}
 use native.Mathlib.Omega.{arith}
 use native.Mathlib.Numerals.{add-one}
-use borrow.Author.Tests.{eq-eqb, ne-eqb}
+use lib.Dec.{eqb}
 use lib.ListN.{length, getD, take}
 use lib.Seq.{take-suc}
 use Rattle.snapshot.specs.Limits.{areaLimit}
@@ -54,13 +55,13 @@ steps-done ts i n h k = let e : i ≡ n = omega arith in ap (λ j. stepsText (ta
 
 -- the steps of a path that is found, and of no other
 
-pub route-none : (r : Report) → (r .outcome ≡ 0 → ⊥) → [] ≡ routeText r
+pub route-none : (r : Report) → (eqb (r .outcome) 0 || eqb (r .outcome) 3) ≡ false → [] ≡ routeText r
 unfolding routeText
-route-none r h = rw (routeText, ne-eqb _ _ h)
+route-none r h = rw (routeText, h)
 
-pub route-found : (r : Report) → r .outcome ≡ 0 → stepsText (take (r .steps) (r .route)) ≡ routeText r
+pub route-found : (r : Report) → (eqb (r .outcome) 0 || eqb (r .outcome) 3) ≡ true → stepsText (take (r .steps) (r .route)) ≡ routeText r
 unfolding routeText
-route-found r e = rw (routeText, eq-eqb _ _ e)
+route-found r e = rw (routeText, e)
 
 pub routed-whole : (s : Snapshot) (from : ℕ) (r : Report) → (lineIn s from r ++ routeText r) ++ bytesOf "\n" ≡ routedLineIn s from r ++ bytesOf "\n"
 unfolding routedLineIn
@@ -70,7 +71,7 @@ routed-whole s from r = refl
 refused-routed : (s : Snapshot) (from n : ℕ) → lineIn s from (refused n) ≡ routedLineIn s from (refused n)
 unfolding routedLineIn refused
 refused-routed s from n =
-    sym (append-nil (lineIn s from (refused n))) ∙ ap (λ x. lineIn s from (refused n) ++ x) (route-none (refused n) (λ e. omega (arith, e)))
+    sym (append-nil (lineIn s from (refused n))) ∙ ap (λ x. lineIn s from (refused n) ++ x) (route-none (refused n) refl)
 
 module _ (W : List ℕ) (q : Question) (A : List ℕ) (c : Checked) (r : Report) (a : Questioned W q c A r) where
   pub few-names : r .count ≤ 16

@@ -7,6 +7,7 @@ ghost use Rattle.snapshot.specs.Layouts.{snapOf};
 ghost use Rattle.accept.specs.Post.{Reads};
 ghost use Rattle.printing.specs.Output.{Put};
 ghost use Rattle.find_path.specs.Line.{bytesOf, ruleNames, stepText, stepsText, routeText, routedLineIn};
+use find_path::Outcome;
 use find_path::Report;
 use line::line::put_bare;
 use line::text::put_number;
@@ -19,7 +20,7 @@ pub struct RoutedBytes(pub usize);
 
 impl RoutedBytes {
     /// Bytes of a line with its route and its end, at most: the line, and 17 steps of a blank, a rule, `@` and a number.
-    pub const LIMIT: usize = 4659;
+    pub const LIMIT: usize = 4662;
 }
 
 // Puts the name of one of the first four rules.
@@ -97,13 +98,14 @@ fn put_steps(out: &mut [u8], at: usize, route: &[usize], steps: usize) -> usize
     to
 }
 
-// Puts the steps of a path that is found.
+// Puts the steps of a path that is found, misleading or not.
 fn put_route(out: &mut [u8], at: usize, r: Report) -> usize
     requires { ⌜ (at + 493 ≤ length (now out)) × (r .steps ≤ 17) ⌝ }
     ensures { λ n. ⌜ Put (now (out .entry)) at (routeText r) (now (out .exit)) n ⌝ }
     ensures { λ n. ⌜ n ≤ at + 493 ⌝ }
 {
-    if r.outcome != 0 {
+    let found = (r.outcome == Outcome::FOUND) | (r.outcome == Outcome::MISLEADS);
+    if !found {
         return at;
     }
     let route = r.route;

@@ -36,7 +36,7 @@ abbrev pub prefixLimit : ℕ
 prefixLimit = 2
 
 abbrev pub optionsLimit : ℕ
-optionsLimit = 63
+optionsLimit = 127
 
 -- words of a work area that serves
 abbrev pub areaLimit : ℕ
@@ -45,7 +45,7 @@ areaLimit = 16384
 -- bytes of a buffer that serves for the line of a question, without its route and with it
 
 abbrev pub lineLimit : ℕ
-lineLimit = 4166
+lineLimit = 4169
 
 abbrev pub routedLimit : ℕ
-routedLimit = 4659
+routedLimit = 4662

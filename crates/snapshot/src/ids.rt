@@ -116,7 +116,9 @@ pub struct Options(pub usize);
 
 impl Options {
     /// All options together.
-    pub const LIMIT: usize = 63;
+    pub const LIMIT: usize = 127;
+    /// A found path is read from the viewing module.
+    pub const READ_BACK: usize = 64;
 }
 
 /// Charges that a question may make.

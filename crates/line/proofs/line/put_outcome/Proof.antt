@@ -3,7 +3,7 @@ use denote.Ref.{now}
 use native.Mathlib.Omega.{arith}
 use mathlib.Core.Path.{_≡_}
 use lib.ListN.{length}
-use Rattle.line.proofs.Laws.{found-text, none-text, refused-text}
+use Rattle.line.proofs.Laws.{found-text, none-text, misleads-text, refused-text}
 use Rattle.printing.proofs.Laws.{put-as, put-two}
 use Rattle.find_path.specs.Line.{pathText}
 use Rattle.snapshot.specs.Layouts.{snapOf}
@@ -57,18 +57,44 @@ slice-aggregate-put-3 c = search needs
 put-requires-3 : tie.Need-put-requires-3
 put-requires-3 c κs = search needs
 
-put-number-requires : tie.Need-put-number-requires
-put-number-requires c κs = search needs
+slice-aggregate-put-path-2 : tie.Need-slice-aggregate-put-path-2
+slice-aggregate-put-path-2 c = search (needs, c .before .before .before .before .before .before .before .before .before .before .before .before .before .before .before .before .before .good .1 .1 .1 .1 .1 .0)
+
+put-path-requires-2 : tie.Need-put-path-requires-2
+put-path-requires-2 c κs =
+    let s = c .before .before .before .before .before .before .before .before .before .before .before .before .before .before .before .before .before in
+    let h : 16 ≡ length (s .args .r .names) = slice-aggregate-put-path-2 c in
+    ((s .pre .0, omega (arith, s .pre .1, c .before .before .before .before .put3 .ensures .next, c .before .before .before .before .put3 .kept .0)), (s .pre .2, omega (arith, s .pre .2, h)))
 
 same-length-3 : tie.Need-same-length-3
 same-length-3 c = search needs
 
 returns-3 : tie.Need-returns-3
+unfolding pathText
 returns-3 c =
-    let s = c .before .before .before .before .before .before .before .before .before .before .before .before .before .before .before .before .before .args in
-    let p = c .before .before .before .before .before .before .put3 .ensures in
+    let s = c .before .before .before .before .before .before .before .before .before .before .before .before .before .before .before .before .before .before .before .before .args in
+    let p = c .before .before .before .before .before .before .before .put3 .ensures in
+    let q = c .before .before .put-path2 .ensures in
+    (put-as (misleads-text (snapOf (now (s .words)) (now (s .area)) (s .l)) (s .edition) (s .r) (c .before .before .before .before .before .before .before .before .before .before .if3 .taken)) (put-two p (q .0)), omega (arith, p .next, q .1))
+
+slice-aggregate-put-4 : tie.Need-slice-aggregate-put-4
+slice-aggregate-put-4 c = search needs
+
+put-requires-4 : tie.Need-put-requires-4
+put-requires-4 c κs = search needs
+
+put-number-requires : tie.Need-put-number-requires
+put-number-requires c κs = search needs
+
+same-length-4 : tie.Need-same-length-4
+same-length-4 c = search needs
+
+returns-4 : tie.Need-returns-4
+returns-4 c =
+    let s = c .before .before .before .before .before .before .before .before .before .before .before .before .before .before .before .before .before .before .before .args in
+    let p = c .before .before .before .before .before .before .put4 .ensures in
     let q = c .before .before .put-number .ensures in
-    (put-as (refused-text (snapOf (now (s .words)) (now (s .area)) (s .l)) (s .edition) (s .r) (c .before .before .before .before .before .before .before .before .before .before .before .if1 .left) (c .before .before .before .before .before .before .before .before .before .if2 .left)) (put-two p (q .0)), omega (arith, p .next, q .1))
+    (put-as (refused-text (snapOf (now (s .words)) (now (s .area)) (s .l)) (s .edition) (s .r) (c .before .before .before .before .before .before .before .before .before .before .before .before .before .if1 .left) (c .before .before .before .before .before .before .before .before .before .before .before .if2 .left) (c .before .before .before .before .before .before .before .before .before .if3 .left)) (put-two p (q .0)), omega (arith, p .next, q .1))
 
 pub put-outcome-spec : {M : Type 1} → statement M
 put-outcome-spec =
@@ -86,6 +112,12 @@ put-outcome-spec =
     returns-2
     slice-aggregate-put-3
     put-requires-3
-    put-number-requires
+    slice-aggregate-put-path-2
+    put-path-requires-2
     same-length-3
-    returns-3)
+    returns-3
+    slice-aggregate-put-4
+    put-requires-4
+    put-number-requires
+    same-length-4
+    returns-4)

@@ -4,7 +4,6 @@ use mathlib.Core.Path.{sym, ap₂, subst, _∙_}
 use denote.Ref.{now}
 use Rattle.snapshot.specs.Layouts.{snapOf}
 use Rattle.find_path.specs.Report.{reported, searched}
-use Rattle.reports.proofs.Laws.{reported-out}
 use Rattle.reach_parts.specs.Reach.{queryFor, reportFor}
 use Rattle.reach.proofs.counts.report_for.Statement.{statement}
 use Rattle.reach.proofs.counts.report_for.Tie as tie
@@ -15,8 +14,8 @@ scope-ns-requires c κs = search needs
 scope-definition-requires : tie.Need-scope-definition-requires
 scope-definition-requires c κs = search needs
 
-find-path-requires : tie.Need-find-path-requires
-find-path-requires c κs =
+report-in-requires : tie.Need-report-in-requires
+report-in-requires c κs =
     let d = c .before in
     let s = d .before .before .before .before in (
       s .pre .0 .0,
@@ -29,24 +28,21 @@ find-path-requires c κs =
       s .pre .0 .5,
     )
 
-reported-requires : tie.Need-reported-requires
-reported-requires c κs = search needs
-
 same-length : tie.Need-same-length
 same-length c = search needs
 
 returns : tie.Need-returns
 unfolding reportFor
 returns c =
-    let f = c .before .before .before in
+    let f = c .before .before in
     let d = f .before .before in
     let s = d .before .before .before .before in
     let S = snapOf (now (s .args .words)) (now (s .args .area)) (s .args .l) in (
-      c .reported .ensures ∙ reported-out (f .find-path .result) _ (f .find-path .ensures .same)
-          ∙ ap₂ (λ n m. reported (searched S (queryFor (s .args .v) n m) (s .args .v .fuel))) (d .before .scope-ns .ensures) (d .scope-definition .ensures),
-      f .find-path .ensures .tables,
+      f .report-in .ensures .0
+          ∙ ap₂ (λ n m. let q = queryFor (s .args .v) n m in reported S q (searched S q (s .args .v .fuel))) (d .before .scope-ns .ensures) (d .scope-definition .ensures),
+      f .report-in .ensures .1,
     )
 
 pub report-for-spec : {M : Type 1} → statement M
 report-for-spec =
-    tie.close (tie.spec scope-ns-requires scope-definition-requires find-path-requires reported-requires same-length returns)
+    tie.close (tie.spec scope-ns-requires scope-definition-requires report-in-requires same-length returns)

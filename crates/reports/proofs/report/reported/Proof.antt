@@ -3,14 +3,14 @@ use Rattle.reports.proofs.Laws.{reported-same}
 use Rattle.reports.proofs.report.reported.Statement.{statement}
 use Rattle.reports.proofs.report.reported.Tie as tie
 
+outcome-requires : tie.Need-outcome-requires
+outcome-requires c κs = search needs
+
 flag-requires : tie.Need-flag-requires
 flag-requires c κs = search needs
 
-flag-requires-2 : tie.Need-flag-requires-2
-flag-requires-2 c κs = search needs
-
 returns : tie.Need-returns
-returns c = reported-same (c .before .before .before .before .before .before .before .args .f) _ _ (c .before .flag .ensures) (c .flag2 .ensures)
+returns c = λ s q h. reported-same s q (c .before .before .before .before .before .before .args .f) _ _ _ h (c .before .outcome .ensures) (c .flag .ensures)
 
 pub reported-spec : {M : Type 1} → statement M
-reported-spec = tie.close (tie.spec flag-requires flag-requires-2 returns)
+reported-spec = tie.close (tie.spec outcome-requires flag-requires returns)
