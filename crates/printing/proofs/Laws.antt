@@ -60,6 +60,10 @@ pub put-start : (old text : List ℕ) (at : ℕ) → Put old at (take 0 text) ol
 put-start old text at =
     record { next = refl; same = ap (λ n. take n old) (add-zero at) ∙ sym (append-nil _); rest = refl }
 
+-- one word more, and those past it as they were
+pub past-next : (ws old : List ℕ) (k v : ℕ) → drop k ws ≡ drop k old → drop (k + 1) (set ws k v) ≡ drop (k + 1) old
+past-next ws old k v e = drop-set-lt (k + 1) ws k v (omega arith) ∙ later ws old k (k + 1) (omega arith) e
+
 -- one byte more
 pub put-next : (old out text : List ℕ) (at i v : ℕ) → Put old at (take i text) out (at + i) → at + i < length out → i < length text
     → v ≡ getD text i 0 → Put old at (take (i + 1) text) (set out (at + i) v) (at + (i + 1))

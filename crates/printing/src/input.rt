@@ -1,7 +1,7 @@
 //! Words out of bytes.
 ghost use mathlib.Core.Path.{_≡_};
 ghost use Prim.Native.Nat.{_+_, _*_, _^_, _≤_, _<_};
-ghost use lib.ListN.{length, take, getD};
+ghost use lib.ListN.{length, take, drop, getD};
 ghost use Rattle.snapshot.specs.Limits.{wordLimit};
 ghost use Rattle.printing.specs.Input.{wordIn, wordsIn};
 use snapshot::ids::WordCount;
@@ -39,10 +39,10 @@ pub fn word_in(bytes: &[u8], at: usize) -> u32
     a + 256 * b + 65536 * c + 16777216 * d
 }
 
-/// Writes the first n words of the bytes.
+/// Writes the first n words of the bytes; the words past them stay.
 pub fn words_in(bytes: &[u8], words: &mut [u32], n: usize)
     requires { ⌜ (n ≤ length (now words)) × (n ≤ wordLimit) ⌝ }
-    ensures { λ _. ⌜ take n (now (words .exit)) ≡ wordsIn (now (bytes .entry)) n ⌝ }
+    ensures { λ _. ⌜ (take n (now (words .exit)) ≡ wordsIn (now (bytes .entry)) n) × (drop n (now (words .exit)) ≡ drop n (now (words .entry))) ⌝ }
 {
     let mut k = 0;
     while k < n {

@@ -33,7 +33,7 @@ same-length-2 c = search needs
 returns-3 : tie.Need-returns-3
 returns-3 c =
     let k = c .before .before .check in
-    verdict-same _ _ (k .last .1 .0) _ (k .result) (c .before .before .before .before .before .before .before .words-in .ensures) (k .ensures .same) (omega arith) (omega arith) (c .before .before .before .before .before .before .before .before .before .if2 .left)
+    verdict-same _ _ (k .last .1 .0) _ (k .result) (c .before .before .before .before .before .before .before .words-in .ensures .0) (k .ensures .same) (omega arith) (omega arith) (c .before .before .before .before .before .before .before .before .before .if2 .left)
 
 pub verdict-spec : {M : Type 1} → statement M
 verdict-spec =
