@@ -31,12 +31,12 @@ module _ (W A : List ℕ) (q : Question) (old : List ℕ) where
 
   module _ (room : lineLimit ≤ length old) (new : List ℕ) (n : ℕ) where
     -- the line of a report that is the answer's
-    lined : (B : List ℕ) (r : Report) → Answers W A q B r → Put old 0 (lineIn (snapshotOf (verdict W)) (q .query .from) r ++ bytesOf "\n") new n
+    lined : (B : List ℕ) (r : Report) → Answers W A q B r → Put old 0 (lineIn (snapshotOf (verdict W)) (q .query .from .0) r ++ bytesOf "\n") new n
         → Lined W A q old B new n
     unfolding endedLine
     lined B r a p =
-        let e : lineIn (snapshotOf (verdict W)) (q .query .from) r ++ bytesOf "\n" ≡ endedLine W (length A) q (length old) =
-        ap (λ x. lineIn (snapshotOf (verdict W)) (q .query .from) x ++ bytesOf "\n") (a .report) ∙ sym (rw (endedLine, le-ltb _ _ room)) in
+        let e : lineIn (snapshotOf (verdict W)) (q .query .from .0) r ++ bytesOf "\n" ≡ endedLine W (length A) q (length old) =
+        ap (λ x. lineIn (snapshotOf (verdict W)) (q .query .from .0) x ++ bytesOf "\n") (a .report) ∙ sym (rw (endedLine, le-ltb _ _ room)) in
         let t = put-as e p in
         let c = t .next in
         record {
@@ -46,7 +46,7 @@ module _ (W A : List ℕ) (q : Question) (old : List ℕ) where
         }
 
     pub lined-small : length A < areaLimit → ((s : Snapshot) (from : ℕ) → Put old 0 (lineIn s from (refused areaRefusal) ++ bytesOf "\n") new n) → Lined W A q old A new n
-    lined-small h p = lined A (refused areaRefusal) (answers-small W A q (refused areaRefusal) h refl) (p (snapshotOf (verdict W)) (q .query .from))
+    lined-small h p = lined A (refused areaRefusal) (answers-small W A q (refused areaRefusal) h refl) (p (snapshotOf (verdict W)) (q .query .from .0))
 
     pub lined-large : (B : List ℕ) → areaLimit ≤ length A → B ≡ zeros areaLimit → Put old 0 (lineOf W q ++ bytesOf "\n") new n
         → Lined W A q old (B ++ drop areaLimit A) new n

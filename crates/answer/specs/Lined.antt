@@ -15,7 +15,7 @@ use Rattle.answer.specs.Answers.{areaAfter}
 -- the line of a question and its end, with a work area of so many words; nothing where there is no room for the longest line
 unfoldable pub endedLine : List ℕ → ℕ → Question → ℕ → List ℕ
 endedLine W area q room =
-    elim (ltb room lineLimit) [ true ↦ [] | false ↦ lineIn (snapshotOf (verdict W)) (q .query .from) (reportOf W area q) ++ bytesOf "\n" ]
+    elim (ltb room lineLimit) [ true ↦ [] | false ↦ lineIn (snapshotOf (verdict W)) (q .query .from .0) (reportOf W area q) ++ bytesOf "\n" ]
 
 -- W are the words; A₀ and old the work area and the bytes before the call, A and new those after it; n is what it answers
 pub record Lined (W A₀ : List ℕ) (q : Question) (old A new : List ℕ) (n : ℕ) : Type 0 where

@@ -84,7 +84,7 @@ module _ (s : Snapshot) (x : FindPathCtx) where
       → Held left (foundOf (inLang s x left item o n b))
   unfolding inLang
   held-lang left item o n true h f = f
-  held-lang left item o n false h f = held-deps left item o (oneOrNone (langOf s (x .«from_crate») n)) h f
+  held-lang left item o n false h f = held-deps left item o (oneOrNone (langOf s (x .«from_crate» .0) n)) h f
 
 -- the choice of a module search for an import can be offered
 pub record Offered (c : Choice) : Type 0 where

@@ -109,14 +109,14 @@ module _ (s : Snapshot) (x : FindPathCtx) where
     best-charged t {d} {u} e h = by-charge t d (go u) e (ap chargedBy h)
 
     -- and what follows it
-    pub go-here : (t : Tank) {c : Choice} → c ≡ bestLocal s x left item → isAt s (homeOf s item) (x .«from_crate») ≡ true
+    pub go-here : (t : Tank) {c : Choice} → c ≡ bestLocal s x left item → isAt s (homeOf s item) (x .«from_crate» .0) ≡ true
         → found c t ≡ foundOf (after (go t))
     unfolding afterCharge goOn
     go-here t e h =
         ap (λ (c : Choice). found c t) e
         ∙ sym (ap (λ (b : Bool). foundOf (goOn Tank fromTank s x (bestLocal s x) (modules s x) left item t b (x .«is_std_item»))) h)
 
-    pub go-sysroot : (t : Tank) {c : Choice} → c ≡ nothing → isAt s (homeOf s item) (x .«from_crate») ≡ false → x .«is_std_item» ≡ true
+    pub go-sysroot : (t : Tank) {c : Choice} → c ≡ nothing → isAt s (homeOf s item) (x .«from_crate» .0) ≡ false → x .«is_std_item» ≡ true
         → sysroot s x left item (record { choice = c; meter = t }) (langs (x .«prefer_no_std»)) (isStable c) ≡ after (go t)
     unfolding afterCharge goOn
     go-sysroot t e h k =
@@ -125,11 +125,11 @@ module _ (s : Snapshot) (x : FindPathCtx) where
         (ap (λ (b : Bool). goOn Tank fromTank s x (bestLocal s x) (modules s x) left item t b (x .«is_std_item»)) h
         ∙ ap (λ (b : Bool). goOn Tank fromTank s x (bestLocal s x) (modules s x) left item t false b) k)
 
-    pub go-dependencies : (t : Tank) {c : Choice} → c ≡ nothing → isAt s (homeOf s item) (x .«from_crate») ≡ false → x .«is_std_item» ≡ false
-        → dependencies s x left item (record { choice = c; meter = t }) (dependenciesOf s (x .«from_crate»)) ≡ after (go t)
+    pub go-dependencies : (t : Tank) {c : Choice} → c ≡ nothing → isAt s (homeOf s item) (x .«from_crate» .0) ≡ false → x .«is_std_item» ≡ false
+        → dependencies s x left item (record { choice = c; meter = t }) (dependenciesOf s (x .«from_crate» .0)) ≡ after (go t)
     unfolding afterCharge goOn
     go-dependencies t e h k =
-        ap (λ (c : Choice). dependencies s x left item (record { choice = c; meter = t }) (dependenciesOf s (x .«from_crate»))) e
+        ap (λ (c : Choice). dependencies s x left item (record { choice = c; meter = t }) (dependenciesOf s (x .«from_crate» .0))) e
         ∙ sym
         (ap (λ (b : Bool). goOn Tank fromTank s x (bestLocal s x) (modules s x) left item t b (x .«is_std_item»)) h
         ∙ ap (λ (b : Bool). goOn Tank fromTank s x (bestLocal s x) (modules s x) left item t false b) k)
@@ -156,17 +156,17 @@ module _ (s : Snapshot) (x : FindPathCtx) where
     lang-stable o n true e = refl
     lang-stable o n false e = absurd (false≢true e)
 
-    lang-by : (o : Out Tank) (n : ℕ) (b : Bool) (d : Option Dependency) → b ≡ false → d ≡ langOf s (x .«from_crate») n
+    lang-by : (o : Out Tank) (n : ℕ) (b : Bool) (d : Option Dependency) → b ≡ false → d ≡ langOf s (x .«from_crate» .0) n
         → dependencies s x left item o (oneOrNone d) ≡ inLang s x left item o n b
     unfolding inLang
     lang-by o n true d e h = absurd (false≢true (sym e))
     lang-by o n false d e h = ap (λ (y : Option Dependency). dependencies s x left item o (oneOrNone y)) h
 
-    pub lang-none : (o : Out Tank) (n : ℕ) (b : Bool) → b ≡ false → none ≡ langOf s (x .«from_crate») n → o ≡ inLang s x left item o n b
+    pub lang-none : (o : Out Tank) (n : ℕ) (b : Bool) → b ≡ false → none ≡ langOf s (x .«from_crate» .0) n → o ≡ inLang s x left item o n b
     unfolding findInDeps oneOrNone
     lang-none o n b e h = lang-by o n b none e h
 
-    pub lang-some : (o : Out Tank) (n : ℕ) (b : Bool) (d : Dependency) → b ≡ false → some d ≡ langOf s (x .«from_crate») n
+    pub lang-some : (o : Out Tank) (n : ℕ) (b : Bool) (d : Dependency) → b ≡ false → some d ≡ langOf s (x .«from_crate» .0) n
         → imports s x left o (importInfoFor s (d .crate) item) ≡ inLang s x left item o n b
     unfolding findInDeps findInDep oneOrNone
     lang-some o n b d e h = lang-by o n b (some d) e h
@@ -178,14 +178,14 @@ module _ (s : Snapshot) (x : FindPathCtx) where
     deps-append o [] es = refl
     deps-append o (d ∷ ds) es = deps-append _ ds es
 
-    sysroot-parts : select (bySysroot (x .«from_crate») true) (s .dependencies) ++ select (bySysroot (x .«from_crate») false) (s .dependencies) ≡ sysrootFirst s (x .«from_crate»)
+    sysroot-parts : select (bySysroot (x .«from_crate» .0) true) (s .dependencies) ++ select (bySysroot (x .«from_crate» .0) false) (s .dependencies) ≡ sysrootFirst s (x .«from_crate» .0)
     unfolding sysrootFirst dependenciesOf
     sysroot-parts =
         sym
-        (ap (λ (l : List Dependency). l ++ select (λ d. not (isSysroot d)) (select (isDependency (x .«from_crate»)) (s .dependencies)))
-        (select-select isSysroot (isDependency (x .«from_crate»)) (s .dependencies))
-        ∙ ap (λ (l : List Dependency). select (bySysroot (x .«from_crate») true) (s .dependencies) ++ l)
-        (select-select (λ d. not (isSysroot d)) (isDependency (x .«from_crate»)) (s .dependencies)))
+        (ap (λ (l : List Dependency). l ++ select (λ d. not (isSysroot d)) (select (isDependency (x .«from_crate» .0)) (s .dependencies)))
+        (select-select isSysroot (isDependency (x .«from_crate» .0)) (s .dependencies))
+        ∙ ap (λ (l : List Dependency). select (bySysroot (x .«from_crate» .0) true) (s .dependencies) ++ l)
+        (select-select (λ d. not (isSysroot d)) (isDependency (x .«from_crate» .0)) (s .dependencies)))
 
     pub rest-stable : (o : Out Tank) (b : Bool) → b ≡ true → o ≡ sysroot s x left item o [] b
     unfolding findInSysroot
@@ -193,8 +193,8 @@ module _ (s : Snapshot) (x : FindPathCtx) where
     rest-stable o false e = absurd (false≢true e)
 
     pub rest-more : (o : Out Tank) (b : Bool) → b ≡ false
-        → dependencies s x left item (dependencies s x left item o (select (bySysroot (x .«from_crate») true) (s .dependencies)))
-        (select (bySysroot (x .«from_crate») false) (s .dependencies))
+        → dependencies s x left item (dependencies s x left item o (select (bySysroot (x .«from_crate» .0) true) (s .dependencies)))
+        (select (bySysroot (x .«from_crate» .0) false) (s .dependencies))
         ≡ sysroot s x left item o [] b
     unfolding findInSysroot
     rest-more o true e = absurd (false≢true (sym e))

@@ -80,16 +80,16 @@ lang-run {W} {A₀} {A} {B} {l} {x} {a} {r} left item n ls o p d e =
 -- the dependencies of the sysroot, then the others
 pub rest-run : {W A₀ A B : List ℕ} {l : Layout} {x : FindPathCtx} {a r : Found} (left : ℕ) (item : Item) (o : Found)
     → Prepared W A₀ l x → isStable (o .choice) ≡ false
-    → Searched A₀ (dependencies (snapOf W A₀ l) x left item (outOf o) (select (bySysroot (x .«from_crate») true) (snapOf W A₀ l .dependencies))) A a
-    → Searched A (dependencies (snapOf W A l) x left item (outOf a) (select (bySysroot (x .«from_crate») false) (snapOf W A l .dependencies))) B r
+    → Searched A₀ (dependencies (snapOf W A₀ l) x left item (outOf o) (select (bySysroot (x .«from_crate» .0) true) (snapOf W A₀ l .dependencies))) A a
+    → Searched A (dependencies (snapOf W A l) x left item (outOf a) (select (bySysroot (x .«from_crate» .0) false) (snapOf W A l .dependencies))) B r
     → Searched A₀ (sysroot (snapOf W A₀ l) x left item (outOf o) [] (isStable (o .choice))) B r
 rest-run {W} {A₀} {A} {B} {l} {x} {a} {r} left item o p h d e =
     let S = snapOf W A₀ l in
-    let k = later W A₀ A l x p (d .tables) (λ (s : Snapshot). dependencies s x left item (outOf a) (select (bySysroot (x .«from_crate») false) (s .dependencies))) e in
+    let k = later W A₀ A l x p (d .tables) (λ (s : Snapshot). dependencies s x left item (outOf a) (select (bySysroot (x .«from_crate» .0) false) (s .dependencies))) e in
     record {
       same =
           k .same
-          ∙ ap (λ (y : Found). foundOf (dependencies S x left item (outOf y) (select (bySysroot (x .«from_crate») false) (S .dependencies)))) (d .same)
+          ∙ ap (λ (y : Found). foundOf (dependencies S x left item (outOf y) (select (bySysroot (x .«from_crate» .0) false) (S .dependencies)))) (d .same)
           ∙ ap foundOf (rest-more S x left item (outOf o) _ h);
       tables = k .tables;
     }

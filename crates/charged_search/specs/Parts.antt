@@ -45,7 +45,7 @@ module _ (s : Snapshot) (x : FindPathCtx) where
   -- one language of the sysroot, unless the choice is stable
   unfoldable pub inLang : ℕ → Item → Out Tank → ℕ → Bool → Out Tank
   inLang left item o lang true = o
-  inLang left item o lang false = dependencies left item o (oneOrNone (langOf s (x .«from_crate») lang))
+  inLang left item o lang false = dependencies left item o (oneOrNone (langOf s (x .«from_crate» .0) lang))
 
 -- a search with a length left can begin
 pub record Begun (W A : List ℕ) (l : Layout) (x : FindPathCtx) (left : ℕ) : Type 0 where

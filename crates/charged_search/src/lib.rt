@@ -128,7 +128,7 @@ fn search_charged(
     ensures { λ r. ⌜ Searched (now (area .entry)) (afterCharge Tank fromTank (snapOf (now (words .entry)) (now (area .entry)) l) x (bestLocal (snapOf (now (words .entry)) (now (area .entry)) l) x) (modules (snapOf (now (words .entry)) (now (area .entry)) l) x) left item (go t)) (now (area .exit)) r ⌝ }
 {
     let home = home_of(words, l, item);
-    if is_at(words, area, l, home, Crate(x.from_crate)) {
+    if is_at(words, area, l, home, x.from_crate) {
         let choice = calculate_best_path_local(words, area, l, x, left, item);
         return Found {
             choice: choice,
@@ -184,7 +184,7 @@ fn find_in_lang(
     if is_stable(choice) {
         return o;
     }
-    let Entry::At(h) = lang_of(words, l, Crate(x.from_crate), lang) else {
+    let Entry::At(h) = lang_of(words, l, x.from_crate, lang) else {
         return o;
     };
     find_in_dep(words, area, l, x, left, item, dependency_crate(words, h), o)
@@ -223,13 +223,12 @@ fn find_in_deps_by_sysroot(
     o: Found,
 ) -> Found
     requires { ⌜ Begun (now words) (now area) l x left × Held left o ⌝ }
-    ensures { λ r. ⌜ Searched (now (area .entry)) (dependencies (snapOf (now (words .entry)) (now (area .entry)) l) x left item (outOf o) (select (bySysroot (x .«from_crate») inside) ((snapOf (now (words .entry)) (now (area .entry)) l) .dependencies))) (now (area .exit)) r ⌝ }
+    ensures { λ r. ⌜ Searched (now (area .entry)) (dependencies (snapOf (now (words .entry)) (now (area .entry)) l) x left item (outOf o) (select (bySysroot (x .«from_crate» .0) inside) ((snapOf (now (words .entry)) (now (area .entry)) l) .dependencies))) (now (area .exit)) r ⌝ }
 {
-    let c = Crate(x.from_crate);
     let mut best = o;
     let mut k = 0;
     while k < l.dependencies {
-        let Next::Record(j, h) = next_by_sysroot(words, l, k, c, inside) else {
+        let Next::Record(j, h) = next_by_sysroot(words, l, k, x.from_crate, inside) else {
             return best;
         };
         best = find_in_dep(
@@ -258,13 +257,12 @@ fn find_in_deps(
     o: Found,
 ) -> Found
     requires { ⌜ Begun (now words) (now area) l x left × Held left o ⌝ }
-    ensures { λ r. ⌜ Searched (now (area .entry)) (dependencies (snapOf (now (words .entry)) (now (area .entry)) l) x left item (outOf o) (dependenciesOf (snapOf (now (words .entry)) (now (area .entry)) l) (x .«from_crate»))) (now (area .exit)) r ⌝ }
+    ensures { λ r. ⌜ Searched (now (area .entry)) (dependencies (snapOf (now (words .entry)) (now (area .entry)) l) x left item (outOf o) (dependenciesOf (snapOf (now (words .entry)) (now (area .entry)) l) (x .«from_crate» .0))) (now (area .exit)) r ⌝ }
 {
-    let c = Crate(x.from_crate);
     let mut best = o;
     let mut k = 0;
     while k < l.dependencies {
-        let Next::Record(j, h) = next_dependency(words, l, k, c) else {
+        let Next::Record(j, h) = next_dependency(words, l, k, x.from_crate) else {
             return best;
         };
         best = find_in_dep(

@@ -82,16 +82,16 @@ same-fault a b q fuel h k = rw (callFault, le-ltb _ _ h, le-ltb _ _ k)
 -- faults of a question
 
 module _ (s : Snapshot) (q : Query) (D M : ℕ) (d : length (s .definitions) ≡ D) (m : length (s .modules) ≡ M) where
-  pub unknown : (ltb (q .definition) D && ltb (q .from) M) ≡ false → unknownRefusal ≡ questionFault s q
+  pub unknown : (ltb (q .definition .0) D && ltb (q .from .0) M) ≡ false → unknownRefusal ≡ questionFault s q
   unfolding questionFault
   unknown h = rw (questionFault, d, m, h)
 
-  pub no-macro : (k : ℕ) → (ltb (q .definition) D && ltb (q .from) M) ≡ true → k ≡ definitionOf s (q .definition) .kind
+  pub no-macro : (k : ℕ) → (ltb (q .definition .0) D && ltb (q .from .0) M) ≡ true → k ≡ definitionOf s (q .definition .0) .kind
       → (eqb (q .ns) 2 && not (eqb k 5)) ≡ true → macroRefusal ≡ questionFault s q
   unfolding questionFault
   no-macro k h e t = let t′ = rw e at t in rw (questionFault, d, m, h, t′)
 
-  pub sound : (k : ℕ) → (ltb (q .definition) D && ltb (q .from) M) ≡ true → k ≡ definitionOf s (q .definition) .kind
+  pub sound : (k : ℕ) → (ltb (q .definition .0) D && ltb (q .from .0) M) ≡ true → k ≡ definitionOf s (q .definition .0) .kind
       → (eqb (q .ns) 2 && not (eqb k 5)) ≡ false → 0 ≡ questionFault s q
   unfolding questionFault
   sound k h e t = let t′ = rw e at t in rw (questionFault, d, m, h, t′)
@@ -100,9 +100,9 @@ module _ (s : Snapshot) (q : Query) (D M : ℕ) (d : length (s .definitions) ≡
   both true b e = (refl, e)
   both false b e = absurd (false≢true e)
 
-  pub fault-known : 0 ≡ questionFault s q → (q .definition < D) × (q .from < M)
+  pub fault-known : 0 ≡ questionFault s q → (q .definition .0 < D) × (q .from .0 < M)
   fault-known e =
-      by-test (ltb (q .definition) D && ltb (q .from) M)
+      by-test (ltb (q .definition .0) D && ltb (q .from .0) M)
       (λ t. let p = both _ _ t in (ltb-true _ _ (p .0), ltb-true _ _ (p .1)))
       (λ t. absurd (omega (arith, e, unknown t)))
 

@@ -32,7 +32,7 @@ read true true false d e = refl
 read true false c d e = absurd (true≢false e)
 read false b c d e = absurd (true≢false e)
 
-module _ (s : Snapshot) (q : Query) (c : Choice) {k : ℕ} (e : k ≡ definitionOf s (q .definition) .kind) where
+module _ (s : Snapshot) (q : Query) (c : Choice) {k : ℕ} (e : k ≡ definitionOf s (q .definition .0) .kind) where
   -- what the code tests
   abbrev builtin : ℕ → Bool
   builtin n = eqb (q .ns) types && eqb n builtinKind
@@ -41,18 +41,18 @@ module _ (s : Snapshot) (q : Query) (c : Choice) {k : ℕ} (e : k ≡ definition
   asked = eqb (q .options / 64 % 2) 1
 
   abbrev back : Bool
-  back = readsBack s (q .from) (itemOf s (q .ns) (q .definition)) (c .kind) (take (c .count) (c .names))
+  back = readsBack s (q .from .0) (itemOf s (q .ns) (q .definition .0)) (c .kind) (take (c .count) (c .names))
 
   pub not-read : not (asked && (c .found && not (builtin k))) ≡ true → false ≡ misleads s q c
   unfolding misleads
   not-read t = unread asked (c .found) (builtin k) back t ∙ ap (λ n. asked && (c .found && not (builtin n || back))) e
 
-  pub is-read : not (asked && (c .found && not (builtin k))) ≡ false → {item : Item} → item ≡ itemOf s (q .ns) (q .definition)
-      → {b : Bool} → b ≡ readsBack s (q .from) item (c .kind) (take (c .count) (c .names)) → not b ≡ misleads s q c
+  pub is-read : not (asked && (c .found && not (builtin k))) ≡ false → {item : Item} → item ≡ itemOf s (q .ns) (q .definition .0)
+      → {b : Bool} → b ≡ readsBack s (q .from .0) item (c .kind) (take (c .count) (c .names)) → not b ≡ misleads s q c
   unfolding misleads
   is-read t {item} i {b} r =
       read asked (c .found) (builtin k) b t
-      ∙ ap (λ d. asked && (c .found && not (builtin k || d))) (r ∙ ap (λ x. readsBack s (q .from) x (c .kind) (take (c .count) (c .names))) i)
+      ∙ ap (λ d. asked && (c .found && not (builtin k || d))) (r ∙ ap (λ x. readsBack s (q .from .0) x (c .kind) (take (c .count) (c .names))) i)
       ∙ ap (λ n. asked && (c .found && not (builtin n || back))) e
 
 -- a path has at most sixteen names

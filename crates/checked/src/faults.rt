@@ -8,7 +8,6 @@ ghost use Rattle.checked.specs.Order.{earlierOf, numberOf};
 use accept::check::Checked;
 use find_path::Query;
 use hir_def::items::kind_of;
-use snapshot::ids::DefinitionId;
 use snapshot::ids::DefinitionKind;
 use snapshot::ids::Fuel;
 use snapshot::ids::Namespace;
@@ -47,8 +46,8 @@ pub fn question_fault(words: &[u32], l: Layout, q: Query) -> usize
     requires { ⌜ wordCount l < 2 ^ 32 ⌝ }
     ensures { λ r. ⌜ ((A : List ℕ) → r ≡ questionFault (snapOf (now (words .entry)) A l) q) ⌝ }
 {
-    let unknown = !((q.definition < l.definitions) & (q.from < l.modules));
-    let kind = kind_of(words, l, DefinitionId(q.definition));
+    let unknown = !((q.definition.0 < l.definitions) & (q.from.0 < l.modules));
+    let kind = kind_of(words, l, q.definition);
     let misfit = (q.ns == Namespace::MACROS) & (kind != DefinitionKind::MACRO);
     if unknown {
         return Refusal::UNKNOWN;

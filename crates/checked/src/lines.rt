@@ -11,7 +11,6 @@ use find_path::Question;
 pub use line::line::LineBytes;
 use line::line::put_line;
 pub use line::line::put_refusal;
-use snapshot::ids::ModuleId;
 
 /// Puts the line of a question on checked words and its end at the front, and answers its length. The words stay checked.
 pub fn line_on(
@@ -27,6 +26,6 @@ pub fn line_on(
     let r = report_on(words, area, c, question);
     match c {
         Checked::Refused(_, _) => put_refusal(out, r.number),
-        Checked::Accepted(l) => put_line(out, words, area, l, ModuleId(question.query.from), r),
+        Checked::Accepted(l) => put_line(out, words, area, l, question.query.from, r),
     }
 }

@@ -184,7 +184,7 @@ module _ (s : Snapshot) (x : FindPathCtx) where
   unfolding rootRule
   root-fits l b m =
       either-fits (suc l) (eqb (crateRoot s m) m) _ _
-      (either-fits (suc l) (not b || eqb m (x .«crate_root»)) _ _ (keyword-fits (suc l) cratePath) (extern-fits l m (externOf s (x .«from_crate») m)))
+      (either-fits (suc l) (not b || eqb m (x .«crate_root» .0)) _ _ (keyword-fits (suc l) cratePath) (extern-fits l m (externOf s (x .«from_crate» .0) m)))
       (nothing-fits (suc l))
 
   keyword-of-fits : (l : ℕ) (k : Option ℕ) → Fits s (suc l) (keywordOf s x k)
@@ -271,10 +271,10 @@ module _ (M : Type 0) (charge : Charge M) (s : Snapshot) where
         → Fits s (suc l) (findInSysroot M charge s x here rec (suc l) item o ls b .choice)
     unfolding findInSysroot
     sysroot-fits l item o [] true f = f
-    sysroot-fits l item o [] false f = deps-fit l item o (sysrootFirst s (x .«from_crate»)) f
+    sysroot-fits l item o [] false f = deps-fit l item o (sysrootFirst s (x .«from_crate» .0)) f
     sysroot-fits l item o (n ∷ ls) true f = f
     sysroot-fits l item o (n ∷ ls) false f =
-        sysroot-fits l item _ ls _ (deps-fit l item o (oneOrNone (langOf s (x .«from_crate») n)) f)
+        sysroot-fits l item _ ls _ (deps-fit l item o (oneOrNone (langOf s (x .«from_crate» .0) n)) f)
 
     go-fits : (l : ℕ) (item : Item) (t : M) (a b : Bool) → Fits s (suc l) (goOn M charge s x here rec (suc l) item t a b .choice)
     unfolding goOn

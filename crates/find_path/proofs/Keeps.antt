@@ -48,10 +48,10 @@ module _ (M : Type 0) (charge : Charge M) (s : Snapshot) (P : M → Type 0) (kep
     pub sysroot-keeps : (left : ℕ) (item : Item) (o : Out M) (ls : List ℕ) (b : Bool) → P (o .meter) → P (findInSysroot M charge s x here rec left item o ls b .meter)
     unfolding findInSysroot
     sysroot-keeps left item o [] true h = h
-    sysroot-keeps left item o [] false h = deps-keep left item o (sysrootFirst s (x .«from_crate»)) h
+    sysroot-keeps left item o [] false h = deps-keep left item o (sysrootFirst s (x .«from_crate» .0)) h
     sysroot-keeps left item o (l ∷ ls) true h = h
     sysroot-keeps left item o (l ∷ ls) false h =
-        sysroot-keeps left item _ ls _ (deps-keep left item o (oneOrNone (langOf s (x .«from_crate») l)) h)
+        sysroot-keeps left item _ ls _ (deps-keep left item o (oneOrNone (langOf s (x .«from_crate» .0) l)) h)
 
     pub go-keeps : (left : ℕ) (item : Item) (t : M) (a b : Bool) → P t → P (goOn M charge s x here rec left item t a b .meter)
     unfolding goOn

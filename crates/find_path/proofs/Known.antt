@@ -183,7 +183,7 @@ module _ (s : Snapshot) (P : Scope → Type 0) (all : Each P (s .scopes)) where
   module _ (x : FindPathCtx) where
     pub scope-held : (item : Item) → Held P (findInScope s x item)
     unfolding findInScope scopeEntry
-    scope-held item = some-held P _ (ancestorMaps s (x .from)) (λ a. preferred-held (x .fresh) a item _ _ (names-held a item _))
+    scope-held item = some-held P _ (ancestorMaps s (x .from .0)) (λ a. preferred-held (x .fresh) a item _ _ (names-held a item _))
 
     prelude-entry-held : (item : Item) (o : Option Scope) → Held P o → Held P (preludeEntry s x item o)
     unfolding preludeEntry
@@ -197,7 +197,7 @@ module _ (s : Snapshot) (P : Scope → Type 0) (all : Each P (s .scopes)) where
 
     pub prelude-held : (item : Item) → Held P (findInPrelude s x item)
     unfolding findInPrelude
-    prelude-held item = in-prelude-held item (preludeOf s (mapNo s (x .from)))
+    prelude-held item = in-prelude-held item (preludeOf s (mapNo s (x .from .0)))
 
     entry-if-held : (o : Option Scope) → Held P o → Held P (entryIf s x o)
     unfolding entryIf
@@ -314,8 +314,8 @@ module _ (s : Snapshot) (r : Ranges (countsOf s) s) where
     unfolding rootRule
     root-known b m =
         either-known (eqb (crateRoot s m) m) _ _
-        (either-known (not b || eqb m (x .«crate_root»)) _ _ (keyword-known cratePath (omega arith))
-        (extern-known m (externOf s (x .«from_crate») m) (extern-held s (ExternFits (countsOf s)) (r .externs) (x .«from_crate») m)))
+        (either-known (not b || eqb m (x .«crate_root» .0)) _ _ (keyword-known cratePath (omega arith))
+        (extern-known m (externOf s (x .«from_crate» .0) m) (extern-held s (ExternFits (countsOf s)) (r .externs) (x .«from_crate» .0) m)))
         nothing-known
 
     parent-small : (m p : ℕ) → KindSmall (parentKind s x m p)
@@ -323,13 +323,13 @@ module _ (s : Snapshot) (r : Ranges (countsOf s) s) where
     parent-small m zero = tt
     parent-small m (suc p) =
         either-small (eqb m p) _ _
-        (either-small (eqb p (rootOf s (mapNo s (x .from)))) (some cratePath) (some superPath) (omega arith) (omega arith)) tt
+        (either-small (eqb p (rootOf s (mapNo s (x .from .0)))) (some cratePath) (some superPath) (omega arith) (omega arith)) tt
 
     kind-small : (m : ℕ) → KindSmall (isKwKindRelativeToFrom s x m)
     unfolding isKwKindRelativeToFrom
     kind-small m =
-        either-small (not (eqb (crateOf s m) (crateOf s (x .from))) || (inBlock s m || inBlock s (x .from))) none _ tt
-        (either-small (eqb m (x .from)) (some selfPath) _ (omega arith) (parent-small m (parentOf s (x .from))))
+        either-small (not (eqb (crateOf s m) (crateOf s (x .from .0))) || (inBlock s m || inBlock s (x .from .0))) none _ tt
+        (either-small (eqb m (x .from .0)) (some selfPath) _ (omega arith) (parent-small m (parentOf s (x .from .0))))
 
     keyword-of-known : (k : Option ℕ) → KindSmall k → Known s (keywordOf s x k)
     unfolding keywordOf
@@ -414,10 +414,10 @@ module _ (M : Type 0) (charge : Charge M) (s : Snapshot) (r : Ranges (countsOf s
         → Known s (findInSysroot M charge s x here rec left item o ls b .choice)
     unfolding findInSysroot
     sysroot-known left item o [] true f = f
-    sysroot-known left item o [] false f = deps-known left item o (sysrootFirst s (x .«from_crate»)) f
+    sysroot-known left item o [] false f = deps-known left item o (sysrootFirst s (x .«from_crate» .0)) f
     sysroot-known left item o (n ∷ ls) true f = f
     sysroot-known left item o (n ∷ ls) false f =
-        sysroot-known left item _ ls _ (deps-known left item o (oneOrNone (langOf s (x .«from_crate») n)) f)
+        sysroot-known left item _ ls _ (deps-known left item o (oneOrNone (langOf s (x .«from_crate» .0) n)) f)
 
     go-known : (left : ℕ) (item : Item) (t : M) (a b : Bool) → Known s (goOn M charge s x here rec left item t a b .choice)
     unfolding goOn
@@ -499,13 +499,13 @@ module _ (M : Type 0) (charge : Charge M) (s : Snapshot) (r : Ranges (countsOf s
   home-known q item t zero = nothing-known
   home-known q item t (suc home) = itemTo-known (contextOf s q home) 2 item t
 
-  start-known : (q : Query) (t : M) (b : Bool) → (b ≡ true → definitionOf s (q .definition) .kind ≡ builtinKind)
+  start-known : (q : Query) (t : M) (b : Bool) → (b ≡ true → definitionOf s (q .definition .0) .kind ≡ builtinKind)
       → Known s (fromItem M charge s q t b .choice)
   unfolding fromItem builtinChoice
   start-known q t true k =
       let e = k refl in
-      let f = definition-known s r (q .definition) 2 e in
-      new-known s plainPath _ _ (omega arith) (by-rule (definitionOf s (q .definition) .first) 0 _ (f .builtin e) (omega arith) (f .place))
+      let f = definition-known s r (q .definition .0) 2 e in
+      new-known s plainPath _ _ (omega arith) (by-rule (definitionOf s (q .definition .0) .first) 0 _ (f .builtin e) (omega arith) (f .place))
   start-known q t false k = home-known q _ t _
 
   -- Every path that a search finds has names of the snapshot alone.
@@ -513,7 +513,7 @@ module _ (M : Type 0) (charge : Charge M) (s : Snapshot) (r : Ranges (countsOf s
   unfolding findPath
   search-known q t =
       start-known q t _
-      (λ e. eqb-true _ _ (and-right (eqb (q .ns) types) (eqb (definitionOf s (q .definition) .kind) builtinKind) e))
+      (λ e. eqb-true _ _ (and-right (eqb (q .ns) types) (eqb (definitionOf s (q .definition .0) .kind) builtinKind) e))
 
 -- what the search of a question on accepted words finds
 pub searched-known : (words : List ℕ) (s : Snapshot) → verdict words ≡ accept s → (q : Query) (fuel : ℕ) → Known s (searched s q fuel .choice)

@@ -162,7 +162,7 @@ module _ (s : Snapshot) (x : FindPathCtx) (n : ℕ) where
   here-same item (some e) = refl
 
   usable : (item : Item) (e : Scope) → isUsable s x item e ≡ isUsable s y item e
-  usable item e = λ i. sees s (x .from) e && here-same item (entryNamed s (x .from) (nsOf item) (e .name)) i
+  usable item e = λ i. sees s (x .from .0) e && here-same item (entryNamed s (x .from .0) (nsOf item) (e .name)) i
 
   entry-same : (item : Item) (e : Option Scope) → preludeEntry s x item e ≡ preludeEntry s y item e
   unfolding preludeEntry
@@ -176,7 +176,7 @@ module _ (s : Snapshot) (x : FindPathCtx) (n : ℕ) where
 
   prelude-same : (item : Item) → preludeRule s x item ≡ preludeRule s y item
   unfolding preludeRule findInPrelude
-  prelude-same item = λ i. single-same plainPath viaPrelude (in-prelude-same item (preludeOf s (mapNo s (x .from))) i) i
+  prelude-same item = λ i. single-same plainPath viaPrelude (in-prelude-same item (preludeOf s (mapNo s (x .from .0))) i) i
 
   extern-kind-same : (b : Bool) → externKind s x b ≡ externKind s y b
   unfolding externKind
@@ -186,12 +186,12 @@ module _ (s : Snapshot) (x : FindPathCtx) (n : ℕ) where
   extern-same : (m : ℕ) (e : Option Extern) → externName s x m e ≡ externName s y m e
   unfolding externName
   extern-same m none = refl
-  extern-same m (some e) = λ i. choiceNew s (extern-kind-same (occupied s (x .from) m (e .name) || x .«prefer_absolute») i) (e .name) (stepBy viaExtern (e .place))
+  extern-same m (some e) = λ i. choiceNew s (extern-kind-same (occupied s (x .from .0) m (e .name) || x .«prefer_absolute») i) (e .name) (stepBy viaExtern (e .place))
 
   root-same : (b : Bool) (m : ℕ) → rootRule s x b m ≡ rootRule s y b m
   unfolding rootRule
   root-same b m = λ i. elim (eqb (crateRoot s m) m) [
-    | true ↦ elim (not b || eqb m (x .«crate_root»)) [ true ↦ keyword cratePath | false ↦ extern-same m (externOf s (x .«from_crate») m) i ]
+    | true ↦ elim (not b || eqb m (x .«crate_root» .0)) [ true ↦ keyword cratePath | false ↦ extern-same m (externOf s (x .«from_crate» .0) m) i ]
     | false ↦ nothing
   ]
 
@@ -202,9 +202,9 @@ module _ (s : Snapshot) (x : FindPathCtx) (n : ℕ) where
 
   kind-same : (m : ℕ) → isKwKindRelativeToFrom s x m ≡ isKwKindRelativeToFrom s y m
   unfolding isKwKindRelativeToFrom
-  kind-same m = λ i. elim (not (eqb (crateOf s m) (crateOf s (x .from))) || (inBlock s m || inBlock s (x .from))) [
+  kind-same m = λ i. elim (not (eqb (crateOf s m) (crateOf s (x .from .0))) || (inBlock s m || inBlock s (x .from .0))) [
     | true ↦ none
-    | false ↦ elim (eqb m (x .from)) [ true ↦ some selfPath | false ↦ parent-same m (parentOf s (x .from)) i ]
+    | false ↦ elim (eqb m (x .from .0)) [ true ↦ some selfPath | false ↦ parent-same m (parentOf s (x .from .0)) i ]
   ]
 
   keyword-same : (k : Option ℕ) → keywordOf s x k ≡ keywordOf s y k
@@ -302,9 +302,9 @@ module _ (s : Snapshot) (y : FindPathCtx) (here : ℕ → Item → Choice) (rec 
   sysroot-stays : (item : Item) (o : Out ℕ) (ls : List ℕ) (b : Bool) → Has o → Has (findInSysroot ℕ counted s y here rec left item o ls b)
   unfolding findInSysroot
   sysroot-stays item o [] true f = f
-  sysroot-stays item o [] false f = deps-stay item o (sysrootFirst s (y .«from_crate»)) f
+  sysroot-stays item o [] false f = deps-stay item o (sysrootFirst s (y .«from_crate» .0)) f
   sysroot-stays item o (l ∷ ls) true f = f
-  sysroot-stays item o (l ∷ ls) false f = sysroot-stays item _ ls _ (deps-stay item o (oneOrNone (langOf s (y .«from_crate») l)) f)
+  sysroot-stays item o (l ∷ ls) false f = sysroot-stays item _ ls _ (deps-stay item o (oneOrNone (langOf s (y .«from_crate» .0) l)) f)
 
 abbrev Both : Out ℕ → Out ℕ → Type 0
 Both o p = Implies (o .choice) (p .choice)
@@ -348,13 +348,13 @@ module _ (s : Snapshot) (x : FindPathCtx) (n : ℕ) where
       unfolding findInSysroot
       sysroot-grows item o p [] a true k e = λ _. e refl
       sysroot-grows item o p (l ∷ ls) a true k e = λ _. e refl
-      sysroot-grows item o p [] true false k e = λ z. deps-stay s (limited x n) here′ g left′ item p (sysrootFirst s (x .«from_crate»)) (k z)
-      sysroot-grows item o p [] false false k e = deps-grow item o p (sysrootFirst s (x .«from_crate»)) k
+      sysroot-grows item o p [] true false k e = λ z. deps-stay s (limited x n) here′ g left′ item p (sysrootFirst s (x .«from_crate» .0)) (k z)
+      sysroot-grows item o p [] false false k e = deps-grow item o p (sysrootFirst s (x .«from_crate» .0)) k
       sysroot-grows item o p (l ∷ ls) true false k e = λ z. sysroot-stays s (limited x n) here′ g left′ item p (l ∷ ls) false (k z)
       sysroot-grows item o p (l ∷ ls) false false k e =
-          let o′ : Out ℕ = findInDeps ℕ counted s x here f left item o (oneOrNone (langOf s (x .«from_crate») l)) in
-          let p′ : Out ℕ = findInDeps ℕ counted s (limited x n) here′ g left′ item p (oneOrNone (langOf s (x .«from_crate») l)) in
-          sysroot-grows item o′ p′ ls (isStable (o′ .choice)) (isStable (p′ .choice)) (deps-grow item o p (oneOrNone (langOf s (x .«from_crate») l)) k)
+          let o′ : Out ℕ = findInDeps ℕ counted s x here f left item o (oneOrNone (langOf s (x .«from_crate» .0) l)) in
+          let p′ : Out ℕ = findInDeps ℕ counted s (limited x n) here′ g left′ item p (oneOrNone (langOf s (x .«from_crate» .0) l)) in
+          sysroot-grows item o′ p′ ls (isStable (o′ .choice)) (isStable (p′ .choice)) (deps-grow item o p (oneOrNone (langOf s (x .«from_crate» .0) l)) k)
           (λ e′. and-left (p′ .choice .found) (p′ .choice .stable) e′)
 
       go-grows : (item : Item) (t u : ℕ) (a b : Bool)

@@ -222,9 +222,9 @@ module _ (s : Snapshot) (x : FindPathCtx) (clear : x .fresh ≡ false) where
   find-plain : (item : Item) → findInScope (plainly s) x item ≡ plainOf (findInScope s x item)
   unfolding findInScope
   find-plain item =
-      ap (scopeEntry (plainly s) (x .from) item (x .«ignore_local_imports»)) clear
-      ∙ scope-plain s (x .from) item (x .«ignore_local_imports»)
-      ∙ ap (λ (b : Bool). plainOf (scopeEntry s (x .from) item (x .«ignore_local_imports») b)) (sym clear)
+      ap (scopeEntry (plainly s) (x .from .0) item (x .«ignore_local_imports»)) clear
+      ∙ scope-plain s (x .from .0) item (x .«ignore_local_imports»)
+      ∙ ap (λ (b : Bool). plainOf (scopeEntry s (x .from .0) item (x .«ignore_local_imports») b)) (sym clear)
 
   by-scope-plain : (item : Item) → scopeRule (plainly s) x item ≡ scopeRule s x item
   unfolding scopeRule mayBeInScope
@@ -240,8 +240,8 @@ module _ (s : Snapshot) (x : FindPathCtx) (clear : x .fresh ≡ false) where
 
   usable-plain : (item : Item) (e : Scope) → isUsable (plainly s) x item (plain e) ≡ isUsable s x item e
   usable-plain item e =
-      ap₂ (λ (a b : Bool). a && b) (visible-plain s (e .visibility) (e .number) (x .from))
-      (ap (sameHere (plainly s) x item) (named-plain s (x .from) (nsOf item) (e .name)) ∙ here-plain item (entryNamed s (x .from) (nsOf item) (e .name)))
+      ap₂ (λ (a b : Bool). a && b) (visible-plain s (e .visibility) (e .number) (x .from .0))
+      (ap (sameHere (plainly s) x item) (named-plain s (x .from .0) (nsOf item) (e .name)) ∙ here-plain item (entryNamed s (x .from .0) (nsOf item) (e .name)))
 
   if-plain : (e : Scope) (b : Bool) → _≡_ {A = Option Scope} (elim b [ true ↦ some (plain e) | false ↦ none ]) (plainOf (elim b [ true ↦ some e | false ↦ none ]))
   if-plain e true = refl
@@ -272,8 +272,8 @@ module _ (s : Snapshot) (x : FindPathCtx) (clear : x .fresh ≡ false) where
   by-prelude-plain : (item : Item) → preludeRule (plainly s) x item ≡ preludeRule s x item
   unfolding preludeRule findInPrelude preludeOf moduleOf
   by-prelude-plain item =
-      ap (single (plainly s) x plainPath viaPrelude) (in-prelude-plain item (preludeOf s (mapNo s (x .from))))
-      ∙ single-plain plainPath viaPrelude (inPrelude s x item (preludeOf s (mapNo s (x .from))))
+      ap (single (plainly s) x plainPath viaPrelude) (in-prelude-plain item (preludeOf s (mapNo s (x .from .0))))
+      ∙ single-plain plainPath viaPrelude (inPrelude s x item (preludeOf s (mapNo s (x .from .0))))
 
   kind-plain : (b : Bool) → externKind (plainly s) x b ≡ externKind s x b
   unfolding externKind
@@ -285,13 +285,13 @@ module _ (s : Snapshot) (x : FindPathCtx) (clear : x .fresh ≡ false) where
   extern-plain m none = refl
   extern-plain m (some e) =
       ap (λ (k : ℕ). choiceNew s k (e .name) (stepBy viaExtern (e .place)))
-      (ap (λ (b : Bool). externKind (plainly s) x (b || x .«prefer_absolute»)) (occupied-plain s (x .from) m (e .name))
-      ∙ kind-plain (occupied s (x .from) m (e .name) || x .«prefer_absolute»))
+      (ap (λ (b : Bool). externKind (plainly s) x (b || x .«prefer_absolute»)) (occupied-plain s (x .from .0) m (e .name))
+      ∙ kind-plain (occupied s (x .from .0) m (e .name) || x .«prefer_absolute»))
 
   root-plain : (b : Bool) (m : ℕ) → rootRule (plainly s) x b m ≡ rootRule s x b m
   unfolding rootRule crateRoot rootOf ownMap moduleOf mapOf externOf
   root-plain b m = λ i. elim (eqb (crateRoot s m) m) [
-    | true ↦ elim (not b || eqb m (x .«crate_root»)) [ true ↦ keyword cratePath | false ↦ extern-plain m (externOf s (x .«from_crate») m) i ]
+    | true ↦ elim (not b || eqb m (x .«crate_root» .0)) [ true ↦ keyword cratePath | false ↦ extern-plain m (externOf s (x .«from_crate» .0) m) i ]
     | false ↦ nothing
   ]
 
@@ -302,9 +302,9 @@ module _ (s : Snapshot) (x : FindPathCtx) (clear : x .fresh ≡ false) where
 
   relative-plain : (m : ℕ) → isKwKindRelativeToFrom (plainly s) x m ≡ isKwKindRelativeToFrom s x m
   unfolding isKwKindRelativeToFrom moduleOf mapOf
-  relative-plain m = λ i. elim (not (eqb (crateOf s m) (crateOf s (x .from))) || (inBlock s m || inBlock s (x .from))) [
+  relative-plain m = λ i. elim (not (eqb (crateOf s m) (crateOf s (x .from .0))) || (inBlock s m || inBlock s (x .from .0))) [
     | true ↦ none
-    | false ↦ elim (eqb m (x .from)) [ true ↦ some selfPath | false ↦ parent-plain m (parentOf s (x .from)) i ]
+    | false ↦ elim (eqb m (x .from .0)) [ true ↦ some selfPath | false ↦ parent-plain m (parentOf s (x .from .0)) i ]
   ]
 
   keyword-plain : (k : Option ℕ) → keywordOf (plainly s) x k ≡ keywordOf s x k
@@ -324,7 +324,7 @@ module _ (s : Snapshot) (x : FindPathCtx) (clear : x .fresh ≡ false) where
   importable-plain : (e : Scope) → isImportable (plainly s) x (plain e) ≡ isImportable s x e
   importable-plain e =
       let t : e .declared % 2 % 2 ≡ e .declared % 2 = omega arith in
-      ap₂ (λ (a : Bool) (n : ℕ). a && (eqb n 1 || not (eqb (e .visibility) 3))) (visible-plain s (e .visibility) (e .number) (x .from)) t
+      ap₂ (λ (a : Bool) (n : ℕ). a && (eqb n 1 || not (eqb (e .visibility) 3))) (visible-plain s (e .visibility) (e .number) (x .from .0)) t
 
   entry-if-plain : (o : Option Scope) → entryIf (plainly s) x (plainOf o) ≡ plainOf (entryIf s x o)
   unfolding entryIf
@@ -359,7 +359,7 @@ module _ (s : Snapshot) (x : FindPathCtx) (clear : x .fresh ≡ false) where
     local-plain : (left : ℕ) (ls : List Level) (item : Item) → calculateBestPathLocal (plainly s) x rec left ls item ≡ calculateBestPathLocal s x rec left ls item
     unfolding calculateBestPathLocal
     local-plain left ls item =
-        ap (eachLocation (plainly s) x rec left ls item [] nothing) (locations-plain s (x .from) (visited ls item)) ∙ each-plain left ls item [] nothing _
+        ap (eachLocation (plainly s) x rec left ls item [] nothing) (locations-plain s (x .from .0) (visited ls item)) ∙ each-plain left ls item [] nothing _
 
     or-local-plain : (left : ℕ) (ls : List Level) (m : ℕ) (c : Choice) (b : Bool) → orLocal (plainly s) x rec left ls m c b ≡ orLocal s x rec left ls m c b
     unfolding orLocal
@@ -432,11 +432,11 @@ module _ (s : Snapshot) (x : FindPathCtx) (clear : x .fresh ≡ false) where
         → findInSysroot M charge (plainly s) x here rec left item o ls b ≡ findInSysroot M charge s x here rec left item o ls b
     unfolding findInSysroot sysrootFirst langOf dependenciesOf crateData
     sysroot-plain left item o [] true = refl
-    sysroot-plain left item o [] false = deps-plain left item o (sysrootFirst s (x .«from_crate»))
+    sysroot-plain left item o [] false = deps-plain left item o (sysrootFirst s (x .«from_crate» .0))
     sysroot-plain left item o (l ∷ ls) true = refl
     sysroot-plain left item o (l ∷ ls) false =
         ap (λ (r : Out M). findInSysroot M charge (plainly s) x here rec left item r ls (isStable (r .choice)))
-        (deps-plain left item o (oneOrNone (langOf s (x .«from_crate») l)))
+        (deps-plain left item o (oneOrNone (langOf s (x .«from_crate» .0) l)))
         ∙ sysroot-plain left item _ ls _
 
     go-plain : (left : ℕ) (item : Item) (t : M) (a b : Bool)
@@ -444,14 +444,14 @@ module _ (s : Snapshot) (x : FindPathCtx) (clear : x .fresh ≡ false) where
     unfolding goOn dependenciesOf
     go-plain left item t true b = refl
     go-plain left item t false true = sysroot-plain left item _ (langs (x .«prefer_no_std»)) false
-    go-plain left item t false false = deps-plain left item _ (dependenciesOf s (x .«from_crate»))
+    go-plain left item t false false = deps-plain left item _ (dependenciesOf s (x .«from_crate» .0))
 
     after-plain : (left : ℕ) (item : Item) (c : Charged M)
         → afterCharge M charge (plainly s) x here rec left item c ≡ afterCharge M charge s x here rec left item c
     unfolding afterCharge
     after-plain left item (go t) =
         ap (λ (b : Bool). goOn M charge (plainly s) x here rec left item t b (x .«is_std_item»))
-        (ap (λ (h : ℕ). isAt (plainly s) h (x .«from_crate»)) (home-plain item) ∙ at-plain (homeOf s item) (x .«from_crate»))
+        (ap (λ (h : ℕ). isAt (plainly s) h (x .«from_crate» .0)) (home-plain item) ∙ at-plain (homeOf s item) (x .«from_crate» .0))
         ∙ go-plain left item t _ _
     after-plain left item (stop t) = refl
 
@@ -550,9 +550,9 @@ module _ (s : Snapshot) (q : Query) (clear : bit (q .options) 32 ≡ false) wher
     unfolding fromItem builtinChoice choiceNew isPrelude nameData itemOf definitionOf
     start-plain t true = refl
     start-plain t false =
-        ap (fromHome M charge (plainly s) q (itemOf s (q .ns) (q .definition)) t)
-        (home-plain s (contextOf s q 0) (context-clear 0) (itemOf s (q .ns) (q .definition)))
-        ∙ home-search-plain (itemOf s (q .ns) (q .definition)) t _
+        ap (fromHome M charge (plainly s) q (itemOf s (q .ns) (q .definition .0)) t)
+        (home-plain s (contextOf s q 0) (context-clear 0) (itemOf s (q .ns) (q .definition .0)))
+        ∙ home-search-plain (itemOf s (q .ns) (q .definition .0)) t _
 
     -- The search, at any meter, does not tell the snapshot from the plain one.
     pub search-plain : (t : M) → findPath M charge (plainly s) q t ≡ findPath M charge s q t
@@ -567,7 +567,7 @@ module _ (s : Snapshot) (q : Query) (clear : bit (q .options) 32 ≡ false) wher
   unfolding misleads itemOf definitionOf
   misleads-plain c =
       ap (λ (b : Bool). bit (q .options) 64 && (c .found && not (isBuiltinType s q || b)))
-      (reads-back-plain s (q .from) (itemOf s (q .ns) (q .definition)) (c .kind) (take (c .count) (c .names)))
+      (reads-back-plain s (q .from .0) (itemOf s (q .ns) (q .definition .0)) (c .kind) (take (c .count) (c .names)))
 
   reported-plain : (o : Out Tank) → reported (plainly s) q o ≡ reported s q o
   unfolding reported

@@ -63,7 +63,7 @@ module _ (s : Snapshot) (q : Query) where
       let x : FindPathCtx = contextOf s q home in
       λ i. record {
         prefix = x .prefix;
-        «prefer_no_std» = eqb (bit-1 o i) 1 || (eqb (mapOf s (mapNo s (q .from)) .noStd) 1 || eqb (crateData s (crateOf s (q .from)) .noStd) 1);
+        «prefer_no_std» = eqb (bit-1 o i) 1 || (eqb (mapOf s (mapNo s (q .from .0)) .noStd) 1 || eqb (crateData s (crateOf s (q .from .0)) .noStd) 1);
         «prefer_prelude» = eqb (bit-2 o i) 1;
         «prefer_absolute» = eqb (bit-4 o i) 1;
         «allow_unstable» = eqb (bit-8 o i) 1;
@@ -148,7 +148,7 @@ module _ (s : Snapshot) (q : Query) (o : Out Tank) (below : q .options < 64) whe
   choice = o .choice
 
   abbrev back : Bool
-  back = readsBack s (q .from) (askedItem s q) (choice .kind) (take (choice .count) (choice .names))
+  back = readsBack s (q .from .0) (askedItem s q) (choice .kind) (take (choice .count) (choice .names))
 
   abbrev means : Type 0
   means = MeansItem s q (reported s q o)
@@ -157,16 +157,16 @@ module _ (s : Snapshot) (q : Query) (o : Out Tank) (below : q .options < 64) whe
   unfolding reported
   means-back h =
       ⊎-elim (λ e. rw (eq-eqb _ _ (e .0), eq-eqb _ _ (e .1)))
-      (λ e. or-back (isBuiltinType s q) back (exactly-reads s (q .from) (askedItem s q) (choice .kind) (take (choice .count) (choice .names))
-      (subst (λ (n : ℕ). readsTo s (q .from) n (choice .kind) (take (choice .count) (choice .names)) ≡ some (askedItem s q)) (sym (item-ns s (q .ns) (q .definition))) e))) h
+      (λ e. or-back (isBuiltinType s q) back (exactly-reads s (q .from .0) (askedItem s q) (choice .kind) (take (choice .count) (choice .names))
+      (subst (λ (n : ℕ). readsTo s (q .from .0) n (choice .kind) (take (choice .count) (choice .names)) ≡ some (askedItem s q)) (sym (item-ns s (q .ns) (q .definition .0))) e))) h
 
   back-means : (isBuiltinType s q || back) ≡ true → means
   unfolding reported
   back-means h =
       by-test (isBuiltinType s q)
-      (λ e. let f = and-two (eqb (q .ns) types) (eqb (definitionOf s (q .definition) .kind) builtinKind) e in inl (eqb-true _ _ (f .0), eqb-true _ _ (f .1)))
-      (λ e. inr (subst (λ (n : ℕ). readsTo s (q .from) n (choice .kind) (take (choice .count) (choice .names)) ≡ some (askedItem s q)) (item-ns s (q .ns) (q .definition))
-      (reads-exactly s (q .from) (askedItem s q) (choice .kind) (take (choice .count) (choice .names)) (or-right _ _ h e))))
+      (λ e. let f = and-two (eqb (q .ns) types) (eqb (definitionOf s (q .definition .0) .kind) builtinKind) e in inl (eqb-true _ _ (f .0), eqb-true _ _ (f .1)))
+      (λ e. inr (subst (λ (n : ℕ). readsTo s (q .from .0) n (choice .kind) (take (choice .count) (choice .names)) ≡ some (askedItem s q)) (item-ns s (q .ns) (q .definition .0))
+      (reads-exactly s (q .from .0) (askedItem s q) (choice .kind) (take (choice .count) (choice .names)) (or-right _ _ h e))))
 
   clear : bit (q .options) 64 ≡ false
   clear = ne-eqb (q .options / 64 % 2) 1 (λ z. omega arith)

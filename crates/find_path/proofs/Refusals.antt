@@ -171,8 +171,8 @@ call-small area q fuel =
 pub question-small : (s : Snapshot) (q : Query) → questionFault s q ≤ largestRefusal
 unfolding questionFault
 question-small s q =
-    either-number (ltb (q .definition) (length (s .definitions)) && ltb (q .from) (length (s .modules))) _ unknownRefusal
-    (either-number (eqb (q .ns) macros && not (eqb (definitionOf s (q .definition) .kind) macroKind)) macroRefusal 0 (omega arith) (omega arith))
+    either-number (ltb (q .definition .0) (length (s .definitions)) && ltb (q .from .0) (length (s .modules))) _ unknownRefusal
+    (either-number (eqb (q .ns) macros && not (eqb (definitionOf s (q .definition .0) .kind) macroKind)) macroRefusal 0 (omega arith) (omega arith))
     (omega arith)
 
 -- what a call without a fault has

@@ -81,7 +81,7 @@ pub record Leads (s : Snapshot) (x : FindPathCtx) (item : Item) (c : Choice) : T
 -- an import record of the item, which is of another crate, in a dependency of the viewer's
 record Listed (s : Snapshot) (x : FindPathCtx) (item : Item) (i : Import) : Type 0 where
   dependency : Dependency
-  known : dependency ∈ dependenciesOf s (x .«from_crate»)
+  known : dependency ∈ dependenciesOf s (x .«from_crate» .0)
   stands : i ∈ s .imports
   owner : i .owner ≡ dependency .crate
   away : isNear s x item ≡ false
@@ -89,8 +89,8 @@ record Listed (s : Snapshot) (x : FindPathCtx) (item : Item) (i : Import) : Type
 
 -- what is set for the viewing module
 record Rooted (s : Snapshot) (x : FindPathCtx) : Type 0 where
-  root : x .«crate_root» ≡ crateRoot s (x .from)
-  krate : x .«from_crate» ≡ crateOf s (x .from)
+  root : x .«crate_root» .0 ≡ crateRoot s (x .from .0)
+  krate : x .«from_crate» .0 ≡ crateOf s (x .from .0)
 
 -- an entry that is answered leads from the module to the item
 abbrev Led : Snapshot → FindPathCtx → ℕ → Item → Option Scope → Type 0
@@ -104,7 +104,7 @@ Started s x m none = Unit {0}
 
 module _ (s : Snapshot) where
   module _ (x : FindPathCtx) where
-    imports-listed : (d : Dependency) (item : Item) → d ∈ dependenciesOf s (x .«from_crate») → isNear s x item ≡ false
+    imports-listed : (d : Dependency) (item : Item) → d ∈ dependenciesOf s (x .«from_crate» .0) → isNear s x item ≡ false
         → Each (Listed s x item) (importInfoFor s (d .crate) item)
     unfolding importInfoFor
     imports-listed d item k away =
@@ -114,7 +114,7 @@ module _ (s : Snapshot) where
         record { dependency = d; known = k; stands = h; owner = eqb-true _ _ (f .0); away = away; same = same-item _ item (f .1) })
 
     entry-step : (m : ℕ) (item : Item) (e : Scope) → e ∈ s .scopes → isNear s x item ≡ true → isFor s m item e ≡ true → importableName s x item m ≡ some e
-        → sees s (x .from) e ≡ true → Step s x m (e .name) (stepBy viaLocal (e .place)) item
+        → sees s (x .from .0) e ≡ true → Step s x m (e .name) (stepBy viaLocal (e .place)) item
     unfolding isFor
     entry-step m item e h near p o v =
         let f = and-two (eqb (e .owner) m) (sameItem (itemOf s (e .ns) (e .definition)) item) p in
@@ -200,7 +200,7 @@ module _ (s : Snapshot) where
         (λ _. f))
         (λ u. offer-leads (i .container) item best c (i .name) _ f g (import-step item i h v (λ t. absurd (true≢false (sym t ∙ u)))))
 
-    crate-start : (m : ℕ) → x .«crate_root» ≡ m → Start s x cratePath [] (stepBy viaKeyword 0) (Mod m)
+    crate-start : (m : ℕ) → x .«crate_root» .0 ≡ m → Start s x cratePath [] (stepBy viaKeyword 0) (Mod m)
     crate-start m e = subst (λ (k : ℕ). Start s x cratePath [] (stepBy viaKeyword 0) (Mod k)) e crate
 
     -- the rules without a search
@@ -225,27 +225,27 @@ module _ (s : Snapshot) where
         single-leads item plainPath viaPrelude (findInPrelude s x item)
         (λ e h. prelude item e (held-at (λ y. y ∈ s .scopes) _ (prelude-held s (λ y. y ∈ s .scopes) (each-self (s .scopes)) x item) h) h)
 
-    extern-leads : (m : ℕ) (o : Option Extern) → crateRoot s m ≡ m → (m ≡ x .«crate_root» → ⊥) → externOf s (x .«from_crate») m ≡ o → Leads s x (Mod m) (externName s x m o)
+    extern-leads : (m : ℕ) (o : Option Extern) → crateRoot s m ≡ m → (m ≡ x .«crate_root» .0 → ⊥) → externOf s (x .«from_crate» .0) m ≡ o → Leads s x (Mod m) (externName s x m o)
     unfolding externName
     extern-leads m none r z h = nothing-leads
     extern-leads m (some e) r z h =
-        new-leads (Mod m) _ (e .name) _ (extern m e (held-at (λ y. y ∈ s .externs) _ (extern-held s (λ y. y ∈ s .externs) (each-self (s .externs)) (x .«from_crate») m) h) r z h)
+        new-leads (Mod m) _ (e .name) _ (extern m e (held-at (λ y. y ∈ s .externs) _ (extern-held s (λ y. y ∈ s .externs) (each-self (s .externs)) (x .«from_crate» .0) m) h) r z h)
 
     -- in a valid snapshot, with the root that is set for the viewing module
     module _ (valid : Valid s) (rooted : Rooted s x) where
       -- the root of a crate that has the keyword is the viewer's
-      root-here : (b : Bool) (m : ℕ) → (b ≡ false → Near s valid (x .from) m) → crateRoot s m ≡ m → not b || eqb m (x .«crate_root») ≡ true
-          → x .«crate_root» ≡ m
-      root-here true m near r e = sym (eqb-true m (x .«crate_root») e)
-      root-here false m near r e = rooted .root ∙ sym (crate-root s valid m (x .from) (near refl)) ∙ r
+      root-here : (b : Bool) (m : ℕ) → (b ≡ false → Near s valid (x .from .0) m) → crateRoot s m ≡ m → not b || eqb m (x .«crate_root» .0) ≡ true
+          → x .«crate_root» .0 ≡ m
+      root-here true m near r e = sym (eqb-true m (x .«crate_root» .0) e)
+      root-here false m near r e = rooted .root ∙ sym (crate-root s valid m (x .from .0) (near refl)) ∙ r
 
-      root-leads : (b : Bool) (m : ℕ) → (b ≡ false → Near s valid (x .from) m) → Leads s x (Mod m) (rootRule s x b m)
+      root-leads : (b : Bool) (m : ℕ) → (b ≡ false → Near s valid (x .from .0) m) → Leads s x (Mod m) (rootRule s x b m)
       unfolding rootRule
       root-leads b m near =
           either-leads (eqb (crateRoot s m) m) _ _
-          (λ e. either-leads (not b || eqb m (x .«crate_root»)) _ _
+          (λ e. either-leads (not b || eqb m (x .«crate_root» .0)) _ _
           (λ t. keyword-leads m cratePath (crate-start m (root-here b m near (eqb-true (crateRoot s m) m e) t)))
-          (λ t. extern-leads m (externOf s (x .«from_crate») m) (eqb-true (crateRoot s m) m e) (eqb-false m (x .«crate_root») (or-none (not b) _ t .1)) refl))
+          (λ t. extern-leads m (externOf s (x .«from_crate» .0) m) (eqb-true (crateRoot s m) m e) (eqb-false m (x .«crate_root» .0) (or-none (not b) _ t .1)) refl))
           (λ _. nothing-leads)
 
       -- a keyword other than `crate` is not taken under ByCrate
@@ -257,27 +257,27 @@ module _ (s : Snapshot) where
       either-started m true k l f g = f refl
       either-started m false k l f g = g refl
 
-      parent-started : (m p : ℕ) → parentOf s (x .from) ≡ p → blockOf s (x .from) ≡ 0 → Started s x m (parentKind s x m p)
+      parent-started : (m p : ℕ) → parentOf s (x .from .0) ≡ p → blockOf s (x .from .0) ≡ 0 → Started s x m (parentKind s x m p)
       unfolding parentKind
       parent-started m zero e b = tt
       parent-started m (suc p) e b =
           either-started m (eqb m p) _ _
           (λ t.
           let same : p ≡ m = sym (eqb-true m p t) in
-          either-started m (eqb p (rootOf s (mapNo s (x .from)))) (some cratePath) (some superPath)
-          (λ r k. crate-start m (rooted .root ∙ sym (own-root s valid (x .from) p e b) ∙ sym (eqb-true p _ r) ∙ same))
+          either-started m (eqb p (rootOf s (mapNo s (x .from .0)))) (some cratePath) (some superPath)
+          (λ r k. crate-start m (rooted .root ∙ sym (own-root s valid (x .from .0) p e b) ∙ sym (eqb-true p _ r) ∙ same))
           (λ _ k. subst (λ (j : ℕ). Start s x superPath [] (stepBy viaKeyword 0) (Mod j)) same (super p (not-by-crate superPath refl k) e)))
           (λ _. tt)
 
       keyword-started : (m : ℕ) → Started s x m (isKwKindRelativeToFrom s x m)
       unfolding isKwKindRelativeToFrom
       keyword-started m =
-          either-started m (not (eqb (crateOf s m) (crateOf s (x .from))) || (inBlock s m || inBlock s (x .from))) none _ (λ _. tt)
+          either-started m (not (eqb (crateOf s m) (crateOf s (x .from .0))) || (inBlock s m || inBlock s (x .from .0))) none _ (λ _. tt)
           (λ t.
-          let f = or-none (inBlock s m) (inBlock s (x .from)) (or-none (not (eqb (crateOf s m) (crateOf s (x .from)))) _ t .1) .1 in
-          either-started m (eqb m (x .from)) (some selfPath) _
-          (λ e k. subst (λ (j : ℕ). Start s x selfPath [] (stepBy viaKeyword 0) (Mod j)) (sym (eqb-true m (x .from) e)) (self (not-by-crate selfPath refl k)))
-          (λ _. parent-started m (parentOf s (x .from)) refl (eqb-true (blockOf s (x .from)) 0 (not-false _ f))))
+          let f = or-none (inBlock s m) (inBlock s (x .from .0)) (or-none (not (eqb (crateOf s m) (crateOf s (x .from .0)))) _ t .1) .1 in
+          either-started m (eqb m (x .from .0)) (some selfPath) _
+          (λ e k. subst (λ (j : ℕ). Start s x selfPath [] (stepBy viaKeyword 0) (Mod j)) (sym (eqb-true m (x .from .0) e)) (self (not-by-crate selfPath refl k)))
+          (λ _. parent-started m (parentOf s (x .from .0)) refl (eqb-true (blockOf s (x .from .0)) 0 (not-false _ f))))
 
       keyword-of-leads : (m : ℕ) (k : Option ℕ) → Started s x m k → Leads s x (Mod m) (keywordOf s x k)
       unfolding keywordOf
@@ -285,7 +285,7 @@ module _ (s : Snapshot) where
       keyword-of-leads m (some k) b =
           either-leads (not (eqb (x .prefix) byCrate) || eqb k cratePath) _ _ (λ t. keyword-leads m k (b t)) (λ _. nothing-leads)
 
-      rules-lead : (b : Bool) (m : ℕ) → (b ≡ false → Near s valid (x .from) m) → Leads s x (Mod m) (moduleRules s x b m)
+      rules-lead : (b : Bool) (m : ℕ) → (b ≡ false → Near s valid (x .from .0) m) → Leads s x (Mod m) (moduleRules s x b m)
       unfolding moduleRules
       rules-lead b m near =
           first-leads _ _ (root-leads b m near)
@@ -304,7 +304,7 @@ module _ (s : Snapshot) where
       first-stands m item p e g h = let f = first-found p (s .scopes) e h in (f .0, g e (f .1))
 
       -- what passes the test of the local rule is the entry itself, and is visible
-      entry-if : (o : Option Scope) (e : Scope) → entryIf s x o ≡ some e → (o ≡ some e) × (sees s (x .from) e ≡ true)
+      entry-if : (o : Option Scope) (e : Scope) → entryIf s x o ≡ some e → (o ≡ some e) × (sees s (x .from .0) e ≡ true)
       unfolding entryIf
       entry-if none e h = let z : _≡_ {A = ℕ} 0 1 = cc in absurd (omega arith)
       entry-if (some y) e h =
@@ -312,7 +312,7 @@ module _ (s : Snapshot) where
           (λ t.
           let f : some y ≡ some e = rw (entryIf, t) at h in
           let same : y ≡ e = cc in
-          (f, subst (λ z. sees s (x .from) z ≡ true) same (and-left (sees s (x .from) y) _ t)))
+          (f, subst (λ z. sees s (x .from .0) z ≡ true) same (and-left (sees s (x .from .0) y) _ t)))
           (λ t. let f : none ≡ some e = rw (entryIf, t) at h in let z : _≡_ {A = ℕ} 0 1 = cc in absurd (omega arith))
 
       importable-step : (item : Item) (m : ℕ) (e : Scope) → isNear s x item ≡ true → importableName s x item m ≡ some e
@@ -332,15 +332,15 @@ module _ (s : Snapshot) where
       importable-led : (item : Item) (m : ℕ) → isNear s x item ≡ true → Led s x m item (importableName s x item m)
       importable-led item m near = led item m (importableName s x item m) near refl
 
-      module-near : (m : ℕ) → Near s valid (x .from) m → isNear s x (Mod m) ≡ true
+      module-near : (m : ℕ) → Near s valid (x .from .0) m → isNear s x (Mod m) ≡ true
       unfolding isAt homeOf
-      module-near m e = rw (add-one m) (eq-eqb (crateOf s m) (x .«from_crate») (e ∙ sym (rooted .krate)))
+      module-near m e = rw (add-one m) (eq-eqb (crateOf s m) (x .«from_crate» .0) (e ∙ sym (rooted .krate)))
 
       abbrev LeadsLocal : LocalSearch → Type 0
-      LeadsLocal rec = (left : ℕ) (ls : List Level) (m : ℕ) → Near s valid (x .from) m → Leads s x (Mod m) (rec left ls m)
+      LeadsLocal rec = (left : ℕ) (ls : List Level) (m : ℕ) → Near s valid (x .from .0) m → Leads s x (Mod m) (rec left ls m)
 
       module _ (rec : LocalSearch) (leads : LeadsLocal rec) where
-        location-leads : (item : Item) (left : ℕ) (ls : List Level) (best : Choice) (m : ℕ) (o : Option Scope) → Near s valid (x .from) m
+        location-leads : (item : Item) (left : ℕ) (ls : List Level) (best : Choice) (m : ℕ) (o : Option Scope) → Near s valid (x .from .0) m
             → Leads s x item best → Led s x m item o
             → Leads s x item (location s x rec left ls best m o)
         unfolding location offerEntry
@@ -348,7 +348,7 @@ module _ (s : Snapshot) where
         location-leads item left ls best m (some e) near f h = offer-leads m item best _ (e .name) _ f (leads _ ls m near) h
 
         each-leads : (left : ℕ) (ls : List Level) (item : Item) (done : List ℕ) (best : Choice) {ms : List ℕ} → isNear s x item ≡ true
-            → Each (Near s valid (x .from)) ms → Leads s x item best
+            → Each (Near s valid (x .from .0)) ms → Leads s x item best
             → Leads s x item (eachLocation s x rec left ls item done best ms)
         unfolding eachLocation
         each-leads left ls item done best near Each.none f = f
@@ -358,9 +358,9 @@ module _ (s : Snapshot) where
 
         local-leads : (left : ℕ) (ls : List Level) (item : Item) → isNear s x item ≡ true → Leads s x item (calculateBestPathLocal s x rec left ls item)
         unfolding calculateBestPathLocal
-        local-leads left ls item near = each-leads left ls item [] nothing near (locations-near s valid (x .from) (visited ls item)) nothing-leads
+        local-leads left ls item near = each-leads left ls item [] nothing near (locations-near s valid (x .from .0) (visited ls item)) nothing-leads
 
-        or-local-leads : (left : ℕ) (ls : List Level) (m : ℕ) (c : Choice) (b : Bool) → Near s valid (x .from) m → Leads s x (Mod m) c
+        or-local-leads : (left : ℕ) (ls : List Level) (m : ℕ) (c : Choice) (b : Bool) → Near s valid (x .from .0) m → Leads s x (Mod m) c
             → Leads s x (Mod m) (orLocal s x rec left ls m c b)
         unfolding orLocal
         or-local-leads left ls m c true near f = f
@@ -383,21 +383,21 @@ module _ (M : Type 0) (charge : Charge M) (s : Snapshot) (x : FindPathCtx) (vali
 
   -- a dependency of the viewer's crate
   abbrev Ours : Dependency → Type 0
-  Ours d = d ∈ dependenciesOf s (x .«from_crate»)
+  Ours d = d ∈ dependenciesOf s (x .«from_crate» .0)
 
   lang-in : (o : Option Dependency) → ((d : Dependency) → o ≡ some d → Ours d) → Each Ours (oneOrNone o)
   unfolding oneOrNone
   lang-in none f = Each.none
   lang-in (some d) f = more (f d refl) Each.none
 
-  lang-ours : (n : ℕ) → Each Ours (oneOrNone (langOf s (x .«from_crate») n))
+  lang-ours : (n : ℕ) → Each Ours (oneOrNone (langOf s (x .«from_crate» .0) n))
   unfolding langOf
-  lang-ours n = lang-in _ (λ d e. first-found _ (dependenciesOf s (x .«from_crate»)) d e .0)
+  lang-ours n = lang-in _ (λ d e. first-found _ (dependenciesOf s (x .«from_crate» .0)) d e .0)
 
-  sysroot-ours : Each Ours (sysrootFirst s (x .«from_crate»))
+  sysroot-ours : Each Ours (sysrootFirst s (x .«from_crate» .0))
   unfolding sysrootFirst
   sysroot-ours =
-      each-append (select-found _ (dependenciesOf s (x .«from_crate»)) (λ d h t. h)) (select-found _ (dependenciesOf s (x .«from_crate»)) (λ d h t. h))
+      each-append (select-found _ (dependenciesOf s (x .«from_crate» .0)) (λ d h t. h)) (select-found _ (dependenciesOf s (x .«from_crate» .0)) (λ d h t. h))
 
   module _ (rec : Search M) (leads : LeadsSearch rec) where
     -- an import that is not passed over is not hidden
@@ -427,16 +427,16 @@ module _ (M : Type 0) (charge : Charge M) (s : Snapshot) (x : FindPathCtx) (vali
         → Leads s x item (findInSysroot M charge s x (bestLocal s x) rec left item o ls b .choice)
     unfolding findInSysroot
     sysroot-leads left item o [] true away f = f
-    sysroot-leads left item o [] false away f = deps-lead left item o (sysrootFirst s (x .«from_crate»)) away sysroot-ours f
+    sysroot-leads left item o [] false away f = deps-lead left item o (sysrootFirst s (x .«from_crate» .0)) away sysroot-ours f
     sysroot-leads left item o (n ∷ ls) true away f = f
     sysroot-leads left item o (n ∷ ls) false away f =
-        sysroot-leads left item _ ls _ away (deps-lead left item o (oneOrNone (langOf s (x .«from_crate») n)) away (lang-ours n) f)
+        sysroot-leads left item _ ls _ away (deps-lead left item o (oneOrNone (langOf s (x .«from_crate» .0) n)) away (lang-ours n) f)
 
     go-leads : (left : ℕ) (item : Item) (t : M) (a b : Bool) → isNear s x item ≡ a → Leads s x item (goOn M charge s x (bestLocal s x) rec left item t a b .choice)
     unfolding goOn
     go-leads left item t true b near = best-local-leads s x valid rooted left item near
     go-leads left item t false true away = sysroot-leads left item _ (langs (x .«prefer_no_std»)) false away (nothing-leads s x)
-    go-leads left item t false false away = deps-lead left item _ _ away (each-self (dependenciesOf s (x .«from_crate»))) (nothing-leads s x)
+    go-leads left item t false false away = deps-lead left item _ _ away (each-self (dependenciesOf s (x .«from_crate» .0))) (nothing-leads s x)
 
     after-leads : (left : ℕ) (item : Item) (c : Charged M) → Leads s x item (afterCharge M charge s x (bestLocal s x) rec left item c .choice)
     unfolding afterCharge
@@ -583,20 +583,20 @@ module _ (M : Type 0) (charge : Charge M) (s : Snapshot) (valid : Valid s) (q : 
       subst (λ (k : ℕ). Paths s (contextOf s q k) (askedItem s q) (searchItem M charge s (contextOf s q home) (askedItem s q) t .choice)) same
       (item-path M charge s (contextOf s q home) valid (context-rooted s q home) (omega (arith, c)) (omega (arith, c)) (askedItem s q) t)
 
-  builtin-path : q .ns ≡ types → definitionOf s (q .definition) .kind ≡ builtinKind
-      → Asked (builtinChoice s (definitionOf s (q .definition)))
+  builtin-path : q .ns ≡ types → definitionOf s (q .definition .0) .kind ≡ builtinKind
+      → Asked (builtinChoice s (definitionOf s (q .definition .0)))
   unfolding builtinChoice
   builtin-path e k =
-      let b = builtin (q .definition) (definition-in s (q .definition) 2 k) k in
-      let n = definitionOf s (q .definition) .first in
+      let b = builtin (q .definition .0) (definition-in s (q .definition .0) 2 k) k in
+      let n = definitionOf s (q .definition .0) .first in
       let c = context-limit s q (homeOf s (askedItem s q) - 1) in
-      let t = stepBy viaBuiltin (definitionOf s (q .definition) .place) in
+      let t = stepBy viaBuiltin (definitionOf s (q .definition .0) .place) in
       direct-path s (askedContext s q) (omega (arith, c)) (askedItem s q) _
       (new-leads s (askedContext s q) (askedItem s q) plainPath n t
-      (subst (λ (ns : ℕ). Start s (askedContext s q) plainPath (n ∷ []) t (itemOf s ns (q .definition))) (sym e) b))
+      (subst (λ (ns : ℕ). Start s (askedContext s q) plainPath (n ∷ []) t (itemOf s ns (q .definition .0))) (sym e) b))
       (wider 1 (askedContext s q .«max_len») (omega (arith, c)) (new-fits s 0 plainPath n t))
 
-  start-path : (t : M) (b : Bool) → (b ≡ true → (q .ns ≡ types) × (definitionOf s (q .definition) .kind ≡ builtinKind))
+  start-path : (t : M) (b : Bool) → (b ≡ true → (q .ns ≡ types) × (definitionOf s (q .definition .0) .kind ≡ builtinKind))
       → Asked (fromItem M charge s q t b .choice)
   unfolding fromItem
   start-path t true k = let e = k refl in builtin-path (e .0) (e .1)
@@ -608,7 +608,7 @@ module _ (M : Type 0) (charge : Charge M) (s : Snapshot) (valid : Valid s) (q : 
   search-path t =
       start-path t _
       (λ e.
-      let f = and-two (eqb (q .ns) types) (eqb (definitionOf s (q .definition) .kind) builtinKind) e in
+      let f = and-two (eqb (q .ns) types) (eqb (definitionOf s (q .definition .0) .kind) builtinKind) e in
       (eqb-true _ _ (f .0), eqb-true _ _ (f .1)))
 
 allowed : (s : Snapshot) (q : Query) → askedContext s q .«allow_unstable» ≡ bit (q .options) 8

@@ -128,10 +128,10 @@ module _ (C : Type 0) (charge : Charge C) (size : C → ℕ) (Past : ℕ → ℕ
           → Both F (findInSysroot Tank fromTank s x here rt left item a ls b) (findInSysroot C charge s x here rc left item c ls b)
       unfolding findInSysroot
       sysroot-sim left item a c [] true h = h
-      sysroot-sim left item a c [] false h = deps-sim left item a c (sysrootFirst s (x .«from_crate»)) h
+      sysroot-sim left item a c [] false h = deps-sim left item a c (sysrootFirst s (x .«from_crate» .0)) h
       sysroot-sim left item a c (l ∷ ls) true h = h
       sysroot-sim left item a c (l ∷ ls) false h =
-          sysroot-next left item ls _ _ (λ b k. sysroot-sim left item _ _ ls b k) (deps-sim left item a c (oneOrNone (langOf s (x .«from_crate») l)) h)
+          sysroot-next left item ls _ _ (λ b k. sysroot-sim left item _ _ ls b k) (deps-sim left item a c (oneOrNone (langOf s (x .«from_crate» .0) l)) h)
 
       go-sim : (left : ℕ) (item : Item) (t : Tank) (n : C) (a b : Bool) → Sync F t (size n)
           → Both F (goOn Tank fromTank s x here rt left item t a b) (goOn C charge s x here rc left item n a b)

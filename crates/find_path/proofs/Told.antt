@@ -105,9 +105,9 @@ module _ (s : Snapshot) (r : Ranges (countsOf s) s) where
       sysroot-told : (item : Item) (o : Out Tank) (ls : List ℕ) (b : Bool) → Keeps (o .meter) → Keeps (findInSysroot Tank fromTank s x here rec left item o ls b .meter)
       unfolding findInSysroot
       sysroot-told item o [] true f = f
-      sysroot-told item o [] false f = deps-told item o (sysrootFirst s (x .«from_crate»)) f
+      sysroot-told item o [] false f = deps-told item o (sysrootFirst s (x .«from_crate» .0)) f
       sysroot-told item o (l ∷ ls) true f = f
-      sysroot-told item o (l ∷ ls) false f = sysroot-told item _ ls _ (deps-told item o (oneOrNone (langOf s (x .«from_crate») l)) f)
+      sysroot-told item o (l ∷ ls) false f = sysroot-told item _ ls _ (deps-told item o (oneOrNone (langOf s (x .«from_crate» .0) l)) f)
 
       go-told : (item : Item) (t : Tank) (a b : Bool) → Keeps t → Keeps (goOn Tank fromTank s x here rec left item t a b .meter)
       unfolding goOn
@@ -190,7 +190,7 @@ module _ (s : Snapshot) (r : Ranges (countsOf s) s) where
     start-told : (t : Tank) (b : Bool) → Keeps t → Keeps (fromItem Tank fromTank s q t b .meter)
     unfolding fromItem
     start-told t true f = f
-    start-told t false f = home-told _ t _ (item-inside (q .ns) (q .definition)) f
+    start-told t false f = home-told _ t _ (item-inside (q .ns) (q .definition .0)) f
 
     search-told : (t : Tank) → Keeps t → Keeps (findPath Tank fromTank s q t .meter)
     unfolding findPath

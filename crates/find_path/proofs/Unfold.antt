@@ -113,10 +113,10 @@ module _ (M : Type 0) (charge : Charge M) (s : Snapshot) (x : FindPathCtx) where
         → findInSysroot M charge s x here f left item o ls b ≡ findInSysroot M charge s x here g left item o ls b
     unfolding findInSysroot
     sysroot-same item o [] true = refl
-    sysroot-same item o [] false = deps-same item o (sysrootFirst s (x .«from_crate»))
+    sysroot-same item o [] false = deps-same item o (sysrootFirst s (x .«from_crate» .0))
     sysroot-same item o (l ∷ ls) true = refl
     sysroot-same item o (l ∷ ls) false =
-        ap (λ (r : Out M). findInSysroot M charge s x here f left item r ls (isStable (r .choice))) (deps-same item o (oneOrNone (langOf s (x .«from_crate») l)))
+        ap (λ (r : Out M). findInSysroot M charge s x here f left item r ls (isStable (r .choice))) (deps-same item o (oneOrNone (langOf s (x .«from_crate» .0) l)))
         ∙ sysroot-same item _ ls _
 
     go-same : (item : Item) (t : M) (a b : Bool) → goOn M charge s x here f left item t a b ≡ goOn M charge s x here g left item t a b

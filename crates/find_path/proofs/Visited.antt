@@ -158,7 +158,7 @@ module _ (s : Snapshot) (x : FindPathCtx) (turns : ℕ) where
       abbrev Loops : ℕ → Type 0
       Loops b = (d ws : List ℕ) (best : Choice) → Fresh v item d
           → worklist s x turns rec left item b d ws best (under v item d)
-          ≡ record { choice = eachPair d best (emits v item (leadsTo s (x .from)) b d ws); set = v }
+          ≡ record { choice = eachPair d best (emits v item (leadsTo s (x .from .0)) b d ws); set = v }
 
       loops-end : (d : List ℕ) (best : Choice) → Fresh v item d
           → _≡_ {A = Handed} (record { choice = best; set = removeAll (under v item d) item d }) (record { choice = best; set = v })
@@ -166,7 +166,7 @@ module _ (s : Snapshot) (x : FindPathCtx) (turns : ℕ) where
 
       loops-step : (b : ℕ) → Loops b → (d : List ℕ) (m : ℕ) (ws : List ℕ) (best : Choice) → Fresh v item d → (t : Bool) → v item m || has d m ≡ t
           → worklist s x turns rec left item (suc b) d (m ∷ ws) best (under v item d)
-          ≡ record { choice = eachPair d best (emits v item (leadsTo s (x .from)) (suc b) d (m ∷ ws)); set = v }
+          ≡ record { choice = eachPair d best (emits v item (leadsTo s (x .from .0)) (suc b) d (m ∷ ws)); set = v }
       unfolding worklist emits eachPair
       loops-step b ih d m ws best f true e =
           let u : under v item d item m ≡ true = under-met v item d m ∙ e in rw (worklist, u, emits, e) (ih d ws best f)
@@ -179,7 +179,7 @@ module _ (s : Snapshot) (x : FindPathCtx) (turns : ℕ) where
           ≡ record { choice = callback s x turns rec left best (under v item d′) m o .choice; set = under v item d′ } =
           ap (λ (w : Pairs). callback s x turns rec left best w m o) i
           ∙ (λ k. record { choice = callback s x turns rec left best (under v item d′) m o .choice; set = callback-back best (under v item d′) m o k }) in
-          rw (worklist, u, emits, e, r, outside-unmet v item d′ (leadsTo s (x .from) m)) (ih d′ _ _ (fresh-more v item d m f (or-none (v item m) (has d m) e .0)))
+          rw (worklist, u, emits, e, r, outside-unmet v item d′ (leadsTo s (x .from .0) m)) (ih d′ _ _ (fresh-more v item d m f (or-none (v item m) (has d m) e .0)))
 
       loops : (b : ℕ) → Loops b
       unfolding worklist emits eachPair
@@ -188,13 +188,13 @@ module _ (s : Snapshot) (x : FindPathCtx) (turns : ℕ) where
       loops (suc b) d (m ∷ ws) best f = loops-step b (loops b) d m ws best f (v item m || has d m) refl
 
       best-loops : bestInSet s x turns rec left v item
-          ≡ record { choice = eachPair [] nothing (walk (leadsTo s (x .from)) (v item) turns [] (startFrom s (x .from))); set = v }
+          ≡ record { choice = eachPair [] nothing (walk (leadsTo s (x .from .0)) (v item) turns [] (startFrom s (x .from .0))); set = v }
       unfolding bestInSet has any
       best-loops =
-          ap (λ (w : Pairs). worklist s x turns rec left item turns [] (startFrom s (x .from)) nothing w) (under-none v item)
-          ∙ loops turns [] (startFrom s (x .from)) nothing (λ n h. absurd (false≢true h))
+          ap (λ (w : Pairs). worklist s x turns rec left item turns [] (startFrom s (x .from .0)) nothing w) (under-none v item)
+          ∙ loops turns [] (startFrom s (x .from .0)) nothing (λ n h. absurd (false≢true h))
           ∙ ap {B = Handed} (λ (ms : List ℕ). record { choice = eachPair [] nothing ms; set = v })
-          (sym (walk-emits v item (leadsTo s (x .from)) turns [] (startFrom s (x .from))))
+          (sym (walk-emits v item (leadsTo s (x .from .0)) turns [] (startFrom s (x .from .0))))
 
   -- a search that answers as the one with the pairs passed down
   abbrev Same : SetSearch → LocalSearch → Type 0
@@ -224,7 +224,7 @@ module _ (s : Snapshot) (x : FindPathCtx) (turns : ℕ) where
       best-same left ls item =
           ap (λ (h : Handed). h .choice) (best-loops rec back left (visited ls) item)
           ∙ each-same left ls item [] nothing _
-          ∙ ap (eachLocation s x plain left ls item [] nothing) (locations-more s (x .from) (visited ls item) turns enough)
+          ∙ ap (eachLocation s x plain left ls item [] nothing) (locations-more s (x .from .0) (visited ls item) turns enough)
 
       or-same : (left : ℕ) (ls : List Level) (m : ℕ) (c : Choice) (b : Bool)
           → orInSet s x turns rec left (visited ls) m c b .choice ≡ orLocal s x plain left ls m c b

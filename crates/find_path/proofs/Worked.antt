@@ -44,7 +44,7 @@ pub record Row : Type 0 where
 -- definition, namespace, viewing module, prefix, options, fuel, limit, and the line
 pub rowAt : ℕ → ℕ → ℕ → ℕ → ℕ → ℕ → ℕ → String → Row
 rowAt d ns m p o f n l =
-    record { question = record { query = record { ns = ns; definition = d; from = m; prefix = p; options = o; limit = n }; fuel = f }; line = l }
+    record { question = record { query = record { ns = ns; definition = record { 0 = d }; from = record { 0 = m }; prefix = p; options = o; limit = n }; fuel = f }; line = l }
 
 -- the same with the largest limit
 abbrev pub row : ℕ → ℕ → ℕ → ℕ → ℕ → ℕ → String → Row
@@ -369,7 +369,7 @@ pub record First : Type 0 where
 -- definition, namespace, viewing module, options, fuel, and what is told; the prefix is Plain
 pub first : ℕ → ℕ → ℕ → ℕ → ℕ → ℕ → ℕ → First
 first d ns m o f left sought =
-    record { question = record { query = record { ns = ns; definition = d; from = m; prefix = 1; options = o; limit = 15 }; fuel = f }; left = left; sought = sought }
+    record { question = record { query = record { ns = ns; definition = record { 0 = d }; from = record { 0 = m }; prefix = 1; options = o; limit = 15 }; fuel = f }; left = left; sought = sought }
 
 -- the reports say empty, and tell that
 unfoldable pub tells : List ℕ → List First → Bool
@@ -424,7 +424,7 @@ cycle-firsts = refl
 unfoldable pub freeLine : Snapshot → Query → List ℕ
 freeLine s q =
     let o = searchedFreely s q in
-    joined (bytesOf " ") (lineParts s (editionIn s (q .from)) (reported s q (record { choice = o .choice; meter = filled 0 })) ++ (decimal (o .meter) ∷ []))
+    joined (bytesOf " ") (lineParts s (editionIn s (q .from .0)) (reported s q (record { choice = o .choice; meter = filled 0 })) ++ (decimal (o .meter) ∷ []))
 
 unfoldable pub makes : List ℕ → List Row → Bool
 unfolding passes freeLine searchedFreely counted
@@ -461,7 +461,7 @@ free-cycle = refl
 
 -- document 01's question: definition 1 in values, from the root, Plain
 abbrev pub asked : Query
-asked = record { ns = 1; definition = 1; from = 0; prefix = 1; options = 0; limit = 15 }
+asked = record { ns = 1; definition = record { 0 = 1 }; from = record { 0 = 0 }; prefix = 1; options = 0; limit = 15 }
 
 -- On the worked snapshot its search without a tank makes one charge; fuels 1 and 10,000 report alike, fuel 0 says empty and counts 0.
 pub record Instance : Type 0 where

@@ -94,10 +94,10 @@ module _ (M : Type 0) (charge : Charge M) (s : Snapshot) (x : FindPathCtx) (here
   -- `find_in_sysroot`: the three languages in turn, until the choice is stable; then every dependency, those of the sysroot first
   unfoldable pub findInSysroot : Search M → ℕ → Item → Out M → List ℕ → Bool → Out M
   findInSysroot rec left item o [] true = o
-  findInSysroot rec left item o [] false = findInDeps rec left item o (sysrootFirst s (x .«from_crate»))
+  findInSysroot rec left item o [] false = findInDeps rec left item o (sysrootFirst s (x .«from_crate» .0))
   findInSysroot rec left item o (l ∷ ls) true = o
   findInSysroot rec left item o (l ∷ ls) false =
-      let r = findInDeps rec left item o (oneOrNone (langOf s (x .«from_crate») l)) in
+      let r = findInDeps rec left item o (oneOrNone (langOf s (x .«from_crate» .0) l)) in
       findInSysroot rec left item r ls (isStable (r .choice))
 
   -- after a charge: in the viewer's crate the local search, else the sysroot for a std item, else the dependencies
@@ -105,10 +105,10 @@ module _ (M : Type 0) (charge : Charge M) (s : Snapshot) (x : FindPathCtx) (here
   goOn rec left item t true std = record { choice = here left item; meter = t }
   goOn rec left item t false true = findInSysroot rec left item (record { choice = nothing; meter = t }) (langs (x .«prefer_no_std»)) false
   goOn rec left item t false false =
-      findInDeps rec left item (record { choice = nothing; meter = t }) (dependenciesOf s (x .«from_crate»))
+      findInDeps rec left item (record { choice = nothing; meter = t }) (dependenciesOf s (x .«from_crate» .0))
 
   unfoldable pub afterCharge : Search M → ℕ → Item → Charged M → Out M
-  afterCharge rec left item (go t) = goOn rec left item t (isAt s (homeOf s item) (x .«from_crate»)) (x .«is_std_item»)
+  afterCharge rec left item (go t) = goOn rec left item t (isAt s (homeOf s item) (x .«from_crate» .0)) (x .«is_std_item»)
   afterCharge rec left item (stop t) = record { choice = nothing; meter = t }
 
   -- `calculate_best_path`, the only rule that charges

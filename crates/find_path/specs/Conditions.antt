@@ -27,7 +27,7 @@ use Rattle.find_path.specs.Charged.{Out, foundOf}
 -- accepted words with their tables, a viewing module that is there, the whole work area, and a limit in range
 pub record Prepared (W A : List ℕ) (l : Layout) (x : FindPathCtx) : Type 0 where
   pub reads : Reads W A l
-  pub from : x .from < l .modules
+  pub from : x .from .0 < l .modules
   pub area : length A ≡ areaLimit
   pub some : 0 < x .«max_len»
   pub limit : x .«max_len» ≤ pathLimit

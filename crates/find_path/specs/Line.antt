@@ -116,8 +116,8 @@ snapshotOf (accept s) = s
 
 -- the line of a question on the words of a snapshot, with a work area that serves
 unfoldable pub lineOf : List ℕ → Question → List ℕ
-lineOf words q = lineIn (snapshotOf (verdict words)) (q .query .from) (reportOf words areaLimit q)
+lineOf words q = lineIn (snapshotOf (verdict words)) (q .query .from .0) (reportOf words areaLimit q)
 
 -- the same with its route
 unfoldable pub routedLineOf : List ℕ → Question → List ℕ
-routedLineOf words q = routedLineIn (snapshotOf (verdict words)) (q .query .from) (reportOf words areaLimit q)
+routedLineOf words q = routedLineIn (snapshotOf (verdict words)) (q .query .from .0) (reportOf words areaLimit q)

@@ -29,7 +29,7 @@ module _ (s : Snapshot) (x : FindPathCtx) where
 
   -- visible, and declared there or no implicitly private import
   abbrev pub isImportable : Scope → Bool
-  isImportable e = sees s (x .from) e && (isDeclared e || not (eqb (e .visibility) 3))
+  isImportable e = sees s (x .from .0) e && (isDeclared e || not (eqb (e .visibility) 3))
 
   unfoldable pub entryIf : Option Scope → Option Scope
   entryIf none = none
@@ -54,7 +54,7 @@ module _ (s : Snapshot) (x : FindPathCtx) where
   -- `calculate_best_path_local`
   unfoldable pub calculateBestPathLocal : LocalSearch → ℕ → List Level → Item → Choice
   calculateBestPathLocal rec left ls item =
-      eachLocation rec left ls item [] nothing (findLocalImportLocations s (x .from) (visited ls item))
+      eachLocation rec left ls item [] nothing (findLocalImportLocations s (x .from .0) (visited ls item))
 
   unfoldable pub orLocal : LocalSearch → ℕ → List Level → ℕ → Choice → Bool → Choice
   orLocal rec left ls m c true = c

@@ -21,8 +21,8 @@ withReading q =
 -- The path is for a builtin in types, or means the item of the question in the viewing module.
 abbrev pub MeansItem : Snapshot → Query → Report → Type 0
 MeansItem s q r =
-    ((q .ns ≡ types) × (definitionOf s (q .definition) .kind ≡ builtinKind))
-    ⊎ (readsTo s (q .from) (q .ns) (r .kind) (pathNames r) ≡ some (askedItem s q))
+    ((q .ns ≡ types) × (definitionOf s (q .definition .0) .kind ≡ builtinKind))
+    ⊎ (readsTo s (q .from .0) (q .ns) (r .kind) (pathNames r) ≡ some (askedItem s q))
 
 -- the report with another outcome
 abbrev pub withOutcome : ℕ → Report → Report

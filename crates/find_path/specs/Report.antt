@@ -37,8 +37,8 @@ callFault area q fuel =
 -- the first of those that need one: 23 no such definition or module, 24 a macro that is none, or 0 for none
 unfoldable pub questionFault : Snapshot → Query → ℕ
 questionFault s q =
-    elim (ltb (q .definition) (length (s .definitions)) && ltb (q .from) (length (s .modules))) [
-      | true ↦ elim (eqb (q .ns) macros && not (eqb (definitionOf s (q .definition) .kind) macroKind)) [ true ↦ macroRefusal | false ↦ 0 ]
+    elim (ltb (q .definition .0) (length (s .definitions)) && ltb (q .from .0) (length (s .modules))) [
+      | true ↦ elim (eqb (q .ns) macros && not (eqb (definitionOf s (q .definition .0) .kind) macroKind)) [ true ↦ macroRefusal | false ↦ 0 ]
       | false ↦ unknownRefusal
     ]
 
@@ -68,7 +68,7 @@ flag false = 0
 unfoldable pub misleads : Snapshot → Query → Choice → Bool
 misleads s q c =
     bit (q .options) 64
-    && (c .found && not (isBuiltinType s q || readsBack s (q .from) (itemOf s (q .ns) (q .definition)) (c .kind) (take (c .count) (c .names))))
+    && (c .found && not (isBuiltinType s q || readsBack s (q .from .0) (itemOf s (q .ns) (q .definition .0)) (c .kind) (take (c .count) (c .names))))
 
 -- 0 found, 1 none, 3 found and misleading
 unfoldable pub outcomeBy : Bool → Bool → ℕ

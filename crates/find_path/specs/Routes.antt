@@ -29,21 +29,21 @@ a ∈ xs = List·Memᴰ a xs
 
 -- the item's home is in the viewer's crate
 abbrev pub isNear : Snapshot → FindPathCtx → Item → Bool
-isNear s x item = isAt s (homeOf s item) (x .«from_crate»)
+isNear s x item = isAt s (homeOf s item) (x .«from_crate» .0)
 
 -- A path of that kind starts with these names, by this step, and so reaches the item.
 pub data Start (s : Snapshot) (x : FindPathCtx) : ℕ → List ℕ → ℕ → Item → Type 0 where
   -- a keyword without names: the viewing module, its parent, the root of its crate; ByCrate takes no other than the last
-  self : (x .prefix ≡ byCrate → ⊥) → Start s x selfPath [] (stepBy viaKeyword 0) (Mod (x .from))
-  super : (p : ℕ) → (x .prefix ≡ byCrate → ⊥) → parentOf s (x .from) ≡ suc p → Start s x superPath [] (stepBy viaKeyword 0) (Mod p)
-  crate : Start s x cratePath [] (stepBy viaKeyword 0) (Mod (x .«crate_root»))
+  self : (x .prefix ≡ byCrate → ⊥) → Start s x selfPath [] (stepBy viaKeyword 0) (Mod (x .from .0))
+  super : (p : ℕ) → (x .prefix ≡ byCrate → ⊥) → parentOf s (x .from .0) ≡ suc p → Start s x superPath [] (stepBy viaKeyword 0) (Mod p)
+  crate : Start s x cratePath [] (stepBy viaKeyword 0) (Mod (x .«crate_root» .0))
   -- a first name by the scope, where it may be used, by the prelude, or by an extern of the viewer's crate for the root of another
   scope : (item : Item) (e : Scope) → e ∈ s .scopes → mayBeInScope s x ≡ true → findInScope s x item ≡ some e
       → Start s x (prefixPathKind (x .prefix)) (e .name ∷ []) (stepBy viaScope (e .place)) item
   prelude : (item : Item) (e : Scope) → e ∈ s .scopes → findInPrelude s x item ≡ some e
       → Start s x plainPath (e .name ∷ []) (stepBy viaPrelude (e .place)) item
-  extern : (m : ℕ) (e : Extern) → e ∈ s .externs → crateRoot s m ≡ m → (m ≡ x .«crate_root» → ⊥) → externOf s (x .«from_crate») m ≡ some e
-      → Start s x (externKind s x (occupied s (x .from) m (e .name) || x .«prefer_absolute»)) (e .name ∷ []) (stepBy viaExtern (e .place)) (Mod m)
+  extern : (m : ℕ) (e : Extern) → e ∈ s .externs → crateRoot s m ≡ m → (m ≡ x .«crate_root» .0 → ⊥) → externOf s (x .«from_crate» .0) m ≡ some e
+      → Start s x (externKind s x (occupied s (x .from .0) m (e .name) || x .«prefer_absolute»)) (e .name ∷ []) (stepBy viaExtern (e .place)) (Mod m)
   -- a builtin is its name
   builtin : (d : ℕ) → definitionOf s d ∈ s .definitions → definitionOf s d .kind ≡ builtinKind
       → Start s x plainPath (definitionOf s d .first ∷ []) (stepBy viaBuiltin (definitionOf s d .place)) (itemOf s types d)
@@ -52,11 +52,11 @@ pub data Start (s : Snapshot) (x : FindPathCtx) : ℕ → List ℕ → ℕ → I
 pub data Step (s : Snapshot) (x : FindPathCtx) : ℕ → ℕ → ℕ → Item → Type 0 where
   -- by the scope record of the module that the local search finds for the item, which is of the viewer's crate and visible from the viewing module
   entry : (e : Scope) → e ∈ s .scopes → isNear s x (itemOf s (e .ns) (e .definition)) ≡ true
-      → importableName s x (itemOf s (e .ns) (e .definition)) (e .owner) ≡ some e → sees s (x .from) e ≡ true
+      → importableName s x (itemOf s (e .ns) (e .definition)) (e .owner) ≡ some e → sees s (x .from .0) e ≡ true
       → Step s x (e .owner) (e .name) (stepBy viaLocal (e .place)) (itemOf s (e .ns) (e .definition))
   -- by an import record of a dependency of the viewer's crate, for an item of another crate, in the module; it is not hidden, and is
   -- stable unless the question allows others
-  imported : (d : Dependency) (i : Import) → d ∈ dependenciesOf s (x .«from_crate») → i ∈ s .imports → i .owner ≡ d .crate
+  imported : (d : Dependency) (i : Import) → d ∈ dependenciesOf s (x .«from_crate» .0) → i ∈ s .imports → i .owner ≡ d .crate
       → isNear s x (itemOf s (i .ns) (i .definition)) ≡ false → isHidden i ≡ false → (isUnstable i ≡ true → x .«allow_unstable» ≡ true)
       → Step s x (i .container) (i .name) (stepBy viaImport (i .place)) (itemOf s (i .ns) (i .definition))
 
@@ -92,7 +92,7 @@ pub record Shown (W : List ℕ) (t : ℕ) : Type 0 where
 
 -- the item of a question
 abbrev pub askedItem : Snapshot → Query → Item
-askedItem s q = itemOf s (q .ns) (q .definition)
+askedItem s q = itemOf s (q .ns) (q .definition .0)
 
 -- what is set for a question, by its item's home
 abbrev pub askedContext : Snapshot → Query → FindPathCtx

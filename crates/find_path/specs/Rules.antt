@@ -54,7 +54,7 @@ contextOf s q home =
       prefix = plainIf (inBlock s home) (q .prefix);
       «prefer_no_std» =
           bit (q .options) 1
-          || (eqb (mapOf s (mapNo s (q .from)) .noStd) 1 || eqb (crateData s (crateOf s (q .from)) .noStd) 1);
+          || (eqb (mapOf s (mapNo s (q .from .0)) .noStd) 1 || eqb (crateData s (crateOf s (q .from .0)) .noStd) 1);
       «prefer_prelude» = bit (q .options) 2;
       «prefer_absolute» = bit (q .options) 4;
       «allow_unstable» = bit (q .options) 8;
@@ -62,9 +62,9 @@ contextOf s q home =
       fresh = bit (q .options) 32;
       «is_std_item» = isLang s (crateOf s home);
       from = q .from;
-      «from_crate» = crateOf s (q .from);
-      «crate_root» = crateRoot s (q .from);
-      own = moduleIn (itemOf s (q .ns) (q .definition));
+      «from_crate» = record { 0 = crateOf s (q .from .0) };
+      «crate_root» = record { 0 = crateRoot s (q .from .0) };
+      own = moduleIn (itemOf s (q .ns) (q .definition .0));
       «max_len» = q .limit;
     }
 
@@ -90,11 +90,11 @@ module _ (s : Snapshot) (x : FindPathCtx) where
 
   -- `find_in_scope`: the item's entry in the viewing module, or around its blocks; imports only where they count, old names last by bit 32
   unfoldable pub findInScope : Item → Option Scope
-  findInScope item = scopeEntry s (x .from) item (x .«ignore_local_imports») (x .fresh)
+  findInScope item = scopeEntry s (x .from .0) item (x .«ignore_local_imports») (x .fresh)
 
   -- `may_be_in_scope`: under ByCrate only the crate's root uses its scope
   unfoldable pub mayBeInScope : Bool
-  mayBeInScope = not (eqb (x .prefix) byCrate) || eqb (x .«crate_root») (x .from)
+  mayBeInScope = not (eqb (x .prefix) byCrate) || eqb (x .«crate_root» .0) (x .from .0)
 
   unfoldable pub scopeRule : Item → Choice
   scopeRule item =
@@ -107,7 +107,7 @@ module _ (s : Snapshot) (x : FindPathCtx) where
 
   -- the tests of the prelude rule: visible, and its name is not another thing's here
   abbrev pub isUsable : Item → Scope → Bool
-  isUsable item e = sees s (x .from) e && sameHere item (entryNamed s (x .from) (nsOf item) (e .name))
+  isUsable item e = sees s (x .from .0) e && sameHere item (entryNamed s (x .from .0) (nsOf item) (e .name))
 
   unfoldable pub preludeEntry : Item → Option Scope → Option Scope
   preludeEntry item none = none
@@ -120,7 +120,7 @@ module _ (s : Snapshot) (x : FindPathCtx) where
   -- `find_in_prelude`: the item's first entry in the prelude, if visible and not another thing's name here; by bit 32 the first such
   -- entry that isn't deprecated, if there is one
   unfoldable pub findInPrelude : Item → Option Scope
-  findInPrelude item = inPrelude item (preludeOf s (mapNo s (x .from)))
+  findInPrelude item = inPrelude item (preludeOf s (mapNo s (x .from .0)))
 
   unfoldable pub preludeRule : Item → Choice
   preludeRule item = single plainPath viaPrelude (findInPrelude item)
@@ -131,13 +131,13 @@ module _ (s : Snapshot) (x : FindPathCtx) where
 
   unfoldable pub externName : ℕ → Option Extern → Choice
   externName m none = nothing
-  externName m (some e) = choiceNew s (externKind (occupied s (x .from) m (e .name) || x .«prefer_absolute»)) (e .name) (stepBy viaExtern (e .place))
+  externName m (some e) = choiceNew s (externKind (occupied s (x .from .0) m (e .name) || x .«prefer_absolute»)) (e .name) (stepBy viaExtern (e .place))
 
   -- a crate's root is `crate`, in the viewer's crate or where no extern may be used; else its extern name
   unfoldable pub rootRule : Bool → ℕ → Choice
   rootRule maybeExtern m =
       elim (eqb (crateRoot s m) m) [
-        | true ↦ elim (not maybeExtern || eqb m (x .«crate_root»)) [ true ↦ keyword cratePath | false ↦ externName m (externOf s (x .«from_crate») m) ]
+        | true ↦ elim (not maybeExtern || eqb m (x .«crate_root» .0)) [ true ↦ keyword cratePath | false ↦ externName m (externOf s (x .«from_crate» .0) m) ]
         | false ↦ nothing
       ]
 
@@ -146,16 +146,16 @@ module _ (s : Snapshot) (x : FindPathCtx) where
   parentKind m zero = none
   parentKind m (suc p) =
       elim (eqb m p) [
-        | true ↦ elim (eqb p (rootOf s (mapNo s (x .from)))) [ true ↦ some cratePath | false ↦ some superPath ]
+        | true ↦ elim (eqb p (rootOf s (mapNo s (x .from .0)))) [ true ↦ some cratePath | false ↦ some superPath ]
         | false ↦ none
       ]
 
   -- `is_kw_kind_relative_to_from`: the viewer's own module, or its parent, where neither is in a block
   unfoldable pub isKwKindRelativeToFrom : ℕ → Option ℕ
   isKwKindRelativeToFrom m =
-      elim (not (eqb (crateOf s m) (crateOf s (x .from))) || (inBlock s m || inBlock s (x .from))) [
+      elim (not (eqb (crateOf s m) (crateOf s (x .from .0))) || (inBlock s m || inBlock s (x .from .0))) [
         | true ↦ none
-        | false ↦ elim (eqb m (x .from)) [ true ↦ some selfPath | false ↦ parentKind m (parentOf s (x .from)) ]
+        | false ↦ elim (eqb m (x .from .0)) [ true ↦ some selfPath | false ↦ parentKind m (parentOf s (x .from .0)) ]
       ]
 
   -- ByCrate takes no keyword but `crate`

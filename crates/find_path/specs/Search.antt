@@ -18,7 +18,7 @@ use Rattle.find_path.specs.Charged.{Out, Search, findPathForModule, find
 
 -- the question is for a builtin, in types
 abbrev pub isBuiltinType : Snapshot → Query → Bool
-isBuiltinType s q = eqb (q .ns) types && eqb (definitionOf s (q .definition) .kind) builtinKind
+isBuiltinType s q = eqb (q .ns) types && eqb (definitionOf s (q .definition .0) .kind) builtinKind
 
 -- the name of a builtin
 unfoldable pub builtinChoice : Snapshot → Definition → Choice
@@ -63,9 +63,9 @@ module _ (M : Type 0) (charge : Charge M) (s : Snapshot) where
 
   -- a builtin in types is its name
   unfoldable pub fromItem : Query → M → Bool → Out M
-  fromItem q t true = record { choice = builtinChoice s (definitionOf s (q .definition)); meter = t }
+  fromItem q t true = record { choice = builtinChoice s (definitionOf s (q .definition .0)); meter = t }
   fromItem q t false =
-      let item = itemOf s (q .ns) (q .definition) in
+      let item = itemOf s (q .ns) (q .definition .0) in
       fromHome q item t (homeOf s item)
 
   -- `find_path`

@@ -64,11 +64,11 @@ module _ (s : Snapshot) (x : FindPathCtx) (turns : ℕ) where
         | true ↦ worklist rec left item b processed ws best v
         | false ↦
             let r = callback rec left best (insert v item m) m (importableName s x item m) in
-            worklist rec left item b (processed ++ (m ∷ [])) (ws ++ select (λ n. not (r .set item n)) (leadsTo s (x .from) m)) (r .choice) (r .set)
+            worklist rec left item b (processed ++ (m ∷ [])) (ws ++ select (λ n. not (r .set item n)) (leadsTo s (x .from .0) m)) (r .choice) (r .set)
       ]
 
   unfoldable pub bestInSet : SetSearch → ℕ → Pairs → Item → Handed
-  bestInSet rec left v item = worklist rec left item turns [] (startFrom s (x .from)) nothing v
+  bestInSet rec left v item = worklist rec left item turns [] (startFrom s (x .from .0)) nothing v
 
   unfoldable pub orInSet : SetSearch → ℕ → Pairs → ℕ → Choice → Bool → Handed
   orInSet rec left v m c true = record { choice = c; set = v }
@@ -98,4 +98,4 @@ pub record OneSet (s : Snapshot) (x : FindPathCtx) (turns : ℕ) : Type 0 where
       → bestInSet s x turns (searchInSet s x turns) left noPairs item ≡ record { choice = bestLocal s x left item; set = noPairs }
 
 abbrev pub Enough : Snapshot → FindPathCtx → ℕ → Type 0
-Enough s x turns = length (startFrom s (x .from)) + length (s .scopes) ≤ turns
+Enough s x turns = length (startFrom s (x .from .0)) + length (s .scopes) ≤ turns

@@ -1,4 +1,7 @@
 //! What the search takes and answers.
+use snapshot::ids::Crate;
+use snapshot::ids::DefinitionId;
+use snapshot::ids::ModuleId;
 
 // What is set once for a question, after the Rust's `FindPathCtx` and its config; `fresh` is old names last; `own` is the module asked for, +1,
 // or 0 where the item is no module; `max_len` is the length left at the start.
@@ -11,9 +14,9 @@ pub struct FindPathCtx {
     pub ignore_local_imports: bool,
     pub fresh: bool,
     pub is_std_item: bool,
-    pub from: usize,
-    pub from_crate: usize,
-    pub crate_root: usize,
+    pub from: ModuleId,
+    pub from_crate: Crate,
+    pub crate_root: ModuleId,
     pub own: usize,
     pub max_len: usize,
 }
@@ -65,8 +68,8 @@ pub struct Found {
 // left at the start.
 pub struct Query {
     pub ns: usize,
-    pub definition: usize,
-    pub from: usize,
+    pub definition: DefinitionId,
+    pub from: ModuleId,
     pub prefix: usize,
     pub options: usize,
     pub limit: usize,

@@ -191,7 +191,7 @@ module _ (W A₀ : List ℕ) (l : Layout) (x : FindPathCtx) (left : ℕ) (item :
       (chain-same A₀ H (s .top) (sym (head-below A₀ s code)) (s .depth) (s .place) (y .chain))
 
   module _ (A₁ : List ℕ) (n : ℕ)
-      (g : Gathered H (s .top + 3) (findLocalImportLocations (snapOf W H l) (x .from) (visited (levelsOf H (s .place) (s .depth)) item)) A₁ n)
+      (g : Gathered H (s .top + 3) (findLocalImportLocations (snapOf W H l) (x .from .0) (visited (levelsOf H (s .place) (s .depth)) item)) A₁ n)
       (long : length A₁ ≡ length H) where
     abbrev S₁ : Snapshot
     S₁ = snapOf W A₁ l
@@ -258,7 +258,7 @@ module _ (W A₀ : List ℕ) (l : Layout) (x : FindPathCtx) (left : ℕ) (item :
         pub nesting-known : m < l .modules
         nesting-known =
             let f : ℕ → ℕ = λ i. getD A₁ (s .top + 3 + i) 0 in
-            let a = locations-there W H l head-reads (x .from) (visited (levelsOf H (s .place) (s .depth)) item) (y .from) in
+            let a = locations-there W H l head-reads (x .from .0) (visited (levelsOf H (s .place) (s .depth)) item) (y .from) in
             let b : Each (λ i. i < l .modules) ws = subst (Each (λ i. i < l .modules)) (sym (g .run)) a in
             subst (λ i. i < l .modules) (sym taken) (each-at 0 k b (omega (arith, length-rows f n)))
 
@@ -290,8 +290,8 @@ module _ (W A₀ : List ℕ) (l : Layout) (x : FindPathCtx) (left : ℕ) (item :
           let hn : snapOf W H l ≡ S₀ = snap-at W A₀ H l (s .top) (y .reads) (y .tables) (head-below A₀ s code) in
           let lv : levelsOf A₁ (s .place) (s .depth) ≡ L = sym (levels-same A₀ A₁ (s .top) (sym start-below) (s .depth) (s .place) (y .chain)) in
           let hv : levelsOf H (s .place) (s .depth) ≡ L = sym (levels-same A₀ H (s .top) (sym (head-below A₀ s code)) (s .depth) (s .place) (y .chain)) in
-          let q : ws ≡ findLocalImportLocations S₀ (x .from) (visited L item) =
-          g .run ∙ ap₂ (λ (z : Snapshot) (u : List Level). findLocalImportLocations z (x .from) (visited u item)) hn hv in
+          let q : ws ≡ findLocalImportLocations S₀ (x .from .0) (visited L item) =
+          g .run ∙ ap₂ (λ (z : Snapshot) (u : List Level). findLocalImportLocations z (x .from .0) (visited u item)) hn hv in
           let e : eachLocation S₁ x (searchLocal S₁ x) left (levelsOf A₁ (s .place) (s .depth)) item [] nothing ws ≡ best =
           v .whole ∙ each-end S₁ x left (levelsOf A₁ (s .place) (s .depth)) item ws k best (omega (arith, length-rows (λ i. getD A₁ (s .top + 3 + i) 0) n)) in
           record {

@@ -19,7 +19,7 @@ levelSize = 3 + moduleLimit
 -- The arguments of a local search of that length: the words of each level that it can open.
 pub record Searchable (W A : List ℕ) (l : Layout) (x : FindPathCtx) (left : ℕ) (s : Stack) : Type 0 where
   pub reads : Reads W A l
-  pub from : x .from < l .modules
+  pub from : x .from .0 < l .modules
   pub area : length A ≡ areaLimit
   pub tables : tableWords ≤ s .top
   pub space : s .top + levelSize * left ≤ areaLimit

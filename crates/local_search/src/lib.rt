@@ -93,7 +93,7 @@ fn local_at(
         place: s.place,
         depth: s.depth,
     };
-    let n = find_local_import_locations(words, area, l, ModuleId(x.from), here, item);
+    let n = find_local_import_locations(words, area, l, x.from, here, item);
     let up = Stack {
         top: base + n,
         place: base,

@@ -74,11 +74,11 @@ pub fn context(
     home: ModuleId,
     own: usize,
 ) -> FindPathCtx
-    requires { ⌜ Reads (now words) (now area) l × (q .from < l .modules) × (home .0 < l .modules) × (own ≡ moduleIn (itemOf (snapOf (now words) (now area) l) (q .ns) (q .definition))) ⌝ }
+    requires { ⌜ Reads (now words) (now area) l × (q .from .0 < l .modules) × (home .0 < l .modules) × (own ≡ moduleIn (itemOf (snapOf (now words) (now area) l) (q .ns) (q .definition .0))) ⌝ }
     ensures { λ r. ⌜ r ≡ contextOf (snapOf (now (words .entry)) (now (area .entry)) l) q (home .0) ⌝ }
 {
     let options = q.options;
-    let from = ModuleId(q.from);
+    let from = q.from;
     let prefix = plain_if(in_block(words, area, l, home), q.prefix);
     let here = krate(words, area, l, from);
     let map = no_std(words, area, l, from);
@@ -100,9 +100,9 @@ pub fn context(
         ignore_local_imports: declared,
         fresh: fresh,
         is_std_item: std,
-        from: q.from,
-        from_crate: here.0,
-        crate_root: root.0,
+        from: from,
+        from_crate: here,
+        crate_root: root,
         own: own,
         max_len: q.limit,
     }
@@ -110,12 +110,12 @@ pub fn context(
 
 /// Whether the viewer sees the entry with its head at a place.
 pub fn sees(words: &[u32], area: &[u32], l: Layout, x: FindPathCtx, h: usize) -> bool
-    requires { ⌜ Reads (now words) (now area) l × (x .from < l .modules) × (2 ≤ scopeAt (now words) h .visibility → scopeAt (now words) h .number < l .modules) ⌝ }
-    ensures { λ r. ⌜ r ≡ seesOf (snapOf (now (words .entry)) (now (area .entry)) l) (x .from) (scopeAt (now (words .entry)) h) ⌝ }
+    requires { ⌜ Reads (now words) (now area) l × (x .from .0 < l .modules) × (2 ≤ scopeAt (now words) h .visibility → scopeAt (now words) h .number < l .modules) ⌝ }
+    ensures { λ r. ⌜ r ≡ seesOf (snapOf (now (words .entry)) (now (area .entry)) l) (x .from .0) (scopeAt (now (words .entry)) h) ⌝ }
 {
     let kind = scope_visibility(words, h);
     let number = scope_number(words, h);
-    is_visible_from(words, area, l, kind, number, ModuleId(x.from))
+    is_visible_from(words, area, l, kind, number, x.from)
 }
 
 // What a charge looks for: a module, +1, or 0 for the question's own item or its enum.

@@ -38,7 +38,7 @@ pub fn importable_name(
     item: Item,
     m: ModuleId,
 ) -> Entry
-    requires { ⌜ Reads (now words) (now area) l × (x .from < l .modules) × (m .0 < l .modules) ⌝ }
+    requires { ⌜ Reads (now words) (now area) l × (x .from .0 < l .modules) × (m .0 < l .modules) ⌝ }
     ensures { λ r. ⌜ (entryOf scopeAt (now (words .entry)) r ≡ importableName (snapOf (now (words .entry)) (now (area .entry)) l) x item (m .0)) × EntryFits (now (words .entry)) l r ⌝ }
 {
     let e = entry_by(words, area, l, x, m, item, Rule::Local).entry;

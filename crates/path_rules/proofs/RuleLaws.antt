@@ -79,7 +79,7 @@ module _ (W A : List ℕ) (l : Layout) (r : Reads W A l) where
 
   pub scope-below : (x : FindPathCtx) (item : Item) (e : Entry) → entryOf scopeAt W e ≡ findInScope (snapOf W A l) x item → EntryFits W l e
   unfolding findInScope
-  scope-below x item (At h) q = scope-entry-fits (x .from) item (x .«ignore_local_imports») (x .fresh) (scopeAt W h) (sym q)
+  scope-below x item (At h) q = scope-entry-fits (x .from .0) item (x .«ignore_local_imports») (x .fresh) (scopeAt W h) (sym q)
   scope-below x item Nothing q = tt
 
 module _ (s : Snapshot) (x : FindPathCtx) where
@@ -102,11 +102,11 @@ module _ (s : Snapshot) (x : FindPathCtx) where
     unfolding preludeEntry
     entry-left t = taken-false _ _ _ (sym ea ∙ t)
 
-  pub prelude-none : (item : Item) {k : ℕ} → k ≡ mapNo s (x .from) → none ≡ preludeOf s k → none ≡ findInPrelude s x item
+  pub prelude-none : (item : Item) {k : ℕ} → k ≡ mapNo s (x .from .0) → none ≡ preludeOf s k → none ≡ findInPrelude s x item
   unfolding findInPrelude inPrelude
   prelude-none item e f = ap (inPrelude s x item) (f ∙ ap (preludeOf s) e)
 
-  pub prelude-some : (item : Item) (p : Prelude) {k t : ℕ} {o : Option Scope} → k ≡ mapNo s (x .from) → some p ≡ preludeOf s k → t ≡ p .target
+  pub prelude-some : (item : Item) (p : Prelude) {k t : ℕ} {o : Option Scope} → k ≡ mapNo s (x .from .0) → some p ≡ preludeOf s k → t ≡ p .target
       → o ≡ preferred (x .fresh) s t item (isUsable s x item) (nameOf s t item) → preludeEntry s x item o ≡ findInPrelude s x item
   unfolding findInPrelude inPrelude
   prelude-some item p e f g h =
@@ -114,11 +114,11 @@ module _ (s : Snapshot) (x : FindPathCtx) where
 
   -- an extern's name
   pub extern-some : (m : ℕ) (e : Extern) {n via : ℕ} {o : Bool} (t : Bool) → n ≡ e .name → via ≡ stepBy viaExtern (e .place)
-      → o ≡ occupied s (x .from) m n → o || x .«prefer_absolute» ≡ t → choiceNew s (externKind s x t) n via ≡ externName s x m (some e)
+      → o ≡ occupied s (x .from .0) m n → o || x .«prefer_absolute» ≡ t → choiceNew s (externKind s x t) n via ≡ externName s x m (some e)
   unfolding externName
   extern-some m e {via = via} t en ev eo et =
-      ap₂ (λ k n. choiceNew s (externKind s x k) n via) (sym et ∙ ap (λ o. o || x .«prefer_absolute») (eo ∙ ap (occupied s (x .from) m) en)) en
-      ∙ ap (choiceNew s (externKind s x (occupied s (x .from) m (e .name) || x .«prefer_absolute»)) (e .name)) ev
+      ap₂ (λ k n. choiceNew s (externKind s x k) n via) (sym et ∙ ap (λ o. o || x .«prefer_absolute») (eo ∙ ap (occupied s (x .from .0) m) en)) en
+      ∙ ap (choiceNew s (externKind s x (occupied s (x .from .0) m (e .name) || x .«prefer_absolute»)) (e .name)) ev
 
   module _ (b : Bool) (m : ℕ) {r : ℕ} (er : r ≡ crateRoot s m) where
     pub root-other : (r ≡ m → ⊥) → nothing ≡ rootRule s x b m
@@ -128,14 +128,14 @@ module _ (s : Snapshot) (x : FindPathCtx) where
     at-root : r ≡ m → eqb (crateRoot s m) m ≡ true
     at-root e = eq-eqb _ m (sym er ∙ e)
 
-    pub root-crate : r ≡ m → not b || eqb m (x .«crate_root») ≡ true → keyword 3 ≡ rootRule s x b m
+    pub root-crate : r ≡ m → not b || eqb m (x .«crate_root» .0) ≡ true → keyword 3 ≡ rootRule s x b m
     unfolding rootRule
-    root-crate e t = taken-true (keyword 3) _ (not b || eqb m (x .«crate_root»)) t ∙ taken-true _ nothing (eqb (crateRoot s m) m) (at-root e)
+    root-crate e t = taken-true (keyword 3) _ (not b || eqb m (x .«crate_root» .0)) t ∙ taken-true _ nothing (eqb (crateRoot s m) m) (at-root e)
 
-    pub root-extern : r ≡ m → not b || eqb m (x .«crate_root») ≡ false → {o : Option Extern} → o ≡ externOf s (x .«from_crate») m → externName s x m o ≡ rootRule s x b m
+    pub root-extern : r ≡ m → not b || eqb m (x .«crate_root» .0) ≡ false → {o : Option Extern} → o ≡ externOf s (x .«from_crate» .0) m → externName s x m o ≡ rootRule s x b m
     unfolding rootRule
     root-extern e t eo =
-        ap (externName s x m) eo ∙ taken-false (keyword 3) _ (not b || eqb m (x .«crate_root»)) t ∙ taken-true _ nothing (eqb (crateRoot s m) m) (at-root e)
+        ap (externName s x m) eo ∙ taken-false (keyword 3) _ (not b || eqb m (x .«crate_root» .0)) t ∙ taken-true _ nothing (eqb (crateRoot s m) m) (at-root e)
 
   pub parent-none : (m p : ℕ) → p ≡ 0 → none ≡ parentKind s x m p
   unfolding parentKind
@@ -147,8 +147,8 @@ module _ (s : Snapshot) (x : FindPathCtx) where
   parent-no m zero e h = refl
   parent-no m (suc q) e h = taken-false _ none (eqb m q) (ne-eqb m q (λ z. h (omega (arith, e, z))))
 
-  module _ (m : ℕ) {k r : ℕ} (ek : k ≡ mapNo s (x .from)) (er : r ≡ rootOf s k) where
-    rooted : r ≡ rootOf s (mapNo s (x .from))
+  module _ (m : ℕ) {k r : ℕ} (ek : k ≡ mapNo s (x .from .0)) (er : r ≡ rootOf s k) where
+    rooted : r ≡ rootOf s (mapNo s (x .from .0))
     rooted = er ∙ ap (rootOf s) ek
 
     pub parent-crate : (p : ℕ) {q : ℕ} → p ≡ suc q → q ≡ m → m ≡ r → some 3 ≡ parentKind s x m p
@@ -165,21 +165,21 @@ module _ (s : Snapshot) (x : FindPathCtx) where
         let same : m ≡ q = omega arith in
         taken-false (some 3) (some 2) _ (ne-eqb q _ (λ z. f (same ∙ z ∙ sym rooted))) ∙ taken-true _ none (eqb m q) (eq-eqb m q same)
 
-  module _ (m : ℕ) {c d : ℕ} {a b : Bool} (ec : c ≡ crateOf s m) (ed : d ≡ crateOf s (x .from)) (ea : a ≡ inBlock s m) (eb : b ≡ inBlock s (x .from)) where
-    apart : not (eqb c d) || (a || b) ≡ (not (eqb (crateOf s m) (crateOf s (x .from))) || (inBlock s m || inBlock s (x .from)))
+  module _ (m : ℕ) {c d : ℕ} {a b : Bool} (ec : c ≡ crateOf s m) (ed : d ≡ crateOf s (x .from .0)) (ea : a ≡ inBlock s m) (eb : b ≡ inBlock s (x .from .0)) where
+    apart : not (eqb c d) || (a || b) ≡ (not (eqb (crateOf s m) (crateOf s (x .from .0))) || (inBlock s m || inBlock s (x .from .0)))
     apart = cc
 
     pub kw-none : not (eqb c d) || (a || b) ≡ true → none ≡ isKwKindRelativeToFrom s x m
     unfolding isKwKindRelativeToFrom
     kw-none t = taken-true none _ _ (sym apart ∙ t)
 
-    pub kw-self : not (eqb c d) || (a || b) ≡ false → m ≡ x .from → some 1 ≡ isKwKindRelativeToFrom s x m
+    pub kw-self : not (eqb c d) || (a || b) ≡ false → m ≡ x .from .0 → some 1 ≡ isKwKindRelativeToFrom s x m
     unfolding isKwKindRelativeToFrom
-    kw-self t e = taken-true (some 1) _ (eqb m (x .from)) (eq-eqb m _ e) ∙ taken-false none _ _ (sym apart ∙ t)
+    kw-self t e = taken-true (some 1) _ (eqb m (x .from .0)) (eq-eqb m _ e) ∙ taken-false none _ _ (sym apart ∙ t)
 
-    pub kw-parent : not (eqb c d) || (a || b) ≡ false → (m ≡ x .from → ⊥) → parentKind s x m (parentOf s (x .from)) ≡ isKwKindRelativeToFrom s x m
+    pub kw-parent : not (eqb c d) || (a || b) ≡ false → (m ≡ x .from .0 → ⊥) → parentKind s x m (parentOf s (x .from .0)) ≡ isKwKindRelativeToFrom s x m
     unfolding isKwKindRelativeToFrom
-    kw-parent t e = taken-false (some 1) _ (eqb m (x .from)) (ne-eqb m _ e) ∙ taken-false none _ _ (sym apart ∙ t)
+    kw-parent t e = taken-false (some 1) _ (eqb m (x .from .0)) (ne-eqb m _ e) ∙ taken-false none _ _ (sym apart ∙ t)
 
   pub keyword-none : {k : KwKind} {o : Option ℕ} → keywordKind k ≡ o → k ≡ NoKw → nothing ≡ keywordOf s x o
   unfolding keywordKind keywordOf

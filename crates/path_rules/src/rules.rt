@@ -36,7 +36,6 @@ use nameres::scope_entry;
 use rule_lookups::Rule;
 use rule_lookups::entry_by;
 use rule_lookups::is_usable;
-use snapshot::ids::Crate;
 use snapshot::ids::ModuleId;
 use snapshot::ids::OptModule;
 use snapshot::ids::PathKind;
@@ -72,14 +71,14 @@ fn single(words: &[u32], area: &[u32], l: Layout, kind: usize, rule: usize, e: E
 
 /// The item's entry in the viewing module, or around its blocks.
 pub fn find_in_scope(words: &[u32], area: &[u32], l: Layout, x: FindPathCtx, item: Item) -> Entry
-    requires { ⌜ Reads (now words) (now area) l × (x .from < l .modules) ⌝ }
+    requires { ⌜ Reads (now words) (now area) l × (x .from .0 < l .modules) ⌝ }
     ensures { λ r. ⌜ (entryOf scopeAt (now (words .entry)) r ≡ findInScope (snapOf (now (words .entry)) (now (area .entry)) l) x item) × EntryFits (now (words .entry)) l r ⌝ }
 {
     scope_entry(
         words,
         area,
         l,
-        ModuleId(x.from),
+        x.from,
         item,
         x.ignore_local_imports,
         x.fresh,
@@ -90,12 +89,12 @@ pub fn find_in_scope(words: &[u32], area: &[u32], l: Layout, x: FindPathCtx, ite
 fn may_be_in_scope(x: FindPathCtx) -> bool
     ensures { λ r. ⌜ ((s : Snapshot) → r ≡ mayBeInScope s x) ⌝ }
 {
-    (x.prefix != PrefixKind::BY_CRATE) | (x.crate_root == x.from)
+    (x.prefix != PrefixKind::BY_CRATE) | (x.crate_root.0 == x.from.0)
 }
 
 /// The item by its name in scope.
 pub fn scope_rule(words: &[u32], area: &[u32], l: Layout, x: FindPathCtx, item: Item) -> Choice
-    requires { ⌜ Reads (now words) (now area) l × (x .from < l .modules) ⌝ }
+    requires { ⌜ Reads (now words) (now area) l × (x .from .0 < l .modules) ⌝ }
     ensures { λ r. ⌜ r ≡ scopeRule (snapOf (now (words .entry)) (now (area .entry)) l) x item ⌝ }
 {
     if !may_be_in_scope(x) {
@@ -121,7 +120,7 @@ fn prelude_entry(
     item: Item,
     e: Entry,
 ) -> Entry
-    requires { ⌜ Reads (now words) (now area) l × (x .from < l .modules) × ((h : ℕ) → e ≡ At h → ScopeFits (countsIn l) (scopeAt (now words) h)) ⌝ }
+    requires { ⌜ Reads (now words) (now area) l × (x .from .0 < l .modules) × ((h : ℕ) → e ≡ At h → ScopeFits (countsIn l) (scopeAt (now words) h)) ⌝ }
     ensures { λ r. ⌜ (entryOf scopeAt (now (words .entry)) r ≡ preludeEntry (snapOf (now (words .entry)) (now (area .entry)) l) x item (entryOf scopeAt (now (words .entry)) e)) × EntryFits (now (words .entry)) l r ⌝ }
 {
     let Entry::At(h) = e else {
@@ -136,10 +135,10 @@ fn prelude_entry(
 /// The item's first entry in the prelude, if visible and not another thing's name here; by options bit 32 the first such entry that isn't
 /// deprecated, if there is one.
 pub fn find_in_prelude(words: &[u32], area: &[u32], l: Layout, x: FindPathCtx, item: Item) -> Entry
-    requires { ⌜ Reads (now words) (now area) l × (x .from < l .modules) ⌝ }
+    requires { ⌜ Reads (now words) (now area) l × (x .from .0 < l .modules) ⌝ }
     ensures { λ r. ⌜ (entryOf scopeAt (now (words .entry)) r ≡ findInPrelude (snapOf (now (words .entry)) (now (area .entry)) l) x item) × EntryFits (now (words .entry)) l r ⌝ }
 {
-    let p = prelude_of(words, l, map(words, area, l, ModuleId(x.from)));
+    let p = prelude_of(words, l, map(words, area, l, x.from));
     let Entry::At(h) = p else {
         return Entry::Nothing;
     };
@@ -157,7 +156,7 @@ pub fn find_in_prelude(words: &[u32], area: &[u32], l: Layout, x: FindPathCtx, i
 
 /// The item by its name in the prelude.
 pub fn prelude_rule(words: &[u32], area: &[u32], l: Layout, x: FindPathCtx, item: Item) -> Choice
-    requires { ⌜ Reads (now words) (now area) l × (x .from < l .modules) ⌝ }
+    requires { ⌜ Reads (now words) (now area) l × (x .from .0 < l .modules) ⌝ }
     ensures { λ r. ⌜ r ≡ preludeRule (snapOf (now (words .entry)) (now (area .entry)) l) x item ⌝ }
 {
     let e = find_in_prelude(words, area, l, x, item);
@@ -173,7 +172,7 @@ fn extern_rule(
     m: ModuleId,
     e: Entry,
 ) -> Choice
-    requires { ⌜ Reads (now words) (now area) l × (x .from < l .modules) × ((h : ℕ) → e ≡ At h → ExternFits (countsIn l) (externAt (now words) h)) ⌝ }
+    requires { ⌜ Reads (now words) (now area) l × (x .from .0 < l .modules) × ((h : ℕ) → e ≡ At h → ExternFits (countsIn l) (externAt (now words) h)) ⌝ }
     ensures { λ r. ⌜ r ≡ externName (snapOf (now (words .entry)) (now (area .entry)) l) x (m .0) (entryOf externAt (now (words .entry)) e) ⌝ }
 {
     let Entry::At(h) = e else {
@@ -181,7 +180,7 @@ fn extern_rule(
     };
     let via = step_by(StepRule::EXTERN, h);
     let name = extern_name(words, h);
-    if occupied(words, area, l, ModuleId(x.from), m, name) | x.prefer_absolute {
+    if occupied(words, area, l, x.from, m, name) | x.prefer_absolute {
         return choice_new(words, area, l, PathKind::ABSOLUTE, name, via);
     }
     choice_new(words, area, l, PathKind::PLAIN, name, via)
@@ -196,32 +195,32 @@ pub fn root_rule(
     maybe_extern: bool,
     m: ModuleId,
 ) -> Choice
-    requires { ⌜ Reads (now words) (now area) l × (x .from < l .modules) × (m .0 < l .modules) ⌝ }
+    requires { ⌜ Reads (now words) (now area) l × (x .from .0 < l .modules) × (m .0 < l .modules) ⌝ }
     ensures { λ r. ⌜ r ≡ rootRule (snapOf (now (words .entry)) (now (area .entry)) l) x «maybe_extern» (m .0) ⌝ }
 {
     let top = crate_root(words, area, l, m);
     if top.0 != m.0 {
         return nothing();
     }
-    if !maybe_extern | (m.0 == x.crate_root) {
+    if !maybe_extern | (m.0 == x.crate_root.0) {
         return keyword(PathKind::CRATE);
     }
-    let e = extern_of(words, l, Crate(x.from_crate), m);
+    let e = extern_of(words, l, x.from_crate, m);
     extern_rule(words, area, l, x, m, e)
 }
 
 // The module as the parent of the viewer's.
 fn parent_kind(words: &[u32], area: &[u32], l: Layout, x: FindPathCtx, m: ModuleId) -> KwKind
-    requires { ⌜ Reads (now words) (now area) l × (x .from < l .modules) × (m .0 < l .modules) ⌝ }
-    ensures { λ r. ⌜ keywordKind r ≡ parentKind (snapOf (now (words .entry)) (now (area .entry)) l) x (m .0) (parentOf (snapOf (now (words .entry)) (now (area .entry)) l) (x .from)) ⌝ }
+    requires { ⌜ Reads (now words) (now area) l × (x .from .0 < l .modules) × (m .0 < l .modules) ⌝ }
+    ensures { λ r. ⌜ keywordKind r ≡ parentKind (snapOf (now (words .entry)) (now (area .entry)) l) x (m .0) (parentOf (snapOf (now (words .entry)) (now (area .entry)) l) (x .from .0)) ⌝ }
 {
-    let OptModule::Module(p) = parent(words, area, l, ModuleId(x.from)) else {
+    let OptModule::Module(p) = parent(words, area, l, x.from) else {
         return KwKind::NoKw;
     };
     if p.0 != m.0 {
         return KwKind::NoKw;
     }
-    let top = root(words, area, l, map(words, area, l, ModuleId(x.from)));
+    let top = root(words, area, l, map(words, area, l, x.from));
     if m.0 == top.0 {
         return KwKind::Kw(PathKind::CRATE);
     }
@@ -236,17 +235,16 @@ pub fn is_kw_kind_relative_to_from(
     x: FindPathCtx,
     m: ModuleId,
 ) -> KwKind
-    requires { ⌜ Reads (now words) (now area) l × (x .from < l .modules) × (m .0 < l .modules) ⌝ }
+    requires { ⌜ Reads (now words) (now area) l × (x .from .0 < l .modules) × (m .0 < l .modules) ⌝ }
     ensures { λ r. ⌜ keywordKind r ≡ isKwKindRelativeToFrom (snapOf (now (words .entry)) (now (area .entry)) l) x (m .0) ⌝ }
 {
-    let from = ModuleId(x.from);
     let there = krate(words, area, l, m);
-    let here = krate(words, area, l, from);
-    let block = in_block(words, area, l, m) | in_block(words, area, l, from);
+    let here = krate(words, area, l, x.from);
+    let block = in_block(words, area, l, m) | in_block(words, area, l, x.from);
     if (there.0 != here.0) | block {
         return KwKind::NoKw;
     }
-    if m.0 == x.from {
+    if m.0 == x.from.0 {
         return KwKind::Kw(PathKind::SELF);
     }
     parent_kind(words, area, l, x, m)
@@ -254,7 +252,7 @@ pub fn is_kw_kind_relative_to_from(
 
 /// The module by a keyword; ByCrate takes none but `crate`.
 pub fn keyword_rule(words: &[u32], area: &[u32], l: Layout, x: FindPathCtx, m: ModuleId) -> Choice
-    requires { ⌜ Reads (now words) (now area) l × (x .from < l .modules) × (m .0 < l .modules) ⌝ }
+    requires { ⌜ Reads (now words) (now area) l × (x .from .0 < l .modules) × (m .0 < l .modules) ⌝ }
     ensures { λ r. ⌜ r ≡ keywordOf (snapOf (now (words .entry)) (now (area .entry)) l) x (isKwKindRelativeToFrom (snapOf (now (words .entry)) (now (area .entry)) l) x (m .0)) ⌝ }
 {
     let k = is_kw_kind_relative_to_from(words, area, l, x, m);
@@ -276,7 +274,7 @@ pub fn module_rules(
     maybe_extern: bool,
     m: ModuleId,
 ) -> Choice
-    requires { ⌜ Reads (now words) (now area) l × (x .from < l .modules) × (m .0 < l .modules) ⌝ }
+    requires { ⌜ Reads (now words) (now area) l × (x .from .0 < l .modules) × (m .0 < l .modules) ⌝ }
     ensures { λ r. ⌜ r ≡ moduleRules (snapOf (now (words .entry)) (now (area .entry)) l) x «maybe_extern» (m .0) ⌝ }
 {
     let first = root_rule(words, area, l, x, maybe_extern, m);

@@ -100,10 +100,10 @@ not-whole W i h =
 
 pub question-same : (W : List ℕ) (i ns d m p o n f : ℕ) → ns ≡ getD W (i + 1) 0 → d ≡ payOf (getD W i 0) → m ≡ getD W (i + 2) 0
     → p ≡ getD W (i + 3) 0 → o ≡ getD W (i + 4) 0 → n ≡ getD W (i + 6) 0 → f ≡ getD W (i + 5) 0
-    → _≡_ {A = Question} (record { query = record { ns = ns; definition = d; from = m; prefix = p; options = o; limit = n }; fuel = f }) (questionAt W i)
+    → _≡_ {A = Question} (record { query = record { ns = ns; definition = record { 0 = d }; from = record { 0 = m }; prefix = p; options = o; limit = n }; fuel = f }) (questionAt W i)
 unfolding questionAt
 question-same W i ns d m p o n f a b c e g k h =
-    λ j. record { query = record { ns = a j; definition = b j; from = c j; prefix = e j; options = g j; limit = k j }; fuel = h j }
+    λ j. record { query = record { ns = a j; definition = record { 0 = b j }; from = record { 0 = c j }; prefix = e j; options = g j; limit = k j }; fuel = h j }
 
 -- questions for a reach
 
@@ -124,9 +124,9 @@ not-reach W i h =
 
 pub viewer-same : (W : List ℕ) (i m p o f n : ℕ) → m ≡ payOf (getD W i 0) → p ≡ getD W (i + 1) 0 → o ≡ getD W (i + 2) 0
     → f ≡ getD W (i + 3) 0 → n ≡ getD W (i + 4) 0
-    → _≡_ {A = Viewer} (record { from = m; prefix = p; options = o; fuel = f; limit = n }) (viewerAt W i)
+    → _≡_ {A = Viewer} (record { from = record { 0 = m }; prefix = p; options = o; fuel = f; limit = n }) (viewerAt W i)
 unfolding viewerAt
-viewer-same W i m p o f n a b c d e = λ j. record { from = a j; prefix = b j; options = c j; fuel = d j; limit = e j }
+viewer-same W i m p o f n a b c d e = λ j. record { from = record { 0 = a j }; prefix = b j; options = c j; fuel = d j; limit = e j }
 
 -- one place has one kind
 both-kinds : (k : ℕ) (a b : Bool) → (isQuestion k && a) ≡ true → (eqb k 15 && b) ≡ true → ⊥

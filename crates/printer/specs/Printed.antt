@@ -55,8 +55,8 @@ questionAt W i =
     record {
       query = record {
         ns = getD W (i + 1) 0;
-        definition = payOf (getD W i 0);
-        from = getD W (i + 2) 0;
+        definition = record { 0 = payOf (getD W i 0) };
+        from = record { 0 = getD W (i + 2) 0 };
         prefix = getD W (i + 3) 0;
         options = getD W (i + 4) 0;
         limit = getD W (i + 6) 0;
@@ -74,7 +74,7 @@ reachAt W i =
 unfoldable pub viewerAt : List ℕ → ℕ → Viewer
 viewerAt W i =
     record {
-      from = payOf (getD W i 0);
+      from = record { 0 = payOf (getD W i 0) };
       prefix = getD W (i + 1) 0;
       options = getD W (i + 2) 0;
       fuel = getD W (i + 3) 0;

@@ -6,6 +6,8 @@ ghost use Rattle.printer.specs.Printed.{isQuestion, isHead, questionsAt,
 use find_path::Query;
 use find_path::Question;
 use reach_parts::Viewer;
+use snapshot::ids::DefinitionId;
+use snapshot::ids::ModuleId;
 use snapshot::kind::Kind;
 use snapshot::kind::Size;
 use snapshot::words::field;
@@ -99,8 +101,8 @@ pub fn question_at(words: &[u32], at: usize) -> Question
 {
     let q = Query {
         ns: field(words, at, 1),
-        definition: payload(words, at),
-        from: field(words, at, 2),
+        definition: DefinitionId(payload(words, at)),
+        from: ModuleId(field(words, at, 2)),
         prefix: field(words, at, 3),
         options: field(words, at, 4),
         limit: field(words, at, 6),
@@ -116,7 +118,7 @@ pub fn viewer_at(words: &[u32], at: usize) -> Viewer
     ensures { λ r. ⌜ r ≡ viewerAt (now (words .entry)) at ⌝ }
 {
     Viewer {
-        from: payload(words, at),
+        from: ModuleId(payload(words, at)),
         prefix: field(words, at, 1),
         options: field(words, at, 2),
         fuel: field(words, at, 3),

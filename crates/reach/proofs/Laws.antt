@@ -145,11 +145,11 @@ module _ (W A₀ : List ℕ) (l : Layout) (v : Viewer) where
 -- refusals, and the reach on accepted words
 
 module _ (v : Viewer) (r : Reach) where
-  pub unknown-module : (s : Snapshot) (m : ℕ) → length (s .modules) ≡ m → m ≤ v .from → r ≡ refusedReach unknownRefusal → r ≡ reachBy v (accept s)
+  pub unknown-module : (s : Snapshot) (m : ℕ) → length (s .modules) ≡ m → m ≤ v .from .0 → r ≡ refusedReach unknownRefusal → r ≡ reachBy v (accept s)
   unfolding reachBy
   unknown-module s m e h p = rw (reachBy, e, le-ltb _ _ h) p
 
-  pub known-module : (s : Snapshot) (m : ℕ) → length (s .modules) ≡ m → v .from < m → r .number ≡ 0 → r .counts ≡ reachIn s v → r ≡ reachBy v (accept s)
+  pub known-module : (s : Snapshot) (m : ℕ) → length (s .modules) ≡ m → v .from .0 < m → r .number ≡ 0 → r .counts ≡ reachIn s v → r ≡ reachBy v (accept s)
   unfolding reachBy
   known-module s m e h p q = rw (reachBy, e, lt-ltb _ _ h) (λ i. record { number = p i; counts = q i })
 

@@ -17,6 +17,7 @@ use find_path::Query;
 use reach_parts::Reach;
 use reach_parts::Viewer;
 use reach_parts::tally::refused;
+use snapshot::ids::DefinitionId;
 use snapshot::layout::Layout;
 use snapshot::refusal::Refusal;
 
@@ -26,7 +27,7 @@ fn reach_from(words: &[u32], area: &mut [u32], l: Layout, v: Viewer) -> Reach
     ensures { λ r. ⌜ r ≡ reachBy v (accept (snapOf (now (words .entry)) (now (area .entry)) l)) ⌝ }
     ensures { λ _. ⌜ take tableWords (now (area .exit)) ≡ take tableWords (now (area .entry)) ⌝ }
 {
-    if l.modules <= v.from {
+    if l.modules <= v.from.0 {
         return refused(Refusal::UNKNOWN);
     }
     reach_in(words, area, l, v)
@@ -48,10 +49,11 @@ pub fn reach_on(words: &[u32], area: &mut [u32], c: Checked, v: Viewer) -> Reach
     requires { ⌜ Judged (now words) (now area) c × (length (now area) ≡ areaLimit) ⌝ }
     ensures { λ r. ⌜ Reached (now (words .entry)) v c (now (area .exit)) r ⌝ }
 {
+    let from = v.from;
     let q = Query {
         ns: 0,
-        definition: 0,
-        from: v.from,
+        definition: DefinitionId(0),
+        from: from,
         prefix: v.prefix,
         options: v.options,
         limit: v.limit,

@@ -166,7 +166,7 @@ module _ (words : List ℕ) (s : Snapshot) (e : verdict words ≡ accept s) (v :
   by-total : Limited v → reachBy v (accept s) .number ≡ 0 → total (reachBy v (accept s) .counts) ≡ length (distinct s)
   unfolding reachBy refusedReach
   by-total m h =
-      by-test (ltb (v .from) (length (s .modules))) (λ t. rw (reachBy, t) (in-total s v m))
+      by-test (ltb (v .from .0) (length (s .modules))) (λ t. rw (reachBy, t) (in-total s v m))
       (λ t. let z : unknownRefusal ≡ 0 = rw (reachBy, t) at h in absurd (omega arith))
 
   unless-total : (n : ℕ) → (n ≡ 0 → Limited v) → reachUnless words v n .number ≡ 0 → total (reachUnless words v n .counts) ≡ length (distinct s)

@@ -19,7 +19,7 @@ pub record Row : Type 0 where
 
 -- module, prefix, options, fuel, limit
 abbrev row : ℕ → ℕ → ℕ → ℕ → ℕ → ℕ → String → Row
-row a m p o f n l = record { area = a; viewer = record { from = m; prefix = p; options = o; fuel = f; limit = n }; line = l }
+row a m p o f n l = record { area = a; viewer = record { from = record { 0 = m }; prefix = p; options = o; fuel = f; limit = n }; line = l }
 
 -- the lines are those of the definition; `passes` unfolds the search
 pub passesAll : List ℕ → List Row → Bool

@@ -37,7 +37,7 @@ distinct s = newFrom s [] (s .scopes)
 
 -- the question for the item of a record
 abbrev pub queryFor : Viewer → ℕ → ℕ → Query
-queryFor v ns d = record { ns = ns; definition = d; from = v .from; prefix = v .prefix; options = v .options; limit = v .limit }
+queryFor v ns d = record { ns = ns; definition = record { 0 = d }; from = v .from; prefix = v .prefix; options = v .options; limit = v .limit }
 
 -- the search for it, with all of the fuel, and its path read where the options ask for it
 unfoldable pub reportFor : Snapshot → Viewer → Scope → Report
@@ -86,7 +86,7 @@ refusedReach n = record { number = n; counts = replicate 21 0 }
 unfoldable pub reachBy : Viewer → Verdict → Reach
 reachBy v (refuse n place) = refusedReach n
 reachBy v (accept s) =
-    elim (ltb (v .from) (length (s .modules))) [ true ↦ record { number = 0; counts = reachIn s v } | false ↦ refusedReach unknownRefusal ]
+    elim (ltb (v .from .0) (length (s .modules))) [ true ↦ record { number = 0; counts = reachIn s v } | false ↦ refusedReach unknownRefusal ]
 
 unfoldable pub reachUnless : List ℕ → Viewer → ℕ → Reach
 reachUnless words v zero = reachBy v (verdict words)

@@ -2,9 +2,11 @@
 pub mod firsts;
 pub mod tally;
 
+use snapshot::ids::ModuleId;
+
 // Who asks: the viewing module, prefix, options, and the fuel and the limit of each search.
 pub struct Viewer {
-    pub from: usize,
+    pub from: ModuleId,
     pub prefix: usize,
     pub options: usize,
     pub fuel: usize,

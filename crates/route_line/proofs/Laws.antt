@@ -89,15 +89,15 @@ module _ (W : List ℕ) (q : Question) (A : List ℕ) (c : Checked) (r : Report)
         let v : verdict W ≡ refuse n place = sym (subst (λ (x : Checked). Judged W A x) e (a .checked) .same) in
         let u : refused (r .number) ≡ reportOf W areaLimit q = ap (λ (x : Report). refused (x .number)) (a .report) ∙ sym (refusal-only W q n place v) in
         record {
-          line = put-as (ap (λ x. x ++ bytesOf "\n") (refused-routed s (q .query .from) (r .number) ∙ ap (routedLineIn s (q .query .from)) u)) (p s (q .query .from));
+          line = put-as (ap (λ x. x ++ bytesOf "\n") (refused-routed s (q .query .from .0) (r .number) ∙ ap (routedLineIn s (q .query .from .0)) u)) (p s (q .query .from .0));
           checked = a .checked;
         }
 
-    pub routed-accepted : (l : Layout) → c ≡ Accepted l → Put old 0 (routedLineIn (snapOf W A l) (q .query .from) r ++ bytesOf "\n") new t → RoutedOn W q c A old new t
+    pub routed-accepted : (l : Layout) → c ≡ Accepted l → Put old 0 (routedLineIn (snapOf W A l) (q .query .from .0) r ++ bytesOf "\n") new t → RoutedOn W q c A old new t
     unfolding routedLineOf snapshotOf
     routed-accepted l e p =
         let v : snapOf W A l ≡ snapshotOf (verdict W) = ap snapshotOf (subst (λ (x : Checked). Judged W A x) e (a .checked) .same) in
         record {
-          line = put-as (ap₂ (λ x y. routedLineIn x (q .query .from) y ++ bytesOf "\n") v (a .report)) p;
+          line = put-as (ap₂ (λ x y. routedLineIn x (q .query .from .0) y ++ bytesOf "\n") v (a .report)) p;
           checked = a .checked;
         }

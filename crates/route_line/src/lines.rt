@@ -10,7 +10,6 @@ use accept::check::Checked;
 use checked::checked::report_on;
 use checked::lines::put_refusal;
 use find_path::Question;
-use snapshot::ids::ModuleId;
 
 /// Puts the line of a question on checked words with its route and its end at the front, and answers its length. The words stay checked.
 pub fn routed_line_on(
@@ -26,6 +25,6 @@ pub fn routed_line_on(
     let r = report_on(words, area, c, question);
     match c {
         Checked::Refused(_, _) => put_refusal(out, r.number),
-        Checked::Accepted(l) => put_routed(out, words, area, l, ModuleId(question.query.from), r),
+        Checked::Accepted(l) => put_routed(out, words, area, l, question.query.from, r),
     }
 }

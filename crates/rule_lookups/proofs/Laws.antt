@@ -16,12 +16,12 @@ use Rattle.find_path.specs.Local.{isImportable}
 
 -- the tests of a rule, part by part
 module _ (s : Snapshot) (x : FindPathCtx) (e : Scope) where
-  pub usable-same : (item : Item) {n k : ℕ} {o : Option Scope} {a b : Bool} → n ≡ e .name → k ≡ nsOf item → a ≡ sees s (x .from) e
-      → o ≡ entryNamed s (x .from) k n → b ≡ sameHere s x item o
+  pub usable-same : (item : Item) {n k : ℕ} {o : Option Scope} {a b : Bool} → n ≡ e .name → k ≡ nsOf item → a ≡ sees s (x .from .0) e
+      → o ≡ entryNamed s (x .from .0) k n → b ≡ sameHere s x item o
       → a && b ≡ isUsable s x item e
   usable-same item en ek ea eo eb = cc
 
-  pub importable-same : {v : ℕ} {a d : Bool} → a ≡ sees s (x .from) e → d ≡ isDeclared e → v ≡ e .visibility
+  pub importable-same : {v : ℕ} {a d : Bool} → a ≡ sees s (x .from .0) e → d ≡ isDeclared e → v ≡ e .visibility
       → a && (d || not (eqb v 3)) ≡ isImportable s x e
   importable-same ea ed ev = cc
 

@@ -61,18 +61,18 @@ pub fn is_usable(
     item: Item,
     h: usize,
 ) -> bool
-    requires { ⌜ Reads (now words) (now area) l × (x .from < l .modules) × (2 ≤ scopeAt (now words) h .visibility → scopeAt (now words) h .number < l .modules) ⌝ }
+    requires { ⌜ Reads (now words) (now area) l × (x .from .0 < l .modules) × (2 ≤ scopeAt (now words) h .visibility → scopeAt (now words) h .number < l .modules) ⌝ }
     ensures { λ r. ⌜ r ≡ isUsable (snapOf (now (words .entry)) (now (area .entry)) l) x item (scopeAt (now (words .entry)) h) ⌝ }
 {
     let seen = sees(words, area, l, x, h);
     let name = scope_name(words, h);
-    let here = entry_named(words, area, l, ModuleId(x.from), ns_of(item), name);
+    let here = entry_named(words, area, l, x.from, ns_of(item), name);
     seen & same_here(words, l, item, here)
 }
 
 /// The tests of the local rule: visible, and declared there or no implicitly private import.
 pub fn is_importable(words: &[u32], area: &[u32], l: Layout, x: FindPathCtx, h: usize) -> bool
-    requires { ⌜ Reads (now words) (now area) l × (x .from < l .modules) × (2 ≤ scopeAt (now words) h .visibility → scopeAt (now words) h .number < l .modules) ⌝ }
+    requires { ⌜ Reads (now words) (now area) l × (x .from .0 < l .modules) × (2 ≤ scopeAt (now words) h .visibility → scopeAt (now words) h .number < l .modules) ⌝ }
     ensures { λ r. ⌜ r ≡ isImportable (snapOf (now (words .entry)) (now (area .entry)) l) x (scopeAt (now (words .entry)) h) ⌝ }
 {
     let seen = sees(words, area, l, x, h);
@@ -91,7 +91,7 @@ fn passes(
     rule: Rule,
     h: usize,
 ) -> bool
-    requires { ⌜ Reads (now words) (now area) l × (x .from < l .modules) × (2 ≤ scopeAt (now words) h .visibility → scopeAt (now words) h .number < l .modules) ⌝ }
+    requires { ⌜ Reads (now words) (now area) l × (x .from .0 < l .modules) × (2 ≤ scopeAt (now words) h .visibility → scopeAt (now words) h .number < l .modules) ⌝ }
     ensures { λ r. ⌜ r ≡ testOf (snapOf (now (words .entry)) (now (area .entry)) l) x item rule (scopeAt (now (words .entry)) h) ⌝ }
 {
     match rule {
@@ -111,7 +111,7 @@ fn is_fresh(
     its: bool,
     h: usize,
 ) -> bool
-    requires { ⌜ Reads (now words) (now area) l × (x .from < l .modules) × (2 ≤ scopeAt (now words) h .visibility → scopeAt (now words) h .number < l .modules) ⌝ }
+    requires { ⌜ Reads (now words) (now area) l × (x .from .0 < l .modules) × (2 ≤ scopeAt (now words) h .visibility → scopeAt (now words) h .number < l .modules) ⌝ }
     ensures { λ r. ⌜ r ≡ (its && isFresh (testOf (snapOf (now (words .entry)) (now (area .entry)) l) x item rule) (scopeAt (now (words .entry)) h)) ⌝ }
 {
     if !its | is_deprecated(words, h) {
@@ -131,7 +131,7 @@ fn fresh_of(
     item: Item,
     rule: Rule,
 ) -> Lookup
-    requires { ⌜ Reads (now words) (now area) l × (x .from < l .modules) ⌝ }
+    requires { ⌜ Reads (now words) (now area) l × (x .from .0 < l .modules) ⌝ }
     ensures { λ r. ⌜ (entryOf scopeAt (now (words .entry)) (r .entry) ≡ preferred true (snapOf (now (words .entry)) (now (area .entry)) l) (m .0) item (testOf (snapOf (now (words .entry)) (now (area .entry)) l) x item rule) (nameOf (snapOf (now (words .entry)) (now (area .entry)) l) (m .0) item)) × ((n : ℕ) → r .read ≡ preferredReads true (snapOf (now (words .entry)) (now (area .entry)) l) (m .0) item (testOf (snapOf (now (words .entry)) (now (area .entry)) l) x item rule) n) ⌝ }
 {
     let base = l.scope_base();
@@ -164,7 +164,7 @@ pub fn entry_by(
     item: Item,
     rule: Rule,
 ) -> Lookup
-    requires { ⌜ Reads (now words) (now area) l × (x .from < l .modules) ⌝ }
+    requires { ⌜ Reads (now words) (now area) l × (x .from .0 < l .modules) ⌝ }
     ensures { λ r. ⌜ (entryOf scopeAt (now (words .entry)) (r .entry) ≡ preferred (x .fresh) (snapOf (now (words .entry)) (now (area .entry)) l) (m .0) item (testOf (snapOf (now (words .entry)) (now (area .entry)) l) x item rule) (nameOf (snapOf (now (words .entry)) (now (area .entry)) l) (m .0) item)) × (r .read ≡ preferredReads (x .fresh) (snapOf (now (words .entry)) (now (area .entry)) l) (m .0) item (testOf (snapOf (now (words .entry)) (now (area .entry)) l) x item rule) (nameReads (snapOf (now (words .entry)) (now (area .entry)) l) (m .0) item)) ⌝ }
 {
     if x.fresh {

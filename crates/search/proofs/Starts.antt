@@ -114,16 +114,16 @@ module _ (s : Snapshot) (q : Query) (fuel : ℕ) where
   abbrev builtin : ℕ → Bool
   builtin k = eqb (q .ns) 0 && eqb k 3
 
-  by-builtin : (b : Bool) {k : ℕ} → k ≡ definitionOf s (q .definition) .kind → builtin k ≡ b → from b ≡ searched s q fuel
+  by-builtin : (b : Bool) {k : ℕ} → k ≡ definitionOf s (q .definition .0) .kind → builtin k ≡ b → from b ≡ searched s q fuel
   unfolding searched findPath filled
   by-builtin b e h = ap from (sym h ∙ ap builtin e)
 
-  pub start-builtin : {k : ℕ} {c : Choice} → k ≡ definitionOf s (q .definition) .kind → builtin k ≡ true
-      → c ≡ builtinChoice s (definitionOf s (q .definition)) → found c (full fuel) ≡ foundOf (searched s q fuel)
+  pub start-builtin : {k : ℕ} {c : Choice} → k ≡ definitionOf s (q .definition .0) .kind → builtin k ≡ true
+      → c ≡ builtinChoice s (definitionOf s (q .definition .0)) → found c (full fuel) ≡ foundOf (searched s q fuel)
   unfolding fromItem
   start-builtin e h g = ap (λ (y : Choice). found y (full fuel)) g ∙ ap foundOf (by-builtin true e h)
 
-  by-home : {k : ℕ} (item : Item) (h : ℕ) → k ≡ definitionOf s (q .definition) .kind → builtin k ≡ false → item ≡ itemOf s (q .ns) (q .definition)
+  by-home : {k : ℕ} (item : Item) (h : ℕ) → k ≡ definitionOf s (q .definition .0) .kind → builtin k ≡ false → item ≡ itemOf s (q .ns) (q .definition .0)
       → h ≡ homeOf s item → fromHome Tank fromTank s q item (full fuel) h ≡ searched s q fuel
   unfolding fromItem
   by-home item h e f g k =
@@ -131,14 +131,14 @@ module _ (s : Snapshot) (q : Query) (fuel : ℕ) where
       ∙ ap (λ (y : Item). fromHome Tank fromTank s q y (full fuel) (homeOf s y)) g
       ∙ by-builtin false e f
 
-  pub start-none : {k : ℕ} {c : Choice} (item : Item) (h : ℕ) → k ≡ definitionOf s (q .definition) .kind → builtin k ≡ false
-      → item ≡ itemOf s (q .ns) (q .definition) → h ≡ homeOf s item → h ≡ 0 → c ≡ nothing → found c (full fuel) ≡ foundOf (searched s q fuel)
+  pub start-none : {k : ℕ} {c : Choice} (item : Item) (h : ℕ) → k ≡ definitionOf s (q .definition .0) .kind → builtin k ≡ false
+      → item ≡ itemOf s (q .ns) (q .definition .0) → h ≡ homeOf s item → h ≡ 0 → c ≡ nothing → found c (full fuel) ≡ foundOf (searched s q fuel)
   unfolding fromHome
   start-none item zero e f g k z n = ap (λ (y : Choice). found y (full fuel)) n ∙ ap foundOf (by-home item zero e f g k)
   start-none item (suc m) e f g k z n = absurd (omega arith)
 
-  pub start-item : {k : ℕ} {x : FindPathCtx} (item : Item) (h : ℕ) → k ≡ definitionOf s (q .definition) .kind → builtin k ≡ false
-      → item ≡ itemOf s (q .ns) (q .definition) → h ≡ homeOf s item → {m : ℕ} → h ≡ suc m → x ≡ contextOf s q m
+  pub start-item : {k : ℕ} {x : FindPathCtx} (item : Item) (h : ℕ) → k ≡ definitionOf s (q .definition .0) .kind → builtin k ≡ false
+      → item ≡ itemOf s (q .ns) (q .definition .0) → h ≡ homeOf s item → {m : ℕ} → h ≡ suc m → x ≡ contextOf s q m
       → items s x item (full fuel) ≡ searched s q fuel
   unfolding fromHome
   start-item item zero e f g k z n = absurd (omega (arith, z))
@@ -170,9 +170,9 @@ module _ (W A : List ℕ) (l : Layout) (r : Reads W A l) where
   pub home-there : (item : Item) {h m : ℕ} → Known l item → h ≡ homeOf (snapOf W A l) item → h ≡ suc m → m < l .modules
   home-there item {m = m} k e z = home-fits W A l r item m k (sym e ∙ z)
 
-pub context-from : (s : Snapshot) (q : Query) (h : ℕ) {x : FindPathCtx} → x ≡ contextOf s q h → x .from ≡ q .from
+pub context-from : (s : Snapshot) (q : Query) (h : ℕ) {x : FindPathCtx} → x ≡ contextOf s q h → x .from .0 ≡ q .from .0
 unfolding contextOf
-context-from s q h e = ap (λ (y : FindPathCtx). y .from) e
+context-from s q h e = ap (λ (y : FindPathCtx). y .from .0) e
 
 pub context-limit : (s : Snapshot) (q : Query) (h : ℕ) {x : FindPathCtx} → x ≡ contextOf s q h → x .«max_len» ≡ q .limit
 unfolding contextOf

@@ -53,7 +53,7 @@ use snapshot::record::definition_second;
 
 // The item's name in scope, else in the prelude.
 fn named(words: &[u32], area: &[u32], l: Layout, x: FindPathCtx, item: Item) -> Choice
-    requires { ⌜ Reads (now words) (now area) l × (x .from < l .modules) ⌝ }
+    requires { ⌜ Reads (now words) (now area) l × (x .from .0 < l .modules) ⌝ }
     ensures { λ r. ⌜ r ≡ firstFound (scopeRule (snapOf (now (words .entry)) (now (area .entry)) l) x item ∷ preludeRule (snapOf (now (words .entry)) (now (area .entry)) l) x item ∷ []) ⌝ }
 {
     let scope = scope_rule(words, area, l, x, item);
@@ -162,10 +162,9 @@ fn find_by_name(
 
 /// The search for the item of a question with a full tank, for a limit in range.
 pub fn find_path(words: &[u32], area: &mut [u32], l: Layout, q: Query, fuel: usize) -> Found
-    requires { ⌜ Reads (now words) (now area) l × (length (now area) ≡ areaLimit) × (q .definition < l .definitions) × (q .from < l .modules) × (q .ns ≤ namespaceLimit) × (fuel ≤ fuelLimit) × (0 < q .limit) × (q .limit ≤ pathLimit) ⌝ }
+    requires { ⌜ Reads (now words) (now area) l × (length (now area) ≡ areaLimit) × (q .definition .0 < l .definitions) × (q .from .0 < l .modules) × (q .ns ≤ namespaceLimit) × (fuel ≤ fuelLimit) × (0 < q .limit) × (q .limit ≤ pathLimit) ⌝ }
     ensures { λ r. ⌜ Searched (now (area .entry)) (searched (snapOf (now (words .entry)) (now (area .entry)) l) q fuel) (now (area .exit)) r ⌝ }
 {
-    let d = DefinitionId(q.definition);
     let meter = Tank {
         fuel: fuel,
         spent: 0,
@@ -173,14 +172,14 @@ pub fn find_path(words: &[u32], area: &mut [u32], l: Layout, q: Query, fuel: usi
         left: 0,
         sought: 0,
     };
-    if (q.ns == Namespace::TYPES) & (kind_of(words, l, d) == DefinitionKind::BUILTIN) {
-        let choice = builtin_choice(words, area, l, d);
+    if (q.ns == Namespace::TYPES) & (kind_of(words, l, q.definition) == DefinitionKind::BUILTIN) {
+        let choice = builtin_choice(words, area, l, q.definition);
         return Found {
             choice: choice,
             meter: meter,
         };
     }
-    let item = item_of(words, l, q.ns, d);
+    let item = item_of(words, l, q.ns, q.definition);
     let OptModule::Module(home) = home_of(words, l, item) else {
         let choice = nothing();
         return Found {

@@ -84,7 +84,7 @@ module _ (s : Windows) (w : ℕ) (d : Row) (h : w < length (s .rows)) where
   abbrev asked : Question
   asked =
       record {
-        query = record { ns = row .ns; definition = row .definition; from = row .from; prefix = row .prefix; options = row .options; limit = row .limit };
+        query = record { ns = row .ns; definition = record { 0 = row .definition }; from = record { 0 = row .from }; prefix = row .prefix; options = row .options; limit = row .limit };
         fuel = row .fuel;
       }
 

@@ -28,7 +28,7 @@ askedBy S w = questionOf (drop (1 + 8 * w + 1) S)
 -- the words of a window whose question waits
 unfoldable pub waiting : Question → List ℕ
 waiting q =
-    1 ∷ q .query .ns ∷ q .query .definition ∷ q .query .from ∷ q .query .prefix ∷ q .query .options ∷ q .fuel ∷ q .query .limit ∷ []
+    1 ∷ q .query .ns ∷ q .query .definition .0 ∷ q .query .from .0 ∷ q .query .prefix ∷ q .query .options ∷ q .fuel ∷ q .query .limit ∷ []
 
 -- a question placed: 49 no such window, 50 a question of the window waits already, 0 for none
 unfoldable pub placeFault : List ℕ → ℕ → ℕ

@@ -12,6 +12,8 @@ use crate::rows::waits;
 use crate::rows::with_row;
 use find_path::Query;
 use find_path::Question;
+use snapshot::ids::DefinitionId;
+use snapshot::ids::ModuleId;
 use snapshot::kind::Size;
 use snapshot::refusal::Refusal;
 
@@ -54,8 +56,8 @@ pub fn asked_by(windows: Windows, window: usize) -> Question
     let row = windows.rows[window];
     let query = Query {
         ns: row.ns as usize,
-        definition: row.definition as usize,
-        from: row.from as usize,
+        definition: DefinitionId(row.definition as usize),
+        from: ModuleId(row.from as usize),
         prefix: row.prefix as usize,
         options: row.options as usize,
         limit: row.limit as usize,

@@ -79,7 +79,7 @@ row-waits S w =
 abbrev pub asking : List ℕ → Question
 asking r =
     record {
-      query = record { ns = getD r 1 0; definition = getD r 2 0; from = getD r 3 0; prefix = getD r 4 0; options = getD r 5 0; limit = getD r 7 0 };
+      query = record { ns = getD r 1 0; definition = record { 0 = getD r 2 0 }; from = record { 0 = getD r 3 0 }; prefix = getD r 4 0; options = getD r 5 0; limit = getD r 7 0 };
       fuel = getD r 6 0;
     }
 
@@ -90,8 +90,8 @@ row-asked S w =
       query =
           record {
             ns = word 0 (omega arith) i;
-            definition = word 1 (omega arith) i;
-            from = word 2 (omega arith) i;
+            definition = record { 0 = word 1 (omega arith) i };
+            from = record { 0 = word 2 (omega arith) i };
             prefix = word 3 (omega arith) i;
             options = word 4 (omega arith) i;
             limit = word 6 (omega arith) i;

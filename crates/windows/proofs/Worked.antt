@@ -38,7 +38,7 @@ passesAll table = all (λ r. eqList (told emptyState (r .operations)) (r .turns)
 
 -- the function `f` from the root, with a fuel
 abbrev asked : ℕ → Question
-asked fuel = record { query = record { ns = 1; definition = 1; from = 0; prefix = 1; options = 0; limit = 15 }; fuel = fuel }
+asked fuel = record { query = record { ns = 1; definition = record { 0 = 1 }; from = record { 0 = 0 }; prefix = 1; options = 0; limit = 15 }; fuel = fuel }
 
 -- `found a::f 1 0 scope@21 local@29` of a window, `refused 21 0 0` of a window, and an idle turn
 abbrev found : ℕ → List ℕ

@@ -625,13 +625,13 @@ find-in-dep-returns-2 t c =
     running-done (g .inv) (imports-end (now (a .words)) (now (a .area)) (g .area) (a .l) (a .x) (a .left) (o .pre .1 .0 .ready) (o .pre .1 .0 .some) (g .best) _ (left-none _ _ _ _ (c .if1 .left)))
 
 abbrev find-in-deps-Inv-loop : find-in-deps-lts.InvT-loop
-find-in-deps-Inv-loop words area₀ l x left item c best₀ k₀ area best k =
+find-in-deps-Inv-loop words area₀ l x left item best₀ k₀ area best k =
     Running area₀ area left best
-    (dependencies (snapOf words area₀ l) x left item (outOf best) (leftOf (isDependency (x .«from_crate»)) (λ i. dependencyAt words (dependencyBase l + dependencySize * i)) (l .dependencies) k))
-    (dependencies (snapOf words area₀ l) x left item (outOf best₀) (dependenciesOf (snapOf words area₀ l) (x .«from_crate»)))
+    (dependencies (snapOf words area₀ l) x left item (outOf best) (leftOf (isDependency (x .«from_crate» .0)) (λ i. dependencyAt words (dependencyBase l + dependencySize * i)) (l .dependencies) k))
+    (dependencies (snapOf words area₀ l) x left item (outOf best₀) (dependenciesOf (snapOf words area₀ l) (x .«from_crate» .0)))
 
 abbrev find-in-deps-μ-loop : find-in-deps-lts.MeasureT-loop
-find-in-deps-μ-loop words area₀ l x left item c best₀ k₀ area best k = l .dependencies - k
+find-in-deps-μ-loop words area₀ l x left item best₀ k₀ area best k = l .dependencies - k
 
 find-in-deps-loop-holds : (t : ℕ) → find-in-deps-lts.Need-loop-holds (
   next-dependency-reads.Asked,
@@ -645,7 +645,7 @@ find-in-deps-loop-holds t c =
     let o = c .before .before in
     let a = o .args in
     record {
-      same = ap (dependencies (snapOf (now (a .words)) (now (a .area)) (a .l)) (a .x) (a .left) (a .item) (outOf (a .o))) (sym (dependencies-whole (now (a .words)) (now (a .area)) (a .l) (a .x .«from_crate»)));
+      same = ap (dependencies (snapOf (now (a .words)) (now (a .area)) (a .l)) (a .x) (a .left) (a .item) (outOf (a .o))) (sym (dependencies-whole (now (a .words)) (now (a .area)) (a .l) (a .x .«from_crate» .0)));
       tables = refl;
       long = refl;
       held = o .pre .1 .1;
@@ -798,13 +798,13 @@ find-in-deps-returns-2 t c =
     running-done (g .inv) (deps-end (now (a .words)) (now (a .area)) (g .area) (a .l) (a .x) (a .left) (o .pre .1 .0 .ready) (o .pre .1 .0 .some) (a .item) (g .best) _ (left-none _ _ _ _ (c .if1 .left)))
 
 abbrev find-in-deps-by-sysroot-Inv-loop : find-in-deps-by-sysroot-lts.InvT-loop
-find-in-deps-by-sysroot-Inv-loop words area₀ l x left item inside c best₀ k₀ area best k =
+find-in-deps-by-sysroot-Inv-loop words area₀ l x left item inside best₀ k₀ area best k =
     Running area₀ area left best
-    (dependencies (snapOf words area₀ l) x left item (outOf best) (leftOf (bySysroot (x .«from_crate») inside) (λ i. dependencyAt words (dependencyBase l + dependencySize * i)) (l .dependencies) k))
-    (dependencies (snapOf words area₀ l) x left item (outOf best₀) (select (bySysroot (x .«from_crate») inside) (snapOf words area₀ l .dependencies)))
+    (dependencies (snapOf words area₀ l) x left item (outOf best) (leftOf (bySysroot (x .«from_crate» .0) inside) (λ i. dependencyAt words (dependencyBase l + dependencySize * i)) (l .dependencies) k))
+    (dependencies (snapOf words area₀ l) x left item (outOf best₀) (select (bySysroot (x .«from_crate» .0) inside) (snapOf words area₀ l .dependencies)))
 
 abbrev find-in-deps-by-sysroot-μ-loop : find-in-deps-by-sysroot-lts.MeasureT-loop
-find-in-deps-by-sysroot-μ-loop words area₀ l x left item inside c best₀ k₀ area best k = l .dependencies - k
+find-in-deps-by-sysroot-μ-loop words area₀ l x left item inside best₀ k₀ area best k = l .dependencies - k
 
 find-in-deps-by-sysroot-loop-holds : (t : ℕ) → find-in-deps-by-sysroot-lts.Need-loop-holds (
   next-by-sysroot-reads.Asked,
@@ -822,7 +822,7 @@ find-in-deps-by-sysroot-loop-holds t c =
     let o = c .before .before in
     let a = o .args in
     record {
-      same = ap (dependencies (snapOf (now (a .words)) (now (a .area)) (a .l)) (a .x) (a .left) (a .item) (outOf (a .o))) (sym (rows-whole (select (bySysroot (a .x .«from_crate») (a .inside))) (λ i. dependencyAt (now (a .words)) (dependencyBase (a .l) + dependencySize * i)) (a .l .dependencies)));
+      same = ap (dependencies (snapOf (now (a .words)) (now (a .area)) (a .l)) (a .x) (a .left) (a .item) (outOf (a .o))) (sym (rows-whole (select (bySysroot (a .x .«from_crate» .0) (a .inside))) (λ i. dependencyAt (now (a .words)) (dependencyBase (a .l) + dependencySize * i)) (a .l .dependencies)));
       tables = refl;
       long = refl;
       held = o .pre .1 .1;
@@ -1519,7 +1519,7 @@ search-charged-returns t c =
     let a = o .args in
     let f = c .before .before .calculate-best-path-local in
     record {
-      same = go-here (snapOf (now (a .words)) (now (a .area)) (a .l)) (a .x) (a .left) (a .item) (a .t) (f .ensures .same) (at-home (snapOf (now (a .words)) (now (a .area)) (a .l)) (a .item) (a .x .«from_crate») (c .before .before .before .before .before .before .before .home-of .ensures (now (a .area))) (c .before .before .before .before .before .is-at .ensures) ∙ c .before .before .before .before .if1 .taken);
+      same = go-here (snapOf (now (a .words)) (now (a .area)) (a .l)) (a .x) (a .left) (a .item) (a .t) (f .ensures .same) (at-home (snapOf (now (a .words)) (now (a .area)) (a .l)) (a .item) (a .x .«from_crate» .0) (c .before .before .before .before .before .before .before .home-of .ensures (now (a .area))) (c .before .before .before .before .before .is-at .ensures) ∙ c .before .before .before .before .if1 .taken);
       tables = f .ensures .tables;
     }
 
@@ -1594,7 +1594,7 @@ search-charged-returns-2 t c =
     let a = o .args in
     let f = c .before .before .find-in-sysroot in
     record {
-      same = f .ensures .same ∙ ap foundOf (go-sysroot (snapOf (now (a .words)) (now (a .area)) (a .l)) (a .x) (a .left) (a .item) (a .t) (c .before .before .before .before .before .nothing .ensures) (at-home (snapOf (now (a .words)) (now (a .area)) (a .l)) (a .item) (a .x .«from_crate») (c .before .before .before .before .before .before .before .before .before .home-of .ensures (now (a .area))) (c .before .before .before .before .before .before .before .is-at .ensures) ∙ c .before .before .before .before .before .before .if1 .left) (c .before .before .before .before .if2 .taken));
+      same = f .ensures .same ∙ ap foundOf (go-sysroot (snapOf (now (a .words)) (now (a .area)) (a .l)) (a .x) (a .left) (a .item) (a .t) (c .before .before .before .before .before .nothing .ensures) (at-home (snapOf (now (a .words)) (now (a .area)) (a .l)) (a .item) (a .x .«from_crate» .0) (c .before .before .before .before .before .before .before .before .before .home-of .ensures (now (a .area))) (c .before .before .before .before .before .before .before .is-at .ensures) ∙ c .before .before .before .before .before .before .if1 .left) (c .before .before .before .before .if2 .taken));
       tables = f .ensures .tables;
     }
 
@@ -1652,7 +1652,7 @@ search-charged-returns-3 t c =
     let a = o .args in
     let f = c .before .before .find-in-deps in
     record {
-      same = f .ensures .same ∙ ap foundOf (go-dependencies (snapOf (now (a .words)) (now (a .area)) (a .l)) (a .x) (a .left) (a .item) (a .t) (c .before .before .before .before .before .nothing .ensures) (at-home (snapOf (now (a .words)) (now (a .area)) (a .l)) (a .item) (a .x .«from_crate») (c .before .before .before .before .before .before .before .before .before .home-of .ensures (now (a .area))) (c .before .before .before .before .before .before .before .is-at .ensures) ∙ c .before .before .before .before .before .before .if1 .left) (c .before .before .before .before .if2 .left));
+      same = f .ensures .same ∙ ap foundOf (go-dependencies (snapOf (now (a .words)) (now (a .area)) (a .l)) (a .x) (a .left) (a .item) (a .t) (c .before .before .before .before .before .nothing .ensures) (at-home (snapOf (now (a .words)) (now (a .area)) (a .l)) (a .item) (a .x .«from_crate» .0) (c .before .before .before .before .before .before .before .before .before .home-of .ensures (now (a .area))) (c .before .before .before .before .before .before .before .is-at .ensures) ∙ c .before .before .before .before .before .before .if1 .left) (c .before .before .before .before .if2 .left));
       tables = f .ensures .tables;
     }
 

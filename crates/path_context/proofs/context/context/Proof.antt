@@ -44,15 +44,15 @@ krate-requires-2 c κs = search needs
 
 is-lang-requires : tie.Need-is-lang-requires
 is-lang-requires c κs =
-    let s = c .before .before .before .before .before .before .before .before .before .before .before .before .before .before in
+    let s = c .before .before .before .before .before .before .before .before .before .before .before .before .before .before .before in
     few-words (now (s .args .words)) (now (s .args .area)) (s .args .l) (s .pre .0)
 
 crate-root-requires : tie.Need-crate-root-requires
-crate-root-requires c κs = search needs
+crate-root-requires c κs = let s = c .before .before .before .before .before .before .before .before .before .before .before .before .before .before .before .before in (s .pre .0, s .pre .1)
 
 returns : tie.Need-returns
 returns c =
-    let s = c .before .before .before .before .before .before .before .before .before .before .before .before .before .before .before .before in
+    let s = c .before .before .before .before .before .before .before .before .before .before .before .before .before .before .before .before .before in
     let n = snapOf (now (s .args .words)) (now (s .args .area)) (s .args .l) in
     let A = now (s .args .area) in
     context-same n (s .args .q) (s .args .home .0) (s .pre .3) (c .before .before .before .before .before .before .before .before .before .before .before .before .before .in-block .ensures) (c .before .before .before .before .before .before .before .before .before .before .before .before .plain-if .ensures) (c .before .before .before .before .before .before .before .before .before .before .before .krate .ensures)

@@ -21,7 +21,7 @@ returns : tie.Need-returns
 returns c =
     let s = c .before .before .before .before .before in
     let n = snapOf (now (s .args .words)) (now (s .args .area)) (s .args .l) in
-    c .is-visible-from .ensures ∙ ap₂ (λ k m. isVisibleFrom n k m (s .args .x .from)) (c .before .before .scope-visibility .ensures) (c .before .scope-number .ensures)
+    c .is-visible-from .ensures ∙ ap₂ (λ k m. isVisibleFrom n k m (s .args .x .from .0)) (c .before .before .scope-visibility .ensures) (c .before .scope-number .ensures)
 
 pub sees-spec : {M : Type 1} → statement M
 sees-spec =

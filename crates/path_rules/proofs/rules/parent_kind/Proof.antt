@@ -41,8 +41,8 @@ root-requires : tie.Need-root-requires
 root-requires c κs =
     let s = c .before .before .before .before .before .before .before .before .before .before in
     let l = s .args .l in
-    let e = map-read (now (s .args .words)) (now (s .args .area)) l (s .pre .0 .tables) (s .args .x .from) (s .pre .1) ∙ sym (c .map .ensures) in
-    (s .pre .0, subst (λ k. k < l .maps) e (s .pre .0 .tables .below (s .args .x .from) (s .pre .1)))
+    let e = map-read (now (s .args .words)) (now (s .args .area)) l (s .pre .0 .tables) (s .args .x .from .0) (s .pre .1) ∙ sym (c .map .ensures) in
+    (s .pre .0, subst (λ k. k < l .maps) e (s .pre .0 .tables .below (s .args .x .from .0) (s .pre .1)))
 
 returns-3 : tie.Need-returns-3
 unfolding keywordKind

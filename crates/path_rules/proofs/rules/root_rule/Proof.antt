@@ -38,7 +38,7 @@ extern-rule-requires c κs =
     let s = c .before .before .before .before .before .before .before .before .before .before in
     let W = now (s .args .words) in
     let A = now (s .args .area) in
-    (s .pre .0, s .pre .1, λ h e. extern-fits W A (s .args .l) (s .pre .0) (s .args .x .«from_crate») (s .args .m .0) h (sym (ap (entryOf externAt W) e) ∙ c .extern-of .ensures A))
+    (s .pre .0, s .pre .1, λ h e. extern-fits W A (s .args .l) (s .pre .0) (s .args .x .«from_crate» .0) (s .args .m .0) h (sym (ap (entryOf externAt W) e) ∙ c .extern-of .ensures A))
 
 returns-3 : tie.Need-returns-3
 returns-3 c =

@@ -34,8 +34,8 @@ returns c =
       query =
           record {
             ns = a .before .word .ensures i;
-            definition = a .word2 .ensures i;
-            from = b .word3 .ensures i;
+            definition = record { 0 = a .word2 .ensures i };
+            from = record { 0 = b .word3 .ensures i };
             prefix = d .word4 .ensures i;
             options = e .word5 .ensures i;
             limit = f .word6 .ensures i;

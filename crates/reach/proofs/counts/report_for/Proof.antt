@@ -16,7 +16,7 @@ scope-definition-requires c κs = search needs
 
 report-in-requires : tie.Need-report-in-requires
 report-in-requires c κs =
-    let d = c .before in
+    let d = c .before .before in
     let s = d .before .before .before .before in (
       s .pre .0 .0,
       s .pre .0 .1,
@@ -34,8 +34,8 @@ same-length c = search needs
 returns : tie.Need-returns
 unfolding reportFor
 returns c =
-    let f = c .before .before in
-    let d = f .before .before in
+    let f = c .before .before .before in
+    let d = f .before .before .before in
     let s = d .before .before .before .before in
     let S = snapOf (now (s .args .words)) (now (s .args .area)) (s .args .l) in (
       f .report-in .ensures .0

@@ -24,7 +24,7 @@ returns : tie.Need-returns
 returns c =
     let e = c .before .before in
     let f = e .before .before in
-    let s = f .before .before .before in
+    let s = f .before .before .before .before in
     record {
       reach = reach-earlier (s .args .v) _ (now (s .args .words)) (now (s .args .area)) _ (c .before .if1 .taken) (c .refused .ensures) (s .args .c) (s .pre .0) _ _ (fault-at _ _ _ _ (s .pre .1) (f .call-fault .ensures)) (e .before .number-of .ensures) (e .earlier .ensures);
       checked = s .pre .0;
@@ -34,7 +34,7 @@ reach-by-requires : tie.Need-reach-by-requires
 reach-by-requires c κs =
     let e = c .before .before in
     let f = e .before .before in
-    let s = f .before .before .before in
+    let s = f .before .before .before .before in
     let z = none-earlier (f .call-fault .result) (e .before .number-of .result) (sym (c .before .if1 .left) ∙ e .earlier .ensures) in
     let k = fault-free areaLimit (queryFor (s .args .v) 0 0) (s .args .v .fuel) (z ∙ fault-at _ _ _ _ (s .pre .1) (f .call-fault .ensures)) in
     (s .pre .0, s .pre .1, k .1, k .3, k .4)
@@ -47,7 +47,7 @@ returns-2 c =
     let b = c .before .before in
     let e = b .before .before .before in
     let f = e .before .before in
-    let s = f .before .before .before in
+    let s = f .before .before .before .before in
     let z = none-earlier (f .call-fault .result) (e .before .number-of .result) (sym (b .before .before .if1 .left) ∙ e .earlier .ensures) in
     record {
       reach = reach-verdict (s .args .v) _ (now (s .args .words)) areaLimit _ (fault-at _ _ _ _ (s .pre .1) (f .call-fault .ensures)) (sym z) (b .reach-by .ensures .0);

@@ -24,7 +24,7 @@ builtin-choice-requires : tie.Need-builtin-choice-requires
 builtin-choice-requires c κs =
     let o = c .before .before .before .before .before .before in
     let a = o .args in
-    (o .pre .0, o .pre .2, builtin-kind (snapOf (now (a .words)) (now (a .area)) (a .l)) (a .q .ns) (a .q .definition) (c .before .before .kind-of .ensures (now (a .area))) (c .before .if1 .taken))
+    (o .pre .0, o .pre .2, builtin-kind (snapOf (now (a .words)) (now (a .area)) (a .l)) (a .q .ns) (a .q .definition .0) (c .before .before .kind-of .ensures (now (a .area))) (c .before .if1 .taken))
 
 same-length : tie.Need-same-length
 same-length c = refl
@@ -60,7 +60,7 @@ module-in-requires : tie.Need-module-in-requires
 module-in-requires c κs =
     let o = c .before .before .before .before .before .before .before .before .before .before in
     let a = o .args in
-    let k = subst (Known (a .l)) (sym (c .before .before .before .before .item-of .ensures (now (a .area)))) (item-known (now (a .words)) (now (a .area)) (a .l) (o .pre .0) (a .q .ns) (a .q .definition) (o .pre .2)) in
+    let k = subst (Known (a .l)) (sym (c .before .before .before .before .item-of .ensures (now (a .area)))) (item-known (now (a .words)) (now (a .area)) (a .l) (o .pre .0) (a .q .ns) (a .q .definition .0) (o .pre .2)) in
     module-small (now (a .words)) (now (a .area)) (a .l) _ (o .pre .0) k
 
 context-requires : tie.Need-context-requires
@@ -68,14 +68,14 @@ context-requires c κs =
     let o = c .before .before .before .before .before .before .before .before .before .before .before .before in
     let a = o .args in
     let i = c .before .before .before .before .before .before .item-of .ensures (now (a .area)) in
-    let k = subst (Known (a .l)) (sym (c .before .before .before .before .before .before .item-of .ensures (now (a .area)))) (item-known (now (a .words)) (now (a .area)) (a .l) (o .pre .0) (a .q .ns) (a .q .definition) (o .pre .2)) in
+    let k = subst (Known (a .l)) (sym (c .before .before .before .before .before .before .item-of .ensures (now (a .area)))) (item-known (now (a .words)) (now (a .area)) (a .l) (o .pre .0) (a .q .ns) (a .q .definition .0) (o .pre .2)) in
     (o .pre .0, o .pre .3, home-there (now (a .words)) (now (a .area)) (a .l) (o .pre .0) _ k (c .before .before .before .before .before .home-of .ensures (now (a .area))) (is-some _ refl (c .before .before .before .home .given .1)), c .before .module-in .ensures ∙ ap moduleIn i)
 
 find-path-inner-requires : tie.Need-find-path-inner-requires
 find-path-inner-requires c κs =
     let o = c .before .before .before .before .before .before .before .before .before .before .before .before .before .before in
     let a = o .args in
-    let k = subst (Known (a .l)) (sym (c .before .before .before .before .before .before .before .before .item-of .ensures (now (a .area)))) (item-known (now (a .words)) (now (a .area)) (a .l) (o .pre .0) (a .q .ns) (a .q .definition) (o .pre .2)) in
+    let k = subst (Known (a .l)) (sym (c .before .before .before .before .before .before .before .before .item-of .ensures (now (a .area)))) (item-known (now (a .words)) (now (a .area)) (a .l) (o .pre .0) (a .q .ns) (a .q .definition .0) (o .pre .2)) in
     let f = context-from (snapOf (now (a .words)) (now (a .area)) (a .l)) (a .q) _ (c .before .context .ensures) in
     let n = context-limit (snapOf (now (a .words)) (now (a .area)) (a .l)) (a .q) _ (c .before .context .ensures) in (
       record { reads = o .pre .0; from = omega (arith, f, o .pre .3); area = o .pre .1; some = omega (arith, n, o .pre .6); limit = omega (arith, n, o .pre .7) },

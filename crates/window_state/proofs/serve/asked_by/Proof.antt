@@ -16,17 +16,17 @@ cast-t6 c = search needs
 cast-t10 : tie.Need-cast-t10
 cast-t10 c = search needs
 
-cast-t11 : tie.Need-cast-t11
-cast-t11 c = search needs
-
 cast-t12 : tie.Need-cast-t12
 cast-t12 c = search needs
 
-cast-t13 : tie.Need-cast-t13
-cast-t13 c = search needs
-
 cast-t14 : tie.Need-cast-t14
 cast-t14 c = search needs
+
+cast-t15 : tie.Need-cast-t15
+cast-t15 c = search needs
+
+cast-t16 : tie.Need-cast-t16
+cast-t16 c = search needs
 
 cast-t6-2 : tie.Need-cast-t6-2
 cast-t6-2 c = search needs
@@ -46,9 +46,9 @@ asked-by-spec =
     element-copy-out-row
     cast-t6
     cast-t10
-    cast-t11
     cast-t12
-    cast-t13
     cast-t14
+    cast-t15
+    cast-t16
     cast-t6-2
     returns)
