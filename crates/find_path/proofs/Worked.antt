@@ -42,7 +42,7 @@ pub record Row : Type 0 where
   pub line : String
 
 -- definition, namespace, viewing module, prefix, options, fuel, limit, and the line
-pub rowAt : ℕ → ℕ → ℕ → ℕ → ℕ → ℕ → ℕ → String → Row
+unfoldable pub rowAt : ℕ → ℕ → ℕ → ℕ → ℕ → ℕ → ℕ → String → Row
 rowAt d ns m p o f n l =
     record { question = record { query = record { ns = ns; definition = record { 0 = d }; from = record { 0 = m }; prefix = p; options = o; limit = n }; fuel = f }; line = l }
 
@@ -56,7 +56,7 @@ unfolding lineOf snapshotOf lineIn lineParts pathText prefixParts joined decimal
 passes words table = all (λ r. eqList (lineOf words (r .question)) (bytesOf (r .line))) table
 
 -- module 0 is the root, module 1 its child `a`, definition 0 the module `a`, definition 1 a function `f` in it
-pub cases : List Row
+unfoldable pub cases : List Row
 cases =
     row 1 1 0 1 0 1 "found a::f 1 0"
     ∷ row 1 1 0 1 0 0 "none - 0 1"
@@ -93,7 +93,7 @@ named t = head 1 (length (bytesOf t)) ∷ packed (bytesOf t)
 -- 8 as `H`, hidden; `k` from its root, unstable; 10 as `V` from `k`, then as `dep` from `inner`; 11 as `U` from its
 -- root, unstable, then from `inner`; 13, but not its enum, as `H`; 14 as `U` from `inner`, then from its root, unstable. Crate 0 knows the root of crate 1 as `dep`, and then
 -- as `alias`; in `m` the name `alias` means `T`.
-pub withDependency : List ℕ
+unfoldable pub withDependency : List ℕ
 withDependency =
     named "dep" ++ named "alias" ++ named "m" ++ named "inner" ++ named "T" ++ named "V" ++ named "u8" ++ named "U"
     ++ named "W" ++ named "H" ++ named "k"
@@ -119,7 +119,7 @@ withDependency =
     ∷ head 11 0 ∷ 0 ∷ 2 ∷ head 11 0 ∷ 1 ∷ 2 ∷ [])
 
 -- Worked out by hand from find_path.rs. A charge for the item, and one for `inner`, whose container, a root, is an extern.
-pub dependencyCases : List Row
+unfoldable pub dependencyCases : List Row
 dependencyCases =
     row 2 0 0 1 0 9 "found alias::inner::T 2 0"
     -- externs are not prefixed by `self` or `crate`, but by `::` where absolute paths are preferred, or the name is taken
@@ -168,7 +168,7 @@ dependency-cases = refl
 -- 1 and 2 the roots of core and std; 3 a block in crate 0, whose map is not no_std and has std's root as its prelude.
 -- Definitions: 0 `O` in core, 1 the root of std, 2 `P` in std, 3 a macro `m` in core, 4 `U` in core.
 -- Both export `O`; core exports `m`, and `U` unstable; std exports `U` stable. `P` is in std's scope and no import.
-pub withStd : List ℕ
+unfoldable pub withStd : List ℕ
 withStd =
     named "core" ++ named "std" ++ named "O" ++ named "P" ++ named "m" ++ named "U"
     ++ (head 2 0 ∷ 2021 ∷ head 2 1 ∷ 2021 ∷ head 2 3 ∷ 2021 ∷ head 3 0 ∷ 2 ∷ 1 ∷ head 3 0 ∷ 1 ∷ 1
@@ -182,7 +182,7 @@ withStd =
     ∷ head 11 0 ∷ 0 ∷ 1 ∷ head 11 0 ∷ 1 ∷ 2 ∷ [])
 
 -- Worked out by hand from find_path.rs.
-pub stdCases : List Row
+unfoldable pub stdCases : List Row
 stdCases =
     -- no_std by the viewer's map: core first, and its stable choice ends the search
     row 0 0 0 1 0 9 "found core::O 1 0"

@@ -93,6 +93,10 @@ windowRefusal = 49
 abbrev pub waitsRefusal : ℕ
 waitsRefusal = 50
 
+-- two snapshots that joined pass a limit or the target
+abbrev pub joinRefusal : ℕ
+joinRefusal = 51
+
 -- no report has a larger one
 abbrev pub largestRefusal : ℕ
 largestRefusal = limitRefusal

@@ -50,6 +50,8 @@ impl Refusal {
     pub const WINDOW: usize = 49;
     /// A window whose question waits already.
     pub const WAITS: usize = 50;
+    /// Two snapshots that joined pass a limit or the target.
+    pub const JOIN: usize = 51;
 }
 
 /// The same numbers where they come with the check of words or of an entry, in 32 bits.
