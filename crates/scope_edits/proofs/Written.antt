@@ -44,7 +44,7 @@ each-none k [] h = refl
 each-none k (x ∷ xs) (more p h) = ap₂ (λ a b. a ++ b) (within-other k x (λ e. omega (arith, p))) (each-none k xs h)
 
 -- a map more, which has no module yet
-tree-map : (k : ℕ) (ms : List Map) (y : Map) (xs : List Module) → Each (λ x. x .map < k + length ms) xs
+pub tree-map : (k : ℕ) (ms : List Map) (y : Map) (xs : List Module) → Each (λ x. x .map < k + length ms) xs
     → treeWords k (ms ++ (y ∷ [])) xs ≡ treeWords k ms xs ++ mapWords y
 unfolding treeWords
 tree-map k [] y xs h =
@@ -61,7 +61,7 @@ tree-map k (m ∷ ms) y xs h =
     ∙ sym (append-assoc (mapWords m) (a ++ b) (mapWords y))
 
 -- a module more, in the last map
-tree-module : (k : ℕ) (ms : List Map) (xs : List Module) (y : Module) → k ≤ y .map → y .map + 1 ≡ k + length ms
+pub tree-module : (k : ℕ) (ms : List Map) (xs : List Module) (y : Module) → k ≤ y .map → y .map + 1 ≡ k + length ms
     → treeWords k ms (xs ++ (y ∷ [])) ≡ treeWords k ms xs ++ moduleWords y
 unfolding treeWords
 tree-module k [] xs y h e = absurd (omega arith)
