@@ -65,7 +65,7 @@ module _ (s t : Snapshot) (v : Valid s) (w : Valid t) (sw : Whole s) (tw : Whole
 
   -- the names of the second
 
-  name-counts : length (u .names) ≡ length (s .names) + length (select (isNew sameName (s .names)) (t .names))
+  pub name-counts : length (u .names) ≡ length (s .names) + length (select (isNew sameName (s .names)) (t .names))
   unfolding together
   name-counts = merged-length sameName noName (s .names) (t .names)
 
@@ -103,27 +103,27 @@ module _ (s t : Snapshot) (v : Valid s) (w : Valid t) (sw : Whole s) (tw : Whole
 
   -- the definitions of the second
 
-  abbrev isOther : Definition → Bool
+  abbrev pub isOther : Definition → Bool
   isOther = isNew (sameBuiltin s t) (s .definitions)
 
   abbrev others : List Definition
   others = select isOther (t .definitions)
 
-  other-kind : (y : Definition) → (y .kind ≡ 3 → ⊥) → isOther y ≡ true
+  pub other-kind : (y : Definition) → (y .kind ≡ 3 → ⊥) → isOther y ≡ true
   other-kind y h =
       let a = any-not (sameBuiltin s t y) noDefinition (s .definitions) (λ j l. rw (ne-eqb (y .kind) 3 h)) in
       rw a
 
-  definition-counts : length (u .definitions) ≡ length (s .definitions) + length others
+  pub definition-counts : length (u .definitions) ≡ length (s .definitions) + length others
   unfolding together
   definition-counts = both-length (definitionTo e) noDefinition (s .definitions) others
 
-  definition-low : (i : ℕ) → i < length (s .definitions) → definitionIn (u .definitions) i ≡ definitionIn (s .definitions) i
+  pub definition-low : (i : ℕ) → i < length (s .definitions) → definitionIn (u .definitions) i ≡ definitionIn (s .definitions) i
   unfolding together
   definition-low i l = both-low (definitionTo e) noDefinition (s .definitions) others i l
 
   -- one that is not merged
-  definition-at : (n : ℕ) → n < length (t .definitions) → isOther (definitionIn (t .definitions) n) ≡ true
+  pub definition-at : (n : ℕ) → n < length (t .definitions) → isOther (definitionIn (t .definitions) n) ≡ true
       → (definitionNumber s t n ≡ length (s .definitions) + length (select isOther (take n (t .definitions)))) × (definitionNumber s t n < length (u .definitions))
       × (definitionIn (u .definitions) (definitionNumber s t n) ≡ definitionTo e (definitionIn (t .definitions) n))
   unfolding together definitionNumber
@@ -177,31 +177,31 @@ module _ (s t : Snapshot) (v : Valid s) (w : Valid t) (sw : Whole s) (tw : Whole
 
   -- modules and maps
 
-  module-counts : length (u .modules) ≡ os + length (t .modules)
+  pub module-counts : length (u .modules) ≡ os + length (t .modules)
   unfolding together
   module-counts = both-length (moduleTo e) noModule (s .modules) (t .modules)
 
-  module-low : (i : ℕ) → i < os → getD (u .modules) i noModule ≡ getD (s .modules) i noModule
+  pub module-low : (i : ℕ) → i < os → getD (u .modules) i noModule ≡ getD (s .modules) i noModule
   unfolding together
   module-low i l = both-low (moduleTo e) noModule (s .modules) (t .modules) i l
 
-  module-high : (j : ℕ) → j < length (t .modules) → getD (u .modules) (os + j) noModule ≡ moduleTo e (getD (t .modules) j noModule)
+  pub module-high : (j : ℕ) → j < length (t .modules) → getD (u .modules) (os + j) noModule ≡ moduleTo e (getD (t .modules) j noModule)
   unfolding together
   module-high j l = both-high (moduleTo e) noModule (s .modules) (t .modules) j l
 
-  map-counts : length (u .maps) ≡ ks + length (t .maps)
+  pub map-counts : length (u .maps) ≡ ks + length (t .maps)
   unfolding together
   map-counts = both-length (mapTo e) noMap (s .maps) (t .maps)
 
-  map-low : (i : ℕ) → i < ks → getD (u .maps) i noMap ≡ getD (s .maps) i noMap
+  pub map-low : (i : ℕ) → i < ks → getD (u .maps) i noMap ≡ getD (s .maps) i noMap
   unfolding together
   map-low i l = both-low (mapTo e) noMap (s .maps) (t .maps) i l
 
-  map-high : (j : ℕ) → j < length (t .maps) → getD (u .maps) (ks + j) noMap ≡ mapTo e (getD (t .maps) j noMap)
+  pub map-high : (j : ℕ) → j < length (t .maps) → getD (u .maps) (ks + j) noMap ≡ mapTo e (getD (t .maps) j noMap)
   unfolding together
   map-high j l = both-high (mapTo e) noMap (s .maps) (t .maps) j l
 
-  crate-counts : length (u .crates) ≡ cs + length (t .crates)
+  pub crate-counts : length (u .crates) ≡ cs + length (t .crates)
   unfolding together
   crate-counts = length-append (s .crates) (t .crates)
 

@@ -1,0 +1,144 @@
+-- Items of an embedded snapshot, and the lookups in its lists.
+use Prim.Native.Nat.{ℕ, zero, suc, _+_, _≤_, _<_}
+use mathlib.Core.Path.{_≡_, refl, sym, _∙_, ap, ap₂, subst}
+use mathlib.Core.List.{List, [], _∷_, _++_, map, reverse}
+use mathlib.Core.Bool.{Bool, true, false, _&&_, _||_, not}
+use mathlib.Core.Option.{Option, none, some}
+use native.Mathlib.Omega.{arith}
+use borrow.Author.Tests.{eqb-true, eqb-false, eq-eqb, ne-eqb}
+use lib.Dec.{eqb, leb}
+use lib.ListN.{length, getD}
+use Rattle.snapshot.specs.Lists.{any}
+use Rattle.snapshot.specs.Records.{Snapshot, Definition, Scope, Import, Extern, Child, Prelude, Dependency}
+use Rattle.accept.specs.Tests.{countsOf, noDefinition}
+use Rattle.accept.specs.Valid.{Valid, Each, none, more, DefinitionFits, ScopeFits}
+use Rattle.accept.proofs.Accepted.{by-test}
+use Rattle.accept.proofs.Bools.{each-at}
+use Rattle.hir_def.specs.Finds.{firstOf, orFirst, select, firstSome}
+use Rattle.hir_def.specs.Items.{types, moduleKind, variantKind, builtinKind, definitionOf, itemOf, sameItem, nsOf, homeBy, homeOf}
+use Rattle.hir_def.specs.declared.Item.{Item}
+use Rattle.hir_def.specs.declared.Item.the-variants.{Mod, Def}
+use Rattle.find_path.proofs.Walks.{select-hit, select-miss}
+use Rattle.join_words.specs.Joined.{Numbers, orNone, firstTo, secondTo, definitionTo, definitionPut, scopeTo, importTo, externTo}
+use Rattle.embedding.specs.Embeds.{Outside, Apart, Within, done, ours, theirs, ScopeAlike, Embeds, itemTo}
+use Rattle.embedding.proofs.Chains.{eqb-moved}
+
+-- one answer and the other, alike or both none
+pub data Both {A : Type 0} (Alike : A → A → Type 0) : Option A → Option A → Type 0 where
+  neither : Both Alike none none
+  each : {x z : A} → Alike x z → Both Alike (some x) (some z)
+
+-- lists with elements alike, one after the other
+pub data Along {A : Type 0} (Alike : A → A → Type 0) : List A → List A → Type 0 where
+  end : Along Alike [] []
+  next : {x z : A} {xs zs : List A} → Alike x z → Along Alike xs zs → Along Alike (x ∷ xs) (z ∷ zs)
+
+first-hit : {A : Type 0} (t : A → Bool) (x : A) (xs : List A) → t x ≡ true → firstOf t (x ∷ xs) ≡ some x
+unfolding firstOf
+first-hit t x xs e = rw (firstOf, e)
+
+first-miss : {A : Type 0} (t : A → Bool) (x : A) (xs : List A) → t x ≡ false → firstOf t (x ∷ xs) ≡ firstOf t xs
+unfolding firstOf
+first-miss t x xs e = rw (firstOf, e)
+
+-- A test that tells alike elements alike, and that no other passes, finds the same.
+module _ {A : Type 0} {P : A → Type 0} {Alike : A → A → Type 0} {Others : A → Type 0} (p q : A → Bool)
+    (same : (x z : A) → P x → Alike x z → q z ≡ p x) (other : (z : A) → Others z → q z ≡ false)
+  where
+    pub first-within : {xs zs : List A} → Each P xs → Within Alike Others xs zs → Both Alike (firstOf p xs) (firstOf q zs)
+    unfolding firstOf
+    first-within none done = neither
+    first-within (more {x = x} {xs = xs} f fs) (ours {z = z} {zs = zs} a r) =
+        by-test (p x)
+        (λ t. subst (λ o. Both Alike (firstOf p (x ∷ xs)) o) (sym (first-hit q z zs (same x z f a ∙ t))) (subst (λ o. Both Alike o (some z)) (sym (first-hit p x xs t)) (each a)))
+        (λ t. subst (λ o. Both Alike (firstOf p (x ∷ xs)) o) (sym (first-miss q z zs (same x z f a ∙ t)))
+        (subst (λ o. Both Alike o (firstOf q zs)) (sym (first-miss p x xs t)) (first-within fs r)))
+    first-within {xs} fs (theirs {z = z} {zs = zs} o r) =
+        subst (λ y. Both Alike (firstOf p xs) y) (sym (first-miss q z zs (other z o))) (first-within fs r)
+
+    pub select-within : {xs zs : List A} → Each P xs → Within Alike Others xs zs → Along Alike (select p xs) (select q zs)
+    unfolding select
+    select-within none done = end
+    select-within (more {x = x} {xs = xs} f fs) (ours {z = z} {zs = zs} a r) =
+        by-test (p x)
+        (λ t. subst (λ y. Along Alike (select p (x ∷ xs)) y) (sym (select-hit q z zs (same x z f a ∙ t)))
+        (subst (λ y. Along Alike y (z ∷ select q zs)) (sym (select-hit p x xs t)) (next a (select-within fs r))))
+        (λ t. subst (λ y. Along Alike (select p (x ∷ xs)) y) (sym (select-miss q z zs (same x z f a ∙ t)))
+        (subst (λ y. Along Alike y (select q zs)) (sym (select-miss p x xs t)) (select-within fs r)))
+    select-within {xs} fs (theirs {z = z} {zs = zs} o r) =
+        subst (λ y. Along Alike (select p xs) y) (sym (select-miss q z zs (other z o))) (select-within fs r)
+
+-- a number that no other owns
+pub outside-not : (f : ℕ → ℕ) (n k i : ℕ) → Outside f n k → i < n → eqb k (f i) ≡ false
+outside-not f n k i h l = ne-eqb k (f i) (λ q. h i l (sym q))
+
+-- items of the snapshot
+abbrev pub Has : Snapshot → Item → Type 0
+Has s (Mod m) = m < length (s .modules)
+Has s (Def ns d) = d < length (s .definitions)
+
+module _ (e : Numbers) (s u : Snapshot) (em : Embeds e s u) (v : Valid s) where
+  pub kind-moved : (d : ℕ) → d < length (s .definitions) → definitionOf u (e .definitions d) .kind ≡ definitionOf s d .kind
+  kind-moved d l = ap (λ (x : Definition). x .kind) (em .definitions d l)
+
+  pub first-moved : (d : ℕ) → d < length (s .definitions) → definitionOf u (e .definitions d) .first ≡ firstTo e (definitionOf s d)
+  first-moved d l = ap (λ (x : Definition). x .first) (em .definitions d l)
+
+  pub second-moved : (d : ℕ) → d < length (s .definitions) → definitionOf u (e .definitions d) .second ≡ secondTo e (definitionOf s d)
+  second-moved d l = ap (λ (x : Definition). x .second) (em .definitions d l)
+
+  fits : (d : ℕ) → d < length (s .definitions) → DefinitionFits (countsOf s) (definitionOf s d)
+  unfolding definitionOf
+  fits d l = each-at noDefinition d (v .ranges .definitions) l
+
+  first-home : (d : ℕ) → d < length (s .definitions) → (definitionOf s d .kind ≡ 2 → ⊥) → (definitionOf s d .kind ≡ 3 → ⊥)
+      → definitionOf u (e .definitions d) .first ≡ e .modules (definitionOf s d .first)
+  first-home d l a b = first-moved d l ∙ rw (firstTo, ne-eqb (definitionOf s d .kind) 2 a, ne-eqb (definitionOf s d .kind) 3 b)
+
+  -- the item of a namespace and a definition
+  pub item-moved : (ns d : ℕ) → d < length (s .definitions) → itemOf u ns (e .definitions d) ≡ itemTo e (itemOf s ns d)
+  unfolding itemOf itemTo
+  item-moved ns d l =
+      let k = kind-moved d l in
+      by-test (eqb ns types)
+      (λ a. by-test (eqb (definitionOf s d .kind) moduleKind)
+      (λ b.
+      let o = eqb-true (definitionOf s d .kind) 1 b in
+      let f = first-home d l (λ z. omega arith) (λ z. omega arith) in
+      let x : itemOf s ns d ≡ Mod (definitionOf s d .first) = rw (itemOf, a, b) in
+      let c : eqb (definitionOf u (e .definitions d) .kind) moduleKind ≡ true = ap (λ i. eqb i moduleKind) k ∙ b in
+      let y : itemOf u ns (e .definitions d) ≡ Mod (definitionOf u (e .definitions d) .first) = rw (itemOf, a, c) in
+      y ∙ ap Mod f ∙ ap (itemTo e) (sym x))
+      (λ b.
+      let x : itemOf s ns d ≡ Def ns d = rw (itemOf, a, b) in
+      let c : eqb (definitionOf u (e .definitions d) .kind) moduleKind ≡ false = ap (λ i. eqb i moduleKind) k ∙ b in
+      let y : itemOf u ns (e .definitions d) ≡ Def ns (e .definitions d) = rw (itemOf, a, c) in
+      y ∙ ap (itemTo e) (sym x)))
+      (λ a.
+      let x : itemOf s ns d ≡ Def ns d = rw (itemOf, a) in
+      let y : itemOf u ns (e .definitions d) ≡ Def ns (e .definitions d) = rw (itemOf, a) in
+      y ∙ ap (itemTo e) (sym x))
+
+  pub item-has : (ns d : ℕ) → d < length (s .definitions) → Has s (itemOf s ns d)
+  unfolding itemOf
+  item-has ns d l =
+      by-test (eqb ns types)
+      (λ a. by-test (eqb (definitionOf s d .kind) moduleKind)
+      (λ b.
+      let o = eqb-true (definitionOf s d .kind) 1 b in
+      let x : itemOf s ns d ≡ Mod (definitionOf s d .first) = rw (itemOf, a, b) in
+      subst (Has s) (sym x) (fits d l .home (λ z. omega arith) (λ z. omega arith)))
+      (λ b. let x : itemOf s ns d ≡ Def ns d = rw (itemOf, a, b) in subst (Has s) (sym x) l))
+      (λ a. let x : itemOf s ns d ≡ Def ns d = rw (itemOf, a) in subst (Has s) (sym x) l)
+
+  pub same-moved : (a b : Item) → Has s a → Has s b → sameItem (itemTo e a) (itemTo e b) ≡ sameItem a b
+  unfolding sameItem itemTo
+  same-moved (Mod m) (Mod n) a b = eqb-moved (e .modules) (length (s .modules)) (em .modules-apart) m n a b
+  same-moved (Mod m) (Def ns d) a b = refl
+  same-moved (Def ns d) (Mod n) a b = refl
+  same-moved (Def ns d) (Def ms c) a b = ap (λ i. eqb ns ms && i) (eqb-moved (e .definitions) (length (s .definitions)) (em .definitions-apart) d c a b)
+
+  pub ns-moved : (a : Item) → nsOf (itemTo e a) ≡ nsOf a
+  unfolding nsOf itemTo
+  ns-moved (Mod m) = refl
+  ns-moved (Def ns d) = refl
