@@ -1,0 +1,9 @@
+-- Rows that are computed.
+pub mod Worked
+pub mod Lists
+pub mod Reached
+pub mod Arrives
+pub mod Least
+pub mod Plenty
+pub mod Private
+pub mod Opinion

@@ -1,0 +1,4 @@
+pub mod Seen
+pub mod Paths
+pub mod Breadth
+pub mod Right
