@@ -28,8 +28,8 @@ fn climb(words: &[u32], area: &[u32], l: Layout, viewer: usize, target: ModuleId
     t
 }
 
-// Whether a module is met on the way from the viewer through its containing modules.
-fn meets(words: &[u32], area: &[u32], l: Layout, viewer: ModuleId, target: ModuleId) -> bool
+/// Whether a module is met on the way from the viewer through its containing modules.
+pub fn meets(words: &[u32], area: &[u32], l: Layout, viewer: ModuleId, target: ModuleId) -> bool
     requires { ⌜ Reads (now words) (now area) l × (viewer .0 < l .modules) ⌝ }
     ensures { λ r. ⌜ r ≡ metOf (containingOf (snapOf (now (words .entry)) (now (area .entry)) l)) (viewer .0) (target .0) ⌝ }
 {

@@ -176,12 +176,12 @@ module _ (s : Snapshot) (from : ℕ) (plenty : Plenty s from) where
         (same-or-more (reached b s from k) (onward s from types (reached b s from k) ++ single b s from types)))
         (still-or-more k)
 
-    settles : (j : ℕ) × (j < suc (length (s .modules))) × (reached b s from (suc j) ≡ reached b s from j)
+    pub settles : (j : ℕ) × (j < suc (length (s .modules))) × (reached b s from (suc j) ≡ reached b s from j)
     settles =
         ⊎-elim (λ l. l) (λ r. absurd (omega (arith, r, passing-few (isMet (reached b s from (suc (length (s .modules))))) (length (s .modules)))))
         (still-or-more (suc (length (s .modules))))
 
-    still : (j : ℕ) → reached b s from (suc j) ≡ reached b s from j → (k : ℕ) → j ≤ k → reached b s from k ≡ reached b s from j
+    pub still : (j : ℕ) → reached b s from (suc j) ≡ reached b s from j → (k : ℕ) → j ≤ k → reached b s from k ≡ reached b s from j
     still j e zero h = let z : j ≡ 0 = omega arith in ap (reached b s from) (sym z)
     still j e (suc k) h =
         by-test (leb j k)

@@ -7,3 +7,5 @@ pub mod Least
 pub mod Plenty
 pub mod Private
 pub mod Opinion
+pub mod Queue
+pub mod Lookups
