@@ -19,7 +19,8 @@ use Rattle.hir_def.specs.declared.Item.{Item}
 use Rattle.hir_def.specs.declared.Item.the-variants.{Mod, Def}
 use Rattle.nameable.specs.Paths.{Keyword, reads, Path, keyword, absolute, plain, into, namesIn, isPlain, named, within, itemIn, means, Names}
 use Rattle.nameable.specs.Breadth.{Way, isMet, withMeaning, added, nameless, single, onward, reached, isItem, firstTo, arrives, arrival}
-use Rattle.nameable.proofs.Lists.{by-option, none-some, first-found, first-some, map-in, passing, passing-few, passing-more, passing-less}
+use Rattle.nameable.specs.Queue.{passing}
+use Rattle.nameable.proofs.Lists.{by-option, none-some, first-found, first-some, map-in, passing-few, passing-more, passing-less}
 use Rattle.nameable.proofs.Reached.{each-append, each-in, wayTo, met-snoc, with-old, with-new, with-meets, with-keeps, added-keeps, Near, Good, near-more, nameless-near, single-near, onward-near, reached-good, into-means, into-from, onward-means, absolute-in, plain-in, Plenty, reached-meets}
 
 pub same-item : (a b : Item) → sameItem a b ≡ true → a ≡ b

@@ -8,7 +8,8 @@ use native.Mathlib.Omega.{arith}
 use borrow.Author.Tests.{eqb-true, eqb-false}
 use lib.Dec.{eqb}
 use Rattle.accept.proofs.Accepted.{by-test}
-use Rattle.hir_def.specs.Finds.{firstOf, select, orFirst}
+use Rattle.hir_def.specs.Finds.{firstOf}
+use Rattle.nameable.specs.Queue.{passing}
 
 pub by-option : {A C : Type 0} (o : Option A) → (o ≡ none → C) → ((x : A) → o ≡ some x → C) → C
 by-option none f g = f refl
@@ -45,10 +46,7 @@ pub map-in : {A B : Type 0} (f : A → B) {x : A} {xs : List A} → List·Memᴰ
 map-in f (List·Memᴰ·head e) = List·Memᴰ·head (ap f e)
 map-in f (List·Memᴰ·tail m) = List·Memᴰ·tail (map-in f m)
 
--- how many numbers below n pass the test
-pub passing : (ℕ → Bool) → ℕ → ℕ
-passing p zero = 0
-passing p (suc n) = elim (p n) [ true ↦ suc (passing p n) | false ↦ passing p n ]
+-- How many numbers below n pass a test.
 
 module _ (p : ℕ → Bool) (n : ℕ) where
   pass-yes : p n ≡ true → passing p (suc n) ≡ suc (passing p n)

@@ -124,3 +124,49 @@ ns-of-item s ns d =
     by-test (eqb ns types && eqb (definitionOf s d .kind) moduleKind)
     (λ t. rw (t, itemOf) (sym (eqb-true ns types (and-two (eqb ns types) (eqb (definitionOf s d .kind) moduleKind) t .0))))
     (λ t. rw (t, itemOf))
+
+module _ (s : Snapshot) (ok : Valid s) (from : ℕ) (item : Item) (w : Way) (there : means s from types (w .path) ≡ some (Mod (w .target))) where
+  -- one name more after a way, by a seen entry
+  pub after-means : (ns : ℕ) (e : Scope) → List·Memᴰ e (s .scopes) → isSeenIn s from ns (w .target) e ≡ true
+      → means s from ns (into (w .path) (e .name)) ≡ some (itemOf s (e .ns) (e .definition))
+  unfolding within
+  after-means ns e i h = into-means s from ns (e .name) (w .path) (Mod (w .target)) there ∙ seen-means s from ns (w .target) ok e i h
+
+  -- an entry offered for the item, and one of the module's that is seen
+  alike : (e : Scope) → List·Memᴰ e (s .scopes)
+      → (isSeenIn s from (nsOf item) (w .target) e && isItem item (means s from (nsOf item) (into (w .path) (e .name)))) ≡ (isFor s (w .target) item e && seen s from e)
+  unfolding isFor isItem
+  alike e i =
+      by-test (isSeenIn s from (nsOf item) (w .target) e)
+      (λ t.
+      let f = and-two (eqb (e .owner) (w .target)) (eqb (e .ns) (nsOf item) && seen s from e) t in
+      let g = and-two (eqb (e .ns) (nsOf item)) (seen s from e) (f .1) in
+      rw (t, after-means (nsOf item) e i t, f .0, g .1) (sym (and-true (sameItem (itemOf s (e .ns) (e .definition)) item))))
+      (λ t. rw t (sym (none-for e t)))
+    where
+      and-true : (a : Bool) → a && true ≡ a
+      and-true true = refl
+      and-true false = refl
+
+      none-for : (e : Scope) → isSeenIn s from (nsOf item) (w .target) e ≡ false → (eqb (e .owner) (w .target) && sameItem (itemOf s (e .ns) (e .definition)) item) && seen s from e ≡ false
+      none-for e t =
+          by-test ((eqb (e .owner) (w .target) && sameItem (itemOf s (e .ns) (e .definition)) item) && seen s from e)
+          (λ u.
+          let f = and-two (eqb (e .owner) (w .target) && sameItem (itemOf s (e .ns) (e .definition)) item) (seen s from e) u in
+          let g = and-two (eqb (e .owner) (w .target)) (sameItem (itemOf s (e .ns) (e .definition)) item) (f .0) in
+          let same : itemOf s (e .ns) (e .definition) ≡ item = same-item (itemOf s (e .ns) (e .definition)) item (g .1) in
+          let ns : e .ns ≡ nsOf item = sym (ns-of-item s (e .ns) (e .definition)) ∙ ap nsOf same in
+          let yes : isSeenIn s from (nsOf item) (w .target) e ≡ true = rw (g .0, eq-eqb (e .ns) (nsOf item) ns) (f .1) in
+          absurd (true≢false (sym yes ∙ t)))
+          (λ u. u)
+
+  -- The first path to the item with one name more is by the module's first seen entry for it.
+  pub after-first : firstTo s from item (pathsAfter s from (nsOf item) w) ≡ Option·map (λ e. into (w .path) (e .name)) (namesOf s (w .target) item (seen s from))
+  unfolding firstTo entriesIn namesOf
+  after-first =
+      ap (firstOf (λ (p : Path). isItem item (means s from (nsOf item) p)))
+      (map-of-map (asNamed s) (λ (x : Named). into (w .path) (x .name)) (select (isSeenIn s from (nsOf item) (w .target)) (s .scopes)))
+      ∙ (first-mapped (λ (p : Path). isItem item (means s from (nsOf item) p)) (λ (e : Scope). into (w .path) (e .name)) (isSeenIn s from (nsOf item) (w .target)) (s .scopes)
+      ∙ ap (Option·map (λ (e : Scope). into (w .path) (e .name)))
+      (first-same (λ (e : Scope). isSeenIn s from (nsOf item) (w .target) e && isItem item (means s from (nsOf item) (into (w .path) (e .name))))
+      (λ (e : Scope). isFor s (w .target) item e && seen s from e) (s .scopes) alike))

@@ -18,8 +18,8 @@ use Rattle.hir_def.specs.declared.Item.{Item}
 use Rattle.hir_def.specs.declared.Item.the-variants.{Mod, Def}
 use Rattle.nameable.specs.Paths.{Path, means}
 use Rattle.nameable.specs.Breadth.{Way, isMet, withMeaning, added, nameless, single, onward, reached, firstTo, arrives, arrival, turns}
-use Rattle.nameable.specs.Queue.{noWay, pathsAfter, queue, begun, run}
-use Rattle.nameable.proofs.Lists.{passing, passing-few, passing-less}
+use Rattle.nameable.specs.Queue.{noWay, pathsAfter, queue, begun, run, passing}
+use Rattle.nameable.proofs.Lists.{passing-few, passing-less}
 use Rattle.nameable.proofs.Reached.{each-in, wayTo, met-snoc, with-old, with-new, added-keeps, added-meets, Plenty}
 use Rattle.nameable.proofs.Arrives.{settles, still}
 

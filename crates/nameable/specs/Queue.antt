@@ -40,3 +40,8 @@ run b s from =
 -- the seen entry of a module with a namespace and a name
 unfoldable pub seenNamed : Snapshot → ℕ → ℕ → ℕ → ℕ → Option Scope
 seenNamed s from ns m n = firstOf (λ e. isNamed m ns n e && seen s from e) (s .scopes)
+
+-- how many numbers below n pass the test
+unfoldable pub passing : (ℕ → Bool) → ℕ → ℕ
+passing p zero = 0
+passing p (suc n) = elim (p n) [ true ↦ suc (passing p n) | false ↦ passing p n ]

@@ -26,6 +26,12 @@ use Rattle.hir_def.specs.ItemScope.{isDeclared}
 use Rattle.hir_def.proofs.Found.{each-first}
 use Rattle.nameable.specs.Seen.{holds, holdsIn, isDeclaration, declaredNs, declaredAs, declaredIn, declarationIn, declarationOf, declarationHolds, bothHold, counts, seen}
 
+pub and-so : (a b : Bool) → a ≡ true → b ≡ (a && b)
+and-so a b e = rw e
+
+pub and-no : (a b : Bool) → a ≡ false → false ≡ (a && b)
+and-no a b e = rw e
+
 and-assoc : (a b c : Bool) → (a && b) && c ≡ a && (b && c)
 and-assoc true b c = refl
 and-assoc false b c = refl
