@@ -86,7 +86,7 @@ pub fn find_in_scope(words: &[u32], area: &[u32], l: Layout, x: FindPathCtx, ite
 }
 
 // Whether the scope is used: under ByCrate only the crate's root does.
-fn may_be_in_scope(x: FindPathCtx) -> bool
+pub fn may_be_in_scope(x: FindPathCtx) -> bool
     ensures { λ r. ⌜ ((s : Snapshot) → r ≡ mayBeInScope s x) ⌝ }
 {
     (x.prefix != PrefixKind::BY_CRATE) | (x.crate_root.0 == x.from.0)
