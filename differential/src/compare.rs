@@ -6,7 +6,7 @@ use std::process::{Command, Stdio};
 use crate::Question;
 use crate::check::{Snapshot, check, kind};
 use crate::encode::{bytes, head, words};
-use crate::printer::{lines, parts_of, words_of};
+use crate::printer::{READ_BACK, lines, parts_of, words_of};
 use crate::right::ask::Program;
 use crate::route;
 use crate::show::{hexadecimal, question_text, snapshot_text};
@@ -78,6 +78,7 @@ pub struct Totals {
     pub inputs: usize,
     pub accepted_inputs: usize,
     pub found: usize,
+    pub misleads: usize,
     pub none: usize,
     pub empty: usize,
     pub refused: std::collections::BTreeMap<u32, usize>,
@@ -101,6 +102,8 @@ impl Totals {
         }
         if text.starts_with("found") {
             self.found += 1;
+        } else if text.starts_with("misleads") {
+            self.misleads += 1;
         } else {
             self.none += 1;
         }
@@ -115,11 +118,12 @@ impl fmt::Display for Totals {
         let refused: usize = self.refused.values().sum();
         write!(
             f,
-            "{} inputs ({} accepted), {} lines: {} found, {} none, {} with an empty tank, most charges {}, {} refused {:?}; at most {} names, {} crates, {} modules, {} definitions, {} words; {} lines with a route, {} of a reach; {} differences",
+            "{} inputs ({} accepted), {} lines: {} found, {} misleading, {} none, {} with an empty tank, most charges {}, {} refused {:?}; at most {} names, {} crates, {} modules, {} definitions, {} words; {} lines with a route, {} of a reach; {} differences",
             self.inputs,
             self.accepted_inputs,
-            self.found + self.none + refused,
+            self.found + self.misleads + self.none + refused,
             self.found,
+            self.misleads,
             self.none,
             self.empty,
             self.most_charges,
@@ -192,13 +196,14 @@ fn compare_routes(words: &[u32], right: &[Vec<u8>], other: &Other) -> Result<(),
     if rest.is_empty() { Ok(()) } else { Err("  more lines".to_string()) }
 }
 
-/// How much can be named from the first module, by shorter paths, with little fuel and with old names last, and from the last one. A search of
-/// the Rust that takes long is not waited for.
+/// How much can be named from the first module, by shorter paths, with little fuel and with old names last, and from the last one; in every other
+/// snapshot the paths are read back. A search of the Rust that takes long is not waited for.
 fn compare_reach(words: &[u32], other: &Other, totals: &mut Totals) -> Result<(), String> {
     let start = parts_of(words).0.len();
     let Ok(s) = check(&words[..start]) else { return Ok(()) };
     let shorter = 1 + start as u32 % 15;
-    for (module, asked) in [(0, [1, 32, 10, shorter]), (s.modules.len() - 1, [0, 0, 300, 15])] {
+    let read = READ_BACK as u32 * (start as u32 % 2);
+    for (module, asked) in [(0, [1, 32 + read, 10, shorter]), (s.modules.len() - 1, [0, read, 300, 15])] {
         let input = bytes(&[&words[..start], &[head(15, module)], &asked].concat());
         let [Some(right)] = &lines(&input, Program::new, 20_000)[..] else { continue };
         totals.reaches += 1;

@@ -4,7 +4,7 @@ use crate::check::{
     Snapshot,
 };
 use crate::keywords::pool;
-use crate::printer::refusal;
+use crate::printer::{MOST_OPTIONS, READ_BACK, refusal};
 use crate::random::Random;
 use crate::right::ask::Program;
 use crate::tables::Set;
@@ -31,6 +31,7 @@ pub enum Shape {
     Chain,
     Cycle,
     Blocks,
+    Hiding,
     Ties,
     Preludes,
     Root,
@@ -176,6 +177,24 @@ fn plan(shape: Shape, r: &mut Random) -> Plan {
             public: 30,
             ..MIXED
         },
+        Shape::Hiding => Plan {
+            crates: (1, 3),
+            lang: 5,
+            modules: (1, 3),
+            blocks: (3, 6),
+            names: (2, 5),
+            long_names: 0,
+            items: (3, 9),
+            more_entries: (8, 34),
+            more_imports: (0, 6),
+            public: 45,
+            preludes: 80,
+            externs: 85,
+            occupied: 60,
+            item_entries: 45,
+            prelude_names: 3,
+            ..MIXED
+        },
         Shape::Ties => Plan {
             crates: (1, 3),
             modules: (3, 9),
@@ -256,6 +275,7 @@ fn plan(shape: Shape, r: &mut Random) -> Plan {
 
 struct Builder {
     r: Random,
+    shape: Shape,
     plan: Plan,
     s: Snapshot,
     /// entries taken: module, namespace, name
@@ -268,15 +288,16 @@ struct Builder {
 pub fn snapshot(seed: u64) -> (Shape, Snapshot) {
     let mut r = Random::new(seed);
     let shapes = [
-        (Shape::Mixed, 11),
-        (Shape::Small, 11),
+        (Shape::Mixed, 10),
+        (Shape::Small, 10),
         (Shape::Knot, 2),
         (Shape::Stairs, 3),
-        (Shape::Std, 14),
-        (Shape::Chain, 9),
-        (Shape::Cycle, 7),
-        (Shape::Blocks, 10),
-        (Shape::Ties, 14),
+        (Shape::Std, 13),
+        (Shape::Chain, 8),
+        (Shape::Cycle, 6),
+        (Shape::Blocks, 7),
+        (Shape::Hiding, 10),
+        (Shape::Ties, 13),
         (Shape::Preludes, 9),
         (Shape::Root, 9),
         (Shape::Limits, 1),
@@ -291,7 +312,7 @@ pub fn snapshot(seed: u64) -> (Shape, Snapshot) {
         draw -= weight;
     }
     let plan = plan(shape, &mut r);
-    let mut b = Builder { r, plan, s: Snapshot::default(), entries: Set::default(), own_names: Vec::new() };
+    let mut b = Builder { r, shape, plan, s: Snapshot::default(), entries: Set::default(), own_names: Vec::new() };
     b.names();
     b.crates();
     b.modules();
@@ -300,6 +321,7 @@ pub fn snapshot(seed: u64) -> (Shape, Snapshot) {
     match shape {
         Shape::Knot => b.knot(),
         Shape::Stairs => b.stairs(),
+        Shape::Hiding => b.hide(),
         _ => (),
     }
     b.scopes();
@@ -455,9 +477,10 @@ impl Builder {
             self.add_map(krate, 0, modules.min(room));
         }
         for _ in 0..self.range(self.plan.blocks) {
-            // in the latest block, in the viewer's crate, or anywhere
+            // in the latest block, below a `mod` of it or not, in the viewer's crate, or anywhere
             let all = self.s.modules.len();
             let parent = match self.r.below(10) {
+                0..=2 if self.shape == Shape::Hiding => self.latest_root(),
                 0..=4 => all - 1,
                 5..=8 => self.module_of(0),
                 _ => self.r.below(all),
@@ -478,6 +501,12 @@ impl Builder {
         let mut preludes = std::mem::take(&mut self.s.preludes);
         self.r.shuffle(&mut preludes);
         self.s.preludes = preludes;
+    }
+
+    /// The root of the latest map.
+    fn latest_root(&self) -> usize {
+        let map = self.s.maps.len() - 1;
+        self.s.modules.iter().position(|module| module.map == map).unwrap()
     }
 
     fn children(&mut self) {
@@ -706,6 +735,26 @@ impl Builder {
         }
     }
 
+    /// A module's name outside a block, and inside it the same name for the root of a block of that module: what the root has not, the module may have.
+    fn hide(&mut self) {
+        let blocks: Vec<usize> = (0..self.s.modules.len()).filter(|&m| self.block_parent(m).is_some()).collect();
+        let (Some(&first), Some(&last)) = (blocks.first(), blocks.last()) else { return };
+        let (viewer, root) = if self.r.percent(50) { (first, last) } else { (last, first) };
+        let (outside, hidden) = (self.block_parent(viewer), self.block_parent(root));
+        let definition = |m: Option<usize>| self.s.definitions.iter().position(|d| d.kind == 1 && Some(d.first) == m);
+        if let (Some(outside), Some(hidden), Some(root)) = (outside, definition(hidden), definition(Some(root))) {
+            let name = self.name();
+            self.entry(outside, 0, name, hidden, true);
+            self.entry(viewer, 0, name, root, true);
+        }
+    }
+
+    /// The parent of the block whose root the module is.
+    fn block_parent(&self, module: usize) -> Option<usize> {
+        let Module { map, parent } = self.s.modules[module];
+        if parent == 0 { self.s.maps[map].block.checked_sub(1) } else { None }
+    }
+
     /// Modules of other crates in the first root, and the names of externs.
     fn more_scopes(&mut self) {
         for d in 0..self.s.definitions.len() {
@@ -809,7 +858,8 @@ impl Builder {
         self.s.externs = externs;
     }
 
-    /// Most variants, and others of kind 4, as members, without a draw: the other records are those of the seed without members.
+    /// Most variants, and others of kind 4, as members, without a draw: the other records are those of the seed without members. Some variants that
+    /// hide names have a function of their name before them.
     fn members(&mut self) {
         let definitions = self.s.definitions.len();
         let names = self.s.names.len();
@@ -817,6 +867,11 @@ impl Builder {
         let mut room = ROOM.saturating_sub(crate::encode::words(&self.s).len()) / 5;
         for d in 0..definitions {
             let Definition { kind, first, second } = self.s.definitions[d];
+            if kind == 2 && self.shape == Shape::Hiding && d % 3 == 1 && room > 1 {
+                let function = self.s.definitions.iter().position(|d| d.kind == 4).unwrap();
+                self.s.members.push(Member { parent: first, name: second, definition: function, kind: 1, bits: 0 });
+                room -= 1;
+            }
             let member = match kind {
                 2 if d % 5 != 0 => Member { parent: first, name: second, definition: d, kind: 0, bits: bits_of(d) },
                 4 if d % 2 == 0 && !enums.contains(&((7 * d + 3) % (d + 1))) => {
@@ -895,7 +950,7 @@ fn spoil(r: &mut Random, s: &Snapshot, q: &mut Question) {
             0 => q.fuel = r.pick(&[10_001, 10_001, 20_000, 0x0FFF_FFFF]),
             1 => q.ns = r.pick(&[3, 4, 0x0FFF_FFFF]),
             2 => q.prefix = r.pick(&[3, 4, 0x0FFF_FFFF]),
-            3 => q.options = r.pick(&[64, 65, 128, 0x0FFF_FFFF]),
+            3 => q.options = r.pick(&[128, 129, 256, 0x0FFF_FFFF]),
             4 => q.definition = s.definitions.len() + r.below(2),
             5 => q.from = s.modules.len() + r.below(2),
             6 => q.ns = 2,
@@ -942,7 +997,7 @@ impl Targets {
             _ => r.below(all),
         };
         let plain = if shape == Shape::Std { 55 } else { 35 };
-        let options = if r.percent(plain) { 0 } else { r.below(64) };
+        let options = if r.percent(plain) { r.pick(&[0, READ_BACK]) } else { r.below(MOST_OPTIONS + 1) };
         let prefix = if matches!(shape, Shape::Root | Shape::Stairs) && r.percent(50) { 2 } else { r.below(3) };
         let limit = if r.percent(70) { 15 } else { r.from_to(1, 15) };
         Question { definition, ns, from, prefix, options, fuel: 10_000, limit }

@@ -17,6 +17,7 @@ pub mod printer;
 pub mod question;
 pub mod random;
 pub mod reach;
+pub mod reading;
 pub mod route;
 pub mod rules;
 pub mod show;

@@ -1,5 +1,6 @@
 //! The printer of document 01: input bytes to lines, over any program that answers.
 use crate::check::{Snapshot, check, kind, payload};
+use crate::reading::misleads;
 use crate::{Answer, Answers, Question, reach};
 
 /// The words of an input, or the refusal of its length (40, 41).
@@ -38,12 +39,18 @@ pub fn question_of(words: &[u32]) -> Option<Question> {
     whole.then(|| Question { definition: payload(words[0]), ns, from, prefix, options, fuel, limit })
 }
 
+/// All bits of the options.
+pub const MOST_OPTIONS: usize = 127;
+
+/// Options bit 64 has a found path read back.
+pub const READ_BACK: usize = 64;
+
 /// The refusal of a question before any search, for a snapshot that was accepted or refused.
 pub fn refusal(snapshot: &Result<Snapshot, u32>, q: &Question) -> Option<u32> {
     if q.fuel > 10_000 {
         return Some(21);
     }
-    if q.ns > 2 || q.prefix > 2 || q.options > 63 {
+    if q.ns > 2 || q.prefix > 2 || q.options > MOST_OPTIONS {
         return Some(22);
     }
     if !(1..=15).contains(&q.limit) {
@@ -70,13 +77,18 @@ fn written(s: &Snapshot, from: usize, name: usize) -> Vec<u8> {
     if crate::keywords::is_raw(text, edition) { [b"r#", &text[..]].concat() } else { text.clone() }
 }
 
+/// Whether the question has its path read back, and it names another thing or nothing.
+pub fn is_misleading(s: &Snapshot, q: &Question, answer: &Answer) -> bool {
+    q.options & READ_BACK != 0 && answer.path.as_ref().is_some_and(|path| misleads(s, q, path, None))
+}
+
 /// The line of an answer, with the names as they are written.
-pub fn line(written: impl Fn(usize) -> Vec<u8>, answer: &Answer) -> Vec<u8> {
+pub fn line(written: impl Fn(usize) -> Vec<u8>, answer: &Answer, misleads: bool) -> Vec<u8> {
     let mut line: Vec<u8> = Vec::new();
     match &answer.path {
         None => line.extend(b"none -"),
         Some(path) => {
-            line.extend(b"found ");
+            line.extend(if misleads { &b"misleads "[..] } else { b"found " });
             let prefix = [None, Some("self"), Some("super"), Some("crate"), Some("")][path.kind];
             let names = path.names.iter().map(|&name| written(name));
             let parts: Vec<Vec<u8>> = prefix.iter().map(|text| text.as_bytes().to_vec()).chain(names).collect();
@@ -111,7 +123,8 @@ pub fn lines<A: Answers>(input: &[u8], fill: impl Fn(&Snapshot) -> A, steps: u64
         } else if let Some(question) = question_of(rest) {
             lines.push(answered(refusal(&snapshot, &question), &|s, program| {
                 let answer = crate::budget::within(steps, || program.put(&question))?;
-                Some(line(|name| written(s, question.from, name), &answer))
+                let misleads = is_misleading(s, &question, &answer);
+                Some(line(|name| written(s, question.from, name), &answer, misleads))
             }));
             rest = &rest[7..];
         } else {

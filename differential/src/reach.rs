@@ -2,6 +2,7 @@
 use std::collections::BTreeSet;
 
 use crate::check::{Snapshot, kind, payload};
+use crate::printer::{MOST_OPTIONS, is_misleading};
 use crate::{Answers, Question};
 
 /// Who asks at the front of the words, in a whole question of kind 15; its item plays no part.
@@ -17,7 +18,7 @@ pub fn refusal(snapshot: &Result<Snapshot, u32>, v: &Question) -> Option<u32> {
     if v.fuel > 10_000 {
         return Some(21);
     }
-    if v.prefix > 2 || v.options > 63 {
+    if v.prefix > 2 || v.options > MOST_OPTIONS {
         return Some(22);
     }
     if !(1..=15).contains(&v.limit) {
@@ -42,6 +43,7 @@ pub fn line(s: &Snapshot, program: &impl Answers, v: &Question, steps: u64) -> O
         let question = Question { definition: entry.definition, ns: entry.ns, ..*v };
         let answer = crate::budget::within(steps, || program.put(&question))?;
         match &answer.path {
+            Some(_) if is_misleading(s, &question, &answer) => counts[17] += 1,
             Some(path) => {
                 counts[path.names.len()] += 1;
                 counts[20] += path.names.len();

@@ -1,5 +1,5 @@
-//! Lines of questions of kind 14, for which the Rust has no counterpart: each is the line of kind 12, and for a found path entries that name
-//! records of the input which carry the names of the path.
+//! Lines of questions of kind 14, for which the Rust has no counterpart: each is the line of kind 12, and for a found or
+//! misleading path entries that name records of the input which carry the names of the path.
 use crate::check::{kind, payload};
 
 /// The input with its whole questions as kind 14.
@@ -85,7 +85,8 @@ fn before<'t>(mut text: &'t [u8], names: &[Vec<u8>]) -> Option<&'t [u8]> {
 /// Whether the line of kind 14 is the one of kind 12 with the right entries.
 pub fn agrees(words: &[u32], plain: &[u8], routed: &[u8]) -> bool {
     let Some(rest) = routed.strip_prefix(plain) else { return false };
-    let Some(found) = plain.strip_prefix(b"found ") else { return rest.is_empty() };
+    let found = plain.strip_prefix(b"found ").or(plain.strip_prefix(b"misleads "));
+    let Some(found) = found else { return rest.is_empty() };
     // the charges and the flag end the line
     let end = |text: &[u8]| text.iter().rposition(|&byte| byte == b' ').unwrap_or(0);
     let text = &found[..end(&found[..end(found)])];

@@ -1,9 +1,11 @@
 //! The definitions of the check, the lookups and the search (`crates/*/specs`), written out in Rust function by function
 //! and under their names. It follows the definitions and not the text of rust-analyzer, so a difference between the two is a
-//! fault of one of them. Lists are scanned as the definitions say: it is slow.
+//! fault of one of them. Lists are scanned as the definitions say: it is slow. The reading of paths is `reading`, which follows the request and no
+//! definition.
 #![allow(non_snake_case)]
-use crate::printer::{parts_of, question_of, refused_line, words_of};
-use crate::{Path, Question};
+use crate::check::check;
+use crate::printer::{is_misleading, parts_of, question_of, refused_line, words_of};
+use crate::{Answer as Report, Path, Question};
 
 // Records.antt, Tests.antt, Steps.antt, Verdict.antt
 
@@ -935,12 +937,15 @@ fn findPath(s: &Snapshot, q: &Question, t: &mut Tank) -> Choice {
 
 // Report.antt, Line.antt
 
-fn lineOf(snapshot: &Result<Snapshot, usize>, q: &Question) -> Vec<u8> {
+/// The snapshot as the reading takes it.
+type Readable = Result<crate::check::Snapshot, u32>;
+
+fn lineOf(snapshot: &Result<Snapshot, usize>, readable: &Readable, q: &Question) -> Vec<u8> {
     let refused = |n: usize| refused_line(n as u32);
     if q.fuel > 10000 {
         return refused(21);
     }
-    if 2 < q.ns || 2 < q.prefix || 63 < q.options {
+    if 2 < q.ns || 2 < q.prefix || 127 < q.options {
         return refused(22);
     }
     if q.limit == 0 || 15 < q.limit {
@@ -956,12 +961,18 @@ fn lineOf(snapshot: &Result<Snapshot, usize>, q: &Question) -> Vec<u8> {
     if q.ns == 2 && definitionKind(s, q.definition) != 5 {
         return refused(24);
     }
+    let answer = reportOf(s, q);
+    let misleads = is_misleading(readable.as_ref().unwrap(), q, &answer);
+    let e = s.crates.get(crateOf(s, q.from)).map_or(0, |x| x.edition);
+    let written = |n: usize| writtenOf(e, &s.names[n]);
+    crate::printer::line(written, &answer, misleads)
+}
+
+fn reportOf(s: &Snapshot, q: &Question) -> Report {
     let mut t = Tank { fuel: q.fuel, spent: 0, empty: false };
     let c = findPath(s, q, &mut t);
     let path = c.found.then(|| Path { kind: c.kind, names: c.names });
-    let e = s.crates.get(crateOf(s, q.from)).map_or(0, |x| x.edition);
-    let written = |n: usize| writtenOf(e, &s.names[n]);
-    crate::printer::line(written, &crate::Answer { path, charges: t.spent, empty: t.empty })
+    Report { path, charges: t.spent, empty: t.empty }
 }
 
 // Keywords.antt
@@ -997,12 +1008,12 @@ fn textOf(name: &Name) -> Vec<u8> {
 
 // Reach.antt, Printed.antt
 
-fn reachLine(snapshot: &Result<Snapshot, usize>, v: &Question) -> Vec<u8> {
+fn reachLine(snapshot: &Result<Snapshot, usize>, readable: &Readable, v: &Question) -> Vec<u8> {
     let refused = |n: usize| refused_line(n as u32);
     if v.fuel > 10000 {
         return refused(21);
     }
-    if 2 < v.prefix || 63 < v.options {
+    if 2 < v.prefix || 127 < v.options {
         return refused(22);
     }
     if v.limit == 0 || 15 < v.limit {
@@ -1021,10 +1032,16 @@ fn reachLine(snapshot: &Result<Snapshot, usize>, v: &Question) -> Vec<u8> {
         if s.scopes[..k].iter().any(|d| itemOf(s, d.ns, d.definition) == item) {
             continue;
         }
-        let mut t = Tank { fuel: v.fuel, spent: 0, empty: false };
-        let c = findPath(s, &Question { ns: e.ns, definition: e.definition, ..*v }, &mut t);
-        counts[if c.found { c.names.len() } else { 18 + usize::from(t.empty) }] += 1;
-        counts[20] += if c.found { c.names.len() } else { 0 };
+        let q = Question { ns: e.ns, definition: e.definition, ..*v };
+        let answer = reportOf(s, &q);
+        match &answer.path {
+            None => counts[18 + usize::from(answer.empty)] += 1,
+            Some(_) if is_misleading(readable.as_ref().unwrap(), &q, &answer) => counts[17] += 1,
+            Some(path) => {
+                counts[path.names.len()] += 1;
+                counts[20] += path.names.len();
+            }
+        }
     }
     counts.map(|count: usize| count.to_string()).join(" ").into_bytes()
 }
@@ -1104,14 +1121,15 @@ pub fn lines(input: &[u8]) -> Vec<Vec<u8>> {
     let start = parts_of(&words).0.len();
     let snapshot: Vec<usize> = words[..start].iter().map(|&word| word as usize).collect();
     let snapshot = verdict(&snapshot);
+    let readable = check(&words[..start]);
     let mut lines: Vec<Vec<u8>> = Vec::new();
     let mut rest = &words[start..];
     while !rest.is_empty() {
         if let Some(v) = crate::reach::viewer(rest) {
-            lines.push(reachLine(&snapshot, &v));
+            lines.push(reachLine(&snapshot, &readable, &v));
             rest = &rest[5..];
         } else if let Some(q) = question_of(rest) {
-            lines.push(lineOf(&snapshot, &q));
+            lines.push(lineOf(&snapshot, &readable, &q));
             rest = &rest[7..];
         } else {
             lines.push(refused_line(42));

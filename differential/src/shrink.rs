@@ -37,7 +37,7 @@ pub fn shrink(
 
 /// Fields set to plain values, names to single letters.
 fn plainer(s: &mut Snapshot, q: &mut Question, holds: &mut impl FnMut(&Snapshot, &Question) -> bool) {
-    for bit in [1, 2, 4, 8, 16, 32] {
+    for bit in [1, 2, 4, 8, 16, 32, 64] {
         let question = Question { options: q.options & !bit, ..*q };
         if question != *q && holds(s, &question) {
             *q = question;

@@ -56,6 +56,8 @@ fn sort(s: &Snapshot, q: &Question, other: &Other) -> Option<Sort> {
         return None;
     } else if a[2].starts_with("none") != b[2].starts_with("none") {
         if a[2].starts_with("none") { "a path for none" } else { "none for a path" }
+    } else if a[2].starts_with("misleads") != b[2].starts_with("misleads") {
+        "misleads or not"
     } else if a[2] != b[2] {
         "another path"
     } else if a[0] != b[0] {

@@ -20,6 +20,9 @@ mod question;
 #[path = "../../src/reach.rs"]
 mod reach;
 #[allow(dead_code)]
+#[path = "../../src/reading.rs"]
+mod reading;
+#[allow(dead_code)]
 #[path = "../../src/tables.rs"]
 mod tables;
 #[allow(dead_code)]
