@@ -1,5 +1,6 @@
 //! The text of rust-analyzer's `find_path` over stand-ins, and what compares a path printer with it.
 
+pub mod any_path;
 pub mod budget;
 pub mod check;
 pub mod compare;
@@ -10,6 +11,7 @@ pub mod import_cases;
 pub mod import_lists;
 pub mod import_rule;
 pub mod import_snapshots;
+pub mod judge;
 pub mod keywords;
 #[cfg(feature = "library")]
 pub mod library;
@@ -22,9 +24,12 @@ pub mod route;
 pub mod rules;
 pub mod show;
 pub mod shrink;
+pub mod snapshots;
 pub mod stored;
 pub mod tables;
 pub mod usage;
+pub mod workspace;
+pub mod workspaces;
 pub mod wrongs;
 
 /// The text as it is, with the changes that `build.rs` names.

@@ -3,23 +3,24 @@ use differential::check::{DefMap, Definition, Extern, Krate, Member, Module, Pre
 use differential::compare::Other;
 use differential::encode::{bytes, head, question_words, words};
 use differential::generate::case;
-use differential::printer::refusal;
+use differential::printer::{READ_BACK, parts_of, refusal, words_of};
 use differential::reading::{Item, MISTAKES, Mistake, misleads, reads_to};
 use differential::right::ask::Program;
+use differential::stored::from_bytes;
 use differential::{Answers, Path, Question};
 
 /// A question cannot tell these: the search gives `super` only where neither module is in a block.
 const BY_HAND_ALONE: [Mistake; 2] = [Mistake::SuperKeepsTheBlock, Mistake::SuperEndsInABlock];
 
-#[test]
-fn generated_snapshots_tell_every_mistake() {
+/// How many questions with an answer by the Rust tell each mistake.
+fn told(inputs: impl Iterator<Item = Vec<u32>>, asked: impl Fn(&Question) -> bool) -> Vec<usize> {
     let mut told = vec![0; MISTAKES.len()];
-    for seed in 0..1500 {
-        let (_, case) = case(seed, 60, 20_000);
-        let s = check(&case.words).unwrap();
+    for words in inputs {
+        let (snapshot, questions, _) = parts_of(&words);
+        let Ok(s) = check(snapshot) else { continue };
         let program = Program::new(&s);
-        let snapshot = Ok(s.clone());
-        for q in case.questions.iter().filter(|q| refusal(&snapshot, q).is_none()) {
+        let checked = Ok(s.clone());
+        for q in questions.iter().filter(|q| asked(q) && refusal(&checked, q).is_none()) {
             let Some(path) = program.put(q).path else { continue };
             let right = misleads(&s, q, &path, None);
             for (mistake, told) in MISTAKES.iter().zip(&mut told) {
@@ -27,10 +28,27 @@ fn generated_snapshots_tell_every_mistake() {
             }
         }
     }
-    for (mistake, told) in MISTAKES.iter().zip(&told) {
+    told
+}
+
+fn every_mistake_is_told(told: &[usize]) {
+    for (mistake, told) in MISTAKES.iter().zip(told) {
         println!("{mistake:?} {told}");
         assert_eq!(*told == 0, BY_HAND_ALONE.contains(mistake), "{mistake:?} is told by {told} questions");
     }
+}
+
+#[test]
+fn generated_snapshots_tell_every_mistake() {
+    let inputs = (0..1500).map(|seed| words_of(&case(seed, 60, 20_000).1.input()).unwrap());
+    every_mistake_is_told(&told(inputs, |_| true));
+}
+
+#[test]
+fn the_stored_list_tells_every_mistake() {
+    let list = std::fs::read(concat!(env!("CARGO_MANIFEST_DIR"), "/../crates/replay/stdin")).unwrap();
+    let inputs = from_bytes(&list).into_iter().filter_map(|entry| words_of(&entry.input).ok());
+    every_mistake_is_told(&told(inputs, |q| q.options & READ_BACK != 0));
 }
 
 const NAMES: [&str; 6] = ["x", "y", "m", "dep", "E", "V"];

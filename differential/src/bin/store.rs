@@ -1,19 +1,21 @@
-//! store WRONG FROM TO FOLDER [CASES]: searches a range of seeds for inputs that tell the wrong programs and that are refused in
-//! every way, and writes them with the lines of the text of rust-analyzer to FOLDER/list, and the counts to FOLDER/told.
+//! store WRONG FROM TO FOLDER [CASES]: searches a range of seeds for inputs that tell the wrong programs, that tell the wrong readings of a path, and
+//! that are refused in every way, and writes them with the lines of the text of rust-analyzer to FOLDER/list, and the counts to FOLDER/told.
 use std::collections::BTreeMap;
 use std::path::Path;
 
-use differential::Question;
-use differential::check::{kind, refused_at};
+use differential::check::{check, kind, refused_at};
 use differential::compare::Other;
 use differential::damage;
 use differential::encode::{bytes, question_words};
 use differential::generate::{Case, case};
-use differential::printer::{parts_of, words_of};
+use differential::printer::{READ_BACK, parts_of, refusal, words_of};
 use differential::random::Random;
+use differential::reading::{MISTAKES, misleads};
+use differential::right::ask::Program;
 use differential::stored::{Entry, from_bytes, to_bytes};
 use differential::usage::{fail, seeds};
 use differential::wrongs::{Wrongs, table};
+use differential::{Answers, Question};
 
 const USAGE: &str = "store WRONG FROM TO FOLDER [CASES]
   WRONG    the program of the package `wrong`
@@ -39,6 +41,7 @@ fn main() {
     let std::ops::Range { start: from, end: to } = seeds(from, to, USAGE);
     let mut wrongs = Wrongs::start(wrong);
     let mut inputs = telling(&mut wrongs, from, to);
+    inputs.extend(misread(from, to));
     inputs.extend(refused(from, to));
     let entries: Vec<Entry> =
         inputs.into_iter().map(|input| Entry { output: Other::Original.output(&input), input }).collect();
@@ -103,6 +106,30 @@ fn telling(wrongs: &mut Wrongs, from: u64, to: u64) -> Vec<Vec<u8>> {
             chosen.sort();
             chosen.dedup();
             let questions = chosen.iter().map(|&place| case.questions[place]).collect();
+            inputs.push(Case { words: case.words, questions }.input());
+        }
+    }
+    inputs
+}
+
+/// Inputs with a question that a wrong reading of its path answers otherwise, some for each mistake.
+fn misread(from: u64, to: u64) -> Vec<Vec<u8>> {
+    let mut counts = vec![0; MISTAKES.len()];
+    let mut inputs = Vec::new();
+    for seed in from..to {
+        let (_, case) = case(seed, 60, 20_000);
+        let Some(s) = check(&case.words).ok().filter(|_| case.words.len() <= LARGEST) else { continue };
+        let (program, snapshot) = (Program::new(&s), Ok(s.clone()));
+        let mut questions = Vec::new();
+        for q in case.questions.iter().filter(|q| q.options & READ_BACK != 0 && refusal(&snapshot, q).is_none()) {
+            let Some(path) = program.put(q).path else { continue };
+            let right = misleads(&s, q, &path, None);
+            let tells = |place: &usize| misleads(&s, q, &path, Some(MISTAKES[*place])) != right;
+            let told: Vec<usize> = (0..MISTAKES.len()).filter(|&place| counts[place] < WANTED).filter(tells).collect();
+            told.iter().for_each(|&place| counts[place] += 1);
+            questions.extend((!told.is_empty()).then_some(*q));
+        }
+        if !questions.is_empty() {
             inputs.push(Case { words: case.words, questions }.input());
         }
     }
