@@ -1,7 +1,7 @@
 //! Is there any path at all that names an item in a module? By the Reference's privacy, and with nothing of the search: a reading of its own, and the
-//! shortest path that reads to the item, found breadth first.
+//! shortest path that reads to the item, found breadth first. With a mistake it is a wrong program.
 use crate::check::{Module, Scope, Snapshot};
-use crate::reading::{Item, item};
+use crate::reading::{Item, item, visible};
 use crate::tables::Map;
 
 /// Names of the longest path that is given.
@@ -31,15 +31,63 @@ pub enum Answer {
     None,
 }
 
+#[derive(Clone, Copy, PartialEq, Eq, Debug)]
+pub enum Mistake {
+    VisibleByTheWalk,
+    NoDeclaration,
+    CountsEverywhere,
+    UnseenEntryEnds,
+    NoBlockLeft,
+    BlockLeftFromItsModules,
+    SelfKeepsTheBlock,
+    OneSuper,
+    ColonsIn2015,
+    NoExterns,
+    ExternsFirst,
+    NoPrelude,
+    HiddenPassedOver,
+    FirstEntryAlone,
+    VariantsInTypesAlone,
+}
+
+use Mistake::*;
+
+pub const MISTAKES: [Mistake; 15] = [
+    VisibleByTheWalk,
+    NoDeclaration,
+    CountsEverywhere,
+    UnseenEntryEnds,
+    NoBlockLeft,
+    BlockLeftFromItsModules,
+    SelfKeepsTheBlock,
+    OneSuper,
+    ColonsIn2015,
+    NoExterns,
+    ExternsFirst,
+    NoPrelude,
+    HiddenPassedOver,
+    FirstEntryAlone,
+    VariantsInTypesAlone,
+];
+
 /// What one module sees.
 pub struct Viewer<'s> {
     s: &'s Snapshot,
     from: usize,
+    mistake: Option<Mistake>,
 }
 
 impl<'s> Viewer<'s> {
     pub fn new(s: &'s Snapshot, from: usize) -> Viewer<'s> {
-        Viewer { s, from }
+        Viewer { s, from, mistake: None }
+    }
+
+    pub fn mistaken(s: &'s Snapshot, from: usize, mistake: Mistake) -> Viewer<'s> {
+        Viewer { s, from, mistake: Some(mistake) }
+    }
+
+    fn has(&self, mistake: Mistake) -> bool {
+        self.mistake == Some(mistake)
     }
 
     fn krate(&self, module: usize) -> usize {
@@ -63,6 +111,9 @@ impl<'s> Viewer<'s> {
 
     /// What has this visibility may be named in the module.
     fn allowed(&self, e: &Scope, module: usize) -> bool {
+        if self.has(VisibleByTheWalk) {
+            return visible(self.s, module, e);
+        }
         let target = match e.visibility {
             0 => return true,
             1 => return self.krate(module) == e.number,
@@ -101,8 +152,16 @@ impl<'s> Viewer<'s> {
 
     /// The entry is there for the compiler in its own module, and may be named in the viewing one.
     fn seen(&self, e: &Scope) -> bool {
-        let declared = self.declaration(item(self.s, e.ns, e.definition));
-        [e.owner, self.from]
+        let own = item(self.s, e.ns, e.definition);
+        let declared = if self.has(NoDeclaration) { None } else { self.declaration(own) };
+        let modules = if self.has(CountsEverywhere) { [self.from; 2] } else { [e.owner, self.from] };
+        let first = || self.s.scopes.iter().find(|f| f.owner == e.owner && item(self.s, f.ns, f.definition) == own);
+        if self.has(HiddenPassedOver) && e.bits % 2 == 1
+            || self.has(FirstEntryAlone) && first().is_some_and(|first| first.name != e.name)
+        {
+            return false;
+        }
+        modules
             .into_iter()
             .all(|module| self.allowed(e, module) && declared.is_none_or(|declared| self.allowed(declared, module)))
     }
@@ -114,22 +173,36 @@ impl<'s> Viewer<'s> {
     }
 
     fn external(&self, name: usize) -> Option<Item> {
+        if self.has(NoExterns) {
+            return None;
+        }
         let krate = self.krate(self.from);
         let e = self.s.externs.iter().find(|e| e.owner == krate && e.name == name)?;
         Some(Item::Module(e.target))
     }
 
     fn first(&self, ns: usize, name: usize) -> Option<Item> {
+        let external = if ns == 0 { self.external(name) } else { None };
+        if external.is_some() && self.has(ExternsFirst) {
+            return external;
+        }
         let mut at = Some(self.from);
         while let Some(module) = at {
             if let Some(found) = self.entry(module, ns, name) {
                 return Some(found);
             }
+            if self.has(UnseenEntryEnds) && self.s.scopes.iter().any(|e| (e.owner, e.ns, e.name) == (module, ns, name))
+            {
+                return None;
+            }
             let Module { map, parent } = self.s.modules[module];
-            at = if parent == 0 { self.s.maps[map].block.checked_sub(1) } else { None };
+            let left = (parent == 0 || self.has(BlockLeftFromItsModules)) && !self.has(NoBlockLeft);
+            at = if left { self.s.maps[map].block.checked_sub(1) } else { None };
         }
-        let external = if ns == 0 { self.external(name) } else { None };
         external.or_else(|| {
+            if self.has(NoPrelude) {
+                return None;
+            }
             let map = self.s.modules[self.from].map;
             let prelude = self.s.preludes.iter().find(|prelude| prelude.map == map)?;
             self.entry(prelude.target, ns, name)
@@ -139,7 +212,7 @@ impl<'s> Viewer<'s> {
     fn later(&self, at: Item, ns: usize, name: usize) -> Option<Item> {
         match at {
             Item::Module(module) => self.entry(module, ns, name),
-            Item::Other(_, _) if ns == 2 => None,
+            Item::Other(_, _) if ns == 2 || ns == 1 && self.has(VariantsInTypesAlone) => None,
             Item::Other(_, parent) => {
                 let named = |m: &&crate::check::Member| m.kind == 0 && (m.parent, m.name) == (parent, name);
                 let member = self.s.members.iter().find(named)?;
@@ -151,7 +224,9 @@ impl<'s> Viewer<'s> {
     /// The module of a keyword.
     fn keyword(&self, start: Start) -> Option<usize> {
         match start {
+            Start::SelfModule if self.has(SelfKeepsTheBlock) => Some(self.from),
             Start::SelfModule => Some(self.nearest(self.from)),
+            Start::Super(times) if times > 1 && self.has(OneSuper) => None,
             Start::Super(times) => (0..times).try_fold(self.nearest(self.from), |module, _| self.above(module)),
             Start::Crate => {
                 let krate = self.krate(self.from);
@@ -174,7 +249,7 @@ impl<'s> Viewer<'s> {
 
     /// A leading `::` begins at an extern, and in 2015 at the crate's root.
     fn absolute(&self) -> bool {
-        self.s.crates[self.krate(self.from)].edition != 2015
+        self.s.crates[self.krate(self.from)].edition != 2015 || self.has(ColonsIn2015)
     }
 
     /// What a path names, its last name in that namespace.

@@ -4,12 +4,12 @@ use std::fmt;
 use std::path::{Path, PathBuf};
 use std::process::Command;
 
-use crate::any_path::{Answer, AnyPath, Start, Viewer, text};
+use crate::any_path::{self, Answer, AnyPath, Start, Viewer, text};
 use crate::check::Snapshot;
 use crate::compare::Other;
 use crate::encode::{bytes, question_words, words};
 use crate::printer::READ_BACK;
-use crate::reading::{Item, item};
+use crate::reading::{self, Item, item, misleads};
 use crate::snapshots::{PROBES, Probe, Written};
 use crate::tables::Map;
 use crate::workspace::{Kind, Meaning, Workspace};
@@ -108,9 +108,16 @@ enum Asked {
     Search {
         misleads: bool,
         read: bool,
+        question: Question,
+        path: crate::Path,
     },
     AnyPath,
     Candidate,
+    /// any path with a mistake gives another path, or none
+    Mistaken {
+        mistake: usize,
+        none: bool,
+    },
 }
 
 struct Put {
@@ -154,6 +161,26 @@ pub struct Totals {
     /// from 2018 on, and in 2015
     pub counts: [Counts; 2],
     pub contradictions: Vec<String>,
+    /// by how many paths the compiler tells each mistake of the reading and of any path
+    pub misread: Vec<usize>,
+    pub mistaken: Vec<usize>,
+}
+
+impl Totals {
+    pub fn new() -> Totals {
+        Totals {
+            misread: vec![0; reading::MISTAKES.len()],
+            mistaken: vec![0; any_path::MISTAKES.len()],
+            ..Totals::default()
+        }
+    }
+
+    /// A line for each mistake with the paths that tell it.
+    pub fn told(&self) -> Vec<(String, usize)> {
+        let misread = reading::MISTAKES.iter().map(|mistake| format!("reading: {mistake:?}"));
+        let mistaken = any_path::MISTAKES.iter().map(|mistake| format!("any path: {mistake:?}"));
+        misread.zip(self.misread.iter().copied()).chain(mistaken.zip(self.mistaken.iter().copied())).collect()
+    }
 }
 
 impl fmt::Display for Totals {
@@ -254,19 +281,19 @@ impl Asking<'_> {
         for prefix in 0..3 {
             for from in (0..self.pairs.len()).step_by(1000) {
                 let range = from..self.pairs.len().min(from + 1000);
-                let mut input = snapshot.clone();
-                for &Pair { scope, definition, ns } in &self.pairs[range.clone()] {
+                let question = |&Pair { scope, definition, ns }: &Pair| {
                     let from = self.written.modules[scope];
-                    let options = READ_BACK;
-                    let question = Question { definition, ns, from, prefix, options, fuel: 10_000, limit: 15 };
-                    input.extend(question_words(&question));
-                }
+                    Question { definition, ns, from, prefix, options: READ_BACK, fuel: 10_000, limit: 15 }
+                };
+                let questions: Vec<Question> = self.pairs[range.clone()].iter().map(question).collect();
+                let mut input = snapshot.clone();
+                input.extend(questions.iter().flat_map(question_words));
                 let output = String::from_utf8(printer.output(&bytes(&input))).unwrap();
                 let lines: Vec<&str> = output.lines().collect();
                 if lines.len() != range.len() {
                     usage::fail(&format!("{} lines for {} questions", lines.len(), range.len()), "");
                 }
-                for (pair, line) in range.zip(lines) {
+                for ((pair, line), question) in range.zip(lines).zip(questions) {
                     let mut words = line.split(' ');
                     let (outcome, path) = (words.next().unwrap(), words.next().unwrap_or("").to_string());
                     let misleads = match outcome {
@@ -276,30 +303,31 @@ impl Asking<'_> {
                         _ => usage::fail(&format!("the printer says `{line}`"), ""),
                     };
                     self.search_none[pair] = false;
-                    let read = self.reads_back(pair, &path);
-                    self.ask(pair, path, Asked::Search { misleads, read });
+                    let (start, numbers) = self.parsed(&path);
+                    let any = AnyPath { start, names: numbers.names.clone() };
+                    let read = self.viewer(self.pairs[pair].scope).reads_to(question.ns, &any)
+                        == Some(item(&self.written.s, question.ns, question.definition));
+                    self.ask(pair, path, Asked::Search { misleads, read, question, path: numbers });
                 }
             }
         }
     }
 
-    /// Whether a printed path reads back by the reading of any path.
-    fn reads_back(&self, pair: usize, path: &str) -> bool {
-        let Pair { scope, definition, ns } = self.pairs[pair];
+    /// A printed path in numbers, and its start as any path has it.
+    fn parsed(&self, path: &str) -> (Start, crate::Path) {
         let mut parts: Vec<&str> = path.split("::").collect();
-        let start = match parts[0] {
-            "self" => Start::SelfModule,
-            "super" => Start::Super(1),
-            "crate" => Start::Crate,
-            "" => Start::Extern,
-            _ => Start::Plain,
+        let (start, kind) = match parts[0] {
+            "self" => (Start::SelfModule, 1),
+            "super" => (Start::Super(1), 2),
+            "crate" => (Start::Crate, 3),
+            "" => (Start::Extern, 4),
+            _ => (Start::Plain, 0),
         };
-        if start != Start::Plain {
+        if kind != 0 {
             parts.remove(0);
         }
         let number = |text: &str| self.w.names.iter().position(|name| name == text.trim_start_matches("r#")).unwrap();
-        let path = AnyPath { start, names: parts.into_iter().map(number).collect() };
-        self.viewer(scope).reads_to(ns, &path) == Some(item(&self.written.s, ns, definition))
+        (start, crate::Path { kind, names: parts.into_iter().map(number).collect() })
     }
 
     fn any_paths(&mut self) {
@@ -308,7 +336,20 @@ impl Asking<'_> {
             let Pair { scope, definition, ns } = self.pairs[pair];
             let krate = self.w.scopes[scope].krate;
             let written = |path: &AnyPath| text(path, |name| self.w.written(name, krate));
-            match self.viewer(scope).any_path(ns, definition) {
+            let right = self.viewer(scope).any_path(ns, definition);
+            for (mistake, &one) in any_path::MISTAKES.iter().enumerate() {
+                let from = self.written.modules[scope];
+                match (&right, Viewer::mistaken(&self.written.s, from, one).any_path(ns, definition)) {
+                    (Answer::Found(right), Answer::None) => {
+                        self.ask(pair, written(right), Asked::Mistaken { mistake, none: true });
+                    }
+                    (right, Answer::Found(path)) if *right != Answer::Found(path.clone()) => {
+                        self.ask(pair, written(&path), Asked::Mistaken { mistake, none: false });
+                    }
+                    _ => (),
+                }
+            }
+            match right {
                 Answer::Found(path) => self.ask(pair, written(&path), Asked::AnyPath),
                 Answer::Longer => (),
                 Answer::None => {
@@ -337,7 +378,14 @@ impl Asking<'_> {
             let c = &mut totals.counts[later(*pair)];
             let count = |counter: &mut usize, counts: bool| *counter += usize::from(counts);
             let mut wrong = "";
+            if let Asked::Search { misleads: right, question, path, .. } = asked {
+                for (told, &mistake) in totals.misread.iter_mut().zip(&reading::MISTAKES) {
+                    let said = misleads(&self.written.s, question, path, Some(mistake));
+                    *told += usize::from(said != *right && said == compiles);
+                }
+            }
             match *asked {
+                Asked::Mistaken { mistake, none } => totals.mistaken[mistake] += usize::from(none == compiles),
                 Asked::Search { misleads: true, .. } => {
                     c.misleads += 1;
                     count(&mut c.misleads_taken, compiles);
@@ -345,7 +393,7 @@ impl Asking<'_> {
                         wrong = "misleads, and compiles";
                     }
                 }
-                Asked::Search { misleads: false, read } => {
+                Asked::Search { misleads: false, read, .. } => {
                     c.found += 1;
                     count(&mut c.found_refused, !compiles);
                     count(&mut c.found_refused_unread, !compiles && !read);

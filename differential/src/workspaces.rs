@@ -5,19 +5,21 @@ use crate::workspace::{Glob, Item, Kind, Meaning, Named, Scope, Use, Vis, Worksp
 struct Builder {
     r: Random,
     w: Workspace,
+    /// the latest `use`: its scope, and the module and the name that it takes
+    latest: Option<(usize, usize, usize)>,
 }
 
 /// The workspace of a seed.
 pub fn workspace(seed: u64) -> Workspace {
     let mut r = Random::new(seed ^ 0x3C6E_F372_FE94_F82B);
-    let crates = r.from_to(2, 4);
+    let crates = r.pick(&[2, 2, 2, 2, 3, 3, 4]);
     let editions: Vec<usize> = (0..crates).map(|_| r.pick(&[2015, 2018, 2018, 2021, 2021, 2024])).collect();
-    let mut b = Builder { r, w: Workspace::empty(&editions) };
+    let mut b = Builder { r, w: Workspace::empty(&editions), latest: None };
     b.dependencies();
     b.scopes();
     b.items();
     b.extern_crates();
-    for _ in 0..b.r.from_to(2, 14) {
+    for _ in 0..b.r.from_to(4, 24) {
         b.single_use();
     }
     for _ in 0..b.r.from_to(0, 5) {
@@ -47,7 +49,7 @@ impl Builder {
         if self.r.percent(8) {
             return self.r.below(self.w.names.len());
         }
-        self.r.pick(&[0, 0, 1, 1, 2, 3, 4, 5, 6, 7, 8])
+        self.r.pick(&[0, 0, 0, 1, 1, 2, 2, 3, 4, 5, 6, 7, 8])
     }
 
     fn vis(&mut self, scope: usize) -> Vis {
@@ -81,10 +83,10 @@ impl Builder {
 
     fn scopes(&mut self) {
         for krate in 0..self.w.editions.len() {
-            for _ in 0..self.r.from_to(1, 5) {
+            for _ in 0..self.r.from_to(2, 6) {
                 let own: Vec<usize> = (0..self.w.scopes.len()).filter(|&s| self.w.root(s) == krate).collect();
-                let parent = if self.r.percent(40) { *own.last().unwrap() } else { self.r.pick(&own) };
-                let block = self.r.percent(30);
+                let parent = if self.r.percent(50) { *own.last().unwrap() } else { self.r.pick(&own) };
+                let block = self.r.percent(35);
                 self.add_scope(parent, block);
             }
         }
@@ -95,7 +97,7 @@ impl Builder {
             for _ in 0..self.r.from_to(0, 4) {
                 let kind = match self.r.below(10) {
                     0..=2 => Kind::UnitStruct,
-                    3..=4 => Kind::TupleStruct(self.vis(scope)),
+                    3..=4 => Kind::TupleStruct(if self.r.percent(50) { Vis::Private } else { self.vis(scope) }),
                     5..=6 => {
                         let mut variants = vec![self.name(), self.name()];
                         variants.dedup();
@@ -196,19 +198,27 @@ impl Builder {
         if fits { vis } else { Vis::Private }
     }
 
+    /// A `use` of one name, now and then of what the one before it named, in the same scope.
     fn single_use(&mut self) {
         let w = &self.w;
-        let scope = self.r.below(w.scopes.len());
         let sources: Vec<(usize, usize)> =
             w.named.iter().filter(|n| !w.scopes[n.scope].block && n.real).map(|n| (n.scope, n.name)).collect();
         if sources.is_empty() {
             return;
         }
-        let (module, name) = self.r.pick(&sources);
+        let (scope, module, name) = match self.latest {
+            Some(latest) if self.r.percent(25) => latest,
+            _ => {
+                let (module, name) = self.r.pick(&sources);
+                (self.r.below(self.w.scopes.len()), module, name)
+            }
+        };
+        self.latest = Some((scope, module, name));
         let Some(mut path) = self.path_to(module, scope) else { return };
         let krate = self.w.root(scope);
         path.push(self.w.written(name, krate));
         let mut from = (Meaning::Module(module), name);
+        let mut source = None;
         // a variant of it
         let entry = self.w.named.iter().find(|n| (n.scope, n.ns, n.name) == (module, 0, name));
         if let Some(Named { meaning: meaning @ Meaning::Item(item), vis, of, .. }) = entry
@@ -218,22 +228,17 @@ impl Builder {
         {
             let variant = variants[self.r.below(variants.len())];
             from = (*meaning, variant);
+            source = Some((self.w.items[*item].vis, self.w.items[*item].scope));
             path.push(self.w.written(variant, krate));
         }
         let brought = self.w.brought(from.0, Some(from.1), scope);
         let alias = if self.r.percent(50) { from.1 } else { self.name() };
-        let there: Vec<(Vis, usize)> = brought.iter().filter(|n| n.real).map(|n| (n.vis, n.of)).collect();
-        let item_vis = match from.0 {
-            Meaning::Item(item) => vec![(self.w.items[item].vis, self.w.items[item].scope)],
-            _ => there.clone(),
-        };
-        if there.is_empty()
-            || brought.iter().any(|n| !self.w.free(scope, n.ns, alias))
-            || module == self.w.nearest(scope) && alias == from.1
-        {
+        let there: Vec<(Vis, usize)> =
+            brought.iter().filter(|n| n.real).map(|n| source.unwrap_or((n.vis, n.of))).collect();
+        if there.is_empty() || brought.iter().any(|n| !self.w.free(scope, n.ns, alias)) {
             return;
         }
-        let (vis, hidden) = (self.use_vis(scope, &item_vis), self.r.percent(10));
+        let (vis, hidden) = (self.use_vis(scope, &there), self.r.percent(10));
         for n in brought {
             let (entry_vis, of) = self.w.smaller((n.vis, n.of), (vis, scope), scope);
             self.w.named.push(Named {
@@ -247,8 +252,8 @@ impl Builder {
                 ..n
             });
         }
-        let text =
-            format!("{}use {} as {};", self.w.vis_text(vis, scope), path.join("::"), self.w.written(alias, krate));
+        let vis = self.w.vis_text(vis, scope);
+        let text = format!("{vis}use {} as {};", path.join("::"), self.w.written(alias, krate));
         self.w.uses.push(Use { scope, text, hidden });
     }
 
