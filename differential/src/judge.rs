@@ -143,7 +143,9 @@ pub struct Counts {
     pub found_refused: usize,
     pub found_refused_unread: usize,
     pub misleads: usize,
+    /// misleading, and taken by the compiler: by the reading of any path too, or not
     pub misleads_taken: usize,
+    pub misleads_taken_read: usize,
     pub any_paths: usize,
     pub any_paths_refused: usize,
     pub nones: usize,
@@ -157,10 +159,14 @@ pub struct Counts {
 #[derive(Default)]
 pub struct Totals {
     pub workspaces: usize,
+    /// found paths as `use` lines, and those refused, for each prefix; from 2018 on, and in 2015
+    pub uses: [[(usize, usize); 3]; 2],
     pub refused: BTreeMap<String, usize>,
     /// from 2018 on, and in 2015
     pub counts: [Counts; 2],
     pub contradictions: Vec<String>,
+    /// paths and nones that only the names dropped by the compiler explain
+    pub dropped: usize,
     /// by how many paths the compiler tells each mistake of the reading and of any path
     pub misread: Vec<usize>,
     pub mistaken: Vec<usize>,
@@ -191,9 +197,18 @@ impl fmt::Display for Totals {
             writeln!(f, "{title}: {} pairs", c.pairs)?;
             writeln!(
                 f,
-                "  search: {} found ({} refused by the compiler, {} of them by the reading of any path too), {} misleading ({} taken by the compiler)",
-                c.found, c.found_refused, c.found_refused_unread, c.misleads, c.misleads_taken
+                "  search: {} found ({} refused by the compiler, {} of them by the reading of any path too), {} misleading ({} taken by the compiler, {} of them by the reading of any path too)",
+                c.found, c.found_refused, c.found_refused_unread, c.misleads, c.misleads_taken, c.misleads_taken_read
             )?;
+            let uses: Vec<String> = ["by self", "plain", "by crate"]
+                .iter()
+                .zip(&self.uses[usize::from(*title == "2015")])
+                .filter(|(_, (all, _))| *all > 0)
+                .map(|(prefix, (all, refused))| format!("{prefix} {all} ({refused} refused)"))
+                .collect();
+            if !uses.is_empty() {
+                writeln!(f, "  found paths as `use` lines: {}", uses.join(", "))?;
+            }
             writeln!(
                 f,
                 "  any path: {} given ({} refused), {} none ({} candidates, {} nones with one that compiles)",
@@ -205,7 +220,12 @@ impl fmt::Display for Totals {
                 c.search_nones, c.search_nones_with_a_path
             )?;
         }
-        write!(f, "{} contradictions", self.contradictions.len())
+        write!(
+            f,
+            "{} contradictions, {} more by names that the compiler drops from a `use`",
+            self.contradictions.len(),
+            self.dropped
+        )
     }
 }
 
@@ -221,8 +241,17 @@ struct Asking<'w> {
     search_none: Vec<bool>,
 }
 
+/// What is judged beside the paths.
+#[derive(Default, Clone, Copy)]
+pub struct Also {
+    /// found paths as `use` lines
+    pub uses: bool,
+    /// wrong programs for any path
+    pub mistakes: bool,
+}
+
 /// The paths of a printer and of any path for every pair of a workspace, judged.
-pub fn judge(seed: u64, w: &Workspace, printer: &Other, rustc: &Rustc, totals: &mut Totals) {
+pub fn judge(seed: u64, w: &Workspace, printer: &Other, rustc: &Rustc, also: Also, totals: &mut Totals) {
     let written = w.snapshot();
     let mut asking = Asking {
         w,
@@ -236,7 +265,7 @@ pub fn judge(seed: u64, w: &Workspace, printer: &Other, rustc: &Rustc, totals: &
     };
     asking.pairs();
     asking.search(printer);
-    asking.any_paths();
+    asking.any_paths(also.mistakes);
     match rustc.judge(w, &asking.probes) {
         Err(error) => {
             let code = error.split("error").nth(1).unwrap_or("").split(':').next().unwrap_or("").to_string();
@@ -245,6 +274,9 @@ pub fn judge(seed: u64, w: &Workspace, printer: &Other, rustc: &Rustc, totals: &
         Ok(compiles) => {
             totals.workspaces += 1;
             asking.count(seed, &compiles, totals);
+            if also.uses {
+                asking.count_uses(rustc, totals);
+            }
         }
     }
 }
@@ -303,41 +335,45 @@ impl Asking<'_> {
                         _ => usage::fail(&format!("the printer says `{line}`"), ""),
                     };
                     self.search_none[pair] = false;
-                    let (start, numbers) = self.parsed(&path);
-                    let any = AnyPath { start, names: numbers.names.clone() };
-                    let read = self.viewer(self.pairs[pair].scope).reads_to(question.ns, &any)
-                        == Some(item(&self.written.s, question.ns, question.definition));
+                    let read = self.reads_back(s, pair, &path);
+                    let numbers = self.parsed(&path).1;
                     self.ask(pair, path, Asked::Search { misleads, read, question, path: numbers });
                 }
             }
         }
     }
 
-    /// A printed path in numbers, and its start as any path has it.
-    fn parsed(&self, path: &str) -> (Start, crate::Path) {
-        let mut parts: Vec<&str> = path.split("::").collect();
-        let (start, kind) = match parts[0] {
-            "self" => (Start::SelfModule, 1),
-            "super" => (Start::Super(1), 2),
-            "crate" => (Start::Crate, 3),
-            "" => (Start::Extern, 4),
-            _ => (Start::Plain, 0),
+    /// A written path in numbers, as any path has it and as a report has it.
+    fn parsed(&self, path: &str) -> (AnyPath, crate::Path) {
+        let parts: Vec<&str> = path.split("::").collect();
+        let supers = parts.iter().take_while(|&&part| part == "super").count();
+        let (start, kind, skipped) = match parts[0] {
+            "self" => (Start::SelfModule, 1, 1),
+            "super" => (Start::Super(supers), 2, supers),
+            "crate" => (Start::Crate, 3, 1),
+            "" => (Start::Extern, 4, 1),
+            _ => (Start::Plain, 0, 0),
         };
-        if kind != 0 {
-            parts.remove(0);
-        }
-        let number = |text: &str| self.w.names.iter().position(|name| name == text.trim_start_matches("r#")).unwrap();
-        (start, crate::Path { kind, names: parts.into_iter().map(number).collect() })
+        let number = |text: &&str| self.w.names.iter().position(|name| name == text.trim_start_matches("r#")).unwrap();
+        let names: Vec<usize> = parts[skipped..].iter().map(number).collect();
+        (AnyPath { start, names: names.clone() }, crate::Path { kind, names })
     }
 
-    fn any_paths(&mut self) {
+    /// Whether a written path reads to the item of the pair, by any path's reading of a snapshot.
+    fn reads_back(&self, s: &Snapshot, pair: usize, path: &str) -> bool {
+        let Pair { scope, definition, ns } = self.pairs[pair];
+        let viewer = Viewer::new(s, self.written.modules[scope]);
+        viewer.reads_to(ns, &self.parsed(path).0) == Some(item(s, ns, definition))
+    }
+
+    fn any_paths(&mut self, mistakes: bool) {
         self.none = vec![false; self.pairs.len()];
         for pair in 0..self.pairs.len() {
             let Pair { scope, definition, ns } = self.pairs[pair];
             let krate = self.w.scopes[scope].krate;
             let written = |path: &AnyPath| text(path, |name| self.w.written(name, krate));
             let right = self.viewer(scope).any_path(ns, definition);
-            for (mistake, &one) in any_path::MISTAKES.iter().enumerate() {
+            for (mistake, &one) in any_path::MISTAKES.iter().enumerate().filter(|_| mistakes) {
                 let from = self.written.modules[scope];
                 match (&right, Viewer::mistaken(&self.written.s, from, one).any_path(ns, definition)) {
                     (Answer::Found(right), Answer::None) => {
@@ -363,8 +399,35 @@ impl Asking<'_> {
         }
     }
 
+    /// Whether the pair's viewer is of edition 2015.
+    fn old(&self, pair: usize) -> usize {
+        usize::from(self.w.editions[self.w.scopes[self.pairs[pair].scope].krate] == 2015)
+    }
+
+    /// Each found path that does not mislead, as a `use` line of the viewing module.
+    fn count_uses(&self, rustc: &Rustc, totals: &mut Totals) {
+        let mut asked: Vec<(usize, usize)> = Vec::new();
+        let mut probes = Vec::new();
+        for Put { pair, path, asked: one, .. } in &self.asked {
+            if let Asked::Search { misleads: false, question, .. } = one {
+                let Pair { scope, definition, ns } = self.pairs[*pair];
+                let name = format!("__u{}", probes.len());
+                let mut probe = self.w.probe(scope, self.written.meanings[definition], ns, &name);
+                probe.before = Some(format!("use {path} as {name};"));
+                probes.push(probe);
+                asked.push((self.old(*pair), question.prefix));
+            }
+        }
+        let Ok(compiles) = rustc.judge(self.w, &probes) else { return };
+        for ((old, prefix), compiles) in asked.into_iter().zip(compiles) {
+            let (all, refused) = &mut totals.uses[old][prefix];
+            *all += 1;
+            *refused += usize::from(!compiles);
+        }
+    }
+
     fn count(&self, seed: u64, compiles: &[bool], totals: &mut Totals) {
-        let later = |pair: usize| usize::from(self.w.editions[self.w.scopes[self.pairs[pair].scope].krate] == 2015);
+        let later = |pair: usize| self.old(pair);
         let mut has_path = vec![false; self.pairs.len()];
         let mut taken = vec![false; self.pairs.len()];
         for pair in 0..self.pairs.len() {
@@ -386,10 +449,11 @@ impl Asking<'_> {
             }
             match *asked {
                 Asked::Mistaken { mistake, none } => totals.mistaken[mistake] += usize::from(none == compiles),
-                Asked::Search { misleads: true, .. } => {
+                Asked::Search { misleads: true, read, .. } => {
                     c.misleads += 1;
                     count(&mut c.misleads_taken, compiles);
-                    if compiles {
+                    count(&mut c.misleads_taken_read, compiles && read);
+                    if compiles && !read {
                         wrong = "misleads, and compiles";
                     }
                 }
@@ -419,7 +483,9 @@ impl Asking<'_> {
                     }
                 }
             }
-            if !wrong.is_empty() {
+            if !wrong.is_empty() && self.reads_back(&self.written.real, *pair, path) == compiles {
+                totals.dropped += 1;
+            } else if !wrong.is_empty() {
                 let Pair { scope, definition, ns } = self.pairs[*pair];
                 let edition = self.w.editions[self.w.scopes[scope].krate];
                 let what = self.written.meanings[definition];

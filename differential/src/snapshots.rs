@@ -12,12 +12,16 @@ pub struct Written {
     pub modules: Vec<usize>,
     /// for each definition what it is
     pub meanings: Vec<Meaning>,
+    /// the snapshot without the entries that the compiler does not have
+    pub real: Snapshot,
 }
 
 /// A line put into a scope.
 pub struct Probe {
     pub scope: usize,
     pub line: String,
+    /// a `use` line beside the function with the line
+    pub before: Option<String>,
 }
 
 impl Workspace {
@@ -69,7 +73,10 @@ impl Workspace {
             let imports = list(&s, krate, None);
             s.imports.extend(imports);
         }
-        Written { s, modules, meanings }
+        let mut real = s.clone();
+        let mut named = self.named.iter();
+        real.scopes.retain(|_| named.next().unwrap().real);
+        Written { s, modules, meanings, real }
     }
 
     fn define(&self, s: &mut Snapshot, modules: &[usize], meanings: &mut Vec<Meaning>) {
@@ -166,6 +173,9 @@ impl Workspace {
             lines.push(("}".to_string(), None));
         }
         let own: Vec<usize> = kept.iter().copied().filter(|&probe| probes[probe].scope == scope).collect();
+        for &probe in &own {
+            lines.extend(probes[probe].before.iter().map(|line| (line.clone(), Some(probe))));
+        }
         if !own.is_empty() {
             lines.push((format!("fn __p{scope}() {{"), None));
             lines.extend(own.into_iter().map(|probe| (probes[probe].line.clone(), Some(probe))));
@@ -227,7 +237,7 @@ impl Workspace {
                 _ => format!("let _: crate::__m::T<{own}> = {path};"),
             },
         };
-        Probe { scope, line }
+        Probe { scope, line, before: None }
     }
 }
 

@@ -2,14 +2,15 @@
 use std::time::Instant;
 
 use differential::compare::Other;
-use differential::judge::{Rustc, Totals, judge};
+use differential::judge::{Also, Rustc, Totals, judge};
 use differential::show::snapshot_text;
 use differential::usage::{fail, seeds};
 use differential::workspaces::workspace;
 
-const USAGE: &str = "judge PRINTER FROM TO [--told] [--show]
+const USAGE: &str = "judge PRINTER FROM TO [--use] [--told] [--show]
   PRINTER  a path printer that knows options bit 64, or `rules`, or `original`
   FROM TO  seeds, the last one not taken
+  --use    the found paths as `use` lines too
   --show   the workspaces, as sources and as snapshots; nothing is judged
   --told   by how many paths the compiler tells each wrong reading
   Needs rustc.";
@@ -20,7 +21,7 @@ const SHOWN: usize = 20;
 fn main() {
     let (options, places): (Vec<String>, Vec<String>) = std::env::args().skip(1).partition(|a| a.starts_with("--"));
     let [printer, from, to] = &places[..] else { fail("", USAGE) };
-    if let Some(option) = options.iter().find(|option| !["--told", "--show"].contains(&option.as_str())) {
+    if let Some(option) = options.iter().find(|option| !["--use", "--told", "--show"].contains(&option.as_str())) {
         fail(&format!("no option `{option}`"), USAGE);
     }
     let printer = Other::named(printer);
@@ -31,8 +32,10 @@ fn main() {
     let Some(rustc) = Rustc::new("judge") else { fail("rustc does not run", USAGE) };
     let start = Instant::now();
     let mut totals = Totals::new();
+    let has = |wanted: &str| options.iter().any(|option| option == wanted);
+    let also = Also { uses: has("--use"), mistakes: has("--told") };
     for seed in seeds {
-        judge(seed, &workspace(seed), &printer, &rustc, &mut totals);
+        judge(seed, &workspace(seed), &printer, &rustc, also, &mut totals);
     }
     for contradiction in totals.contradictions.iter().take(SHOWN) {
         println!("{contradiction}");
@@ -40,7 +43,7 @@ fn main() {
     for (code, count) in &totals.refused {
         println!("refused workspaces: {count} by error{code}");
     }
-    if options.iter().any(|option| option == "--told") {
+    if also.mistakes {
         totals.told().iter().for_each(|(mistake, paths)| println!("{mistake} {paths}"));
     }
     println!("{totals}, {:.1} s", start.elapsed().as_secs_f64());
