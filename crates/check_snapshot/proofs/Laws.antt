@@ -1,14 +1,16 @@
 -- Laws of the verdict on bytes, and of the text.
-use Prim.Native.Nat.{ℕ, _+_, _/_, _%_, _≤_, _<_, min}
+use Prim.Native.Nat.{ℕ, _+_, _*_, _/_, _%_, _≤_, _<_, min}
 use mathlib.Core.Path.{_≡_, sym, _∙_, ap, subst}
 use mathlib.Core.List.{List, _++_}
+use mathlib.Core.Bool.{Bool, true, false, _&&_}
 use native.Mathlib.Omega.{arith}
-use borrow.Author.Tests.{eq-eqb, ne-eqb, le-ltb, le-leb, lt-leb}
-use lib.ListN.{length, take, length-take}
+use borrow.Author.Tests.{eq-eqb, ne-eqb, lt-ltb, le-ltb, le-leb, lt-leb}
+use lib.Dec.{eqb}
+use lib.ListN.{length, getD, take, length-take}
 use lib.Seq.{length-take-le}
 use Rattle.io.specs.Counts.{Counts}
 use Rattle.snapshot.specs.Limits.{wordLimit, areaLimit, inputLimit}
-use Rattle.snapshot.specs.Refusals.{bytesRefusal, restRefusal}
+use Rattle.snapshot.specs.Refusals.{formRefusal, bytesRefusal, restRefusal}
 use Rattle.snapshot.specs.Layouts.{snapOf}
 use Rattle.snapshot.specs.declared.layout.Layout.{Layout}
 use Rattle.snapshot.proofs.Laws.{length-rows}
@@ -17,8 +19,8 @@ use Rattle.accept.specs.Post.{checkOf, outcome}
 use Rattle.accept.specs.declared.check.Checked.{Checked}
 use Rattle.printing.specs.Output.{Put, bytesOf}
 use Rattle.check_snapshot.specs.Verdict.{wordsOf, verdictOf}
-use Rattle.wording.specs.Text.{line, firstLines, lastLines}
-use Rattle.check_snapshot.specs.Text.{textOf}
+use Rattle.wording.specs.Text.{refusal, askedThere, line, firstLines, lastLines}
+use Rattle.check_snapshot.specs.Text.{asks, asksAt, refusedText, textOf}
 
 -- the verdict
 
@@ -45,12 +47,32 @@ verdict-same B W A n r e q h p m =
 
 -- the text
 
-pub text-accepted : (W A : List ℕ) (l : Layout)
+pub asks-in : (B : List ℕ) (at : ℕ) → at < length B / 4 → asks (getD B (4 * at + 3) 0 / 16) ≡ asksAt B at
+unfolding asksAt
+asks-in B at h = rw (asksAt, lt-ltb _ _ h)
+
+pub asks-past : (B : List ℕ) (at : ℕ) → length B / 4 ≤ at → false ≡ asksAt B at
+unfolding asksAt
+asks-past B at h = rw (asksAt, le-ltb _ _ h)
+
+-- the text of a refusal, by whether a question begins there
+module _ (B : List ℕ) (n at : ℕ) (b : Bool) (e : b ≡ asksAt B at) where
+  pub text-asked : {old new : List ℕ} {r : ℕ} → (eqb n formRefusal && b) ≡ true → Put old 0 (askedThere at) new r
+      → Put old 0 (refusedText B n at) new r
+  unfolding refusedText
+  text-asked {old} {new} {r} t = subst (λ x. Put old 0 x new r) (rw (refusedText, sym e, t))
+
+  pub text-refused : {old new : List ℕ} {r : ℕ} → (eqb n formRefusal && b) ≡ false → Put old 0 (refusal n at) new r
+      → Put old 0 (refusedText B n at) new r
+  unfolding refusedText
+  text-refused {old} {new} {r} t = subst (λ x. Put old 0 x new r) (rw (refusedText, sym e, t))
+
+pub text-accepted : (B W A : List ℕ) (l : Layout)
     → bytesOf "accepted\n"
     ++ (firstLines (l .names) (l .crates) (l .dependencies) (l .maps) (l .modules)
     ++ (lastLines (l .children) (l .preludes) (l .definitions) (l .scopes) (l .imports) (l .externs) ++ line "members " (l .members)))
-    ≡ textOf (accept (snapOf W A l))
-text-accepted W A l = simp length-rows
+    ≡ textOf B (accept (snapOf W A l))
+text-accepted B W A l = simp length-rows
 
 -- a text at the front
 

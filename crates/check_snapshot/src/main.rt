@@ -8,10 +8,11 @@ ghost use Rattle.wording.specs.Text.{textLimit};
 mod report;
 mod verdict;
 
-use libc::STDIN_FILENO;
-use libc::STDOUT_FILENO;
 use printing::input::ByteCount;
 use snapshot::ids::WordCount;
+use streams::read_input;
+use streams::say_unread;
+use streams::write_output;
 use wording::text::TextBytes;
 
 // One byte more than an input may have.
@@ -38,7 +39,12 @@ fn main() {
     let mut snapshot = words();
     let mut area = words();
     let mut out = text();
-    let n = io::read_full(STDIN_FILENO, &mut bytes);
+    let read = read_input(&mut bytes);
+    if read.failed {
+        say_unread();
+        return;
+    }
+    let n = read.count;
     let m = report::report(&bytes[..n], &mut snapshot, &mut area, &mut out);
-    io::write_all(STDOUT_FILENO, &out[..m]);
+    write_output(&out[..m]);
 }

@@ -1,17 +1,18 @@
 -- Questions placed and turns on the words of a state, and a turn's report as words.
-use Prim.Native.Nat.{ℕ}
+use Prim.Native.Nat.{ℕ, _≤_, _<_}
 use mathlib.Core.Path.{_≡_, refl, sym, _∙_, ap}
 use mathlib.Core.Bool.{Bool, true, false, false≢true}
 use mathlib.Core.List.{List}
+use native.Mathlib.Omega.{arith}
 use borrow.Author.Tests.{eqb-true}
 use lib.Dec.{eqb}
 use lib.ListN.{length}
-use Rattle.reports.specs.Written.{Written, writtenTo}
+use Rattle.reports.specs.Written.{Written, writtenTo, reportSize}
 use Rattle.windows.specs.declared.turns.Turn.{Turn}
 use Rattle.find_path.specs.declared.Question.{Question}
 use Rattle.window_state.specs.States.{placeFault, afterPlace, served, afterTurn}
 use Rattle.windows.specs.Windows.{Placed, idleTurn, servingTurn, turnOf, areaTurned, Turned}
-use Rattle.exports.specs.Turns.{reportTurned, Served}
+use Rattle.exports.specs.Turns.{reportTurned, Served, Unserved}
 
 -- the words were taken apart, and put together again
 module _ (S₀ S T U : List ℕ) (e : S ≡ S₀) (f : U ≡ T) where
@@ -54,3 +55,14 @@ module _ (S W A T B old : List ℕ) (t : Turn) (k : Turned S W A T B t) where
             area = k .area;
             report = w .words ∙ ap (λ (x : Turn). writtenTo (x .report) old) (k .turn ∙ f) ∙ sym (rw (reportTurned, e));
           }
+
+-- a turn by the words for its report: too few, or enough
+module _ (S W A old T B new : List ℕ) (r : ℕ) where
+  abbrev Either : Type 0
+  Either = (reportSize ≤ length old → Served S W A old T B new r) × (length old < reportSize → Unserved S A old T B new r)
+
+  pub turn-short : length old < reportSize → Unserved S A old T B new r → Either
+  turn-short h u = (λ k. absurd (omega (arith, h, k)), λ _. u)
+
+  pub turn-long : reportSize ≤ length old → Served S W A old T B new r → Either
+  turn-long h s = (λ _. s, λ k. absurd (omega (arith, h, k)))

@@ -22,3 +22,10 @@ pub record Served (S₀ W A₀ old S A new : List ℕ) (r : ℕ) : Type 0 where
   pub state : S ≡ afterTurn S₀
   pub area : A ≡ areaTurned S₀ A₀
   pub report : new ≡ reportTurned S₀ W (length A₀) old
+
+-- a report that is too short: nothing is served, and all stays
+pub record Unserved (S₀ A₀ old S A new : List ℕ) (r : ℕ) : Type 0 where
+  pub none : r ≡ 9
+  pub state : S ≡ S₀
+  pub area : A ≡ A₀
+  pub report : new ≡ old

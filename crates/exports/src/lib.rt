@@ -1,25 +1,32 @@
 //! The functions of the static library, for programs in Rust and C. None keeps a state but the one that the caller lends, and none asks
 //! anything of its caller.
 ghost use mathlib.Core.Path.{_≡_};
+ghost use Prim.Native.Nat.{_≤_, _<_};
+ghost use lib.ListN.{length};
 ghost use Rattle.batch.specs.Batch.{Batch};
 ghost use Rattle.edits.specs.Edits.{EditsIn};
 ghost use Rattle.exports.specs.Answers.{Answered};
 ghost use Rattle.exports.specs.Questions.{Reported};
 ghost use Rattle.exports.specs.Texts.{nameText, Copied, Named, nameRaw, RawNamed};
-ghost use Rattle.exports.specs.Turns.{Served};
+ghost use Rattle.exports.specs.Reaches.{viewerOf, ReachesIn};
+ghost use Rattle.exports.specs.Turns.{Served, Unserved};
+ghost use Rattle.exports.specs.Version.{version};
 ghost use Rattle.imports.specs.Listings.{ListsIn};
 ghost use Rattle.questions.specs.Questions.{questionOf};
+ghost use Rattle.reports.specs.Written.{reportSize};
 ghost use Rattle.scope_edits.specs.Edits.{adding, removing};
 ghost use Rattle.scope_edits.specs.Entries.{entryOf};
 ghost use Rattle.windows.specs.Windows.{Placed};
 
 mod lent;
 mod text;
+mod viewer;
 
 use crate::lent::place_in;
 use crate::lent::turn_in;
 use crate::text::copy_text;
 use crate::text::held;
+use crate::viewer::viewer_of;
 use accept::check::Checked;
 use accept::check::check;
 use answer::answer::find_path;
@@ -31,6 +38,7 @@ use edits::edits::remove_entry;
 use imports::list::import_list;
 use keywords::is_raw;
 use questions::question::question_of;
+use reach_answer::find_reach;
 use reports::report::ReportWords;
 use snapshot::ids::Crate;
 use snapshot::ids::Name;
@@ -40,6 +48,14 @@ use snapshot::text::text_at;
 use snapshot::words::payload;
 use window_state::words::windows_of;
 use window_state::words::words_of;
+
+/// The format of snapshots, questions and states.
+pub struct Format(pub usize);
+
+impl Format {
+    /// One more whenever a program that was built for the one before could be misled.
+    pub const VERSION: usize = 1;
+}
 
 /// Checks a snapshot, and leaves the tables of accepted words in the work area; after a refusal the area is as after every other call. Answers
 /// the number of the refusal, 0 for none; writes that number, its place, and how many records of each kind there are.
@@ -173,16 +189,20 @@ pub extern "C" fn kelumavor_place(
 }
 
 /// Serves the next window that waits, on a snapshot, and writes the report of its question. Answers the window, or 8 where no question
-/// waits; nothing is changed then.
+/// waits, or 9 where there are too few words for a report; nothing is changed then.
 #[no_mangle]
 pub extern "C" fn kelumavor_turn(
     state: &mut [u32; 65],
     words: &[u32],
     area: &mut [u32],
-    report: &mut [u32; ReportWords::COUNT],
+    report: &mut [u32],
 ) -> usize
-    ensures { λ r. ⌜ Served (now (state .entry)) (now (words .entry)) (now (area .entry)) (now (report .entry)) (now (state .exit)) (now (area .exit)) (now (report .exit)) r ⌝ }
+    ensures { λ r. ⌜ (reportSize ≤ length (now (report .entry)) → Served (now (state .entry)) (now (words .entry)) (now (area .entry)) (now (report .entry)) (now (state .exit)) (now (area .exit)) (now (report .exit)) r) ⌝ }
+    ensures { λ r. ⌜ (length (now (report .entry)) < reportSize → Unserved (now (state .entry)) (now (area .entry)) (now (report .entry)) (now (state .exit)) (now (area .exit)) (now (report .exit)) r) ⌝ }
 {
+    if report.len() < ReportWords::COUNT {
+        return 9;
+    }
     let turned = turn_in(windows_of(*state), words, area);
     let windows = turned.windows;
     let after = words_of(windows);
@@ -247,4 +267,30 @@ pub extern "C" fn kelumavor_import_list(
     let r = import_list(words, area, Crate(krate), target);
     *count = r.count;
     r.number
+}
+
+/// How much of a workspace can be named from a module: viewing module, prefix, options, and the fuel and the limit of each search. Writes how many
+/// items have a path of 0 to 16 names, a misleading one, none, and none with the fuel run out, and the names of all paths together. Answers 0, or
+/// the number by which the call is refused, with zeros written.
+#[no_mangle]
+pub extern "C" fn kelumavor_reach(
+    words: &[u32],
+    area: &mut [u32],
+    viewer: &[u32; 5],
+    counts: &mut [usize; 21],
+) -> usize
+    ensures { λ r. ⌜ ReachesIn (now (words .entry)) (now (area .entry)) (viewerOf (now (viewer .entry))) (now (area .exit)) (now (counts .exit)) r ⌝ }
+{
+    let reach = find_reach(words, area, viewer_of(viewer));
+    let told = reach.counts;
+    *counts = told;
+    reach.number
+}
+
+/// The version of what goes in and out: 65,536 times that of the format, plus the words of a report.
+#[no_mangle]
+pub extern "C" fn kelumavor_version() -> usize
+    ensures { λ r. ⌜ r ≡ version ⌝ }
+{
+    65536 * Format::VERSION + ReportWords::COUNT
 }

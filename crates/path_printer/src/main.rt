@@ -6,10 +6,11 @@ ghost use Rattle.snapshot.specs.Limits.{wordLimit, routedLimit, inputLimit};
 
 mod print;
 
-use libc::STDIN_FILENO;
 use printing::input::ByteCount;
 use route_line::route::RoutedBytes;
 use snapshot::ids::WordCount;
+use streams::read_input;
+use streams::say_unread;
 
 // One byte more than an input may have.
 fn input() -> [u8; ByteCount::INPUT + 1]
@@ -35,6 +36,11 @@ fn main() {
     let mut space = words();
     let mut area = words();
     let mut out = text();
-    let n = io::read_full(STDIN_FILENO, &mut bytes);
+    let read = read_input(&mut bytes);
+    if read.failed {
+        say_unread();
+        return;
+    }
+    let n = read.count;
     print::print(&bytes[..n], &mut space, &mut area, &mut out);
 }

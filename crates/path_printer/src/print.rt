@@ -4,14 +4,14 @@ ghost use Prim.Native.Nat.{_≤_};
 ghost use lib.ListN.{length};
 ghost use Rattle.snapshot.specs.Limits.{wordLimit, areaLimit, routedLimit};
 use accept::check::check;
-use libc::STDOUT_FILENO;
 use line::line::put_refusal;
 use printer::input::input_fault;
 use printer::lines::next_line;
 use printer::questions::first_question;
 use printing::input::words_in;
+use streams::write_output;
 
-// The lines of the questions, which begin at place k; the snapshot before them is checked once.
+// The lines of the questions, which begin at place k, until one cannot be written; the snapshot before them is checked once.
 fn print_questions(words: &[u32], k: usize, area: &mut [u32], out: &mut [u8])
     requires { ⌜ (k ≤ length (now words)) × (length (now words) ≤ wordLimit) × (areaLimit ≡ length (now area)) × (routedLimit ≤ length (now out)) ⌝ }
 {
@@ -21,7 +21,9 @@ fn print_questions(words: &[u32], k: usize, area: &mut [u32], out: &mut [u8])
     while at < words.len() {
         let t = next_line(words, snapshot, area, c, at, out);
         let n = t.bytes;
-        io::write_all(STDOUT_FILENO, &out[..n]);
+        if !write_output(&out[..n]) {
+            return;
+        }
         at = t.next;
     }
 }
@@ -43,7 +45,7 @@ pub fn print(bytes: &[u8], words: &mut [u32], area: &mut [u32], out: &mut [u8])
     let fault = input_fault(bytes);
     if fault != 0 {
         let n = put_refusal(out, fault);
-        io::write_all(STDOUT_FILENO, &out[..n]);
+        write_output(&out[..n]);
         return;
     }
     let n = bytes.len() / 4;

@@ -71,6 +71,10 @@ line label n = labelled label n ++ bytesOf "\n"
 abbrev pub refusal : ℕ → ℕ → List ℕ
 refusal n at = labelled "refused " n ++ (line " at " at ++ meaning n)
 
+-- the same where a question begins at the refused word, which no record does
+abbrev pub askedThere : ℕ → List ℕ
+askedThere at = line "refused 31 at " at ++ bytesOf "a question begins there: path_printer answers questions\n"
+
 -- the kinds up to modules
 abbrev pub firstLines : ℕ → ℕ → ℕ → ℕ → ℕ → List ℕ
 firstLines names crates dependencies maps modules =

@@ -3,7 +3,7 @@ ghost use mathlib.Core.List.{_++_};
 ghost use Prim.Native.Nat.{_+_, _≤_};
 ghost use lib.ListN.{length};
 ghost use Rattle.printing.specs.Output.{Put, bytesOf, decimal};
-ghost use Rattle.wording.specs.Text.{laterMeaning, meaning, refusal, line, firstLines, lastLines, textLimit};
+ghost use Rattle.wording.specs.Text.{laterMeaning, meaning, refusal, askedThere, line, firstLines, lastLines, textLimit};
 use printing::output::Digits;
 use printing::output::put;
 use printing::output::put_digits;
@@ -112,6 +112,19 @@ pub fn put_refusal(out: &mut [u8], n: u32, place: usize) -> usize
     let a = put_labelled(out, 0, b"refused ", n as u64);
     let b = put_line(out, a, b" at ", place);
     put_meaning(out, b, n)
+}
+
+/// The refusal of a word at which a question begins.
+pub fn put_asked(out: &mut [u8], place: usize) -> usize
+    requires { ⌜ textLimit ≤ length (now out) ⌝ }
+    ensures { λ r. ⌜ Put (now (out .entry)) 0 (askedThere place) (now (out .exit)) r ⌝ }
+{
+    let a = put_line(out, 0, b"refused 31 at ", place);
+    put(
+        out,
+        a,
+        b"a question begins there: path_printer answers questions\n",
+    )
 }
 
 // The kinds up to modules.

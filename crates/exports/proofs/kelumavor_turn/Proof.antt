@@ -1,8 +1,15 @@
 use borrow.Author.Needs.{needs}
+use mathlib.Core.Path.{refl}
 use denote.Ref.{now}
-use Rattle.exports.proofs.Serving.{turned-words, served-none, served-one}
+use Rattle.exports.proofs.Serving.{turned-words, served-none, served-one, turn-short, turn-long}
 use Rattle.exports.proofs.kelumavor_turn.Statement.{statement}
 use Rattle.exports.proofs.kelumavor_turn.Tie as tie
+
+returns : tie.Need-returns
+returns c =
+    let s = c .before .before .before .before .args in
+    turn-short (now (s .state)) (now (s .words)) (now (s .area)) (now (s .report)) _ _ _ _ (c .if1 .taken)
+    (record { none = refl; state = refl; area = refl; report = refl })
 
 windows-of-requires : tie.Need-windows-of-requires
 windows-of-requires c κs = search needs
@@ -16,14 +23,16 @@ words-of-requires c κs = search needs
 same-length : tie.Need-same-length
 same-length c = search needs
 
-returns : tie.Need-returns
-returns c =
+returns-2 : tie.Need-returns-2
+returns-2 c =
     let o = c .before .before in
     let t = o .before .before .before .before in
     let w = t .before .before in
-    let s = w .before .before .before .before .args in
+    let e = w .before .before in
+    let s = e .before .before .before .before .args in
     let k = turned-words (now (s .state)) _ _ _ (w .windows-of .ensures) (o .words-of .ensures) _ _ _ _ (t .turn-in .ensures) in
-    served-none (now (s .state)) (now (s .words)) (now (s .area)) _ _ (now (s .report)) (t .turn-in .result .turn) k (c .if1 .taken)
+    turn-long (now (s .state)) (now (s .words)) (now (s .area)) (now (s .report)) _ _ _ _ (e .if1 .left)
+    (served-none (now (s .state)) (now (s .words)) (now (s .area)) _ _ (now (s .report)) (t .turn-in .result .turn) k (c .if2 .taken))
 
 write-report-requires : tie.Need-write-report-requires
 write-report-requires c κs = search needs
@@ -31,25 +40,33 @@ write-report-requires c κs = search needs
 same-length-2 : tie.Need-same-length-2
 same-length-2 c = search needs
 
-returns-2 : tie.Need-returns-2
-returns-2 c =
-    let e = c .before .before .before in
-    let o = e .before .before in
+same-length-3 : tie.Need-same-length-3
+same-length-3 c = search needs
+
+returns-3 : tie.Need-returns-3
+returns-3 c =
+    let p = c .before .before in
+    let i = p .before .before .before in
+    let o = i .before .before in
     let t = o .before .before .before .before in
     let w = t .before .before in
-    let s = w .before .before .before .before .args in
+    let e = w .before .before in
+    let s = e .before .before .before .before .args in
     let k = turned-words (now (s .state)) _ _ _ (w .windows-of .ensures) (o .words-of .ensures) _ _ _ _ (t .turn-in .ensures) in
-    served-one (now (s .state)) (now (s .words)) (now (s .area)) _ _ (now (s .report)) (t .turn-in .result .turn) k (e .if1 .left) _ _ (c .write-report .ensures)
+    turn-long (now (s .state)) (now (s .words)) (now (s .area)) (now (s .report)) _ _ _ _ (e .if1 .left)
+    (served-one (now (s .state)) (now (s .words)) (now (s .area)) _ _ (now (s .report)) (t .turn-in .result .turn) k (i .if2 .left) _ _ (p .write-report .ensures))
 
 pub kelumavor-turn-spec : {M : Type 1} → statement M
 kelumavor-turn-spec =
     tie.close
     (tie.spec
+    returns
     windows-of-requires
     turn-in-requires
     words-of-requires
     same-length
-    returns
+    returns-2
     write-report-requires
     same-length-2
-    returns-2)
+    same-length-3
+    returns-3)

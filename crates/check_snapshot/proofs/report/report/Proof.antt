@@ -14,8 +14,8 @@ verdict-requires c κs = search needs
 enum-known-c : tie.Need-enum-known-c
 enum-known-c c = search needs
 
-put-refusal-requires : tie.Need-put-refusal-requires
-put-refusal-requires c κs = search needs
+put-refused-requires : tie.Need-put-refused-requires
+put-refused-requires c κs = search needs
 
 enum-known-c-2 : tie.Need-enum-known-c-2
 enum-known-c-2 c = search needs
@@ -34,11 +34,12 @@ same-length-3 c = search needs
 
 returns : tie.Need-returns
 returns c =
-    let p = c .before .before .put-refusal .ensures in
+    let p = c .before .before .put-refused .ensures in
     let m = c .before .before .before .before .before in
     let v = m .before .before .before .before .before .before in
-    let W = wordsOf (now (v .before .before .before .before .before .before .before .args .bytes)) in
-    ((front p ∙ ap textOf (ap (outcome W _) (sym (m .c .given .1)) ∙ v .verdict .ensures), p .rest), front-counts p)
+    let B = now (v .before .before .before .before .before .before .before .args .bytes) in
+    let W = wordsOf B in
+    ((front p ∙ ap (textOf B) (ap (outcome W _) (sym (m .c .given .1)) ∙ v .verdict .ensures), p .rest), front-counts p)
 
 same-length-4 : tie.Need-same-length-4
 same-length-4 c = search needs
@@ -54,8 +55,9 @@ returns-2 c =
     let p = c .before .before .put-counts .ensures in
     let m = c .before .before .before .before .before in
     let v = m .before .before .before .before .before .before in
-    let W = wordsOf (now (v .before .before .before .before .before .before .before .args .bytes)) in (
-      (front p ∙ text-accepted W (v .verdict .last .1 .1 .0) (m .c2 .given .0 .0) ∙ ap textOf (ap (outcome W _) (sym (m .c2 .given .1)) ∙ v .verdict .ensures), p .rest),
+    let B = now (v .before .before .before .before .before .before .before .args .bytes) in
+    let W = wordsOf B in (
+      (front p ∙ text-accepted B W (v .verdict .last .1 .1 .0) (m .c2 .given .0 .0) ∙ ap (textOf B) (ap (outcome W _) (sym (m .c2 .given .1)) ∙ v .verdict .ensures), p .rest),
       front-counts p,
     )
 
@@ -65,7 +67,7 @@ report-spec =
     (tie.spec
     verdict-requires
     enum-known-c
-    put-refusal-requires
+    put-refused-requires
     enum-known-c-2
     put-counts-requires
     same-length

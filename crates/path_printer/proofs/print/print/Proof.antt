@@ -15,14 +15,14 @@ input-fault-requires c κs = search needs
 put-refusal-requires : tie.Need-put-refusal-requires
 put-refusal-requires c κs = search needs
 
-slice-reshare-prefix-write-all : tie.Need-slice-reshare-prefix-write-all
-slice-reshare-prefix-write-all c = refusal-counts (c .before .before .before .before .before .input-fault .result) (c .before .before .put-refusal .ensures) .0
+slice-reshare-prefix-write-output : tie.Need-slice-reshare-prefix-write-output
+slice-reshare-prefix-write-output c = refusal-counts (c .before .before .before .before .before .input-fault .result) (c .before .before .put-refusal .ensures) .0
 
-slice-aggregate-write-all : tie.Need-slice-aggregate-write-all
-slice-aggregate-write-all c = refusal-counts (c .before .before .before .before .before .before .input-fault .result) (c .before .before .before .put-refusal .ensures) .1
+slice-aggregate-write-output : tie.Need-slice-aggregate-write-output
+slice-aggregate-write-output c = refusal-counts (c .before .before .before .before .before .before .input-fault .result) (c .before .before .before .put-refusal .ensures) .1
 
-write-all-requires : tie.Need-write-all-requires
-write-all-requires c κs = search needs
+write-output-requires : tie.Need-write-output-requires
+write-output-requires c κs = search needs
 
 same-length : tie.Need-same-length
 same-length c = search needs
@@ -74,9 +74,9 @@ print-spec =
     (tie.spec
     input-fault-requires
     put-refusal-requires
-    slice-reshare-prefix-write-all
-    slice-aggregate-write-all
-    write-all-requires
+    slice-reshare-prefix-write-output
+    slice-aggregate-write-output
+    write-output-requires
     same-length
     returns
     words-in-requires

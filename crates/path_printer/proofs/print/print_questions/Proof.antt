@@ -37,34 +37,51 @@ next-line-requires c κs =
     let l = c .before .before .before .loop .inv in
     (l .0, l .1 ∙ l .3, omega (arith, l .2, l .4), c .before .before .loop-test .taken, s .pre .1)
 
-slice-reshare-prefix-write-all : tie.Need-slice-reshare-prefix-write-all Inv-loop μ-loop
-slice-reshare-prefix-write-all c = search needs
+slice-reshare-prefix-write-output : tie.Need-slice-reshare-prefix-write-output Inv-loop μ-loop
+slice-reshare-prefix-write-output c = search needs
 
-slice-aggregate-write-all : tie.Need-slice-aggregate-write-all Inv-loop μ-loop
-slice-aggregate-write-all c = search needs
+slice-aggregate-write-output : tie.Need-slice-aggregate-write-output Inv-loop μ-loop
+slice-aggregate-write-output c = search needs
 
-write-all-requires : tie.Need-write-all-requires Inv-loop μ-loop
-write-all-requires c κs = search needs
-
-loop-less : tie.Need-loop-less Inv-loop μ-loop
-loop-less c =
-    let m = next-more _ (c .before .before .before .before .before .before .before .before .before .before .loop .at) _ (c .before .before .before .before .before .before .before .before .before .loop-test .taken) (c .before .before .before .before .before .before .next-line .ensures .next) in
-    omega (arith, m, c .before .before .before .before .before .before .before .before .before .loop-test .taken)
-
-loop-again : tie.Need-loop-again Inv-loop μ-loop
-loop-again c =
-    let l = c .before .before .before .before .before .before .before .before .before .before .loop .inv in
-    let t = c .before .before .before .before .before .before .next-line in
-    (t .ensures .checked, t .kept .1 .1 .0 ∙ l .1, t .kept .1 .1 .1 .1 .1 .0 ∙ l .2, l .3, l .4)
+write-output-requires : tie.Need-write-output-requires Inv-loop μ-loop
+write-output-requires c κs = search needs
 
 same-length : tie.Need-same-length Inv-loop μ-loop
-same-length c = c .before .loop .inv .1 ∙ c .before .before .before .before .check .kept .1 .0
+same-length c =
+    let t = c .before .before .before .before .before .before .before in
+    let l = t .before .before .before .before in
+    t .next-line .kept .1 .1 .0 ∙ l .loop .inv .1 ∙ l .before .before .before .check .kept .1 .0
 
 same-length-2 : tie.Need-same-length-2 Inv-loop μ-loop
-same-length-2 c = c .before .loop .inv .2
+same-length-2 c =
+    let t = c .before .before .before .before .before .before .before in
+    t .next-line .kept .1 .1 .1 .1 .1 .0 ∙ t .before .before .before .before .loop .inv .2
 
 returns : tie.Need-returns Inv-loop μ-loop
 returns c = search needs
+
+loop-less : tie.Need-loop-less Inv-loop μ-loop
+loop-less c =
+    let t = c .before .before .before .before .before .before .before in
+    let h = t .before .before .before .loop-test .taken in
+    let m = next-more _ (t .before .before .before .before .loop .at) _ h (t .next-line .ensures .next) in
+    omega (arith, m, h)
+
+loop-again : tie.Need-loop-again Inv-loop μ-loop
+loop-again c =
+    let t = c .before .before .before .before .before .before .before in
+    let l = t .before .before .before .before .loop .inv in
+    let n = t .next-line in
+    (n .ensures .checked, n .kept .1 .1 .0 ∙ l .1, n .kept .1 .1 .1 .1 .1 .0 ∙ l .2, l .3, l .4)
+
+same-length-3 : tie.Need-same-length-3 Inv-loop μ-loop
+same-length-3 c = c .before .loop .inv .1 ∙ c .before .before .before .before .check .kept .1 .0
+
+same-length-4 : tie.Need-same-length-4 Inv-loop μ-loop
+same-length-4 c = c .before .loop .inv .2
+
+returns-2 : tie.Need-returns-2 Inv-loop μ-loop
+returns-2 c = search needs
 
 pub print-questions-spec : {M : Type 1} → statement M
 print-questions-spec =
@@ -76,11 +93,14 @@ print-questions-spec =
     check-requires
     loop-holds
     next-line-requires
-    slice-reshare-prefix-write-all
-    slice-aggregate-write-all
-    write-all-requires
-    loop-less
-    loop-again
+    slice-reshare-prefix-write-output
+    slice-aggregate-write-output
+    write-output-requires
     same-length
     same-length-2
-    returns)
+    returns
+    loop-less
+    loop-again
+    same-length-3
+    same-length-4
+    returns-2)

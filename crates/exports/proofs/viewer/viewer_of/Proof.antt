@@ -1,0 +1,42 @@
+use borrow.Author.Needs.{needs}
+use Rattle.exports.proofs.viewer.viewer_of.Statement.{statement}
+use Rattle.exports.proofs.viewer.viewer_of.Tie as tie
+
+word-requires : tie.Need-word-requires
+word-requires c κs = search needs
+
+word-requires-2 : tie.Need-word-requires-2
+word-requires-2 c κs = search needs
+
+word-requires-3 : tie.Need-word-requires-3
+word-requires-3 c κs = search needs
+
+word-requires-4 : tie.Need-word-requires-4
+word-requires-4 c κs = search needs
+
+word-requires-5 : tie.Need-word-requires-5
+word-requires-5 c κs = search needs
+
+returns : tie.Need-returns
+returns c =
+    let d = c .before in
+    let b = d .before in
+    let a = b .before in
+    λ i. record {
+      from = a .before .word .ensures i;
+      prefix = a .word2 .ensures i;
+      options = b .word3 .ensures i;
+      fuel = d .word4 .ensures i;
+      limit = c .word5 .ensures i;
+    }
+
+pub viewer-of-spec : {M : Type 1} → statement M
+viewer-of-spec =
+    tie.close
+    (tie.spec
+    word-requires
+    word-requires-2
+    word-requires-3
+    word-requires-4
+    word-requires-5
+    returns)
