@@ -3,18 +3,16 @@ use kelumavor::{DefinitionId, ModuleId, Namespace, Outcome, Prefix, Report, Snap
 
 use crate::questions::{Answer, Answers, Question};
 
-pub struct Library<'w> {
-    snapshot: Snapshot<'w>,
+pub struct Library {
+    snapshot: Snapshot,
     area: WorkArea,
 }
 
-impl<'w> Library<'w> {
-    pub fn new(words: &'w [u32]) -> Self {
+impl Library {
+    pub fn new(words: &[u32]) -> Self {
         Library { snapshot: Snapshot::check(words).expect("an accepted snapshot"), area: WorkArea::new() }
     }
-}
 
-impl Library<'_> {
     /// Puts questions in one call.
     pub fn put_all(&mut self, questions: &[Question]) -> Vec<Answer> {
         let asked: Vec<_> = questions.iter().map(asked).collect();
@@ -22,7 +20,7 @@ impl Library<'_> {
     }
 }
 
-impl Answers for Library<'_> {
+impl Answers for Library {
     fn put(&mut self, question: &Question) -> Answer {
         answer(&self.snapshot.find_path_in(&asked(question), &mut self.area))
     }
@@ -35,7 +33,7 @@ fn asked(question: &Question) -> kelumavor::Question {
         .fuel(Question::FUEL)
 }
 
-fn answer(report: &Report<'_>) -> Answer {
+fn answer(report: &Report) -> Answer {
     Answer {
         found: report.path().is_some(),
         charges: report.charges,

@@ -1,7 +1,8 @@
-/* Asks for the path of a function, and prints it. */
+/* Asks for the path of a function, and prints the use line. */
 #include "find_path.h"
 
 #include <stdio.h>
+#include <string.h>
 
 /* A crate of the edition 2021 with a module `a` that holds a function `f`. */
 static const uint32_t words[] = {
@@ -13,34 +14,22 @@ static const size_t words_len = sizeof words / sizeof *words;
 
 static uint32_t area[KELUMAVOR_AREA];
 
-static void print_path(const uint32_t *report, const uint32_t *tables, size_t names)
-{
-    static const char *const prefixes[] = {"", "self", "super", "crate", ""};
-    fputs(prefixes[report[KELUMAVOR_KIND]], stdout);
-    for (uint32_t i = 0; i < report[KELUMAVOR_COUNT]; i++) {
-        uint8_t text[KELUMAVOR_TEXT];
-        size_t n = kelumavor_name(words, words_len, tables, names, report[KELUMAVOR_PATH + i], text, sizeof text);
-        if (i > 0 || report[KELUMAVOR_KIND] != KELUMAVOR_PATH_PLAIN)
-            fputs("::", stdout);
-        if (kelumavor_is_raw(words, words_len, tables, names, report[KELUMAVOR_PATH + i], 2021))
-            fputs("r#", stdout);
-        fwrite(text, 1, n, stdout);
-    }
-    putchar('\n');
-}
-
 int main(void)
 {
+    if (kelumavor_version() != KELUMAVOR_VERSION) {
+        puts("the library was built for another header");
+        return 2;
+    }
     size_t checked[KELUMAVOR_CHECKED];
     if (kelumavor_check(words, words_len, area, KELUMAVOR_AREA, checked) != 0) {
-        printf("refused %zu at word %zu\n", checked[KELUMAVOR_REFUSAL], checked[KELUMAVOR_PLACE]);
+        const size_t number = checked[KELUMAVOR_REFUSAL];
+        printf("refused %zu at word %zu: %s\n", number, checked[KELUMAVOR_PLACE], kelumavor_refusal_text(number));
         return 1;
     }
     /* The answer to a question clears the area, so the tables are kept. */
     uint32_t tables[KELUMAVOR_MOST_NAMES];
-    size_t names = checked[KELUMAVOR_NAMES];
-    for (size_t i = 0; i < names; i++)
-        tables[i] = area[i];
+    const size_t names = checked[KELUMAVOR_NAMES];
+    memcpy(tables, area, names * sizeof *tables);
 
     /* Definition 1, seen from module 0, without options. */
     const uint32_t question[KELUMAVOR_QUESTION] = {
@@ -48,17 +37,19 @@ int main(void)
     };
     uint32_t report[KELUMAVOR_REPORT];
     kelumavor_find_path(words, words_len, area, KELUMAVOR_AREA, question, report, KELUMAVOR_REPORT);
-    switch (report[KELUMAVOR_OUTCOME]) {
-    case KELUMAVOR_FOUND:
-        print_path(report, tables, names);
-        if (report[KELUMAVOR_COUNT] == 0)
-            puts("this is no use line: a keyword alone brings in no name");
+    if (report[KELUMAVOR_OUTCOME] == KELUMAVOR_FOUND) {
+        uint8_t path[KELUMAVOR_PATH_TEXT];
+        const size_t n = kelumavor_path(words, words_len, tables, names, report, question[KELUMAVOR_FROM], path, sizeof path);
+        if (kelumavor_is_use_line(report))
+            printf("use %.*s;\n", (int)n, (const char *)path);
+        else
+            printf("%.*s names the module: a keyword alone is no use line\n", (int)n, (const char *)path);
         return 0;
-    case KELUMAVOR_NONE:
-        puts(report[KELUMAVOR_EMPTY] ? "the fuel ran out" : "there is no path");
-        return 1;
-    default:
-        printf("refused %u\n", report[KELUMAVOR_NUMBER]);
+    }
+    if (report[KELUMAVOR_OUTCOME] == KELUMAVOR_NONE) {
+        puts(report[KELUMAVOR_EMPTY] ? "not known: the fuel ran out" : "there is no path");
         return 1;
     }
+    printf("refused: %s\n", kelumavor_refusal_text(report[KELUMAVOR_NUMBER]));
+    return 1;
 }

@@ -1,4 +1,4 @@
-/* Kelumavor: which path names an item in a module. Link libexports.a, which `rt staticlib exports` writes to target/staticlib/.
+/* Kelumavor: which path names an item in a module. Link libkelumavor.a, which bindings/c/build writes to target/staticlib/.
  *
  * The functions are proved. They keep no state but what the caller lends, may be called from several threads, and take any lengths
  * and numbers. Each pointer must be that of as many elements as the length beside it says, not null even where that is 0, and what a
@@ -13,6 +13,11 @@
 #ifdef __cplusplus
 extern "C" {
 #endif
+
+/* The version of what this header declares: 65,536 times that of the format, plus the words of a report. A library that answers another
+ * number was built for another header: nothing else of it should be called. Takes no area. */
+#define KELUMAVOR_VERSION 65578
+size_t kelumavor_version(void);
 
 /* Words of a work area, at least. */
 #define KELUMAVOR_AREA 16384
@@ -197,9 +202,11 @@ size_t kelumavor_place(uint32_t state[KELUMAVOR_STATE], size_t window, const uin
 /* Serves the next window that waits, counting round from the one after that served last: writes the report that kelumavor_find_path
  * writes for its question on these words, a refusal included, and answers the window, whose question waits no more. The area is left
  * as by kelumavor_find_path. Where no question waits it answers KELUMAVOR_WINDOWS and changes nothing. A question placed is served
- * within eight turns, whatever the other windows place. */
+ * within eight turns, whatever the other windows place. With a report_len below KELUMAVOR_REPORT it answers KELUMAVOR_UNSERVED and changes
+ * nothing. */
+#define KELUMAVOR_UNSERVED 9
 size_t kelumavor_turn(uint32_t state[KELUMAVOR_STATE], const uint32_t *words, size_t words_len, uint32_t *area, size_t area_len,
-                      uint32_t report[KELUMAVOR_REPORT]);
+                      uint32_t *report, size_t report_len);
 
 /* An entry of a module's scope: module, namespace, name, definition, visibility (0 public, 1 crate, 2 module explicit, 3 module
  * implicit) and its number, declared (0 imported, 1 declared there, 2 and 3 the same and deprecated), bits (1 hidden plus 2
@@ -239,6 +246,144 @@ size_t kelumavor_remove_entry(uint32_t *words, size_t words_len, size_t *count, 
  * kelumavor_find_path. */
 size_t kelumavor_import_list(const uint32_t *words, size_t words_len, uint32_t *area, size_t area_len, size_t crate, uint32_t *target,
                              size_t target_len, size_t *count);
+
+/* Who asks for a reach: viewing module, prefix, options, and the fuel and the limit of each search. */
+enum kelumavor_viewer {
+    KELUMAVOR_VIEWER_FROM,
+    KELUMAVOR_VIEWER_PREFIX,
+    KELUMAVOR_VIEWER_OPTIONS,
+    KELUMAVOR_VIEWER_FUEL,
+    KELUMAVOR_VIEWER_LIMIT,
+    KELUMAVOR_VIEWER /* how many */
+};
+
+/* Counts of a reach: items with a path of 0 to 16 names, with a misleading one, without one, without one because the fuel ran out; and the
+ * names of all paths together. */
+enum kelumavor_reach_counts {
+    KELUMAVOR_REACH_FOUND,
+    KELUMAVOR_REACH_MISLEADING = KELUMAVOR_REACH_FOUND + 17,
+    KELUMAVOR_REACH_NONE,
+    KELUMAVOR_REACH_UNKNOWN,
+    KELUMAVOR_REACH_NAMES,
+    KELUMAVOR_REACH /* how many */
+};
+
+/* How much of a snapshot can be named from a module: a search for each distinct item among the scope entries. Writes the counts, and answers 0;
+ * or the number by which the call is refused, with zeros written: those of a question, and 23 for an unknown module. The area is left as by
+ * kelumavor_find_path. */
+size_t kelumavor_reach(const uint32_t *words, size_t words_len, uint32_t *area, size_t area_len,
+                       const uint32_t viewer[KELUMAVOR_VIEWER], size_t counts[KELUMAVOR_REACH]);
+
+/* The functions below are no part of the library and not proved: they are written in terms of it, and tested. */
+
+/* The edition of a module's crate, 0 where accepted words have no such module. Takes no area. */
+static inline size_t kelumavor_edition(const uint32_t *words, size_t words_len, size_t module)
+{
+    size_t map_place = 0, crates_place = 0, crates = 0, modules = 0;
+    for (size_t at = 0; at < words_len; at++) {
+        const uint32_t kind = words[at] >> 28;
+        if (kind == 2 && crates++ == 0)
+            crates_place = at;
+        if (kind == 4)
+            map_place = at;
+        if (kind == 5 && modules++ == module)
+            return words[crates_place + 2 * (size_t)(words[map_place] & 0xFFFFFFF) + 1];
+    }
+    return 0;
+}
+
+/* Bytes of a path as text, at most: sixteen names with r#, and :: between them. */
+#define KELUMAVOR_PATH_TEXT (16 * (KELUMAVOR_TEXT + 4) + 7)
+
+/* Appends bytes where there is room for them, and counts them in any case. */
+static inline size_t kelumavor_append(uint8_t *out, size_t out_len, size_t at, const char *bytes, size_t count)
+{
+    for (size_t i = 0; i < count; i++)
+        if (at + i < out_len)
+            out[at + i] = (uint8_t)bytes[i];
+    return at + count;
+}
+
+/* Writes the path of a report as it stands in the viewing module, keywords of its crate's edition with r#, without an end mark, and answers its
+ * length: KELUMAVOR_PATH_TEXT bytes are always enough, and of a longer text than out_len its first bytes are written. The tables are those of
+ * kelumavor_name, copied before the question was asked. A report without a path has none: the answer is 0. Takes no area. */
+static inline size_t kelumavor_path(const uint32_t *words, size_t words_len, const uint32_t *tables, size_t tables_len,
+                                    const uint32_t report[KELUMAVOR_REPORT], size_t from, uint8_t *out, size_t out_len)
+{
+    static const char *const starts[] = {"", "self", "super", "crate", ""};
+    static const size_t lengths[] = {0, 4, 5, 5, 0};
+    const size_t edition = kelumavor_edition(words, words_len, from);
+    if (report[KELUMAVOR_OUTCOME] != KELUMAVOR_FOUND)
+        return 0;
+    const size_t kind = report[KELUMAVOR_KIND];
+    size_t at = kelumavor_append(out, out_len, 0, starts[kind], lengths[kind]);
+    for (size_t i = 0; i < report[KELUMAVOR_COUNT]; i++) {
+        const size_t name = report[KELUMAVOR_PATH + i];
+        uint8_t text[KELUMAVOR_TEXT];
+        const size_t count = kelumavor_name(words, words_len, tables, tables_len, name, text, sizeof text);
+        if (i > 0 || kind != KELUMAVOR_PATH_PLAIN)
+            at = kelumavor_append(out, out_len, at, "::", 2);
+        if (kelumavor_is_raw(words, words_len, tables, tables_len, name, edition))
+            at = kelumavor_append(out, out_len, at, "r#", 2);
+        at = kelumavor_append(out, out_len, at, (const char *)text, count);
+    }
+    return at;
+}
+
+/* Whether `use`, the path and `;` make a line: not for a keyword alone. */
+static inline bool kelumavor_is_use_line(const uint32_t report[KELUMAVOR_REPORT])
+{
+    return report[KELUMAVOR_OUTCOME] == KELUMAVOR_FOUND && report[KELUMAVOR_COUNT] > 0;
+}
+
+/* What the number of a refusal means, in words; "no refusal" for 0. Takes no area. */
+static inline const char *kelumavor_refusal_text(size_t number)
+{
+    switch (number) {
+    case KELUMAVOR_REFUSED_SMALL_WORK_AREA:
+        return "the work area has fewer than 16,384 words";
+    case KELUMAVOR_REFUSED_TOO_MUCH_FUEL:
+        return "the fuel is above 10,000";
+    case KELUMAVOR_REFUSED_OUT_OF_RANGE:
+        return "the namespace, the prefix or the options are outside their range";
+    case KELUMAVOR_REFUSED_NO_SUCH_ITEM:
+        return "the snapshot has no such definition, module or crate";
+    case KELUMAVOR_REFUSED_NO_MACRO:
+        return "the macros namespace is asked for a definition that is no macro";
+    case KELUMAVOR_REFUSED_TOO_MANY_WORDS:
+        return "more than 16,384 words";
+    case KELUMAVOR_REFUSED_WRONG_KIND:
+        return "an unknown or falling kind, or an argument that is missing or has a kind";
+    case KELUMAVOR_REFUSED_WRONG_FIELD:
+        return "a field outside its range, bits past a name's text, or a builtin with another name";
+    case KELUMAVOR_REFUSED_UNDEFINED:
+        return "the number of a thing that is not defined yet";
+    case KELUMAVOR_REFUSED_REPEATED:
+        return "something that may stand once only is repeated";
+    case KELUMAVOR_REFUSED_MISPLACED:
+        return "a record that does not fit the records before it, or a map or a crate left incomplete";
+    case KELUMAVOR_REFUSED_TOO_MANY_RECORDS:
+        return "more than 64 crates, 512 modules, 2,048 names or 2,048 definitions";
+    case KELUMAVOR_REFUSED_UNKNOWN_EDITION:
+        return "an edition other than 2015, 2018, 2021 and 2024";
+    case KELUMAVOR_REFUSED_BATCH_TOO_LONG:
+        return "more than 64 questions, a part of one, or too few words for their reports";
+    case KELUMAVOR_REFUSED_TARGET_TOO_SHORT:
+        return "a target with fewer words than the import list has";
+    case KELUMAVOR_REFUSED_LIMIT_OUT_OF_RANGE:
+        return "the limit is outside 1 to 15";
+    case KELUMAVOR_REFUSED_ENTRY_THERE_OR_NOT:
+        return "an added name that is there already, or a removal of one that isn't";
+    case KELUMAVOR_REFUSED_NO_ROOM:
+        return "an addition that would pass 16,384 words or the lent slice";
+    case KELUMAVOR_REFUSED_NO_SUCH_WINDOW:
+        return "a window above 7";
+    case KELUMAVOR_REFUSED_WINDOW_WAITS:
+        return "the window has a question that waits already";
+    default:
+        return number == 0 ? "no refusal" : "an unknown refusal";
+    }
+}
 
 #ifdef __cplusplus
 }

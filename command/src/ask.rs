@@ -187,6 +187,7 @@ pub fn meaning(view: &View, question: &Question, report: &Report) -> Option<Stri
             Question::FUEL
         )),
         Outcome::Refused(refusal) => Some(refusal.kind().to_string()),
+        other => Some(format!("an outcome that this command has no words for: {other:?}")),
     }
 }
 
@@ -198,6 +199,7 @@ fn outcome(report: &Report) -> &'static str {
         Outcome::TankEmpty(Some(_)) => "found so far",
         Outcome::TankEmpty(None) => "not known",
         Outcome::Refused(_) => "refused",
+        _ => "unknown",
     }
 }
 

@@ -224,14 +224,14 @@ fn asked(words: &[OsString]) -> Result<Answer, Failure> {
     Ok(Answer::new(status(&report), out))
 }
 
-fn checked_again(words: &[u32]) -> Result<Snapshot<'_>, Failure> {
+fn checked_again(words: &[u32]) -> Result<Snapshot, Failure> {
     Snapshot::check(words).map_err(|refusal| Failure::new(refusal.to_string()))
 }
 
 fn status(report: &Report) -> u8 {
     match report.outcome {
         Outcome::Found(_) | Outcome::TankEmpty(Some(_)) => FINE,
-        Outcome::NoPath | Outcome::TankEmpty(None) | Outcome::Refused(_) => REFUSED,
+        _ => REFUSED,
     }
 }
 

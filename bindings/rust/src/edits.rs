@@ -1,12 +1,14 @@
 //! A snapshot whose scope entries come and go.
 use crate::ids::{DefinitionId, ModuleId, NameId, Namespace};
+use crate::record::{bits, namespace};
 use crate::refusal::Refusal;
 use crate::snapshot::WorkArea;
 use crate::sys;
-use crate::words::{Visibility, bits};
+use crate::words::Visibility;
 
 /// An entry of a module's scope.
 #[derive(Clone, Copy, Debug, PartialEq, Eq, Hash)]
+#[allow(clippy::struct_excessive_bools)]
 pub struct Entry {
     /// The module whose scope it is in.
     pub module: ModuleId,
@@ -29,7 +31,39 @@ pub struct Entry {
 }
 
 impl Entry {
-    fn words(&self) -> [u32; sys::ENTRY] {
+    /// A public entry that its module declares; the fields say what is otherwise.
+    #[must_use]
+    pub fn new(module: ModuleId, namespace: Namespace, name: NameId, definition: DefinitionId) -> Self {
+        Entry {
+            module,
+            namespace,
+            name,
+            definition,
+            visibility: Visibility::Public,
+            declared: true,
+            deprecated: false,
+            hidden: false,
+            unstable: false,
+        }
+    }
+
+    /// The entry of a module with these seven arguments.
+    pub(crate) fn read(module: u32, arguments: &[u32]) -> Option<Self> {
+        let &[ns, name, definition, visibility, number, declared, bits] = arguments else { return None };
+        Some(Entry {
+            module: ModuleId(module),
+            namespace: namespace(ns)?,
+            name: NameId(name),
+            definition: DefinitionId(definition),
+            visibility: Visibility::read(visibility, number)?,
+            declared: declared & 1 == 1,
+            deprecated: declared & 2 == 2,
+            hidden: bits & 1 == 1,
+            unstable: bits & 2 == 2,
+        })
+    }
+
+    pub(crate) fn words(&self) -> [u32; sys::ENTRY] {
         let (kind, number) = self.visibility.numbers();
         let declared = u32::from(self.declared) + 2 * u32::from(self.deprecated);
         let bits = bits(self.hidden, self.unstable);
@@ -50,15 +84,9 @@ impl Entry {
 /// // A crate with a module `a` that holds a function `f`; the root imports `f`.
 /// let mut edited = EditedWords::new(&words);
 /// let entry = Entry {
-///     module: ModuleId(0),
-///     namespace: Namespace::Values,
-///     name: NameId(1),
-///     definition: DefinitionId(1),
 ///     visibility: Visibility::Implicit(ModuleId(0)),
 ///     declared: false,
-///     deprecated: false,
-///     hidden: false,
-///     unstable: false,
+///     ..Entry::new(ModuleId(0), Namespace::Values, NameId(1), DefinitionId(1))
 /// };
 /// edited.add(&entry)?;
 /// let question = Question::new(Namespace::Values, DefinitionId(1), ModuleId(0));
@@ -76,6 +104,7 @@ pub struct EditedWords {
 
 impl EditedWords {
     /// The words of a snapshot, with room for as many more as a snapshot may have. They are checked by each edit.
+    #[must_use]
     pub fn new(words: &[u32]) -> Self {
         let mut slice = words.to_vec();
         slice.resize(words.len().max(WorkArea::WORDS), 0);
@@ -83,6 +112,7 @@ impl EditedWords {
     }
 
     /// The words of the snapshot as they are now.
+    #[must_use]
     pub fn words(&self) -> &[u32] {
         &self.slice[..self.count]
     }
@@ -113,6 +143,6 @@ impl EditedWords {
 fn refusal(number: usize) -> Result<(), Refusal> {
     match number {
         0 => Ok(()),
-        number => Err(Refusal::new(number as u32, None)),
+        number => Err(Refusal::by(number, None)),
     }
 }

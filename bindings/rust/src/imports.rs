@@ -1,5 +1,6 @@
 //! Import lists, built from the maps.
 use crate::ids::{CrateId, DefinitionId, ModuleId, NameId, Namespace};
+use crate::record::namespace;
 use crate::refusal::{Refusal, RefusalKind};
 use crate::snapshot::{Snapshot, WorkArea};
 use crate::sys;
@@ -21,6 +22,21 @@ pub struct Import {
     pub unstable: bool,
 }
 
+impl Import {
+    /// The import with these five arguments.
+    pub(crate) fn read(arguments: &[u32]) -> Option<Self> {
+        let &[ns, definition, name, container, bits] = arguments else { return None };
+        Some(Import {
+            namespace: namespace(ns)?,
+            definition: DefinitionId(definition),
+            name: NameId(name),
+            container: ModuleId(container),
+            hidden: bits & 1 == 1,
+            unstable: bits & 2 == 2,
+        })
+    }
+}
+
 /// The import list of a crate, in the order in which rust-analyzer adds its imports.
 #[derive(Clone, Debug, PartialEq, Eq)]
 pub struct ImportList {
@@ -30,33 +46,24 @@ pub struct ImportList {
 
 impl ImportList {
     /// The crate whose list it is.
+    #[must_use]
     pub fn krate(&self) -> CrateId {
         self.krate
     }
 
     /// The import records, as they stand in a snapshot.
+    #[must_use]
     pub fn words(&self) -> &[u32] {
         &self.words
     }
 
     /// The imports.
     pub fn imports(&self) -> impl Iterator<Item = Import> + '_ {
-        self.words.chunks_exact(sys::IMPORT).map(|record| Import {
-            namespace: match record[1] {
-                0 => Namespace::Types,
-                1 => Namespace::Values,
-                _ => Namespace::Macros,
-            },
-            definition: DefinitionId(record[2]),
-            name: NameId(record[3]),
-            container: ModuleId(record[4]),
-            hidden: record[5] & 1 == 1,
-            unstable: record[5] & 2 == 2,
-        })
+        self.words.chunks_exact(sys::IMPORT).filter_map(|record| Import::read(&record[1..]))
     }
 }
 
-impl Snapshot<'_> {
+impl Snapshot {
     /// Builds the import list of a crate from the scope entries and members of the snapshot, as rust-analyzer's `collect_import_map` does.
     /// The list may be longer than a snapshot has room for.
     ///
@@ -94,8 +101,10 @@ impl Snapshot<'_> {
                     words.truncate(count);
                     return Ok(ImportList { krate, words });
                 }
-                Err(number) if number == RefusalKind::TargetTooShort.number() as usize => words.resize(words.len() * 4, 0),
-                Err(number) => return Err(Refusal::new(number as u32, None)),
+                Err(number) if number == RefusalKind::TargetTooShort.number() as usize => {
+                    words.resize(words.len() * 4, 0);
+                }
+                Err(number) => return Err(Refusal::by(number, None)),
             }
         }
     }
@@ -125,8 +134,8 @@ pub fn with_import_lists(words: &[u32]) -> Result<Vec<u32>, Refusal> {
     let place = |kind: u32| words.iter().position(|word| word >> 28 >= kind).unwrap_or(words.len());
     let (from, to) = (place(10), place(11));
     let mut finished = words[..from].to_vec();
-    for number in 0..snapshot.counts().crates {
-        let list = snapshot.import_list_in(CrateId(number as u32), area)?;
+    for (_, number) in (0..snapshot.counts().crates).zip(0..) {
+        let list = snapshot.import_list_in(CrateId(number), area)?;
         finished.extend_from_slice(list.words());
         if WorkArea::WORDS < finished.len() {
             return Err(Refusal::new(RefusalKind::TooManyWords.number(), Some(WorkArea::WORDS)));

@@ -8,20 +8,21 @@
 //! the fuel ran out before the search was through, which says nothing about the item.
 //!
 //! ```
-//! use kelumavor::{Namespace, Outcome, Question, Snapshot, SnapshotWords, Visibility};
+//! use kelumavor::record::{Crate, Map};
+//! use kelumavor::{Entry, Namespace, Outcome, Question, Snapshot, SnapshotWords};
 //!
 //! // A crate with a module `a` that holds a function `f`.
 //! let mut words = SnapshotWords::new();
-//! let [a, f] = ["a", "f"].map(|text| words.name(text));
-//! let krate = words.krate(Default::default(), false, Default::default());
-//! let map = words.map(krate, None, false);
+//! let krate = words.add_crate(Crate::default());
+//! let map = words.add_map(Map { krate, block_in: None, no_std: false });
 //! let root = words.module(map, None);
 //! let module = words.module(map, Some(root));
 //! words.child(root, module);
 //! let a_module = words.module_definition(module);
 //! let f_function = words.other_definition(module);
-//! words.scope(root, Namespace::Types, a, a_module, Visibility::Public, true);
-//! words.scope(module, Namespace::Values, f, f_function, Visibility::Public, true);
+//! let [a, f] = ["a", "f"].map(|text| words.name(text));
+//! words.add_entry(Entry::new(root, Namespace::Types, a, a_module));
+//! words.add_entry(Entry::new(module, Namespace::Values, f, f_function));
 //!
 //! let snapshot = Snapshot::check(words.as_words())?;
 //! let report = snapshot.find_path(&Question::new(Namespace::Values, f_function, root));
@@ -30,6 +31,7 @@
 //!     Outcome::NoPath => panic!("the function cannot be named here"),
 //!     Outcome::TankEmpty(_) => panic!("not known: the search needs more fuel"),
 //!     Outcome::Refused(refusal) => return Err(refusal),
+//!     other => panic!("nothing is known of {other:?}"),
 //! }
 //! # Ok::<(), kelumavor::Refusal>(())
 //! ```
@@ -40,24 +42,29 @@ mod ids;
 mod imports;
 mod path;
 mod question;
+mod reach;
+pub mod record;
 mod refusal;
 mod report;
 mod route;
 mod snapshot;
 mod sys;
 mod text;
+mod version;
 mod windows;
 mod words;
 
 pub use edits::{EditedWords, Entry};
 pub use ids::{CrateId, DefinitionId, MapId, ModuleId, NameId, Namespace};
 pub use imports::{Import, ImportList, with_import_lists};
-pub use path::{Names, Path, PathKind};
+pub use path::{Path, PathKind};
 pub use question::{Options, Prefix, Question};
+pub use reach::{Reach, Viewer};
 pub use refusal::{Refusal, RefusalKind};
 pub use report::{FirstEmpty, Outcome, Report};
 pub use route::{Rule, Step};
 pub use snapshot::{Counts, Snapshot, WorkArea};
 pub use text::Text;
+pub use version::VERSION;
 pub use windows::Windows;
 pub use words::{Edition, MemberKind, Origin, SnapshotWords, Visibility};

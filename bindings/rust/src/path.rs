@@ -1,5 +1,6 @@
 //! A path.
 use std::fmt;
+use std::hash::{Hash, Hasher};
 
 use crate::ids::{ModuleId, NameId};
 use crate::route::Step;
@@ -58,120 +59,105 @@ impl fmt::Display for PathKind {
 }
 
 /// A path that names the item of a question. It prints as it would stand in the viewing module, keywords of its crate's edition with
-/// `r#`.
+/// `r#`. It outlives its snapshot.
 #[derive(Clone)]
-pub struct Path<'s> {
-    snapshot: &'s Snapshot<'s>,
-    from: ModuleId,
+pub struct Path {
     kind: PathKind,
-    names: [u32; Path::NAMES],
-    count: usize,
-    route: [u32; Path::STEPS],
-    steps: usize,
+    ids: Box<[NameId]>,
+    names: Box<[Text]>,
+    /// The names as they are written in the viewing module.
+    written: Box<[Vec<u8>]>,
+    route: Box<[Step]>,
 }
 
-impl<'s> Path<'s> {
+impl Path {
     /// Names of a path, at most.
     pub const NAMES: usize = 16;
 
     /// Steps of its route, at most.
     pub const STEPS: usize = 17;
 
-    pub(crate) fn new(
-        snapshot: &'s Snapshot<'s>,
-        from: ModuleId,
-        kind: u32,
-        names: [u32; Path::NAMES],
-        count: u32,
-        route: [u32; Path::STEPS],
-        steps: u32,
-    ) -> Self {
-        let kind = PathKind::from_number(kind);
-        Path { snapshot, from, kind, names, count: count as usize, route, steps: steps as usize }
+    /// The path of a report on a question that was asked from a module.
+    pub(crate) fn new(snapshot: &Snapshot, from: ModuleId, kind: u32, names: &[u32], route: &[u32]) -> Self {
+        let ids = || names.iter().map(|name| NameId(*name));
+        let text = |name: NameId| snapshot.name(name).expect("a path has names of its snapshot");
+        Path {
+            kind: PathKind::from_number(kind),
+            ids: ids().collect(),
+            names: ids().map(text).collect(),
+            written: ids().map(|name| snapshot.written(name, from)).collect(),
+            route: route.iter().map(|word| Step::new(*word)).collect(),
+        }
     }
 
     /// What it begins with.
+    #[must_use]
     pub fn kind(&self) -> PathKind {
         self.kind
     }
 
-    /// The numbers of its names.
+    /// The numbers of its names in its snapshot.
+    #[must_use]
     pub fn ids(&self) -> impl ExactSizeIterator<Item = NameId> + '_ {
-        self.names[..self.count].iter().map(|name| NameId(*name))
+        self.ids.iter().copied()
     }
 
     /// The texts of its names, without `r#`.
-    pub fn names(&self) -> Names<'_> {
-        Names { snapshot: self.snapshot, names: self.names[..self.count].iter() }
+    #[must_use]
+    pub fn names(&self) -> impl ExactSizeIterator<Item = &Text> + '_ {
+        self.names.iter()
     }
 
     /// Its names as they are written in the viewing module, keywords with `r#`.
-    pub fn written(&self) -> impl ExactSizeIterator<Item = Vec<u8>> + '_ {
-        self.ids().map(|name| self.snapshot.written(name, self.from))
+    pub fn written(&self) -> impl ExactSizeIterator<Item = &[u8]> + '_ {
+        self.written.iter().map(Vec::as_slice)
     }
 
     /// How it came about: a step for its start, which is a keyword without names, or its first name with any prefix; then one for
     /// each further name.
+    #[must_use]
     pub fn route(&self) -> impl ExactSizeIterator<Item = Step> + '_ {
-        self.route[..self.steps].iter().map(|word| Step::new(*word))
+        self.route.iter().copied()
+    }
+
+    /// Whether `use` and the path make a line: not where it is `self`, `super` or `crate` alone, which brings in no name.
+    #[must_use]
+    pub fn is_use_line(&self) -> bool {
+        !self.ids.is_empty()
     }
 
     /// The path as the path printer prints it.
+    #[must_use]
     pub fn to_bytes(&self) -> Vec<u8> {
-        let mut parts: Vec<Vec<u8>> = self.kind.part().map(|part| part.into()).into_iter().collect();
+        let mut parts: Vec<&[u8]> = self.kind.part().map(str::as_bytes).into_iter().collect();
         parts.extend(self.written());
         parts.join(&b"::"[..])
     }
 }
 
 /// Paths are the same where they are written the same and came about in the same way, also of two snapshots.
-impl PartialEq for Path<'_> {
+impl PartialEq for Path {
     fn eq(&self, other: &Self) -> bool {
-        self.kind == other.kind && self.written().eq(other.written()) && self.route().eq(other.route())
+        self.kind == other.kind && self.written == other.written && self.route == other.route
     }
 }
 
-impl Eq for Path<'_> {}
+impl Eq for Path {}
 
-impl<'p> IntoIterator for &'p Path<'_> {
-    type Item = Text;
-    type IntoIter = Names<'p>;
-
-    fn into_iter(self) -> Names<'p> {
-        self.names()
+impl Hash for Path {
+    fn hash<H: Hasher>(&self, state: &mut H) {
+        (self.kind, &self.written, &self.route).hash(state);
     }
 }
 
-impl fmt::Display for Path<'_> {
+impl fmt::Display for Path {
     fn fmt(&self, f: &mut fmt::Formatter<'_>) -> fmt::Result {
         f.pad(&String::from_utf8_lossy(&self.to_bytes()))
     }
 }
 
-impl fmt::Debug for Path<'_> {
+impl fmt::Debug for Path {
     fn fmt(&self, f: &mut fmt::Formatter<'_>) -> fmt::Result {
         write!(f, "Path({self})")
     }
 }
-
-/// The texts of a path's names.
-#[derive(Clone, Debug)]
-pub struct Names<'p> {
-    snapshot: &'p Snapshot<'p>,
-    names: std::slice::Iter<'p, u32>,
-}
-
-impl Iterator for Names<'_> {
-    type Item = Text;
-
-    fn next(&mut self) -> Option<Text> {
-        let name = NameId(*self.names.next()?);
-        Some(self.snapshot.name(name).expect("a path has names of its snapshot"))
-    }
-
-    fn size_hint(&self) -> (usize, Option<usize>) {
-        self.names.size_hint()
-    }
-}
-
-impl ExactSizeIterator for Names<'_> {}

@@ -16,6 +16,7 @@ pub enum Prefix {
 
 /// What is preferred, allowed or left out.
 #[derive(Clone, Copy, Debug, Default, PartialEq, Eq, Hash)]
+#[allow(clippy::struct_excessive_bools)]
 pub struct Options {
     /// Paths through `core` and `alloc` before those through `std`.
     pub prefer_no_std: bool,
@@ -32,7 +33,7 @@ pub struct Options {
 }
 
 impl Options {
-    fn bits(self) -> u32 {
+    pub(crate) fn bits(self) -> u32 {
         u32::from(self.prefer_no_std)
             + 2 * u32::from(self.prefer_prelude)
             + 4 * u32::from(self.prefer_absolute)
@@ -69,6 +70,7 @@ impl Question {
     pub const LIMIT: u32 = 15;
 
     /// A question with a plain prefix, no options, all the fuel and the largest limit.
+    #[must_use]
     pub fn new(namespace: Namespace, definition: DefinitionId, from: ModuleId) -> Self {
         Question {
             namespace,

@@ -81,11 +81,13 @@ impl RefusalKind {
     ];
 
     /// The reason with a number.
+    #[must_use]
     pub fn from_number(number: u32) -> Option<Self> {
         Self::ALL.into_iter().find(|kind| kind.number() == number)
     }
 
     /// Its number.
+    #[must_use]
     pub fn number(self) -> u32 {
         self as u32
     }
@@ -144,12 +146,19 @@ impl Refusal {
         Refusal { kind, place }
     }
 
+    /// The same, by a number that the library answers as one of the machine's size.
+    pub(crate) fn by(number: usize, place: Option<usize>) -> Self {
+        Self::new(number.try_into().unwrap_or(u32::MAX), place)
+    }
+
     /// The reason.
+    #[must_use]
     pub fn kind(&self) -> RefusalKind {
         self.kind
     }
 
     /// The word at which the refused record begins, or the number of words for what shows only after the last.
+    #[must_use]
     pub fn place(&self) -> Option<usize> {
         self.place
     }

@@ -9,15 +9,16 @@ use crate::sys;
 
 /// What a question came to.
 #[derive(Clone, Debug, PartialEq, Eq)]
-pub enum Outcome<'s> {
+#[non_exhaustive]
+pub enum Outcome {
     /// The path of a search that went through.
-    Found(Path<'s>),
+    Found(Path),
     /// A search that went through, and there is no path. With a limit below [`Question::LIMIT`](crate::Question::LIMIT) that is a fact
     /// about paths of that length alone: a longer one may be there.
     NoPath,
     /// The fuel ran out before the search was through. A path that was found so far names the item, but a whole search may
     /// find another; without one, nothing is known.
-    TankEmpty(Option<Path<'s>>),
+    TankEmpty(Option<Path>),
     /// There was no search.
     Refused(Refusal),
 }
@@ -61,24 +62,23 @@ pub struct FirstEmpty {
 /// # Ok::<(), kelumavor::Refusal>(())
 /// ```
 #[derive(Clone, Debug, PartialEq, Eq)]
-pub struct Report<'s> {
+pub struct Report {
     /// What the question came to.
-    pub outcome: Outcome<'s>,
+    pub outcome: Outcome,
     /// Charges that the search made; 0 where the question was refused.
     pub charges: u32,
     /// There exactly where the outcome is [`Outcome::TankEmpty`].
     pub first_empty: Option<FirstEmpty>,
 }
 
-impl<'s> Report<'s> {
+impl Report {
     /// The report on a question that was asked from a module.
-    pub(crate) fn new(snapshot: &'s Snapshot<'s>, from: ModuleId, words: [u32; sys::REPORT]) -> Self {
+    pub(crate) fn new(snapshot: &Snapshot, from: ModuleId, words: [u32; sys::REPORT]) -> Self {
         let [outcome, number, kind, rest @ ..] = words;
         let (names, rest) = rest.split_at(Path::NAMES);
-        let names = names.try_into().expect("sixteen names");
         let [count, charges, empty, left, sought, steps, route @ ..]: [u32; 6 + Path::STEPS] =
             rest.try_into().expect("as many as a report has");
-        let path = || Path::new(snapshot, from, kind, names, count, route, steps);
+        let path = || Path::new(snapshot, from, kind, &names[..count as usize], &route[..steps as usize]);
         let outcome = match (outcome, empty) {
             (0, 0) => Outcome::Found(path()),
             (1, 0) => Outcome::NoPath,
@@ -92,7 +92,8 @@ impl<'s> Report<'s> {
     }
 
     /// The path of a search that went through, or the one found so far where the fuel ran out.
-    pub fn path(&self) -> Option<&Path<'s>> {
+    #[must_use]
+    pub fn path(&self) -> Option<&Path> {
         match &self.outcome {
             Outcome::Found(path) | Outcome::TankEmpty(Some(path)) => Some(path),
             _ => None,
@@ -100,7 +101,18 @@ impl<'s> Report<'s> {
     }
 }
 
-impl fmt::Display for Report<'_> {
+impl Report {
+    /// Why there was no search.
+    #[must_use]
+    pub fn refusal(&self) -> Option<Refusal> {
+        match &self.outcome {
+            Outcome::Refused(refusal) => Some(*refusal),
+            _ => None,
+        }
+    }
+}
+
+impl fmt::Display for Report {
     fn fmt(&self, f: &mut fmt::Formatter<'_>) -> fmt::Result {
         let charges = self.charges;
         match &self.outcome {

@@ -1,10 +1,12 @@
 //! A checked snapshot.
 use crate::ids::{ModuleId, NameId};
 use crate::question::Question;
-use crate::refusal::Refusal;
+use crate::record::Record;
+use crate::refusal::{Refusal, RefusalKind};
 use crate::report::Report;
 use crate::sys;
 use crate::text::Text;
+use crate::words::Edition;
 
 /// Words that the library works in. A call needs one, and leaves nothing in it that a later call reads.
 pub struct WorkArea(Box<[u32]>);
@@ -14,6 +16,7 @@ impl WorkArea {
     pub const WORDS: usize = 16384;
 
     /// An area of that many words.
+    #[must_use]
     pub fn new() -> Self {
         WorkArea(vec![0; Self::WORDS].into_boxed_slice())
     }
@@ -53,33 +56,48 @@ pub struct Counts {
     pub members: usize,
 }
 
-/// The words of a snapshot that the check accepted.
-#[derive(Clone, Debug)]
-pub struct Snapshot<'w> {
-    words: &'w [u32],
+/// A snapshot that the check accepted.
+#[derive(Clone, PartialEq, Eq)]
+pub struct Snapshot {
+    words: Box<[u32]>,
     /// Where each name begins, as the check found it.
     heads: Box<[u32]>,
     counts: Counts,
     /// The edition of each module's crate.
-    editions: Box<[u32]>,
+    editions: Box<[Edition]>,
 }
 
-/// The edition of each module's crate, of words that the check accepted. Arguments have no kind, so each other word is a head.
-fn editions(words: &[u32]) -> Box<[u32]> {
+impl std::fmt::Debug for Snapshot {
+    fn fmt(&self, f: &mut std::fmt::Formatter<'_>) -> std::fmt::Result {
+        f.debug_struct("Snapshot").field("counts", &self.counts).finish_non_exhaustive()
+    }
+}
+
+/// The edition of each module's crate, of words that the check accepted.
+fn editions(words: &[u32]) -> Box<[Edition]> {
     let (mut crates, mut maps, mut modules) = (Vec::new(), Vec::new(), Vec::new());
-    for (at, word) in words.iter().enumerate() {
-        let payload = (word & 0x0FFF_FFFF) as usize;
-        match word >> 28 {
-            2 => crates.push(words[at + 1]),
-            4 => maps.push(crates[payload]),
-            5 => modules.push(maps[payload]),
+    for (_, record) in records(words) {
+        match record {
+            Record::Crate(krate) => crates.push(krate.edition),
+            Record::Map(map) => maps.push(crates[map.krate.0 as usize]),
+            Record::Module(module) => modules.push(maps[module.map.0 as usize]),
             _ => (),
         }
     }
     modules.into()
 }
 
-impl<'w> Snapshot<'w> {
+/// The records of words that the check accepted, with their places.
+fn records(words: &[u32]) -> impl Iterator<Item = (usize, Record)> + '_ {
+    let mut place = 0;
+    std::iter::from_fn(move || {
+        let (record, count) = Record::read(words.get(place..)?)?;
+        place += count;
+        Some((place - count, record))
+    })
+}
+
+impl Snapshot {
     /// Checks the words.
     ///
     /// # Errors
@@ -98,7 +116,7 @@ impl<'w> Snapshot<'w> {
     /// );
     /// # Ok::<(), kelumavor::Refusal>(())
     /// ```
-    pub fn check(words: &'w [u32]) -> Result<Self, Refusal> {
+    pub fn check(words: &[u32]) -> Result<Self, Refusal> {
         Self::check_in(words, &mut WorkArea::new())
     }
 
@@ -107,10 +125,10 @@ impl<'w> Snapshot<'w> {
     /// # Errors
     ///
     /// Those of [`Snapshot::check`].
-    pub fn check_in(words: &'w [u32], area: &mut WorkArea) -> Result<Self, Refusal> {
+    pub fn check_in(words: &[u32], area: &mut WorkArea) -> Result<Self, Refusal> {
         let [number, place, counts @ ..] = sys::check(words, &mut area.0);
         if number != 0 {
-            return Err(Refusal::new(number as u32, Some(place)));
+            return Err(Refusal::by(number, Some(place)));
         }
         let [
             names,
@@ -140,23 +158,73 @@ impl<'w> Snapshot<'w> {
             externs,
             members,
         };
-        Ok(Snapshot { words, heads: area.0[..names].into(), counts, editions: editions(words) })
+        Ok(Snapshot { words: words.into(), heads: area.0[..names].into(), counts, editions: editions(words) })
+    }
+
+    /// Checks words that stand in bytes, the lowest byte first.
+    ///
+    /// # Errors
+    ///
+    /// Those of [`Snapshot::check`], and 41 for bytes that are no whole words.
+    ///
+    /// ```
+    /// # use kelumavor::{RefusalKind, Snapshot};
+    /// assert_eq!(Snapshot::from_bytes(&[1, 0, 0, 0x10, b'a', 0, 0, 0])?.counts().names, 1);
+    /// assert_eq!(Snapshot::from_bytes(&[1, 0]).unwrap_err().kind(), RefusalKind::InputNotWords);
+    /// # Ok::<(), kelumavor::Refusal>(())
+    /// ```
+    pub fn from_bytes(bytes: &[u8]) -> Result<Self, Refusal> {
+        let (words, rest) = bytes.as_chunks();
+        if !rest.is_empty() {
+            return Err(Refusal::new(RefusalKind::InputNotWords.number(), Some(words.len())));
+        }
+        let words: Vec<u32> = words.iter().map(|word| u32::from_le_bytes(*word)).collect();
+        Self::check(&words)
     }
 
     /// The words that were checked.
-    pub fn words(&self) -> &'w [u32] {
-        self.words
+    #[must_use]
+    pub fn words(&self) -> &[u32] {
+        &self.words
+    }
+
+    /// The record that begins at a word, such as one of a path's route; none where no record does.
+    ///
+    /// ```
+    /// use kelumavor::record::{Module, Record};
+    /// use kelumavor::{MapId, ModuleId, Snapshot};
+    ///
+    /// # let words = [
+    /// #     0x10000001, 0x61, 0x10000001, 0x66, 0x20000000, 2021, 0x40000000, 0, 0, 0x50000000, 0, 0x50000000, 1, 0x60000000, 1,
+    /// #     0x80000001, 1, 0, 0x80000004, 1, 0, 0x90000000, 0, 0, 0, 0, 0, 1, 0, 0x90000001, 1, 1, 1, 0, 0, 1, 0,
+    /// # ];
+    /// // A crate with a module `a` that holds a function `f`.
+    /// let snapshot = Snapshot::check(&words)?;
+    /// assert_eq!(snapshot.record_at(11), Some(Record::Module(Module { map: MapId(0), parent: Some(ModuleId(0)) })));
+    /// assert_eq!(snapshot.record_at(12), None);
+    /// # Ok::<(), kelumavor::Refusal>(())
+    /// ```
+    #[must_use]
+    pub fn record_at(&self, place: usize) -> Option<Record> {
+        Some(Record::read(self.words.get(place..)?)?.0)
+    }
+
+    /// The records, each with the word at which it begins.
+    pub fn records(&self) -> impl Iterator<Item = (usize, Record)> + '_ {
+        records(&self.words)
     }
 
     /// How many records there are.
+    #[must_use]
     pub fn counts(&self) -> &Counts {
         &self.counts
     }
 
     /// The text of a name, where the snapshot has that name.
+    #[must_use]
     pub fn name(&self, name: NameId) -> Option<Text> {
         let mut bytes = vec![0; Text::LIMIT];
-        let length = sys::name(self.words, &self.heads, name.0 as usize, &mut bytes);
+        let length = sys::name(&self.words, &self.heads, name.0 as usize, &mut bytes);
         if length == 0 {
             return None;
         }
@@ -165,7 +233,8 @@ impl<'w> Snapshot<'w> {
     }
 
     /// The edition of a module's crate, where the snapshot has that module.
-    pub fn edition(&self, module: ModuleId) -> Option<u32> {
+    #[must_use]
+    pub fn edition(&self, module: ModuleId) -> Option<Edition> {
         self.editions.get(module.0 as usize).copied()
     }
 
@@ -173,19 +242,20 @@ impl<'w> Snapshot<'w> {
     pub(crate) fn written(&self, name: NameId, from: ModuleId) -> Vec<u8> {
         let edition = self.edition(from).expect("a path is seen from a module of its snapshot");
         let Text(text) = self.name(name).expect("a path has names of its snapshot");
-        let raw = sys::is_raw(self.words, &self.heads, name.0 as usize, edition as usize);
+        let raw = sys::is_raw(&self.words, &self.heads, name.0 as usize, edition as usize);
         if raw { [b"r#", &text[..]].concat() } else { text }
     }
 
     /// Answers a question. The library keeps nothing between calls, so it checks the words again; [`Snapshot::find_paths`]
     /// checks them once for several questions.
-    pub fn find_path(&self, question: &Question) -> Report<'_> {
+    #[must_use]
+    pub fn find_path(&self, question: &Question) -> Report {
         self.find_path_in(question, &mut WorkArea::new())
     }
 
     /// Answers a question in a work area of the caller's.
-    pub fn find_path_in(&self, question: &Question, area: &mut WorkArea) -> Report<'_> {
-        Report::new(self, question.from, sys::find_path(self.words, &mut area.0, &question.words()))
+    pub fn find_path_in(&self, question: &Question, area: &mut WorkArea) -> Report {
+        Report::new(self, question.from, sys::find_path(&self.words, &mut area.0, &question.words()))
     }
 
     /// Answers questions in order, each as [`Snapshot::find_path`] does, a refused one included. The library takes them by 64,
@@ -206,16 +276,17 @@ impl<'w> Snapshot<'w> {
     /// assert_eq!(lines, ["found a::f 1 0", "refused 21 0 0", "none - 0 1"]);
     /// # Ok::<(), kelumavor::Refusal>(())
     /// ```
-    pub fn find_paths(&self, questions: &[Question]) -> Vec<Report<'_>> {
+    #[must_use]
+    pub fn find_paths(&self, questions: &[Question]) -> Vec<Report> {
         self.find_paths_in(questions, &mut WorkArea::new())
     }
 
     /// Answers questions in order in a work area of the caller's.
-    pub fn find_paths_in(&self, questions: &[Question], area: &mut WorkArea) -> Vec<Report<'_>> {
+    pub fn find_paths_in(&self, questions: &[Question], area: &mut WorkArea) -> Vec<Report> {
         let mut reports = Vec::with_capacity(questions.len());
         for call in questions.chunks(sys::QUESTIONS) {
             let asked: Vec<_> = call.iter().map(Question::words).collect();
-            let told = sys::find_paths(self.words, &mut area.0, &asked);
+            let told = sys::find_paths(&self.words, &mut area.0, &asked);
             let answered = call.iter().zip(told);
             reports.extend(answered.map(|(question, words)| Report::new(self, question.from, words)));
         }

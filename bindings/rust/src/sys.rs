@@ -1,14 +1,13 @@
 //! The functions of the static library. They keep no state but what is lent to them, and take any lengths and numbers; a slice is a
 //! pointer and a length.
 
+pub use crate::version::REPORT;
+
 /// Numbers that the check answers: the refusal, its place, and a count for each of the twelve kinds of records.
 pub const CHECKED: usize = 14;
 
 /// Words of a question.
 pub const QUESTION: usize = 7;
-
-/// Words of a report.
-pub const REPORT: usize = 42;
 
 /// Questions of a call, at most.
 pub const QUESTIONS: usize = 64;
@@ -24,6 +23,12 @@ pub const IMPORT: usize = 6;
 
 /// Words of an entry of a scope.
 pub const ENTRY: usize = 8;
+
+/// Words of who asks for a reach.
+pub const VIEWER: usize = 5;
+
+/// Counts of a reach.
+pub const REACH: usize = 21;
 
 mod raw {
     unsafe extern "C" {
@@ -87,7 +92,8 @@ mod raw {
             words_len: usize,
             area: *mut u32,
             area_len: usize,
-            report: *mut [u32; super::REPORT],
+            report: *mut u32,
+            report_len: usize,
         ) -> usize;
 
         pub fn kelumavor_add_entry(
@@ -120,13 +126,22 @@ mod raw {
             target_len: usize,
             count: *mut usize,
         ) -> usize;
+
+        pub fn kelumavor_reach(
+            words: *const u32,
+            words_len: usize,
+            area: *mut u32,
+            area_len: usize,
+            viewer: *const [u32; super::VIEWER],
+            counts: *mut [usize; super::REACH],
+        ) -> usize;
     }
 }
 
 pub fn check(words: &[u32], area: &mut [u32]) -> [usize; CHECKED] {
     let mut answer = [0; CHECKED];
     // SAFETY: each pointer and length is that of a reference, and the references do not overlap.
-    unsafe { raw::kelumavor_check(words.as_ptr(), words.len(), area.as_mut_ptr(), area.len(), &mut answer) };
+    unsafe { raw::kelumavor_check(words.as_ptr(), words.len(), area.as_mut_ptr(), area.len(), &raw mut answer) };
     answer
 }
 
@@ -199,8 +214,17 @@ pub fn place(state: &mut [u32; STATE], window: usize, question: &[u32; QUESTION]
 pub fn turn(state: &mut [u32; STATE], words: &[u32], area: &mut [u32]) -> Option<(usize, [u32; REPORT])> {
     let mut report = [0; REPORT];
     // SAFETY: as in `check`.
-    let window =
-        unsafe { raw::kelumavor_turn(state, words.as_ptr(), words.len(), area.as_mut_ptr(), area.len(), &mut report) };
+    let window = unsafe {
+        raw::kelumavor_turn(
+            state,
+            words.as_ptr(),
+            words.len(),
+            area.as_mut_ptr(),
+            area.len(),
+            report.as_mut_ptr(),
+            report.len(),
+        )
+    };
     (window < WINDOWS).then_some((window, report))
 }
 
@@ -241,8 +265,18 @@ pub fn import_list(words: &[u32], area: &mut [u32], krate: usize, target: &mut [
             krate,
             target.as_mut_ptr(),
             target.len(),
-            &mut count,
+            &raw mut count,
         )
     };
     if refusal == 0 { Ok(count) } else { Err(refusal) }
+}
+
+/// The counts, or the number of the refusal.
+pub fn reach(words: &[u32], area: &mut [u32], viewer: &[u32; VIEWER]) -> Result<[usize; REACH], usize> {
+    let mut counts = [0; REACH];
+    // SAFETY: as in `check`.
+    let refusal = unsafe {
+        raw::kelumavor_reach(words.as_ptr(), words.len(), area.as_mut_ptr(), area.len(), viewer, &raw mut counts)
+    };
+    if refusal == 0 { Ok(counts) } else { Err(refusal) }
 }

@@ -11,6 +11,7 @@ impl Text {
     pub const LIMIT: usize = 255;
 
     /// The bytes, which may be any.
+    #[must_use]
     pub fn as_bytes(&self) -> &[u8] {
         &self.0
     }

@@ -40,6 +40,7 @@ impl Windows {
     pub const COUNT: usize = sys::WINDOWS;
 
     /// No question waits, and the first turn counts from window 0.
+    #[must_use]
     pub fn new() -> Self {
         Windows { state: [0; sys::STATE] }
     }
@@ -52,18 +53,18 @@ impl Windows {
     pub fn place(&mut self, window: usize, question: &Question) -> Result<(), Refusal> {
         match sys::place(&mut self.state, window, &question.words()) {
             0 => Ok(()),
-            number => Err(Refusal::new(number as u32, None)),
+            number => Err(Refusal::by(number, None)),
         }
     }
 
     /// Serves the next window that waits, counting round from the one after that served last: the window, and the report of its
     /// question on this snapshot. `None` where no question waits.
-    pub fn turn<'s>(&mut self, snapshot: &'s Snapshot<'s>) -> Option<(usize, Report<'s>)> {
+    pub fn turn(&mut self, snapshot: &Snapshot) -> Option<(usize, Report)> {
         self.turn_in(snapshot, &mut WorkArea::new())
     }
 
     /// Serves the next window in a work area of the caller's.
-    pub fn turn_in<'s>(&mut self, snapshot: &'s Snapshot<'s>, area: &mut WorkArea) -> Option<(usize, Report<'s>)> {
+    pub fn turn_in(&mut self, snapshot: &Snapshot, area: &mut WorkArea) -> Option<(usize, Report)> {
         let before = self.state;
         let (window, report) = sys::turn(&mut self.state, snapshot.words(), area.words())?;
         let from = ModuleId(before[1 + window * (1 + sys::QUESTION) + 3]);

@@ -1,6 +1,12 @@
 //! Writing the words of a snapshot.
+use std::cell::OnceCell;
+use std::collections::HashMap;
+
+use crate::edits::Entry;
 use crate::ids::{CrateId, DefinitionId, MapId, ModuleId, NameId, Namespace};
-use crate::refusal::Refusal;
+use crate::imports::Import;
+use crate::record::{Child, Crate, Definition, Dependency, Extern, Map, Member, Module, Prelude, Record};
+use crate::refusal::{Refusal, RefusalKind};
 use crate::text::Text;
 
 /// Where a crate comes from.
@@ -42,7 +48,7 @@ impl TryFrom<u32> for Edition {
             2018 => Ok(Self::Rust2018),
             2021 => Ok(Self::Rust2021),
             2024 => Ok(Self::Rust2024),
-            _ => Err(Refusal::new(43, None)),
+            _ => Err(Refusal::new(RefusalKind::UnknownEdition.number(), None)),
         }
     }
 }
@@ -81,129 +87,280 @@ impl Visibility {
             Visibility::Implicit(module) => (3, module.0),
         }
     }
+
+    pub(crate) fn read(kind: u32, number: u32) -> Option<Self> {
+        Some(match kind {
+            0 => Visibility::Public,
+            1 => Visibility::Crate(CrateId(number)),
+            2 => Visibility::Explicit(ModuleId(number)),
+            3 => Visibility::Implicit(ModuleId(number)),
+            _ => return None,
+        })
+    }
 }
 
-/// The words of a snapshot, one record after the other. A kind of records follows the other in the order of the functions
-/// here, but a map may follow a module. What is wrong with the records is found by [`Snapshot::check`](crate::Snapshot::check).
+/// Kinds of records, with 0 and 12 for none.
+const KINDS: usize = 14;
+
+/// Writes the words of a snapshot. Records may come in any order: the words have them by kind, and the modules of a map after it. A text is one
+/// name, however often it is added. What is wrong with the records is found by [`Snapshot::check`](crate::Snapshot::check).
+///
+/// Each number given out is the one that the words have, but for modules: where one is added to a map after those of a later map,
+/// [`SnapshotWords::number_of`] says which number it has in the words.
 ///
 /// # Panics
 ///
-/// Its functions panic for a number of more than 28 bits, which no record can hold.
-#[derive(Clone, Debug, Default, PartialEq, Eq)]
+/// Its functions panic for a number of more than 28 bits, which no record can hold: nothing is cut off.
+///
+/// ```
+/// use kelumavor::record::{Crate, Definition, Map, Module};
+/// use kelumavor::{Entry, Namespace, Snapshot, SnapshotWords};
+///
+/// let mut words = SnapshotWords::new();
+/// let krate = words.add_crate(Crate { supports_no_std: true, ..Crate::default() });
+/// let map = words.add_map(Map { krate, block_in: None, no_std: false });
+/// let root = words.add_module(Module { map, parent: None });
+/// let function = words.add_definition(Definition::Other(root));
+/// let name = words.name("f");
+/// words.add_entry(Entry { unstable: true, ..Entry::new(root, Namespace::Values, name, function) });
+/// assert_eq!(words.name("f"), name);
+///
+/// let snapshot = Snapshot::check(words.as_words())?;
+/// assert_eq!(Snapshot::from_bytes(&words.to_bytes())?.words(), snapshot.words());
+/// # Ok::<(), kelumavor::Refusal>(())
+/// ```
+#[derive(Clone, Debug, Default)]
 pub struct SnapshotWords {
-    words: Vec<u32>,
-    /// Records written of each kind.
-    counts: [u32; 14],
-    /// The last record is an entry of a scope.
-    scope_last: bool,
+    /// The records of each kind, in the order in which they came.
+    records: [Vec<Record>; KINDS],
+    names: HashMap<Vec<u8>, NameId>,
+    /// The words, as long as no record comes.
+    written: OnceCell<Vec<u32>>,
 }
+
+/// Those with the same words are the same.
+impl PartialEq for SnapshotWords {
+    fn eq(&self, other: &Self) -> bool {
+        self.as_words() == other.as_words()
+    }
+}
+
+impl Eq for SnapshotWords {}
 
 impl SnapshotWords {
     /// No words.
+    #[must_use]
     pub fn new() -> Self {
         Self::default()
     }
 
-    /// The words so far.
+    /// The words of the records so far.
     pub fn as_words(&self) -> &[u32] {
-        &self.words
+        self.written.get_or_init(|| self.write())
     }
 
     /// The words as the programs read them, lowest byte first.
+    #[must_use]
     pub fn to_bytes(&self) -> Vec<u8> {
-        self.words.iter().flat_map(|word| word.to_le_bytes()).collect()
+        self.as_words().iter().flat_map(|word| word.to_le_bytes()).collect()
     }
 
-    /// The words, without a copy.
+    /// The words.
+    #[must_use]
     pub fn into_words(self) -> Vec<u32> {
-        self.words
+        let written = self.write();
+        self.written.into_inner().unwrap_or(written)
     }
 
-    /// A record; answers its number among those of its kind. A number with bits of a kind would change the records.
-    fn record(&mut self, kind: u32, payload: u32, arguments: &[u32]) -> u32 {
+    /// The number that a module has in the words.
+    #[must_use]
+    pub fn number_of(&self, module: ModuleId) -> ModuleId {
+        self.numbers().get(module.0 as usize).copied().unwrap_or(module)
+    }
+
+    /// The number of each module in the words: those of a map stand together.
+    fn numbers(&self) -> Vec<ModuleId> {
+        let map = |record: &Record| match record {
+            Record::Module(module) => module.map,
+            _ => MapId(0),
+        };
+        let modules = &self.records[5];
+        let mut order: Vec<usize> = (0..modules.len()).collect();
+        order.sort_by_key(|module| map(&modules[*module]));
+        let mut numbers = vec![ModuleId(0); modules.len()];
+        for (module, number) in order.into_iter().zip(0..) {
+            numbers[module] = ModuleId(number);
+        }
+        numbers
+    }
+
+    fn write(&self) -> Vec<u32> {
+        let numbers = self.numbers();
+        let number = |module: ModuleId| numbers.get(module.0 as usize).copied().unwrap_or(module);
+        let mut words = Vec::new();
+        let mut put = |record: &Record| {
+            let (kind, payload, arguments) = record.clone().with_modules(number).parts();
+            words.push(kind << 28 | payload);
+            words.extend_from_slice(&arguments);
+        };
+        for kind in [1, 2, 3] {
+            self.records[kind].iter().for_each(&mut put);
+        }
+        let modules = |of: MapId| {
+            self.records[5].iter().filter(move |record| matches!(record, Record::Module(module) if module.map == of))
+        };
+        for (record, map) in self.records[4].iter().zip(0..) {
+            put(record);
+            modules(MapId(map)).for_each(&mut put);
+        }
+        let is_lost = |record: &&Record| matches!(record, Record::Module(module) if module.map.0 as usize >= self.records[4].len());
+        self.records[5].iter().filter(is_lost).for_each(&mut put);
+        for kind in [6, 7, 8, 9, 10, 11, 13] {
+            self.records[kind].iter().for_each(&mut put);
+        }
+        words
+    }
+
+    /// Adds a record; answers its number among those of its kind.
+    fn add(&mut self, record: Record) -> u32 {
+        let (kind, payload, arguments) = record.parts();
         for number in arguments.iter().chain([&payload]) {
             assert!(number >> 28 == 0, "{number} is no number of a record: it has more than 28 bits");
         }
-        self.words.push(kind << 28 | payload);
-        self.words.extend_from_slice(arguments);
-        let number = self.counts[kind as usize];
-        self.counts[kind as usize] += 1;
-        self.scope_last = kind == 9;
-        number
+        self.written.take();
+        let records = &mut self.records[kind as usize];
+        records.push(record);
+        u32::try_from(records.len() - 1).expect("fewer records than a number can count")
     }
 
-    /// A name.
+    /// A name, which is the same for the same text.
     ///
     /// # Panics
     ///
-    /// A text that is empty, or longer than [`Text::LIMIT`]; [`try_name`](Self::try_name) answers none for it.
+    /// A text that is empty, or longer than [`Text::LIMIT`]; [`try_name`](Self::try_name) answers an error for it.
     pub fn name(&mut self, text: &str) -> NameId {
         self.try_name(text.as_bytes()).expect("a name has 1 to 255 bytes")
     }
 
-    /// A name of any bytes, where there are 1 to [`Text::LIMIT`] of them.
-    pub fn try_name(&mut self, text: &[u8]) -> Option<NameId> {
-        let packed: Vec<u32> =
-            text.chunks(3).map(|bytes| bytes.iter().rev().fold(0, |word, byte| word << 8 | u32::from(*byte))).collect();
-        (1..=Text::LIMIT).contains(&text.len()).then(|| NameId(self.record(1, text.len() as u32, &packed)))
+    /// A name of any bytes, which is the same for the same bytes.
+    ///
+    /// # Errors
+    ///
+    /// 32 for no bytes, or more than [`Text::LIMIT`].
+    pub fn try_name(&mut self, text: &[u8]) -> Result<NameId, Refusal> {
+        if !(1..=Text::LIMIT).contains(&text.len()) {
+            return Err(Refusal::new(RefusalKind::WrongField.number(), None));
+        }
+        if let Some(name) = self.names.get(text) {
+            return Ok(*name);
+        }
+        let name = NameId(self.add(Record::Name(Text(text.to_vec()))));
+        self.names.insert(text.to_vec(), name);
+        Ok(name)
     }
 
     /// A crate.
-    pub fn krate(&mut self, origin: Origin, supports_no_std: bool, edition: Edition) -> CrateId {
-        CrateId(self.record(2, origin as u32 + 8 * u32::from(supports_no_std), &[edition as u32]))
+    pub fn add_crate(&mut self, krate: Crate) -> CrateId {
+        CrateId(self.add(Record::Crate(krate)))
     }
 
-    /// A crate that another depends on; `sysroot` says that it comes with the sysroot.
-    pub fn dependency(&mut self, owner: CrateId, dependency: CrateId, sysroot: bool) {
-        self.record(3, owner.0, &[dependency.0, sysroot.into()]);
+    /// A crate that another depends on.
+    pub fn add_dependency(&mut self, dependency: Dependency) {
+        self.add(Record::Dependency(dependency));
     }
 
     /// A map of a crate: its own, or that of a block in a module.
-    pub fn map(&mut self, krate: CrateId, block_in: Option<ModuleId>, no_std: bool) -> MapId {
-        MapId(self.record(4, krate.0, &[plus_one(block_in), no_std.into()]))
+    pub fn add_map(&mut self, map: Map) -> MapId {
+        MapId(self.add(Record::Map(map)))
     }
 
-    /// A module of the latest map; its first is its root.
+    /// A module of a map; its first is its root.
+    pub fn add_module(&mut self, module: Module) -> ModuleId {
+        ModuleId(self.add(Record::Module(module)))
+    }
+
+    /// The same.
     pub fn module(&mut self, map: MapId, parent: Option<ModuleId>) -> ModuleId {
-        ModuleId(self.record(5, map.0, &[plus_one(parent)]))
+        self.add_module(Module { map, parent })
     }
 
     /// A module among the children of its parent.
-    pub fn child(&mut self, owner: ModuleId, child: ModuleId) {
-        self.record(6, owner.0, &[child.0]);
+    pub fn child(&mut self, owner: ModuleId, module: ModuleId) {
+        self.add(Record::Child(Child { owner, module }));
     }
 
     /// The prelude of a map.
-    pub fn prelude(&mut self, map: MapId, prelude: ModuleId) {
-        self.record(7, map.0, &[prelude.0]);
+    pub fn prelude(&mut self, map: MapId, module: ModuleId) {
+        self.add(Record::Prelude(Prelude { map, module }));
+    }
+
+    /// A definition.
+    pub fn add_definition(&mut self, definition: Definition) -> DefinitionId {
+        DefinitionId(self.add(Record::Definition(definition)))
     }
 
     /// The definition of a module.
     pub fn module_definition(&mut self, module: ModuleId) -> DefinitionId {
-        DefinitionId(self.record(8, 1, &[module.0, 0]))
+        self.add_definition(Definition::Module(module))
     }
 
     /// A variant, of a definition by [`other_definition`](Self::other_definition).
     pub fn variant_definition(&mut self, parent: DefinitionId, name: NameId) -> DefinitionId {
-        DefinitionId(self.record(8, 2, &[parent.0, name.0]))
+        self.add_definition(Definition::Variant { parent, name })
     }
 
     /// A builtin type, by its name.
     pub fn builtin_definition(&mut self, name: NameId) -> DefinitionId {
-        DefinitionId(self.record(8, 3, &[name.0, 0]))
+        self.add_definition(Definition::Builtin(name))
     }
 
     /// A definition that is no module, variant, builtin or macro.
     pub fn other_definition(&mut self, home: ModuleId) -> DefinitionId {
-        DefinitionId(self.record(8, 4, &[home.0, 0]))
+        self.add_definition(Definition::Other(home))
     }
 
     /// A macro.
     pub fn macro_definition(&mut self, home: ModuleId) -> DefinitionId {
-        DefinitionId(self.record(8, 5, &[home.0, 0]))
+        self.add_definition(Definition::Macro(home))
     }
 
-    /// An entry of a module's scope; `declared` says that it is no import.
+    /// An entry of a module's scope.
+    pub fn add_entry(&mut self, entry: Entry) {
+        self.add(Record::Entry(entry));
+    }
+
+    /// An entry of a crate's import map.
+    pub fn add_import(&mut self, krate: CrateId, import: Import) {
+        self.add(Record::Import(krate, import));
+    }
+
+    /// An entry of a crate's extern prelude.
+    pub fn extern_prelude(&mut self, krate: CrateId, name: NameId, root: ModuleId) {
+        self.add(Record::Extern(Extern { krate, name, root }));
+    }
+
+    /// A member of an enum or a trait.
+    pub fn add_member(&mut self, member: Member) {
+        self.add(Record::Member(member));
+    }
+}
+
+/// Functions with flags by place, for the tests and benchmarks of this repository.
+#[doc(hidden)]
+#[allow(missing_docs, clippy::too_many_arguments, clippy::fn_params_excessive_bools)]
+impl SnapshotWords {
+    pub fn krate(&mut self, origin: Origin, supports_no_std: bool, edition: Edition) -> CrateId {
+        self.add_crate(Crate { origin, edition, supports_no_std })
+    }
+
+    pub fn dependency(&mut self, owner: CrateId, on: CrateId, sysroot: bool) {
+        self.add_dependency(Dependency { owner, on, sysroot });
+    }
+
+    pub fn map(&mut self, krate: CrateId, block_in: Option<ModuleId>, no_std: bool) -> MapId {
+        self.add_map(Map { krate, block_in, no_std })
+    }
+
     pub fn scope(
         &mut self,
         module: ModuleId,
@@ -213,10 +370,9 @@ impl SnapshotWords {
         visibility: Visibility,
         declared: bool,
     ) {
-        self.entry(module, namespace, name, definition, visibility, declared.into());
+        self.add_entry(Entry { visibility, declared, ..Entry::new(module, namespace, name, definition) });
     }
 
-    /// The same, by a deprecated name.
     pub fn deprecated_scope(
         &mut self,
         module: ModuleId,
@@ -226,31 +382,15 @@ impl SnapshotWords {
         visibility: Visibility,
         declared: bool,
     ) {
-        self.entry(module, namespace, name, definition, visibility, 2 + u32::from(declared));
+        let entry = Entry::new(module, namespace, name, definition);
+        self.add_entry(Entry { visibility, declared, deprecated: true, ..entry });
     }
 
-    fn entry(
-        &mut self,
-        module: ModuleId,
-        namespace: Namespace,
-        name: NameId,
-        definition: DefinitionId,
-        visibility: Visibility,
-        declared: u32,
-    ) {
-        let (kind, number) = visibility.numbers();
-        self.record(9, module.0, &[namespace as u32, name.0, definition.0, kind, number, declared, 0]);
-    }
-
-    /// Says that the last entry, of those by [`scope`](Self::scope) and [`deprecated_scope`](Self::deprecated_scope), is hidden or
-    /// unstable. It is neither without this.
     pub fn scope_attributes(&mut self, hidden: bool, unstable: bool) {
-        assert!(self.scope_last, "the last record is an entry of a scope");
-        *self.words.last_mut().unwrap() = bits(hidden, unstable);
+        let Some(Record::Entry(entry)) = self.records[9].pop() else { panic!("there is an entry of a scope") };
+        self.add_entry(Entry { hidden, unstable, ..entry });
     }
 
-    /// An entry of a crate's import map.
-    #[allow(clippy::too_many_arguments)]
     pub fn import(
         &mut self,
         krate: CrateId,
@@ -261,16 +401,9 @@ impl SnapshotWords {
         hidden: bool,
         unstable: bool,
     ) {
-        let bits = bits(hidden, unstable);
-        self.record(10, krate.0, &[namespace as u32, definition.0, name.0, container.0, bits]);
+        self.add_import(krate, Import { namespace, definition, name, container, hidden, unstable });
     }
 
-    /// An entry of a crate's extern prelude.
-    pub fn extern_prelude(&mut self, krate: CrateId, name: NameId, root: ModuleId) {
-        self.record(11, krate.0, &[name.0, root.0]);
-    }
-
-    /// A member of an enum or a trait.
     pub fn member(
         &mut self,
         parent: DefinitionId,
@@ -280,14 +413,6 @@ impl SnapshotWords {
         hidden: bool,
         unstable: bool,
     ) {
-        self.record(13, parent.0, &[name.0, definition.0, kind as u32, bits(hidden, unstable)]);
+        self.add_member(Member { parent, name, definition, kind, hidden, unstable });
     }
-}
-
-pub(crate) fn bits(hidden: bool, unstable: bool) -> u32 {
-    u32::from(hidden) + 2 * u32::from(unstable)
-}
-
-fn plus_one(module: Option<ModuleId>) -> u32 {
-    module.map_or(0, |module| module.0.saturating_add(1))
 }

@@ -127,8 +127,9 @@ fn refused_unchanged() {
         let mut area = vec![9; area];
         let (lent_len, area_len) = (lent.len(), area.len());
         // SAFETY: as above.
-        let answer =
-            unsafe { kelumavor_add_entry(lent.as_mut_ptr(), lent_len, &mut count, area.as_mut_ptr(), area_len, &entry) };
+        let answer = unsafe {
+            kelumavor_add_entry(lent.as_mut_ptr(), lent_len, &mut count, area.as_mut_ptr(), area_len, &entry)
+        };
         assert_eq!((answer, count, lent), (number, words.len(), before));
         left_clear(&area);
     }

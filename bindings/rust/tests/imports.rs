@@ -3,8 +3,8 @@ mod common;
 
 use common::WORKED;
 use kelumavor::{
-    CrateId, DefinitionId, Import, MemberKind, ModuleId, NameId, Namespace, Outcome, Question, RefusalKind, Snapshot, SnapshotWords,
-    Visibility, with_import_lists,
+    CrateId, DefinitionId, Import, MemberKind, ModuleId, NameId, Namespace, Outcome, Question, RefusalKind, Snapshot,
+    SnapshotWords, Visibility, with_import_lists,
 };
 
 #[test]

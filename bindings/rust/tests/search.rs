@@ -1,10 +1,7 @@
 //! Questions: the worked cases, and random ones against the path printer.
 mod common;
 
-use std::io::Write;
-use std::process::{Command, Stdio};
-
-use common::{WORKED, random, repository};
+use common::{WORKED, printed, random};
 use kelumavor::{
     DefinitionId, Edition, FirstEmpty, ModuleId, NameId, Namespace, Options, Outcome, PathKind, Prefix, Question,
     RefusalKind, Report, Rule, Snapshot, SnapshotWords, Step, Visibility, Windows, WorkArea,
@@ -97,7 +94,9 @@ fn limits() {
     }
     assert_eq!(ask(1).to_string(), "none - 1 0");
     for limit in [0, 16, u32::MAX] {
-        assert!(matches!(ask(limit).outcome, Outcome::Refused(refusal) if refusal.kind() == RefusalKind::LimitOutOfRange));
+        assert!(
+            matches!(ask(limit).outcome, Outcome::Refused(refusal) if refusal.kind() == RefusalKind::LimitOutOfRange)
+        );
     }
 }
 
@@ -116,7 +115,7 @@ fn keywords_are_raw_in_the_edition_of_the_viewer() {
         words.scope(root, Namespace::Types, name, module_definition, Visibility::Public, true);
         words.scope(module, Namespace::Types, f, item, Visibility::Public, true);
         let snapshot = Snapshot::check(words.as_words()).unwrap();
-        assert_eq!(snapshot.edition(root), Some(edition as u32));
+        assert_eq!(snapshot.edition(root), Some(edition));
         assert_eq!(snapshot.edition(ModuleId(2)), None);
         let question = Question::new(Namespace::Types, item, root);
         let mut windows = Windows::new();
@@ -137,41 +136,9 @@ fn keywords_are_raw_in_the_edition_of_the_viewer() {
     assert_eq!(line(Edition::Rust2024, "self"), "found self::f 1 0");
 }
 
-fn random_question(random: &mut random::Random, snapshot: &random::Snapshot) -> Question {
-    let options = Options {
-        prefer_no_std: random.chance(20),
-        prefer_prelude: random.chance(30),
-        prefer_absolute: random.chance(30),
-        allow_unstable: random.chance(50),
-        ignore_local_imports: random.chance(30),
-        old_names_last: random.chance(40),
-    };
-    let fuel = if random.chance(30) { random.below(8) } else { Question::FUEL };
-    let limit = if random.chance(50) { random.below(18) } else { Question::LIMIT };
-    let ns = random.below(20) as usize % 3;
-    question(
-        random.below(snapshot.definitions + 1),
-        ns,
-        random.below(snapshot.modules + 1),
-        random.below(3) as usize,
-        fuel,
-    )
-    .options(options)
-    .limit(limit)
-}
-
 /// The words of a question in the printer's input, for its route too or not.
 fn printer_words(question: &Question, routed: bool) -> [u32; 7] {
-    let options = question.options;
-    let bits = [
-        options.prefer_no_std,
-        options.prefer_prelude,
-        options.prefer_absolute,
-        options.allow_unstable,
-        options.ignore_local_imports,
-        options.old_names_last,
-    ];
-    let bits = bits.iter().rev().fold(0, |sum, bit| 2 * sum + u32::from(*bit));
+    let bits = common::option_bits(question.options);
     [
         (if routed { 0xe000_0000 } else { 0xc000_0000 }) + question.definition.0,
         question.namespace as u32,
@@ -183,32 +150,8 @@ fn printer_words(question: &Question, routed: bool) -> [u32; 7] {
     ]
 }
 
-/// The path printer, which the toolchain makes where it is missing.
-fn path_printer() -> &'static std::path::Path {
-    static PRINTER: std::sync::LazyLock<std::path::PathBuf> = std::sync::LazyLock::new(|| {
-        let printer = repository("target/bin/path_printer");
-        if !printer.exists() {
-            let made = Command::new("rt").args(["check", "path_printer"]).current_dir(repository(".")).output();
-            assert!(made.is_ok_and(|made| made.status.success()), "`rt check path_printer` makes the path printer");
-        }
-        printer
-    });
-    &PRINTER
-}
-
-fn printed(words: &[u32]) -> String {
-    let mut printer = Command::new(path_printer())
-        .stdin(Stdio::piped())
-        .stdout(Stdio::piped())
-        .spawn()
-        .unwrap();
-    let bytes: Vec<u8> = words.iter().flat_map(|word| word.to_le_bytes()).collect();
-    printer.stdin.take().unwrap().write_all(&bytes).unwrap();
-    String::from_utf8(printer.wait_with_output().unwrap().stdout).unwrap()
-}
-
 /// What a report says, its names by number too.
-fn told(report: &Report<'_>) -> (String, Option<(PathKind, Vec<NameId>)>) {
+fn told(report: &Report) -> (String, Option<(PathKind, Vec<NameId>)>) {
     (report.to_string(), report.path().map(|path| (path.kind(), path.ids().collect())))
 }
 
@@ -220,7 +163,7 @@ fn several_questions_as_one_at_a_time() {
         let snapshot = random::snapshot(&mut random);
         let checked = Snapshot::check(&snapshot.words).unwrap();
         for count in [0, 1, 40, 64, 65, 130] {
-            let questions: Vec<Question> = (0..count).map(|_| random_question(&mut random, &snapshot)).collect();
+            let questions: Vec<Question> = (0..count).map(|_| random::question(&mut random, &snapshot)).collect();
             let reports = checked.find_paths_in(&questions, &mut area);
             assert_eq!(reports.len(), count);
             for (question, report) in questions.iter().zip(&reports) {
@@ -236,7 +179,7 @@ fn random_questions_as_printed() {
     for seed in 0..60 {
         let mut random = random::Random::new(seed);
         let snapshot = random::snapshot(&mut random);
-        let questions: Vec<Question> = (0..100).map(|_| random_question(&mut random, &snapshot)).collect();
+        let questions: Vec<Question> = (0..100).map(|_| random::question(&mut random, &snapshot)).collect();
         let mut input = snapshot.words.clone();
         // every second question asks for its route
         let asked = || questions.iter().enumerate().map(|(number, question)| (question, number % 2 == 1));

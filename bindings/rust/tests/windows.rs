@@ -12,7 +12,8 @@ unsafe extern "C" {
         words_len: usize,
         area: *mut u32,
         area_len: usize,
-        report: *mut [u32; 42],
+        report: *mut u32,
+        report_len: usize,
     ) -> usize;
 }
 
@@ -21,9 +22,20 @@ fn place(state: &mut [u32; 65], window: usize, question: [u32; 7]) -> usize {
     unsafe { kelumavor_place(state, window, &question) }
 }
 
-fn turn(state: &mut [u32; 65], area: &mut [u32], report: &mut [u32; 42]) -> usize {
+fn turn(state: &mut [u32; 65], area: &mut [u32], report: &mut [u32]) -> usize {
+    let (words, report_len) = (&WORKED, report.len());
     // SAFETY: each pointer and length is that of a reference.
-    unsafe { kelumavor_turn(state, WORKED.as_ptr(), WORKED.len(), area.as_mut_ptr(), area.len(), report) }
+    unsafe {
+        kelumavor_turn(
+            state,
+            words.as_ptr(),
+            words.len(),
+            area.as_mut_ptr(),
+            area.len(),
+            report.as_mut_ptr(),
+            report_len,
+        )
+    }
 }
 
 /// The function `f` from the root.
@@ -83,6 +95,21 @@ fn idle() {
         assert_eq!(windows, state(next, &[]));
     }
     assert!(area.iter().chain(&report).all(|word| *word == 7));
+}
+
+/// Without room for its report no question is served, and nothing is changed.
+#[test]
+fn a_report_that_is_too_short() {
+    let (mut area, mut report) = (vec![7; 16_384], [7; 43]);
+    let asked = state(0, &[(3, ASKED)]);
+    let mut windows = asked;
+    for length in [0, 1, 41] {
+        assert_eq!(turn(&mut windows, &mut area, &mut report[..length]), 9);
+    }
+    assert_eq!(windows, asked);
+    assert!(area.iter().chain(&report).all(|word| *word == 7));
+    assert_eq!(turn(&mut windows, &mut area, &mut report), 3);
+    assert_eq!((report[0], report[42], windows), (0, 7, state(4, &[])));
 }
 
 /// Any words are a state: word 0 counts modulo 8, and any word but 0 waits.

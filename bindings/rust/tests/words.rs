@@ -2,17 +2,18 @@
 use std::panic::catch_unwind;
 
 use kelumavor::{
-    CrateId, DefinitionId, Edition, MapId, ModuleId, NameId, Namespace, Outcome, Question, RefusalKind, Snapshot,
-    SnapshotWords, Text, Visibility,
+    CrateId, DefinitionId, Edition, MapId, ModuleId, NameId, Namespace, Outcome, Question, Refusal, RefusalKind,
+    Snapshot, SnapshotWords, Text, Visibility,
 };
 
 #[test]
 fn names_have_1_to_255_bytes() {
     let mut words = SnapshotWords::new();
-    assert_eq!(words.try_name(b""), None);
-    assert_eq!(words.try_name(&[b'x'; Text::LIMIT + 1]), None);
+    let kind = |answer: Result<NameId, Refusal>| answer.unwrap_err().kind();
+    assert_eq!(kind(words.try_name(b"")), RefusalKind::WrongField);
+    assert_eq!(kind(words.try_name(&[b'x'; Text::LIMIT + 1])), RefusalKind::WrongField);
     assert!(words.as_words().is_empty());
-    assert!(words.try_name(&[0xff; Text::LIMIT]).is_some());
+    assert!(words.try_name(&[0xff; Text::LIMIT]).is_ok());
     assert!(catch_unwind(|| SnapshotWords::new().name("")).is_err());
     assert!(catch_unwind(|| SnapshotWords::new().name(&"x".repeat(256))).is_err());
 }

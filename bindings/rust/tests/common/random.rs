@@ -2,7 +2,8 @@
 use std::collections::HashSet;
 
 use kelumavor::{
-    CrateId, DefinitionId, Edition, MapId, ModuleId, NameId, Namespace, Origin, SnapshotWords, Visibility,
+    CrateId, DefinitionId, Edition, MapId, ModuleId, NameId, Namespace, Options, Origin, Prefix, Question,
+    SnapshotWords, Visibility,
 };
 
 pub struct Random(u64);
@@ -102,6 +103,25 @@ pub fn snapshot(random: &mut Random) -> Snapshot {
         definitions: writer.definitions.len() as u32,
         words: writer.words.into_words(),
     }
+}
+
+/// A question on a snapshot, some of them refused.
+pub fn question(random: &mut Random, snapshot: &Snapshot) -> Question {
+    let options = Options {
+        prefer_no_std: random.chance(20),
+        prefer_prelude: random.chance(30),
+        prefer_absolute: random.chance(30),
+        allow_unstable: random.chance(50),
+        ignore_local_imports: random.chance(30),
+        old_names_last: random.chance(40),
+    };
+    let fuel = if random.chance(30) { random.below(8) } else { Question::FUEL };
+    let limit = if random.chance(50) { random.below(18) } else { Question::LIMIT };
+    let namespace = NAMESPACES[random.below(20) as usize % 3];
+    let definition = DefinitionId(random.below(snapshot.definitions + 1));
+    let from = ModuleId(random.below(snapshot.modules + 1));
+    let prefix = random.of(&[Prefix::BySelf, Prefix::Plain, Prefix::ByCrate]);
+    Question::new(namespace, definition, from).prefix(prefix).fuel(fuel).options(options).limit(limit)
 }
 
 impl Writer<'_> {
