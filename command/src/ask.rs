@@ -27,16 +27,37 @@ pub fn question(args: &Args, view: &View) -> Result<Question, Failure> {
     let (definition, namespace) = resolve::item(view, item, from, namespace).map_err(Failure::new)?;
     let namespace = [Namespace::Types, Namespace::Values, Namespace::Macros][namespace];
     let mut question = Question::new(namespace, DefinitionId(small(definition)?), ModuleId(small(from)?));
-    if let Some(prefix) = value(args, "--prefix", Role::Word(&PREFIXES))? {
-        question.prefix = [Prefix::BySelf, Prefix::Plain, Prefix::ByCrate][prefix as usize];
-    }
-    question.options = options(value(args, "--options", Role::Flags(&OPTIONS))?.unwrap_or(0));
-    question.fuel = value(args, "--fuel", Role::Any)?.unwrap_or(question.fuel);
-    question.limit = value(args, "--limit", Role::Any)?.unwrap_or(question.limit);
+    how(args, &mut question.prefix, &mut question.options, &mut question.fuel, &mut question.limit)?;
     Ok(question)
 }
 
-fn small(number: usize) -> Result<u32, Failure> {
+/// The options that say how to search: each stays as it is where it is not given.
+pub fn how(
+    args: &Args,
+    prefix: &mut Prefix,
+    preferred: &mut Options,
+    fuel: &mut u32,
+    limit: &mut u32,
+) -> Result<(), Failure> {
+    if let Some(number) = value(args, "--prefix", Role::Word(&PREFIXES))? {
+        *prefix = [Prefix::BySelf, Prefix::Plain, Prefix::ByCrate][number as usize];
+    }
+    if let Some(bits) = value(args, "--options", Role::Flags(&OPTIONS))? {
+        *preferred = options(bits);
+    }
+    *fuel = value(args, "--fuel", Role::Any)?.unwrap_or(*fuel);
+    *limit = value(args, "--limit", Role::Any)?.unwrap_or(*limit);
+    Ok(())
+}
+
+/// So many things over so many others, with two digits.
+pub fn counted_of(things: usize, others: usize, thing: &str) -> String {
+    let hundredths = (200 * things + others) / (2 * others);
+    let (whole, rest) = (hundredths / 100, hundredths % 100);
+    if rest == 0 { counted(whole, thing) } else { format!("{whole}.{rest:02} {thing}s") }
+}
+
+pub fn small(number: usize) -> Result<u32, Failure> {
     number.try_into().map_err(|_| Failure::new(format!("{number} is no number of a snapshot")))
 }
 
@@ -69,7 +90,7 @@ fn options(bits: u32) -> Options {
     }
 }
 
-fn option_bits(options: Options) -> u32 {
+pub fn option_bits(options: Options) -> u32 {
     let set = [
         options.prefer_no_std,
         options.prefer_prelude,

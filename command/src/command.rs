@@ -1,9 +1,9 @@
 //! What each command does, and the status it ends with.
-use std::ffi::OsString;
+use std::ffi::{OsStr, OsString};
 use std::fs;
 use std::io::Write;
 
-use kelumavor::{Counts, Outcome, Report, Snapshot};
+use kelumavor::{Counts, Outcome, Refusal, Report, Snapshot, with_import_lists};
 
 use crate::args::Args;
 use crate::assemble::assemble;
@@ -14,7 +14,7 @@ use crate::input::{Input, label, read};
 use crate::json::Json;
 use crate::progress::during;
 use crate::view::View;
-use crate::{ask, dot, dump, escape, tree};
+use crate::{ask, dot, dump, escape, imports, reach, tree};
 
 pub const FINE: u8 = 0;
 /// A snapshot or a question is refused, or there is no path.
@@ -73,6 +73,8 @@ fn answer(args: &[OsString]) -> Result<Answer, Failure> {
         Some("assemble") => assembled(rest),
         Some("ask") => asked(rest),
         Some("tree") => drawn(rest),
+        Some("reach") => reached(rest),
+        Some("imports") => imported(rest),
         Some("help" | "--help" | "-h") => Ok(Answer::new(FINE, HELP)),
         Some("version" | "--version" | "-V") => {
             Ok(Answer::line(FINE, concat!("kelumavor ", env!("CARGO_PKG_VERSION"))))
@@ -233,6 +235,73 @@ fn status(report: &Report) -> u8 {
         Outcome::Found(_) | Outcome::TankEmpty(Some(_)) => FINE,
         _ => REFUSED,
     }
+}
+
+fn reached(words: &[OsString]) -> Result<Answer, Failure> {
+    let args = Args::read(words, &["--json"], &reach::VALUES)?;
+    let words = match accepted_words(&args, "reach")? {
+        Ok(words) => words,
+        Err(answer) => return Ok(answer),
+    };
+    let view = View::new(&words);
+    let viewer = reach::viewer(&args, &view)?;
+    let snapshot = checked_again(&words)?;
+    let answer = during("searching", || snapshot.reach(&viewer));
+    Ok(match (answer, args.flag("--json")) {
+        (Ok(reach), true) => Answer::line(FINE, reach::json(&view, &viewer, &reach)),
+        (Ok(reach), false) => Answer::new(FINE, reach::text(&view, &viewer, &reach)),
+        (Err(refusal), json) => refused(&refusal, json),
+    })
+}
+
+/// A question that is refused.
+fn refused(refusal: &Refusal, json: bool) -> Answer {
+    let (number, reason) = (refusal.kind().number(), refusal.kind().to_string());
+    match json {
+        true => Answer::line(REFUSED, Json::Object(vec![("refused", number.into()), ("meaning", reason.into())])),
+        false => Answer::line(REFUSED, format!("refused {number}: {reason}")),
+    }
+}
+
+fn imported(words: &[OsString]) -> Result<Answer, Failure> {
+    let args = Args::read(words, &["--json"], &["--crate", "-o"])?;
+    let words = match accepted_words(&args, "imports")? {
+        Ok(words) => words,
+        Err(answer) => return Ok(answer),
+    };
+    if let Some(path) = args.value("-o") {
+        return with_lists(&args, &words, path);
+    }
+    let view = View::new(&words);
+    let snapshot = checked_again(&words)?;
+    let lists: Result<Vec<_>, Refusal> =
+        imports::crates(&args, &view)?.into_iter().map(|krate| snapshot.import_list(krate)).collect();
+    Ok(match (lists, args.flag("--json")) {
+        (Ok(lists), true) => Answer::line(FINE, imports::json(&view, &lists)),
+        (Ok(lists), false) => Answer::new(FINE, imports::text(&view, &lists)),
+        (Err(refusal), json) => refused(&refusal, json),
+    })
+}
+
+/// Writes the snapshot with the lists of all crates in place of its import records.
+fn with_lists(args: &Args, words: &[u32], path: &OsStr) -> Result<Answer, Failure> {
+    if args.value("--crate").is_some() {
+        return Err(Failure::new("-o writes the lists of all crates: leave --crate out"));
+    }
+    let finished = match with_import_lists(words) {
+        Ok(finished) => finished,
+        Err(refusal) => return Ok(refused(&refusal, args.flag("--json"))),
+    };
+    let bytes: Vec<u8> = finished.iter().flat_map(|word| word.to_le_bytes()).collect();
+    fs::write(path, &bytes).map_err(|error| Failure::writing(&label(path), &error))?;
+    let imports = checked_again(&finished)?.counts().imports;
+    Ok(match args.flag("--json") {
+        true => Answer::line(FINE, Json::Object(vec![("words", finished.len().into()), ("imports", imports.into())])),
+        false => Answer::line(
+            FINE,
+            format!("{}, {} written to {}", counted(finished.len(), "word"), counted(imports, "import"), label(path)),
+        ),
+    })
 }
 
 fn drawn(words: &[OsString]) -> Result<Answer, Failure> {

@@ -78,6 +78,17 @@ fn every_answer() {
     assert!(valid(&[&ask[..], &["--namespace", "types"]].concat()).contains("\"outcome\":\"none\""));
     assert!(valid(&[&ask[..], &["--limit", "16"]].concat()).contains("\"outcome\":\"refused\""));
     valid(&["ask", "--json", &broken, "--item", "a::f", "--from", "crate"]);
+    assert!(valid(&["reach", "--json", &good, "--from", "crate"]).starts_with("{\"items\":2,\"found\":[0,1,1,"));
+    assert!(valid(&["reach", "--json", &good, "--from", "7"]).starts_with("{\"refused\":23,"));
+    assert!(
+        valid(&["imports", "--json", &good]).contains("{\"name\":\"f\",\"namespace\":\"values\",\"definition\":1,")
+    );
+    assert!(valid(&["imports", "--json", &good, "--crate", "7"]).starts_with("{\"refused\":23,"));
+    let to = file("json-finished", b"");
+    assert_eq!(valid(&["imports", "--json", &good, "-o", &to]), "{\"words\":49,\"imports\":2}\n");
+    for command in ["reach", "imports"] {
+        valid(&[command, "--json", &broken]);
+    }
 }
 
 /// Names of any bytes, too.
@@ -89,5 +100,7 @@ fn random_snapshots() {
             valid(&[command, "--json", &file]);
         }
         valid(&["ask", "--json", &file, "--item", "0", "--from", "0"]);
+        valid(&["reach", "--json", &file, "--from", "0"]);
+        valid(&["imports", "--json", &file]);
     }
 }
