@@ -141,28 +141,28 @@ module _ (s : Snapshot) (x : FindPathCtx) where
       by-test (eqb m p) (λ t. ap suc (sym (eqb-true m p t)))
       (λ t. let g : none ≡ some k = rw (parentKind, t) at h in let z : _≡_ {A = ℕ} 0 1 = cc in absurd (omega arith))
 
-  keyword-some : (m k : ℕ) → isKwKindRelativeToFrom s x m ≡ some k → (m ≡ x .from) ⊎ (parentOf s (x .from) ≡ suc m)
+  keyword-some : (m k : ℕ) → isKwKindRelativeToFrom s x m ≡ some k → (m ≡ x .from .0) ⊎ (parentOf s (x .from .0) ≡ suc m)
   unfolding isKwKindRelativeToFrom
   keyword-some m k h =
-      by-test (not (eqb (crateOf s m) (crateOf s (x .from))) || (inBlock s m || inBlock s (x .from)))
+      by-test (not (eqb (crateOf s m) (crateOf s (x .from .0))) || (inBlock s m || inBlock s (x .from .0)))
       (λ t. let g : none ≡ some k = rw (isKwKindRelativeToFrom, t) at h in let z : _≡_ {A = ℕ} 0 1 = cc in absurd (omega arith))
-      (λ t. by-test (eqb m (x .from)) (λ u. inl (eqb-true m (x .from) u))
-      (λ u. inr (parent-some m (parentOf s (x .from)) k (rw (isKwKindRelativeToFrom, t, u) at h))))
+      (λ t. by-test (eqb m (x .from .0)) (λ u. inl (eqb-true m (x .from .0) u))
+      (λ u. inr (parent-some m (parentOf s (x .from .0)) k (rw (isKwKindRelativeToFrom, t, u) at h))))
 
-  pub keyword-cases : (m : ℕ) → isKeyword s x m ≡ true → (m ≡ x .from) ⊎ (parentOf s (x .from) ≡ suc m)
+  pub keyword-cases : (m : ℕ) → isKeyword s x m ≡ true → (m ≡ x .from .0) ⊎ (parentOf s (x .from .0) ≡ suc m)
   keyword-cases m h = let (k, e) = kind-of-some m (isKwKindRelativeToFrom s x m) h in keyword-some m k e
 
   -- the numbers of both
   module _ (d : ℕ → ℕ) where
-    pub keywords-one : (isKeyword s x (x .from) ≡ true → d (x .from) ≤ 1) → parentOf s (x .from) ≡ 0 → (m : ℕ) → isKeyword s x m ≡ true → d m ≤ 1
+    pub keywords-one : (isKeyword s x (x .from .0) ≡ true → d (x .from .0) ≤ 1) → parentOf s (x .from .0) ≡ 0 → (m : ℕ) → isKeyword s x m ≡ true → d m ≤ 1
     keywords-one f n m h =
         ⊎-elim (λ e. subst (λ y. d y ≤ 1) (sym e) (f (subst (λ y. isKeyword s x y ≡ true) e h))) (λ e. absurd (omega arith)) (keyword-cases m h)
 
-    pub keywords-two : {p : ℕ} (d′ : ℕ → ℕ) → parentOf s (x .from) ≡ suc p → ((m : ℕ) → d m ≤ d′ m)
-        → (isKeyword s x (x .from) ≡ true → d′ (x .from) ≤ 1) → (isKeyword s x p ≡ true → d p ≤ 1) → (m : ℕ) → isKeyword s x m ≡ true → d m ≤ 1
+    pub keywords-two : {p : ℕ} (d′ : ℕ → ℕ) → parentOf s (x .from .0) ≡ suc p → ((m : ℕ) → d m ≤ d′ m)
+        → (isKeyword s x (x .from .0) ≡ true → d′ (x .from .0) ≤ 1) → (isKeyword s x p ≡ true → d p ≤ 1) → (m : ℕ) → isKeyword s x m ≡ true → d m ≤ 1
     keywords-two {p} d′ n less f g m h =
         ⊎-elim
-        (λ e. let a = f (subst (λ y. isKeyword s x y ≡ true) e h) in let b = less (x .from) in subst (λ y. d y ≤ 1) (sym e) (omega arith))
+        (λ e. let a = f (subst (λ y. isKeyword s x y ≡ true) e h) in let b = less (x .from .0) in subst (λ y. d y ≤ 1) (sym e) (omega arith))
         (λ e. let q : m ≡ p = omega arith in subst (λ y. d y ≤ 1) (sym q) (g (subst (λ y. isKeyword s x y ≡ true) q h))) (keyword-cases m h)
 
 -- the parent is a module
@@ -261,7 +261,7 @@ module _ (W A₀ : List ℕ) (l : Layout) (x : FindPathCtx) (y : Ready W A₀ l)
     ready-keywords = lowers-ready W l (f₂ .0) ready-roots z₂
 
     module _ (A₃ : List ℕ)
-        (f₃ : Lowers A₂ A₃ × ((p : Prelude) → preludeOf (T A₂) (mapNo (T A₂) (x .from)) ≡ some p → Each (Named (T A₂) (distance A₃) (p .target)) (T A₂ .scopes)))
+        (f₃ : Lowers A₂ A₃ × ((p : Prelude) → preludeOf (T A₂) (mapNo (T A₂) (x .from .0)) ≡ some p → Each (Named (T A₂) (distance A₃) (p .target)) (T A₂ .scopes)))
         (z₃ : length A₃ ≡ length A₂) where
       pub ready-prelude : Ready W A₃ l
       ready-prelude = lowers-ready W l (f₃ .0) ready-keywords z₃
@@ -275,7 +275,7 @@ module _ (W A₀ : List ℕ) (l : Layout) (x : FindPathCtx) (y : Ready W A₀ l)
       same₃ : T A₃ ≡ T A₀
       same₃ = lowers-snap W l (f₃ .0) (ready-keywords .reads) ∙ same₂
 
-      marked : (A : List ℕ) → Lowers A₃ A → (mayBeInScope (T A₀) x ≡ true → Each (λ a. Each (Named (T A₀) (distance A) a) (T A₀ .scopes)) (ancestorMaps (T A₀) (x .from)))
+      marked : (A : List ℕ) → Lowers A₃ A → (mayBeInScope (T A₀) x ≡ true → Each (λ a. Each (Named (T A₀) (distance A) a) (T A₀ .scopes)) (ancestorMaps (T A₀) (x .from .0)))
           → Marked W A₀ l x A
       marked A g scope =
           let h₃ = lowers-then (f₃ .0) g in
@@ -289,7 +289,7 @@ module _ (W A₀ : List ℕ) (l : Layout) (x : FindPathCtx) (y : Ready W A₀ l)
                   scope = scope;
                   prelude = λ p e.
                       all-less (T A₀) (distance A₃) (distance A) (distances-less g) (p .target)
-                      (subst (λ (s : Snapshot). preludeOf s (mapNo s (x .from)) ≡ some p → Each (Named s (distance A₃) (p .target)) (s .scopes)) same₂ (f₃ .1 p) e);
+                      (subst (λ (s : Snapshot). preludeOf s (mapNo s (x .from .0)) ≡ some p → Each (Named s (distance A₃) (p .target)) (s .scopes)) same₂ (f₃ .1 p) e);
                 };
             tables = h₂ .tables ∙ f₁ .tables;
           }
@@ -297,6 +297,6 @@ module _ (W A₀ : List ℕ) (l : Layout) (x : FindPathCtx) (y : Ready W A₀ l)
       pub marked-none : {b : Bool} → b ≡ mayBeInScope (T A₀) x → b ≡ false → Marked W A₀ l x A₃
       marked-none e n = marked A₃ (lowers-same A₃) (λ t. absurd (true≢false (sym t ∙ sym e ∙ n)))
 
-      pub marked-scopes : (A : List ℕ) → Lowers A₃ A × Each (λ a. Each (Named (T A₃) (distance A) a) (T A₃ .scopes)) (ancestorMaps (T A₃) (x .from)) → Marked W A₀ l x A
+      pub marked-scopes : (A : List ℕ) → Lowers A₃ A × Each (λ a. Each (Named (T A₃) (distance A) a) (T A₃ .scopes)) (ancestorMaps (T A₃) (x .from .0)) → Marked W A₀ l x A
       marked-scopes A g =
-          marked A (g .0) (λ t. subst (λ (s : Snapshot). Each (λ a. Each (Named s (distance A) a) (s .scopes)) (ancestorMaps s (x .from))) same₃ (g .1))
+          marked A (g .0) (λ t. subst (λ (s : Snapshot). Each (λ a. Each (Named s (distance A) a) (s .scopes)) (ancestorMaps s (x .from .0))) same₃ (g .1))

@@ -129,7 +129,7 @@ module _ (s : Snapshot) (x : FindPathCtx) where
         some-each (entryIn s (Mod m) (x .«ignore_local_imports») (x .fresh)) e
         (λ a all k. let f = entry-for (Named s d a) all a m (x .«ignore_local_imports») (x .fresh) e k in f .0 m (f .1) (f .2)) (c .rules .scope t) h
 
-    in-prelude : (m : ℕ) (e : Scope) (o : Option Prelude) → preludeOf s (mapNo s (x .from)) ≡ o → inPrelude s x (Mod m) o ≡ some e → d m ≤ 1
+    in-prelude : (m : ℕ) (e : Scope) (o : Option Prelude) → preludeOf s (mapNo s (x .from .0)) ≡ o → inPrelude s x (Mod m) o ≡ some e → d m ≤ 1
     unfolding inPrelude Named
     in-prelude m e none q h = let z : _≡_ {A = ℕ} 0 1 = cc in absurd (omega arith)
     in-prelude m e (some p) q h =

@@ -43,8 +43,8 @@ isKeyword s x m = keywordOf s x (isKwKindRelativeToFrom s x m) .found
 pub record Ruled (s : Snapshot) (x : FindPathCtx) (n : ℕ) (d : ℕ → ℕ) : Type 0 where
   pub roots : (m : ℕ) → m < n → crateRoot s m ≡ m → d m ≤ 1
   pub keywords : (m : ℕ) → isKeyword s x m ≡ true → d m ≤ 1
-  pub scope : mayBeInScope s x ≡ true → Each (λ a. Each (Named s d a) (s .scopes)) (ancestorMaps s (x .from))
-  pub prelude : (p : Prelude) → preludeOf s (mapNo s (x .from)) ≡ some p → Each (Named s d (p .target)) (s .scopes)
+  pub scope : mayBeInScope s x ≡ true → Each (λ a. Each (Named s d a) (s .scopes)) (ancestorMaps s (x .from .0))
+  pub prelude : (p : Prelude) → preludeOf s (mapNo s (x .from .0)) ≡ some p → Each (Named s d (p .target)) (s .scopes)
 
 -- They grow by at most 1 with each entry too.
 pub record Closed (s : Snapshot) (x : FindPathCtx) (n : ℕ) (d : ℕ → ℕ) : Type 0 where

@@ -145,7 +145,7 @@ fn mark_prelude(words: &[u32], area: &mut [u32], l: Layout, from: ModuleId)
 
 // A module, if it has a keyword.
 fn mark_keyword(words: &[u32], area: &mut [u32], l: Layout, x: FindPathCtx, m: ModuleId)
-    requires { ⌜ Ready (now words) (now area) l × (x .from < l .modules) × (m .0 < l .modules) ⌝ }
+    requires { ⌜ Ready (now words) (now area) l × (x .from .0 < l .modules) × (m .0 < l .modules) ⌝ }
     ensures { λ _. ⌜ Lowers (now (area .entry)) (now (area .exit)) × (isKeyword (snapOf (now (words .entry)) (now (area .entry)) l) x (m .0) ≡ true → distance (now (area .exit)) (m .0) ≤ 1) ⌝ }
 {
     let c = keyword_rule(words, area, l, x, m);
@@ -157,11 +157,11 @@ fn mark_keyword(words: &[u32], area: &mut [u32], l: Layout, x: FindPathCtx, m: M
 
 // The viewing module and its parent.
 fn mark_keywords(words: &[u32], area: &mut [u32], l: Layout, x: FindPathCtx)
-    requires { ⌜ Ready (now words) (now area) l × (x .from < l .modules) ⌝ }
+    requires { ⌜ Ready (now words) (now area) l × (x .from .0 < l .modules) ⌝ }
     ensures { λ _. ⌜ Lowers (now (area .entry)) (now (area .exit)) × ((m : ℕ) → isKeyword (snapOf (now (words .entry)) (now (area .entry)) l) x m ≡ true → distance (now (area .exit)) m ≤ 1) ⌝ }
 {
-    mark_keyword(words, area, l, x, ModuleId(x.from));
-    let OptModule::Module(p) = parent(words, area, l, ModuleId(x.from)) else {
+    mark_keyword(words, area, l, x, x.from);
+    let OptModule::Module(p) = parent(words, area, l, x.from) else {
         return;
     };
     mark_keyword(words, area, l, x, p);
@@ -169,7 +169,7 @@ fn mark_keywords(words: &[u32], area: &mut [u32], l: Layout, x: FindPathCtx)
 
 // The step of the entry with its head at a place; whether it made a number smaller.
 fn relax_entry(words: &[u32], area: &mut [u32], l: Layout, x: FindPathCtx, h: usize) -> bool
-    requires { ⌜ Numbered (now words) (now area) l × (x .from < l .modules) × ScopeFits (countsIn l) (scopeAt (now words) h) ⌝ }
+    requires { ⌜ Numbered (now words) (now area) l × (x .from .0 < l .modules) × ScopeFits (countsIn l) (scopeAt (now words) h) ⌝ }
     ensures { λ r. ⌜ Passed (now (area .entry)) (λ d. Stepped (snapOf (now (words .entry)) (now (area .entry)) l) x d (scopeAt (now (words .entry)) h)) (now (area .exit)) r ⌝ }
 {
     let owner = scope_owner(words, h);
@@ -194,7 +194,7 @@ fn relax_entry(words: &[u32], area: &mut [u32], l: Layout, x: FindPathCtx, h: us
 
 // The steps of all entries; whether one made a number smaller.
 fn relax(words: &[u32], area: &mut [u32], l: Layout, x: FindPathCtx) -> bool
-    requires { ⌜ Numbered (now words) (now area) l × (x .from < l .modules) ⌝ }
+    requires { ⌜ Numbered (now words) (now area) l × (x .from .0 < l .modules) ⌝ }
     ensures { λ r. ⌜ Passed (now (area .entry)) (λ d. Each (Stepped (snapOf (now (words .entry)) (now (area .entry)) l) x d) (snapOf (now (words .entry)) (now (area .entry)) l .scopes)) (now (area .exit)) r ⌝ }
 {
     let base = l.scope_base();
@@ -211,21 +211,21 @@ fn relax(words: &[u32], area: &mut [u32], l: Layout, x: FindPathCtx) -> bool
 
 // The modules that a rule may answer for.
 fn mark_rules(words: &[u32], area: &mut [u32], l: Layout, x: FindPathCtx)
-    requires { ⌜ Ready (now words) (now area) l × (x .from < l .modules) ⌝ }
+    requires { ⌜ Ready (now words) (now area) l × (x .from .0 < l .modules) ⌝ }
     ensures { λ _. ⌜ Marked (now (words .entry)) (now (area .entry)) l x (now (area .exit)) ⌝ }
 {
     set_roots(words, area, l);
     mark_keywords(words, area, l, x);
-    mark_prelude(words, area, l, ModuleId(x.from));
+    mark_prelude(words, area, l, x.from);
     if !may_be_in_scope(x) {
         return;
     }
-    mark_scopes(words, area, l, ModuleId(x.from));
+    mark_scopes(words, area, l, x.from);
 }
 
 /// Sets the numbers of all modules.
 pub fn set_distances(words: &[u32], area: &mut [u32], l: Layout, x: FindPathCtx)
-    requires { ⌜ Ready (now words) (now area) l × (x .from < l .modules) ⌝ }
+    requires { ⌜ Ready (now words) (now area) l × (x .from .0 < l .modules) ⌝ }
     ensures { λ _. ⌜ Bounded (now (words .entry)) (now (area .entry)) l x (now (area .exit)) ⌝ }
 {
     mark_rules(words, area, l, x);

@@ -125,7 +125,7 @@ rowTo e r = record { question = questionTo e (r .question); line = r .line }
 
 -- definition and module exist in the part
 abbrev isKnown : Snapshot → Row → Bool
-isKnown s r = ltb (r .question .query .definition) (length (s .definitions)) && ltb (r .question .query .from) (length (s .modules))
+isKnown s r = ltb (r .question .query .definition .0) (length (s .definitions)) && ltb (r .question .query .from .0) (length (s .modules))
 
 pub wordsBy : Joining → List ℕ
 wordsBy (refusedBy n) = []

@@ -219,8 +219,8 @@ questionTo e q =
       query =
           record {
             ns = q .query .ns;
-            definition = e .definitions (q .query .definition);
-            from = e .modules (q .query .from);
+            definition = record { 0 = e .definitions (q .query .definition .0) };
+            from = record { 0 = e .modules (q .query .from .0) };
             prefix = q .query .prefix;
             options = q .query .options;
             limit = q .query .limit;

@@ -69,7 +69,7 @@ module _ (s : Snapshot) (x : FindPathCtx) where
       loop-flag : calculateBestPathLocal s x rec (suc l) ls (Mod m) .found ≡ true → calculateBestPathLocal s x rec (suc l) ls (Mod m) .«has_prelude_segment» ≡ v m
       unfolding calculateBestPathLocal
       loop-flag f =
-          each-by s x Kept rec (suc l) ls (Mod m) _ [] nothing _ kept-step (fewer-locations s x ls m) (locations-once s (x .from) _)
+          each-by s x Kept rec (suc l) ls (Mod m) _ [] nothing _ kept-step (fewer-locations s x ls m) (locations-once s (x .from .0) _)
           (λ o. absurd (false≢true o)) f .4
 
     or-flag : (rec : LocalSearch) → Sound s x rec → Flagged rec → (l : ℕ) → suc l ≤ most → (ls : List Level) (m : ℕ) → E m → (f : Bool) → ruled s x m ≡ f

@@ -26,7 +26,7 @@ module _ (s : Snapshot) (x : FindPathCtx) where
   -- the locations under levels are locations
   pub fewer-locations : (ls : List Level) (m : ℕ) → Within (locations s x ls m) (locations s x [] m)
   unfolding visited any
-  fewer-locations ls m = walk-fewer s (x .from) _ _ (λ c h. absurd (false≢true h))
+  fewer-locations ls m = walk-fewer s (x .from .0) _ _ (λ c h. absurd (false≢true h))
 
   pub far-under : (ls : List Level) (k m : ℕ) → near s x [] k m ≡ false → near s x ls k m ≡ false
   far-under ls k m e = refuted _ (λ h. true≢false (sym (near-none s x ls k m h) ∙ e))
@@ -72,7 +72,7 @@ module _ (s : Snapshot) (x : FindPathCtx) where
       or-frame true e = refl
       or-frame false e =
           each-frame [] nothing _ (fewer-locations ls m)
-          ∙ ap (eachLocation s x rec (suc l) ls′ (Mod m) [] nothing) (walk-same s (x .from) _ _ (same (suc l) m (omega arith) p e))
+          ∙ ap (eachLocation s x rec (suc l) ls′ (Mod m) [] nothing) (walk-same s (x .from .0) _ _ (same (suc l) m (omega arith) p e))
 
     to-frame : (d : ℕ) → Framed (localTo s x d)
     unfolding localTo findPathForModuleLocal

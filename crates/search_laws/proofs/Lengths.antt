@@ -58,7 +58,7 @@ prefix-plain (suc (suc (suc p))) h = refl
 module _ (s : Snapshot) (x : FindPathCtx) where
   -- ByCrate from the root a name begins with `crate`, one more than elsewhere
   pub shift : ℕ
-  shift = one (eqb (x .prefix) byCrate && eqb (x .«crate_root») (x .from))
+  shift = one (eqb (x .prefix) byCrate && eqb (x .«crate_root» .0) (x .from .0))
 
   -- a rule's answer is stable, and at most one longer than the shift
   pub record Brief (c : Choice) : Type 0 where
@@ -78,7 +78,7 @@ module _ (s : Snapshot) (x : FindPathCtx) where
 
   pub shift-small : shift ≤ 1
   unfolding shift one
-  shift-small = small (eqb (x .prefix) byCrate && eqb (x .«crate_root») (x .from))
+  shift-small = small (eqb (x .prefix) byCrate && eqb (x .«crate_root» .0) (x .from .0))
     where
       small : (b : Bool) → one b ≤ 1
       small true = omega arith
@@ -86,9 +86,9 @@ module _ (s : Snapshot) (x : FindPathCtx) where
 
   shift-none : eqb (x .prefix) byCrate ≡ false → shift ≡ 0
   unfolding shift one
-  shift-none h = ap (λ b. one (b && eqb (x .«crate_root») (x .from))) h
+  shift-none h = ap (λ b. one (b && eqb (x .«crate_root» .0) (x .from .0))) h
 
-  shift-one : eqb (x .prefix) byCrate ≡ true → eqb (x .«crate_root») (x .from) ≡ true → shift ≡ 1
+  shift-one : eqb (x .prefix) byCrate ≡ true → eqb (x .«crate_root» .0) (x .from .0) ≡ true → shift ≡ 1
   unfolding shift one
   shift-one h k = ap one (and-both _ _ h k)
 
@@ -112,7 +112,7 @@ module _ (s : Snapshot) (x : FindPathCtx) where
       (λ h. single-brief _ _ _
       (⊎-elim
       (λ p.
-      let one′ : shift ≡ 1 = shift-one p (⊎-elim (λ o. absurd (false≢true (sym (ap not p) ∙ o))) (λ o. o) (either (not (eqb (x .prefix) byCrate)) (eqb (x .«crate_root») (x .from)) h)) in
+      let one′ : shift ≡ 1 = shift-one p (⊎-elim (λ o. absurd (false≢true (sym (ap not p) ∙ o))) (λ o. o) (either (not (eqb (x .prefix) byCrate)) (eqb (x .«crate_root» .0) (x .from .0)) h)) in
       omega (arith, weight-small (prefixPathKind (x .prefix))))
       (λ p. let o = prefix-plain (x .prefix) (eqb-false (x .prefix) byCrate p) in omega arith) (tested (eqb (x .prefix) byCrate))))
       nothing-brief
@@ -191,7 +191,7 @@ module _ (s : Snapshot) (x : FindPathCtx) where
     unfolding orLocal calculateBestPathLocal
     or-sized true r f = rule-sized l m r
     or-sized false r f =
-        each-by s x SizedIf rec (suc l) ls (Mod m) _ [] nothing _ sized-step (fewer-locations s x ls m) (locations-once s (x .from) _) (λ o. absurd (false≢true o)) f
+        each-by s x SizedIf rec (suc l) ls (Mod m) _ [] nothing _ sized-step (fewer-locations s x ls m) (locations-once s (x .from .0) _) (λ o. absurd (false≢true o)) f
 
   to-sized : (d : ℕ) → AllSized (localTo s x d)
   unfolding localTo findPathForModuleLocal

@@ -146,7 +146,7 @@ module _ (s : Snapshot) (x : FindPathCtx) where
   near-less ls ls′ less zero m e = absurd (false≢true e)
   near-less ls ls′ less (suc k) m e =
       ⊎-elim (λ h. near-rule ls k m h)
-      (λ (c, a, n). near-step ls k m c (record { taken = walk-fewer s (x .from) _ _ (less m) c (a .taken); entry = a .entry }) (near-less ls ls′ less k c n))
+      (λ (c, a, n). near-step ls k m c (record { taken = walk-fewer s (x .from .0) _ _ (less m) c (a .taken); entry = a .entry }) (near-less ls ls′ less k c n))
       (near-cases ls′ k m e)
 
   -- ... and so under one level less

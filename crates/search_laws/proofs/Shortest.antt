@@ -175,7 +175,7 @@ module _ (s : Snapshot) (x : FindPathCtx) where
       loop-floor : calculateBestPathLocal s x rec (suc l) ls (Mod m) .found ≡ true → L m + shift s x ≤ pathLen (calculateBestPathLocal s x rec (suc l) ls (Mod m))
       unfolding calculateBestPathLocal
       loop-floor f =
-          each-by s x FloorIf rec (suc l) ls (Mod m) _ [] nothing _ floor-step (fewer-locations s x ls m) (locations-once s (x .from) _) (λ o. absurd (false≢true o)) f
+          each-by s x FloorIf rec (suc l) ls (Mod m) _ [] nothing _ floor-step (fewer-locations s x ls m) (locations-once s (x .from .0) _) (λ o. absurd (false≢true o)) f
 
     or-floor : (rec : LocalSearch) → Sound s x rec → Floored rec → (l : ℕ) → suc l ≤ most → (ls : List Level) (m : ℕ) → E m → (f : Bool) → ruled s x m ≡ f
         → orLocal s x rec (suc l) ls m (moduleRules s x false m) f .found ≡ true

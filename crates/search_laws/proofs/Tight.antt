@@ -30,8 +30,8 @@ off-unvisited (l ∷ ls) m c e =
 module _ (s : Snapshot) (x : FindPathCtx) where
   -- For a module that is on no level the walk is the one past nothing.
   pub walk-off : (ls : List Level) (m : ℕ) → isOn ls m ≡ false
-      → locations s x ls m ≡ findLocalImportLocations s (x .from) (λ _. false)
-  walk-off ls m e = walk-same s (x .from) _ _ (λ c. off-unvisited ls m c e)
+      → locations s x ls m ≡ findLocalImportLocations s (x .from .0) (λ _. false)
+  walk-off ls m e = walk-same s (x .from .0) _ _ (λ c. off-unvisited ls m c e)
 
   -- the least length left with which the module is near
   pub record Distance (k m : ℕ) : Type 0 where

@@ -349,7 +349,7 @@ module _ (s : Snapshot) (x : FindPathCtx) where
           (eachLocation s x (searchLocal s x) (suc l) ls (Mod m) [] nothing (locations s x [] m))
           (eachLocation s x (searchLocal s x) (suc l′) ls′ (Mod m) [] nothing (locations s x [] m))
       loops =
-          pair-by s x Both (searchLocal s x) (suc l) (suc l′) ls ls′ (Mod m) _ [] nothing nothing _ both-step (λ _ h. h) (locations-once s (x .from) _) (
+          pair-by s x Both (searchLocal s x) (suc l) (suc l′) ls ls′ (Mod m) _ [] nothing nothing _ both-step (λ _ h. h) (locations-once s (x .from .0) _) (
             (λ f. absurd (false≢true f)),
             (λ f. absurd (false≢true f)),
             (λ f. absurd (false≢true f)),

@@ -28,7 +28,7 @@ module _ (s : Snapshot) (x : FindPathCtx) where
 
   -- the modules that a local search for the module takes
   abbrev pub locations : List Level → ℕ → List ℕ
-  locations ls m = findLocalImportLocations s (x .from) (visited ls (Mod m))
+  locations ls m = findLocalImportLocations s (x .from .0) (visited ls (Mod m))
 
   -- the viewer can import the module m from the module c
   unfoldable pub imports : ℕ → ℕ → Bool

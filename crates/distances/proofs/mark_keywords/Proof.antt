@@ -47,7 +47,7 @@ returns c =
     let A = now (s .args .area) in
     let l = s .args .l in
     let f = k .mark-keyword .ensures in
-    let q = c .before .before .parent .ensures ∙ ap (λ (z : Snapshot). parentOf z (s .args .x .from)) (lowers-snap W l (f .0) (s .pre .0 .reads)) in
+    let q = c .before .before .parent .ensures ∙ ap (λ (z : Snapshot). parentOf z (s .args .x .from .0)) (lowers-snap W l (f .0) (s .pre .0 .reads)) in
     (f .0, keywords-one (snapOf W A l) (s .args .x) _ (f .1) (is-none _ q (c .enum-told .given .1)))
 
 -- src/lib.rt:167:5
@@ -60,8 +60,8 @@ mark-keyword-requires-2 c κs =
     let A = now (s .args .area) in
     let l = s .args .l in
     let f = k .mark-keyword .ensures in
-    let q = p .before .before .parent .ensures ∙ ap (λ (z : Snapshot). parentOf z (s .args .x .from)) (lowers-snap W l (f .0) (s .pre .0 .reads)) in
-    (lowers-ready W l (f .0) (s .pre .0) (k .mark-keyword .kept .1 .0), s .pre .1, parent-known W A l (s .pre .0 .reads) (s .args .x .from) (s .pre .1) (is-some _ q (p .p .given .1)))
+    let q = p .before .before .parent .ensures ∙ ap (λ (z : Snapshot). parentOf z (s .args .x .from .0)) (lowers-snap W l (f .0) (s .pre .0 .reads)) in
+    (lowers-ready W l (f .0) (s .pre .0) (k .mark-keyword .kept .1 .0), s .pre .1, parent-known W A l (s .pre .0 .reads) (s .args .x .from .0) (s .pre .1) (is-some _ q (p .p .given .1)))
 
 -- src/lib.rt:159:1
 same-length-2 : tie.Need-same-length-2
@@ -80,7 +80,7 @@ returns-2 c =
     let f = k .mark-keyword .ensures in
     let g = m .mark-keyword2 .ensures in
     let sn = lowers-snap W l (f .0) (s .pre .0 .reads) in
-    let q = p .before .before .parent .ensures ∙ ap (λ (z : Snapshot). parentOf z (s .args .x .from)) sn in
+    let q = p .before .before .parent .ensures ∙ ap (λ (z : Snapshot). parentOf z (s .args .x .from .0)) sn in
     (lowers-then (f .0) (g .0), keywords-two (snapOf W A l) (s .args .x) _ _ (is-some _ q (p .p .given .1)) (distances-less (g .0)) (f .1) (λ e. g .1 (ap (λ (z : Snapshot). isKeyword z (s .args .x) (p .p .given .0 .0 .0)) sn ∙ e)))
 
 pub mark-keywords-spec : {M : Type 1} → statement M
