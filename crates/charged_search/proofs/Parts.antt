@@ -8,13 +8,12 @@ use mathlib.Core.Option.{Option, none, some}
 use lib.Dec.{eqb}
 use Rattle.snapshot.specs.Records.{Snapshot, Dependency, Import}
 use Rattle.hir_def.specs.Finds.{select}
-use Rattle.hir_def.specs.Items.{crateOf, homeOf, nsOf}
+use Rattle.hir_def.specs.Items.{crateOf, homeOf, nsOf, moduleItem}
 use Rattle.hir_def.specs.Nameres.{isDependency, isSysroot, bySysroot, dependenciesOf, langOf, sysrootFirst}
 use Rattle.hir_def.specs.ImportMap.{importInfoFor}
 use Rattle.hir_def.specs.declared.Item.{Item}
-use Rattle.hir_def.specs.declared.Item.the-variants.{Mod}
 use Rattle.hir_def.proofs.Lookups.{select-select}
-use Rattle.find_path.specs.declared.Choice.{Choice}
+use Rattle.path_choices.specs.declared.Choice.{Choice}
 use Rattle.find_path.specs.declared.Tank.{Tank}
 use Rattle.find_path.specs.declared.Drawn.{Drawn}
 use Rattle.find_path.specs.declared.Drawn.the-variants.{Go, Stop}
@@ -47,7 +46,7 @@ at-some s (suc n) c {m = m} h e = let q : m ≡ n = omega (arith, h) in ap (λ (
 pub at-home : (s : Snapshot) (item : Item) (c : ℕ) {h : ℕ} {b : Bool} → h ≡ homeOf s item → b ≡ isAt s h c → isAt s (homeOf s item) c ≡ b
 at-home s item c e f = sym (f ∙ ap (λ (h : ℕ). isAt s h c) e)
 
-pub module-ns : (m : ℕ) → nsOf (Mod m) ≤ 2
+pub module-ns : (m : ℕ) → nsOf (moduleItem m) ≤ 2
 unfolding nsOf
 module-ns m = omega arith
 
@@ -73,7 +72,7 @@ module _ (s : Snapshot) (x : FindPathCtx) where
   or-yes left m t c false e = absurd (false≢true e)
 
   or-no : (left m : ℕ) (t : Tank) (c : Choice) (b : Bool) → b ≡ false
-      → orCharged Tank fromTank s x (bestLocal s x) (modules s x) left m t c b ≡ bestPath s x left (Mod m) t
+      → orCharged Tank fromTank s x (bestLocal s x) (modules s x) left m t c b ≡ bestPath s x left (moduleItem m) t
   unfolding orCharged
   or-no left m t c true e = absurd (false≢true (sym e))
   or-no left m t c false e = refl
@@ -85,7 +84,7 @@ module _ (s : Snapshot) (x : FindPathCtx) where
       ∙ sym (ap foundOf (rule-more left m t h) ∙ or-yes left m t _ _ (ap (λ (c : Choice). c .found) (sym e) ∙ f))
 
   pub module-charged : (left m : ℕ) (t : Tank) {c : Choice} → (left ≡ 0 → ⊥) → c ≡ moduleRules s x true m → c .found ≡ false
-      → bestPath s x left (Mod m) t ≡ modules s x left m t
+      → bestPath s x left (moduleItem m) t ≡ modules s x left m t
   module-charged left m t h e f =
       sym (rule-more left m t h ∙ or-no left m t _ _ (ap (λ (c : Choice). c .found) (sym e) ∙ f))
 

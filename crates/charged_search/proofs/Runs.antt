@@ -14,7 +14,7 @@ use Rattle.hir_def.specs.Nameres.{bySysroot}
 use Rattle.hir_def.specs.ImportMap.{importInfoFor, isHidden}
 use Rattle.hir_def.specs.Entries.{leftOf, Meets}
 use Rattle.hir_def.specs.declared.Item.{Item}
-use Rattle.find_path.specs.declared.Choice.{Choice}
+use Rattle.path_choices.specs.declared.Choice.{Choice}
 use Rattle.find_path.specs.declared.Tank.{Tank}
 use Rattle.find_path.specs.declared.Found.{Found}
 use Rattle.find_path.specs.declared.FindPathCtx.{FindPathCtx}

@@ -86,7 +86,7 @@ pub fn find_path_for_module(
             meter: t,
         };
     }
-    calculate_best_path(words, area, l, x, left, Item::Mod(m.0), t)
+    calculate_best_path(words, area, l, x, left, Item::Mod(m), t)
 }
 
 /// The only rule that charges: the local search in the viewer's crate, else the sysroot for a std item, else the dependencies.

@@ -9,13 +9,13 @@ use lib.ListN.{length, getD, replicate, set, length-set}
 use lib.Seq.{getD-set-other}
 use Rattle.snapshot.specs.Limits.{pathLimit}
 use Rattle.snapshot.specs.Records.{Snapshot, Scope, Dependency, Definition, Import, Extern}
-use Rattle.hir_def.specs.Items.{types, crateRoot, itemOf}
+use Rattle.hir_def.specs.Items.{types, crateRoot, itemOf, moduleItem}
 use lib.Dec.{eqb}
 use Rattle.hir_def.specs.Nameres.{dependenciesOf, langOf, sysrootFirst, externOf}
 use Rattle.hir_def.specs.ImportMap.{importInfoFor, isUnstable}
 use Rattle.hir_def.specs.declared.Item.{Item}
 use Rattle.hir_def.specs.declared.Item.the-variants.{Mod, Def}
-use Rattle.find_path.specs.declared.Choice.{Choice}
+use Rattle.path_choices.specs.declared.Choice.{Choice}
 use Rattle.find_path.specs.declared.FindPathCtx.{FindPathCtx}
 use Rattle.find_path.specs.declared.Query.{Query}
 use Rattle.find_path.specs.Choices.{nameLen, pathKindLen, plainPath, cratePath, nothing, keyword, choiceNew, extended, push, unstably, better, trySelect}
@@ -196,9 +196,9 @@ module _ (s : Snapshot) (x : FindPathCtx) where
   unfolding moduleRules
   rules-fit l b m =
       first-fits (suc l) _ _ (root-fits l b m)
-      (first-fits (suc l) _ _ (scope-fits l (Mod m))
+      (first-fits (suc l) _ _ (scope-fits l (moduleItem m))
       (first-fits (suc l) _ _ (keyword-of-fits l (isKwKindRelativeToFrom s x m))
-      (first-fits (suc l) _ _ (prelude-fits l (Mod m)) (first-none (suc l)))))
+      (first-fits (suc l) _ _ (prelude-fits l (moduleItem m)) (first-none (suc l)))))
 
   abbrev FitsLocal : LocalSearch → Type 0
   FitsLocal rec = (left : ℕ) (ls : List Level) (m : ℕ) → Fits s left (rec left ls m)
@@ -224,7 +224,7 @@ module _ (s : Snapshot) (x : FindPathCtx) where
     or-local-fits : (l : ℕ) (ls : List Level) (m : ℕ) (c : Choice) (b : Bool) → Fits s (suc l) c → Fits s (suc l) (orLocal s x rec (suc l) ls m c b)
     unfolding orLocal
     or-local-fits l ls m c true f = f
-    or-local-fits l ls m c false f = local-fits l ls (Mod m)
+    or-local-fits l ls m c false f = local-fits l ls (moduleItem m)
 
   localTo-fits : (d : ℕ) → FitsLocal (localTo s x d)
   unfolding localTo findPathForModuleLocal
@@ -298,7 +298,7 @@ module _ (M : Type 0) (charge : Charge M) (s : Snapshot) where
     or-fits : (l m : ℕ) (t : M) (c : Choice) (b : Bool) → Fits s (suc l) c → Fits s (suc l) (orCharged M charge s x here rec (suc l) m t c b .choice)
     unfolding orCharged
     or-fits l m t c true f = f
-    or-fits l m t c false f = best-fits l (Mod m) t
+    or-fits l m t c false f = best-fits l (moduleItem m) t
 
     module-fits : FitsSearch (findPathForModule M charge s x here rec)
     unfolding findPathForModule
@@ -333,12 +333,12 @@ module _ (M : Type 0) (charge : Charge M) (s : Snapshot) where
 
       of-fits : (m : ℕ) (t : M) (b : Bool) → Fits s (suc n) (ofModule M charge s x here rec inner m t b .choice)
       unfolding ofModule
-      of-fits m t true = by-name-fits (Mod m) t
+      of-fits m t true = by-name-fits (moduleItem m) t
       of-fits m t false = more (x .«max_len») (suc n) wide (fits (x .«max_len») m t)
 
       item-fits : FitsInner (suc n) (findPathInner M charge s x here rec inner)
       unfolding findPathInner
-      item-fits (Mod m) t = of-fits m t (x .«is_std_item»)
+      item-fits (Mod m) t = of-fits (m .0) t (x .«is_std_item»)
       item-fits (Def ns d) t = by-name-fits (Def ns d) t
 
   moduleTo-fits : (x : FindPathCtx) (d : ℕ) → FitsSearch (moduleTo M charge s x d)

@@ -14,7 +14,7 @@ use Rattle.accept.specs.Valid.{definitionIn}
 use Rattle.accept.specs.Verdict.{accept, verdict}
 use Rattle.accept.proofs.Accepted.{by-test}
 use Rattle.accept.proofs.Trees.{accepted-enums}
-use Rattle.hir_def.specs.Items.{types, definitionOf, itemOf}
+use Rattle.hir_def.specs.Items.{types, definitionOf, itemOf, definedItem, moduleItem}
 use Rattle.hir_def.specs.declared.Item.{Item}
 use Rattle.hir_def.specs.declared.Item.the-variants.{Mod, Def}
 use Rattle.find_path.specs.declared.FindPathCtx.{FindPathCtx}
@@ -24,7 +24,7 @@ use Rattle.find_path.specs.Search.{bestLocal, searchModule, searchItem}
 use Rattle.find_path.proofs.Unfold.{EnumNoVariant, inner-more}
 
 module _ (W : List ℕ) (s : Snapshot) (e : verdict W ≡ accept s) where
-  kind-two : (ns d : ℕ) (v : Definition) → variantOf s (Def ns d) ≡ some v → (definitionOf s d .kind ≡ 2) × (definitionOf s d ≡ v)
+  kind-two : (ns d : ℕ) (v : Definition) → variantOf s (definedItem ns d) ≡ some v → (definitionOf s d .kind ≡ 2) × (definitionOf s d ≡ v)
   unfolding variantOf
   kind-two ns d v q =
       by-test (eqb (definitionOf s d .kind) 2)
@@ -49,16 +49,16 @@ module _ (W : List ℕ) (s : Snapshot) (e : verdict W ≡ accept s) where
   unfolding itemOf variantOf
   four-no-variant d k = rw (itemOf, k, variantOf, k)
 
-  module-no-variant : (m : ℕ) (v : Definition) → variantOf s (Mod m) ≡ some v → ⊥
+  module-no-variant : (m : ℕ) (v : Definition) → variantOf s (moduleItem m) ≡ some v → ⊥
   unfolding variantOf
   module-no-variant m v q = let f : none ≡ some v = q in let z : _≡_ {A = ℕ} 0 1 = cc in omega arith
 
   -- The parent of a variant is no variant.
   pub enum-no-variant : (item : Item) → EnumNoVariant s item
-  enum-no-variant (Mod m) v q = absurd (module-no-variant m v q)
+  enum-no-variant (Mod m) v q = absurd (module-no-variant (m .0) v q)
   enum-no-variant (Def ns d) v q =
-      let f = kind-two ns d v q in
-      rw (← f .1) (four-no-variant (definitionOf s d .first) (parent-kind d (f .0)))
+      let f = kind-two (ns .0) (d .0) v q in
+      rw (← f .1) (four-no-variant (definitionOf s (d .0) .first) (parent-kind (d .0) (f .0)))
 
   -- On an accepted snapshot the item search is its rule over itself.
   pub item-more : (M : Type 0) (charge : Charge M) (x : FindPathCtx) (item : Item) (t : M)

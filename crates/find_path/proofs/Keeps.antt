@@ -4,12 +4,12 @@ use mathlib.Core.List.{List, [], _∷_}
 use mathlib.Core.Bool.{Bool, true, false}
 use mathlib.Core.Option.{Option, none, some}
 use Rattle.snapshot.specs.Records.{Snapshot, Dependency, Definition, Import}
-use Rattle.hir_def.specs.Items.{types, itemOf}
+use Rattle.hir_def.specs.Items.{types, itemOf, moduleItem}
 use Rattle.hir_def.specs.Nameres.{dependenciesOf, langOf, sysrootFirst}
 use Rattle.hir_def.specs.ImportMap.{importInfoFor}
 use Rattle.hir_def.specs.declared.Item.{Item}
 use Rattle.hir_def.specs.declared.Item.the-variants.{Mod, Def}
-use Rattle.find_path.specs.declared.Choice.{Choice}
+use Rattle.path_choices.specs.declared.Choice.{Choice}
 use Rattle.find_path.specs.declared.FindPathCtx.{FindPathCtx}
 use Rattle.find_path.specs.declared.Query.{Query}
 use Rattle.find_path.specs.Rules.{contextOf}
@@ -76,7 +76,7 @@ module _ (M : Type 0) (charge : Charge M) (s : Snapshot) (P : M → Type 0) (kep
     or-keeps : (left m : ℕ) (t : M) (c : Choice) (b : Bool) → P t → P (orCharged M charge s x here rec left m t c b .meter)
     unfolding orCharged
     or-keeps left m t c true h = h
-    or-keeps left m t c false h = best-keeps left (Mod m) t h
+    or-keeps left m t c false h = best-keeps left (moduleItem m) t h
 
     module-keeps : KeptBy P (findPathForModule M charge s x here rec)
     unfolding findPathForModule
@@ -96,12 +96,12 @@ module _ (M : Type 0) (charge : Charge M) (s : Snapshot) (P : M → Type 0) (kep
 
       of-keeps : (m : ℕ) (t : M) (b : Bool) → P t → P (ofModule M charge s x here rec inner m t b .meter)
       unfolding ofModule byName
-      of-keeps m t true h = named-keeps (Mod m) t _ _ h
+      of-keeps m t true h = named-keeps (moduleItem m) t _ _ h
       of-keeps m t false h = k (x .«max_len») m t h
 
       item-keeps : KeptWithin P (findPathInner M charge s x here rec inner)
       unfolding findPathInner byName
-      item-keeps (Mod m) t h = of-keeps m t (x .«is_std_item») h
+      item-keeps (Mod m) t h = of-keeps (m .0) t (x .«is_std_item») h
       item-keeps (Def ns d) t h = named-keeps (Def ns d) t _ _ h
 
   module _ (x : FindPathCtx) where

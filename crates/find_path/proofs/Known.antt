@@ -18,7 +18,7 @@ use Rattle.accept.proofs.Accepted.{by-test}
 use Rattle.accept.proofs.Bools.{and-right, each-at}
 use Rattle.accept.proofs.Ranges.{accepted-ranges}
 use Rattle.hir_def.specs.Finds.{firstOf, orFirst, firstSome}
-use Rattle.hir_def.specs.Items.{types, variantKind, builtinKind, mapNo, parentOf, rootOf, crateOf, crateRoot, inBlock, definitionOf, itemOf}
+use Rattle.hir_def.specs.Items.{types, variantKind, builtinKind, mapNo, parentOf, rootOf, crateOf, crateRoot, inBlock, definitionOf, itemOf, moduleItem}
 use Rattle.hir_def.specs.ItemScope.{nameOf, namesOf, isFresh, preferred}
 use Rattle.hir_def.specs.Nameres.{ancestorMaps, scopeEntry, preludeOf, dependenciesOf, langOf, sysrootFirst, externOf}
 use Rattle.hir_def.specs.ImportMap.{importInfoFor, isUnstable}
@@ -26,7 +26,7 @@ use Rattle.hir_def.specs.declared.Item.{Item}
 use Rattle.hir_def.specs.declared.Item.the-variants.{Mod, Def}
 use Rattle.hir_def.proofs.Found.{each-first, each-select}
 use Rattle.hir_def.proofs.Fits.{each-back}
-use Rattle.find_path.specs.declared.Choice.{Choice}
+use Rattle.path_choices.specs.declared.Choice.{Choice}
 use Rattle.find_path.specs.declared.FindPathCtx.{FindPathCtx}
 use Rattle.find_path.specs.declared.Query.{Query}
 use Rattle.find_path.specs.declared.Question.{Question}
@@ -231,11 +231,11 @@ pub variant-in : (s : Snapshot) (item : Item) (v : Definition) → variantOf s i
 unfolding variantOf
 variant-in s (Mod m) v e = let z : _≡_ {A = ℕ} 0 1 = cc in absurd (omega arith)
 variant-in s (Def ns d) v e =
-    by-test (eqb (definitionOf s d .kind) variantKind)
+    by-test (eqb (definitionOf s (d .0) .kind) variantKind)
     (λ t.
-    let f : some (definitionOf s d) ≡ some v = rw (variantOf, t) at e in
-    let same : definitionOf s d ≡ v = cc in
-    subst (λ z. z ∈ s .definitions) same (definition-in s d 1 (eqb-true _ _ t)))
+    let f : some (definitionOf s (d .0)) ≡ some v = rw (variantOf, t) at e in
+    let same : definitionOf s (d .0) ≡ v = cc in
+    subst (λ z. z ∈ s .definitions) same (definition-in s (d .0) 1 (eqb-true _ _ t)))
     (λ t. let f : none ≡ some v = rw (variantOf, t) at e in let z : _≡_ {A = ℕ} 0 1 = cc in absurd (omega arith))
 
 module _ (s : Snapshot) (r : Ranges (countsOf s) s) where
@@ -253,10 +253,10 @@ module _ (s : Snapshot) (r : Ranges (countsOf s) s) where
   unfolding variantOf
   variant-held (Mod m) = tt
   variant-held (Def ns d) =
-      by-test (eqb (definitionOf s d .kind) variantKind)
+      by-test (eqb (definitionOf s (d .0) .kind) variantKind)
       (λ t.
       rw (variantOf, t)
-      (let k = eqb-true _ _ t in let f = definition-known d 1 k in by-rule (definitionOf s d .second) 5 _ (f .variant k .1) (omega arith) (f .place)))
+      (let k = eqb-true _ _ t in let f = definition-known (d .0) 1 k in by-rule (definitionOf s (d .0) .second) 5 _ (f .variant k .1) (omega arith) (f .place)))
       (λ t. rw (variantOf, t) tt)
 
   module _ (x : FindPathCtx) where
@@ -340,9 +340,9 @@ module _ (s : Snapshot) (r : Ranges (countsOf s) s) where
     unfolding moduleRules
     rules-known b m =
         first-known _ _ (root-known b m)
-        (first-known _ _ (scope-known (Mod m))
+        (first-known _ _ (scope-known (moduleItem m))
         (first-known _ _ (keyword-of-known (isKwKindRelativeToFrom s x m) (kind-small m))
-        (first-known _ _ (prelude-known (Mod m)) first-none)))
+        (first-known _ _ (prelude-known (moduleItem m)) first-none)))
 
     -- the local search
 
@@ -371,7 +371,7 @@ module _ (s : Snapshot) (r : Ranges (countsOf s) s) where
       or-local-known : (left : ℕ) (ls : List Level) (m : ℕ) (c : Choice) (b : Bool) → Known s c → Known s (orLocal s x rec left ls m c b)
       unfolding orLocal
       or-local-known left ls m c true f = f
-      or-local-known left ls m c false f = local-known left ls (Mod m)
+      or-local-known left ls m c false f = local-known left ls (moduleItem m)
 
     localTo-known : (d : ℕ) → KnownLocal (localTo s x d)
     unfolding localTo findPathForModuleLocal
@@ -437,7 +437,7 @@ module _ (M : Type 0) (charge : Charge M) (s : Snapshot) (r : Ranges (countsOf s
     or-known : (left m : ℕ) (t : M) (c : Choice) (b : Bool) → Known s c → Known s (orCharged M charge s x here rec left m t c b .choice)
     unfolding orCharged
     or-known left m t c true f = f
-    or-known left m t c false f = best-known left (Mod m) t
+    or-known left m t c false f = best-known left (moduleItem m) t
 
     module-known : KnownSearch (findPathForModule M charge s x here rec)
     unfolding findPathForModule
@@ -469,12 +469,12 @@ module _ (M : Type 0) (charge : Charge M) (s : Snapshot) (r : Ranges (countsOf s
 
       of-known : (m : ℕ) (t : M) (b : Bool) → Known s (ofModule M charge s x here rec inner m t b .choice)
       unfolding ofModule
-      of-known m t true = by-name-known (Mod m) t
+      of-known m t true = by-name-known (moduleItem m) t
       of-known m t false = known (x .«max_len») m t
 
       item-known : KnownInner (findPathInner M charge s x here rec inner)
       unfolding findPathInner
-      item-known (Mod m) t = of-known m t (x .«is_std_item»)
+      item-known (Mod m) t = of-known (m .0) t (x .«is_std_item»)
       item-known (Def ns d) t = by-name-known (Def ns d) t
 
   moduleTo-known : (x : FindPathCtx) (d : ℕ) → KnownSearch (moduleTo M charge s x d)

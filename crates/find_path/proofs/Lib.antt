@@ -19,5 +19,4 @@ pub mod Reading
 pub mod Chains
 pub mod Lines
 pub mod Worked
-pub mod Names
 pub mod Tables

@@ -10,14 +10,14 @@ use lib.Dec.{eqb}
 use Rattle.snapshot.specs.Records.{Snapshot, Scope, Prelude, Extern, Dependency, Definition, Import}
 use Rattle.accept.proofs.Accepted.{by-test}
 use Rattle.accept.proofs.Bools.{and-left}
-use Rattle.hir_def.specs.Items.{types, mapNo, crateOf, crateRoot, parentOf, inBlock, itemOf, nsOf}
+use Rattle.hir_def.specs.Items.{types, mapNo, crateOf, crateRoot, parentOf, inBlock, itemOf, nsOf, moduleItem}
 use Rattle.hir_def.specs.Visibility.{sees}
 use Rattle.hir_def.specs.ItemScope.{nameOf, preferred}
 use Rattle.hir_def.specs.Nameres.{entryNamed, occupied, preludeOf, externOf, dependenciesOf, langOf, sysrootFirst}
 use Rattle.hir_def.specs.ImportMap.{importInfoFor, isHidden, isUnstable}
 use Rattle.hir_def.specs.declared.Item.{Item}
 use Rattle.hir_def.specs.declared.Item.the-variants.{Mod, Def}
-use Rattle.find_path.specs.declared.Choice.{Choice}
+use Rattle.path_choices.specs.declared.Choice.{Choice}
 use Rattle.find_path.specs.declared.FindPathCtx.{FindPathCtx}
 use Rattle.find_path.specs.declared.Query.{Query}
 use Rattle.find_path.specs.declared.Report.{Report}
@@ -214,7 +214,7 @@ module _ (s : Snapshot) (x : FindPathCtx) (n : ℕ) where
 
   rules-same : (b : Bool) (m : ℕ) → moduleRules s x b m ≡ moduleRules s y b m
   unfolding moduleRules
-  rules-same b m = λ i. firstFound (root-same b m i ∷ scope-same (Mod m) i ∷ keyword-same (kind-same m i) i ∷ prelude-same (Mod m) i ∷ [])
+  rules-same b m = λ i. firstFound (root-same b m i ∷ scope-same (moduleItem m) i ∷ keyword-same (kind-same m i) i ∷ prelude-same (moduleItem m) i ∷ [])
 
   name-same : (e : Option Scope) → entryIf s x e ≡ entryIf s y e
   unfolding entryIf
@@ -260,7 +260,7 @@ module _ (s : Snapshot) (x : FindPathCtx) (n : ℕ) where
         → Implies (orLocal s x f left ls k c b) (orLocal s (limited x n) g left′ ls k c b)
     unfolding orLocal
     or-local-grows ls k c true = λ e. e
-    or-local-grows ls k c false = local-grows ls (Mod k)
+    or-local-grows ls k c false = local-grows ls (moduleItem k)
 
   localTo-grows : (d e l m : ℕ) (ls : List Level) (k : ℕ) → d ≤ e → l ≤ m → Implies (localTo s x d l ls k) (localTo s (limited x n) e m ls k)
   unfolding localTo findPathForModuleLocal
@@ -373,7 +373,7 @@ module _ (s : Snapshot) (x : FindPathCtx) (n : ℕ) where
           → Both (orCharged ℕ counted s x here f left k t c b) (orCharged ℕ counted s (limited x n) here′ g left′ k u c b)
       unfolding orCharged
       or-grows k t u c true = λ z. z
-      or-grows k t u c false = best-grows (Mod k) t u
+      or-grows k t u c false = best-grows (moduleItem k) t u
 
     module-grows : Grows (findPathForModule ℕ counted s x here f) (findPathForModule ℕ counted s (limited x n) here′ g)
     unfolding findPathForModule
@@ -416,13 +416,13 @@ module _ (s : Snapshot) (x : FindPathCtx) (n : ℕ) where
       of-grows : (k : ℕ) (t u : ℕ) (b : Bool)
           → Both (ofModule ℕ counted s x here f v k t b) (ofModule ℕ counted s (limited x n) here′ g w k u b)
       unfolding ofModule
-      of-grows k t u true = by-name-grows (Mod k) t u
+      of-grows k t u true = by-name-grows (moduleItem k) t u
       of-grows k t u false = grows (x .«max_len») n k t u limit
 
       item-grows : (item : Item) (t u : ℕ)
           → Both (findPathInner ℕ counted s x here f v item t) (findPathInner ℕ counted s (limited x n) here′ g w item u)
       unfolding findPathInner
-      item-grows (Mod k) t u = of-grows k t u (x .«is_std_item»)
+      item-grows (Mod k) t u = of-grows (k .0) t u (x .«is_std_item»)
       item-grows (Def ns d) t u = by-name-grows (Def ns d) t u
 
   moduleTo-grows : (d e l m k : ℕ) (t u : ℕ) → d ≤ e → l ≤ m → Both (moduleTo ℕ counted s x d l k t) (moduleTo ℕ counted s (limited x n) e m k u)

@@ -12,7 +12,7 @@ use Rattle.snapshot.specs.Lists.{any}
 use Rattle.snapshot.specs.Records.{Snapshot, Scope, Dependency, Prelude, Definition, Import, Extern, Member}
 use Rattle.accept.specs.Verdict.{accept, verdict}
 use Rattle.hir_def.specs.Finds.{firstOf, orFirst, select, firstSome}
-use Rattle.hir_def.specs.Items.{types, moduleOf, mapOf, mapNo, crateOf, crateData, parentOf, rootOf, ownMap, crateRoot, inBlock, containing, definitionOf, itemOf, sameItem, nsOf, homeBy, homeOf}
+use Rattle.hir_def.specs.Items.{types, moduleOf, mapOf, mapNo, crateOf, crateData, parentOf, rootOf, ownMap, crateRoot, inBlock, containing, definitionOf, itemOf, sameItem, nsOf, homeBy, homeOf, moduleItem}
 use Rattle.hir_def.specs.Visibility.{climbStep, climb, inModule, isVisibleFrom, sees}
 use Rattle.hir_def.specs.ItemScope.{counts, isFor, nameOf, namesOf, preferred, get, isModuleEntry, modulesInScope, entryModule}
 use Rattle.hir_def.specs.Nameres.{ancestorMaps, scopeEntry, entryNamed, isOther, occupied, containers, childrenOf, preludeOf, externOf, dependenciesOf, langOf, sysrootFirst}
@@ -22,7 +22,7 @@ use Rattle.hir_def.specs.declared.Item.the-variants.{Mod, Def}
 use Rattle.read_back.specs.Reads as Reads
 use Rattle.read_back.specs.Reads.{selfKind, superKind, crateKind, absoluteKind, outward, scopesFrom, standsFor, meaning, entryOr, externNamed, inExterns, preludeMeans, inPreludeOf, entryFrom, firstName, variantNamed, variantIn, laterName, after, lookedIn, follow, absolutely, parentMeans, readsTo, isThe, readsBack}
 use Rattle.hir_def.proofs.Plain.{plain, plainly, plainOf, first-plain, name-plain, names-plain}
-use Rattle.find_path.specs.declared.Choice.{Choice}
+use Rattle.path_choices.specs.declared.Choice.{Choice}
 use Rattle.find_path.specs.declared.FindPathCtx.{FindPathCtx}
 use Rattle.find_path.specs.declared.Query.{Query}
 use Rattle.find_path.specs.declared.Question.{Question}
@@ -316,8 +316,8 @@ module _ (s : Snapshot) (x : FindPathCtx) (clear : x .fresh ≡ false) where
   unfolding moduleRules
   rules-plain b m =
       λ i. firstFound
-      (root-plain b m i ∷ by-scope-plain (Mod m) i ∷ (ap (keywordOf (plainly s) x) (relative-plain m) ∙ keyword-plain (isKwKindRelativeToFrom s x m)) i
-      ∷ by-prelude-plain (Mod m) i ∷ [])
+      (root-plain b m i ∷ by-scope-plain (moduleItem m) i ∷ (ap (keywordOf (plainly s) x) (relative-plain m) ∙ keyword-plain (isKwKindRelativeToFrom s x m)) i
+      ∷ by-prelude-plain (moduleItem m) i ∷ [])
 
   -- the local search
 
@@ -364,7 +364,7 @@ module _ (s : Snapshot) (x : FindPathCtx) (clear : x .fresh ≡ false) where
     or-local-plain : (left : ℕ) (ls : List Level) (m : ℕ) (c : Choice) (b : Bool) → orLocal (plainly s) x rec left ls m c b ≡ orLocal s x rec left ls m c b
     unfolding orLocal
     or-local-plain left ls m c true = refl
-    or-local-plain left ls m c false = local-plain left ls (Mod m)
+    or-local-plain left ls m c false = local-plain left ls (moduleItem m)
 
     module-local-plain : (left : ℕ) (ls : List Level) (m : ℕ) → findPathForModuleLocal (plainly s) x rec left ls m ≡ findPathForModuleLocal s x rec left ls m
     unfolding findPathForModuleLocal
@@ -464,7 +464,7 @@ module _ (s : Snapshot) (x : FindPathCtx) (clear : x .fresh ≡ false) where
         → orCharged M charge (plainly s) x here rec left m t c b ≡ orCharged M charge s x here rec left m t c b
     unfolding orCharged
     or-plain left m t c true = refl
-    or-plain left m t c false = best-plain left (Mod m) t
+    or-plain left m t c false = best-plain left (moduleItem m) t
 
     module-plain : (left m : ℕ) (t : M) → findPathForModule M charge (plainly s) x here rec left m t ≡ findPathForModule M charge s x here rec left m t
     unfolding findPathForModule
@@ -501,12 +501,12 @@ module _ (s : Snapshot) (x : FindPathCtx) (clear : x .fresh ≡ false) where
 
       of-plain : (m : ℕ) (t : M) (b : Bool) → ofModule M charge (plainly s) x here rec inner m t b ≡ ofModule M charge s x here rec inner m t b
       unfolding ofModule
-      of-plain m t true = by-name-plain (Mod m) t
+      of-plain m t true = by-name-plain (moduleItem m) t
       of-plain m t false = refl
 
       inner-plain : (item : Item) (t : M) → findPathInner M charge (plainly s) x here rec inner item t ≡ findPathInner M charge s x here rec inner item t
       unfolding findPathInner
-      inner-plain (Mod m) t = of-plain m t (x .«is_std_item»)
+      inner-plain (Mod m) t = of-plain (m .0) t (x .«is_std_item»)
       inner-plain (Def ns d) t = by-name-plain (Def ns d) t
 
   module _ (M : Type 0) (charge : Charge M) where

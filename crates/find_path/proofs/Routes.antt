@@ -21,7 +21,7 @@ use Rattle.accept.proofs.Bools.{and-left, and-right, and-two, or-none, each-map
 use Rattle.accept.proofs.Places.{accepted-placed}
 use Rattle.accept.proofs.Valid.{accepted-valid}
 use Rattle.hir_def.specs.Finds.{firstOf}
-use Rattle.hir_def.specs.Items.{types, builtinKind, mapNo, crateOf, crateRoot, rootOf, parentOf, blockOf, inBlock, definitionOf, itemOf, sameItem, homeOf}
+use Rattle.hir_def.specs.Items.{types, builtinKind, mapNo, crateOf, crateRoot, rootOf, parentOf, blockOf, inBlock, definitionOf, itemOf, sameItem, homeOf, definedItem, moduleItem}
 use Rattle.hir_def.specs.Visibility.{sees}
 use Rattle.hir_def.specs.ItemScope.{isFor, nameOf, namesOf}
 use Rattle.hir_def.specs.Nameres.{dependenciesOf, langOf, sysrootFirst, externOf}
@@ -30,7 +30,7 @@ use Rattle.hir_def.specs.declared.Item.{Item}
 use Rattle.hir_def.specs.declared.Item.the-variants.{Mod, Def}
 use Rattle.hir_def.proofs.Fresh.{preferred-has}
 use Rattle.read_back.proofs.Exact.{same-item}
-use Rattle.find_path.specs.declared.Choice.{Choice}
+use Rattle.path_choices.specs.declared.Choice.{Choice}
 use Rattle.find_path.specs.declared.FindPathCtx.{FindPathCtx}
 use Rattle.find_path.specs.declared.Query.{Query}
 use Rattle.find_path.specs.declared.Question.{Question}
@@ -99,7 +99,7 @@ Led s x m item none = Unit {0}
 
 -- the path of a keyword without names, where it is taken, reaches the module
 abbrev Started : Snapshot → FindPathCtx → ℕ → Option ℕ → Type 0
-Started s x m (some k) = not (eqb (x .prefix) byCrate) || eqb k cratePath ≡ true → Start s x k [] (stepBy viaKeyword 0) (Mod m)
+Started s x m (some k) = not (eqb (x .prefix) byCrate) || eqb k cratePath ≡ true → Start s x k [] (stepBy viaKeyword 0) (moduleItem m)
 Started s x m none = Unit {0}
 
 module _ (s : Snapshot) where
@@ -134,7 +134,7 @@ module _ (s : Snapshot) where
     nothing-leads : {item : Item} → Leads s x item nothing
     nothing-leads = record { route = λ e h l. absurd (false≢true e) }
 
-    keyword-leads : (m k : ℕ) → Start s x k [] (stepBy viaKeyword 0) (Mod m) → Leads s x (Mod m) (keyword k)
+    keyword-leads : (m k : ℕ) → Start s x k [] (stepBy viaKeyword 0) (moduleItem m) → Leads s x (moduleItem m) (keyword k)
     unfolding keyword
     keyword-leads m k b = record { route = λ e h l. start b }
 
@@ -142,7 +142,7 @@ module _ (s : Snapshot) where
     unfolding choiceNew
     new-leads item k n t b = record { route = λ e h l. start b }
 
-    extended-leads : (m : ℕ) (item : Item) (c : Choice) (n t : ℕ) (b : Bool) → Leads s x (Mod m) c → c .found ≡ true → Step s x m n t item
+    extended-leads : (m : ℕ) (item : Item) (c : Choice) (n t : ℕ) (b : Bool) → Leads s x (moduleItem m) c → c .found ≡ true → Step s x m n t item
         → Leads s x item (extended s c n t b)
     unfolding extended
     extended-leads m item c n t b f e g = record {
@@ -154,7 +154,7 @@ module _ (s : Snapshot) where
           (step (f .route e (omega (arith, i)) (omega (arith, j))) g));
     }
 
-    push-leads : (m : ℕ) (item : Item) (c : Choice) (n t : ℕ) → Leads s x (Mod m) c → c .found ≡ true → Step s x m n t item
+    push-leads : (m : ℕ) (item : Item) (c : Choice) (n t : ℕ) → Leads s x (moduleItem m) c → c .found ≡ true → Step s x m n t item
         → Leads s x item (push s c n t)
     unfolding push
     push-leads m item c n t f e g = extended-leads m item c n t _ f e g
@@ -177,7 +177,7 @@ module _ (s : Snapshot) where
     unfolding firstFound
     first-leads c cs f g = either-leads (c .found) c (firstFound cs) (λ _. f) (λ _. g)
 
-    select-leads : (m : ℕ) (item : Item) (best c : Choice) (n t : ℕ) → Leads s x item best → Leads s x (Mod m) c → c .found ≡ true
+    select-leads : (m : ℕ) (item : Item) (best c : Choice) (n t : ℕ) → Leads s x item best → Leads s x (moduleItem m) c → c .found ≡ true
         → Step s x m n t item → Leads s x item (trySelect s (x .«prefer_prelude») best c n t)
     unfolding trySelect
     select-leads m item best c n t f g e h =
@@ -185,12 +185,12 @@ module _ (s : Snapshot) where
         (λ _. either-leads (better s (x .«prefer_prelude») best c n) _ _ (λ _. extended-leads m item c n t _ g e h) (λ _. f))
         (λ _. push-leads m item c n t g e h)
 
-    offer-leads : (m : ℕ) (item : Item) (best c : Choice) (n t : ℕ) → Leads s x item best → Leads s x (Mod m) c → Step s x m n t item
+    offer-leads : (m : ℕ) (item : Item) (best c : Choice) (n t : ℕ) → Leads s x item best → Leads s x (moduleItem m) c → Step s x m n t item
         → Leads s x item (offer s x best c n t)
     unfolding offer
     offer-leads m item best c n t f g h = either-leads (c .found) _ _ (λ e. select-leads m item best c n t f g e h) (λ _. f)
 
-    offer-import-leads : (item : Item) (best c : Choice) (i : Import) → Leads s x item best → Leads s x (Mod (i .container)) c
+    offer-import-leads : (item : Item) (best c : Choice) (i : Import) → Leads s x item best → Leads s x (moduleItem (i .container)) c
         → Listed s x item i → isHidden i ≡ false → Leads s x item (offerImport s x best c i)
     unfolding offerImport
     offer-import-leads item best c i f g h v =
@@ -200,8 +200,8 @@ module _ (s : Snapshot) where
         (λ _. f))
         (λ u. offer-leads (i .container) item best c (i .name) _ f g (import-step item i h v (λ t. absurd (true≢false (sym t ∙ u)))))
 
-    crate-start : (m : ℕ) → x .«crate_root» .0 ≡ m → Start s x cratePath [] (stepBy viaKeyword 0) (Mod m)
-    crate-start m e = subst (λ (k : ℕ). Start s x cratePath [] (stepBy viaKeyword 0) (Mod k)) e crate
+    crate-start : (m : ℕ) → x .«crate_root» .0 ≡ m → Start s x cratePath [] (stepBy viaKeyword 0) (moduleItem m)
+    crate-start m e = subst (λ (k : ℕ). Start s x cratePath [] (stepBy viaKeyword 0) (moduleItem k)) e crate
 
     -- the rules without a search
 
@@ -225,11 +225,11 @@ module _ (s : Snapshot) where
         single-leads item plainPath viaPrelude (findInPrelude s x item)
         (λ e h. prelude item e (held-at (λ y. y ∈ s .scopes) _ (prelude-held s (λ y. y ∈ s .scopes) (each-self (s .scopes)) x item) h) h)
 
-    extern-leads : (m : ℕ) (o : Option Extern) → crateRoot s m ≡ m → (m ≡ x .«crate_root» .0 → ⊥) → externOf s (x .«from_crate» .0) m ≡ o → Leads s x (Mod m) (externName s x m o)
+    extern-leads : (m : ℕ) (o : Option Extern) → crateRoot s m ≡ m → (m ≡ x .«crate_root» .0 → ⊥) → externOf s (x .«from_crate» .0) m ≡ o → Leads s x (moduleItem m) (externName s x m o)
     unfolding externName
     extern-leads m none r z h = nothing-leads
     extern-leads m (some e) r z h =
-        new-leads (Mod m) _ (e .name) _ (extern m e (held-at (λ y. y ∈ s .externs) _ (extern-held s (λ y. y ∈ s .externs) (each-self (s .externs)) (x .«from_crate» .0) m) h) r z h)
+        new-leads (moduleItem m) _ (e .name) _ (extern m e (held-at (λ y. y ∈ s .externs) _ (extern-held s (λ y. y ∈ s .externs) (each-self (s .externs)) (x .«from_crate» .0) m) h) r z h)
 
     -- in a valid snapshot, with the root that is set for the viewing module
     module _ (valid : Valid s) (rooted : Rooted s x) where
@@ -239,7 +239,7 @@ module _ (s : Snapshot) where
       root-here true m near r e = sym (eqb-true m (x .«crate_root» .0) e)
       root-here false m near r e = rooted .root ∙ sym (crate-root s valid m (x .from .0) (near refl)) ∙ r
 
-      root-leads : (b : Bool) (m : ℕ) → (b ≡ false → Near s valid (x .from .0) m) → Leads s x (Mod m) (rootRule s x b m)
+      root-leads : (b : Bool) (m : ℕ) → (b ≡ false → Near s valid (x .from .0) m) → Leads s x (moduleItem m) (rootRule s x b m)
       unfolding rootRule
       root-leads b m near =
           either-leads (eqb (crateRoot s m) m) _ _
@@ -266,7 +266,7 @@ module _ (s : Snapshot) where
           let same : p ≡ m = sym (eqb-true m p t) in
           either-started m (eqb p (rootOf s (mapNo s (x .from .0)))) (some cratePath) (some superPath)
           (λ r k. crate-start m (rooted .root ∙ sym (own-root s valid (x .from .0) p e b) ∙ sym (eqb-true p _ r) ∙ same))
-          (λ _ k. subst (λ (j : ℕ). Start s x superPath [] (stepBy viaKeyword 0) (Mod j)) same (super p (not-by-crate superPath refl k) e)))
+          (λ _ k. subst (λ (j : ℕ). Start s x superPath [] (stepBy viaKeyword 0) (moduleItem j)) same (super p (not-by-crate superPath refl k) e)))
           (λ _. tt)
 
       keyword-started : (m : ℕ) → Started s x m (isKwKindRelativeToFrom s x m)
@@ -276,22 +276,22 @@ module _ (s : Snapshot) where
           (λ t.
           let f = or-none (inBlock s m) (inBlock s (x .from .0)) (or-none (not (eqb (crateOf s m) (crateOf s (x .from .0)))) _ t .1) .1 in
           either-started m (eqb m (x .from .0)) (some selfPath) _
-          (λ e k. subst (λ (j : ℕ). Start s x selfPath [] (stepBy viaKeyword 0) (Mod j)) (sym (eqb-true m (x .from .0) e)) (self (not-by-crate selfPath refl k)))
+          (λ e k. subst (λ (j : ℕ). Start s x selfPath [] (stepBy viaKeyword 0) (moduleItem j)) (sym (eqb-true m (x .from .0) e)) (self (not-by-crate selfPath refl k)))
           (λ _. parent-started m (parentOf s (x .from .0)) refl (eqb-true (blockOf s (x .from .0)) 0 (not-false _ f))))
 
-      keyword-of-leads : (m : ℕ) (k : Option ℕ) → Started s x m k → Leads s x (Mod m) (keywordOf s x k)
+      keyword-of-leads : (m : ℕ) (k : Option ℕ) → Started s x m k → Leads s x (moduleItem m) (keywordOf s x k)
       unfolding keywordOf
       keyword-of-leads m none b = nothing-leads
       keyword-of-leads m (some k) b =
           either-leads (not (eqb (x .prefix) byCrate) || eqb k cratePath) _ _ (λ t. keyword-leads m k (b t)) (λ _. nothing-leads)
 
-      rules-lead : (b : Bool) (m : ℕ) → (b ≡ false → Near s valid (x .from .0) m) → Leads s x (Mod m) (moduleRules s x b m)
+      rules-lead : (b : Bool) (m : ℕ) → (b ≡ false → Near s valid (x .from .0) m) → Leads s x (moduleItem m) (moduleRules s x b m)
       unfolding moduleRules
       rules-lead b m near =
           first-leads _ _ (root-leads b m near)
-          (first-leads _ _ (scope-leads (Mod m))
+          (first-leads _ _ (scope-leads (moduleItem m))
           (first-leads _ _ (keyword-of-leads m (isKwKindRelativeToFrom s x m) (keyword-started m))
-          (first-leads _ _ (prelude-leads (Mod m)) first-none)))
+          (first-leads _ _ (prelude-leads (moduleItem m)) first-none)))
 
       -- the local search
 
@@ -332,12 +332,12 @@ module _ (s : Snapshot) where
       importable-led : (item : Item) (m : ℕ) → isNear s x item ≡ true → Led s x m item (importableName s x item m)
       importable-led item m near = led item m (importableName s x item m) near refl
 
-      module-near : (m : ℕ) → Near s valid (x .from .0) m → isNear s x (Mod m) ≡ true
+      module-near : (m : ℕ) → Near s valid (x .from .0) m → isNear s x (moduleItem m) ≡ true
       unfolding isAt homeOf
       module-near m e = rw (add-one m) (eq-eqb (crateOf s m) (x .«from_crate» .0) (e ∙ sym (rooted .krate)))
 
       abbrev LeadsLocal : LocalSearch → Type 0
-      LeadsLocal rec = (left : ℕ) (ls : List Level) (m : ℕ) → Near s valid (x .from .0) m → Leads s x (Mod m) (rec left ls m)
+      LeadsLocal rec = (left : ℕ) (ls : List Level) (m : ℕ) → Near s valid (x .from .0) m → Leads s x (moduleItem m) (rec left ls m)
 
       module _ (rec : LocalSearch) (leads : LeadsLocal rec) where
         location-leads : (item : Item) (left : ℕ) (ls : List Level) (best : Choice) (m : ℕ) (o : Option Scope) → Near s valid (x .from .0) m
@@ -360,11 +360,11 @@ module _ (s : Snapshot) where
         unfolding calculateBestPathLocal
         local-leads left ls item near = each-leads left ls item [] nothing near (locations-near s valid (x .from .0) (visited ls item)) nothing-leads
 
-        or-local-leads : (left : ℕ) (ls : List Level) (m : ℕ) (c : Choice) (b : Bool) → Near s valid (x .from .0) m → Leads s x (Mod m) c
-            → Leads s x (Mod m) (orLocal s x rec left ls m c b)
+        or-local-leads : (left : ℕ) (ls : List Level) (m : ℕ) (c : Choice) (b : Bool) → Near s valid (x .from .0) m → Leads s x (moduleItem m) c
+            → Leads s x (moduleItem m) (orLocal s x rec left ls m c b)
         unfolding orLocal
         or-local-leads left ls m c true near f = f
-        or-local-leads left ls m c false near f = local-leads left ls (Mod m) (module-near m near)
+        or-local-leads left ls m c false near f = local-leads left ls (moduleItem m) (module-near m near)
 
       localTo-leads : (d : ℕ) → LeadsLocal (localTo s x d)
       unfolding localTo findPathForModuleLocal
@@ -379,7 +379,7 @@ module _ (s : Snapshot) where
 
 module _ (M : Type 0) (charge : Charge M) (s : Snapshot) (x : FindPathCtx) (valid : Valid s) (rooted : Rooted s x) where
   abbrev LeadsSearch : Search M → Type 0
-  LeadsSearch rec = (left m : ℕ) (t : M) → Leads s x (Mod m) (rec left m t .choice)
+  LeadsSearch rec = (left m : ℕ) (t : M) → Leads s x (moduleItem m) (rec left m t .choice)
 
   -- a dependency of the viewer's crate
   abbrev Ours : Dependency → Type 0
@@ -447,10 +447,10 @@ module _ (M : Type 0) (charge : Charge M) (s : Snapshot) (x : FindPathCtx) (vali
     unfolding calculateBestPath
     best-leads left item t = after-leads left item (charge _ _ t)
 
-    or-leads : (left m : ℕ) (t : M) (c : Choice) (b : Bool) → Leads s x (Mod m) c → Leads s x (Mod m) (orCharged M charge s x (bestLocal s x) rec left m t c b .choice)
+    or-leads : (left m : ℕ) (t : M) (c : Choice) (b : Bool) → Leads s x (moduleItem m) c → Leads s x (moduleItem m) (orCharged M charge s x (bestLocal s x) rec left m t c b .choice)
     unfolding orCharged
     or-leads left m t c true f = f
-    or-leads left m t c false f = best-leads left (Mod m) t
+    or-leads left m t c false f = best-leads left (moduleItem m) t
 
     module-leads : LeadsSearch (findPathForModule M charge s x (bestLocal s x) rec)
     unfolding findPathForModule
@@ -539,14 +539,14 @@ module _ (M : Type 0) (charge : Charge M) (s : Snapshot) (x : FindPathCtx) (vali
         (first-leads s x _ _ (scope-leads s x item) (first-leads s x _ _ (prelude-leads s x item) (first-none s x)))
         (wider 1 (x .«max_len») some-limit (first-fits 1 _ _ (scope-fits s x 0 item) (first-fits 1 _ _ (prelude-fits s x 0 item) (none-fits 1)))))
 
-    of-path : (m : ℕ) (t : M) (b : Bool) → P (Mod m) (ofModule M charge s x (bestLocal s x) (searchModule M charge s x) inner m t b .choice)
+    of-path : (m : ℕ) (t : M) (b : Bool) → P (moduleItem m) (ofModule M charge s x (bestLocal s x) (searchModule M charge s x) inner m t b .choice)
     unfolding ofModule
-    of-path m t true = by-name-path (Mod m) t
-    of-path m t false = short (Mod m) _ (module-search-leads M charge s x valid rooted (x .«max_len») m t) (module-search-fits M charge s x (x .«max_len») m t)
+    of-path m t true = by-name-path (moduleItem m) t
+    of-path m t false = short (moduleItem m) _ (module-search-leads M charge s x valid rooted (x .«max_len») m t) (module-search-fits M charge s x (x .«max_len») m t)
 
     inner-path : (item : Item) (t : M) → P item (findPathInner M charge s x (bestLocal s x) (searchModule M charge s x) inner item t .choice)
     unfolding findPathInner
-    inner-path (Mod m) t = of-path m t (x .«is_std_item»)
+    inner-path (Mod m) t = of-path (m .0) t (x .«is_std_item»)
     inner-path (Def ns d) t = by-name-path (Def ns d) t
 
   -- the search for an enum, which tries no enum above it

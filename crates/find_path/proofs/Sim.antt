@@ -6,12 +6,12 @@ use mathlib.Core.List.{List, [], _∷_}
 use mathlib.Core.Bool.{Bool, true, false, true≢false}
 use mathlib.Core.Option.{Option, none, some}
 use Rattle.snapshot.specs.Records.{Snapshot, Dependency, Definition, Import}
-use Rattle.hir_def.specs.Items.{types, itemOf}
+use Rattle.hir_def.specs.Items.{types, itemOf, moduleItem}
 use Rattle.hir_def.specs.Nameres.{dependenciesOf, langOf, sysrootFirst}
 use Rattle.hir_def.specs.ImportMap.{importInfoFor}
 use Rattle.hir_def.specs.declared.Item.{Item}
 use Rattle.hir_def.specs.declared.Item.the-variants.{Mod, Def}
-use Rattle.find_path.specs.declared.Choice.{Choice}
+use Rattle.path_choices.specs.declared.Choice.{Choice}
 use Rattle.find_path.specs.declared.Tank.{Tank}
 use Rattle.find_path.specs.declared.FindPathCtx.{FindPathCtx}
 use Rattle.find_path.specs.declared.Query.{Query}
@@ -164,7 +164,7 @@ module _ (C : Type 0) (charge : Charge C) (size : C → ℕ) (Past : ℕ → ℕ
           → Both F (orCharged Tank fromTank s x here rt left m t c b) (orCharged C charge s x here rc left m n c b)
       unfolding orCharged
       or-sim left m t n c true h = same refl h
-      or-sim left m t n c false h = best-sim left (Mod m) t n h
+      or-sim left m t n c false h = best-sim left (moduleItem m) t n h
 
       module-sim : Alike F (findPathForModule Tank fromTank s x here rt) (findPathForModule C charge s x here rc)
       unfolding findPathForModule
@@ -202,12 +202,12 @@ module _ (C : Type 0) (charge : Charge C) (size : C → ℕ) (Past : ℕ → ℕ
         of-sim : (m : ℕ) (t : Tank) (n : C) (b : Bool) → Sync F t (size n)
             → Both F (ofModule Tank fromTank s x here rt it m t b) (ofModule C charge s x here rc ic m n b)
         unfolding ofModule byName
-        of-sim m t n true h = named-sim (Mod m) t n _ _ h
+        of-sim m t n true h = named-sim (moduleItem m) t n _ _ h
         of-sim m t n false h = al (x .«max_len») m t n h
 
         item-sim : AlikeWithin F (findPathInner Tank fromTank s x here rt it) (findPathInner C charge s x here rc ic)
         unfolding findPathInner byName
-        item-sim (Mod m) t n h = of-sim m t n (x .«is_std_item») h
+        item-sim (Mod m) t n h = of-sim (m .0) t n (x .«is_std_item») h
         item-sim (Def ns d) t n h = named-sim (Def ns d) t n _ _ h
 
     module _ (x : FindPathCtx) where

@@ -16,7 +16,7 @@ use Rattle.accept.proofs.Stable.{snap-stays, reads-stay}
 use Rattle.find_path.specs.declared.FindPathCtx.{FindPathCtx}
 use Rattle.find_path.specs.Choices.{nameData}
 use Rattle.find_path.specs.Conditions.{Prepared}
-use Rattle.find_path.proofs.Names.{name-bytes, name-short}
+use Rattle.path_choices.proofs.Names.{name-bytes, name-short}
 use Rattle.find_path.proofs.Bounds.{Short}
 
 -- no name of an accepted snapshot is longer than 255 bytes

@@ -15,12 +15,12 @@ use Rattle.accept.specs.Tests.{countsOf}
 use Rattle.accept.specs.Valid.{Each, more, ImportFits, Ranges}
 use Rattle.accept.proofs.Accepted.{by-test}
 use Rattle.accept.proofs.Ranges.{accepted-ranges}
-use Rattle.hir_def.specs.Items.{types, moduleKind, definitionOf, itemOf}
+use Rattle.hir_def.specs.Items.{types, moduleKind, definitionOf, itemOf, moduleItem}
 use Rattle.hir_def.specs.Nameres.{dependenciesOf, langOf, sysrootFirst}
 use Rattle.hir_def.specs.ImportMap.{importInfoFor}
 use Rattle.hir_def.specs.declared.Item.{Item}
 use Rattle.hir_def.specs.declared.Item.the-variants.{Mod, Def}
-use Rattle.find_path.specs.declared.Choice.{Choice}
+use Rattle.path_choices.specs.declared.Choice.{Choice}
 use Rattle.find_path.specs.declared.Tank.{Tank}
 use Rattle.find_path.specs.declared.FindPathCtx.{FindPathCtx}
 use Rattle.find_path.specs.declared.Query.{Query}
@@ -60,7 +60,7 @@ module _ (s : Snapshot) (r : Ranges (countsOf s) s) where
   sought-inside x item h =
       by-test (eqb (moduleIn item) (x .own)) (λ t. rw (soughtOf, t) (omega arith)) (λ t. rw (soughtOf, t) (omega arith))
 
-  module-inside : (m : ℕ) → m < length (s .modules) → Inside (Mod m)
+  module-inside : (m : ℕ) → m < length (s .modules) → Inside (moduleItem m)
   unfolding moduleIn
   module-inside m h = omega arith
 
@@ -78,7 +78,7 @@ module _ (s : Snapshot) (r : Ranges (countsOf s) s) where
   Keeps t = Told (length (s .modules)) t
 
   abbrev ToldBy : Search Tank → Type 0
-  ToldBy rec = (left m : ℕ) (t : Tank) → left ≤ pathLimit → Inside (Mod m) → Keeps t → Keeps (rec left m t .meter)
+  ToldBy rec = (left m : ℕ) (t : Tank) → left ≤ pathLimit → Inside (moduleItem m) → Keeps t → Keeps (rec left m t .meter)
 
   abbrev ToldWithin : Inner Tank → Type 0
   ToldWithin inner = (item : Item) (t : Tank) → Inside item → Keeps t → Keeps (inner item t .meter)
@@ -124,11 +124,11 @@ module _ (s : Snapshot) (r : Ranges (countsOf s) s) where
       unfolding calculateBestPath fromTank
       best-told item t h f = after-told item (fromTank left (soughtOf x item) t) (draw-told _ left _ t (t .fuel) limit (sought-inside x item h) f)
 
-    or-told : (l m : ℕ) (t : Tank) (c : Choice) (b : Bool) → suc l ≤ pathLimit → Inside (Mod m) → Keeps t
+    or-told : (l m : ℕ) (t : Tank) (c : Choice) (b : Bool) → suc l ≤ pathLimit → Inside (moduleItem m) → Keeps t
         → Keeps (orCharged Tank fromTank s x here rec (suc l) m t c b .meter)
     unfolding orCharged
     or-told l m t c true h k f = f
-    or-told l m t c false h k f = best-told (suc l) (omega arith) h (Mod m) t k f
+    or-told l m t c false h k f = best-told (suc l) (omega arith) h (moduleItem m) t k f
 
     module-told : ToldBy (findPathForModule Tank fromTank s x here rec)
     unfolding findPathForModule
@@ -155,14 +155,14 @@ module _ (s : Snapshot) (r : Ranges (countsOf s) s) where
       named-told item t c true h f = f
       named-told item t c false h f = via-told item t (variantOf s item) h f
 
-      of-told : (m : ℕ) (t : Tank) (b : Bool) → Inside (Mod m) → Keeps t → Keeps (ofModule Tank fromTank s x here rec inner m t b .meter)
+      of-told : (m : ℕ) (t : Tank) (b : Bool) → Inside (moduleItem m) → Keeps t → Keeps (ofModule Tank fromTank s x here rec inner m t b .meter)
       unfolding ofModule byName
-      of-told m t true h f = named-told (Mod m) t _ _ h f
+      of-told m t true h f = named-told (moduleItem m) t _ _ h f
       of-told m t false h f = known (x .«max_len») m t limit h f
 
       item-told : ToldWithin (findPathInner Tank fromTank s x here rec inner)
       unfolding findPathInner byName
-      item-told (Mod m) t h f = of-told m t (x .«is_std_item») h f
+      item-told (Mod m) t h f = of-told (m .0) t (x .«is_std_item») h f
       item-told (Def ns d) t h f = named-told (Def ns d) t _ _ h f
 
   module _ (x : FindPathCtx) (some-limit : 0 < x .«max_len») (limit : x .«max_len» ≤ pathLimit) where

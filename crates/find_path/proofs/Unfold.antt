@@ -6,12 +6,12 @@ use mathlib.Core.List.{List, [], _∷_, _++_}
 use mathlib.Core.Bool.{Bool, true, false}
 use mathlib.Core.Option.{Option, none, some}
 use Rattle.snapshot.specs.Records.{Snapshot, Scope, Dependency, Definition, Import}
-use Rattle.hir_def.specs.Items.{types, itemOf}
+use Rattle.hir_def.specs.Items.{types, itemOf, moduleItem}
 use Rattle.hir_def.specs.Nameres.{dependenciesOf, langOf, sysrootFirst}
 use Rattle.hir_def.specs.ImportMap.{importInfoFor}
 use Rattle.hir_def.specs.declared.Item.{Item}
 use Rattle.hir_def.specs.declared.Item.the-variants.{Mod, Def}
-use Rattle.find_path.specs.declared.Choice.{Choice}
+use Rattle.path_choices.specs.declared.Choice.{Choice}
 use Rattle.find_path.specs.declared.FindPathCtx.{FindPathCtx}
 use Rattle.find_path.specs.Choices.{nothing, pathLen, shorterIf, lengthLeft}
 use Rattle.find_path.specs.Walk.{Level}
@@ -56,7 +56,7 @@ module _ (s : Snapshot) (x : FindPathCtx) where
     or-local-same : (ls : List Level) (m : ℕ) (c : Choice) (b : Bool) → orLocal s x f left ls m c b ≡ orLocal s x g left ls m c b
     unfolding orLocal
     or-local-same ls m c true = refl
-    or-local-same ls m c false = local-same ls (Mod m)
+    or-local-same ls m c false = local-same ls (moduleItem m)
 
   -- a depth of at least the length left is as good as any other
   localTo-stable : (d e left : ℕ) (ls : List Level) (m : ℕ) → left ≤ d → left ≤ e → localTo s x d left ls m ≡ localTo s x e left ls m
@@ -137,7 +137,7 @@ module _ (M : Type 0) (charge : Charge M) (s : Snapshot) (x : FindPathCtx) where
     or-same : (m : ℕ) (t : M) (c : Choice) (b : Bool) → orCharged M charge s x here f left m t c b ≡ orCharged M charge s x here g left m t c b
     unfolding orCharged
     or-same m t c true = refl
-    or-same m t c false = best-same (Mod m) t
+    or-same m t c false = best-same (moduleItem m) t
 
   moduleTo-stable : (d e left m : ℕ) (t : M) → left ≤ d → left ≤ e → moduleTo M charge s x d left m t ≡ moduleTo M charge s x e left m t
   unfolding moduleTo findPathForModule
@@ -179,7 +179,7 @@ module _ (M : Type 0) (charge : Charge M) (s : Snapshot) (x : FindPathCtx) where
     by-name-same t = or-enum-same t _ _
 
   of-same : (here : ℕ → Item → Choice) (rec : Search M) (f g : Inner M) (m : ℕ) (t : M) (b : Bool)
-      → byName M charge s x here rec f (Mod m) t ≡ byName M charge s x here rec g (Mod m) t
+      → byName M charge s x here rec f (moduleItem m) t ≡ byName M charge s x here rec g (moduleItem m) t
       → ofModule M charge s x here rec f m t b ≡ ofModule M charge s x here rec g m t b
   unfolding ofModule
   of-same here rec f g m t true e = e
@@ -189,7 +189,7 @@ module _ (M : Type 0) (charge : Charge M) (s : Snapshot) (x : FindPathCtx) where
       → ((v : Definition) (t : M) → variantOf s item ≡ some v → f (itemOf s types (v .first)) t ≡ g (itemOf s types (v .first)) t)
       → (t : M) → findPathInner M charge s x here rec f item t ≡ findPathInner M charge s x here rec g item t
   unfolding findPathInner
-  item-same here rec f g (Mod m) agree t = of-same here rec f g m t (x .«is_std_item») (by-name-same here rec f g (Mod m) agree t)
+  item-same here rec f g (Mod m) agree t = of-same here rec f g (m .0) t (x .«is_std_item») (by-name-same here rec f g (Mod m) agree t)
   item-same here rec f g (Def ns d) agree t = by-name-same here rec f g (Def ns d) agree t
 
   -- The item search is its rule over itself, for an item whose enum, if it has one, is no variant.

@@ -13,10 +13,10 @@ use Rattle.snapshot.specs.Lists.{any}
 use Rattle.snapshot.specs.Records.{Snapshot, Scope}
 use Rattle.accept.proofs.Bools.{or-none}
 use Rattle.hir_def.specs.Finds.{select}
-use Rattle.hir_def.specs.Items.{sameItem}
+use Rattle.hir_def.specs.Items.{sameItem, moduleItem}
 use Rattle.hir_def.specs.declared.Item.{Item}
 use Rattle.hir_def.specs.declared.Item.the-variants.{Mod, Def}
-use Rattle.find_path.specs.declared.Choice.{Choice}
+use Rattle.path_choices.specs.declared.Choice.{Choice}
 use Rattle.find_path.specs.declared.FindPathCtx.{FindPathCtx}
 use Rattle.find_path.specs.Choices.{nothing, lengthLeft}
 use Rattle.find_path.specs.Walk.{Level, has, visited, startFrom, leadsTo, unmet, walk, findLocalImportLocations}
@@ -68,8 +68,8 @@ or-split false b c e f g = g e
 
 item-self : (item : Item) → sameItem item item ≡ true
 unfolding sameItem
-item-self (Mod m) = eq-eqb m m refl
-item-self (Def ns d) = rw (eq-eqb ns ns refl, eq-eqb d d refl)
+item-self (Mod m) = eq-eqb (m .0) (m .0) refl
+item-self (Def ns d) = rw (eq-eqb (ns .0) (ns .0) refl, eq-eqb (d .0) (d .0) refl)
 
 removed-at : (v : Pairs) (item : Item) (ms : List ℕ) (i : Item) (n : ℕ) → removeAll v item ms i n ≡ not (sameItem item i && has ms n) && v i n
 unfolding removeAll remove has any
@@ -230,7 +230,7 @@ module _ (s : Snapshot) (x : FindPathCtx) (turns : ℕ) where
           → orInSet s x turns rec left (visited ls) m c b .choice ≡ orLocal s x plain left ls m c b
       unfolding orInSet orLocal
       or-same left ls m c true = refl
-      or-same left ls m c false = best-same left ls (Mod m)
+      or-same left ls m c false = best-same left ls (moduleItem m)
 
   best-back : (rec : SetSearch) → Back rec → (left : ℕ) (v : Pairs) (item : Item) → bestInSet s x turns rec left v item .set ≡ v
   best-back rec back left v item = ap (λ (h : Handed). h .set) (best-loops rec back left v item)
@@ -238,7 +238,7 @@ module _ (s : Snapshot) (x : FindPathCtx) (turns : ℕ) where
   or-back : (rec : SetSearch) → Back rec → (left : ℕ) (v : Pairs) (m : ℕ) (c : Choice) (b : Bool) → orInSet s x turns rec left v m c b .set ≡ v
   unfolding orInSet
   or-back rec back left v m c true = refl
-  or-back rec back left v m c false = best-back rec back left v (Mod m)
+  or-back rec back left v m c false = best-back rec back left v (moduleItem m)
 
   setTo-back : (d : ℕ) → Back (setTo s x turns d)
   unfolding setTo moduleInSet

@@ -5,12 +5,12 @@ use mathlib.Core.Bool.{Bool, true, false, _&&_}
 use mathlib.Core.Option.{Option, none, some}
 use lib.Dec.{eqb}
 use Rattle.snapshot.specs.Records.{Snapshot, Dependency, Definition, Import}
-use Rattle.hir_def.specs.Items.{types, variantKind, crateOf, definitionOf, itemOf, homeOf}
+use Rattle.hir_def.specs.Items.{types, variantKind, crateOf, definitionOf, itemOf, homeOf, moduleItem}
 use Rattle.hir_def.specs.Nameres.{dependenciesOf, langOf, sysrootFirst}
 use Rattle.hir_def.specs.ImportMap.{importInfoFor, isHidden, isUnstable}
 use Rattle.hir_def.specs.declared.Item.{Item}
 use Rattle.hir_def.specs.declared.Item.the-variants.{Mod, Def}
-use Rattle.find_path.specs.declared.Choice.{Choice}
+use Rattle.path_choices.specs.declared.Choice.{Choice}
 use Rattle.find_path.specs.declared.Tank.{Tank}
 use Rattle.find_path.specs.declared.Found.{Found}
 use Rattle.find_path.specs.declared.FindPathCtx.{FindPathCtx}
@@ -56,7 +56,7 @@ isAt s (suc h) c = eqb (crateOf s h) c
 -- the item's definition, if it is a variant
 unfoldable pub variantOf : Snapshot → Item → Option Definition
 variantOf s (Mod m) = none
-variantOf s (Def ns d) = elim (eqb (definitionOf s d .kind) variantKind) [ true ↦ some (definitionOf s d) | false ↦ none ]
+variantOf s (Def ns d) = elim (eqb (definitionOf s (d .0) .kind) variantKind) [ true ↦ some (definitionOf s (d .0)) | false ↦ none ]
 
 -- a variant's name after the path of its enum
 unfoldable pub pushVariant : Snapshot → Choice → Definition → Choice
@@ -117,7 +117,7 @@ module _ (M : Type 0) (charge : Charge M) (s : Snapshot) (x : FindPathCtx) (here
 
   unfoldable pub orCharged : Search M → ℕ → ℕ → M → Choice → Bool → Out M
   orCharged rec left m t c true = record { choice = c; meter = t }
-  orCharged rec left m t c false = calculateBestPath rec left (Mod m) t
+  orCharged rec left m t c false = calculateBestPath rec left (moduleItem m) t
 
   -- `find_path_for_module` with maybe_extern = true; length 0 finds no module
   unfoldable pub findPathForModule : Search M → Search M
@@ -146,10 +146,10 @@ module _ (M : Type 0) (charge : Charge M) (s : Snapshot) (x : FindPathCtx) (here
       orEnum rec inner item t c (c .found)
 
   unfoldable pub ofModule : Search M → Inner M → ℕ → M → Bool → Out M
-  ofModule rec inner m t true = byName rec inner (Mod m) t
+  ofModule rec inner m t true = byName rec inner (moduleItem m) t
   ofModule rec inner m t false = rec (x .«max_len») m t
 
   -- `find_path_inner`: a module goes straight to the module search, unless it is std's
   unfoldable pub findPathInner : Search M → Inner M → Inner M
-  findPathInner rec inner (Mod m) t = ofModule rec inner m t (x .«is_std_item»)
+  findPathInner rec inner (Mod m) t = ofModule rec inner (m .0) t (x .«is_std_item»)
   findPathInner rec inner (Def ns d) t = byName rec inner (Def ns d) t

@@ -15,7 +15,7 @@ use Rattle.hir_def.specs.Entries.{Known}
 use Rattle.hir_def.specs.declared.Item.{Item}
 use Rattle.hir_def.specs.declared.Entry.{Entry}
 use Rattle.hir_def.specs.declared.Entry.the-variants.{At, Nothing}
-use Rattle.find_path.specs.declared.Choice.{Choice}
+use Rattle.path_choices.specs.declared.Choice.{Choice}
 use Rattle.find_path.specs.declared.Tank.{Tank}
 use Rattle.find_path.specs.declared.Drawn.{Drawn}
 use Rattle.find_path.specs.declared.Drawn.the-variants.{Go, Stop}

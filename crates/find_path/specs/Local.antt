@@ -7,9 +7,9 @@ use lib.Dec.{eqb}
 use Rattle.snapshot.specs.Records.{Snapshot, Scope}
 use Rattle.hir_def.specs.Visibility.{sees}
 use Rattle.hir_def.specs.ItemScope.{isDeclared, nameOf, preferred}
+use Rattle.hir_def.specs.Items.{moduleItem}
 use Rattle.hir_def.specs.declared.Item.{Item}
-use Rattle.hir_def.specs.declared.Item.the-variants.{Mod}
-use Rattle.find_path.specs.declared.Choice.{Choice}
+use Rattle.path_choices.specs.declared.Choice.{Choice}
 use Rattle.find_path.specs.declared.FindPathCtx.{FindPathCtx}
 use Rattle.find_path.specs.Choices.{viaLocal, stepBy, nothing, trySelect, lengthLeft}
 use Rattle.find_path.specs.Walk.{Level, visited, findLocalImportLocations}
@@ -58,7 +58,7 @@ module _ (s : Snapshot) (x : FindPathCtx) where
 
   unfoldable pub orLocal : LocalSearch → ℕ → List Level → ℕ → Choice → Bool → Choice
   orLocal rec left ls m c true = c
-  orLocal rec left ls m c false = calculateBestPathLocal rec left ls (Mod m)
+  orLocal rec left ls m c false = calculateBestPathLocal rec left ls (moduleItem m)
 
   -- `find_path_for_module` with maybe_extern = false
   unfoldable pub findPathForModuleLocal : LocalSearch → LocalSearch

@@ -8,12 +8,11 @@ use Prim.Native.Nat.{ℕ, suc, _-_, _/_, _%_, _≤_}
 use lib.ListN.{length, getD, take}
 use Rattle.snapshot.specs.Words.{kindOf}
 use Rattle.snapshot.specs.Records.{Snapshot, Dependency, Definition, Scope, Import, Extern}
-use Rattle.hir_def.specs.Items.{types, builtinKind, parentOf, crateRoot, definitionOf, itemOf, homeOf}
+use Rattle.hir_def.specs.Items.{types, builtinKind, parentOf, crateRoot, definitionOf, itemOf, homeOf, moduleItem}
 use Rattle.hir_def.specs.Visibility.{sees}
 use Rattle.hir_def.specs.Nameres.{occupied, externOf, dependenciesOf}
 use Rattle.hir_def.specs.ImportMap.{isHidden, isUnstable}
 use Rattle.hir_def.specs.declared.Item.{Item}
-use Rattle.hir_def.specs.declared.Item.the-variants.{Mod}
 use Rattle.find_path.specs.declared.FindPathCtx.{FindPathCtx}
 use Rattle.find_path.specs.declared.Query.{Query}
 use Rattle.find_path.specs.declared.Report.{Report}
@@ -34,16 +33,16 @@ isNear s x item = isAt s (homeOf s item) (x .«from_crate» .0)
 -- A path of that kind starts with these names, by this step, and so reaches the item.
 pub data Start (s : Snapshot) (x : FindPathCtx) : ℕ → List ℕ → ℕ → Item → Type 0 where
   -- a keyword without names: the viewing module, its parent, the root of its crate; ByCrate takes no other than the last
-  self : (x .prefix ≡ byCrate → ⊥) → Start s x selfPath [] (stepBy viaKeyword 0) (Mod (x .from .0))
-  super : (p : ℕ) → (x .prefix ≡ byCrate → ⊥) → parentOf s (x .from .0) ≡ suc p → Start s x superPath [] (stepBy viaKeyword 0) (Mod p)
-  crate : Start s x cratePath [] (stepBy viaKeyword 0) (Mod (x .«crate_root» .0))
+  self : (x .prefix ≡ byCrate → ⊥) → Start s x selfPath [] (stepBy viaKeyword 0) (moduleItem (x .from .0))
+  super : (p : ℕ) → (x .prefix ≡ byCrate → ⊥) → parentOf s (x .from .0) ≡ suc p → Start s x superPath [] (stepBy viaKeyword 0) (moduleItem p)
+  crate : Start s x cratePath [] (stepBy viaKeyword 0) (moduleItem (x .«crate_root» .0))
   -- a first name by the scope, where it may be used, by the prelude, or by an extern of the viewer's crate for the root of another
   scope : (item : Item) (e : Scope) → e ∈ s .scopes → mayBeInScope s x ≡ true → findInScope s x item ≡ some e
       → Start s x (prefixPathKind (x .prefix)) (e .name ∷ []) (stepBy viaScope (e .place)) item
   prelude : (item : Item) (e : Scope) → e ∈ s .scopes → findInPrelude s x item ≡ some e
       → Start s x plainPath (e .name ∷ []) (stepBy viaPrelude (e .place)) item
   extern : (m : ℕ) (e : Extern) → e ∈ s .externs → crateRoot s m ≡ m → (m ≡ x .«crate_root» .0 → ⊥) → externOf s (x .«from_crate» .0) m ≡ some e
-      → Start s x (externKind s x (occupied s (x .from .0) m (e .name) || x .«prefer_absolute»)) (e .name ∷ []) (stepBy viaExtern (e .place)) (Mod m)
+      → Start s x (externKind s x (occupied s (x .from .0) m (e .name) || x .«prefer_absolute»)) (e .name ∷ []) (stepBy viaExtern (e .place)) (moduleItem m)
   -- a builtin is its name
   builtin : (d : ℕ) → definitionOf s d ∈ s .definitions → definitionOf s d .kind ≡ builtinKind
       → Start s x plainPath (definitionOf s d .first ∷ []) (stepBy viaBuiltin (definitionOf s d .place)) (itemOf s types d)
@@ -63,7 +62,7 @@ pub data Step (s : Snapshot) (x : FindPathCtx) : ℕ → ℕ → ℕ → Item �
 -- A path of that kind with these names, by these steps, reaches the item: its start, and then each name leads on from the module reached so far.
 pub data Route (s : Snapshot) (x : FindPathCtx) : ℕ → List ℕ → List ℕ → Item → Type 0 where
   start : {k t : ℕ} {ns : List ℕ} {item : Item} → Start s x k ns t item → Route s x k ns (t ∷ []) item
-  step : {k m n t : ℕ} {ns ts : List ℕ} {item : Item} → Route s x k ns ts (Mod m) → Step s x m n t item
+  step : {k m n t : ℕ} {ns ts : List ℕ} {item : Item} → Route s x k ns ts (moduleItem m) → Step s x m n t item
       → Route s x k (ns ++ (n ∷ [])) (ts ++ (t ∷ [])) item
 
 -- A path is a route of as many names at most as the question's limit, or one to the enum of a variant and the variant's own name.

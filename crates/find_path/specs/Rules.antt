@@ -6,13 +6,13 @@ use mathlib.Core.Option.{Option, none, some}
 use lib.Dec.{eqb}
 use lib.ListN.{getD}
 use Rattle.snapshot.specs.Records.{Snapshot, Scope, Prelude, Extern}
-use Rattle.hir_def.specs.Items.{mapNo, mapOf, crateOf, crateData, parentOf, inBlock, rootOf, crateRoot, isLang, itemOf, sameItem, nsOf}
+use Rattle.hir_def.specs.Items.{mapNo, mapOf, crateOf, crateData, parentOf, inBlock, rootOf, crateRoot, isLang, itemOf, sameItem, nsOf, moduleItem}
 use Rattle.hir_def.specs.Visibility.{sees}
 use Rattle.hir_def.specs.ItemScope.{nameOf, preferred}
 use Rattle.hir_def.specs.Nameres.{scopeEntry, entryNamed, occupied, preludeOf, externOf}
 use Rattle.hir_def.specs.declared.Item.{Item}
 use Rattle.hir_def.specs.declared.Item.the-variants.{Mod, Def}
-use Rattle.find_path.specs.declared.Choice.{Choice}
+use Rattle.path_choices.specs.declared.Choice.{Choice}
 use Rattle.find_path.specs.declared.KwKind.{KwKind}
 use Rattle.find_path.specs.declared.KwKind.the-variants.{Kw, NoKw}
 use Rattle.find_path.specs.declared.FindPathCtx.{FindPathCtx}
@@ -44,7 +44,7 @@ plainIf false p = p
 
 -- the module that an item is, +1, or 0 where it is none
 unfoldable pub moduleIn : Item → ℕ
-moduleIn (Mod m) = m + 1
+moduleIn (Mod m) = m .0 + 1
 moduleIn (Def ns d) = 0
 
 -- What `find_path` sets: Plain where the item's home is in a block; `prefer_no_std` by the option, the viewer's map or its crate.
@@ -166,4 +166,4 @@ module _ (s : Snapshot) (x : FindPathCtx) where
   -- `find_path_for_module` before its search: root, extern, scope, keyword, prelude, in this order
   unfoldable pub moduleRules : Bool → ℕ → Choice
   moduleRules maybeExtern m =
-      firstFound (rootRule maybeExtern m ∷ scopeRule (Mod m) ∷ keywordOf (isKwKindRelativeToFrom m) ∷ preludeRule (Mod m) ∷ [])
+      firstFound (rootRule maybeExtern m ∷ scopeRule (moduleItem m) ∷ keywordOf (isKwKindRelativeToFrom m) ∷ preludeRule (moduleItem m) ∷ [])

@@ -7,7 +7,7 @@ use lib.Dec.{eqb}
 use Rattle.snapshot.specs.Records.{Snapshot, Definition}
 use Rattle.hir_def.specs.Items.{types, builtinKind, definitionOf, itemOf, homeOf}
 use Rattle.hir_def.specs.declared.Item.{Item}
-use Rattle.find_path.specs.declared.Choice.{Choice}
+use Rattle.path_choices.specs.declared.Choice.{Choice}
 use Rattle.find_path.specs.declared.FindPathCtx.{FindPathCtx}
 use Rattle.find_path.specs.declared.Query.{Query}
 use Rattle.find_path.specs.Choices.{plainPath, viaBuiltin, stepBy, nothing, choiceNew}

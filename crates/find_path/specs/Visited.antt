@@ -9,10 +9,9 @@ use lib.Dec.{eqb}
 use lib.ListN.{length}
 use Rattle.snapshot.specs.Records.{Snapshot, Scope}
 use Rattle.hir_def.specs.Finds.{select}
-use Rattle.hir_def.specs.Items.{sameItem}
+use Rattle.hir_def.specs.Items.{sameItem, moduleItem}
 use Rattle.hir_def.specs.declared.Item.{Item}
-use Rattle.hir_def.specs.declared.Item.the-variants.{Mod}
-use Rattle.find_path.specs.declared.Choice.{Choice}
+use Rattle.path_choices.specs.declared.Choice.{Choice}
 use Rattle.find_path.specs.declared.FindPathCtx.{FindPathCtx}
 use Rattle.find_path.specs.Choices.{nothing, lengthLeft}
 use Rattle.find_path.specs.Walk.{Level, visited, startFrom, leadsTo}
@@ -72,7 +71,7 @@ module _ (s : Snapshot) (x : FindPathCtx) (turns : ℕ) where
 
   unfoldable pub orInSet : SetSearch → ℕ → Pairs → ℕ → Choice → Bool → Handed
   orInSet rec left v m c true = record { choice = c; set = v }
-  orInSet rec left v m c false = bestInSet rec left v (Mod m)
+  orInSet rec left v m c false = bestInSet rec left v (moduleItem m)
 
   unfoldable pub moduleInSet : SetSearch → SetSearch
   moduleInSet rec zero v m = record { choice = nothing; set = v }

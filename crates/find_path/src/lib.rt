@@ -1,4 +1,5 @@
 //! What the search takes and answers.
+pub use path_choices::Choice;
 use snapshot::ids::Crate;
 use snapshot::ids::DefinitionId;
 use snapshot::ids::ModuleId;
@@ -19,21 +20,6 @@ pub struct FindPathCtx {
     pub crate_root: ModuleId,
     pub own: usize,
     pub max_len: usize,
-}
-
-// A path, or none. `kind` is 0 plain, 1 self, 2 super, 3 crate, 4 a leading `::`; `path_text_len` is the length of its text;
-// `has_prelude_segment` says that a name of it is `prelude`. `route` says how it came about, a step for its start and one for each further name: eight
-// times the place of the record used, plus the rule.
-pub struct Choice {
-    pub found: bool,
-    pub kind: usize,
-    pub names: [usize; 16],
-    pub count: usize,
-    pub path_text_len: usize,
-    pub stable: bool,
-    pub has_prelude_segment: bool,
-    pub route: [usize; 17],
-    pub steps: usize,
 }
 
 // The path kind of a keyword, or no keyword.

@@ -123,14 +123,14 @@ module _ (W A : List ℕ) (l : Layout) (r : Reads W A l) where
   home-fits (Mod n) m h e = omega arith
   home-fits (Def ns d) m h e =
       let S = snapOf W A l in
-      let x = definitionOf S d in
+      let x = definitionOf S (d .0) in
       by-test (eqb (x .kind) 3)
       (λ t. let z = home-builtin S (x .kind) (x .first) (eqb-true _ _ t) in absurd (omega (arith, z, e)))
       (λ t.
       by-test (eqb (x .kind) 2)
       (λ u.
       let z = home-variant S (x .kind) (x .first) (eqb-false _ _ t) (eqb-true _ _ u) refl refl in
-      omega (arith, z, e, parent-home d h (eqb-true _ _ u)))
+      omega (arith, z, e, parent-home (d .0) h (eqb-true _ _ u)))
       (λ u.
       let z = home-other S (x .kind) (x .first) (eqb-false _ _ t) (eqb-false _ _ u) in
-      omega (arith, z, e, definition-fits d h .home (eqb-false _ _ u) (eqb-false _ _ t))))
+      omega (arith, z, e, definition-fits (d .0) h .home (eqb-false _ _ u) (eqb-false _ _ t))))

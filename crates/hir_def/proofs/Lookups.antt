@@ -16,13 +16,13 @@ use Rattle.snapshot.specs.Layouts.{crateBase, dependencyBase, definitionBase, s
 use Rattle.snapshot.specs.declared.layout.Layout.{Layout}
 use Rattle.snapshot.proofs.Laws.{rows-next, rows-none, rows-whole, rows-snoc, length-rows, getD-rows, past}
 use Rattle.hir_def.specs.Finds.{firstOf, readsOf, select}
-use Rattle.hir_def.specs.Items.{definitionOf, crateData, itemOf, homeBy}
+use Rattle.hir_def.specs.Items.{definitionOf, crateData, itemOf, homeBy, definedItem, moduleItem}
 use Rattle.hir_def.specs.ItemScope.{isDeclared, counts, isFor, nameOf, namesOf, nameReads, namesReads, isModuleEntry, modulesInScope}
 use Rattle.hir_def.specs.ImportMap.{isImport, importInfoFor}
 use Rattle.hir_def.specs.Nameres.{isExtern, externOf, isDependency, isSysroot, isLangSysroot, bySysroot, dependenciesOf, langOf, sysrootFirst}
 use Rattle.hir_def.specs.Entries.{ReadsAs, leftOf, Meets, Ends, NextOf}
 use Rattle.hir_def.specs.declared.Item.{Item}
-use Rattle.hir_def.specs.declared.Item.the-variants.{Mod, Def}
+use Rattle.hir_def.specs.declared.Item.the-variants.{Mod}
 use Rattle.hir_def.specs.declared.Next.{Next}
 use Rattle.hir_def.specs.declared.Next.the-variants.{Record, End}
 
@@ -72,11 +72,11 @@ crate-there W A l c h =
 
 -- the item by the test of its definition
 module _ (s : Snapshot) (ns d : ℕ) {k : ℕ} (e : k ≡ definitionOf s d .kind) where
-  pub item-module : {m : ℕ} → (eqb ns 0 && eqb k 1) ≡ true → m ≡ definitionOf s d .first → Mod m ≡ itemOf s ns d
+  pub item-module : {m : ℕ} → (eqb ns 0 && eqb k 1) ≡ true → m ≡ definitionOf s d .first → moduleItem m ≡ itemOf s ns d
   unfolding itemOf
-  item-module t h = let u = (ap (λ y. eqb ns 0 && eqb y 1) (sym e) ∙ t) in rw (itemOf, u) (ap Mod h)
+  item-module t h = let u = (ap (λ y. eqb ns 0 && eqb y 1) (sym e) ∙ t) in rw (itemOf, u) (ap moduleItem h)
 
-  pub item-other : (eqb ns 0 && eqb k 1) ≡ false → Def ns d ≡ itemOf s ns d
+  pub item-other : (eqb ns 0 && eqb k 1) ≡ false → definedItem ns d ≡ itemOf s ns d
   unfolding itemOf
   item-other t = let u = (ap (λ y. eqb ns 0 && eqb y 1) (sym e) ∙ t) in rw (itemOf, u)
 

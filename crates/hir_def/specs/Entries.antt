@@ -17,8 +17,8 @@ use Rattle.hir_def.specs.declared.Next.the-variants.{Record, End}
 
 -- an item of the snapshot: its number is in range
 abbrev pub Known : Layout → Item → Type 0
-Known l (Mod m) = m < l .modules
-Known l (Def ns d) = d < l .definitions
+Known l (Mod m) = m .0 < l .modules
+Known l (Def ns d) = d .0 < l .definitions
 
 -- the record with its head at the place that is answered
 abbrev pub entryOf : {R : Type 0} → (List ℕ → ℕ → R) → List ℕ → Entry → Option R

@@ -41,20 +41,28 @@ crateData s c = getD (s .crates) c (record { origin = 0; noStd = 0; edition = 0 
 abbrev pub isLang : Snapshot → ℕ → Bool
 isLang s c = not (eqb (crateData s c .origin) 0)
 
+-- the item that a module is, and that of a definition in a namespace, by their numbers
+
+abbrev pub moduleItem : ℕ → Item
+moduleItem m = Mod (record { 0 = m })
+
+abbrev pub definedItem : ℕ → ℕ → Item
+definedItem ns d = Def (record { 0 = ns }) (record { 0 = d })
+
 -- An item is a namespace and a definition. A module in types is known by its own number.
 unfoldable pub itemOf : Snapshot → ℕ → ℕ → Item
 itemOf s ns d =
-    elim (eqb ns types && eqb (definitionOf s d .kind) moduleKind) [ true ↦ Mod (definitionOf s d .first) | false ↦ Def ns d ]
+    elim (eqb ns types && eqb (definitionOf s d .kind) moduleKind) [ true ↦ moduleItem (definitionOf s d .first) | false ↦ definedItem ns d ]
 
 unfoldable pub sameItem : Item → Item → Bool
-sameItem (Mod m) (Mod n) = eqb m n
+sameItem (Mod m) (Mod n) = eqb (m .0) (n .0)
 sameItem (Mod m) (Def ns d) = false
 sameItem (Def ns d) (Mod n) = false
-sameItem (Def ns d) (Def ns′ d′) = eqb ns ns′ && eqb d d′
+sameItem (Def ns d) (Def ns′ d′) = eqb (ns .0) (ns′ .0) && eqb (d .0) (d′ .0)
 
 unfoldable pub nsOf : Item → ℕ
 nsOf (Mod m) = types
-nsOf (Def ns d) = ns
+nsOf (Def ns d) = ns .0
 
 -- by the kind and the first field of the definition
 unfoldable pub homeBy : Snapshot → ℕ → ℕ → ℕ
@@ -66,5 +74,5 @@ homeBy s kind first =
 
 -- An item's home +1 (`ItemInNs::module`): the definition's module, a module itself, that of a variant's parent; none of a builtin.
 unfoldable pub homeOf : Snapshot → Item → ℕ
-homeOf s (Mod m) = m + 1
-homeOf s (Def ns d) = homeBy s (definitionOf s d .kind) (definitionOf s d .first)
+homeOf s (Mod m) = m .0 + 1
+homeOf s (Def ns d) = homeBy s (definitionOf s (d .0) .kind) (definitionOf s (d .0) .first)

@@ -7,10 +7,9 @@ use lib.Dec.{eqb}
 use Rattle.snapshot.specs.Lists.{any}
 use Rattle.snapshot.specs.Records.{Snapshot, Scope, Prelude, Extern, Dependency, Child}
 use Rattle.hir_def.specs.Finds.{firstOf, firstSome, select}
-use Rattle.hir_def.specs.Items.{types, blockOf, containing, crateData, itemOf, sameItem}
+use Rattle.hir_def.specs.Items.{types, blockOf, containing, crateData, itemOf, sameItem, moduleItem}
 use Rattle.hir_def.specs.ItemScope.{counts, namesOf, preferred, get}
 use Rattle.hir_def.specs.declared.Item.{Item}
-use Rattle.hir_def.specs.declared.Item.the-variants.{Mod}
 
 -- The modules that steps (to a number +1) reach from m. The numbers fall, so m steps are enough.
 unfoldable pub stepsOr : (ℕ → List ℕ) → ℕ → List ℕ
@@ -43,7 +42,7 @@ entryNamed s m ns name = firstSome (λ a. get s a ns name) (ancestorMaps s m)
 -- the entry stands for something else than the module
 unfoldable pub isOther : Snapshot → ℕ → Option Scope → Bool
 isOther s m none = false
-isOther s m (some e) = not (sameItem (itemOf s (e .ns) (e .definition)) (Mod m))
+isOther s m (some e) = not (sameItem (itemOf s (e .ns) (e .definition)) (moduleItem m))
 
 -- the name is another thing's than the module m's in types, in the module `from` or around its blocks
 unfoldable pub occupied : Snapshot → ℕ → ℕ → ℕ → Bool

@@ -109,9 +109,9 @@ pub fn item_of(words: &[u32], l: Layout, ns: usize, d: DefinitionId) -> Item
 {
     let h = definition_head(words, l, d);
     if (ns == Namespace::TYPES) & (definition_kind(words, h) == DefinitionKind::MODULE) {
-        return Item::Mod(definition_first(words, h));
+        return Item::Mod(ModuleId(definition_first(words, h)));
     }
-    Item::Def(ns, d.0)
+    Item::Def(Namespace(ns), d)
 }
 
 pub fn same_item(a: Item, b: Item) -> bool
@@ -119,12 +119,12 @@ pub fn same_item(a: Item, b: Item) -> bool
 {
     match a {
         Item::Mod(m) => match b {
-            Item::Mod(n) => m == n,
+            Item::Mod(n) => m.0 == n.0,
             Item::Def(_, _) => false,
         },
         Item::Def(ns, d) => match b {
             Item::Mod(_) => false,
-            Item::Def(other, e) => (ns == other) & (d == e),
+            Item::Def(other, e) => (ns.0 == other.0) & (d.0 == e.0),
         },
     }
 }
@@ -134,7 +134,7 @@ pub fn ns_of(item: Item) -> usize
 {
     match item {
         Item::Mod(_) => Namespace::TYPES,
-        Item::Def(ns, _) => ns,
+        Item::Def(ns, _) => ns.0,
     }
 }
 
@@ -161,7 +161,7 @@ pub fn home_of(words: &[u32], l: Layout, item: Item) -> OptModule
     ensures { λ r. ⌜ ((A : List ℕ) → plusOne r ≡ homeOf (snapOf (now (words .entry)) A l) item) ⌝ }
 {
     match item {
-        Item::Mod(m) => OptModule::Module(ModuleId(m)),
-        Item::Def(_, d) => home_at(words, l, definition_head(words, l, DefinitionId(d))),
+        Item::Mod(m) => OptModule::Module(m),
+        Item::Def(_, d) => home_at(words, l, definition_head(words, l, d)),
     }
 }

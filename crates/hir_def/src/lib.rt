@@ -3,10 +3,14 @@ pub mod items;
 pub mod modules;
 pub mod visibility;
 
-// An item: a module in the types namespace, by the module's number, or a namespace and another definition.
+use snapshot::ids::DefinitionId;
+use snapshot::ids::ModuleId;
+use snapshot::ids::Namespace;
+
+// An item: a module in the types namespace, or a namespace and another definition.
 pub enum Item {
-    Mod(usize),
-    Def(usize, usize),
+    Mod(ModuleId),
+    Def(Namespace, DefinitionId),
 }
 
 /// The place of a record's head, or no record.

@@ -6,23 +6,24 @@ use lib.Dec.{eqb}
 use lib.ListN.{getD}
 use Rattle.snapshot.specs.Lists.{rows}
 use Rattle.snapshot.specs.Limits.{definitionLimit, namespaceLimit}
+use Rattle.hir_def.specs.Items.{definedItem, moduleItem}
 use Rattle.hir_def.specs.declared.Item.{Item}
 use Rattle.hir_def.specs.declared.Item.the-variants.{Mod, Def}
 use Rattle.find_path.specs.Walk.{Level, has}
 
 -- an item that fits a word
 abbrev pub Small : Item → Type 0
-Small (Mod m) = m < definitionLimit
-Small (Def ns d) = (d < definitionLimit) × (ns ≤ namespaceLimit)
+Small (Mod m) = m .0 < definitionLimit
+Small (Def ns d) = (d .0 < definitionLimit) × (ns .0 ≤ namespaceLimit)
 
 -- an item as a word: the namespace is the remainder by 4, and 3 for a module
 unfoldable pub codeOf : Item → ℕ
-codeOf (Mod m) = 4 * m + 3
-codeOf (Def ns d) = 4 * d + ns
+codeOf (Mod m) = 4 * m .0 + 3
+codeOf (Def ns d) = 4 * d .0 + ns .0
 
 unfoldable pub itemBy : ℕ → Bool → Item
-itemBy w true = Mod (w / 4)
-itemBy w false = Def (w % 4) (w / 4)
+itemBy w true = moduleItem (w / 4)
+itemBy w false = definedItem (w % 4) (w / 4)
 
 -- the item of a word
 abbrev pub itemAt : ℕ → Item

@@ -9,6 +9,7 @@ ghost use Rattle.local_levels.specs.Levels.{Small, codeOf, runAt, levels
 ghost use Rattle.local_levels.specs.Post.{Ready, Pushed};
 use crate::Stack;
 use hir_def::Item;
+use snapshot::ids::ModuleId;
 use snapshot::words::word;
 
 // An item as one word.
@@ -17,19 +18,19 @@ pub fn code_of(item: Item) -> usize
     ensures { λ r. ⌜ (r ≡ codeOf item) × (r < 8192) ⌝ }
 {
     match item {
-        Item::Mod(m) => 4 * m + 3,
-        Item::Def(ns, d) => 4 * d + ns,
+        Item::Mod(m) => 4 * m.0 + 3,
+        Item::Def(ns, d) => 4 * d.0 + ns.0,
     }
 }
 
 // Whether m is among the n words from a place on.
-fn has(area: &[u32], from: usize, n: usize, m: usize) -> bool
+fn has(area: &[u32], from: usize, n: usize, m: ModuleId) -> bool
     requires { ⌜ from + n ≤ length (now area) ⌝ }
-    ensures { λ r. ⌜ r ≡ hasIn (runAt (now (area .entry)) from n) m ⌝ }
+    ensures { λ r. ⌜ r ≡ hasIn (runAt (now (area .entry)) from n) (m .0) ⌝ }
 {
     let mut i = 0;
     while i < n {
-        if m == word(area, from + i) {
+        if m.0 == word(area, from + i) {
             return true;
         }
         i += 1;
@@ -38,9 +39,9 @@ fn has(area: &[u32], from: usize, n: usize, m: usize) -> bool
 }
 
 // Whether a level is a search for the item that has taken m.
-fn visited(area: &[u32], s: Stack, item: Item, m: usize) -> bool
+fn visited(area: &[u32], s: Stack, item: Item, m: ModuleId) -> bool
     requires { ⌜ Chain (now area) (s .place) (s .depth) (length (now area)) × Small item ⌝ }
-    ensures { λ r. ⌜ r ≡ visitedIn (levelsOf (now (area .entry)) (s .place) (s .depth)) item m ⌝ }
+    ensures { λ r. ⌜ r ≡ visitedIn (levelsOf (now (area .entry)) (s .place) (s .depth)) item (m .0) ⌝ }
 {
     let code = code_of(item);
     let mut p = s.place;
@@ -59,9 +60,9 @@ fn visited(area: &[u32], s: Stack, item: Item, m: usize) -> bool
 }
 
 // One module goes to the end of the run of n modules at the top, unless it is visited or on it.
-pub(crate) fn push_module(area: &mut [u32], s: Stack, n: usize, item: Item, m: usize) -> usize
-    requires { ⌜ Ready (now area) s n × Small item × (m < moduleLimit) ⌝ }
-    ensures { λ r. ⌜ Pushed (now (area .entry)) s n item (m ∷ []) (now (area .exit)) r ⌝ }
+pub(crate) fn push_module(area: &mut [u32], s: Stack, n: usize, item: Item, m: ModuleId) -> usize
+    requires { ⌜ Ready (now area) s n × Small item × (m .0 < moduleLimit) ⌝ }
+    ensures { λ r. ⌜ Pushed (now (area .entry)) s n item (m .0 ∷ []) (now (area .exit)) r ⌝ }
 {
     if visited(area, s, item, m) {
         return n;
@@ -69,6 +70,6 @@ pub(crate) fn push_module(area: &mut [u32], s: Stack, n: usize, item: Item, m: u
     if has(area, s.top, n, m) {
         return n;
     }
-    area[s.top + n] = m as u32;
+    area[s.top + n] = m.0 as u32;
     n + 1
 }

@@ -56,7 +56,7 @@ fn push_children(
         let owner = child_owner(words, h);
         if owner.0 == from.0 {
             let m = child_child(words, h);
-            run = push_module(area, s, run, item, m.0);
+            run = push_module(area, s, run, item, m);
         }
         k += 1;
     }
@@ -83,7 +83,7 @@ fn push_containers(
             return run;
         };
         m = c;
-        run = push_module(area, s, run, item, m.0);
+        run = push_module(area, s, run, item, m);
     }
 }
 
@@ -122,8 +122,8 @@ fn push_next(
         let Next::Record(j, h) = e else {
             return run;
         };
-        let to = first_of(words, l, scope_definition(words, h));
-        if leads(words, area, l, from, h, ModuleId(to)) {
+        let to = ModuleId(first_of(words, l, scope_definition(words, h)));
+        if leads(words, area, l, from, h, to) {
             run = push_module(area, s, run, item, to);
         }
         k = j + 1;
@@ -146,8 +146,8 @@ pub fn find_local_import_locations(
     let mut n = push_containers(words, area, l, from, s, children, item);
     let mut k = 0;
     while k < n {
-        let m = word(area, s.top + k);
-        n = push_next(words, area, l, from, s, n, item, ModuleId(m));
+        let m = ModuleId(word(area, s.top + k));
+        n = push_next(words, area, l, from, s, n, item, m);
         k += 1;
     }
     n

@@ -16,7 +16,7 @@ use Rattle.accept.specs.Post.{Reads}
 use Rattle.accept.specs.Valid.{Each}
 use Rattle.accept.proofs.Bools.{each-at}
 use Rattle.hir_def.specs.declared.Item.{Item}
-use Rattle.find_path.specs.declared.Choice.{Choice}
+use Rattle.path_choices.specs.declared.Choice.{Choice}
 use Rattle.find_path.specs.declared.FindPathCtx.{FindPathCtx}
 use Rattle.find_path.specs.Choices.{nothing}
 use Rattle.find_path.specs.Walk.{Level, visited, findLocalImportLocations}

@@ -12,13 +12,13 @@ use Rattle.snapshot.specs.declared.layout.Layout.{Layout}
 use Rattle.accept.specs.Stands.{countsIn}
 use Rattle.accept.specs.Post.{Reads}
 use Rattle.accept.specs.Valid.{ScopeFits}
-use Rattle.hir_def.specs.Items.{nsOf}
+use Rattle.hir_def.specs.Items.{nsOf, moduleItem}
 use Rattle.hir_def.specs.declared.Item.{Item}
 use Rattle.hir_def.specs.declared.Item.the-variants.{Mod, Def}
 use Rattle.hir_def.specs.Entries.{entryOf}
 use Rattle.hir_def.specs.declared.Entry.{Entry}
 use Rattle.hir_def.specs.declared.Entry.the-variants.{At, Nothing}
-use Rattle.find_path.specs.declared.Choice.{Choice}
+use Rattle.path_choices.specs.declared.Choice.{Choice}
 use Rattle.find_path.specs.declared.FindPathCtx.{FindPathCtx}
 use Rattle.find_path.specs.Choices.{nothing, lengthLeft}
 use Rattle.find_path.specs.Walk.{Level}
@@ -54,7 +54,7 @@ unfolding nsOf
 asked-small W A l r (Mod m) h = omega (arith, h .0, r .tables .limited .modules)
 asked-small W A l r (Def ns d) h = (omega (arith, h .0, r .tables .limited .definitions), h .1)
 
-pub module-small : (W A : List ℕ) (l : Layout) → Reads W A l → (m : ℕ) → m < l .modules → Small (Mod m)
+pub module-small : (W A : List ℕ) (l : Layout) → Reads W A l → (m : ℕ) → m < l .modules → Small (moduleItem m)
 module-small W A l r m h = omega (arith, h, r .tables .limited .modules)
 
 -- the module search
@@ -79,7 +79,7 @@ module _ (S : Snapshot) (x : FindPathCtx) (left : ℕ) (ls : List Level) (m : �
       ∙ sym (search-or h ∙ ap (orLocal S x (searchLocal S x) left ls m (moduleRules S x false m)) (sym (ap (λ (z : Choice). z .found) e) ∙ t))
 
   pub search-on : {c r : Choice} → (left ≡ 0 → ⊥) → c ≡ moduleRules S x false m → c .found ≡ false
-      → r ≡ calculateBestPathLocal S x (searchLocal S x) left ls (Mod m) → r ≡ searchLocal S x left ls m
+      → r ≡ calculateBestPathLocal S x (searchLocal S x) left ls (moduleItem m) → r ≡ searchLocal S x left ls m
   unfolding orLocal
   search-on {c} h e t q =
       q

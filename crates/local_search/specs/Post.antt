@@ -7,7 +7,7 @@ use Rattle.snapshot.specs.Limits.{moduleLimit, pathLimit, areaLimit}
 use Rattle.snapshot.specs.Layouts.{tableWords}
 use Rattle.snapshot.specs.declared.layout.Layout.{Layout}
 use Rattle.accept.specs.Post.{Reads}
-use Rattle.find_path.specs.declared.Choice.{Choice}
+use Rattle.path_choices.specs.declared.Choice.{Choice}
 use Rattle.find_path.specs.declared.FindPathCtx.{FindPathCtx}
 use Rattle.local_levels.specs.declared.Stack.{Stack}
 use Rattle.local_levels.specs.Levels.{Chain}

@@ -67,7 +67,7 @@ fn find_path_for_module_local(
     if c.found {
         return c;
     }
-    local_at(words, area, l, x, left, Item::Mod(m.0), s)
+    local_at(words, area, l, x, left, Item::Mod(m), s)
 }
 
 // A local search: it opens a level at the top, gathers its run, and searches for each module of it one level up.

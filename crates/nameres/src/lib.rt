@@ -83,7 +83,7 @@ fn is_other(words: &[u32], l: Layout, e: Entry, m: ModuleId) -> bool
         return false;
     };
     let item = item_of(words, l, scope_ns(words, h), scope_definition(words, h));
-    !same_item(item, Item::Mod(m.0))
+    !same_item(item, Item::Mod(m))
 }
 
 /// Whether a name is another thing's than a module's in types, in the module `from` or around its blocks.

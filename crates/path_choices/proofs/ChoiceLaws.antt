@@ -14,9 +14,9 @@ use Rattle.snapshot.specs.Layouts.{nameHead, snapOf}
 use Rattle.snapshot.specs.declared.layout.Layout.{Layout}
 use Rattle.snapshot.proofs.Laws.{past}
 use Rattle.accept.specs.Post.{Reads}
-use Rattle.find_path.specs.declared.Choice.{Choice}
-use Rattle.find_path.proofs.Names.{name-read}
-use Rattle.find_path.specs.Choices.{nameLen, isPrelude, pathKindLen, pathLen, keyword, choiceNew, extended, push, trySelect, compareBool, andThen, comparePrelude, taken, better, shorterIf, lengthLeft}
+use Rattle.path_choices.specs.declared.Choice.{Choice}
+use Rattle.path_choices.proofs.Names.{name-read}
+use Rattle.path_choices.specs.Choices.{nameLen, isPrelude, pathKindLen, pathLen, keyword, choiceNew, extended, push, trySelect, compareBool, andThen, comparePrelude, taken, better, shorterIf, lengthLeft}
 
 -- the branch of a test
 module _ {A : Type 0} (a b : A) where

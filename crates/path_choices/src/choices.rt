@@ -4,8 +4,8 @@ ghost use Prim.Native.Nat.{_+_, _-_, _≤_, _<_, _^_};
 ghost use Rattle.snapshot.specs.Limits.{wordLimit};
 ghost use Rattle.snapshot.specs.Layouts.{snapOf};
 ghost use Rattle.accept.specs.Post.{Reads};
-ghost use Rattle.find_path.specs.Choices.{nameLen, isPrelude, pathKindLen, pathLen, stepBy, nothing as nothingOf, keyword as keywordOf, choiceNew, extended as extendedOf, push as pushOf, unstably as unstablyOf, better as betterOf, trySelect, lengthLeft};
-use find_path::Choice;
+ghost use Rattle.path_choices.specs.Choices.{nameLen, isPrelude, pathKindLen, pathLen, stepBy, nothing as nothingOf, keyword as keywordOf, choiceNew, extended as extendedOf, push as pushOf, unstably as unstablyOf, better as betterOf, trySelect, lengthLeft};
+use crate::Choice;
 use snapshot::ids::Name;
 use snapshot::layout::Layout;
 use snapshot::table::name_head;
@@ -128,79 +128,6 @@ pub fn keyword(kind: usize) -> Choice
     }
 }
 
-/// One name, stable, by a step.
-pub fn choice_new(
-    words: &[u32],
-    area: &[u32],
-    l: Layout,
-    kind: usize,
-    n: Name,
-    via: usize,
-) -> Choice
-    requires { ⌜ Reads (now words) (now area) l × (n .0 < l .names) ⌝ }
-    ensures { λ r. ⌜ r ≡ choiceNew (snapOf (now (words .entry)) (now (area .entry)) l) kind (n .0) via ⌝ }
-{
-    let mut names = [0usize; 16];
-    names[0] = n.0;
-    let mut route = [0usize; 17];
-    route[0] = via;
-    let text = path_kind_len(kind) + name_len(words, area, l, n);
-    let prelude = is_prelude(words, area, l, n);
-    Choice {
-        found: true,
-        kind: kind,
-        names: names,
-        count: 1,
-        path_text_len: text,
-        stable: true,
-        has_prelude_segment: prelude,
-        route: route,
-        steps: 1,
-    }
-}
-
-// One name more, by a step, with a flag given for `prelude`.
-fn extended(
-    words: &[u32],
-    area: &[u32],
-    l: Layout,
-    c: Choice,
-    n: Name,
-    via: usize,
-    flag: bool,
-) -> Choice
-    requires { ⌜ Reads (now words) (now area) l × (n .0 < l .names) × (c .count < 16) × (c .«path_text_len» < 2 ^ 32) × (c .steps < 17) ⌝ }
-    ensures { λ r. ⌜ r ≡ extendedOf (snapOf (now (words .entry)) (now (area .entry)) l) c (n .0) via flag ⌝ }
-{
-    let count = c.count;
-    let mut names = c.names;
-    names[count] = n.0;
-    let steps = c.steps;
-    let mut route = c.route;
-    route[steps] = via;
-    let text = c.path_text_len + name_len(words, area, l, n);
-    Choice {
-        found: true,
-        kind: c.kind,
-        names: names,
-        count: count + 1,
-        path_text_len: text,
-        stable: c.stable,
-        has_prelude_segment: flag,
-        route: route,
-        steps: steps + 1,
-    }
-}
-
-/// One name more, by a step.
-pub fn push(words: &[u32], area: &[u32], l: Layout, c: Choice, n: Name, via: usize) -> Choice
-    requires { ⌜ Reads (now words) (now area) l × (n .0 < l .names) × (c .count < 16) × (c .«path_text_len» < 2 ^ 32) × (c .steps < 17) ⌝ }
-    ensures { λ r. ⌜ r ≡ pushOf (snapOf (now (words .entry)) (now (area .entry)) l) c (n .0) via ⌝ }
-{
-    let flag = is_prelude(words, area, l, n);
-    extended(words, area, l, c, n, via, c.has_prelude_segment | flag)
-}
-
 /// The choice, unstable.
 pub fn unstably(c: Choice) -> Choice
     ensures { λ r. ⌜ r ≡ unstablyOf c ⌝ }
@@ -235,27 +162,95 @@ fn better(
     (s & !t) | (((s & t) | (!s & !t)) & by_prelude)
 }
 
-/// The better of the current choice and a newcomer with one name more; the first choice counts that name for `prelude`.
-pub fn try_select(
-    words: &[u32],
-    area: &[u32],
-    l: Layout,
-    prefer: bool,
-    current: Choice,
-    other: Choice,
-    n: Name,
-    via: usize,
-) -> Choice
-    requires { ⌜ Reads (now words) (now area) l × (n .0 < l .names) × (current .count < 2 ^ 32) × (other .count < 16) × (other .«path_text_len» < 2 ^ 32) × (other .steps < 17) ⌝ }
-    ensures { λ r. ⌜ r ≡ trySelect (snapOf (now (words .entry)) (now (area .entry)) l) prefer current other (n .0) via ⌝ }
-{
-    if !current.found {
-        return push(words, area, l, other, n, via);
+impl Choice {
+    /// One name, stable, by a step.
+    pub fn new(words: &[u32], area: &[u32], l: Layout, kind: usize, n: Name, via: usize) -> Choice
+        requires { ⌜ Reads (now words) (now area) l × (n .0 < l .names) ⌝ }
+        ensures { λ r. ⌜ r ≡ choiceNew (snapOf (now (words .entry)) (now (area .entry)) l) kind (n .0) via ⌝ }
+    {
+        let mut names = [0usize; 16];
+        names[0] = n.0;
+        let mut route = [0usize; 17];
+        route[0] = via;
+        let text = path_kind_len(kind) + name_len(words, area, l, n);
+        let prelude = is_prelude(words, area, l, n);
+        Choice {
+            found: true,
+            kind: kind,
+            names: names,
+            count: 1,
+            path_text_len: text,
+            stable: true,
+            has_prelude_segment: prelude,
+            route: route,
+            steps: 1,
+        }
     }
-    if better(words, area, l, prefer, current, other, n) {
-        return extended(words, area, l, other, n, via, other.has_prelude_segment);
+
+    // One name more, by a step, with a flag given for `prelude`.
+    fn extended(
+        self,
+        words: &[u32],
+        area: &[u32],
+        l: Layout,
+        n: Name,
+        via: usize,
+        flag: bool,
+    ) -> Choice
+        requires { ⌜ Reads (now words) (now area) l × (n .0 < l .names) × (self .count < 16) × (self .«path_text_len» < 2 ^ 32) × (self .steps < 17) ⌝ }
+        ensures { λ r. ⌜ r ≡ extendedOf (snapOf (now (words .entry)) (now (area .entry)) l) self (n .0) via flag ⌝ }
+    {
+        let count = self.count;
+        let mut names = self.names;
+        names[count] = n.0;
+        let steps = self.steps;
+        let mut route = self.route;
+        route[steps] = via;
+        let text = self.path_text_len + name_len(words, area, l, n);
+        Choice {
+            found: true,
+            kind: self.kind,
+            names: names,
+            count: count + 1,
+            path_text_len: text,
+            stable: self.stable,
+            has_prelude_segment: flag,
+            route: route,
+            steps: steps + 1,
+        }
     }
-    current
+
+    /// One name more, by a step.
+    pub fn push(self, words: &[u32], area: &[u32], l: Layout, n: Name, via: usize) -> Choice
+        requires { ⌜ Reads (now words) (now area) l × (n .0 < l .names) × (self .count < 16) × (self .«path_text_len» < 2 ^ 32) × (self .steps < 17) ⌝ }
+        ensures { λ r. ⌜ r ≡ pushOf (snapOf (now (words .entry)) (now (area .entry)) l) self (n .0) via ⌝ }
+    {
+        let flag = is_prelude(words, area, l, n);
+        self.extended(words, area, l, n, via, self.has_prelude_segment | flag)
+    }
+
+    /// The better of this choice and a newcomer with one name more; the first choice counts that name for `prelude`.
+    pub fn try_select(
+        self,
+        words: &[u32],
+        area: &[u32],
+        l: Layout,
+        prefer: bool,
+        other: Choice,
+        n: Name,
+        via: usize,
+    ) -> Choice
+        requires { ⌜ Reads (now words) (now area) l × (n .0 < l .names) × (self .count < 2 ^ 32) × (other .count < 16) × (other .«path_text_len» < 2 ^ 32) × (other .steps < 17) ⌝ }
+        ensures { λ r. ⌜ r ≡ trySelect (snapOf (now (words .entry)) (now (area .entry)) l) prefer self other (n .0) via ⌝ }
+    {
+        if !self.found {
+            return other.push(words, area, l, n, via);
+        }
+        if better(words, area, l, prefer, self, other, n) {
+            return other.extended(words, area, l, n, via, other.has_prelude_segment);
+        }
+        self
+    }
 }
 
 // One less, or 0.

@@ -6,9 +6,8 @@ use native.Mathlib.Omega.{arith}
 use borrow.Author.Tests.{eq-eqb, ne-eqb}
 use lib.Dec.{eqb}
 use Rattle.snapshot.specs.Records.{Snapshot}
-use Rattle.hir_def.specs.Items.{mapNo, mapOf, crateOf, crateData, inBlock, crateRoot, isLang, itemOf}
+use Rattle.hir_def.specs.Items.{mapNo, mapOf, crateOf, crateData, inBlock, crateRoot, isLang, itemOf, definedItem, moduleItem}
 use Rattle.hir_def.specs.declared.Item.{Item}
-use Rattle.hir_def.specs.declared.Item.the-variants.{Mod, Def}
 use Rattle.find_path.specs.declared.Tank.{Tank}
 use Rattle.find_path.specs.declared.FindPathCtx.{FindPathCtx}
 use Rattle.find_path.specs.declared.Query.{Query}
@@ -99,11 +98,11 @@ drained-first left sought t e = ap (drained left sought t) (sym e)
 
 -- what a charge looks for
 
-pub in-module : (item : Item) (m : ℕ) → item ≡ Mod m → m + 1 ≡ moduleIn item
+pub in-module : (item : Item) (m : ℕ) → item ≡ moduleItem m → m + 1 ≡ moduleIn item
 unfolding moduleIn
 in-module item m e = ap moduleIn (sym e)
 
-pub in-none : (item : Item) (ns d : ℕ) → item ≡ Def ns d → 0 ≡ moduleIn item
+pub in-none : (item : Item) (ns d : ℕ) → item ≡ definedItem ns d → 0 ≡ moduleIn item
 unfolding moduleIn
 in-none item ns d e = ap moduleIn (sym e)
 

@@ -60,7 +60,7 @@ pub fn module_in(item: Item) -> usize
     ensures { λ r. ⌜ r ≡ moduleIn item ⌝ }
 {
     match item {
-        Item::Mod(m) => m + 1,
+        Item::Mod(m) => m.0 + 1,
         Item::Def(_, _) => 0,
     }
 }

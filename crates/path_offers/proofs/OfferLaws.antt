@@ -5,7 +5,7 @@ use mathlib.Core.Bool.{Bool, true, false}
 use mathlib.Core.Option.{none, some}
 use Rattle.snapshot.specs.Records.{Snapshot, Scope, Import}
 use Rattle.hir_def.specs.ImportMap.{isUnstable}
-use Rattle.find_path.specs.declared.Choice.{Choice}
+use Rattle.path_choices.specs.declared.Choice.{Choice}
 use Rattle.find_path.specs.declared.FindPathCtx.{FindPathCtx}
 use Rattle.find_path.specs.Choices.{viaLocal, viaImport, stepBy, unstably, trySelect}
 use Rattle.find_path.specs.Local.{offer, offerEntry, isImportable, entryIf}

@@ -17,7 +17,6 @@ use hir_def::Item;
 use import_map::is_unstable;
 use path_choices::choices::StepRule;
 use path_choices::choices::step_by;
-use path_choices::choices::try_select;
 use path_choices::choices::unstably;
 use rule_lookups::Rule;
 use rule_lookups::entry_by;
@@ -68,7 +67,7 @@ fn offer(
     if !c.found {
         return best;
     }
-    try_select(words, area, l, x.prefer_prelude, best, c, n, via)
+    best.try_select(words, area, l, x.prefer_prelude, c, n, via)
 }
 
 /// The better of the choice so far and the module's choice with the name of the scope entry with its head at a place.

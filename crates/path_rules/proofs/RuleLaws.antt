@@ -26,7 +26,7 @@ use Rattle.hir_def.specs.declared.Entry.{Entry}
 use Rattle.hir_def.specs.declared.Entry.the-variants.{At, Nothing}
 use Rattle.hir_def.proofs.Found.{each-first}
 use Rattle.hir_def.proofs.Fresh.{preferred-has}
-use Rattle.find_path.specs.declared.Choice.{Choice}
+use Rattle.path_choices.specs.declared.Choice.{Choice}
 use Rattle.find_path.specs.declared.KwKind.{KwKind}
 use Rattle.find_path.specs.declared.KwKind.the-variants.{Kw, NoKw}
 use Rattle.find_path.specs.declared.FindPathCtx.{FindPathCtx}

@@ -13,7 +13,6 @@ ghost use Rattle.find_path.specs.declared.FindPathCtx.{FindPathCtx};
 ghost use Rattle.find_path.specs.Conditions.{EntryFits};
 ghost use Rattle.find_path.specs.Rules.{prefixPathKind, single as singleOf, findInScope, mayBeInScope, scopeRule, preludeEntry, findInPrelude, preludeRule, externName, rootRule, parentKind, keywordKind, isKwKindRelativeToFrom, keywordOf, moduleRules};
 use crate::choices::StepRule;
-use crate::choices::choice_new;
 use crate::choices::keyword;
 use crate::choices::nothing;
 use crate::choices::step_by;
@@ -66,7 +65,7 @@ fn single(words: &[u32], area: &[u32], l: Layout, kind: usize, rule: usize, e: E
         return nothing();
     };
     let via = step_by(rule, h);
-    choice_new(words, area, l, kind, scope_name(words, h), via)
+    Choice::new(words, area, l, kind, scope_name(words, h), via)
 }
 
 /// The item's entry in the viewing module, or around its blocks.
@@ -181,9 +180,9 @@ fn extern_rule(
     let via = step_by(StepRule::EXTERN, h);
     let name = extern_name(words, h);
     if occupied(words, area, l, x.from, m, name) | x.prefer_absolute {
-        return choice_new(words, area, l, PathKind::ABSOLUTE, name, via);
+        return Choice::new(words, area, l, PathKind::ABSOLUTE, name, via);
     }
-    choice_new(words, area, l, PathKind::PLAIN, name, via)
+    Choice::new(words, area, l, PathKind::PLAIN, name, via)
 }
 
 /// A crate's root: `crate` in the viewer's crate or where no extern may be used, else its extern name.
@@ -281,7 +280,7 @@ pub fn module_rules(
     if first.found {
         return first;
     }
-    let second = scope_rule(words, area, l, x, Item::Mod(m.0));
+    let second = scope_rule(words, area, l, x, Item::Mod(m));
     if second.found {
         return second;
     }
@@ -289,5 +288,5 @@ pub fn module_rules(
     if third.found {
         return third;
     }
-    prelude_rule(words, area, l, x, Item::Mod(m.0))
+    prelude_rule(words, area, l, x, Item::Mod(m))
 }

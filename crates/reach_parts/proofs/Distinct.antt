@@ -29,8 +29,8 @@ or-right false b e = e
 
 same-self : (a : Item) → sameItem a a ≡ true
 unfolding sameItem
-same-self (Mod m) = eq-eqb m m refl
-same-self (Def ns d) = ap₂ (λ x y. x && y) (eq-eqb ns ns refl) (eq-eqb d d refl)
+same-self (Mod m) = eq-eqb (m .0) (m .0) refl
+same-self (Def ns d) = ap₂ (λ x y. x && y) (eq-eqb (ns .0) (ns .0) refl) (eq-eqb (d .0) (d .0) refl)
 
 module _ (s : Snapshot) where
   abbrev same : Scope → Scope → Bool

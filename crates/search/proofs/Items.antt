@@ -17,13 +17,13 @@ use Rattle.snapshot.proofs.Laws.{length-rows}
 use Rattle.accept.specs.Post.{Reads}
 use Rattle.accept.proofs.Accepted.{by-test}
 use Rattle.accept.proofs.Valid.{accepted-valid}
-use Rattle.hir_def.specs.Items.{definitionOf, itemOf, nsOf}
+use Rattle.hir_def.specs.Items.{definitionOf, itemOf, nsOf, definedItem, moduleItem}
 use Rattle.hir_def.specs.Entries.{Known}
 use Rattle.hir_def.specs.declared.Item.{Item}
 use Rattle.hir_def.specs.declared.Item.the-variants.{Mod, Def}
 use Rattle.hir_def.proofs.Lookups.{item-module, item-other}
 use Rattle.hir_def.proofs.Fits.{definition-fits, item-known}
-use Rattle.find_path.specs.declared.Choice.{Choice}
+use Rattle.path_choices.specs.declared.Choice.{Choice}
 use Rattle.find_path.specs.declared.Tank.{Tank}
 use Rattle.find_path.specs.declared.Found.{Found}
 use Rattle.find_path.specs.declared.FindPathCtx.{FindPathCtx}
@@ -62,27 +62,27 @@ module _ (p q : Choice) where
 -- the number of an item's definition, 0 for a module
 abbrev pub number : Item → ℕ
 number (Mod m) = 0
-number (Def n d) = d
+number (Def n d) = d .0
 
 -- the definition of a variant
 module _ (s : Snapshot) where
-  pub variant-module : {item : Item} {m : ℕ} → item ≡ Mod m → none ≡ variantOf s item
+  pub variant-module : {item : Item} {m : ℕ} → item ≡ moduleItem m → none ≡ variantOf s item
   unfolding variantOf
   variant-module e = sym (ap (variantOf s) e)
 
-  pub variant-yes : {item : Item} {n d k : ℕ} {y : Definition} → item ≡ Def n d → y ≡ definitionOf s d → k ≡ y .kind → k ≡ 2 → some y ≡ variantOf s item
+  pub variant-yes : {item : Item} {n d k : ℕ} {y : Definition} → item ≡ definedItem n d → y ≡ definitionOf s d → k ≡ y .kind → k ≡ 2 → some y ≡ variantOf s item
   unfolding variantOf
   variant-yes {d = d} e h g k =
       let u : eqb (definitionOf s d .kind) 2 ≡ true = eq-eqb _ _ (ap (λ (z : Definition). z .kind) (sym h) ∙ sym g ∙ k) in
       rw (e, variantOf, u) (ap some h)
 
-  pub variant-no : {item : Item} {n d k : ℕ} → item ≡ Def n d → k ≡ definitionOf s d .kind → (k ≡ 2 → ⊥) → none ≡ variantOf s item
+  pub variant-no : {item : Item} {n d k : ℕ} → item ≡ definedItem n d → k ≡ definitionOf s d .kind → (k ≡ 2 → ⊥) → none ≡ variantOf s item
   unfolding variantOf
   variant-no {d = d} e g k =
       let u : eqb (definitionOf s d .kind) 2 ≡ false = ne-eqb _ _ (λ z. k (g ∙ z)) in
       rw (e, variantOf, u)
 
-  variant-of-def : (n d : ℕ) (v : Definition) → variantOf s (Def n d) ≡ some v → (definitionOf s d .kind ≡ 2) × (v ≡ definitionOf s d)
+  variant-of-def : (n d : ℕ) (v : Definition) → variantOf s (definedItem n d) ≡ some v → (definitionOf s d .kind ≡ 2) × (v ≡ definitionOf s d)
   unfolding variantOf
   variant-of-def n d v e =
       by-test (eqb (definitionOf s d .kind) 2)
@@ -125,9 +125,9 @@ module _ (W A : List ℕ) (l : Layout) (r : Reads W A l) where
   unfolding variantOf
   enum-no-variant (Mod m) h v e = let z : _≡_ {A = ℕ} 0 1 = cc in absurd (omega arith)
   enum-no-variant (Def n d) h v e =
-      let q = variant-of-def S n d v e in
-      let w = enum-before d h (q .0) in
-      subst (λ (y : Definition). variantOf S (itemOf S 0 (y .first)) ≡ none) (sym (q .1)) (other-none S (definitionOf S d .first) (w .1))
+      let q = variant-of-def S (n .0) (d .0) v e in
+      let w = enum-before (d .0) h (q .0) in
+      subst (λ (y : Definition). variantOf S (itemOf S 0 (y .first)) ≡ none) (sym (q .1)) (other-none S (definitionOf S (d .0) .first) (w .1))
 
   -- the enum of a variant: its place, its number, its name
   pub record Parent (item : Item) (v : Definition) : Type 0 where
@@ -141,9 +141,9 @@ module _ (W A : List ℕ) (l : Layout) (r : Reads W A l) where
   unfolding variantOf
   parent-of (Mod m) v h e = let z : _≡_ {A = ℕ} 0 1 = cc in absurd (omega arith)
   parent-of (Def n d) v h e =
-      let q = variant-of-def S n d v (sym e) in
-      let w = enum-before d h (q .0) in
-      let z = definition-fits W A l r d h in
+      let q = variant-of-def S (n .0) (d .0) v (sym e) in
+      let w = enum-before (d .0) h (q .0) in
+      let z = definition-fits W A l r (d .0) h in
       let y = z .variant (q .0) in
       let m = ap (λ (z : Definition). z .place) (q .1) in
       let i = ap (λ (z : Definition). z .first) (q .1) in
@@ -164,17 +164,17 @@ module _ (s : Snapshot) (x : FindPathCtx) where
   unfolding findPathInner ofModule straight
   at-once (Mod n) m t true e h = let z : 0 ≡ suc m = h in absurd (omega (arith, z))
   at-once (Mod n) m t false e h =
-      let z : n + 1 ≡ suc m = h in
-      let k : m ≡ n = omega (arith, z) in
-      ap (λ (y : ℕ). modules s x (x .«max_len») y t) k ∙ sym (ap (ofModule Tank fromTank s x (bestLocal s x) (modules s x) (items s x) n t) e)
+      let z : (n .0) + 1 ≡ suc m = h in
+      let k : m ≡ (n .0) = omega (arith, z) in
+      ap (λ (y : ℕ). modules s x (x .«max_len») y t) k ∙ sym (ap (ofModule Tank fromTank s x (bestLocal s x) (modules s x) (items s x) (n .0) t) e)
   at-once (Def n d) m t true e h = let z : 0 ≡ suc m = h in absurd (omega (arith, z))
   at-once (Def n d) m t false e h = let z : 0 ≡ suc m = h in absurd (omega (arith, z))
 
   by-name : (item : Item) (t : Tank) (b : Bool) → x .«is_std_item» ≡ b → straight b item ≡ 0
       → names s x item t ≡ findPathInner Tank fromTank s x (bestLocal s x) (modules s x) (items s x) item t
   unfolding findPathInner ofModule straight
-  by-name (Mod n) t true e h = sym (ap (ofModule Tank fromTank s x (bestLocal s x) (modules s x) (items s x) n t) e)
-  by-name (Mod n) t false e h = let z : n + 1 ≡ 0 = h in absurd (omega (arith, z))
+  by-name (Mod n) t true e h = sym (ap (ofModule Tank fromTank s x (bestLocal s x) (modules s x) (items s x) (n .0) t) e)
+  by-name (Mod n) t false e h = let z : (n .0) + 1 ≡ 0 = h in absurd (omega (arith, z))
   by-name (Def n d) t b e h = refl
 
   pub inner-at-once : (item : Item) (t : Tank) {m : ℕ} → EnumNoVariant s item → straight (x .«is_std_item») item ≡ suc m → modules s x (x .«max_len») m t ≡ items s x item t

@@ -18,7 +18,7 @@ use Rattle.hir_def.specs.Entries.{Known, ReadsAs}
 use Rattle.hir_def.specs.declared.Item.{Item}
 use Rattle.hir_def.specs.declared.Item.the-variants.{Mod, Def}
 use Rattle.hir_def.proofs.Fits.{definition-fits, home-fits}
-use Rattle.find_path.specs.declared.Choice.{Choice}
+use Rattle.path_choices.specs.declared.Choice.{Choice}
 use Rattle.find_path.specs.declared.Tank.{Tank}
 use Rattle.find_path.specs.declared.Found.{Found}
 use Rattle.find_path.specs.declared.FindPathCtx.{FindPathCtx}
@@ -46,7 +46,7 @@ begun p = record { ready = p; some = p .some; limit = p .limit }
 pub straight-known : (l : Layout) (b : Bool) (item : Item) {m : ℕ} → straight b item ≡ suc m → Known l item → m < l .modules
 unfolding straight
 straight-known l true item {m} e h = let z : 0 ≡ suc m = e in absurd (omega (arith, z))
-straight-known l false (Mod n) {m} e h = let z : n + 1 ≡ suc m = e in omega (arith, z, h)
+straight-known l false (Mod n) {m} e h = let z : (n .0) + 1 ≡ suc m = e in omega (arith, z, h)
 straight-known l false (Def n d) {m} e h = let z : 0 ≡ suc m = e in absurd (omega (arith, z))
 
 -- the path of an enum can be offered with a name

@@ -32,9 +32,7 @@ use hir_def::items::home_of;
 use hir_def::items::item_of;
 use hir_def::items::kind_of;
 use path_rules::choices::StepRule;
-use path_rules::choices::choice_new;
 use path_rules::choices::nothing;
-use path_rules::choices::push;
 use path_rules::choices::step_by;
 use path_rules::context::context;
 use path_rules::context::module_in;
@@ -75,7 +73,7 @@ fn variant_of(words: &[u32], l: Layout, item: Item) -> Entry
     let Item::Def(_, d) = item else {
         return Entry::Nothing;
     };
-    let h = definition_head(words, l, DefinitionId(d));
+    let h = definition_head(words, l, d);
     if definition_kind(words, h) == DefinitionKind::VARIANT {
         return Entry::At(h);
     }
@@ -88,7 +86,7 @@ fn push_variant(words: &[u32], area: &[u32], l: Layout, c: Choice, n: Name, h: u
     ensures { λ r. ⌜ r ≡ pushOf (snapOf (now (words .entry)) (now (area .entry)) l) c (n .0) (stepBy viaVariant h) ⌝ }
 {
     let via = step_by(StepRule::VARIANT, h);
-    push(words, area, l, c, n, via)
+    c.push(words, area, l, n, via)
 }
 
 // The name of a builtin.
@@ -98,7 +96,7 @@ fn builtin_choice(words: &[u32], area: &[u32], l: Layout, d: DefinitionId) -> Ch
 {
     let h = definition_head(words, l, d);
     let via = step_by(StepRule::BUILTIN, h);
-    choice_new(words, area, l, 0, Name(definition_first(words, h)), via)
+    Choice::new(words, area, l, 0, Name(definition_first(words, h)), via)
 }
 
 /// The search for an item: a module goes straight to the module search, unless it is std's.

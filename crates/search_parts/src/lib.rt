@@ -49,7 +49,7 @@ pub fn straight_of(std: bool, item: Item) -> OptModule
         return OptModule::NoModule;
     }
     match item {
-        Item::Mod(m) => OptModule::Module(ModuleId(m)),
+        Item::Mod(m) => OptModule::Module(m),
         Item::Def(_, _) => OptModule::NoModule,
     }
 }

@@ -4,8 +4,7 @@ use denote.Ref.{now}
 use mathlib.Core.Bool.{not}
 use Rattle.snapshot.specs.Records.{scopeAt}
 use Rattle.snapshot.specs.Layouts.{snapOf}
-use Rattle.hir_def.specs.declared.Item.the-variants.{Mod}
-use Rattle.hir_def.specs.Items.{itemOf, sameItem}
+use Rattle.hir_def.specs.Items.{itemOf, sameItem, moduleItem}
 use Rattle.hir_def.specs.Entries.{entryOf}
 use Rattle.hir_def.specs.Nameres.{isOther}
 use Rattle.nameres.proofs.is_other.Statement.{statement}
@@ -42,7 +41,7 @@ returns-2 c =
     λ A.
     (let s = c .before .before .before .before .before .before .before .before in
     let i = c .before .item-of .ensures A ∙ ap₂ (λ n d. itemOf (snapOf (now (s .args .words)) A (s .args .l)) n d) (c .before .before .before .scope-ns .ensures) (c .before .before .scope-definition .ensures) in
-    ap not (c .same-item .ensures ∙ ap (λ x. sameItem x (Mod (s .args .m .0))) i)
+    ap not (c .same-item .ensures ∙ ap (λ x. sameItem x (moduleItem (s .args .m .0))) i)
     ∙ sym (ap (λ e. isOther (snapOf (now (s .args .words)) A (s .args .l)) (s .args .m .0) (entryOf scopeAt (now (s .args .words)) e)) (c .before .before .before .before .before .e .given .1)))
 
 pub is-other-spec : {M : Type 1} → statement M

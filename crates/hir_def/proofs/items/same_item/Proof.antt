@@ -24,7 +24,7 @@ enum-known-b-2 c = search needs
 
 returns : tie.Need-returns
 unfolding sameItem
-returns c = sym (ap₂ sameItem (c .before .before .before .before .a .given .1) (c .before .b .given .1))
+returns c = sym (ap₂ sameItem (c .before .before .before .before .before .before .a .given .1) (c .before .before .before .b .given .1))
 
 returns-2 : tie.Need-returns-2
 unfolding sameItem
@@ -36,7 +36,7 @@ returns-3 c = sym (ap₂ sameItem (c .before .before .before .a2 .given .1) (c .
 
 returns-4 : tie.Need-returns-4
 unfolding sameItem
-returns-4 c = sym (ap₂ sameItem (c .before .before .before .before .a2 .given .1) (c .before .b2 .given .1))
+returns-4 c = sym (ap₂ sameItem (c .before .before .before .before .before .before .before .before .a2 .given .1) (c .before .before .before .before .before .b2 .given .1))
 
 pub same-item-spec : {M : Type 1} → statement M
 same-item-spec =

@@ -14,7 +14,7 @@ use Rattle.local_levels.proofs.levels.has.Tie as tie
 
 abbrev Inv-loop : tie.InvT-loop
 Inv-loop area from n m i₀ i =
-    (i ≤ n) × (has (runAt area from n) m ≡ any (eqb m) (rows (λ k. getD area (from + k) 0) i (n - i)))
+    (i ≤ n) × (has (runAt area from n) (m .0) ≡ any (eqb (m .0)) (rows (λ k. getD area (from + k) 0) i (n - i)))
 
 abbrev μ-loop : tie.MeasureT-loop
 μ-loop area from n m i₀ i = n - i
@@ -32,9 +32,9 @@ word-requires c κs = tt
 
 returns : tie.Need-returns Inv-loop μ-loop
 returns c =
-    let i = c .before .before in
+    let i = c .before .before .before in
     let s = i .before .before .before in
-    has-hit (now (s .args .area)) _ _ _ _ (i .before .loop .inv .1) (i .loop-test .taken) (c .before .word .ensures) (c .if1 .taken)
+    has-hit (now (s .args .area)) _ _ _ _ (i .before .loop .inv .1) (i .loop-test .taken) (c .before .before .word .ensures) (c .if1 .taken)
 
 add-i : tie.Need-add-i Inv-loop μ-loop
 add-i c = search needs
@@ -44,9 +44,9 @@ loop-less c = omega arith
 
 loop-again : tie.Need-loop-again Inv-loop μ-loop
 loop-again c =
-    let i = c .before .before in
+    let i = c .before .before .before in
     let s = i .before .before .before in
-    (omega arith, has-miss (now (s .args .area)) _ _ _ _ (i .before .loop .inv .1) (i .loop-test .taken) (c .before .word .ensures) (c .if1 .left))
+    (omega arith, has-miss (now (s .args .area)) _ _ _ _ (i .before .loop .inv .1) (i .loop-test .taken) (c .before .before .word .ensures) (c .if1 .left))
 
 returns-2 : tie.Need-returns-2 Inv-loop μ-loop
 returns-2 c =

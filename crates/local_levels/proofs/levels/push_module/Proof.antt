@@ -42,7 +42,7 @@ mul-area c = search needs
 
 slice-write-area : tie.Need-slice-write-area
 slice-write-area c =
-    let e = c .before in
+    let e = c .before .before in
     let b = e .before .before .before in
     let s = b .before .before .before .before in
     omega (arith, s .pre .0 .space, push-place (now (s .args .area)) _ _ (s .args .item) _ (s .pre .0) (s .pre .2) (e .before .has .ensures) (e .if2 .left))
@@ -55,7 +55,7 @@ same-length-3 c = search needs
 
 returns-3 : tie.Need-returns-3
 returns-3 c =
-    let e = c .before in
+    let e = c .before .before in
     let b = e .before .before .before in
     let s = b .before .before .before .before in
     push-new (now (s .args .area)) _ _ _ _ (s .pre .0) _ (s .pre .2) (b .before .visited .ensures) (b .if1 .left) (e .before .has .ensures) (e .if2 .left) refl

@@ -18,7 +18,7 @@ use Rattle.snapshot.proofs.words.word.Reads as word-reads
 
 abbrev Inv-loop : tie.InvT-loop
 Inv-loop area m code p₀ d₀ p d =
-    ((item : Item) → Small item → code ≡ codeOf item → visited (levelsOf area p₀ d₀) item m ≡ visited (levelsOf area p d) item m)
+    ((item : Item) → Small item → code ≡ codeOf item → visited (levelsOf area p₀ d₀) item (m .0) ≡ visited (levelsOf area p d) item (m .0))
     × Chain area p d (length area)
 
 abbrev μ-loop : tie.MeasureT-loop

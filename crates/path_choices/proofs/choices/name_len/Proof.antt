@@ -4,7 +4,7 @@ use denote.Ref.{now}
 use native.Mathlib.Omega.{arith}
 use lib.ListN.{getD}
 use Rattle.snapshot.specs.Words.{payOf}
-use Rattle.find_path.proofs.Names.{name-bytes, name-short}
+use Rattle.path_choices.proofs.Names.{name-bytes, name-short}
 use Rattle.path_choices.proofs.choices.name_len.Statement.{statement}
 use Rattle.path_choices.proofs.choices.name_len.Tie as tie
 

@@ -1,7 +1,7 @@
 use borrow.Author.Needs.{needs}
 use mathlib.Core.Path.{refl}
 use native.Mathlib.Omega.{arith}
-use Rattle.find_path.specs.Choices.{pathKindLen}
+use Rattle.path_choices.specs.Choices.{pathKindLen}
 use Rattle.path_choices.proofs.ChoiceLaws.{kind-past, kind-text}
 use Rattle.path_choices.proofs.choices.path_kind_len.Statement.{statement}
 use Rattle.path_choices.proofs.choices.path_kind_len.Tie as tie

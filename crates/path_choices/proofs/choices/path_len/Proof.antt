@@ -1,7 +1,7 @@
 use borrow.Author.Needs.{needs}
 use mathlib.Core.Path.{refl}
 use native.Mathlib.Omega.{arith}
-use Rattle.find_path.specs.Choices.{pathLen}
+use Rattle.path_choices.specs.Choices.{pathLen}
 use Rattle.path_choices.proofs.ChoiceLaws.{len-past, kind-names}
 use Rattle.path_choices.proofs.choices.path_len.Statement.{statement}
 use Rattle.path_choices.proofs.choices.path_len.Tie as tie

@@ -1,5 +1,5 @@
 use mathlib.Core.Path.{refl}
-use Rattle.find_path.specs.Choices.{unstably}
+use Rattle.path_choices.specs.Choices.{unstably}
 use Rattle.path_choices.proofs.choices.unstably.Statement.{statement}
 use Rattle.path_choices.proofs.choices.unstably.Tie as tie
 

@@ -9,14 +9,14 @@ enum-known-item c = search needs
 
 add-result : tie.Need-add-result
 add-result c =
-    let s = c .before .before .before in
-    omega (arith, s .pre, in-module (s .args .item) _ (c .before .item .given .1))
+    let s = c .before .before .before .before in
+    omega (arith, s .pre, in-module (s .args .item) _ (c .before .before .item .given .1))
 
 enum-told : tie.Need-enum-told
 enum-told c = search needs
 
 returns : tie.Need-returns
-returns c = in-module _ _ (c .before .item .given .1)
+returns c = in-module _ _ (c .before .before .item .given .1)
 
 returns-2 : tie.Need-returns-2
 returns-2 c = in-none _ _ _ (c .enum-told .given .1)

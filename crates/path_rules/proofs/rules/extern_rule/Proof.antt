@@ -38,8 +38,8 @@ extern-name-requires c κs = search needs
 occupied-requires : tie.Need-occupied-requires
 occupied-requires c κs = search needs
 
-choice-new-requires : tie.Need-choice-new-requires
-choice-new-requires c κs =
+new-requires : tie.Need-new-requires
+new-requires c κs =
     let s = c .before .before .before .before .before .before .before .before .before .before in
     (s .pre .0, rw (c .before .before .before .extern-name .ensures) (s .pre .2 _ (c .before .before .before .before .before .before .e .given .1) .name))
 
@@ -51,10 +51,10 @@ returns-2 c =
     let W = now (s .args .words) in
     let g = c .before .before .before .before .before .before .before .e .given in
     let e = extern-some n (s .args .x) (s .args .m .0) (externAt W (g .0 .0)) true (c .before .before .before .before .extern-name .ensures) (c .before .before .before .before .before .step-by .ensures) (c .before .before .before .occupied .ensures) (c .before .if1 .taken) in
-    c .choice-new .ensures ∙ e ∙ sym (ap (λ e. externName n (s .args .x) (s .args .m .0) (entryOf externAt W e)) (g .1))
+    c .new .ensures ∙ e ∙ sym (ap (λ e. externName n (s .args .x) (s .args .m .0) (entryOf externAt W e)) (g .1))
 
-choice-new-requires-2 : tie.Need-choice-new-requires-2
-choice-new-requires-2 c κs =
+new-requires-2 : tie.Need-new-requires-2
+new-requires-2 c κs =
     let s = c .before .before .before .before .before .before .before .before .before .before in
     (s .pre .0, rw (c .before .before .before .extern-name .ensures) (s .pre .2 _ (c .before .before .before .before .before .before .e .given .1) .name))
 
@@ -66,7 +66,7 @@ returns-3 c =
     let W = now (s .args .words) in
     let g = c .before .before .before .before .before .before .before .e .given in
     let e = extern-some n (s .args .x) (s .args .m .0) (externAt W (g .0 .0)) false (c .before .before .before .before .extern-name .ensures) (c .before .before .before .before .before .step-by .ensures) (c .before .before .before .occupied .ensures) (c .before .if1 .left) in
-    c .choice-new2 .ensures ∙ e ∙ sym (ap (λ e. externName n (s .args .x) (s .args .m .0) (entryOf externAt W e)) (g .1))
+    c .new2 .ensures ∙ e ∙ sym (ap (λ e. externName n (s .args .x) (s .args .m .0) (entryOf externAt W e)) (g .1))
 
 pub extern-rule-spec : {M : Type 1} → statement M
 extern-rule-spec =
@@ -79,7 +79,7 @@ extern-rule-spec =
     step-by-requires
     extern-name-requires
     occupied-requires
-    choice-new-requires
+    new-requires
     returns-2
-    choice-new-requires-2
+    new-requires-2
     returns-3)

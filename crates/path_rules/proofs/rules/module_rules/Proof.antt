@@ -1,8 +1,8 @@
 use borrow.Author.Needs.{needs}
 use mathlib.Core.Path.{_∙_}
 use denote.Ref.{now}
+use Rattle.hir_def.specs.Items.{moduleItem}
 use Rattle.snapshot.specs.Layouts.{snapOf}
-use Rattle.hir_def.specs.declared.Item.the-variants.{Mod}
 use Rattle.find_path.specs.Rules.{findInPrelude, preludeRule, moduleRules}
 use Rattle.path_rules.proofs.RuleLaws.{first-hit, first-miss, single-last}
 use Rattle.path_rules.proofs.rules.module_rules.Statement.{statement}
@@ -39,7 +39,7 @@ unfolding preludeRule moduleRules
 returns-4 c =
     let s = c .before .before .before .before .before .before .before .before .before in
     let n = snapOf (now (s .args .words)) (now (s .args .area)) (s .args .l) in
-    c .prelude-rule .ensures ∙ single-last n (s .args .x) 0 2 (findInPrelude n (s .args .x) (Mod (s .args .m .0)))
+    c .prelude-rule .ensures ∙ single-last n (s .args .x) 0 2 (findInPrelude n (s .args .x) (moduleItem (s .args .m .0)))
     ∙ first-miss _ (c .before .before .keyword-rule .ensures) (c .before .if3 .left) ∙ first-miss _ (c .before .before .before .before .scope-rule .ensures) (c .before .before .before .if2 .left)
     ∙ first-miss _ (c .before .before .before .before .before .before .root-rule .ensures) (c .before .before .before .before .before .if1 .left)
 

@@ -35,8 +35,8 @@ step-by-requires c κs =
 scope-name-requires : tie.Need-scope-name-requires
 scope-name-requires c κs = search needs
 
-choice-new-requires : tie.Need-choice-new-requires
-choice-new-requires c κs =
+new-requires : tie.Need-new-requires
+new-requires c κs =
     let s = c .before .before .before .before .before .before .before in
     let f = subst (EntryFits (now (s .args .words)) (s .args .l)) (c .before .before .before .e .given .1) (s .pre .2) in
     (s .pre .0, rw (c .scope-name .ensures) (f .name))
@@ -48,7 +48,7 @@ returns-2 c =
     (let s = c .before .before .before .before .before .before .before .before in
     let W = now (s .args .words) in
     let n = snapOf W (now (s .args .area)) (s .args .l) in
-    c .choice-new .ensures
+    c .new .ensures
     ∙ ap₂ (choiceNew n (s .args .kind)) (c .before .scope-name .ensures) (c .before .before .step-by .ensures)
     ∙ sym (ap (λ e. single n x (s .args .kind) (s .args .rule) (entryOf scopeAt W e)) (c .before .before .before .before .e .given .1)))
 
@@ -62,5 +62,5 @@ single-spec =
     returns
     step-by-requires
     scope-name-requires
-    choice-new-requires
+    new-requires
     returns-2)

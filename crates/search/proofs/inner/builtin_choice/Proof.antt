@@ -18,8 +18,8 @@ step-by-requires c κs =
 definition-first-requires : tie.Need-definition-first-requires
 definition-first-requires c κs = search needs
 
-choice-new-requires : tie.Need-choice-new-requires
-choice-new-requires c κs =
+new-requires : tie.Need-new-requires
+new-requires c κs =
     let s = c .before .before .before .before .before in
     let A = now (s .args .area) in
     (s .pre .0, builtin-name (now (s .args .words)) A (s .args .l) (s .pre .0) (s .args .d .0) (s .pre .1) (s .pre .2) (c .before .before .definition-head .ensures A) (c .definition-first .ensures))
@@ -28,7 +28,7 @@ returns : tie.Need-returns
 returns c =
     let s = c .before .before .before .before .before .before in
     let A = now (s .args .area) in
-    builtin-same (now (s .args .words)) A (s .args .l) (s .pre .0) (s .args .d .0) (s .pre .1) (s .pre .2) (c .before .before .before .definition-head .ensures A) (c .before .definition-first .ensures) (c .before .before .step-by .ensures) (c .choice-new .ensures)
+    builtin-same (now (s .args .words)) A (s .args .l) (s .pre .0) (s .args .d .0) (s .pre .1) (s .pre .2) (c .before .before .before .definition-head .ensures A) (c .before .definition-first .ensures) (c .before .before .step-by .ensures) (c .new .ensures)
 
 pub builtin-choice-spec : {M : Type 1} → statement M
 builtin-choice-spec =
@@ -37,5 +37,5 @@ builtin-choice-spec =
     definition-head-requires
     step-by-requires
     definition-first-requires
-    choice-new-requires
+    new-requires
     returns)

@@ -4,8 +4,8 @@ use mathlib.Core.Path.{ap}
 use denote.Ref.{now}
 use Rattle.snapshot.specs.Layouts.{snapOf}
 use Rattle.path_choices.proofs.ChoiceLaws.{extended-same}
-use Rattle.path_choices.proofs.choices.extended.Statement.{statement}
-use Rattle.path_choices.proofs.choices.extended.Tie as tie
+use Rattle.path_choices.proofs.Choice.extended.Statement.{statement}
+use Rattle.path_choices.proofs.Choice.extended.Tie as tie
 
 mul-names : tie.Need-mul-names
 mul-names c = search needs
@@ -34,7 +34,7 @@ add-t20 c = search needs
 returns : tie.Need-returns
 returns c =
     let s = c .before .before .before .before .before .before in
-    extended-same (snapOf (now (s .args .words)) (now (s .args .area)) (s .args .l)) (s .args .c) (s .args .n .0) (s .args .via) (s .args .flag) (ap (λ x. s .args .c .«path_text_len» + x) (c .before .name-len .ensures .0))
+    extended-same (snapOf (now (s .args .words)) (now (s .args .area)) (s .args .l)) (s .args .self) (s .args .n .0) (s .args .via) (s .args .flag) (ap (λ x. s .args .self .«path_text_len» + x) (c .before .name-len .ensures .0))
 
 pub extended-spec : {M : Type 1} → statement M
 extended-spec =

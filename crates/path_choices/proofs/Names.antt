@@ -11,7 +11,7 @@ use Rattle.snapshot.proofs.Laws.{getD-rows}
 use Rattle.accept.specs.Post.{Reads}
 use Rattle.accept.proofs.Valid.{accepted-valid}
 use Rattle.accept.proofs.Bools.{each-rows}
-use Rattle.find_path.specs.Choices.{nameData, nameLen}
+use Rattle.path_choices.specs.Choices.{nameData, nameLen}
 
 module _ (W A : List ℕ) (l : Layout) (r : Reads W A l) (n : ℕ) (h : n < l .names) where
   pub name-read : nameAt W (nameHead A n) ≡ nameData (snapOf W A l) n

@@ -4,8 +4,8 @@ use mathlib.Core.Path.{ap₂}
 use denote.Ref.{now}
 use Rattle.snapshot.specs.Layouts.{snapOf}
 use Rattle.path_choices.proofs.ChoiceLaws.{new-same}
-use Rattle.path_choices.proofs.choices.choice_new.Statement.{statement}
-use Rattle.path_choices.proofs.choices.choice_new.Tie as tie
+use Rattle.path_choices.proofs.Choice.new.Statement.{statement}
+use Rattle.path_choices.proofs.Choice.new.Tie as tie
 
 array-write-names : tie.Need-array-write-names
 array-write-names c = search needs
@@ -30,8 +30,8 @@ returns c =
     let s = c .before .before .before .before .before in
     new-same (snapOf (now (s .args .words)) (now (s .args .area)) (s .args .l)) (s .args .kind) (s .args .n .0) (s .args .via) (ap₂ (λ x y. x + y) (c .before .before .path-kind-len .ensures .0) (c .before .name-len .ensures .0)) (c .is-prelude .ensures)
 
-pub choice-new-spec : {M : Type 1} → statement M
-choice-new-spec =
+pub new-spec : {M : Type 1} → statement M
+new-spec =
     tie.close
     (tie.spec
     array-write-names
