@@ -9,7 +9,7 @@ use Rattle.snapshot.specs.Records.{Snapshot}
 use Rattle.hir_def.specs.Items.{types, builtinKind, definitionOf, itemOf}
 use Rattle.hir_def.specs.declared.Item.{Item}
 use Rattle.read_back.specs.Reads.{readsBack}
-use Rattle.find_path.specs.declared.Choice.{Choice}
+use Rattle.path_choices.specs.declared.Choice.{Choice}
 use Rattle.find_path.specs.declared.Found.{Found}
 use Rattle.find_path.specs.declared.Query.{Query}
 use Rattle.find_path.specs.declared.Tank.{Tank}

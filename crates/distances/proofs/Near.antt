@@ -19,7 +19,7 @@ use Rattle.hir_def.specs.Nameres.{entryIn, ancestorMaps, scopeEntry, preludeOf}
 use Rattle.hir_def.specs.declared.Item.{Item}
 use Rattle.hir_def.specs.declared.Item.the-variants.{Mod, Def}
 use Rattle.hir_def.proofs.Fresh.{preferred-has}
-use Rattle.find_path.specs.declared.Choice.{Choice}
+use Rattle.path_choices.specs.declared.Choice.{Choice}
 use Rattle.find_path.specs.declared.FindPathCtx.{FindPathCtx}
 use Rattle.find_path.specs.Choices.{nothing}
 use Rattle.find_path.specs.Rules.{firstFound, single, findInScope, mayBeInScope, scopeRule, isUsable, preludeEntry, inPrelude, findInPrelude, preludeRule, rootRule, keywordOf, isKwKindRelativeToFrom, moduleRules}

@@ -19,7 +19,7 @@ use Rattle.hir_def.specs.Items.{types, moduleKind, builtinKind, mapOf, mapNo, c
 use Rattle.hir_def.specs.declared.Item.{Item}
 use Rattle.read_back.specs.Reads.{readsTo, readsBack}
 use Rattle.read_back.proofs.Exact.{reads-exactly, exactly-reads}
-use Rattle.find_path.specs.declared.Choice.{Choice}
+use Rattle.path_choices.specs.declared.Choice.{Choice}
 use Rattle.find_path.specs.declared.FindPathCtx.{FindPathCtx}
 use Rattle.find_path.specs.declared.Query.{Query}
 use Rattle.find_path.specs.declared.Report.{Report}

@@ -15,11 +15,10 @@ use Rattle.accept.proofs.Accepted.{by-test}
 use Rattle.module_tree.specs.Modules.{mapNo, crateOf, parentOf, crateRoot}
 use Rattle.module_tree.specs.Visibility.{sees}
 use Rattle.hir_def.specs.Finds.{orFirst}
-use Rattle.hir_def.specs.Items.{types, itemOf, sameItem, nsOf}
+use Rattle.hir_def.specs.Items.{types, itemOf, sameItem, nsOf, moduleItem, definedItem}
 use Rattle.hir_def.specs.ItemScope.{get}
 use Rattle.hir_def.specs.Nameres.{preludeOf}
 use Rattle.hir_def.specs.declared.Item.{Item}
-use Rattle.hir_def.specs.declared.Item.the-variants.{Mod, Def}
 use Rattle.read_back.specs.Reads.{standsFor, meaning, entryOr, externNamed, externMeans, inExterns, preludeMeans, inPreludeOf, entryFrom, firstName, variantNamed, variantIn, laterName, after, lookedIn, follow, plainly, absolutely, parentMeans, readsTo, isThe, readsBack}
 
 module _ (s : Snapshot) (from : ℕ) where
@@ -50,9 +49,9 @@ module _ (s : Snapshot) (from : ℕ) where
     unfolding inExterns externMeans
     externs-none h u e = let q = ap (λ k. externNamed s k name) (sym u) ∙ e in rw (inExterns, eq-eqb _ _ h, q)
 
-    pub externs-some : {c m : ℕ} {x : Extern} {o : Option Item} → ns ≡ types → c ≡ crateOf s from → externNamed s c name ≡ some x → m ≡ x .target → o ≡ some (Mod m) → o ≡ inExterns s from ns name
+    pub externs-some : {c m : ℕ} {x : Extern} {o : Option Item} → ns ≡ types → c ≡ crateOf s from → externNamed s c name ≡ some x → m ≡ x .target → o ≡ some (moduleItem m) → o ≡ inExterns s from ns name
     unfolding inExterns externMeans
-    externs-some h u e t w = let q = ap (λ k. externNamed s k name) (sym u) ∙ e in rw (inExterns, eq-eqb _ _ h, q) (w ∙ ap (λ m. some (Mod m)) t)
+    externs-some h u e t w = let q = ap (λ k. externNamed s k name) (sym u) ∙ e in rw (inExterns, eq-eqb _ _ h, q) (w ∙ ap (λ m. some (moduleItem m)) t)
 
     -- the prelude
     pub prelude-none : {k : ℕ} → k ≡ mapNo s from → preludeOf s k ≡ none → none ≡ inPreludeOf s from ns name
@@ -95,11 +94,11 @@ module _ (s : Snapshot) (ns : ℕ) where
 
 -- a later name
 module _ (s : Snapshot) (from ns name : ℕ) where
-  pub later-module : {x : Item} {m : ℕ} {o : Option Item} → x ≡ Mod m → o ≡ entryOr s from none (get s m ns name) → o ≡ laterName s from ns name x
+  pub later-module : {x : Item} {m : ℕ} {o : Option Item} → x ≡ moduleItem m → o ≡ entryOr s from none (get s m ns name) → o ≡ laterName s from ns name x
   unfolding laterName
   later-module e w = rw e w
 
-  pub later-other : {x : Item} {k d : ℕ} {o : Option Item} → x ≡ Def k d → o ≡ variantIn s ns (variantNamed s d name) → o ≡ laterName s from ns name x
+  pub later-other : {x : Item} {k d : ℕ} {o : Option Item} → x ≡ definedItem k d → o ≡ variantIn s ns (variantNamed s d name) → o ≡ laterName s from ns name x
   unfolding laterName
   later-other e w = rw e w
 
@@ -151,7 +150,7 @@ module _ (s : Snapshot) (from ns kind : ℕ) (names : List ℕ) (n : ℕ) (h : n
   all-later : o ≡ follow s from ns here (take n names)
   all-later = e ∙ ap (follow s from ns here) (names-list names n h)
 
-  pub reads-self : kind ≡ 1 → here ≡ some (Mod (standsFor s from)) → o ≡ readsTo s from ns kind (take n names)
+  pub reads-self : kind ≡ 1 → here ≡ some (moduleItem (standsFor s from)) → o ≡ readsTo s from ns kind (take n names)
   unfolding readsTo
   reads-self t u = rw (readsTo, eq-eqb _ _ t) (all-later ∙ ap (λ x. follow s from ns x (take n names)) u)
 
@@ -159,7 +158,7 @@ module _ (s : Snapshot) (from ns kind : ℕ) (names : List ℕ) (n : ℕ) (h : n
   unfolding readsTo
   reads-super a t u = rw (readsTo, ne-eqb _ _ a, eq-eqb _ _ t) (all-later ∙ ap (λ x. follow s from ns x (take n names)) u)
 
-  pub reads-crate : (kind ≡ 1 → ⊥) → (kind ≡ 2 → ⊥) → kind ≡ 3 → here ≡ some (Mod (crateRoot s from)) → o ≡ readsTo s from ns kind (take n names)
+  pub reads-crate : (kind ≡ 1 → ⊥) → (kind ≡ 2 → ⊥) → kind ≡ 3 → here ≡ some (moduleItem (crateRoot s from)) → o ≡ readsTo s from ns kind (take n names)
   unfolding readsTo
   reads-crate a b t u = rw (readsTo, ne-eqb _ _ a, ne-eqb _ _ b, eq-eqb _ _ t) (all-later ∙ ap (λ x. follow s from ns x (take n names)) u)
 
@@ -221,6 +220,6 @@ module _ (s : Snapshot) (from : ℕ) {m : ℕ} (h : m ≡ standsFor s from) wher
   unfolding parentMeans
   super-none e = sym (ap (λ k. parentMeans s (parentOf s k)) (sym h) ∙ ap (parentMeans s) e)
 
-  pub super-some : {p q : ℕ} {o : Option Item} → parentOf s m ≡ suc p → q ≡ standsFor s p → o ≡ some (Mod q) → o ≡ parentMeans s (parentOf s (standsFor s from))
+  pub super-some : {p q : ℕ} {o : Option Item} → parentOf s m ≡ suc p → q ≡ standsFor s p → o ≡ some (moduleItem q) → o ≡ parentMeans s (parentOf s (standsFor s from))
   unfolding parentMeans
-  super-some e u w = w ∙ ap (λ q. some (Mod q)) u ∙ sym (ap (λ k. parentMeans s (parentOf s k)) (sym h) ∙ ap (parentMeans s) e)
+  super-some e u w = w ∙ ap (λ q. some (moduleItem q)) u ∙ sym (ap (λ k. parentMeans s (parentOf s k)) (sym h) ∙ ap (parentMeans s) e)

@@ -8,23 +8,23 @@ use lib.Dec.{eqb}
 use borrow.Author.Tests.{eq-eqb, eqb-true}
 use Rattle.snapshot.specs.Records.{Snapshot}
 use Rattle.accept.proofs.Bools.{and-two}
-use Rattle.hir_def.specs.Items.{sameItem, nsOf}
+use Rattle.hir_def.specs.Items.{sameItem, nsOf, moduleItem, definedItem}
 use Rattle.hir_def.specs.declared.Item.{Item}
 use Rattle.hir_def.specs.declared.Item.the-variants.{Mod, Def}
 use Rattle.read_back.specs.Reads.{readsTo, isThe, readsBack}
 
 pub same-item : (a b : Item) → sameItem a b ≡ true → a ≡ b
 unfolding sameItem
-same-item (Mod m) (Mod n) e = ap Mod (eqb-true m n e)
+same-item (Mod m) (Mod n) e = ap moduleItem (eqb-true (m .0) (n .0) e)
 same-item (Mod m) (Def ns d) e = absurd (false≢true e)
 same-item (Def ns d) (Mod n) e = absurd (false≢true e)
 same-item (Def ns d) (Def ns′ d′) e =
-    let f = and-two (eqb ns ns′) (eqb d d′) e in ap₂ Def (eqb-true ns ns′ (f .0)) (eqb-true d d′ (f .1))
+    let f = and-two (eqb (ns .0) (ns′ .0)) (eqb (d .0) (d′ .0)) e in ap₂ definedItem (eqb-true (ns .0) (ns′ .0) (f .0)) (eqb-true (d .0) (d′ .0) (f .1))
 
 pub same-self : (a : Item) → sameItem a a ≡ true
 unfolding sameItem
-same-self (Mod m) = eq-eqb m m refl
-same-self (Def ns d) = ap₂ (λ x y. x && y) (eq-eqb ns ns refl) (eq-eqb d d refl)
+same-self (Mod m) = eq-eqb (m .0) (m .0) refl
+same-self (Def ns d) = ap₂ (λ x y. x && y) (eq-eqb (ns .0) (ns .0) refl) (eq-eqb (d .0) (d .0) refl)
 
 the-item : (item : Item) (o : Option Item) → isThe item o ≡ true → o ≡ some item
 unfolding isThe

@@ -12,12 +12,12 @@ use Rattle.accept.specs.Valid.{Tree}
 use Rattle.accept.proofs.Accepted.{by-test}
 use Rattle.module_tree.specs.Modules.{mapOf, parentOf, blockOf, crateRoot}
 use Rattle.module_tree.proofs.Chains.{parent-fits}
-use Rattle.hir_def.specs.declared.Item.the-variants.{Mod}
+use Rattle.hir_def.specs.Items.{moduleItem}
 use Rattle.read_back.specs.Reads.{selfKind, superKind, crateKind, standsFor, follow, parentMeans, readsTo}
 use Rattle.read_back.proofs.Outward.{outward-root, outward-none, outward-falls, stands-here}
 
 module _ (s : Snapshot) (from ns : ℕ) where
-  pub crate-reads : readsTo s from ns crateKind [] ≡ some (Mod (crateRoot s from))
+  pub crate-reads : readsTo s from ns crateKind [] ≡ some (moduleItem (crateRoot s from))
   unfolding readsTo follow
   crate-reads = refl
 
@@ -28,14 +28,14 @@ module _ (s : Snapshot) (from ns : ℕ) where
         stands-here s (outward-falls s t) m k
         (by-test (eqb (parentOf s m) 0) (λ u. outward-root s m (eqb-true _ _ u) ∙ e) (λ u. outward-none s m (eqb-false _ _ u)))
 
-    pub self-reads : readsTo s from ns selfKind [] ≡ some (Mod from)
+    pub self-reads : readsTo s from ns selfKind [] ≡ some (moduleItem from)
     unfolding readsTo follow
-    self-reads = sym (ap (λ m. some (Mod m)) (stays from h own))
+    self-reads = sym (ap (λ m. some (moduleItem m)) (stays from h own))
 
-    pub super-reads : (p : ℕ) → parentOf s from ≡ suc p → readsTo s from ns superKind [] ≡ some (Mod p)
+    pub super-reads : (p : ℕ) → parentOf s from ≡ suc p → readsTo s from ns superKind [] ≡ some (moduleItem p)
     unfolding readsTo follow parentMeans
     super-reads p e =
         let f = parent-fits s t from p h e in
         let k : p < length (s .modules) = omega (arith, f .0, h) in
         ap (λ m. parentMeans s (parentOf s m)) (sym (stays from h own)) ∙ ap (parentMeans s) e
-        ∙ sym (ap (λ m. some (Mod m)) (stays p k (ap (λ i. mapOf s i .block) (f .1) ∙ own)))
+        ∙ sym (ap (λ m. some (moduleItem m)) (stays p k (ap (λ i. mapOf s i .block) (f .1) ∙ own)))

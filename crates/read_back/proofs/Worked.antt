@@ -13,11 +13,10 @@ use Rattle.accept.specs.Verdict.{Verdict, refuse, accept, argumentsFrom, record
 use Rattle.module_tree.specs.Modules.{placeOf, moduleOf, mapOf, rootOf, ownMap, crateRoot, orElse, containing}
 use Rattle.module_tree.specs.Visibility.{lastOr, lastTo, last, metOr, metTo, met, unless, climbStep, climb, inModule, isVisibleFrom}
 use Rattle.hir_def.specs.Finds.{firstOf, orFirst, firstSome}
-use Rattle.hir_def.specs.Items.{definitionOf, itemOf, sameItem}
+use Rattle.hir_def.specs.Items.{definitionOf, itemOf, sameItem, moduleItem, definedItem}
 use Rattle.hir_def.specs.ItemScope.{get}
 use Rattle.hir_def.specs.Nameres.{stepsOr, stepsTo, steps, preludeOf}
 use Rattle.hir_def.specs.declared.Item.{Item}
-use Rattle.hir_def.specs.declared.Item.the-variants.{Mod, Def}
 use Rattle.read_back.specs.Reads.{outward, scopesFrom, standsFor, meaning, entryOr, externNamed, externMeans, inExterns, preludeMeans, inPreludeOf, entryFrom, firstName, variantNamed, variantIn, laterName, after, lookedIn, follow, plainly, absolutely, parentMeans, readsTo}
 
 -- viewing module, namespace, kind of the path, its names, and what it means
@@ -104,43 +103,43 @@ blocks =
 
 pub block-reads : reads (verdict blocks)
     -- `f`: the root's hides the prelude's; the outer block's hides the root's, in the block and in the block within
-    (record { from = 0; ns = 1; kind = 0; names = 1 ∷ []; means = some (Def 1 1) }
-    ∷ record { from = 2; ns = 1; kind = 0; names = 1 ∷ []; means = some (Def 1 2) }
-    ∷ record { from = 4; ns = 1; kind = 0; names = 1 ∷ []; means = some (Def 1 2) }
+    (record { from = 0; ns = 1; kind = 0; names = 1 ∷ []; means = some (definedItem 1 1) }
+    ∷ record { from = 2; ns = 1; kind = 0; names = 1 ∷ []; means = some (definedItem 1 2) }
+    ∷ record { from = 4; ns = 1; kind = 0; names = 1 ∷ []; means = some (definedItem 1 2) }
     -- two blocks outward: `a::f`, `E`
-    ∷ record { from = 4; ns = 1; kind = 0; names = 0 ∷ 1 ∷ []; means = some (Def 1 1) }
-    ∷ record { from = 4; ns = 0; kind = 0; names = 2 ∷ []; means = some (Def 0 3) }
+    ∷ record { from = 4; ns = 1; kind = 0; names = 0 ∷ 1 ∷ []; means = some (definedItem 1 1) }
+    ∷ record { from = 4; ns = 0; kind = 0; names = 2 ∷ []; means = some (definedItem 0 3) }
     -- from `c` and `e`, which are no block's root, not outward: neither a block's `f` nor the root's; in `e` the prelude's
     ∷ record { from = 3; ns = 1; kind = 0; names = 1 ∷ []; means = none }
-    ∷ record { from = 5; ns = 1; kind = 0; names = 1 ∷ []; means = some (Def 1 9) }
+    ∷ record { from = 5; ns = 1; kind = 0; names = 1 ∷ []; means = some (definedItem 1 9) }
     -- `self` in a block is the module around it: `self::f`, `self::t`, `self`; in `c` it is `c`
-    ∷ record { from = 4; ns = 1; kind = 1; names = 1 ∷ []; means = some (Def 1 1) }
-    ∷ record { from = 2; ns = 1; kind = 1; names = 7 ∷ []; means = some (Def 1 11) }
-    ∷ record { from = 4; ns = 0; kind = 1; names = []; means = some (Mod 0) }
-    ∷ record { from = 3; ns = 0; kind = 1; names = []; means = some (Mod 3) }
+    ∷ record { from = 4; ns = 1; kind = 1; names = 1 ∷ []; means = some (definedItem 1 1) }
+    ∷ record { from = 2; ns = 1; kind = 1; names = 7 ∷ []; means = some (definedItem 1 11) }
+    ∷ record { from = 4; ns = 0; kind = 1; names = []; means = some (moduleItem 0) }
+    ∷ record { from = 3; ns = 0; kind = 1; names = []; means = some (moduleItem 3) }
     -- `super` from `a`, from a block in `a`, from the root, from a block in the root
-    ∷ record { from = 1; ns = 0; kind = 2; names = []; means = some (Mod 0) }
-    ∷ record { from = 6; ns = 1; kind = 2; names = 4 ∷ []; means = some (Def 1 6) }
+    ∷ record { from = 1; ns = 0; kind = 2; names = []; means = some (moduleItem 0) }
+    ∷ record { from = 6; ns = 1; kind = 2; names = 4 ∷ []; means = some (definedItem 1 6) }
     ∷ record { from = 0; ns = 0; kind = 2; names = []; means = none }
     ∷ record { from = 4; ns = 0; kind = 2; names = []; means = none }
     -- from `c` and `e` it is the block's root, which stands for the crate's: `super`, `super::f`, `super::c`
-    ∷ record { from = 3; ns = 0; kind = 2; names = []; means = some (Mod 0) }
-    ∷ record { from = 5; ns = 0; kind = 2; names = []; means = some (Mod 0) }
-    ∷ record { from = 5; ns = 1; kind = 2; names = 1 ∷ []; means = some (Def 1 1) }
+    ∷ record { from = 3; ns = 0; kind = 2; names = []; means = some (moduleItem 0) }
+    ∷ record { from = 5; ns = 0; kind = 2; names = []; means = some (moduleItem 0) }
+    ∷ record { from = 5; ns = 1; kind = 2; names = 1 ∷ []; means = some (definedItem 1 1) }
     ∷ record { from = 3; ns = 0; kind = 2; names = 9 ∷ []; means = none }
     -- `crate` inside blocks: `crate::a`, `crate::f`; in the dependency its own root
-    ∷ record { from = 4; ns = 0; kind = 3; names = 0 ∷ []; means = some (Mod 1) }
-    ∷ record { from = 5; ns = 1; kind = 3; names = 1 ∷ []; means = some (Def 1 1) }
-    ∷ record { from = 8; ns = 1; kind = 3; names = 1 ∷ []; means = some (Def 1 8) }
+    ∷ record { from = 4; ns = 0; kind = 3; names = 0 ∷ []; means = some (moduleItem 1) }
+    ∷ record { from = 5; ns = 1; kind = 3; names = 1 ∷ []; means = some (definedItem 1 1) }
+    ∷ record { from = 8; ns = 1; kind = 3; names = 1 ∷ []; means = some (definedItem 1 8) }
     -- the root's `a` hides the extern `a`, which `::a` means; in `a` nothing hides it
-    ∷ record { from = 0; ns = 0; kind = 0; names = 0 ∷ []; means = some (Mod 1) }
-    ∷ record { from = 4; ns = 0; kind = 0; names = 0 ∷ []; means = some (Mod 1) }
-    ∷ record { from = 0; ns = 0; kind = 4; names = 0 ∷ []; means = some (Mod 7) }
-    ∷ record { from = 1; ns = 0; kind = 0; names = 0 ∷ []; means = some (Mod 7) }
-    ∷ record { from = 0; ns = 1; kind = 4; names = 0 ∷ 1 ∷ []; means = some (Def 1 8) }
+    ∷ record { from = 0; ns = 0; kind = 0; names = 0 ∷ []; means = some (moduleItem 1) }
+    ∷ record { from = 4; ns = 0; kind = 0; names = 0 ∷ []; means = some (moduleItem 1) }
+    ∷ record { from = 0; ns = 0; kind = 4; names = 0 ∷ []; means = some (moduleItem 7) }
+    ∷ record { from = 1; ns = 0; kind = 0; names = 0 ∷ []; means = some (moduleItem 7) }
+    ∷ record { from = 0; ns = 1; kind = 4; names = 0 ∷ 1 ∷ []; means = some (definedItem 1 8) }
     -- the extern `d` hides the prelude's; it is one in types alone, and of the first crate alone
-    ∷ record { from = 0; ns = 0; kind = 0; names = 10 ∷ []; means = some (Mod 7) }
-    ∷ record { from = 0; ns = 1; kind = 0; names = 10 ∷ 1 ∷ []; means = some (Def 1 8) }
+    ∷ record { from = 0; ns = 0; kind = 0; names = 10 ∷ []; means = some (moduleItem 7) }
+    ∷ record { from = 0; ns = 1; kind = 0; names = 10 ∷ 1 ∷ []; means = some (definedItem 1 8) }
     ∷ record { from = 0; ns = 1; kind = 0; names = 10 ∷ []; means = none }
     ∷ record { from = 0; ns = 1; kind = 4; names = 10 ∷ []; means = none }
     ∷ record { from = 7; ns = 0; kind = 0; names = 10 ∷ []; means = none }
@@ -148,8 +147,8 @@ pub block-reads : reads (verdict blocks)
     ∷ record { from = 0; ns = 0; kind = 3; names = 10 ∷ []; means = none }
     ∷ record { from = 0; ns = 1; kind = 1; names = 6 ∷ []; means = none }
     -- the prelude of the viewing module's map: the root's, the inner block's, and none of the outer block's
-    ∷ record { from = 0; ns = 1; kind = 0; names = 6 ∷ []; means = some (Def 1 9) }
-    ∷ record { from = 4; ns = 1; kind = 0; names = 6 ∷ []; means = some (Def 1 9) }
+    ∷ record { from = 0; ns = 1; kind = 0; names = 6 ∷ []; means = some (definedItem 1 9) }
+    ∷ record { from = 4; ns = 1; kind = 0; names = 6 ∷ []; means = some (definedItem 1 9) }
     ∷ record { from = 2; ns = 1; kind = 0; names = 6 ∷ []; means = none }
     -- An entry that is not visible ends it: `h` of the viewing module's own scope, which the scope rule of the search takes, though the prelude has
     -- one; `g` of the block, though the root has one; `a::g`; `d::t`. Elsewhere they are visible.
@@ -157,30 +156,30 @@ pub block-reads : reads (verdict blocks)
     ∷ record { from = 2; ns = 1; kind = 0; names = 4 ∷ []; means = none }
     ∷ record { from = 0; ns = 1; kind = 0; names = 0 ∷ 4 ∷ []; means = none }
     ∷ record { from = 0; ns = 1; kind = 0; names = 10 ∷ 7 ∷ []; means = none }
-    ∷ record { from = 1; ns = 1; kind = 3; names = 8 ∷ []; means = some (Def 1 1) }
-    ∷ record { from = 4; ns = 1; kind = 0; names = 4 ∷ []; means = some (Def 1 7) }
-    ∷ record { from = 1; ns = 1; kind = 1; names = 4 ∷ []; means = some (Def 1 6) }
-    ∷ record { from = 8; ns = 1; kind = 2; names = 7 ∷ []; means = some (Def 1 8) }
+    ∷ record { from = 1; ns = 1; kind = 3; names = 8 ∷ []; means = some (definedItem 1 1) }
+    ∷ record { from = 4; ns = 1; kind = 0; names = 4 ∷ []; means = some (definedItem 1 7) }
+    ∷ record { from = 1; ns = 1; kind = 1; names = 4 ∷ []; means = some (definedItem 1 6) }
+    ∷ record { from = 8; ns = 1; kind = 2; names = 7 ∷ []; means = some (definedItem 1 8) }
     -- a variant in types and values and not in macros, the first member of that name; none without a member, nor by one that is a function; nothing
     -- after it, nor after a struct
-    ∷ record { from = 0; ns = 0; kind = 0; names = 2 ∷ 3 ∷ []; means = some (Def 0 14) }
-    ∷ record { from = 4; ns = 1; kind = 0; names = 2 ∷ 3 ∷ []; means = some (Def 1 14) }
+    ∷ record { from = 0; ns = 0; kind = 0; names = 2 ∷ 3 ∷ []; means = some (definedItem 0 14) }
+    ∷ record { from = 4; ns = 1; kind = 0; names = 2 ∷ 3 ∷ []; means = some (definedItem 1 14) }
     ∷ record { from = 0; ns = 2; kind = 0; names = 2 ∷ 3 ∷ []; means = none }
     ∷ record { from = 0; ns = 0; kind = 0; names = 2 ∷ 5 ∷ []; means = none }
     ∷ record { from = 0; ns = 1; kind = 0; names = 2 ∷ 1 ∷ []; means = none }
     ∷ record { from = 0; ns = 1; kind = 0; names = 2 ∷ 3 ∷ 1 ∷ []; means = none }
     ∷ record { from = 0; ns = 1; kind = 0; names = 7 ∷ 3 ∷ []; means = none }
     -- a type and a value of one name; the block's value hides the value alone
-    ∷ record { from = 0; ns = 0; kind = 0; names = 7 ∷ []; means = some (Def 0 10) }
-    ∷ record { from = 0; ns = 1; kind = 0; names = 7 ∷ []; means = some (Def 1 11) }
-    ∷ record { from = 2; ns = 0; kind = 0; names = 7 ∷ []; means = some (Def 0 10) }
-    ∷ record { from = 2; ns = 1; kind = 0; names = 7 ∷ []; means = some (Def 1 12) }
+    ∷ record { from = 0; ns = 0; kind = 0; names = 7 ∷ []; means = some (definedItem 0 10) }
+    ∷ record { from = 0; ns = 1; kind = 0; names = 7 ∷ []; means = some (definedItem 1 11) }
+    ∷ record { from = 2; ns = 0; kind = 0; names = 7 ∷ []; means = some (definedItem 0 10) }
+    ∷ record { from = 2; ns = 1; kind = 0; names = 7 ∷ []; means = some (definedItem 1 12) }
     -- a macro beside a module; a module in types, by its number, and in values
-    ∷ record { from = 4; ns = 2; kind = 0; names = 0 ∷ []; means = some (Def 2 15) }
-    ∷ record { from = 2; ns = 0; kind = 0; names = 9 ∷ []; means = some (Mod 3) }
-    ∷ record { from = 2; ns = 1; kind = 0; names = 9 ∷ []; means = some (Def 1 13) }
+    ∷ record { from = 4; ns = 2; kind = 0; names = 0 ∷ []; means = some (definedItem 2 15) }
+    ∷ record { from = 2; ns = 0; kind = 0; names = 9 ∷ []; means = some (moduleItem 3) }
+    ∷ record { from = 2; ns = 1; kind = 0; names = 9 ∷ []; means = some (definedItem 1 13) }
     -- a block's root that an entry names is a module like any other: `p::f`, and not outward `p::E`
-    ∷ record { from = 4; ns = 1; kind = 0; names = 6 ∷ 1 ∷ []; means = some (Def 1 2) }
+    ∷ record { from = 4; ns = 1; kind = 0; names = 6 ∷ 1 ∷ []; means = some (definedItem 1 2) }
     ∷ record { from = 4; ns = 0; kind = 0; names = 6 ∷ 2 ∷ []; means = none }
     -- no names
     ∷ record { from = 0; ns = 0; kind = 0; names = []; means = none }

@@ -8,7 +8,7 @@ use Rattle.snapshot.specs.Records.{Snapshot, Scope, Prelude, Extern, Member}
 use Rattle.module_tree.specs.Modules.{mapNo, crateOf, parentOf, blockOf, crateRoot}
 use Rattle.module_tree.specs.Visibility.{last, sees}
 use Rattle.hir_def.specs.Finds.{firstOf, orFirst, firstSome}
-use Rattle.hir_def.specs.Items.{types, macros, itemOf, sameItem, nsOf}
+use Rattle.hir_def.specs.Items.{types, macros, itemOf, sameItem, nsOf, moduleItem}
 use Rattle.hir_def.specs.ItemScope.{get}
 use Rattle.hir_def.specs.Nameres.{steps, preludeOf}
 use Rattle.hir_def.specs.declared.Item.{Item}
@@ -64,7 +64,7 @@ externNamed s c name = firstOf (isExternNamed c name) (s .externs)
 
 unfoldable pub externMeans : Option Extern → Option Item
 externMeans none = none
-externMeans (some x) = some (Mod (x .target))
+externMeans (some x) = some (moduleItem (x .target))
 
 -- by an extern of the viewer's crate, if the name is looked up in types
 unfoldable pub inExterns : Snapshot → ℕ → ℕ → ℕ → Option Item
@@ -101,8 +101,8 @@ variantIn s ns (some x) = elim (ltb ns macros) [ true ↦ some (itemOf s ns (x .
 
 -- a later name, after what was reached: in a module its scope, in an enum its variants, nothing in anything else
 unfoldable pub laterName : Snapshot → ℕ → ℕ → ℕ → Item → Option Item
-laterName s from ns name (Mod m) = entryOr s from none (get s m ns name)
-laterName s from ns name (Def k d) = variantIn s ns (variantNamed s d name)
+laterName s from ns name (Mod m) = entryOr s from none (get s (m .0) ns name)
+laterName s from ns name (Def k d) = variantIn s ns (variantNamed s (d .0) name)
 
 unfoldable pub after : Option Item → (Item → Option Item) → Option Item
 after none f = none
@@ -130,18 +130,18 @@ absolutely s from ns (n ∷ more) = follow s from ns (inExterns s from (lookedIn
 -- the module with that number +1
 unfoldable pub parentMeans : Snapshot → ℕ → Option Item
 parentMeans s zero = none
-parentMeans s (suc p) = some (Mod (standsFor s p))
+parentMeans s (suc p) = some (moduleItem (standsFor s p))
 
 -- The item that a path means in the module `from`: its kind, its names, and the namespace of what it is to name. The names after `self`,
 -- `super` and `crate` are all later names.
 unfoldable pub readsTo : Snapshot → ℕ → ℕ → ℕ → List ℕ → Option Item
 readsTo s from ns kind names =
     elim (eqb kind selfKind) [
-      | true ↦ follow s from ns (some (Mod (standsFor s from))) names
+      | true ↦ follow s from ns (some (moduleItem (standsFor s from))) names
       | false ↦ elim (eqb kind superKind) [
         | true ↦ follow s from ns (parentMeans s (parentOf s (standsFor s from))) names
         | false ↦ elim (eqb kind crateKind) [
-          | true ↦ follow s from ns (some (Mod (crateRoot s from))) names
+          | true ↦ follow s from ns (some (moduleItem (crateRoot s from))) names
           | false ↦ elim (eqb kind absoluteKind) [ true ↦ absolutely s from ns names | false ↦ plainly s from ns names ]
         ]
       ]

@@ -37,9 +37,9 @@ use snapshot::record::scope_visibility;
 
 /// A module, as what a name means.
 pub(crate) fn means_module(m: ModuleId) -> OptItem
-    ensures { λ r. ⌜ meant r ≡ some (Mod (m .0)) ⌝ }
+    ensures { λ r. ⌜ meant r ≡ some (Mod m) ⌝ }
 {
-    OptItem::Means(Item::Mod(m.0))
+    OptItem::Means(Item::Mod(m))
 }
 
 // What the entry with its head at a place means, where it is visible.
@@ -163,8 +163,8 @@ fn later_name(
     ensures { λ r. ⌜ meant r ≡ laterName (snapOf (now (words .entry)) (now (area .entry)) l) (from .0) ns (name .0) item ⌝ }
 {
     match item {
-        Item::Mod(m) => in_scope(words, area, l, from, ModuleId(m), ns, name),
-        Item::Def(_, d) => in_enum(words, l, DefinitionId(d), ns, name),
+        Item::Mod(m) => in_scope(words, area, l, from, m, ns, name),
+        Item::Def(_, d) => in_enum(words, l, d, ns, name),
     }
 }
 

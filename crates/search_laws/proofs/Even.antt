@@ -9,7 +9,7 @@ use mathlib.Core.Option.{some}
 use borrow.Author.Tests.{eq-eqb}
 use Rattle.snapshot.specs.Records.{Snapshot, Scope}
 use Rattle.hir_def.specs.declared.Item.the-variants.{Mod}
-use Rattle.find_path.specs.declared.Choice.{Choice}
+use Rattle.path_choices.specs.declared.Choice.{Choice}
 use Rattle.find_path.specs.declared.FindPathCtx.{FindPathCtx}
 use Rattle.find_path.specs.Choices.{isPrelude, nothing, lengthLeft, extended, push}
 use Rattle.find_path.specs.Walk.{Level, has}

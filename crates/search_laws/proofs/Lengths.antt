@@ -13,7 +13,7 @@ use Rattle.snapshot.specs.Records.{Snapshot, Scope}
 use Rattle.hir_def.specs.Items.{crateRoot}
 use Rattle.hir_def.specs.declared.Item.{Item}
 use Rattle.hir_def.specs.declared.Item.the-variants.{Mod}
-use Rattle.find_path.specs.declared.Choice.{Choice}
+use Rattle.path_choices.specs.declared.Choice.{Choice}
 use Rattle.find_path.specs.declared.FindPathCtx.{FindPathCtx}
 use Rattle.find_path.specs.Choices.{plainPath, cratePath, nothing, pathLen, keyword, choiceNew, extended, push, lengthLeft}
 use Rattle.find_path.specs.Rules.{byCrate, prefixPathKind, firstFound, single, mayBeInScope, scopeRule, preludeRule, rootRule, keywordOf, moduleRules}

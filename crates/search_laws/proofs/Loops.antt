@@ -7,7 +7,7 @@ use mathlib.Core.Option.{Option, none, some}
 use lib.ListN.{length}
 use Rattle.snapshot.specs.Records.{Snapshot, Scope}
 use Rattle.hir_def.specs.declared.Item.{Item}
-use Rattle.find_path.specs.declared.Choice.{Choice}
+use Rattle.path_choices.specs.declared.Choice.{Choice}
 use Rattle.find_path.specs.declared.FindPathCtx.{FindPathCtx}
 use Rattle.find_path.specs.Choices.{viaLocal, stepBy, lengthLeft, better, extended, push, trySelect}
 use Rattle.find_path.specs.Walk.{Level, has, startFrom, leadsTo, walk, findLocalImportLocations}

@@ -14,7 +14,7 @@ use Rattle.find_path.specs.declared.FindPathCtx.{FindPathCtx}
 use Rattle.find_path.specs.Choices.{nothing, pathLen, lengthLeft, push}
 use Rattle.find_path.specs.Rules.{moduleRules}
 use Rattle.search_laws.specs.Near.{isSome, ruled, locations, imports, near}
-use Rattle.find_path.specs.declared.Choice.{Choice}
+use Rattle.path_choices.specs.declared.Choice.{Choice}
 use Rattle.find_path.specs.Walk.{Level, has}
 use Rattle.find_path.specs.Local.{LocalSearch, importableName, location, calculateBestPathLocal, orLocal, findPathForModuleLocal}
 use Rattle.find_path.specs.Search.{localTo, searchLocal}

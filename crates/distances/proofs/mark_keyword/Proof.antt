@@ -2,7 +2,7 @@ use borrow.Author.Needs.{needs}
 use mathlib.Core.Path.{sym, ap, _∙_}
 use mathlib.Core.Bool.{true≢false}
 use borrow.Author.Tests.{not-true}
-use Rattle.find_path.specs.declared.Choice.{Choice}
+use Rattle.path_choices.specs.declared.Choice.{Choice}
 use Rattle.distances.proofs.Lowering.{lowers-same}
 use Rattle.distances.proofs.mark_keyword.Statement.{statement}
 use Rattle.distances.proofs.mark_keyword.Tie as tie

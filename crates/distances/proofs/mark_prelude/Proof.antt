@@ -64,11 +64,10 @@ returns-2 c =
     let p = e .before .before in
     let s = p .before .before .before .before .before in
     let W = now (s .args .words) in
-    let A = now (s .args .area) in
-    (
+    let A = now (s .args .area) in (
       m .mark-scope .ensures .0,
       one-prelude W A (s .args .l) (s .args .from .0) (preludeAt W (e .p .given .0 .0)) (m .mark-scope .last .1 .0) (p .before .map .ensures) (p .prelude-of .ensures A)
-      (ap (entryOf preludeAt W) (e .p .given .1)) (t .prelude-target .ensures) (m .mark-scope .ensures .1),
+          (ap (entryOf preludeAt W) (e .p .given .1)) (t .prelude-target .ensures) (m .mark-scope .ensures .1),
     )
 
 pub mark-prelude-spec : {M : Type 1} → statement M

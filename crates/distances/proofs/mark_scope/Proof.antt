@@ -42,8 +42,7 @@ mark-entry-requires : tie.Need-mark-entry-requires Inv-loop μ-loop
 mark-entry-requires c κs =
     let k = c .before .before in
     let b = k .before in
-    let s = b .before .before .before in
-    (
+    let s = b .before .before .before in (
       lowers-ready (now (s .args .words)) (s .args .l) (k .loop .inv .lowers) (s .pre) (k .loop .inv .size),
       scope-fits (now (s .args .words)) (now (s .args .area)) (s .args .l) (s .pre .reads) (c .before .loop-test .taken) (b .scope-base .ensures) refl,
     )

@@ -42,8 +42,7 @@ relax-entry-requires : tie.Need-relax-entry-requires Inv-loop μ-loop
 relax-entry-requires c κs =
     let k = c .before .before in
     let b = k .before in
-    let s = b .before .before .before in
-    (
+    let s = b .before .before .before in (
       lowers-numbered (now (s .args .words)) (s .args .l) (k .loop .inv .lowers) (s .pre .0) (k .loop .inv .size),
       s .pre .1,
       scope-fits (now (s .args .words)) (now (s .args .area)) (s .args .l) (s .pre .0 .ready .reads) (c .before .loop-test .taken) (b .scope-base .ensures) refl,

@@ -71,10 +71,9 @@ loop-again c =
     let k = c .before .before .before .before in
     let s = k .before .before .before in
     let h = c .before .before .before .loop-test .taken in
-    let size : length (k .loop .area) ≡ areaLimit = k .loop .inv .1 ∙ s .pre .area in
-    (
+    let size : length (k .loop .area) ≡ areaLimit = k .loop .inv .1 ∙ s .pre .area in (
       rooted-next (now (s .args .words)) (now (s .args .area)) (s .args .l) (s .pre .reads) (k .loop .m) (k .loop .area) (k .loop .inv .0) size
-      (omega (arith, s .pre .reads .tables .limited .modules, h)) (c .before .crate-root .ensures) (c .first-number .ensures),
+          (omega (arith, s .pre .reads .tables .limited .modules, h)) (c .before .crate-root .ensures) (c .first-number .ensures),
       length-set (k .loop .area) _ _ ∙ k .loop .inv .1,
       omega (arith, h),
     )

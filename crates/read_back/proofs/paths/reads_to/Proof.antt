@@ -5,7 +5,7 @@ use native.Mathlib.Omega.{arith}
 use lib.ListN.{getD, take}
 use denote.Ref.{now}
 use Rattle.snapshot.specs.Layouts.{snapOf}
-use Rattle.hir_def.specs.declared.Item.the-variants.{Mod}
+use Rattle.hir_def.specs.Items.{moduleItem}
 use Rattle.read_back.specs.Answers.{meant}
 use Rattle.read_back.proofs.Cases.{reads-self, reads-super, reads-crate, reads-absolute, reads-plain, reads-none, absolute-first, plain-first}
 use Rattle.read_back.proofs.paths.reads_to.Statement.{statement}
@@ -24,7 +24,7 @@ returns : tie.Need-returns
 returns c =
     let s = c .before .before .before .before .before .before .before in
     let n = snapOf (now (s .args .words)) (now (s .args .area)) (s .args .l) in
-    reads-self n (s .args .from .0) (s .args .ns) (s .args .kind) (now (s .args .names)) (s .args .count) (s .pre .2) _ (c .follow .ensures) (c .before .before .before .if1 .taken) (c .before .means-module .ensures ∙ ap (λ m. some (Mod m)) (c .before .before .stands-for .ensures .0))
+    reads-self n (s .args .from .0) (s .args .ns) (s .args .kind) (now (s .args .names)) (s .args .count) (s .pre .2) _ (c .follow .ensures) (c .before .before .before .if1 .taken) (c .before .means-module .ensures ∙ ap (λ m. some (moduleItem m)) (c .before .before .stands-for .ensures .0))
 
 super-of-requires : tie.Need-super-of-requires
 super-of-requires c κs = search needs
@@ -51,7 +51,7 @@ returns-3 : tie.Need-returns-3
 returns-3 c =
     let s = c .before .before .before .before .before .before .before .before .before in
     let n = snapOf (now (s .args .words)) (now (s .args .area)) (s .args .l) in
-    reads-crate n (s .args .from .0) (s .args .ns) (s .args .kind) (now (s .args .names)) (s .args .count) (s .pre .2) _ (c .follow3 .ensures) (c .before .before .before .before .before .if1 .left) (c .before .before .before .before .if2 .left) (c .before .before .before .if3 .taken) (c .before .means-module2 .ensures ∙ ap (λ m. some (Mod m)) (c .before .before .crate-root .ensures))
+    reads-crate n (s .args .from .0) (s .args .ns) (s .args .kind) (now (s .args .names)) (s .args .count) (s .pre .2) _ (c .follow3 .ensures) (c .before .before .before .before .before .if1 .left) (c .before .before .before .before .if2 .left) (c .before .before .before .if3 .taken) (c .before .means-module2 .ensures ∙ ap (λ m. some (moduleItem m)) (c .before .before .crate-root .ensures))
 
 returns-4 : tie.Need-returns-4
 unfolding meant
