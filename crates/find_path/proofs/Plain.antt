@@ -163,8 +163,8 @@ module _ (s : Snapshot) (from : ℕ) where
 
   later-plain : (ns name : ℕ) (x : Item) → laterName (plainly s) from ns name x ≡ laterName s from ns name x
   unfolding laterName variantNamed
-  later-plain ns name (Mod m) = got-plain none m ns name
-  later-plain ns name (Def k d) = variant-in-plain ns (variantNamed s d name)
+  later-plain ns name (Mod m) = got-plain none (m .0) ns name
+  later-plain ns name (Def k d) = variant-in-plain ns (variantNamed s (d .0) name)
 
   reached-plain : (ns name : ℕ) (here : Option Item) → after here (laterName (plainly s) from ns name) ≡ after here (laterName s from ns name)
   unfolding after
@@ -198,11 +198,11 @@ module _ (s : Snapshot) (from : ℕ) where
   reads-plain ns kind names =
       λ i.
       elim (eqb kind selfKind) [
-        | true ↦ follow-plain ns (some (Mod (standsFor s from))) names i
+        | true ↦ follow-plain ns (some (moduleItem (standsFor s from))) names i
         | false ↦ elim (eqb kind superKind) [
           | true ↦ (ap (λ (x : Option Item). follow (plainly s) from ns x names) (parent-means-plain (parentOf s (standsFor s from))) ∙ follow-plain ns _ names) i
           | false ↦ elim (eqb kind crateKind) [
-            | true ↦ follow-plain ns (some (Mod (crateRoot s from))) names i
+            | true ↦ follow-plain ns (some (moduleItem (crateRoot s from))) names i
             | false ↦ elim (eqb kind absoluteKind) [ true ↦ absolutely-plain ns names i | false ↦ plainly-plain ns names i ]
           ]
         ]
