@@ -6,6 +6,7 @@ pub mod check;
 pub mod compare;
 pub mod damage;
 pub mod encode;
+pub mod examples;
 pub mod generate;
 pub mod import_cases;
 pub mod import_lists;

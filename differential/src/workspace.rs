@@ -103,11 +103,20 @@ pub(crate) const FIRST_CRATE_NAME: usize = TEXTS.len();
 const TEXTS: [&str; 9] = ["a", "b", "c", "d", "e", "f", "type", "gen", "try"];
 
 impl Workspace {
+    /// Crates with their roots, with names to draw from.
     pub(crate) fn empty(editions: &[usize]) -> Workspace {
+        let mut w = Workspace::bare(editions);
+        w.names = TEXTS.iter().map(|text| text.to_string()).collect();
+        w.names.extend((0..editions.len()).map(|krate| format!("k{krate}")));
+        w
+    }
+
+    /// Crates with their roots, without names.
+    pub(crate) fn bare(editions: &[usize]) -> Workspace {
         let crates = editions.len();
         let mut w = Workspace {
             editions: editions.to_vec(),
-            names: TEXTS.iter().map(|text| text.to_string()).collect(),
+            names: Vec::new(),
             externs: vec![Vec::new(); crates],
             extern_crates: vec![false; crates],
             preludes: vec![None; crates],
@@ -118,7 +127,6 @@ impl Workspace {
             globs: Vec::new(),
         };
         for krate in 0..crates {
-            w.names.push(format!("k{krate}"));
             w.scopes.push(Scope { krate, parent: None, block: false });
         }
         w

@@ -7,6 +7,8 @@ struct Builder {
     w: Workspace,
     /// the latest `use`: its scope, and the module and the name that it takes
     latest: Option<(usize, usize, usize)>,
+    /// modules and names that a `use` has taken: nothing more comes under such a name
+    taken: Vec<(usize, usize)>,
 }
 
 /// The workspace of a seed.
@@ -14,7 +16,7 @@ pub fn workspace(seed: u64) -> Workspace {
     let mut r = Random::new(seed ^ 0x3C6E_F372_FE94_F82B);
     let crates = r.pick(&[2, 2, 2, 2, 3, 3, 4]);
     let editions: Vec<usize> = (0..crates).map(|_| r.pick(&[2015, 2018, 2018, 2021, 2021, 2024])).collect();
-    let mut b = Builder { r, w: Workspace::empty(&editions), latest: None };
+    let mut b = Builder { r, w: Workspace::empty(&editions), latest: None, taken: Vec::new() };
     b.dependencies();
     b.scopes();
     b.items();
@@ -235,9 +237,11 @@ impl Builder {
         let alias = if self.r.percent(50) { from.1 } else { self.name() };
         let there: Vec<(Vis, usize)> =
             brought.iter().filter(|n| n.real).map(|n| source.unwrap_or((n.vis, n.of))).collect();
-        if there.is_empty() || brought.iter().any(|n| !self.w.free(scope, n.ns, alias)) {
+        let free = |n: &Named| self.w.free(scope, n.ns, alias);
+        if there.is_empty() || !brought.iter().all(free) || self.taken.contains(&(scope, alias)) {
             return;
         }
+        self.taken.push((module, name));
         let (vis, hidden) = (self.use_vis(scope, &there), self.r.percent(10));
         for n in brought {
             let (entry_vis, of) = self.w.smaller((n.vis, n.of), (vis, scope), scope);
@@ -283,6 +287,12 @@ impl Builder {
         let mut globs = self.w.globs.clone();
         globs.push(Glob { scope, from, vis, hidden });
         let Some(named) = self.w.with_globs(&globs) else { return };
+        if named[self.w.named.iter().filter(|n| !n.glob).count()..]
+            .iter()
+            .any(|n| self.taken.contains(&(n.scope, n.name)))
+        {
+            return;
+        }
         self.w.named = named;
         self.w.globs = globs;
         let text = format!("{}use {}::*;", self.w.vis_text(vis, scope), path.join("::"));
