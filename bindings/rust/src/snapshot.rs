@@ -73,14 +73,15 @@ impl std::fmt::Debug for Snapshot {
     }
 }
 
-/// The edition of each module's crate, of words that the check accepted.
+/// The edition of each module's crate, of words that the check accepted. Arguments have no kind, so each other word is a head.
 fn editions(words: &[u32]) -> Box<[Edition]> {
     let (mut crates, mut maps, mut modules) = (Vec::new(), Vec::new(), Vec::new());
-    for (_, record) in records(words) {
-        match record {
-            Record::Crate(krate) => crates.push(krate.edition),
-            Record::Map(map) => maps.push(crates[map.krate.0 as usize]),
-            Record::Module(module) => modules.push(maps[module.map.0 as usize]),
+    for (at, word) in words.iter().enumerate().take_while(|(_, word)| **word >> 28 <= 5) {
+        let payload = (word & 0x0FFF_FFFF) as usize;
+        match word >> 28 {
+            2 => crates.push(Edition::try_from(words[at + 1]).expect("an edition that the check accepted")),
+            4 => maps.push(crates[payload]),
+            5 => modules.push(maps[payload]),
             _ => (),
         }
     }
