@@ -4,8 +4,9 @@
 //! rust-analyzer's `find_path` does. [`Snapshot::find_paths`] answers the questions of a whole file at once. The answers come from
 //! proved code in a static library; this crate adds the types.
 //!
-//! [`Outcome`] keeps apart what the Rust does not: [`Outcome::NoPath`] says that there is no path, [`Outcome::TankEmpty`] that
-//! the fuel ran out before the search was through, which says nothing about the item.
+//! [`Outcome`] keeps apart what the Rust does not: [`Outcome::NoPath`] says that there is no path (under a smaller limit than
+//! [`Question::LIMIT`], that there is none of that length), [`Outcome::TankEmpty`] that the fuel ran out before the search was through, which
+//! says nothing about the item.
 //!
 //! ```
 //! use kelumavor::record::{Crate, Map};
