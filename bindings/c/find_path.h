@@ -110,7 +110,8 @@ enum kelumavor_option {
     KELUMAVOR_PREFER_ABSOLUTE = 4,
     KELUMAVOR_ALLOW_UNSTABLE = 8,
     KELUMAVOR_IGNORE_LOCAL_IMPORTS = 16,
-    KELUMAVOR_OLD_NAMES_LAST = 32
+    KELUMAVOR_OLD_NAMES_LAST = 32,
+    KELUMAVOR_READ_BACK = 64 /* a found path is read from the viewing module: KELUMAVOR_MISLEADS */
 };
 
 /* A question: namespace (enum kelumavor_namespace), definition, viewing module, prefix (enum kelumavor_prefix), options (enum
@@ -127,8 +128,8 @@ enum kelumavor_question {
     KELUMAVOR_QUESTION /* how many */
 };
 
-/* What a question came to. */
-enum kelumavor_outcome { KELUMAVOR_FOUND, KELUMAVOR_NONE, KELUMAVOR_REFUSED };
+/* What a question came to. A path that misleads means another thing in the viewing module, or nothing: no use line is to be made of it. */
+enum kelumavor_outcome { KELUMAVOR_FOUND, KELUMAVOR_NONE, KELUMAVOR_REFUSED, KELUMAVOR_MISLEADS };
 
 /* What a path begins with; the last is a leading ::. A path of a keyword alone, without names, is no use line. */
 enum kelumavor_path_kind {

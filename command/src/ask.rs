@@ -87,6 +87,7 @@ fn options(bits: u32) -> Options {
         allow_unstable: bit(3),
         ignore_local_imports: bit(4),
         old_names_last: bit(5),
+        read_back: bit(6),
     }
 }
 
@@ -98,6 +99,7 @@ pub fn option_bits(options: Options) -> u32 {
         options.allow_unstable,
         options.ignore_local_imports,
         options.old_names_last,
+        options.read_back,
     ];
     set.iter().rev().fold(0, |bits, set| 2 * bits + u32::from(*set))
 }
@@ -207,6 +209,12 @@ pub fn meaning(view: &View, question: &Question, report: &Report) -> Option<Stri
             empty().unwrap_or_default(),
             Question::FUEL
         )),
+        Outcome::Misleads(path) => Some(format!(
+            "read from {}, `{}` means another thing or nothing, so no use line is to be made of it; ask with another --prefix{}",
+            view.module(question.from.0 as usize),
+            path_text(path),
+            empty().map(|first| format!(", or with more fuel, which ran out{first}")).unwrap_or_default()
+        )),
         Outcome::Refused(refusal) => Some(refusal.kind().to_string()),
         other => Some(format!("an outcome that this command has no words for: {other:?}")),
     }
@@ -219,8 +227,17 @@ fn outcome(report: &Report) -> &'static str {
         Outcome::NoPath => "none",
         Outcome::TankEmpty(Some(_)) => "found so far",
         Outcome::TankEmpty(None) => "not known",
+        Outcome::Misleads(_) => "misleads",
         Outcome::Refused(_) => "refused",
         _ => "unknown",
+    }
+}
+
+/// The path that was found, misleading or not.
+pub fn found<'r, 's>(report: &'r Report<'s>) -> Option<&'r Path<'s>> {
+    match &report.outcome {
+        Outcome::Misleads(path) => Some(path),
+        _ => report.path(),
     }
 }
 
@@ -249,6 +266,12 @@ pub fn text(view: &View, question: &Question, report: &Report) -> String {
                 _ => String::new(),
             };
             lines.push(format!("{}{number}: {}", outcome(report), meaning.unwrap_or_default()));
+            lines.extend(
+                found(report)
+                    .iter()
+                    .flat_map(|path| steps(path))
+                    .map(|(part, step)| format!("  {}", step_text(view, question.from, &part, step))),
+            );
         }
     }
     lines.push(format!("asked: {}; {}", asked(view, question), counted(report.charges as usize, "charge")));
@@ -273,9 +296,9 @@ pub fn json(view: &View, question: &Question, report: &Report) -> Json {
     };
     Json::Object(vec![
         ("outcome", outcome(report).into()),
-        ("path", report.path().map(path_text).into()),
+        ("path", found(report).map(path_text).into()),
         ("use_line", report.path().is_some_and(|path| path.names().len() > 0).into()),
-        ("route", report.path().map_or(Json::List(Vec::new()), route)),
+        ("route", found(report).map_or(Json::List(Vec::new()), route)),
         ("refused", refusal.into()),
         ("meaning", meaning(view, question, report).into()),
         ("charges", report.charges.into()),

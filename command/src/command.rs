@@ -17,7 +17,7 @@ use crate::view::View;
 use crate::{ask, dot, dump, escape, imports, reach, tree};
 
 pub const FINE: u8 = 0;
-/// A snapshot or a question is refused, or there is no path.
+/// A snapshot or a question is refused, there is no path, or it misleads.
 pub const REFUSED: u8 = 1;
 pub const FAILED: u8 = 2;
 
@@ -329,7 +329,7 @@ fn routed(args: &Args, words: &[u32], view: &View) -> Result<Answer, Failure> {
     let question = ask::question(args, view)?;
     let snapshot = checked_again(words)?;
     let report = during("searching", || snapshot.find_path(&question));
-    let graph = dot::graph(view, report.path().map(|path| (question.from, path)));
+    let graph = dot::graph(view, ask::found(&report).map(|path| (question.from, path)));
     let notes = ask::meaning(view, &question, &report).into_iter().collect();
     Ok(Answer { status: status(&report), out: graph.into_bytes(), notes })
 }

@@ -115,8 +115,15 @@ pub const MARKS: [&str; 2] = ["declared", "deprecated"];
 pub const ATTRIBUTES: [&str; 2] = ["hidden", "unstable"];
 pub const MEMBERS: [&str; 4] = ["variant", "function", "constant", "type-alias"];
 pub const PREFIXES: [&str; 3] = ["self", "plain", "crate"];
-pub const OPTIONS: [&str; 6] =
-    ["prefer-no-std", "prefer-prelude", "prefer-absolute", "allow-unstable", "ignore-local-imports", "old-names-last"];
+pub const OPTIONS: [&str; 7] = [
+    "prefer-no-std",
+    "prefer-prelude",
+    "prefer-absolute",
+    "allow-unstable",
+    "ignore-local-imports",
+    "old-names-last",
+    "read-back",
+];
 const NO_YES: [&str; 2] = ["no", "yes"];
 
 impl Role {

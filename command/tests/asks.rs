@@ -2,7 +2,7 @@
 mod common;
 
 use common::{WORKED, bytes, file, kelumavor, out, snapshot};
-use kelumavor::{DefinitionId, ModuleId, Namespace, Outcome, Question, Rule, Snapshot};
+use kelumavor::{DefinitionId, ModuleId, Namespace, Outcome, Question, Rule, Snapshot, SnapshotWords, Visibility};
 use kelumavor_command::record::Kind;
 use kelumavor_command::view::View;
 use kelumavor_command::{ask, dot, resolve, tree};
@@ -60,15 +60,44 @@ fn options_by_name_and_number() {
         let lines = lines("options", &["--item", "a::f", "--from", "crate", "--options", options]);
         lines.last().unwrap().split("options ").nth(1).unwrap().split(", fuel").next().unwrap().to_string()
     };
-    let all = "prefer-no-std+prefer-prelude+prefer-absolute+allow-unstable+ignore-local-imports+old-names-last";
+    let all =
+        "prefer-no-std+prefer-prelude+prefer-absolute+allow-unstable+ignore-local-imports+old-names-last+read-back";
     assert_eq!(asked(&all.replace('+', ",")), all);
-    assert_eq!(asked("63"), all);
+    assert_eq!(asked("127"), all);
     assert_eq!(asked("allow-unstable"), "allow-unstable");
     let file = file("options-wrong", &bytes(&WORKED));
-    for wrong in ["64", "unstable", "allow-unstable,"] {
+    for wrong in ["128", "unstable", "allow-unstable,"] {
         let output = kelumavor(&["ask", &file, "--item", "a::f", "--from", "crate", "--options", wrong]);
         assert_eq!(output.status.code(), Some(2), "{wrong}");
     }
+}
+
+/// In a block whose own `f` hides the one around it the path is no answer, and the status says so.
+#[test]
+fn a_path_that_misleads() {
+    let mut words = SnapshotWords::new();
+    let f = words.name("f");
+    let krate = words.krate(Default::default(), false, Default::default());
+    let map = words.map(krate, None, false);
+    let root = words.module(map, None);
+    let block_map = words.map(krate, Some(root), false);
+    let block = words.module(block_map, None);
+    let [outer, inner] = [root, block].map(|module| words.other_definition(module));
+    words.scope(root, Namespace::Values, f, outer, Visibility::Public, true);
+    words.scope(block, Namespace::Values, f, inner, Visibility::Public, true);
+    let file = file("misleads", &bytes(words.as_words()));
+    let plain = ["ask", &file, "--item", "0", "--from", "1", "--namespace", "values"];
+    let ask = |more: &[&str]| kelumavor(&[&plain[..], more].concat());
+    let output = ask(&["--options", "read-back"]);
+    assert_eq!(output.status.code(), Some(1));
+    let text = out(&output);
+    assert!(text.starts_with("misleads: read from "), "{text}");
+    assert!(text.lines().nth(1).unwrap().starts_with("  f: entry of module crate,"), "{text}");
+    let json = out(&ask(&["--options", "read-back", "--json"]));
+    assert!(json.contains("\"outcome\":\"misleads\",\"path\":\"f\",\"use_line\":false"), "{json}");
+    assert_eq!(ask(&[]).status.code(), Some(0));
+    let by_crate = ask(&["--options", "read-back", "--prefix", "crate"]);
+    assert_eq!((by_crate.status.code(), out(&by_crate).lines().next()), (Some(0), Some("crate::f")));
 }
 
 /// Each module of a random snapshot is found again by the name that it is given.

@@ -6,11 +6,12 @@
 //!
 //! [`Outcome`] keeps apart what the Rust does not: [`Outcome::NoPath`] says that there is no path (under a smaller limit than
 //! [`Question::LIMIT`], that there is none of that length), [`Outcome::TankEmpty`] that the fuel ran out before the search was through, which
-//! says nothing about the item.
+//! says nothing about the item. With [`Options::read_back`] it tells [`Outcome::Misleads`] from [`Outcome::Found`] too: a path that means
+//! another thing where it is to be written.
 //!
 //! ```
 //! use kelumavor::record::{Crate, Map};
-//! use kelumavor::{Entry, Namespace, Outcome, Question, Snapshot, SnapshotWords};
+//! use kelumavor::{Entry, Namespace, Options, Outcome, Question, Snapshot, SnapshotWords};
 //!
 //! // A crate with a module `a` that holds a function `f`.
 //! let mut words = SnapshotWords::new();
@@ -26,11 +27,13 @@
 //! words.add_entry(Entry::new(module, Namespace::Values, f, f_function));
 //!
 //! let snapshot = Snapshot::check(words.as_words())?;
-//! let report = snapshot.find_path(&Question::new(Namespace::Values, f_function, root));
+//! let options = Options { read_back: true, ..Options::default() };
+//! let report = snapshot.find_path(&Question::new(Namespace::Values, f_function, root).options(options));
 //! match report.outcome {
 //!     Outcome::Found(path) => assert_eq!(path.to_string(), "a::f"),
 //!     Outcome::NoPath => panic!("the function cannot be named here"),
 //!     Outcome::TankEmpty(_) => panic!("not known: the search needs more fuel"),
+//!     Outcome::Misleads(path) => panic!("{path} means another thing here"),
 //!     Outcome::Refused(refusal) => return Err(refusal),
 //!     other => panic!("nothing is known of {other:?}"),
 //! }

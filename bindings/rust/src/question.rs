@@ -30,6 +30,9 @@ pub struct Options {
     pub ignore_local_imports: bool,
     /// A deprecated name only where the scope has no other that can be used.
     pub old_names_last: bool,
+    /// A found path is read from the viewing module. Where it means another thing there, or nothing, the outcome is
+    /// [`Outcome::Misleads`](crate::Outcome::Misleads).
+    pub read_back: bool,
 }
 
 impl Options {
@@ -40,6 +43,7 @@ impl Options {
             + 8 * u32::from(self.allow_unstable)
             + 16 * u32::from(self.ignore_local_imports)
             + 32 * u32::from(self.old_names_last)
+            + 64 * u32::from(self.read_back)
     }
 }
 

@@ -19,6 +19,11 @@ pub enum Outcome {
     /// The fuel ran out before the search was through. A path that was found so far names the item, but a whole search may
     /// find another; without one, nothing is known.
     TankEmpty(Option<Path>),
+    /// The path that was found means another thing in the viewing module, or nothing: a name there hides it, or an entry on it cannot
+    /// be seen from there. No `use` line is to be made of it; a question with another [`Prefix`](crate::Prefix) may find a path that
+    /// holds. Only with [`Options::read_back`](crate::Options::read_back). Where the fuel ran out as well, [`Report::first_empty`] says
+    /// so, and a whole search may find another path.
+    Misleads(Path),
     /// There was no search.
     Refused(Refusal),
 }
@@ -67,7 +72,7 @@ pub struct Report {
     pub outcome: Outcome,
     /// Charges that the search made; 0 where the question was refused.
     pub charges: u32,
-    /// There exactly where the outcome is [`Outcome::TankEmpty`].
+    /// There exactly where the fuel ran out: of an [`Outcome::TankEmpty`] always, of an [`Outcome::Misleads`] perhaps.
     pub first_empty: Option<FirstEmpty>,
 }
 
@@ -84,6 +89,7 @@ impl Report {
             (1, 0) => Outcome::NoPath,
             (0, _) => Outcome::TankEmpty(Some(path())),
             (1, _) => Outcome::TankEmpty(None),
+            (3, _) => Outcome::Misleads(path()),
             _ => Outcome::Refused(Refusal::new(number, None)),
         };
         let module = sought.checked_sub(1).map(ModuleId);
@@ -91,7 +97,7 @@ impl Report {
         Report { outcome, charges, first_empty }
     }
 
-    /// The path of a search that went through, or the one found so far where the fuel ran out.
+    /// The path of a search that went through, or the one found so far where the fuel ran out. A path that misleads is not given here.
     #[must_use]
     pub fn path(&self) -> Option<&Path> {
         match &self.outcome {
@@ -120,6 +126,9 @@ impl fmt::Display for Report {
             Outcome::NoPath => write!(f, "none - {charges} 0"),
             Outcome::TankEmpty(Some(path)) => write!(f, "found {path} {charges} 1"),
             Outcome::TankEmpty(None) => write!(f, "none - {charges} 1"),
+            Outcome::Misleads(path) => {
+                write!(f, "misleads {path} {charges} {}", u32::from(self.first_empty.is_some()))
+            }
             Outcome::Refused(refusal) => {
                 write!(f, "refused {} {charges} 0", refusal.kind().number())
             }

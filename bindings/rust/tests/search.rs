@@ -84,6 +84,34 @@ fn old_names_come_last() {
     assert_eq!(ask(Options { ignore_local_imports: true, ..last }), "found old 0 0");
 }
 
+/// In the block its own `f` hides the one around it; a path from `crate` is not hidden.
+#[test]
+fn misleading_paths_are_told() {
+    let mut words = SnapshotWords::new();
+    let f = words.name("f");
+    let krate = words.krate(Default::default(), false, Default::default());
+    let map = words.map(krate, None, false);
+    let root = words.module(map, None);
+    let block_map = words.map(krate, Some(root), false);
+    let block = words.module(block_map, None);
+    let [outer, inner] = [root, block].map(|module| words.other_definition(module));
+    words.scope(root, Namespace::Values, f, outer, Visibility::Public, true);
+    words.scope(block, Namespace::Values, f, inner, Visibility::Public, true);
+    let snapshot = Snapshot::check(words.as_words()).unwrap();
+    let question = Question::new(Namespace::Values, outer, block);
+    let read = Options { read_back: true, ..Options::default() };
+    assert!(matches!(snapshot.find_path(&question).outcome, Outcome::Found(_)));
+    let report = snapshot.find_path(&question.options(read));
+    assert_eq!(report.to_string(), "misleads f 0 0");
+    assert!(matches!(&report.outcome, Outcome::Misleads(path) if path.route().count() == 1));
+    assert_eq!((report.path(), report.first_empty), (None, None));
+    assert_eq!(snapshot.find_paths(&[question.options(read)])[0].to_string(), "misleads f 0 0");
+    let by_crate = question.options(read).prefix(Prefix::ByCrate);
+    assert_eq!(snapshot.find_path(&by_crate).to_string(), "found crate::f 1 0");
+    let its_own = Question::new(Namespace::Values, inner, block).options(read);
+    assert_eq!(snapshot.find_path(&its_own).to_string(), "found f 0 0");
+}
+
 /// A path of two names is found with a limit of 2; limits outside 1 to 15 are refused.
 #[test]
 fn limits() {
@@ -188,7 +216,11 @@ fn random_questions_as_printed() {
         let mut lines = Vec::new();
         for (question, routed) in asked() {
             let report = checked.find_path_in(question, &mut area);
-            let steps = report.path().filter(|_| routed).into_iter().flat_map(|path| path.route());
+            let path = match &report.outcome {
+                Outcome::Misleads(path) => Some(path),
+                _ => report.path(),
+            };
+            let steps = path.filter(|_| routed).into_iter().flat_map(|path| path.route());
             lines.push(steps.fold(report.to_string(), |line, step| format!("{line} {step}")));
         }
         assert_eq!(printed(&input).lines().collect::<Vec<_>>(), lines, "seed {seed}");

@@ -45,6 +45,7 @@ pub fn option_bits(options: Options) -> u32 {
         options.allow_unstable,
         options.ignore_local_imports,
         options.old_names_last,
+        options.read_back,
     ];
     bits.iter().rev().fold(0, |sum, bit| 2 * sum + u32::from(*bit))
 }

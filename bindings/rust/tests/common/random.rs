@@ -114,6 +114,7 @@ pub fn question(random: &mut Random, snapshot: &Snapshot) -> Question {
         allow_unstable: random.chance(50),
         ignore_local_imports: random.chance(30),
         old_names_last: random.chance(40),
+        read_back: random.chance(40),
     };
     let fuel = if random.chance(30) { random.below(8) } else { Question::FUEL };
     let limit = if random.chance(50) { random.below(18) } else { Question::LIMIT };
