@@ -22,5 +22,5 @@ pub fn clear_front(area: &mut [u32])
     if area.len() < WordCount::AREA {
         return;
     }
-    clear(&mut area[..16384]);
+    clear(&mut area[..WordCount::AREA]);
 }

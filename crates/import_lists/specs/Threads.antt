@@ -5,12 +5,14 @@ use mathlib.Core.List.{List, [], _∷_}
 use mathlib.Core.Bool.{Bool, true, false}
 use lib.Dec.{eqb}
 use lib.ListN.{length, getD}
+use Rattle.snapshot.specs.Limits.{moduleLimit, definitionLimit}
 use Rattle.snapshot.specs.Sizes.{memberSize}
 use Rattle.snapshot.specs.Records.{Snapshot, Scope, Member, scopeAt, memberAt}
 use Rattle.snapshot.specs.Layouts.{memberBase, snapOf}
 use Rattle.snapshot.specs.declared.layout.Layout.{Layout}
 use Rattle.chains.specs.Chains.{ChainedBy}
 use Rattle.hir_def.specs.Finds.{select}
+use Rattle.import_order.specs.Rooms.{entriesRoom, headsRoom, spareRoom, memberHeadsRoom, memberLinksRoom}
 use Rattle.import_order.specs.Collect.{entryBefore, sortInto}
 use Rattle.import_order.specs.Lists.{entriesAt, Runs, Ready}
 
@@ -32,7 +34,7 @@ publicIn s = sortInto (entryBefore s) [] (select isPublic (s .scopes))
 
 -- the entry of a number: n of them stand from word 4,160 on, and the last has the number 0
 abbrev pub entryOf : List ℕ → List ℕ → ℕ → ℕ → Scope
-entryOf W A n j = scopeAt W (getD A (4160 + (n - 1 - j)) 0)
+entryOf W A n j = scopeAt W (getD A (entriesRoom + (n - 1 - j)) 0)
 
 -- the member of a number, the last has the number 0
 abbrev pub memberOf : List ℕ → Layout → ℕ → Member
@@ -40,9 +42,9 @@ memberOf W l j = memberAt W (memberBase l + memberSize * (l .members - 1 - j))
 
 -- the public entries of all modules stand in the area, in no order
 pub record Gathered (W A : List ℕ) (l : Layout) (B : List ℕ) (n : ℕ) : Type 0 where
-  pub frame : Runs A B 4160 6208
+  pub frame : Runs A B entriesRoom headsRoom
   pub few : n ≤ l .scopes
-  pub same : entriesAt W B 4160 n ≡ select isPublic (snapOf W A l .scopes)
+  pub same : entriesAt W B entriesRoom n ≡ select isPublic (snapOf W A l .scopes)
 
 -- a thread for each key below a count: the words before the heads and links stay, and those after them
 pub record Threads (count heads links : ℕ) (key : ℕ → ℕ) (n : ℕ) (A B : List ℕ) : Type 0 where
@@ -54,6 +56,6 @@ pub record Threads (count heads links : ℕ) (key : ℕ → ℕ) (n : ℕ) (A B 
 pub record Threaded (W A : List ℕ) (l : Layout) (n : ℕ) : Type 0 where
   pub ready : Ready W A l
   pub few : n ≤ l .scopes
-  pub list : entriesAt W A 4160 n ≡ publicIn (snapOf W A l)
-  pub entries : ChainedBy 512 A 6208 6720 (λ j. entryOf W A n j .owner) n
-  pub members : ChainedBy 2048 A 8768 10816 (λ j. memberOf W l j .parent) (l .members)
+  pub list : entriesAt W A entriesRoom n ≡ publicIn (snapOf W A l)
+  pub entries : ChainedBy moduleLimit A headsRoom spareRoom (λ j. entryOf W A n j .owner) n
+  pub members : ChainedBy definitionLimit A memberHeadsRoom memberLinksRoom (λ j. memberOf W l j .parent) (l .members)

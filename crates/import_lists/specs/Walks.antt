@@ -8,6 +8,7 @@ use Rattle.snapshot.specs.Layouts.{snapOf}
 use Rattle.snapshot.specs.declared.layout.Layout.{Layout}
 use Rattle.chains.specs.Chains.{Marked}
 use Rattle.accept.specs.Valid.{Each}
+use Rattle.import_order.specs.Rooms.{memberLinksRoom}
 use Rattle.import_order.specs.Collect.{visits, modulesFrom}
 use Rattle.import_order.specs.Lists.{waiting}
 use Rattle.import_lists.specs.declared.walk.Turn.{Turn}
@@ -15,7 +16,7 @@ use Rattle.import_lists.specs.Threads.{Threaded}
 
 -- the first words of the marks of the modules that were visited, of these in order, and of the pile
 abbrev pub marksBase : Layout → ℕ
-marksBase l = 10816 + l .members
+marksBase l = memberLinksRoom + l .members
 
 abbrev pub orderBase : Layout → ℕ
 orderBase l = marksBase l + 512

@@ -6,6 +6,7 @@ use mathlib.Core.Bool.{Bool, true, false, not}
 use lib.Dec.{eqb}
 use lib.ListN.{length}
 use lib.Seq.{sets}
+use Rattle.snapshot.specs.Limits.{definitionLimit}
 use Rattle.snapshot.specs.Sizes.{importSize}
 use Rattle.snapshot.specs.Records.{Snapshot, Scope, Import, Member}
 use Rattle.snapshot.specs.declared.layout.Layout.{Layout}
@@ -13,6 +14,7 @@ use Rattle.chains.specs.Chains.{ChainedBy}
 use Rattle.accept.specs.Stands.{countsIn}
 use Rattle.accept.specs.Valid.{ScopeFits}
 use Rattle.hir_def.specs.Finds.{select}
+use Rattle.import_order.specs.Rooms.{memberHeadsRoom, memberLinksRoom}
 use Rattle.import_order.specs.Collect.{isMemberOf, memberImport, wordsOf}
 use Rattle.import_order.specs.Lists.{Ready}
 use Rattle.import_lists.specs.Threads.{memberOf}
@@ -59,6 +61,6 @@ membersOf s c e = map (memberImport c e) (select (isMemberOf (e .definition)) (s
 -- an entry of a crate's list, and the members threaded by parent
 pub record Listed (W A : List ℕ) (l : Layout) (c : ℕ) (e : Scope) : Type 0 where
   pub ready : Ready W A l
-  pub members : ChainedBy 2048 A 8768 10816 (λ j. memberOf W l j .parent) (l .members)
+  pub members : ChainedBy definitionLimit A memberHeadsRoom memberLinksRoom (λ j. memberOf W l j .parent) (l .members)
   pub owner : c < l .crates
   pub fits : ScopeFits (countsIn l) e

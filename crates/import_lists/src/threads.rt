@@ -2,7 +2,9 @@
 ghost use mathlib.Core.Path.{_≡_};
 ghost use Prim.Native.Nat.{ℕ, _+_, _*_, _-_, _≤_, _<_};
 ghost use lib.ListN.{length, getD};
+ghost use Rattle.snapshot.specs.Limits.{wordLimit, moduleLimit, definitionLimit, areaLimit};
 ghost use Rattle.snapshot.specs.Layouts.{wordCount};
+ghost use Rattle.import_order.specs.Rooms.{entriesRoom, headsRoom, spareRoom, memberHeadsRoom, memberLinksRoom};
 ghost use Rattle.import_order.specs.Lists.{Ready};
 ghost use Rattle.import_lists.specs.Threads.{entryOf, memberOf, Gathered, Threads, Threaded};
 use chains::chain::clear;
@@ -38,9 +40,9 @@ fn gather(words: &[u32], area: &mut [u32], l: Layout) -> usize
 
 // Threads the entries by module, the last first.
 fn thread_entries(words: &[u32], area: &mut [u32], n: usize)
-    requires { ⌜ (length (now area) ≡ 16384) × (n ≤ 2048) ⌝ }
-    requires { ⌜ ((b : ℕ) → b < 512 → getD (now area) (6208 + b) 0 ≡ 0) × ((j : ℕ) → j < n → entryOf (now words) (now area) n j .owner < 512) ⌝ }
-    ensures { λ _. ⌜ Threads 512 6208 6720 (λ j. entryOf (now (words .entry)) (now (area .entry)) n j .owner) n (now (area .entry)) (now (area .exit)) ⌝ }
+    requires { ⌜ (length (now area) ≡ areaLimit) × (n ≤ 2048) ⌝ }
+    requires { ⌜ ((b : ℕ) → b < moduleLimit → getD (now area) (headsRoom + b) 0 ≡ 0) × ((j : ℕ) → j < n → entryOf (now words) (now area) n j .owner < moduleLimit) ⌝ }
+    ensures { λ _. ⌜ Threads moduleLimit headsRoom spareRoom (λ j. entryOf (now (words .entry)) (now (area .entry)) n j .owner) n (now (area .entry)) (now (area .exit)) ⌝ }
 {
     let mut j = 0;
     while j < n {
@@ -53,9 +55,9 @@ fn thread_entries(words: &[u32], area: &mut [u32], n: usize)
 
 // Threads the members by parent, the last first.
 fn thread_members(words: &[u32], area: &mut [u32], l: Layout)
-    requires { ⌜ (length (now area) ≡ 16384) × (l .members ≤ 4096) × (wordCount l ≤ 16384) ⌝ }
-    requires { ⌜ ((b : ℕ) → b < 2048 → getD (now area) (8768 + b) 0 ≡ 0) × ((j : ℕ) → j < l .members → memberOf (now words) l j .parent < 2048) ⌝ }
-    ensures { λ _. ⌜ Threads 2048 8768 10816 (λ j. memberOf (now (words .entry)) l j .parent) (l .members) (now (area .entry)) (now (area .exit)) ⌝ }
+    requires { ⌜ (length (now area) ≡ areaLimit) × (l .members ≤ 4096) × (wordCount l ≤ wordLimit) ⌝ }
+    requires { ⌜ ((b : ℕ) → b < definitionLimit → getD (now area) (memberHeadsRoom + b) 0 ≡ 0) × ((j : ℕ) → j < l .members → memberOf (now words) l j .parent < definitionLimit) ⌝ }
+    ensures { λ _. ⌜ Threads definitionLimit memberHeadsRoom memberLinksRoom (λ j. memberOf (now (words .entry)) l j .parent) (l .members) (now (area .entry)) (now (area .exit)) ⌝ }
 {
     let base = l.member_base();
     let count = l.members;
@@ -70,7 +72,7 @@ fn thread_members(words: &[u32], area: &mut [u32], l: Layout)
 /// Threads the public entries, in order, and the members; answers how many entries there are.
 pub fn thread(words: &[u32], area: &mut [u32], l: Layout) -> usize
     requires { ⌜ Ready (now words) (now area) l ⌝ }
-    ensures { λ r. ⌜ Threaded (now (words .entry)) (now (area .exit)) l r × ((i : ℕ) → i < 4160 → getD (now (area .exit)) i 0 ≡ getD (now (area .entry)) i 0) ⌝ }
+    ensures { λ r. ⌜ Threaded (now (words .entry)) (now (area .exit)) l r × ((i : ℕ) → i < entriesRoom → getD (now (area .exit)) i 0 ≡ getD (now (area .entry)) i 0) ⌝ }
 {
     let n = gather(words, area, l);
     sort(words, area, l, Lists::ENTRIES, n);

@@ -1,2 +1,3 @@
 pub mod Collect
+pub mod Rooms
 pub mod Lists

@@ -5,11 +5,13 @@ use mathlib.Core.List.{List, [], _∷_}
 use mathlib.Core.Bool.{Bool, true, false}
 use lib.Dec.{eqb}
 use lib.ListN.{length, getD}
+use Rattle.snapshot.specs.Limits.{areaLimit}
 use Rattle.snapshot.specs.Lists.{rows, any}
 use Rattle.snapshot.specs.Records.{Scope, scopeAt}
 use Rattle.snapshot.specs.Layouts.{snapOf}
 use Rattle.snapshot.specs.declared.layout.Layout.{Layout}
 use Rattle.accept.specs.Post.{Reads}
+use Rattle.import_order.specs.Rooms.{headsRoom, spareRoom}
 use Rattle.import_order.specs.Collect.{entryBefore, sortInto}
 
 -- two lists as one: the head of the second comes first only where it stands before that of the first
@@ -29,19 +31,19 @@ orderOf W A l = entryBefore (snapOf W A l)
 -- the n words from a place on stand in the spare words too
 pub record Copied (A B : List ℕ) (from n : ℕ) : Type 0 where
   pub size : length B ≡ length A
-  pub there : (i : ℕ) → i < n → getD B (6720 + i) 0 ≡ getD A (from + i) 0
-  pub below : (i : ℕ) → i < 6208 → getD B i 0 ≡ getD A i 0
+  pub there : (i : ℕ) → i < n → getD B (spareRoom + i) 0 ≡ getD A (from + i) 0
+  pub below : (i : ℕ) → i < headsRoom → getD B i 0 ≡ getD A i 0
 
 -- of the words before the spare ones only those from a place to another change
 pub record Runs (A B : List ℕ) (from to : ℕ) : Type 0 where
   pub size : length B ≡ length A
   pub below : (i : ℕ) → i < from → getD B i 0 ≡ getD A i 0
-  pub above : (i : ℕ) → to ≤ i → i < 6208 → getD B i 0 ≡ getD A i 0
+  pub above : (i : ℕ) → to ≤ i → i < headsRoom → getD B i 0 ≡ getD A i 0
 
 -- checked words, with a whole work area
 pub record Ready (W A : List ℕ) (l : Layout) : Type 0 where
   pub reads : Reads W A l
-  pub size : length A ≡ 16384
+  pub size : length A ≡ areaLimit
 
 -- two runs of entries became one
 pub record Merges (W A : List ℕ) (l : Layout) (B : List ℕ) (from m n : ℕ) : Type 0 where

@@ -4,8 +4,10 @@ ghost use mathlib.Core.Bool.{_&&_};
 ghost use Prim.Native.Nat.{_+_, _≤_};
 ghost use lib.Dec.{ltb};
 ghost use lib.ListN.{length, getD};
+ghost use Rattle.snapshot.specs.Limits.{areaLimit};
 ghost use Rattle.snapshot.specs.Records.{scopeAt};
 ghost use Rattle.accept.specs.Post.{Reads};
+ghost use Rattle.import_order.specs.Rooms.{entriesRoom, headsRoom};
 ghost use Rattle.import_order.specs.Lists.{orderOf, Copied, Ready, Merges, Sorts};
 use crate::entries::entry_before;
 use snapshot::layout::Layout;
@@ -33,7 +35,7 @@ impl Lists {
 
 // Copies words from a place on to the spare ones.
 fn copy(area: &mut [u32], from: usize, n: usize)
-    requires { ⌜ (length (now area) ≡ 16384) × (from + n ≤ 6208) × (n ≤ 2048) ⌝ }
+    requires { ⌜ (length (now area) ≡ areaLimit) × (from + n ≤ headsRoom) × (n ≤ 2048) ⌝ }
     ensures { λ _. ⌜ Copied (now (area .entry)) (now (area .exit)) from n ⌝ }
 {
     let mut i = 0;
@@ -63,7 +65,7 @@ fn second_first(
 
 // Merges two runs of entries, the first m and the next n from a place on.
 fn merge(words: &[u32], area: &mut [u32], l: Layout, from: usize, m: usize, n: usize)
-    requires { ⌜ Ready (now words) (now area) l × (4160 ≤ from) × (from + m + n ≤ 6208) ⌝ }
+    requires { ⌜ Ready (now words) (now area) l × (entriesRoom ≤ from) × (from + m + n ≤ headsRoom) ⌝ }
     ensures { λ _. ⌜ Merges (now (words .entry)) (now (area .entry)) l (now (area .exit)) from m n ⌝ }
 {
     copy(area, from, m);
@@ -84,7 +86,7 @@ fn merge(words: &[u32], area: &mut [u32], l: Layout, from: usize, m: usize, n: u
 
 /// Puts the n entries from a place on in order.
 pub fn sort(words: &[u32], area: &mut [u32], l: Layout, from: usize, n: usize)
-    requires { ⌜ Ready (now words) (now area) l × (4160 ≤ from) × (from + n ≤ 6208) ⌝ }
+    requires { ⌜ Ready (now words) (now area) l × (entriesRoom ≤ from) × (from + n ≤ headsRoom) ⌝ }
     ensures { λ _. ⌜ Sorts (now (words .entry)) (now (area .entry)) l (now (area .exit)) from n ⌝ }
 {
     if n < 2 {
