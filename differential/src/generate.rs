@@ -735,7 +735,8 @@ impl Builder {
         }
     }
 
-    /// A module's name outside a block, and inside it the same name for the root of a block of that module: what the root has not, the module may have.
+    /// A module's name outside a block, and inside it the same name for the root of a block of that module: what the root has not, the module may
+    /// have.
     fn hide(&mut self) {
         let blocks: Vec<usize> = (0..self.s.modules.len()).filter(|&m| self.block_parent(m).is_some()).collect();
         let (Some(&first), Some(&last)) = (blocks.first(), blocks.last()) else { return };

@@ -197,7 +197,8 @@ impl fmt::Display for Totals {
             writeln!(f, "{title}: {} pairs", c.pairs)?;
             writeln!(
                 f,
-                "  search: {} found ({} refused by the compiler, {} of them by the reading of any path too), {} misleading ({} taken by the compiler, {} of them by the reading of any path too)",
+                "  search: {} found ({} refused by the compiler, {} of them by the reading of any path too), \
+                 {} misleading ({} taken by the compiler, {} of them by the reading of any path too)",
                 c.found, c.found_refused, c.found_refused_unread, c.misleads, c.misleads_taken, c.misleads_taken_read
             )?;
             let uses: Vec<String> = ["by self", "plain", "by crate"]

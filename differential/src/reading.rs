@@ -1,5 +1,5 @@
-//! A path read back from the viewing module, written from request L10 alone: not from the definition, and with nothing of the search. With a mistake it
-//! is a wrong program.
+//! A path read back from the viewing module, written from request L10 alone: not from the definition, and with nothing of the search. With a
+//! mistake it is a wrong program.
 use crate::check::{Module, Scope, Snapshot};
 use crate::{Path, Question};
 

@@ -59,8 +59,8 @@ const DEP: usize = 3;
 const E: usize = 4;
 const V: usize = 5;
 
-/// Modules: the root, `m` in it, a block in `m`, a `mod` in the block, a block in the first one, a `mod` in that, a block in this one, and the root of a
-/// second crate, whose `m` is the first one's prelude.
+/// Modules: the root, `m` in it, a block in `m`, a `mod` in the block, a block in the first one, a `mod` in that, a block in this one, and the root
+/// of a second crate, whose `m` is the first one's prelude.
 const MODULES: [(usize, usize); 9] = [(0, 0), (0, 1), (1, 0), (1, 3), (2, 0), (2, 5), (3, 0), (4, 0), (4, 8)];
 const ROOT: usize = 0;
 const OUTER: usize = 1;
