@@ -307,7 +307,8 @@ static inline size_t kelumavor_append(uint8_t *out, size_t out_len, size_t at, c
 
 /* Writes the path of a report as it stands in the viewing module, keywords of its crate's edition with r#, without an end mark, and answers its
  * length: KELUMAVOR_PATH_TEXT bytes are always enough, and of a longer text than out_len its first bytes are written. The tables are those of
- * kelumavor_name, copied before the question was asked. A report without a path has none: the answer is 0. Takes no area. */
+ * kelumavor_name, copied before the question was asked. For any outcome but
+ * KELUMAVOR_FOUND the answer is 0, for a path that misleads too. Takes no area. */
 static inline size_t kelumavor_path(const uint32_t *words, size_t words_len, const uint32_t *tables, size_t tables_len,
                                     const uint32_t report[KELUMAVOR_REPORT], size_t from, uint8_t *out, size_t out_len)
 {
