@@ -2,4 +2,5 @@
 pub mod Chains
 pub mod Lookups
 pub mod Scopes
+pub mod Walks
 pub mod Parts

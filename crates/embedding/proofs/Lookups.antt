@@ -41,32 +41,36 @@ first-miss : {A : Type 0} (t : A → Bool) (x : A) (xs : List A) → t x ≡ fal
 unfolding firstOf
 first-miss t x xs e = rw (firstOf, e)
 
+-- an element that was found, and its like: what is known of it, and that it passes the test
+abbrev pub Hit : {A : Type 0} → (A → Type 0) → (A → A → Type 0) → (A → Bool) → A → A → Type 0
+Hit P Alike p x z = P x × Alike x z × (p x ≡ true)
+
 -- A test that tells alike elements alike, and that no other passes, finds the same.
 module _ {A : Type 0} {P : A → Type 0} {Alike : A → A → Type 0} {Others : A → Type 0} (p q : A → Bool)
     (same : (x z : A) → P x → Alike x z → q z ≡ p x) (other : (z : A) → Others z → q z ≡ false)
   where
-    pub first-within : {xs zs : List A} → Each P xs → Within Alike Others xs zs → Both Alike (firstOf p xs) (firstOf q zs)
+    pub first-within : {xs zs : List A} → Each P xs → Within Alike Others xs zs → Both (Hit P Alike p) (firstOf p xs) (firstOf q zs)
     unfolding firstOf
     first-within none done = neither
     first-within (more {x = x} {xs = xs} f fs) (ours {z = z} {zs = zs} a r) =
         by-test (p x)
-        (λ t. subst (λ o. Both Alike (firstOf p (x ∷ xs)) o) (sym (first-hit q z zs (same x z f a ∙ t))) (subst (λ o. Both Alike o (some z)) (sym (first-hit p x xs t)) (each a)))
-        (λ t. subst (λ o. Both Alike (firstOf p (x ∷ xs)) o) (sym (first-miss q z zs (same x z f a ∙ t)))
-        (subst (λ o. Both Alike o (firstOf q zs)) (sym (first-miss p x xs t)) (first-within fs r)))
+        (λ t. subst (λ o. Both (Hit P Alike p) (firstOf p (x ∷ xs)) o) (sym (first-hit q z zs (same x z f a ∙ t))) (subst (λ o. Both (Hit P Alike p) o (some z)) (sym (first-hit p x xs t)) (each (f, a, t))))
+        (λ t. subst (λ o. Both (Hit P Alike p) (firstOf p (x ∷ xs)) o) (sym (first-miss q z zs (same x z f a ∙ t)))
+        (subst (λ o. Both (Hit P Alike p) o (firstOf q zs)) (sym (first-miss p x xs t)) (first-within fs r)))
     first-within {xs} fs (theirs {z = z} {zs = zs} o r) =
-        subst (λ y. Both Alike (firstOf p xs) y) (sym (first-miss q z zs (other z o))) (first-within fs r)
+        subst (λ y. Both (Hit P Alike p) (firstOf p xs) y) (sym (first-miss q z zs (other z o))) (first-within fs r)
 
-    pub select-within : {xs zs : List A} → Each P xs → Within Alike Others xs zs → Along Alike (select p xs) (select q zs)
+    pub select-within : {xs zs : List A} → Each P xs → Within Alike Others xs zs → Along (Hit P Alike p) (select p xs) (select q zs)
     unfolding select
     select-within none done = end
     select-within (more {x = x} {xs = xs} f fs) (ours {z = z} {zs = zs} a r) =
         by-test (p x)
-        (λ t. subst (λ y. Along Alike (select p (x ∷ xs)) y) (sym (select-hit q z zs (same x z f a ∙ t)))
-        (subst (λ y. Along Alike y (z ∷ select q zs)) (sym (select-hit p x xs t)) (next a (select-within fs r))))
-        (λ t. subst (λ y. Along Alike (select p (x ∷ xs)) y) (sym (select-miss q z zs (same x z f a ∙ t)))
-        (subst (λ y. Along Alike y (select q zs)) (sym (select-miss p x xs t)) (select-within fs r)))
+        (λ t. subst (λ y. Along (Hit P Alike p) (select p (x ∷ xs)) y) (sym (select-hit q z zs (same x z f a ∙ t)))
+        (subst (λ y. Along (Hit P Alike p) y (z ∷ select q zs)) (sym (select-hit p x xs t)) (next (f, a, t) (select-within fs r))))
+        (λ t. subst (λ y. Along (Hit P Alike p) (select p (x ∷ xs)) y) (sym (select-miss q z zs (same x z f a ∙ t)))
+        (subst (λ y. Along (Hit P Alike p) y (select q zs)) (sym (select-miss p x xs t)) (select-within fs r)))
     select-within {xs} fs (theirs {z = z} {zs = zs} o r) =
-        subst (λ y. Along Alike (select p xs) y) (sym (select-miss q z zs (other z o))) (select-within fs r)
+        subst (λ y. Along (Hit P Alike p) (select p xs) y) (sym (select-miss q z zs (other z o))) (select-within fs r)
 
 -- a number that no other owns
 pub outside-not : (f : ℕ → ℕ) (n k i : ℕ) → Outside f n k → i < n → eqb k (f i) ≡ false
@@ -87,13 +91,18 @@ module _ (e : Numbers) (s u : Snapshot) (em : Embeds e s u) (v : Valid s) where
   pub second-moved : (d : ℕ) → d < length (s .definitions) → definitionOf u (e .definitions d) .second ≡ secondTo e (definitionOf s d)
   second-moved d l = ap (λ (x : Definition). x .second) (em .definitions d l)
 
-  fits : (d : ℕ) → d < length (s .definitions) → DefinitionFits (countsOf s) (definitionOf s d)
+  pub fits : (d : ℕ) → d < length (s .definitions) → DefinitionFits (countsOf s) (definitionOf s d)
   unfolding definitionOf
   fits d l = each-at noDefinition d (v .ranges .definitions) l
 
-  first-home : (d : ℕ) → d < length (s .definitions) → (definitionOf s d .kind ≡ 2 → ⊥) → (definitionOf s d .kind ≡ 3 → ⊥)
+  pub first-home : (d : ℕ) → d < length (s .definitions) → (definitionOf s d .kind ≡ 2 → ⊥) → (definitionOf s d .kind ≡ 3 → ⊥)
       → definitionOf u (e .definitions d) .first ≡ e .modules (definitionOf s d .first)
   first-home d l a b = first-moved d l ∙ rw (firstTo, ne-eqb (definitionOf s d .kind) 2 a, ne-eqb (definitionOf s d .kind) 3 b)
+
+  -- a variant's parent is of kind 4
+  parent-four : (d : ℕ) → d < length (s .definitions) → definitionOf s d .kind ≡ 2 → definitionOf s (definitionOf s d .first) .kind ≡ 4
+  unfolding definitionOf
+  parent-four d l k = v .enums d l k .1
 
   -- the item of a namespace and a definition
   pub item-moved : (ns d : ℕ) → d < length (s .definitions) → itemOf u ns (e .definitions d) ≡ itemTo e (itemOf s ns d)
@@ -142,3 +151,44 @@ module _ (e : Numbers) (s u : Snapshot) (em : Embeds e s u) (v : Valid s) where
   unfolding nsOf itemTo
   ns-moved (Mod m) = refl
   ns-moved (Def ns d) = refl
+
+  -- "+1"
+  one-more : (f : ℕ → ℕ) (n : ℕ) → f n + 1 ≡ orNone f (n + 1)
+  one-more f n =
+      let a : n + 1 ≡ suc n = omega arith in
+      let b : f n + 1 ≡ suc (f n) = omega arith in
+      b ∙ ap (orNone f) (sym a)
+
+  -- an item's home
+  pub home-moved : (a : Item) → Has s a → homeOf u (itemTo e a) ≡ orNone (e .modules) (homeOf s a)
+  unfolding homeOf homeBy itemTo
+  home-moved (Mod m) h = one-more (e .modules) m
+  home-moved (Def ns d) l =
+      let k = kind-moved d l in
+      let x = definitionOf s d in
+      let y = definitionOf u (e .definitions d) in
+      by-test (eqb (x .kind) builtinKind)
+      (λ a.
+      let b : eqb (y .kind) builtinKind ≡ true = ap (λ i. eqb i builtinKind) k ∙ a in
+      let p : homeBy s (x .kind) (x .first) ≡ 0 = rw (homeBy, a) in
+      let q : homeBy u (y .kind) (y .first) ≡ 0 = rw (homeBy, b) in
+      q ∙ ap (orNone (e .modules)) (sym p))
+      (λ a.
+      let b : eqb (y .kind) builtinKind ≡ false = ap (λ i. eqb i builtinKind) k ∙ a in
+      by-test (eqb (x .kind) variantKind)
+      (λ c.
+      let o = eqb-true (x .kind) 2 c in
+      let d2 : eqb (y .kind) variantKind ≡ true = ap (λ i. eqb i variantKind) k ∙ c in
+      let f = fits d l .variant o .0 in
+      let four = parent-four d l o in
+      let g : y .first ≡ e .definitions (x .first) = first-moved d l ∙ rw (firstTo, c) in
+      let h = first-home (x .first) f (λ z. omega arith) (λ z. omega arith) in
+      let p : homeBy s (x .kind) (x .first) ≡ definitionOf s (x .first) .first + 1 = rw (homeBy, a, c) in
+      let q : homeBy u (y .kind) (y .first) ≡ definitionOf u (y .first) .first + 1 = rw (homeBy, b, d2) in
+      q ∙ ap (λ j. definitionOf u j .first + 1) g ∙ ap (λ j. j + 1) h ∙ one-more (e .modules) (definitionOf s (x .first) .first) ∙ ap (orNone (e .modules)) (sym p))
+      (λ c.
+      let d2 : eqb (y .kind) variantKind ≡ false = ap (λ i. eqb i variantKind) k ∙ c in
+      let h = first-home d l (eqb-false (x .kind) 2 c) (eqb-false (x .kind) 3 a) in
+      let p : homeBy s (x .kind) (x .first) ≡ x .first + 1 = rw (homeBy, a, c) in
+      let q : homeBy u (y .kind) (y .first) ≡ y .first + 1 = rw (homeBy, b, d2) in
+      q ∙ ap (λ j. j + 1) h ∙ one-more (e .modules) (x .first) ∙ ap (orNone (e .modules)) (sym p)))

@@ -15,11 +15,14 @@ use Rattle.hir_def.specs.declared.Item.{Item}
 use Rattle.join_words.specs.Joined.{Numbers, dependencyTo, childTo, preludeTo}
 use Rattle.embedding.specs.Embeds.{Outside, ScopeAlike, ImportAlike, Embeds, itemTo}
 use Rattle.embedding.proofs.Chains.{eqb-moved}
-use Rattle.embedding.proofs.Lookups.{Both, Along, first-within, select-within, outside-not, Has, kind-moved, item-moved, item-has, same-moved}
+use Rattle.embedding.proofs.Lookups.{Both, Along, Hit, first-within, select-within, outside-not, Has, kind-moved, item-moved, item-has, same-moved}
 
 module _ (e : Numbers) (s u : Snapshot) (em : Embeds e s u) (v : Valid s) where
   abbrev Foreign : Scope → Type 0
   Foreign z = Outside (e .modules) (length (s .modules)) (z .owner)
+
+  abbrev pub ScopeHit : (Scope → Bool) → Scope → Scope → Type 0
+  ScopeHit p x z = Hit (ScopeFits (countsOf s)) (ScopeAlike e) p x z
 
   -- an entry of a module
   module _ (m : ℕ) (l : m < length (s .modules)) where
@@ -46,14 +49,14 @@ module _ (e : Numbers) (s u : Snapshot) (em : Embeds e s u) (v : Valid s) where
     for-not item z o = ap (λ i. i && sameItem (itemOf u (z .ns) (z .definition)) item) (owner-not z o)
 
     -- `name_of`
-    pub name-of-moved : (item : Item) → Has s item → Both (ScopeAlike e) (nameOf s m item) (nameOf u (e .modules m) (itemTo e item))
+    pub name-of-moved : (item : Item) → Has s item → Both (ScopeHit (isFor s m item)) (nameOf s m item) (nameOf u (e .modules m) (itemTo e item))
     unfolding nameOf
     name-of-moved item h =
         first-within (isFor s m item) (isFor u (e .modules m) (itemTo e item)) (for-same item h) (for-not (itemTo e item)) (v .ranges .scopes) (em .scopes)
 
     -- `names_of`, by tests that tell alike entries alike
     pub names-of-moved : (item : Item) → Has s item → (p q : Scope → Bool) → ((x z : Scope) → ScopeFits (countsOf s) x → ScopeAlike e x z → q z ≡ p x)
-        → Both (ScopeAlike e) (namesOf s m item p) (namesOf u (e .modules m) (itemTo e item) q)
+        → Both (ScopeHit (λ x. isFor s m item x && p x)) (namesOf s m item p) (namesOf u (e .modules m) (itemTo e item) q)
     unfolding namesOf
     names-of-moved item h p q same =
         first-within (λ x. isFor s m item x && p x) (λ z. isFor u (e .modules m) (itemTo e item) z && q z)
@@ -61,7 +64,7 @@ module _ (e : Numbers) (s u : Snapshot) (em : Embeds e s u) (v : Valid s) where
         (λ z o. ap (λ i. i && q z) (for-not (itemTo e item) z o)) (v .ranges .scopes) (em .scopes)
 
     -- `get`
-    pub get-moved : (ns n : ℕ) → n < length (s .names) → Both (ScopeAlike e) (get s m ns n) (get u (e .modules m) ns (e .names n))
+    pub get-moved : (ns n : ℕ) → n < length (s .names) → Both (ScopeHit (isNamed m ns n)) (get s m ns n) (get u (e .modules m) ns (e .names n))
     unfolding get
     get-moved ns n h =
         first-within (isNamed m ns n) (isNamed (e .modules m) ns (e .names n))
@@ -71,7 +74,7 @@ module _ (e : Numbers) (s u : Snapshot) (em : Embeds e s u) (v : Valid s) where
         (λ z o. ap (λ i. i && (eqb (z .ns) ns && eqb (z .name) (e .names n))) (owner-not z o)) (v .ranges .scopes) (em .scopes)
 
     -- `modules_in_scope`
-    pub modules-in-scope-moved : Along (ScopeAlike e) (modulesInScope s m) (modulesInScope u (e .modules m))
+    pub modules-in-scope-moved : Along (ScopeHit (isModuleEntry s m)) (modulesInScope s m) (modulesInScope u (e .modules m))
     unfolding modulesInScope
     modules-in-scope-moved =
         select-within (isModuleEntry s m) (isModuleEntry u (e .modules m))
@@ -81,7 +84,7 @@ module _ (e : Numbers) (s u : Snapshot) (em : Embeds e s u) (v : Valid s) where
         (λ z o. ap (λ i. i && (eqb (z .ns) types && eqb (definitionOf u (z .definition) .kind) moduleKind)) (owner-not z o)) (v .ranges .scopes) (em .scopes)
 
     -- the children
-    pub children-moved : Along (λ x z. z ≡ childTo e x) (childrenOf s m) (childrenOf u (e .modules m))
+    pub children-moved : Along (Hit (ChildFits (countsOf s)) (λ x z. z ≡ childTo e x) (λ c. eqb (c .owner) m)) (childrenOf s m) (childrenOf u (e .modules m))
     unfolding childrenOf
     children-moved =
         select-within (λ c. eqb (c .owner) m) (λ c. eqb (c .owner) (e .modules m))
@@ -90,7 +93,7 @@ module _ (e : Numbers) (s u : Snapshot) (em : Embeds e s u) (v : Valid s) where
         (λ z o. outside-not (e .modules) (length (s .modules)) (z .owner) m o l) (v .ranges .children) (em .children)
 
   -- `DefMap::prelude`
-  pub prelude-moved : (k : ℕ) → k < length (s .maps) → Both (λ x z. z ≡ preludeTo e x) (preludeOf s k) (preludeOf u (e .maps k))
+  pub prelude-moved : (k : ℕ) → k < length (s .maps) → Both (Hit (PreludeFits (countsOf s)) (λ x z. z ≡ preludeTo e x) (λ p. eqb (p .map) k)) (preludeOf s k) (preludeOf u (e .maps k))
   unfolding preludeOf
   prelude-moved k l =
       first-within (λ p. eqb (p .map) k) (λ p. eqb (p .map) (e .maps k))
@@ -99,7 +102,7 @@ module _ (e : Numbers) (s u : Snapshot) (em : Embeds e s u) (v : Valid s) where
 
   module _ (c : ℕ) (l : c < length (s .crates)) where
     -- the dependencies of a crate
-    pub dependencies-moved : Along (λ x z. z ≡ dependencyTo e x) (dependenciesOf s c) (dependenciesOf u (e .crates c))
+    pub dependencies-moved : Along (Hit (DependencyFits (countsOf s)) (λ x z. z ≡ dependencyTo e x) (isDependency c)) (dependenciesOf s c) (dependenciesOf u (e .crates c))
     unfolding dependenciesOf
     dependencies-moved =
         select-within (isDependency c) (isDependency (e .crates c))
@@ -108,7 +111,7 @@ module _ (e : Numbers) (s u : Snapshot) (em : Embeds e s u) (v : Valid s) where
         (λ z o. outside-not (e .crates) (length (s .crates)) (z .owner) c o l) (v .ranges .dependencies) (em .dependencies)
 
     -- `import_info_for`
-    pub imports-moved : (item : Item) → Has s item → Along (ImportAlike e) (importInfoFor s c item) (importInfoFor u (e .crates c) (itemTo e item))
+    pub imports-moved : (item : Item) → Has s item → Along (Hit (ImportFits (countsOf s)) (ImportAlike e) (isImport s c item)) (importInfoFor s c item) (importInfoFor u (e .crates c) (itemTo e item))
     unfolding importInfoFor
     imports-moved item h =
         select-within (isImport s c item) (isImport u (e .crates c) (itemTo e item))

@@ -1,4 +1,5 @@
 -- Laws that belong to no one function.
+pub mod Worked
 pub mod Lists
 pub mod Runs
 pub mod Taken
@@ -8,4 +9,3 @@ pub mod Wholes
 pub mod Merged
 pub mod Sound
 pub mod Joins
-pub mod Worked
