@@ -3,4 +3,5 @@ pub mod Chains
 pub mod Lookups
 pub mod Scopes
 pub mod Walks
+pub mod Nameres
 pub mod Parts

@@ -33,7 +33,7 @@ module _ (e : Numbers) (s u : Snapshot) (em : Embeds e s u) (v : Valid s) where
     owner-not : (z : Scope) → Foreign z → eqb (z .owner) (e .modules m) ≡ false
     owner-not z o = outside-not (e .modules) (length (s .modules)) (z .owner) m o l
 
-    item-same : (item : Item) → Has s item → (x z : Scope) → ScopeFits (countsOf s) x → ScopeAlike e x z
+    pub item-same : (item : Item) → Has s item → (x z : Scope) → ScopeFits (countsOf s) x → ScopeAlike e x z
         → sameItem (itemOf u (z .ns) (z .definition)) (itemTo e item) ≡ sameItem (itemOf s (x .ns) (x .definition)) item
     item-same item h x z f a =
         ap (λ (y : Scope). sameItem (itemOf u (y .ns) (y .definition)) (itemTo e item)) a

@@ -96,7 +96,7 @@ module _ (f : ℕ → ℕ) (n : ℕ) (same : (i j : ℕ) → i < n → j < n →
           ∙ walk-moved b e (ws ++ us) d2 (each-append k (unmet-known e (g m) d2 (known m l))) ∙ ap (map f) (sym y))
 
 -- the modules that steps lead to are known
-steps-known : (step : ℕ → ℕ) (n : ℕ) → Falls step n → (d m : ℕ) → m < d → m < n → Each (λ a. a < n) (steps step m)
+pub steps-known : (step : ℕ → ℕ) (n : ℕ) → Falls step n → (d m : ℕ) → m < d → m < n → Each (λ a. a < n) (steps step m)
 unfolding stepsOr
 steps-known step n falls zero m a b = absurd (omega arith)
 steps-known step n falls (suc d) m a b =
