@@ -15,7 +15,7 @@ use Rattle.accept.specs.Valid.{Valid, Each, none, more, DefinitionFits, ScopeFi
 use Rattle.accept.proofs.Accepted.{by-test}
 use Rattle.accept.proofs.Bools.{each-at}
 use Rattle.hir_def.specs.Finds.{firstOf, orFirst, select, firstSome}
-use Rattle.hir_def.specs.Items.{types, moduleKind, variantKind, builtinKind, definitionOf, itemOf, sameItem, nsOf, homeBy, homeOf}
+use Rattle.hir_def.specs.Items.{types, moduleKind, variantKind, builtinKind, definitionOf, itemOf, sameItem, nsOf, homeBy, homeOf, moduleItem, definedItem}
 use Rattle.hir_def.specs.declared.Item.{Item}
 use Rattle.hir_def.specs.declared.Item.the-variants.{Mod, Def}
 use Rattle.find_path.proofs.Walks.{select-hit, select-miss}
@@ -78,8 +78,8 @@ outside-not f n k i h l = ne-eqb k (f i) (λ q. h i l (sym q))
 
 -- items of the snapshot
 abbrev pub Has : Snapshot → Item → Type 0
-Has s (Mod m) = m < length (s .modules)
-Has s (Def ns d) = d < length (s .definitions)
+Has s (Mod m) = m .0 < length (s .modules)
+Has s (Def ns d) = d .0 < length (s .definitions)
 
 module _ (e : Numbers) (s u : Snapshot) (em : Embeds e s u) (v : Valid s) where
   pub kind-moved : (d : ℕ) → d < length (s .definitions) → definitionOf u (e .definitions d) .kind ≡ definitionOf s d .kind
@@ -114,18 +114,18 @@ module _ (e : Numbers) (s u : Snapshot) (em : Embeds e s u) (v : Valid s) where
       (λ b.
       let o = eqb-true (definitionOf s d .kind) 1 b in
       let f = first-home d l (λ z. omega arith) (λ z. omega arith) in
-      let x : itemOf s ns d ≡ Mod (definitionOf s d .first) = rw (itemOf, a, b) in
+      let x : itemOf s ns d ≡ moduleItem (definitionOf s d .first) = rw (itemOf, a, b) in
       let c : eqb (definitionOf u (e .definitions d) .kind) moduleKind ≡ true = ap (λ i. eqb i moduleKind) k ∙ b in
-      let y : itemOf u ns (e .definitions d) ≡ Mod (definitionOf u (e .definitions d) .first) = rw (itemOf, a, c) in
-      y ∙ ap Mod f ∙ ap (itemTo e) (sym x))
+      let y : itemOf u ns (e .definitions d) ≡ moduleItem (definitionOf u (e .definitions d) .first) = rw (itemOf, a, c) in
+      y ∙ ap moduleItem f ∙ ap (itemTo e) (sym x))
       (λ b.
-      let x : itemOf s ns d ≡ Def ns d = rw (itemOf, a, b) in
+      let x : itemOf s ns d ≡ definedItem ns d = rw (itemOf, a, b) in
       let c : eqb (definitionOf u (e .definitions d) .kind) moduleKind ≡ false = ap (λ i. eqb i moduleKind) k ∙ b in
-      let y : itemOf u ns (e .definitions d) ≡ Def ns (e .definitions d) = rw (itemOf, a, c) in
+      let y : itemOf u ns (e .definitions d) ≡ definedItem ns (e .definitions d) = rw (itemOf, a, c) in
       y ∙ ap (itemTo e) (sym x)))
       (λ a.
-      let x : itemOf s ns d ≡ Def ns d = rw (itemOf, a) in
-      let y : itemOf u ns (e .definitions d) ≡ Def ns (e .definitions d) = rw (itemOf, a) in
+      let x : itemOf s ns d ≡ definedItem ns d = rw (itemOf, a) in
+      let y : itemOf u ns (e .definitions d) ≡ definedItem ns (e .definitions d) = rw (itemOf, a) in
       y ∙ ap (itemTo e) (sym x))
 
   pub item-has : (ns d : ℕ) → d < length (s .definitions) → Has s (itemOf s ns d)
@@ -135,17 +135,17 @@ module _ (e : Numbers) (s u : Snapshot) (em : Embeds e s u) (v : Valid s) where
       (λ a. by-test (eqb (definitionOf s d .kind) moduleKind)
       (λ b.
       let o = eqb-true (definitionOf s d .kind) 1 b in
-      let x : itemOf s ns d ≡ Mod (definitionOf s d .first) = rw (itemOf, a, b) in
+      let x : itemOf s ns d ≡ moduleItem (definitionOf s d .first) = rw (itemOf, a, b) in
       subst (Has s) (sym x) (fits d l .home (λ z. omega arith) (λ z. omega arith)))
-      (λ b. let x : itemOf s ns d ≡ Def ns d = rw (itemOf, a, b) in subst (Has s) (sym x) l))
-      (λ a. let x : itemOf s ns d ≡ Def ns d = rw (itemOf, a) in subst (Has s) (sym x) l)
+      (λ b. let x : itemOf s ns d ≡ definedItem ns d = rw (itemOf, a, b) in subst (Has s) (sym x) l))
+      (λ a. let x : itemOf s ns d ≡ definedItem ns d = rw (itemOf, a) in subst (Has s) (sym x) l)
 
   pub same-moved : (a b : Item) → Has s a → Has s b → sameItem (itemTo e a) (itemTo e b) ≡ sameItem a b
   unfolding sameItem itemTo
-  same-moved (Mod m) (Mod n) a b = eqb-moved (e .modules) (length (s .modules)) (em .modules-apart) m n a b
+  same-moved (Mod m) (Mod n) a b = eqb-moved (e .modules) (length (s .modules)) (em .modules-apart) (m .0) (n .0) a b
   same-moved (Mod m) (Def ns d) a b = refl
   same-moved (Def ns d) (Mod n) a b = refl
-  same-moved (Def ns d) (Def ms c) a b = ap (λ i. eqb ns ms && i) (eqb-moved (e .definitions) (length (s .definitions)) (em .definitions-apart) d c a b)
+  same-moved (Def ns d) (Def ms c) a b = ap (λ i. eqb (ns .0) (ms .0) && i) (eqb-moved (e .definitions) (length (s .definitions)) (em .definitions-apart) (d .0) (c .0) a b)
 
   pub ns-moved : (a : Item) → nsOf (itemTo e a) ≡ nsOf a
   unfolding nsOf itemTo
@@ -162,8 +162,9 @@ module _ (e : Numbers) (s u : Snapshot) (em : Embeds e s u) (v : Valid s) where
   -- an item's home
   pub home-moved : (a : Item) → Has s a → homeOf u (itemTo e a) ≡ orNone (e .modules) (homeOf s a)
   unfolding homeOf homeBy itemTo
-  home-moved (Mod m) h = one-more (e .modules) m
-  home-moved (Def ns d) l =
+  home-moved (Mod m) h = one-more (e .modules) (m .0)
+  home-moved (Def ns i) l =
+      let d = i .0 in
       let k = kind-moved d l in
       let x = definitionOf s d in
       let y = definitionOf u (e .definitions d) in

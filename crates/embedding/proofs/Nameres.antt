@@ -14,11 +14,10 @@ use Rattle.snapshot.specs.Records.{Snapshot, Scope, Map}
 use Rattle.accept.specs.Tests.{countsOf, noMap}
 use Rattle.accept.specs.Valid.{Valid, Each, none, more, ScopeFits, crateIn, blockIn}
 use Rattle.hir_def.specs.Finds.{orFirst, firstSome, placeOf}
-use Rattle.hir_def.specs.Items.{types, itemOf, sameItem, blockOf, crateOf, ownMap, rootOf, crateRoot}
+use Rattle.hir_def.specs.Items.{types, itemOf, sameItem, blockOf, crateOf, ownMap, rootOf, crateRoot, moduleItem}
 use Rattle.hir_def.specs.ItemScope.{counts, isFor, namesOf, isFresh, preferred, isNamed, get}
 use Rattle.hir_def.specs.Nameres.{steps, ancestorMaps, entryIn, scopeEntry, entryNamed, isOther, occupied}
 use Rattle.hir_def.specs.declared.Item.{Item}
-use Rattle.hir_def.specs.declared.Item.the-variants.{Mod}
 use Rattle.hir_def.proofs.Chains.{block-falls}
 use Rattle.join_words.specs.Joined.{Numbers}
 use Rattle.join_words.proofs.Lists.{any-has}
@@ -102,7 +101,7 @@ module _ (e : Numbers) (s u : Snapshot) (em : Embeds e s u) (v : Valid s) (w : V
     other-moved : (to : ℕ) → to < n → {a b : Option Scope} → Both Like a b → isOther u (e .modules to) b ≡ isOther s to a
     unfolding isOther itemTo
     other-moved to k neither = refl
-    other-moved to k (each {x = x} {z = z} r) = ap not (item-same e s u em v m l (Mod to) k x z (r .0) (r .1))
+    other-moved to k (each {x = x} {z = z} r) = ap not (item-same e s u em v m l (moduleItem to) k x z (r .0) (r .1))
 
     -- whether the name is another thing's
     pub occupied-moved : (to k : ℕ) → to < n → k < length (s .names) → occupied u (e .modules m) (e .modules to) (e .names k) ≡ occupied s m to k

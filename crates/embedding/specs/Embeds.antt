@@ -6,7 +6,7 @@ use mathlib.Core.Option.{Option, none, some}
 use lib.ListN.{length, getD}
 use Rattle.snapshot.specs.Records.{Dependency, Child, Prelude, Definition, Scope, Import, Extern, Snapshot}
 use Rattle.accept.specs.Tests.{noName}
-use Rattle.hir_def.specs.Items.{definitionOf, crateData, moduleOf, mapOf, rootOf, ownMap}
+use Rattle.hir_def.specs.Items.{definitionOf, crateData, moduleOf, mapOf, rootOf, ownMap, moduleItem, definedItem}
 use Rattle.hir_def.specs.declared.Item.{Item}
 use Rattle.hir_def.specs.declared.Item.the-variants.{Mod, Def}
 use Rattle.scope_edits.specs.Entries.{movedScope, movedImport, movedExtern}
@@ -65,5 +65,5 @@ pub record Embeds (e : Numbers) (s u : Snapshot) : Type 0 where
 
 -- an item with its number moved
 unfoldable pub itemTo : Numbers → Item → Item
-itemTo e (Mod m) = Mod (e .modules m)
-itemTo e (Def ns d) = Def ns (e .definitions d)
+itemTo e (Mod m) = moduleItem (e .modules (m .0))
+itemTo e (Def ns d) = definedItem (ns .0) (e .definitions (d .0))
