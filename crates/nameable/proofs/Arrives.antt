@@ -14,7 +14,7 @@ use Rattle.accept.specs.Valid.{Each}
 use Rattle.accept.proofs.Accepted.{by-test}
 use Rattle.accept.proofs.Bools.{and-two}
 use Rattle.hir_def.specs.Finds.{orFirst}
-use Rattle.hir_def.specs.Items.{types, nsOf, sameItem}
+use Rattle.hir_def.specs.Items.{types, nsOf, sameItem, moduleItem, definedItem}
 use Rattle.hir_def.specs.declared.Item.{Item}
 use Rattle.hir_def.specs.declared.Item.the-variants.{Mod, Def}
 use Rattle.nameable.specs.Paths.{Keyword, reads, Path, keyword, absolute, plain, into, namesIn, isPlain, named, within, itemIn, means, Names}
@@ -25,16 +25,17 @@ use Rattle.nameable.proofs.Reached.{each-append, each-in, wayTo, met-sn
 
 pub same-item : (a b : Item) → sameItem a b ≡ true → a ≡ b
 unfolding sameItem
-same-item (Mod m) (Mod n) e = ap Mod (eqb-true m n e)
+same-item (Mod m) (Mod n) e = ap moduleItem (eqb-true (m .0) (n .0) e)
 same-item (Mod m) (Def ns d) e = absurd (true≢false (sym e))
 same-item (Def ns d) (Mod n) e = absurd (true≢false (sym e))
 same-item (Def ns d) (Def ns′ d′) e =
-    let f = and-two (eqb ns ns′) (eqb d d′) e in ap₂ Def (eqb-true ns ns′ (f .0)) (eqb-true d d′ (f .1))
+    let f = and-two (eqb (ns .0) (ns′ .0)) (eqb (d .0) (d′ .0)) e in
+    ap₂ definedItem (eqb-true (ns .0) (ns′ .0) (f .0)) (eqb-true (d .0) (d′ .0) (f .1))
 
 pub item-same : (a : Item) → sameItem a a ≡ true
 unfolding sameItem
-item-same (Mod m) = eq-eqb m m refl
-item-same (Def ns d) = rw (eq-eqb ns ns refl) (eq-eqb d d refl)
+item-same (Mod m) = eq-eqb (m .0) (m .0) refl
+item-same (Def ns d) = rw (eq-eqb (ns .0) (ns .0) refl) (eq-eqb (d .0) (d .0) refl)
 
 is-item : (x : Item) (o : Option Item) → isItem x o ≡ true → o ≡ some x
 unfolding isItem
@@ -115,7 +116,7 @@ abbrev pub Flat : Snapshot → ℕ → Path → Type 0
 Flat s from (keyword k) = Unit {0}
 Flat s from (absolute n) = Unit {0}
 Flat s from (plain n) = Unit {0}
-Flat s from (into p n) = (m : ℕ) × (means s from types p ≡ some (Mod m))
+Flat s from (into p n) = (m : ℕ) × (means s from types p ≡ some (moduleItem m))
 
 module _ (s : Snapshot) (from : ℕ) (plenty : Plenty s from) (item : Item) where
   pub arrives-meets : (p : Path) (b : Bool) → Flat s from p → isPlain p ≡ b → Names s from item p → (q : Path) × (arrives b s from item (namesIn p) ≡ some q)
@@ -131,7 +132,8 @@ module _ (s : Snapshot) (from : ℕ) (plenty : Plenty s from) (item : Item) wher
       turn-arrives s from item true 0
       (to-first s from item (Memᴰ·append-right (onward s from (nsOf item) (reached true s from 0)) (plain-in s from (nsOf item) n item e)) e)
   arrives-meets (into p n) b g f e =
-      let h : itemIn (named n (within s from (nsOf item) (Mod (g .0)))) ≡ some item = sym (into-means s from (nsOf item) n p (Mod (g .0)) (g .1)) ∙ e in
+      let h : itemIn (named n (within s from (nsOf item) (moduleItem (g .0)))) ≡ some item =
+      sym (into-means s from (nsOf item) n p (moduleItem (g .0)) (g .1)) ∙ e in
       let o = onward-means s from b (nsOf item) (namesIn p) (g .0) n item (reached-meets s from plenty p b (g .0) f (g .1)) h in
       turn-arrives s from item b (namesIn p) (to-first s from item (Memᴰ·append-left (single b s from (nsOf item)) (o .1)) (o .2))
 
@@ -150,14 +152,15 @@ module _ (s : Snapshot) (from : ℕ) (plenty : Plenty s from) where
       by-meaning rest none e = rest
       by-meaning rest (some (Def ns d)) e = rest
       by-meaning rest (some (Mod m)) e =
-          by-test (isMet ws m)
-          (λ t. rw (with-old ws p m t) rest)
+          by-test (isMet ws (m .0))
+          (λ t. rw (with-old ws p (m .0) t) rest)
           (λ t.
-          let vs : List Way = ws ++ (wayTo p m ∷ []) in
-          let here : isMet vs m ≡ true = met-snoc ws (wayTo p m) m ∙ rw (eq-eqb m m refl) (or-true (isMet ws m)) in
-          let one = passing-less (isMet ws) (isMet vs) (λ n h. met-snoc ws (wayTo p m) n ∙ rw h) m (length (s .modules)) (plenty .known p m e) t here in
+          let vs : List Way = ws ++ (wayTo p (m .0) ∷ []) in
+          let here : isMet vs (m .0) ≡ true = met-snoc ws (wayTo p (m .0)) (m .0) ∙ rw (eq-eqb (m .0) (m .0) refl) (or-true (isMet ws (m .0))) in
+          let one =
+          passing-less (isMet ws) (isMet vs) (λ n h. met-snoc ws (wayTo p (m .0)) n ∙ rw h) (m .0) (length (s .modules)) (plenty .known p (m .0) e) t here in
           let all = passing-more (isMet vs) (isMet (added s from vs ps)) (λ n h. added-keeps s from vs ps n h) (length (s .modules)) in
-          rw (with-new ws p m t) (inr (omega (arith, one, all))))
+          rw (with-new ws p (m .0) t) (inr (omega (arith, one, all))))
 
   module _ (b : Bool) where
     grow : List Way → List Way

@@ -12,7 +12,7 @@ use lib.ListN.{length}
 use Rattle.snapshot.specs.Records.{Snapshot, Definition, Member}
 use Rattle.accept.specs.Valid.{Belongs}
 use Rattle.accept.proofs.Accepted.{by-test}
-use Rattle.hir_def.specs.Items.{types, variantKind, definitionOf, nsOf}
+use Rattle.hir_def.specs.Items.{types, variantKind, definitionOf, nsOf, moduleItem, definedItem}
 use Rattle.hir_def.specs.declared.Item.{Item}
 use Rattle.hir_def.specs.declared.Item.the-variants.{Mod, Def}
 use Rattle.nameable.specs.Seen.{isVariant}
@@ -51,12 +51,17 @@ module _ (P Q R : Path → Type 0) where
       let l : namesIn p ≤ namesIn q = ltb-false (namesIn q) (namesIn p) t in
       subst (Least P (λ x. Q x ⊎ R x)) (sym (shorter-first p q l)) (f .0, λ x. ⊎-elim (f .1 x) (λ h. omega (arith, g .1 x h))))
 
+-- the number of a module or of a definition
+abbrev numberOf : Item → ℕ
+numberOf (Mod m) = m .0
+numberOf (Def ns d) = d .0
+
 -- through an enum
 abbrev Through : Snapshot → ℕ → Path → Type 0
 Through s from (keyword k) = ⊥
 Through s from (absolute n) = ⊥
 Through s from (plain n) = ⊥
-Through s from (into p n) = (k : ℕ) × (d : ℕ) × (means s from types p ≡ some (Def k d))
+Through s from (into p n) = (k : ℕ) × (d : ℕ) × (means s from types p ≡ some (definedItem k d))
 
 module _ (s : Snapshot) (from : ℕ) where
   -- the path names the item, and begins with a name or doesn't
@@ -80,8 +85,8 @@ module _ (s : Snapshot) (from : ℕ) where
   either (into p n) ns x e = let f = into-from s from ns n p x e in by-item (f .0) (f .1)
     where
       by-item : (y : Item) → means s from types p ≡ some y → Flat s from (into p n) ⊎ Through s from (into p n)
-      by-item (Mod m) h = inl (m, h)
-      by-item (Def k d) h = inr (k, d, h)
+      by-item (Mod m) h = inl (m .0, h)
+      by-item (Def k d) h = inr (k .0, d .0, h)
 
   module _ (plenty : Plenty s from) where
     pub arrival-least : (b : Bool) (item : Item) → Least (Mine b item) (Flats b item) (arrival b s from item)
@@ -107,20 +112,20 @@ module _ (s : Snapshot) (from : ℕ) where
     -- what a path through an enum to the definition d in a namespace goes by
     record ByEnum (d : ℕ) (p : Path) (n : ℕ) : Type 0 where
       variant : isVariant s d ≡ true
-      enum : Names s from (Def types (definitionOf s d .first)) p
+      enum : Names s from (definedItem types (definitionOf s d .first)) p
       flat : Flat s from p
       name : n ≡ definitionOf s d .second
 
     -- the member record by which a variant is named
-    member-of : (ns n e d : ℕ) → itemIn (named n (variantsIn s ns e)) ≡ some (Def ns d)
+    member-of : (ns n e d : ℕ) → itemIn (named n (variantsIn s ns e)) ≡ some (definedItem ns d)
         → (definitionOf s d .kind ≡ 2) × (definitionOf s d .first ≡ e) × (definitionOf s d .second ≡ n) × (definitionOf s e .kind ≡ 4)
     unfolding definitionOf
     member-of ns n e d h =
-        let v = variant-named s ns n e (Def ns d) h in
+        let v = variant-named s ns n e (definedItem ns d) h in
         let x = v .3 .member in
         let a = named-in n (variantsIn s ns e) (v .0) (v .1) in
-        let i : Def ns (x .definition) ≡ Def ns d = sym (ap (λ (y : Named). y .item) (v .3 .same)) ∙ v .2 in
-        let is : x .definition ≡ d = cc in
+        let i : definedItem ns (x .definition) ≡ definedItem ns d = sym (ap (λ (y : Named). y .item) (v .3 .same)) ∙ v .2 in
+        let is : x .definition ≡ d = ap numberOf i in
         let by : x .name ≡ n = sym (ap (λ (y : Named). y .name) (v .3 .same)) ∙ a .1 in
         let u = each-in (plenty .belongs) (v .3 .listed) in
         let w = u .variant (v .3 .kind) in (
@@ -132,27 +137,27 @@ module _ (s : Snapshot) (from : ℕ) where
 
     -- an enum is no variant
 
-    not-through : (p : Path) (e : ℕ) → means s from types p ≡ some (Def types e) → definitionOf s e .kind ≡ 4 → Through s from p → ⊥
+    not-through : (p : Path) (e : ℕ) → means s from types p ≡ some (definedItem types e) → definitionOf s e .kind ≡ 4 → Through s from p → ⊥
     unfolding within
     not-through (keyword k) e h i t = t
     not-through (absolute n) e h i t = t
     not-through (plain n) e h i t = t
     not-through (into p n) e h i t =
-        let a = member-of types n (t .1) e (sym (into-means s from types n p (Def (t .0) (t .1)) (t .2)) ∙ h) in omega (arith, a .0, i)
+        let a = member-of types n (t .1) e (sym (into-means s from types n p (definedItem (t .0) (t .1)) (t .2)) ∙ h) in omega (arith, a .0, i)
 
-    enum-flat : (p : Path) (e : ℕ) → means s from types p ≡ some (Def types e) → definitionOf s e .kind ≡ 4 → Flat s from p
-    enum-flat p e h k = ⊎-elim (λ f. f) (λ t. absurd (not-through p e h k t)) (either p types (Def types e) h)
+    enum-flat : (p : Path) (e : ℕ) → means s from types p ≡ some (definedItem types e) → definitionOf s e .kind ≡ 4 → Flat s from p
+    enum-flat p e h k = ⊎-elim (λ f. f) (λ t. absurd (not-through p e h k t)) (either p types (definedItem types e) h)
 
-    by-enum : (ns d : ℕ) (p : Path) (n : ℕ) → Names s from (Def ns d) (into p n) → Through s from (into p n) → ByEnum d p n
+    by-enum : (ns d : ℕ) (p : Path) (n : ℕ) → Names s from (definedItem ns d) (into p n) → Through s from (into p n) → ByEnum d p n
     unfolding within nsOf
     by-enum ns d p n h t =
         let k = t .0 in
         let e = t .1 in
-        let a = member-of ns n e d (sym (into-means s from ns n p (Def k e) (t .2)) ∙ h) in
-        let q : means s from types p ≡ some (Def types e) = t .2 ∙ ap (λ (x : ℕ). some (Def x e)) (plenty .typed p k e (t .2)) in
+        let a = member-of ns n e d (sym (into-means s from ns n p (definedItem k e) (t .2)) ∙ h) in
+        let q : means s from types p ≡ some (definedItem types e) = t .2 ∙ ap (λ (x : ℕ). some (definedItem x e)) (plenty .typed p k e (t .2)) in
         record {
           variant = eq-eqb (definitionOf s d .kind) variantKind (a .0);
-          enum = q ∙ ap (λ (x : ℕ). some (Def types x)) (sym (a .1));
+          enum = q ∙ ap (λ (x : ℕ). some (definedItem types x)) (sym (a .1));
           flat = enum-flat p e q (a .3);
           name = sym (a .2);
         }
@@ -160,16 +165,17 @@ module _ (s : Snapshot) (from : ℕ) where
     -- of the definition d in a namespace
     module _ (b : Bool) (ns d : ℕ) where
       abbrev enum : Item
-      enum = Def types (definitionOf s d .first)
+      enum = definedItem types (definitionOf s d .first)
 
       abbrev variant-name : ℕ
       variant-name = definitionOf s d .second
 
-      enum-yes : isVariant s d ≡ true → byEnum b s from (Def ns d) ≡ variantAfter s from (Def ns d) variant-name (arrival b s from enum)
+      enum-yes : isVariant s d ≡ true
+          → byEnum b s from (definedItem ns d) ≡ variantAfter s from (definedItem ns d) variant-name (arrival b s from enum)
       unfolding byEnum
       enum-yes t = rw (byEnum, t)
 
-      enum-no : isVariant s d ≡ false → byEnum b s from (Def ns d) ≡ none
+      enum-no : isVariant s d ≡ false → byEnum b s from (definedItem ns d) ≡ none
       unfolding byEnum
       enum-no t = rw (byEnum, t)
 
@@ -181,7 +187,7 @@ module _ (s : Snapshot) (from : ℕ) where
         by : ByEnum d before last
         flats : Flats b enum before
 
-      parts : (q : Path) → Enums b (Def ns d) q → Parts q
+      parts : (q : Path) → Enums b (definedItem ns d) q → Parts q
       unfolding isPlain
       parts (keyword k) h = absurd (h .through)
       parts (absolute n) h = absurd (h .through)
@@ -197,18 +203,18 @@ module _ (s : Snapshot) (from : ℕ) where
           }
 
       after-some : (p : Path) → Least (Mine b enum) (Flats b enum) (some p) → (o : Option Path)
-          → firstTo s from (Def ns d) (into p variant-name ∷ []) ≡ o → Least (Mine b (Def ns d)) (Enums b (Def ns d)) o
+          → firstTo s from (definedItem ns d) (into p variant-name ∷ []) ≡ o → Least (Mine b (definedItem ns d)) (Enums b (definedItem ns d)) o
       unfolding namesIn isPlain nsOf
       after-some p g none e = λ q h.
           let f = parts q h in
-          let same : means s from ns (into p variant-name) ≡ some (Def ns d) =
+          let same : means s from ns (into p variant-name) ≡ some (definedItem ns d) =
           into-means s from ns variant-name p enum (g .0 .names)
           ∙ (sym (into-means s from ns variant-name (f .before) enum (f .by .enum))
           ∙ (ap (λ (x : ℕ). means s from ns (into (f .before) x)) (sym (f .by .name)) ∙ (ap (means s from ns) (sym (f .whole)) ∙ h .mine .names))) in
-          let a = to-first s from (Def ns d) (List·Memᴰ·head refl) same in
+          let a = to-first s from (definedItem ns d) (List·Memᴰ·head refl) same in
           none-some (sym e ∙ a .1)
       after-some p g (some z) e =
-          let f = first-to s from (Def ns d) (into p variant-name ∷ []) z e in
+          let f = first-to s from (definedItem ns d) (into p variant-name ∷ []) z e in
           let same : z ≡ into p variant-name = List·Memᴰ·eq-of-singleton (f .0) in
           let size : namesIn z ≡ suc (namesIn p) = ap namesIn same in (
             record { names = f .1; plainly = ap isPlain same ∙ g .0 .plainly },
@@ -220,31 +226,32 @@ module _ (s : Snapshot) (from : ℕ) where
           )
 
       after-least : (o : Option Path) → Least (Mine b enum) (Flats b enum) o
-          → Least (Mine b (Def ns d)) (Enums b (Def ns d)) (variantAfter s from (Def ns d) variant-name o)
+          → Least (Mine b (definedItem ns d)) (Enums b (definedItem ns d)) (variantAfter s from (definedItem ns d) variant-name o)
       unfolding variantAfter checkedPath
       after-least none g = λ q h. let f = parts q h in g (f .before) (f .flats)
-      after-least (some p) g = after-some p g (firstTo s from (Def ns d) (into p variant-name ∷ [])) refl
+      after-least (some p) g = after-some p g (firstTo s from (definedItem ns d) (into p variant-name ∷ [])) refl
 
-      variant-least : Least (Mine b (Def ns d)) (Enums b (Def ns d)) (byEnum b s from (Def ns d))
+      variant-least : Least (Mine b (definedItem ns d)) (Enums b (definedItem ns d)) (byEnum b s from (definedItem ns d))
       variant-least =
           by-test (isVariant s d)
           (λ t.
-          subst (Least (Mine b (Def ns d)) (Enums b (Def ns d))) (sym (enum-yes t)) (after-least (arrival b s from enum) (arrival-least b enum)))
+          subst (Least (Mine b (definedItem ns d)) (Enums b (definedItem ns d))) (sym (enum-yes t))
+          (after-least (arrival b s from enum) (arrival-least b enum)))
           (λ t.
-          subst (Least (Mine b (Def ns d)) (Enums b (Def ns d))) (sym (enum-no t))
+          subst (Least (Mine b (definedItem ns d)) (Enums b (definedItem ns d))) (sym (enum-no t))
           (λ q h. let f = parts q h in true≢false (sym (f .by .variant) ∙ t)))
 
-    no-module : (m : ℕ) (q : Path) → Names s from (Mod m) q → Through s from q → ⊥
+    no-module : (m : ℕ) (q : Path) → Names s from (moduleItem m) q → Through s from q → ⊥
     unfolding within nsOf
-    no-module m (into p n) h t = variants-def s types n (t .1) m (sym (into-means s from types n p (Def (t .0) (t .1)) (t .2)) ∙ h)
+    no-module m (into p n) h t = variants-def s types n (t .1) m (sym (into-means s from types n p (definedItem (t .0) (t .1)) (t .2)) ∙ h)
     no-module m (keyword k) h t = t
     no-module m (absolute n) h t = t
     no-module m (plain n) h t = t
 
     enum-least : (b : Bool) (item : Item) → Least (Mine b item) (Enums b item) (byEnum b s from item)
     unfolding byEnum
-    enum-least b (Mod m) = λ q h. no-module m q (h .mine .names) (h .through)
-    enum-least b (Def ns d) = variant-least b ns d
+    enum-least b (Mod m) = λ q h. no-module (m .0) q (h .mine .names) (h .through)
+    enum-least b (Def ns d) = variant-least b (ns .0) (d .0)
 
     module _ (item : Item) where
       kind-of : (b : Bool) (q : Path) → Mine b item q → Flats b item q ⊎ Enums b item q

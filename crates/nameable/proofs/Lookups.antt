@@ -14,10 +14,9 @@ use Rattle.accept.specs.Valid.{Valid}
 use Rattle.accept.proofs.Accepted.{by-test}
 use Rattle.accept.proofs.Bools.{and-two, and-three}
 use Rattle.hir_def.specs.Finds.{firstOf, select}
-use Rattle.hir_def.specs.Items.{types, moduleKind, definitionOf, itemOf, sameItem, nsOf}
+use Rattle.hir_def.specs.Items.{types, moduleKind, definitionOf, itemOf, sameItem, nsOf, moduleItem}
 use Rattle.hir_def.specs.ItemScope.{isNamed, isFor, namesOf}
 use Rattle.hir_def.specs.declared.Item.{Item}
-use Rattle.hir_def.specs.declared.Item.the-variants.{Mod, Def}
 use Rattle.nameable.specs.Seen.{seen}
 use Rattle.nameable.specs.Paths.{Path, into, Named, named, isSeenIn, asNamed, entriesIn, within, itemIn, means}
 use Rattle.nameable.specs.Breadth.{Way, isItem, firstTo}
@@ -125,12 +124,12 @@ ns-of-item s ns d =
     (λ t. rw (t, itemOf) (sym (eqb-true ns types (and-two (eqb ns types) (eqb (definitionOf s d .kind) moduleKind) t .0))))
     (λ t. rw (t, itemOf))
 
-module _ (s : Snapshot) (ok : Valid s) (from : ℕ) (item : Item) (w : Way) (there : means s from types (w .path) ≡ some (Mod (w .target))) where
+module _ (s : Snapshot) (ok : Valid s) (from : ℕ) (item : Item) (w : Way) (there : means s from types (w .path) ≡ some (moduleItem (w .target))) where
   -- one name more after a way, by a seen entry
   pub after-means : (ns : ℕ) (e : Scope) → List·Memᴰ e (s .scopes) → isSeenIn s from ns (w .target) e ≡ true
       → means s from ns (into (w .path) (e .name)) ≡ some (itemOf s (e .ns) (e .definition))
   unfolding within
-  after-means ns e i h = into-means s from ns (e .name) (w .path) (Mod (w .target)) there ∙ seen-means s from ns (w .target) ok e i h
+  after-means ns e i h = into-means s from ns (e .name) (w .path) (moduleItem (w .target)) there ∙ seen-means s from ns (w .target) ok e i h
 
   -- an entry offered for the item, and one of the module's that is seen
   alike : (e : Scope) → List·Memᴰ e (s .scopes)

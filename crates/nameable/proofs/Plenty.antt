@@ -22,7 +22,7 @@ use Rattle.module_tree.proofs.Chains.{parent-fits, block-fits}
 use Rattle.module_tree.proofs.Roots.{crate-root-known}
 use Rattle.module_tree.proofs.Privately.{around-stands}
 use Rattle.hir_def.specs.Finds.{select}
-use Rattle.hir_def.specs.Items.{types, macros, moduleKind, definitionOf, crateData, itemOf}
+use Rattle.hir_def.specs.Items.{types, macros, moduleKind, definitionOf, crateData, itemOf, moduleItem, definedItem}
 use Rattle.hir_def.specs.Nameres.{preludeOf}
 use Rattle.hir_def.specs.declared.Item.{Item}
 use Rattle.hir_def.specs.declared.Item.the-variants.{Mod, Def}
@@ -40,8 +40,8 @@ rows-in f k (suc n) (suc i) h =
 
 -- modules of the snapshot, and other things in the namespace
 abbrev Fit : Snapshot → ℕ → Item → Type 0
-Fit s ns (Mod m) = m < length (s .modules)
-Fit s ns (Def k d) = k ≡ ns
+Fit s ns (Mod m) = m .0 < length (s .modules)
+Fit s ns (Def k d) = k .0 ≡ ns
 
 abbrev Fits : Snapshot → ℕ → List Named → Type 0
 Fits s ns xs = Each (λ (x : Named). Fit s ns (x .item)) xs
@@ -67,11 +67,11 @@ module _ (s : Snapshot) (ok : Valid s) where
       let a = around-few p (omega arith) in
       let i = above-few k (moduleAround s p) t (omega arith) (rw z at e) in omega arith)
 
-  item-module : (ns d : ℕ) → eqb ns types && eqb (definitionOf s d .kind) moduleKind ≡ true → itemOf s ns d ≡ Mod (definitionOf s d .first)
+  item-module : (ns d : ℕ) → eqb ns types && eqb (definitionOf s d .kind) moduleKind ≡ true → itemOf s ns d ≡ moduleItem (definitionOf s d .first)
   unfolding itemOf
   item-module ns d t = rw (itemOf, t)
 
-  item-other : (ns d : ℕ) → eqb ns types && eqb (definitionOf s d .kind) moduleKind ≡ false → itemOf s ns d ≡ Def ns d
+  item-other : (ns d : ℕ) → eqb ns types && eqb (definitionOf s d .kind) moduleKind ≡ false → itemOf s ns d ≡ definedItem ns d
   unfolding itemOf
   item-other ns d t = rw (itemOf, t)
 
@@ -142,8 +142,8 @@ module _ (s : Snapshot) (ok : Valid s) where
 
     within-fits : (x : Item) → Fits s ns (within s from ns x)
     unfolding within
-    within-fits (Mod m) = entries-fit m
-    within-fits (Def k d) = variants-fit d
+    within-fits (Mod m) = entries-fit (m .0)
+    within-fits (Def k d) = variants-fit (d .0)
 
     named-fits : (n : ℕ) (xs : List Named) (x : Item) → Fits s ns xs → itemIn (named n xs) ≡ some x → Fit s ns x
     named-fits n xs x h e =
@@ -157,12 +157,13 @@ module _ (s : Snapshot) (ok : Valid s) where
         let a = around-few from r in let l = above-few k (moduleAround s from) m (omega arith) e in omega arith
     keyword-known crate m e = let same : crateRoot s from ≡ m = cc in rw (← same) (crate-root-known s ok from r)
 
-    keyword-from : (k : Keyword) (ns : ℕ) (x : Item) → means s from ns (keyword k) ≡ some x → (m : ℕ) × (keywordModule s from k ≡ some m) × (Mod m ≡ x)
+    keyword-from : (k : Keyword) (ns : ℕ) (x : Item) → means s from ns (keyword k) ≡ some x
+        → (m : ℕ) × (keywordModule s from k ≡ some m) × (moduleItem m ≡ x)
     unfolding means reads moduleNamed itemIn
     keyword-from k ns x e =
         by-option (keywordModule s from k)
         (λ z. absurd (none-some (rw z at e)))
-        (λ m z. let f : some (Mod m) ≡ some x = rw z at e in let same : Mod m ≡ x = cc in (m, z, same))
+        (λ m z. let f : some (moduleItem m) ≡ some x = rw z at e in let same : moduleItem m ≡ x = cc in (m, z, same))
 
     meant : (p : Path) (ns : ℕ) (x : Item) → means s from ns p ≡ some x → Fit s ns x
     unfolding means reads
@@ -186,7 +187,7 @@ module _ (s : Snapshot) (ok : Valid s) where
     plenty =
         record {
           tried = λ k x e. let f = keyword-from k types x e in keyword-tried k (f .0) (f .1);
-          known = λ p m e. meant p types (Mod m) e;
-          typed = λ p k d e. meant p types (Def k d) e;
+          known = λ p m e. meant p types (moduleItem m) e;
+          typed = λ p k d e. meant p types (definedItem k d) e;
           belongs = ok .members;
         }

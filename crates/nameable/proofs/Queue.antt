@@ -13,7 +13,7 @@ use Rattle.accept.specs.Valid.{Each, more}
 use Rattle.accept.proofs.Accepted.{by-test}
 use Rattle.accept.proofs.Bools.{getD-new}
 use Rattle.hir_def.specs.Finds.{firstOf, orFirst}
-use Rattle.hir_def.specs.Items.{types, nsOf}
+use Rattle.hir_def.specs.Items.{types, nsOf, moduleItem}
 use Rattle.hir_def.specs.declared.Item.{Item}
 use Rattle.hir_def.specs.declared.Item.the-variants.{Mod, Def}
 use Rattle.nameable.specs.Paths.{Path, means}
@@ -40,15 +40,17 @@ module _ (s : Snapshot) (from : ℕ) where
       by-meaning f none = f ws
       by-meaning f (some (Def ns d)) = f ws
       by-meaning f (some (Mod m)) =
-          by-test (isMet ws m)
-          (λ t. let g = f ws in (g .0, ap (λ (u : List Way). added s from u ps) (with-old ws p m t) ∙ g .1))
+          by-test (isMet ws (m .0))
+          (λ t. let g = f ws in (g .0, ap (λ (u : List Way). added s from u ps) (with-old ws p (m .0) t) ∙ g .1))
           (λ t.
-          let g = f (ws ++ (wayTo p m ∷ [])) in
-          (wayTo p m ∷ g .0, ap (λ (u : List Way). added s from u ps) (with-new ws p m t) ∙ (g .1 ∙ append-assoc ws (wayTo p m ∷ []) (g .0))))
+          let g = f (ws ++ (wayTo p (m .0) ∷ [])) in (
+            wayTo p (m .0) ∷ g .0,
+            ap (λ (u : List Way). added s from u ps) (with-new ws p (m .0) t) ∙ (g .1 ∙ append-assoc ws (wayTo p (m .0) ∷ []) (g .0)),
+          ))
 
   -- a path that means no module, or one that is met
   abbrev Old : List Way → Path → Type 0
-  Old ws p = (m : ℕ) → means s from types p ≡ some (Mod m) → isMet ws m ≡ true
+  Old ws p = (m : ℕ) → means s from types p ≡ some (moduleItem m) → isMet ws m ≡ true
 
   added-old : (ws : List Way) {ps : List Path} → Each (Old ws) ps → added s from ws ps ≡ ws
   unfolding added withMeaning
@@ -58,7 +60,7 @@ module _ (s : Snapshot) (from : ℕ) where
       by-meaning : added s from ws ps ≡ ws → (x : Option Item) → means s from types p ≡ x → added s from (withMeaning ws p x) ps ≡ ws
       by-meaning ih none e = ih
       by-meaning ih (some (Def ns d)) e = ih
-      by-meaning ih (some (Mod m)) e = ap (λ (u : List Way). added s from u ps) (with-old ws p m (o m e)) ∙ ih
+      by-meaning ih (some (Mod m)) e = ap (λ (u : List Way). added s from u ps) (with-old ws p (m .0) (o (m .0) e)) ∙ ih
 
   old-in : (ws : List Way) (ps : List Path) → ((p : Path) → List·Memᴰ p ps → Old ws p) → Each (Old ws) ps
   old-in ws [] f = Each.none
@@ -157,13 +159,14 @@ module _ (s : Snapshot) (from : ℕ) (plenty : Plenty s from) where
       by-meaning f none e = f ws h
       by-meaning f (some (Def ns d)) e = f ws h
       by-meaning f (some (Mod m)) e =
-          by-test (isMet ws m)
-          (λ t. rw (with-old ws p m t) (f ws h))
+          by-test (isMet ws (m .0))
+          (λ t. rw (with-old ws p (m .0) t) (f ws h))
           (λ t.
-          let vs : List Way = ws ++ (wayTo p m ∷ []) in
-          let here : isMet vs m ≡ true = met-snoc ws (wayTo p m) m ∙ rw (eq-eqb m m refl) (or-true (isMet ws m)) in
-          let one = passing-less (isMet ws) (isMet vs) (λ n h. met-snoc ws (wayTo p m) n ∙ rw h) m (length (s .modules)) (plenty .known p m e) t here in
-          rw (with-new ws p m t) (f vs (omega (arith, length-append ws (wayTo p m ∷ []), one, h))))
+          let vs : List Way = ws ++ (wayTo p (m .0) ∷ []) in
+          let here : isMet vs (m .0) ≡ true = met-snoc ws (wayTo p (m .0)) (m .0) ∙ rw (eq-eqb (m .0) (m .0) refl) (or-true (isMet ws (m .0))) in
+          let one =
+          passing-less (isMet ws) (isMet vs) (λ n h. met-snoc ws (wayTo p (m .0)) n ∙ rw h) (m .0) (length (s .modules)) (plenty .known p (m .0) e) t here in
+          rw (with-new ws p (m .0) t) (f vs (omega (arith, length-append ws (wayTo p (m .0) ∷ []), one, h))))
 
   few-reached : (b : Bool) (k : ℕ) → length (reached b s from k) ≤ metBelow (reached b s from k)
   unfolding reached

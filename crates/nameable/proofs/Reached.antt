@@ -15,7 +15,7 @@ use Rattle.accept.specs.Valid.{Each, more, Belongs}
 use Rattle.accept.proofs.Accepted.{by-test}
 use Rattle.accept.proofs.Bools.{and-two, each-map, each-snoc}
 use Rattle.hir_def.specs.Finds.{firstOf, select}
-use Rattle.hir_def.specs.Items.{types, macros}
+use Rattle.hir_def.specs.Items.{types, macros, moduleItem, definedItem}
 use Rattle.hir_def.specs.declared.Item.{Item}
 use Rattle.hir_def.specs.declared.Item.the-variants.{Mod, Def}
 use Rattle.nameable.specs.Paths.{Keyword, Path, keyword, absolute, plain, into, namesIn, isPlain, Named, named, entriesIn, isVariantOf, variantNamed, variantsIn, absolutes, firsts, within, keywordModule, moduleNamed, after, reads, itemIn, means}
@@ -68,11 +68,11 @@ abbrev pub wayTo : Path → ℕ → Way
 wayTo p m = record { path = p; target = m }
 
 module _ (ws : List Way) (p : Path) where
-  pub with-old : (m : ℕ) → isMet ws m ≡ true → withMeaning ws p (some (Mod m)) ≡ ws
+  pub with-old : (m : ℕ) → isMet ws m ≡ true → withMeaning ws p (some (moduleItem m)) ≡ ws
   unfolding withMeaning
   with-old m e = rw (withMeaning, e)
 
-  pub with-new : (m : ℕ) → isMet ws m ≡ false → withMeaning ws p (some (Mod m)) ≡ ws ++ (wayTo p m ∷ [])
+  pub with-new : (m : ℕ) → isMet ws m ≡ false → withMeaning ws p (some (moduleItem m)) ≡ ws ++ (wayTo p m ∷ [])
   unfolding withMeaning
   with-new m e = rw (withMeaning, e)
 
@@ -81,11 +81,11 @@ module _ (ws : List Way) (p : Path) where
   with-keeps none m h = h
   with-keeps (some (Def ns d)) m h = h
   with-keeps (some (Mod t)) m h =
-      by-test (isMet ws t)
-      (λ e. rw (with-old t e) h)
-      (λ e. rw (with-new t e) (met-snoc ws (wayTo p t) m ∙ rw h))
+      by-test (isMet ws (t .0))
+      (λ e. rw (with-old (t .0) e) h)
+      (λ e. rw (with-new (t .0) e) (met-snoc ws (wayTo p (t .0)) m ∙ rw h))
 
-  pub with-meets : (m : ℕ) → isMet (withMeaning ws p (some (Mod m))) m ≡ true
+  pub with-meets : (m : ℕ) → isMet (withMeaning ws p (some (moduleItem m))) m ≡ true
   with-meets m =
       by-test (isMet ws m)
       (λ e. rw (with-old m e) e)
@@ -99,11 +99,11 @@ module _ (s : Snapshot) (from : ℕ) where
       added-keeps (withMeaning ws p (means s from types p)) ps m (with-keeps ws p (means s from types p) m h)
 
   -- a path that means a module has it met
-  pub added-meets : (ws : List Way) {ps : List Path} {p : Path} (m : ℕ) → List·Memᴰ p ps → means s from types p ≡ some (Mod m)
+  pub added-meets : (ws : List Way) {ps : List Path} {p : Path} (m : ℕ) → List·Memᴰ p ps → means s from types p ≡ some (moduleItem m)
       → isMet (added s from ws ps) m ≡ true
   unfolding added
   added-meets ws m (List·Memᴰ·head {x = q} {xs = ps} e) h =
-      let f : means s from types q ≡ some (Mod m) = ap (means s from types) (sym e) ∙ h in
+      let f : means s from types q ≡ some (moduleItem m) = ap (means s from types) (sym e) ∙ h in
       added-keeps (withMeaning ws q (means s from types q)) ps m (rw f (with-meets ws q m))
   added-meets ws m (List·Memᴰ·tail {x = q} k) h = added-meets (withMeaning ws q (means s from types q)) m k h
 
@@ -115,7 +115,7 @@ pub record Near (b : Bool) (k : ℕ) (p : Path) : Type 0 where
 -- such a path, and it means the module
 pub record Good (s : Snapshot) (from : ℕ) (b : Bool) (k : ℕ) (w : Way) : Type 0 where
   pub near : Near b k (w .path)
-  pub there : means s from types (w .path) ≡ some (Mod (w .target))
+  pub there : means s from types (w .path) ≡ some (moduleItem (w .target))
 
 pub near-more : {b : Bool} {k : ℕ} (p : Path) → Near b k p → Near b (suc k) p
 near-more p h = record { short = omega arith; plainly = h .plainly }
@@ -147,9 +147,9 @@ module _ (s : Snapshot) (from : ℕ) where
   with-good b k p h n none e = h
   with-good b k p h n (some (Def ns d)) e = h
   with-good b k {ws} p h n (some (Mod m)) e =
-      by-test (isMet ws m)
-      (λ t. rw (with-old ws p m t) h)
-      (λ t. rw (with-new ws p m t) (each-snoc h (record { near = n; there = e })))
+      by-test (isMet ws (m .0))
+      (λ t. rw (with-old ws p (m .0) t) h)
+      (λ t. rw (with-new ws p (m .0) t) (each-snoc h (record { near = n; there = e })))
 
   added-good : (b : Bool) (k : ℕ) {ws : List Way} {ps : List Path} → Each (Good s from b k) ws → Each (Near b k) ps
       → Each (Good s from b k) (added s from ws ps)
@@ -198,10 +198,10 @@ module _ (s : Snapshot) (from : ℕ) where
       let g = each-in (reached-good b k) (f .1) in
       let i = item-in (named n (entriesIn s from ns m)) y e in
       let a = named-in n (entriesIn s from ns m) (i .0) (i .1) in
-      let there : means s from types (f .0 .path) ≡ some (Mod m) = g .there ∙ ap (λ (u : ℕ). some (Mod u)) (f .2) in (
+      let there : means s from types (f .0 .path) ≡ some (moduleItem m) = g .there ∙ ap (λ (u : ℕ). some (moduleItem u)) (f .2) in (
         into (f .0 .path) (i .0 .name),
         onward-in ns (f .1) (subst (λ (u : ℕ). List·Memᴰ (i .0) (entriesIn s from ns u)) (sym (f .2)) (a .0)),
-        into-means ns (i .0 .name) (f .0 .path) (Mod m) there ∙ ap (λ (u : ℕ). itemIn (named u (entriesIn s from ns m))) (a .1) ∙ e,
+        into-means ns (i .0 .name) (f .0 .path) (moduleItem m) there ∙ ap (λ (u : ℕ). itemIn (named u (entriesIn s from ns m))) (a .1) ∙ e,
       )
 
   pub absolute-in : (ns n : ℕ) (y : Item) → means s from ns (absolute n) ≡ some y → List·Memᴰ (absolute n) (single false s from ns)
@@ -223,8 +223,8 @@ pub record Plenty (s : Snapshot) (from : ℕ) : Type 0 where
   -- every keyword that means something is tried
   pub tried : (k : Keyword) (x : Item) → means s from types (keyword k) ≡ some x → List·Memᴰ k (keywords s)
   -- a module that is meant is one of the snapshot's, another thing in types is in types
-  pub known : (p : Path) (m : ℕ) → means s from types p ≡ some (Mod m) → m < length (s .modules)
-  pub typed : (p : Path) (k d : ℕ) → means s from types p ≡ some (Def k d) → k ≡ types
+  pub known : (p : Path) (m : ℕ) → means s from types p ≡ some (moduleItem m) → m < length (s .modules)
+  pub typed : (p : Path) (k d : ℕ) → means s from types p ≡ some (definedItem k d) → k ≡ types
   -- a variant is its enum's
   pub belongs : Each (Belongs (s .definitions)) (s .members)
 
@@ -267,31 +267,34 @@ variant-named s ns n d y e =
     (i .0, i .1, i .2, each-in (variants-each s ns d) (a .0))
 
 -- no variant is a module
-pub variants-def : (s : Snapshot) (ns n d m : ℕ) → itemIn (named n (variantsIn s ns d)) ≡ some (Mod m) → ⊥
+pub variants-def : (s : Snapshot) (ns n d m : ℕ) → itemIn (named n (variantsIn s ns d)) ≡ some (moduleItem m) → ⊥
 variants-def s ns n d m e =
-    let v = variant-named s ns n d (Mod m) e in
-    let q : Def ns (v .3 .member .definition) ≡ Mod m = sym (ap (λ (x : Named). x .item) (v .3 .same)) ∙ v .2 in
+    let v = variant-named s ns n d (moduleItem m) e in
+    let q : definedItem ns (v .3 .member .definition) ≡ moduleItem m = sym (ap (λ (x : Named). x .item) (v .3 .same)) ∙ v .2 in
     let z : _≡_ {A = ℕ} 0 1 = cc in omega arith
 
 module _ (s : Snapshot) (from : ℕ) (plenty : Plenty s from) where
   -- what is meant is reached
-  pub reached-meets : (p : Path) (b : Bool) (m : ℕ) → isPlain p ≡ b → means s from types p ≡ some (Mod m) → isMet (reached b s from (namesIn p)) m ≡ true
+  pub reached-meets : (p : Path) (b : Bool) (m : ℕ) → isPlain p ≡ b → means s from types p ≡ some (moduleItem m)
+      → isMet (reached b s from (namesIn p)) m ≡ true
   unfolding reached namesIn isPlain nameless within
   reached-meets (keyword k) true m f e = absurd (true≢false (sym f))
-  reached-meets (keyword k) false m f e = added-meets s from [] m (map-in keyword (plenty .tried k (Mod m) e)) e
+  reached-meets (keyword k) false m f e = added-meets s from [] m (map-in keyword (plenty .tried k (moduleItem m) e)) e
   reached-meets (absolute n) true m f e = absurd (true≢false (sym f))
   reached-meets (absolute n) false m f e =
       added-meets s from (reached false s from 0) m
-      (Memᴰ·append-right (onward s from types (reached false s from 0)) (absolute-in s from types n (Mod m) e)) e
+      (Memᴰ·append-right (onward s from types (reached false s from 0)) (absolute-in s from types n (moduleItem m) e)) e
   reached-meets (plain n) false m f e = absurd (true≢false f)
   reached-meets (plain n) true m f e =
       added-meets s from (reached true s from 0) m
-      (Memᴰ·append-right (onward s from types (reached true s from 0)) (plain-in s from types n (Mod m) e)) e
-  reached-meets (into p n) b m f e = let g = into-from s from types n p (Mod m) e in by-item (λ t h. reached-meets p b t f h) (g .0) (g .1) (g .2)
+      (Memᴰ·append-right (onward s from types (reached true s from 0)) (plain-in s from types n (moduleItem m) e)) e
+  reached-meets (into p n) b m f e =
+      let g = into-from s from types n p (moduleItem m) e in by-item (λ t h. reached-meets p b t f h) (g .0) (g .1) (g .2)
     where
-      by-item : ((t : ℕ) → means s from types p ≡ some (Mod t) → isMet (reached b s from (namesIn p)) t ≡ true) → (x : Item) → means s from types p ≡ some x → itemIn (named n (within s from types x)) ≡ some (Mod m)
+      by-item : ((t : ℕ) → means s from types p ≡ some (moduleItem t) → isMet (reached b s from (namesIn p)) t ≡ true) → (x : Item)
+          → means s from types p ≡ some x → itemIn (named n (within s from types x)) ≡ some (moduleItem m)
           → isMet (reached b s from (suc (namesIn p))) m ≡ true
       by-item ih (Mod t) h g =
-          let o = onward-means s from b types (namesIn p) t n (Mod m) (ih t h) g in
+          let o = onward-means s from b types (namesIn p) (t .0) n (moduleItem m) (ih (t .0) h) g in
           added-meets s from (reached b s from (namesIn p)) m (Memᴰ·append-left (single b s from types) (o .1)) (o .2)
-      by-item ih (Def k d) h g = absurd (variants-def s types n d m g)
+      by-item ih (Def k d) h g = absurd (variants-def s types n (d .0) m g)

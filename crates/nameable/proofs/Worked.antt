@@ -14,23 +14,22 @@ use Rattle.module_tree.specs.Modules.{placeOf, moduleOf, mapOf, rootOf, ownMap,
 use Rattle.module_tree.specs.Visibility.{lastOr, lastTo, last, metOr, metTo, met}
 use Rattle.module_tree.specs.Privately.{ofRoot, blockStep, moduleAround, privately}
 use Rattle.hir_def.specs.Finds.{firstOf, select, orFirst}
-use Rattle.hir_def.specs.Items.{definitionOf, crateData, itemOf, sameItem, nsOf, homeBy}
+use Rattle.hir_def.specs.Items.{definitionOf, crateData, itemOf, sameItem, nsOf, homeBy, moduleItem, definedItem}
 use Rattle.hir_def.specs.Nameres.{stepsOr, stepsTo, steps, preludeOf}
 use Rattle.hir_def.specs.declared.Item.{Item}
-use Rattle.hir_def.specs.declared.Item.the-variants.{Mod, Def}
 use Rattle.nameable.specs.Seen.{holds, declaredNs, declaredAs, declaredIn, declarationIn, declarationOf, declarationHolds, bothHold, counts, seen}
 use Rattle.nameable.specs.Paths.{Keyword, supers, crate, Path, keyword, absolute, plain, into, namesIn, named, entriesIn, variantsIn, externsIn, absolutes, entriesOver, scopesFrom, preludeEntries, firsts, within, aboveOr, above, keywordModule, moduleNamed, after, reads, itemIn, means, placeIn, routeOf}
 use Rattle.nameable.specs.Breadth.{isMet, withMeaning, added, nameless, single, onward, reached, isItem, firstTo, arrives, checkedPath, variantAfter, byEnum, shorter, shortestOf, shortest, AnyPath, found, longer, nowhere, upTo, anyPath}
 
-pub head : ℕ → ℕ → ℕ
+unfoldable pub head : ℕ → ℕ → ℕ
 head kind payload = kind * 0x10000000 + payload
 
 -- one byte of text
-pub letter : ℕ → List ℕ
+unfoldable pub letter : ℕ → List ℕ
 letter c = head 1 1 ∷ c ∷ []
 
 -- owner, namespace, name, definition, visibility, number, declared, bits
-pub entry : ℕ → ℕ → ℕ → ℕ → ℕ → ℕ → ℕ → ℕ → List ℕ
+unfoldable pub entry : ℕ → ℕ → ℕ → ℕ → ℕ → ℕ → ℕ → ℕ → List ℕ
 entry m ns n d v k i b = head 9 m ∷ ns ∷ n ∷ d ∷ v ∷ k ∷ i ∷ b ∷ []
 
 -- mod p { mod x { pub struct S(u8); pub enum E { V } } pub mod a { use super::x::S as A; pub use super::x::{S as B, E}; } fn f() {} }
@@ -40,7 +39,7 @@ entry m ns n d v k i b = head 9 m ∷ ns ∷ n ∷ d ∷ v ∷ k ∷ i ∷ b ∷
 -- Names: 0 p, 1 x, 2 S, 3 a, 4 A, 5 B, 6 v, 7 d, 8 h, 9 f, 10 q, 11 r, 12 t, 13 E, 14 V.
 -- Definitions: 0 p, 1 x, 2 a, 3 v, 4 S, 5 h, 6 the f of h, 7 q, 8 r, 9 t, 10 the f of q, 11 the f of p, 12 E, 13 V.
 -- The def maps hold imports that the compiler refuses: A of a, and of the block, as a constructor.
-pub workspace : ℕ → List ℕ
+unfoldable pub workspace : ℕ → List ℕ
 workspace edition =
     letter 0x70 ++ letter 0x78 ++ letter 0x53 ++ letter 0x61 ++ letter 0x41 ++ letter 0x42 ++ letter 0x76 ++ letter 0x64
     ++ letter 0x68 ++ letter 0x66 ++ letter 0x71 ++ letter 0x72 ++ letter 0x74 ++ letter 0x45 ++ letter 0x56
@@ -74,19 +73,19 @@ answers limit (accept s) qs = map (λ q. upTo limit (shortest s (q .from) (q .it
 
 pub any-paths : answers 16 (verdict (workspace 2021))
     -- S in `v`: the first entry of `a` is private, the second is not
-    (ask 4 (Def 0 4)
+    (ask 4 (definedItem 0 4)
     -- the f of h, hidden, in `p`
-    ∷ ask 1 (Def 1 6)
+    ∷ ask 1 (definedItem 1 6)
     -- the f of q in `t`, by `super` alone
-    ∷ ask 10 (Def 1 10)
+    ∷ ask 10 (definedItem 1 10)
     -- the constructor of S: in `x`, and in `a`, which imports it and may not
-    ∷ ask 2 (Def 1 4) ∷ ask 3 (Def 1 4)
+    ∷ ask 2 (definedItem 1 4) ∷ ask 3 (definedItem 1 4)
     -- the private f of p, in `p` and from outside
-    ∷ ask 1 (Def 1 11) ∷ ask 4 (Def 1 11)
+    ∷ ask 1 (definedItem 1 11) ∷ ask 4 (definedItem 1 11)
     -- a variant
-    ∷ ask 4 (Def 1 13) ∷ ask 2 (Def 0 13)
+    ∷ ask 4 (definedItem 1 13) ∷ ask 2 (definedItem 0 13)
     -- modules: the one around the block, one in the block, from there and from its child, and one that is private
-    ∷ ask 7 (Mod 4) ∷ ask 7 (Mod 8) ∷ ask 9 (Mod 8) ∷ ask 4 (Mod 2) ∷ ask 4 (Mod 5)
+    ∷ ask 7 (moduleItem 4) ∷ ask 7 (moduleItem 8) ∷ ask 9 (moduleItem 8) ∷ ask 4 (moduleItem 2) ∷ ask 4 (moduleItem 5)
     ∷ [])
     ≡ found (into (into (into (keyword crate) 0) 3) 5)
     ∷ found (into (into (absolute 7) 8) 9)
@@ -100,13 +99,13 @@ unfolding answers ask head letter entry workspace upTo shortest shortestOf short
 any-paths = refl
 
 -- In edition 2015 there is no `::d`.
-pub old-edition : answers 16 (verdict (workspace 2015)) (ask 1 (Def 1 6) ∷ ask 4 (Mod 5) ∷ [])
+pub old-edition : answers 16 (verdict (workspace 2015)) (ask 1 (definedItem 1 6) ∷ ask 4 (moduleItem 5) ∷ [])
     ≡ found (into (into (plain 7) 8) 9) ∷ found (plain 7) ∷ []
 unfolding answers ask head letter entry workspace upTo shortest shortestOf shorter byEnum variantAfter checkedPath arrives firstTo isItem reached onward single nameless added withMeaning isMet means itemIn reads after moduleNamed keywordModule above aboveOr within firsts preludeEntries scopesFrom entriesOver absolutes externsIn variantsIn entriesIn named namesIn seen counts bothHold declarationHolds declarationOf declarationIn declaredIn declaredAs declaredNs holds privately moduleAround blockStep ofRoot lastOr lastTo last metOr metTo met stepsOr stepsTo steps preludeOf firstOf select orFirst itemOf sameItem nsOf homeBy definitionOf crateData moduleOf mapOf rootOf ownMap crateRoot orElse containing placeOf verdict records stepAt recordStep finish argumentsFrom argumentsOf nameStep crateStep dependencyStep mapStep moduleStep childStep preludeStep definitionStep scopeStep importStep externStep memberStep textBound padded rows any all eqList
 old-edition = refl
 
 -- The variant of four names, where three are allowed.
-pub too-long : answers 3 (verdict (workspace 2021)) (ask 4 (Def 1 13) ∷ ask 4 (Def 0 12) ∷ [])
+pub too-long : answers 3 (verdict (workspace 2021)) (ask 4 (definedItem 1 13) ∷ ask 4 (definedItem 0 12) ∷ [])
     ≡ longer ∷ found (into (into (into (keyword crate) 0) 3) 13) ∷ []
 unfolding answers ask head letter entry workspace upTo shortest shortestOf shorter byEnum variantAfter checkedPath arrives firstTo isItem reached onward single nameless added withMeaning isMet means itemIn reads after moduleNamed keywordModule above aboveOr within firsts preludeEntries scopesFrom entriesOver absolutes externsIn variantsIn entriesIn named namesIn seen counts bothHold declarationHolds declarationOf declarationIn declaredIn declaredAs declaredNs holds privately moduleAround blockStep ofRoot lastOr lastTo last metOr metTo met stepsOr stepsTo steps preludeOf firstOf select orFirst itemOf sameItem nsOf homeBy definitionOf crateData moduleOf mapOf rootOf ownMap crateRoot orElse containing placeOf verdict records stepAt recordStep finish argumentsFrom argumentsOf nameStep crateStep dependencyStep mapStep moduleStep childStep preludeStep definitionStep scopeStep importStep externStep memberStep textBound padded rows any all eqList
 too-long = refl
@@ -126,7 +125,7 @@ pub block-readings : readings (verdict (workspace 2021))
     ∷ into (into (into (into (into (keyword (supers 1)) 0) 3) 13) 14) 9
     ∷ into (keyword (supers 2)) 0
     ∷ [])
-    ≡ some (Def 1 6) ∷ some (Def 1 6) ∷ none ∷ none ∷ some (Def 1 13) ∷ none ∷ none ∷ []
+    ≡ some (definedItem 1 6) ∷ some (definedItem 1 6) ∷ none ∷ none ∷ some (definedItem 1 13) ∷ none ∷ none ∷ []
 unfolding readings head letter entry workspace upTo shortest shortestOf shorter byEnum variantAfter checkedPath arrives firstTo isItem reached onward single nameless added withMeaning isMet means itemIn reads after moduleNamed keywordModule above aboveOr within firsts preludeEntries scopesFrom entriesOver absolutes externsIn variantsIn entriesIn named namesIn seen counts bothHold declarationHolds declarationOf declarationIn declaredIn declaredAs declaredNs holds privately moduleAround blockStep ofRoot lastOr lastTo last metOr metTo met stepsOr stepsTo steps preludeOf firstOf select orFirst itemOf sameItem nsOf homeBy definitionOf crateData moduleOf mapOf rootOf ownMap crateRoot orElse containing placeOf verdict records stepAt recordStep finish argumentsFrom argumentsOf nameStep crateStep dependencyStep mapStep moduleStep childStep preludeStep definitionStep scopeStep importStep externStep memberStep textBound padded rows any all eqList
 block-readings = refl
 
@@ -152,7 +151,7 @@ nested =
     ++ over (λ k. entry k 0 0 k 0 0 1 0) 0 16 ++ entry 16 1 1 16 0 0 1 0
 
 -- From the root the last module has sixteen names, the function seventeen; from the second module the function has sixteen.
-pub many-names : answers 16 (verdict nested) (ask 0 (Mod 16) ∷ ask 0 (Def 1 16) ∷ ask 1 (Def 1 16) ∷ [])
+pub many-names : answers 16 (verdict nested) (ask 0 (moduleItem 16) ∷ ask 0 (definedItem 1 16) ∷ ask 1 (definedItem 1 16) ∷ [])
     ≡ found (into (into (into (into (into (into (into (into (into (into (into (into (into (into (into (into (keyword (supers 0)) 0) 0) 0) 0) 0) 0) 0) 0) 0) 0) 0) 0) 0) 0) 0) 0)
     ∷ longer
     ∷ found (into (into (into (into (into (into (into (into (into (into (into (into (into (into (into (into (keyword (supers 0)) 0) 0) 0) 0) 0) 0) 0) 0) 0) 0) 0) 0) 0) 0) 0) 1)

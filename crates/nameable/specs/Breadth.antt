@@ -9,7 +9,7 @@ use Rattle.snapshot.specs.Lists.{any, rows}
 use Rattle.snapshot.specs.Limits.{moduleLimit}
 use Rattle.snapshot.specs.Records.{Snapshot}
 use Rattle.hir_def.specs.Finds.{firstOf, orFirst}
-use Rattle.hir_def.specs.Items.{types, definitionOf, nsOf, sameItem}
+use Rattle.hir_def.specs.Items.{types, definitionOf, nsOf, sameItem, definedItem}
 use Rattle.hir_def.specs.declared.Item.{Item}
 use Rattle.hir_def.specs.declared.Item.the-variants.{Mod, Def}
 use Rattle.nameable.specs.Seen.{isVariant}
@@ -27,7 +27,7 @@ isMet ws m = any (λ w. eqb (w .target) m) ws
 unfoldable pub withMeaning : List Way → Path → Option Item → List Way
 withMeaning ws p none = ws
 withMeaning ws p (some (Def ns d)) = ws
-withMeaning ws p (some (Mod m)) = elim (isMet ws m) [ true ↦ ws | false ↦ ws ++ (record { path = p; target = m } ∷ []) ]
+withMeaning ws p (some (Mod m)) = elim (isMet ws (m .0)) [ true ↦ ws | false ↦ ws ++ (record { path = p; target = m .0 } ∷ []) ]
 
 unfoldable pub added : Snapshot → ℕ → List Way → List Path → List Way
 added s from ws [] = ws
@@ -89,8 +89,8 @@ variantAfter s from item n (some p) = checkedPath s from item (into p n)
 unfoldable pub byEnum : Bool → Snapshot → ℕ → Item → Option Path
 byEnum b s from (Mod m) = none
 byEnum b s from (Def ns d) =
-    elim (isVariant s d) [
-      | true ↦ variantAfter s from (Def ns d) (definitionOf s d .second) (arrival b s from (Def types (definitionOf s d .first)))
+    elim (isVariant s (d .0)) [
+      | true ↦ variantAfter s from (Def ns d) (definitionOf s (d .0) .second) (arrival b s from (definedItem types (definitionOf s (d .0) .first)))
       | false ↦ none
     ]
 

@@ -9,7 +9,7 @@ use Rattle.snapshot.specs.Records.{Snapshot, Scope, Prelude, Extern, Member}
 use Rattle.module_tree.specs.Modules.{mapNo, crateOf, parentOf, crateRoot}
 use Rattle.module_tree.specs.Privately.{blockStep, moduleAround}
 use Rattle.hir_def.specs.Finds.{firstOf, select}
-use Rattle.hir_def.specs.Items.{types, macros, definitionOf, crateData, itemOf, nsOf}
+use Rattle.hir_def.specs.Items.{types, macros, definitionOf, crateData, itemOf, nsOf, moduleItem, definedItem}
 use Rattle.hir_def.specs.Nameres.{steps, preludeOf}
 use Rattle.hir_def.specs.declared.Item.{Item}
 use Rattle.hir_def.specs.declared.Item.the-variants.{Mod, Def}
@@ -68,7 +68,7 @@ abbrev pub isVariantOf : ℕ → Member → Bool
 isVariantOf d x = eqb (x .parent) d && eqb (x .kind) 0
 
 abbrev pub variantNamed : Snapshot → ℕ → Member → Named
-variantNamed s ns x = record { name = x .name; item = Def ns (x .definition); place = definitionOf s (x .definition) .place }
+variantNamed s ns x = record { name = x .name; item = definedItem ns (x .definition); place = definitionOf s (x .definition) .place }
 
 unfoldable pub variantsIn : Snapshot → ℕ → ℕ → List Named
 variantsIn s ns d =
@@ -77,7 +77,7 @@ variantsIn s ns d =
 -- the externs of the viewer's crate, in types
 
 abbrev pub externNamed : Extern → Named
-externNamed x = record { name = x .name; item = Mod (x .target); place = x .place }
+externNamed x = record { name = x .name; item = moduleItem (x .target); place = x .place }
 
 unfoldable pub externsIn : Snapshot → ℕ → ℕ → List Named
 externsIn s from ns =
@@ -106,8 +106,8 @@ firsts s from ns =
 
 -- what a later name may mean after what was reached: a seen entry of the module, a variant of the enum
 unfoldable pub within : Snapshot → ℕ → ℕ → Item → List Named
-within s from ns (Mod m) = entriesIn s from ns m
-within s from ns (Def k d) = variantsIn s ns d
+within s from ns (Mod m) = entriesIn s from ns (m .0)
+within s from ns (Def k d) = variantsIn s ns (d .0)
 
 -- from the module m so many times to the module around; a block map's root is no module of its own, the one in which the block stands is
 
@@ -126,7 +126,7 @@ keywordModule s from crate = some (crateRoot s from)
 -- no name and no record is read for a keyword
 unfoldable pub moduleNamed : Option ℕ → Option Named
 moduleNamed none = none
-moduleNamed (some m) = some (record { name = 0; item = Mod m; place = 0 })
+moduleNamed (some m) = some (record { name = 0; item = moduleItem m; place = 0 })
 
 unfoldable pub after : Option Named → (Item → Option Named) → Option Named
 after none f = none

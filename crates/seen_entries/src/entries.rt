@@ -61,7 +61,7 @@ fn declared_in(words: &[u32], area: &[u32], l: Layout, d: DefinitionId) -> OptMo
     if kind_of(words, l, d) == DefinitionKind::MODULE {
         return parent(words, area, l, ModuleId(first_of(words, l, d)));
     }
-    home_of(words, l, Item::Def(Namespace::TYPES, d.0))
+    home_of(words, l, Item::Def(Namespace(Namespace::TYPES), d))
 }
 
 // Whether the entry with its head at a place is the module's declared one for a namespace and a definition.
