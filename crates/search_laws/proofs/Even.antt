@@ -8,7 +8,7 @@ use mathlib.Core.Logic.{_⊎_, ⊎-elim}
 use mathlib.Core.Option.{some}
 use borrow.Author.Tests.{eq-eqb}
 use Rattle.snapshot.specs.Records.{Snapshot, Scope}
-use Rattle.hir_def.specs.declared.Item.the-variants.{Mod}
+use Rattle.hir_def.specs.Items.{moduleItem}
 use Rattle.path_choices.specs.declared.Choice.{Choice}
 use Rattle.find_path.specs.declared.FindPathCtx.{FindPathCtx}
 use Rattle.find_path.specs.Choices.{isPrelude, nothing, lengthLeft, extended, push}
@@ -34,7 +34,7 @@ module _ (s : Snapshot) (x : FindPathCtx) where
     pub rule : (m : ℕ) → E m → ruled s x m ≡ true → moduleRules s x false m .«has_prelude_segment» ≡ v m
     pub goes : (m c : ℕ) → E m → ruled s x m ≡ false → Location s x [] m c → Reached most c → E c
     pub first : (m c : ℕ) (e : Scope) → E m → ruled s x m ≡ false → Location s x [] m c → Reached most c
-        → importableName s x (Mod m) c ≡ some e → v c || isPrelude s (e .name) ≡ v m
+        → importableName s x (moduleItem m) c ≡ some e → v c || isPrelude s (e .name) ≡ v m
     -- a location with another flag is the only one
     pub later : (m c : ℕ) → E m → ruled s x m ≡ false → Location s x [] m c → Reached most c
         → (v c ≡ v m) ⊎ ((n : ℕ) → Location s x [] m n → Reached most n → n ≡ c)
@@ -50,10 +50,10 @@ module _ (s : Snapshot) (x : FindPathCtx) where
 
       pub kept-step : (done : List ℕ) (best : Choice) (c : ℕ) → has done c ≡ false → has (locations s x [] m) c ≡ true
           → Kept done best
-          → Kept (done ++ (c ∷ [])) (location s x rec (suc l) (record { item = Mod m; modules = done ++ (c ∷ []) } ∷ ls) best c (importableName s x (Mod m) c))
+          → Kept (done ++ (c ∷ [])) (location s x rec (suc l) (record { item = moduleItem m; modules = done ++ (c ∷ []) } ∷ ls) best c (importableName s x (moduleItem m) c))
       unfolding imports push extended
       kept-step done best c new in′ k =
-          location-by s x (Kept (done ++ (c ∷ []))) rec (suc l) _ best c (importableName s x (Mod m) c)
+          location-by s x (Kept (done ++ (c ∷ []))) rec (suc l) _ best c (importableName s x (moduleItem m) c)
           (λ f. let (n, h, at, q, p) = k f in (n, has-snoc done c n ∙ or-left _ _ h, at, q, p))
           (λ e i f.
           let at : Location s x [] m c = record { taken = in′; entry = ap isSome i } in
@@ -66,10 +66,10 @@ module _ (s : Snapshot) (x : FindPathCtx) where
           (λ o _ _. (c, here, at, q, p ∙ ⊎-elim (λ z. z) (λ z. let (n, h, at′, q′, _) = k o in absurd (true≢false (sym h ∙ ap (has done) (z n at′ q′) ∙ new))) (even .later m c w r at q)))
           (λ o _ _. let (n, h, at′, q′, p′) = k o in (n, has-snoc done c n ∙ or-left _ _ h, at′, q′, p′)))
 
-      loop-flag : calculateBestPathLocal s x rec (suc l) ls (Mod m) .found ≡ true → calculateBestPathLocal s x rec (suc l) ls (Mod m) .«has_prelude_segment» ≡ v m
+      loop-flag : calculateBestPathLocal s x rec (suc l) ls (moduleItem m) .found ≡ true → calculateBestPathLocal s x rec (suc l) ls (moduleItem m) .«has_prelude_segment» ≡ v m
       unfolding calculateBestPathLocal
       loop-flag f =
-          each-by s x Kept rec (suc l) ls (Mod m) _ [] nothing _ kept-step (fewer-locations s x ls m) (locations-once s (x .from .0) _)
+          each-by s x Kept rec (suc l) ls (moduleItem m) _ [] nothing _ kept-step (fewer-locations s x ls m) (locations-once s (x .from .0) _)
           (λ o. absurd (false≢true o)) f .4
 
     or-flag : (rec : LocalSearch) → Sound s x rec → Flagged rec → (l : ℕ) → suc l ≤ most → (ls : List Level) (m : ℕ) → E m → (f : Bool) → ruled s x m ≡ f

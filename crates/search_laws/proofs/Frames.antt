@@ -8,8 +8,7 @@ use mathlib.Core.Logic.{⊎-elim}
 use mathlib.Core.Option.{Option, none, some}
 use Rattle.snapshot.specs.Lists.{any}
 use Rattle.snapshot.specs.Records.{Snapshot, Scope}
-use Rattle.hir_def.specs.Items.{sameItem}
-use Rattle.hir_def.specs.declared.Item.the-variants.{Mod}
+use Rattle.hir_def.specs.Items.{sameItem, moduleItem}
 use Rattle.path_choices.specs.declared.Choice.{Choice}
 use Rattle.find_path.specs.declared.FindPathCtx.{FindPathCtx}
 use Rattle.find_path.specs.Choices.{nothing, lengthLeft}
@@ -33,7 +32,7 @@ module _ (s : Snapshot) (x : FindPathCtx) where
 
   -- two lists of levels that visit the same of what has the property P
   abbrev pub SameFor : (ℕ → ℕ → Type 0) → ℕ → List Level → List Level → Type 0
-  SameFor P left ls ls′ = (l n : ℕ) → l ≤ left → P l n → ruled s x n ≡ false → (c : ℕ) → visited ls (Mod n) c ≡ visited ls′ (Mod n) c
+  SameFor P left ls ls′ = (l n : ℕ) → l ≤ left → P l n → ruled s x n ≡ false → (c : ℕ) → visited ls (moduleItem n) c ≡ visited ls′ (moduleItem n) c
 
   -- P holds of what the search comes to
   module _ (P : ℕ → ℕ → Type 0)
@@ -43,11 +42,11 @@ module _ (s : Snapshot) (x : FindPathCtx) where
 
     same-put : (left j : ℕ) (level : Level) (ls ls′ : List Level) → j ≤ left → SameFor P left ls ls′ → SameFor P j (level ∷ ls) (level ∷ ls′)
     unfolding visited any
-    same-put left j level ls ls′ h same l n k p r c = ap (λ b. sameItem (level .item) (Mod n) && has (level .modules) c || b) (same l n (omega arith) p r c)
+    same-put left j level ls ls′ h same l n k p r c = ap (λ b. sameItem (level .item) (moduleItem n) && has (level .modules) c || b) (same l n (omega arith) p r c)
 
     module _ (rec : LocalSearch) (framed : Framed rec) (l m : ℕ) (p : P (suc l) m) (ls ls′ : List Level) (same : SameFor P (suc l) ls ls′) where
       location-frame : (level : Level) (best : Choice) (c : ℕ) (a : Option Scope)
-          → has (locations s x [] m) c ≡ true → importableName s x (Mod m) c ≡ a
+          → has (locations s x [] m) c ≡ true → importableName s x (moduleItem m) c ≡ a
           → location s x rec (suc l) (level ∷ ls) best c a ≡ location s x rec (suc l) (level ∷ ls′) best c a
       unfolding location imports
       location-frame level best c none w e = refl
@@ -59,11 +58,11 @@ module _ (s : Snapshot) (x : FindPathCtx) where
           (framed j (level ∷ ls) (level ∷ ls′) c (λ n. goes l m c j p at (omega arith) n) (same-put (suc l) j level ls ls′ (omega arith) same))
 
       each-frame : (done : List ℕ) (best : Choice) (ms : List ℕ) → Within ms (locations s x [] m)
-          → eachLocation s x rec (suc l) ls (Mod m) done best ms ≡ eachLocation s x rec (suc l) ls′ (Mod m) done best ms
+          → eachLocation s x rec (suc l) ls (moduleItem m) done best ms ≡ eachLocation s x rec (suc l) ls′ (moduleItem m) done best ms
       unfolding eachLocation
       each-frame done best [] w = refl
       each-frame done best (c ∷ ms) w =
-          ap (λ (z : Choice). eachLocation s x rec (suc l) ls (Mod m) (done ++ (c ∷ [])) z ms) (location-frame _ best c _ (w c (has-first c ms)) refl)
+          ap (λ (z : Choice). eachLocation s x rec (suc l) ls (moduleItem m) (done ++ (c ∷ [])) z ms) (location-frame _ best c _ (w c (has-first c ms)) refl)
           ∙ each-frame (done ++ (c ∷ [])) _ ms (λ n h. w n (has-later c ms n h))
 
       or-frame : (f : Bool) → ruled s x m ≡ f
@@ -72,7 +71,7 @@ module _ (s : Snapshot) (x : FindPathCtx) where
       or-frame true e = refl
       or-frame false e =
           each-frame [] nothing _ (fewer-locations ls m)
-          ∙ ap (eachLocation s x rec (suc l) ls′ (Mod m) [] nothing) (walk-same s (x .from .0) _ _ (same (suc l) m (omega arith) p e))
+          ∙ ap (eachLocation s x rec (suc l) ls′ (moduleItem m) [] nothing) (walk-same s (x .from .0) _ _ (same (suc l) m (omega arith) p e))
 
     to-frame : (d : ℕ) → Framed (localTo s x d)
     unfolding localTo findPathForModuleLocal
@@ -94,7 +93,7 @@ module _ (s : Snapshot) (x : FindPathCtx) where
   near-frame left ls ls′ m = levels-frame (λ l n. near s x [] l n ≡ true) (λ l m c j p at h n. n) left ls ls′ m (λ h. h)
 
   -- A search for an item that is no module plays no part.
-  pub no-module : (left : ℕ) (level : Level) (ls : List Level) (m : ℕ) → ((n : ℕ) → sameItem (level .item) (Mod n) ≡ false)
+  pub no-module : (left : ℕ) (level : Level) (ls : List Level) (m : ℕ) → ((n : ℕ) → sameItem (level .item) (moduleItem n) ≡ false)
       → searchLocal s x left (level ∷ ls) m ≡ searchLocal s x left ls m
   unfolding visited any
-  no-module left level ls m h = near-frame left (level ∷ ls) ls m (λ l n _ _ _ c. ap (λ b. b && has (level .modules) c || visited ls (Mod n) c) (h n))
+  no-module left level ls m h = near-frame left (level ∷ ls) ls m (λ l n _ _ _ c. ap (λ b. b && has (level .modules) c || visited ls (moduleItem n) c) (h n))

@@ -10,9 +10,8 @@ use lib.Dec.{eqb}
 use lib.ListN.{getD}
 use borrow.Author.Tests.{eqb-true, eqb-false}
 use Rattle.snapshot.specs.Records.{Snapshot, Scope}
-use Rattle.hir_def.specs.Items.{crateRoot}
+use Rattle.hir_def.specs.Items.{crateRoot, moduleItem}
 use Rattle.hir_def.specs.declared.Item.{Item}
-use Rattle.hir_def.specs.declared.Item.the-variants.{Mod}
 use Rattle.path_choices.specs.declared.Choice.{Choice}
 use Rattle.find_path.specs.declared.FindPathCtx.{FindPathCtx}
 use Rattle.find_path.specs.Choices.{plainPath, cratePath, nothing, pathLen, keyword, choiceNew, extended, push, lengthLeft}
@@ -138,7 +137,7 @@ module _ (s : Snapshot) (x : FindPathCtx) where
   pub rules-brief : (m : ℕ) → IfFound (moduleRules s x false m)
   unfolding moduleRules
   rules-brief m =
-      first-brief _ _ (root-brief m) (first-brief _ _ (scope-brief (Mod m)) (first-brief _ _ (keyword-rule-brief _) (first-brief _ _ (prelude-brief (Mod m)) none-brief)))
+      first-brief _ _ (root-brief m) (first-brief _ _ (scope-brief (moduleItem m)) (first-brief _ _ (keyword-rule-brief _) (first-brief _ _ (prelude-brief (moduleItem m)) none-brief)))
     where
       none-brief : IfFound (firstFound [])
       none-brief = unfold firstFound in nothing-brief
@@ -175,10 +174,10 @@ module _ (s : Snapshot) (x : FindPathCtx) where
 
     pub sized-step : (done : List ℕ) (best : Choice) (c : ℕ) → has done c ≡ false → has (locations s x [] m) c ≡ true
         → SizedIf done best
-        → SizedIf (done ++ (c ∷ [])) (location s x rec (suc l) (record { item = Mod m; modules = done ++ (c ∷ []) } ∷ ls) best c (importableName s x (Mod m) c))
+        → SizedIf (done ++ (c ∷ [])) (location s x rec (suc l) (record { item = moduleItem m; modules = done ++ (c ∷ []) } ∷ ls) best c (importableName s x (moduleItem m) c))
     unfolding imports push
     sized-step done best c new in′ k =
-        location-by s x (SizedIf done) rec (suc l) _ best c (importableName s x (Mod m) c) k
+        location-by s x (SizedIf done) rec (suc l) _ best c (importableName s x (moduleItem m) c) k
         (λ e i f.
         let at : Location s x [] m c = record { taken = in′; entry = ap isSome i } in
         let less : lengthLeft (suc l) best < suc l = length-falls (suc l) best (omega arith) in
@@ -191,7 +190,7 @@ module _ (s : Snapshot) (x : FindPathCtx) where
     unfolding orLocal calculateBestPathLocal
     or-sized true r f = rule-sized l m r
     or-sized false r f =
-        each-by s x SizedIf rec (suc l) ls (Mod m) _ [] nothing _ sized-step (fewer-locations s x ls m) (locations-once s (x .from .0) _) (λ o. absurd (false≢true o)) f
+        each-by s x SizedIf rec (suc l) ls (moduleItem m) _ [] nothing _ sized-step (fewer-locations s x ls m) (locations-once s (x .from .0) _) (λ o. absurd (false≢true o)) f
 
   to-sized : (d : ℕ) → AllSized (localTo s x d)
   unfolding localTo findPathForModuleLocal

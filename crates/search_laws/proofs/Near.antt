@@ -10,9 +10,8 @@ use lib.ListN.{take, drop, take-append-drop}
 use lib.Seq.{take-add, drop-drop}
 use Rattle.snapshot.specs.Lists.{any}
 use Rattle.snapshot.specs.Records.{Snapshot, Scope}
-use Rattle.hir_def.specs.Items.{sameItem}
+use Rattle.hir_def.specs.Items.{sameItem, moduleItem}
 use Rattle.hir_def.specs.declared.Item.{Item}
-use Rattle.hir_def.specs.declared.Item.the-variants.{Mod}
 use Rattle.path_choices.specs.declared.Choice.{Choice}
 use Rattle.find_path.specs.declared.FindPathCtx.{FindPathCtx}
 use Rattle.find_path.specs.Choices.{nothing, lengthLeft, better, extended, push, trySelect}
@@ -90,7 +89,7 @@ module _ (s : Snapshot) (x : FindPathCtx) where
     or-plain : (ls : List Level) (m : ℕ) (c : Choice) (f : Bool) → c .found ≡ f → Plain (orLocal s x rec left ls m c f)
     unfolding orLocal calculateBestPathLocal
     or-plain ls m c true e = found-plain c e
-    or-plain ls m c false e = each-plain ls (Mod m) [] nothing _ (λ _. refl)
+    or-plain ls m c false e = each-plain ls (moduleItem m) [] nothing _ (λ _. refl)
 
   to-plain : (d left : ℕ) (ls : List Level) (m : ℕ) → Plain (localTo s x d left ls m)
   unfolding localTo findPathForModuleLocal
@@ -140,7 +139,7 @@ module _ (s : Snapshot) (x : FindPathCtx) where
   near-grows ls k m = near-later ls k (suc k) m (omega arith)
 
   -- What is near under levels is near under those that visit less.
-  pub near-less : (ls ls′ : List Level) → ((n c : ℕ) → visited ls (Mod n) c ≡ true → visited ls′ (Mod n) c ≡ true)
+  pub near-less : (ls ls′ : List Level) → ((n c : ℕ) → visited ls (moduleItem n) c ≡ true → visited ls′ (moduleItem n) c ≡ true)
       → (k m : ℕ) → near s x ls′ k m ≡ true → near s x ls k m ≡ true
   unfolding near
   near-less ls ls′ less zero m e = absurd (false≢true e)
@@ -152,7 +151,7 @@ module _ (s : Snapshot) (x : FindPathCtx) where
   -- ... and so under one level less
   pub near-fewer : (l : Level) (ls : List Level) (k m : ℕ) → near s x (l ∷ ls) k m ≡ true → near s x ls k m ≡ true
   unfolding visited any
-  near-fewer l ls = near-less ls (l ∷ ls) (λ n c h. or-right (sameItem (l .item) (Mod n) && has (l .modules) c) _ h)
+  near-fewer l ls = near-less ls (l ∷ ls) (λ n c h. or-right (sameItem (l .item) (moduleItem n) && has (l .modules) c) _ h)
 
   -- ... and under none
   pub near-none : (ls : List Level) (k m : ℕ) → near s x ls k m ≡ true → near s x [] k m ≡ true
@@ -175,14 +174,14 @@ module _ (s : Snapshot) (x : FindPathCtx) where
         (λ f. or-left _ _ (sym (ap (λ (z : Choice). z .found) (f .1)) ∙ h)) (offer-cases best (rec j (level ∷ ls) c) e _ refl)
 
     -- a found best came from a location that is near
-    each-near : (ls : List Level) (m : ℕ) (done : List ℕ) (best : Choice) (ms : List ℕ) → eachLocation s x rec (suc l) ls (Mod m) done best ms .found ≡ true
+    each-near : (ls : List Level) (m : ℕ) (done : List ℕ) (best : Choice) (ms : List ℕ) → eachLocation s x rec (suc l) ls (moduleItem m) done best ms .found ≡ true
         → best .found || any (λ c. imports s x m c && near s x ls l c) ms ≡ true
     unfolding eachLocation any imports
     each-near ls m done best [] h = or-left _ _ h
     each-near ls m done best (c ∷ ms) h =
-        let level : Level = record { item = Mod m; modules = done ++ (c ∷ []) } in
-        or-through (location s x rec (suc l) (level ∷ ls) best c (importableName s x (Mod m) c) .found) (best .found) (imports s x m c && near s x ls l c) _
-        (location-near level ls best c (importableName s x (Mod m) c)) (each-near ls m (done ++ (c ∷ [])) _ ms h)
+        let level : Level = record { item = moduleItem m; modules = done ++ (c ∷ []) } in
+        or-through (location s x rec (suc l) (level ∷ ls) best c (importableName s x (moduleItem m) c) .found) (best .found) (imports s x m c && near s x ls l c) _
+        (location-near level ls best c (importableName s x (moduleItem m) c)) (each-near ls m (done ++ (c ∷ [])) _ ms h)
 
     or-near : (ls : List Level) (m : ℕ) (f : Bool) → ruled s x m ≡ f
         → orLocal s x rec (suc l) ls m (moduleRules s x false m) f .found ≡ true → near s x ls (suc l) m ≡ true

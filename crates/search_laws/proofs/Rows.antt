@@ -10,9 +10,8 @@ use lib.Dec.{eqb}
 use borrow.Author.Tests.{eqb-true}
 use Rattle.snapshot.specs.Lists.{any}
 use Rattle.snapshot.specs.Records.{Snapshot, Scope}
-use Rattle.hir_def.specs.Items.{sameItem}
+use Rattle.hir_def.specs.Items.{sameItem, moduleItem}
 use Rattle.hir_def.specs.declared.Item.{Item}
-use Rattle.hir_def.specs.declared.Item.the-variants.{Mod}
 use Rattle.path_choices.specs.declared.Choice.{Choice}
 use Rattle.find_path.specs.declared.FindPathCtx.{FindPathCtx}
 use Rattle.find_path.specs.Choices.{nothing, shorterIf, lengthLeft}
@@ -29,7 +28,7 @@ use Rattle.search_laws.proofs.Tight.{Distance, location-distance, tight
 module _ (s : Snapshot) (x : FindPathCtx) where
   -- a local search for the module under way, and no other
   abbrev pub only : ℕ → List ℕ → List Level
-  only m done = record { item = Mod m; modules = done } ∷ []
+  only m done = record { item = moduleItem m; modules = done } ∷ []
 
   on-only : (m n : ℕ) (done : List ℕ) (b : Bool) → eqb m n ≡ b → isOn (only m done) n ≡ b
   unfolding isOn any sameItem
@@ -64,7 +63,7 @@ module _ (s : Snapshot) (x : FindPathCtx) where
 
   module _ (l m : ℕ) (e : near s x [] l m ≡ false) where
     location-row : (done : List ℕ) (best : Choice) (c : ℕ) (a : Option Scope)
-        → has (locations s x [] m) c ≡ true → importableName s x (Mod m) c ≡ a
+        → has (locations s x [] m) c ≡ true → importableName s x (moduleItem m) c ≡ a
         → location s x (searchLocal s x) (suc l) (only m done) best c a ≡ location s x rowOf (suc l) (only m done) best c a
     unfolding location imports
     location-row done best c none w i = refl
@@ -73,15 +72,15 @@ module _ (s : Snapshot) (x : FindPathCtx) where
         ap (λ (z : Choice). offerEntry s x best z a) (row l m c (lengthLeft (suc l) best) done e (record { taken = w; entry = ap isSome i }) (omega arith))
 
     each-row : (done : List ℕ) (best : Choice) (ms : List ℕ) → Within ms (locations s x [] m)
-        → eachLocation s x (searchLocal s x) (suc l) [] (Mod m) done best ms ≡ eachLocation s x rowOf (suc l) [] (Mod m) done best ms
+        → eachLocation s x (searchLocal s x) (suc l) [] (moduleItem m) done best ms ≡ eachLocation s x rowOf (suc l) [] (moduleItem m) done best ms
     unfolding eachLocation
     each-row done best [] w = refl
     each-row done best (c ∷ ms) w =
-        ap (λ (z : Choice). eachLocation s x (searchLocal s x) (suc l) [] (Mod m) (done ++ (c ∷ [])) z ms) (location-row _ best c _ (w c (has-first c ms)) refl)
+        ap (λ (z : Choice). eachLocation s x (searchLocal s x) (suc l) [] (moduleItem m) (done ++ (c ∷ [])) z ms) (location-row _ best c _ (w c (has-first c ms)) refl)
         ∙ each-row (done ++ (c ∷ [])) _ ms (λ n h. w n (has-later c ms n h))
 
     -- The answer of a round is the loop over the answers of the rounds before.
-    pub rows : ruled s x m ≡ false → searchLocal s x (suc l) [] m ≡ calculateBestPathLocal s x rowOf (suc l) [] (Mod m)
+    pub rows : ruled s x m ≡ false → searchLocal s x (suc l) [] m ≡ calculateBestPathLocal s x rowOf (suc l) [] (moduleItem m)
     unfolding findPathForModuleLocal orLocal calculateBestPathLocal
     rows r = local-more s x (suc l) [] m ∙ rw r (each-row [] nothing _ (λ c h. h))
 
@@ -123,10 +122,10 @@ module _ (s : Snapshot) (x : FindPathCtx) where
         ⊎-elim (λ f. f .1) (λ f. absurd (true≢false (sym (ap (λ i. searchLocal s x i [] c .found) q ∙ found) ∙ f .0)))
         (offer-cases s x best (searchLocal s x (lengthLeft (suc l) best) [] c) e _ refl)
 
-    loop-finds : (m : ℕ) → Location s x [] m c → calculateBestPathLocal s x rowOf (suc l) [] (Mod m) .found ≡ true
+    loop-finds : (m : ℕ) → Location s x [] m c → calculateBestPathLocal s x rowOf (suc l) [] (moduleItem m) .found ≡ true
     unfolding calculateBestPathLocal imports
     loop-finds m at =
-        each-finds rowOf (suc l) [] (Mod m) [] nothing _ c (at .taken) (λ done best. location-finds _ best (importableName s x (Mod m) c) (at .entry) _ refl)
+        each-finds rowOf (suc l) [] (moduleItem m) [] nothing _ c (at .taken) (λ done best. location-finds _ best (importableName s x (moduleItem m) c) (at .entry) _ refl)
 
   rule-found : (rec : LocalSearch) (left : ℕ) (ls : List Level) (m : ℕ) (c : Choice) (f : Bool) → c .found ≡ f → f ≡ true → orLocal s x rec left ls m c f .found ≡ true
   unfolding orLocal
@@ -150,6 +149,6 @@ module _ (s : Snapshot) (x : FindPathCtx) where
       (near-cases s x [] l m (d .reached))
 
   -- The local search for a module without a rule's answer is the module search.
-  pub best-module : (l m : ℕ) → ruled s x m ≡ false → bestLocal s x (suc l) (Mod m) ≡ searchLocal s x (suc l) [] m
+  pub best-module : (l m : ℕ) → ruled s x m ≡ false → bestLocal s x (suc l) (moduleItem m) ≡ searchLocal s x (suc l) [] m
   unfolding bestLocal findPathForModuleLocal orLocal
   best-module l m r = sym (local-more s x (suc l) [] m ∙ rw r)

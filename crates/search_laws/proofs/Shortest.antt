@@ -9,7 +9,7 @@ use lib.Dec.{leb}
 use borrow.Author.Tests.{le-leb, leb-true}
 use Rattle.snapshot.specs.Lists.{any}
 use Rattle.snapshot.specs.Records.{Snapshot}
-use Rattle.hir_def.specs.declared.Item.the-variants.{Mod}
+use Rattle.hir_def.specs.Items.{moduleItem}
 use Rattle.find_path.specs.declared.FindPathCtx.{FindPathCtx}
 use Rattle.find_path.specs.Choices.{nothing, pathLen, lengthLeft, push}
 use Rattle.find_path.specs.Rules.{moduleRules}
@@ -159,10 +159,10 @@ module _ (s : Snapshot) (x : FindPathCtx) where
 
       floor-step : (done : List ℕ) (best : Choice) (c : ℕ) → has done c ≡ false → has (locations s x [] m) c ≡ true
           → FloorIf done best
-          → FloorIf (done ++ (c ∷ [])) (location s x rec (suc l) (record { item = Mod m; modules = done ++ (c ∷ []) } ∷ ls) best c (importableName s x (Mod m) c))
+          → FloorIf (done ++ (c ∷ [])) (location s x rec (suc l) (record { item = moduleItem m; modules = done ++ (c ∷ []) } ∷ ls) best c (importableName s x (moduleItem m) c))
       unfolding imports push
       floor-step done best c new in′ k =
-          location-by s x (FloorIf done) rec (suc l) _ best c (importableName s x (Mod m) c) k
+          location-by s x (FloorIf done) rec (suc l) _ best c (importableName s x (moduleItem m) c) k
           (λ e i f.
           let at : Location s x [] m c = record { taken = in′; entry = ap isSome i } in
           let less : lengthLeft (suc l) best < suc l = length-falls (suc l) best (omega arith) in
@@ -172,10 +172,10 @@ module _ (s : Snapshot) (x : FindPathCtx) where
           select-by s x (FloorIf done) best _ (e .name) _ (λ _ _. rw extended-len (omega arith))
           (λ _ _ _. rw extended-len (omega arith)) (λ z _ _. k z))
 
-      loop-floor : calculateBestPathLocal s x rec (suc l) ls (Mod m) .found ≡ true → L m + shift s x ≤ pathLen (calculateBestPathLocal s x rec (suc l) ls (Mod m))
+      loop-floor : calculateBestPathLocal s x rec (suc l) ls (moduleItem m) .found ≡ true → L m + shift s x ≤ pathLen (calculateBestPathLocal s x rec (suc l) ls (moduleItem m))
       unfolding calculateBestPathLocal
       loop-floor f =
-          each-by s x FloorIf rec (suc l) ls (Mod m) _ [] nothing _ floor-step (fewer-locations s x ls m) (locations-once s (x .from .0) _) (λ o. absurd (false≢true o)) f
+          each-by s x FloorIf rec (suc l) ls (moduleItem m) _ [] nothing _ floor-step (fewer-locations s x ls m) (locations-once s (x .from .0) _) (λ o. absurd (false≢true o)) f
 
     or-floor : (rec : LocalSearch) → Sound s x rec → Floored rec → (l : ℕ) → suc l ≤ most → (ls : List Level) (m : ℕ) → E m → (f : Bool) → ruled s x m ≡ f
         → orLocal s x rec (suc l) ls m (moduleRules s x false m) f .found ≡ true

@@ -8,8 +8,7 @@ use mathlib.Core.Bool.{true, false, _&&_, false≢true}
 use mathlib.Core.Logic.{_⊎_, inl, inr, ⊎-elim}
 use Rattle.snapshot.specs.Lists.{any}
 use Rattle.snapshot.specs.Records.{Snapshot}
-use Rattle.hir_def.specs.Items.{sameItem}
-use Rattle.hir_def.specs.declared.Item.the-variants.{Mod}
+use Rattle.hir_def.specs.Items.{sameItem, moduleItem}
 use Rattle.find_path.specs.declared.FindPathCtx.{FindPathCtx}
 use Rattle.find_path.specs.Choices.{nothing}
 use Rattle.find_path.specs.Walk.{Level, has, visited, findLocalImportLocations}
@@ -20,11 +19,11 @@ use Rattle.search_laws.proofs.Near.{Location, near-rule, near-step, nea
 use Rattle.search_laws.proofs.Frames.{levels-frame}
 
 -- levels without the item have visited nothing for it
-off-unvisited : (ls : List Level) (m c : ℕ) → isOn ls m ≡ false → visited ls (Mod m) c ≡ false
+off-unvisited : (ls : List Level) (m c : ℕ) → isOn ls m ≡ false → visited ls (moduleItem m) c ≡ false
 unfolding isOn visited any
 off-unvisited [] m c e = refl
 off-unvisited (l ∷ ls) m c e =
-    let (a, b) = or-both (sameItem (l .item) (Mod m)) _ e in
+    let (a, b) = or-both (sameItem (l .item) (moduleItem m)) _ e in
     or-none _ _ (ap (λ t. t && has (l .modules) c) a) (off-unvisited ls m c b)
 
 module _ (s : Snapshot) (x : FindPathCtx) where

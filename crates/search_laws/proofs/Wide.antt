@@ -10,8 +10,7 @@ use lib.Dec.{eqb, ltb, isEq, isLe}
 use borrow.Author.Tests.{ne-eqb, eqb-true, eqb-false, le-leb, lt-leb}
 use Rattle.snapshot.specs.Lists.{any}
 use Rattle.snapshot.specs.Records.{Snapshot, Scope}
-use Rattle.hir_def.specs.Items.{sameItem}
-use Rattle.hir_def.specs.declared.Item.the-variants.{Mod}
+use Rattle.hir_def.specs.Items.{sameItem, moduleItem}
 use Rattle.path_choices.specs.declared.Choice.{Choice}
 use Rattle.find_path.specs.declared.FindPathCtx.{FindPathCtx}
 use Rattle.find_path.specs.Choices.{viaLocal, stepBy, isPrelude, nameLen, nothing, pathLen, shorterIf, lengthLeft, compareBool, andThen, comparePrelude, taken, better, extended, push}
@@ -87,11 +86,11 @@ module _ (s : Snapshot) (x : FindPathCtx) where
 
     -- One location in the loop for m, with the best choice a before it.
     module _ (l : ℕ) (hl : suc l ≤ most) (ls : List Level) (m : ℕ) (w : E m) (r : ruled s x m ≡ false) (done : List ℕ) (a : Choice) (c : ℕ) (e : Scope)
-        (new : has done c ≡ false) (at : Location s x [] m c) (i : importableName s x (Mod m) c ≡ some e)
+        (new : has done c ≡ false) (at : Location s x [] m c) (i : importableName s x (moduleItem m) c ≡ some e)
         (kept : a .found ≡ true → (n : ℕ) × (has done n ≡ true) × Location s x [] m n × Reached s x most n × (a .«has_prelude_segment» ≡ v m))
         (sized : a .found ≡ true → Sized s x (suc l) m a) where
       abbrev got : Choice
-      got = searchLocal s x (lengthLeft (suc l) a) (record { item = Mod m; modules = done ++ (c ∷ []) } ∷ ls) c
+      got = searchLocal s x (lengthLeft (suc l) a) (record { item = moduleItem m; modules = done ++ (c ∷ []) } ∷ ls) c
 
       got-left : lengthLeft (suc l) a ≤ most
       got-left = let less : lengthLeft (suc l) a < suc l = length-falls (suc l) a (omega arith) in omega arith
@@ -170,7 +169,7 @@ module _ (s : Snapshot) (x : FindPathCtx) where
     abbrev pub Clear : List Level → ℕ → Type 0
     Clear ls m = (n : ℕ) → E n → ruled s x n ≡ false → isOn ls n ≡ true → L m < L n
 
-    clear-put : (ls : List Level) (m c : ℕ) (done : List ℕ) → L m ≡ suc (L c) → Clear ls m → Clear (record { item = Mod m; modules = done } ∷ ls) c
+    clear-put : (ls : List Level) (m c : ℕ) (done : List ℕ) → L m ≡ suc (L c) → Clear ls m → Clear (record { item = moduleItem m; modules = done } ∷ ls) c
     unfolding isOn any sameItem
     clear-put ls m c done k h n w r o =
         ⊎-elim (λ q. let z = ap L (eqb-true m n q) in omega arith) (λ q. let z = h n w r q in omega arith) (either (eqb m n) (isOn ls n) o)
@@ -197,7 +196,7 @@ module _ (s : Snapshot) (x : FindPathCtx) where
       abbrev KeptIf : List ℕ → Choice → Type 0
       KeptIf done a = a .found ≡ true → (n : ℕ) × (has done n ≡ true) × Location s x [] m n × Reached s x most n × (a .«has_prelude_segment» ≡ v m)
 
-      module _ (done : List ℕ) (a a′ : Choice) (c : ℕ) (e : Scope) (new : has done c ≡ false) (at : Location s x [] m c) (i : importableName s x (Mod m) c ≡ some e)
+      module _ (done : List ℕ) (a a′ : Choice) (c : ℕ) (e : Scope) (new : has done c ≡ false) (at : Location s x [] m c) (i : importableName s x (moduleItem m) c ≡ some e)
           (kept : KeptIf done a) (kept′ : KeptIf done a′) (sized : a .found ≡ true → Sized s x (suc l) m a) (sized′ : a′ .found ≡ true → Sized s x (suc l′) m a′) where
         abbrev q : Choice
         q = got l (omega arith) ls m w r done a c e new at i kept sized
@@ -315,10 +314,10 @@ module _ (s : Snapshot) (x : FindPathCtx) where
           KeptIf done a × KeptIf done a′ × (a .found ≡ true → Sized s x (suc l) m a) × (a′ .found ≡ true → Sized s x (suc l′) m a′) × State done a a′
 
       abbrev put : List ℕ → ℕ → List Level → List Level
-      put done c lv = record { item = Mod m; modules = done ++ (c ∷ []) } ∷ lv
+      put done c lv = record { item = moduleItem m; modules = done ++ (c ∷ []) } ∷ lv
 
       state-step : (done : List ℕ) (a a′ : Choice) (c : ℕ) → has done c ≡ false → has (locations s x [] m) c ≡ true
-          → Both done a a′ → (o : Option Scope) → importableName s x (Mod m) c ≡ o
+          → Both done a a′ → (o : Option Scope) → importableName s x (moduleItem m) c ≡ o
           → State (done ++ (c ∷ [])) (location s x (searchLocal s x) (suc l) (put done c ls) a c o) (location s x (searchLocal s x) (suc l′) (put done c ls′) a′ c o)
       unfolding location imports
       state-step done a a′ c new in′ (kept, kept′, sized, sized′, st) none i =
@@ -327,7 +326,7 @@ module _ (s : Snapshot) (x : FindPathCtx) where
             d,
             d′,
             λ g g′. has-snoc done c goal ∙ or-none _ _ (op g g′)
-                (ne-eqb goal c (λ z. absurd (true≢false (sym (short .attained m w r reached .1 .entry) ∙ ap (λ y. isSome (importableName s x (Mod m) y)) z ∙ ap isSome i)))),
+                (ne-eqb goal c (λ z. absurd (true≢false (sym (short .attained m w r reached .1 .entry) ∙ ap (λ y. isSome (importableName s x (moduleItem m) y)) z ∙ ap isSome i)))),
           ))
           st
       state-step done a a′ c new in′ (kept, kept′, sized, sized′, st) (some e) i =
@@ -335,21 +334,21 @@ module _ (s : Snapshot) (x : FindPathCtx) where
 
       both-step : (done : List ℕ) (a a′ : Choice) (c : ℕ) → has done c ≡ false → has (locations s x [] m) c ≡ true
           → Both done a a′
-          → Both (done ++ (c ∷ [])) (location s x (searchLocal s x) (suc l) (put done c ls) a c (importableName s x (Mod m) c))
-          (location s x (searchLocal s x) (suc l′) (put done c ls′) a′ c (importableName s x (Mod m) c))
+          → Both (done ++ (c ∷ [])) (location s x (searchLocal s x) (suc l) (put done c ls) a c (importableName s x (moduleItem m) c))
+          (location s x (searchLocal s x) (suc l′) (put done c ls′) a′ c (importableName s x (moduleItem m) c))
       both-step done a a′ c new in′ p = (
         kept-step s x most E v even (searchLocal s x) (found-near s x) (even-flag s x most E v even) l (omega arith) ls m w r done a c new in′ (p .0),
         kept-step s x most E v even (searchLocal s x) (found-near s x) (even-flag s x most E v even) l′ (omega arith) ls′ m w r done a′ c new in′ (p .1),
         sized-step s x (searchLocal s x) (length-near s x) l ls m done a c new in′ (p .2),
         sized-step s x (searchLocal s x) (length-near s x) l′ ls′ m done a′ c new in′ (p .3),
-        state-step done a a′ c new in′ p (importableName s x (Mod m) c) refl,
+        state-step done a a′ c new in′ p (importableName s x (moduleItem m) c) refl,
       )
 
       loops : Both (locations s x [] m)
-          (eachLocation s x (searchLocal s x) (suc l) ls (Mod m) [] nothing (locations s x [] m))
-          (eachLocation s x (searchLocal s x) (suc l′) ls′ (Mod m) [] nothing (locations s x [] m))
+          (eachLocation s x (searchLocal s x) (suc l) ls (moduleItem m) [] nothing (locations s x [] m))
+          (eachLocation s x (searchLocal s x) (suc l′) ls′ (moduleItem m) [] nothing (locations s x [] m))
       loops =
-          pair-by s x Both (searchLocal s x) (suc l) (suc l′) ls ls′ (Mod m) _ [] nothing nothing _ both-step (λ _ h. h) (locations-once s (x .from .0) _) (
+          pair-by s x Both (searchLocal s x) (suc l) (suc l′) ls ls′ (moduleItem m) _ [] nothing nothing _ both-step (λ _ h. h) (locations-once s (x .from .0) _) (
             (λ f. absurd (false≢true f)),
             (λ f. absurd (false≢true f)),
             (λ f. absurd (false≢true f)),
@@ -358,7 +357,7 @@ module _ (s : Snapshot) (x : FindPathCtx) where
           )
 
       abbrev endOf : ℕ → List Level → Choice
-      endOf left lv = eachLocation s x (searchLocal s x) left lv (Mod m) [] nothing (locations s x [] m)
+      endOf left lv = eachLocation s x (searchLocal s x) left lv (moduleItem m) [] nothing (locations s x [] m)
 
       -- a choice behind is too long for the length left
       too-long : (j : ℕ) (z : Choice) → suc j ≤ L m → Behind m z → (z .found ≡ true → Sized s x (suc j) m z) → z .found ≡ false
@@ -388,15 +387,15 @@ module _ (s : Snapshot) (x : FindPathCtx) where
         by false h = absurd (false≢true h)
 
     by-loop : (l : ℕ) (ls : List Level) (m : ℕ) → E m → Clear ls m → ruled s x m ≡ false
-        → searchLocal s x (suc l) ls m ≡ eachLocation s x (searchLocal s x) (suc l) ls (Mod m) [] nothing (locations s x [] m)
+        → searchLocal s x (suc l) ls m ≡ eachLocation s x (searchLocal s x) (suc l) ls (moduleItem m) [] nothing (locations s x [] m)
     unfolding findPathForModuleLocal visited any
     by-loop l ls m w clear f =
         local-more s x (suc l) ls m ∙ by (ruled s x m) f
-        ∙ ap (eachLocation s x (searchLocal s x) (suc l) ls (Mod m) [] nothing)
+        ∙ ap (eachLocation s x (searchLocal s x) (suc l) ls (moduleItem m) [] nothing)
         (walk-off s x ls m (refuted _ (λ o. let z = clear m w f o in omega arith)))
       where
         by : (b : Bool) → b ≡ false → orLocal s x (searchLocal s x) (suc l) ls m (moduleRules s x false m) b
-            ≡ eachLocation s x (searchLocal s x) (suc l) ls (Mod m) [] nothing (locations s x ls m)
+            ≡ eachLocation s x (searchLocal s x) (suc l) ls (moduleItem m) [] nothing (locations s x ls m)
         by true h = absurd (true≢false h)
         by false h = unfold orLocal calculateBestPathLocal in refl
 

@@ -5,8 +5,7 @@ use mathlib.Core.Bool.{Bool, true, false, _&&_, _||_}
 use mathlib.Core.Option.{Option, none, some}
 use Rattle.snapshot.specs.Lists.{any}
 use Rattle.snapshot.specs.Records.{Snapshot, Scope}
-use Rattle.hir_def.specs.Items.{sameItem}
-use Rattle.hir_def.specs.declared.Item.the-variants.{Mod}
+use Rattle.hir_def.specs.Items.{sameItem, moduleItem}
 use Rattle.path_choices.specs.declared.Choice.{Choice}
 use Rattle.find_path.specs.declared.FindPathCtx.{FindPathCtx}
 use Rattle.find_path.specs.Walk.{Level, visited, findLocalImportLocations}
@@ -19,7 +18,7 @@ isSome (some a) = true
 
 -- a local search for the module is under way
 unfoldable pub isOn : List Level → ℕ → Bool
-isOn ls m = any (λ l. sameItem (l .item) (Mod m)) ls
+isOn ls m = any (λ l. sameItem (l .item) (moduleItem m)) ls
 
 module _ (s : Snapshot) (x : FindPathCtx) where
   -- a rule answers for the module
@@ -28,11 +27,11 @@ module _ (s : Snapshot) (x : FindPathCtx) where
 
   -- the modules that a local search for the module takes
   abbrev pub locations : List Level → ℕ → List ℕ
-  locations ls m = findLocalImportLocations s (x .from .0) (visited ls (Mod m))
+  locations ls m = findLocalImportLocations s (x .from .0) (visited ls (moduleItem m))
 
   -- the viewer can import the module m from the module c
   unfoldable pub imports : ℕ → ℕ → Bool
-  imports m c = isSome (importableName s x (Mod m) c)
+  imports m c = isSome (importableName s x (moduleItem m) c)
 
   -- a rule answers for the module, or for one that it can be imported from in fewer steps
   unfoldable pub near : List Level → ℕ → ℕ → Bool
