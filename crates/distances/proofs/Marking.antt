@@ -21,10 +21,9 @@ use Rattle.accept.specs.Post.{Reads}
 use Rattle.accept.specs.Stands.{countsIn}
 use Rattle.accept.specs.Valid.{Each, more, ScopeFits, PreludeFits}
 use Rattle.accept.proofs.Accepted.{by-test}
-use Rattle.hir_def.specs.Items.{crateRoot, itemOf, parentOf, crateOf, inBlock, blockOf, rootOf, mapNo}
+use Rattle.hir_def.specs.Items.{crateRoot, itemOf, parentOf, crateOf, inBlock, blockOf, rootOf, mapNo, moduleItem, definedItem}
 use Rattle.hir_def.specs.Nameres.{steps, stepsOr, ancestorMaps, preludeOf}
 use Rattle.hir_def.specs.declared.Item.{Item}
-use Rattle.hir_def.specs.declared.Item.the-variants.{Mod, Def}
 use Rattle.accept.proofs.Trees.{accepted-tree}
 use Rattle.hir_def.proofs.Laws.{Falls, steps-more}
 use Rattle.hir_def.proofs.Chains.{parent-fits, block-falls}
@@ -33,7 +32,7 @@ use Rattle.hir_def.proofs.Reading.{length-modules}
 use Rattle.hir_def.specs.Entries.{Known}
 use Rattle.find_path.specs.declared.FindPathCtx.{FindPathCtx}
 use Rattle.find_path.specs.Choices.{nothing}
-use Rattle.find_path.specs.Rules.{mayBeInScope, parentKind, isKwKindRelativeToFrom, keywordOf}
+use Rattle.find_path.specs.Rules.{moduleIn, mayBeInScope, parentKind, isKwKindRelativeToFrom, keywordOf}
 use Rattle.find_path.proofs.Tables.{same-snap, same-reads}
 use Rattle.distances.specs.Distances.{distance, Named, isKeyword}
 use Rattle.distances.specs.Post.{Ready, Rooted, Marked, Lowers}
@@ -76,24 +75,25 @@ module _ (W A : List ℕ) (l : Layout) (c h : ℕ) where
   unfolding Named
   entry-other p n m q r = absurd (n (p ∙ q))
 
-  pub mod-not-def : {m ns d : ℕ} → Def ns d ≡ Mod m → ⊥
+  pub mod-not-def : {m ns d : ℕ} → definedItem ns d ≡ moduleItem m → ⊥
   mod-not-def z = let w : _≡_ {A = ℕ} 0 1 = cc in omega arith
 
-  pub mod-same : {m n : ℕ} → Mod m ≡ Mod n → m ≡ n
-  mod-same z = cc
+  pub mod-same : {m n : ℕ} → moduleItem m ≡ moduleItem n → m ≡ n
+  unfolding moduleIn
+  mod-same z = let w = ap moduleIn z in omega (arith, w)
 
   module _ {i : Item} {ns d : ℕ} (q : i ≡ itemOf S ns d) (en : ns ≡ e .ns) (ed : d ≡ e .definition) where
     pub entry-item : i ≡ itemOf S (e .ns) (e .definition)
     entry-item = rw (← en, ← ed) q
 
-    pub entry-plain : {a b : ℕ} → i ≡ Def a b → Named S (distance A) c e
+    pub entry-plain : {a b : ℕ} → i ≡ definedItem a b → Named S (distance A) c e
     unfolding Named
     entry-plain t m p z = absurd (mod-not-def (sym t ∙ entry-item ∙ z))
 
-    pub entry-below : Reads W A l → ScopeFits (countsIn l) e → {m : ℕ} → i ≡ Mod m → m < l .modules
+    pub entry-below : Reads W A l → ScopeFits (countsIn l) e → {m : ℕ} → i ≡ moduleItem m → m < l .modules
     entry-below r f t = subst (Known l) (sym entry-item ∙ t) (item-known W A l r (e .ns) (e .definition) (f .definition))
 
-    pub entry-marked : (B : List ℕ) {m : ℕ} → i ≡ Mod m → distance B m ≤ 1 → Named S (distance B) c e
+    pub entry-marked : (B : List ℕ) {m : ℕ} → i ≡ moduleItem m → distance B m ≤ 1 → Named S (distance B) c e
     unfolding Named
     entry-marked B t h m p z = subst (λ k. distance B k ≤ 1) (mod-same (sym t ∙ entry-item ∙ z)) h
 

@@ -13,18 +13,17 @@ use Rattle.accept.specs.Valid.{Each, more}
 use Rattle.accept.proofs.Accepted.{by-test}
 use Rattle.accept.proofs.Bools.{and-left, and-two, each-map}
 use Rattle.hir_def.specs.Finds.{firstOf, firstSome, orFirst}
-use Rattle.hir_def.specs.Items.{mapNo, crateRoot, itemOf, sameItem}
+use Rattle.hir_def.specs.Items.{mapNo, crateRoot, itemOf, sameItem, moduleItem}
 use Rattle.hir_def.specs.ItemScope.{counts, isFor, nameOf, namesOf, isFresh, preferred}
 use Rattle.hir_def.specs.Nameres.{entryIn, ancestorMaps, scopeEntry, preludeOf}
 use Rattle.hir_def.specs.declared.Item.{Item}
-use Rattle.hir_def.specs.declared.Item.the-variants.{Mod, Def}
 use Rattle.hir_def.proofs.Fresh.{preferred-has}
 use Rattle.path_choices.specs.declared.Choice.{Choice}
 use Rattle.find_path.specs.declared.FindPathCtx.{FindPathCtx}
 use Rattle.find_path.specs.Choices.{nothing}
 use Rattle.find_path.specs.Rules.{firstFound, single, findInScope, mayBeInScope, scopeRule, isUsable, preludeEntry, inPrelude, findInPrelude, preludeRule, rootRule, keywordOf, isKwKindRelativeToFrom, moduleRules}
 use Rattle.find_path.specs.Local.{isImportable, entryIf, importableName}
-use Rattle.find_path.proofs.Routes.{same-item}
+use Rattle.read_back.proofs.Exact.{same-item}
 use Rattle.search_laws.specs.Near.{isSome, ruled, imports, near}
 use Rattle.search_laws.proofs.Near.{Location, near-cases}
 use Rattle.distances.specs.Distances.{Bounds, Named, Stepped, isKeyword, Closed}
@@ -53,24 +52,24 @@ module _ (s : Snapshot) (x : FindPathCtx) where
   -- an entry that a lookup for a module in the module a gives
   module _ (P : Scope → Type 0) (all : Each P (s .scopes)) (a m : ℕ) where
     abbrev For : Scope → Type 0
-    For e = P e × (e .owner ≡ a) × (itemOf s (e .ns) (e .definition) ≡ Mod m)
+    For e = P e × (e .owner ≡ a) × (itemOf s (e .ns) (e .definition) ≡ moduleItem m)
 
-    for-both : (e : Scope) → P e → isFor s a (Mod m) e ≡ true → For e
+    for-both : (e : Scope) → P e → isFor s a (moduleItem m) e ≡ true → For e
     unfolding isFor
     for-both e q t = let f = and-two (eqb (e .owner) a) _ t in (q, eqb-true _ _ (f .0), same-item _ _ (f .1))
 
-    name-for : (e : Scope) → nameOf s a (Mod m) ≡ some e → For e
+    name-for : (e : Scope) → nameOf s a (moduleItem m) ≡ some e → For e
     unfolding nameOf
     name-for e h = let f = first-each _ e all h in for-both e (f .0) (f .1)
 
-    names-for : (p : Scope → Bool) (e : Scope) → namesOf s a (Mod m) p ≡ some e → For e
+    names-for : (p : Scope → Bool) (e : Scope) → namesOf s a (moduleItem m) p ≡ some e → For e
     unfolding namesOf
     names-for p e h = let f = first-each _ e all h in for-both e (f .0) (and-left _ _ (f .1))
 
-    preferred-for : (b : Bool) (p : Scope → Bool) (old : Option Scope) (e : Scope) → (old ≡ some e → For e) → preferred b s a (Mod m) p old ≡ some e → For e
-    preferred-for b p old e f h = preferred-has s a (Mod m) p old 0 For b e (names-for (isFresh p) e) f h
+    preferred-for : (b : Bool) (p : Scope → Bool) (old : Option Scope) (e : Scope) → (old ≡ some e → For e) → preferred b s a (moduleItem m) p old ≡ some e → For e
+    preferred-for b p old e f h = preferred-has s a (moduleItem m) p old 0 For b e (names-for (isFresh p) e) f h
 
-    entry-for : (b fresh : Bool) (e : Scope) → entryIn s (Mod m) b fresh a ≡ some e → For e
+    entry-for : (b fresh : Bool) (e : Scope) → entryIn s (moduleItem m) b fresh a ≡ some e → For e
     entry-for b fresh e h = preferred-for fresh (counts b) _ e (names-for (counts b) e) h
 
   -- a rule that answers
@@ -96,12 +95,12 @@ module _ (s : Snapshot) (x : FindPathCtx) where
   unfolding rootRule
   root-found m h = ⊎-elim (λ f. eqb-true _ _ (f .0)) (λ f. absurd (false≢true (f .1))) (either-found (eqb (crateRoot s m) m) _ nothing h)
 
-  scope-found : (m : ℕ) → scopeRule s x (Mod m) .found ≡ true → (mayBeInScope s x ≡ true) × ((e : Scope) × (findInScope s x (Mod m) ≡ some e))
+  scope-found : (m : ℕ) → scopeRule s x (moduleItem m) .found ≡ true → (mayBeInScope s x ≡ true) × ((e : Scope) × (findInScope s x (moduleItem m) ≡ some e))
   unfolding scopeRule
   scope-found m h =
       ⊎-elim (λ f. (f .0, single-some _ _ _ (f .1))) (λ f. absurd (false≢true (f .1))) (either-found (mayBeInScope s x) _ nothing h)
 
-  prelude-found : (m : ℕ) → preludeRule s x (Mod m) .found ≡ true → (e : Scope) × (findInPrelude s x (Mod m) ≡ some e)
+  prelude-found : (m : ℕ) → preludeRule s x (moduleItem m) .found ≡ true → (e : Scope) × (findInPrelude s x (moduleItem m) ≡ some e)
   unfolding preludeRule
   prelude-found m h = single-some _ _ _ h
 
@@ -123,18 +122,18 @@ module _ (s : Snapshot) (x : FindPathCtx) where
       (f .1, ap (isImportable s x) (sym same) ∙ f .0)
 
   module _ (n : ℕ) (d : ℕ → ℕ) (c : Closed s x n d) (owners : Each (λ e. e .owner < n) (s .scopes)) where
-    in-scope : (m : ℕ) (e : Scope) → mayBeInScope s x ≡ true → findInScope s x (Mod m) ≡ some e → d m ≤ 1
+    in-scope : (m : ℕ) (e : Scope) → mayBeInScope s x ≡ true → findInScope s x (moduleItem m) ≡ some e → d m ≤ 1
     unfolding findInScope scopeEntry Named
     in-scope m e t h =
-        some-each (entryIn s (Mod m) (x .«ignore_local_imports») (x .fresh)) e
+        some-each (entryIn s (moduleItem m) (x .«ignore_local_imports») (x .fresh)) e
         (λ a all k. let f = entry-for (Named s d a) all a m (x .«ignore_local_imports») (x .fresh) e k in f .0 m (f .1) (f .2)) (c .rules .scope t) h
 
-    in-prelude : (m : ℕ) (e : Scope) (o : Option Prelude) → preludeOf s (mapNo s (x .from .0)) ≡ o → inPrelude s x (Mod m) o ≡ some e → d m ≤ 1
+    in-prelude : (m : ℕ) (e : Scope) (o : Option Prelude) → preludeOf s (mapNo s (x .from .0)) ≡ o → inPrelude s x (moduleItem m) o ≡ some e → d m ≤ 1
     unfolding inPrelude Named
     in-prelude m e none q h = let z : _≡_ {A = ℕ} 0 1 = cc in absurd (omega arith)
     in-prelude m e (some p) q h =
         let all = c .rules .prelude p q in
-        let f = preferred-for (Named s d (p .target)) all (p .target) m (x .fresh) _ _ e (name-for (Named s d (p .target)) all (p .target) m e) (prelude-some (Mod m) _ e h) in
+        let f = preferred-for (Named s d (p .target)) all (p .target) m (x .fresh) _ _ e (name-for (Named s d (p .target)) all (p .target) m e) (prelude-some (moduleItem m) _ e h) in
         f .0 m (f .1) (f .2)
 
     -- where a rule answers
@@ -156,7 +155,7 @@ module _ (s : Snapshot) (x : FindPathCtx) where
     import-step : (m a : ℕ) → imports s x m a ≡ true → (a < n) × (d m ≤ d a + 1)
     unfolding imports importableName Stepped
     import-step m a h =
-        let (e, k) = some-is (importableName s x (Mod m) a) h in
+        let (e, k) = some-is (importableName s x (moduleItem m) a) h in
         let P : Scope → Type 0 = λ e. Stepped s x d e × (e .owner < n) in
         let all : Each P (s .scopes) = both (c .steps) owners in
         let g = import-some _ e k in

@@ -21,9 +21,8 @@ use Rattle.accept.proofs.Valid.{accepted-valid}
 use Rattle.accept.proofs.Bools.{each-map}
 use Rattle.accept.proofs.Reading.{ranges-read}
 use Rattle.hir_def.specs.Entries.{Known}
-use Rattle.hir_def.specs.Items.{itemOf}
+use Rattle.hir_def.specs.Items.{itemOf, moduleItem, definedItem}
 use Rattle.hir_def.specs.declared.Item.{Item}
-use Rattle.hir_def.specs.declared.Item.the-variants.{Mod, Def}
 use Rattle.hir_def.proofs.Fits.{item-known}
 use Rattle.find_path.specs.declared.FindPathCtx.{FindPathCtx}
 use Rattle.find_path.specs.Local.{isImportable}
@@ -62,12 +61,12 @@ module _ (W A : List ℕ) (l : Layout) (x : FindPathCtx) (h : ℕ) where
         let a = far m b in let z = owner-number in omega arith)
 
     module _ {i : Item} {ns d : ℕ} (q : i ≡ itemOf S ns d) (en : ns ≡ e .ns) (ed : d ≡ e .definition) where
-      pub step-plain : {a b : ℕ} → i ≡ Def a b → Passed A Now A false
+      pub step-plain : {a b : ℕ} → i ≡ definedItem a b → Passed A Now A false
       unfolding Stepped
       step-plain t = passed-none A Now (λ m p j. absurd (mod-not-def W A l 0 h (sym t ∙ entry-item W A l 0 h q en ed ∙ p)))
 
-      module _ {m : ℕ} (t : i ≡ Mod m) where
-        same-module : {n : ℕ} → itemOf S (e .ns) (e .definition) ≡ Mod n → m ≡ n
+      module _ {m : ℕ} (t : i ≡ moduleItem m) where
+        same-module : {n : ℕ} → itemOf S (e .ns) (e .definition) ≡ moduleItem n → m ≡ n
         same-module p = mod-same W A l 0 h (sym t ∙ entry-item W A l 0 h q en ed ∙ p)
 
         pub step-low : {v : ℕ} → v ≡ distance A m → v ≤ w + 1 → Passed A Now A false

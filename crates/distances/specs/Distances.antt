@@ -8,9 +8,8 @@ use lib.ListN.{getD}
 use Rattle.snapshot.specs.Records.{Snapshot, Scope, Prelude}
 use Rattle.snapshot.specs.Layouts.{tableWords}
 use Rattle.accept.specs.Valid.{Each}
-use Rattle.hir_def.specs.Items.{mapNo, crateRoot, itemOf}
+use Rattle.hir_def.specs.Items.{mapNo, crateRoot, itemOf, moduleItem}
 use Rattle.hir_def.specs.Nameres.{ancestorMaps, preludeOf}
-use Rattle.hir_def.specs.declared.Item.the-variants.{Mod}
 use Rattle.find_path.specs.declared.FindPathCtx.{FindPathCtx}
 use Rattle.find_path.specs.Rules.{mayBeInScope, isKwKindRelativeToFrom, keywordOf}
 use Rattle.find_path.specs.Local.{isImportable}
@@ -30,11 +29,11 @@ Bounds s x n d = (k m : ℕ) → m < n → near s x [] k m ≡ true → d m ≤ 
 
 -- an entry of the module c for a module: this one's number is at most 1
 unfoldable pub Named : Snapshot → (ℕ → ℕ) → ℕ → Scope → Type 0
-Named s d c e = (m : ℕ) → e .owner ≡ c → itemOf s (e .ns) (e .definition) ≡ Mod m → d m ≤ 1
+Named s d c e = (m : ℕ) → e .owner ≡ c → itemOf s (e .ns) (e .definition) ≡ moduleItem m → d m ≤ 1
 
 -- an entry for a module by which the viewer can import it: its number is at most one more than that of the entry's module
 unfoldable pub Stepped : Snapshot → FindPathCtx → (ℕ → ℕ) → Scope → Type 0
-Stepped s x d e = (m : ℕ) → itemOf s (e .ns) (e .definition) ≡ Mod m → isImportable s x e ≡ true → d m ≤ d (e .owner) + 1
+Stepped s x d e = (m : ℕ) → itemOf s (e .ns) (e .definition) ≡ moduleItem m → isImportable s x e ≡ true → d m ≤ d (e .owner) + 1
 
 abbrev pub isKeyword : Snapshot → FindPathCtx → ℕ → Bool
 isKeyword s x m = keywordOf s x (isKwKindRelativeToFrom s x m) .found

@@ -99,7 +99,7 @@ fn mark_entry(words: &[u32], area: &mut [u32], l: Layout, c: ModuleId, h: usize)
     let Item::Mod(m) = item else {
         return;
     };
-    mark(area, ModuleId(m));
+    mark(area, m);
 }
 
 // The modules of the entries of c.
@@ -181,7 +181,7 @@ fn relax_entry(words: &[u32], area: &mut [u32], l: Layout, x: FindPathCtx, h: us
     let Item::Mod(m) = item else {
         return false;
     };
-    let at = Distances::AT + m;
+    let at = Distances::AT + m.0;
     if word(area, at) <= d {
         return false;
     }

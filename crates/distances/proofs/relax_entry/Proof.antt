@@ -89,7 +89,7 @@ returns-2 c =
 -- src/lib.rt:184:14
 add-at : tie.Need-add-at
 add-at c =
-    let t = c .before in
+    let t = c .before .before in
     let i = t .before .before in
     let w = i .before .before .before .before in
     let o = w .before .before .before in
@@ -112,7 +112,7 @@ same-length-3 c = search needs
 returns-3 : tie.Need-returns-3
 returns-3 c =
     let v = c .before in
-    let t = v .before .before .before in
+    let t = v .before .before .before .before in
     let i = t .before .before in
     let w = i .before .before .before .before in
     let o = w .before .before .before in
@@ -135,7 +135,7 @@ returns-4 : tie.Need-returns-4
 returns-4 c =
     let p = c .before in
     let v = p .before .before .before in
-    let t = v .before .before .before in
+    let t = v .before .before .before .before in
     let i = t .before .before in
     let w = i .before .before .before .before in
     let o = w .before .before .before in
@@ -152,7 +152,7 @@ cast-area c = search needs
 -- src/lib.rt:191:5
 mul-area : tie.Need-mul-area
 mul-area c =
-    let t = c .before .before .before .before .before .before .before in
+    let t = c .before .before .before .before .before .before .before .before in
     let i = t .before .before in
     let w = i .before .before .before .before in
     let o = w .before .before .before in
@@ -166,7 +166,7 @@ mul-area c =
 -- src/lib.rt:191:5
 slice-write-area : tie.Need-slice-write-area
 slice-write-area c =
-    let t = c .before .before .before .before .before .before .before in
+    let t = c .before .before .before .before .before .before .before .before in
     let i = t .before .before in
     let w = i .before .before .before .before in
     let o = w .before .before .before in
@@ -185,7 +185,7 @@ same-length-5 c = search needs
 returns-5 : tie.Need-returns-5
 returns-5 c =
     let v = c .before .before .before .before in
-    let t = v .before .before .before in
+    let t = v .before .before .before .before in
     let i = t .before .before in
     let w = i .before .before .before .before in
     let o = w .before .before .before in
