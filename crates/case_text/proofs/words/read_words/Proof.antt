@@ -1,18 +1,23 @@
 use Prim.Native.Nat.{_-_}
-use mathlib.Core.Path.{_≡_}
-use lib.ListN.{length}
+use mathlib.Core.Path.{_≡_, refl, _∙_, sym}
+use lib.ListN.{length, drop}
+use denote.Ref.{now}
 use borrow.Author.Needs.{needs}
+use Rattle.case_text.specs.Words.{readTo, readFrom, wordsRead}
+use Rattle.case_text.proofs.Laws.{read-next, read-done}
 use Rattle.case_text.proofs.words.read_words.Statement.{statement}
 use Rattle.case_text.proofs.words.read_words.Tie as tie
 
 abbrev Inv-loop : tie.InvT-loop
-Inv-loop text words₀ n₀ w₀ i₀ words n w i = length words ≡ length words₀
+Inv-loop text words₀ n₀ w₀ i₀ words n w i =
+    (length words ≡ length words₀) × (readFrom (drop i text) w (readTo words n) ≡ wordsRead text words₀)
 
 abbrev μ-loop : tie.MeasureT-loop
 μ-loop text words₀ n₀ w₀ i₀ words n w i = length text - i
 
 loop-holds : tie.Need-loop-holds Inv-loop μ-loop
-loop-holds c = search needs
+unfolding wordsRead
+loop-holds c = (refl, refl)
 
 shared-slice-read-digit : tie.Need-shared-slice-read-digit Inv-loop μ-loop
 shared-slice-read-digit c = search needs
@@ -36,13 +41,25 @@ loop-less : tie.Need-loop-less Inv-loop μ-loop
 loop-less c = search needs
 
 loop-again : tie.Need-loop-again Inv-loop μ-loop
-loop-again c = search needs
+loop-again c =
+    let p = c .before .before .before in
+    let s = p .before .before .before .before in
+    let d = s .before .before in
+    let t = d .before .before in
+    let l = t .before in
+    let a = l .before .before .before .args in (
+      search needs,
+      read-next (now (a .text)) (l .loop .i) (l .loop .w) (d .digit .result) _ _ _ (c .next-word .result) (t .loop-test .taken) (d .digit .ensures)
+          (s .store .ensures) (p .repeat .ensures) (c .next-word .ensures) ∙ l .loop .inv .1,
+    )
 
 same-length : tie.Need-same-length Inv-loop μ-loop
 same-length c = search needs
 
 returns : tie.Need-returns Inv-loop μ-loop
-returns c = search needs
+returns c =
+    let l = c .before in
+    sym (read-done _ (l .loop .i) (l .loop .w) _ (c .loop-test .left)) ∙ l .loop .inv .1
 
 pub read-words-spec : {M : Type 1} → statement M
 read-words-spec =
