@@ -13,7 +13,7 @@ kind-of-requires c κs = search needs
 
 returns : tie.Need-returns
 returns c =
-    let s = c .before .before .before .before .before .before .before .args in
+    let s = c .before .before .before .before .before .before .before .before .args in
     let A = now (s .area) in
     not-read (snapOf (now (s .words)) A (s .l)) (s .q) (s .c) (c .before .before .before .kind-of .ensures A) (c .if1 .taken)
 
@@ -21,17 +21,17 @@ item-of-requires : tie.Need-item-of-requires
 item-of-requires c κs = search needs
 
 slice-aggregate-reads-back : tie.Need-slice-aggregate-reads-back
-slice-aggregate-reads-back c = search (needs, c .before .before .before .before .before .before .before .before .before .before .good .1 .1 .1 .1 .0)
+slice-aggregate-reads-back c = search (needs, c .before .before .before .before .before .before .before .before .before .before .before .good .1 .1 .1 .1 .0)
 
 reads-back-requires : tie.Need-reads-back-requires
 reads-back-requires c κs =
-    let s = c .before .before .before .before .before .before .before .before .before .before in
+    let s = c .before .before .before .before .before .before .before .before .before .before .before in
     let h : 16 ≡ length (s .args .c .names) = slice-aggregate-reads-back c in
     (s .pre .0, s .pre .1, omega (arith, s .pre .2, h))
 
 returns-2 : tie.Need-returns-2
 returns-2 c =
-    let s = c .before .before .before .before .before .before .before .before .before .before .before .args in
+    let s = c .before .before .before .before .before .before .before .before .before .before .before .before .args in
     let A = now (s .area) in
     is-read (snapOf (now (s .words)) A (s .l)) (s .q) (s .c) (c .before .before .before .before .before .before .before .kind-of .ensures A) (c .before .before .before .before .if1 .left) (c .before .before .before .item-of .ensures A) (c .reads-back .ensures)
 
