@@ -34,7 +34,7 @@ same-length c = search needs
 returns : tie.Need-returns
 unfolding reportFor
 returns c =
-    let f = c .before .before .before in
+    let f = c .before .before in
     let d = f .before .before .before in
     let s = d .before .before .before .before in
     let S = snapOf (now (s .args .words)) (now (s .args .area)) (s .args .l) in (
