@@ -1,7 +1,9 @@
 //! Times of the proved code, through the Rust bindings: the check by the size of the snapshot, and questions.
 //!
-//! `bench` prints tables, `bench files` that of several questions at once, `bench lists` that of import lists (feature `lists`). For a profiler,
+//! `bench` prints tables, `bench files` that of several questions at once, `bench families` that of inputs made to be slow, `bench lists`
+//! that of import lists (feature `lists`). For a profiler,
 //! `bench check SHAPE COUNT` checks one snapshot so many times, and `bench ask SHAPE COUNT` puts so many questions to the library; both print nothing.
+mod families;
 mod library;
 #[cfg(feature = "lists")]
 mod lists;
@@ -16,7 +18,7 @@ use std::io::Write;
 use kelumavor::{Snapshot, WorkArea};
 use shapes::Shape;
 
-const USAGE: &str = "bench [files | lists | check SHAPE COUNT | ask SHAPE COUNT | input SHAPE COUNT]
+const USAGE: &str = "bench [files | families | lists | check SHAPE COUNT | ask SHAPE COUNT | input SHAPE COUNT]
   SHAPE   small, workspace, chain, dependencies, names or scope
   lists   needs the feature `lists`";
 
@@ -28,10 +30,12 @@ fn main() {
             print_checks("The check, by shape", &shapes::all());
             questions::print_all();
             questions::print_files();
+            families::print();
             #[cfg(feature = "lists")]
             lists::print();
         }
         ["files"] => questions::print_files(),
+        ["families"] => families::print(),
         #[cfg(feature = "lists")]
         ["lists"] => lists::print(),
         ["check", shape, count] => repeat_check(&named(shape), number(count)),

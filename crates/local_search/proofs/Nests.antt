@@ -31,6 +31,7 @@ use Rattle.local_levels.proofs.Rows.{run-other, run-take, take-less, agree, run
 use Rattle.local_levels.proofs.Codes.{item-back}
 use Rattle.local_levels.proofs.Stacks.{chain-wider, levels-same, chain-same, snap-at, reads-at}
 use Rattle.local_search.proofs.Knowns.{locations-there}
+use Rattle.local_search.proofs.Searches.{bounds-at}
 
 -- An open level: its header and its run stand, and all below is as where the loop began.
 pub record Open (A₁ : List ℕ) (s : Stack) (item : Item) (n : ℕ) (A : List ℕ) : Type 0 where
@@ -245,6 +246,8 @@ module _ (W A₀ : List ℕ) (l : Layout) (x : FindPathCtx) (left : ℕ) (item :
             from = y .from;
             area = cursor-size;
             tables = omega (arith, y .tables);
+            numbers = omega (arith, y .numbers);
+            bounds = bounds-at B y (cursor-open .below ∙ start-below);
             space = omega (arith, y .space, v .few, some);
             deep = omega (arith, y .deep, some);
             chain = open-chain A₁ s item n B cursor-open k cursor-at h (v .chain);

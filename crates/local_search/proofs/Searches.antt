@@ -1,10 +1,11 @@
 -- The laws of the module search and of one location.
-use Prim.Native.Nat.{ℕ, zero, suc, _-_, _≤_, _<_, _^_}
+use Prim.Native.Nat.{ℕ, zero, suc, _+_, _-_, _≤_, _<_, _^_}
 use mathlib.Core.Path.{_≡_, refl, sym, _∙_, ap, subst}
-use mathlib.Core.List.{List}
-use mathlib.Core.Bool.{true, false}
-use mathlib.Core.Option.{Option}
+use mathlib.Core.List.{List, []}
+use mathlib.Core.Bool.{true, false, true≢false}
+use mathlib.Core.Option.{Option, none, some}
 use native.Mathlib.Omega.{arith}
+use lib.ListN.{length, take}
 use Rattle.snapshot.specs.Limits.{pathLimit}
 use Rattle.snapshot.specs.Records.{Snapshot, Scope, scopeAt}
 use Rattle.snapshot.specs.Layouts.{snapOf, tableWords}
@@ -23,15 +24,21 @@ use Rattle.find_path.specs.declared.FindPathCtx.{FindPathCtx}
 use Rattle.find_path.specs.Choices.{nothing, lengthLeft}
 use Rattle.find_path.specs.Walk.{Level}
 use Rattle.find_path.specs.Rules.{moduleRules}
-use Rattle.find_path.specs.Local.{offerEntry, importableName, location, calculateBestPathLocal, orLocal, findPathForModuleLocal}
+use Rattle.find_path.specs.Local.{offer, offerEntry, importableName, location, calculateBestPathLocal, orLocal, findPathForModuleLocal}
 use Rattle.find_path.specs.Search.{searchLocal, bestLocal}
 use Rattle.find_path.specs.Conditions.{Prepared, Asked, EntryFits, Chosen}
 use Rattle.find_path.proofs.Unfold.{length-falls, local-more}
 use Rattle.find_path.proofs.Bounds.{Fits, search-local-fits}
-use Rattle.find_path.proofs.Tables.{names-short}
+use Rattle.find_path.proofs.Tables.{names-short, same-snap, same-reads}
+use Rattle.search_laws.specs.Near.{near}
+use Rattle.search_laws.proofs.Fewer.{refuted}
+use Rattle.search_laws.proofs.Near.{near-none, far-nothing}
+use Rattle.distances.specs.Distances.{distance, distancesEnd, Bounds}
+use Rattle.distances.specs.Post.{Ready, Bounded}
 use Rattle.local_levels.specs.declared.Stack.{Stack}
 use Rattle.local_levels.specs.Levels.{Small, levelsOf}
 use Rattle.local_search.specs.Post.{Searchable, Answered}
+use Rattle.local_levels.proofs.Rows.{agree, take-less}
 use Rattle.local_levels.proofs.Stacks.{chain-none, snap-at, reads-at}
 
 -- a smaller length can be searched too
@@ -42,11 +49,21 @@ searchable-less j y h =
       from = y .from;
       area = y .area;
       tables = y .tables;
+      numbers = y .numbers;
+      bounds = y .bounds;
       space = omega (arith, y .space);
       deep = omega (arith, y .deep);
       chain = y .chain;
       under = y .under;
     }
+
+-- the numbers stay while the words below top do
+pub bounds-at : {W A : List ℕ} {l : Layout} {x : FindPathCtx} {left : ℕ} {s : Stack} (B : List ℕ) → Searchable W A l x left s → take (s .top) B ≡ take (s .top) A
+    → Bounds (snapOf W B l) x (l .modules) (distance B)
+bounds-at {W} {A} {l} {x} {left} {s} B y e k m h n =
+    let a = agree B A (s .top) e (tableWords + m) (omega (arith, y .numbers, h, y .reads .tables .limited .modules)) in
+    let b = y .bounds k m h (subst (λ (z : Snapshot). near z x [] k m ≡ true) (snap-at W A B l (s .top) (y .reads) (y .tables) e) n) in
+    omega (arith, a, b)
 
 -- the items that are asked for fit a word
 pub asked-small : (W A : List ℕ) (l : Layout) → Reads W A l → (item : Item) → Asked l item → Small item
@@ -85,6 +102,13 @@ module _ (S : Snapshot) (x : FindPathCtx) (left : ℕ) (ls : List Level) (m : �
       q
       ∙ sym (search-or h ∙ ap (orLocal S x (searchLocal S x) left ls m (moduleRules S x false m)) (sym (ap (λ (z : Choice). z .found) e) ∙ t))
 
+-- a location whose search finds nothing changes nothing
+idle : (S : Snapshot) (x : FindPathCtx) (left : ℕ) (ls : List Level) (best : Choice) (m : ℕ) (a : Option Scope) → searchLocal S x (lengthLeft left best) ls m ≡ nothing
+    → best ≡ location S x (searchLocal S x) left ls best m a
+unfolding location offerEntry offer
+idle S x left ls best m none c = refl
+idle S x left ls best m (some e) c = sym (ap (λ (z : Choice). offerEntry S x best z e) c)
+
 -- one location
 module _ (W A : List ℕ) (l : Layout) (x : FindPathCtx) (left : ℕ) (s : Stack) (some : 0 < left) (y : Searchable W A l x (left - 1) s) (best : Choice) (item : Item) (m : ℕ) where
   abbrev S : Snapshot
@@ -95,6 +119,14 @@ module _ (W A : List ℕ) (l : Layout) (x : FindPathCtx) (left : ℕ) (s : Stack
 
   abbrev here : Option Scope → Choice
   here a = location S x (searchLocal S x) left ls best m a
+
+  -- with less left than the module's number nothing is found
+  pub location-far : {j w : ℕ} → m < l .modules → j ≡ lengthLeft left best → w ≡ distance A m → j < w → best ≡ here (importableName S x item m)
+  location-far {j} {w} known e q h =
+      let out : near S x [] j m ≡ false = refuted _ (λ t. let b = y .bounds j m known t in omega arith) in
+      let no : near S x ls j m ≡ false = refuted _ (λ t. true≢false (sym (near-none S x ls j m t) ∙ out)) in
+      let c : searchLocal S x (lengthLeft left best) ls m ≡ nothing = ap (λ i. searchLocal S x i ls m) (sym e) ∙ far-nothing S x j ls m no in
+      idle S x left ls best m (importableName S x item m) c
 
   pub location-none : {a : Entry} → entryOf scopeAt W a ≡ importableName S x item m → a ≡ Nothing → best ≡ here (importableName S x item m)
   unfolding location
@@ -140,21 +172,39 @@ module _ (W A : List ℕ) (l : Layout) (x : FindPathCtx) (left : ℕ) (s : Stack
 pub entry-at : (W : List ℕ) (l : Layout) {a : Entry} {h : ℕ} → EntryFits W l a → a ≡ At h → ScopeFits (countsIn l) (scopeAt W h)
 entry-at W l f e = subst (EntryFits W l) e f
 
--- nothing is under way
-pub search-start : (W A : List ℕ) (l : Layout) (x : FindPathCtx) (left : ℕ) → Prepared W A l x → left ≤ pathLimit → Searchable W A l x left (record { top = tableWords; place = 0; depth = 0 })
-search-start W A l x left p h =
-    record {
-      reads = p .reads;
-      from = p .from;
-      area = p .area;
-      tables = omega arith;
-      space = omega arith;
-      deep = omega arith;
-      chain = chain-none A 0 tableWords;
-      under = omega arith;
-    }
+-- the numbers are asked for
+pub numbers-ready : (W A : List ℕ) (l : Layout) (x : FindPathCtx) → Prepared W A l x → Ready W A l × (x .from .0 < l .modules)
+numbers-ready W A l x p = (record { reads = p .reads; area = p .area }, p .from)
 
-pub search-done : (S : Snapshot) (x : FindPathCtx) (left : ℕ) (item : Item) (A₀ A : List ℕ) (r : Choice)
-    → Answered A₀ tableWords (calculateBestPathLocal S x (searchLocal S x) left (levelsOf A₀ 0 0) item) A r → Chosen A₀ (bestLocal S x left item) A r
-unfolding bestLocal levelsOf
-search-done S x left item A₀ A r a = record { same = a .same; tables = a .below }
+-- nothing is under way
+module _ (W A₀ : List ℕ) (l : Layout) (x : FindPathCtx) (p : Prepared W A₀ l x) (A : List ℕ) (n : Bounded W A₀ l x A) where
+  sn : snapOf W A l ≡ snapOf W A₀ l
+  sn = same-snap W A₀ A l (n .tables) (p .reads)
+
+  pub numbers-reads : Reads W A l
+  numbers-reads = same-reads W A₀ A l (n .tables) (p .reads)
+
+  pub search-start : (left : ℕ) → left ≤ pathLimit → length A ≡ length A₀ → Searchable W A l x left (record { top = distancesEnd; place = 0; depth = 0 })
+  search-start left h z =
+      record {
+        reads = numbers-reads;
+        from = p .from;
+        area = z ∙ p .area;
+        tables = omega arith;
+        numbers = omega arith;
+        bounds = subst (λ (s : Snapshot). Bounds s x (l .modules) (distance A)) (sym sn) (n .bounds);
+        space = omega arith;
+        deep = omega arith;
+        chain = chain-none A 0 distancesEnd;
+        under = omega arith;
+      }
+
+  pub search-done : (left : ℕ) (item : Item) (B : List ℕ) (r : Choice)
+      → Answered A distancesEnd (calculateBestPathLocal (snapOf W A l) x (searchLocal (snapOf W A l) x) left (levelsOf A 0 0) item) B r
+      → Chosen A₀ (bestLocal (snapOf W A₀ l) x left item) B r
+  unfolding bestLocal levelsOf
+  search-done left item B r a =
+      record {
+        same = a .same ∙ ap (λ (s : Snapshot). bestLocal s x left item) sn;
+        tables = take-less B A tableWords distancesEnd (omega arith) (a .below) ∙ n .tables;
+      }

@@ -4,11 +4,12 @@ use mathlib.Core.Path.{_≡_}
 use mathlib.Core.List.{List}
 use lib.ListN.{length, take}
 use Rattle.snapshot.specs.Limits.{moduleLimit, pathLimit, areaLimit}
-use Rattle.snapshot.specs.Layouts.{tableWords}
+use Rattle.snapshot.specs.Layouts.{tableWords, snapOf}
 use Rattle.snapshot.specs.declared.layout.Layout.{Layout}
 use Rattle.accept.specs.Post.{Reads}
 use Rattle.path_choices.specs.declared.Choice.{Choice}
 use Rattle.find_path.specs.declared.FindPathCtx.{FindPathCtx}
+use Rattle.distances.specs.Distances.{distance, distancesEnd, Bounds}
 use Rattle.local_levels.specs.declared.Stack.{Stack}
 use Rattle.local_levels.specs.Levels.{Chain}
 
@@ -16,12 +17,14 @@ use Rattle.local_levels.specs.Levels.{Chain}
 abbrev pub levelSize : ℕ
 levelSize = 3 + moduleLimit
 
--- The arguments of a local search of that length: the words of each level that it can open.
+-- The arguments of a local search of that length: the words of each level that it can open, and the numbers of the modules below them.
 pub record Searchable (W A : List ℕ) (l : Layout) (x : FindPathCtx) (left : ℕ) (s : Stack) : Type 0 where
   pub reads : Reads W A l
   pub from : x .from .0 < l .modules
   pub area : length A ≡ areaLimit
   pub tables : tableWords ≤ s .top
+  pub numbers : distancesEnd ≤ s .top
+  pub bounds : Bounds (snapOf W A l) x (l .modules) (distance A)
   pub space : s .top + levelSize * left ≤ areaLimit
   pub deep : s .depth + left ≤ pathLimit
   pub chain : Chain A (s .place) (s .depth) (s .top)

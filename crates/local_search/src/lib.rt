@@ -7,6 +7,8 @@ ghost use Rattle.find_path.specs.Search.{searchLocal, bestLocal};
 ghost use Rattle.find_path.specs.Conditions.{Prepared, Asked, Chosen};
 ghost use Rattle.local_levels.specs.Levels.{Small, levelsOf};
 ghost use Rattle.local_search.specs.Post.{Searchable, Answered};
+use distances::Distances;
+use distances::set_distances;
 use find_path::Choice;
 use find_path::FindPathCtx;
 use hir_def::Entry;
@@ -21,10 +23,9 @@ use path_rules::choices::nothing;
 use path_rules::rules::module_rules;
 use snapshot::ids::ModuleId;
 use snapshot::layout::Layout;
-use snapshot::table::Tables;
 use snapshot::words::word;
 
-// One module of the run: its path with the item's name there, against the choice so far.
+// One module of the run: its path with the item's name there, against the choice so far, unless the module is too far.
 fn location(
     words: &[u32],
     area: &mut [u32],
@@ -39,11 +40,15 @@ fn location(
     requires { ⌜ (0 < left) × Searchable (now words) (now area) l x (left - 1) s × (m .0 < l .modules) × (best .count < 2 ^ 32) ⌝ }
     ensures { λ r. ⌜ Answered (now (area .entry)) (s .top) (locationOf (snapOf (now (words .entry)) (now (area .entry)) l) x (searchLocal (snapOf (now (words .entry)) (now (area .entry)) l) x) left (levelsOf (now (area .entry)) (s .place) (s .depth)) best (m .0) (importableName (snapOf (now (words .entry)) (now (area .entry)) l) x item (m .0))) (now (area .exit)) r ⌝ }
 {
+    let j = length_left(left, best);
+    if j < word(area, Distances::AT + m.0) {
+        return best;
+    }
     let a = importable_name(words, area, l, x, item, m);
     let Entry::At(h) = a else {
         return best;
     };
-    let c = find_path_for_module_local(words, area, l, x, length_left(left, best), m, s);
+    let c = find_path_for_module_local(words, area, l, x, j, m, s);
     offer_entry(words, area, l, x, best, c, h)
 }
 
@@ -124,8 +129,9 @@ pub fn calculate_best_path_local(
     requires { ⌜ Prepared (now words) (now area) l x × Asked l item × (0 < left) × (left ≤ pathLimit) ⌝ }
     ensures { λ r. ⌜ Chosen (now (area .entry)) (bestLocal (snapOf (now (words .entry)) (now (area .entry)) l) x left item) (now (area .exit)) r ⌝ }
 {
+    set_distances(words, area, l, x);
     let none = Stack {
-        top: Tables::END,
+        top: Distances::END,
         place: 0,
         depth: 0,
     };

@@ -5,46 +5,31 @@ use Rattle.distances.proofs.Lowering.{lowers-same}
 use Rattle.distances.proofs.Marking.{entry-other, entry-plain, entry-below, entry-marked}
 use Rattle.distances.proofs.mark_entry.Statement.{statement}
 use Rattle.distances.proofs.mark_entry.Tie as tie
-use Rattle.distances.proofs.mark_entry.Reads as reads
-use Rattle.distances.proofs.mark_entry.Lts as lts
-use Rattle.distances.proofs.mark.Reads as mark-reads
-use Rattle.hir_def.proofs.items.item_of.Reads as item-of-reads
-use Rattle.snapshot.proofs.record.scope_definition.Reads as scope-definition-reads
-use Rattle.snapshot.proofs.record.scope_ns.Reads as scope-ns-reads
-use Rattle.snapshot.proofs.record.scope_owner.Reads as scope-owner-reads
 
--- src/lib.rt:94:9
 scope-owner-requires : tie.Need-scope-owner-requires
 scope-owner-requires c κs = search needs
 
--- src/lib.rt:96:9
 returns : tie.Need-returns
 returns c =
     let o = c .before .before .before in
     let s = o .before .before .before in
     (lowers-same _, entry-other (now (s .args .words)) (now (s .args .area)) (s .args .l) (s .args .c .0) (s .args .h) (o .scope-owner .ensures) (c .if1 .taken))
 
--- src/lib.rt:98:34
 scope-ns-requires : tie.Need-scope-ns-requires
 scope-ns-requires c κs = search needs
 
--- src/lib.rt:98:54
 scope-definition-requires : tie.Need-scope-definition-requires
 scope-definition-requires c κs = search needs
 
--- src/lib.rt:98:9
 item-of-requires : tie.Need-item-of-requires
 item-of-requires c κs = search needs
 
--- src/lib.rt:99:19
 enum-known-item : tie.Need-enum-known-item
 enum-known-item c = search needs
 
--- src/lib.rt:100:9
 enum-told : tie.Need-enum-told
 enum-told c = search needs
 
--- src/lib.rt:100:9
 returns-2 : tie.Need-returns-2
 returns-2 c =
     let i = c .before .before in
@@ -53,7 +38,6 @@ returns-2 c =
     let A = now (s .args .area) in
     (lowers-same _, entry-plain (now (s .args .words)) A (s .args .l) (s .args .c .0) (s .args .h) (i .item-of .ensures A) (i .before .before .scope-ns .ensures) (i .before .scope-definition .ensures) (c .enum-told .given .1))
 
--- src/lib.rt:102:5
 mark-requires : tie.Need-mark-requires
 mark-requires c κs =
     let t = c .before .before in
@@ -63,11 +47,9 @@ mark-requires c κs =
     let A = now (s .args .area) in
     (s .pre .0 .area, omega (arith, s .pre .0 .reads .tables .limited .modules, entry-below (now (s .args .words)) A (s .args .l) (s .args .c .0) (s .args .h) (i .item-of .ensures A) (i .before .before .scope-ns .ensures) (i .before .scope-definition .ensures) (s .pre .0 .reads) (s .pre .1) (t .item .given .1)))
 
--- src/lib.rt:90:1
 same-length : tie.Need-same-length
 same-length c = search needs
 
--- src/lib.rt:90:1
 returns-3 : tie.Need-returns-3
 returns-3 c =
     let m = c .before .before in

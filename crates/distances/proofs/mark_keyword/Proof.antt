@@ -6,34 +6,24 @@ use Rattle.path_choices.specs.declared.Choice.{Choice}
 use Rattle.distances.proofs.Lowering.{lowers-same}
 use Rattle.distances.proofs.mark_keyword.Statement.{statement}
 use Rattle.distances.proofs.mark_keyword.Tie as tie
-use Rattle.distances.proofs.mark_keyword.Reads as reads
-use Rattle.distances.proofs.mark_keyword.Lts as lts
-use Rattle.distances.proofs.mark.Reads as mark-reads
-use Rattle.path_rules.proofs.rules.keyword_rule.Reads as keyword-rule-reads
 
--- src/lib.rt:151:9
 keyword-rule-requires : tie.Need-keyword-rule-requires
 keyword-rule-requires c κs = search needs
 
--- src/lib.rt:153:9
 same-length : tie.Need-same-length
 same-length c = search needs
 
--- src/lib.rt:153:9
 returns : tie.Need-returns
 returns c =
     let k = c .before .before in
     (lowers-same _, λ e. absurd (true≢false (sym e ∙ sym (ap (λ (z : Choice). z .found) (k .keyword-rule .ensures)) ∙ not-true _ (c .if1 .taken))))
 
--- src/lib.rt:155:5
 mark-requires : tie.Need-mark-requires
 mark-requires c κs = search needs
 
--- src/lib.rt:147:1
 same-length-2 : tie.Need-same-length-2
 same-length-2 c = search needs
 
--- src/lib.rt:147:1
 returns-2 : tie.Need-returns-2
 returns-2 c = search needs
 

@@ -10,35 +10,25 @@ use Rattle.distances.proofs.Lowering.{lowers-snap, lowers-ready, lowers
 use Rattle.distances.proofs.Marking.{keywords-one, keywords-two, parent-known}
 use Rattle.distances.proofs.mark_keywords.Statement.{statement}
 use Rattle.distances.proofs.mark_keywords.Tie as tie
-use Rattle.distances.proofs.mark_keywords.Reads as reads
-use Rattle.distances.proofs.mark_keywords.Lts as lts
-use Rattle.distances.proofs.mark_keyword.Reads as mark-keyword-reads
-use Rattle.module_tree.proofs.modules.parent.Reads as parent-reads
 
--- src/lib.rt:163:5
 mark-keyword-requires : tie.Need-mark-keyword-requires
 mark-keyword-requires c κs = search needs
 
--- src/lib.rt:164:32
 parent-requires : tie.Need-parent-requires
 parent-requires c κs =
     let k = c .before .before .before in
     let s = k .before .before .before .before in
     (lowers-ready (now (s .args .words)) (s .args .l) (k .mark-keyword .ensures .0) (s .pre .0) (k .mark-keyword .kept .1 .0) .reads, s .pre .1)
 
--- src/lib.rt:164:27
 enum-known-p : tie.Need-enum-known-p
 enum-known-p c = search needs
 
--- src/lib.rt:165:9
 enum-told : tie.Need-enum-told
 enum-told c = search needs
 
--- src/lib.rt:165:9
 same-length : tie.Need-same-length
 same-length c = search needs
 
--- src/lib.rt:165:9
 returns : tie.Need-returns
 returns c =
     let k = c .before .before .before .before .before .before in
@@ -50,7 +40,6 @@ returns c =
     let q = c .before .before .parent .ensures ∙ ap (λ (z : Snapshot). parentOf z (s .args .x .from .0)) (lowers-snap W l (f .0) (s .pre .0 .reads)) in
     (f .0, keywords-one (snapOf W A l) (s .args .x) _ (f .1) (is-none _ q (c .enum-told .given .1)))
 
--- src/lib.rt:167:5
 mark-keyword-requires-2 : tie.Need-mark-keyword-requires-2
 mark-keyword-requires-2 c κs =
     let p = c .before .before in
@@ -63,11 +52,9 @@ mark-keyword-requires-2 c κs =
     let q = p .before .before .parent .ensures ∙ ap (λ (z : Snapshot). parentOf z (s .args .x .from .0)) (lowers-snap W l (f .0) (s .pre .0 .reads)) in
     (lowers-ready W l (f .0) (s .pre .0) (k .mark-keyword .kept .1 .0), s .pre .1, parent-known W A l (s .pre .0 .reads) (s .args .x .from .0) (s .pre .1) (is-some _ q (p .p .given .1)))
 
--- src/lib.rt:159:1
 same-length-2 : tie.Need-same-length-2
 same-length-2 c = search needs
 
--- src/lib.rt:159:1
 returns-2 : tie.Need-returns-2
 returns-2 c =
     let m = c .before .before in

@@ -7,34 +7,22 @@ use Rattle.distances.proofs.Lowering.{lowers-same}
 use Rattle.distances.proofs.Marking.{no-prelude, one-prelude}
 use Rattle.distances.proofs.mark_prelude.Statement.{statement}
 use Rattle.distances.proofs.mark_prelude.Tie as tie
-use Rattle.distances.proofs.mark_prelude.Reads as reads
-use Rattle.distances.proofs.mark_prelude.Lts as lts
-use Rattle.crate_graph.proofs.prelude_of.Reads as prelude-of-reads
-use Rattle.distances.proofs.mark_scope.Reads as mark-scope-reads
-use Rattle.module_tree.proofs.modules.map.Reads as map-reads
-use Rattle.snapshot.proofs.record.prelude_target.Reads as prelude-target-reads
 
--- src/lib.rt:139:34
 map-requires : tie.Need-map-requires
 map-requires c κs = search needs
 
--- src/lib.rt:139:9
 prelude-of-requires : tie.Need-prelude-of-requires
 prelude-of-requires c κs = search needs
 
--- src/lib.rt:140:19
 enum-known-p : tie.Need-enum-known-p
 enum-known-p c = search needs
 
--- src/lib.rt:141:9
 enum-told : tie.Need-enum-told
 enum-told c = search needs
 
--- src/lib.rt:141:9
 same-length : tie.Need-same-length
 same-length c = search needs
 
--- src/lib.rt:141:9
 returns : tie.Need-returns
 returns c =
     let p = c .before .before in
@@ -43,19 +31,15 @@ returns c =
     let A = now (s .args .area) in
     (lowers-same A, no-prelude W A (s .args .l) (s .args .from .0) (p .before .map .ensures) (p .prelude-of .ensures A) (ap (entryOf preludeAt W) (c .enum-told .given .1)))
 
--- src/lib.rt:143:32
 prelude-target-requires : tie.Need-prelude-target-requires
 prelude-target-requires c κs = search needs
 
--- src/lib.rt:143:5
 mark-scope-requires : tie.Need-mark-scope-requires
 mark-scope-requires c κs = search needs
 
--- src/lib.rt:135:1
 same-length-2 : tie.Need-same-length-2
 same-length-2 c = search needs
 
--- src/lib.rt:135:1
 returns-2 : tie.Need-returns-2
 returns-2 c =
     let m = c .before .before in

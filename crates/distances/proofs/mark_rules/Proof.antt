@@ -4,26 +4,16 @@ use denote.Ref.{now}
 use Rattle.distances.proofs.Marking.{ready-roots, ready-keywords, ready-prelude, marked-none, marked-scopes}
 use Rattle.distances.proofs.mark_rules.Statement.{statement}
 use Rattle.distances.proofs.mark_rules.Tie as tie
-use Rattle.distances.proofs.mark_rules.Reads as reads
-use Rattle.distances.proofs.mark_rules.Lts as lts
-use Rattle.distances.proofs.mark_keywords.Reads as mark-keywords-reads
-use Rattle.distances.proofs.mark_prelude.Reads as mark-prelude-reads
-use Rattle.distances.proofs.mark_scopes.Reads as mark-scopes-reads
-use Rattle.distances.proofs.set_roots.Reads as set-roots-reads
-use Rattle.path_rules.proofs.rules.may_be_in_scope.Reads as may-be-in-scope-reads
 
--- src/lib.rt:217:5
 set-roots-requires : tie.Need-set-roots-requires
 set-roots-requires c κs = search needs
 
--- src/lib.rt:218:5
 mark-keywords-requires : tie.Need-mark-keywords-requires
 mark-keywords-requires c κs =
     let r = c .before .before .before in
     let s = r .before .before .before .before in
     (ready-roots (now (s .args .words)) (now (s .args .area)) (s .args .l) (s .args .x) (s .pre .0) _ (r .set-roots .ensures) (r .set-roots .kept .1 .0), s .pre .1)
 
--- src/lib.rt:219:5
 mark-prelude-requires : tie.Need-mark-prelude-requires
 mark-prelude-requires c κs =
     let k = c .before .before .before in
@@ -31,15 +21,12 @@ mark-prelude-requires c κs =
     let s = r .before .before .before .before in
     (ready-keywords (now (s .args .words)) (now (s .args .area)) (s .args .l) (s .args .x) (s .pre .0) _ (r .set-roots .ensures) (r .set-roots .kept .1 .0) _ (k .mark-keywords .ensures) (k .mark-keywords .kept .1 .0), s .pre .1)
 
--- src/lib.rt:220:9
 may-be-in-scope-requires : tie.Need-may-be-in-scope-requires
 may-be-in-scope-requires c κs = search needs
 
--- src/lib.rt:221:9
 same-length : tie.Need-same-length
 same-length c = search needs
 
--- src/lib.rt:221:9
 returns : tie.Need-returns
 returns c =
     let b = c .before in
@@ -49,7 +36,6 @@ returns c =
     let s = r .before .before .before .before in
     marked-none (now (s .args .words)) (now (s .args .area)) (s .args .l) (s .args .x) (s .pre .0) _ (r .set-roots .ensures) (r .set-roots .kept .1 .0) _ (k .mark-keywords .ensures) (k .mark-keywords .kept .1 .0) _ (p .mark-prelude .ensures) (p .mark-prelude .kept .1 .0) (b .may-be-in-scope .ensures _) (not-true _ (c .if1 .taken))
 
--- src/lib.rt:223:5
 mark-scopes-requires : tie.Need-mark-scopes-requires
 mark-scopes-requires c κs =
     let p = c .before .before .before .before .before in
@@ -58,11 +44,9 @@ mark-scopes-requires c κs =
     let s = r .before .before .before .before in
     (ready-prelude (now (s .args .words)) (now (s .args .area)) (s .args .l) (s .args .x) (s .pre .0) _ (r .set-roots .ensures) (r .set-roots .kept .1 .0) _ (k .mark-keywords .ensures) (k .mark-keywords .kept .1 .0) _ (p .mark-prelude .ensures) (p .mark-prelude .kept .1 .0), s .pre .1)
 
--- src/lib.rt:213:1
 same-length-2 : tie.Need-same-length-2
 same-length-2 c = search needs
 
--- src/lib.rt:213:1
 returns-2 : tie.Need-returns-2
 returns-2 c =
     let m = c .before .before in

@@ -8,10 +8,6 @@ use Rattle.distances.proofs.Lowering.{lowers-ready}
 use Rattle.distances.proofs.Marking.{Marking, marking-start, marking-next, marking-done}
 use Rattle.distances.proofs.mark_scope.Statement.{statement}
 use Rattle.distances.proofs.mark_scope.Tie as tie
-use Rattle.distances.proofs.mark_scope.Reads as reads
-use Rattle.distances.proofs.mark_scope.Lts as lts
-use Rattle.distances.proofs.mark_entry.Reads as mark-entry-reads
-use Rattle.snapshot.proofs.layout.Layout.scope_base.Reads as scope-base-reads
 
 abbrev Inv-loop : tie.InvT-loop
 Inv-loop words area₀ l c base count k₀ area k = Marking words area₀ l (c .0) area k
@@ -19,25 +15,20 @@ Inv-loop words area₀ l c base count k₀ area k = Marking words area₀ l (c .
 abbrev μ-loop : tie.MeasureT-loop
 μ-loop words area₀ l c base count k₀ area k = count - k
 
--- src/lib.rt:110:9
 scope-base-requires : tie.Need-scope-base-requires Inv-loop μ-loop
 scope-base-requires c κs = search needs
 
--- src/lib.rt:113:5
 loop-holds : tie.Need-loop-holds Inv-loop μ-loop
 loop-holds c =
     let s = c .before .before .before in
     marking-start (now (s .args .words)) (now (s .args .area)) (s .args .l) (s .args .c .0)
 
--- src/lib.rt:114:46
 mul-mark-entry : tie.Need-mul-mark-entry Inv-loop μ-loop
 mul-mark-entry c = search needs
 
--- src/lib.rt:114:39
 add-mark-entry : tie.Need-add-mark-entry Inv-loop μ-loop
 add-mark-entry c = search needs
 
--- src/lib.rt:114:9
 mark-entry-requires : tie.Need-mark-entry-requires Inv-loop μ-loop
 mark-entry-requires c κs =
     let k = c .before .before in
@@ -47,15 +38,12 @@ mark-entry-requires c κs =
       scope-fits (now (s .args .words)) (now (s .args .area)) (s .args .l) (s .pre .reads) (c .before .loop-test .taken) (b .scope-base .ensures) refl,
     )
 
--- src/lib.rt:115:9
 add-k : tie.Need-add-k Inv-loop μ-loop
 add-k c = search needs
 
--- src/lib.rt:113:5
 loop-less : tie.Need-loop-less Inv-loop μ-loop
 loop-less c = search needs
 
--- src/lib.rt:113:5
 loop-again : tie.Need-loop-again Inv-loop μ-loop
 loop-again c =
     let m = c .before .before in
@@ -65,11 +53,9 @@ loop-again c =
     marking-next (now (s .args .words)) (now (s .args .area)) (s .args .l) (s .pre .reads) (s .args .c .0) (k .loop .area) (k .loop .k) (k .loop .inv)
     _ (m .before .before .loop-test .taken) (b .scope-base .ensures) refl (m .mark-entry .ensures) (m .mark-entry .kept .1 .0)
 
--- src/lib.rt:106:1
 same-length : tie.Need-same-length Inv-loop μ-loop
 same-length c = c .before .loop .inv .size
 
--- src/lib.rt:106:1
 returns : tie.Need-returns Inv-loop μ-loop
 returns c =
     let k = c .before in

@@ -6,10 +6,6 @@ use Rattle.distances.proofs.Lowering.{lowers-ready}
 use Rattle.distances.proofs.Marking.{Climbing, climbing-start, climbing-lowers, climbing-less, climbing-next, climbing-done}
 use Rattle.distances.proofs.mark_scopes.Statement.{statement}
 use Rattle.distances.proofs.mark_scopes.Tie as tie
-use Rattle.distances.proofs.mark_scopes.Reads as reads
-use Rattle.distances.proofs.mark_scopes.Lts as lts
-use Rattle.distances.proofs.mark_scope.Reads as mark-scope-reads
-use Rattle.module_tree.proofs.modules.block.Reads as block-reads
 
 abbrev Inv-loop : tie.InvT-loop
 Inv-loop words area₀ l m₀ area m = Climbing words area₀ l (m₀ .0) area (m .0)
@@ -17,20 +13,17 @@ Inv-loop words area₀ l m₀ area m = Climbing words area₀ l (m₀ .0) area (
 abbrev μ-loop : tie.MeasureT-loop
 μ-loop words area₀ l m₀ area m = m .0
 
--- src/lib.rt:125:5
 loop-holds : tie.Need-loop-holds Inv-loop μ-loop
 loop-holds c =
     let s = c .before .before in
     climbing-start (now (s .args .words)) (now (s .args .area)) (s .args .l) (s .args .from .0) (s .pre .1)
 
--- src/lib.rt:126:9
 mark-scope-requires : tie.Need-mark-scope-requires Inv-loop μ-loop
 mark-scope-requires c κs =
     let k = c .before in
     let s = k .before .before .before in
     lowers-ready (now (s .args .words)) (s .args .l) (k .loop .inv .lowers) (s .pre .0) (k .loop .inv .size)
 
--- src/lib.rt:127:36
 block-requires : tie.Need-block-requires Inv-loop μ-loop
 block-requires c κs =
     let m = c .before .before .before in
@@ -38,22 +31,18 @@ block-requires c κs =
     let s = k .before .before .before in
     (lowers-ready (now (s .args .words)) (s .args .l) (climbing-lowers (now (s .args .words)) (now (s .args .area)) (s .args .l) (s .pre .0 .reads) (s .args .from .0) (k .loop .area) (k .loop .m .0) (k .loop .inv) _ (m .mark-scope .ensures) (m .mark-scope .kept .1 .0)) (s .pre .0) (m .mark-scope .kept .1 .0 ∙ k .loop .inv .size) .reads, k .loop .inv .known)
 
--- src/lib.rt:127:31
 enum-known-b : tie.Need-enum-known-b Inv-loop μ-loop
 enum-known-b c = search needs
 
--- src/lib.rt:128:13
 enum-told : tie.Need-enum-told Inv-loop μ-loop
 enum-told c = search needs
 
--- src/lib.rt:128:13
 same-length : tie.Need-same-length Inv-loop μ-loop
 same-length c =
     let m = c .before .before .before .before .before .before in
     let k = m .before .before in
     m .mark-scope .kept .1 .0 ∙ k .loop .inv .size
 
--- src/lib.rt:128:13
 returns : tie.Need-returns Inv-loop μ-loop
 returns c =
     let b = c .before .before in
@@ -62,7 +51,6 @@ returns c =
     let s = k .before .before .before in
     climbing-done (now (s .args .words)) (now (s .args .area)) (s .args .l) (s .pre .0 .reads) (s .args .from .0) (k .loop .area) (k .loop .m .0) (k .loop .inv) _ (m .mark-scope .ensures) (m .mark-scope .kept .1 .0) (b .block .ensures) (is-none _ refl (c .enum-told .given .1))
 
--- src/lib.rt:125:5
 loop-less : tie.Need-loop-less Inv-loop μ-loop
 loop-less c =
     let b = c .before .before .before in
@@ -71,7 +59,6 @@ loop-less c =
     let s = k .before .before .before in
     climbing-less (now (s .args .words)) (now (s .args .area)) (s .args .l) (s .pre .0 .reads) (s .args .from .0) (k .loop .area) (k .loop .m .0) (k .loop .inv) _ (m .mark-scope .ensures) (m .mark-scope .kept .1 .0) (b .block .ensures) (is-some _ refl (c .before .b .given .1))
 
--- src/lib.rt:125:5
 loop-again : tie.Need-loop-again Inv-loop μ-loop
 loop-again c =
     let b = c .before .before .before in

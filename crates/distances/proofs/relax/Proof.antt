@@ -8,10 +8,6 @@ use Rattle.distances.proofs.Lowering.{lowers-numbered}
 use Rattle.distances.proofs.Relaxing.{Relaxing, relaxing-start, relaxing-next, relaxing-done}
 use Rattle.distances.proofs.relax.Statement.{statement}
 use Rattle.distances.proofs.relax.Tie as tie
-use Rattle.distances.proofs.relax.Reads as reads
-use Rattle.distances.proofs.relax.Lts as lts
-use Rattle.distances.proofs.relax_entry.Reads as relax-entry-reads
-use Rattle.snapshot.proofs.layout.Layout.scope_base.Reads as scope-base-reads
 
 abbrev Inv-loop : tie.InvT-loop
 Inv-loop words area₀ l x base count changed₀ k₀ area changed k = Relaxing words area₀ l x area changed k
@@ -19,25 +15,20 @@ Inv-loop words area₀ l x base count changed₀ k₀ area changed k = Relaxing 
 abbrev μ-loop : tie.MeasureT-loop
 μ-loop words area₀ l x base count changed₀ k₀ area changed k = count - k
 
--- src/lib.rt:200:9
 scope-base-requires : tie.Need-scope-base-requires Inv-loop μ-loop
 scope-base-requires c κs = search needs
 
--- src/lib.rt:204:5
 loop-holds : tie.Need-loop-holds Inv-loop μ-loop
 loop-holds c =
     let s = c .before .before .before in
     relaxing-start (now (s .args .words)) (now (s .args .area)) (s .args .l) (s .args .x)
 
--- src/lib.rt:205:55
 mul-relax-entry : tie.Need-mul-relax-entry Inv-loop μ-loop
 mul-relax-entry c = search needs
 
--- src/lib.rt:205:48
 add-relax-entry : tie.Need-add-relax-entry Inv-loop μ-loop
 add-relax-entry c = search needs
 
--- src/lib.rt:205:13
 relax-entry-requires : tie.Need-relax-entry-requires Inv-loop μ-loop
 relax-entry-requires c κs =
     let k = c .before .before in
@@ -48,15 +39,12 @@ relax-entry-requires c κs =
       scope-fits (now (s .args .words)) (now (s .args .area)) (s .args .l) (s .pre .0 .ready .reads) (c .before .loop-test .taken) (b .scope-base .ensures) refl,
     )
 
--- src/lib.rt:207:9
 add-k : tie.Need-add-k Inv-loop μ-loop
 add-k c = search needs
 
--- src/lib.rt:204:5
 loop-less : tie.Need-loop-less Inv-loop μ-loop
 loop-less c = search needs
 
--- src/lib.rt:204:5
 loop-again : tie.Need-loop-again Inv-loop μ-loop
 loop-again c =
     let m = c .before .before in
@@ -66,11 +54,9 @@ loop-again c =
     relaxing-next (now (s .args .words)) (now (s .args .area)) (s .args .l) (s .args .x) (s .pre .0 .ready .reads) (k .loop .area) (k .loop .changed) (k .loop .k) (k .loop .inv)
     _ (m .before .before .loop-test .taken) (b .scope-base .ensures) refl (m .relax-entry .ensures) (m .relax-entry .kept .1 .0)
 
--- src/lib.rt:196:1
 same-length : tie.Need-same-length Inv-loop μ-loop
 same-length c = c .before .loop .inv .size
 
--- src/lib.rt:196:1
 returns : tie.Need-returns Inv-loop μ-loop
 returns c =
     let k = c .before in

@@ -6,28 +6,16 @@ use Rattle.distances.proofs.Marking.{entry-below}
 use Rattle.distances.proofs.Relaxing.{step-far, step-plain, step-low, step-hidden, step-set}
 use Rattle.distances.proofs.relax_entry.Statement.{statement}
 use Rattle.distances.proofs.relax_entry.Tie as tie
-use Rattle.distances.proofs.relax_entry.Reads as reads
-use Rattle.distances.proofs.relax_entry.Lts as lts
-use Rattle.hir_def.proofs.items.item_of.Reads as item-of-reads
-use Rattle.snapshot.proofs.words.word.Reads as word-reads
-use Rattle.rule_lookups.proofs.is_importable.Reads as is-importable-reads
-use Rattle.snapshot.proofs.record.scope_definition.Reads as scope-definition-reads
-use Rattle.snapshot.proofs.record.scope_ns.Reads as scope-ns-reads
-use Rattle.snapshot.proofs.record.scope_owner.Reads as scope-owner-reads
 
--- src/lib.rt:175:9
 scope-owner-requires : tie.Need-scope-owner-requires
 scope-owner-requires c κs = search needs
 
--- src/lib.rt:176:24
 add-word : tie.Need-add-word
 add-word c = search needs
 
--- src/lib.rt:176:13
 word-requires : tie.Need-word-requires
 word-requires c κs = search needs
 
--- src/lib.rt:176:13
 add-d : tie.Need-add-d
 add-d c =
     let o = c .before .before .before in
@@ -35,11 +23,9 @@ add-d c =
     let far = s .pre .0 .far (o .scope-owner .result .0) (rw (o .scope-owner .ensures) (s .pre .2 .owner)) in
     record { fits = omega (arith, c .word .ensures, far) }
 
--- src/lib.rt:178:9
 same-length : tie.Need-same-length
 same-length c = search needs
 
--- src/lib.rt:178:9
 returns : tie.Need-returns
 returns c =
     let w = c .before in
@@ -50,31 +36,24 @@ returns c =
     let l = s .args .l in
     step-far W A l (s .args .x) (s .args .h) (o .scope-owner .ensures) (w .word .ensures) (s .pre .0 .ready .reads) (s .pre .0 .far) (s .pre .2) (c .if1 .taken)
 
--- src/lib.rt:180:34
 scope-ns-requires : tie.Need-scope-ns-requires
 scope-ns-requires c κs = search needs
 
--- src/lib.rt:180:54
 scope-definition-requires : tie.Need-scope-definition-requires
 scope-definition-requires c κs = search needs
 
--- src/lib.rt:180:9
 item-of-requires : tie.Need-item-of-requires
 item-of-requires c κs = search needs
 
--- src/lib.rt:181:19
 enum-known-item : tie.Need-enum-known-item
 enum-known-item c = search needs
 
--- src/lib.rt:182:9
 enum-told : tie.Need-enum-told
 enum-told c = search needs
 
--- src/lib.rt:182:9
 same-length-2 : tie.Need-same-length-2
 same-length-2 c = search needs
 
--- src/lib.rt:182:9
 returns-2 : tie.Need-returns-2
 returns-2 c =
     let i = c .before .before in
@@ -86,7 +65,6 @@ returns-2 c =
     let l = s .args .l in
     step-plain W A l (s .args .x) (s .args .h) (o .scope-owner .ensures) (w .word .ensures) (i .item-of .ensures A) (i .before .before .scope-ns .ensures) (i .before .scope-definition .ensures) (c .enum-told .given .1)
 
--- src/lib.rt:184:14
 add-at : tie.Need-add-at
 add-at c =
     let t = c .before .before in
@@ -100,15 +78,12 @@ add-at c =
     let b = entry-below W A l 0 (s .args .h) (i .item-of .ensures A) (i .before .before .scope-ns .ensures) (i .before .scope-definition .ensures) (s .pre .0 .ready .reads) (s .pre .2) (t .item .given .1) in
     record { fits = omega (arith, b, s .pre .0 .ready .reads .tables .limited .modules) }
 
--- src/lib.rt:185:8
 word-requires-2 : tie.Need-word-requires-2
 word-requires-2 c κs = search needs
 
--- src/lib.rt:186:9
 same-length-3 : tie.Need-same-length-3
 same-length-3 c = search needs
 
--- src/lib.rt:186:9
 returns-3 : tie.Need-returns-3
 returns-3 c =
     let v = c .before in
@@ -122,15 +97,12 @@ returns-3 c =
     let l = s .args .l in
     step-low W A l (s .args .x) (s .args .h) (o .scope-owner .ensures) (w .word .ensures) (i .item-of .ensures A) (i .before .before .scope-ns .ensures) (i .before .scope-definition .ensures) (t .item .given .1) (v .word2 .ensures) (c .if2 .taken)
 
--- src/lib.rt:188:9
 is-importable-requires : tie.Need-is-importable-requires
 is-importable-requires c κs = search needs
 
--- src/lib.rt:189:9
 same-length-4 : tie.Need-same-length-4
 same-length-4 c = search needs
 
--- src/lib.rt:189:9
 returns-4 : tie.Need-returns-4
 returns-4 c =
     let p = c .before in
@@ -145,11 +117,9 @@ returns-4 c =
     let l = s .args .l in
     step-hidden W A l (s .args .x) (s .args .h) (o .scope-owner .ensures) (w .word .ensures) (i .item-of .ensures A) (i .before .before .scope-ns .ensures) (i .before .scope-definition .ensures) (t .item .given .1) (p .is-importable .ensures) (not-true _ (c .if3 .taken))
 
--- src/lib.rt:191:16
 cast-area : tie.Need-cast-area
 cast-area c = search needs
 
--- src/lib.rt:191:5
 mul-area : tie.Need-mul-area
 mul-area c =
     let t = c .before .before .before .before .before .before .before .before in
@@ -163,7 +133,6 @@ mul-area c =
     let b = entry-below W A l 0 (s .args .h) (i .item-of .ensures A) (i .before .before .scope-ns .ensures) (i .before .scope-definition .ensures) (s .pre .0 .ready .reads) (s .pre .2) (t .item .given .1) in
     record { fits = omega (arith, b, s .pre .0 .ready .reads .tables .limited .modules) }
 
--- src/lib.rt:191:5
 slice-write-area : tie.Need-slice-write-area
 slice-write-area c =
     let t = c .before .before .before .before .before .before .before .before in
@@ -177,11 +146,9 @@ slice-write-area c =
     let b = entry-below W A l 0 (s .args .h) (i .item-of .ensures A) (i .before .before .scope-ns .ensures) (i .before .scope-definition .ensures) (s .pre .0 .ready .reads) (s .pre .2) (t .item .given .1) in
     omega (arith, b, s .pre .0 .ready .reads .tables .limited .modules, s .pre .0 .ready .area)
 
--- src/lib.rt:171:1
 same-length-5 : tie.Need-same-length-5
 same-length-5 c = search needs
 
--- src/lib.rt:171:1
 returns-5 : tie.Need-returns-5
 returns-5 c =
     let v = c .before .before .before .before in

@@ -5,10 +5,6 @@ use Rattle.distances.proofs.Relaxing.{weight, weight-falls, Settling, s
 use mathlib.Core.Path.{_∙_}
 use Rattle.distances.proofs.set_distances.Statement.{statement}
 use Rattle.distances.proofs.set_distances.Tie as tie
-use Rattle.distances.proofs.set_distances.Reads as reads
-use Rattle.distances.proofs.set_distances.Lts as lts
-use Rattle.distances.proofs.mark_rules.Reads as mark-rules-reads
-use Rattle.distances.proofs.relax.Reads as relax-reads
 
 abbrev Inv-loop : tie.InvT-loop
 Inv-loop words area₀ l x area = Settling words area₀ l x area
@@ -16,18 +12,15 @@ Inv-loop words area₀ l x area = Settling words area₀ l x area
 abbrev μ-loop : tie.MeasureT-loop
 μ-loop words area₀ l x area = weight area
 
--- src/lib.rt:231:5
 mark-rules-requires : tie.Need-mark-rules-requires Inv-loop μ-loop
 mark-rules-requires c κs = search needs
 
--- src/lib.rt:232:5
 loop-holds : tie.Need-loop-holds Inv-loop μ-loop
 loop-holds c =
     let m = c .before .before in
     let s = m .before .before .before .before in
     settling-start (now (s .args .words)) (now (s .args .area)) (s .args .l) (s .args .x) (s .pre .0) _ (m .mark-rules .ensures)
 
--- src/lib.rt:233:13
 relax-requires : tie.Need-relax-requires Inv-loop μ-loop
 relax-requires c κs =
     let k = c .before in
@@ -35,7 +28,6 @@ relax-requires c κs =
     let s = m .before .before .before .before in
     (settling-reads (now (s .args .words)) _ (s .args .l) (s .args .x) (settling-ready (now (s .args .words)) (now (s .args .area)) (s .args .l) (s .args .x) (s .pre .0) _ (m .mark-rules .ensures) (m .mark-rules .kept .1 .0)) (k .loop .area) (k .loop .inv), s .pre .1)
 
--- src/lib.rt:234:13
 same-length : tie.Need-same-length Inv-loop μ-loop
 same-length c =
     let r = c .before .before .before in
@@ -44,7 +36,6 @@ same-length c =
     let s = m .before .before .before .before in
     settling-next (now (s .args .words)) _ (s .args .l) (s .args .x) (settling-ready (now (s .args .words)) (now (s .args .area)) (s .args .l) (s .args .x) (s .pre .0) _ (m .mark-rules .ensures) (m .mark-rules .kept .1 .0)) (k .loop .area) (k .loop .inv) _ (r .relax .ensures) (r .relax .kept .1 .0) .size ∙ m .mark-rules .kept .1 .0
 
--- src/lib.rt:234:13
 returns : tie.Need-returns Inv-loop μ-loop
 returns c =
     let r = c .before .before .before in
@@ -53,14 +44,12 @@ returns c =
     let s = m .before .before .before .before in
     settling-end (now (s .args .words)) (now (s .args .area)) (s .args .l) (s .args .x) (s .pre .0) _ (m .mark-rules .ensures) _ (settling-done (now (s .args .words)) _ (s .args .l) (s .args .x) (settling-ready (now (s .args .words)) (now (s .args .area)) (s .args .l) (s .args .x) (s .pre .0) _ (m .mark-rules .ensures) (m .mark-rules .kept .1 .0)) (k .loop .area) (k .loop .inv) _ (r .relax .ensures) (not-true _ (c .if1 .taken)))
 
--- src/lib.rt:232:5
 loop-less : tie.Need-loop-less Inv-loop μ-loop
 loop-less c =
     let r = c .before .before .before in
     let k = r .before .before in
     weight-falls (k .loop .area) _ (r .relax .ensures .lowers) (r .relax .ensures .changed (not-false _ (c .if1 .left)))
 
--- src/lib.rt:232:5
 loop-again : tie.Need-loop-again Inv-loop μ-loop
 loop-again c =
     let r = c .before .before .before in

@@ -10,10 +10,6 @@ use Rattle.distances.proofs.Marking.{rooted-start, rooted-next}
 use Rattle.snapshot.specs.Limits.{areaLimit}
 use Rattle.distances.proofs.set_roots.Statement.{statement}
 use Rattle.distances.proofs.set_roots.Tie as tie
-use Rattle.distances.proofs.set_roots.Reads as reads
-use Rattle.distances.proofs.set_roots.Lts as lts
-use Rattle.distances.proofs.first_number.Reads as first-number-reads
-use Rattle.module_tree.proofs.modules.crate_root.Reads as crate-root-reads
 
 abbrev Inv-loop : tie.InvT-loop
 Inv-loop words area₀ l count m₀ area m = Rooted words area₀ l m area × (length area ≡ length area₀) × (m ≤ count)
@@ -21,51 +17,41 @@ Inv-loop words area₀ l count m₀ area m = Rooted words area₀ l m area × (l
 abbrev μ-loop : tie.MeasureT-loop
 μ-loop words area₀ l count m₀ area m = count - m
 
--- src/lib.rt:69:5
 loop-holds : tie.Need-loop-holds Inv-loop μ-loop
 loop-holds c =
     let s = c .before .before in
     (rooted-start (now (s .args .words)) (now (s .args .area)) (s .args .l), refl, omega arith)
 
--- src/lib.rt:70:13
 crate-root-requires : tie.Need-crate-root-requires Inv-loop μ-loop
 crate-root-requires c κs =
     let k = c .before .before in
     let s = k .before .before .before in
     (same-reads (now (s .args .words)) (now (s .args .area)) (k .loop .area) (s .args .l) (k .loop .inv .0 .tables) (s .pre .reads), c .before .loop-test .taken)
 
--- src/lib.rt:71:13
 first-number-requires : tie.Need-first-number-requires Inv-loop μ-loop
 first-number-requires c κs = search needs
 
--- src/lib.rt:72:35
 cast-area : tie.Need-cast-area Inv-loop μ-loop
 cast-area c = omega (arith, c .first-number .ensures .0)
 
--- src/lib.rt:72:14
 add-area : tie.Need-add-area Inv-loop μ-loop
 add-area c = search needs
 
--- src/lib.rt:72:9
 mul-area : tie.Need-mul-area Inv-loop μ-loop
 mul-area c = search needs
 
--- src/lib.rt:72:9
 slice-write-area : tie.Need-slice-write-area Inv-loop μ-loop
 slice-write-area c =
     let k = c .before .before .before .before in
     let s = k .before .before .before in
     omega (arith, k .loop .inv .1, s .pre .area, s .pre .reads .tables .limited .modules, c .before .before .before .loop-test .taken)
 
--- src/lib.rt:73:9
 add-m : tie.Need-add-m Inv-loop μ-loop
 add-m c = search needs
 
--- src/lib.rt:69:5
 loop-less : tie.Need-loop-less Inv-loop μ-loop
 loop-less c = search needs
 
--- src/lib.rt:69:5
 loop-again : tie.Need-loop-again Inv-loop μ-loop
 loop-again c =
     let k = c .before .before .before .before in
@@ -78,11 +64,9 @@ loop-again c =
       omega (arith, h),
     )
 
--- src/lib.rt:63:1
 same-length : tie.Need-same-length Inv-loop μ-loop
 same-length c = c .before .loop .inv .1
 
--- src/lib.rt:63:1
 returns : tie.Need-returns Inv-loop μ-loop
 returns c =
     let k = c .before in

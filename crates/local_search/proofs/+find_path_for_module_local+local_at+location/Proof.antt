@@ -6,8 +6,9 @@ use denote.Ref.{now}
 use Rattle.snapshot.specs.Layouts.{snapOf}
 use Rattle.local_levels.specs.Levels.{levelsOf}
 use Rattle.local_search.proofs.Nests.{Nesting, room, head-reads, head-space, head-chain, start-few, nesting-start, loop-size, nesting-call, nesting-known, nesting-next, nesting-done}
-use Rattle.local_search.proofs.Searches.{module-small, search-none, search-rules, search-on, location-none, location-shorter, location-call, location-reads, location-few, location-text, location-steps, location-some, entry-at}
+use Rattle.local_search.proofs.Searches.{module-small, search-none, search-rules, search-on, location-far, location-none, location-shorter, location-call, location-reads, location-few, location-text, location-steps, location-some, entry-at}
 use Prim.Native.Nat.{ℕ, _<_, _+_, _-_, _*_}
+use Prim.Native.Nat.{ℕ, _<_}
 use borrow.Fn.Kinds.{In}
 use borrow.Fn.PlainCycle.{Measures, is, falls, and}
 use Rattle.local_search.proofs.find_path_for_module_local.Reads as find-path-for-module-local
@@ -19,13 +20,13 @@ use Rattle.local_search.proofs.+find_path_for_module_local+local_at+loc
 use Rattle.local_search.proofs.location.Reads as location
 use Rattle.local_search.proofs.location.Kinds as location-kinds
 use Rattle.local_search.proofs.+find_path_for_module_local+local_at+location.Lts-location as location-lts
+use Rattle.local_levels.proofs.levels.code_of.Reads as code-of-reads
+use Rattle.local_levels.proofs.locations.find_local_import_locations.Reads as find-local-import-locations-reads
 use Rattle.path_rules.proofs.choices.length_left.Reads as length-left-reads
 use Rattle.path_rules.proofs.choices.nothing.Reads as nothing-reads
 use Rattle.path_offers.proofs.offers.importable_name.Reads as importable-name-reads
 use Rattle.path_offers.proofs.offers.offer_entry.Reads as offer-entry-reads
 use Rattle.path_rules.proofs.rules.module_rules.Reads as module-rules-reads
-use Rattle.local_levels.proofs.levels.code_of.Reads as code-of-reads
-use Rattle.local_levels.proofs.locations.find_local_import_locations.Reads as find-local-import-locations-reads
 use Rattle.snapshot.proofs.words.word.Reads as word-reads
 use Rattle.local_search.proofs.+find_path_for_module_local+local_at+location.{statement}
 use Rattle.local_search.proofs.+find_path_for_module_local+local_at+location.Tie.{close}
@@ -619,51 +620,59 @@ local-at-returns t c =
     let s = o .before .before .before in
     nesting-done (now (s .args .words)) (now (s .args .area)) (s .args .l) (s .args .x) (s .args .left) (s .args .item) (s .args .s) (s .pre .1 .0) (s .pre .1 .1) (s .pre .1 .2) (o .code-of .result) (o .code-of .ensures .0) _ _ (f .find-local-import-locations .ensures) (f .find-local-import-locations .kept .1 .0) (i .loop .area) (i .loop .best) (i .loop .k) (i .loop .inv) (c .loop-test .left)
 
-location-importable-name-requires : (t : ℕ) → location-lts.Need-importable-name-requires (
-  importable-name-reads.Asked,
-  importable-name-reads.Learnt,
+location-length-left-requires : (t : ℕ) → location-lts.Need-length-left-requires (
   length-left-reads.Asked,
   length-left-reads.Learnt,
+  word-reads.Asked,
+  word-reads.Learnt,
+  importable-name-reads.Asked,
+  importable-name-reads.Learnt,
   find-path-for-module-local-below t,
   find-path-for-module-local.Post,
   offer-entry-reads.Asked,
   offer-entry-reads.Learnt,
 ) (location-at t) location.Post
-location-importable-name-requires t c κs =
-    let s = c .before .before .before in
-    (s .pre .1 .1 .reads, s .pre .1 .1 .from, s .pre .1 .2)
+location-length-left-requires t c κs =
+    c .before .before .pre .1 .3
 
-location-enum-known-a : (t : ℕ) → location-lts.Need-enum-known-a (
-  importable-name-reads.Asked,
-  importable-name-reads.Learnt,
+location-add-word : (t : ℕ) → location-lts.Need-add-word (
   length-left-reads.Asked,
   length-left-reads.Learnt,
+  word-reads.Asked,
+  word-reads.Learnt,
+  importable-name-reads.Asked,
+  importable-name-reads.Learnt,
   find-path-for-module-local-below t,
   find-path-for-module-local.Post,
   offer-entry-reads.Asked,
   offer-entry-reads.Learnt,
 ) (location-at t) location.Post
-location-enum-known-a t c =
-    search needs
+location-add-word t c =
+    let s = c .before .before .before .before .before in
+    record { fits = omega (arith, s .pre .1 .2, s .pre .1 .1 .reads .tables .limited .modules) }
 
-location-enum-told : (t : ℕ) → location-lts.Need-enum-told (
-  importable-name-reads.Asked,
-  importable-name-reads.Learnt,
+location-word-requires : (t : ℕ) → location-lts.Need-word-requires (
   length-left-reads.Asked,
   length-left-reads.Learnt,
+  word-reads.Asked,
+  word-reads.Learnt,
+  importable-name-reads.Asked,
+  importable-name-reads.Learnt,
   find-path-for-module-local-below t,
   find-path-for-module-local.Post,
   offer-entry-reads.Asked,
   offer-entry-reads.Learnt,
 ) (location-at t) location.Post
-location-enum-told t c =
-    search needs
+location-word-requires t c κs =
+    tt
 
 location-same-length : (t : ℕ) → location-lts.Need-same-length (
-  importable-name-reads.Asked,
-  importable-name-reads.Learnt,
   length-left-reads.Asked,
   length-left-reads.Learnt,
+  word-reads.Asked,
+  word-reads.Learnt,
+  importable-name-reads.Asked,
+  importable-name-reads.Learnt,
   find-path-for-module-local-below t,
   find-path-for-module-local.Post,
   offer-entry-reads.Asked,
@@ -673,53 +682,133 @@ location-same-length t c =
     refl
 
 location-returns : (t : ℕ) → location-lts.Need-returns (
-  importable-name-reads.Asked,
-  importable-name-reads.Learnt,
   length-left-reads.Asked,
   length-left-reads.Learnt,
+  word-reads.Asked,
+  word-reads.Learnt,
+  importable-name-reads.Asked,
+  importable-name-reads.Learnt,
   find-path-for-module-local-below t,
   find-path-for-module-local.Post,
   offer-entry-reads.Asked,
   offer-entry-reads.Learnt,
 ) (location-at t) location.Post
 location-returns t c =
-    let n = c .before .before in
-    let s = n .before .before .before .before in
-    record { same = location-none (now (s .args .words)) (now (s .args .area)) (s .args .l) (s .args .x) (s .args .left) (s .args .s) (s .pre .1 .0) (s .pre .1 .1) (s .args .best) (s .args .item) (s .args .m .0) (n .importable-name .ensures .0) (c .enum-told .given .1); below = refl }
+    let w = c .before in
+    let j = w .before .before .before in
+    let s = j .before .before .before in
+    record { same = location-far (now (s .args .words)) (now (s .args .area)) (s .args .l) (s .args .x) (s .args .left) (s .args .s) (s .pre .1 .0) (s .pre .1 .1) (s .args .best) (s .args .item) (s .args .m .0) (s .pre .1 .2) (j .length-left .ensures) (w .word .ensures) (c .if1 .taken); below = refl }
 
-location-length-left-requires : (t : ℕ) → location-lts.Need-length-left-requires (
-  importable-name-reads.Asked,
-  importable-name-reads.Learnt,
+location-importable-name-requires : (t : ℕ) → location-lts.Need-importable-name-requires (
   length-left-reads.Asked,
   length-left-reads.Learnt,
+  word-reads.Asked,
+  word-reads.Learnt,
+  importable-name-reads.Asked,
+  importable-name-reads.Learnt,
   find-path-for-module-local-below t,
   find-path-for-module-local.Post,
   offer-entry-reads.Asked,
   offer-entry-reads.Learnt,
 ) (location-at t) location.Post
-location-length-left-requires t c κs =
-    c .before .before .before .before .before .before .before .before .pre .1 .3
+location-importable-name-requires t c κs =
+    let w = c .before .before in
+    let j = w .before .before .before in
+    let s = j .before .before .before in
+    (s .pre .1 .1 .reads, s .pre .1 .1 .from, s .pre .1 .2)
+
+location-enum-known-a : (t : ℕ) → location-lts.Need-enum-known-a (
+  length-left-reads.Asked,
+  length-left-reads.Learnt,
+  word-reads.Asked,
+  word-reads.Learnt,
+  importable-name-reads.Asked,
+  importable-name-reads.Learnt,
+  find-path-for-module-local-below t,
+  find-path-for-module-local.Post,
+  offer-entry-reads.Asked,
+  offer-entry-reads.Learnt,
+) (location-at t) location.Post
+location-enum-known-a t c =
+    search needs
+
+location-enum-told : (t : ℕ) → location-lts.Need-enum-told (
+  length-left-reads.Asked,
+  length-left-reads.Learnt,
+  word-reads.Asked,
+  word-reads.Learnt,
+  importable-name-reads.Asked,
+  importable-name-reads.Learnt,
+  find-path-for-module-local-below t,
+  find-path-for-module-local.Post,
+  offer-entry-reads.Asked,
+  offer-entry-reads.Learnt,
+) (location-at t) location.Post
+location-enum-told t c =
+    search needs
+
+location-same-length-2 : (t : ℕ) → location-lts.Need-same-length-2 (
+  length-left-reads.Asked,
+  length-left-reads.Learnt,
+  word-reads.Asked,
+  word-reads.Learnt,
+  importable-name-reads.Asked,
+  importable-name-reads.Learnt,
+  find-path-for-module-local-below t,
+  find-path-for-module-local.Post,
+  offer-entry-reads.Asked,
+  offer-entry-reads.Learnt,
+) (location-at t) location.Post
+location-same-length-2 t c =
+    refl
+
+location-returns-2 : (t : ℕ) → location-lts.Need-returns-2 (
+  length-left-reads.Asked,
+  length-left-reads.Learnt,
+  word-reads.Asked,
+  word-reads.Learnt,
+  importable-name-reads.Asked,
+  importable-name-reads.Learnt,
+  find-path-for-module-local-below t,
+  find-path-for-module-local.Post,
+  offer-entry-reads.Asked,
+  offer-entry-reads.Learnt,
+) (location-at t) location.Post
+location-returns-2 t c =
+    let n = c .before .before in
+    let w = n .before .before .before in
+    let j = w .before .before .before in
+    let s = j .before .before .before in
+    record { same = location-none (now (s .args .words)) (now (s .args .area)) (s .args .l) (s .args .x) (s .args .left) (s .args .s) (s .pre .1 .0) (s .pre .1 .1) (s .args .best) (s .args .item) (s .args .m .0) (n .importable-name .ensures .0) (c .enum-told .given .1); below = refl }
 
 location-find-path-for-module-local-requires :
     (t : ℕ) → location-lts.Need-find-path-for-module-local-requires (
-      importable-name-reads.Asked,
-      importable-name-reads.Learnt,
       length-left-reads.Asked,
       length-left-reads.Learnt,
+      word-reads.Asked,
+      word-reads.Learnt,
+      importable-name-reads.Asked,
+      importable-name-reads.Learnt,
       find-path-for-module-local-below t,
       find-path-for-module-local.Post,
       offer-entry-reads.Asked,
       offer-entry-reads.Learnt,
     ) (location-at t) location.Post
 location-find-path-for-module-local-requires t c κs =
-    let s = c .before .before .before .before .before .before .before .before .before in
-    (omega (arith, s .pre .0, location-shorter (now (s .args .words)) (now (s .args .area)) (s .args .l) (s .args .x) (s .args .left) (s .args .s) (s .pre .1 .0) (s .pre .1 .1) (s .args .best) (s .args .item) (s .args .m .0) (c .length-left .ensures)), (location-call (now (s .args .words)) (now (s .args .area)) (s .args .l) (s .args .x) (s .args .left) (s .args .s) (s .pre .1 .0) (s .pre .1 .1) (s .args .best) (s .args .item) (s .args .m .0) (c .length-left .ensures), s .pre .1 .2))
+    let a = c .before .before in
+    let n = a .before .before in
+    let w = n .before .before .before in
+    let j = w .before .before .before in
+    let s = j .before .before .before in
+    (omega (arith, s .pre .0, location-shorter (now (s .args .words)) (now (s .args .area)) (s .args .l) (s .args .x) (s .args .left) (s .args .s) (s .pre .1 .0) (s .pre .1 .1) (s .args .best) (s .args .item) (s .args .m .0) (j .length-left .ensures)), (location-call (now (s .args .words)) (now (s .args .area)) (s .args .l) (s .args .x) (s .args .left) (s .args .s) (s .pre .1 .0) (s .pre .1 .1) (s .args .best) (s .args .item) (s .args .m .0) (j .length-left .ensures), s .pre .1 .2))
 
 location-offer-entry-requires : (t : ℕ) → location-lts.Need-offer-entry-requires (
-  importable-name-reads.Asked,
-  importable-name-reads.Learnt,
   length-left-reads.Asked,
   length-left-reads.Learnt,
+  word-reads.Asked,
+  word-reads.Learnt,
+  importable-name-reads.Asked,
+  importable-name-reads.Learnt,
   find-path-for-module-local-below t,
   find-path-for-module-local.Post,
   offer-entry-reads.Asked,
@@ -727,42 +816,48 @@ location-offer-entry-requires : (t : ℕ) → location-lts.Need-offer-entry-requ
 ) (location-at t) location.Post
 location-offer-entry-requires t c κs =
     let f = c .before .before .before in
-    let e = f .before in
-    let a = e .before .before .before in
+    let a = f .before .before .before in
     let n = a .before .before in
-    let s = n .before .before .before .before in
-    (location-reads (now (s .args .words)) (now (s .args .area)) (s .args .l) (s .args .x) (s .args .left) (s .args .s) (s .pre .1 .0) (s .pre .1 .1) (s .args .best) (s .args .item) (s .args .m .0) (e .length-left .ensures) _ (f .find-path-for-module-local .ensures), entry-at (now (s .args .words)) (s .args .l) (n .importable-name .ensures .1) (a .a .given .1), s .pre .1 .3, location-few (now (s .args .words)) (now (s .args .area)) (s .args .l) (s .args .x) (s .args .left) (s .args .s) (s .pre .1 .0) (s .pre .1 .1) (s .args .best) (s .args .item) (s .args .m .0) (e .length-left .ensures) _ (f .find-path-for-module-local .ensures), location-text (now (s .args .words)) (now (s .args .area)) (s .args .l) (s .args .x) (s .args .left) (s .args .s) (s .pre .1 .0) (s .pre .1 .1) (s .args .best) (s .args .item) (s .args .m .0) (e .length-left .ensures) _ (f .find-path-for-module-local .ensures), location-steps (now (s .args .words)) (now (s .args .area)) (s .args .l) (s .args .x) (s .args .left) (s .args .s) (s .pre .1 .0) (s .pre .1 .1) (s .args .best) (s .args .item) (s .args .m .0) (e .length-left .ensures) _ (f .find-path-for-module-local .ensures))
+    let w = n .before .before .before in
+    let j = w .before .before .before in
+    let s = j .before .before .before in
+    (location-reads (now (s .args .words)) (now (s .args .area)) (s .args .l) (s .args .x) (s .args .left) (s .args .s) (s .pre .1 .0) (s .pre .1 .1) (s .args .best) (s .args .item) (s .args .m .0) (j .length-left .ensures) _ (f .find-path-for-module-local .ensures), entry-at (now (s .args .words)) (s .args .l) (n .importable-name .ensures .1) (a .a .given .1), s .pre .1 .3, location-few (now (s .args .words)) (now (s .args .area)) (s .args .l) (s .args .x) (s .args .left) (s .args .s) (s .pre .1 .0) (s .pre .1 .1) (s .args .best) (s .args .item) (s .args .m .0) (j .length-left .ensures) _ (f .find-path-for-module-local .ensures), location-text (now (s .args .words)) (now (s .args .area)) (s .args .l) (s .args .x) (s .args .left) (s .args .s) (s .pre .1 .0) (s .pre .1 .1) (s .args .best) (s .args .item) (s .args .m .0) (j .length-left .ensures) _ (f .find-path-for-module-local .ensures), location-steps (now (s .args .words)) (now (s .args .area)) (s .args .l) (s .args .x) (s .args .left) (s .args .s) (s .pre .1 .0) (s .pre .1 .1) (s .args .best) (s .args .item) (s .args .m .0) (j .length-left .ensures) _ (f .find-path-for-module-local .ensures))
 
-location-same-length-2 : (t : ℕ) → location-lts.Need-same-length-2 (
-  importable-name-reads.Asked,
-  importable-name-reads.Learnt,
+location-same-length-3 : (t : ℕ) → location-lts.Need-same-length-3 (
   length-left-reads.Asked,
   length-left-reads.Learnt,
+  word-reads.Asked,
+  word-reads.Learnt,
+  importable-name-reads.Asked,
+  importable-name-reads.Learnt,
   find-path-for-module-local-below t,
   find-path-for-module-local.Post,
   offer-entry-reads.Asked,
   offer-entry-reads.Learnt,
 ) (location-at t) location.Post
-location-same-length-2 t c =
+location-same-length-3 t c =
     c .before .before .before .before .find-path-for-module-local .kept .1 .0
 
-location-returns-2 : (t : ℕ) → location-lts.Need-returns-2 (
-  importable-name-reads.Asked,
-  importable-name-reads.Learnt,
+location-returns-3 : (t : ℕ) → location-lts.Need-returns-3 (
   length-left-reads.Asked,
   length-left-reads.Learnt,
+  word-reads.Asked,
+  word-reads.Learnt,
+  importable-name-reads.Asked,
+  importable-name-reads.Learnt,
   find-path-for-module-local-below t,
   find-path-for-module-local.Post,
   offer-entry-reads.Asked,
   offer-entry-reads.Learnt,
 ) (location-at t) location.Post
-location-returns-2 t c =
+location-returns-3 t c =
     let f = c .before .before .before .before in
-    let e = f .before in
-    let a = e .before .before .before in
+    let a = f .before .before .before in
     let n = a .before .before in
-    let s = n .before .before .before .before in
-    location-some (now (s .args .words)) (now (s .args .area)) (s .args .l) (s .args .x) (s .args .left) (s .args .s) (s .pre .1 .0) (s .pre .1 .1) (s .args .best) (s .args .item) (s .args .m .0) (e .length-left .ensures) _ (f .find-path-for-module-local .ensures) (n .importable-name .ensures .0) (a .a .given .1) (c .offer-entry .ensures)
+    let w = n .before .before .before in
+    let j = w .before .before .before in
+    let s = j .before .before .before in
+    location-some (now (s .args .words)) (now (s .args .area)) (s .args .l) (s .args .x) (s .args .left) (s .args .s) (s .pre .1 .0) (s .pre .1 .1) (s .args .best) (s .args .item) (s .args .m .0) (j .length-left .ensures) _ (f .find-path-for-module-local .ensures) (n .importable-name .ensures .0) (a .a .given .1) (c .offer-entry .ensures)
 
 pub +find-path-for-module-local+local-at+location-spec : {M : Type 1} → statement M
 +find-path-for-module-local+local-at+location-spec =
@@ -831,10 +926,12 @@ pub +find-path-for-module-local+local-at+location-spec : {M : Type 1} → statem
     (local-at-same-length t)
     (local-at-returns t))
     λ t. location-lts.spec (
-      importable-name-reads.Asked,
-      importable-name-reads.Learnt,
       length-left-reads.Asked,
       length-left-reads.Learnt,
+      word-reads.Asked,
+      word-reads.Learnt,
+      importable-name-reads.Asked,
+      importable-name-reads.Learnt,
       find-path-for-module-local-below t,
       find-path-for-module-local.Post,
       offer-entry-reads.Asked,
@@ -842,13 +939,17 @@ pub +find-path-for-module-local+local-at+location-spec : {M : Type 1} → statem
     )
     (location-at t)
     location.Post
+    (location-length-left-requires t)
+    (location-add-word t)
+    (location-word-requires t)
+    (location-same-length t)
+    (location-returns t)
     (location-importable-name-requires t)
     (location-enum-known-a t)
     (location-enum-told t)
-    (location-same-length t)
-    (location-returns t)
-    (location-length-left-requires t)
-    (location-find-path-for-module-local-requires t)
-    (location-offer-entry-requires t)
     (location-same-length-2 t)
     (location-returns-2 t)
+    (location-find-path-for-module-local-requires t)
+    (location-offer-entry-requires t)
+    (location-same-length-3 t)
+    (location-returns-3 t)

@@ -1,26 +1,38 @@
 use borrow.Author.Needs.{needs}
+use mathlib.Core.Path.{_∙_}
 use denote.Ref.{now}
-use Rattle.snapshot.specs.Layouts.{snapOf}
-use Rattle.local_search.proofs.Searches.{asked-small, search-start, search-done}
+use Rattle.local_search.proofs.Searches.{asked-small, numbers-ready, numbers-reads, search-start, search-done}
 use Rattle.local_search.proofs.calculate_best_path_local.Statement.{statement}
 use Rattle.local_search.proofs.calculate_best_path_local.Tie as tie
 
+set-distances-requires : tie.Need-set-distances-requires
+set-distances-requires c κs =
+    let s = c .before .before .before in
+    numbers-ready (now (s .args .words)) (now (s .args .area)) (s .args .l) (s .args .x) (s .pre .0)
+
 local-at-requires : tie.Need-local-at-requires
 local-at-requires c κs =
-    let s = c .before .before .before in
+    let d = c .before .before .before in
+    let s = d .before .before .before .before in
     let W = now (s .args .words) in
-    let A = now (s .args .area) in
-    (s .pre .2, search-start W A (s .args .l) (s .args .x) (s .args .left) (s .pre .0) (s .pre .3), asked-small W A (s .args .l) (s .pre .0 .reads) (s .args .item) (s .pre .1))
+    let A = now (s .args .area) in (
+      s .pre .2,
+      search-start W A (s .args .l) (s .args .x) (s .pre .0) _ (d .set-distances .ensures) (s .args .left) (s .pre .3) (d .set-distances .kept .1 .0),
+      asked-small W _ (s .args .l) (numbers-reads W A (s .args .l) (s .args .x) (s .pre .0) _ (d .set-distances .ensures)) (s .args .item) (s .pre .1),
+    )
 
 same-length : tie.Need-same-length
-same-length c = search needs
+same-length c =
+    let a = c .before .before in
+    let d = a .before .before .before .before in
+    a .local-at .kept .1 .0 ∙ d .set-distances .kept .1 .0
 
 returns : tie.Need-returns
 returns c =
     let a = c .before .before in
-    let s = a .before .before .before .before in
-    let A = now (s .args .area) in
-    search-done (snapOf (now (s .args .words)) A (s .args .l)) (s .args .x) (s .args .left) (s .args .item) A _ _ (a .local-at .ensures)
+    let d = a .before .before .before .before in
+    let s = d .before .before .before .before in
+    search-done (now (s .args .words)) (now (s .args .area)) (s .args .l) (s .args .x) (s .pre .0) _ (d .set-distances .ensures) (s .args .left) (s .args .item) _ _ (a .local-at .ensures)
 
 pub calculate-best-path-local-spec : {M : Type 1} → statement M
-calculate-best-path-local-spec = tie.close (tie.spec local-at-requires same-length returns)
+calculate-best-path-local-spec = tie.close (tie.spec set-distances-requires local-at-requires same-length returns)
