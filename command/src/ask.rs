@@ -107,7 +107,7 @@ pub fn option_bits(options: Options) -> u32 {
 /// A path as it would be written, with all that is no letter of a name escaped.
 pub fn path_text(path: &Path) -> String {
     let mut parts: Vec<String> = start(path.kind()).map(str::to_string).into_iter().collect();
-    parts.extend(path.written().map(|name| in_path(name)));
+    parts.extend(path.written().map(in_path));
     parts.join("::")
 }
 
@@ -123,7 +123,7 @@ fn start(kind: PathKind) -> Option<&'static str> {
 
 /// The steps of a path's route, each with the part of the path that it gave.
 pub fn steps(path: &Path) -> Vec<(String, Step)> {
-    let names: Vec<String> = path.written().map(|name| in_path(name)).collect();
+    let names: Vec<String> = path.written().map(in_path).collect();
     let keyword = path.route().next().is_some_and(|step| step.rule == Rule::Keyword);
     let start = start(path.kind());
     let mut parts = Vec::new();
@@ -234,7 +234,7 @@ fn outcome(report: &Report) -> &'static str {
 }
 
 /// The path that was found, misleading or not.
-pub fn found<'r, 's>(report: &'r Report<'s>) -> Option<&'r Path<'s>> {
+pub fn found(report: &Report) -> Option<&Path> {
     match &report.outcome {
         Outcome::Misleads(path) => Some(path),
         _ => report.path(),

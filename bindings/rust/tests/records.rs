@@ -180,7 +180,7 @@ fn report_of(words: &[u32]) -> Report {
 /// The words and the snapshot are gone, the reports stand and compare.
 #[test]
 fn reports_outlive_their_snapshots() {
-    let [one, two] = [report_of(&WORKED.to_vec()), report_of(&WORKED.to_vec())];
+    let [one, two] = [WORKED.to_vec(), WORKED.to_vec()].map(|words| report_of(&words));
     assert_eq!(one, two);
     assert_eq!(one.to_string(), "found a::f 1 0");
     let Outcome::Found(path) = one.outcome else { panic!("{one}") };
