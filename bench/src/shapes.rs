@@ -1,5 +1,6 @@
 //! Snapshots to be timed.
-use kelumavor::{CrateId, DefinitionId, Edition, ModuleId, NameId, Namespace, Origin, SnapshotWords, Visibility};
+use kelumavor::record::{Dependency, Map};
+use kelumavor::{CrateId, DefinitionId, Entry, Import, MapId, ModuleId, NameId, Namespace, SnapshotWords, Visibility};
 
 pub struct Shape {
     pub name: String,
@@ -58,7 +59,7 @@ pub fn workspace(size: usize) -> SnapshotWords {
 const IN_A_CRATE: usize = 42;
 
 /// An item, and the module that declares it.
-struct Entry {
+struct Item {
     krate: CrateId,
     home: ModuleId,
     name: NameId,
@@ -70,13 +71,7 @@ fn workspace_of(modules: usize, items: usize) -> SnapshotWords {
     let mut words = SnapshotWords::new();
     let module_names = numbered(&mut words, "module_", modules);
     let item_names = numbered(&mut words, "Item", items);
-    let crates: Vec<CrateId> =
-        (0..modules.div_ceil(IN_A_CRATE)).map(|_| words.krate(Origin::Ordinary, false, Edition::Rust2021)).collect();
-    for (k, krate) in crates.iter().enumerate() {
-        for dependency in &crates[..k] {
-            words.dependency(*krate, *dependency, false);
-        }
-    }
+    let crates = crates(&mut words, modules.div_ceil(IN_A_CRATE));
     let homes = tree(&mut words, &crates, modules);
     let mut entries = Vec::new();
     for (k, (module, parent)) in homes.iter().enumerate() {
@@ -84,7 +79,7 @@ fn workspace_of(modules: usize, items: usize) -> SnapshotWords {
         let krate = crates[k / IN_A_CRATE];
         entries.extend(parent.map(|home| {
             let (name, public) = (module_names[k], k % 7 != 0);
-            Entry { krate, home, name, definition, public }
+            Item { krate, home, name, definition, public }
         }));
     }
     for (k, name) in item_names.iter().enumerate() {
@@ -92,7 +87,7 @@ fn workspace_of(modules: usize, items: usize) -> SnapshotWords {
         let home = homes[module].0;
         let definition = words.other_definition(home);
         let (krate, name, public) = (crates[module / IN_A_CRATE], *name, k % 4 != 0);
-        entries.push(Entry { krate, home, name, definition, public });
+        entries.push(Item { krate, home, name, definition, public });
     }
     scopes_and_imports(&mut words, &entries);
     for krate in &crates {
@@ -107,16 +102,39 @@ fn numbered(words: &mut SnapshotWords, text: &str, count: usize) -> Vec<NameId> 
     (0..count).map(|k| words.name(&format!("{text}{k}"))).collect()
 }
 
-/// Each entry in the scope of its home, and the public ones in their crate's import map.
-fn scopes_and_imports(words: &mut SnapshotWords, entries: &[Entry]) {
-    for entry in entries {
-        let private = Visibility::Implicit(entry.home);
-        let visibility = if entry.public { Visibility::Public } else { private };
-        words.scope(entry.home, Namespace::Types, entry.name, entry.definition, visibility, true);
+/// Crates that depend on all before them.
+fn crates(words: &mut SnapshotWords, count: usize) -> Vec<CrateId> {
+    let crates: Vec<CrateId> = (0..count).map(|_| words.add_crate(Default::default())).collect();
+    for (k, owner) in crates.iter().enumerate() {
+        for on in &crates[..k] {
+            words.add_dependency(Dependency { owner: *owner, on: *on, sysroot: false });
+        }
     }
-    for (k, entry) in entries.iter().enumerate().filter(|(_, entry)| entry.public) {
+    crates
+}
+
+fn own_map(words: &mut SnapshotWords, krate: CrateId) -> MapId {
+    words.add_map(Map { krate, block_in: None, no_std: false })
+}
+
+fn public_type(words: &mut SnapshotWords, module: ModuleId, name: NameId, definition: DefinitionId) {
+    words.add_entry(Entry::new(module, Namespace::Types, name, definition));
+}
+
+fn import(definition: DefinitionId, name: NameId, container: ModuleId) -> Import {
+    Import { namespace: Namespace::Types, definition, name, container, hidden: false, unstable: false }
+}
+
+/// Each item in the scope of its home, and the public ones in their crate's import map.
+fn scopes_and_imports(words: &mut SnapshotWords, items: &[Item]) {
+    for item in items {
+        let private = Visibility::Implicit(item.home);
+        let visibility = if item.public { Visibility::Public } else { private };
+        words.add_entry(Entry { visibility, ..Entry::new(item.home, Namespace::Types, item.name, item.definition) });
+    }
+    for (k, item) in items.iter().enumerate().filter(|(_, item)| item.public) {
         let unstable = k % 16 == 0;
-        words.import(entry.krate, Namespace::Types, entry.definition, entry.name, entry.home, false, unstable);
+        words.add_import(item.krate, Import { unstable, ..import(item.definition, item.name, item.home) });
     }
 }
 
@@ -124,7 +142,7 @@ fn scopes_and_imports(words: &mut SnapshotWords, entries: &[Entry]) {
 fn tree(words: &mut SnapshotWords, crates: &[CrateId], modules: usize) -> Vec<(ModuleId, Option<ModuleId>)> {
     let mut homes: Vec<(ModuleId, Option<ModuleId>)> = Vec::new();
     for (c, krate) in crates.iter().enumerate() {
-        let map = words.map(*krate, None, false);
+        let map = own_map(words, *krate);
         for k in 0..IN_A_CRATE.min(modules - c * IN_A_CRATE) {
             let parent = (k > 0).then(|| homes[c * IN_A_CRATE + (k - 1) / 4].0);
             homes.push((words.module(map, parent), parent));
@@ -142,8 +160,8 @@ fn tree(words: &mut SnapshotWords, crates: &[CrateId], modules: usize) -> Vec<(M
 pub fn chain(modules: usize) -> SnapshotWords {
     let mut words = SnapshotWords::new();
     let names = numbered(&mut words, "m", modules);
-    let krate = words.krate(Origin::Ordinary, false, Edition::Rust2021);
-    let map = words.map(krate, None, false);
+    let krate = words.add_crate(Default::default());
+    let map = own_map(&mut words, krate);
     let mut homes: Vec<ModuleId> = Vec::new();
     for _ in 0..modules {
         homes.push(words.module(map, homes.last().copied()));
@@ -153,7 +171,7 @@ pub fn chain(modules: usize) -> SnapshotWords {
     }
     let definitions: Vec<DefinitionId> = homes.iter().map(|module| words.module_definition(*module)).collect();
     for k in 1..modules {
-        words.scope(homes[k - 1], Namespace::Types, names[k], definitions[k], Visibility::Public, true);
+        public_type(&mut words, homes[k - 1], names[k], definitions[k]);
     }
     words
 }
@@ -163,25 +181,20 @@ pub fn dependencies() -> SnapshotWords {
     const CRATES: usize = 64;
     let mut words = SnapshotWords::new();
     let names = numbered(&mut words, "crate_", CRATES);
-    let crates: Vec<CrateId> = (0..CRATES).map(|_| words.krate(Origin::Ordinary, false, Edition::Rust2021)).collect();
-    for (k, krate) in crates.iter().enumerate() {
-        for dependency in &crates[..k] {
-            words.dependency(*krate, *dependency, false);
-        }
-    }
+    let crates = crates(&mut words, CRATES);
     let roots: Vec<ModuleId> = crates
         .iter()
         .map(|krate| {
-            let map = words.map(*krate, None, false);
+            let map = own_map(&mut words, *krate);
             words.module(map, None)
         })
         .collect();
     let items: Vec<DefinitionId> = roots.iter().map(|root| words.other_definition(*root)).collect();
     for k in 0..CRATES {
-        words.scope(roots[k], Namespace::Types, names[k], items[k], Visibility::Public, true);
+        public_type(&mut words, roots[k], names[k], items[k]);
     }
     for k in 0..CRATES {
-        words.import(crates[k], Namespace::Types, items[k], names[k], roots[k], false, false);
+        words.add_import(crates[k], import(items[k], names[k], roots[k]));
     }
     for (k, krate) in crates.iter().enumerate() {
         for (name, root) in names.iter().zip(&roots).take(k) {
@@ -205,12 +218,12 @@ pub fn one_scope() -> SnapshotWords {
     const ENTRIES: usize = 1160;
     let mut words = SnapshotWords::new();
     let names: Vec<NameId> = (0..ENTRIES).map(|k| words.name(&format!("n{k:05}"))).collect();
-    let krate = words.krate(Origin::Ordinary, false, Edition::Rust2021);
-    let map = words.map(krate, None, false);
+    let krate = words.add_crate(Default::default());
+    let map = own_map(&mut words, krate);
     let root = words.module(map, None);
     let items: Vec<DefinitionId> = names.iter().map(|_| words.other_definition(root)).collect();
     for (name, item) in names.iter().zip(&items) {
-        words.scope(root, Namespace::Types, *name, *item, Visibility::Public, true);
+        public_type(&mut words, root, *name, *item);
     }
     words
 }

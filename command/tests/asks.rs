@@ -1,8 +1,8 @@
 //! Questions, trees and graphs.
 mod common;
 
-use common::{WORKED, bytes, file, kelumavor, out, snapshot};
-use kelumavor::{DefinitionId, ModuleId, Namespace, Outcome, Question, Rule, Snapshot, SnapshotWords, Visibility};
+use common::{WORKED, build, bytes, file, kelumavor, out, snapshot};
+use kelumavor::{DefinitionId, ModuleId, Namespace, Outcome, Question, Rule, Snapshot};
 use kelumavor_command::record::Kind;
 use kelumavor_command::view::View;
 use kelumavor_command::{ask, dot, resolve, tree};
@@ -75,17 +75,7 @@ fn options_by_name_and_number() {
 /// In a block whose own `f` hides the one around it the path is no answer, and the status says so.
 #[test]
 fn a_path_that_misleads() {
-    let mut words = SnapshotWords::new();
-    let f = words.name("f");
-    let krate = words.krate(Default::default(), false, Default::default());
-    let map = words.map(krate, None, false);
-    let root = words.module(map, None);
-    let block_map = words.map(krate, Some(root), false);
-    let block = words.module(block_map, None);
-    let [outer, inner] = [root, block].map(|module| words.other_definition(module));
-    words.scope(root, Namespace::Values, f, outer, Visibility::Public, true);
-    words.scope(block, Namespace::Values, f, inner, Visibility::Public, true);
-    let file = file("misleads", &bytes(words.as_words()));
+    let file = file("misleads", &bytes(&build::hiding().words));
     let plain = ["ask", &file, "--item", "0", "--from", "1", "--namespace", "values"];
     let ask = |more: &[&str]| kelumavor(&[&plain[..], more].concat());
     let output = ask(&["--options", "read-back"]);

@@ -1,10 +1,11 @@
 //! Import lists built by the library.
 mod common;
 
-use common::WORKED;
+use common::{WORKED, build};
+use kelumavor::record::{Dependency, Member};
 use kelumavor::{
-    CrateId, DefinitionId, Import, MemberKind, ModuleId, NameId, Namespace, Outcome, Question, RefusalKind, Snapshot,
-    SnapshotWords, Visibility, with_import_lists,
+    CrateId, DefinitionId, Entry, Import, MemberKind, ModuleId, NameId, Namespace, Outcome, Question, RefusalKind,
+    Snapshot, SnapshotWords, with_import_lists,
 };
 
 #[test]
@@ -35,14 +36,13 @@ fn finished_snapshot_is_searched() {
     // Crate 0 depends on crate 1, whose root holds a function `f`: found through the import list alone.
     let mut words = SnapshotWords::new();
     let [dep, f] = ["dep", "f"].map(|text| words.name(text));
-    let [user, used] = [(); 2].map(|()| words.krate(Default::default(), false, Default::default()));
-    words.dependency(user, used, false);
-    let [here, there] = [user, used].map(|krate| {
-        let map = words.map(krate, None, false);
-        words.module(map, None)
+    let [(user, here), (used, there)] = [(); 2].map(|()| {
+        let (krate, _, root) = build::own_crate(&mut words);
+        (krate, root)
     });
+    words.add_dependency(Dependency { owner: user, on: used, sysroot: false });
     let function = words.other_definition(there);
-    words.scope(there, Namespace::Values, f, function, Visibility::Public, true);
+    words.add_entry(Entry::new(there, Namespace::Values, f, function));
     words.extern_prelude(user, dep, there);
     let question = Question::new(Namespace::Values, function, here);
 
@@ -58,16 +58,15 @@ fn lists_longer_than_a_snapshot() {
     // An enum under many names, with many variants.
     let mut words = SnapshotWords::new();
     let names: Vec<_> = (0..64).map(|k| words.name(&format!("n{k}"))).collect();
-    let krate = words.krate(Default::default(), false, Default::default());
-    let map = words.map(krate, None, false);
-    let root = words.module(map, None);
+    let (krate, _, root) = build::own_crate(&mut words);
     let owner = words.other_definition(root);
     let variants: Vec<_> = names.iter().map(|&name| words.variant_definition(owner, name)).collect();
     for &name in &names {
-        words.scope(root, Namespace::Types, name, owner, Visibility::Public, true);
+        words.add_entry(Entry::new(root, Namespace::Types, name, owner));
     }
-    for (&name, &variant) in names.iter().zip(&variants) {
-        words.member(owner, name, variant, MemberKind::Variant, false, false);
+    for (&name, &definition) in names.iter().zip(&variants) {
+        let kind = MemberKind::Variant;
+        words.add_member(Member { parent: owner, name, definition, kind, hidden: false, unstable: false });
     }
     let list = Snapshot::check(words.as_words()).unwrap().import_list(krate).unwrap();
     assert_eq!(list.imports().count(), 64 * 65);

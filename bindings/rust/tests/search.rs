@@ -1,10 +1,12 @@
 //! Questions: the worked cases, and random ones against the path printer.
 mod common;
 
-use common::{WORKED, printed, random};
+use common::build::Hiding;
+use common::{WORKED, build, printed, random};
+use kelumavor::record::Crate;
 use kelumavor::{
-    DefinitionId, Edition, FirstEmpty, ModuleId, NameId, Namespace, Options, Outcome, PathKind, Prefix, Question,
-    RefusalKind, Report, Rule, Snapshot, SnapshotWords, Step, Visibility, Windows, WorkArea,
+    DefinitionId, Edition, Entry, FirstEmpty, ModuleId, NameId, Namespace, Options, Outcome, PathKind, Prefix,
+    Question, RefusalKind, Report, Rule, Snapshot, SnapshotWords, Step, Windows, WorkArea,
 };
 
 const NAMESPACES: [Namespace; 3] = [Namespace::Types, Namespace::Values, Namespace::Macros];
@@ -69,12 +71,10 @@ fn routes_name_their_records() {
 fn old_names_come_last() {
     let mut words = SnapshotWords::new();
     let [old, new] = ["old", "new"].map(|text| words.name(text));
-    let krate = words.krate(Default::default(), false, Default::default());
-    let map = words.map(krate, None, false);
-    let root = words.module(map, None);
+    let (_, _, root) = build::own_crate(&mut words);
     let item = words.other_definition(root);
-    words.deprecated_scope(root, Namespace::Types, old, item, Visibility::Public, true);
-    words.scope(root, Namespace::Types, new, item, Visibility::Public, false);
+    words.add_entry(Entry { deprecated: true, ..Entry::new(root, Namespace::Types, old, item) });
+    words.add_entry(Entry { declared: false, ..Entry::new(root, Namespace::Types, new, item) });
     let snapshot = Snapshot::check(words.as_words()).unwrap();
     let ask = |options| snapshot.find_path(&Question::new(Namespace::Types, item, root).options(options)).to_string();
     assert_eq!(ask(Options::default()), "found old 0 0");
@@ -87,17 +87,8 @@ fn old_names_come_last() {
 /// In the block its own `f` hides the one around it; a path from `crate` is not hidden.
 #[test]
 fn misleading_paths_are_told() {
-    let mut words = SnapshotWords::new();
-    let f = words.name("f");
-    let krate = words.krate(Default::default(), false, Default::default());
-    let map = words.map(krate, None, false);
-    let root = words.module(map, None);
-    let block_map = words.map(krate, Some(root), false);
-    let block = words.module(block_map, None);
-    let [outer, inner] = [root, block].map(|module| words.other_definition(module));
-    words.scope(root, Namespace::Values, f, outer, Visibility::Public, true);
-    words.scope(block, Namespace::Values, f, inner, Visibility::Public, true);
-    let snapshot = Snapshot::check(words.as_words()).unwrap();
+    let Hiding { words, block, outer, inner } = build::hiding();
+    let snapshot = Snapshot::check(&words).unwrap();
     let question = Question::new(Namespace::Values, outer, block);
     let read = Options { read_back: true, ..Options::default() };
     assert!(matches!(snapshot.find_path(&question).outcome, Outcome::Found(_)));
@@ -133,15 +124,14 @@ fn keywords_are_raw_in_the_edition_of_the_viewer() {
     let line = |edition, text: &str| {
         let mut words = SnapshotWords::new();
         let [name, f] = [text, "f"].map(|text| words.name(text));
-        let krate = words.krate(Default::default(), false, edition);
-        let map = words.map(krate, None, false);
-        let root = words.module(map, None);
+        let krate = words.add_crate(Crate { edition, ..Crate::default() });
+        let (map, root) = build::map(&mut words, krate, None);
         let module = words.module(map, Some(root));
         words.child(root, module);
         let module_definition = words.module_definition(module);
         let item = words.other_definition(module);
-        words.scope(root, Namespace::Types, name, module_definition, Visibility::Public, true);
-        words.scope(module, Namespace::Types, f, item, Visibility::Public, true);
+        words.add_entry(Entry::new(root, Namespace::Types, name, module_definition));
+        words.add_entry(Entry::new(module, Namespace::Types, f, item));
         let snapshot = Snapshot::check(words.as_words()).unwrap();
         assert_eq!(snapshot.edition(root), Some(edition));
         assert_eq!(snapshot.edition(ModuleId(2)), None);

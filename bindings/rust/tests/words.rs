@@ -1,9 +1,13 @@
 //! Writing words: nothing is masked.
-use std::panic::catch_unwind;
+mod common;
 
+use std::panic::{AssertUnwindSafe, catch_unwind};
+
+use common::build;
+use kelumavor::record::{Dependency, Map, Member};
 use kelumavor::{
-    CrateId, DefinitionId, Edition, MapId, ModuleId, NameId, Namespace, Outcome, Question, Refusal, RefusalKind,
-    Snapshot, SnapshotWords, Text, Visibility,
+    CrateId, DefinitionId, Edition, Entry, Import, MapId, MemberKind, ModuleId, NameId, Namespace, Outcome, Question,
+    Refusal, RefusalKind, Snapshot, SnapshotWords, Text, Visibility,
 };
 
 #[test]
@@ -18,19 +22,69 @@ fn names_have_1_to_255_bytes() {
     assert!(catch_unwind(|| SnapshotWords::new().name(&"x".repeat(256))).is_err());
 }
 
+/// The record is refused with the number one past the last, and with larger ones, and the words stay as they were.
+#[track_caller]
+fn panics_past<T>(last: u32, add: impl Fn(&mut SnapshotWords, u32) -> T) {
+    let mut words = SnapshotWords::new();
+    add(&mut words, last);
+    let before = words.to_bytes();
+    for number in [last + 1, 1 << 29, u32::MAX - 1, u32::MAX] {
+        assert!(catch_unwind(AssertUnwindSafe(|| add(&mut words, number))).is_err(), "{number}");
+        assert_eq!(words.to_bytes(), before);
+    }
+}
+
 #[test]
 fn numbers_have_28_bits() {
     let most = (1 << 28) - 1;
-    for number in [1 << 28, u32::MAX - 1, u32::MAX] {
-        assert!(catch_unwind(|| SnapshotWords::new().child(ModuleId(number), ModuleId(0))).is_err());
-        assert!(catch_unwind(|| SnapshotWords::new().child(ModuleId(0), ModuleId(number))).is_err());
-        assert!(catch_unwind(|| SnapshotWords::new().map(CrateId(0), Some(ModuleId(number)), false)).is_err());
-        assert!(catch_unwind(|| SnapshotWords::new().module(MapId(0), Some(ModuleId(number)))).is_err());
-    }
+    let entry = Entry::new(ModuleId(0), Namespace::Types, NameId(0), DefinitionId(0));
+    panics_past(most, |words, number| words.add_entry(Entry { module: ModuleId(number), ..entry }));
+    panics_past(most, |words, number| words.add_entry(Entry { name: NameId(number), ..entry }));
+    panics_past(most, |words, number| words.add_entry(Entry { definition: DefinitionId(number), ..entry }));
+    panics_past(most, |words, number| {
+        words.add_entry(Entry { visibility: Visibility::Crate(CrateId(number)), ..entry });
+    });
+    panics_past(most, |words, number| words.child(ModuleId(number), ModuleId(0)));
+    panics_past(most, |words, number| words.child(ModuleId(0), ModuleId(number)));
+    panics_past(most, |words, number| words.prelude(MapId(number), ModuleId(0)));
+    panics_past(most, |words, number| words.variant_definition(DefinitionId(0), NameId(number)));
+    panics_past(most, |words, number| words.extern_prelude(CrateId(0), NameId(number), ModuleId(0)));
+    let member = Member {
+        parent: DefinitionId(0),
+        name: NameId(0),
+        definition: DefinitionId(0),
+        kind: MemberKind::Function,
+        hidden: true,
+        unstable: true,
+    };
+    panics_past(most, |words, number| words.add_member(Member { parent: DefinitionId(number), ..member }));
+    panics_past(most, |words, number| words.add_member(Member { definition: DefinitionId(number), ..member }));
+    let import = Import {
+        namespace: Namespace::Types,
+        definition: DefinitionId(0),
+        name: NameId(0),
+        container: ModuleId(0),
+        hidden: true,
+        unstable: true,
+    };
+    panics_past(most, |words, number| words.add_import(CrateId(number), import));
+    panics_past(most, |words, number| words.add_import(CrateId(0), Import { container: ModuleId(number), ..import }));
+    panics_past(most, |words, number| {
+        words.add_dependency(Dependency { owner: CrateId(0), on: CrateId(number), sysroot: true });
+    });
     let mut words = SnapshotWords::new();
     words.child(ModuleId(most), ModuleId(most));
     assert_eq!(words.as_words(), [6 << 28 | most, most]);
-    assert!(catch_unwind(|| SnapshotWords::new().module(MapId(0), Some(ModuleId(most)))).is_err());
+}
+
+/// A module that may be missing is written with one added.
+#[test]
+fn numbers_of_parents_are_below_the_last() {
+    let most = (1 << 28) - 2;
+    panics_past(most, |words, number| words.module(MapId(0), Some(ModuleId(number))));
+    panics_past(most, |words, number| {
+        words.add_map(Map { krate: CrateId(0), block_in: Some(ModuleId(number)), no_std: true })
+    });
 }
 
 #[test]
@@ -62,11 +116,8 @@ fn counts_of_a_snapshot() {
     assert_eq!(refused(&words), Some(RefusalKind::TooManyRecords));
     for (crates, more) in [(CrateId::COUNT, None), (CrateId::COUNT + 1, Some(RefusalKind::TooManyRecords))] {
         let mut words = SnapshotWords::new();
-        let crates: Vec<CrateId> =
-            (0..crates).map(|_| words.krate(Default::default(), false, Default::default())).collect();
-        for krate in crates {
-            let map = words.map(krate, None, false);
-            words.module(map, None);
+        for _ in 0..crates {
+            build::own_crate(&mut words);
         }
         assert_eq!(refused(&words), more);
     }
@@ -76,9 +127,7 @@ fn counts_of_a_snapshot() {
         (1, DefinitionId::COUNT + 1, Some(RefusalKind::TooManyRecords)),
     ] {
         let mut words = SnapshotWords::new();
-        let krate = words.krate(Default::default(), false, Default::default());
-        let map = words.map(krate, None, false);
-        let root = words.module(map, None);
+        let (_, map, root) = build::own_crate(&mut words);
         for _ in 1..modules {
             words.module(map, Some(root));
         }
@@ -95,11 +144,9 @@ fn reports_compare() {
     let words = |name: &str| {
         let mut words = SnapshotWords::new();
         let name = words.name(name);
-        let krate = words.krate(Default::default(), false, Default::default());
-        let map = words.map(krate, None, false);
-        let root = words.module(map, None);
+        let (_, _, root) = build::own_crate(&mut words);
         let item = words.other_definition(root);
-        words.scope(root, Namespace::Types, name, item, Visibility::Public, true);
+        words.add_entry(Entry::new(root, Namespace::Types, name, item));
         words.into_words()
     };
     let [one, same, other] = ["a", "a", "b"].map(words);

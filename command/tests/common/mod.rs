@@ -1,5 +1,8 @@
 //! Snapshots by chance, damage, and the command itself.
 #![allow(dead_code)]
+#[path = "../../../bindings/rust/tests/common/build.rs"]
+pub mod build;
+
 use std::collections::HashSet;
 use std::path::PathBuf;
 use std::process::{Command, Output};

@@ -1,5 +1,6 @@
 //! Snapshots for the tests.
 #![allow(dead_code)]
+pub mod build;
 pub mod random;
 
 use std::io::Write;

@@ -1,9 +1,10 @@
 //! Snapshots that the check accepts, by chance.
 use std::collections::HashSet;
 
+use kelumavor::record::{Crate, Dependency, Map};
 use kelumavor::{
-    CrateId, DefinitionId, Edition, MapId, ModuleId, NameId, Namespace, Options, Origin, Prefix, Question,
-    SnapshotWords, Visibility,
+    CrateId, DefinitionId, Edition, Entry, Import, MapId, ModuleId, NameId, Namespace, Options, Origin, Prefix,
+    Question, SnapshotWords, Visibility,
 };
 
 pub struct Random(u64);
@@ -133,15 +134,15 @@ impl Writer<'_> {
     fn crates(&mut self) {
         for _ in 0..1 + self.random.below(4) {
             let origin = if self.random.chance(60) { Origin::Ordinary } else { self.random.of(&ORIGINS) };
-            let no_std = self.random.chance(30);
+            let supports_no_std = self.random.chance(30);
             let edition = self.random.of(&EDITIONS);
-            self.crates.push(self.words.krate(origin, no_std, edition));
+            self.crates.push(self.words.add_crate(Crate { origin, edition, supports_no_std }));
         }
         for _ in 0..self.random.below(6) {
             let owner = self.random.of(&self.crates);
             let on = self.random.of(&self.crates);
             let sysroot = self.random.chance(30);
-            self.words.dependency(owner, on, sysroot);
+            self.words.add_dependency(Dependency { owner, on, sysroot });
         }
     }
 
@@ -157,9 +158,9 @@ impl Writer<'_> {
         }
     }
 
-    fn map(&mut self, krate: CrateId, block: Option<ModuleId>) {
+    fn map(&mut self, krate: CrateId, block_in: Option<ModuleId>) {
         let no_std = self.random.chance(20);
-        let map = self.words.map(krate, block, no_std);
+        let map = self.words.add_map(Map { krate, block_in, no_std });
         self.maps.push(map);
         let first = self.modules.len();
         for k in 0..1 + self.random.below(5) {
@@ -244,11 +245,9 @@ impl Writer<'_> {
             6 => Visibility::Implicit(self.random.of(&self.modules).id),
             _ => Visibility::Implicit(module),
         };
-        if self.random.chance(30) {
-            self.words.deprecated_scope(module, namespace, name, definition, visibility, declared);
-        } else {
-            self.words.scope(module, namespace, name, definition, visibility, declared);
-        }
+        let deprecated = self.random.chance(30);
+        let entry = Entry::new(module, namespace, name, definition);
+        self.words.add_entry(Entry { visibility, declared, deprecated, ..entry });
     }
 
     /// A namespace in which the definition may stand.
@@ -266,7 +265,7 @@ impl Writer<'_> {
             let container = self.random.of(&self.modules).id;
             let hidden = self.random.chance(20);
             let unstable = self.random.chance(20);
-            self.words.import(krate, namespace, definition, name, container, hidden, unstable);
+            self.words.add_import(krate, Import { namespace, definition, name, container, hidden, unstable });
         }
         let mut externs = HashSet::new();
         for _ in 0..self.random.below(6) {
