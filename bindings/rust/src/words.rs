@@ -3,7 +3,7 @@ use std::cell::OnceCell;
 use std::collections::HashMap;
 
 use crate::edits::Entry;
-use crate::ids::{CrateId, DefinitionId, MapId, ModuleId, NameId, Namespace};
+use crate::ids::{CrateId, DefinitionId, MapId, ModuleId, NameId};
 use crate::imports::Import;
 use crate::record::{Child, Crate, Definition, Dependency, Extern, Map, Member, Module, Prelude, Record};
 use crate::refusal::{Refusal, RefusalKind};
@@ -108,9 +108,8 @@ const KINDS: usize = 14;
 /// Each number given out is the one that the words have, but for modules: where one is added to a map after those of a later map,
 /// [`SnapshotWords::number_of`] says which number it has in the words.
 ///
-/// # Panics
-///
-/// Its functions panic for a number of more than 28 bits, which no record can hold: nothing is cut off.
+/// No record holds a number of more than 28 bits, and no snapshot has so many records: a function that gets one panics and adds nothing.
+/// Smaller numbers of what is not there are found by the check, as records may come before those that they name.
 ///
 /// ```
 /// use kelumavor::record::{Crate, Definition, Map, Module};
@@ -222,6 +221,7 @@ impl SnapshotWords {
     }
 
     /// Adds a record; answers its number among those of its kind.
+    #[track_caller]
     fn add(&mut self, record: Record) -> u32 {
         let (kind, payload, arguments) = record.parts();
         for number in arguments.iter().chain([&payload]) {
@@ -238,6 +238,7 @@ impl SnapshotWords {
     /// # Panics
     ///
     /// A text that is empty, or longer than [`Text::LIMIT`]; [`try_name`](Self::try_name) answers an error for it.
+    #[track_caller]
     pub fn name(&mut self, text: &str) -> NameId {
         self.try_name(text.as_bytes()).expect("a name has 1 to 255 bytes")
     }
@@ -265,154 +266,162 @@ impl SnapshotWords {
     }
 
     /// A crate that another depends on.
+    ///
+    /// # Panics
+    ///
+    /// A number of more than 28 bits.
+    #[track_caller]
     pub fn add_dependency(&mut self, dependency: Dependency) {
         self.add(Record::Dependency(dependency));
     }
 
     /// A map of a crate: its own, or that of a block in a module.
+    ///
+    /// # Panics
+    ///
+    /// A number of more than 28 bits, where one is added to that of `block_in`.
+    #[track_caller]
     pub fn add_map(&mut self, map: Map) -> MapId {
         MapId(self.add(Record::Map(map)))
     }
 
     /// A module of a map; its first is its root.
+    ///
+    /// # Panics
+    ///
+    /// A number of more than 28 bits, where one is added to that of `parent`.
+    #[track_caller]
     pub fn add_module(&mut self, module: Module) -> ModuleId {
         ModuleId(self.add(Record::Module(module)))
     }
 
-    /// The same.
+    /// The same, by its fields.
+    ///
+    /// # Panics
+    ///
+    /// A number of more than 28 bits, where one is added to that of `parent`.
+    #[track_caller]
     pub fn module(&mut self, map: MapId, parent: Option<ModuleId>) -> ModuleId {
         self.add_module(Module { map, parent })
     }
 
     /// A module among the children of its parent.
+    ///
+    /// # Panics
+    ///
+    /// A number of more than 28 bits.
+    #[track_caller]
     pub fn child(&mut self, owner: ModuleId, module: ModuleId) {
         self.add(Record::Child(Child { owner, module }));
     }
 
     /// The prelude of a map.
+    ///
+    /// # Panics
+    ///
+    /// A number of more than 28 bits.
+    #[track_caller]
     pub fn prelude(&mut self, map: MapId, module: ModuleId) {
         self.add(Record::Prelude(Prelude { map, module }));
     }
 
     /// A definition.
+    ///
+    /// # Panics
+    ///
+    /// A number of more than 28 bits.
+    #[track_caller]
     pub fn add_definition(&mut self, definition: Definition) -> DefinitionId {
         DefinitionId(self.add(Record::Definition(definition)))
     }
 
     /// The definition of a module.
+    ///
+    /// # Panics
+    ///
+    /// A number of more than 28 bits.
+    #[track_caller]
     pub fn module_definition(&mut self, module: ModuleId) -> DefinitionId {
         self.add_definition(Definition::Module(module))
     }
 
     /// A variant, of a definition by [`other_definition`](Self::other_definition).
+    ///
+    /// # Panics
+    ///
+    /// A number of more than 28 bits.
+    #[track_caller]
     pub fn variant_definition(&mut self, parent: DefinitionId, name: NameId) -> DefinitionId {
         self.add_definition(Definition::Variant { parent, name })
     }
 
     /// A builtin type, by its name.
+    ///
+    /// # Panics
+    ///
+    /// A number of more than 28 bits.
+    #[track_caller]
     pub fn builtin_definition(&mut self, name: NameId) -> DefinitionId {
         self.add_definition(Definition::Builtin(name))
     }
 
     /// A definition that is no module, variant, builtin or macro.
+    ///
+    /// # Panics
+    ///
+    /// A number of more than 28 bits.
+    #[track_caller]
     pub fn other_definition(&mut self, home: ModuleId) -> DefinitionId {
         self.add_definition(Definition::Other(home))
     }
 
     /// A macro.
+    ///
+    /// # Panics
+    ///
+    /// A number of more than 28 bits.
+    #[track_caller]
     pub fn macro_definition(&mut self, home: ModuleId) -> DefinitionId {
         self.add_definition(Definition::Macro(home))
     }
 
     /// An entry of a module's scope.
+    ///
+    /// # Panics
+    ///
+    /// A number of more than 28 bits.
+    #[track_caller]
     pub fn add_entry(&mut self, entry: Entry) {
         self.add(Record::Entry(entry));
     }
 
     /// An entry of a crate's import map.
+    ///
+    /// # Panics
+    ///
+    /// A number of more than 28 bits.
+    #[track_caller]
     pub fn add_import(&mut self, krate: CrateId, import: Import) {
         self.add(Record::Import(krate, import));
     }
 
     /// An entry of a crate's extern prelude.
+    ///
+    /// # Panics
+    ///
+    /// A number of more than 28 bits.
+    #[track_caller]
     pub fn extern_prelude(&mut self, krate: CrateId, name: NameId, root: ModuleId) {
         self.add(Record::Extern(Extern { krate, name, root }));
     }
 
     /// A member of an enum or a trait.
+    ///
+    /// # Panics
+    ///
+    /// A number of more than 28 bits.
+    #[track_caller]
     pub fn add_member(&mut self, member: Member) {
         self.add(Record::Member(member));
-    }
-}
-
-/// Functions with flags by place, for the tests and benchmarks of this repository.
-#[doc(hidden)]
-#[allow(missing_docs, clippy::too_many_arguments, clippy::fn_params_excessive_bools)]
-impl SnapshotWords {
-    pub fn krate(&mut self, origin: Origin, supports_no_std: bool, edition: Edition) -> CrateId {
-        self.add_crate(Crate { origin, edition, supports_no_std })
-    }
-
-    pub fn dependency(&mut self, owner: CrateId, on: CrateId, sysroot: bool) {
-        self.add_dependency(Dependency { owner, on, sysroot });
-    }
-
-    pub fn map(&mut self, krate: CrateId, block_in: Option<ModuleId>, no_std: bool) -> MapId {
-        self.add_map(Map { krate, block_in, no_std })
-    }
-
-    pub fn scope(
-        &mut self,
-        module: ModuleId,
-        namespace: Namespace,
-        name: NameId,
-        definition: DefinitionId,
-        visibility: Visibility,
-        declared: bool,
-    ) {
-        self.add_entry(Entry { visibility, declared, ..Entry::new(module, namespace, name, definition) });
-    }
-
-    pub fn deprecated_scope(
-        &mut self,
-        module: ModuleId,
-        namespace: Namespace,
-        name: NameId,
-        definition: DefinitionId,
-        visibility: Visibility,
-        declared: bool,
-    ) {
-        let entry = Entry::new(module, namespace, name, definition);
-        self.add_entry(Entry { visibility, declared, deprecated: true, ..entry });
-    }
-
-    pub fn scope_attributes(&mut self, hidden: bool, unstable: bool) {
-        let Some(Record::Entry(entry)) = self.records[9].pop() else { panic!("there is an entry of a scope") };
-        self.add_entry(Entry { hidden, unstable, ..entry });
-    }
-
-    pub fn import(
-        &mut self,
-        krate: CrateId,
-        namespace: Namespace,
-        definition: DefinitionId,
-        name: NameId,
-        container: ModuleId,
-        hidden: bool,
-        unstable: bool,
-    ) {
-        self.add_import(krate, Import { namespace, definition, name, container, hidden, unstable });
-    }
-
-    pub fn member(
-        &mut self,
-        parent: DefinitionId,
-        name: NameId,
-        definition: DefinitionId,
-        kind: MemberKind,
-        hidden: bool,
-        unstable: bool,
-    ) {
-        self.add_member(Member { parent, name, definition, kind, hidden, unstable });
     }
 }
