@@ -9,7 +9,7 @@ use Rattle.answer.specs.Answers.{areaAfter}
 
 -- viewing module, prefix, options, fuel and limit
 abbrev pub viewerOf : List ℕ → Viewer
-viewerOf W = record { from = getD W 0 0; prefix = getD W 1 0; options = getD W 2 0; fuel = getD W 3 0; limit = getD W 4 0 }
+viewerOf W = record { from = record { 0 = getD W 0 0 }; prefix = getD W 1 0; options = getD W 2 0; fuel = getD W 3 0; limit = getD W 4 0 }
 
 -- W are the words, A₀ the work area before the call, A the one after it; r is the number of the refusal, 0 for none
 pub record ReachesIn (W A₀ : List ℕ) (v : Viewer) (A counts : List ℕ) (r : ℕ) : Type 0 where

@@ -2,6 +2,7 @@
 ghost use mathlib.Core.Path.{_≡_};
 ghost use Rattle.exports.specs.Reaches.{viewerOf};
 use reach_parts::Viewer;
+use snapshot::ids::ModuleId;
 use snapshot::words::word;
 
 /// Viewing module, prefix, options, fuel and limit.
@@ -9,7 +10,7 @@ pub(crate) fn viewer_of(words: &[u32]) -> Viewer
     ensures { λ r. ⌜ r ≡ viewerOf (now (words .entry)) ⌝ }
 {
     Viewer {
-        from: word(words, 0),
+        from: ModuleId(word(words, 0)),
         prefix: word(words, 1),
         options: word(words, 2),
         fuel: word(words, 3),

@@ -23,7 +23,7 @@ returns c =
     let b = d .before in
     let a = b .before in
     λ i. record {
-      from = a .before .word .ensures i;
+      from = record { 0 = a .before .word .ensures i };
       prefix = a .word2 .ensures i;
       options = b .word3 .ensures i;
       fuel = d .word4 .ensures i;
