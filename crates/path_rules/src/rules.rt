@@ -84,7 +84,7 @@ pub fn find_in_scope(words: &[u32], area: &[u32], l: Layout, x: FindPathCtx, ite
     )
 }
 
-// Whether the scope is used: under ByCrate only the crate's root does.
+/// Whether the scope is used: under ByCrate only the crate's root does.
 pub fn may_be_in_scope(x: FindPathCtx) -> bool
     ensures { λ r. ⌜ ((s : Snapshot) → r ≡ mayBeInScope s x) ⌝ }
 {
