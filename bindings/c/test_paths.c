@@ -28,6 +28,8 @@ int main(void)
         printf("%zu ", kelumavor_edition(words, count, from));
         if (n > 0)
             printf("%.*s %d\n", (int)n, (const char *)path, kelumavor_is_use_line(report));
+        else if (report[KELUMAVOR_OUTCOME] == KELUMAVOR_MISLEADS)
+            printf("misleads %d\n", kelumavor_is_use_line(report));
         else
             puts(report[KELUMAVOR_OUTCOME] == KELUMAVOR_NONE ? "none" : kelumavor_refusal_text(report[KELUMAVOR_NUMBER]));
     }

@@ -6,7 +6,7 @@ use std::path::PathBuf;
 use std::process::{Command, Stdio};
 
 use common::{random, repository};
-use kelumavor::{Question, RefusalKind, Snapshot, VERSION};
+use kelumavor::{Outcome, Question, RefusalKind, Snapshot, VERSION};
 
 /// The program of a C file, or none without the compiler.
 fn compiled(compiler: &str, standard: &str, file: &str) -> Option<PathBuf> {
@@ -65,6 +65,7 @@ fn paths_as_text() {
                     let report = snapshot.find_path(question);
                     let edition = snapshot.edition(question.from).map_or(0, |edition| edition as u32);
                     let answer = match (report.path(), report.refusal()) {
+                        _ if matches!(report.outcome, Outcome::Misleads(_)) => "misleads 0".to_string(),
                         (Some(path), _) => format!("{path} {}", u32::from(path.is_use_line())),
                         (None, Some(refusal)) => refusal.kind().to_string(),
                         (None, None) => "none".to_string(),
