@@ -4,4 +4,5 @@ pub mod Lookups
 pub mod Scopes
 pub mod Walks
 pub mod Nameres
+pub mod Crates
 pub mod Parts

@@ -33,11 +33,11 @@ pub data Along {A : Type 0} (Alike : A → A → Type 0) : List A → List A →
   end : Along Alike [] []
   next : {x z : A} {xs zs : List A} → Alike x z → Along Alike xs zs → Along Alike (x ∷ xs) (z ∷ zs)
 
-first-hit : {A : Type 0} (t : A → Bool) (x : A) (xs : List A) → t x ≡ true → firstOf t (x ∷ xs) ≡ some x
+pub first-hit : {A : Type 0} (t : A → Bool) (x : A) (xs : List A) → t x ≡ true → firstOf t (x ∷ xs) ≡ some x
 unfolding firstOf
 first-hit t x xs e = rw (firstOf, e)
 
-first-miss : {A : Type 0} (t : A → Bool) (x : A) (xs : List A) → t x ≡ false → firstOf t (x ∷ xs) ≡ firstOf t xs
+pub first-miss : {A : Type 0} (t : A → Bool) (x : A) (xs : List A) → t x ≡ false → firstOf t (x ∷ xs) ≡ firstOf t xs
 unfolding firstOf
 first-miss t x xs e = rw (firstOf, e)
 
