@@ -5,4 +5,5 @@ pub mod Scopes
 pub mod Walks
 pub mod Nameres
 pub mod Crates
+pub mod Choices
 pub mod Parts
