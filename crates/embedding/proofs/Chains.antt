@@ -27,6 +27,11 @@ eqb-moved f n apart i j a b =
     (λ t. eq-eqb (f i) (f j) (ap f (eqb-true i j t)) ∙ sym t)
     (λ t. ne-eqb (f i) (f j) (λ q. eqb-false i j t (apart i j a b q)) ∙ sym t)
 
+-- "+1" fields say none alike
+pub none-same : (f : ℕ → ℕ) (n : ℕ) → eqb (orNone f n) 0 ≡ eqb n 0
+none-same f zero = refl
+none-same f (suc n) = ne-eqb (suc (f n)) 0 (λ z. omega arith) ∙ sym (ne-eqb (suc n) 0 (λ z. omega arith))
+
 -- a chain of steps, and the same steps over moved numbers
 module _ (f g h : ℕ → ℕ) (n k : ℕ) (low : Falls g n) (high : Falls h k) (there : (m : ℕ) → m < n → f m < k)
     (step : (m : ℕ) → m < n → h (f m) ≡ orNone f (g m))
@@ -135,6 +140,11 @@ module _ (e : Numbers) (s u : Snapshot) (em : Embeds e s u) (v : Valid s) (w : V
         ap₂ unless (ap (λ i. eqb i (e .maps k)) map-moved ∙ eqb-moved (e .maps) (length (s .maps)) (em .maps-apart) (mapNo s m) k (map-known s (v .tree) m l) h) block-moved
         ∙ unless-moved (e .modules) (eqb (mapNo s m) k) (blockOf s m)
 
+  -- the crates of two modules
+  pub crates-compared : (m k : ℕ) → Known m → Known k → eqb (crateOf u (e .modules m)) (crateOf u (e .modules k)) ≡ eqb (crateOf s m) (crateOf s k)
+  crates-compared m k l h =
+      ap₂ eqb (crate-moved m l) (crate-moved k h) ∙ eqb-moved (e .crates) (length (s .crates)) (em .crates-apart) (crateOf s m) (crateOf s k) (crate-known m l) (crate-known k h)
+
   pub ancestors-moved : (m : ℕ) → Known m → ancestorMaps u (e .modules m) ≡ map (e .modules) (ancestorMaps s m)
   unfolding ancestorMaps
   ancestors-moved m l = ap (λ y. e .modules m ∷ y)
@@ -164,8 +174,7 @@ module _ (e : Numbers) (s u : Snapshot) (em : Embeds e s u) (v : Valid s) (w : V
       let c1 = c .1 in
       let at : climb u (mapNo u (e .modules m)) (e .modules t) ≡ e .modules (climb s (mapNo s m) t) = ap (λ i. climb u i (e .modules t)) (map-moved m l) ∙ c .0 in
       let a = eqb-moved (e .modules) (length (s .modules)) (em .modules-apart) m t l k in
-      let b = ap₂ eqb (crate-moved m l) (crate-moved t k)
-      ∙ eqb-moved (e .crates) (length (s .crates)) (em .crates-apart) (crateOf s m) (crateOf s t) (crate-known m l) (crate-known t k) in
+      let b = crates-compared m t l k in
       let d = ap (met (containing u) (e .modules m)) at
       ∙ met-moved (e .modules) (containing s) (containing u) (length (s .modules)) (length (u .modules)) (containing-falls s (v .tree)) (containing-falls u (w .tree))
       (em .module-there) containing-moved (em .modules-apart) m (climb s (mapNo s m) t) l (omega arith) in

@@ -6,4 +6,5 @@ pub mod Walks
 pub mod Nameres
 pub mod Crates
 pub mod Choices
+pub mod Rules
 pub mod Parts

@@ -15,7 +15,7 @@ use Rattle.accept.specs.Tests.{countsOf, noMap}
 use Rattle.accept.specs.Valid.{Valid, Each, none, more, ScopeFits, crateIn, blockIn}
 use Rattle.hir_def.specs.Finds.{orFirst, firstSome, placeOf}
 use Rattle.hir_def.specs.Items.{types, itemOf, sameItem, blockOf, crateOf, ownMap, rootOf, crateRoot, moduleItem}
-use Rattle.hir_def.specs.ItemScope.{counts, isFor, namesOf, isFresh, preferred, isNamed, get}
+use Rattle.hir_def.specs.ItemScope.{counts, nameOf, namesOf, isDeprecated, isFresh, preferred, get}
 use Rattle.hir_def.specs.Nameres.{steps, ancestorMaps, entryIn, scopeEntry, entryNamed, isOther, occupied}
 use Rattle.hir_def.specs.declared.Item.{Item}
 use Rattle.hir_def.proofs.Chains.{block-falls}
@@ -25,7 +25,7 @@ use Rattle.join_words.proofs.Merged.{place-from}
 use Rattle.embedding.specs.Embeds.{ScopeAlike, Embeds, itemTo}
 use Rattle.embedding.proofs.Chains.{ancestors-moved, crate-moved, crate-known}
 use Rattle.embedding.proofs.Lookups.{Both, neither, each, Hit, Has}
-use Rattle.embedding.proofs.Scopes.{item-same, names-of-moved, get-moved}
+use Rattle.embedding.proofs.Scopes.{item-same, name-of-moved, names-of-moved, get-moved}
 use Rattle.embedding.proofs.Walks.{steps-known}
 
 module _ {A : Type 0} {R : A → A → Type 0} where
@@ -66,16 +66,30 @@ module _ (e : Numbers) (s u : Snapshot) (em : Embeds e s u) (v : Valid s) (w : V
   unfolding ancestorMaps
   ancestors-known m l = more l (steps-known (blockOf s) n (block-falls s (v .tree)) (suc m) m (omega arith) l)
 
-  names-like : (item : Item) → Has s item → (p : Scope → Bool) → ((x z : Scope) → ScopeAlike e x z → p z ≡ p x) → (a : ℕ) → a < n
-      → Both Like (namesOf s a item p) (namesOf u (e .modules a) (itemTo e item) p)
-  names-like item h p same a l = both-as (λ x z r. (r .0, r .1)) (names-of-moved e s u em v a l item h p p (λ x z f r. same x z r))
+  -- a test that tells alike entries alike
+  abbrev pub Same : (Scope → Bool) → (Scope → Bool) → Type 0
+  Same p q = (x z : Scope) → ScopeFits (countsOf s) x → ScopeAlike e x z → q z ≡ p x
+
+  module _ (item : Item) (h : Has s item) (m : ℕ) (l : m < n) where
+    names-like : (p q : Scope → Bool) → Same p q → Both Like (namesOf s m item p) (namesOf u (e .modules m) (itemTo e item) q)
+    names-like p q same = both-as (λ x z r. (r .0, r .1)) (names-of-moved e s u em v m l item h p q same)
+
+    pub name-like : Both Like (nameOf s m item) (nameOf u (e .modules m) (itemTo e item))
+    name-like = both-as (λ x z r. (r .0, r .1)) (name-of-moved e s u em v m l item h)
+
+    -- by options bit 32
+    pub preferred-moved : (fresh : Bool) (p q : Scope → Bool) → Same p q → {a b : Option Scope} → Both Like a b
+        → Both Like (preferred fresh s m item p a) (preferred fresh u (e .modules m) (itemTo e item) q b)
+    unfolding preferred
+    preferred-moved true p q same r =
+        or-both (names-like (isFresh p) (isFresh q) (λ x z f a. ap₂ (λ i j. i && j) (same x z f a) (ap (λ y. not (isDeprecated y)) a))) r
+    preferred-moved false p q same r = r
 
   entry-in-moved : (item : Item) → Has s item → (declared fresh : Bool) (a : ℕ) → a < n
       → Both Like (entryIn s item declared fresh a) (entryIn u (itemTo e item) declared fresh (e .modules a))
-  unfolding preferred
-  entry-in-moved item h declared true a l =
-      or-both (names-like item h (isFresh (counts declared)) (λ x z r. ap (isFresh (counts declared)) r) a l) (names-like item h (counts declared) (λ x z r. ap (counts declared) r) a l)
-  entry-in-moved item h declared false a l = names-like item h (counts declared) (λ x z r. ap (counts declared) r) a l
+  entry-in-moved item h declared fresh a l =
+      let same : Same (counts declared) (counts declared) = λ x z f r. ap (counts declared) r in
+      preferred-moved item h a l fresh (counts declared) (counts declared) same (names-like item h a l (counts declared) (counts declared) same)
 
   module _ (m : ℕ) (l : m < n) where
     -- the item's entry in a module, or around its blocks
@@ -111,7 +125,7 @@ module _ (e : Numbers) (s u : Snapshot) (em : Embeds e s u) (v : Valid s) (w : V
         ∙ any-moved (e .modules) n (λ a. isOther s to (get s a types k)) (λ a. isOther u (e .modules to) (get u a types (e .names k)))
         (λ a la. other-moved to lt (get-like types k h a la)) (ancestorMaps s m) (ancestors-known m l)
 
-  own-known : (c : ℕ) → c < length (s .crates) → ownMap s c < length (s .maps)
+  pub own-known : (c : ℕ) → c < length (s .crates) → ownMap s c < length (s .maps)
   unfolding ownMap
   own-known c l =
       let p : Map → Bool = λ x. eqb (x .crate) c && eqb (x .block) 0 in

@@ -24,6 +24,7 @@ use Rattle.join_words.proofs.Lists.{any-not, any-has, placed-length, placed-at}
 use Rattle.join_words.proofs.Merged.{both-low, both-high, kept-less, number-old, merged-low}
 use Rattle.join_words.proofs.Stages.{Whole}
 use Rattle.join_words.proofs.Sound.{name-at, name-apart, isOther, definition-counts, definition-low, definition-at, module-counts, module-low, module-high, map-counts, map-low, map-high, crate-counts}
+use Rattle.embedding.proofs.Chains.{none-same}
 use Rattle.embedding.specs.Embeds.{Outside, Within, done, ours, theirs, ScopeAlike, ImportAlike, ExternAlike, Embeds}
 
 -- the first element that passes
@@ -322,10 +323,6 @@ module _ (s t : Snapshot) (v : Valid s) (w : Valid t) (sw : Whole s) (tw : Whole
       ∙ ap (λ j. placeOf p j (map (moduleTo e) (t .modules))) q
       ∙ place-shift p (length (s .modules)) 0 (map (moduleTo e) (t .modules))
       ∙ ap (λ j. length (s .modules) + j) (place-map p (λ (x : Module). eqb (x .map) k) (moduleTo e) 0 (t .modules) (λ y. shift-same (length (s .maps)) (y .map) k))
-
-  none-same : (f : ℕ → ℕ) (n : ℕ) → eqb (orNone f n) 0 ≡ eqb n 0
-  none-same f zero = refl
-  none-same f (suc n) = ne-eqb (suc (f n)) 0 (λ z. omega arith) ∙ sym (ne-eqb (suc n) 0 (λ z. omega arith))
 
   second-own : (c : ℕ) → c < length (t .crates)
       → placeOf (λ (x : Map). eqb (x .crate) (length (s .crates) + c) && eqb (x .block) 0) 0 (s .maps ++ map (mapTo e) (t .maps))

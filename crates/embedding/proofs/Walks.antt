@@ -25,7 +25,7 @@ use Rattle.find_path.proofs.Walks.{select-hit, select-miss, locations-more}
 use Rattle.find_path.proofs.Crates.{each-append}
 use Rattle.join_words.specs.Joined.{Numbers, scopeTo, childTo}
 use Rattle.embedding.specs.Embeds.{ScopeAlike, Embeds}
-use Rattle.embedding.proofs.Chains.{eqb-moved, crate-moved, crate-known, sees-moved, containers-moved}
+use Rattle.embedding.proofs.Chains.{eqb-moved, crates-compared, sees-moved, containers-moved}
 use Rattle.embedding.proofs.Lookups.{Along, end, next, Hit, kind-moved, first-home, fits}
 use Rattle.embedding.proofs.Scopes.{ScopeHit, modules-in-scope-moved, children-moved}
 
@@ -139,9 +139,7 @@ module _ (e : Numbers) (s u : Snapshot) (em : Embeds e s u) (v : Valid s) (w : V
     leads-same m x z h =
         let k = entry-known m x z h in
         ap₂ (λ i j. i && j)
-        (ap₂ eqb (ap (crateOf u) (entry-moved m x z h) ∙ crate-moved e s u em v w (entryModule s x) k) (crate-moved e s u em v w from lf)
-        ∙ eqb-moved (e .crates) (length (s .crates)) (em .crates-apart) (crateOf s (entryModule s x)) (crateOf s from) (crate-known e s u em v w (entryModule s x) k)
-        (crate-known e s u em v w from lf))
+        (ap (λ i. eqb (crateOf u i) (crateOf u (e .modules from))) (entry-moved m x z h) ∙ crates-compared e s u em v w (entryModule s x) from k lf)
         (ap (sees u (e .modules from)) (h .1) ∙ sees-moved e s u em v w x from lf (h .0))
 
     leads-along : (m : ℕ) {xs zs : List Scope} → Along (ScopeHit e s u em v (isModuleEntry s m)) xs zs

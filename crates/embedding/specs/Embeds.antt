@@ -9,8 +9,9 @@ use Rattle.accept.specs.Tests.{noName}
 use Rattle.hir_def.specs.Items.{definitionOf, crateData, moduleOf, mapOf, rootOf, ownMap, moduleItem, definedItem}
 use Rattle.hir_def.specs.declared.Item.{Item}
 use Rattle.hir_def.specs.declared.Item.the-variants.{Mod, Def}
+use Rattle.find_path.specs.declared.FindPathCtx.{FindPathCtx}
 use Rattle.scope_edits.specs.Entries.{movedScope, movedImport, movedExtern}
-use Rattle.join_words.specs.Joined.{Numbers, dependencyTo, mapTo, moduleTo, childTo, preludeTo, definitionTo, scopeTo, importTo, externTo, definitionPut}
+use Rattle.join_words.specs.Joined.{Numbers, orNone, dependencyTo, mapTo, moduleTo, childTo, preludeTo, definitionTo, scopeTo, importTo, externTo, definitionPut}
 
 -- no number below n goes to k
 abbrev pub Outside : (ℕ → ℕ) → ℕ → ℕ → Type 0
@@ -67,3 +68,22 @@ pub record Embeds (e : Numbers) (s u : Snapshot) : Type 0 where
 unfoldable pub itemTo : Numbers → Item → Item
 itemTo e (Mod m) = moduleItem (e .modules (m .0))
 itemTo e (Def ns d) = definedItem (ns .0) (e .definitions (d .0))
+
+-- what is set for a question, with its numbers moved
+abbrev pub contextTo : Numbers → FindPathCtx → FindPathCtx
+contextTo e x =
+    record {
+      prefix = x .prefix;
+      «prefer_no_std» = x .«prefer_no_std»;
+      «prefer_prelude» = x .«prefer_prelude»;
+      «prefer_absolute» = x .«prefer_absolute»;
+      «allow_unstable» = x .«allow_unstable»;
+      «ignore_local_imports» = x .«ignore_local_imports»;
+      fresh = x .fresh;
+      «is_std_item» = x .«is_std_item»;
+      from = record { 0 = e .modules (x .from .0) };
+      «from_crate» = record { 0 = e .crates (x .«from_crate» .0) };
+      «crate_root» = record { 0 = e .modules (x .«crate_root» .0) };
+      own = orNone (e .modules) (x .own);
+      «max_len» = x .«max_len»;
+    }
