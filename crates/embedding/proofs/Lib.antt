@@ -7,4 +7,5 @@ pub mod Nameres
 pub mod Crates
 pub mod Choices
 pub mod Rules
+pub mod Local
 pub mod Parts

@@ -31,7 +31,7 @@ use Rattle.embedding.proofs.Scopes.{ScopeHit, modules-in-scope-moved, c
 
 -- moved numbers in lists
 module _ (f : ℕ → ℕ) (n : ℕ) (same : (i j : ℕ) → i < n → j < n → eqb (f i) (f j) ≡ eqb i j) where
-  has-moved : (ms : List ℕ) (m : ℕ) → Each (λ a. a < n) ms → m < n → has (map f ms) (f m) ≡ has ms m
+  pub has-moved : (ms : List ℕ) (m : ℕ) → Each (λ a. a < n) ms → m < n → has (map f ms) (f m) ≡ has ms m
   unfolding has any
   has-moved [] m none l = refl
   has-moved (a ∷ ms) m (more h hs) l = ap₂ (λ i j. i || j) (same m a l h) (has-moved ms m hs l)
@@ -94,6 +94,18 @@ module _ (f : ℕ → ℕ) (n : ℕ) (same : (i j : ℕ) → i < n → j < n →
           ap (λ r. map f ws ++ unmet met (map f e) r) (leads m l) ∙ ap (λ r. map f ws ++ r) (unmet-moved e (g m) d2 (known m l)) ∙ sym (map-append f ws us) in
           x ∙ ap (λ r. walk h met b r (map f ws ++ unmet met r (h (f m)))) e2 ∙ ap (walk h met b (map f e)) z
           ∙ walk-moved b e (ws ++ us) d2 (each-append k (unmet-known e (g m) d2 (known m l))) ∙ ap (map f) (sym y))
+
+      pub walk-known : (b : ℕ) (done ws : List ℕ) → Each (λ a. a < n) done → Each (λ a. a < n) ws → Each (λ a. a < n) (walk g seen b done ws)
+      unfolding walk
+      walk-known zero done ws d k = d
+      walk-known (suc b) done [] d none = d
+      walk-known (suc b) done (m ∷ ws) d (more l k) =
+          by-test (seen m || has done m)
+          (λ t. rw (walk, t) (walk-known b done ws d k))
+          (λ t.
+          let d2 = each-snoc d l in
+          let e = done ++ (m ∷ []) in
+          rw (walk, t) (walk-known b e (ws ++ unmet seen e (g m)) d2 (each-append k (unmet-known e (g m) d2 (known m l)))))
 
 -- the modules that steps lead to are known
 pub steps-known : (step : ℕ → ℕ) (n : ℕ) → Falls step n → (d m : ℕ) → m < d → m < n → Each (λ a. a < n) (steps step m)
@@ -195,3 +207,9 @@ module _ (e : Numbers) (s u : Snapshot) (em : Embeds e s u) (v : Valid s) (w : V
         ∙ walk-moved (e .modules) n (eqb-moved (e .modules) n (em .modules-apart)) (leadsTo s from) (leadsTo u (e .modules from)) seen met (λ m l. leads-moved m l .0)
         (λ m l. leads-moved m l .1) marks b [] (startFrom s from) none (st .1)
         ∙ ap (map (e .modules)) (locations-more s from seen b (omega arith))
+
+    pub locations-known : (seen met : ℕ → Bool) → ((m : ℕ) → m < n → met (e .modules m) ≡ seen m) → Each (λ a. a < n) (findLocalImportLocations s from seen)
+    unfolding findLocalImportLocations
+    locations-known seen met marks =
+        walk-known (e .modules) n (eqb-moved (e .modules) n (em .modules-apart)) (leadsTo s from) (leadsTo u (e .modules from)) seen met (λ m l. leads-moved m l .0)
+        (λ m l. leads-moved m l .1) marks (length (startFrom s from) + length (s .scopes)) [] (startFrom s from) none (start-moved .1)
