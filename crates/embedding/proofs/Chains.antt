@@ -32,6 +32,12 @@ pub none-same : (f : ℕ → ℕ) (n : ℕ) → eqb (orNone f n) 0 ≡ eqb n 0
 none-same f zero = refl
 none-same f (suc n) = ne-eqb (suc (f n)) 0 (λ z. omega arith) ∙ sym (ne-eqb (suc n) 0 (λ z. omega arith))
 
+pub none-apart : (f : ℕ → ℕ) (n : ℕ) → Apart f n → Apart (orNone f) (suc n)
+none-apart f n apart zero zero a b q = refl
+none-apart f n apart zero (suc j) a b q = absurd (omega arith)
+none-apart f n apart (suc i) zero a b q = absurd (omega arith)
+none-apart f n apart (suc i) (suc j) a b q = ap suc (apart i j (omega arith) (omega arith) (omega arith))
+
 -- a chain of steps, and the same steps over moved numbers
 module _ (f g h : ℕ → ℕ) (n k : ℕ) (low : Falls g n) (high : Falls h k) (there : (m : ℕ) → m < n → f m < k)
     (step : (m : ℕ) → m < n → h (f m) ≡ orNone f (g m))

@@ -8,4 +8,5 @@ pub mod Crates
 pub mod Choices
 pub mod Rules
 pub mod Local
+pub mod Charged
 pub mod Parts

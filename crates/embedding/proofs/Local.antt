@@ -61,10 +61,12 @@ module _ (e : Numbers) (s u : Snapshot) (em : Embeds e s u) (v : Valid s) (w : V
     abbrev AlikeLocal : LocalSearch → LocalSearch → Type 0
     AlikeLocal f g = (left : ℕ) (ls : List Level) → Each (HasLevel s) ls → (m : ℕ) → m < n → Alike e s (f left ls m) (g left (map (levelTo e) ls) (e .modules m))
 
-    pub offer-alike : {b b′ c c′ : Choice} → Alike e s b b′ → Alike e s c c′ → (k t t′ : ℕ) → k < length (s .names)
-        → Alike e s (offer s x b c k t) (offer u y b′ c′ (e .names k) t′)
+    pub offer-alike : {b b′ c c′ : Choice} → Alike e s b b′ → Alike e s c c′ → (k k′ t t′ : ℕ) → k < length (s .names) → k′ ≡ e .names k
+        → Alike e s (offer s x b c k t) (offer u y b′ c′ k′ t′)
     unfolding offer
-    offer-alike b c k t t′ l = by-same (c .found) (try-select-alike e s u em b c (x .«prefer_prelude») k l t t′) b
+    offer-alike {b = a} {b′ = a′} {c = o} {c′ = o′} b c k k′ t t′ l q =
+        subst (λ i. Alike e s (offer s x a o k t) (offer u y a′ o′ i t′)) (sym q)
+        (by-same (c .found) (try-select-alike e s u em b c (x .«prefer_prelude») k l t t′) b)
 
     importable-moved : Same e s u em v w (isImportable s x) (isImportable u y)
     importable-moved c d f a =
@@ -89,10 +91,8 @@ module _ (e : Numbers) (s u : Snapshot) (em : Embeds e s u) (v : Valid s) (w : V
       location-alike ls k {b = c} {b′ = c′} b m l (each {x = i} {z = j} r) =
           let ks = map (levelTo e) ls in
           let o = f (lengthLeft left c) ls m in
-          let p = g (lengthLeft left c′) ks (e .modules m) in
           let q = subst (λ d. Alike e s o (g d ks (e .modules m))) (sym (length-left-alike e s u em b left)) (fg (lengthLeft left c) ls k m l) in
-          subst (λ d. Alike e s (offer s x c o (i .name) (stepBy viaLocal (i .place))) (offer u y c′ p d (stepBy viaLocal (j .place)))) (sym (ap (λ (z : Scope). z .name) (r .1)))
-          (offer-alike b q (i .name) (stepBy viaLocal (i .place)) (stepBy viaLocal (j .place)) (r .0 .name))
+          offer-alike b q (i .name) (j .name) (stepBy viaLocal (i .place)) (stepBy viaLocal (j .place)) (r .0 .name) (ap (λ (z : Scope). z .name) (r .1))
 
       module _ (ls : List Level) (ks : Each (HasLevel s) ls) (item : Item) (h : Has s item) where
         each-location-alike : (done : List ℕ) → Each (λ m. m < n) done → {b b′ : Choice} → Alike e s b b′ → (ms : List ℕ) → Each (λ m. m < n) ms

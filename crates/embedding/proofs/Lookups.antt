@@ -193,3 +193,24 @@ module _ (e : Numbers) (s u : Snapshot) (em : Embeds e s u) (v : Valid s) where
       let p : homeBy s (x .kind) (x .first) ≡ x .first + 1 = rw (homeBy, a, c) in
       let q : homeBy u (y .kind) (y .first) ≡ y .first + 1 = rw (homeBy, b, d2) in
       q ∙ ap (λ j. j + 1) h ∙ one-more (e .modules) (x .first) ∙ ap (orNone (e .modules)) (sym p)))
+
+  pub home-low : (a : Item) → Has s a → homeOf s a ≤ length (s .modules)
+  unfolding homeOf homeBy
+  home-low (Mod m) h = omega arith
+  home-low (Def ns i) l =
+      let d = i .0 in
+      let x = definitionOf s d in
+      by-test (eqb (x .kind) builtinKind)
+      (λ a. let p : homeBy s (x .kind) (x .first) ≡ 0 = rw (homeBy, a) in omega arith)
+      (λ a.
+      by-test (eqb (x .kind) variantKind)
+      (λ c.
+      let o = eqb-true (x .kind) 2 c in
+      let four = parent-four d l o in
+      let f = fits (x .first) (fits d l .variant o .0) .home (λ z. omega arith) (λ z. omega arith) in
+      let p : homeBy s (x .kind) (x .first) ≡ definitionOf s (x .first) .first + 1 = rw (homeBy, a, c) in
+      omega arith)
+      (λ c.
+      let f = fits d l .home (eqb-false (x .kind) 2 c) (eqb-false (x .kind) 3 a) in
+      let p : homeBy s (x .kind) (x .first) ≡ x .first + 1 = rw (homeBy, a, c) in
+      omega arith))

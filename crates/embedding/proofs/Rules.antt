@@ -37,6 +37,7 @@ pub record Sits (s : Snapshot) (x : FindPathCtx) : Type 0 where
   pub from : x .from .0 < length (s .modules)
   pub crate : x .«from_crate» .0 < length (s .crates)
   pub root : x .«crate_root» .0 < length (s .modules)
+  pub own : x .own ≤ length (s .modules)
 
 -- an answer that is kept by the same test
 kept : {A : Type 0} {R : A → A → Type 0} (a : Bool) (x z : A) → R x z → Both R (elim a [ true ↦ some x | false ↦ none ]) (elim a [ true ↦ some z | false ↦ none ])
@@ -51,7 +52,7 @@ module _ (e : Numbers) (s u : Snapshot) (em : Embeds e s u) (v : Valid s) (w : V
   abbrev n : ℕ
   n = length (s .modules)
 
-  first-found-alike : {cs ds : List Choice} → Along (Alike e s) cs ds → Alike e s (firstFound cs) (firstFound ds)
+  pub first-found-alike : {cs ds : List Choice} → Along (Alike e s) cs ds → Alike e s (firstFound cs) (firstFound ds)
   unfolding firstFound
   first-found-alike end = nothing-alike e s u em
   first-found-alike (next a r) = by-same (a .found) a (first-found-alike r)
