@@ -123,7 +123,7 @@ module _ (e : Numbers) (s u : Snapshot) (em : Embeds e s u) (v : Valid s) (w : V
     pub parent-moved : parentOf u (e .modules m) ≡ orNone (e .modules) (parentOf s m)
     parent-moved = ap (λ (x : Module). x .parent) (em .modules m l)
 
-    map-same : mapOf u (mapNo u (e .modules m)) ≡ mapTo e (mapOf s (mapNo s m))
+    pub map-same : mapOf u (mapNo u (e .modules m)) ≡ mapTo e (mapOf s (mapNo s m))
     map-same = ap (mapOf u) map-moved ∙ em .maps (mapNo s m) (map-known s (v .tree) m l)
 
     pub crate-moved : crateOf u (e .modules m) ≡ e .crates (crateOf s m)

@@ -36,6 +36,21 @@ use Rattle.embedding.proofs.Choices.{Alike, by-same, nothing-alike, len
 use Rattle.embedding.proofs.Rules.{Sits, first-found-alike, scope-rule-alike, prelude-rule-alike, module-rules-alike}
 use Rattle.embedding.proofs.Local.{offer-alike, best-local-alike}
 
+-- the module that an item is
+module _ (e : Numbers) (s : Snapshot) where
+  pub module-in-moved : (item : Item) → moduleIn (embeds.itemTo e item) ≡ orNone (e .modules) (moduleIn item)
+  unfolding moduleIn embeds.itemTo
+  module-in-moved (Mod m) =
+      let a : m .0 + 1 ≡ suc (m .0) = omega arith in
+      let b : e .modules (m .0) + 1 ≡ suc (e .modules (m .0)) = omega arith in
+      b ∙ ap (orNone (e .modules)) (sym a)
+  module-in-moved (Def ns d) = refl
+
+  pub module-in-low : (item : Item) → Has s item → moduleIn item ≤ length (s .modules)
+  unfolding moduleIn
+  module-in-low (Mod m) h = omega arith
+  module-in-low (Def ns d) h = omega arith
+
 -- charges that both go on, or both stop
 pub data Fare {M : Type 0} (R : M → M → Type 0) : Charged M → Charged M → Type 0 where
   goes : {t t′ : M} → R t t′ → Fare R (go t) (go t′)
@@ -59,19 +74,6 @@ module _ (e : Numbers) (s u : Snapshot) (em : Embeds e s u) (v : Valid s) (w : V
 
   -- what a charge is told
 
-  module-in-moved : (item : Item) → moduleIn (embeds.itemTo e item) ≡ orNone (e .modules) (moduleIn item)
-  unfolding moduleIn embeds.itemTo
-  module-in-moved (Mod m) =
-      let a : m .0 + 1 ≡ suc (m .0) = omega arith in
-      let b : e .modules (m .0) + 1 ≡ suc (e .modules (m .0)) = omega arith in
-      b ∙ ap (orNone (e .modules)) (sym a)
-  module-in-moved (Def ns d) = refl
-
-  module-in-low : (item : Item) → Has s item → moduleIn item ≤ n
-  unfolding moduleIn
-  module-in-low (Mod m) h = omega arith
-  module-in-low (Def ns d) h = omega arith
-
   none-or : (a : Bool) (k : ℕ) → elim a [ true ↦ 0 | false ↦ orNone (e .modules) k ] ≡ orNone (e .modules) (elim a [ true ↦ 0 | false ↦ k ])
   none-or true k = refl
   none-or false k = refl
@@ -83,8 +85,8 @@ module _ (e : Numbers) (s u : Snapshot) (em : Embeds e s u) (v : Valid s) (w : V
   pub sought-moved : (item : Item) → Has s item → (soughtOf y (embeds.itemTo e item) ≡ orNone (e .modules) (soughtOf x item)) × (soughtOf x item ≤ n)
   unfolding soughtOf
   sought-moved item h =
-      let q = module-in-moved item in
-      let k = module-in-low item h in
+      let q = module-in-moved e s item in
+      let k = module-in-low e s item h in
       let o = at .own in
       let c = ap (λ i. eqb i (orNone (e .modules) (x .own))) q ∙ eqb-moved (orNone (e .modules)) (suc n) (none-apart (e .modules) n (em .modules-apart)) (moduleIn item) (x .own) (omega arith) (omega arith) in
       ((λ i. elim (c i) [ true ↦ 0 | false ↦ q i ]) ∙ none-or (eqb (moduleIn item) (x .own)) (moduleIn item), zero-low (eqb (moduleIn item) (x .own)) (moduleIn item) k)

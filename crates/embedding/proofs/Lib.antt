@@ -9,4 +9,5 @@ pub mod Choices
 pub mod Rules
 pub mod Local
 pub mod Charged
+pub mod Questions
 pub mod Parts

@@ -61,7 +61,7 @@ module _ (e : Numbers) (s u : Snapshot) (em : Embeds e s u) (v : Valid s) (w : V
   unfolding crateRoot
   root-low m l = root-known s v (ownMap s (crateOf s m)) (own-known e s u em v w (crateOf s m) (crate-known e s u em v w m l)) .0
 
-  in-block-moved : (m : ℕ) → m < n → inBlock u (e .modules m) ≡ inBlock s m
+  pub in-block-moved : (m : ℕ) → m < n → inBlock u (e .modules m) ≡ inBlock s m
   in-block-moved m l = ap (λ b. not (eqb b 0)) (block-moved e s u em v w m l) ∙ ap not (none-same (e .modules) (blockOf s m))
 
   module _ (x : FindPathCtx) (at : Sits s x) where
