@@ -11,19 +11,19 @@ use lib.ListN.{length, getD, take, List·getD-append}
 use lib.Seq.{getD-append-add}
 use Rattle.snapshot.specs.Lists.{any}
 use Rattle.snapshot.specs.Sizes.{definitionSize, scopeSize, importSize, externSize}
-use Rattle.snapshot.specs.Records.{Snapshot, Map, Module, Definition, Scope, Import, Extern, Child, Prelude, Dependency}
+use Rattle.snapshot.specs.Records.{Snapshot, Member, Map, Module, Definition, Scope, Import, Extern, Child, Prelude, Dependency}
 use Rattle.accept.specs.Tests.{countsOf, noName, noMap, noModule, noDefinition, sameName}
-use Rattle.accept.specs.Valid.{Valid, Each, none, more, mapIn, crateIn, blockIn, definitionIn}
+use Rattle.accept.specs.Valid.{Valid, Each, none, more, MemberFits, Belongs, mapIn, crateIn, blockIn, definitionIn}
 use Rattle.accept.proofs.Accepted.{by-test}
 use Rattle.accept.proofs.Bools.{and-three, each-at, each-map, or-right, or-none}
 use Rattle.hir_def.specs.Finds.{placeOf, select}
 use Rattle.hir_def.specs.Items.{definitionOf, crateData, moduleOf, mapOf, rootOf, ownMap}
 use Rattle.scope_edits.specs.Entries.{movedScope, movedImport, movedExtern}
-use Rattle.join_words.specs.Joined.{Numbers, firstNumbers, secondNumbers, nameNumber, sameBuiltin, definitionNumber, orNone, firstTo, secondTo, visibleTo, dependencyTo, mapTo, moduleTo, childTo, preludeTo, definitionTo, scopeTo, importTo, externTo, definitionPut, placedBy, placed, kindBase, together, joined, mergedNumber, isNew}
+use Rattle.join_words.specs.Joined.{Numbers, firstNumbers, secondNumbers, nameNumber, sameBuiltin, definitionNumber, orNone, firstTo, secondTo, visibleTo, dependencyTo, mapTo, moduleTo, childTo, preludeTo, definitionTo, scopeTo, importTo, externTo, memberTo, definitionPut, placedBy, placed, kindBase, together, joined, mergedNumber, isNew}
 use Rattle.join_words.proofs.Lists.{any-not, any-has, placed-length, placed-at}
 use Rattle.join_words.proofs.Merged.{both-low, both-high, kept-less, number-old, merged-low}
 use Rattle.join_words.proofs.Stages.{Whole}
-use Rattle.join_words.proofs.Sound.{name-at, name-apart, isOther, definition-counts, definition-low, definition-at, module-counts, module-low, module-high, map-counts, map-low, map-high, crate-counts}
+use Rattle.join_words.proofs.Sound.{name-at, name-apart, isOther, other-kind, definition-counts, definition-low, definition-at, module-counts, module-low, module-high, map-counts, map-low, map-high, crate-counts}
 use Rattle.embedding.proofs.Chains.{none-same}
 use Rattle.embedding.specs.Embeds.{Outside, Within, done, ours, theirs, ScopeAlike, ImportAlike, ExternAlike, Embeds}
 
@@ -87,6 +87,10 @@ module _ {A : Type 0} {Alike : A → A → Type 0} {Others : A → Type 0} (put 
   unfolding placedBy
   within-right at h a [] ys none = all-ours at a ys
   within-right at h a (x ∷ xs) ys (more p ps) = theirs (h at x p) (within-right (at + size) h a xs ys ps)
+
+each-both : {A : Type 0} {P Q : A → Type 0} {xs : List A} → Each P xs → Each Q xs → Each (λ x. P x × Q x) xs
+each-both none none = none
+each-both (more p h) (more q k) = more (p, q) (each-both h k)
 
 -- lists of records that know no place
 module _ {A : Type 0} {Alike : A → A → Type 0} {Others : A → Type 0} (f : A → A) where
@@ -181,6 +185,13 @@ module _ (s t : Snapshot) (v : Valid s) (w : Valid t) (sw : Whole s) (tw : Whole
       any-has (λ (x : Map). eqb (x .crate) c && eqb (x .block) 0) noMap (s .maps) (f .0) (f .1)
       (rw (eq-eqb (crateIn (s .maps) (f .0)) c (f .2), eq-eqb (blockIn (s .maps) (f .0)) 0 (f .3)))
 
+  -- an enum of the second part is new
+  member-new : (x : Member) → MemberFits (countsOf t) x → Belongs (t .definitions) x → length (s .definitions) ≤ definitionNumber s t (x .parent)
+  member-new x f b =
+      let k = b .parent in
+      let d = definition-at s t v w sw tw (x .parent) (f .parent) (other-kind s t v w sw tw (definitionIn (t .definitions) (x .parent)) (λ z. omega arith)) .0 in
+      omega arith
+
   -- The first part.
   pub first-embedded : Embeds firstNumbers s u
   unfolding placed together crateData mapOf moduleOf rootOf ownMap
@@ -211,6 +222,9 @@ module _ (s t : Snapshot) (v : Valid s) (w : Valid t) (sw : Whole s) (tw : Whole
         externs =
             within-left (λ at. movedExtern (λ n. at)) externSize (externTo e) (kindBase (together s t) 9) (λ j x. refl) (λ j y p i l q. omega (arith, l, q))
             (s .externs) (t .externs) (w .ranges .externs);
+        members =
+            plain-left (memberTo e) (λ x. refl) (λ y p i l q. let n = member-new y (p .0) (p .1) in omega (arith, l, q, n)) (s .members) (t .members)
+            (each-both (w .ranges .members) (w .members));
       }
 
   -- the second part's definitions
@@ -227,6 +241,18 @@ module _ (s t : Snapshot) (v : Valid s) (w : Valid t) (sw : Whole s) (tw : Whole
       let x = definitionIn (s .definitions) (mergedNumber (sameBuiltin s t) noDefinition (s .definitions) (t .definitions) d) in
       let k = and-three (eqb (y .kind) 3) (eqb (x .kind) 3) (eqb (nameNumber s t (y .first)) (x .first)) (q .1) in
       (q .0, eqb-true (y .kind) 3 (k .0), eqb-true (x .kind) 3 (k .1), eqb-true (nameNumber s t (y .first)) (x .first) (k .2))
+
+  -- an enum of the first part is none of the second's
+  member-old : (x : Member) → MemberFits (countsOf s) x → Belongs (s .definitions) x → (i : ℕ) → i < length (t .definitions) → definitionNumber s t i ≡ x .parent → ⊥
+  member-old x f b i l q =
+      let p = f .parent in
+      by-test (isOther s t v w sw tw (definitionIn (t .definitions) i))
+      (λ a. let d = definition-at s t v w sw tw i l a .0 in omega arith)
+      (λ a.
+      let m = merged-same i l a .2 in
+      let k = b .parent in
+      let z : definitionIn (s .definitions) (definitionNumber s t i) .kind ≡ definitionIn (s .definitions) (x .parent) .kind = ap (λ d. definitionIn (s .definitions) d .kind) q in
+      omega arith)
 
   merged-alike : (d : ℕ) → d < length (t .definitions) → isOther s t v w sw tw (definitionIn (t .definitions) d) ≡ false → (q : ℕ)
       → definitionPut q (definitionIn (s .definitions) (definitionNumber s t d)) ≡ definitionPut q (definitionTo e (definitionIn (t .definitions) d))
@@ -373,4 +399,6 @@ module _ (s t : Snapshot) (v : Valid s) (w : Valid t) (sw : Whole s) (tw : Whole
         externs =
             within-right (λ at. movedExtern (λ n. at)) externSize (externTo e) (kindBase (together s t) 9) (λ j x p i l q. let o = p .owner in omega arith) (λ j y. refl)
             (s .externs) (t .externs) (v .ranges .externs);
+        members =
+            plain-right (memberTo e) (λ x p i l q. member-old x (p .0) (p .1) i l q) (λ y. refl) (s .members) (t .members) (each-both (v .ranges .members) (v .members));
       }

@@ -4,14 +4,14 @@ use mathlib.Core.Path.{_≡_}
 use mathlib.Core.List.{List, [], _∷_}
 use mathlib.Core.Option.{Option, none, some}
 use lib.ListN.{length, getD}
-use Rattle.snapshot.specs.Records.{Dependency, Child, Prelude, Definition, Scope, Import, Extern, Snapshot}
+use Rattle.snapshot.specs.Records.{Dependency, Child, Prelude, Definition, Scope, Import, Extern, Member, Snapshot}
 use Rattle.accept.specs.Tests.{noName}
 use Rattle.hir_def.specs.Items.{definitionOf, crateData, moduleOf, mapOf, rootOf, ownMap, moduleItem, definedItem}
 use Rattle.hir_def.specs.declared.Item.{Item}
 use Rattle.hir_def.specs.declared.Item.the-variants.{Mod, Def}
 use Rattle.find_path.specs.declared.FindPathCtx.{FindPathCtx}
 use Rattle.scope_edits.specs.Entries.{movedScope, movedImport, movedExtern}
-use Rattle.join_words.specs.Joined.{Numbers, orNone, dependencyTo, mapTo, moduleTo, childTo, preludeTo, definitionTo, scopeTo, importTo, externTo, definitionPut}
+use Rattle.join_words.specs.Joined.{Numbers, orNone, dependencyTo, mapTo, moduleTo, childTo, preludeTo, definitionTo, scopeTo, importTo, externTo, memberTo, definitionPut}
 
 -- no number below n goes to k
 abbrev pub Outside : (ℕ → ℕ) → ℕ → ℕ → Type 0
@@ -63,6 +63,7 @@ pub record Embeds (e : Numbers) (s u : Snapshot) : Type 0 where
   pub scopes : Within (ScopeAlike e) (λ z. Outside (e .modules) (length (s .modules)) (z .owner)) (s .scopes) (u .scopes)
   pub imports : Within (ImportAlike e) (λ z. Outside (e .crates) (length (s .crates)) (z .owner)) (s .imports) (u .imports)
   pub externs : Within (ExternAlike e) (λ z. Outside (e .crates) (length (s .crates)) (z .owner)) (s .externs) (u .externs)
+  pub members : Within (λ x z. z ≡ memberTo e x) (λ (z : Member). Outside (e .definitions) (length (s .definitions)) (z .parent)) (s .members) (u .members)
 
 -- an item with its number moved
 unfoldable pub itemTo : Numbers → Item → Item
