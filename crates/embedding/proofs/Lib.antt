@@ -10,4 +10,5 @@ pub mod Rules
 pub mod Local
 pub mod Charged
 pub mod Questions
+pub mod Reading
 pub mod Parts

@@ -33,7 +33,7 @@ module _ {A : Type 0} {R : A → A → Type 0} where
   both-as h neither = neither
   both-as h (each {x = x} {z = z} r) = each (h x z r)
 
-  or-both : {a b c d : Option A} → Both R a b → Both R c d → Both R (orFirst a c) (orFirst b d)
+  pub or-both : {a b c d : Option A} → Both R a b → Both R c d → Both R (orFirst a c) (orFirst b d)
   unfolding orFirst
   or-both neither q = q
   or-both (each r) q = each r

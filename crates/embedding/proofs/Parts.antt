@@ -23,6 +23,7 @@ use Rattle.join_words.specs.Joined.{Numbers, firstNumbers, secondNumbers, nameN
 use Rattle.join_words.proofs.Lists.{any-not, any-has, placed-length, placed-at}
 use Rattle.join_words.proofs.Merged.{both-low, both-high, kept-less, number-old, merged-low}
 use Rattle.join_words.proofs.Stages.{Whole}
+use Rattle.join_words.proofs.Wholes.{each-two}
 use Rattle.join_words.proofs.Sound.{name-at, name-apart, isOther, other-kind, definition-counts, definition-low, definition-at, module-counts, module-low, module-high, map-counts, map-low, map-high, crate-counts}
 use Rattle.embedding.proofs.Chains.{none-same}
 use Rattle.embedding.specs.Embeds.{Outside, Within, done, ours, theirs, ScopeAlike, ImportAlike, ExternAlike, Embeds}
@@ -88,9 +89,8 @@ module _ {A : Type 0} {Alike : A → A → Type 0} {Others : A → Type 0} (put 
   within-right at h a [] ys none = all-ours at a ys
   within-right at h a (x ∷ xs) ys (more p ps) = theirs (h at x p) (within-right (at + size) h a xs ys ps)
 
-each-both : {A : Type 0} {P Q : A → Type 0} {xs : List A} → Each P xs → Each Q xs → Each (λ x. P x × Q x) xs
-each-both none none = none
-each-both (more p h) (more q k) = more (p, q) (each-both h k)
+members-fit : (s : Snapshot) → Valid s → Each (λ x. MemberFits (countsOf s) x × Belongs (s .definitions) x) (s .members)
+members-fit s v = each-two (λ x f b. (f, b)) (v .ranges .members) (v .members)
 
 -- lists of records that know no place
 module _ {A : Type 0} {Alike : A → A → Type 0} {Others : A → Type 0} (f : A → A) where
@@ -224,7 +224,7 @@ module _ (s t : Snapshot) (v : Valid s) (w : Valid t) (sw : Whole s) (tw : Whole
             (s .externs) (t .externs) (w .ranges .externs);
         members =
             plain-left (memberTo e) (λ x. refl) (λ y p i l q. let n = member-new y (p .0) (p .1) in omega (arith, l, q, n)) (s .members) (t .members)
-            (each-both (w .ranges .members) (w .members));
+            (members-fit t w);
       }
 
   -- the second part's definitions
@@ -400,5 +400,5 @@ module _ (s t : Snapshot) (v : Valid s) (w : Valid t) (sw : Whole s) (tw : Whole
             within-right (λ at. movedExtern (λ n. at)) externSize (externTo e) (kindBase (together s t) 9) (λ j x p i l q. let o = p .owner in omega arith) (λ j y. refl)
             (s .externs) (t .externs) (v .ranges .externs);
         members =
-            plain-right (memberTo e) (λ x p i l q. member-old x (p .0) (p .1) i l q) (λ y. refl) (s .members) (t .members) (each-both (v .ranges .members) (v .members));
+            plain-right (memberTo e) (λ x p i l q. member-old x (p .0) (p .1) i l q) (λ y. refl) (s .members) (t .members) (members-fit s v);
       }
