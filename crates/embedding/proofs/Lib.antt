@@ -11,4 +11,5 @@ pub mod Local
 pub mod Charged
 pub mod Questions
 pub mod Reading
+pub mod Lines
 pub mod Parts

@@ -66,7 +66,7 @@ module _ (e : Numbers) (s u : Snapshot) (em : Embeds e s u) (v : Valid s) (w : V
   abbrev n : ℕ
   n = length (s .modules)
 
-  crate-data-moved : (m : ℕ) → m < n → crateData u (crateOf u (e .modules m)) ≡ crateData s (crateOf s m)
+  pub crate-data-moved : (m : ℕ) → m < n → crateData u (crateOf u (e .modules m)) ≡ crateData s (crateOf s m)
   crate-data-moved m l = ap (crateData u) (crate-moved e s u em v w m l) ∙ em .crates (crateOf s m) (crate-known e s u em v w m l)
 
   -- a question that speaks of the snapshot
@@ -74,13 +74,13 @@ module _ (e : Numbers) (s u : Snapshot) (em : Embeds e s u) (v : Valid s) (w : V
     abbrev from : ℕ
     from = q .from .0
 
-    abbrev asked : Item
+    abbrev pub asked : Item
     asked = itemOf s (q .ns) (q .definition .0)
 
-    asked-moved : itemOf u (q .ns) (e .definitions (q .definition .0)) ≡ itemTo e asked
+    pub asked-moved : itemOf u (q .ns) (e .definitions (q .definition .0)) ≡ itemTo e asked
     asked-moved = item-moved e s u em v (q .ns) (q .definition .0) ld
 
-    asked-has : Has s asked
+    pub asked-has : Has s asked
     asked-has = item-has e s u em v (q .ns) (q .definition .0) ld
 
     pub context-moved : (home : ℕ) → home < n → contextOf u (queryTo e q) (e .modules home) ≡ contextTo e (contextOf s q home)
