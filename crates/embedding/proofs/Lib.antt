@@ -13,3 +13,4 @@ pub mod Questions
 pub mod Reading
 pub mod Lines
 pub mod Parts
+pub mod Stays

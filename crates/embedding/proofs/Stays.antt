@@ -1,0 +1,74 @@
+-- Every line stays: a question of either part, put with its numbers moved on the joined words, has the line that it has on its part.
+use Prim.Native.Nat.{ℕ, zero, suc}
+use mathlib.Core.Path.{_≡_, refl, sym, _∙_, ap}
+use mathlib.Core.List.{List}
+use mathlib.Core.Bool.{Bool, true, false, _&&_}
+use borrow.Author.Tests.{ltb-true}
+use lib.Dec.{ltb}
+use lib.ListN.{length}
+use Rattle.snapshot.specs.Limits.{areaLimit}
+use Rattle.snapshot.specs.Refusals.{unknownRefusal}
+use Rattle.snapshot.specs.Records.{Snapshot}
+use Rattle.accept.specs.Verdict.{accept, verdict}
+use Rattle.accept.proofs.Accepted.{by-test}
+use Rattle.accept.proofs.Bools.{and-two}
+use Rattle.accept.proofs.Valid.{accepted-valid}
+use Rattle.find_path.specs.declared.Query.{Query}
+use Rattle.find_path.specs.declared.Question.{Question}
+use Rattle.find_path.specs.Report.{callFault, questionFault, refused, answerUnless, reportBy, reportUnless, reportOf}
+use Rattle.find_path.specs.Line.{lineParts, lineIn, snapshotOf, lineOf}
+use Rattle.join_words.specs.Joined.{Numbers, firstNumbers, secondNumbers, questionTo, together, joined, joinedWords, isWithin}
+use Rattle.join_words.proofs.Joins.{joined-accepted}
+use Rattle.join_words.proofs.Wholes.{accepted-whole}
+use Rattle.embedding.specs.Embeds.{Embeds}
+use Rattle.embedding.proofs.Questions.{queryTo}
+use Rattle.embedding.proofs.Lines.{answer-line}
+use Rattle.embedding.proofs.Parts.{first-embedded, second-embedded}
+
+-- the question speaks of a definition and a module of the snapshot, or another number refuses it first
+abbrev pub Answered : List ℕ → Question → Type 0
+Answered W q = reportOf W areaLimit q .number ≡ unknownRefusal → ⊥
+
+-- the line of a refusal speaks of no snapshot
+refused-line : (s u : Snapshot) (m k n : ℕ) → lineIn u k (refused n) ≡ lineIn s m (refused n)
+unfolding lineIn lineParts refused
+refused-line s u m k n = refl
+
+module _ (W Y : List ℕ) (s u : Snapshot) (a : verdict W ≡ accept s) (b : verdict Y ≡ accept u) (e : Numbers) (em : Embeds e s u) where
+  module _ (q : Query) (fuel : ℕ) where
+    unknown : ltb (q .definition .0) (length (s .definitions)) && ltb (q .from .0) (length (s .modules)) ≡ false → reportBy q fuel (verdict W) .number ≡ unknownRefusal
+    unfolding questionFault reportBy answerUnless refused
+    unknown t =
+        let z : questionFault s q ≡ unknownRefusal = rw (questionFault, t) in
+        ap (λ x. reportBy q fuel x .number) a ∙ ap (λ k. answerUnless s q fuel k .number) z
+
+    by-fault : (k : ℕ) → (reportUnless W q fuel k .number ≡ unknownRefusal → ⊥)
+        → lineIn (snapshotOf (verdict Y)) (e .modules (q .from .0)) (reportUnless Y (queryTo e q) fuel k) ≡ lineIn (snapshotOf (verdict W)) (q .from .0) (reportUnless W q fuel k)
+    unfolding reportUnless reportBy snapshotOf
+    by-fault zero h =
+        by-test (ltb (q .definition .0) (length (s .definitions)) && ltb (q .from .0) (length (s .modules)))
+        (λ t.
+        let l = and-two (ltb (q .definition .0) (length (s .definitions))) (ltb (q .from .0) (length (s .modules))) t in
+        ap (λ x. lineIn (snapshotOf x) (e .modules (q .from .0)) (reportBy (queryTo e q) fuel x)) b
+        ∙ answer-line e s u em (accepted-valid W s a) (accepted-valid Y u b) q (ltb-true (q .from .0) (length (s .modules)) (l .1)) (ltb-true (q .definition .0) (length (s .definitions)) (l .0)) fuel
+        ∙ ap (λ x. lineIn (snapshotOf x) (q .from .0) (reportBy q fuel x)) (sym a))
+        (λ t. absurd (h (unknown t)))
+    by-fault (suc k) h = refused-line (snapshotOf (verdict W)) (snapshotOf (verdict Y)) (q .from .0) (e .modules (q .from .0)) (suc k)
+
+  -- on the words of a snapshot in which it is embedded
+  pub line-stays : (q : Question) → Answered W q → lineOf Y (questionTo e q) ≡ lineOf W q
+  unfolding lineOf reportOf callFault
+  line-stays q h = by-fault (q .query) (q .fuel) (callFault areaLimit (q .query) (q .fuel)) h
+
+module _ (W X : List ℕ) (s t : Snapshot) (a : verdict W ≡ accept s) (b : verdict X ≡ accept t) (within : isWithin (together s t) ≡ true) where
+  -- Questions of the first part.
+  pub first-line-stays : (q : Question) → Answered W q → lineOf (joinedWords s t) (questionTo firstNumbers q) ≡ lineOf W q
+  first-line-stays q h =
+      line-stays W (joinedWords s t) s (joined s t) a (joined-accepted W X s t a b within) firstNumbers
+      (first-embedded s t (accepted-valid W s a) (accepted-valid X t b) (accepted-whole W s a) (accepted-whole X t b)) q h
+
+  -- Questions of the second part.
+  pub second-line-stays : (q : Question) → Answered X q → lineOf (joinedWords s t) (questionTo (secondNumbers s t) q) ≡ lineOf X q
+  second-line-stays q h =
+      line-stays X (joinedWords s t) t (joined s t) b (joined-accepted W X s t a b within) (secondNumbers s t)
+      (second-embedded s t (accepted-valid W s a) (accepted-valid X t b) (accepted-whole W s a) (accepted-whole X t b)) q h
