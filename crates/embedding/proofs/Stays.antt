@@ -17,17 +17,14 @@ use Rattle.find_path.specs.declared.Query.{Query}
 use Rattle.find_path.specs.declared.Question.{Question}
 use Rattle.find_path.specs.Report.{callFault, questionFault, refused, answerUnless, reportBy, reportUnless, reportOf}
 use Rattle.find_path.specs.Line.{lineParts, lineIn, snapshotOf, lineOf}
-use Rattle.join_words.specs.Joined.{Numbers, firstNumbers, secondNumbers, questionTo, together, joined, joinedWords, isWithin}
-use Rattle.join_words.proofs.Joins.{joined-accepted}
+use Rattle.join_words.specs.Joined.{Numbers, firstNumbers, secondNumbers, questionTo, joined, joinedAs, joinOf}
+use Rattle.join_words.proofs.Joins.{join-accepted}
 use Rattle.join_words.proofs.Wholes.{accepted-whole}
 use Rattle.embedding.specs.Embeds.{Embeds}
+use Rattle.embedding.specs.Kept.{Answered, Kept}
 use Rattle.embedding.proofs.Questions.{queryTo}
 use Rattle.embedding.proofs.Lines.{answer-line}
 use Rattle.embedding.proofs.Parts.{first-embedded, second-embedded}
-
--- the question speaks of a definition and a module of the snapshot, or another number refuses it first
-abbrev pub Answered : List ℕ → Question → Type 0
-Answered W q = reportOf W areaLimit q .number ≡ unknownRefusal → ⊥
 
 -- the line of a refusal speaks of no snapshot
 refused-line : (s u : Snapshot) (m k n : ℕ) → lineIn u k (refused n) ≡ lineIn s m (refused n)
@@ -60,15 +57,22 @@ module _ (W Y : List ℕ) (s u : Snapshot) (a : verdict W ≡ accept s) (b : ver
   unfolding lineOf reportOf callFault
   line-stays q h = by-fault (q .query) (q .fuel) (callFault areaLimit (q .query) (q .fuel)) h
 
-module _ (W X : List ℕ) (s t : Snapshot) (a : verdict W ≡ accept s) (b : verdict X ≡ accept t) (within : isWithin (together s t) ≡ true) where
-  -- Questions of the first part.
-  pub first-line-stays : (q : Question) → Answered W q → lineOf (joinedWords s t) (questionTo firstNumbers q) ≡ lineOf W q
-  first-line-stays q h =
-      line-stays W (joinedWords s t) s (joined s t) a (joined-accepted W X s t a b within) firstNumbers
-      (first-embedded s t (accepted-valid W s a) (accepted-valid X t b) (accepted-whole W s a) (accepted-whole X t b)) q h
-
-  -- Questions of the second part.
-  pub second-line-stays : (q : Question) → Answered X q → lineOf (joinedWords s t) (questionTo (secondNumbers s t) q) ≡ lineOf X q
-  second-line-stays q h =
-      line-stays X (joinedWords s t) t (joined s t) b (joined-accepted W X s t a b within) (secondNumbers s t)
-      (second-embedded s t (accepted-valid W s a) (accepted-valid X t b) (accepted-whole W s a) (accepted-whole X t b)) q h
+-- Every line of both inputs stays on the words that a call answers.
+pub lines-kept : (area room : ℕ) (W X Y : List ℕ) → joinOf area W X room ≡ joinedAs Y → Kept W X Y
+lines-kept area room W X Y e =
+    let j = join-accepted area room W X Y e in
+    let s = j .first in
+    let t = j .second in
+    let v = accepted-valid W s (j .one) in
+    let w = accepted-valid X t (j .two) in
+    let p = accepted-whole W s (j .one) in
+    let q = accepted-whole X t (j .two) in
+    record {
+      first = s;
+      second = t;
+      one = j .one;
+      two = j .two;
+      same = j .same;
+      firsts = line-stays W Y s (joined s t) (j .one) (j .same) firstNumbers (first-embedded s t v w p q);
+      seconds = line-stays X Y t (joined s t) (j .two) (j .same) (secondNumbers s t) (second-embedded s t v w p q);
+    }

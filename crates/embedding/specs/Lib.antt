@@ -1,1 +1,2 @@
 pub mod Embeds
+pub mod Kept
