@@ -1,7 +1,7 @@
 -- Modules and maps of an embedded snapshot, the chains of its modules, and what is visible.
-use Prim.Native.Nat.{ℕ, zero, suc, _+_, _≤_, _<_}
-use mathlib.Core.Path.{_≡_, refl, sym, _∙_, ap, ap₂, subst}
-use mathlib.Core.List.{List, [], _∷_, map}
+use Prim.Native.Nat.{ℕ, zero, suc, _≤_, _<_}
+use mathlib.Core.Path.{_≡_, refl, sym, _∙_, ap, ap₂}
+use mathlib.Core.List.{_∷_, map}
 use mathlib.Core.Bool.{Bool, true, false, _&&_, _||_}
 use native.Mathlib.Omega.{arith}
 use borrow.Author.Tests.{eqb-true, eqb-false, eq-eqb, ne-eqb}
@@ -12,7 +12,7 @@ use Rattle.accept.specs.Tests.{countsOf, noMap}
 use Rattle.accept.specs.Valid.{Valid, ScopeFits}
 use Rattle.accept.proofs.Accepted.{by-test}
 use Rattle.accept.proofs.Bools.{each-at}
-use Rattle.hir_def.specs.Items.{moduleOf, mapOf, mapNo, crateOf, parentOf, blockOf, orElse, containing}
+use Rattle.hir_def.specs.Items.{mapOf, mapNo, crateOf, parentOf, blockOf, orElse, containing}
 use Rattle.hir_def.specs.Visibility.{lastOr, last, metOr, met, unless, climbStep, climb, inModule, isVisibleFrom, sees}
 use Rattle.hir_def.specs.Nameres.{stepsOr, steps, ancestorMaps, containers}
 use Rattle.hir_def.proofs.Laws.{by-number, Falls, last-more, met-more, steps-more}

@@ -13,15 +13,14 @@ use Rattle.accept.specs.Tests.{countsOf}
 use Rattle.accept.specs.Valid.{Valid, ImportFits}
 use Rattle.accept.proofs.Accepted.{by-test}
 use Rattle.hir_def.specs.Items.{types, variantKind, crateOf, definitionOf, itemOf, homeOf, moduleItem}
-use Rattle.hir_def.specs.Nameres.{dependenciesOf, langOf, sysrootFirst}
+use Rattle.hir_def.specs.Nameres.{langOf}
 use Rattle.hir_def.specs.ImportMap.{isHidden, isUnstable, importInfoFor}
 use Rattle.hir_def.specs.declared.Item.{Item}
 use Rattle.hir_def.specs.declared.Item.the-variants.{Mod, Def}
 use Rattle.path_choices.specs.declared.Choice.{Choice}
-use Rattle.path_choices.specs.Choices.{viaVariant, viaImport, stepBy, nothing, push, unstably, lengthLeft}
+use Rattle.path_choices.specs.Choices.{viaVariant, viaImport, stepBy, push, lengthLeft}
 use Rattle.find_path.specs.declared.FindPathCtx.{FindPathCtx}
 use Rattle.find_path.specs.Rules.{moduleIn, soughtOf, scopeRule, preludeRule, firstFound, moduleRules}
-use Rattle.find_path.specs.Local.{offer}
 use Rattle.find_path.specs.Meters.{Charged, Charge, go, stop}
 use Rattle.find_path.specs.Charged.{Out, Search, Inner, isStable, langs, oneOrNone, isAt, variantOf, pushVariant, offerImport, findImport, findImports, findInDep, findInDeps, findInSysroot, goOn, afterCharge, calculateBestPath, orCharged, findPathForModule, afterEnum, viaEnum, orEnum, byName, ofModule, findPathInner}
 use Rattle.find_path.specs.Search.{bestLocal, moduleTo, searchModule, itemTo, searchItem}

@@ -5,7 +5,7 @@ use mathlib.Core.List.{List, [], _∷_}
 use mathlib.Core.Bool.{Bool, true, false, _&&_, _||_}
 use native.Mathlib.Omega.{arith}
 use lib.Dec.{eqb, ltb}
-use lib.ListN.{length, getD, take, set, replicate, length-set}
+use lib.ListN.{length, getD, take, set, length-set}
 use Rattle.snapshot.specs.Lists.{eqList}
 use Rattle.snapshot.specs.Records.{Snapshot, Name}
 use Rattle.path_choices.specs.declared.Choice.{Choice}

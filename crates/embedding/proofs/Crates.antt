@@ -1,18 +1,18 @@
 -- The crates around a crate: its externs, its dependencies by language, and the order of the sysroot.
 use Prim.Native.Nat.{ℕ, _<_}
 use mathlib.Core.Path.{_≡_, sym, _∙_, ap, ap₂, subst}
-use mathlib.Core.List.{List, [], _∷_, _++_, reverseAux}
+use mathlib.Core.List.{List, _∷_, _++_, reverseAux}
 use mathlib.Core.Bool.{Bool, _&&_, not}
 use mathlib.Core.Option.{some}
 use lib.Dec.{eqb}
 use lib.ListN.{length}
 use Rattle.snapshot.specs.Records.{Snapshot, Crate, Extern, Dependency}
 use Rattle.accept.specs.Tests.{countsOf}
-use Rattle.accept.specs.Valid.{Valid, Each, none, DependencyFits, ExternFits}
+use Rattle.accept.specs.Valid.{Valid, none, DependencyFits, ExternFits}
 use Rattle.accept.proofs.Accepted.{by-test}
 use Rattle.hir_def.specs.Finds.{firstOf, select}
 use Rattle.hir_def.specs.Items.{crateData}
-use Rattle.hir_def.specs.Nameres.{isExtern, externOf, isDependency, dependenciesOf, isSysroot, isLangSysroot, langOf, sysrootFirst}
+use Rattle.hir_def.specs.Nameres.{isExtern, externOf, isDependency, isSysroot, isLangSysroot, langOf, sysrootFirst}
 use Rattle.hir_def.proofs.Fits.{each-back}
 use Rattle.find_path.proofs.Walks.{select-hit, select-miss}
 use Rattle.join_words.specs.Joined.{Numbers, dependencyTo}

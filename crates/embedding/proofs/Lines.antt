@@ -1,35 +1,29 @@
 -- The printed line of a question stays when the question is put with its numbers moved.
-use Prim.Native.Nat.{ℕ, zero, suc, _≤_, _<_}
-use mathlib.Core.Path.{_≡_, refl, sym, _∙_, ap, ap₂, subst}
+use Prim.Native.Nat.{ℕ, zero, suc, _<_}
+use mathlib.Core.Path.{_≡_, refl, sym, _∙_, ap, ap₂}
 use mathlib.Core.List.{List, [], _∷_, _++_, map}
-use mathlib.Core.Bool.{Bool, true, false, _&&_, _||_, not}
+use mathlib.Core.Bool.{true, false, _&&_, _||_, not}
 use native.Mathlib.Omega.{arith}
 use borrow.Author.Tests.{ltb-true, ltb-false, lt-ltb}
 use lib.Dec.{eqb, ltb}
 use lib.ListN.{length, take, List·getD-eq-default}
-use Rattle.snapshot.specs.Limits.{areaLimit}
 use Rattle.snapshot.specs.Refusals.{unknownRefusal, macroRefusal}
 use Rattle.snapshot.specs.Records.{Snapshot, Name, Crate, Definition}
 use Rattle.keywords.specs.Keywords.{isRaw}
 use Rattle.accept.specs.Tests.{noDefinition}
 use Rattle.accept.specs.Valid.{Valid}
-use Rattle.accept.specs.Verdict.{Verdict, accept, verdict}
 use Rattle.accept.proofs.Accepted.{by-test}
-use Rattle.accept.proofs.Bools.{and-two}
-use Rattle.accept.proofs.Valid.{accepted-valid}
-use Rattle.hir_def.specs.Items.{macros, macroKind, crateOf, crateData, definitionOf}
+use Rattle.hir_def.specs.Items.{macros, macroKind, definitionOf}
 use Rattle.read_back.specs.Reads.{readsBack}
 use Rattle.path_choices.specs.declared.Choice.{Choice}
 use Rattle.find_path.specs.declared.Query.{Query}
-use Rattle.find_path.specs.declared.Question.{Question}
 use Rattle.find_path.specs.declared.Report.{Report}
 use Rattle.find_path.specs.declared.Tank.{Tank}
 use Rattle.find_path.specs.Rules.{bit}
 use Rattle.find_path.specs.Charged.{Out}
-use Rattle.find_path.specs.Search.{isBuiltinType}
-use Rattle.find_path.specs.Report.{callFault, questionFault, refused, flag, misleads, outcomeBy, reported, searched, answerUnless, reportBy, reportUnless, reportOf}
-use Rattle.find_path.specs.Line.{bytesOf, unpacked, textOf, editionIn, writtenOf, decimal, joined, prefixParts, pathText, lineParts, lineIn, snapshotOf, lineOf}
-use Rattle.join_words.specs.Joined.{Numbers, questionTo}
+use Rattle.find_path.specs.Report.{questionFault, refused, flag, misleads, outcomeBy, reported, answerUnless}
+use Rattle.find_path.specs.Line.{bytesOf, unpacked, textOf, editionIn, writtenOf, decimal, joined, prefixParts, pathText, lineParts, lineIn}
+use Rattle.join_words.specs.Joined.{Numbers}
 use Rattle.embedding.specs.Embeds.{Embeds, itemTo}
 use Rattle.embedding.proofs.Lookups.{Along, end, next, kind-moved, fits}
 use Rattle.embedding.proofs.Choices.{Named, Alike, name-moved}

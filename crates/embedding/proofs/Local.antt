@@ -3,21 +3,21 @@ use Prim.Native.Nat.{ℕ, zero, suc, _<_}
 use mathlib.Core.Path.{_≡_, refl, sym, _∙_, ap, ap₂, subst}
 use mathlib.Core.List.{List, [], _∷_, _++_, map, map-append}
 use mathlib.Core.Bool.{Bool, true, false, _&&_, _||_, not}
-use mathlib.Core.Option.{Option, some}
+use mathlib.Core.Option.{Option}
 use lib.Dec.{eqb}
 use lib.ListN.{length}
 use Rattle.snapshot.specs.Lists.{any}
 use Rattle.snapshot.specs.Records.{Snapshot, Scope}
 use Rattle.accept.specs.Valid.{Valid, Each, none, more}
 use Rattle.accept.proofs.Bools.{each-snoc}
-use Rattle.hir_def.specs.Items.{sameItem, moduleItem}
+use Rattle.hir_def.specs.Items.{moduleItem}
 use Rattle.hir_def.specs.Visibility.{sees}
-use Rattle.hir_def.specs.ItemScope.{isDeclared, nameOf, preferred}
+use Rattle.hir_def.specs.ItemScope.{isDeclared}
 use Rattle.hir_def.specs.declared.Item.{Item}
 use Rattle.path_choices.specs.declared.Choice.{Choice}
-use Rattle.path_choices.specs.Choices.{viaLocal, stepBy, nothing, trySelect, lengthLeft}
+use Rattle.path_choices.specs.Choices.{viaLocal, stepBy, nothing, lengthLeft}
 use Rattle.find_path.specs.declared.FindPathCtx.{FindPathCtx}
-use Rattle.find_path.specs.Walk.{Level, has, visited, findLocalImportLocations}
+use Rattle.find_path.specs.Walk.{Level, visited, findLocalImportLocations}
 use Rattle.find_path.specs.Rules.{moduleRules}
 use Rattle.find_path.specs.Local.{LocalSearch, offer, offerEntry, isImportable, entryIf, importableName, location, eachLocation, calculateBestPathLocal, orLocal, findPathForModuleLocal}
 use Rattle.find_path.specs.Search.{localTo, searchLocal, bestLocal}

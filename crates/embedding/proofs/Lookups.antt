@@ -1,26 +1,25 @@
 -- Items of an embedded snapshot, and the lookups in its lists.
-use Prim.Native.Nat.{ℕ, zero, suc, _+_, _≤_, _<_}
-use mathlib.Core.Path.{_≡_, refl, sym, _∙_, ap, ap₂, subst}
-use mathlib.Core.List.{List, [], _∷_, _++_, map, reverse}
-use mathlib.Core.Bool.{Bool, true, false, _&&_, _||_, not}
+use Prim.Native.Nat.{ℕ, suc, _+_, _≤_, _<_}
+use mathlib.Core.Path.{_≡_, refl, sym, _∙_, ap, subst}
+use mathlib.Core.List.{List, [], _∷_}
+use mathlib.Core.Bool.{Bool, true, false, _&&_}
 use mathlib.Core.Option.{Option, none, some}
 use native.Mathlib.Omega.{arith}
-use borrow.Author.Tests.{eqb-true, eqb-false, eq-eqb, ne-eqb}
-use lib.Dec.{eqb, leb}
-use lib.ListN.{length, getD}
-use Rattle.snapshot.specs.Lists.{any}
-use Rattle.snapshot.specs.Records.{Snapshot, Definition, Scope, Import, Extern, Child, Prelude, Dependency}
+use borrow.Author.Tests.{eqb-true, eqb-false, ne-eqb}
+use lib.Dec.{eqb}
+use lib.ListN.{length}
+use Rattle.snapshot.specs.Records.{Snapshot, Definition}
 use Rattle.accept.specs.Tests.{countsOf, noDefinition}
-use Rattle.accept.specs.Valid.{Valid, Each, none, more, DefinitionFits, ScopeFits}
+use Rattle.accept.specs.Valid.{Valid, Each, none, more, DefinitionFits}
 use Rattle.accept.proofs.Accepted.{by-test}
 use Rattle.accept.proofs.Bools.{each-at}
-use Rattle.hir_def.specs.Finds.{firstOf, orFirst, select, firstSome}
+use Rattle.hir_def.specs.Finds.{firstOf, select}
 use Rattle.hir_def.specs.Items.{types, moduleKind, variantKind, builtinKind, definitionOf, itemOf, sameItem, nsOf, homeBy, homeOf, moduleItem, definedItem}
 use Rattle.hir_def.specs.declared.Item.{Item}
 use Rattle.hir_def.specs.declared.Item.the-variants.{Mod, Def}
 use Rattle.find_path.proofs.Walks.{select-hit, select-miss}
-use Rattle.join_words.specs.Joined.{Numbers, orNone, firstTo, secondTo, definitionTo, definitionPut, scopeTo, importTo, externTo}
-use Rattle.embedding.specs.Embeds.{Outside, Apart, Within, done, ours, theirs, ScopeAlike, Embeds, itemTo}
+use Rattle.join_words.specs.Joined.{Numbers, orNone, firstTo, secondTo}
+use Rattle.embedding.specs.Embeds.{Outside, Within, done, ours, theirs, Embeds, itemTo}
 use Rattle.embedding.proofs.Chains.{eqb-moved}
 
 -- one answer and the other, alike or both none

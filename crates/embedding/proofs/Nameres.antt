@@ -1,5 +1,5 @@
 -- The lookups in a module and around its blocks, and the root of a crate.
-use Prim.Native.Nat.{ℕ, suc, _+_, _<_}
+use Prim.Native.Nat.{ℕ, suc, _<_}
 use mathlib.Core.Path.{_≡_, refl, sym, _∙_, ap, ap₂, subst}
 use mathlib.Core.List.{List, [], _∷_, map}
 use mathlib.Core.Bool.{Bool, true, false, _&&_, _||_, not}
@@ -13,10 +13,10 @@ use Rattle.snapshot.specs.Lists.{any}
 use Rattle.snapshot.specs.Records.{Snapshot, Scope, Map}
 use Rattle.accept.specs.Tests.{countsOf, noMap}
 use Rattle.accept.specs.Valid.{Valid, Each, none, more, ScopeFits, crateIn, blockIn}
-use Rattle.hir_def.specs.Finds.{orFirst, firstSome, placeOf}
-use Rattle.hir_def.specs.Items.{types, itemOf, sameItem, blockOf, crateOf, ownMap, rootOf, crateRoot, moduleItem}
+use Rattle.hir_def.specs.Finds.{orFirst, firstSome}
+use Rattle.hir_def.specs.Items.{types, blockOf, crateOf, ownMap, rootOf, crateRoot, moduleItem}
 use Rattle.hir_def.specs.ItemScope.{counts, nameOf, namesOf, isDeprecated, isFresh, preferred, get}
-use Rattle.hir_def.specs.Nameres.{steps, ancestorMaps, entryIn, scopeEntry, entryNamed, isOther, occupied}
+use Rattle.hir_def.specs.Nameres.{ancestorMaps, entryIn, scopeEntry, entryNamed, isOther, occupied}
 use Rattle.hir_def.specs.declared.Item.{Item}
 use Rattle.hir_def.proofs.Chains.{block-falls}
 use Rattle.join_words.specs.Joined.{Numbers}
@@ -24,7 +24,7 @@ use Rattle.join_words.proofs.Lists.{any-has}
 use Rattle.join_words.proofs.Merged.{place-from}
 use Rattle.embedding.specs.Embeds.{ScopeAlike, Embeds, itemTo}
 use Rattle.embedding.proofs.Chains.{ancestors-moved, crate-moved, crate-known}
-use Rattle.embedding.proofs.Lookups.{Both, neither, each, Hit, Has}
+use Rattle.embedding.proofs.Lookups.{Both, neither, each, Has}
 use Rattle.embedding.proofs.Scopes.{item-same, name-of-moved, names-of-moved, get-moved}
 use Rattle.embedding.proofs.Walks.{steps-known}
 

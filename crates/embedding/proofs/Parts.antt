@@ -1,32 +1,32 @@
 -- Both parts of a join are embedded in it.
 use Prim.Native.Nat.{ℕ, zero, suc, _+_, _*_, _≤_, _<_}
-use mathlib.Core.Path.{_≡_, refl, sym, _∙_, ap, ap₂, subst}
+use mathlib.Core.Path.{_≡_, refl, sym, _∙_, ap, ap₂}
 use mathlib.Core.List.{List, [], _∷_, _++_, map}
-use mathlib.Core.Bool.{Bool, true, false, _&&_, _||_, not}
+use mathlib.Core.Bool.{Bool, true, false, _&&_}
 use native.Mathlib.Omega.{arith}
-use native.Mathlib.Nat.{add-zero, zero-add}
+use native.Mathlib.Nat.{add-zero}
 use borrow.Author.Tests.{eqb-true, eqb-false, eq-eqb, ne-eqb, ltb-true, ltb-false}
 use lib.Dec.{eqb, ltb}
 use lib.ListN.{length, getD, take, List·getD-append}
 use lib.Seq.{getD-append-add}
 use Rattle.snapshot.specs.Lists.{any}
 use Rattle.snapshot.specs.Sizes.{definitionSize, scopeSize, importSize, externSize}
-use Rattle.snapshot.specs.Records.{Snapshot, Member, Map, Module, Definition, Scope, Import, Extern, Child, Prelude, Dependency}
+use Rattle.snapshot.specs.Records.{Snapshot, Member, Map, Module, Definition, Scope}
 use Rattle.accept.specs.Tests.{countsOf, noName, noMap, noModule, noDefinition, sameName}
 use Rattle.accept.specs.Valid.{Valid, Each, none, more, MemberFits, Belongs, mapIn, crateIn, blockIn, definitionIn}
 use Rattle.accept.proofs.Accepted.{by-test}
-use Rattle.accept.proofs.Bools.{and-three, each-at, each-map, or-right, or-none}
+use Rattle.accept.proofs.Bools.{and-three, each-at, or-right, or-none}
 use Rattle.hir_def.specs.Finds.{placeOf, select}
 use Rattle.hir_def.specs.Items.{definitionOf, crateData, moduleOf, mapOf, rootOf, ownMap}
 use Rattle.scope_edits.specs.Entries.{movedScope, movedImport, movedExtern}
-use Rattle.join_words.specs.Joined.{Numbers, firstNumbers, secondNumbers, nameNumber, sameBuiltin, definitionNumber, orNone, firstTo, secondTo, visibleTo, dependencyTo, mapTo, moduleTo, childTo, preludeTo, definitionTo, scopeTo, importTo, externTo, memberTo, definitionPut, placedBy, placed, kindBase, together, joined, mergedNumber, isNew}
-use Rattle.join_words.proofs.Lists.{any-not, any-has, placed-length, placed-at}
-use Rattle.join_words.proofs.Merged.{both-low, both-high, kept-less, number-old, merged-low}
+use Rattle.join_words.specs.Joined.{Numbers, firstNumbers, secondNumbers, nameNumber, sameBuiltin, definitionNumber, orNone, firstTo, secondTo, dependencyTo, mapTo, moduleTo, childTo, preludeTo, definitionTo, scopeTo, importTo, externTo, memberTo, definitionPut, placedBy, placed, kindBase, together, joined, mergedNumber}
+use Rattle.join_words.proofs.Lists.{any-not, any-has, placed-at}
+use Rattle.join_words.proofs.Merged.{kept-less, number-old, merged-low}
 use Rattle.join_words.proofs.Stages.{Whole}
 use Rattle.join_words.proofs.Wholes.{each-two}
-use Rattle.join_words.proofs.Sound.{name-at, name-apart, isOther, other-kind, definition-counts, definition-low, definition-at, module-counts, module-low, module-high, map-counts, map-low, map-high, crate-counts}
+use Rattle.join_words.proofs.Sound.{name-at, name-apart, isOther, other-kind, definition-counts, definition-low, definition-at, module-counts, module-low, module-high, map-low, map-high}
 use Rattle.embedding.proofs.Chains.{none-same}
-use Rattle.embedding.specs.Embeds.{Outside, Within, done, ours, theirs, ScopeAlike, ImportAlike, ExternAlike, Embeds}
+use Rattle.embedding.specs.Embeds.{Within, done, ours, theirs, Embeds}
 
 -- the first element that passes
 

@@ -6,19 +6,16 @@ use native.Mathlib.Omega.{arith}
 use borrow.Author.Tests.{eqb-true, ne-eqb}
 use lib.Dec.{eqb}
 use lib.ListN.{length}
-use Rattle.snapshot.specs.Records.{Snapshot, Crate, Map, Definition}
+use Rattle.snapshot.specs.Records.{Snapshot, Map}
 use Rattle.accept.specs.Valid.{Valid}
-use Rattle.accept.proofs.Accepted.{by-test}
 use Rattle.accept.proofs.Bools.{and-two}
-use Rattle.hir_def.specs.Items.{types, builtinKind, mapNo, mapOf, crateOf, crateData, definitionOf, itemOf, homeOf}
+use Rattle.hir_def.specs.Items.{types, builtinKind, crateOf, crateData, definitionOf, itemOf, homeOf}
 use Rattle.hir_def.specs.declared.Item.{Item}
 use Rattle.path_choices.specs.Choices.{plainPath, viaBuiltin, stepBy, choiceNew}
-use Rattle.find_path.specs.declared.FindPathCtx.{FindPathCtx}
 use Rattle.find_path.specs.declared.Query.{Query}
 use Rattle.find_path.specs.declared.Tank.{Tank}
 use Rattle.find_path.specs.Rules.{bit, plainIf, moduleIn, contextOf}
 use Rattle.find_path.specs.Meters.{Charge, drained, draw, fromTank, filled}
-use Rattle.find_path.specs.Charged.{Out}
 use Rattle.find_path.specs.Search.{isBuiltinType, builtinChoice, searchItem, fromHome, fromItem, findPath}
 use Rattle.find_path.specs.Report.{searched}
 use Rattle.join_words.specs.Joined.{Numbers, orNone, firstTo, questionTo}

@@ -1,7 +1,7 @@
 -- A path read back in an embedded snapshot means the same item.
-use Prim.Native.Nat.{ℕ, zero, suc, _+_, _≤_, _<_}
+use Prim.Native.Nat.{ℕ, zero, suc, _≤_, _<_}
 use mathlib.Core.Path.{_≡_, refl, sym, _∙_, ap, ap₂, subst}
-use mathlib.Core.List.{List, [], _∷_, map}
+use mathlib.Core.List.{List, _∷_, map}
 use mathlib.Core.Bool.{Bool, true, false, _&&_}
 use mathlib.Core.Option.{Option, none, some}
 use native.Mathlib.Omega.{arith}
@@ -11,11 +11,11 @@ use Rattle.snapshot.specs.Records.{Snapshot, Scope, Prelude, Extern, Member}
 use Rattle.accept.specs.Tests.{countsOf, noModule}
 use Rattle.accept.specs.Valid.{Valid, Each, more, PreludeFits, ExternFits, MemberFits}
 use Rattle.accept.proofs.Bools.{each-at}
-use Rattle.hir_def.specs.Finds.{firstOf, orFirst, firstSome}
+use Rattle.hir_def.specs.Finds.{firstSome}
 use Rattle.hir_def.specs.Items.{types, macros, moduleOf, mapNo, crateOf, parentOf, blockOf, crateRoot, itemOf, sameItem, nsOf, moduleItem}
 use Rattle.hir_def.specs.ItemScope.{get}
-use Rattle.hir_def.specs.Visibility.{sees, last}
-use Rattle.hir_def.specs.Nameres.{steps, preludeOf}
+use Rattle.hir_def.specs.Visibility.{sees}
+use Rattle.hir_def.specs.Nameres.{preludeOf}
 use Rattle.hir_def.specs.declared.Item.{Item}
 use Rattle.hir_def.specs.declared.Item.the-variants.{Mod, Def}
 use Rattle.hir_def.proofs.Chains.{map-known}

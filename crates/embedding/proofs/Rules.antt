@@ -1,31 +1,29 @@
 -- The rules that answer without a search give alike choices.
 use Prim.Native.Nat.{ℕ, zero, suc, _≤_, _<_}
 use mathlib.Core.Path.{_≡_, refl, sym, _∙_, ap, ap₂, subst}
-use mathlib.Core.List.{List, [], _∷_}
+use mathlib.Core.List.{List}
 use mathlib.Core.Bool.{Bool, true, false, _&&_, _||_, not}
 use mathlib.Core.Option.{Option, none, some}
 use native.Mathlib.Omega.{arith}
-use borrow.Author.Tests.{ne-eqb}
 use lib.Dec.{eqb}
 use lib.ListN.{length}
 use Rattle.snapshot.specs.Records.{Snapshot, Scope, Prelude, Extern}
 use Rattle.accept.specs.Tests.{countsOf, noModule}
-use Rattle.accept.specs.Valid.{Valid, ScopeFits, PreludeFits, ExternFits}
+use Rattle.accept.specs.Valid.{Valid, PreludeFits, ExternFits}
 use Rattle.accept.proofs.Bools.{each-at}
 use Rattle.module_tree.proofs.Roots.{root-known}
-use Rattle.hir_def.specs.Items.{mapNo, crateOf, parentOf, moduleOf, blockOf, inBlock, rootOf, ownMap, crateRoot, nsOf, itemOf, sameItem, moduleItem}
+use Rattle.hir_def.specs.Items.{mapNo, crateOf, parentOf, moduleOf, blockOf, inBlock, rootOf, ownMap, crateRoot, nsOf, moduleItem}
 use Rattle.hir_def.specs.Visibility.{sees}
-use Rattle.hir_def.specs.ItemScope.{nameOf, preferred}
-use Rattle.hir_def.specs.Nameres.{scopeEntry, entryNamed, occupied, preludeOf, isExtern, externOf}
+use Rattle.hir_def.specs.Nameres.{entryNamed, occupied, preludeOf}
 use Rattle.hir_def.specs.declared.Item.{Item}
 use Rattle.hir_def.proofs.Chains.{map-known}
 use Rattle.path_choices.specs.declared.Choice.{Choice}
-use Rattle.path_choices.specs.Choices.{plainPath, selfPath, superPath, cratePath, viaScope, viaPrelude, viaExtern, stepBy, nothing, keyword, choiceNew}
+use Rattle.path_choices.specs.Choices.{plainPath, selfPath, superPath, cratePath, viaScope, viaPrelude, viaExtern, stepBy, keyword, choiceNew}
 use Rattle.find_path.specs.declared.FindPathCtx.{FindPathCtx}
 use Rattle.find_path.specs.Rules.{byCrate, prefixPathKind, firstFound, single, findInScope, mayBeInScope, scopeRule, sameHere, isUsable, preludeEntry, inPrelude, findInPrelude, preludeRule, externKind, externName, rootRule, parentKind, isKwKindRelativeToFrom, keywordOf, moduleRules}
 use Rattle.join_words.specs.Joined.{Numbers, orNone, preludeTo}
-use Rattle.embedding.specs.Embeds.{ScopeAlike, ExternAlike, Embeds, itemTo, contextTo}
-use Rattle.embedding.proofs.Chains.{eqb-moved, none-same, crates-compared, map-moved, parent-moved, block-moved, crate-moved, crate-known, sees-moved}
+use Rattle.embedding.specs.Embeds.{ExternAlike, Embeds, itemTo, contextTo}
+use Rattle.embedding.proofs.Chains.{eqb-moved, none-same, crates-compared, map-moved, parent-moved, block-moved, crate-known, sees-moved}
 use Rattle.embedding.proofs.Lookups.{Both, neither, each, Along, end, next, Hit, Has, ns-moved}
 use Rattle.embedding.proofs.Scopes.{item-same, prelude-moved}
 use Rattle.embedding.proofs.Nameres.{Like, Same, name-like, preferred-moved, scope-entry-moved, entry-named-moved, occupied-moved, own-known, crate-root-moved}

@@ -1,7 +1,7 @@
 -- The lookups by owner: what an embedded snapshot's scopes, children, preludes, dependencies and imports hold, they hold there.
 use Prim.Native.Nat.{ℕ, _<_}
-use mathlib.Core.Path.{_≡_, refl, sym, _∙_, ap, ap₂}
-use mathlib.Core.Bool.{Bool, true, false, _&&_, _||_, not}
+use mathlib.Core.Path.{_≡_, _∙_, ap, ap₂}
+use mathlib.Core.Bool.{Bool, false, _&&_}
 use lib.Dec.{eqb}
 use lib.ListN.{length}
 use Rattle.snapshot.specs.Records.{Snapshot, Scope, Import, Child, Prelude, Dependency}

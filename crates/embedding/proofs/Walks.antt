@@ -1,32 +1,32 @@
 -- The walk of the local search in an embedded snapshot.
-use Prim.Native.Nat.{ℕ, zero, suc, _+_, _≤_, _<_}
+use Prim.Native.Nat.{ℕ, zero, suc, _+_, _<_}
 use mathlib.Core.Path.{_≡_, refl, sym, _∙_, ap, ap₂, subst}
 use mathlib.Core.List.{List, [], _∷_, _++_, map, map-append}
-use mathlib.Core.Bool.{Bool, true, false, _&&_, _||_, not}
+use mathlib.Core.Bool.{Bool, _&&_, _||_, not}
 use native.Mathlib.Omega.{arith}
-use borrow.Author.Tests.{eqb-true, ne-eqb}
+use borrow.Author.Tests.{eqb-true}
 use lib.Dec.{eqb}
 use lib.ListN.{length}
 use Rattle.snapshot.specs.Lists.{any}
 use Rattle.snapshot.specs.Records.{Snapshot, Scope, Child}
 use Rattle.accept.specs.Tests.{countsOf}
-use Rattle.accept.specs.Valid.{Valid, Each, none, more, ScopeFits, ChildFits}
+use Rattle.accept.specs.Valid.{Valid, Each, none, more, ChildFits}
 use Rattle.accept.proofs.Accepted.{by-test}
 use Rattle.accept.proofs.Bools.{and-two, each-snoc}
 use Rattle.hir_def.specs.Finds.{select}
 use Rattle.hir_def.specs.Items.{types, moduleKind, definitionOf, crateOf, containing}
 use Rattle.hir_def.specs.Visibility.{sees}
-use Rattle.hir_def.specs.ItemScope.{isModuleEntry, modulesInScope, entryModule}
+use Rattle.hir_def.specs.ItemScope.{isModuleEntry, entryModule}
 use Rattle.hir_def.specs.Nameres.{stepsOr, steps, containers, childrenOf}
 use Rattle.hir_def.proofs.Laws.{by-number, Falls, steps-more}
 use Rattle.hir_def.proofs.Chains.{containing-falls}
 use Rattle.find_path.specs.Walk.{has, startFrom, leadsTo, unmet, walk, findLocalImportLocations}
 use Rattle.find_path.proofs.Walks.{select-hit, select-miss, locations-more}
 use Rattle.find_path.proofs.Crates.{each-append}
-use Rattle.join_words.specs.Joined.{Numbers, scopeTo, childTo}
-use Rattle.embedding.specs.Embeds.{ScopeAlike, Embeds}
+use Rattle.join_words.specs.Joined.{Numbers, childTo}
+use Rattle.embedding.specs.Embeds.{Embeds}
 use Rattle.embedding.proofs.Chains.{eqb-moved, crates-compared, sees-moved, containers-moved}
-use Rattle.embedding.proofs.Lookups.{Along, end, next, Hit, kind-moved, first-home, fits}
+use Rattle.embedding.proofs.Lookups.{Along, end, next, Hit, first-home, fits}
 use Rattle.embedding.proofs.Scopes.{ScopeHit, modules-in-scope-moved, children-moved}
 
 -- moved numbers in lists

@@ -2,9 +2,8 @@
 use Prim.Native.Nat.{ℕ, _<_}
 use mathlib.Core.Path.{_≡_}
 use mathlib.Core.List.{List, [], _∷_}
-use mathlib.Core.Option.{Option, none, some}
 use lib.ListN.{length, getD}
-use Rattle.snapshot.specs.Records.{Dependency, Child, Prelude, Definition, Scope, Import, Extern, Member, Snapshot}
+use Rattle.snapshot.specs.Records.{Dependency, Child, Prelude, Scope, Import, Extern, Member, Snapshot}
 use Rattle.accept.specs.Tests.{noName}
 use Rattle.hir_def.specs.Items.{definitionOf, crateData, moduleOf, mapOf, rootOf, ownMap, moduleItem, definedItem}
 use Rattle.hir_def.specs.declared.Item.{Item}
