@@ -57,7 +57,9 @@ pub data Fare {M : Type 0} (R : M → M → Type 0) : Charged M → Charged M �
 
 -- a charge that keeps the meters alike, told a module of the snapshot, +1, or 0
 abbrev pub Fair : {M : Type 0} → Numbers → Snapshot → Charge M → (M → M → Type 0) → Type 0
-Fair {M} e s charge R = (left sought : ℕ) → sought ≤ length (s .modules) → (t t′ : M) → R t t′ → Fare R (charge left sought t) (charge left (orNone (e .modules) sought) t′)
+Fair {M} e s charge R =
+    (left sought : ℕ) → sought ≤ length (s .modules) → (t t′ : M) → R t t′ → Fare R (charge left sought t)
+    (charge left (orNone (e .modules) sought) t′)
 
 -- what two searches leave
 pub record OutAlike {M : Type 0} (e : Numbers) (s : Snapshot) (R : M → M → Type 0) (o p : Out M) : Type 0 where
@@ -87,8 +89,12 @@ module _ (e : Numbers) (s u : Snapshot) (em : Embeds e s u) (v : Valid s) (w : V
       let q = module-in-moved e s item in
       let k = module-in-low e s item h in
       let o = at .own in
-      let c = ap (λ i. eqb i (orNone (e .modules) (x .own))) q ∙ eqb-moved (orNone (e .modules)) (suc n) (none-apart (e .modules) n (em .modules-apart)) (moduleIn item) (x .own) (omega arith) (omega arith) in
-      ((λ i. elim (c i) [ true ↦ 0 | false ↦ q i ]) ∙ none-or (eqb (moduleIn item) (x .own)) (moduleIn item), zero-low (eqb (moduleIn item) (x .own)) (moduleIn item) k)
+      let c = ap (λ i. eqb i (orNone (e .modules) (x .own))) q ∙ eqb-moved (orNone (e .modules)) (suc n)
+      (none-apart (e .modules) n (em .modules-apart)) (moduleIn item) (x .own) (omega arith) (omega arith) in (
+        (λ i. elim (c i) [ true ↦ 0 | false ↦ q i ]) ∙ none-or (eqb (moduleIn item) (x .own)) (moduleIn item),
+        zero-low (eqb (moduleIn item) (x .own))
+            (moduleIn item) k,
+      )
 
   -- where a home is
 
@@ -97,16 +103,19 @@ module _ (e : Numbers) (s u : Snapshot) (em : Embeds e s u) (v : Valid s) (w : V
   at-moved zero c a b = refl
   at-moved (suc h) c a b =
       let l : h < n = omega arith in
-      ap (λ i. eqb i (e .crates c)) (crate-moved e s u em v w h l) ∙ eqb-moved (e .crates) (length (s .crates)) (em .crates-apart) (crateOf s h) c (crate-known e s u em v w h l) b
+      ap (λ i. eqb i (e .crates c)) (crate-moved e s u em v w h l) ∙ eqb-moved (e .crates) (length (s .crates)) (em .crates-apart)
+      (crateOf s h) c (crate-known e s u em v w h l) b
 
   home-at : (item : Item) → Has s item → isAt u (homeOf u (embeds.itemTo e item)) (y .«from_crate» .0) ≡ isAt s (homeOf s item) (x .«from_crate» .0)
   home-at item h =
-      ap (λ i. isAt u i (e .crates (x .«from_crate» .0))) (home-moved e s u em v item h) ∙ at-moved (homeOf s item) (x .«from_crate» .0) (home-low e s u em v item h) (at .crate)
+      ap (λ i. isAt u i (e .crates (x .«from_crate» .0))) (home-moved e s u em v item h) ∙ at-moved (homeOf s item) (x .«from_crate» .0)
+      (home-low e s u em v item h) (at .crate)
 
   -- a variant, its enum and its name
 
   abbrev VariantAlike : Definition → Definition → Type 0
-  VariantAlike a b = (a .first < length (s .definitions)) × (b .first ≡ e .definitions (a .first)) × (a .second < length (s .names)) × (b .second ≡ e .names (a .second))
+  VariantAlike a b =
+      (a .first < length (s .definitions)) × (b .first ≡ e .definitions (a .first)) × (a .second < length (s .names)) × (b .second ≡ e .names (a .second))
 
   variant-moved : (item : Item) → Has s item → Both VariantAlike (variantOf s item) (variantOf u (embeds.itemTo e item))
   unfolding variantOf embeds.itemTo
@@ -169,18 +178,22 @@ module _ (e : Numbers) (s u : Snapshot) (em : Embeds e s u) (v : Valid s) (w : V
       unfolding findImport
       find-import-alike a i j k h true = a
       find-import-alike {o} {p} a i j k h false =
-          let r = subst (λ d. OutAlike e s R (f (lengthLeft left (o .choice)) (i .container) (o .meter)) (g (lengthLeft left (p .choice)) d (p .meter))) (sym (ap (λ (z : Import). z .container) h))
-          (subst (λ d. OutAlike e s R (f (lengthLeft left (o .choice)) (i .container) (o .meter)) (g d (e .modules (i .container)) (p .meter))) (sym (length-left-alike e s u em (a .choice) left))
+          let r = subst (λ d. OutAlike e s R (f (lengthLeft left (o .choice)) (i .container) (o .meter))
+          (g (lengthLeft left (p .choice)) d (p .meter))) (sym (ap (λ (z : Import). z .container) h))
+          (subst (λ d. OutAlike e s R (f (lengthLeft left (o .choice)) (i .container) (o .meter)) (g d (e .modules (i .container)) (p .meter)))
+          (sym (length-left-alike e s u em (a .choice) left))
           (fg (lengthLeft left (o .choice)) (i .container) (k .container) (o .meter) (p .meter) (a .meter))) in
           record { choice = offer-import-alike (a .choice) (r .choice) i j k h; meter = r .meter }
 
-      find-imports-alike : {t : Import → Bool} {is js : List Import} → Along (Hit (ImportFits (countsOf s)) (ImportAlike e) t) is js → {o p : Out M} → OutAlike e s R o p
+      find-imports-alike : {t : Import → Bool} {is js : List Import} → Along (Hit (ImportFits (countsOf s)) (ImportAlike e) t) is js → {o p : Out M}
+          → OutAlike e s R o p
           → OutAlike e s R (findImports M charge s x here f left o is) (findImports M charge u y there g left p js)
       unfolding findImports
       find-imports-alike end a = a
       find-imports-alike (next {x = i} {z = j} h r) {o = o} {p = p} a =
           find-imports-alike r
-          (subst (λ b. OutAlike e s R (findImport M charge s x here f left o i (isHidden i)) (findImport M charge u y there g left p j b)) (sym (ap isHidden (h .1)))
+          (subst (λ b. OutAlike e s R (findImport M charge s x here f left o i (isHidden i)) (findImport M charge u y there g left p j b))
+          (sym (ap isHidden (h .1)))
           (find-import-alike a i j (h .0) (h .1) (isHidden i)))
 
       module _ (item : Item) (h : Has s item) where
@@ -189,10 +202,12 @@ module _ (e : Numbers) (s u : Snapshot) (em : Embeds e s u) (v : Valid s) (w : V
             → OutAlike e s R (findInDep M charge s x here f left item o c) (findInDep M charge u y there g left (embeds.itemTo e item) p d)
         unfolding findInDep
         find-in-dep-alike {o} {p} a c d k =
-            subst (λ i. OutAlike e s R (findInDep M charge s x here f left item o c) (findImports M charge u y there g left p (importInfoFor u i (embeds.itemTo e item))))
+            subst (λ i. OutAlike e s R (findInDep M charge s x here f left item o c)
+            (findImports M charge u y there g left p (importInfoFor u i (embeds.itemTo e item))))
             (sym (ap (λ (z : Dependency). z .crate) (k .1))) (find-imports-alike (imports-moved e s u em v (c .crate) (k .0 .crate) item h) a)
 
-        find-in-deps-alike : {cs ds : List Dependency} → Along (DependencyHit e s u em v (x .«from_crate» .0) (at .crate)) cs ds → {o p : Out M} → OutAlike e s R o p
+        find-in-deps-alike : {cs ds : List Dependency} → Along (DependencyHit e s u em v (x .«from_crate» .0) (at .crate)) cs ds → {o p : Out M}
+            → OutAlike e s R o p
             → OutAlike e s R (findInDeps M charge s x here f left item o cs) (findInDeps M charge u y there g left (embeds.itemTo e item) p ds)
         unfolding findInDeps
         find-in-deps-alike end a = a
@@ -215,21 +230,26 @@ module _ (e : Numbers) (s u : Snapshot) (em : Embeds e s u) (v : Valid s) (w : V
             let r = findInDeps M charge s x here f left item o (oneOrNone (langOf s (x .«from_crate» .0) l)) in
             let q = findInDeps M charge u y there g left (embeds.itemTo e item) p (oneOrNone (langOf u (e .crates (x .«from_crate» .0)) l)) in
             let k = find-in-deps-alike (one-along (lang-moved e s u em v (x .«from_crate» .0) (at .crate) l)) a in
-            subst (λ b. OutAlike e s R (findInSysroot M charge s x here f left item r ls (isStable (r .choice))) (findInSysroot M charge u y there g left (embeds.itemTo e item) q ls b))
+            subst (λ b. OutAlike e s R (findInSysroot M charge s x here f left item r ls (isStable (r .choice)))
+            (findInSysroot M charge u y there g left (embeds.itemTo e item) q ls b))
             (sym (ap₂ (λ i j. i && j) (k .choice .found) (k .choice .stable))) (find-in-sysroot-alike ls (isStable (r .choice)) k)
 
         go-on-alike : (t t′ : M) → R t t′ → (near std : Bool)
             → OutAlike e s R (goOn M charge s x here f left item t near std) (goOn M charge u y there g left (embeds.itemTo e item) t′ near std)
         unfolding goOn
         go-on-alike t t′ r true std = record { choice = best-local-alike e s u em v w x at left item h; meter = r }
-        go-on-alike t t′ r false true = find-in-sysroot-alike (langs (x .«prefer_no_std»)) false (record { choice = nothing-alike e s u em; meter = r })
+        go-on-alike t t′ r false true =
+            find-in-sysroot-alike (langs (x .«prefer_no_std»)) false (record { choice = nothing-alike e s u em; meter = r })
         go-on-alike t t′ r false false =
-            find-in-deps-alike (dependencies-moved e s u em v (x .«from_crate» .0) (at .crate)) (record { choice = nothing-alike e s u em; meter = r })
+            find-in-deps-alike (dependencies-moved e s u em v (x .«from_crate» .0) (at .crate))
+            (record { choice = nothing-alike e s u em; meter = r })
 
-        after-charge-alike : {a b : Charged M} → Fare R a b → OutAlike e s R (afterCharge M charge s x here f left item a) (afterCharge M charge u y there g left (embeds.itemTo e item) b)
+        after-charge-alike : {a b : Charged M} → Fare R a b
+            → OutAlike e s R (afterCharge M charge s x here f left item a) (afterCharge M charge u y there g left (embeds.itemTo e item) b)
         unfolding afterCharge
         after-charge-alike (goes {t = t} {t′ = t′} r) =
-            subst (λ b. OutAlike e s R (afterCharge M charge s x here f left item (go t)) (goOn M charge u y there g left (embeds.itemTo e item) t′ b (x .«is_std_item»))) (sym (home-at item h))
+            subst (λ b. OutAlike e s R (afterCharge M charge s x here f left item (go t))
+            (goOn M charge u y there g left (embeds.itemTo e item) t′ b (x .«is_std_item»))) (sym (home-at item h))
             (go-on-alike t t′ r (isAt s (homeOf s item) (x .«from_crate» .0)) (x .«is_std_item»))
         after-charge-alike (stops r) = record { choice = nothing-alike e s u em; meter = r }
 
@@ -239,7 +259,8 @@ module _ (e : Numbers) (s u : Snapshot) (em : Embeds e s u) (v : Valid s) (w : V
         unfolding calculateBestPath
         best-path-alike t t′ r =
             let k = sought-moved item h in
-            subst (λ i. OutAlike e s R (calculateBestPath M charge s x here f left item t) (afterCharge M charge u y there g left (embeds.itemTo e item) (charge left i t′))) (sym (k .0))
+            subst (λ i. OutAlike e s R (calculateBestPath M charge s x here f left item t)
+            (afterCharge M charge u y there g left (embeds.itemTo e item) (charge left i t′))) (sym (k .0))
             (after-charge-alike (fair left (soughtOf x item) (k .1) t t′ r))
 
     module _ (f g : Search M) (fg : AlikeSearch f g) where
@@ -255,7 +276,8 @@ module _ (e : Numbers) (s u : Snapshot) (em : Embeds e s u) (v : Valid s) (w : V
       find-module-alike zero m l t t′ r = record { choice = nothing-alike e s u em; meter = r }
       find-module-alike (suc left) m l t t′ r =
           let a = module-rules-alike e s u em v w x at m l true in
-          subst (λ b. OutAlike e s R (findPathForModule M charge s x here f (suc left) m t) (orCharged M charge u y there g (suc left) (e .modules m) t′ (moduleRules u y true (e .modules m)) b))
+          subst (λ b. OutAlike e s R (findPathForModule M charge s x here f (suc left) m t)
+          (orCharged M charge u y there g (suc left) (e .modules m) t′ (moduleRules u y true (e .modules m)) b))
           (sym (a .found)) (or-charged-alike (suc left) m l t t′ r a (moduleRules s x true m .found))
 
       module _ (i j : Inner M) (ij : AlikeInner i j) where
@@ -272,9 +294,12 @@ module _ (e : Numbers) (s u : Snapshot) (em : Embeds e s u) (v : Valid s) (w : V
         via-enum-alike item h t t′ r (each {x = a} {z = b} k) =
             let o = i (itemOf s types (a .first)) t in
             let p = j (itemOf u types (b .first)) t′ in
-            let same : itemOf u types (b .first) ≡ embeds.itemTo e (itemOf s types (a .first)) = ap (itemOf u types) (k .1) ∙ item-moved e s u em v types (a .first) (k .0) in
-            let q = subst (λ z. OutAlike e s R o (j z t′)) (sym same) (ij (itemOf s types (a .first)) (item-has e s u em v types (a .first) (k .0)) t t′ r) in
-            subst (λ z. OutAlike e s R (afterEnum M charge s x here f item a o (o .choice .found)) (afterEnum M charge u y there g (embeds.itemTo e item) b p z)) (sym (q .choice .found))
+            let same : itemOf u types (b .first) ≡ embeds.itemTo e (itemOf s types (a .first)) = ap (itemOf u types) (k .1)
+            ∙ item-moved e s u em v types (a .first) (k .0) in
+            let q = subst (λ z. OutAlike e s R o (j z t′)) (sym same)
+            (ij (itemOf s types (a .first)) (item-has e s u em v types (a .first) (k .0)) t t′ r) in
+            subst (λ z. OutAlike e s R (afterEnum M charge s x here f item a o (o .choice .found))
+            (afterEnum M charge u y there g (embeds.itemTo e item) b p z)) (sym (q .choice .found))
             (after-enum-alike item h a b k q (o .choice .found))
 
         or-enum-alike : (item : Item) → Has s item → (t t′ : M) → R t t′ → {c d : Choice} → Alike e s c d → (found : Bool)
@@ -288,8 +313,10 @@ module _ (e : Numbers) (s u : Snapshot) (em : Embeds e s u) (v : Valid s) (w : V
         by-name-alike item h t t′ r =
             let c = firstFound (scopeRule s x item ∷ preludeRule s x item ∷ []) in
             let d = firstFound (scopeRule u y (embeds.itemTo e item) ∷ preludeRule u y (embeds.itemTo e item) ∷ []) in
-            let a = first-found-alike e s u em v w (next (scope-rule-alike e s u em v w x at item h) (next (prelude-rule-alike e s u em v w x at item h) end)) in
-            subst (λ z. OutAlike e s R (orEnum M charge s x here f i item t c (c .found)) (orEnum M charge u y there g j (embeds.itemTo e item) t′ d z)) (sym (a .found))
+            let a = first-found-alike e s u em v w (next (scope-rule-alike e s u em v w x at item h)
+            (next (prelude-rule-alike e s u em v w x at item h) end)) in
+            subst (λ z. OutAlike e s R (orEnum M charge s x here f i item t c (c .found))
+            (orEnum M charge u y there g j (embeds.itemTo e item) t′ d z)) (sym (a .found))
             (or-enum-alike item h t t′ r a (c .found))
 
         of-module-alike : (m : ℕ) → m < n → (t t′ : M) → R t t′ → (std : Bool)
@@ -307,7 +334,8 @@ module _ (e : Numbers) (s u : Snapshot) (em : Embeds e s u) (v : Valid s) (w : V
     module-to-alike : (d : ℕ) → AlikeSearch (moduleTo M charge s x d) (moduleTo M charge u y d)
     unfolding moduleTo
     module-to-alike zero left m l t t′ r = record { choice = nothing-alike e s u em; meter = r }
-    module-to-alike (suc d) left m l t t′ r = find-module-alike (moduleTo M charge s x d) (moduleTo M charge u y d) (module-to-alike d) left m l t t′ r
+    module-to-alike (suc d) left m l t t′ r =
+        find-module-alike (moduleTo M charge s x d) (moduleTo M charge u y d) (module-to-alike d) left m l t t′ r
 
     pub search-module-alike : AlikeSearch (searchModule M charge s x) (searchModule M charge u y)
     unfolding searchModule
@@ -317,7 +345,8 @@ module _ (e : Numbers) (s u : Snapshot) (em : Embeds e s u) (v : Valid s) (w : V
     unfolding itemTo
     item-to-alike zero item h t t′ r = record { choice = nothing-alike e s u em; meter = r }
     item-to-alike (suc d) item h t t′ r =
-        find-inner-alike (searchModule M charge s x) (searchModule M charge u y) search-module-alike (itemTo M charge s x d) (itemTo M charge u y d) (item-to-alike d) item h t t′ r
+        find-inner-alike (searchModule M charge s x) (searchModule M charge u y) search-module-alike (itemTo M charge s x d) (itemTo M charge u y d)
+        (item-to-alike d) item h t t′ r
 
     -- the item search
     pub search-item-alike : AlikeInner (searchItem M charge s x) (searchItem M charge u y)

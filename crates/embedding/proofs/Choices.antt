@@ -65,11 +65,13 @@ module _ (e : Numbers) (s u : Snapshot) (em : Embeds e s u) where
   -- choices without names
 
   pub nothing-alike : Alike e s nothing nothing
-  nothing-alike = record { found = refl; kind = refl; count = refl; text = refl; stable = refl; prelude = refl; steps = refl; wide = refl; names = end }
+  nothing-alike =
+      record { found = refl; kind = refl; count = refl; text = refl; stable = refl; prelude = refl; steps = refl; wide = refl; names = end }
 
   pub keyword-alike : (k : ℕ) → Alike e s (keyword k) (keyword k)
   unfolding keyword
-  keyword-alike k = record { found = refl; kind = refl; count = refl; text = refl; stable = refl; prelude = refl; steps = refl; wide = refl; names = end }
+  keyword-alike k =
+      record { found = refl; kind = refl; count = refl; text = refl; stable = refl; prelude = refl; steps = refl; wide = refl; names = end }
 
   -- one name, or one name more
 
@@ -116,7 +118,8 @@ module _ (e : Numbers) (s u : Snapshot) (em : Embeds e s u) where
       extended-names : Along (Named e s) (take (c .count + 1) (set (c .names) (c .count) n)) (take (c .count + 1) (set (d .names) (d .count) (e .names n)))
       extended-names =
           let q : suc (c .count) ≡ c .count + 1 = omega arith in
-          subst (λ k. Along (Named e s) (take (c .count + 1) (set (c .names) (c .count) n)) (take (c .count + 1) (set (d .names) k (e .names n)))) (sym (a .count))
+          subst (λ k. Along (Named e s) (take (c .count + 1) (set (c .names) (c .count) n)) (take (c .count + 1) (set (d .names) k (e .names n))))
+          (sym (a .count))
           (subst (λ k. Along (Named e s) (take k (set (c .names) (c .count) n)) (take k (set (d .names) (c .count) (e .names n)))) q
           (put-along (c .count) n (e .names n) (c .names) (d .names) (a .wide) (l, refl) (a .names)))
 

@@ -22,7 +22,8 @@ use Rattle.embedding.proofs.Lookups.{Both, neither, each, Along, end, n
 use Rattle.embedding.proofs.Scopes.{dependencies-moved}
 
 -- lists that are read backwards
-within-back : {A : Type 0} {Alike : A → A → Type 0} {Others : A → Type 0} {xs zs ys ws : List A} → Within Alike Others xs zs → Within Alike Others ys ws
+within-back : {A : Type 0} {Alike : A → A → Type 0} {Others : A → Type 0} {xs zs ys ws : List A} → Within Alike Others xs zs
+    → Within Alike Others ys ws
     → Within Alike Others (reverseAux xs ys) (reverseAux zs ws)
 within-back done k = k
 within-back (ours a r) k = within-back r (ours a k)
@@ -35,7 +36,8 @@ module _ {A : Type 0} {R : A → A → Type 0} (p q : A → Bool) (same : (x z :
   first-along end = neither
   first-along (next {x = x} {z = z} {xs = xs} {zs = zs} h r) =
       by-test (p x)
-      (λ t. subst (λ o. Both R (firstOf p (x ∷ xs)) o) (sym (first-hit q z zs (same x z h ∙ t))) (subst (λ o. Both R o (some z)) (sym (first-hit p x xs t)) (each h)))
+      (λ t. subst (λ o. Both R (firstOf p (x ∷ xs)) o) (sym (first-hit q z zs (same x z h ∙ t)))
+      (subst (λ o. Both R o (some z)) (sym (first-hit p x xs t)) (each h)))
       (λ t. subst (λ o. Both R (firstOf p (x ∷ xs)) o) (sym (first-miss q z zs (same x z h ∙ t)))
       (subst (λ o. Both R o (firstOf q zs)) (sym (first-miss p x xs t)) (first-along r)))
 

@@ -53,7 +53,11 @@ module _ (e : Numbers) (s u : Snapshot) (em : Embeds e s u) (v : Valid s) (w : V
   written-moved : (ed k : ℕ) → k < length (s .names) → writtenOf u ed (e .names k) ≡ writtenOf s ed k
   unfolding writtenOf textOf
   written-moved ed k l =
-      ap (λ (x : Name). elim (isRaw ed x) [ true ↦ bytesOf "r#" ++ take (x .bytes) (unpacked (x .text)) | false ↦ take (x .bytes) (unpacked (x .text)) ])
+      ap (λ (x : Name). elim (isRaw ed x) [
+        | true ↦ bytesOf "r#" ++ take (x .bytes) (unpacked (x .text))
+        | false ↦ take (x .bytes)
+            (unpacked (x .text))
+      ])
       (name-moved e s u em k l)
 
   written-along : (ed : ℕ) {ks js : List ℕ} → Along (Named e s) ks js → map (writtenOf u ed) js ≡ map (writtenOf s ed) ks
@@ -102,7 +106,8 @@ module _ (e : Numbers) (s u : Snapshot) (em : Embeds e s u) (v : Valid s) (w : V
       (λ a.
       let k = kind-moved e s u em v d l in
       let f = fits e s u em v d l .known in
-      let z = ap (λ (x : Definition). x .kind) (List·getD-eq-default (u .definitions) noDefinition (ltb-false (e .definitions d) (length (u .definitions)) a)) in
+      let z = ap (λ (x : Definition). x .kind)
+      (List·getD-eq-default (u .definitions) noDefinition (ltb-false (e .definitions d) (length (u .definitions)) a)) in
       absurd (omega arith))
 
   module _ (q : Query) (lf : q .from .0 < n) (ld : q .definition .0 < length (s .definitions)) where
@@ -132,7 +137,8 @@ module _ (e : Numbers) (s u : Snapshot) (em : Embeds e s u) (v : Valid s) (w : V
     fault-moved : questionFault u (queryTo e q) ≡ questionFault s q
     unfolding questionFault
     fault-moved =
-        let a = lt-ltb (e .definitions (q .definition .0)) (length (u .definitions)) (definition-there (q .definition .0) ld) ∙ sym (lt-ltb (q .definition .0) (length (s .definitions)) ld) in
+        let a = lt-ltb (e .definitions (q .definition .0)) (length (u .definitions)) (definition-there (q .definition .0) ld)
+        ∙ sym (lt-ltb (q .definition .0) (length (s .definitions)) ld) in
         let b = lt-ltb (e .modules (q .from .0)) (length (u .modules)) (em .module-there (q .from .0) lf) ∙ sym (lt-ltb (q .from .0) n lf) in
         let k = kind-moved e s u em v (q .definition .0) ld in
         λ i. elim (a i && b i) [
@@ -149,4 +155,5 @@ module _ (e : Numbers) (s u : Snapshot) (em : Embeds e s u) (v : Valid s) (w : V
     pub answer-line : (fuel : ℕ)
         → lineIn u (e .modules (q .from .0)) (answerUnless u (queryTo e q) fuel (questionFault u (queryTo e q))) ≡ lineIn s (q .from .0) (answerUnless s q fuel (questionFault s q))
     answer-line fuel =
-        ap (λ k. lineIn u (e .modules (q .from .0)) (answerUnless u (queryTo e q) fuel k)) fault-moved ∙ line-moved (q .from .0) lf (answer-alike fuel (questionFault s q))
+        ap (λ k. lineIn u (e .modules (q .from .0))
+        (answerUnless u (queryTo e q) fuel k)) fault-moved ∙ line-moved (q .from .0) lf (answer-alike fuel (questionFault s q))

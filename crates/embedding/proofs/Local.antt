@@ -47,7 +47,8 @@ module _ (e : Numbers) (s u : Snapshot) (em : Embeds e s u) (v : Valid s) (w : V
   visited-moved [] none item h m l = refl
   visited-moved (k ∷ ls) (more b r) item h m l =
       ap₂ (λ i j. i || j)
-      (ap₂ (λ i j. i && j) (same-moved e s u em v (k .item) item (b .0) h) (has-moved (e .modules) n (eqb-moved (e .modules) n (em .modules-apart)) (k .modules) m (b .1) l))
+      (ap₂ (λ i j. i && j) (same-moved e s u em v (k .item) item (b .0) h)
+      (has-moved (e .modules) n (eqb-moved (e .modules) n (em .modules-apart)) (k .modules) m (b .1) l))
       (visited-moved ls r item h m l)
 
   module _ (x : FindPathCtx) (at : Sits s x) where
@@ -59,7 +60,8 @@ module _ (e : Numbers) (s u : Snapshot) (em : Embeds e s u) (v : Valid s) (w : V
 
     -- local searches that give alike choices
     abbrev AlikeLocal : LocalSearch → LocalSearch → Type 0
-    AlikeLocal f g = (left : ℕ) (ls : List Level) → Each (HasLevel s) ls → (m : ℕ) → m < n → Alike e s (f left ls m) (g left (map (levelTo e) ls) (e .modules m))
+    AlikeLocal f g =
+        (left : ℕ) (ls : List Level) → Each (HasLevel s) ls → (m : ℕ) → m < n → Alike e s (f left ls m) (g left (map (levelTo e) ls) (e .modules m))
 
     pub offer-alike : {b b′ c c′ : Choice} → Alike e s b b′ → Alike e s c c′ → (k k′ t t′ : ℕ) → k < length (s .names) → k′ ≡ e .names k
         → Alike e s (offer s x b c k t) (offer u y b′ c′ k′ t′)
@@ -70,7 +72,8 @@ module _ (e : Numbers) (s u : Snapshot) (em : Embeds e s u) (v : Valid s) (w : V
 
     importable-moved : Same e s u em v w (isImportable s x) (isImportable u y)
     importable-moved c d f a =
-        ap₂ (λ i j. i && j) (ap (sees u (e .modules from)) a ∙ sees-moved e s u em v w c from (at .from) f) (ap (λ (z : Scope). isDeclared z || not (eqb (z .visibility) 3)) a)
+        ap₂ (λ i j. i && j) (ap (sees u (e .modules from)) a ∙ sees-moved e s u em v w c from (at .from) f)
+        (ap (λ (z : Scope). isDeclared z || not (eqb (z .visibility) 3)) a)
 
     entry-if-moved : {a b : Option Scope} → Both (Like e s u em v w) a b → Both (Like e s u em v w) (entryIf s x a) (entryIf u y b)
     unfolding entryIf
@@ -78,13 +81,16 @@ module _ (e : Numbers) (s u : Snapshot) (em : Embeds e s u) (v : Valid s) (w : V
     entry-if-moved (each {x = c} {z = d} r) = kept-same (isImportable s x c) (isImportable u y d) (importable-moved c d (r .0) (r .1)) c d r
 
     -- the entry by which the viewer can import the item
-    pub importable-name-moved : (item : Item) → Has s item → (m : ℕ) → m < n → Both (Like e s u em v w) (importableName s x item m) (importableName u y (itemTo e item) (e .modules m))
+    pub importable-name-moved : (item : Item) → Has s item → (m : ℕ) → m < n
+        → Both (Like e s u em v w) (importableName s x item m) (importableName u y (itemTo e item) (e .modules m))
     unfolding importableName
     importable-name-moved item h m l =
-        entry-if-moved (preferred-moved e s u em v w item h m l (x .fresh) (isImportable s x) (isImportable u y) importable-moved (name-like e s u em v w item h m l))
+        entry-if-moved (preferred-moved e s u em v w item h m l (x .fresh) (isImportable s x)
+        (isImportable u y) importable-moved (name-like e s u em v w item h m l))
 
     module _ (f g : LocalSearch) (fg : AlikeLocal f g) (left : ℕ) where
-      location-alike : (ls : List Level) → Each (HasLevel s) ls → {b b′ : Choice} → Alike e s b b′ → (m : ℕ) → m < n → {a a′ : Option Scope} → Both (Like e s u em v w) a a′
+      location-alike : (ls : List Level) → Each (HasLevel s) ls → {b b′ : Choice} → Alike e s b b′ → (m : ℕ) → m < n → {a a′ : Option Scope}
+          → Both (Like e s u em v w) a a′
           → Alike e s (location s x f left ls b m a) (location u y g left (map (levelTo e) ls) b′ (e .modules m) a′)
       unfolding location offerEntry
       location-alike ls k b m l neither = b
@@ -92,7 +98,8 @@ module _ (e : Numbers) (s u : Snapshot) (em : Embeds e s u) (v : Valid s) (w : V
           let ks = map (levelTo e) ls in
           let o = f (lengthLeft left c) ls m in
           let q = subst (λ d. Alike e s o (g d ks (e .modules m))) (sym (length-left-alike e s u em b left)) (fg (lengthLeft left c) ls k m l) in
-          offer-alike b q (i .name) (j .name) (stepBy viaLocal (i .place)) (stepBy viaLocal (j .place)) (r .0 .name) (ap (λ (z : Scope). z .name) (r .1))
+          offer-alike b q (i .name) (j .name) (stepBy viaLocal (i .place)) (stepBy viaLocal (j .place)) (r .0 .name)
+          (ap (λ (z : Scope). z .name) (r .1))
 
       module _ (ls : List Level) (ks : Each (HasLevel s) ls) (item : Item) (h : Has s item) where
         each-location-alike : (done : List ℕ) → Each (λ m. m < n) done → {b b′ : Choice} → Alike e s b b′ → (ms : List ℕ) → Each (λ m. m < n) ms
@@ -108,7 +115,8 @@ module _ (e : Numbers) (s u : Snapshot) (em : Embeds e s u) (v : Valid s) (w : V
             subst
             (λ k. Alike e s (eachLocation s x f left ls item done c (m ∷ ms))
             (eachLocation u y g left there (itemTo e item) k
-            (location u y g left (record { item = itemTo e item; modules = k } ∷ there) c′ (e .modules m) (importableName u y (itemTo e item) (e .modules m))) (map (e .modules) ms)))
+            (location u y g left (record { item = itemTo e item; modules = k } ∷ there) c′ (e .modules m)
+            (importableName u y (itemTo e item) (e .modules m))) (map (e .modules) ms)))
             (map-append (e .modules) done (m ∷ [])) (each-location-alike now d2 a ms r)
 
         -- `calculate_best_path_local`
@@ -118,9 +126,11 @@ module _ (e : Numbers) (s u : Snapshot) (em : Embeds e s u) (v : Valid s) (w : V
             let marks = visited-moved ls ks item h in
             let seen = visited ls item in
             let met = visited (map (levelTo e) ls) (itemTo e item) in
-            subst (λ ms. Alike e s (calculateBestPathLocal s x f left ls item) (eachLocation u y g left (map (levelTo e) ls) (itemTo e item) [] nothing ms))
+            subst (λ ms. Alike e s (calculateBestPathLocal s x f left ls item)
+            (eachLocation u y g left (map (levelTo e) ls) (itemTo e item) [] nothing ms))
             (sym (locations-moved e s u em v w from (at .from) seen met marks))
-            (each-location-alike [] none (nothing-alike e s u em) (findLocalImportLocations s from seen) (locations-known e s u em v w from (at .from) seen met marks))
+            (each-location-alike [] none (nothing-alike e s u em) (findLocalImportLocations s from seen)
+            (locations-known e s u em v w from (at .from) seen met marks))
 
     module _ (f g : LocalSearch) (fg : AlikeLocal f g) where
       or-local-alike : (left : ℕ) (ls : List Level) → Each (HasLevel s) ls → (m : ℕ) → m < n → {c d : Choice} → Alike e s c d → (b : Bool)
@@ -134,7 +144,8 @@ module _ (e : Numbers) (s u : Snapshot) (em : Embeds e s u) (v : Valid s) (w : V
       module-local-alike zero ls ks m l = nothing-alike e s u em
       module-local-alike (suc left) ls ks m l =
           let a = module-rules-alike e s u em v w x at m l false in
-          subst (λ b. Alike e s (findPathForModuleLocal s x f (suc left) ls m) (orLocal u y g (suc left) (map (levelTo e) ls) (e .modules m) (moduleRules u y false (e .modules m)) b))
+          subst (λ b. Alike e s (findPathForModuleLocal s x f (suc left) ls m)
+          (orLocal u y g (suc left) (map (levelTo e) ls) (e .modules m) (moduleRules u y false (e .modules m)) b))
           (sym (a .found)) (or-local-alike (suc left) ls ks m l a (moduleRules s x false m .found))
 
     local-to-alike : (d : ℕ) → AlikeLocal (localTo s x d) (localTo u y d)

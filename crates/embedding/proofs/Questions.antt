@@ -39,21 +39,26 @@ pub record TankAlike (e : Numbers) (t t′ : Tank) : Type 0 where
   pub sought : t′ .sought ≡ orNone (e .modules) (t .sought)
 
 module _ (e : Numbers) (s : Snapshot) where
-  drained-alike : (left sought : ℕ) (t t′ : Tank) → TankAlike e t t′ → (b : Bool) → TankAlike e (drained left sought t b) (drained left (orNone (e .modules) sought) t′ b)
+  drained-alike : (left sought : ℕ) (t t′ : Tank) → TankAlike e t t′ → (b : Bool)
+      → TankAlike e (drained left sought t b) (drained left (orNone (e .modules) sought) t′ b)
   unfolding drained
   drained-alike left sought t t′ a true = record { fuel = refl; spent = a .spent; empty = refl; left = a .left; sought = a .sought }
   drained-alike left sought t t′ a false = record { fuel = refl; spent = a .spent; empty = refl; left = refl; sought = refl }
 
-  draw-alike : (left sought : ℕ) (t t′ : Tank) → TankAlike e t t′ → (k : ℕ) → Fare (TankAlike e) (draw left sought t k) (draw left (orNone (e .modules) sought) t′ k)
+  draw-alike : (left sought : ℕ) (t t′ : Tank) → TankAlike e t t′ → (k : ℕ)
+      → Fare (TankAlike e) (draw left sought t k) (draw left (orNone (e .modules) sought) t′ k)
   unfolding draw
   draw-alike left sought t t′ a zero =
-      stops (subst (λ b. TankAlike e (drained left sought t (t .empty)) (drained left (orNone (e .modules) sought) t′ b)) (sym (a .empty)) (drained-alike left sought t t′ a (t .empty)))
-  draw-alike left sought t t′ a (suc k) = goes (record { fuel = refl; spent = ap (λ i. i + 1) (a .spent); empty = a .empty; left = a .left; sought = a .sought })
+      stops (subst (λ b. TankAlike e (drained left sought t (t .empty)) (drained left (orNone (e .modules) sought) t′ b)) (sym (a .empty))
+      (drained-alike left sought t t′ a (t .empty)))
+  draw-alike left sought t t′ a (suc k) =
+      goes (record { fuel = refl; spent = ap (λ i. i + 1) (a .spent); empty = a .empty; left = a .left; sought = a .sought })
 
   pub tank-fair : Fair e s fromTank (TankAlike e)
   unfolding fromTank
   tank-fair left sought l t t′ a =
-      subst (λ k. Fare (TankAlike e) (draw left sought t (t .fuel)) (draw left (orNone (e .modules) sought) t′ k)) (sym (a .fuel)) (draw-alike left sought t t′ a (t .fuel))
+      subst (λ k. Fare (TankAlike e) (draw left sought t (t .fuel)) (draw left (orNone (e .modules) sought) t′ k)) (sym (a .fuel))
+      (draw-alike left sought t t′ a (t .fuel))
 
   pub filled-alike : (fuel : ℕ) → TankAlike e (filled fuel) (filled fuel)
   unfolding filled
@@ -108,7 +113,8 @@ module _ (e : Numbers) (s u : Snapshot) (em : Embeds e s u) (v : Valid s) (w : V
 
     sits : (home : ℕ) → Sits s (contextOf s q home)
     unfolding contextOf
-    sits home = record { from = lf; crate = crate-known e s u em v w from lf; root = root-low e s u em v w from lf; own = module-in-low e s asked asked-has }
+    sits home =
+        record { from = lf; crate = crate-known e s u em v w from lf; root = root-low e s u em v w from lf; own = module-in-low e s asked asked-has }
 
     pub builtin-type-moved : isBuiltinType u (queryTo e q) ≡ isBuiltinType s q
     builtin-type-moved = ap (λ k. eqb (q .ns) types && eqb k builtinKind) (kind-moved e s u em v (q .definition .0) ld)
@@ -121,14 +127,17 @@ module _ (e : Numbers) (s u : Snapshot) (em : Embeds e s u) (v : Valid s) (w : V
         let z = definitionOf u (e .definitions (q .definition .0)) in
         let first : z .first ≡ e .names (x .first) = first-moved e s u em v (q .definition .0) ld ∙ rw (firstTo, ne-eqb (x .kind) 2 (λ a. omega arith), t) in
         subst (λ k. Alike e s (builtinChoice s x) (choiceNew u plainPath k (stepBy viaBuiltin (z .place)))) (sym first)
-        (choice-new-alike e s u em plainPath (x .first) (stepBy viaBuiltin (x .place)) (stepBy viaBuiltin (z .place)) (fits e s u em v (q .definition .0) ld .builtin t))
+        (choice-new-alike e s u em plainPath (x .first) (stepBy viaBuiltin (x .place)) (stepBy viaBuiltin (z .place))
+        (fits e s u em v (q .definition .0) ld .builtin t))
 
     module _ (M : Type 0) (charge : Charge M) (R : M → M → Type 0) (fair : Fair e s charge R) (t t′ : M) (r : R t t′) where
-      from-home-alike : (home : ℕ) → home ≤ n → OutAlike e s R (fromHome M charge s q asked t home) (fromHome M charge u (queryTo e q) (itemTo e asked) t′ (orNone (e .modules) home))
+      from-home-alike : (home : ℕ) → home ≤ n
+          → OutAlike e s R (fromHome M charge s q asked t home) (fromHome M charge u (queryTo e q) (itemTo e asked) t′ (orNone (e .modules) home))
       unfolding fromHome
       from-home-alike zero h = record { choice = nothing-alike e s u em; meter = r }
       from-home-alike (suc home) h =
-          subst (λ x. OutAlike e s R (searchItem M charge s (contextOf s q home) asked t) (searchItem M charge u x (itemTo e asked) t′)) (sym (context-moved home (omega arith)))
+          subst (λ x. OutAlike e s R (searchItem M charge s (contextOf s q home) asked t) (searchItem M charge u x (itemTo e asked) t′))
+          (sym (context-moved home (omega arith)))
           (search-item-alike e s u em v w (contextOf s q home) (sits home) M charge R fair asked asked-has t t′ r)
 
       from-item-alike : (b : Bool) → isBuiltinType s q ≡ b → OutAlike e s R (fromItem M charge s q t b) (fromItem M charge u (queryTo e q) t′ b)
@@ -138,15 +147,18 @@ module _ (e : Numbers) (s u : Snapshot) (em : Embeds e s u) (v : Valid s) (w : V
           record { choice = builtin-alike (eqb-true (definitionOf s (q .definition .0) .kind) 3 (k .1)); meter = r }
       from-item-alike false a =
           let h = ap (homeOf u) asked-moved ∙ home-moved e s u em v asked asked-has in
-          subst (λ k. OutAlike e s R (fromHome M charge s q asked t (homeOf s asked)) (fromHome M charge u (queryTo e q) (itemOf u (q .ns) (e .definitions (q .definition .0))) t′ k)) (sym h)
-          (subst (λ k. OutAlike e s R (fromHome M charge s q asked t (homeOf s asked)) (fromHome M charge u (queryTo e q) k t′ (orNone (e .modules) (homeOf s asked)))) (sym asked-moved)
+          subst (λ k. OutAlike e s R (fromHome M charge s q asked t (homeOf s asked))
+          (fromHome M charge u (queryTo e q) (itemOf u (q .ns) (e .definitions (q .definition .0))) t′ k)) (sym h)
+          (subst (λ k. OutAlike e s R (fromHome M charge s q asked t (homeOf s asked))
+          (fromHome M charge u (queryTo e q) k t′ (orNone (e .modules) (homeOf s asked)))) (sym asked-moved)
           (from-home-alike (homeOf s asked) (home-low e s u em v asked asked-has)))
 
       -- `find_path`
       pub find-path-alike : OutAlike e s R (findPath M charge s q t) (findPath M charge u (queryTo e q) t′)
       unfolding findPath
       find-path-alike =
-          subst (λ b. OutAlike e s R (findPath M charge s q t) (fromItem M charge u (queryTo e q) t′ b)) (sym builtin-type-moved) (from-item-alike (isBuiltinType s q) refl)
+          subst (λ b. OutAlike e s R (findPath M charge s q t) (fromItem M charge u (queryTo e q) t′ b)) (sym builtin-type-moved)
+          (from-item-alike (isBuiltinType s q) refl)
 
     -- the search with a tank
     pub searched-alike : (fuel : ℕ) → OutAlike e s (TankAlike e) (searched s q fuel) (searched u (queryTo e q) fuel)

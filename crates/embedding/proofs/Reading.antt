@@ -59,7 +59,8 @@ module _ (e : Numbers) (s u : Snapshot) (em : Embeds e s u) (v : Valid s) (w : V
   scopes-from-moved : (m : ℕ) → m < n → scopesFrom u (e .modules m) ≡ map (e .modules) (scopesFrom s m)
   unfolding scopesFrom
   scopes-from-moved m l = ap (λ r. e .modules m ∷ r)
-      (steps-moved (e .modules) (outward s) (outward u) n (length (u .modules)) (outward-falls s (v .tree)) (outward-falls u (w .tree)) (em .module-there) outward-moved m l)
+      (steps-moved (e .modules) (outward s) (outward u) n (length (u .modules)) (outward-falls s (v .tree)) (outward-falls u (w .tree))
+      (em .module-there) outward-moved m l)
 
   scopes-from-known : (m : ℕ) → m < n → Each (λ a. a < n) (scopesFrom s m)
   unfolding scopesFrom
@@ -68,8 +69,10 @@ module _ (e : Numbers) (s u : Snapshot) (em : Embeds e s u) (v : Valid s) (w : V
   stands-moved : (m : ℕ) → m < n → (standsFor u (e .modules m) ≡ e .modules (standsFor s m)) × (standsFor s m < n)
   unfolding standsFor
   stands-moved m l =
-      let k = last-low (e .modules) (outward s) (outward u) n (length (u .modules)) (outward-falls s (v .tree)) (outward-falls u (w .tree)) (em .module-there) outward-moved m l in (
-        last-moved (e .modules) (outward s) (outward u) n (length (u .modules)) (outward-falls s (v .tree)) (outward-falls u (w .tree)) (em .module-there) outward-moved m l,
+      let k = last-low (e .modules) (outward s) (outward u) n (length (u .modules)) (outward-falls s (v .tree)) (outward-falls u (w .tree))
+      (em .module-there) outward-moved m l in (
+        last-moved (e .modules) (outward s) (outward u) n (length (u .modules)) (outward-falls s (v .tree)) (outward-falls u (w .tree))
+            (em .module-there) outward-moved m l,
         omega arith,
       )
 
@@ -80,11 +83,16 @@ module _ (e : Numbers) (s u : Snapshot) (em : Embeds e s u) (v : Valid s) (w : V
     unfolding meaning
     meaning-moved c d r =
         let f = r .0 in
-        kept-same {R = Means} (sees s from c) (sees u (e .modules from) d) (ap (sees u (e .modules from)) (r .1) ∙ sees-moved e s u em v w c from lf f)
-        (itemOf s (c .ns) (c .definition)) (itemOf u (d .ns) (d .definition))
-        (item-has e s u em v (c .ns) (c .definition) (f .definition), ap (λ (z : Scope). itemOf u (z .ns) (z .definition)) (r .1) ∙ item-moved e s u em v (c .ns) (c .definition) (f .definition))
+        kept-same {R = Means} (sees s from c) (sees u (e .modules from) d)
+        (ap (sees u (e .modules from)) (r .1) ∙ sees-moved e s u em v w c from lf f)
+        (itemOf s (c .ns) (c .definition)) (itemOf u (d .ns) (d .definition)) (
+          item-has e s u em v (c .ns) (c .definition) (f .definition),
+          ap (λ (z : Scope). itemOf u (z .ns) (z .definition)) (r .1)
+              ∙ item-moved e s u em v (c .ns) (c .definition) (f .definition),
+        )
 
-    entry-or-moved : {o p : Option Item} → Both Means o p → {a b : Option Scope} → Both (Like e s u em v w) a b → Both Means (entryOr s from o a) (entryOr u (e .modules from) p b)
+    entry-or-moved : {o p : Option Item} → Both Means o p → {a b : Option Scope} → Both (Like e s u em v w) a b
+        → Both Means (entryOr s from o a) (entryOr u (e .modules from) p b)
     unfolding entryOr
     entry-or-moved o neither = o
     entry-or-moved o (each {x = c} {z = d} r) = meaning-moved c d r
@@ -104,22 +112,26 @@ module _ (e : Numbers) (s u : Snapshot) (em : Embeds e s u) (v : Valid s) (w : V
           ap (λ (y : Extern). eqb (y .owner) (e .crates c) && eqb (y .name) (e .names k)) a
           ∙ ap₂ (λ i j. i && j) (eqb-moved (e .crates) (length (s .crates)) (em .crates-apart) (x .owner) c (f .owner) l)
           (eqb-moved (e .names) (length (s .names)) (em .names-apart) (x .name) k (f .name) h))
-          (λ z o. ap (λ i. i && eqb (z .name) (e .names k)) (outside-not (e .crates) (length (s .crates)) (z .owner) c o l)) (v .ranges .externs) (em .externs)
+          (λ z o. ap (λ i. i && eqb (z .name) (e .names k)) (outside-not (e .crates) (length (s .crates)) (z .owner) c o l)) (v .ranges .externs)
+          (em .externs)
 
-      extern-means-moved : {t : Extern → Bool} {a b : Option Extern} → Both (Hit (ExternFits (countsOf s)) (ExternAlike e) t) a b → Both Means (externMeans a) (externMeans b)
+      extern-means-moved : {t : Extern → Bool} {a b : Option Extern} → Both (Hit (ExternFits (countsOf s)) (ExternAlike e) t) a b
+          → Both Means (externMeans a) (externMeans b)
       unfolding externMeans
       extern-means-moved neither = neither
       extern-means-moved (each {x = c} {z = d} r) =
           each (r .0 .target, ap (λ (z : Extern). moduleItem (z .target)) (r .1) ∙ module-means (c .target) (r .0 .target) .1)
 
-      externs-by : (b : Bool) {a c : Option Item} → Both Means a c → Both Means (elim b [ true ↦ a | false ↦ none ]) (elim b [ true ↦ c | false ↦ none ])
+      externs-by : (b : Bool) {a c : Option Item} → Both Means a c
+          → Both Means (elim b [ true ↦ a | false ↦ none ]) (elim b [ true ↦ c | false ↦ none ])
       externs-by true r = r
       externs-by false r = neither
 
       in-externs-moved : Both Means (inExterns s from ns k) (inExterns u (e .modules from) ns (e .names k))
       unfolding inExterns
       in-externs-moved =
-          subst (λ c. Both Means (inExterns s from ns k) (elim (eqb ns types) [ true ↦ externMeans (externNamed u c (e .names k)) | false ↦ none ])) (sym (crate-moved e s u em v w from lf))
+          subst (λ c. Both Means (inExterns s from ns k) (elim (eqb ns types) [ true ↦ externMeans (externNamed u c (e .names k)) | false ↦ none ]))
+          (sym (crate-moved e s u em v w from lf))
           (externs-by (eqb ns types) (extern-means-moved (extern-named-moved (crateOf s from) (crate-known e s u em v w from lf))))
 
       -- the prelude
@@ -135,14 +147,17 @@ module _ (e : Numbers) (s u : Snapshot) (em : Embeds e s u) (v : Valid s) (w : V
       in-prelude-of-moved : Both Means (inPreludeOf s from ns k) (inPreludeOf u (e .modules from) ns (e .names k))
       unfolding inPreludeOf
       in-prelude-of-moved =
-          subst (λ j. Both Means (inPreludeOf s from ns k) (preludeMeans u (e .modules from) ns (e .names k) (preludeOf u j))) (sym (map-moved e s u em v w from lf))
+          subst (λ j. Both Means (inPreludeOf s from ns k) (preludeMeans u (e .modules from) ns (e .names k) (preludeOf u j)))
+          (sym (map-moved e s u em v w from lf))
           (prelude-means-moved (prelude-moved e s u em v (mapNo s from) (map-known s (v .tree) from lf)))
 
       entry-from-moved : Both (Like e s u em v w) (entryFrom s from ns k) (entryFrom u (e .modules from) ns (e .names k))
       unfolding entryFrom
       entry-from-moved =
-          subst (λ ms. Both (Like e s u em v w) (entryFrom s from ns k) (firstSome (λ m. get u m ns (e .names k)) ms)) (sym (scopes-from-moved from lf))
-          (first-some-moved (e .modules) n (λ m. get s m ns k) (λ m. get u m ns (e .names k)) (λ m l. get-like m l ns k h) (scopesFrom s from) (scopes-from-known from lf))
+          subst (λ ms. Both (Like e s u em v w) (entryFrom s from ns k) (firstSome (λ m. get u m ns (e .names k)) ms))
+          (sym (scopes-from-moved from lf))
+          (first-some-moved (e .modules) n (λ m. get s m ns k) (λ m. get u m ns (e .names k)) (λ m l. get-like m l ns k h) (scopesFrom s from)
+          (scopes-from-known from lf))
 
       first-name-moved : Both Means (firstName s from ns k) (firstName u (e .modules from) ns (e .names k))
       unfolding firstName
@@ -157,24 +172,31 @@ module _ (e : Numbers) (s u : Snapshot) (em : Embeds e s u) (v : Valid s) (w : V
           first-within (isVariantNamed d k) (isVariantNamed (e .definitions d) (e .names k))
           (λ x z f a.
           ap (λ (y : Member). isVariantNamed (e .definitions d) (e .names k) y) a
-          ∙ ap₂ (λ i j. i && (eqb (x .kind) variantMember && j)) (eqb-moved (e .definitions) (length (s .definitions)) (em .definitions-apart) (x .parent) d (f .parent) l)
+          ∙ ap₂ (λ i j. i && (eqb (x .kind) variantMember && j))
+          (eqb-moved (e .definitions) (length (s .definitions)) (em .definitions-apart) (x .parent) d (f .parent) l)
           (eqb-moved (e .names) (length (s .names)) (em .names-apart) (x .name) k (f .name) h))
-          (λ z o. ap (λ i. i && (eqb (z .kind) variantMember && eqb (z .name) (e .names k))) (outside-not (e .definitions) (length (s .definitions)) (z .parent) d o l))
+          (λ z o. ap (λ i. i && (eqb (z .kind) variantMember && eqb (z .name) (e .names k)))
+          (outside-not (e .definitions) (length (s .definitions)) (z .parent) d o l))
           (v .ranges .members) (em .members)
 
-      variant-in-moved : {t : Member → Bool} {a b : Option Member} → Both (Hit (MemberFits (countsOf s)) (λ x z. z ≡ memberTo e x) t) a b → Both Means (variantIn s ns a) (variantIn u ns b)
+      variant-in-moved : {t : Member → Bool} {a b : Option Member} → Both (Hit (MemberFits (countsOf s)) (λ x z. z ≡ memberTo e x) t) a b
+          → Both Means (variantIn s ns a) (variantIn u ns b)
       unfolding variantIn
       variant-in-moved neither = neither
       variant-in-moved (each {x = c} {z = d} r) =
-          kept-same {R = Means} (ltb ns macros) (ltb ns macros) refl (itemOf s ns (c .definition)) (itemOf u ns (d .definition))
-          (item-has e s u em v ns (c .definition) (r .0 .definition), ap (λ (z : Member). itemOf u ns (z .definition)) (r .1) ∙ item-moved e s u em v ns (c .definition) (r .0 .definition))
+          kept-same {R = Means} (ltb ns macros) (ltb ns macros) refl (itemOf s ns (c .definition)) (itemOf u ns (d .definition)) (
+            item-has e s u em v ns (c .definition) (r .0 .definition),
+            ap (λ (z : Member). itemOf u ns (z .definition)) (r .1)
+                ∙ item-moved e s u em v ns (c .definition) (r .0 .definition),
+          )
 
       later-name-moved : (a : Item) → Has s a → Both Means (laterName s from ns k a) (laterName u (e .modules from) ns (e .names k) (itemTo e a))
       unfolding laterName itemTo
       later-name-moved (Mod m) l = entry-or-moved neither (get-like (m .0) l ns k h)
       later-name-moved (Def j d) l = variant-in-moved (variant-named-moved (d .0) l)
 
-      after-moved : {a b : Option Item} → Both Means a b → Both Means (after a (laterName s from ns k)) (after b (laterName u (e .modules from) ns (e .names k)))
+      after-moved : {a b : Option Item} → Both Means a b
+          → Both Means (after a (laterName s from ns k)) (after b (laterName u (e .modules from) ns (e .names k)))
       unfolding after
       after-moved neither = neither
       after-moved (each {x = a} {z = b} r) =
@@ -188,13 +210,16 @@ module _ (e : Numbers) (s u : Snapshot) (em : Embeds e s u) (v : Valid s) (w : V
     looked-moved ns (next r a) = refl
 
     module _ (ns : ℕ) where
-      follow-moved : {ks js : List ℕ} → Along (Named e s) ks js → {a b : Option Item} → Both Means a b → Both Means (follow s from ns a ks) (follow u (e .modules from) ns b js)
+      follow-moved : {ks js : List ℕ} → Along (Named e s) ks js → {a b : Option Item} → Both Means a b
+          → Both Means (follow s from ns a ks) (follow u (e .modules from) ns b js)
       unfolding follow
       follow-moved end r = r
       follow-moved (next {x = k} {z = j} {xs = ks} {zs = js} h t) {a = a} {b = b} r =
           follow-moved t
-          (subst (λ i. Both Means (after a (laterName s from (lookedIn ns ks) k)) (after b (laterName u (e .modules from) (lookedIn ns js) i))) (sym (h .1))
-          (subst (λ i. Both Means (after a (laterName s from (lookedIn ns ks) k)) (after b (laterName u (e .modules from) i (e .names k)))) (sym (looked-moved ns t))
+          (subst (λ i. Both Means (after a (laterName s from (lookedIn ns ks) k)) (after b (laterName u (e .modules from) (lookedIn ns js) i)))
+          (sym (h .1))
+          (subst (λ i. Both Means (after a (laterName s from (lookedIn ns ks) k)) (after b (laterName u (e .modules from) i (e .names k))))
+          (sym (looked-moved ns t))
           (after-moved (lookedIn ns ks) k (h .0) r)))
 
       plainly-moved : {ks js : List ℕ} → Along (Named e s) ks js → Both Means (plainly s from ns ks) (plainly u (e .modules from) ns js)
@@ -226,23 +251,27 @@ module _ (e : Numbers) (s u : Snapshot) (em : Embeds e s u) (v : Valid s) (w : V
       unfolding moduleOf
       parent-known m l = each-at noModule m (v .ranges .modules) l .parent
 
-      chosen : (b : Bool) {o p a c : Option Item} → Both Means o p → Both Means a c → Both Means (elim b [ true ↦ o | false ↦ a ]) (elim b [ true ↦ p | false ↦ c ])
+      chosen : (b : Bool) {o p a c : Option Item} → Both Means o p → Both Means a c
+          → Both Means (elim b [ true ↦ o | false ↦ a ]) (elim b [ true ↦ p | false ↦ c ])
       chosen true r t = r
       chosen false r t = t
 
       -- what a path means
-      pub reads-to-moved : (kind : ℕ) {ks js : List ℕ} → Along (Named e s) ks js → Both Means (readsTo s from ns kind ks) (readsTo u (e .modules from) ns kind js)
+      pub reads-to-moved : (kind : ℕ) {ks js : List ℕ} → Along (Named e s) ks js
+          → Both Means (readsTo s from ns kind ks) (readsTo u (e .modules from) ns kind js)
       unfolding readsTo
       reads-to-moved kind t =
           let k = stands-moved from lf in
           let r = root-low e s u em v w from lf in
-          let up : parentOf u (standsFor u (e .modules from)) ≡ orNone (e .modules) (parentOf s (standsFor s from)) = ap (parentOf u) (k .0) ∙ parent-moved e s u em v w (standsFor s from) (k .1) in
+          let up : parentOf u (standsFor u (e .modules from)) ≡ orNone (e .modules) (parentOf s (standsFor s from)) = ap (parentOf u) (k .0)
+          ∙ parent-moved e s u em v w (standsFor s from) (k .1) in
           chosen (eqb kind selfKind) (follow-moved t (each (k .1, ap moduleItem (k .0) ∙ module-means (standsFor s from) (k .1) .1)))
           (chosen (eqb kind superKind)
           (follow-moved t
           (subst (λ i. Both Means (parentMeans s (parentOf s (standsFor s from))) (parentMeans u i)) (sym up)
           (parent-means-moved (parentOf s (standsFor s from)) (parent-known (standsFor s from) (k .1)))))
-          (chosen (eqb kind crateKind) (follow-moved t (each (r, ap moduleItem (crate-root-moved e s u em v w from lf) ∙ module-means (crateRoot s from) r .1)))
+          (chosen (eqb kind crateKind)
+          (follow-moved t (each (r, ap moduleItem (crate-root-moved e s u em v w from lf) ∙ module-means (crateRoot s from) r .1)))
           (chosen (eqb kind absoluteKind) (absolutely-moved t) (plainly-moved t))))
 
     is-the-moved : (item : Item) → Has s item → {a b : Option Item} → Both Means a b → isThe (itemTo e item) b ≡ isThe item a
@@ -255,4 +284,5 @@ module _ (e : Numbers) (s u : Snapshot) (em : Embeds e s u) (v : Valid s) (w : V
         → readsBack u (e .modules from) (itemTo e item) kind js ≡ readsBack s from item kind ks
     unfolding readsBack
     reads-back-moved item h kind {js = js} t =
-        ap (λ i. isThe (itemTo e item) (readsTo u (e .modules from) i kind js)) (ns-moved e s u em v item) ∙ is-the-moved item h (reads-to-moved (nsOf item) kind t)
+        ap (λ i. isThe (itemTo e item) (readsTo u (e .modules from) i kind js)) (ns-moved e s u em v item)
+        ∙ is-the-moved item h (reads-to-moved (nsOf item) kind t)

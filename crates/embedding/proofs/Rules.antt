@@ -38,13 +38,15 @@ pub record Sits (s : Snapshot) (x : FindPathCtx) : Type 0 where
   pub own : x .own ≤ length (s .modules)
 
 -- an answer that is kept by the same test
-kept : {A : Type 0} {R : A → A → Type 0} (a : Bool) (x z : A) → R x z → Both R (elim a [ true ↦ some x | false ↦ none ]) (elim a [ true ↦ some z | false ↦ none ])
+kept : {A : Type 0} {R : A → A → Type 0} (a : Bool) (x z : A) → R x z
+    → Both R (elim a [ true ↦ some x | false ↦ none ]) (elim a [ true ↦ some z | false ↦ none ])
 kept true x z r = each r
 kept false x z r = neither
 
 pub kept-same : {A : Type 0} {R : A → A → Type 0} (a b : Bool) → b ≡ a → (x z : A) → R x z
     → Both R (elim a [ true ↦ some x | false ↦ none ]) (elim b [ true ↦ some z | false ↦ none ])
-kept-same {R = R} a b t x z r = subst (λ y. Both R (elim a [ true ↦ some x | false ↦ none ]) (elim y [ true ↦ some z | false ↦ none ])) (sym t) (kept a x z r)
+kept-same {R = R} a b t x z r =
+    subst (λ y. Both R (elim a [ true ↦ some x | false ↦ none ]) (elim y [ true ↦ some z | false ↦ none ])) (sym t) (kept a x z r)
 
 module _ (e : Numbers) (s u : Snapshot) (em : Embeds e s u) (v : Valid s) (w : Valid u) where
   abbrev n : ℕ
@@ -76,7 +78,8 @@ module _ (e : Numbers) (s u : Snapshot) (em : Embeds e s u) (v : Valid s) (w : V
     unfolding single
     single-alike kind rule neither = nothing-alike e s u em
     single-alike kind rule (each {x = c} {z = d} r) =
-        subst (λ k. Alike e s (choiceNew s kind (c .name) (stepBy rule (c .place))) (choiceNew u kind k (stepBy rule (d .place)))) (sym (ap (λ (z : Scope). z .name) (r .1)))
+        subst (λ k. Alike e s (choiceNew s kind (c .name) (stepBy rule (c .place))) (choiceNew u kind k (stepBy rule (d .place))))
+        (sym (ap (λ (z : Scope). z .name) (r .1)))
         (choice-new-alike e s u em kind (c .name) (stepBy rule (c .place)) (stepBy rule (d .place)) (r .0 .name))
 
     -- the scope
@@ -89,12 +92,14 @@ module _ (e : Numbers) (s u : Snapshot) (em : Embeds e s u) (v : Valid s) (w : V
     unfolding scopeRule findInScope
     scope-rule-alike item h =
         by-same may-moved
-        (single-alike (prefixPathKind (x .prefix)) viaScope (scope-entry-moved e s u em v w from (at .from) item h (x .«ignore_local_imports») (x .fresh)))
+        (single-alike (prefixPathKind (x .prefix)) viaScope (scope-entry-moved e s u em v w from (at .from) item h (x .«ignore_local_imports»)
+        (x .fresh)))
         (nothing-alike e s u em)
 
     -- the prelude
 
-    same-here-moved : (item : Item) → Has s item → {a b : Option Scope} → Both (Like e s u em v w) a b → sameHere u y (itemTo e item) b ≡ sameHere s x item a
+    same-here-moved : (item : Item) → Has s item → {a b : Option Scope} → Both (Like e s u em v w) a b
+        → sameHere u y (itemTo e item) b ≡ sameHere s x item a
     unfolding sameHere
     same-here-moved item h neither = refl
     same-here-moved item h (each {x = c} {z = d} r) = item-same e s u em v from (at .from) item h c d (r .0) (r .1)
@@ -114,7 +119,8 @@ module _ (e : Numbers) (s u : Snapshot) (em : Embeds e s u) (v : Valid s) (w : V
     prelude-entry-moved item h (each {x = c} {z = d} r) =
         kept-same (isUsable s x item c) (isUsable u y (itemTo e item) d) (usable-moved item h c d (r .0) (r .1)) c d r
 
-    in-prelude-moved : (item : Item) → Has s item → {t : Prelude → Bool} {a b : Option Prelude} → Both (Hit (PreludeFits (countsOf s)) (λ p q. q ≡ preludeTo e p) t) a b
+    in-prelude-moved : (item : Item) → Has s item → {t : Prelude → Bool} {a b : Option Prelude}
+        → Both (Hit (PreludeFits (countsOf s)) (λ p q. q ≡ preludeTo e p) t) a b
         → Both (Like e s u em v w) (inPrelude s x item a) (inPrelude u y (itemTo e item) b)
     unfolding inPrelude
     in-prelude-moved item h neither = neither
@@ -130,7 +136,8 @@ module _ (e : Numbers) (s u : Snapshot) (em : Embeds e s u) (v : Valid s) (w : V
     prelude-rule-alike item h =
         subst (λ k. Alike e s (preludeRule s x item) (single u y plainPath viaPrelude (inPrelude u y (itemTo e item) (preludeOf u k))))
         (sym (map-moved e s u em v w from (at .from)))
-        (single-alike plainPath viaPrelude (in-prelude-moved item h (prelude-moved e s u em v (mapNo s from) (map-known s (v .tree) from (at .from)))))
+        (single-alike plainPath viaPrelude (in-prelude-moved item h (prelude-moved e s u em v (mapNo s from)
+        (map-known s (v .tree) from (at .from)))))
 
     -- a module: root, extern, keyword
 
@@ -149,8 +156,10 @@ module _ (e : Numbers) (s u : Snapshot) (em : Embeds e s u) (v : Valid s) (w : V
           let o = ap (occupied u (e .modules from) (e .modules m)) q ∙ occupied-moved e s u em v w from (at .from) m (c .name) l (r .0 .name) in
           let k = ap (λ i. externKind u y (i || x .«prefer_absolute»)) o ∙ extern-kind-same (occupied s from m (c .name) || x .«prefer_absolute») in
           subst (λ i. Alike e s (externName s x m (some c)) (choiceNew u i (d .name) (stepBy viaExtern (d .place)))) (sym k)
-          (subst (λ i. Alike e s (externName s x m (some c)) (choiceNew u (externKind s x (occupied s from m (c .name) || x .«prefer_absolute»)) i (stepBy viaExtern (d .place)))) (sym q)
-          (choice-new-alike e s u em (externKind s x (occupied s from m (c .name) || x .«prefer_absolute»)) (c .name) (stepBy viaExtern (c .place)) (stepBy viaExtern (d .place)) (r .0 .name)))
+          (subst (λ i. Alike e s (externName s x m (some c))
+          (choiceNew u (externKind s x (occupied s from m (c .name) || x .«prefer_absolute»)) i (stepBy viaExtern (d .place)))) (sym q)
+          (choice-new-alike e s u em (externKind s x (occupied s from m (c .name) || x .«prefer_absolute»)) (c .name) (stepBy viaExtern (c .place))
+          (stepBy viaExtern (d .place)) (r .0 .name)))
 
       pub root-rule-alike : (maybe : Bool) → Alike e s (rootRule s x maybe m) (rootRule u y maybe (e .modules m))
       unfolding rootRule
@@ -171,7 +180,8 @@ module _ (e : Numbers) (s u : Snapshot) (em : Embeds e s u) (v : Valid s) (w : V
           let k = map-known s (v .tree) from (at .from) in
           let lp : p < n = omega arith in
           let a = modules-compared m p l lp in
-          let b = ap (λ i. eqb (e .modules p) (rootOf u i)) (map-moved e s u em v w from (at .from)) ∙ ap (eqb (e .modules p)) (em .root (mapNo s from) k)
+          let b = ap (λ i. eqb (e .modules p) (rootOf u i)) (map-moved e s u em v w from (at .from)) ∙ ap (eqb (e .modules p))
+          (em .root (mapNo s from) k)
           ∙ modules-compared p (rootOf s (mapNo s from)) lp (root-known s v (mapNo s from) k .0) in
           λ i. elim (a i) [ true ↦ elim (b i) [ true ↦ some cratePath | false ↦ some superPath ] | false ↦ none ]
 
@@ -188,7 +198,8 @@ module _ (e : Numbers) (s u : Snapshot) (em : Embeds e s u) (v : Valid s) (w : V
       keyword-of-alike : (k : Option ℕ) → Alike e s (keywordOf s x k) (keywordOf u y k)
       unfolding keywordOf
       keyword-of-alike none = nothing-alike e s u em
-      keyword-of-alike (some k) = by-same {a = not (eqb (x .prefix) byCrate) || eqb k cratePath} refl (keyword-alike e s u em k) (nothing-alike e s u em)
+      keyword-of-alike (some k) =
+          by-same {a = not (eqb (x .prefix) byCrate) || eqb k cratePath} refl (keyword-alike e s u em k) (nothing-alike e s u em)
 
       -- `find_path_for_module` before its search
       pub module-rules-alike : (maybe : Bool) → Alike e s (moduleRules s x maybe m) (moduleRules u y maybe (e .modules m))
@@ -197,5 +208,6 @@ module _ (e : Numbers) (s u : Snapshot) (em : Embeds e s u) (v : Valid s) (w : V
           first-found-alike
           (next (root-rule-alike maybe)
           (next (scope-rule-alike (moduleItem m) l)
-          (next (subst (λ k. Alike e s (keywordOf s x (isKwKindRelativeToFrom s x m)) (keywordOf u y k)) (sym kw-kind-moved) (keyword-of-alike (isKwKindRelativeToFrom s x m)))
+          (next (subst (λ k. Alike e s (keywordOf s x (isKwKindRelativeToFrom s x m)) (keywordOf u y k)) (sym kw-kind-moved)
+          (keyword-of-alike (isKwKindRelativeToFrom s x m)))
           (next (prelude-rule-alike (moduleItem m) l) end))))

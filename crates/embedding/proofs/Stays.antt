@@ -33,7 +33,8 @@ refused-line s u m k n = refl
 
 module _ (W Y : List ℕ) (s u : Snapshot) (a : verdict W ≡ accept s) (b : verdict Y ≡ accept u) (e : Numbers) (em : Embeds e s u) where
   module _ (q : Query) (fuel : ℕ) where
-    unknown : ltb (q .definition .0) (length (s .definitions)) && ltb (q .from .0) (length (s .modules)) ≡ false → reportBy q fuel (verdict W) .number ≡ unknownRefusal
+    unknown : ltb (q .definition .0) (length (s .definitions)) && ltb (q .from .0) (length (s .modules)) ≡ false
+        → reportBy q fuel (verdict W) .number ≡ unknownRefusal
     unfolding questionFault reportBy answerUnless refused
     unknown t =
         let z : questionFault s q ≡ unknownRefusal = rw (questionFault, t) in
@@ -47,7 +48,8 @@ module _ (W Y : List ℕ) (s u : Snapshot) (a : verdict W ≡ accept s) (b : ver
         (λ t.
         let l = and-two (ltb (q .definition .0) (length (s .definitions))) (ltb (q .from .0) (length (s .modules))) t in
         ap (λ x. lineIn (snapshotOf x) (e .modules (q .from .0)) (reportBy (queryTo e q) fuel x)) b
-        ∙ answer-line e s u em (accepted-valid W s a) (accepted-valid Y u b) q (ltb-true (q .from .0) (length (s .modules)) (l .1)) (ltb-true (q .definition .0) (length (s .definitions)) (l .0)) fuel
+        ∙ answer-line e s u em (accepted-valid W s a) (accepted-valid Y u b) q (ltb-true (q .from .0) (length (s .modules)) (l .1))
+        (ltb-true (q .definition .0) (length (s .definitions)) (l .0)) fuel
         ∙ ap (λ x. lineIn (snapshotOf x) (q .from .0) (reportBy q fuel x)) (sym a))
         (λ t. absurd (h (unknown t)))
     by-fault (suc k) h = refused-line (snapshotOf (verdict W)) (snapshotOf (verdict Y)) (q .from .0) (e .modules (q .from .0)) (suc k)
