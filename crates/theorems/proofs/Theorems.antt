@@ -63,13 +63,15 @@ use Rattle.windows.proofs.Served as served
 use Rattle.import_order.specs.Collect.{collected}
 use Rattle.import_words.specs.Words as lists
 use Rattle.import_words.proofs.Built as built
-use Rattle.join_words.specs.Joined.{joinedAs, joinOf}
-use Rattle.embedding.specs.Kept.{Kept}
+use Rattle.join_words.specs.Joined.{firstNumbers, secondNumbers, questionTo, joinedAs, joinOf}
+use Rattle.embedding.specs.Kept.{Answered, Kept}
 use Rattle.embedding.proofs.Stays as stays
-use Rattle.printing.specs.Input.{wordsIn}
-use Rattle.find_path.specs.Line.{bytesOf}
+use Rattle.find_path.specs.Line.{bytesOf, lineOf}
 use Rattle.printer.specs.Printed.{printed}
 use Rattle.printer.proofs.Whole as whole
+use Rattle.joined_lines.specs.Inputs.{Writable, Asks, Room}
+use Rattle.joined_lines.proofs.Asked as asked
+use Rattle.joined_lines.proofs.Joined as printing
 
 -- The snapshot
 
@@ -253,7 +255,24 @@ built-accepted = built.built-accepted
 pub lines-kept : (area room : ℕ) (W X Y : List ℕ) → joinOf area W X room ≡ joinedAs Y → Kept W X Y
 lines-kept = stays.lines-kept
 
+-- So has the printer: a part's question, put behind the joined words with its numbers moved, prints what it prints behind its part, where both inputs
+-- have at most 16,384 words.
+pub first-printed : (area room : ℕ) (W X Y : List ℕ) (e : joinOf area W X room ≡ joinedAs Y) (q : Question) (B C : List ℕ) → Room Y
+    → Answered W q → Room W → Writable q → Asks B W q → Asks C Y (questionTo firstNumbers q) → printed C ≡ printed B
+first-printed = printing.first-printed
+
+pub second-printed : (area room : ℕ) (W X Y : List ℕ) (e : joinOf area W X room ≡ joinedAs Y) (q : Question) (B C : List ℕ) (fits : Room Y)
+    → Answered X q → Room X → Writable q
+    → Writable (questionTo (secondNumbers (stays.lines-kept area room W X Y e .first) (stays.lines-kept area room W X Y e .second)) q) → Asks B X q
+    → Asks C Y (questionTo (secondNumbers (stays.lines-kept area room W X Y e .first) (stays.lines-kept area room W X Y e .second)) q) → printed C ≡ printed B
+second-printed = printing.second-printed
+
 -- The printer
+
+-- The input of accepted words and one question has one line.
+pub asked-printed : (W : List ℕ) (s : Snapshot) → verdict W ≡ accept s → (q : Question) → Writable q → (B : List ℕ) → Asks B W q → Room W
+    → printed B ≡ lineOf W q ∷ []
+asked-printed = asked.asked-printed
 
 -- The worked input, byte for byte, has one line.
 pub listing-printed : printed whole.listing ≡ bytesOf "found a::f 1 0" ∷ []
