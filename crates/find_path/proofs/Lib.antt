@@ -1,3 +1,4 @@
+pub mod Answers
 pub mod Keeps
 pub mod Tanks
 pub mod Told

@@ -206,6 +206,21 @@ pub std-cases : passes withStd stdCases ≡ true
 unfolding passes stdCases rowAt withStd named head
 std-cases = refl
 
+-- Crate 0 depends on core (crate 1), of the sysroot, and on crate 2. Modules 0, 1 and 2 are their roots. Definition 0 is `O` in core, which
+-- exports nothing; crate 2 exports it.
+pub withFacade : List ℕ
+withFacade =
+    named "core" ++ named "dep" ++ named "O"
+    ++ (head 2 0 ∷ 2021 ∷ head 2 1 ∷ 2021 ∷ head 2 0 ∷ 2021 ∷ head 3 0 ∷ 1 ∷ 1 ∷ head 3 0 ∷ 2 ∷ 0
+    ∷ head 4 0 ∷ 0 ∷ 0 ∷ head 5 0 ∷ 0 ∷ head 4 1 ∷ 0 ∷ 0 ∷ head 5 1 ∷ 0 ∷ head 4 2 ∷ 0 ∷ 0 ∷ head 5 2 ∷ 0
+    ∷ head 8 4 ∷ 1 ∷ 0 ∷ head 10 2 ∷ 0 ∷ 0 ∷ 2 ∷ 2 ∷ 0
+    ∷ head 11 0 ∷ 0 ∷ 1 ∷ head 11 0 ∷ 1 ∷ 2 ∷ [])
+
+-- after the languages every dependency is searched
+pub facade-cases : passes withFacade (row 0 0 0 1 0 9 "found dep::O 1 0" ∷ []) ≡ true
+unfolding passes rowAt withFacade named head
+facade-cases = refl
+
 -- One crate. Modules: 0 its root; 1 `a`, 2 `b`, 3 `prelude`, 4 `d` below it; 5 `inner`, 6 `e` below `a`; 7 a block in `a`,
 -- with the modules 8 and 9 in the block. The prelude of the crate's own map is `e`.
 -- Definitions: 0 to 5 the modules 1 to 6; the others by their entries: 6 is `x` in `a` and `y` in `b`; 7 `x` in `prelude` and
