@@ -1,4 +1,5 @@
 -- Laws that belong to no one function.
+pub mod Answers
 pub mod Orders
 pub mod Visits
 pub mod Worked

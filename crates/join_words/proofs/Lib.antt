@@ -1,4 +1,5 @@
 -- Laws that belong to no one function.
+pub mod Answers
 pub mod Worked
 pub mod Lists
 pub mod Runs

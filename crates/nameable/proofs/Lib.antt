@@ -1,4 +1,5 @@
 -- Rows that are computed.
+pub mod Answers
 pub mod Worked
 pub mod Lists
 pub mod Reached

@@ -98,6 +98,26 @@ pub any-paths : answers 16 (verdict (workspace 2021))
 unfolding answers ask head letter entry workspace upTo shortest shortestOf shorter byEnum variantAfter checkedPath arrives firstTo isItem reached onward single nameless added withMeaning isMet means itemIn reads after moduleNamed keywordModule above aboveOr within firsts preludeEntries scopesFrom entriesOver absolutes externsIn variantsIn entriesIn named namesIn seen counts bothHold declarationHolds declarationOf declarationIn declaredIn declaredAs declaredNs holds privately moduleAround blockStep ofRoot lastOr lastTo last metOr metTo met stepsOr stepsTo steps preludeOf firstOf select orFirst itemOf sameItem nsOf homeBy definitionOf crateData moduleOf mapOf rootOf ownMap crateRoot orElse containing placeOf verdict records stepAt recordStep finish argumentsFrom argumentsOf nameStep crateStep dependencyStep mapStep moduleStep childStep preludeStep definitionStep scopeStep importStep externStep memberStep textBound padded rows any all eqList
 any-paths = refl
 
+-- mod p { mod x {} pub use x as y; enum E { V } pub use E::V; pub fn g() {} } mod v { fn o() { use crate::p::g; } }
+-- Modules: 0 the root, 1 p, 2 x, 3 v; 4 the block of o. Names: 0 p, 1 x, 2 y, 3 v, 4 E, 5 V, 6 g.
+-- Definitions: 0 p, 1 x, 2 v, 3 E, 4 V, 5 g. The def map holds imports that the compiler refuses: y of a private module, V of a private enum.
+unfoldable pub private : List ℕ
+private =
+    letter 0x70 ++ letter 0x78 ++ letter 0x79 ++ letter 0x76 ++ letter 0x45 ++ letter 0x56 ++ letter 0x67
+    ++ (head 2 0 ∷ 2021 ∷ head 4 0 ∷ 0 ∷ 0 ∷ head 5 0 ∷ 0 ∷ head 5 0 ∷ 1 ∷ head 5 0 ∷ 2 ∷ head 5 0 ∷ 1 ∷ head 4 0 ∷ 4 ∷ 0 ∷ head 5 1 ∷ 0 ∷ [])
+    ++ (head 8 1 ∷ 1 ∷ 0 ∷ head 8 1 ∷ 2 ∷ 0 ∷ head 8 1 ∷ 3 ∷ 0 ∷ head 8 4 ∷ 1 ∷ 0 ∷ head 8 2 ∷ 3 ∷ 5 ∷ head 8 4 ∷ 1 ∷ 0 ∷ [])
+    ++ entry 0 0 0 0 3 0 1 0 ++ entry 0 0 3 2 3 0 1 0
+    ++ entry 1 0 1 1 3 1 1 0 ++ entry 1 0 2 1 0 0 0 0 ++ entry 1 0 4 3 3 1 1 0 ++ entry 1 1 5 4 0 0 0 0 ++ entry 1 1 6 5 0 0 1 0
+    ++ entry 4 1 6 5 3 4 0 0
+    ++ (head 13 3 ∷ 5 ∷ 4 ∷ 0 ∷ 0 ∷ [])
+
+-- A module is declared in its parent, and a variant where its enum is, in types; of two paths the shorter one is taken.
+pub private-paths : answers 16 (verdict private)
+    (ask 1 (moduleItem 2) ∷ ask 3 (moduleItem 2) ∷ ask 1 (definedItem 1 4) ∷ ask 3 (definedItem 1 4) ∷ ask 4 (definedItem 1 5) ∷ [])
+    ≡ found (into (keyword (supers 0)) 1) ∷ nowhere ∷ found (into (keyword (supers 0)) 5) ∷ nowhere ∷ found (plain 6) ∷ []
+unfolding answers ask head letter entry private upTo shortest shortestOf shorter byEnum variantAfter checkedPath arrives firstTo isItem reached onward single nameless added withMeaning isMet means itemIn reads after moduleNamed keywordModule above aboveOr within firsts preludeEntries scopesFrom entriesOver absolutes externsIn variantsIn entriesIn named namesIn seen counts bothHold declarationHolds declarationOf declarationIn declaredIn declaredAs declaredNs holds privately moduleAround blockStep ofRoot lastOr lastTo last metOr metTo met stepsOr stepsTo steps preludeOf firstOf select orFirst itemOf sameItem nsOf homeBy definitionOf crateData moduleOf mapOf rootOf ownMap crateRoot orElse containing placeOf verdict records stepAt recordStep finish argumentsFrom argumentsOf nameStep crateStep dependencyStep mapStep moduleStep childStep preludeStep definitionStep scopeStep importStep externStep memberStep textBound padded rows any all eqList
+private-paths = refl
+
 -- In edition 2015 there is no `::d`.
 pub old-edition : answers 16 (verdict (workspace 2015)) (ask 1 (definedItem 1 6) ∷ ask 4 (moduleItem 5) ∷ [])
     ≡ found (into (into (plain 7) 8) 9) ∷ found (plain 7) ∷ []
