@@ -1,16 +1,15 @@
 -- The tables of questions and lines as one fact. An edit of a rule is told here first, by the rows that it changes.
 use mathlib.Core.Path.{_≡_}
-use mathlib.Core.List.{[], _∷_}
 use mathlib.Core.Bool.{true}
 use Rattle.accept.specs.Worked.{worked}
-use Rattle.find_path.proofs.Worked.{row, passes, cases, worked-cases, withDependency, dependencyCases, dependency-cases, withStd, stdCases, std-cases, withFacade, facade-cases, withModules, moduleCases, module-cases, withOldNames, oldNameCases, old-name-cases, limitCases, limit-cases, routes, withBlock, readCases, read-cases}
+use Rattle.find_path.proofs.Worked.{passes, cases, worked-cases, withDependency, dependencyCases, dependency-cases, withStd, stdCases, std-cases, withFacade, facadeCases, facade-cases, withModules, moduleCases, module-cases, withOldNames, oldNameCases, old-name-cases, limitCases, limit-cases, routes, withBlock, readCases, read-cases}
 
 -- document 01's fourteen cases, and those of further snapshots
 pub record Answers : Type 0 where
   pub fourteen : passes worked cases ≡ true
   pub dependency : passes withDependency dependencyCases ≡ true
   pub std : passes withStd stdCases ≡ true
-  pub facade : passes withFacade (row 0 0 0 1 0 9 "found dep::O 1 0" ∷ []) ≡ true
+  pub facade : passes withFacade facadeCases ≡ true
   pub modules : passes withModules moduleCases ≡ true
   pub old-names : passes withOldNames oldNameCases ≡ true
   pub limits : passes worked limitCases ≡ true

@@ -206,19 +206,26 @@ pub std-cases : passes withStd stdCases ≡ true
 unfolding passes stdCases rowAt withStd named head
 std-cases = refl
 
--- Crate 0 depends on core (crate 1), of the sysroot, and on crate 2. Modules 0, 1 and 2 are their roots. Definition 0 is `O` in core, which
--- exports nothing; crate 2 exports it.
+-- Crate 0 depends on core (crate 1), of the sysroot, and on crate 2, which depends on crate 3. Modules 0 to 3 are their roots. Definitions: 0 `O` in
+-- core, which exports nothing; crate 2 exports it. 1 in crate 3, which exports it as `O`.
 pub withFacade : List ℕ
 withFacade =
     named "core" ++ named "dep" ++ named "O"
-    ++ (head 2 0 ∷ 2021 ∷ head 2 1 ∷ 2021 ∷ head 2 0 ∷ 2021 ∷ head 3 0 ∷ 1 ∷ 1 ∷ head 3 0 ∷ 2 ∷ 0
-    ∷ head 4 0 ∷ 0 ∷ 0 ∷ head 5 0 ∷ 0 ∷ head 4 1 ∷ 0 ∷ 0 ∷ head 5 1 ∷ 0 ∷ head 4 2 ∷ 0 ∷ 0 ∷ head 5 2 ∷ 0
-    ∷ head 8 4 ∷ 1 ∷ 0 ∷ head 10 2 ∷ 0 ∷ 0 ∷ 2 ∷ 2 ∷ 0
+    ++ (head 2 0 ∷ 2021 ∷ head 2 1 ∷ 2021 ∷ head 2 0 ∷ 2021 ∷ head 2 0 ∷ 2021 ∷ head 3 0 ∷ 1 ∷ 1 ∷ head 3 0 ∷ 2 ∷ 0 ∷ head 3 2 ∷ 3 ∷ 0
+    ∷ head 4 0 ∷ 0 ∷ 0 ∷ head 5 0 ∷ 0 ∷ head 4 1 ∷ 0 ∷ 0 ∷ head 5 1 ∷ 0 ∷ head 4 2 ∷ 0 ∷ 0 ∷ head 5 2 ∷ 0 ∷ head 4 3 ∷ 0 ∷ 0 ∷ head 5 3 ∷ 0
+    ∷ head 8 4 ∷ 1 ∷ 0 ∷ head 8 4 ∷ 3 ∷ 0 ∷ head 10 2 ∷ 0 ∷ 0 ∷ 2 ∷ 2 ∷ 0 ∷ head 10 3 ∷ 0 ∷ 1 ∷ 2 ∷ 3 ∷ 0
     ∷ head 11 0 ∷ 0 ∷ 1 ∷ head 11 0 ∷ 1 ∷ 2 ∷ [])
 
--- after the languages every dependency is searched
-pub facade-cases : passes withFacade (row 0 0 0 1 0 9 "found dep::O 1 0" ∷ []) ≡ true
-unfolding passes rowAt withFacade named head
+pub facadeCases : List Row
+facadeCases =
+    -- after the languages every dependency is searched
+    row 0 0 0 1 0 9 "found dep::O 1 0"
+    -- but not a dependency of a dependency
+    ∷ row 1 0 0 1 0 9 "none - 1 0"
+    ∷ []
+
+pub facade-cases : passes withFacade facadeCases ≡ true
+unfolding passes facadeCases rowAt withFacade named head
 facade-cases = refl
 
 -- One crate. Modules: 0 its root; 1 `a`, 2 `b`, 3 `prelude`, 4 `d` below it; 5 `inner`, 6 `e` below `a`; 7 a block in `a`,
