@@ -121,6 +121,12 @@ module _ (s : Snapshot) (x : FindPathCtx) where
       let same : e ≡ y = let g = f .1 in cc in
       (f .1, ap (isImportable s x) (sym same) ∙ f .0)
 
+  -- the entry by which the viewer can import the module m from the module a
+  pub import-for : (P : Scope → Type 0) → Each P (s .scopes) → (a m : ℕ) (e : Scope) → importableName s x (moduleItem m) a ≡ some e
+      → P e × (e .owner ≡ a) × (itemOf s (e .ns) (e .definition) ≡ moduleItem m)
+  unfolding importableName
+  import-for P all a m e k = preferred-for P all a m (x .fresh) _ _ e (name-for P all a m e) (import-some _ e k .0)
+
   module _ (n : ℕ) (d : ℕ → ℕ) (c : Closed s x n d) (owners : Each (λ e. e .owner < n) (s .scopes)) where
     in-scope : (m : ℕ) (e : Scope) → mayBeInScope s x ≡ true → findInScope s x (moduleItem m) ≡ some e → d m ≤ 1
     unfolding findInScope scopeEntry Named

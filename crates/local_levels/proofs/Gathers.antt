@@ -62,6 +62,7 @@ module _ (W A₀ : List ℕ) (l : Layout) (from : ℕ) (s : Stack) (item : Item)
                 ∙ ap (λ x. push seen x (containers S from)) (d .same)
                 ∙ sym (push-append seen cs (containers S from) (runAt A₀ (s .top) 0));
             below = d₁ .below ∙ d .below;
+            above = λ i h. d₁ .above i h ∙ d .above i h;
             fits = d₁ .fits;
           }
 
@@ -71,6 +72,7 @@ pub record Walking (S : Snapshot) (from : ℕ) (A₁ : List ℕ) (s : Stack) (it
   pub whole : lean (leadsTo S from) (visited (levelsOf A₁ (s .place) (s .depth)) item) (turns S from) (runAt A₁ (s .top) n₁) 0
       ≡ lean (leadsTo S from) (visited (levelsOf A₁ (s .place) (s .depth)) item) (turns S from - k) (runAt A (s .top) n) k
   pub below : take (s .top) A ≡ take (s .top) A₁
+  pub above : (i : ℕ) → s .top + moduleLimit ≤ i → getD A i 0 ≡ getD A₁ i 0
   pub size : length A ≡ length A₁
   pub ready : Ready A s n
 
@@ -79,7 +81,7 @@ module _ (W A₁ : List ℕ) (l : Layout) (from : ℕ) (s : Stack) (item : Item)
   S₁ = snapOf W A₁ l
 
   pub walking-start : Ready A₁ s n₁ → Walking S₁ from A₁ s item n₁ A₁ n₁ 0
-  walking-start y = record { within = omega arith; whole = rw sub-zero; below = refl; size = refl; ready = y }
+  walking-start y = record { within = omega arith; whole = rw sub-zero; below = refl; above = λ i h. refl; size = refl; ready = y }
 
   module _ (r : Reads W A₁ l) (A : List ℕ) (n k : ℕ) (g : Walking S₁ from A₁ s item n₁ A n k) where
     pub walking-reads : Reads W A l
@@ -111,6 +113,7 @@ module _ (W A₁ : List ℕ) (l : Layout) (from : ℕ) (s : Stack) (item : Item)
               ∙ ap (λ c. lean next seen (b - (k + 1)) (push seen run (next c)) (k + 1)) x
               ∙ ap (λ c. lean next seen (b - (k + 1)) c (k + 1)) (sym q);
           below = d .below ∙ g .below;
+          above = λ i h. d .above i h ∙ g .above i h;
           size = j ∙ g .size;
           ready = ready-after A s n item (leadsTo (snapOf W A l) from m) B t (g .ready) d j;
         }
@@ -135,4 +138,4 @@ module _ (W A₁ : List ℕ) (l : Layout) (from : ℕ) (s : Stack) (item : Item)
         ∙ ap (λ x. lean (leadsTo S₀ from) seen b x 0) p
         ∙ ap₂ (λ x y. lean (leadsTo y from) (visited x item) (turns y from) (runAt A₁ (s .top) n₁) 0) v (sym (snap-at W A₀ A₁ l (s .top) r₀ (g .ready .tables) (d .below)))
         ∙ walking-done o in
-        record { run = sym q; below = g .below ∙ d .below; few = omega (arith, g .ready .fits) }
+        record { run = sym q; below = g .below ∙ d .below; above = λ i h. g .above i h ∙ d .above i h; few = omega (arith, g .ready .fits) }

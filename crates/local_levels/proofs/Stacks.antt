@@ -6,7 +6,7 @@ use mathlib.Core.Bool.{Bool, true, false, _||_, _&&_}
 use native.Mathlib.Omega.{arith}
 use lib.Dec.{eqb}
 use lib.ListN.{length, getD, set, take}
-use lib.Seq.{take-set-le}
+use lib.Seq.{getD-set-other, take-set-le}
 use borrow.Author.Tests.{eq-eqb, ne-eqb}
 use Rattle.snapshot.specs.Lists.{any}
 use Rattle.snapshot.specs.Limits.{moduleLimit}
@@ -125,7 +125,7 @@ module _ (A : List ℕ) (s : Stack) (n : ℕ) (item : Item) (m : ℕ) (y : Ready
   run-fits = rw (length-rows (λ i. getD A (s .top + i) 0) n) (y .fits)
 
   push-kept : seen m || has run m ≡ true → Pushed A s n item (m ∷ []) A n
-  push-kept e = record { same = sym (push-skip seen run m [] e ∙ push-none seen run); below = refl; fits = y .fits }
+  push-kept e = record { same = sym (push-skip seen run m [] e ∙ push-none seen run); below = refl; above = λ i h. refl; fits = y .fits }
 
   pub push-seen : {r : Bool} → r ≡ seen m → r ≡ true → Pushed A s n item (m ∷ []) A n
   push-seen p t = push-kept (ap (λ b. b || has run m) (sym p ∙ t))
@@ -147,6 +147,7 @@ module _ (A : List ℕ) (s : Stack) (n : ℕ) (item : Item) (m : ℕ) (y : Ready
       record {
         same = q ∙ sym (push-take seen run m [] o ∙ push-none seen l);
         below = ap (take (s .top)) e ∙ take-set-le (s .top) A (s .top + n) m (omega arith);
+        above = λ i o. ap (λ z. getD z i 0) e ∙ getD-set-other A (s .top + n) i m 0 (λ q. omega arith);
         fits = omega (arith, f, ap length (sym q) ∙ length-rows (λ i. getD B (s .top + i) 0) (n + 1), ap (room moduleLimit) q);
       }
 
@@ -167,12 +168,13 @@ pub record Pushing (A₀ : List ℕ) (s : Stack) (n : ℕ) (item : Item) (ms A :
   pub whole : push (visited (levelsOf A₀ (s .place) (s .depth)) item) (runAt A₀ (s .top) n) ms
       ≡ push (visited (levelsOf A₀ (s .place) (s .depth)) item) (runAt A (s .top) r) rest
   pub below : take (s .top) A ≡ take (s .top) A₀
+  pub above : (i : ℕ) → s .top + moduleLimit ≤ i → getD A i 0 ≡ getD A₀ i 0
   pub size : length A ≡ length A₀
   pub ready : Ready A s r
 
 module _ (A₀ : List ℕ) (s : Stack) (n : ℕ) (item : Item) (ms : List ℕ) where
   pub pushing-start : Ready A₀ s n → Pushing A₀ s n item ms A₀ n ms
-  pushing-start y = record { whole = refl; below = refl; size = refl; ready = y }
+  pushing-start y = record { whole = refl; below = refl; above = λ i h. refl; size = refl; ready = y }
 
   module _ {A : List ℕ} {r : ℕ} {rest : List ℕ} (g : Pushing A₀ s n item ms A r rest) where
     pub pushing-skip : {rest′ A′ : List ℕ} {r′ : ℕ} → rest ≡ rest′ → A′ ≡ A → r′ ≡ r → Pushing A₀ s n item ms A′ r′ rest′
@@ -187,6 +189,7 @@ module _ (A₀ : List ℕ) (s : Stack) (n : ℕ) (item : Item) (ms : List ℕ) w
         record {
           whole = g .whole ∙ ap (push s₀ (runAt A (s .top) r)) p ∙ push-append s₀ (t ∷ []) rest′ (runAt A (s .top) r) ∙ ap (λ x. push s₀ x rest′) (sym q);
           below = d .below ∙ g .below;
+          above = λ i h. d .above i h ∙ g .above i h;
           size = l ∙ g .size;
           ready = ready-after A s r item (t ∷ []) B r′ (g .ready) d l;
         }
@@ -194,4 +197,4 @@ module _ (A₀ : List ℕ) (s : Stack) (n : ℕ) (item : Item) (ms : List ℕ) w
     pub pushing-done : rest ≡ [] → Pushed A₀ s n item ms A r
     pushing-done p =
         let s₀ = visited (levelsOf A₀ (s .place) (s .depth)) item in
-        record { same = sym (g .whole ∙ ap (push s₀ (runAt A (s .top) r)) p ∙ push-none s₀ (runAt A (s .top) r)); below = g .below; fits = g .ready .fits }
+        record { same = sym (g .whole ∙ ap (push s₀ (runAt A (s .top) r)) p ∙ push-none s₀ (runAt A (s .top) r)); below = g .below; above = g .above; fits = g .ready .fits }

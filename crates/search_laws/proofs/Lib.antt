@@ -5,6 +5,7 @@ pub mod Frames
 pub mod Tight
 pub mod Rows
 pub mod Loops
+pub mod Kept
 pub mod Even
 pub mod Lengths
 pub mod Shortest
