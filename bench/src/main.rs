@@ -18,8 +18,9 @@ use std::io::Write;
 use kelumavor::{Snapshot, WorkArea};
 use shapes::Shape;
 
-const USAGE: &str = "bench [files | families | lists | check SHAPE COUNT | ask SHAPE COUNT | input SHAPE COUNT]
+const USAGE: &str = "bench [files | families | lists | check SHAPE COUNT | ask SHAPE COUNT | family FAMILY SIZE COUNT | input SHAPE COUNT]
   SHAPE   small, workspace, chain, dependencies, names or scope
+  FAMILY  unreached, globs, layers or clique
   lists   needs the feature `lists`";
 
 fn main() {
@@ -40,6 +41,7 @@ fn main() {
         ["lists"] => lists::print(),
         ["check", shape, count] => repeat_check(&named(shape), number(count)),
         ["ask", shape, count] => questions::ask(&named(shape), number(count)),
+        ["family", name, size, count] => families::ask(name, number(size), number(count)).unwrap_or_else(|| usage()),
         ["input", shape, count] => {
             let input = questions::input(shape, number(count)).unwrap_or_else(|| usage());
             std::io::stdout().write_all(&input).expect("a place to write to");

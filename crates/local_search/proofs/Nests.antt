@@ -30,6 +30,9 @@ use Rattle.local_search.specs.Post.{Searchable, Answered, levelSize}
 use Rattle.local_levels.proofs.Rows.{run-other, run-take, take-less, agree, run-same}
 use Rattle.local_levels.proofs.Codes.{item-back}
 use Rattle.local_levels.proofs.Stacks.{chain-wider, levels-same, chain-same, snap-at, reads-at}
+use Rattle.distances.specs.Distances.{distancesEnd}
+use Rattle.tight_rows.specs.Rows.{rowsAt, Rows}
+use Rattle.tight_rows.proofs.Keeping.{rows-at, rows-set}
 use Rattle.local_search.proofs.Knowns.{locations-there}
 use Rattle.local_search.proofs.Searches.{bounds-at}
 
@@ -156,12 +159,13 @@ step-fits S x zero ls best m a h f = absurd (omega arith)
 step-fits S x (suc l) ls best m a h f = location-fits S x (searchLocal S x) (search-local-fits S x) l ls best m a f
 
 -- What the loop of the search keeps.
-pub record Nesting (S : Snapshot) (x : FindPathCtx) (left : ℕ) (item : Item) (A₁ : List ℕ) (s : Stack) (n : ℕ) (A : List ℕ) (best : Choice) (k : ℕ) : Type 0 where
+pub record Nesting (W : List ℕ) (l : Layout) (S : Snapshot) (x : FindPathCtx) (left : ℕ) (item : Item) (A₁ : List ℕ) (s : Stack) (n : ℕ) (A : List ℕ) (best : Choice) (k : ℕ) : Type 0 where
   pub within : k ≤ n
   pub few : n ≤ moduleLimit
   pub fits : Fits S left best
   pub chain : Chain A₁ (s .place) (s .depth) (s .top)
   pub opened : Open A₁ s item n A
+  pub rows : Rows W A l x
   pub whole : eachLocation S x (searchLocal S x) left (levelsOf A₁ (s .place) (s .depth)) item [] nothing (runAt A₁ (s .top + 3) n)
       ≡ eachLocation S x (searchLocal S x) left (levelsOf A₁ (s .place) (s .depth)) item (take k (runAt A₁ (s .top + 3) n)) best (drop k (runAt A₁ (s .top + 3) n))
 
@@ -177,11 +181,17 @@ module _ (W A₀ : List ℕ) (l : Layout) (x : FindPathCtx) (left : ℕ) (item :
   abbrev H : List ℕ
   H = headed A₀ s code
 
-  pub room : s .top + levelSize ≤ areaLimit
+  pub room : s .top + levelSize ≤ rowsAt
   room = omega (arith, y .space)
 
   pub head-reads : Reads W H l
   head-reads = reads-at W A₀ H l (s .top) (y .reads) (y .tables) (head-below A₀ s code)
+
+  head-rows : Rows W H l x
+  head-rows =
+      rows-set W (set A₀ (s .top) code) l x (s .top + 1) (s .place)
+      (reads-at W A₀ (set A₀ (s .top) code) l (s .top) (y .reads) (y .tables) (take-set-le (s .top) A₀ (s .top) code (omega arith)))
+      (rows-set W A₀ l x (s .top) code (y .reads) (y .rows) (y .numbers) (omega (arith, room))) (omega (arith, y .numbers)) (omega (arith, room))
 
   pub head-space : s .top + 3 + moduleLimit ≤ length H
   head-space = omega (arith, head-size A₀ s code, room, y .area)
@@ -212,7 +222,7 @@ module _ (W A₀ : List ℕ) (l : Layout) (x : FindPathCtx) (left : ℕ) (item :
     start-reads : Reads W A₁ l
     start-reads = reads-at W A₀ A₁ l (s .top) (y .reads) (y .tables) start-below
 
-    pub nesting-start : {b : Choice} → b ≡ nothing → Nesting S₁ x left item A₁ s n A₁ b 0
+    pub nesting-start : {b : Choice} → b ≡ nothing → Nesting W l S₁ x left item A₁ s n A₁ b 0
     nesting-start {b} e =
         record {
           within = omega arith;
@@ -220,10 +230,13 @@ module _ (W A₀ : List ℕ) (l : Layout) (x : FindPathCtx) (left : ℕ) (item :
           fits = rw e (nothing-fits left);
           chain = chain-same A₀ A₁ (s .top) (sym start-below) (s .depth) (s .place) (y .chain);
           opened = open-start A₀ s code item A₁ n named (omega (arith, room, y .area)) (g .below);
+          rows =
+              rows-at W H A₁ l x head-reads head-rows (take-less A₁ H distancesEnd (s .top + 3) (omega (arith, y .numbers)) (g .below))
+              (λ i h. g .above i (omega (arith, room, h)));
           whole = ap (λ (c : Choice). eachLocation S₁ x (searchLocal S₁ x) left (levelsOf A₁ (s .place) (s .depth)) item [] c ws) (sym e);
         }
 
-    module _ (A : List ℕ) (best : Choice) (k : ℕ) (v : Nesting S₁ x left item A₁ s n A best k) where
+    module _ (A : List ℕ) (best : Choice) (k : ℕ) (v : Nesting W l S₁ x left item A₁ s n A best k) where
       abbrev B : List ℕ
       B = set A (s .top + 2) k
 
@@ -248,6 +261,9 @@ module _ (W A₀ : List ℕ) (l : Layout) (x : FindPathCtx) (left : ℕ) (item :
             tables = omega (arith, y .tables);
             numbers = omega (arith, y .numbers);
             bounds = bounds-at B y (cursor-open .below ∙ start-below);
+            rows =
+                rows-set W A l x (s .top + 2) k (reads-at W A₀ A l (s .top) (y .reads) (y .tables) (v .opened .below ∙ start-below)) (v .rows) (omega (arith, y .numbers))
+                (omega (arith, room));
             space = omega (arith, y .space, v .few, some);
             deep = omega (arith, y .deep, some);
             chain = open-chain A₁ s item n B cursor-open k cursor-at h (v .chain);
@@ -266,8 +282,8 @@ module _ (W A₀ : List ℕ) (l : Layout) (x : FindPathCtx) (left : ℕ) (item :
             subst (λ i. i < l .modules) (sym taken) (each-at 0 k b (omega (arith, length-rows f n)))
 
         pub nesting-next : (C : List ℕ) {r : Choice}
-            → Answered B (s .top + 3 + n) (location (snapOf W B l) x (searchLocal (snapOf W B l) x) left (levelsOf B (s .top + 3) (s .depth + 1)) best m (importableName (snapOf W B l) x item m)) C r
-            → length C ≡ length B → Nesting S₁ x left item A₁ s n C r (k + 1)
+            → Answered W B l x (s .top + 3 + n) (location (snapOf W B l) x (searchLocal (snapOf W B l) x) left (levelsOf B (s .top + 3) (s .depth + 1)) best m (importableName (snapOf W B l) x item m)) C r
+            → length C ≡ length B → Nesting W l S₁ x left item A₁ s n C r (k + 1)
         nesting-next C {r} a c =
             let f : ℕ → ℕ = λ i. getD A₁ (s .top + 3 + i) 0 in
             let lv = open-levels A₁ s item n B cursor-open k cursor-at h (v .chain) small in
@@ -280,11 +296,12 @@ module _ (W A₀ : List ℕ) (l : Layout) (x : FindPathCtx) (left : ℕ) (item :
               fits = rw er (step-fits S₁ x left _ best m (importableName S₁ x item m) some (v .fits));
               chain = v .chain;
               opened = open-kept A₁ s item n B cursor-open C (a .below) c;
+              rows = a .rows;
               whole = v .whole ∙ each-next S₁ x left (levelsOf A₁ (s .place) (s .depth)) item ws k best (omega (arith, length-rows f n)) taken er;
             }
 
       pub nesting-done : n ≤ k
-          → Answered A₀ (s .top) (calculateBestPathLocal (snapOf W A₀ l) x (searchLocal (snapOf W A₀ l) x) left (levelsOf A₀ (s .place) (s .depth)) item) A best
+          → Answered W A₀ l x (s .top) (calculateBestPathLocal (snapOf W A₀ l) x (searchLocal (snapOf W A₀ l) x) left (levelsOf A₀ (s .place) (s .depth)) item) A best
       unfolding calculateBestPathLocal
       nesting-done h =
           let S₀ = snapOf W A₀ l in
@@ -303,4 +320,5 @@ module _ (W A₀ : List ℕ) (l : Layout) (x : FindPathCtx) (left : ℕ) (item :
                 ∙ ap₂ (λ (z : Snapshot) (u : List Level). eachLocation z x (searchLocal z x) left u item [] nothing ws) sn lv
                 ∙ ap (eachLocation S₀ x (searchLocal S₀ x) left L item [] nothing) q;
             below = v .opened .below ∙ start-below;
+            rows = v .rows;
           }

@@ -5,8 +5,9 @@ use mathlib.Core.List.{List, []}
 use mathlib.Core.Bool.{true, false, true≢false}
 use mathlib.Core.Option.{Option, none, some}
 use native.Mathlib.Omega.{arith}
-use lib.ListN.{length, take}
-use Rattle.snapshot.specs.Limits.{pathLimit}
+use lib.ListN.{length, set, take}
+use lib.Seq.{take-set-le}
+use Rattle.snapshot.specs.Limits.{wordLimit, pathLimit}
 use Rattle.snapshot.specs.Records.{Snapshot, Scope, scopeAt}
 use Rattle.snapshot.specs.Layouts.{snapOf, tableWords}
 use Rattle.snapshot.specs.declared.layout.Layout.{Layout}
@@ -21,7 +22,7 @@ use Rattle.hir_def.specs.declared.Entry.{Entry}
 use Rattle.hir_def.specs.declared.Entry.the-variants.{At, Nothing}
 use Rattle.path_choices.specs.declared.Choice.{Choice}
 use Rattle.find_path.specs.declared.FindPathCtx.{FindPathCtx}
-use Rattle.find_path.specs.Choices.{nothing, lengthLeft}
+use Rattle.find_path.specs.Choices.{viaLocal, stepBy, nothing, lengthLeft, extended}
 use Rattle.find_path.specs.Walk.{Level}
 use Rattle.find_path.specs.Rules.{moduleRules}
 use Rattle.find_path.specs.Local.{offer, offerEntry, importableName, location, calculateBestPathLocal, orLocal, findPathForModuleLocal}
@@ -30,13 +31,17 @@ use Rattle.find_path.specs.Conditions.{Prepared, Asked, EntryFits, Chosen}
 use Rattle.find_path.proofs.Unfold.{length-falls, local-more}
 use Rattle.find_path.proofs.Bounds.{Fits, search-local-fits}
 use Rattle.find_path.proofs.Tables.{names-short, same-snap, same-reads}
-use Rattle.search_laws.specs.Near.{near}
+use Rattle.search_laws.specs.Near.{ruled, near}
 use Rattle.search_laws.proofs.Fewer.{refuted}
-use Rattle.search_laws.proofs.Near.{near-none, far-nothing}
+use Rattle.search_laws.proofs.Near.{near-none, near-step, far-nothing}
+use Rattle.search_laws.proofs.Kept.{farther}
 use Rattle.distances.specs.Distances.{distance, distancesEnd, Bounds}
 use Rattle.distances.specs.Post.{Ready, Bounded}
 use Rattle.local_levels.specs.declared.Stack.{Stack}
 use Rattle.local_levels.specs.Levels.{Small, levelsOf}
+use Rattle.tight_rows.specs.Rows.{rowsAt, rowAt, lastPlace, rowOf, rowPlace, rowFlag, Entered, Row}
+use Rattle.tight_rows.specs.Post.{Cleared, Tight}
+use Rattle.tight_rows.proofs.Keeping.{imports-known, row-asked, row-kept, rows-put, rows-none}
 use Rattle.local_search.specs.Post.{Searchable, Answered}
 use Rattle.local_levels.proofs.Rows.{agree, take-less}
 use Rattle.local_levels.proofs.Stacks.{chain-none, snap-at, reads-at}
@@ -51,6 +56,7 @@ searchable-less j y h =
       tables = y .tables;
       numbers = y .numbers;
       bounds = y .bounds;
+      rows = y .rows;
       space = omega (arith, y .space);
       deep = omega (arith, y .deep);
       chain = y .chain;
@@ -73,6 +79,11 @@ asked-small W A l r (Def ns d) h = (omega (arith, h .0, r .tables .limited .defi
 
 pub module-small : (W A : List ℕ) (l : Layout) → Reads W A l → (m : ℕ) → m < l .modules → Small (moduleItem m)
 module-small W A l r m h = omega (arith, h, r .tables .limited .modules)
+
+two-up : (w : ℕ) → (w ≡ 0 → ⊥) → (w ≡ 1 → ⊥) → 2 ≤ w
+two-up zero h h′ = absurd (h refl)
+two-up (suc zero) h h′ = absurd (h′ refl)
+two-up (suc (suc w)) h h′ = omega arith
 
 -- the module search
 module _ (S : Snapshot) (x : FindPathCtx) (left : ℕ) (ls : List Level) (m : ℕ) where
@@ -101,6 +112,9 @@ module _ (S : Snapshot) (x : FindPathCtx) (left : ℕ) (ls : List Level) (m : �
   search-on {c} h e t q =
       q
       ∙ sym (search-or h ∙ ap (orLocal S x (searchLocal S x) left ls m (moduleRules S x false m)) (sym (ap (λ (z : Choice). z .found) e) ∙ t))
+
+pub unruled : (S : Snapshot) (x : FindPathCtx) (m : ℕ) {c : Choice} → c ≡ moduleRules S x false m → c .found ≡ false → ruled S x m ≡ false
+unruled S x m e t = sym (ap (λ (z : Choice). z .found) e) ∙ t
 
 -- a location whose search finds nothing changes nothing
 idle : (S : Snapshot) (x : FindPathCtx) (left : ℕ) (ls : List Level) (best : Choice) (m : ℕ) (a : Option Scope) → searchLocal S x (lengthLeft left best) ls m ≡ nothing
@@ -139,7 +153,7 @@ module _ (W A : List ℕ) (l : Layout) (x : FindPathCtx) (left : ℕ) (s : Stack
     pub location-call : Searchable W A l x j s
     location-call = searchable-less j y (omega (arith, location-shorter))
 
-    module _ (B : List ℕ) {c : Choice} (a : Answered A (s .top) (searchLocal S x j ls m) B c) where
+    module _ (B : List ℕ) {c : Choice} (a : Answered W A l x (s .top) (searchLocal S x j ls m) B c) where
       pub location-reads : Reads W B l
       location-reads = reads-at W A B l (s .top) (y .reads) (y .tables) (a .below)
 
@@ -156,7 +170,7 @@ module _ (W A : List ℕ) (l : Layout) (x : FindPathCtx) (left : ℕ) (s : Stack
       location-text = omega (arith, fits .text (names-short W A l (y .reads)), location-few)
 
       pub location-some : {h : ℕ} {b : Entry} {r : Choice} → entryOf scopeAt W b ≡ importableName S x item m → b ≡ At h
-          → r ≡ offerEntry (snapOf W B l) x best c (scopeAt W h) → Answered A (s .top) (here (importableName S x item m)) B r
+          → r ≡ offerEntry (snapOf W B l) x best c (scopeAt W h) → Answered W A l x (s .top) (here (importableName S x item m)) B r
       unfolding location
       location-some {h} {b} {r} p q o =
           record {
@@ -166,6 +180,7 @@ module _ (W A : List ℕ) (l : Layout) (x : FindPathCtx) (left : ℕ) (s : Stack
                 ∙ ap (λ (z : Choice). offerEntry S x best z (scopeAt W h)) (a .same ∙ ap (λ i. searchLocal S x i ls m) e)
                 ∙ sym (ap here (sym p ∙ ap (entryOf scopeAt W) q));
             below = a .below;
+            rows = a .rows;
           }
 
 -- the entry that was answered is in range
@@ -176,8 +191,132 @@ entry-at W l f e = subst (EntryFits W l) e f
 pub numbers-ready : (W A : List ℕ) (l : Layout) (x : FindPathCtx) → Prepared W A l x → Ready W A l × (x .from .0 < l .modules)
 numbers-ready W A l x p = (record { reads = p .reads; area = p .area }, p .from)
 
+-- a search whose answer does not depend on the levels
+module _ (W A : List ℕ) (l : Layout) (x : FindPathCtx) (left : ℕ) (s : Stack) (y : Searchable W A l x left s) (m : ℕ) (known : m < l .modules) (t : Tight A s left m) where
+  abbrev S₀ : Snapshot
+  S₀ = snapOf W A l
+
+  abbrev ls₀ : List Level
+  ls₀ = levelsOf A (s .place) (s .depth)
+
+  tight-low : (j : ℕ) → near S₀ x [] j m ≡ true → left ≤ j
+  tight-low j n = let b = y .bounds j m known n in omega (arith, b, t .number)
+
+  -- it is the one with no levels
+  tight-same : searchLocal S₀ x left ls₀ m ≡ searchLocal S₀ x left [] m
+  tight-same = farther S₀ x (l .modules) (distance A) (imports-known W A l (y .reads) x) (y .bounds) left m known tight-low ls₀ (t .farther)
+
+  row-here : {w : ℕ} → w ≡ rowAt A m → Row W l S₀ x left m w
+  row-here {w} e = subst (λ z. Row W l S₀ x left m z) (sym e) (subst (λ z. Row W l S₀ x z m (rowAt A m)) (sym (t .number)) (y .rows m known))
+
+  pub tight-none : {w : ℕ} {r : Choice} → w ≡ rowAt A m → w ≡ 1 → r ≡ nothing → Answered W A l x (s .top) (searchLocal S₀ x left ls₀ m) A r
+  tight-none e q z = record { same = z ∙ sym (tight-same ∙ row-here e .nowhere q); below = refl; rows = y .rows }
+
+  -- it was not searched yet
+  module _ (some : 0 < left) (u : ruled S₀ x m ≡ false) (B : List ℕ) {r : Choice} (size : length B ≡ length A)
+      (a : Answered W A l x (s .top) (calculateBestPathLocal S₀ x (searchLocal S₀ x) left ls₀ (moduleItem m)) B r) where
+    made-same : r ≡ searchLocal S₀ x left ls₀ m
+    made-same = search-on S₀ x left ls₀ m (λ z. omega arith) refl u (a .same)
+
+    abbrev S₁ : Snapshot
+    S₁ = snapOf W B l
+
+    sn₁ : S₁ ≡ S₀
+    sn₁ = snap-at W A B l (s .top) (y .reads) (y .tables) (a .below)
+
+    made-reads : Reads W B l
+    made-reads = reads-at W A B l (s .top) (y .reads) (y .tables) (a .below)
+
+    made-next : left ≡ suc (left - 1)
+    made-next = omega arith
+
+    pub made-asked : r .found ≡ true → (0 < r .steps) × (r .steps ≤ 17) × (lastPlace r < wordLimit)
+    made-asked = row-asked W A l (y .reads) x (left - 1) left m made-next tight-low u (made-same ∙ tight-same) (omega (arith, y .deep))
+
+    made-row : Row W l S₀ x left m (rowOf r)
+    made-row = row-kept W A l (y .reads) x (left - 1) left m made-next tight-low u (made-same ∙ tight-same) (omega (arith, y .deep))
+
+    made-number : left ≡ distance B m
+    made-number = t .number ∙ sym (agree B A (s .top) (a .below) (tableWords + m) (omega (arith, y .numbers, known, y .reads .tables .limited .modules)))
+
+    pub made-done : {w : ℕ} → w ≡ rowOf r → Answered W A l x (s .top) (searchLocal S₀ x left ls₀ m) (set B (rowsAt + m) w) r
+    made-done {w} e =
+        record {
+          same = made-same;
+          below = take-set-le (s .top) B (rowsAt + m) w (omega (arith, y .space)) ∙ a .below;
+          rows =
+              rows-put W B l x m w made-reads (size ∙ y .area) known (a .rows)
+              (subst (λ (z : Snapshot). Row W l z x (distance B m) m w) (sym sn₁)
+              (subst (λ z. Row W l S₀ x z m w) made-number (subst (λ z. Row W l S₀ x left m z) (sym e) made-row)));
+        }
+
+  -- it was searched, and an entry is known
+  module _ {w : ℕ} (e : w ≡ rowAt A m) (h : (w ≡ 0 → ⊥)) (h′ : (w ≡ 1 → ⊥)) where
+    pub row-two : 2 ≤ w
+    row-two = two-up w h h′
+
+    pub row-entered : Entered l S₀ x left m (scopeAt W (rowPlace w)) (rowFlag w)
+    row-entered = row-here e .somewhere row-two
+
+    pub owner-known : {c : ℕ} → c ≡ scopeAt W (rowPlace w) .owner → c < l .modules
+    owner-known q = subst (λ z. z < l .modules) (sym q) (row-entered .fits .owner)
+
+    pub owner-call : Searchable W A l x (left - 1) s
+    owner-call = searchable-less (left - 1) y (omega arith)
+
+    owner-same : 0 < left → searchLocal S₀ x (left - 1) ls₀ (scopeAt W (rowPlace w) .owner) ≡ searchLocal S₀ x (left - 1) [] (scopeAt W (rowPlace w) .owner)
+    owner-same more =
+        farther S₀ x (l .modules) (distance A) (imports-known W A l (y .reads) x) (y .bounds) (left - 1) _ (row-entered .fits .owner)
+        (λ j n. let o = tight-low (suc j) (near-step S₀ x [] j m _ (record { taken = row-entered .taken; entry = row-entered .entry }) n) in omega arith)
+        ls₀ (λ i o. let f = t .farther i o in omega arith)
+
+    module _ (some : 0 < left) {o : ℕ} (q : o ≡ scopeAt W (rowPlace w) .owner) (B : List ℕ) {c : Choice} (a : Answered W A l x (s .top) (searchLocal S₀ x (left - 1) ls₀ o) B c) where
+      owner-choice : c ≡ searchLocal S₀ x (left - 1) [] (scopeAt W (rowPlace w) .owner)
+      owner-choice = a .same ∙ ap (λ z. searchLocal S₀ x (left - 1) ls₀ z) q ∙ owner-same some
+
+      owner-fits : Fits S₀ (left - 1) c
+      owner-fits = subst (Fits S₀ (left - 1)) (sym (a .same)) (search-local-fits S₀ x (left - 1) ls₀ o)
+
+      pub owner-reads : Reads W B l
+      owner-reads = reads-at W A B l (s .top) (y .reads) (y .tables) (a .below)
+
+      pub owner-found : c .found ≡ true
+      owner-found = ap (λ (z : Choice). z .found) owner-choice ∙ row-entered .found
+
+      pub owner-few : c .count < 16
+      owner-few = omega (arith, owner-fits .few, y .deep)
+
+      pub owner-steps : c .steps < 17
+      owner-steps = omega (arith, owner-fits .once, owner-few)
+
+      pub owner-text : c .«path_text_len» < 2 ^ 32
+      owner-text = omega (arith, owner-fits .text (names-short W A l (y .reads)), owner-few)
+
+      pub owner-done : {r : Choice} → r ≡ extended (snapOf W B l) c (scopeAt W (rowPlace w) .name) (stepBy viaLocal (rowPlace w)) (rowFlag w)
+          → Answered W A l x (s .top) (searchLocal S₀ x left ls₀ m) B r
+      owner-done z =
+          record {
+            same =
+                z
+                ∙ ap (λ (k : Snapshot). extended k c (scopeAt W (rowPlace w) .name) (stepBy viaLocal (rowPlace w)) (rowFlag w)) (snap-at W A B l (s .top) (y .reads) (y .tables) (a .below))
+                ∙ ap (λ (k : Choice). extended S₀ k (scopeAt W (rowPlace w) .name) (stepBy viaLocal (rowPlace w)) (rowFlag w)) owner-choice
+                ∙ sym (tight-same ∙ row-entered .same);
+            below = a .below;
+            rows = a .rows;
+          }
+
 -- nothing is under way
-module _ (W A₀ : List ℕ) (l : Layout) (x : FindPathCtx) (p : Prepared W A₀ l x) (A : List ℕ) (n : Bounded W A₀ l x A) where
+module _ (W A₀ : List ℕ) (l : Layout) (x : FindPathCtx) (p : Prepared W A₀ l x) (N : List ℕ) (n₀ : Bounded W A₀ l x N) (A : List ℕ) (v : Cleared N (l .modules) A) where
+  n : Bounded W A₀ l x A
+  n =
+      record {
+        bounds = λ k m h o.
+            let a = agree A N rowsAt (v .below) (tableWords + m) (omega (arith, h, p .reads .tables .limited .modules)) in
+            let b = n₀ .bounds k m h o in
+            omega (arith, a, b);
+        tables = take-less A N tableWords rowsAt (omega arith) (v .below) ∙ n₀ .tables;
+      }
+
   sn : snapOf W A l ≡ snapOf W A₀ l
   sn = same-snap W A₀ A l (n .tables) (p .reads)
 
@@ -193,6 +332,7 @@ module _ (W A₀ : List ℕ) (l : Layout) (x : FindPathCtx) (p : Prepared W A₀
         tables = omega arith;
         numbers = omega arith;
         bounds = subst (λ (s : Snapshot). Bounds s x (l .modules) (distance A)) (sym sn) (n .bounds);
+        rows = rows-none W A l x (v .none);
         space = omega arith;
         deep = omega arith;
         chain = chain-none A 0 distancesEnd;
@@ -200,7 +340,7 @@ module _ (W A₀ : List ℕ) (l : Layout) (x : FindPathCtx) (p : Prepared W A₀
       }
 
   pub search-done : (left : ℕ) (item : Item) (B : List ℕ) (r : Choice)
-      → Answered A distancesEnd (calculateBestPathLocal (snapOf W A l) x (searchLocal (snapOf W A l) x) left (levelsOf A 0 0) item) B r
+      → Answered W A l x distancesEnd (calculateBestPathLocal (snapOf W A l) x (searchLocal (snapOf W A l) x) left (levelsOf A 0 0) item) B r
       → Chosen A₀ (bestLocal (snapOf W A₀ l) x left item) B r
   unfolding bestLocal levelsOf
   search-done left item B r a =

@@ -12,12 +12,13 @@ use Rattle.find_path.specs.declared.FindPathCtx.{FindPathCtx}
 use Rattle.distances.specs.Distances.{distance, distancesEnd, Bounds}
 use Rattle.local_levels.specs.declared.Stack.{Stack}
 use Rattle.local_levels.specs.Levels.{Chain}
+use Rattle.tight_rows.specs.Rows.{rowsAt, Rows}
 
 -- words of a level: three, and its run of modules
 abbrev pub levelSize : ℕ
 levelSize = 3 + moduleLimit
 
--- The arguments of a local search of that length: the words of each level that it can open, and the numbers of the modules below them.
+-- The arguments of a local search of that length: the words of each level that it can open, the numbers of the modules below them, and the rows above.
 pub record Searchable (W A : List ℕ) (l : Layout) (x : FindPathCtx) (left : ℕ) (s : Stack) : Type 0 where
   pub reads : Reads W A l
   pub from : x .from .0 < l .modules
@@ -25,12 +26,14 @@ pub record Searchable (W A : List ℕ) (l : Layout) (x : FindPathCtx) (left : �
   pub tables : tableWords ≤ s .top
   pub numbers : distancesEnd ≤ s .top
   pub bounds : Bounds (snapOf W A l) x (l .modules) (distance A)
-  pub space : s .top + levelSize * left ≤ areaLimit
+  pub rows : Rows W A l x
+  pub space : s .top + levelSize * left ≤ rowsAt
   pub deep : s .depth + left ≤ pathLimit
   pub chain : Chain A (s .place) (s .depth) (s .top)
   pub under : s .place ≤ s .top
 
--- The choice of a local search, and nothing below top is changed.
-pub record Answered (A₀ : List ℕ) (top : ℕ) (c : Choice) (A : List ℕ) (r : Choice) : Type 0 where
+-- The choice of a local search; nothing below top is changed, and the rows hold.
+pub record Answered (W A₀ : List ℕ) (l : Layout) (x : FindPathCtx) (top : ℕ) (c : Choice) (A : List ℕ) (r : Choice) : Type 0 where
   pub same : r ≡ c
   pub below : take top A ≡ take top A₀
+  pub rows : Rows W A l x

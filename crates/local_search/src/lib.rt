@@ -1,11 +1,15 @@
 //! The local search, which is never charged: `calculate_best_path_local` and the searches below it.
+ghost use mathlib.Core.Path.{_≡_};
+ghost use mathlib.Core.Bool.{false};
 ghost use Prim.Native.Nat.{_-_, _≤_, _<_, _^_};
 ghost use Rattle.snapshot.specs.Limits.{pathLimit};
 ghost use Rattle.snapshot.specs.Layouts.{snapOf};
+ghost use Rattle.find_path.specs.Rules.{moduleRules};
 ghost use Rattle.find_path.specs.Local.{importableName, location as locationOf, calculateBestPathLocal};
 ghost use Rattle.find_path.specs.Search.{searchLocal, bestLocal};
 ghost use Rattle.find_path.specs.Conditions.{Prepared, Asked, Chosen};
 ghost use Rattle.local_levels.specs.Levels.{Small, levelsOf};
+ghost use Rattle.tight_rows.specs.Post.{Tight};
 ghost use Rattle.local_search.specs.Post.{Searchable, Answered};
 use distances::Distances;
 use distances::set_distances;
@@ -23,7 +27,14 @@ use path_rules::choices::nothing;
 use path_rules::rules::module_rules;
 use snapshot::ids::ModuleId;
 use snapshot::layout::Layout;
+use snapshot::record::scope_owner;
 use snapshot::words::word;
+use tight_rows::Rows;
+use tight_rows::clear_rows;
+use tight_rows::from_row;
+use tight_rows::is_tight;
+use tight_rows::row_of;
+use tight_rows::row_place;
 
 // One module of the run: its path with the item's name there, against the choice so far, unless the module is too far.
 fn location(
@@ -38,7 +49,7 @@ fn location(
     s: Stack,
 ) -> Choice
     requires { ⌜ (0 < left) × Searchable (now words) (now area) l x (left - 1) s × (m .0 < l .modules) × (best .count < 2 ^ 32) ⌝ }
-    ensures { λ r. ⌜ Answered (now (area .entry)) (s .top) (locationOf (snapOf (now (words .entry)) (now (area .entry)) l) x (searchLocal (snapOf (now (words .entry)) (now (area .entry)) l) x) left (levelsOf (now (area .entry)) (s .place) (s .depth)) best (m .0) (importableName (snapOf (now (words .entry)) (now (area .entry)) l) x item (m .0))) (now (area .exit)) r ⌝ }
+    ensures { λ r. ⌜ Answered (now (words .entry)) (now (area .entry)) l x (s .top) (locationOf (snapOf (now (words .entry)) (now (area .entry)) l) x (searchLocal (snapOf (now (words .entry)) (now (area .entry)) l) x) left (levelsOf (now (area .entry)) (s .place) (s .depth)) best (m .0) (importableName (snapOf (now (words .entry)) (now (area .entry)) l) x item (m .0))) (now (area .exit)) r ⌝ }
 {
     let j = length_left(left, best);
     if j < word(area, Distances::AT + m.0) {
@@ -63,7 +74,7 @@ fn find_path_for_module_local(
     s: Stack,
 ) -> Choice
     requires { ⌜ Searchable (now words) (now area) l x left s × (m .0 < l .modules) ⌝ }
-    ensures { λ r. ⌜ Answered (now (area .entry)) (s .top) (searchLocal (snapOf (now (words .entry)) (now (area .entry)) l) x left (levelsOf (now (area .entry)) (s .place) (s .depth)) (m .0)) (now (area .exit)) r ⌝ }
+    ensures { λ r. ⌜ Answered (now (words .entry)) (now (area .entry)) l x (s .top) (searchLocal (snapOf (now (words .entry)) (now (area .entry)) l) x left (levelsOf (now (area .entry)) (s .place) (s .depth)) (m .0)) (now (area .exit)) r ⌝ }
 {
     if left == 0 {
         return nothing();
@@ -72,7 +83,38 @@ fn find_path_for_module_local(
     if c.found {
         return c;
     }
+    if is_tight(area, s, left, m) {
+        return tight_at(words, area, l, x, left, m, s);
+    }
     local_at(words, area, l, x, left, Item::Mod(m), s)
+}
+
+// A search for a module whose answer does not depend on the levels: it is done once and kept as a row, by which it is rebuilt.
+fn tight_at(
+    words: &[u32],
+    area: &mut [u32],
+    l: Layout,
+    x: FindPathCtx,
+    left: usize,
+    m: ModuleId,
+    s: Stack,
+) -> Choice
+    requires { ⌜ (0 < left) × Searchable (now words) (now area) l x left s × (m .0 < l .modules) × Tight (now area) s left (m .0) × (moduleRules (snapOf (now words) (now area) l) x false (m .0) .found ≡ false) ⌝ }
+    ensures { λ r. ⌜ Answered (now (words .entry)) (now (area .entry)) l x (s .top) (searchLocal (snapOf (now (words .entry)) (now (area .entry)) l) x left (levelsOf (now (area .entry)) (s .place) (s .depth)) (m .0)) (now (area .exit)) r ⌝ }
+{
+    let row = word(area, Rows::AT + m.0);
+    if row == 0 {
+        let r = local_at(words, area, l, x, left, Item::Mod(m), s);
+        let made = row_of(r);
+        area[Rows::AT + m.0] = made as u32;
+        return r;
+    }
+    if row == 1 {
+        return nothing();
+    }
+    let owner = scope_owner(words, row_place(row));
+    let c = find_path_for_module_local(words, area, l, x, left - 1, owner, s);
+    from_row(words, area, l, x, c, row)
 }
 
 // A local search: it opens a level at the top, gathers its run, and searches for each module of it one level up.
@@ -86,7 +128,7 @@ fn local_at(
     s: Stack,
 ) -> Choice
     requires { ⌜ (0 < left) × Searchable (now words) (now area) l x left s × Small item ⌝ }
-    ensures { λ r. ⌜ Answered (now (area .entry)) (s .top) (calculateBestPathLocal (snapOf (now (words .entry)) (now (area .entry)) l) x (searchLocal (snapOf (now (words .entry)) (now (area .entry)) l) x) left (levelsOf (now (area .entry)) (s .place) (s .depth)) item) (now (area .exit)) r ⌝ }
+    ensures { λ r. ⌜ Answered (now (words .entry)) (now (area .entry)) l x (s .top) (calculateBestPathLocal (snapOf (now (words .entry)) (now (area .entry)) l) x (searchLocal (snapOf (now (words .entry)) (now (area .entry)) l) x) left (levelsOf (now (area .entry)) (s .place) (s .depth)) item) (now (area .exit)) r ⌝ }
 {
     let top = s.top;
     let base = top + 3;
@@ -130,6 +172,7 @@ pub fn calculate_best_path_local(
     ensures { λ r. ⌜ Chosen (now (area .entry)) (bestLocal (snapOf (now (words .entry)) (now (area .entry)) l) x left item) (now (area .exit)) r ⌝ }
 {
     set_distances(words, area, l, x);
+    clear_rows(area, l.modules);
     let none = Stack {
         top: Distances::END,
         place: 0,
