@@ -1,0 +1,30 @@
+use denote.Ref.{now}
+use Rattle.join_numbers.proofs.Turns.{named-ready, named-holds, numbered}
+use borrow.Author.Needs.{needs}
+use Rattle.join_numbers.proofs.tables.number.Statement.{statement}
+use Rattle.join_numbers.proofs.tables.number.Tie as tie
+
+number-names-requires : tie.Need-number-names-requires
+number-names-requires c κs = search needs
+
+number-definitions-requires : tie.Need-number-definitions-requires
+number-definitions-requires c κs =
+    let s = c .before .before .before .before .before .before .before .before in
+    let a = s .args in
+    let n = c .before .before .before .number-names in
+    (named-ready (now (a .first)) (now (a .second)) (now (a .area)) (a .l1) (a .l2) (s .pre) (n .last .1 .1 .0) (n .result) (n .ensures), named-holds (now (a .first)) (now (a .second)) (now (a .area)) (a .l1) (a .l2) (s .pre) (n .last .1 .1 .0) (n .result) (n .ensures))
+
+same-length : tie.Need-same-length
+same-length c = search needs
+
+returns : tie.Need-returns
+returns c =
+    let s = c .before .before .before .before .before .before .before .before .before .before .before in
+    let a = s .args in
+    let n = c .before .before .before .before .before .before .number-names in
+    let d = c .before .before .number-definitions in
+    numbered (now (a .first)) (now (a .second)) (now (a .area)) (a .l1) (a .l2) (s .pre) (n .last .1 .1 .0) (d .last .1 .1 .0) (n .result) (d .result) (n .ensures) (d .ensures)
+
+pub number-spec : {M : Type 1} → statement M
+number-spec =
+    tie.close (tie.spec number-names-requires number-definitions-requires same-length returns)
