@@ -1,1 +1,10 @@
 pub mod Beside
+pub mod Written
+pub mod Expands
+pub mod Taken
+pub mod Begins
+pub mod Runs
+pub mod Externs
+pub mod Whole
+pub mod Alone
+pub mod Plains

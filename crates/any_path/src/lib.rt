@@ -1,1 +1,8 @@
-//! The search's answers beside any path: rows on one workspace, no functions.
+//! A shortest path to an item, and whether any path names it.
+mod begin;
+mod expand;
+mod firsts;
+pub mod plain;
+mod rows;
+pub mod run;
+mod singles;

@@ -181,8 +181,8 @@ pub fn get(words: &[u32], l: Layout, m: ModuleId, ns: usize, name: Name) -> Entr
     Entry::Nothing
 }
 
-// Whether the entry with its head at a place is the module's, for a module in types.
-fn is_module_entry(words: &[u32], l: Layout, h: usize, m: ModuleId) -> bool
+/// Whether the entry with its head at a place is the module's, for a module in types.
+pub fn is_module_entry(words: &[u32], l: Layout, h: usize, m: ModuleId) -> bool
     requires { ⌜ wordCount l < 2 ^ 32 ⌝ }
     ensures { λ r. ⌜ ((A : List ℕ) → r ≡ isModuleEntry (snapOf (now (words .entry)) A l) (m .0) (scopeAt (now (words .entry)) h)) ⌝ }
 {

@@ -26,7 +26,7 @@ use Rattle.nameable.proofs.Reached.{into-means, item-of}
 use Rattle.nameable.proofs.Arrives.{same-item}
 
 -- The first of what is made of the selected ones.
-first-mapped : {A B : Type 0} (p : B → Bool) (f : A → B) (q : A → Bool) (xs : List A)
+pub first-mapped : {A B : Type 0} (p : B → Bool) (f : A → B) (q : A → Bool) (xs : List A)
     → firstOf p (map f (select q xs)) ≡ Option·map f (firstOf (λ x. q x && p (f x)) xs)
 unfolding firstOf select
 first-mapped p f q [] = refl
@@ -103,9 +103,10 @@ module _ (s : Snapshot) (from ns m : ℕ) where
           true≢false (sym (rw (eq-eqb (y .owner) (x .owner) (g .0 ∙ sym (f .0)), eq-eqb (y .ns) (x .ns) (g .1 ∙ sym (f .1)), eq-eqb (y .name) (x .name) (g .2 ∙ sym (f .2)))) ∙ e)
 
   -- a seen entry is what its name means
-  pub seen-means : Valid s → (e : Scope) → List·Memᴰ e (s .scopes) → isSeenIn s from ns m e ≡ true → itemIn (named (e .name) (entriesIn s from ns m)) ≡ some (itemOf s (e .ns) (e .definition))
+  pub seen-named : Valid s → (e : Scope) → List·Memᴰ e (s .scopes) → isSeenIn s from ns m e ≡ true
+      → named (e .name) (entriesIn s from ns m) ≡ some (asNamed s e)
   unfolding seenNamed
-  seen-means ok e i h =
+  seen-named ok e i h =
       let f = and-two (eqb (e .owner) m) (eqb (e .ns) ns && seen s from e) h in
       let g = and-two (eqb (e .ns) ns) (seen s from e) (f .1) in
       let here : isNamed m ns (e .name) e ≡ true = rw (f .0, g .0) (eq-eqb (e .name) (e .name) refl) in
@@ -114,7 +115,11 @@ module _ (s : Snapshot) (from ns m : ℕ) where
       let y = first-found (λ (z : Scope). isNamed m ns (e .name) z && seen s from z) (s .scopes) (x .0) (x .1) in
       let same : x .0 ≡ e = entry-one ok (e .name) (x .0) e (y .0) i (and-two (isNamed m ns (e .name) (x .0)) (seen s from (x .0)) (y .1) .0) here in
       let is : seenNamed s from ns m (e .name) ≡ some e = x .1 ∙ ap some same in
-      item-of (named (e .name) (entriesIn s from ns m)) (asNamed s e) (named-seen (e .name) ∙ ap (Option·map (asNamed s)) is)
+      named-seen (e .name) ∙ ap (Option·map (asNamed s)) is
+
+  pub seen-means : Valid s → (e : Scope) → List·Memᴰ e (s .scopes) → isSeenIn s from ns m e ≡ true
+      → itemIn (named (e .name) (entriesIn s from ns m)) ≡ some (itemOf s (e .ns) (e .definition))
+  seen-means ok e i h = item-of (named (e .name) (entriesIn s from ns m)) (asNamed s e) (seen-named ok e i h)
 
 -- the namespace of an item that a record stands for
 pub ns-of-item : (s : Snapshot) (ns d : ℕ) → nsOf (itemOf s ns d) ≡ ns

@@ -31,7 +31,7 @@ use Rattle.nameable.specs.Breadth.{keywords}
 use Rattle.nameable.proofs.Lists.{by-option, none-some}
 use Rattle.nameable.proofs.Reached.{each-append, each-in, each-made, named-in, item-in, into-from, Plenty}
 
-rows-in : {A : Type 0} (f : ℕ → A) (k n i : ℕ) → i < n → List·Memᴰ (f (k + i)) (rows f k n)
+pub rows-in : {A : Type 0} (f : ℕ → A) (k n i : ℕ) → i < n → List·Memᴰ (f (k + i)) (rows f k n)
 unfolding rows
 rows-in f k zero i h = absurd (omega arith)
 rows-in f k (suc n) zero h = let z : k + 0 ≡ k = omega arith in List·Memᴰ·head (ap f z)
@@ -53,11 +53,11 @@ module _ (s : Snapshot) (ok : Valid s) where
   stands-few (block {m = m} {b = b} z y i) r =
       let l = block-fits s (ok .tree) m b r y .0 in let k = stands-few i (omega arith) in omega arith
 
-  around-few : (m : ℕ) → m < length (s .modules) → moduleAround s m ≤ m
+  pub around-few : (m : ℕ) → m < length (s .modules) → moduleAround s m ≤ m
   around-few m r = stands-few (around-stands s (ok .tree) (suc m) m (omega arith) r) r
 
   -- each `super` leads to a smaller number
-  above-few : (k m t : ℕ) → m < length (s .modules) → above s k m ≡ some t → k + t ≤ m
+  pub above-few : (k m t : ℕ) → m < length (s .modules) → above s k m ≡ some t → k + t ≤ m
   unfolding above aboveOr
   above-few zero m t r e = let z : m ≡ t = cc in omega arith
   above-few (suc k) m t r e =

@@ -100,11 +100,11 @@ module _ (s : Snapshot) (from : ℕ) where
         ∙ (added-append w1 (a ++ n) c
         ∙ (ap (λ (u : List Way). added s from u c) (added-append w1 a n ∙ ap (λ (u : List Way). added s from u n) first) ∙ last))
 
-  queue-on : (f : ℕ) (ws : List Way) (i : ℕ) → i < length ws → queue s from (suc f) ws i ≡ queue s from f (added s from ws (pathsAfter s from types (getD ws i noWay))) (i + 1)
+  pub queue-on : (f : ℕ) (ws : List Way) (i : ℕ) → i < length ws → queue s from (suc f) ws i ≡ queue s from f (added s from ws (pathsAfter s from types (getD ws i noWay))) (i + 1)
   unfolding queue
   queue-on f ws i h = rw (queue, lt-ltb i (length ws) h)
 
-  queue-end : (f : ℕ) (ws : List Way) (i : ℕ) → length ws ≤ i → queue s from f ws i ≡ ws
+  pub queue-end : (f : ℕ) (ws : List Way) (i : ℕ) → length ws ≤ i → queue s from f ws i ≡ ws
   unfolding queue
   queue-end zero ws i h = refl
   queue-end (suc f) ws i h = rw (queue, le-ltb i (length ws) h)
@@ -221,7 +221,7 @@ module _ (s : Snapshot) (from : ℕ) (plenty : Plenty s from) where
 
 -- The first path to an item, over the run.
 
-first-of-append : {A : Type 0} (p : A → Bool) (xs ys : List A) → firstOf p (xs ++ ys) ≡ orFirst (firstOf p xs) (firstOf p ys)
+pub first-of-append : {A : Type 0} (p : A → Bool) (xs ys : List A) → firstOf p (xs ++ ys) ≡ orFirst (firstOf p xs) (firstOf p ys)
 unfolding firstOf orFirst
 first-of-append p [] ys = refl
 first-of-append p (x ∷ xs) ys = by-test (p x) (λ t. rw (t, firstOf)) (λ t. rw (t, firstOf) (first-of-append p xs ys))

@@ -1,6 +1,6 @@
 //! What a path means where it is written: its names read from the viewing module.
 mod blocks;
-mod lookups;
+pub mod lookups;
 mod names;
 pub mod paths;
 

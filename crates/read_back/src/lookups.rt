@@ -35,7 +35,7 @@ fn is_extern_named(words: &[u32], h: usize, c: Crate, name: Name) -> bool
 }
 
 /// The crate's extern of that name.
-pub(crate) fn extern_named(words: &[u32], l: Layout, c: Crate, name: Name) -> Entry
+pub fn extern_named(words: &[u32], l: Layout, c: Crate, name: Name) -> Entry
     requires { ⌜ wordCount l < 2 ^ 32 ⌝ }
     ensures { λ r. ⌜ ((A : List ℕ) → entryOf externAt (now (words .entry)) r ≡ externNamed (snapOf (now (words .entry)) A l) (c .0) (name .0)) ⌝ }
 {
@@ -61,7 +61,7 @@ fn is_variant_named(words: &[u32], h: usize, d: DefinitionId, name: Name) -> boo
 }
 
 /// The definition's first variant of that name.
-pub(crate) fn variant_named(words: &[u32], l: Layout, d: DefinitionId, name: Name) -> Entry
+pub fn variant_named(words: &[u32], l: Layout, d: DefinitionId, name: Name) -> Entry
     requires { ⌜ wordCount l < 2 ^ 32 ⌝ }
     ensures { λ r. ⌜ ((A : List ℕ) → entryOf memberAt (now (words .entry)) r ≡ variantNamed (snapOf (now (words .entry)) A l) (d .0) (name .0)) ⌝ }
 {

@@ -1,0 +1,50 @@
+use borrow.Author.Needs.{needs}
+use mathlib.Core.Path.{sym, ap, _∙_}
+use native.Mathlib.Omega.{arith}
+use denote.Ref.{now}
+use borrow.Author.Tests.{eq-eqb, ne-eqb}
+use Rattle.snapshot.specs.Layouts.{snapOf}
+use Rattle.snapshot.specs.Records.{externAt}
+use Rattle.any_path.proofs.Plains.{name-tried, name-passed}
+use Rattle.any_path.proofs.firsts.offer_owned.Statement.{statement}
+use Rattle.any_path.proofs.firsts.offer_owned.Tie as tie
+
+extern-owner-requires : tie.Need-extern-owner-requires
+extern-owner-requires c κs = search needs
+
+returns : tie.Need-returns
+returns c =
+    let o = c .before .before .before in
+    let s = o .before .before .before in
+    name-passed (snapOf (now (s .args .words)) (now (s .args .area)) (s .args .l)) (s .args .from .0) (externAt (now (s .args .words)) (s .args .h) .name) (ne-eqb _ _ (λ e. c .if1 .taken (o .extern-owner .ensures ∙ e))) (s .pre .3)
+
+extern-name-requires : tie.Need-extern-name-requires
+extern-name-requires c κs = search needs
+
+offer-plain-requires : tie.Need-offer-plain-requires
+offer-plain-requires c κs =
+    let s = c .before .before .before .before .before .before .before .before in
+    (s .pre .0, s .pre .1, s .pre .3, omega (arith, s .pre .2 .name, c .extern-name .ensures))
+
+same-length : tie.Need-same-length
+same-length c = search needs
+
+returns-2 : tie.Need-returns-2
+returns-2 c =
+    let p = c .before .before in
+    let x = p .before in
+    let e = x .before .before in
+    let o = e .before .before .before in
+    let s = o .before .before .before in
+    name-tried (snapOf (now (s .args .words)) (now (s .args .area)) (s .args .l)) (s .args .from .0) (externAt (now (s .args .words)) (s .args .h) .name) (eq-eqb _ _ (sym (o .extern-owner .ensures) ∙ e .if1 .left)) (x .extern-name .ensures) (p .offer-plain .ensures)
+
+pub offer-owned-spec : {M : Type 1} → statement M
+offer-owned-spec =
+    tie.close
+    (tie.spec
+    extern-owner-requires
+    returns
+    extern-name-requires
+    offer-plain-requires
+    same-length
+    returns-2)

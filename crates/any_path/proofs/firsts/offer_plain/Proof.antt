@@ -1,0 +1,77 @@
+use borrow.Author.Needs.{needs}
+use mathlib.Core.Path.{refl, sym, ap, _∙_}
+use native.Mathlib.Omega.{arith}
+use denote.Ref.{now}
+use Rattle.snapshot.specs.Layouts.{snapOf}
+use Rattle.module_tree.proofs.Climbs.{is-some, is-none}
+use Rattle.any_path.specs.Plain.{moduleIn}
+use Rattle.any_path.proofs.Plains.{plain-known, plain-place, plain-offered, plain-passed}
+use Rattle.any_path.proofs.firsts.offer_plain.Statement.{statement}
+use Rattle.any_path.proofs.firsts.offer_plain.Tie as tie
+
+read-plain-requires : tie.Need-read-plain-requires
+read-plain-requires c κs = search needs
+
+module-read-requires : tie.Need-module-read-requires
+module-read-requires c κs = search needs
+
+enum-known-m : tie.Need-enum-known-m
+enum-known-m c = search needs
+
+enum-told : tie.Need-enum-told
+enum-told c = search needs
+
+same-length : tie.Need-same-length
+same-length c = search needs
+
+returns : tie.Need-returns
+returns c =
+    let m = c .before .before in
+    let p = m .before in
+    let s = p .before .before .before .before in
+    plain-passed (snapOf (now (s .args .words)) (now (s .args .area)) (s .args .l)) (s .args .from .0) (s .args .name .0) (s .pre .2)
+    (ap moduleIn (sym (p .read-plain .ensures)) ∙ is-none _ (m .module-read .ensures (now (s .args .area))) (c .enum-told .given .1))
+
+place-read-requires : tie.Need-place-read-requires
+place-read-requires c κs = search needs
+
+offer-requires : tie.Need-offer-requires
+offer-requires c κs =
+    let q = c .before in
+    let m = q .before .before .before .before in
+    let p = m .before in
+    let s = p .before .before .before .before in
+    let is = ap moduleIn (sym (p .read-plain .ensures)) ∙ is-some _ (m .module-read .ensures (now (s .args .area))) (q .before .before .m .given .1) in
+    let limits = s .pre .0 .tables .limited in
+    let known = plain-known (now (s .args .words)) (now (s .args .area)) (s .args .l) (s .pre .0) (s .args .from .0) (s .args .name .0) (s .pre .1) is in
+    let place = plain-place (now (s .args .words)) (now (s .args .area)) (s .args .l) (s .pre .0) (s .args .from .0) (s .args .name .0) (p .read-plain .ensures)
+    (q .place-read .ensures (snapOf (now (s .args .words)) (now (s .args .area)) (s .args .l)) (now (s .args .words))) in
+    (s .pre .2, limits .modules, known, omega arith, omega (arith, s .pre .3, limits .names), omega (arith, place))
+
+same-length-2 : tie.Need-same-length-2
+same-length-2 c = search needs
+
+returns-2 : tie.Need-returns-2
+returns-2 c =
+    let o = c .before .before in
+    let q = o .before .before in
+    let m = q .before .before .before .before in
+    let p = m .before in
+    let s = p .before .before .before .before in
+    plain-offered (snapOf (now (s .args .words)) (now (s .args .area)) (s .args .l)) (s .args .from .0) (s .args .name .0)
+    (ap moduleIn (sym (p .read-plain .ensures)) ∙ is-some _ (m .module-read .ensures (now (s .args .area))) (q .before .before .m .given .1)) refl (o .offer .ensures)
+
+pub offer-plain-spec : {M : Type 1} → statement M
+offer-plain-spec =
+    tie.close
+    (tie.spec
+    read-plain-requires
+    module-read-requires
+    enum-known-m
+    enum-told
+    same-length
+    returns
+    place-read-requires
+    offer-requires
+    same-length-2
+    returns-2)

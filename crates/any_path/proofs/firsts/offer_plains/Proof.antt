@@ -1,0 +1,45 @@
+use borrow.Author.Needs.{needs}
+use denote.Ref.{now}
+use Rattle.any_path.proofs.Taken.{grown-then, stays-reads}
+use Rattle.any_path.proofs.Plains.{plains-done}
+use Rattle.any_path.proofs.firsts.offer_plains.Statement.{statement}
+use Rattle.any_path.proofs.firsts.offer_plains.Tie as tie
+
+offer-scopes-requires : tie.Need-offer-scopes-requires
+offer-scopes-requires c κs = search needs
+
+offer-externs-requires : tie.Need-offer-externs-requires
+offer-externs-requires c κs =
+    let o = c .before .before .before in
+    let s = o .before .before .before .before in
+    let f = o .offer-scopes .ensures in
+    (stays-reads (now (s .args .words)) (now (s .args .area)) _ (s .args .l) (s .pre .0) (f .stays), s .pre .1, f .run)
+
+offer-prelude-requires : tie.Need-offer-prelude-requires
+offer-prelude-requires c κs =
+    let x = c .before .before .before in
+    let o = x .before .before .before .before in
+    let s = o .before .before .before .before in
+    let g = x .offer-externs .ensures in
+    (stays-reads (now (s .args .words)) (now (s .args .area)) _ (s .args .l) (s .pre .0) (grown-then (o .offer-scopes .ensures) g .stays), s .pre .1, g .run)
+
+same-length : tie.Need-same-length
+same-length c = search needs
+
+returns : tie.Need-returns
+returns c =
+    let p = c .before .before in
+    let x = p .before .before .before .before in
+    let o = x .before .before .before .before in
+    let s = o .before .before .before .before in
+    plains-done (now (s .args .words)) (now (s .args .area)) (s .args .l) (s .pre .0) (s .args .from .0) (s .args .n) (o .offer-scopes .ensures) (x .offer-externs .ensures) (p .offer-prelude .ensures)
+
+pub offer-plains-spec : {M : Type 1} → statement M
+offer-plains-spec =
+    tie.close
+    (tie.spec
+    offer-scopes-requires
+    offer-externs-requires
+    offer-prelude-requires
+    same-length
+    returns)

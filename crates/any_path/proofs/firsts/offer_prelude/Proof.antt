@@ -1,0 +1,67 @@
+use borrow.Author.Needs.{needs}
+use mathlib.Core.Path.{sym, ap, _∙_}
+use denote.Ref.{now}
+use Rattle.snapshot.specs.Records.{preludeAt}
+use Rattle.snapshot.specs.Layouts.{snapOf}
+use Rattle.hir_def.specs.Entries.{entryOf}
+use Rattle.hir_def.specs.Nameres.{preludeOf}
+use Rattle.any_path.proofs.Plains.{prelude-passed, prelude-offered}
+use Rattle.any_path.proofs.firsts.offer_prelude.Statement.{statement}
+use Rattle.any_path.proofs.firsts.offer_prelude.Tie as tie
+
+map-requires : tie.Need-map-requires
+map-requires c κs = search needs
+
+prelude-of-requires : tie.Need-prelude-of-requires
+prelude-of-requires c κs = search needs
+
+enum-known-p : tie.Need-enum-known-p
+enum-known-p c = search needs
+
+enum-told : tie.Need-enum-told
+enum-told c = search needs
+
+same-length : tie.Need-same-length
+same-length c = search needs
+
+returns : tie.Need-returns
+returns c =
+    let g = c .before .before in
+    let s = g .before .before .before .before .before in
+    prelude-passed (now (s .args .words)) (now (s .args .area)) (s .args .l) (s .pre .0) (s .args .from .0) (s .args .n) (s .pre .2)
+    (ap (preludeOf (snapOf (now (s .args .words)) (now (s .args .area)) (s .args .l))) (sym (g .before .map .ensures)) ∙ (sym (g .prelude-of .ensures (now (s .args .area))) ∙ ap (entryOf preludeAt (now (s .args .words))) (c .enum-told .given .1)))
+
+prelude-target-requires : tie.Need-prelude-target-requires
+prelude-target-requires c κs = search needs
+
+offer-scope-requires : tie.Need-offer-scope-requires
+offer-scope-requires c κs = search needs
+
+same-length-2 : tie.Need-same-length-2
+same-length-2 c = search needs
+
+returns-2 : tie.Need-returns-2
+returns-2 c =
+    let o = c .before .before in
+    let t = o .before in
+    let q = t .before .before .before in
+    let g = q .before .before in
+    let s = g .before .before .before .before .before in
+    prelude-offered (now (s .args .words)) (now (s .args .area)) (s .args .l) (s .pre .0) (s .args .from .0) (s .args .n) _
+    (ap (preludeOf (snapOf (now (s .args .words)) (now (s .args .area)) (s .args .l))) (sym (g .before .map .ensures)) ∙ (sym (g .prelude-of .ensures (now (s .args .area))) ∙ ap (entryOf preludeAt (now (s .args .words))) (q .p .given .1)))
+    (t .prelude-target .ensures) (o .offer-scope .ensures)
+
+pub offer-prelude-spec : {M : Type 1} → statement M
+offer-prelude-spec =
+    tie.close
+    (tie.spec
+    map-requires
+    prelude-of-requires
+    enum-known-p
+    enum-told
+    same-length
+    returns
+    prelude-target-requires
+    offer-scope-requires
+    same-length-2
+    returns-2)

@@ -1,0 +1,87 @@
+use borrow.Author.Needs.{needs}
+use mathlib.Core.Path.{_≡_, _∙_}
+use native.Mathlib.Omega.{arith}
+use denote.Ref.{now}
+use Rattle.module_tree.proofs.Climbs.{is-some, is-none}
+use Rattle.any_path.proofs.Taken.{stays-reads}
+use Rattle.any_path.proofs.Plains.{Around, around-start, around-stays, around-less, around-next, around-done}
+use Rattle.any_path.proofs.firsts.offer_scopes.Statement.{statement}
+use Rattle.any_path.proofs.firsts.offer_scopes.Tie as tie
+
+abbrev Inv-loop : tie.InvT-loop
+Inv-loop words area₀ l from n m₀ count₀ area m count =
+    Around words area₀ l (from .0) n area count (m .0)
+
+abbrev μ-loop : tie.MeasureT-loop
+μ-loop words area₀ l from n m₀ count₀ area m count = m .0
+
+loop-holds : tie.Need-loop-holds Inv-loop μ-loop
+loop-holds c =
+    let s = c .before .before in
+    around-start (now (s .args .words)) (now (s .args .area)) (s .args .l) (s .pre .0) (s .args .from .0) (s .args .n) (s .pre .1) (s .pre .2)
+
+offer-scope-requires : tie.Need-offer-scope-requires Inv-loop μ-loop
+offer-scope-requires c κs =
+    let k = c .before in
+    let s = k .before .before .before in
+    let g = k .loop .inv .grown in
+    (stays-reads (now (s .args .words)) (now (s .args .area)) (k .loop .area) (s .args .l) (s .pre .0) (g .stays), s .pre .1, g .run)
+
+block-step-requires : tie.Need-block-step-requires Inv-loop μ-loop
+block-step-requires c κs =
+    let o = c .before .before .before in
+    let k = o .before .before in
+    let s = k .before .before .before in
+    (stays-reads (now (s .args .words)) (now (s .args .area)) _ (s .args .l) (s .pre .0) (around-stays (now (s .args .words)) (now (s .args .area)) (s .args .l) (s .pre .0) (s .args .from .0) (s .args .n) (k .loop .inv) (o .offer-scope .ensures)), k .loop .inv .known)
+
+enum-known-b : tie.Need-enum-known-b Inv-loop μ-loop
+enum-known-b c = search needs
+
+enum-told : tie.Need-enum-told Inv-loop μ-loop
+enum-told c = search needs
+
+same-length : tie.Need-same-length Inv-loop μ-loop
+same-length c =
+    let o = c .before .before .before .before .before .before in
+    let k = o .before .before in
+    o .offer-scope .ensures .size ∙ k .loop .inv .grown .size
+
+returns : tie.Need-returns Inv-loop μ-loop
+returns c =
+    let x = c .before .before in
+    let o = x .before .before .before .before in
+    let k = o .before .before in
+    let s = k .before .before .before in
+    around-done (now (s .args .words)) (now (s .args .area)) (s .args .l) (s .pre .0) (s .args .from .0) (s .args .n) (k .loop .inv) (o .offer-scope .ensures) (is-none _ (x .block-step .ensures) (c .enum-told .given .1))
+
+loop-less : tie.Need-loop-less Inv-loop μ-loop
+loop-less c =
+    let x = c .before .before .before in
+    let o = x .before .before .before .before in
+    let k = o .before .before in
+    let s = k .before .before .before in
+    around-less (now (s .args .words)) (now (s .args .area)) (s .args .l) (s .pre .0) (s .args .from .0) (s .args .n) (k .loop .inv) (o .offer-scope .ensures) (is-some _ (x .block-step .ensures) (c .before .b .given .1))
+
+loop-again : tie.Need-loop-again Inv-loop μ-loop
+loop-again c =
+    let x = c .before .before .before in
+    let o = x .before .before .before .before in
+    let k = o .before .before in
+    let s = k .before .before .before in
+    around-next (now (s .args .words)) (now (s .args .area)) (s .args .l) (s .pre .0) (s .args .from .0) (s .args .n) (k .loop .inv) (o .offer-scope .ensures) (is-some _ (x .block-step .ensures) (c .before .b .given .1))
+
+pub offer-scopes-spec : {M : Type 1} → statement M
+offer-scopes-spec =
+    tie.close
+    (tie.spec
+    Inv-loop
+    μ-loop
+    loop-holds
+    offer-scope-requires
+    block-step-requires
+    enum-known-b
+    enum-told
+    same-length
+    returns
+    loop-less
+    loop-again)

@@ -1,0 +1,52 @@
+use borrow.Author.Needs.{needs}
+use denote.Ref.{now}
+use Rattle.snapshot.specs.Layouts.{snapOf}
+use Rattle.snapshot.specs.Records.{scopeAt}
+use Rattle.any_path.proofs.Plains.{mod-is, def-is, entry-item}
+use Rattle.any_path.proofs.plain.entry_module.Statement.{statement}
+use Rattle.any_path.proofs.plain.entry_module.Tie as tie
+
+scope-ns-requires : tie.Need-scope-ns-requires
+scope-ns-requires c κs = search needs
+
+scope-definition-requires : tie.Need-scope-definition-requires
+scope-definition-requires c κs = search needs
+
+item-of-requires : tie.Need-item-of-requires
+item-of-requires c κs = search needs
+
+enum-known-m : tie.Need-enum-known-m
+enum-known-m c = search needs
+
+enum-told : tie.Need-enum-told
+enum-told c = search needs
+
+returns : tie.Need-returns
+returns c =
+    λ A.
+    let i = c .before .before .before in
+    let s = i .before .before .before .before in
+    mod-is _ (c .before .m .given .1)
+    (entry-item (snapOf (now (s .args .words)) A (s .args .l)) (scopeAt (now (s .args .words)) (s .args .h)) (i .item-of .ensures A)
+    (i .before .before .scope-ns .ensures) (i .before .scope-definition .ensures))
+
+returns-2 : tie.Need-returns-2
+returns-2 c =
+    λ A.
+    let i = c .before .before in
+    let s = i .before .before .before .before in
+    def-is (c .enum-told .given .1)
+    (entry-item (snapOf (now (s .args .words)) A (s .args .l)) (scopeAt (now (s .args .words)) (s .args .h)) (i .item-of .ensures A)
+    (i .before .before .scope-ns .ensures) (i .before .scope-definition .ensures))
+
+pub entry-module-spec : {M : Type 1} → statement M
+entry-module-spec =
+    tie.close
+    (tie.spec
+    scope-ns-requires
+    scope-definition-requires
+    item-of-requires
+    enum-known-m
+    enum-told
+    returns
+    returns-2)

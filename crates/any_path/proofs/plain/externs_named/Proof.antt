@@ -1,0 +1,33 @@
+use borrow.Author.Needs.{needs}
+use mathlib.Core.Path.{_∙_}
+use denote.Ref.{now}
+use Rattle.snapshot.specs.Layouts.{snapOf}
+use Rattle.any_path.proofs.Plains.{externs-types, externs-others}
+use Rattle.any_path.proofs.plain.externs_named.Statement.{statement}
+use Rattle.any_path.proofs.plain.externs_named.Tie as tie
+
+returns : tie.Need-returns
+returns c =
+    let s = c .before .before .before in
+    externs-others (snapOf (now (s .args .words)) (now (s .args .area)) (s .args .l)) (s .args .from .0) (s .args .ns) (s .args .name .0) (c .if1 .taken)
+
+krate-requires : tie.Need-krate-requires
+krate-requires c κs = search needs
+
+extern-named-requires : tie.Need-extern-named-requires
+extern-named-requires c κs = search needs
+
+returns-2 : tie.Need-returns-2
+returns-2 c =
+    let s = c .before .before .before .before .before in
+    c .extern-named .ensures (now (s .args .area))
+    ∙ externs-types (snapOf (now (s .args .words)) (now (s .args .area)) (s .args .l)) (s .args .from .0) (s .args .ns) (s .args .name .0) (c .before .krate .ensures) (c .before .before .if1 .left)
+
+pub externs-named-spec : {M : Type 1} → statement M
+externs-named-spec =
+    tie.close
+    (tie.spec
+    returns
+    krate-requires
+    extern-named-requires
+    returns-2)

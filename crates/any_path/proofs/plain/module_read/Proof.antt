@@ -1,0 +1,59 @@
+use borrow.Author.Needs.{needs}
+use mathlib.Core.Path.{_≡_, sym, ap, _∙_}
+use denote.Ref.{now}
+use Rattle.snapshot.specs.Ids.{plusOne}
+use Rattle.snapshot.specs.Layouts.{snapOf}
+use Rattle.any_path.specs.Plain.{recordRead, moduleIn, moduleNo}
+use Rattle.any_path.specs.declared.plain.Reading.{Reading}
+use Rattle.any_path.proofs.Plains.{mod-no}
+use Rattle.any_path.proofs.plain.module_read.Statement.{statement}
+use Rattle.any_path.proofs.plain.module_read.Tie as tie
+
+enum-known-r : tie.Need-enum-known-r
+enum-known-r c = search needs
+
+entry-module-requires : tie.Need-entry-module-requires
+entry-module-requires c κs = search needs
+
+enum-known-r-2 : tie.Need-enum-known-r-2
+enum-known-r-2 c = search needs
+
+extern-target-requires : tie.Need-extern-target-requires
+extern-target-requires c κs = search needs
+
+enum-told : tie.Need-enum-told
+enum-told c = search needs
+
+returns : tie.Need-returns
+unfolding moduleIn recordRead
+returns c =
+    λ A.
+    let s = c .before .before .before .before .before in
+    c .entry-module .ensures A ∙ sym (ap (λ (x : Reading). moduleIn (recordRead (snapOf (now (s .args .words)) A (s .args .l)) (now (s .args .words)) x)) (c .before .before .r .given .1))
+
+returns-2 : tie.Need-returns-2
+unfolding moduleIn moduleNo recordRead
+returns-2 c =
+    λ A.
+    let s = c .before .before .before .before .before in
+    mod-no _ (c .extern-target .ensures) ∙ sym (ap (λ (x : Reading). moduleIn (recordRead (snapOf (now (s .args .words)) A (s .args .l)) (now (s .args .words)) x)) (c .before .before .r2 .given .1))
+
+returns-3 : tie.Need-returns-3
+unfolding plusOne moduleIn recordRead
+returns-3 c =
+    λ A.
+    let s = c .before .before .before in
+    sym (ap (λ (x : Reading). moduleIn (recordRead (snapOf (now (s .args .words)) A (s .args .l)) (now (s .args .words)) x)) (c .enum-told .given .1))
+
+pub module-read-spec : {M : Type 1} → statement M
+module-read-spec =
+    tie.close
+    (tie.spec
+    enum-known-r
+    entry-module-requires
+    enum-known-r-2
+    extern-target-requires
+    enum-told
+    returns
+    returns-2
+    returns-3)

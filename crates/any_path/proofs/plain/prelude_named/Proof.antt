@@ -1,0 +1,55 @@
+use borrow.Author.Needs.{needs}
+use mathlib.Core.Path.{sym, ap, _∙_}
+use denote.Ref.{now}
+use Rattle.snapshot.specs.Records.{preludeAt}
+use Rattle.snapshot.specs.Layouts.{snapOf}
+use Rattle.hir_def.specs.Entries.{entryOf}
+use Rattle.any_path.proofs.Plains.{prelude-there, prelude-gone}
+use Rattle.any_path.proofs.plain.prelude_named.Statement.{statement}
+use Rattle.any_path.proofs.plain.prelude_named.Tie as tie
+
+map-requires : tie.Need-map-requires
+map-requires c κs = search needs
+
+prelude-of-requires : tie.Need-prelude-of-requires
+prelude-of-requires c κs = search needs
+
+enum-known-p : tie.Need-enum-known-p
+enum-known-p c = search needs
+
+enum-told : tie.Need-enum-told
+enum-told c = search needs
+
+returns : tie.Need-returns
+returns c =
+    let s = c .before .before .before .before .before .before in
+    let g = c .before .before in
+    prelude-gone (snapOf (now (s .args .words)) (now (s .args .area)) (s .args .l)) (s .args .from .0) (s .args .ns) (s .args .name .0) (g .before .map .ensures)
+    (sym (g .prelude-of .ensures (now (s .args .area))) ∙ ap (entryOf preludeAt (now (s .args .words))) (c .enum-told .given .1))
+
+prelude-target-requires : tie.Need-prelude-target-requires
+prelude-target-requires c κs = search needs
+
+entry-named-requires : tie.Need-entry-named-requires
+entry-named-requires c κs = search needs
+
+returns-2 : tie.Need-returns-2
+returns-2 c =
+    let s = c .before .before .before .before .before .before .before .before .before in
+    let g = c .before .before .before .before .before in
+    c .entry-named .ensures
+    ∙ prelude-there (snapOf (now (s .args .words)) (now (s .args .area)) (s .args .l)) (s .args .from .0) (s .args .ns) (s .args .name .0) (g .before .map .ensures) _
+    (sym (g .prelude-of .ensures (now (s .args .area))) ∙ ap (entryOf preludeAt (now (s .args .words))) (c .before .before .before .p .given .1)) (c .before .prelude-target .ensures)
+
+pub prelude-named-spec : {M : Type 1} → statement M
+prelude-named-spec =
+    tie.close
+    (tie.spec
+    map-requires
+    prelude-of-requires
+    enum-known-p
+    enum-told
+    returns
+    prelude-target-requires
+    entry-named-requires
+    returns-2)

@@ -1,0 +1,91 @@
+use borrow.Author.Needs.{needs}
+use mathlib.Core.Path.{_≡_, sym, ap, _∙_}
+use mathlib.Core.Option.{Option·map}
+use denote.Ref.{now}
+use Rattle.snapshot.specs.Records.{Scope, scopeAt, externAt}
+use Rattle.snapshot.specs.Layouts.{snapOf}
+use Rattle.hir_def.specs.Entries.{entryOf}
+use Rattle.nameable.specs.Paths.{asNamed}
+use Rattle.any_path.specs.Plain.{recordRead}
+use Rattle.any_path.proofs.Plains.{plain-scope, plain-extern, plain-prelude}
+use Rattle.any_path.proofs.plain.read_plain.Statement.{statement}
+use Rattle.any_path.proofs.plain.read_plain.Tie as tie
+
+scopes-named-requires : tie.Need-scopes-named-requires
+scopes-named-requires c κs = search needs
+
+enum-known-near : tie.Need-enum-known-near
+enum-known-near c = search needs
+
+returns : tie.Need-returns
+unfolding recordRead
+returns c =
+    let s = c .before .before .before .before .before .before in
+    plain-scope (snapOf (now (s .args .words)) (now (s .args .area)) (s .args .l)) (s .args .from .0) (s .args .ns) (s .args .name .0) _ (sym (c .before .before .before .scopes-named .ensures) ∙ ap (entryOf scopeAt (now (s .args .words))) (c .before .near .given .1))
+
+enum-told : tie.Need-enum-told
+enum-told c = search needs
+
+externs-named-requires : tie.Need-externs-named-requires
+externs-named-requires c κs = search needs
+
+enum-known-outer : tie.Need-enum-known-outer
+enum-known-outer c = search needs
+
+returns-2 : tie.Need-returns-2
+unfolding recordRead
+returns-2 c =
+    let n = c .before .before .before .before .before .before in
+    let s = n .before .before .before in
+    plain-extern (snapOf (now (s .args .words)) (now (s .args .area)) (s .args .l)) (s .args .from .0) (s .args .ns) (s .args .name .0) (sym (n .scopes-named .ensures) ∙ ap (entryOf scopeAt (now (s .args .words))) (c .before .before .before .before .enum-told .given .1)) _
+    (sym (c .before .before .before .externs-named .ensures) ∙ ap (entryOf externAt (now (s .args .words))) (c .before .outer .given .1))
+
+enum-told-2 : tie.Need-enum-told-2
+enum-told-2 c = search needs
+
+prelude-named-requires : tie.Need-prelude-named-requires
+prelude-named-requires c κs = search needs
+
+enum-known-h : tie.Need-enum-known-h
+enum-known-h c = search needs
+
+enum-told-3 : tie.Need-enum-told-3
+enum-told-3 c = search needs
+
+returns-3 : tie.Need-returns-3
+unfolding recordRead
+returns-3 c =
+    let x = c .before .before .before .before .before in
+    let n = x .before .before .before in
+    let s = n .before .before .before in
+    ap (Option·map (asNamed (snapOf (now (s .args .words)) (now (s .args .area)) (s .args .l)))) (sym (ap (entryOf scopeAt (now (s .args .words))) (c .enum-told3 .given .1)) ∙ c .before .before .prelude-named .ensures)
+    ∙ plain-prelude (snapOf (now (s .args .words)) (now (s .args .area)) (s .args .l)) (s .args .from .0) (s .args .ns) (s .args .name .0) (sym (n .scopes-named .ensures) ∙ ap (entryOf scopeAt (now (s .args .words))) (x .before .enum-told .given .1))
+    (sym (x .externs-named .ensures) ∙ ap (entryOf externAt (now (s .args .words))) (c .before .before .before .enum-told2 .given .1))
+
+returns-4 : tie.Need-returns-4
+unfolding recordRead
+returns-4 c =
+    let x = c .before .before .before .before .before .before in
+    let n = x .before .before .before in
+    let s = n .before .before .before in
+    ap (Option·map (asNamed (snapOf (now (s .args .words)) (now (s .args .area)) (s .args .l)))) (sym (ap (entryOf scopeAt (now (s .args .words))) (c .before .h .given .1)) ∙ c .before .before .before .prelude-named .ensures)
+    ∙ plain-prelude (snapOf (now (s .args .words)) (now (s .args .area)) (s .args .l)) (s .args .from .0) (s .args .ns) (s .args .name .0) (sym (n .scopes-named .ensures) ∙ ap (entryOf scopeAt (now (s .args .words))) (x .before .enum-told .given .1))
+    (sym (x .externs-named .ensures) ∙ ap (entryOf externAt (now (s .args .words))) (c .before .before .before .before .enum-told2 .given .1))
+
+pub read-plain-spec : {M : Type 1} → statement M
+read-plain-spec =
+    tie.close
+    (tie.spec
+    scopes-named-requires
+    enum-known-near
+    returns
+    enum-told
+    externs-named-requires
+    enum-known-outer
+    returns-2
+    enum-told-2
+    prelude-named-requires
+    enum-known-h
+    enum-told-3
+    returns-3
+    returns-4)
