@@ -17,10 +17,17 @@ use reports::report::ReportWords;
 use reports::report::write_report;
 use snapshot::kind::Size;
 
-// Writes the report of each question on checked words.
-fn report_each(words: &[u32], area: &mut [u32], c: Checked, questions: &[u32], reports: &mut [u32])
+/// Writes the report of each question on checked words, which stay so.
+pub fn report_each(
+    words: &[u32],
+    area: &mut [u32],
+    c: Checked,
+    questions: &[u32],
+    reports: &mut [u32],
+)
     requires { ⌜ Judged (now words) (now area) c × (length (now area) ≡ areaLimit) × (reportSize * (length (now questions) / questionSize) ≤ length (now reports)) ⌝ }
     ensures { λ _. ⌜ now (reports .exit) ≡ reportsTo (now (words .entry)) (now (questions .entry)) (now (reports .entry)) ⌝ }
+    ensures { λ _. ⌜ Judged (now (words .entry)) (now (area .exit)) c ⌝ }
 {
     let n = questions.len() / Size::QUESTION;
     let mut i = 0;

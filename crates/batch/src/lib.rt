@@ -1,3 +1,3 @@
 //! A file's worth of questions, with one snapshot.
 pub mod batch;
-mod each;
+pub mod each;

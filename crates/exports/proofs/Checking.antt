@@ -1,10 +1,11 @@
 -- The check's answer as numbers.
-use Prim.Native.Nat.{ℕ, _<_}
-use mathlib.Core.Path.{_≡_, sym, _∙_, ap, subst}
+use Prim.Native.Nat.{ℕ, _≤_, _<_}
+use mathlib.Core.Path.{_≡_, refl, sym, _∙_, ap, subst}
 use mathlib.Core.List.{List, [], _∷_}
 use lib.Dec.{ltb}
 use lib.ListN.{length, drop}
-use borrow.Author.Tests.{ltb-true}
+use borrow.Author.Tests.{ltb-true, ltb-false}
+use native.Mathlib.Omega.{arith}
 use Rattle.snapshot.specs.Limits.{areaLimit}
 use Rattle.snapshot.specs.Refusals.{areaRefusal}
 use Rattle.snapshot.specs.Records.{Snapshot}
@@ -17,6 +18,8 @@ use Rattle.accept.specs.declared.check.Checked.{Checked}
 use Rattle.accept.specs.declared.check.Checked.the-variants.{Refused, Accepted}
 use Rattle.accept.proofs.Accepted.{by-test}
 use Rattle.answer.specs.Answers.{areaAfter}
+use Rattle.asked.specs.StillChecked.{counted, StillChecked}
+use Rattle.asked.proofs.Numbers.{refusal-positive}
 use Rattle.exports.specs.Answers.{numberOf, answerOf, Answered}
 
 IsRefused : Verdict → Type 0
@@ -42,25 +45,6 @@ judged n W s e =
     by-test (ltb n areaLimit)
     (λ t. absurd (apart areaRefusal 0 s (sym (rw (checkOf, t)) ∙ e)))
     (λ t. sym (rw (checkOf, t)) ∙ e)
-
--- the numbers of accepted words
-abbrev counted : Layout → List ℕ
-counted l =
-    0
-    ∷ 0
-    ∷ l .names
-    ∷ l .crates
-    ∷ l .dependencies
-    ∷ l .maps
-    ∷ l .modules
-    ∷ l .children
-    ∷ l .preludes
-    ∷ l .definitions
-    ∷ l .scopes
-    ∷ l .imports
-    ∷ l .externs
-    ∷ l .members
-    ∷ []
 
 counted-same : (W A : List ℕ) (l : Layout) → counted l ≡ answerOf (accept (snapOf W A l))
 counted-same W A l = simp length-rows
@@ -101,3 +85,28 @@ module _ (W A₀ A : List ℕ) (r : Checked) (k : Checks W A₀ A r) where
         rest = λ s h. q .rest;
         cleared = λ m p h. absurd (apart m p (snapOf W A l) (sym h ∙ sym (q .same)));
       }
+
+-- accepted words have a work area that serves
+roomy : (n : ℕ) (W : List ℕ) (s : Snapshot) → checkOf n W ≡ accept s → areaLimit ≤ n
+unfolding checkOf
+roomy n W s e =
+    by-test (ltb n areaLimit)
+    (λ t. absurd (apart areaRefusal 0 s (sym (rw (checkOf, t)) ∙ e)))
+    (λ t. ltb-false n areaLimit t)
+
+-- what the calls on checked words ask for, the check gives: whenever it answers 0
+module _ (W A₀ A answer : List ℕ) (k : Answered W A₀ A answer 0) (n : length A ≡ length A₀) where
+  pub still-checked : StillChecked W A answer
+  still-checked = go (checkOf (length A₀) W) refl
+    where
+      go : (v : Verdict) → checkOf (length A₀) W ≡ v → StillChecked W A answer
+      go (refuse m at) e = absurd (omega (arith, refusal-positive (length A₀) W m at e, k .number ∙ ap numberOf e))
+      go (accept s) e =
+          let t = k .tables s e in
+          let l = t .0 in
+          record {
+            layout = l;
+            reads = t .1;
+            counts = k .same ∙ ap answerOf (e ∙ ap accept (sym (t .2))) ∙ sym (counted-same W A l);
+            room = omega (arith, n, roomy (length A₀) W s e);
+          }

@@ -1,12 +1,14 @@
 //! The functions of the static library, for programs in Rust and C. None keeps a state but the one that the caller lends, and none asks
-//! anything of its caller.
+//! anything of its caller but the two that end in `_checked`: these answer on words that `kelumavor_check` accepted before.
 ghost use mathlib.Core.Path.{_≡_};
 ghost use Prim.Native.Nat.{_≤_, _<_};
 ghost use lib.ListN.{length};
+ghost use Rattle.asked.specs.Asked.{AskedEach};
+ghost use Rattle.asked.specs.StillChecked.{StillChecked};
 ghost use Rattle.batch.specs.Batch.{Batch};
 ghost use Rattle.edits.specs.Edits.{EditsIn};
 ghost use Rattle.exports.specs.Answers.{Answered};
-ghost use Rattle.exports.specs.Questions.{Reported};
+ghost use Rattle.exports.specs.Questions.{Reported, ReportedChecked};
 ghost use Rattle.exports.specs.Texts.{nameText, Copied, Named, nameRaw, RawNamed};
 ghost use Rattle.exports.specs.Reaches.{viewerOf, ReachesIn};
 ghost use Rattle.exports.specs.Turns.{Served, Unserved};
@@ -16,6 +18,7 @@ ghost use Rattle.questions.specs.Questions.{questionOf};
 ghost use Rattle.reports.specs.Written.{reportSize};
 ghost use Rattle.scope_edits.specs.Edits.{adding, removing};
 ghost use Rattle.scope_edits.specs.Entries.{entryOf};
+ghost use Rattle.snapshot.specs.Layouts.{tableWords};
 ghost use Rattle.windows.specs.Windows.{Placed};
 
 mod lent;
@@ -32,6 +35,8 @@ use accept::check::check;
 use answer::answer::find_path;
 use answer::area::clear_front;
 use answer::report::write_report;
+use asked::asked::find_path_checked;
+use asked::each::find_paths_checked;
 use batch::batch::find_paths;
 use edits::edits::add_entry;
 use edits::edits::remove_entry;
@@ -43,6 +48,7 @@ use reports::report::ReportWords;
 use snapshot::ids::Crate;
 use snapshot::ids::Name;
 use snapshot::kind::Size;
+use snapshot::table::Tables;
 use snapshot::table::name_head;
 use snapshot::text::text_at;
 use snapshot::words::payload;
@@ -168,6 +174,47 @@ pub extern "C" fn kelumavor_find_paths(
     ensures { λ r. ⌜ Batch (now (words .entry)) (now (area .entry)) (now (questions .entry)) (now (reports .entry)) (now (area .exit)) (now (reports .exit)) r ⌝ }
 {
     find_paths(words, area, questions, reports)
+}
+
+/// How many words at the front of the work area are the tables that the check of accepted words leaves there. An area with a copy of them
+/// serves as well.
+#[no_mangle]
+pub extern "C" fn kelumavor_table_words() -> usize
+    ensures { λ r. ⌜ r ≡ tableWords ⌝ }
+{
+    Tables::END
+}
+
+/// Answers a question as `kelumavor_find_path` does, on words that `kelumavor_check` accepted, by the numbers that it wrote and the tables that it
+/// left in the work area: nothing is checked again, and nothing is cleared. Words and tables stay for the next question.
+#[no_mangle]
+pub extern "C" fn kelumavor_find_path_checked(
+    words: &[u32],
+    area: &mut [u32],
+    counts: &[usize; 14],
+    question: &[u32; Size::QUESTION],
+    report: &mut [u32],
+) -> bool
+    requires { ⌜ StillChecked (now words) (now area) (now counts) ⌝ }
+    ensures { λ r. ⌜ ReportedChecked (now (words .entry)) (now (area .entry)) (now (counts .entry)) (questionOf (now (question .entry))) (now (area .exit)) (now (report .entry)) (now (report .exit)) r ⌝ }
+{
+    let answer = find_path_checked(words, area, counts, question_of(question));
+    write_report(answer, report)
+}
+
+/// Answers up to 64 questions as `kelumavor_find_paths` does, on words as for `kelumavor_find_path_checked`.
+#[no_mangle]
+pub extern "C" fn kelumavor_find_paths_checked(
+    words: &[u32],
+    area: &mut [u32],
+    counts: &[usize; 14],
+    questions: &[u32],
+    reports: &mut [u32],
+) -> usize
+    requires { ⌜ StillChecked (now words) (now area) (now counts) ⌝ }
+    ensures { λ r. ⌜ AskedEach (now (words .entry)) (now (area .entry)) (now (counts .entry)) (now (questions .entry)) (now (reports .entry)) (now (area .exit)) (now (reports .exit)) r ⌝ }
+{
+    find_paths_checked(words, area, counts, questions, reports)
 }
 
 /// Places a question for one of the eight windows whose state the caller lends; 65 zeros are the state in which none waits. Answers 0,

@@ -29,7 +29,7 @@ returns c =
     let r = c .before .before .before .before .before .before .before .before in
     let k = r .before .before .before .before .before in
     let s = k .before .before .before .before .before .before in
-    (c .before .before .clear .ensures ∙ ap zeros (r .report-each .kept .1 .0 ∙ k .check .kept .1 .0 ∙ s .pre .0), r .report-each .ensures)
+    (c .before .before .clear .ensures ∙ ap zeros (r .report-each .kept .1 .0 ∙ k .check .kept .1 .0 ∙ s .pre .0), r .report-each .ensures .0)
 
 pub answer-each-spec : {M : Type 1} → statement M
 answer-each-spec =

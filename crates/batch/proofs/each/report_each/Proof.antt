@@ -103,8 +103,10 @@ same-length-2 c = c .before .loop .inv .3
 returns : tie.Need-returns Inv-loop μ-loop
 returns c =
     let l = c .before .loop in
-    let s = c .before .before .before .before .before .before in
-    all-reported (now (s .args .words)) (now (s .args .questions)) (now (s .args .reports)) (l .i) (l .reports) (l .inv .4) _ (l .inv .0) (c .loop-test .left)
+    let s = c .before .before .before .before .before .before in (
+      all-reported (now (s .args .words)) (now (s .args .questions)) (now (s .args .reports)) (l .i) (l .reports) (l .inv .4) _ (l .inv .0) (c .loop-test .left),
+      l .inv .1,
+    )
 
 pub report-each-spec : {M : Type 1} → statement M
 report-each-spec =

@@ -1,0 +1,2 @@
+pub mod StillChecked
+pub mod Asked
