@@ -2,7 +2,10 @@
 use mathlib.Core.Path.{_≡_}
 use mathlib.Core.Bool.{true}
 use Rattle.accept.specs.Worked.{worked}
-use Rattle.find_path.proofs.Worked.{passes, cases, worked-cases, withDependency, dependencyCases, dependency-cases, withStd, stdCases, std-cases, withFacade, facadeCases, facade-cases, withModules, moduleCases, module-cases, withOldNames, oldNameCases, old-name-cases, limitCases, limit-cases, routes, withBlock, readCases, read-cases}
+use Rattle.find_path.proofs.Worked.{passes, routes, cases, withDependency, dependencyCases, withStd, stdCases, withFacade, facadeCases}
+use Rattle.find_path.proofs.Worked.{withModules, moduleCases, withOldNames, oldNameCases, limitCases, withBlock, readCases}
+use Rattle.find_path.proofs.Worked.{worked-cases, dependency-cases, std-cases, facade-cases}
+use Rattle.find_path.proofs.Worked.{module-cases, old-name-cases, limit-cases, read-cases}
 
 -- document 01's fourteen cases, and those of further snapshots
 pub record Answers : Type 0 where
