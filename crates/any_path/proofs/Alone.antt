@@ -28,7 +28,8 @@ pub alone-append : (xs ys : List Named) → namesAlone (xs ++ ys) ≡ namesAlone
 unfolding namesAlone select
 alone-append [] ys = refl
 alone-append (x ∷ xs) ys =
-    by-test (isModule (x .item)) (λ t. rw (t, select) (ap (λ (ps : List Path). plain (x .name) ∷ ps) (alone-append xs ys))) (λ t. rw (t, select) (alone-append xs ys))
+    by-test (isModule (x .item)) (λ t. rw (t, select) (ap (λ (ps : List Path). plain (x .name) ∷ ps) (alone-append xs ys))) (λ t. rw (t, select)
+    (alone-append xs ys))
 
 with-tried : (ws : List Way) (p : Path) (o : Option Item) → ((m : ℕ) → o ≡ some (moduleItem m) → isMet ws m ≡ true) → withMeaning ws p o ≡ ws
 unfolding withMeaning
@@ -51,7 +52,8 @@ module _ (s : Snapshot) (from : ℕ) where
       sym (first-of-append (λ (y : Named). eqb (y .name) (x .name)) pre (x ∷ rest)) ∙ (ap (named (x .name)) (sym e) ∙ f .1) in
       by-option (named (x .name) pre)
       (λ z.
-      let here : named (x .name) (x ∷ rest) ≡ some x = firstOf-hit (λ (y : Named). eqb (y .name) (x .name)) x rest (eq-eqb (x .name) (x .name) refl) in
+      let here : named (x .name) (x ∷ rest) ≡ some x = firstOf-hit (λ (y : Named). eqb (y .name) (x .name)) x rest (eq-eqb (x .name)
+      (x .name) refl) in
       let k : named (x .name) (x ∷ rest) ≡ some (f .0) = ap (λ (o : Option Named). orFirst o (named (x .name) (x ∷ rest))) (sym z) ∙ g in
       let two : some x ≡ some (f .0) = sym here ∙ k in
       let same : x ≡ f .0 = cc in
@@ -95,7 +97,9 @@ module _ (s : Snapshot) (from : ℕ) where
 
     pub alone-next : {b : Bool} {n : ℕ} → b ≡ (q x && isModule (f x .item)) → n ≡ f x .name
         → added s from ws (namesAlone (map f (select q (x ∷ xs)))) ≡ added s from (nameIf s from ws b n) (namesAlone (map f (select q xs)))
-    alone-next eb en = alone-one ∙ ap₂ (λ (b : Bool) (n : ℕ). added s from (nameIf s from ws b n) (namesAlone (map f (select q xs)))) (sym eb) (sym en)
+    alone-next eb en =
+        alone-one ∙ ap₂ (λ (b : Bool) (n : ℕ). added s from (nameIf s from ws b n) (namesAlone (map f (select q xs)))) (sym eb)
+        (sym en)
 
   and-last : (o k v t : Bool) → (o && (k && t)) && v ≡ (o && (k && v)) && (k && t)
   and-last true true true true = refl

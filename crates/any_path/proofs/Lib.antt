@@ -8,3 +8,4 @@ pub mod Externs
 pub mod Whole
 pub mod Alone
 pub mod Plains
+pub mod Placed

@@ -74,9 +74,9 @@ module _ (s : Snapshot) (from ns n : ℕ) where
       ∙ (map-or (asNamed s) (seenNamed s from ns m n) (firstSome (λ m. seenNamed s from ns m n) ms)
       ∙ ap (Option·map (asNamed s)) (sym (first-or (λ m. seenNamed s from ns m n) m ms))))
 
-  externs-named : named n (externsIn s from ns) ≡ Option·map externNamed (externsNamed s from ns n)
+  pub externs-read : named n (externsIn s from ns) ≡ Option·map externNamed (externsNamed s from ns n)
   unfolding named externsIn externsNamed externOfName firstOf
-  externs-named =
+  externs-read =
       by-test (eqb ns types)
       (λ t.
       rw (t, externsIn, externsNamed)
@@ -97,7 +97,7 @@ module _ (s : Snapshot) (from ns n : ℕ) where
       let b : List Named = externsIn s from ns in
       let c : List Named = preludeEntries s from ns (preludeOf s (mapNo s from)) in
       named-append n a (b ++ c)
-      ∙ ap₂ orFirst (over-named (scopesFrom s from)) (named-append n b c ∙ ap₂ orFirst externs-named (prelude-named (preludeOf s (mapNo s from))))
+      ∙ ap₂ orFirst (over-named (scopesFrom s from)) (named-append n b c ∙ ap₂ orFirst externs-read (prelude-named (preludeOf s (mapNo s from))))
 
   pub plain-scope : (e : Scope) → scopesNamed s from ns n ≡ some e → some (asNamed s e) ≡ reads s from ns (plain n)
   unfolding orFirst
@@ -170,7 +170,8 @@ pub def-is : {ns : Namespace} {d : DefinitionId} {i j : Item} → i ≡ Def ns d
 unfolding plusOne moduleNo
 def-is e f = ap moduleNo (sym e ∙ f)
 
-pub entry-item : (s : Snapshot) (e : Scope) {i : Item} {ns d : ℕ} → i ≡ itemOf s ns d → ns ≡ e .ns → d ≡ e .definition → i ≡ itemOf s (e .ns) (e .definition)
+pub entry-item : (s : Snapshot) (e : Scope) {i : Item} {ns d : ℕ} → i ≡ itemOf s ns d → ns ≡ e .ns → d ≡ e .definition
+    → i ≡ itemOf s (e .ns) (e .definition)
 entry-item s e q a b = q ∙ ap₂ (itemOf s) a b
 
 pub mod-no : (m : ModuleId) {t : ℕ} → m .0 ≡ t → plusOne (Module m) ≡ suc t
@@ -302,7 +303,8 @@ module _ {R : Type 0} (f : R → Named) (q : R → Bool) (each : ℕ → R) (all
       record { grown = unchanged modules A n run; rest = rows-whole (λ (xs : List R). added s from (runAt A n) (names xs)) each all }
 
   module _ {B : List ℕ} {c k : ℕ} (inv : Trying f q each all modules s from A n B c k) where
-    pub trying-next : {C : List ℕ} {p x : ℕ} {b : Bool} {u : Snapshot} → k < all → u ≡ s → b ≡ (q (each k) && isModule (f (each k) .item)) → x ≡ f (each k) .name
+    pub trying-next : {C : List ℕ} {p x : ℕ} {b : Bool} {u : Snapshot} → k < all → u ≡ s → b ≡ (q (each k) && isModule (f (each k) .item))
+        → x ≡ f (each k) .name
         → Grown modules B c C p (nameIf u from (runAt B c) b x) → Trying f q each all modules s from A n C p (k + 1)
     trying-next {C} {p} {x} {b} {u} less eu eb ex g =
         let left : List R = rows each (k + 1) (all - (k + 1)) in
@@ -388,7 +390,8 @@ module _ (W A : List ℕ) (l : Layout) (r : Reads W A l) (from n : ℕ) where
         ap (added s from (runAt B c)) (alone-append (entriesIn s from types m) (entriesOver s from types ms))
         ∙ (added-append s from (runAt B c) (namesAlone (entriesIn s from types m)) (over ms)
         ∙ ap (λ (ws : List Way). added s from ws (over ms))
-        (ap (λ (u : Snapshot). added u from (runAt B c) (namesAlone (entriesIn u from types m))) (sym (stays-snap W A B l r (inv .grown .stays))) ∙ sym (g .same)))
+        (ap (λ (u : Snapshot). added u from (runAt B c) (namesAlone (entriesIn u from types m))) (sym (stays-snap W A B l r (inv .grown .stays)))
+        ∙ sym (g .same)))
 
     module _ {b : ℕ} (e : blockStep (snapOf W C l) m ≡ suc b) where
       its-block : blockStep s m ≡ suc b

@@ -18,7 +18,7 @@ use Rattle.nameable.proofs.Lists.{passing-few, passing-less}
 use Rattle.nameable.proofs.Reached.{wayTo, met-snoc, with-old, with-new}
 use Rattle.any_path.specs.Rows.{rowAt, targetAt, linkAt, nameAt, pathFrom, pathTo, pathAt, wayAt, runAt, Run, Stays, Offered}
 
-from-same : (f g : ℕ → Path) (k n : ℕ) → ((j : ℕ) → k ≡ suc (suc (suc j)) → f j ≡ g j) → pathFrom f k n ≡ pathFrom g k n
+pub from-same : (f g : ℕ → Path) (k n : ℕ) → ((j : ℕ) → k ≡ suc (suc (suc j)) → f j ≡ g j) → pathFrom f k n ≡ pathFrom g k n
 unfolding pathFrom
 from-same f g zero n h = refl
 from-same f g (suc zero) n h = refl
@@ -28,7 +28,7 @@ from-same f g (suc (suc (suc j))) n h = ap (λ (p : Path). into p n) (h j refl)
 -- Two areas whose first n rows agree, with links to earlier rows.
 module _ (A B : List ℕ) (n : ℕ) (linked : (i : ℕ) → i < n → linkAt A i < i + 3)
     (links : (i : ℕ) → i < n → linkAt B i ≡ linkAt A i) (names : (i : ℕ) → i < n → nameAt B i ≡ nameAt A i) where
-  path-same : (f g i : ℕ) → i < f → i < g → i < n → pathTo f B i ≡ pathTo g A i
+  pub path-same : (f g i : ℕ) → i < f → i < g → i < n → pathTo f B i ≡ pathTo g A i
   unfolding pathTo
   path-same zero g i h k r = absurd (omega arith)
   path-same (suc f) zero i h k r = absurd (omega arith)

@@ -10,6 +10,7 @@ use Rattle.snapshot.specs.Lists.{rows}
 use Rattle.snapshot.specs.Records.{Snapshot, Scope, Extern}
 use Rattle.snapshot.specs.Limits.{moduleLimit}
 use Rattle.snapshot.specs.Layouts.{tableWords}
+use Rattle.accept.specs.Valid.{Each}
 use Rattle.hir_def.specs.Items.{types, moduleItem}
 use Rattle.hir_def.specs.ItemScope.{isModuleEntry, entryModule}
 use Rattle.nameable.specs.Seen.{seen}
@@ -106,3 +107,10 @@ nameIf s from ws b n = elim b [ true ↦ added s from ws (plain n ∷ []) | fals
 -- a way means its module
 abbrev pub Meant : Snapshot → ℕ → Way → Type 0
 Meant s from w = means s from types (w .path) ≡ some (moduleItem (w .target))
+
+-- the row number i is one of rows that mean their modules
+pub record InRun (s : Snapshot) (from modules : ℕ) (A : List ℕ) (i : ℕ) : Type 0 where
+  pub n : ℕ
+  pub run : Run modules A n
+  pub below : i < n
+  pub meant : Each (Meant s from) (runAt A n)

@@ -2,7 +2,8 @@
 mod begin;
 mod expand;
 mod firsts;
+pub mod places;
 pub mod plain;
-mod rows;
+pub mod rows;
 pub mod run;
 mod singles;

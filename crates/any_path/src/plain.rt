@@ -80,7 +80,7 @@ fn prelude_named(
 }
 
 // The extern of the viewer's crate with a name, in types.
-fn externs_named(
+pub(crate) fn externs_named(
     words: &[u32],
     area: &[u32],
     l: Layout,

@@ -18,7 +18,8 @@ use Rattle.any_path.proofs.firsts.offer_externs.Tie as tie
 
 abbrev Inv-loop : tie.InvT-loop
 Inv-loop words area₀ l from n c base externs count₀ k₀ area count k =
-    Trying externNamed (λ (x : Extern). eqb (x .owner) (crateOf (snapOf words area₀ l) (from .0))) (λ j. externAt words (externBase l + externSize * j)) (l .externs) (l .modules) (snapOf words area₀ l) (from .0) area₀ n area count k
+    Trying externNamed (λ (x : Extern). eqb (x .owner) (crateOf (snapOf words area₀ l) (from .0))) (λ j. externAt words
+    (externBase l + externSize * j)) (l .externs) (l .modules) (snapOf words area₀ l) (from .0) area₀ n area count k
 
 abbrev μ-loop : tie.MeasureT-loop
 μ-loop words area₀ l from n c base externs count₀ k₀ area count k = externs - k
@@ -32,7 +33,13 @@ extern-base-requires c κs = let s = c .before .before .before .before in few-wo
 loop-holds : tie.Need-loop-holds Inv-loop μ-loop
 loop-holds c =
     let s = c .before .before .before .before .before in
-    trying-start externNamed (λ (x : Extern). eqb (x .owner) (crateOf (snapOf (now (s .args .words)) (now (s .args .area)) (s .args .l)) (s .args .from .0))) (λ j. externAt (now (s .args .words)) (externBase (s .args .l) + externSize * j)) ((s .args .l) .externs) ((s .args .l) .modules) (snapOf (now (s .args .words)) (now (s .args .area)) (s .args .l)) (s .args .from .0) (now (s .args .area)) (s .args .n) (s .pre .2)
+    let W = now (s .args .words) in
+    let A = now (s .args .area) in
+    let L = s .args .l in
+    let from = s .args .from .0 in
+    let S = snapOf W A L in
+    trying-start externNamed (λ (x : Extern). eqb (x .owner) (crateOf S from)) (λ j. externAt W (externBase L + externSize * j)) (L .externs)
+    (L .modules) S from A (s .args .n) (s .pre .2)
 
 mul-offer-owned : tie.Need-mul-offer-owned Inv-loop μ-loop
 mul-offer-owned c =
@@ -50,10 +57,14 @@ offer-owned-requires c κs =
     let k = c .before .before in
     let b = k .before in
     let s = b .before .before .before .before .before in
+    let W = now (s .args .words) in
+    let A = now (s .args .area) in
+    let L = s .args .l in
+    let from = s .args .from .0 in
     let g = k .loop .inv .grown in (
-      stays-reads (now (s .args .words)) (now (s .args .area)) (k .loop .area) (s .args .l) (s .pre .0) (g .stays),
+      stays-reads W A (k .loop .area) L (s .pre .0) (g .stays),
       s .pre .1,
-      extern-known (now (s .args .words)) (now (s .args .area)) (s .args .l) (s .pre .0) (s .args .from .0) (s .args .n) (c .before .loop-test .taken) (b .extern-base .ensures) refl,
+      extern-known W A L (s .pre .0) from (s .args .n) (c .before .loop-test .taken) (b .extern-base .ensures) refl,
       g .run,
     )
 
@@ -70,9 +81,16 @@ loop-again c =
     let k = t .before in
     let b = k .before in
     let s = b .before .before .before .before .before in
-    trying-next externNamed (λ (x : Extern). eqb (x .owner) (crateOf (snapOf (now (s .args .words)) (now (s .args .area)) (s .args .l)) (s .args .from .0))) (λ j. externAt (now (s .args .words)) (externBase (s .args .l) + externSize * j)) ((s .args .l) .externs) ((s .args .l) .modules) (snapOf (now (s .args .words)) (now (s .args .area)) (s .args .l)) (s .args .from .0) (now (s .args .area)) (s .args .n) (k .loop .inv) (t .loop-test .taken)
-    (stays-snap (now (s .args .words)) (now (s .args .area)) (k .loop .area) (s .args .l) (s .pre .0) (k .loop .inv .grown .stays))
-    (owned-here (now (s .args .words)) (s .args .l) (k .loop .k) (b .extern-base .ensures) refl (b .before .krate .ensures)) (extern-here (now (s .args .words)) (s .args .l) (k .loop .k) (b .extern-base .ensures) refl) (m .offer-owned .ensures)
+    let W = now (s .args .words) in
+    let A = now (s .args .area) in
+    let L = s .args .l in
+    let from = s .args .from .0 in
+    let S = snapOf W A L in
+    trying-next externNamed (λ (x : Extern). eqb (x .owner) (crateOf S from)) (λ j. externAt W (externBase L + externSize * j)) (L .externs)
+    (L .modules) S from A (s .args .n) (k .loop .inv) (t .loop-test .taken)
+    (stays-snap W A (k .loop .area) L (s .pre .0) (k .loop .inv .grown .stays))
+    (owned-here W L (k .loop .k) (b .extern-base .ensures) refl (b .before .krate .ensures)) (extern-here W L (k .loop .k)
+    (b .extern-base .ensures) refl) (m .offer-owned .ensures)
 
 same-length : tie.Need-same-length Inv-loop μ-loop
 same-length c = c .before .loop .inv .grown .size
@@ -82,7 +100,13 @@ unfolding externsIn
 returns c =
     let k = c .before in
     let s = k .before .before .before .before .before .before in
-    trying-done externNamed (λ (x : Extern). eqb (x .owner) (crateOf (snapOf (now (s .args .words)) (now (s .args .area)) (s .args .l)) (s .args .from .0))) (λ j. externAt (now (s .args .words)) (externBase (s .args .l) + externSize * j)) ((s .args .l) .externs) ((s .args .l) .modules) (snapOf (now (s .args .words)) (now (s .args .area)) (s .args .l)) (s .args .from .0) (now (s .args .area)) (s .args .n) (k .loop .inv) (omega (arith, c .loop-test .left))
+    let W = now (s .args .words) in
+    let A = now (s .args .area) in
+    let L = s .args .l in
+    let from = s .args .from .0 in
+    let S = snapOf W A L in
+    trying-done externNamed (λ (x : Extern). eqb (x .owner) (crateOf S from)) (λ j. externAt W (externBase L + externSize * j)) (L .externs)
+    (L .modules) S from A (s .args .n) (k .loop .inv) (omega (arith, c .loop-test .left))
 
 pub offer-externs-spec : {M : Type 1} → statement M
 offer-externs-spec =

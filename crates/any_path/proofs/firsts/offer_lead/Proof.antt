@@ -30,7 +30,12 @@ returns c =
     let t = x .before .before in
     let e = t .before in
     let s = e .before .before .before .before in
-    name-tried (snapOf (now (s .args .words)) (now (s .args .area)) (s .args .l)) (s .args .from .0) (scopeAt (now (s .args .words)) (s .args .h) .name) (sym (e .leads-on .ensures) ∙ t .if1 .taken) (x .scope-name .ensures) (o .offer-plain .ensures)
+    let W = now (s .args .words) in
+    let from = s .args .from .0 in
+    let A = now (s .args .area) in
+    let L = s .args .l in
+    let S = snapOf W A L in
+    name-tried S from (scopeAt W (s .args .h) .name) (sym (e .leads-on .ensures) ∙ t .if1 .taken) (x .scope-name .ensures) (o .offer-plain .ensures)
 
 same-length-2 : tie.Need-same-length-2
 same-length-2 c = search needs
@@ -39,7 +44,12 @@ returns-2 : tie.Need-returns-2
 returns-2 c =
     let e = c .before in
     let s = e .before .before .before .before in
-    name-passed (snapOf (now (s .args .words)) (now (s .args .area)) (s .args .l)) (s .args .from .0) (scopeAt (now (s .args .words)) (s .args .h) .name) (sym (e .leads-on .ensures) ∙ c .if1 .left) (s .pre .3)
+    let W = now (s .args .words) in
+    let from = s .args .from .0 in
+    let A = now (s .args .area) in
+    let L = s .args .l in
+    let S = snapOf W A L in
+    name-passed S from (scopeAt W (s .args .h) .name) (sym (e .leads-on .ensures) ∙ c .if1 .left) (s .pre .3)
 
 pub offer-lead-spec : {M : Type 1} → statement M
 offer-lead-spec =

@@ -16,7 +16,12 @@ returns : tie.Need-returns
 returns c =
     let o = c .before .before .before in
     let s = o .before .before .before in
-    name-passed (snapOf (now (s .args .words)) (now (s .args .area)) (s .args .l)) (s .args .from .0) (externAt (now (s .args .words)) (s .args .h) .name) (ne-eqb _ _ (λ e. c .if1 .taken (o .extern-owner .ensures ∙ e))) (s .pre .3)
+    let W = now (s .args .words) in
+    let from = s .args .from .0 in
+    let A = now (s .args .area) in
+    let L = s .args .l in
+    let S = snapOf W A L in
+    name-passed S from (externAt W (s .args .h) .name) (ne-eqb _ _ (λ e. c .if1 .taken (o .extern-owner .ensures ∙ e))) (s .pre .3)
 
 extern-name-requires : tie.Need-extern-name-requires
 extern-name-requires c κs = search needs
@@ -36,7 +41,13 @@ returns-2 c =
     let e = x .before .before in
     let o = e .before .before .before in
     let s = o .before .before .before in
-    name-tried (snapOf (now (s .args .words)) (now (s .args .area)) (s .args .l)) (s .args .from .0) (externAt (now (s .args .words)) (s .args .h) .name) (eq-eqb _ _ (sym (o .extern-owner .ensures) ∙ e .if1 .left)) (x .extern-name .ensures) (p .offer-plain .ensures)
+    let W = now (s .args .words) in
+    let from = s .args .from .0 in
+    let A = now (s .args .area) in
+    let L = s .args .l in
+    let S = snapOf W A L in
+    name-tried S from (externAt W (s .args .h) .name) (eq-eqb _ _ (sym (o .extern-owner .ensures) ∙ e .if1 .left)) (x .extern-name .ensures)
+    (p .offer-plain .ensures)
 
 pub offer-owned-spec : {M : Type 1} → statement M
 offer-owned-spec =

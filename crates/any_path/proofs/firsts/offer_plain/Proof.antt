@@ -29,8 +29,13 @@ returns c =
     let m = c .before .before in
     let p = m .before in
     let s = p .before .before .before .before in
-    plain-passed (snapOf (now (s .args .words)) (now (s .args .area)) (s .args .l)) (s .args .from .0) (s .args .name .0) (s .pre .2)
-    (ap moduleIn (sym (p .read-plain .ensures)) ∙ is-none _ (m .module-read .ensures (now (s .args .area))) (c .enum-told .given .1))
+    let A = now (s .args .area) in
+    let from = s .args .from .0 in
+    let W = now (s .args .words) in
+    let L = s .args .l in
+    let S = snapOf W A L in
+    plain-passed S from (s .args .name .0) (s .pre .2)
+    (ap moduleIn (sym (p .read-plain .ensures)) ∙ is-none _ (m .module-read .ensures A) (c .enum-told .given .1))
 
 place-read-requires : tie.Need-place-read-requires
 place-read-requires c κs = search needs
@@ -41,11 +46,16 @@ offer-requires c κs =
     let m = q .before .before .before .before in
     let p = m .before in
     let s = p .before .before .before .before in
-    let is = ap moduleIn (sym (p .read-plain .ensures)) ∙ is-some _ (m .module-read .ensures (now (s .args .area))) (q .before .before .m .given .1) in
+    let W = now (s .args .words) in
+    let A = now (s .args .area) in
+    let L = s .args .l in
+    let from = s .args .from .0 in
+    let S = snapOf W A L in
+    let is = ap moduleIn (sym (p .read-plain .ensures)) ∙ is-some _ (m .module-read .ensures A) (q .before .before .m .given .1) in
     let limits = s .pre .0 .tables .limited in
-    let known = plain-known (now (s .args .words)) (now (s .args .area)) (s .args .l) (s .pre .0) (s .args .from .0) (s .args .name .0) (s .pre .1) is in
-    let place = plain-place (now (s .args .words)) (now (s .args .area)) (s .args .l) (s .pre .0) (s .args .from .0) (s .args .name .0) (p .read-plain .ensures)
-    (q .place-read .ensures (snapOf (now (s .args .words)) (now (s .args .area)) (s .args .l)) (now (s .args .words))) in
+    let known = plain-known W A L (s .pre .0) from (s .args .name .0) (s .pre .1) is in
+    let place = plain-place W A L (s .pre .0) from (s .args .name .0) (p .read-plain .ensures)
+    (q .place-read .ensures S W) in
     (s .pre .2, limits .modules, known, omega arith, omega (arith, s .pre .3, limits .names), omega (arith, place))
 
 same-length-2 : tie.Need-same-length-2
@@ -58,8 +68,13 @@ returns-2 c =
     let m = q .before .before .before .before in
     let p = m .before in
     let s = p .before .before .before .before in
-    plain-offered (snapOf (now (s .args .words)) (now (s .args .area)) (s .args .l)) (s .args .from .0) (s .args .name .0)
-    (ap moduleIn (sym (p .read-plain .ensures)) ∙ is-some _ (m .module-read .ensures (now (s .args .area))) (q .before .before .m .given .1)) refl (o .offer .ensures)
+    let A = now (s .args .area) in
+    let from = s .args .from .0 in
+    let W = now (s .args .words) in
+    let L = s .args .l in
+    let S = snapOf W A L in
+    plain-offered S from (s .args .name .0)
+    (ap moduleIn (sym (p .read-plain .ensures)) ∙ is-some _ (m .module-read .ensures A) (q .before .before .m .given .1)) refl (o .offer .ensures)
 
 pub offer-plain-spec : {M : Type 1} → statement M
 offer-plain-spec =

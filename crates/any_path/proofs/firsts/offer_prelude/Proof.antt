@@ -28,8 +28,13 @@ returns : tie.Need-returns
 returns c =
     let g = c .before .before in
     let s = g .before .before .before .before .before in
-    prelude-passed (now (s .args .words)) (now (s .args .area)) (s .args .l) (s .pre .0) (s .args .from .0) (s .args .n) (s .pre .2)
-    (ap (preludeOf (snapOf (now (s .args .words)) (now (s .args .area)) (s .args .l))) (sym (g .before .map .ensures)) ∙ (sym (g .prelude-of .ensures (now (s .args .area))) ∙ ap (entryOf preludeAt (now (s .args .words))) (c .enum-told .given .1)))
+    let W = now (s .args .words) in
+    let A = now (s .args .area) in
+    let L = s .args .l in
+    let from = s .args .from .0 in
+    let S = snapOf W A L in
+    prelude-passed W A L (s .pre .0) from (s .args .n) (s .pre .2)
+    (ap (preludeOf S) (sym (g .before .map .ensures)) ∙ (sym (g .prelude-of .ensures A) ∙ ap (entryOf preludeAt W) (c .enum-told .given .1)))
 
 prelude-target-requires : tie.Need-prelude-target-requires
 prelude-target-requires c κs = search needs
@@ -47,8 +52,13 @@ returns-2 c =
     let q = t .before .before .before in
     let g = q .before .before in
     let s = g .before .before .before .before .before in
-    prelude-offered (now (s .args .words)) (now (s .args .area)) (s .args .l) (s .pre .0) (s .args .from .0) (s .args .n) _
-    (ap (preludeOf (snapOf (now (s .args .words)) (now (s .args .area)) (s .args .l))) (sym (g .before .map .ensures)) ∙ (sym (g .prelude-of .ensures (now (s .args .area))) ∙ ap (entryOf preludeAt (now (s .args .words))) (q .p .given .1)))
+    let W = now (s .args .words) in
+    let A = now (s .args .area) in
+    let L = s .args .l in
+    let from = s .args .from .0 in
+    let S = snapOf W A L in
+    prelude-offered W A L (s .pre .0) from (s .args .n) _
+    (ap (preludeOf S) (sym (g .before .map .ensures)) ∙ (sym (g .prelude-of .ensures A) ∙ ap (entryOf preludeAt W) (q .p .given .1)))
     (t .prelude-target .ensures) (o .offer-scope .ensures)
 
 pub offer-prelude-spec : {M : Type 1} → statement M

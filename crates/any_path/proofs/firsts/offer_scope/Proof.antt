@@ -17,7 +17,8 @@ use Rattle.any_path.proofs.firsts.offer_scope.Tie as tie
 
 abbrev Inv-loop : tie.InvT-loop
 Inv-loop words area₀ l from m n base scopes count₀ k₀ area count k =
-    Trying (asNamed (snapOf words area₀ l)) (isSeenIn (snapOf words area₀ l) (from .0) types (m .0)) (λ j. scopeAt words (scopeBase l + scopeSize * j)) (l .scopes) (l .modules) (snapOf words area₀ l) (from .0) area₀ n area count k
+    Trying (asNamed (snapOf words area₀ l)) (isSeenIn (snapOf words area₀ l) (from .0) types (m .0)) (λ j. scopeAt words
+    (scopeBase l + scopeSize * j)) (l .scopes) (l .modules) (snapOf words area₀ l) (from .0) area₀ n area count k
 
 abbrev μ-loop : tie.MeasureT-loop
 μ-loop words area₀ l from m n base scopes count₀ k₀ area count k = scopes - k
@@ -28,7 +29,13 @@ scope-base-requires c κs = let s = c .before .before in few-words _ _ _ (s .pre
 loop-holds : tie.Need-loop-holds Inv-loop μ-loop
 loop-holds c =
     let s = c .before .before .before in
-    trying-start (asNamed (snapOf (now (s .args .words)) (now (s .args .area)) (s .args .l))) (isSeenIn (snapOf (now (s .args .words)) (now (s .args .area)) (s .args .l)) (s .args .from .0) types (s .args .m .0)) (λ j. scopeAt (now (s .args .words)) (scopeBase (s .args .l) + scopeSize * j)) ((s .args .l) .scopes) ((s .args .l) .modules) (snapOf (now (s .args .words)) (now (s .args .area)) (s .args .l)) (s .args .from .0) (now (s .args .area)) (s .args .n) (s .pre .2)
+    let W = now (s .args .words) in
+    let A = now (s .args .area) in
+    let L = s .args .l in
+    let from = s .args .from .0 in
+    let S = snapOf W A L in
+    trying-start (asNamed S) (isSeenIn S from types (s .args .m .0)) (λ j. scopeAt W (scopeBase L + scopeSize * j)) (L .scopes)
+    (L .modules) S from A (s .args .n) (s .pre .2)
 
 mul-offer-lead : tie.Need-mul-offer-lead Inv-loop μ-loop
 mul-offer-lead c =
@@ -46,10 +53,13 @@ offer-lead-requires c κs =
     let k = c .before .before in
     let b = k .before in
     let s = b .before .before .before in
+    let W = now (s .args .words) in
+    let A = now (s .args .area) in
+    let L = s .args .l in
     let g = k .loop .inv .grown in (
-      stays-reads (now (s .args .words)) (now (s .args .area)) (k .loop .area) (s .args .l) (s .pre .0) (g .stays),
+      stays-reads W A (k .loop .area) L (s .pre .0) (g .stays),
       s .pre .1,
-      scope-fits (now (s .args .words)) (now (s .args .area)) (s .args .l) (s .pre .0) (c .before .loop-test .taken) (b .scope-base .ensures) refl,
+      scope-fits W A L (s .pre .0) (c .before .loop-test .taken) (b .scope-base .ensures) refl,
       g .run,
     )
 
@@ -66,9 +76,16 @@ loop-again c =
     let k = t .before in
     let b = k .before in
     let s = b .before .before .before in
-    let same = stays-snap (now (s .args .words)) (now (s .args .area)) (k .loop .area) (s .args .l) (s .pre .0) (k .loop .inv .grown .stays) in
-    trying-next (asNamed (snapOf (now (s .args .words)) (now (s .args .area)) (s .args .l))) (isSeenIn (snapOf (now (s .args .words)) (now (s .args .area)) (s .args .l)) (s .args .from .0) types (s .args .m .0)) (λ j. scopeAt (now (s .args .words)) (scopeBase (s .args .l) + scopeSize * j)) ((s .args .l) .scopes) ((s .args .l) .modules) (snapOf (now (s .args .words)) (now (s .args .area)) (s .args .l)) (s .args .from .0) (now (s .args .area)) (s .args .n) (k .loop .inv) (t .loop-test .taken) same
-    (lead-here (now (s .args .words)) (s .args .l) (k .loop .k) (b .scope-base .ensures) refl _ _ (s .args .from .0) (s .args .m .0) same) (name-here (now (s .args .words)) (s .args .l) (k .loop .k) (b .scope-base .ensures) refl) (m .offer-lead .ensures)
+    let W = now (s .args .words) in
+    let A = now (s .args .area) in
+    let L = s .args .l in
+    let from = s .args .from .0 in
+    let S = snapOf W A L in
+    let same = stays-snap W A (k .loop .area) L (s .pre .0) (k .loop .inv .grown .stays) in
+    trying-next (asNamed S) (isSeenIn S from types (s .args .m .0)) (λ j. scopeAt W (scopeBase L + scopeSize * j)) (L .scopes)
+    (L .modules) S from A (s .args .n) (k .loop .inv) (t .loop-test .taken) same
+    (lead-here W L (k .loop .k) (b .scope-base .ensures) refl _ _ from (s .args .m .0) same) (name-here W L (k .loop .k)
+    (b .scope-base .ensures) refl) (m .offer-lead .ensures)
 
 same-length : tie.Need-same-length Inv-loop μ-loop
 same-length c = c .before .loop .inv .grown .size
@@ -78,7 +95,13 @@ unfolding entriesIn
 returns c =
     let k = c .before in
     let s = k .before .before .before .before in
-    trying-done (asNamed (snapOf (now (s .args .words)) (now (s .args .area)) (s .args .l))) (isSeenIn (snapOf (now (s .args .words)) (now (s .args .area)) (s .args .l)) (s .args .from .0) types (s .args .m .0)) (λ j. scopeAt (now (s .args .words)) (scopeBase (s .args .l) + scopeSize * j)) ((s .args .l) .scopes) ((s .args .l) .modules) (snapOf (now (s .args .words)) (now (s .args .area)) (s .args .l)) (s .args .from .0) (now (s .args .area)) (s .args .n) (k .loop .inv) (omega (arith, c .loop-test .left))
+    let W = now (s .args .words) in
+    let A = now (s .args .area) in
+    let L = s .args .l in
+    let from = s .args .from .0 in
+    let S = snapOf W A L in
+    trying-done (asNamed S) (isSeenIn S from types (s .args .m .0)) (λ j. scopeAt W (scopeBase L + scopeSize * j)) (L .scopes)
+    (L .modules) S from A (s .args .n) (k .loop .inv) (omega (arith, c .loop-test .left))
 
 pub offer-scope-spec : {M : Type 1} → statement M
 offer-scope-spec =

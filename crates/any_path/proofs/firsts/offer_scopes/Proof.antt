@@ -18,21 +18,32 @@ abbrev μ-loop : tie.MeasureT-loop
 loop-holds : tie.Need-loop-holds Inv-loop μ-loop
 loop-holds c =
     let s = c .before .before in
-    around-start (now (s .args .words)) (now (s .args .area)) (s .args .l) (s .pre .0) (s .args .from .0) (s .args .n) (s .pre .1) (s .pre .2)
+    let W = now (s .args .words) in
+    let A = now (s .args .area) in
+    let L = s .args .l in
+    let from = s .args .from .0 in
+    around-start W A L (s .pre .0) from (s .args .n) (s .pre .1) (s .pre .2)
 
 offer-scope-requires : tie.Need-offer-scope-requires Inv-loop μ-loop
 offer-scope-requires c κs =
     let k = c .before in
     let s = k .before .before .before in
+    let W = now (s .args .words) in
+    let A = now (s .args .area) in
+    let L = s .args .l in
     let g = k .loop .inv .grown in
-    (stays-reads (now (s .args .words)) (now (s .args .area)) (k .loop .area) (s .args .l) (s .pre .0) (g .stays), s .pre .1, g .run)
+    (stays-reads W A (k .loop .area) L (s .pre .0) (g .stays), s .pre .1, g .run)
 
 block-step-requires : tie.Need-block-step-requires Inv-loop μ-loop
 block-step-requires c κs =
     let o = c .before .before .before in
     let k = o .before .before in
     let s = k .before .before .before in
-    (stays-reads (now (s .args .words)) (now (s .args .area)) _ (s .args .l) (s .pre .0) (around-stays (now (s .args .words)) (now (s .args .area)) (s .args .l) (s .pre .0) (s .args .from .0) (s .args .n) (k .loop .inv) (o .offer-scope .ensures)), k .loop .inv .known)
+    let W = now (s .args .words) in
+    let A = now (s .args .area) in
+    let L = s .args .l in
+    let from = s .args .from .0 in
+    (stays-reads W A _ L (s .pre .0) (around-stays W A L (s .pre .0) from (s .args .n) (k .loop .inv) (o .offer-scope .ensures)), k .loop .inv .known)
 
 enum-known-b : tie.Need-enum-known-b Inv-loop μ-loop
 enum-known-b c = search needs
@@ -52,7 +63,12 @@ returns c =
     let o = x .before .before .before .before in
     let k = o .before .before in
     let s = k .before .before .before in
-    around-done (now (s .args .words)) (now (s .args .area)) (s .args .l) (s .pre .0) (s .args .from .0) (s .args .n) (k .loop .inv) (o .offer-scope .ensures) (is-none _ (x .block-step .ensures) (c .enum-told .given .1))
+    let W = now (s .args .words) in
+    let A = now (s .args .area) in
+    let L = s .args .l in
+    let from = s .args .from .0 in
+    around-done W A L (s .pre .0) from (s .args .n) (k .loop .inv) (o .offer-scope .ensures) (is-none _ (x .block-step .ensures)
+    (c .enum-told .given .1))
 
 loop-less : tie.Need-loop-less Inv-loop μ-loop
 loop-less c =
@@ -60,7 +76,12 @@ loop-less c =
     let o = x .before .before .before .before in
     let k = o .before .before in
     let s = k .before .before .before in
-    around-less (now (s .args .words)) (now (s .args .area)) (s .args .l) (s .pre .0) (s .args .from .0) (s .args .n) (k .loop .inv) (o .offer-scope .ensures) (is-some _ (x .block-step .ensures) (c .before .b .given .1))
+    let W = now (s .args .words) in
+    let A = now (s .args .area) in
+    let L = s .args .l in
+    let from = s .args .from .0 in
+    around-less W A L (s .pre .0) from (s .args .n) (k .loop .inv) (o .offer-scope .ensures) (is-some _ (x .block-step .ensures)
+    (c .before .b .given .1))
 
 loop-again : tie.Need-loop-again Inv-loop μ-loop
 loop-again c =
@@ -68,7 +89,12 @@ loop-again c =
     let o = x .before .before .before .before in
     let k = o .before .before in
     let s = k .before .before .before in
-    around-next (now (s .args .words)) (now (s .args .area)) (s .args .l) (s .pre .0) (s .args .from .0) (s .args .n) (k .loop .inv) (o .offer-scope .ensures) (is-some _ (x .block-step .ensures) (c .before .b .given .1))
+    let W = now (s .args .words) in
+    let A = now (s .args .area) in
+    let L = s .args .l in
+    let from = s .args .from .0 in
+    around-next W A L (s .pre .0) from (s .args .n) (k .loop .inv) (o .offer-scope .ensures) (is-some _ (x .block-step .ensures)
+    (c .before .b .given .1))
 
 pub offer-scopes-spec : {M : Type 1} → statement M
 offer-scopes-spec =

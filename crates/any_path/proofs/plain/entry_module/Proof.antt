@@ -26,8 +26,10 @@ returns c =
     λ A.
     let i = c .before .before .before in
     let s = i .before .before .before .before in
+    let W = now (s .args .words) in
+    let L = s .args .l in
     mod-is _ (c .before .m .given .1)
-    (entry-item (snapOf (now (s .args .words)) A (s .args .l)) (scopeAt (now (s .args .words)) (s .args .h)) (i .item-of .ensures A)
+    (entry-item (snapOf W A L) (scopeAt W (s .args .h)) (i .item-of .ensures A)
     (i .before .before .scope-ns .ensures) (i .before .scope-definition .ensures))
 
 returns-2 : tie.Need-returns-2
@@ -35,8 +37,10 @@ returns-2 c =
     λ A.
     let i = c .before .before in
     let s = i .before .before .before .before in
+    let W = now (s .args .words) in
+    let L = s .args .l in
     def-is (c .enum-told .given .1)
-    (entry-item (snapOf (now (s .args .words)) A (s .args .l)) (scopeAt (now (s .args .words)) (s .args .h)) (i .item-of .ensures A)
+    (entry-item (snapOf W A L) (scopeAt W (s .args .h)) (i .item-of .ensures A)
     (i .before .before .scope-ns .ensures) (i .before .scope-definition .ensures))
 
 pub entry-module-spec : {M : Type 1} → statement M

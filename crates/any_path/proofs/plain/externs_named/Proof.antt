@@ -9,7 +9,12 @@ use Rattle.any_path.proofs.plain.externs_named.Tie as tie
 returns : tie.Need-returns
 returns c =
     let s = c .before .before .before in
-    externs-others (snapOf (now (s .args .words)) (now (s .args .area)) (s .args .l)) (s .args .from .0) (s .args .ns) (s .args .name .0) (c .if1 .taken)
+    let from = s .args .from .0 in
+    let W = now (s .args .words) in
+    let A = now (s .args .area) in
+    let L = s .args .l in
+    let S = snapOf W A L in
+    externs-others S from (s .args .ns) (s .args .name .0) (c .if1 .taken)
 
 krate-requires : tie.Need-krate-requires
 krate-requires c κs = search needs
@@ -20,8 +25,13 @@ extern-named-requires c κs = search needs
 returns-2 : tie.Need-returns-2
 returns-2 c =
     let s = c .before .before .before .before .before in
-    c .extern-named .ensures (now (s .args .area))
-    ∙ externs-types (snapOf (now (s .args .words)) (now (s .args .area)) (s .args .l)) (s .args .from .0) (s .args .ns) (s .args .name .0) (c .before .krate .ensures) (c .before .before .if1 .left)
+    let A = now (s .args .area) in
+    let from = s .args .from .0 in
+    let W = now (s .args .words) in
+    let L = s .args .l in
+    let S = snapOf W A L in
+    c .extern-named .ensures A
+    ∙ externs-types S from (s .args .ns) (s .args .name .0) (c .before .krate .ensures) (c .before .before .if1 .left)
 
 pub externs-named-spec : {M : Type 1} → statement M
 externs-named-spec =

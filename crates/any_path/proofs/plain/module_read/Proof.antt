@@ -29,21 +29,27 @@ unfolding moduleIn recordRead
 returns c =
     λ A.
     let s = c .before .before .before .before .before in
-    c .entry-module .ensures A ∙ sym (ap (λ (x : Reading). moduleIn (recordRead (snapOf (now (s .args .words)) A (s .args .l)) (now (s .args .words)) x)) (c .before .before .r .given .1))
+    let W = now (s .args .words) in
+    let L = s .args .l in
+    c .entry-module .ensures A ∙ sym (ap (λ (x : Reading). moduleIn (recordRead (snapOf W A L) W x)) (c .before .before .r .given .1))
 
 returns-2 : tie.Need-returns-2
 unfolding moduleIn moduleNo recordRead
 returns-2 c =
     λ A.
     let s = c .before .before .before .before .before in
-    mod-no _ (c .extern-target .ensures) ∙ sym (ap (λ (x : Reading). moduleIn (recordRead (snapOf (now (s .args .words)) A (s .args .l)) (now (s .args .words)) x)) (c .before .before .r2 .given .1))
+    let W = now (s .args .words) in
+    let L = s .args .l in
+    mod-no _ (c .extern-target .ensures) ∙ sym (ap (λ (x : Reading). moduleIn (recordRead (snapOf W A L) W x)) (c .before .before .r2 .given .1))
 
 returns-3 : tie.Need-returns-3
 unfolding plusOne moduleIn recordRead
 returns-3 c =
     λ A.
     let s = c .before .before .before in
-    sym (ap (λ (x : Reading). moduleIn (recordRead (snapOf (now (s .args .words)) A (s .args .l)) (now (s .args .words)) x)) (c .enum-told .given .1))
+    let W = now (s .args .words) in
+    let L = s .args .l in
+    sym (ap (λ (x : Reading). moduleIn (recordRead (snapOf W A L) W x)) (c .enum-told .given .1))
 
 pub module-read-spec : {M : Type 1} → statement M
 module-read-spec =

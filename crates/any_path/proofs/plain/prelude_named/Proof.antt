@@ -23,9 +23,14 @@ enum-told c = search needs
 returns : tie.Need-returns
 returns c =
     let s = c .before .before .before .before .before .before in
+    let W = now (s .args .words) in
+    let A = now (s .args .area) in
+    let from = s .args .from .0 in
+    let L = s .args .l in
+    let S = snapOf W A L in
     let g = c .before .before in
-    prelude-gone (snapOf (now (s .args .words)) (now (s .args .area)) (s .args .l)) (s .args .from .0) (s .args .ns) (s .args .name .0) (g .before .map .ensures)
-    (sym (g .prelude-of .ensures (now (s .args .area))) ∙ ap (entryOf preludeAt (now (s .args .words))) (c .enum-told .given .1))
+    prelude-gone S from (s .args .ns) (s .args .name .0) (g .before .map .ensures)
+    (sym (g .prelude-of .ensures A) ∙ ap (entryOf preludeAt W) (c .enum-told .given .1))
 
 prelude-target-requires : tie.Need-prelude-target-requires
 prelude-target-requires c κs = search needs
@@ -36,10 +41,15 @@ entry-named-requires c κs = search needs
 returns-2 : tie.Need-returns-2
 returns-2 c =
     let s = c .before .before .before .before .before .before .before .before .before in
+    let W = now (s .args .words) in
+    let A = now (s .args .area) in
+    let from = s .args .from .0 in
+    let L = s .args .l in
+    let S = snapOf W A L in
     let g = c .before .before .before .before .before in
     c .entry-named .ensures
-    ∙ prelude-there (snapOf (now (s .args .words)) (now (s .args .area)) (s .args .l)) (s .args .from .0) (s .args .ns) (s .args .name .0) (g .before .map .ensures) _
-    (sym (g .prelude-of .ensures (now (s .args .area))) ∙ ap (entryOf preludeAt (now (s .args .words))) (c .before .before .before .p .given .1)) (c .before .prelude-target .ensures)
+    ∙ prelude-there S from (s .args .ns) (s .args .name .0) (g .before .map .ensures) _
+    (sym (g .prelude-of .ensures A) ∙ ap (entryOf preludeAt W) (c .before .before .before .p .given .1)) (c .before .prelude-target .ensures)
 
 pub prelude-named-spec : {M : Type 1} → statement M
 prelude-named-spec =

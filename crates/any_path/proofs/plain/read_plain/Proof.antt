@@ -21,7 +21,13 @@ returns : tie.Need-returns
 unfolding recordRead
 returns c =
     let s = c .before .before .before .before .before .before in
-    plain-scope (snapOf (now (s .args .words)) (now (s .args .area)) (s .args .l)) (s .args .from .0) (s .args .ns) (s .args .name .0) _ (sym (c .before .before .before .scopes-named .ensures) ∙ ap (entryOf scopeAt (now (s .args .words))) (c .before .near .given .1))
+    let W = now (s .args .words) in
+    let from = s .args .from .0 in
+    let A = now (s .args .area) in
+    let L = s .args .l in
+    let S = snapOf W A L in
+    plain-scope S from (s .args .ns) (s .args .name .0) _ (sym (c .before .before .before .scopes-named .ensures) ∙ ap (entryOf scopeAt W)
+    (c .before .near .given .1))
 
 enum-told : tie.Need-enum-told
 enum-told c = search needs
@@ -37,8 +43,14 @@ unfolding recordRead
 returns-2 c =
     let n = c .before .before .before .before .before .before in
     let s = n .before .before .before in
-    plain-extern (snapOf (now (s .args .words)) (now (s .args .area)) (s .args .l)) (s .args .from .0) (s .args .ns) (s .args .name .0) (sym (n .scopes-named .ensures) ∙ ap (entryOf scopeAt (now (s .args .words))) (c .before .before .before .before .enum-told .given .1)) _
-    (sym (c .before .before .before .externs-named .ensures) ∙ ap (entryOf externAt (now (s .args .words))) (c .before .outer .given .1))
+    let W = now (s .args .words) in
+    let from = s .args .from .0 in
+    let A = now (s .args .area) in
+    let L = s .args .l in
+    let S = snapOf W A L in
+    plain-extern S from (s .args .ns) (s .args .name .0) (sym (n .scopes-named .ensures) ∙ ap (entryOf scopeAt W)
+    (c .before .before .before .before .enum-told .given .1)) _
+    (sym (c .before .before .before .externs-named .ensures) ∙ ap (entryOf externAt W) (c .before .outer .given .1))
 
 enum-told-2 : tie.Need-enum-told-2
 enum-told-2 c = search needs
@@ -58,9 +70,14 @@ returns-3 c =
     let x = c .before .before .before .before .before in
     let n = x .before .before .before in
     let s = n .before .before .before in
-    ap (Option·map (asNamed (snapOf (now (s .args .words)) (now (s .args .area)) (s .args .l)))) (sym (ap (entryOf scopeAt (now (s .args .words))) (c .enum-told3 .given .1)) ∙ c .before .before .prelude-named .ensures)
-    ∙ plain-prelude (snapOf (now (s .args .words)) (now (s .args .area)) (s .args .l)) (s .args .from .0) (s .args .ns) (s .args .name .0) (sym (n .scopes-named .ensures) ∙ ap (entryOf scopeAt (now (s .args .words))) (x .before .enum-told .given .1))
-    (sym (x .externs-named .ensures) ∙ ap (entryOf externAt (now (s .args .words))) (c .before .before .before .enum-told2 .given .1))
+    let W = now (s .args .words) in
+    let from = s .args .from .0 in
+    let A = now (s .args .area) in
+    let L = s .args .l in
+    let S = snapOf W A L in
+    ap (Option·map (asNamed S)) (sym (ap (entryOf scopeAt W) (c .enum-told3 .given .1)) ∙ c .before .before .prelude-named .ensures)
+    ∙ plain-prelude S from (s .args .ns) (s .args .name .0) (sym (n .scopes-named .ensures) ∙ ap (entryOf scopeAt W) (x .before .enum-told .given .1))
+    (sym (x .externs-named .ensures) ∙ ap (entryOf externAt W) (c .before .before .before .enum-told2 .given .1))
 
 returns-4 : tie.Need-returns-4
 unfolding recordRead
@@ -68,9 +85,14 @@ returns-4 c =
     let x = c .before .before .before .before .before .before in
     let n = x .before .before .before in
     let s = n .before .before .before in
-    ap (Option·map (asNamed (snapOf (now (s .args .words)) (now (s .args .area)) (s .args .l)))) (sym (ap (entryOf scopeAt (now (s .args .words))) (c .before .h .given .1)) ∙ c .before .before .before .prelude-named .ensures)
-    ∙ plain-prelude (snapOf (now (s .args .words)) (now (s .args .area)) (s .args .l)) (s .args .from .0) (s .args .ns) (s .args .name .0) (sym (n .scopes-named .ensures) ∙ ap (entryOf scopeAt (now (s .args .words))) (x .before .enum-told .given .1))
-    (sym (x .externs-named .ensures) ∙ ap (entryOf externAt (now (s .args .words))) (c .before .before .before .before .enum-told2 .given .1))
+    let W = now (s .args .words) in
+    let from = s .args .from .0 in
+    let A = now (s .args .area) in
+    let L = s .args .l in
+    let S = snapOf W A L in
+    ap (Option·map (asNamed S)) (sym (ap (entryOf scopeAt W) (c .before .h .given .1)) ∙ c .before .before .before .prelude-named .ensures)
+    ∙ plain-prelude S from (s .args .ns) (s .args .name .0) (sym (n .scopes-named .ensures) ∙ ap (entryOf scopeAt W) (x .before .enum-told .given .1))
+    (sym (x .externs-named .ensures) ∙ ap (entryOf externAt W) (c .before .before .before .before .enum-told2 .given .1))
 
 pub read-plain-spec : {M : Type 1} → statement M
 read-plain-spec =

@@ -32,8 +32,13 @@ returns : tie.Need-returns Inv-loop μ-loop
 unfolding scopesNamed
 returns c =
     let s = c .before .before .before .before .before .before .before in
+    let W = now (s .args .words) in
+    let A = now (s .args .area) in
+    let L = s .args .l in
+    let from = s .args .from .0 in
     let g = c .before .before .before .before .loop in
-    near-here (now (s .args .words)) (now (s .args .area)) (s .args .l) (s .pre .0) (s .args .from .0) (s .args .ns) (s .args .name .0) (g .m .0) (g .inv .1) (sym (c .before .before .before .entry-named .ensures) ∙ ap (entryOf scopeAt (now (s .args .words))) (c .before .e .given .1)) ∙ sym (g .inv .0)
+    near-here W A L (s .pre .0) from (s .args .ns) (s .args .name .0) (g .m .0) (g .inv .1) (sym
+    (c .before .before .before .entry-named .ensures) ∙ ap (entryOf scopeAt W) (c .before .e .given .1)) ∙ sym (g .inv .0)
 
 enum-told : tie.Need-enum-told Inv-loop μ-loop
 enum-told c = search needs
@@ -51,21 +56,45 @@ returns-2 : tie.Need-returns-2 Inv-loop μ-loop
 unfolding scopesNamed
 returns-2 c =
     let s = c .before .before .before .before .before .before .before .before .before in
+    let W = now (s .args .words) in
+    let A = now (s .args .area) in
+    let L = s .args .l in
+    let from = s .args .from .0 in
     let g = c .before .before .before .before .before .before .loop in
-    near-end (now (s .args .words)) (now (s .args .area)) (s .args .l) (s .pre .0) (s .args .from .0) (s .args .ns) (s .args .name .0) (g .m .0) (g .inv .1) (sym (c .before .before .before .before .before .entry-named .ensures) ∙ ap (entryOf scopeAt (now (s .args .words))) (c .before .before .before .enum-told .given .1)) (is-none _ (c .before .before .block-step .ensures) (c .enum-told2 .given .1)) ∙ sym (g .inv .0)
+    near-end W A L (s .pre .0) from (s .args .ns) (s .args .name .0) (g .m .0) (g .inv .1) (sym
+    (c .before .before .before .before .before .entry-named .ensures) ∙ ap (entryOf scopeAt W) (c .before .before .before .enum-told .given .1))
+    (is-none _ (c .before .before .block-step .ensures) (c .enum-told2 .given .1)) ∙ sym (g .inv .0)
 
 loop-less : tie.Need-loop-less Inv-loop μ-loop
 loop-less c =
     let s = c .before .before .before .before .before .before .before .before .before .before in
+    let W = now (s .args .words) in
+    let A = now (s .args .area) in
+    let L = s .args .l in
+    let from = s .args .from .0 in
     let g = c .before .before .before .before .before .before .before .loop in
-    near-less (now (s .args .words)) (now (s .args .area)) (s .args .l) (s .pre .0) (s .args .from .0) (s .args .ns) (s .args .name .0) (g .m .0) (g .inv .1) _ (is-some _ (c .before .before .before .block-step .ensures) (c .before .b .given .1))
+    near-less W A L (s .pre .0) from (s .args .ns) (s .args .name .0) (g .m .0) (g .inv .1) _ (is-some _
+    (c .before .before .before .block-step .ensures) (c .before .b .given .1))
 
 loop-again : tie.Need-loop-again Inv-loop μ-loop
 loop-again c =
     let s = c .before .before .before .before .before .before .before .before .before .before in
+    let W = now (s .args .words) in
+    let A = now (s .args .area) in
+    let L = s .args .l in
+    let from = s .args .from .0 in
     let g = c .before .before .before .before .before .before .before .loop in
-    let up = is-some _ (c .before .before .before .block-step .ensures) (c .before .b .given .1) in
-    (g .inv .0 ∙ near-on (now (s .args .words)) (now (s .args .area)) (s .args .l) (s .pre .0) (s .args .from .0) (s .args .ns) (s .args .name .0) (g .m .0) (g .inv .1) (sym (c .before .before .before .before .before .before .entry-named .ensures) ∙ ap (entryOf scopeAt (now (s .args .words))) (c .before .before .before .before .enum-told .given .1)) _ up, omega (arith, near-less (now (s .args .words)) (now (s .args .area)) (s .args .l) (s .pre .0) (s .args .from .0) (s .args .ns) (s .args .name .0) (g .m .0) (g .inv .1) _ up, g .inv .1))
+    let up = is-some _ (c .before .before .before .block-step .ensures) (c .before .b .given .1) in (
+      g .inv .0 ∙ near-on W A L (s .pre .0) from (s .args .ns) (s .args .name .0) (g .m .0) (g .inv .1) (sym
+          (c .before .before .before .before .before .before .entry-named .ensures) ∙ ap (entryOf scopeAt W)
+          (c .before .before .before .before .enum-told .given .1)) _ up,
+      omega (
+        arith,
+        near-less W A L (s .pre .0) from (s .args .ns)
+            (s .args .name .0) (g .m .0) (g .inv .1) _ up,
+        g .inv .1,
+      ),
+    )
 
 pub scopes-named-spec : {M : Type 1} → statement M
 scopes-named-spec =

@@ -16,14 +16,19 @@ take-up-requires : tie.Need-take-up-requires
 take-up-requires c κs =
     let o = c .before .before .before in
     let s = o .before .before .before .before in
-    let empty = run-empty (s .args .l .modules) (now (s .args .area)) (s .pre .2) in
-    let f = none-begun (snapOf (now (s .args .words)) (now (s .args .area)) (s .args .l)) (s .args .from .0) _ _ empty in
-    let g = none-near (snapOf (now (s .args .words)) (now (s .args .area)) (s .args .l)) (s .args .from .0) _ _ empty in
+    let W = now (s .args .words) in
+    let A = now (s .args .area) in
+    let L = s .args .l in
+    let from = s .args .from .0 in
+    let S = snapOf W A L in
+    let empty = run-empty (s .args .l .modules) A (s .pre .2) in
+    let f = none-begun S from _ _ empty in
+    let g = none-near S from _ _ empty in
     let h = o .offer-plains .ensures in (
-      all-reads (now (s .args .words)) (now (s .args .area)) (s .args .l) (s .pre .0) (s .args .from .0) true f g h,
+      all-reads W A L (s .pre .0) from true f g h,
       s .pre .1,
       h .run,
-      all-meant (now (s .args .words)) (now (s .args .area)) (s .args .l) (s .pre .0) (s .args .from .0) true f g h,
+      all-meant W A L (s .pre .0) from true f g h,
     )
 
 same-length : tie.Need-same-length
@@ -34,8 +39,13 @@ returns c =
     let t = c .before .before in
     let o = t .before .before .before .before in
     let s = o .before .before .before .before in
-    let empty = run-empty (s .args .l .modules) (now (s .args .area)) (s .pre .2) in
-    run-done (now (s .args .words)) (now (s .args .area)) (s .args .l) (s .pre .0) (s .args .from .0) true (none-begun (snapOf (now (s .args .words)) (now (s .args .area)) (s .args .l)) (s .args .from .0) _ _ empty) (none-near (snapOf (now (s .args .words)) (now (s .args .area)) (s .args .l)) (s .args .from .0) _ _ empty)
+    let W = now (s .args .words) in
+    let A = now (s .args .area) in
+    let L = s .args .l in
+    let from = s .args .from .0 in
+    let S = snapOf W A L in
+    let empty = run-empty (s .args .l .modules) A (s .pre .2) in
+    run-done W A L (s .pre .0) from true (none-begun S from _ _ empty) (none-near S from _ _ empty)
     (o .offer-plains .ensures) (t .take-up .ensures)
 
 pub run-plain-spec : {M : Type 1} → statement M
