@@ -37,12 +37,12 @@ unfolding sameItem
 item-same (Mod m) = eq-eqb (m .0) (m .0) refl
 item-same (Def ns d) = rw (eq-eqb (ns .0) (ns .0) refl) (eq-eqb (d .0) (d .0) refl)
 
-is-item : (x : Item) (o : Option Item) → isItem x o ≡ true → o ≡ some x
+pub is-item : (x : Item) (o : Option Item) → isItem x o ≡ true → o ≡ some x
 unfolding isItem
 is-item x none e = absurd (true≢false (sym e))
 is-item x (some y) e = ap some (same-item y x e)
 
-item-is : (x : Item) (o : Option Item) → o ≡ some x → isItem x o ≡ true
+pub item-is : (x : Item) (o : Option Item) → o ≡ some x → isItem x o ≡ true
 unfolding isItem
 item-is x o e = rw e (item-same x)
 

@@ -39,7 +39,7 @@ first-mapped p f q (x ∷ xs) =
     (λ t. rw (t, select, firstOf) (first-mapped p f q xs))
 
 -- tests that agree on the list find the same
-first-same : {A : Type 0} (p q : A → Bool) (xs : List A) → ((x : A) → List·Memᴰ x xs → p x ≡ q x) → firstOf p xs ≡ firstOf q xs
+pub first-same : {A : Type 0} (p q : A → Bool) (xs : List A) → ((x : A) → List·Memᴰ x xs → p x ≡ q x) → firstOf p xs ≡ firstOf q xs
 unfolding firstOf
 first-same p q [] h = refl
 first-same p q (x ∷ xs) h =
@@ -48,7 +48,7 @@ first-same p q (x ∷ xs) h =
     (λ t. rw (h x (List·Memᴰ·head refl), t, firstOf))
     (λ t. rw (h x (List·Memᴰ·head refl), t, firstOf) ih)
 
-map-of-map : {A B C : Type 0} (f : A → B) (g : B → C) (xs : List A) → map g (map f xs) ≡ map (λ x. g (f x)) xs
+pub map-of-map : {A B C : Type 0} (f : A → B) (g : B → C) (xs : List A) → map g (map f xs) ≡ map (λ x. g (f x)) xs
 map-of-map f g [] = refl
 map-of-map f g (x ∷ xs) = ap (λ (ys : List _). g (f x) ∷ ys) (map-of-map f g xs)
 
@@ -76,7 +76,7 @@ module _ (s : Snapshot) (from ns m : ℕ) where
       (λ e i. name-last (eqb (e .owner) m) (eqb (e .ns) ns) (seen s from e) (eqb (e .name) n)))
 
   -- two entries of one scope, namespace and name are one
-  entry-one : Valid s → (n : ℕ) (x y : Scope) → List·Memᴰ x (s .scopes) → List·Memᴰ y (s .scopes) → isNamed m ns n x ≡ true → isNamed m ns n y ≡ true → x ≡ y
+  pub entry-one : Valid s → (n : ℕ) (x y : Scope) → List·Memᴰ x (s .scopes) → List·Memᴰ y (s .scopes) → isNamed m ns n x ≡ true → isNamed m ns n y ≡ true → x ≡ y
   entry-one ok n x y i j h k =
       let d : Scope = record { owner = 0; ns = 0; name = 0; definition = 0; visibility = 0; number = 0; declared = 0; bits = 0; place = 0 } in
       let a = place-in d i in

@@ -66,7 +66,7 @@ module _ (s : Snapshot) (from : ℕ) where
   old-in ws [] f = Each.none
   old-in ws (p ∷ ps) f = more (f p (List·Memᴰ·head refl)) (old-in ws ps (λ q m. f q (List·Memᴰ·tail m)))
 
-  onward-append : (ns : ℕ) (ws vs : List Way) → onward s from ns (ws ++ vs) ≡ onward s from ns ws ++ onward s from ns vs
+  pub onward-append : (ns : ℕ) (ws vs : List Way) → onward s from ns (ws ++ vs) ≡ onward s from ns ws ++ onward s from ns vs
   unfolding onward
   onward-append ns [] vs = refl
   onward-append ns (w ∷ ws) vs = rw (onward-append ns ws vs) (sym (append-assoc (pathsAfter s from ns w) (onward s from ns ws) (onward s from ns vs)))
@@ -76,7 +76,7 @@ module _ (s : Snapshot) (from : ℕ) where
   tried-old ws ps = old-in (added s from ws ps) ps (λ p i m e. added-meets s from ws m i e)
 
   module _ (b : Bool) where
-    reached-end : (k : ℕ) → (vs : List Way) × (reached b s from (suc k) ≡ reached b s from k ++ vs)
+    pub reached-end : (k : ℕ) → (vs : List Way) × (reached b s from (suc k) ≡ reached b s from k ++ vs)
     unfolding reached
     reached-end k = added-end (reached b s from k) (onward s from types (reached b s from k) ++ single b s from types)
 
@@ -226,7 +226,7 @@ unfolding firstOf orFirst
 first-of-append p [] ys = refl
 first-of-append p (x ∷ xs) ys = by-test (p x) (λ t. rw (t, firstOf)) (λ t. rw (t, firstOf) (first-of-append p xs ys))
 
-first-append : (s : Snapshot) (from : ℕ) (item : Item) (ps qs : List Path) → firstTo s from item (ps ++ qs) ≡ orFirst (firstTo s from item ps) (firstTo s from item qs)
+pub first-append : (s : Snapshot) (from : ℕ) (item : Item) (ps qs : List Path) → firstTo s from item (ps ++ qs) ≡ orFirst (firstTo s from item ps) (firstTo s from item qs)
 unfolding firstTo
 first-append s from item ps qs = first-of-append _ ps qs
 
