@@ -1,22 +1,21 @@
 -- A table that is filled number by number.
-use Prim.Native.Nat.{ℕ, zero, suc, _+_, _≤_, _<_}
-use mathlib.Core.Path.{_≡_, refl, sym, _∙_, ap, ap₂, subst}
+use Prim.Native.Nat.{ℕ, _+_, _≤_, _<_}
+use mathlib.Core.Path.{_≡_, refl, sym, _∙_, ap, subst}
 use mathlib.Core.List.{List, [], _∷_, _++_}
-use mathlib.Core.Bool.{Bool, true, false, not}
+use mathlib.Core.Bool.{Bool, not}
 use native.Mathlib.Omega.{arith}
 use native.Mathlib.Numerals.{add-one}
 use borrow.Author.Count.{below-more}
-use borrow.Author.Tests.{lt-ltb, le-ltb, not-false}
-use lib.Dec.{ltb}
-use lib.ListN.{length, getD, take, set, length-append, length-set}
+use borrow.Author.Tests.{lt-ltb, le-ltb}
+use lib.ListN.{length, getD, take, set, length-set}
 use lib.Seq.{getD-set-same, getD-set-other, take-suc, take-all, length-take-le}
 use Rattle.snapshot.specs.Lists.{any}
 use Rattle.accept.proofs.Accepted.{by-test}
 use Rattle.hir_def.specs.Finds.{placeOf, select}
 use Rattle.find_path.proofs.Walks.{select-hit, select-miss}
 use Rattle.join_words.specs.Joined.{isNew, mergedNumber}
-use Rattle.join_words.proofs.Merged.{number-new, place-from}
-use Rattle.join_numbers.specs.Numbered.{Holds, Filled, numberBy, freshBy}
+use Rattle.join_words.proofs.Merged.{place-from}
+use Rattle.join_numbers.specs.Numbered.{Filled, numberBy, freshBy}
 use Rattle.join_numbers.proofs.Finding.{place-none}
 
 -- one more word

@@ -1,13 +1,12 @@
 -- How many words the kinds of a snapshot take, and where each kind begins.
-use Prim.Native.Nat.{ℕ, zero, suc, _+_, _*_, _≤_, _<_}
-use mathlib.Core.Path.{_≡_, refl, sym, _∙_, ap, ap₂, subst}
+use Prim.Native.Nat.{ℕ, _+_, _*_, _≤_, _<_}
+use mathlib.Core.Path.{_≡_, refl, _∙_, ap, ap₂}
 use mathlib.Core.List.{List, [], _∷_, _++_}
-use mathlib.Core.Bool.{true, false}
+use mathlib.Core.Bool.{false}
 use native.Mathlib.Omega.{arith}
-use native.Mathlib.Nat.{add-zero}
 use borrow.Author.Tests.{eqb-true, eqb-false, ne-eqb}
 use lib.Dec.{eqb}
-use lib.ListN.{length, getD, take, length-append}
+use lib.ListN.{length, take, length-append}
 use Rattle.snapshot.specs.Records.{Map, Module, Snapshot}
 use Rattle.snapshot.specs.Sizes.{crateSize, dependencySize, mapSize, moduleSize, childSize, preludeSize, definitionSize, scopeSize, importSize, externSize, memberSize}
 use Rattle.accept.specs.Valid.{Each, none, more}
@@ -15,7 +14,6 @@ use Rattle.accept.proofs.Accepted.{by-test}
 use Rattle.scope_edits.specs.Entries.{scopeWords}
 use Rattle.scope_edits.specs.Written.{nameWords, crateWords, dependencyWords, mapWords, moduleWords, childWords, preludeWords, definitionWords, importWords, externWords, memberWords, eachWords, wordsWithin, treeWords, kindsWords, joined, snapshotWords}
 use Rattle.join_words.proofs.Lists.{sized-length}
-use Rattle.join_words.proofs.Runs.{At, at-left, at-right}
 
 -- the words of maps and modules
 

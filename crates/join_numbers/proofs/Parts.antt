@@ -1,27 +1,25 @@
 -- A checked input when its tables are gone: what its words and its layout still say.
-use Prim.Native.Nat.{ℕ, zero, suc, _+_, _*_, _≤_, _<_}
+use Prim.Native.Nat.{ℕ, _+_, _≤_, _<_}
 use mathlib.Core.Path.{_≡_, refl, sym, _∙_, ap, ap₂, subst}
 use mathlib.Core.List.{List, [], _∷_, _++_}
 use native.Mathlib.Omega.{arith}
 use native.Mathlib.Nat.{zero-add}
 use lib.ListN.{length, getD}
-use Rattle.snapshot.specs.Limits.{areaLimit}
 use Rattle.snapshot.specs.Lists.{rows}
 use Rattle.snapshot.specs.Words.{payOf, wordsOf}
-use Rattle.snapshot.specs.Sizes.{definitionSize}
 use Rattle.snapshot.specs.Records.{Name, Module, Snapshot, nameAt}
-use Rattle.snapshot.specs.Layouts.{crateBase, dependencyBase, mapBase, childBase, preludeBase, definitionBase, scopeBase, importBase, externBase, memberBase, wordCount, tableWords, snapOf}
+use Rattle.snapshot.specs.Layouts.{crateBase, dependencyBase, mapBase, childBase, preludeBase, definitionBase, scopeBase, importBase, externBase, memberBase, tableWords, snapOf}
 use Rattle.snapshot.specs.declared.layout.Layout.{Layout}
 use Rattle.snapshot.proofs.Laws.{length-rows}
 use Rattle.accept.specs.Verdict.{accept, verdict}
-use Rattle.accept.specs.Valid.{Each, none, more, NameFits}
+use Rattle.accept.specs.Valid.{Each, more, NameFits}
 use Rattle.accept.specs.Post.{Reads}
 use Rattle.accept.proofs.Bools.{each-map}
 use Rattle.accept.proofs.Stable.{reads-stay}
 use Rattle.accept.proofs.Valid.{accepted-valid}
 use Rattle.find_path.specs.Line.{snapshotOf}
 use Rattle.scope_edits.specs.Entries.{scopeWords}
-use Rattle.scope_edits.specs.Written.{headOf, nameWords, crateWords, dependencyWords, childWords, preludeWords, definitionWords, importWords, externWords, memberWords, eachWords, treeWords, kindsWords, joined, snapshotWords}
+use Rattle.scope_edits.specs.Written.{nameWords, crateWords, dependencyWords, childWords, preludeWords, definitionWords, importWords, externWords, memberWords, eachWords, treeWords, kindsWords, joined, snapshotWords}
 use Rattle.scope_edits.proofs.Written.{accepted-written}
 use Rattle.join_words.proofs.Runs.{At, at-left, at-right, at-next, at-rows, pay-is}
 use Rattle.join_words.proofs.Stages.{NameWhole}

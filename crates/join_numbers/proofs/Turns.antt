@@ -1,16 +1,15 @@
 -- The tables of names and of definitions: a turn of each loop, in terms of both inputs.
 use Prim.Native.Nat.{ℕ, _+_, _*_, _^_, _≤_, _<_}
-use mathlib.Core.Path.{_≡_, refl, sym, _∙_, ap, ap₂}
+use mathlib.Core.Path.{_≡_, sym, _∙_, ap, ap₂}
 use mathlib.Core.List.{List}
-use mathlib.Core.Bool.{Bool, true, false, _&&_}
+use mathlib.Core.Bool.{_&&_}
 use native.Mathlib.Omega.{arith}
 use borrow.Author.Tests.{eq-eqb, ne-eqb}
 use lib.Dec.{eqb}
 use lib.ListN.{length, getD, set}
-use Rattle.snapshot.specs.Limits.{nameLimit, definitionLimit, areaLimit}
 use Rattle.snapshot.specs.Sizes.{definitionSize}
-use Rattle.snapshot.specs.Records.{Name, Definition, Snapshot, nameAt, definitionAt}
-use Rattle.snapshot.specs.Layouts.{definitionBase, nameHead, namesOf, recordsOf, tableWords}
+use Rattle.snapshot.specs.Records.{Definition, Snapshot, nameAt, definitionAt}
+use Rattle.snapshot.specs.Layouts.{definitionBase, nameHead, recordsOf}
 use Rattle.snapshot.specs.declared.layout.Layout.{Layout}
 use Rattle.snapshot.proofs.Laws.{getD-rows}
 use Rattle.accept.specs.Tests.{noName, noDefinition, sameName}
@@ -23,7 +22,7 @@ use Rattle.join_numbers.specs.Parts.{partOf, namesFrom, Part, Ready}
 use Rattle.join_numbers.specs.Numbered.{nameTable, definitionTable, Holds, isNamed, numberBy, freshBy, NamesNumbered, DefinitionsNumbered, Numbered}
 use Rattle.join_numbers.proofs.Parts.{read-is, part-of, ready-stays}
 use Rattle.join_numbers.proofs.Finding.{place-none, place-by}
-use Rattle.join_numbers.proofs.Filling.{Numbering, numbering-start, numbering-next, numbering-done, fresh-few}
+use Rattle.join_numbers.proofs.Filling.{Numbering, numbering-next, numbering-done, fresh-few}
 
 module _ (W X A : List ℕ) (l m : Layout) (r : Ready W X A l m) where
   abbrev s : Snapshot

@@ -2,7 +2,6 @@
 ghost use mathlib.Core.Path.{_≡_};
 ghost use Prim.Native.Nat.{_+_, _*_, _^_, _<_};
 ghost use lib.ListN.{length, set};
-ghost use Rattle.snapshot.specs.Limits.{nameLimit};
 ghost use Rattle.snapshot.specs.Sizes.{definitionSize};
 ghost use Rattle.snapshot.specs.Records.{definitionAt};
 ghost use Rattle.snapshot.specs.Layouts.{definitionBase};

@@ -12,7 +12,10 @@ number-definitions-requires c κs =
     let s = c .before .before .before .before .before .before .before .before in
     let a = s .args in
     let n = c .before .before .before .number-names in
-    (named-ready (now (a .first)) (now (a .second)) (now (a .area)) (a .l1) (a .l2) (s .pre) (n .last .1 .1 .0) (n .result) (n .ensures), named-holds (now (a .first)) (now (a .second)) (now (a .area)) (a .l1) (a .l2) (s .pre) (n .last .1 .1 .0) (n .result) (n .ensures))
+    let b = n .last .1 .1 .0 in (
+      named-ready (now (a .first)) (now (a .second)) (now (a .area)) (a .l1) (a .l2) (s .pre) b (n .result) (n .ensures),
+      named-holds (now (a .first)) (now (a .second)) (now (a .area)) (a .l1) (a .l2) (s .pre) b (n .result) (n .ensures),
+    )
 
 same-length : tie.Need-same-length
 same-length c = search needs
@@ -23,7 +26,8 @@ returns c =
     let a = s .args in
     let n = c .before .before .before .before .before .before .number-names in
     let d = c .before .before .number-definitions in
-    numbered (now (a .first)) (now (a .second)) (now (a .area)) (a .l1) (a .l2) (s .pre) (n .last .1 .1 .0) (d .last .1 .1 .0) (n .result) (d .result) (n .ensures) (d .ensures)
+    numbered (now (a .first)) (now (a .second)) (now (a .area)) (a .l1) (a .l2) (s .pre)
+    (n .last .1 .1 .0) (d .last .1 .1 .0) (n .result) (d .result) (n .ensures) (d .ensures)
 
 pub number-spec : {M : Type 1} → statement M
 number-spec =
