@@ -1,0 +1,66 @@
+use borrow.Author.Needs.{needs}
+use mathlib.Core.Path.{_≡_, refl, sym, ap, _∙_}
+use native.Mathlib.Omega.{arith}
+use denote.Ref.{now}
+use Rattle.snapshot.specs.Layouts.{snapOf}
+use Rattle.hir_def.proofs.Fits.{few-words}
+use Rattle.checked.proofs.Laws.{fault-known, definitions-count, modules-count}
+use Rattle.any_answer.proofs.Laws.{any-fault, any-found}
+use Rattle.any_answer.proofs.asked.any_from.Statement.{statement}
+use Rattle.any_answer.proofs.asked.any_from.Tie as tie
+
+question-fault-requires : tie.Need-question-fault-requires
+question-fault-requires c κs =
+    let s = c .before .before in few-words (now (s .args .words)) (now (s .args .area)) (s .args .l) (s .pre .0)
+
+refused-requires : tie.Need-refused-requires
+refused-requires c κs = search needs
+
+returns : tie.Need-returns
+returns c =
+    let t = c .before in
+    let f = t .before in
+    let s = f .before .before .before in
+    any-fault (snapOf (now (s .args .words)) (now (s .args .area)) (s .args .l)) (s .args .q) (f .question-fault .ensures (now (s .args .area))) (t .if1 .taken) (c .refused .ensures)
+
+item-of-requires : tie.Need-item-of-requires
+item-of-requires c κs =
+    let s = c .before .before .before .before in few-words (now (s .args .words)) (now (s .args .area)) (s .args .l) (s .pre .0)
+
+shortest-requires : tie.Need-shortest-requires
+shortest-requires c κs =
+    let e = c .before .before in
+    let f = e .before in
+    let s = f .before .before .before in
+    let k = fault-known (snapOf (now (s .args .words)) (now (s .args .area)) (s .args .l)) (s .args .q) (s .args .l .definitions) (s .args .l .modules) (definitions-count (now (s .args .words)) (now (s .args .area)) (s .args .l)) (modules-count (now (s .args .words)) (now (s .args .area)) (s .args .l))
+    (sym (e .if1 .left) ∙ f .question-fault .ensures (now (s .args .area))) in
+    (s .pre .0, k .1, omega (arith, s .pre .1))
+
+reported-requires : tie.Need-reported-requires
+reported-requires c κs = search needs
+
+same-length : tie.Need-same-length
+same-length c = search needs
+
+returns-2 : tie.Need-returns-2
+returns-2 c =
+    let h = c .before .before .before in
+    let i = h .before .before in
+    let e = i .before in
+    let f = e .before in
+    let s = f .before .before .before in
+    any-found (snapOf (now (s .args .words)) (now (s .args .area)) (s .args .l)) (s .args .q) (f .question-fault .ensures (now (s .args .area))) (e .if1 .left) (i .item-of .ensures (now (s .args .area)))
+    (c .reported .ensures _ (h .shortest .ensures .0))
+
+pub any-from-spec : {M : Type 1} → statement M
+any-from-spec =
+    tie.close
+    (tie.spec
+    question-fault-requires
+    refused-requires
+    returns
+    item-of-requires
+    shortest-requires
+    reported-requires
+    same-length
+    returns-2)

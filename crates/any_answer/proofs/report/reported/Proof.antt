@@ -1,0 +1,37 @@
+use borrow.Author.Needs.{needs}
+use mathlib.Core.Path.{_≡_, refl, sym, ap, _∙_}
+use native.Mathlib.Omega.{arith}
+use denote.Ref.{now}
+use Rattle.snapshot.specs.Layouts.{snapOf}
+use Rattle.any_answer.proofs.Laws.{told-nowhere, told-longer, told-found}
+use Rattle.any_answer.proofs.report.reported.Statement.{statement}
+use Rattle.any_answer.proofs.report.reported.Tie as tie
+
+without-requires : tie.Need-without-requires
+without-requires c κs = search needs
+
+returns : tie.Need-returns
+returns c = λ o e. told-nowhere o e (c .before .if1 .taken) (c .without .ensures)
+
+without-requires-2 : tie.Need-without-requires-2
+without-requires-2 c κs = search needs
+
+returns-2 : tie.Need-returns-2
+returns-2 c =
+    let t = c .before in
+    λ o e. told-longer o e (t .before .before .if1 .left) (t .if2 .taken) (c .without2 .ensures)
+
+returns-3 : tie.Need-returns-3
+returns-3 c =
+    let t = c .before in
+    λ o e. told-found o e (t .before .before .if1 .left) (omega (arith, t .if2 .left))
+
+pub reported-spec : {M : Type 1} → statement M
+reported-spec =
+    tie.close
+    (tie.spec
+    without-requires
+    returns
+    without-requires-2
+    returns-2
+    returns-3)
