@@ -1,5 +1,5 @@
 //! Snapshots on which the plain rules take a time that grows exponentially with the number of modules, each with one question.
-use kelumavor::record::Map;
+use kelumavor::record::{Crate, Map};
 use kelumavor::{DefinitionId, Entry, ModuleId, NameId, Namespace, SnapshotWords};
 
 use crate::library::Library;
@@ -123,7 +123,7 @@ fn crate_of(count: usize, in_block: bool) -> (SnapshotWords, Clique, ModuleId, D
     let mut words = SnapshotWords::new();
     let names = (0..count).map(|k| words.name(&format!("m{k}"))).collect();
     words.name("Item");
-    let krate = words.add_crate(Default::default());
+    let krate = words.add_crate(Crate::default());
     let own = words.add_map(Map { krate, block_in: None, no_std: false });
     let root = words.module(own, None);
     let (map, parent) = if in_block {

@@ -2,7 +2,8 @@
 //!
 //! `bench` prints tables, `bench files` that of several questions at once, `bench families` that of inputs made to be slow, `bench lists`
 //! that of import lists (feature `lists`). For a profiler,
-//! `bench check SHAPE COUNT` checks one snapshot so many times, and `bench ask SHAPE COUNT` puts so many questions to the library; both print nothing.
+//! `bench check SHAPE COUNT` checks one snapshot so many times, `bench ask SHAPE COUNT` puts so many questions to the library on a checked snapshot, and
+//! `bench recheck SHAPE COUNT` to its function that checks in every call; all print nothing.
 mod families;
 mod library;
 #[cfg(feature = "lists")]
@@ -18,7 +19,8 @@ use std::io::Write;
 use kelumavor::{Snapshot, WorkArea};
 use shapes::Shape;
 
-const USAGE: &str = "bench [files | families | lists | check SHAPE COUNT | ask SHAPE COUNT | family FAMILY SIZE COUNT | input SHAPE COUNT]
+const USAGE: &str = "bench [files | families | lists | check SHAPE COUNT | ask SHAPE COUNT | recheck SHAPE COUNT | family FAMILY SIZE COUNT
+    | input SHAPE COUNT]
   SHAPE   small, workspace, chain, dependencies, names or scope
   FAMILY  unreached, globs, layers or clique
   lists   needs the feature `lists`";
@@ -40,7 +42,14 @@ fn main() {
         #[cfg(feature = "lists")]
         ["lists"] => lists::print(),
         ["check", shape, count] => repeat_check(&named(shape), number(count)),
-        ["ask", shape, count] => questions::ask(&named(shape), number(count)),
+        ["ask", shape, count] => {
+            let shape = named(shape);
+            questions::ask(&shape, number(count), &mut library::Library::new(&shape.words));
+        }
+        ["recheck", shape, count] => {
+            let shape = named(shape);
+            questions::ask(&shape, number(count), &mut library::Checking::new(&shape.words));
+        }
         ["family", name, size, count] => families::ask(name, number(size), number(count)).unwrap_or_else(|| usage()),
         ["input", shape, count] => {
             let input = questions::input(shape, number(count)).unwrap_or_else(|| usage());

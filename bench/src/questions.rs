@@ -51,6 +51,7 @@ fn programs(words: &[u32]) -> Vec<Program<'_>> {
         #[cfg(feature = "original")]
         Program { name: "the Rust", answers: Box::new(crate::original::Original::new(words)) },
         Program { name: "the library", answers: Box::new(crate::library::Library::new(words)) },
+        Program { name: "with the check", answers: Box::new(crate::library::Checking::new(words)) },
     ]
 }
 
@@ -89,11 +90,13 @@ pub fn input(shape: &str, count: usize) -> Option<Vec<u8>> {
 /// Questions of a rewritten file.
 const FILE: usize = 40;
 
-/// The questions of a file, one at a time and all at once.
+/// The questions of a file, one at a time and all at once, on checked words, and all at once with the check.
 pub fn print_files() {
     println!("{FILE} questions at once\n");
-    println!("| snapshot | ns a question, one at a time | ns a question, at once |");
-    println!("|---|---|---|");
+    println!(
+        "| snapshot | ns a question, one at a time | ns a question, at once | ns a question, at once with the check |"
+    );
+    println!("|---|---|---|---|");
     for shape in shapes::all() {
         let all: Vec<Question> = questions(&shape).collect();
         if all.len() < FILE {
@@ -104,16 +107,18 @@ pub fn print_files() {
         let answers = library.put_all(&file);
         let single = timing::nanoseconds(|| file.iter().zip(&answers).all(|(one, answer)| library.put(one) == *answer));
         let at_once = timing::nanoseconds(|| library.put_all(&file) == answers);
-        println!("| {} | {:.0} | {:.0} |", shape.name, single / FILE as f64, at_once / FILE as f64);
+        let mut checking = crate::library::Checking::new(&shape.words);
+        let checked = timing::nanoseconds(|| checking.put_all(&file) == answers);
+        let [single, at_once, checked] = [single, at_once, checked].map(|time| time / FILE as f64);
+        println!("| {} | {single:.0} | {at_once:.0} | {checked:.0} |", shape.name);
     }
     println!();
 }
 
-/// Puts so many questions to the library.
-pub fn ask(shape: &Shape, count: usize) {
-    let mut library = crate::library::Library::new(&shape.words);
+/// Puts so many questions to a program.
+pub fn ask(shape: &Shape, count: usize, program: &mut impl Answers) {
     for question in questions(shape).cycle().take(count) {
-        std::hint::black_box(library.put(&question));
+        std::hint::black_box(program.put(&question));
     }
 }
 

@@ -1,7 +1,7 @@
 /* Kelumavor: which path names an item in a module. Link libkelumavor.a, which bindings/c/build writes to target/staticlib/.
  *
  * The functions are proved. They keep no state but what the caller lends, may be called from several threads, and take any lengths
- * and numbers. Each pointer must be that of as many elements as the length beside it says, not null even where that is 0, and what a
+ * and numbers; only those that end in _checked ask for more, which stands at each. Each pointer must be that of as many elements as the length beside it says, not null even where that is 0, and what a
  * function writes to must not overlap what else it is given. */
 #ifndef KELUMAVOR_FIND_PATH_H
 #define KELUMAVOR_FIND_PATH_H
@@ -81,7 +81,8 @@ enum kelumavor_checked {
 };
 
 /* Checks a snapshot, and answers the number of the refusal as well. For accepted words the first words of the area, one for each
- * name, are the tables of kelumavor_name. The functions below that take an area clear them: who reads names later copies them first.
+ * name, are the tables of kelumavor_name, and with those after them, kelumavor_table_words() in all, the tables of the functions that end in
+ * _checked. These keep them; the others below that take an area clear them: who reads names later copies them first.
  * Of the other words up to the 16,384th nothing is said then; those past them stay. After a refusal the area is left as by
  * kelumavor_find_path. */
 size_t kelumavor_check(const uint32_t *words, size_t words_len, uint32_t *area, size_t area_len,
@@ -189,6 +190,23 @@ bool kelumavor_find_path(const uint32_t *words, size_t words_len, uint32_t *area
  * not a multiple of KELUMAVOR_QUESTION, or a reports_len that is too small. The area is left as by kelumavor_find_path. */
 size_t kelumavor_find_paths(const uint32_t *words, size_t words_len, uint32_t *area, size_t area_len,
                             const uint32_t *questions, size_t questions_len, uint32_t *reports, size_t reports_len);
+
+/* How many words at the front of an area the tables take that kelumavor_check leaves for accepted words. Takes no area. */
+size_t kelumavor_table_words(void);
+
+/* Answers a question as kelumavor_find_path does, without the check and without clearing the area: it costs the search alone. The caller
+ * answers for this, and nothing is promised otherwise, not even that only its own memory is read: kelumavor_check accepted these very words, and wrote
+ * checked; the area has 16,384 words or more; and its first kelumavor_table_words() words are as that check left them, or a call that
+ * ends in _checked, or a copy of them. They stay so, for the next question and for kelumavor_name; of the words after them up to the 16,384th nothing is
+ * said, those past them stay. */
+bool kelumavor_find_path_checked(const uint32_t *words, size_t words_len, uint32_t *area, size_t area_len,
+                                 const size_t checked[KELUMAVOR_CHECKED], const uint32_t question[KELUMAVOR_QUESTION],
+                                 uint32_t *report, size_t report_len);
+
+/* Answers several questions as kelumavor_find_paths does, on what kelumavor_find_path_checked asks for. */
+size_t kelumavor_find_paths_checked(const uint32_t *words, size_t words_len, uint32_t *area, size_t area_len,
+                                    const size_t checked[KELUMAVOR_CHECKED], const uint32_t *questions, size_t questions_len,
+                                    uint32_t *reports, size_t reports_len);
 
 /* Windows that share one search, each with a question that waits or none. The state is the caller's; all zeros is the one in which no
  * question waits. Word 0 is the window from which the next turn counts; a row of eight words for each window follows: 1 where its

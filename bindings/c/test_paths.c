@@ -1,16 +1,17 @@
 /* For the tests: standard input has the number of a snapshot's words, the words, and questions of seven words each. Prints a line for each: the
- * path as text, or why there is none. */
+ * path as text, or why there is none; ends where the answer on checked words is another. */
 #include "find_path.h"
 
 #include <stdio.h>
 #include <string.h>
 
 static uint32_t area[KELUMAVOR_AREA];
+static uint32_t kept[KELUMAVOR_AREA];
 static uint32_t words[KELUMAVOR_MOST_WORDS + 1];
 
 int main(void)
 {
-    uint32_t count, tables[KELUMAVOR_MOST_NAMES], question[KELUMAVOR_QUESTION], report[KELUMAVOR_REPORT];
+    uint32_t count, tables[KELUMAVOR_MOST_NAMES], question[KELUMAVOR_QUESTION], report[KELUMAVOR_REPORT], again[KELUMAVOR_REPORT];
     size_t checked[KELUMAVOR_CHECKED];
     if (kelumavor_version() != KELUMAVOR_VERSION || fread(&count, sizeof count, 1, stdin) != 1 || count > KELUMAVOR_MOST_WORDS + 1 ||
         fread(words, sizeof *words, count, stdin) != count)
@@ -20,8 +21,12 @@ int main(void)
         return 1;
     }
     memcpy(tables, area, checked[KELUMAVOR_NAMES] * sizeof *tables);
+    memcpy(kept, area, kelumavor_table_words() * sizeof *kept);
     while (fread(question, sizeof *question, KELUMAVOR_QUESTION, stdin) == KELUMAVOR_QUESTION) {
         kelumavor_find_path(words, count, area, KELUMAVOR_AREA, question, report, KELUMAVOR_REPORT);
+        kelumavor_find_path_checked(words, count, kept, KELUMAVOR_AREA, checked, question, again, KELUMAVOR_REPORT);
+        if (memcmp(report, again, sizeof report) != 0)
+            return 3;
         const size_t from = question[KELUMAVOR_FROM];
         uint8_t path[KELUMAVOR_PATH_TEXT];
         const size_t n = kelumavor_path(words, count, tables, checked[KELUMAVOR_NAMES], report, from, path, sizeof path);

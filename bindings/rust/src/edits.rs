@@ -1,8 +1,8 @@
 //! A snapshot whose scope entries come and go.
+use crate::area::{self, WorkArea};
 use crate::ids::{DefinitionId, ModuleId, NameId, Namespace};
 use crate::record::{bits, namespace};
 use crate::refusal::Refusal;
-use crate::snapshot::WorkArea;
 use crate::sys;
 use crate::words::Visibility;
 
@@ -124,8 +124,8 @@ impl EditedWords {
     /// Those of the snapshot's own check; 32, 33 and 35 for the entry; 47 for a name that is there already; 48 where there is no room.
     /// A refusal changes nothing.
     pub fn add(&mut self, entry: &Entry) -> Result<(), Refusal> {
-        let area = &mut WorkArea::new();
-        refusal(sys::add_entry(&mut self.slice, &mut self.count, area.words(), &entry.words()))
+        let (slice, count) = (&mut self.slice, &mut self.count);
+        refusal(area::lent(|area| sys::add_entry(slice, count, area.words(), &entry.words())))
     }
 
     /// Removes an entry.
@@ -134,9 +134,9 @@ impl EditedWords {
     ///
     /// Those of the snapshot's own check; 47 for a name that is not there. A refusal changes nothing.
     pub fn remove(&mut self, module: ModuleId, namespace: Namespace, name: NameId) -> Result<(), Refusal> {
-        let area = &mut WorkArea::new();
         let key = [module.0 as usize, namespace as usize, name.0 as usize];
-        refusal(sys::remove_entry(&mut self.slice, &mut self.count, area.words(), key))
+        let (slice, count) = (&mut self.slice, &mut self.count);
+        refusal(area::lent(|area| sys::remove_entry(slice, count, area.words(), key)))
     }
 }
 

@@ -1,8 +1,9 @@
 //! Import lists, built from the maps.
+use crate::area::{self, WorkArea};
 use crate::ids::{CrateId, DefinitionId, ModuleId, NameId, Namespace};
 use crate::record::namespace;
 use crate::refusal::{Refusal, RefusalKind};
-use crate::snapshot::{Snapshot, WorkArea};
+use crate::snapshot::Snapshot;
 use crate::sys;
 
 /// An import of a crate: an item that can be named through it.
@@ -85,7 +86,7 @@ impl Snapshot {
     /// # Ok::<(), kelumavor::Refusal>(())
     /// ```
     pub fn import_list(&self, krate: CrateId) -> Result<ImportList, Refusal> {
-        self.import_list_in(krate, &mut WorkArea::new())
+        area::lent(|area| self.import_list_in(krate, area))
     }
 
     /// The same, in a work area of the caller's.

@@ -1,7 +1,7 @@
 //! Which path names an item in a module, for programs that rewrite Rust code.
 //!
-//! A [`Snapshot`] of a workspace is checked once; a [`Question`] asks for the path of an item as seen from a module, as
-//! rust-analyzer's `find_path` does. [`Snapshot::find_paths`] answers the questions of a whole file at once. The answers come from
+//! A [`Snapshot`] of a workspace is checked once, and keeps what the check found out; a [`Question`] asks for the path of an item as seen from a
+//! module, as rust-analyzer's `find_path` does. [`Snapshot::find_paths`] answers the questions of a whole file at once. The answers come from
 //! proved code in a static library; this crate adds the types.
 //!
 //! [`Outcome`] keeps apart what the Rust does not: [`Outcome::NoPath`] says that there is no path (under a smaller limit than
@@ -41,6 +41,7 @@
 //! ```
 #![deny(missing_docs)]
 
+mod area;
 mod edits;
 mod ids;
 mod imports;
@@ -58,6 +59,7 @@ mod version;
 mod windows;
 mod words;
 
+pub use area::WorkArea;
 pub use edits::{EditedWords, Entry};
 pub use ids::{CrateId, DefinitionId, MapId, ModuleId, NameId, Namespace};
 pub use imports::{Import, ImportList, with_import_lists};
@@ -67,7 +69,7 @@ pub use reach::{Reach, Viewer};
 pub use refusal::{Refusal, RefusalKind};
 pub use report::{FirstEmpty, Outcome, Report};
 pub use route::{Rule, Step};
-pub use snapshot::{Counts, Snapshot, WorkArea};
+pub use snapshot::{Counts, Snapshot};
 pub use text::Text;
 pub use version::VERSION;
 pub use windows::Windows;

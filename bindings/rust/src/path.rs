@@ -79,13 +79,16 @@ impl Path {
 
     /// The path of a report on a question that was asked from a module.
     pub(crate) fn new(snapshot: &Snapshot, from: ModuleId, kind: u32, names: &[u32], route: &[u32]) -> Self {
-        let ids = || names.iter().map(|name| NameId(*name));
-        let text = |name: NameId| snapshot.name(name).expect("a path has names of its snapshot");
+        let edition = snapshot.edition(from).expect("a path is seen from a module of its snapshot");
+        let ids: Box<[NameId]> = names.iter().map(|name| NameId(*name)).collect();
+        let text = |name: &NameId| snapshot.name(*name).expect("a path has names of its snapshot");
+        let names: Box<[Text]> = ids.iter().map(text).collect();
+        let written = ids.iter().zip(&names).map(|(name, text)| snapshot.written(*name, text, edition)).collect();
         Path {
             kind: PathKind::from_number(kind),
-            ids: ids().collect(),
-            names: ids().map(text).collect(),
-            written: ids().map(|name| snapshot.written(name, from)).collect(),
+            ids,
+            names,
+            written,
             route: route.iter().map(|word| Step::new(*word)).collect(),
         }
     }

@@ -1,9 +1,10 @@
 //! How much can be named from a module.
+use crate::area::{self, WorkArea};
 use crate::ids::ModuleId;
 use crate::path::Path;
 use crate::question::{Options, Prefix, Question};
 use crate::refusal::Refusal;
-use crate::snapshot::{Snapshot, WorkArea};
+use crate::snapshot::Snapshot;
 use crate::sys;
 
 /// Who asks for a reach.
@@ -83,7 +84,7 @@ impl Snapshot {
     /// # Ok::<(), kelumavor::Refusal>(())
     /// ```
     pub fn reach(&self, viewer: &Viewer) -> Result<Reach, Refusal> {
-        self.reach_in(viewer, &mut WorkArea::new())
+        area::lent(|area| self.reach_in(viewer, area))
     }
 
     /// The same, in a work area of the caller's.

@@ -1,4 +1,7 @@
 //! A checked snapshot.
+use std::sync::atomic::{AtomicU64, Ordering};
+
+use crate::area::{self, WorkArea};
 use crate::ids::{ModuleId, NameId};
 use crate::question::Question;
 use crate::record::Record;
@@ -7,36 +10,6 @@ use crate::report::Report;
 use crate::sys;
 use crate::text::Text;
 use crate::words::Edition;
-
-/// Words that the library works in. A call needs one, and leaves nothing in it that a later call reads.
-pub struct WorkArea(Box<[u32]>);
-
-impl WorkArea {
-    /// Words of a work area.
-    pub const WORDS: usize = 16384;
-
-    /// An area of that many words.
-    #[must_use]
-    pub fn new() -> Self {
-        WorkArea(vec![0; Self::WORDS].into_boxed_slice())
-    }
-
-    pub(crate) fn words(&mut self) -> &mut [u32] {
-        &mut self.0
-    }
-}
-
-impl std::fmt::Debug for WorkArea {
-    fn fmt(&self, f: &mut std::fmt::Formatter<'_>) -> std::fmt::Result {
-        f.debug_struct("WorkArea").finish_non_exhaustive()
-    }
-}
-
-impl Default for WorkArea {
-    fn default() -> Self {
-        Self::new()
-    }
-}
 
 /// How many records of each kind a snapshot has.
 #[derive(Clone, Copy, Debug, PartialEq, Eq, Hash)]
@@ -56,16 +29,31 @@ pub struct Counts {
     pub members: usize,
 }
 
-/// A snapshot that the check accepted.
-#[derive(Clone, PartialEq, Eq)]
+/// A snapshot that the check accepted. Its words never change, so no question checks them again.
+#[derive(Clone)]
 pub struct Snapshot {
     words: Box<[u32]>,
-    /// Where each name begins, as the check found it.
-    heads: Box<[u32]>,
+    /// The first words of the area as the check left it.
+    tables: Box<[u32]>,
+    /// What the check answered.
+    answer: [usize; sys::CHECKED],
     counts: Counts,
     /// The edition of each module's crate.
     editions: Box<[Edition]>,
+    /// No two checks give the same; clones have the same words and tables, and this number.
+    number: u64,
 }
+
+/// The words say all.
+impl PartialEq for Snapshot {
+    fn eq(&self, other: &Self) -> bool {
+        self.words == other.words
+    }
+}
+
+impl Eq for Snapshot {}
+
+static CHECKS: AtomicU64 = AtomicU64::new(0);
 
 impl std::fmt::Debug for Snapshot {
     fn fmt(&self, f: &mut std::fmt::Formatter<'_>) -> std::fmt::Result {
@@ -118,7 +106,7 @@ impl Snapshot {
     /// # Ok::<(), kelumavor::Refusal>(())
     /// ```
     pub fn check(words: &[u32]) -> Result<Self, Refusal> {
-        Self::check_in(words, &mut WorkArea::new())
+        area::lent(|area| Self::check_in(words, area))
     }
 
     /// Checks the words in a work area of the caller's.
@@ -127,7 +115,9 @@ impl Snapshot {
     ///
     /// Those of [`Snapshot::check`].
     pub fn check_in(words: &[u32], area: &mut WorkArea) -> Result<Self, Refusal> {
-        let [number, place, counts @ ..] = sys::check(words, &mut area.0);
+        let area = area.words();
+        let answer = sys::check(words, area);
+        let [number, place, counts @ ..] = answer;
         if number != 0 {
             return Err(Refusal::by(number, Some(place)));
         }
@@ -159,7 +149,14 @@ impl Snapshot {
             externs,
             members,
         };
-        Ok(Snapshot { words: words.into(), heads: area.0[..names].into(), counts, editions: editions(words) })
+        Ok(Snapshot {
+            words: words.into(),
+            tables: area[..sys::table_words()].into(),
+            answer,
+            counts,
+            editions: editions(words),
+            number: CHECKS.fetch_add(1, Ordering::Relaxed),
+        })
     }
 
     /// Checks words that stand in bytes, the lowest byte first.
@@ -224,13 +221,12 @@ impl Snapshot {
     /// The text of a name, where the snapshot has that name.
     #[must_use]
     pub fn name(&self, name: NameId) -> Option<Text> {
-        let mut bytes = vec![0; Text::LIMIT];
-        let length = sys::name(&self.words, &self.heads, name.0 as usize, &mut bytes);
-        if length == 0 {
+        if self.counts.names <= name.0 as usize {
             return None;
         }
-        bytes.truncate(length);
-        Some(Text(bytes))
+        let mut bytes = [0; Text::LIMIT];
+        let length = sys::name(&self.words, &self.tables, name.0 as usize, &mut bytes);
+        Some(Text(bytes[..length].into()))
     }
 
     /// The edition of a module's crate, where the snapshot has that module.
@@ -239,28 +235,36 @@ impl Snapshot {
         self.editions.get(module.0 as usize).copied()
     }
 
-    /// A name of the snapshot as it is written in a module: a keyword with `r#`.
-    pub(crate) fn written(&self, name: NameId, from: ModuleId) -> Vec<u8> {
-        let edition = self.edition(from).expect("a path is seen from a module of its snapshot");
-        let Text(text) = self.name(name).expect("a path has names of its snapshot");
-        let raw = sys::is_raw(&self.words, &self.heads, name.0 as usize, edition as usize);
-        if raw { [b"r#", &text[..]].concat() } else { text }
+    /// A name of the snapshot, with its text, as it is written in an edition: a keyword with `r#`.
+    pub(crate) fn written(&self, name: NameId, text: &Text, edition: Edition) -> Vec<u8> {
+        let raw = sys::is_raw(&self.words, &self.tables, name.0 as usize, edition as usize);
+        if raw { [b"r#", text.as_bytes()].concat() } else { text.as_bytes().into() }
     }
 
-    /// Answers a question. The library keeps nothing between calls, so it checks the words again; [`Snapshot::find_paths`]
-    /// checks them once for several questions.
+    pub(crate) fn tables(&self) -> &[u32] {
+        &self.tables
+    }
+
+    pub(crate) fn number(&self) -> u64 {
+        self.number
+    }
+
+    /// Answers a question: the words were checked, so it costs the search alone. It works in an area of its thread's, of
+    /// [`WorkArea::WORDS`] words, which it takes at the thread's first question.
     #[must_use]
     pub fn find_path(&self, question: &Question) -> Report {
-        self.find_path_in(question, &mut WorkArea::new())
+        area::lent(|area| self.find_path_in(question, area))
     }
 
     /// Answers a question in a work area of the caller's.
     pub fn find_path_in(&self, question: &Question, area: &mut WorkArea) -> Report {
-        Report::new(self, question.from, sys::find_path(&self.words, &mut area.0, &question.words()))
+        let area = area.words_with_tables(self);
+        // SAFETY: the words were accepted with this answer, they never change, and their tables are in the area.
+        let report = unsafe { sys::find_path_checked(&self.words, area, &self.answer, &question.words()) };
+        Report::new(self, question.from, report)
     }
 
-    /// Answers questions in order, each as [`Snapshot::find_path`] does, a refused one included. The library takes them by 64,
-    /// and checks the words once for all of a call.
+    /// Answers questions in order, each as [`Snapshot::find_path`] does, a refused one included.
     ///
     /// ```
     /// use kelumavor::{DefinitionId, ModuleId, Namespace, Question, Snapshot};
@@ -279,15 +283,17 @@ impl Snapshot {
     /// ```
     #[must_use]
     pub fn find_paths(&self, questions: &[Question]) -> Vec<Report> {
-        self.find_paths_in(questions, &mut WorkArea::new())
+        area::lent(|area| self.find_paths_in(questions, area))
     }
 
     /// Answers questions in order in a work area of the caller's.
     pub fn find_paths_in(&self, questions: &[Question], area: &mut WorkArea) -> Vec<Report> {
+        let area = area.words_with_tables(self);
         let mut reports = Vec::with_capacity(questions.len());
         for call in questions.chunks(sys::QUESTIONS) {
             let asked: Vec<_> = call.iter().map(Question::words).collect();
-            let told = sys::find_paths(&self.words, &mut area.0, &asked);
+            // SAFETY: as in `find_path_in`.
+            let told = unsafe { sys::find_paths_checked(&self.words, area, &self.answer, &asked) };
             let answered = call.iter().zip(told);
             reports.extend(answered.map(|(question, words)| Report::new(self, question.from, words)));
         }

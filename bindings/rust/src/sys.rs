@@ -1,5 +1,5 @@
-//! The functions of the static library. They keep no state but what is lent to them, and take any lengths and numbers; a slice is a
-//! pointer and a length.
+//! The functions of the static library. They keep no state but what is lent to them, and take any lengths and numbers but for the two on
+//! checked words, which are unsafe here; a slice is a pointer and a length.
 
 pub use crate::version::REPORT;
 
@@ -59,21 +59,25 @@ mod raw {
             edition: usize,
         ) -> bool;
 
-        pub fn kelumavor_find_path(
+        pub fn kelumavor_table_words() -> usize;
+
+        pub fn kelumavor_find_path_checked(
             words: *const u32,
             words_len: usize,
             area: *mut u32,
             area_len: usize,
+            counts: *const [usize; super::CHECKED],
             question: *const [u32; super::QUESTION],
             report: *mut u32,
             report_len: usize,
         ) -> bool;
 
-        pub fn kelumavor_find_paths(
+        pub fn kelumavor_find_paths_checked(
             words: *const u32,
             words_len: usize,
             area: *mut u32,
             area_len: usize,
+            counts: *const [usize; super::CHECKED],
             questions: *const u32,
             questions_len: usize,
             reports: *mut u32,
@@ -165,15 +169,33 @@ pub fn is_raw(words: &[u32], tables: &[u32], name: usize, edition: usize) -> boo
     unsafe { raw::kelumavor_is_raw(words.as_ptr(), words.len(), tables.as_ptr(), tables.len(), name, edition) }
 }
 
-pub fn find_path(words: &[u32], area: &mut [u32], question: &[u32; QUESTION]) -> [u32; REPORT] {
+/// Words of the tables that the check leaves at the front of the area.
+pub fn table_words() -> usize {
+    // SAFETY: it takes nothing.
+    unsafe { raw::kelumavor_table_words() }
+}
+
+/// The report of a question on words that were checked before.
+///
+/// # Safety
+///
+/// The check accepted these words and answered `counts`, and the first [`table_words`] words of the area are those that it left, or that a call
+/// on checked words left. The area has as many words as the check needs.
+pub unsafe fn find_path_checked(
+    words: &[u32],
+    area: &mut [u32],
+    counts: &[usize; CHECKED],
+    question: &[u32; QUESTION],
+) -> [u32; REPORT] {
     let mut report = [0; REPORT];
-    // SAFETY: as in `check`.
+    // SAFETY: as in `check`, and by the caller the words are checked.
     let written = unsafe {
-        raw::kelumavor_find_path(
+        raw::kelumavor_find_path_checked(
             words.as_ptr(),
             words.len(),
             area.as_mut_ptr(),
             area.len(),
+            counts,
             question,
             report.as_mut_ptr(),
             report.len(),
@@ -183,24 +205,34 @@ pub fn find_path(words: &[u32], area: &mut [u32], question: &[u32; QUESTION]) ->
     report
 }
 
-/// The report of each question; of at most `QUESTIONS`.
-pub fn find_paths(words: &[u32], area: &mut [u32], questions: &[[u32; QUESTION]]) -> Vec<[u32; REPORT]> {
+/// The report of each question, of at most `QUESTIONS`, on words that were checked before.
+///
+/// # Safety
+///
+/// As for [`find_path_checked`].
+pub unsafe fn find_paths_checked(
+    words: &[u32],
+    area: &mut [u32],
+    counts: &[usize; CHECKED],
+    questions: &[[u32; QUESTION]],
+) -> Vec<[u32; REPORT]> {
     let mut reports = vec![[0; REPORT]; questions.len()];
     let (asked, told) = (questions.as_flattened(), reports.as_flattened_mut());
-    // SAFETY: as in `check`.
+    // SAFETY: as in `check`, and by the caller the words are checked.
     let refusal = unsafe {
-        raw::kelumavor_find_paths(
+        raw::kelumavor_find_paths_checked(
             words.as_ptr(),
             words.len(),
             area.as_mut_ptr(),
             area.len(),
+            counts,
             asked.as_ptr(),
             asked.len(),
             told.as_mut_ptr(),
             told.len(),
         )
     };
-    assert_eq!(refusal, 0, "at most {QUESTIONS} questions, with a work area and words for the reports");
+    assert_eq!(refusal, 0, "at most {QUESTIONS} questions, with words for the reports");
     reports
 }
 

@@ -1,9 +1,10 @@
 //! Windows that share one search.
+use crate::area::{self, WorkArea};
 use crate::ids::ModuleId;
 use crate::question::Question;
 use crate::refusal::Refusal;
 use crate::report::Report;
-use crate::snapshot::{Snapshot, WorkArea};
+use crate::snapshot::Snapshot;
 use crate::sys;
 
 /// Up to eight windows, each with a question that waits or none. A turn serves one of them, counting round, so that each question is
@@ -60,7 +61,7 @@ impl Windows {
     /// Serves the next window that waits, counting round from the one after that served last: the window, and the report of its
     /// question on this snapshot. `None` where no question waits.
     pub fn turn(&mut self, snapshot: &Snapshot) -> Option<(usize, Report)> {
-        self.turn_in(snapshot, &mut WorkArea::new())
+        area::lent(|area| self.turn_in(snapshot, area))
     }
 
     /// Serves the next window in a work area of the caller's.
