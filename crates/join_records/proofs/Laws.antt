@@ -19,7 +19,8 @@ use Rattle.accept.proofs.Accepted.{by-test}
 use Rattle.accept.proofs.Turns.{arguments-few}
 use Rattle.scope_edits.specs.Written.{headOf, joined}
 use Rattle.join_words.specs.Joined.{Numbers, orNone, firstTo, secondTo, visibleTo}
-use Rattle.join_records.specs.Moves.{nameNumbers, definitionNumbers, numbersOf, roleTable, roleOf, definitionOf, fieldTo, movedWord, movedAt, keptAt, keptWords, walked, movedRun, runOf, baseOf, kindTo, kinds, wordsTo}
+use Rattle.join_numbers.specs.Numbered.{nameTable, definitionTable}
+use Rattle.join_records.specs.Moves.{numbersOf, roleTable, roleOf, definitionOf, fieldTo, movedWord, movedAt, keptAt, keptWords, walked, movedRun, runOf, baseOf, kindTo, kinds, wordsTo}
 use Rattle.join_records.specs.Writes.{written, Space, Wrote, Whole}
 
 -- a word moved
@@ -294,11 +295,11 @@ module _ {write : Bool} {ws : List ℕ} {to : ℕ} {T₀ left : List ℕ} {t : �
 -- the walk over the records
 
 module _ (A : List ℕ) (l : Layout) (X : List ℕ) (at n : ℕ) where
-  pub kept-name : {k r : ℕ} → k ≡ kindOf (getD X at 0) → k ≡ 1 → r ≡ getD A (nameNumbers + n) 0 → leb (l .names) r ≡ keptAt A l X at n
+  pub kept-name : {k r : ℕ} → k ≡ kindOf (getD X at 0) → k ≡ 1 → r ≡ getD A (nameTable + n) 0 → leb (l .names) r ≡ keptAt A l X at n
   unfolding keptAt
   kept-name {k} {r} a b e = rw (keptAt, eq-eqb (kindOf (getD X at 0)) 1 (sym a ∙ b), e)
 
-  pub kept-definition : {k r : ℕ} → k ≡ kindOf (getD X at 0) → k ≡ 8 → r ≡ getD A (definitionNumbers + n) 0 → leb (l .definitions) r ≡ keptAt A l X at n
+  pub kept-definition : {k r : ℕ} → k ≡ kindOf (getD X at 0) → k ≡ 8 → r ≡ getD A (definitionTable + n) 0 → leb (l .definitions) r ≡ keptAt A l X at n
   unfolding keptAt
   kept-definition {k} {r} a b e =
       let q : kindOf (getD X at 0) ≡ 8 = sym a ∙ b in

@@ -19,7 +19,8 @@ use Rattle.hir_def.specs.Finds.{select}
 use Rattle.scope_edits.specs.Written.{headOf, mapWords, moduleWords, eachWords, wordsWithin, treeWords}
 use Rattle.join_words.specs.Joined.{Numbers, mapTo, moduleTo}
 use Rattle.join_words.proofs.Runs.{At, at-left, at-right, at-next, at-rows, kind-is, pay-is, words-append}
-use Rattle.join_records.specs.Moves.{nameNumbers, definitionNumbers, numbersOf, roleOf, fieldTo, movedWord, movedAt, keptAt, keptWords, walked, movedRun, runOf}
+use Rattle.join_numbers.specs.Numbered.{nameTable, definitionTable}
+use Rattle.join_records.specs.Moves.{numbersOf, roleOf, fieldTo, movedWord, movedAt, keptAt, keptWords, walked, movedRun, runOf}
 use Rattle.join_records.proofs.Laws.{word-head, word-field, left-none, left-next, Left}
 
 -- words that stand from one place to another

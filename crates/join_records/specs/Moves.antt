@@ -8,29 +8,21 @@ use lib.ListN.{getD}
 use Rattle.snapshot.specs.Lists.{rows}
 use Rattle.snapshot.specs.Words.{kindOf, payOf, argumentsAt}
 use Rattle.snapshot.specs.Records.{Definition}
-use Rattle.snapshot.specs.Layouts.{tableWords, crateBase, dependencyBase, mapBase, childBase, preludeBase, definitionBase, scopeBase, importBase, externBase, memberBase, wordCount}
-use Rattle.snapshot.specs.Limits.{nameLimit}
+use Rattle.snapshot.specs.Layouts.{crateBase, dependencyBase, mapBase, childBase, preludeBase, definitionBase, scopeBase, importBase, externBase, memberBase, wordCount}
 use Rattle.snapshot.specs.declared.layout.Layout.{Layout}
 use Rattle.scope_edits.specs.Written.{headOf, joined}
+use Rattle.join_numbers.specs.Numbered.{nameTable, definitionTable}
 use Rattle.join_words.specs.Joined.{Numbers, orNone, firstTo, secondTo, visibleTo}
 
--- where the new numbers of the second stand in the work area, of its names and of its definitions
-
-abbrev pub nameNumbers : ℕ
-nameNumbers = tableWords
-
-abbrev pub definitionNumbers : ℕ
-definitionNumbers = nameNumbers + nameLimit
-
--- the numbers of the second, by these tables and the layout of the first
+-- the numbers of the second, by its tables in the work area and the layout of the first
 abbrev pub numbersOf : List ℕ → Layout → Numbers
 numbersOf A l =
     record {
       crates = λ n. l .crates + n;
       maps = λ n. l .maps + n;
       modules = λ n. l .modules + n;
-      names = λ n. getD A (nameNumbers + n) 0;
-      definitions = λ n. getD A (definitionNumbers + n) 0;
+      names = λ n. getD A (nameTable + n) 0;
+      definitions = λ n. getD A (definitionTable + n) 0;
     }
 
 -- What a word of a record numbers: 0 nothing, 1 a crate, 2 a map, 3 a module, 4 a module +1 or none, 5 a name, 6 a definition, 7 and 8 what
@@ -103,8 +95,8 @@ movedAt e X at = rows (movedWord e X at) 0 (1 + argumentsAt X at)
 unfoldable pub keptAt : List ℕ → Layout → List ℕ → ℕ → ℕ → Bool
 keptAt A l X at n =
     elim (eqb (kindOf (getD X at 0)) 1) [
-      | true ↦ leb (l .names) (getD A (nameNumbers + n) 0)
-      | false ↦ elim (eqb (kindOf (getD X at 0)) 8) [ true ↦ leb (l .definitions) (getD A (definitionNumbers + n) 0) | false ↦ true ]
+      | true ↦ leb (l .names) (getD A (nameTable + n) 0)
+      | false ↦ elim (eqb (kindOf (getD X at 0)) 8) [ true ↦ leb (l .definitions) (getD A (definitionTable + n) 0) | false ↦ true ]
     ]
 
 -- its words, if it is new

@@ -3,24 +3,15 @@ ghost use mathlib.Core.Path.{_≡_};
 ghost use Prim.Native.Nat.{_+_, _^_, _<_};
 ghost use lib.ListN.{getD};
 ghost use Rattle.join_words.specs.Joined.{orNone, firstTo, secondTo, visibleTo};
-ghost use Rattle.join_records.specs.Moves.{nameNumbers, definitionNumbers, numbersOf, roleOf, definitionOf, fieldTo, movedWord};
+ghost use Rattle.join_numbers.specs.Numbered.{nameTable, definitionTable};
+ghost use Rattle.join_records.specs.Moves.{numbersOf, roleOf, definitionOf, fieldTo, movedWord};
+use join_numbers::tables::Moved;
 use snapshot::ids::DefinitionKind;
-use snapshot::ids::Name;
 use snapshot::kind::Kind;
 use snapshot::layout::Layout;
-use snapshot::table::Tables;
 use snapshot::words::field;
 use snapshot::words::kind;
 use snapshot::words::payload;
-
-/// Where the new numbers of the second's names and definitions stand in the work area.
-pub struct Numbers(pub usize);
-
-impl Numbers {
-    pub const NAMES: usize = Tables::END;
-
-    pub const DEFINITIONS: usize = Numbers::NAMES + Name::LIMIT;
-}
 
 // What a word of a record numbers. FIRST and SECOND say it of a definition's, by its kind; SEEN of a visibility's.
 struct Role(usize);
@@ -158,16 +149,16 @@ fn role_of(k: usize, i: usize) -> usize
 
 /// The new number of a name of the second.
 pub fn name_to(area: &[u32], n: usize) -> usize
-    ensures { λ r. ⌜ r ≡ getD (now (area .entry)) (nameNumbers + n) 0 ⌝ }
+    ensures { λ r. ⌜ r ≡ getD (now (area .entry)) (nameTable + n) 0 ⌝ }
 {
-    field(area, Numbers::NAMES, n)
+    field(area, Moved::NAMES, n)
 }
 
 /// The new number of a definition of the second.
 pub fn definition_to(area: &[u32], n: usize) -> usize
-    ensures { λ r. ⌜ r ≡ getD (now (area .entry)) (definitionNumbers + n) 0 ⌝ }
+    ensures { λ r. ⌜ r ≡ getD (now (area .entry)) (definitionTable + n) 0 ⌝ }
 {
-    field(area, Numbers::DEFINITIONS, n)
+    field(area, Moved::DEFINITIONS, n)
 }
 
 // The first number of a definition with its kind: a variant's parent, a builtin's name, or a module.

@@ -1,0 +1,4 @@
+pub mod Low
+pub mod Steps
+pub mod Words
+pub mod Laws

@@ -1,0 +1,2 @@
+//! Two snapshots joined, for every input.
+pub mod join;
