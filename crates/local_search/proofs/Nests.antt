@@ -34,7 +34,8 @@ use Rattle.distances.specs.Distances.{distancesEnd}
 use Rattle.tight_rows.specs.Rows.{rowsAt, Rows}
 use Rattle.tight_rows.proofs.Keeping.{rows-at, rows-set}
 use Rattle.local_search.proofs.Knowns.{locations-there}
-use Rattle.local_search.proofs.Searches.{bounds-at}
+use Rattle.walk_once.specs.Walked.{Walked}
+use Rattle.local_search.proofs.Searches.{bounds-at, walked-kept}
 
 -- An open level: its header and its run stand, and all below is as where the loop began.
 pub record Open (A₁ : List ℕ) (s : Stack) (item : Item) (n : ℕ) (A : List ℕ) : Type 0 where
@@ -191,7 +192,10 @@ module _ (W A₀ : List ℕ) (l : Layout) (x : FindPathCtx) (left : ℕ) (item :
   head-rows =
       rows-set W (set A₀ (s .top) code) l x (s .top + 1) (s .place)
       (reads-at W A₀ (set A₀ (s .top) code) l (s .top) (y .reads) (y .tables) (take-set-le (s .top) A₀ (s .top) code (omega arith)))
-      (rows-set W A₀ l x (s .top) code (y .reads) (y .rows) (y .numbers) (omega (arith, room))) (omega (arith, y .numbers)) (omega (arith, room))
+      (rows-set W A₀ l x (s .top) code (y .reads) (y .rows) (omega (arith, y .numbers)) (omega (arith, room))) (omega (arith, y .numbers)) (omega (arith, room))
+
+  pub head-walked : Walked (snapOf W H l) (x .from .0) H
+  head-walked = walked-kept H y (head-below A₀ s code)
 
   pub head-space : s .top + 3 + moduleLimit ≤ length H
   head-space = omega (arith, head-size A₀ s code, room, y .area)
@@ -261,6 +265,7 @@ module _ (W A₀ : List ℕ) (l : Layout) (x : FindPathCtx) (left : ℕ) (item :
             tables = omega (arith, y .tables);
             numbers = omega (arith, y .numbers);
             bounds = bounds-at B y (cursor-open .below ∙ start-below);
+            walked = walked-kept B y (cursor-open .below ∙ start-below);
             rows =
                 rows-set W A l x (s .top + 2) k (reads-at W A₀ A l (s .top) (y .reads) (y .tables) (v .opened .below ∙ start-below)) (v .rows) (omega (arith, y .numbers))
                 (omega (arith, room));

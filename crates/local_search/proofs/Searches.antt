@@ -40,6 +40,9 @@ use Rattle.distances.specs.Post.{Ready, Bounded}
 use Rattle.local_levels.specs.declared.Stack.{Stack}
 use Rattle.local_levels.specs.Levels.{Small, levelsOf}
 use Rattle.tight_rows.specs.Rows.{rowsAt, rowAt, lastPlace, rowOf, rowPlace, rowFlag, Entered, Row}
+use Rattle.walk_once.specs.Walked.{walkEnd, Walked}
+use Rattle.walk_once.specs.Post.{Kept}
+use Rattle.walk_once.proofs.Walking.{walked-at}
 use Rattle.tight_rows.specs.Post.{Cleared, Tight}
 use Rattle.tight_rows.proofs.Keeping.{imports-known, row-asked, row-kept, rows-put, rows-none}
 use Rattle.local_search.specs.Post.{Searchable, Answered}
@@ -56,6 +59,7 @@ searchable-less j y h =
       tables = y .tables;
       numbers = y .numbers;
       bounds = y .bounds;
+      walked = y .walked;
       rows = y .rows;
       space = omega (arith, y .space);
       deep = omega (arith, y .deep);
@@ -70,6 +74,13 @@ bounds-at {W} {A} {l} {x} {left} {s} B y e k m h n =
     let a = agree B A (s .top) e (tableWords + m) (omega (arith, y .numbers, h, y .reads .tables .limited .modules)) in
     let b = y .bounds k m h (subst (λ (z : Snapshot). near z x [] k m ≡ true) (snap-at W A B l (s .top) (y .reads) (y .tables) e) n) in
     omega (arith, a, b)
+
+-- ... and so does the walk
+pub walked-kept : {W A : List ℕ} {l : Layout} {x : FindPathCtx} {left : ℕ} {s : Stack} (B : List ℕ) → Searchable W A l x left s → take (s .top) B ≡ take (s .top) A
+    → Walked (snapOf W B l) (x .from .0) B
+walked-kept {W} {A} {l} {x} {left} {s} B y e =
+    subst (λ (z : Snapshot). Walked z (x .from .0) B) (sym (snap-at W A B l (s .top) (y .reads) (y .tables) e))
+    (walked-at (snapOf W A l) (x .from .0) A B (y .walked) (take-less B A walkEnd (s .top) (y .numbers) e))
 
 -- the items that are asked for fit a word
 pub asked-small : (W A : List ℕ) (l : Layout) → Reads W A l → (item : Item) → Asked l item → Small item
@@ -305,46 +316,53 @@ module _ (W A : List ℕ) (l : Layout) (x : FindPathCtx) (left : ℕ) (s : Stack
             rows = a .rows;
           }
 
--- nothing is under way
-module _ (W A₀ : List ℕ) (l : Layout) (x : FindPathCtx) (p : Prepared W A₀ l x) (N : List ℕ) (n₀ : Bounded W A₀ l x N) (A : List ℕ) (v : Cleared N (l .modules) A) where
-  n : Bounded W A₀ l x A
-  n =
-      record {
-        bounds = λ k m h o.
-            let a = agree A N rowsAt (v .below) (tableWords + m) (omega (arith, h, p .reads .tables .limited .modules)) in
-            let b = n₀ .bounds k m h o in
-            omega (arith, a, b);
-        tables = take-less A N tableWords rowsAt (omega arith) (v .below) ∙ n₀ .tables;
-      }
+-- nothing is under way: the numbers are set, the walk is taken, and the rows are cleared
+module _ (W A₀ : List ℕ) (l : Layout) (x : FindPathCtx) (p : Prepared W A₀ l x) (N : List ℕ) (n : Bounded W A₀ l x N) where
+  pub numbers-reads : Reads W N l
+  numbers-reads = same-reads W A₀ N l (n .tables) (p .reads)
 
-  sn : snapOf W A l ≡ snapOf W A₀ l
-  sn = same-snap W A₀ A l (n .tables) (p .reads)
+  module _ (K : List ℕ) (w : Kept W N l (x .from .0) K) (A : List ℕ) (v : Cleared K (l .modules) A) where
+    tables-same : take tableWords A ≡ take tableWords A₀
+    tables-same =
+        take-less A K tableWords rowsAt (omega arith) (v .below) ∙ take-less K N tableWords distancesEnd (omega arith) (w .below) ∙ n .tables
 
-  pub numbers-reads : Reads W A l
-  numbers-reads = same-reads W A₀ A l (n .tables) (p .reads)
+    sn : snapOf W A l ≡ snapOf W A₀ l
+    sn = same-snap W A₀ A l tables-same (p .reads)
 
-  pub search-start : (left : ℕ) → left ≤ pathLimit → length A ≡ length A₀ → Searchable W A l x left (record { top = distancesEnd; place = 0; depth = 0 })
-  search-start left h z =
-      record {
-        reads = numbers-reads;
-        from = p .from;
-        area = z ∙ p .area;
-        tables = omega arith;
-        numbers = omega arith;
-        bounds = subst (λ (s : Snapshot). Bounds s x (l .modules) (distance A)) (sym sn) (n .bounds);
-        rows = rows-none W A l x (v .none);
-        space = omega arith;
-        deep = omega arith;
-        chain = chain-none A 0 distancesEnd;
-        under = omega arith;
-      }
+    numbers-same : (m : ℕ) → m < l .modules → distance A m ≡ distance N m
+    numbers-same m h =
+        let b = p .reads .tables .limited .modules in
+        agree A K rowsAt (v .below) (tableWords + m) (omega (arith, h, b)) ∙ agree K N distancesEnd (w .below) (tableWords + m) (omega (arith, h, b))
 
-  pub search-done : (left : ℕ) (item : Item) (B : List ℕ) (r : Choice)
-      → Answered W A l x distancesEnd (calculateBestPathLocal (snapOf W A l) x (searchLocal (snapOf W A l) x) left (levelsOf A 0 0) item) B r
-      → Chosen A₀ (bestLocal (snapOf W A₀ l) x left item) B r
-  unfolding bestLocal levelsOf
-  search-done left item B r a =
-      record {
-        same = a .same ∙ ap (λ (s : Snapshot). bestLocal s x left item) sn;
-        tables = take-less B A tableWords distancesEnd (omega arith) (a .below) ∙ n .tables;
-      }
+    pub search-start : (left : ℕ) → left ≤ pathLimit → length A ≡ length A₀ → Searchable W A l x left (record { top = walkEnd; place = 0; depth = 0 })
+    search-start left h z =
+        record {
+          reads = same-reads W A₀ A l tables-same (p .reads);
+          from = p .from;
+          area = z ∙ p .area;
+          tables = omega arith;
+          numbers = omega arith;
+          bounds = λ k m q o.
+              let a = numbers-same m q in
+              let b = n .bounds k m q (subst (λ (s : Snapshot). near s x [] k m ≡ true) sn o) in
+              omega (arith, a, b);
+          walked =
+              walked-at (snapOf W A l) (x .from .0) K A
+              (subst (λ (s : Snapshot). Walked s (x .from .0) K) (same-snap W A₀ N l (n .tables) (p .reads) ∙ sym sn) (w .walked))
+              (take-less A K walkEnd rowsAt (omega arith) (v .below));
+          rows = rows-none W A l x (v .none);
+          space = omega arith;
+          deep = omega arith;
+          chain = chain-none A 0 walkEnd;
+          under = omega arith;
+        }
+
+    pub search-done : (left : ℕ) (item : Item) (B : List ℕ) (r : Choice)
+        → Answered W A l x walkEnd (calculateBestPathLocal (snapOf W A l) x (searchLocal (snapOf W A l) x) left (levelsOf A 0 0) item) B r
+        → Chosen A₀ (bestLocal (snapOf W A₀ l) x left item) B r
+    unfolding bestLocal levelsOf
+    search-done left item B r a =
+        record {
+          same = a .same ∙ ap (λ (s : Snapshot). bestLocal s x left item) sn;
+          tables = take-less B A tableWords walkEnd (omega arith) (a .below) ∙ tables-same;
+        }

@@ -19,7 +19,6 @@ use hir_def::Entry;
 use hir_def::Item;
 use local_levels::Stack;
 use local_levels::levels::code_of;
-use local_levels::locations::find_local_import_locations;
 use path_offers::offers::importable_name;
 use path_offers::offers::offer_entry;
 use path_rules::choices::length_left;
@@ -35,6 +34,9 @@ use tight_rows::from_row;
 use tight_rows::is_tight;
 use tight_rows::row_of;
 use tight_rows::row_place;
+use walk_once::Walk;
+use walk_once::locations;
+use walk_once::take_walk;
 
 // One module of the run: its path with the item's name there, against the choice so far, unless the module is too far.
 fn location(
@@ -140,7 +142,7 @@ fn local_at(
         place: s.place,
         depth: s.depth,
     };
-    let n = find_local_import_locations(words, area, l, x.from, here, item);
+    let n = locations(words, area, l, x.from, here, item);
     let up = Stack {
         top: base + n,
         place: base,
@@ -172,9 +174,10 @@ pub fn calculate_best_path_local(
     ensures { λ r. ⌜ Chosen (now (area .entry)) (bestLocal (snapOf (now (words .entry)) (now (area .entry)) l) x left item) (now (area .exit)) r ⌝ }
 {
     set_distances(words, area, l, x);
+    take_walk(words, area, l, x.from, item);
     clear_rows(area, l.modules);
     let none = Stack {
-        top: Distances::END,
+        top: Walk::END,
         place: 0,
         depth: 0,
     };

@@ -7,7 +7,7 @@ use Rattle.snapshot.specs.Layouts.{snapOf}
 use Rattle.snapshot.specs.Records.{scopeAt}
 use Rattle.local_levels.specs.Levels.{levelsOf}
 use Rattle.local_levels.proofs.Stacks.{chain-wider}
-use Rattle.local_search.proofs.Nests.{Nesting, room, head-reads, head-space, head-chain, start-few, nesting-start, loop-size, nesting-call, nesting-known, nesting-next, nesting-done}
+use Rattle.local_search.proofs.Nests.{Nesting, room, head-reads, head-walked, head-space, head-chain, start-few, nesting-start, loop-size, nesting-call, nesting-known, nesting-next, nesting-done}
 use Rattle.local_search.proofs.Searches.{module-small, search-none, search-rules, search-on, unruled, location-far, location-none, location-shorter, location-call, location-reads, location-few, location-text, location-steps, location-some, entry-at, tight-none, made-asked, made-done, row-two, row-entered, owner-known, owner-call, owner-reads, owner-found, owner-few, owner-steps, owner-text, owner-done}
 use Prim.Native.Nat.{ℕ, _<_, _+_, _-_, _*_}
 use borrow.Fn.Kinds.{In}
@@ -25,7 +25,7 @@ use Rattle.local_search.proofs.tight_at.Reads as tight-at
 use Rattle.local_search.proofs.tight_at.Kinds as tight-at-kinds
 use Rattle.local_search.proofs.+find_path_for_module_local+local_at+location+tight_at.Lts-tight_at as tight-at-lts
 use Rattle.local_levels.proofs.levels.code_of.Reads as code-of-reads
-use Rattle.local_levels.proofs.locations.find_local_import_locations.Reads as find-local-import-locations-reads
+use Rattle.walk_once.proofs.locations.Reads as locations-reads
 use Rattle.path_choices.proofs.choices.length_left.Reads as length-left-reads
 use Rattle.path_choices.proofs.choices.nothing.Reads as nothing-reads
 use Rattle.path_offers.proofs.offers.importable_name.Reads as importable-name-reads
@@ -315,8 +315,8 @@ local-at-μ-loop words area₀ l x left item s top base code n up best₀ k₀ a
 local-at-add-base : (t : ℕ) → local-at-lts.Need-add-base (
   code-of-reads.Asked,
   code-of-reads.Learnt,
-  find-local-import-locations-reads.Asked,
-  find-local-import-locations-reads.Learnt,
+  locations-reads.Asked,
+  locations-reads.Learnt,
   nothing-reads.Asked,
   nothing-reads.Learnt,
   word-reads.Asked,
@@ -331,8 +331,8 @@ local-at-add-base t c =
 local-at-code-of-requires : (t : ℕ) → local-at-lts.Need-code-of-requires (
   code-of-reads.Asked,
   code-of-reads.Learnt,
-  find-local-import-locations-reads.Asked,
-  find-local-import-locations-reads.Learnt,
+  locations-reads.Asked,
+  locations-reads.Learnt,
   nothing-reads.Asked,
   nothing-reads.Learnt,
   word-reads.Asked,
@@ -346,8 +346,8 @@ local-at-code-of-requires t c κs =
 local-at-cast-area : (t : ℕ) → local-at-lts.Need-cast-area (
   code-of-reads.Asked,
   code-of-reads.Learnt,
-  find-local-import-locations-reads.Asked,
-  find-local-import-locations-reads.Learnt,
+  locations-reads.Asked,
+  locations-reads.Learnt,
   nothing-reads.Asked,
   nothing-reads.Learnt,
   word-reads.Asked,
@@ -361,8 +361,8 @@ local-at-cast-area t c =
 local-at-mul-area : (t : ℕ) → local-at-lts.Need-mul-area (
   code-of-reads.Asked,
   code-of-reads.Learnt,
-  find-local-import-locations-reads.Asked,
-  find-local-import-locations-reads.Learnt,
+  locations-reads.Asked,
+  locations-reads.Learnt,
   nothing-reads.Asked,
   nothing-reads.Learnt,
   word-reads.Asked,
@@ -377,8 +377,8 @@ local-at-mul-area t c =
 local-at-slice-write-area : (t : ℕ) → local-at-lts.Need-slice-write-area (
   code-of-reads.Asked,
   code-of-reads.Learnt,
-  find-local-import-locations-reads.Asked,
-  find-local-import-locations-reads.Learnt,
+  locations-reads.Asked,
+  locations-reads.Learnt,
   nothing-reads.Asked,
   nothing-reads.Learnt,
   word-reads.Asked,
@@ -393,8 +393,8 @@ local-at-slice-write-area t c =
 local-at-cast-area-2 : (t : ℕ) → local-at-lts.Need-cast-area-2 (
   code-of-reads.Asked,
   code-of-reads.Learnt,
-  find-local-import-locations-reads.Asked,
-  find-local-import-locations-reads.Learnt,
+  locations-reads.Asked,
+  locations-reads.Learnt,
   nothing-reads.Asked,
   nothing-reads.Learnt,
   word-reads.Asked,
@@ -409,8 +409,8 @@ local-at-cast-area-2 t c =
 local-at-add-area : (t : ℕ) → local-at-lts.Need-add-area (
   code-of-reads.Asked,
   code-of-reads.Learnt,
-  find-local-import-locations-reads.Asked,
-  find-local-import-locations-reads.Learnt,
+  locations-reads.Asked,
+  locations-reads.Learnt,
   nothing-reads.Asked,
   nothing-reads.Learnt,
   word-reads.Asked,
@@ -425,8 +425,8 @@ local-at-add-area t c =
 local-at-mul-area-2 : (t : ℕ) → local-at-lts.Need-mul-area-2 (
   code-of-reads.Asked,
   code-of-reads.Learnt,
-  find-local-import-locations-reads.Asked,
-  find-local-import-locations-reads.Learnt,
+  locations-reads.Asked,
+  locations-reads.Learnt,
   nothing-reads.Asked,
   nothing-reads.Learnt,
   word-reads.Asked,
@@ -441,8 +441,8 @@ local-at-mul-area-2 t c =
 local-at-slice-write-area-2 : (t : ℕ) → local-at-lts.Need-slice-write-area-2 (
   code-of-reads.Asked,
   code-of-reads.Learnt,
-  find-local-import-locations-reads.Asked,
-  find-local-import-locations-reads.Learnt,
+  locations-reads.Asked,
+  locations-reads.Learnt,
   nothing-reads.Asked,
   nothing-reads.Learnt,
   word-reads.Asked,
@@ -454,12 +454,12 @@ local-at-slice-write-area-2 t c =
     let s = c .before .before .before .before in
     omega (arith, s .pre .1 .1 .space, s .pre .1 .0, s .pre .1 .1 .area, length-set (now (s .args .area)) (s .args .s .top) (c .before .code-of .result))
 
-local-at-find-local-import-locations-requires :
-    (t : ℕ) → local-at-lts.Need-find-local-import-locations-requires (
+local-at-locations-requires :
+    (t : ℕ) → local-at-lts.Need-locations-requires (
       code-of-reads.Asked,
       code-of-reads.Learnt,
-      find-local-import-locations-reads.Asked,
-      find-local-import-locations-reads.Learnt,
+      locations-reads.Asked,
+      locations-reads.Learnt,
       nothing-reads.Asked,
       nothing-reads.Learnt,
       word-reads.Asked,
@@ -467,16 +467,16 @@ local-at-find-local-import-locations-requires :
       location-below t,
       location.Post,
     ) (local-at-at t) local-at.Post local-at-Inv-loop local-at-μ-loop
-local-at-find-local-import-locations-requires t c κs =
+local-at-locations-requires t c κs =
     let o = c .before .before in
     let s = o .before .before .before in
-    (head-reads (now (s .args .words)) (now (s .args .area)) (s .args .l) (s .args .x) (s .args .left) (s .args .item) (s .args .s) (s .pre .1 .0) (s .pre .1 .1) (s .pre .1 .2) (o .code-of .result) (o .code-of .ensures .0), s .pre .1 .1 .from, omega (arith, s .pre .1 .1 .tables), head-space (now (s .args .words)) (now (s .args .area)) (s .args .l) (s .args .x) (s .args .left) (s .args .item) (s .args .s) (s .pre .1 .0) (s .pre .1 .1) (s .pre .1 .2) (o .code-of .result) (o .code-of .ensures .0), head-chain (now (s .args .words)) (now (s .args .area)) (s .args .l) (s .args .x) (s .args .left) (s .args .item) (s .args .s) (s .pre .1 .0) (s .pre .1 .1) (s .pre .1 .2) (o .code-of .result) (o .code-of .ensures .0), s .pre .1 .2)
+    (head-reads (now (s .args .words)) (now (s .args .area)) (s .args .l) (s .args .x) (s .args .left) (s .args .item) (s .args .s) (s .pre .1 .0) (s .pre .1 .1) (s .pre .1 .2) (o .code-of .result) (o .code-of .ensures .0), s .pre .1 .1 .from, omega (arith, s .pre .1 .1 .numbers), head-space (now (s .args .words)) (now (s .args .area)) (s .args .l) (s .args .x) (s .args .left) (s .args .item) (s .args .s) (s .pre .1 .0) (s .pre .1 .1) (s .pre .1 .2) (o .code-of .result) (o .code-of .ensures .0), head-chain (now (s .args .words)) (now (s .args .area)) (s .args .l) (s .args .x) (s .args .left) (s .args .item) (s .args .s) (s .pre .1 .0) (s .pre .1 .1) (s .pre .1 .2) (o .code-of .result) (o .code-of .ensures .0), s .pre .1 .2, head-walked (now (s .args .words)) (now (s .args .area)) (s .args .l) (s .args .x) (s .args .left) (s .args .item) (s .args .s) (s .pre .1 .0) (s .pre .1 .1) (s .pre .1 .2) (o .code-of .result) (o .code-of .ensures .0))
 
 local-at-add-t19 : (t : ℕ) → local-at-lts.Need-add-t19 (
   code-of-reads.Asked,
   code-of-reads.Learnt,
-  find-local-import-locations-reads.Asked,
-  find-local-import-locations-reads.Learnt,
+  locations-reads.Asked,
+  locations-reads.Learnt,
   nothing-reads.Asked,
   nothing-reads.Learnt,
   word-reads.Asked,
@@ -488,13 +488,13 @@ local-at-add-t19 t c =
     let f = c .before .before in
     let o = f .before .before .before in
     let s = o .before .before .before in
-    omega (arith, s .pre .1 .1 .space, s .pre .1 .0, start-few (now (s .args .words)) (now (s .args .area)) (s .args .l) (s .args .x) (s .args .left) (s .args .item) (s .args .s) (s .pre .1 .0) (s .pre .1 .1) (s .pre .1 .2) (o .code-of .result) (o .code-of .ensures .0) _ _ (f .find-local-import-locations .ensures) (f .find-local-import-locations .kept .1 .0))
+    omega (arith, s .pre .1 .1 .space, s .pre .1 .0, start-few (now (s .args .words)) (now (s .args .area)) (s .args .l) (s .args .x) (s .args .left) (s .args .item) (s .args .s) (s .pre .1 .0) (s .pre .1 .1) (s .pre .1 .2) (o .code-of .result) (o .code-of .ensures .0) _ _ (f .locations .ensures) (f .locations .kept .1 .0))
 
 local-at-add-t21 : (t : ℕ) → local-at-lts.Need-add-t21 (
   code-of-reads.Asked,
   code-of-reads.Learnt,
-  find-local-import-locations-reads.Asked,
-  find-local-import-locations-reads.Learnt,
+  locations-reads.Asked,
+  locations-reads.Learnt,
   nothing-reads.Asked,
   nothing-reads.Learnt,
   word-reads.Asked,
@@ -509,8 +509,8 @@ local-at-add-t21 t c =
 local-at-nothing-requires : (t : ℕ) → local-at-lts.Need-nothing-requires (
   code-of-reads.Asked,
   code-of-reads.Learnt,
-  find-local-import-locations-reads.Asked,
-  find-local-import-locations-reads.Learnt,
+  locations-reads.Asked,
+  locations-reads.Learnt,
   nothing-reads.Asked,
   nothing-reads.Learnt,
   word-reads.Asked,
@@ -524,8 +524,8 @@ local-at-nothing-requires t c κs =
 local-at-loop-holds : (t : ℕ) → local-at-lts.Need-loop-holds (
   code-of-reads.Asked,
   code-of-reads.Learnt,
-  find-local-import-locations-reads.Asked,
-  find-local-import-locations-reads.Learnt,
+  locations-reads.Asked,
+  locations-reads.Learnt,
   nothing-reads.Asked,
   nothing-reads.Learnt,
   word-reads.Asked,
@@ -537,13 +537,13 @@ local-at-loop-holds t c =
     let f = c .before .before .before .before in
     let o = f .before .before .before in
     let s = o .before .before .before in
-    nesting-start (now (s .args .words)) (now (s .args .area)) (s .args .l) (s .args .x) (s .args .left) (s .args .item) (s .args .s) (s .pre .1 .0) (s .pre .1 .1) (s .pre .1 .2) (o .code-of .result) (o .code-of .ensures .0) _ _ (f .find-local-import-locations .ensures) (f .find-local-import-locations .kept .1 .0) (c .nothing .ensures)
+    nesting-start (now (s .args .words)) (now (s .args .area)) (s .args .l) (s .args .x) (s .args .left) (s .args .item) (s .args .s) (s .pre .1 .0) (s .pre .1 .1) (s .pre .1 .2) (o .code-of .result) (o .code-of .ensures .0) _ _ (f .locations .ensures) (f .locations .kept .1 .0) (c .nothing .ensures)
 
 local-at-add-cursor : (t : ℕ) → local-at-lts.Need-add-cursor (
   code-of-reads.Asked,
   code-of-reads.Learnt,
-  find-local-import-locations-reads.Asked,
-  find-local-import-locations-reads.Learnt,
+  locations-reads.Asked,
+  locations-reads.Learnt,
   nothing-reads.Asked,
   nothing-reads.Learnt,
   word-reads.Asked,
@@ -558,8 +558,8 @@ local-at-add-cursor t c =
 local-at-cast-area-3 : (t : ℕ) → local-at-lts.Need-cast-area-3 (
   code-of-reads.Asked,
   code-of-reads.Learnt,
-  find-local-import-locations-reads.Asked,
-  find-local-import-locations-reads.Learnt,
+  locations-reads.Asked,
+  locations-reads.Learnt,
   nothing-reads.Asked,
   nothing-reads.Learnt,
   word-reads.Asked,
@@ -574,8 +574,8 @@ local-at-cast-area-3 t c =
 local-at-mul-area-3 : (t : ℕ) → local-at-lts.Need-mul-area-3 (
   code-of-reads.Asked,
   code-of-reads.Learnt,
-  find-local-import-locations-reads.Asked,
-  find-local-import-locations-reads.Learnt,
+  locations-reads.Asked,
+  locations-reads.Learnt,
   nothing-reads.Asked,
   nothing-reads.Learnt,
   word-reads.Asked,
@@ -590,8 +590,8 @@ local-at-mul-area-3 t c =
 local-at-slice-write-area-3 : (t : ℕ) → local-at-lts.Need-slice-write-area-3 (
   code-of-reads.Asked,
   code-of-reads.Learnt,
-  find-local-import-locations-reads.Asked,
-  find-local-import-locations-reads.Learnt,
+  locations-reads.Asked,
+  locations-reads.Learnt,
   nothing-reads.Asked,
   nothing-reads.Learnt,
   word-reads.Asked,
@@ -604,13 +604,13 @@ local-at-slice-write-area-3 t c =
     let f = i .before .before .before .before .before in
     let o = f .before .before .before in
     let s = o .before .before .before in
-    omega (arith, room (now (s .args .words)) (now (s .args .area)) (s .args .l) (s .args .x) (s .args .left) (s .args .item) (s .args .s) (s .pre .1 .0) (s .pre .1 .1) (s .pre .1 .2) (o .code-of .result) (o .code-of .ensures .0), loop-size (now (s .args .words)) (now (s .args .area)) (s .args .l) (s .args .x) (s .args .left) (s .args .item) (s .args .s) (s .pre .1 .0) (s .pre .1 .1) (s .pre .1 .2) (o .code-of .result) (o .code-of .ensures .0) _ _ (f .find-local-import-locations .ensures) (f .find-local-import-locations .kept .1 .0) (i .loop .area) (i .loop .best) (i .loop .k) (i .loop .inv))
+    omega (arith, room (now (s .args .words)) (now (s .args .area)) (s .args .l) (s .args .x) (s .args .left) (s .args .item) (s .args .s) (s .pre .1 .0) (s .pre .1 .1) (s .pre .1 .2) (o .code-of .result) (o .code-of .ensures .0), loop-size (now (s .args .words)) (now (s .args .area)) (s .args .l) (s .args .x) (s .args .left) (s .args .item) (s .args .s) (s .pre .1 .0) (s .pre .1 .1) (s .pre .1 .2) (o .code-of .result) (o .code-of .ensures .0) _ _ (f .locations .ensures) (f .locations .kept .1 .0) (i .loop .area) (i .loop .best) (i .loop .k) (i .loop .inv))
 
 local-at-add-word : (t : ℕ) → local-at-lts.Need-add-word (
   code-of-reads.Asked,
   code-of-reads.Learnt,
-  find-local-import-locations-reads.Asked,
-  find-local-import-locations-reads.Learnt,
+  locations-reads.Asked,
+  locations-reads.Learnt,
   nothing-reads.Asked,
   nothing-reads.Learnt,
   word-reads.Asked,
@@ -626,8 +626,8 @@ local-at-add-word t c =
 local-at-word-requires : (t : ℕ) → local-at-lts.Need-word-requires (
   code-of-reads.Asked,
   code-of-reads.Learnt,
-  find-local-import-locations-reads.Asked,
-  find-local-import-locations-reads.Learnt,
+  locations-reads.Asked,
+  locations-reads.Learnt,
   nothing-reads.Asked,
   nothing-reads.Learnt,
   word-reads.Asked,
@@ -641,8 +641,8 @@ local-at-word-requires t c κs =
 local-at-location-requires : (t : ℕ) → local-at-lts.Need-location-requires (
   code-of-reads.Asked,
   code-of-reads.Learnt,
-  find-local-import-locations-reads.Asked,
-  find-local-import-locations-reads.Learnt,
+  locations-reads.Asked,
+  locations-reads.Learnt,
   nothing-reads.Asked,
   nothing-reads.Learnt,
   word-reads.Asked,
@@ -657,13 +657,13 @@ local-at-location-requires t c κs =
     let f = i .before .before .before .before .before in
     let o = f .before .before .before in
     let s = o .before .before .before in
-    (omega (arith, s .pre .0), (s .pre .1 .0, nesting-call (now (s .args .words)) (now (s .args .area)) (s .args .l) (s .args .x) (s .args .left) (s .args .item) (s .args .s) (s .pre .1 .0) (s .pre .1 .1) (s .pre .1 .2) (o .code-of .result) (o .code-of .ensures .0) _ _ (f .find-local-import-locations .ensures) (f .find-local-import-locations .kept .1 .0) (i .loop .area) (i .loop .best) (i .loop .k) (i .loop .inv) (h .loop-test .taken), nesting-known (now (s .args .words)) (now (s .args .area)) (s .args .l) (s .args .x) (s .args .left) (s .args .item) (s .args .s) (s .pre .1 .0) (s .pre .1 .1) (s .pre .1 .2) (o .code-of .result) (o .code-of .ensures .0) _ _ (f .find-local-import-locations .ensures) (f .find-local-import-locations .kept .1 .0) (i .loop .area) (i .loop .best) (i .loop .k) (i .loop .inv) (h .loop-test .taken) (w .word .ensures), omega (arith, i .loop .inv .fits .few, s .pre .1 .1 .deep)))
+    (omega (arith, s .pre .0), (s .pre .1 .0, nesting-call (now (s .args .words)) (now (s .args .area)) (s .args .l) (s .args .x) (s .args .left) (s .args .item) (s .args .s) (s .pre .1 .0) (s .pre .1 .1) (s .pre .1 .2) (o .code-of .result) (o .code-of .ensures .0) _ _ (f .locations .ensures) (f .locations .kept .1 .0) (i .loop .area) (i .loop .best) (i .loop .k) (i .loop .inv) (h .loop-test .taken), nesting-known (now (s .args .words)) (now (s .args .area)) (s .args .l) (s .args .x) (s .args .left) (s .args .item) (s .args .s) (s .pre .1 .0) (s .pre .1 .1) (s .pre .1 .2) (o .code-of .result) (o .code-of .ensures .0) _ _ (f .locations .ensures) (f .locations .kept .1 .0) (i .loop .area) (i .loop .best) (i .loop .k) (i .loop .inv) (h .loop-test .taken) (w .word .ensures), omega (arith, i .loop .inv .fits .few, s .pre .1 .1 .deep)))
 
 local-at-add-k : (t : ℕ) → local-at-lts.Need-add-k (
   code-of-reads.Asked,
   code-of-reads.Learnt,
-  find-local-import-locations-reads.Asked,
-  find-local-import-locations-reads.Learnt,
+  locations-reads.Asked,
+  locations-reads.Learnt,
   nothing-reads.Asked,
   nothing-reads.Learnt,
   word-reads.Asked,
@@ -678,8 +678,8 @@ local-at-add-k t c =
 local-at-loop-less : (t : ℕ) → local-at-lts.Need-loop-less (
   code-of-reads.Asked,
   code-of-reads.Learnt,
-  find-local-import-locations-reads.Asked,
-  find-local-import-locations-reads.Learnt,
+  locations-reads.Asked,
+  locations-reads.Learnt,
   nothing-reads.Asked,
   nothing-reads.Learnt,
   word-reads.Asked,
@@ -693,8 +693,8 @@ local-at-loop-less t c =
 local-at-loop-again : (t : ℕ) → local-at-lts.Need-loop-again (
   code-of-reads.Asked,
   code-of-reads.Learnt,
-  find-local-import-locations-reads.Asked,
-  find-local-import-locations-reads.Learnt,
+  locations-reads.Asked,
+  locations-reads.Learnt,
   nothing-reads.Asked,
   nothing-reads.Learnt,
   word-reads.Asked,
@@ -710,13 +710,13 @@ local-at-loop-again t c =
     let f = i .before .before .before .before .before in
     let o = f .before .before .before in
     let s = o .before .before .before in
-    nesting-next (now (s .args .words)) (now (s .args .area)) (s .args .l) (s .args .x) (s .args .left) (s .args .item) (s .args .s) (s .pre .1 .0) (s .pre .1 .1) (s .pre .1 .2) (o .code-of .result) (o .code-of .ensures .0) _ _ (f .find-local-import-locations .ensures) (f .find-local-import-locations .kept .1 .0) (i .loop .area) (i .loop .best) (i .loop .k) (i .loop .inv) (h .loop-test .taken) (w .word .ensures) _ (e .location .ensures) (e .location .kept .1 .0)
+    nesting-next (now (s .args .words)) (now (s .args .area)) (s .args .l) (s .args .x) (s .args .left) (s .args .item) (s .args .s) (s .pre .1 .0) (s .pre .1 .1) (s .pre .1 .2) (o .code-of .result) (o .code-of .ensures .0) _ _ (f .locations .ensures) (f .locations .kept .1 .0) (i .loop .area) (i .loop .best) (i .loop .k) (i .loop .inv) (h .loop-test .taken) (w .word .ensures) _ (e .location .ensures) (e .location .kept .1 .0)
 
 local-at-same-length : (t : ℕ) → local-at-lts.Need-same-length (
   code-of-reads.Asked,
   code-of-reads.Learnt,
-  find-local-import-locations-reads.Asked,
-  find-local-import-locations-reads.Learnt,
+  locations-reads.Asked,
+  locations-reads.Learnt,
   nothing-reads.Asked,
   nothing-reads.Learnt,
   word-reads.Asked,
@@ -729,13 +729,13 @@ local-at-same-length t c =
     let f = i .before .before .before .before .before in
     let o = f .before .before .before in
     let s = o .before .before .before in
-    loop-size (now (s .args .words)) (now (s .args .area)) (s .args .l) (s .args .x) (s .args .left) (s .args .item) (s .args .s) (s .pre .1 .0) (s .pre .1 .1) (s .pre .1 .2) (o .code-of .result) (o .code-of .ensures .0) _ _ (f .find-local-import-locations .ensures) (f .find-local-import-locations .kept .1 .0) (i .loop .area) (i .loop .best) (i .loop .k) (i .loop .inv) ∙ sym (s .pre .1 .1 .area)
+    loop-size (now (s .args .words)) (now (s .args .area)) (s .args .l) (s .args .x) (s .args .left) (s .args .item) (s .args .s) (s .pre .1 .0) (s .pre .1 .1) (s .pre .1 .2) (o .code-of .result) (o .code-of .ensures .0) _ _ (f .locations .ensures) (f .locations .kept .1 .0) (i .loop .area) (i .loop .best) (i .loop .k) (i .loop .inv) ∙ sym (s .pre .1 .1 .area)
 
 local-at-returns : (t : ℕ) → local-at-lts.Need-returns (
   code-of-reads.Asked,
   code-of-reads.Learnt,
-  find-local-import-locations-reads.Asked,
-  find-local-import-locations-reads.Learnt,
+  locations-reads.Asked,
+  locations-reads.Learnt,
   nothing-reads.Asked,
   nothing-reads.Learnt,
   word-reads.Asked,
@@ -748,7 +748,7 @@ local-at-returns t c =
     let f = i .before .before .before .before .before in
     let o = f .before .before .before in
     let s = o .before .before .before in
-    nesting-done (now (s .args .words)) (now (s .args .area)) (s .args .l) (s .args .x) (s .args .left) (s .args .item) (s .args .s) (s .pre .1 .0) (s .pre .1 .1) (s .pre .1 .2) (o .code-of .result) (o .code-of .ensures .0) _ _ (f .find-local-import-locations .ensures) (f .find-local-import-locations .kept .1 .0) (i .loop .area) (i .loop .best) (i .loop .k) (i .loop .inv) (c .loop-test .left)
+    nesting-done (now (s .args .words)) (now (s .args .area)) (s .args .l) (s .args .x) (s .args .left) (s .args .item) (s .args .s) (s .pre .1 .0) (s .pre .1 .1) (s .pre .1 .2) (o .code-of .result) (o .code-of .ensures .0) _ _ (f .locations .ensures) (f .locations .kept .1 .0) (i .loop .area) (i .loop .best) (i .loop .k) (i .loop .inv) (c .loop-test .left)
 
 location-length-left-requires : (t : ℕ) → location-lts.Need-length-left-requires (
   length-left-reads.Asked,
@@ -1504,8 +1504,8 @@ pub +find-path-for-module-local+local-at+location+tight-at-spec : {M : Type 1} �
     (λ t. local-at-lts.spec (
       code-of-reads.Asked,
       code-of-reads.Learnt,
-      find-local-import-locations-reads.Asked,
-      find-local-import-locations-reads.Learnt,
+      locations-reads.Asked,
+      locations-reads.Learnt,
       nothing-reads.Asked,
       nothing-reads.Learnt,
       word-reads.Asked,
@@ -1526,7 +1526,7 @@ pub +find-path-for-module-local+local-at+location+tight-at-spec : {M : Type 1} �
     (local-at-add-area t)
     (local-at-mul-area-2 t)
     (local-at-slice-write-area-2 t)
-    (local-at-find-local-import-locations-requires t)
+    (local-at-locations-requires t)
     (local-at-add-t19 t)
     (local-at-add-t21 t)
     (local-at-nothing-requires t)
