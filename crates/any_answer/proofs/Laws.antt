@@ -1,13 +1,13 @@
 -- Laws of the answer.
 use Prim.Native.Nat.{ℕ, zero, suc, _+_, _≤_, _<_}
 use mathlib.Core.Path.{_≡_, refl, sym, ap, ap₂, subst, _∙_}
-use mathlib.Core.List.{List, _++_}
+use mathlib.Core.List.{List, [], _∷_, _++_}
 use mathlib.Core.Bool.{Bool, true, false, not, true≢false}
 use mathlib.Core.Option.{Option, none, some}
 use native.Mathlib.Omega.{arith}
 use borrow.Author.Tests.{le-leb, lt-leb, not-true, not-false}
 use lib.Dec.{leb}
-use lib.ListN.{length, drop}
+use lib.ListN.{length, getD, drop}
 use Rattle.snapshot.specs.Limits.{areaLimit}
 use Rattle.snapshot.specs.Refusals.{areaRefusal}
 use Rattle.snapshot.specs.Records.{Snapshot}
@@ -30,7 +30,7 @@ use Rattle.checked.proofs.Laws.{small, same-fault}
 use Rattle.answer.specs.Answers.{zeros}
 use Rattle.answer.proofs.Areas.{area-small, area-large}
 use Rattle.any_answer.specs.declared.AnyReport.{AnyReport}
-use Rattle.any_answer.specs.Any.{anyWithout, anyRefused, anyReported, anyQuery, anyUnless, anyBy, anyAfter, anyReport, AnyAnswers}
+use Rattle.any_answer.specs.Any.{anyWithout, anyRefused, anyReported, anyQuery, anyUnless, anyBy, anyAfter, anyReport, AnyAnswers, questionOf, AnyIn}
 
 up-few : (p : Path) → namesIn p ≤ namesLimit → upTo namesLimit (some p) ≡ found p
 unfolding upTo
@@ -138,3 +138,16 @@ module _ (W A : List ℕ) (ns d m : ℕ) where
         report = er ∙ ap (anyAfter W (anyQuery ns d m)) (same-fault areaLimit (length A) (anyQuery ns d m) 0 (omega arith) h);
         area = area-large A B h ez;
       }
+
+-- as numbers
+pub answers-in : (W A Q B : List ℕ) {ns d m : ℕ} {r : AnyReport} → ns ≡ getD Q 0 0 → d ≡ getD Q 1 0 → m ≡ getD Q 2 0 → AnyAnswers W A ns d m B r
+    → AnyIn W A Q B (r .outcome ∷ r .kind ∷ r .supers ∷ r .count ∷ []) (r .names) (r .number)
+answers-in W A Q B {ns} {d} {m} {r} en ed em a =
+    let same : anyQuery ns d m ≡ questionOf Q = λ i. anyQuery (en i) (ed i) (em i) in
+    let e : r ≡ anyReport W (length A) (questionOf Q) = a .report ∙ ap (anyReport W (length A)) same in
+    record {
+      number = ap (λ (x : AnyReport). x .number) e;
+      front = ap (λ (x : AnyReport). x .outcome ∷ x .kind ∷ x .supers ∷ x .count ∷ []) e;
+      told = ap (λ (x : AnyReport). x .names) e;
+      area = a .area;
+    }

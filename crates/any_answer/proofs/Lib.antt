@@ -1,1 +1,3 @@
 pub mod Laws
+-- Rows that are computed.
+pub mod Worked

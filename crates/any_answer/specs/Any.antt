@@ -1,8 +1,8 @@
 -- Whether any path names an item, put to words that nobody checked yet.
 use Prim.Native.Nat.{ℕ, zero, suc}
 use mathlib.Core.Path.{_≡_}
-use mathlib.Core.List.{List}
-use lib.ListN.{length, replicate}
+use mathlib.Core.List.{List, [], _∷_}
+use lib.ListN.{length, getD, replicate}
 use Rattle.snapshot.specs.Limits.{pathLimit}
 use Rattle.snapshot.specs.Records.{Snapshot}
 use Rattle.accept.specs.Verdict.{Verdict, refuse, accept, verdict}
@@ -52,4 +52,16 @@ anyReport words area q = anyAfter words q (callFault area q 0)
 -- W are the words, A₀ the work area before the call, A the one after it
 pub record AnyAnswers (W A₀ : List ℕ) (ns d m : ℕ) (A : List ℕ) (r : AnyReport) : Type 0 where
   pub report : r ≡ anyReport W (length A₀) (anyQuery ns d m)
+  pub area : A ≡ areaAfter A₀
+
+-- namespace, definition and module as words
+abbrev pub questionOf : List ℕ → Query
+questionOf Q = anyQuery (getD Q 0 0) (getD Q 1 0) (getD Q 2 0)
+
+-- the same with the question Q and the answer as numbers: h are the outcome, the kind, how many times `super` and how many names
+pub record AnyIn (W A₀ Q A h names : List ℕ) (r : ℕ) : Type 0 where
+  pub number : r ≡ anyReport W (length A₀) (questionOf Q) .number
+  pub front : h ≡ anyReport W (length A₀) (questionOf Q) .outcome ∷ anyReport W (length A₀) (questionOf Q) .kind
+      ∷ anyReport W (length A₀) (questionOf Q) .supers ∷ anyReport W (length A₀) (questionOf Q) .count ∷ []
+  pub told : names ≡ anyReport W (length A₀) (questionOf Q) .names
   pub area : A ≡ areaAfter A₀

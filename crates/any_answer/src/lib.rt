@@ -1,6 +1,7 @@
 //! Whether any path names an item in a module, and a shortest one.
 mod asked;
 pub mod entry;
+pub mod numbers;
 pub mod report;
 
 /// The answer: 0 a path, 1 there is none, 2 a refusal with its number, 3 there are paths and each has more than sixteen names; then the path: its kind

@@ -28,7 +28,14 @@ use told_paths::paths::more;
 use told_paths::paths::nothing;
 
 // Whether the enum's first variant of that name is the definition.
-fn is_variant(words: &[u32], l: Layout, ns: usize, e: DefinitionId, name: Name, d: DefinitionId) -> bool
+fn is_variant(
+    words: &[u32],
+    l: Layout,
+    ns: usize,
+    e: DefinitionId,
+    name: Name,
+    d: DefinitionId,
+) -> bool
     requires { ⌜ wordCount l < 2 ^ 32 ⌝ }
     ensures { λ r. ⌜ ((A : List ℕ) → r ≡ isItem (definedItem ns (d .0)) (itemIn (namedIn (name .0) (variantsIn (snapOf (now (words .entry)) A l) ns (e .0))))) ⌝ }
 {

@@ -72,8 +72,7 @@ add-result c =
 returns-2 : tie.Need-returns-2 Inv-loop μ-loop
 returns-2 c =
     let l = c .before in
-    let s = l .before .before .before in
-    (
+    let s = l .before .before .before in (
       counted-name (now (s .args .area)) (s .args .n) (s .pre .2) (l .before .loop .inv) (c .if1 .left) (omega (arith, l .loop-test .left)) refl,
       omega (arith, l .before .loop .inv .few, c .if1 .left),
     )

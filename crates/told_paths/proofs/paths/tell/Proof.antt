@@ -36,8 +36,7 @@ returns-2 c =
     let n = i .before in
     let k = n .before .before in
     let s = k .before .before .before in
-    let low = step-link (now (s .args .area)) (s .args .n) (s .args .step) (k .step .given .1) (s .pre .1) in
-    (
+    let low = step-link (now (s .args .area)) (s .args .n) (s .args .step) (k .step .given .1) (s .pre .1) in (
       (λ z from ns o h. leads-long (now (s .args .area)) (s .args .n) (s .args .step) (k .step .given .1) z from ns o h (i .if1 .taken) (n .names-in .ensures .0 _) (c .long .ensures)),
       long-few (c .long .ensures) (omega (arith, n .names-in .ensures .1, low, s .pre .0)),
     )
@@ -54,8 +53,7 @@ returns-3 c =
     let e = c .before in
     let n = e .before in
     let k = n .before .before in
-    let s = k .before .before .before in
-    (
+    let s = k .before .before .before in (
       (λ z from ns o h. leads-read (now (s .args .area)) (s .args .n) (s .args .step) (k .step .given .1) z from ns o h (c .read .ensures .0)),
       omega (arith, c .read .ensures .1),
     )
