@@ -1,0 +1,67 @@
+use borrow.Author.Needs.{needs}
+use mathlib.Core.Path.{_∙_}
+use native.Mathlib.Omega.{arith}
+use denote.Ref.{now}
+use Rattle.checked.proofs.Laws.{refused-verdict, accepted-reads}
+use Rattle.join_numbers.proofs.Parts.{part-of}
+use Rattle.new_numbers.proofs.Laws.{second-refused, both-numbered}
+use Rattle.new_numbers.proofs.numbers.number_second.Statement.{statement}
+use Rattle.new_numbers.proofs.numbers.number_second.Tie as tie
+
+check-requires : tie.Need-check-requires
+check-requires c κs = search needs
+
+enum-known-k : tie.Need-enum-known-k
+enum-known-k c = search needs
+
+cast-result : tie.Need-cast-result
+cast-result c = search needs
+
+enum-known-k-2 : tie.Need-enum-known-k-2
+enum-known-k-2 c = search needs
+
+number-requires : tie.Need-number-requires
+number-requires c κs =
+    let k = c .before .before .before .before .before .before in
+    let s = k .before .before .before .before .before in
+    let z = k .check .kept .1 .0 ∙ s .pre .0 in
+    record {
+      first = s .pre .1;
+      second = accepted-reads (now (s .args .second)) (now (s .args .area)) _ _ (s .pre .0) (k .check .ensures) _ (c .before .before .k2 .given .1);
+      room = omega (arith, z);
+    }
+
+same-length : tie.Need-same-length
+same-length c = search needs
+
+returns : tie.Need-returns
+returns c =
+    let k = c .before .before .before .before .before in
+    let s = k .before .before .before .before .before in
+    second-refused _ _ _ _ (refused-verdict (now (s .args .second)) (now (s .args .area)) _ _ (s .pre .0) (k .check .ensures) _ _ (c .before .k .given .1))
+
+same-length-2 : tie.Need-same-length-2
+same-length-2 c = search needs
+
+returns-2 : tie.Need-returns-2
+returns-2 c =
+    let n = c .before .before in
+    let m = n .before .before .before in
+    let k = m .before .before .before .before in
+    let s = k .before .before .before .before .before in
+    let r = accepted-reads (now (s .args .second)) (now (s .args .area)) _ _ (s .pre .0) (k .check .ensures) _ (m .k2 .given .1) in
+    both-numbered (now (s .args .first)) (now (s .args .second)) _ (s .pre .1 .same) (part-of (now (s .args .second)) _ _ r .same) _ _ (n .number .ensures)
+
+pub number-second-spec : {M : Type 1} → statement M
+number-second-spec =
+    tie.close
+    (tie.spec
+    check-requires
+    enum-known-k
+    cast-result
+    enum-known-k-2
+    number-requires
+    same-length
+    returns
+    same-length-2
+    returns-2)
