@@ -21,7 +21,6 @@ ghost use Rattle.scope_edits.specs.Entries.{entryOf};
 ghost use Rattle.snapshot.specs.Layouts.{tableWords};
 ghost use Rattle.windows.specs.Windows.{Placed};
 
-mod joins;
 mod lent;
 mod text;
 mod viewer;
