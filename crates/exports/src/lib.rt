@@ -3,6 +3,7 @@
 ghost use mathlib.Core.Path.{_≡_};
 ghost use Prim.Native.Nat.{_≤_, _<_};
 ghost use lib.ListN.{length};
+ghost use Rattle.any_answer.specs.Any.{AnyIn};
 ghost use Rattle.asked.specs.Asked.{AskedEach};
 ghost use Rattle.asked.specs.StillChecked.{StillChecked};
 ghost use Rattle.batch.specs.Batch.{Batch};
@@ -14,6 +15,8 @@ ghost use Rattle.exports.specs.Reaches.{viewerOf, ReachesIn};
 ghost use Rattle.exports.specs.Turns.{Served, Unserved};
 ghost use Rattle.exports.specs.Version.{version};
 ghost use Rattle.imports.specs.Listings.{ListsIn};
+ghost use Rattle.join.specs.Joins.{JoinsIn};
+ghost use Rattle.new_numbers.specs.New.{NewNumbers, NewName, NewDefinition};
 ghost use Rattle.questions.specs.Questions.{questionOf};
 ghost use Rattle.reports.specs.Written.{reportSize};
 ghost use Rattle.scope_edits.specs.Edits.{adding, removing};
@@ -35,13 +38,18 @@ use accept::check::check;
 use answer::answer::find_path;
 use answer::area::clear_front;
 use answer::report::write_report;
+use any_answer::numbers::any_path_in;
 use asked::asked::find_path_checked;
 use asked::each::find_paths_checked;
 use batch::batch::find_paths;
 use edits::edits::add_entry;
 use edits::edits::remove_entry;
 use imports::list::import_list;
+use join::join::join;
 use keywords::is_raw;
+use new_numbers::numbers::new_numbers;
+use new_numbers::read::new_definition;
+use new_numbers::read::new_name;
 use questions::question::question_of;
 use reach_answer::find_reach;
 use reports::report::ReportWords;
@@ -314,6 +322,66 @@ pub extern "C" fn kelumavor_import_list(
     let r = import_list(words, area, Crate(krate), target);
     *count = r.count;
     r.number
+}
+
+/// Writes the words of two snapshots joined to the target, and their number to the count; what stands past them stays. Answers 0, or the number by which the
+/// call is refused, with the target unchanged and a count of 0: 20 a small work area, 30 to 36 and 43 the first snapshot, then the second, 51 a result that
+/// passes a limit or does not fit the target.
+#[no_mangle]
+pub extern "C" fn kelumavor_join(
+    first: &[u32],
+    second: &[u32],
+    area: &mut [u32],
+    target: &mut [u32],
+    count: &mut usize,
+) -> usize
+    ensures { λ r. ⌜ JoinsIn (now (first .entry)) (now (second .entry)) (now (area .entry)) (now (target .entry)) (now (target .exit)) (now (area .exit)) (record { number = r; count = now (count .exit) }) ⌝ }
+{
+    let r = join(first, second, area, target);
+    *count = r.count;
+    r.number
+}
+
+/// Leaves in the work area the numbers that the names and definitions of the second snapshot have in the two joined, for `kelumavor_new_name` and
+/// `kelumavor_new_definition`; its crates, maps and modules follow those of the first, which keeps its numbers. Answers 0, or the number by which the
+/// call is refused: 20 a small work area, 30 to 36 and 43 the first snapshot, then the second.
+#[no_mangle]
+pub extern "C" fn kelumavor_join_numbers(first: &[u32], second: &[u32], area: &mut [u32]) -> usize
+    ensures { λ r. ⌜ NewNumbers (now (first .entry)) (now (second .entry)) (now (area .entry)) (now (area .exit)) r ⌝ }
+{
+    new_numbers(first, second, area)
+}
+
+/// The number that a name of the second snapshot has in the two joined, from the area that `kelumavor_join_numbers` left.
+#[no_mangle]
+pub extern "C" fn kelumavor_new_name(area: &[u32], name: usize) -> usize
+    ensures { λ r. ⌜ NewName (now (area .entry)) name r ⌝ }
+{
+    new_name(area, name)
+}
+
+/// The same for a definition.
+#[no_mangle]
+pub extern "C" fn kelumavor_new_definition(area: &[u32], definition: usize) -> usize
+    ensures { λ r. ⌜ NewDefinition (now (area .entry)) definition r ⌝ }
+{
+    new_definition(area, definition)
+}
+
+/// Whether any path names a definition in a module, as the compiler reads paths: a second opinion on a search that found none. The question is
+/// namespace, definition and module. Writes the outcome (0 a path, 1 there is none, 2 refused, 3 there are paths, each of more than sixteen names), the
+/// path's kind, how many times `super`, and how many names, then the names. Answers 0, or the number by which the call is refused.
+#[no_mangle]
+pub extern "C" fn kelumavor_any_path(
+    words: &[u32],
+    area: &mut [u32],
+    question: &[u32; 3],
+    head: &mut [usize; 4],
+    names: &mut [usize; 16],
+) -> usize
+    ensures { λ r. ⌜ AnyIn (now (words .entry)) (now (area .entry)) (now (question .entry)) (now (area .exit)) (now (head .exit)) (now (names .exit)) r ⌝ }
+{
+    any_path_in(words, area, question, head, names)
 }
 
 /// How much of a workspace can be named from a module: viewing module, prefix, options, and the fuel and the limit of each search. Writes how many
