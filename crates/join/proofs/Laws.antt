@@ -1,26 +1,24 @@
 -- What the entry point leaves, by the definition of a join.
 use Prim.Native.Nat.{ℕ, _+_, _^_, _≤_, _<_}
 use mathlib.Core.Path.{_≡_, refl, sym, _∙_, ap, ap₂, subst}
-use mathlib.Core.List.{List, [], _∷_, _++_, map}
+use mathlib.Core.List.{List, _++_, map}
 use mathlib.Core.Bool.{Bool, true, false, _&&_, not, false≢true}
 use native.Mathlib.Omega.{arith}
 use native.Mathlib.Nat.{zero-add}
 use borrow.Author.Tests.{lt-ltb, le-ltb, le-leb, lt-leb, leb-true, not-true, not-false}
-use lib.Dec.{leb, ltb}
+use lib.Dec.{leb}
 use lib.ListN.{length, getD, drop, length-append}
 use lib.Seq.{sets, sets-eq}
 use Rattle.snapshot.specs.Limits.{wordLimit, crateLimit, moduleLimit, nameLimit, definitionLimit}
 use Rattle.snapshot.specs.Records.{Snapshot}
-use Rattle.snapshot.specs.Layouts.{snapOf}
 use Rattle.snapshot.specs.declared.layout.Layout.{Layout}
 use Rattle.accept.specs.Tests.{sameName}
-use Rattle.accept.specs.Verdict.{Verdict, refuse, accept, verdict}
+use Rattle.accept.specs.Verdict.{refuse, accept, verdict}
 use Rattle.accept.specs.Post.{Reads}
 use Rattle.accept.proofs.Bools.{and-two}
 use Rattle.accept.proofs.Valid.{accepted-valid}
 use Rattle.hir_def.specs.Finds.{select}
 use Rattle.find_path.proofs.Walks.{select-short}
-use Rattle.scope_edits.specs.Written.{snapshotWords}
 use Rattle.answer.specs.Answers.{zeros}
 use Rattle.answer.proofs.Areas.{area-small, area-large}
 use Rattle.join_words.specs.Joined.{isNew, merged, sameBuiltin, secondNumbers, moduleTo, definitionTo, together, joinedWords, isWithin, Joining, refusedBy, joinedAs, joinIn, joinBy, joinOf}
@@ -29,7 +27,7 @@ use Rattle.join_words.proofs.Merged.{map-length}
 use Rattle.join_numbers.specs.Parts.{partOf, Part, Ready}
 use Rattle.join_numbers.specs.Numbered.{Numbered}
 use Rattle.join_numbers.specs.declared.tables.New.{New}
-use Rattle.join_numbers.proofs.Parts.{part-of, part-is, read-is, ready-stays}
+use Rattle.join_numbers.proofs.Parts.{part-of, read-is}
 use Rattle.join_records.specs.Moves.{wordsTo}
 use Rattle.join_records.specs.Writes.{written, Space, Wrote, Whole}
 use Rattle.join_records.proofs.Laws.{words-few}

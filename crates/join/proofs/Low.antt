@@ -1,5 +1,5 @@
 -- The words of an accepted input are below 2^32: a head is of kind 13 at most, an argument of kind 0.
-use Prim.Native.Nat.{ℕ, zero, suc, _+_, _*_, _^_, _/_, _≤_, _<_}
+use Prim.Native.Nat.{ℕ, zero, suc, _+_, _^_, _≤_, _<_}
 use mathlib.Core.Path.{_≡_, ap}
 use mathlib.Core.List.{List}
 use mathlib.Core.Bool.{true}

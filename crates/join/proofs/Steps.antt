@@ -1,23 +1,22 @@
 -- Each record of the second, put with its numbers moved, has the words of the moved record.
-use Prim.Native.Nat.{ℕ, zero, suc, _+_, _-_, _*_, _≤_, _<_}
+use Prim.Native.Nat.{ℕ, _+_, _-_, _*_, _≤_, _<_}
 use mathlib.Core.Path.{_≡_, refl, sym, _∙_, ap, ap₂, subst}
-use mathlib.Core.List.{List, [], _∷_, _++_, map}
+use mathlib.Core.List.{List, [], _∷_, map}
 use mathlib.Core.Bool.{Bool, true, false, not}
 use native.Mathlib.Omega.{arith}
-use native.Mathlib.Nat.{zero-add}
-use borrow.Author.Tests.{eq-eqb, ne-eqb, eqb-true, eqb-false, le-leb, lt-leb, ltb-true, ltb-false}
+use borrow.Author.Tests.{eqb-true, le-leb, lt-leb, ltb-true, ltb-false}
 use lib.Dec.{eqb, leb, ltb}
 use lib.ListN.{length, getD}
-use Rattle.snapshot.specs.Words.{kindOf, argumentsOf, argumentsAt, wordsOf}
+use Rattle.snapshot.specs.Words.{argumentsOf, wordsOf}
 use Rattle.snapshot.specs.Records.{Name, Crate, Dependency, Child, Prelude, Definition, Scope, Import, Extern, Member, Snapshot}
 use Rattle.snapshot.specs.declared.layout.Layout.{Layout}
-use Rattle.accept.specs.Tests.{Counts, countsOf, noName, noDefinition, sameName}
+use Rattle.accept.specs.Tests.{countsOf, noName, noDefinition, sameName}
 use Rattle.accept.specs.Valid.{Limits, NameFits, CrateFits, DependencyFits, ChildFits, PreludeFits, DefinitionFits, ScopeFits, ImportFits, ExternFits, MemberFits}
 use Rattle.accept.proofs.Accepted.{by-test}
 use Rattle.scope_edits.specs.Entries.{scopeWords}
 use Rattle.scope_edits.specs.Written.{headOf, nameWords, crateWords, dependencyWords, childWords, preludeWords, definitionWords, importWords, externWords, memberWords}
 use Rattle.join_words.specs.Joined.{isNew, nameNumber, sameBuiltin, definitionNumber, Numbers, secondNumbers, dependencyTo, childTo, preludeTo, definitionTo, firstTo, secondTo, visibleTo, scopeTo, importTo, externTo, memberTo}
-use Rattle.join_words.proofs.Runs.{At, kind-is, pay-is, Small}
+use Rattle.join_words.proofs.Runs.{At, kind-is, Small}
 use Rattle.join_numbers.specs.Parts.{Counted}
 use Rattle.join_numbers.specs.Numbered.{nameTable, definitionTable, NumbersIn}
 use Rattle.join_numbers.proofs.News.{name-test, definition-test}

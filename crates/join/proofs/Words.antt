@@ -1,22 +1,22 @@
 -- The words that are put are those of the joined snapshot.
-use Prim.Native.Nat.{ℕ, zero, suc, _+_, _-_, _*_, _≤_, _<_}
+use Prim.Native.Nat.{ℕ, _+_, _-_, _≤_, _<_}
 use mathlib.Core.Path.{_≡_, refl, sym, _∙_, ap, ap₂, subst}
 use mathlib.Core.List.{List, [], _∷_, _++_, map}
-use mathlib.Core.Bool.{Bool, true, false}
+use mathlib.Core.Bool.{Bool, true}
 use native.Mathlib.Omega.{arith}
-use native.Mathlib.Nat.{add-zero, zero-add}
+use native.Mathlib.Nat.{zero-add}
 use lib.ListN.{length, getD}
 use Rattle.snapshot.specs.Lists.{rows}
-use Rattle.snapshot.specs.Records.{Name, Crate, Dependency, Map, Module, Child, Prelude, Definition, Scope, Import, Extern, Member, Snapshot}
+use Rattle.snapshot.specs.Records.{Crate, Dependency, Child, Prelude, Scope, Import, Extern, Member, Snapshot}
 use Rattle.snapshot.specs.Layouts.{crateBase, dependencyBase, mapBase, childBase, preludeBase, definitionBase, scopeBase, importBase, externBase, memberBase, wordCount}
 use Rattle.snapshot.specs.declared.layout.Layout.{Layout}
-use Rattle.accept.specs.Tests.{countsOf, noName, noDefinition, sameName}
-use Rattle.accept.specs.Valid.{Each, Valid}
+use Rattle.accept.specs.Tests.{noName, noDefinition, sameName}
+use Rattle.accept.specs.Valid.{Valid}
 use Rattle.accept.proofs.Bools.{each-map, each-at}
 use Rattle.accept.proofs.Valid.{accepted-valid}
 use Rattle.hir_def.specs.Finds.{select}
 use Rattle.scope_edits.specs.Entries.{scopeWords}
-use Rattle.scope_edits.specs.Written.{nameWords, crateWords, dependencyWords, childWords, preludeWords, definitionWords, importWords, externWords, memberWords, eachWords, treeWords, kindsWords, joined, snapshotWords}
+use Rattle.scope_edits.specs.Written.{nameWords, crateWords, dependencyWords, childWords, preludeWords, definitionWords, importWords, externWords, memberWords, eachWords, treeWords, joined, snapshotWords}
 use Rattle.join_words.specs.Joined.{isNew, merged, sameBuiltin, Numbers, secondNumbers, dependencyTo, mapTo, moduleTo, childTo, preludeTo, definitionTo, scopeTo, importTo, externTo, memberTo, together, joinedWords}
 use Rattle.join_words.proofs.Merged.{each-mapped}
 use Rattle.join_words.proofs.Runs.{At, words-append}
@@ -25,10 +25,10 @@ use Rattle.join_words.proofs.Wholes.{accepted-whole}
 use Rattle.join_numbers.specs.Parts.{partOf, Part}
 use Rattle.join_numbers.specs.Numbered.{NumbersIn}
 use Rattle.join_numbers.proofs.Parts.{Kinds, part-kinds}
-use Rattle.join_records.specs.Moves.{numbersOf, movedRun, runOf, baseOf, kindTo, wordsTo}
-use Rattle.join_records.proofs.Passes.{run-is, Passes, passes-to, passes-done, Step, each-passes, select-all, each-of-map}
+use Rattle.join_records.specs.Moves.{movedRun, runOf, baseOf, kindTo, wordsTo}
+use Rattle.join_records.proofs.Passes.{run-is, passes-to, passes-done, Step, each-passes, select-all, each-of-map}
 use Rattle.join_records.proofs.Trees.{tree-both, tree-passes}
-use Rattle.join.proofs.Steps.{partly, partly-same, name-step, crate-step, dependency-step, child-step, prelude-step, definition-step, scope-step, import-step, extern-step, member-step}
+use Rattle.join.proofs.Steps.{partly-same, name-step, crate-step, dependency-step, child-step, prelude-step, definition-step, scope-step, import-step, extern-step, member-step}
 
 module _ (A W X : List ℕ) (l m : Layout) where
   -- one kind: the first's words, and the moved words of the second's records that pass a test

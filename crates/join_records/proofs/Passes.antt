@@ -1,27 +1,20 @@
 -- The walk over records that stand in the words, one after the other: what it puts.
-use Prim.Native.Nat.{ℕ, zero, suc, _+_, _-_, _*_, _≤_, _<_}
+use Prim.Native.Nat.{ℕ, suc, _+_, _-_, _≤_, _<_}
 use mathlib.Core.Path.{_≡_, refl, sym, _∙_, ap, ap₂, subst}
 use mathlib.Core.List.{List, [], _∷_, _++_, map, append-assoc, append-nil}
-use mathlib.Core.Bool.{Bool, true, false, not}
+use mathlib.Core.Bool.{Bool, true, false}
 use native.Mathlib.Omega.{arith}
 use native.Mathlib.Nat.{add-zero}
-use borrow.Author.Tests.{eq-eqb, ne-eqb, lt-ltb, le-ltb, eqb-true, eqb-false}
-use lib.Dec.{eqb, leb, ltb}
 use lib.ListN.{length, getD, length-append}
 use Rattle.snapshot.specs.Lists.{rows}
-use Rattle.snapshot.specs.Words.{kindOf, payOf, argumentsOf, argumentsAt}
-use Rattle.snapshot.specs.Records.{Map, Module}
+use Rattle.snapshot.specs.Words.{argumentsOf, argumentsAt}
 use Rattle.snapshot.specs.declared.layout.Layout.{Layout}
-use Rattle.record_rules.specs.Tests.{isIn}
-use Rattle.accept.specs.Valid.{Each, none, more}
-use Rattle.accept.proofs.Accepted.{by-test}
 use Rattle.hir_def.specs.Finds.{select}
-use Rattle.scope_edits.specs.Written.{headOf, mapWords, moduleWords, eachWords, wordsWithin, treeWords}
-use Rattle.join_words.specs.Joined.{Numbers, mapTo, moduleTo}
-use Rattle.join_words.proofs.Runs.{At, at-left, at-right, at-next, at-rows, kind-is, pay-is, words-append}
-use Rattle.join_numbers.specs.Numbered.{nameTable, definitionTable}
-use Rattle.join_records.specs.Moves.{numbersOf, roleOf, fieldTo, movedWord, movedAt, keptAt, keptWords, walked, movedRun, runOf}
-use Rattle.join_records.proofs.Laws.{word-head, word-field, left-none, left-next, Left}
+use Rattle.scope_edits.specs.Written.{headOf, eachWords}
+use Rattle.join_words.specs.Joined.{Numbers}
+use Rattle.join_words.proofs.Runs.{At, at-left, at-right, at-next, at-rows, kind-is, pay-is}
+use Rattle.join_records.specs.Moves.{roleOf, fieldTo, movedWord, movedAt, keptWords, walked, movedRun, runOf}
+use Rattle.join_records.proofs.Laws.{word-head, word-field, left-none, left-next}
 
 -- words that stand from one place to another
 pub run-is : {W : List ℕ} {a : ℕ} (ws : List ℕ) (b : ℕ) → At W a ws → b ≡ a + length ws → runOf W a b ≡ ws
@@ -37,9 +30,6 @@ abbrev pub recordTo : Numbers → ℕ → ℕ → ℕ → List ℕ → List ℕ
 recordTo e k p v ws = headOf k (fieldTo e p v (roleOf k 0) p) ∷ fieldsTo e k p v 1 ws
 
 module _ (e : Numbers) (k pay : ℕ) {X : List ℕ} {p : ℕ} {ws : List ℕ} (at : At X p (headOf k pay ∷ ws)) (low : pay < 268435456) (size : argumentsOf k pay ≡ length ws) where
-  v : ℕ
-  v = getD X (p + 4) 0
-
   pub arguments-is : argumentsAt X p ≡ length ws
   arguments-is = ap₂ argumentsOf (kind-is k pay at low) (pay-is k pay at low) ∙ size
 

@@ -1,18 +1,16 @@
 -- Maps, each before its modules: those of two parts, and what the walk puts for the second's.
-use Prim.Native.Nat.{ℕ, zero, suc, _+_, _-_, _*_, _≤_, _<_}
+use Prim.Native.Nat.{ℕ, suc, _+_, _-_, _≤_, _<_}
 use mathlib.Core.Path.{_≡_, refl, sym, _∙_, ap, ap₂, subst}
 use mathlib.Core.List.{List, [], _∷_, _++_, map, append-assoc, append-nil}
-use mathlib.Core.Bool.{Bool, true, false, not}
 use native.Mathlib.Omega.{arith}
 use native.Mathlib.Nat.{add-zero}
 use borrow.Author.Tests.{eq-eqb, ne-eqb, eqb-true, eqb-false}
 use lib.Dec.{eqb}
 use lib.ListN.{length, getD, length-append}
-use Rattle.snapshot.specs.Words.{argumentsOf, argumentsAt}
+use Rattle.snapshot.specs.Words.{argumentsOf}
 use Rattle.snapshot.specs.Records.{Map, Module}
 use Rattle.snapshot.specs.declared.layout.Layout.{Layout}
-use Rattle.record_rules.specs.Tests.{isIn}
-use Rattle.accept.specs.Valid.{Each, none, more}
+use Rattle.accept.specs.Valid.{Each, more}
 use Rattle.accept.proofs.Accepted.{by-test}
 use Rattle.accept.proofs.Bools.{each-map}
 use Rattle.scope_edits.specs.Written.{headOf, mapWords, moduleWords, eachWords, wordsWithin, treeWords}

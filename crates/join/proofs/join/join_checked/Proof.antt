@@ -1,6 +1,4 @@
-use Prim.Native.Nat.{_≤_}
 use mathlib.Core.Path.{_∙_}
-use native.Mathlib.Omega.{arith}
 use denote.Ref.{now}
 use Rattle.checked.proofs.Laws.{refused-verdict, accepted-reads}
 use Rattle.join_numbers.proofs.Parts.{part-of}

@@ -1,8 +1,8 @@
 use Prim.Native.Nat.{_+_, _-_, _≤_}
-use mathlib.Core.Path.{_≡_, refl, sym, _∙_, ap}
+use mathlib.Core.Path.{_≡_, refl}
 use native.Mathlib.Omega.{arith}
 use denote.Ref.{now}
-use lib.ListN.{getD, length}
+use lib.ListN.{getD}
 use lib.Seq.{sets}
 use Rattle.snapshot.specs.Lists.{rows}
 use Rattle.join_records.proofs.Laws.{store-start, store-next, counted, stored, space-small, space-room, stored-size}

@@ -1,11 +1,9 @@
 use Prim.Native.Nat.{_+_, _-_, _≤_}
-use mathlib.Core.Path.{_≡_, refl, sym, _∙_, ap}
+use mathlib.Core.Path.{_≡_}
 use native.Mathlib.Omega.{arith}
 use denote.Ref.{now}
-use lib.ListN.{getD, length}
 use lib.Seq.{sets}
 use Rattle.snapshot.specs.Lists.{rows}
-use Rattle.snapshot.specs.Words.{argumentsAt}
 use Rattle.accept.proofs.Turns.{arguments-few}
 use Rattle.join_records.specs.Moves.{numbersOf, movedWord}
 use borrow.Author.Needs.{needs}
