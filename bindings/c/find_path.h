@@ -57,7 +57,8 @@ enum kelumavor_refusal {
     KELUMAVOR_REFUSED_ENTRY_THERE_OR_NOT = 47, /* an added name that is there already, or a removal of one that isn't */
     KELUMAVOR_REFUSED_NO_ROOM = 48,
     KELUMAVOR_REFUSED_NO_SUCH_WINDOW = 49,
-    KELUMAVOR_REFUSED_WINDOW_WAITS = 50
+    KELUMAVOR_REFUSED_WINDOW_WAITS = 50,
+    KELUMAVOR_REFUSED_JOIN_TOO_LARGE = 51      /* a joined snapshot that passes a limit or the target */
 };
 
 /* What the check answers: the number of the refusal, 0 for none; the word at which the refused record begins, or the number of
@@ -266,6 +267,25 @@ size_t kelumavor_remove_entry(uint32_t *words, size_t words_len, size_t *count, 
 size_t kelumavor_import_list(const uint32_t *words, size_t words_len, uint32_t *area, size_t area_len, size_t crate, uint32_t *target,
                              size_t target_len, size_t *count);
 
+/* Joins two snapshots in one: writes its words to the target, and count becomes their number; what stands past them stays. The records of the first keep
+ * their numbers, those of the second follow, each kind in its old order; equal names are one name, equal builtins one definition. Every question on either
+ * part has the same line on the joined words, put with its numbers moved. Answers 0, or the number by which the call is refused, with the target
+ * unchanged and count 0: 20 for an area of fewer than 16,384 words; 30 to 36 and 43 for the first snapshot, then for the second; 51 for a result that
+ * passes a limit of a snapshot or target_len. The area is left as by kelumavor_find_path. */
+size_t kelumavor_join(const uint32_t *first, size_t first_len, const uint32_t *second, size_t second_len, uint32_t *area,
+                      size_t area_len, uint32_t *target, size_t target_len, size_t *count);
+
+/* Leaves in the area where the names and definitions of the second go in a join, for the two functions below, and answers 0; or the number by which the
+ * call is refused, as kelumavor_join but for 51, and then nothing is said of the area's first 16,384 words. Those past them stay. A crate, a map or a module of
+ * the second has its number plus how many the first has; the first's numbers stay. */
+size_t kelumavor_join_numbers(const uint32_t *first, size_t first_len, const uint32_t *second, size_t second_len, uint32_t *area,
+                              size_t area_len);
+
+/* The number in the joined snapshot of a name and of a definition of the second, below how many it has, from the area that kelumavor_join_numbers
+ * left. Nothing is written. */
+size_t kelumavor_new_name(const uint32_t *area, size_t area_len, size_t name);
+size_t kelumavor_new_definition(const uint32_t *area, size_t area_len, size_t definition);
+
 /* Who asks for a reach: viewing module, prefix, options, and the fuel and the limit of each search. */
 enum kelumavor_viewer {
     KELUMAVOR_VIEWER_FROM,
@@ -400,6 +420,8 @@ static inline const char *kelumavor_refusal_text(size_t number)
         return "a window above 7";
     case KELUMAVOR_REFUSED_WINDOW_WAITS:
         return "the window has a question that waits already";
+    case KELUMAVOR_REFUSED_JOIN_TOO_LARGE:
+        return "a joined snapshot that passes a limit or the target";
     default:
         return number == 0 ? "no refusal" : "an unknown refusal";
     }

@@ -3,7 +3,7 @@ use std::ffi::{OsStr, OsString};
 use std::fs;
 use std::io::Write;
 
-use kelumavor::{Counts, Outcome, Refusal, Report, Snapshot, with_import_lists};
+use kelumavor::{Counts, Outcome, Refusal, Report, Snapshot, join, with_import_lists};
 
 use crate::args::Args;
 use crate::assemble::assemble;
@@ -14,7 +14,7 @@ use crate::input::{Input, label, read};
 use crate::json::Json;
 use crate::progress::during;
 use crate::view::View;
-use crate::{ask, dot, dump, escape, imports, reach, tree};
+use crate::{ask, dot, dump, escape, imports, joined, reach, tree};
 
 pub const FINE: u8 = 0;
 /// A snapshot or a question is refused, there is no path, or it misleads.
@@ -75,6 +75,7 @@ fn answer(args: &[OsString]) -> Result<Answer, Failure> {
         Some("tree") => drawn(rest),
         Some("reach") => reached(rest),
         Some("imports") => imported(rest),
+        Some("join") => join_files(rest),
         Some("help" | "--help" | "-h") => Ok(Answer::new(FINE, HELP)),
         Some("version" | "--version" | "-V") => {
             Ok(Answer::line(FINE, concat!("kelumavor ", env!("CARGO_PKG_VERSION"))))
@@ -200,13 +201,15 @@ fn assembled_json(input: &Input, written: bool) -> String {
 /// The words of a file that the library accepts, or the answer that says why it does not.
 fn accepted_words(args: &Args, command: &str) -> Result<Result<Vec<u32>, Answer>, Failure> {
     let input = read(args.one_file(command)?)?;
-    let refused = match judge(&input) {
-        Ok(_) => return Ok(Ok(input.words)),
-        Err(refused) => refused,
-    };
-    let json = Json::Object([vec![("file", input.label.as_str().into())], refused.json()].concat());
-    let line = if args.flag("--json") { json.to_string() } else { refused.to_string() };
-    Ok(Err(Answer::line(REFUSED, line)))
+    Ok(accepted_input(args, &input).map_err(|refused| Answer::line(REFUSED, refused)).map(|()| input.words))
+}
+
+/// Why the library refuses an input, in the form that is asked for.
+fn accepted_input(args: &Args, input: &Input) -> Result<(), String> {
+    judge(input).map(|_| ()).map_err(|refused| match args.flag("--json") {
+        true => Json::Object([vec![("file", input.label.as_str().into())], refused.json()].concat()).to_string(),
+        false => refused.to_string(),
+    })
 }
 
 fn asked(words: &[OsString]) -> Result<Answer, Failure> {
@@ -301,6 +304,35 @@ fn with_lists(args: &Args, words: &[u32], path: &OsStr) -> Result<Answer, Failur
             FINE,
             format!("{}, {} written to {}", counted(finished.len(), "word"), counted(imports, "import"), label(path)),
         ),
+    })
+}
+
+/// Joins the snapshots of two files.
+fn join_files(words: &[OsString]) -> Result<Answer, Failure> {
+    let args = Args::read(words, &["--json"], &["-o"])?;
+    let [first, second] = &args.files[..] else {
+        return Err(Failure::new(format!("`join` takes two files, and {} are given", args.files.len())));
+    };
+    let inputs = [read(first)?, read(second)?];
+    for input in &inputs {
+        if let Err(refused) = accepted_input(&args, input) {
+            let label = if args.flag("--json") { String::new() } else { format!("{}: ", input.label) };
+            return Ok(Answer::line(REFUSED, format!("{label}{refused}")));
+        }
+    }
+    let [one, two] = [checked_again(&inputs[0].words)?, checked_again(&inputs[1].words)?];
+    let both = match join(&one, &two) {
+        Ok(both) => both,
+        Err(refusal) => return Ok(refused(&refusal, args.flag("--json"))),
+    };
+    let bytes: Vec<u8> = both.words().iter().flat_map(|word| word.to_le_bytes()).collect();
+    if let Some(path) = args.value("-o") {
+        fs::write(path, &bytes).map_err(|error| Failure::writing(&label(path), &error))?;
+    }
+    Ok(match (args.flag("--json"), args.value("-o")) {
+        (true, path) => Answer::line(FINE, joined::json(&both, two.counts(), path.is_some())),
+        (false, Some(path)) => Answer::new(FINE, joined::text(&both, one.counts(), &label(path))),
+        (false, None) => Answer::new(FINE, bytes),
     })
 }
 

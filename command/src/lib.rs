@@ -12,6 +12,7 @@ pub mod failure;
 pub mod faults;
 pub mod imports;
 pub mod input;
+pub mod joined;
 pub mod json;
 pub mod progress;
 pub mod reach;

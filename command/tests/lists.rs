@@ -1,13 +1,16 @@
-//! Reach and import lists.
+//! Reach, import lists and joins.
 mod common;
 
+use std::sync::LazyLock;
+
 use common::{WORKED, bytes, errors, file, kelumavor, out, snapshot};
-use kelumavor::{Counts, ModuleId, Snapshot, Viewer, with_import_lists};
+use kelumavor::{Counts, ModuleId, Snapshot, Viewer, join, with_import_lists};
 use kelumavor_command::view::View;
 use kelumavor_command::{imports, reach};
 
 fn worked() -> String {
-    file("lists-worked", &bytes(&WORKED))
+    static FILE: LazyLock<String> = LazyLock::new(|| file("lists-worked", &bytes(&WORKED)));
+    FILE.clone()
 }
 
 #[test]
@@ -83,5 +86,49 @@ fn statuses() {
         assert_eq!(output.status.code(), Some(status), "{args:?}");
         assert!(errors(&output).starts_with(said), "{args:?}: {}", errors(&output));
         assert_eq!(errors(&output).is_empty(), said.is_empty(), "{args:?}");
+    }
+}
+
+#[test]
+fn joins() {
+    let to = file("lists-joined", b"");
+    let output = kelumavor(&["join", &worked(), &worked(), "-o", &to]);
+    let second = "the second's crates begin at 1, its maps at 1, its modules at 2; the first's numbers stay";
+    assert_eq!(out(&output), format!("70 words written to {to}\n{second}\n"));
+    let part = Snapshot::check(&WORKED).unwrap();
+    let joined = bytes(join(&part, &part).unwrap().words());
+    assert_eq!(std::fs::read(&to).unwrap(), joined);
+    assert_eq!(kelumavor(&["join", &worked(), &worked()]).stdout, joined);
+    let json = out(&kelumavor(&["join", &worked(), &worked(), "--json", "-o", &to]));
+    let second = r#""crates":[1],"maps":[1],"modules":[2,3],"names":[0,1],"definitions":[2,3]"#;
+    assert_eq!(json, format!("{{\"count\":70,\"second\":{{{second}}}}}\n"));
+    // each part is asked by the joined words
+    let line = |file: &str, item: &str, from: &str| {
+        out(&kelumavor(&["ask", file, "--item", item, "--from", from])).lines().next().unwrap().to_string()
+    };
+    assert_eq!(line(&to, "1", "0"), line(&worked(), "1", "0"));
+    assert_eq!(line(&to, "3", "2"), line(&worked(), "1", "0"));
+}
+
+#[test]
+fn joins_that_fail() {
+    let (good, broken) = (worked(), file("lists-join-broken", &bytes(&WORKED[..36])));
+    let (good, broken) = (good.as_str(), broken.as_str());
+    let words = snapshot(1);
+    let names = (0..2048).flat_map(|n: u32| [0x1000_0003, 0x30 + n % 64 + (0x30 + n / 64) * 256 + 0x7A * 65536]);
+    let full = file("lists-join-full", &bytes(&names.collect::<Vec<u32>>()));
+    let other = file("lists-join-other", &bytes(&words));
+    let cases: [(&[&str], i32, &str, &str); 5] = [
+        (&["join", good, broken], 1, "refused 31 at word 29", ""),
+        (&["join", broken, good], 1, "refused 31 at word 29", ""),
+        (&["join", &full, &other], 1, "refused 51: a joined snapshot that passes a limit", ""),
+        (&["join", good], 2, "", "kelumavor: `join` takes two files, and 1 are given"),
+        (&["join", good, good, "-o", "/no/such/folder"], 2, "", "kelumavor: cannot write /no/such/folder: "),
+    ];
+    for (args, status, answer, said) in cases {
+        let output = kelumavor(args);
+        assert_eq!(output.status.code(), Some(status), "{args:?}");
+        assert!(out(&output).contains(answer), "{args:?}: {}", out(&output));
+        assert!(errors(&output).starts_with(said), "{args:?}: {}", errors(&output));
     }
 }

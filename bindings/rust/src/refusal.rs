@@ -51,10 +51,12 @@ pub enum RefusalKind {
     NoSuchWindow = 49,
     /// 50, by [`Windows::place`](crate::Windows::place)
     WindowWaits = 50,
+    /// 51, by [`join`](crate::join())
+    JoinTooLarge = 51,
 }
 
 impl RefusalKind {
-    const ALL: [RefusalKind; 23] = [
+    const ALL: [RefusalKind; 24] = [
         Self::SmallWorkArea,
         Self::TooMuchFuel,
         Self::OutOfRange,
@@ -78,6 +80,7 @@ impl RefusalKind {
         Self::NoRoom,
         Self::NoSuchWindow,
         Self::WindowWaits,
+        Self::JoinTooLarge,
     ];
 
     /// The reason with a number.
@@ -119,6 +122,7 @@ impl fmt::Display for RefusalKind {
             Self::NoRoom => "an addition that would pass 16,384 words or the lent slice",
             Self::NoSuchWindow => "a window above 7",
             Self::WindowWaits => "the window has a question that waits already",
+            Self::JoinTooLarge => "a joined snapshot that passes a limit or the target",
         })
     }
 }

@@ -131,6 +131,31 @@ mod raw {
             count: *mut usize,
         ) -> usize;
 
+        pub fn kelumavor_join(
+            first: *const u32,
+            first_len: usize,
+            second: *const u32,
+            second_len: usize,
+            area: *mut u32,
+            area_len: usize,
+            target: *mut u32,
+            target_len: usize,
+            count: *mut usize,
+        ) -> usize;
+
+        pub fn kelumavor_join_numbers(
+            first: *const u32,
+            first_len: usize,
+            second: *const u32,
+            second_len: usize,
+            area: *mut u32,
+            area_len: usize,
+        ) -> usize;
+
+        pub fn kelumavor_new_name(area: *const u32, area_len: usize, name: usize) -> usize;
+
+        pub fn kelumavor_new_definition(area: *const u32, area_len: usize, definition: usize) -> usize;
+
         pub fn kelumavor_reach(
             words: *const u32,
             words_len: usize,
@@ -311,4 +336,43 @@ pub fn reach(words: &[u32], area: &mut [u32], viewer: &[u32; VIEWER]) -> Result<
         raw::kelumavor_reach(words.as_ptr(), words.len(), area.as_mut_ptr(), area.len(), viewer, &raw mut counts)
     };
     if refusal == 0 { Ok(counts) } else { Err(refusal) }
+}
+
+/// The number of words written, or that of the refusal.
+pub fn join(first: &[u32], second: &[u32], area: &mut [u32], target: &mut [u32]) -> Result<usize, usize> {
+    let mut count = 0;
+    // SAFETY: as in `check`.
+    let refusal = unsafe {
+        raw::kelumavor_join(
+            first.as_ptr(),
+            first.len(),
+            second.as_ptr(),
+            second.len(),
+            area.as_mut_ptr(),
+            area.len(),
+            target.as_mut_ptr(),
+            target.len(),
+            &raw mut count,
+        )
+    };
+    if refusal == 0 { Ok(count) } else { Err(refusal) }
+}
+
+/// Leaves the numbers in the area; the number of the refusal, 0 for none.
+pub fn join_numbers(first: &[u32], second: &[u32], area: &mut [u32]) -> usize {
+    let (one, two) = (first.as_ptr(), second.as_ptr());
+    // SAFETY: as in `check`.
+    unsafe { raw::kelumavor_join_numbers(one, first.len(), two, second.len(), area.as_mut_ptr(), area.len()) }
+}
+
+/// The new number of a name of the second part.
+pub fn new_name(area: &[u32], name: usize) -> usize {
+    // SAFETY: as in `check`.
+    unsafe { raw::kelumavor_new_name(area.as_ptr(), area.len(), name) }
+}
+
+/// The new number of a definition of the second part.
+pub fn new_definition(area: &[u32], definition: usize) -> usize {
+    // SAFETY: as in `check`.
+    unsafe { raw::kelumavor_new_definition(area.as_ptr(), area.len(), definition) }
 }
