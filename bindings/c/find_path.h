@@ -313,6 +313,30 @@ enum kelumavor_reach_counts {
 size_t kelumavor_reach(const uint32_t *words, size_t words_len, uint32_t *area, size_t area_len,
                        const uint32_t viewer[KELUMAVOR_VIEWER], size_t counts[KELUMAVOR_REACH]);
 
+/* Whether any path names an item, in this order: the outcome (enum kelumavor_any), the path's kind, how many times super stands at its start
+ * (more than once is possible), how many names it has. */
+enum kelumavor_any_head {
+    KELUMAVOR_ANY_OUTCOME,
+    KELUMAVOR_ANY_KIND,
+    KELUMAVOR_ANY_SUPERS,
+    KELUMAVOR_ANY_COUNT,
+    KELUMAVOR_ANY_HEAD /* how many */
+};
+
+enum kelumavor_any {
+    KELUMAVOR_ANY_FOUND = 0,   /* a path; none that names the item has fewer names */
+    KELUMAVOR_ANY_NOWHERE = 1, /* no path of any length names the item there */
+    KELUMAVOR_ANY_REFUSED = 2,
+    KELUMAVOR_ANY_LONGER = 3   /* paths name it, each of more than sixteen names */
+};
+
+/* Whether any path names a definition in a module, as the compiler reads paths: a second opinion on KELUMAVOR_NONE, to be asked before an
+ * item is made public. The question is namespace, definition and viewing module; no fuel and no limit play a part. Writes the head and the numbers of the names,
+ * zeros past them, and answers 0; or the number by which the call is refused: 20, 22, those of the check, 23, 24. The area is left as by
+ * kelumavor_find_path. */
+size_t kelumavor_any_path(const uint32_t *words, size_t words_len, uint32_t *area, size_t area_len, const uint32_t question[3],
+                          size_t head[KELUMAVOR_ANY_HEAD], size_t names[16]);
+
 /* The functions below are no part of the library and not proved: they are written in terms of it, and tested. */
 
 /* The edition of a module's crate, 0 where accepted words have no such module. Takes no area. */

@@ -1,6 +1,7 @@
 //! A question, its answer, and what that means.
 use kelumavor::{
-    DefinitionId, ModuleId, Namespace, Options, Outcome, Path, PathKind, Prefix, Question, Report, Rule, Step,
+    AnyPath, DefinitionId, ModuleId, Namespace, Options, Outcome, Path, PathKind, Prefix, Question, Report, Rule, ShortestPath,
+    Snapshot, Step,
 };
 
 use crate::args::Args;
@@ -111,6 +112,35 @@ pub fn path_text(path: &Path) -> String {
     parts.join("::")
 }
 
+/// The same for a shortest path.
+fn shortest_text(path: &ShortestPath) -> String {
+    let mut parts: Vec<String> = path.start().into_iter().map(str::to_string).collect();
+    parts.extend(path.written().map(in_path));
+    parts.join("::")
+}
+
+/// Whether any path names the item, where the whole search found none.
+pub fn second_opinion(snapshot: &Snapshot, question: &Question, report: &Report) -> Result<Option<AnyPath>, Failure> {
+    if report.outcome != Outcome::NoPath {
+        return Ok(None);
+    }
+    let asked = snapshot.any_path(question.namespace, question.definition, question.from);
+    asked.map(Some).map_err(|refusal| Failure::new(refusal.to_string()))
+}
+
+/// A second opinion in words.
+fn opinion_text(opinion: &AnyPath) -> String {
+    match opinion {
+        AnyPath::Found(path) => format!(
+            "the compiler takes `{}` for it here: the rules of the search pass that path over, so nothing has to be made public",
+            shortest_text(path)
+        ),
+        AnyPath::Longer => "the compiler has paths for it here, each of more than sixteen names".to_string(),
+        AnyPath::Nowhere => "the compiler has no path for it here either, of any length".to_string(),
+        other => format!("an answer that this command has no words for: {other:?}"),
+    }
+}
+
 fn start(kind: PathKind) -> Option<&'static str> {
     match kind {
         PathKind::Plain => None,
@@ -199,7 +229,7 @@ pub fn meaning(view: &View, question: &Question, report: &Report) -> Option<Stri
              may be there; ask with --limit {} before acting on it",
             Question::LIMIT
         )),
-        Outcome::NoPath => Some("the whole search found no path: the item cannot be named here".to_string()),
+        Outcome::NoPath => Some("the whole search found no path".to_string()),
         Outcome::TankEmpty(Some(_)) => Some(format!(
             "the fuel ran out{}: the path names the item, and a search with more fuel may find a better one",
             empty().unwrap_or_default()
@@ -248,7 +278,7 @@ fn no_use_line(path: &Path) -> Option<String> {
     (path.names().len() == 0).then_some(note)
 }
 
-pub fn text(view: &View, question: &Question, report: &Report) -> String {
+pub fn text(view: &View, question: &Question, report: &Report, opinion: Option<&AnyPath>) -> String {
     let mut lines = Vec::new();
     let meaning = meaning(view, question, report);
     match report.path() {
@@ -274,11 +304,23 @@ pub fn text(view: &View, question: &Question, report: &Report) -> String {
             );
         }
     }
+    lines.extend(opinion.map(|opinion| format!("second opinion: {}", opinion_text(opinion))));
     lines.push(format!("asked: {}; {}", asked(view, question), counted(report.charges as usize, "charge")));
     lines.join("\n") + "\n"
 }
 
-pub fn json(view: &View, question: &Question, report: &Report) -> Json {
+/// Which answer a second opinion is, its path and its words.
+fn opinion_json(opinion: &AnyPath) -> Json {
+    let (outcome, path) = match opinion {
+        AnyPath::Found(path) => ("found", Some(shortest_text(path))),
+        AnyPath::Longer => ("longer", None),
+        AnyPath::Nowhere => ("none", None),
+        _ => ("unknown", None),
+    };
+    Json::Object(vec![("outcome", outcome.into()), ("path", path.into()), ("meaning", opinion_text(opinion).into())])
+}
+
+pub fn json(view: &View, question: &Question, report: &Report, opinion: Option<&AnyPath>) -> Json {
     let route = |path: &Path| -> Json {
         let step = |(part, step): &(String, Step)| {
             Json::Object(vec![
@@ -301,6 +343,7 @@ pub fn json(view: &View, question: &Question, report: &Report) -> Json {
         ("route", found(report).map_or(Json::List(Vec::new()), route)),
         ("refused", refusal.into()),
         ("meaning", meaning(view, question, report).into()),
+        ("second_opinion", opinion.map_or(Json::Null, opinion_json)),
         ("charges", report.charges.into()),
         ("tank_empty", report.first_empty.is_some().into()),
         ("question", question_json(view, question)),

@@ -222,9 +222,10 @@ fn asked(words: &[OsString]) -> Result<Answer, Failure> {
     let question = ask::question(&args, &view)?;
     let snapshot = checked_again(&words)?;
     let report = during("searching", || snapshot.find_path(&question));
+    let opinion = ask::second_opinion(&snapshot, &question, &report)?;
     let out = match args.flag("--json") {
-        true => format!("{}\n", ask::json(&view, &question, &report)),
-        false => ask::text(&view, &question, &report),
+        true => format!("{}\n", ask::json(&view, &question, &report, opinion.as_ref())),
+        false => ask::text(&view, &question, &report, opinion.as_ref()),
     };
     Ok(Answer::new(status(&report), out))
 }

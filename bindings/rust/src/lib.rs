@@ -4,9 +4,10 @@
 //! module, as rust-analyzer's `find_path` does. [`Snapshot::find_paths`] answers the questions of a whole file at once. The answers come from
 //! proved code in a static library; this crate adds the types.
 //!
-//! [`Outcome`] keeps apart what the Rust does not: [`Outcome::NoPath`] says that there is no path (under a smaller limit than
-//! [`Question::LIMIT`], that there is none of that length), [`Outcome::TankEmpty`] that the fuel ran out before the search was through, which
-//! says nothing about the item. With [`Options::read_back`] it tells [`Outcome::Misleads`] from [`Outcome::Found`] too: a path that means
+//! [`Outcome`] keeps apart what the Rust does not: [`Outcome::NoPath`] says that the whole search found no path (under a smaller limit than
+//! [`Question::LIMIT`], none of that length), [`Outcome::TankEmpty`] that the fuel ran out before the search was through, which
+//! says nothing about the item. The rules of the search pass some paths over: [`Snapshot::any_path`] says whether any path at all names an
+//! item, and is to be asked before one is made public. With [`Options::read_back`] it tells [`Outcome::Misleads`] from [`Outcome::Found`] too: a path that means
 //! another thing where it is to be written.
 //!
 //! ```
@@ -31,7 +32,7 @@
 //! let report = snapshot.find_path(&Question::new(Namespace::Values, f_function, root).options(options));
 //! match report.outcome {
 //!     Outcome::Found(path) => assert_eq!(path.to_string(), "a::f"),
-//!     Outcome::NoPath => panic!("the function cannot be named here"),
+//!     Outcome::NoPath => panic!("the search finds no path: `any_path` says whether there is one at all"),
 //!     Outcome::TankEmpty(_) => panic!("not known: the search needs more fuel"),
 //!     Outcome::Misleads(path) => panic!("{path} means another thing here"),
 //!     Outcome::Refused(refusal) => return Err(refusal),
@@ -41,6 +42,7 @@
 //! ```
 #![deny(missing_docs)]
 
+mod any;
 mod area;
 mod edits;
 mod ids;
@@ -60,6 +62,7 @@ mod version;
 mod windows;
 mod words;
 
+pub use any::{AnyPath, ShortestPath};
 pub use area::WorkArea;
 pub use edits::{EditedWords, Entry};
 pub use ids::{CrateId, DefinitionId, MapId, ModuleId, NameId, Namespace};

@@ -13,8 +13,9 @@ use crate::sys;
 pub enum Outcome {
     /// The path of a search that went through.
     Found(Path),
-    /// A search that went through, and there is no path. With a limit below [`Question::LIMIT`](crate::Question::LIMIT) that is a fact
-    /// about paths of that length alone: a longer one may be there.
+    /// A search that went through, and found no path. With a limit below [`Question::LIMIT`](crate::Question::LIMIT) that is a fact
+    /// about paths of that length alone: a longer one may be there. The rules of the search, which are rust-analyzer's, pass some paths over:
+    /// ask [`Snapshot::any_path`](crate::Snapshot::any_path) before an item is made public.
     NoPath,
     /// The fuel ran out before the search was through. A path that was found so far names the item, but a whole search may
     /// find another; without one, nothing is known.

@@ -30,6 +30,14 @@ pub const VIEWER: usize = 5;
 /// Counts of a reach.
 pub const REACH: usize = 21;
 
+/// Names of a path, at most.
+pub const NAMES: usize = 16;
+
+/// Outcomes of any path.
+pub const ANY_FOUND: usize = 0;
+pub const ANY_NOWHERE: usize = 1;
+pub const ANY_LONGER: usize = 3;
+
 mod raw {
     unsafe extern "C" {
         pub fn kelumavor_check(
@@ -163,6 +171,16 @@ mod raw {
             area_len: usize,
             viewer: *const [u32; super::VIEWER],
             counts: *mut [usize; super::REACH],
+        ) -> usize;
+
+        pub fn kelumavor_any_path(
+            words: *const u32,
+            words_len: usize,
+            area: *mut u32,
+            area_len: usize,
+            question: *const [u32; 3],
+            head: *mut [usize; 4],
+            names: *mut [usize; super::NAMES],
         ) -> usize;
     }
 }
@@ -375,4 +393,26 @@ pub fn new_name(area: &[u32], name: usize) -> usize {
 pub fn new_definition(area: &[u32], definition: usize) -> usize {
     // SAFETY: as in `check`.
     unsafe { raw::kelumavor_new_definition(area.as_ptr(), area.len(), definition) }
+}
+
+/// Outcome, kind, how many times `super`, how many names, and the names; or the number of the refusal.
+pub fn any_path(
+    words: &[u32],
+    area: &mut [u32],
+    question: &[u32; 3],
+) -> Result<([usize; 4], [usize; NAMES]), usize> {
+    let (mut head, mut names) = ([0; 4], [0; NAMES]);
+    // SAFETY: as in `check`.
+    let refusal = unsafe {
+        raw::kelumavor_any_path(
+            words.as_ptr(),
+            words.len(),
+            area.as_mut_ptr(),
+            area.len(),
+            question,
+            &raw mut head,
+            &raw mut names,
+        )
+    };
+    if refusal == 0 { Ok((head, names)) } else { Err(refusal) }
 }

@@ -1,0 +1,99 @@
+//! compare_any FROM TO: asks the static library whether any path names an item, for the items and modules of random snapshots, and compares
+//! the answers with those of `any_path.rs`, which was written on its own: outcome, number of names, whether the path begins with a name; and the
+//! library's path has to read to the item there. Of paths that are as good as each other each may give another.
+use std::time::Instant;
+
+use differential::any_path::{Answer, AnyPath, Start, Viewer};
+use differential::check::{Snapshot, check};
+use differential::generate::case;
+use differential::reading::item;
+use differential::usage::{fail, seeds};
+use kelumavor::{DefinitionId, ModuleId, Namespace, PathKind, ShortestPath};
+
+const USAGE: &str = "compare_any FROM TO
+  FROM TO   seeds, the last one not taken";
+
+/// Pairs of an item and a module that are asked of a snapshot, at most.
+const PAIRS: usize = 150;
+
+#[derive(Default)]
+struct Totals {
+    found: usize,
+    longer: usize,
+    nowhere: usize,
+    refused: usize,
+    differences: usize,
+}
+
+fn main() {
+    let arguments: Vec<String> = std::env::args().skip(1).collect();
+    let [from, to] = &arguments[..] else { fail("", USAGE) };
+    let start = Instant::now();
+    let mut totals = Totals::default();
+    for seed in seeds(from, to, USAGE) {
+        let (_, case) = case(seed, 1, 1);
+        if let Ok(s) = check(&case.words) {
+            compare(seed, &case.words, &s, &mut totals);
+        }
+    }
+    let Totals { found, longer, nowhere, refused, differences } = totals;
+    let seconds = start.elapsed().as_secs_f64();
+    println!("{found} found, {longer} longer, {nowhere} nowhere, {refused} refused: {differences} differences, {seconds:.1} s");
+    if differences > 0 {
+        std::process::exit(1);
+    }
+}
+
+fn compare(seed: u64, words: &[u32], s: &Snapshot, totals: &mut Totals) {
+    let snapshot = kelumavor::Snapshot::check(words).expect("words that both checks accept");
+    let (modules, definitions) = (s.modules.len(), s.definitions.len());
+    let all = modules * definitions * 3;
+    let step = all.div_ceil(PAIRS).max(1);
+    for place in (seed as usize % step..all).step_by(step) {
+        let (ns, definition, from) = (place % 3, place / 3 % definitions, place / 3 / definitions);
+        let namespace = [Namespace::Types, Namespace::Values, Namespace::Macros][ns];
+        let told = snapshot.any_path(namespace, DefinitionId(definition as u32), ModuleId(from as u32));
+        let Ok(told) = told else {
+            let macros = ns == 2 && s.definitions[definition].kind != 5;
+            totals.refused += 1;
+            report(macros, seed, ns, definition, from, "refused", totals);
+            continue;
+        };
+        let viewer = Viewer::new(s, from);
+        let same = match (viewer.any_path(ns, definition), &told) {
+            (Answer::None, kelumavor::AnyPath::Nowhere) => true,
+            (Answer::Longer, kelumavor::AnyPath::Longer) => true,
+            (Answer::Found(path), kelumavor::AnyPath::Found(shortest)) => {
+                let given = path_of(shortest);
+                path.names.len() == given.names.len()
+                    && (path.start == Start::Plain) == (given.start == Start::Plain)
+                    && viewer.reads_to(ns, &given) == Some(item(s, ns, definition))
+            }
+            _ => false,
+        };
+        match &told {
+            kelumavor::AnyPath::Found(_) => totals.found += 1,
+            kelumavor::AnyPath::Longer => totals.longer += 1,
+            _ => totals.nowhere += 1,
+        }
+        report(same, seed, ns, definition, from, &format!("{told:?}"), totals);
+    }
+}
+
+fn report(same: bool, seed: u64, ns: usize, definition: usize, from: usize, told: &str, totals: &mut Totals) {
+    if !same {
+        totals.differences += 1;
+        println!("seed {seed}: definition {definition} in namespace {ns} from module {from}: {told}");
+    }
+}
+
+fn path_of(path: &ShortestPath) -> AnyPath {
+    let start = match path.kind() {
+        PathKind::Plain => Start::Plain,
+        PathKind::SelfModule => Start::SelfModule,
+        PathKind::Super => Start::Super(path.supers()),
+        PathKind::Crate => Start::Crate,
+        PathKind::Absolute => Start::Extern,
+    };
+    AnyPath { start, names: path.ids().map(|name| name.0 as usize).collect() }
+}
