@@ -37,6 +37,8 @@ fn by_names_and_by_numbers() {
 fn what_none_means() {
     let none = |more: &[&str]| lines("none", &[&["--item", "a::f", "--from", "crate"], more].concat()).swap_remove(0);
     assert_eq!(none(&["--namespace", "types"]), "none: the whole search found no path");
+    let whole = lines("none", &["--item", "a::f", "--from", "crate", "--namespace", "types"]);
+    assert_eq!(whole[1], "second opinion: the compiler has no path for it here either, of any length");
     let short = none(&["--namespace", "types", "--limit", "6"]);
     assert!(short.starts_with(
         "none: the whole search under the limit 6 found no path: that is a fact about paths of that length"
