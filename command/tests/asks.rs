@@ -115,7 +115,7 @@ fn answers_are_the_librarys() {
             let from = ModuleId((definition + seed as u32) % snapshot.counts().modules as u32);
             let question = Question::new(Namespace::Types, DefinitionId(definition), from);
             let report = snapshot.find_path(&question);
-            let text = ask::text(&view, &question, &report);
+            let text = ask::text(&view, &question, &report, None);
             let first = text.lines().next().unwrap();
             match &report.outcome {
                 Outcome::Found(path) => {
