@@ -71,9 +71,10 @@ fn answers_and_errors_go_their_ways() {
 fn help_and_version() {
     assert_eq!(out(&kelumavor(&["--version"])), concat!("kelumavor ", env!("CARGO_PKG_VERSION"), "\n"));
     let help = out(&kelumavor(&["--help"]));
-    for word in
-        ["check", "dump", "assemble", "ask", "tree", "reach", "imports", "--json", "Status:", "Proved:", "Tested:"]
-    {
+    for word in [
+        "check", "dump", "assemble", "ask", "tree", "reach", "imports", "join", "--json", "Status:", "Proved:",
+        "Tested:",
+    ] {
         assert!(help.contains(word), "{word}");
     }
     assert_eq!(out(&kelumavor(&["ask", "--help"])), help);
