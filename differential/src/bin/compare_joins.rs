@@ -12,6 +12,9 @@ const USAGE: &str = "compare_joins PROGRAM FROM TO
   PROGRAM   the path printer
   FROM TO   seeds, the last one not taken";
 
+/// A question that takes the Rust more steps is not asked.
+const STEPS: u64 = 300_000;
+
 /// Words of the printer's input, at most.
 const MOST: usize = 16384;
 
@@ -29,7 +32,7 @@ fn main() {
     let (program, start) = (Other::named(program), Instant::now());
     let mut totals = Totals::default();
     for seed in seeds(from, to, USAGE) {
-        let (first, second) = (case(seed, 60, 1).1, case(seed + 1, 60, 1).1);
+        let (first, second) = (case(seed, 120, STEPS).1, case(seed + 1, 120, STEPS).1);
         compare(seed, &first, &second, &program, &mut totals);
     }
     let Totals { joins, too_large, lines, differences } = totals;
