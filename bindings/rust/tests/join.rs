@@ -178,6 +178,44 @@ fn names(from: usize, to: usize) -> Snapshot {
     Snapshot::check(words.as_words()).unwrap()
 }
 
+/// One crate with so many modules.
+fn modules(count: usize) -> Snapshot {
+    let mut words = SnapshotWords::new();
+    let (_, map, root) = build::own_crate(&mut words);
+    for _ in 1..count {
+        words.module(map, Some(root));
+    }
+    Snapshot::check(words.as_words()).unwrap()
+}
+
+/// One crate with so many definitions, of which the first is a builtin.
+fn definitions(count: usize) -> Snapshot {
+    let mut words = SnapshotWords::new();
+    let name = words.name("u8");
+    let (_, _, root) = build::own_crate(&mut words);
+    words.builtin_definition(name);
+    for _ in 1..count {
+        words.other_definition(root);
+    }
+    Snapshot::check(words.as_words()).unwrap()
+}
+
+/// Names alone, of 86 words each but the last two, that fill so many words.
+fn filled(letter: char, count: usize) -> Snapshot {
+    let mut words = SnapshotWords::new();
+    while words.as_words().len() + 172 < count {
+        let number = words.as_words().len();
+        words.name(&format!("{letter}{number:0>254}"));
+    }
+    let left = count - words.as_words().len();
+    for size in [left / 2, left - left / 2] {
+        let number = words.as_words().len();
+        words.name(&format!("{letter}{number:0>width$}", width = 3 * size - 4));
+    }
+    assert_eq!(words.as_words().len(), count);
+    Snapshot::check(words.as_words()).unwrap()
+}
+
 #[test]
 fn limits() {
     let kind = |first: &Snapshot, second: &Snapshot| join(first, second).map_err(|refusal| refusal.kind());
@@ -189,6 +227,20 @@ fn limits() {
     assert_eq!((all.second.name(NameId(0)), all.second.name(NameId(500))), (Some(NameId(1000)), Some(NameId(1500))));
     assert_eq!((all.second.name(NameId(1048)), all.first.name(NameId(1500))), (None, None));
     assert_eq!(kind(&names(0, 1500), &names(1000, 2049)), Err(RefusalKind::JoinTooLarge));
+    assert_eq!(kind(&modules(200), &modules(312)).unwrap().snapshot.counts().modules, ModuleId::COUNT);
+    assert_eq!(kind(&modules(200), &modules(313)), Err(RefusalKind::JoinTooLarge));
+    assert_eq!(kind(&modules(312), &modules(201)), Err(RefusalKind::JoinTooLarge));
+    // the builtin of both is one
+    let all = kind(&definitions(1000), &definitions(1049)).unwrap();
+    assert_eq!(all.snapshot.counts().definitions, DefinitionId::COUNT);
+    assert_eq!(all.second.definition(DefinitionId(0)), Some(DefinitionId(0)));
+    assert_eq!(all.second.definition(DefinitionId(1048)), Some(DefinitionId(2047)));
+    assert_eq!(kind(&definitions(1000), &definitions(1050)), Err(RefusalKind::JoinTooLarge));
+    let half = filled('a', 8192);
+    assert_eq!(kind(&half, &filled('b', 8192)).unwrap().words().len(), 16_384);
+    assert_eq!(kind(&half, &filled('b', 8193)), Err(RefusalKind::JoinTooLarge));
+    assert_eq!(kind(&half, &half).unwrap().words().len(), 8192);
+    assert_eq!(kind(&filled('a', 16_384), &filled('a', 16_384)).unwrap().words().len(), 16_384);
 }
 
 #[test]
