@@ -25,6 +25,7 @@ use Rattle.hir_def.proofs.Plain.{plainly}
 use Rattle.read_back.specs.Reads as Reads
 use Rattle.read_back.specs.Reads.{outward, scopesFrom, standsFor, meaning, entryOr, externNamed, externMeans, inExterns, preludeMeans, inPreludeOf, entryFrom, firstName, variantNamed, variantIn, laterName, after, lookedIn, follow, absolutely, parentMeans, readsTo, isThe, readsBack}
 use Rattle.find_path.specs.declared.Query.{Query}
+use Rattle.find_path.specs.declared.Report.{Report}
 use Rattle.find_path.specs.declared.Question.{Question}
 use Rattle.find_path.specs.Choices.{nameData, isPrelude, pathKindLen, pathLen, keyword, choiceNew, extended, push, unstably, compareBool, andThen, comparePrelude, taken, better, trySelect, shorterIf, lengthLeft}
 use Rattle.find_path.specs.Walk.{has, visited, startFrom, leadsTo, unmet, walk, findLocalImportLocations}
@@ -227,6 +228,27 @@ facadeCases =
 pub facade-cases : passes withFacade facadeCases ≡ true
 unfolding passes facadeCases rowAt withFacade named head
 facade-cases = refl
+
+-- Crate 0 has modules 0, its root, and 1 below it; module 2 is the root of crate 1. Definitions: 0 the module 2, `d` in the root of crate 0; 1 in
+-- the module 1, without an entry there; the root of crate 1 has it as `x`.
+pub withForeign : List ℕ
+withForeign =
+    named "d" ++ named "x"
+    ++ (head 2 0 ∷ 2021 ∷ head 2 0 ∷ 2021 ∷ head 3 0 ∷ 1 ∷ 0
+    ∷ head 4 0 ∷ 0 ∷ 0 ∷ head 5 0 ∷ 0 ∷ head 5 0 ∷ 1 ∷ head 4 1 ∷ 0 ∷ 0 ∷ head 5 1 ∷ 0 ∷ head 6 0 ∷ 1
+    ∷ head 8 1 ∷ 2 ∷ 0 ∷ head 8 4 ∷ 1 ∷ 0
+    ∷ head 9 0 ∷ 0 ∷ 0 ∷ 0 ∷ 0 ∷ 0 ∷ 0 ∷ 0 ∷ head 9 2 ∷ 0 ∷ 1 ∷ 1 ∷ 0 ∷ 0 ∷ 0 ∷ 0 ∷ [])
+
+pub foreignCases : List Row
+foreignCases =
+    row 0 0 0 1 0 9 "found d 0 0"
+    -- a local search does not look into another crate
+    ∷ row 1 0 1 1 0 9 "none - 1 0"
+    ∷ []
+
+pub foreign-cases : passes withForeign foreignCases ≡ true
+unfolding passes foreignCases rowAt withForeign named head
+foreign-cases = refl
 
 -- One crate. Modules: 0 its root; 1 `a`, 2 `b`, 3 `prelude`, 4 `d` below it; 5 `inner`, 6 `e` below `a`; 7 a block in `a`,
 -- with the modules 8 and 9 in the block. The prelude of the crate's own map is `e`.
@@ -485,15 +507,34 @@ free-cycle = refl
 abbrev pub asked : Query
 asked = record { ns = 1; definition = record { 0 = 1 }; from = record { 0 = 0 }; prefix = 1; options = 0; limit = 15 }
 
--- On the worked snapshot its search without a tank makes one charge; fuels 1 and 10,000 report alike, fuel 0 says empty and counts 0.
+-- a refusal of too much fuel: no path, zero counts
+abbrev pub overfull : Report
+overfull =
+    record {
+      outcome = 2;
+      number = 21;
+      kind = 0;
+      names = 0 ∷ 0 ∷ 0 ∷ 0 ∷ 0 ∷ 0 ∷ 0 ∷ 0 ∷ 0 ∷ 0 ∷ 0 ∷ 0 ∷ 0 ∷ 0 ∷ 0 ∷ 0 ∷ [];
+      count = 0;
+      charges = 0;
+      empty = 0;
+      left = 0;
+      sought = 0;
+      route = 0 ∷ 0 ∷ 0 ∷ 0 ∷ 0 ∷ 0 ∷ 0 ∷ 0 ∷ 0 ∷ 0 ∷ 0 ∷ 0 ∷ 0 ∷ 0 ∷ 0 ∷ 0 ∷ 0 ∷ [];
+      steps = 0;
+    }
+
+-- On the worked snapshot its search without a tank makes one charge; fuels 1 and 10,000 report alike, fuel 0 says empty and counts 0, fuel 10,001
+-- is refused.
 pub record Instance : Type 0 where
   pub charges : searchedFreely workedSnapshot asked .meter ≡ 1
   pub alike : reportAt worked areaLimit asked 1 ≡ reportAt worked areaLimit asked 10000
   pub apart : (reportAt worked areaLimit asked 0 .empty ≡ 1) × (reportAt worked areaLimit asked 0 .charges ≡ 0)
+  pub over : reportAt worked areaLimit asked 10001 ≡ overfull
 
 pub worked-free : Instance
 unfolding makes
-worked-free = record { charges = refl; alike = refl; apart = (refl, refl) }
+worked-free = record { charges = refl; alike = refl; apart = (refl, refl); over = refl }
 
 -- One crate. Modules: 0 its root, 1 `m` and 2 `p` below it, 3 a block in the root. The prelude of the crate's own map is `p`.
 -- Definitions: 0 and 1 the modules `m` and `p`; 2 is `old` in the root, declared there and deprecated, then `new`, an import, and `t` in the
