@@ -539,7 +539,8 @@ worked-free = record { charges = refl; alike = refl; apart = (refl, refl); over 
 -- One crate. Modules: 0 its root, 1 `m` and 2 `p` below it, 3 a block in the root. The prelude of the crate's own map is `p`.
 -- Definitions: 0 and 1 the modules `m` and `p`; 2 is `old` in the root, declared there and deprecated, then `new`, an import, and `t` in the
 -- block, deprecated; 3 is `x` in `p`, deprecated, then `y`, for `p` alone, and `z`; 4 is `old` in `m`, deprecated, then `new`; 5 is `t` in
--- `m`, deprecated, then `w`, a private import; 6 is `u` in `m`, a private import and deprecated, then `z`. `old` is 2, or 0 where none is deprecated.
+-- `m`, deprecated, then `w`, a private import; 6 is `u` in `m`, a private import and deprecated, then `z`; 7 is `y` in `m`, private, declared there
+-- and deprecated. `old` is 2, or 0 where none is deprecated.
 pub namesWith : ℕ → List ℕ
 namesWith old =
     named "m" ++ named "p" ++ named "old" ++ named "new" ++ named "t" ++ named "u" ++ named "w" ++ named "x" ++ named "y" ++ named "z"
@@ -549,13 +550,15 @@ namesWith old =
     ∷ head 6 0 ∷ 1 ∷ head 6 0 ∷ 2 ∷ head 7 0 ∷ 2
     -- definitions
     ∷ head 8 1 ∷ 1 ∷ 0 ∷ head 8 1 ∷ 2 ∷ 0 ∷ head 8 4 ∷ 0 ∷ 0 ∷ head 8 4 ∷ 2 ∷ 0 ∷ head 8 4 ∷ 1 ∷ 0 ∷ head 8 4 ∷ 1 ∷ 0 ∷ head 8 4 ∷ 1 ∷ 0
+    ∷ head 8 4 ∷ 1 ∷ 0
     -- scopes
     ∷ head 9 0 ∷ 0 ∷ 0 ∷ 0 ∷ 0 ∷ 0 ∷ 1 ∷ 0 ∷ head 9 0 ∷ 0 ∷ 1 ∷ 1 ∷ 0 ∷ 0 ∷ 1 ∷ 0
     ∷ head 9 0 ∷ 0 ∷ 2 ∷ 2 ∷ 0 ∷ 0 ∷ (old + 1) ∷ 0 ∷ head 9 0 ∷ 0 ∷ 3 ∷ 2 ∷ 0 ∷ 0 ∷ 0 ∷ 0 ∷ head 9 3 ∷ 0 ∷ 4 ∷ 2 ∷ 0 ∷ 0 ∷ old ∷ 0
     ∷ head 9 2 ∷ 0 ∷ 7 ∷ 3 ∷ 0 ∷ 0 ∷ old ∷ 0 ∷ head 9 2 ∷ 0 ∷ 8 ∷ 3 ∷ 2 ∷ 2 ∷ 1 ∷ 0 ∷ head 9 2 ∷ 0 ∷ 9 ∷ 3 ∷ 0 ∷ 0 ∷ 1 ∷ 0
     ∷ head 9 1 ∷ 0 ∷ 2 ∷ 4 ∷ 0 ∷ 0 ∷ (old + 1) ∷ 0 ∷ head 9 1 ∷ 0 ∷ 3 ∷ 4 ∷ 0 ∷ 0 ∷ 0 ∷ 0
     ∷ head 9 1 ∷ 0 ∷ 4 ∷ 5 ∷ 0 ∷ 0 ∷ old ∷ 0 ∷ head 9 1 ∷ 0 ∷ 6 ∷ 5 ∷ 3 ∷ 0 ∷ 0 ∷ 0
-    ∷ head 9 1 ∷ 0 ∷ 5 ∷ 6 ∷ 3 ∷ 0 ∷ old ∷ 0 ∷ head 9 1 ∷ 0 ∷ 9 ∷ 6 ∷ 0 ∷ 0 ∷ 1 ∷ 0 ∷ [])
+    ∷ head 9 1 ∷ 0 ∷ 5 ∷ 6 ∷ 3 ∷ 0 ∷ old ∷ 0 ∷ head 9 1 ∷ 0 ∷ 9 ∷ 6 ∷ 0 ∷ 0 ∷ 1 ∷ 0
+    ∷ head 9 1 ∷ 0 ∷ 8 ∷ 7 ∷ 3 ∷ 0 ∷ (old + 1) ∷ 0 ∷ [])
 
 pub withOldNames : List ℕ
 withOldNames = namesWith 2
@@ -584,6 +587,9 @@ oldNameCases =
     -- the first entry decides without the bit
     ∷ row 6 0 0 1 0 9 "none - 1 0"
     ∷ row 6 0 0 1 32 9 "found m::z 1 0"
+    -- declared there, so no import, deprecated or not
+    ∷ row 7 0 0 1 0 9 "found m::y 1 0"
+    ∷ row 7 0 0 1 32 9 "found m::y 1 0"
     -- all options, and one too many
     ∷ row 2 0 0 1 127 0 "found old 0 0"
     ∷ row 2 0 0 1 128 0 "refused 22 0 0"
@@ -715,11 +721,11 @@ module-routes = refl
 
 pub oldNameRoutes : List Row
 oldNameRoutes =
-    row 2 0 0 1 0 0 "found old 0 0 scope@79"
-    ∷ row 2 0 0 1 32 0 "found new 0 0 scope@87"
-    ∷ row 3 0 0 1 32 0 "found z 0 0 prelude@119"
-    ∷ row 4 0 0 1 0 9 "found m::old 1 0 scope@63 local@127"
-    ∷ row 4 0 0 1 32 9 "found m::new 1 0 scope@63 local@135"
+    row 2 0 0 1 0 0 "found old 0 0 scope@82"
+    ∷ row 2 0 0 1 32 0 "found new 0 0 scope@90"
+    ∷ row 3 0 0 1 32 0 "found z 0 0 prelude@122"
+    ∷ row 4 0 0 1 0 9 "found m::old 1 0 scope@66 local@130"
+    ∷ row 4 0 0 1 32 9 "found m::new 1 0 scope@66 local@138"
     ∷ []
 
 pub old-name-routes : routes withOldNames oldNameRoutes ≡ true
