@@ -1,2 +1,2 @@
 -- Passed on to the crates above.
-pub use Rattle.record_rules.specs.Builtins.{packed, spelled, builtins}
+pub use Rattle.check_rules.specs.Builtins.{packed, spelled, builtins}

@@ -14,7 +14,7 @@ use Rattle.find_path.proofs.Crates.{each-append}
 use Rattle.hir_def.specs.ImportMap.{importInfoFor}
 use Rattle.hir_def.specs.declared.Item.{Item}
 use Rattle.scope_edits.specs.Entries.{scopesEnd}
-use Rattle.import_order.specs.Collect.{collected}
+use Rattle.import_rules.specs.Collect.{collected}
 use Rattle.import_words.specs.Words.{placedFrom, othersThan, isOthers, replaced, wordsWith, snapshotWith, isOf, unplaced}
 use Rattle.import_words.proofs.Fitting.{collected-fits, collected-owned}
 use Rattle.import_words.proofs.Infos.{own-infos, other-infos}

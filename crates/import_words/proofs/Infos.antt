@@ -19,7 +19,7 @@ use Rattle.hir_def.specs.declared.Item.{Item}
 use Rattle.find_path.specs.Choices.{nameData}
 use Rattle.find_path.specs.Line.{textOf}
 use Rattle.scope_edits.specs.Entries.{movedImport, withLists, scopesEnd}
-use Rattle.import_order.specs.Collect.{entryBefore, entriesOf, piled, visits, modulesFrom, importsOf, importsIn, importsOver, collected}
+use Rattle.import_rules.specs.Collect.{entryBefore, entriesOf, piled, visits, modulesFrom, importsOf, importsIn, importsOver, collected}
 use Rattle.import_words.specs.Words.{placedFrom, isOthers, othersThan, replaced, snapshotWith, isOf, unplaced}
 use Rattle.import_words.proofs.Fitting.{Owned}
 

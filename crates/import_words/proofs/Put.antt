@@ -21,7 +21,7 @@ use Rattle.scope_edits.proofs.Lists.{inserted-length, inserted-before, inserted
 use Rattle.scope_edits.proofs.Folded.{base, records-more, records-after, run-late, run-moved}
 use Rattle.scope_edits.proofs.Split.{verdict-is}
 use Rattle.scope_edits.proofs.Inserted.{end-split}
-use Rattle.import_order.specs.Collect.{wordsOf}
+use Rattle.import_rules.specs.Collect.{wordsOf}
 use Rattle.import_words.specs.Words.{Fits, placedFrom, othersThan, replaced, wordsWith, snapshotWith}
 use Rattle.import_words.proofs.Taken.{words-length, words-append, withMore, Over, over-imports}
 use Rattle.import_words.proofs.Runs.{Run, old-imports, withThese, run-apart, run-lower}

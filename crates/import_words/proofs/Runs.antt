@@ -22,7 +22,7 @@ use Rattle.accept.proofs.Folds.{records-end}
 use Rattle.scope_edits.specs.Entries.{withLists}
 use Rattle.scope_edits.proofs.Stepped.{follows-rise, taking, taken-step, taking-within}
 use Rattle.scope_edits.proofs.Folded.{finish-accepts, next-record, records-take, records-after}
-use Rattle.import_order.specs.Collect.{importWords, wordsOf}
+use Rattle.import_rules.specs.Collect.{importWords, wordsOf}
 use Rattle.import_words.specs.Words.{Fits, placedFrom}
 use Rattle.import_words.proofs.Taken.{import-kind, import-arguments, words-first, words-later, withMore, more-next}
 

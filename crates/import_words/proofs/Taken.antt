@@ -20,7 +20,7 @@ use Rattle.accept.proofs.Bools.{and-two, and-four}
 use Rattle.scope_edits.specs.Entries.{movedImport, withLists}
 use Rattle.scope_edits.proofs.Stepped.{Taking, taken-step, arguments-same}
 use Rattle.scope_edits.proofs.Folded.{records-take}
-use Rattle.import_order.specs.Collect.{importWords, wordsOf}
+use Rattle.import_rules.specs.Collect.{importWords, wordsOf}
 use Rattle.import_words.specs.Words.{Fits, placedFrom}
 
 -- a field is an argument: its word is of kind 0

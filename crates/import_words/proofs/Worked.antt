@@ -14,8 +14,8 @@ use Rattle.hir_def.specs.Items.{definitionOf, rootOf, ownMap}
 use Rattle.find_path.specs.Choices.{nameData}
 use Rattle.find_path.specs.Line.{unpacked, textOf}
 use Rattle.scope_edits.specs.Entries.{firstFrom, scopesEnd}
-use Rattle.import_order.specs.Collect.{textBefore, entryBefore, insertBy, sortInto, entriesOf, piled, visits, modulesFrom, memberNs, importsOf, importsIn, importsOver, collected, wordsOf}
-use Rattle.import_order.proofs.Worked.{head, named, withMembers}
+use Rattle.import_rules.specs.Collect.{textBefore, entryBefore, insertBy, sortInto, entriesOf, piled, visits, modulesFrom, memberNs, importsOf, importsIn, importsOver, collected, wordsOf}
+use Rattle.import_rules.proofs.Worked.{head, named, withMembers}
 use Rattle.import_words.specs.Words.{othersThan, replaced, wordsWith}
 
 pub putBy : List ℕ → ℕ → Verdict → List ℕ

@@ -12,7 +12,7 @@ use Rattle.hir_def.specs.Finds.{select}
 use Rattle.hir_def.specs.Items.{itemOf, sameItem}
 use Rattle.hir_def.specs.declared.Item.{Item}
 use Rattle.scope_edits.specs.Entries.{movedImport, movedExtern, withLists, scopesEnd, inserted, cut}
-use Rattle.import_order.specs.Collect.{wordsOf}
+use Rattle.import_rules.specs.Collect.{wordsOf}
 
 -- what the check asks of an import record: 32, 33, 35
 abbrev pub Fits : Snapshot → Import → Type 0

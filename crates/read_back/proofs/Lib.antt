@@ -3,4 +3,3 @@ pub mod Found
 pub mod Cases
 pub mod Exact
 pub mod Keywords
-pub mod Worked

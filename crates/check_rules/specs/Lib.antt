@@ -1,0 +1,5 @@
+pub mod Builtins
+pub mod Tests
+pub mod Steps
+pub mod Verdict
+pub mod Worked

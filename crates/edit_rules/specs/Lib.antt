@@ -1,0 +1,3 @@
+pub mod Entries
+pub mod Edits
+pub mod Written

@@ -1,0 +1,1 @@
+//! The lines that are printed for an input: definitions and rows, no functions.
