@@ -130,106 +130,37 @@ pub record Ends (P : Snapshot → Type 0) (s : Snapshot) : Type 0 where
   pub whole : mapsFilled s && cratesOwn s ≡ true
 
 module _ (W : List ℕ) (P : Snapshot → Type 0) (keeps : Keeps W P) where
-  taken-keeps : (a b c d e : Bool) (t u : Snapshot) → judge a b c d e t ≡ on u → (Passed a b c d e → P t) → P u
-  taken-keeps a b c d e t u h f = let q = judge-on a b c d e t u h in subst P (q .same) (f (q .passed))
+  taken-keeps : {a b c d e : Bool} {s t u : Snapshot} → (Passed a b c d e → P s → P t) → judge a b c d e t ≡ on u → P s → P u
+  taken-keeps {a} {b} {c} {d} {e} {s} {t} {u} f g h = let q = judge-on a b c d e t u g in subst P (q .same) (f (q .passed) h)
 
-  name-keeps : (s : Snapshot) (y : Name) (u : Snapshot) → nameStep s y ≡ on u → P s → P u
-  unfolding nameStep
-  name-keeps s y u e h =
-      taken-keeps (nameRange y) true (any (sameName y) (s .names)) true (ltb (length (s .names)) nameLimit) (addName s y) u e
-      (λ p. keeps .names s y p h)
+  crate-keeps : {a b e : Bool} {s t u : Snapshot} → (CratePassed a b e → P s → P t) → judgeCrate a b e t ≡ on u → P s → P u
+  crate-keeps {a} {b} {e} {s} {t} {u} f g h = let q = judge-crate-on a b e t u g in subst P (q .same) (f (q .passed) h)
 
-  crate-keeps : (s : Snapshot) (y : Crate) (u : Snapshot) → crateStep s y ≡ on u → P s → P u
-  unfolding crateStep
-  crate-keeps s y u e h =
-      let q = judge-crate-on (crateRange y) (isEdition (y .edition)) (ltb (length (s .crates)) crateLimit) (addCrate s y) u e in
-      subst P (q .same) (keeps .crates s y (q .passed) h)
-
-  dependency-keeps : (s : Snapshot) (y : Dependency) (u : Snapshot) → dependencyStep s y ≡ on u → P s → P u
-  unfolding dependencyStep
-  dependency-keeps s y u e h =
-      taken-keeps (dependencyRange y) (dependencyDefined (countsOf s) y) false true true (addDependency s y) u e
-      (λ p. keeps .dependencies s y p h)
-
-  map-keeps : (s : Snapshot) (y : Map) (u : Snapshot) → mapStep s y ≡ on u → P s → P u
-  unfolding mapStep
-  map-keeps s y u e h =
-      taken-keeps (mapRange y) (mapDefined (countsOf s) y) (mapRepeated s y) (mapPlaced s y) true (addMap s y) u e
-      (λ p. keeps .maps s y p h)
-
-  module-keeps : (s : Snapshot) (y : Module) (u : Snapshot) → moduleStep s y ≡ on u → P s → P u
-  unfolding moduleStep
-  module-keeps s y u e h =
-      taken-keeps true (moduleDefined (countsOf s) y) false (modulePlaced s y) (ltb (length (s .modules)) moduleLimit) (addModule s y) u e
-      (λ p. keeps .modules s y p h)
-
-  child-keeps : (s : Snapshot) (y : Child) (u : Snapshot) → childStep s y ≡ on u → P s → P u
-  unfolding childStep
-  child-keeps s y u e h =
-      taken-keeps true (childDefined (countsOf s) y) (any (sameChild y) (s .children)) (childPlaced s y) true (addChild s y) u e
-      (λ p. keeps .children s y p h)
-
-  prelude-keeps : (s : Snapshot) (y : Prelude) (u : Snapshot) → preludeStep s y ≡ on u → P s → P u
-  unfolding preludeStep
-  prelude-keeps s y u e h =
-      taken-keeps true (preludeDefined (countsOf s) y) (any (samePrelude y) (s .preludes)) true true (addPrelude s y) u e
-      (λ p. keeps .preludes s y p h)
-
-  definition-keeps : (s : Snapshot) (y : Definition) (u : Snapshot) → Stands W definitionAt 8 (y .place) y → definitionStep s y ≡ on u → P s → P u
-  unfolding definitionStep
-  definition-keeps s y u o e h =
-      taken-keeps (definitionRange s y) (definitionDefined (countsOf s) y) (definitionRepeated s y) (definitionPlaced s y)
-      (ltb (length (s .definitions)) definitionLimit) (addDefinition s y) u e
-      (λ p. keeps .definitions s y o p h)
-
-  scope-keeps : (s : Snapshot) (y : Scope) (u : Snapshot) → Stands W scopeAt 9 (y .place) y → scopeStep s y ≡ on u → P s → P u
-  unfolding scopeStep
-  scope-keeps s y u o e h =
-      taken-keeps (scopeRange y) (scopeDefined (countsOf s) y) (any (sameEntry y) (s .scopes)) (nsPlaced s (y .ns) (y .definition)) true (addScope s y) u e
-      (λ p. keeps .scopes s y o p h)
-
-  import-keeps : (s : Snapshot) (y : Import) (u : Snapshot) → Stands W importAt 10 (y .place) y → importStep s y ≡ on u → P s → P u
-  unfolding importStep
-  import-keeps s y u o e h =
-      taken-keeps (importRange y) (importDefined (countsOf s) y) false (nsPlaced s (y .ns) (y .definition)) true (addImport s y) u e
-      (λ p. keeps .imports s y o p h)
-
-  extern-keeps : (s : Snapshot) (y : Extern) (u : Snapshot) → Stands W externAt 11 (y .place) y → externStep s y ≡ on u → P s → P u
-  unfolding externStep
-  extern-keeps s y u o e h =
-      taken-keeps true (externDefined (countsOf s) y) (any (sameExtern y) (s .externs)) true true (addExtern s y) u e
-      (λ p. keeps .externs s y o p h)
-
-  member-keeps : (s : Snapshot) (y : Member) (u : Snapshot) → memberStep s y ≡ on u → P s → P u
-  unfolding memberStep
-  member-keeps s y u e h =
-      taken-keeps (memberRange y) (memberDefined (countsOf s) y) false (memberPlaced s y) true (addMember s y) u e
-      (λ p. keeps .members s y p h)
+  -- one of two steps, by a test
+  either : {C : Type 0} (b : Bool) (x y : Next) (u : Snapshot) → elim b [ true ↦ x | false ↦ y ] ≡ on u → (b ≡ true → x ≡ on u → C) → (y ≡ on u → C) → C
+  either true x y u e f g = f refl e
+  either false x y u e f g = g e
 
   -- a record of the words, with its head at a place
   stands : {R : Type 0} (read : List ℕ → ℕ → R) (k at : ℕ) → at < wordLimit → kindOf (getD W at 0) ≡ k → Stands W read k at (read W at)
   stands read k at l e = record { head = e; same = refl; inside = l }
 
   record-keeps : (at : ℕ) (s u : Snapshot) → at < wordLimit → recordStep (kindOf (getD W at 0)) W at s ≡ on u → P s → P u
-  unfolding recordStep
+  unfolding recordStep nameStep crateStep dependencyStep mapStep moduleStep childStep preludeStep definitionStep scopeStep importStep externStep memberStep
   record-keeps at s u l e h =
       let k = kindOf (getD W at 0) in
-      by-test (eqb k 1) (λ a. name-keeps s (nameAt W at) u (rw (recordStep, a) at e) h) (λ n1.
-      by-test (eqb k 2) (λ a. crate-keeps s (crateAt W at) u (rw (recordStep, n1, a) at e) h) (λ n2.
-      by-test (eqb k 3) (λ a. dependency-keeps s (dependencyAt W at) u (rw (recordStep, n1, n2, a) at e) h) (λ n3.
-      by-test (eqb k 4) (λ a. map-keeps s (mapAt W at) u (rw (recordStep, n1, n2, n3, a) at e) h) (λ n4.
-      by-test (eqb k 5) (λ a. module-keeps s (moduleAt W at) u (rw (recordStep, n1, n2, n3, n4, a) at e) h) (λ n5.
-      by-test (eqb k 6) (λ a. child-keeps s (childAt W at) u (rw (recordStep, n1, n2, n3, n4, n5, a) at e) h) (λ n6.
-      by-test (eqb k 7) (λ a. prelude-keeps s (preludeAt W at) u (rw (recordStep, n1, n2, n3, n4, n5, n6, a) at e) h) (λ n7.
-      by-test (eqb k 8)
-      (λ a. definition-keeps s (definitionAt W at) u (stands definitionAt 8 at l (eqb-true k 8 a)) (rw (recordStep, n1, n2, n3, n4, n5, n6, n7, a) at e) h) (λ n8.
-      by-test (eqb k 9)
-      (λ a. scope-keeps s (scopeAt W at) u (stands scopeAt 9 at l (eqb-true k 9 a)) (rw (recordStep, n1, n2, n3, n4, n5, n6, n7, n8, a) at e) h) (λ n9.
-      by-test (eqb k 10)
-      (λ a. import-keeps s (importAt W at) u (stands importAt 10 at l (eqb-true k 10 a)) (rw (recordStep, n1, n2, n3, n4, n5, n6, n7, n8, n9, a) at e) h) (λ n10.
-      by-test (eqb k 11)
-      (λ a. extern-keeps s (externAt W at) u (stands externAt 11 at l (eqb-true k 11 a)) (rw (recordStep, n1, n2, n3, n4, n5, n6, n7, n8, n9, n10, a) at e) h) (λ n11.
-      member-keeps s (memberAt W at) u (rw (recordStep, n1, n2, n3, n4, n5, n6, n7, n8, n9, n10, n11) at e) h)))))))))))
+      either (eqb k 1) _ _ u e (λ a g. taken-keeps (keeps .names s (nameAt W at)) g h) (λ e1.
+      either (eqb k 2) _ _ u e1 (λ a g. crate-keeps (keeps .crates s (crateAt W at)) g h) (λ e2.
+      either (eqb k 3) _ _ u e2 (λ a g. taken-keeps (keeps .dependencies s (dependencyAt W at)) g h) (λ e3.
+      either (eqb k 4) _ _ u e3 (λ a g. taken-keeps (keeps .maps s (mapAt W at)) g h) (λ e4.
+      either (eqb k 5) _ _ u e4 (λ a g. taken-keeps (keeps .modules s (moduleAt W at)) g h) (λ e5.
+      either (eqb k 6) _ _ u e5 (λ a g. taken-keeps (keeps .children s (childAt W at)) g h) (λ e6.
+      either (eqb k 7) _ _ u e6 (λ a g. taken-keeps (keeps .preludes s (preludeAt W at)) g h) (λ e7.
+      either (eqb k 8) _ _ u e7 (λ a g. taken-keeps (keeps .definitions s (definitionAt W at) (stands definitionAt 8 at l (eqb-true k 8 a))) g h) (λ e8.
+      either (eqb k 9) _ _ u e8 (λ a g. taken-keeps (keeps .scopes s (scopeAt W at) (stands scopeAt 9 at l (eqb-true k 9 a))) g h) (λ e9.
+      either (eqb k 10) _ _ u e9 (λ a g. taken-keeps (keeps .imports s (importAt W at) (stands importAt 10 at l (eqb-true k 10 a))) g h) (λ e10.
+      either (eqb k 11) _ _ u e10 (λ a g. taken-keeps (keeps .externs s (externAt W at) (stands externAt 11 at l (eqb-true k 11 a))) g h) (λ e11.
+      taken-keeps (keeps .members s (memberAt W at)) e11 h)))))))))))
 
   step-keeps : (at last : ℕ) (s u : Snapshot) → at < wordLimit → stepAt W at last s ≡ on u → P s → P u
   unfolding stepAt

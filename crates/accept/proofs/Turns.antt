@@ -11,6 +11,7 @@ use Rattle.snapshot.specs.Refusals.{formRefusal}
 use Rattle.snapshot.specs.Words.{kindOf, payOf, wordsOf, argumentTable, argumentsOf, argumentsAt}
 use Rattle.snapshot.specs.Sizes.{scopeSize}
 use Rattle.snapshot.specs.Records.{Map, Snapshot}
+use Rattle.snapshot.specs.Layouts.{snapWith}
 use Rattle.snapshot.specs.declared.layout.Layout.{Layout}
 use Rattle.record_rules.specs.Steps.{Next, no, need}
 use Rattle.accept.specs.Verdict.{follows, argumentsFrom, recordStep, stepAt}
@@ -18,38 +19,43 @@ use Rattle.record_rules.specs.Stands.{Here, Ready, Stands, Answered}
 use Rattle.record_rules.specs.declared.judge.Step.{Step}
 use Rattle.record_rules.proofs.Judged.{and-left, and-right}
 
--- the place after a record of a kind
-pub next-of : (W : List ℕ) (at j s : ℕ) {k : ℕ} → k ≡ kindOf (getD W at 0) → k ≡ j → 1 + argumentsOf j (payOf (getD W at 0)) ≡ s → at + 1 + argumentsAt W at ≡ at + s
-next-of W at j s ek ej er =
-    let e : argumentsAt W at ≡ argumentsOf j (payOf (getD W at 0)) = ap (λ x. argumentsOf x (payOf (getD W at 0))) (sym ek ∙ ej) in
-    omega arith
-
-pub ready-at : (W A : List ℕ) (l : Layout) (at : ℕ) {n m : ℕ} → n ≡ m → Ready W A l at n → Ready W A l at m
-ready-at W A l at e r = subst (λ x. Ready W A l at x) e r
-
-pub stands-at : (W A : List ℕ) (at : ℕ) (l : Layout) (ms : List Map) {k j : ℕ} → k ≡ j → Stands W A k at l ms → Stands W A j at l ms
-stands-at W A at l ms e s = subst (λ x. Stands W A x at l ms) e s
-
 pub answers-at : (W A : List ℕ) (r : Step) {k j n m : ℕ} {x y : Next} → k ≡ j → n ≡ m → x ≡ y → Answered W A j m y r → Answered W A k n x r
 answers-at W A r {k} {j} {n} {m} {x} {y} e f g a =
     subst (λ t. Answered W A t n x r) (sym e) (subst (λ t. Answered W A j t x r) (sym f) (subst (λ t. Answered W A j m t r) (sym g) a))
 
+-- the place after a record of kind j
+ends-at : (W : List ℕ) (at j : ℕ) {k next : ℕ} → k ≡ kindOf (getD W at 0) → k ≡ j → at + 1 + argumentsOf j (payOf (getD W at 0)) ≡ next → at + 1 + argumentsAt W at ≡ next
+ends-at W at j ek ej e = ap (λ x. at + 1 + argumentsOf x (payOf (getD W at 0))) (sym ek ∙ ej) ∙ e
+
+-- what the step of kind j asks and answers, in the terms of the record's own kind
+module _ {W A : List ℕ} {l : Layout} {at k next : ℕ} (j : ℕ) (ek : (k ≡ kindOf (getD W at 0)) × (1 ≤ k) × (k ≤ 13) × (k ≡ 12 → ⊥)) (ej : k ≡ j)
+    (e : at + 1 + argumentsOf j (payOf (getD W at 0)) ≡ next)
+  where
+    pub kind-ready : Ready W A l at (at + 1 + argumentsAt W at) → Ready W A l at next
+    kind-ready r = subst (λ x. Ready W A l at x) (ends-at W at j (ek .0) ej e) r
+
+    pub kind-answers : (B : List ℕ) (r : Step) → ((ms : List Map) → Stands W A j at l ms → Answered W B j next (recordStep j W at (snapWith W A l ms)) r)
+        → (ms : List Map) → Stands W A k at l ms → Answered W B k (at + 1 + argumentsAt W at) (recordStep k W at (snapWith W A l ms)) r
+    kind-answers B r f ms st =
+        answers-at W B r ej (ends-at W at j (ek .0) ej e) (ap (λ x. recordStep x W at (snapWith W A l ms)) ej) (f ms (subst (λ x. Stands W A x at l ms) ej st))
+
 -- none of the first eleven kinds
-pub thirteen : (k : ℕ) → 1 ≤ k → k ≤ 13 → (k ≡ 12 → ⊥) → (k ≡ 1 → ⊥) → (k ≡ 2 → ⊥) → (k ≡ 3 → ⊥) → (k ≡ 4 → ⊥) → (k ≡ 5 → ⊥) → (k ≡ 6 → ⊥) → (k ≡ 7 → ⊥)
-    → (k ≡ 8 → ⊥) → (k ≡ 9 → ⊥) → (k ≡ 10 → ⊥) → (k ≡ 11 → ⊥) → k ≡ 13
-thirteen k p q n a b c d e f g h i j m =
-    let p2 = beyond k 1 p a in
-    let p3 = beyond k 2 p2 b in
-    let p4 = beyond k 3 p3 c in
-    let p5 = beyond k 4 p4 d in
-    let p6 = beyond k 5 p5 e in
-    let p7 = beyond k 6 p6 f in
-    let p8 = beyond k 7 p7 g in
-    let p9 = beyond k 8 p8 h in
-    let p10 = beyond k 9 p9 i in
-    let p11 = beyond k 10 p10 j in
-    let p12 = beyond k 11 p11 m in
-    last k (beyond k 12 p12 n) q
+pub thirteen : {X : Type 0} {k w : ℕ} → (k ≡ w) × (1 ≤ k) × (k ≤ 13) × (k ≡ 12 → ⊥)
+    → (((((((((((X × (k ≡ 1 → ⊥)) × (k ≡ 2 → ⊥)) × (k ≡ 3 → ⊥)) × (k ≡ 4 → ⊥)) × (k ≡ 5 → ⊥)) × (k ≡ 6 → ⊥))
+    × (k ≡ 7 → ⊥)) × (k ≡ 8 → ⊥)) × (k ≡ 9 → ⊥)) × (k ≡ 10 → ⊥)) × (k ≡ 11 → ⊥)) → k ≡ 13
+thirteen {k = k} p r =
+    let p2 = beyond k 1 (p .1) (r .0 .0 .0 .0 .0 .0 .0 .0 .0 .0 .1) in
+    let p3 = beyond k 2 p2 (r .0 .0 .0 .0 .0 .0 .0 .0 .0 .1) in
+    let p4 = beyond k 3 p3 (r .0 .0 .0 .0 .0 .0 .0 .0 .1) in
+    let p5 = beyond k 4 p4 (r .0 .0 .0 .0 .0 .0 .0 .1) in
+    let p6 = beyond k 5 p5 (r .0 .0 .0 .0 .0 .0 .1) in
+    let p7 = beyond k 6 p6 (r .0 .0 .0 .0 .0 .1) in
+    let p8 = beyond k 7 p7 (r .0 .0 .0 .0 .1) in
+    let p9 = beyond k 8 p8 (r .0 .0 .0 .1) in
+    let p10 = beyond k 9 p9 (r .0 .0 .1) in
+    let p11 = beyond k 10 p10 (r .0 .1) in
+    let p12 = beyond k 11 p11 (r .1) in
+    last k (beyond k 12 p12 (p .3)) (p .2)
   where
     beyond : (k n : ℕ) → n ≤ k → (k ≡ n → ⊥) → n + 1 ≤ k
     beyond k n p h = omega arith

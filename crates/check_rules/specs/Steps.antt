@@ -1,6 +1,6 @@
 -- One record: the first of its tests that fails gives the number, else the snapshot has one record more.
 use Prim.Native.Nat.{ℕ}
-use mathlib.Core.List.{[], _∷_, _++_}
+use mathlib.Core.List.{List, [], _∷_, _++_}
 use mathlib.Core.Bool.{Bool, true, false, not}
 use lib.Dec.{ltb}
 use lib.ListN.{length}
@@ -28,211 +28,86 @@ judge range defined repeated placed room s =
 abbrev pub judgeCrate : Bool → Bool → Bool → Snapshot → Next
 judgeCrate range edition room s = need range rangeRefusal (need edition editionRefusal (need room countRefusal (on s)))
 
+-- the snapshot of twelve lists
+abbrev lists : List Name → List Crate → List Dependency → List Map → List Module → List Child → List Prelude → List Definition → List Scope
+    → List Import → List Extern → List Member → Snapshot
+lists names crates dependencies maps modules children preludes definitions scopes imports externs members =
+    record {
+      names = names;
+      crates = crates;
+      dependencies = dependencies;
+      maps = maps;
+      modules = modules;
+      children = children;
+      preludes = preludes;
+      definitions = definitions;
+      scopes = scopes;
+      imports = imports;
+      externs = externs;
+      members = members;
+    }
+
 -- the snapshot with one record more
 
 abbrev pub addName : Snapshot → Name → Snapshot
 addName s x =
-    record {
-      names = s .names ++ (x ∷ []);
-      crates = s .crates;
-      dependencies = s .dependencies;
-      maps = s .maps;
-      modules = s .modules;
-      children = s .children;
-      preludes = s .preludes;
-      definitions = s .definitions;
-      scopes = s .scopes;
-      imports = s .imports;
-      externs = s .externs;
-      members = s .members;
-    }
+    lists (s .names ++ (x ∷ [])) (s .crates) (s .dependencies) (s .maps) (s .modules) (s .children) (s .preludes) (s .definitions) (s .scopes)
+    (s .imports) (s .externs) (s .members)
 
 abbrev pub addCrate : Snapshot → Crate → Snapshot
 addCrate s x =
-    record {
-      names = s .names;
-      crates = s .crates ++ (x ∷ []);
-      dependencies = s .dependencies;
-      maps = s .maps;
-      modules = s .modules;
-      children = s .children;
-      preludes = s .preludes;
-      definitions = s .definitions;
-      scopes = s .scopes;
-      imports = s .imports;
-      externs = s .externs;
-      members = s .members;
-    }
+    lists (s .names) (s .crates ++ (x ∷ [])) (s .dependencies) (s .maps) (s .modules) (s .children) (s .preludes) (s .definitions) (s .scopes)
+    (s .imports) (s .externs) (s .members)
 
 abbrev pub addDependency : Snapshot → Dependency → Snapshot
 addDependency s x =
-    record {
-      names = s .names;
-      crates = s .crates;
-      dependencies = s .dependencies ++ (x ∷ []);
-      maps = s .maps;
-      modules = s .modules;
-      children = s .children;
-      preludes = s .preludes;
-      definitions = s .definitions;
-      scopes = s .scopes;
-      imports = s .imports;
-      externs = s .externs;
-      members = s .members;
-    }
+    lists (s .names) (s .crates) (s .dependencies ++ (x ∷ [])) (s .maps) (s .modules) (s .children) (s .preludes) (s .definitions) (s .scopes)
+    (s .imports) (s .externs) (s .members)
 
 abbrev pub addMap : Snapshot → Map → Snapshot
 addMap s x =
-    record {
-      names = s .names;
-      crates = s .crates;
-      dependencies = s .dependencies;
-      maps = s .maps ++ (x ∷ []);
-      modules = s .modules;
-      children = s .children;
-      preludes = s .preludes;
-      definitions = s .definitions;
-      scopes = s .scopes;
-      imports = s .imports;
-      externs = s .externs;
-      members = s .members;
-    }
+    lists (s .names) (s .crates) (s .dependencies) (s .maps ++ (x ∷ [])) (s .modules) (s .children) (s .preludes) (s .definitions) (s .scopes)
+    (s .imports) (s .externs) (s .members)
 
 abbrev pub addModule : Snapshot → Module → Snapshot
 addModule s x =
-    record {
-      names = s .names;
-      crates = s .crates;
-      dependencies = s .dependencies;
-      maps = s .maps;
-      modules = s .modules ++ (x ∷ []);
-      children = s .children;
-      preludes = s .preludes;
-      definitions = s .definitions;
-      scopes = s .scopes;
-      imports = s .imports;
-      externs = s .externs;
-      members = s .members;
-    }
+    lists (s .names) (s .crates) (s .dependencies) (s .maps) (s .modules ++ (x ∷ [])) (s .children) (s .preludes) (s .definitions) (s .scopes)
+    (s .imports) (s .externs) (s .members)
 
 abbrev pub addChild : Snapshot → Child → Snapshot
 addChild s x =
-    record {
-      names = s .names;
-      crates = s .crates;
-      dependencies = s .dependencies;
-      maps = s .maps;
-      modules = s .modules;
-      children = s .children ++ (x ∷ []);
-      preludes = s .preludes;
-      definitions = s .definitions;
-      scopes = s .scopes;
-      imports = s .imports;
-      externs = s .externs;
-      members = s .members;
-    }
+    lists (s .names) (s .crates) (s .dependencies) (s .maps) (s .modules) (s .children ++ (x ∷ [])) (s .preludes) (s .definitions) (s .scopes)
+    (s .imports) (s .externs) (s .members)
 
 abbrev pub addPrelude : Snapshot → Prelude → Snapshot
 addPrelude s x =
-    record {
-      names = s .names;
-      crates = s .crates;
-      dependencies = s .dependencies;
-      maps = s .maps;
-      modules = s .modules;
-      children = s .children;
-      preludes = s .preludes ++ (x ∷ []);
-      definitions = s .definitions;
-      scopes = s .scopes;
-      imports = s .imports;
-      externs = s .externs;
-      members = s .members;
-    }
+    lists (s .names) (s .crates) (s .dependencies) (s .maps) (s .modules) (s .children) (s .preludes ++ (x ∷ [])) (s .definitions) (s .scopes)
+    (s .imports) (s .externs) (s .members)
 
 abbrev pub addDefinition : Snapshot → Definition → Snapshot
 addDefinition s x =
-    record {
-      names = s .names;
-      crates = s .crates;
-      dependencies = s .dependencies;
-      maps = s .maps;
-      modules = s .modules;
-      children = s .children;
-      preludes = s .preludes;
-      definitions = s .definitions ++ (x ∷ []);
-      scopes = s .scopes;
-      imports = s .imports;
-      externs = s .externs;
-      members = s .members;
-    }
+    lists (s .names) (s .crates) (s .dependencies) (s .maps) (s .modules) (s .children) (s .preludes) (s .definitions ++ (x ∷ [])) (s .scopes)
+    (s .imports) (s .externs) (s .members)
 
 abbrev pub addScope : Snapshot → Scope → Snapshot
 addScope s x =
-    record {
-      names = s .names;
-      crates = s .crates;
-      dependencies = s .dependencies;
-      maps = s .maps;
-      modules = s .modules;
-      children = s .children;
-      preludes = s .preludes;
-      definitions = s .definitions;
-      scopes = s .scopes ++ (x ∷ []);
-      imports = s .imports;
-      externs = s .externs;
-      members = s .members;
-    }
+    lists (s .names) (s .crates) (s .dependencies) (s .maps) (s .modules) (s .children) (s .preludes) (s .definitions) (s .scopes ++ (x ∷ []))
+    (s .imports) (s .externs) (s .members)
 
 abbrev pub addImport : Snapshot → Import → Snapshot
 addImport s x =
-    record {
-      names = s .names;
-      crates = s .crates;
-      dependencies = s .dependencies;
-      maps = s .maps;
-      modules = s .modules;
-      children = s .children;
-      preludes = s .preludes;
-      definitions = s .definitions;
-      scopes = s .scopes;
-      imports = s .imports ++ (x ∷ []);
-      externs = s .externs;
-      members = s .members;
-    }
+    lists (s .names) (s .crates) (s .dependencies) (s .maps) (s .modules) (s .children) (s .preludes) (s .definitions) (s .scopes)
+    (s .imports ++ (x ∷ [])) (s .externs) (s .members)
 
 abbrev pub addExtern : Snapshot → Extern → Snapshot
 addExtern s x =
-    record {
-      names = s .names;
-      crates = s .crates;
-      dependencies = s .dependencies;
-      maps = s .maps;
-      modules = s .modules;
-      children = s .children;
-      preludes = s .preludes;
-      definitions = s .definitions;
-      scopes = s .scopes;
-      imports = s .imports;
-      externs = s .externs ++ (x ∷ []);
-      members = s .members;
-    }
+    lists (s .names) (s .crates) (s .dependencies) (s .maps) (s .modules) (s .children) (s .preludes) (s .definitions) (s .scopes)
+    (s .imports) (s .externs ++ (x ∷ [])) (s .members)
 
 abbrev pub addMember : Snapshot → Member → Snapshot
 addMember s x =
-    record {
-      names = s .names;
-      crates = s .crates;
-      dependencies = s .dependencies;
-      maps = s .maps;
-      modules = s .modules;
-      children = s .children;
-      preludes = s .preludes;
-      definitions = s .definitions;
-      scopes = s .scopes;
-      imports = s .imports;
-      externs = s .externs;
-      members = s .members ++ (x ∷ []);
-    }
+    lists (s .names) (s .crates) (s .dependencies) (s .maps) (s .modules) (s .children) (s .preludes) (s .definitions) (s .scopes)
+    (s .imports) (s .externs) (s .members ++ (x ∷ []))
 
 -- the kinds
 

@@ -22,9 +22,9 @@ use Rattle.record_rules.specs.Tests.{Counts, countsOf, mapOf, noMap, noModule, 
 use Rattle.record_rules.specs.Steps.{no, on, moduleStep, addModule}
 use Rattle.record_rules.specs.Stands.{numberOf, countsIn, Stands, Answered}
 use Rattle.record_rules.specs.declared.judge.Step.the-variants.{On}
-use Rattle.record_rules.proofs.Judged.{number-of, judge-no, judge-on, passes, Passed, counts-same, and-left, and-right}
-use Rattle.record_rules.proofs.Indexed.{Kept, indexes-early}
-use Rattle.record_rules.proofs.Tabled.{names-kept, heads-kept}
+use Rattle.record_rules.proofs.Judged.{Judged, judged, judged-no, judged-on, judged-passes, passes, counts-same, and-left, and-right}
+use Rattle.record_rules.proofs.Indexed.{Kept}
+use Rattle.record_rules.proofs.Grows.{grown, oneMore, lists-grown, stands-grown, indexes-grown, names-kept, heads-kept}
 
 -- a row of the table, written
 abbrev rowSet : List ℕ → ℕ → ℕ → ℕ → ℕ → List ℕ
@@ -56,25 +56,6 @@ latest-map s x h =
     let t = eqb (x .parent) 0 || eqb (mapOf s (x .parent - 1)) (x .map) in
     eqb-true _ _ (and-left p q (and-left (p && q) r (and-left (p && q && r) t h)))
 
-abbrev pub moduleOn : Layout → Layout
-moduleOn l =
-    record {
-      text = l .text;
-      names = l .names;
-      crates = l .crates;
-      dependencies = l .dependencies;
-      maps = l .maps;
-      modules = l .modules + 1;
-      children = l .children;
-      preludes = l .preludes;
-      definitions = l .definitions;
-      scopes = l .scopes;
-      imports = l .imports;
-      externs = l .externs;
-      members = l .members;
-      latest = l .latest;
-    }
-
 module _ (W A : List ℕ) (at : ℕ) (l : Layout) (ms : List Map) (st : Stands W A 5 at l ms) (room : l .modules < moduleLimit) (large : areaLimit ≤ length A)
     {x y z : ℕ} (ex : x ≡ moduleAt W at .map) (ey : y ≡ l .latest) (ez : z ≡ moduleAt W at .parent)
   where
@@ -102,53 +83,23 @@ module _ (W A : List ℕ) (at : ℕ) (l : Layout) (ms : List Map) (st : Stands W
     names-stay : Kept A (rowSet A (l .modules) x y z) 0 moduleTable
     names-stay i p q = row-other A (l .modules) x y z i (omega arith) (omega arith) (omega arith)
 
-    module-added : snapWith W (rowSet A (l .modules) x y z) (moduleOn l) ms ≡ addModule (snapWith W A l ms) (moduleAt W at)
+    module-added : snapWith W (rowSet A (l .modules) x y z) (oneMore 5 l) ms ≡ addModule (snapWith W A l ms) (moduleAt W at)
     module-added =
-        let z-children : l .children ≡ 0 = st .upto .children (lit< tt) in
-        let z-preludes : l .preludes ≡ 0 = st .upto .preludes (lit< tt) in
-        let z-definitions : l .definitions ≡ 0 = st .upto .definitions (lit< tt) in
-        let z-scopes : l .scopes ≡ 0 = st .upto .scopes (lit< tt) in
-        let z-imports : l .imports ≡ 0 = st .upto .imports (lit< tt) in
-        let z-externs : l .externs ≡ 0 = st .upto .externs (lit< tt) in
-        let z-members : l .members ≡ 0 = st .upto .members (lit< tt) in
-        let q-names : namesOf W (rowSet A (l .modules) x y z) (l .names) ≡ namesOf W A (l .names) = names-kept W A (rowSet A (l .modules) x y z) (l .names) (st .limited .names) names-stay in
-        let p : modulesOf (rowSet A (l .modules) x y z) (l .modules + 1) ≡ modulesOf A (l .modules) ++ (moduleAt W at ∷ []) = rows-put (moduleRow A) _ (l .modules) (moduleAt W at) old-row new-row in
-        let q-children : recordsOf childAt childSize W (childBase (moduleOn l)) ((moduleOn l) .children) ≡ recordsOf childAt childSize W (childBase l) (l .children) = rows-zero _ _ _ z-children in
-        let q-preludes : recordsOf preludeAt preludeSize W (preludeBase (moduleOn l)) ((moduleOn l) .preludes) ≡ recordsOf preludeAt preludeSize W (preludeBase l) (l .preludes) = rows-zero _ _ _ z-preludes in
-        let q-definitions : recordsOf definitionAt definitionSize W (definitionBase (moduleOn l)) ((moduleOn l) .definitions) ≡ recordsOf definitionAt definitionSize W (definitionBase l) (l .definitions) = rows-zero _ _ _ z-definitions in
-        let q-scopes : recordsOf scopeAt scopeSize W (scopeBase (moduleOn l)) ((moduleOn l) .scopes) ≡ recordsOf scopeAt scopeSize W (scopeBase l) (l .scopes) = rows-zero _ _ _ z-scopes in
-        let q-imports : recordsOf importAt importSize W (importBase (moduleOn l)) ((moduleOn l) .imports) ≡ recordsOf importAt importSize W (importBase l) (l .imports) = rows-zero _ _ _ z-imports in
-        let q-externs : recordsOf externAt externSize W (externBase (moduleOn l)) ((moduleOn l) .externs) ≡ recordsOf externAt externSize W (externBase l) (l .externs) = rows-zero _ _ _ z-externs in
-        let q-members : recordsOf memberAt memberSize W (memberBase (moduleOn l)) ((moduleOn l) .members) ≡ recordsOf memberAt memberSize W (memberBase l) (l .members) = rows-zero _ _ _ z-members in
-        λ i. record { names = q-names i; crates = recordsOf crateAt crateSize W (crateBase l) (l .crates); dependencies = recordsOf dependencyAt dependencySize W (dependencyBase l) (l .dependencies); maps = ms; modules = p i; children = q-children i; preludes = q-preludes i; definitions = q-definitions i; scopes = q-scopes i; imports = q-imports i; externs = q-externs i; members = q-members i }
+        lists-grown W A (rowSet A (l .modules) x y z) 5 at (l .text) (l .latest) l ms st (λ h. refl)
+        (names-kept W A (rowSet A (l .modules) x y z) (l .names) (st .limited .names) names-stay) refl (rows-put (moduleRow A) _ (l .modules) (moduleAt W at) old-row new-row)
 
     module _ (last : moduleAt W at .map + 1 ≡ l .maps) where
       new-map : moduleMap (rowSet A (l .modules) x y z) (l .modules) ≡ l .maps - 1
       new-map = let p = row-map A (l .modules) x y z fits-row ∙ ex in omega arith
 
-      module-stands : at + moduleSize ≤ length W → Stands W (rowSet A (l .modules) x y z) 5 (at + moduleSize) (moduleOn l) ms
+      module-stands : at + moduleSize ≤ length W → Stands W (rowSet A (l .modules) x y z) 5 (at + moduleSize) (oneMore 5 l) ms
       module-stands fits =
-          record {
-            place = (let q = st .place in omega arith);
-            within = fits;
-            upto =
-                record {
-                  crates = st .upto .crates;
-                  dependencies = st .upto .dependencies;
-                  maps = st .upto .maps;
-                  modules = λ h. absurd (omega arith);
-                  children = st .upto .children;
-                  preludes = st .upto .preludes;
-                  definitions = st .upto .definitions;
-                  scopes = st .upto .scopes;
-                  imports = st .upto .imports;
-                  externs = st .upto .externs;
-                  members = st .upto .members;
-                };
-            limited = record { names = st .limited .names; crates = st .limited .crates; modules = omega arith; definitions = st .limited .definitions };
+          stands-grown W A (rowSet A (l .modules) x y z) 5 at (l .text) (l .latest) l ms st (λ h. refl) (let q = st .place in omega arith) fits
+          (record { names = st .limited .names; crates = st .limited .crates; modules = omega arith; definitions = st .limited .definitions })
+          (record {
             heads = heads-kept W A (rowSet A (l .modules) x y z) (l .names) (st .limited .names) names-stay (st .heads);
             count = st .count;
-            latest = st .latest;
+            last = st .latest;
             below = below-more (λ m. moduleMap (rowSet A (l .modules) x y z) m < l .maps) (l .modules) (λ m h. rw (old-map m h) (st .below m h)) (let p = new-map in omega arith);
             rising = λ i j h k. rises j k i h;
             inside =
@@ -158,10 +109,9 @@ module _ (W A : List ℕ) (at : ℕ) (l : Layout) (ms : List Map) (st : Stands W
             own = λ c h.
                 (let q = st .limited .crates in
                 row-other A (l .modules) x y z (crateTable + c) (omega arith) (omega arith) (omega arith) ∙ st .own c h);
-            index =
-                indexes-early W A (rowSet A (l .modules) x y z) 5 l (moduleOn l) (st .index) (st .limited .names) names-stay
-                (λ i u. row-other A (l .modules) x y z i (omega arith) (omega arith) (omega arith)) refl refl refl refl refl (st .upto) (lit< tt);
-          }
+          })
+          (indexes-grown W A (rowSet A (l .modules) x y z) 5 at (l .text) (l .latest) l ms st (λ h. refl) names-stay
+          (λ i u. row-other A (l .modules) x y z i (omega arith) (omega arith) (omega arith)) refl refl refl refl refl)
         where
           rises : (j : ℕ) → j < l .modules + 1 → (i : ℕ) → i ≤ j → moduleMap (rowSet A (l .modules) x y z) i ≤ moduleMap (rowSet A (l .modules) x y z) j
           rises =
@@ -187,29 +137,24 @@ module _ (W A : List ℕ) (at : ℕ) (l : Layout) (ms : List Map) (st : Stands W
         ed ∙ ap (λ m. (eqb (moduleAt W at .map + 1) m && (any (isIn (moduleAt W at .map)) (modulesOf A (l .modules)) || eqb (moduleAt W at .parent) 0) && (not (any (isIn (moduleAt W at .map)) (modulesOf A (l .modules))) || not (eqb (moduleAt W at .parent) 0)) && (eqb (moduleAt W at .parent) 0 || eqb (moduleMap A (moduleAt W at .parent - 1)) (moduleAt W at .map)))) (sym (st .count))
         ∙ ap (λ q. (eqb (moduleAt W at .map + 1) (length ms) && (any (isIn (moduleAt W at .map)) (modulesOf A (l .modules)) || eqb (moduleAt W at .parent) 0) && (not (any (isIn (moduleAt W at .map)) (modulesOf A (l .modules))) || not (eqb (moduleAt W at .parent) 0)) && q)) (parent-by (moduleAt W at .parent) (module-parent (countsIn l) (moduleAt W at) (sym eb ∙ h)))
 
-    module-number : n ≡ numberOf true (moduleDefined (countsOf (snapWith W A l ms)) (moduleAt W at)) false (modulePlaced (snapWith W A l ms) (moduleAt W at)) (ltb (length ((snapWith W A l ms) .modules)) moduleLimit)
+    module-number : Judged n true (moduleDefined (countsOf (snapWith W A l ms)) (moduleAt W at)) false (modulePlaced (snapWith W A l ms) (moduleAt W at)) (ltb (length (modulesOf A (l .modules))) moduleLimit)
     module-number =
-        number-of true b false d e true (moduleDefined (countsOf (snapWith W A l ms)) (moduleAt W at)) false (modulePlaced (snapWith W A l ms) (moduleAt W at)) (ltb (length ((snapWith W A l ms) .modules)) moduleLimit) j refl (eb ∙ ap (λ m. moduleDefined m (moduleAt W at)) (counts-same W A 5 at l ms st)) (λ h. refl) module-places
+        judged j refl (eb ∙ ap (λ m. moduleDefined m (moduleAt W at)) (counts-same W A 5 at l ms st)) (λ h. refl) module-places
         (ee ∙ ap (λ m. ltb m moduleLimit) (sym (length-rows _ (l .modules))))
 
     pub module-no : (n ≡ 0 → ⊥) → moduleStep (snapWith W A l ms) (moduleAt W at) ≡ no n
     unfolding moduleStep
-    module-no z = judge-no true (moduleDefined (countsOf (snapWith W A l ms)) (moduleAt W at)) false (modulePlaced (snapWith W A l ms) (moduleAt W at)) (ltb (length ((snapWith W A l ms) .modules)) moduleLimit) (addModule (snapWith W A l ms) (moduleAt W at)) module-number z
-
-    module-passes : n ≡ 0 → Passed true (moduleDefined (countsOf (snapWith W A l ms)) (moduleAt W at)) false (modulePlaced (snapWith W A l ms) (moduleAt W at)) (ltb (length ((snapWith W A l ms) .modules)) moduleLimit)
-    module-passes z = passes true (moduleDefined (countsOf (snapWith W A l ms)) (moduleAt W at)) false (modulePlaced (snapWith W A l ms) (moduleAt W at)) (ltb (length ((snapWith W A l ms) .modules)) moduleLimit) (sym z ∙ module-number)
+    module-no z = judged-no module-number _ z
 
     module-room : n ≡ 0 → l .modules < moduleLimit
-    module-room z = ltb-true (l .modules) moduleLimit (ap (λ m. ltb m moduleLimit) (sym (length-rows (moduleRow A) (l .modules))) ∙ module-passes z .room)
+    module-room z = ltb-true (l .modules) moduleLimit (ap (λ m. ltb m moduleLimit) (sym (length-rows (moduleRow A) (l .modules))) ∙ judged-passes module-number z .room)
 
     module-last : n ≡ 0 → moduleAt W at .map + 1 ≡ l .maps
-    module-last z = latest-map (snapWith W A l ms) (moduleAt W at) (module-passes z .placed) ∙ st .count
+    module-last z = latest-map (snapWith W A l ms) (moduleAt W at) (judged-passes module-number z .placed) ∙ st .count
 
     pub module-on : {x y w : ℕ} → n ≡ 0 → at + moduleSize ≤ length W → areaLimit ≤ length A → x ≡ moduleAt W at .map → y ≡ l .latest → w ≡ moduleAt W at .parent
-        → Answered W (rowSet A (l .modules) x y w) 5 (at + moduleSize) (moduleStep (snapWith W A l ms) (moduleAt W at)) (On (moduleOn l))
+        → Answered W (rowSet A (l .modules) x y w) 5 (at + moduleSize) (moduleStep (snapWith W A l ms) (moduleAt W at)) (On (oneMore 5 l))
     unfolding moduleStep
-    module-on z fits large ex ey ew = (
-      ms,
-      judge-on true (moduleDefined (countsOf (snapWith W A l ms)) (moduleAt W at)) false (modulePlaced (snapWith W A l ms) (moduleAt W at)) (ltb (length ((snapWith W A l ms) .modules)) moduleLimit) (addModule (snapWith W A l ms) (moduleAt W at)) (module-passes z) ∙ ap on (sym (module-added W A at l ms st (module-room z) large ex ey ew)),
-      module-stands W A at l ms st (module-room z) large ex ey ew (module-last z) fits,
-    )
+    module-on z fits large ex ey ew =
+        judged-on module-number z (module-added W A at l ms st (module-room z) large ex ey ew)
+        (module-stands W A at l ms st (module-room z) large ex ey ew (module-last z) fits)

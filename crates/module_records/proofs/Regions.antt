@@ -20,9 +20,9 @@ use Rattle.record_rules.specs.Tests.{Counts, countsOf, crateOf, noMap, noModule
 use Rattle.record_rules.specs.Steps.{no, on, mapStep, addMap}
 use Rattle.record_rules.specs.Stands.{numberOf, countsIn, ownFrom, ownOf, Stands, Answered}
 use Rattle.record_rules.specs.declared.judge.Step.the-variants.{On}
-use Rattle.record_rules.proofs.Judged.{number-of, judge-no, judge-on, passes, Passed, counts-same, and-left, and-right}
-use Rattle.record_rules.proofs.Indexed.{Kept, Above, set-kept, set-above, indexes-early}
-use Rattle.record_rules.proofs.Tabled.{names-kept, modules-kept, heads-kept}
+use Rattle.record_rules.proofs.Judged.{Judged, judged, judged-no, judged-on, judged-passes, passes, counts-same, and-left, and-right}
+use Rattle.record_rules.proofs.Indexed.{Kept, Above, set-kept, set-above}
+use Rattle.record_rules.proofs.Grows.{grown, oneMore, lists-grown, stands-grown, indexes-grown, names-kept, modules-kept, heads-kept}
 
 -- the own map of a crate, with one map more
 
@@ -55,44 +55,13 @@ own-any c k (y ∷ ys) = by (isOwn c y) (own-any c (k + 1) ys)
 -- maps
 
 abbrev pub mapOn : Layout → ℕ → Layout
-mapOn l at =
-    record {
-      text = l .text;
-      names = l .names;
-      crates = l .crates;
-      dependencies = l .dependencies;
-      maps = l .maps + 1;
-      modules = l .modules;
-      children = l .children;
-      preludes = l .preludes;
-      definitions = l .definitions;
-      scopes = l .scopes;
-      imports = l .imports;
-      externs = l .externs;
-      members = l .members;
-      latest = at;
-    }
+mapOn l at = grown 4 (l .text) at l
 
 module _ (W A B : List ℕ) (at : ℕ) (l : Layout) (ms : List Map) (st : Stands W A 4 at l ms) (kept : Kept A B 0 crateTable) (above : Above A B) where
   map-added : snapWith W B (mapOn l at) (ms ++ (mapAt W at ∷ [])) ≡ addMap (snapWith W A l ms) (mapAt W at)
   map-added =
-      let z-children : l .children ≡ 0 = st .upto .children (lit< tt) in
-      let z-preludes : l .preludes ≡ 0 = st .upto .preludes (lit< tt) in
-      let z-definitions : l .definitions ≡ 0 = st .upto .definitions (lit< tt) in
-      let z-scopes : l .scopes ≡ 0 = st .upto .scopes (lit< tt) in
-      let z-imports : l .imports ≡ 0 = st .upto .imports (lit< tt) in
-      let z-externs : l .externs ≡ 0 = st .upto .externs (lit< tt) in
-      let z-members : l .members ≡ 0 = st .upto .members (lit< tt) in
-      let q-names : namesOf W B (l .names) ≡ namesOf W A (l .names) = names-kept W A B (l .names) (st .limited .names) (λ i u v. kept i u (omega arith)) in
-      let q-modules : modulesOf B (l .modules) ≡ modulesOf A (l .modules) = modules-kept A B (l .modules) (st .limited .modules) (λ i u v. kept i (omega arith) (omega arith)) in
-      let q-children : recordsOf childAt childSize W (childBase (mapOn l at)) ((mapOn l at) .children) ≡ recordsOf childAt childSize W (childBase l) (l .children) = rows-zero _ _ _ z-children in
-      let q-preludes : recordsOf preludeAt preludeSize W (preludeBase (mapOn l at)) ((mapOn l at) .preludes) ≡ recordsOf preludeAt preludeSize W (preludeBase l) (l .preludes) = rows-zero _ _ _ z-preludes in
-      let q-definitions : recordsOf definitionAt definitionSize W (definitionBase (mapOn l at)) ((mapOn l at) .definitions) ≡ recordsOf definitionAt definitionSize W (definitionBase l) (l .definitions) = rows-zero _ _ _ z-definitions in
-      let q-scopes : recordsOf scopeAt scopeSize W (scopeBase (mapOn l at)) ((mapOn l at) .scopes) ≡ recordsOf scopeAt scopeSize W (scopeBase l) (l .scopes) = rows-zero _ _ _ z-scopes in
-      let q-imports : recordsOf importAt importSize W (importBase (mapOn l at)) ((mapOn l at) .imports) ≡ recordsOf importAt importSize W (importBase l) (l .imports) = rows-zero _ _ _ z-imports in
-      let q-externs : recordsOf externAt externSize W (externBase (mapOn l at)) ((mapOn l at) .externs) ≡ recordsOf externAt externSize W (externBase l) (l .externs) = rows-zero _ _ _ z-externs in
-      let q-members : recordsOf memberAt memberSize W (memberBase (mapOn l at)) ((mapOn l at) .members) ≡ recordsOf memberAt memberSize W (memberBase l) (l .members) = rows-zero _ _ _ z-members in
-      λ i. record { names = q-names i; crates = recordsOf crateAt crateSize W (crateBase l) (l .crates); dependencies = recordsOf dependencyAt dependencySize W (dependencyBase l) (l .dependencies); maps = ms ++ (mapAt W at ∷ []); modules = q-modules i; children = q-children i; preludes = q-preludes i; definitions = q-definitions i; scopes = q-scopes i; imports = q-imports i; externs = q-externs i; members = q-members i }
+      lists-grown W A B 4 at (l .text) at l ms st (λ h. refl) (names-kept W A B (l .names) (st .limited .names) (λ i u v. kept i u (omega arith))) refl
+      (modules-kept A B (l .modules) (st .limited .modules) (λ i u v. kept i (omega arith) (omega arith)))
 
   map-of : (m : ℕ) → m < l .modules → moduleMap B m ≡ moduleMap A m
   map-of m h = let r = st .limited .modules in kept (moduleTable + 3 * m) (omega arith) (omega arith)
@@ -100,27 +69,12 @@ module _ (W A B : List ℕ) (at : ℕ) (l : Layout) (ms : List Map) (st : Stands
   map-stands : at + mapSize ≤ length W → ((c : ℕ) → c < l .crates → ownMap B c ≡ ownOf c (ms ++ (mapAt W at ∷ []))) → Stands W B 4 (at + mapSize) (mapOn l at) (ms ++ (mapAt W at ∷ []))
   map-stands fits own =
       let q-count = st .count in
-      record {
-        place = (let q = st .place in omega arith);
-        within = fits;
-        upto =
-            record {
-              crates = st .upto .crates;
-              dependencies = st .upto .dependencies;
-              maps = λ h. absurd (lt-irrefl 4 h);
-              modules = st .upto .modules;
-              children = st .upto .children;
-              preludes = st .upto .preludes;
-              definitions = st .upto .definitions;
-              scopes = st .upto .scopes;
-              imports = st .upto .imports;
-              externs = st .upto .externs;
-              members = st .upto .members;
-            };
-        limited = record { names = st .limited .names; crates = st .limited .crates; modules = st .limited .modules; definitions = st .limited .definitions };
+      stands-grown W A B 4 at (l .text) at l ms st (λ h. refl) (let q = st .place in omega arith) fits
+      (record { names = st .limited .names; crates = st .limited .crates; modules = st .limited .modules; definitions = st .limited .definitions })
+      (record {
         heads = heads-kept W A B (l .names) (st .limited .names) (λ i u v. kept i u (omega arith)) (st .heads);
         count = length-append ms (mapAt W at ∷ []) ∙ ap (λ n. n + 1) (st .count);
-        latest = λ h. getD-at ms (mapAt W at) [] noMap (l .maps + 1 - 1) (omega arith);
+        last = λ h. getD-at ms (mapAt W at) [] noMap (l .maps + 1 - 1) (omega arith);
         below = λ m h. (let q = map-of m h in let r = st .below m h in omega arith);
         rising = λ i j h k. (let p = map-of i (omega arith) in let q = map-of j k in let r = st .rising i j h k in omega arith);
         inside = λ m h.
@@ -129,8 +83,8 @@ module _ (W A B : List ℕ) (at : ℕ) (l : Layout) (ms : List Map) (st : Stands
             ap (λ k. getD (ms ++ (mapAt W at ∷ [])) k noMap) (map-of m h) ∙ List·getD-append ms (mapAt W at ∷ []) noMap (moduleMap A m) (omega arith) ∙ st .inside m h
             ∙ ap (mapAt W) (sym (kept (moduleTable + 3 * m + 1) (omega arith) (omega arith))));
         own = own;
-        index = indexes-early W A B 4 l (mapOn l at) (st .index) (st .limited .names) (λ i u v. kept i u (omega arith)) above refl refl refl refl refl (st .upto) (lit< tt);
-      }
+      })
+      (indexes-grown W A B 4 at (l .text) at l ms st (λ h. refl) (λ i u v. kept i u (omega arith)) above refl refl refl refl refl)
 
 pub map-defined : (n : Counts) (x : Map) → mapDefined n x ≡ true → (x .crate < n .crates) × (x .block ≤ n .modules)
 map-defined n x h =
@@ -166,18 +120,15 @@ module _ (W A : List ℕ) (at : ℕ) (l : Layout) (ms : List Map) (st : Stands W
     map-places : b ≡ true → d ≡ mapPlaced (snapWith W A l ms) (mapAt W at)
     map-places h = ed ∙ place-by (mapAt W at .block) (map-defined (countsIn l) (mapAt W at) (sym eb ∙ h) .1)
 
-    map-number : n ≡ numberOf (mapRange (mapAt W at)) (mapDefined (countsOf (snapWith W A l ms)) (mapAt W at)) (mapRepeated (snapWith W A l ms) (mapAt W at)) (mapPlaced (snapWith W A l ms) (mapAt W at)) true
-    map-number = number-of a b c d true (mapRange (mapAt W at)) (mapDefined (countsOf (snapWith W A l ms)) (mapAt W at)) (mapRepeated (snapWith W A l ms) (mapAt W at)) (mapPlaced (snapWith W A l ms) (mapAt W at)) true j ea (eb ∙ ap (λ m. mapDefined m (mapAt W at)) (counts-same W A 4 at l ms st)) map-repeats map-places refl
+    map-number : Judged n (mapRange (mapAt W at)) (mapDefined (countsOf (snapWith W A l ms)) (mapAt W at)) (mapRepeated (snapWith W A l ms) (mapAt W at)) (mapPlaced (snapWith W A l ms) (mapAt W at)) true
+    map-number = judged j ea (eb ∙ ap (λ m. mapDefined m (mapAt W at)) (counts-same W A 4 at l ms st)) map-repeats map-places refl
 
     pub map-no : (n ≡ 0 → ⊥) → mapStep (snapWith W A l ms) (mapAt W at) ≡ no n
     unfolding mapStep
-    map-no z = judge-no (mapRange (mapAt W at)) (mapDefined (countsOf (snapWith W A l ms)) (mapAt W at)) (mapRepeated (snapWith W A l ms) (mapAt W at)) (mapPlaced (snapWith W A l ms) (mapAt W at)) true (addMap (snapWith W A l ms) (mapAt W at)) map-number z
-
-    map-passes : n ≡ 0 → Passed (mapRange (mapAt W at)) (mapDefined (countsOf (snapWith W A l ms)) (mapAt W at)) (mapRepeated (snapWith W A l ms) (mapAt W at)) (mapPlaced (snapWith W A l ms) (mapAt W at)) true
-    map-passes z = passes (mapRange (mapAt W at)) (mapDefined (countsOf (snapWith W A l ms)) (mapAt W at)) (mapRepeated (snapWith W A l ms) (mapAt W at)) (mapPlaced (snapWith W A l ms) (mapAt W at)) true (sym z ∙ map-number)
+    map-no z = judged-no map-number _ z
 
     map-numbers : n ≡ 0 → mapDefined (countsIn l) (mapAt W at) ≡ true
-    map-numbers z = ap (λ m. mapDefined m (mapAt W at)) (counts-same W A 4 at l ms st) ∙ map-passes z .defined
+    map-numbers z = ap (λ m. mapDefined m (mapAt W at)) (counts-same W A 4 at l ms st) ∙ judged-passes map-number z .defined
 
     pub map-crate : n ≡ 0 → mapAt W at .crate < l .crates
     map-crate z = map-defined (countsIn l) (mapAt W at) (map-numbers z) .0
@@ -186,11 +137,7 @@ module _ (W A : List ℕ) (at : ℕ) (l : Layout) (ms : List Map) (st : Stands W
         → ((c : ℕ) → c < l .crates → ownMap B c ≡ ownOf c (ms ++ (mapAt W at ∷ [])))
         → Answered W B 4 (at + mapSize) (mapStep (snapWith W A l ms) (mapAt W at)) (On (mapOn l at))
     unfolding mapStep
-    map-on B z fits kept above own = (
-      ms ++ (mapAt W at ∷ []),
-      judge-on (mapRange (mapAt W at)) (mapDefined (countsOf (snapWith W A l ms)) (mapAt W at)) (mapRepeated (snapWith W A l ms) (mapAt W at)) (mapPlaced (snapWith W A l ms) (mapAt W at)) true (addMap (snapWith W A l ms) (mapAt W at)) (map-passes z) ∙ ap on (sym (map-added W A B at l ms st kept above)),
-      map-stands W A B at l ms st kept above fits own,
-    )
+    map-on B z fits kept above own = judged-on map-number z (map-added W A B at l ms st kept above) (map-stands W A B at l ms st kept above fits own)
 
     -- a block's map: no crate's own map changes
     pub map-on-block : n ≡ 0 → at + mapSize ≤ length W → (mapAt W at .block ≡ 0 → ⊥)
@@ -212,7 +159,7 @@ module _ (W A : List ℕ) (at : ℕ) (l : Layout) (ms : List Map) (st : Stands W
       where
         fresh : ownOf (mapAt W at .crate) ms ≡ 0
         fresh =
-            let p : (eqb (mapAt W at .block) 0 && any (isOwn (mapAt W at .crate)) ms) ≡ false = map-passes z .fresh in
+            let p : (eqb (mapAt W at .block) 0 && any (isOwn (mapAt W at .crate)) ms) ≡ false = judged-passes map-number z .fresh in
             let q : any (isOwn (mapAt W at .crate)) ms ≡ false = rw (eq-eqb _ _ h) at p in
             eqb-true _ _ (not-false _ (own-any (mapAt W at .crate) 0 ms ∙ q))
 

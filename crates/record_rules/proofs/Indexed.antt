@@ -99,29 +99,6 @@ pub early : (k : ℕ) (l : Layout) → Upto k l → k < 6 → Early k l
 early k l u h =
     record { children = u .children h; definitions = u .definitions (omega arith); scopes = u .scopes (omega arith); externs = u .externs (omega arith) }
 
--- a record of a kind before children
-pub indexes-early : (W A B : List ℕ) (k : ℕ) (l m : Layout) → Indexes W A l → l .names ≤ nameLimit → Kept A B 0 moduleTable → Above A B
-    → m .names ≡ l .names → m .children ≡ l .children → m .definitions ≡ l .definitions → m .scopes ≡ l .scopes → m .externs ≡ l .externs → Upto k l → k < 6
-    → Indexes W B m
-indexes-early W A B k l m ix few heads above en ec ed es ee u h =
-    let z = early k l u h in
-    let zc = z .children in
-    let zd = z .definitions in
-    let zs = z .scopes in
-    let ze = z .externs in
-    indexes-kept W A B l m ix few heads above
-    (record {
-      names = en;
-      children = ec;
-      definitions = ed;
-      scopes = es;
-      externs = ee;
-      child = λ p. absurd (omega arith);
-      definition = λ p. absurd (omega arith);
-      scope = λ p. absurd (omega arith);
-      extern = λ p. absurd (omega arith);
-    })
-
 -- one name more: its head in the table, its number on the chain of its key
 module _ (W A : List ℕ) (l : Layout) (at key : ℕ) (ix : Indexes W A l) (room : l .names < nameLimit) (large : areaLimit ≤ length A) (ek : key ≡ nameKey (nameAt W at)) where
   small : key < keys

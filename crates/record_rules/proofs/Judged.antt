@@ -17,7 +17,8 @@ use Rattle.snapshot.specs.declared.layout.Layout.{Layout}
 use Rattle.snapshot.proofs.Laws.{length-rows, getD-rows}
 use Rattle.record_rules.specs.Tests.{Counts, countsOf, noModule, noDefinition, kindOfDefinition, nsPlaced, samePrelude, sameDefinition, sameEntry, sameExtern, scopeDefined, importDefined, childDefined, childPlaced, definitionDefined, definitionPlaced, memberDefined, isMember, memberPlaced}
 use Rattle.record_rules.specs.Steps.{no, on, judge, judgeCrate}
-use Rattle.record_rules.specs.Stands.{numberOf, crateNumberOf, sameBy, countsIn, Stands}
+use Rattle.record_rules.specs.Stands.{numberOf, crateNumberOf, sameBy, countsIn, Stands, Answered}
+use Rattle.record_rules.specs.declared.judge.Step.the-variants.{On}
 
 -- the tests that follow a failed 33 do not matter
 number-same : (a b c d e c′ d′ : Bool) → (b ≡ true → c ≡ c′) → (b ≡ true → d ≡ d′) → numberOf a b c d e ≡ numberOf a b c′ d′ e
@@ -26,7 +27,7 @@ number-same false b c d e c′ d′ h i = refl
 number-same true false c d e c′ d′ h i = refl
 number-same true true c d e c′ d′ h i = rw (h refl, i refl)
 
-pub judge-no : (a b c d e : Bool) (s : Snapshot) {n : ℕ} → n ≡ numberOf a b c d e → (n ≡ 0 → ⊥) → judge a b c d e s ≡ no n
+judge-no : (a b c d e : Bool) (s : Snapshot) {n : ℕ} → n ≡ numberOf a b c d e → (n ≡ 0 → ⊥) → judge a b c d e s ≡ no n
 unfolding numberOf
 judge-no false b c d e s h z = ap no (sym h)
 judge-no true false c d e s h z = ap no (sym h)
@@ -52,13 +53,32 @@ passes true true false false e h = absurd (omega arith)
 passes true true false true false h = absurd (omega arith)
 passes true true false true true h = record { range = refl; defined = refl; fresh = refl; placed = refl; room = refl }
 
-pub judge-on : (a b c d e : Bool) (s : Snapshot) → Passed a b c d e → judge a b c d e s ≡ on s
+judge-on : (a b c d e : Bool) (s : Snapshot) → Passed a b c d e → judge a b c d e s ≡ on s
 judge-on a b c d e s p = rw (p .range, p .defined, p .fresh, p .placed, p .room)
 
 -- the code's number is the definition's; a test with a prime is the definition's, and those after a failed 33 do not matter
 pub number-of : {n : ℕ} (a b c d e a′ b′ c′ d′ e′ : Bool) → n ≡ numberOf a b c d e → a ≡ a′ → b ≡ b′ → (b ≡ true → c ≡ c′) → (b ≡ true → d ≡ d′)
     → e ≡ e′ → n ≡ numberOf a′ b′ c′ d′ e′
 number-of a b c d e a′ b′ c′ d′ e′ j ea eb ec ed ee = j ∙ number-same a b c d e c′ d′ ec ed ∙ cc
+
+-- the same, with the tests read off the type
+pub record Judged (n : ℕ) (a b c d e : Bool) : Type 0 where
+  pub is : n ≡ numberOf a b c d e
+
+pub judged : {n : ℕ} {a b c d e a′ b′ c′ d′ e′ : Bool} → n ≡ numberOf a b c d e → a ≡ a′ → b ≡ b′ → (b ≡ true → c ≡ c′) → (b ≡ true → d ≡ d′)
+    → e ≡ e′ → Judged n a′ b′ c′ d′ e′
+judged j ea eb ec ed ee = record { is = number-of _ _ _ _ _ _ _ _ _ _ j ea eb ec ed ee }
+
+module _ {n : ℕ} {a b c d e : Bool} (j : Judged n a b c d e) where
+  pub judged-passes : n ≡ 0 → Passed a b c d e
+  judged-passes z = passes a b c d e (sym z ∙ j .is)
+
+  pub judged-no : (s : Snapshot) → (n ≡ 0 → ⊥) → judge a b c d e s ≡ no n
+  judged-no s z = judge-no a b c d e s (j .is) z
+
+  pub judged-on : {W B : List ℕ} {k next : ℕ} {m : Layout} {ns : List Map} {t : Snapshot} → n ≡ 0 → snapWith W B m ns ≡ t → Stands W B k next m ns
+      → Answered W B k next (judge a b c d e t) (On m)
+  judged-on {ns = ns} {t = t} z q st = (ns, judge-on a b c d e t (judged-passes z) ∙ ap on (sym q), st)
 
 -- the same for a crate
 

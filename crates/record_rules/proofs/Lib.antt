@@ -3,3 +3,4 @@ pub mod Laws
 pub mod Judged
 pub mod Tabled
 pub mod Indexed
+pub mod Grows

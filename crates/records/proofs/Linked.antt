@@ -22,7 +22,7 @@ use Rattle.record_rules.specs.Stands.{numberOf, sameBy, countsIn, Indexes, Stan
 use Rattle.record_rules.proofs.Laws.{step-le}
 use Rattle.record_rules.proofs.Judged.{passes, any-same, and-left, and-right}
 use Rattle.record_rules.proofs.Indexed.{Kept, key-small}
-use Rattle.records.proofs.Grows.{childOn, definitionOn, scopeOn, externOn}
+use Rattle.record_rules.proofs.Grows.{oneMore}
 
 -- one record more in its chain: the tables stay, and the chains are those of the layout
 pub record Linked (W A B : List ℕ) (l : Layout) : Type 0 where
@@ -37,8 +37,8 @@ module _ (W A : List ℕ) (l : Layout) (ix : Indexes W A l) {base : ℕ} where
   extern-chain e = subst (λ b. Chained A externHeads externLinks (λ i. recordKey W 1 (b + externSize * i)) (l .externs)) (sym e) (ix .externs)
 
 module _ (W A : List ℕ) (at : ℕ) (l : Layout) (ms : List Map) {key : ℕ} {B : List ℕ} (short : length W ≤ wordLimit) (large : areaLimit ≤ length A) where
-  pub scope-linked : Stands W A 9 at l ms → at + scopeSize ≤ length W → key ≡ recordKey W 2 at → B ≡ linked A scopeHeads scopeLinks key (l .scopes) → Linked W A B (scopeOn l)
-  scope-linked st fits ek eb = subst (λ C. Linked W A C (scopeOn l)) (sym eb) (record { kept = λ i p q. other i (omega arith) (omega arith); index = grown })
+  pub scope-linked : Stands W A 9 at l ms → at + scopeSize ≤ length W → key ≡ recordKey W 2 at → B ≡ linked A scopeHeads scopeLinks key (l .scopes) → Linked W A B (oneMore 9 l)
+  scope-linked st fits ek eb = subst (λ C. Linked W A C (oneMore 9 l)) (sym eb) (record { kept = λ i p q. other i (omega arith) (omega arith); index = grown })
     where
       small : key < keys
       small = key-small _ ek
@@ -52,7 +52,7 @@ module _ (W A : List ℕ) (at : ℕ) (l : Layout) (ms : List Map) {key : ℕ} {B
       other : (i : ℕ) → (scopeHeads ≤ i → i < scopeHeads + keys → ⊥) → (scopeLinks ≤ i → ⊥) → getD (linked A scopeHeads scopeLinks key (l .scopes)) i 0 ≡ getD A i 0
       other i p q = let h = small in linked-other A scopeHeads scopeLinks key (l .scopes) i (λ e. p (omega arith) (omega arith)) (λ e. q (omega arith))
 
-      grown : Indexes W (linked A scopeHeads scopeLinks key (l .scopes)) (scopeOn l)
+      grown : Indexes W (linked A scopeHeads scopeLinks key (l .scopes)) (oneMore 9 l)
       grown =
           let ix = st .index in
           let few = st .limited .names in
@@ -69,8 +69,8 @@ module _ (W A : List ℕ) (at : ℕ) (l : Layout) (ms : List Map) {key : ℕ} {B
                 (λ i h. (let z = ze in absurd (omega arith)));
           }
 
-  pub extern-linked : Stands W A 11 at l ms → at + externSize ≤ length W → key ≡ recordKey W 1 at → B ≡ linked A externHeads externLinks key (l .externs) → Linked W A B (externOn l)
-  extern-linked st fits ek eb = subst (λ C. Linked W A C (externOn l)) (sym eb) (record { kept = λ i p q. other i (omega arith) (omega arith); index = grown })
+  pub extern-linked : Stands W A 11 at l ms → at + externSize ≤ length W → key ≡ recordKey W 1 at → B ≡ linked A externHeads externLinks key (l .externs) → Linked W A B (oneMore 11 l)
+  extern-linked st fits ek eb = subst (λ C. Linked W A C (oneMore 11 l)) (sym eb) (record { kept = λ i p q. other i (omega arith) (omega arith); index = grown })
     where
       small : key < keys
       small = key-small _ ek
@@ -81,7 +81,7 @@ module _ (W A : List ℕ) (at : ℕ) (l : Layout) (ms : List Map) {key : ℕ} {B
       other : (i : ℕ) → (externHeads ≤ i → i < externHeads + keys → ⊥) → (externLinks ≤ i → ⊥) → getD (linked A externHeads externLinks key (l .externs)) i 0 ≡ getD A i 0
       other i p q = let h = small in linked-other A externHeads externLinks key (l .externs) i (λ e. p (omega arith) (omega arith)) (λ e. q (omega arith))
 
-      grown : Indexes W (linked A externHeads externLinks key (l .externs)) (externOn l)
+      grown : Indexes W (linked A externHeads externLinks key (l .externs)) (oneMore 11 l)
       grown =
           let ix = st .index in
           let few = st .limited .names in
@@ -115,7 +115,7 @@ module _ (W A : List ℕ) (l : Layout) (few : l .names ≤ nameLimit) (i : ℕ) 
   externs-stay m z = chained-kept A _ externHeads externLinks _ _ (l .externs) (ix .externs) (λ b h. mark-other _ (omega arith)) (λ j h. absurd (omega arith)) (λ j h. absurd (omega arith))
 
 module _ (W A : List ℕ) (at : ℕ) (l : Layout) (ms : List Map) {s : ℕ} (large : areaLimit ≤ length A) where
-  pub child-linked : Stands W A 6 at l ms → s ≡ childAt W at .child → s < moduleLimit → Linked W A (set A (childMarks + s) 1) (childOn l)
+  pub child-linked : Stands W A 6 at l ms → s ≡ childAt W at .child → s < moduleLimit → Linked W A (set A (childMarks + s) 1) (oneMore 6 l)
   child-linked st es small =
       let few = st .limited .names in
       let ix = st .index in
@@ -132,12 +132,12 @@ module _ (W A : List ℕ) (at : ℕ) (l : Layout) (ms : List Map) {s : ℕ} (lar
           names = names-stay W A l few (childMarks + s) (omega arith) (omega arith) ix;
           children = marked-more A childMarks (λ j. getD W (childBase l + childSize * j + 1) 0) (l .children) s (ix .children) (omega arith) (ap (λ x. getD W (x + 1) 0) here ∙ sym es);
           definitions = marked-kept A _ moduleMarks _ _ (l .definitions) (ix .definitions) (λ m h. getD-set-other A (childMarks + s) (moduleMarks + m) 1 0 (omega arith)) (λ i h. absurd (omega arith));
-          scopes = scopes-stay W A l few (childMarks + s) (omega arith) (omega arith) ix (childOn l) zs;
-          externs = externs-stay W A l few (childMarks + s) (omega arith) (omega arith) ix (childOn l) ze;
+          scopes = scopes-stay W A l few (childMarks + s) (omega arith) (omega arith) ix (oneMore 6 l) zs;
+          externs = externs-stay W A l few (childMarks + s) (omega arith) (omega arith) ix (oneMore 6 l) ze;
         };
       }
 
-  pub definition-linked : Stands W A 8 at l ms → s ≡ slotOf W at → s ≤ moduleLimit → Linked W A (set A (moduleMarks + s) 1) (definitionOn l)
+  pub definition-linked : Stands W A 8 at l ms → s ≡ slotOf W at → s ≤ moduleLimit → Linked W A (set A (moduleMarks + s) 1) (oneMore 8 l)
   definition-linked st es small =
       let few = st .limited .names in
       let ix = st .index in
@@ -152,8 +152,8 @@ module _ (W A : List ℕ) (at : ℕ) (l : Layout) (ms : List Map) {s : ℕ} (lar
           names = names-stay W A l few (moduleMarks + s) (omega arith) (omega arith) ix;
           children = marked-kept A _ childMarks _ _ (l .children) (ix .children) (λ m h. getD-set-other A (moduleMarks + s) (childMarks + m) 1 0 (omega arith)) (λ i h. refl);
           definitions = marked-more A moduleMarks (λ j. slotOf W (definitionBase l + definitionSize * j)) (l .definitions) s (ix .definitions) (omega arith) (ap (slotOf W) here ∙ sym es);
-          scopes = scopes-stay W A l few (moduleMarks + s) (omega arith) (omega arith) ix (definitionOn l) zs;
-          externs = externs-stay W A l few (moduleMarks + s) (omega arith) (omega arith) ix (definitionOn l) ze;
+          scopes = scopes-stay W A l few (moduleMarks + s) (omega arith) (omega arith) ix (oneMore 8 l) zs;
+          externs = externs-stay W A l few (moduleMarks + s) (omega arith) (omega arith) ix (oneMore 8 l) ze;
         };
       }
 

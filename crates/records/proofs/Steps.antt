@@ -19,9 +19,9 @@ use Rattle.record_rules.specs.Tests.{countsOf, noName, isBuiltin, dependencyRan
 use Rattle.record_rules.specs.Steps.{no, on, dependencyStep, childStep, preludeStep, definitionStep, scopeStep, importStep, externStep, memberStep, addDependency, addChild, addPrelude, addDefinition, addScope, addImport, addExtern, addMember}
 use Rattle.record_rules.specs.Stands.{numberOf, sameBy, countsIn, Stands, Answered}
 use Rattle.record_rules.specs.declared.judge.Step.the-variants.{On}
-use Rattle.records.proofs.Grows.{dependencyOn, dependency-added, dependency-stands, childOn, child-added, child-stands, preludeOn, prelude-added, prelude-stands, definitionOn, definition-added, definition-stands, scopeOn, scope-added, scope-stands, importOn, import-added, import-stands, externOn, extern-added, extern-stands, memberOn, member-added, member-stands}
+use Rattle.record_rules.proofs.Grows.{oneMore, plain-on, quiet-on}
 use Rattle.records.proofs.Linked.{Linked, module-small}
-use Rattle.record_rules.proofs.Judged.{number-of, judge-no, judge-on, passes, counts-same, any-same, and-right, prelude-again, definition-again, scope-again, extern-again, scope-definition, import-definition, ns-same, child-same, parent-same, member-same}
+use Rattle.record_rules.proofs.Judged.{Judged, judged, judged-no, judged-passes, counts-same, any-same, and-right, prelude-again, definition-again, scope-again, extern-again, scope-definition, import-definition, ns-same, child-same, parent-same, member-same}
 
 -- the names of a builtin definition that is in range
 builtin-same : (W A : List ℕ) (names first : ℕ) → (leb names first || isBuiltin (nameAt W (nameHead A first))) ≡ (leb names first || isBuiltin (getD (rows (λ k. nameAt W (nameHead A k)) 0 names) first noName))
@@ -37,10 +37,9 @@ module _ (W A : List ℕ) (at : ℕ) (l : Layout) (ms : List Map) (st : Stands W
     (ea : a ≡ dependencyRange (dependencyAt W at))
     (eb : b ≡ dependencyDefined (countsIn l) (dependencyAt W at))
   where
-    dependency-number : n ≡ numberOf (dependencyRange (dependencyAt W at)) (dependencyDefined (countsOf (snapWith W A l ms)) (dependencyAt W at)) false true true
+    dependency-number : Judged n (dependencyRange (dependencyAt W at)) (dependencyDefined (countsOf (snapWith W A l ms)) (dependencyAt W at)) false true true
     dependency-number =
-        number-of a b false true true (dependencyRange (dependencyAt W at)) (dependencyDefined (countsOf (snapWith W A l ms)) (dependencyAt W at)) false true true j
-        ea
+        judged j ea
         (eb ∙ ap (λ m. dependencyDefined m (dependencyAt W at)) (counts-same W A 3 at l ms st))
         (λ h. refl)
         (λ h. refl)
@@ -48,15 +47,11 @@ module _ (W A : List ℕ) (at : ℕ) (l : Layout) (ms : List Map) (st : Stands W
 
     pub dependency-no : (n ≡ 0 → ⊥) → dependencyStep (snapWith W A l ms) (dependencyAt W at) ≡ no n
     unfolding dependencyStep
-    dependency-no z = judge-no (dependencyRange (dependencyAt W at)) (dependencyDefined (countsOf (snapWith W A l ms)) (dependencyAt W at)) false true true (addDependency (snapWith W A l ms) (dependencyAt W at)) dependency-number z
+    dependency-no z = judged-no dependency-number _ z
 
-    pub dependency-on : n ≡ 0 → at + dependencySize ≤ length W → Answered W A 3 (at + dependencySize) (dependencyStep (snapWith W A l ms) (dependencyAt W at)) (On (dependencyOn l))
-    unfolding dependencyStep
-    dependency-on z fits = (
-      ms,
-      judge-on (dependencyRange (dependencyAt W at)) (dependencyDefined (countsOf (snapWith W A l ms)) (dependencyAt W at)) false true true (addDependency (snapWith W A l ms) (dependencyAt W at)) (passes (dependencyRange (dependencyAt W at)) (dependencyDefined (countsOf (snapWith W A l ms)) (dependencyAt W at)) false true true (sym z ∙ dependency-number)) ∙ ap on (sym (dependency-added W A at l ms st)),
-      dependency-stands W A at l ms st fits,
-    )
+    pub dependency-on : n ≡ 0 → at + dependencySize ≤ length W → Answered W A 3 (at + dependencySize) (dependencyStep (snapWith W A l ms) (dependencyAt W at)) (On (oneMore 3 l))
+    unfolding dependencyStep any
+    dependency-on z fits = quiet-on W A 3 at l ms st refl dependency-number z (let q = st .place in omega arith) fits
 
 module _ (W A : List ℕ) (at : ℕ) (l : Layout) (ms : List Map) (st : Stands W A 6 at l ms)
     {n : ℕ} {b c d : Bool}
@@ -73,10 +68,9 @@ module _ (W A : List ℕ) (at : ℕ) (l : Layout) (ms : List Map) (st : Stands W
         let q = st .limited .modules in
         omega arith
 
-    child-number : n ≡ numberOf true (childDefined (countsOf (snapWith W A l ms)) (childAt W at)) (any (sameChild (childAt W at)) ((snapWith W A l ms) .children)) (childPlaced (snapWith W A l ms) (childAt W at)) true
+    child-number : Judged n true (childDefined (countsOf (snapWith W A l ms)) (childAt W at)) (any (sameChild (childAt W at)) ((snapWith W A l ms) .children)) (childPlaced (snapWith W A l ms) (childAt W at)) true
     child-number =
-        number-of true b c d true true (childDefined (countsOf (snapWith W A l ms)) (childAt W at)) (any (sameChild (childAt W at)) ((snapWith W A l ms) .children)) (childPlaced (snapWith W A l ms) (childAt W at)) true j
-        refl
+        judged j refl
         (eb ∙ ap (λ m. childDefined m (childAt W at)) (counts-same W A 6 at l ms st))
         (λ h. ec ∙ ap (λ m. not (eqb (getD A (childMarks + m) 0) 0)) es ∙ st .index .children .same (childAt W at .child) (child-in (sym eb ∙ h)) ∙ any-same _ _ _ _ 0 (l .children) (λ i. refl))
         (λ h. ed ∙ child-same W A l ms (childAt W at) (sym eb ∙ h))
@@ -84,15 +78,11 @@ module _ (W A : List ℕ) (at : ℕ) (l : Layout) (ms : List Map) (st : Stands W
 
     pub child-no : (n ≡ 0 → ⊥) → childStep (snapWith W A l ms) (childAt W at) ≡ no n
     unfolding childStep
-    child-no z = judge-no true (childDefined (countsOf (snapWith W A l ms)) (childAt W at)) (any (sameChild (childAt W at)) ((snapWith W A l ms) .children)) (childPlaced (snapWith W A l ms) (childAt W at)) true (addChild (snapWith W A l ms) (childAt W at)) child-number z
+    child-no z = judged-no child-number _ z
 
-    pub child-on : (B : List ℕ) → n ≡ 0 → at + childSize ≤ length W → Linked W A B (childOn l) → Answered W B 6 (at + childSize) (childStep (snapWith W A l ms) (childAt W at)) (On (childOn l))
+    pub child-on : (B : List ℕ) → n ≡ 0 → at + childSize ≤ length W → Linked W A B (oneMore 6 l) → Answered W B 6 (at + childSize) (childStep (snapWith W A l ms) (childAt W at)) (On (oneMore 6 l))
     unfolding childStep
-    child-on B z fits x = (
-      ms,
-      judge-on true (childDefined (countsOf (snapWith W A l ms)) (childAt W at)) (any (sameChild (childAt W at)) ((snapWith W A l ms) .children)) (childPlaced (snapWith W A l ms) (childAt W at)) true (addChild (snapWith W A l ms) (childAt W at)) (passes true (childDefined (countsOf (snapWith W A l ms)) (childAt W at)) (any (sameChild (childAt W at)) ((snapWith W A l ms) .children)) (childPlaced (snapWith W A l ms) (childAt W at)) true (sym z ∙ child-number)) ∙ ap on (sym (child-added W A B at l ms st (x .kept))),
-      child-stands W A B at l ms st (x .kept) fits (x .index),
-    )
+    child-on B z fits x = plain-on W A B 6 at l ms st (x .kept) refl refl refl refl child-number z (let q = st .place in omega arith) fits (λ h. absurd (omega arith)) (x .index)
 
 module _ (W A : List ℕ) (at : ℕ) (l : Layout) (ms : List Map) (st : Stands W A 7 at l ms)
     {n : ℕ} {b c : Bool}
@@ -102,10 +92,9 @@ module _ (W A : List ℕ) (at : ℕ) (l : Layout) (ms : List Map) (st : Stands W
     (es : base ≡ preludeBase l)
     (ec : c ≡ any (sameBy W true 0 at) (rows (λ k. base + preludeSize * k) 0 (l .preludes)))
   where
-    prelude-number : n ≡ numberOf true (preludeDefined (countsOf (snapWith W A l ms)) (preludeAt W at)) (any (samePrelude (preludeAt W at)) ((snapWith W A l ms) .preludes)) true true
+    prelude-number : Judged n true (preludeDefined (countsOf (snapWith W A l ms)) (preludeAt W at)) (any (samePrelude (preludeAt W at)) ((snapWith W A l ms) .preludes)) true true
     prelude-number =
-        number-of true b c true true true (preludeDefined (countsOf (snapWith W A l ms)) (preludeAt W at)) (any (samePrelude (preludeAt W at)) ((snapWith W A l ms) .preludes)) true true j
-        refl
+        judged j refl
         (eb ∙ ap (λ m. preludeDefined m (preludeAt W at)) (counts-same W A 7 at l ms st))
         (λ h. ec ∙ ap (λ m. any (sameBy W true 0 at) (rows (λ k. m + preludeSize * k) 0 (l .preludes))) es ∙ prelude-again W at (preludeBase l) (l .preludes))
         (λ h. refl)
@@ -113,15 +102,11 @@ module _ (W A : List ℕ) (at : ℕ) (l : Layout) (ms : List Map) (st : Stands W
 
     pub prelude-no : (n ≡ 0 → ⊥) → preludeStep (snapWith W A l ms) (preludeAt W at) ≡ no n
     unfolding preludeStep
-    prelude-no z = judge-no true (preludeDefined (countsOf (snapWith W A l ms)) (preludeAt W at)) (any (samePrelude (preludeAt W at)) ((snapWith W A l ms) .preludes)) true true (addPrelude (snapWith W A l ms) (preludeAt W at)) prelude-number z
+    prelude-no z = judged-no prelude-number _ z
 
-    pub prelude-on : n ≡ 0 → at + preludeSize ≤ length W → Answered W A 7 (at + preludeSize) (preludeStep (snapWith W A l ms) (preludeAt W at)) (On (preludeOn l))
-    unfolding preludeStep
-    prelude-on z fits = (
-      ms,
-      judge-on true (preludeDefined (countsOf (snapWith W A l ms)) (preludeAt W at)) (any (samePrelude (preludeAt W at)) ((snapWith W A l ms) .preludes)) true true (addPrelude (snapWith W A l ms) (preludeAt W at)) (passes true (preludeDefined (countsOf (snapWith W A l ms)) (preludeAt W at)) (any (samePrelude (preludeAt W at)) ((snapWith W A l ms) .preludes)) true true (sym z ∙ prelude-number)) ∙ ap on (sym (prelude-added W A at l ms st)),
-      prelude-stands W A at l ms st fits,
-    )
+    pub prelude-on : n ≡ 0 → at + preludeSize ≤ length W → Answered W A 7 (at + preludeSize) (preludeStep (snapWith W A l ms) (preludeAt W at)) (On (oneMore 7 l))
+    unfolding preludeStep any
+    prelude-on z fits = quiet-on W A 7 at l ms st refl prelude-number z (let q = st .place in omega arith) fits
 
 module _ (W A : List ℕ) (at : ℕ) (l : Layout) (ms : List Map) (st : Stands W A 8 at l ms)
     {n : ℕ} {a b c d : Bool}
@@ -137,10 +122,9 @@ module _ (W A : List ℕ) (at : ℕ) (l : Layout) (ms : List Map) (st : Stands W
     range-same true = builtin-same W A (l .names) (definitionAt W at .first)
     range-same false = refl
 
-    definition-number : n ≡ numberOf (definitionRange (snapWith W A l ms) (definitionAt W at)) (definitionDefined (countsOf (snapWith W A l ms)) (definitionAt W at)) (definitionRepeated (snapWith W A l ms) (definitionAt W at)) (definitionPlaced (snapWith W A l ms) (definitionAt W at)) (ltb (length ((snapWith W A l ms) .definitions)) definitionLimit)
+    definition-number : Judged n (definitionRange (snapWith W A l ms) (definitionAt W at)) (definitionDefined (countsOf (snapWith W A l ms)) (definitionAt W at)) (definitionRepeated (snapWith W A l ms) (definitionAt W at)) (definitionPlaced (snapWith W A l ms) (definitionAt W at)) (ltb (length ((snapWith W A l ms) .definitions)) definitionLimit)
     definition-number =
-        number-of a b c d e (definitionRange (snapWith W A l ms) (definitionAt W at)) (definitionDefined (countsOf (snapWith W A l ms)) (definitionAt W at)) (definitionRepeated (snapWith W A l ms) (definitionAt W at)) (definitionPlaced (snapWith W A l ms) (definitionAt W at)) (ltb (length ((snapWith W A l ms) .definitions)) definitionLimit) j
-        (ea ∙ ap (λ x. leb 1 (definitionAt W at .kind) && leb (definitionAt W at .kind) 5 && (eqb (definitionAt W at .kind) 2 || eqb (definitionAt W at .second) 0) && x) (range-same (eqb (definitionAt W at .kind) 3)) ∙ ap (λ m. leb 1 (definitionAt W at .kind) && leb (definitionAt W at .kind) 5 && (eqb (definitionAt W at .kind) 2 || eqb (definitionAt W at .second) 0) && (not (eqb (definitionAt W at .kind) 3) || leb m (definitionAt W at .first) || isBuiltin (getD (snapWith W A l ms .names) (definitionAt W at .first) noName))) (sym (length-rows _ (l .names))))
+        judged j (ea ∙ ap (λ x. leb 1 (definitionAt W at .kind) && leb (definitionAt W at .kind) 5 && (eqb (definitionAt W at .kind) 2 || eqb (definitionAt W at .second) 0) && x) (range-same (eqb (definitionAt W at .kind) 3)) ∙ ap (λ m. leb 1 (definitionAt W at .kind) && leb (definitionAt W at .kind) 5 && (eqb (definitionAt W at .kind) 2 || eqb (definitionAt W at .second) 0) && (not (eqb (definitionAt W at .kind) 3) || leb m (definitionAt W at .first) || isBuiltin (getD (snapWith W A l ms .names) (definitionAt W at .first) noName))) (sym (length-rows _ (l .names))))
         (eb ∙ ap (λ m. definitionDefined m (definitionAt W at)) (counts-same W A 8 at l ms st))
         (λ h. ec (λ e. (let p = module-small (countsIn l) (definitionAt W at) (sym eb ∙ h) e in let q = st .limited .modules in omega arith)) ∙ ap (λ x. (eqb (definitionAt W at .kind) 1 || eqb (definitionAt W at .kind) 3) && x) (definition-again W at (definitionBase l) (l .definitions)))
         (λ h. ed ∙ parent-same W A l ms (definitionAt W at) (sym eb ∙ h))
@@ -148,15 +132,13 @@ module _ (W A : List ℕ) (at : ℕ) (l : Layout) (ms : List Map) (st : Stands W
 
     pub definition-no : (n ≡ 0 → ⊥) → definitionStep (snapWith W A l ms) (definitionAt W at) ≡ no n
     unfolding definitionStep
-    definition-no z = judge-no (definitionRange (snapWith W A l ms) (definitionAt W at)) (definitionDefined (countsOf (snapWith W A l ms)) (definitionAt W at)) (definitionRepeated (snapWith W A l ms) (definitionAt W at)) (definitionPlaced (snapWith W A l ms) (definitionAt W at)) (ltb (length ((snapWith W A l ms) .definitions)) definitionLimit) (addDefinition (snapWith W A l ms) (definitionAt W at)) definition-number z
+    definition-no z = judged-no definition-number _ z
 
-    pub definition-on : (B : List ℕ) → n ≡ 0 → at + definitionSize ≤ length W → Linked W A B (definitionOn l) → Answered W B 8 (at + definitionSize) (definitionStep (snapWith W A l ms) (definitionAt W at)) (On (definitionOn l))
+    pub definition-on : (B : List ℕ) → n ≡ 0 → at + definitionSize ≤ length W → Linked W A B (oneMore 8 l) → Answered W B 8 (at + definitionSize) (definitionStep (snapWith W A l ms) (definitionAt W at)) (On (oneMore 8 l))
     unfolding definitionStep
-    definition-on B z fits x = (
-      ms,
-      judge-on (definitionRange (snapWith W A l ms) (definitionAt W at)) (definitionDefined (countsOf (snapWith W A l ms)) (definitionAt W at)) (definitionRepeated (snapWith W A l ms) (definitionAt W at)) (definitionPlaced (snapWith W A l ms) (definitionAt W at)) (ltb (length ((snapWith W A l ms) .definitions)) definitionLimit) (addDefinition (snapWith W A l ms) (definitionAt W at)) (passes (definitionRange (snapWith W A l ms) (definitionAt W at)) (definitionDefined (countsOf (snapWith W A l ms)) (definitionAt W at)) (definitionRepeated (snapWith W A l ms) (definitionAt W at)) (definitionPlaced (snapWith W A l ms) (definitionAt W at)) (ltb (length ((snapWith W A l ms) .definitions)) definitionLimit) (sym z ∙ definition-number)) ∙ ap on (sym (definition-added W A B at l ms st (x .kept))),
-      definition-stands W A B at l ms st (x .kept) fits (ltb-true (l .definitions) definitionLimit (ap (λ m. ltb m definitionLimit) (sym (length-rows (λ j. definitionAt W (definitionBase l + definitionSize * j)) (l .definitions))) ∙ passes (definitionRange (snapWith W A l ms) (definitionAt W at)) (definitionDefined (countsOf (snapWith W A l ms)) (definitionAt W at)) (definitionRepeated (snapWith W A l ms) (definitionAt W at)) (definitionPlaced (snapWith W A l ms) (definitionAt W at)) (ltb (length ((snapWith W A l ms) .definitions)) definitionLimit) (sym z ∙ definition-number) .room)) (x .index),
-    )
+    definition-on B z fits x =
+        let room = ltb-true (l .definitions) definitionLimit (ap (λ m. ltb m definitionLimit) (sym (length-rows (λ j. definitionAt W (definitionBase l + definitionSize * j)) (l .definitions))) ∙ judged-passes definition-number z .room) in
+        plain-on W A B 8 at l ms st (x .kept) refl refl refl refl definition-number z (let q = st .place in omega arith) fits (λ h. room) (x .index)
 
 module _ (W A : List ℕ) (at : ℕ) (l : Layout) (ms : List Map) (st : Stands W A 9 at l ms)
     {n : ℕ} {a b c d : Bool}
@@ -170,10 +152,9 @@ module _ (W A : List ℕ) (at : ℕ) (l : Layout) (ms : List Map) (st : Stands W
     (en : ns ≡ scopeAt W at .ns) (ef : def ≡ scopeAt W at .definition)
     (ed : d ≡ (not (eqb ns 2) || eqb (definitionAt W (definitionBase l + definitionSize * def) .kind) 5))
   where
-    scope-number : n ≡ numberOf (scopeRange (scopeAt W at)) (scopeDefined (countsOf (snapWith W A l ms)) (scopeAt W at)) (any (sameEntry (scopeAt W at)) ((snapWith W A l ms) .scopes)) (nsPlaced (snapWith W A l ms) (scopeAt W at .ns) (scopeAt W at .definition)) true
+    scope-number : Judged n (scopeRange (scopeAt W at)) (scopeDefined (countsOf (snapWith W A l ms)) (scopeAt W at)) (any (sameEntry (scopeAt W at)) ((snapWith W A l ms) .scopes)) (nsPlaced (snapWith W A l ms) (scopeAt W at .ns) (scopeAt W at .definition)) true
     scope-number =
-        number-of a b c d true (scopeRange (scopeAt W at)) (scopeDefined (countsOf (snapWith W A l ms)) (scopeAt W at)) (any (sameEntry (scopeAt W at)) ((snapWith W A l ms) .scopes)) (nsPlaced (snapWith W A l ms) (scopeAt W at .ns) (scopeAt W at .definition)) true j
-        ea
+        judged j ea
         (eb ∙ ap (λ m. scopeDefined m (scopeAt W at)) (counts-same W A 9 at l ms st))
         (λ h. ec ∙ ap (λ m. any (sameBy W true 2 at) (rows (λ k. m + scopeSize * k) 0 (l .scopes))) es ∙ scope-again W at (scopeBase l) (l .scopes))
         (λ h. ed ∙ ap₂ (λ m f. not (eqb m 2) || eqb (definitionAt W (definitionBase l + definitionSize * f) .kind) 5) en ef ∙ ns-same W A l ms (scopeAt W at .ns) (scopeAt W at .definition) (scope-definition (countsIn l) (scopeAt W at) (sym eb ∙ h)))
@@ -181,15 +162,11 @@ module _ (W A : List ℕ) (at : ℕ) (l : Layout) (ms : List Map) (st : Stands W
 
     pub scope-no : (n ≡ 0 → ⊥) → scopeStep (snapWith W A l ms) (scopeAt W at) ≡ no n
     unfolding scopeStep
-    scope-no z = judge-no (scopeRange (scopeAt W at)) (scopeDefined (countsOf (snapWith W A l ms)) (scopeAt W at)) (any (sameEntry (scopeAt W at)) ((snapWith W A l ms) .scopes)) (nsPlaced (snapWith W A l ms) (scopeAt W at .ns) (scopeAt W at .definition)) true (addScope (snapWith W A l ms) (scopeAt W at)) scope-number z
+    scope-no z = judged-no scope-number _ z
 
-    pub scope-on : (B : List ℕ) → n ≡ 0 → at + scopeSize ≤ length W → Linked W A B (scopeOn l) → Answered W B 9 (at + scopeSize) (scopeStep (snapWith W A l ms) (scopeAt W at)) (On (scopeOn l))
+    pub scope-on : (B : List ℕ) → n ≡ 0 → at + scopeSize ≤ length W → Linked W A B (oneMore 9 l) → Answered W B 9 (at + scopeSize) (scopeStep (snapWith W A l ms) (scopeAt W at)) (On (oneMore 9 l))
     unfolding scopeStep
-    scope-on B z fits x = (
-      ms,
-      judge-on (scopeRange (scopeAt W at)) (scopeDefined (countsOf (snapWith W A l ms)) (scopeAt W at)) (any (sameEntry (scopeAt W at)) ((snapWith W A l ms) .scopes)) (nsPlaced (snapWith W A l ms) (scopeAt W at .ns) (scopeAt W at .definition)) true (addScope (snapWith W A l ms) (scopeAt W at)) (passes (scopeRange (scopeAt W at)) (scopeDefined (countsOf (snapWith W A l ms)) (scopeAt W at)) (any (sameEntry (scopeAt W at)) ((snapWith W A l ms) .scopes)) (nsPlaced (snapWith W A l ms) (scopeAt W at .ns) (scopeAt W at .definition)) true (sym z ∙ scope-number)) ∙ ap on (sym (scope-added W A B at l ms st (x .kept))),
-      scope-stands W A B at l ms st (x .kept) fits (x .index),
-    )
+    scope-on B z fits x = plain-on W A B 9 at l ms st (x .kept) refl refl refl refl scope-number z (let q = st .place in omega arith) fits (λ h. absurd (omega arith)) (x .index)
 
 module _ (W A : List ℕ) (at : ℕ) (l : Layout) (ms : List Map) (st : Stands W A 10 at l ms)
     {n : ℕ} {a b d : Bool}
@@ -200,10 +177,9 @@ module _ (W A : List ℕ) (at : ℕ) (l : Layout) (ms : List Map) (st : Stands W
     (en : ns ≡ importAt W at .ns) (ef : def ≡ importAt W at .definition)
     (ed : d ≡ (not (eqb ns 2) || eqb (definitionAt W (definitionBase l + definitionSize * def) .kind) 5))
   where
-    import-number : n ≡ numberOf (importRange (importAt W at)) (importDefined (countsOf (snapWith W A l ms)) (importAt W at)) false (nsPlaced (snapWith W A l ms) (importAt W at .ns) (importAt W at .definition)) true
+    import-number : Judged n (importRange (importAt W at)) (importDefined (countsOf (snapWith W A l ms)) (importAt W at)) false (nsPlaced (snapWith W A l ms) (importAt W at .ns) (importAt W at .definition)) true
     import-number =
-        number-of a b false d true (importRange (importAt W at)) (importDefined (countsOf (snapWith W A l ms)) (importAt W at)) false (nsPlaced (snapWith W A l ms) (importAt W at .ns) (importAt W at .definition)) true j
-        ea
+        judged j ea
         (eb ∙ ap (λ m. importDefined m (importAt W at)) (counts-same W A 10 at l ms st))
         (λ h. refl)
         (λ h. ed ∙ ap₂ (λ m f. not (eqb m 2) || eqb (definitionAt W (definitionBase l + definitionSize * f) .kind) 5) en ef ∙ ns-same W A l ms (importAt W at .ns) (importAt W at .definition) (import-definition (countsIn l) (importAt W at) (sym eb ∙ h)))
@@ -211,15 +187,11 @@ module _ (W A : List ℕ) (at : ℕ) (l : Layout) (ms : List Map) (st : Stands W
 
     pub import-no : (n ≡ 0 → ⊥) → importStep (snapWith W A l ms) (importAt W at) ≡ no n
     unfolding importStep
-    import-no z = judge-no (importRange (importAt W at)) (importDefined (countsOf (snapWith W A l ms)) (importAt W at)) false (nsPlaced (snapWith W A l ms) (importAt W at .ns) (importAt W at .definition)) true (addImport (snapWith W A l ms) (importAt W at)) import-number z
+    import-no z = judged-no import-number _ z
 
-    pub import-on : n ≡ 0 → at + importSize ≤ length W → Answered W A 10 (at + importSize) (importStep (snapWith W A l ms) (importAt W at)) (On (importOn l))
-    unfolding importStep
-    import-on z fits = (
-      ms,
-      judge-on (importRange (importAt W at)) (importDefined (countsOf (snapWith W A l ms)) (importAt W at)) false (nsPlaced (snapWith W A l ms) (importAt W at .ns) (importAt W at .definition)) true (addImport (snapWith W A l ms) (importAt W at)) (passes (importRange (importAt W at)) (importDefined (countsOf (snapWith W A l ms)) (importAt W at)) false (nsPlaced (snapWith W A l ms) (importAt W at .ns) (importAt W at .definition)) true (sym z ∙ import-number)) ∙ ap on (sym (import-added W A at l ms st)),
-      import-stands W A at l ms st fits,
-    )
+    pub import-on : n ≡ 0 → at + importSize ≤ length W → Answered W A 10 (at + importSize) (importStep (snapWith W A l ms) (importAt W at)) (On (oneMore 10 l))
+    unfolding importStep any
+    import-on z fits = quiet-on W A 10 at l ms st refl import-number z (let q = st .place in omega arith) fits
 
 module _ (W A : List ℕ) (at : ℕ) (l : Layout) (ms : List Map) (st : Stands W A 11 at l ms)
     {n : ℕ} {b c : Bool}
@@ -229,10 +201,9 @@ module _ (W A : List ℕ) (at : ℕ) (l : Layout) (ms : List Map) (st : Stands W
     (es : base ≡ externBase l)
     (ec : c ≡ any (sameBy W true 1 at) (rows (λ k. base + externSize * k) 0 (l .externs)))
   where
-    extern-number : n ≡ numberOf true (externDefined (countsOf (snapWith W A l ms)) (externAt W at)) (any (sameExtern (externAt W at)) ((snapWith W A l ms) .externs)) true true
+    extern-number : Judged n true (externDefined (countsOf (snapWith W A l ms)) (externAt W at)) (any (sameExtern (externAt W at)) ((snapWith W A l ms) .externs)) true true
     extern-number =
-        number-of true b c true true true (externDefined (countsOf (snapWith W A l ms)) (externAt W at)) (any (sameExtern (externAt W at)) ((snapWith W A l ms) .externs)) true true j
-        refl
+        judged j refl
         (eb ∙ ap (λ m. externDefined m (externAt W at)) (counts-same W A 11 at l ms st))
         (λ h. ec ∙ ap (λ m. any (sameBy W true 1 at) (rows (λ k. m + externSize * k) 0 (l .externs))) es ∙ extern-again W at (externBase l) (l .externs))
         (λ h. refl)
@@ -240,15 +211,11 @@ module _ (W A : List ℕ) (at : ℕ) (l : Layout) (ms : List Map) (st : Stands W
 
     pub extern-no : (n ≡ 0 → ⊥) → externStep (snapWith W A l ms) (externAt W at) ≡ no n
     unfolding externStep
-    extern-no z = judge-no true (externDefined (countsOf (snapWith W A l ms)) (externAt W at)) (any (sameExtern (externAt W at)) ((snapWith W A l ms) .externs)) true true (addExtern (snapWith W A l ms) (externAt W at)) extern-number z
+    extern-no z = judged-no extern-number _ z
 
-    pub extern-on : (B : List ℕ) → n ≡ 0 → at + externSize ≤ length W → Linked W A B (externOn l) → Answered W B 11 (at + externSize) (externStep (snapWith W A l ms) (externAt W at)) (On (externOn l))
+    pub extern-on : (B : List ℕ) → n ≡ 0 → at + externSize ≤ length W → Linked W A B (oneMore 11 l) → Answered W B 11 (at + externSize) (externStep (snapWith W A l ms) (externAt W at)) (On (oneMore 11 l))
     unfolding externStep
-    extern-on B z fits x = (
-      ms,
-      judge-on true (externDefined (countsOf (snapWith W A l ms)) (externAt W at)) (any (sameExtern (externAt W at)) ((snapWith W A l ms) .externs)) true true (addExtern (snapWith W A l ms) (externAt W at)) (passes true (externDefined (countsOf (snapWith W A l ms)) (externAt W at)) (any (sameExtern (externAt W at)) ((snapWith W A l ms) .externs)) true true (sym z ∙ extern-number)) ∙ ap on (sym (extern-added W A B at l ms st (x .kept))),
-      extern-stands W A B at l ms st (x .kept) fits (x .index),
-    )
+    extern-on B z fits x = plain-on W A B 11 at l ms st (x .kept) refl refl refl refl extern-number z (let q = st .place in omega arith) fits (λ h. absurd (omega arith)) (x .index)
 
 module _ (W A : List ℕ) (at : ℕ) (l : Layout) (ms : List Map) (st : Stands W A 13 at l ms)
     {n : ℕ} {a b d : Bool}
@@ -257,10 +224,9 @@ module _ (W A : List ℕ) (at : ℕ) (l : Layout) (ms : List Map) (st : Stands W
     (eb : b ≡ memberDefined (countsIn l) (memberAt W at))
     (ed : d ≡ (eqb (definitionAt W (definitionBase l + definitionSize * memberAt W at .parent) .kind) 4 && isMember (memberAt W at .kind) (memberAt W at .parent) (memberAt W at .name) (definitionAt W (definitionBase l + definitionSize * memberAt W at .definition))))
   where
-    member-number : n ≡ numberOf (memberRange (memberAt W at)) (memberDefined (countsOf (snapWith W A l ms)) (memberAt W at)) false (memberPlaced (snapWith W A l ms) (memberAt W at)) true
+    member-number : Judged n (memberRange (memberAt W at)) (memberDefined (countsOf (snapWith W A l ms)) (memberAt W at)) false (memberPlaced (snapWith W A l ms) (memberAt W at)) true
     member-number =
-        number-of a b false d true (memberRange (memberAt W at)) (memberDefined (countsOf (snapWith W A l ms)) (memberAt W at)) false (memberPlaced (snapWith W A l ms) (memberAt W at)) true j
-        ea
+        judged j ea
         (eb ∙ ap (λ m. memberDefined m (memberAt W at)) (counts-same W A 13 at l ms st))
         (λ h. refl)
         (λ h. ed ∙ member-same W A l ms (memberAt W at) (sym eb ∙ h))
@@ -268,12 +234,8 @@ module _ (W A : List ℕ) (at : ℕ) (l : Layout) (ms : List Map) (st : Stands W
 
     pub member-no : (n ≡ 0 → ⊥) → memberStep (snapWith W A l ms) (memberAt W at) ≡ no n
     unfolding memberStep
-    member-no z = judge-no (memberRange (memberAt W at)) (memberDefined (countsOf (snapWith W A l ms)) (memberAt W at)) false (memberPlaced (snapWith W A l ms) (memberAt W at)) true (addMember (snapWith W A l ms) (memberAt W at)) member-number z
+    member-no z = judged-no member-number _ z
 
-    pub member-on : n ≡ 0 → at + memberSize ≤ length W → Answered W A 13 (at + memberSize) (memberStep (snapWith W A l ms) (memberAt W at)) (On (memberOn l))
-    unfolding memberStep
-    member-on z fits = (
-      ms,
-      judge-on (memberRange (memberAt W at)) (memberDefined (countsOf (snapWith W A l ms)) (memberAt W at)) false (memberPlaced (snapWith W A l ms) (memberAt W at)) true (addMember (snapWith W A l ms) (memberAt W at)) (passes (memberRange (memberAt W at)) (memberDefined (countsOf (snapWith W A l ms)) (memberAt W at)) false (memberPlaced (snapWith W A l ms) (memberAt W at)) true (sym z ∙ member-number)) ∙ ap on (sym (member-added W A at l ms st)),
-      member-stands W A at l ms st fits,
-    )
+    pub member-on : n ≡ 0 → at + memberSize ≤ length W → Answered W A 13 (at + memberSize) (memberStep (snapWith W A l ms) (memberAt W at)) (On (oneMore 13 l))
+    unfolding memberStep any
+    member-on z fits = quiet-on W A 13 at l ms st refl member-number z (let q = st .place in omega arith) fits
