@@ -35,7 +35,7 @@ use Rattle.tight_rows.specs.Rows.{rowsAt, Rows}
 use Rattle.tight_rows.proofs.Keeping.{rows-at, rows-set}
 use Rattle.local_search.proofs.Knowns.{locations-there}
 use Rattle.walk_once.specs.Walked.{Walked}
-use Rattle.local_search.proofs.Searches.{bounds-at, walked-kept}
+use Rattle.local_search.proofs.Searches.{bounds-at, chains-kept, walked-kept}
 
 -- An open level: its header and its run stand, and all below is as where the loop began.
 pub record Open (A₁ : List ℕ) (s : Stack) (item : Item) (n : ℕ) (A : List ℕ) : Type 0 where
@@ -265,6 +265,7 @@ module _ (W A₀ : List ℕ) (l : Layout) (x : FindPathCtx) (left : ℕ) (item :
             tables = omega (arith, y .tables);
             numbers = omega (arith, y .numbers);
             bounds = bounds-at B y (cursor-open .below ∙ start-below);
+            indexed = chains-kept B y (cursor-open .below ∙ start-below);
             walked = walked-kept B y (cursor-open .below ∙ start-below);
             rows =
                 rows-set W A l x (s .top + 2) k (reads-at W A₀ A l (s .top) (y .reads) (y .tables) (v .opened .below ∙ start-below)) (v .rows) (omega (arith, y .numbers))

@@ -35,11 +35,14 @@ use Rattle.search_laws.specs.Near.{ruled, near}
 use Rattle.search_laws.proofs.Fewer.{refuted}
 use Rattle.search_laws.proofs.Near.{near-none, near-step, far-nothing}
 use Rattle.search_laws.proofs.Kept.{farther}
-use Rattle.distances.specs.Distances.{distance, distancesEnd, Bounds}
+use Rattle.distances.specs.Distances.{distance, Bounds}
 use Rattle.distances.specs.Post.{Ready, Bounded}
 use Rattle.local_levels.specs.declared.Stack.{Stack}
 use Rattle.local_levels.specs.Levels.{Small, levelsOf}
 use Rattle.tight_rows.specs.Rows.{rowsAt, rowAt, lastPlace, rowOf, rowPlace, rowFlag, Entered, Row}
+use Rattle.scope_index.specs.Index.{indexAt, linksAt, indexEnd, ownerAt, First, Indexed, Sized}
+use Rattle.scope_index.specs.Post.{Made}
+use Rattle.scope_index.proofs.Chaining.{accepted-sized}
 use Rattle.walk_once.specs.Walked.{walkEnd, Walked}
 use Rattle.walk_once.specs.Post.{Kept}
 use Rattle.walk_once.proofs.Walking.{walked-at}
@@ -59,6 +62,7 @@ searchable-less j y h =
       tables = y .tables;
       numbers = y .numbers;
       bounds = y .bounds;
+      indexed = y .indexed;
       walked = y .walked;
       rows = y .rows;
       space = omega (arith, y .space);
@@ -75,7 +79,19 @@ bounds-at {W} {A} {l} {x} {left} {s} B y e k m h n =
     let b = y .bounds k m h (subst (λ (z : Snapshot). near z x [] k m ≡ true) (snap-at W A B l (s .top) (y .reads) (y .tables) e) n) in
     omega (arith, a, b)
 
--- ... and so does the walk
+-- ... and so do the chains
+chains-at : (W A : List ℕ) (l : Layout) (B : List ℕ) → Sized W l → Indexed W l 0 A → take indexEnd B ≡ take indexEnd A → Indexed W l 0 B
+chains-at W A l B z x e =
+    record {
+      heads = λ m h. subst (First W l m 0) (sym (agree B A indexEnd e (indexAt + m) (omega (arith, z .few)))) (x .heads m h);
+      links = λ j h g. subst (First W l (ownerAt W l j) (j + 1)) (sym (agree B A indexEnd e (linksAt + j) (omega (arith, z .short)))) (x .links j h g);
+    }
+
+pub chains-kept : {W A : List ℕ} {l : Layout} {x : FindPathCtx} {left : ℕ} {s : Stack} (B : List ℕ) → Searchable W A l x left s → take (s .top) B ≡ take (s .top) A → Indexed W l 0 B
+chains-kept {W} {A} {l} {x} {left} {s} B y e =
+    chains-at W A l B (accepted-sized W A l (y .reads)) (y .indexed) (take-less B A indexEnd (s .top) (omega (arith, y .numbers)) e)
+
+-- ... and the walk
 pub walked-kept : {W A : List ℕ} {l : Layout} {x : FindPathCtx} {left : ℕ} {s : Stack} (B : List ℕ) → Searchable W A l x left s → take (s .top) B ≡ take (s .top) A
     → Walked (snapOf W B l) (x .from .0) B
 walked-kept {W} {A} {l} {x} {left} {s} B y e =
@@ -316,53 +332,66 @@ module _ (W A : List ℕ) (l : Layout) (x : FindPathCtx) (left : ℕ) (s : Stack
             rows = a .rows;
           }
 
--- nothing is under way: the numbers are set, the walk is taken, and the rows are cleared
+-- nothing is under way: the numbers are set, the records are chained, the walk is taken, and the rows are cleared
 module _ (W A₀ : List ℕ) (l : Layout) (x : FindPathCtx) (p : Prepared W A₀ l x) (N : List ℕ) (n : Bounded W A₀ l x N) where
   pub numbers-reads : Reads W N l
   numbers-reads = same-reads W A₀ N l (n .tables) (p .reads)
 
-  module _ (K : List ℕ) (w : Kept W N l (x .from .0) K) (A : List ℕ) (v : Cleared K (l .modules) A) where
-    tables-same : take tableWords A ≡ take tableWords A₀
-    tables-same =
-        take-less A K tableWords rowsAt (omega arith) (v .below) ∙ take-less K N tableWords distancesEnd (omega arith) (w .below) ∙ n .tables
+  pub chains-sized : Sized W l
+  chains-sized = accepted-sized W A₀ l (p .reads)
 
-    sn : snapOf W A l ≡ snapOf W A₀ l
-    sn = same-snap W A₀ A l tables-same (p .reads)
+  module _ (I : List ℕ) (c : Made W N l 0 I) where
+    chains-tables : take tableWords I ≡ take tableWords A₀
+    chains-tables = take-less I N tableWords indexAt (omega arith) (c .below) ∙ n .tables
 
-    numbers-same : (m : ℕ) → m < l .modules → distance A m ≡ distance N m
-    numbers-same m h =
-        let b = p .reads .tables .limited .modules in
-        agree A K rowsAt (v .below) (tableWords + m) (omega (arith, h, b)) ∙ agree K N distancesEnd (w .below) (tableWords + m) (omega (arith, h, b))
+    pub chains-reads : Reads W I l
+    chains-reads = same-reads W A₀ I l chains-tables (p .reads)
 
-    pub search-start : (left : ℕ) → left ≤ pathLimit → length A ≡ length A₀ → Searchable W A l x left (record { top = walkEnd; place = 0; depth = 0 })
-    search-start left h z =
-        record {
-          reads = same-reads W A₀ A l tables-same (p .reads);
-          from = p .from;
-          area = z ∙ p .area;
-          tables = omega arith;
-          numbers = omega arith;
-          bounds = λ k m q o.
-              let a = numbers-same m q in
-              let b = n .bounds k m q (subst (λ (s : Snapshot). near s x [] k m ≡ true) sn o) in
-              omega (arith, a, b);
-          walked =
-              walked-at (snapOf W A l) (x .from .0) K A
-              (subst (λ (s : Snapshot). Walked s (x .from .0) K) (same-snap W A₀ N l (n .tables) (p .reads) ∙ sym sn) (w .walked))
-              (take-less A K walkEnd rowsAt (omega arith) (v .below));
-          rows = rows-none W A l x (v .none);
-          space = omega arith;
-          deep = omega arith;
-          chain = chain-none A 0 walkEnd;
-          under = omega arith;
-        }
+    module _ (K : List ℕ) (w : Kept W I l (x .from .0) K) (A : List ℕ) (v : Cleared K (l .modules) A) where
+      below-walk : take indexEnd A ≡ take indexEnd I
+      below-walk = take-less A K indexEnd rowsAt (omega arith) (v .below) ∙ w .below
 
-    pub search-done : (left : ℕ) (item : Item) (B : List ℕ) (r : Choice)
-        → Answered W A l x walkEnd (calculateBestPathLocal (snapOf W A l) x (searchLocal (snapOf W A l) x) left (levelsOf A 0 0) item) B r
-        → Chosen A₀ (bestLocal (snapOf W A₀ l) x left item) B r
-    unfolding bestLocal levelsOf
-    search-done left item B r a =
-        record {
-          same = a .same ∙ ap (λ (s : Snapshot). bestLocal s x left item) sn;
-          tables = take-less B A tableWords walkEnd (omega arith) (a .below) ∙ tables-same;
-        }
+      tables-same : take tableWords A ≡ take tableWords A₀
+      tables-same = take-less A I tableWords indexEnd (omega arith) below-walk ∙ chains-tables
+
+      sn : snapOf W A l ≡ snapOf W A₀ l
+      sn = same-snap W A₀ A l tables-same (p .reads)
+
+      numbers-same : (m : ℕ) → m < l .modules → distance A m ≡ distance N m
+      numbers-same m h =
+          let b = p .reads .tables .limited .modules in
+          agree A I indexEnd below-walk (tableWords + m) (omega (arith, h, b)) ∙ agree I N indexAt (c .below) (tableWords + m) (omega (arith, h, b))
+
+      pub search-start : (left : ℕ) → left ≤ pathLimit → length A ≡ length A₀ → Searchable W A l x left (record { top = walkEnd; place = 0; depth = 0 })
+      search-start left h z =
+          record {
+            reads = same-reads W A₀ A l tables-same (p .reads);
+            from = p .from;
+            area = z ∙ p .area;
+            tables = omega arith;
+            numbers = omega arith;
+            bounds = λ k m q o.
+                let a = numbers-same m q in
+                let b = n .bounds k m q (subst (λ (s : Snapshot). near s x [] k m ≡ true) sn o) in
+                omega (arith, a, b);
+            indexed = chains-at W I l A chains-sized (c .indexed) below-walk;
+            walked =
+                walked-at (snapOf W A l) (x .from .0) K A
+                (subst (λ (s : Snapshot). Walked s (x .from .0) K) (same-snap W A₀ I l chains-tables (p .reads) ∙ sym sn) (w .walked))
+                (take-less A K walkEnd rowsAt (omega arith) (v .below));
+            rows = rows-none W A l x (v .none);
+            space = omega arith;
+            deep = omega arith;
+            chain = chain-none A 0 walkEnd;
+            under = omega arith;
+          }
+
+      pub search-done : (left : ℕ) (item : Item) (B : List ℕ) (r : Choice)
+          → Answered W A l x walkEnd (calculateBestPathLocal (snapOf W A l) x (searchLocal (snapOf W A l) x) left (levelsOf A 0 0) item) B r
+          → Chosen A₀ (bestLocal (snapOf W A₀ l) x left item) B r
+      unfolding bestLocal levelsOf
+      search-done left item B r a =
+          record {
+            same = a .same ∙ ap (λ (s : Snapshot). bestLocal s x left item) sn;
+            tables = take-less B A tableWords walkEnd (omega arith) (a .below) ∙ tables-same;
+          }

@@ -12,6 +12,7 @@ use Rattle.find_path.specs.declared.FindPathCtx.{FindPathCtx}
 use Rattle.distances.specs.Distances.{distance, Bounds}
 use Rattle.local_levels.specs.declared.Stack.{Stack}
 use Rattle.local_levels.specs.Levels.{Chain}
+use Rattle.scope_index.specs.Index.{Indexed}
 use Rattle.walk_once.specs.Walked.{walkEnd, Walked}
 use Rattle.tight_rows.specs.Rows.{rowsAt, Rows}
 
@@ -19,7 +20,7 @@ use Rattle.tight_rows.specs.Rows.{rowsAt, Rows}
 abbrev pub levelSize : ℕ
 levelSize = 3 + moduleLimit
 
--- The arguments of a local search of that length: the words of each level that it can open, the numbers of the modules and the walk below them, and the rows above.
+-- The arguments of a local search of that length: the words of each level that it can open, the numbers of the modules, the chains of the records and the walk below them, and the rows above.
 pub record Searchable (W A : List ℕ) (l : Layout) (x : FindPathCtx) (left : ℕ) (s : Stack) : Type 0 where
   pub reads : Reads W A l
   pub from : x .from .0 < l .modules
@@ -27,6 +28,7 @@ pub record Searchable (W A : List ℕ) (l : Layout) (x : FindPathCtx) (left : �
   pub tables : tableWords ≤ s .top
   pub numbers : walkEnd ≤ s .top
   pub bounds : Bounds (snapOf W A l) x (l .modules) (distance A)
+  pub indexed : Indexed W l 0 A
   pub walked : Walked (snapOf W A l) (x .from .0) A
   pub rows : Rows W A l x
   pub space : s .top + levelSize * left ≤ rowsAt

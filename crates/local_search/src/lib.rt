@@ -24,6 +24,7 @@ use path_offers::offers::offer_entry;
 use path_rules::choices::length_left;
 use path_rules::choices::nothing;
 use path_rules::rules::module_rules;
+use scope_index::index_scopes;
 use snapshot::ids::ModuleId;
 use snapshot::layout::Layout;
 use snapshot::record::scope_owner;
@@ -174,6 +175,7 @@ pub fn calculate_best_path_local(
     ensures { λ r. ⌜ Chosen (now (area .entry)) (bestLocal (snapOf (now (words .entry)) (now (area .entry)) l) x left item) (now (area .exit)) r ⌝ }
 {
     set_distances(words, area, l, x);
+    index_scopes(words, area, l);
     take_walk(words, area, l, x.from, item);
     clear_rows(area, l.modules);
     let none = Stack {

@@ -7,9 +7,11 @@ ghost use Rattle.accept.specs.Stands.{countsIn};
 ghost use Rattle.accept.specs.Post.{Reads};
 ghost use Rattle.accept.specs.Valid.{ScopeFits, ImportFits};
 ghost use Rattle.hir_def.specs.Entries.{entryOf};
+ghost use Rattle.hir_def.specs.ItemScope.{nameOf, preferred};
 ghost use Rattle.find_path.specs.Conditions.{EntryFits};
-ghost use Rattle.find_path.specs.Local.{offer as offerOf, offerEntry, importableName};
+ghost use Rattle.find_path.specs.Local.{offer as offerOf, offerEntry, isImportable, importableName};
 ghost use Rattle.find_path.specs.Charged.{offerImport};
+ghost use Rattle.scope_index.specs.Index.{Indexed};
 use find_path::Choice;
 use find_path::FindPathCtx;
 use hir_def::Entry;
@@ -21,11 +23,31 @@ use path_choices::choices::unstably;
 use rule_lookups::Rule;
 use rule_lookups::entry_by;
 use rule_lookups::is_importable;
+use scope_index::name_in;
 use snapshot::ids::ModuleId;
 use snapshot::ids::Name;
 use snapshot::layout::Layout;
 use snapshot::record::import_name;
 use snapshot::record::scope_name;
+
+// The first of the module's entries for the item; by options bit 32 the first that isn't deprecated and that the viewer can import, if there
+// is one.
+fn entry_for(
+    words: &[u32],
+    area: &[u32],
+    l: Layout,
+    x: FindPathCtx,
+    item: Item,
+    m: ModuleId,
+) -> Entry
+    requires { ⌜ Reads (now words) (now area) l × (x .from .0 < l .modules) × (m .0 < l .modules) × Indexed (now words) l 0 (now area) ⌝ }
+    ensures { λ r. ⌜ entryOf scopeAt (now (words .entry)) r ≡ preferred (x .fresh) (snapOf (now (words .entry)) (now (area .entry)) l) (m .0) item (isImportable (snapOf (now (words .entry)) (now (area .entry)) l) x) (nameOf (snapOf (now (words .entry)) (now (area .entry)) l) (m .0) item) ⌝ }
+{
+    if x.fresh {
+        return entry_by(words, area, l, x, m, item, Rule::Local).entry;
+    }
+    name_in(words, area, l, m, item)
+}
 
 /// The entry by which the viewer can import the item from the module, its first; by options bit 32 the first such one that isn't
 /// deprecated, if there is one.
@@ -37,10 +59,10 @@ pub fn importable_name(
     item: Item,
     m: ModuleId,
 ) -> Entry
-    requires { ⌜ Reads (now words) (now area) l × (x .from .0 < l .modules) × (m .0 < l .modules) ⌝ }
+    requires { ⌜ Reads (now words) (now area) l × (x .from .0 < l .modules) × (m .0 < l .modules) × Indexed (now words) l 0 (now area) ⌝ }
     ensures { λ r. ⌜ (entryOf scopeAt (now (words .entry)) r ≡ importableName (snapOf (now (words .entry)) (now (area .entry)) l) x item (m .0)) × EntryFits (now (words .entry)) l r ⌝ }
 {
-    let e = entry_by(words, area, l, x, m, item, Rule::Local).entry;
+    let e = entry_for(words, area, l, x, item, m);
     let Entry::At(h) = e else {
         return Entry::Nothing;
     };

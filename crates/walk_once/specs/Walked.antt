@@ -7,16 +7,16 @@ use lib.ListN.{getD}
 use Rattle.snapshot.specs.Limits.{moduleLimit}
 use Rattle.snapshot.specs.Records.{Snapshot}
 use Rattle.find_path.specs.Walk.{findLocalImportLocations}
-use Rattle.distances.specs.Distances.{distancesEnd}
+use Rattle.scope_index.specs.Index.{indexEnd}
 use Rattle.local_levels.specs.Levels.{runAt}
 
 -- the word with the number of its modules, past them, and the first word after that
 abbrev pub walkCount : ℕ
-walkCount = 5184
+walkCount = 7744
 
 abbrev pub walkEnd : ℕ
-walkEnd = 5185
+walkEnd = 7745
 
 pub record Walked (s : Snapshot) (from : ℕ) (A : List ℕ) : Type 0 where
-  pub same : runAt A distancesEnd (getD A walkCount 0) ≡ findLocalImportLocations s from (λ _. false)
+  pub same : runAt A indexEnd (getD A walkCount 0) ≡ findLocalImportLocations s from (λ _. false)
   pub few : getD A walkCount 0 ≤ moduleLimit

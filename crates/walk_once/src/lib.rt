@@ -11,11 +11,11 @@ ghost use Rattle.local_levels.specs.Levels.{Small, levelsOf, Chain};
 ghost use Rattle.local_levels.specs.Post.{Gathered};
 ghost use Rattle.walk_once.specs.Walked.{walkEnd, walkCount, Walked};
 ghost use Rattle.walk_once.specs.Post.{Copied, Kept};
-use distances::Distances;
 use hir_def::Item;
 use local_levels::Stack;
 use local_levels::levels::code_of;
 use local_levels::locations::find_local_import_locations;
+use scope_index::Index;
 use snapshot::ids::ModuleId;
 use snapshot::layout::Layout;
 use snapshot::words::word;
@@ -24,11 +24,11 @@ use snapshot::words::word;
 pub struct Walk(pub usize);
 
 impl Walk {
-    pub const AT: usize = Distances::END;
+    pub const AT: usize = Index::END;
 
-    pub const COUNT: usize = 5184;
+    pub const COUNT: usize = 7744;
 
-    pub const END: usize = 5185;
+    pub const END: usize = 7745;
 }
 
 /// Takes the walk past no visited module.

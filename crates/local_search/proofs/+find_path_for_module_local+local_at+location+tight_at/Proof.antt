@@ -845,7 +845,7 @@ location-importable-name-requires t c κs =
     let w = c .before .before in
     let j = w .before .before .before in
     let s = j .before .before .before in
-    (s .pre .1 .1 .reads, s .pre .1 .1 .from, s .pre .1 .2)
+    (s .pre .1 .1 .reads, s .pre .1 .1 .from, s .pre .1 .2, s .pre .1 .1 .indexed)
 
 location-enum-known-a : (t : ℕ) → location-lts.Need-enum-known-a (
   length-left-reads.Asked,

@@ -11,7 +11,7 @@ use Rattle.walk_once.proofs.take_walk.Tie as tie
 find-local-import-locations-requires : tie.Need-find-local-import-locations-requires
 find-local-import-locations-requires c κs =
     let s = c .before .before .before in
-    (s .pre .0, s .pre .1, omega arith, omega (arith, s .pre .2), chain-none (now (s .args .area)) 0 4672, s .pre .3)
+    (s .pre .0, s .pre .1, omega arith, omega (arith, s .pre .2), chain-none (now (s .args .area)) 0 7232, s .pre .3)
 
 cast-area : tie.Need-cast-area
 cast-area c = omega (arith, c .before .before .find-local-import-locations .ensures .few)
@@ -25,7 +25,7 @@ slice-write-area c =
 same-length : tie.Need-same-length
 same-length c =
     let f = c .before .before in
-    length-set (f .find-local-import-locations .last .1 .0) 5184 (f .find-local-import-locations .result) ∙ f .find-local-import-locations .kept .1 .0
+    length-set (f .find-local-import-locations .last .1 .0) 7744 (f .find-local-import-locations .result) ∙ f .find-local-import-locations .kept .1 .0
 
 returns : tie.Need-returns
 returns c =

@@ -1,0 +1,105 @@
+use borrow.Author.Needs.{needs}
+use Prim.Native.Nat.{_+_, _*_}
+use mathlib.Core.Path.{_≡_, ap, _∙_}
+use native.Mathlib.Omega.{arith}
+use denote.Ref.{now}
+use lib.ListN.{getD, length-set}
+use Rattle.snapshot.specs.Sizes.{scopeSize}
+use Rattle.snapshot.specs.Records.{scopeAt}
+use Rattle.scope_index.specs.Index.{ownerAt}
+use Rattle.scope_index.proofs.Chaining.{indexed-next, linked-below}
+use Rattle.scope_index.proofs.link.Statement.{statement}
+use Rattle.scope_index.proofs.link.Tie as tie
+use Rattle.scope_index.proofs.link.Reads as reads
+use Rattle.scope_index.proofs.link.Lts as lts
+use Rattle.snapshot.proofs.layout.Layout.scope_base.Reads as scope-base-reads
+use Rattle.snapshot.proofs.record.scope_owner.Reads as scope-owner-reads
+
+-- the owner that the code reads is that of the record
+owner : (c : lts.After-scope-owner (scope-base-reads.Asked, scope-base-reads.Learnt, scope-owner-reads.Asked, scope-owner-reads.Learnt) reads.Pre reads.Post)
+    → c .scope-owner .result .0 ≡ ownerAt (now (c .before .before .before .before .args .words)) (c .before .before .before .before .args .l) (c .before .before .before .before .args .k)
+owner c =
+    let s = c .before .before .before .before in
+    c .scope-owner .ensures ∙ ap (λ z. scopeAt (now (s .args .words)) (z + scopeSize * s .args .k) .owner) (c .before .scope-base .ensures)
+
+scope-base-requires : tie.Need-scope-base-requires
+scope-base-requires c κs = omega (arith, c .before .before .pre .0 .short)
+
+mul-scope-owner : tie.Need-mul-scope-owner
+mul-scope-owner c = let s = c .before .before .before in omega (arith, s .pre .0 .short, s .pre .2)
+
+add-scope-owner : tie.Need-add-scope-owner
+add-scope-owner c = let s = c .before .before .before in omega (arith, c .scope-base .ensures, s .pre .0 .short, s .pre .2)
+
+scope-owner-requires : tie.Need-scope-owner-requires
+scope-owner-requires c κs = tt
+
+add-at : tie.Need-add-at
+add-at c =
+    let o = c .before in
+    let s = o .before .before .before .before in
+    omega (arith, owner o, s .pre .0 .owners _ (s .pre .2), s .pre .0 .few, s .pre .1)
+
+mul-area : tie.Need-mul-area
+mul-area c = search needs
+
+slice-read-area : tie.Need-slice-read-area
+slice-read-area c =
+    let o = c .before .before in
+    let s = o .before .before .before .before in
+    omega (arith, owner o, s .pre .0 .owners _ (s .pre .2), s .pre .0 .few, s .pre .1)
+
+add-area : tie.Need-add-area
+add-area c = search needs
+
+mul-area-2 : tie.Need-mul-area-2
+mul-area-2 c = search needs
+
+slice-write-area : tie.Need-slice-write-area
+slice-write-area c = search needs
+
+cast-area : tie.Need-cast-area
+cast-area c = search needs
+
+mul-area-3 : tie.Need-mul-area-3
+mul-area-3 c = search needs
+
+slice-write-area-2 : tie.Need-slice-write-area-2
+slice-write-area-2 c =
+    let o = c .before .before in
+    let s = o .before .before .before .before in
+    omega (arith, owner o, s .pre .0 .owners _ (s .pre .2), s .pre .0 .few, s .pre .1, length-set (s .args .area .now) (5184 + s .args .k) (getD (s .args .area .now) (4672 + o .scope-owner .result .0) 0))
+
+same-length : tie.Need-same-length
+same-length c = search needs
+
+returns : tie.Need-returns
+returns c =
+    let o = c .before .before in
+    let s = o .before .before .before .before in
+    let W = now (s .args .words) in
+    let A = now (s .args .area) in
+    record {
+      indexed = indexed-next W A (s .args .l) (s .args .k) (s .pre .0) (s .pre .1) (s .pre .2) (s .pre .3) (owner o);
+      below = linked-below W A (s .args .l) (s .args .k) (s .pre .0) (s .pre .1) (s .pre .2) (s .pre .3) (owner o);
+    }
+
+pub link-spec : {M : Type 1} → statement M
+link-spec =
+    tie.close
+    (tie.spec
+    scope-base-requires
+    mul-scope-owner
+    add-scope-owner
+    scope-owner-requires
+    add-at
+    mul-area
+    slice-read-area
+    add-area
+    mul-area-2
+    slice-write-area
+    cast-area
+    mul-area-3
+    slice-write-area-2
+    same-length
+    returns)
