@@ -2,7 +2,7 @@
 use Prim.Native.Nat.{ℕ, zero, suc, _+_, _-_, _≤_, _<_, _^_}
 use mathlib.Core.Path.{_≡_, refl, sym, _∙_, ap, subst}
 use mathlib.Core.List.{List, []}
-use mathlib.Core.Bool.{true, false, true≢false}
+use mathlib.Core.Bool.{Bool, true, false, true≢false}
 use mathlib.Core.Option.{Option, none, some}
 use native.Mathlib.Omega.{arith}
 use lib.ListN.{length, set, take}
@@ -32,7 +32,7 @@ use Rattle.find_path.proofs.Unfold.{length-falls, local-more}
 use Rattle.find_path.proofs.Bounds.{Fits, search-local-fits}
 use Rattle.find_path.proofs.Tables.{names-short, same-snap, same-reads}
 use Rattle.search_laws.specs.Near.{ruled, near}
-use Rattle.search_laws.proofs.Fewer.{refuted}
+use Rattle.search_laws.proofs.Fewer.{refuted, or-left}
 use Rattle.search_laws.proofs.Near.{near-none, near-step, far-nothing}
 use Rattle.search_laws.proofs.Kept.{farther}
 use Rattle.distances.specs.Distances.{distance, Bounds}
@@ -48,7 +48,7 @@ use Rattle.walk_once.specs.Post.{Kept}
 use Rattle.walk_once.proofs.Walking.{walked-at}
 use Rattle.tight_rows.specs.Post.{Cleared, Tight}
 use Rattle.tight_rows.proofs.Keeping.{imports-known, row-asked, row-kept, rows-put, rows-none}
-use Rattle.local_search.specs.Post.{Searchable, Answered}
+use Rattle.local_search.specs.Post.{Ruling, Searchable, Answered}
 use Rattle.local_levels.proofs.Rows.{agree, take-less}
 use Rattle.local_levels.proofs.Stacks.{chain-none, snap-at, reads-at}
 
@@ -133,15 +133,28 @@ module _ (S : Snapshot) (x : FindPathCtx) (left : ℕ) (ls : List Level) (m : �
       e
       ∙ sym (search-or h ∙ ap (orLocal S x (searchLocal S x) left ls m (moduleRules S x false m)) (sym (ap (λ (z : Choice). z .found) e) ∙ t))
 
-  pub search-on : {c r : Choice} → (left ≡ 0 → ⊥) → c ≡ moduleRules S x false m → c .found ≡ false
+  pub search-on : {f : Bool} {r : Choice} → (left ≡ 0 → ⊥) → f ≡ moduleRules S x false m .found → f ≡ false
       → r ≡ calculateBestPathLocal S x (searchLocal S x) left ls (moduleItem m) → r ≡ searchLocal S x left ls m
   unfolding orLocal
-  search-on {c} h e t q =
-      q
-      ∙ sym (search-or h ∙ ap (orLocal S x (searchLocal S x) left ls m (moduleRules S x false m)) (sym (ap (λ (z : Choice). z .found) e) ∙ t))
+  search-on h e t q =
+      q ∙ sym (search-or h ∙ ap (orLocal S x (searchLocal S x) left ls m (moduleRules S x false m)) (sym e ∙ t))
 
-pub unruled : (S : Snapshot) (x : FindPathCtx) (m : ℕ) {c : Choice} → c ≡ moduleRules S x false m → c .found ≡ false → ruled S x m ≡ false
-unruled S x m e t = sym (ap (λ (z : Choice). z .found) e) ∙ t
+pub unruled : (S : Snapshot) (x : FindPathCtx) (m : ℕ) {f : Bool} → f ≡ ruled S x m → f ≡ false → ruled S x m ≡ false
+unruled S x m e t = sym e ∙ t
+
+-- no rule answers for a module with a number above 1
+far-unruled : (S : Snapshot) (x : FindPathCtx) (n : ℕ) (d : ℕ → ℕ) → Bounds S x n d → (m : ℕ) → m < n → 1 < d m → ruled S x m ≡ false
+unfolding near
+far-unruled S x n d b m known h = refuted (ruled S x m) (λ t. let o = b 1 m known (or-left (ruled S x m) _ t) in omega arith)
+
+module _ (S : Snapshot) (x : FindPathCtx) (n : ℕ) (d : ℕ → ℕ) (m : ℕ) where
+  pub ruling-far : Bounds S x n d → m < n → {w : ℕ} → w ≡ d m → 1 < w → {r : Choice} → r ≡ nothing → Ruling (moduleRules S x false m) r
+  ruling-far b known e h q =
+      let f = ap (λ (z : Choice). z .found) q in
+      record { found = f ∙ sym (far-unruled S x n d b m known (omega arith)); same = λ t. absurd (true≢false (sym t ∙ f)) }
+
+  pub ruling-near : {r : Choice} → r ≡ moduleRules S x false m → Ruling (moduleRules S x false m) r
+  ruling-near e = record { found = ap (λ (z : Choice). z .found) e; same = λ _. e }
 
 -- a location whose search finds nothing changes nothing
 idle : (S : Snapshot) (x : FindPathCtx) (left : ℕ) (ls : List Level) (best : Choice) (m : ℕ) (a : Option Scope) → searchLocal S x (lengthLeft left best) ls m ≡ nothing

@@ -2,6 +2,7 @@
 use Prim.Native.Nat.{ℕ, _+_, _*_, _≤_, _<_}
 use mathlib.Core.Path.{_≡_}
 use mathlib.Core.List.{List}
+use mathlib.Core.Bool.{true}
 use lib.ListN.{length, take}
 use Rattle.snapshot.specs.Limits.{moduleLimit, pathLimit, areaLimit}
 use Rattle.snapshot.specs.Layouts.{tableWords, snapOf}
@@ -15,6 +16,11 @@ use Rattle.local_levels.specs.Levels.{Chain}
 use Rattle.scope_index.specs.Index.{Indexed}
 use Rattle.walk_once.specs.Walked.{walkEnd, Walked}
 use Rattle.tight_rows.specs.Rows.{rowsAt, Rows}
+
+-- an answer that is c where c is found
+pub record Ruling (c r : Choice) : Type 0 where
+  pub found : r .found ≡ c .found
+  pub same : r .found ≡ true → r ≡ c
 
 -- words of a level: three, and its run of modules
 abbrev pub levelSize : ℕ

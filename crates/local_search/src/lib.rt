@@ -4,13 +4,15 @@ ghost use mathlib.Core.Bool.{false};
 ghost use Prim.Native.Nat.{_-_, _≤_, _<_, _^_};
 ghost use Rattle.snapshot.specs.Limits.{pathLimit};
 ghost use Rattle.snapshot.specs.Layouts.{snapOf};
+ghost use Rattle.accept.specs.Post.{Reads};
 ghost use Rattle.find_path.specs.Rules.{moduleRules};
 ghost use Rattle.find_path.specs.Local.{importableName, location as locationOf, calculateBestPathLocal};
 ghost use Rattle.find_path.specs.Search.{searchLocal, bestLocal};
 ghost use Rattle.find_path.specs.Conditions.{Prepared, Asked, Chosen};
+ghost use Rattle.distances.specs.Distances.{distance, Bounds};
 ghost use Rattle.local_levels.specs.Levels.{Small, levelsOf};
 ghost use Rattle.tight_rows.specs.Post.{Tight};
-ghost use Rattle.local_search.specs.Post.{Searchable, Answered};
+ghost use Rattle.local_search.specs.Post.{Ruling, Searchable, Answered};
 use distances::Distances;
 use distances::set_distances;
 use find_path::Choice;
@@ -66,6 +68,17 @@ fn location(
     offer_entry(words, area, l, x, best, c, h)
 }
 
+// The rules' answer for a module, if it has one: a module with a number above 1 has none.
+fn rules_at(words: &[u32], area: &[u32], l: Layout, x: FindPathCtx, m: ModuleId) -> Choice
+    requires { ⌜ Reads (now words) (now area) l × (x .from .0 < l .modules) × (m .0 < l .modules) × Bounds (snapOf (now words) (now area) l) x (l .modules) (distance (now area)) ⌝ }
+    ensures { λ r. ⌜ Ruling (moduleRules (snapOf (now (words .entry)) (now (area .entry)) l) x false (m .0)) r ⌝ }
+{
+    if 1 < word(area, Distances::AT + m.0) {
+        return nothing();
+    }
+    module_rules(words, area, l, x, false, m)
+}
+
 // The module search without externs.
 fn find_path_for_module_local(
     words: &[u32],
@@ -82,7 +95,7 @@ fn find_path_for_module_local(
     if left == 0 {
         return nothing();
     }
-    let c = module_rules(words, area, l, x, false, m);
+    let c = rules_at(words, area, l, x, m);
     if c.found {
         return c;
     }

@@ -30,7 +30,7 @@ use Rattle.path_choices.proofs.choices.length_left.Reads as length-left-reads
 use Rattle.path_choices.proofs.choices.nothing.Reads as nothing-reads
 use Rattle.path_offers.proofs.offers.importable_name.Reads as importable-name-reads
 use Rattle.path_offers.proofs.offers.offer_entry.Reads as offer-entry-reads
-use Rattle.path_rules.proofs.rules.module_rules.Reads as module-rules-reads
+use Rattle.local_search.proofs.rules_at.Reads as rules-at-reads
 use Rattle.snapshot.proofs.words.word.Reads as word-reads
 use Rattle.snapshot.proofs.record.scope_owner.Reads as scope-owner-reads
 use Rattle.tight_rows.proofs.from_row.Reads as from-row-reads
@@ -101,8 +101,8 @@ find-path-for-module-local-nothing-requires :
     (t : ℕ) → find-path-for-module-local-lts.Need-nothing-requires (
       nothing-reads.Asked,
       nothing-reads.Learnt,
-      module-rules-reads.Asked,
-      module-rules-reads.Learnt,
+      rules-at-reads.Asked,
+      rules-at-reads.Learnt,
       is-tight-reads.Asked,
       is-tight-reads.Learnt,
       tight-at-below t,
@@ -116,8 +116,8 @@ find-path-for-module-local-nothing-requires t c κs =
 find-path-for-module-local-returns : (t : ℕ) → find-path-for-module-local-lts.Need-returns (
   nothing-reads.Asked,
   nothing-reads.Learnt,
-  module-rules-reads.Asked,
-  module-rules-reads.Learnt,
+  rules-at-reads.Asked,
+  rules-at-reads.Learnt,
   is-tight-reads.Asked,
   is-tight-reads.Learnt,
   tight-at-below t,
@@ -129,12 +129,12 @@ find-path-for-module-local-returns t c =
     let s = c .before .before .before .before in
     record { same = search-none (snapOf (now (s .args .words)) (now (s .args .area)) (s .args .l)) (s .args .x) (s .args .left) (levelsOf (now (s .args .area)) (s .args .s .place) (s .args .s .depth)) (s .args .m .0) (c .before .if1 .taken) (c .nothing .ensures); below = refl; rows = s .pre .1 .0 .rows }
 
-find-path-for-module-local-module-rules-requires :
-    (t : ℕ) → find-path-for-module-local-lts.Need-module-rules-requires (
+find-path-for-module-local-rules-at-requires :
+    (t : ℕ) → find-path-for-module-local-lts.Need-rules-at-requires (
       nothing-reads.Asked,
       nothing-reads.Learnt,
-      module-rules-reads.Asked,
-      module-rules-reads.Learnt,
+      rules-at-reads.Asked,
+      rules-at-reads.Learnt,
       is-tight-reads.Asked,
       is-tight-reads.Learnt,
       tight-at-below t,
@@ -142,15 +142,15 @@ find-path-for-module-local-module-rules-requires :
       local-at-below t,
       local-at.Post,
     ) (find-path-for-module-local-at t) find-path-for-module-local.Post
-find-path-for-module-local-module-rules-requires t c κs =
+find-path-for-module-local-rules-at-requires t c κs =
     let s = c .before .before .before .before in
-    (s .pre .1 .0 .reads, s .pre .1 .0 .from, s .pre .1 .1)
+    (s .pre .1 .0 .reads, s .pre .1 .0 .from, s .pre .1 .1, s .pre .1 .0 .bounds)
 
 find-path-for-module-local-same-length : (t : ℕ) → find-path-for-module-local-lts.Need-same-length (
   nothing-reads.Asked,
   nothing-reads.Learnt,
-  module-rules-reads.Asked,
-  module-rules-reads.Learnt,
+  rules-at-reads.Asked,
+  rules-at-reads.Learnt,
   is-tight-reads.Asked,
   is-tight-reads.Learnt,
   tight-at-below t,
@@ -164,8 +164,8 @@ find-path-for-module-local-same-length t c =
 find-path-for-module-local-returns-2 : (t : ℕ) → find-path-for-module-local-lts.Need-returns-2 (
   nothing-reads.Asked,
   nothing-reads.Learnt,
-  module-rules-reads.Asked,
-  module-rules-reads.Learnt,
+  rules-at-reads.Asked,
+  rules-at-reads.Learnt,
   is-tight-reads.Asked,
   is-tight-reads.Learnt,
   tight-at-below t,
@@ -176,14 +176,14 @@ find-path-for-module-local-returns-2 : (t : ℕ) → find-path-for-module-local-
 find-path-for-module-local-returns-2 t c =
     let e = c .before .before .before in
     let s = e .before .before .before in
-    record { same = search-rules (snapOf (now (s .args .words)) (now (s .args .area)) (s .args .l)) (s .args .x) (s .args .left) (levelsOf (now (s .args .area)) (s .args .s .place) (s .args .s .depth)) (s .args .m .0) (e .if1 .left) (c .before .module-rules .ensures) (c .if2 .taken); below = refl; rows = s .pre .1 .0 .rows }
+    record { same = search-rules (snapOf (now (s .args .words)) (now (s .args .area)) (s .args .l)) (s .args .x) (s .args .left) (levelsOf (now (s .args .area)) (s .args .s .place) (s .args .s .depth)) (s .args .m .0) (e .if1 .left) (c .before .rules-at .ensures .same (c .if2 .taken)) (c .if2 .taken); below = refl; rows = s .pre .1 .0 .rows }
 
 find-path-for-module-local-is-tight-requires :
     (t : ℕ) → find-path-for-module-local-lts.Need-is-tight-requires (
       nothing-reads.Asked,
       nothing-reads.Learnt,
-      module-rules-reads.Asked,
-      module-rules-reads.Learnt,
+      rules-at-reads.Asked,
+      rules-at-reads.Learnt,
       is-tight-reads.Asked,
       is-tight-reads.Learnt,
       tight-at-below t,
@@ -199,8 +199,8 @@ find-path-for-module-local-tight-at-requires :
     (t : ℕ) → find-path-for-module-local-lts.Need-tight-at-requires (
       nothing-reads.Asked,
       nothing-reads.Learnt,
-      module-rules-reads.Asked,
-      module-rules-reads.Learnt,
+      rules-at-reads.Asked,
+      rules-at-reads.Learnt,
       is-tight-reads.Asked,
       is-tight-reads.Learnt,
       tight-at-below t,
@@ -216,14 +216,14 @@ find-path-for-module-local-tight-at-requires t c κs =
     let i = r .before .before in
     let s = i .before .before .before in
     let h = i .if1 .left in
-    (omega (arith, s .pre .0), (omega arith, s .pre .1 .0, s .pre .1 .1, k .is-tight .ensures (n .if3 .taken), unruled (snapOf (now (s .args .words)) (now (s .args .area)) (s .args .l)) (s .args .x) (s .args .m .0) (r .module-rules .ensures) (e .if2 .left)))
+    (omega (arith, s .pre .0), (omega arith, s .pre .1 .0, s .pre .1 .1, k .is-tight .ensures (n .if3 .taken), unruled (snapOf (now (s .args .words)) (now (s .args .area)) (s .args .l)) (s .args .x) (s .args .m .0) (r .rules-at .ensures .found) (e .if2 .left)))
 
 find-path-for-module-local-same-length-2 :
     (t : ℕ) → find-path-for-module-local-lts.Need-same-length-2 (
       nothing-reads.Asked,
       nothing-reads.Learnt,
-      module-rules-reads.Asked,
-      module-rules-reads.Learnt,
+      rules-at-reads.Asked,
+      rules-at-reads.Learnt,
       is-tight-reads.Asked,
       is-tight-reads.Learnt,
       tight-at-below t,
@@ -237,8 +237,8 @@ find-path-for-module-local-same-length-2 t c =
 find-path-for-module-local-returns-3 : (t : ℕ) → find-path-for-module-local-lts.Need-returns-3 (
   nothing-reads.Asked,
   nothing-reads.Learnt,
-  module-rules-reads.Asked,
-  module-rules-reads.Learnt,
+  rules-at-reads.Asked,
+  rules-at-reads.Learnt,
   is-tight-reads.Asked,
   is-tight-reads.Learnt,
   tight-at-below t,
@@ -253,8 +253,8 @@ find-path-for-module-local-local-at-requires :
     (t : ℕ) → find-path-for-module-local-lts.Need-local-at-requires (
       nothing-reads.Asked,
       nothing-reads.Learnt,
-      module-rules-reads.Asked,
-      module-rules-reads.Learnt,
+      rules-at-reads.Asked,
+      rules-at-reads.Learnt,
       is-tight-reads.Asked,
       is-tight-reads.Learnt,
       tight-at-below t,
@@ -272,8 +272,8 @@ find-path-for-module-local-same-length-3 :
     (t : ℕ) → find-path-for-module-local-lts.Need-same-length-3 (
       nothing-reads.Asked,
       nothing-reads.Learnt,
-      module-rules-reads.Asked,
-      module-rules-reads.Learnt,
+      rules-at-reads.Asked,
+      rules-at-reads.Learnt,
       is-tight-reads.Asked,
       is-tight-reads.Learnt,
       tight-at-below t,
@@ -287,8 +287,8 @@ find-path-for-module-local-same-length-3 t c =
 find-path-for-module-local-returns-4 : (t : ℕ) → find-path-for-module-local-lts.Need-returns-4 (
   nothing-reads.Asked,
   nothing-reads.Learnt,
-  module-rules-reads.Asked,
-  module-rules-reads.Learnt,
+  rules-at-reads.Asked,
+  rules-at-reads.Learnt,
   is-tight-reads.Asked,
   is-tight-reads.Learnt,
   tight-at-below t,
@@ -302,7 +302,7 @@ find-path-for-module-local-returns-4 t c =
     let r = e .before in
     let i = r .before .before in
     let s = i .before .before .before in
-    record { same = search-on (snapOf (now (s .args .words)) (now (s .args .area)) (s .args .l)) (s .args .x) (s .args .left) (levelsOf (now (s .args .area)) (s .args .s .place) (s .args .s .depth)) (s .args .m .0) (i .if1 .left) (r .module-rules .ensures) (e .if2 .left) (a .local-at .ensures .same); below = a .local-at .ensures .below; rows = a .local-at .ensures .rows }
+    record { same = search-on (snapOf (now (s .args .words)) (now (s .args .area)) (s .args .l)) (s .args .x) (s .args .left) (levelsOf (now (s .args .area)) (s .args .s .place) (s .args .s .depth)) (s .args .m .0) (i .if1 .left) (r .rules-at .ensures .found) (e .if2 .left) (a .local-at .ensures .same); below = a .local-at .ensures .below; rows = a .local-at .ensures .rows }
 
 abbrev local-at-Inv-loop : local-at-lts.InvT-loop
 local-at-Inv-loop words area₀ l x left item s top base code n up best₀ k₀ area best k =
@@ -1478,8 +1478,8 @@ pub +find-path-for-module-local+local-at+location+tight-at-spec : {M : Type 1} �
     (λ t. find-path-for-module-local-lts.spec (
       nothing-reads.Asked,
       nothing-reads.Learnt,
-      module-rules-reads.Asked,
-      module-rules-reads.Learnt,
+      rules-at-reads.Asked,
+      rules-at-reads.Learnt,
       is-tight-reads.Asked,
       is-tight-reads.Learnt,
       tight-at-below t,
@@ -1491,7 +1491,7 @@ pub +find-path-for-module-local+local-at+location+tight-at-spec : {M : Type 1} �
     find-path-for-module-local.Post
     (find-path-for-module-local-nothing-requires t)
     (find-path-for-module-local-returns t)
-    (find-path-for-module-local-module-rules-requires t)
+    (find-path-for-module-local-rules-at-requires t)
     (find-path-for-module-local-same-length t)
     (find-path-for-module-local-returns-2 t)
     (find-path-for-module-local-is-tight-requires t)
