@@ -1,7 +1,7 @@
 //! A question, its answer, and what that means.
 use kelumavor::{
-    AnyPath, DefinitionId, ModuleId, Namespace, Options, Outcome, Path, PathKind, Prefix, Question, Report, Rule, ShortestPath,
-    Snapshot, Step,
+    AnyPath, DefinitionId, ModuleId, Namespace, Options, Outcome, Path, PathKind, Prefix, Question, Report, Rule,
+    ShortestPath, Snapshot, Step,
 };
 
 use crate::args::Args;
@@ -9,7 +9,7 @@ use crate::escape::in_path;
 use crate::failure::Failure;
 use crate::faults::counted;
 use crate::json::Json;
-use crate::record::{NAMESPACES, OPTIONS, PREFIXES, Role};
+use crate::record::{Kind, NAMESPACES, OPTIONS, PREFIXES, Record, Role};
 use crate::resolve;
 use crate::view::View;
 
@@ -169,33 +169,66 @@ pub fn steps(path: &Path) -> Vec<(String, Step)> {
     parts.into_iter().zip(path.route()).collect()
 }
 
+fn keyword_text(view: &View, from: ModuleId, part: &str) -> String {
+    let meaning = match part {
+        "self" => "the viewing module itself".to_string(),
+        "super" => "the parent of the viewing module".to_string(),
+        _ => format!("the root of the crate of {}", view.module(from.0 as usize)),
+    };
+    format!("{part}: a keyword, {meaning}")
+}
+
+fn entry_text(view: &View, record: &Record, note: &str) -> String {
+    let (module, visibility) = (view.module(record.get(0)), view.visibility(record));
+    format!("entry of module {module}{note}, {visibility}{}", view.marks(record))
+}
+
+fn extern_text(view: &View, record: &Record) -> String {
+    format!("extern name of {}, for {}", view.krate(record.get(0)), view.module(record.get(2)))
+}
+
+fn variant_text(view: &View, record: &Record) -> String {
+    format!("variant of {}", view.definition(record.get(1)))
+}
+
 /// A step in words.
 fn step_text(view: &View, from: ModuleId, part: &str, step: Step) -> String {
     let place = step.place as usize;
     let Some(record) = view.records.at(place).filter(|_| step.rule != Rule::Keyword) else {
-        let crate_root = format!("the root of the crate of {}", view.module(from.0 as usize));
-        let meaning = match part {
-            "self" => "the viewing module itself".to_string(),
-            "super" => "the parent of the viewing module".to_string(),
-            _ => crate_root,
-        };
-        return format!("{part}: a keyword, {meaning}");
+        return keyword_text(view, from, part);
     };
     let what = match step.rule {
-        Rule::Scope | Rule::Local | Rule::Prelude => {
-            let prelude = if step.rule == Rule::Prelude { " (the prelude)" } else { "" };
-            let (module, visibility) = (view.module(record.get(0)), view.visibility(record));
-            format!("entry of module {module}{prelude}, {visibility}{}", view.marks(record))
-        }
-        Rule::Extern => format!("extern name of {}, for {}", view.krate(record.get(0)), view.module(record.get(2))),
+        Rule::Scope | Rule::Local => entry_text(view, record, ""),
+        Rule::Prelude => entry_text(view, record, " (the prelude)"),
+        Rule::Extern => extern_text(view, record),
         Rule::Builtin => "builtin type".to_string(),
         Rule::Import => {
             format!("import map of {}, held by module {}", view.krate(record.get(0)), view.module(record.get(4)))
         }
-        Rule::Variant => format!("variant of {}", view.definition(record.get(1))),
+        Rule::Variant => variant_text(view, record),
         other => other.to_string(),
     };
     format!("{part}: {what}, word {place}")
+}
+
+/// How the compiler reads a shortest path: each part of it with the word at which its record begins, none for keywords, and in words.
+fn readings(view: &View, from: ModuleId, path: &ShortestPath) -> Vec<(String, Option<u32>, String)> {
+    let start = path.start().join("::");
+    let above = format!("{start}: keywords, the module {} above the viewing one", counted(path.supers(), "time"));
+    let keywords = if path.supers() > 1 { above } else { keyword_text(view, from, &start) };
+    let keywords = (!start.is_empty()).then(|| (start.clone(), None, keywords));
+    let colons = if path.kind() == PathKind::Absolute { "::" } else { "" };
+    let names = path.written().zip(path.route()).enumerate().map(|(number, (name, place))| {
+        let part = format!("{}{}", if number == 0 { colons } else { "" }, in_path(name));
+        let what = view.records.at(place as usize).map_or_else(String::new, |record| match record.kind {
+            Kind::Extern => extern_text(view, record),
+            Kind::Definition => variant_text(view, record),
+            _ => entry_text(view, record, ""),
+        });
+        let text = format!("{part}: {what}, word {place}");
+        (part, Some(place), text)
+    });
+    keywords.into_iter().chain(names).collect()
 }
 
 /// The question in words.
@@ -305,19 +338,31 @@ pub fn text(view: &View, question: &Question, report: &Report, opinion: Option<&
         }
     }
     lines.extend(opinion.map(|opinion| format!("second opinion: {}", opinion_text(opinion))));
+    if let Some(AnyPath::Found(path)) = opinion {
+        lines.extend(readings(view, question.from, path).into_iter().map(|(_, _, text)| format!("  {text}")));
+    }
     lines.push(format!("asked: {}; {}", asked(view, question), counted(report.charges as usize, "charge")));
     lines.join("\n") + "\n"
 }
 
-/// Which answer a second opinion is, its path and its words.
-fn opinion_json(opinion: &AnyPath) -> Json {
+/// Which answer a second opinion is, its path, how that is read, and its words.
+fn opinion_json(view: &View, from: ModuleId, opinion: &AnyPath) -> Json {
     let (outcome, path) = match opinion {
-        AnyPath::Found(path) => ("found", Some(shortest_text(path))),
+        AnyPath::Found(path) => ("found", Some(path)),
         AnyPath::Longer => ("longer", None),
         AnyPath::Nowhere => ("none", None),
         _ => ("unknown", None),
     };
-    Json::Object(vec![("outcome", outcome.into()), ("path", path.into()), ("meaning", opinion_text(opinion).into())])
+    let step = |(part, word, text): (String, Option<u32>, String)| {
+        Json::Object(vec![("part", part.into()), ("word", word.into()), ("text", text.into())])
+    };
+    let route = path.map_or(Json::List(Vec::new()), |path| readings(view, from, path).into_iter().map(step).collect());
+    Json::Object(vec![
+        ("outcome", outcome.into()),
+        ("path", path.map(shortest_text).into()),
+        ("route", route),
+        ("meaning", opinion_text(opinion).into()),
+    ])
 }
 
 pub fn json(view: &View, question: &Question, report: &Report, opinion: Option<&AnyPath>) -> Json {
@@ -343,7 +388,7 @@ pub fn json(view: &View, question: &Question, report: &Report, opinion: Option<&
         ("route", found(report).map_or(Json::List(Vec::new()), route)),
         ("refused", refusal.into()),
         ("meaning", meaning(view, question, report).into()),
-        ("second_opinion", opinion.map_or(Json::Null, opinion_json)),
+        ("second_opinion", opinion.map_or(Json::Null, |opinion| opinion_json(view, question.from, opinion))),
         ("charges", report.charges.into()),
         ("tank_empty", report.first_empty.is_some().into()),
         ("question", question_json(view, question)),

@@ -2,7 +2,10 @@
 mod common;
 
 use common::{WORKED, build, bytes, file, kelumavor, out, snapshot};
-use kelumavor::{DefinitionId, ModuleId, Namespace, Outcome, Question, Rule, Snapshot};
+use kelumavor::record::{Crate, Map};
+use kelumavor::{
+    DefinitionId, Entry, ModuleId, Namespace, Outcome, Question, Rule, Snapshot, SnapshotWords, Visibility,
+};
 use kelumavor_command::record::Kind;
 use kelumavor_command::view::View;
 use kelumavor_command::{ask, dot, resolve, tree};
@@ -72,6 +75,45 @@ fn options_by_name_and_number() {
         let output = kelumavor(&["ask", &file, "--item", "a::f", "--from", "crate", "--options", wrong]);
         assert_eq!(output.status.code(), Some(2), "{wrong}");
     }
+}
+
+/// Where the rules of the search pass a path over, the compiler's path is told with the records by which it is read.
+#[test]
+fn a_second_opinion_with_its_route() {
+    let mut words = SnapshotWords::new();
+    let krate = words.add_crate(Crate::default());
+    let map = words.add_map(Map { krate, block_in: None, no_std: false });
+    let root = words.module(map, None);
+    let inner = words.module(map, Some(root));
+    words.child(root, inner);
+    let module = words.module_definition(inner);
+    let item = words.other_definition(inner);
+    let [a, hidden, seen] = ["a", "A", "B"].map(|text| words.name(text));
+    words.add_entry(Entry::new(root, Namespace::Types, a, module));
+    let import =
+        |name, visibility| Entry { declared: false, visibility, ..Entry::new(inner, Namespace::Types, name, item) };
+    words.add_entry(import(hidden, Visibility::Implicit(inner)));
+    words.add_entry(import(seen, Visibility::Public));
+    let file = file("opinion", &bytes(words.as_words()));
+    let plain = ["ask", &file, "--item", "1", "--from", "0", "--namespace", "types"];
+    let text = out(&kelumavor(&plain));
+    let expected = [
+        "  self: a keyword, the viewing module itself",
+        "  a: entry of module crate, pub, word 23",
+        "  B: entry of module crate::a, pub, import, word 39",
+    ];
+    let lines: Vec<&str> = text.lines().collect();
+    assert!(lines[1].starts_with("second opinion: the compiler takes `self::a::B` for it here"), "{text}");
+    assert_eq!(lines[2..5], expected, "{text}");
+    let json = out(&kelumavor(&[&plain[..], &["--json"]].concat()));
+    assert!(
+        json.contains(r#"{"part":"self","word":null,"text":"self: a keyword, the viewing module itself"}"#),
+        "{json}"
+    );
+    assert!(
+        json.contains(r#"{"part":"B","word":39,"text":"B: entry of module crate::a, pub, import, word 39"}"#),
+        "{json}"
+    );
 }
 
 /// In a block whose own `f` hides the one around it the path is no answer, and the status says so.

@@ -29,17 +29,23 @@ pub struct ShortestPath {
     ids: Box<[NameId]>,
     names: Box<[Text]>,
     written: Box<[Vec<u8>]>,
+    route: Box<[u32]>,
 }
 
 impl ShortestPath {
-    fn new(snapshot: &Snapshot, from: ModuleId, kind: PathKind, supers: usize, names: &[usize]) -> Self {
+    fn new(snapshot: &Snapshot, from: ModuleId, any: &sys::Any) -> Self {
+        let [_, kind, supers, count] = any.head;
+        let (names, route) = (&any.names[..count], &any.route[..count]);
+        let kind = PathKind::from_number(u32::try_from(kind).expect("a path's kind"));
         let edition = snapshot.edition(from).expect("a path is seen from a module of its snapshot");
         let number = |name: &usize| NameId(u32::try_from(*name).expect("a path has names of its snapshot"));
         let ids: Box<[NameId]> = names.iter().map(number).collect();
         let text = |name: &NameId| snapshot.name(*name).expect("a path has names of its snapshot");
         let names: Box<[Text]> = ids.iter().map(text).collect();
         let written = ids.iter().zip(&names).map(|(name, text)| snapshot.written(*name, text, edition)).collect();
-        ShortestPath { kind, supers, ids, names, written }
+        let place = |word: &usize| u32::try_from(*word).expect("a record stands in its snapshot");
+        let route = route.iter().map(place).collect();
+        ShortestPath { kind, supers, ids, names, written, route }
     }
 
     /// What it begins with; [`PathKind::Super`] may stand there several times.
@@ -69,6 +75,13 @@ impl ShortestPath {
     /// Its names as they are written in the viewing module, keywords with `r#`.
     pub fn written(&self) -> impl ExactSizeIterator<Item = &[u8]> + '_ {
         self.written.iter().map(Vec::as_slice)
+    }
+
+    /// How it is read: for each name the word at which the record begins that it is read by, a scope or extern record, or for a variant its
+    /// definition.
+    #[must_use]
+    pub fn route(&self) -> impl ExactSizeIterator<Item = u32> + '_ {
+        self.route.iter().copied()
     }
 
     /// What stands before its names: `self`, `crate`, `super` so many times, or nothing before a leading `::`.
@@ -117,7 +130,11 @@ impl Snapshot {
     /// // A crate with a module `a` that holds a function `f`.
     /// let snapshot = Snapshot::check(&words)?;
     /// match snapshot.any_path(Namespace::Values, DefinitionId(1), ModuleId(0))? {
-    ///     AnyPath::Found(path) => assert_eq!(path.to_string(), "self::a::f"),
+    ///     AnyPath::Found(path) => {
+    ///         assert_eq!(path.to_string(), "self::a::f");
+    ///         // `a` by the scope record at word 21, `f` by the one at word 29.
+    ///         assert_eq!(path.route().collect::<Vec<u32>>(), [21, 29]);
+    ///     }
     ///     other => panic!("{other:?}"),
     /// }
     /// assert_eq!(snapshot.any_path(Namespace::Types, DefinitionId(1), ModuleId(0))?, AnyPath::Nowhere);
@@ -140,13 +157,9 @@ impl Snapshot {
         area: &mut WorkArea,
     ) -> Result<AnyPath, Refusal> {
         let question = [namespace as u32, definition.0, from.0];
-        let ([outcome, kind, supers, count], names) =
-            sys::any_path(self.words(), area.words(), &question).map_err(|number| Refusal::by(number, None))?;
-        Ok(match outcome {
-            sys::ANY_FOUND => {
-                let kind = PathKind::from_number(u32::try_from(kind).expect("a path's kind"));
-                AnyPath::Found(ShortestPath::new(self, from, kind, supers, &names[..count]))
-            }
+        let any = sys::any_path(self.words(), area.words(), &question).map_err(|number| Refusal::by(number, None))?;
+        Ok(match any.head[0] {
+            sys::ANY_FOUND => AnyPath::Found(ShortestPath::new(self, from, &any)),
             sys::ANY_NOWHERE => AnyPath::Nowhere,
             sys::ANY_LONGER => AnyPath::Longer,
             _ => unreachable!("the library gives no other outcome"),

@@ -181,6 +181,7 @@ mod raw {
             question: *const [u32; 3],
             head: *mut [usize; 4],
             names: *mut [usize; super::NAMES],
+            route: *mut [usize; super::NAMES],
         ) -> usize;
     }
 }
@@ -395,13 +396,18 @@ pub fn new_definition(area: &[u32], definition: usize) -> usize {
     unsafe { raw::kelumavor_new_definition(area.as_ptr(), area.len(), definition) }
 }
 
-/// Outcome, kind, how many times `super`, how many names, and the names; or the number of the refusal.
-pub fn any_path(
-    words: &[u32],
-    area: &mut [u32],
-    question: &[u32; 3],
-) -> Result<([usize; 4], [usize; NAMES]), usize> {
-    let (mut head, mut names) = ([0; 4], [0; NAMES]);
+/// What was found out about any path.
+pub struct Any {
+    /// outcome, kind, how many times `super`, how many names
+    pub head: [usize; 4],
+    pub names: [usize; NAMES],
+    /// the words at which the records begin by which the names are read
+    pub route: [usize; NAMES],
+}
+
+/// Whether any path names a definition; or the number of the refusal.
+pub fn any_path(words: &[u32], area: &mut [u32], question: &[u32; 3]) -> Result<Any, usize> {
+    let mut any = Any { head: [0; 4], names: [0; NAMES], route: [0; NAMES] };
     // SAFETY: as in `check`.
     let refusal = unsafe {
         raw::kelumavor_any_path(
@@ -410,9 +416,10 @@ pub fn any_path(
             area.as_mut_ptr(),
             area.len(),
             question,
-            &raw mut head,
-            &raw mut names,
+            &raw mut any.head,
+            &raw mut any.names,
+            &raw mut any.route,
         )
     };
-    if refusal == 0 { Ok((head, names)) } else { Err(refusal) }
+    if refusal == 0 { Ok(any) } else { Err(refusal) }
 }

@@ -1,8 +1,8 @@
 //! Whether any path names an item.
 use kelumavor::record::{Crate, Map};
 use kelumavor::{
-    AnyPath, DefinitionId, Entry, ModuleId, Namespace, Outcome, PathKind, Question, RefusalKind, Snapshot, SnapshotWords,
-    Visibility,
+    AnyPath, DefinitionId, Entry, ModuleId, Namespace, Outcome, PathKind, Question, RefusalKind, Snapshot,
+    SnapshotWords, Visibility,
 };
 
 /// `mod p { mod x { pub struct S; } pub mod a { use super::x::S as A; pub use super::x::S as B; } } mod v {}`: the snapshot, the struct, and the
@@ -23,7 +23,10 @@ fn second_entry() -> (Snapshot, DefinitionId, ModuleId, ModuleId) {
     let s = words.other_definition(x);
     let names = ["p", "x", "a", "v", "S", "A", "B"].map(|text| words.name(text));
     let private = |module| Visibility::Implicit(module);
-    let entry = |owner, name, definition, visibility| Entry { visibility, ..Entry::new(owner, Namespace::Types, name, definition) };
+    let entry = |owner, name, definition, visibility| Entry {
+        visibility,
+        ..Entry::new(owner, Namespace::Types, name, definition)
+    };
     words.add_entry(entry(root, names[0], modules[0], private(root)));
     words.add_entry(entry(p, names[1], modules[1], private(p)));
     words.add_entry(entry(p, names[2], modules[2], Visibility::Public));
@@ -42,6 +45,10 @@ fn a_path_that_the_search_passes_over() {
     assert_eq!(path.to_string(), "crate::p::a::B");
     assert_eq!((path.kind(), path.supers(), path.ids().len()), (PathKind::Crate, 0, 3));
     assert_eq!(path.names().map(|name| name.as_bytes().to_vec()).collect::<Vec<_>>(), [b"p", b"a", b"B"]);
+    // the first entry, the third, and the last
+    let entries: Vec<u32> =
+        (0..).zip(snapshot.words()).filter(|(_, word)| **word >> 28 == 9).map(|(place, _)| place).collect();
+    assert_eq!(path.route().collect::<Vec<_>>(), [entries[0], entries[2], entries[6]]);
     let AnyPath::Found(near) = snapshot.any_path(Namespace::Types, s, x).unwrap() else { panic!("it stands there") };
     assert_eq!(near.to_string(), "self::S");
     assert_eq!(snapshot.any_path(Namespace::Values, s, v), Ok(AnyPath::Nowhere));

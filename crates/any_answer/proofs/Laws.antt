@@ -19,13 +19,13 @@ use Rattle.accept.specs.declared.check.Checked.{Checked}
 use Rattle.accept.specs.declared.check.Checked.the-variants.{Refused, Accepted}
 use Rattle.hir_def.specs.Items.{itemOf}
 use Rattle.hir_def.specs.declared.Item.{Item}
-use Rattle.nameable.specs.Paths.{Path, namesIn, namesOf}
+use Rattle.nameable.specs.Paths.{Path, namesIn, namesOf, routeOf}
 use Rattle.nameable.specs.Breadth.{found, longer, namesLimit, upTo, shortest, anyPath}
 use Rattle.find_path.specs.declared.Query.{Query}
 use Rattle.find_path.specs.Report.{callFault, questionFault}
 use Rattle.told_paths.specs.declared.ToldPath.{ToldPath}
 use Rattle.told_paths.specs.Tells.{kindOf, supersOf, padded, toldNone, tell, toldBy}
-use Rattle.told_paths.proofs.Laws.{wholly, tell-few, tell-count, tell-found}
+use Rattle.told_paths.proofs.Laws.{tell-few, tell-count, tell-found}
 use Rattle.checked.proofs.Laws.{small, same-fault}
 use Rattle.answer.specs.Answers.{zeros}
 use Rattle.answer.proofs.Areas.{area-small, area-large}
@@ -41,14 +41,14 @@ unfolding upTo
 up-many p h = rw (upTo, lt-leb (namesIn p) namesLimit h)
 
 -- What was found.
-module _ (o : Option Path) {t : ToldPath} (e : t ≡ toldBy o) where
-  nowhere-by : {r : AnyReport} (u : Option Path) → o ≡ u → not (t .found) ≡ true → r ≡ anyWithout 1 0 → r ≡ anyReported (upTo namesLimit o)
+module _ (s : Snapshot) (from ns : ℕ) (o : Option Path) {t : ToldPath} (e : t ≡ toldBy o) where
+  nowhere-by : {r : AnyReport} (u : Option Path) → o ≡ u → not (t .found) ≡ true → r ≡ anyWithout 1 0 → r ≡ anyReported s from ns (upTo namesLimit o)
   unfolding upTo anyReported toldBy
-  nowhere-by none z h er = er ∙ sym (ap (λ (v : Option Path). anyReported (upTo namesLimit v)) z)
+  nowhere-by none z h er = er ∙ sym (ap (λ (v : Option Path). anyReported s from ns (upTo namesLimit v)) z)
   nowhere-by (some p) z h er =
       absurd (true≢false (sym (tell-found p) ∙ (sym (ap (λ (v : ToldPath). v .found) (e ∙ ap toldBy z)) ∙ not-true (t .found) h)))
 
-  pub told-nowhere : {r : AnyReport} → not (t .found) ≡ true → r ≡ anyWithout 1 0 → r ≡ anyReported (upTo namesLimit o)
+  pub told-nowhere : {r : AnyReport} → not (t .found) ≡ true → r ≡ anyWithout 1 0 → r ≡ anyReported s from ns (upTo namesLimit o)
   told-nowhere h er = nowhere-by o refl h er
 
   module _ (there : not (t .found) ≡ false) where
@@ -61,23 +61,25 @@ module _ (o : Option Path) {t : ToldPath} (e : t ≡ toldBy o) where
     unfolding toldBy
     its-count p z = ap (λ (v : ToldPath). v .count) (e ∙ ap toldBy z) ∙ tell-count p
 
-    pub told-longer : {r : AnyReport} → namesLimit < t .count → r ≡ anyWithout 3 0 → r ≡ anyReported (upTo namesLimit o)
+    pub told-longer : {r : AnyReport} → namesLimit < t .count → r ≡ anyWithout 3 0 → r ≡ anyReported s from ns (upTo namesLimit o)
     unfolding anyReported
     told-longer h er =
         let f = which o refl in
         let c = its-count (f .0) (f .1) in
-        er ∙ sym (ap anyReported (ap (upTo namesLimit) (f .1) ∙ up-many (f .0) (omega (arith, h, c))))
+        er ∙ sym (ap (anyReported s from ns) (ap (upTo namesLimit) (f .1) ∙ up-many (f .0) (omega (arith, h, c))))
 
-    pub told-found : t .count ≤ namesLimit
-        → record { outcome = 0; number = 0; kind = t .kind; supers = t .supers; names = t .names; count = t .count } ≡ anyReported (upTo namesLimit o)
+    pub told-found : t .count ≤ namesLimit → {R : List ℕ} → ((p : Path) → t ≡ tell p → namesIn p ≤ namesLimit → R ≡ padded (routeOf s from ns p))
+        → record { outcome = 0; number = 0; kind = t .kind; supers = t .supers; names = t .names; count = t .count; route = R }
+        ≡ anyReported s from ns (upTo namesLimit o)
     unfolding anyReported toldBy
-    told-found h =
+    told-found h er =
         let f = which o refl in
         let c = its-count (f .0) (f .1) in
         let few : namesIn (f .0) ≤ namesLimit = omega (arith, h, c) in
-        let whole : t ≡ wholly (f .0) = e ∙ (ap toldBy (f .1) ∙ tell-few (f .0) few) in
-        ap (λ (v : ToldPath). record { outcome = 0; number = 0; kind = v .kind; supers = v .supers; names = v .names; count = v .count }) whole
-        ∙ sym (ap anyReported (ap (upTo namesLimit) (f .1) ∙ up-few (f .0) few))
+        let its : t ≡ tell (f .0) = e ∙ ap toldBy (f .1) in
+        ap₂ (λ (v : ToldPath) (R : List ℕ). record { outcome = 0; number = 0; kind = v .kind; supers = v .supers; names = v .names; count = v .count; route = R })
+        (its ∙ tell-few (f .0) few) (er (f .0) its few)
+        ∙ sym (ap (anyReported s from ns) (ap (upTo namesLimit) (f .1) ∙ up-few (f .0) few))
 
 -- On accepted words.
 module _ (s : Snapshot) (q : Query) where
@@ -90,11 +92,11 @@ module _ (s : Snapshot) (q : Query) where
   unfolding anyBy
   any-fault {n = n} en h er = er ∙ (fault-by n h ∙ ap (anyUnless s q) en)
 
-  pub any-found : {r : AnyReport} {n : ℕ} {i : Item} → n ≡ questionFault s q → n ≡ 0 → i ≡ itemOf s (q .ns) (q .definition .0) → r ≡ anyReported (upTo namesLimit (shortest s (q .from .0) i))
+  pub any-found : {r : AnyReport} {n : ℕ} {i : Item} → n ≡ questionFault s q → n ≡ 0 → i ≡ itemOf s (q .ns) (q .definition .0) → r ≡ anyReported s (q .from .0) (q .ns) (upTo namesLimit (shortest s (q .from .0) i))
       → r ≡ anyBy q (accept s)
   unfolding anyBy anyUnless anyPath
   any-found en z ei er =
-      er ∙ (ap (λ (x : Item). anyReported (upTo namesLimit (shortest s (q .from .0) x))) ei ∙ ap (anyUnless s q) (sym z ∙ en))
+      er ∙ (ap (λ (x : Item). anyReported s (q .from .0) (q .ns) (upTo namesLimit (shortest s (q .from .0) x))) ei ∙ ap (anyUnless s q) (sym z ∙ en))
 
 -- On checked words.
 module _ (W : List ℕ) (area : ℕ) (q : Query) where
@@ -141,7 +143,7 @@ module _ (W A : List ℕ) (ns d m : ℕ) where
 
 -- as numbers
 pub answers-in : (W A Q B : List ℕ) {ns d m : ℕ} {r : AnyReport} → ns ≡ getD Q 0 0 → d ≡ getD Q 1 0 → m ≡ getD Q 2 0 → AnyAnswers W A ns d m B r
-    → AnyIn W A Q B (r .outcome ∷ r .kind ∷ r .supers ∷ r .count ∷ []) (r .names) (r .number)
+    → AnyIn W A Q B (r .outcome ∷ r .kind ∷ r .supers ∷ r .count ∷ []) (r .names) (r .route) (r .number)
 answers-in W A Q B {ns} {d} {m} {r} en ed em a =
     let same : anyQuery ns d m ≡ questionOf Q = λ i. anyQuery (en i) (ed i) (em i) in
     let e : r ≡ anyReport W (length A) (questionOf Q) = a .report ∙ ap (anyReport W (length A)) same in
@@ -149,5 +151,6 @@ answers-in W A Q B {ns} {d} {m} {r} en ed em a =
       number = ap (λ (x : AnyReport). x .number) e;
       front = ap (λ (x : AnyReport). x .outcome ∷ x .kind ∷ x .supers ∷ x .count ∷ []) e;
       told = ap (λ (x : AnyReport). x .names) e;
+      places = ap (λ (x : AnyReport). x .route) e;
       area = a .area;
     }

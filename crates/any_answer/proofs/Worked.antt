@@ -14,7 +14,7 @@ use Rattle.hir_def.specs.Finds.{firstOf, select, orFirst}
 use Rattle.hir_def.specs.Items.{definitionOf, crateData, itemOf, sameItem, nsOf, homeBy}
 use Rattle.hir_def.specs.Nameres.{stepsOr, stepsTo, steps, preludeOf}
 use Rattle.nameable.specs.Seen.{holds, declaredNs, declaredAs, declaredIn, declarationIn, declarationOf, declarationHolds, bothHold, counts, seen}
-use Rattle.nameable.specs.Paths.{namesIn, named, entriesIn, variantsIn, externsIn, absolutes, entriesOver, scopesFrom, preludeEntries, firsts, within, aboveOr, above, keywordModule, moduleNamed, after, reads, itemIn, means, namesOf}
+use Rattle.nameable.specs.Paths.{namesIn, named, entriesIn, variantsIn, externsIn, absolutes, entriesOver, scopesFrom, preludeEntries, firsts, within, aboveOr, above, keywordModule, moduleNamed, after, reads, itemIn, means, namesOf, placeIn, routeOf}
 use Rattle.nameable.specs.Breadth.{isMet, withMeaning, added, nameless, single, onward, reached, isItem, firstTo, arrives, checkedPath, variantAfter, byEnum, shorter, shortestOf, shortest, upTo, anyPath}
 use Rattle.nameable.proofs.Worked.{head, letter, entry, workspace}
 use Rattle.find_path.specs.Report.{callFault, questionFault}
@@ -26,13 +26,15 @@ use Rattle.any_answer.specs.Any.{anyWithout, anyRefused, anyReported, an
 pub asked : List ℕ → ℕ → ℕ → ℕ → AnyReport
 asked words ns d m = anyReport words 16384 (anyQuery ns d m)
 
--- a path: its kind, its `super`s, how many names, and these filled up
-pub found : ℕ → ℕ → ℕ → List ℕ → AnyReport
-found k u n names = record { outcome = 0; number = 0; kind = k; supers = u; names = names; count = n }
+-- a path: its kind, its `super`s, how many names, these filled up, and the places of their records
+pub found : ℕ → ℕ → ℕ → List ℕ → List ℕ → AnyReport
+found k u n names route = record { outcome = 0; number = 0; kind = k; supers = u; names = names; count = n; route = route }
 
 pub any-reports :
     -- S in `v`, the f of h in `p`, the f of q in `t`
     asked (workspace 2021) 0 4 4 ∷ asked (workspace 2021) 1 6 1 ∷ asked (workspace 2021) 1 10 10
+    -- the variant V in `v`
+    ∷ asked (workspace 2021) 1 13 4
     -- the constructor of S in `a`, which imports it and may not
     ∷ asked (workspace 2021) 1 4 3
     -- no such namespace, definition, macro
@@ -40,12 +42,13 @@ pub any-reports :
     -- a work area that is too small
     ∷ anyReport (workspace 2021) 16383 (anyQuery 0 4 4)
     ∷ []
-    ≡ found 3 0 3 (0 ∷ 3 ∷ 5 ∷ 0 ∷ 0 ∷ 0 ∷ 0 ∷ 0 ∷ 0 ∷ 0 ∷ 0 ∷ 0 ∷ 0 ∷ 0 ∷ 0 ∷ 0 ∷ [])
-    ∷ found 4 0 3 (7 ∷ 8 ∷ 9 ∷ 0 ∷ 0 ∷ 0 ∷ 0 ∷ 0 ∷ 0 ∷ 0 ∷ 0 ∷ 0 ∷ 0 ∷ 0 ∷ 0 ∷ 0 ∷ [])
-    ∷ found 2 2 1 (9 ∷ 0 ∷ 0 ∷ 0 ∷ 0 ∷ 0 ∷ 0 ∷ 0 ∷ 0 ∷ 0 ∷ 0 ∷ 0 ∷ 0 ∷ 0 ∷ 0 ∷ 0 ∷ [])
+    ≡ found 3 0 3 (0 ∷ 3 ∷ 5 ∷ 0 ∷ 0 ∷ 0 ∷ 0 ∷ 0 ∷ 0 ∷ 0 ∷ 0 ∷ 0 ∷ 0 ∷ 0 ∷ 0 ∷ 0 ∷ []) (110 ∷ 134 ∷ 190 ∷ 0 ∷ 0 ∷ 0 ∷ 0 ∷ 0 ∷ 0 ∷ 0 ∷ 0 ∷ 0 ∷ 0 ∷ 0 ∷ 0 ∷ 0 ∷ [])
+    ∷ found 4 0 3 (7 ∷ 8 ∷ 9 ∷ 0 ∷ 0 ∷ 0 ∷ 0 ∷ 0 ∷ 0 ∷ 0 ∷ 0 ∷ 0 ∷ 0 ∷ 0 ∷ 0 ∷ 0 ∷ []) (270 ∷ 214 ∷ 222 ∷ 0 ∷ 0 ∷ 0 ∷ 0 ∷ 0 ∷ 0 ∷ 0 ∷ 0 ∷ 0 ∷ 0 ∷ 0 ∷ 0 ∷ 0 ∷ [])
+    ∷ found 2 2 1 (9 ∷ 0 ∷ 0 ∷ 0 ∷ 0 ∷ 0 ∷ 0 ∷ 0 ∷ 0 ∷ 0 ∷ 0 ∷ 0 ∷ 0 ∷ 0 ∷ 0 ∷ 0 ∷ []) (254 ∷ 0 ∷ 0 ∷ 0 ∷ 0 ∷ 0 ∷ 0 ∷ 0 ∷ 0 ∷ 0 ∷ 0 ∷ 0 ∷ 0 ∷ 0 ∷ 0 ∷ 0 ∷ [])
+    ∷ found 3 0 4 (0 ∷ 3 ∷ 13 ∷ 14 ∷ 0 ∷ 0 ∷ 0 ∷ 0 ∷ 0 ∷ 0 ∷ 0 ∷ 0 ∷ 0 ∷ 0 ∷ 0 ∷ 0 ∷ []) (110 ∷ 134 ∷ 198 ∷ 107 ∷ 0 ∷ 0 ∷ 0 ∷ 0 ∷ 0 ∷ 0 ∷ 0 ∷ 0 ∷ 0 ∷ 0 ∷ 0 ∷ 0 ∷ [])
     ∷ anyWithout 1 0
     ∷ anyWithout 2 22 ∷ anyWithout 2 23 ∷ anyWithout 2 24
     ∷ anyWithout 2 20
     ∷ []
-unfolding asked found anyReport anyAfter anyBy anyUnless anyReported anyRefused anyWithout anyPath callFault questionFault kindOf keywordKind supersOf keywordSupers filled namesOf head letter entry workspace upTo shortest shortestOf shorter byEnum variantAfter checkedPath arrives firstTo isItem reached onward single nameless added withMeaning isMet means itemIn reads after moduleNamed keywordModule above aboveOr within firsts preludeEntries scopesFrom entriesOver absolutes externsIn variantsIn entriesIn named namesIn seen counts bothHold declarationHolds declarationOf declarationIn declaredIn declaredAs declaredNs holds privately moduleAround blockStep ofRoot lastOr lastTo last metOr metTo met stepsOr stepsTo steps preludeOf firstOf select orFirst itemOf sameItem nsOf homeBy definitionOf crateData moduleOf mapOf rootOf ownMap crateRoot orElse containing placeOf verdict records stepAt recordStep finish argumentsFrom argumentsOf nameStep crateStep dependencyStep mapStep moduleStep childStep preludeStep definitionStep scopeStep importStep externStep memberStep textBound padded rows any all eqList
+unfolding asked found anyReport anyAfter anyBy anyUnless anyReported anyRefused anyWithout anyPath callFault questionFault kindOf keywordKind supersOf keywordSupers filled namesOf routeOf placeIn head letter entry workspace upTo shortest shortestOf shorter byEnum variantAfter checkedPath arrives firstTo isItem reached onward single nameless added withMeaning isMet means itemIn reads after moduleNamed keywordModule above aboveOr within firsts preludeEntries scopesFrom entriesOver absolutes externsIn variantsIn entriesIn named namesIn seen counts bothHold declarationHolds declarationOf declarationIn declaredIn declaredAs declaredNs holds privately moduleAround blockStep ofRoot lastOr lastTo last metOr metTo met stepsOr stepsTo steps preludeOf firstOf select orFirst itemOf sameItem nsOf homeBy definitionOf crateData moduleOf mapOf rootOf ownMap crateRoot orElse containing placeOf verdict records stepAt recordStep finish argumentsFrom argumentsOf nameStep crateStep dependencyStep mapStep moduleStep childStep preludeStep definitionStep scopeStep importStep externStep memberStep textBound padded rows any all eqList
 any-reports = refl

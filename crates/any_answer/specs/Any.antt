@@ -7,7 +7,7 @@ use Rattle.snapshot.specs.Limits.{pathLimit}
 use Rattle.snapshot.specs.Records.{Snapshot}
 use Rattle.accept.specs.Verdict.{Verdict, refuse, accept, verdict}
 use Rattle.hir_def.specs.Items.{itemOf}
-use Rattle.nameable.specs.Paths.{namesIn, namesOf}
+use Rattle.nameable.specs.Paths.{namesIn, namesOf, routeOf}
 use Rattle.nameable.specs.Breadth.{AnyPath, found, longer, nowhere, anyPath}
 use Rattle.find_path.specs.declared.Query.{Query}
 use Rattle.find_path.specs.Report.{callFault, questionFault}
@@ -17,23 +17,33 @@ use Rattle.any_answer.specs.declared.AnyReport.{AnyReport}
 
 -- an outcome without a path
 unfoldable pub anyWithout : ℕ → ℕ → AnyReport
-anyWithout o n = record { outcome = o; number = n; kind = 0; supers = 0; names = replicate 16 0; count = 0 }
+anyWithout o n = record { outcome = o; number = n; kind = 0; supers = 0; names = replicate 16 0; count = 0; route = replicate 16 0 }
 
 unfoldable pub anyRefused : ℕ → AnyReport
 anyRefused n = anyWithout 2 n
 
--- 0 a path; 1 there is none; 3 there are paths, and each has more than sixteen names
-unfoldable pub anyReported : AnyPath → AnyReport
-anyReported (found p) = record { outcome = 0; number = 0; kind = kindOf p; supers = supersOf p; names = padded (namesOf p); count = namesIn p }
-anyReported nowhere = anyWithout 1 0
-anyReported longer = anyWithout 3 0
+-- 0 a path, with the records by which it is read in the module `from`, its last name in the namespace; 1 there is none; 3 there are paths, and each
+-- has more than sixteen names
+unfoldable pub anyReported : Snapshot → ℕ → ℕ → AnyPath → AnyReport
+anyReported s from ns (found p) =
+    record {
+      outcome = 0;
+      number = 0;
+      kind = kindOf p;
+      supers = supersOf p;
+      names = padded (namesOf p);
+      count = namesIn p;
+      route = padded (routeOf s from ns p);
+    }
+anyReported s from ns nowhere = anyWithout 1 0
+anyReported s from ns longer = anyWithout 3 0
 
 -- the question, of which no prefix, options, fuel and limit are asked for: they are in range
 abbrev pub anyQuery : ℕ → ℕ → ℕ → Query
 anyQuery ns d m = record { ns = ns; definition = record { 0 = d }; from = record { 0 = m }; prefix = 0; options = 0; limit = pathLimit }
 
 unfoldable pub anyUnless : Snapshot → Query → ℕ → AnyReport
-anyUnless s q zero = anyReported (anyPath s (q .from .0) (itemOf s (q .ns) (q .definition .0)))
+anyUnless s q zero = anyReported s (q .from .0) (q .ns) (anyPath s (q .from .0) (itemOf s (q .ns) (q .definition .0)))
 anyUnless s q (suc n) = anyRefused (suc n)
 
 unfoldable pub anyBy : Query → Verdict → AnyReport
@@ -59,9 +69,10 @@ abbrev pub questionOf : List ℕ → Query
 questionOf Q = anyQuery (getD Q 0 0) (getD Q 1 0) (getD Q 2 0)
 
 -- the same with the question Q and the answer as numbers: h are the outcome, the kind, how many times `super` and how many names
-pub record AnyIn (W A₀ Q A h names : List ℕ) (r : ℕ) : Type 0 where
+pub record AnyIn (W A₀ Q A h names route : List ℕ) (r : ℕ) : Type 0 where
   pub number : r ≡ anyReport W (length A₀) (questionOf Q) .number
   pub front : h ≡ anyReport W (length A₀) (questionOf Q) .outcome ∷ anyReport W (length A₀) (questionOf Q) .kind
       ∷ anyReport W (length A₀) (questionOf Q) .supers ∷ anyReport W (length A₀) (questionOf Q) .count ∷ []
   pub told : names ≡ anyReport W (length A₀) (questionOf Q) .names
+  pub places : route ≡ anyReport W (length A₀) (questionOf Q) .route
   pub area : A ≡ areaAfter A₀

@@ -16,6 +16,7 @@ use find_path::Query;
 use hir_def::items::item_of;
 use shortest_paths::shortest::shortest;
 use snapshot::layout::Layout;
+use told_routes::routes::route_of;
 
 // The answer on accepted words.
 fn any_from(words: &[u32], area: &mut [u32], l: Layout, q: Query) -> AnyReport
@@ -28,7 +29,8 @@ fn any_from(words: &[u32], area: &mut [u32], l: Layout, q: Query) -> AnyReport
     }
     let item = item_of(words, l, q.ns, q.definition);
     let t = shortest(words, area, l, q.from, item);
-    reported(t)
+    let route = route_of(words, area, l, q.from, q.ns, t);
+    reported(t, route)
 }
 
 /// The answer on checked words.

@@ -1,9 +1,11 @@
 //! The answer, made of a refusal or of what was found.
 ghost use mathlib.Core.Path.{_≡_};
 ghost use mathlib.Core.Option.{Option};
-ghost use Rattle.nameable.specs.Paths.{Path};
+ghost use Prim.Native.Nat.{ℕ, _≤_};
+ghost use Rattle.snapshot.specs.Records.{Snapshot};
+ghost use Rattle.nameable.specs.Paths.{Path, namesIn, routeOf};
 ghost use Rattle.nameable.specs.Breadth.{namesLimit, upTo};
-ghost use Rattle.told_paths.specs.Tells.{toldBy};
+ghost use Rattle.told_paths.specs.Tells.{padded, tell, toldBy};
 ghost use Rattle.any_answer.specs.Any.{anyWithout, anyRefused, anyReported};
 use crate::AnyReport;
 use told_paths::ToldPath;
@@ -27,6 +29,7 @@ fn without(outcome: usize, number: usize) -> AnyReport
     ensures { λ r. ⌜ r ≡ anyWithout outcome number ⌝ }
 {
     let names = [0usize; 16];
+    let route = [0usize; 16];
     AnyReport {
         outcome: outcome,
         number: number,
@@ -34,6 +37,7 @@ fn without(outcome: usize, number: usize) -> AnyReport
         supers: 0,
         names: names,
         count: 0,
+        route: route,
     }
 }
 
@@ -44,9 +48,9 @@ pub(crate) fn refused(number: usize) -> AnyReport
     without(AnyOutcome::REFUSED, number)
 }
 
-/// What was found.
-pub(crate) fn reported(t: ToldPath) -> AnyReport
-    ensures { λ r. ⌜ ((o : Option Path) → t ≡ toldBy o → r ≡ anyReported (upTo namesLimit o)) ⌝ }
+/// What was found, with its route.
+pub(crate) fn reported(t: ToldPath, route: [usize; 16]) -> AnyReport
+    ensures { λ r. ⌜ ((s : Snapshot) (from ns : ℕ) (o : Option Path) → t ≡ toldBy o → ((p : Path) → t ≡ tell p → namesIn p ≤ namesLimit → route ≡ padded (routeOf s from ns p)) → r ≡ anyReported s from ns (upTo namesLimit o)) ⌝ }
 {
     if !t.found {
         return without(AnyOutcome::NOWHERE, 0);
@@ -62,5 +66,6 @@ pub(crate) fn reported(t: ToldPath) -> AnyReport
         supers: t.supers,
         names: names,
         count: t.count,
+        route: route,
     }
 }

@@ -370,7 +370,8 @@ pub extern "C" fn kelumavor_new_definition(area: &[u32], definition: usize) -> u
 
 /// Whether any path names a definition in a module, as the compiler reads paths: a second opinion on a search that found none. The question is
 /// namespace, definition and module. Writes the outcome (0 a path, 1 there is none, 2 refused, 3 there are paths, each of more than sixteen names), the
-/// path's kind, how many times `super`, and how many names, then the names. Answers 0, or the number by which the call is refused.
+/// path's kind, how many times `super`, and how many names, then the names, and the words at which the records begin by which they are read. Answers 0,
+/// or the number by which the call is refused.
 #[no_mangle]
 pub extern "C" fn kelumavor_any_path(
     words: &[u32],
@@ -378,10 +379,11 @@ pub extern "C" fn kelumavor_any_path(
     question: &[u32; 3],
     head: &mut [usize; 4],
     names: &mut [usize; 16],
+    route: &mut [usize; 16],
 ) -> usize
-    ensures { λ r. ⌜ AnyIn (now (words .entry)) (now (area .entry)) (now (question .entry)) (now (area .exit)) (now (head .exit)) (now (names .exit)) r ⌝ }
+    ensures { λ r. ⌜ AnyIn (now (words .entry)) (now (area .entry)) (now (question .entry)) (now (area .exit)) (now (head .exit)) (now (names .exit)) (now (route .exit)) r ⌝ }
 {
-    any_path_in(words, area, question, head, names)
+    any_path_in(words, area, question, head, names, route)
 }
 
 /// How much of a workspace can be named from a module: viewing module, prefix, options, and the fuel and the limit of each search. Writes how many

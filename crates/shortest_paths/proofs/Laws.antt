@@ -55,7 +55,7 @@ module _ (s : Snapshot) (ns d e n : ℕ) where
   variant-macro h = sym (rw (variantsIn, le-ltb ns macros h))
 
   module _ (low : ns < macros) where
-    variant-first : named n (variantsIn s ns e) ≡ Option·map (variantNamed s ns) (firstVariant s e n)
+    pub variant-first : named n (variantsIn s ns e) ≡ Option·map (variantNamed s ns) (firstVariant s e n)
     unfolding variantsIn named firstVariant
     variant-first =
         ap (named n) (rw (variantsIn, lt-ltb ns macros low))

@@ -64,7 +64,7 @@ module _ (p : Path) where
   tell-long h ec et = et ∙ (ap toldLong ec ∙ sym (tell-many (omega (arith, h, ec))))
 
 -- one name more after the last
-pad-more : (xs : List ℕ) (n : ℕ) → length xs < 16 → set (padded xs) (length xs) n ≡ padded (xs ++ (n ∷ []))
+pub pad-more : (xs : List ℕ) (n : ℕ) → length xs < 16 → set (padded xs) (length xs) n ≡ padded (xs ++ (n ∷ []))
 unfolding padded
 pad-more xs n h =
     let Z : List ℕ = replicate 16 0 in

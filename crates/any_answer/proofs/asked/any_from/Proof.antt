@@ -3,7 +3,11 @@ use mathlib.Core.Path.{_≡_, refl, sym, ap, _∙_}
 use native.Mathlib.Omega.{arith}
 use denote.Ref.{now}
 use Rattle.snapshot.specs.Layouts.{snapOf}
+use Rattle.snapshot.specs.Records.{Snapshot}
 use Rattle.hir_def.proofs.Fits.{few-words}
+use Rattle.nameable.specs.Paths.{routeOf}
+use Rattle.any_path.proofs.Taken.{stays-snap, stays-reads}
+use Rattle.told_paths.specs.Tells.{padded}
 use Rattle.checked.proofs.Laws.{fault-known, definitions-count, modules-count}
 use Rattle.any_answer.proofs.Laws.{any-fault, any-found}
 use Rattle.any_answer.proofs.asked.any_from.Statement.{statement}
@@ -36,6 +40,16 @@ shortest-requires c κs =
     (sym (e .if1 .left) ∙ f .question-fault .ensures (now (s .args .area))) in
     (s .pre .0, k .1, omega (arith, s .pre .1))
 
+route-of-requires : tie.Need-route-of-requires
+route-of-requires c κs =
+    let h = c .before .before .before in
+    let e = h .before .before .before in
+    let f = e .before in
+    let s = f .before .before .before in
+    let k = fault-known (snapOf (now (s .args .words)) (now (s .args .area)) (s .args .l)) (s .args .q) (s .args .l .definitions) (s .args .l .modules) (definitions-count (now (s .args .words)) (now (s .args .area)) (s .args .l)) (modules-count (now (s .args .words)) (now (s .args .area)) (s .args .l))
+    (sym (e .if1 .left) ∙ f .question-fault .ensures (now (s .args .area))) in
+    (stays-reads (now (s .args .words)) (now (s .args .area)) (h .shortest .last .1 .0) (s .args .l) (s .pre .0) (h .shortest .ensures .1), k .1)
+
 reported-requires : tie.Need-reported-requires
 reported-requires c κs = search needs
 
@@ -44,13 +58,20 @@ same-length c = search needs
 
 returns-2 : tie.Need-returns-2
 returns-2 c =
-    let h = c .before .before .before in
+    let u = c .before in
+    let h = u .before .before .before .before in
     let i = h .before .before in
     let e = i .before in
     let f = e .before in
     let s = f .before .before .before in
-    any-found (snapOf (now (s .args .words)) (now (s .args .area)) (s .args .l)) (s .args .q) (f .question-fault .ensures (now (s .args .area))) (e .if1 .left) (i .item-of .ensures (now (s .args .area)))
-    (c .reported .ensures _ (h .shortest .ensures .0))
+    let W = now (s .args .words) in
+    let A = now (s .args .area) in
+    let q = s .args .q in
+    any-found (snapOf W A (s .args .l)) q (f .question-fault .ensures A) (e .if1 .left) (i .item-of .ensures A)
+    (c .reported .ensures (snapOf W A (s .args .l)) (q .from .0) (q .ns) _ (h .shortest .ensures .0)
+    (λ p ep few.
+    u .route-of .ensures p ep few
+    ∙ ap (λ (z : Snapshot). padded (routeOf z (q .from .0) (q .ns) p)) (stays-snap W A (h .shortest .last .1 .0) (s .args .l) (s .pre .0) (h .shortest .ensures .1))))
 
 pub any-from-spec : {M : Type 1} → statement M
 any-from-spec =
@@ -61,6 +82,7 @@ any-from-spec =
     returns
     item-of-requires
     shortest-requires
+    route-of-requires
     reported-requires
     same-length
     returns-2)

@@ -24,7 +24,7 @@ same-length c = search needs
 
 returns : tie.Need-returns
 returns c =
-    let p = c .before .before .before in
+    let p = c .before .before .before .before in
     let w = p .before .before in
     let s = w .before .before .before .before .before .before in
     answers-in (now (s .args .words)) (now (s .args .area)) (now (s .args .question)) _ (w .before .before .word .ensures) (w .before .word2 .ensures) (w .word3 .ensures)

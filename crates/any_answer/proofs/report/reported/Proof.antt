@@ -11,7 +11,7 @@ without-requires : tie.Need-without-requires
 without-requires c κs = search needs
 
 returns : tie.Need-returns
-returns c = λ o e. told-nowhere o e (c .before .if1 .taken) (c .without .ensures)
+returns c = λ s from ns o e er. told-nowhere s from ns o e (c .before .if1 .taken) (c .without .ensures)
 
 without-requires-2 : tie.Need-without-requires-2
 without-requires-2 c κs = search needs
@@ -19,12 +19,12 @@ without-requires-2 c κs = search needs
 returns-2 : tie.Need-returns-2
 returns-2 c =
     let t = c .before in
-    λ o e. told-longer o e (t .before .before .if1 .left) (t .if2 .taken) (c .without2 .ensures)
+    λ s from ns o e er. told-longer s from ns o e (t .before .before .if1 .left) (t .if2 .taken) (c .without2 .ensures)
 
 returns-3 : tie.Need-returns-3
 returns-3 c =
     let t = c .before in
-    λ o e. told-found o e (t .before .before .if1 .left) (omega (arith, t .if2 .left))
+    λ s from ns o e er. told-found s from ns o e (t .before .before .if1 .left) (omega (arith, t .if2 .left)) er
 
 pub reported-spec : {M : Type 1} → statement M
 reported-spec =

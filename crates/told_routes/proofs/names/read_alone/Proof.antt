@@ -1,0 +1,69 @@
+use borrow.Author.Needs.{needs}
+use mathlib.Core.Path.{_≡_, refl, sym, ap, _∙_}
+use native.Mathlib.Omega.{arith}
+use denote.Ref.{now}
+use Rattle.snapshot.specs.Layouts.{snapOf}
+use Rattle.any_path.specs.Plain.{recordRead}
+use Rattle.told_routes.proofs.Laws.{answers-as}
+use Rattle.told_routes.proofs.names.read_alone.Statement.{statement}
+use Rattle.told_routes.proofs.names.read_alone.Tie as tie
+
+read-plain-requires : tie.Need-read-plain-requires
+read-plain-requires c κs = search needs
+
+enum-known-h : tie.Need-enum-known-h
+enum-known-h c = search needs
+
+by-entry-requires : tie.Need-by-entry-requires
+by-entry-requires c κs = search needs
+
+enum-known-h-2 : tie.Need-enum-known-h-2
+enum-known-h-2 c = search needs
+
+by-extern-requires : tie.Need-by-extern-requires
+by-extern-requires c κs = search needs
+
+enum-told : tie.Need-enum-told
+enum-told c = search needs
+
+nothing-requires : tie.Need-nothing-requires
+nothing-requires c κs = search needs
+
+returns : tie.Need-returns
+unfolding recordRead
+returns c =
+    let h = c .before .before in
+    let p = h .before .before in
+    let s = p .before .before .before in
+    answers-as (sym (ap (recordRead (snapOf (now (s .args .words)) (now (s .args .area)) (s .args .l)) (now (s .args .words))) (h .h .given .1)) ∙ p .read-plain .ensures) (c .by-entry .ensures (now (s .args .area)))
+
+returns-2 : tie.Need-returns-2
+unfolding recordRead
+returns-2 c =
+    let h = c .before .before in
+    let p = h .before .before in
+    let s = p .before .before .before in
+    answers-as (sym (ap (recordRead (snapOf (now (s .args .words)) (now (s .args .area)) (s .args .l)) (now (s .args .words))) (h .h2 .given .1)) ∙ p .read-plain .ensures) (c .by-extern .ensures)
+
+returns-3 : tie.Need-returns-3
+unfolding recordRead
+returns-3 c =
+    let e = c .before in
+    let p = e .before .before in
+    let s = p .before .before .before in
+    answers-as (sym (ap (recordRead (snapOf (now (s .args .words)) (now (s .args .area)) (s .args .l)) (now (s .args .words))) (e .enum-told .given .1)) ∙ p .read-plain .ensures) (c .nothing .ensures)
+
+pub read-alone-spec : {M : Type 1} → statement M
+read-alone-spec =
+    tie.close
+    (tie.spec
+    read-plain-requires
+    enum-known-h
+    by-entry-requires
+    enum-known-h-2
+    by-extern-requires
+    enum-told
+    nothing-requires
+    returns
+    returns-2
+    returns-3)
