@@ -1,17 +1,34 @@
--- Laws of what a refusal's number means.
-use Prim.Native.Nat.{ℕ}
-use mathlib.Core.Path.{_≡_}
-use borrow.Author.Tests.{ne-eqb}
-use Rattle.snapshot.specs.Refusals.{wordsRefusal, formRefusal, rangeRefusal, undefinedRefusal, repeatedRefusal, placeRefusal, countRefusal, bytesRefusal, restRefusal, editionRefusal}
-use Rattle.printing.specs.Output.{bytesOf}
-use Rattle.wording.specs.Text.{laterMeaning, meaning}
+-- Laws of a text that a number chooses.
+use Prim.Native.Nat.{ℕ, _≤_}
+use mathlib.Core.Path.{_≡_, _∙_, ap}
+use mathlib.Core.List.{List}
+use mathlib.Core.Bool.{true, false}
+use borrow.Author.Tests.{eq-eqb, ne-eqb}
+use lib.Dec.{eqb, lit≤}
+use lib.ListN.{length}
+use Rattle.wording.specs.Text.{choose, meaning}
 
-pub later-other : (n : ℕ) → (n ≡ placeRefusal → ⊥) → (n ≡ countRefusal → ⊥) → (n ≡ bytesRefusal → ⊥) → (n ≡ restRefusal → ⊥) → (n ≡ editionRefusal → ⊥)
-    → bytesOf "a work area of fewer than 16384 words\n" ≡ laterMeaning n
-unfolding laterMeaning
-later-other n a b c d e = rw (laterMeaning, ne-eqb _ _ a, ne-eqb _ _ b, ne-eqb _ _ c, ne-eqb _ _ d, ne-eqb _ _ e)
+module _ (n m : ℕ) (text other : List ℕ) where
+  pub choose-same : n ≡ m → text ≡ choose n m text other
+  unfolding choose
+  choose-same e = rw (choose, eq-eqb n m e)
 
-pub meaning-other : (n : ℕ) → (n ≡ wordsRefusal → ⊥) → (n ≡ formRefusal → ⊥) → (n ≡ rangeRefusal → ⊥) → (n ≡ undefinedRefusal → ⊥) → (n ≡ repeatedRefusal → ⊥)
-    → laterMeaning n ≡ meaning n
+  pub choose-other : (n ≡ m → ⊥) → other ≡ choose n m text other
+  unfolding choose
+  choose-other e = rw (choose, ne-eqb n m e)
+
+  short : length text ≤ 100 → length other ≤ 100 → length (choose n m text other) ≤ 100
+  unfolding choose
+  short p q =
+      elim (eqb n m) as (λ b. length {A = ℕ} (elim b [ true ↦ text | false ↦ other ]) ≤ 100) [ true ↦ p | false ↦ q ]
+
+-- the other, told otherwise
+pub choose-on : (n m : ℕ) (text : List ℕ) {r a b : List ℕ} → r ≡ choose n m text a → a ≡ b → r ≡ choose n m text b
+choose-on n m text e f = e ∙ ap (choose n m text) f
+
+pub meaning-short : (n : ℕ) → length (meaning n) ≤ 100
 unfolding meaning
-meaning-other n a b c d e = rw (meaning, ne-eqb _ _ a, ne-eqb _ _ b, ne-eqb _ _ c, ne-eqb _ _ d, ne-eqb _ _ e)
+meaning-short n =
+    short n _ _ _ (lit≤ tt) (short n _ _ _ (lit≤ tt) (short n _ _ _ (lit≤ tt) (short n _ _ _ (lit≤ tt)
+    (short n _ _ _ (lit≤ tt) (short n _ _ _ (lit≤ tt) (short n _ _ _ (lit≤ tt)
+    (short n _ _ _ (lit≤ tt) (short n _ _ _ (lit≤ tt) (short n _ _ _ (lit≤ tt) (lit≤ tt))))))))))

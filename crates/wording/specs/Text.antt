@@ -11,53 +11,24 @@ use Rattle.printing.specs.Output.{bytesOf, decimal}
 abbrev pub textLimit : ℕ
 textLimit = 512
 
--- what a refusal's number means: the later numbers, 20 last
-unfoldable pub laterMeaning : ℕ → List ℕ
-laterMeaning n =
-    elim (eqb n placeRefusal) [
-      | true ↦ bytesOf "a record that does not fit the records before it, or a map or crate left incomplete\n"
-      | false ↦
-          elim (eqb n countRefusal) [
-            | true ↦ bytesOf "more than 64 crates, 512 modules, 2048 names or 2048 definitions\n"
-            | false ↦
-                elim (eqb n bytesRefusal) [
-                  | true ↦ bytesOf "more than 65536 bytes\n"
-                  | false ↦
-                      elim (eqb n restRefusal) [
-                        | true ↦ bytesOf "a number of bytes that is not a multiple of 4\n"
-                        | false ↦
-                            elim (eqb n editionRefusal) [
-                              | true ↦ bytesOf "an edition other than 2015, 2018, 2021 and 2024\n"
-                              | false ↦ bytesOf "a work area of fewer than 16384 words\n"
-                            ]
-                      ]
-                ]
-          ]
-    ]
+-- the text, where the two numbers are the same, or the other
+unfoldable pub choose : ℕ → ℕ → List ℕ → List ℕ → List ℕ
+choose n m text other = elim (eqb n m) [ true ↦ text | false ↦ other ]
 
--- what a refusal's number means
+-- what a refusal's number means; 20 last
 unfoldable pub meaning : ℕ → List ℕ
 meaning n =
-    elim (eqb n wordsRefusal) [
-      | true ↦ bytesOf "more than 16384 words\n"
-      | false ↦
-          elim (eqb n formRefusal) [
-            | true ↦ bytesOf "an unknown or falling kind, a wrong argument kind, or a missing argument\n"
-            | false ↦
-                elim (eqb n rangeRefusal) [
-                  | true ↦ bytesOf "a field outside its range, bad padding, or a builtin with another name\n"
-                  | false ↦
-                      elim (eqb n undefinedRefusal) [
-                        | true ↦ bytesOf "a number that is not defined yet\n"
-                        | false ↦
-                            elim (eqb n repeatedRefusal) [
-                              | true ↦ bytesOf "something that may stand once only is repeated\n"
-                              | false ↦ laterMeaning n
-                            ]
-                      ]
-                ]
-          ]
-    ]
+    choose n wordsRefusal (bytesOf "more than 16384 words\n")
+    (choose n formRefusal (bytesOf "an unknown or falling kind, a wrong argument kind, or a missing argument\n")
+    (choose n rangeRefusal (bytesOf "a field outside its range, bad padding, or a builtin with another name\n")
+    (choose n undefinedRefusal (bytesOf "a number that is not defined yet\n")
+    (choose n repeatedRefusal (bytesOf "something that may stand once only is repeated\n")
+    (choose n placeRefusal (bytesOf "a record that does not fit the records before it, or a map or crate left incomplete\n")
+    (choose n countRefusal (bytesOf "more than 64 crates, 512 modules, 2048 names or 2048 definitions\n")
+    (choose n bytesRefusal (bytesOf "more than 65536 bytes\n")
+    (choose n restRefusal (bytesOf "a number of bytes that is not a multiple of 4\n")
+    (choose n editionRefusal (bytesOf "an edition other than 2015, 2018, 2021 and 2024\n")
+    (bytesOf "a work area of fewer than 16384 words\n"))))))))))
 
 -- a number after its label
 abbrev pub labelled : String → ℕ → List ℕ

@@ -1,9 +1,10 @@
 //! The text of a refusal, and of how many records of each kind there are.
+ghost use mathlib.Core.Path.{_≡_};
 ghost use mathlib.Core.List.{_++_};
 ghost use Prim.Native.Nat.{_+_, _≤_};
 ghost use lib.ListN.{length};
 ghost use Rattle.printing.specs.Output.{Put, bytesOf, decimal};
-ghost use Rattle.wording.specs.Text.{laterMeaning, meaning, refusal, askedThere, line, firstLines, lastLines, textLimit};
+ghost use Rattle.wording.specs.Text.{choose, meaning, refusal, askedThere, line, firstLines, lastLines, textLimit};
 use printing::output::Digits;
 use printing::output::put;
 use printing::output::put_digits;
@@ -18,39 +19,14 @@ impl TextBytes {
     pub const LIMIT: usize = 512;
 }
 
-// What a refusal's number means, where it is none of the first five.
-fn put_later_meaning(out: &mut [u8], at: usize, n: u32) -> usize
-    requires { ⌜ at + 100 ≤ length (now out) ⌝ }
-    ensures { λ r. ⌜ Put (now (out .entry)) at (laterMeaning n) (now (out .exit)) r ⌝ }
+/// The text, where the two numbers are the same, or the other.
+pub fn chosen<'a>(n: u32, m: u32, text: &'a [u8], other: &'a [u8]) -> &'a [u8]
+    ensures { λ r. ⌜ now r ≡ choose n m (now (text .entry)) (now (other .entry)) ⌝ }
 {
-    if n == CheckRefusal::PLACE {
-        return put(
-            out,
-            at,
-            b"a record that does not fit the records before it, or a map or crate left incomplete\n",
-        );
+    if n == m {
+        return text;
     }
-    if n == CheckRefusal::COUNT {
-        return put(
-            out,
-            at,
-            b"more than 64 crates, 512 modules, 2048 names or 2048 definitions\n",
-        );
-    }
-    if n == CheckRefusal::BYTES {
-        return put(out, at, b"more than 65536 bytes\n");
-    }
-    if n == CheckRefusal::REST {
-        return put(out, at, b"a number of bytes that is not a multiple of 4\n");
-    }
-    if n == CheckRefusal::EDITION {
-        return put(
-            out,
-            at,
-            b"an edition other than 2015, 2018, 2021 and 2024\n",
-        );
-    }
-    put(out, at, b"a work area of fewer than 16384 words\n")
+    other
 }
 
 // What a refusal's number means.
@@ -58,30 +34,29 @@ fn put_meaning(out: &mut [u8], at: usize, n: u32) -> usize
     requires { ⌜ at + 100 ≤ length (now out) ⌝ }
     ensures { λ r. ⌜ Put (now (out .entry)) at (meaning n) (now (out .exit)) r ⌝ }
 {
-    if n == CheckRefusal::WORDS {
-        return put(out, at, b"more than 16384 words\n");
-    }
-    if n == CheckRefusal::FORM {
-        return put(
-            out,
-            at,
-            b"an unknown or falling kind, a wrong argument kind, or a missing argument\n",
-        );
-    }
-    if n == CheckRefusal::RANGE {
-        return put(
-            out,
-            at,
-            b"a field outside its range, bad padding, or a builtin with another name\n",
-        );
-    }
-    if n == CheckRefusal::UNDEFINED {
-        return put(out, at, b"a number that is not defined yet\n");
-    }
-    if n == CheckRefusal::REPEATED {
-        return put(out, at, b"something that may stand once only is repeated\n");
-    }
-    put_later_meaning(out, at, n)
+    let words = b"more than 16384 words\n";
+    let form = b"an unknown or falling kind, a wrong argument kind, or a missing argument\n";
+    let range = b"a field outside its range, bad padding, or a builtin with another name\n";
+    let undefined = b"a number that is not defined yet\n";
+    let repeated = b"something that may stand once only is repeated\n";
+    let place =
+        b"a record that does not fit the records before it, or a map or crate left incomplete\n";
+    let count = b"more than 64 crates, 512 modules, 2048 names or 2048 definitions\n";
+    let bytes = b"more than 65536 bytes\n";
+    let rest = b"a number of bytes that is not a multiple of 4\n";
+    let edition = b"an edition other than 2015, 2018, 2021 and 2024\n";
+    let area = b"a work area of fewer than 16384 words\n";
+    let t = chosen(n, CheckRefusal::EDITION, edition, area);
+    let t = chosen(n, CheckRefusal::REST, rest, t);
+    let t = chosen(n, CheckRefusal::BYTES, bytes, t);
+    let t = chosen(n, CheckRefusal::COUNT, count, t);
+    let t = chosen(n, CheckRefusal::PLACE, place, t);
+    let t = chosen(n, CheckRefusal::REPEATED, repeated, t);
+    let t = chosen(n, CheckRefusal::UNDEFINED, undefined, t);
+    let t = chosen(n, CheckRefusal::RANGE, range, t);
+    let t = chosen(n, CheckRefusal::FORM, form, t);
+    let t = chosen(n, CheckRefusal::WORDS, words, t);
+    put(out, at, t)
 }
 
 // A number after its label.

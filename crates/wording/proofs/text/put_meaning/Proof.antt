@@ -1,110 +1,69 @@
+use Prim.Native.Nat.{ℕ, _≤_}
+use mathlib.Core.Path.{_≡_, subst⁻¹}
+use mathlib.Core.List.{List}
 use borrow.Author.Needs.{needs}
-use mathlib.Core.Path.{sym, ap}
+use native.Mathlib.Omega.{arith}
+use denote.Ref.{now}
+use lib.ListN.{length}
 use Rattle.printing.proofs.Laws.{put-as}
 use Rattle.wording.specs.Text.{meaning}
-use Rattle.wording.proofs.Laws.{meaning-other}
+use Rattle.wording.proofs.Laws.{choose-on, meaning-short}
 use Rattle.wording.proofs.text.put_meaning.Statement.{statement}
 use Rattle.wording.proofs.text.put_meaning.Tie as tie
 
-slice-aggregate-put : tie.Need-slice-aggregate-put
-slice-aggregate-put c = search needs
+abbrev start : tie.After-chosen10 → tie.Start
+start c =
+    let f = c .before .before .before .before .before .before .before .before .before .before .before .before in
+    let g = f .before .before .before .before .before .before .before .before .before .before .before .before in
+    g .before .before .before .before .before .before .before .before .before
+
+-- the chosen text
+told : (c : tie.After-chosen10) → now (c .chosen10 .result) ≡ meaning (start c .args .n)
+unfolding meaning
+told c =
+    let c9 = c .before .before in
+    let c8 = c9 .before .before in
+    let c7 = c8 .before .before in
+    let c6 = c7 .before .before in
+    let c5 = c6 .before .before in
+    let c4 = c5 .before .before in
+    let c3 = c4 .before .before in
+    let c2 = c3 .before .before in
+    let c1 = c2 .before .before in
+    choose-on _ _ _ (c .chosen10 .ensures)
+    (choose-on _ _ _ (c9 .chosen9 .ensures)
+    (choose-on _ _ _ (c8 .chosen8 .ensures)
+    (choose-on _ _ _ (c7 .chosen7 .ensures)
+    (choose-on _ _ _ (c6 .chosen6 .ensures)
+    (choose-on _ _ _ (c5 .chosen5 .ensures)
+    (choose-on _ _ _ (c4 .chosen4 .ensures)
+    (choose-on _ _ _ (c3 .chosen3 .ensures)
+    (choose-on _ _ _ (c2 .chosen2 .ensures)
+    (c1 .chosen .ensures)))))))))
 
 put-requires : tie.Need-put-requires
-put-requires c κs = search needs
-
-same-length : tie.Need-same-length
-same-length c = search needs
+put-requires c κs =
+    let k = c .before in
+    let h = subst⁻¹ (λ (x : List ℕ). length x ≤ 100) (told k) (meaning-short _) in
+    omega (arith, h, start k .pre)
 
 returns : tie.Need-returns
-unfolding meaning
-returns c = put-as (ap meaning (sym (c .before .before .before .before .before .if1 .taken))) (c .before .before .put .ensures)
-
-slice-aggregate-put-2 : tie.Need-slice-aggregate-put-2
-slice-aggregate-put-2 c = search needs
-
-put-requires-2 : tie.Need-put-requires-2
-put-requires-2 c κs = search needs
-
-same-length-2 : tie.Need-same-length-2
-same-length-2 c = search needs
-
-returns-2 : tie.Need-returns-2
-unfolding meaning
-returns-2 c = put-as (ap meaning (sym (c .before .before .before .before .before .if2 .taken))) (c .before .before .put2 .ensures)
-
-slice-aggregate-put-3 : tie.Need-slice-aggregate-put-3
-slice-aggregate-put-3 c = search needs
-
-put-requires-3 : tie.Need-put-requires-3
-put-requires-3 c κs = search needs
-
-same-length-3 : tie.Need-same-length-3
-same-length-3 c = search needs
-
-returns-3 : tie.Need-returns-3
-unfolding meaning
-returns-3 c = put-as (ap meaning (sym (c .before .before .before .before .before .if3 .taken))) (c .before .before .put3 .ensures)
-
-slice-aggregate-put-4 : tie.Need-slice-aggregate-put-4
-slice-aggregate-put-4 c = search needs
-
-put-requires-4 : tie.Need-put-requires-4
-put-requires-4 c κs = search needs
-
-same-length-4 : tie.Need-same-length-4
-same-length-4 c = search needs
-
-returns-4 : tie.Need-returns-4
-unfolding meaning
-returns-4 c = put-as (ap meaning (sym (c .before .before .before .before .before .if4 .taken))) (c .before .before .put4 .ensures)
-
-slice-aggregate-put-5 : tie.Need-slice-aggregate-put-5
-slice-aggregate-put-5 c = search needs
-
-put-requires-5 : tie.Need-put-requires-5
-put-requires-5 c κs = search needs
-
-same-length-5 : tie.Need-same-length-5
-same-length-5 c = search needs
-
-returns-5 : tie.Need-returns-5
-unfolding meaning
-returns-5 c = put-as (ap meaning (sym (c .before .before .before .before .before .if5 .taken))) (c .before .before .put5 .ensures)
-
-put-later-meaning-requires : tie.Need-put-later-meaning-requires
-put-later-meaning-requires c κs = search needs
-
-same-length-6 : tie.Need-same-length-6
-same-length-6 c = search needs
-
-returns-6 : tie.Need-returns-6
-returns-6 c =
-    put-as (meaning-other _ (c .before .before .before .before .before .before .before .before .if1 .left) (c .before .before .before .before .before .before .before .if2 .left) (c .before .before .before .before .before .before .if3 .left) (c .before .before .before .before .before .if4 .left) (c .before .before .before .before .if5 .left)) (c .before .before .put-later-meaning .ensures)
+returns c = let p = c .before .before in put-as (told (p .before .before)) (p .put .ensures)
 
 pub put-meaning-spec : {M : Type 1} → statement M
 put-meaning-spec =
     tie.close
     (tie.spec
-    slice-aggregate-put
+    (λ c κs. search needs)
+    (λ c κs. search needs)
+    (λ c κs. search needs)
+    (λ c κs. search needs)
+    (λ c κs. search needs)
+    (λ c κs. search needs)
+    (λ c κs. search needs)
+    (λ c κs. search needs)
+    (λ c κs. search needs)
+    (λ c κs. search needs)
     put-requires
-    same-length
-    returns
-    slice-aggregate-put-2
-    put-requires-2
-    same-length-2
-    returns-2
-    slice-aggregate-put-3
-    put-requires-3
-    same-length-3
-    returns-3
-    slice-aggregate-put-4
-    put-requires-4
-    same-length-4
-    returns-4
-    slice-aggregate-put-5
-    put-requires-5
-    same-length-5
-    returns-5
-    put-later-meaning-requires
-    same-length-6
-    returns-6)
+    (λ c. search needs)
+    returns)
