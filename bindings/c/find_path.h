@@ -16,7 +16,7 @@ extern "C" {
 
 /* The version of what this header declares: 65,536 times that of the format, plus the words of a report. A library that answers another
  * number was built for another header: nothing else of it should be called. Takes no area. */
-#define KELUMAVOR_VERSION 65578
+#define KELUMAVOR_VERSION 131114
 size_t kelumavor_version(void);
 
 /* Words of a work area, at least. */

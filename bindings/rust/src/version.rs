@@ -4,7 +4,7 @@
 pub const REPORT: usize = 42;
 
 /// The format of snapshots, questions and states.
-pub const FORMAT: usize = 1;
+pub const FORMAT: usize = 2;
 
 /// What `kelumavor_version` answers.
 pub const VERSION: usize = 65_536 * FORMAT + REPORT;

@@ -40,10 +40,10 @@ fn versioned(version: usize) -> String {
 fn another_version() {
     let (built, said) = build(&library("another_version", &versioned(VERSION + 1)));
     assert!(!built);
-    assert!(said.contains("it has format 1 with reports of 43 words"), "{said}");
+    assert!(said.contains("it has format 2 with reports of 43 words"), "{said}");
     let (built, said) = build(&library("another_format", &versioned(VERSION + 65_536)));
     assert!(!built);
-    assert!(said.contains("it has format 2 with reports of 42 words"), "{said}");
+    assert!(said.contains("it has format 3 with reports of 42 words"), "{said}");
 }
 
 #[test]

@@ -68,7 +68,7 @@ pub struct Format(pub usize);
 
 impl Format {
     /// One more whenever a program that was built for the one before could be misled.
-    pub const VERSION: usize = 1;
+    pub const VERSION: usize = 2;
 }
 
 /// Checks a snapshot, and leaves the tables of accepted words in the work area; after a refusal the area is as after every other call. Answers
