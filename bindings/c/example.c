@@ -47,7 +47,7 @@ int main(void)
         return 0;
     }
     if (report[KELUMAVOR_OUTCOME] == KELUMAVOR_NONE) {
-        puts(report[KELUMAVOR_EMPTY] ? "not known: the fuel ran out" : "there is no path");
+        puts(report[KELUMAVOR_EMPTY] ? "not known: the fuel ran out" : "the search finds none: ask kelumavor_any_path");
         return 1;
     }
     printf("refused: %s\n", kelumavor_refusal_text(report[KELUMAVOR_NUMBER]));

@@ -143,8 +143,9 @@ enum kelumavor_path_kind {
 };
 
 /* A report: outcome (enum kelumavor_outcome), number of the refusal; path kind (enum kelumavor_path_kind), sixteen names and how many of
- * them are the path's; charges; 1 where the fuel ran out. Only where that is 0 does none say that there is no path, and with a limit
- * below 15 it says so of paths of that length alone. Of the first search that found no fuel: the length left there, and the module that it looked for,
+ * them are the path's; charges; 1 where the fuel ran out. Only where that is 0 does none say that the rules find no path, and with a
+ * limit below 15 it says so of paths of that length alone; kelumavor_any_path says whether there is one at all. Of the first
+ * search that found no fuel: the length left there, and the module that it looked for,
  * +1, or 0 where it was the question's own item or its enum; both are 0 where the fuel did not run out. How the path came about: the
  * number of steps, and seventeen of them. A step is 8 times the word at which the record used begins, 0 for a keyword, plus the rule
  * (enum kelumavor_rule); there is one for the path's start, a keyword without names or the first name with any prefix, then one for
@@ -204,7 +205,7 @@ bool kelumavor_find_path_checked(const uint32_t *words, size_t words_len, uint32
                                  const size_t checked[KELUMAVOR_CHECKED], const uint32_t question[KELUMAVOR_QUESTION],
                                  uint32_t *report, size_t report_len);
 
-/* Answers several questions as kelumavor_find_paths does, on what kelumavor_find_path_checked asks for. */
+/* Answers several questions as kelumavor_find_paths does, on what kelumavor_find_path_checked asks for; the area is left as by that. */
 size_t kelumavor_find_paths_checked(const uint32_t *words, size_t words_len, uint32_t *area, size_t area_len,
                                     const size_t checked[KELUMAVOR_CHECKED], const uint32_t *questions, size_t questions_len,
                                     uint32_t *reports, size_t reports_len);
@@ -251,7 +252,7 @@ size_t kelumavor_add_entry(uint32_t *words, size_t words_len, size_t *count, uin
                            const uint32_t entry[KELUMAVOR_ENTRY]);
 
 /* Removes the entry of a module, a namespace and a name; the words after its record move down, those past the new end become 0, and
- * count falls. Answers as kelumavor_add_entry does, with 47 for a name that is not there. */
+ * count falls. Answers as kelumavor_add_entry does, with 47 for a name that is not there. The area is left as by kelumavor_find_path. */
 size_t kelumavor_remove_entry(uint32_t *words, size_t words_len, size_t *count, uint32_t *area, size_t area_len, size_t module,
                               size_t name_space, size_t name);
 
@@ -353,6 +354,23 @@ static inline size_t kelumavor_edition(const uint32_t *words, size_t words_len, 
             return words[crates_place + 2 * (size_t)(words[map_place] & 0xFFFFFFF) + 1];
     }
     return 0;
+}
+
+/* The number in the joined snapshot of a crate, a map and a module of the second: checked is what kelumavor_check wrote for the first. Take no
+ * area. */
+static inline size_t kelumavor_new_crate(const size_t checked[KELUMAVOR_CHECKED], size_t crate)
+{
+    return checked[KELUMAVOR_CRATES] + crate;
+}
+
+static inline size_t kelumavor_new_map(const size_t checked[KELUMAVOR_CHECKED], size_t map)
+{
+    return checked[KELUMAVOR_MAPS] + map;
+}
+
+static inline size_t kelumavor_new_module(const size_t checked[KELUMAVOR_CHECKED], size_t module)
+{
+    return checked[KELUMAVOR_MODULES] + module;
 }
 
 /* Bytes of a path as text, at most: sixteen names with r#, and :: between them. */

@@ -75,7 +75,9 @@ fn every_answer() {
     let ask = ["ask", "--json", &good, "--item", "a::f", "--from", "crate"];
     assert!(valid(&ask).contains("\"outcome\":\"found\",\"path\":\"a::f\",\"use_line\":true"));
     assert!(valid(&[&ask[..], &["--fuel", "0"]].concat()).contains("\"outcome\":\"not known\",\"path\":null"));
-    assert!(valid(&[&ask[..], &["--namespace", "types"]].concat()).contains("\"outcome\":\"none\""));
+    let none = valid(&[&ask[..], &["--namespace", "types"]].concat());
+    assert!(none.contains("\"outcome\":\"none\""));
+    assert!(none.contains("\"second_opinion\":{\"outcome\":\"none\",\"path\":null,"));
     assert!(valid(&[&ask[..], &["--limit", "16"]].concat()).contains("\"outcome\":\"refused\""));
     valid(&["ask", "--json", &broken, "--item", "a::f", "--from", "crate"]);
     assert!(valid(&["reach", "--json", &good, "--from", "crate"]).starts_with("{\"items\":2,\"found\":[0,1,1,"));
@@ -89,6 +91,8 @@ fn every_answer() {
     for command in ["reach", "imports"] {
         valid(&[command, "--json", &broken]);
     }
+    assert!(valid(&["join", "--json", &good, &good]).starts_with("{\"count\":70,\"second\":{\"crates\":[1],"));
+    assert!(valid(&["join", "--json", &good, &broken]).contains("\"refused\":31,\"word\":29,"));
 }
 
 /// Names of any bytes, too.

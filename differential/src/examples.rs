@@ -117,6 +117,7 @@ pub fn refused() -> Vec<Example> {
         private_in_a_module_of_a_block(),
         private_constructor(),
         variants_of_a_private_enum(),
+        use_line_of_2015(),
     ]
 }
 
@@ -280,6 +281,28 @@ fn variants_of_a_private_enum() -> Example {
         prefix: 1,
         line: "found m::V",
         any_path: "none",
+    }
+}
+
+/// The path compiles as an expression; in 2015 the `use` line is refused.
+fn use_line_of_2015() -> Example {
+    let mut hand = Hand::new(&[2015]);
+    let m = hand.module(0, "m", Vis::Private);
+    let n = hand.module(m, "n", Vis::Public);
+    let meaning = hand.item(n, "S", Kind::UnitStruct, Vis::Public);
+    Example {
+        title: "edition 2015, where the path of a `use` line begins at the crate's root",
+        edition: 2015,
+        dependency: "",
+        source: "mod m { pub mod n { pub struct S; } use n::S; }",
+        error: "E0432",
+        workspace: hand.w,
+        viewer: m,
+        meaning,
+        ns: 1,
+        prefix: 1,
+        line: "found n::S",
+        any_path: "self::n::S",
     }
 }
 

@@ -26,9 +26,20 @@ const CASES: &[(&str, &[&str])] = &[
     (env!("CARGO_BIN_EXE_tell"), &["wrong", "0"]),
 ];
 
+#[cfg(feature = "library")]
+const OF_THE_LIBRARY: &[(&str, &[&str])] = &[
+    (env!("CARGO_BIN_EXE_compare_any"), &["0"]),
+    (env!("CARGO_BIN_EXE_compare_any"), &["0", "x"]),
+    (env!("CARGO_BIN_EXE_compare_joins"), &["0", "1"]),
+    (env!("CARGO_BIN_EXE_compare_joins"), &["no/such/printer", "0", "1"]),
+];
+
+#[cfg(not(feature = "library"))]
+const OF_THE_LIBRARY: &[(&str, &[&str])] = &[];
+
 #[test]
 fn wrong_arguments() {
-    for (program, arguments) in CASES {
+    for (program, arguments) in CASES.iter().chain(OF_THE_LIBRARY) {
         let output = Command::new(program).args(*arguments).output().unwrap();
         let said = String::from_utf8_lossy(&output.stderr);
         assert_eq!(output.status.code(), Some(2), "{program} {arguments:?}: {said}");

@@ -117,19 +117,30 @@ pub struct Member {
 /// A record of any kind.
 #[derive(Clone, Debug, PartialEq, Eq, Hash)]
 #[non_exhaustive]
-#[allow(missing_docs)]
 pub enum Record {
+    /// Kind 1, a name's text.
     Name(Text),
+    /// Kind 2
     Crate(Crate),
+    /// Kind 3
     Dependency(Dependency),
+    /// Kind 4
     Map(Map),
+    /// Kind 5
     Module(Module),
+    /// Kind 6
     Child(Child),
+    /// Kind 7
     Prelude(Prelude),
+    /// Kind 8
     Definition(Definition),
+    /// Kind 9, an entry of a module's scope.
     Entry(Entry),
+    /// Kind 10, an import of a crate.
     Import(CrateId, Import),
+    /// Kind 11
     Extern(Extern),
+    /// Kind 13
     Member(Member),
 }
 

@@ -5,53 +5,63 @@ use std::fmt;
 #[derive(Clone, Copy, Debug, PartialEq, Eq, Hash)]
 #[non_exhaustive]
 pub enum RefusalKind {
-    /// 20
+    /// 20: the work area has fewer than 16,384 words.
     SmallWorkArea = 20,
-    /// 21
+    /// 21: the fuel is above 10,000.
     TooMuchFuel = 21,
-    /// 22
+    /// 22: the namespace, the prefix or the options are outside their range.
     OutOfRange = 22,
-    /// 23
+    /// 23: the snapshot has no such definition, module or crate.
     NoSuchItem = 23,
-    /// 24
+    /// 24: the macros namespace is asked for a definition that is no macro.
     NoMacro = 24,
-    /// 30
+    /// 30: more than 16,384 words.
     TooManyWords = 30,
-    /// 31
+    /// 31: an unknown or falling kind, or an argument that is missing or has a kind.
     WrongKind = 31,
-    /// 32
+    /// 32: a field outside its range, bits past a name's text, or a builtin with another name.
     WrongField = 32,
-    /// 33
+    /// 33: the number of a thing that is not defined yet.
     Undefined = 33,
-    /// 34
+    /// 34: something that may stand once only is repeated.
     Repeated = 34,
-    /// 35
+    /// 35: a record that does not fit the records before it, or a map or a crate left incomplete.
     Misplaced = 35,
-    /// 36
+    /// 36: more than 64 crates, 512 modules, 2,048 names or 2,048 definitions.
     TooManyRecords = 36,
-    /// 40, by the path printer alone
+    /// 40: more than 65,536 bytes of input.
+    /// Given by the path printer alone.
     InputTooLong = 40,
-    /// 41, by the path printer alone
+    /// 41: a number of bytes that is not a multiple of 4.
+    /// Given by the path printer and by [`Snapshot::from_bytes`](crate::Snapshot::from_bytes).
     InputNotWords = 41,
-    /// 42, by the path printer alone
+    /// 42: a word after the snapshot that is in no whole question.
+    /// Given by the path printer alone.
     WordsOutsideQuestion = 42,
-    /// 43
+    /// 43: an edition other than 2015, 2018, 2021 and 2024.
     UnknownEdition = 43,
-    /// 44, by a call of the library with several questions; `Snapshot::find_paths` takes any number of them
+    /// 44: more than 64 questions, a part of one, or too few words for their reports.
+    /// Given by a call of the library with several questions; `Snapshot::find_paths` takes any number of them.
     BatchTooLong = 44,
-    /// 45, by a target of the library's; [`Snapshot::import_list`](crate::Snapshot::import_list) makes one that is long enough
+    /// 45: a target with fewer words than the import list has.
+    /// Given for a target of the library's; [`Snapshot::import_list`](crate::Snapshot::import_list) makes one that is long enough.
     TargetTooShort = 45,
-    /// 46
+    /// 46: the limit is outside 1 to 15.
     LimitOutOfRange = 46,
-    /// 47, by an edit of [`EditedWords`](crate::EditedWords)
+    /// 47: an added name that is there already, or a removal of one that isn't.
+    /// Given by an edit of [`EditedWords`](crate::EditedWords).
     EntryThereOrNot = 47,
-    /// 48, by [`EditedWords::add`](crate::EditedWords::add)
+    /// 48: an addition that would pass 16,384 words or the lent slice.
+    /// Given by [`EditedWords::add`](crate::EditedWords::add).
     NoRoom = 48,
-    /// 49, by [`Windows::place`](crate::Windows::place)
+    /// 49: a window above 7.
+    /// Given by [`Windows::place`](crate::Windows::place).
     NoSuchWindow = 49,
-    /// 50, by [`Windows::place`](crate::Windows::place)
+    /// 50: the window has a question that waits already.
+    /// Given by [`Windows::place`](crate::Windows::place).
     WindowWaits = 50,
-    /// 51, by [`join`](crate::join())
+    /// 51: a joined snapshot that passes a limit or the target.
+    /// Given by [`join`](crate::join()).
     JoinTooLarge = 51,
 }
 

@@ -58,7 +58,7 @@ pub struct FirstEmpty {
 /// let Outcome::Found(path) = report.outcome else { panic!() };
 /// assert_eq!(path.to_string(), "a::f");
 /// assert_eq!(path.names().map(|name| name.to_string()).collect::<Vec<_>>(), ["a", "f"]);
-/// // `a` by the scope record at word 21, `f` by the one at word 28, which the search in the crate found.
+/// // `a` by the scope record at word 21, `f` by the one at word 29, which the search in the crate found.
 /// assert_eq!(path.route().map(|step| step.to_string()).collect::<Vec<_>>(), ["scope@21", "local@29"]);
 ///
 /// // Without fuel nothing is known, and the outcome says so.

@@ -13,19 +13,30 @@ use crate::words::Edition;
 
 /// How many records of each kind a snapshot has.
 #[derive(Clone, Copy, Debug, PartialEq, Eq, Hash)]
-#[allow(missing_docs)]
 pub struct Counts {
+    /// Records of kind 1.
     pub names: usize,
+    /// Records of kind 2.
     pub crates: usize,
+    /// Records of kind 3.
     pub dependencies: usize,
+    /// Records of kind 4.
     pub maps: usize,
+    /// Records of kind 5.
     pub modules: usize,
+    /// Records of kind 6.
     pub children: usize,
+    /// Records of kind 7.
     pub preludes: usize,
+    /// Records of kind 8.
     pub definitions: usize,
+    /// Records of kind 9, entries of all scopes.
     pub scopes: usize,
+    /// Records of kind 10.
     pub imports: usize,
+    /// Records of kind 11.
     pub externs: usize,
+    /// Records of kind 13.
     pub members: usize,
 }
 
@@ -87,6 +98,9 @@ fn records(words: &[u32]) -> impl Iterator<Item = (usize, Record)> + '_ {
 }
 
 impl Snapshot {
+    /// Words of a snapshot, at most.
+    pub const MAX_WORDS: usize = 16_384;
+
     /// Checks the words.
     ///
     /// # Errors

@@ -29,12 +29,15 @@ pub enum Origin {
 /// The edition of a crate.
 #[derive(Clone, Copy, Debug, Default, PartialEq, Eq, Hash)]
 #[non_exhaustive]
-#[allow(missing_docs)]
 pub enum Edition {
+    /// 2015, in which the path of a `use` line begins at the crate's root.
     Rust2015 = 2015,
+    /// 2018
     Rust2018 = 2018,
+    /// 2021
     #[default]
     Rust2021 = 2021,
+    /// 2024
     Rust2024 = 2024,
 }
 
@@ -69,11 +72,14 @@ pub enum Visibility {
 /// What a member is.
 #[derive(Clone, Copy, Debug, PartialEq, Eq, Hash)]
 #[non_exhaustive]
-#[allow(missing_docs)]
 pub enum MemberKind {
+    /// A variant of an enum.
     Variant = 0,
+    /// A function of a trait.
     Function = 1,
+    /// A constant of a trait.
     Constant = 2,
+    /// A type of a trait.
     TypeAlias = 3,
 }
 

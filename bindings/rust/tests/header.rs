@@ -5,8 +5,8 @@ use std::collections::HashMap;
 
 use common::repository;
 use kelumavor::{
-    CrateId, DefinitionId, ModuleId, NameId, Namespace, Path, PathKind, Prefix, Question, RefusalKind, Rule, Text,
-    WorkArea,
+    CrateId, DefinitionId, ModuleId, NameId, Namespace, Path, PathKind, Prefix, Question, RefusalKind, Rule, Snapshot,
+    Text, WorkArea,
 };
 
 /// Constants with a number of their own, and those of enumerations that count from 0.
@@ -75,7 +75,7 @@ fn numbers_of_questions_and_reports() {
         ("KELUMAVOR_MOST_FUEL", Question::FUEL),
         ("KELUMAVOR_MOST_LIMIT", Question::LIMIT),
         ("KELUMAVOR_PATH", 3),
-        ("KELUMAVOR_MOST_WORDS", WorkArea::WORDS as u32),
+        ("KELUMAVOR_MOST_WORDS", Snapshot::MAX_WORDS as u32),
         ("KELUMAVOR_MOST_NAMES", NameId::COUNT as u32),
         ("KELUMAVOR_MOST_CRATES", CrateId::COUNT as u32),
         ("KELUMAVOR_MOST_MODULES", ModuleId::COUNT as u32),
