@@ -1,2 +1,3 @@
 -- Rows that are computed.
 pub mod Worked
+pub mod Listed

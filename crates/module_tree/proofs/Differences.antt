@@ -1,4 +1,4 @@
--- The smallest snapshot where the walk and privacy differ (specs/Examples.antt).
+-- The smallest snapshot where the walk and privacy differ (`Examples.antt` of `tree_rules`).
 use mathlib.Core.Path.{_≡_, refl}
 use mathlib.Core.Bool.{true}
 use lib.Dec.{lit<}
@@ -7,7 +7,7 @@ use Rattle.module_tree.specs.Visibility.{lastOr, lastTo, last, metOr, me
 use Rattle.module_tree.specs.Privacy.{Privacy}
 use Rattle.module_tree.specs.Differs.{Differs}
 use Rattle.module_tree.specs.Privately.{ofRoot, blockStep, moduleAround, privately}
-use Rattle.module_tree.specs.Examples.{smallest, smallestSnapshot, smallest-accepted}
+use Rattle.tree_rules.specs.Examples.{smallest, smallestSnapshot, smallest-accepted}
 use Rattle.module_tree.proofs.Privately.{not-private, differs-is}
 
 -- The walk says that f is visible from the crate's root,

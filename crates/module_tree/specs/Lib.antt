@@ -3,4 +3,3 @@ pub mod Visibility
 pub mod Privacy
 pub mod Differs
 pub mod Privately
-pub mod Examples

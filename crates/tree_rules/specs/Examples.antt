@@ -7,11 +7,11 @@ use Prim.Native.Nat.{ℕ}
 use Rattle.snapshot.specs.Lists.{rows, any, all}
 use Rattle.snapshot.specs.Words.{argumentsOf}
 use Rattle.snapshot.specs.Records.{Snapshot, Map, Module}
-use Rattle.accept.specs.Steps.{crateStep, mapStep, moduleStep}
-use Rattle.accept.specs.Verdict.{argumentsFrom, recordStep, stepAt, finish, records, verdict, accept}
-use Rattle.module_tree.specs.Modules.{moduleOf, mapOf, orElse, containing}
-use Rattle.module_tree.specs.Visibility.{lastOr, lastTo, last, metOr, metTo, met, unless, climbStep, climb, inModule, isVisibleFrom}
-use Rattle.module_tree.specs.Privately.{ofRoot, blockStep, moduleAround, privately}
+use Rattle.check_rules.specs.Steps.{crateStep, mapStep, moduleStep}
+use Rattle.check_rules.specs.Verdict.{argumentsFrom, recordStep, stepAt, finish, records, verdict, accept}
+use Rattle.tree_rules.specs.Modules.{moduleOf, mapOf, orElse, containing}
+use Rattle.tree_rules.specs.Visibility.{lastOr, lastTo, last, metOr, metTo, met, unless, climbStep, climb, inModule, isVisibleFrom}
+use Rattle.tree_rules.specs.Privately.{ofRoot, blockStep, moduleAround, privately}
 
 -- a map of crate 0 with the block's parent +1, and a module with its map and its parent +1
 

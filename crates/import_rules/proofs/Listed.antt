@@ -14,8 +14,8 @@ use Rattle.hir_def.specs.Finds.{placeOf, select}
 use Rattle.hir_def.specs.Items.{definitionOf, rootOf, ownMap}
 use Rattle.find_path.specs.Choices.{nameData}
 use Rattle.find_path.specs.Line.{unpacked, textOf}
-use Rattle.import_order.specs.Collect.{textBefore, entryBefore, insertBy, sortInto, entriesOf, piled, visits, modulesFrom, memberNs, importsOf, importsIn, importsOver, collected, wordsOf}
-use Rattle.imports.specs.Listings.{Listing, refusedBy, listed, listIn, listBy, listOf}
+use Rattle.import_rules.specs.Collect.{textBefore, entryBefore, insertBy, sortInto, entriesOf, piled, visits, modulesFrom, memberNs, importsOf, importsIn, importsOver, collected, wordsOf}
+use Rattle.import_rules.specs.Listings.{Listing, refusedBy, listed, listIn, listBy, listOf}
 
 -- the words of a work area, the snapshot, the crate, the words of the target, and what comes of it
 pub record Row : Type 0 where

@@ -1,0 +1,4 @@
+pub mod Modules
+pub mod Visibility
+pub mod Privately
+pub mod Examples

@@ -1,0 +1,1 @@
+//! Modules, maps and blocks, and from where an entry is visible: definitions and rows, no functions.
