@@ -15,7 +15,7 @@ use Rattle.snapshot.specs.Layouts.{childBase, scopeBase, snapOf}
 use Rattle.snapshot.specs.declared.layout.Layout.{Layout}
 use Rattle.snapshot.proofs.Laws.{rows-next, rows-none, rows-whole}
 use Rattle.accept.specs.Post.{Reads}
-use Rattle.accept.proofs.Bools.{and-right}
+use Rattle.accept.proofs.Bools.{and-left, and-right}
 use Rattle.accept.proofs.Valid.{accepted-valid}
 use Rattle.accept.proofs.Trees.{accepted-tree}
 use Rattle.accept.proofs.Reading.{child-read}
@@ -30,6 +30,7 @@ use Rattle.hir_def.proofs.Chains.{containing-falls}
 use Rattle.hir_def.proofs.Reading.{length-modules}
 use Rattle.hir_def.proofs.Lookups.{modules-whole}
 use Rattle.hir_def.proofs.Fits.{module-meets, module-known}
+use Rattle.scope_index.specs.Index.{ownerAt, Follows}
 use Rattle.find_path.specs.Walk.{leadsTo}
 use Rattle.find_path.proofs.Walks.{select-hit, select-miss}
 
@@ -138,6 +139,12 @@ module _ (W A : List ℕ) (l : Layout) (from m : ℕ) where
         let a = and-right (eqb (s .owner) m) (eqb (s .ns) 0 && eqb (definitionOf snapshot (s .definition) .kind) 1) (x .passes) in
         let b = and-right (eqb (s .ns) 0) (eqb (definitionOf snapshot (s .definition) .kind) 1) a in
         rw e (module-known W A l r (s .definition) (module-meets W A l r x .definition) (eqb-true _ _ b))
+
+    -- the record that it met is the module's
+    pub leads-follow : Follows W l m (j + 1)
+    leads-follow _ =
+        let e : j + 1 - 1 ≡ j = omega arith in
+        ap (ownerAt W l) e ∙ ap (λ i. scopeAt W i .owner) (sym (x .head)) ∙ eqb-true _ _ (and-left (eqb (scopeAt W h .owner) m) _ (x .passes))
 
   pub leads-end : {k : ℕ} → Ends (isModuleEntry snapshot m) scopeAt scopeSize W (scopeBase l) (l .scopes) k → leadsFrom k ≡ []
   unfolding select

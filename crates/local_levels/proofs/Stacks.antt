@@ -1,6 +1,6 @@
 -- Levels, and one module more on a run.
 use Prim.Native.Nat.{ℕ, zero, suc, _+_, _-_, _≤_, _<_}
-use mathlib.Core.Path.{_≡_, refl, sym, _∙_, ap, ap₂}
+use mathlib.Core.Path.{_≡_, refl, sym, _∙_, ap, ap₂, subst}
 use mathlib.Core.List.{List, [], _∷_, _++_}
 use mathlib.Core.Bool.{Bool, true, false, _||_, _&&_}
 use native.Mathlib.Omega.{arith}
@@ -15,6 +15,8 @@ use Rattle.snapshot.specs.Layouts.{snapOf, tableWords}
 use Rattle.snapshot.proofs.Laws.{length-rows}
 use Rattle.accept.specs.Post.{Reads}
 use Rattle.hir_def.specs.declared.Item.{Item}
+use Rattle.scope_index.specs.Index.{indexAt, linksAt, indexEnd, ownerAt, First as FirstOf, Indexed}
+use Rattle.scope_index.proofs.Chaining.{accepted-sized}
 use Rattle.find_path.specs.Walk.{has, visited}
 use Rattle.find_path.proofs.Tables.{same-snap, same-reads}
 use Rattle.local_levels.specs.declared.Stack.{Stack}
@@ -112,6 +114,15 @@ module _ (W A B : List ℕ) (l : Layout) (top : ℕ) (r : Reads W A l) (low : ta
 
   pub reads-at : Reads W B l
   reads-at = same-reads W A B l (take-less B A tableWords top low same) r
+
+-- The chains lie below top: they stay.
+pub chains-at : (W A B : List ℕ) (l : Layout) (top : ℕ) → Reads W A l → indexEnd ≤ top → take top B ≡ take top A → Indexed W l 0 A → Indexed W l 0 B
+chains-at W A B l top r low same x =
+    let z = accepted-sized W A l r in
+    record {
+      heads = λ m h. subst (FirstOf W l m 0) (sym (agree B A top same (indexAt + m) (omega (arith, z .few)))) (x .heads m h);
+      links = λ j h g. subst (FirstOf W l (ownerAt W l j) (j + 1)) (sym (agree B A top same (linksAt + j) (omega (arith, z .short)))) (x .links j h g);
+    }
 
 -- One module more, or not.
 module _ (A : List ℕ) (s : Stack) (n : ℕ) (item : Item) (m : ℕ) (y : Ready A s n) where

@@ -13,6 +13,7 @@ ghost use Rattle.hir_def.specs.Items.{crateOf};
 ghost use Rattle.hir_def.specs.Visibility.{sees};
 ghost use Rattle.hir_def.specs.Nameres.{childrenOf, containers};
 ghost use Rattle.find_path.specs.Walk.{visited, leadsTo, findLocalImportLocations};
+ghost use Rattle.scope_index.specs.Index.{indexEnd, Indexed};
 ghost use Rattle.local_levels.specs.Levels.{Small, levelsOf, Chain};
 ghost use Rattle.local_levels.specs.Post.{Ready, Pushed, Gathered};
 use crate::Stack;
@@ -23,7 +24,7 @@ use hir_def::items::first_of;
 use hir_def::modules::containing_module;
 use hir_def::modules::krate;
 use hir_def::visibility::is_visible_from;
-use item_scope::modules_in_scope;
+use scope_index::modules_from;
 use snapshot::ids::ModuleId;
 use snapshot::ids::OptModule;
 use snapshot::kind::Size;
@@ -112,13 +113,13 @@ fn push_next(
     item: Item,
     m: ModuleId,
 ) -> usize
-    requires { ⌜ Reads (now words) (now area) l × (from .0 < l .modules) × Ready (now area) s n × Small item ⌝ }
+    requires { ⌜ Reads (now words) (now area) l × (from .0 < l .modules) × Ready (now area) s n × Small item × (indexEnd ≤ s .top) × Indexed (now words) l 0 (now area) ⌝ }
     ensures { λ r. ⌜ Pushed (now (area .entry)) s n item (leadsTo (snapOf (now (words .entry)) (now (area .entry)) l) (from .0) (m .0)) (now (area .exit)) r ⌝ }
 {
     let mut run = n;
     let mut k = 0;
     loop {
-        let e = modules_in_scope(words, l, k, m);
+        let e = modules_from(words, area, l, k, m);
         let Next::Record(j, h) = e else {
             return run;
         };
@@ -139,7 +140,7 @@ pub fn find_local_import_locations(
     s: Stack,
     item: Item,
 ) -> usize
-    requires { ⌜ Reads (now words) (now area) l × (from .0 < l .modules) × (tableWords ≤ s .top) × (s .top + moduleLimit ≤ length (now area)) × Chain (now area) (s .place) (s .depth) (s .top) × Small item ⌝ }
+    requires { ⌜ Reads (now words) (now area) l × (from .0 < l .modules) × (tableWords ≤ s .top) × (s .top + moduleLimit ≤ length (now area)) × Chain (now area) (s .place) (s .depth) (s .top) × Small item × (indexEnd ≤ s .top) × Indexed (now words) l 0 (now area) ⌝ }
     ensures { λ r. ⌜ Gathered (now (area .entry)) (s .top) (findLocalImportLocations (snapOf (now (words .entry)) (now (area .entry)) l) (from .0) (visited (levelsOf (now (area .entry)) (s .place) (s .depth)) item)) (now (area .exit)) r ⌝ }
 {
     let children = push_children(words, area, l, from, s, 0, item);

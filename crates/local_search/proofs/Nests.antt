@@ -34,6 +34,7 @@ use Rattle.distances.specs.Distances.{distancesEnd}
 use Rattle.tight_rows.specs.Rows.{rowsAt, Rows}
 use Rattle.tight_rows.proofs.Keeping.{rows-at, rows-set}
 use Rattle.local_search.proofs.Knowns.{locations-there}
+use Rattle.scope_index.specs.Index.{Indexed}
 use Rattle.walk_once.specs.Walked.{Walked}
 use Rattle.local_search.proofs.Searches.{bounds-at, chains-kept, walked-kept}
 
@@ -193,6 +194,9 @@ module _ (W A₀ : List ℕ) (l : Layout) (x : FindPathCtx) (left : ℕ) (item :
       rows-set W (set A₀ (s .top) code) l x (s .top + 1) (s .place)
       (reads-at W A₀ (set A₀ (s .top) code) l (s .top) (y .reads) (y .tables) (take-set-le (s .top) A₀ (s .top) code (omega arith)))
       (rows-set W A₀ l x (s .top) code (y .reads) (y .rows) (omega (arith, y .numbers)) (omega (arith, room))) (omega (arith, y .numbers)) (omega (arith, room))
+
+  pub head-chains : Indexed W l 0 H
+  head-chains = chains-kept H y (head-below A₀ s code)
 
   pub head-walked : Walked (snapOf W H l) (x .from .0) H
   head-walked = walked-kept H y (head-below A₀ s code)

@@ -40,7 +40,7 @@ use Rattle.distances.specs.Post.{Ready, Bounded}
 use Rattle.local_levels.specs.declared.Stack.{Stack}
 use Rattle.local_levels.specs.Levels.{Small, levelsOf}
 use Rattle.tight_rows.specs.Rows.{rowsAt, rowAt, lastPlace, rowOf, rowPlace, rowFlag, Entered, Row}
-use Rattle.scope_index.specs.Index.{indexAt, linksAt, indexEnd, ownerAt, First, Indexed, Sized}
+use Rattle.scope_index.specs.Index.{indexAt, indexEnd, Indexed, Sized}
 use Rattle.scope_index.specs.Post.{Made}
 use Rattle.scope_index.proofs.Chaining.{accepted-sized}
 use Rattle.walk_once.specs.Walked.{walkEnd, Walked}
@@ -50,7 +50,7 @@ use Rattle.tight_rows.specs.Post.{Cleared, Tight}
 use Rattle.tight_rows.proofs.Keeping.{imports-known, row-asked, row-kept, rows-put, rows-none}
 use Rattle.local_search.specs.Post.{Ruling, Searchable, Answered}
 use Rattle.local_levels.proofs.Rows.{agree, take-less}
-use Rattle.local_levels.proofs.Stacks.{chain-none, snap-at, reads-at}
+use Rattle.local_levels.proofs.Stacks.{chain-none, snap-at, reads-at, chains-at}
 
 -- a smaller length can be searched too
 pub searchable-less : {W A : List ℕ} {l : Layout} {x : FindPathCtx} {left : ℕ} {s : Stack} (j : ℕ) → Searchable W A l x left s → j ≤ left → Searchable W A l x j s
@@ -80,16 +80,9 @@ bounds-at {W} {A} {l} {x} {left} {s} B y e k m h n =
     omega (arith, a, b)
 
 -- ... and so do the chains
-chains-at : (W A : List ℕ) (l : Layout) (B : List ℕ) → Sized W l → Indexed W l 0 A → take indexEnd B ≡ take indexEnd A → Indexed W l 0 B
-chains-at W A l B z x e =
-    record {
-      heads = λ m h. subst (First W l m 0) (sym (agree B A indexEnd e (indexAt + m) (omega (arith, z .few)))) (x .heads m h);
-      links = λ j h g. subst (First W l (ownerAt W l j) (j + 1)) (sym (agree B A indexEnd e (linksAt + j) (omega (arith, z .short)))) (x .links j h g);
-    }
-
 pub chains-kept : {W A : List ℕ} {l : Layout} {x : FindPathCtx} {left : ℕ} {s : Stack} (B : List ℕ) → Searchable W A l x left s → take (s .top) B ≡ take (s .top) A → Indexed W l 0 B
 chains-kept {W} {A} {l} {x} {left} {s} B y e =
-    chains-at W A l B (accepted-sized W A l (y .reads)) (y .indexed) (take-less B A indexEnd (s .top) (omega (arith, y .numbers)) e)
+    chains-at W A B l (s .top) (y .reads) (omega (arith, y .numbers)) e (y .indexed)
 
 -- ... and the walk
 pub walked-kept : {W A : List ℕ} {l : Layout} {x : FindPathCtx} {left : ℕ} {s : Stack} (B : List ℕ) → Searchable W A l x left s → take (s .top) B ≡ take (s .top) A
@@ -387,7 +380,7 @@ module _ (W A₀ : List ℕ) (l : Layout) (x : FindPathCtx) (p : Prepared W A₀
                 let a = numbers-same m q in
                 let b = n .bounds k m q (subst (λ (s : Snapshot). near s x [] k m ≡ true) sn o) in
                 omega (arith, a, b);
-            indexed = chains-at W I l A chains-sized (c .indexed) below-walk;
+            indexed = chains-at W I A l indexEnd chains-reads (omega arith) below-walk (c .indexed);
             walked =
                 walked-at (snapOf W A l) (x .from .0) K A
                 (subst (λ (s : Snapshot). Walked s (x .from .0) K) (same-snap W A₀ I l chains-tables (p .reads) ∙ sym sn) (w .walked))

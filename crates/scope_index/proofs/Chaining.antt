@@ -22,11 +22,11 @@ use Rattle.accept.proofs.Accepted.{by-test}
 use Rattle.accept.proofs.Laws.{and-no}
 use Rattle.hir_def.specs.Finds.{firstOf}
 use Rattle.hir_def.specs.Items.{itemOf, sameItem}
-use Rattle.hir_def.specs.ItemScope.{isFor}
+use Rattle.hir_def.specs.ItemScope.{isFor, isModuleEntry}
 use Rattle.hir_def.specs.declared.Item.{Item}
 use Rattle.hir_def.proofs.Fits.{scope-fits}
-use Rattle.hir_def.proofs.Lookups.{first-hit, first-miss, first-none}
-use Rattle.scope_index.specs.Index.{indexAt, linksAt, headAt, linkAt, ownerAt, First, Indexed, Sized}
+use Rattle.hir_def.proofs.Lookups.{first-hit, first-miss, first-none, Came, next-miss}
+use Rattle.scope_index.specs.Index.{indexAt, linksAt, headAt, linkAt, ownerAt, First, Follows, Indexed, Sized}
 use Rattle.scope_index.specs.Post.{Cleared, Made}
 
 -- two numbers are the same, or not
@@ -61,6 +61,10 @@ module _ (W : List ℕ) (l : Layout) where
 
   first-end : (m : ℕ) → First W l m (l .scopes) (l .scopes)
   first-end m = record { from = omega arith; most = omega arith; its = λ h. absurd (omega arith); least = λ i p g. absurd (omega arith) }
+
+-- the next record of the module of the record j
+pub first-next : (W A : List ℕ) (l : Layout) (m j : ℕ) → Indexed W l 0 A → j < l .scopes → ownerAt W l j ≡ m → {w : ℕ} → w ≡ linkAt A j → First W l m (j + 1) w
+first-next W A l m j x h o e = subst (First W l m (j + 1)) (sym e) (subst (λ z. First W l z (j + 1) (linkAt A j)) o (x .links j (omega arith) h))
 
 -- clearing
 module _ (A₀ : List ℕ) (end n : ℕ) (A : List ℕ) (v : Cleared A₀ end n A) where
@@ -178,7 +182,7 @@ module _ (W A : List ℕ) (l : Layout) (p : Scope → Bool) (whole : Option Scop
 
     module _ {v : ℕ} (a : Ahead W l p whole m v) (h : v < l .scopes) where
       link-first : {w : ℕ} → w ≡ linkAt A v → First W l m (v + 1) w
-      link-first e = subst (First W l m (v + 1)) (sym e) (subst (λ z. First W l z (v + 1) (linkAt A v)) (a .its h) (x .links v (omega arith) h))
+      link-first e = first-next W A l m v x h (a .its h) e
 
       pub ahead-more : {w : ℕ} → w ≡ linkAt A v → v < w
       ahead-more e = omega (arith, link-first e .from)
@@ -192,3 +196,47 @@ module _ (W A : List ℕ) (l : Layout) (p : Scope → Bool) (whole : Option Scop
 
     pub ahead-done : l .scopes ≤ v → none ≡ whole
     ahead-done h = first-none p (entryAt W l) whole v (l .scopes) (a .same) h
+
+-- the first record from k on
+module _ (W A : List ℕ) (l : Layout) (m k : ℕ) (z : Sized W l) (x : Indexed W l 0 A) where
+  pub from-link : {v : ℕ} → 0 < k → k ≤ l .scopes → Follows W l m k → v ≡ linkAt A (k - 1) → First W l m k v
+  from-link {v} h g o e =
+      let q : k - 1 + 1 ≡ k = omega arith in
+      subst (λ j. First W l m j v) q (first-next W A l m (k - 1) x (omega arith) (o h) e)
+
+  pub from-head : {v : ℕ} → k ≡ 0 → m < l .modules → v ≡ headAt A m → First W l m k v
+  from-head {v} q h e = subst (λ j. First W l m j v) (sym q) (subst (First W l m 0) (sym e) (x .heads m h))
+
+  -- a number that no module has
+  pub from-none : k ≡ 0 → l .modules ≤ m → First W l m k (l .scopes)
+  from-none q h =
+      record {
+        from = omega arith;
+        most = omega arith;
+        its = λ g. absurd (omega arith);
+        least = λ i a b e. let o = z .owners i b in omega (arith, o, e);
+      }
+
+-- the module entries of m
+pub entry-within : (W A : List ℕ) (l : Layout) (m : ℕ) → Within W l (isModuleEntry (snapOf W A l) m) m
+entry-within W A l m i n = sym (and-no _ (ne-eqb _ _ n))
+
+-- an enumeration of records of m goes on with the next one
+module _ (W A : List ℕ) (l : Layout) (m k : ℕ) where
+  abbrev At : ℕ → Type 0
+  At j = Came (isModuleEntry (snapOf W A l) m) scopeAt scopeSize W (scopeBase l) (l .scopes) k j
+
+  came-skip : (d j : ℕ) → At j → j + d ≤ l .scopes → ((i : ℕ) → j ≤ i → i < j + d → (ownerAt W l i ≡ m → ⊥)) → At (j + d)
+  came-skip zero j c h t = rw add-zero c
+  came-skip (suc d) j c h t =
+      let e : j + 1 + d ≡ j + suc d = omega arith in
+      subst At e
+      (came-skip d (j + 1) (next-miss c (omega arith) refl refl (entry-within W A l m j (t j (omega arith) (omega arith)))) (omega arith)
+      (λ i a b. t i (omega arith) (omega arith)))
+
+  pub came-to : {j v : ℕ} → At j → First W l m j v → At v
+  came-to {j} {v} c f =
+      let g = f .from in
+      let h = f .most in
+      let e : j + (v - j) ≡ v = omega arith in
+      subst At e (came-skip (v - j) j c (omega arith) (λ i a b. f .least i a (omega arith)))

@@ -1,5 +1,5 @@
 -- The scope records of each module as a chain in the work area.
-use Prim.Native.Nat.{ℕ, _+_, _*_, _≤_, _<_}
+use Prim.Native.Nat.{ℕ, _+_, _-_, _*_, _≤_, _<_}
 use mathlib.Core.Path.{_≡_}
 use mathlib.Core.List.{List}
 use lib.ListN.{getD}
@@ -36,6 +36,10 @@ pub record First (W : List ℕ) (l : Layout) (m k v : ℕ) : Type 0 where
   pub most : v ≤ l .scopes
   pub its : v < l .scopes → ownerAt W l v ≡ m
   pub least : (i : ℕ) → k ≤ i → i < v → (ownerAt W l i ≡ m → ⊥)
+
+-- the record before k, if there is one, is the module's
+abbrev pub Follows : List ℕ → Layout → ℕ → ℕ → Type 0
+Follows W l m k = 0 < k → ownerAt W l (k - 1) ≡ m
 
 -- the records from k on are chained
 pub record Indexed (W : List ℕ) (l : Layout) (k : ℕ) (A : List ℕ) : Type 0 where

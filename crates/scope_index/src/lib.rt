@@ -1,19 +1,23 @@
 //! The scope records of each module as a chain in record order, in the work area past the numbers of the modules: a lookup in one scope reads its
 //! records alone.
 ghost use mathlib.Core.Path.{_≡_};
-ghost use Prim.Native.Nat.{_+_, _≤_, _<_, _^_};
+ghost use mathlib.Core.List.{List};
+ghost use Prim.Native.Nat.{ℕ, _+_, _≤_, _<_, _^_};
 ghost use lib.ListN.{length};
-ghost use Rattle.snapshot.specs.Limits.{moduleLimit, areaLimit};
+ghost use Rattle.snapshot.specs.Limits.{wordLimit, moduleLimit, areaLimit};
+ghost use Rattle.snapshot.specs.Sizes.{scopeSize};
 ghost use Rattle.snapshot.specs.Records.{scopeAt};
-ghost use Rattle.snapshot.specs.Layouts.{wordCount, snapOf};
+ghost use Rattle.snapshot.specs.Layouts.{wordCount, scopeBase, snapOf};
 ghost use Rattle.accept.specs.Post.{Reads};
-ghost use Rattle.hir_def.specs.ItemScope.{nameOf};
-ghost use Rattle.hir_def.specs.Entries.{entryOf};
-ghost use Rattle.scope_index.specs.Index.{Sized, Indexed};
+ghost use Rattle.hir_def.specs.ItemScope.{isModuleEntry, nameOf};
+ghost use Rattle.hir_def.specs.Entries.{entryOf, NextOf};
+ghost use Rattle.scope_index.specs.Index.{First, Follows, Indexed, Sized};
 ghost use Rattle.scope_index.specs.Post.{Cleared, Made};
 use hir_def::Entry;
 use hir_def::Item;
+use hir_def::Next;
 use item_scope::is_for;
+use item_scope::is_module_entry;
 use snapshot::ids::ModuleId;
 use snapshot::kind::Size;
 use snapshot::layout::Layout;
@@ -84,4 +88,35 @@ pub fn name_in(words: &[u32], area: &[u32], l: Layout, m: ModuleId, item: Item) 
         k = word(area, Index::LINKS + k);
     }
     Entry::Nothing
+}
+
+// The first record of the module from the record k on, where k is 0 or follows one of its records.
+fn first_from(area: &[u32], l: Layout, k: usize, m: ModuleId) -> usize
+    requires { ⌜ (wordCount l ≤ wordLimit) × (l .modules ≤ moduleLimit) × (k ≤ l .scopes) ⌝ }
+    ensures { λ r. ⌜ ((W : List ℕ) → Sized W l → Indexed W l 0 (now (area .entry)) → Follows W l (m .0) k → First W l (m .0) k r) ⌝ }
+{
+    if 0 < k {
+        return word(area, Index::LINKS + (k - 1));
+    }
+    if m.0 < l.modules {
+        return word(area, Index::AT + m.0);
+    }
+    l.scopes
+}
+
+/// The next of the module's entries for a module in types, from the entry number k on, where k is 0 or follows one of its entries.
+pub fn modules_from(words: &[u32], area: &[u32], l: Layout, k: usize, m: ModuleId) -> Next
+    requires { ⌜ Sized (now words) l × (k ≤ l .scopes) × Follows (now words) l (m .0) k × Indexed (now words) l 0 (now area) ⌝ }
+    ensures { λ r. ⌜ ((A : List ℕ) → NextOf (isModuleEntry (snapOf (now (words .entry)) A l) (m .0)) scopeAt scopeSize (now (words .entry)) (scopeBase l) (l .scopes) k r) ⌝ }
+{
+    let base = l.scope_base();
+    let mut j = first_from(area, l, k, m);
+    while j < l.scopes {
+        let h = base + Size::SCOPE * j;
+        if is_module_entry(words, l, h, m) {
+            return Next::Record(j, h);
+        }
+        j = word(area, Index::LINKS + j);
+    }
+    Next::End
 }

@@ -7,6 +7,7 @@ ghost use Rattle.snapshot.specs.Limits.{moduleLimit, areaLimit};
 ghost use Rattle.snapshot.specs.Layouts.{snapOf};
 ghost use Rattle.accept.specs.Post.{Reads};
 ghost use Rattle.find_path.specs.Walk.{visited, findLocalImportLocations};
+ghost use Rattle.scope_index.specs.Index.{Indexed};
 ghost use Rattle.local_levels.specs.Levels.{Small, levelsOf, Chain};
 ghost use Rattle.local_levels.specs.Post.{Gathered};
 ghost use Rattle.walk_once.specs.Walked.{walkEnd, walkCount, Walked};
@@ -33,7 +34,7 @@ impl Walk {
 
 /// Takes the walk past no visited module.
 pub fn take_walk(words: &[u32], area: &mut [u32], l: Layout, from: ModuleId, item: Item)
-    requires { ⌜ Reads (now words) (now area) l × (from .0 < l .modules) × (length (now area) ≡ areaLimit) × Small item ⌝ }
+    requires { ⌜ Reads (now words) (now area) l × (from .0 < l .modules) × (length (now area) ≡ areaLimit) × Small item × Indexed (now words) l 0 (now area) ⌝ }
     ensures { λ _. ⌜ Kept (now (words .entry)) (now (area .entry)) l (from .0) (now (area .exit)) ⌝ }
 {
     let none = Stack {
@@ -84,7 +85,7 @@ pub fn locations(
     s: Stack,
     item: Item,
 ) -> usize
-    requires { ⌜ Reads (now words) (now area) l × (from .0 < l .modules) × (walkEnd ≤ s .top) × (s .top + moduleLimit ≤ length (now area)) × Chain (now area) (s .place) (s .depth) (s .top) × Small item × Walked (snapOf (now words) (now area) l) (from .0) (now area) ⌝ }
+    requires { ⌜ Reads (now words) (now area) l × (from .0 < l .modules) × (walkEnd ≤ s .top) × (s .top + moduleLimit ≤ length (now area)) × Chain (now area) (s .place) (s .depth) (s .top) × Small item × Walked (snapOf (now words) (now area) l) (from .0) (now area) × Indexed (now words) l 0 (now area) ⌝ }
     ensures { λ r. ⌜ Gathered (now (area .entry)) (s .top) (findLocalImportLocations (snapOf (now (words .entry)) (now (area .entry)) l) (from .0) (visited (levelsOf (now (area .entry)) (s .place) (s .depth)) item)) (now (area .exit)) r ⌝ }
 {
     if is_on(area, s, item) {

@@ -7,7 +7,7 @@ use Rattle.snapshot.specs.Layouts.{snapOf}
 use Rattle.snapshot.specs.Records.{scopeAt}
 use Rattle.local_levels.specs.Levels.{levelsOf}
 use Rattle.local_levels.proofs.Stacks.{chain-wider}
-use Rattle.local_search.proofs.Nests.{Nesting, room, head-reads, head-walked, head-space, head-chain, start-few, nesting-start, loop-size, nesting-call, nesting-known, nesting-next, nesting-done}
+use Rattle.local_search.proofs.Nests.{Nesting, room, head-reads, head-chains, head-walked, head-space, head-chain, start-few, nesting-start, loop-size, nesting-call, nesting-known, nesting-next, nesting-done}
 use Rattle.local_search.proofs.Searches.{module-small, search-none, search-rules, search-on, unruled, location-far, location-none, location-shorter, location-call, location-reads, location-few, location-text, location-steps, location-some, entry-at, tight-none, made-asked, made-done, row-two, row-entered, owner-known, owner-call, owner-reads, owner-found, owner-few, owner-steps, owner-text, owner-done}
 use Prim.Native.Nat.{ℕ, _<_, _+_, _-_, _*_}
 use borrow.Fn.Kinds.{In}
@@ -470,7 +470,7 @@ local-at-locations-requires :
 local-at-locations-requires t c κs =
     let o = c .before .before in
     let s = o .before .before .before in
-    (head-reads (now (s .args .words)) (now (s .args .area)) (s .args .l) (s .args .x) (s .args .left) (s .args .item) (s .args .s) (s .pre .1 .0) (s .pre .1 .1) (s .pre .1 .2) (o .code-of .result) (o .code-of .ensures .0), s .pre .1 .1 .from, omega (arith, s .pre .1 .1 .numbers), head-space (now (s .args .words)) (now (s .args .area)) (s .args .l) (s .args .x) (s .args .left) (s .args .item) (s .args .s) (s .pre .1 .0) (s .pre .1 .1) (s .pre .1 .2) (o .code-of .result) (o .code-of .ensures .0), head-chain (now (s .args .words)) (now (s .args .area)) (s .args .l) (s .args .x) (s .args .left) (s .args .item) (s .args .s) (s .pre .1 .0) (s .pre .1 .1) (s .pre .1 .2) (o .code-of .result) (o .code-of .ensures .0), s .pre .1 .2, head-walked (now (s .args .words)) (now (s .args .area)) (s .args .l) (s .args .x) (s .args .left) (s .args .item) (s .args .s) (s .pre .1 .0) (s .pre .1 .1) (s .pre .1 .2) (o .code-of .result) (o .code-of .ensures .0))
+    (head-reads (now (s .args .words)) (now (s .args .area)) (s .args .l) (s .args .x) (s .args .left) (s .args .item) (s .args .s) (s .pre .1 .0) (s .pre .1 .1) (s .pre .1 .2) (o .code-of .result) (o .code-of .ensures .0), s .pre .1 .1 .from, omega (arith, s .pre .1 .1 .numbers), head-space (now (s .args .words)) (now (s .args .area)) (s .args .l) (s .args .x) (s .args .left) (s .args .item) (s .args .s) (s .pre .1 .0) (s .pre .1 .1) (s .pre .1 .2) (o .code-of .result) (o .code-of .ensures .0), head-chain (now (s .args .words)) (now (s .args .area)) (s .args .l) (s .args .x) (s .args .left) (s .args .item) (s .args .s) (s .pre .1 .0) (s .pre .1 .1) (s .pre .1 .2) (o .code-of .result) (o .code-of .ensures .0), s .pre .1 .2, head-walked (now (s .args .words)) (now (s .args .area)) (s .args .l) (s .args .x) (s .args .left) (s .args .item) (s .args .s) (s .pre .1 .0) (s .pre .1 .1) (s .pre .1 .2) (o .code-of .result) (o .code-of .ensures .0), head-chains (now (s .args .words)) (now (s .args .area)) (s .args .l) (s .args .x) (s .args .left) (s .args .item) (s .args .s) (s .pre .1 .0) (s .pre .1 .1) (s .pre .1 .2) (o .code-of .result) (o .code-of .ensures .0))
 
 local-at-add-t19 : (t : ℕ) → local-at-lts.Need-add-t19 (
   code-of-reads.Asked,

@@ -23,7 +23,7 @@ take-walk-requires c κs =
     let W = now (s .args .words) in
     let A = now (s .args .area) in
     let r = chains-reads W A (s .args .l) (s .args .x) (s .pre .0) _ (d .set-distances .ensures) _ (i .index-scopes .ensures) in
-    (r, s .pre .0 .from, i .index-scopes .kept .1 .0 ∙ d .set-distances .kept .1 .0 ∙ s .pre .0 .area, asked-small W _ (s .args .l) r (s .args .item) (s .pre .1))
+    (r, s .pre .0 .from, i .index-scopes .kept .1 .0 ∙ d .set-distances .kept .1 .0 ∙ s .pre .0 .area, asked-small W _ (s .args .l) r (s .args .item) (s .pre .1), i .index-scopes .ensures .indexed)
 
 clear-rows-requires : tie.Need-clear-rows-requires
 clear-rows-requires c κs =

@@ -15,7 +15,7 @@ is-on-requires c κs =
 find-local-import-locations-requires : tie.Need-find-local-import-locations-requires
 find-local-import-locations-requires c κs =
     let s = c .before .before .before .before .before .before in
-    (s .pre .0, s .pre .1, omega (arith, s .pre .2), s .pre .3, s .pre .4, s .pre .5)
+    (s .pre .0, s .pre .1, omega (arith, s .pre .2), s .pre .3, s .pre .4, s .pre .5, omega (arith, s .pre .2), s .pre .7)
 
 same-length : tie.Need-same-length
 same-length c = c .before .before .find-local-import-locations .kept .1 .0

@@ -11,7 +11,7 @@ use Rattle.walk_once.proofs.take_walk.Tie as tie
 find-local-import-locations-requires : tie.Need-find-local-import-locations-requires
 find-local-import-locations-requires c κs =
     let s = c .before .before .before in
-    (s .pre .0, s .pre .1, omega arith, omega (arith, s .pre .2), chain-none (now (s .args .area)) 0 7232, s .pre .3)
+    (s .pre .0, s .pre .1, omega arith, omega (arith, s .pre .2), chain-none (now (s .args .area)) 0 7232, s .pre .3, omega arith, s .pre .4)
 
 cast-area : tie.Need-cast-area
 cast-area c = omega (arith, c .before .before .find-local-import-locations .ensures .few)

@@ -4,6 +4,7 @@ use native.Mathlib.Omega.{arith}
 use denote.Ref.{now}
 use Rattle.snapshot.specs.Limits.{moduleLimit}
 use Rattle.snapshot.specs.Layouts.{snapOf}
+use Rattle.local_levels.proofs.Stacks.{chains-at}
 use Rattle.local_levels.proofs.Gathers.{ready-start, ready-children, reads-children, ready-begun, reads-begun, begun, Walking, walking-start, walking-reads, walking-next, gathered}
 use Rattle.local_levels.proofs.locations.find_local_import_locations.Statement.{statement}
 use Rattle.local_levels.proofs.locations.find_local_import_locations.Tie as tie
@@ -49,7 +50,7 @@ push-next-requires c κs =
     let q = w .before .before in
     let p = q .before .before .before .before in
     let s = p .before .before .before .before in
-    (walking-reads (now (s .args .words)) _ (s .args .l) (s .args .from .0) (s .args .s) (s .args .item) _ (reads-begun (now (s .args .words)) (now (s .args .area)) (s .args .l) (s .args .from .0) (s .args .s) (s .args .item) (s .pre .0) (s .pre .2) (s .pre .3) (s .pre .4) _ _ (p .push-children .ensures) (p .push-children .kept .1 .0) _ _ (q .push-containers .ensures) (q .push-containers .kept .1 .0)) (a .loop .area) (a .loop .n) (a .loop .k) (a .loop .inv), s .pre .1, a .loop .inv .ready, s .pre .5)
+    (walking-reads (now (s .args .words)) _ (s .args .l) (s .args .from .0) (s .args .s) (s .args .item) _ (reads-begun (now (s .args .words)) (now (s .args .area)) (s .args .l) (s .args .from .0) (s .args .s) (s .args .item) (s .pre .0) (s .pre .2) (s .pre .3) (s .pre .4) _ _ (p .push-children .ensures) (p .push-children .kept .1 .0) _ _ (q .push-containers .ensures) (q .push-containers .kept .1 .0)) (a .loop .area) (a .loop .n) (a .loop .k) (a .loop .inv), s .pre .1, a .loop .inv .ready, s .pre .5, s .pre .6, chains-at (now (s .args .words)) (now (s .args .area)) (a .loop .area) (s .args .l) (s .args .s .top) (s .pre .0) (s .pre .6) (a .loop .inv .below ∙ q .push-containers .ensures .below ∙ p .push-children .ensures .below) (s .pre .7))
 
 add-k : tie.Need-add-k Inv-loop μ-loop
 add-k c =
