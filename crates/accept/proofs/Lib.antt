@@ -14,3 +14,4 @@ pub mod Members
 pub mod Places
 pub mod Valid
 pub mod Reading
+pub mod Refused
