@@ -1,11 +1,11 @@
 -- Laws of the line with its route.
-use Prim.Native.Nat.{ℕ, _+_, _/_, _%_, _≤_, _<_}
+use Prim.Native.Nat.{ℕ, zero, suc, _+_, _/_, _%_, _≤_, _<_}
 use mathlib.Core.Path.{_≡_, refl, sym, _∙_, ap, ap₂, subst}
 use mathlib.Core.List.{List, [], _∷_, _++_, append-assoc, append-nil}
 use mathlib.Core.Bool.{true, false, _||_}
 use native.Mathlib.Omega.{arith}
 use native.Mathlib.Numerals.{add-one}
-use lib.Dec.{eqb}
+use lib.Dec.{eqb, lit≤}
 use lib.ListN.{length, getD, take}
 use lib.Seq.{take-suc}
 use Rattle.snapshot.specs.Limits.{areaLimit}
@@ -17,6 +17,7 @@ use Rattle.accept.specs.Post.{Judged}
 use Rattle.accept.specs.declared.check.Checked.{Checked}
 use Rattle.accept.specs.declared.check.Checked.the-variants.{Refused, Accepted}
 use Rattle.printing.specs.Output.{Put}
+use Rattle.wording.specs.Text.{choose}
 use Rattle.printing.proofs.Laws.{put-as}
 use Rattle.find_path.specs.declared.Question.{Question}
 use Rattle.find_path.specs.declared.Report.{Report}
@@ -27,9 +28,24 @@ use Rattle.checked.specs.Questioned.{Questioned}
 use Rattle.checked.proofs.Putting.{refusal-only}
 use Rattle.route_line.specs.Routed.{RoutedOn}
 
--- a rule by its number
-pub rule-name : {rule k : ℕ} → rule ≡ k → getD ruleNames k [] ≡ getD ruleNames rule []
-rule-name e = ap (λ x. getD ruleNames x []) (sym e)
+-- the names of the rules, chosen by their numbers, and none of them long
+pub rule-each : (n : ℕ) → n < 8
+    → (choose n 0 (bytesOf "builtin") (choose n 1 (bytesOf "scope") (choose n 2 (bytesOf "prelude") (choose n 3 (bytesOf "extern")
+    (choose n 4 (bytesOf "keyword") (choose n 5 (bytesOf "variant") (choose n 6 (bytesOf "local") (bytesOf "import")))))))
+    ≡ getD ruleNames n []) × (length (getD ruleNames n []) ≤ 7)
+unfolding choose
+rule-each zero h = (refl, lit≤ tt)
+rule-each (suc zero) h = (refl, lit≤ tt)
+rule-each (suc (suc zero)) h = (refl, lit≤ tt)
+rule-each (suc (suc (suc zero))) h = (refl, lit≤ tt)
+rule-each (suc (suc (suc (suc zero)))) h = (refl, lit≤ tt)
+rule-each (suc (suc (suc (suc (suc zero))))) h = (refl, lit≤ tt)
+rule-each (suc (suc (suc (suc (suc (suc zero)))))) h = (refl, lit≤ tt)
+rule-each (suc (suc (suc (suc (suc (suc (suc zero))))))) h = (refl, lit≤ tt)
+rule-each (suc (suc (suc (suc (suc (suc (suc (suc n)))))))) h = absurd (omega arith)
+
+pub rule-short : {n : ℕ} {text : List ℕ} → text ≡ getD ruleNames n [] → n < 8 → length text ≤ 7
+rule-short {n} e h = rw e (rule-each n h .1)
 
 pub step-whole : (t : ℕ) → bytesOf " " ++ (getD ruleNames (t % 8) [] ++ (bytesOf "@" ++ decimal (t / 8))) ≡ bytesOf " " ++ stepText t
 unfolding stepText

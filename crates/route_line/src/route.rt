@@ -14,6 +14,7 @@ use line::text::put_number;
 use printing::output::put;
 use snapshot::ids::ModuleId;
 use snapshot::layout::Layout;
+use wording::text::chosen;
 
 /// A number of bytes.
 pub struct RoutedBytes(pub usize);
@@ -23,52 +24,20 @@ impl RoutedBytes {
     pub const LIMIT: usize = 4662;
 }
 
-// Puts the name of one of the first four rules.
-fn put_early_rule(out: &mut [u8], at: usize, rule: usize) -> usize
-    requires { ⌜ (at + 7 ≤ length (now out)) × (rule < 4) ⌝ }
-    ensures { λ r. ⌜ Put (now (out .entry)) at (getD ruleNames rule []) (now (out .exit)) r ⌝ }
-    ensures { λ r. ⌜ r ≤ at + 7 ⌝ }
-{
-    if rule == 0 {
-        return put(out, at, b"builtin");
-    }
-    if rule == 1 {
-        return put(out, at, b"scope");
-    }
-    if rule == 2 {
-        return put(out, at, b"prelude");
-    }
-    put(out, at, b"extern")
-}
-
-// Puts the name of one of the last four.
-fn put_late_rule(out: &mut [u8], at: usize, rule: usize) -> usize
-    requires { ⌜ (at + 7 ≤ length (now out)) × (4 ≤ rule) × (rule < 8) ⌝ }
-    ensures { λ r. ⌜ Put (now (out .entry)) at (getD ruleNames rule []) (now (out .exit)) r ⌝ }
-    ensures { λ r. ⌜ r ≤ at + 7 ⌝ }
-{
-    if rule == 4 {
-        return put(out, at, b"keyword");
-    }
-    if rule == 5 {
-        return put(out, at, b"variant");
-    }
-    if rule == 6 {
-        return put(out, at, b"local");
-    }
-    put(out, at, b"import")
-}
-
 // Puts the name of a rule.
-fn put_rule(out: &mut [u8], at: usize, rule: usize) -> usize
+fn put_rule(out: &mut [u8], at: usize, rule: u32) -> usize
     requires { ⌜ (at + 7 ≤ length (now out)) × (rule < 8) ⌝ }
     ensures { λ r. ⌜ Put (now (out .entry)) at (getD ruleNames rule []) (now (out .exit)) r ⌝ }
     ensures { λ r. ⌜ r ≤ at + 7 ⌝ }
 {
-    if rule < 4 {
-        return put_early_rule(out, at, rule);
-    }
-    put_late_rule(out, at, rule)
+    let t = chosen(rule, 6, b"local", b"import");
+    let t = chosen(rule, 5, b"variant", t);
+    let t = chosen(rule, 4, b"keyword", t);
+    let t = chosen(rule, 3, b"extern", t);
+    let t = chosen(rule, 2, b"prelude", t);
+    let t = chosen(rule, 1, b"scope", t);
+    let t = chosen(rule, 0, b"builtin", t);
+    put(out, at, t)
 }
 
 // Puts a step after a blank: its rule, and the offset of its record.
@@ -78,7 +47,7 @@ fn put_step(out: &mut [u8], at: usize, step: usize) -> usize
     ensures { λ r. ⌜ r ≤ at + 29 ⌝ }
 {
     let a = put(out, at, b" ");
-    let b = put_rule(out, a, step % 8);
+    let b = put_rule(out, a, (step % 8) as u32);
     let c = put(out, b, b"@");
     put_number(out, c, step / 8)
 }

@@ -11,6 +11,9 @@ slice-aggregate-put c = search needs
 put-requires : tie.Need-put-requires
 put-requires c κs = search needs
 
+cast-put-rule : tie.Need-cast-put-rule
+cast-put-rule c = search needs
+
 put-rule-requires : tie.Need-put-rule-requires
 put-rule-requires c κs = search needs
 
@@ -40,6 +43,7 @@ put-step-spec =
     (tie.spec
     slice-aggregate-put
     put-requires
+    cast-put-rule
     put-rule-requires
     slice-aggregate-put-2
     put-requires-2
