@@ -115,6 +115,14 @@ pub worked-joins : agrees (record { area = 16384; first = worked; second = worke
     ∷ record { area = 16384; first = 0x20000005 ∷ 2021 ∷ []; second = 0 ∷ []; room = 0; joining = refusedBy 32 }
     ∷ record { area = 16384; first = worked; second = 0 ∷ []; room = 0; joining = refusedBy 31 }
     ∷ record { area = 16383; first = 0 ∷ []; second = 0 ∷ []; room = 0; joining = refusedBy 20 }
+    -- words too many; a crate that is not there; a name again; a crate without a map; 65 crates of one part; an edition
+    ∷ record { area = 16384; first = rows (λ k. 0) 0 16385; second = []; room = 0; joining = refusedBy 30 }
+    ∷ record { area = 16384; first = 0x30000000 ∷ 0 ∷ 0 ∷ []; second = []; room = 0; joining = refusedBy 33 }
+    ∷ record { area = 16384; first = 0x10000001 ∷ 97 ∷ 0x10000001 ∷ 97 ∷ []; second = []; room = 0; joining = refusedBy 34 }
+    ∷ record { area = 16384; first = 0x20000000 ∷ 2021 ∷ []; second = []; room = 0; joining = refusedBy 35 }
+    ∷ record { area = 16384; first = crates 65; second = []; room = 0; joining = refusedBy 36 }
+    ∷ record { area = 16384; first = 0x20000000 ∷ 2020 ∷ []; second = []; room = 0; joining = refusedBy 43 }
+    ∷ record { area = 16384; first = worked; second = 0x20000000 ∷ 2020 ∷ []; room = 0; joining = refusedBy 43 }
     ∷ []) ≡ true
 unfolding agrees alike twice few every fewEvery everyFew everyTwice crates joinOf joinBy joinIn together merged mergedNumber nameNumber definitionNumber snapshotWords written.joined eachWords treeWords scopeWords placeOf select verdict records stepAt recordStep finish argumentsFrom argumentsOf nameStep crateStep dependencyStep mapStep moduleStep childStep preludeStep definitionStep scopeStep importStep externStep memberStep textBound padded rows any all eqList
 worked-joins = refl
