@@ -98,6 +98,11 @@ pub any-paths : answers 16 (verdict (workspace 2021))
 unfolding answers ask head letter entry workspace upTo shortest shortestOf shorter byEnum variantAfter checkedPath arrives firstTo isItem reached onward single nameless added withMeaning isMet means itemIn reads after moduleNamed keywordModule above aboveOr within firsts preludeEntries scopesFrom entriesOver absolutes externsIn variantsIn entriesIn named namesIn seen counts bothHold declarationHolds declarationOf declarationIn declaredIn declaredAs declaredNs holds privately moduleAround blockStep ofRoot lastOr lastTo last metOr metTo met stepsOr stepsTo steps preludeOf firstOf select orFirst itemOf sameItem nsOf homeBy definitionOf crateData moduleOf mapOf rootOf ownMap crateRoot orElse containing placeOf verdict records stepAt recordStep finish argumentsFrom argumentsOf nameStep crateStep dependencyStep mapStep moduleStep childStep preludeStep definitionStep scopeStep importStep externStep memberStep textBound padded rows any all eqList
 any-paths = refl
 
+-- The f of h has no entry in types: no module has a path to it.
+pub no-entry : answers 16 (verdict (workspace 2021)) (rows (λ m. ask m (definedItem 0 6)) 0 11) ≡ rows (λ m. nowhere) 0 11
+unfolding answers ask head letter entry workspace upTo shortest shortestOf shorter byEnum variantAfter checkedPath arrives firstTo isItem reached onward single nameless added withMeaning isMet means itemIn reads after moduleNamed keywordModule above aboveOr within firsts preludeEntries scopesFrom entriesOver absolutes externsIn variantsIn entriesIn named namesIn seen counts bothHold declarationHolds declarationOf declarationIn declaredIn declaredAs declaredNs holds privately moduleAround blockStep ofRoot lastOr lastTo last metOr metTo met stepsOr stepsTo steps preludeOf firstOf select orFirst itemOf sameItem nsOf homeBy definitionOf crateData moduleOf mapOf rootOf ownMap crateRoot orElse containing placeOf verdict records stepAt recordStep finish argumentsFrom argumentsOf nameStep crateStep dependencyStep mapStep moduleStep childStep preludeStep definitionStep scopeStep importStep externStep memberStep textBound padded rows any all eqList
+no-entry = refl
+
 -- mod p { mod x {} pub use x as y; enum E { V } pub use E::V; pub fn g() {} } mod v { fn o() { use crate::p::g; } }
 -- Modules: 0 the root, 1 p, 2 x, 3 v; 4 the block of o. Names: 0 p, 1 x, 2 y, 3 v, 4 E, 5 V, 6 g.
 -- Definitions: 0 p, 1 x, 2 v, 3 E, 4 V, 5 g. The def map holds imports that the compiler refuses: y of a private module, V of a private enum.
@@ -158,12 +163,12 @@ pub extern-route : routes (verdict (workspace 2021)) (into (into (absolute 7) 8)
 unfolding routes routeOf placeIn head letter entry workspace upTo shortest shortestOf shorter byEnum variantAfter checkedPath arrives firstTo isItem reached onward single nameless added withMeaning isMet means itemIn reads after moduleNamed keywordModule above aboveOr within firsts preludeEntries scopesFrom entriesOver absolutes externsIn variantsIn entriesIn named namesIn seen counts bothHold declarationHolds declarationOf declarationIn declaredIn declaredAs declaredNs holds privately moduleAround blockStep ofRoot lastOr lastTo last metOr metTo met stepsOr stepsTo steps preludeOf firstOf select orFirst itemOf sameItem nsOf homeBy definitionOf crateData moduleOf mapOf rootOf ownMap crateRoot orElse containing placeOf verdict records stepAt recordStep finish argumentsFrom argumentsOf nameStep crateStep dependencyStep mapStep moduleStep childStep preludeStep definitionStep scopeStep importStep externStep memberStep textBound padded rows any all eqList
 extern-route = refl
 
-pub over : (ℕ → List ℕ) → ℕ → ℕ → List ℕ
+unfoldable pub over : (ℕ → List ℕ) → ℕ → ℕ → List ℕ
 over f k zero = []
 over f k (suc n) = f k ++ over f (k + 1) n
 
 -- Seventeen modules, each but the first in the one before by the name `m`, and in the last a function `f`.
-pub nested : List ℕ
+unfoldable pub nested : List ℕ
 nested =
     letter 0x6d ++ letter 0x66 ++ (head 2 0 ∷ 2021 ∷ head 4 0 ∷ 0 ∷ 0 ∷ [])
     ++ over (λ k. head 5 0 ∷ k ∷ []) 0 17
