@@ -332,9 +332,10 @@ enum kelumavor_any {
 };
 
 /* Whether any path names a definition in a module, as the compiler reads paths: a second opinion on KELUMAVOR_NONE, to be asked before an
- * item is made public. The question is namespace, definition and viewing module; no fuel and no limit play a part. Writes the head, the numbers of the names, and
- * for each name the word at which the record begins that it is read by (a scope or extern record, for a variant its definition), zeros past them, and
- * answers 0; or the number by which the call is refused: 20, 22, those of the check, 23, 24. The area is left as by kelumavor_find_path. */
+ * item is made public. The question is namespace, definition and viewing module; no fuel and no limit play a part. Writes the head, the
+ * numbers of the names, and for each name the word at which the record begins that it is read by (a scope or extern record, for a variant its
+ * definition), zeros past them, and answers 0; or the number by which the call is refused: 20, 22, those of the check, 23, 24. The area
+ * is left as by kelumavor_find_path. */
 size_t kelumavor_any_path(const uint32_t *words, size_t words_len, uint32_t *area, size_t area_len, const uint32_t question[3],
                           size_t head[KELUMAVOR_ANY_HEAD], size_t names[16], size_t route[16]);
 

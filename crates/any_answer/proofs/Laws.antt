@@ -26,7 +26,7 @@ use Rattle.find_path.specs.Report.{callFault, questionFault}
 use Rattle.told_paths.specs.declared.ToldPath.{ToldPath}
 use Rattle.told_paths.specs.Tells.{kindOf, supersOf, padded, toldNone, tell, toldBy}
 use Rattle.told_paths.proofs.Laws.{tell-few, tell-count, tell-found}
-use Rattle.checked.proofs.Laws.{small, same-fault}
+use Rattle.checked.proofs.Laws.{small, same-fault, fault-known, definitions-count, modules-count}
 use Rattle.answer.specs.Answers.{zeros}
 use Rattle.answer.proofs.Areas.{area-small, area-large}
 use Rattle.any_answer.specs.declared.AnyReport.{AnyReport}
@@ -77,7 +77,9 @@ module _ (s : Snapshot) (from ns : ℕ) (o : Option Path) {t : ToldPath} (e : t 
         let c = its-count (f .0) (f .1) in
         let few : namesIn (f .0) ≤ namesLimit = omega (arith, h, c) in
         let its : t ≡ tell (f .0) = e ∙ ap toldBy (f .1) in
-        ap₂ (λ (v : ToldPath) (R : List ℕ). record { outcome = 0; number = 0; kind = v .kind; supers = v .supers; names = v .names; count = v .count; route = R })
+        ap₂
+        (λ (v : ToldPath) (R : List ℕ).
+        record { outcome = 0; number = 0; kind = v .kind; supers = v .supers; names = v .names; count = v .count; route = R })
         (its ∙ tell-few (f .0) few) (er (f .0) its few)
         ∙ sym (ap (anyReported s from ns) (ap (upTo namesLimit) (f .1) ∙ up-few (f .0) few))
 
@@ -92,11 +94,17 @@ module _ (s : Snapshot) (q : Query) where
   unfolding anyBy
   any-fault {n = n} en h er = er ∙ (fault-by n h ∙ ap (anyUnless s q) en)
 
-  pub any-found : {r : AnyReport} {n : ℕ} {i : Item} → n ≡ questionFault s q → n ≡ 0 → i ≡ itemOf s (q .ns) (q .definition .0) → r ≡ anyReported s (q .from .0) (q .ns) (upTo namesLimit (shortest s (q .from .0) i))
+  pub any-found : {r : AnyReport} {n : ℕ} {i : Item} → n ≡ questionFault s q → n ≡ 0 → i ≡ itemOf s (q .ns) (q .definition .0)
+      → r ≡ anyReported s (q .from .0) (q .ns) (upTo namesLimit (shortest s (q .from .0) i))
       → r ≡ anyBy q (accept s)
   unfolding anyBy anyUnless anyPath
   any-found en z ei er =
       er ∙ (ap (λ (x : Item). anyReported s (q .from .0) (q .ns) (upTo namesLimit (shortest s (q .from .0) x))) ei ∙ ap (anyUnless s q) (sym z ∙ en))
+
+-- a question without a fault is put in a module that is there
+pub asked-known : (W A : List ℕ) (l : Layout) (q : Query) {n : ℕ} → n ≡ questionFault (snapOf W A l) q → n ≡ 0 → q .from .0 < l .modules
+asked-known W A l q en z =
+    fault-known (snapOf W A l) q (l .definitions) (l .modules) (definitions-count W A l) (modules-count W A l) (sym z ∙ en) .1
 
 -- On checked words.
 module _ (W : List ℕ) (area : ℕ) (q : Query) where

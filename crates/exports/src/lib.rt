@@ -370,8 +370,8 @@ pub extern "C" fn kelumavor_new_definition(area: &[u32], definition: usize) -> u
 
 /// Whether any path names a definition in a module, as the compiler reads paths: a second opinion on a search that found none. The question is
 /// namespace, definition and module. Writes the outcome (0 a path, 1 there is none, 2 refused, 3 there are paths, each of more than sixteen names), the
-/// path's kind, how many times `super`, and how many names, then the names, and the words at which the records begin by which they are read. Answers 0,
-/// or the number by which the call is refused.
+/// path's kind, how many times `super`, and how many names, then the names, and for each the word at which the record begins that it
+/// is read by. Answers 0, or the number by which the call is refused.
 #[no_mangle]
 pub extern "C" fn kelumavor_any_path(
     words: &[u32],

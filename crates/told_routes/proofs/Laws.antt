@@ -25,7 +25,8 @@ use Rattle.hir_def.specs.Finds.{firstOf}
 use Rattle.hir_def.specs.Items.{types, macros, definitionOf, crateData, itemOf, moduleItem, definedItem}
 use Rattle.hir_def.specs.declared.Item.{Item}
 use Rattle.hir_def.specs.declared.Item.the-variants.{Mod, Def}
-use Rattle.nameable.specs.Paths.{Keyword, supers, crate, Path, keyword, absolute, plain, into, Named, named, asNamed, entriesIn, variantNamed, variantsIn, externNamed, absolutes, within, aboveOr, above, keywordModule, moduleNamed, after, reads, itemIn, placeIn}
+use Rattle.nameable.specs.Paths.{Keyword, supers, crate, Path, keyword, absolute, plain, into, Named, named, asNamed, entriesIn, variantNamed, placeIn}
+use Rattle.nameable.specs.Paths.{variantsIn, externNamed, absolutes, within, aboveOr, above, keywordModule, moduleNamed, after, reads, itemIn}
 use Rattle.nameable.specs.Queue.{seenNamed}
 use Rattle.nameable.proofs.Lists.{none-some, first-found}
 use Rattle.nameable.proofs.Reached.{each-in, item-in}
@@ -50,7 +51,8 @@ pub answers-entry : (s : Snapshot) (e : Scope) {i : Item} {ns d : ℕ} → i ≡
 unfolding meant itemIn placeIn
 answers-entry s e ei en ed = record { item = ap some (entry-item s e ei en ed); place = refl }
 
-pub answers-extern : (x : Extern) (m : ModuleId) → m .0 ≡ x .target → Answers (some (externNamed x)) (record { item = Means (Mod m); place = x .place })
+pub answers-extern : (x : Extern) (m : ModuleId) → m .0 ≡ x .target → Answers (some (externNamed x))
+    (record { item = Means (Mod m); place = x .place })
 unfolding meant itemIn placeIn
 answers-extern x m e = record { item = ap (λ (t : ℕ). some (moduleItem t)) e; place = refl }
 
@@ -62,7 +64,8 @@ module _ (s : Snapshot) (from ns n : ℕ) {c : ℕ} (k : c ≡ crateOf s from) {
   pub absolute-old : y ≡ 2015 → none ≡ reads s from ns (absolute n)
   unfolding reads absolutes named firstOf
   absolute-old e =
-      let old : eqb (crateData s (crateOf s from) .edition) 2015 ≡ true = eq-eqb (crateData s (crateOf s from) .edition) 2015 (sym same-edition ∙ e) in
+      let old : eqb (crateData s (crateOf s from) .edition) 2015 ≡ true =
+      eq-eqb (crateData s (crateOf s from) .edition) 2015 (sym same-edition ∙ e) in
       rw (absolutes, old)
 
   module _ (late : y ≡ 2015 → ⊥) where
@@ -193,7 +196,8 @@ module _ (s : Snapshot) where
 
   pub above-gone : (m k : ℕ) → 0 < k → parentOf s m ≡ 0 → none ≡ aboveMeans k m
   unfolding aboveOr moduleNamed itemIn
-  above-gone m k h e = sym (ap (λ (o : Option ℕ). itemIn (moduleNamed o)) (above-by m k (k - 1) (omega (arith, h)) ∙ ap (aboveOr s (above s (k - 1))) e))
+  above-gone m k h e =
+      sym (ap (λ (o : Option ℕ). itemIn (moduleNamed o)) (above-by m k (k - 1) (omega (arith, h)) ∙ ap (aboveOr s (above s (k - 1))) e))
 
   pub above-on : (m k p : ℕ) → 0 < k → parentOf s m ≡ suc p → aboveMeans k m ≡ aboveMeans (k - 1) (moduleAround s p)
   unfolding aboveOr

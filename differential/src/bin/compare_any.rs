@@ -1,6 +1,7 @@
 //! compare_any FROM TO: asks the static library whether any path names an item, for the items and modules of random snapshots, and compares
 //! the answers with those of `any_path.rs`, which was written on its own: outcome, number of names, whether the path begins with a name; and the
-//! library's path has to read to the item there, by records at the places of its route. Of paths that are as good as each other each may give another.
+//! library's path has to read to the item there, by records at the places of its route. Of paths that are as good as each other each
+//! may give another.
 use std::time::Instant;
 
 use differential::any_path::{Answer, AnyPath, Start, Viewer};

@@ -8,8 +8,7 @@ use Rattle.hir_def.proofs.Fits.{few-words}
 use Rattle.nameable.specs.Paths.{routeOf}
 use Rattle.any_path.proofs.Taken.{stays-snap, stays-reads}
 use Rattle.told_paths.specs.Tells.{padded}
-use Rattle.checked.proofs.Laws.{fault-known, definitions-count, modules-count}
-use Rattle.any_answer.proofs.Laws.{any-fault, any-found}
+use Rattle.any_answer.proofs.Laws.{any-fault, any-found, asked-known}
 use Rattle.any_answer.proofs.asked.any_from.Statement.{statement}
 use Rattle.any_answer.proofs.asked.any_from.Tie as tie
 
@@ -36,9 +35,10 @@ shortest-requires c κs =
     let e = c .before .before in
     let f = e .before in
     let s = f .before .before .before in
-    let k = fault-known (snapOf (now (s .args .words)) (now (s .args .area)) (s .args .l)) (s .args .q) (s .args .l .definitions) (s .args .l .modules) (definitions-count (now (s .args .words)) (now (s .args .area)) (s .args .l)) (modules-count (now (s .args .words)) (now (s .args .area)) (s .args .l))
-    (sym (e .if1 .left) ∙ f .question-fault .ensures (now (s .args .area))) in
-    (s .pre .0, k .1, omega (arith, s .pre .1))
+    let W = now (s .args .words) in
+    let A = now (s .args .area) in
+    let inside = asked-known W A (s .args .l) (s .args .q) (f .question-fault .ensures A) (e .if1 .left) in
+    (s .pre .0, inside, omega (arith, s .pre .1))
 
 route-of-requires : tie.Need-route-of-requires
 route-of-requires c κs =
@@ -46,9 +46,10 @@ route-of-requires c κs =
     let e = h .before .before .before in
     let f = e .before in
     let s = f .before .before .before in
-    let k = fault-known (snapOf (now (s .args .words)) (now (s .args .area)) (s .args .l)) (s .args .q) (s .args .l .definitions) (s .args .l .modules) (definitions-count (now (s .args .words)) (now (s .args .area)) (s .args .l)) (modules-count (now (s .args .words)) (now (s .args .area)) (s .args .l))
-    (sym (e .if1 .left) ∙ f .question-fault .ensures (now (s .args .area))) in
-    (stays-reads (now (s .args .words)) (now (s .args .area)) (h .shortest .last .1 .0) (s .args .l) (s .pre .0) (h .shortest .ensures .1), k .1)
+    let W = now (s .args .words) in
+    let A = now (s .args .area) in
+    let inside = asked-known W A (s .args .l) (s .args .q) (f .question-fault .ensures A) (e .if1 .left) in
+    (stays-reads W A (h .shortest .last .1 .0) (s .args .l) (s .pre .0) (h .shortest .ensures .1), inside)
 
 reported-requires : tie.Need-reported-requires
 reported-requires c κs = search needs
@@ -71,7 +72,8 @@ returns-2 c =
     (c .reported .ensures (snapOf W A (s .args .l)) (q .from .0) (q .ns) _ (h .shortest .ensures .0)
     (λ p ep few.
     u .route-of .ensures p ep few
-    ∙ ap (λ (z : Snapshot). padded (routeOf z (q .from .0) (q .ns) p)) (stays-snap W A (h .shortest .last .1 .0) (s .args .l) (s .pre .0) (h .shortest .ensures .1))))
+    ∙ ap (λ (z : Snapshot). padded (routeOf z (q .from .0) (q .ns) p))
+    (stays-snap W A (h .shortest .last .1 .0) (s .args .l) (s .pre .0) (h .shortest .ensures .1))))
 
 pub any-from-spec : {M : Type 1} → statement M
 any-from-spec =

@@ -36,15 +36,20 @@ returns c =
     let t = p .before in
     let g = t .before in
     let s = g .before .before .before in
-    above-gone (snapOf (now (s .args .words)) (now (s .args .area)) (s .args .l)) (g .loop .at .0) (g .loop .left) (t .loop-test .taken) (is-none _ (p .parent .ensures) (c .enum-told .given .1)) ∙ sym (g .loop .inv .0)
+    let S = snapOf (now (s .args .words)) (now (s .args .area)) (s .args .l) in
+    above-gone S (g .loop .at .0) (g .loop .left) (t .loop-test .taken)
+    (is-none _ (p .parent .ensures) (c .enum-told .given .1)) ∙ sym (g .loop .inv .0)
 
 module-around-requires : tie.Need-module-around-requires Inv-loop μ-loop
 module-around-requires c κs =
     let e = c .before in
     let p = e .before .before in
     let g = p .before .before in
-    let s = g .before .before .before in
-    (s .pre .0, parent-below (now (s .args .words)) (now (s .args .area)) (s .args .l) (s .pre .0) (g .loop .at .0) _ (g .loop .inv .1) (is-some _ (p .parent .ensures) (e .p .given .1)))
+    let s = g .before .before .before in (
+      s .pre .0,
+      parent-below (now (s .args .words)) (now (s .args .area)) (s .args .l) (s .pre .0) (g .loop .at .0) _ (g .loop .inv .1)
+          (is-some _ (p .parent .ensures) (e .p .given .1)),
+    )
 
 sub-left : tie.Need-sub-left Inv-loop μ-loop
 sub-left c = omega (arith, c .before .before .before .before .before .loop-test .taken)
@@ -58,10 +63,11 @@ loop-again c =
     let p = e .before .before in
     let t = p .before in
     let g = t .before in
-    let s = g .before .before .before in (
+    let s = g .before .before .before in
+    let S = snapOf (now (s .args .words)) (now (s .args .area)) (s .args .l) in (
       g .loop .inv .0
-          ∙ (above-on (snapOf (now (s .args .words)) (now (s .args .area)) (s .args .l)) (g .loop .at .0) (g .loop .left) _ (t .loop-test .taken) (is-some _ (p .parent .ensures) (e .p .given .1))
-          ∙ ap (aboveMeans (snapOf (now (s .args .words)) (now (s .args .area)) (s .args .l)) (g .loop .left - 1)) (sym (c .module-around .ensures .0))),
+          ∙ (above-on S (g .loop .at .0) (g .loop .left) _ (t .loop-test .taken) (is-some _ (p .parent .ensures) (e .p .given .1))
+          ∙ ap (aboveMeans S (g .loop .left - 1)) (sym (c .module-around .ensures .0))),
       c .module-around .ensures .1,
     )
 
@@ -70,7 +76,8 @@ unfolding meant
 returns-2 c =
     let g = c .before in
     let s = g .before .before .before in
-    above-here (snapOf (now (s .args .words)) (now (s .args .area)) (s .args .l)) (g .loop .at) (g .loop .left) (omega (arith, c .loop-test .left)) ∙ sym (g .loop .inv .0)
+    let S = snapOf (now (s .args .words)) (now (s .args .area)) (s .args .l) in
+    above-here S (g .loop .at) (g .loop .left) (omega (arith, c .loop-test .left)) ∙ sym (g .loop .inv .0)
 
 pub above-spec : {M : Type 1} → statement M
 above-spec =

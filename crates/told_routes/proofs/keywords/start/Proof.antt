@@ -16,7 +16,8 @@ unfolding meant
 returns c =
     let t = c .before in
     let s = t .before .before .before in
-    start-crate (snapOf (now (s .args .words)) (now (s .args .area)) (s .args .l)) (s .args .from .0) (s .args .kind) (s .args .supers) _ (t .if1 .taken) (c .crate-root .ensures)
+    let S = snapOf (now (s .args .words)) (now (s .args .area)) (s .args .l) in
+    start-crate S (s .args .from .0) (s .args .kind) (s .args .supers) _ (t .if1 .taken) (c .crate-root .ensures)
 
 module-around-requires : tie.Need-module-around-requires
 module-around-requires c κs = search needs
@@ -29,7 +30,8 @@ returns-2 c =
     let m = c .before in
     let t = m .before in
     let s = t .before .before .before in
-    start-above (snapOf (now (s .args .words)) (now (s .args .area)) (s .args .l)) (s .args .from .0) (s .args .kind) (s .args .supers) (t .if1 .left) (m .module-around .ensures .0) (c .above .ensures)
+    let S = snapOf (now (s .args .words)) (now (s .args .area)) (s .args .l) in
+    start-above S (s .args .from .0) (s .args .kind) (s .args .supers) (t .if1 .left) (m .module-around .ensures .0) (c .above .ensures)
 
 pub start-spec : {M : Type 1} → statement M
 start-spec =

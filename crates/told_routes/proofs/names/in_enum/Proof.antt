@@ -16,7 +16,9 @@ returns : tie.Need-returns
 returns c =
     let t = c .before in
     let s = t .before .before .before in
-    answers-as (variant-macro (now (s .args .words)) (now (s .args .area)) (s .args .l) (s .pre) (s .args .ns) (s .args .d .0) (s .args .name .0) (t .if1 .taken))
+    answers-as
+    (variant-macro (now (s .args .words)) (now (s .args .area)) (s .args .l) (s .pre) (s .args .ns) (s .args .d .0) (s .args .name .0)
+    (t .if1 .taken))
     (c .nothing .ensures)
 
 variant-named-requires : tie.Need-variant-named-requires
@@ -38,7 +40,8 @@ returns-2 c =
     let t = v .before in
     let s = t .before .before .before in
     let A = now (s .args .area) in
-    answers-as (variant-gone (now (s .args .words)) A (s .args .l) (s .pre) (s .args .ns) (s .args .d .0) (s .args .name .0) (omega (arith, t .if1 .left))
+    answers-as
+    (variant-gone (now (s .args .words)) A (s .args .l) (s .pre) (s .args .ns) (s .args .d .0) (s .args .name .0) (omega (arith, t .if1 .left))
     (sym (ap (entryOf memberAt (now (s .args .words))) (e .enum-told .given .1)) ∙ v .variant-named .ensures A))
     (c .nothing2 .ensures)
 

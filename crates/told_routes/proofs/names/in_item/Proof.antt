@@ -23,13 +23,15 @@ returns : tie.Need-returns
 returns c =
     let i = c .before .before in
     let s = i .before .before .before .before in
-    within-module (snapOf (now (s .args .words)) (now (s .args .area)) (s .args .l)) (s .args .from .0) (s .args .ns) (s .args .name .0) _ (i .item .given .1) (c .in-module .ensures)
+    let S = snapOf (now (s .args .words)) (now (s .args .area)) (s .args .l) in
+    within-module S (s .args .from .0) (s .args .ns) (s .args .name .0) _ (i .item .given .1) (c .in-module .ensures)
 
 returns-2 : tie.Need-returns-2
 returns-2 c =
     let i = c .before .before in
     let s = i .before .before .before .before in
-    within-other (snapOf (now (s .args .words)) (now (s .args .area)) (s .args .l)) (s .args .from .0) (s .args .ns) (s .args .name .0) _ _ (i .item2 .given .1) (c .in-enum .ensures)
+    let S = snapOf (now (s .args .words)) (now (s .args .area)) (s .args .l) in
+    within-other S (s .args .from .0) (s .args .ns) (s .args .name .0) _ _ (i .item2 .given .1) (c .in-enum .ensures)
 
 pub in-item-spec : {M : Type 1} → statement M
 in-item-spec =

@@ -26,7 +26,8 @@ returns c =
     let e = c .before in
     let v = e .before .before in
     let s = v .before .before .before in
-    answers-as (entry-by (snapOf (now (s .args .words)) (now (s .args .area)) (s .args .l)) (s .args .from .0) (s .args .ns) (s .args .m .0) (s .args .name .0)
+    let S = snapOf (now (s .args .words)) (now (s .args .area)) (s .args .l) in
+    answers-as (entry-by S (s .args .from .0) (s .args .ns) (s .args .m .0) (s .args .name .0)
     (sym (ap (entryOf scopeAt (now (s .args .words))) (e .enum-told .given .1)) ∙ v .entry-named .ensures))
     (c .nothing .ensures)
 
@@ -38,7 +39,8 @@ returns-2 c =
     let h = c .before .before in
     let v = h .before .before in
     let s = v .before .before .before in
-    answers-as (entry-by (snapOf (now (s .args .words)) (now (s .args .area)) (s .args .l)) (s .args .from .0) (s .args .ns) (s .args .m .0) (s .args .name .0)
+    let S = snapOf (now (s .args .words)) (now (s .args .area)) (s .args .l) in
+    answers-as (entry-by S (s .args .from .0) (s .args .ns) (s .args .m .0) (s .args .name .0)
     (sym (ap (entryOf scopeAt (now (s .args .words))) (h .h .given .1)) ∙ v .entry-named .ensures))
     (c .by-entry .ensures (now (s .args .area)))
 

@@ -24,7 +24,9 @@ returns c =
     let e = t .before in
     let k = e .before in
     let s = k .before .before .before in
-    answers-as (absolute-old (snapOf (now (s .args .words)) (now (s .args .area)) (s .args .l)) (s .args .from .0) (s .args .ns) (s .args .name .0) (k .krate .ensures) (e .edition-of .ensures (now (s .args .area))) (t .if1 .taken))
+    let S = snapOf (now (s .args .words)) (now (s .args .area)) (s .args .l) in
+    answers-as (absolute-old S (s .args .from .0) (s .args .ns) (s .args .name .0)
+    (k .krate .ensures) (e .edition-of .ensures (now (s .args .area))) (t .if1 .taken))
     (c .nothing .ensures)
 
 nothing-requires-2 : tie.Need-nothing-requires-2
@@ -37,7 +39,9 @@ returns-2 c =
     let e = y .before in
     let k = e .before in
     let s = k .before .before .before in
-    answers-as (absolute-other (snapOf (now (s .args .words)) (now (s .args .area)) (s .args .l)) (s .args .from .0) (s .args .ns) (s .args .name .0) (k .krate .ensures) (e .edition-of .ensures (now (s .args .area))) (y .if1 .left) (t .if2 .taken))
+    let S = snapOf (now (s .args .words)) (now (s .args .area)) (s .args .l) in
+    answers-as (absolute-other S (s .args .from .0) (s .args .ns) (s .args .name .0)
+    (k .krate .ensures) (e .edition-of .ensures (now (s .args .area))) (y .if1 .left) (t .if2 .taken))
     (c .nothing2 .ensures)
 
 extern-named-requires : tie.Need-extern-named-requires
@@ -61,8 +65,10 @@ returns-3 c =
     let e = y .before in
     let k = e .before in
     let s = k .before .before .before in
+    let S = snapOf (now (s .args .words)) (now (s .args .area)) (s .args .l) in
     let A = now (s .args .area) in
-    answers-as (absolute-by (snapOf (now (s .args .words)) (now (s .args .area)) (s .args .l)) (s .args .from .0) (s .args .ns) (s .args .name .0) (k .krate .ensures) (e .edition-of .ensures A) (y .if1 .left) (t .if2 .left)
+    answers-as (absolute-by S (s .args .from .0) (s .args .ns) (s .args .name .0)
+    (k .krate .ensures) (e .edition-of .ensures A) (y .if1 .left) (t .if2 .left)
     (sym (ap (entryOf externAt (now (s .args .words))) (n .enum-told .given .1)) ∙ x .extern-named .ensures A))
     (c .nothing3 .ensures)
 
@@ -78,8 +84,10 @@ returns-4 c =
     let e = y .before in
     let k = e .before in
     let s = k .before .before .before in
+    let S = snapOf (now (s .args .words)) (now (s .args .area)) (s .args .l) in
     let A = now (s .args .area) in
-    answers-as (absolute-by (snapOf (now (s .args .words)) (now (s .args .area)) (s .args .l)) (s .args .from .0) (s .args .ns) (s .args .name .0) (k .krate .ensures) (e .edition-of .ensures A) (y .if1 .left) (t .if2 .left)
+    answers-as (absolute-by S (s .args .from .0) (s .args .ns) (s .args .name .0)
+    (k .krate .ensures) (e .edition-of .ensures A) (y .if1 .left) (t .if2 .left)
     (sym (ap (entryOf externAt (now (s .args .words))) (h .h .given .1)) ∙ x .extern-named .ensures A))
     (c .by-extern .ensures)
 

@@ -21,7 +21,10 @@ returns : tie.Need-returns
 returns c =
     let e = c .before in
     let s = e .before .before .before .before in
-    λ o h. answers-as (after-nothing (λ x. named (s .args .name .0) (within (snapOf (now (s .args .words)) (now (s .args .area)) (s .args .l)) (s .args .from .0) (s .args .ns) x)) (e .enum-told .given .1) o h) (c .nothing .ensures)
+    let S = snapOf (now (s .args .words)) (now (s .args .area)) (s .args .l) in
+    λ o h.
+    answers-as (after-nothing (λ x. named (s .args .name .0) (within S (s .args .from .0) (s .args .ns) x)) (e .enum-told .given .1) o h)
+    (c .nothing .ensures)
 
 in-item-requires : tie.Need-in-item-requires
 in-item-requires c κs = search needs
@@ -30,7 +33,10 @@ returns-2 : tie.Need-returns-2
 returns-2 c =
     let x = c .before .before in
     let s = x .before .before .before .before in
-    λ o h. answers-as (after-thing (λ x. named (s .args .name .0) (within (snapOf (now (s .args .words)) (now (s .args .area)) (s .args .l)) (s .args .from .0) (s .args .ns) x)) (x .here .given .1) o h) (c .in-item .ensures)
+    let S = snapOf (now (s .args .words)) (now (s .args .area)) (s .args .l) in
+    λ o h.
+    answers-as (after-thing (λ x. named (s .args .name .0) (within S (s .args .from .0) (s .args .ns) x)) (x .here .given .1) o h)
+    (c .in-item .ensures)
 
 pub read-after-spec : {M : Type 1} → statement M
 read-after-spec =

@@ -35,7 +35,8 @@ returns c =
     let h = c .before .before in
     let p = h .before .before in
     let s = p .before .before .before in
-    answers-as (sym (ap (recordRead (snapOf (now (s .args .words)) (now (s .args .area)) (s .args .l)) (now (s .args .words))) (h .h .given .1)) ∙ p .read-plain .ensures) (c .by-entry .ensures (now (s .args .area)))
+    let S = snapOf (now (s .args .words)) (now (s .args .area)) (s .args .l) in
+    answers-as (sym (ap (recordRead S (now (s .args .words))) (h .h .given .1)) ∙ p .read-plain .ensures) (c .by-entry .ensures (now (s .args .area)))
 
 returns-2 : tie.Need-returns-2
 unfolding recordRead
@@ -43,7 +44,8 @@ returns-2 c =
     let h = c .before .before in
     let p = h .before .before in
     let s = p .before .before .before in
-    answers-as (sym (ap (recordRead (snapOf (now (s .args .words)) (now (s .args .area)) (s .args .l)) (now (s .args .words))) (h .h2 .given .1)) ∙ p .read-plain .ensures) (c .by-extern .ensures)
+    let S = snapOf (now (s .args .words)) (now (s .args .area)) (s .args .l) in
+    answers-as (sym (ap (recordRead S (now (s .args .words))) (h .h2 .given .1)) ∙ p .read-plain .ensures) (c .by-extern .ensures)
 
 returns-3 : tie.Need-returns-3
 unfolding recordRead
@@ -51,7 +53,8 @@ returns-3 c =
     let e = c .before in
     let p = e .before .before in
     let s = p .before .before .before in
-    answers-as (sym (ap (recordRead (snapOf (now (s .args .words)) (now (s .args .area)) (s .args .l)) (now (s .args .words))) (e .enum-told .given .1)) ∙ p .read-plain .ensures) (c .nothing .ensures)
+    let S = snapOf (now (s .args .words)) (now (s .args .area)) (s .args .l) in
+    answers-as (sym (ap (recordRead S (now (s .args .words))) (e .enum-told .given .1)) ∙ p .read-plain .ensures) (c .nothing .ensures)
 
 pub read-alone-spec : {M : Type 1} → statement M
 read-alone-spec =

@@ -16,7 +16,12 @@ unfolding reads
 returns c =
     let t = c .before in
     let s = t .before .before .before in
-    λ p h. answers-as (ap (reads (snapOf (now (s .args .words)) (now (s .args .area)) (s .args .l)) (s .args .from .0) (s .args .ns)) (next-later (s .args .kind) (s .args .k) p (s .args .name .0) (t .if1 .taken))) (c .read-after .ensures _ h)
+    let S = snapOf (now (s .args .words)) (now (s .args .area)) (s .args .l) in
+    λ p h.
+    answers-as
+    (ap (reads S (s .args .from .0) (s .args .ns))
+    (next-later (s .args .kind) (s .args .k) p (s .args .name .0) (t .if1 .taken)))
+    (c .read-after .ensures _ h)
 
 read-alone-requires : tie.Need-read-alone-requires
 read-alone-requires c κs = search needs
@@ -26,7 +31,12 @@ returns-2 c =
     let t = c .before in
     let z = t .before in
     let s = z .before .before .before in
-    λ p h. answers-as (ap (reads (snapOf (now (s .args .words)) (now (s .args .area)) (s .args .l)) (s .args .from .0) (s .args .ns)) (next-plain (s .args .kind) (s .args .k) p (s .args .name .0) (omega (arith, z .if1 .left)) (t .if2 .taken))) (c .read-alone .ensures)
+    let S = snapOf (now (s .args .words)) (now (s .args .area)) (s .args .l) in
+    λ p h.
+    answers-as
+    (ap (reads S (s .args .from .0) (s .args .ns))
+    (next-plain (s .args .kind) (s .args .k) p (s .args .name .0) (omega (arith, z .if1 .left)) (t .if2 .taken)))
+    (c .read-alone .ensures)
 
 read-absolute-requires : tie.Need-read-absolute-requires
 read-absolute-requires c κs = search needs
@@ -37,7 +47,12 @@ returns-3 c =
     let n = t .before in
     let z = n .before in
     let s = z .before .before .before in
-    λ p h. answers-as (ap (reads (snapOf (now (s .args .words)) (now (s .args .area)) (s .args .l)) (s .args .from .0) (s .args .ns)) (next-absolute (s .args .kind) (s .args .k) p (s .args .name .0) (omega (arith, z .if1 .left)) (n .if2 .left) (t .if3 .taken))) (c .read-absolute .ensures)
+    let S = snapOf (now (s .args .words)) (now (s .args .area)) (s .args .l) in
+    λ p h.
+    answers-as
+    (ap (reads S (s .args .from .0) (s .args .ns))
+    (next-absolute (s .args .kind) (s .args .k) p (s .args .name .0) (omega (arith, z .if1 .left)) (n .if2 .left) (t .if3 .taken)))
+    (c .read-absolute .ensures)
 
 read-after-requires-2 : tie.Need-read-after-requires-2
 read-after-requires-2 c κs = search needs
@@ -49,7 +64,12 @@ returns-4 c =
     let n = t .before in
     let z = n .before in
     let s = z .before .before .before in
-    λ p h. answers-as (ap (reads (snapOf (now (s .args .words)) (now (s .args .area)) (s .args .l)) (s .args .from .0) (s .args .ns)) (next-keyword (s .args .kind) (s .args .k) p (s .args .name .0) (omega (arith, z .if1 .left)) (n .if2 .left) (t .if3 .left))) (c .read-after2 .ensures _ h)
+    let S = snapOf (now (s .args .words)) (now (s .args .area)) (s .args .l) in
+    λ p h.
+    answers-as
+    (ap (reads S (s .args .from .0) (s .args .ns))
+    (next-keyword (s .args .kind) (s .args .k) p (s .args .name .0) (omega (arith, z .if1 .left)) (n .if2 .left) (t .if3 .left)))
+    (c .read-after2 .ensures _ h)
 
 pub read-name-spec : {M : Type 1} → statement M
 read-name-spec =

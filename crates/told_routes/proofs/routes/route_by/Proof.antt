@@ -26,8 +26,9 @@ start-requires c κs = let s = c .before .before .before in (s .pre .0, s .pre .
 loop-holds : tie.Need-loop-holds Inv-loop μ-loop
 loop-holds c =
     let s = c .before .before .before .before in
+    let S = snapOf (now (s .args .words)) (now (s .args .area)) (s .args .l) in
     λ u e.
-    walked-start (snapOf (now (s .args .words)) (now (s .args .area)) (s .args .l)) (s .args .from .0) (s .args .ns) (s .args .t .kind) u (s .args .t .names)
+    walked-start S (s .args .from .0) (s .args .ns) (s .args .t .kind) u (s .args .t .names)
     (s .args .t .count) e
 
 add-looked-in : tie.Need-add-looked-in Inv-loop μ-loop
@@ -87,14 +88,16 @@ loop-again c =
     let count = s .args .t .count in
     λ u e.
     walked-next S from (s .args .ns) kind u names count (g .loop .inv u e) (t .loop-test .taken) (s .pre .2) (i .looked-in .ensures)
-    (c .read-name .ensures (pathBy kind u names (g .loop .k)) (walked-here S from (s .args .ns) kind u names count (g .loop .inv u e) (t .loop-test .taken)))
+    (c .read-name .ensures (pathBy kind u names (g .loop .k))
+    (walked-here S from (s .args .ns) kind u names count (g .loop .inv u e) (t .loop-test .taken)))
 
 returns : tie.Need-returns Inv-loop μ-loop
 returns c =
     let g = c .before in
     let b = g .before in
     let s = b .before .before .before .before in
-    walked-done (snapOf (now (s .args .words)) (now (s .args .area)) (s .args .l)) (s .args .from .0) (s .args .ns) (s .args .t .kind) (s .args .t .supers) (s .args .t .names)
+    let S = snapOf (now (s .args .words)) (now (s .args .area)) (s .args .l) in
+    walked-done S (s .args .from .0) (s .args .ns) (s .args .t .kind) (s .args .t .supers) (s .args .t .names)
     (s .args .t .count) (g .loop .inv (s .args .t .supers) (b .start .ensures)) (omega (arith, c .loop-test .left))
 
 pub route-by-spec : {M : Type 1} → statement M

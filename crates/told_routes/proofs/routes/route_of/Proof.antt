@@ -24,9 +24,10 @@ route-by-requires c κs =
 returns-2 : tie.Need-returns-2
 returns-2 c =
     let s = c .before .before .before .before .before in
+    let S = snapOf (now (s .args .words)) (now (s .args .area)) (s .args .l) in
     λ p e h.
     c .route-by .ensures
-    ∙ ap (λ (q : Path). padded (routeOf (snapOf (now (s .args .words)) (now (s .args .area)) (s .args .l)) (s .args .from .0) (s .args .ns) q)) (told-by p e h)
+    ∙ ap (λ (q : Path). padded (routeOf S (s .args .from .0) (s .args .ns) q)) (told-by p e h)
 
 pub route-of-spec : {M : Type 1} → statement M
 route-of-spec =
