@@ -8,21 +8,23 @@ use lib.ListN.{length, take, drop, replicate}
 use lib.Seq.{length-take-le}
 use borrow.Author.Tests.{lt-ltb, le-ltb}
 use Rattle.snapshot.specs.Records.{Snapshot, Scope}
+use Rattle.snapshot.specs.declared.layout.Layout.{Layout}
 use Rattle.snapshot.specs.Lists.{any}
 use Rattle.snapshot.specs.Limits.{areaLimit}
 use Rattle.snapshot.specs.Refusals.{areaRefusal, wordsRefusal, entryRefusal}
 use Rattle.snapshot.specs.Sizes.{scopeSize}
 use Rattle.accept.specs.Verdict.{refuse, accept, verdict}
-pub use Rattle.checked.proofs.Laws.{refused-verdict, accepted-reads}
-use Rattle.answer.specs.Answers.{zeros}
-use Rattle.answer.proofs.Areas.{area-small, area-large}
+use Rattle.accept.specs.Post.{Reads, Checks, checkOf}
+use Rattle.accept.specs.declared.check.Checked.{Checked}
+use Rattle.accept.specs.declared.check.Checked.the-variants.{Refused, Accepted}
+use Rattle.answer.specs.Answers.{zeros, areaAfter}
 use Rattle.scope_edits.specs.Entries.{scopeWords, isNamed, scopesEnd, entryPlace, inserted, cut}
 use Rattle.scope_edits.specs.Edits.{Edit, refusedBy, edited, Operation, adding, removing, editFault, editedWords, editUnless, editBy, editWithin, editOf}
 use Rattle.scope_edits.proofs.Lists.{cut-length}
 use Rattle.scope_edits.proofs.Removed.{absent, present}
 use Rattle.scope_edits.proofs.Inserted.{end-within}
 use Rattle.scope_edits.proofs.Edited.{add-room, add-small, add-longer}
-use Rattle.edits.specs.Edits.{numberIn, countAfter, wordsAfter, Edits, EditsIn}
+use Rattle.edits.specs.Edits.{numberIn, countAfter, wordsAfter, Edits, EditsIn, Opens}
 use Rattle.edits.specs.declared.edits.Edited.{Edited}
 
 -- a refusal
@@ -76,14 +78,41 @@ pub of-large : (area : ℕ) (W : List ℕ) (n : ℕ) (o : Operation) → areaLim
 unfolding editOf
 of-large area W n o h = rw (editOf, le-ltb _ _ h)
 
-module _ (W A : List ℕ) (n : ℕ) (o : Operation) where
-  pub edits-small : length A < areaLimit → EditsIn W n A o W A (record { number = areaRefusal; count = n })
-  edits-small h = record { edit = edits-not W n areaRefusal _ (of-small (length A) W n o h); area = area-small A h }
+-- the check before an edit, in the work area A₀, which leaves A
 
-  pub edits-large : (X B : List ℕ) (r : Edited) → areaLimit ≤ length A → B ≡ zeros areaLimit → Edits W n (editWithin W n o) X r
-      → EditsIn W n A o X (B ++ drop areaLimit A) r
-  edits-large X B r h z e =
-      record { edit = subst (λ y. Edits W n y X r) (sym (of-large (length A) W n o h)) e; area = area-large A B h z }
+module _ (W A₀ : List ℕ) (n : ℕ) where
+  pub opens-small : length A₀ < areaLimit → Opens W n (length A₀) (Refused areaRefusal 0)
+  opens-small h o = of-small (length A₀) W n o h
+
+  module _ (h : areaLimit ≤ length A₀) where
+    pub opens-short : length W < n → Opens W n (length A₀) (Refused wordsRefusal 0)
+    opens-short g o = of-large (length A₀) W n o h ∙ within-not W n o g
+
+    pub opens-checked : (A : List ℕ) (c : Checked) → n ≤ length W → Checks (take n W) A₀ A c → Opens W n (length A₀) c
+    unfolding checkOf
+    opens-checked A (Refused k at) g p =
+        λ o. of-large (length A₀) W n o h ∙ within-by W n o g ∙ by-refusal W n o k at (p .same ∙ rw (checkOf, le-ltb _ _ h))
+    opens-checked A (Accepted l) g p = (h, (g, (A, record { same = sym (p .same ∙ rw (checkOf, le-ltb _ _ h)); tables = p .tables })))
+
+    pub cleared : (A B : List ℕ) → length A ≡ length A₀ → drop areaLimit A ≡ drop areaLimit A₀ → B ≡ areaAfter A → B ≡ areaAfter A₀
+    unfolding areaAfter
+    cleared A B l e z =
+        let g : areaLimit ≤ length A = omega arith in
+        z ∙ rw (areaAfter, le-ltb _ _ g, le-ltb _ _ h, e)
+
+module _ (W A₀ : List ℕ) (n : ℕ) (c : Checked) (p : Opens W n (length A₀) c) where
+  pub opened-reads : (l : Layout) → c ≡ Accepted l → Opens W n (length A₀) (Accepted l)
+  opened-reads l e = subst (Opens W n (length A₀)) e p
+
+  module _ (A : List ℕ) (a : A ≡ areaAfter A₀) (o : Operation) where
+    pub edit-not : (k at : ℕ) → c ≡ Refused k at → EditsIn W n A₀ o W A (record { number = k; count = n })
+    edit-not k at e = record { edit = edits-not W n k _ (subst (Opens W n (length A₀)) e p o); area = a }
+
+    pub edit-done : (l : Layout) → c ≡ Accepted l → (X : List ℕ) (r : Edited)
+        → Edits W n (editBy (take n W) (length W) o (verdict (take n W))) X r → EditsIn W n A₀ o X A r
+    edit-done l e X r d =
+        let q = opened-reads l e in
+        record { edit = subst (λ y. Edits W n y X r) (sym (of-large (length A₀) W n o (q .0) ∙ within-by W n o (q .1 .0))) d; area = a }
 
 pub record-long : (x : Scope) (R : List ℕ) → R ≡ scopeWords x → length R ≡ scopeSize
 unfolding scopeWords
@@ -152,16 +181,3 @@ module _ (W : List ℕ) (n : ℕ) (h : n ≤ length W) (s : Snapshot) (acc : ver
         (fault-none W n (removing m ns name) s acc 0 (present-fault (f .there)) refl)
         (omega arith)
         (q ∙ ap (λ p. cut p scopeSize (take n W) ++ replicate (length W - (n - scopeSize)) 0) e)
-
--- the check before an edit
-
-module _ (W : List ℕ) (n : ℕ) (o : Operation) where
-  pub checked-large : length W < n → Edits W n (editWithin W n o) W (record { number = wordsRefusal; count = n })
-  checked-large h = edits-not W n wordsRefusal _ (within-not W n o h)
-
-  pub checked-not : n ≤ length W → (k at : ℕ) → refuse k at ≡ verdict (take n W) → Edits W n (editWithin W n o) W (record { number = k; count = n })
-  checked-not h k at e = edits-not W n k _ (within-by W n o h ∙ by-refusal W n o k at e)
-
-  pub checked-done : (X : List ℕ) (r : Edited) → n ≤ length W → Edits W n (editBy (take n W) (length W) o (verdict (take n W))) X r
-      → Edits W n (editWithin W n o) X r
-  checked-done X r h e = subst (λ y. Edits W n y X r) (sym (within-by W n o h)) e

@@ -1,8 +1,12 @@
 -- What an edit promises.
-use Prim.Native.Nat.{ℕ, _-_}
+use Prim.Native.Nat.{ℕ, _-_, _≤_}
 use mathlib.Core.Path.{_≡_}
 use mathlib.Core.List.{List, _++_}
-use lib.ListN.{length}
+use lib.ListN.{length, take}
+use Rattle.snapshot.specs.Limits.{areaLimit}
+use Rattle.accept.specs.Post.{Reads}
+use Rattle.accept.specs.declared.check.Checked.{Checked}
+use Rattle.accept.specs.declared.check.Checked.the-variants.{Refused, Accepted}
 use Rattle.answer.specs.Answers.{zeros, areaAfter}
 use Rattle.scope_edits.specs.Edits.{Edit, refusedBy, edited, Operation, editOf}
 use Rattle.edits.specs.declared.edits.Edited.{Edited}
@@ -32,3 +36,9 @@ pub record Edits (W₀ : List ℕ) (n : ℕ) (e : Edit) (W : List ℕ) (r : Edit
 pub record EditsIn (W₀ : List ℕ) (n : ℕ) (A₀ : List ℕ) (o : Operation) (W A : List ℕ) (r : Edited) : Type 0 where
   pub edit : Edits W₀ n (editOf (length A₀) W₀ n o) W r
   pub area : A ≡ areaAfter A₀
+
+-- What the check before an edit of the first n words answers, in a work area of so many words: the number by which every edit is refused,
+-- or the layout of words that can be read.
+abbrev pub Opens : List ℕ → ℕ → ℕ → Checked → Type 0
+Opens W n area (Refused k at) = (o : Operation) → editOf area W n o ≡ refusedBy k
+Opens W n area (Accepted l) = (areaLimit ≤ area) × ((n ≤ length W) × ((A : List ℕ) × Reads (take n W) A l))

@@ -3,17 +3,16 @@ ghost use mathlib.Core.Path.{_≡_};
 ghost use mathlib.Core.List.{List};
 ghost use Prim.Native.Nat.{ℕ, _≤_};
 ghost use lib.ListN.{length, take};
-ghost use Rattle.snapshot.specs.Limits.{areaLimit};
 ghost use Rattle.snapshot.specs.Records.{Snapshot};
 ghost use Rattle.accept.specs.Verdict.{verdict, accept};
 ghost use Rattle.accept.specs.Post.{Reads};
-ghost use Rattle.answer.specs.Answers.{zeros};
+ghost use Rattle.answer.specs.Answers.{areaAfter};
 ghost use Rattle.scope_edits.specs.Entries.{entryOf};
-ghost use Rattle.scope_edits.specs.Edits.{adding, removing, editBy, editWithin};
-ghost use Rattle.edits.specs.Edits.{Edits, EditsIn};
+ghost use Rattle.scope_edits.specs.Edits.{adding, removing, editBy};
+ghost use Rattle.edits.specs.Edits.{Edits, EditsIn, Opens};
 use accept::check::Checked;
 use accept::check::check;
-use answer::area::clear;
+use answer::area::clear_front;
 use scope_edits::entries::add_fault;
 use scope_edits::entries::record_of;
 use scope_edits::moves::insert;
@@ -23,12 +22,30 @@ use scope_edits::places::scopes_end;
 use snapshot::ids::WordCount;
 use snapshot::kind::Size;
 use snapshot::layout::Layout;
+use snapshot::refusal::CheckRefusal;
 use snapshot::refusal::Refusal;
 
 /// The number by which an edit is refused, 0 for none, and how many words the snapshot has after it.
 pub struct Edited {
     pub number: usize,
     pub count: usize,
+}
+
+// The check of the first words, so many, in a work area that is cleared after it.
+fn opened(words: &[u32], count: usize, area: &mut [u32]) -> Checked
+    ensures { λ r. ⌜ Opens (now (words .entry)) count (length (now (area .entry))) r ⌝ }
+    ensures { λ _. ⌜ now (area .exit) ≡ areaAfter (now (area .entry)) ⌝ }
+{
+    if area.len() < WordCount::AREA {
+        return Checked::Refused(CheckRefusal::AREA, 0);
+    }
+    if words.len() < count {
+        clear_front(area);
+        return Checked::Refused(CheckRefusal::WORDS, 0);
+    }
+    let c = check(&words[..count], area);
+    clear_front(area);
+    c
 }
 
 // Adds an entry to an accepted snapshot.
@@ -53,48 +70,6 @@ fn add_accepted(words: &mut [u32], count: usize, l: Layout, entry: &[u32; Size::
     }
 }
 
-// Checks the words, and adds an entry.
-fn add_checked(
-    words: &mut [u32],
-    count: usize,
-    area: &mut [u32],
-    entry: &[u32; Size::SCOPE],
-) -> Edited
-    requires { ⌜ length (now area) ≡ areaLimit ⌝ }
-    ensures { λ r. ⌜ Edits (now (words .entry)) count (editWithin (now (words .entry)) count (adding (entryOf (now (entry .entry))))) (now (words .exit)) r ⌝ }
-{
-    if words.len() < count {
-        return Edited {
-            number: Refusal::WORDS,
-            count: count,
-        };
-    }
-    let c = check(&words[..count], area);
-    match c {
-        Checked::Refused(n, _) => Edited {
-            number: n as usize,
-            count: count,
-        },
-        Checked::Accepted(l) => add_accepted(words, count, l, entry),
-    }
-}
-
-// The same, in a work area that serves and is cleared.
-fn add_within(
-    words: &mut [u32],
-    count: usize,
-    area: &mut [u32],
-    entry: &[u32; Size::SCOPE],
-) -> Edited
-    requires { ⌜ length (now area) ≡ areaLimit ⌝ }
-    ensures { λ r. ⌜ Edits (now (words .entry)) count (editWithin (now (words .entry)) count (adding (entryOf (now (entry .entry))))) (now (words .exit)) r ⌝ }
-    ensures { λ _. ⌜ now (area .exit) ≡ zeros areaLimit ⌝ }
-{
-    let r = add_checked(words, count, area, entry);
-    clear(area);
-    r
-}
-
 /// Adds an entry to the snapshot in the first words, so many: module, namespace, name, definition, visibility and its number,
 /// declared, bits. Its record is written after the last scope record; where there is none, before the first record of a higher kind, or at the
 /// end; the words after it move up, and all past the new end are zero. Answers the new count and 0, or the number by which the edit
@@ -108,13 +83,14 @@ pub fn add_entry(
 ) -> Edited
     ensures { λ r. ⌜ EditsIn (now (words .entry)) count (now (area .entry)) (adding (entryOf (now (entry .entry)))) (now (words .exit)) (now (area .exit)) r ⌝ }
 {
-    if area.len() < WordCount::AREA {
-        return Edited {
-            number: Refusal::AREA,
+    let c = opened(words, count, area);
+    match c {
+        Checked::Refused(n, _) => Edited {
+            number: n as usize,
             count: count,
-        };
+        },
+        Checked::Accepted(l) => add_accepted(words, count, l, entry),
     }
-    add_within(words, count, &mut area[..WordCount::AREA], entry)
 }
 
 // Removes an entry from an accepted snapshot.
@@ -136,52 +112,6 @@ fn remove_accepted(words: &mut [u32], count: usize, owner: usize, ns: usize, nam
     }
 }
 
-// Checks the words, and removes an entry.
-fn remove_checked(
-    words: &mut [u32],
-    count: usize,
-    area: &mut [u32],
-    owner: usize,
-    ns: usize,
-    name: usize,
-) -> Edited
-    requires { ⌜ length (now area) ≡ areaLimit ⌝ }
-    ensures { λ r. ⌜ Edits (now (words .entry)) count (editWithin (now (words .entry)) count (removing owner ns name)) (now (words .exit)) r ⌝ }
-{
-    if words.len() < count {
-        return Edited {
-            number: Refusal::WORDS,
-            count: count,
-        };
-    }
-    let c = check(&words[..count], area);
-    match c {
-        Checked::Refused(n, _) => Edited {
-            number: n as usize,
-            count: count,
-        },
-        Checked::Accepted(_) => remove_accepted(words, count, owner, ns, name),
-    }
-}
-
-// The same, in a work area that serves and is cleared.
-fn remove_within(
-    words: &mut [u32],
-    count: usize,
-    area: &mut [u32],
-    owner: usize,
-    ns: usize,
-    name: usize,
-) -> Edited
-    requires { ⌜ length (now area) ≡ areaLimit ⌝ }
-    ensures { λ r. ⌜ Edits (now (words .entry)) count (editWithin (now (words .entry)) count (removing owner ns name)) (now (words .exit)) r ⌝ }
-    ensures { λ _. ⌜ now (area .exit) ≡ zeros areaLimit ⌝ }
-{
-    let r = remove_checked(words, count, area, owner, ns, name);
-    clear(area);
-    r
-}
-
 /// Removes the entry of a module, a namespace and a name from the snapshot in the first words, so many: the words after its record move
 /// down, and all past the new end are zero. Answers as `add_entry` does, with 47 for a name that isn't there.
 pub fn remove_entry(
@@ -194,11 +124,12 @@ pub fn remove_entry(
 ) -> Edited
     ensures { λ r. ⌜ EditsIn (now (words .entry)) count (now (area .entry)) (removing owner ns name) (now (words .exit)) (now (area .exit)) r ⌝ }
 {
-    if area.len() < WordCount::AREA {
-        return Edited {
-            number: Refusal::AREA,
+    let c = opened(words, count, area);
+    match c {
+        Checked::Refused(n, _) => Edited {
+            number: n as usize,
             count: count,
-        };
+        },
+        Checked::Accepted(_) => remove_accepted(words, count, owner, ns, name),
     }
-    remove_within(words, count, &mut area[..WordCount::AREA], owner, ns, name)
 }

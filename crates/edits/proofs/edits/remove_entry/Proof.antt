@@ -1,52 +1,43 @@
-use mathlib.Core.Path.{sym}
-use native.Mathlib.Omega.{arith}
-use denote.Ref.{now}
-use lib.Seq.{length-take-le}
-use Rattle.snapshot.specs.Limits.{areaLimit}
-use Rattle.edits.proofs.Laws.{edits-small, edits-large}
 use borrow.Author.Needs.{needs}
+use denote.Ref.{now}
+use Rattle.edits.proofs.Laws.{opened-reads, edit-not, edit-done}
 use Rattle.edits.proofs.edits.remove_entry.Statement.{statement}
 use Rattle.edits.proofs.edits.remove_entry.Tie as tie
 
+remove-accepted-requires : tie.Need-remove-accepted-requires
+remove-accepted-requires c κs =
+    let k = c .before .before .before .before .before in
+    let s = k .before .before .before .before .before in
+    let r = opened-reads (now (s .args .words)) (now (s .args .area)) (s .args .count) (k .opened .result) (k .opened .ensures .0) _ (c .before .enum-told .given .1) .1 in
+    (r .0, (_, r .1 .1 .same))
+
 returns : tie.Need-returns
 returns c =
-    let s = c .before .before .before in
-    edits-small (now (s .args .words)) (now (s .args .area)) (s .args .count) _ (c .if1 .taken)
-
-slice-relend-prefix-remove-within : tie.Need-slice-relend-prefix-remove-within
-slice-relend-prefix-remove-within c = search needs
-
-slice-aggregate-remove-within : tie.Need-slice-aggregate-remove-within
-slice-aggregate-remove-within c =
-    let e = c .before .before in
-    sym (length-take-le _ (now (e .before .before .before .args .area)) (omega (arith, e .if1 .left)))
-
-remove-within-requires : tie.Need-remove-within-requires
-remove-within-requires c κs =
-    let e = c .before .before in
-    length-take-le areaLimit (now (e .before .before .before .args .area)) (e .if1 .left)
-
-same-length : tie.Need-same-length
-same-length c = search needs
-
-same-length-2 : tie.Need-same-length-2
-same-length-2 c = search needs
+    let k = c .before .before .before .before .before in
+    let s = k .before .before .before .before .before in
+    let p = k .opened .ensures in
+    edit-not (now (s .args .words)) (now (s .args .area)) (s .args .count) (k .opened .result) (p .0) _ (p .1) _ _ _ (c .before .c .given .1)
 
 returns-2 : tie.Need-returns-2
 returns-2 c =
-    let f = c .before .before .before .before in
-    let e = f .before .before .before in
-    let s = e .before .before .before in
-    edits-large (now (s .args .words)) (now (s .args .area)) (s .args .count) _ (f .remove-within .last .0) (f .remove-within .last .1 .1 .0) _ (e .if1 .left) (f .remove-within .ensures .1) (f .remove-within .ensures .0)
+    let m = c .before .before in
+    let k = m .before .before .before .before .before .before in
+    let s = k .before .before .before .before .before in
+    let p = k .opened .ensures in
+    edit-done (now (s .args .words)) (now (s .args .area)) (s .args .count) (k .opened .result) (p .0) _ (p .1) _ _ (m .before .before .enum-told .given .1) _ _ (m .remove-accepted .ensures)
 
 pub remove-entry-spec : {M : Type 1} → statement M
 remove-entry-spec =
     tie.close
     (tie.spec
+    (λ c κs. search needs)
+    (λ c. search needs)
+    (λ c. search needs)
+    (λ c. search needs)
+    remove-accepted-requires
+    (λ c. search needs)
+    (λ c. search needs)
     returns
-    slice-relend-prefix-remove-within
-    slice-aggregate-remove-within
-    remove-within-requires
-    same-length
-    same-length-2
+    (λ c. search needs)
+    (λ c. search needs)
     returns-2)
