@@ -255,14 +255,14 @@ built-accepted = built.built-accepted
 pub lines-kept : (area room : ℕ) (W X Y : List ℕ) → joinOf area W X room ≡ joinedAs Y → Kept W X Y
 lines-kept = stays.lines-kept
 
--- So has the printer: a part's question, put behind the joined words with its numbers moved, prints what it prints behind its part, where both inputs
--- have at most 16,384 words.
+-- So has the printer: a part's question, put behind the joined words with its numbers moved, prints what it prints behind its part, where the joined
+-- words and the seven of a question are at most 16,384.
 pub first-printed : (area room : ℕ) (W X Y : List ℕ) (e : joinOf area W X room ≡ joinedAs Y) (q : Question) (B C : List ℕ) → Room Y
-    → Answered W q → Room W → Writable q → Asks B W q → Asks C Y (questionTo firstNumbers q) → printed C ≡ printed B
+    → Answered W q → Writable q → Asks B W q → Asks C Y (questionTo firstNumbers q) → printed C ≡ printed B
 first-printed = printing.first-printed
 
 pub second-printed : (area room : ℕ) (W X Y : List ℕ) (e : joinOf area W X room ≡ joinedAs Y) (q : Question) (B C : List ℕ) (fits : Room Y)
-    → Answered X q → Room X → Writable q
+    → Answered X q → Writable q
     → Writable (questionTo (secondNumbers (stays.lines-kept area room W X Y e .first) (stays.lines-kept area room W X Y e .second)) q) → Asks B X q
     → Asks C Y (questionTo (secondNumbers (stays.lines-kept area room W X Y e .first) (stays.lines-kept area room W X Y e .second)) q) → printed C ≡ printed B
 second-printed = printing.second-printed
