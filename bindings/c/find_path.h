@@ -277,8 +277,8 @@ size_t kelumavor_join(const uint32_t *first, size_t first_len, const uint32_t *s
                       size_t area_len, uint32_t *target, size_t target_len, size_t *count);
 
 /* Leaves in the area where the names and definitions of the second go in a join, for the two functions below, and answers 0; or the number by which the
- * call is refused, as kelumavor_join but for 51, and then nothing is said of the area's first 16,384 words. Those past them stay. A crate, a map or a module of
- * the second has its number plus how many the first has; the first's numbers stay. */
+ * call is refused, as kelumavor_join but for 51, with the area left as by kelumavor_find_path. The words past the first 16,384 stay. A crate, a map
+ * or a module of the second has its number plus how many the first has; the first's numbers stay. */
 size_t kelumavor_join_numbers(const uint32_t *first, size_t first_len, const uint32_t *second, size_t second_len, uint32_t *area,
                               size_t area_len);
 

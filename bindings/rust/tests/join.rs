@@ -60,11 +60,14 @@ fn called(first: &[u32], second: &[u32], area: usize, target: usize) -> Called {
     Called { number, count, area, target }
 }
 
-fn numbers(first: &[u32], second: &[u32], area: usize) -> usize {
+/// The number that the call for the new numbers answers, and the area that it leaves.
+fn numbers(first: &[u32], second: &[u32], area: usize) -> (usize, Vec<u32>) {
     let mut area = vec![FILL; area];
     let (one, two) = (first.as_ptr(), second.as_ptr());
     // SAFETY: as in `called`.
-    unsafe { raw::kelumavor_join_numbers(one, first.len(), two, second.len(), area.as_mut_ptr(), area.len()) }
+    let number =
+        unsafe { raw::kelumavor_join_numbers(one, first.len(), two, second.len(), area.as_mut_ptr(), area.len()) };
+    (number, area)
 }
 
 fn told(report: &Report) -> (String, Option<Vec<String>>) {
@@ -116,15 +119,20 @@ fn joined_words(first: &Snapshot, second: &Snapshot) -> Vec<u32> {
     exact.target
 }
 
+/// A work area of so many words after a refusal.
+fn left(area: usize) -> Vec<u32> {
+    let cleared = if area < WorkArea::WORDS { 0 } else { WorkArea::WORDS };
+    (0..area).map(|place| if place < cleared { 0 } else { FILL }).collect()
+}
+
 #[track_caller]
 fn refused(first: &[u32], second: &[u32], area: usize, target: usize, number: usize) {
     let called = called(first, second, area, target);
     assert_eq!((called.number, called.count), (number, 0));
     assert!(called.target.iter().all(|word| *word == FILL));
-    let cleared = if area < WorkArea::WORDS { FILL } else { 0 };
-    assert!(called.area.iter().all(|word| *word == cleared));
+    assert_eq!(called.area, left(area));
     if number != 51 {
-        assert_eq!(numbers(first, second, area), number);
+        assert_eq!(numbers(first, second, area), (number, left(area)));
     }
 }
 
@@ -140,6 +148,8 @@ fn refusals_in_order() {
     refused(&[0x2000_0000, 2021], kind, WorkArea::WORDS, 0, 35);
     refused(&WORKED, &[0x2000_0000, 2020], WorkArea::WORDS, 0, 43);
     refused(&WORKED, &WORKED, WorkArea::WORDS, 0, 51);
+    refused(cut, &WORKED, WorkArea::WORDS + 3, 100, 31);
+    refused(&WORKED, cut, WorkArea::WORDS + 3, 100, 31);
     assert_eq!(called(&[], &[], WorkArea::WORDS, 0).number, 0);
     assert_eq!(called(&WORKED, &[], WorkArea::WORDS, 37).target, WORKED);
     assert_eq!(called(&[], &WORKED, WorkArea::WORDS, 37).target, WORKED);

@@ -344,7 +344,7 @@ pub extern "C" fn kelumavor_join(
 
 /// Leaves in the work area the numbers that the names and definitions of the second snapshot have in the two joined, for `kelumavor_new_name` and
 /// `kelumavor_new_definition`; its crates, maps and modules follow those of the first, which keeps its numbers. Answers 0, or the number by which the
-/// call is refused: 20 a small work area, 30 to 36 and 43 the first snapshot, then the second.
+/// call is refused, with the work area as `kelumavor_find_path` leaves it: 20 a small work area, 30 to 36 and 43 the first snapshot, then the second.
 #[no_mangle]
 pub extern "C" fn kelumavor_join_numbers(first: &[u32], second: &[u32], area: &mut [u32]) -> usize
     ensures { λ r. ⌜ NewNumbers (now (first .entry)) (now (second .entry)) (now (area .entry)) (now (area .exit)) r ⌝ }

@@ -11,6 +11,8 @@ use Rattle.snapshot.specs.Refusals.{areaRefusal}
 use Rattle.snapshot.specs.Records.{Snapshot}
 use Rattle.accept.specs.Verdict.{Verdict, refuse, accept, verdict}
 use Rattle.accept.proofs.Valid.{accepted-valid}
+use Rattle.answer.specs.Answers.{zeros}
+use Rattle.answer.proofs.Areas.{area-small, area-large}
 use Rattle.join_numbers.specs.Parts.{partOf}
 use Rattle.join_numbers.specs.Numbered.{nameTable, definitionTable, NumbersIn, Numbered}
 use Rattle.join_numbers.specs.declared.tables.New.{New}
@@ -25,13 +27,13 @@ apart : {n at : ℕ} {s : Snapshot} → refuse n at ≡ accept s → ⊥
 unfolding IsRefused
 apart e = subst IsRefused e tt
 
-pub first-refused : {v : Verdict} (w : Verdict) (A : List ℕ) (n at : ℕ) → refuse n at ≡ v → NumbersBy v w A n
+pub first-refused : {v : Verdict} (w : Verdict) (A : List ℕ) (n at : ℕ) → A ≡ zeros areaLimit → refuse n at ≡ v → NumbersBy v w A n
 unfolding faultBy
-first-refused {v} w A n at e = record { number = ap (λ x. faultBy x w) e; tables = λ s t p q. absurd (apart (e ∙ p)) }
+first-refused {v} w A n at z e = record { number = ap (λ x. faultBy x w) e; tables = λ s t p q. absurd (apart (e ∙ p)); cleared = λ _. z }
 
-pub second-refused : (s : Snapshot) {w : Verdict} (A : List ℕ) (n at : ℕ) → refuse n at ≡ w → NumbersBy (accept s) w A n
+pub second-refused : (s : Snapshot) {w : Verdict} (A : List ℕ) (n at : ℕ) → A ≡ zeros areaLimit → refuse n at ≡ w → NumbersBy (accept s) w A n
 unfolding faultBy
-second-refused s {w} A n at e = record { number = ap (faultBy (accept s)) e; tables = λ u t p q. absurd (apart (e ∙ q)) }
+second-refused s {w} A n at z e = record { number = ap (faultBy (accept s)) e; tables = λ u t p q. absurd (apart (e ∙ q)); cleared = λ _. z }
 
 module _ (W X A : List ℕ) (first : verdict W ≡ accept (partOf W)) where
   pub by-first : (B : List ℕ) (r : ℕ) → NumbersBy (accept (partOf W)) (verdict X) B r → NumbersBy (verdict W) (verdict X) B r
@@ -48,6 +50,7 @@ module _ (W X A : List ℕ) (first : verdict W ≡ accept (partOf W)) where
             let b : partOf X ≡ t = part-is X t q in
             subst (λ x. NumbersIn x t B) a (subst (λ x. NumbersIn (partOf W) x B) b (k .numbers))
             );
+        cleared = λ z. absurd (z (ap (faultBy (accept (partOf W))) second));
       }
 
 pub numbers-small : (W X A : List ℕ) → length A < areaLimit → NewNumbers W X A A areaRefusal
@@ -56,6 +59,7 @@ numbers-small W X A h =
     record {
       number = sym (rw (numbersFault, lt-ltb _ _ h));
       tables = λ s t g p q. absurd (omega (arith, h, g));
+      cleared = λ _. area-small A h;
       rest = refl;
     }
 
@@ -73,5 +77,6 @@ numbers-large W X A B r h n k =
             definitions = λ j u. List·getD-append B (drop areaLimit A) 0 (definitionTable + j) (omega (arith, u, n, l .definitions)) ∙ i .definitions j u;
           }
           );
+      cleared = λ z. area-large A B h (k .cleared (λ e. z ((rw (numbersFault, le-ltb _ _ h)) ∙ e)));
       rest = drop-at B (drop areaLimit A) areaLimit n;
     }

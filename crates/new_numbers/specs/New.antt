@@ -9,6 +9,7 @@ use Rattle.snapshot.specs.Limits.{areaLimit}
 use Rattle.snapshot.specs.Refusals.{areaRefusal}
 use Rattle.snapshot.specs.Records.{Snapshot}
 use Rattle.accept.specs.Verdict.{Verdict, refuse, accept, verdict}
+use Rattle.answer.specs.Answers.{zeros, areaAfter}
 use Rattle.join_words.specs.Joined.{secondNumbers}
 use Rattle.join_numbers.specs.Numbered.{NumbersIn}
 
@@ -22,15 +23,17 @@ faultBy (accept s) (accept t) = 0
 unfoldable pub numbersFault : ℕ → List ℕ → List ℕ → ℕ
 numbersFault area W X = elim (ltb area areaLimit) [ true ↦ areaRefusal | false ↦ faultBy (verdict W) (verdict X) ]
 
--- with an area that serves: where both are accepted it holds the numbers of the second's names and definitions
+-- with an area of areaLimit words: where both are accepted it holds the numbers of the second's names and definitions, else zeros
 pub record NumbersBy (v w : Verdict) (A : List ℕ) (r : ℕ) : Type 0 where
   pub number : r ≡ faultBy v w
   pub tables : (s t : Snapshot) → v ≡ accept s → w ≡ accept t → NumbersIn s t A
+  pub cleared : (faultBy v w ≡ 0 → ⊥) → A ≡ zeros areaLimit
 
 -- A₀ is the work area before the call, A after it
 pub record NewNumbers (W X A₀ A : List ℕ) (r : ℕ) : Type 0 where
   pub number : r ≡ numbersFault (length A₀) W X
   pub tables : (s t : Snapshot) → areaLimit ≤ length A₀ → verdict W ≡ accept s → verdict X ≡ accept t → NumbersIn s t A
+  pub cleared : (numbersFault (length A₀) W X ≡ 0 → ⊥) → A ≡ areaAfter A₀
   pub rest : drop areaLimit A ≡ drop areaLimit A₀
 
 -- the new number of a name or a definition of the second, read from an area that holds them

@@ -7,6 +7,7 @@ ghost use Rattle.join_numbers.specs.Parts.{partOf, Part};
 ghost use Rattle.new_numbers.specs.New.{NumbersBy, NewNumbers};
 use accept::check::Checked;
 use accept::check::check;
+use answer::area::clear;
 use join_numbers::tables::number;
 use snapshot::ids::WordCount;
 use snapshot::layout::Layout;
@@ -19,7 +20,10 @@ fn number_second(first: &[u32], second: &[u32], area: &mut [u32], l: Layout) -> 
 {
     let k = check(second, area);
     match k {
-        Checked::Refused(n, _) => n as usize,
+        Checked::Refused(n, _) => {
+            clear(area);
+            n as usize
+        }
         Checked::Accepted(m) => {
             number(first, second, area, l, m);
             0
@@ -34,14 +38,17 @@ fn number_checked(first: &[u32], second: &[u32], area: &mut [u32]) -> usize
 {
     let k = check(first, area);
     match k {
-        Checked::Refused(n, _) => n as usize,
+        Checked::Refused(n, _) => {
+            clear(area);
+            n as usize
+        }
         Checked::Accepted(l) => number_second(first, second, area, l),
     }
 }
 
 /// Leaves in the work area the numbers that the names and definitions of the second snapshot have in the two joined, for `new_name` and
-/// `new_definition`; its crates, maps and modules follow those of the first. Answers 0, or the number by which the call is refused: 20 a small work
-/// area, 30 to 36 and 43 the first snapshot, then the second.
+/// `new_definition`; its crates, maps and modules follow those of the first. Answers 0, or the number by which the call is refused, with the work
+/// area as `find_path` leaves it: 20 a small work area, 30 to 36 and 43 the first snapshot, then the second.
 pub fn new_numbers(first: &[u32], second: &[u32], area: &mut [u32]) -> usize
     ensures { λ r. ⌜ NewNumbers (now (first .entry)) (now (second .entry)) (now (area .entry)) (now (area .exit)) r ⌝ }
 {

@@ -1,6 +1,7 @@
 use borrow.Author.Needs.{needs}
-use mathlib.Core.Path.{_∙_}
+use mathlib.Core.Path.{ap, _∙_}
 use denote.Ref.{now}
+use Rattle.answer.specs.Answers.{zeros}
 use Rattle.checked.proofs.Laws.{refused-verdict, accepted-reads}
 use Rattle.join_numbers.proofs.Parts.{part-of}
 use Rattle.new_numbers.proofs.Laws.{first-refused, by-first}
@@ -12,6 +13,9 @@ check-requires c κs = search needs
 
 enum-known-k : tie.Need-enum-known-k
 enum-known-k c = search needs
+
+clear-requires : tie.Need-clear-requires
+clear-requires c κs = search needs
 
 cast-result : tie.Need-cast-result
 cast-result c = search needs
@@ -31,9 +35,12 @@ same-length c = search needs
 
 returns : tie.Need-returns
 returns c =
-    let k = c .before .before .before .before .before in
+    let z = c .before .before in
+    let e = z .before .before .before in
+    let k = e .before .before .before .before in
     let s = k .before .before .before .before .before in
-    first-refused _ _ _ _ (refused-verdict (now (s .args .first)) (now (s .args .area)) _ _ (s .pre) (k .check .ensures) _ _ (c .before .k .given .1))
+    first-refused _ _ _ _ (z .clear .ensures ∙ ap zeros (k .check .kept .1 .0 ∙ s .pre))
+    (refused-verdict (now (s .args .first)) (now (s .args .area)) _ _ (s .pre) (k .check .ensures) _ _ (e .k .given .1))
 
 same-length-2 : tie.Need-same-length-2
 same-length-2 c = search needs
@@ -53,6 +60,7 @@ number-checked-spec =
     (tie.spec
     check-requires
     enum-known-k
+    clear-requires
     cast-result
     enum-known-k-2
     number-second-requires

@@ -1,7 +1,8 @@
 use borrow.Author.Needs.{needs}
-use mathlib.Core.Path.{_∙_}
+use mathlib.Core.Path.{ap, _∙_}
 use native.Mathlib.Omega.{arith}
 use denote.Ref.{now}
+use Rattle.answer.specs.Answers.{zeros}
 use Rattle.checked.proofs.Laws.{refused-verdict, accepted-reads}
 use Rattle.join_numbers.proofs.Parts.{part-of}
 use Rattle.new_numbers.proofs.Laws.{second-refused, both-numbered}
@@ -13,6 +14,9 @@ check-requires c κs = search needs
 
 enum-known-k : tie.Need-enum-known-k
 enum-known-k c = search needs
+
+clear-requires : tie.Need-clear-requires
+clear-requires c κs = search needs
 
 cast-result : tie.Need-cast-result
 cast-result c = search needs
@@ -36,9 +40,12 @@ same-length c = search needs
 
 returns : tie.Need-returns
 returns c =
-    let k = c .before .before .before .before .before in
+    let z = c .before .before in
+    let e = z .before .before .before in
+    let k = e .before .before .before .before in
     let s = k .before .before .before .before .before in
-    second-refused _ _ _ _ (refused-verdict (now (s .args .second)) (now (s .args .area)) _ _ (s .pre .0) (k .check .ensures) _ _ (c .before .k .given .1))
+    second-refused _ _ _ _ (z .clear .ensures ∙ ap zeros (k .check .kept .1 .0 ∙ s .pre .0))
+    (refused-verdict (now (s .args .second)) (now (s .args .area)) _ _ (s .pre .0) (k .check .ensures) _ _ (e .k .given .1))
 
 same-length-2 : tie.Need-same-length-2
 same-length-2 c = search needs
@@ -58,6 +65,7 @@ number-second-spec =
     (tie.spec
     check-requires
     enum-known-k
+    clear-requires
     cast-result
     enum-known-k-2
     number-requires
