@@ -191,9 +191,9 @@ module _ {W A B C D : List ℕ} {l : Layout} {n : ℕ} (r : Ready W A l) (g : Ga
       rows-ext _ _ n (λ i h. ap (scopeAt W) (cl .before (4160 + i) (omega arith))) ∙ so .same
       ∙ ap₂ (λ o xs. sortInto o [] xs) (ap entryBefore (snap-stays W A B l (r .reads .tables) (λ i a b. g .frame .below i b) ∙ sym (snap-stays W A D l (r .reads .tables) (λ i a b. low-d i b)))) (g .same)
 
-  pub entries-required : ((length D ≡ 16384) × (n ≤ 2048)) × (((b : ℕ) → b < 512 → getD D (6208 + b) 0 ≡ 0) × ((j : ℕ) → j < n → entryOf W D n j .owner < 512))
+  pub entries-required : ((length D ≡ 16384) × (4160 + n ≤ 6208)) × (((b : ℕ) → b < 512 → getD D (6208 + b) 0 ≡ 0) × ((j : ℕ) → j < n → entryOf W D n j .owner < 512))
   entries-required = (
-    (ready-d .size, entries-few),
+    (ready-d .size, let q = entries-few in omega arith),
     (
       λ b h. cl .zero (6208 + b) (omega arith) (omega arith),
       λ j h.
@@ -207,7 +207,7 @@ module _ {W A B C D : List ℕ} {l : Layout} {n : ℕ} (r : Ready W A l) (g : Ga
     high-e : (i : ℕ) → 8768 ≤ i → getD E i 0 ≡ getD D i 0
     high-e i h = let q = entries-few in threads-high te i (omega arith) (omega arith)
 
-    pub members-required : ((length E ≡ 16384) × (l .members ≤ 4096) × (wordCount l ≤ 16384)) × (((b : ℕ) → b < 2048 → getD E (8768 + b) 0 ≡ 0) × ((j : ℕ) → j < l .members → memberOf W l j .parent < 2048))
+    pub members-required : ((length E ≡ 16384) × (10816 + l .members ≤ 16384) × (wordCount l ≤ 16384)) × (((b : ℕ) → b < 2048 → getD E (8768 + b) 0 ≡ 0) × ((j : ℕ) → j < l .members → memberOf W l j .parent < 2048))
     members-required =
         let q = scopes-few r in
         let d = r .reads .tables .limited .definitions in (

@@ -3,6 +3,7 @@ use Prim.Native.Nat.{ℕ, zero, suc, _+_, _≤_, _<_}
 use mathlib.Core.Path.{_≡_}
 use mathlib.Core.List.{List, [], _∷_, _++_}
 use lib.ListN.{length, getD}
+use Rattle.snapshot.specs.Limits.{moduleLimit}
 use Rattle.snapshot.specs.Lists.{rows}
 use Rattle.snapshot.specs.Layouts.{snapOf}
 use Rattle.snapshot.specs.declared.layout.Layout.{Layout}
@@ -19,7 +20,7 @@ abbrev pub marksBase : Layout → ℕ
 marksBase l = memberLinksRoom + l .members
 
 abbrev pub orderBase : Layout → ℕ
-orderBase l = marksBase l + 512
+orderBase l = marksBase l + moduleLimit
 
 abbrev pub pileBase : Layout → ℕ
 pileBase l = orderBase l + l .scopes + 1

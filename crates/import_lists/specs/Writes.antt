@@ -6,7 +6,7 @@ use mathlib.Core.Bool.{Bool, true, false, not}
 use lib.Dec.{eqb}
 use lib.ListN.{length}
 use lib.Seq.{sets}
-use Rattle.snapshot.specs.Limits.{definitionLimit}
+use Rattle.snapshot.specs.Limits.{crateLimit, moduleLimit, nameLimit, definitionLimit, namespaceLimit}
 use Rattle.snapshot.specs.Sizes.{importSize}
 use Rattle.snapshot.specs.Records.{Snapshot, Scope, Import, Member}
 use Rattle.snapshot.specs.declared.layout.Layout.{Layout}
@@ -26,11 +26,11 @@ newImport c ns d name m bits =
 
 -- an import's numbers keep within the limits of a snapshot
 pub record Bounded (x : Import) : Type 0 where
-  pub owner : x .owner < 64
-  pub ns : x .ns ≤ 2
-  pub definition : x .definition < 2048
-  pub name : x .name < 2048
-  pub container : x .container < 512
+  pub owner : x .owner < crateLimit
+  pub ns : x .ns ≤ namespaceLimit
+  pub definition : x .definition < definitionLimit
+  pub name : x .name < nameLimit
+  pub container : x .container < moduleLimit
   pub bits : x .bits ≤ 3
 
 -- the target with words stored from a place on, or as it was

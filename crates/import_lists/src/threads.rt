@@ -40,7 +40,7 @@ fn gather(words: &[u32], area: &mut [u32], l: Layout) -> usize
 
 // Threads the entries by module, the last first.
 fn thread_entries(words: &[u32], area: &mut [u32], n: usize)
-    requires { ⌜ (length (now area) ≡ areaLimit) × (n ≤ 2048) ⌝ }
+    requires { ⌜ (length (now area) ≡ areaLimit) × (entriesRoom + n ≤ headsRoom) ⌝ }
     requires { ⌜ ((b : ℕ) → b < moduleLimit → getD (now area) (headsRoom + b) 0 ≡ 0) × ((j : ℕ) → j < n → entryOf (now words) (now area) n j .owner < moduleLimit) ⌝ }
     ensures { λ _. ⌜ Threads moduleLimit headsRoom spareRoom (λ j. entryOf (now (words .entry)) (now (area .entry)) n j .owner) n (now (area .entry)) (now (area .exit)) ⌝ }
 {
@@ -55,7 +55,7 @@ fn thread_entries(words: &[u32], area: &mut [u32], n: usize)
 
 // Threads the members by parent, the last first.
 fn thread_members(words: &[u32], area: &mut [u32], l: Layout)
-    requires { ⌜ (length (now area) ≡ areaLimit) × (l .members ≤ 4096) × (wordCount l ≤ wordLimit) ⌝ }
+    requires { ⌜ (length (now area) ≡ areaLimit) × (memberLinksRoom + l .members ≤ areaLimit) × (wordCount l ≤ wordLimit) ⌝ }
     requires { ⌜ ((b : ℕ) → b < definitionLimit → getD (now area) (memberHeadsRoom + b) 0 ≡ 0) × ((j : ℕ) → j < l .members → memberOf (now words) l j .parent < definitionLimit) ⌝ }
     ensures { λ _. ⌜ Threads definitionLimit memberHeadsRoom memberLinksRoom (λ j. memberOf (now (words .entry)) l j .parent) (l .members) (now (area .entry)) (now (area .exit)) ⌝ }
 {

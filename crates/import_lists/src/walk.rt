@@ -3,6 +3,7 @@ ghost use mathlib.Core.Path.{_≡_};
 ghost use Prim.Native.Nat.{_+_, _≤_, _<_};
 ghost use mathlib.Core.List.{[], _∷_};
 ghost use lib.ListN.{length};
+ghost use Rattle.snapshot.specs.Limits.{wordLimit, moduleLimit};
 ghost use Rattle.snapshot.specs.Records.{scopeAt};
 ghost use Rattle.snapshot.specs.Layouts.{snapOf};
 ghost use Rattle.import_order.specs.Lists.{Ready};
@@ -30,7 +31,7 @@ pub struct Turn {
 
 // The first word of the marks of the modules that were visited.
 fn marks_base(l: Layout) -> usize
-    requires { ⌜ l .members ≤ 4096 ⌝ }
+    requires { ⌜ l .members ≤ wordLimit ⌝ }
     ensures { λ r. ⌜ r ≡ marksBase l ⌝ }
 {
     Lists::MEMBER_LINKS + l.members
@@ -38,15 +39,15 @@ fn marks_base(l: Layout) -> usize
 
 /// The first word of these modules, in order.
 pub fn order_base(l: Layout) -> usize
-    requires { ⌜ l .members ≤ 4096 ⌝ }
+    requires { ⌜ l .members ≤ wordLimit ⌝ }
     ensures { λ r. ⌜ r ≡ orderBase l ⌝ }
 {
-    marks_base(l) + 512
+    marks_base(l) + ModuleId::LIMIT
 }
 
 // The first word of the modules that wait, the last to be taken first.
 fn pile_base(l: Layout) -> usize
-    requires { ⌜ (l .members ≤ 4096) × (l .scopes ≤ 4096) ⌝ }
+    requires { ⌜ (l .members ≤ wordLimit) × (l .scopes ≤ wordLimit) ⌝ }
     ensures { λ r. ⌜ r ≡ pileBase l ⌝ }
 {
     order_base(l) + l.scopes + 1
@@ -76,7 +77,7 @@ fn push_modules(
     m: ModuleId,
     top: usize,
 ) -> usize
-    requires { ⌜ Threaded (now words) (now area) l n × (m .0 < 512) × (top + length (entriesOf (snapOf (now words) (now area) l) (m .0)) ≤ l .scopes + 1) ⌝ }
+    requires { ⌜ Threaded (now words) (now area) l n × (m .0 < moduleLimit) × (top + length (entriesOf (snapOf (now words) (now area) l) (m .0)) ≤ l .scopes + 1) ⌝ }
     ensures { λ r. ⌜ Pushed l top (piled (snapOf (now (words .entry)) (now (area .entry)) l) (entriesOf (snapOf (now (words .entry)) (now (area .entry)) l) (m .0)) (pileAt (now (area .entry)) l top)) (now (area .entry)) (now (area .exit)) r ⌝ }
 {
     let mut t = top;
@@ -114,7 +115,7 @@ pub fn walk(words: &[u32], area: &mut [u32], l: Layout, n: usize, c: Crate) -> u
     ensures { λ r. ⌜ Walked (now (words .entry)) (now (area .entry)) l (c .0) (now (area .exit)) r ⌝ }
 {
     let base = marks_base(l);
-    clear(area, base, base + 512);
+    clear(area, base, base + ModuleId::LIMIT);
     let first = root(words, area, l, own(words, area, l, c));
     area[pile_base(l)] = first.0 as u32;
     let mut k = 0;

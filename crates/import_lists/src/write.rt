@@ -2,6 +2,7 @@
 ghost use mathlib.Core.Path.{_≡_};
 ghost use Prim.Native.Nat.{_+_, _<_, _≤_};
 ghost use mathlib.Core.List.{[], _∷_};
+ghost use Rattle.snapshot.specs.Limits.{moduleLimit};
 ghost use Rattle.snapshot.specs.Records.{scopeAt, memberAt};
 ghost use Rattle.snapshot.specs.Layouts.{snapOf};
 ghost use Rattle.accept.specs.Valid.{Each};
@@ -154,7 +155,7 @@ fn put_module(
     c: Crate,
     m: ModuleId,
 ) -> usize
-    requires { ⌜ Threaded (now words) (now area) l n × (c .0 < l .crates) × (m .0 < 512) ⌝ }
+    requires { ⌜ Threaded (now words) (now area) l n × (c .0 < l .crates) × (m .0 < moduleLimit) ⌝ }
     requires { ⌜ Space write at (importsIn (snapOf (now words) (now area) l) (c .0) (entriesOf (snapOf (now words) (now area) l) (m .0))) (now target) ⌝ }
     ensures { λ r. ⌜ Wrote write at (importsIn (snapOf (now (words .entry)) (now (area .entry)) l) (c .0) (entriesOf (snapOf (now (words .entry)) (now (area .entry)) l) (m .0))) (now (target .entry)) (now (target .exit)) r ⌝ }
 {
