@@ -7,6 +7,7 @@ use crate::turns::Turn;
 use crate::turns::Turning;
 use crate::turns::idle_turn;
 use answer::answer::find_path;
+use snapshot::kind::Size;
 use window_state::rows::WindowCount;
 use window_state::rows::Windows;
 use window_state::rows::next_waiting;
@@ -16,7 +17,7 @@ use window_state::serve::place_fault;
 use window_state::serve::with_question;
 
 /// The state with a question placed, or as it was, and the number.
-pub fn placed(windows: Windows, window: usize, question: &[u32; 7]) -> Placing
+pub fn placed(windows: Windows, window: usize, question: &[u32; Size::QUESTION]) -> Placing
     ensures { λ r. ⌜ Placed (wordsOf windows) window (questionOf (now (question .entry))) (wordsOf (r .windows)) (r .number) ⌝ }
 {
     let number = place_fault(windows, window);
