@@ -43,3 +43,14 @@ NewName A n r = (s t : Snapshot) → NumbersIn s t A → n < length (t .names) �
 
 abbrev pub NewDefinition : List ℕ → ℕ → ℕ → Type 0
 NewDefinition A n r = (s t : Snapshot) → NumbersIn s t A → n < length (t .definitions) → n < 2 ^ 32 → r ≡ secondNumbers s t .definitions n
+
+-- the new number of a crate, a map or a module of the second, by how many the first has
+
+abbrev pub NewCrate : ℕ → ℕ → ℕ → Type 0
+NewCrate k n r = (s t : Snapshot) → k ≡ length (s .crates) → k < 2 ^ 32 → n < 2 ^ 32 → r ≡ secondNumbers s t .crates n
+
+abbrev pub NewMap : ℕ → ℕ → ℕ → Type 0
+NewMap k n r = (s t : Snapshot) → k ≡ length (s .maps) → k < 2 ^ 32 → n < 2 ^ 32 → r ≡ secondNumbers s t .maps n
+
+abbrev pub NewModule : ℕ → ℕ → ℕ → Type 0
+NewModule k n r = (s t : Snapshot) → k ≡ length (s .modules) → k < 2 ^ 32 → n < 2 ^ 32 → r ≡ secondNumbers s t .modules n
