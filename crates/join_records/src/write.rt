@@ -15,6 +15,9 @@ use snapshot::kind::arguments;
 use snapshot::layout::Layout;
 use snapshot::words::kind;
 
+// Those whose words are put one after the other; modules stand with their maps.
+const KINDS: usize = 11;
+
 // Puts the words from one place to another, and answers the place after them.
 fn copy(words: &[u32], from: usize, end: usize, target: &mut [u32], to: usize, write: bool) -> usize
     requires { ⌜ (from ≤ end) × (end ≤ length (now words)) × Space write to (runOf (now words) from end) (now target) ⌝ }
@@ -184,7 +187,7 @@ pub fn put_kinds(
 {
     let mut to = 0;
     let mut k = 0;
-    while k < 11 {
+    while k < KINDS {
         to = put_kind(first, second, area, l, m, k, target, to, write);
         k += 1;
     }
