@@ -2,6 +2,7 @@
 ghost use Rattle.questions.specs.Questions.{questionOf};
 ghost use Rattle.window_state.specs.Words.{wordsOf};
 ghost use Rattle.windows.specs.Windows.{Placed, Turned};
+use snapshot::kind::Size;
 use window_state::rows::Windows;
 use windows::turns::Placing;
 use windows::turns::Turning;
@@ -9,7 +10,7 @@ use windows::windows::place;
 use windows::windows::turn;
 
 /// The state after a question was placed, and the number by which it is refused, 0 for none.
-pub fn place_in(windows: Windows, window: usize, question: &[u32; 7]) -> Placing
+pub fn place_in(windows: Windows, window: usize, question: &[u32; Size::QUESTION]) -> Placing
     ensures { λ r. ⌜ Placed (wordsOf windows) window (questionOf (now (question .entry))) (wordsOf (r .windows)) (r .number) ⌝ }
 {
     let mut lent = windows;

@@ -393,7 +393,7 @@ pub extern "C" fn kelumavor_any_path(
 pub extern "C" fn kelumavor_reach(
     words: &[u32],
     area: &mut [u32],
-    viewer: &[u32; 5],
+    viewer: &[u32; Size::REACH],
     counts: &mut [usize; 21],
 ) -> usize
     ensures { λ r. ⌜ ReachesIn (now (words .entry)) (now (area .entry)) (viewerOf (now (viewer .entry))) (now (area .exit)) (now (counts .exit)) r ⌝ }
