@@ -277,8 +277,8 @@ size_t kelumavor_join(const uint32_t *first, size_t first_len, const uint32_t *s
                       size_t area_len, uint32_t *target, size_t target_len, size_t *count);
 
 /* Leaves in the area where the names and definitions of the second go in a join, for the two functions below, and answers 0; or the number by which the
- * call is refused, as kelumavor_join but for 51, with the area left as by kelumavor_find_path. The words past the first 16,384 stay. A crate, a map
- * or a module of the second has its number plus how many the first has; the first's numbers stay. */
+ * call is refused, as kelumavor_join but for 51, with the area left as by kelumavor_find_path. The words past the first 16,384 stay. The first's
+ * numbers stay. */
 size_t kelumavor_join_numbers(const uint32_t *first, size_t first_len, const uint32_t *second, size_t second_len, uint32_t *area,
                               size_t area_len);
 
@@ -286,6 +286,11 @@ size_t kelumavor_join_numbers(const uint32_t *first, size_t first_len, const uin
  * left. Nothing is written. */
 size_t kelumavor_new_name(const uint32_t *area, size_t area_len, size_t name);
 size_t kelumavor_new_definition(const uint32_t *area, size_t area_len, size_t definition);
+
+/* The same of a crate, a map and a module of the second: the first has so many, as kelumavor_check writes. */
+size_t kelumavor_new_crate(size_t first, size_t number);
+size_t kelumavor_new_map(size_t first, size_t number);
+size_t kelumavor_new_module(size_t first, size_t number);
 
 /* Who asks for a reach: viewing module, prefix, options, and the fuel and the limit of each search. */
 enum kelumavor_viewer {
@@ -355,23 +360,6 @@ static inline size_t kelumavor_edition(const uint32_t *words, size_t words_len, 
             return words[crates_place + 2 * (size_t)(words[map_place] & 0xFFFFFFF) + 1];
     }
     return 0;
-}
-
-/* The number in the joined snapshot of a crate, a map and a module of the second: checked is what kelumavor_check wrote for the first. Take no
- * area. */
-static inline size_t kelumavor_new_crate(const size_t checked[KELUMAVOR_CHECKED], size_t crate)
-{
-    return checked[KELUMAVOR_CRATES] + crate;
-}
-
-static inline size_t kelumavor_new_map(const size_t checked[KELUMAVOR_CHECKED], size_t map)
-{
-    return checked[KELUMAVOR_MAPS] + map;
-}
-
-static inline size_t kelumavor_new_module(const size_t checked[KELUMAVOR_CHECKED], size_t module)
-{
-    return checked[KELUMAVOR_MODULES] + module;
 }
 
 /* Bytes of a path as text, at most: sixteen names with r#, and :: between them. */

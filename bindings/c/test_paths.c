@@ -20,8 +20,8 @@ int main(void)
         printf("%s\n", kelumavor_refusal_text(checked[KELUMAVOR_REFUSAL]));
         return 1;
     }
-    if (kelumavor_new_crate(checked, 0) != checked[KELUMAVOR_CRATES] || kelumavor_new_map(checked, 0) != checked[KELUMAVOR_MAPS] ||
-        kelumavor_new_module(checked, 2) != checked[KELUMAVOR_MODULES] + 2)
+    if (kelumavor_new_crate(checked[KELUMAVOR_CRATES], 0) != checked[KELUMAVOR_CRATES] || kelumavor_new_map(checked[KELUMAVOR_MAPS], 0) != checked[KELUMAVOR_MAPS] ||
+        kelumavor_new_module(checked[KELUMAVOR_MODULES], 2) != checked[KELUMAVOR_MODULES] + 2)
         return 3;
     memcpy(tables, area, checked[KELUMAVOR_NAMES] * sizeof *tables);
     memcpy(kept, area, kelumavor_table_words() * sizeof *kept);

@@ -16,7 +16,7 @@ ghost use Rattle.exports.specs.Turns.{Served, Unserved};
 ghost use Rattle.exports.specs.Version.{version};
 ghost use Rattle.imports.specs.Listings.{ListsIn};
 ghost use Rattle.join.specs.Joins.{JoinsIn};
-ghost use Rattle.new_numbers.specs.New.{NewNumbers, NewName, NewDefinition};
+ghost use Rattle.new_numbers.specs.New.{NewNumbers, NewName, NewDefinition, NewCrate, NewMap, NewModule};
 ghost use Rattle.questions.specs.Questions.{questionOf};
 ghost use Rattle.reports.specs.Written.{reportSize};
 ghost use Rattle.scope_edits.specs.Edits.{adding, removing};
@@ -48,7 +48,10 @@ use imports::list::import_list;
 use join::join::join;
 use keywords::is_raw;
 use new_numbers::numbers::new_numbers;
+use new_numbers::read::new_crate;
 use new_numbers::read::new_definition;
+use new_numbers::read::new_map;
+use new_numbers::read::new_module;
 use new_numbers::read::new_name;
 use questions::question::question_of;
 use reach_answer::find_reach;
@@ -366,6 +369,30 @@ pub extern "C" fn kelumavor_new_definition(area: &[u32], definition: usize) -> u
     ensures { λ r. ⌜ NewDefinition (now (area .entry)) definition r ⌝ }
 {
     new_definition(area, definition)
+}
+
+/// The number that a crate of the second snapshot has in the two joined: the first has so many, as `kelumavor_check` says.
+#[no_mangle]
+pub extern "C" fn kelumavor_new_crate(first: usize, number: usize) -> usize
+    ensures { λ r. ⌜ NewCrate first number r ⌝ }
+{
+    new_crate(first, number)
+}
+
+/// The same for a map.
+#[no_mangle]
+pub extern "C" fn kelumavor_new_map(first: usize, number: usize) -> usize
+    ensures { λ r. ⌜ NewMap first number r ⌝ }
+{
+    new_map(first, number)
+}
+
+/// The same for a module.
+#[no_mangle]
+pub extern "C" fn kelumavor_new_module(first: usize, number: usize) -> usize
+    ensures { λ r. ⌜ NewModule first number r ⌝ }
+{
+    new_module(first, number)
 }
 
 /// Whether any path names a definition in a module, as the compiler reads paths: a second opinion on a search that found none. The question is
