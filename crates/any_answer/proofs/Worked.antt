@@ -16,7 +16,7 @@ use Rattle.hir_def.specs.Nameres.{stepsOr, stepsTo, steps, preludeOf}
 use Rattle.nameable.specs.Seen.{holds, declaredNs, declaredAs, declaredIn, declarationIn, declarationOf, declarationHolds, bothHold, counts, seen}
 use Rattle.nameable.specs.Paths.{namesIn, named, entriesIn, variantsIn, externsIn, absolutes, entriesOver, scopesFrom, preludeEntries, firsts, within, aboveOr, above, keywordModule, moduleNamed, after, reads, itemIn, means, namesOf, placeIn, routeOf}
 use Rattle.nameable.specs.Breadth.{isMet, withMeaning, added, nameless, single, onward, reached, isItem, firstTo, arrives, checkedPath, variantAfter, byEnum, shorter, shortestOf, shortest, upTo, anyPath}
-use Rattle.nameable.proofs.Worked.{head, letter, entry, workspace}
+use Rattle.nameable.proofs.Worked.{head, letter, entry, workspace, over, nested}
 use Rattle.find_path.specs.Report.{callFault, questionFault}
 use Rattle.told_paths.specs.Tells.{keywordKind, kindOf, keywordSupers, supersOf, padded as filled}
 use Rattle.any_answer.specs.declared.AnyReport.{AnyReport}
@@ -56,3 +56,8 @@ pub any-reports :
     ∷ []
 unfolding asked found anyReport anyAfter anyBy anyUnless anyReported anyRefused anyWithout anyPath callFault questionFault kindOf keywordKind supersOf keywordSupers filled namesOf routeOf placeIn head letter entry workspace upTo shortest shortestOf shorter byEnum variantAfter checkedPath arrives firstTo isItem reached onward single nameless added withMeaning isMet means itemIn reads after moduleNamed keywordModule above aboveOr within firsts preludeEntries scopesFrom entriesOver absolutes externsIn variantsIn entriesIn named namesIn seen counts bothHold declarationHolds declarationOf declarationIn declaredIn declaredAs declaredNs holds privately moduleAround blockStep ofRoot lastOr lastTo last metOr metTo met stepsOr stepsTo steps preludeOf firstOf select orFirst itemOf sameItem nsOf homeBy definitionOf crateData moduleOf mapOf rootOf ownMap crateRoot orElse containing placeOf verdict records stepAt recordStep finish argumentsFrom argumentsOf nameStep crateStep dependencyStep mapStep moduleStep childStep preludeStep definitionStep scopeStep importStep externStep memberStep textBound padded rows any all eqList
 any-reports = refl
+
+-- The function in the last of seventeen nested modules, from the first: every path has more than sixteen names.
+pub any-longer : asked nested 1 16 0 ≡ anyWithout 3 0
+unfolding asked found anyReport anyAfter anyBy anyUnless anyReported anyRefused anyWithout anyPath callFault questionFault kindOf keywordKind supersOf keywordSupers filled namesOf head letter entry over nested upTo shortest shortestOf shorter byEnum variantAfter checkedPath arrives firstTo isItem reached onward single nameless added withMeaning isMet means itemIn reads after moduleNamed keywordModule above aboveOr within firsts preludeEntries scopesFrom entriesOver absolutes externsIn variantsIn entriesIn named namesIn seen counts bothHold declarationHolds declarationOf declarationIn declaredIn declaredAs declaredNs holds privately moduleAround blockStep ofRoot lastOr lastTo last metOr metTo met stepsOr stepsTo steps preludeOf firstOf select orFirst itemOf sameItem nsOf homeBy definitionOf crateData moduleOf mapOf rootOf ownMap crateRoot orElse containing placeOf verdict records stepAt recordStep finish argumentsFrom argumentsOf nameStep crateStep dependencyStep mapStep moduleStep childStep preludeStep definitionStep scopeStep importStep externStep memberStep textBound padded rows any all eqList
+any-longer = refl
