@@ -17,8 +17,8 @@ use Rattle.snapshot.specs.Records.{Map, mapAt, crateAt, dependencyAt, childAt, 
 use Rattle.snapshot.specs.Layouts.{crateBase, dependencyBase, childBase, preludeBase, definitionBase, scopeBase, importBase, externBase, memberBase, moduleMap, moduleHead, mapRoot, ownMap, moduleRow, namesOf, mapsOf, modulesOf, recordsOf, snapWith, snapOf, moduleTable, rootTable}
 use Rattle.snapshot.specs.declared.layout.Layout.{Layout}
 use Rattle.snapshot.proofs.Laws.{length-rows, getD-rows}
-use Rattle.record_rules.specs.Tests.{noMap, isOwn, isIn, mapsFilled, cratesOwn}
-use Rattle.accept.specs.Verdict.{refuse, accept, finish, verdict}
+use Rattle.check_rules.specs.Tests.{noMap, isOwn, isIn, mapsFilled, cratesOwn}
+use Rattle.check_rules.specs.Verdict.{refuse, accept, finish, verdict}
 use Rattle.record_rules.specs.Stands.{ownOf, Stands, Rooted}
 use Rattle.accept.specs.Post.{Judged}
 use Rattle.accept.specs.Ends.{Ended}

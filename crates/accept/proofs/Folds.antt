@@ -12,8 +12,8 @@ use Rattle.snapshot.specs.Words.{kindOf, argumentsAt}
 use Rattle.snapshot.specs.Records.{Map, Snapshot}
 use Rattle.snapshot.specs.Layouts.{noRecords, snapWith, tableWords}
 use Rattle.snapshot.specs.declared.layout.Layout.{Layout}
-use Rattle.record_rules.specs.Steps.{no, on}
-use Rattle.accept.specs.Verdict.{stepAt, refuse, finish, records, verdict}
+use Rattle.check_rules.specs.Steps.{no, on}
+use Rattle.check_rules.specs.Verdict.{stepAt, refuse, finish, records, verdict}
 use Rattle.record_rules.specs.Stands.{Here, Stands, Answered}
 use Rattle.accept.specs.Ends.{Ended}
 use Rattle.record_rules.proofs.Indexed.{indexes-none}

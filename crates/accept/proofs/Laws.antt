@@ -8,7 +8,7 @@ use lib.ListN.{length, getD}
 use lib.Dec.{eqb, ltb}
 use borrow.Author.Tests.{eq-eqb, ne-eqb, lt-ltb, le-ltb}
 use Rattle.snapshot.specs.Words.{kindOf}
-use Rattle.accept.specs.Verdict.{argumentsFrom}
+use Rattle.check_rules.specs.Verdict.{argumentsFrom}
 pub use Rattle.record_rules.proofs.Laws.{or-yes, or-no, and-no, and-yes}
 
 -- a loop over argument words

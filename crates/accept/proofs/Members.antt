@@ -8,8 +8,8 @@ use lib.Dec.{eqb, ltb}
 use lib.ListN.{length}
 use borrow.Author.Tests.{eqb-true, eq-eqb, ne-eqb, ltb-true}
 use Rattle.snapshot.specs.Records.{Snapshot, Definition, Member}
-use Rattle.record_rules.specs.Tests.{countsOf, noDefinition, kindOfDefinition, isMember, memberDefined, memberPlaced}
-use Rattle.accept.specs.Verdict.{accept, verdict}
+use Rattle.check_rules.specs.Tests.{countsOf, noDefinition, kindOfDefinition, isMember, memberDefined, memberPlaced}
+use Rattle.check_rules.specs.Verdict.{accept, verdict}
 use Rattle.accept.specs.Valid.{Each, none, definitionIn, Belongs}
 use Rattle.accept.proofs.Accepted.{Keeps, verdict-keeps}
 use Rattle.accept.proofs.Bools.{and-two, and-three, unless-right, or-right, length-snoc, getD-old, each-map, each-snoc}

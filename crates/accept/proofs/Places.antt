@@ -9,8 +9,8 @@ use lib.ListN.{length, getD}
 use borrow.Author.Tests.{eqb-true, eq-eqb, ltb-true}
 use Rattle.snapshot.specs.Lists.{any}
 use Rattle.snapshot.specs.Records.{Snapshot, Map, Module, Child, Definition, Scope, Import}
-use Rattle.record_rules.specs.Tests.{countsOf, noName, noMap, noModule, noDefinition, mapOf, kindOfDefinition, isIn, isOwn, mapsFilled, cratesOwn, childDefined, childPlaced, nsPlaced, mapRepeated, sameDefinition, definitionRepeated, sameName, sameChild, samePrelude, sameEntry, sameExtern, scopeDefined, importDefined}
-use Rattle.accept.specs.Verdict.{accept, verdict}
+use Rattle.check_rules.specs.Tests.{countsOf, noName, noMap, noModule, noDefinition, mapOf, kindOfDefinition, isIn, isOwn, mapsFilled, cratesOwn, childDefined, childPlaced, nsPlaced, mapRepeated, sameDefinition, definitionRepeated, sameName, sameChild, samePrelude, sameEntry, sameExtern, scopeDefined, importDefined}
+use Rattle.check_rules.specs.Verdict.{accept, verdict}
 use Rattle.accept.specs.Valid.{Each, none, Placed as PlacedIn, mapIn, parentIn, blockIn, crateIn, definitionIn, Under, MacroOnly, Owned, DefinedOnce, Once}
 use Rattle.accept.proofs.Accepted.{Keeps, keeps-of, verdict-keeps}
 use Rattle.accept.proofs.Bools.{and-two, and-four, and-five, unless-right, length-snoc, getD-old, getD-new, old-or-new, any-none, any-some, all-below, distinct-snoc, each-map, each-snoc}

@@ -7,7 +7,7 @@ use Rattle.snapshot.specs.Records.{crateAt, dependencyAt, mapAt, childAt, prelu
 use Rattle.snapshot.specs.Layouts.{crateBase, dependencyBase, childBase, preludeBase, definitionBase, scopeBase, importBase, externBase, memberBase, moduleRow, moduleHead, mapRoot, snapOf}
 use Rattle.snapshot.specs.declared.layout.Layout.{Layout}
 use Rattle.snapshot.proofs.Laws.{length-rows}
-use Rattle.record_rules.specs.Tests.{Counts, countsOf}
+use Rattle.check_rules.specs.Tests.{Counts, countsOf}
 use Rattle.record_rules.specs.Stands.{countsIn}
 use Rattle.accept.specs.Valid.{CrateFits, DependencyFits, MapFits, ModuleFits, ChildFits, PreludeFits, DefinitionFits, ScopeFits, ImportFits, ExternFits, MemberFits, Ranges, Valid}
 use Rattle.accept.proofs.Bools.{each-rows}

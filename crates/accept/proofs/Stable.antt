@@ -13,8 +13,8 @@ use Rattle.snapshot.specs.Records.{mapAt, crateAt, dependencyAt, childAt, prelu
 use Rattle.snapshot.specs.Layouts.{crateBase, dependencyBase, childBase, preludeBase, definitionBase, scopeBase, importBase, externBase, memberBase, moduleMap, moduleHead, mapRoot, ownMap, namesOf, mapsOf, modulesOf, recordsOf, snapOf, moduleTable, rootTable, crateTable, tableWords}
 use Rattle.snapshot.specs.declared.layout.Layout.{Layout}
 use Rattle.snapshot.proofs.Laws.{rows-ext}
-use Rattle.record_rules.specs.Tests.{noMap}
-use Rattle.accept.specs.Verdict.{accept}
+use Rattle.check_rules.specs.Tests.{noMap}
+use Rattle.check_rules.specs.Verdict.{accept}
 use Rattle.record_rules.specs.Stands.{ownOf}
 use Rattle.accept.specs.Post.{Tables, Reads, Judged, Checks, checkOf, outcome, Readable}
 use Rattle.accept.specs.declared.check.Checked.{Checked}

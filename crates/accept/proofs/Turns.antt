@@ -13,8 +13,8 @@ use Rattle.snapshot.specs.Sizes.{scopeSize}
 use Rattle.snapshot.specs.Records.{Map, Snapshot}
 use Rattle.snapshot.specs.Layouts.{snapWith}
 use Rattle.snapshot.specs.declared.layout.Layout.{Layout}
-use Rattle.record_rules.specs.Steps.{Next, no, need}
-use Rattle.accept.specs.Verdict.{follows, argumentsFrom, recordStep, stepAt}
+use Rattle.check_rules.specs.Steps.{Next, no, need}
+use Rattle.check_rules.specs.Verdict.{follows, argumentsFrom, recordStep, stepAt}
 use Rattle.record_rules.specs.Stands.{Here, Ready, Stands, Answered}
 use Rattle.record_rules.specs.declared.judge.Step.{Step}
 use Rattle.record_rules.proofs.Judged.{and-left, and-right}

@@ -3,7 +3,7 @@ use mathlib.Core.Path.{_≡_, refl}
 use Prim.Native.Nat.{ℕ}
 use mathlib.Core.List.{List}
 use Rattle.snapshot.specs.Records.{Snapshot}
-use Rattle.accept.specs.Verdict.{accept, verdict}
+use Rattle.check_rules.specs.Verdict.{accept, verdict}
 use Rattle.accept.specs.Valid.{Valid}
 use Rattle.accept.proofs.Ranges.{accepted-ranges, accepted-limits}
 use Rattle.accept.proofs.Trees.{accepted-tree, accepted-enums}

@@ -5,7 +5,7 @@ use mathlib.Core.List.{List}
 use lib.ListN.{length}
 use Rattle.snapshot.specs.Records.{Map}
 use Rattle.snapshot.specs.Layouts.{snapWith}
-use Rattle.accept.specs.Verdict.{refuse, finish, verdict}
+use Rattle.check_rules.specs.Verdict.{refuse, finish, verdict}
 use Rattle.record_rules.specs.Stands.{Stands}
 use Rattle.accept.specs.declared.check.Checked.{Checked}
 use Rattle.accept.specs.declared.check.Checked.the-variants.{Refused, Accepted}

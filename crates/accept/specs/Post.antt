@@ -11,8 +11,8 @@ use Rattle.snapshot.specs.Words.{payOf, wordsOf}
 use Rattle.snapshot.specs.Records.{mapAt}
 use Rattle.snapshot.specs.Layouts.{wordCount, nameHead, moduleMap, moduleHead, mapRoot, ownMap, mapsOf, snapOf}
 use Rattle.snapshot.specs.declared.layout.Layout.{Layout}
-use Rattle.accept.specs.Verdict.{Verdict, refuse, accept, verdict}
-use Rattle.record_rules.specs.Tests.{noMap}
+use Rattle.check_rules.specs.Verdict.{Verdict, refuse, accept, verdict}
+use Rattle.check_rules.specs.Tests.{noMap}
 use Rattle.record_rules.specs.Stands.{Limited, ownOf}
 use Rattle.accept.specs.declared.check.Checked.{Checked}
 use Rattle.accept.specs.declared.check.Checked.the-variants.{Refused, Accepted}

@@ -7,7 +7,7 @@ use lib.ListN.{length, getD}
 use Rattle.snapshot.specs.Limits.{wordLimit, crateLimit, moduleLimit, nameLimit, definitionLimit, namespaceLimit}
 use Rattle.snapshot.specs.Words.{kindOf}
 use Rattle.snapshot.specs.Records.{Name, Crate, Dependency, Map, Module, Child, Prelude, Definition, Scope, Import, Extern, Member, Snapshot, definitionAt, scopeAt, importAt, externAt}
-use Rattle.record_rules.specs.Tests.{Counts, countsOf, noName, noMap, noModule, noDefinition, isEdition, sameName, sameChild, samePrelude, sameEntry, sameExtern}
+use Rattle.check_rules.specs.Tests.{Counts, countsOf, noName, noMap, noModule, noDefinition, isEdition, sameName, sameChild, samePrelude, sameEntry, sameExtern}
 
 -- every element has P
 pub data Each {A : Type 0} (P : A → Type 0) : List A → Type 0 where

@@ -1,7 +1,7 @@
 //! The arguments of a record.
 ghost use mathlib.Core.Path.{_≡_};
 ghost use Prim.Native.Nat.{_+_, _^_, _<_};
-ghost use Rattle.accept.specs.Verdict.{argumentsFrom};
+ghost use Rattle.check_rules.specs.Verdict.{argumentsFrom};
 use snapshot::words::kind;
 
 /// Whether n argument words stand from a place on.

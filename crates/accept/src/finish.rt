@@ -7,7 +7,7 @@ ghost use lib.Dec.{eqb};
 ghost use Rattle.snapshot.specs.Lists.{rows, any, all};
 ghost use Rattle.snapshot.specs.Limits.{crateLimit, moduleLimit, areaLimit};
 ghost use Rattle.snapshot.specs.Layouts.{modulesOf, moduleMap, ownMap};
-ghost use Rattle.record_rules.specs.Tests.{isIn};
+ghost use Rattle.check_rules.specs.Tests.{isIn};
 ghost use Rattle.record_rules.specs.Stands.{Rooted};
 use module_records::modules::has_module;
 use snapshot::ids::Crate;

@@ -6,7 +6,7 @@ ghost use lib.ListN.{getD};
 ghost use Rattle.snapshot.specs.Words.{kindOf, argumentsAt};
 ghost use Rattle.snapshot.specs.Records.{Map};
 ghost use Rattle.snapshot.specs.Layouts.{snapWith};
-ghost use Rattle.accept.specs.Verdict.{follows as followsOf, recordStep, stepAt};
+ghost use Rattle.check_rules.specs.Verdict.{follows as followsOf, recordStep, stepAt};
 ghost use Rattle.record_rules.specs.Stands.{Ready, Here, Stands, Answered};
 use crate::arguments::arguments_from;
 use record_rules::judge::Step;

@@ -8,7 +8,7 @@ use lib.ListN.{length, drop}
 use Rattle.snapshot.specs.Limits.{areaLimit, lineLimit}
 use Rattle.snapshot.specs.Refusals.{areaRefusal}
 use Rattle.snapshot.specs.Records.{Snapshot}
-use Rattle.accept.specs.Verdict.{verdict}
+use Rattle.check_rules.specs.Verdict.{verdict}
 use Rattle.printing.specs.Output.{Put}
 use Rattle.printing.proofs.Laws.{put-as, put-whole}
 use Rattle.find_path.specs.declared.Question.{Question}

@@ -11,8 +11,9 @@ use Rattle.find_path.specs.declared.Query.{Query}
 use Rattle.find_path.specs.declared.Question.{Question}
 use Rattle.find_path.specs.declared.Report.{Report}
 use Rattle.find_path.specs.Report.{refused, reportOf}
-use Rattle.find_path.specs.Fuels.{IsRefused, Compared, reportAt}
-use Rattle.find_path.proofs.Fuels.{fuels-compared}
+use Rattle.search_laws.specs.Fuels.{IsRefused, Compared}
+use Rattle.find_path.specs.Report.{reportAt}
+use Rattle.search_laws.proofs.Fuels.{fuels-compared}
 use Rattle.answer.specs.Answers.{Answers}
 use Rattle.answer.specs.Twice.{FuelsTold, AnswersTwice}
 use Rattle.answer.specs.declared.twice.Reports.{Reports}

@@ -6,7 +6,7 @@ use mathlib.Core.Bool.{true, false}
 use lib.Dec.{ltb}
 use lib.ListN.{length, drop}
 use Rattle.snapshot.specs.Limits.{lineLimit}
-use Rattle.accept.specs.Verdict.{verdict}
+use Rattle.check_rules.specs.Verdict.{verdict}
 use Rattle.find_path.specs.declared.Question.{Question}
 use Rattle.find_path.specs.Report.{reportOf}
 use Rattle.find_path.specs.Line.{bytesOf, lineIn, snapshotOf}

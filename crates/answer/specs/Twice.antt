@@ -4,11 +4,11 @@ use mathlib.Core.Path.{_≡_}
 use mathlib.Core.List.{List}
 use mathlib.Core.Logic.{_↔_}
 use Rattle.snapshot.specs.Records.{Snapshot}
-use Rattle.accept.specs.Verdict.{accept, verdict}
+use Rattle.check_rules.specs.Verdict.{accept, verdict}
 use Rattle.find_path.specs.declared.Query.{Query}
 use Rattle.find_path.specs.declared.Report.{Report}
 use Rattle.find_path.specs.Report.{searchedFreely}
-use Rattle.find_path.specs.Fuels.{IsRefused, Tells}
+use Rattle.search_laws.specs.Fuels.{IsRefused, Tells}
 use Rattle.answer.specs.Answers.{Answers}
 use Rattle.answer.specs.declared.twice.Reports.{Reports}
 

@@ -5,7 +5,7 @@ use mathlib.Core.List.{List, [], _∷_}
 use lib.ListN.{length, getD, replicate}
 use Rattle.snapshot.specs.Limits.{pathLimit}
 use Rattle.snapshot.specs.Records.{Snapshot}
-use Rattle.accept.specs.Verdict.{Verdict, refuse, accept, verdict}
+use Rattle.check_rules.specs.Verdict.{Verdict, refuse, accept, verdict}
 use Rattle.hir_def.specs.Items.{itemOf}
 use Rattle.nameable.specs.Paths.{namesIn, namesOf, routeOf}
 use Rattle.nameable.specs.Breadth.{AnyPath, found, longer, nowhere, anyPath}

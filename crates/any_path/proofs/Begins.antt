@@ -14,8 +14,8 @@ use Rattle.snapshot.specs.declared.layout.Layout.{Layout}
 use Rattle.accept.specs.Post.{Reads}
 use Rattle.accept.specs.Valid.{Valid}
 use Rattle.accept.proofs.Valid.{accepted-valid}
-use Rattle.module_tree.specs.Modules.{parentOf, crateRoot}
-use Rattle.module_tree.specs.Privately.{moduleAround}
+use Rattle.tree_rules.specs.Modules.{parentOf, crateRoot}
+use Rattle.tree_rules.specs.Privately.{moduleAround}
 use Rattle.module_tree.proofs.Laws.{by-number}
 use Rattle.module_tree.proofs.Chains.{parent-fits}
 use Rattle.module_tree.proofs.Roots.{crate-root-known}

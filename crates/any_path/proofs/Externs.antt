@@ -15,14 +15,14 @@ use Rattle.snapshot.specs.Layouts.{externBase, snapOf}
 use Rattle.snapshot.specs.declared.layout.Layout.{Layout}
 use Rattle.snapshot.proofs.Laws.{rows-next, rows-none, rows-whole}
 use Rattle.accept.specs.Post.{Reads}
-use Rattle.accept.specs.Tests.{sameExtern}
-use Rattle.accept.specs.Stands.{countsIn}
+use Rattle.check_rules.specs.Tests.{sameExtern}
+use Rattle.record_rules.specs.Stands.{countsIn}
 use Rattle.accept.specs.Valid.{Valid, ExternFits}
 use Rattle.accept.proofs.Accepted.{by-test}
 use Rattle.accept.proofs.Bools.{and-two}
 use Rattle.accept.proofs.Reading.{extern-read}
 use Rattle.accept.proofs.Valid.{accepted-valid}
-use Rattle.module_tree.specs.Modules.{crateOf}
+use Rattle.tree_rules.specs.Modules.{crateOf}
 use Rattle.hir_def.specs.Finds.{select}
 use Rattle.hir_def.specs.Items.{types, crateData, moduleItem}
 use Rattle.hir_def.specs.declared.Item.{Item}

@@ -9,7 +9,7 @@ use lib.Dec.{eqb}
 use Rattle.snapshot.specs.Records.{Snapshot}
 use Rattle.accept.proofs.Accepted.{by-test}
 use Rattle.accept.proofs.Bools.{each-rows}
-use Rattle.module_tree.specs.Modules.{crateOf}
+use Rattle.tree_rules.specs.Modules.{crateOf}
 use Rattle.hir_def.specs.Finds.{firstOf}
 use Rattle.hir_def.specs.Items.{types, crateData, moduleItem}
 use Rattle.hir_def.specs.declared.Item.{Item}

@@ -25,8 +25,8 @@ use Rattle.accept.specs.Valid.{Each, more, Valid}
 use Rattle.accept.proofs.Accepted.{by-test}
 use Rattle.accept.proofs.Trees.{accepted-tree}
 use Rattle.accept.proofs.Valid.{accepted-valid}
-use Rattle.module_tree.specs.Modules.{mapNo, crateOf}
-use Rattle.module_tree.specs.Privately.{blockStep}
+use Rattle.tree_rules.specs.Modules.{mapNo, crateOf}
+use Rattle.tree_rules.specs.Privately.{blockStep}
 use Rattle.module_tree.proofs.Laws.{Falls}
 use Rattle.module_tree.proofs.Reading.{length-modules}
 use Rattle.hir_def.specs.Finds.{firstOf, firstSome, orFirst, select}
@@ -44,7 +44,7 @@ use Rattle.nameable.proofs.Plenty.{plenty}
 use Rattle.nameable.proofs.Reached.{each-append, each-in, named-in}
 use Rattle.nameable.proofs.Queue.{added-append, first-of-append}
 use Rattle.nameable.proofs.Lookups.{named-seen, first-mapped}
-use Rattle.read_back.specs.Reads.{externNamed as externOfName}
+use Rattle.readings.specs.Reads.{externNamed as externOfName}
 use Rattle.seen_entries.proofs.Laws.{step-falls}
 use Rattle.any_path.specs.Rows.{pathFrom, pathAt, runAt, Run, Stays, Grown, Offered, leadsOn, nameIf}
 use Rattle.any_path.specs.Plain.{scopesNamed, externsNamed, namedIn, preludeNamed, moduleNo, moduleIn, isModule, namesAlone}

@@ -14,7 +14,7 @@ use Rattle.snapshot.specs.Layouts.{scopeBase, snapOf}
 use Rattle.snapshot.specs.declared.layout.Layout.{Layout}
 use Rattle.snapshot.proofs.Laws.{rows-next, rows-none, rows-whole}
 use Rattle.accept.specs.Post.{Reads}
-use Rattle.accept.specs.Stands.{countsIn}
+use Rattle.record_rules.specs.Stands.{countsIn}
 use Rattle.accept.specs.Valid.{ScopeFits}
 use Rattle.accept.proofs.Bools.{and-two}
 use Rattle.accept.proofs.Stable.{snap-stays, reads-stay}

@@ -5,7 +5,7 @@ use mathlib.Core.Bool.{Bool, true, false}
 use mathlib.Core.Option.{Option, none, some}
 use lib.Dec.{eqb}
 use Rattle.snapshot.specs.Records.{Snapshot, Scope, Prelude, Extern, scopeAt, externAt}
-use Rattle.module_tree.specs.Modules.{mapNo, crateOf}
+use Rattle.tree_rules.specs.Modules.{mapNo, crateOf}
 use Rattle.hir_def.specs.Finds.{firstSome, select}
 use Rattle.hir_def.specs.Items.{types}
 use Rattle.hir_def.specs.Nameres.{preludeOf}
@@ -13,7 +13,7 @@ use Rattle.hir_def.specs.declared.Item.{Item}
 use Rattle.hir_def.specs.declared.Item.the-variants.{Mod, Def}
 use Rattle.nameable.specs.Paths.{Path, plain, Named, asNamed, externNamed, scopesFrom}
 use Rattle.nameable.specs.Queue.{seenNamed}
-use Rattle.read_back.specs.Reads.{externNamed as externOfName}
+use Rattle.readings.specs.Reads.{externNamed as externOfName}
 use Rattle.any_path.specs.declared.plain.Reading.{Reading}
 use Rattle.any_path.specs.declared.plain.Reading.the-variants.{Scope as ByScope, Extern as ByExtern, Nothing}
 

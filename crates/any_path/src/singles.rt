@@ -5,7 +5,7 @@ ghost use Prim.Native.Nat.{_<_};
 ghost use Rattle.snapshot.specs.Records.{externAt};
 ghost use Rattle.snapshot.specs.Layouts.{snapOf};
 ghost use Rattle.accept.specs.Post.{Reads};
-ghost use Rattle.accept.specs.Stands.{countsIn};
+ghost use Rattle.record_rules.specs.Stands.{countsIn};
 ghost use Rattle.accept.specs.Valid.{ExternFits};
 ghost use Rattle.hir_def.specs.Items.{types};
 ghost use Rattle.nameable.specs.Breadth.{added, single};

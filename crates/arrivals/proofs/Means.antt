@@ -13,8 +13,8 @@ use Rattle.snapshot.specs.declared.layout.Layout.{Layout}
 use Rattle.accept.specs.Post.{Reads}
 use Rattle.accept.specs.Valid.{Each, Valid}
 use Rattle.accept.proofs.Valid.{accepted-valid}
-use Rattle.module_tree.specs.Modules.{mapNo}
-use Rattle.module_tree.specs.Privately.{blockStep}
+use Rattle.tree_rules.specs.Modules.{mapNo}
+use Rattle.tree_rules.specs.Privately.{blockStep}
 use Rattle.module_tree.proofs.Laws.{Falls}
 use Rattle.module_tree.proofs.Reading.{length-modules}
 use Rattle.hir_def.specs.Finds.{firstOf, firstSome, orFirst}

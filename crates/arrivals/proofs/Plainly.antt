@@ -10,7 +10,7 @@ use Rattle.snapshot.specs.Records.{Snapshot, Scope, Prelude}
 use Rattle.accept.specs.Valid.{Each, more}
 use Rattle.accept.proofs.Accepted.{by-test}
 use Rattle.accept.proofs.Bools.{and-two, each-map, each-snoc}
-use Rattle.module_tree.specs.Modules.{mapNo}
+use Rattle.tree_rules.specs.Modules.{mapNo}
 use Rattle.hir_def.specs.Finds.{firstOf, firstSome, orFirst}
 use Rattle.hir_def.specs.Items.{nsOf, itemOf, sameItem, definedItem}
 use Rattle.hir_def.specs.ItemScope.{isFor}

@@ -7,7 +7,7 @@ use mathlib.Core.Option.{Option, none, some}
 use lib.Dec.{eqb}
 use lib.ListN.{getD}
 use Rattle.snapshot.specs.Records.{Snapshot, Scope, Prelude}
-use Rattle.module_tree.specs.Modules.{mapNo}
+use Rattle.tree_rules.specs.Modules.{mapNo}
 use Rattle.hir_def.specs.Finds.{firstOf, firstSome, orFirst}
 use Rattle.hir_def.specs.Items.{types, nsOf}
 use Rattle.hir_def.specs.ItemScope.{isFor}

@@ -7,7 +7,7 @@ use native.Mathlib.Omega.{arith}
 use lib.Dec.{ltb}
 use Rattle.snapshot.specs.Limits.{areaLimit}
 use Rattle.snapshot.specs.Refusals.{areaRefusal}
-use Rattle.accept.specs.Verdict.{Verdict, refuse, verdict}
+use Rattle.check_rules.specs.Verdict.{Verdict, refuse, verdict}
 use Rattle.accept.specs.Post.{checkOf}
 use Rattle.accept.proofs.Refused.{verdict-number}
 

@@ -6,7 +6,7 @@ use mathlib.Core.List.{List, [], _∷_, _++_}
 use lib.Dec.{eqb}
 use lib.ListN.{length, replicate}
 use Rattle.snapshot.specs.Lists.{all, eqList}
-use Rattle.accept.specs.Worked.{worked}
+use Rattle.check_rules.specs.Worked.{worked}
 use Rattle.find_path.proofs.Worked.{passes}
 use Rattle.reports.specs.Written.{reportWords}
 use Rattle.questions.specs.Questions.{questionsOf}

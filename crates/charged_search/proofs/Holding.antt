@@ -22,16 +22,16 @@ use Rattle.find_path.specs.declared.Drawn.{Drawn}
 use Rattle.find_path.specs.declared.Drawn.the-variants.{Go}
 use Rattle.find_path.specs.declared.Found.{Found}
 use Rattle.find_path.specs.declared.FindPathCtx.{FindPathCtx}
-use Rattle.find_path.specs.Choices.{nothing, extended, push, unstably, better, trySelect, lengthLeft}
+use Rattle.path_choices.specs.Choices.{nothing, extended, push, unstably, better, trySelect, lengthLeft}
 use Rattle.find_path.specs.Rules.{moduleIn}
 use Rattle.find_path.specs.Local.{offer}
 use Rattle.find_path.specs.Meters.{go, draw, fromTank}
 use Rattle.find_path.specs.Conditions.{chargedBy}
 use Rattle.find_path.specs.Charged.{Out, foundOf, oneOrNone, offerImport, findImport, findImports, findInDep, findInDeps}
-use Rattle.find_path.proofs.Unfold.{length-falls}
-use Rattle.find_path.proofs.Tanks.{module-sum}
-use Rattle.find_path.proofs.Bounds.{module-search-fits}
-use Rattle.find_path.proofs.Tables.{names-short}
+use Rattle.search_laws.proofs.Unfold.{length-falls}
+use Rattle.search_laws.proofs.Tanks.{module-sum}
+use Rattle.search_laws.proofs.Bounds.{module-search-fits}
+use Rattle.search_laws.proofs.Tables.{names-short}
 use Rattle.charged_search.specs.Parts.{modules, oneImport, imports, dependencies, inLang, Held}
 
 abbrev Few : ℕ → Choice → Type 0

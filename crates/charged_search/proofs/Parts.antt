@@ -19,13 +19,13 @@ use Rattle.find_path.specs.declared.Drawn.{Drawn}
 use Rattle.find_path.specs.declared.Drawn.the-variants.{Go, Stop}
 use Rattle.find_path.specs.declared.Found.{Found}
 use Rattle.find_path.specs.declared.FindPathCtx.{FindPathCtx}
-use Rattle.find_path.specs.Choices.{nothing, lengthLeft}
+use Rattle.path_choices.specs.Choices.{nothing, lengthLeft}
 use Rattle.find_path.specs.Rules.{moduleRules, soughtOf}
 use Rattle.find_path.specs.Meters.{Charged, go, stop, fromTank}
 use Rattle.find_path.specs.Conditions.{chargedBy}
 use Rattle.find_path.specs.Charged.{Out, foundOf, isStable, langs, oneOrNone, isAt, offerImport, findImport, findInDep, findInDeps, findInSysroot, goOn, afterCharge, calculateBestPath, orCharged, findPathForModule}
 use Rattle.find_path.specs.Search.{bestLocal, moduleTo, searchModule}
-use Rattle.find_path.proofs.Unfold.{module-more}
+use Rattle.search_laws.proofs.Unfold.{module-more}
 use Rattle.charged_search.specs.Parts.{modules, bestPath, oneImport, imports, dependencies, sysroot, inLang}
 
 -- an answer of the code, from its parts

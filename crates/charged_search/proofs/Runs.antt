@@ -18,10 +18,10 @@ use Rattle.path_choices.specs.declared.Choice.{Choice}
 use Rattle.find_path.specs.declared.Tank.{Tank}
 use Rattle.find_path.specs.declared.Found.{Found}
 use Rattle.find_path.specs.declared.FindPathCtx.{FindPathCtx}
-use Rattle.find_path.specs.Choices.{lengthLeft}
+use Rattle.path_choices.specs.Choices.{lengthLeft}
 use Rattle.find_path.specs.Charged.{Out, foundOf, isStable, offerImport, findImports, findInDep, findInDeps}
 use Rattle.find_path.specs.Conditions.{Prepared, Searched}
-use Rattle.find_path.proofs.Tables.{same-snap, same-prepared}
+use Rattle.search_laws.proofs.Tables.{same-snap, same-prepared}
 use Rattle.charged_search.specs.Parts.{outOf, modules, oneImport, imports, dependencies, sysroot, inLang, Begun, Held}
 use Rattle.charged_search.proofs.Parts.{found, lang-next, rest-more, import-seen}
 use Rattle.charged_search.proofs.Holding.{held-import, held-imports, held-deps, held-lang}

@@ -6,7 +6,7 @@ ghost use Rattle.snapshot.specs.Ids.{plusOne};
 ghost use Rattle.snapshot.specs.Limits.{pathLimit};
 ghost use Rattle.snapshot.specs.Layouts.{snapOf};
 ghost use Rattle.snapshot.specs.Records.{importAt};
-ghost use Rattle.accept.specs.Stands.{countsIn};
+ghost use Rattle.record_rules.specs.Stands.{countsIn};
 ghost use Rattle.accept.specs.Post.{Reads};
 ghost use Rattle.accept.specs.Valid.{ImportFits};
 ghost use Rattle.hir_def.specs.Nameres.{dependenciesOf, bySysroot};

@@ -14,7 +14,7 @@ use Rattle.snapshot.specs.Refusals.{formRefusal, bytesRefusal, restRefusal}
 use Rattle.snapshot.specs.Layouts.{snapOf}
 use Rattle.snapshot.specs.declared.layout.Layout.{Layout}
 use Rattle.snapshot.proofs.Laws.{length-rows}
-use Rattle.accept.specs.Verdict.{refuse, accept, verdict}
+use Rattle.check_rules.specs.Verdict.{refuse, accept, verdict}
 use Rattle.accept.specs.Post.{checkOf, outcome}
 use Rattle.accept.specs.declared.check.Checked.{Checked}
 use Rattle.printing.specs.Output.{Put, bytesOf}

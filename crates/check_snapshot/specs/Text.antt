@@ -5,7 +5,7 @@ use mathlib.Core.List.{List, _++_}
 use lib.Dec.{eqb, ltb}
 use lib.ListN.{length, getD}
 use Rattle.snapshot.specs.Refusals.{formRefusal}
-use Rattle.accept.specs.Verdict.{Verdict, refuse, accept}
+use Rattle.check_rules.specs.Verdict.{Verdict, refuse, accept}
 use Rattle.printing.specs.Output.{bytesOf}
 use Rattle.wording.specs.Text.{refusal, askedThere, line, firstLines, lastLines}
 

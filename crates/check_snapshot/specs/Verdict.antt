@@ -6,7 +6,7 @@ use lib.Dec.{eqb, leb}
 use lib.ListN.{length}
 use Rattle.snapshot.specs.Limits.{wordLimit, inputLimit}
 use Rattle.snapshot.specs.Refusals.{bytesRefusal, restRefusal}
-use Rattle.accept.specs.Verdict.{Verdict, refuse, verdict}
+use Rattle.check_rules.specs.Verdict.{Verdict, refuse, verdict}
 use Rattle.printing.specs.Input.{wordsIn}
 
 -- the whole words of the bytes

@@ -14,7 +14,7 @@ use Rattle.snapshot.specs.Records.{Snapshot}
 use Rattle.snapshot.specs.Layouts.{snapOf, tableWords}
 use Rattle.snapshot.specs.declared.layout.Layout.{Layout}
 use Rattle.snapshot.proofs.Laws.{length-rows}
-use Rattle.accept.specs.Verdict.{refuse, accept, verdict}
+use Rattle.check_rules.specs.Verdict.{refuse, accept, verdict}
 use Rattle.accept.specs.Post.{Reads, Judged, Checks, checkOf, outcome, Readable}
 use Rattle.accept.specs.declared.check.Checked.{Checked}
 use Rattle.accept.specs.declared.check.Checked.the-variants.{Refused, Accepted}
@@ -26,7 +26,7 @@ use Rattle.find_path.specs.declared.Query.{Query}
 use Rattle.find_path.specs.declared.Question.{Question}
 use Rattle.find_path.specs.declared.Report.{Report}
 use Rattle.find_path.specs.Report.{callFault, questionFault, refused, reported, searched, answerUnless, reportBy, reportUnless, reportOf}
-use Rattle.find_path.proofs.Refusals.{call-allowed}
+use Rattle.search_laws.proofs.Refusals.{call-allowed}
 use Rattle.checked.specs.Order.{earlierOf, numberOf}
 
 -- faults of a call

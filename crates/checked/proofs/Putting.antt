@@ -6,7 +6,7 @@ use Rattle.snapshot.specs.Limits.{areaLimit}
 use Rattle.snapshot.specs.Records.{Snapshot}
 use Rattle.snapshot.specs.Layouts.{snapOf}
 use Rattle.snapshot.specs.declared.layout.Layout.{Layout}
-use Rattle.accept.specs.Verdict.{Verdict, refuse, verdict}
+use Rattle.check_rules.specs.Verdict.{Verdict, refuse, verdict}
 use Rattle.accept.specs.Post.{Judged}
 use Rattle.accept.specs.declared.check.Checked.{Checked}
 use Rattle.accept.specs.declared.check.Checked.the-variants.{Refused, Accepted}
@@ -16,7 +16,7 @@ use Rattle.find_path.specs.declared.Question.{Question}
 use Rattle.find_path.specs.declared.Report.{Report}
 use Rattle.find_path.specs.Report.{callFault, refused, reportBy, reportUnless, reportOf}
 use Rattle.find_path.specs.Line.{bytesOf, lineIn, lineOf, snapshotOf}
-use Rattle.find_path.proofs.Reports.{report-bounded}
+use Rattle.search_laws.proofs.Reports.{report-bounded}
 use Rattle.checked.specs.Questioned.{Questioned}
 use Rattle.checked.specs.Lines.{LineOn}
 

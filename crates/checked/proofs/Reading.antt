@@ -8,7 +8,7 @@ use Rattle.snapshot.specs.Limits.{pathLimit}
 use Rattle.snapshot.specs.Records.{Snapshot}
 use Rattle.hir_def.specs.Items.{types, builtinKind, definitionOf, itemOf}
 use Rattle.hir_def.specs.declared.Item.{Item}
-use Rattle.read_back.specs.Reads.{readsBack}
+use Rattle.readings.specs.Reads.{readsBack}
 use Rattle.path_choices.specs.declared.Choice.{Choice}
 use Rattle.find_path.specs.declared.Found.{Found}
 use Rattle.find_path.specs.declared.Query.{Query}
@@ -16,7 +16,7 @@ use Rattle.find_path.specs.declared.Tank.{Tank}
 use Rattle.find_path.specs.Meters.{fromTank, filled}
 use Rattle.find_path.specs.Charged.{foundOf}
 use Rattle.find_path.specs.Report.{misleads, searched}
-use Rattle.find_path.proofs.Bounds.{search-fits}
+use Rattle.search_laws.proofs.Bounds.{search-fits}
 
 -- asked for by the bit a, found b, a builtin c, and whether it reads back
 

@@ -5,7 +5,7 @@ ghost use lib.ListN.{length, take};
 ghost use Rattle.snapshot.specs.Limits.{pathLimit, fuelLimit, areaLimit, namespaceLimit};
 ghost use Rattle.snapshot.specs.Layouts.{tableWords, snapOf};
 ghost use Rattle.accept.specs.Post.{Reads, Judged};
-ghost use Rattle.accept.specs.Verdict.{verdict};
+ghost use Rattle.check_rules.specs.Verdict.{verdict};
 ghost use Rattle.find_path.specs.Report.{questionFault, answerUnless, reportBy};
 ghost use Rattle.checked.specs.Questioned.{Questioned};
 use crate::faults::call_fault;

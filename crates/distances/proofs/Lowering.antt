@@ -20,7 +20,7 @@ use Rattle.accept.specs.Valid.{Each, none, more}
 use Rattle.accept.proofs.Accepted.{by-test}
 use Rattle.accept.proofs.Bools.{each-map}
 use Rattle.find_path.specs.declared.FindPathCtx.{FindPathCtx}
-use Rattle.find_path.proofs.Tables.{same-snap, same-reads}
+use Rattle.search_laws.proofs.Tables.{same-snap, same-reads}
 use Rattle.distances.specs.Distances.{distance, Named, Stepped, Ruled}
 use Rattle.distances.specs.Post.{Ready, Far, Numbered, Rooted, Lowers, Smaller, Passed}
 

@@ -18,7 +18,7 @@ use Rattle.snapshot.specs.Records.{Snapshot, Scope, Prelude, scopeAt}
 use Rattle.snapshot.specs.Layouts.{tableWords, scopeBase, snapOf}
 use Rattle.snapshot.specs.declared.layout.Layout.{Layout}
 use Rattle.accept.specs.Post.{Reads}
-use Rattle.accept.specs.Stands.{countsIn}
+use Rattle.record_rules.specs.Stands.{countsIn}
 use Rattle.accept.specs.Valid.{Each, more, ScopeFits, PreludeFits}
 use Rattle.accept.proofs.Accepted.{by-test}
 use Rattle.hir_def.specs.Items.{crateRoot, itemOf, parentOf, crateOf, inBlock, blockOf, rootOf, mapNo, moduleItem, definedItem}
@@ -31,9 +31,9 @@ use Rattle.hir_def.proofs.Fits.{item-known}
 use Rattle.hir_def.proofs.Reading.{length-modules}
 use Rattle.hir_def.specs.Entries.{Known}
 use Rattle.find_path.specs.declared.FindPathCtx.{FindPathCtx}
-use Rattle.find_path.specs.Choices.{nothing}
+use Rattle.path_choices.specs.Choices.{nothing}
 use Rattle.find_path.specs.Rules.{moduleIn, mayBeInScope, parentKind, isKwKindRelativeToFrom, keywordOf}
-use Rattle.find_path.proofs.Tables.{same-snap, same-reads}
+use Rattle.search_laws.proofs.Tables.{same-snap, same-reads}
 use Rattle.distances.specs.Distances.{distance, Named, isKeyword}
 use Rattle.distances.specs.Post.{Ready, Rooted, Marked, Lowers}
 use Rattle.distances.proofs.Lowering.{rows-each, lowers-same, lowers-then, lowers-snap, lowers-ready, lowers-far, set-lowers, distances-less, named-less, all-less}

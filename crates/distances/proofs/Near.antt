@@ -20,7 +20,7 @@ use Rattle.hir_def.specs.declared.Item.{Item}
 use Rattle.hir_def.proofs.Fresh.{preferred-has}
 use Rattle.path_choices.specs.declared.Choice.{Choice}
 use Rattle.find_path.specs.declared.FindPathCtx.{FindPathCtx}
-use Rattle.find_path.specs.Choices.{nothing}
+use Rattle.path_choices.specs.Choices.{nothing}
 use Rattle.find_path.specs.Rules.{firstFound, single, findInScope, mayBeInScope, scopeRule, isUsable, preludeEntry, inPrelude, findInPrelude, preludeRule, rootRule, keywordOf, isKwKindRelativeToFrom, moduleRules}
 use Rattle.find_path.specs.Local.{isImportable, entryIf, importableName}
 use Rattle.read_back.proofs.Exact.{same-item}

@@ -15,7 +15,7 @@ use Rattle.snapshot.specs.Records.{Snapshot, Scope, scopeAt}
 use Rattle.snapshot.specs.Layouts.{tableWords, scopeBase, snapOf}
 use Rattle.snapshot.specs.declared.layout.Layout.{Layout}
 use Rattle.accept.specs.Post.{Reads}
-use Rattle.accept.specs.Stands.{countsIn}
+use Rattle.record_rules.specs.Stands.{countsIn}
 use Rattle.accept.specs.Valid.{Each, ScopeFits}
 use Rattle.accept.proofs.Valid.{accepted-valid}
 use Rattle.accept.proofs.Bools.{each-map}
@@ -26,7 +26,7 @@ use Rattle.hir_def.specs.declared.Item.{Item}
 use Rattle.hir_def.proofs.Fits.{item-known}
 use Rattle.find_path.specs.declared.FindPathCtx.{FindPathCtx}
 use Rattle.find_path.specs.Local.{isImportable}
-use Rattle.find_path.proofs.Tables.{same-snap, same-reads}
+use Rattle.search_laws.proofs.Tables.{same-snap, same-reads}
 use Rattle.search_laws.proofs.Fewer.{either, or-both}
 use Rattle.distances.specs.Distances.{distance, Bounds, Stepped, Ruled, Closed}
 use Rattle.distances.specs.Post.{Ready, Far, Numbered, Marked, Lowers, Smaller, Passed, Bounded}

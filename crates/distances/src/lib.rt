@@ -8,7 +8,7 @@ ghost use lib.ListN.{length};
 ghost use Rattle.snapshot.specs.Limits.{moduleLimit, areaLimit};
 ghost use Rattle.snapshot.specs.Records.{Prelude, scopeAt};
 ghost use Rattle.snapshot.specs.Layouts.{snapOf};
-ghost use Rattle.accept.specs.Stands.{countsIn};
+ghost use Rattle.record_rules.specs.Stands.{countsIn};
 ghost use Rattle.accept.specs.Valid.{Each, ScopeFits};
 ghost use Rattle.hir_def.specs.Items.{mapNo};
 ghost use Rattle.hir_def.specs.Nameres.{ancestorMaps, preludeOf};

@@ -6,10 +6,10 @@ use lib.ListN.{take, drop, replicate}
 use Rattle.snapshot.specs.Lists.{rows, any, all, eqList}
 use Rattle.snapshot.specs.Words.{argumentsOf}
 use Rattle.record_rules.specs.Stands.{numberOf}
-use Rattle.accept.specs.Tests.{textBound, padded}
-use Rattle.accept.specs.Steps.{nameStep, crateStep, dependencyStep, mapStep, moduleStep, childStep, preludeStep, definitionStep, scopeStep, importStep, externStep, memberStep}
-use Rattle.accept.specs.Verdict.{argumentsFrom, recordStep, stepAt, finish, records, verdict}
-use Rattle.accept.specs.Worked.{worked, workedSnapshot}
+use Rattle.check_rules.specs.Tests.{textBound, padded}
+use Rattle.check_rules.specs.Steps.{nameStep, crateStep, dependencyStep, mapStep, moduleStep, childStep, preludeStep, definitionStep, scopeStep, importStep, externStep, memberStep}
+use Rattle.check_rules.specs.Verdict.{argumentsFrom, recordStep, stepAt, finish, records, verdict}
+use Rattle.check_rules.specs.Worked.{worked, workedSnapshot}
 use Rattle.edit_rules.specs.Entries.{scopeWords, firstFrom, scopesEnd, entryPlace}
 use Rattle.edit_rules.specs.Edits.{Edit, refusedBy, edited, Operation, adding, removing, addNumber, editFault, editedWords, editUnless, editBy, editWithin, editOf}
 use Rattle.edit_rules.specs.Written.{eachWords, treeWords, joined, snapshotWords}

@@ -11,7 +11,7 @@ use Rattle.snapshot.specs.Sizes.{scopeSize}
 use Rattle.snapshot.specs.Records.{Scope, Snapshot}
 use Rattle.check_rules.specs.Tests.{countsOf, scopeRange, scopeDefined, nsPlaced}
 use Rattle.record_rules.specs.Stands.{numberOf}
-use Rattle.accept.specs.Verdict.{Verdict, refuse, accept, verdict}
+use Rattle.check_rules.specs.Verdict.{Verdict, refuse, accept, verdict}
 use Rattle.edit_rules.specs.Entries.{scopeWords, isNamed, higher, lower, placed, withScopes, without, scopesEnd, entryPlace, inserted, cut}
 
 pub data Edit : Type 0 where

@@ -5,13 +5,13 @@ use mathlib.Core.List.{List, [], _∷_, _++_, map, map-append}
 use mathlib.Core.Bool.{Bool, true, false}
 use lib.ListN.{take}
 use Rattle.snapshot.specs.Records.{Snapshot, Scope, Import, Extern}
-use Rattle.accept.specs.Verdict.{accept, verdict}
+use Rattle.check_rules.specs.Verdict.{accept, verdict}
 use Rattle.accept.proofs.Accepted.{by-test}
 use Rattle.find_path.specs.declared.Question.{Question}
 use Rattle.find_path.specs.Report.{reportOf}
-use Rattle.scope_edits.specs.Entries.{isNamed, higher, lower, movedScope, movedImport, movedExtern, placed, withLists, withScopes, without, scopesEnd, scopeWords}
-use Rattle.scope_edits.specs.Edits.{Edit, refusedBy, edited, Operation, adding, removing, editedSnapshot}
-use Rattle.scope_edits.specs.Written.{importWords, externWords, eachWords, joined, snapshotWords, wordsWith}
+use Rattle.edit_rules.specs.Entries.{isNamed, higher, lower, movedScope, movedImport, movedExtern, placed, withLists, withScopes, without, scopesEnd, scopeWords}
+use Rattle.edit_rules.specs.Edits.{Edit, refusedBy, edited, Operation, adding, removing, editedSnapshot}
+use Rattle.edit_rules.specs.Written.{importWords, externWords, eachWords, joined, snapshotWords, wordsWith}
 use Rattle.scope_edits.proofs.Written.{accepted-written}
 use Rattle.edits.specs.Runs.{Held, ownWords, after, editIn, afterRun, snapshotBy, snapshotAfter, removed, entriesBy, entriesAfter}
 use Rattle.edits.proofs.Fresh.{run-snapshot}

@@ -12,15 +12,15 @@ use Rattle.snapshot.specs.Limits.{areaLimit}
 use Rattle.snapshot.specs.Refusals.{areaRefusal, wordsRefusal}
 use Rattle.snapshot.specs.Sizes.{scopeSize}
 use Rattle.snapshot.specs.Records.{Snapshot, Scope}
-use Rattle.record_rules.specs.Tests.{sameEntry}
-use Rattle.accept.specs.Verdict.{Verdict, refuse, accept, verdict}
+use Rattle.check_rules.specs.Tests.{sameEntry}
+use Rattle.check_rules.specs.Verdict.{Verdict, refuse, accept, verdict}
 use Rattle.accept.proofs.Accepted.{by-test}
 use Rattle.find_path.specs.declared.Query.{Query}
 use Rattle.find_path.specs.declared.Question.{Question}
 use Rattle.find_path.specs.Report.{callFault, reportUnless, reportOf}
 use Rattle.answer.specs.Answers.{zeros}
-use Rattle.scope_edits.specs.Entries.{higher, placed, withScopes, scopesEnd}
-use Rattle.scope_edits.specs.Edits.{Edit, refusedBy, edited, Operation, adding, removing, editFault, editedWords, editUnless, editBy, editWithin, editOf, editedSnapshot}
+use Rattle.edit_rules.specs.Entries.{higher, placed, withScopes, scopesEnd}
+use Rattle.edit_rules.specs.Edits.{Edit, refusedBy, edited, Operation, adding, removing, editFault, editedWords, editUnless, editBy, editWithin, editOf, editedSnapshot}
 use Rattle.scope_edits.proofs.Lists.{any-middle}
 use Rattle.scope_edits.proofs.Edited.{edit-accepted, add-longer, add-room, add-removed}
 use Rattle.edits.specs.Edits.{countAfter, wordsAfter}

@@ -13,13 +13,13 @@ use Rattle.snapshot.specs.Lists.{any}
 use Rattle.snapshot.specs.Limits.{areaLimit}
 use Rattle.snapshot.specs.Refusals.{areaRefusal, wordsRefusal, entryRefusal}
 use Rattle.snapshot.specs.Sizes.{scopeSize}
-use Rattle.accept.specs.Verdict.{refuse, accept, verdict}
+use Rattle.check_rules.specs.Verdict.{refuse, accept, verdict}
 use Rattle.accept.specs.Post.{Reads, Checks, checkOf}
 use Rattle.accept.specs.declared.check.Checked.{Checked}
 use Rattle.accept.specs.declared.check.Checked.the-variants.{Refused, Accepted}
 use Rattle.answer.specs.Answers.{zeros, areaAfter}
-use Rattle.scope_edits.specs.Entries.{scopeWords, isNamed, scopesEnd, entryPlace, inserted, cut}
-use Rattle.scope_edits.specs.Edits.{Edit, refusedBy, edited, Operation, adding, removing, editFault, editedWords, editUnless, editBy, editWithin, editOf}
+use Rattle.edit_rules.specs.Entries.{scopeWords, isNamed, scopesEnd, entryPlace, inserted, cut}
+use Rattle.edit_rules.specs.Edits.{Edit, refusedBy, edited, Operation, adding, removing, editFault, editedWords, editUnless, editBy, editWithin, editOf}
 use Rattle.scope_edits.proofs.Lists.{cut-length}
 use Rattle.scope_edits.proofs.Removed.{absent, present}
 use Rattle.scope_edits.proofs.Inserted.{end-within}

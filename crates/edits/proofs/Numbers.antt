@@ -8,9 +8,9 @@ use lib.Dec.{ltb}
 use lib.ListN.{length, take}
 use Rattle.snapshot.specs.Limits.{areaLimit}
 use Rattle.snapshot.specs.Refusals.{areaRefusal, wordsRefusal}
-use Rattle.accept.specs.Verdict.{Verdict, refuse, accept, verdict}
+use Rattle.check_rules.specs.Verdict.{Verdict, refuse, accept, verdict}
 use Rattle.accept.proofs.Refused.{verdict-number}
-use Rattle.scope_edits.specs.Edits.{Edit, refusedBy, edited, Operation, editFault, editUnless, editBy, editWithin, editOf}
+use Rattle.edit_rules.specs.Edits.{Edit, refusedBy, edited, Operation, editFault, editUnless, editBy, editWithin, editOf}
 
 abbrev EditSome : Edit → Type 0
 EditSome (refusedBy n) = 0 < n

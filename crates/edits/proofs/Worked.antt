@@ -7,14 +7,14 @@ use lib.Dec.{eqb}
 use lib.ListN.{length, take, drop, replicate}
 use Rattle.snapshot.specs.Lists.{rows, any, all, eqList}
 use Rattle.snapshot.specs.Words.{argumentsOf}
-use Rattle.record_rules.specs.Tests.{textBound, padded}
-use Rattle.record_rules.specs.Steps.{nameStep, crateStep, dependencyStep, mapStep, moduleStep, childStep, preludeStep, definitionStep, scopeStep, importStep, externStep, memberStep}
+use Rattle.check_rules.specs.Tests.{textBound, padded}
+use Rattle.check_rules.specs.Steps.{nameStep, crateStep, dependencyStep, mapStep, moduleStep, childStep, preludeStep, definitionStep, scopeStep, importStep, externStep, memberStep}
 use Rattle.record_rules.specs.Stands.{numberOf}
-use Rattle.accept.specs.Verdict.{argumentsFrom, recordStep, stepAt, finish, records, verdict}
-use Rattle.accept.specs.Worked.{worked}
+use Rattle.check_rules.specs.Verdict.{argumentsFrom, recordStep, stepAt, finish, records, verdict}
+use Rattle.check_rules.specs.Worked.{worked}
 use Rattle.answer.specs.Answers.{zeros}
-use Rattle.scope_edits.specs.Entries.{entryOf, scopeWords, firstFrom, scopesEnd, entryPlace}
-use Rattle.scope_edits.specs.Edits.{Operation, adding, removing, addNumber, editFault, editedWords, editUnless, editBy, editWithin, editOf}
+use Rattle.edit_rules.specs.Entries.{entryOf, scopeWords, firstFrom, scopesEnd, entryPlace}
+use Rattle.edit_rules.specs.Edits.{Operation, adding, removing, addNumber, editFault, editedWords, editUnless, editBy, editWithin, editOf}
 use Rattle.edits.specs.Edits.{numberIn, countAfter, wordsAfter}
 
 -- the slice and the words of its snapshot before the edit; the number, the count and the slice after it

@@ -8,7 +8,7 @@ use Rattle.accept.specs.Post.{Reads}
 use Rattle.accept.specs.declared.check.Checked.{Checked}
 use Rattle.accept.specs.declared.check.Checked.the-variants.{Refused, Accepted}
 use Rattle.answer.specs.Answers.{zeros, areaAfter}
-use Rattle.scope_edits.specs.Edits.{Edit, refusedBy, edited, Operation, editOf}
+use Rattle.edit_rules.specs.Edits.{Edit, refusedBy, edited, Operation, editOf}
 use Rattle.edits.specs.declared.edits.Edited.{Edited}
 
 -- the number of the refusal, 0 for none

@@ -4,8 +4,8 @@ use mathlib.Core.List.{List, [], _∷_, _++_}
 use mathlib.Core.Bool.{Bool, true, false}
 use lib.ListN.{take}
 use Rattle.snapshot.specs.Records.{Scope, Snapshot}
-use Rattle.scope_edits.specs.Entries.{isNamed}
-use Rattle.scope_edits.specs.Edits.{Edit, refusedBy, edited, Operation, adding, removing, editOf, editedSnapshot}
+use Rattle.edit_rules.specs.Entries.{isNamed}
+use Rattle.edit_rules.specs.Edits.{Edit, refusedBy, edited, Operation, adding, removing, editOf, editedSnapshot}
 use Rattle.edits.specs.Edits.{countAfter, wordsAfter}
 
 -- a lent slice, and how many of its words the snapshot has

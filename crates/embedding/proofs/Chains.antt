@@ -8,12 +8,12 @@ use borrow.Author.Tests.{eqb-true, eqb-false, eq-eqb, ne-eqb}
 use lib.Dec.{eqb}
 use lib.ListN.{length}
 use Rattle.snapshot.specs.Records.{Snapshot, Map, Module, Scope}
-use Rattle.accept.specs.Tests.{countsOf, noMap}
+use Rattle.check_rules.specs.Tests.{countsOf, noMap}
 use Rattle.accept.specs.Valid.{Valid, ScopeFits}
 use Rattle.accept.proofs.Accepted.{by-test}
 use Rattle.accept.proofs.Bools.{each-at}
 use Rattle.hir_def.specs.Items.{mapOf, mapNo, crateOf, parentOf, blockOf, orElse, containing}
-use Rattle.hir_def.specs.Visibility.{lastOr, last, metOr, met, unless, climbStep, climb, inModule, isVisibleFrom, sees}
+use Rattle.tree_rules.specs.Visibility.{lastOr, last, metOr, met, unless, climbStep, climb, inModule, isVisibleFrom, sees}
 use Rattle.hir_def.specs.Nameres.{stepsOr, steps, ancestorMaps, containers}
 use Rattle.hir_def.proofs.Laws.{by-number, Falls, last-more, met-more, steps-more}
 use Rattle.hir_def.proofs.Chains.{map-known, block-falls, containing-falls, climb-falls}

@@ -9,7 +9,7 @@ use borrow.Author.Tests.{eqb-true}
 use lib.Dec.{eqb}
 use lib.ListN.{length}
 use Rattle.snapshot.specs.Records.{Snapshot, Definition, Import, Dependency}
-use Rattle.accept.specs.Tests.{countsOf}
+use Rattle.check_rules.specs.Tests.{countsOf}
 use Rattle.accept.specs.Valid.{Valid, ImportFits}
 use Rattle.accept.proofs.Accepted.{by-test}
 use Rattle.hir_def.specs.Items.{types, variantKind, crateOf, definitionOf, itemOf, homeOf, moduleItem}

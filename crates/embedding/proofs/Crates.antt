@@ -7,14 +7,14 @@ use mathlib.Core.Option.{some}
 use lib.Dec.{eqb}
 use lib.ListN.{length}
 use Rattle.snapshot.specs.Records.{Snapshot, Crate, Extern, Dependency}
-use Rattle.accept.specs.Tests.{countsOf}
+use Rattle.check_rules.specs.Tests.{countsOf}
 use Rattle.accept.specs.Valid.{Valid, none, DependencyFits, ExternFits}
 use Rattle.accept.proofs.Accepted.{by-test}
 use Rattle.hir_def.specs.Finds.{firstOf, select}
 use Rattle.hir_def.specs.Items.{crateData}
 use Rattle.hir_def.specs.Nameres.{isExtern, externOf, isDependency, isSysroot, isLangSysroot, langOf, sysrootFirst}
 use Rattle.hir_def.proofs.Fits.{each-back}
-use Rattle.find_path.proofs.Walks.{select-hit, select-miss}
+use Rattle.search_laws.proofs.Walks.{select-hit, select-miss}
 use Rattle.join_words.specs.Joined.{Numbers, dependencyTo}
 use Rattle.embedding.specs.Embeds.{Within, done, ours, theirs, ExternAlike, Embeds}
 use Rattle.embedding.proofs.Chains.{eqb-moved}

@@ -10,11 +10,11 @@ use lib.ListN.{length, take, List·getD-eq-default}
 use Rattle.snapshot.specs.Refusals.{unknownRefusal, macroRefusal}
 use Rattle.snapshot.specs.Records.{Snapshot, Name, Crate, Definition}
 use Rattle.keywords.specs.Keywords.{isRaw}
-use Rattle.accept.specs.Tests.{noDefinition}
+use Rattle.check_rules.specs.Tests.{noDefinition}
 use Rattle.accept.specs.Valid.{Valid}
 use Rattle.accept.proofs.Accepted.{by-test}
 use Rattle.hir_def.specs.Items.{macros, macroKind, definitionOf}
-use Rattle.read_back.specs.Reads.{readsBack}
+use Rattle.readings.specs.Reads.{readsBack}
 use Rattle.path_choices.specs.declared.Choice.{Choice}
 use Rattle.find_path.specs.declared.Query.{Query}
 use Rattle.find_path.specs.declared.Report.{Report}

@@ -11,7 +11,7 @@ use Rattle.snapshot.specs.Records.{Snapshot, Scope}
 use Rattle.accept.specs.Valid.{Valid, Each, none, more}
 use Rattle.accept.proofs.Bools.{each-snoc}
 use Rattle.hir_def.specs.Items.{moduleItem}
-use Rattle.hir_def.specs.Visibility.{sees}
+use Rattle.tree_rules.specs.Visibility.{sees}
 use Rattle.hir_def.specs.ItemScope.{isDeclared}
 use Rattle.hir_def.specs.declared.Item.{Item}
 use Rattle.path_choices.specs.declared.Choice.{Choice}

@@ -9,7 +9,7 @@ use borrow.Author.Tests.{eqb-true, eqb-false, ne-eqb}
 use lib.Dec.{eqb}
 use lib.ListN.{length}
 use Rattle.snapshot.specs.Records.{Snapshot, Definition}
-use Rattle.accept.specs.Tests.{countsOf, noDefinition}
+use Rattle.check_rules.specs.Tests.{countsOf, noDefinition}
 use Rattle.accept.specs.Valid.{Valid, Each, none, more, DefinitionFits}
 use Rattle.accept.proofs.Accepted.{by-test}
 use Rattle.accept.proofs.Bools.{each-at}
@@ -17,7 +17,7 @@ use Rattle.hir_def.specs.Finds.{firstOf, select}
 use Rattle.hir_def.specs.Items.{types, moduleKind, variantKind, builtinKind, definitionOf, itemOf, sameItem, nsOf, homeBy, homeOf, moduleItem, definedItem}
 use Rattle.hir_def.specs.declared.Item.{Item}
 use Rattle.hir_def.specs.declared.Item.the-variants.{Mod, Def}
-use Rattle.find_path.proofs.Walks.{select-hit, select-miss}
+use Rattle.search_laws.proofs.Walks.{select-hit, select-miss}
 use Rattle.join_words.specs.Joined.{Numbers, orNone, firstTo, secondTo}
 use Rattle.embedding.specs.Embeds.{Outside, Within, done, ours, theirs, Embeds, itemTo}
 use Rattle.embedding.proofs.Chains.{eqb-moved}

@@ -11,7 +11,7 @@ use lib.Dec.{eqb}
 use lib.ListN.{length}
 use Rattle.snapshot.specs.Lists.{any}
 use Rattle.snapshot.specs.Records.{Snapshot, Scope, Map}
-use Rattle.accept.specs.Tests.{countsOf, noMap}
+use Rattle.check_rules.specs.Tests.{countsOf, noMap}
 use Rattle.accept.specs.Valid.{Valid, Each, none, more, ScopeFits, crateIn, blockIn}
 use Rattle.hir_def.specs.Finds.{orFirst, firstSome}
 use Rattle.hir_def.specs.Items.{types, blockOf, crateOf, ownMap, rootOf, crateRoot, moduleItem}

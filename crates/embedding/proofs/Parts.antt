@@ -12,13 +12,13 @@ use lib.Seq.{getD-append-add}
 use Rattle.snapshot.specs.Lists.{any}
 use Rattle.snapshot.specs.Sizes.{definitionSize, scopeSize, importSize, externSize}
 use Rattle.snapshot.specs.Records.{Snapshot, Member, Map, Module, Definition, Scope}
-use Rattle.accept.specs.Tests.{countsOf, noName, noMap, noModule, noDefinition, sameName}
+use Rattle.check_rules.specs.Tests.{countsOf, noName, noMap, noModule, noDefinition, sameName}
 use Rattle.accept.specs.Valid.{Valid, Each, none, more, MemberFits, Belongs, mapIn, crateIn, blockIn, definitionIn}
 use Rattle.accept.proofs.Accepted.{by-test}
 use Rattle.accept.proofs.Bools.{and-three, each-at, or-right, or-none}
 use Rattle.hir_def.specs.Finds.{placeOf, select}
 use Rattle.hir_def.specs.Items.{definitionOf, crateData, moduleOf, mapOf, rootOf, ownMap}
-use Rattle.scope_edits.specs.Entries.{movedScope, movedImport, movedExtern}
+use Rattle.edit_rules.specs.Entries.{movedScope, movedImport, movedExtern}
 use Rattle.join_words.specs.Joined.{Numbers, firstNumbers, secondNumbers, nameNumber, sameBuiltin, definitionNumber, orNone, firstTo, secondTo, dependencyTo, mapTo, moduleTo, childTo, preludeTo, definitionTo, scopeTo, importTo, externTo, memberTo, definitionPut, placedBy, placed, kindBase, together, joined, mergedNumber}
 use Rattle.join_words.proofs.Lists.{any-not, any-has, placed-at}
 use Rattle.join_words.proofs.Merged.{kept-less, number-old, merged-low}

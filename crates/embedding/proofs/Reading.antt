@@ -8,18 +8,18 @@ use native.Mathlib.Omega.{arith}
 use lib.Dec.{eqb, ltb}
 use lib.ListN.{length}
 use Rattle.snapshot.specs.Records.{Snapshot, Scope, Prelude, Extern, Member}
-use Rattle.accept.specs.Tests.{countsOf, noModule}
+use Rattle.check_rules.specs.Tests.{countsOf, noModule}
 use Rattle.accept.specs.Valid.{Valid, Each, more, PreludeFits, ExternFits, MemberFits}
 use Rattle.accept.proofs.Bools.{each-at}
 use Rattle.hir_def.specs.Finds.{firstSome}
 use Rattle.hir_def.specs.Items.{types, macros, moduleOf, mapNo, crateOf, parentOf, blockOf, crateRoot, itemOf, sameItem, nsOf, moduleItem}
 use Rattle.hir_def.specs.ItemScope.{get}
-use Rattle.hir_def.specs.Visibility.{sees}
+use Rattle.tree_rules.specs.Visibility.{sees}
 use Rattle.hir_def.specs.Nameres.{preludeOf}
 use Rattle.hir_def.specs.declared.Item.{Item}
 use Rattle.hir_def.specs.declared.Item.the-variants.{Mod, Def}
 use Rattle.hir_def.proofs.Chains.{map-known}
-use Rattle.read_back.specs.Reads.{selfKind, superKind, crateKind, absoluteKind, variantMember, outward, scopesFrom, standsFor, meaning, entryOr, isExternNamed, externNamed, externMeans, inExterns, preludeMeans, inPreludeOf, entryFrom, firstName, isVariantNamed, variantNamed, variantIn, laterName, after, lookedIn, follow, plainly, absolutely, parentMeans, readsTo, isThe, readsBack}
+use Rattle.readings.specs.Reads.{selfKind, superKind, crateKind, absoluteKind, variantMember, outward, scopesFrom, standsFor, meaning, entryOr, isExternNamed, externNamed, externMeans, inExterns, preludeMeans, inPreludeOf, entryFrom, firstName, isVariantNamed, variantNamed, variantIn, laterName, after, lookedIn, follow, plainly, absolutely, parentMeans, readsTo, isThe, readsBack}
 use Rattle.read_back.proofs.Outward.{outward-falls}
 use Rattle.join_words.specs.Joined.{Numbers, orNone, preludeTo, memberTo}
 use Rattle.embedding.specs.Embeds.{ExternAlike, Embeds, itemTo}

@@ -8,12 +8,12 @@ use native.Mathlib.Omega.{arith}
 use lib.Dec.{eqb}
 use lib.ListN.{length}
 use Rattle.snapshot.specs.Records.{Snapshot, Scope, Prelude, Extern}
-use Rattle.accept.specs.Tests.{countsOf, noModule}
+use Rattle.check_rules.specs.Tests.{countsOf, noModule}
 use Rattle.accept.specs.Valid.{Valid, PreludeFits, ExternFits}
 use Rattle.accept.proofs.Bools.{each-at}
 use Rattle.module_tree.proofs.Roots.{root-known}
 use Rattle.hir_def.specs.Items.{mapNo, crateOf, parentOf, moduleOf, blockOf, inBlock, rootOf, ownMap, crateRoot, nsOf, moduleItem}
-use Rattle.hir_def.specs.Visibility.{sees}
+use Rattle.tree_rules.specs.Visibility.{sees}
 use Rattle.hir_def.specs.Nameres.{entryNamed, occupied, preludeOf}
 use Rattle.hir_def.specs.declared.Item.{Item}
 use Rattle.hir_def.proofs.Chains.{map-known}

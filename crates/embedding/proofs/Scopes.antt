@@ -5,7 +5,7 @@ use mathlib.Core.Bool.{Bool, false, _&&_}
 use lib.Dec.{eqb}
 use lib.ListN.{length}
 use Rattle.snapshot.specs.Records.{Snapshot, Scope, Import, Child, Prelude, Dependency}
-use Rattle.accept.specs.Tests.{countsOf}
+use Rattle.check_rules.specs.Tests.{countsOf}
 use Rattle.accept.specs.Valid.{Valid, ScopeFits, ImportFits, ChildFits, PreludeFits, DependencyFits}
 use Rattle.hir_def.specs.Items.{types, moduleKind, definitionOf, itemOf, sameItem}
 use Rattle.hir_def.specs.ItemScope.{isFor, nameOf, namesOf, isNamed, get, isModuleEntry, modulesInScope}

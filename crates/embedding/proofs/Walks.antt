@@ -9,20 +9,20 @@ use lib.Dec.{eqb}
 use lib.ListN.{length}
 use Rattle.snapshot.specs.Lists.{any}
 use Rattle.snapshot.specs.Records.{Snapshot, Scope, Child}
-use Rattle.accept.specs.Tests.{countsOf}
+use Rattle.check_rules.specs.Tests.{countsOf}
 use Rattle.accept.specs.Valid.{Valid, Each, none, more, ChildFits}
 use Rattle.accept.proofs.Accepted.{by-test}
 use Rattle.accept.proofs.Bools.{and-two, each-snoc}
 use Rattle.hir_def.specs.Finds.{select}
 use Rattle.hir_def.specs.Items.{types, moduleKind, definitionOf, crateOf, containing}
-use Rattle.hir_def.specs.Visibility.{sees}
+use Rattle.tree_rules.specs.Visibility.{sees}
 use Rattle.hir_def.specs.ItemScope.{isModuleEntry, entryModule}
 use Rattle.hir_def.specs.Nameres.{stepsOr, steps, containers, childrenOf}
 use Rattle.hir_def.proofs.Laws.{by-number, Falls, steps-more}
 use Rattle.hir_def.proofs.Chains.{containing-falls}
 use Rattle.find_path.specs.Walk.{has, startFrom, leadsTo, unmet, walk, findLocalImportLocations}
-use Rattle.find_path.proofs.Walks.{select-hit, select-miss, locations-more}
-use Rattle.find_path.proofs.Crates.{each-append}
+use Rattle.search_laws.proofs.Walks.{select-hit, select-miss, locations-more}
+use Rattle.search_laws.proofs.Crates.{each-append}
 use Rattle.join_words.specs.Joined.{Numbers, childTo}
 use Rattle.embedding.specs.Embeds.{Embeds}
 use Rattle.embedding.proofs.Chains.{eqb-moved, crates-compared, sees-moved, containers-moved}

@@ -4,12 +4,12 @@ use mathlib.Core.Path.{_≡_}
 use mathlib.Core.List.{List, [], _∷_}
 use lib.ListN.{length, getD}
 use Rattle.snapshot.specs.Records.{Dependency, Child, Prelude, Scope, Import, Extern, Member, Snapshot}
-use Rattle.accept.specs.Tests.{noName}
+use Rattle.check_rules.specs.Tests.{noName}
 use Rattle.hir_def.specs.Items.{definitionOf, crateData, moduleOf, mapOf, rootOf, ownMap, moduleItem, definedItem}
 use Rattle.hir_def.specs.declared.Item.{Item}
 use Rattle.hir_def.specs.declared.Item.the-variants.{Mod, Def}
 use Rattle.find_path.specs.declared.FindPathCtx.{FindPathCtx}
-use Rattle.scope_edits.specs.Entries.{movedScope, movedImport, movedExtern}
+use Rattle.edit_rules.specs.Entries.{movedScope, movedImport, movedExtern}
 use Rattle.join_words.specs.Joined.{Numbers, orNone, dependencyTo, mapTo, moduleTo, childTo, preludeTo, definitionTo, scopeTo, importTo, externTo, memberTo, definitionPut}
 
 -- no number below n goes to k

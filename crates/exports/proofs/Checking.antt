@@ -12,7 +12,7 @@ use Rattle.snapshot.specs.Records.{Snapshot}
 use Rattle.snapshot.specs.Layouts.{snapOf}
 use Rattle.snapshot.specs.declared.layout.Layout.{Layout}
 use Rattle.snapshot.proofs.Laws.{length-rows}
-use Rattle.accept.specs.Verdict.{Verdict, refuse, accept, verdict, empty}
+use Rattle.check_rules.specs.Verdict.{Verdict, refuse, accept, verdict, empty}
 use Rattle.accept.specs.Post.{Checks, checkOf}
 use Rattle.accept.specs.declared.check.Checked.{Checked}
 use Rattle.accept.specs.declared.check.Checked.the-variants.{Refused, Accepted}

@@ -10,7 +10,7 @@ use lib.ListN.{length}
 use Rattle.reports.specs.Written.{Written, writtenTo, reportSize}
 use Rattle.windows.specs.declared.turns.Turn.{Turn}
 use Rattle.find_path.specs.declared.Question.{Question}
-use Rattle.window_state.specs.States.{placeFault, afterPlace, served, afterTurn}
+use Rattle.window_rules.specs.States.{placeFault, afterPlace, served, afterTurn}
 use Rattle.windows.specs.Windows.{Placed, idleTurn, servingTurn, turnOf, areaTurned, Turned}
 use Rattle.exports.specs.Turns.{reportTurned, Served, Unserved}
 

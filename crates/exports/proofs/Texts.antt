@@ -13,7 +13,7 @@ use Rattle.snapshot.specs.Records.{nameAt}
 use Rattle.snapshot.specs.Layouts.{nameHead, snapOf}
 use Rattle.snapshot.specs.declared.layout.Layout.{Layout}
 use Rattle.snapshot.proofs.Laws.{getD-rows}
-use Rattle.find_path.specs.Choices.{nameData, nameLen}
+use Rattle.path_choices.specs.Choices.{nameData, nameLen}
 use Rattle.keywords.specs.Keywords.{isRaw}
 use Rattle.find_path.specs.Line.{unpacked}
 use Rattle.line.proofs.Laws.{length-unpacked, name-text}

@@ -7,7 +7,7 @@ use Rattle.snapshot.specs.Limits.{areaLimit}
 use Rattle.snapshot.specs.Records.{Snapshot}
 use Rattle.snapshot.specs.Layouts.{snapOf}
 use Rattle.snapshot.specs.declared.layout.Layout.{Layout}
-use Rattle.accept.specs.Verdict.{Verdict, refuse, accept}
+use Rattle.check_rules.specs.Verdict.{Verdict, refuse, accept}
 use Rattle.accept.specs.Post.{Reads, checkOf}
 use Rattle.answer.specs.Answers.{areaAfter}
 

@@ -11,7 +11,7 @@ use Rattle.snapshot.specs.Layouts.{nameHead, snapOf}
 use Rattle.snapshot.specs.declared.layout.Layout.{Layout}
 use Rattle.keywords.specs.Keywords.{isRaw}
 use Rattle.accept.specs.Post.{Reads}
-use Rattle.find_path.specs.Choices.{nameData}
+use Rattle.path_choices.specs.Choices.{nameData}
 use Rattle.find_path.specs.Line.{unpacked, textOf}
 
 -- the bytes of the name with its head at a place, as far as the words go

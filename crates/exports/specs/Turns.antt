@@ -7,7 +7,7 @@ use lib.Dec.{eqb}
 use lib.ListN.{length}
 use Rattle.find_path.specs.Report.{reportOf}
 use Rattle.reports.specs.Written.{writtenTo}
-use Rattle.window_state.specs.States.{askedBy, served, afterTurn}
+use Rattle.window_rules.specs.States.{askedBy, served, afterTurn}
 use Rattle.windows.specs.Windows.{areaTurned}
 
 -- the report of the question served is written to the words old; an idle turn leaves them

@@ -19,8 +19,8 @@ ghost use Rattle.join.specs.Joins.{JoinsIn};
 ghost use Rattle.new_numbers.specs.New.{NewNumbers, NewName, NewDefinition, NewCrate, NewMap, NewModule};
 ghost use Rattle.questions.specs.Questions.{questionOf};
 ghost use Rattle.reports.specs.Written.{reportSize};
-ghost use Rattle.scope_edits.specs.Edits.{adding, removing};
-ghost use Rattle.scope_edits.specs.Entries.{entryOf};
+ghost use Rattle.edit_rules.specs.Edits.{adding, removing};
+ghost use Rattle.edit_rules.specs.Entries.{entryOf};
 ghost use Rattle.snapshot.specs.Layouts.{tableWords};
 ghost use Rattle.windows.specs.Windows.{Placed};
 

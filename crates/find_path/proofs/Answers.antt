@@ -1,7 +1,7 @@
 -- The tables of questions and lines as one fact. An edit of a rule is told here first, by the rows that it changes.
 use mathlib.Core.Path.{_≡_}
 use mathlib.Core.Bool.{true}
-use Rattle.accept.specs.Worked.{worked}
+use Rattle.check_rules.specs.Worked.{worked}
 use Rattle.find_path.proofs.Worked.{passes, routes, cases, withDependency, dependencyCases, withStd, stdCases, withFacade, facadeCases, withForeign, foreignCases}
 use Rattle.find_path.proofs.Worked.{withModules, moduleCases, withOldNames, oldNameCases, limitCases, withBlock, readCases}
 use Rattle.find_path.proofs.Worked.{worked-cases, dependency-cases, std-cases, facade-cases, foreign-cases}

@@ -14,7 +14,7 @@ use Rattle.path_choices.specs.declared.Choice.{Choice}
 use Rattle.find_path.specs.declared.Tank.{Tank}
 use Rattle.find_path.specs.declared.Found.{Found}
 use Rattle.find_path.specs.declared.FindPathCtx.{FindPathCtx}
-use Rattle.find_path.specs.Choices.{viaVariant, viaImport, stepBy, nothing, push, unstably, lengthLeft}
+use Rattle.path_choices.specs.Choices.{viaVariant, viaImport, stepBy, nothing, push, unstably, lengthLeft}
 use Rattle.find_path.specs.Rules.{soughtOf, firstFound, scopeRule, preludeRule, moduleRules}
 use Rattle.find_path.specs.Local.{offer}
 use Rattle.find_path.specs.Meters.{Charged, Charge, go, stop}

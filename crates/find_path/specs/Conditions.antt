@@ -7,7 +7,7 @@ use Rattle.snapshot.specs.Limits.{pathLimit, areaLimit}
 use Rattle.snapshot.specs.Records.{scopeAt}
 use Rattle.snapshot.specs.Layouts.{tableWords}
 use Rattle.snapshot.specs.declared.layout.Layout.{Layout}
-use Rattle.accept.specs.Stands.{countsIn}
+use Rattle.record_rules.specs.Stands.{countsIn}
 use Rattle.accept.specs.Post.{Reads}
 use Rattle.accept.specs.Valid.{ScopeFits}
 use Rattle.hir_def.specs.Items.{nsOf}

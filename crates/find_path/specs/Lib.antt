@@ -1,4 +1,3 @@
-pub mod Choices
 pub mod Walk
 pub mod Rules
 pub mod Local
@@ -8,8 +7,3 @@ pub mod Conditions
 pub mod Meters
 pub mod Report
 pub mod Line
-pub mod Fuels
-pub mod Limits
-pub mod Routes
-pub mod Reading
-pub mod Visited

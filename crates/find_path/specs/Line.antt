@@ -9,11 +9,11 @@ use lib.ListN.{length, getD, take}
 use Rattle.snapshot.specs.Limits.{areaLimit}
 use Rattle.snapshot.specs.Records.{Snapshot}
 use Rattle.keywords.specs.Keywords.{isRaw}
-use Rattle.accept.specs.Verdict.{Verdict, refuse, accept, verdict, empty}
+use Rattle.check_rules.specs.Verdict.{Verdict, refuse, accept, verdict, empty}
 use Rattle.hir_def.specs.Items.{crateOf, crateData}
 use Rattle.find_path.specs.declared.Question.{Question}
 use Rattle.find_path.specs.declared.Report.{Report}
-use Rattle.find_path.specs.Choices.{selfPath, superPath, cratePath, absolutePath, nameData}
+use Rattle.path_choices.specs.Choices.{selfPath, superPath, cratePath, absolutePath, nameData}
 use Rattle.find_path.specs.Report.{reportOf}
 
 -- the bytes of a text of ASCII characters

@@ -5,13 +5,13 @@ use mathlib.Core.Bool.{Bool, true, false, _&&_, _||_, not}
 use mathlib.Core.Option.{Option, none, some}
 use lib.Dec.{eqb}
 use Rattle.snapshot.specs.Records.{Snapshot, Scope}
-use Rattle.hir_def.specs.Visibility.{sees}
+use Rattle.tree_rules.specs.Visibility.{sees}
 use Rattle.hir_def.specs.ItemScope.{isDeclared, nameOf, preferred}
 use Rattle.hir_def.specs.Items.{moduleItem}
 use Rattle.hir_def.specs.declared.Item.{Item}
 use Rattle.path_choices.specs.declared.Choice.{Choice}
 use Rattle.find_path.specs.declared.FindPathCtx.{FindPathCtx}
-use Rattle.find_path.specs.Choices.{viaLocal, stepBy, nothing, trySelect, lengthLeft}
+use Rattle.path_choices.specs.Choices.{viaLocal, stepBy, nothing, trySelect, lengthLeft}
 use Rattle.find_path.specs.Walk.{Level, visited, findLocalImportLocations}
 use Rattle.find_path.specs.Rules.{moduleRules}
 

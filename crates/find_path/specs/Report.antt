@@ -7,9 +7,9 @@ use lib.ListN.{length, take, replicate}
 use Rattle.snapshot.specs.Limits.{areaLimit, fuelLimit, pathLimit, namespaceLimit, prefixLimit, optionsLimit}
 use Rattle.snapshot.specs.Refusals.{areaRefusal, fuelRefusal, fieldRefusal, unknownRefusal, macroRefusal, limitRefusal}
 use Rattle.snapshot.specs.Records.{Snapshot}
-use Rattle.accept.specs.Verdict.{Verdict, refuse, accept, verdict}
+use Rattle.check_rules.specs.Verdict.{Verdict, refuse, accept, verdict}
 use Rattle.hir_def.specs.Items.{macros, macroKind, definitionOf, itemOf}
-use Rattle.read_back.specs.Reads.{readsBack}
+use Rattle.readings.specs.Reads.{readsBack}
 use Rattle.path_choices.specs.declared.Choice.{Choice}
 use Rattle.find_path.specs.declared.Tank.{Tank}
 use Rattle.find_path.specs.declared.Query.{Query}
@@ -123,3 +123,7 @@ reportUnless words q fuel (suc n) = refused (suc n)
 -- order 20, 21, 22, 46, 30, then record by record, then 23, 24.
 unfoldable pub reportOf : List ℕ → ℕ → Question → Report
 reportOf words area q = reportUnless words (q .query) (q .fuel) (callFault area (q .query) (q .fuel))
+
+-- the question with that fuel, on those words
+abbrev pub reportAt : List ℕ → ℕ → Query → ℕ → Report
+reportAt words area q fuel = reportOf words area (record { query = q; fuel = fuel })

@@ -7,7 +7,7 @@ use lib.Dec.{eqb}
 use lib.ListN.{getD}
 use Rattle.snapshot.specs.Records.{Snapshot, Scope, Prelude, Extern}
 use Rattle.hir_def.specs.Items.{mapNo, mapOf, crateOf, crateData, parentOf, inBlock, rootOf, crateRoot, isLang, itemOf, sameItem, nsOf, moduleItem}
-use Rattle.hir_def.specs.Visibility.{sees}
+use Rattle.tree_rules.specs.Visibility.{sees}
 use Rattle.hir_def.specs.ItemScope.{nameOf, preferred}
 use Rattle.hir_def.specs.Nameres.{scopeEntry, entryNamed, occupied, preludeOf, externOf}
 use Rattle.hir_def.specs.declared.Item.{Item}
@@ -17,7 +17,7 @@ use Rattle.find_path.specs.declared.KwKind.{KwKind}
 use Rattle.find_path.specs.declared.KwKind.the-variants.{Kw, NoKw}
 use Rattle.find_path.specs.declared.FindPathCtx.{FindPathCtx}
 use Rattle.find_path.specs.declared.Query.{Query}
-use Rattle.find_path.specs.Choices.{plainPath, selfPath, superPath, cratePath, absolutePath, viaScope, viaPrelude, viaExtern, stepBy, nothing, keyword, choiceNew}
+use Rattle.path_choices.specs.Choices.{plainPath, selfPath, superPath, cratePath, absolutePath, viaScope, viaPrelude, viaExtern, stepBy, nothing, keyword, choiceNew}
 
 -- the prefixes: 0 BySelf, 1 Plain, 2 ByCrate
 

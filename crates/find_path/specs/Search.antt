@@ -10,7 +10,7 @@ use Rattle.hir_def.specs.declared.Item.{Item}
 use Rattle.path_choices.specs.declared.Choice.{Choice}
 use Rattle.find_path.specs.declared.FindPathCtx.{FindPathCtx}
 use Rattle.find_path.specs.declared.Query.{Query}
-use Rattle.find_path.specs.Choices.{plainPath, viaBuiltin, stepBy, nothing, choiceNew}
+use Rattle.path_choices.specs.Choices.{plainPath, viaBuiltin, stepBy, nothing, choiceNew}
 use Rattle.find_path.specs.Rules.{contextOf}
 use Rattle.find_path.specs.Local.{LocalSearch, calculateBestPathLocal, findPathForModuleLocal}
 use Rattle.find_path.specs.Meters.{Charge}

@@ -9,7 +9,7 @@ use Rattle.snapshot.specs.Lists.{any}
 use Rattle.snapshot.specs.Records.{Snapshot}
 use Rattle.hir_def.specs.Finds.{select}
 use Rattle.hir_def.specs.Items.{crateOf, sameItem}
-use Rattle.hir_def.specs.Visibility.{sees}
+use Rattle.tree_rules.specs.Visibility.{sees}
 use Rattle.hir_def.specs.ItemScope.{modulesInScope, entryModule}
 use Rattle.hir_def.specs.Nameres.{childrenOf, containers}
 use Rattle.hir_def.specs.declared.Item.{Item}

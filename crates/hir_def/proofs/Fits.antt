@@ -13,7 +13,7 @@ use Rattle.snapshot.specs.Records.{Scope, Import, Dependency, scopeAt, importAt
 use Rattle.snapshot.specs.Layouts.{wordCount, definitionBase, scopeBase, importBase, dependencyBase, snapOf}
 use Rattle.snapshot.specs.declared.layout.Layout.{Layout}
 use Rattle.snapshot.proofs.Laws.{length-rows}
-use Rattle.accept.specs.Stands.{countsIn}
+use Rattle.record_rules.specs.Stands.{countsIn}
 use Rattle.accept.specs.Post.{Reads}
 use Rattle.accept.specs.Valid.{Each, more, ScopeFits, ImportFits, DependencyFits, PreludeFits, ExternFits, DefinitionFits, Ranges, Valid}
 use Rattle.accept.proofs.Accepted.{by-test}

@@ -3,7 +3,7 @@ use Prim.Native.Nat.{ℕ, _+_}
 use mathlib.Core.List.{List, [], _∷_}
 use mathlib.Core.Bool.{Bool, true, false}
 use mathlib.Core.Option.{Option, none, some}
-unfoldable pub use Rattle.module_tree.specs.Modules.{placeOf}
+unfoldable pub use Rattle.tree_rules.specs.Modules.{placeOf}
 
 -- the first element that passes the test
 unfoldable pub firstOf : {A : Type 0} → (A → Bool) → List A → Option A

@@ -6,8 +6,8 @@ use lib.ListN.{getD}
 use Rattle.snapshot.specs.Records.{Snapshot, Crate, Definition}
 use Rattle.hir_def.specs.declared.Item.{Item}
 use Rattle.hir_def.specs.declared.Item.the-variants.{Mod, Def}
-pub use Rattle.module_tree.specs.Modules.{mapNo, crateOf, parentOf, blockOf, inBlock}
-unfoldable pub use Rattle.module_tree.specs.Modules.{moduleOf, mapOf, rootOf, ownMap, crateRoot, orElse, containing}
+pub use Rattle.tree_rules.specs.Modules.{mapNo, crateOf, parentOf, blockOf, inBlock}
+unfoldable pub use Rattle.tree_rules.specs.Modules.{moduleOf, mapOf, rootOf, ownMap, crateRoot, orElse, containing}
 
 -- namespaces, with values between them
 

@@ -1,6 +1,5 @@
 pub mod Finds
 pub mod Items
-pub mod Visibility
 pub mod ItemScope
 pub mod Nameres
 pub mod ImportMap

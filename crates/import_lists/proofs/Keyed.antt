@@ -11,8 +11,8 @@ use Rattle.chains.specs.Chains.{Last}
 use Rattle.accept.specs.Valid.{Each, more}
 use Rattle.accept.proofs.Accepted.{by-test}
 use Rattle.hir_def.specs.Finds.{select}
-use Rattle.find_path.proofs.Walks.{select-hit, select-miss}
-use Rattle.import_order.specs.Collect.{insertBy, sortInto}
+use Rattle.search_laws.proofs.Walks.{select-hit, select-miss}
+use Rattle.import_rules.specs.Collect.{insertBy, sortInto}
 use Rattle.import_order.proofs.Sorts.{insert-yes, insert-no}
 use Rattle.import_lists.specs.Threads.{keyed, rest}
 

@@ -15,7 +15,7 @@ use Rattle.snapshot.specs.declared.layout.Layout.{Layout}
 use Rattle.snapshot.proofs.Laws.{rows-next, rows-none, rows-put, rows-ext, rows-whole}
 use Rattle.chains.specs.Chains.{Cleared, linked}
 use Rattle.chains.proofs.Laws.{chained-none, chained-kept, chained-linked, linked-other}
-use Rattle.accept.specs.Stands.{countsIn}
+use Rattle.record_rules.specs.Stands.{countsIn}
 use Rattle.accept.specs.Post.{Reads}
 use Rattle.accept.specs.Valid.{Each, ScopeFits}
 use Rattle.accept.proofs.Bools.{each-rows}
@@ -24,8 +24,8 @@ use Rattle.accept.proofs.Valid.{accepted-valid}
 use Rattle.accept.proofs.Reading.{ranges-read, member-read}
 use Rattle.hir_def.specs.Finds.{select}
 use Rattle.hir_def.proofs.Found.{each-select}
-use Rattle.find_path.proofs.Walks.{select-hit, select-miss}
-use Rattle.import_order.specs.Collect.{entryBefore, isPublicIn, sortInto, entriesOf}
+use Rattle.search_laws.proofs.Walks.{select-hit, select-miss}
+use Rattle.import_rules.specs.Collect.{entryBefore, isPublicIn, sortInto, entriesOf}
 use Rattle.import_order.specs.Lists.{entriesAt, Runs, Ready, Sorts}
 use Rattle.import_order.proofs.Merges.{runs-none, runs-set}
 use Rattle.import_order.proofs.Orders.{entry-order}

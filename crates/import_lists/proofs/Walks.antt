@@ -18,7 +18,7 @@ use Rattle.snapshot.proofs.Laws.{rows-ext, rows-put, rows-snoc, length-rows}
 use Rattle.chains.specs.Chains.{Marked, Last, Cleared}
 use Rattle.chains.proofs.Laws.{chained-kept, marked-none, marked-kept, marked-more}
 use Rattle.accept.specs.Post.{Reads}
-use Rattle.accept.specs.Stands.{countsIn}
+use Rattle.record_rules.specs.Stands.{countsIn}
 use Rattle.accept.specs.Valid.{Each, more, ScopeFits}
 use Rattle.accept.proofs.Accepted.{by-test}
 use Rattle.accept.proofs.Bools.{each-map, each-snoc}
@@ -26,7 +26,7 @@ use Rattle.accept.proofs.Stable.{snap-stays, reads-stay}
 use Rattle.module_tree.proofs.Reading.{root-read}
 use Rattle.hir_def.specs.Items.{moduleKind, definitionOf, rootOf, ownMap}
 use Rattle.hir_def.proofs.Fits.{module-known}
-use Rattle.import_order.specs.Collect.{entriesOf, piled, visits, modulesFrom}
+use Rattle.import_rules.specs.Collect.{entriesOf, piled, visits, modulesFrom}
 use Rattle.import_order.specs.Lists.{Ready, waiting}
 use Rattle.import_order.proofs.Visits.{room, entries-few, visits-same, waiting-all, length-piled}
 use Rattle.import_lists.specs.Threads.{rest, publicIn, entryOf, Threaded}

@@ -21,8 +21,8 @@ use Rattle.accept.proofs.Bools.{each-rows}
 use Rattle.accept.proofs.Valid.{accepted-valid}
 use Rattle.accept.proofs.Reading.{member-read}
 use Rattle.hir_def.specs.Finds.{select}
-use Rattle.find_path.proofs.Walks.{select-short}
-use Rattle.import_order.specs.Collect.{entryBefore, isPublicIn, entriesOf, isMemberOf, memberNs, memberImport, entryImport, importsOf, importsIn, importsOver, wordsOf}
+use Rattle.search_laws.proofs.Walks.{select-short}
+use Rattle.import_rules.specs.Collect.{entryBefore, isPublicIn, entriesOf, isMemberOf, memberNs, memberImport, entryImport, importsOf, importsIn, importsOver, wordsOf}
 use Rattle.import_order.specs.Lists.{Ready}
 use Rattle.import_order.proofs.Visits.{length-sort}
 use Rattle.import_words.proofs.Taken.{words-length, words-append}

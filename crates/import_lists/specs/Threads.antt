@@ -13,7 +13,7 @@ use Rattle.snapshot.specs.declared.layout.Layout.{Layout}
 use Rattle.chains.specs.Chains.{ChainedBy}
 use Rattle.hir_def.specs.Finds.{select}
 use Rattle.import_order.specs.Rooms.{entriesRoom, headsRoom, spareRoom, memberHeadsRoom, memberLinksRoom}
-use Rattle.import_order.specs.Collect.{entryBefore, sortInto}
+use Rattle.import_rules.specs.Collect.{entryBefore, sortInto}
 use Rattle.import_order.specs.Lists.{entriesAt, Runs, Ready}
 
 -- of the things numbered below n those with a key, the last first

@@ -10,7 +10,7 @@ use Rattle.snapshot.specs.declared.layout.Layout.{Layout}
 use Rattle.chains.specs.Chains.{Marked}
 use Rattle.accept.specs.Valid.{Each}
 use Rattle.import_order.specs.Rooms.{memberLinksRoom}
-use Rattle.import_order.specs.Collect.{visits, modulesFrom}
+use Rattle.import_rules.specs.Collect.{visits, modulesFrom}
 use Rattle.import_order.specs.Lists.{waiting}
 use Rattle.import_lists.specs.declared.walk.Turn.{Turn}
 use Rattle.import_lists.specs.Threads.{Threaded}

@@ -11,11 +11,11 @@ use Rattle.snapshot.specs.Sizes.{importSize}
 use Rattle.snapshot.specs.Records.{Snapshot, Scope, Import, Member}
 use Rattle.snapshot.specs.declared.layout.Layout.{Layout}
 use Rattle.chains.specs.Chains.{ChainedBy}
-use Rattle.accept.specs.Stands.{countsIn}
+use Rattle.record_rules.specs.Stands.{countsIn}
 use Rattle.accept.specs.Valid.{ScopeFits}
 use Rattle.hir_def.specs.Finds.{select}
 use Rattle.import_order.specs.Rooms.{memberHeadsRoom, memberLinksRoom}
-use Rattle.import_order.specs.Collect.{isMemberOf, memberImport, wordsOf}
+use Rattle.import_rules.specs.Collect.{isMemberOf, memberImport, wordsOf}
 use Rattle.import_order.specs.Lists.{Ready}
 use Rattle.import_lists.specs.Threads.{memberOf}
 

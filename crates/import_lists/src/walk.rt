@@ -7,7 +7,7 @@ ghost use Rattle.snapshot.specs.Limits.{wordLimit, moduleLimit};
 ghost use Rattle.snapshot.specs.Records.{scopeAt};
 ghost use Rattle.snapshot.specs.Layouts.{snapOf};
 ghost use Rattle.import_order.specs.Lists.{Ready};
-ghost use Rattle.import_order.specs.Collect.{entriesOf, piled};
+ghost use Rattle.import_rules.specs.Collect.{entriesOf, piled};
 ghost use Rattle.import_lists.specs.Threads.{Threaded};
 ghost use Rattle.import_lists.specs.Walks.{marksBase, orderBase, pileBase, pileAt, Pushed, Walking, Turned, Walked};
 use chains::chain::clear;

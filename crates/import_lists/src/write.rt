@@ -6,7 +6,7 @@ ghost use Rattle.snapshot.specs.Limits.{moduleLimit};
 ghost use Rattle.snapshot.specs.Records.{scopeAt, memberAt};
 ghost use Rattle.snapshot.specs.Layouts.{snapOf};
 ghost use Rattle.accept.specs.Valid.{Each};
-ghost use Rattle.import_order.specs.Collect.{memberNs, memberImport, entriesOf, importsOf, importsIn, importsOver};
+ghost use Rattle.import_rules.specs.Collect.{memberNs, memberImport, entriesOf, importsOf, importsIn, importsOver};
 ghost use Rattle.import_lists.specs.Threads.{Threaded};
 ghost use Rattle.import_lists.specs.Walks.{orderAt};
 ghost use Rattle.import_lists.specs.Writes.{newImport, Bounded, Space, Wrote, keptImports, membersOf, Listed};

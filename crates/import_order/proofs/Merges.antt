@@ -16,7 +16,7 @@ use Rattle.snapshot.proofs.Laws.{rows-next, rows-none, rows-put, rows-ext, rows
 use Rattle.snapshot.specs.declared.layout.Layout.{Layout}
 use Rattle.accept.proofs.Accepted.{by-test}
 use Rattle.accept.proofs.Stable.{snap-stays, reads-stay}
-use Rattle.import_order.specs.Collect.{entryBefore, insertBy, sortInto}
+use Rattle.import_rules.specs.Collect.{entryBefore, insertBy, sortInto}
 use Rattle.import_order.specs.Lists.{orderOf, entriesAt, mergeBy, Copied, Runs, Ready, Merges, Sorts}
 use Rattle.import_order.proofs.Orders.{entry-order}
 use Rattle.import_order.proofs.Sorts.{merge-second, merge-first, merge-none, sorted-merge}

@@ -14,7 +14,7 @@ use Rattle.find_path.specs.Line.{unpacked}
 use Rattle.line.proofs.Laws.{length-unpacked}
 use Rattle.snapshot.specs.Records.{Snapshot, Scope}
 use Rattle.find_path.specs.Line.{textOf}
-use Rattle.import_order.specs.Collect.{textBefore, keyBefore, entryBefore}
+use Rattle.import_rules.specs.Collect.{textBefore, keyBefore, entryBefore}
 use Rattle.import_order.proofs.Sorts.{Order}
 
 -- the first n bytes

@@ -6,8 +6,8 @@ use mathlib.Core.Bool.{Bool, true, false, _&&_, not, true≢false}
 use Rattle.snapshot.specs.Lists.{any, all}
 use Rattle.accept.proofs.Accepted.{by-test}
 use Rattle.hir_def.specs.Finds.{select}
-use Rattle.find_path.proofs.Walks.{select-hit, select-miss}
-use Rattle.import_order.specs.Collect.{insertBy, sortInto}
+use Rattle.search_laws.proofs.Walks.{select-hit, select-miss}
+use Rattle.import_rules.specs.Collect.{insertBy, sortInto}
 use Rattle.import_order.specs.Lists.{mergeBy}
 
 -- what stands before another does so by way of any third; an order without ties among different elements need not be given

@@ -13,7 +13,7 @@ use Rattle.accept.proofs.Accepted.{by-test}
 use Rattle.hir_def.specs.Finds.{select}
 use Rattle.hir_def.specs.Items.{moduleKind, definitionOf, rootOf, ownMap}
 use Rattle.import_order.specs.Lists.{waiting}
-use Rattle.import_order.specs.Collect.{entryBefore, insertBy, sortInto, isPublicIn, entriesOf, piled, visits, modulesFrom}
+use Rattle.import_rules.specs.Collect.{entryBefore, insertBy, sortInto, isPublicIn, entriesOf, piled, visits, modulesFrom}
 
 length-insert : {A : Type 0} (before : A → A → Bool) (x : A) (ys : List A) → length (insertBy before x ys) ≡ suc (length ys)
 unfolding insertBy

@@ -1,3 +1,2 @@
-pub mod Collect
 pub mod Rooms
 pub mod Lists

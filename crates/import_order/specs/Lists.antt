@@ -12,7 +12,7 @@ use Rattle.snapshot.specs.Layouts.{snapOf}
 use Rattle.snapshot.specs.declared.layout.Layout.{Layout}
 use Rattle.accept.specs.Post.{Reads}
 use Rattle.import_order.specs.Rooms.{headsRoom, spareRoom}
-use Rattle.import_order.specs.Collect.{entryBefore, sortInto}
+use Rattle.import_rules.specs.Collect.{entryBefore, sortInto}
 
 -- two lists as one: the head of the second comes first only where it stands before that of the first
 unfoldable pub mergeBy : {A : Type 0} → (A → A → Bool) → List A → List A → List A

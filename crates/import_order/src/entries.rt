@@ -3,7 +3,7 @@ ghost use mathlib.Core.Path.{_≡_};
 ghost use Rattle.snapshot.specs.Records.{scopeAt};
 ghost use Rattle.snapshot.specs.Layouts.{snapOf};
 ghost use Rattle.accept.specs.Post.{Reads};
-ghost use Rattle.import_order.specs.Collect.{entryBefore as entryBeforeOf};
+ghost use Rattle.import_rules.specs.Collect.{entryBefore as entryBeforeOf};
 use crate::texts::text_before;
 use snapshot::layout::Layout;
 use snapshot::record::scope_name;

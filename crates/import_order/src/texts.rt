@@ -6,7 +6,7 @@ ghost use Rattle.snapshot.specs.Words.{textAt};
 ghost use Rattle.snapshot.specs.Layouts.{nameHead, snapOf};
 ghost use Rattle.accept.specs.Post.{Reads};
 ghost use Rattle.find_path.specs.Line.{unpacked, textOf};
-ghost use Rattle.import_order.specs.Collect.{textBefore};
+ghost use Rattle.import_rules.specs.Collect.{textBefore};
 use line::text::text_byte;
 use path_rules::choices::name_len;
 use snapshot::ids::Name;

@@ -6,13 +6,13 @@ use mathlib.Core.Bool.{Bool, true, false, _&&_}
 use lib.Dec.{eqb}
 use Rattle.snapshot.specs.Lists.{rows, any, all, eqList}
 use Rattle.snapshot.specs.Words.{argumentsOf}
-use Rattle.accept.specs.Tests.{textBound, padded}
-use Rattle.accept.specs.Steps.{nameStep, crateStep, dependencyStep, mapStep, moduleStep, childStep, preludeStep, definitionStep, scopeStep, importStep, externStep, memberStep}
-use Rattle.accept.specs.Verdict.{argumentsFrom, recordStep, stepAt, finish, records, verdict}
-use Rattle.accept.specs.Worked.{worked}
+use Rattle.check_rules.specs.Tests.{textBound, padded}
+use Rattle.check_rules.specs.Steps.{nameStep, crateStep, dependencyStep, mapStep, moduleStep, childStep, preludeStep, definitionStep, scopeStep, importStep, externStep, memberStep}
+use Rattle.check_rules.specs.Verdict.{argumentsFrom, recordStep, stepAt, finish, records, verdict}
+use Rattle.check_rules.specs.Worked.{worked}
 use Rattle.hir_def.specs.Finds.{placeOf, select}
 use Rattle.hir_def.specs.Items.{definitionOf, rootOf, ownMap}
-use Rattle.find_path.specs.Choices.{nameData}
+use Rattle.path_choices.specs.Choices.{nameData}
 use Rattle.find_path.specs.Line.{unpacked, textOf}
 use Rattle.import_rules.specs.Collect.{textBefore, entryBefore, insertBy, sortInto, entriesOf, piled, visits, modulesFrom, memberNs, importsOf, importsIn, importsOver, collected, wordsOf}
 use Rattle.import_rules.specs.Listings.{Listing, refusedBy, listed, listIn, listBy, listOf}

@@ -8,14 +8,14 @@ use lib.ListN.{length}
 use Rattle.snapshot.specs.Lists.{rows, any, all, eqList}
 use Rattle.snapshot.specs.Words.{argumentsOf}
 use Rattle.snapshot.specs.Records.{Snapshot, Import}
-use Rattle.accept.specs.Builtins.{packed}
-use Rattle.accept.specs.Tests.{textBound, padded}
-use Rattle.accept.specs.Steps.{nameStep, crateStep, dependencyStep, mapStep, moduleStep, childStep, preludeStep, definitionStep, scopeStep, importStep, externStep, memberStep}
-use Rattle.accept.specs.Verdict.{Verdict, refuse, accept, argumentsFrom, recordStep, stepAt, finish, records, verdict}
-use Rattle.accept.specs.Worked.{worked}
+use Rattle.check_rules.specs.Builtins.{packed}
+use Rattle.check_rules.specs.Tests.{textBound, padded}
+use Rattle.check_rules.specs.Steps.{nameStep, crateStep, dependencyStep, mapStep, moduleStep, childStep, preludeStep, definitionStep, scopeStep, importStep, externStep, memberStep}
+use Rattle.check_rules.specs.Verdict.{Verdict, refuse, accept, argumentsFrom, recordStep, stepAt, finish, records, verdict}
+use Rattle.check_rules.specs.Worked.{worked}
 use Rattle.hir_def.specs.Finds.{placeOf, select}
 use Rattle.hir_def.specs.Items.{definitionOf, rootOf, ownMap}
-use Rattle.find_path.specs.Choices.{nameData}
+use Rattle.path_choices.specs.Choices.{nameData}
 use Rattle.find_path.specs.Line.{bytesOf, unpacked, textOf}
 use Rattle.import_rules.specs.Collect.{textBefore, entryBefore, insertBy, sortInto, entriesOf, piled, visits, modulesFrom, memberNs, importsOf, importsIn, importsOver, collected, wordsOf}
 

@@ -7,7 +7,7 @@ use lib.ListN.{length}
 use Rattle.snapshot.specs.Limits.{areaLimit}
 use Rattle.snapshot.specs.Refusals.{areaRefusal, unknownRefusal, targetRefusal}
 use Rattle.snapshot.specs.Records.{Snapshot}
-use Rattle.accept.specs.Verdict.{Verdict, refuse, accept, verdict}
+use Rattle.check_rules.specs.Verdict.{Verdict, refuse, accept, verdict}
 use Rattle.import_rules.specs.Collect.{collected, wordsOf}
 
 pub data Listing : Type 0 where

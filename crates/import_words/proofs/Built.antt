@@ -7,13 +7,13 @@ use lib.Dec.{eqb}
 use lib.ListN.{length}
 use Rattle.snapshot.specs.Sizes.{importSize}
 use Rattle.snapshot.specs.Records.{Snapshot}
-use Rattle.accept.specs.Verdict.{accept, verdict}
+use Rattle.check_rules.specs.Verdict.{accept, verdict}
 use Rattle.hir_def.specs.Finds.{select}
 use Rattle.hir_def.proofs.Found.{each-select}
-use Rattle.find_path.proofs.Crates.{each-append}
+use Rattle.search_laws.proofs.Crates.{each-append}
 use Rattle.hir_def.specs.ImportMap.{importInfoFor}
 use Rattle.hir_def.specs.declared.Item.{Item}
-use Rattle.scope_edits.specs.Entries.{scopesEnd}
+use Rattle.edit_rules.specs.Entries.{scopesEnd}
 use Rattle.import_rules.specs.Collect.{collected}
 use Rattle.import_words.specs.Words.{placedFrom, othersThan, isOthers, replaced, wordsWith, snapshotWith, isOf, unplaced}
 use Rattle.import_words.proofs.Fitting.{collected-fits, collected-owned}

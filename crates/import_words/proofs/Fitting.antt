@@ -8,15 +8,15 @@ use borrow.Author.Tests.{eqb-true, eq-eqb, le-leb, lt-ltb}
 use lib.Dec.{eqb, leb, ltb}
 use lib.ListN.{length}
 use Rattle.snapshot.specs.Records.{Snapshot, Scope, Import, Member}
-use Rattle.accept.specs.Tests.{countsOf}
-use Rattle.accept.specs.Verdict.{accept, verdict}
+use Rattle.check_rules.specs.Tests.{countsOf}
+use Rattle.check_rules.specs.Verdict.{accept, verdict}
 use Rattle.accept.specs.Valid.{Each, none, more, ScopeFits, MemberFits, MacroOnly, Belongs, definitionIn}
 use Rattle.accept.proofs.Accepted.{by-test}
 use Rattle.accept.proofs.Bools.{and-two}
 use Rattle.accept.proofs.Valid.{accepted-valid}
 use Rattle.hir_def.specs.Finds.{select}
 use Rattle.hir_def.proofs.Found.{each-select}
-use Rattle.find_path.proofs.Crates.{each-append}
+use Rattle.search_laws.proofs.Crates.{each-append}
 use Rattle.import_rules.specs.Collect.{insertBy, sortInto, entryBefore, isPublicIn, entriesOf, modulesFrom, isMemberOf, memberNs, memberImport, entryImport, importsOf, importsIn, importsOver, collected}
 use Rattle.import_words.specs.Words.{Fits}
 

@@ -16,9 +16,9 @@ use Rattle.hir_def.specs.Finds.{select}
 use Rattle.hir_def.specs.Items.{itemOf, definitionOf, rootOf, ownMap}
 use Rattle.hir_def.specs.ImportMap.{isImport, importInfoFor}
 use Rattle.hir_def.specs.declared.Item.{Item}
-use Rattle.find_path.specs.Choices.{nameData}
+use Rattle.path_choices.specs.Choices.{nameData}
 use Rattle.find_path.specs.Line.{textOf}
-use Rattle.scope_edits.specs.Entries.{movedImport, withLists, scopesEnd}
+use Rattle.edit_rules.specs.Entries.{movedImport, withLists, scopesEnd}
 use Rattle.import_rules.specs.Collect.{entryBefore, entriesOf, piled, visits, modulesFrom, importsOf, importsIn, importsOver, collected}
 use Rattle.import_words.specs.Words.{placedFrom, isOthers, othersThan, replaced, snapshotWith, isOf, unplaced}
 use Rattle.import_words.proofs.Fitting.{Owned}

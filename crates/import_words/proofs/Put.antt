@@ -12,11 +12,11 @@ use Rattle.snapshot.specs.Lists.{any}
 use Rattle.snapshot.specs.Words.{kindOf}
 use Rattle.snapshot.specs.Sizes.{importSize}
 use Rattle.snapshot.specs.Records.{Snapshot, Scope, Import, Extern}
-use Rattle.accept.specs.Tests.{countsOf, sameEntry}
-use Rattle.accept.specs.Verdict.{accept, records, empty, verdict}
+use Rattle.check_rules.specs.Tests.{countsOf, sameEntry}
+use Rattle.check_rules.specs.Verdict.{accept, records, empty, verdict}
 use Rattle.accept.specs.Valid.{Each, Limits}
 use Rattle.accept.proofs.Ranges.{accepted-limits}
-use Rattle.scope_edits.specs.Entries.{movedScope, movedExtern, withLists, scopesEnd, inserted, cut}
+use Rattle.edit_rules.specs.Entries.{movedScope, movedExtern, withLists, scopesEnd, inserted, cut}
 use Rattle.scope_edits.proofs.Lists.{inserted-length, inserted-before, inserted-at, inserted-after, cut-length, cut-before, cut-after}
 use Rattle.scope_edits.proofs.Folded.{base, records-more, records-after, run-late, run-moved}
 use Rattle.scope_edits.proofs.Split.{verdict-is}

@@ -13,13 +13,13 @@ use Rattle.snapshot.specs.Lists.{any}
 use Rattle.snapshot.specs.Words.{kindOf, argumentsAt}
 use Rattle.snapshot.specs.Sizes.{importSize}
 use Rattle.snapshot.specs.Records.{Snapshot, Import, Extern, Member, importAt, externAt, memberAt}
-use Rattle.accept.specs.Tests.{countsOf, importRange, importDefined, nsPlaced, externDefined, sameExtern, memberRange, memberDefined, memberPlaced}
-use Rattle.accept.specs.Steps.{Next, on, addImport, addExtern, addMember, importStep, externStep, memberStep}
-use Rattle.accept.specs.Verdict.{accept, finish, recordStep, records}
+use Rattle.check_rules.specs.Tests.{countsOf, importRange, importDefined, nsPlaced, externDefined, sameExtern, memberRange, memberDefined, memberPlaced}
+use Rattle.check_rules.specs.Steps.{Next, on, addImport, addExtern, addMember, importStep, externStep, memberStep}
+use Rattle.check_rules.specs.Verdict.{accept, finish, recordStep, records}
 use Rattle.accept.specs.Valid.{Each, none, more}
 use Rattle.accept.proofs.Accepted.{by-test, Taken, judge-on}
 use Rattle.accept.proofs.Folds.{records-end}
-use Rattle.scope_edits.specs.Entries.{withLists}
+use Rattle.edit_rules.specs.Entries.{withLists}
 use Rattle.scope_edits.proofs.Stepped.{follows-rise, taking, taken-step, taking-within}
 use Rattle.scope_edits.proofs.Folded.{finish-accepts, next-record, records-take, records-after}
 use Rattle.import_rules.specs.Collect.{importWords, wordsOf}

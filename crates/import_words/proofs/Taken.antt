@@ -12,12 +12,12 @@ use lib.Seq.{append-snoc, getD-append-add}
 use Rattle.snapshot.specs.Words.{kindOf, payOf, argumentsOf, argumentsAt}
 use Rattle.snapshot.specs.Sizes.{importSize}
 use Rattle.snapshot.specs.Records.{Snapshot, Import, importAt}
-use Rattle.accept.specs.Tests.{countsOf}
-use Rattle.accept.specs.Steps.{on, addImport, importStep}
-use Rattle.accept.specs.Verdict.{follows, argumentsFrom, recordStep, records}
+use Rattle.check_rules.specs.Tests.{countsOf}
+use Rattle.check_rules.specs.Steps.{on, addImport, importStep}
+use Rattle.check_rules.specs.Verdict.{follows, argumentsFrom, recordStep, records}
 use Rattle.accept.specs.Valid.{Each, none, more, Limits}
 use Rattle.accept.proofs.Bools.{and-two, and-four}
-use Rattle.scope_edits.specs.Entries.{movedImport, withLists}
+use Rattle.edit_rules.specs.Entries.{movedImport, withLists}
 use Rattle.scope_edits.proofs.Stepped.{Taking, taken-step, arguments-same}
 use Rattle.scope_edits.proofs.Folded.{records-take}
 use Rattle.import_rules.specs.Collect.{importWords, wordsOf}

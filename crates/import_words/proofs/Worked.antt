@@ -5,15 +5,15 @@ use mathlib.Core.List.{List, [], _∷_, _++_}
 use mathlib.Core.Bool.{true, _&&_}
 use Rattle.snapshot.specs.Lists.{rows, any, all, eqList}
 use Rattle.snapshot.specs.Words.{argumentsOf}
-use Rattle.accept.specs.Tests.{textBound, padded}
-use Rattle.accept.specs.Steps.{nameStep, crateStep, dependencyStep, mapStep, moduleStep, childStep, preludeStep, definitionStep, scopeStep, importStep, externStep, memberStep}
-use Rattle.accept.specs.Verdict.{Verdict, refuse, accept, argumentsFrom, recordStep, stepAt, finish, records, verdict}
-use Rattle.accept.specs.Worked.{worked}
+use Rattle.check_rules.specs.Tests.{textBound, padded}
+use Rattle.check_rules.specs.Steps.{nameStep, crateStep, dependencyStep, mapStep, moduleStep, childStep, preludeStep, definitionStep, scopeStep, importStep, externStep, memberStep}
+use Rattle.check_rules.specs.Verdict.{Verdict, refuse, accept, argumentsFrom, recordStep, stepAt, finish, records, verdict}
+use Rattle.check_rules.specs.Worked.{worked}
 use Rattle.hir_def.specs.Finds.{placeOf, select}
 use Rattle.hir_def.specs.Items.{definitionOf, rootOf, ownMap}
-use Rattle.find_path.specs.Choices.{nameData}
+use Rattle.path_choices.specs.Choices.{nameData}
 use Rattle.find_path.specs.Line.{unpacked, textOf}
-use Rattle.scope_edits.specs.Entries.{firstFrom, scopesEnd}
+use Rattle.edit_rules.specs.Entries.{firstFrom, scopesEnd}
 use Rattle.import_rules.specs.Collect.{textBefore, entryBefore, insertBy, sortInto, entriesOf, piled, visits, modulesFrom, memberNs, importsOf, importsIn, importsOver, collected, wordsOf}
 use Rattle.import_rules.proofs.Worked.{head, named, withMembers}
 use Rattle.import_words.specs.Words.{othersThan, replaced, wordsWith}

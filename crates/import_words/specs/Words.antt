@@ -7,11 +7,11 @@ use lib.Dec.{eqb}
 use lib.ListN.{length}
 use Rattle.snapshot.specs.Sizes.{importSize}
 use Rattle.snapshot.specs.Records.{Snapshot, Import}
-use Rattle.accept.specs.Tests.{countsOf, importRange, importDefined, nsPlaced}
+use Rattle.check_rules.specs.Tests.{countsOf, importRange, importDefined, nsPlaced}
 use Rattle.hir_def.specs.Finds.{select}
 use Rattle.hir_def.specs.Items.{itemOf, sameItem}
 use Rattle.hir_def.specs.declared.Item.{Item}
-use Rattle.scope_edits.specs.Entries.{movedImport, movedExtern, withLists, scopesEnd, inserted, cut}
+use Rattle.edit_rules.specs.Entries.{movedImport, movedExtern, withLists, scopesEnd, inserted, cut}
 use Rattle.import_rules.specs.Collect.{wordsOf}
 
 -- what the check asks of an import record: 32, 33, 35

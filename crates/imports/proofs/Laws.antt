@@ -13,12 +13,12 @@ use Rattle.snapshot.specs.Records.{Snapshot, crateAt}
 use Rattle.snapshot.specs.Layouts.{crateBase, snapOf}
 use Rattle.snapshot.specs.declared.layout.Layout.{Layout}
 use Rattle.snapshot.proofs.Laws.{length-rows}
-use Rattle.accept.specs.Verdict.{refuse, verdict}
+use Rattle.check_rules.specs.Verdict.{refuse, verdict}
 use Rattle.accept.specs.Post.{Reads}
 use Rattle.accept.proofs.Stable.{snap-stays}
 use Rattle.answer.specs.Answers.{zeros}
 use Rattle.answer.proofs.Areas.{area-small, area-large}
-use Rattle.import_order.specs.Collect.{modulesFrom, importsOver, collected, wordsOf}
+use Rattle.import_rules.specs.Collect.{modulesFrom, importsOver, collected, wordsOf}
 use Rattle.import_order.specs.Lists.{Ready}
 use Rattle.import_words.proofs.Taken.{words-length}
 use Rattle.import_lists.specs.Threads.{Threaded}

@@ -3,7 +3,7 @@ ghost use mathlib.Core.Path.{_≡_};
 ghost use lib.ListN.{length};
 ghost use Rattle.snapshot.specs.Limits.{areaLimit};
 ghost use Rattle.snapshot.specs.Layouts.{snapOf};
-ghost use Rattle.accept.specs.Verdict.{verdict};
+ghost use Rattle.check_rules.specs.Verdict.{verdict};
 ghost use Rattle.answer.specs.Answers.{zeros};
 ghost use Rattle.import_order.specs.Lists.{Ready};
 ghost use Rattle.imports.specs.Listings.{listIn, listBy, Lists, ListsIn};

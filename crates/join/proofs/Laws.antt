@@ -12,13 +12,13 @@ use lib.Seq.{sets, sets-eq}
 use Rattle.snapshot.specs.Limits.{wordLimit, crateLimit, moduleLimit, nameLimit, definitionLimit}
 use Rattle.snapshot.specs.Records.{Snapshot}
 use Rattle.snapshot.specs.declared.layout.Layout.{Layout}
-use Rattle.accept.specs.Tests.{sameName}
-use Rattle.accept.specs.Verdict.{refuse, accept, verdict}
+use Rattle.check_rules.specs.Tests.{sameName}
+use Rattle.check_rules.specs.Verdict.{refuse, accept, verdict}
 use Rattle.accept.specs.Post.{Reads}
 use Rattle.accept.proofs.Bools.{and-two}
 use Rattle.accept.proofs.Valid.{accepted-valid}
 use Rattle.hir_def.specs.Finds.{select}
-use Rattle.find_path.proofs.Walks.{select-short}
+use Rattle.search_laws.proofs.Walks.{select-short}
 use Rattle.answer.specs.Answers.{zeros}
 use Rattle.answer.proofs.Areas.{area-small, area-large}
 use Rattle.join_words.specs.Joined.{isNew, merged, sameBuiltin, secondNumbers, moduleTo, definitionTo, together, joinedWords, isWithin, Joining, refusedBy, joinedAs, joinIn, joinBy, joinOf}

@@ -9,7 +9,7 @@ use lib.Dec.{eqb, leb, ltb}
 use lib.ListN.{length, getD}
 use Rattle.snapshot.specs.Words.{kindOf, argumentsAt}
 use Rattle.snapshot.specs.Records.{Snapshot}
-use Rattle.accept.specs.Verdict.{accept, argumentsFrom, records, empty, verdict}
+use Rattle.check_rules.specs.Verdict.{accept, argumentsFrom, records, empty, verdict}
 use Rattle.accept.proofs.Accepted.{by-test}
 use Rattle.accept.proofs.Bools.{and-three}
 use Rattle.scope_edits.proofs.Stepped.{taking, follows-parts}

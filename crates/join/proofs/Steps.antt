@@ -10,11 +10,11 @@ use lib.ListN.{length, getD}
 use Rattle.snapshot.specs.Words.{argumentsOf, wordsOf}
 use Rattle.snapshot.specs.Records.{Name, Crate, Dependency, Child, Prelude, Definition, Scope, Import, Extern, Member, Snapshot}
 use Rattle.snapshot.specs.declared.layout.Layout.{Layout}
-use Rattle.accept.specs.Tests.{countsOf, noName, noDefinition, sameName}
+use Rattle.check_rules.specs.Tests.{countsOf, noName, noDefinition, sameName}
 use Rattle.accept.specs.Valid.{Limits, NameFits, CrateFits, DependencyFits, ChildFits, PreludeFits, DefinitionFits, ScopeFits, ImportFits, ExternFits, MemberFits}
 use Rattle.accept.proofs.Accepted.{by-test}
-use Rattle.scope_edits.specs.Entries.{scopeWords}
-use Rattle.scope_edits.specs.Written.{headOf, nameWords, crateWords, dependencyWords, childWords, preludeWords, definitionWords, importWords, externWords, memberWords}
+use Rattle.edit_rules.specs.Entries.{scopeWords}
+use Rattle.edit_rules.specs.Written.{headOf, nameWords, crateWords, dependencyWords, childWords, preludeWords, definitionWords, importWords, externWords, memberWords}
 use Rattle.join_words.specs.Joined.{isNew, nameNumber, sameBuiltin, definitionNumber, Numbers, secondNumbers, dependencyTo, childTo, preludeTo, definitionTo, firstTo, secondTo, visibleTo, scopeTo, importTo, externTo, memberTo}
 use Rattle.join_words.proofs.Runs.{At, kind-is, Small}
 use Rattle.join_numbers.specs.Parts.{Counted}

@@ -10,13 +10,13 @@ use Rattle.snapshot.specs.Lists.{rows}
 use Rattle.snapshot.specs.Records.{Crate, Dependency, Child, Prelude, Scope, Import, Extern, Member, Snapshot}
 use Rattle.snapshot.specs.Layouts.{crateBase, dependencyBase, mapBase, childBase, preludeBase, definitionBase, scopeBase, importBase, externBase, memberBase, wordCount}
 use Rattle.snapshot.specs.declared.layout.Layout.{Layout}
-use Rattle.accept.specs.Tests.{noName, noDefinition, sameName}
+use Rattle.check_rules.specs.Tests.{noName, noDefinition, sameName}
 use Rattle.accept.specs.Valid.{Valid}
 use Rattle.accept.proofs.Bools.{each-map, each-at}
 use Rattle.accept.proofs.Valid.{accepted-valid}
 use Rattle.hir_def.specs.Finds.{select}
-use Rattle.scope_edits.specs.Entries.{scopeWords}
-use Rattle.scope_edits.specs.Written.{nameWords, crateWords, dependencyWords, childWords, preludeWords, definitionWords, importWords, externWords, memberWords, eachWords, treeWords, joined, snapshotWords}
+use Rattle.edit_rules.specs.Entries.{scopeWords}
+use Rattle.edit_rules.specs.Written.{nameWords, crateWords, dependencyWords, childWords, preludeWords, definitionWords, importWords, externWords, memberWords, eachWords, treeWords, joined, snapshotWords}
 use Rattle.join_words.specs.Joined.{isNew, merged, sameBuiltin, Numbers, secondNumbers, dependencyTo, mapTo, moduleTo, childTo, preludeTo, definitionTo, scopeTo, importTo, externTo, memberTo, together, joinedWords}
 use Rattle.join_words.proofs.Merged.{each-mapped}
 use Rattle.join_words.proofs.Runs.{At, words-append}

@@ -3,7 +3,7 @@
 ghost use mathlib.Core.Path.{_≡_};
 ghost use lib.ListN.{length};
 ghost use Rattle.snapshot.specs.Limits.{areaLimit};
-ghost use Rattle.accept.specs.Verdict.{accept, verdict};
+ghost use Rattle.check_rules.specs.Verdict.{accept, verdict};
 ghost use Rattle.answer.specs.Answers.{zeros};
 ghost use Rattle.join_words.specs.Joined.{joinIn, joinBy};
 ghost use Rattle.join_numbers.specs.Parts.{partOf, Part, Ready};

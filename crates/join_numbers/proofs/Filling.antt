@@ -12,7 +12,7 @@ use lib.Seq.{getD-set-same, getD-set-other, take-suc, take-all, length-take-le}
 use Rattle.snapshot.specs.Lists.{any}
 use Rattle.accept.proofs.Accepted.{by-test}
 use Rattle.hir_def.specs.Finds.{placeOf, select}
-use Rattle.find_path.proofs.Walks.{select-hit, select-miss}
+use Rattle.search_laws.proofs.Walks.{select-hit, select-miss}
 use Rattle.join_words.specs.Joined.{isNew, mergedNumber}
 use Rattle.join_words.proofs.Merged.{place-from}
 use Rattle.join_numbers.specs.Numbered.{Filled, numberBy, freshBy}

@@ -14,7 +14,7 @@ use Rattle.snapshot.specs.Sizes.{definitionSize}
 use Rattle.snapshot.specs.Records.{Name, Definition, nameAt, definitionAt}
 use Rattle.snapshot.specs.Layouts.{recordsOf}
 use Rattle.snapshot.proofs.Laws.{rows-next, rows-none}
-use Rattle.accept.specs.Tests.{sameName}
+use Rattle.check_rules.specs.Tests.{sameName}
 use Rattle.accept.proofs.Accepted.{by-test}
 use Rattle.accept.proofs.Bools.{or-none}
 use Rattle.hir_def.specs.Finds.{placeOf}

@@ -11,8 +11,8 @@ use Rattle.snapshot.specs.Records.{Map, Module, Snapshot}
 use Rattle.snapshot.specs.Sizes.{crateSize, dependencySize, mapSize, moduleSize, childSize, preludeSize, definitionSize, scopeSize, importSize, externSize, memberSize}
 use Rattle.accept.specs.Valid.{Each, none, more}
 use Rattle.accept.proofs.Accepted.{by-test}
-use Rattle.scope_edits.specs.Entries.{scopeWords}
-use Rattle.scope_edits.specs.Written.{nameWords, crateWords, dependencyWords, mapWords, moduleWords, childWords, preludeWords, definitionWords, importWords, externWords, memberWords, eachWords, wordsWithin, treeWords, kindsWords, joined, snapshotWords}
+use Rattle.edit_rules.specs.Entries.{scopeWords}
+use Rattle.edit_rules.specs.Written.{nameWords, crateWords, dependencyWords, mapWords, moduleWords, childWords, preludeWords, definitionWords, importWords, externWords, memberWords, eachWords, wordsWithin, treeWords, kindsWords, joined, snapshotWords}
 use Rattle.join_words.proofs.Lists.{sized-length}
 
 -- the words of maps and modules

@@ -8,7 +8,7 @@ use borrow.Author.Tests.{lt-ltb, le-ltb}
 use lib.Dec.{ltb}
 use lib.ListN.{length, getD}
 use Rattle.snapshot.specs.Records.{Snapshot}
-use Rattle.accept.specs.Tests.{noName, noDefinition, sameName}
+use Rattle.check_rules.specs.Tests.{noName, noDefinition, sameName}
 use Rattle.accept.proofs.Accepted.{by-test}
 use Rattle.join_words.specs.Joined.{isNew, mergedNumber, nameNumber, sameBuiltin, definitionNumber}
 use Rattle.join_words.proofs.Merged.{number-new, number-old, From}

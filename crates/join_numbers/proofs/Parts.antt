@@ -11,15 +11,15 @@ use Rattle.snapshot.specs.Records.{Name, Module, Snapshot, nameAt}
 use Rattle.snapshot.specs.Layouts.{crateBase, dependencyBase, mapBase, childBase, preludeBase, definitionBase, scopeBase, importBase, externBase, memberBase, tableWords, snapOf}
 use Rattle.snapshot.specs.declared.layout.Layout.{Layout}
 use Rattle.snapshot.proofs.Laws.{length-rows}
-use Rattle.accept.specs.Verdict.{accept, verdict}
+use Rattle.check_rules.specs.Verdict.{accept, verdict}
 use Rattle.accept.specs.Valid.{Each, more, NameFits}
 use Rattle.accept.specs.Post.{Reads}
 use Rattle.accept.proofs.Bools.{each-map}
 use Rattle.accept.proofs.Stable.{reads-stay}
 use Rattle.accept.proofs.Valid.{accepted-valid}
 use Rattle.find_path.specs.Line.{snapshotOf}
-use Rattle.scope_edits.specs.Entries.{scopeWords}
-use Rattle.scope_edits.specs.Written.{nameWords, crateWords, dependencyWords, childWords, preludeWords, definitionWords, importWords, externWords, memberWords, eachWords, treeWords, kindsWords, joined, snapshotWords}
+use Rattle.edit_rules.specs.Entries.{scopeWords}
+use Rattle.edit_rules.specs.Written.{nameWords, crateWords, dependencyWords, childWords, preludeWords, definitionWords, importWords, externWords, memberWords, eachWords, treeWords, kindsWords, joined, snapshotWords}
 use Rattle.scope_edits.proofs.Written.{accepted-written}
 use Rattle.join_words.proofs.Runs.{At, at-left, at-right, at-next, at-rows, pay-is}
 use Rattle.join_words.proofs.Stages.{NameWhole}

@@ -12,7 +12,7 @@ use Rattle.snapshot.specs.Records.{Definition, Snapshot, nameAt, definitionAt}
 use Rattle.snapshot.specs.Layouts.{definitionBase, nameHead, recordsOf}
 use Rattle.snapshot.specs.declared.layout.Layout.{Layout}
 use Rattle.snapshot.proofs.Laws.{getD-rows}
-use Rattle.accept.specs.Tests.{noName, noDefinition, sameName}
+use Rattle.check_rules.specs.Tests.{noName, noDefinition, sameName}
 use Rattle.accept.proofs.Bools.{each-at}
 use Rattle.accept.proofs.Valid.{accepted-valid}
 use Rattle.hir_def.specs.Finds.{placeOf}

@@ -8,7 +8,7 @@ use lib.ListN.{length, getD}
 use Rattle.snapshot.specs.Limits.{nameLimit}
 use Rattle.snapshot.specs.Records.{Definition, Snapshot}
 use Rattle.snapshot.specs.Layouts.{tableWords}
-use Rattle.accept.specs.Tests.{sameName}
+use Rattle.check_rules.specs.Tests.{sameName}
 use Rattle.hir_def.specs.Finds.{select}
 use Rattle.join_numbers.specs.declared.tables.New.{New}
 use Rattle.join_words.specs.Joined.{isNew, nameNumber, sameBuiltin, definitionNumber}

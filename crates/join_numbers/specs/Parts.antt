@@ -11,10 +11,10 @@ use Rattle.snapshot.specs.Records.{Name, Snapshot, nameAt, definitionAt}
 use Rattle.snapshot.specs.Layouts.{definitionBase, wordCount, recordsOf}
 use Rattle.snapshot.specs.declared.layout.Layout.{Layout}
 use Rattle.record_rules.specs.Stands.{Limited}
-use Rattle.accept.specs.Verdict.{accept, verdict}
+use Rattle.check_rules.specs.Verdict.{accept, verdict}
 use Rattle.accept.specs.Post.{Reads}
 use Rattle.find_path.specs.Line.{snapshotOf}
-use Rattle.scope_edits.specs.Written.{nameWords, eachWords, snapshotWords}
+use Rattle.edit_rules.specs.Written.{nameWords, eachWords, snapshotWords}
 
 -- the snapshot of an input
 abbrev pub partOf : List ℕ → Snapshot

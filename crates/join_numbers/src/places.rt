@@ -6,7 +6,7 @@ ghost use Rattle.snapshot.specs.Limits.{nameLimit};
 ghost use Rattle.snapshot.specs.Sizes.{definitionSize};
 ghost use Rattle.snapshot.specs.Records.{nameAt, definitionAt};
 ghost use Rattle.snapshot.specs.Layouts.{wordCount, definitionBase, nameHead, recordsOf};
-ghost use Rattle.accept.specs.Tests.{sameName};
+ghost use Rattle.check_rules.specs.Tests.{sameName};
 ghost use Rattle.hir_def.specs.Finds.{placeOf};
 ghost use Rattle.join_numbers.specs.Parts.{namesFrom};
 ghost use Rattle.join_numbers.specs.Numbered.{isNamed};

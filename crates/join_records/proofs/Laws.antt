@@ -17,7 +17,7 @@ use Rattle.snapshot.specs.declared.layout.Layout.{Layout}
 use Rattle.snapshot.proofs.Laws.{past, rows-next, rows-none, rows-snoc, length-rows, getD-rows}
 use Rattle.accept.proofs.Accepted.{by-test}
 use Rattle.accept.proofs.Turns.{arguments-few}
-use Rattle.scope_edits.specs.Written.{headOf, joined}
+use Rattle.edit_rules.specs.Written.{headOf, joined}
 use Rattle.join_words.specs.Joined.{Numbers, orNone, firstTo, secondTo, visibleTo}
 use Rattle.join_numbers.specs.Numbered.{nameTable, definitionTable}
 use Rattle.join_records.specs.Moves.{numbersOf, roleTable, roleOf, definitionOf, fieldTo, movedWord, movedAt, keptAt, keptWords, walked, movedRun, runOf, baseOf, kindTo, kinds, wordsTo}

@@ -10,7 +10,7 @@ use Rattle.snapshot.specs.Lists.{rows}
 use Rattle.snapshot.specs.Words.{argumentsOf, argumentsAt}
 use Rattle.snapshot.specs.declared.layout.Layout.{Layout}
 use Rattle.hir_def.specs.Finds.{select}
-use Rattle.scope_edits.specs.Written.{headOf, eachWords}
+use Rattle.edit_rules.specs.Written.{headOf, eachWords}
 use Rattle.join_words.specs.Joined.{Numbers}
 use Rattle.join_words.proofs.Runs.{At, at-left, at-right, at-next, at-rows, kind-is, pay-is}
 use Rattle.join_records.specs.Moves.{roleOf, fieldTo, movedWord, movedAt, keptWords, walked, movedRun, runOf}

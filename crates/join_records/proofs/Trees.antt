@@ -13,7 +13,7 @@ use Rattle.snapshot.specs.declared.layout.Layout.{Layout}
 use Rattle.accept.specs.Valid.{Each, more}
 use Rattle.accept.proofs.Accepted.{by-test}
 use Rattle.accept.proofs.Bools.{each-map}
-use Rattle.scope_edits.specs.Written.{headOf, mapWords, moduleWords, eachWords, wordsWithin, treeWords}
+use Rattle.edit_rules.specs.Written.{headOf, mapWords, moduleWords, eachWords, wordsWithin, treeWords}
 use Rattle.join_words.specs.Joined.{Numbers, mapTo, moduleTo}
 use Rattle.join_words.proofs.Runs.{At, at-left, at-right, kind-is, words-append, Small}
 use Rattle.join_records.specs.Moves.{numbersOf, roleOf, fieldTo, keptWords}

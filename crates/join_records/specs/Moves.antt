@@ -10,7 +10,7 @@ use Rattle.snapshot.specs.Words.{kindOf, payOf, argumentsAt}
 use Rattle.snapshot.specs.Records.{Definition}
 use Rattle.snapshot.specs.Layouts.{crateBase, dependencyBase, mapBase, childBase, preludeBase, definitionBase, scopeBase, importBase, externBase, memberBase, wordCount}
 use Rattle.snapshot.specs.declared.layout.Layout.{Layout}
-use Rattle.scope_edits.specs.Written.{headOf, joined}
+use Rattle.edit_rules.specs.Written.{headOf, joined}
 use Rattle.join_numbers.specs.Numbered.{nameTable, definitionTable}
 use Rattle.join_words.specs.Joined.{Numbers, orNone, firstTo, secondTo, visibleTo}
 

@@ -13,16 +13,16 @@ use Rattle.snapshot.specs.Lists.{any, all, rows}
 use Rattle.snapshot.specs.Limits.{wordLimit, crateLimit, moduleLimit, nameLimit, definitionLimit, namespaceLimit}
 use Rattle.snapshot.specs.Sizes.{definitionSize, scopeSize, importSize, externSize}
 use Rattle.snapshot.specs.Records.{Name, Crate, Dependency, Map, Module, Child, Prelude, Definition, Scope, Import, Extern, Member, Snapshot}
-use Rattle.accept.specs.Tests.{Counts, countsOf, noName, noMap, noModule, noDefinition, isBuiltin, isOwn, isIn, definitionRange, definitionDefined, sameDefinition, definitionRepeated, definitionPlaced, kindOfDefinition, scopeRange, scopeDefined, sameEntry, nsPlaced, importRange, importDefined, externDefined, sameExtern, memberRange, memberDefined, isMember, memberPlaced, mapsFilled, cratesOwn}
-use Rattle.accept.specs.Steps.{addDefinition, addScope, addImport, addExtern, addMember}
+use Rattle.check_rules.specs.Tests.{Counts, countsOf, noName, noMap, noModule, noDefinition, isBuiltin, isOwn, isIn, definitionRange, definitionDefined, sameDefinition, definitionRepeated, definitionPlaced, kindOfDefinition, scopeRange, scopeDefined, sameEntry, nsPlaced, importRange, importDefined, externDefined, sameExtern, memberRange, memberDefined, isMember, memberPlaced, mapsFilled, cratesOwn}
+use Rattle.check_rules.specs.Steps.{addDefinition, addScope, addImport, addExtern, addMember}
 use Rattle.accept.specs.Valid.{Each, none, more, Valid, mapIn, definitionIn, crateIn, blockIn, DefinitionFits, ScopeFits, Belongs}
-use Rattle.accept.specs.Verdict.{verdict, accept, finish, records}
+use Rattle.check_rules.specs.Verdict.{verdict, accept, finish, records}
 use Rattle.accept.proofs.Accepted.{by-test}
 use Rattle.accept.proofs.Bools.{each-at}
 use Rattle.accept.proofs.Folds.{records-end}
-use Rattle.scope_edits.specs.Entries.{scopeWords, movedScope, movedImport, movedExtern}
-use Rattle.scope_edits.specs.Written.{nameWords, crateWords, dependencyWords, childWords, preludeWords, definitionWords, importWords, externWords, memberWords, eachWords, treeWords, kindsWords, snapshotWords}
-use Rattle.scope_edits.specs.Written as written
+use Rattle.edit_rules.specs.Entries.{scopeWords, movedScope, movedImport, movedExtern}
+use Rattle.edit_rules.specs.Written.{nameWords, crateWords, dependencyWords, childWords, preludeWords, definitionWords, importWords, externWords, memberWords, eachWords, treeWords, kindsWords, snapshotWords}
+use Rattle.edit_rules.specs.Written as written
 use Rattle.scope_edits.proofs.Split.{verdict-is}
 use Rattle.join_words.specs.Joined.{definitionPut, placedBy, placed, kindBase}
 use Rattle.join_words.proofs.Lists.{any-has, all-rows, before-length, before-any, placed-length, placed-at, placed-field, placed-words, sized-length}

@@ -10,13 +10,13 @@ use lib.ListN.{length}
 use Rattle.snapshot.specs.Limits.{wordLimit, crateLimit, moduleLimit, nameLimit, definitionLimit, areaLimit}
 use Rattle.snapshot.specs.Refusals.{areaRefusal, joinRefusal}
 use Rattle.snapshot.specs.Records.{Snapshot}
-use Rattle.accept.specs.Tests.{countsOf}
+use Rattle.check_rules.specs.Tests.{countsOf}
 use Rattle.accept.specs.Valid.{Limits}
-use Rattle.accept.specs.Verdict.{Verdict, refuse, accept, verdict}
+use Rattle.check_rules.specs.Verdict.{Verdict, refuse, accept, verdict}
 use Rattle.accept.proofs.Accepted.{by-test}
 use Rattle.accept.proofs.Bools.{and-two, and-five}
 use Rattle.accept.proofs.Valid.{accepted-valid}
-use Rattle.scope_edits.specs.Written.{snapshotWords}
+use Rattle.edit_rules.specs.Written.{snapshotWords}
 use Rattle.join_words.specs.Joined.{together, joined, joinedWords, isWithin, Joining, refusedBy, joinedAs, joinIn, joinBy, joinOf}
 use Rattle.join_words.proofs.Accepts.{written-accepted}
 use Rattle.join_words.proofs.Sound.{sound, sound-whole}

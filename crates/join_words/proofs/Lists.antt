@@ -9,7 +9,7 @@ use lib.ListN.{length, getD, take, length-append}
 use lib.Seq.{getD-take, length-take-le}
 use Rattle.snapshot.specs.Lists.{any, all, rows}
 use Rattle.accept.specs.Valid.{Distinct}
-use Rattle.scope_edits.specs.Written.{eachWords}
+use Rattle.edit_rules.specs.Written.{eachWords}
 use Rattle.join_words.specs.Joined.{placedBy}
 
 pub any-not : {A : Type 0} (p : A → Bool) (d : A) (ys : List A) → ((j : ℕ) → j < length ys → p (getD ys j d) ≡ false) → any p ys ≡ false

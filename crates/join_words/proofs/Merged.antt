@@ -11,12 +11,12 @@ use lib.ListN.{length, getD, take, length-append, List·getD-append}
 use lib.Seq.{getD-append-add}
 use Rattle.snapshot.specs.Lists.{any, eqList}
 use Rattle.snapshot.specs.Records.{Name}
-use Rattle.accept.specs.Tests.{sameName}
+use Rattle.check_rules.specs.Tests.{sameName}
 use Rattle.accept.specs.Valid.{Each, none, more}
 use Rattle.accept.proofs.Accepted.{by-test}
 use Rattle.accept.proofs.Bools.{and-two, or-right, any-none}
 use Rattle.hir_def.specs.Finds.{placeOf, select}
-use Rattle.find_path.proofs.Walks.{select-hit, select-miss}
+use Rattle.search_laws.proofs.Walks.{select-hit, select-miss}
 use Rattle.join_words.specs.Joined.{isNew, merged, mergedNumber}
 
 -- two lists, one after the other

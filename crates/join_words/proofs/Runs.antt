@@ -13,10 +13,10 @@ use Rattle.snapshot.specs.Lists.{rows}
 use Rattle.snapshot.specs.Words.{kindOf, payOf, argumentsOf, argumentsAt}
 use Rattle.snapshot.specs.Records.{Snapshot}
 use Rattle.snapshot.proofs.Laws.{length-rows, getD-rows}
-use Rattle.accept.specs.Steps.{on}
-use Rattle.accept.specs.Verdict.{follows, argumentsFrom, recordStep, records}
+use Rattle.check_rules.specs.Steps.{on}
+use Rattle.check_rules.specs.Verdict.{follows, argumentsFrom, recordStep, records}
 use Rattle.accept.specs.Valid.{Each, none, more}
-use Rattle.scope_edits.specs.Written.{headOf, eachWords}
+use Rattle.edit_rules.specs.Written.{headOf, eachWords}
 use Rattle.scope_edits.proofs.Stepped.{Taking, taken-step}
 use Rattle.scope_edits.proofs.Folded.{records-take}
 use Rattle.scope_edits.proofs.Written.{each-more}

@@ -10,13 +10,13 @@ use lib.ListN.{length, getD, take, length-append}
 use Rattle.snapshot.specs.Lists.{any}
 use Rattle.snapshot.specs.Limits.{crateLimit, moduleLimit, nameLimit, definitionLimit}
 use Rattle.snapshot.specs.Records.{Name, Crate, Dependency, Map, Module, Child, Prelude, Definition, Scope, Import, Extern, Member, Snapshot}
-use Rattle.accept.specs.Tests.{Counts, countsOf, noName, noMap, noModule, noDefinition, sameName, sameChild, samePrelude, sameEntry, sameExtern, isBuiltin}
+use Rattle.check_rules.specs.Tests.{Counts, countsOf, noName, noMap, noModule, noDefinition, sameName, sameChild, samePrelude, sameEntry, sameExtern, isBuiltin}
 use Rattle.accept.specs.Valid.{Each, none, more, Valid, Ranges, Limits, Tree, Once, Owned, Distinct, DefinedOnce, Enums, Under, MacroOnly, Belongs, NameFits, CrateFits, DependencyFits, MapFits, ModuleFits, ChildFits, PreludeFits, DefinitionFits, ScopeFits, ImportFits, ExternFits, MemberFits, mapIn, parentIn, blockIn, crateIn, definitionIn}
 use Rattle.accept.proofs.Accepted.{by-test}
 use Rattle.accept.proofs.Bools.{and-two, and-three, each-at, each-map, any-none}
 use Rattle.hir_def.specs.Finds.{select}
 use Rattle.hir_def.proofs.Found.{each-select}
-use Rattle.find_path.proofs.Crates.{each-append}
+use Rattle.search_laws.proofs.Crates.{each-append}
 use Rattle.join_words.specs.Joined.{isNew, merged, mergedNumber, nameNumber, sameBuiltin, definitionNumber, Numbers, secondNumbers, orNone, dependencyTo, mapTo, moduleTo, childTo, preludeTo, definitionTo, firstTo, secondTo, visibleTo, scopeTo, importTo, externTo, memberTo, together}
 use Rattle.join_words.proofs.Lists.{any-not}
 use Rattle.join_words.proofs.Merged.{by-part, map-length, map-at, each-mapped, both-length, both-low, both-high, by-both, kept-at, kept-rise, kept-less, From, from, from-less, number-new, number-old, new-apart, merged-length, merged-low, merged-high, name-equal, name-refl}

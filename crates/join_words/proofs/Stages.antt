@@ -13,12 +13,12 @@ use Rattle.snapshot.specs.Lists.{any, all, rows}
 use Rattle.snapshot.specs.Limits.{crateLimit, moduleLimit, nameLimit, definitionLimit, namespaceLimit}
 use Rattle.snapshot.specs.Words.{wordsOf}
 use Rattle.snapshot.specs.Records.{Name, Crate, Dependency, Map, Module, Child, Prelude, Definition, Scope, Import, Extern, Member, Snapshot}
-use Rattle.accept.specs.Tests.{Counts, countsOf, noName, noMap, noModule, noDefinition, padded, isBuiltin, isEdition, sameName, isOwn, isIn, mapRange, mapDefined, mapRepeated, mapPlaced, moduleDefined, modulePlaced, sameChild, samePrelude, childPlaced}
-use Rattle.accept.specs.Steps.{addMap, addModule}
+use Rattle.check_rules.specs.Tests.{Counts, countsOf, noName, noMap, noModule, noDefinition, padded, isBuiltin, isEdition, sameName, isOwn, isIn, mapRange, mapDefined, mapRepeated, mapPlaced, moduleDefined, modulePlaced, sameChild, samePrelude, childPlaced}
+use Rattle.check_rules.specs.Steps.{addMap, addModule}
 use Rattle.accept.specs.Valid.{Each, none, more, Valid, Limits, mapIn, parentIn, blockIn, crateIn, MapFits}
 use Rattle.accept.proofs.Accepted.{by-test}
 use Rattle.accept.proofs.Bools.{each-at}
-use Rattle.scope_edits.specs.Written.{nameWords, crateWords, dependencyWords, mapWords, moduleWords, childWords, preludeWords, eachWords, treeWords}
+use Rattle.edit_rules.specs.Written.{nameWords, crateWords, dependencyWords, mapWords, moduleWords, childWords, preludeWords, eachWords, treeWords}
 use Rattle.scope_edits.proofs.Written.{tree-map, tree-module}
 use Rattle.join_words.proofs.Lists.{any-has, before-length, before-any, before-apart}
 use Rattle.join_words.proofs.Runs.{At, at-left, at-right, Goes, goes-none, goes-then, each-goes}

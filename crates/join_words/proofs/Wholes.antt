@@ -12,9 +12,9 @@ use Rattle.snapshot.specs.Limits.{crateLimit, moduleLimit, nameLimit, definitio
 use Rattle.snapshot.specs.Words.{kindOf, payOf, wordsOf, argumentsAt}
 use Rattle.snapshot.specs.Records.{Name, Definition, Snapshot, nameAt, crateAt, dependencyAt, mapAt, moduleAt, childAt, preludeAt, definitionAt, scopeAt, importAt, externAt, memberAt}
 use Rattle.snapshot.proofs.Laws.{length-rows}
-use Rattle.accept.specs.Tests.{countsOf, noName, padded, isBuiltin, childDefined, childPlaced, crateRange, isEdition, definitionDefined, definitionPlaced, definitionRange, definitionRepeated, dependencyDefined, dependencyRange, externDefined, importDefined, importRange, mapDefined, mapPlaced, mapRange, mapRepeated, memberDefined, memberPlaced, memberRange, moduleDefined, modulePlaced, nameRange, nsPlaced, preludeDefined, sameChild, sameEntry, sameExtern, sameName, samePrelude, scopeDefined, scopeRange}
-use Rattle.accept.specs.Steps.{on, addName, addCrate, addDependency, addMap, addModule, addChild, addPrelude, addDefinition, addScope, addImport, addExtern, addMember, nameStep, crateStep, dependencyStep, mapStep, moduleStep, childStep, preludeStep, definitionStep, scopeStep, importStep, externStep, memberStep}
-use Rattle.accept.specs.Verdict.{recordStep, accept, records, empty, verdict}
+use Rattle.check_rules.specs.Tests.{countsOf, noName, padded, isBuiltin, childDefined, childPlaced, crateRange, isEdition, definitionDefined, definitionPlaced, definitionRange, definitionRepeated, dependencyDefined, dependencyRange, externDefined, importDefined, importRange, mapDefined, mapPlaced, mapRange, mapRepeated, memberDefined, memberPlaced, memberRange, moduleDefined, modulePlaced, nameRange, nsPlaced, preludeDefined, sameChild, sameEntry, sameExtern, sameName, samePrelude, scopeDefined, scopeRange}
+use Rattle.check_rules.specs.Steps.{on, addName, addCrate, addDependency, addMap, addModule, addChild, addPrelude, addDefinition, addScope, addImport, addExtern, addMember, nameStep, crateStep, dependencyStep, mapStep, moduleStep, childStep, preludeStep, definitionStep, scopeStep, importStep, externStep, memberStep}
+use Rattle.check_rules.specs.Verdict.{recordStep, accept, records, empty, verdict}
 use Rattle.accept.specs.Valid.{Each, none, more}
 use Rattle.accept.proofs.Accepted.{by-test, Keeps, verdict-keeps, judge-on, judge-crate-on}
 use Rattle.accept.proofs.Bools.{and-three, and-four, unless-right, or-right, each-map, each-snoc, length-snoc, getD-old}

@@ -8,16 +8,16 @@ use lib.ListN.{length}
 use Rattle.snapshot.specs.Lists.{rows, any, all, eqList}
 use Rattle.snapshot.specs.Words.{argumentsOf}
 use Rattle.snapshot.specs.Records.{Snapshot}
-use Rattle.accept.specs.Tests.{textBound, padded}
-use Rattle.accept.specs.Steps.{nameStep, crateStep, dependencyStep, mapStep, moduleStep, childStep, preludeStep, definitionStep, scopeStep, importStep, externStep, memberStep}
-use Rattle.accept.specs.Verdict.{argumentsFrom, recordStep, stepAt, finish, records, verdict}
-use Rattle.accept.specs.Worked.{worked}
+use Rattle.check_rules.specs.Tests.{textBound, padded}
+use Rattle.check_rules.specs.Steps.{nameStep, crateStep, dependencyStep, mapStep, moduleStep, childStep, preludeStep, definitionStep, scopeStep, importStep, externStep, memberStep}
+use Rattle.check_rules.specs.Verdict.{argumentsFrom, recordStep, stepAt, finish, records, verdict}
+use Rattle.check_rules.specs.Worked.{worked}
 use Rattle.hir_def.specs.Finds.{placeOf, select}
 use Rattle.find_path.specs.Line.{snapshotOf}
 use Rattle.find_path.proofs.Worked.{Row, row, rowAt, passes, cases, withDependency, dependencyCases, withStd, stdCases, head, named}
-use Rattle.scope_edits.specs.Entries.{scopeWords}
-use Rattle.scope_edits.specs.Written.{eachWords, treeWords, snapshotWords}
-use Rattle.scope_edits.specs.Written as written
+use Rattle.edit_rules.specs.Entries.{scopeWords}
+use Rattle.edit_rules.specs.Written.{eachWords, treeWords, snapshotWords}
+use Rattle.edit_rules.specs.Written as written
 use Rattle.join_words.specs.Joined.{merged, mergedNumber, nameNumber, definitionNumber, Numbers, secondNumbers, questionTo, together, Joining, refusedBy, joinedAs, joinIn, joinBy, joinOf}
 
 -- the words of a work area, both inputs, the words of the target, and what comes of it

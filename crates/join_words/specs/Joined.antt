@@ -10,14 +10,14 @@ use Rattle.snapshot.specs.Limits.{wordLimit, crateLimit, moduleLimit, nameLimit
 use Rattle.snapshot.specs.Refusals.{areaRefusal, joinRefusal}
 use Rattle.snapshot.specs.Sizes.{definitionSize, scopeSize, importSize, externSize}
 use Rattle.snapshot.specs.Records.{Dependency, Map, Module, Child, Prelude, Definition, Scope, Import, Extern, Member, Snapshot}
-use Rattle.accept.specs.Tests.{noName, noDefinition, sameName}
-use Rattle.accept.specs.Verdict.{Verdict, refuse, accept, verdict}
+use Rattle.check_rules.specs.Tests.{noName, noDefinition, sameName}
+use Rattle.check_rules.specs.Verdict.{Verdict, refuse, accept, verdict}
 use Rattle.hir_def.specs.Finds.{placeOf, select}
 use Rattle.find_path.specs.declared.Query.{Query}
 use Rattle.find_path.specs.declared.Question.{Question}
-use Rattle.scope_edits.specs.Entries.{movedScope, movedImport, movedExtern}
-use Rattle.scope_edits.specs.Written.{kindsWords, snapshotWords}
-use Rattle.scope_edits.specs.Written as written
+use Rattle.edit_rules.specs.Entries.{movedScope, movedImport, movedExtern}
+use Rattle.edit_rules.specs.Written.{kindsWords, snapshotWords}
+use Rattle.edit_rules.specs.Written as written
 
 -- lists that are merged
 

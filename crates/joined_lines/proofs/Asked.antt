@@ -11,7 +11,7 @@ use lib.Seq.{getD-append-add, take-append-seam}
 use Rattle.snapshot.specs.Sizes.{questionSize}
 use Rattle.snapshot.specs.Words.{kindOf, payOf}
 use Rattle.snapshot.specs.Records.{Snapshot}
-use Rattle.accept.specs.Verdict.{accept, verdict}
+use Rattle.check_rules.specs.Verdict.{accept, verdict}
 use Rattle.printing.specs.Input.{wordsIn}
 use Rattle.find_path.specs.declared.Question.{Question}
 use Rattle.find_path.specs.Line.{lineOf}

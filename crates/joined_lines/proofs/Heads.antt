@@ -11,8 +11,8 @@ use Rattle.snapshot.specs.Limits.{wordLimit}
 use Rattle.snapshot.specs.Refusals.{wordsRefusal, formRefusal}
 use Rattle.snapshot.specs.Words.{kindOf, argumentsAt}
 use Rattle.snapshot.specs.Records.{Snapshot}
-use Rattle.record_rules.specs.Steps.{no, on}
-use Rattle.accept.specs.Verdict.{follows, argumentsFrom, stepAt, refuse, accept, records, empty, verdict}
+use Rattle.check_rules.specs.Steps.{no, on}
+use Rattle.check_rules.specs.Verdict.{follows, argumentsFrom, stepAt, refuse, accept, records, empty, verdict}
 use Rattle.accept.proofs.Accepted.{by-test, by-next}
 use Rattle.accept.proofs.Bools.{and-left, and-right}
 use Rattle.printer.specs.Printed.{isHead, firstFrom}

@@ -10,16 +10,16 @@ use lib.Dec.{eqb}
 use lib.ListN.{length, getD, length-append}
 use Rattle.snapshot.specs.Lists.{any}
 use Rattle.snapshot.specs.Records.{Name, Map, Module, Definition, Snapshot}
-use Rattle.accept.specs.Tests.{noName, noDefinition, sameName, isIn}
+use Rattle.check_rules.specs.Tests.{noName, noDefinition, sameName, isIn}
 use Rattle.accept.specs.Valid.{Valid}
 use Rattle.accept.proofs.Accepted.{by-test}
 use Rattle.accept.proofs.Bools.{and-three, each-at}
 use Rattle.accept.proofs.Valid.{accepted-valid}
 use Rattle.hir_def.specs.Finds.{select}
-use Rattle.find_path.proofs.Walks.{select-hit, select-miss}
-use Rattle.scope_edits.specs.Entries.{scopeWords}
-use Rattle.scope_edits.specs.Written.{nameWords, crateWords, dependencyWords, childWords, preludeWords, definitionWords, importWords, externWords, memberWords, eachWords, wordsWithin, treeWords, snapshotWords}
-use Rattle.scope_edits.specs.Written as written
+use Rattle.search_laws.proofs.Walks.{select-hit, select-miss}
+use Rattle.edit_rules.specs.Entries.{scopeWords}
+use Rattle.edit_rules.specs.Written.{nameWords, crateWords, dependencyWords, childWords, preludeWords, definitionWords, importWords, externWords, memberWords, eachWords, wordsWithin, treeWords, snapshotWords}
+use Rattle.edit_rules.specs.Written as written
 use Rattle.scope_edits.proofs.Written.{accepted-written}
 use Rattle.join_words.specs.Joined.{isNew, merged, sameBuiltin, nameNumber, secondNumbers, dependencyTo, mapTo, moduleTo, childTo, preludeTo, definitionTo, scopeTo, importTo, externTo, memberTo, together, joinedAs, joinOf}
 use Rattle.join_words.proofs.Joins.{join-accepted}

@@ -4,7 +4,7 @@ use mathlib.Core.Path.{_≡_, refl}
 use mathlib.Core.List.{List, [], _∷_, _++_}
 use native.Mathlib.Omega.{arith}
 use Rattle.snapshot.specs.Lists.{rows}
-use Rattle.accept.specs.Worked.{worked}
+use Rattle.check_rules.specs.Worked.{worked}
 use Rattle.find_path.specs.declared.Question.{Question}
 use Rattle.joined_lines.specs.Inputs.{questionWords, Writable, Asks}
 

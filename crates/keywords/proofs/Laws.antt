@@ -9,7 +9,7 @@ use lib.ListN.{take}
 use borrow.Author.Tests.{ltb-true, ltb-false, lt-ltb, le-ltb, le-leb, lt-leb, leb-true, eqb-true}
 use Rattle.snapshot.specs.Lists.{rows, any, all}
 use Rattle.snapshot.specs.Records.{Name}
-use Rattle.record_rules.specs.Tests.{sameName}
+use Rattle.check_rules.specs.Tests.{sameName}
 use Rattle.record_rules.proofs.Judged.{and-left, and-right}
 use Rattle.keywords.specs.Keywords.{Keyword, keywords, isKeyword, isRaw, plainWords}
 use Rattle.keywords.specs.Editions.{keywordsIn}

@@ -6,8 +6,8 @@ use mathlib.Core.Bool.{Bool, _&&_, not}
 use lib.Dec.{leb}
 use Rattle.snapshot.specs.Lists.{any}
 use Rattle.snapshot.specs.Records.{Name}
-use Rattle.record_rules.specs.Tests.{sameName}
-use Rattle.record_rules.specs.Builtins.{spelled}
+use Rattle.check_rules.specs.Tests.{sameName}
+use Rattle.check_rules.specs.Builtins.{spelled}
 use Rattle.printing.specs.Output.{bytesOf}
 
 -- a strict or reserved keyword, and the first edition in which it is one

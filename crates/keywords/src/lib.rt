@@ -3,7 +3,7 @@ ghost use mathlib.Core.Path.{_≡_};
 ghost use Prim.Native.Nat.{_≤_};
 ghost use Rattle.snapshot.specs.Lists.{any};
 ghost use Rattle.snapshot.specs.Records.{nameAt};
-ghost use Rattle.record_rules.specs.Tests.{sameName};
+ghost use Rattle.check_rules.specs.Tests.{sameName};
 ghost use Rattle.keywords.specs.Keywords.{isKeyword, plainWords, isRaw};
 ghost use Rattle.keywords.specs.Editions.{keywordsIn};
 use record_rules::names::known;

@@ -22,10 +22,10 @@ use Rattle.printing.specs.Output as P
 use Rattle.printing.proofs.Laws.{decimal-last, decimal-more as P-more}
 use Rattle.hir_def.specs.Items.{crateOf, crateData}
 use Rattle.find_path.specs.declared.Report.{Report}
-use Rattle.find_path.specs.Choices.{nameData, nameLen}
+use Rattle.path_choices.specs.Choices.{nameData, nameLen}
 use Rattle.find_path.specs.Report.{refused}
 use Rattle.find_path.specs.Line.{bytesOf, unpacked, textOf, editionIn, writtenOf, decimalTo, decimal, joined, prefixParts, pathText, lineParts, lineIn}
-use Rattle.find_path.proofs.Lines.{decimal-digit, decimal-more}
+use Rattle.search_laws.proofs.Lines.{decimal-digit, decimal-more}
 use Rattle.line.specs.Joints.{jointIf}
 
 -- texts in words, three bytes a word

@@ -22,7 +22,7 @@ use Rattle.accept.proofs.Reading.{child-read}
 use Rattle.hir_def.specs.Finds.{select}
 use Rattle.hir_def.specs.Items.{crateOf, containing, definitionOf}
 use Rattle.hir_def.specs.ItemScope.{isModuleEntry, entryModule}
-use Rattle.hir_def.specs.Visibility.{sees, isVisibleFrom}
+use Rattle.tree_rules.specs.Visibility.{sees, isVisibleFrom}
 use Rattle.hir_def.specs.Nameres.{childrenOf, containers, steps, stepsOr}
 use Rattle.hir_def.specs.Entries.{leftOf, Meets, Ends}
 use Rattle.hir_def.proofs.Laws.{Falls, steps-more}
@@ -32,7 +32,7 @@ use Rattle.hir_def.proofs.Lookups.{modules-whole}
 use Rattle.hir_def.proofs.Fits.{module-meets, module-known}
 use Rattle.scope_index.specs.Index.{ownerAt, Follows}
 use Rattle.find_path.specs.Walk.{leadsTo}
-use Rattle.find_path.proofs.Walks.{select-hit, select-miss}
+use Rattle.search_laws.proofs.Walks.{select-hit, select-miss}
 
 -- the children of a module, of the records from the number k on
 abbrev pub childrenFrom : List ℕ → Layout → ℕ → ℕ → List ℕ

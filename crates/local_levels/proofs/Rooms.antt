@@ -9,7 +9,7 @@ use lib.ListN.{length, length-append}
 use borrow.Author.Tests.{ne-eqb, eqb-true, eqb-false}
 use Rattle.snapshot.specs.Lists.{any}
 use Rattle.find_path.specs.Walk.{has}
-use Rattle.find_path.proofs.Walks.{has-snoc}
+use Rattle.search_laws.proofs.Walks.{has-snoc}
 use Rattle.local_levels.specs.Levels.{room}
 
 room-in : (n : ℕ) (r : List ℕ) → has r n ≡ true → room (suc n) r ≡ room n r

@@ -18,7 +18,7 @@ use Rattle.hir_def.specs.declared.Item.{Item}
 use Rattle.scope_index.specs.Index.{indexAt, linksAt, indexEnd, ownerAt, First as FirstOf, Indexed}
 use Rattle.scope_index.proofs.Chaining.{accepted-sized}
 use Rattle.find_path.specs.Walk.{has, visited}
-use Rattle.find_path.proofs.Tables.{same-snap, same-reads}
+use Rattle.search_laws.proofs.Tables.{same-snap, same-reads}
 use Rattle.local_levels.specs.declared.Stack.{Stack}
 use Rattle.local_levels.specs.Levels.{Small, codeOf, itemAt, runAt, levelsOf, Chain, room}
 use Rattle.local_levels.specs.Push.{push}

@@ -12,7 +12,7 @@ use Rattle.snapshot.specs.Lists.{any}
 use Rattle.snapshot.specs.Records.{Snapshot, Scope}
 use Rattle.hir_def.specs.Finds.{select}
 use Rattle.find_path.specs.Walk.{has, unmet, walk, startFrom, leadsTo, findLocalImportLocations}
-use Rattle.find_path.proofs.Walks.{walk-skip, walk-take, select-hit, select-miss, select-short, untaken, leads-fall}
+use Rattle.search_laws.proofs.Walks.{walk-skip, walk-take, select-hit, select-miss, select-short, untaken, leads-fall}
 use Rattle.local_levels.specs.Push.{push, lean}
 
 pub or-both : (a b : Bool) → a || b ≡ false → (a ≡ false) × (b ≡ false)

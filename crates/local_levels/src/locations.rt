@@ -10,7 +10,7 @@ ghost use Rattle.snapshot.specs.Layouts.{tableWords, snapOf};
 ghost use Rattle.snapshot.specs.Records.{scopeAt};
 ghost use Rattle.accept.specs.Post.{Reads};
 ghost use Rattle.hir_def.specs.Items.{crateOf};
-ghost use Rattle.hir_def.specs.Visibility.{sees};
+ghost use Rattle.tree_rules.specs.Visibility.{sees};
 ghost use Rattle.hir_def.specs.Nameres.{childrenOf, containers};
 ghost use Rattle.find_path.specs.Walk.{visited, leadsTo, findLocalImportLocations};
 ghost use Rattle.scope_index.specs.Index.{indexEnd, Indexed};

@@ -11,7 +11,7 @@ use Rattle.snapshot.specs.Records.{Snapshot, Scope}
 use Rattle.snapshot.specs.Layouts.{snapOf}
 use Rattle.snapshot.specs.declared.layout.Layout.{Layout}
 use Rattle.accept.specs.Post.{Reads}
-use Rattle.accept.specs.Stands.{countsIn}
+use Rattle.record_rules.specs.Stands.{countsIn}
 use Rattle.accept.specs.Valid.{Each, none, more, ScopeFits, Ranges}
 use Rattle.accept.proofs.Accepted.{by-test}
 use Rattle.accept.proofs.Bools.{and-right, each-map}
@@ -21,7 +21,7 @@ use Rattle.accept.proofs.Valid.{accepted-valid}
 use Rattle.hir_def.specs.Finds.{select}
 use Rattle.hir_def.specs.Items.{crateOf, containing, definitionOf}
 use Rattle.hir_def.specs.ItemScope.{isModuleEntry, modulesInScope, entryModule}
-use Rattle.hir_def.specs.Visibility.{sees}
+use Rattle.tree_rules.specs.Visibility.{sees}
 use Rattle.hir_def.specs.Nameres.{childrenOf, containers, steps, stepsTo, stepsOr}
 use Rattle.hir_def.proofs.Laws.{Falls, by-number}
 use Rattle.hir_def.proofs.Found.{each-select}
@@ -29,7 +29,7 @@ use Rattle.hir_def.proofs.Chains.{containing-falls}
 use Rattle.hir_def.proofs.Fits.{module-known}
 use Rattle.hir_def.proofs.Reading.{length-modules}
 use Rattle.find_path.specs.Walk.{startFrom, leadsTo, findLocalImportLocations}
-use Rattle.find_path.proofs.Crates.{each-append, each-of, walk-each}
+use Rattle.search_laws.proofs.Crates.{each-append, each-of, walk-each}
 
 -- those that pass a test
 each-passing : {A : Type 0} {P Q : A → Type 0} {xs : List A} (p : A → Bool) → ((x : A) → P x → p x ≡ true → Q x) → Each P xs → Each Q (select p xs)

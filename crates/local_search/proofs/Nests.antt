@@ -18,11 +18,11 @@ use Rattle.accept.proofs.Bools.{each-at}
 use Rattle.hir_def.specs.declared.Item.{Item}
 use Rattle.path_choices.specs.declared.Choice.{Choice}
 use Rattle.find_path.specs.declared.FindPathCtx.{FindPathCtx}
-use Rattle.find_path.specs.Choices.{nothing}
+use Rattle.path_choices.specs.Choices.{nothing}
 use Rattle.find_path.specs.Walk.{Level, visited, findLocalImportLocations}
 use Rattle.find_path.specs.Local.{importableName, location, eachLocation, calculateBestPathLocal}
 use Rattle.find_path.specs.Search.{searchLocal}
-use Rattle.find_path.proofs.Bounds.{Fits, nothing-fits, location-fits, search-local-fits}
+use Rattle.search_laws.proofs.Bounds.{Fits, nothing-fits, location-fits, search-local-fits}
 use Rattle.local_levels.specs.declared.Stack.{Stack}
 use Rattle.local_levels.specs.Levels.{Small, codeOf, itemAt, runAt, levelsOf, Chain}
 use Rattle.local_levels.specs.Post.{Gathered}

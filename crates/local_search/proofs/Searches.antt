@@ -11,7 +11,7 @@ use Rattle.snapshot.specs.Limits.{wordLimit, pathLimit}
 use Rattle.snapshot.specs.Records.{Snapshot, Scope, scopeAt}
 use Rattle.snapshot.specs.Layouts.{snapOf, tableWords}
 use Rattle.snapshot.specs.declared.layout.Layout.{Layout}
-use Rattle.accept.specs.Stands.{countsIn}
+use Rattle.record_rules.specs.Stands.{countsIn}
 use Rattle.accept.specs.Post.{Reads}
 use Rattle.accept.specs.Valid.{ScopeFits}
 use Rattle.hir_def.specs.Items.{nsOf, moduleItem}
@@ -22,15 +22,15 @@ use Rattle.hir_def.specs.declared.Entry.{Entry}
 use Rattle.hir_def.specs.declared.Entry.the-variants.{At, Nothing}
 use Rattle.path_choices.specs.declared.Choice.{Choice}
 use Rattle.find_path.specs.declared.FindPathCtx.{FindPathCtx}
-use Rattle.find_path.specs.Choices.{viaLocal, stepBy, nothing, lengthLeft, extended}
+use Rattle.path_choices.specs.Choices.{viaLocal, stepBy, nothing, lengthLeft, extended}
 use Rattle.find_path.specs.Walk.{Level}
 use Rattle.find_path.specs.Rules.{moduleRules}
 use Rattle.find_path.specs.Local.{offer, offerEntry, importableName, location, calculateBestPathLocal, orLocal, findPathForModuleLocal}
 use Rattle.find_path.specs.Search.{searchLocal, bestLocal}
 use Rattle.find_path.specs.Conditions.{Prepared, Asked, EntryFits, Chosen}
-use Rattle.find_path.proofs.Unfold.{length-falls, local-more}
-use Rattle.find_path.proofs.Bounds.{Fits, search-local-fits}
-use Rattle.find_path.proofs.Tables.{names-short, same-snap, same-reads}
+use Rattle.search_laws.proofs.Unfold.{length-falls, local-more}
+use Rattle.search_laws.proofs.Bounds.{Fits, search-local-fits}
+use Rattle.search_laws.proofs.Tables.{names-short, same-snap, same-reads}
 use Rattle.search_laws.specs.Near.{ruled, near}
 use Rattle.search_laws.proofs.Fewer.{refuted, or-left}
 use Rattle.search_laws.proofs.Near.{near-none, near-step, far-nothing}

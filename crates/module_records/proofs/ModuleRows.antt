@@ -18,8 +18,8 @@ use Rattle.snapshot.specs.Records.{Map, Module, Snapshot, mapAt, moduleAt, crat
 use Rattle.snapshot.specs.Layouts.{crateBase, dependencyBase, childBase, preludeBase, definitionBase, scopeBase, importBase, externBase, memberBase, moduleMap, moduleHead, moduleParent, moduleRow, namesOf, modulesOf, recordsOf, snapWith, moduleTable, crateTable}
 use Rattle.snapshot.specs.declared.layout.Layout.{Layout}
 use Rattle.snapshot.proofs.Laws.{rows-zero, rows-put, length-rows, getD-rows}
-use Rattle.record_rules.specs.Tests.{Counts, countsOf, mapOf, noMap, noModule, isIn, moduleDefined, modulePlaced}
-use Rattle.record_rules.specs.Steps.{no, on, moduleStep, addModule}
+use Rattle.check_rules.specs.Tests.{Counts, countsOf, mapOf, noMap, noModule, isIn, moduleDefined, modulePlaced}
+use Rattle.check_rules.specs.Steps.{no, on, moduleStep, addModule}
 use Rattle.record_rules.specs.Stands.{numberOf, countsIn, Stands, Answered}
 use Rattle.record_rules.specs.declared.judge.Step.the-variants.{On}
 use Rattle.record_rules.proofs.Judged.{Judged, judged, judged-no, judged-on, judged-passes, passes, counts-same, and-left, and-right}

@@ -16,8 +16,8 @@ use Rattle.snapshot.specs.Records.{Map, crateAt, dependencyAt, mapAt, childAt, 
 use Rattle.snapshot.specs.Layouts.{crateBase, dependencyBase, childBase, preludeBase, definitionBase, scopeBase, importBase, externBase, memberBase, moduleMap, moduleHead, ownMap, moduleRow, namesOf, modulesOf, recordsOf, snapWith, moduleTable, crateTable}
 use Rattle.snapshot.specs.declared.layout.Layout.{Layout}
 use Rattle.snapshot.proofs.Laws.{rows-zero, getD-rows}
-use Rattle.record_rules.specs.Tests.{Counts, countsOf, crateOf, noMap, noModule, isOwn, mapRange, mapDefined, mapRepeated, mapPlaced}
-use Rattle.record_rules.specs.Steps.{no, on, mapStep, addMap}
+use Rattle.check_rules.specs.Tests.{Counts, countsOf, crateOf, noMap, noModule, isOwn, mapRange, mapDefined, mapRepeated, mapPlaced}
+use Rattle.check_rules.specs.Steps.{no, on, mapStep, addMap}
 use Rattle.record_rules.specs.Stands.{numberOf, countsIn, ownFrom, ownOf, Stands, Answered}
 use Rattle.record_rules.specs.declared.judge.Step.the-variants.{On}
 use Rattle.record_rules.proofs.Judged.{Judged, judged, judged-no, judged-on, judged-passes, passes, counts-same, and-left, and-right}

@@ -7,8 +7,8 @@ use mathlib.Core.Bool.{Bool, true, false}
 use lib.ListN.{length}
 use Rattle.snapshot.specs.Records.{Snapshot}
 use Rattle.accept.specs.Valid.{mapIn, Tree}
-use Rattle.module_tree.specs.Modules.{moduleOf, mapOf, mapNo, crateOf, parentOf, blockOf, orElse, containing}
-use Rattle.module_tree.specs.Visibility.{unless, climbStep}
+use Rattle.tree_rules.specs.Modules.{moduleOf, mapOf, mapNo, crateOf, parentOf, blockOf, orElse, containing}
+use Rattle.tree_rules.specs.Visibility.{unless, climbStep}
 use Rattle.module_tree.proofs.Laws.{Falls}
 
 or-falls : (v w p b : ℕ) → orElse p b ≡ suc w → (p ≡ suc w → w < v) → (b ≡ suc w → w < v) → w < v

@@ -7,12 +7,12 @@ use lib.ListN.{length}
 use lib.Dec.{eqb}
 use borrow.Author.Tests.{eq-eqb, ne-eqb}
 use Rattle.snapshot.specs.Records.{Snapshot}
-use Rattle.module_tree.specs.Modules.{mapNo, crateOf, blockOf, containing}
+use Rattle.tree_rules.specs.Modules.{mapNo, crateOf, blockOf, containing}
 use Rattle.snapshot.specs.Ids.{plusOne}
 use Rattle.snapshot.specs.declared.ids.OptModule.{OptModule}
 use Rattle.snapshot.specs.declared.ids.OptModule.the-variants.{Module, NoModule}
 use Rattle.snapshot.specs.declared.ids.ModuleId.{ModuleId}
-use Rattle.module_tree.specs.Visibility.{lastOr, metOr, met, unless, climbStep, climb, inModule, isVisibleFrom}
+use Rattle.tree_rules.specs.Visibility.{lastOr, metOr, met, unless, climbStep, climb, inModule, isVisibleFrom}
 use Rattle.module_tree.proofs.Laws.{Falls, last-more, met-more}
 
 pub one-more : (b : ℕ) → (b ≡ 0 → ⊥) → b ≡ suc (b - 1)

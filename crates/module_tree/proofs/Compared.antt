@@ -10,8 +10,8 @@ use borrow.Author.Tests.{eqb-true, eqb-false, eq-eqb, ne-eqb}
 use Rattle.snapshot.specs.Records.{Snapshot}
 use Rattle.accept.specs.Valid.{Tree}
 use Rattle.accept.proofs.Accepted.{by-test}
-use Rattle.module_tree.specs.Modules.{mapOf, mapNo, parentOf, blockOf, crateOf, orElse, containing}
-use Rattle.module_tree.specs.Visibility.{met, unless, climbStep, climb, inModule}
+use Rattle.tree_rules.specs.Modules.{mapOf, mapNo, parentOf, blockOf, crateOf, orElse, containing}
+use Rattle.tree_rules.specs.Visibility.{met, unless, climbStep, climb, inModule}
 use Rattle.module_tree.specs.Privacy.{StandsIn, inner, outermost, block, Descends, itself, child, Visible}
 use Rattle.module_tree.specs.Differs.{now, on, Within, Leaves, here, later, Differs}
 use Rattle.module_tree.proofs.Laws.{by-number, Falls}

@@ -2,11 +2,11 @@
 use mathlib.Core.Path.{_≡_, refl}
 use mathlib.Core.Bool.{true}
 use lib.Dec.{lit<}
-use Rattle.module_tree.specs.Modules.{moduleOf, mapOf, orElse, containing}
-use Rattle.module_tree.specs.Visibility.{lastOr, lastTo, last, metOr, metTo, met, unless, climbStep, climb, inModule, isVisibleFrom}
+use Rattle.tree_rules.specs.Modules.{moduleOf, mapOf, orElse, containing}
+use Rattle.tree_rules.specs.Visibility.{lastOr, lastTo, last, metOr, metTo, met, unless, climbStep, climb, inModule, isVisibleFrom}
 use Rattle.module_tree.specs.Privacy.{Privacy}
 use Rattle.module_tree.specs.Differs.{Differs}
-use Rattle.module_tree.specs.Privately.{ofRoot, blockStep, moduleAround, privately}
+use Rattle.tree_rules.specs.Privately.{ofRoot, blockStep, moduleAround, privately}
 use Rattle.tree_rules.specs.Examples.{smallest, smallestSnapshot, smallest-accepted}
 use Rattle.module_tree.proofs.Privately.{not-private, differs-is}
 

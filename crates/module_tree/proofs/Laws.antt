@@ -4,7 +4,7 @@ use Prim.Native.Nat.{ℕ, zero, suc, _≤_, _<_}
 use native.Mathlib.Omega.{arith}
 use mathlib.Core.Bool.{Bool, _||_, or-false}
 use lib.Dec.{eqb}
-use Rattle.module_tree.specs.Visibility.{lastOr, lastTo, last, metOr, metTo, met}
+use Rattle.tree_rules.specs.Visibility.{lastOr, lastTo, last, metOr, metTo, met}
 
 pub by-number : {C : Type 0} (k : ℕ) → (k ≡ 0 → C) → ((p : ℕ) → k ≡ suc p → C) → C
 by-number zero z f = z refl

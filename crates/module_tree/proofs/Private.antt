@@ -8,14 +8,14 @@ use mathlib.Core.List.{List}
 use lib.ListN.{length, getD}
 use borrow.Author.Tests.{eqb-true, eq-eqb}
 use Rattle.snapshot.specs.Records.{Snapshot, Scope}
-use Rattle.accept.specs.Tests.{countsOf}
-use Rattle.accept.specs.Verdict.{accept, verdict}
+use Rattle.check_rules.specs.Tests.{countsOf}
+use Rattle.check_rules.specs.Verdict.{accept, verdict}
 use Rattle.accept.specs.Valid.{Tree, ScopeFits}
 use Rattle.accept.proofs.Accepted.{by-test}
 use Rattle.accept.proofs.Valid.{accepted-valid}
 use Rattle.accept.proofs.Bools.{each-at}
-use Rattle.module_tree.specs.Modules.{mapOf, mapNo, parentOf, blockOf, crateOf, containing}
-use Rattle.module_tree.specs.Visibility.{met, climb, inModule, isVisibleFrom, sees}
+use Rattle.tree_rules.specs.Modules.{mapOf, mapNo, parentOf, blockOf, crateOf, containing}
+use Rattle.tree_rules.specs.Visibility.{met, climb, inModule, isVisibleFrom, sees}
 use Rattle.module_tree.specs.Privacy.{StandsIn, inner, outermost, block, Visible, Privacy}
 use Rattle.module_tree.specs.Differs.{Leaves, here, later, Differs, Exception, Known, Answers, InBlock}
 use Rattle.module_tree.proofs.Laws.{by-number}

@@ -7,15 +7,15 @@ use native.Mathlib.Omega.{arith}
 use mathlib.Core.List.{List}
 use lib.ListN.{length}
 use Rattle.snapshot.specs.Records.{Snapshot}
-use Rattle.accept.specs.Verdict.{accept, verdict}
+use Rattle.check_rules.specs.Verdict.{accept, verdict}
 use Rattle.accept.specs.Valid.{Tree}
 use Rattle.accept.proofs.Trees.{accepted-tree}
 use Rattle.accept.proofs.Accepted.{by-test}
-use Rattle.module_tree.specs.Modules.{parentOf, blockOf, containing}
-use Rattle.module_tree.specs.Visibility.{inModule}
+use Rattle.tree_rules.specs.Modules.{parentOf, blockOf, containing}
+use Rattle.tree_rules.specs.Visibility.{inModule}
 use Rattle.module_tree.specs.Privacy.{StandsIn, inner, outermost, block, Visible}
 use Rattle.module_tree.specs.Differs.{Differs}
-use Rattle.module_tree.specs.Privately.{ofRoot, blockStep, moduleAround, privately}
+use Rattle.tree_rules.specs.Privately.{ofRoot, blockStep, moduleAround, privately}
 use Rattle.module_tree.proofs.Laws.{by-number, Falls}
 use Rattle.module_tree.proofs.Chains.{block-fits, containing-falls}
 use Rattle.module_tree.proofs.Ways.{last-end, last-on, met-meets, meets-met}

@@ -13,13 +13,13 @@ use Rattle.snapshot.specs.Records.{Map, crateAt, mapAt}
 use Rattle.snapshot.specs.Layouts.{crateBase, moduleMap, moduleHead, moduleParent, mapRoot, ownMap, moduleRow, mapsOf, snapOf}
 use Rattle.snapshot.specs.declared.layout.Layout.{Layout}
 use Rattle.snapshot.proofs.Laws.{getD-rows, length-rows}
-use Rattle.accept.specs.Tests.{isOwn}
-use Rattle.accept.specs.Stands.{ownFrom}
+use Rattle.check_rules.specs.Tests.{isOwn}
+use Rattle.record_rules.specs.Stands.{ownFrom}
 use Rattle.accept.specs.Post.{Tables, Reads}
 use Rattle.accept.proofs.Valid.{accepted-valid}
 use Rattle.module_tree.proofs.Roots.{crate-known}
-use Rattle.module_tree.specs.Modules.{placeOf}
-use Rattle.module_tree.specs.Modules.{moduleOf, mapOf, mapNo, crateOf, parentOf, blockOf, rootOf, ownMap as ownOf, orElse}
+use Rattle.tree_rules.specs.Modules.{placeOf}
+use Rattle.tree_rules.specs.Modules.{moduleOf, mapOf, mapNo, crateOf, parentOf, blockOf, rootOf, ownMap as ownOf, orElse}
 
 module _ (W A : List ℕ) (l : Layout) (t : Tables W A l) where
   module-read : (m : ℕ) → m < l .modules → moduleRow A m ≡ moduleOf (snapOf W A l) m

@@ -8,12 +8,12 @@ use lib.Dec.{eqb}
 use lib.ListN.{length, getD}
 use borrow.Author.Tests.{eqb-true, eq-eqb}
 use Rattle.snapshot.specs.Records.{Snapshot, Map, Module}
-use Rattle.accept.specs.Tests.{noMap, noModule}
+use Rattle.check_rules.specs.Tests.{noMap, noModule}
 use Rattle.accept.specs.Valid.{Valid}
 use Rattle.accept.proofs.Accepted.{by-test}
 use Rattle.accept.proofs.Bools.{and-two, each-at}
-use Rattle.module_tree.specs.Modules.{placeOf}
-use Rattle.module_tree.specs.Modules.{moduleOf, mapOf, mapNo, crateOf, parentOf, rootOf, ownMap, crateRoot}
+use Rattle.tree_rules.specs.Modules.{placeOf}
+use Rattle.tree_rules.specs.Modules.{moduleOf, mapOf, mapNo, crateOf, parentOf, rootOf, ownMap, crateRoot}
 use Rattle.module_tree.proofs.Chains.{root-first, map-known}
 
 -- the place of the first that passes, where one does

@@ -6,7 +6,7 @@ use Prim.Native.Nat.{ℕ, zero, suc, _<_}
 use native.Mathlib.Omega.{arith}
 use lib.Dec.{eqb}
 use borrow.Author.Tests.{eqb-true, eq-eqb}
-use Rattle.module_tree.specs.Visibility.{lastOr, last, metOr, met}
+use Rattle.tree_rules.specs.Visibility.{lastOr, last, metOr, met}
 use Rattle.module_tree.specs.Differs.{Meets, now, on}
 use Rattle.module_tree.proofs.Laws.{by-number, Falls, last-more, met-more}
 

@@ -5,8 +5,8 @@ use mathlib.Core.Logic.{_⊎_}
 use Prim.Native.Nat.{ℕ, zero, suc, _<_}
 use lib.ListN.{length}
 use Rattle.snapshot.specs.Records.{Snapshot}
-use Rattle.module_tree.specs.Modules.{mapNo, parentOf, blockOf, containing}
-use Rattle.module_tree.specs.Visibility.{climbStep, climb}
+use Rattle.tree_rules.specs.Modules.{mapNo, parentOf, blockOf, containing}
+use Rattle.tree_rules.specs.Visibility.{climbStep, climb}
 
 -- the steps from v meet t
 pub data Meets (step : ℕ → ℕ) (t : ℕ) : ℕ → Type 0 where

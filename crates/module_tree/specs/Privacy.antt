@@ -3,7 +3,7 @@
 use mathlib.Core.Path.{_≡_}
 use Prim.Native.Nat.{ℕ, zero, suc}
 use Rattle.snapshot.specs.Records.{Snapshot}
-use Rattle.module_tree.specs.Modules.{parentOf, blockOf, crateOf}
+use Rattle.tree_rules.specs.Modules.{parentOf, blockOf, crateOf}
 
 -- What stands in the recorded module m stands in the module x: m itself, or, for the root of a block's map, the module in which
 -- the block stands.

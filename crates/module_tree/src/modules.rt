@@ -5,7 +5,7 @@ ghost use lib.Dec.{eqb};
 ghost use Rattle.snapshot.specs.Ids.{plusOne};
 ghost use Rattle.snapshot.specs.Layouts.{snapOf};
 ghost use Rattle.accept.specs.Post.{Reads};
-ghost use Rattle.module_tree.specs.Modules.{mapNo, mapOf, crateOf, parentOf, blockOf, inBlock as inBlockOf, containing as containingOf, rootOf, ownMap, crateRoot};
+ghost use Rattle.tree_rules.specs.Modules.{mapNo, mapOf, crateOf, parentOf, blockOf, inBlock as inBlockOf, containing as containingOf, rootOf, ownMap, crateRoot};
 use snapshot::ids::Crate;
 use snapshot::ids::ModuleId;
 use snapshot::ids::OptModule;

@@ -1,7 +1,7 @@
 -- The rows as one fact: an edit of a definition is told by them first.
 use mathlib.Core.Path.{_≡_}
 use mathlib.Core.List.{[], _∷_}
-use Rattle.accept.specs.Verdict.{verdict}
+use Rattle.check_rules.specs.Verdict.{verdict}
 use Rattle.hir_def.specs.Items.{moduleItem, definedItem}
 use Rattle.nameable.specs.Paths.{crate, keyword, plain, into}
 use Rattle.nameable.specs.Breadth.{found, longer}

@@ -9,7 +9,7 @@ use borrow.Author.Tests.{eqb-true, eq-eqb, ltb-true, ltb-false}
 use lib.Dec.{eqb, ltb}
 use lib.ListN.{length, getD}
 use Rattle.snapshot.specs.Records.{Snapshot, Scope}
-use Rattle.accept.specs.Tests.{sameEntry}
+use Rattle.check_rules.specs.Tests.{sameEntry}
 use Rattle.accept.specs.Valid.{Valid}
 use Rattle.accept.proofs.Accepted.{by-test}
 use Rattle.accept.proofs.Bools.{and-two, and-three}

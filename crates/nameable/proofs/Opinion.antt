@@ -6,7 +6,7 @@ use mathlib.Core.Logic.{_↔_}
 use native.Mathlib.Omega.{arith}
 use lib.ListN.{length}
 use Rattle.snapshot.specs.Records.{Snapshot}
-use Rattle.accept.specs.Verdict.{accept, verdict}
+use Rattle.check_rules.specs.Verdict.{accept, verdict}
 use Rattle.accept.proofs.Valid.{accepted-valid}
 use Rattle.hir_def.specs.declared.Item.{Item}
 use Rattle.nameable.specs.Paths.{Path, namesIn, Names, Nameable}

@@ -10,13 +10,13 @@ use lib.Dec.{eqb, ltb}
 use lib.ListN.{length}
 use Rattle.snapshot.specs.Lists.{rows}
 use Rattle.snapshot.specs.Records.{Snapshot, Scope, Extern, Member, Prelude}
-use Rattle.accept.specs.Tests.{countsOf, noDefinition}
+use Rattle.check_rules.specs.Tests.{countsOf, noDefinition}
 use Rattle.accept.specs.Valid.{Each, more, Tree, Valid, ScopeFits, ExternFits}
 use Rattle.accept.proofs.Accepted.{by-test}
 use Rattle.accept.proofs.Bools.{and-two, each-at}
-use Rattle.module_tree.specs.Modules.{mapNo, crateOf, parentOf, crateRoot}
+use Rattle.tree_rules.specs.Modules.{mapNo, crateOf, parentOf, crateRoot}
 use Rattle.module_tree.specs.Privacy.{StandsIn, inner, outermost, block}
-use Rattle.module_tree.specs.Privately.{moduleAround}
+use Rattle.tree_rules.specs.Privately.{moduleAround}
 use Rattle.module_tree.proofs.Laws.{by-number}
 use Rattle.module_tree.proofs.Chains.{parent-fits, block-fits}
 use Rattle.module_tree.proofs.Roots.{crate-root-known}

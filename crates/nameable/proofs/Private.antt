@@ -9,12 +9,12 @@ use mathlib.Core.Logic.{_↔_}
 use borrow.Author.Tests.{eqb-true, eq-eqb}
 use lib.ListN.{length}
 use Rattle.snapshot.specs.Records.{Snapshot, Scope}
-use Rattle.accept.specs.Tests.{countsOf}
+use Rattle.check_rules.specs.Tests.{countsOf}
 use Rattle.accept.specs.Valid.{ScopeFits}
-use Rattle.accept.specs.Verdict.{accept, verdict}
+use Rattle.check_rules.specs.Verdict.{accept, verdict}
 use Rattle.accept.proofs.Bools.{and-two}
 use Rattle.accept.proofs.Valid.{accepted-valid}
-use Rattle.module_tree.specs.Modules.{crateOf}
+use Rattle.tree_rules.specs.Modules.{crateOf}
 use Rattle.module_tree.specs.Privacy.{Privacy}
 use Rattle.module_tree.specs.Differs.{Known}
 use Rattle.module_tree.proofs.Privately.{privately-is}

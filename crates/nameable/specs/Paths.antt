@@ -6,8 +6,8 @@ use mathlib.Core.Bool.{Bool, true, false, _&&_}
 use mathlib.Core.Option.{Option, none, some}
 use lib.Dec.{eqb, ltb}
 use Rattle.snapshot.specs.Records.{Snapshot, Scope, Prelude, Extern, Member}
-use Rattle.module_tree.specs.Modules.{mapNo, crateOf, parentOf, crateRoot}
-use Rattle.module_tree.specs.Privately.{blockStep, moduleAround}
+use Rattle.tree_rules.specs.Modules.{mapNo, crateOf, parentOf, crateRoot}
+use Rattle.tree_rules.specs.Privately.{blockStep, moduleAround}
 use Rattle.hir_def.specs.Finds.{firstOf, select}
 use Rattle.hir_def.specs.Items.{types, macros, definitionOf, crateData, itemOf, nsOf, moduleItem, definedItem}
 use Rattle.hir_def.specs.Nameres.{steps, preludeOf}

@@ -4,9 +4,9 @@ use mathlib.Core.Bool.{Bool, true, false, _&&_}
 use mathlib.Core.Option.{Option, none, some}
 use lib.Dec.{eqb}
 use Rattle.snapshot.specs.Records.{Snapshot, Scope}
-use Rattle.module_tree.specs.Modules.{crateOf, parentOf}
+use Rattle.tree_rules.specs.Modules.{crateOf, parentOf}
 use Rattle.module_tree.specs.Privacy.{Privacy}
-use Rattle.module_tree.specs.Privately.{privately}
+use Rattle.tree_rules.specs.Privately.{privately}
 use Rattle.hir_def.specs.Finds.{firstOf}
 use Rattle.hir_def.specs.Items.{types, moduleKind, variantKind, definitionOf, homeBy}
 use Rattle.hir_def.specs.ItemScope.{isDeclared}

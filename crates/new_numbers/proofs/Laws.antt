@@ -9,7 +9,7 @@ use lib.Seq.{drop-at}
 use Rattle.snapshot.specs.Limits.{areaLimit}
 use Rattle.snapshot.specs.Refusals.{areaRefusal}
 use Rattle.snapshot.specs.Records.{Snapshot}
-use Rattle.accept.specs.Verdict.{Verdict, refuse, accept, verdict}
+use Rattle.check_rules.specs.Verdict.{Verdict, refuse, accept, verdict}
 use Rattle.accept.proofs.Valid.{accepted-valid}
 use Rattle.answer.specs.Answers.{zeros}
 use Rattle.answer.proofs.Areas.{area-small, area-large}

@@ -8,7 +8,7 @@ use lib.ListN.{length, drop}
 use Rattle.snapshot.specs.Limits.{areaLimit}
 use Rattle.snapshot.specs.Refusals.{areaRefusal}
 use Rattle.snapshot.specs.Records.{Snapshot}
-use Rattle.accept.specs.Verdict.{Verdict, refuse, accept, verdict}
+use Rattle.check_rules.specs.Verdict.{Verdict, refuse, accept, verdict}
 use Rattle.answer.specs.Answers.{zeros, areaAfter}
 use Rattle.join_words.specs.Joined.{secondNumbers}
 use Rattle.join_numbers.specs.Numbered.{NumbersIn}

@@ -2,7 +2,7 @@
 ghost use mathlib.Core.Path.{_≡_};
 ghost use lib.ListN.{length};
 ghost use Rattle.snapshot.specs.Limits.{areaLimit};
-ghost use Rattle.accept.specs.Verdict.{accept, verdict};
+ghost use Rattle.check_rules.specs.Verdict.{accept, verdict};
 ghost use Rattle.join_numbers.specs.Parts.{partOf, Part};
 ghost use Rattle.new_numbers.specs.New.{NumbersBy, NewNumbers};
 use accept::check::Checked;

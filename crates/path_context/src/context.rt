@@ -4,7 +4,7 @@ ghost use Prim.Native.Nat.{_+_, _≤_, _<_, _^_};
 ghost use Rattle.snapshot.specs.Records.{scopeAt};
 ghost use Rattle.snapshot.specs.Layouts.{snapOf};
 ghost use Rattle.accept.specs.Post.{Reads};
-ghost use Rattle.hir_def.specs.Visibility.{sees as seesOf};
+ghost use Rattle.tree_rules.specs.Visibility.{sees as seesOf};
 ghost use Rattle.hir_def.specs.Items.{itemOf};
 ghost use Rattle.find_path.specs.Rules.{bit as bitOf, plainIf, moduleIn, contextOf, soughtOf};
 ghost use Rattle.find_path.specs.Meters.{drained as drainedTo, fromTank};

@@ -7,7 +7,7 @@ use Rattle.snapshot.specs.Records.{Snapshot, Scope, Import}
 use Rattle.hir_def.specs.ImportMap.{isUnstable}
 use Rattle.path_choices.specs.declared.Choice.{Choice}
 use Rattle.find_path.specs.declared.FindPathCtx.{FindPathCtx}
-use Rattle.find_path.specs.Choices.{viaLocal, viaImport, stepBy, unstably, trySelect}
+use Rattle.path_choices.specs.Choices.{viaLocal, viaImport, stepBy, unstably, trySelect}
 use Rattle.find_path.specs.Local.{offer, offerEntry, isImportable, entryIf}
 use Rattle.find_path.specs.Charged.{offerImport}
 use Rattle.path_choices.proofs.ChoiceLaws.{taken-true, taken-false}

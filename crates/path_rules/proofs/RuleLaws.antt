@@ -11,7 +11,7 @@ use Rattle.snapshot.specs.Records.{Snapshot, Scope, Prelude, Extern, scopeAt}
 use Rattle.snapshot.specs.Layouts.{snapOf}
 use Rattle.snapshot.specs.declared.layout.Layout.{Layout}
 use Rattle.snapshot.proofs.Laws.{past}
-use Rattle.accept.specs.Stands.{countsIn}
+use Rattle.record_rules.specs.Stands.{countsIn}
 use Rattle.accept.specs.Post.{Reads}
 use Rattle.accept.specs.Valid.{ScopeFits}
 use Rattle.accept.proofs.Valid.{accepted-valid}
@@ -30,7 +30,7 @@ use Rattle.path_choices.specs.declared.Choice.{Choice}
 use Rattle.find_path.specs.declared.KwKind.{KwKind}
 use Rattle.find_path.specs.declared.KwKind.the-variants.{Kw, NoKw}
 use Rattle.find_path.specs.declared.FindPathCtx.{FindPathCtx}
-use Rattle.find_path.specs.Choices.{viaScope, viaExtern, stepBy, nothing, keyword, choiceNew}
+use Rattle.path_choices.specs.Choices.{viaScope, viaExtern, stepBy, nothing, keyword, choiceNew}
 use Rattle.find_path.specs.Conditions.{EntryFits}
 use Rattle.find_path.specs.Rules.{prefixPathKind, firstFound, single, findInScope, mayBeInScope, scopeRule, isUsable, preludeEntry, inPrelude, findInPrelude, externKind, externName, rootRule, parentKind, keywordKind, isKwKindRelativeToFrom, keywordOf}
 use Rattle.path_choices.proofs.ChoiceLaws.{taken-true, taken-false}

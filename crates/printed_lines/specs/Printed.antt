@@ -8,7 +8,7 @@ use Rattle.snapshot.specs.Limits.{areaLimit, inputLimit}
 use Rattle.snapshot.specs.Refusals.{bytesRefusal, restRefusal, questionRefusal}
 use Rattle.snapshot.specs.Sizes.{questionSize, reachSize}
 use Rattle.snapshot.specs.Words.{kindOf, payOf}
-use Rattle.accept.specs.Verdict.{empty}
+use Rattle.check_rules.specs.Verdict.{empty}
 use Rattle.printing.specs.Input.{wordsIn}
 use Rattle.find_path.specs.declared.Question.{Question}
 use Rattle.find_path.specs.Report.{refused}

@@ -15,7 +15,7 @@ use Rattle.snapshot.specs.Refusals.{bytesRefusal, restRefusal, questionRefusal}
 use Rattle.snapshot.specs.Sizes.{questionSize, reachSize}
 use Rattle.snapshot.specs.Words.{kindOf, payOf}
 use Rattle.snapshot.specs.Records.{Snapshot}
-use Rattle.accept.specs.Verdict.{empty}
+use Rattle.check_rules.specs.Verdict.{empty}
 use Rattle.accept.specs.Post.{Judged}
 use Rattle.accept.specs.declared.check.Checked.{Checked}
 use Rattle.accept.proofs.Accepted.{by-test}

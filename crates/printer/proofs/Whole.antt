@@ -13,7 +13,7 @@ use Rattle.accept.proofs.Bools.{and-left, and-two}
 use Rattle.printing.specs.Input.{wordsIn}
 use Rattle.find_path.specs.Line.{bytesOf, lineOf}
 use Rattle.find_path.proofs.Worked.{Row, passes}
-use Rattle.accept.specs.Worked.{worked}
+use Rattle.check_rules.specs.Worked.{worked}
 use Rattle.printer.specs.Printed.{firstFrom, questionsAt, wholeAt, questionAt, reachAt, refusalLine, lineAt, nextAt, linesFrom, linesOf, linesUnless, inputFault, printed, Turns, end, turn, ended}
 use Rattle.printer.proofs.Laws.{next-more}
 

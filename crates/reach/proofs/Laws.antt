@@ -18,13 +18,13 @@ use Rattle.snapshot.proofs.Laws.{rows-next, rows-none, rows-snoc}
 use Rattle.accept.specs.Post.{Reads, Judged}
 use Rattle.accept.specs.declared.check.Checked.{Checked}
 use Rattle.accept.specs.declared.check.Checked.the-variants.{Refused, Accepted}
-use Rattle.accept.specs.Verdict.{refuse, accept, verdict}
+use Rattle.check_rules.specs.Verdict.{refuse, accept, verdict}
 use Rattle.accept.proofs.Reading.{scope-read}
 use Rattle.accept.proofs.Valid.{accepted-valid}
 use Rattle.find_path.specs.declared.Report.{Report}
 use Rattle.find_path.specs.Report.{callFault}
-use Rattle.find_path.proofs.Bounds.{zeros}
-use Rattle.find_path.proofs.Tables.{same-snap}
+use Rattle.search_laws.proofs.Bounds.{zeros}
+use Rattle.search_laws.proofs.Tables.{same-snap}
 use Rattle.checked.specs.Order.{earlierOf, numberOf}
 use Rattle.checked.proofs.Laws.{judged-stays}
 use Rattle.reach_parts.specs.declared.Viewer.{Viewer}

@@ -5,7 +5,7 @@ ghost use lib.ListN.{length, take};
 ghost use Rattle.snapshot.specs.Limits.{pathLimit, fuelLimit, areaLimit};
 ghost use Rattle.snapshot.specs.Layouts.{tableWords, snapOf};
 ghost use Rattle.accept.specs.Post.{Reads, Judged};
-ghost use Rattle.accept.specs.Verdict.{verdict, accept};
+ghost use Rattle.check_rules.specs.Verdict.{verdict, accept};
 ghost use Rattle.reach_parts.specs.Reach.{reachBy};
 ghost use Rattle.reach.specs.Reached.{Reached};
 use crate::counts::reach_in;

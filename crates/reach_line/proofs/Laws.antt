@@ -7,7 +7,7 @@ use native.Mathlib.Numerals.{add-one}
 use borrow.Author.Tests.{eq-eqb, ne-eqb}
 use lib.ListN.{length, take, getD}
 use lib.Seq.{take-suc, take-all}
-use Rattle.accept.specs.Verdict.{empty}
+use Rattle.check_rules.specs.Verdict.{empty}
 use Rattle.find_path.specs.Line.{bytesOf, decimal, joined, lineIn}
 use Rattle.find_path.specs.Report.{refused}
 use Rattle.reach_parts.specs.declared.Reach.{Reach}

@@ -15,7 +15,7 @@ use Rattle.snapshot.specs.Sizes.{scopeSize}
 use Rattle.snapshot.specs.Records.{Snapshot, Scope, scopeAt}
 use Rattle.snapshot.specs.Layouts.{scopeBase, snapOf}
 use Rattle.snapshot.specs.declared.layout.Layout.{Layout}
-use Rattle.accept.specs.Verdict.{accept, verdict}
+use Rattle.check_rules.specs.Verdict.{accept, verdict}
 use Rattle.accept.proofs.Accepted.{by-test}
 use Rattle.hir_def.specs.Items.{sameItem}
 use Rattle.hir_def.specs.declared.Item.{Item}
@@ -23,9 +23,9 @@ use Rattle.find_path.specs.declared.Report.{Report}
 use Rattle.find_path.specs.declared.Tank.{Tank}
 use Rattle.find_path.specs.Meters.{fromTank, filled}
 use Rattle.find_path.specs.Report.{callFault, reported, searched}
-use Rattle.find_path.proofs.Bounds.{search-fits}
-use Rattle.find_path.proofs.Refusals.{call-allowed}
-use Rattle.find_path.proofs.Outcomes.{flag-small}
+use Rattle.search_laws.proofs.Bounds.{search-fits}
+use Rattle.search_laws.proofs.Refusals.{call-allowed}
+use Rattle.search_laws.proofs.Outcomes.{flag-small}
 use Rattle.reach_parts.specs.declared.Viewer.{Viewer}
 use Rattle.reach_parts.specs.declared.Reach.{Reach}
 use Rattle.reach_parts.specs.Reach.{itemIn, distinct, queryFor, refusedReach, reachBy, reachUnless, reachOf, reportFor, column, namesFound, added, tallied, talliedReach, tallyAll, reachIn, sum, total}

@@ -5,7 +5,7 @@ use mathlib.Core.Bool.{Bool, true}
 use mathlib.Core.List.{List, [], _∷_}
 use Prim.Native.String.{String}
 use Rattle.snapshot.specs.Lists.{all, eqList}
-use Rattle.accept.specs.Worked.{worked}
+use Rattle.check_rules.specs.Worked.{worked}
 use Rattle.find_path.specs.Line.{bytesOf}
 use Rattle.find_path.proofs.Worked.{passes, named, head, withBlock}
 use Rattle.reach_parts.specs.declared.Viewer.{Viewer}

@@ -7,7 +7,7 @@ use lib.ListN.{length, take, getD, replicate, set}
 use Rattle.snapshot.specs.Lists.{any}
 use Rattle.snapshot.specs.Refusals.{unknownRefusal}
 use Rattle.snapshot.specs.Records.{Snapshot, Scope}
-use Rattle.accept.specs.Verdict.{Verdict, refuse, accept, verdict, empty}
+use Rattle.check_rules.specs.Verdict.{Verdict, refuse, accept, verdict, empty}
 use Rattle.hir_def.specs.Items.{itemOf, sameItem}
 use Rattle.hir_def.specs.declared.Item.{Item}
 use Rattle.find_path.specs.declared.Query.{Query}

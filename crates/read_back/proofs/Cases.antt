@@ -12,14 +12,14 @@ use Rattle.snapshot.specs.Lists.{rows}
 use Rattle.snapshot.specs.Records.{Snapshot, Scope, Prelude, Extern, Member}
 use Rattle.snapshot.proofs.Laws.{rows-next, rows-none, rows-part, rows-ext}
 use Rattle.accept.proofs.Accepted.{by-test}
-use Rattle.module_tree.specs.Modules.{mapNo, crateOf, parentOf, crateRoot}
-use Rattle.module_tree.specs.Visibility.{sees}
+use Rattle.tree_rules.specs.Modules.{mapNo, crateOf, parentOf, crateRoot}
+use Rattle.tree_rules.specs.Visibility.{sees}
 use Rattle.hir_def.specs.Finds.{orFirst}
 use Rattle.hir_def.specs.Items.{types, itemOf, sameItem, nsOf, moduleItem, definedItem}
 use Rattle.hir_def.specs.ItemScope.{get}
 use Rattle.hir_def.specs.Nameres.{preludeOf}
 use Rattle.hir_def.specs.declared.Item.{Item}
-use Rattle.read_back.specs.Reads.{standsFor, meaning, entryOr, externNamed, externMeans, inExterns, preludeMeans, inPreludeOf, entryFrom, firstName, variantNamed, variantIn, laterName, after, lookedIn, follow, plainly, absolutely, parentMeans, readsTo, isThe, readsBack}
+use Rattle.readings.specs.Reads.{standsFor, meaning, entryOr, externNamed, externMeans, inExterns, preludeMeans, inPreludeOf, entryFrom, firstName, variantNamed, variantIn, laterName, after, lookedIn, follow, plainly, absolutely, parentMeans, readsTo, isThe, readsBack}
 
 module _ (s : Snapshot) (from : ℕ) where
   -- an entry

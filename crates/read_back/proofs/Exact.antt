@@ -11,7 +11,7 @@ use Rattle.accept.proofs.Bools.{and-two}
 use Rattle.hir_def.specs.Items.{sameItem, nsOf, moduleItem, definedItem}
 use Rattle.hir_def.specs.declared.Item.{Item}
 use Rattle.hir_def.specs.declared.Item.the-variants.{Mod, Def}
-use Rattle.read_back.specs.Reads.{readsTo, isThe, readsBack}
+use Rattle.readings.specs.Reads.{readsTo, isThe, readsBack}
 
 pub same-item : (a b : Item) → sameItem a b ≡ true → a ≡ b
 unfolding sameItem

@@ -7,13 +7,13 @@ use native.Mathlib.Omega.{arith}
 use Rattle.snapshot.specs.Records.{scopeAt}
 use Rattle.snapshot.specs.Layouts.{snapOf}
 use Rattle.snapshot.specs.declared.layout.Layout.{Layout}
-use Rattle.accept.specs.Stands.{countsIn}
+use Rattle.record_rules.specs.Stands.{countsIn}
 use Rattle.accept.specs.Post.{Reads}
 use Rattle.accept.specs.Valid.{ScopeFits}
 use Rattle.hir_def.specs.Finds.{firstSome}
 use Rattle.hir_def.specs.ItemScope.{get}
 use Rattle.hir_def.proofs.Fits.{get-fits}
-use Rattle.read_back.specs.Reads.{scopesFrom, entryFrom}
+use Rattle.readings.specs.Reads.{scopesFrom, entryFrom}
 
 by-option : {B C : Type 0} (o : Option B) → (o ≡ none → C) → ((y : B) → o ≡ some y → C) → C
 by-option none f g = f refl

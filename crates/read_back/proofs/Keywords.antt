@@ -10,10 +10,10 @@ use lib.ListN.{length}
 use Rattle.snapshot.specs.Records.{Snapshot}
 use Rattle.accept.specs.Valid.{Tree}
 use Rattle.accept.proofs.Accepted.{by-test}
-use Rattle.module_tree.specs.Modules.{mapOf, parentOf, blockOf, crateRoot}
+use Rattle.tree_rules.specs.Modules.{mapOf, parentOf, blockOf, crateRoot}
 use Rattle.module_tree.proofs.Chains.{parent-fits}
 use Rattle.hir_def.specs.Items.{moduleItem}
-use Rattle.read_back.specs.Reads.{selfKind, superKind, crateKind, standsFor, follow, parentMeans, readsTo}
+use Rattle.readings.specs.Reads.{selfKind, superKind, crateKind, standsFor, follow, parentMeans, readsTo}
 use Rattle.read_back.proofs.Outward.{outward-root, outward-none, outward-falls, stands-here}
 
 module _ (s : Snapshot) (from ns : ℕ) where

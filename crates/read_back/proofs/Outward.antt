@@ -9,13 +9,13 @@ use lib.ListN.{length}
 use Rattle.snapshot.specs.Records.{Snapshot, Scope}
 use Rattle.accept.specs.Valid.{Tree}
 use Rattle.accept.proofs.Accepted.{by-test}
-use Rattle.module_tree.specs.Modules.{parentOf, blockOf}
-use Rattle.module_tree.specs.Visibility.{lastOr}
+use Rattle.tree_rules.specs.Modules.{parentOf, blockOf}
+use Rattle.tree_rules.specs.Visibility.{lastOr}
 use Rattle.module_tree.proofs.Chains.{block-falls}
 use Rattle.module_tree.proofs.Laws.{Falls, last-more}
 use Rattle.hir_def.specs.ItemScope.{get}
 use Rattle.hir_def.proofs.Ancestors.{first-here, first-end, first-on}
-use Rattle.read_back.specs.Reads.{outward, scopesFrom, standsFor, entryFrom}
+use Rattle.readings.specs.Reads.{outward, scopesFrom, standsFor, entryFrom}
 
 module _ (s : Snapshot) (m : ℕ) where
   pub outward-root : parentOf s m ≡ 0 → outward s m ≡ blockOf s m

@@ -6,7 +6,7 @@ ghost use Rattle.snapshot.specs.Records.{scopeAt};
 ghost use Rattle.snapshot.specs.Layouts.{snapOf};
 ghost use Rattle.accept.specs.Post.{Reads};
 ghost use Rattle.hir_def.specs.Entries.{entryOf};
-ghost use Rattle.read_back.specs.Reads.{outward as outwardOf, standsFor, entryFrom};
+ghost use Rattle.readings.specs.Reads.{outward as outwardOf, standsFor, entryFrom};
 use hir_def::Entry;
 use hir_def::modules::block;
 use hir_def::modules::parent;

@@ -5,7 +5,7 @@ ghost use Prim.Native.Nat.{ℕ, _^_, _<_};
 ghost use Rattle.snapshot.specs.Records.{externAt, memberAt};
 ghost use Rattle.snapshot.specs.Layouts.{wordCount, snapOf};
 ghost use Rattle.hir_def.specs.Entries.{entryOf};
-ghost use Rattle.read_back.specs.Reads.{isExternNamed, externNamed, isVariantNamed, variantNamed};
+ghost use Rattle.readings.specs.Reads.{isExternNamed, externNamed, isVariantNamed, variantNamed};
 use hir_def::Entry;
 use snapshot::ids::Crate;
 use snapshot::ids::DefinitionId;

@@ -9,7 +9,7 @@ ghost use Rattle.accept.specs.Post.{Reads};
 ghost use Rattle.hir_def.specs.ItemScope.{get as entryNamed};
 ghost use Rattle.hir_def.specs.declared.Item.the-variants.{Mod};
 ghost use Rattle.read_back.specs.Answers.{meant};
-ghost use Rattle.read_back.specs.Reads.{meaning as meaningOf, entryOr, inExterns, inPreludeOf, firstName, variantNamed, variantIn, laterName, after};
+ghost use Rattle.readings.specs.Reads.{meaning as meaningOf, entryOr, inExterns, inPreludeOf, firstName, variantNamed, variantIn, laterName, after};
 use crate::OptItem;
 use crate::blocks::entry_from;
 use crate::lookups::extern_named;

@@ -7,7 +7,7 @@ ghost use Rattle.snapshot.specs.Layouts.{snapOf};
 ghost use Rattle.accept.specs.Post.{Reads};
 ghost use Rattle.hir_def.specs.Items.{parentOf};
 ghost use Rattle.read_back.specs.Answers.{meant};
-ghost use Rattle.read_back.specs.Reads.{standsFor, parentMeans, lookedIn, follow as followOf, readsTo, readsBack};
+ghost use Rattle.readings.specs.Reads.{standsFor, parentMeans, lookedIn, follow as followOf, readsTo, readsBack};
 use crate::OptItem;
 use crate::blocks::stands_for;
 use crate::names::first_name;

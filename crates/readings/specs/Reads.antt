@@ -5,8 +5,8 @@ use mathlib.Core.Bool.{Bool, true, false, _&&_}
 use mathlib.Core.Option.{Option, none, some}
 use lib.Dec.{eqb, ltb}
 use Rattle.snapshot.specs.Records.{Snapshot, Scope, Prelude, Extern, Member}
-use Rattle.module_tree.specs.Modules.{mapNo, crateOf, parentOf, blockOf, crateRoot}
-use Rattle.module_tree.specs.Visibility.{last, sees}
+use Rattle.tree_rules.specs.Modules.{mapNo, crateOf, parentOf, blockOf, crateRoot}
+use Rattle.tree_rules.specs.Visibility.{last, sees}
 use Rattle.hir_def.specs.Finds.{firstOf, orFirst, firstSome}
 use Rattle.hir_def.specs.Items.{types, macros, itemOf, sameItem, nsOf, moduleItem}
 use Rattle.hir_def.specs.ItemScope.{get}

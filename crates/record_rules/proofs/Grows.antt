@@ -15,8 +15,8 @@ use Rattle.snapshot.specs.Records.{Map, Snapshot, nameAt, crateAt, dependencyAt
 use Rattle.snapshot.specs.Layouts.{wordCount, crateBase, dependencyBase, mapBase, childBase, preludeBase, definitionBase, scopeBase, importBase, externBase, memberBase, nameHead, moduleMap, moduleHead, moduleRow, ownMap, namesOf, modulesOf, recordsOf, snapWith, moduleTable, rootTable, crateTable, tableWords}
 use Rattle.snapshot.specs.declared.layout.Layout.{Layout}
 use Rattle.snapshot.proofs.Laws.{rows-snoc, rows-zero, rows-ext}
-use Rattle.record_rules.specs.Tests.{noMap}
-use Rattle.record_rules.specs.Steps.{judge}
+use Rattle.check_rules.specs.Tests.{noMap}
+use Rattle.check_rules.specs.Steps.{judge}
 use Rattle.record_rules.specs.Stands.{ownOf, Upto, Limited, Indexes, Stands, Answered}
 use Rattle.record_rules.specs.declared.judge.Step.the-variants.{On}
 use Rattle.record_rules.proofs.Judged.{Judged, judged-on}

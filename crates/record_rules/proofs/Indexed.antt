@@ -17,7 +17,7 @@ use Rattle.snapshot.specs.Layouts.{childBase, definitionBase, scopeBase, extern
 use Rattle.snapshot.specs.declared.layout.Layout.{Layout}
 use Rattle.chains.specs.Chains.{keys, nameKey, recordKey, slotOf, Marked, Last, Chained, linked, nameHeads, scopeHeads, externHeads, childMarks, moduleMarks, marksEnd, nameLinks, scopeLinks, externLinks}
 use Rattle.chains.proofs.Laws.{marked-none, marked-kept, chained-kept, chained-none, chained-linked, linked-other, first-of, next-of, Walking, walk-start, walk-hit, walk-miss, walk-end}
-use Rattle.record_rules.specs.Tests.{sameName}
+use Rattle.check_rules.specs.Tests.{sameName}
 use Rattle.record_rules.specs.Stands.{Upto, Indexes}
 use Rattle.record_rules.proofs.Judged.{and-left, and-right}
 

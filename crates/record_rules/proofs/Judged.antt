@@ -15,8 +15,8 @@ use Rattle.snapshot.specs.Records.{Map, Snapshot, Child, Definition, Scope, Imp
 use Rattle.snapshot.specs.Layouts.{recordsOf, snapWith, crateBase, definitionBase, nameHead, moduleMap, moduleParent, moduleRow}
 use Rattle.snapshot.specs.declared.layout.Layout.{Layout}
 use Rattle.snapshot.proofs.Laws.{length-rows, getD-rows}
-use Rattle.record_rules.specs.Tests.{Counts, countsOf, noModule, noDefinition, kindOfDefinition, nsPlaced, samePrelude, sameDefinition, sameEntry, sameExtern, scopeDefined, importDefined, childDefined, childPlaced, definitionDefined, definitionPlaced, memberDefined, isMember, memberPlaced}
-use Rattle.record_rules.specs.Steps.{no, on, judge, judgeCrate}
+use Rattle.check_rules.specs.Tests.{Counts, countsOf, noModule, noDefinition, kindOfDefinition, nsPlaced, samePrelude, sameDefinition, sameEntry, sameExtern, scopeDefined, importDefined, childDefined, childPlaced, definitionDefined, definitionPlaced, memberDefined, isMember, memberPlaced}
+use Rattle.check_rules.specs.Steps.{no, on, judge, judgeCrate}
 use Rattle.record_rules.specs.Stands.{numberOf, crateNumberOf, sameBy, countsIn, Stands, Answered}
 use Rattle.record_rules.specs.declared.judge.Step.the-variants.{On}
 

@@ -12,7 +12,7 @@ use Rattle.snapshot.specs.Refusals.{rangeRefusal, undefinedRefusal, repeatedRef
 use Rattle.snapshot.specs.Words.{payOf, wordsOf}
 use Rattle.snapshot.specs.Records.{nameAt}
 use Rattle.snapshot.proofs.Laws.{rows-next, rows-none, getD-rows}
-use Rattle.record_rules.specs.Tests.{textBound, padded, nameRange, sameName}
+use Rattle.check_rules.specs.Tests.{textBound, padded, nameRange, sameName}
 use native.Mathlib.Nat.{add-zero, mul-le-mul-left}
 use Rattle.record_rules.specs.Stands.{numberOf, crateNumberOf}
 use Rattle.record_rules.proofs.Judged.{and-left, and-right}

@@ -19,8 +19,8 @@ use Rattle.snapshot.specs.Layouts.{crateBase, dependencyBase, childBase, prelud
 use Rattle.snapshot.specs.declared.layout.Layout.{Layout}
 use Rattle.snapshot.proofs.Laws.{rows-snoc, rows-zero, rows-ext, rows-put, length-rows}
 use Rattle.chains.specs.Chains.{nameKey, linked, nameHeads, nameLinks}
-use Rattle.record_rules.specs.Tests.{nameRange, sameName, crateRange, isEdition}
-use Rattle.record_rules.specs.Steps.{no, on, nameStep, crateStep, addName, addCrate}
+use Rattle.check_rules.specs.Tests.{nameRange, sameName, crateRange, isEdition}
+use Rattle.check_rules.specs.Steps.{no, on, nameStep, crateStep, addName, addCrate}
 use Rattle.record_rules.specs.Stands.{numberOf, crateNumberOf, ownFrom, ownOf, Indexes, Stands, Answered}
 use Rattle.record_rules.specs.declared.judge.Step.the-variants.{On}
 use Rattle.record_rules.proofs.Judged.{Judged, judged, judged-no, judged-on, judged-passes, passes, crate-judge-no, crate-judge-on, CratePassed, crate-passes}

@@ -1,4 +1,1 @@
-pub mod Tests
-pub mod Builtins
-pub mod Steps
 pub mod Stands

@@ -13,8 +13,8 @@ use Rattle.snapshot.specs.Records.{Map, nameAt, mapAt}
 use Rattle.snapshot.specs.Layouts.{wordCount, childBase, definitionBase, scopeBase, externBase, nameHead, moduleMap, moduleHead, mapRoot, ownMap, snapWith, rootTable}
 use Rattle.snapshot.specs.declared.layout.Layout.{Layout}
 use Rattle.chains.specs.Chains.{nameKey, recordKey, slotOf, Marked, Chained, nameHeads, scopeHeads, externHeads, childMarks, moduleMarks, nameLinks, scopeLinks, externLinks}
-use Rattle.record_rules.specs.Tests.{Counts, noMap, isOwn}
-use Rattle.record_rules.specs.Steps.{Next, no, on}
+use Rattle.check_rules.specs.Tests.{Counts, noMap, isOwn}
+use Rattle.check_rules.specs.Steps.{Next, no, on}
 use Rattle.record_rules.specs.declared.judge.Step.{Step}
 use Rattle.record_rules.specs.declared.judge.Step.the-variants.{No, On}
 

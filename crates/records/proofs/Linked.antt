@@ -17,7 +17,7 @@ use Rattle.snapshot.specs.Layouts.{childBase, definitionBase, scopeBase, extern
 use Rattle.snapshot.specs.declared.layout.Layout.{Layout}
 use Rattle.chains.specs.Chains.{nameKey, recordKey, slotOf, Marked, Last, Chained, linked, keys, nameHeads, scopeHeads, externHeads, childMarks, moduleMarks, marksEnd, nameLinks, scopeLinks, externLinks}
 use Rattle.chains.proofs.Laws.{marked-kept, marked-more, chained-kept, chained-linked, linked-other, first-of, next-of, Walking, walk-start, walk-hit, walk-miss, walk-end}
-use Rattle.record_rules.specs.Tests.{Counts, childDefined, definitionDefined}
+use Rattle.check_rules.specs.Tests.{Counts, childDefined, definitionDefined}
 use Rattle.record_rules.specs.Stands.{numberOf, sameBy, countsIn, Indexes, Stands}
 use Rattle.record_rules.proofs.Laws.{step-le}
 use Rattle.record_rules.proofs.Judged.{passes, any-same, and-left, and-right}

@@ -15,8 +15,8 @@ use Rattle.snapshot.specs.Records.{Map, nameAt, dependencyAt, childAt, preludeA
 use Rattle.snapshot.specs.Layouts.{preludeBase, definitionBase, scopeBase, externBase, moduleMap, moduleParent, nameHead, snapWith}
 use Rattle.snapshot.specs.declared.layout.Layout.{Layout}
 use Rattle.snapshot.proofs.Laws.{length-rows, getD-rows}
-use Rattle.record_rules.specs.Tests.{countsOf, noName, isBuiltin, dependencyRange, dependencyDefined, childDefined, sameChild, childPlaced, preludeDefined, samePrelude, definitionRange, definitionDefined, definitionRepeated, definitionPlaced, scopeRange, scopeDefined, sameEntry, nsPlaced, importRange, importDefined, externDefined, sameExtern, memberRange, memberDefined, isMember, memberPlaced}
-use Rattle.record_rules.specs.Steps.{no, on, dependencyStep, childStep, preludeStep, definitionStep, scopeStep, importStep, externStep, memberStep, addDependency, addChild, addPrelude, addDefinition, addScope, addImport, addExtern, addMember}
+use Rattle.check_rules.specs.Tests.{countsOf, noName, isBuiltin, dependencyRange, dependencyDefined, childDefined, sameChild, childPlaced, preludeDefined, samePrelude, definitionRange, definitionDefined, definitionRepeated, definitionPlaced, scopeRange, scopeDefined, sameEntry, nsPlaced, importRange, importDefined, externDefined, sameExtern, memberRange, memberDefined, isMember, memberPlaced}
+use Rattle.check_rules.specs.Steps.{no, on, dependencyStep, childStep, preludeStep, definitionStep, scopeStep, importStep, externStep, memberStep, addDependency, addChild, addPrelude, addDefinition, addScope, addImport, addExtern, addMember}
 use Rattle.record_rules.specs.Stands.{numberOf, sameBy, countsIn, Stands, Answered}
 use Rattle.record_rules.specs.declared.judge.Step.the-variants.{On}
 use Rattle.record_rules.proofs.Grows.{oneMore, plain-on, quiet-on}

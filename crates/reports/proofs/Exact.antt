@@ -7,8 +7,8 @@ use lib.ListN.{getD}
 use Rattle.find_path.specs.declared.Question.{Question}
 use Rattle.find_path.specs.declared.Report.{Report}
 use Rattle.find_path.specs.Report.{reportOf}
-use Rattle.find_path.specs.Fuels.{Bounded, Small}
-use Rattle.find_path.proofs.Reports.{report-bounded, report-small}
+use Rattle.search_laws.specs.Fuels.{Bounded, Small}
+use Rattle.search_laws.proofs.Reports.{report-bounded, report-small}
 use Rattle.reports.specs.Written.{low, reportWords, reportNumbers}
 
 low-same : (x : ℕ) → x ≤ 131072 → low x ≡ x

@@ -12,7 +12,7 @@ use Rattle.snapshot.specs.Limits.{areaLimit}
 use Rattle.snapshot.specs.Records.{Snapshot}
 use Rattle.snapshot.specs.Layouts.{snapOf}
 use Rattle.snapshot.specs.declared.layout.Layout.{Layout}
-use Rattle.accept.specs.Verdict.{refuse, verdict}
+use Rattle.check_rules.specs.Verdict.{refuse, verdict}
 use Rattle.accept.specs.Post.{Judged}
 use Rattle.accept.specs.declared.check.Checked.{Checked}
 use Rattle.accept.specs.declared.check.Checked.the-variants.{Refused, Accepted}
@@ -23,7 +23,7 @@ use Rattle.find_path.specs.declared.Question.{Question}
 use Rattle.find_path.specs.declared.Report.{Report}
 use Rattle.find_path.specs.Report.{refused, reportOf}
 use Rattle.find_path.specs.Line.{bytesOf, decimal, ruleNames, stepText, stepsText, routeText, lineIn, routedLineIn, routedLineOf, snapshotOf}
-use Rattle.find_path.proofs.Reports.{report-bounded}
+use Rattle.search_laws.proofs.Reports.{report-bounded}
 use Rattle.checked.specs.Questioned.{Questioned}
 use Rattle.checked.proofs.Putting.{refusal-only}
 use Rattle.route_line.specs.Routed.{RoutedOn}

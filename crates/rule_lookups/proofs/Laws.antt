@@ -6,7 +6,7 @@ use mathlib.Core.Option.{Option}
 use lib.Dec.{eqb}
 use Rattle.snapshot.specs.Records.{Snapshot, Scope}
 use Rattle.hir_def.specs.Items.{nsOf}
-use Rattle.hir_def.specs.Visibility.{sees}
+use Rattle.tree_rules.specs.Visibility.{sees}
 use Rattle.hir_def.specs.ItemScope.{isDeclared, isDeprecated, isFresh}
 use Rattle.hir_def.specs.Nameres.{entryNamed}
 use Rattle.hir_def.specs.declared.Item.{Item}

@@ -12,13 +12,13 @@ use Rattle.snapshot.specs.Limits.{wordLimit}
 use Rattle.snapshot.specs.Refusals.{entryRefusal}
 use Rattle.snapshot.specs.Sizes.{scopeSize}
 use Rattle.snapshot.specs.Records.{Scope, Snapshot, scopeAt}
-use Rattle.record_rules.specs.Tests.{countsOf, scopeRange, scopeDefined, nsPlaced, sameEntry}
-use Rattle.accept.specs.Verdict.{accept, verdict}
+use Rattle.check_rules.specs.Tests.{countsOf, scopeRange, scopeDefined, nsPlaced, sameEntry}
+use Rattle.check_rules.specs.Verdict.{accept, verdict}
 use Rattle.accept.proofs.Accepted.{by-test}
 use Rattle.accept.proofs.Bools.{and-two}
 use Rattle.accept.proofs.Ranges.{accepted-limits}
-use Rattle.scope_edits.specs.Entries.{scopeWords, isNamed, higher, placed, withScopes, isEntry, scopesEnd, entryPlace, inserted, cut}
-use Rattle.scope_edits.specs.Edits.{Operation, adding, removing, hasRoom, editFault, editedWords, editedSnapshot}
+use Rattle.edit_rules.specs.Entries.{scopeWords, isNamed, higher, placed, withScopes, isEntry, scopesEnd, entryPlace, inserted, cut}
+use Rattle.edit_rules.specs.Edits.{Operation, adding, removing, hasRoom, editFault, editedWords, editedSnapshot}
 use Rattle.scope_edits.proofs.Lists.{inserted-length, inserted-before, inserted-at, cut-inserted}
 use Rattle.scope_edits.proofs.Removed.{absent, present}
 use Rattle.scope_edits.proofs.Inserted.{Small, fits-small, words-length, entry-kind, entry-is, end-within, added-accepted}

@@ -12,12 +12,12 @@ use Rattle.snapshot.specs.Lists.{any}
 use Rattle.snapshot.specs.Refusals.{placeRefusal}
 use Rattle.snapshot.specs.Words.{kindOf, payOf, argumentsOf, argumentsAt}
 use Rattle.snapshot.specs.Records.{Snapshot, Scope, Import, Extern, Member, importAt, externAt, memberAt}
-use Rattle.record_rules.specs.Tests.{countsOf, sameEntry, mapsFilled, cratesOwn, importRange, importDefined, nsPlaced, externDefined, sameExtern, memberRange, memberDefined, memberPlaced}
-use Rattle.record_rules.specs.Steps.{on, addImport, addExtern, addMember, importStep, externStep, memberStep}
-use Rattle.accept.specs.Verdict.{recordStep, stepAt, refuse, accept, finish, records}
+use Rattle.check_rules.specs.Tests.{countsOf, sameEntry, mapsFilled, cratesOwn, importRange, importDefined, nsPlaced, externDefined, sameExtern, memberRange, memberDefined, memberPlaced}
+use Rattle.check_rules.specs.Steps.{on, addImport, addExtern, addMember, importStep, externStep, memberStep}
+use Rattle.check_rules.specs.Verdict.{recordStep, stepAt, refuse, accept, finish, records}
 use Rattle.accept.proofs.Accepted.{by-test, by-next, judge-on}
 use Rattle.accept.proofs.Folds.{records-end}
-use Rattle.scope_edits.specs.Entries.{movedScope, withScopes}
+use Rattle.edit_rules.specs.Entries.{movedScope, withScopes}
 use Rattle.scope_edits.proofs.Moved.{same-head}
 use Rattle.scope_edits.proofs.Stepped.{follows-rise, follows-other, taking, taken-step, taking-within, step-moved}
 

@@ -14,12 +14,12 @@ use Rattle.snapshot.specs.Limits.{wordLimit, crateLimit, moduleLimit}
 use Rattle.snapshot.specs.Words.{kindOf, payOf, argumentsOf, argumentsAt}
 use Rattle.snapshot.specs.Sizes.{scopeSize}
 use Rattle.snapshot.specs.Records.{Snapshot, Scope, scopeAt}
-use Rattle.record_rules.specs.Tests.{countsOf, nsPlaced, sameEntry, scopeDefined, scopeRange}
-use Rattle.record_rules.specs.Steps.{addScope, scopeStep}
-use Rattle.accept.specs.Verdict.{follows, argumentsFrom, accept, records, empty, verdict}
+use Rattle.check_rules.specs.Tests.{countsOf, nsPlaced, sameEntry, scopeDefined, scopeRange}
+use Rattle.check_rules.specs.Steps.{addScope, scopeStep}
+use Rattle.check_rules.specs.Verdict.{follows, argumentsFrom, accept, records, empty, verdict}
 use Rattle.accept.specs.Valid.{ScopeFits, Limits}
 use Rattle.accept.proofs.Ranges.{scope-fits, accepted-limits}
-use Rattle.scope_edits.specs.Entries.{higher, movedScope, placed, withScopes, scopeWords, isLater, scopesEnd, inserted}
+use Rattle.edit_rules.specs.Entries.{higher, movedScope, placed, withScopes, scopeWords, isLater, scopesEnd, inserted}
 use Rattle.scope_edits.proofs.Lists.{inserted-length, inserted-before, inserted-at, inserted-after}
 use Rattle.scope_edits.proofs.Moved.{Same, Bare, bare-moved, scope-same}
 use Rattle.scope_edits.proofs.Stepped.{Taking, taken-step, arguments-same, scope-kind, scope-takes}

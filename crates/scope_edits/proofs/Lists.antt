@@ -9,7 +9,7 @@ use lib.Seq.{getD-take, getD-drop, getD-append-add, length-take-le, take-at, dro
 use Rattle.snapshot.specs.Lists.{any}
 use Rattle.snapshot.specs.Records.{Scope}
 use Rattle.accept.proofs.Bools.{or-none}
-use Rattle.scope_edits.specs.Entries.{lower, movedScope, without, inserted, cut}
+use Rattle.edit_rules.specs.Entries.{lower, movedScope, without, inserted, cut}
 
 or-assoc : (a b c : Bool) → (a || b) || c ≡ a || (b || c)
 or-assoc true b c = refl

@@ -14,11 +14,11 @@ use Rattle.snapshot.specs.Words.{kindOf, payOf, wordsOf, argumentsOf, arguments
 use Rattle.snapshot.specs.Sizes.{crateSize, dependencySize, mapSize, moduleSize, childSize, preludeSize, definitionSize, scopeSize, importSize, externSize, memberSize}
 use Rattle.snapshot.specs.Records.{Snapshot, Name, Crate, Dependency, Map, Module, Child, Prelude, Definition, Scope, Import, Extern, Member, nameAt, crateAt, dependencyAt, mapAt, moduleAt, childAt, preludeAt, definitionAt, scopeAt, importAt, externAt, memberAt}
 use Rattle.snapshot.proofs.Laws.{rows-ext, after-head}
-use Rattle.record_rules.specs.Tests.{childDefined, childPlaced, countsOf, crateRange, isEdition, definitionDefined, definitionPlaced, definitionRange, definitionRepeated, dependencyDefined, dependencyRange, externDefined, importDefined, importRange, mapDefined, mapPlaced, mapRange, mapRepeated, memberDefined, memberPlaced, memberRange, moduleDefined, modulePlaced, nameRange, nsPlaced, preludeDefined, sameChild, sameExtern, sameName, samePrelude}
-use Rattle.record_rules.specs.Steps.{Next, on, judge, addName, addCrate, addDependency, addMap, addModule, addChild, addPrelude, addDefinition, addImport, addExtern, addMember, nameStep, crateStep, dependencyStep, mapStep, moduleStep, childStep, preludeStep, definitionStep, importStep, externStep, memberStep}
-use Rattle.accept.specs.Verdict.{recordStep}
+use Rattle.check_rules.specs.Tests.{childDefined, childPlaced, countsOf, crateRange, isEdition, definitionDefined, definitionPlaced, definitionRange, definitionRepeated, dependencyDefined, dependencyRange, externDefined, importDefined, importRange, mapDefined, mapPlaced, mapRange, mapRepeated, memberDefined, memberPlaced, memberRange, moduleDefined, modulePlaced, nameRange, nsPlaced, preludeDefined, sameChild, sameExtern, sameName, samePrelude}
+use Rattle.check_rules.specs.Steps.{Next, on, judge, addName, addCrate, addDependency, addMap, addModule, addChild, addPrelude, addDefinition, addImport, addExtern, addMember, nameStep, crateStep, dependencyStep, mapStep, moduleStep, childStep, preludeStep, definitionStep, importStep, externStep, memberStep}
+use Rattle.check_rules.specs.Verdict.{recordStep}
 use Rattle.accept.proofs.Accepted.{by-test, judge-on, judge-crate-on}
-use Rattle.scope_edits.specs.Entries.{movedScope, movedImport, movedExtern, withLists, withScopes}
+use Rattle.edit_rules.specs.Entries.{movedScope, movedImport, movedExtern, withLists, withScopes}
 use Rattle.scope_edits.proofs.Lists.{any-map}
 
 -- n words after the word at a and at b, and these, are the same

@@ -13,15 +13,15 @@ use Rattle.snapshot.specs.Sizes.{definitionSize}
 use Rattle.snapshot.specs.Records.{Scope, Snapshot, definitionAt}
 use Rattle.snapshot.specs.Layouts.{definitionBase, mapsOf, snapOf}
 use Rattle.snapshot.specs.declared.layout.Layout.{Layout}
-use Rattle.record_rules.specs.Tests.{countsOf, scopeRange, scopeDefined, nsPlaced}
+use Rattle.check_rules.specs.Tests.{countsOf, scopeRange, scopeDefined, nsPlaced}
 use Rattle.record_rules.specs.Stands.{numberOf, countsIn}
 use Rattle.record_rules.proofs.Judged.{number-of, ns-same, scope-definition}
-use Rattle.accept.specs.Verdict.{accept, verdict}
+use Rattle.check_rules.specs.Verdict.{accept, verdict}
 use Rattle.accept.specs.Post.{Reads}
 use Rattle.accept.proofs.Accepted.{by-test}
 use Rattle.accept.proofs.Reading.{counts-read}
-use Rattle.scope_edits.specs.Entries.{entryOf, isNamed, entryPlace}
-use Rattle.scope_edits.specs.Edits.{addNumber, hasRoom, adding, editFault}
+use Rattle.edit_rules.specs.Entries.{entryOf, isNamed, entryPlace}
+use Rattle.edit_rules.specs.Edits.{addNumber, hasRoom, adding, editFault}
 use Rattle.scope_edits.proofs.Removed.{absent, present}
 
 pub number-entry : (n : ℕ) (there room : Bool) → (n ≡ 0 → ⊥) → n ≡ addNumber n there room

@@ -11,12 +11,12 @@ use Rattle.snapshot.specs.Lists.{any}
 use Rattle.snapshot.specs.Words.{kindOf, argumentsOf, argumentsAt}
 use Rattle.snapshot.specs.Sizes.{scopeSize}
 use Rattle.snapshot.specs.Records.{Snapshot, Scope, scopeAt}
-use Rattle.record_rules.specs.Tests.{sameEntry}
-use Rattle.record_rules.specs.Steps.{addScope}
-use Rattle.accept.specs.Verdict.{accept, records, empty, verdict}
+use Rattle.check_rules.specs.Tests.{sameEntry}
+use Rattle.check_rules.specs.Steps.{addScope}
+use Rattle.check_rules.specs.Verdict.{accept, records, empty, verdict}
 use Rattle.accept.proofs.Accepted.{by-test}
 use Rattle.accept.proofs.Bools.{and-two}
-use Rattle.scope_edits.specs.Entries.{lower, movedScope, withScopes, without, isEntry, entryPlace, cut}
+use Rattle.edit_rules.specs.Entries.{lower, movedScope, withScopes, without, isEntry, entryPlace, cut}
 use Rattle.scope_edits.proofs.Lists.{any-append, any-snoc, any-map, any-less, any-middle, without-middle, cut-length, cut-before, cut-after}
 use Rattle.scope_edits.proofs.Moved.{Bare, bare-moved, Stays, other-moved, arguments-are}
 use Rattle.scope_edits.proofs.Stepped.{Taking, taking, taking-within, follows-rise, follows-low, follows-parts, scope-kind, scope-taken}

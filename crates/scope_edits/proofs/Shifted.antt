@@ -9,7 +9,7 @@ use lib.ListN.{length, getD, set, take, drop, replicate, length-append, length-t
 use lib.Seq.{append-snoc, take-suc, drop-cons, set-at, take-at, drop-at, take-all, take-take, getD-take, getD-drop, getD-append-add, length-take-le, take-append-le, ext-getD, paste, paste-suc}
 use Rattle.snapshot.specs.Sizes.{scopeSize}
 use Rattle.chains.specs.Chains.{Cleared}
-use Rattle.scope_edits.specs.Entries.{inserted, cut}
+use Rattle.edit_rules.specs.Entries.{inserted, cut}
 use Rattle.scope_edits.proofs.Lists.{inserted-length, cut-length, cut-after}
 
 -- a list whose word after p is stored

@@ -12,11 +12,11 @@ use Rattle.snapshot.specs.Limits.{wordLimit}
 use Rattle.snapshot.specs.Refusals.{wordsRefusal}
 use Rattle.snapshot.specs.Words.{kindOf, payOf, argumentsOf, argumentsAt}
 use Rattle.snapshot.specs.Records.{Snapshot}
-use Rattle.record_rules.specs.Tests.{sameEntry}
-use Rattle.record_rules.specs.Steps.{on}
-use Rattle.accept.specs.Verdict.{stepAt, refuse, accept, records, empty, verdict}
+use Rattle.check_rules.specs.Tests.{sameEntry}
+use Rattle.check_rules.specs.Steps.{on}
+use Rattle.check_rules.specs.Verdict.{stepAt, refuse, accept, records, empty, verdict}
 use Rattle.accept.proofs.Accepted.{by-test}
-use Rattle.scope_edits.specs.Entries.{withLists, withScopes, firstFrom}
+use Rattle.edit_rules.specs.Entries.{withLists, withScopes, firstFrom}
 use Rattle.scope_edits.proofs.Stepped.{Taking, taking, taking-within, step-moved}
 use Rattle.scope_edits.proofs.Folded.{next-record, records-take}
 

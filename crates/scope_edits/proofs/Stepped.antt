@@ -13,12 +13,12 @@ use Rattle.snapshot.specs.Refusals.{formRefusal}
 use Rattle.snapshot.specs.Words.{kindOf, payOf, argumentsOf, argumentsAt}
 use Rattle.snapshot.specs.Sizes.{scopeSize}
 use Rattle.snapshot.specs.Records.{Snapshot, Scope, scopeAt}
-use Rattle.record_rules.specs.Tests.{countsOf, nsPlaced, sameEntry, scopeDefined, scopeRange}
-use Rattle.record_rules.specs.Steps.{Next, on, need, addScope, scopeStep}
-use Rattle.accept.specs.Verdict.{follows, argumentsFrom, recordStep, stepAt}
+use Rattle.check_rules.specs.Tests.{countsOf, nsPlaced, sameEntry, scopeDefined, scopeRange}
+use Rattle.check_rules.specs.Steps.{Next, on, need, addScope, scopeStep}
+use Rattle.check_rules.specs.Verdict.{follows, argumentsFrom, recordStep, stepAt}
 use Rattle.accept.proofs.Accepted.{by-test, Taken, judge-on}
 use Rattle.accept.proofs.Bools.{and-four, and-three, and-two, or-right}
-use Rattle.scope_edits.specs.Entries.{movedScope, withScopes}
+use Rattle.edit_rules.specs.Entries.{movedScope, withScopes}
 use Rattle.scope_edits.proofs.Moved.{Same, same-head, scope-same, other-moved, arguments-are}
 
 -- which kinds follow one another

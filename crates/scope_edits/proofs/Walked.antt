@@ -11,7 +11,7 @@ use Rattle.snapshot.specs.Words.{kindOf, payOf, argumentsOf, argumentsAt}
 use Rattle.snapshot.specs.Sizes.{scopeSize}
 use Rattle.snapshot.specs.Records.{Scope, scopeAt}
 use Rattle.accept.proofs.Accepted.{by-test}
-use Rattle.scope_edits.specs.Entries.{firstFrom, isLater, scopesEnd, isEntry, entryPlace}
+use Rattle.edit_rules.specs.Entries.{firstFrom, isLater, scopesEnd, isEntry, entryPlace}
 use Rattle.scope_edits.proofs.Moved.{scope-same, arguments-are}
 
 and-false : (b : Bool) → b && false ≡ false

@@ -14,14 +14,14 @@ use Rattle.snapshot.specs.Limits.{crateLimit, moduleLimit, nameLimit, definitio
 use Rattle.snapshot.specs.Words.{kindOf, payOf, wordsOf, argumentsOf, argumentsAt}
 use Rattle.snapshot.specs.Records.{Name, Crate, Dependency, Map, Module, Child, Prelude, Definition, Scope, Import, Extern, Member, Snapshot, nameAt, crateAt, dependencyAt, mapAt, moduleAt, childAt, preludeAt, definitionAt, scopeAt, importAt, externAt, memberAt}
 use Rattle.snapshot.proofs.Laws.{rows-part, rows-ext, after-head}
-use Rattle.record_rules.specs.Tests.{childDefined, childPlaced, countsOf, crateRange, isEdition, definitionDefined, definitionPlaced, definitionRange, definitionRepeated, dependencyDefined, dependencyRange, externDefined, importDefined, importRange, isIn, mapDefined, mapPlaced, mapRange, mapRepeated, memberDefined, memberPlaced, memberRange, moduleDefined, modulePlaced, mapOf, nameRange, nsPlaced, preludeDefined, sameChild, sameEntry, sameExtern, sameName, samePrelude, scopeDefined, scopeRange}
-use Rattle.record_rules.specs.Steps.{on, addName, addCrate, addDependency, addMap, addModule, addChild, addPrelude, addDefinition, addScope, addImport, addExtern, addMember, nameStep, crateStep, dependencyStep, mapStep, moduleStep, childStep, preludeStep, definitionStep, scopeStep, importStep, externStep, memberStep}
-use Rattle.accept.specs.Verdict.{follows, recordStep, accept, records, empty, verdict}
+use Rattle.check_rules.specs.Tests.{childDefined, childPlaced, countsOf, crateRange, isEdition, definitionDefined, definitionPlaced, definitionRange, definitionRepeated, dependencyDefined, dependencyRange, externDefined, importDefined, importRange, isIn, mapDefined, mapPlaced, mapRange, mapRepeated, memberDefined, memberPlaced, memberRange, moduleDefined, modulePlaced, mapOf, nameRange, nsPlaced, preludeDefined, sameChild, sameEntry, sameExtern, sameName, samePrelude, scopeDefined, scopeRange}
+use Rattle.check_rules.specs.Steps.{on, addName, addCrate, addDependency, addMap, addModule, addChild, addPrelude, addDefinition, addScope, addImport, addExtern, addMember, nameStep, crateStep, dependencyStep, mapStep, moduleStep, childStep, preludeStep, definitionStep, scopeStep, importStep, externStep, memberStep}
+use Rattle.check_rules.specs.Verdict.{follows, recordStep, accept, records, empty, verdict}
 use Rattle.accept.specs.Valid.{Each, none, more}
 use Rattle.accept.proofs.Accepted.{by-test, judge-on, judge-crate-on}
 use Rattle.accept.proofs.Bools.{and-two, and-four, all-below, each-map, each-snoc, length-snoc, or-right, unless-right}
-use Rattle.scope_edits.specs.Entries.{scopeWords}
-use Rattle.scope_edits.specs.Written.{headOf, nameWords, crateWords, dependencyWords, mapWords, moduleWords, childWords, preludeWords, definitionWords, importWords, externWords, memberWords, eachWords, wordsWithin, treeWords, kindsWords, joined, snapshotWords}
+use Rattle.edit_rules.specs.Entries.{scopeWords}
+use Rattle.edit_rules.specs.Written.{headOf, nameWords, crateWords, dependencyWords, mapWords, moduleWords, childWords, preludeWords, definitionWords, importWords, externWords, memberWords, eachWords, wordsWithin, treeWords, kindsWords, joined, snapshotWords}
 use Rattle.scope_edits.proofs.Moved.{arguments-are, above, equal}
 use Rattle.scope_edits.proofs.Stepped.{Taking, taking, taking-within, follows-parts}
 use Rattle.scope_edits.proofs.Folded.{records-done, next-record}

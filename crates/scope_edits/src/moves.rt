@@ -4,7 +4,7 @@ ghost use mathlib.Core.List.{_++_};
 ghost use Prim.Native.Nat.{_+_, _-_, _≤_};
 ghost use lib.ListN.{length, take, drop, replicate};
 ghost use Rattle.snapshot.specs.Sizes.{scopeSize};
-ghost use Rattle.scope_edits.specs.Entries.{inserted, cut};
+ghost use Rattle.edit_rules.specs.Entries.{inserted, cut};
 use chains::chain::clear;
 use snapshot::kind::Size;
 

@@ -3,7 +3,7 @@ ghost use mathlib.Core.Path.{_≡_};
 ghost use Prim.Native.Nat.{_≤_};
 ghost use lib.ListN.{length};
 ghost use Rattle.snapshot.specs.Limits.{wordLimit};
-ghost use Rattle.scope_edits.specs.Entries.{isNamed, scopesEnd, isEntry, entryPlace};
+ghost use Rattle.edit_rules.specs.Entries.{isNamed, scopesEnd, isEntry, entryPlace};
 use snapshot::kind::Kind;
 use snapshot::kind::arguments;
 use snapshot::record::scope_name;

@@ -27,13 +27,13 @@ use Rattle.path_choices.specs.declared.Choice.{Choice}
 use Rattle.find_path.specs.declared.Tank.{Tank}
 use Rattle.find_path.specs.declared.Found.{Found}
 use Rattle.find_path.specs.declared.FindPathCtx.{FindPathCtx}
-use Rattle.find_path.specs.Choices.{nothing}
+use Rattle.path_choices.specs.Choices.{nothing}
 use Rattle.find_path.specs.Rules.{firstFound, scopeRule, preludeRule}
 use Rattle.find_path.specs.Meters.{fromTank}
 use Rattle.find_path.specs.Charged.{Out, foundOf, variantOf, pushVariant, afterEnum, viaEnum, orEnum, byName, ofModule, findPathInner}
 use Rattle.find_path.specs.Search.{bestLocal}
-use Rattle.find_path.proofs.Unfold.{EnumNoVariant, inner-more}
-use Rattle.find_path.proofs.Bounds.{Fits, more, either-fits, nothing-fits, scope-fits, prelude-fits, best-local-fits, best-within, module-search-fits}
+use Rattle.search_laws.proofs.Unfold.{EnumNoVariant, inner-more}
+use Rattle.search_laws.proofs.Bounds.{Fits, more, either-fits, nothing-fits, scope-fits, prelude-fits, best-local-fits, best-within, module-search-fits}
 use Rattle.charged_search.specs.Parts.{modules, bestPath}
 use Rattle.search_parts.specs.Parts.{straight}
 use Rattle.search.specs.Parts.{items, names}

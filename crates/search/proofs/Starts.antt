@@ -23,15 +23,15 @@ use Rattle.find_path.specs.declared.Tank.{Tank}
 use Rattle.find_path.specs.declared.Found.{Found}
 use Rattle.find_path.specs.declared.FindPathCtx.{FindPathCtx}
 use Rattle.find_path.specs.declared.Query.{Query}
-use Rattle.find_path.specs.Choices.{viaBuiltin, viaVariant, stepBy, nothing, choiceNew, push}
+use Rattle.path_choices.specs.Choices.{viaBuiltin, viaVariant, stepBy, nothing, choiceNew, push}
 use Rattle.find_path.specs.Rules.{contextOf, firstFound, scopeRule, preludeRule}
 use Rattle.find_path.specs.Meters.{fromTank, filled}
 use Rattle.find_path.specs.Charged.{Out, foundOf, variantOf, pushVariant}
 use Rattle.find_path.specs.Search.{builtinChoice, fromHome, fromItem, findPath}
 use Rattle.find_path.specs.Report.{searched}
 use Rattle.find_path.specs.Conditions.{Prepared, Searched}
-use Rattle.find_path.proofs.Tanks.{item-sum}
-use Rattle.find_path.proofs.Tables.{names-short, same-snap}
+use Rattle.search_laws.proofs.Tanks.{item-sum}
+use Rattle.search_laws.proofs.Tables.{names-short, same-snap}
 use Rattle.charged_search.specs.Parts.{bestPath, Begun}
 use Rattle.search_parts.specs.Parts.{straight}
 use Rattle.search.specs.Parts.{items, names}

@@ -9,7 +9,7 @@ ghost use Rattle.snapshot.specs.Records.{definitionAt};
 ghost use Rattle.accept.specs.Post.{Reads};
 ghost use Rattle.hir_def.specs.Items.{definitionOf};
 ghost use Rattle.hir_def.specs.Entries.{entryOf};
-ghost use Rattle.find_path.specs.Choices.{viaVariant, stepBy, push as pushOf};
+ghost use Rattle.path_choices.specs.Choices.{viaVariant, stepBy, push as pushOf};
 ghost use Rattle.find_path.specs.Rules.{firstFound, scopeRule, preludeRule};
 ghost use Rattle.find_path.specs.Charged.{variantOf};
 ghost use Rattle.find_path.specs.Meters.{fromTank};

@@ -12,7 +12,7 @@ use Rattle.snapshot.specs.Lists.{any}
 use Rattle.snapshot.specs.Records.{Snapshot}
 use Rattle.hir_def.specs.Finds.{select}
 use Rattle.find_path.specs.Walk.{has, startFrom, leadsTo, unmet, walk, findLocalImportLocations}
-use Rattle.find_path.proofs.Walks.{select-hit, select-miss, select-short, has-snoc, walk-skip, walk-take, untaken, leads-fall}
+use Rattle.search_laws.proofs.Walks.{select-hit, select-miss, select-short, has-snoc, walk-skip, walk-take, untaken, leads-fall}
 
 pub either : (a b : Bool) → a || b ≡ true → (a ≡ true) ⊎ (b ≡ true)
 either true b e = inl refl

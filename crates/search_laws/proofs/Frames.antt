@@ -11,13 +11,13 @@ use Rattle.snapshot.specs.Records.{Snapshot, Scope}
 use Rattle.hir_def.specs.Items.{sameItem, moduleItem}
 use Rattle.path_choices.specs.declared.Choice.{Choice}
 use Rattle.find_path.specs.declared.FindPathCtx.{FindPathCtx}
-use Rattle.find_path.specs.Choices.{nothing, lengthLeft}
+use Rattle.path_choices.specs.Choices.{nothing, lengthLeft}
 use Rattle.find_path.specs.Walk.{Level, has, visited}
 use Rattle.find_path.specs.Rules.{moduleRules}
 use Rattle.find_path.specs.Local.{LocalSearch, offerEntry, importableName, location, eachLocation, calculateBestPathLocal, orLocal, findPathForModuleLocal}
 use Rattle.find_path.specs.Search.{localTo, searchLocal}
 use Rattle.search_laws.specs.Near.{isSome, ruled, locations, imports, near}
-use Rattle.find_path.proofs.Unfold.{length-falls}
+use Rattle.search_laws.proofs.Unfold.{length-falls}
 use Rattle.search_laws.proofs.Fewer.{tested, refuted, Within, has-first, has-later, walk-same, walk-fewer}
 use Rattle.search_laws.proofs.Near.{Location, near-none, to-far}
 

@@ -11,12 +11,12 @@ use Rattle.snapshot.specs.Records.{Snapshot, Scope}
 use Rattle.hir_def.specs.Items.{moduleItem}
 use Rattle.path_choices.specs.declared.Choice.{Choice}
 use Rattle.find_path.specs.declared.FindPathCtx.{FindPathCtx}
-use Rattle.find_path.specs.Choices.{viaLocal, stepBy, nothing, lengthLeft, extended, push}
+use Rattle.path_choices.specs.Choices.{viaLocal, stepBy, nothing, lengthLeft, extended, push}
 use Rattle.find_path.specs.Walk.{Level, has}
 use Rattle.find_path.specs.Local.{importableName, location, calculateBestPathLocal}
 use Rattle.find_path.specs.Search.{searchLocal}
 use Rattle.search_laws.specs.Near.{isSome, isOn, ruled, locations, imports, near}
-use Rattle.find_path.proofs.Unfold.{length-falls}
+use Rattle.search_laws.proofs.Unfold.{length-falls}
 use Rattle.search_laws.proofs.Fewer.{tested, refuted, less-or}
 use Rattle.search_laws.proofs.Near.{Location, near-step, near-later, found-near, far-nothing}
 use Rattle.search_laws.proofs.Frames.{far-under}

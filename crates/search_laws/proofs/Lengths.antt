@@ -14,13 +14,13 @@ use Rattle.hir_def.specs.Items.{crateRoot, moduleItem}
 use Rattle.hir_def.specs.declared.Item.{Item}
 use Rattle.path_choices.specs.declared.Choice.{Choice}
 use Rattle.find_path.specs.declared.FindPathCtx.{FindPathCtx}
-use Rattle.find_path.specs.Choices.{plainPath, cratePath, nothing, pathLen, keyword, choiceNew, extended, push, lengthLeft}
+use Rattle.path_choices.specs.Choices.{plainPath, cratePath, nothing, pathLen, keyword, choiceNew, extended, push, lengthLeft}
 use Rattle.find_path.specs.Rules.{byCrate, prefixPathKind, firstFound, single, mayBeInScope, scopeRule, preludeRule, rootRule, keywordOf, moduleRules}
 use Rattle.find_path.specs.Walk.{Level, has}
 use Rattle.find_path.specs.Local.{LocalSearch, importableName, location, calculateBestPathLocal, orLocal, findPathForModuleLocal}
 use Rattle.find_path.specs.Search.{localTo, searchLocal}
 use Rattle.search_laws.specs.Near.{isSome, ruled, locations, imports, near}
-use Rattle.find_path.proofs.Unfold.{length-falls}
+use Rattle.search_laws.proofs.Unfold.{length-falls}
 use Rattle.search_laws.proofs.Fewer.{either, and-both, tested}
 use Rattle.search_laws.proofs.Near.{Location, near-rule, near-step}
 use Rattle.search_laws.proofs.Frames.{fewer-locations}

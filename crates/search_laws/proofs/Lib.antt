@@ -1,4 +1,25 @@
--- Laws of the local search that its fast form cites.
+-- Laws of the search, and those of the local search that its fast form cites.
+pub mod Keeps
+pub mod Tanks
+pub mod Told
+pub mod Sim
+pub mod Refusals
+pub mod Outcomes
+pub mod Fuels
+pub mod Limits
+pub mod Unfold
+pub mod Bounds
+pub mod Known
+pub mod Crates
+pub mod Routes
+pub mod Reports
+pub mod Walks
+pub mod Visited
+pub mod Plain
+pub mod Reading
+pub mod Chains
+pub mod Lines
+pub mod Tables
 pub mod Fewer
 pub mod Near
 pub mod Frames

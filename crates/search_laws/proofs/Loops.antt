@@ -9,10 +9,10 @@ use Rattle.snapshot.specs.Records.{Snapshot, Scope}
 use Rattle.hir_def.specs.declared.Item.{Item}
 use Rattle.path_choices.specs.declared.Choice.{Choice}
 use Rattle.find_path.specs.declared.FindPathCtx.{FindPathCtx}
-use Rattle.find_path.specs.Choices.{viaLocal, stepBy, lengthLeft, better, extended, push, trySelect}
+use Rattle.path_choices.specs.Choices.{viaLocal, stepBy, lengthLeft, better, extended, push, trySelect}
 use Rattle.find_path.specs.Walk.{Level, has, startFrom, leadsTo, walk, findLocalImportLocations}
 use Rattle.find_path.specs.Local.{LocalSearch, offer, offerEntry, importableName, location, eachLocation}
-use Rattle.find_path.proofs.Walks.{walk-skip, walk-take, untaken, leads-fall}
+use Rattle.search_laws.proofs.Walks.{walk-skip, walk-take, untaken, leads-fall}
 use Rattle.search_laws.proofs.Fewer.{or-both, Within, has-first, has-later}
 
 -- each module is taken once

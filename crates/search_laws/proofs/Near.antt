@@ -14,13 +14,13 @@ use Rattle.hir_def.specs.Items.{sameItem, moduleItem}
 use Rattle.hir_def.specs.declared.Item.{Item}
 use Rattle.path_choices.specs.declared.Choice.{Choice}
 use Rattle.find_path.specs.declared.FindPathCtx.{FindPathCtx}
-use Rattle.find_path.specs.Choices.{nothing, lengthLeft, better, extended, push, trySelect}
+use Rattle.path_choices.specs.Choices.{nothing, lengthLeft, better, extended, push, trySelect}
 use Rattle.find_path.specs.Walk.{Level, has, visited}
 use Rattle.find_path.specs.Rules.{moduleRules}
 use Rattle.find_path.specs.Local.{LocalSearch, offer, offerEntry, importableName, location, eachLocation, calculateBestPathLocal, orLocal, findPathForModuleLocal}
 use Rattle.find_path.specs.Search.{localTo, searchLocal}
 use Rattle.search_laws.specs.Near.{isSome, ruled, locations, imports, near}
-use Rattle.find_path.proofs.Unfold.{length-falls}
+use Rattle.search_laws.proofs.Unfold.{length-falls}
 use Rattle.search_laws.proofs.Fewer.{either, both, and-both, refuted, or-left, or-right, has-first, has-later, any-one, one-any, walk-fewer}
 
 or-through : (a b c d : Bool) → (a ≡ true → b || c ≡ true) → a || d ≡ true → b || (c || d) ≡ true

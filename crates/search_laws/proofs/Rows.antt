@@ -14,12 +14,12 @@ use Rattle.hir_def.specs.Items.{sameItem, moduleItem}
 use Rattle.hir_def.specs.declared.Item.{Item}
 use Rattle.path_choices.specs.declared.Choice.{Choice}
 use Rattle.find_path.specs.declared.FindPathCtx.{FindPathCtx}
-use Rattle.find_path.specs.Choices.{nothing, shorterIf, lengthLeft}
+use Rattle.path_choices.specs.Choices.{nothing, shorterIf, lengthLeft}
 use Rattle.find_path.specs.Walk.{Level, has}
 use Rattle.find_path.specs.Local.{LocalSearch, offerEntry, importableName, location, eachLocation, calculateBestPathLocal, orLocal, findPathForModuleLocal}
 use Rattle.find_path.specs.Search.{searchLocal, bestLocal}
 use Rattle.search_laws.specs.Near.{isSome, isOn, ruled, locations, imports, near}
-use Rattle.find_path.proofs.Unfold.{length-falls, local-more}
+use Rattle.search_laws.proofs.Unfold.{length-falls, local-more}
 use Rattle.search_laws.proofs.Fewer.{either, tested, refuted, less-or, Within, has-none, has-cons, has-first, has-later}
 use Rattle.search_laws.proofs.Near.{offer-cases, Location, near-step, near-cases, near-later, far-nothing}
 use Rattle.search_laws.proofs.Frames.{far-under}

@@ -10,7 +10,7 @@ use Rattle.snapshot.specs.Lists.{any}
 use Rattle.snapshot.specs.Records.{Snapshot}
 use Rattle.hir_def.specs.Items.{sameItem, moduleItem}
 use Rattle.find_path.specs.declared.FindPathCtx.{FindPathCtx}
-use Rattle.find_path.specs.Choices.{nothing}
+use Rattle.path_choices.specs.Choices.{nothing}
 use Rattle.find_path.specs.Walk.{Level, has, visited, findLocalImportLocations}
 use Rattle.find_path.specs.Search.{searchLocal}
 use Rattle.search_laws.specs.Near.{isOn, ruled, locations, near}

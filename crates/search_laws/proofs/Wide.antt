@@ -13,14 +13,14 @@ use Rattle.snapshot.specs.Records.{Snapshot, Scope}
 use Rattle.hir_def.specs.Items.{sameItem, moduleItem}
 use Rattle.path_choices.specs.declared.Choice.{Choice}
 use Rattle.find_path.specs.declared.FindPathCtx.{FindPathCtx}
-use Rattle.find_path.specs.Choices.{viaLocal, stepBy, isPrelude, nameLen, nothing, pathLen, shorterIf, lengthLeft, compareBool, andThen, comparePrelude, taken, better, extended, push}
+use Rattle.path_choices.specs.Choices.{viaLocal, stepBy, isPrelude, nameLen, nothing, pathLen, shorterIf, lengthLeft, compareBool, andThen, comparePrelude, taken, better, extended, push}
 use Rattle.find_path.specs.Walk.{Level, has, visited}
 use Rattle.find_path.specs.Rules.{moduleRules}
 use Rattle.find_path.specs.Local.{offerEntry, importableName, location, eachLocation, calculateBestPathLocal, orLocal, findPathForModuleLocal}
 use Rattle.find_path.specs.Search.{searchLocal}
 use Rattle.search_laws.specs.Near.{isSome, isOn, ruled, locations, imports}
-use Rattle.find_path.proofs.Unfold.{length-falls, local-more}
-use Rattle.find_path.proofs.Walks.{has-snoc}
+use Rattle.search_laws.proofs.Unfold.{length-falls, local-more}
+use Rattle.search_laws.proofs.Walks.{has-snoc}
 use Rattle.search_laws.proofs.Fewer.{either, tested, refuted, less-or, or-none, has-none}
 use Rattle.search_laws.proofs.Near.{unfound-nothing, Location, near-later, near-none, found-near}
 use Rattle.search_laws.proofs.Tight.{walk-off, Distance}

@@ -1,1 +1,2 @@
-//! Laws of the local search, by which a fast form answers as the plain rules do: definitions and theorems, no functions.
+//! Laws of the search: what two fuels and two limits have to do with each other, routes, reading back, the visited set; and those of the
+//! local search, by which a fast form answers as the plain rules do. Definitions and theorems, no functions.

@@ -12,12 +12,12 @@ use Rattle.snapshot.specs.Records.{Snapshot, Scope}
 use Rattle.snapshot.specs.Layouts.{snapOf}
 use Rattle.snapshot.specs.declared.layout.Layout.{Layout}
 use Rattle.accept.specs.Post.{Reads}
-use Rattle.accept.specs.Stands.{countsIn}
+use Rattle.record_rules.specs.Stands.{countsIn}
 use Rattle.accept.specs.Valid.{Tree, Valid, ScopeFits}
 use Rattle.accept.proofs.Reading.{ranges-read}
 use Rattle.accept.proofs.Valid.{accepted-valid}
-use Rattle.module_tree.specs.Modules.{crateOf, parentOf, blockOf}
-use Rattle.module_tree.specs.Privately.{ofRoot, blockStep, moduleAround, privately}
+use Rattle.tree_rules.specs.Modules.{crateOf, parentOf, blockOf}
+use Rattle.tree_rules.specs.Privately.{ofRoot, blockStep, moduleAround, privately}
 use Rattle.module_tree.proofs.Laws.{by-number, Falls}
 use Rattle.module_tree.proofs.Chains.{block-fits}
 use Rattle.module_tree.proofs.Ways.{last-end, last-on}

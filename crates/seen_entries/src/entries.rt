@@ -5,7 +5,7 @@ ghost use Prim.Native.Nat.{ℕ, suc, _^_, _<_};
 ghost use Rattle.snapshot.specs.Ids.{plusOne};
 ghost use Rattle.snapshot.specs.Records.{scopeAt};
 ghost use Rattle.snapshot.specs.Layouts.{wordCount, snapOf};
-ghost use Rattle.accept.specs.Stands.{countsIn};
+ghost use Rattle.record_rules.specs.Stands.{countsIn};
 ghost use Rattle.accept.specs.Post.{Reads};
 ghost use Rattle.accept.specs.Valid.{ScopeFits};
 ghost use Rattle.hir_def.specs.Entries.{entryOf};

@@ -4,7 +4,7 @@ ghost use Prim.Native.Nat.{_<_, _≤_};
 ghost use Rattle.snapshot.specs.Ids.{plusOne};
 ghost use Rattle.snapshot.specs.Layouts.{snapOf};
 ghost use Rattle.accept.specs.Post.{Reads};
-ghost use Rattle.module_tree.specs.Privately.{blockStep, moduleAround, privately as privatelyOf};
+ghost use Rattle.tree_rules.specs.Privately.{blockStep, moduleAround, privately as privatelyOf};
 ghost use Rattle.nameable.specs.Seen.{holds as holdsOf};
 use module_tree::modules::block;
 use module_tree::modules::krate;

@@ -14,7 +14,7 @@ use Rattle.accept.specs.Post.{Reads}
 use Rattle.hir_def.specs.Finds.{firstOf, select}
 use Rattle.hir_def.specs.Items.{types, macros, variantKind, definitionOf, nsOf, sameItem, moduleItem, definedItem}
 use Rattle.hir_def.specs.declared.Item.{Item}
-use Rattle.read_back.specs.Reads.{isVariantNamed, variantNamed as firstVariant}
+use Rattle.readings.specs.Reads.{isVariantNamed, variantNamed as firstVariant}
 use Rattle.nameable.specs.Seen.{isVariant}
 use Rattle.nameable.specs.Paths.{Path, into, Named, named, isVariantOf, variantNamed, variantsIn, within, itemIn, means}
 use Rattle.nameable.specs.Breadth.{isItem, firstTo, arrival, turns, checkedPath, variantAfter, byEnum, shorter, shortestOf, shortest}

@@ -9,10 +9,10 @@ use lib.ListN.{length, take}
 use Rattle.snapshot.specs.Limits.{wordLimit, fuelLimit}
 use Rattle.snapshot.specs.Lists.{any}
 use Rattle.snapshot.specs.Records.{Snapshot, Scope}
-use Rattle.accept.specs.Verdict.{refuse, accept, verdict}
+use Rattle.check_rules.specs.Verdict.{refuse, accept, verdict}
 use Rattle.accept.specs.Valid.{Valid, Each}
 use Rattle.accept.proofs.Valid as valid
-use Rattle.module_tree.specs.Visibility.{isVisibleFrom}
+use Rattle.tree_rules.specs.Visibility.{isVisibleFrom}
 use Rattle.module_tree.specs.Privacy.{Privacy}
 use Rattle.module_tree.specs.Differs.{Exception, Known, Answers}
 use Rattle.module_tree.proofs.Private as private
@@ -24,19 +24,20 @@ use Rattle.find_path.specs.declared.Query.{Query}
 use Rattle.find_path.specs.declared.Question.{Question}
 use Rattle.find_path.specs.Rules.{bit}
 use Rattle.find_path.specs.Report.{searchedListing, refused, reportOf}
-use Rattle.find_path.specs.Fuels.{reportAt, IsRefused, HasPath, Bounded, NamesKnown, Small, TellsFirst, Compared}
-use Rattle.find_path.specs.Limits.{withLimit, Whole}
-use Rattle.find_path.specs.Routes.{Routed, Shown, routeSteps}
-use Rattle.find_path.specs.Reading.{withReading, ReadAs}
-use Rattle.find_path.specs.Visited.{OneSet, Enough}
-use Rattle.find_path.proofs.Fuels as fuels
-use Rattle.find_path.proofs.Limits as limits
-use Rattle.find_path.proofs.Routes as routes
-use Rattle.find_path.proofs.Reading as reading
-use Rattle.find_path.proofs.Reports as reports
-use Rattle.find_path.proofs.Known as known
-use Rattle.find_path.proofs.Plain as plain
-use Rattle.find_path.proofs.Visited as visited
+use Rattle.search_laws.specs.Fuels.{IsRefused, HasPath, Bounded, NamesKnown, Small, TellsFirst, Compared}
+use Rattle.find_path.specs.Report.{reportAt}
+use Rattle.search_laws.specs.Limits.{withLimit, Whole}
+use Rattle.search_laws.specs.Routes.{Routed, Shown, routeSteps}
+use Rattle.search_laws.specs.Reading.{withReading, ReadAs}
+use Rattle.search_laws.specs.Visited.{OneSet, Enough}
+use Rattle.search_laws.proofs.Fuels as fuels
+use Rattle.search_laws.proofs.Limits as limits
+use Rattle.search_laws.proofs.Routes as routes
+use Rattle.search_laws.proofs.Reading as reading
+use Rattle.search_laws.proofs.Reports as reports
+use Rattle.search_laws.proofs.Known as known
+use Rattle.search_laws.proofs.Plain as plain
+use Rattle.search_laws.proofs.Visited as visited
 use Rattle.reach_parts.specs.declared.Viewer.{Viewer}
 use Rattle.reach_parts.specs.Reach.{reachOf, distinct, itemIn, total}
 use Rattle.reach_parts.proofs.Laws as laws
@@ -48,19 +49,19 @@ use Rattle.nameable.specs.Paths.{Path, namesIn, Names, Nameable}
 use Rattle.nameable.specs.Breadth.{found, longer, nowhere, namesLimit, anyPath}
 use Rattle.nameable.specs.Right.{Longer, Right}
 use Rattle.nameable.proofs.Opinion as opinion
-use Rattle.scope_edits.specs.Edits.{edited, Operation, adding, removing, editOf}
-use Rattle.scope_edits.specs.Written.{snapshotWords, wordsWith}
+use Rattle.edit_rules.specs.Edits.{edited, Operation, adding, removing, editOf}
+use Rattle.edit_rules.specs.Written.{snapshotWords, wordsWith}
 use Rattle.scope_edits.proofs.Written as written
 use Rattle.answer.specs.Answers.{zeros}
 use Rattle.edits.specs.Runs.{Held, ownWords, afterRun, snapshotAfter, entriesAfter}
 use Rattle.edits.proofs.Fresh as fresh
 use Rattle.edits.proofs.Afresh as afresh
-use Rattle.window_state.specs.States.{waits, askedBy, placeFault, afterPlace}
+use Rattle.window_rules.specs.States.{waits, askedBy, placeFault, afterPlace}
 use Rattle.windows.specs.Windows.{turnOf}
 use Rattle.windows.specs.Runs as windows
 use Rattle.windows.specs.Runs.{emptyState, ServedWithin, turns}
 use Rattle.windows.proofs.Served as served
-use Rattle.import_order.specs.Collect.{collected}
+use Rattle.import_rules.specs.Collect.{collected}
 use Rattle.import_words.specs.Words as lists
 use Rattle.import_words.proofs.Built as built
 use Rattle.join_words.specs.Joined.{firstNumbers, secondNumbers, questionTo, joinedAs, joinOf}

@@ -15,7 +15,7 @@ use Rattle.snapshot.specs.Records.{Snapshot, Scope, scopeAt}
 use Rattle.snapshot.specs.Layouts.{tableWords, snapOf}
 use Rattle.snapshot.specs.declared.layout.Layout.{Layout}
 use Rattle.accept.specs.Post.{Reads}
-use Rattle.accept.specs.Stands.{countsIn}
+use Rattle.record_rules.specs.Stands.{countsIn}
 use Rattle.accept.specs.Valid.{Each, ScopeFits, Ranges}
 use Rattle.accept.proofs.Bools.{each-rows}
 use Rattle.accept.proofs.Reading.{ranges-read}
@@ -23,12 +23,12 @@ use Rattle.accept.proofs.Valid.{accepted-valid}
 use Rattle.hir_def.specs.Items.{moduleItem}
 use Rattle.path_choices.specs.declared.Choice.{Choice}
 use Rattle.find_path.specs.declared.FindPathCtx.{FindPathCtx}
-use Rattle.find_path.specs.Choices.{viaLocal, stepBy, nothing, push, extended, trySelect}
+use Rattle.path_choices.specs.Choices.{viaLocal, stepBy, nothing, push, extended, trySelect}
 use Rattle.find_path.specs.Walk.{has}
 use Rattle.find_path.specs.Local.{offerEntry, importableName}
 use Rattle.find_path.specs.Search.{searchLocal}
-use Rattle.find_path.proofs.Bounds.{Fits, search-local-fits}
-use Rattle.find_path.proofs.Tables.{same-snap}
+use Rattle.search_laws.proofs.Bounds.{Fits, search-local-fits}
+use Rattle.search_laws.proofs.Tables.{same-snap}
 use Rattle.search_laws.specs.Near.{isSome, ruled, locations, imports, near}
 use Rattle.search_laws.proofs.Fewer.{tested, refuted, less-or}
 use Rattle.search_laws.proofs.Near.{unfound-nothing}

@@ -8,11 +8,11 @@ use lib.ListN.{getD}
 use Rattle.snapshot.specs.Records.{Snapshot, Scope, scopeAt}
 use Rattle.snapshot.specs.Layouts.{snapOf}
 use Rattle.snapshot.specs.declared.layout.Layout.{Layout}
-use Rattle.accept.specs.Stands.{countsIn}
+use Rattle.record_rules.specs.Stands.{countsIn}
 use Rattle.accept.specs.Valid.{ScopeFits}
 use Rattle.path_choices.specs.declared.Choice.{Choice}
 use Rattle.find_path.specs.declared.FindPathCtx.{FindPathCtx}
-use Rattle.find_path.specs.Choices.{viaLocal, stepBy, nothing, extended}
+use Rattle.path_choices.specs.Choices.{viaLocal, stepBy, nothing, extended}
 use Rattle.find_path.specs.Walk.{has}
 use Rattle.find_path.specs.Search.{searchLocal}
 use Rattle.search_laws.specs.Near.{locations, imports}

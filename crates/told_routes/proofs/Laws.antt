@@ -16,8 +16,8 @@ use Rattle.accept.specs.Post.{Reads}
 use Rattle.accept.specs.Valid.{Valid}
 use Rattle.accept.proofs.Bools.{and-two}
 use Rattle.accept.proofs.Valid.{accepted-valid}
-use Rattle.module_tree.specs.Modules.{crateOf, parentOf, crateRoot}
-use Rattle.module_tree.specs.Privately.{moduleAround}
+use Rattle.tree_rules.specs.Modules.{crateOf, parentOf, crateRoot}
+use Rattle.tree_rules.specs.Privately.{moduleAround}
 use Rattle.module_tree.proofs.Chains.{parent-fits}
 use Rattle.module_tree.proofs.Reading.{length-modules}
 use Rattle.hir_def.specs.Entries.{ReadsAs}
@@ -32,7 +32,7 @@ use Rattle.nameable.proofs.Lists.{none-some, first-found}
 use Rattle.nameable.proofs.Reached.{each-in, item-in}
 use Rattle.nameable.proofs.Lookups.{named-seen}
 use Rattle.read_back.specs.Answers.{meant}
-use Rattle.read_back.specs.Reads.{externNamed as externOfName, isVariantNamed, variantNamed as firstVariant}
+use Rattle.readings.specs.Reads.{externNamed as externOfName, isVariantNamed, variantNamed as firstVariant}
 use Rattle.read_back.specs.declared.OptItem.{OptItem}
 use Rattle.read_back.specs.declared.OptItem.the-variants.{Means, NoItem}
 use Rattle.any_path.specs.Plain.{externsNamed}

@@ -14,7 +14,7 @@ use Rattle.snapshot.specs.Refusals.{windowRefusal, waitsRefusal}
 use Rattle.find_path.specs.declared.Question.{Question}
 use Rattle.questions.specs.Questions.{questionOf}
 use Rattle.questions.proofs.Laws.{mid-end}
-use Rattle.window_state.specs.States.{waits, askedBy, withRow, firstFrom, served, placeFault}
+use Rattle.window_rules.specs.States.{waits, askedBy, withRow, firstFrom, served, placeFault}
 
 -- the first window that waits
 

@@ -15,7 +15,7 @@ use Rattle.find_path.specs.declared.Question.{Question}
 use Rattle.questions.specs.Questions.{questionOf}
 use Rattle.window_state.specs.declared.rows.Row.{Row}
 use Rattle.window_state.specs.declared.rows.Windows.{Windows}
-use Rattle.window_state.specs.States.{rowOf, withRow, waits, askedBy, afterServing}
+use Rattle.window_rules.specs.States.{rowOf, withRow, waits, askedBy, afterServing}
 use Rattle.window_state.specs.Words.{emptyRow, rowWords, rowsWords, wordsOf}
 use Rattle.window_state.proofs.rows.Row as R
 use Rattle.window_state.proofs.rows.Windows as T

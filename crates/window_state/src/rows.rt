@@ -1,7 +1,7 @@
 //! The state: the window from which the next turn counts, and a row for each of eight windows.
 ghost use mathlib.Core.Path.{_≡_};
 ghost use Prim.Native.Nat.{_<_};
-ghost use Rattle.window_state.specs.States.{waits as waitsOf, served, withRow};
+ghost use Rattle.window_rules.specs.States.{waits as waitsOf, served, withRow};
 ghost use Rattle.window_state.specs.Words.{emptyRow, rowWords, wordsOf};
 
 /// A number of windows.

@@ -2,7 +2,7 @@
 ghost use mathlib.Core.Path.{_≡_};
 ghost use Prim.Native.Nat.{_<_};
 ghost use Rattle.questions.specs.Questions.{questionOf};
-ghost use Rattle.window_state.specs.States.{placeFault, withRow, waiting, askedBy, afterServing};
+ghost use Rattle.window_rules.specs.States.{placeFault, withRow, waiting, askedBy, afterServing};
 ghost use Rattle.window_state.specs.Words.{wordsOf};
 use crate::rows::Row;
 use crate::rows::WindowCount;

@@ -1,7 +1,7 @@
 //! The state as words: the next window, then the rows, eight words each.
 ghost use mathlib.Core.Path.{_≡_};
 ghost use Prim.Native.Nat.{_<_};
-ghost use Rattle.window_state.specs.States.{rowOf, withRow};
+ghost use Rattle.window_rules.specs.States.{rowOf, withRow};
 ghost use Rattle.window_state.specs.Words.{rowWords, wordsOf};
 use crate::rows::Row;
 use crate::rows::WindowCount;

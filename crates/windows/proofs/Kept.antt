@@ -9,7 +9,7 @@ use lib.Dec.{eqb, leb}
 use lib.ListN.{length, getD, take, drop, replicate, length-append, length-take, length-drop, length-set, List·getD-append}
 use lib.Seq.{length-take-le, getD-take, getD-drop, getD-append-add, getD-set-same, getD-set-other, ext-getD}
 use Rattle.find_path.specs.declared.Question.{Question}
-use Rattle.window_state.specs.States.{rowOf, withRow, waits, askedBy, waiting, placeFault, placedUnless, afterPlace, served, afterServing, afterTurn}
+use Rattle.window_rules.specs.States.{rowOf, withRow, waits, askedBy, waiting, placeFault, placedUnless, afterPlace, served, afterServing, afterTurn}
 use Rattle.window_state.proofs.Laws.{front-length, with-length, fault-room, fault-free, served-bound}
 
 -- other words for a window

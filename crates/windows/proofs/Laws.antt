@@ -11,7 +11,7 @@ use Rattle.find_path.specs.declared.Report.{Report}
 use Rattle.find_path.specs.Report.{reportOf}
 use Rattle.answer.specs.Answers.{Answers}
 use Rattle.windows.specs.declared.turns.Turn.{Turn}
-use Rattle.window_state.specs.States.{askedBy, waiting, withRow, served, placeFault, placedUnless, afterPlace, afterServing, afterTurn}
+use Rattle.window_rules.specs.States.{askedBy, waiting, withRow, served, placeFault, placedUnless, afterPlace, afterServing, afterTurn}
 use Rattle.windows.specs.Windows.{Placed, idleTurn, servingTurn, turnOf, areaTurned, Turned}
 
 -- a question placed

@@ -10,7 +10,7 @@ use lib.Dec.{eqb}
 use lib.ListN.{length, getD, take}
 use lib.Seq.{take-nil}
 use Rattle.find_path.specs.declared.Question.{Question}
-use Rattle.window_state.specs.States.{rowOf, waits, askedBy, waiting, placeFault, afterPlace, firstFrom, served, afterServing, afterTurn}
+use Rattle.window_rules.specs.States.{rowOf, waits, askedBy, waiting, placeFault, afterPlace, firstFrom, served, afterServing, afterTurn}
 use Rattle.windows.specs.declared.turns.Turn.{Turn}
 use Rattle.windows.specs.Windows.{idleTurn, servingTurn, turnOf}
 use Rattle.windows.specs.Runs.{emptyState, Operation, placing, turning, afterOne, afterRun, turns, servingIn, servings, ServedWithin}

@@ -6,13 +6,13 @@ use mathlib.Core.List.{List, [], _∷_, _++_}
 use lib.Dec.{eqb}
 use lib.ListN.{replicate}
 use Rattle.snapshot.specs.Lists.{all, eqList}
-use Rattle.accept.specs.Worked.{worked}
+use Rattle.check_rules.specs.Worked.{worked}
 use Rattle.find_path.specs.declared.Question.{Question}
 use Rattle.find_path.specs.Report.{flag}
 use Rattle.find_path.proofs.Worked.{passes}
 use Rattle.reports.specs.Written.{reportWords}
 use Rattle.windows.specs.declared.turns.Turn.{Turn}
-use Rattle.window_state.specs.States.{withRow, waits, askedBy, waiting, placeFault, placedUnless, afterPlace, firstFrom, served, afterServing, afterTurn}
+use Rattle.window_rules.specs.States.{withRow, waits, askedBy, waiting, placeFault, placedUnless, afterPlace, firstFrom, served, afterServing, afterTurn}
 use Rattle.windows.specs.Windows.{idleTurn, servingTurn, turnOf}
 use Rattle.windows.specs.Runs.{emptyState, Operation, placing, turning, afterOne, afterRun}
 

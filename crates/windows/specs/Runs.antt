@@ -4,7 +4,7 @@ use mathlib.Core.Path.{_≡_}
 use mathlib.Core.List.{List, [], _∷_, _++_}
 use lib.ListN.{getD, take, replicate}
 use Rattle.find_path.specs.declared.Question.{Question}
-use Rattle.window_state.specs.States.{rowOf, askedBy, afterPlace, served, afterTurn}
+use Rattle.window_rules.specs.States.{rowOf, askedBy, afterPlace, served, afterTurn}
 
 -- no question waits, and the first turn counts from window 0
 unfoldable pub emptyState : List ℕ

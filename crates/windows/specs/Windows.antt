@@ -9,7 +9,7 @@ use Rattle.find_path.specs.declared.Question.{Question}
 use Rattle.find_path.specs.Report.{refused, reportOf}
 use Rattle.answer.specs.Answers.{areaAfter}
 use Rattle.windows.specs.declared.turns.Turn.{Turn}
-use Rattle.window_state.specs.States.{placeFault, afterPlace, askedBy, served, afterTurn}
+use Rattle.window_rules.specs.States.{placeFault, afterPlace, askedBy, served, afterTurn}
 
 -- S₀ is the state before the call, S after it; r is the number of the refusal
 pub record Placed (S₀ : List ℕ) (w : ℕ) (q : Question) (S : List ℕ) (r : ℕ) : Type 0 where

@@ -16,8 +16,8 @@ use Rattle.hir_def.proofs.Lookups.{next-record, next-none, imports-whole, depen
 use Rattle.hir_def.proofs.Fits.{few-words, import-meets}
 use Rattle.find_path.specs.Charged.{foundOf, isStable}
 use Rattle.find_path.specs.Conditions.{Searched}
-use Rattle.find_path.proofs.Unfold.{length-falls}
-use Rattle.find_path.proofs.Tables.{same-reads}
+use Rattle.search_laws.proofs.Unfold.{length-falls}
+use Rattle.search_laws.proofs.Tables.{same-reads}
 use Rattle.charged_search.specs.Parts.{outOf, imports, dependencies, sysroot}
 use Rattle.charged_search.proofs.Parts.{at-home, module-ns, module-none, module-found, module-charged, best-empty, best-charged, go-here, go-sysroot, go-dependencies, lang-stable, lang-none, lang-some, rest-stable, import-hidden}
 use Rattle.charged_search.proofs.Holding.{offered, charge-sum, module-small, held-nothing, home-below}

@@ -4,7 +4,7 @@ use mathlib.Core.Path.{_≡_, refl, subst, _∙_}
 use native.Mathlib.Omega.{arith}
 use denote.Ref.{now}
 use lib.ListN.{length, length-set}
-use Rattle.find_path.proofs.Tables.{same-reads}
+use Rattle.search_laws.proofs.Tables.{same-reads}
 use Rattle.distances.specs.Post.{Rooted}
 use Rattle.distances.proofs.Marking.{rooted-start, rooted-next}
 use Rattle.snapshot.specs.Limits.{areaLimit}

@@ -2,7 +2,7 @@ use borrow.Author.Needs.{needs}
 use mathlib.Core.Path.{_≡_}
 use native.Mathlib.Omega.{arith}
 use lib.ListN.{length}
-use Rattle.accept.specs.Verdict.{empty}
+use Rattle.check_rules.specs.Verdict.{empty}
 use Rattle.printing.proofs.Laws.{put-as, put-two}
 use Rattle.reach_line.proofs.Laws.{refusal-text, counts-text}
 use Rattle.reach_line.proofs.put_reach.Statement.{statement}

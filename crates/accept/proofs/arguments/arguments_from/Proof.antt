@@ -2,7 +2,7 @@ use borrow.Author.Needs.{needs}
 use Prim.Native.Nat.{_+_}
 use mathlib.Core.Path.{_≡_, refl, sym, _∙_}
 use native.Mathlib.Omega.{arith}
-use Rattle.accept.specs.Verdict.{argumentsFrom}
+use Rattle.check_rules.specs.Verdict.{argumentsFrom}
 use Rattle.accept.proofs.Laws.{arguments-short, arguments-other, arguments-go, arguments-end}
 use Rattle.accept.proofs.arguments.arguments_from.Statement.{statement}
 use Rattle.accept.proofs.arguments.arguments_from.Tie as tie

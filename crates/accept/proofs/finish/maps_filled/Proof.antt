@@ -5,7 +5,7 @@ use native.Mathlib.Omega.{arith}
 use borrow.Author.Tests.{not-true, not-false}
 use Rattle.snapshot.specs.Lists.{rows, any, all}
 use Rattle.snapshot.specs.Layouts.{modulesOf}
-use Rattle.record_rules.specs.Tests.{isIn}
+use Rattle.check_rules.specs.Tests.{isIn}
 use Rattle.snapshot.proofs.Laws.{rows-whole, all-stop, all-go, all-end}
 use Rattle.accept.proofs.finish.maps_filled.Statement.{statement}
 use Rattle.accept.proofs.finish.maps_filled.Tie as tie

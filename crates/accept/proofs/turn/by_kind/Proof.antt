@@ -4,7 +4,7 @@ use denote.Ref.{now}
 use native.Mathlib.Omega.{arith}
 use mathlib.Core.Path.{refl}
 use Rattle.snapshot.specs.Words.{argumentsOf}
-use Rattle.accept.specs.Verdict.{recordStep}
+use Rattle.check_rules.specs.Verdict.{recordStep}
 use Rattle.accept.proofs.Turns.{kind-ready, kind-answers, thirteen}
 use Rattle.accept.proofs.turn.by_kind.Statement.{statement}
 use Rattle.accept.proofs.turn.by_kind.Tie as tie

@@ -4,7 +4,7 @@ use mathlib.Core.Path.{_≡_}
 use native.Mathlib.Omega.{arith}
 use denote.Ref.{now}
 use Rattle.snapshot.specs.Layouts.{snapOf}
-use Rattle.module_tree.specs.Privately.{moduleAround}
+use Rattle.tree_rules.specs.Privately.{moduleAround}
 use Rattle.module_tree.proofs.Climbs.{is-some, is-none}
 use Rattle.any_path.proofs.Taken.{stays-reads}
 use Rattle.any_path.proofs.Begins.{Climbing, climbing-start, climbing-few, parent-less, climbing-less, climbing-next, climbing-done}

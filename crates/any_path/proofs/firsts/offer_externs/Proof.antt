@@ -7,7 +7,7 @@ use denote.Ref.{now}
 use Rattle.snapshot.specs.Sizes.{externSize}
 use Rattle.snapshot.specs.Records.{Extern, externAt}
 use Rattle.snapshot.specs.Layouts.{externBase, snapOf}
-use Rattle.module_tree.specs.Modules.{crateOf}
+use Rattle.tree_rules.specs.Modules.{crateOf}
 use Rattle.hir_def.proofs.Fits.{few-words}
 use Rattle.nameable.specs.Paths.{externNamed, externsIn}
 use Rattle.any_path.proofs.Taken.{stays-snap, stays-reads}

@@ -4,7 +4,7 @@ use mathlib.Core.Path.{_≡_, refl}
 use native.Mathlib.Omega.{arith}
 use denote.Ref.{now}
 use Rattle.snapshot.specs.Layouts.{snapOf}
-use Rattle.module_tree.specs.Modules.{crateOf}
+use Rattle.tree_rules.specs.Modules.{crateOf}
 use Rattle.hir_def.proofs.Fits.{few-words}
 use Rattle.any_path.proofs.Taken.{stays-reads}
 use Rattle.any_path.proofs.Externs.{Naming, extern-known, naming-start, named-early, naming-next, naming-done}

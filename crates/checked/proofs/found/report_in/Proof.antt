@@ -4,7 +4,7 @@ use denote.Ref.{now}
 use Rattle.snapshot.specs.Records.{Snapshot}
 use Rattle.snapshot.specs.Layouts.{snapOf}
 use Rattle.find_path.specs.Report.{misleads}
-use Rattle.find_path.proofs.Tables.{same-snap, same-reads}
+use Rattle.search_laws.proofs.Tables.{same-snap, same-reads}
 use Rattle.reports.proofs.Laws.{reported-out}
 use Rattle.checked.proofs.Reading.{found-few}
 use Rattle.checked.proofs.found.report_in.Statement.{statement}

@@ -5,7 +5,7 @@ use denote.Ref.{now}
 use lib.ListN.{length, take, replicate}
 use lib.Seq.{length-take-le}
 use Rattle.snapshot.specs.Sizes.{scopeSize}
-use Rattle.scope_edits.specs.Entries.{entryOf, inserted}
+use Rattle.edit_rules.specs.Entries.{entryOf, inserted}
 use Rattle.edits.proofs.Laws.{record-long, added-not, added-head, added-fits, added-done}
 use borrow.Author.Needs.{needs}
 use Rattle.edits.proofs.edits.add_accepted.Statement.{statement}

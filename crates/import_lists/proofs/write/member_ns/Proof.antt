@@ -1,5 +1,5 @@
 use borrow.Author.Tests.{eq-eqb, ne-eqb}
-use Rattle.import_order.specs.Collect.{memberNs}
+use Rattle.import_rules.specs.Collect.{memberNs}
 use Rattle.import_lists.proofs.write.member_ns.Statement.{statement}
 use Rattle.import_lists.proofs.write.member_ns.Tie as tie
 

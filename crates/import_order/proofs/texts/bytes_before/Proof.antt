@@ -3,7 +3,7 @@ use mathlib.Core.Path.{_≡_, refl}
 use native.Mathlib.Omega.{arith}
 use denote.Ref.{now}
 use lib.ListN.{drop}
-use Rattle.import_order.specs.Collect.{textBefore}
+use Rattle.import_rules.specs.Collect.{textBefore}
 use Rattle.import_order.proofs.Orders.{front, text-longer, text-ended, text-less, text-greater, text-equal}
 use Rattle.import_order.proofs.texts.bytes_before.Statement.{statement}
 use Rattle.import_order.proofs.texts.bytes_before.Tie as tie

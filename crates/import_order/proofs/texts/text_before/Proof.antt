@@ -3,7 +3,7 @@ use mathlib.Core.Path.{_∙_, ap, ap₂}
 use native.Mathlib.Omega.{arith}
 use lib.ListN.{length, take}
 use Rattle.find_path.specs.Line.{unpacked}
-use Rattle.import_order.specs.Collect.{textBefore}
+use Rattle.import_rules.specs.Collect.{textBefore}
 use Rattle.import_order.proofs.texts.text_before.Statement.{statement}
 use Rattle.import_order.proofs.texts.text_before.Tie as tie
 

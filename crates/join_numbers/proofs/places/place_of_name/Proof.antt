@@ -6,7 +6,7 @@ use native.Mathlib.Omega.{arith}
 use lib.ListN.{length, take, drop, length-take, length-drop}
 use Rattle.snapshot.specs.Records.{nameAt}
 use Rattle.snapshot.specs.Layouts.{nameHead}
-use Rattle.accept.specs.Tests.{sameName}
+use Rattle.check_rules.specs.Tests.{sameName}
 use Rattle.hir_def.specs.Finds.{placeOf}
 use Rattle.join_numbers.specs.Parts.{namesFrom}
 use Rattle.join_numbers.proofs.Finding.{name-hit, name-miss, name-end, names-whole, part-first}

@@ -1,7 +1,7 @@
 use denote.Ref.{now}
 use Prim.Native.Nat.{_-_}
 use native.Mathlib.Omega.{arith}
-use Rattle.accept.specs.Tests.{noDefinition}
+use Rattle.check_rules.specs.Tests.{noDefinition}
 use Rattle.join_words.specs.Joined.{sameBuiltin}
 use Rattle.join_numbers.specs.Parts.{partOf}
 use Rattle.join_numbers.specs.Numbered.{definitionTable}

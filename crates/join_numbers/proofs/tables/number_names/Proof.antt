@@ -1,7 +1,7 @@
 use denote.Ref.{now}
 use Prim.Native.Nat.{_-_}
 use native.Mathlib.Omega.{arith}
-use Rattle.accept.specs.Tests.{noName, sameName}
+use Rattle.check_rules.specs.Tests.{noName, sameName}
 use Rattle.join_numbers.specs.Parts.{partOf}
 use Rattle.join_numbers.specs.Numbered.{nameTable}
 use Rattle.join_numbers.proofs.Filling.{Numbering, numbering-start}

@@ -3,7 +3,7 @@ use native.Mathlib.Omega.{arith}
 use denote.Ref.{now}
 use Rattle.snapshot.specs.Lists.{rows}
 use Rattle.snapshot.proofs.Laws.{rows-whole}
-use Rattle.scope_edits.specs.Written.{joined}
+use Rattle.edit_rules.specs.Written.{joined}
 use Rattle.join_records.specs.Moves.{kindTo, kinds, wordsTo}
 use Rattle.join_records.proofs.Laws.{Going, going-start, going-size, going-space, going-next, going-done, joined-next, joined-end}
 use Rattle.join_records.proofs.write.put_kinds.Statement.{statement}

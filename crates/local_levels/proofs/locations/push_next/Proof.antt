@@ -9,7 +9,7 @@ use lib.Dec.{eqb}
 use Rattle.snapshot.specs.Records.{scopeAt}
 use Rattle.snapshot.specs.Layouts.{snapOf}
 use Rattle.hir_def.specs.Items.{crateOf, definitionOf}
-use Rattle.hir_def.specs.Visibility.{sees}
+use Rattle.tree_rules.specs.Visibility.{sees}
 use Rattle.hir_def.proofs.Lookups.{next-record, next-none}
 use Rattle.hir_def.proofs.Fits.{few-words, module-meets}
 use Rattle.scope_index.specs.Index.{Follows}

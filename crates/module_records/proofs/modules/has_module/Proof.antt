@@ -5,7 +5,7 @@ use native.Mathlib.Omega.{arith}
 use borrow.Author.Tests.{eq-eqb, ne-eqb}
 use Rattle.snapshot.specs.Lists.{rows, any}
 use Rattle.snapshot.specs.Layouts.{moduleRow, modulesOf}
-use Rattle.record_rules.specs.Tests.{isIn}
+use Rattle.check_rules.specs.Tests.{isIn}
 use Rattle.snapshot.proofs.Laws.{rows-whole, any-hit, any-miss, any-none}
 use Rattle.module_records.proofs.modules.has_module.Statement.{statement}
 use Rattle.module_records.proofs.modules.has_module.Tie as tie

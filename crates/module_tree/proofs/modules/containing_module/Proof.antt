@@ -4,7 +4,7 @@ use denote.Ref.{now}
 use native.Mathlib.Omega.{arith}
 use Rattle.snapshot.specs.Ids.{plusOne}
 use Rattle.snapshot.specs.Layouts.{snapOf}
-use Rattle.module_tree.specs.Modules.{parentOf, containing}
+use Rattle.tree_rules.specs.Modules.{parentOf, containing}
 use Rattle.module_tree.proofs.Reading.{containing-parent, containing-block}
 use Rattle.module_tree.proofs.Climbs.{is-some, is-none}
 use Rattle.module_tree.proofs.modules.containing_module.Statement.{statement}

@@ -2,7 +2,7 @@ use borrow.Author.Needs.{needs}
 use mathlib.Core.Path.{ap, _∙_}
 use denote.Ref.{now}
 use Rattle.snapshot.specs.Layouts.{snapOf}
-use Rattle.module_tree.specs.Modules.{rootOf, ownMap, crateRoot}
+use Rattle.tree_rules.specs.Modules.{rootOf, ownMap, crateRoot}
 use Rattle.module_tree.proofs.Reading.{crate-there}
 use Rattle.module_tree.proofs.modules.crate_root.Statement.{statement}
 use Rattle.module_tree.proofs.modules.crate_root.Tie as tie

@@ -2,8 +2,8 @@ use borrow.Author.Needs.{needs}
 use mathlib.Core.Path.{sym, ap, _∙_}
 use denote.Ref.{now}
 use Rattle.snapshot.specs.Layouts.{snapOf}
-use Rattle.module_tree.specs.Modules.{containing}
-use Rattle.module_tree.specs.Visibility.{met, climb}
+use Rattle.tree_rules.specs.Modules.{containing}
+use Rattle.tree_rules.specs.Visibility.{met, climb}
 use Rattle.module_tree.proofs.Climbs.{in-same, in-other, in-walk}
 use Rattle.module_tree.proofs.visibility.in_module.Statement.{statement}
 use Rattle.module_tree.proofs.visibility.in_module.Tie as tie

@@ -2,7 +2,7 @@ use borrow.Author.Needs.{needs}
 use mathlib.Core.Path.{ap₂, _∙_}
 use denote.Ref.{now}
 use Rattle.snapshot.specs.Layouts.{snapOf}
-use Rattle.hir_def.specs.Visibility.{isVisibleFrom}
+use Rattle.tree_rules.specs.Visibility.{isVisibleFrom}
 use Rattle.path_context.proofs.context.sees.Statement.{statement}
 use Rattle.path_context.proofs.context.sees.Tie as tie
 

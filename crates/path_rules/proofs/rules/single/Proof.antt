@@ -4,7 +4,7 @@ use denote.Ref.{now}
 use Rattle.snapshot.specs.Records.{scopeAt}
 use Rattle.snapshot.specs.Layouts.{snapOf}
 use Rattle.hir_def.specs.Entries.{entryOf}
-use Rattle.find_path.specs.Choices.{choiceNew}
+use Rattle.path_choices.specs.Choices.{choiceNew}
 use Rattle.find_path.specs.Conditions.{EntryFits}
 use Rattle.find_path.specs.Rules.{single}
 use Rattle.path_rules.proofs.rules.single.Statement.{statement}

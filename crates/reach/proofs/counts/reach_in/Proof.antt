@@ -4,7 +4,7 @@ use mathlib.Core.Path.{sym, subst, _∙_}
 use mathlib.Core.Logic.{⊎-elim}
 use native.Mathlib.Omega.{arith}
 use denote.Ref.{now}
-use Rattle.find_path.proofs.Tables.{same-reads}
+use Rattle.search_laws.proofs.Tables.{same-reads}
 use Rattle.hir_def.proofs.Fits.{few-words}
 use Rattle.reach.proofs.Laws.{not-met, met, Reaching, reaching-start, reaching-met, reaching-new, reaching-done, entry-fits, report-fits, report-entry}
 use Rattle.reach.proofs.counts.reach_in.Statement.{statement}

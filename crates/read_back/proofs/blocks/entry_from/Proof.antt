@@ -10,7 +10,7 @@ use Rattle.hir_def.specs.Entries.{entryOf}
 use Rattle.hir_def.proofs.Reading.{length-modules}
 use Rattle.hir_def.proofs.Climbs.{is-some, is-none}
 use Rattle.hir_def.proofs.Fits.{few-words}
-use Rattle.read_back.specs.Reads.{entryFrom}
+use Rattle.readings.specs.Reads.{entryFrom}
 use Rattle.read_back.proofs.Outward.{outward-falls, from-here, from-end, from-on}
 use Rattle.read_back.proofs.blocks.entry_from.Statement.{statement}
 use Rattle.read_back.proofs.blocks.entry_from.Tie as tie

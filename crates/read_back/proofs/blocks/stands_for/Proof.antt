@@ -7,7 +7,7 @@ use Rattle.snapshot.specs.Layouts.{snapOf}
 use Rattle.accept.proofs.Trees.{accepted-tree}
 use Rattle.hir_def.proofs.Reading.{length-modules}
 use Rattle.hir_def.proofs.Climbs.{is-some, is-none}
-use Rattle.read_back.specs.Reads.{standsFor}
+use Rattle.readings.specs.Reads.{standsFor}
 use Rattle.read_back.proofs.Outward.{outward-falls, stands-here, stands-on}
 use Rattle.read_back.proofs.blocks.stands_for.Statement.{statement}
 use Rattle.read_back.proofs.blocks.stands_for.Tie as tie

@@ -10,7 +10,7 @@ use Rattle.snapshot.specs.Layouts.{externBase, snapOf}
 use Rattle.snapshot.specs.Records.{externAt}
 use Rattle.snapshot.proofs.Laws.{rows-whole}
 use Rattle.hir_def.specs.Finds.{firstOf}
-use Rattle.read_back.specs.Reads.{isExternNamed, externNamed}
+use Rattle.readings.specs.Reads.{isExternNamed, externNamed}
 use Rattle.hir_def.proofs.Lookups.{first-hit, first-miss, first-none}
 use Rattle.read_back.proofs.lookups.extern_named.Statement.{statement}
 use Rattle.read_back.proofs.lookups.extern_named.Tie as tie

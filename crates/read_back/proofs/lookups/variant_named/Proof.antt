@@ -10,7 +10,7 @@ use Rattle.snapshot.specs.Layouts.{memberBase, snapOf}
 use Rattle.snapshot.specs.Records.{memberAt}
 use Rattle.snapshot.proofs.Laws.{rows-whole}
 use Rattle.hir_def.specs.Finds.{firstOf}
-use Rattle.read_back.specs.Reads.{isVariantNamed, variantNamed}
+use Rattle.readings.specs.Reads.{isVariantNamed, variantNamed}
 use Rattle.hir_def.proofs.Lookups.{first-hit, first-miss, first-none}
 use Rattle.read_back.proofs.lookups.variant_named.Statement.{statement}
 use Rattle.read_back.proofs.lookups.variant_named.Tie as tie

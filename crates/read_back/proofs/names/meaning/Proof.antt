@@ -3,7 +3,7 @@ use mathlib.Core.Path.{ap₂, _∙_}
 use denote.Ref.{now}
 use Rattle.snapshot.specs.Records.{scopeAt}
 use Rattle.snapshot.specs.Layouts.{snapOf}
-use Rattle.hir_def.specs.Visibility.{isVisibleFrom}
+use Rattle.tree_rules.specs.Visibility.{isVisibleFrom}
 use Rattle.hir_def.specs.Items.{itemOf}
 use Rattle.read_back.specs.Answers.{meant}
 use Rattle.read_back.proofs.Cases.{meaning-seen, meaning-hidden}

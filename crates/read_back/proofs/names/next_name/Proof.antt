@@ -3,7 +3,7 @@ use mathlib.Core.Path.{ap}
 use denote.Ref.{now}
 use Rattle.snapshot.specs.Layouts.{snapOf}
 use Rattle.read_back.specs.Answers.{meant}
-use Rattle.read_back.specs.Reads.{laterName}
+use Rattle.readings.specs.Reads.{laterName}
 use Rattle.read_back.proofs.Cases.{after-none, after-some}
 use Rattle.read_back.proofs.names.next_name.Statement.{statement}
 use Rattle.read_back.proofs.names.next_name.Tie as tie

@@ -6,7 +6,7 @@ use denote.Ref.{now}
 use Rattle.snapshot.specs.Lists.{rows}
 use Rattle.snapshot.specs.Layouts.{snapOf}
 use Rattle.read_back.specs.Answers.{meant}
-use Rattle.read_back.specs.Reads.{follow}
+use Rattle.readings.specs.Reads.{follow}
 use Rattle.read_back.proofs.Cases.{follow-next, follow-done}
 use Rattle.read_back.proofs.paths.follow.Statement.{statement}
 use Rattle.read_back.proofs.paths.follow.Tie as tie

@@ -6,7 +6,7 @@ use lib.ListN.{getD}
 use Rattle.snapshot.specs.Lists.{rows, any}
 use Rattle.snapshot.specs.Words.{payOf, wordsOf}
 use Rattle.snapshot.specs.Records.{nameAt}
-use Rattle.record_rules.specs.Tests.{sameName}
+use Rattle.check_rules.specs.Tests.{sameName}
 use Rattle.snapshot.proofs.Laws.{rows-whole, any-hit, any-miss, any-none}
 use Rattle.record_rules.proofs.names.known.Statement.{statement}
 use Rattle.record_rules.proofs.names.known.Tie as tie

@@ -5,7 +5,7 @@ use native.Mathlib.Omega.{arith}
 use denote.Ref.{now}
 use lib.ListN.{getD}
 use Rattle.snapshot.specs.Lists.{rows}
-use Rattle.record_rules.specs.Tests.{padded}
+use Rattle.check_rules.specs.Tests.{padded}
 use Rattle.snapshot.proofs.Laws.{rows-whole, after-head}
 use Rattle.record_rules.proofs.Laws.{padded-stop, padded-go, padded-end}
 use Rattle.record_rules.proofs.names.padded.Statement.{statement}

@@ -8,7 +8,7 @@ use Rattle.snapshot.specs.Words.{payOf, wordsOf}
 use Rattle.snapshot.specs.Records.{nameAt}
 use Rattle.chains.specs.Chains.{nameKey}
 use Rattle.chains.proofs.Laws.{Walking}
-use Rattle.record_rules.specs.Tests.{sameName}
+use Rattle.check_rules.specs.Tests.{sameName}
 use Rattle.record_rules.proofs.Indexed.{key-small, names-start, names-hit, names-less, names-miss, names-end}
 use Rattle.record_rules.proofs.names.repeated.Statement.{statement}
 use Rattle.record_rules.proofs.names.repeated.Tie as tie

@@ -1,4 +1,4 @@
-use Rattle.record_rules.specs.Tests.{textBound}
+use Rattle.check_rules.specs.Tests.{textBound}
 use Rattle.record_rules.proofs.Laws.{bound-rest}
 use Rattle.record_rules.proofs.names.text_bound.Statement.{statement}
 use Rattle.record_rules.proofs.names.text_bound.Tie as tie

@@ -1,5 +1,5 @@
 use mathlib.Core.Path.{refl}
-use Rattle.scope_edits.specs.Entries.{scopeWords}
+use Rattle.edit_rules.specs.Entries.{scopeWords}
 use borrow.Author.Needs.{needs}
 use Rattle.scope_edits.proofs.entries.record_of.Statement.{statement}
 use Rattle.scope_edits.proofs.entries.record_of.Tie as tie

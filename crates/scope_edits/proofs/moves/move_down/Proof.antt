@@ -5,7 +5,7 @@ use native.Mathlib.Omega.{arith}
 use denote.Ref.{now}
 use lib.ListN.{length, take, drop, length-set}
 use Rattle.snapshot.specs.Sizes.{scopeSize}
-use Rattle.scope_edits.specs.Entries.{cut}
+use Rattle.edit_rules.specs.Entries.{cut}
 use Rattle.scope_edits.proofs.Shifted.{down-start, down-next, down-end}
 use Rattle.scope_edits.proofs.moves.move_down.Statement.{statement}
 use Rattle.scope_edits.proofs.moves.move_down.Tie as tie

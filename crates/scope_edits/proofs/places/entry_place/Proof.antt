@@ -5,7 +5,7 @@ use native.Mathlib.Omega.{arith}
 use denote.Ref.{now}
 use lib.ListN.{length}
 use Rattle.accept.proofs.Turns.{arguments-few}
-use Rattle.scope_edits.specs.Entries.{isNamed, firstFrom, isEntry, entryPlace}
+use Rattle.edit_rules.specs.Entries.{isNamed, firstFrom, isEntry, entryPlace}
 use Rattle.scope_edits.proofs.Walked.{entry-start, walk-stop, walk-on, walk-end}
 use Rattle.scope_edits.proofs.places.entry_place.Statement.{statement}
 use Rattle.scope_edits.proofs.places.entry_place.Tie as tie

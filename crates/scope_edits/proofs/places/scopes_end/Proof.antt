@@ -7,7 +7,7 @@ use native.Mathlib.Omega.{arith}
 use denote.Ref.{now}
 use lib.ListN.{length}
 use Rattle.accept.proofs.Turns.{arguments-few}
-use Rattle.scope_edits.specs.Entries.{firstFrom, isLater, scopesEnd}
+use Rattle.edit_rules.specs.Entries.{firstFrom, isLater, scopesEnd}
 use Rattle.scope_edits.proofs.Walked.{end-start, walk-stop, walk-on, walk-end}
 use Rattle.scope_edits.proofs.places.scopes_end.Statement.{statement}
 use Rattle.scope_edits.proofs.places.scopes_end.Tie as tie

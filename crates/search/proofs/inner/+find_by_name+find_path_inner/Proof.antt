@@ -11,7 +11,7 @@ use Rattle.hir_def.specs.Entries.{Known, entryOf}
 use Rattle.hir_def.specs.declared.Item.{Item}
 use Rattle.hir_def.proofs.Fits.{few-words}
 use Rattle.find_path.specs.Charged.{foundOf, variantOf}
-use Rattle.find_path.proofs.Tables.{same-reads}
+use Rattle.search_laws.proofs.Tables.{same-reads}
 use Rattle.charged_search.proofs.Runs.{begun-later}
 use Rattle.search.proofs.Items.{number, item-ns, enum-no-variant, parent-of, inner-at-once, inner-by-name, name-found, name-plain}
 use Rattle.hir_def.proofs.Climbs.{is-some, is-none}

@@ -1,6 +1,6 @@
 use borrow.Author.Needs.{needs}
 use mathlib.Core.Path.{ap, _∙_}
-use Rattle.find_path.specs.Choices.{push}
+use Rattle.path_choices.specs.Choices.{push}
 use Rattle.search.proofs.inner.push_variant.Statement.{statement}
 use Rattle.search.proofs.inner.push_variant.Tie as tie
 

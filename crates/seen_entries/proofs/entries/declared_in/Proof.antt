@@ -3,7 +3,7 @@ use Prim.Native.Nat.{_<_}
 use mathlib.Core.Path.{sym, ap, subst, _∙_}
 use denote.Ref.{now}
 use Rattle.snapshot.specs.Layouts.{snapOf}
-use Rattle.module_tree.specs.Modules.{parentOf}
+use Rattle.tree_rules.specs.Modules.{parentOf}
 use Rattle.hir_def.specs.Items.{homeOf}
 use Rattle.hir_def.proofs.Fits.{module-known}
 use Rattle.seen_entries.proofs.Laws.{in-module, in-home}

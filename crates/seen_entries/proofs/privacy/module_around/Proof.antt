@@ -5,7 +5,7 @@ use denote.Ref.{now}
 use native.Mathlib.Omega.{arith}
 use Rattle.snapshot.specs.Layouts.{snapOf}
 use Rattle.accept.proofs.Trees.{accepted-tree}
-use Rattle.module_tree.specs.Privately.{moduleAround}
+use Rattle.tree_rules.specs.Privately.{moduleAround}
 use Rattle.module_tree.proofs.Reading.{length-modules}
 use Rattle.module_tree.proofs.Climbs.{is-some, is-none}
 use Rattle.seen_entries.proofs.Laws.{step-falls, around-here, around-on}

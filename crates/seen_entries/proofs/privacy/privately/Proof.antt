@@ -2,9 +2,9 @@ use borrow.Author.Needs.{needs}
 use mathlib.Core.Path.{ap, _∙_}
 use denote.Ref.{now}
 use Rattle.snapshot.specs.Layouts.{snapOf}
-use Rattle.module_tree.specs.Modules.{containing}
-use Rattle.module_tree.specs.Visibility.{met}
-use Rattle.module_tree.specs.Privately.{privately}
+use Rattle.tree_rules.specs.Modules.{containing}
+use Rattle.tree_rules.specs.Visibility.{met}
+use Rattle.tree_rules.specs.Privately.{privately}
 use Rattle.seen_entries.proofs.privacy.privately.Statement.{statement}
 use Rattle.seen_entries.proofs.privacy.privately.Tie as tie
 

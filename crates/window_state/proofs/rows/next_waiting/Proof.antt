@@ -1,7 +1,7 @@
 use Prim.Native.Nat.{_≤_, _<_}
 use mathlib.Core.Path.{_≡_, sym, _∙_}
 use native.Mathlib.Omega.{arith}
-use Rattle.window_state.specs.States.{firstFrom, served}
+use Rattle.window_rules.specs.States.{firstFrom, served}
 use Rattle.window_state.specs.Words.{wordsOf}
 use Rattle.window_state.proofs.Laws.{served-start, first-here, first-next, first-none}
 use Rattle.window_state.proofs.rows.next_waiting.Statement.{statement}

@@ -1,6 +1,6 @@
 use mathlib.Core.Path.{_∙_, ap}
 use Rattle.window_state.specs.declared.rows.Row.{Row}
-use Rattle.window_state.specs.States.{withRow}
+use Rattle.window_rules.specs.States.{withRow}
 use Rattle.window_state.specs.Words.{rowWords, wordsOf}
 use Rattle.window_state.proofs.StateWords.{words-served}
 use borrow.Author.Needs.{needs}

@@ -1,4 +1,4 @@
-use Rattle.window_state.specs.States.{waiting}
+use Rattle.window_rules.specs.States.{waiting}
 use Rattle.window_state.specs.Words.{rowWords}
 use borrow.Author.Needs.{needs}
 use Rattle.window_state.proofs.serve.with_question.Statement.{statement}

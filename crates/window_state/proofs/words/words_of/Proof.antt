@@ -4,7 +4,7 @@ use mathlib.Core.Path.{_≡_, refl, _∙_, ap}
 use mathlib.Core.List.{_∷_}
 use native.Mathlib.Omega.{arith}
 use lib.ListN.{length, getD, take}
-use Rattle.window_state.specs.States.{withRow}
+use Rattle.window_rules.specs.States.{withRow}
 use Rattle.window_state.specs.Words.{emptyRow, rowWords, rowsWords}
 use Rattle.window_state.proofs.Laws.{with-length}
 use Rattle.window_state.proofs.StateWords.{rows-eight, row-length, together-next, together-done}

@@ -1,3 +1,0 @@
-pub mod Entries
-pub mod Edits
-pub mod Written
