@@ -11,9 +11,16 @@ use Rattle.snapshot.specs.Lists.{any}
 use Rattle.snapshot.specs.Limits.{wordLimit, crateLimit, moduleLimit, nameLimit, definitionLimit}
 use Rattle.snapshot.specs.Refusals.{wordsRefusal, formRefusal, placeRefusal}
 use Rattle.snapshot.specs.Words.{kindOf, argumentsAt}
-use Rattle.snapshot.specs.Records.{Snapshot, Name, Crate, Dependency, Map, Module, Child, Prelude, Definition, Scope, Import, Extern, Member, nameAt, crateAt, dependencyAt, mapAt, moduleAt, childAt, preludeAt, definitionAt, scopeAt, importAt, externAt, memberAt}
-use Rattle.check_rules.specs.Tests.{childDefined, childPlaced, countsOf, crateRange, isEdition, cratesOwn, definitionDefined, definitionPlaced, definitionRange, definitionRepeated, dependencyDefined, dependencyRange, externDefined, importDefined, importRange, mapDefined, mapPlaced, mapRange, mapRepeated, mapsFilled, memberDefined, memberPlaced, memberRange, moduleDefined, modulePlaced, nameRange, nsPlaced, preludeDefined, sameChild, sameEntry, sameExtern, sameName, samePrelude, scopeDefined, scopeRange}
-use Rattle.check_rules.specs.Steps.{Next, no, on, need, judge, judgeCrate, addName, addCrate, addDependency, addMap, addModule, addChild, addPrelude, addDefinition, addScope, addImport, addExtern, addMember, nameStep, crateStep, dependencyStep, mapStep, moduleStep, childStep, preludeStep, definitionStep, scopeStep, importStep, externStep, memberStep}
+use Rattle.snapshot.specs.Records.{Snapshot, Name, Crate, Dependency, Map, Module, Child, Prelude, Definition, Scope, Import, Extern, Member, nameAt}
+use Rattle.snapshot.specs.Records.{crateAt, dependencyAt, mapAt, moduleAt, childAt, preludeAt, definitionAt, scopeAt, importAt, externAt, memberAt}
+use Rattle.check_rules.specs.Tests.{childDefined, childPlaced, countsOf, crateRange, isEdition, cratesOwn, definitionDefined, definitionPlaced}
+use Rattle.check_rules.specs.Tests.{definitionRange, definitionRepeated, dependencyDefined, dependencyRange, externDefined, importDefined}
+use Rattle.check_rules.specs.Tests.{importRange, mapDefined, mapPlaced, mapRange, mapRepeated, mapsFilled, memberDefined, memberPlaced, memberRange}
+use Rattle.check_rules.specs.Tests.{moduleDefined, modulePlaced, nameRange, nsPlaced, preludeDefined, sameChild, sameEntry, sameExtern, sameName}
+use Rattle.check_rules.specs.Tests.{samePrelude, scopeDefined, scopeRange}
+use Rattle.check_rules.specs.Steps.{Next, no, on, need, judge, judgeCrate, addName, addCrate, addDependency, addMap, addModule, addChild, addPrelude}
+use Rattle.check_rules.specs.Steps.{addDefinition, addScope, addImport, addExtern, addMember, nameStep, crateStep, dependencyStep, mapStep}
+use Rattle.check_rules.specs.Steps.{moduleStep, childStep, preludeStep, definitionStep, scopeStep, importStep, externStep, memberStep}
 use Rattle.record_rules.proofs.Judged.{CratePassed}
 use Rattle.accept.specs.Valid.{Stands}
 use Rattle.check_rules.specs.Verdict.{follows, argumentsFrom, recordStep, stepAt, refuse, accept, finish, records, empty, verdict}
@@ -137,7 +144,8 @@ module _ (W : List ℕ) (P : Snapshot → Type 0) (keeps : Keeps W P) where
   crate-keeps {a} {b} {e} {s} {t} {u} f g h = let q = judge-crate-on a b e t u g in subst P (q .same) (f (q .passed) h)
 
   -- one of two steps, by a test
-  either : {C : Type 0} (b : Bool) (x y : Next) (u : Snapshot) → elim b [ true ↦ x | false ↦ y ] ≡ on u → (b ≡ true → x ≡ on u → C) → (y ≡ on u → C) → C
+  either : {C : Type 0} (b : Bool) (x y : Next) (u : Snapshot) → elim b [ true ↦ x | false ↦ y ] ≡ on u → (b ≡ true → x ≡ on u → C)
+      → (y ≡ on u → C) → C
   either true x y u e f g = f refl e
   either false x y u e f g = g e
 
@@ -146,7 +154,8 @@ module _ (W : List ℕ) (P : Snapshot → Type 0) (keeps : Keeps W P) where
   stands read k at l e = record { head = e; same = refl; inside = l }
 
   record-keeps : (at : ℕ) (s u : Snapshot) → at < wordLimit → recordStep (kindOf (getD W at 0)) W at s ≡ on u → P s → P u
-  unfolding recordStep nameStep crateStep dependencyStep mapStep moduleStep childStep preludeStep definitionStep scopeStep importStep externStep memberStep
+  unfolding recordStep nameStep crateStep dependencyStep mapStep moduleStep childStep preludeStep definitionStep scopeStep importStep
+      externStep memberStep
   record-keeps at s u l e h =
       let k = kindOf (getD W at 0) in
       either (eqb k 1) _ _ u e (λ a g. taken-keeps (keeps .names s (nameAt W at)) g h) (λ e1.
@@ -156,7 +165,8 @@ module _ (W : List ℕ) (P : Snapshot → Type 0) (keeps : Keeps W P) where
       either (eqb k 5) _ _ u e4 (λ a g. taken-keeps (keeps .modules s (moduleAt W at)) g h) (λ e5.
       either (eqb k 6) _ _ u e5 (λ a g. taken-keeps (keeps .children s (childAt W at)) g h) (λ e6.
       either (eqb k 7) _ _ u e6 (λ a g. taken-keeps (keeps .preludes s (preludeAt W at)) g h) (λ e7.
-      either (eqb k 8) _ _ u e7 (λ a g. taken-keeps (keeps .definitions s (definitionAt W at) (stands definitionAt 8 at l (eqb-true k 8 a))) g h) (λ e8.
+      either (eqb k 8) _ _ u e7 (λ a g. taken-keeps (keeps .definitions s (definitionAt W at) (stands definitionAt 8 at l (eqb-true k 8 a))) g h)
+      (λ e8.
       either (eqb k 9) _ _ u e8 (λ a g. taken-keeps (keeps .scopes s (scopeAt W at) (stands scopeAt 9 at l (eqb-true k 9 a))) g h) (λ e9.
       either (eqb k 10) _ _ u e9 (λ a g. taken-keeps (keeps .imports s (importAt W at) (stands importAt 10 at l (eqb-true k 10 a))) g h) (λ e10.
       either (eqb k 11) _ _ u e10 (λ a g. taken-keeps (keeps .externs s (externAt W at) (stands externAt 11 at l (eqb-true k 11 a))) g h) (λ e11.

@@ -1,6 +1,6 @@
 -- Tests taken apart, and lists that got one more.
 use mathlib.Core.Path.{_≡_, refl, subst}
-use Prim.Native.Nat.{ℕ, zero, suc, _+_, _<_}
+use Prim.Native.Nat.{ℕ, zero, suc, _<_}
 use native.Mathlib.Omega.{arith}
 use mathlib.Core.List.{List, [], _∷_, _++_}
 use mathlib.Core.Bool.{Bool, true, false, _&&_, _||_, not, true≢false, false≢true}
@@ -91,7 +91,8 @@ pub all-below : (p : ℕ → Bool) (n i : ℕ) → all p (rows (λ k. k) 0 n) �
 all-below p n i e h =
     subst (λ (k : ℕ). p k ≡ true) (getD-rows (λ k. k) 0 n i h) (all-at p (rows (λ k. k) 0 n) 0 i e (rw (length-rows (λ (k : ℕ). k) n) h))
 
-pub distinct-snoc : {A : Type 0} (same : A → A → Bool) (d : A) (xs : List A) (y : A) → any (same y) xs ≡ false → Distinct same d xs → Distinct same d (xs ++ (y ∷ []))
+pub distinct-snoc : {A : Type 0} (same : A → A → Bool) (d : A) (xs : List A) (y : A) → any (same y) xs ≡ false → Distinct same d xs
+    → Distinct same d (xs ++ (y ∷ []))
 distinct-snoc same d xs y e h i j l k = old-or-new xs y j k
     (λ o. let oi : i < length xs = omega arith in rw (getD-old xs y d i oi, getD-old xs y d j o) (h i j l o))
     (λ q. let oi : i < length xs = omega arith in rw (getD-old xs y d i oi, getD-new xs y d j q) (any-none (same y) xs d i e oi))

@@ -1,5 +1,5 @@
 -- After the last record: the last tests, and the tables of accepted words.
-use Prim.Native.Nat.{ℕ, zero, suc, _+_, _-_, _*_, _≤_, _<_}
+use Prim.Native.Nat.{ℕ, zero, suc, _+_, _*_, _≤_, _<_}
 use mathlib.Core.Path.{_≡_, refl, sym, _∙_, ap, subst}
 use mathlib.Core.List.{List}
 use mathlib.Core.Bool.{Bool, true, false, _||_, not, false≢true}
@@ -14,7 +14,9 @@ use Rattle.snapshot.specs.Limits.{wordLimit, moduleLimit}
 use Rattle.snapshot.specs.Refusals.{wordsRefusal, placeRefusal}
 use Rattle.snapshot.specs.Sizes.{crateSize, dependencySize, childSize, preludeSize, definitionSize, scopeSize, importSize, externSize, memberSize}
 use Rattle.snapshot.specs.Records.{Map, mapAt, crateAt, dependencyAt, childAt, preludeAt, definitionAt, scopeAt, importAt, externAt, memberAt}
-use Rattle.snapshot.specs.Layouts.{crateBase, dependencyBase, childBase, preludeBase, definitionBase, scopeBase, importBase, externBase, memberBase, moduleMap, moduleHead, mapRoot, ownMap, moduleRow, namesOf, mapsOf, modulesOf, recordsOf, snapWith, snapOf, moduleTable, rootTable}
+use Rattle.snapshot.specs.Layouts.{crateBase, dependencyBase, childBase, preludeBase, definitionBase, scopeBase, importBase, externBase, memberBase}
+use Rattle.snapshot.specs.Layouts.{moduleMap, moduleHead, mapRoot, ownMap, moduleRow, namesOf, mapsOf, modulesOf, recordsOf, snapWith, snapOf}
+use Rattle.snapshot.specs.Layouts.{moduleTable, rootTable}
 use Rattle.snapshot.specs.declared.layout.Layout.{Layout}
 use Rattle.snapshot.proofs.Laws.{length-rows, getD-rows}
 use Rattle.check_rules.specs.Tests.{noMap, isOwn, isIn, mapsFilled, cratesOwn}
@@ -62,7 +64,8 @@ by-test true y n = y refl
 by-test false y n = n refl
 
 -- where every map is met and maps rise along the modules, there are no more maps than modules
-module _ (f : ℕ → ℕ) (n maps : ℕ) (rising : (i j : ℕ) → i ≤ j → j < n → f i ≤ f j) (met : (k : ℕ) → k < maps → (i : ℕ) × (i < n) × (f i ≡ k)) (low : (i : ℕ) → i < n → f i < maps) where
+module _ (f : ℕ → ℕ) (n maps : ℕ) (rising : (i j : ℕ) → i ≤ j → j < n → f i ≤ f j) (met : (k : ℕ) → k < maps → (i : ℕ) × (i < n)
+    × (f i ≡ k)) (low : (i : ℕ) → i < n → f i < maps) where
   apart : (i j : ℕ) → j < n → suc i < n → f j ≡ suc i → f i ≤ i → suc i < f (suc i) → ⊥
   apart i j p q e s l =
       by-test (leb j i)
@@ -102,11 +105,13 @@ module _ (W A : List ℕ) (k : ℕ) (l : Layout) (ms : List Map) (st : Stands W 
 
   owned-same : all (λ c. not (eqb (ownMap A c) 0)) (rows (λ c. c) 0 (l .crates)) ≡ cratesOwn (snapWith W A l ms)
   owned-same =
-      all-same (λ c. not (eqb (ownMap A c) 0)) (λ c. any (isOwn c) ms) 0 (l .crates) (λ c h. ap (λ x. not (eqb x 0)) (st .own c (omega arith)) ∙ own-any c 0 ms)
+      all-same (λ c. not (eqb (ownMap A c) 0)) (λ c. any (isOwn c) ms) 0 (l .crates) (λ c h. ap (λ x. not (eqb x 0)) (st .own c (omega arith))
+      ∙ own-any c 0 ms)
       ∙ ap (λ n. all (λ c. any (isOwn c) ms) (rows (λ c. c) 0 n)) (sym (length-rows _ (l .crates)))
 
   module _ (v : verdict W ≡ finish (length W) (snapWith W A l ms)) where
-    pub not-filled : {a : Bool} → a ≡ all (λ j. any (isIn j) (modulesOf A (l .modules))) (rows (λ j. j) 0 (l .maps)) → a ≡ false → Judged W A (Refused placeRefusal (length W))
+    pub not-filled : {a : Bool} → a ≡ all (λ j. any (isIn j) (modulesOf A (l .modules))) (rows (λ j. j) 0 (l .maps))
+        → a ≡ false → Judged W A (Refused placeRefusal (length W))
     unfolding finish
     not-filled e h = record { same = sym (v ∙ rw (finish, ← filled-same, ← e, h)); tables = tt }
 
@@ -157,8 +162,10 @@ module _ (W A : List ℕ) (k : ℕ) (l : Layout) (ms : List Map) (st : Stands W 
 
       snap-same : snapOf W B l ≡ snapWith W A l ms
       snap-same =
-          let q-names : namesOf W B (l .names) ≡ namesOf W A (l .names) = names-kept W A B (l .names) (st .limited .names) (λ i u v. kept i u (omega arith)) in
-          let q-modules : modulesOf B (l .modules) ≡ modulesOf A (l .modules) = modules-kept A B (l .modules) (st .limited .modules) (λ i u v. kept i (omega arith) v) in
+          let q-names : namesOf W B (l .names) ≡ namesOf W A (l .names) = names-kept W A B (l .names) (st .limited .names)
+          (λ i u v. kept i u (omega arith)) in
+          let q-modules : modulesOf B (l .modules) ≡ modulesOf A (l .modules) = modules-kept A B (l .modules) (st .limited .modules)
+          (λ i u v. kept i (omega arith) v) in
           let q-maps = maps-same in
           λ i. record {
             names = q-names i;
@@ -175,7 +182,8 @@ module _ (W A : List ℕ) (k : ℕ) (l : Layout) (ms : List Map) (st : Stands W 
             members = recordsOf memberAt memberSize W (memberBase l) (l .members);
           }
 
-      pub accepted : length W ≤ wordLimit → verdict W ≡ finish (length W) (snapWith W A l ms) → all (λ c. not (eqb (ownMap A c) 0)) (rows (λ c. c) 0 (l .crates)) ≡ true
+      pub accepted : length W ≤ wordLimit → verdict W ≡ finish (length W) (snapWith W A l ms)
+          → all (λ c. not (eqb (ownMap A c) 0)) (rows (λ c. c) 0 (l .crates)) ≡ true
           → Judged W B (Accepted l)
       unfolding finish
       accepted short v owned =
@@ -199,7 +207,8 @@ module _ (W A : List ℕ) (k : ℕ) (l : Layout) (ms : List Map) (st : Stands W 
                   own = λ c h. r .crates c ∙ st .own c h ∙ ap (ownOf c) (sym maps-same);
                   owned = λ c h.
                       (let e = r .crates c in
-                      let n : (ownMap A c ≡ 0 → ⊥) = eqb-false (ownMap A c) 0 (not-true (eqb (ownMap A c) 0) (all-at (λ c. not (eqb (ownMap A c) 0)) (l .crates) c h owned)) in
+                      let n : (ownMap A c ≡ 0 → ⊥) = eqb-false (ownMap A c) 0
+                      (not-true (eqb (ownMap A c) 0) (all-at (λ c. not (eqb (ownMap A c) 0)) (l .crates) c h owned)) in
                       omega arith);
                 };
           }

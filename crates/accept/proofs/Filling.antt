@@ -35,7 +35,8 @@ filled-none A n =
     }
 
 -- one module more
-module _ (A₀ A : List ℕ) (n m : ℕ) {k : ℕ} (f : Filled A₀ A n m) (h : 0 < m) (few : n ≤ moduleLimit) (large : areaLimit ≤ length A₀) (small : (i : ℕ) → i < n → moduleMap A₀ i < moduleLimit)
+module _ (A₀ A : List ℕ) (n m : ℕ) {k : ℕ} (f : Filled A₀ A n m) (h : 0 < m) (few : n ≤ moduleLimit) (large : areaLimit ≤ length A₀)
+    (small : (i : ℕ) → i < n → moduleMap A₀ i < moduleLimit)
     (ek : k ≡ moduleMap A (m - 1))
   where
     filled-map : k ≡ moduleMap A₀ (m - 1)
@@ -46,7 +47,8 @@ module _ (A₀ A : List ℕ) (n m : ℕ) {k : ℕ} (f : Filled A₀ A n m) (h : 
 
     -- of module i: the module that is written where it is of the same map, else what stood there
     filled-at : (i : ℕ) → m - 1 ≤ i → i < n → (b : Bool) → eqb (moduleMap A₀ i) k ≡ b
-        → (mapRoot (set A (rootTable + k) (m - 1)) (moduleMap A₀ i) < n) × (moduleMap A₀ (mapRoot (set A (rootTable + k) (m - 1)) (moduleMap A₀ i)) ≡ moduleMap A₀ i)
+        → (mapRoot (set A (rootTable + k) (m - 1)) (moduleMap A₀ i) < n)
+        × (moduleMap A₀ (mapRoot (set A (rootTable + k) (m - 1)) (moduleMap A₀ i)) ≡ moduleMap A₀ i)
         × (mapRoot (set A (rootTable + k) (m - 1)) (moduleMap A₀ i) ≤ i)
     filled-at i p q true e =
         let u = f .upto in

@@ -1,5 +1,5 @@
 -- The loop over the records goes along the fold of the definition.
-use Prim.Native.Nat.{ℕ, zero, suc, _+_, _-_, _≤_, _<_}
+use Prim.Native.Nat.{ℕ, zero, suc, _+_, _≤_, _<_}
 use mathlib.Core.Path.{_≡_, refl, sym, _∙_, subst}
 use mathlib.Core.List.{List, []}
 use native.Mathlib.Omega.{arith}
@@ -28,7 +28,8 @@ module _ (W : List ℕ) (at last : ℕ) (s : Snapshot) where
   records-stop (suc f) n h g e = rw (records, lt-ltb _ _ h, e)
 
   pub records-go : (f : ℕ) (t : Snapshot) → at < length W → length W ≤ f + at → stepAt W at last s ≡ on t
-      → (f′ : ℕ) × (length W ≤ f′ + (at + 1 + argumentsAt W at)) × (records f W at last s ≡ records f′ W (at + 1 + argumentsAt W at) (kindOf (getD W at 0)) t)
+      → (f′ : ℕ) × (length W ≤ f′ + (at + 1 + argumentsAt W at))
+      × (records f W at last s ≡ records f′ W (at + 1 + argumentsAt W at) (kindOf (getD W at 0)) t)
   unfolding records
   records-go zero t h g e = absurd (omega arith)
   records-go (suc f) t h g e = (f, omega arith, rw (records, lt-ltb _ _ h, e))
@@ -81,18 +82,29 @@ going-none : (W A : List ℕ) → length W ≤ wordLimit → ((i : ℕ) → tabl
 unfolding verdict rows
 going-none W A h z = record { maps = []; stands = stands-start W A z; fuel = length W; enough = omega arith; same = rw (verdict, le-leb _ _ h) }
 
-pub going-start : (W A : List ℕ) {l : Layout} → length W ≤ wordLimit → ((i : ℕ) → tableWords ≤ i → i < marksEnd → getD A i 0 ≡ 0) → l ≡ noRecords → Going W A 0 0 l
+pub going-start : (W A : List ℕ) {l : Layout} → length W ≤ wordLimit → ((i : ℕ) → tableWords ≤ i → i < marksEnd → getD A i 0 ≡ 0)
+    → l ≡ noRecords → Going W A 0 0 l
 going-start W A h z e = subst (λ l. Going W A 0 0 l) (sym e) (going-none W A h z)
 
-pub going-here : (W A : List ℕ) (at last : ℕ) (l : Layout) → Going W A at last l → at < length W → length W ≤ wordLimit → areaLimit ≤ length A → Here W A l at
-going-here W A at last l g h s r = record { place = g .stands .place; here = h; short = s; room = r; limited = g .stands .limited; index = g .stands .index }
+pub going-here : (W A : List ℕ) (at last : ℕ) (l : Layout) → Going W A at last l → at < length W → length W ≤ wordLimit
+    → areaLimit ≤ length A → Here W A l at
+going-here W A at last l g h s r = record {
+  place = g .stands .place;
+  here = h;
+  short = s;
+  room = r;
+  limited = g .stands .limited;
+  index = g .stands .index;
+}
 
 -- r is what a turn answered, B the area after it
 module _ (W A B : List ℕ) (at last : ℕ) (l : Layout) (r : Step) (g : Going W A at last l) (h : at < length W)
-    (a : (ms : List Map) → Stands W A last at l ms → Answered W B (kindOf (getD W at 0)) (at + 1 + argumentsAt W at) (stepAt W at last (snapWith W A l ms)) r)
+    (a : (ms : List Map) → Stands W A last at l ms → Answered W B (kindOf (getD W at 0)) (at + 1 + argumentsAt W at)
+    (stepAt W at last (snapWith W A l ms)) r)
   where
     answer : {t : Step} → r ≡ t → Answered W B (kindOf (getD W at 0)) (at + 1 + argumentsAt W at) (stepAt W at last (snapWith W A l (g .maps))) t
-    answer e = subst (λ x. Answered W B (kindOf (getD W at 0)) (at + 1 + argumentsAt W at) (stepAt W at last (snapWith W A l (g .maps))) x) e (a (g .maps) (g .stands))
+    answer e = subst (λ x. Answered W B (kindOf (getD W at 0)) (at + 1 + argumentsAt W at) (stepAt W at last (snapWith W A l (g .maps))) x) e
+        (a (g .maps) (g .stands))
 
     pub going-stop : (n : ℕ) → r ≡ No n → verdict W ≡ refuse n at
     going-stop n e = g .same ∙ records-stop W at last (snapWith W A l (g .maps)) (g .fuel) n h (g .enough) (answer e)
@@ -104,7 +116,8 @@ module _ (W A B : List ℕ) (at last : ℕ) (l : Layout) (r : Step) (g : Going W
         record { maps = b .0; stands = b .2; fuel = x .0; enough = x .1; same = g .same ∙ x .2 }
 
     pub going-on : (m : Layout) → r ≡ On m → {n k : ℕ} → n ≡ argumentsAt W at → k ≡ kindOf (getD W at 0) → Going W B (at + 1 + n) k m
-    going-on m e {k = k} en ek = subst (λ n. Going W B (at + 1 + n) k m) (sym en) (subst (λ k. Going W B (at + 1 + argumentsAt W at) k m) (sym ek) (going-next m e))
+    going-on m e {k = k} en ek = subst (λ n. Going W B (at + 1 + n) k m) (sym en)
+        (subst (λ k. Going W B (at + 1 + argumentsAt W at) k m) (sym ek) (going-next m e))
 
 pub going-end : (W A : List ℕ) (at last : ℕ) (l : Layout) → Going W A at last l → length W ≤ at → Ended W A (Accepted l)
 going-end W A at last l g h =

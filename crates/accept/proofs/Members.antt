@@ -42,16 +42,19 @@ held-kept ds y x h =
 member-held : (s : Snapshot) (y : Member) → memberDefined (countsOf s) y ≡ true → memberPlaced s y ≡ true → Held (s .definitions) y
 member-held s y e p =
     let x = definitionIn (s .definitions) (y .definition) in
-    let a = and-three (ltb (y .parent) (length (s .definitions))) (ltb (y .name) (length (s .names))) (ltb (y .definition) (length (s .definitions))) e in
+    let a = and-three (ltb (y .parent) (length (s .definitions))) (ltb (y .name) (length (s .names)))
+    (ltb (y .definition) (length (s .definitions))) e in
     let b = and-two (eqb (kindOfDefinition s (y .parent)) 4) (isMember (y .kind) (y .parent) (y .name) x) p in
-    let c = and-two (not (eqb (y .kind) 0) || eqb (x .kind) 2 && eqb (x .first) (y .parent) && eqb (x .second) (y .name)) (eqb (y .kind) 0 || eqb (x .kind) 4) (b .1) in
+    let c = and-two (not (eqb (y .kind) 0) || eqb (x .kind) 2 && eqb (x .first) (y .parent) && eqb (x .second) (y .name))
+    (eqb (y .kind) 0 || eqb (x .kind) 4) (b .1) in
     record {
       above = ltb-true _ _ (a .0);
       known = ltb-true _ _ (a .2);
       right = record {
         parent = eqb-true _ _ (b .0);
         variant = λ k.
-            let u = unless-right (eqb (y .kind) 0) (eqb (x .kind) 2 && eqb (x .first) (y .parent) && eqb (x .second) (y .name)) (c .0) (eq-eqb (y .kind) 0 k) in
+            let u = unless-right (eqb (y .kind) 0) (eqb (x .kind) 2 && eqb (x .first) (y .parent) && eqb (x .second) (y .name))
+            (c .0) (eq-eqb (y .kind) 0 k) in
             let v = and-three (eqb (x .kind) 2) (eqb (x .first) (y .parent)) (eqb (x .second) (y .name)) u in
             (eqb-true _ _ (v .0), eqb-true _ _ (v .1), eqb-true _ _ (v .2));
         other = λ k. eqb-true _ _ (or-right (eqb (y .kind) 0) (eqb (x .kind) 4) (c .1) (ne-eqb (y .kind) 0 k));

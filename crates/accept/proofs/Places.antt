@@ -9,11 +9,15 @@ use lib.ListN.{length, getD}
 use borrow.Author.Tests.{eqb-true, eq-eqb, ltb-true}
 use Rattle.snapshot.specs.Lists.{any}
 use Rattle.snapshot.specs.Records.{Snapshot, Map, Module, Child, Definition, Scope, Import}
-use Rattle.check_rules.specs.Tests.{countsOf, noName, noMap, noModule, noDefinition, mapOf, kindOfDefinition, isIn, isOwn, mapsFilled, cratesOwn, childDefined, childPlaced, nsPlaced, mapRepeated, sameDefinition, definitionRepeated, sameName, sameChild, samePrelude, sameEntry, sameExtern, scopeDefined, importDefined}
+use Rattle.check_rules.specs.Tests.{countsOf, noName, noMap, noModule, noDefinition, mapOf, kindOfDefinition, isIn, isOwn, mapsFilled, cratesOwn}
+use Rattle.check_rules.specs.Tests.{childDefined, childPlaced, nsPlaced, mapRepeated, sameDefinition, definitionRepeated, sameName, sameChild}
+use Rattle.check_rules.specs.Tests.{samePrelude, sameEntry, sameExtern, scopeDefined, importDefined}
 use Rattle.check_rules.specs.Verdict.{accept, verdict}
-use Rattle.accept.specs.Valid.{Each, none, Placed as PlacedIn, mapIn, parentIn, blockIn, crateIn, definitionIn, Under, MacroOnly, Owned, DefinedOnce, Once}
+use Rattle.accept.specs.Valid.{Each, none, Placed as PlacedIn, mapIn, parentIn, blockIn, crateIn, definitionIn, Under, MacroOnly, Owned}
+use Rattle.accept.specs.Valid.{DefinedOnce, Once}
 use Rattle.accept.proofs.Accepted.{Keeps, keeps-of, verdict-keeps}
-use Rattle.accept.proofs.Bools.{and-two, and-four, and-five, unless-right, length-snoc, getD-old, getD-new, old-or-new, any-none, any-some, all-below, distinct-snoc, each-map, each-snoc}
+use Rattle.accept.proofs.Bools.{and-two, and-four, and-five, unless-right, length-snoc, getD-old, getD-new, old-or-new, any-none, any-some}
+use Rattle.accept.proofs.Bools.{all-below, distinct-snoc, each-map, each-snoc}
 
 -- children
 
@@ -207,17 +211,56 @@ module _ (k : ℕ) (once : eqb k 1 || eqb k 3 ≡ true) where
 once-kept : {W : List ℕ} → Keeps W Once
 once-kept =
     record {
-      names = λ s y p h. record { names = distinct-snoc sameName noName (s .names) y (p .new) (h .names); children = h .children; preludes = h .preludes; scopes = h .scopes; externs = h .externs };
+      names = λ s y p h. record {
+        names = distinct-snoc sameName noName (s .names) y (p .new) (h .names);
+        children = h .children;
+        preludes = h .preludes;
+        scopes = h .scopes;
+        externs = h .externs;
+      };
       crates = λ s y p h. record { names = h .names; children = h .children; preludes = h .preludes; scopes = h .scopes; externs = h .externs };
       dependencies = λ s y p h. record { names = h .names; children = h .children; preludes = h .preludes; scopes = h .scopes; externs = h .externs };
       maps = λ s y p h. record { names = h .names; children = h .children; preludes = h .preludes; scopes = h .scopes; externs = h .externs };
       modules = λ s y p h. record { names = h .names; children = h .children; preludes = h .preludes; scopes = h .scopes; externs = h .externs };
-      children = λ s y p h. record { names = h .names; children = distinct-snoc sameChild _ (s .children) y (p .new) (h .children); preludes = h .preludes; scopes = h .scopes; externs = h .externs };
-      preludes = λ s y p h. record { names = h .names; children = h .children; preludes = distinct-snoc samePrelude _ (s .preludes) y (p .new) (h .preludes); scopes = h .scopes; externs = h .externs };
-      definitions = λ s y o p h. record { names = h .names; children = h .children; preludes = h .preludes; scopes = h .scopes; externs = h .externs };
-      scopes = λ s y o p h. record { names = h .names; children = h .children; preludes = h .preludes; scopes = distinct-snoc sameEntry _ (s .scopes) y (p .new) (h .scopes); externs = h .externs };
+      children = λ s y p h. record {
+        names = h .names;
+        children = distinct-snoc sameChild _ (s .children) y (p .new) (h .children);
+        preludes = h .preludes;
+        scopes = h .scopes;
+        externs = h .externs;
+      };
+      preludes = λ s y p h. record {
+        names = h .names;
+        children = h .children;
+        preludes = distinct-snoc samePrelude _ (s .preludes) y
+            (p .new) (h .preludes);
+        scopes = h .scopes;
+        externs = h .externs;
+      };
+      definitions = λ s y o p h. record {
+        names = h .names;
+        children = h .children;
+        preludes = h .preludes;
+        scopes = h .scopes;
+        externs = h .externs;
+      };
+      scopes = λ s y o p h. record {
+        names = h .names;
+        children = h .children;
+        preludes = h .preludes;
+        scopes = distinct-snoc sameEntry _
+            (s .scopes) y (p .new) (h .scopes);
+        externs = h .externs;
+      };
       imports = λ s y o p h. record { names = h .names; children = h .children; preludes = h .preludes; scopes = h .scopes; externs = h .externs };
-      externs = λ s y o p h. record { names = h .names; children = h .children; preludes = h .preludes; scopes = h .scopes; externs = distinct-snoc sameExtern _ (s .externs) y (p .new) (h .externs) };
+      externs = λ s y o p h. record {
+        names = h .names;
+        children = h .children;
+        preludes = h .preludes;
+        scopes = h .scopes;
+        externs =
+            distinct-snoc sameExtern _ (s .externs) y (p .new) (h .externs);
+      };
       members = λ s y p h. record { names = h .names; children = h .children; preludes = h .preludes; scopes = h .scopes; externs = h .externs };
     }
 
@@ -233,7 +276,12 @@ places-kept =
       modules = λ s y p h. record { definitions = h .definitions; scopes = h .scopes; imports = h .imports; externs = h .externs };
       children = λ s y p h. record { definitions = h .definitions; scopes = h .scopes; imports = h .imports; externs = h .externs };
       preludes = λ s y p h. record { definitions = h .definitions; scopes = h .scopes; imports = h .imports; externs = h .externs };
-      definitions = λ s y o p h. record { definitions = each-snoc (h .definitions) o; scopes = h .scopes; imports = h .imports; externs = h .externs };
+      definitions = λ s y o p h. record {
+        definitions = each-snoc (h .definitions) o;
+        scopes = h .scopes;
+        imports = h .imports;
+        externs = h .externs;
+      };
       scopes = λ s y o p h. record { definitions = h .definitions; scopes = each-snoc (h .scopes) o; imports = h .imports; externs = h .externs };
       imports = λ s y o p h. record { definitions = h .definitions; scopes = h .scopes; imports = each-snoc (h .imports) o; externs = h .externs };
       externs = λ s y o p h. record { definitions = h .definitions; scopes = h .scopes; imports = h .imports; externs = each-snoc (h .externs) o };

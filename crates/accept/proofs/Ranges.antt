@@ -1,6 +1,6 @@
 -- The fields and numbers of an accepted snapshot are in range.
 use mathlib.Core.Path.{_≡_}
-use Prim.Native.Nat.{ℕ, _+_, _≤_, _<_}
+use Prim.Native.Nat.{ℕ, _≤_, _<_}
 use native.Mathlib.Omega.{arith}
 use mathlib.Core.List.{List, [], _∷_, _++_}
 use mathlib.Core.Bool.{Bool, true, false, _&&_, _||_, not}
@@ -9,10 +9,14 @@ use lib.ListN.{length}
 use borrow.Author.Tests.{eqb-true, eq-eqb, ne-eqb, ltb-true, leb-true}
 use Rattle.snapshot.specs.Limits.{wordLimit, crateLimit, moduleLimit, nameLimit, definitionLimit, namespaceLimit}
 use Rattle.snapshot.specs.Records.{Name, Crate, Dependency, Map, Module, Child, Prelude, Definition, Scope, Import, Extern, Member, Snapshot}
-use Rattle.check_rules.specs.Tests.{Counts, countsOf, padded, nameRange, crateRange, isEdition, dependencyRange, dependencyDefined, mapRange, mapDefined, moduleDefined, childDefined, preludeDefined, definitionDefined, scopeRange, scopeDefined, importRange, importDefined, externDefined, memberRange, memberDefined}
-use Rattle.check_rules.specs.Steps.{addName, addCrate, addDependency, addMap, addModule, addChild, addPrelude, addDefinition, addScope, addImport, addExtern, addMember}
+use Rattle.check_rules.specs.Tests.{Counts, countsOf, padded, nameRange, crateRange, isEdition, dependencyRange, dependencyDefined, mapRange}
+use Rattle.check_rules.specs.Tests.{mapDefined, moduleDefined, childDefined, preludeDefined, definitionDefined, scopeRange, scopeDefined, importRange}
+use Rattle.check_rules.specs.Tests.{importDefined, externDefined, memberRange, memberDefined}
+use Rattle.check_rules.specs.Steps.{addName, addCrate, addDependency, addMap, addModule, addChild, addPrelude, addDefinition, addScope, addImport}
+use Rattle.check_rules.specs.Steps.{addExtern, addMember}
 use Rattle.check_rules.specs.Verdict.{accept, verdict, empty}
-use Rattle.accept.specs.Valid.{none, NameFits, CrateFits, DependencyFits, MapFits, ModuleFits, ChildFits, PreludeFits, DefinitionFits, ScopeFits, ImportFits, ExternFits, MemberFits, Ranges, Limits}
+use Rattle.accept.specs.Valid.{none, NameFits, CrateFits, DependencyFits, MapFits, ModuleFits, ChildFits, PreludeFits, DefinitionFits}
+use Rattle.accept.specs.Valid.{ScopeFits, ImportFits, ExternFits, MemberFits, Ranges, Limits}
 use Rattle.accept.proofs.Accepted.{by-test, Keeps, verdict-keeps}
 use Rattle.accept.proofs.Bools.{and-two, and-three, and-four, and-five, unless-right, or-right, length-snoc, each-map, each-snoc}
 
@@ -91,7 +95,8 @@ module _ (n : Counts) where
 
   pub scope-fits : (y : Scope) → y .place < wordLimit → scopeRange y ≡ true → scopeDefined n y ≡ true → ScopeFits n y
   scope-fits y i r e =
-      let p = and-five (leb (y .ns) namespaceLimit) (leb (y .visibility) 3) (not (eqb (y .visibility) 0) || eqb (y .number) 0) (leb (y .declared) 3) (leb (y .bits) 3) r in
+      let p = and-five (leb (y .ns) namespaceLimit) (leb (y .visibility) 3) (not (eqb (y .visibility) 0) || eqb (y .number) 0)
+      (leb (y .declared) 3) (leb (y .bits) 3) r in
       let q =
       and-five (ltb (y .owner) (n .modules)) (ltb (y .name) (n .names)) (ltb (y .definition) (n .definitions))
       (not (eqb (y .visibility) 1) || ltb (y .number) (n .crates)) (leb (y .visibility) 1 || ltb (y .number) (n .modules)) e in
@@ -210,7 +215,8 @@ module _ (n m : Counts) (a : AtLeast n m) where
             })
             (h .imports);
         externs = each-map (λ x f. record { owner = omega arith; name = omega arith; target = omega arith; place = f .place }) (h .externs);
-        members = each-map (λ x f. record { parent = omega arith; name = omega arith; definition = omega arith; kind = f .kind; bits = f .bits }) (h .members);
+        members = each-map (λ x f. record { parent = omega arith; name = omega arith; definition = omega arith; kind = f .kind; bits = f .bits })
+            (h .members);
       }
 
 abbrev InRange : Snapshot → Type 0
@@ -236,53 +242,191 @@ no-ranges =
 -- the ranges with some lists longer, each by a record that fits
 module _ (s : Snapshot) where
   more-names : (y : Name) → AtLeast (countsOf s) (countsOf (addName s y))
-  more-names y = let e = length-snoc (s .names) y in record { names = omega arith; crates = omega arith; maps = omega arith; modules = omega arith; definitions = omega arith }
+  more-names y = let e = length-snoc (s .names) y in record {
+    names = omega arith;
+    crates = omega arith;
+    maps = omega arith;
+    modules =
+        omega arith;
+    definitions = omega arith;
+  }
 
   more-crates : (y : Crate) → AtLeast (countsOf s) (countsOf (addCrate s y))
-  more-crates y = let e = length-snoc (s .crates) y in record { names = omega arith; crates = omega arith; maps = omega arith; modules = omega arith; definitions = omega arith }
+  more-crates y = let e = length-snoc (s .crates) y in record {
+    names = omega arith;
+    crates = omega arith;
+    maps = omega arith;
+    modules = omega arith;
+    definitions = omega arith;
+  }
 
   more-maps : (y : Map) → AtLeast (countsOf s) (countsOf (addMap s y))
-  more-maps y = let e = length-snoc (s .maps) y in record { names = omega arith; crates = omega arith; maps = omega arith; modules = omega arith; definitions = omega arith }
+  more-maps y = let e = length-snoc (s .maps) y in record {
+    names = omega arith;
+    crates = omega arith;
+    maps = omega arith;
+    modules =
+        omega arith;
+    definitions = omega arith;
+  }
 
   more-modules : (y : Module) → AtLeast (countsOf s) (countsOf (addModule s y))
-  more-modules y = let e = length-snoc (s .modules) y in record { names = omega arith; crates = omega arith; maps = omega arith; modules = omega arith; definitions = omega arith }
+  more-modules y = let e = length-snoc (s .modules) y in record {
+    names = omega arith;
+    crates = omega arith;
+    maps = omega arith;
+    modules = omega arith;
+    definitions = omega arith;
+  }
 
   more-definitions : (y : Definition) → AtLeast (countsOf s) (countsOf (addDefinition s y))
-  more-definitions y = let e = length-snoc (s .definitions) y in record { names = omega arith; crates = omega arith; maps = omega arith; modules = omega arith; definitions = omega arith }
+  more-definitions y = let e = length-snoc (s .definitions) y in record {
+    names = omega arith;
+    crates = omega arith;
+    maps =
+        omega arith;
+    modules = omega arith;
+    definitions = omega arith;
+  }
 
   module _ (h : InRange s) where
     name-ranged : (y : Name) → NameFits y → InRange (addName s y)
     name-ranged y f =
         let r = ranges-more (countsOf s) (countsOf (addName s y)) (more-names y) s h in
-        record { names = each-snoc (h .names) f; crates = h .crates; dependencies = r .dependencies; maps = r .maps; modules = r .modules; children = r .children; preludes = r .preludes; definitions = r .definitions; scopes = r .scopes; imports = r .imports; externs = r .externs; members = r .members }
+        record {
+          names = each-snoc (h .names) f;
+          crates = h .crates;
+          dependencies = r .dependencies;
+          maps = r .maps;
+          modules =
+              r .modules;
+          children = r .children;
+          preludes = r .preludes;
+          definitions = r .definitions;
+          scopes = r .scopes;
+          imports =
+              r .imports;
+          externs = r .externs;
+          members = r .members;
+        }
 
     crate-ranged : (y : Crate) → CrateFits y → InRange (addCrate s y)
     crate-ranged y f =
         let r = ranges-more (countsOf s) (countsOf (addCrate s y)) (more-crates y) s h in
-        record { names = h .names; crates = each-snoc (h .crates) f; dependencies = r .dependencies; maps = r .maps; modules = r .modules; children = r .children; preludes = r .preludes; definitions = r .definitions; scopes = r .scopes; imports = r .imports; externs = r .externs; members = r .members }
+        record {
+          names = h .names;
+          crates = each-snoc (h .crates) f;
+          dependencies = r .dependencies;
+          maps = r .maps;
+          modules =
+              r .modules;
+          children = r .children;
+          preludes = r .preludes;
+          definitions = r .definitions;
+          scopes = r .scopes;
+          imports =
+              r .imports;
+          externs = r .externs;
+          members = r .members;
+        }
 
     dependency-ranged : (y : Dependency) → DependencyFits (countsOf s) y → InRange (addDependency s y)
     dependency-ranged y f =
-        record { names = h .names; crates = h .crates; dependencies = each-snoc (h .dependencies) f; maps = h .maps; modules = h .modules; children = h .children; preludes = h .preludes; definitions = h .definitions; scopes = h .scopes; imports = h .imports; externs = h .externs; members = h .members }
+        record {
+          names = h .names;
+          crates = h .crates;
+          dependencies = each-snoc (h .dependencies) f;
+          maps = h .maps;
+          modules =
+              h .modules;
+          children = h .children;
+          preludes = h .preludes;
+          definitions = h .definitions;
+          scopes = h .scopes;
+          imports =
+              h .imports;
+          externs = h .externs;
+          members = h .members;
+        }
 
     map-ranged : (y : Map) → MapFits (countsOf s) y → InRange (addMap s y)
     map-ranged y f =
         let r = ranges-more (countsOf s) (countsOf (addMap s y)) (more-maps y) s h in
-        record { names = h .names; crates = h .crates; dependencies = r .dependencies; maps = each-snoc (r .maps) (record { crate = f .crate; block = f .block; noStd = f .noStd }); modules = r .modules; children = r .children; preludes = r .preludes; definitions = r .definitions; scopes = r .scopes; imports = r .imports; externs = r .externs; members = r .members }
+        record {
+          names = h .names;
+          crates = h .crates;
+          dependencies = r .dependencies;
+          maps = each-snoc (r .maps)
+              (record { crate = f .crate; block = f .block; noStd = f .noStd });
+          modules = r .modules;
+          children = r .children;
+          preludes =
+              r .preludes;
+          definitions = r .definitions;
+          scopes = r .scopes;
+          imports = r .imports;
+          externs = r .externs;
+          members = r .members;
+        }
 
     module-ranged : (y : Module) → ModuleFits (countsOf s) y → InRange (addModule s y)
     module-ranged y f =
         let r = ranges-more (countsOf s) (countsOf (addModule s y)) (more-modules y) s h in
         let e = length-snoc (s .modules) y in
-        record { names = h .names; crates = h .crates; dependencies = r .dependencies; maps = r .maps; modules = each-snoc (r .modules) (record { map = f .map; parent = omega (arith, f .parent) }); children = r .children; preludes = r .preludes; definitions = r .definitions; scopes = r .scopes; imports = r .imports; externs = r .externs; members = r .members }
+        record {
+          names = h .names;
+          crates = h .crates;
+          dependencies = r .dependencies;
+          maps = r .maps;
+          modules = each-snoc (r .modules)
+              (record { map = f .map; parent = omega (arith, f .parent) });
+          children = r .children;
+          preludes = r .preludes;
+          definitions =
+              r .definitions;
+          scopes = r .scopes;
+          imports = r .imports;
+          externs = r .externs;
+          members = r .members;
+        }
 
     child-ranged : (y : Child) → ChildFits (countsOf s) y → InRange (addChild s y)
     child-ranged y f =
-        record { names = h .names; crates = h .crates; dependencies = h .dependencies; maps = h .maps; modules = h .modules; children = each-snoc (h .children) f; preludes = h .preludes; definitions = h .definitions; scopes = h .scopes; imports = h .imports; externs = h .externs; members = h .members }
+        record {
+          names = h .names;
+          crates = h .crates;
+          dependencies = h .dependencies;
+          maps = h .maps;
+          modules = h .modules;
+          children =
+              each-snoc (h .children) f;
+          preludes = h .preludes;
+          definitions = h .definitions;
+          scopes = h .scopes;
+          imports =
+              h .imports;
+          externs = h .externs;
+          members = h .members;
+        }
 
     prelude-ranged : (y : Prelude) → PreludeFits (countsOf s) y → InRange (addPrelude s y)
     prelude-ranged y f =
-        record { names = h .names; crates = h .crates; dependencies = h .dependencies; maps = h .maps; modules = h .modules; children = h .children; preludes = each-snoc (h .preludes) f; definitions = h .definitions; scopes = h .scopes; imports = h .imports; externs = h .externs; members = h .members }
+        record {
+          names = h .names;
+          crates = h .crates;
+          dependencies = h .dependencies;
+          maps = h .maps;
+          modules = h .modules;
+          children =
+              h .children;
+          preludes = each-snoc (h .preludes) f;
+          definitions = h .definitions;
+          scopes = h .scopes;
+          imports =
+              h .imports;
+          externs = h .externs;
+          members = h .members;
+        }
 
     definition-ranged : (y : Definition) → DefinitionFits (countsOf s) y → InRange (addDefinition s y)
     definition-ranged y f =
@@ -297,7 +441,14 @@ module _ (s : Snapshot) where
           children = r .children;
           preludes = r .preludes;
           definitions = each-snoc (r .definitions)
-              (record { known = f .known; kind = f .kind; variant = λ q. let g = f .variant q in (omega (arith, g .0), g .1); builtin = f .builtin; home = f .home; place = f .place });
+              (record {
+                known = f .known;
+                kind = f .kind;
+                variant = λ q. let g = f .variant q in (omega (arith, g .0), g .1);
+                builtin = f .builtin;
+                home = f .home;
+                place = f .place;
+              });
           scopes = r .scopes;
           imports = r .imports;
           externs = r .externs;
@@ -306,19 +457,79 @@ module _ (s : Snapshot) where
 
     scope-ranged : (y : Scope) → ScopeFits (countsOf s) y → InRange (addScope s y)
     scope-ranged y f =
-        record { names = h .names; crates = h .crates; dependencies = h .dependencies; maps = h .maps; modules = h .modules; children = h .children; preludes = h .preludes; definitions = h .definitions; scopes = each-snoc (h .scopes) f; imports = h .imports; externs = h .externs; members = h .members }
+        record {
+          names = h .names;
+          crates = h .crates;
+          dependencies = h .dependencies;
+          maps = h .maps;
+          modules = h .modules;
+          children =
+              h .children;
+          preludes = h .preludes;
+          definitions = h .definitions;
+          scopes = each-snoc (h .scopes) f;
+          imports =
+              h .imports;
+          externs = h .externs;
+          members = h .members;
+        }
 
     import-ranged : (y : Import) → ImportFits (countsOf s) y → InRange (addImport s y)
     import-ranged y f =
-        record { names = h .names; crates = h .crates; dependencies = h .dependencies; maps = h .maps; modules = h .modules; children = h .children; preludes = h .preludes; definitions = h .definitions; scopes = h .scopes; imports = each-snoc (h .imports) f; externs = h .externs; members = h .members }
+        record {
+          names = h .names;
+          crates = h .crates;
+          dependencies = h .dependencies;
+          maps = h .maps;
+          modules = h .modules;
+          children =
+              h .children;
+          preludes = h .preludes;
+          definitions = h .definitions;
+          scopes = h .scopes;
+          imports = each-snoc (h .imports)
+              f;
+          externs = h .externs;
+          members = h .members;
+        }
 
     extern-ranged : (y : Extern) → ExternFits (countsOf s) y → InRange (addExtern s y)
     extern-ranged y f =
-        record { names = h .names; crates = h .crates; dependencies = h .dependencies; maps = h .maps; modules = h .modules; children = h .children; preludes = h .preludes; definitions = h .definitions; scopes = h .scopes; imports = h .imports; externs = each-snoc (h .externs) f; members = h .members }
+        record {
+          names = h .names;
+          crates = h .crates;
+          dependencies = h .dependencies;
+          maps = h .maps;
+          modules = h .modules;
+          children =
+              h .children;
+          preludes = h .preludes;
+          definitions = h .definitions;
+          scopes = h .scopes;
+          imports = h .imports;
+          externs =
+              each-snoc (h .externs) f;
+          members = h .members;
+        }
 
     member-ranged : (y : Member) → MemberFits (countsOf s) y → InRange (addMember s y)
     member-ranged y f =
-        record { names = h .names; crates = h .crates; dependencies = h .dependencies; maps = h .maps; modules = h .modules; children = h .children; preludes = h .preludes; definitions = h .definitions; scopes = h .scopes; imports = h .imports; externs = h .externs; members = each-snoc (h .members) f }
+        record {
+          names = h .names;
+          crates = h .crates;
+          dependencies = h .dependencies;
+          maps = h .maps;
+          modules = h .modules;
+          children =
+              h .children;
+          preludes = h .preludes;
+          definitions = h .definitions;
+          scopes = h .scopes;
+          imports = h .imports;
+          externs =
+              h .externs;
+          members = each-snoc (h .members) f;
+        }
 
 ranges-kept : {W : List ℕ} → Keeps W InRange
 ranges-kept =
@@ -346,14 +557,35 @@ one-more l y n e = let q = length-snoc l y in let h = ltb-true (length l) n e in
 limits-kept : {W : List ℕ} → Keeps W Limited
 limits-kept =
     record {
-      names = λ s y p h. record { names = one-more (s .names) y nameLimit (p .roomy); crates = h .crates; modules = h .modules; definitions = h .definitions };
-      crates = λ s y p h. record { names = h .names; crates = one-more (s .crates) y crateLimit (p .room); modules = h .modules; definitions = h .definitions };
+      names = λ s y p h. record {
+        names = one-more (s .names) y nameLimit (p .roomy);
+        crates = h .crates;
+        modules = h .modules;
+        definitions = h .definitions;
+      };
+      crates = λ s y p h. record {
+        names = h .names;
+        crates = one-more (s .crates) y crateLimit (p .room);
+        modules = h .modules;
+        definitions = h .definitions;
+      };
       dependencies = λ s y p h. h;
       maps = λ s y p h. record { names = h .names; crates = h .crates; modules = h .modules; definitions = h .definitions };
-      modules = λ s y p h. record { names = h .names; crates = h .crates; modules = one-more (s .modules) y moduleLimit (p .roomy); definitions = h .definitions };
+      modules = λ s y p h. record {
+        names = h .names;
+        crates = h .crates;
+        modules = one-more (s .modules) y moduleLimit (p .roomy);
+        definitions = h .definitions;
+      };
       children = λ s y p h. h;
       preludes = λ s y p h. h;
-      definitions = λ s y o p h. record { names = h .names; crates = h .crates; modules = h .modules; definitions = one-more (s .definitions) y definitionLimit (p .roomy) };
+      definitions = λ s y o p h. record {
+        names = h .names;
+        crates = h .crates;
+        modules = h .modules;
+        definitions =
+            one-more (s .definitions) y definitionLimit (p .roomy);
+      };
       scopes = λ s y o p h. h;
       imports = λ s y o p h. h;
       externs = λ s y o p h. h;

@@ -4,12 +4,14 @@ use Prim.Native.Nat.{ℕ, _+_, _*_, _<_}
 use mathlib.Core.List.{List}
 use Rattle.snapshot.specs.Sizes.{crateSize, dependencySize, childSize, preludeSize, definitionSize, scopeSize, importSize, externSize, memberSize}
 use Rattle.snapshot.specs.Records.{crateAt, dependencyAt, mapAt, childAt, preludeAt, definitionAt, scopeAt, importAt, externAt, memberAt}
-use Rattle.snapshot.specs.Layouts.{crateBase, dependencyBase, childBase, preludeBase, definitionBase, scopeBase, importBase, externBase, memberBase, moduleRow, moduleHead, mapRoot, snapOf}
+use Rattle.snapshot.specs.Layouts.{crateBase, dependencyBase, childBase, preludeBase, definitionBase, scopeBase, importBase, externBase, memberBase}
+use Rattle.snapshot.specs.Layouts.{moduleRow, moduleHead, mapRoot, snapOf}
 use Rattle.snapshot.specs.declared.layout.Layout.{Layout}
 use Rattle.snapshot.proofs.Laws.{length-rows}
 use Rattle.check_rules.specs.Tests.{Counts, countsOf}
 use Rattle.record_rules.specs.Stands.{countsIn}
-use Rattle.accept.specs.Valid.{CrateFits, DependencyFits, MapFits, ModuleFits, ChildFits, PreludeFits, DefinitionFits, ScopeFits, ImportFits, ExternFits, MemberFits, Ranges, Valid}
+use Rattle.accept.specs.Valid.{CrateFits, DependencyFits, MapFits, ModuleFits, ChildFits, PreludeFits, DefinitionFits, ScopeFits, ImportFits}
+use Rattle.accept.specs.Valid.{ExternFits, MemberFits, Ranges, Valid}
 use Rattle.accept.proofs.Bools.{each-rows}
 
 -- the counts of the lists are those of the layout

@@ -8,11 +8,19 @@ use lib.Dec.{eqb, leb, ltb}
 use lib.ListN.{length, getD}
 use Rattle.snapshot.specs.Lists.{any}
 use Rattle.snapshot.specs.Limits.{wordLimit, crateLimit, moduleLimit, nameLimit, definitionLimit}
-use Rattle.snapshot.specs.Refusals.{wordsRefusal, formRefusal, rangeRefusal, undefinedRefusal, repeatedRefusal, placeRefusal, countRefusal, editionRefusal}
+use Rattle.snapshot.specs.Refusals.{wordsRefusal, formRefusal, rangeRefusal, undefinedRefusal, repeatedRefusal, placeRefusal, countRefusal}
+use Rattle.snapshot.specs.Refusals.{editionRefusal}
 use Rattle.snapshot.specs.Words.{kindOf, argumentsAt}
-use Rattle.snapshot.specs.Records.{Snapshot, nameAt, crateAt, dependencyAt, mapAt, moduleAt, childAt, preludeAt, definitionAt, scopeAt, importAt, externAt, memberAt}
-use Rattle.check_rules.specs.Tests.{childDefined, childPlaced, countsOf, crateRange, isEdition, cratesOwn, definitionDefined, definitionPlaced, definitionRange, definitionRepeated, dependencyDefined, dependencyRange, externDefined, importDefined, importRange, mapDefined, mapPlaced, mapRange, mapRepeated, mapsFilled, memberDefined, memberPlaced, memberRange, moduleDefined, modulePlaced, nameRange, nsPlaced, preludeDefined, sameChild, sameEntry, sameExtern, sameName, samePrelude, scopeDefined, scopeRange}
-use Rattle.check_rules.specs.Steps.{Next, no, on, need, judge, judgeCrate, addName, addCrate, addDependency, addMap, addModule, addChild, addPrelude, addDefinition, addScope, addImport, addExtern, addMember, nameStep, crateStep, dependencyStep, mapStep, moduleStep, childStep, preludeStep, definitionStep, scopeStep, importStep, externStep, memberStep}
+use Rattle.snapshot.specs.Records.{Snapshot, nameAt, crateAt, dependencyAt, mapAt, moduleAt, childAt, preludeAt, definitionAt, scopeAt, importAt}
+use Rattle.snapshot.specs.Records.{externAt, memberAt}
+use Rattle.check_rules.specs.Tests.{childDefined, childPlaced, countsOf, crateRange, isEdition, cratesOwn, definitionDefined, definitionPlaced}
+use Rattle.check_rules.specs.Tests.{definitionRange, definitionRepeated, dependencyDefined, dependencyRange, externDefined, importDefined}
+use Rattle.check_rules.specs.Tests.{importRange, mapDefined, mapPlaced, mapRange, mapRepeated, mapsFilled, memberDefined, memberPlaced, memberRange}
+use Rattle.check_rules.specs.Tests.{moduleDefined, modulePlaced, nameRange, nsPlaced, preludeDefined, sameChild, sameEntry, sameExtern, sameName}
+use Rattle.check_rules.specs.Tests.{samePrelude, scopeDefined, scopeRange}
+use Rattle.check_rules.specs.Steps.{Next, no, on, need, judge, judgeCrate, addName, addCrate, addDependency, addMap, addModule, addChild, addPrelude}
+use Rattle.check_rules.specs.Steps.{addDefinition, addScope, addImport, addExtern, addMember, nameStep, crateStep, dependencyStep, mapStep}
+use Rattle.check_rules.specs.Steps.{moduleStep, childStep, preludeStep, definitionStep, scopeStep, importStep, externStep, memberStep}
 use Rattle.check_rules.specs.Verdict.{follows, argumentsFrom, recordStep, stepAt, Verdict, refuse, accept, finish, records, empty, verdict}
 
 -- the numbers of the check
@@ -39,14 +47,17 @@ need-refuses false n r h k = h
 judge-refuses : (range defined repeated placed room : Bool) (s : Snapshot) → NextRefuses (judge range defined repeated placed room s)
 judge-refuses range defined repeated placed room s =
     need-refuses range rangeRefusal _ (omega arith, omega arith) (need-refuses defined undefinedRefusal _ (omega arith, omega arith)
-    (need-refuses (not repeated) repeatedRefusal _ (omega arith, omega arith) (need-refuses placed placeRefusal _ (omega arith, omega arith) (need-refuses room countRefusal (on s) (omega arith, omega arith) tt))))
+    (need-refuses (not repeated) repeatedRefusal _ (omega arith, omega arith)
+    (need-refuses placed placeRefusal _ (omega arith, omega arith) (need-refuses room countRefusal (on s) (omega arith, omega arith) tt))))
 
 judge-crate-refuses : (range edition room : Bool) (s : Snapshot) → NextRefuses (judgeCrate range edition room s)
 judge-crate-refuses range edition room s =
-    need-refuses range rangeRefusal _ (omega arith, omega arith) (need-refuses edition editionRefusal _ (omega arith, omega arith) (need-refuses room countRefusal (on s) (omega arith, omega arith) tt))
+    need-refuses range rangeRefusal _ (omega arith, omega arith) (need-refuses edition editionRefusal _ (omega arith, omega arith)
+    (need-refuses room countRefusal (on s) (omega arith, omega arith) tt))
 
 record-refuses : (k : ℕ) (W : List ℕ) (at : ℕ) (s : Snapshot) → NextRefuses (recordStep k W at s)
-unfolding recordStep nameStep crateStep dependencyStep mapStep moduleStep childStep preludeStep definitionStep scopeStep importStep externStep memberStep
+unfolding recordStep nameStep crateStep dependencyStep mapStep moduleStep childStep preludeStep definitionStep scopeStep importStep
+    externStep memberStep
 record-refuses k W at s =
     let x1 = nameAt W at in
     let x2 = crateAt W at in
@@ -61,16 +72,23 @@ record-refuses k W at s =
     let x11 = externAt W at in
     let x13 = memberAt W at in
     let n = countsOf s in
-    either NextRefuses (eqb k 1) _ _ (judge-refuses (nameRange x1) true (any (sameName x1) (s .names)) true (ltb (length (s .names)) nameLimit) (addName s x1))
-    (either NextRefuses (eqb k 2) _ _ (judge-crate-refuses (crateRange x2) (isEdition (x2 .edition)) (ltb (length (s .crates)) crateLimit) (addCrate s x2))
+    either NextRefuses (eqb k 1) _ _ (judge-refuses (nameRange x1) true (any (sameName x1) (s .names)) true
+    (ltb (length (s .names)) nameLimit) (addName s x1))
+    (either NextRefuses (eqb k 2) _ _ (judge-crate-refuses (crateRange x2) (isEdition (x2 .edition)) (ltb (length (s .crates)) crateLimit)
+    (addCrate s x2))
     (either NextRefuses (eqb k 3) _ _ (judge-refuses (dependencyRange x3) (dependencyDefined n x3) false true true (addDependency s x3))
     (either NextRefuses (eqb k 4) _ _ (judge-refuses (mapRange x4) (mapDefined n x4) (mapRepeated s x4) (mapPlaced s x4) true (addMap s x4))
-    (either NextRefuses (eqb k 5) _ _ (judge-refuses true (moduleDefined n x5) false (modulePlaced s x5) (ltb (length (s .modules)) moduleLimit) (addModule s x5))
-    (either NextRefuses (eqb k 6) _ _ (judge-refuses true (childDefined n x6) (any (sameChild x6) (s .children)) (childPlaced s x6) true (addChild s x6))
+    (either NextRefuses (eqb k 5) _ _ (judge-refuses true (moduleDefined n x5) false (modulePlaced s x5)
+    (ltb (length (s .modules)) moduleLimit) (addModule s x5))
+    (either NextRefuses (eqb k 6) _ _ (judge-refuses true (childDefined n x6) (any (sameChild x6) (s .children)) (childPlaced s x6)
+    true (addChild s x6))
     (either NextRefuses (eqb k 7) _ _ (judge-refuses true (preludeDefined n x7) (any (samePrelude x7) (s .preludes)) true true (addPrelude s x7))
-    (either NextRefuses (eqb k 8) _ _ (judge-refuses (definitionRange s x8) (definitionDefined n x8) (definitionRepeated s x8) (definitionPlaced s x8) (ltb (length (s .definitions)) definitionLimit) (addDefinition s x8))
-    (either NextRefuses (eqb k 9) _ _ (judge-refuses (scopeRange x9) (scopeDefined n x9) (any (sameEntry x9) (s .scopes)) (nsPlaced s (x9 .ns) (x9 .definition)) true (addScope s x9))
-    (either NextRefuses (eqb k 10) _ _ (judge-refuses (importRange x10) (importDefined n x10) false (nsPlaced s (x10 .ns) (x10 .definition)) true (addImport s x10))
+    (either NextRefuses (eqb k 8) _ _ (judge-refuses (definitionRange s x8) (definitionDefined n x8) (definitionRepeated s x8)
+    (definitionPlaced s x8) (ltb (length (s .definitions)) definitionLimit) (addDefinition s x8))
+    (either NextRefuses (eqb k 9) _ _ (judge-refuses (scopeRange x9) (scopeDefined n x9) (any (sameEntry x9) (s .scopes))
+    (nsPlaced s (x9 .ns) (x9 .definition)) true (addScope s x9))
+    (either NextRefuses (eqb k 10) _ _ (judge-refuses (importRange x10) (importDefined n x10) false (nsPlaced s (x10 .ns) (x10 .definition))
+    true (addImport s x10))
     (either NextRefuses (eqb k 11) _ _ (judge-refuses true (externDefined n x11) (any (sameExtern x11) (s .externs)) true true (addExtern s x11))
     (judge-refuses (memberRange x13) (memberDefined n x13) false (memberPlaced s x13) true (addMember s x13))))))))))))
 

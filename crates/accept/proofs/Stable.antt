@@ -10,7 +10,9 @@ use Rattle.snapshot.specs.Limits.{areaLimit}
 use Rattle.snapshot.specs.Refusals.{areaRefusal}
 use Rattle.snapshot.specs.Sizes.{crateSize, dependencySize, childSize, preludeSize, definitionSize, scopeSize, importSize, externSize, memberSize}
 use Rattle.snapshot.specs.Records.{mapAt, crateAt, dependencyAt, childAt, preludeAt, definitionAt, scopeAt, importAt, externAt, memberAt}
-use Rattle.snapshot.specs.Layouts.{crateBase, dependencyBase, childBase, preludeBase, definitionBase, scopeBase, importBase, externBase, memberBase, moduleMap, moduleHead, mapRoot, ownMap, namesOf, mapsOf, modulesOf, recordsOf, snapOf, moduleTable, rootTable, crateTable, tableWords}
+use Rattle.snapshot.specs.Layouts.{crateBase, dependencyBase, childBase, preludeBase, definitionBase, scopeBase, importBase, externBase, memberBase}
+use Rattle.snapshot.specs.Layouts.{moduleMap, moduleHead, mapRoot, ownMap, namesOf, mapsOf, modulesOf, recordsOf, snapOf, moduleTable, rootTable}
+use Rattle.snapshot.specs.Layouts.{crateTable, tableWords}
 use Rattle.snapshot.specs.declared.layout.Layout.{Layout}
 use Rattle.snapshot.proofs.Laws.{rows-ext}
 use Rattle.check_rules.specs.Tests.{noMap}
@@ -42,8 +44,10 @@ module _ (W A B : List ℕ) (l : Layout) (t : Tables W A l) (kept : Kept A B 0 t
   -- the snapshot is the same
   pub snap-stays : snapOf W B l ≡ snapOf W A l
   snap-stays =
-      let q-names : namesOf W B (l .names) ≡ namesOf W A (l .names) = names-kept W A B (l .names) (t .limited .names) (λ i u v. kept i u (omega arith)) in
-      let q-modules : modulesOf B (l .modules) ≡ modulesOf A (l .modules) = modules-kept A B (l .modules) (t .limited .modules) (λ i u v. kept i (omega arith) (omega arith)) in
+      let q-names : namesOf W B (l .names) ≡ namesOf W A (l .names) = names-kept W A B (l .names) (t .limited .names)
+      (λ i u v. kept i u (omega arith)) in
+      let q-modules : modulesOf B (l .modules) ≡ modulesOf A (l .modules) = modules-kept A B (l .modules) (t .limited .modules)
+      (λ i u v. kept i (omega arith) (omega arith)) in
       let q-maps = maps-stay in
       λ i. record {
         names = q-names i;

@@ -9,7 +9,8 @@ use lib.ListN.{length, getD}
 use borrow.Author.Tests.{eqb-true, eq-eqb, ne-eqb, ltb-true, leb-true}
 use Rattle.snapshot.specs.Records.{Snapshot, Map, Module, Definition}
 use Rattle.snapshot.specs.Lists.{any}
-use Rattle.check_rules.specs.Tests.{isIn, countsOf, noMap, noModule, noDefinition, mapDefined, mapPlaced, moduleDefined, modulePlaced, definitionDefined, definitionPlaced}
+use Rattle.check_rules.specs.Tests.{isIn, countsOf, noMap, noModule, noDefinition, mapDefined, mapPlaced, moduleDefined, modulePlaced}
+use Rattle.check_rules.specs.Tests.{definitionDefined, definitionPlaced}
 use Rattle.check_rules.specs.Verdict.{accept, verdict}
 use Rattle.accept.specs.Valid.{mapIn, parentIn, crateIn, definitionIn, Tree, Enums}
 use Rattle.accept.proofs.Accepted.{Keeps, keeps-of, verdict-keeps}

@@ -24,7 +24,8 @@ answers-at W A r {k} {j} {n} {m} {x} {y} e f g a =
     subst (λ t. Answered W A t n x r) (sym e) (subst (λ t. Answered W A j t x r) (sym f) (subst (λ t. Answered W A j m t r) (sym g) a))
 
 -- the place after a record of kind j
-ends-at : (W : List ℕ) (at j : ℕ) {k next : ℕ} → k ≡ kindOf (getD W at 0) → k ≡ j → at + 1 + argumentsOf j (payOf (getD W at 0)) ≡ next → at + 1 + argumentsAt W at ≡ next
+ends-at : (W : List ℕ) (at j : ℕ) {k next : ℕ} → k ≡ kindOf (getD W at 0) → k ≡ j → at + 1 + argumentsOf j (payOf (getD W at 0)) ≡ next
+    → at + 1 + argumentsAt W at ≡ next
 ends-at W at j ek ej e = ap (λ x. at + 1 + argumentsOf x (payOf (getD W at 0))) (sym ek ∙ ej) ∙ e
 
 -- what the step of kind j asks and answers, in the terms of the record's own kind
@@ -34,10 +35,12 @@ module _ {W A : List ℕ} {l : Layout} {at k next : ℕ} (j : ℕ) (ek : (k ≡ 
     pub kind-ready : Ready W A l at (at + 1 + argumentsAt W at) → Ready W A l at next
     kind-ready r = subst (λ x. Ready W A l at x) (ends-at W at j (ek .0) ej e) r
 
-    pub kind-answers : (B : List ℕ) (r : Step) → ((ms : List Map) → Stands W A j at l ms → Answered W B j next (recordStep j W at (snapWith W A l ms)) r)
+    pub kind-answers : (B : List ℕ) (r : Step) → ((ms : List Map) → Stands W A j at l ms
+        → Answered W B j next (recordStep j W at (snapWith W A l ms)) r)
         → (ms : List Map) → Stands W A k at l ms → Answered W B k (at + 1 + argumentsAt W at) (recordStep k W at (snapWith W A l ms)) r
     kind-answers B r f ms st =
-        answers-at W B r ej (ends-at W at j (ek .0) ej e) (ap (λ x. recordStep x W at (snapWith W A l ms)) ej) (f ms (subst (λ x. Stands W A x at l ms) ej st))
+        answers-at W B r ej (ends-at W at j (ek .0) ej e) (ap (λ x. recordStep x W at (snapWith W A l ms)) ej)
+        (f ms (subst (λ x. Stands W A x at l ms) ej st))
 
 -- none of the first eleven kinds
 pub thirteen : {X : Type 0} {k w : ℕ} → (k ≡ w) × (1 ≤ k) × (k ≤ 13) × (k ≡ 12 → ⊥)
@@ -67,17 +70,23 @@ thirteen {k = k} p r =
 module _ (W : List ℕ) (at last : ℕ) (s : Snapshot) {k : ℕ} (ek : k ≡ kindOf (getD W at 0)) where
   pub turn-kind : follows last k ≡ false → stepAt W at last s ≡ no formRefusal
   unfolding stepAt
-  turn-kind h = ap (λ b. need b formRefusal (need (argumentsFrom W (at + 1) (argumentsAt W at)) formRefusal (recordStep (kindOf (getD W at 0)) W at s))) (ap (follows last) (sym ek) ∙ h)
+  turn-kind h = ap (λ b. need b formRefusal (need (argumentsFrom W (at + 1) (argumentsAt W at)) formRefusal
+      (recordStep (kindOf (getD W at 0)) W at s))) (ap (follows last) (sym ek) ∙ h)
 
-  turn-right : follows last k ≡ true → stepAt W at last s ≡ need (argumentsFrom W (at + 1) (argumentsAt W at)) formRefusal (recordStep (kindOf (getD W at 0)) W at s)
+  turn-right : follows last k ≡ true → stepAt W at last s ≡ need (argumentsFrom W (at + 1) (argumentsAt W at)) formRefusal
+      (recordStep (kindOf (getD W at 0)) W at s)
   unfolding stepAt
-  turn-right h = ap (λ b. need b formRefusal (need (argumentsFrom W (at + 1) (argumentsAt W at)) formRefusal (recordStep (kindOf (getD W at 0)) W at s))) (ap (follows last) (sym ek) ∙ h)
+  turn-right h = ap (λ b. need b formRefusal (need (argumentsFrom W (at + 1) (argumentsAt W at)) formRefusal
+      (recordStep (kindOf (getD W at 0)) W at s))) (ap (follows last) (sym ek) ∙ h)
 
-  pub turn-arguments : {n : ℕ} → follows last k ≡ true → n ≡ argumentsAt W at → argumentsFrom W (at + 1) n ≡ false → stepAt W at last s ≡ no formRefusal
-  turn-arguments h e g = turn-right h ∙ ap (λ b. need b formRefusal (recordStep (kindOf (getD W at 0)) W at s)) (ap (argumentsFrom W (at + 1)) (sym e) ∙ g)
+  pub turn-arguments : {n : ℕ} → follows last k ≡ true → n ≡ argumentsAt W at → argumentsFrom W (at + 1) n ≡ false
+      → stepAt W at last s ≡ no formRefusal
+  turn-arguments h e g = turn-right h ∙ ap (λ b. need b formRefusal (recordStep (kindOf (getD W at 0)) W at s))
+      (ap (argumentsFrom W (at + 1)) (sym e) ∙ g)
 
   pub turn-on : {n : ℕ} → follows last k ≡ true → n ≡ argumentsAt W at → argumentsFrom W (at + 1) n ≡ true → stepAt W at last s ≡ recordStep k W at s
-  turn-on h e g = turn-right h ∙ ap (λ b. need b formRefusal (recordStep (kindOf (getD W at 0)) W at s)) (ap (argumentsFrom W (at + 1)) (sym e) ∙ g) ∙ ap (λ j. recordStep j W at s) (sym ek)
+  turn-on h e g = turn-right h ∙ ap (λ b. need b formRefusal (recordStep (kindOf (getD W at 0)) W at s)) (ap (argumentsFrom W (at + 1)) (sym e) ∙ g)
+      ∙ ap (λ j. recordStep j W at s) (sym ek)
 
 pub known-kind : (last k : ℕ) → follows last k ≡ true → (1 ≤ k) × (k ≤ 13) × (k ≡ 12 → ⊥)
 known-kind last k h =
@@ -91,7 +100,8 @@ known-kind last k h =
 
 -- a record of a later kind, or a map after a module
 rises : (last k : ℕ) → follows last k ≡ true → (t : ℕ) → (t ≡ 5 → ⊥) → k < t → last < t
-rises last k h = by (leb last k) (eqb last 5) (eqb k 4) refl refl refl (and-right (leb 1 k && leb k 13 && not (eqb k 12)) (leb last k || eqb last 5 && eqb k 4) h)
+rises last k h = by (leb last k) (eqb last 5) (eqb k 4) refl refl refl (and-right (leb 1 k && leb k 13 && not (eqb k 12))
+    (leb last k || eqb last 5 && eqb k 4) h)
   where
     by : (a b c : Bool) → leb last k ≡ a → eqb last 5 ≡ b → eqb k 4 ≡ c → (a || b && c) ≡ true → (t : ℕ) → (t ≡ 5 → ⊥) → k < t → last < t
     by true b c p q r g t u v = let w : last ≤ k = leb-true last k p in omega arith
@@ -99,7 +109,8 @@ rises last k h = by (leb last k) (eqb last 5) (eqb k 4) refl refl refl (and-righ
     by false true false p q r g t u v = absurd (false≢true g)
     by false false c p q r g t u v = absurd (false≢true g)
 
-pub stands-up : (W A : List ℕ) (at : ℕ) (l : Layout) (ms : List Map) (last k : ℕ) → follows last k ≡ true → Stands W A last at l ms → Stands W A k at l ms
+pub stands-up : (W A : List ℕ) (at : ℕ) (l : Layout) (ms : List Map) (last k : ℕ) → follows last k ≡ true → Stands W A last at l ms
+    → Stands W A k at l ms
 stands-up W A at l ms last k h st =
     let up = rises last k h in
     let u = st .upto in

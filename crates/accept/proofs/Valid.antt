@@ -8,7 +8,8 @@ use Rattle.accept.specs.Valid.{Valid}
 use Rattle.accept.proofs.Ranges.{accepted-ranges, accepted-limits}
 use Rattle.accept.proofs.Trees.{accepted-tree, accepted-enums}
 use Rattle.accept.proofs.Members.{accepted-members}
-use Rattle.accept.proofs.Places.{accepted-children, accepted-scopes, accepted-imports, accepted-filled, accepted-owned, accepted-defined, accepted-once}
+use Rattle.accept.proofs.Places.{accepted-children, accepted-scopes, accepted-imports, accepted-filled, accepted-owned, accepted-defined}
+use Rattle.accept.proofs.Places.{accepted-once}
 
 pub accepted-valid : (W : List ℕ) (s : Snapshot) → verdict W ≡ accept s → Valid s
 accepted-valid W s e =

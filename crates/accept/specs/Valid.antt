@@ -6,8 +6,10 @@ use mathlib.Core.Bool.{Bool, true, false}
 use lib.ListN.{length, getD}
 use Rattle.snapshot.specs.Limits.{wordLimit, crateLimit, moduleLimit, nameLimit, definitionLimit, namespaceLimit}
 use Rattle.snapshot.specs.Words.{kindOf}
-use Rattle.snapshot.specs.Records.{Name, Crate, Dependency, Map, Module, Child, Prelude, Definition, Scope, Import, Extern, Member, Snapshot, definitionAt, scopeAt, importAt, externAt}
-use Rattle.check_rules.specs.Tests.{Counts, countsOf, noName, noMap, noModule, noDefinition, isEdition, sameName, sameChild, samePrelude, sameEntry, sameExtern}
+use Rattle.snapshot.specs.Records.{Name, Crate, Dependency, Map, Module, Child, Prelude, Definition, Scope, Import, Extern, Member, Snapshot}
+use Rattle.snapshot.specs.Records.{definitionAt, scopeAt, importAt, externAt}
+use Rattle.check_rules.specs.Tests.{Counts, countsOf, noName, noMap, noModule, noDefinition, isEdition, sameName, sameChild, samePrelude, sameEntry}
+use Rattle.check_rules.specs.Tests.{sameExtern}
 
 -- every element has P
 pub data Each {A : Type 0} (P : A → Type 0) : List A → Type 0 where
@@ -170,7 +172,8 @@ MacroOnly ds ns d = ns ≡ 2 → definitionIn ds d .kind ≡ 5
 pub record Belongs (ds : List Definition) (x : Member) : Type 0 where
   pub parent : definitionIn ds (x .parent) .kind ≡ 4
   pub variant : x .kind ≡ 0
-      → (definitionIn ds (x .definition) .kind ≡ 2) × (definitionIn ds (x .definition) .first ≡ x .parent) × (definitionIn ds (x .definition) .second ≡ x .name)
+      → (definitionIn ds (x .definition) .kind ≡ 2) × (definitionIn ds (x .definition) .first ≡ x .parent)
+      × (definitionIn ds (x .definition) .second ≡ x .name)
   pub other : (x .kind ≡ 0 → ⊥) → definitionIn ds (x .definition) .kind ≡ 4
 
 -- no later element is the same as an earlier one, by the test; d stands for what is not there

@@ -28,7 +28,9 @@ fn follows(last: usize, kind: usize) -> bool
 fn by_kind(words: &[u32], area: &mut [u32], l: Layout, at: usize, k: usize) -> Step
     requires { ⌜ Ready (now words) (now area) l at (at + 1 + argumentsAt (now words) at) ⌝ }
     requires { ⌜ (k ≡ kindOf (getD (now words) at 0)) × (1 ≤ k) × (k ≤ 13) × (k ≡ 12 → ⊥) ⌝ }
-    ensures { λ r. ⌜ ((ms : List Map) → Stands (now (words .entry)) (now (area .entry)) k at l ms → Answered (now (words .entry)) (now (area .exit)) k (at + 1 + argumentsAt (now (words .entry)) at) (recordStep k (now (words .entry)) at (snapWith (now (words .entry)) (now (area .entry)) l ms)) r) ⌝ }
+    ensures { λ r. ⌜ ((ms : List Map) → Stands (now (words .entry)) (now (area .entry)) k at l ms
+        → Answered (now (words .entry)) (now (area .exit)) k (at + 1 + argumentsAt (now (words .entry)) at)
+        (recordStep k (now (words .entry)) at (snapWith (now (words .entry)) (now (area .entry)) l ms)) r) ⌝ }
 {
     match k {
         1 => record_rules::names::step(words, area, l, at),
@@ -49,7 +51,10 @@ fn by_kind(words: &[u32], area: &mut [u32], l: Layout, at: usize, k: usize) -> S
 /// The record at a place, after one of the last kind.
 pub fn turn(words: &[u32], area: &mut [u32], l: Layout, at: usize, last: usize) -> Step
     requires { ⌜ Here (now words) (now area) l at ⌝ }
-    ensures { λ r. ⌜ ((ms : List Map) → Stands (now (words .entry)) (now (area .entry)) last at l ms → Answered (now (words .entry)) (now (area .exit)) (kindOf (getD (now (words .entry)) at 0)) (at + 1 + argumentsAt (now (words .entry)) at) (stepAt (now (words .entry)) at last (snapWith (now (words .entry)) (now (area .entry)) l ms)) r) ⌝ }
+    ensures { λ r. ⌜ ((ms : List Map) → Stands (now (words .entry)) (now (area .entry)) last at l ms
+        → Answered (now (words .entry)) (now (area .exit)) (kindOf (getD (now (words .entry)) at 0))
+        (at + 1 + argumentsAt (now (words .entry)) at)
+        (stepAt (now (words .entry)) at last (snapWith (now (words .entry)) (now (area .entry)) l ms)) r) ⌝ }
 {
     let k = kind(words, at);
     if !follows(last, k) {

@@ -50,6 +50,7 @@ module _ (W A : List ℕ) (q : Question) (r : Report) where
         area = area-large A B h z;
       }
 
-  pub answers-fault : (B : List ℕ) → areaLimit ≤ length A → B ≡ zeros areaLimit → (n : ℕ) → n ≡ callFault (length A) (q .query) (q .fuel) → (n ≡ 0 → ⊥)
+  pub answers-fault : (B : List ℕ) → areaLimit ≤ length A → B ≡ zeros areaLimit → (n : ℕ) → n ≡ callFault (length A) (q .query) (q .fuel)
+      → (n ≡ 0 → ⊥)
       → r ≡ refused n → Answers W A q (B ++ drop areaLimit A) r
   answers-fault B h z n e k p = record { report = report-fault W (length A) q r n e k p; area = area-large A B h z }

@@ -45,8 +45,10 @@ module _ (W A : List ℕ) (q : Question) (old : List ℕ) where
           area = a .area;
         }
 
-    pub lined-small : length A < areaLimit → ((s : Snapshot) (from : ℕ) → Put old 0 (lineIn s from (refused areaRefusal) ++ bytesOf "\n") new n) → Lined W A q old A new n
-    lined-small h p = lined A (refused areaRefusal) (answers-small W A q (refused areaRefusal) h refl) (p (snapshotOf (verdict W)) (q .query .from .0))
+    pub lined-small : length A < areaLimit → ((s : Snapshot) (from : ℕ) → Put old 0 (lineIn s from (refused areaRefusal) ++ bytesOf "\n") new n)
+        → Lined W A q old A new n
+    lined-small h p = lined A (refused areaRefusal) (answers-small W A q (refused areaRefusal) h refl)
+        (p (snapshotOf (verdict W)) (q .query .from .0))
 
     pub lined-large : (B : List ℕ) → areaLimit ≤ length A → B ≡ zeros areaLimit → Put old 0 (lineOf W q ++ bytesOf "\n") new n
         → Lined W A q old (B ++ drop areaLimit A) new n

@@ -29,19 +29,28 @@ module _ (W : List ℕ) (n : ℕ) (q : Question) where
   serves h = elim (decLe areaLimit n) [
     | yes p ↦ p
     | no p ↦ absurd (h (subst (λ (r : Report). IsRefused r)
-        (report-fault W n q (refused areaRefusal) areaRefusal (small n (q .query) (q .fuel) (omega arith)) (λ z. omega arith) refl) (refused-two areaRefusal)))
+        (report-fault W n q (refused areaRefusal) areaRefusal (small n (q .query) (q .fuel) (omega arith)) (λ z. omega arith) refl)
+        (refused-two areaRefusal)))
   ]
 
   fuelled : (IsRefused (reportOf W n q) → ⊥) → q .fuel ≤ fuelLimit
   fuelled h = elim (decLe (q .fuel) fuelLimit) [
     | yes p ↦ p
     | no p ↦ absurd (h (subst (λ (r : Report). IsRefused r)
-        (report-fault W n q (refused fuelRefusal) fuelRefusal (much n (q .query) (q .fuel) (serves h) (omega arith)) (λ z. omega arith) refl) (refused-two fuelRefusal)))
+        (report-fault W n q (refused fuelRefusal) fuelRefusal (much n (q .query) (q .fuel) (serves h) (omega arith)) (λ z. omega arith) refl)
+        (refused-two fuelRefusal)))
   ]
 
 told-of : (W : List ℕ) (q : Query) (F G : ℕ) (r s : Report) → Compared W areaLimit q F G → r ≡ reportAt W areaLimit q F → s ≡ reportAt W areaLimit q G
     → FuelsTold W q F G r s
-told-of W q F G r s c e f = rw (e, f) (record { snapshot = c .snapshot; accepted = c .accepted; equal = c .equal; smaller = c .smaller; larger = c .larger })
+told-of W q F G r s c e f = rw (e, f) (record {
+  snapshot = c .snapshot;
+  accepted = c .accepted;
+  equal = c .equal;
+  smaller =
+      c .smaller;
+  larger = c .larger;
+})
 
 pub told : (W : List ℕ) (a b : ℕ) (q : Query) (F G : ℕ) (r s : Report) → r ≡ reportAt W a q F → s ≡ reportAt W b q G → F < G
     → (IsRefused r → ⊥) → (IsRefused s → ⊥) → FuelsTold W q F G r s

@@ -20,7 +20,8 @@ pub fn find_path_twice(
     fuel: usize,
     more: usize,
 ) -> Reports
-    ensures { λ r. ⌜ AnswersTwice (now (words .entry)) (now (area .entry)) (now (other .entry)) q fuel more (now (area .exit)) (now (other .exit)) r ⌝ }
+    ensures { λ r. ⌜ AnswersTwice (now (words .entry)) (now (area .entry)) (now (other .entry)) q fuel more (now (area .exit))
+        (now (other .exit)) r ⌝ }
 {
     let a = Question {
         query: q,

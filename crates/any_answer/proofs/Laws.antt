@@ -1,12 +1,11 @@
 -- Laws of the answer.
-use Prim.Native.Nat.{ℕ, zero, suc, _+_, _≤_, _<_}
+use Prim.Native.Nat.{ℕ, zero, suc, _≤_, _<_}
 use mathlib.Core.Path.{_≡_, refl, sym, ap, ap₂, subst, _∙_}
 use mathlib.Core.List.{List, [], _∷_, _++_}
-use mathlib.Core.Bool.{Bool, true, false, not, true≢false}
+use mathlib.Core.Bool.{true, false, not, true≢false}
 use mathlib.Core.Option.{Option, none, some}
 use native.Mathlib.Omega.{arith}
 use borrow.Author.Tests.{le-leb, lt-leb, not-true, not-false}
-use lib.Dec.{leb}
 use lib.ListN.{length, getD, drop}
 use Rattle.snapshot.specs.Limits.{areaLimit}
 use Rattle.snapshot.specs.Refusals.{areaRefusal}
@@ -19,18 +18,19 @@ use Rattle.accept.specs.declared.check.Checked.{Checked}
 use Rattle.accept.specs.declared.check.Checked.the-variants.{Refused, Accepted}
 use Rattle.hir_def.specs.Items.{itemOf}
 use Rattle.hir_def.specs.declared.Item.{Item}
-use Rattle.nameable.specs.Paths.{Path, namesIn, namesOf, routeOf}
+use Rattle.nameable.specs.Paths.{Path, namesIn, routeOf}
 use Rattle.nameable.specs.Breadth.{found, longer, namesLimit, upTo, shortest, anyPath}
 use Rattle.find_path.specs.declared.Query.{Query}
 use Rattle.find_path.specs.Report.{callFault, questionFault}
 use Rattle.told_paths.specs.declared.ToldPath.{ToldPath}
-use Rattle.told_paths.specs.Tells.{kindOf, supersOf, padded, toldNone, tell, toldBy}
+use Rattle.told_paths.specs.Tells.{padded, toldNone, tell, toldBy}
 use Rattle.told_paths.proofs.Laws.{tell-few, tell-count, tell-found}
 use Rattle.checked.proofs.Laws.{small, same-fault, fault-known, definitions-count, modules-count}
 use Rattle.answer.specs.Answers.{zeros}
 use Rattle.answer.proofs.Areas.{area-small, area-large}
 use Rattle.any_answer.specs.declared.AnyReport.{AnyReport}
-use Rattle.any_answer.specs.Any.{anyWithout, anyRefused, anyReported, anyQuery, anyUnless, anyBy, anyAfter, anyReport, AnyAnswers, questionOf, AnyIn}
+use Rattle.any_answer.specs.Any.{anyWithout, anyRefused, anyReported, anyQuery, anyUnless, anyBy, anyAfter, anyReport, AnyAnswers, questionOf}
+use Rattle.any_answer.specs.Any.{AnyIn}
 
 up-few : (p : Path) → namesIn p ≤ namesLimit → upTo namesLimit (some p) ≡ found p
 unfolding upTo

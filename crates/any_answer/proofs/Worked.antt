@@ -5,7 +5,8 @@ use mathlib.Core.List.{List, [], _∷_}
 use Rattle.snapshot.specs.Lists.{rows, any, all, eqList}
 use Rattle.snapshot.specs.Words.{argumentsOf}
 use Rattle.check_rules.specs.Tests.{textBound, padded}
-use Rattle.check_rules.specs.Steps.{nameStep, crateStep, dependencyStep, mapStep, moduleStep, childStep, preludeStep, definitionStep, scopeStep, importStep, externStep, memberStep}
+use Rattle.check_rules.specs.Steps.{nameStep, crateStep, dependencyStep, mapStep, moduleStep, childStep, preludeStep, definitionStep, scopeStep}
+use Rattle.check_rules.specs.Steps.{importStep, externStep, memberStep}
 use Rattle.check_rules.specs.Verdict.{argumentsFrom, recordStep, stepAt, finish, records, verdict}
 use Rattle.tree_rules.specs.Modules.{placeOf, moduleOf, mapOf, rootOf, ownMap, crateRoot, orElse, containing}
 use Rattle.tree_rules.specs.Visibility.{lastOr, lastTo, last, metOr, metTo, met}
@@ -14,8 +15,10 @@ use Rattle.hir_def.specs.Finds.{firstOf, select, orFirst}
 use Rattle.hir_def.specs.Items.{definitionOf, crateData, itemOf, sameItem, nsOf, homeBy}
 use Rattle.hir_def.specs.Nameres.{stepsOr, stepsTo, steps, preludeOf}
 use Rattle.nameable.specs.Seen.{holds, declaredNs, declaredAs, declaredIn, declarationIn, declarationOf, declarationHolds, bothHold, counts, seen}
-use Rattle.nameable.specs.Paths.{namesIn, named, entriesIn, variantsIn, externsIn, absolutes, entriesOver, scopesFrom, preludeEntries, firsts, within, aboveOr, above, keywordModule, moduleNamed, after, reads, itemIn, means, namesOf, placeIn, routeOf}
-use Rattle.nameable.specs.Breadth.{isMet, withMeaning, added, nameless, single, onward, reached, isItem, firstTo, arrives, checkedPath, variantAfter, byEnum, shorter, shortestOf, shortest, upTo, anyPath}
+use Rattle.nameable.specs.Paths.{namesIn, named, entriesIn, variantsIn, externsIn, absolutes, entriesOver, scopesFrom, preludeEntries, firsts, within}
+use Rattle.nameable.specs.Paths.{aboveOr, above, keywordModule, moduleNamed, after, reads, itemIn, means, namesOf, placeIn, routeOf}
+use Rattle.nameable.specs.Breadth.{isMet, withMeaning, added, nameless, single, onward, reached, isItem, firstTo, arrives, checkedPath, variantAfter}
+use Rattle.nameable.specs.Breadth.{byEnum, shorter, shortestOf, shortest, upTo, anyPath}
 use Rattle.nameable.proofs.Worked.{head, letter, entry, workspace, over, nested}
 use Rattle.find_path.specs.Report.{callFault, questionFault}
 use Rattle.told_paths.specs.Tells.{keywordKind, kindOf, keywordSupers, supersOf, padded as filled}
@@ -54,10 +57,26 @@ pub any-reports :
     ∷ anyWithout 2 22 ∷ anyWithout 2 23 ∷ anyWithout 2 24
     ∷ anyWithout 2 20
     ∷ []
-unfolding asked found anyReport anyAfter anyBy anyUnless anyReported anyRefused anyWithout anyPath callFault questionFault kindOf keywordKind supersOf keywordSupers filled namesOf routeOf placeIn head letter entry workspace upTo shortest shortestOf shorter byEnum variantAfter checkedPath arrives firstTo isItem reached onward single nameless added withMeaning isMet means itemIn reads after moduleNamed keywordModule above aboveOr within firsts preludeEntries scopesFrom entriesOver absolutes externsIn variantsIn entriesIn named namesIn seen counts bothHold declarationHolds declarationOf declarationIn declaredIn declaredAs declaredNs holds privately moduleAround blockStep ofRoot lastOr lastTo last metOr metTo met stepsOr stepsTo steps preludeOf firstOf select orFirst itemOf sameItem nsOf homeBy definitionOf crateData moduleOf mapOf rootOf ownMap crateRoot orElse containing placeOf verdict records stepAt recordStep finish argumentsFrom argumentsOf nameStep crateStep dependencyStep mapStep moduleStep childStep preludeStep definitionStep scopeStep importStep externStep memberStep textBound padded rows any all eqList
+unfolding asked found anyReport anyAfter anyBy anyUnless anyReported anyRefused anyWithout anyPath callFault questionFault kindOf
+    keywordKind supersOf keywordSupers filled namesOf routeOf placeIn head letter entry workspace upTo shortest shortestOf shorter
+    byEnum variantAfter checkedPath arrives firstTo isItem reached onward single nameless added withMeaning isMet means itemIn
+    reads after moduleNamed keywordModule above aboveOr within firsts preludeEntries scopesFrom entriesOver absolutes externsIn
+    variantsIn entriesIn named namesIn seen counts bothHold declarationHolds declarationOf declarationIn declaredIn declaredAs
+    declaredNs holds privately moduleAround blockStep ofRoot lastOr lastTo last metOr metTo met stepsOr stepsTo steps preludeOf
+    firstOf select orFirst itemOf sameItem nsOf homeBy definitionOf crateData moduleOf mapOf rootOf ownMap crateRoot orElse
+    containing placeOf verdict records stepAt recordStep finish argumentsFrom argumentsOf nameStep crateStep dependencyStep mapStep
+    moduleStep childStep preludeStep definitionStep scopeStep importStep externStep memberStep textBound padded rows any all eqList
 any-reports = refl
 
 -- The function in the last of seventeen nested modules, from the first: every path has more than sixteen names.
 pub any-longer : asked nested 1 16 0 ≡ anyWithout 3 0
-unfolding asked found anyReport anyAfter anyBy anyUnless anyReported anyRefused anyWithout anyPath callFault questionFault kindOf keywordKind supersOf keywordSupers filled namesOf head letter entry over nested upTo shortest shortestOf shorter byEnum variantAfter checkedPath arrives firstTo isItem reached onward single nameless added withMeaning isMet means itemIn reads after moduleNamed keywordModule above aboveOr within firsts preludeEntries scopesFrom entriesOver absolutes externsIn variantsIn entriesIn named namesIn seen counts bothHold declarationHolds declarationOf declarationIn declaredIn declaredAs declaredNs holds privately moduleAround blockStep ofRoot lastOr lastTo last metOr metTo met stepsOr stepsTo steps preludeOf firstOf select orFirst itemOf sameItem nsOf homeBy definitionOf crateData moduleOf mapOf rootOf ownMap crateRoot orElse containing placeOf verdict records stepAt recordStep finish argumentsFrom argumentsOf nameStep crateStep dependencyStep mapStep moduleStep childStep preludeStep definitionStep scopeStep importStep externStep memberStep textBound padded rows any all eqList
+unfolding asked found anyReport anyAfter anyBy anyUnless anyReported anyRefused anyWithout anyPath callFault questionFault kindOf
+    keywordKind supersOf keywordSupers filled namesOf head letter entry over nested upTo shortest shortestOf shorter byEnum
+    variantAfter checkedPath arrives firstTo isItem reached onward single nameless added withMeaning isMet means itemIn reads after
+    moduleNamed keywordModule above aboveOr within firsts preludeEntries scopesFrom entriesOver absolutes externsIn variantsIn
+    entriesIn named namesIn seen counts bothHold declarationHolds declarationOf declarationIn declaredIn declaredAs declaredNs
+    holds privately moduleAround blockStep ofRoot lastOr lastTo last metOr metTo met stepsOr stepsTo steps preludeOf firstOf select
+    orFirst itemOf sameItem nsOf homeBy definitionOf crateData moduleOf mapOf rootOf ownMap crateRoot orElse containing placeOf
+    verdict records stepAt recordStep finish argumentsFrom argumentsOf nameStep crateStep dependencyStep mapStep moduleStep childStep
+    preludeStep definitionStep scopeStep importStep externStep memberStep textBound padded rows any all eqList
 any-longer = refl

@@ -4,7 +4,7 @@ ghost use lib.ListN.{length};
 ghost use Rattle.snapshot.specs.Limits.{areaLimit};
 ghost use Rattle.snapshot.specs.Layouts.{snapOf};
 ghost use Rattle.accept.specs.Post.{Reads, Judged};
-ghost use Rattle.check_rules.specs.Verdict.{verdict, accept};
+ghost use Rattle.check_rules.specs.Verdict.{accept};
 ghost use Rattle.any_answer.specs.Any.{anyBy, anyReport};
 use crate::AnyReport;
 use crate::report::refused;

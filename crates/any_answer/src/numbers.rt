@@ -13,7 +13,8 @@ pub fn any_path_in(
     names: &mut [usize; 16],
     route: &mut [usize; 16],
 ) -> usize
-    ensures { λ r. ⌜ AnyIn (now (words .entry)) (now (area .entry)) (now (question .entry)) (now (area .exit)) (now (head .exit)) (now (names .exit)) (now (route .exit)) r ⌝ }
+    ensures { λ r. ⌜ AnyIn (now (words .entry)) (now (area .entry)) (now (question .entry)) (now (area .exit)) (now (head .exit))
+        (now (names .exit)) (now (route .exit)) r ⌝ }
 {
     let ns = word(question, 0);
     let definition = word(question, 1);

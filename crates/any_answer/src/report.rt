@@ -50,7 +50,9 @@ pub(crate) fn refused(number: usize) -> AnyReport
 
 /// What was found, with its route.
 pub(crate) fn reported(t: ToldPath, route: [usize; 16]) -> AnyReport
-    ensures { λ r. ⌜ ((s : Snapshot) (from ns : ℕ) (o : Option Path) → t ≡ toldBy o → ((p : Path) → t ≡ tell p → namesIn p ≤ namesLimit → route ≡ padded (routeOf s from ns p)) → r ≡ anyReported s from ns (upTo namesLimit o)) ⌝ }
+    ensures { λ r. ⌜ ((s : Snapshot) (from ns : ℕ) (o : Option Path) → t ≡ toldBy o
+        → ((p : Path) → t ≡ tell p → namesIn p ≤ namesLimit → route ≡ padded (routeOf s from ns p))
+        → r ≡ anyReported s from ns (upTo namesLimit o)) ⌝ }
 {
     if !t.found {
         return without(AnyOutcome::NOWHERE, 0);

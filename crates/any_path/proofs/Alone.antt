@@ -1,5 +1,5 @@
 -- Names alone: those that are no modules add nothing.
-use Prim.Native.Nat.{ℕ, zero, suc, _+_, _-_, _≤_, _<_}
+use Prim.Native.Nat.{ℕ}
 use mathlib.Core.Path.{_≡_, refl, sym, ap, ap₂, subst, _∙_}
 use mathlib.Core.List.{List, [], _∷_, _++_, map, append-assoc}
 use mathlib.Core.Bool.{Bool, true, false, _&&_, true≢false}
@@ -7,10 +7,10 @@ use mathlib.Core.Option.{Option, none, some}
 use borrow.Author.Tests.{eq-eqb}
 use lib.Dec.{eqb}
 use Rattle.snapshot.specs.Records.{Snapshot, Scope, Extern}
-use Rattle.accept.specs.Valid.{Each, more}
+use Rattle.accept.specs.Valid.{Each}
 use Rattle.accept.proofs.Accepted.{by-test}
 use Rattle.accept.proofs.Bools.{each-map, each-snoc}
-use Rattle.hir_def.specs.Finds.{firstOf, orFirst, select}
+use Rattle.hir_def.specs.Finds.{orFirst, select}
 use Rattle.hir_def.specs.Items.{types, moduleKind, definitionOf, itemOf, moduleItem}
 use Rattle.hir_def.specs.declared.Item.{Item}
 use Rattle.hir_def.specs.declared.Item.the-variants.{Mod, Def}
@@ -20,7 +20,7 @@ use Rattle.nameable.specs.Paths.{Path, plain, Named, named, isSeenIn, asNamed, 
 use Rattle.nameable.specs.Breadth.{Way, isMet, withMeaning, added, single}
 use Rattle.nameable.proofs.Lists.{by-option}
 use Rattle.nameable.proofs.Reached.{each-in, named-in, item-in, with-old, with-keeps, with-meets}
-use Rattle.nameable.proofs.Queue.{added-append, first-of-append}
+use Rattle.nameable.proofs.Queue.{first-of-append}
 use Rattle.any_path.specs.Rows.{leadsOn, nameIf}
 use Rattle.any_path.specs.Plain.{isModule, namesAlone}
 

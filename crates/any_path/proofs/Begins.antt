@@ -1,7 +1,7 @@
 -- The modules that paths without names mean.
 use Prim.Native.Nat.{ℕ, zero, suc, _+_, _-_, _≤_, _<_}
 use mathlib.Core.Path.{_≡_, refl, sym, ap, ap₂, subst, _∙_}
-use mathlib.Core.List.{List, [], _∷_, map}
+use mathlib.Core.List.{List, _∷_, map}
 use mathlib.Core.Bool.{false}
 use mathlib.Core.Option.{Option, none, some}
 use native.Mathlib.Omega.{arith}

@@ -1,8 +1,8 @@
 -- Where the search finds nothing, or what the compiler refuses, and `anyPath` (any-paths of nameable/proofs/Worked.antt) another path or none.
-use Prim.Native.Nat.{ℕ, _+_, _*_}
+use Prim.Native.Nat.{ℕ}
 use Prim.Native.String.{String}
 use mathlib.Core.Path.{_≡_, refl}
-use mathlib.Core.List.{List, [], _∷_, _++_}
+use mathlib.Core.List.{[], _∷_}
 use mathlib.Core.Bool.{true}
 use Rattle.find_path.proofs.Worked.{Row, rowAt, row, passes}
 use Rattle.nameable.proofs.Worked.{head, letter, entry, workspace}

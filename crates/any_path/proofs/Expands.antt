@@ -1,7 +1,7 @@
 -- One name more after a way, entry by entry.
-use Prim.Native.Nat.{ℕ, _-_}
+use Prim.Native.Nat.{ℕ}
 use mathlib.Core.Path.{_≡_, sym, ap, _∙_}
-use mathlib.Core.List.{List, [], _∷_, _++_, map, List·Memᴰ}
+use mathlib.Core.List.{List, _∷_, map, List·Memᴰ}
 use mathlib.Core.Bool.{true, false, _&&_, true≢false}
 use mathlib.Core.Option.{Option, some}
 use lib.Dec.{eqb}

@@ -2,7 +2,6 @@
 use Prim.Native.Nat.{ℕ, suc, _-_, _≤_, _<_}
 use mathlib.Core.Path.{_≡_, refl, sym, ap, _∙_}
 use mathlib.Core.List.{List}
-use mathlib.Core.Bool.{true, false}
 use mathlib.Core.Option.{Option, none, some, Option·map}
 use native.Mathlib.Omega.{arith}
 use lib.Dec.{eqb}
@@ -13,12 +12,13 @@ use Rattle.tree_rules.specs.Modules.{crateOf}
 use Rattle.hir_def.specs.Finds.{firstOf}
 use Rattle.hir_def.specs.Items.{types, crateData, moduleItem}
 use Rattle.hir_def.specs.declared.Item.{Item}
-use Rattle.nameable.specs.Paths.{Path, keyword, absolute, plain, into, Named, named, asNamed, externNamed, externsIn, absolutes, within, moduleNamed, after, reads, itemIn, means, placeIn}
+use Rattle.nameable.specs.Paths.{Path, keyword, absolute, plain, into, named, asNamed, externNamed, absolutes, within, moduleNamed, after, reads}
+use Rattle.nameable.specs.Paths.{itemIn, means, placeIn}
 use Rattle.nameable.specs.Queue.{seenNamed}
 use Rattle.nameable.proofs.Lists.{none-some}
 use Rattle.nameable.proofs.Reached.{item-in}
 use Rattle.nameable.proofs.Lookups.{named-seen}
-use Rattle.any_path.specs.Rows.{targetAt, linkAt, nameAt, keywordFrom, pathFrom, pathTo, pathAt, wayAt, runAt, Run, Meant, InRun}
+use Rattle.any_path.specs.Rows.{targetAt, linkAt, nameAt, keywordFrom, pathFrom, pathTo, pathAt, wayAt, runAt, Meant, InRun}
 use Rattle.any_path.specs.Plain.{externsNamed}
 use Rattle.any_path.proofs.Written.{from-same, path-same}
 use Rattle.any_path.proofs.Plains.{externs-read}

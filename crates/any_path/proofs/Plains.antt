@@ -1,5 +1,5 @@
 -- What a name alone means, and the names alone offered one after the other.
-use Prim.Native.Nat.{ℕ, zero, suc, _+_, _-_, _*_, _≤_, _<_}
+use Prim.Native.Nat.{ℕ, suc, _+_, _-_, _*_, _≤_, _<_}
 use mathlib.Core.Path.{_≡_, refl, sym, ap, ap₂, subst, _∙_}
 use mathlib.Core.List.{List, [], _∷_, _++_, map}
 use mathlib.Core.Bool.{Bool, true, false, _&&_}
@@ -36,7 +36,8 @@ use Rattle.hir_def.specs.declared.Item.{Item}
 use Rattle.hir_def.specs.declared.Item.the-variants.{Mod, Def}
 use Rattle.hir_def.proofs.Laws.{steps-more}
 use Rattle.hir_def.proofs.Ancestors.{first-here, first-end, first-on}
-use Rattle.nameable.specs.Paths.{Path, plain, Named, named, isSeenIn, asNamed, entriesIn, externNamed, externsIn, entriesOver, scopesFrom, preludeEntries, firsts, reads, itemIn, means, placeIn}
+use Rattle.nameable.specs.Paths.{Path, plain, Named, named, isSeenIn, asNamed, entriesIn, externNamed, externsIn, entriesOver, scopesFrom}
+use Rattle.nameable.specs.Paths.{preludeEntries, firsts, reads, itemIn, means, placeIn}
 use Rattle.nameable.specs.Breadth.{Way, withMeaning, added, single}
 use Rattle.nameable.specs.Queue.{seenNamed}
 use Rattle.nameable.proofs.Lists.{by-option}
@@ -46,7 +47,7 @@ use Rattle.nameable.proofs.Queue.{added-append, first-of-append}
 use Rattle.nameable.proofs.Lookups.{named-seen, first-mapped}
 use Rattle.readings.specs.Reads.{externNamed as externOfName}
 use Rattle.seen_entries.proofs.Laws.{step-falls}
-use Rattle.any_path.specs.Rows.{pathFrom, pathAt, runAt, Run, Stays, Grown, Offered, leadsOn, nameIf}
+use Rattle.any_path.specs.Rows.{pathFrom, runAt, Run, Stays, Grown, Offered, leadsOn, nameIf}
 use Rattle.any_path.specs.Plain.{scopesNamed, externsNamed, namedIn, preludeNamed, moduleNo, moduleIn, isModule, namesAlone}
 use Rattle.any_path.proofs.Taken.{unchanged, as-run, grown-then, stays-snap}
 use Rattle.any_path.proofs.Alone.{alone-append, alone-single, alone-next, lead-test, extern-test}
@@ -412,7 +413,8 @@ module _ (W A : List ℕ) (l : Layout) (r : Reads W A l) (from n : ℕ) where
           }
 
     pub around-done : blockStep (snapOf W C l) m ≡ 0
-        → Grown (l .modules) A n C p (added (snapOf W A l) from (runAt A n) (namesAlone (entriesOver (snapOf W A l) from types (scopesFrom (snapOf W A l) from))))
+        → Grown (l .modules) A n C p
+        (added (snapOf W A l) from (runAt A n) (namesAlone (entriesOver (snapOf W A l) from types (scopesFrom (snapOf W A l) from))))
     unfolding scopesFrom stepsOr entriesOver namesAlone select added
     around-done e =
         let end : steps (blockStep s) m ≡ [] =
@@ -423,7 +425,9 @@ module _ (W A : List ℕ) (l : Layout) (r : Reads W A l) (from n : ℕ) where
         (as-run (grown-then (inv .grown) g))
 
   pub prelude-passed : Run (l .modules) A n → preludeOf (snapOf W A l) (mapNo (snapOf W A l) from) ≡ none
-      → Grown (l .modules) A n A n (added (snapOf W A l) from (runAt A n) (namesAlone (preludeEntries (snapOf W A l) from types (preludeOf (snapOf W A l) (mapNo (snapOf W A l) from)))))
+      → Grown (l .modules) A n A n
+      (added (snapOf W A l) from (runAt A n)
+      (namesAlone (preludeEntries (snapOf W A l) from types (preludeOf (snapOf W A l) (mapNo (snapOf W A l) from)))))
   unfolding preludeEntries namesAlone select added
   prelude-passed run e =
       subst (λ (o : Option Prelude). Grown (l .modules) A n A n (added s from (runAt A n) (namesAlone (preludeEntries s from types o)))) (sym e)
@@ -431,7 +435,9 @@ module _ (W A : List ℕ) (l : Layout) (r : Reads W A l) (from n : ℕ) where
 
   pub prelude-offered : {B : List ℕ} {c t : ℕ} (p : Prelude) → preludeOf (snapOf W A l) (mapNo (snapOf W A l) from) ≡ some p → t ≡ p .target
       → Grown (l .modules) A n B c (added (snapOf W A l) from (runAt A n) (namesAlone (entriesIn (snapOf W A l) from types t)))
-      → Grown (l .modules) A n B c (added (snapOf W A l) from (runAt A n) (namesAlone (preludeEntries (snapOf W A l) from types (preludeOf (snapOf W A l) (mapNo (snapOf W A l) from)))))
+      → Grown (l .modules) A n B c
+      (added (snapOf W A l) from (runAt A n)
+      (namesAlone (preludeEntries (snapOf W A l) from types (preludeOf (snapOf W A l) (mapNo (snapOf W A l) from)))))
   unfolding preludeEntries
   prelude-offered {B} {c} p e et g =
       subst (λ (o : Option Prelude). Grown (l .modules) A n B c (added s from (runAt A n) (namesAlone (preludeEntries s from types o)))) (sym e)
@@ -439,9 +445,12 @@ module _ (W A : List ℕ) (l : Layout) (r : Reads W A l) (from n : ℕ) where
 
   -- the three of them
   pub plains-done : {B C D : List ℕ} {c p q : ℕ}
-      → Grown (l .modules) A n B c (added (snapOf W A l) from (runAt A n) (namesAlone (entriesOver (snapOf W A l) from types (scopesFrom (snapOf W A l) from))))
+      → Grown (l .modules) A n B c
+      (added (snapOf W A l) from (runAt A n) (namesAlone (entriesOver (snapOf W A l) from types (scopesFrom (snapOf W A l) from))))
       → Grown (l .modules) B c C p (added (snapOf W B l) from (runAt B c) (namesAlone (externsIn (snapOf W B l) from types)))
-      → Grown (l .modules) C p D q (added (snapOf W C l) from (runAt C p) (namesAlone (preludeEntries (snapOf W C l) from types (preludeOf (snapOf W C l) (mapNo (snapOf W C l) from)))))
+      → Grown (l .modules) C p D q
+      (added (snapOf W C l) from (runAt C p)
+      (namesAlone (preludeEntries (snapOf W C l) from types (preludeOf (snapOf W C l) (mapNo (snapOf W C l) from)))))
       → Grown (l .modules) A n D q (added (snapOf W A l) from (runAt A n) (single true (snapOf W A l) from types))
   unfolding firsts
   plains-done {B} {C} {D} {c} {p} {q} f g h =

@@ -1,7 +1,7 @@
 -- Rows taken up one after the other.
 use Prim.Native.Nat.{ℕ, suc, _+_, _-_, _≤_, _<_}
 use mathlib.Core.Path.{_≡_, refl, sym, ap, subst, _∙_}
-use mathlib.Core.List.{List, [], _∷_, _++_, map}
+use mathlib.Core.List.{List, [], _∷_}
 use mathlib.Core.Option.{Option, none, some}
 use native.Mathlib.Omega.{arith}
 use lib.ListN.{length, getD}
@@ -11,7 +11,7 @@ use Rattle.snapshot.specs.Layouts.{snapOf}
 use Rattle.snapshot.specs.declared.layout.Layout.{Layout}
 use Rattle.snapshot.proofs.Laws.{rows-next, rows-none, rows-whole, length-rows, getD-rows}
 use Rattle.accept.specs.Post.{Reads}
-use Rattle.accept.specs.Valid.{Each, more}
+use Rattle.accept.specs.Valid.{Each}
 use Rattle.accept.proofs.Accepted.{by-test}
 use Rattle.accept.proofs.Bools.{each-snoc, each-rows}
 use Rattle.module_tree.proofs.Reading.{length-modules}

@@ -1,7 +1,7 @@
 -- A row is taken up, one entry after the other.
 use Prim.Native.Nat.{ℕ, suc, _+_, _-_, _*_, _≤_, _<_}
 use mathlib.Core.Path.{_≡_, refl, sym, ap, ap₂, subst, _∙_}
-use mathlib.Core.List.{List, [], _∷_, List·Memᴰ, Memᴰ·cast}
+use mathlib.Core.List.{List, List·Memᴰ, Memᴰ·cast}
 use mathlib.Core.Bool.{true, false, _&&_}
 use mathlib.Core.Option.{some}
 use native.Mathlib.Omega.{arith}

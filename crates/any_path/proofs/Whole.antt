@@ -1,7 +1,7 @@
 -- A whole run: of the paths that begin with a name, or of those that don't.
 use Prim.Native.Nat.{ℕ}
 use mathlib.Core.Path.{_≡_, sym, ap, ap₂, subst, _∙_}
-use mathlib.Core.List.{List, []}
+use mathlib.Core.List.{List}
 use mathlib.Core.Bool.{Bool, true}
 use lib.ListN.{length}
 use Rattle.snapshot.specs.Lists.{rows}

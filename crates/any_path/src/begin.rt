@@ -1,5 +1,4 @@
 //! The modules that paths without names mean.
-ghost use mathlib.Core.Path.{_≡_};
 ghost use mathlib.Core.List.{map};
 ghost use mathlib.Core.Bool.{false};
 ghost use Prim.Native.Nat.{_≤_, _<_};
@@ -24,7 +23,9 @@ use snapshot::layout::Layout;
 // The modules that `super`, one time and more, means.
 fn offer_supers(words: &[u32], area: &mut [u32], l: Layout, from: ModuleId, n: usize) -> usize
     requires { ⌜ Reads (now words) (now area) l × (from .0 < l .modules) × Run (l .modules) (now area) n ⌝ }
-    ensures { λ r. ⌜ Grown (l .modules) (now (area .entry)) n (now (area .exit)) r (added (snapOf (now (words .entry)) (now (area .entry)) l) (from .0) (runAt (now (area .entry)) n) (map keyword (rows supers 1 (length (snapOf (now (words .entry)) (now (area .entry)) l .modules))))) ⌝ }
+    ensures { λ r. ⌜ Grown (l .modules) (now (area .entry)) n (now (area .exit)) r
+        (added (snapOf (now (words .entry)) (now (area .entry)) l) (from .0) (runAt (now (area .entry)) n)
+        (map keyword (rows supers 1 (length (snapOf (now (words .entry)) (now (area .entry)) l .modules))))) ⌝ }
 {
     let mut m = module_around(words, area, l, from);
     let mut count = n;
@@ -48,7 +49,8 @@ fn offer_supers(words: &[u32], area: &mut [u32], l: Layout, from: ModuleId, n: u
 // The modules that `self`, `crate` and `super` mean.
 pub(crate) fn begin(words: &[u32], area: &mut [u32], l: Layout, from: ModuleId) -> usize
     requires { ⌜ Reads (now words) (now area) l × (from .0 < l .modules) × (rowAt moduleLimit ≤ length (now area)) ⌝ }
-    ensures { λ r. ⌜ Grown (l .modules) (now (area .entry)) 0 (now (area .exit)) r (begun false (snapOf (now (words .entry)) (now (area .entry)) l) (from .0)) ⌝ }
+    ensures { λ r. ⌜ Grown (l .modules) (now (area .entry)) 0 (now (area .exit)) r
+        (begun false (snapOf (now (words .entry)) (now (area .entry)) l) (from .0)) ⌝ }
 {
     let around = module_around(words, area, l, from);
     let root = crate_root(words, area, l, from);

@@ -1,6 +1,5 @@
 //! A row taken up: the modules that one name more means.
 ghost use mathlib.Core.Path.{_≡_};
-ghost use mathlib.Core.List.{List};
 ghost use Prim.Native.Nat.{_<_};
 ghost use Rattle.snapshot.specs.Records.{scopeAt};
 ghost use Rattle.snapshot.specs.Layouts.{snapOf};
@@ -51,8 +50,11 @@ fn offer_entry(
     n: usize,
     h: usize,
 ) -> usize
-    requires { ⌜ Reads (now words) (now area) l × (from .0 < l .modules) × ScopeFits (countsIn l) (scopeAt (now words) h) × Run (l .modules) (now area) n × (i < n) ⌝ }
-    ensures { λ r. ⌜ Grown (l .modules) (now (area .entry)) n (now (area .exit)) r (withEntry (snapOf (now (words .entry)) (now (area .entry)) l) (from .0) (runAt (now (area .entry)) n) (wayAt (now (area .entry)) i) (scopeAt (now (words .entry)) h)) ⌝ }
+    requires { ⌜ Reads (now words) (now area) l × (from .0 < l .modules) × ScopeFits (countsIn l) (scopeAt (now words) h)
+        × Run (l .modules) (now area) n × (i < n) ⌝ }
+    ensures { λ r. ⌜ Grown (l .modules) (now (area .entry)) n (now (area .exit)) r
+        (withEntry (snapOf (now (words .entry)) (now (area .entry)) l) (from .0) (runAt (now (area .entry)) n)
+        (wayAt (now (area .entry)) i) (scopeAt (now (words .entry)) h)) ⌝ }
 {
     let m = ModuleId(word(area, Row::BASE + Row::SIZE * i));
     if leads_on(words, area, l, from, m, h) {
@@ -78,8 +80,11 @@ pub(crate) fn expand(
     i: usize,
     n: usize,
 ) -> usize
-    requires { ⌜ Reads (now words) (now area) l × (from .0 < l .modules) × Run (l .modules) (now area) n × (i < n) × Meant (snapOf (now words) (now area) l) (from .0) (wayAt (now area) i) ⌝ }
-    ensures { λ r. ⌜ Grown (l .modules) (now (area .entry)) n (now (area .exit)) r (added (snapOf (now (words .entry)) (now (area .entry)) l) (from .0) (runAt (now (area .entry)) n) (pathsAfter (snapOf (now (words .entry)) (now (area .entry)) l) (from .0) types (wayAt (now (area .entry)) i))) ⌝ }
+    requires { ⌜ Reads (now words) (now area) l × (from .0 < l .modules) × Run (l .modules) (now area) n × (i < n)
+        × Meant (snapOf (now words) (now area) l) (from .0) (wayAt (now area) i) ⌝ }
+    ensures { λ r. ⌜ Grown (l .modules) (now (area .entry)) n (now (area .exit)) r
+        (added (snapOf (now (words .entry)) (now (area .entry)) l) (from .0) (runAt (now (area .entry)) n)
+        (pathsAfter (snapOf (now (words .entry)) (now (area .entry)) l) (from .0) types (wayAt (now (area .entry)) i))) ⌝ }
 {
     let base = l.scope_base();
     let scopes = l.scopes;

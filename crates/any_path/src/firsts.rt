@@ -1,5 +1,4 @@
 //! The modules that one name alone means, in the order in which a name is looked up.
-ghost use mathlib.Core.Path.{_≡_};
 ghost use mathlib.Core.Bool.{true};
 ghost use mathlib.Core.List.{[], _∷_};
 ghost use Prim.Native.Nat.{_<_};
@@ -49,7 +48,8 @@ fn offer_plain(
     name: Name,
 ) -> usize
     requires { ⌜ Reads (now words) (now area) l × (from .0 < l .modules) × Run (l .modules) (now area) n × (name .0 < l .names) ⌝ }
-    ensures { λ r. ⌜ Grown (l .modules) (now (area .entry)) n (now (area .exit)) r (added (snapOf (now (words .entry)) (now (area .entry)) l) (from .0) (runAt (now (area .entry)) n) (plain (name .0) ∷ [])) ⌝ }
+    ensures { λ r. ⌜ Grown (l .modules) (now (area .entry)) n (now (area .exit)) r
+        (added (snapOf (now (words .entry)) (now (area .entry)) l) (from .0) (runAt (now (area .entry)) n) (plain (name .0) ∷ [])) ⌝ }
 {
     let r = read_plain(words, area, l, from, Namespace::TYPES, name);
     let OptModule::Module(m) = module_read(words, l, r) else {
@@ -74,8 +74,12 @@ fn offer_lead(
     n: usize,
     h: usize,
 ) -> usize
-    requires { ⌜ Reads (now words) (now area) l × (from .0 < l .modules) × ScopeFits (countsIn l) (scopeAt (now words) h) × Run (l .modules) (now area) n ⌝ }
-    ensures { λ r. ⌜ Grown (l .modules) (now (area .entry)) n (now (area .exit)) r (nameIf (snapOf (now (words .entry)) (now (area .entry)) l) (from .0) (runAt (now (area .entry)) n) (leadsOn (snapOf (now (words .entry)) (now (area .entry)) l) (from .0) (m .0) (scopeAt (now (words .entry)) h)) (scopeAt (now (words .entry)) h .name)) ⌝ }
+    requires { ⌜ Reads (now words) (now area) l × (from .0 < l .modules) × ScopeFits (countsIn l) (scopeAt (now words) h)
+        × Run (l .modules) (now area) n ⌝ }
+    ensures { λ r. ⌜ Grown (l .modules) (now (area .entry)) n (now (area .exit)) r
+        (nameIf (snapOf (now (words .entry)) (now (area .entry)) l) (from .0) (runAt (now (area .entry)) n)
+        (leadsOn (snapOf (now (words .entry)) (now (area .entry)) l) (from .0) (m .0) (scopeAt (now (words .entry)) h))
+        (scopeAt (now (words .entry)) h .name)) ⌝ }
 {
     if leads_on(words, area, l, from, m, h) {
         return offer_plain(words, area, l, from, n, scope_name(words, h));
@@ -93,7 +97,9 @@ fn offer_scope(
     n: usize,
 ) -> usize
     requires { ⌜ Reads (now words) (now area) l × (from .0 < l .modules) × Run (l .modules) (now area) n ⌝ }
-    ensures { λ r. ⌜ Grown (l .modules) (now (area .entry)) n (now (area .exit)) r (added (snapOf (now (words .entry)) (now (area .entry)) l) (from .0) (runAt (now (area .entry)) n) (namesAlone (entriesIn (snapOf (now (words .entry)) (now (area .entry)) l) (from .0) types (m .0)))) ⌝ }
+    ensures { λ r. ⌜ Grown (l .modules) (now (area .entry)) n (now (area .exit)) r
+        (added (snapOf (now (words .entry)) (now (area .entry)) l) (from .0) (runAt (now (area .entry)) n)
+        (namesAlone (entriesIn (snapOf (now (words .entry)) (now (area .entry)) l) (from .0) types (m .0)))) ⌝ }
 {
     let base = l.scope_base();
     let scopes = l.scopes;
@@ -109,7 +115,10 @@ fn offer_scope(
 // Those of the viewer's scope and of the scopes around its blocks.
 fn offer_scopes(words: &[u32], area: &mut [u32], l: Layout, from: ModuleId, n: usize) -> usize
     requires { ⌜ Reads (now words) (now area) l × (from .0 < l .modules) × Run (l .modules) (now area) n ⌝ }
-    ensures { λ r. ⌜ Grown (l .modules) (now (area .entry)) n (now (area .exit)) r (added (snapOf (now (words .entry)) (now (area .entry)) l) (from .0) (runAt (now (area .entry)) n) (namesAlone (entriesOver (snapOf (now (words .entry)) (now (area .entry)) l) (from .0) types (scopesFrom (snapOf (now (words .entry)) (now (area .entry)) l) (from .0))))) ⌝ }
+    ensures { λ r. ⌜ Grown (l .modules) (now (area .entry)) n (now (area .exit)) r
+        (added (snapOf (now (words .entry)) (now (area .entry)) l) (from .0) (runAt (now (area .entry)) n)
+        (namesAlone (entriesOver (snapOf (now (words .entry)) (now (area .entry)) l) (from .0) types
+        (scopesFrom (snapOf (now (words .entry)) (now (area .entry)) l) (from .0))))) ⌝ }
 {
     let mut m = from;
     let mut count = n;
@@ -132,8 +141,11 @@ fn offer_owned(
     n: usize,
     h: usize,
 ) -> usize
-    requires { ⌜ Reads (now words) (now area) l × (from .0 < l .modules) × ExternFits (countsIn l) (externAt (now words) h) × Run (l .modules) (now area) n ⌝ }
-    ensures { λ r. ⌜ Grown (l .modules) (now (area .entry)) n (now (area .exit)) r (nameIf (snapOf (now (words .entry)) (now (area .entry)) l) (from .0) (runAt (now (area .entry)) n) (eqb (externAt (now (words .entry)) h .owner) (c .0)) (externAt (now (words .entry)) h .name)) ⌝ }
+    requires { ⌜ Reads (now words) (now area) l × (from .0 < l .modules) × ExternFits (countsIn l) (externAt (now words) h)
+        × Run (l .modules) (now area) n ⌝ }
+    ensures { λ r. ⌜ Grown (l .modules) (now (area .entry)) n (now (area .exit)) r
+        (nameIf (snapOf (now (words .entry)) (now (area .entry)) l) (from .0) (runAt (now (area .entry)) n)
+        (eqb (externAt (now (words .entry)) h .owner) (c .0)) (externAt (now (words .entry)) h .name)) ⌝ }
 {
     let owner = extern_owner(words, h);
     if owner.0 != c.0 {
@@ -145,7 +157,9 @@ fn offer_owned(
 // The names of the externs of the viewer's crate.
 fn offer_externs(words: &[u32], area: &mut [u32], l: Layout, from: ModuleId, n: usize) -> usize
     requires { ⌜ Reads (now words) (now area) l × (from .0 < l .modules) × Run (l .modules) (now area) n ⌝ }
-    ensures { λ r. ⌜ Grown (l .modules) (now (area .entry)) n (now (area .exit)) r (added (snapOf (now (words .entry)) (now (area .entry)) l) (from .0) (runAt (now (area .entry)) n) (namesAlone (externsIn (snapOf (now (words .entry)) (now (area .entry)) l) (from .0) types))) ⌝ }
+    ensures { λ r. ⌜ Grown (l .modules) (now (area .entry)) n (now (area .exit)) r
+        (added (snapOf (now (words .entry)) (now (area .entry)) l) (from .0) (runAt (now (area .entry)) n)
+        (namesAlone (externsIn (snapOf (now (words .entry)) (now (area .entry)) l) (from .0) types))) ⌝ }
 {
     let c = krate(words, area, l, from);
     let base = l.extern_base();
@@ -162,7 +176,10 @@ fn offer_externs(words: &[u32], area: &mut [u32], l: Layout, from: ModuleId, n: 
 // Those of the prelude of the viewer's map.
 fn offer_prelude(words: &[u32], area: &mut [u32], l: Layout, from: ModuleId, n: usize) -> usize
     requires { ⌜ Reads (now words) (now area) l × (from .0 < l .modules) × Run (l .modules) (now area) n ⌝ }
-    ensures { λ r. ⌜ Grown (l .modules) (now (area .entry)) n (now (area .exit)) r (added (snapOf (now (words .entry)) (now (area .entry)) l) (from .0) (runAt (now (area .entry)) n) (namesAlone (preludeEntries (snapOf (now (words .entry)) (now (area .entry)) l) (from .0) types (preludeOf (snapOf (now (words .entry)) (now (area .entry)) l) (mapNo (snapOf (now (words .entry)) (now (area .entry)) l) (from .0)))))) ⌝ }
+    ensures { λ r. ⌜ Grown (l .modules) (now (area .entry)) n (now (area .exit)) r
+        (added (snapOf (now (words .entry)) (now (area .entry)) l) (from .0) (runAt (now (area .entry)) n)
+        (namesAlone (preludeEntries (snapOf (now (words .entry)) (now (area .entry)) l) (from .0) types
+        (preludeOf (snapOf (now (words .entry)) (now (area .entry)) l) (mapNo (snapOf (now (words .entry)) (now (area .entry)) l) (from .0)))))) ⌝ }
 {
     let Entry::At(p) = prelude_of(words, l, map(words, area, l, from)) else {
         return n;
@@ -179,7 +196,9 @@ pub(crate) fn offer_plains(
     n: usize,
 ) -> usize
     requires { ⌜ Reads (now words) (now area) l × (from .0 < l .modules) × Run (l .modules) (now area) n ⌝ }
-    ensures { λ r. ⌜ Grown (l .modules) (now (area .entry)) n (now (area .exit)) r (added (snapOf (now (words .entry)) (now (area .entry)) l) (from .0) (runAt (now (area .entry)) n) (single true (snapOf (now (words .entry)) (now (area .entry)) l) (from .0) types)) ⌝ }
+    ensures { λ r. ⌜ Grown (l .modules) (now (area .entry)) n (now (area .exit)) r
+        (added (snapOf (now (words .entry)) (now (area .entry)) l) (from .0) (runAt (now (area .entry)) n)
+        (single true (snapOf (now (words .entry)) (now (area .entry)) l) (from .0) types)) ⌝ }
 {
     let near = offer_scopes(words, area, l, from, n);
     let outer = offer_externs(words, area, l, from, near);

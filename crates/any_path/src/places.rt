@@ -24,7 +24,8 @@ use snapshot::words::word;
 
 // The place of an entry or an extern, 0 for none.
 fn entry_place(e: Entry) -> usize
-    ensures { λ r. ⌜ ((s : Snapshot) (W : List ℕ) → (r ≡ placeIn (Option·map (asNamed s) (entryOf scopeAt W e))) × (r ≡ placeIn (Option·map externNamed (entryOf externAt W e)))) ⌝ }
+    ensures { λ r. ⌜ ((s : Snapshot) (W : List ℕ) → (r ≡ placeIn (Option·map (asNamed s) (entryOf scopeAt W e)))
+        × (r ≡ placeIn (Option·map externNamed (entryOf externAt W e)))) ⌝ }
 {
     match e {
         Entry::At(h) => h,
@@ -32,9 +33,11 @@ fn entry_place(e: Entry) -> usize
     }
 }
 
-/// The place of the record by which the last name of the path of the row number i is read, 0 for a keyword. It is looked up again: a path has few names.
+/// The place of the record by which the last name of the path of the row number i is read, 0 for a keyword. It is looked up again: a path
+/// has few names.
 pub fn row_place(words: &[u32], area: &[u32], l: Layout, from: ModuleId, i: usize) -> usize
-    requires { ⌜ Reads (now words) (now area) l × (from .0 < l .modules) × InRun (snapOf (now words) (now area) l) (from .0) (l .modules) (now area) i ⌝ }
+    requires { ⌜ Reads (now words) (now area) l × (from .0 < l .modules)
+        × InRun (snapOf (now words) (now area) l) (from .0) (l .modules) (now area) i ⌝ }
     ensures { λ r. ⌜ r ≡ placeIn (reads (snapOf (now (words .entry)) (now (area .entry)) l) (from .0) types (pathAt (now (area .entry)) i)) ⌝ }
 {
     let at = Row::BASE + Row::SIZE * i;

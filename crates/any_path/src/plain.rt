@@ -46,7 +46,8 @@ fn scopes_named(
     name: Name,
 ) -> Entry
     requires { ⌜ Reads (now words) (now area) l × (from .0 < l .modules) ⌝ }
-    ensures { λ r. ⌜ entryOf scopeAt (now (words .entry)) r ≡ scopesNamed (snapOf (now (words .entry)) (now (area .entry)) l) (from .0) ns (name .0) ⌝ }
+    ensures { λ r. ⌜ entryOf scopeAt (now (words .entry)) r ≡ scopesNamed (snapOf (now (words .entry)) (now (area .entry)) l)
+        (from .0) ns (name .0) ⌝ }
 {
     let mut m = from;
     loop {
@@ -71,7 +72,8 @@ fn prelude_named(
     name: Name,
 ) -> Entry
     requires { ⌜ Reads (now words) (now area) l × (from .0 < l .modules) ⌝ }
-    ensures { λ r. ⌜ entryOf scopeAt (now (words .entry)) r ≡ preludeNamed (snapOf (now (words .entry)) (now (area .entry)) l) (from .0) ns (name .0) ⌝ }
+    ensures { λ r. ⌜ entryOf scopeAt (now (words .entry)) r ≡ preludeNamed (snapOf (now (words .entry)) (now (area .entry)) l)
+        (from .0) ns (name .0) ⌝ }
 {
     let Entry::At(p) = prelude_of(words, l, map(words, area, l, from)) else {
         return Entry::Nothing;
@@ -89,7 +91,8 @@ pub(crate) fn externs_named(
     name: Name,
 ) -> Entry
     requires { ⌜ Reads (now words) (now area) l × (from .0 < l .modules) ⌝ }
-    ensures { λ r. ⌜ entryOf externAt (now (words .entry)) r ≡ externsNamed (snapOf (now (words .entry)) (now (area .entry)) l) (from .0) ns (name .0) ⌝ }
+    ensures { λ r. ⌜ entryOf externAt (now (words .entry)) r ≡ externsNamed (snapOf (now (words .entry)) (now (area .entry)) l)
+        (from .0) ns (name .0) ⌝ }
 {
     if ns != Namespace::TYPES {
         return Entry::Nothing;
@@ -107,7 +110,8 @@ pub fn read_plain(
     name: Name,
 ) -> Reading
     requires { ⌜ Reads (now words) (now area) l × (from .0 < l .modules) ⌝ }
-    ensures { λ r. ⌜ recordRead (snapOf (now (words .entry)) (now (area .entry)) l) (now (words .entry)) r ≡ reads (snapOf (now (words .entry)) (now (area .entry)) l) (from .0) ns (plain (name .0)) ⌝ }
+    ensures { λ r. ⌜ recordRead (snapOf (now (words .entry)) (now (area .entry)) l) (now (words .entry)) r
+        ≡ reads (snapOf (now (words .entry)) (now (area .entry)) l) (from .0) ns (plain (name .0)) ⌝ }
 {
     let near = scopes_named(words, area, l, from, ns, name);
     if let Entry::At(h) = near {
@@ -126,7 +130,9 @@ pub fn read_plain(
 // The module that the entry with its head at a place stands for.
 fn entry_module(words: &[u32], l: Layout, h: usize) -> OptModule
     requires { ⌜ wordCount l < 2 ^ 32 ⌝ }
-    ensures { λ r. ⌜ ((A : List ℕ) → plusOne r ≡ moduleNo (itemOf (snapOf (now (words .entry)) A l) (scopeAt (now (words .entry)) h .ns) (scopeAt (now (words .entry)) h .definition))) ⌝ }
+    ensures { λ r. ⌜ ((A : List ℕ)
+        → plusOne r ≡ moduleNo (itemOf (snapOf (now (words .entry)) A l) (scopeAt (now (words .entry)) h .ns)
+        (scopeAt (now (words .entry)) h .definition))) ⌝ }
 {
     match item_of(words, l, scope_ns(words, h), scope_definition(words, h)) {
         Item::Mod(m) => OptModule::Module(m),

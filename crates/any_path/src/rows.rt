@@ -38,7 +38,8 @@ pub(crate) fn is_met(area: &[u32], n: usize, m: usize) -> bool
 
 // A row goes to the end of n, unless its module has one.
 pub(crate) fn offer(area: &mut [u32], modules: usize, n: usize, row: Row) -> usize
-    requires { ⌜ Run modules (now area) n × (modules ≤ moduleLimit) × (row .target < modules) × (row .link < n + 3) × (row .name < 2 ^ 32) × (row .place < 2 ^ 32) ⌝ }
+    requires { ⌜ Run modules (now area) n × (modules ≤ moduleLimit) × (row .target < modules) × (row .link < n + 3)
+        × (row .name < 2 ^ 32) × (row .place < 2 ^ 32) ⌝ }
     ensures { λ r. ⌜ Offered modules (now (area .entry)) n (row .target) (row .link) (row .name) (now (area .exit)) r ⌝ }
 {
     if is_met(area, n, row.target) {

@@ -1,5 +1,4 @@
 //! Rows taken up one after the other.
-ghost use mathlib.Core.Path.{_≡_};
 ghost use mathlib.Core.Bool.{true, false};
 ghost use Prim.Native.Nat.{_≤_, _<_};
 ghost use lib.ListN.{length};
@@ -26,8 +25,11 @@ pub(crate) fn expand_all(
     from: ModuleId,
     n: usize,
 ) -> usize
-    requires { ⌜ Reads (now words) (now area) l × (from .0 < l .modules) × Run (l .modules) (now area) n × Each (Meant (snapOf (now words) (now area) l) (from .0)) (runAt (now area) n) ⌝ }
-    ensures { λ r. ⌜ Grown (l .modules) (now (area .entry)) n (now (area .exit)) r (added (snapOf (now (words .entry)) (now (area .entry)) l) (from .0) (runAt (now (area .entry)) n) (onward (snapOf (now (words .entry)) (now (area .entry)) l) (from .0) types (runAt (now (area .entry)) n))) ⌝ }
+    requires { ⌜ Reads (now words) (now area) l × (from .0 < l .modules) × Run (l .modules) (now area) n
+        × Each (Meant (snapOf (now words) (now area) l) (from .0)) (runAt (now area) n) ⌝ }
+    ensures { λ r. ⌜ Grown (l .modules) (now (area .entry)) n (now (area .exit)) r
+        (added (snapOf (now (words .entry)) (now (area .entry)) l) (from .0) (runAt (now (area .entry)) n)
+        (onward (snapOf (now (words .entry)) (now (area .entry)) l) (from .0) types (runAt (now (area .entry)) n))) ⌝ }
 {
     let mut count = n;
     let mut i = 0;
@@ -47,8 +49,11 @@ pub(crate) fn take_up(
     start: usize,
     n: usize,
 ) -> usize
-    requires { ⌜ Reads (now words) (now area) l × (from .0 < l .modules) × Run (l .modules) (now area) n × Each (Meant (snapOf (now words) (now area) l) (from .0)) (runAt (now area) n) ⌝ }
-    ensures { λ r. ⌜ Grown (l .modules) (now (area .entry)) n (now (area .exit)) r (queue (snapOf (now (words .entry)) (now (area .entry)) l) (from .0) (length (snapOf (now (words .entry)) (now (area .entry)) l .modules)) (runAt (now (area .entry)) n) start) ⌝ }
+    requires { ⌜ Reads (now words) (now area) l × (from .0 < l .modules) × Run (l .modules) (now area) n
+        × Each (Meant (snapOf (now words) (now area) l) (from .0)) (runAt (now area) n) ⌝ }
+    ensures { λ r. ⌜ Grown (l .modules) (now (area .entry)) n (now (area .exit)) r
+        (queue (snapOf (now (words .entry)) (now (area .entry)) l) (from .0) (length (snapOf (now (words .entry)) (now (area .entry)) l .modules))
+        (runAt (now (area .entry)) n) start) ⌝ }
 {
     let mut count = n;
     let mut i = start;
@@ -62,7 +67,8 @@ pub(crate) fn take_up(
 /// The modules that paths mean which begin with a keyword or `::`.
 pub fn run_keywords(words: &[u32], area: &mut [u32], l: Layout, from: ModuleId) -> usize
     requires { ⌜ Reads (now words) (now area) l × (from .0 < l .modules) × (rowAt moduleLimit ≤ length (now area)) ⌝ }
-    ensures { λ r. ⌜ Grown (l .modules) (now (area .entry)) 0 (now (area .exit)) r (run false (snapOf (now (words .entry)) (now (area .entry)) l) (from .0)) ⌝ }
+    ensures { λ r. ⌜ Grown (l .modules) (now (area .entry)) 0 (now (area .exit)) r
+        (run false (snapOf (now (words .entry)) (now (area .entry)) l) (from .0)) ⌝ }
 {
     let start = begin(words, area, l, from);
     let near = expand_all(words, area, l, from, start);
@@ -73,7 +79,8 @@ pub fn run_keywords(words: &[u32], area: &mut [u32], l: Layout, from: ModuleId) 
 /// The modules that paths mean which begin with a name.
 pub fn run_plain(words: &[u32], area: &mut [u32], l: Layout, from: ModuleId) -> usize
     requires { ⌜ Reads (now words) (now area) l × (from .0 < l .modules) × (rowAt moduleLimit ≤ length (now area)) ⌝ }
-    ensures { λ r. ⌜ Grown (l .modules) (now (area .entry)) 0 (now (area .exit)) r (run true (snapOf (now (words .entry)) (now (area .entry)) l) (from .0)) ⌝ }
+    ensures { λ r. ⌜ Grown (l .modules) (now (area .entry)) 0 (now (area .exit)) r
+        (run true (snapOf (now (words .entry)) (now (area .entry)) l) (from .0)) ⌝ }
 {
     let near = offer_plains(words, area, l, from, 0);
     take_up(words, area, l, from, 0, near)

@@ -1,5 +1,4 @@
 //! The modules that one name alone means.
-ghost use mathlib.Core.Path.{_≡_};
 ghost use mathlib.Core.Bool.{false};
 ghost use Prim.Native.Nat.{_<_};
 ghost use Rattle.snapshot.specs.Records.{externAt};
@@ -25,7 +24,8 @@ use snapshot::record::extern_target;
 // The extern with its head at a place, if it is one of the crate's.
 fn offer_extern(words: &[u32], area: &mut [u32], l: Layout, c: Crate, n: usize, h: usize) -> usize
     requires { ⌜ Reads (now words) (now area) l × ExternFits (countsIn l) (externAt (now words) h) × Run (l .modules) (now area) n ⌝ }
-    ensures { λ r. ⌜ Grown (l .modules) (now (area .entry)) n (now (area .exit)) r (withExtern (c .0) (runAt (now (area .entry)) n) (externAt (now (words .entry)) h)) ⌝ }
+    ensures { λ r. ⌜ Grown (l .modules) (now (area .entry)) n (now (area .exit)) r (withExtern (c .0) (runAt (now (area .entry)) n)
+        (externAt (now (words .entry)) h)) ⌝ }
 {
     let owner = extern_owner(words, h);
     if owner.0 != c.0 {
@@ -51,7 +51,9 @@ pub(crate) fn offer_absolutes(
     n: usize,
 ) -> usize
     requires { ⌜ Reads (now words) (now area) l × (from .0 < l .modules) × Run (l .modules) (now area) n ⌝ }
-    ensures { λ r. ⌜ Grown (l .modules) (now (area .entry)) n (now (area .exit)) r (added (snapOf (now (words .entry)) (now (area .entry)) l) (from .0) (runAt (now (area .entry)) n) (single false (snapOf (now (words .entry)) (now (area .entry)) l) (from .0) types)) ⌝ }
+    ensures { λ r. ⌜ Grown (l .modules) (now (area .entry)) n (now (area .exit)) r
+        (added (snapOf (now (words .entry)) (now (area .entry)) l) (from .0) (runAt (now (area .entry)) n)
+        (single false (snapOf (now (words .entry)) (now (area .entry)) l) (from .0) types)) ⌝ }
 {
     let c = krate(words, area, l, from);
     if edition_of(words, l, c) == 2015 {

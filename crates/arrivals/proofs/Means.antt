@@ -1,8 +1,8 @@
 -- Plain names, as the code looks them up.
-use Prim.Native.Nat.{ℕ, suc, _+_, _<_, _≤_}
-use mathlib.Core.Path.{_≡_, refl, sym, ap, subst, _∙_}
+use Prim.Native.Nat.{ℕ, suc, _<_, _≤_}
+use mathlib.Core.Path.{_≡_, sym, ap, subst, _∙_}
 use mathlib.Core.List.{List}
-use mathlib.Core.Bool.{Bool, true, false, _&&_}
+use mathlib.Core.Bool.{Bool, true, false}
 use mathlib.Core.Option.{Option, none, some, Option·map}
 use native.Mathlib.Omega.{arith}
 use lib.ListN.{length}
@@ -17,7 +17,7 @@ use Rattle.tree_rules.specs.Modules.{mapNo}
 use Rattle.tree_rules.specs.Privately.{blockStep}
 use Rattle.module_tree.proofs.Laws.{Falls}
 use Rattle.module_tree.proofs.Reading.{length-modules}
-use Rattle.hir_def.specs.Finds.{firstOf, firstSome, orFirst}
+use Rattle.hir_def.specs.Finds.{firstSome, orFirst}
 use Rattle.hir_def.specs.Items.{types, nsOf, itemOf, sameItem, moduleItem, definedItem}
 use Rattle.hir_def.specs.ItemScope.{isFor}
 use Rattle.hir_def.specs.Nameres.{preludeOf}
@@ -25,13 +25,13 @@ use Rattle.hir_def.specs.declared.Item.{Item}
 use Rattle.hir_def.proofs.Ancestors.{first-here, first-end, first-on}
 use Rattle.seen_entries.proofs.Laws.{step-falls}
 use Rattle.nameable.specs.Seen.{seen}
-use Rattle.nameable.specs.Paths.{Path, plain, asNamed, scopesFrom, reads, itemIn, means, placeIn}
+use Rattle.nameable.specs.Paths.{Path, plain, scopesFrom, reads, itemIn, means, placeIn}
 use Rattle.nameable.specs.Breadth.{Way, onward, single, isItem, firstTo, arrival}
 use Rattle.nameable.specs.Queue.{run}
 use Rattle.nameable.proofs.Arrives.{or-first-none, or-first-some}
 use Rattle.nameable.proofs.Reached.{Plenty}
 use Rattle.nameable.proofs.Plenty.{plenty}
-use Rattle.any_path.specs.Rows.{pathFrom, pathAt, runAt, Meant}
+use Rattle.any_path.specs.Rows.{pathFrom, runAt, Meant}
 use Rattle.any_path.specs.declared.plain.Reading.{Reading}
 use Rattle.any_path.specs.declared.plain.Reading.the-variants.{Scope as ByScope, Extern as ByExtern, Nothing}
 use Rattle.any_path.specs.Plain.{recordRead}
@@ -45,7 +45,8 @@ use Rattle.arrivals.proofs.Plainly.{plain-first, plain-reads}
 -- What a plain name means, by the record that it is read by.
 module _ (s : Snapshot) (W : List ℕ) (from k d n : ℕ) {r : Reading} (e : recordRead s W r ≡ reads s from k (plain n)) where
   pub means-scope : (h : ℕ) {t : Bool} → r ≡ ByScope h
-      → t ≡ sameItem (itemOf s (scopeAt W h .ns) (scopeAt W h .definition)) (definedItem k d) → t ≡ isItem (definedItem k d) (means s from k (plain n))
+      → t ≡ sameItem (itemOf s (scopeAt W h .ns) (scopeAt W h .definition)) (definedItem k d)
+      → t ≡ isItem (definedItem k d) (means s from k (plain n))
   unfolding means itemIn isItem recordRead
   means-scope h q u = u ∙ ap (λ o. isItem (definedItem k d) (itemIn o)) (ap (recordRead s W) (sym q) ∙ e)
 
@@ -158,7 +159,8 @@ module _ (W A : List ℕ) (l : Layout) (r : Reads W A l) (from n : ℕ) (known :
     plain-whole =
         ap (λ (c : Bool). arrival c s from (definedItem k d)) eb
         ∙ (arrival-plainly s from k d enough
-        ∙ (ap (λ (ws : List Way). orFirst (firstTo s from (definedItem k d) (single true s from k)) (firstTo s from (definedItem k d) (onward s from k ws)))
+        ∙ (ap (λ (ws : List Way). orFirst (firstTo s from (definedItem k d) (single true s from k))
+        (firstTo s from (definedItem k d) (onward s from k ws)))
         (sym (ready .same ∙ ap (λ (c : Bool). run c s from) eb))
         ∙ ap (λ (o : Option Path). orFirst o (past k d)) (plain-first s from k d)))
 

@@ -1,25 +1,23 @@
 -- The first path to what is no module: no keyword and no extern means it.
-use Prim.Native.Nat.{ℕ, zero, suc, _+_}
-use mathlib.Core.Path.{_≡_, refl, sym, ap, subst, _∙_}
+use Prim.Native.Nat.{ℕ, zero, suc}
+use mathlib.Core.Path.{_≡_, refl, sym, ap, _∙_}
 use mathlib.Core.List.{List, [], _∷_, _++_, map, append-nil, append-assoc}
 use mathlib.Core.Bool.{Bool, true, false}
 use mathlib.Core.Option.{Option, none, some}
-use native.Mathlib.Omega.{arith}
 use lib.Dec.{eqb}
-use lib.ListN.{length}
 use Rattle.snapshot.specs.Records.{Snapshot, Extern}
-use Rattle.accept.specs.Valid.{Each, more}
+use Rattle.accept.specs.Valid.{Each}
 use Rattle.accept.proofs.Accepted.{by-test}
 use Rattle.hir_def.specs.Finds.{firstOf, orFirst, select}
 use Rattle.hir_def.specs.Items.{types, crateOf, crateData, nsOf, sameItem, moduleItem, definedItem}
 use Rattle.hir_def.specs.declared.Item.{Item}
-use Rattle.nameable.specs.Paths.{Keyword, Path, keyword, absolute, Named, named, externNamed, externsIn, absolutes, keywordModule, moduleNamed, reads, itemIn, means}
+use Rattle.nameable.specs.Paths.{Keyword, Path, keyword, absolute, Named, named, externNamed, externsIn, absolutes, keywordModule, moduleNamed, reads}
+use Rattle.nameable.specs.Paths.{itemIn, means}
 use Rattle.nameable.specs.Breadth.{Way, added, keywords, nameless, single, onward, reached, isItem, firstTo, arrival, turns}
 use Rattle.nameable.specs.Queue.{run}
 use Rattle.nameable.proofs.Lists.{by-option}
 use Rattle.nameable.proofs.Reached.{each-in, each-made, named-in, Plenty}
-use Rattle.nameable.proofs.Queue.{added-end, onward-append, reached-end, first-append, inOrder, arrival-order, run-reached}
-use Rattle.arrivals.proofs.Modules.{or-left}
+use Rattle.nameable.proofs.Queue.{onward-append, reached-end, first-append, arrival-order, run-reached}
 
 -- a test that fails for each finds nothing
 pub first-nothing : {A B : Type 0} (p : B → Bool) (f : A → B) (xs : List A) → ((x : A) → p (f x) ≡ false) → firstOf p (map f xs) ≡ none
@@ -41,7 +39,8 @@ module _ (s : Snapshot) (from ns : ℕ) where
   unfolding externsIn
   externs-modules =
       by-test (eqb ns types)
-      (λ t. rw (t, externsIn) (each-made externNamed (select (λ (x : Extern). eqb (x .owner) (crateOf s from)) (s .externs)) (λ x. (x .target, refl))))
+      (λ t. rw (t, externsIn) (each-made externNamed (select (λ (x : Extern). eqb (x .owner) (crateOf s from)) (s .externs))
+      (λ x. (x .target, refl))))
       (λ t. rw (t, externsIn) Each.none)
 
   absolutes-modules : Each IsModule (absolutes s from ns)
@@ -96,11 +95,13 @@ module _ (s : Snapshot) (from k d : ℕ) where
       ∙ (ap (firstTo s from item) (onward-append s from k a (f .0)) ∙ first-append s from item (onward s from k a) (onward s from k (f .0))) in
       ap (orFirst (past a)) split ∙ (or-same (past a) (past (f .0)) ∙ sym split)
 
-  pub arrival-keywords : Plenty s from → arrival false s from (definedItem k d) ≡ firstTo s from (definedItem k d) (onward s from k (run false s from))
+  pub arrival-keywords : Plenty s from → arrival false s from (definedItem k d) ≡ firstTo s from (definedItem k d)
+      (onward s from k (run false s from))
   unfolding nsOf orFirst
   arrival-keywords plenty =
       arrival-order s from false item plenty
-      ∙ (ap (λ (o : Option Path). orFirst o (orFirst (past (reached false s from 0)) (orFirst (firstTo s from item (single false s from k)) (past (run false s from)))))
+      ∙ (ap (λ (o : Option Path). orFirst o (orFirst (past (reached false s from 0))
+      (orFirst (firstTo s from item (single false s from k)) (past (run false s from)))))
       (nameless-none false)
       ∙ (ap (λ (o : Option Path). orFirst (past (reached false s from 0)) (orFirst o (past (run false s from)))) absolute-none
       ∙ past-again false plenty))

@@ -1,7 +1,7 @@
 -- The first plain name that means an item which is no module: by the first seen entry for the item that its name means.
 use Prim.Native.Nat.{ℕ}
 use mathlib.Core.Path.{_≡_, refl, sym, ap, ap₂, subst, _∙_}
-use mathlib.Core.List.{List, [], _∷_, _++_, map, append-assoc, List·Memᴰ}
+use mathlib.Core.List.{List, [], _∷_, _++_, map, append-assoc}
 use mathlib.Core.Bool.{Bool, true, false, _&&_, true≢false}
 use mathlib.Core.Option.{Option, none, some, Option·map}
 use borrow.Author.Tests.{eq-eqb}
@@ -9,7 +9,7 @@ use lib.Dec.{eqb}
 use Rattle.snapshot.specs.Records.{Snapshot, Scope, Prelude}
 use Rattle.accept.specs.Valid.{Each, more}
 use Rattle.accept.proofs.Accepted.{by-test}
-use Rattle.accept.proofs.Bools.{and-two, each-map, each-snoc}
+use Rattle.accept.proofs.Bools.{each-map, each-snoc}
 use Rattle.tree_rules.specs.Modules.{mapNo}
 use Rattle.hir_def.specs.Finds.{firstOf, firstSome, orFirst}
 use Rattle.hir_def.specs.Items.{nsOf, itemOf, sameItem, definedItem}
@@ -17,7 +17,8 @@ use Rattle.hir_def.specs.ItemScope.{isFor}
 use Rattle.hir_def.specs.Nameres.{preludeOf}
 use Rattle.hir_def.specs.declared.Item.{Item}
 use Rattle.nameable.specs.Seen.{seen}
-use Rattle.nameable.specs.Paths.{Path, plain, Named, named, isSeenIn, asNamed, entriesIn, externsIn, entriesOver, scopesFrom, preludeEntries, firsts, reads, itemIn, means, placeIn}
+use Rattle.nameable.specs.Paths.{Path, plain, Named, named, isSeenIn, asNamed, entriesIn, externsIn, entriesOver, scopesFrom, preludeEntries, firsts}
+use Rattle.nameable.specs.Paths.{reads, itemIn, means}
 use Rattle.nameable.specs.Breadth.{single, isItem, firstTo}
 use Rattle.nameable.proofs.Lists.{by-option, none-some, first-found}
 use Rattle.nameable.proofs.Reached.{each-in, named-in}
@@ -79,7 +80,8 @@ module _ (item : Item) (xs : List Named) where
       (λ w z.
       let i = named-in (y .name) pre w z in
       absurd (true≢false (sym t ∙ (ap isMeant (sym (i .1)) ∙ each-in h (i .0))))) in
-      subst (λ (z : Named). named (z .name) xs ≡ some z) same (here ∙ (or-first-none (named (y .name) pre) (named (y .name) (y ∷ rest)) none-before ∙ hit)))
+      subst (λ (z : Named). named (z .name) xs ≡ some z) same
+      (here ∙ (or-first-none (named (y .name) pre) (named (y .name) (y ∷ rest)) none-before ∙ hit)))
       (λ t.
       own-from (pre ++ (y ∷ [])) rest (e ∙ sym (append-assoc pre (y ∷ []) rest)) (each-snoc h t) x
       (sym (first-miss (λ (z : Named). isMeant (z .name)) y rest t) ∙ f))
@@ -172,7 +174,8 @@ module _ (s : Snapshot) (from k d : ℕ) where
   meant-first : firstOf (λ (x : Named). isMeant item all (x .name)) all ≡ Option·map (asNamed s) (plainEntry s from item)
   meant-first = own-first item all ∙ all-first
 
-  name-after : (o : Option Scope) → Option·map (λ (x : Named). plain (x .name)) (Option·map (asNamed s) o) ≡ Option·map (λ (e : Scope). plain (e .name)) o
+  name-after : (o : Option Scope) → Option·map (λ (x : Named). plain (x .name)) (Option·map (asNamed s) o)
+      ≡ Option·map (λ (e : Scope). plain (e .name)) o
   name-after none = refl
   name-after (some e) = refl
 

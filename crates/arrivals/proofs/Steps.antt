@@ -1,8 +1,8 @@
 -- Steps after the rows, one row after the other.
 use Prim.Native.Nat.{ℕ, suc, _+_, _-_, _≤_, _<_}
 use mathlib.Core.Path.{_≡_, refl, sym, ap, ap₂, _∙_}
-use mathlib.Core.List.{List, [], _∷_}
-use mathlib.Core.Bool.{true, false, _&&_}
+use mathlib.Core.List.{List}
+use mathlib.Core.Bool.{true, _&&_}
 use mathlib.Core.Option.{Option, none, some, Option·map}
 use native.Mathlib.Omega.{arith}
 use borrow.Author.Tests.{eq-eqb, ne-eqb}
@@ -22,7 +22,7 @@ use Rattle.hir_def.specs.Items.{types, nsOf, itemOf, sameItem, moduleItem}
 use Rattle.hir_def.specs.ItemScope.{isFor, namesOf}
 use Rattle.hir_def.specs.declared.Item.{Item}
 use Rattle.nameable.specs.Seen.{seen}
-use Rattle.nameable.specs.Paths.{Path, into, Named, named, isSeenIn, asNamed, within, after, reads, itemIn, means, placeIn}
+use Rattle.nameable.specs.Paths.{Path, into, named, isSeenIn, asNamed, within, after, reads, means, placeIn}
 use Rattle.nameable.specs.Breadth.{Way, onward, firstTo}
 use Rattle.nameable.specs.Queue.{pathsAfter}
 use Rattle.nameable.proofs.Lists.{first-found}
@@ -143,7 +143,8 @@ module _ (W A : List ℕ) (l : Layout) (r : Reads W A l) (from n : ℕ) (item : 
           let there : into (pathAt A i) (scopeAt W h .name) ≡ pathFrom (pathAt A) k x =
           sym (ap₂ (pathFrom (pathAt A)) ek ex ∙ link-into (pathAt A) i (scopeAt W h .name)) in
           record {
-            path = one ∙ (or-first-some (first (namesOf s m item (seen s from))) (rest (i + 1)) (into (pathAt A i) (scopeAt W h .name)) (ap first (sym q))
+            path = one ∙ (or-first-some (first (namesOf s m item (seen s from))) (rest (i + 1)) (into (pathAt A i) (scopeAt W h .name))
+                (ap first (sym q))
                 ∙ ap some there);
             linked = omega (arith, ek, less);
             place = λ placed. sym (ap (λ (y : Path). placeIn (reads s from (nsOf item) y)) (sym there)

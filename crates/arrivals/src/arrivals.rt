@@ -27,8 +27,10 @@ fn arrive_by_keyword(
     n: usize,
     item: Item,
 ) -> OptStep
-    requires { ⌜ Reads (now words) (now area) l × (from .0 < l .modules) × Ready false (snapOf (now words) (now area) l) (from .0) (l .modules) (now area) n ⌝ }
-    ensures { λ r. ⌜ LeadsTo (snapOf (now (words .entry)) (now (area .entry)) l) (from .0) (nsOf item) (now (area .entry)) n (arrival false (snapOf (now (words .entry)) (now (area .entry)) l) (from .0) item) r ⌝ }
+    requires { ⌜ Reads (now words) (now area) l × (from .0 < l .modules) × Ready false (snapOf (now words) (now area) l) (from .0)
+        (l .modules) (now area) n ⌝ }
+    ensures { λ r. ⌜ LeadsTo (snapOf (now (words .entry)) (now (area .entry)) l) (from .0) (nsOf item) (now (area .entry)) n
+        (arrival false (snapOf (now (words .entry)) (now (area .entry)) l) (from .0) item) r ⌝ }
 {
     match item {
         Item::Mod(m) => row_of(area, n, m),
@@ -46,8 +48,10 @@ fn plainly(
     ns: Namespace,
     d: DefinitionId,
 ) -> OptStep
-    requires { ⌜ Reads (now words) (now area) l × (from .0 < l .modules) × Ready true (snapOf (now words) (now area) l) (from .0) (l .modules) (now area) n ⌝ }
-    ensures { λ r. ⌜ LeadsTo (snapOf (now (words .entry)) (now (area .entry)) l) (from .0) (ns .0) (now (area .entry)) n (arrival true (snapOf (now (words .entry)) (now (area .entry)) l) (from .0) (definedItem (ns .0) (d .0))) r ⌝ }
+    requires { ⌜ Reads (now words) (now area) l × (from .0 < l .modules) × Ready true (snapOf (now words) (now area) l) (from .0)
+        (l .modules) (now area) n ⌝ }
+    ensures { λ r. ⌜ LeadsTo (snapOf (now (words .entry)) (now (area .entry)) l) (from .0) (ns .0) (now (area .entry)) n
+        (arrival true (snapOf (now (words .entry)) (now (area .entry)) l) (from .0) (definedItem (ns .0) (d .0))) r ⌝ }
 {
     if let Entry::At(h) = plain_entry(words, area, l, from, ns, d) {
         let name = scope_name(words, h);
@@ -65,8 +69,10 @@ fn arrive_plainly(
     n: usize,
     item: Item,
 ) -> OptStep
-    requires { ⌜ Reads (now words) (now area) l × (from .0 < l .modules) × Ready true (snapOf (now words) (now area) l) (from .0) (l .modules) (now area) n ⌝ }
-    ensures { λ r. ⌜ LeadsTo (snapOf (now (words .entry)) (now (area .entry)) l) (from .0) (nsOf item) (now (area .entry)) n (arrival true (snapOf (now (words .entry)) (now (area .entry)) l) (from .0) item) r ⌝ }
+    requires { ⌜ Reads (now words) (now area) l × (from .0 < l .modules) × Ready true (snapOf (now words) (now area) l) (from .0)
+        (l .modules) (now area) n ⌝ }
+    ensures { λ r. ⌜ LeadsTo (snapOf (now (words .entry)) (now (area .entry)) l) (from .0) (nsOf item) (now (area .entry)) n
+        (arrival true (snapOf (now (words .entry)) (now (area .entry)) l) (from .0) item) r ⌝ }
 {
     match item {
         Item::Mod(m) => row_of(area, n, m),
@@ -84,8 +90,10 @@ pub fn arrive(
     item: Item,
     named: bool,
 ) -> OptStep
-    requires { ⌜ Reads (now words) (now area) l × (from .0 < l .modules) × Ready named (snapOf (now words) (now area) l) (from .0) (l .modules) (now area) n ⌝ }
-    ensures { λ r. ⌜ LeadsTo (snapOf (now (words .entry)) (now (area .entry)) l) (from .0) (nsOf item) (now (area .entry)) n (arrival named (snapOf (now (words .entry)) (now (area .entry)) l) (from .0) item) r ⌝ }
+    requires { ⌜ Reads (now words) (now area) l × (from .0 < l .modules) × Ready named (snapOf (now words) (now area) l) (from .0)
+        (l .modules) (now area) n ⌝ }
+    ensures { λ r. ⌜ LeadsTo (snapOf (now (words .entry)) (now (area .entry)) l) (from .0) (nsOf item) (now (area .entry)) n
+        (arrival named (snapOf (now (words .entry)) (now (area .entry)) l) (from .0) item) r ⌝ }
 {
     if named {
         return arrive_plainly(words, area, l, from, n, item);

@@ -41,7 +41,8 @@ use snapshot::record::scope_ns;
 // Whether the entry with its head at a place is for the item.
 fn is_entry_for(words: &[u32], l: Layout, h: usize, item: Item) -> bool
     requires { ⌜ wordCount l < 2 ^ 32 ⌝ }
-    ensures { λ r. ⌜ ((A : List ℕ) → r ≡ sameItem (itemOf (snapOf (now (words .entry)) A l) (scopeAt (now (words .entry)) h .ns) (scopeAt (now (words .entry)) h .definition)) item) ⌝ }
+    ensures { λ r. ⌜ ((A : List ℕ) → r ≡ sameItem (itemOf (snapOf (now (words .entry)) A l) (scopeAt (now (words .entry)) h .ns)
+        (scopeAt (now (words .entry)) h .definition)) item) ⌝ }
 {
     let ns = scope_ns(words, h);
     same_item(item_of(words, l, ns, scope_definition(words, h)), item)
@@ -58,7 +59,8 @@ fn means_item(
     name: Name,
 ) -> bool
     requires { ⌜ Reads (now words) (now area) l × (from .0 < l .modules) ⌝ }
-    ensures { λ r. ⌜ r ≡ isItem (definedItem (ns .0) (d .0)) (means (snapOf (now (words .entry)) (now (area .entry)) l) (from .0) (ns .0) (plain (name .0))) ⌝ }
+    ensures { λ r. ⌜ r ≡ isItem (definedItem (ns .0) (d .0)) (means (snapOf (now (words .entry)) (now (area .entry)) l) (from .0)
+        (ns .0) (plain (name .0))) ⌝ }
 {
     match read_plain(words, area, l, from, ns.0, name) {
         Reading::Scope(h) => is_entry_for(words, l, h, Item::Def(ns, d)),
@@ -79,7 +81,8 @@ fn is_plain_for(
     h: usize,
 ) -> bool
     requires { ⌜ Reads (now words) (now area) l × (from .0 < l .modules) × ScopeFits (countsIn l) (scopeAt (now words) h) ⌝ }
-    ensures { λ r. ⌜ r ≡ isPlainFor (snapOf (now (words .entry)) (now (area .entry)) l) (from .0) (m .0) (definedItem (ns .0) (d .0)) (scopeAt (now (words .entry)) h) ⌝ }
+    ensures { λ r. ⌜ r ≡ isPlainFor (snapOf (now (words .entry)) (now (area .entry)) l) (from .0) (m .0) (definedItem (ns .0) (d .0))
+        (scopeAt (now (words .entry)) h) ⌝ }
 {
     if is_for(words, l, h, m, Item::Def(ns, d)) {
         if seen(words, area, l, from, h) {
@@ -100,7 +103,8 @@ fn plain_in(
     d: DefinitionId,
 ) -> Entry
     requires { ⌜ Reads (now words) (now area) l × (from .0 < l .modules) ⌝ }
-    ensures { λ r. ⌜ entryOf scopeAt (now (words .entry)) r ≡ plainIn (snapOf (now (words .entry)) (now (area .entry)) l) (from .0) (definedItem (ns .0) (d .0)) (m .0) ⌝ }
+    ensures { λ r. ⌜ entryOf scopeAt (now (words .entry)) r ≡ plainIn (snapOf (now (words .entry)) (now (area .entry)) l) (from .0)
+        (definedItem (ns .0) (d .0)) (m .0) ⌝ }
 {
     let base = l.scope_base();
     let mut k = 0;
@@ -124,7 +128,8 @@ fn plain_around(
     d: DefinitionId,
 ) -> Entry
     requires { ⌜ Reads (now words) (now area) l × (from .0 < l .modules) ⌝ }
-    ensures { λ r. ⌜ entryOf scopeAt (now (words .entry)) r ≡ firstSome (plainIn (snapOf (now (words .entry)) (now (area .entry)) l) (from .0) (definedItem (ns .0) (d .0))) (scopesFrom (snapOf (now (words .entry)) (now (area .entry)) l) (from .0)) ⌝ }
+    ensures { λ r. ⌜ entryOf scopeAt (now (words .entry)) r ≡ firstSome (plainIn (snapOf (now (words .entry)) (now (area .entry)) l)
+        (from .0) (definedItem (ns .0) (d .0))) (scopesFrom (snapOf (now (words .entry)) (now (area .entry)) l) (from .0)) ⌝ }
 {
     let mut m = from;
     loop {
@@ -149,7 +154,9 @@ fn plain_in_prelude(
     d: DefinitionId,
 ) -> Entry
     requires { ⌜ Reads (now words) (now area) l × (from .0 < l .modules) ⌝ }
-    ensures { λ r. ⌜ entryOf scopeAt (now (words .entry)) r ≡ plainInPrelude (snapOf (now (words .entry)) (now (area .entry)) l) (from .0) (definedItem (ns .0) (d .0)) (preludeOf (snapOf (now (words .entry)) (now (area .entry)) l) (mapNo (snapOf (now (words .entry)) (now (area .entry)) l) (from .0))) ⌝ }
+    ensures { λ r. ⌜ entryOf scopeAt (now (words .entry)) r ≡ plainInPrelude (snapOf (now (words .entry)) (now (area .entry)) l)
+        (from .0) (definedItem (ns .0) (d .0)) (preludeOf (snapOf (now (words .entry)) (now (area .entry)) l)
+        (mapNo (snapOf (now (words .entry)) (now (area .entry)) l) (from .0))) ⌝ }
 {
     let Entry::At(p) = prelude_of(words, l, map(words, area, l, from)) else {
         return Entry::Nothing;
@@ -167,7 +174,8 @@ pub(crate) fn plain_entry(
     d: DefinitionId,
 ) -> Entry
     requires { ⌜ Reads (now words) (now area) l × (from .0 < l .modules) ⌝ }
-    ensures { λ r. ⌜ entryOf scopeAt (now (words .entry)) r ≡ plainEntry (snapOf (now (words .entry)) (now (area .entry)) l) (from .0) (definedItem (ns .0) (d .0)) ⌝ }
+    ensures { λ r. ⌜ entryOf scopeAt (now (words .entry)) r ≡ plainEntry (snapOf (now (words .entry)) (now (area .entry)) l)
+        (from .0) (definedItem (ns .0) (d .0)) ⌝ }
 {
     if let Entry::At(h) = plain_around(words, area, l, from, ns, d) {
         return Entry::At(h);

@@ -1,5 +1,4 @@
 //! The row of a module, and the first row in whose module an item is seen.
-ghost use mathlib.Core.List.{List};
 ghost use Prim.Native.Nat.{ℕ, _≤_, _<_};
 ghost use Rattle.snapshot.specs.Limits.{moduleLimit};
 ghost use Rattle.snapshot.specs.Records.{Snapshot};
@@ -23,7 +22,8 @@ use snapshot::words::word;
 // The path of the module's row, of n rows.
 pub(crate) fn row_of(area: &[u32], n: usize, m: ModuleId) -> OptStep
     requires { ⌜ n ≤ moduleLimit ⌝ }
-    ensures { λ r. ⌜ ((s : Snapshot) (from modules : ℕ) → Run modules (now (area .entry)) n → LeadsTo s from types (now (area .entry)) n (wayOf (m .0) (runAt (now (area .entry)) n)) r) ⌝ }
+    ensures { λ r. ⌜ ((s : Snapshot) (from modules : ℕ) → Run modules (now (area .entry)) n
+        → LeadsTo s from types (now (area .entry)) n (wayOf (m .0) (runAt (now (area .entry)) n)) r) ⌝ }
 {
     let mut i = 0;
     while i < n {
@@ -45,8 +45,11 @@ pub(crate) fn by_rows(
     n: usize,
     item: Item,
 ) -> OptStep
-    requires { ⌜ Reads (now words) (now area) l × (from .0 < l .modules) × (n ≤ moduleLimit) × Each (Meant (snapOf (now words) (now area) l) (from .0)) (runAt (now area) n) ⌝ }
-    ensures { λ r. ⌜ LeadsTo (snapOf (now (words .entry)) (now (area .entry)) l) (from .0) (nsOf item) (now (area .entry)) n (firstTo (snapOf (now (words .entry)) (now (area .entry)) l) (from .0) item (onward (snapOf (now (words .entry)) (now (area .entry)) l) (from .0) (nsOf item) (runAt (now (area .entry)) n))) r ⌝ }
+    requires { ⌜ Reads (now words) (now area) l × (from .0 < l .modules) × (n ≤ moduleLimit)
+        × Each (Meant (snapOf (now words) (now area) l) (from .0)) (runAt (now area) n) ⌝ }
+    ensures { λ r. ⌜ LeadsTo (snapOf (now (words .entry)) (now (area .entry)) l) (from .0) (nsOf item) (now (area .entry)) n
+        (firstTo (snapOf (now (words .entry)) (now (area .entry)) l) (from .0) item
+        (onward (snapOf (now (words .entry)) (now (area .entry)) l) (from .0) (nsOf item) (runAt (now (area .entry)) n))) r ⌝ }
 {
     let mut i = 0;
     while i < n {

@@ -38,7 +38,13 @@ module _ (W A : List ℕ) (l : Layout) (t : Tables W A l) where
       record {
         whole = t .whole;
         short = t .short;
-        limited = record { names = t .limited .names; crates = t .limited .crates; modules = t .limited .modules; definitions = t .limited .definitions };
+        limited = record {
+          names = t .limited .names;
+          crates = t .limited .crates;
+          modules = t .limited .modules;
+          definitions =
+              t .limited .definitions;
+        };
         maps = t .maps;
         heads = t .heads;
         below = t .below;
@@ -77,7 +83,8 @@ module _ (W A C : List ℕ) (k : StillChecked W A C) where
   tables-moved B e h =
       record {
         layout = layoutOf (length W) C;
-        reads = reads-of W B (Accepted (layoutOf (length W) C)) (judged-stays W A B (layoutOf (length W) C) judged-back e) (layoutOf (length W) C) refl;
+        reads = reads-of W B (Accepted (layoutOf (length W) C)) (judged-stays W A B (layoutOf (length W) C) judged-back e)
+            (layoutOf (length W) C) refl;
         counts = counts-back;
         room = h;
       }
@@ -99,7 +106,8 @@ module _ (W A C : List ℕ) (k : StillChecked W A C) where
             checked =
                 record {
                   layout = layoutOf (length W) C;
-                  reads = reads-of W (B ++ D) (Accepted (layoutOf (length W) C)) (judged-stays W B (B ++ D) (layoutOf (length W) C) J u) (layoutOf (length W) C) refl;
+                  reads = reads-of W (B ++ D) (Accepted (layoutOf (length W) C)) (judged-stays W B (B ++ D) (layoutOf (length W) C) J u)
+                      (layoutOf (length W) C) refl;
                   counts = counts-back;
                   room = omega (arith, n, length-append B D);
                 };

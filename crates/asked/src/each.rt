@@ -8,8 +8,8 @@ use questions::fits::fits;
 use snapshot::ids::WordCount;
 use snapshot::refusal::Refusal;
 
-/// Writes the reports of up to 64 questions on words that an earlier call accepted, as `find_path_checked` gives each, one after the other. Answers 0,
-/// or 44 for too many questions, a part of one, or too few words for the reports, which then stay unwritten.
+/// Writes the reports of up to 64 questions on words that an earlier call accepted, as `find_path_checked` gives each, one after the other.
+/// Answers 0, or 44 for too many questions, a part of one, or too few words for the reports, which then stay unwritten.
 pub fn find_paths_checked(
     words: &[u32],
     area: &mut [u32],
@@ -18,7 +18,8 @@ pub fn find_paths_checked(
     reports: &mut [u32],
 ) -> usize
     requires { ⌜ StillChecked (now words) (now area) (now counts) ⌝ }
-    ensures { λ r. ⌜ AskedEach (now (words .entry)) (now (area .entry)) (now (counts .entry)) (now (questions .entry)) (now (reports .entry)) (now (area .exit)) (now (reports .exit)) r ⌝ }
+    ensures { λ r. ⌜ AskedEach (now (words .entry)) (now (area .entry)) (now (counts .entry)) (now (questions .entry))
+        (now (reports .entry)) (now (area .exit)) (now (reports .exit)) r ⌝ }
 {
     if !fits(questions.len(), reports.len()) {
         return Refusal::BATCH;

@@ -47,9 +47,11 @@ questions-next zero Q = refl
 questions-next (suc n) Q =
     let e : questionSize + questionSize * n ≡ questionSize * suc n = omega arith in
     ap (λ qs. questionOf Q ∷ qs) (questions-next n (drop questionSize Q))
-    ∙ ap (λ (x : List ℕ). questionOf Q ∷ (questionsOf n (drop questionSize Q) ++ (questionOf x ∷ []))) (drop-drop (questionSize * n) questionSize Q ∙ ap (λ k. drop k Q) e)
+    ∙ ap (λ (x : List ℕ). questionOf Q ∷ (questionsOf n (drop questionSize Q) ++ (questionOf x ∷ [])))
+    (drop-drop (questionSize * n) questionSize Q ∙ ap (λ k. drop k Q) e)
 
-reports-next : (W : List ℕ) (qs : List Question) (q : Question) → reportsOf W (qs ++ (q ∷ [])) ≡ reportsOf W qs ++ reportWords (reportOf W areaLimit q)
+reports-next : (W : List ℕ) (qs : List Question) (q : Question) → reportsOf W (qs ++ (q ∷ [])) ≡ reportsOf W qs ++ reportWords
+    (reportOf W areaLimit q)
 unfolding reportsOf
 reports-next W [] q = append-nil (reportWords (reportOf W areaLimit q))
 reports-next W (p ∷ qs) q =
@@ -77,7 +79,8 @@ module _ (W Q R₀ : List ℕ) where
       let e : i ≡ n = omega arith in
       p .same ∙ ap (λ x. reportsOf W (questionsOf x Q) ++ drop (reportSize * x) R₀) e
 
-  module _ (i : ℕ) (R : List ℕ) (p : Reported i R) (q : Question) (r : Report) (e : q ≡ questionOf (midOf (questionSize * i) (length Q - questionSize * i) Q)) (f : r ≡ reportOf W areaLimit q) where
+  module _ (i : ℕ) (R : List ℕ) (p : Reported i R) (q : Question) (r : Report)
+      (e : q ≡ questionOf (midOf (questionSize * i) (length Q - questionSize * i) Q)) (f : r ≡ reportOf W areaLimit q) where
     -- the words of the reports with that of one question more
     next-words : reportsOf W (questionsOf (i + 1) Q) ≡ reportsOf W (questionsOf i Q) ++ reportWords r
     next-words =
@@ -87,9 +90,11 @@ module _ (W Q R₀ : List ℕ) where
         ∙ ap (λ (x : Report). reportsOf W (questionsOf i Q) ++ reportWords x)
         (ap (λ (x : List ℕ). reportOf W areaLimit (questionOf x)) (sym (mid-end (questionSize * i) Q)) ∙ ap (reportOf W areaLimit) (sym e) ∙ sym f)
 
-    module _ (l : length R ≡ length R₀) (h : reportSize * (i + 1) ≤ length R₀) (m : List ℕ) (b : Bool) (w : Written r (midOf (reportSize * i) (length R - reportSize * i) R) m b) where
+    module _ (l : length R ≡ length R₀) (h : reportSize * (i + 1) ≤ length R₀) (m : List ℕ) (b : Bool)
+        (w : Written r (midOf (reportSize * i) (length R - reportSize * i) R) m b) where
       rest : midOf (reportSize * i) (length R - reportSize * i) R ≡ drop (reportSize * i) R₀
-      rest = mid-end (reportSize * i) R ∙ ap (drop (reportSize * i)) (p .same) ∙ drop-at (reportsOf W (questionsOf i Q)) (drop (reportSize * i) R₀) (reportSize * i) (p .long)
+      rest = mid-end (reportSize * i) R ∙ ap (drop (reportSize * i)) (p .same) ∙ drop-at (reportsOf W (questionsOf i Q))
+          (drop (reportSize * i) R₀) (reportSize * i) (p .long)
 
       enough : reportSize ≤ length (drop (reportSize * i) R₀)
       enough = omega (arith, h, length-drop (reportSize * i) R₀)
@@ -98,12 +103,14 @@ module _ (W Q R₀ : List ℕ) where
       unfolding writtenTo
       put-words = w .words ∙ ap (writtenTo r) rest ∙ rw (writtenTo, le-ltb _ _ enough)
 
-      pub one-more : length m ≡ length (midOf (reportSize * i) (length R - reportSize * i) R) → Reported (i + 1) (putMid (reportSize * i) (length R - reportSize * i) R m)
+      pub one-more : length m ≡ length (midOf (reportSize * i) (length R - reportSize * i) R)
+          → Reported (i + 1) (putMid (reportSize * i) (length R - reportSize * i) R m)
       one-more k =
           let P : List ℕ = reportsOf W (questionsOf i Q) in
           let T : List ℕ = drop (reportSize * i) R₀ in
           let a : length m ≡ length T = k ∙ ap (λ (x : List ℕ). length x) rest in
-          let c : length m ≡ length (reportWords r) + length (drop reportSize T) = ap (λ (x : List ℕ). length x) put-words ∙ length-append (reportWords r) (drop reportSize T) in
+          let c : length m ≡ length (reportWords r) + length (drop reportSize T) = ap (λ (x : List ℕ). length x) put-words
+          ∙ length-append (reportWords r) (drop reportSize T) in
           let n : length (reportWords r) ≡ reportSize = omega (arith, a, c, enough, length-drop reportSize T) in
           let u : take (reportSize * i) R ≡ P = ap (take (reportSize * i)) (p .same) ∙ take-at P T (reportSize * i) (p .long) in
           let v : reportSize * i + reportSize ≡ reportSize * (i + 1) = omega arith in

@@ -25,7 +25,8 @@ pub fn report_each(
     questions: &[u32],
     reports: &mut [u32],
 )
-    requires { ⌜ Judged (now words) (now area) c × (length (now area) ≡ areaLimit) × (reportSize * (length (now questions) / questionSize) ≤ length (now reports)) ⌝ }
+    requires { ⌜ Judged (now words) (now area) c × (length (now area) ≡ areaLimit)
+        × (reportSize * (length (now questions) / questionSize) ≤ length (now reports)) ⌝ }
     ensures { λ _. ⌜ now (reports .exit) ≡ reportsTo (now (words .entry)) (now (questions .entry)) (now (reports .entry)) ⌝ }
     ensures { λ _. ⌜ Judged (now (words .entry)) (now (area .exit)) c ⌝ }
 {

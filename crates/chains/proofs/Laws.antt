@@ -53,7 +53,8 @@ key-is W at e f g = cc
 pub cleared-more : (A : List ℕ) (from i : ℕ) → i < length A → ((k : ℕ) → from ≤ k → k < i → getD A k 0 ≡ 0)
     → (k : ℕ) → from ≤ k → k < i + 1 → getD (set A i 0) k 0 ≡ 0
 cleared-more A from i fits old k p q =
-    below-more (λ j. from ≤ j → getD (set A i 0) j 0 ≡ 0) i (λ j r s. getD-set-other A i j 0 0 (omega arith) ∙ old j s r) (λ s. getD-set-same A i 0 0 fits) k q p
+    below-more (λ j. from ≤ j → getD (set A i 0) j 0 ≡ 0) i (λ j r s. getD-set-other A i j 0 0 (omega arith) ∙ old j s r)
+    (λ s. getD-set-same A i 0 0 fits) k q p
 
 last-kept : (g h : ℕ → ℕ) (b n : ℕ) {c d : ℕ} → Last g b n c → d ≡ c → ((i : ℕ) → i < n → h i ≡ g i) → Last h b n d
 last-kept g h b n l e q =
@@ -83,7 +84,8 @@ module _ {count : ℕ} (A : List ℕ) (heads links : ℕ) (key : ℕ → ℕ) (n
   next-of {i} h e = rw e (c .next i h)
 
 -- no number yet
-pub chained-none : {count : ℕ} (A : List ℕ) (heads links : ℕ) (h : ℕ → ℕ) → ((b : ℕ) → b < count → getD A (heads + b) 0 ≡ 0) → ChainedBy count A heads links h 0
+pub chained-none : {count : ℕ} (A : List ℕ) (heads links : ℕ) (h : ℕ → ℕ) → ((b : ℕ) → b < count → getD A (heads + b) 0 ≡ 0)
+    → ChainedBy count A heads links h 0
 chained-none A heads links h z =
     record {
       first = λ b k. rw (z b k) (record { within = omega arith; keyed = λ p. absurd (omega arith); none = λ j p q. absurd (omega arith) });
@@ -94,7 +96,8 @@ module _ (A : List ℕ) (heads links b n : ℕ) where
   -- the other words stay
   pub linked-other : (i : ℕ) → i ≢ heads + b → i ≢ links + n → getD (linked A heads links b n) i 0 ≡ getD A i 0
   unfolding linked
-  linked-other i p q = getD-set-other (set A (links + n) (getD A (heads + b) 0)) (heads + b) i (n + 1) 0 p ∙ getD-set-other A (links + n) i (getD A (heads + b) 0) 0 q
+  linked-other i p q = getD-set-other (set A (links + n) (getD A (heads + b) 0)) (heads + b) i (n + 1) 0 p
+      ∙ getD-set-other A (links + n) i (getD A (heads + b) 0) 0 q
 
   linked-head : heads + b < length A → getD (linked A heads links b n) (heads + b) 0 ≡ n + 1
   unfolding linked
@@ -102,10 +105,12 @@ module _ (A : List ℕ) (heads links b n : ℕ) where
 
   linked-link : links + n < length A → links + n ≢ heads + b → getD (linked A heads links b n) (links + n) 0 ≡ getD A (heads + b) 0
   unfolding linked
-  linked-link h p = getD-set-other (set A (links + n) (getD A (heads + b) 0)) (heads + b) (links + n) (n + 1) 0 p ∙ getD-set-same A (links + n) (getD A (heads + b) 0) 0 h
+  linked-link h p = getD-set-other (set A (links + n) (getD A (heads + b) 0)) (heads + b) (links + n) (n + 1) 0 p
+      ∙ getD-set-same A (links + n) (getD A (heads + b) 0) 0 h
 
   -- one number more
-  pub chained-linked : {count : ℕ} (key : ℕ → ℕ) → ChainedBy count A heads links key n → heads + count ≤ links → links + n < length A → b < count → key n ≡ b
+  pub chained-linked : {count : ℕ} (key : ℕ → ℕ) → ChainedBy count A heads links key n → heads + count ≤ links → links + n < length A
+      → b < count → key n ≡ b
       → ChainedBy count (linked A heads links b n) heads links key (n + 1)
   chained-linked {count} key c apart fits small e =
       record {
@@ -117,7 +122,12 @@ module _ (A : List ℕ) (heads links b n : ℕ) where
       }
     where
       newest : Last key b (n + 1) (n + 1)
-      newest = record { within = omega arith; keyed = λ p. ap key (let q : n + 1 - 1 ≡ n = omega arith in q) ∙ e; none = λ j p q. absurd (omega arith) }
+      newest = record {
+        within = omega arith;
+        keyed = λ p. ap key (let q : n + 1 - 1 ≡ n = omega arith in q)
+            ∙ e;
+        none = λ j p q. absurd (omega arith);
+      }
 
       older : (x d : ℕ) → (x ≡ b → ⊥) → Last key x n d → Last key x (n + 1) d
       older x d p l =
@@ -159,7 +169,8 @@ pub marked-none : (A : List ℕ) (marks : ℕ) (key : ℕ → ℕ) → ((m : ℕ
 unfolding any rows
 marked-none A marks key z = record { same = λ m h. ap (λ x. not (eqb x 0)) (z m h) }
 
-pub marked-kept : (A B : List ℕ) (marks : ℕ) (g h : ℕ → ℕ) (n : ℕ) → Marked A marks g n → ((m : ℕ) → m < moduleLimit → getD B (marks + m) 0 ≡ getD A (marks + m) 0)
+pub marked-kept : (A B : List ℕ) (marks : ℕ) (g h : ℕ → ℕ) (n : ℕ) → Marked A marks g n
+    → ((m : ℕ) → m < moduleLimit → getD B (marks + m) 0 ≡ getD A (marks + m) 0)
     → ((i : ℕ) → i < n → h i ≡ g i) → Marked B marks h n
 marked-kept A B marks g h n c p q =
     record { same = λ m k. ap (λ x. not (eqb x 0)) (p m k) ∙ c .same m k ∙ ap (any (eqb m)) (rows-ext g h n (λ i r. sym (q i r))) }
@@ -172,7 +183,8 @@ pub marked-more : (A : List ℕ) (marks : ℕ) (key : ℕ → ℕ) (n s : ℕ) �
     → Marked (set A (marks + s) 1) marks key (n + 1)
 marked-more A marks key n s c fits e = record { same = λ m k. by m k (eqb m s) refl }
   where
-    by : (m : ℕ) → m < moduleLimit → (t : Bool) → eqb m s ≡ t → not (eqb (getD (set A (marks + s) 1) (marks + m) 0) 0) ≡ any (eqb m) (rows key 0 (n + 1))
+    by : (m : ℕ) → m < moduleLimit → (t : Bool) → eqb m s ≡ t → not (eqb (getD (set A (marks + s) 1) (marks + m) 0) 0)
+        ≡ any (eqb m) (rows key 0 (n + 1))
     by m k true q =
         let r : m ≡ s = eqb-true m s q in
         ap (λ x. not (eqb (getD (set A (marks + s) 1) (marks + x) 0) 0)) r ∙ ap (λ x. not (eqb x 0)) (getD-set-same A (marks + s) 1 0 fits)
@@ -193,7 +205,8 @@ module _ (W : List ℕ) (a : ℕ) {k : ℕ} (e : k ≡ payOf (getD W a 0)) where
   slot-module h g = rw (slotOf, ← e, eq-eqb _ _ h) g
 
 -- no row from c on passes
-any-gap : {X : Type 0} (p : X → Bool) (f : ℕ → X) (c n : ℕ) → c ≤ n → ((j : ℕ) → c ≤ j → j < n → p (f j) ≡ false) → any p (rows f 0 n) ≡ any p (rows f 0 c)
+any-gap : {X : Type 0} (p : X → Bool) (f : ℕ → X) (c n : ℕ) → c ≤ n → ((j : ℕ) → c ≤ j → j < n → p (f j) ≡ false)
+    → any p (rows f 0 n) ≡ any p (rows f 0 c)
 any-gap p f c zero h g = let e : c ≡ 0 = omega arith in rw e
 any-gap p f c (suc n) h g = by (leb c n) refl (λ r. any-gap p f c n r (λ j s t. g j s (omega arith)))
   where

@@ -57,7 +57,8 @@ module _ (s : Snapshot) (x : FindPathCtx) where
       (either-few left (x .«allow_unstable») _ _ (offer-few left best (unstably c) (i .name) _ f g) f)
       (offer-few left best c (i .name) _ f g)
 
-  pub held-import : (left : ℕ) (o : Out Tank) (i : Import) (b : Bool) → 0 < left → Held left (foundOf o) → Held left (foundOf (oneImport s x left o i b))
+  pub held-import : (left : ℕ) (o : Out Tank) (i : Import) (b : Bool) → 0 < left → Held left (foundOf o)
+      → Held left (foundOf (oneImport s x left o i b))
   unfolding findImport
   held-import left o i true h f = f
   held-import left o i false h f =

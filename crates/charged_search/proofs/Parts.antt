@@ -1,6 +1,6 @@
 -- The rules of the search, step by step, as the code takes them.
 use mathlib.Core.Path.{_≡_, refl, sym, _∙_, ap}
-use Prim.Native.Nat.{ℕ, zero, suc, _+_, _-_, _≤_}
+use Prim.Native.Nat.{ℕ, zero, suc, _≤_}
 use native.Mathlib.Omega.{arith}
 use mathlib.Core.List.{List, [], _∷_, _++_}
 use mathlib.Core.Bool.{Bool, true, false, not, false≢true}
@@ -23,7 +23,8 @@ use Rattle.path_choices.specs.Choices.{nothing, lengthLeft}
 use Rattle.find_path.specs.Rules.{moduleRules, soughtOf}
 use Rattle.find_path.specs.Meters.{Charged, go, stop, fromTank}
 use Rattle.find_path.specs.Conditions.{chargedBy}
-use Rattle.find_path.specs.Charged.{Out, foundOf, isStable, langs, oneOrNone, isAt, offerImport, findImport, findInDep, findInDeps, findInSysroot, goOn, afterCharge, calculateBestPath, orCharged, findPathForModule}
+use Rattle.find_path.specs.Charged.{Out, foundOf, isStable, langs, oneOrNone, isAt, offerImport, findImport, findInDep, findInDeps, findInSysroot}
+use Rattle.find_path.specs.Charged.{goOn, afterCharge, calculateBestPath, orCharged, findPathForModule}
 use Rattle.find_path.specs.Search.{bestLocal, moduleTo, searchModule}
 use Rattle.search_laws.proofs.Unfold.{module-more}
 use Rattle.charged_search.specs.Parts.{modules, bestPath, oneImport, imports, dependencies, sysroot, inLang}
@@ -93,7 +94,8 @@ module _ (s : Snapshot) (x : FindPathCtx) where
     abbrev pub after : Charged Tank → Out Tank
     after = afterCharge Tank fromTank s x (bestLocal s x) (modules s x) left item
 
-    by-charge : (t : Tank) (d : Drawn) (c : Charged Tank) → chargedBy d ≡ fromTank left (soughtOf x item) t → chargedBy d ≡ c → after c ≡ bestPath s x left item t
+    by-charge : (t : Tank) (d : Drawn) (c : Charged Tank) → chargedBy d ≡ fromTank left (soughtOf x item) t
+        → chargedBy d ≡ c → after c ≡ bestPath s x left item t
     unfolding calculateBestPath
     by-charge t d c e h = ap after (sym h ∙ e)
 
@@ -103,7 +105,8 @@ module _ (s : Snapshot) (x : FindPathCtx) where
     best-empty t {d = d} {u} e h k =
         ap (λ (c : Choice). found c u) k ∙ ap foundOf (by-charge t d (stop u) e (ap chargedBy h))
 
-    pub best-charged : (t : Tank) {d : Drawn} {u : Tank} → chargedBy d ≡ fromTank left (soughtOf x item) t → d ≡ Go u → after (go u) ≡ bestPath s x left item t
+    pub best-charged : (t : Tank) {d : Drawn} {u : Tank} → chargedBy d ≡ fromTank left (soughtOf x item) t → d ≡ Go u
+        → after (go u) ≡ bestPath s x left item t
     unfolding chargedBy
     best-charged t {d} {u} e h = by-charge t d (go u) e (ap chargedBy h)
 
@@ -146,7 +149,8 @@ module _ (s : Snapshot) (x : FindPathCtx) where
     lang-step o n ls false e = refl
 
     pub lang-next : (o : Out Tank) (n : ℕ) (ls : List ℕ)
-        → sysroot s x left item (inLang s x left item o n (isStable (o .choice))) ls (isStable (inLang s x left item o n (isStable (o .choice)) .choice))
+        → sysroot s x left item (inLang s x left item o n (isStable (o .choice))) ls
+        (isStable (inLang s x left item o n (isStable (o .choice)) .choice))
         ≡ sysroot s x left item o (n ∷ ls) (isStable (o .choice))
     lang-next o n ls = lang-step o n ls _ refl
 
@@ -177,7 +181,8 @@ module _ (s : Snapshot) (x : FindPathCtx) where
     deps-append o [] es = refl
     deps-append o (d ∷ ds) es = deps-append _ ds es
 
-    sysroot-parts : select (bySysroot (x .«from_crate» .0) true) (s .dependencies) ++ select (bySysroot (x .«from_crate» .0) false) (s .dependencies) ≡ sysrootFirst s (x .«from_crate» .0)
+    sysroot-parts : select (bySysroot (x .«from_crate» .0) true) (s .dependencies) ++ select (bySysroot (x .«from_crate» .0) false)
+        (s .dependencies) ≡ sysrootFirst s (x .«from_crate» .0)
     unfolding sysrootFirst dependenciesOf
     sysroot-parts =
         sym

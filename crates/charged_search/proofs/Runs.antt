@@ -52,7 +52,8 @@ lang-passed {W} {A₀} {A} {l} {x} {left} {o} item n p d e =
       held = subst (Held left) (sym (d .same)) (held-lang (snapOf W A₀ l) x left item (outOf o) n _ (p .begun .some) (p .held));
     }
 
-pub deps-passed : {W A₀ A : List ℕ} {l : Layout} {x : FindPathCtx} {left : ℕ} {o a : Found} (item : Item) (ds : List Dependency) → Passed W A₀ l x left o
+pub deps-passed : {W A₀ A : List ℕ} {l : Layout} {x : FindPathCtx} {left : ℕ} {o a : Found} (item : Item) (ds : List Dependency)
+    → Passed W A₀ l x left o
     → Searched A₀ (dependencies (snapOf W A₀ l) x left item (outOf o) ds) A a → length A ≡ length A₀ → Passed W A l x left a
 deps-passed {W} {A₀} {A} {l} {x} {left} {o} item ds p d e =
     record {
@@ -80,16 +81,19 @@ lang-run {W} {A₀} {A} {B} {l} {x} {a} {r} left item n ls o p d e =
 -- the dependencies of the sysroot, then the others
 pub rest-run : {W A₀ A B : List ℕ} {l : Layout} {x : FindPathCtx} {a r : Found} (left : ℕ) (item : Item) (o : Found)
     → Prepared W A₀ l x → isStable (o .choice) ≡ false
-    → Searched A₀ (dependencies (snapOf W A₀ l) x left item (outOf o) (select (bySysroot (x .«from_crate» .0) true) (snapOf W A₀ l .dependencies))) A a
+    → Searched A₀ (dependencies (snapOf W A₀ l) x left item (outOf o) (select (bySysroot (x .«from_crate» .0) true) (snapOf W A₀ l .dependencies)))
+    A a
     → Searched A (dependencies (snapOf W A l) x left item (outOf a) (select (bySysroot (x .«from_crate» .0) false) (snapOf W A l .dependencies))) B r
     → Searched A₀ (sysroot (snapOf W A₀ l) x left item (outOf o) [] (isStable (o .choice))) B r
 rest-run {W} {A₀} {A} {B} {l} {x} {a} {r} left item o p h d e =
     let S = snapOf W A₀ l in
-    let k = later W A₀ A l x p (d .tables) (λ (s : Snapshot). dependencies s x left item (outOf a) (select (bySysroot (x .«from_crate» .0) false) (s .dependencies))) e in
+    let k = later W A₀ A l x p (d .tables) (λ (s : Snapshot). dependencies s x left item (outOf a)
+    (select (bySysroot (x .«from_crate» .0) false) (s .dependencies))) e in
     record {
       same =
           k .same
-          ∙ ap (λ (y : Found). foundOf (dependencies S x left item (outOf y) (select (bySysroot (x .«from_crate» .0) false) (S .dependencies)))) (d .same)
+          ∙ ap (λ (y : Found). foundOf (dependencies S x left item (outOf y) (select (bySysroot (x .«from_crate» .0) false) (S .dependencies))))
+          (d .same)
           ∙ ap foundOf (rest-more S x left item (outOf o) _ h);
       tables = k .tables;
     }
@@ -104,7 +108,8 @@ import-run {W} {A₀} {B} {l} {x} {n} {m} {r} {c} left h o p k u v d e =
     let S = snapOf W A₀ l in
     let i = importAt W h in
     let q : r ≡ foundOf (modules S x (lengthLeft left (o .choice)) (i .container) (o .meter)) =
-    d .same ∙ ap (λ (y : ℕ). foundOf (modules S x y m (o .meter))) u ∙ ap (λ (y : ℕ). foundOf (modules S x (lengthLeft left (o .choice)) y (o .meter))) v in
+    d .same ∙ ap (λ (y : ℕ). foundOf (modules S x y m (o .meter))) u
+    ∙ ap (λ (y : ℕ). foundOf (modules S x (lengthLeft left (o .choice)) y (o .meter))) v in
     let z : c ≡ offerImport S x (o .choice) (r .choice) i =
     e ∙ ap (λ (s : Snapshot). offerImport s x (o .choice) (r .choice) i) (same-snap W A₀ B l (d .tables) (p .reads)) in
     record {
@@ -160,12 +165,14 @@ module _ (W A₀ A : List ℕ) (l : Layout) (x : FindPathCtx) (left : ℕ) (p : 
   deps-end item best ds e = sym (ap (dependencies (snapOf W A₀ l) x left item (outOf best)) e)
 
   pub deps-next : (item : Item) {q : Dependency → Bool} {base n k j h c : ℕ} {best r : Found} {goal : Out Tank} {B : List ℕ}
-      → Running A₀ A left best (dependencies (snapOf W A₀ l) x left item (outOf best) (leftOf q (λ i. dependencyAt W (base + dependencySize * i)) n k)) goal
+      → Running A₀ A left best (dependencies (snapOf W A₀ l) x left item (outOf best)
+      (leftOf q (λ i. dependencyAt W (base + dependencySize * i)) n k)) goal
       → Meets q dependencyAt dependencySize W base n k j h
       → c ≡ dependencyAt W h .crate
       → Searched A (imports (snapOf W A l) x left (outOf best) (importInfoFor (snapOf W A l) c item)) B r
       → length B ≡ length A
-      → Running A₀ B left r (dependencies (snapOf W A₀ l) x left item (outOf r) (leftOf q (λ i. dependencyAt W (base + dependencySize * i)) n (j + 1))) goal
+      → Running A₀ B left r (dependencies (snapOf W A₀ l) x left item (outOf r)
+      (leftOf q (λ i. dependencyAt W (base + dependencySize * i)) n (j + 1))) goal
   unfolding findInDeps findInDep
   deps-next item {q} {base} {n} {k} {j} {h} {c} {best} {r} g m y d e =
       let S = snapOf W A₀ l in

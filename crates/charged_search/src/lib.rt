@@ -70,7 +70,8 @@ pub fn find_path_for_module(
     t: Tank,
 ) -> Found
     requires { ⌜ Prepared (now words) (now area) l x × (m .0 < l .modules) × (left ≤ pathLimit) × (t .fuel + t .spent < 2 ^ 32) ⌝ }
-    ensures { λ r. ⌜ Searched (now (area .entry)) (searchModule Tank fromTank (snapOf (now (words .entry)) (now (area .entry)) l) x left (m .0) t) (now (area .exit)) r ⌝ }
+    ensures { λ r. ⌜ Searched (now (area .entry)) (searchModule Tank fromTank (snapOf (now (words .entry)) (now (area .entry)) l) x left (m .0) t)
+        (now (area .exit)) r ⌝ }
 {
     if left == 0 {
         let choice = nothing();
@@ -100,7 +101,8 @@ pub fn calculate_best_path(
     t: Tank,
 ) -> Found
     requires { ⌜ Begun (now words) (now area) l x left × Asked l item × (t .fuel + t .spent < 2 ^ 32) ⌝ }
-    ensures { λ r. ⌜ Searched (now (area .entry)) (bestPath (snapOf (now (words .entry)) (now (area .entry)) l) x left item t) (now (area .exit)) r ⌝ }
+    ensures { λ r. ⌜ Searched (now (area .entry)) (bestPath (snapOf (now (words .entry)) (now (area .entry)) l) x left item t)
+        (now (area .exit)) r ⌝ }
 {
     match charge(x, left, item, t) {
         Drawn::Stop(meter) => {
@@ -125,7 +127,9 @@ fn search_charged(
     t: Tank,
 ) -> Found
     requires { ⌜ Begun (now words) (now area) l x left × Asked l item × (t .fuel + t .spent < 2 ^ 32) ⌝ }
-    ensures { λ r. ⌜ Searched (now (area .entry)) (afterCharge Tank fromTank (snapOf (now (words .entry)) (now (area .entry)) l) x (bestLocal (snapOf (now (words .entry)) (now (area .entry)) l) x) (modules (snapOf (now (words .entry)) (now (area .entry)) l) x) left item (go t)) (now (area .exit)) r ⌝ }
+    ensures { λ r. ⌜ Searched (now (area .entry)) (afterCharge Tank fromTank (snapOf (now (words .entry)) (now (area .entry)) l) x
+        (bestLocal (snapOf (now (words .entry)) (now (area .entry)) l) x) (modules (snapOf (now (words .entry)) (now (area .entry)) l) x)
+        left item (go t)) (now (area .exit)) r ⌝ }
 {
     let home = home_of(words, l, item);
     if is_at(words, area, l, home, x.from_crate) {
@@ -157,7 +161,8 @@ fn find_in_sysroot(
     o: Found,
 ) -> Found
     requires { ⌜ Begun (now words) (now area) l x left × Held left o ⌝ }
-    ensures { λ r. ⌜ Searched (now (area .entry)) (sysroot (snapOf (now (words .entry)) (now (area .entry)) l) x left item (outOf o) (langs (x .«prefer_no_std»)) (isStable (o .choice))) (now (area .exit)) r ⌝ }
+    ensures { λ r. ⌜ Searched (now (area .entry)) (sysroot (snapOf (now (words .entry)) (now (area .entry)) l) x left item (outOf o)
+        (langs (x .«prefer_no_std»)) (isStable (o .choice))) (now (area .exit)) r ⌝ }
 {
     let langs = langs_for(x.prefer_no_std);
     let a = find_in_lang(words, area, l, x, left, item, langs.first, o);
@@ -178,7 +183,8 @@ fn find_in_lang(
     o: Found,
 ) -> Found
     requires { ⌜ Begun (now words) (now area) l x left × Held left o ⌝ }
-    ensures { λ r. ⌜ Searched (now (area .entry)) (inLang (snapOf (now (words .entry)) (now (area .entry)) l) x left item (outOf o) lang (isStable (o .choice))) (now (area .exit)) r ⌝ }
+    ensures { λ r. ⌜ Searched (now (area .entry)) (inLang (snapOf (now (words .entry)) (now (area .entry)) l) x left item
+        (outOf o) lang (isStable (o .choice))) (now (area .exit)) r ⌝ }
 {
     let choice = o.choice;
     if is_stable(choice) {
@@ -201,7 +207,8 @@ fn find_in_rest(
     o: Found,
 ) -> Found
     requires { ⌜ Begun (now words) (now area) l x left × Held left o ⌝ }
-    ensures { λ r. ⌜ Searched (now (area .entry)) (sysroot (snapOf (now (words .entry)) (now (area .entry)) l) x left item (outOf o) [] (isStable (o .choice))) (now (area .exit)) r ⌝ }
+    ensures { λ r. ⌜ Searched (now (area .entry)) (sysroot (snapOf (now (words .entry)) (now (area .entry)) l) x left item
+        (outOf o) [] (isStable (o .choice))) (now (area .exit)) r ⌝ }
 {
     let choice = o.choice;
     if is_stable(choice) {
@@ -223,7 +230,9 @@ fn find_in_deps_by_sysroot(
     o: Found,
 ) -> Found
     requires { ⌜ Begun (now words) (now area) l x left × Held left o ⌝ }
-    ensures { λ r. ⌜ Searched (now (area .entry)) (dependencies (snapOf (now (words .entry)) (now (area .entry)) l) x left item (outOf o) (select (bySysroot (x .«from_crate» .0) inside) ((snapOf (now (words .entry)) (now (area .entry)) l) .dependencies))) (now (area .exit)) r ⌝ }
+    ensures { λ r. ⌜ Searched (now (area .entry)) (dependencies (snapOf (now (words .entry)) (now (area .entry)) l) x left item
+        (outOf o) (select (bySysroot (x .«from_crate» .0) inside) ((snapOf (now (words .entry)) (now (area .entry)) l) .dependencies)))
+        (now (area .exit)) r ⌝ }
 {
     let mut best = o;
     let mut k = 0;
@@ -257,7 +266,8 @@ fn find_in_deps(
     o: Found,
 ) -> Found
     requires { ⌜ Begun (now words) (now area) l x left × Held left o ⌝ }
-    ensures { λ r. ⌜ Searched (now (area .entry)) (dependencies (snapOf (now (words .entry)) (now (area .entry)) l) x left item (outOf o) (dependenciesOf (snapOf (now (words .entry)) (now (area .entry)) l) (x .«from_crate» .0))) (now (area .exit)) r ⌝ }
+    ensures { λ r. ⌜ Searched (now (area .entry)) (dependencies (snapOf (now (words .entry)) (now (area .entry)) l) x left item
+        (outOf o) (dependenciesOf (snapOf (now (words .entry)) (now (area .entry)) l) (x .«from_crate» .0))) (now (area .exit)) r ⌝ }
 {
     let mut best = o;
     let mut k = 0;
@@ -292,7 +302,8 @@ fn find_in_dep(
     o: Found,
 ) -> Found
     requires { ⌜ Begun (now words) (now area) l x left × Held left o ⌝ }
-    ensures { λ r. ⌜ Searched (now (area .entry)) (imports (snapOf (now (words .entry)) (now (area .entry)) l) x left (outOf o) (importInfoFor (snapOf (now (words .entry)) (now (area .entry)) l) (c .0) item)) (now (area .exit)) r ⌝ }
+    ensures { λ r. ⌜ Searched (now (area .entry)) (imports (snapOf (now (words .entry)) (now (area .entry)) l) x left (outOf o)
+        (importInfoFor (snapOf (now (words .entry)) (now (area .entry)) l) (c .0) item)) (now (area .exit)) r ⌝ }
 {
     let mut best = o;
     let mut k = 0;
@@ -317,8 +328,10 @@ fn find_import(
     h: usize,
     o: Found,
 ) -> Found
-    requires { ⌜ Begun (now words) (now area) l x left × (importAt (now words) h .container < l .modules) × ImportFits (countsIn l) (importAt (now words) h) × Held left o ⌝ }
-    ensures { λ r. ⌜ Searched (now (area .entry)) (oneImport (snapOf (now (words .entry)) (now (area .entry)) l) x left (outOf o) (importAt (now (words .entry)) h) (isHidden (importAt (now (words .entry)) h))) (now (area .exit)) r ⌝ }
+    requires { ⌜ Begun (now words) (now area) l x left × (importAt (now words) h .container < l .modules)
+        × ImportFits (countsIn l) (importAt (now words) h) × Held left o ⌝ }
+    ensures { λ r. ⌜ Searched (now (area .entry)) (oneImport (snapOf (now (words .entry)) (now (area .entry)) l) x left (outOf o)
+        (importAt (now (words .entry)) h) (isHidden (importAt (now (words .entry)) h))) (now (area .exit)) r ⌝ }
 {
     if is_hidden(words, h) {
         return o;

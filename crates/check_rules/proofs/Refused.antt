@@ -6,7 +6,8 @@ use mathlib.Core.Bool.{true, false}
 use Rattle.snapshot.specs.Lists.{rows, any, all, eqList}
 use Rattle.snapshot.specs.Words.{argumentsOf}
 use Rattle.check_rules.specs.Tests.{textBound, padded}
-use Rattle.check_rules.specs.Steps.{Next, no, on, judge, judgeCrate, nameStep, crateStep, dependencyStep, mapStep, moduleStep, childStep, preludeStep, definitionStep, scopeStep, importStep, externStep, memberStep}
+use Rattle.check_rules.specs.Steps.{Next, no, on, judge, judgeCrate, nameStep, crateStep, dependencyStep, mapStep, moduleStep, childStep}
+use Rattle.check_rules.specs.Steps.{preludeStep, definitionStep, scopeStep, importStep, externStep, memberStep}
 use Rattle.check_rules.specs.Verdict.{Verdict, refuse, accept, argumentsFrom, recordStep, stepAt, finish, records, empty, verdict}
 
 -- number and place of a refusal
@@ -67,5 +68,6 @@ pub refusals :
     )
     ≡ (32 ∷ 0 ∷ []) ∷ (34 ∷ 2 ∷ []) ∷ (31 ∷ 2 ∷ []) ∷ (32 ∷ 0 ∷ []) ∷ (43 ∷ 0 ∷ []) ∷ (33 ∷ 0 ∷ []) ∷ (35 ∷ 12 ∷ []) ∷ (35 ∷ 9 ∷ [])
     ∷ (34 ∷ 11 ∷ []) ∷ (34 ∷ 6 ∷ []) ∷ (32 ∷ 14 ∷ []) ∷ (35 ∷ 17 ∷ []) ∷ (35 ∷ 17 ∷ []) ∷ [] ∷ []
-unfolding told after verdict records stepAt recordStep finish argumentsFrom argumentsOf nameStep crateStep dependencyStep mapStep moduleStep childStep preludeStep definitionStep scopeStep importStep externStep memberStep textBound padded rows any all eqList
+unfolding told after verdict records stepAt recordStep finish argumentsFrom argumentsOf nameStep crateStep dependencyStep mapStep
+    moduleStep childStep preludeStep definitionStep scopeStep importStep externStep memberStep textBound padded rows any all eqList
 refusals = refl

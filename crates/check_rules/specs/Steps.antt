@@ -8,7 +8,11 @@ use Rattle.snapshot.specs.Lists.{any}
 use Rattle.snapshot.specs.Limits.{crateLimit, moduleLimit, nameLimit, definitionLimit}
 use Rattle.snapshot.specs.Refusals.{rangeRefusal, undefinedRefusal, repeatedRefusal, placeRefusal, countRefusal, editionRefusal}
 use Rattle.snapshot.specs.Records.{Name, Crate, Dependency, Map, Module, Child, Prelude, Definition, Scope, Import, Extern, Member, Snapshot}
-use Rattle.check_rules.specs.Tests.{countsOf, nameRange, sameName, crateRange, isEdition, dependencyRange, dependencyDefined, mapRange, mapDefined, mapRepeated, mapPlaced, moduleDefined, modulePlaced, childDefined, sameChild, childPlaced, preludeDefined, samePrelude, definitionRange, definitionDefined, definitionRepeated, definitionPlaced, scopeRange, scopeDefined, sameEntry, nsPlaced, importRange, importDefined, externDefined, sameExtern, memberRange, memberDefined, memberPlaced}
+use Rattle.check_rules.specs.Tests.{countsOf, nameRange, sameName, crateRange, isEdition, dependencyRange, dependencyDefined, mapRange}
+use Rattle.check_rules.specs.Tests.{mapDefined, mapRepeated, mapPlaced, moduleDefined, modulePlaced, childDefined, sameChild, childPlaced}
+use Rattle.check_rules.specs.Tests.{preludeDefined, samePrelude, definitionRange, definitionDefined, definitionRepeated, definitionPlaced}
+use Rattle.check_rules.specs.Tests.{scopeRange, scopeDefined, sameEntry, nsPlaced, importRange, importDefined, externDefined, sameExtern}
+use Rattle.check_rules.specs.Tests.{memberRange, memberDefined, memberPlaced}
 
 -- a refusal, or the snapshot with the record
 pub data Next : Type 0 where
@@ -22,7 +26,8 @@ need false n r = no n
 -- fields in range, numbers defined, repeated or not, in its place, room for it
 abbrev pub judge : Bool → Bool → Bool → Bool → Bool → Snapshot → Next
 judge range defined repeated placed room s =
-    need range rangeRefusal (need defined undefinedRefusal (need (not repeated) repeatedRefusal (need placed placeRefusal (need room countRefusal (on s)))))
+    need range rangeRefusal
+    (need defined undefinedRefusal (need (not repeated) repeatedRefusal (need placed placeRefusal (need room countRefusal (on s)))))
 
 -- a crate's: fields in range, a known edition, room for it
 abbrev pub judgeCrate : Bool → Bool → Bool → Snapshot → Next

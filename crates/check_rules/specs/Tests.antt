@@ -1,4 +1,5 @@
--- What is asked of each kind of record: fields in range (32), a known edition (43), numbers defined (33), nothing repeated (34), the right place (35).
+-- What is asked of each kind of record: fields in range (32), a known edition (43), numbers defined (33), nothing repeated (34), the right
+-- place (35).
 use Prim.Native.Nat.{ℕ, zero, suc, _+_, _-_}
 use mathlib.Core.List.{List, [], _∷_}
 use mathlib.Core.Bool.{Bool, true, _&&_, _||_, not}

@@ -7,9 +7,11 @@ use lib.ListN.{length, getD}
 use Rattle.snapshot.specs.Limits.{wordLimit}
 use Rattle.snapshot.specs.Refusals.{wordsRefusal, formRefusal, placeRefusal}
 use Rattle.snapshot.specs.Words.{kindOf, argumentsAt}
-use Rattle.snapshot.specs.Records.{Snapshot, nameAt, crateAt, dependencyAt, mapAt, moduleAt, childAt, preludeAt, definitionAt, scopeAt, importAt, externAt, memberAt}
+use Rattle.snapshot.specs.Records.{Snapshot, nameAt, crateAt, dependencyAt, mapAt, moduleAt, childAt, preludeAt, definitionAt, scopeAt, importAt}
+use Rattle.snapshot.specs.Records.{externAt, memberAt}
 use Rattle.check_rules.specs.Tests.{mapsFilled, cratesOwn}
-use Rattle.check_rules.specs.Steps.{Next, no, on, need, nameStep, crateStep, dependencyStep, mapStep, moduleStep, childStep, preludeStep, definitionStep, scopeStep, importStep, externStep, memberStep}
+use Rattle.check_rules.specs.Steps.{Next, no, on, need, nameStep, crateStep, dependencyStep, mapStep, moduleStep, childStep, preludeStep}
+use Rattle.check_rules.specs.Steps.{definitionStep, scopeStep, importStep, externStep, memberStep}
 
 -- a known kind that does not fall; a map may follow a module; kind 12 is a question's
 abbrev pub follows : ℕ → ℕ → Bool

@@ -6,7 +6,8 @@ use Rattle.snapshot.specs.Lists.{rows, any, all, eqList}
 use Rattle.snapshot.specs.Words.{argumentsOf}
 use Rattle.snapshot.specs.Records.{Snapshot}
 use Rattle.check_rules.specs.Tests.{textBound, padded}
-use Rattle.check_rules.specs.Steps.{nameStep, crateStep, dependencyStep, mapStep, moduleStep, childStep, preludeStep, definitionStep, scopeStep, importStep, externStep, memberStep}
+use Rattle.check_rules.specs.Steps.{nameStep, crateStep, dependencyStep, mapStep, moduleStep, childStep, preludeStep, definitionStep, scopeStep}
+use Rattle.check_rules.specs.Steps.{importStep, externStep, memberStep}
 use Rattle.check_rules.specs.Verdict.{argumentsFrom, recordStep, stepAt, finish, records, verdict, accept}
 
 abbrev pub worked : List ℕ
@@ -36,5 +37,6 @@ workedSnapshot =
     }
 
 pub worked-accepted : verdict worked ≡ accept workedSnapshot
-unfolding verdict records stepAt recordStep finish argumentsFrom argumentsOf nameStep crateStep dependencyStep mapStep moduleStep childStep preludeStep definitionStep scopeStep importStep externStep memberStep textBound padded rows any all eqList
+unfolding verdict records stepAt recordStep finish argumentsFrom argumentsOf nameStep crateStep dependencyStep mapStep moduleStep
+    childStep preludeStep definitionStep scopeStep importStep externStep memberStep textBound padded rows any all eqList
 worked-accepted = refl

@@ -48,7 +48,8 @@ fn put_refused(bytes: &[u8], n: u32, place: usize, out: &mut [u8]) -> usize
 pub fn report(bytes: &[u8], words: &mut [u32], area: &mut [u32], out: &mut [u8]) -> usize
     requires { ⌜ (wordLimit ≤ length (now words)) × (areaLimit ≤ length (now area)) ⌝ }
     requires { ⌜ textLimit ≤ length (now out) ⌝ }
-    ensures { λ r. ⌜ (take r (now (out .exit)) ≡ textOf (now (bytes .entry)) (verdictOf (now (bytes .entry)))) × (drop r (now (out .exit)) ≡ drop r (now (out .entry))) ⌝ }
+    ensures { λ r. ⌜ (take r (now (out .exit)) ≡ textOf (now (bytes .entry)) (verdictOf (now (bytes .entry))))
+        × (drop r (now (out .exit)) ≡ drop r (now (out .entry))) ⌝ }
     ensures { λ r. ⌜ Counts r (now (out .exit)) ⌝ }
 {
     let c = verdict(bytes, words, area);

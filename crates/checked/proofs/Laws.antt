@@ -41,7 +41,8 @@ module _ (area : ℕ) (q : Query) (fuel : ℕ) where
     unfolding callFault
     much h = rw (callFault, le-ltb _ _ large, lt-ltb _ _ h)
 
-    pub outside : fuel ≤ fuelLimit → (ltb namespaceLimit (q .ns) || (ltb prefixLimit (q .prefix) || ltb optionsLimit (q .options))) ≡ true → fieldRefusal ≡ callFault area q fuel
+    pub outside : fuel ≤ fuelLimit → (ltb namespaceLimit (q .ns) || (ltb prefixLimit (q .prefix) || ltb optionsLimit (q .options))) ≡ true
+        → fieldRefusal ≡ callFault area q fuel
     unfolding callFault
     outside h t = rw (callFault, le-ltb _ _ large, le-ltb _ _ h, t)
 
@@ -60,7 +61,8 @@ module _ (area : ℕ) (q : Query) (fuel : ℕ) where
   or-false false b e = refl
 
   -- what a question without a fault of the call has
-  pub fault-free : 0 ≡ callFault area q fuel → (areaLimit ≤ area) × (fuel ≤ fuelLimit) × (q .ns ≤ namespaceLimit) × (0 < q .limit) × (q .limit ≤ pathLimit)
+  pub fault-free : 0 ≡ callFault area q fuel → (areaLimit ≤ area) × (fuel ≤ fuelLimit) × (q .ns ≤ namespaceLimit) × (0 < q .limit)
+      × (q .limit ≤ pathLimit)
   fault-free e =
       let w = call-allowed area q fuel (sym e) in
       by-test (ltb area areaLimit) (λ t. absurd (omega (arith, e, small (ltb-true _ _ t)))) (λ t.

@@ -50,13 +50,16 @@ module _ (W : List ℕ) (q : Question) where
       unfolding lineOf
       line-refused n place e p =
           let v : verdict W ≡ refuse n place = sym (subst (λ (x : Checked). Judged W A x) e (a .checked) .same) in
-          let u : refused (r .number) ≡ reportOf W areaLimit q = ap (λ (x : Report). refused (x .number)) (a .report) ∙ sym (refusal-only n place v) in
+          let u : refused (r .number) ≡ reportOf W areaLimit q = ap (λ (x : Report). refused (x .number)) (a .report)
+          ∙ sym (refusal-only n place v) in
           record {
-            line = put-as (ap (λ x. lineIn (snapshotOf (verdict W)) (q .query .from .0) x ++ bytesOf "\n") u) (p (snapshotOf (verdict W)) (q .query .from .0));
+            line = put-as (ap (λ x. lineIn (snapshotOf (verdict W)) (q .query .from .0) x ++ bytesOf "\n") u)
+                (p (snapshotOf (verdict W)) (q .query .from .0));
             checked = a .checked;
           }
 
-      pub line-accepted : (l : Layout) → c ≡ Accepted l → Put old 0 (lineIn (snapOf W A l) (q .query .from .0) r ++ bytesOf "\n") new t → LineOn W q c A old new t
+      pub line-accepted : (l : Layout) → c ≡ Accepted l → Put old 0 (lineIn (snapOf W A l) (q .query .from .0) r ++ bytesOf "\n") new t
+          → LineOn W q c A old new t
       unfolding lineOf snapshotOf
       line-accepted l e p =
           let v : snapOf W A l ≡ snapshotOf (verdict W) = ap snapshotOf (subst (λ (x : Checked). Judged W A x) e (a .checked) .same) in

@@ -22,8 +22,10 @@ use snapshot::layout::Layout;
 
 // The answer on accepted words; the tables stay.
 fn ask(words: &[u32], area: &mut [u32], l: Layout, q: Query, fuel: usize) -> Report
-    requires { ⌜ Reads (now words) (now area) l × (length (now area) ≡ areaLimit) × (q .ns ≤ namespaceLimit) × (fuel ≤ fuelLimit) × (0 < q .limit) × (q .limit ≤ pathLimit) ⌝ }
-    ensures { λ r. ⌜ r ≡ answerUnless (snapOf (now (words .entry)) (now (area .entry)) l) q fuel (questionFault (snapOf (now (words .entry)) (now (area .entry)) l) q) ⌝ }
+    requires { ⌜ Reads (now words) (now area) l × (length (now area) ≡ areaLimit) × (q .ns ≤ namespaceLimit) × (fuel ≤ fuelLimit)
+        × (0 < q .limit) × (q .limit ≤ pathLimit) ⌝ }
+    ensures { λ r. ⌜ r ≡ answerUnless (snapOf (now (words .entry)) (now (area .entry)) l) q fuel
+        (questionFault (snapOf (now (words .entry)) (now (area .entry)) l) q) ⌝ }
     ensures { λ _. ⌜ take tableWords (now (area .exit)) ≡ take tableWords (now (area .entry)) ⌝ }
 {
     let n = question_fault(words, l, q);
@@ -35,7 +37,8 @@ fn ask(words: &[u32], area: &mut [u32], l: Layout, q: Query, fuel: usize) -> Rep
 
 // The answer on checked words, to a question without a fault of its own.
 fn report_by(words: &[u32], area: &mut [u32], c: Checked, q: Query, fuel: usize) -> Report
-    requires { ⌜ Judged (now words) (now area) c × (length (now area) ≡ areaLimit) × (q .ns ≤ namespaceLimit) × (fuel ≤ fuelLimit) × (0 < q .limit) × (q .limit ≤ pathLimit) ⌝ }
+    requires { ⌜ Judged (now words) (now area) c × (length (now area) ≡ areaLimit) × (q .ns ≤ namespaceLimit) × (fuel ≤ fuelLimit)
+        × (0 < q .limit) × (q .limit ≤ pathLimit) ⌝ }
     ensures { λ r. ⌜ (r ≡ reportBy q fuel (verdict (now (words .entry)))) × Judged (now (words .entry)) (now (area .exit)) c ⌝ }
 {
     match c {

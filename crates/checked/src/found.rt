@@ -37,8 +37,10 @@ fn misleads(words: &[u32], area: &[u32], l: Layout, q: Query, c: Choice) -> bool
 
 /// The report of the search for the item of a question, for a limit in range; the tables stay.
 pub fn report_in(words: &[u32], area: &mut [u32], l: Layout, q: Query, fuel: usize) -> Report
-    requires { ⌜ Reads (now words) (now area) l × (length (now area) ≡ areaLimit) × (q .definition .0 < l .definitions) × (q .from .0 < l .modules) × (q .ns ≤ namespaceLimit) × (fuel ≤ fuelLimit) × (0 < q .limit) × (q .limit ≤ pathLimit) ⌝ }
-    ensures { λ r. ⌜ r ≡ reportedOf (snapOf (now (words .entry)) (now (area .entry)) l) q (searched (snapOf (now (words .entry)) (now (area .entry)) l) q fuel) ⌝ }
+    requires { ⌜ Reads (now words) (now area) l × (length (now area) ≡ areaLimit) × (q .definition .0 < l .definitions)
+        × (q .from .0 < l .modules) × (q .ns ≤ namespaceLimit) × (fuel ≤ fuelLimit) × (0 < q .limit) × (q .limit ≤ pathLimit) ⌝ }
+    ensures { λ r. ⌜ r ≡ reportedOf (snapOf (now (words .entry)) (now (area .entry)) l) q
+        (searched (snapOf (now (words .entry)) (now (area .entry)) l) q fuel) ⌝ }
     ensures { λ _. ⌜ take tableWords (now (area .exit)) ≡ take tableWords (now (area .entry)) ⌝ }
 {
     let f = find_path(words, area, l, q, fuel);

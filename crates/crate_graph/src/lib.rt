@@ -115,7 +115,9 @@ pub fn next_by_sysroot(words: &[u32], l: Layout, k: usize, c: Crate, sysroot: bo
 // Whether the dependency with its head at a place is one of the crate's, in the sysroot, of that origin.
 fn is_lang_sysroot(words: &[u32], l: Layout, h: usize, c: Crate, lang: usize) -> bool
     requires { ⌜ wordCount l < 2 ^ 32 ⌝ }
-    ensures { λ r. ⌜ ((A : List ℕ) → r ≡ (isDependency (c .0) (dependencyAt (now (words .entry)) h) && isLangSysroot (snapOf (now (words .entry)) A l) lang (dependencyAt (now (words .entry)) h))) ⌝ }
+    ensures { λ r. ⌜ ((A : List ℕ)
+        → r ≡ (isDependency (c .0) (dependencyAt (now (words .entry)) h) && isLangSysroot (snapOf (now (words .entry)) A l) lang
+        (dependencyAt (now (words .entry)) h))) ⌝ }
 {
     let owner = dependency_owner(words, h);
     let inside = dependency_sysroot(words, h) == 1;

@@ -1,18 +1,14 @@
 -- Numbers that fall keep what they have.
-use Prim.Native.Nat.{ℕ, zero, suc, _+_, _*_, _≤_, _<_}
-use mathlib.Core.Path.{_≡_, refl, ap, sym, _∙_, subst}
-use mathlib.Core.List.{List, [], _∷_}
-use mathlib.Core.Bool.{Bool, true, false, _||_}
-use mathlib.Core.Option.{Option, some}
+use Prim.Native.Nat.{ℕ, zero, suc, _+_, _≤_, _<_}
+use mathlib.Core.Path.{_≡_, refl, sym, _∙_, subst}
+use mathlib.Core.List.{List}
 use native.Mathlib.Omega.{arith}
 use lib.Dec.{eqb}
-use lib.ListN.{length, getD, set, take, length-set}
+use lib.ListN.{length, getD, set}
 use lib.Seq.{getD-set-same, getD-set-other, take-set-le}
-use borrow.Author.Count.{below-more}
 use borrow.Author.Tests.{eqb-true, eqb-false}
 use Rattle.snapshot.specs.Lists.{rows}
-use Rattle.snapshot.specs.Limits.{moduleLimit, areaLimit}
-use Rattle.snapshot.specs.Records.{Snapshot, Scope, Prelude}
+use Rattle.snapshot.specs.Records.{Snapshot, Scope}
 use Rattle.snapshot.specs.Layouts.{tableWords, snapOf}
 use Rattle.snapshot.specs.declared.layout.Layout.{Layout}
 use Rattle.accept.specs.Post.{Reads}
@@ -21,8 +17,8 @@ use Rattle.accept.proofs.Accepted.{by-test}
 use Rattle.accept.proofs.Bools.{each-map}
 use Rattle.find_path.specs.declared.FindPathCtx.{FindPathCtx}
 use Rattle.search_laws.proofs.Tables.{same-snap, same-reads}
-use Rattle.distances.specs.Distances.{distance, Named, Stepped, Ruled}
-use Rattle.distances.specs.Post.{Ready, Far, Numbered, Rooted, Lowers, Smaller, Passed}
+use Rattle.distances.specs.Distances.{distance, Named, Ruled}
+use Rattle.distances.specs.Post.{Ready, Far, Numbered, Lowers}
 
 -- all of a list that is read off
 rows-from : {A : Type 0} {P : A → Type 0} (f : ℕ → A) (k n : ℕ) → ((i : ℕ) → i < n → P (f (k + i))) → Each P (rows f k n)
@@ -31,7 +27,8 @@ rows-from f k zero h = none
 rows-from {P = P} f k (suc n) h =
     let e : k + 0 ≡ k = omega arith in
     let g : (i : ℕ) → k + (i + 1) ≡ k + 1 + i = λ i. omega arith in
-    more (subst (λ (z : ℕ). P (f z)) e (h 0 (omega arith))) (rows-from f (k + 1) n (λ i q. subst (λ (z : ℕ). P (f z)) (g i) (h (i + 1) (omega arith))))
+    more (subst (λ (z : ℕ). P (f z)) e (h 0 (omega arith)))
+    (rows-from f (k + 1) n (λ i q. subst (λ (z : ℕ). P (f z)) (g i) (h (i + 1) (omega arith))))
 
 pub rows-each : {A : Type 0} {P : A → Type 0} (f : ℕ → A) (n : ℕ) → ((i : ℕ) → i < n → P (f i)) → Each P (rows f 0 n)
 rows-each {P = P} f n h = rows-from f 0 n (λ i q. let e : i ≡ 0 + i = omega arith in subst (λ (z : ℕ). P (f z)) e (h i q))

@@ -7,11 +7,10 @@ use mathlib.Core.Logic.{_⊎_, inl, inr, ⊎-elim}
 use mathlib.Core.Option.{Option, none, some}
 use native.Mathlib.Omega.{arith}
 use lib.Dec.{eqb}
-use lib.ListN.{length, getD, set, take, length-set}
+use lib.ListN.{length, set}
 use lib.Seq.{getD-set-same, getD-set-other, take-set-le}
 use borrow.Author.Count.{below-more}
 use borrow.Author.Tests.{eqb-true}
-use Rattle.snapshot.specs.Lists.{rows}
 use Rattle.snapshot.specs.Sizes.{scopeSize}
 use Rattle.snapshot.specs.Limits.{moduleLimit, areaLimit}
 use Rattle.snapshot.specs.Records.{Snapshot, Scope, Prelude, scopeAt}
@@ -19,9 +18,9 @@ use Rattle.snapshot.specs.Layouts.{tableWords, scopeBase, snapOf}
 use Rattle.snapshot.specs.declared.layout.Layout.{Layout}
 use Rattle.accept.specs.Post.{Reads}
 use Rattle.record_rules.specs.Stands.{countsIn}
-use Rattle.accept.specs.Valid.{Each, more, ScopeFits, PreludeFits}
+use Rattle.accept.specs.Valid.{Each, more, ScopeFits}
 use Rattle.accept.proofs.Accepted.{by-test}
-use Rattle.hir_def.specs.Items.{crateRoot, itemOf, parentOf, crateOf, inBlock, blockOf, rootOf, mapNo, moduleItem, definedItem}
+use Rattle.hir_def.specs.Items.{crateRoot, itemOf, parentOf, crateOf, inBlock, blockOf, mapNo, moduleItem, definedItem}
 use Rattle.hir_def.specs.Nameres.{steps, stepsOr, ancestorMaps, preludeOf}
 use Rattle.hir_def.specs.declared.Item.{Item}
 use Rattle.accept.proofs.Trees.{accepted-tree}
@@ -31,12 +30,12 @@ use Rattle.hir_def.proofs.Fits.{item-known}
 use Rattle.hir_def.proofs.Reading.{length-modules}
 use Rattle.hir_def.specs.Entries.{Known}
 use Rattle.find_path.specs.declared.FindPathCtx.{FindPathCtx}
-use Rattle.path_choices.specs.Choices.{nothing}
 use Rattle.find_path.specs.Rules.{moduleIn, mayBeInScope, parentKind, isKwKindRelativeToFrom, keywordOf}
 use Rattle.search_laws.proofs.Tables.{same-snap, same-reads}
 use Rattle.distances.specs.Distances.{distance, Named, isKeyword}
 use Rattle.distances.specs.Post.{Ready, Rooted, Marked, Lowers}
-use Rattle.distances.proofs.Lowering.{rows-each, lowers-same, lowers-then, lowers-snap, lowers-ready, lowers-far, set-lowers, distances-less, named-less, all-less}
+use Rattle.distances.proofs.Lowering.{rows-each, lowers-same, lowers-then, lowers-snap, lowers-ready, lowers-far, set-lowers, distances-less}
+use Rattle.distances.proofs.Lowering.{named-less, all-less}
 
 -- a module is marked
 module _ (A : List ℕ) (m : ℕ) (size : length A ≡ areaLimit) (known : m < moduleLimit) where
@@ -49,8 +48,10 @@ module _ (A : List ℕ) (m : ℕ) (size : length A ≡ areaLimit) (known : m < m
 pub rooted-start : (W A : List ℕ) (l : Layout) → Rooted W A l 0 A
 rooted-start W A l = record { far = λ m h. absurd (omega arith); roots = λ m h e. absurd (omega arith); tables = refl }
 
-module _ (W A₀ : List ℕ) (l : Layout) (r : Reads W A₀ l) (n : ℕ) (A : List ℕ) (i : Rooted W A₀ l n A) (size : length A ≡ areaLimit) (few : n < moduleLimit) where
-  pub rooted-next : {root d : ℕ} → root ≡ crateRoot (snapOf W A l) n → (d ≤ 16) × (root ≡ n → d ≤ 1) → Rooted W A₀ l (n + 1) (set A (tableWords + n) d)
+module _ (W A₀ : List ℕ) (l : Layout) (r : Reads W A₀ l) (n : ℕ) (A : List ℕ) (i : Rooted W A₀ l n A) (size : length A ≡ areaLimit)
+    (few : n < moduleLimit) where
+  pub rooted-next : {root d : ℕ} → root ≡ crateRoot (snapOf W A l) n → (d ≤ 16) × (root ≡ n → d ≤ 1)
+      → Rooted W A₀ l (n + 1) (set A (tableWords + n) d)
   rooted-next {root} {d} e f =
       let B = set A (tableWords + n) d in
       let here : distance B n ≡ d = getD-set-same A (tableWords + n) d 0 (omega arith) in
@@ -154,7 +155,8 @@ module _ (s : Snapshot) (x : FindPathCtx) where
 
   -- the numbers of both
   module _ (d : ℕ → ℕ) where
-    pub keywords-one : (isKeyword s x (x .from .0) ≡ true → d (x .from .0) ≤ 1) → parentOf s (x .from .0) ≡ 0 → (m : ℕ) → isKeyword s x m ≡ true → d m ≤ 1
+    pub keywords-one : (isKeyword s x (x .from .0) ≡ true → d (x .from .0) ≤ 1) → parentOf s (x .from .0) ≡ 0 → (m : ℕ)
+        → isKeyword s x m ≡ true → d m ≤ 1
     keywords-one f n m h =
         ⊎-elim (λ e. subst (λ y. d y ≤ 1) (sym e) (f (subst (λ y. isKeyword s x y ≡ true) e h))) (λ e. absurd (omega arith)) (keyword-cases m h)
 
@@ -181,7 +183,8 @@ pub record Climbing (W A₀ : List ℕ) (l : Layout) (from : ℕ) (A : List ℕ)
   pub lowers : Lowers A₀ A
   pub size : length A ≡ length A₀
   pub known : m < l .modules
-  pub rest : (B : List ℕ) → Lowers A B → Each (AllNamed W A₀ l B) (ancestorMaps (snapOf W A₀ l) m) → Each (AllNamed W A₀ l B) (ancestorMaps (snapOf W A₀ l) from)
+  pub rest : (B : List ℕ) → Lowers A B → Each (AllNamed W A₀ l B) (ancestorMaps (snapOf W A₀ l) m)
+      → Each (AllNamed W A₀ l B) (ancestorMaps (snapOf W A₀ l) from)
 
 pub climbing-start : (W A : List ℕ) (l : Layout) (from : ℕ) → from < l .modules → Climbing W A l from A from
 climbing-start W A l from h = record { lowers = lowers-same A; size = refl; known = h; rest = λ B f g. g }
@@ -208,7 +211,8 @@ module _ (W A₀ : List ℕ) (l : Layout) (r : Reads W A₀ l) (from : ℕ) (A :
     block-same = e ∙ ap (λ (s : Snapshot). blockOf s m) (lowers-snap W l climbing-lowers r)
 
     steps-at : steps (blockOf S₀) m ≡ stepsOr (steps (blockOf S₀)) b
-    steps-at = steps-more (blockOf S₀) (length (S₀ .modules)) falls m (rw (length-modules W A₀ l) (v .known)) ∙ ap (stepsOr (steps (blockOf S₀))) (sym block-same)
+    steps-at = steps-more (blockOf S₀) (length (S₀ .modules)) falls m (rw (length-modules W A₀ l) (v .known))
+        ∙ ap (stepsOr (steps (blockOf S₀))) (sym block-same)
 
     pub climbing-less : {p : ℕ} → b ≡ suc p → p < m
     climbing-less {p} n = falls m p (rw (length-modules W A₀ l) (v .known)) (sym block-same ∙ n)
@@ -241,7 +245,8 @@ module _ (W A : List ℕ) (l : Layout) (from : ℕ) where
       let g : none ≡ some p = sym n ∙ f ∙ ap (preludeOf (snapOf W A l)) e ∙ h in
       let w : _≡_ {A = ℕ} 0 1 = cc in absurd (omega arith)
 
-  pub one-prelude : {k t : ℕ} {o : Option Prelude} (q : Prelude) (B : List ℕ) → k ≡ mapNo (snapOf W A l) from → o ≡ preludeOf (snapOf W A l) k → o ≡ some q → t ≡ q .target
+  pub one-prelude : {k t : ℕ} {o : Option Prelude} (q : Prelude) (B : List ℕ) → k ≡ mapNo (snapOf W A l) from
+      → o ≡ preludeOf (snapOf W A l) k → o ≡ some q → t ≡ q .target
       → AllNamed W A l B t → (p : Prelude) → P₀ ≡ some p → AllNamed W A l B (p .target)
   one-prelude {k} {t} q B e f n u h p g =
       let j : some q ≡ some p = sym n ∙ f ∙ ap (preludeOf (snapOf W A l)) e ∙ g in
@@ -249,7 +254,8 @@ module _ (W A : List ℕ) (l : Layout) (from : ℕ) where
       subst (AllNamed W A l B) (u ∙ ap (λ (y : Prelude). y .target) same) h
 
 -- the rules, one after the other
-module _ (W A₀ : List ℕ) (l : Layout) (x : FindPathCtx) (y : Ready W A₀ l) (A₁ : List ℕ) (f₁ : Rooted W A₀ l (l .modules) A₁) (z₁ : length A₁ ≡ length A₀) where
+module _ (W A₀ : List ℕ) (l : Layout) (x : FindPathCtx) (y : Ready W A₀ l) (A₁ : List ℕ) (f₁ : Rooted W A₀ l (l .modules) A₁)
+    (z₁ : length A₁ ≡ length A₀) where
   abbrev T : List ℕ → Snapshot
   T A = snapOf W A l
 
@@ -261,7 +267,8 @@ module _ (W A₀ : List ℕ) (l : Layout) (x : FindPathCtx) (y : Ready W A₀ l)
     ready-keywords = lowers-ready W l (f₂ .0) ready-roots z₂
 
     module _ (A₃ : List ℕ)
-        (f₃ : Lowers A₂ A₃ × ((p : Prelude) → preludeOf (T A₂) (mapNo (T A₂) (x .from .0)) ≡ some p → Each (Named (T A₂) (distance A₃) (p .target)) (T A₂ .scopes)))
+        (f₃ : Lowers A₂ A₃ × ((p : Prelude) → preludeOf (T A₂) (mapNo (T A₂) (x .from .0)) ≡ some p
+        → Each (Named (T A₂) (distance A₃) (p .target)) (T A₂ .scopes)))
         (z₃ : length A₃ ≡ length A₂) where
       pub ready-prelude : Ready W A₃ l
       ready-prelude = lowers-ready W l (f₃ .0) ready-keywords z₃
@@ -275,7 +282,8 @@ module _ (W A₀ : List ℕ) (l : Layout) (x : FindPathCtx) (y : Ready W A₀ l)
       same₃ : T A₃ ≡ T A₀
       same₃ = lowers-snap W l (f₃ .0) (ready-keywords .reads) ∙ same₂
 
-      marked : (A : List ℕ) → Lowers A₃ A → (mayBeInScope (T A₀) x ≡ true → Each (λ a. Each (Named (T A₀) (distance A) a) (T A₀ .scopes)) (ancestorMaps (T A₀) (x .from .0)))
+      marked : (A : List ℕ) → Lowers A₃ A
+          → (mayBeInScope (T A₀) x ≡ true → Each (λ a. Each (Named (T A₀) (distance A) a) (T A₀ .scopes)) (ancestorMaps (T A₀) (x .from .0)))
           → Marked W A₀ l x A
       marked A g scope =
           let h₃ = lowers-then (f₃ .0) g in
@@ -285,11 +293,13 @@ module _ (W A₀ : List ℕ) (l : Layout) (x : FindPathCtx) (y : Ready W A₀ l)
             rules =
                 record {
                   roots = λ m b e. let p = f₁ .roots m b e in let q = distances-less h₂ m in omega arith;
-                  keywords = λ m e. let p = f₂ .1 m (subst (λ (s : Snapshot). isKeyword s x m ≡ true) (sym same₁) e) in let q = distances-less h₃ m in omega arith;
+                  keywords = λ m e. let p = f₂ .1 m (subst (λ (s : Snapshot). isKeyword s x m ≡ true) (sym same₁) e) in let q =
+                      distances-less h₃ m in omega arith;
                   scope = scope;
                   prelude = λ p e.
                       all-less (T A₀) (distance A₃) (distance A) (distances-less g) (p .target)
-                      (subst (λ (s : Snapshot). preludeOf s (mapNo s (x .from .0)) ≡ some p → Each (Named s (distance A₃) (p .target)) (s .scopes)) same₂ (f₃ .1 p) e);
+                      (subst (λ (s : Snapshot). preludeOf s (mapNo s (x .from .0)) ≡ some p
+                      → Each (Named s (distance A₃) (p .target)) (s .scopes)) same₂ (f₃ .1 p) e);
                 };
             tables = h₂ .tables ∙ f₁ .tables;
           }
@@ -297,6 +307,8 @@ module _ (W A₀ : List ℕ) (l : Layout) (x : FindPathCtx) (y : Ready W A₀ l)
       pub marked-none : {b : Bool} → b ≡ mayBeInScope (T A₀) x → b ≡ false → Marked W A₀ l x A₃
       marked-none e n = marked A₃ (lowers-same A₃) (λ t. absurd (true≢false (sym t ∙ sym e ∙ n)))
 
-      pub marked-scopes : (A : List ℕ) → Lowers A₃ A × Each (λ a. Each (Named (T A₃) (distance A) a) (T A₃ .scopes)) (ancestorMaps (T A₃) (x .from .0)) → Marked W A₀ l x A
+      pub marked-scopes : (A : List ℕ) → Lowers A₃ A × Each (λ a. Each (Named (T A₃) (distance A) a) (T A₃ .scopes))
+          (ancestorMaps (T A₃) (x .from .0)) → Marked W A₀ l x A
       marked-scopes A g =
-          marked A (g .0) (λ t. subst (λ (s : Snapshot). Each (λ a. Each (Named s (distance A) a) (s .scopes)) (ancestorMaps s (x .from .0))) same₃ (g .1))
+          marked A (g .0) (λ t. subst (λ (s : Snapshot). Each (λ a. Each (Named s (distance A) a) (s .scopes)) (ancestorMaps s (x .from .0)))
+          same₃ (g .1))

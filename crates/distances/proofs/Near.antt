@@ -2,7 +2,7 @@
 use Prim.Native.Nat.{ℕ, zero, suc, _+_, _≤_, _<_}
 use mathlib.Core.Path.{_≡_, refl, ap, sym, _∙_, subst}
 use mathlib.Core.List.{List, [], _∷_}
-use mathlib.Core.Bool.{Bool, true, false, _&&_, _||_, not, true≢false, false≢true}
+use mathlib.Core.Bool.{Bool, true, false, false≢true}
 use mathlib.Core.Logic.{_⊎_, inl, inr, ⊎-elim}
 use mathlib.Core.Option.{Option, none, some}
 use native.Mathlib.Omega.{arith}
@@ -11,22 +11,23 @@ use borrow.Author.Tests.{eqb-true}
 use Rattle.snapshot.specs.Records.{Snapshot, Scope, Prelude}
 use Rattle.accept.specs.Valid.{Each, more}
 use Rattle.accept.proofs.Accepted.{by-test}
-use Rattle.accept.proofs.Bools.{and-left, and-two, each-map}
-use Rattle.hir_def.specs.Finds.{firstOf, firstSome, orFirst}
-use Rattle.hir_def.specs.Items.{mapNo, crateRoot, itemOf, sameItem, moduleItem}
+use Rattle.accept.proofs.Bools.{and-left, and-two}
+use Rattle.hir_def.specs.Finds.{firstOf, firstSome}
+use Rattle.hir_def.specs.Items.{mapNo, crateRoot, itemOf, moduleItem}
 use Rattle.hir_def.specs.ItemScope.{counts, isFor, nameOf, namesOf, isFresh, preferred}
-use Rattle.hir_def.specs.Nameres.{entryIn, ancestorMaps, scopeEntry, preludeOf}
+use Rattle.hir_def.specs.Nameres.{entryIn, scopeEntry, preludeOf}
 use Rattle.hir_def.specs.declared.Item.{Item}
 use Rattle.hir_def.proofs.Fresh.{preferred-has}
 use Rattle.path_choices.specs.declared.Choice.{Choice}
 use Rattle.find_path.specs.declared.FindPathCtx.{FindPathCtx}
 use Rattle.path_choices.specs.Choices.{nothing}
-use Rattle.find_path.specs.Rules.{firstFound, single, findInScope, mayBeInScope, scopeRule, isUsable, preludeEntry, inPrelude, findInPrelude, preludeRule, rootRule, keywordOf, isKwKindRelativeToFrom, moduleRules}
+use Rattle.find_path.specs.Rules.{firstFound, single, findInScope, mayBeInScope, scopeRule, isUsable, preludeEntry, inPrelude, findInPrelude}
+use Rattle.find_path.specs.Rules.{preludeRule, rootRule, moduleRules}
 use Rattle.find_path.specs.Local.{isImportable, entryIf, importableName}
 use Rattle.read_back.proofs.Exact.{same-item}
 use Rattle.search_laws.specs.Near.{isSome, ruled, imports, near}
-use Rattle.search_laws.proofs.Near.{Location, near-cases}
-use Rattle.distances.specs.Distances.{Bounds, Named, Stepped, isKeyword, Closed}
+use Rattle.search_laws.proofs.Near.{near-cases}
+use Rattle.distances.specs.Distances.{Bounds, Named, Stepped, Closed}
 
 -- what is found in a list has what all of it have, and passes the test
 first-each : {A : Type 0} {P : A → Type 0} (p : A → Bool) {xs : List A} (y : A) → Each P xs → firstOf p xs ≡ some y → P y × (p y ≡ true)
@@ -66,7 +67,8 @@ module _ (s : Snapshot) (x : FindPathCtx) where
     unfolding namesOf
     names-for p e h = let f = first-each _ e all h in for-both e (f .0) (and-left _ _ (f .1))
 
-    preferred-for : (b : Bool) (p : Scope → Bool) (old : Option Scope) (e : Scope) → (old ≡ some e → For e) → preferred b s a (moduleItem m) p old ≡ some e → For e
+    preferred-for : (b : Bool) (p : Scope → Bool) (old : Option Scope) (e : Scope) → (old ≡ some e → For e)
+        → preferred b s a (moduleItem m) p old ≡ some e → For e
     preferred-for b p old e f h = preferred-has s a (moduleItem m) p old 0 For b e (names-for (isFresh p) e) f h
 
     entry-for : (b fresh : Bool) (e : Scope) → entryIn s (moduleItem m) b fresh a ≡ some e → For e
@@ -95,7 +97,8 @@ module _ (s : Snapshot) (x : FindPathCtx) where
   unfolding rootRule
   root-found m h = ⊎-elim (λ f. eqb-true _ _ (f .0)) (λ f. absurd (false≢true (f .1))) (either-found (eqb (crateRoot s m) m) _ nothing h)
 
-  scope-found : (m : ℕ) → scopeRule s x (moduleItem m) .found ≡ true → (mayBeInScope s x ≡ true) × ((e : Scope) × (findInScope s x (moduleItem m) ≡ some e))
+  scope-found : (m : ℕ) → scopeRule s x (moduleItem m) .found ≡ true → (mayBeInScope s x ≡ true)
+      × ((e : Scope) × (findInScope s x (moduleItem m) ≡ some e))
   unfolding scopeRule
   scope-found m h =
       ⊎-elim (λ f. (f .0, single-some _ _ _ (f .1))) (λ f. absurd (false≢true (f .1))) (either-found (mayBeInScope s x) _ nothing h)
@@ -139,7 +142,8 @@ module _ (s : Snapshot) (x : FindPathCtx) where
     in-prelude m e none q h = let z : _≡_ {A = ℕ} 0 1 = cc in absurd (omega arith)
     in-prelude m e (some p) q h =
         let all = c .rules .prelude p q in
-        let f = preferred-for (Named s d (p .target)) all (p .target) m (x .fresh) _ _ e (name-for (Named s d (p .target)) all (p .target) m e) (prelude-some (moduleItem m) _ e h) in
+        let f = preferred-for (Named s d (p .target)) all (p .target) m (x .fresh) _ _ e (name-for (Named s d (p .target)) all (p .target) m e)
+        (prelude-some (moduleItem m) _ e h) in
         f .0 m (f .1) (f .2)
 
     -- where a rule answers

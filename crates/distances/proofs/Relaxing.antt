@@ -1,11 +1,11 @@
 -- Passes over the entries, until one changes nothing.
 use Prim.Native.Nat.{ℕ, zero, suc, _+_, _*_, _≤_, _<_}
 use mathlib.Core.Path.{_≡_, refl, ap, sym, _∙_, subst}
-use mathlib.Core.List.{List, [], _∷_}
+use mathlib.Core.List.{List}
 use mathlib.Core.Bool.{Bool, true, false, _||_, true≢false, false≢true}
 use mathlib.Core.Logic.{_⊎_, inl, inr, ⊎-elim}
 use native.Mathlib.Omega.{arith}
-use lib.ListN.{length, getD, set, take}
+use lib.ListN.{length, set}
 use native.Mathlib.Decide.{decLe}
 use lib.Seq.{getD-set-same}
 use borrow.Author.Count.{below-more}
@@ -31,8 +31,8 @@ use Rattle.search_laws.proofs.Fewer.{either, or-both}
 use Rattle.distances.specs.Distances.{distance, Bounds, Stepped, Ruled, Closed}
 use Rattle.distances.specs.Post.{Ready, Far, Numbered, Marked, Lowers, Smaller, Passed, Bounded}
 use Rattle.distances.proofs.Near.{closed-bounds}
-use Rattle.distances.proofs.Lowering.{rows-each, lowers-same, lowers-then, lowers-snap, lowers-numbered, set-lowers, distances-less, ruled-less}
-use Rattle.distances.proofs.Marking.{entry-item, entry-below, mod-not-def, mod-same}
+use Rattle.distances.proofs.Lowering.{rows-each, lowers-same, lowers-then, set-lowers, distances-less, ruled-less}
+use Rattle.distances.proofs.Marking.{entry-item, mod-not-def, mod-same}
 
 -- nothing is changed
 pub passed-none : (A : List ℕ) (P : (ℕ → ℕ) → Type 0) → P (distance A) → Passed A P A false
@@ -71,13 +71,15 @@ module _ (W A : List ℕ) (l : Layout) (x : FindPathCtx) (h : ℕ) where
 
         pub step-low : {v : ℕ} → v ≡ distance A m → v ≤ w + 1 → Passed A Now A false
         unfolding Stepped
-        step-low ev k = passed-none A Now (λ n p j. let z = owner-number in subst (λ y. distance A y ≤ distance A (e .owner) + 1) (same-module p) (omega arith))
+        step-low ev k = passed-none A Now (λ n p j. let z = owner-number in subst (λ y. distance A y ≤ distance A (e .owner) + 1)
+            (same-module p) (omega arith))
 
         pub step-hidden : {b : Bool} → b ≡ isImportable S x e → b ≡ false → Passed A Now A false
         unfolding Stepped
         step-hidden eb z = passed-none A Now (λ n p j. absurd (true≢false (sym j ∙ sym eb ∙ z)))
 
-        pub step-set : {v : ℕ} → length A ≡ areaLimit → m < moduleLimit → v ≡ distance A m → (v ≤ w + 1 → ⊥) → Passed A Now (set A (tableWords + m) (w + 1)) true
+        pub step-set : {v : ℕ} → length A ≡ areaLimit → m < moduleLimit → v ≡ distance A m → (v ≤ w + 1 → ⊥)
+            → Passed A Now (set A (tableWords + m) (w + 1)) true
         step-set size known ev k =
             let s = getD-set-same A (tableWords + m) (w + 1) 0 (omega arith) in
             record {
@@ -120,8 +122,10 @@ module _ (W A₀ : List ℕ) (l : Layout) (x : FindPathCtx) (r : Reads W A₀ l)
         size = z ∙ v .size;
         within = omega arith;
         changed = λ e. ⊎-elim
-            (λ a. let s = v .changed a in let q = f .lowers .less (tableWords + s .which) in record { which = s .which; known = s .known; smaller = omega (arith, s .smaller, q) })
-            (λ a. let s = f .changed a in let q = v .lowers .less (tableWords + s .which) in record { which = s .which; known = s .known; smaller = omega (arith, s .smaller, q) })
+            (λ a. let s = v .changed a in let q = f .lowers .less (tableWords + s .which) in
+            record { which = s .which; known = s .known; smaller = omega (arith, s .smaller, q) })
+            (λ a. let s = f .changed a in let q = v .lowers .less (tableWords + s .which) in
+            record { which = s .which; known = s .known; smaller = omega (arith, s .smaller, q) })
             (either ch t e);
         same = λ e. let (a, o) = or-both ch t e in f .same o ∙ v .same a;
         holds = λ e. let (a, o) = or-both ch t e in
@@ -184,7 +188,8 @@ module _ (W A₀ : List ℕ) (l : Layout) (x : FindPathCtx) (y : Ready W A₀ l)
         size = z ∙ v .size;
       }
 
-  pub settling-done : {t : Bool} (B : List ℕ) → Passed A (λ d. Each (Stepped (snapOf W A l) x d) (snapOf W A l .scopes)) B t → t ≡ false → Bounded W A₀ l x B
+  pub settling-done : {t : Bool} (B : List ℕ) → Passed A (λ d. Each (Stepped (snapOf W A l) x d) (snapOf W A l .scopes)) B t
+      → t ≡ false → Bounded W A₀ l x B
   settling-done B f e =
       let sn : snapOf W A l ≡ snapOf W A₀ l = same-snap W A₀ A l (v .marked .tables) (y .reads) in
       let c : Closed (snapOf W A₀ l) x (l .modules) (distance A) =
@@ -192,7 +197,8 @@ module _ (W A₀ : List ℕ) (l : Layout) (x : FindPathCtx) (y : Ready W A₀ l)
       let owners : Each (λ (z : Scope). z .owner < l .modules) (snapOf W A₀ l .scopes) =
       each-map (λ z q. q .owner) (ranges-read W A₀ l (accepted-valid W (snapOf W A₀ l) (y .reads .same)) .scopes) in
       record {
-        bounds = subst (λ (Y : List ℕ). Bounds (snapOf W A₀ l) x (l .modules) (distance Y)) (sym (f .same e)) (closed-bounds (snapOf W A₀ l) x (l .modules) (distance A) c owners);
+        bounds = subst (λ (Y : List ℕ). Bounds (snapOf W A₀ l) x (l .modules) (distance Y)) (sym (f .same e))
+            (closed-bounds (snapOf W A₀ l) x (l .modules) (distance A) c owners);
         tables = f .lowers .tables ∙ v .marked .tables;
       }
 

@@ -8,7 +8,6 @@ use Rattle.snapshot.specs.Limits.{moduleLimit, areaLimit}
 use Rattle.snapshot.specs.Layouts.{tableWords, snapOf}
 use Rattle.snapshot.specs.declared.layout.Layout.{Layout}
 use Rattle.accept.specs.Post.{Reads}
-use Rattle.accept.specs.Valid.{Each}
 use Rattle.hir_def.specs.Items.{crateRoot}
 use Rattle.find_path.specs.declared.FindPathCtx.{FindPathCtx}
 use Rattle.distances.specs.Distances.{distance, Bounds, Ruled}

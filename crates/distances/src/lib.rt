@@ -89,7 +89,8 @@ fn mark(area: &mut [u32], m: ModuleId)
 // The module of the entry with its head at a place, if it is one of c's.
 fn mark_entry(words: &[u32], area: &mut [u32], l: Layout, c: ModuleId, h: usize)
     requires { ⌜ Ready (now words) (now area) l × ScopeFits (countsIn l) (scopeAt (now words) h) ⌝ }
-    ensures { λ _. ⌜ Lowers (now (area .entry)) (now (area .exit)) × Named (snapOf (now (words .entry)) (now (area .entry)) l) (distance (now (area .exit))) (c .0) (scopeAt (now (words .entry)) h) ⌝ }
+    ensures { λ _. ⌜ Lowers (now (area .entry)) (now (area .exit)) × Named (snapOf (now (words .entry)) (now (area .entry)) l)
+        (distance (now (area .exit))) (c .0) (scopeAt (now (words .entry)) h) ⌝ }
 {
     let owner = scope_owner(words, h);
     if owner.0 != c.0 {
@@ -105,7 +106,9 @@ fn mark_entry(words: &[u32], area: &mut [u32], l: Layout, c: ModuleId, h: usize)
 // The modules of the entries of c.
 fn mark_scope(words: &[u32], area: &mut [u32], l: Layout, c: ModuleId)
     requires { ⌜ Ready (now words) (now area) l ⌝ }
-    ensures { λ _. ⌜ Lowers (now (area .entry)) (now (area .exit)) × Each (Named (snapOf (now (words .entry)) (now (area .entry)) l) (distance (now (area .exit))) (c .0)) (snapOf (now (words .entry)) (now (area .entry)) l .scopes) ⌝ }
+    ensures { λ _. ⌜ Lowers (now (area .entry)) (now (area .exit))
+        × Each (Named (snapOf (now (words .entry)) (now (area .entry)) l) (distance (now (area .exit))) (c .0))
+        (snapOf (now (words .entry)) (now (area .entry)) l .scopes) ⌝ }
 {
     let base = l.scope_base();
     let count = l.scopes;
@@ -119,7 +122,9 @@ fn mark_scope(words: &[u32], area: &mut [u32], l: Layout, c: ModuleId)
 // The modules in the scope of the viewing module and around its blocks.
 fn mark_scopes(words: &[u32], area: &mut [u32], l: Layout, from: ModuleId)
     requires { ⌜ Ready (now words) (now area) l × (from .0 < l .modules) ⌝ }
-    ensures { λ _. ⌜ Lowers (now (area .entry)) (now (area .exit)) × Each (λ a. Each (Named (snapOf (now (words .entry)) (now (area .entry)) l) (distance (now (area .exit))) a) (snapOf (now (words .entry)) (now (area .entry)) l .scopes)) (ancestorMaps (snapOf (now (words .entry)) (now (area .entry)) l) (from .0)) ⌝ }
+    ensures { λ _. ⌜ Lowers (now (area .entry)) (now (area .exit))
+        × Each (λ a. Each (Named (snapOf (now (words .entry)) (now (area .entry)) l) (distance (now (area .exit))) a)
+        (snapOf (now (words .entry)) (now (area .entry)) l .scopes)) (ancestorMaps (snapOf (now (words .entry)) (now (area .entry)) l) (from .0)) ⌝ }
 {
     let mut m = from;
     loop {
@@ -134,7 +139,11 @@ fn mark_scopes(words: &[u32], area: &mut [u32], l: Layout, from: ModuleId)
 // The modules in the prelude of the viewing module.
 fn mark_prelude(words: &[u32], area: &mut [u32], l: Layout, from: ModuleId)
     requires { ⌜ Ready (now words) (now area) l × (from .0 < l .modules) ⌝ }
-    ensures { λ _. ⌜ Lowers (now (area .entry)) (now (area .exit)) × ((p : Prelude) → preludeOf (snapOf (now (words .entry)) (now (area .entry)) l) (mapNo (snapOf (now (words .entry)) (now (area .entry)) l) (from .0)) ≡ some p → Each (Named (snapOf (now (words .entry)) (now (area .entry)) l) (distance (now (area .exit))) (p .target)) (snapOf (now (words .entry)) (now (area .entry)) l .scopes)) ⌝ }
+    ensures { λ _. ⌜ Lowers (now (area .entry)) (now (area .exit))
+        × ((p : Prelude) → preludeOf (snapOf (now (words .entry)) (now (area .entry)) l)
+        (mapNo (snapOf (now (words .entry)) (now (area .entry)) l) (from .0)) ≡ some p
+        → Each (Named (snapOf (now (words .entry)) (now (area .entry)) l) (distance (now (area .exit))) (p .target))
+        (snapOf (now (words .entry)) (now (area .entry)) l .scopes)) ⌝ }
 {
     let p = prelude_of(words, l, map(words, area, l, from));
     let Entry::At(h) = p else {
@@ -146,7 +155,8 @@ fn mark_prelude(words: &[u32], area: &mut [u32], l: Layout, from: ModuleId)
 // A module, if it has a keyword.
 fn mark_keyword(words: &[u32], area: &mut [u32], l: Layout, x: FindPathCtx, m: ModuleId)
     requires { ⌜ Ready (now words) (now area) l × (x .from .0 < l .modules) × (m .0 < l .modules) ⌝ }
-    ensures { λ _. ⌜ Lowers (now (area .entry)) (now (area .exit)) × (isKeyword (snapOf (now (words .entry)) (now (area .entry)) l) x (m .0) ≡ true → distance (now (area .exit)) (m .0) ≤ 1) ⌝ }
+    ensures { λ _. ⌜ Lowers (now (area .entry)) (now (area .exit))
+        × (isKeyword (snapOf (now (words .entry)) (now (area .entry)) l) x (m .0) ≡ true → distance (now (area .exit)) (m .0) ≤ 1) ⌝ }
 {
     let c = keyword_rule(words, area, l, x, m);
     if !c.found {
@@ -158,7 +168,8 @@ fn mark_keyword(words: &[u32], area: &mut [u32], l: Layout, x: FindPathCtx, m: M
 // The viewing module and its parent.
 fn mark_keywords(words: &[u32], area: &mut [u32], l: Layout, x: FindPathCtx)
     requires { ⌜ Ready (now words) (now area) l × (x .from .0 < l .modules) ⌝ }
-    ensures { λ _. ⌜ Lowers (now (area .entry)) (now (area .exit)) × ((m : ℕ) → isKeyword (snapOf (now (words .entry)) (now (area .entry)) l) x m ≡ true → distance (now (area .exit)) m ≤ 1) ⌝ }
+    ensures { λ _. ⌜ Lowers (now (area .entry)) (now (area .exit))
+        × ((m : ℕ) → isKeyword (snapOf (now (words .entry)) (now (area .entry)) l) x m ≡ true → distance (now (area .exit)) m ≤ 1) ⌝ }
 {
     mark_keyword(words, area, l, x, x.from);
     let OptModule::Module(p) = parent(words, area, l, x.from) else {
@@ -170,7 +181,8 @@ fn mark_keywords(words: &[u32], area: &mut [u32], l: Layout, x: FindPathCtx)
 // The step of the entry with its head at a place; whether it made a number smaller.
 fn relax_entry(words: &[u32], area: &mut [u32], l: Layout, x: FindPathCtx, h: usize) -> bool
     requires { ⌜ Numbered (now words) (now area) l × (x .from .0 < l .modules) × ScopeFits (countsIn l) (scopeAt (now words) h) ⌝ }
-    ensures { λ r. ⌜ Passed (now (area .entry)) (λ d. Stepped (snapOf (now (words .entry)) (now (area .entry)) l) x d (scopeAt (now (words .entry)) h)) (now (area .exit)) r ⌝ }
+    ensures { λ r. ⌜ Passed (now (area .entry)) (λ d. Stepped (snapOf (now (words .entry)) (now (area .entry)) l) x d
+        (scopeAt (now (words .entry)) h)) (now (area .exit)) r ⌝ }
 {
     let owner = scope_owner(words, h);
     let d = word(area, Distances::AT + owner.0) + 1;
@@ -195,7 +207,8 @@ fn relax_entry(words: &[u32], area: &mut [u32], l: Layout, x: FindPathCtx, h: us
 // The steps of all entries; whether one made a number smaller.
 fn relax(words: &[u32], area: &mut [u32], l: Layout, x: FindPathCtx) -> bool
     requires { ⌜ Numbered (now words) (now area) l × (x .from .0 < l .modules) ⌝ }
-    ensures { λ r. ⌜ Passed (now (area .entry)) (λ d. Each (Stepped (snapOf (now (words .entry)) (now (area .entry)) l) x d) (snapOf (now (words .entry)) (now (area .entry)) l .scopes)) (now (area .exit)) r ⌝ }
+    ensures { λ r. ⌜ Passed (now (area .entry)) (λ d. Each (Stepped (snapOf (now (words .entry)) (now (area .entry)) l) x d)
+        (snapOf (now (words .entry)) (now (area .entry)) l .scopes)) (now (area .exit)) r ⌝ }
 {
     let base = l.scope_base();
     let count = l.scopes;

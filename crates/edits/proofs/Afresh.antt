@@ -2,14 +2,13 @@
 use Prim.Native.Nat.{ℕ}
 use mathlib.Core.Path.{_≡_, refl, sym, _∙_, ap, ap₂}
 use mathlib.Core.List.{List, [], _∷_, _++_, map, map-append}
-use mathlib.Core.Bool.{Bool, true, false}
-use lib.ListN.{take}
-use Rattle.snapshot.specs.Records.{Snapshot, Scope, Import, Extern}
+use Rattle.snapshot.specs.Records.{Snapshot, Scope}
 use Rattle.check_rules.specs.Verdict.{accept, verdict}
 use Rattle.accept.proofs.Accepted.{by-test}
 use Rattle.find_path.specs.declared.Question.{Question}
 use Rattle.find_path.specs.Report.{reportOf}
-use Rattle.edit_rules.specs.Entries.{isNamed, higher, lower, movedScope, movedImport, movedExtern, placed, withLists, withScopes, without, scopesEnd, scopeWords}
+use Rattle.edit_rules.specs.Entries.{isNamed, higher, lower, movedScope, movedImport, movedExtern, placed, withLists, withScopes, without, scopesEnd}
+use Rattle.edit_rules.specs.Entries.{scopeWords}
 use Rattle.edit_rules.specs.Edits.{Edit, refusedBy, edited, Operation, adding, removing, editedSnapshot}
 use Rattle.edit_rules.specs.Written.{importWords, externWords, eachWords, joined, snapshotWords, wordsWith}
 use Rattle.scope_edits.proofs.Written.{accepted-written}
@@ -37,7 +36,12 @@ map-moved g h k e (x ∷ xs) = ap₂ (λ a b. a ∷ b) (e x) (map-moved g h k e 
 bare-words : (s : Snapshot) → snapshotWords (bare s) ≡ snapshotWords s
 unfolding snapshotWords joined scopeWords
 bare-words s =
-    rw (each-moved scopeWords (movedScope nowhere) (λ x. refl) (s .scopes), each-moved importWords (movedImport nowhere) (λ x. refl) (s .imports), each-moved externWords (movedExtern nowhere) (λ x. refl) (s .externs))
+    rw (
+      each-moved scopeWords (movedScope nowhere) (λ x. refl) (s .scopes),
+      each-moved importWords (movedImport nowhere) (λ x. refl)
+          (s .imports),
+      each-moved externWords (movedExtern nowhere) (λ x. refl) (s .externs),
+    )
 
 -- a snapshot with other entries at other places
 bare-with : (f : ℕ → ℕ) (s : Snapshot) (xs : List Scope)
@@ -49,14 +53,16 @@ bare-with f s xs =
 
 -- the first of a name, out of either list
 module _ (m ns name : ℕ) where
-  removed-bare : (xs : List Scope) → map (movedScope nowhere) (removed (isNamed m ns name) xs) ≡ removed (isNamed m ns name) (map (movedScope nowhere) xs)
+  removed-bare : (xs : List Scope) → map (movedScope nowhere) (removed (isNamed m ns name) xs) ≡ removed (isNamed m ns name)
+      (map (movedScope nowhere) xs)
   unfolding removed
   removed-bare [] = refl
   removed-bare (x ∷ xs) =
       by-test (isNamed m ns name x) (λ c. rw (removed, c))
       (λ c. rw (removed, c) (ap (λ l. movedScope nowhere x ∷ l) (removed-bare xs)))
 
-  without-bare : (xs : List Scope) → map (movedScope nowhere) (without (isNamed m ns name) xs) ≡ removed (isNamed m ns name) (map (movedScope nowhere) xs)
+  without-bare : (xs : List Scope) → map (movedScope nowhere) (without (isNamed m ns name) xs) ≡ removed (isNamed m ns name)
+      (map (movedScope nowhere) xs)
   unfolding removed without
   without-bare [] = refl
   without-bare (x ∷ xs) =
@@ -94,7 +100,8 @@ alike-run : (area : ℕ) (os : List Operation) (h : Held) (s : Snapshot) (xs : L
 unfolding entriesAfter snapshotAfter
 alike-run area [] h s xs t e = e
 alike-run area (o ∷ os) h s xs t e =
-    alike-run area os (after h (editIn area h o)) s (entriesBy xs o (editIn area h o)) (snapshotBy h t o (editIn area h o)) (alike-by s xs t e h o (editIn area h o))
+    alike-run area os (after h (editIn area h o)) s (entriesBy xs o (editIn area h o)) (snapshotBy h t o (editIn area h o))
+    (alike-by s xs t e h o (editIn area h o))
 
 -- Any run of edits: the snapshot's own words are those written afresh, with the entries that are left in their order and the other records
 -- unchanged.

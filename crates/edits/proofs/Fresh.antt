@@ -20,7 +20,8 @@ use Rattle.find_path.specs.declared.Question.{Question}
 use Rattle.find_path.specs.Report.{callFault, reportUnless, reportOf}
 use Rattle.answer.specs.Answers.{zeros}
 use Rattle.edit_rules.specs.Entries.{higher, placed, withScopes, scopesEnd}
-use Rattle.edit_rules.specs.Edits.{Edit, refusedBy, edited, Operation, adding, removing, editFault, editedWords, editUnless, editBy, editWithin, editOf, editedSnapshot}
+use Rattle.edit_rules.specs.Edits.{Edit, refusedBy, edited, Operation, adding, removing, editFault, editedWords, editUnless, editBy, editWithin}
+use Rattle.edit_rules.specs.Edits.{editOf, editedSnapshot}
 use Rattle.scope_edits.proofs.Lists.{any-middle}
 use Rattle.scope_edits.proofs.Edited.{edit-accepted, add-longer, add-room, add-removed}
 use Rattle.edits.specs.Edits.{countAfter, wordsAfter}
@@ -41,7 +42,8 @@ refused-not : {C : Type 0} {k : ℕ} {T : List ℕ} → refusedBy k ≡ edited T
 refused-not e = let z : _≡_ {A = ℕ} 0 1 = cc in absurd (omega arith)
 
 module _ (area : ℕ) (W : List ℕ) (n : ℕ) (o : Operation) (T : List ℕ) where
-  unless-taken : areaLimit ≤ area → n ≤ length W → (s : Snapshot) → verdict (take n W) ≡ accept s → (k : ℕ) → editFault s (length (take n W)) (length W) o ≡ k
+  unless-taken : areaLimit ≤ area → n ≤ length W → (s : Snapshot) → verdict (take n W) ≡ accept s → (k : ℕ)
+      → editFault s (length (take n W)) (length W) o ≡ k
       → editUnless (take n W) o k ≡ edited T → Taken area W n o T
   unfolding editUnless
   unless-taken h g s acc zero f e =
@@ -49,7 +51,8 @@ module _ (area : ℕ) (W : List ℕ) (n : ℕ) (o : Operation) (T : List ℕ) wh
       record { snapshot = s; serves = h; within = g; accepted = acc; fault = f; words = q }
   unless-taken h g s acc (suc k) f e = refused-not e
 
-  by-taken : areaLimit ≤ area → n ≤ length W → (v : Verdict) → verdict (take n W) ≡ v → editBy (take n W) (length W) o v ≡ edited T → Taken area W n o T
+  by-taken : areaLimit ≤ area → n ≤ length W → (v : Verdict) → verdict (take n W) ≡ v → editBy (take n W) (length W) o v ≡ edited T
+      → Taken area W n o T
   unfolding editBy
   by-taken h g (refuse k at) acc e = refused-not e
   by-taken h g (accept s) acc e = unless-taken h g s acc (editFault s (length (take n W)) (length W) o) refl e
@@ -73,7 +76,8 @@ accept-same s t e = cc
 
 -- One edit: the new words are accepted as the edited snapshot, with the same lists but for the scopes and the places of the records after
 -- the edited one.
-pub edit-snapshot : (area : ℕ) (W : List ℕ) (n : ℕ) (o : Operation) (T : List ℕ) (s : Snapshot) → editOf area W n o ≡ edited T → verdict (take n W) ≡ accept s
+pub edit-snapshot : (area : ℕ) (W : List ℕ) (n : ℕ) (o : Operation) (T : List ℕ) (s : Snapshot) → editOf area W n o ≡ edited T
+    → verdict (take n W) ≡ accept s
     → verdict T ≡ accept (editedSnapshot (take n W) s o)
 edit-snapshot area W n o T s e acc =
     let t = taken area W n o T e in
@@ -112,7 +116,8 @@ same-reports W F area q e = unless-same W F (q .query) (q .fuel) (callFault area
 
 -- After one edit, and after any run, each report is the one for any words F that are accepted as that very snapshot. Words that are written
 -- afresh have their records at these places, since the sizes of records are the same.
-pub edit-reports : (area : ℕ) (W : List ℕ) (n : ℕ) (o : Operation) (T : List ℕ) (s : Snapshot) → editOf area W n o ≡ edited T → verdict (take n W) ≡ accept s
+pub edit-reports : (area : ℕ) (W : List ℕ) (n : ℕ) (o : Operation) (T : List ℕ) (s : Snapshot) → editOf area W n o ≡ edited T
+    → verdict (take n W) ≡ accept s
     → (F : List ℕ) → verdict F ≡ accept (editedSnapshot (take n W) s o) → (room : ℕ) (q : Question) → reportOf T room q ≡ reportOf F room q
 edit-reports area W n o T s e acc F f room q = same-reports T F room q (edit-snapshot area W n o T s e acc ∙ sym f)
 
@@ -163,11 +168,13 @@ module _ (area : ℕ) (W : List ℕ) (n : ℕ) (x : Scope) (T : List ℕ) (e : e
       taken-is area (T ++ zeros (length W - length T)) (length T) (removing (x .owner) (x .ns) (x .name))
       (withScopes higher (t .snapshot) (t .snapshot .scopes ++ (placed (scopesEnd (take n W)) x ∷ [])))
       (t .serves) (omega arith) (ap verdict seam ∙ grown)
-      (removal-fault (t .snapshot) (scopesEnd (take n W)) (length (take (length T) (T ++ zeros (length W - length T)))) (length (T ++ zeros (length W - length T))) x (entry-itself x))
+      (removal-fault (t .snapshot) (scopesEnd (take n W)) (length (take (length T) (T ++ zeros (length W - length T))))
+      (length (T ++ zeros (length W - length T))) x (entry-itself x))
       ∙ ap (λ y. edited (editedWords y (removing (x .owner) (x .ns) (x .name)))) (seam ∙ sym (t .words))
       ∙ ap edited (add-removed (take n W) (t .snapshot) (length W) x (t .accepted) (t .fault))
 
-  after-again : after (after (record { words = W; count = n }) (edited T)) (edited (take n W)) ≡ record { words = take n W ++ zeros (length W - n); count = n }
+  after-again : after (after (record { words = W; count = n }) (edited T)) (edited (take n W))
+      ≡ record { words = take n W ++ zeros (length W - n); count = n }
   unfolding countAfter wordsAfter
   after-again =
       let a = slice in

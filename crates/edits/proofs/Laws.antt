@@ -14,12 +14,13 @@ use Rattle.snapshot.specs.Limits.{areaLimit}
 use Rattle.snapshot.specs.Refusals.{areaRefusal, wordsRefusal, entryRefusal}
 use Rattle.snapshot.specs.Sizes.{scopeSize}
 use Rattle.check_rules.specs.Verdict.{refuse, accept, verdict}
-use Rattle.accept.specs.Post.{Reads, Checks, checkOf}
+use Rattle.accept.specs.Post.{Checks, checkOf}
 use Rattle.accept.specs.declared.check.Checked.{Checked}
 use Rattle.accept.specs.declared.check.Checked.the-variants.{Refused, Accepted}
 use Rattle.answer.specs.Answers.{zeros, areaAfter}
 use Rattle.edit_rules.specs.Entries.{scopeWords, isNamed, scopesEnd, entryPlace, inserted, cut}
-use Rattle.edit_rules.specs.Edits.{Edit, refusedBy, edited, Operation, adding, removing, editFault, editedWords, editUnless, editBy, editWithin, editOf}
+use Rattle.edit_rules.specs.Edits.{Edit, refusedBy, edited, Operation, adding, removing, editFault, editedWords, editUnless, editBy, editWithin}
+use Rattle.edit_rules.specs.Edits.{editOf}
 use Rattle.scope_edits.proofs.Lists.{cut-length}
 use Rattle.scope_edits.proofs.Removed.{absent, present}
 use Rattle.scope_edits.proofs.Inserted.{end-within}
@@ -46,7 +47,8 @@ module _ (W : List ℕ) (n : ℕ) (o : Operation) (s : Snapshot) (acc : verdict 
   unfolding editBy
   by-fault = ap (editBy (take n W) (length W) o) acc
 
-  pub fault-not : (k : ℕ) → k ≡ editFault s (length (take n W)) (length W) o → (k ≡ 0 → ⊥) → editBy (take n W) (length W) o (verdict (take n W)) ≡ refusedBy k
+  pub fault-not : (k : ℕ) → k ≡ editFault s (length (take n W)) (length W) o → (k ≡ 0 → ⊥)
+      → editBy (take n W) (length W) o (verdict (take n W)) ≡ refusedBy k
   unfolding editUnless
   fault-not zero e h = absurd (h refl)
   fault-not (suc k) e h = by-fault ∙ ap (editUnless (take n W) o) (sym e)
@@ -65,7 +67,8 @@ pub within-by : (W : List ℕ) (n : ℕ) (o : Operation) → n ≤ length W → 
 unfolding editWithin
 within-by W n o h = rw (editWithin, le-ltb _ _ h)
 
-pub by-refusal : (W : List ℕ) (n : ℕ) (o : Operation) (k at : ℕ) → refuse k at ≡ verdict (take n W) → editBy (take n W) (length W) o (verdict (take n W)) ≡ refusedBy k
+pub by-refusal : (W : List ℕ) (n : ℕ) (o : Operation) (k at : ℕ) → refuse k at ≡ verdict (take n W)
+    → editBy (take n W) (length W) o (verdict (take n W)) ≡ refusedBy k
 unfolding editBy
 by-refusal W n o k at e = ap (editBy (take n W) (length W) o) (sym e)
 
@@ -159,10 +162,12 @@ module _ (W : List ℕ) (n : ℕ) (h : n ≤ length W) (s : Snapshot) (acc : ver
     unfolding editFault
     present-fault q = rw (editFault, q)
 
-    pub removed-not : n ≤ at → Edits W n (editBy (take n W) (length W) (removing m ns name) (verdict (take n W))) W (record { number = entryRefusal; count = n })
+    pub removed-not : n ≤ at → Edits W n (editBy (take n W) (length W) (removing m ns name) (verdict (take n W))) W
+        (record { number = entryRefusal; count = n })
     removed-not g =
         let l = long in
-        edits-not W n entryRefusal _ (fault-not W n (removing m ns name) s acc entryRefusal (absent-fault (absent (isNamed m ns name) (take n W) s acc (omega arith))) (λ z. omega arith))
+        edits-not W n entryRefusal _ (fault-not W n (removing m ns name) s acc entryRefusal
+        (absent-fault (absent (isNamed m ns name) (take n W) s acc (omega arith))) (λ z. omega arith))
 
     found : at < n → entryPlace (isNamed m ns name) (take n W) < length (take n W)
     found g = let l = long in omega arith

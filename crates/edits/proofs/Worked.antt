@@ -8,7 +8,8 @@ use lib.ListN.{length, take, drop, replicate}
 use Rattle.snapshot.specs.Lists.{rows, any, all, eqList}
 use Rattle.snapshot.specs.Words.{argumentsOf}
 use Rattle.check_rules.specs.Tests.{textBound, padded}
-use Rattle.check_rules.specs.Steps.{nameStep, crateStep, dependencyStep, mapStep, moduleStep, childStep, preludeStep, definitionStep, scopeStep, importStep, externStep, memberStep}
+use Rattle.check_rules.specs.Steps.{nameStep, crateStep, dependencyStep, mapStep, moduleStep, childStep, preludeStep, definitionStep, scopeStep}
+use Rattle.check_rules.specs.Steps.{importStep, externStep, memberStep}
 use Rattle.record_rules.specs.Stands.{numberOf}
 use Rattle.check_rules.specs.Verdict.{argumentsFrom, recordStep, stepAt, finish, records, verdict}
 use Rattle.check_rules.specs.Worked.{worked}
@@ -28,7 +29,10 @@ pub record Row : Type 0 where
   pub after : List ℕ
 
 pub passesAll : List Row → Bool
-unfolding editOf editWithin editBy editUnless editedWords editFault addNumber numberOf scopeWords firstFrom scopesEnd entryPlace numberIn countAfter wordsAfter zeros verdict records stepAt recordStep finish argumentsFrom argumentsOf nameStep crateStep dependencyStep mapStep moduleStep childStep preludeStep definitionStep scopeStep importStep externStep memberStep textBound padded rows any all eqList
+unfolding editOf editWithin editBy editUnless editedWords editFault addNumber numberOf scopeWords firstFrom scopesEnd entryPlace
+    numberIn countAfter wordsAfter zeros verdict records stepAt recordStep finish argumentsFrom argumentsOf nameStep crateStep
+    dependencyStep mapStep moduleStep childStep preludeStep definitionStep scopeStep importStep externStep memberStep textBound
+    padded rows any all eqList
 passesAll table =
     all (λ r. eqb (numberIn (editOf (r .area) (r .words) (r .count) (r .edit))) (r .number)
     && eqb (countAfter (r .count) (editOf (r .area) (r .words) (r .count) (r .edit))) (r .left)
@@ -62,7 +66,18 @@ abbrev not-done : ℕ → List ℕ → ℕ → Operation → ℕ → Row
 not-done a W n o r = record { area = a; words = W; count = n; edit = o; number = r; left = n; after = W }
 
 abbrev put : ℕ → ℕ → ℕ → ℕ → ℕ → ℕ → ℕ → Operation
-put m ns name d v n k = adding (record { owner = m; ns = ns; name = name; definition = d; visibility = v; number = n; declared = k; bits = 0; place = 0 })
+put m ns name d v n k = adding (record {
+  owner = m;
+  ns = ns;
+  name = name;
+  definition = d;
+  visibility = v;
+  number = n;
+  declared =
+      k;
+  bits = 0;
+  place = 0;
+})
 
 pub cases : List Row
 cases =

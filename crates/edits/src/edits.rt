@@ -51,7 +51,8 @@ fn opened(words: &[u32], count: usize, area: &mut [u32]) -> Checked
 // Adds an entry to an accepted snapshot.
 fn add_accepted(words: &mut [u32], count: usize, l: Layout, entry: &[u32; Size::SCOPE]) -> Edited
     requires { ⌜ (count ≤ length (now words)) × ((A : List ℕ) × Reads (take count (now words)) A l) ⌝ }
-    ensures { λ r. ⌜ Edits (now (words .entry)) count (editBy (take count (now (words .entry))) (length (now (words .entry))) (adding (entryOf (now (entry .entry)))) (verdict (take count (now (words .entry))))) (now (words .exit)) r ⌝ }
+    ensures { λ r. ⌜ Edits (now (words .entry)) count (editBy (take count (now (words .entry))) (length (now (words .entry)))
+        (adding (entryOf (now (entry .entry)))) (verdict (take count (now (words .entry))))) (now (words .exit)) r ⌝ }
 {
     let slice = words.len();
     let n = add_fault(&words[..count], l, entry, slice);
@@ -81,7 +82,8 @@ pub fn add_entry(
     area: &mut [u32],
     entry: &[u32; Size::SCOPE],
 ) -> Edited
-    ensures { λ r. ⌜ EditsIn (now (words .entry)) count (now (area .entry)) (adding (entryOf (now (entry .entry)))) (now (words .exit)) (now (area .exit)) r ⌝ }
+    ensures { λ r. ⌜ EditsIn (now (words .entry)) count (now (area .entry)) (adding (entryOf (now (entry .entry)))) (now (words .exit))
+        (now (area .exit)) r ⌝ }
 {
     let c = opened(words, count, area);
     match c {
@@ -96,7 +98,8 @@ pub fn add_entry(
 // Removes an entry from an accepted snapshot.
 fn remove_accepted(words: &mut [u32], count: usize, owner: usize, ns: usize, name: usize) -> Edited
     requires { ⌜ (count ≤ length (now words)) × ((s : Snapshot) × (verdict (take count (now words)) ≡ accept s)) ⌝ }
-    ensures { λ r. ⌜ Edits (now (words .entry)) count (editBy (take count (now (words .entry))) (length (now (words .entry))) (removing owner ns name) (verdict (take count (now (words .entry))))) (now (words .exit)) r ⌝ }
+    ensures { λ r. ⌜ Edits (now (words .entry)) count (editBy (take count (now (words .entry))) (length (now (words .entry)))
+        (removing owner ns name) (verdict (take count (now (words .entry))))) (now (words .exit)) r ⌝ }
 {
     let at = entry_place(&words[..count], owner, ns, name);
     if count <= at {

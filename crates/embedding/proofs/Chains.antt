@@ -54,7 +54,8 @@ module _ (f g h : ℕ → ℕ) (n k : ℕ) (low : Falls g n) (high : Falls h k) 
         let l = low m p b z in
         let q : h (f m) ≡ suc (f p) = step m b ∙ ap (orNone f) z in
         let r = steps-to d p (omega arith) (omega arith) in
-        steps-more h k high (f m) (there m b) ∙ ap (stepsOr (steps h)) q ∙ ap (λ l. f p ∷ l) r ∙ ap (map f) (sym (steps-more g n low m b ∙ ap (stepsOr (steps g)) z)))
+        steps-more h k high (f m) (there m b) ∙ ap (stepsOr (steps h)) q ∙ ap (λ l. f p ∷ l) r
+        ∙ ap (map f) (sym (steps-more g n low m b ∙ ap (stepsOr (steps g)) z)))
 
     pub steps-moved : (m : ℕ) → m < n → steps h (f m) ≡ map f (steps g m)
     steps-moved m l = steps-to (suc m) m (omega arith) l
@@ -97,7 +98,8 @@ module _ (f g h : ℕ → ℕ) (n k : ℕ) (low : Falls g n) (high : Falls h k) 
         let l = low m p b z in
         let q : h (f m) ≡ suc (f p) = step m b ∙ ap (orNone f) z in
         let r = met-to apart d p t (omega arith) (omega arith) c in
-        x ∙ ap₂ (λ i j. i || metOr (λ w. met h w (f t)) j) e q ∙ ap (λ j. eqb m t || j) r ∙ ap (λ j. eqb m t || metOr (λ w. met g w t) j) (sym z) ∙ sym y)
+        x ∙ ap₂ (λ i j. i || metOr (λ w. met h w (f t)) j) e q ∙ ap (λ j. eqb m t || j) r ∙ ap (λ j. eqb m t || metOr (λ w. met g w t) j) (sym z)
+        ∙ sym y)
 
     pub met-moved : Apart f n → (m t : ℕ) → m < n → t < n → met h (f m) (f t) ≡ met g m t
     met-moved apart m t l r = met-to apart (suc m) m t (omega arith) l r
@@ -143,34 +145,42 @@ module _ (e : Numbers) (s u : Snapshot) (em : Embeds e s u) (v : Valid s) (w : V
     pub climb-step-moved : (k : ℕ) → k < length (s .maps) → climbStep u (e .maps k) (e .modules m) ≡ orNone (e .modules) (climbStep s k m)
     unfolding climbStep
     climb-step-moved k h =
-        ap₂ unless (ap (λ i. eqb i (e .maps k)) map-moved ∙ eqb-moved (e .maps) (length (s .maps)) (em .maps-apart) (mapNo s m) k (map-known s (v .tree) m l) h) block-moved
+        ap₂ unless (ap (λ i. eqb i (e .maps k)) map-moved ∙ eqb-moved (e .maps) (length (s .maps)) (em .maps-apart) (mapNo s m) k
+        (map-known s (v .tree) m l) h) block-moved
         ∙ unless-moved (e .modules) (eqb (mapNo s m) k) (blockOf s m)
 
   -- the crates of two modules
   pub crates-compared : (m k : ℕ) → Known m → Known k → eqb (crateOf u (e .modules m)) (crateOf u (e .modules k)) ≡ eqb (crateOf s m) (crateOf s k)
   crates-compared m k l h =
-      ap₂ eqb (crate-moved m l) (crate-moved k h) ∙ eqb-moved (e .crates) (length (s .crates)) (em .crates-apart) (crateOf s m) (crateOf s k) (crate-known m l) (crate-known k h)
+      ap₂ eqb (crate-moved m l) (crate-moved k h) ∙ eqb-moved (e .crates) (length (s .crates)) (em .crates-apart) (crateOf s m)
+      (crateOf s k) (crate-known m l) (crate-known k h)
 
   pub ancestors-moved : (m : ℕ) → Known m → ancestorMaps u (e .modules m) ≡ map (e .modules) (ancestorMaps s m)
   unfolding ancestorMaps
   ancestors-moved m l = ap (λ y. e .modules m ∷ y)
-      (steps-moved (e .modules) (blockOf s) (blockOf u) (length (s .modules)) (length (u .modules)) (block-falls s (v .tree)) (block-falls u (w .tree)) (em .module-there)
+      (steps-moved (e .modules) (blockOf s) (blockOf u) (length (s .modules)) (length (u .modules)) (block-falls s (v .tree))
+      (block-falls u (w .tree)) (em .module-there)
       block-moved m l)
 
   pub containers-moved : (m : ℕ) → Known m → containers u (e .modules m) ≡ map (e .modules) (containers s m)
   unfolding containers
   containers-moved m l =
-      steps-moved (e .modules) (containing s) (containing u) (length (s .modules)) (length (u .modules)) (containing-falls s (v .tree)) (containing-falls u (w .tree))
+      steps-moved (e .modules) (containing s) (containing u) (length (s .modules)) (length (u .modules)) (containing-falls s (v .tree))
+      (containing-falls u (w .tree))
       (em .module-there) containing-moved m l
 
-  pub climb-moved : (m : ℕ) → Known m → (k : ℕ) → k < length (s .maps) → (climb u (e .maps k) (e .modules m) ≡ e .modules (climb s k m)) × (climb s k m ≤ m)
+  pub climb-moved : (m : ℕ) → Known m → (k : ℕ) → k < length (s .maps) → (climb u (e .maps k) (e .modules m) ≡ e .modules (climb s k m))
+      × (climb s k m ≤ m)
   unfolding climb
   climb-moved m l k h =
       let low = climb-falls s (v .tree) k in
       let high = climb-falls u (w .tree) (e .maps k) in
-      let step : (i : ℕ) → i < length (s .modules) → climbStep u (e .maps k) (e .modules i) ≡ orNone (e .modules) (climbStep s k i) = λ i j. climb-step-moved i j k h in (
-        last-moved (e .modules) (climbStep s k) (climbStep u (e .maps k)) (length (s .modules)) (length (u .modules)) low high (em .module-there) step m l,
-        last-low (e .modules) (climbStep s k) (climbStep u (e .maps k)) (length (s .modules)) (length (u .modules)) low high (em .module-there) step m l,
+      let step : (i : ℕ) → i < length (s .modules) → climbStep u (e .maps k) (e .modules i) ≡ orNone (e .modules) (climbStep s k i) =
+      λ i j. climb-step-moved i j k h in (
+        last-moved (e .modules) (climbStep s k) (climbStep u (e .maps k)) (length (s .modules)) (length (u .modules)) low high
+            (em .module-there) step m l,
+        last-low (e .modules) (climbStep s k) (climbStep u (e .maps k)) (length (s .modules)) (length (u .modules)) low high
+            (em .module-there) step m l,
       )
 
   pub in-module-moved : (m t : ℕ) → Known m → Known t → inModule u (e .modules m) (e .modules t) ≡ inModule s m t
@@ -178,11 +188,13 @@ module _ (e : Numbers) (s u : Snapshot) (em : Embeds e s u) (v : Valid s) (w : V
   in-module-moved m t l k =
       let c = climb-moved t k (mapNo s m) (map-known s (v .tree) m l) in
       let c1 = c .1 in
-      let at : climb u (mapNo u (e .modules m)) (e .modules t) ≡ e .modules (climb s (mapNo s m) t) = ap (λ i. climb u i (e .modules t)) (map-moved m l) ∙ c .0 in
+      let at : climb u (mapNo u (e .modules m)) (e .modules t) ≡ e .modules (climb s (mapNo s m) t) = ap (λ i. climb u i (e .modules t))
+      (map-moved m l) ∙ c .0 in
       let a = eqb-moved (e .modules) (length (s .modules)) (em .modules-apart) m t l k in
       let b = crates-compared m t l k in
       let d = ap (met (containing u) (e .modules m)) at
-      ∙ met-moved (e .modules) (containing s) (containing u) (length (s .modules)) (length (u .modules)) (containing-falls s (v .tree)) (containing-falls u (w .tree))
+      ∙ met-moved (e .modules) (containing s) (containing u) (length (s .modules)) (length (u .modules)) (containing-falls s (v .tree))
+      (containing-falls u (w .tree))
       (em .module-there) containing-moved (em .modules-apart) m (climb s (mapNo s m) t) l (omega arith) in
       ap₂ (λ i j. i || j) a (ap₂ (λ i j. i && j) b d)
 
@@ -191,9 +203,15 @@ module _ (e : Numbers) (s u : Snapshot) (em : Embeds e s u) (v : Valid s) (w : V
   unfolding isVisibleFrom
   visible-moved zero n m l c i = refl
   visible-moved (suc zero) n m l c i =
-      ap (λ j. eqb j (e .crates n)) (crate-moved m l) ∙ eqb-moved (e .crates) (length (s .crates)) (em .crates-apart) (crateOf s m) n (crate-known m l) (c refl)
+      ap (λ j. eqb j (e .crates n)) (crate-moved m l) ∙ eqb-moved (e .crates) (length (s .crates)) (em .crates-apart) (crateOf s m) n
+      (crate-known m l) (c refl)
   visible-moved (suc (suc x)) n m l c i =
-      let q : visibleTo e (suc (suc x)) n ≡ e .modules n = rw (visibleTo, ne-eqb (suc (suc x)) 0 (λ z. omega arith), ne-eqb (suc (suc x)) 1 (λ z. omega arith)) in
+      let q : visibleTo e (suc (suc x)) n ≡ e .modules n = rw (
+        visibleTo,
+        ne-eqb (suc (suc x)) 0 (λ z. omega arith),
+        ne-eqb
+            (suc (suc x)) 1 (λ z. omega arith),
+      ) in
       ap (inModule u (e .modules m)) q ∙ in-module-moved m n l (i (omega arith))
 
   -- what a viewer sees, it sees there

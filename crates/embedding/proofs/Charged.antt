@@ -22,13 +22,16 @@ use Rattle.path_choices.specs.Choices.{viaVariant, viaImport, stepBy, push, len
 use Rattle.find_path.specs.declared.FindPathCtx.{FindPathCtx}
 use Rattle.find_path.specs.Rules.{moduleIn, soughtOf, scopeRule, preludeRule, firstFound, moduleRules}
 use Rattle.find_path.specs.Meters.{Charged, Charge, go, stop}
-use Rattle.find_path.specs.Charged.{Out, Search, Inner, isStable, langs, oneOrNone, isAt, variantOf, pushVariant, offerImport, findImport, findImports, findInDep, findInDeps, findInSysroot, goOn, afterCharge, calculateBestPath, orCharged, findPathForModule, afterEnum, viaEnum, orEnum, byName, ofModule, findPathInner}
+use Rattle.find_path.specs.Charged.{Out, Search, Inner, isStable, langs, oneOrNone, isAt, variantOf, pushVariant, offerImport, findImport}
+use Rattle.find_path.specs.Charged.{findImports, findInDep, findInDeps, findInSysroot, goOn, afterCharge, calculateBestPath, orCharged}
+use Rattle.find_path.specs.Charged.{findPathForModule, afterEnum, viaEnum, orEnum, byName, ofModule, findPathInner}
 use Rattle.find_path.specs.Search.{bestLocal, moduleTo, searchModule, itemTo, searchItem}
 use Rattle.join_words.specs.Joined.{Numbers, orNone, secondTo, firstTo}
 use Rattle.embedding.specs.Embeds as embeds
 use Rattle.embedding.specs.Embeds.{Embeds, ImportAlike, contextTo}
 use Rattle.embedding.proofs.Chains.{eqb-moved, none-apart, crate-moved, crate-known}
-use Rattle.embedding.proofs.Lookups.{Both, neither, each, Along, end, next, Hit, Has, kind-moved, first-moved, second-moved, fits, item-moved, item-has, home-moved, home-low}
+use Rattle.embedding.proofs.Lookups.{Both, neither, each, Along, end, next, Hit, Has, kind-moved, first-moved, second-moved, fits, item-moved}
+use Rattle.embedding.proofs.Lookups.{item-has, home-moved, home-low}
 use Rattle.embedding.proofs.Scopes.{dependencies-moved, imports-moved}
 use Rattle.embedding.proofs.Crates.{DependencyHit, lang-moved, sysroot-first-moved}
 use Rattle.embedding.proofs.Choices.{Alike, by-same, nothing-alike, length-left-alike, unstably-alike, push-alike}
@@ -115,7 +118,8 @@ module _ (e : Numbers) (s u : Snapshot) (em : Embeds e s u) (v : Valid s) (w : V
 
   abbrev VariantAlike : Definition → Definition → Type 0
   VariantAlike a b =
-      (a .first < length (s .definitions)) × (b .first ≡ e .definitions (a .first)) × (a .second < length (s .names)) × (b .second ≡ e .names (a .second))
+      (a .first < length (s .definitions)) × (b .first ≡ e .definitions (a .first)) × (a .second < length (s .names))
+      × (b .second ≡ e .names (a .second))
 
   variant-moved : (item : Item) → Has s item → Both VariantAlike (variantOf s item) (variantOf u (embeds.itemTo e item))
   unfolding variantOf embeds.itemTo
@@ -221,7 +225,8 @@ module _ (e : Numbers) (s u : Snapshot) (em : Embeds e s u) (v : Valid s) (w : V
 
         -- `find_in_sysroot`
         find-in-sysroot-alike : (ls : List ℕ) (b : Bool) {o p : Out M} → OutAlike e s R o p
-            → OutAlike e s R (findInSysroot M charge s x here f left item o ls b) (findInSysroot M charge u y there g left (embeds.itemTo e item) p ls b)
+            → OutAlike e s R (findInSysroot M charge s x here f left item o ls b) (findInSysroot M charge u y there g left
+            (embeds.itemTo e item) p ls b)
         unfolding findInSysroot
         find-in-sysroot-alike [] true a = a
         find-in-sysroot-alike [] false a = find-in-deps-alike (sysroot-first-moved e s u em v (x .«from_crate» .0) (at .crate)) a
@@ -255,7 +260,8 @@ module _ (e : Numbers) (s u : Snapshot) (em : Embeds e s u) (v : Valid s) (w : V
 
         -- `calculate_best_path`
         pub best-path-alike : (t t′ : M) → R t t′
-            → OutAlike e s R (calculateBestPath M charge s x here f left item t) (calculateBestPath M charge u y there g left (embeds.itemTo e item) t′)
+            → OutAlike e s R (calculateBestPath M charge s x here f left item t) (calculateBestPath M charge u y there g left
+            (embeds.itemTo e item) t′)
         unfolding calculateBestPath
         best-path-alike t t′ r =
             let k = sought-moved item h in

@@ -9,7 +9,8 @@ use lib.ListN.{length, getD, take, set, length-set}
 use Rattle.snapshot.specs.Lists.{eqList}
 use Rattle.snapshot.specs.Records.{Snapshot, Name}
 use Rattle.path_choices.specs.declared.Choice.{Choice}
-use Rattle.path_choices.specs.Choices.{nameData, nameLen, isPrelude, pathKindLen, pathLen, nothing, keyword, choiceNew, extended, push, unstably, compareBool, andThen, comparePrelude, taken, better, trySelect, shorterIf, lengthLeft}
+use Rattle.path_choices.specs.Choices.{nameData, nameLen, isPrelude, pathKindLen, pathLen, nothing, keyword, choiceNew, extended, push, unstably}
+use Rattle.path_choices.specs.Choices.{compareBool, andThen, comparePrelude, taken, better, trySelect, shorterIf, lengthLeft}
 use Rattle.join_words.specs.Joined.{Numbers}
 use Rattle.embedding.specs.Embeds.{Embeds}
 use Rattle.embedding.proofs.Lookups.{Along, end, next}
@@ -115,7 +116,8 @@ module _ (e : Numbers) (s u : Snapshot) (em : Embeds e s u) where
         }
 
     module _ (n t t′ : ℕ) (l : n < length (s .names)) where
-      extended-names : Along (Named e s) (take (c .count + 1) (set (c .names) (c .count) n)) (take (c .count + 1) (set (d .names) (d .count) (e .names n)))
+      extended-names : Along (Named e s) (take (c .count + 1) (set (c .names) (c .count) n))
+          (take (c .count + 1) (set (d .names) (d .count) (e .names n)))
       extended-names =
           let q : suc (c .count) ≡ c .count + 1 = omega arith in
           subst (λ k. Along (Named e s) (take (c .count + 1) (set (c .names) (c .count) n)) (take (c .count + 1) (set (d .names) k (e .names n))))

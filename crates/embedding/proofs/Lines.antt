@@ -153,7 +153,8 @@ module _ (e : Numbers) (s u : Snapshot) (em : Embeds e s u) (v : Valid s) (w : V
 
     -- the line of an answer, or of a refusal
     pub answer-line : (fuel : ℕ)
-        → lineIn u (e .modules (q .from .0)) (answerUnless u (queryTo e q) fuel (questionFault u (queryTo e q))) ≡ lineIn s (q .from .0) (answerUnless s q fuel (questionFault s q))
+        → lineIn u (e .modules (q .from .0)) (answerUnless u (queryTo e q) fuel (questionFault u (queryTo e q)))
+        ≡ lineIn s (q .from .0) (answerUnless s q fuel (questionFault s q))
     answer-line fuel =
         ap (λ k. lineIn u (e .modules (q .from .0))
         (answerUnless u (queryTo e q) fuel k)) fault-moved ∙ line-moved (q .from .0) lf (answer-alike fuel (questionFault s q))

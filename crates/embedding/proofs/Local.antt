@@ -19,7 +19,8 @@ use Rattle.path_choices.specs.Choices.{viaLocal, stepBy, nothing, lengthLeft}
 use Rattle.find_path.specs.declared.FindPathCtx.{FindPathCtx}
 use Rattle.find_path.specs.Walk.{Level, visited, findLocalImportLocations}
 use Rattle.find_path.specs.Rules.{moduleRules}
-use Rattle.find_path.specs.Local.{LocalSearch, offer, offerEntry, isImportable, entryIf, importableName, location, eachLocation, calculateBestPathLocal, orLocal, findPathForModuleLocal}
+use Rattle.find_path.specs.Local.{LocalSearch, offer, offerEntry, isImportable, entryIf, importableName, location, eachLocation}
+use Rattle.find_path.specs.Local.{calculateBestPathLocal, orLocal, findPathForModuleLocal}
 use Rattle.find_path.specs.Search.{localTo, searchLocal, bestLocal}
 use Rattle.join_words.specs.Joined.{Numbers}
 use Rattle.embedding.specs.Embeds.{Embeds, itemTo, contextTo}
@@ -120,7 +121,8 @@ module _ (e : Numbers) (s u : Snapshot) (em : Embeds e s u) (v : Valid s) (w : V
             (map-append (e .modules) done (m ∷ [])) (each-location-alike now d2 a ms r)
 
         -- `calculate_best_path_local`
-        pub best-path-local-alike : Alike e s (calculateBestPathLocal s x f left ls item) (calculateBestPathLocal u y g left (map (levelTo e) ls) (itemTo e item))
+        pub best-path-local-alike : Alike e s (calculateBestPathLocal s x f left ls item)
+            (calculateBestPathLocal u y g left (map (levelTo e) ls) (itemTo e item))
         unfolding calculateBestPathLocal
         best-path-local-alike =
             let marks = visited-moved ls ks item h in

@@ -14,7 +14,8 @@ use Rattle.accept.specs.Valid.{Valid, Each, none, more, DefinitionFits}
 use Rattle.accept.proofs.Accepted.{by-test}
 use Rattle.accept.proofs.Bools.{each-at}
 use Rattle.hir_def.specs.Finds.{firstOf, select}
-use Rattle.hir_def.specs.Items.{types, moduleKind, variantKind, builtinKind, definitionOf, itemOf, sameItem, nsOf, homeBy, homeOf, moduleItem, definedItem}
+use Rattle.hir_def.specs.Items.{types, moduleKind, variantKind, builtinKind, definitionOf, itemOf, sameItem, nsOf, homeBy, homeOf, moduleItem}
+use Rattle.hir_def.specs.Items.{definedItem}
 use Rattle.hir_def.specs.declared.Item.{Item}
 use Rattle.hir_def.specs.declared.Item.the-variants.{Mod, Def}
 use Rattle.search_laws.proofs.Walks.{select-hit, select-miss}
@@ -53,7 +54,8 @@ module _ {A : Type 0} {P : A → Type 0} {Alike : A → A → Type 0} {Others : 
     first-within none done = neither
     first-within (more {x = x} {xs = xs} f fs) (ours {z = z} {zs = zs} a r) =
         by-test (p x)
-        (λ t. subst (λ o. Both (Hit P Alike p) (firstOf p (x ∷ xs)) o) (sym (first-hit q z zs (same x z f a ∙ t))) (subst (λ o. Both (Hit P Alike p) o (some z)) (sym (first-hit p x xs t)) (each (f, a, t))))
+        (λ t. subst (λ o. Both (Hit P Alike p) (firstOf p (x ∷ xs)) o) (sym (first-hit q z zs (same x z f a ∙ t)))
+        (subst (λ o. Both (Hit P Alike p) o (some z)) (sym (first-hit p x xs t)) (each (f, a, t))))
         (λ t. subst (λ o. Both (Hit P Alike p) (firstOf p (x ∷ xs)) o) (sym (first-miss q z zs (same x z f a ∙ t)))
         (subst (λ o. Both (Hit P Alike p) o (firstOf q zs)) (sym (first-miss p x xs t)) (first-within fs r)))
     first-within {xs} fs (theirs {z = z} {zs = zs} o r) =
@@ -144,7 +146,8 @@ module _ (e : Numbers) (s u : Snapshot) (em : Embeds e s u) (v : Valid s) where
   same-moved (Mod m) (Mod n) a b = eqb-moved (e .modules) (length (s .modules)) (em .modules-apart) (m .0) (n .0) a b
   same-moved (Mod m) (Def ns d) a b = refl
   same-moved (Def ns d) (Mod n) a b = refl
-  same-moved (Def ns d) (Def ms c) a b = ap (λ i. eqb (ns .0) (ms .0) && i) (eqb-moved (e .definitions) (length (s .definitions)) (em .definitions-apart) (d .0) (c .0) a b)
+  same-moved (Def ns d) (Def ms c) a b = ap (λ i. eqb (ns .0) (ms .0) && i) (eqb-moved (e .definitions) (length (s .definitions))
+      (em .definitions-apart) (d .0) (c .0) a b)
 
   pub ns-moved : (a : Item) → nsOf (itemTo e a) ≡ nsOf a
   unfolding nsOf itemTo
@@ -185,7 +188,8 @@ module _ (e : Numbers) (s u : Snapshot) (em : Embeds e s u) (v : Valid s) where
       let h = first-home (x .first) f (λ z. omega arith) (λ z. omega arith) in
       let p : homeBy s (x .kind) (x .first) ≡ definitionOf s (x .first) .first + 1 = rw (homeBy, a, c) in
       let q : homeBy u (y .kind) (y .first) ≡ definitionOf u (y .first) .first + 1 = rw (homeBy, b, d2) in
-      q ∙ ap (λ j. definitionOf u j .first + 1) g ∙ ap (λ j. j + 1) h ∙ one-more (e .modules) (definitionOf s (x .first) .first) ∙ ap (orNone (e .modules)) (sym p))
+      q ∙ ap (λ j. definitionOf u j .first + 1) g ∙ ap (λ j. j + 1) h ∙ one-more (e .modules) (definitionOf s (x .first) .first)
+      ∙ ap (orNone (e .modules)) (sym p))
       (λ c.
       let d2 : eqb (y .kind) variantKind ≡ false = ap (λ i. eqb i variantKind) k ∙ c in
       let h = first-home d l (eqb-false (x .kind) 2 c) (eqb-false (x .kind) 3 a) in

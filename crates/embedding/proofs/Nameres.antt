@@ -49,7 +49,8 @@ module _ {A : Type 0} {R : A → A → Type 0} where
   first-some-moved f n g h t [] none = neither
   first-some-moved f n g h t (m ∷ ms) (more l k) = some-both (t m l) (first-some-moved f n g h t ms k)
 
-any-moved : (f : ℕ → ℕ) (n : ℕ) (p q : ℕ → Bool) → ((m : ℕ) → m < n → q (f m) ≡ p m) → (ms : List ℕ) → Each (λ a. a < n) ms → any q (map f ms) ≡ any p ms
+any-moved : (f : ℕ → ℕ) (n : ℕ) (p q : ℕ → Bool) → ((m : ℕ) → m < n → q (f m) ≡ p m) → (ms : List ℕ) → Each (λ a. a < n) ms
+    → any q (map f ms) ≡ any p ms
 unfolding any
 any-moved f n p q h [] none = refl
 any-moved f n p q h (m ∷ ms) (more l k) = ap₂ (λ i j. i || j) (h m l) (any-moved f n p q h ms k)
@@ -97,9 +98,11 @@ module _ (e : Numbers) (s u : Snapshot) (em : Embeds e s u) (v : Valid s) (w : V
         → Both Like (scopeEntry s m item declared fresh) (scopeEntry u (e .modules m) (itemTo e item) declared fresh)
     unfolding scopeEntry
     scope-entry-moved item h declared fresh =
-        subst (λ ms. Both Like (firstSome (entryIn s item declared fresh) (ancestorMaps s m)) (firstSome (entryIn u (itemTo e item) declared fresh) ms))
+        subst (λ ms. Both Like (firstSome (entryIn s item declared fresh) (ancestorMaps s m))
+        (firstSome (entryIn u (itemTo e item) declared fresh) ms))
         (sym (ancestors-moved e s u em v w m l))
-        (first-some-moved (e .modules) n (entryIn s item declared fresh) (entryIn u (itemTo e item) declared fresh) (entry-in-moved item h declared fresh) (ancestorMaps s m)
+        (first-some-moved (e .modules) n (entryIn s item declared fresh) (entryIn u (itemTo e item) declared fresh)
+        (entry-in-moved item h declared fresh) (ancestorMaps s m)
         (ancestors-known m l))
 
     get-like : (ns k : ℕ) → k < length (s .names) → (a : ℕ) → a < n → Both Like (get s a ns k) (get u (e .modules a) ns (e .names k))
@@ -109,8 +112,10 @@ module _ (e : Numbers) (s u : Snapshot) (em : Embeds e s u) (v : Valid s) (w : V
     pub entry-named-moved : (ns k : ℕ) → k < length (s .names) → Both Like (entryNamed s m ns k) (entryNamed u (e .modules m) ns (e .names k))
     unfolding entryNamed
     entry-named-moved ns k h =
-        subst (λ ms. Both Like (firstSome (λ a. get s a ns k) (ancestorMaps s m)) (firstSome (λ a. get u a ns (e .names k)) ms)) (sym (ancestors-moved e s u em v w m l))
-        (first-some-moved (e .modules) n (λ a. get s a ns k) (λ a. get u a ns (e .names k)) (get-like ns k h) (ancestorMaps s m) (ancestors-known m l))
+        subst (λ ms. Both Like (firstSome (λ a. get s a ns k) (ancestorMaps s m)) (firstSome (λ a. get u a ns (e .names k)) ms))
+        (sym (ancestors-moved e s u em v w m l))
+        (first-some-moved (e .modules) n (λ a. get s a ns k) (λ a. get u a ns (e .names k)) (get-like ns k h) (ancestorMaps s m)
+        (ancestors-known m l))
 
     other-moved : (to : ℕ) → to < n → {a b : Option Scope} → Both Like a b → isOther u (e .modules to) b ≡ isOther s to a
     unfolding isOther itemTo
@@ -130,7 +135,8 @@ module _ (e : Numbers) (s u : Snapshot) (em : Embeds e s u) (v : Valid s) (w : V
   own-known c l =
       let p : Map → Bool = λ x. eqb (x .crate) c && eqb (x .block) 0 in
       let f = v .owned .some c l in
-      let a : any p (s .maps) ≡ true = any-has p noMap (s .maps) (f .0) (f .1) (rw (eq-eqb (crateIn (s .maps) (f .0)) c (f .2), eq-eqb (blockIn (s .maps) (f .0)) 0 (f .3))) in
+      let a : any p (s .maps) ≡ true = any-has p noMap (s .maps) (f .0) (f .1)
+      (rw (eq-eqb (crateIn (s .maps) (f .0)) c (f .2), eq-eqb (blockIn (s .maps) (f .0)) 0 (f .3))) in
       let r = place-from p noMap (s .maps) 0 a in
       let q : ownMap s c ≡ r .0 = r .1 ∙ zero-add (r .0) in
       let k = r .2 in
@@ -141,4 +147,5 @@ module _ (e : Numbers) (s u : Snapshot) (em : Embeds e s u) (v : Valid s) (w : V
   unfolding crateRoot
   crate-root-moved m l =
       let c = crate-known e s u em v w m l in
-      ap (λ k. rootOf u (ownMap u k)) (crate-moved e s u em v w m l) ∙ ap (rootOf u) (em .own (crateOf s m) c) ∙ em .root (ownMap s (crateOf s m)) (own-known (crateOf s m) c)
+      ap (λ k. rootOf u (ownMap u k)) (crate-moved e s u em v w m l) ∙ ap (rootOf u) (em .own (crateOf s m) c)
+      ∙ em .root (ownMap s (crateOf s m)) (own-known (crateOf s m) c)

@@ -19,12 +19,15 @@ use Rattle.accept.proofs.Bools.{and-three, each-at, or-right, or-none}
 use Rattle.hir_def.specs.Finds.{placeOf, select}
 use Rattle.hir_def.specs.Items.{definitionOf, crateData, moduleOf, mapOf, rootOf, ownMap}
 use Rattle.edit_rules.specs.Entries.{movedScope, movedImport, movedExtern}
-use Rattle.join_words.specs.Joined.{Numbers, firstNumbers, secondNumbers, nameNumber, sameBuiltin, definitionNumber, orNone, firstTo, secondTo, dependencyTo, mapTo, moduleTo, childTo, preludeTo, definitionTo, scopeTo, importTo, externTo, memberTo, definitionPut, placedBy, placed, kindBase, together, joined, mergedNumber}
+use Rattle.join_words.specs.Joined.{Numbers, firstNumbers, secondNumbers, nameNumber, sameBuiltin, definitionNumber, orNone, firstTo, secondTo}
+use Rattle.join_words.specs.Joined.{dependencyTo, mapTo, moduleTo, childTo, preludeTo, definitionTo, scopeTo, importTo, externTo, memberTo}
+use Rattle.join_words.specs.Joined.{definitionPut, placedBy, placed, kindBase, together, joined, mergedNumber}
 use Rattle.join_words.proofs.Lists.{any-not, any-has, placed-at}
 use Rattle.join_words.proofs.Merged.{kept-less, number-old, merged-low}
 use Rattle.join_words.proofs.Stages.{Whole}
 use Rattle.join_words.proofs.Wholes.{each-two}
-use Rattle.join_words.proofs.Sound.{name-at, name-apart, isOther, other-kind, definition-counts, definition-low, definition-at, module-counts, module-low, module-high, map-low, map-high}
+use Rattle.join_words.proofs.Sound.{name-at, name-apart, isOther, other-kind, definition-counts, definition-low, definition-at, module-counts}
+use Rattle.join_words.proofs.Sound.{module-low, module-high, map-low, map-high}
 use Rattle.embedding.proofs.Chains.{none-same}
 use Rattle.embedding.specs.Embeds.{Within, done, ours, theirs, Embeds}
 
@@ -98,7 +101,8 @@ module _ {A : Type 0} {Alike : A → A → Type 0} {Others : A → Type 0} (f : 
   plain-theirs h [] none = done
   plain-theirs h (y ∷ ys) (more p ps) = theirs (h y p) (plain-theirs h ys ps)
 
-  plain-left : {P : A → Type 0} → ((x : A) → Alike x x) → ((y : A) → P y → Others (f y)) → (xs ys : List A) → Each P ys → Within Alike Others xs (xs ++ map f ys)
+  plain-left : {P : A → Type 0} → ((x : A) → Alike x x) → ((y : A) → P y → Others (f y)) → (xs ys : List A) → Each P ys
+      → Within Alike Others xs (xs ++ map f ys)
   plain-left a h [] ys ps = plain-theirs h ys ps
   plain-left a h (x ∷ xs) ys ps = ours (a x) (plain-left a h xs ys ps)
 
@@ -106,7 +110,8 @@ module _ {A : Type 0} {Alike : A → A → Type 0} {Others : A → Type 0} (f : 
   plain-ours a [] = done
   plain-ours a (y ∷ ys) = ours (a y) (plain-ours a ys)
 
-  plain-right : {P : A → Type 0} → ((x : A) → P x → Others x) → ((y : A) → Alike y (f y)) → (xs ys : List A) → Each P xs → Within Alike Others ys (xs ++ map f ys)
+  plain-right : {P : A → Type 0} → ((x : A) → P x → Others x) → ((y : A) → Alike y (f y)) → (xs ys : List A) → Each P xs
+      → Within Alike Others ys (xs ++ map f ys)
   plain-right h a [] ys none = plain-ours a ys
   plain-right h a (x ∷ xs) ys (more p ps) = theirs (h x p) (plain-right h a xs ys ps)
 
@@ -163,15 +168,18 @@ module _ (s t : Snapshot) (v : Valid s) (w : Valid t) (sw : Whole s) (tw : Whole
   abbrev e : Numbers
   e = secondNumbers s t
 
-  placed-definition : (d : ℕ) → d < length (together s t .definitions) → definitionOf u d ≡ definitionPut (kindBase (together s t) 6 + definitionSize * d) (definitionIn (together s t .definitions) d)
+  placed-definition : (d : ℕ) → d < length (together s t .definitions)
+      → definitionOf u d ≡ definitionPut (kindBase (together s t) 6 + definitionSize * d) (definitionIn (together s t .definitions) d)
   unfolding definitionOf placed
   placed-definition d l = placed-at definitionPut definitionSize noDefinition (kindBase (together s t) 6) (together s t .definitions) d l
 
-  first-definition : (d : ℕ) → d < length (s .definitions) → definitionOf u d ≡ definitionPut (definitionOf u d .place) (definitionTo firstNumbers (definitionOf s d))
+  first-definition : (d : ℕ) → d < length (s .definitions) → definitionOf u d ≡ definitionPut (definitionOf u d .place)
+      (definitionTo firstNumbers (definitionOf s d))
   unfolding definitionOf placed
   first-definition d l =
       let c = definition-counts s t v w sw tw in
-      let q = placed-definition d (omega arith) ∙ ap (definitionPut (kindBase (together s t) 6 + definitionSize * d)) (definition-low s t v w sw tw d l ∙ sym (definition-stays (definitionOf s d))) in
+      let q = placed-definition d (omega arith) ∙ ap (definitionPut (kindBase (together s t) 6 + definitionSize * d))
+      (definition-low s t v w sw tw d l ∙ sym (definition-stays (definitionOf s d))) in
       put-there (definitionOf u d) (definitionTo firstNumbers (definitionOf s d)) (kindBase (together s t) 6 + definitionSize * d) q
 
   module-has : (k : ℕ) → k < length (s .maps) → any (λ (x : Module). eqb (x .map) k) (s .modules) ≡ true
@@ -189,7 +197,8 @@ module _ (s t : Snapshot) (v : Valid s) (w : Valid t) (sw : Whole s) (tw : Whole
   member-new : (x : Member) → MemberFits (countsOf t) x → Belongs (t .definitions) x → length (s .definitions) ≤ definitionNumber s t (x .parent)
   member-new x f b =
       let k = b .parent in
-      let d = definition-at s t v w sw tw (x .parent) (f .parent) (other-kind s t v w sw tw (definitionIn (t .definitions) (x .parent)) (λ z. omega arith)) .0 in
+      let d = definition-at s t v w sw tw (x .parent) (f .parent) (other-kind s t v w sw tw (definitionIn (t .definitions) (x .parent))
+      (λ z. omega arith)) .0 in
       omega arith
 
   -- The first part.
@@ -210,17 +219,21 @@ module _ (s t : Snapshot) (v : Valid s) (w : Valid t) (sw : Whole s) (tw : Whole
         definitions-apart = λ i j a b q. q;
         root = λ k l. place-left (λ (x : Module). eqb (x .map) k) 0 (s .modules) (map (moduleTo e) (t .modules)) (module-has k l);
         own = λ c l. place-left (λ (x : Map). eqb (x .crate) c && eqb (x .block) 0) 0 (s .maps) (map (mapTo e) (t .maps)) (map-has c l);
-        dependencies = plain-left (dependencyTo e) (λ x. refl) (λ y p i l q. omega (arith, l, q)) (s .dependencies) (t .dependencies) (w .ranges .dependencies);
+        dependencies = plain-left (dependencyTo e) (λ x. refl) (λ y p i l q. omega (arith, l, q)) (s .dependencies) (t .dependencies)
+            (w .ranges .dependencies);
         children = plain-left (childTo e) (λ x. refl) (λ y p i l q. omega (arith, l, q)) (s .children) (t .children) (w .ranges .children);
         preludes = plain-left (preludeTo e) (λ x. refl) (λ y p i l q. omega (arith, l, q)) (s .preludes) (t .preludes) (w .ranges .preludes);
         scopes =
-            within-left (λ at. movedScope (λ n. at)) scopeSize (scopeTo e) (kindBase (together s t) 7) (λ j x. ap (movedScope (λ n. j)) (sym (scope-stays x))) (λ j y p i l q. omega (arith, l, q))
+            within-left (λ at. movedScope (λ n. at)) scopeSize (scopeTo e) (kindBase (together s t) 7)
+            (λ j x. ap (movedScope (λ n. j)) (sym (scope-stays x))) (λ j y p i l q. omega (arith, l, q))
             (s .scopes) (t .scopes) (w .ranges .scopes);
         imports =
-            within-left (λ at. movedImport (λ n. at)) importSize (importTo e) (kindBase (together s t) 8) (λ j x. refl) (λ j y p i l q. omega (arith, l, q))
+            within-left (λ at. movedImport (λ n. at)) importSize (importTo e) (kindBase (together s t) 8) (λ j x. refl)
+            (λ j y p i l q. omega (arith, l, q))
             (s .imports) (t .imports) (w .ranges .imports);
         externs =
-            within-left (λ at. movedExtern (λ n. at)) externSize (externTo e) (kindBase (together s t) 9) (λ j x. refl) (λ j y p i l q. omega (arith, l, q))
+            within-left (λ at. movedExtern (λ n. at)) externSize (externTo e) (kindBase (together s t) 9) (λ j x. refl)
+            (λ j y p i l q. omega (arith, l, q))
             (s .externs) (t .externs) (w .ranges .externs);
         members =
             plain-left (memberTo e) (λ x. refl) (λ y p i l q. let n = member-new y (p .0) (p .1) in omega (arith, l, q, n)) (s .members) (t .members)
@@ -243,7 +256,8 @@ module _ (s t : Snapshot) (v : Valid s) (w : Valid t) (sw : Whole s) (tw : Whole
       (q .0, eqb-true (y .kind) 3 (k .0), eqb-true (x .kind) 3 (k .1), eqb-true (nameNumber s t (y .first)) (x .first) (k .2))
 
   -- an enum of the first part is none of the second's
-  member-old : (x : Member) → MemberFits (countsOf s) x → Belongs (s .definitions) x → (i : ℕ) → i < length (t .definitions) → definitionNumber s t i ≡ x .parent → ⊥
+  member-old : (x : Member) → MemberFits (countsOf s) x → Belongs (s .definitions) x → (i : ℕ) → i < length (t .definitions)
+      → definitionNumber s t i ≡ x .parent → ⊥
   member-old x f b i l q =
       let p = f .parent in
       by-test (isOther s t v w sw tw (definitionIn (t .definitions) i))
@@ -251,7 +265,8 @@ module _ (s t : Snapshot) (v : Valid s) (w : Valid t) (sw : Whole s) (tw : Whole
       (λ a.
       let m = merged-same i l a .2 in
       let k = b .parent in
-      let z : definitionIn (s .definitions) (definitionNumber s t i) .kind ≡ definitionIn (s .definitions) (x .parent) .kind = ap (λ d. definitionIn (s .definitions) d .kind) q in
+      let z : definitionIn (s .definitions) (definitionNumber s t i) .kind ≡ definitionIn (s .definitions) (x .parent) .kind =
+      ap (λ d. definitionIn (s .definitions) d .kind) q in
       omega arith)
 
   merged-alike : (d : ℕ) → d < length (t .definitions) → isOther s t v w sw tw (definitionIn (t .definitions) d) ≡ false → (q : ℕ)
@@ -291,7 +306,8 @@ module _ (s t : Snapshot) (v : Valid s) (w : Valid t) (sw : Whole s) (tw : Whole
   abbrev kept : ℕ → ℕ
   kept d = length (select (isOther s t v w sw tw) (take d (t .definitions)))
 
-  new-apart : (i j : ℕ) → i < j → i < length (t .definitions) → j < length (t .definitions) → isOther s t v w sw tw (definitionIn (t .definitions) i) ≡ true
+  new-apart : (i j : ℕ) → i < j → i < length (t .definitions) → j < length (t .definitions)
+      → isOther s t v w sw tw (definitionIn (t .definitions) i) ≡ true
       → isOther s t v w sw tw (definitionIn (t .definitions) j) ≡ true → definitionNumber s t i ≡ definitionNumber s t j → ⊥
   new-apart i j h li lj a b q =
       let x = definition-at s t v w sw tw i li a .0 in
@@ -299,7 +315,8 @@ module _ (s t : Snapshot) (v : Valid s) (w : Valid t) (sw : Whole s) (tw : Whole
       let k = kept-less (isOther s t v w sw tw) noDefinition (t .definitions) i j h li a in
       omega arith
 
-  old-apart : (i j : ℕ) → i < j → i < length (t .definitions) → j < length (t .definitions) → isOther s t v w sw tw (definitionIn (t .definitions) i) ≡ false
+  old-apart : (i j : ℕ) → i < j → i < length (t .definitions) → j < length (t .definitions)
+      → isOther s t v w sw tw (definitionIn (t .definitions) i) ≡ false
       → isOther s t v w sw tw (definitionIn (t .definitions) j) ≡ false → definitionNumber s t i ≡ definitionNumber s t j → ⊥
   old-apart i j h li lj a b q =
       let x = merged-same i li a in
@@ -321,7 +338,8 @@ module _ (s t : Snapshot) (v : Valid s) (w : Valid t) (sw : Whole s) (tw : Whole
   ordered-apart i j h li lj q =
       by-test (isOther s t v w sw tw (definitionIn (t .definitions) i))
       (λ a. by-test (isOther s t v w sw tw (definitionIn (t .definitions) j)) (λ b. new-apart i j h li lj a b q) (λ b. mixed-apart i j li lj a b q))
-      (λ a. by-test (isOther s t v w sw tw (definitionIn (t .definitions) j)) (λ b. mixed-apart j i lj li b a (sym q)) (λ b. old-apart i j h li lj a b q))
+      (λ a. by-test (isOther s t v w sw tw (definitionIn (t .definitions) j)) (λ b. mixed-apart j i lj li b a (sym q))
+      (λ b. old-apart i j h li lj a b q))
 
   second-apart : (i j : ℕ) → i < length (t .definitions) → j < length (t .definitions) → definitionNumber s t i ≡ definitionNumber s t j → i ≡ j
   second-apart i j li lj q =
@@ -343,12 +361,14 @@ module _ (s t : Snapshot) (v : Valid s) (w : Valid t) (sw : Whole s) (tw : Whole
   second-root k l =
       let p : Module → Bool = λ x. eqb (x .map) (length (s .maps) + k) in
       let no : any p (s .modules) ≡ false =
-      any-not p noModule (s .modules) (λ j h. let m = v .tree .known j h in ne-eqb (mapIn (s .modules) j) (length (s .maps) + k) (λ z. omega arith)) in
+      any-not p noModule (s .modules) (λ j h. let m = v .tree .known j h in ne-eqb (mapIn (s .modules) j) (length (s .maps) + k)
+      (λ z. omega arith)) in
       let q : 0 + length (s .modules) ≡ length (s .modules) + 0 = omega arith in
       place-right p 0 (s .modules) (map (moduleTo e) (t .modules)) no
       ∙ ap (λ j. placeOf p j (map (moduleTo e) (t .modules))) q
       ∙ place-shift p (length (s .modules)) 0 (map (moduleTo e) (t .modules))
-      ∙ ap (λ j. length (s .modules) + j) (place-map p (λ (x : Module). eqb (x .map) k) (moduleTo e) 0 (t .modules) (λ y. shift-same (length (s .maps)) (y .map) k))
+      ∙ ap (λ j. length (s .modules) + j) (place-map p (λ (x : Module). eqb (x .map) k) (moduleTo e) 0 (t .modules)
+      (λ y. shift-same (length (s .maps)) (y .map) k))
 
   second-own : (c : ℕ) → c < length (t .crates)
       → placeOf (λ (x : Map). eqb (x .crate) (length (s .crates) + c) && eqb (x .block) 0) 0 (s .maps ++ map (mapTo e) (t .maps))
@@ -387,17 +407,23 @@ module _ (s t : Snapshot) (v : Valid s) (w : Valid t) (sw : Whole s) (tw : Whole
         definitions-apart = second-apart;
         root = second-root;
         own = second-own;
-        dependencies = plain-right (dependencyTo e) (λ x p i l q. let o = p .owner in omega arith) (λ y. refl) (s .dependencies) (t .dependencies) (v .ranges .dependencies);
-        children = plain-right (childTo e) (λ x p i l q. let o = p .owner in omega arith) (λ y. refl) (s .children) (t .children) (v .ranges .children);
-        preludes = plain-right (preludeTo e) (λ x p i l q. let o = p .map in omega arith) (λ y. refl) (s .preludes) (t .preludes) (v .ranges .preludes);
+        dependencies = plain-right (dependencyTo e) (λ x p i l q. let o = p .owner in omega arith) (λ y. refl) (s .dependencies)
+            (t .dependencies) (v .ranges .dependencies);
+        children = plain-right (childTo e) (λ x p i l q. let o = p .owner in omega arith) (λ y. refl) (s .children) (t .children)
+            (v .ranges .children);
+        preludes = plain-right (preludeTo e) (λ x p i l q. let o = p .map in omega arith) (λ y. refl) (s .preludes) (t .preludes)
+            (v .ranges .preludes);
         scopes =
-            within-right (λ at. movedScope (λ n. at)) scopeSize (scopeTo e) (kindBase (together s t) 7) (λ j x p i l q. let o = p .owner in omega arith) (λ j y. refl)
+            within-right (λ at. movedScope (λ n. at)) scopeSize (scopeTo e) (kindBase (together s t) 7)
+            (λ j x p i l q. let o = p .owner in omega arith) (λ j y. refl)
             (s .scopes) (t .scopes) (v .ranges .scopes);
         imports =
-            within-right (λ at. movedImport (λ n. at)) importSize (importTo e) (kindBase (together s t) 8) (λ j x p i l q. let o = p .owner in omega arith) (λ j y. refl)
+            within-right (λ at. movedImport (λ n. at)) importSize (importTo e) (kindBase (together s t) 8)
+            (λ j x p i l q. let o = p .owner in omega arith) (λ j y. refl)
             (s .imports) (t .imports) (v .ranges .imports);
         externs =
-            within-right (λ at. movedExtern (λ n. at)) externSize (externTo e) (kindBase (together s t) 9) (λ j x p i l q. let o = p .owner in omega arith) (λ j y. refl)
+            within-right (λ at. movedExtern (λ n. at)) externSize (externTo e) (kindBase (together s t) 9)
+            (λ j x p i l q. let o = p .owner in omega arith) (λ j y. refl)
             (s .externs) (t .externs) (v .ranges .externs);
         members =
             plain-right (memberTo e) (λ x p i l q. member-old x (p .0) (p .1) i l q) (λ y. refl) (s .members) (t .members) (members-fit s v);

@@ -125,7 +125,8 @@ module _ (e : Numbers) (s u : Snapshot) (em : Embeds e s u) (v : Valid s) (w : V
     builtin-alike t =
         let x = definitionOf s (q .definition .0) in
         let z = definitionOf u (e .definitions (q .definition .0)) in
-        let first : z .first ≡ e .names (x .first) = first-moved e s u em v (q .definition .0) ld ∙ rw (firstTo, ne-eqb (x .kind) 2 (λ a. omega arith), t) in
+        let first : z .first ≡ e .names (x .first) = first-moved e s u em v (q .definition .0) ld
+        ∙ rw (firstTo, ne-eqb (x .kind) 2 (λ a. omega arith), t) in
         subst (λ k. Alike e s (builtinChoice s x) (choiceNew u plainPath k (stepBy viaBuiltin (z .place)))) (sym first)
         (choice-new-alike e s u em plainPath (x .first) (stepBy viaBuiltin (x .place)) (stepBy viaBuiltin (z .place))
         (fits e s u em v (q .definition .0) ld .builtin t))

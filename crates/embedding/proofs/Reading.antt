@@ -19,12 +19,17 @@ use Rattle.hir_def.specs.Nameres.{preludeOf}
 use Rattle.hir_def.specs.declared.Item.{Item}
 use Rattle.hir_def.specs.declared.Item.the-variants.{Mod, Def}
 use Rattle.hir_def.proofs.Chains.{map-known}
-use Rattle.readings.specs.Reads.{selfKind, superKind, crateKind, absoluteKind, variantMember, outward, scopesFrom, standsFor, meaning, entryOr, isExternNamed, externNamed, externMeans, inExterns, preludeMeans, inPreludeOf, entryFrom, firstName, isVariantNamed, variantNamed, variantIn, laterName, after, lookedIn, follow, plainly, absolutely, parentMeans, readsTo, isThe, readsBack}
+use Rattle.readings.specs.Reads.{selfKind, superKind, crateKind, absoluteKind, variantMember, outward, scopesFrom, standsFor, meaning, entryOr}
+use Rattle.readings.specs.Reads.{isExternNamed, externNamed, externMeans, inExterns, preludeMeans, inPreludeOf, entryFrom, firstName, isVariantNamed}
+use Rattle.readings.specs.Reads.{variantNamed, variantIn, laterName, after, lookedIn, follow, plainly, absolutely, parentMeans, readsTo, isThe}
+use Rattle.readings.specs.Reads.{readsBack}
 use Rattle.read_back.proofs.Outward.{outward-falls}
 use Rattle.join_words.specs.Joined.{Numbers, orNone, preludeTo, memberTo}
 use Rattle.embedding.specs.Embeds.{ExternAlike, Embeds, itemTo}
-use Rattle.embedding.proofs.Chains.{eqb-moved, none-same, steps-moved, last-moved, last-low, map-moved, parent-moved, block-moved, crate-moved, crate-known, sees-moved}
-use Rattle.embedding.proofs.Lookups.{Both, neither, each, Along, end, next, Hit, Has, first-within, outside-not, item-moved, item-has, same-moved, ns-moved}
+use Rattle.embedding.proofs.Chains.{eqb-moved, none-same, steps-moved, last-moved, last-low, map-moved, parent-moved, block-moved, crate-moved}
+use Rattle.embedding.proofs.Chains.{crate-known, sees-moved}
+use Rattle.embedding.proofs.Lookups.{Both, neither, each, Along, end, next, Hit, Has, first-within, outside-not, item-moved, item-has}
+use Rattle.embedding.proofs.Lookups.{same-moved, ns-moved}
 use Rattle.embedding.proofs.Scopes.{get-moved, prelude-moved}
 use Rattle.embedding.proofs.Walks.{steps-known}
 use Rattle.embedding.proofs.Nameres.{both-as, or-both, first-some-moved, Like, crate-root-moved}
@@ -166,7 +171,8 @@ module _ (e : Numbers) (s u : Snapshot) (em : Embeds e s u) (v : Valid s) (w : V
       -- variants
 
       variant-named-moved : (d : ℕ) → d < length (s .definitions)
-          → Both (Hit (MemberFits (countsOf s)) (λ x z. z ≡ memberTo e x) (isVariantNamed d k)) (variantNamed s d k) (variantNamed u (e .definitions d) (e .names k))
+          → Both (Hit (MemberFits (countsOf s)) (λ x z. z ≡ memberTo e x) (isVariantNamed d k)) (variantNamed s d k)
+          (variantNamed u (e .definitions d) (e .names k))
       unfolding variantNamed
       variant-named-moved d l =
           first-within (isVariantNamed d k) (isVariantNamed (e .definitions d) (e .names k))

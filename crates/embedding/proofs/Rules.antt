@@ -18,15 +18,18 @@ use Rattle.hir_def.specs.Nameres.{entryNamed, occupied, preludeOf}
 use Rattle.hir_def.specs.declared.Item.{Item}
 use Rattle.hir_def.proofs.Chains.{map-known}
 use Rattle.path_choices.specs.declared.Choice.{Choice}
-use Rattle.path_choices.specs.Choices.{plainPath, selfPath, superPath, cratePath, viaScope, viaPrelude, viaExtern, stepBy, keyword, choiceNew}
+use Rattle.path_choices.specs.Choices.{plainPath, selfPath, superPath, cratePath, viaScope, viaPrelude, viaExtern, stepBy, choiceNew}
 use Rattle.find_path.specs.declared.FindPathCtx.{FindPathCtx}
-use Rattle.find_path.specs.Rules.{byCrate, prefixPathKind, firstFound, single, findInScope, mayBeInScope, scopeRule, sameHere, isUsable, preludeEntry, inPrelude, findInPrelude, preludeRule, externKind, externName, rootRule, parentKind, isKwKindRelativeToFrom, keywordOf, moduleRules}
+use Rattle.find_path.specs.Rules.{byCrate, prefixPathKind, firstFound, single, findInScope, mayBeInScope, scopeRule, sameHere, isUsable, preludeEntry}
+use Rattle.find_path.specs.Rules.{inPrelude, findInPrelude, preludeRule, externKind, externName, rootRule, parentKind, isKwKindRelativeToFrom}
+use Rattle.find_path.specs.Rules.{keywordOf, moduleRules}
 use Rattle.join_words.specs.Joined.{Numbers, orNone, preludeTo}
 use Rattle.embedding.specs.Embeds.{ExternAlike, Embeds, itemTo, contextTo}
 use Rattle.embedding.proofs.Chains.{eqb-moved, none-same, crates-compared, map-moved, parent-moved, block-moved, crate-known, sees-moved}
 use Rattle.embedding.proofs.Lookups.{Both, neither, each, Along, end, next, Hit, Has, ns-moved}
 use Rattle.embedding.proofs.Scopes.{item-same, prelude-moved}
-use Rattle.embedding.proofs.Nameres.{Like, Same, name-like, preferred-moved, scope-entry-moved, entry-named-moved, occupied-moved, own-known, crate-root-moved}
+use Rattle.embedding.proofs.Nameres.{Like, Same, name-like, preferred-moved, scope-entry-moved, entry-named-moved, occupied-moved, own-known}
+use Rattle.embedding.proofs.Nameres.{crate-root-moved}
 use Rattle.embedding.proofs.Crates.{extern-moved}
 use Rattle.embedding.proofs.Choices.{Alike, by-same, nothing-alike, keyword-alike, choice-new-alike}
 

@@ -15,7 +15,8 @@ use Rattle.hir_def.specs.declared.Item.{Item}
 use Rattle.join_words.specs.Joined.{Numbers, dependencyTo, childTo, preludeTo}
 use Rattle.embedding.specs.Embeds.{Outside, ScopeAlike, ImportAlike, Embeds, itemTo}
 use Rattle.embedding.proofs.Chains.{eqb-moved}
-use Rattle.embedding.proofs.Lookups.{Both, Along, Hit, first-within, select-within, outside-not, Has, kind-moved, item-moved, item-has, same-moved}
+use Rattle.embedding.proofs.Lookups.{Both, Along, Hit, first-within, select-within, outside-not, Has, kind-moved, item-moved, item-has}
+use Rattle.embedding.proofs.Lookups.{same-moved}
 
 module _ (e : Numbers) (s u : Snapshot) (em : Embeds e s u) (v : Valid s) where
   abbrev Foreign : Scope → Type 0
@@ -28,7 +29,8 @@ module _ (e : Numbers) (s u : Snapshot) (em : Embeds e s u) (v : Valid s) where
   module _ (m : ℕ) (l : m < length (s .modules)) where
     owner-same : (x z : Scope) → ScopeFits (countsOf s) x → ScopeAlike e x z → eqb (z .owner) (e .modules m) ≡ eqb (x .owner) m
     owner-same x z f a =
-        ap (λ (y : Scope). eqb (y .owner) (e .modules m)) a ∙ eqb-moved (e .modules) (length (s .modules)) (em .modules-apart) (x .owner) m (f .owner) l
+        ap (λ (y : Scope). eqb (y .owner) (e .modules m)) a ∙ eqb-moved (e .modules) (length (s .modules)) (em .modules-apart)
+        (x .owner) m (f .owner) l
 
     owner-not : (z : Scope) → Foreign z → eqb (z .owner) (e .modules m) ≡ false
     owner-not z o = outside-not (e .modules) (length (s .modules)) (z .owner) m o l
@@ -40,7 +42,8 @@ module _ (e : Numbers) (s u : Snapshot) (em : Embeds e s u) (v : Valid s) where
         ∙ ap (λ i. sameItem i (itemTo e item)) (item-moved e s u em v (x .ns) (x .definition) (f .definition))
         ∙ same-moved e s u em v (itemOf s (x .ns) (x .definition)) item (item-has e s u em v (x .ns) (x .definition) (f .definition)) h
 
-    for-same : (item : Item) → Has s item → (x z : Scope) → ScopeFits (countsOf s) x → ScopeAlike e x z → isFor u (e .modules m) (itemTo e item) z ≡ isFor s m item x
+    for-same : (item : Item) → Has s item → (x z : Scope) → ScopeFits (countsOf s) x → ScopeAlike e x z
+        → isFor u (e .modules m) (itemTo e item) z ≡ isFor s m item x
     unfolding isFor
     for-same item h x z f a = ap₂ (λ i j. i && j) (owner-same x z f a) (item-same item h x z f a)
 
@@ -52,7 +55,8 @@ module _ (e : Numbers) (s u : Snapshot) (em : Embeds e s u) (v : Valid s) where
     pub name-of-moved : (item : Item) → Has s item → Both (ScopeHit (isFor s m item)) (nameOf s m item) (nameOf u (e .modules m) (itemTo e item))
     unfolding nameOf
     name-of-moved item h =
-        first-within (isFor s m item) (isFor u (e .modules m) (itemTo e item)) (for-same item h) (for-not (itemTo e item)) (v .ranges .scopes) (em .scopes)
+        first-within (isFor s m item) (isFor u (e .modules m) (itemTo e item)) (for-same item h) (for-not (itemTo e item))
+        (v .ranges .scopes) (em .scopes)
 
     -- `names_of`, by tests that tell alike entries alike
     pub names-of-moved : (item : Item) → Has s item → (p q : Scope → Bool) → ((x z : Scope) → ScopeFits (countsOf s) x → ScopeAlike e x z → q z ≡ p x)
@@ -81,10 +85,12 @@ module _ (e : Numbers) (s u : Snapshot) (em : Embeds e s u) (v : Valid s) where
         (λ x z f a. ap₂ (λ i j. i && j) (owner-same x z f a)
         (ap (λ (y : Scope). eqb (y .ns) types && eqb (definitionOf u (y .definition) .kind) moduleKind) a
         ∙ ap (λ i. eqb (x .ns) types && eqb i moduleKind) (kind-moved e s u em v (x .definition) (f .definition))))
-        (λ z o. ap (λ i. i && (eqb (z .ns) types && eqb (definitionOf u (z .definition) .kind) moduleKind)) (owner-not z o)) (v .ranges .scopes) (em .scopes)
+        (λ z o. ap (λ i. i && (eqb (z .ns) types && eqb (definitionOf u (z .definition) .kind) moduleKind)) (owner-not z o))
+        (v .ranges .scopes) (em .scopes)
 
     -- the children
-    pub children-moved : Along (Hit (ChildFits (countsOf s)) (λ x z. z ≡ childTo e x) (λ c. eqb (c .owner) m)) (childrenOf s m) (childrenOf u (e .modules m))
+    pub children-moved : Along (Hit (ChildFits (countsOf s)) (λ x z. z ≡ childTo e x) (λ c. eqb (c .owner) m)) (childrenOf s m)
+        (childrenOf u (e .modules m))
     unfolding childrenOf
     children-moved =
         select-within (λ c. eqb (c .owner) m) (λ c. eqb (c .owner) (e .modules m))
@@ -93,7 +99,8 @@ module _ (e : Numbers) (s u : Snapshot) (em : Embeds e s u) (v : Valid s) where
         (λ z o. outside-not (e .modules) (length (s .modules)) (z .owner) m o l) (v .ranges .children) (em .children)
 
   -- `DefMap::prelude`
-  pub prelude-moved : (k : ℕ) → k < length (s .maps) → Both (Hit (PreludeFits (countsOf s)) (λ x z. z ≡ preludeTo e x) (λ p. eqb (p .map) k)) (preludeOf s k) (preludeOf u (e .maps k))
+  pub prelude-moved : (k : ℕ) → k < length (s .maps) → Both (Hit (PreludeFits (countsOf s)) (λ x z. z ≡ preludeTo e x) (λ p. eqb (p .map) k))
+      (preludeOf s k) (preludeOf u (e .maps k))
   unfolding preludeOf
   prelude-moved k l =
       first-within (λ p. eqb (p .map) k) (λ p. eqb (p .map) (e .maps k))
@@ -102,7 +109,8 @@ module _ (e : Numbers) (s u : Snapshot) (em : Embeds e s u) (v : Valid s) where
 
   module _ (c : ℕ) (l : c < length (s .crates)) where
     -- the dependencies of a crate
-    pub dependencies-moved : Along (Hit (DependencyFits (countsOf s)) (λ x z. z ≡ dependencyTo e x) (isDependency c)) (dependenciesOf s c) (dependenciesOf u (e .crates c))
+    pub dependencies-moved : Along (Hit (DependencyFits (countsOf s)) (λ x z. z ≡ dependencyTo e x) (isDependency c))
+        (dependenciesOf s c) (dependenciesOf u (e .crates c))
     unfolding dependenciesOf
     dependencies-moved =
         select-within (isDependency c) (isDependency (e .crates c))
@@ -111,7 +119,8 @@ module _ (e : Numbers) (s u : Snapshot) (em : Embeds e s u) (v : Valid s) where
         (λ z o. outside-not (e .crates) (length (s .crates)) (z .owner) c o l) (v .ranges .dependencies) (em .dependencies)
 
     -- `import_info_for`
-    pub imports-moved : (item : Item) → Has s item → Along (Hit (ImportFits (countsOf s)) (ImportAlike e) (isImport s c item)) (importInfoFor s c item) (importInfoFor u (e .crates c) (itemTo e item))
+    pub imports-moved : (item : Item) → Has s item → Along (Hit (ImportFits (countsOf s)) (ImportAlike e) (isImport s c item))
+        (importInfoFor s c item) (importInfoFor u (e .crates c) (itemTo e item))
     unfolding importInfoFor
     imports-moved item h =
         select-within (isImport s c item) (isImport u (e .crates c) (itemTo e item))
@@ -120,5 +129,6 @@ module _ (e : Numbers) (s u : Snapshot) (em : Embeds e s u) (v : Valid s) where
         ∙ ap₂ (λ i j. i && j) (eqb-moved (e .crates) (length (s .crates)) (em .crates-apart) (x .owner) c (f .owner) l)
         (ap (λ i. sameItem i (itemTo e item)) (item-moved e s u em v (x .ns) (x .definition) (f .definition))
         ∙ same-moved e s u em v (itemOf s (x .ns) (x .definition)) item (item-has e s u em v (x .ns) (x .definition) (f .definition)) h))
-        (λ z o. ap (λ i. i && sameItem (itemOf u (z .ns) (z .definition)) (itemTo e item)) (outside-not (e .crates) (length (s .crates)) (z .owner) c o l))
+        (λ z o. ap (λ i. i && sameItem (itemOf u (z .ns) (z .definition)) (itemTo e item))
+        (outside-not (e .crates) (length (s .crates)) (z .owner) c o l))
         (v .ranges .imports) (em .imports)

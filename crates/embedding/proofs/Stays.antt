@@ -41,7 +41,8 @@ module _ (W Y : List ℕ) (s u : Snapshot) (a : verdict W ≡ accept s) (b : ver
         ap (λ x. reportBy q fuel x .number) a ∙ ap (λ k. answerUnless s q fuel k .number) z
 
     by-fault : (k : ℕ) → (reportUnless W q fuel k .number ≡ unknownRefusal → ⊥)
-        → lineIn (snapshotOf (verdict Y)) (e .modules (q .from .0)) (reportUnless Y (queryTo e q) fuel k) ≡ lineIn (snapshotOf (verdict W)) (q .from .0) (reportUnless W q fuel k)
+        → lineIn (snapshotOf (verdict Y)) (e .modules (q .from .0)) (reportUnless Y (queryTo e q) fuel k)
+        ≡ lineIn (snapshotOf (verdict W)) (q .from .0) (reportUnless W q fuel k)
     unfolding reportUnless reportBy snapshotOf
     by-fault zero h =
         by-test (ltb (q .definition .0) (length (s .definitions)) && ltb (q .from .0) (length (s .modules)))

@@ -54,13 +54,15 @@ module _ (f : ℕ → ℕ) (n : ℕ) (same : (i j : ℕ) → i < n → j < n →
         (λ t. subst (Each (λ a. a < n)) (sym (select-miss p m ms t)) (select-known ms hs))
 
   -- the worklist
-  module _ (g h : ℕ → List ℕ) (seen met : ℕ → Bool) (leads : (m : ℕ) → m < n → h (f m) ≡ map f (g m)) (known : (m : ℕ) → m < n → Each (λ a. a < n) (g m))
+  module _ (g h : ℕ → List ℕ) (seen met : ℕ → Bool) (leads : (m : ℕ) → m < n → h (f m) ≡ map f (g m)) (known : (m : ℕ) → m < n
+      → Each (λ a. a < n) (g m))
       (marks : (m : ℕ) → m < n → met (f m) ≡ seen m)
     where
       test-moved : (done : List ℕ) → Each (λ a. a < n) done → (m : ℕ) → m < n → met (f m) || has (map f done) (f m) ≡ (seen m || has done m)
       test-moved done d m l = ap₂ (λ i j. i || j) (marks m l) (has-moved done m d l)
 
-      unmet-moved : (done ms : List ℕ) → Each (λ a. a < n) done → Each (λ a. a < n) ms → unmet met (map f done) (map f ms) ≡ map f (unmet seen done ms)
+      unmet-moved : (done ms : List ℕ) → Each (λ a. a < n) done → Each (λ a. a < n) ms
+          → unmet met (map f done) (map f ms) ≡ map f (unmet seen done ms)
       unfolding unmet
       unmet-moved done ms d k =
           select-moved (λ m. not (seen m || has done m)) (λ m. not (met m || has (map f done) m)) (λ m l. ap not (test-moved done d m l)) ms k
@@ -70,7 +72,8 @@ module _ (f : ℕ → ℕ) (n : ℕ) (same : (i j : ℕ) → i < n → j < n →
       unmet-known done ms d k =
           select-known (λ m. not (seen m || has done m)) (λ m. not (met m || has (map f done) m)) (λ m l. ap not (test-moved done d m l)) ms k
 
-      pub walk-moved : (b : ℕ) (done ws : List ℕ) → Each (λ a. a < n) done → Each (λ a. a < n) ws → walk h met b (map f done) (map f ws) ≡ map f (walk g seen b done ws)
+      pub walk-moved : (b : ℕ) (done ws : List ℕ) → Each (λ a. a < n) done → Each (λ a. a < n) ws
+          → walk h met b (map f done) (map f ws) ≡ map f (walk g seen b done ws)
       unfolding walk
       walk-moved zero done ws d k = refl
       walk-moved (suc b) done [] d none = refl
@@ -91,7 +94,8 @@ module _ (f : ℕ → ℕ) (n : ℕ) (same : (i j : ℕ) → i < n → j < n →
           ≡ walk h met b (map f done ++ (f m ∷ [])) (map f ws ++ unmet met (map f done ++ (f m ∷ [])) (h (f m))) = rw (walk, c) in
           let y : walk g seen (suc b) done (m ∷ ws) ≡ walk g seen b e (ws ++ us) = rw (walk, t) in
           let z : map f ws ++ unmet met (map f e) (h (f m)) ≡ map f (ws ++ us) =
-          ap (λ r. map f ws ++ unmet met (map f e) r) (leads m l) ∙ ap (λ r. map f ws ++ r) (unmet-moved e (g m) d2 (known m l)) ∙ sym (map-append f ws us) in
+          ap (λ r. map f ws ++ unmet met (map f e) r) (leads m l) ∙ ap (λ r. map f ws ++ r) (unmet-moved e (g m) d2 (known m l))
+          ∙ sym (map-append f ws us) in
           x ∙ ap (λ r. walk h met b r (map f ws ++ unmet met r (h (f m)))) e2 ∙ ap (walk h met b (map f e)) z
           ∙ walk-moved b e (ws ++ us) d2 (each-append k (unmet-known e (g m) d2 (known m l))) ∙ ap (map f) (sym y))
 
@@ -117,7 +121,8 @@ steps-known step n falls (suc d) m a b =
     (λ p z.
     let l = falls m p b z in
     let k : p < n = omega arith in
-    subst (Each (λ a. a < n)) (sym (steps-more step n falls m b ∙ ap (stepsOr (steps step)) z)) (more k (steps-known step n falls d p (omega arith) k)))
+    subst (Each (λ a. a < n)) (sym (steps-more step n falls m b ∙ ap (stepsOr (steps step)) z))
+    (more k (steps-known step n falls d p (omega arith) k)))
 
 module _ (e : Numbers) (s u : Snapshot) (em : Embeds e s u) (v : Valid s) (w : Valid u) where
   abbrev n : ℕ
@@ -155,7 +160,8 @@ module _ (e : Numbers) (s u : Snapshot) (em : Embeds e s u) (v : Valid s) (w : V
         (ap (sees u (e .modules from)) (h .1) ∙ sees-moved e s u em v w x from lf (h .0))
 
     leads-along : (m : ℕ) {xs zs : List Scope} → Along (ScopeHit e s u em v (isModuleEntry s m)) xs zs
-        → (map (entryModule u) (select Leads′ zs) ≡ map (e .modules) (map (entryModule s) (select Leads xs))) × Each (λ a. a < n) (map (entryModule s) (select Leads xs))
+        → (map (entryModule u) (select Leads′ zs) ≡ map (e .modules) (map (entryModule s) (select Leads xs)))
+        × Each (λ a. a < n) (map (entryModule s) (select Leads xs))
     unfolding select
     leads-along m end = (refl, none)
     leads-along m (next {x = x} {z = z} {xs = xs} {zs = zs} h r) =
@@ -175,12 +181,14 @@ module _ (e : Numbers) (s u : Snapshot) (em : Embeds e s u) (v : Valid s) (w : V
         ))
 
     -- where a module leads
-    pub leads-moved : (m : ℕ) → m < n → (leadsTo u (e .modules from) (e .modules m) ≡ map (e .modules) (leadsTo s from m)) × Each (λ a. a < n) (leadsTo s from m)
+    pub leads-moved : (m : ℕ) → m < n → (leadsTo u (e .modules from) (e .modules m) ≡ map (e .modules) (leadsTo s from m))
+        × Each (λ a. a < n) (leadsTo s from m)
     unfolding leadsTo
     leads-moved m l = leads-along m (modules-in-scope-moved e s u em v m l)
 
     children-along : {xs zs : List Child} → Along (Hit (ChildFits (countsOf s)) (λ x z. z ≡ childTo e x) (λ c. eqb (c .owner) from)) xs zs
-        → (map (λ (c : Child). c .child) zs ≡ map (e .modules) (map (λ (c : Child). c .child) xs)) × Each (λ a. a < n) (map (λ (c : Child). c .child) xs)
+        → (map (λ (c : Child). c .child) zs ≡ map (e .modules) (map (λ (c : Child). c .child) xs))
+        × Each (λ a. a < n) (map (λ (c : Child). c .child) xs)
     children-along end = (refl, none)
     children-along (next h r) =
         let t = children-along r in
@@ -192,7 +200,8 @@ module _ (e : Numbers) (s u : Snapshot) (em : Embeds e s u) (v : Valid s) (w : V
     start-moved =
         let c = children-along (children-moved e s u em v from lf) in
         let f = containing-falls s (v .tree) in (
-          ap₂ (λ i j. i ++ j) (c .0) (containers-moved e s u em v w from lf) ∙ sym (map-append (e .modules) (map (λ (c : Child). c .child) (childrenOf s from)) (containers s from)),
+          ap₂ (λ i j. i ++ j) (c .0) (containers-moved e s u em v w from lf)
+              ∙ sym (map-append (e .modules) (map (λ (c : Child). c .child) (childrenOf s from)) (containers s from)),
           each-append (c .1) (steps-known (containing s) n f (suc from) from (omega arith) lf),
         )
 
@@ -204,12 +213,15 @@ module _ (e : Numbers) (s u : Snapshot) (em : Embeds e s u) (v : Valid s) (w : V
         let st = start-moved in
         sym (locations-more u (e .modules from) met b (omega arith))
         ∙ ap (walk (leadsTo u (e .modules from)) met b []) (st .0)
-        ∙ walk-moved (e .modules) n (eqb-moved (e .modules) n (em .modules-apart)) (leadsTo s from) (leadsTo u (e .modules from)) seen met (λ m l. leads-moved m l .0)
+        ∙ walk-moved (e .modules) n (eqb-moved (e .modules) n (em .modules-apart)) (leadsTo s from) (leadsTo u (e .modules from))
+        seen met (λ m l. leads-moved m l .0)
         (λ m l. leads-moved m l .1) marks b [] (startFrom s from) none (st .1)
         ∙ ap (map (e .modules)) (locations-more s from seen b (omega arith))
 
-    pub locations-known : (seen met : ℕ → Bool) → ((m : ℕ) → m < n → met (e .modules m) ≡ seen m) → Each (λ a. a < n) (findLocalImportLocations s from seen)
+    pub locations-known : (seen met : ℕ → Bool) → ((m : ℕ) → m < n → met (e .modules m) ≡ seen m)
+        → Each (λ a. a < n) (findLocalImportLocations s from seen)
     unfolding findLocalImportLocations
     locations-known seen met marks =
-        walk-known (e .modules) n (eqb-moved (e .modules) n (em .modules-apart)) (leadsTo s from) (leadsTo u (e .modules from)) seen met (λ m l. leads-moved m l .0)
+        walk-known (e .modules) n (eqb-moved (e .modules) n (em .modules-apart)) (leadsTo s from) (leadsTo u (e .modules from))
+        seen met (λ m l. leads-moved m l .0)
         (λ m l. leads-moved m l .1) marks (length (startFrom s from) + length (s .scopes)) [] (startFrom s from) none (start-moved .1)

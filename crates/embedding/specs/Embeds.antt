@@ -10,7 +10,8 @@ use Rattle.hir_def.specs.declared.Item.{Item}
 use Rattle.hir_def.specs.declared.Item.the-variants.{Mod, Def}
 use Rattle.find_path.specs.declared.FindPathCtx.{FindPathCtx}
 use Rattle.edit_rules.specs.Entries.{movedScope, movedImport, movedExtern}
-use Rattle.join_words.specs.Joined.{Numbers, orNone, dependencyTo, mapTo, moduleTo, childTo, preludeTo, definitionTo, scopeTo, importTo, externTo, memberTo, definitionPut}
+use Rattle.join_words.specs.Joined.{Numbers, orNone, dependencyTo, mapTo, moduleTo, childTo, preludeTo, definitionTo, scopeTo, importTo, externTo}
+use Rattle.join_words.specs.Joined.{memberTo, definitionPut}
 
 -- no number below n goes to k
 abbrev pub Outside : (ℕ → ℕ) → ℕ → ℕ → Type 0
@@ -56,13 +57,15 @@ pub record Embeds (e : Numbers) (s u : Snapshot) : Type 0 where
   pub root : (k : ℕ) → k < length (s .maps) → rootOf u (e .maps k) ≡ e .modules (rootOf s k)
   pub own : (c : ℕ) → c < length (s .crates) → ownMap u (e .crates c) ≡ e .maps (ownMap s c)
   -- records by who owns them
-  pub dependencies : Within (λ x z. z ≡ dependencyTo e x) (λ (z : Dependency). Outside (e .crates) (length (s .crates)) (z .owner)) (s .dependencies) (u .dependencies)
+  pub dependencies : Within (λ x z. z ≡ dependencyTo e x) (λ (z : Dependency). Outside (e .crates) (length (s .crates)) (z .owner))
+      (s .dependencies) (u .dependencies)
   pub children : Within (λ x z. z ≡ childTo e x) (λ (z : Child). Outside (e .modules) (length (s .modules)) (z .owner)) (s .children) (u .children)
   pub preludes : Within (λ x z. z ≡ preludeTo e x) (λ (z : Prelude). Outside (e .maps) (length (s .maps)) (z .map)) (s .preludes) (u .preludes)
   pub scopes : Within (ScopeAlike e) (λ z. Outside (e .modules) (length (s .modules)) (z .owner)) (s .scopes) (u .scopes)
   pub imports : Within (ImportAlike e) (λ z. Outside (e .crates) (length (s .crates)) (z .owner)) (s .imports) (u .imports)
   pub externs : Within (ExternAlike e) (λ z. Outside (e .crates) (length (s .crates)) (z .owner)) (s .externs) (u .externs)
-  pub members : Within (λ x z. z ≡ memberTo e x) (λ (z : Member). Outside (e .definitions) (length (s .definitions)) (z .parent)) (s .members) (u .members)
+  pub members : Within (λ x z. z ≡ memberTo e x) (λ (z : Member). Outside (e .definitions) (length (s .definitions)) (z .parent))
+      (s .members) (u .members)
 
 -- an item with its number moved
 unfoldable pub itemTo : Numbers → Item → Item

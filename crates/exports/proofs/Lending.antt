@@ -41,4 +41,5 @@ module _ {M : Type 1} (𝓤 : URA M) (H : Heap 𝓤) (A : Atoms 𝓤) (W : Given
       qed W (‵ (mem T.the-row .lies h b 0) ∷ []) ∵ fpick ! (λ vs. fsplit ! $
       spelt ! T.the-row (Is T.the-row) (shows 𝓤 H A T.the-row) vals (LL.tells T.the-type T′.the-laws) fullShare h vs b 0 $
       move ! (1 ∷ []) $ peeks ! T.the-row (Is T.the-row) (shows 𝓤 H A T.the-row) h (vals h) (λ is. drop ! $
-      use1 W (‵ (cell b h)) (W .laws .raw-at fullShare T′.mir b 0 (only (vals h))) $ by ! (guardI 𝓤 (Is T.the-row h (vals h)) (sem 𝓤 H A (cell b h)) is)))
+      use1 W (‵ (cell b h)) (W .laws .raw-at fullShare T′.mir b 0 (only (vals h))) $ by !
+      (guardI 𝓤 (Is T.the-row h (vals h)) (sem 𝓤 H A (cell b h)) is)))

@@ -166,7 +166,8 @@ pub extern "C" fn kelumavor_find_path(
     question: &[u32; Size::QUESTION],
     report: &mut [u32],
 ) -> bool
-    ensures { λ r. ⌜ Reported (now (words .entry)) (now (area .entry)) (questionOf (now (question .entry))) (now (area .exit)) (now (report .entry)) (now (report .exit)) r ⌝ }
+    ensures { λ r. ⌜ Reported (now (words .entry)) (now (area .entry)) (questionOf (now (question .entry))) (now (area .exit))
+        (now (report .entry)) (now (report .exit)) r ⌝ }
 {
     let answer = find_path(words, area, question_of(question));
     write_report(answer, report)
@@ -182,7 +183,8 @@ pub extern "C" fn kelumavor_find_paths(
     questions: &[u32],
     reports: &mut [u32],
 ) -> usize
-    ensures { λ r. ⌜ Batch (now (words .entry)) (now (area .entry)) (now (questions .entry)) (now (reports .entry)) (now (area .exit)) (now (reports .exit)) r ⌝ }
+    ensures { λ r. ⌜ Batch (now (words .entry)) (now (area .entry)) (now (questions .entry)) (now (reports .entry)) (now (area .exit))
+        (now (reports .exit)) r ⌝ }
 {
     find_paths(words, area, questions, reports)
 }
@@ -207,7 +209,8 @@ pub extern "C" fn kelumavor_find_path_checked(
     report: &mut [u32],
 ) -> bool
     requires { ⌜ StillChecked (now words) (now area) (now counts) ⌝ }
-    ensures { λ r. ⌜ ReportedChecked (now (words .entry)) (now (area .entry)) (now (counts .entry)) (questionOf (now (question .entry))) (now (area .exit)) (now (report .entry)) (now (report .exit)) r ⌝ }
+    ensures { λ r. ⌜ ReportedChecked (now (words .entry)) (now (area .entry)) (now (counts .entry)) (questionOf (now (question .entry)))
+        (now (area .exit)) (now (report .entry)) (now (report .exit)) r ⌝ }
 {
     let answer = find_path_checked(words, area, counts, question_of(question));
     write_report(answer, report)
@@ -223,7 +226,8 @@ pub extern "C" fn kelumavor_find_paths_checked(
     reports: &mut [u32],
 ) -> usize
     requires { ⌜ StillChecked (now words) (now area) (now counts) ⌝ }
-    ensures { λ r. ⌜ AskedEach (now (words .entry)) (now (area .entry)) (now (counts .entry)) (now (questions .entry)) (now (reports .entry)) (now (area .exit)) (now (reports .exit)) r ⌝ }
+    ensures { λ r. ⌜ AskedEach (now (words .entry)) (now (area .entry)) (now (counts .entry)) (now (questions .entry))
+        (now (reports .entry)) (now (area .exit)) (now (reports .exit)) r ⌝ }
 {
     find_paths_checked(words, area, counts, questions, reports)
 }
@@ -255,8 +259,10 @@ pub extern "C" fn kelumavor_turn(
     area: &mut [u32],
     report: &mut [u32],
 ) -> usize
-    ensures { λ r. ⌜ (reportSize ≤ length (now (report .entry)) → Served (now (state .entry)) (now (words .entry)) (now (area .entry)) (now (report .entry)) (now (state .exit)) (now (area .exit)) (now (report .exit)) r) ⌝ }
-    ensures { λ r. ⌜ (length (now (report .entry)) < reportSize → Unserved (now (state .entry)) (now (area .entry)) (now (report .entry)) (now (state .exit)) (now (area .exit)) (now (report .exit)) r) ⌝ }
+    ensures { λ r. ⌜ (reportSize ≤ length (now (report .entry)) → Served (now (state .entry)) (now (words .entry)) (now (area .entry))
+        (now (report .entry)) (now (state .exit)) (now (area .exit)) (now (report .exit)) r) ⌝ }
+    ensures { λ r. ⌜ (length (now (report .entry)) < reportSize → Unserved (now (state .entry)) (now (area .entry)) (now (report .entry))
+        (now (state .exit)) (now (area .exit)) (now (report .exit)) r) ⌝ }
 {
     if report.len() < ReportWords::COUNT {
         return 9;
@@ -286,7 +292,8 @@ pub extern "C" fn kelumavor_add_entry(
     area: &mut [u32],
     entry: &[u32; Size::SCOPE],
 ) -> usize
-    ensures { λ r. ⌜ EditsIn (now (words .entry)) (now (count .entry)) (now (area .entry)) (adding (entryOf (now (entry .entry)))) (now (words .exit)) (now (area .exit)) (record { number = r; count = now (count .exit) }) ⌝ }
+    ensures { λ r. ⌜ EditsIn (now (words .entry)) (now (count .entry)) (now (area .entry)) (adding (entryOf (now (entry .entry))))
+        (now (words .exit)) (now (area .exit)) (record { number = r; count = now (count .exit) }) ⌝ }
 {
     let r = add_entry(words, *count, area, entry);
     *count = r.count;
@@ -303,7 +310,8 @@ pub extern "C" fn kelumavor_remove_entry(
     ns: usize,
     name: usize,
 ) -> usize
-    ensures { λ r. ⌜ EditsIn (now (words .entry)) (now (count .entry)) (now (area .entry)) (removing owner ns name) (now (words .exit)) (now (area .exit)) (record { number = r; count = now (count .exit) }) ⌝ }
+    ensures { λ r. ⌜ EditsIn (now (words .entry)) (now (count .entry)) (now (area .entry)) (removing owner ns name) (now (words .exit))
+        (now (area .exit)) (record { number = r; count = now (count .exit) }) ⌝ }
 {
     let r = remove_entry(words, *count, area, owner, ns, name);
     *count = r.count;
@@ -320,16 +328,17 @@ pub extern "C" fn kelumavor_import_list(
     target: &mut [u32],
     count: &mut usize,
 ) -> usize
-    ensures { λ r. ⌜ ListsIn (now (words .entry)) (now (area .entry)) krate (now (target .entry)) (now (target .exit)) (now (area .exit)) (record { number = r; count = now (count .exit) }) ⌝ }
+    ensures { λ r. ⌜ ListsIn (now (words .entry)) (now (area .entry)) krate (now (target .entry)) (now (target .exit))
+        (now (area .exit)) (record { number = r; count = now (count .exit) }) ⌝ }
 {
     let r = import_list(words, area, Crate(krate), target);
     *count = r.count;
     r.number
 }
 
-/// Writes the words of two snapshots joined to the target, and their number to the count; what stands past them stays. Answers 0, or the number by which the
-/// call is refused, with the target unchanged and a count of 0: 20 a small work area, 30 to 36 and 43 the first snapshot, then the second, 51 a result that
-/// passes a limit or does not fit the target.
+/// Writes the words of two snapshots joined to the target, and their number to the count; what stands past them stays. Answers 0, or the
+/// number by which the call is refused, with the target unchanged and a count of 0: 20 a small work area, 30 to 36 and 43 the first
+/// snapshot, then the second, 51 a result that passes a limit or does not fit the target.
 #[no_mangle]
 pub extern "C" fn kelumavor_join(
     first: &[u32],
@@ -338,7 +347,8 @@ pub extern "C" fn kelumavor_join(
     target: &mut [u32],
     count: &mut usize,
 ) -> usize
-    ensures { λ r. ⌜ JoinsIn (now (first .entry)) (now (second .entry)) (now (area .entry)) (now (target .entry)) (now (target .exit)) (now (area .exit)) (record { number = r; count = now (count .exit) }) ⌝ }
+    ensures { λ r. ⌜ JoinsIn (now (first .entry)) (now (second .entry)) (now (area .entry)) (now (target .entry)) (now (target .exit))
+        (now (area .exit)) (record { number = r; count = now (count .exit) }) ⌝ }
 {
     let r = join(first, second, area, target);
     *count = r.count;
@@ -396,9 +406,9 @@ pub extern "C" fn kelumavor_new_module(first: usize, number: usize) -> usize
 }
 
 /// Whether any path names a definition in a module, as the compiler reads paths: a second opinion on a search that found none. The question is
-/// namespace, definition and module. Writes the outcome (0 a path, 1 there is none, 2 refused, 3 there are paths, each of more than sixteen names), the
-/// path's kind, how many times `super`, and how many names, then the names, and for each the word at which the record begins that it
-/// is read by. Answers 0, or the number by which the call is refused.
+/// namespace, definition and module. Writes the outcome (0 a path, 1 there is none, 2 refused, 3 there are paths, each of more than sixteen
+/// names), the path's kind, how many times `super`, and how many names, then the names, and for each the word at which the record begins
+/// that it is read by. Answers 0, or the number by which the call is refused.
 #[no_mangle]
 pub extern "C" fn kelumavor_any_path(
     words: &[u32],
@@ -408,7 +418,8 @@ pub extern "C" fn kelumavor_any_path(
     names: &mut [usize; 16],
     route: &mut [usize; 16],
 ) -> usize
-    ensures { λ r. ⌜ AnyIn (now (words .entry)) (now (area .entry)) (now (question .entry)) (now (area .exit)) (now (head .exit)) (now (names .exit)) (now (route .exit)) r ⌝ }
+    ensures { λ r. ⌜ AnyIn (now (words .entry)) (now (area .entry)) (now (question .entry)) (now (area .exit)) (now (head .exit))
+        (now (names .exit)) (now (route .exit)) r ⌝ }
 {
     any_path_in(words, area, question, head, names, route)
 }

@@ -2,7 +2,8 @@
 use mathlib.Core.Path.{_≡_}
 use mathlib.Core.Bool.{true}
 use Rattle.check_rules.specs.Worked.{worked}
-use Rattle.find_path.proofs.Worked.{passes, routes, cases, withDependency, dependencyCases, withStd, stdCases, withFacade, facadeCases, withForeign, foreignCases}
+use Rattle.find_path.proofs.Worked.{passes, routes, cases, withDependency, dependencyCases, withStd, stdCases, withFacade, facadeCases}
+use Rattle.find_path.proofs.Worked.{withForeign, foreignCases}
 use Rattle.find_path.proofs.Worked.{withModules, moduleCases, withOldNames, oldNameCases, limitCases, withBlock, readCases}
 use Rattle.find_path.proofs.Worked.{worked-cases, dependency-cases, std-cases, facade-cases, foreign-cases}
 use Rattle.find_path.proofs.Worked.{module-cases, old-name-cases, limit-cases, read-cases}

@@ -11,32 +11,46 @@ use Rattle.snapshot.specs.Words.{argumentsOf}
 use Rattle.snapshot.specs.Records.{Snapshot}
 use Rattle.keywords.specs.Keywords.{isKeyword, isRaw}
 use Rattle.check_rules.specs.Tests.{textBound, padded}
-use Rattle.check_rules.specs.Steps.{nameStep, crateStep, dependencyStep, mapStep, moduleStep, childStep, preludeStep, definitionStep, scopeStep, importStep, externStep, memberStep}
+use Rattle.check_rules.specs.Steps.{nameStep, crateStep, dependencyStep, mapStep, moduleStep, childStep, preludeStep, definitionStep, scopeStep}
+use Rattle.check_rules.specs.Steps.{importStep, externStep, memberStep}
 use Rattle.check_rules.specs.Builtins.{packed}
 use Rattle.check_rules.specs.Verdict.{argumentsFrom, recordStep, stepAt, finish, records, verdict}
 use Rattle.check_rules.specs.Worked.{worked, workedSnapshot}
 use Rattle.hir_def.specs.Finds.{orFirst, firstOf, placeOf, select, firstSome}
-use Rattle.hir_def.specs.Items.{moduleOf, mapOf, definitionOf, crateData, rootOf, ownMap, crateRoot, orElse, containing, itemOf, sameItem, nsOf, homeBy, homeOf}
+use Rattle.hir_def.specs.Items.{moduleOf, mapOf, definitionOf, crateData, rootOf, ownMap, crateRoot, orElse, containing, itemOf, sameItem, nsOf}
+use Rattle.hir_def.specs.Items.{homeBy, homeOf}
 use Rattle.tree_rules.specs.Visibility.{lastOr, lastTo, last, metOr, metTo, met, unless, climbStep, climb, inModule, isVisibleFrom}
 use Rattle.hir_def.specs.ItemScope.{isFor, nameOf, namesOf, preferred, get, modulesInScope}
-use Rattle.hir_def.specs.Nameres.{stepsOr, stepsTo, steps, ancestorMaps, scopeEntry, entryNamed, isOther, occupied, containers, childrenOf, preludeOf, externOf, dependenciesOf, langOf, sysrootFirst}
+use Rattle.hir_def.specs.Nameres.{stepsOr, stepsTo, steps, ancestorMaps, scopeEntry, entryNamed, isOther, occupied, containers, childrenOf, preludeOf}
+use Rattle.hir_def.specs.Nameres.{externOf, dependenciesOf, langOf, sysrootFirst}
 use Rattle.hir_def.specs.ImportMap.{importInfoFor}
 use Rattle.hir_def.proofs.Plain.{plainly}
 use Rattle.readings.specs.Reads as Reads
-use Rattle.readings.specs.Reads.{outward, scopesFrom, standsFor, meaning, entryOr, externNamed, externMeans, inExterns, preludeMeans, inPreludeOf, entryFrom, firstName, variantNamed, variantIn, laterName, after, lookedIn, follow, absolutely, parentMeans, readsTo, isThe, readsBack}
+use Rattle.readings.specs.Reads.{outward, scopesFrom, standsFor, meaning, entryOr, externNamed, externMeans, inExterns, preludeMeans, inPreludeOf}
+use Rattle.readings.specs.Reads.{entryFrom, firstName, variantNamed, variantIn, laterName, after, lookedIn, follow, absolutely, parentMeans, readsTo}
+use Rattle.readings.specs.Reads.{isThe, readsBack}
 use Rattle.find_path.specs.declared.Query.{Query}
 use Rattle.find_path.specs.declared.Report.{Report}
 use Rattle.find_path.specs.declared.Question.{Question}
-use Rattle.path_choices.specs.Choices.{nameData, isPrelude, pathKindLen, pathLen, keyword, choiceNew, extended, push, unstably, compareBool, andThen, comparePrelude, taken, better, trySelect, shorterIf, lengthLeft}
+use Rattle.path_choices.specs.Choices.{nameData, isPrelude, pathKindLen, pathLen, keyword, choiceNew, extended, push, unstably, compareBool, andThen}
+use Rattle.path_choices.specs.Choices.{comparePrelude, taken, better, trySelect, shorterIf, lengthLeft}
 use Rattle.find_path.specs.Walk.{has, visited, startFrom, leadsTo, unmet, walk, findLocalImportLocations}
-use Rattle.find_path.specs.Rules.{prefixPathKind, plainIf, moduleIn, contextOf, soughtOf, firstFound, single, findInScope, mayBeInScope, scopeRule, sameHere, preludeEntry, inPrelude, findInPrelude, preludeRule, externKind, externName, rootRule, parentKind, isKwKindRelativeToFrom, keywordOf, moduleRules}
-use Rattle.find_path.specs.Local.{offer, offerEntry, entryIf, importableName, location, eachLocation, calculateBestPathLocal, orLocal, findPathForModuleLocal}
+use Rattle.find_path.specs.Rules.{prefixPathKind, plainIf, moduleIn, contextOf, soughtOf, firstFound, single, findInScope, mayBeInScope}
+use Rattle.find_path.specs.Rules.{scopeRule, sameHere, preludeEntry, inPrelude, findInPrelude, preludeRule, externKind, externName, rootRule}
+use Rattle.find_path.specs.Rules.{parentKind, isKwKindRelativeToFrom, keywordOf, moduleRules}
+use Rattle.find_path.specs.Local.{offer, offerEntry, entryIf, importableName, location, eachLocation, calculateBestPathLocal, orLocal}
+use Rattle.find_path.specs.Local.{findPathForModuleLocal}
 use Rattle.find_path.specs.Meters.{drained, draw, fromTank, filled, counted}
-use Rattle.find_path.specs.Charged.{langs, oneOrNone, isAt, variantOf, pushVariant, offerImport, findImport, findImports, findInDep, findInDeps, findInSysroot, goOn, afterCharge, calculateBestPath, orCharged, findPathForModule, afterEnum, viaEnum, orEnum, byName, ofModule, findPathInner}
-use Rattle.find_path.specs.Search.{builtinChoice, localTo, searchLocal, bestLocal, moduleTo, searchModule, itemTo, searchItem, fromHome, fromItem, findPath}
-use Rattle.find_path.specs.Report.{callFault, questionFault, refused, flag, misleads, outcomeBy, reported, searched, searchedFreely, answerUnless, reportBy, reportUnless, reportOf}
+use Rattle.find_path.specs.Charged.{langs, oneOrNone, isAt, variantOf, pushVariant, offerImport, findImport, findImports, findInDep, findInDeps}
+use Rattle.find_path.specs.Charged.{findInSysroot, goOn, afterCharge, calculateBestPath, orCharged, findPathForModule, afterEnum, viaEnum}
+use Rattle.find_path.specs.Charged.{orEnum, byName, ofModule, findPathInner}
+use Rattle.find_path.specs.Search.{builtinChoice, localTo, searchLocal, bestLocal, moduleTo, searchModule, itemTo, searchItem, fromHome}
+use Rattle.find_path.specs.Search.{fromItem, findPath}
+use Rattle.find_path.specs.Report.{callFault, questionFault, refused, flag, misleads, outcomeBy, reported, searched, searchedFreely}
+use Rattle.find_path.specs.Report.{answerUnless, reportBy, reportUnless, reportOf}
 use Rattle.find_path.specs.Report.{reportAt}
-use Rattle.find_path.specs.Line.{bytesOf, unpacked, textOf, editionIn, writtenOf, decimalTo, decimal, joined, prefixParts, pathText, lineParts, lineIn, stepText, stepsText, routeText, routedLineIn, snapshotOf, lineOf, routedLineOf}
+use Rattle.find_path.specs.Line.{bytesOf, unpacked, textOf, editionIn, writtenOf, decimalTo, decimal, joined, prefixParts, pathText, lineParts}
+use Rattle.find_path.specs.Line.{lineIn, stepText, stepsText, routeText, routedLineIn, snapshotOf, lineOf, routedLineOf}
 
 pub record Row : Type 0 where
   pub question : Question
@@ -45,7 +59,21 @@ pub record Row : Type 0 where
 -- definition, namespace, viewing module, prefix, options, fuel, limit, and the line
 unfoldable pub rowAt : ℕ → ℕ → ℕ → ℕ → ℕ → ℕ → ℕ → String → Row
 rowAt d ns m p o f n l =
-    record { question = record { query = record { ns = ns; definition = record { 0 = d }; from = record { 0 = m }; prefix = p; options = o; limit = n }; fuel = f }; line = l }
+    record {
+      question = record {
+        query = record {
+          ns = ns;
+          definition = record { 0 = d };
+          from = record { 0 = m };
+          prefix =
+              p;
+          options = o;
+          limit = n;
+        };
+        fuel = f;
+      };
+      line = l;
+    }
 
 -- the same with the largest limit
 abbrev pub row : ℕ → ℕ → ℕ → ℕ → ℕ → ℕ → String → Row
@@ -53,7 +81,24 @@ row d ns m p o f l = rowAt d ns m p o f 15 l
 
 -- the lines are those of the questions
 unfoldable pub passes : List ℕ → List Row → Bool
-unfolding lineOf snapshotOf lineIn lineParts pathText prefixParts joined decimal decimalTo writtenOf editionIn isRaw isKeyword textOf unpacked reportOf reportUnless reportBy answerUnless searched reported outcomeBy misleads flag readsBack isThe readsTo parentMeans absolutely Reads.plainly follow lookedIn after laterName variantIn variantNamed firstName entryFrom inPreludeOf preludeMeans inExterns externMeans externNamed entryOr meaning standsFor scopesFrom outward refused questionFault callFault findPath fromItem builtinChoice fromHome searchItem itemTo searchModule moduleTo bestLocal searchLocal localTo findPathInner ofModule byName orEnum viaEnum afterEnum findPathForModule orCharged calculateBestPath afterCharge goOn findInSysroot findInDeps findInDep findImports findImport offerImport pushVariant isAt variantOf oneOrNone langs fromTank filled draw drained findPathForModuleLocal orLocal calculateBestPathLocal eachLocation location importableName entryIf offerEntry offer moduleRules keywordOf isKwKindRelativeToFrom parentKind rootRule externName externKind occupied isOther scopeEntry entryNamed preludeRule findInPrelude inPrelude preludeEntry sameHere scopeRule mayBeInScope findInScope single firstFound soughtOf contextOf moduleIn plainIf prefixPathKind findLocalImportLocations walk unmet leadsTo startFrom visited has lengthLeft shorterIf trySelect better taken comparePrelude andThen compareBool unstably push extended choiceNew keyword pathLen pathKindLen isPrelude nameData importInfoFor sysrootFirst langOf dependenciesOf externOf preludeOf childrenOf containers ancestorMaps steps stepsTo stepsOr modulesInScope get preferred orFirst namesOf nameOf isFor isVisibleFrom inModule climb climbStep unless met metTo metOr last lastTo lastOr homeOf homeBy nsOf sameItem itemOf containing orElse crateRoot ownMap rootOf crateData definitionOf mapOf moduleOf firstSome select placeOf firstOf verdict records stepAt recordStep finish argumentsFrom argumentsOf nameStep crateStep dependencyStep mapStep moduleStep childStep preludeStep definitionStep scopeStep importStep externStep memberStep textBound padded rows any all eqList
+unfolding lineOf snapshotOf lineIn lineParts pathText prefixParts joined decimal decimalTo writtenOf editionIn isRaw isKeyword
+    textOf unpacked reportOf reportUnless reportBy answerUnless searched reported outcomeBy misleads flag readsBack isThe readsTo
+    parentMeans absolutely Reads.plainly follow lookedIn after laterName variantIn variantNamed firstName entryFrom inPreludeOf
+    preludeMeans inExterns externMeans externNamed entryOr meaning standsFor scopesFrom outward refused questionFault callFault
+    findPath fromItem builtinChoice fromHome searchItem itemTo searchModule moduleTo bestLocal searchLocal localTo findPathInner
+    ofModule byName orEnum viaEnum afterEnum findPathForModule orCharged calculateBestPath afterCharge goOn findInSysroot findInDeps
+    findInDep findImports findImport offerImport pushVariant isAt variantOf oneOrNone langs fromTank filled draw drained
+    findPathForModuleLocal orLocal calculateBestPathLocal eachLocation location importableName entryIf offerEntry offer moduleRules
+    keywordOf isKwKindRelativeToFrom parentKind rootRule externName externKind occupied isOther scopeEntry entryNamed preludeRule
+    findInPrelude inPrelude preludeEntry sameHere scopeRule mayBeInScope findInScope single firstFound soughtOf contextOf moduleIn
+    plainIf prefixPathKind findLocalImportLocations walk unmet leadsTo startFrom visited has lengthLeft shorterIf trySelect better
+    taken comparePrelude andThen compareBool unstably push extended choiceNew keyword pathLen pathKindLen isPrelude nameData
+    importInfoFor sysrootFirst langOf dependenciesOf externOf preludeOf childrenOf containers ancestorMaps steps stepsTo stepsOr
+    modulesInScope get preferred orFirst namesOf nameOf isFor isVisibleFrom inModule climb climbStep unless met metTo metOr last
+    lastTo lastOr homeOf homeBy nsOf sameItem itemOf containing orElse crateRoot ownMap rootOf crateData definitionOf mapOf moduleOf
+    firstSome select placeOf firstOf verdict records stepAt recordStep finish argumentsFrom argumentsOf nameStep crateStep
+    dependencyStep mapStep moduleStep childStep preludeStep definitionStep scopeStep importStep externStep memberStep textBound
+    padded rows any all eqList
 passes words table = all (λ r. eqList (lineOf words (r .question)) (bytesOf (r .line))) table
 
 -- module 0 is the root, module 1 its child `a`, definition 0 the module `a`, definition 1 a function `f` in it
@@ -92,8 +137,8 @@ named t = head 1 (length (bytesOf t)) ∷ packed (bytesOf t)
 -- variant `V`, 14 in `inner`.
 -- Crate 1 exports `T` from `inner`, `inner` from its root; 6 as `U`, unstable; 7 as `W` from `inner`, then from its root;
 -- 8 as `H`, hidden; `k` from its root, unstable; 10 as `V` from `k`, then as `dep` from `inner`; 11 as `U` from its
--- root, unstable, then from `inner`; 13, but not its enum, as `H`; 14 as `U` from `inner`, then from its root, unstable. Crate 0 knows the root of crate 1 as `dep`, and then
--- as `alias`; in `m` the name `alias` means `T`.
+-- root, unstable, then from `inner`; 13, but not its enum, as `H`; 14 as `U` from `inner`, then from its root, unstable. Crate 0 knows the
+-- root of crate 1 as `dep`, and then as `alias`; in `m` the name `alias` means `T`.
 unfoldable pub withDependency : List ℕ
 withDependency =
     named "dep" ++ named "alias" ++ named "m" ++ named "inner" ++ named "T" ++ named "V" ++ named "u8" ++ named "U"
@@ -413,13 +458,29 @@ pub record First : Type 0 where
 -- definition, namespace, viewing module, options, fuel, and what is told; the prefix is Plain
 pub first : ℕ → ℕ → ℕ → ℕ → ℕ → ℕ → ℕ → First
 first d ns m o f left sought =
-    record { question = record { query = record { ns = ns; definition = record { 0 = d }; from = record { 0 = m }; prefix = 1; options = o; limit = 15 }; fuel = f }; left = left; sought = sought }
+    record {
+      question = record {
+        query = record {
+          ns = ns;
+          definition = record { 0 = d };
+          from = record { 0 = m };
+          prefix =
+              1;
+          options = o;
+          limit = 15;
+        };
+        fuel = f;
+      };
+      left = left;
+      sought = sought;
+    }
 
 -- the reports say empty, and tell that
 unfoldable pub tells : List ℕ → List First → Bool
 unfolding passes
 tells words table =
-    all (λ r. eqList (reportOf words 16384 (r .question) .empty ∷ reportOf words 16384 (r .question) .left ∷ reportOf words 16384 (r .question) .sought ∷ [])
+    all (λ r. eqList (reportOf words 16384 (r .question) .empty ∷ reportOf words 16384 (r .question) .left ∷ reportOf words 16384
+    (r .question) .sought ∷ [])
     (1 ∷ r .left ∷ r .sought ∷ [])) table
 
 pub worked-first : tells worked (first 1 1 0 0 0 15 0 ∷ []) ≡ true
@@ -457,7 +518,8 @@ withCycle =
 
 -- `a` is the question's own item at any depth, and so is not named; of `b` the module is
 pub cycleFirsts : List First
-cycleFirsts = first 0 0 0 0 0 15 0 ∷ first 0 0 0 0 1 14 4 ∷ first 0 0 0 0 2 13 0 ∷ first 0 0 0 0 3 12 4 ∷ first 1 0 0 0 13 2 3 ∷ first 1 0 0 0 14 1 0 ∷ []
+cycleFirsts = first 0 0 0 0 0 15 0 ∷ first 0 0 0 0 1 14 4 ∷ first 0 0 0 0 2 13 0 ∷ first 0 0 0 0 3 12 4 ∷ first 1 0 0 0 13 2 3
+    ∷ first 1 0 0 0 14 1 0 ∷ []
 
 pub cycle-firsts : tells withCycle cycleFirsts ≡ true
 unfolding tells cycleFirsts first withCycle named head
@@ -468,7 +530,8 @@ cycle-firsts = refl
 unfoldable pub freeLine : Snapshot → Query → List ℕ
 freeLine s q =
     let o = searchedFreely s q in
-    joined (bytesOf " ") (lineParts s (editionIn s (q .from .0)) (reported s q (record { choice = o .choice; meter = filled 0 })) ++ (decimal (o .meter) ∷ []))
+    joined (bytesOf " ") (lineParts s (editionIn s (q .from .0)) (reported s q (record { choice = o .choice; meter = filled 0 }))
+    ++ (decimal (o .meter) ∷ []))
 
 unfoldable pub makes : List ℕ → List Row → Bool
 unfolding passes freeLine searchedFreely counted

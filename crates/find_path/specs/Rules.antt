@@ -17,7 +17,8 @@ use Rattle.find_path.specs.declared.KwKind.{KwKind}
 use Rattle.find_path.specs.declared.KwKind.the-variants.{Kw, NoKw}
 use Rattle.find_path.specs.declared.FindPathCtx.{FindPathCtx}
 use Rattle.find_path.specs.declared.Query.{Query}
-use Rattle.path_choices.specs.Choices.{plainPath, selfPath, superPath, cratePath, absolutePath, viaScope, viaPrelude, viaExtern, stepBy, nothing, keyword, choiceNew}
+use Rattle.path_choices.specs.Choices.{plainPath, selfPath, superPath, cratePath, absolutePath, viaScope, viaPrelude, viaExtern, stepBy, nothing}
+use Rattle.path_choices.specs.Choices.{keyword, choiceNew}
 
 -- the prefixes: 0 BySelf, 1 Plain, 2 ByCrate
 
@@ -131,13 +132,18 @@ module _ (s : Snapshot) (x : FindPathCtx) where
 
   unfoldable pub externName : ℕ → Option Extern → Choice
   externName m none = nothing
-  externName m (some e) = choiceNew s (externKind (occupied s (x .from .0) m (e .name) || x .«prefer_absolute»)) (e .name) (stepBy viaExtern (e .place))
+  externName m (some e) = choiceNew s (externKind (occupied s (x .from .0) m (e .name) || x .«prefer_absolute»)) (e .name)
+      (stepBy viaExtern (e .place))
 
   -- a crate's root is `crate`, in the viewer's crate or where no extern may be used; else its extern name
   unfoldable pub rootRule : Bool → ℕ → Choice
   rootRule maybeExtern m =
       elim (eqb (crateRoot s m) m) [
-        | true ↦ elim (not maybeExtern || eqb m (x .«crate_root» .0)) [ true ↦ keyword cratePath | false ↦ externName m (externOf s (x .«from_crate» .0) m) ]
+        | true ↦ elim (not maybeExtern || eqb m (x .«crate_root» .0)) [
+          | true ↦ keyword cratePath
+          | false ↦ externName m
+              (externOf s (x .«from_crate» .0) m)
+        ]
         | false ↦ nothing
       ]
 

@@ -1,5 +1,5 @@
 -- The module and the parents of its blocks, one after the other.
-use Prim.Native.Nat.{ℕ, suc, _-_, _<_}
+use Prim.Native.Nat.{ℕ, suc, _<_}
 use mathlib.Core.Path.{_≡_, sym, _∙_, ap}
 use mathlib.Core.List.{[], _∷_}
 use mathlib.Core.Bool.{Bool, true, false}

@@ -50,11 +50,13 @@ module _ (W A : List ℕ) (l : Layout) (r : Reads W A l) where
   unfolding nameOf
   name-fits m h item e = each-first _ _ (ranges .scopes) (sym e)
 
-  pub names-fits : (m h : ℕ) (item : Item) (p : Scope → Bool) → some (scopeAt W h) ≡ namesOf (snapOf W A l) m item p → ScopeFits (countsIn l) (scopeAt W h)
+  pub names-fits : (m h : ℕ) (item : Item) (p : Scope → Bool) → some (scopeAt W h) ≡ namesOf (snapOf W A l) m item p
+      → ScopeFits (countsIn l) (scopeAt W h)
   unfolding namesOf
   names-fits m h item p e = each-first _ _ (ranges .scopes) (sym e)
 
-  pub preferred-fits : (b : Bool) (m h : ℕ) (item : Item) (p : Scope → Bool) → some (scopeAt W h) ≡ preferred b (snapOf W A l) m item p (nameOf (snapOf W A l) m item)
+  pub preferred-fits : (b : Bool) (m h : ℕ) (item : Item) (p : Scope → Bool)
+      → some (scopeAt W h) ≡ preferred b (snapOf W A l) m item p (nameOf (snapOf W A l) m item)
       → ScopeFits (countsIn l) (scopeAt W h)
   preferred-fits b m h item p e =
       preferred-has (snapOf W A l) m item p (nameOf (snapOf W A l) m item) 0 (ScopeFits (countsIn l)) b (scopeAt W h)
@@ -81,13 +83,16 @@ module _ (W A : List ℕ) (l : Layout) (r : Reads W A l) where
   scope-fits {j} i eb eh = subst (λ h. ScopeFits (countsIn l) (scopeAt W h)) (sym (eh ∙ ap (λ x. x + scopeSize * j) eb)) (scope-read W A l valid j i)
 
   -- the record that an enumeration meets
-  pub module-meets : {p : Scope → Bool} {k j h : ℕ} → Meets p scopeAt scopeSize W (scopeBase l) (l .scopes) k j h → ScopeFits (countsIn l) (scopeAt W h)
+  pub module-meets : {p : Scope → Bool} {k j h : ℕ} → Meets p scopeAt scopeSize W (scopeBase l) (l .scopes) k j h
+      → ScopeFits (countsIn l) (scopeAt W h)
   module-meets {j = j} x = subst (λ h. ScopeFits (countsIn l) (scopeAt W h)) (sym (x .head)) (scope-read W A l valid j (x .below))
 
-  pub import-meets : {p : Import → Bool} {k j h : ℕ} → Meets p importAt importSize W (importBase l) (l .imports) k j h → ImportFits (countsIn l) (importAt W h)
+  pub import-meets : {p : Import → Bool} {k j h : ℕ} → Meets p importAt importSize W (importBase l) (l .imports) k j h
+      → ImportFits (countsIn l) (importAt W h)
   import-meets {j = j} x = subst (λ h. ImportFits (countsIn l) (importAt W h)) (sym (x .head)) (import-read W A l valid j (x .below))
 
-  pub dependency-meets : {p : Dependency → Bool} {k j h : ℕ} → Meets p dependencyAt dependencySize W (dependencyBase l) (l .dependencies) k j h → DependencyFits (countsIn l) (dependencyAt W h)
+  pub dependency-meets : {p : Dependency → Bool} {k j h : ℕ} → Meets p dependencyAt dependencySize W (dependencyBase l) (l .dependencies) k j h
+      → DependencyFits (countsIn l) (dependencyAt W h)
   dependency-meets {j = j} x = subst (λ h. DependencyFits (countsIn l) (dependencyAt W h)) (sym (x .head)) (dependency-read W A l valid j (x .below))
 
   -- a definition that is there

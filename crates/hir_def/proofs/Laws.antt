@@ -21,4 +21,5 @@ module _ (step : ℕ → ℕ) (n : ℕ) (falls : Falls step n) where
   steps-more zero r = by-number (step 0) (λ z. rw z) (λ b q. let f = falls 0 b r q in absurd (omega arith))
   steps-more (suc m) r =
       by-number (step (suc m)) (λ z. rw z)
-      (λ b q. let f = falls (suc m) b r q in rw q (ap {B = List ℕ} (λ (z : List ℕ). b ∷ z) (stepsTo-same m b b (omega arith) (omega arith) (omega arith))))
+      (λ b q. let f = falls (suc m) b r q in rw q (ap {B = List ℕ} (λ (z : List ℕ). b ∷ z)
+      (stepsTo-same m b b (omega arith) (omega arith) (omega arith))))

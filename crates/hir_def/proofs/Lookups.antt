@@ -22,7 +22,6 @@ use Rattle.hir_def.specs.ImportMap.{isImport, importInfoFor}
 use Rattle.hir_def.specs.Nameres.{isExtern, externOf, isDependency, isSysroot, isLangSysroot, bySysroot, dependenciesOf, langOf, sysrootFirst}
 use Rattle.hir_def.specs.Entries.{ReadsAs, leftOf, Meets, Ends, NextOf}
 use Rattle.hir_def.specs.declared.Item.{Item}
-use Rattle.hir_def.specs.declared.Item.the-variants.{Mod}
 use Rattle.hir_def.specs.declared.Next.{Next}
 use Rattle.hir_def.specs.declared.Next.the-variants.{Record, End}
 
@@ -33,7 +32,8 @@ past-rows f n i d h = let e : length (rows f 0 n) ≤ i = rw (length-rows f n) h
 pub definition-none : (W A : List ℕ) (l : Layout) (d : ℕ) → l .definitions ≤ d → ReadsAs W (length W) (definitionOf (snapOf W A l) d)
 unfolding definitionOf
 definition-none W A l d h =
-    let e = past-rows (λ k. definitionAt W (definitionBase l + definitionSize * k)) (l .definitions) d (record { kind = 0; first = 0; second = 0; place = 0 }) h in
+    let e = past-rows (λ k. definitionAt W (definitionBase l + definitionSize * k)) (l .definitions) d
+    (record { kind = 0; first = 0; second = 0; place = 0 }) h in
     record {
       kind = ap payOf (sym (past W (length W) (omega arith))) ∙ ap (λ (x : Definition). x .kind) e;
       first = sym (past W (length W + 1) (omega arith)) ∙ ap (λ (x : Definition). x .first) e;
@@ -45,7 +45,8 @@ pub definition-same : (W A : List ℕ) (l : Layout) (d : ℕ) {b : ℕ} → d < 
     → definitionAt W (b + definitionSize * d) ≡ definitionOf (snapOf W A l) d
 unfolding definitionOf
 definition-same W A l d h e =
-    ap (λ x. definitionAt W (x + definitionSize * d)) e ∙ sym (getD-rows (λ k. definitionAt W (definitionBase l + definitionSize * k)) _ (l .definitions) d h)
+    ap (λ x. definitionAt W (x + definitionSize * d)) e
+    ∙ sym (getD-rows (λ k. definitionAt W (definitionBase l + definitionSize * k)) _ (l .definitions) d h)
 
 pub definition-there : (W A : List ℕ) (l : Layout) (d : ℕ) {b : ℕ} → d < l .definitions → b ≡ definitionBase l
     → ReadsAs W (b + definitionSize * d) (definitionOf (snapOf W A l) d)
@@ -63,7 +64,8 @@ unfolding crateData
 crate-none W A l c h =
     let p = past W (length W) (omega arith) in
     let q = past W (length W + 1) (omega arith) in
-    (λ i. record { origin = payOf (sym p i) % 8; noStd = payOf (sym p i) / 8; edition = sym q i }) ∙ past-rows (λ k. crateAt W (crateBase l + crateSize * k)) (l .crates) c _ h
+    (λ i. record { origin = payOf (sym p i) % 8; noStd = payOf (sym p i) / 8; edition = sym q i })
+    ∙ past-rows (λ k. crateAt W (crateBase l + crateSize * k)) (l .crates) c _ h
 
 pub crate-there : (W A : List ℕ) (l : Layout) (c : ℕ) → c < l .crates → crateAt W (l .text + crateSize * c) ≡ crateData (snapOf W A l) c
 unfolding crateData
@@ -274,21 +276,26 @@ module _ (W A : List ℕ) (l : Layout) where
 
   pub lang-whole : (c lang : ℕ)
       → langOf (snapOf W A l) c lang
-      ≡ firstOf (λ d. isDependency c d && isLangSysroot (snapOf W A l) lang d) (rows (λ i. dependencyAt W (dependencyBase l + dependencySize * i)) 0 (l .dependencies - 0))
+      ≡ firstOf (λ d. isDependency c d && isLangSysroot (snapOf W A l) lang d)
+      (rows (λ i. dependencyAt W (dependencyBase l + dependencySize * i)) 0 (l .dependencies - 0))
   unfolding langOf dependenciesOf
   lang-whole c lang =
       first-select (isLangSysroot (snapOf W A l) lang) (isDependency c) (snapOf W A l .dependencies)
-      ∙ rows-whole (firstOf (λ d. isDependency c d && isLangSysroot (snapOf W A l) lang d)) (λ i. dependencyAt W (dependencyBase l + dependencySize * i)) (l .dependencies)
+      ∙ rows-whole (firstOf (λ d. isDependency c d && isLangSysroot (snapOf W A l) lang d))
+      (λ i. dependencyAt W (dependencyBase l + dependencySize * i)) (l .dependencies)
 
-  pub modules-whole : (m : ℕ) → modulesInScope (snapOf W A l) m ≡ leftOf (isModuleEntry (snapOf W A l) m) (λ i. scopeAt W (scopeBase l + scopeSize * i)) (l .scopes) 0
+  pub modules-whole : (m : ℕ) → modulesInScope (snapOf W A l) m ≡ leftOf (isModuleEntry (snapOf W A l) m)
+      (λ i. scopeAt W (scopeBase l + scopeSize * i)) (l .scopes) 0
   unfolding modulesInScope
   modules-whole m = rows-whole (select (isModuleEntry (snapOf W A l) m)) (λ i. scopeAt W (scopeBase l + scopeSize * i)) (l .scopes)
 
-  pub imports-whole : (c : ℕ) (item : Item) → importInfoFor (snapOf W A l) c item ≡ leftOf (isImport (snapOf W A l) c item) (λ i. importAt W (importBase l + importSize * i)) (l .imports) 0
+  pub imports-whole : (c : ℕ) (item : Item) → importInfoFor (snapOf W A l) c item ≡ leftOf (isImport (snapOf W A l) c item)
+      (λ i. importAt W (importBase l + importSize * i)) (l .imports) 0
   unfolding importInfoFor
   imports-whole c item = rows-whole (select (isImport (snapOf W A l) c item)) (λ i. importAt W (importBase l + importSize * i)) (l .imports)
 
-  pub dependencies-whole : (c : ℕ) → dependenciesOf (snapOf W A l) c ≡ leftOf (isDependency c) (λ i. dependencyAt W (dependencyBase l + dependencySize * i)) (l .dependencies) 0
+  pub dependencies-whole : (c : ℕ) → dependenciesOf (snapOf W A l) c ≡ leftOf (isDependency c)
+      (λ i. dependencyAt W (dependencyBase l + dependencySize * i)) (l .dependencies) 0
   unfolding dependenciesOf
   dependencies-whole c = rows-whole (select (isDependency c)) (λ i. dependencyAt W (dependencyBase l + dependencySize * i)) (l .dependencies)
 
@@ -301,4 +308,5 @@ module _ (W A : List ℕ) (l : Layout) where
       let f : ℕ → Dependency = λ i. dependencyAt W (dependencyBase l + dependencySize * i) in
       ap₂ (λ x y. x ++ y)
       (select-select isSysroot (isDependency c) (rows f 0 (l .dependencies)) ∙ rows-whole (select (bySysroot c true)) f (l .dependencies))
-      (select-select (λ d. not (isSysroot d)) (isDependency c) (rows f 0 (l .dependencies)) ∙ rows-whole (select (bySysroot c false)) f (l .dependencies))
+      (select-select (λ d. not (isSysroot d)) (isDependency c) (rows f 0 (l .dependencies))
+      ∙ rows-whole (select (bySysroot c false)) f (l .dependencies))

@@ -1,2 +1,15 @@
 -- Passed on.
-pub use Rattle.module_tree.proofs.Reading.{map-read, parent-read, crate-read, block-read, no-std-read, root-read, containing-parent, containing-block, length-modules, own-read, length-crates, crate-there}
+pub use Rattle.module_tree.proofs.Reading.{
+  map-read,
+  parent-read,
+  crate-read,
+  block-read,
+  no-std-read,
+  root-read,
+  containing-parent,
+  containing-block,
+  length-modules,
+  own-read,
+  length-crates,
+  crate-there,
+}

@@ -7,7 +7,7 @@ ghost use Rattle.snapshot.specs.Records.{crateAt, definitionAt};
 ghost use Rattle.snapshot.specs.Ids.{plusOne};
 ghost use Rattle.snapshot.specs.Layouts.{wordCount, snapOf};
 ghost use Rattle.hir_def.specs.Items.{definitionOf, crateData, isLang, itemOf, sameItem, nsOf, homeBy, homeOf};
-ghost use Rattle.hir_def.specs.Entries.{Known, ReadsAs};
+ghost use Rattle.hir_def.specs.Entries.{ReadsAs};
 use crate::Item;
 use snapshot::ids::Crate;
 use snapshot::ids::DefinitionId;
@@ -141,7 +141,8 @@ pub fn ns_of(item: Item) -> usize
 // The home of the definition with its head at a place.
 fn home_at(words: &[u32], l: Layout, h: usize) -> OptModule
     requires { ⌜ wordCount l < 2 ^ 32 ⌝ }
-    ensures { λ r. ⌜ ((A : List ℕ) → plusOne r ≡ homeBy (snapOf (now (words .entry)) A l) (definitionAt (now (words .entry)) h .kind) (definitionAt (now (words .entry)) h .first)) ⌝ }
+    ensures { λ r. ⌜ ((A : List ℕ) → plusOne r ≡ homeBy (snapOf (now (words .entry)) A l) (definitionAt (now (words .entry)) h .kind)
+        (definitionAt (now (words .entry)) h .first)) ⌝ }
 {
     let kind = definition_kind(words, h);
     let first = definition_first(words, h);

@@ -71,7 +71,8 @@ module _ {A : Type 0} (k : A → ℕ) (g : ℕ → A) (b N : ℕ) where
   keyed-part (suc n) h =
       let e : N - suc n + 1 ≡ N - n = omega arith in
       let d : N - suc n ≡ N - 1 - n = omega arith in
-      ap (λ x. elim (eqb (k (g (N - 1 - n))) b) [ true ↦ g (N - 1 - n) ∷ x | false ↦ x ]) (keyed-part n (omega arith) ∙ ap (λ x. select (λ y. eqb (k y) b) (rows g x n)) (sym e))
+      ap (λ x. elim (eqb (k (g (N - 1 - n))) b) [ true ↦ g (N - 1 - n) ∷ x | false ↦ x ]) (keyed-part n (omega arith)
+      ∙ ap (λ x. select (λ y. eqb (k y) b) (rows g x n)) (sym e))
       ∙ ap (λ x. select (λ y. eqb (k y) b) (g x ∷ rows g (N - suc n + 1) n)) (sym d)
 
   pub keyed-rows : keyed (λ j. k (g (N - 1 - j))) b (λ j. g (N - 1 - j)) N ≡ select (λ x. eqb (k x) b) (rows g 0 N)

@@ -51,7 +51,8 @@ gathering-start W A base count =
       left = rows-whole (select isPublic) (λ j. scopeAt W (base + scopeSize * j)) count;
     }
 
-module _ {W A B : List ℕ} {base count k n : ℕ} (g : Gathering W A base count B k n) (more : k < count) {v : ℕ} (e : v ≡ scopeAt W (base + scopeSize * k) .visibility) where
+module _ {W A B : List ℕ} {base count k n : ℕ} (g : Gathering W A base count B k n) (more : k < count) {v : ℕ}
+    (e : v ≡ scopeAt W (base + scopeSize * k) .visibility) where
   record-at : ℕ → Scope
   record-at j = scopeAt W (base + scopeSize * j)
 
@@ -68,7 +69,8 @@ module _ {W A B : List ℕ} {base count k n : ℕ} (g : Gathering W A base count
             ∙ ap (λ r. entriesAt W B 4160 n ++ r) (select-miss isPublic (record-at k) _ (ap (λ x. eqb x 0) (sym e) ∙ ne-eqb v 0 h));
       }
 
-  pub gathering-take : {at : ℕ} → length A ≡ 16384 → count ≤ 2048 → v ≡ 0 → at ≡ base + scopeSize * k → Gathering W A base count (set B (4160 + n) at) (k + 1) (n + 1)
+  pub gathering-take : {at : ℕ} → length A ≡ 16384 → count ≤ 2048 → v ≡ 0 → at ≡ base + scopeSize * k
+      → Gathering W A base count (set B (4160 + n) at) (k + 1) (n + 1)
   unfolding record-at
   gathering-take {at} size small h q =
       let f = g .few in
@@ -89,7 +91,8 @@ module _ {W A B : List ℕ} {base count k n : ℕ} (g : Gathering W A base count
             ∙ ap (λ r. r ++ left) (sym put);
       }
 
-pub gathering-done : {W A B : List ℕ} {base count k n : ℕ} (l : Layout) → Gathering W A base count B k n → base ≡ scopeBase l → count ≡ l .scopes → count ≤ k → Gathered W A l B n
+pub gathering-done : {W A B : List ℕ} {base count k n : ℕ} (l : Layout) → Gathering W A base count B k n → base ≡ scopeBase l
+    → count ≡ l .scopes → count ≤ k → Gathered W A l B n
 unfolding select
 gathering-done {W} {A} {B} {base} {count} {k} {n} l g eb ec h =
     let f = g .few in
@@ -99,15 +102,18 @@ gathering-done {W} {A} {B} {base} {count} {k} {n} l g eb ec h =
       few = omega arith;
       same =
           sym (ap₂ (λ x y. select isPublic (rows (λ j. scopeAt W (x + scopeSize * j)) 0 y)) (sym eb) (sym ec) ∙ g .left
-          ∙ ap (λ r. entriesAt W B 4160 n ++ select isPublic r) (rows-none (λ j. scopeAt W (base + scopeSize * j)) k count h) ∙ append-nil (entriesAt W B 4160 n));
+          ∙ ap (λ r. entriesAt W B 4160 n ++ select isPublic r) (rows-none (λ j. scopeAt W (base + scopeSize * j)) k count h)
+          ∙ append-nil (entriesAt W B 4160 n));
     }
 
 -- threading
 
-pub threads-none : {count heads links : ℕ} (key : ℕ → ℕ) (A : List ℕ) → ((b : ℕ) → b < count → getD A (heads + b) 0 ≡ 0) → Threads count heads links key 0 A A
+pub threads-none : {count heads links : ℕ} (key : ℕ → ℕ) (A : List ℕ) → ((b : ℕ) → b < count → getD A (heads + b) 0 ≡ 0)
+    → Threads count heads links key 0 A A
 threads-none {count} {heads} {links} key A z = record { chained = chained-none A heads links key z; size = refl; other = λ i p q. refl }
 
-pub threads-more : {count heads links : ℕ} {key : ℕ → ℕ} {j b : ℕ} {A B C : List ℕ} → Threads count heads links key j A B → heads + count ≤ links → links + j < length A
+pub threads-more : {count heads links : ℕ} {key : ℕ → ℕ} {j b : ℕ} {A B C : List ℕ} → Threads count heads links key j A B
+    → heads + count ≤ links → links + j < length A
     → b < count → b ≡ key j → C ≡ linked B heads links b j → Threads count heads links key (j + 1) A C
 unfolding linked
 threads-more {count} {heads} {links} {key} {j} {b} {A} {B} {C} t apart fits small e q =
@@ -120,19 +126,23 @@ threads-more {count} {heads} {links} {key} {j} {b} {A} {B} {C} t apart fits smal
     })
 
 -- the thread's words, and none of them below
-pub threads-low : {count heads links n : ℕ} {key : ℕ → ℕ} {A B : List ℕ} → Threads count heads links key n A B → (i : ℕ) → i < heads → heads + count ≤ links → getD B i 0 ≡ getD A i 0
+pub threads-low : {count heads links n : ℕ} {key : ℕ → ℕ} {A B : List ℕ} → Threads count heads links key n A B → (i : ℕ) → i < heads
+    → heads + count ≤ links → getD B i 0 ≡ getD A i 0
 threads-low t i h g = t .other i (λ b p e. omega arith) (λ j p e. omega arith)
 
-pub threads-high : {count heads links n : ℕ} {key : ℕ → ℕ} {A B : List ℕ} → Threads count heads links key n A B → (i : ℕ) → links + n ≤ i → heads + count ≤ links → getD B i 0 ≡ getD A i 0
+pub threads-high : {count heads links n : ℕ} {key : ℕ → ℕ} {A B : List ℕ} → Threads count heads links key n A B → (i : ℕ)
+    → links + n ≤ i → heads + count ≤ links → getD B i 0 ≡ getD A i 0
 threads-high t i h g = t .other i (λ b p e. omega arith) (λ j p e. omega arith)
 
 -- the owner of an entry as it is read while the threads are made
-pub owner-at : {count : ℕ} {key : ℕ → ℕ} (W A : List ℕ) {B : List ℕ} (n : ℕ) {j at m : ℕ} → Threads count 6208 6720 key j A B → 6208 + count ≤ 6720 → n ≤ 2048 → j < n
+pub owner-at : {count : ℕ} {key : ℕ → ℕ} (W A : List ℕ) {B : List ℕ} (n : ℕ) {j at m : ℕ} → Threads count 6208 6720 key j A B
+    → 6208 + count ≤ 6720 → n ≤ 2048 → j < n
     → at ≡ getD B (4160 + (n - 1 - j)) 0 → m ≡ scopeAt W at .owner → m ≡ entryOf W A n j .owner
 owner-at W A n {j} t apart few h e q = q ∙ ap (λ x. scopeAt W x .owner) (e ∙ threads-low t (4160 + (n - 1 - j)) (omega arith) apart)
 
 -- the same key by other words
-pub threads-key : {count heads links n : ℕ} {key : ℕ → ℕ} {A B : List ℕ} (other : ℕ → ℕ) → Threads count heads links key n A B → ((j : ℕ) → j < n → other j ≡ key j)
+pub threads-key : {count heads links n : ℕ} {key : ℕ → ℕ} {A B : List ℕ} (other : ℕ → ℕ) → Threads count heads links key n A B
+    → ((j : ℕ) → j < n → other j ≡ key j)
     → Threads count heads links other n A B
 threads-key {count} {heads} {links} {n} {key} {A} {B} other t e =
     record { chained = chained-kept B B heads links key other n (t .chained) (λ b h. refl) (λ i h. refl) e; size = t .size; other = t .other }
@@ -149,7 +159,8 @@ module _ {W A : List ℕ} {l : Layout} (r : Reads W A l) where
 
 pub threaded-fits : {W A : List ℕ} {l : Layout} {n : ℕ} → Threaded W A l n → (j : ℕ) → j < n → ScopeFits (countsIn l) (entryOf W A n j)
 threaded-fits {W} {A} {l} {n} t j h =
-    each-rows {P = ScopeFits (countsIn l)} (λ i. scopeAt W (getD A (4160 + i) 0)) n (n - 1 - j) (rw (t .list) (public-fits (t .ready .reads))) (omega arith)
+    each-rows {P = ScopeFits (countsIn l)} (λ i. scopeAt W (getD A (4160 + i) 0)) n (n - 1 - j) (rw (t .list) (public-fits (t .ready .reads)))
+    (omega arith)
 
 -- the thread of a module has its entries in order
 pub threaded-keyed : {W A : List ℕ} {l : Layout} {n : ℕ} → Threaded W A l n → (m : ℕ)
@@ -175,7 +186,8 @@ scopes-few r = (
   omega (arith, r .reads .tables .whole, r .reads .tables .short),
 )
 
-module _ {W A B C D : List ℕ} {l : Layout} {n : ℕ} (r : Ready W A l) (g : Gathered W A l B n) (so : Sorts W B l C 4160 n) (cl : Cleared C D 6208 10816) (size : length D ≡ length C) where
+module _ {W A B C D : List ℕ} {l : Layout} {n : ℕ} (r : Ready W A l) (g : Gathered W A l B n) (so : Sorts W B l C 4160 n)
+    (cl : Cleared C D 6208 10816) (size : length D ≡ length C) where
   entries-few : n ≤ 2048
   entries-few = let q = scopes-few r .0 in let f = g .few in omega arith
 
@@ -189,15 +201,18 @@ module _ {W A B C D : List ℕ} {l : Layout} {n : ℕ} (r : Ready W A l) (g : Ga
   list-d =
       let q = entries-few in
       rows-ext _ _ n (λ i h. ap (scopeAt W) (cl .before (4160 + i) (omega arith))) ∙ so .same
-      ∙ ap₂ (λ o xs. sortInto o [] xs) (ap entryBefore (snap-stays W A B l (r .reads .tables) (λ i a b. g .frame .below i b) ∙ sym (snap-stays W A D l (r .reads .tables) (λ i a b. low-d i b)))) (g .same)
+      ∙ ap₂ (λ o xs. sortInto o [] xs) (ap entryBefore (snap-stays W A B l (r .reads .tables) (λ i a b. g .frame .below i b)
+      ∙ sym (snap-stays W A D l (r .reads .tables) (λ i a b. low-d i b)))) (g .same)
 
-  pub entries-required : ((length D ≡ 16384) × (4160 + n ≤ 6208)) × (((b : ℕ) → b < 512 → getD D (6208 + b) 0 ≡ 0) × ((j : ℕ) → j < n → entryOf W D n j .owner < 512))
+  pub entries-required : ((length D ≡ 16384) × (4160 + n ≤ 6208)) × (((b : ℕ) → b < 512 → getD D (6208 + b) 0 ≡ 0)
+      × ((j : ℕ) → j < n → entryOf W D n j .owner < 512))
   entries-required = (
     (ready-d .size, let q = entries-few in omega arith),
     (
       λ b h. cl .zero (6208 + b) (omega arith) (omega arith),
       λ j h.
-          let f = each-rows {P = ScopeFits (countsIn l)} (λ i. scopeAt W (getD D (4160 + i) 0)) n (n - 1 - j) (rw list-d (public-fits (ready-d .reads))) (omega arith) .owner in
+          let f = each-rows {P = ScopeFits (countsIn l)} (λ i. scopeAt W (getD D (4160 + i) 0)) n (n - 1 - j)
+          (rw list-d (public-fits (ready-d .reads))) (omega arith) .owner in
           let q = r .reads .tables .limited .modules in
           omega arith,
     ),
@@ -207,21 +222,25 @@ module _ {W A B C D : List ℕ} {l : Layout} {n : ℕ} (r : Ready W A l) (g : Ga
     high-e : (i : ℕ) → 8768 ≤ i → getD E i 0 ≡ getD D i 0
     high-e i h = let q = entries-few in threads-high te i (omega arith) (omega arith)
 
-    pub members-required : ((length E ≡ 16384) × (10816 + l .members ≤ 16384) × (wordCount l ≤ 16384)) × (((b : ℕ) → b < 2048 → getD E (8768 + b) 0 ≡ 0) × ((j : ℕ) → j < l .members → memberOf W l j .parent < 2048))
+    pub members-required : ((length E ≡ 16384) × (10816 + l .members ≤ 16384) × (wordCount l ≤ 16384))
+        × (((b : ℕ) → b < 2048 → getD E (8768 + b) 0 ≡ 0) × ((j : ℕ) → j < l .members → memberOf W l j .parent < 2048))
     members-required =
         let q = scopes-few r in
         let d = r .reads .tables .limited .definitions in (
           (te .size ∙ ready-d .size, omega arith, q .2),
           (
             λ b h. high-e (8768 + b) (omega arith) ∙ cl .zero (8768 + b) (omega arith) (omega arith),
-            λ j h. let f = member-read W A l (accepted-valid W (snapOf W A l) (r .reads .same)) (l .members - 1 - j) (omega arith) .parent in omega arith,
+            λ j h. let f = member-read W A l (accepted-valid W (snapOf W A l) (r .reads .same)) (l .members - 1 - j)
+                (omega arith) .parent in omega arith,
           ),
         )
 
-    pub threaded-all : {F : List ℕ} → Threads 2048 8768 10816 (λ j. memberOf W l j .parent) (l .members) E F → Threaded W F l n × ((i : ℕ) → i < 4160 → getD F i 0 ≡ getD A i 0)
+    pub threaded-all : {F : List ℕ} → Threads 2048 8768 10816 (λ j. memberOf W l j .parent) (l .members) E F → Threaded W F l n
+        × ((i : ℕ) → i < 4160 → getD F i 0 ≡ getD A i 0)
     threaded-all {F} tm =
         let q = entries-few in
-        let low : ((i : ℕ) → i < 6208 → getD F i 0 ≡ getD D i 0) = λ i h. threads-low tm i (omega arith) (omega arith) ∙ threads-low te i h (omega arith) in
+        let low : ((i : ℕ) → i < 6208 → getD F i 0 ≡ getD D i 0) = λ i h. threads-low tm i (omega arith) (omega arith)
+        ∙ threads-low te i h (omega arith) in
         let mid : ((i : ℕ) → i < 8768 → getD F i 0 ≡ getD E i 0) = λ i h. threads-low tm i h (omega arith) in (
           record {
             ready = kept-ready ready-d (tm .size ∙ te .size) (λ i h. low i (omega arith));

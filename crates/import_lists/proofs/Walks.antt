@@ -30,7 +30,8 @@ use Rattle.import_rules.specs.Collect.{entriesOf, piled, visits, modulesFrom}
 use Rattle.import_order.specs.Lists.{Ready, waiting}
 use Rattle.import_order.proofs.Visits.{room, entries-few, visits-same, waiting-all, length-piled}
 use Rattle.import_lists.specs.Threads.{rest, publicIn, entryOf, Threaded}
-use Rattle.import_lists.specs.Walks.{marksBase, orderBase, pileBase, downFrom, pileAt, orderAt, seenAt, turnsAt, walkAt, Pushed, Walking, Turned, Walked}
+use Rattle.import_lists.specs.Walks.{marksBase, orderBase, pileBase, downFrom, pileAt, orderAt, seenAt, turnsAt, walkAt, Pushed, Walking}
+use Rattle.import_lists.specs.Walks.{Turned, Walked}
 use Rattle.import_lists.specs.declared.walk.Turn.{Turn}
 use Rattle.import_lists.proofs.Keyed.{rest-first, rest-next, rest-none}
 use Rattle.import_lists.proofs.Threading.{threaded-fits, threaded-keyed, entries-fit}
@@ -58,7 +59,8 @@ unfolding piled
 piled-joined s x r ws = refl
 
 -- the threads stay
-pub threaded-kept : {W A B : List ℕ} {l : Layout} {n : ℕ} → Threaded W A l n → length B ≡ length A → ((i : ℕ) → i < marksBase l → getD B i 0 ≡ getD A i 0) → Threaded W B l n
+pub threaded-kept : {W A B : List ℕ} {l : Layout} {n : ℕ} → Threaded W A l n → length B ≡ length A
+    → ((i : ℕ) → i < marksBase l → getD B i 0 ≡ getD A i 0) → Threaded W B l n
 threaded-kept {W} {A} {B} {l} {n} t size below =
     let r = t .ready in
     let f = t .few in
@@ -73,12 +75,14 @@ threaded-kept {W} {A} {B} {l} {n} t size below =
           chained-kept A B 6208 6720 _ _ n (t .entries) (λ b h. below (6208 + b) (omega arith)) (λ i h. below (6720 + i) (omega arith))
           (λ i h. ap (λ x. scopeAt W x .owner) (below (4160 + (n - 1 - i)) (omega arith)));
       members =
-          chained-kept A B 8768 10816 _ _ (l .members) (t .members) (λ b h. below (8768 + b) (omega arith)) (λ i h. below (10816 + i) (omega arith)) (λ i h. refl);
+          chained-kept A B 8768 10816 _ _ (l .members) (t .members) (λ b h. below (8768 + b) (omega arith))
+          (λ i h. below (10816 + i) (omega arith)) (λ i h. refl);
     }
 
 -- one module put on the pile, or none
 
-module _ {W A : List ℕ} {l : Layout} (r : Ready W A l) (entry t : ℕ) {d k : ℕ} (ed : d ≡ scopeAt W entry .definition) (ek : k ≡ definitionOf (snapOf W A l) d .kind) where
+module _ {W A : List ℕ} {l : Layout} (r : Ready W A l) (entry t : ℕ) {d k : ℕ} (ed : d ≡ scopeAt W entry .definition)
+    (ek : k ≡ definitionOf (snapOf W A l) d .kind) where
   piled-kind : (b : Bool) → eqb k moduleKind ≡ b → eqb (definitionOf (snapOf W A l) (scopeAt W entry .definition) .kind) moduleKind ≡ b
   piled-kind b e = ap (λ x. eqb (definitionOf (snapOf W A l) x .kind) moduleKind) (sym ed) ∙ ap (λ x. eqb x moduleKind) (sym ek) ∙ e
 
@@ -143,7 +147,8 @@ pub record Pushing (W A : List ℕ) (l : Layout) (n t first : ℕ) (B : List ℕ
   pub high : t ≤ u
 
 module _ {W A : List ℕ} {l : Layout} {n t : ℕ} (th : Threaded W A l n) where
-  pub pushing-start : {m at : ℕ} → m < 512 → t + length (entriesOf (snapOf W A l) m) ≤ l .scopes + 1 → at ≡ getD A (6208 + m) 0 → Pushing W A l n t at A at t
+  pub pushing-start : {m at : ℕ} → m < 512 → t + length (entriesOf (snapOf W A l) m) ≤ l .scopes + 1 → at ≡ getD A (6208 + m) 0
+      → Pushing W A l n t at A at t
   pushing-start {m} {at} small fits e =
       let q = thread-of th small e in
       record { within = q .1; left = refl; room = rw (q .0) fits; size = refl; below = λ i p. refl; high = omega arith }
@@ -169,7 +174,8 @@ module _ {W A : List ℕ} {l : Layout} {n t : ℕ} (th : Threaded W A l n) where
       pushing-room = let h = g .room in let e = ap length (thread-next th (g .within) some refl .0) in omega arith
 
       pub pushing-next : {entry v next : ℕ} {C : List ℕ} → entry ≡ getD B (4160 + (n - at)) 0
-          → Pushed l u (piled (snapOf W B l) (scopeAt W entry ∷ []) (pileAt B l u)) B C v → next ≡ getD C (6720 + (at - 1)) 0 → Pushing W A l n t first C next v
+          → Pushed l u (piled (snapOf W B l) (scopeAt W entry ∷ []) (pileAt B l u)) B C v → next ≡ getD C (6720 + (at - 1)) 0
+          → Pushing W A l n t first C next v
       pushing-next {entry} {v} {next} {C} e p q =
           let w = g .within in
           let b = g .high in
@@ -177,8 +183,10 @@ module _ {W A : List ℕ} {l : Layout} {n t : ℕ} (th : Threaded W A l n) where
           let z = small-n in
           let d : next ≡ getD A (6720 + (at - 1)) 0 = q ∙ p .below (6720 + (at - 1)) (omega arith) ∙ g .below (6720 + (at - 1)) (omega arith) in
           let h = thread-next th w some d .1 in
-          let more : restAt W A n at ≡ scopeAt W entry ∷ restAt W A n next = thread-next th w some d .0 ∙ ap (λ x. x ∷ restAt W A n next) (sym (entry-same e)) in
-          let one : pileAt C l v ≡ piled (snapOf W A l) (scopeAt W entry ∷ []) (pileAt B l u) = p .same ∙ ap (λ s. piled s (scopeAt W entry ∷ []) (pileAt B l u)) pushing-snap in
+          let more : restAt W A n at ≡ scopeAt W entry ∷ restAt W A n next = thread-next th w some d .0
+          ∙ ap (λ x. x ∷ restAt W A n next) (sym (entry-same e)) in
+          let one : pileAt C l v ≡ piled (snapOf W A l) (scopeAt W entry ∷ []) (pileAt B l u) = p .same
+          ∙ ap (λ s. piled s (scopeAt W entry ∷ []) (pileAt B l u)) pushing-snap in
           record {
             within = omega arith;
             left =
@@ -205,7 +213,8 @@ module _ {W A : List ℕ} {l : Layout} {n t : ℕ} (th : Threaded W A l n) where
           let b = g .high in
           thread-next th w some (q ∙ p .below (6720 + (at - 1)) (omega arith) ∙ g .below (6720 + (at - 1)) (omega arith)) .1
 
-    pub pushing-done : {m : ℕ} → m < 512 → first ≡ getD A (6208 + m) 0 → at ≡ 0 → Pushed l t (piled (snapOf W A l) (entriesOf (snapOf W A l) m) (pileAt A l t)) A B u
+    pub pushing-done : {m : ℕ} → m < 512 → first ≡ getD A (6208 + m) 0
+        → at ≡ 0 → Pushed l t (piled (snapOf W A l) (entriesOf (snapOf W A l) m) (pileAt A l t)) A B u
     unfolding piled
     pushing-done small e z =
         record {
@@ -234,7 +243,8 @@ any-down p f (suc n) = ap (λ x. p (f n) || x) (any-down p f n) ∙ swapped (row
     swapped (x ∷ xs) = left (p (f n)) (p x) (any p xs) ∙ ap (λ y. p x || y) (swapped xs)
 
 each-piled : (s : Snapshot) (top : ℕ) {es : List Scope} {ws : List ℕ}
-    → Each (λ e. definitionOf s (e .definition) .kind ≡ moduleKind → definitionOf s (e .definition) .first < top) es → Each (λ m. m < top) ws → Each (λ m. m < top) (piled s es ws)
+    → Each (λ e. definitionOf s (e .definition) .kind ≡ moduleKind → definitionOf s (e .definition) .first < top) es
+    → Each (λ m. m < top) ws → Each (λ m. m < top) (piled s es ws)
 unfolding piled
 each-piled s top Each.none h = h
 each-piled s top {ws = ws} (more {x = e} p g) h =
@@ -248,7 +258,8 @@ each-head (more p h) = p
 each-tail : {X : Type 0} {P : X → Type 0} {x : X} {xs : List X} → Each P (x ∷ xs) → Each P xs
 each-tail (more p h) = h
 
-visits-old : (n : ℕ) (s : Snapshot) (seen : List ℕ) (m : ℕ) (ws : List ℕ) → any (eqb m) seen ≡ true → visits (suc n) s seen (m ∷ ws) ≡ visits n s seen ws
+visits-old : (n : ℕ) (s : Snapshot) (seen : List ℕ) (m : ℕ) (ws : List ℕ) → any (eqb m) seen ≡ true → visits (suc n) s seen (m ∷ ws)
+    ≡ visits n s seen ws
 unfolding visits
 visits-old n s seen m ws h = rw (visits, h)
 
@@ -257,7 +268,8 @@ visits-new : (n : ℕ) (s : Snapshot) (seen : List ℕ) (m : ℕ) (ws : List ℕ
 unfolding visits
 visits-new n s seen m ws h = rw (visits, h)
 
-module _ {W A : List ℕ} {l : Layout} {n k : ℕ} (t : ℕ) (w : Walking W A l n k (t + 1)) {base m : ℕ} (eb : base ≡ pileBase l) (er : m ≡ getD A (base + t) 0) where
+module _ {W A : List ℕ} {l : Layout} {n k : ℕ} (t : ℕ) (w : Walking W A l n k (t + 1)) {base m : ℕ} (eb : base ≡ pileBase l)
+    (er : m ≡ getD A (base + t) 0) where
   em : m ≡ getD A (pileBase l + t) 0
   em = er ∙ ap (λ x. getD A (x + t) 0) eb
 
@@ -287,7 +299,14 @@ module _ {W A : List ℕ} {l : Layout} {n k : ℕ} (t : ℕ) (w : Walking W A l 
       let seen = met true (ap not (ne-eqb (getD A (marksBase l + m) 0) 0 (λ z. h (ap (λ x. getD A (x + m) 0) ek ∙ z)))) in
       let r = w .room in
       record {
-        walking = record { threaded = w .threaded; marked = w .marked; inside = each-tail (rw pile-top at (w .inside)); taken = w .taken; room = omega arith };
+        walking = record {
+          threaded = w .threaded;
+          marked = w .marked;
+          inside = each-tail (rw pile-top at (w .inside));
+          taken =
+              w .taken;
+          room = omega arith;
+        };
         same =
             ap (λ x. orderAt A l k ++ x)
             (sym (ap₂ (λ a b. visits a s (seenAt A l k) b) turns pile-top ∙ visits-old (turnsAt W A l k t) s (seenAt A l k) m (pileAt A l t) seen));
@@ -324,7 +343,8 @@ module _ {W A : List ℕ} {l : Layout} {n k : ℕ} (t : ℕ) (w : Walking W A l 
       other i p q = rw ec (getD-set-other (set A (marksBase l + m) 1) (orderBase l + k) i m 0 q ∙ getD-set-other A (marksBase l + m) i 1 0 p)
 
       put : getD C (orderBase l + k) 0 ≡ m
-      put = let f = room-for in let h = k-few in let z = long in rw ec (getD-set-same (set A (marksBase l + m) 1) (orderBase l + k) m 0 (simp length-set (omega arith)))
+      put = let f = room-for in let h = k-few in let z = long in rw ec (getD-set-same (set A (marksBase l + m) 1) (orderBase l + k)
+          m 0 (simp length-set (omega arith)))
 
       pub new-threaded : Threaded W C l n
       new-threaded = threaded-kept (w .threaded) size-c (λ i p. other i (λ e. omega arith) (λ e. omega arith))
@@ -374,7 +394,8 @@ module _ {W A : List ℕ} {l : Layout} {n k : ℕ} (t : ℕ) (w : Walking W A l 
             (marked-more A (marksBase l) (λ i. getD C (orderBase l + i) 0) k m
             (marked-kept A A (marksBase l) _ _ k (w .marked) (λ x h. refl) (λ i h. other (orderBase l + i) (λ e. omega arith) (λ e. omega arith)))
             (omega arith) put)
-            (λ x h. p .below (marksBase l + x) (omega arith) ∙ rw ec (getD-set-other (set A (marksBase l + m) 1) (orderBase l + k) (marksBase l + x) m 0 (λ e. omega arith)))
+            (λ x h. p .below (marksBase l + x) (omega arith)
+            ∙ rw ec (getD-set-other (set A (marksBase l + m) 1) (orderBase l + k) (marksBase l + x) m 0 (λ e. omega arith)))
             (λ i h. order-b i h)
 
         turns-b : turnsAt W B l (k + 1) u ≤ turnsAt W A l k t
@@ -389,7 +410,8 @@ module _ {W A : List ℕ} {l : Layout} {n k : ℕ} (t : ℕ) (w : Walking W A l 
         inside-b : Each (λ x. x < l .modules) (pileAt B l u)
         inside-b =
             rw pile-b
-            (each-piled s (l .modules) (each-map (λ e f q. module-known W A l (w .threaded .ready .reads) (e .definition) (f .definition) q) (entries-fit (w .threaded .ready .reads) m))
+            (each-piled s (l .modules) (each-map (λ e f q. module-known W A l (w .threaded .ready .reads) (e .definition) (f .definition) q)
+            (entries-fit (w .threaded .ready .reads) m))
             (each-tail (rw pile-top at (w .inside))))
 
         pub turn-new : Turned W A l n k t B (record { order = k + 1; top = u })
@@ -398,7 +420,14 @@ module _ {W A : List ℕ} {l : Layout} {n k : ℕ} (t : ℕ) (w : Walking W A l 
             let q = turns-b in
             let z = turns in
             record {
-              walking = record { threaded = threaded-kept (w .threaded) (p .size ∙ size-c) low; marked = marked-b; inside = inside-b; taken = rw order-new (each-snoc (w .taken) turn-known); room = omega arith };
+              walking = record {
+                threaded = threaded-kept (w .threaded) (p .size ∙ size-c) low;
+                marked = marked-b;
+                inside =
+                    inside-b;
+                taken = rw order-new (each-snoc (w .taken) turn-known);
+                room = omega arith;
+              };
               same =
                   ap₂ (λ a b. a ++ b) order-new
                   (sym (visits-same (turnsAt W B l (k + 1) u) (turnsAt W A l k t) (snapOf W B l) (seenAt B l (k + 1)) (pileAt B l u)
@@ -407,7 +436,8 @@ module _ {W A : List ℕ} {l : Layout} {n k : ℕ} (t : ℕ) (w : Walking W A l 
                   ∙ ap (λ a. visits (turnsAt W A l k t) s a (piled s (entriesOf s m) (pileAt A l t))) seen-b)
                   ∙ append-assoc (orderAt A l k) (m ∷ []) (visits (turnsAt W A l k t) s (m ∷ seenAt A l k) (piled s (entriesOf s m) (pileAt A l t)))
                   ∙ ap (λ x. orderAt A l k ++ x)
-                  (sym (ap₂ (λ a b. visits a s (seenAt A l k) b) turns pile-top ∙ visits-new (turnsAt W A l k t) s (seenAt A l k) m (pileAt A l t) unseen));
+                  (sym (ap₂ (λ a b. visits a s (seenAt A l k) b) turns pile-top ∙ visits-new (turnsAt W A l k t) s (seenAt A l k) m
+                  (pileAt A l t) unseen));
               falls = omega arith;
               size = p .size ∙ size-c;
               below = low;
@@ -425,7 +455,8 @@ module _ {W A D : List ℕ} {l : Layout} {n marks to : ℕ} (th : Threaded W A l
   cleared-snap : snapOf W D l ≡ snapOf W A l
   cleared-snap = snap-stays W A D l (th .ready .reads .tables) (λ i a b. low-kept i (omega arith))
 
-  pub root-of : (c : ℕ) {own m : ℕ} → own ≡ ownMap (snapOf W D l) c → m ≡ rootOf (snapOf W D l) own → m ≡ rootOf (snapOf W A l) (ownMap (snapOf W A l) c)
+  pub root-of : (c : ℕ) {own m : ℕ} → own ≡ ownMap (snapOf W D l) c → m ≡ rootOf (snapOf W D l) own
+      → m ≡ rootOf (snapOf W A l) (ownMap (snapOf W A l) c)
   root-of c {own} eo er = er ∙ ap (rootOf (snapOf W D l)) eo ∙ ap (λ s. rootOf s (ownMap s c)) cleared-snap
 
   pub root-inside : {own m : ℕ} → own < l .maps → m ≡ rootOf (snapOf W D l) own → m < l .modules
@@ -435,26 +466,32 @@ module _ {W A D : List ℕ} {l : Layout} {n marks to : ℕ} (th : Threaded W A l
       let b = r .rooted own h in
       omega arith
 
-pub walking-start : {W A : List ℕ} {l : Layout} {n : ℕ} {B C : List ℕ} {m base marks to : ℕ} → Threaded W A l n → marks ≡ marksBase l → to ≡ marks + 512 → Cleared A B marks to → length B ≡ length A
+pub walking-start : {W A : List ℕ} {l : Layout} {n : ℕ} {B C : List ℕ} {m base marks to : ℕ} → Threaded W A l n → marks ≡ marksBase l
+    → to ≡ marks + 512 → Cleared A B marks to → length B ≡ length A
     → base ≡ pileBase l → C ≡ set B base m → m < l .modules → Walking W C l n 0 1
 unfolding downFrom rows
 walking-start {W} {A} {l} {n} {B} {C} {m} {base} {marks} {to} th ek et cl size eb ec inside =
     let z = few-words (th .ready) in
     let y = th .ready .size in
     let q : C ≡ set B (pileBase l) m = ec ∙ ap (λ x. set B x m) eb in
-    let low : ((i : ℕ) → i < marksBase l → getD C i 0 ≡ getD A i 0) = λ i h. ap (λ x. getD x i 0) q ∙ getD-set-other B (pileBase l) i m 0 (λ e. omega arith) ∙ cl .before i (omega arith) in
-    let top : getD C (pileBase l + 0) 0 ≡ m = let d : pileBase l + 0 ≡ pileBase l = omega arith in ap₂ (λ x i. getD x i 0) q d ∙ getD-set-same B (pileBase l) m 0 (omega arith) in
+    let low : ((i : ℕ) → i < marksBase l → getD C i 0 ≡ getD A i 0) = λ i h. ap (λ x. getD x i 0) q
+    ∙ getD-set-other B (pileBase l) i m 0 (λ e. omega arith) ∙ cl .before i (omega arith) in
+    let top : getD C (pileBase l + 0) 0 ≡ m = let d : pileBase l + 0 ≡ pileBase l = omega arith in ap₂ (λ x i. getD x i 0) q d
+    ∙ getD-set-same B (pileBase l) m 0 (omega arith) in
     record {
       threaded = threaded-kept th (ap length q ∙ length-set B (pileBase l) m ∙ size) low;
       marked =
           marked-none C (marksBase l) _
-          (λ x h. ap (λ y. getD y (marksBase l + x) 0) q ∙ getD-set-other B (pileBase l) (marksBase l + x) m 0 (λ e. omega arith) ∙ cl .zero (marksBase l + x) (omega arith) (omega arith));
+          (λ x h. ap (λ y. getD y (marksBase l + x) 0) q ∙ getD-set-other B (pileBase l) (marksBase l + x) m 0 (λ e. omega arith)
+          ∙ cl .zero (marksBase l + x) (omega arith) (omega arith));
       taken = Each.none;
       inside = more {x = getD C (pileBase l + 0) 0} (subst (λ x. x < l .modules) (sym top) inside) Each.none;
-      room = let a = waiting-all (snapOf W C l .scopes) in let b = length-rows (λ k. scopeAt W (scopeBase l + scopeSize * k)) (l .scopes) in omega arith;
+      room = let a = waiting-all (snapOf W C l .scopes) in let b = length-rows (λ k. scopeAt W (scopeBase l + scopeSize * k))
+          (l .scopes) in omega arith;
     }
 
-walk-whole : (W A C : List ℕ) (l : Layout) (c m : ℕ) → snapOf W C l ≡ snapOf W A l → getD C (pileBase l + 0) 0 ≡ m → m ≡ rootOf (snapOf W A l) (ownMap (snapOf W A l) c)
+walk-whole : (W A C : List ℕ) (l : Layout) (c m : ℕ) → snapOf W C l ≡ snapOf W A l → getD C (pileBase l + 0) 0 ≡ m
+    → m ≡ rootOf (snapOf W A l) (ownMap (snapOf W A l) c)
     → walkAt W C l 0 1 ≡ modulesFrom (snapOf W A l) c
 unfolding downFrom modulesFrom rows
 walk-whole W A C l c m q e r =
@@ -497,16 +534,20 @@ unfolding visits
 visits-none zero s seen = refl
 visits-none (suc n) s seen = refl
 
-pub going-done : {W A B D C : List ℕ} {l : Layout} {n k t base marks to : ℕ} (c : ℕ) {m : ℕ} → Threaded W A l n → marks ≡ marksBase l → Cleared A D marks to → length D ≡ length A
-    → base ≡ pileBase l → C ≡ set D base m → m ≡ rootOf (snapOf W A l) (ownMap (snapOf W A l) c) → Going W C l n 0 1 B k t → t ≡ 0 → Walked W A l c B k
+pub going-done : {W A B D C : List ℕ} {l : Layout} {n k t base marks to : ℕ} (c : ℕ) {m : ℕ} → Threaded W A l n → marks ≡ marksBase l
+    → Cleared A D marks to → length D ≡ length A
+    → base ≡ pileBase l → C ≡ set D base m → m ≡ rootOf (snapOf W A l) (ownMap (snapOf W A l) c) → Going W C l n 0 1 B k t
+    → t ≡ 0 → Walked W A l c B k
 unfolding downFrom
 going-done {W} {A} {B} {D} {C} {l} {n} {k} {t} {base} {marks} {to} c {m} th ek cl size eb ec em g e =
     let z = few-words (th .ready) in
     let y = th .ready .size in
     let r = g .walking .room in
     let q : C ≡ set D (pileBase l) m = ec ∙ ap (λ x. set D x m) eb in
-    let low : ((i : ℕ) → i < marksBase l → getD C i 0 ≡ getD A i 0) = λ i h. ap (λ x. getD x i 0) q ∙ getD-set-other D (pileBase l) i m 0 (λ e. omega arith) ∙ cl .before i (omega arith) in
-    let top : getD C (pileBase l + 0) 0 ≡ m = let d : pileBase l + 0 ≡ pileBase l = omega arith in ap₂ (λ x i. getD x i 0) q d ∙ getD-set-same D (pileBase l) m 0 (omega arith) in
+    let low : ((i : ℕ) → i < marksBase l → getD C i 0 ≡ getD A i 0) = λ i h. ap (λ x. getD x i 0) q
+    ∙ getD-set-other D (pileBase l) i m 0 (λ e. omega arith) ∙ cl .before i (omega arith) in
+    let top : getD C (pileBase l + 0) 0 ≡ m = let d : pileBase l + 0 ≡ pileBase l = omega arith in ap₂ (λ x i. getD x i 0) q d
+    ∙ getD-set-same D (pileBase l) m 0 (omega arith) in
     record {
       same =
           sym (ap (λ x. orderAt B l k ++ visits (turnsAt W B l k x) (snapOf W B l) (seenAt B l k) (pileAt B l x)) e

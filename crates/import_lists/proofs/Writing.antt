@@ -22,7 +22,8 @@ use Rattle.accept.proofs.Valid.{accepted-valid}
 use Rattle.accept.proofs.Reading.{member-read}
 use Rattle.hir_def.specs.Finds.{select}
 use Rattle.search_laws.proofs.Walks.{select-short}
-use Rattle.import_rules.specs.Collect.{entryBefore, isPublicIn, entriesOf, isMemberOf, memberNs, memberImport, entryImport, importsOf, importsIn, importsOver, wordsOf}
+use Rattle.import_rules.specs.Collect.{entryBefore, isPublicIn, entriesOf, isMemberOf, memberNs, memberImport, entryImport, importsOf, importsIn}
+use Rattle.import_rules.specs.Collect.{importsOver, wordsOf}
 use Rattle.import_order.specs.Lists.{Ready}
 use Rattle.import_order.proofs.Visits.{length-sort}
 use Rattle.import_words.proofs.Taken.{words-length, words-append}
@@ -40,7 +41,8 @@ sets-append T (x ∷ xs) ys i =
     let e : suc i + length xs ≡ i + suc (length xs) = omega arith in
     sets-append (set T i x) xs ys (suc i) ∙ ap (λ k. sets (sets (set T i x) (suc i) xs) k ys) e
 
-written-append : (write : Bool) (at : ℕ) (xs ys T : List ℕ) → written write (at + length xs) ys (written write at xs T) ≡ written write at (xs ++ ys) T
+written-append : (write : Bool) (at : ℕ) (xs ys T : List ℕ) → written write (at + length xs) ys (written write at xs T)
+    ≡ written write at (xs ++ ys) T
 unfolding written
 written-append true at xs ys T = sym (sets-append T xs ys at)
 written-append false at xs ys T = refl
@@ -109,7 +111,8 @@ wrote-none {write} {at} {xs} {T} e =
     let n = ap length e in
     record { next = omega arith; same = sym (ap (λ ys. written write at (wordsOf ys) T) e ∙ written-none write at T) }
 
-module _ {write : Bool} {at r q : ℕ} {xs ys left : List Import} {T U X : List ℕ} (p : Parts left xs ys) (w : Wrote write at xs T U r) (v : Wrote write r ys U X q) where
+module _ {write : Bool} {at r q : ℕ} {xs ys left : List Import} {T U X : List ℕ} (p : Parts left xs ys) (w : Wrote write at xs T U r)
+    (v : Wrote write r ys U X q) where
   pub wrote-both : Wrote write at left T X q
   wrote-both =
       let n = parts-length p in
@@ -133,7 +136,8 @@ pub record Going (write : Bool) (whole : List Import) (first : ℕ) (T₀ : List
 pub going-start : {write : Bool} {xs : List Import} {at : ℕ} {T : List ℕ} → Space write at xs T → Going write xs at T xs at T
 going-start s = record { space = s; whole-of = λ w. w; size = refl }
 
-module _ {write : Bool} {whole : List Import} {first : ℕ} {T₀ : List ℕ} {left : List Import} {at : ℕ} {T : List ℕ} (g : Going write whole first T₀ left at T) where
+module _ {write : Bool} {whole : List Import} {first : ℕ} {T₀ : List ℕ} {left : List Import} {at : ℕ} {T : List ℕ}
+    (g : Going write whole first T₀ left at T) where
   pub going-next : {xs ys : List Import} {U : List ℕ} {r : ℕ} → Parts left xs ys → Wrote write at xs T U r → Going write whole first T₀ ys r U
   going-next p w =
       record { space = space-rest (g .space) p w; whole-of = λ v. g .whole-of (wrote-both p w v); size = wrote-size w ∙ g .size }
@@ -144,7 +148,8 @@ module _ {write : Bool} {whole : List Import} {first : ℕ} {T₀ : List ℕ} {l
 -- one import
 
 pub wrote-one : (at c ns d name m bits : ℕ) (T : List ℕ)
-    → Wrote true at (newImport c ns d name m bits ∷ []) T (set (set (set (set (set (set T at (0xA0000000 + c)) (at + 1) ns) (at + 2) d) (at + 3) name) (at + 4) m) (at + 5) bits) (at + 6)
+    → Wrote true at (newImport c ns d name m bits ∷ []) T
+    (set (set (set (set (set (set T at (0xA0000000 + c)) (at + 1) ns) (at + 2) d) (at + 3) name) (at + 4) m) (at + 5) bits) (at + 6)
 unfolding written wordsOf
 wrote-one at c ns d name m bits T =
     let a : at + 1 ≡ suc at = omega arith in
@@ -168,7 +173,8 @@ pub kept-one : (c : ℕ) (e : Scope) (x : Member) → (x .kind ≡ 3 → ⊥) �
 unfolding keptImports select
 kept-one c e x h = rw (keptImports, select, ne-eqb (x .kind) 3 h)
 
-pub member-same-import : (c : ℕ) (e : Scope) (x : Member) {ns kind d name m bits ens : ℕ} → kind ≡ x .kind → ens ≡ e .ns → ns ≡ memberNs ens kind → d ≡ x .definition
+pub member-same-import : (c : ℕ) (e : Scope) (x : Member) {ns kind d name m bits ens : ℕ} → kind ≡ x .kind → ens ≡ e .ns
+    → ns ≡ memberNs ens kind → d ≡ x .definition
     → name ≡ x .name → m ≡ e .owner → bits ≡ x .bits → newImport c ns d name m bits ≡ memberImport c e x
 member-same-import c e x k n a d t m b =
     let q = a ∙ ap₂ memberNs n k in λ i. record { owner = c; ns = q i; definition = d i; name = t i; container = m i; bits = b i; place = 0 }
@@ -237,7 +243,8 @@ module _ {W A : List ℕ} {l : Layout} {c : ℕ} {e : Scope} (h : Listed W A l c
       let q = h .ready .reads .tables .limited .definitions in
       let last : Last (parentOf W l) d (l .members) k = rw ek (h .members .first d (omega arith)) in (
         ap (λ r. map (memberImport c e) (select isKept r))
-            (rest-first (parentOf W l) (memberOf W l) last ∙ keyed-rows (λ (x : Member). x .parent) (λ i. memberAt W (memberBase l + memberSize * i)) d (l .members))
+            (rest-first (parentOf W l) (memberOf W l) last ∙ keyed-rows (λ (x : Member). x .parent)
+            (λ i. memberAt W (memberBase l + memberSize * i)) d (l .members))
             ∙ ap (map (memberImport c e)) (member-of d (snapOf W A l .members))
             ∙ ap (λ x. map (memberImport c e) (select (isMemberOf x) (snapOf W A l .members))) ed,
         last .within,
@@ -272,7 +279,8 @@ module _ {W A : List ℕ} {l : Layout} {c : ℕ} {e : Scope} (h : Listed W A l c
         let w = last .within in (
           record {
             split =
-                ap (keptImports c e) (rest-next (parentOf W l) (memberOf W l) k some last ∙ ap (λ y. y ∷ rest (parentOf W l) (memberOf W l) next) (sym member-same))
+                ap (keptImports c e) (rest-next (parentOf W l) (memberOf W l) k some last
+                ∙ ap (λ y. y ∷ rest (parentOf W l) (memberOf W l) next) (sym member-same))
                 ∙ kept-append c e (memberAt W x) (rest (parentOf W l) (memberOf W l) next);
           },
           omega arith,
@@ -300,7 +308,13 @@ module _ {W A : List ℕ} {l : Layout} {n : ℕ} (th : Threaded W A l n) where
 
   module _ (c : ℕ) {k : ℕ} (within : k ≤ n) (some : 0 < k) {entry : ℕ} (e : entry ≡ getD A (4160 + (n - k)) 0) where
     pub entry-listed : c < l .crates → Listed W A l c (scopeAt W entry)
-    entry-listed o = record { ready = th .ready; members = th .members; owner = o; fits = rw (thread-word th within some e) (thread-fits th within some) }
+    entry-listed o = record {
+      ready = th .ready;
+      members = th .members;
+      owner = o;
+      fits = rw (thread-word th within some e)
+          (thread-fits th within some);
+    }
 
     pub imports-next : {next : ℕ} → next ≡ getD A (6720 + (k - 1)) 0
         → Parts (importsAt W A l n c k) (importsOf (snapOf W A l) c (scopeAt W entry)) (importsAt W A l n c next) × (next < k)
@@ -327,7 +341,8 @@ pub over-end : (W A : List ℕ) (l : Layout) (c order i : ℕ) → order ≤ i �
 unfolding importsOver
 over-end W A l c order i h = ap (importsOver (snapOf W A l) c) (rows-none (λ j. getD A (orderBase l + j) 0) i order h)
 
-pub order-known : (A : List ℕ) (l : Layout) (order : ℕ) → Each (λ m. m < l .modules) (orderAt A l order) → {m : ℕ} (i : ℕ) → i < order → m ≡ getD A (orderBase l + i) 0 → m < l .modules
+pub order-known : (A : List ℕ) (l : Layout) (order : ℕ) → Each (λ m. m < l .modules) (orderAt A l order) → {m : ℕ} (i : ℕ)
+    → i < order → m ≡ getD A (orderBase l + i) 0 → m < l .modules
 order-known A l order each i h e = rw e (each-rows {P = λ m. m < l .modules} (λ j. getD A (orderBase l + j) 0) order i each h)
 
 -- a bound on all imports

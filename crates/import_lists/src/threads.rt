@@ -41,8 +41,10 @@ fn gather(words: &[u32], area: &mut [u32], l: Layout) -> usize
 // Threads the entries by module, the last first.
 fn thread_entries(words: &[u32], area: &mut [u32], n: usize)
     requires { ⌜ (length (now area) ≡ areaLimit) × (entriesRoom + n ≤ headsRoom) ⌝ }
-    requires { ⌜ ((b : ℕ) → b < moduleLimit → getD (now area) (headsRoom + b) 0 ≡ 0) × ((j : ℕ) → j < n → entryOf (now words) (now area) n j .owner < moduleLimit) ⌝ }
-    ensures { λ _. ⌜ Threads moduleLimit headsRoom spareRoom (λ j. entryOf (now (words .entry)) (now (area .entry)) n j .owner) n (now (area .entry)) (now (area .exit)) ⌝ }
+    requires { ⌜ ((b : ℕ) → b < moduleLimit → getD (now area) (headsRoom + b) 0 ≡ 0)
+        × ((j : ℕ) → j < n → entryOf (now words) (now area) n j .owner < moduleLimit) ⌝ }
+    ensures { λ _. ⌜ Threads moduleLimit headsRoom spareRoom (λ j. entryOf (now (words .entry)) (now (area .entry)) n j .owner) n
+        (now (area .entry)) (now (area .exit)) ⌝ }
 {
     let mut j = 0;
     while j < n {
@@ -56,8 +58,10 @@ fn thread_entries(words: &[u32], area: &mut [u32], n: usize)
 // Threads the members by parent, the last first.
 fn thread_members(words: &[u32], area: &mut [u32], l: Layout)
     requires { ⌜ (length (now area) ≡ areaLimit) × (memberLinksRoom + l .members ≤ areaLimit) × (wordCount l ≤ wordLimit) ⌝ }
-    requires { ⌜ ((b : ℕ) → b < definitionLimit → getD (now area) (memberHeadsRoom + b) 0 ≡ 0) × ((j : ℕ) → j < l .members → memberOf (now words) l j .parent < definitionLimit) ⌝ }
-    ensures { λ _. ⌜ Threads definitionLimit memberHeadsRoom memberLinksRoom (λ j. memberOf (now (words .entry)) l j .parent) (l .members) (now (area .entry)) (now (area .exit)) ⌝ }
+    requires { ⌜ ((b : ℕ) → b < definitionLimit → getD (now area) (memberHeadsRoom + b) 0 ≡ 0)
+        × ((j : ℕ) → j < l .members → memberOf (now words) l j .parent < definitionLimit) ⌝ }
+    ensures { λ _. ⌜ Threads definitionLimit memberHeadsRoom memberLinksRoom (λ j. memberOf (now (words .entry)) l j .parent)
+        (l .members) (now (area .entry)) (now (area .exit)) ⌝ }
 {
     let base = l.member_base();
     let count = l.members;
@@ -72,7 +76,8 @@ fn thread_members(words: &[u32], area: &mut [u32], l: Layout)
 /// Threads the public entries, in order, and the members; answers how many entries there are.
 pub fn thread(words: &[u32], area: &mut [u32], l: Layout) -> usize
     requires { ⌜ Ready (now words) (now area) l ⌝ }
-    ensures { λ r. ⌜ Threaded (now (words .entry)) (now (area .exit)) l r × ((i : ℕ) → i < entriesRoom → getD (now (area .exit)) i 0 ≡ getD (now (area .entry)) i 0) ⌝ }
+    ensures { λ r. ⌜ Threaded (now (words .entry)) (now (area .exit)) l r
+        × ((i : ℕ) → i < entriesRoom → getD (now (area .exit)) i 0 ≡ getD (now (area .entry)) i 0) ⌝ }
 {
     let n = gather(words, area, l);
     sort(words, area, l, Lists::ENTRIES, n);

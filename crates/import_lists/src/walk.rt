@@ -56,7 +56,8 @@ fn pile_base(l: Layout) -> usize
 // Puts the module that an entry names, if it names one, on the pile of so many.
 fn push(words: &[u32], area: &mut [u32], l: Layout, entry: usize, top: usize) -> usize
     requires { ⌜ Ready (now words) (now area) l × (top ≤ l .scopes) × (scopeAt (now words) entry .definition < l .definitions) ⌝ }
-    ensures { λ r. ⌜ Pushed l top (piled (snapOf (now (words .entry)) (now (area .entry)) l) (scopeAt (now (words .entry)) entry ∷ []) (pileAt (now (area .entry)) l top)) (now (area .entry)) (now (area .exit)) r ⌝ }
+    ensures { λ r. ⌜ Pushed l top (piled (snapOf (now (words .entry)) (now (area .entry)) l) (scopeAt (now (words .entry)) entry ∷ [])
+        (pileAt (now (area .entry)) l top)) (now (area .entry)) (now (area .exit)) r ⌝ }
 {
     let d = scope_definition(words, entry);
     if kind_of(words, l, d) != DefinitionKind::MODULE {
@@ -77,8 +78,11 @@ fn push_modules(
     m: ModuleId,
     top: usize,
 ) -> usize
-    requires { ⌜ Threaded (now words) (now area) l n × (m .0 < moduleLimit) × (top + length (entriesOf (snapOf (now words) (now area) l) (m .0)) ≤ l .scopes + 1) ⌝ }
-    ensures { λ r. ⌜ Pushed l top (piled (snapOf (now (words .entry)) (now (area .entry)) l) (entriesOf (snapOf (now (words .entry)) (now (area .entry)) l) (m .0)) (pileAt (now (area .entry)) l top)) (now (area .entry)) (now (area .exit)) r ⌝ }
+    requires { ⌜ Threaded (now words) (now area) l n × (m .0 < moduleLimit)
+        × (top + length (entriesOf (snapOf (now words) (now area) l) (m .0)) ≤ l .scopes + 1) ⌝ }
+    ensures { λ r. ⌜ Pushed l top (piled (snapOf (now (words .entry)) (now (area .entry)) l)
+        (entriesOf (snapOf (now (words .entry)) (now (area .entry)) l) (m .0)) (pileAt (now (area .entry)) l top)) (now (area .entry))
+        (now (area .exit)) r ⌝ }
 {
     let mut t = top;
     let mut at = word(area, Lists::HEADS + m.0);

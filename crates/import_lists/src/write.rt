@@ -42,7 +42,8 @@ fn put_import(
     m: ModuleId,
     bits: usize,
 ) -> usize
-    requires { ⌜ Bounded (newImport (c .0) ns (d .0) (name .0) (m .0) bits) × Space write at (newImport (c .0) ns (d .0) (name .0) (m .0) bits ∷ []) (now target) ⌝ }
+    requires { ⌜ Bounded (newImport (c .0) ns (d .0) (name .0) (m .0) bits)
+        × Space write at (newImport (c .0) ns (d .0) (name .0) (m .0) bits ∷ []) (now target) ⌝ }
     ensures { λ r. ⌜ Wrote write at (newImport (c .0) ns (d .0) (name .0) (m .0) bits ∷ []) (now (target .entry)) (now (target .exit)) r ⌝ }
 {
     if write {
@@ -78,7 +79,8 @@ fn put_member(
 ) -> usize
     requires { ⌜ Bounded (memberImport (c .0) (scopeAt (now words) entry) (memberAt (now words) member)) ⌝ }
     requires { ⌜ Space write at (keptImports (c .0) (scopeAt (now words) entry) (memberAt (now words) member ∷ [])) (now target) ⌝ }
-    ensures { λ r. ⌜ Wrote write at (keptImports (c .0) (scopeAt (now (words .entry)) entry) (memberAt (now (words .entry)) member ∷ [])) (now (target .entry)) (now (target .exit)) r ⌝ }
+    ensures { λ r. ⌜ Wrote write at (keptImports (c .0) (scopeAt (now (words .entry)) entry) (memberAt (now (words .entry)) member ∷ []))
+        (now (target .entry)) (now (target .exit)) r ⌝ }
 {
     let kind = member_kind(words, member);
     if kind == 3 {
@@ -105,7 +107,8 @@ fn put_members(
 ) -> usize
     requires { ⌜ Listed (now words) (now area) l (c .0) (scopeAt (now words) entry) ⌝ }
     requires { ⌜ Space write at (membersOf (snapOf (now words) (now area) l) (c .0) (scopeAt (now words) entry)) (now target) ⌝ }
-    ensures { λ r. ⌜ Wrote write at (membersOf (snapOf (now (words .entry)) (now (area .entry)) l) (c .0) (scopeAt (now (words .entry)) entry)) (now (target .entry)) (now (target .exit)) r ⌝ }
+    ensures { λ r. ⌜ Wrote write at (membersOf (snapOf (now (words .entry)) (now (area .entry)) l) (c .0) (scopeAt (now (words .entry)) entry))
+        (now (target .entry)) (now (target .exit)) r ⌝ }
 {
     let d = scope_definition(words, entry);
     let base = l.member_base();
@@ -132,7 +135,8 @@ fn put_entry(
 ) -> usize
     requires { ⌜ Listed (now words) (now area) l (c .0) (scopeAt (now words) entry) ⌝ }
     requires { ⌜ Space write at (importsOf (snapOf (now words) (now area) l) (c .0) (scopeAt (now words) entry)) (now target) ⌝ }
-    ensures { λ r. ⌜ Wrote write at (importsOf (snapOf (now (words .entry)) (now (area .entry)) l) (c .0) (scopeAt (now (words .entry)) entry)) (now (target .entry)) (now (target .exit)) r ⌝ }
+    ensures { λ r. ⌜ Wrote write at (importsOf (snapOf (now (words .entry)) (now (area .entry)) l) (c .0) (scopeAt (now (words .entry)) entry))
+        (now (target .entry)) (now (target .exit)) r ⌝ }
 {
     let t = put_members(words, area, l, target, at, write, c, entry);
     let ns = scope_ns(words, entry);
@@ -156,8 +160,10 @@ fn put_module(
     m: ModuleId,
 ) -> usize
     requires { ⌜ Threaded (now words) (now area) l n × (c .0 < l .crates) × (m .0 < moduleLimit) ⌝ }
-    requires { ⌜ Space write at (importsIn (snapOf (now words) (now area) l) (c .0) (entriesOf (snapOf (now words) (now area) l) (m .0))) (now target) ⌝ }
-    ensures { λ r. ⌜ Wrote write at (importsIn (snapOf (now (words .entry)) (now (area .entry)) l) (c .0) (entriesOf (snapOf (now (words .entry)) (now (area .entry)) l) (m .0))) (now (target .entry)) (now (target .exit)) r ⌝ }
+    requires { ⌜ Space write at (importsIn (snapOf (now words) (now area) l) (c .0) (entriesOf (snapOf (now words) (now area) l) (m .0)))
+        (now target) ⌝ }
+    ensures { λ r. ⌜ Wrote write at (importsIn (snapOf (now (words .entry)) (now (area .entry)) l) (c .0)
+        (entriesOf (snapOf (now (words .entry)) (now (area .entry)) l) (m .0))) (now (target .entry)) (now (target .exit)) r ⌝ }
 {
     let mut t = at;
     let mut k = word(area, Lists::HEADS + m.0);
@@ -181,9 +187,11 @@ pub fn put_modules(
     write: bool,
     c: Crate,
 ) -> usize
-    requires { ⌜ Threaded (now words) (now area) l n × (c .0 < l .crates) × (order ≤ l .scopes + 1) × Each (λ m. m < l .modules) (orderAt (now area) l order) ⌝ }
+    requires { ⌜ Threaded (now words) (now area) l n × (c .0 < l .crates) × (order ≤ l .scopes + 1)
+        × Each (λ m. m < l .modules) (orderAt (now area) l order) ⌝ }
     requires { ⌜ Space write at (importsOver (snapOf (now words) (now area) l) (c .0) (orderAt (now area) l order)) (now target) ⌝ }
-    ensures { λ r. ⌜ Wrote write at (importsOver (snapOf (now (words .entry)) (now (area .entry)) l) (c .0) (orderAt (now (area .entry)) l order)) (now (target .entry)) (now (target .exit)) r ⌝ }
+    ensures { λ r. ⌜ Wrote write at (importsOver (snapOf (now (words .entry)) (now (area .entry)) l) (c .0) (orderAt (now (area .entry)) l order))
+        (now (target .entry)) (now (target .exit)) r ⌝ }
 {
     let base = order_base(l);
     let mut t = at;

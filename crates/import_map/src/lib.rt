@@ -36,7 +36,8 @@ fn is_import(words: &[u32], l: Layout, h: usize, c: Crate, item: Item) -> bool
 /// The next of the crate's imports of the item, from the import number k on.
 pub fn import_info_for(words: &[u32], l: Layout, k: usize, c: Crate, item: Item) -> Next
     requires { ⌜ wordCount l < 2 ^ 32 ⌝ }
-    ensures { λ r. ⌜ ((A : List ℕ) → NextOf (isImport (snapOf (now (words .entry)) A l) (c .0) item) importAt importSize (now (words .entry)) (importBase l) (l .imports) k r) ⌝ }
+    ensures { λ r. ⌜ ((A : List ℕ) → NextOf (isImport (snapOf (now (words .entry)) A l) (c .0) item) importAt importSize
+        (now (words .entry)) (importBase l) (l .imports) k r) ⌝ }
 {
     let base = l.import_base();
     let mut j = k;

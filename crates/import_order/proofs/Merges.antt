@@ -120,14 +120,17 @@ module _ (W : List ℕ) (before : Scope → Scope → Bool) (whole : List Scope)
         ap (λ x. scopeAt W (getD (stored v) x 0)) e ∙ ap (scopeAt W) (getD-set-same B (from + i + j) v 0 (omega arith)))
 
     firsts-stay : (v k c : ℕ) → rows (firsts B) k c ≡ rows (firsts (stored v)) k c
-    firsts-stay v k c = let s = g .second in rows-from _ _ k c (λ q p u. ap (scopeAt W) (sym (getD-set-other B (from + i + j) (6720 + q) v 0 (λ e. omega arith))))
+    firsts-stay v k c = let s = g .second in rows-from _ _ k c
+        (λ q p u. ap (scopeAt W) (sym (getD-set-other B (from + i + j) (6720 + q) v 0 (λ e. omega arith))))
 
     seconds-stay : (v k c : ℕ) → j ≤ k → rows (seconds B) k c ≡ rows (seconds (stored v)) k c
     seconds-stay v k c h = rows-from _ _ k c (λ q p u. ap (scopeAt W) (sym (getD-set-other B (from + i + j) (from + m + q) v 0 (λ e. omega arith))))
 
-    extend : (v : ℕ) (rest : List Scope) (more : ℕ) → more ≡ i + j + 1 → whole ≡ entriesAt W B from (i + j) ++ (scopeAt W v ∷ rest) → whole ≡ entriesAt W (stored v) from more ++ rest
+    extend : (v : ℕ) (rest : List Scope) (more : ℕ) → more ≡ i + j + 1 → whole ≡ entriesAt W B from (i + j) ++ (scopeAt W v ∷ rest)
+        → whole ≡ entriesAt W (stored v) from more ++ rest
     extend v rest more q e =
-        e ∙ sym (append-assoc (entriesAt W B from (i + j)) (scopeAt W v ∷ []) rest) ∙ ap (λ r. r ++ rest) (sym (put v)) ∙ ap (λ x. entriesAt W (stored v) from x ++ rest) (sym q)
+        e ∙ sym (append-assoc (entriesAt W B from (i + j)) (scopeAt W v ∷ []) rest) ∙ ap (λ r. r ++ rest) (sym (put v))
+        ∙ ap (λ x. entriesAt W (stored v) from x ++ rest) (sym q)
 
     merging-second : (v : ℕ) → j < n → before (seconds B j) (firsts B i) ≡ true → v ≡ getD B (from + m + j) 0
         → Merging W before whole A (set B (from + i + j) v) from m n i (j + 1)
@@ -142,7 +145,8 @@ module _ (W : List ℕ) (before : Scope → Scope → Bool) (whole : List Scope)
               (ap₂ (mergeBy before) (rows-next (firsts B) i m some) (rows-next (seconds B) j n h)
               ∙ merge-second before (firsts B i) (seconds B j) (rows (firsts B) (i + 1) (m - (i + 1))) (rows (seconds B) (j + 1) (n - (j + 1))) t
               ∙ ap₂ (λ x r. scopeAt W x ∷ r) (sym e)
-              (ap₂ (mergeBy before) (sym (rows-next (firsts B) i m some) ∙ firsts-stay v i (m - i)) (seconds-stay v (j + 1) (n - (j + 1)) (omega arith)))));
+              (ap₂ (mergeBy before) (sym (rows-next (firsts B) i m some) ∙ firsts-stay v i (m - i))
+              (seconds-stay v (j + 1) (n - (j + 1)) (omega arith)))));
         }
 
     merging-first : (v : ℕ) → (ltb j n && before (seconds B j) (firsts B i)) ≡ false → v ≡ getD B (6720 + i) 0
@@ -174,15 +178,18 @@ module _ (W : List ℕ) (before : Scope → Scope → Bool) (whole : List Scope)
             (λ p.
             let h = ltb-true j n p in
             ap (mergeBy before (firsts B i ∷ rest)) (rows-next (seconds B) j n h)
-            ∙ merge-first before (firsts B i) (seconds B j) rest (rows (seconds B) (j + 1) (n - (j + 1))) (unlike (before (seconds B j) (firsts B i)) p t)
+            ∙ merge-first before (firsts B i) (seconds B j) rest (rows (seconds B) (j + 1) (n - (j + 1)))
+            (unlike (before (seconds B j) (firsts B i)) p t)
             ∙ ap (λ r. firsts B i ∷ mergeBy before rest r) (sym (rows-next (seconds B) j n h)))
             (λ p.
             let h = ltb-false j n p in
             ap (mergeBy before (firsts B i ∷ rest)) (rows-none (seconds B) j n h) ∙ merge-none before (firsts B i ∷ rest)
-            ∙ ap (λ r. firsts B i ∷ r) (sym (merge-none before rest)) ∙ ap (λ r. firsts B i ∷ mergeBy before rest r) (sym (rows-none (seconds B) j n h)))
+            ∙ ap (λ r. firsts B i ∷ r) (sym (merge-none before rest)) ∙ ap (λ r. firsts B i ∷ mergeBy before rest r)
+            (sym (rows-none (seconds B) j n h)))
 
     -- as the code tests it, by the order of the area as it is
-    module _ (order : Scope → Scope → Bool) (same : order ≡ before) {r : Bool} (e : r ≡ (ltb (from + m + j) (from + m + n) && order (seconds B j) (firsts B i))) where
+    module _ (order : Scope → Scope → Bool) (same : order ≡ before) {r : Bool}
+        (e : r ≡ (ltb (from + m + j) (from + m + n) && order (seconds B j) (firsts B i))) where
       shorter : ltb (from + m + j) (from + m + n) ≡ ltb j n
       shorter = by-test (ltb j n) (λ t. let h = ltb-true j n t in lt-ltb (from + m + j) (from + m + n) (omega arith) ∙ sym t)
           (λ t. let h = ltb-false j n t in le-ltb (from + m + j) (from + m + n) (omega arith) ∙ sym t)
@@ -207,7 +214,8 @@ merging-done W before whole A B from m n i j h g =
     let q = g .second in
     let e : i ≡ m = omega arith in
     let u : m + n ≡ i + j + (n - j) = omega arith in
-    sym (g .left ∙ ap (λ r. entriesAt W B from (i + j) ++ mergeBy before r (rows (λ k. scopeAt W (getD B (from + m + k) 0)) j (n - j))) (rows-none (λ k. scopeAt W (getD B (6720 + k) 0)) i m h)
+    sym (g .left ∙ ap (λ r. entriesAt W B from (i + j) ++ mergeBy before r (rows (λ k. scopeAt W (getD B (from + m + k) 0)) j (n - j)))
+    (rows-none (λ k. scopeAt W (getD B (6720 + k) 0)) i m h)
     ∙ ap (λ r. entriesAt W B from (i + j) ++ r)
     (rows-shift (λ k. scopeAt W (getD B (from + m + k) 0)) j (n - j)
     ∙ rows-ext _ _ (n - j) (λ k r. let z : from + m + (j + k) ≡ from + (i + j + k) = omega arith in ap (λ x. scopeAt W (getD B x 0)) z))
@@ -243,7 +251,8 @@ merged {W} {A} {B} {C} {l} {from} {m} {n} {i} {j} r fits h c g =
           };
       same =
           merging-done W (orderOf W B l) (mergeBy (orderOf W B l) (entriesAt W B 6720 m) (entriesAt W B (from + m) n)) B C from m n i j h g
-          ∙ ap₂ (mergeBy (orderOf W B l)) (rows-ext _ _ m (λ k p. ap (scopeAt W) (c .there k p))) (rows-ext _ _ n (λ k p. ap (scopeAt W) (c .below (from + m + k) (omega arith))))
+          ∙ ap₂ (mergeBy (orderOf W B l)) (rows-ext _ _ m (λ k p. ap (scopeAt W) (c .there k p)))
+          (rows-ext _ _ n (λ k p. ap (scopeAt W) (c .below (from + m + k) (omega arith))))
           ∙ ap (λ b. mergeBy b (entriesAt W A from m) (entriesAt W A (from + m) n)) (copied-order r c);
     }
 
@@ -285,6 +294,7 @@ sorts-halves {W} {A} {B} {C} {D} {l} {from} {m} {n} total r high fits q s₁ s�
           ∙ sorted-merge before (entry-order _) (entriesAt W A from m) (entriesAt W A (from + m) n)
           ∙ ap (sortInto before [])
           (sym (rows-parts (λ k. scopeAt W (getD A (from + k) 0)) m n
-          ∙ ap (λ x. entriesAt W A from m ++ x) (rows-ext _ _ n (λ k h. let z : from + (m + k) ≡ from + m + k = omega arith in ap (λ x. scopeAt W (getD A x 0)) z))))
+          ∙ ap (λ x. entriesAt W A from m ++ x)
+          (rows-ext _ _ n (λ k h. let z : from + (m + k) ≡ from + m + k = omega arith in ap (λ x. scopeAt W (getD A x 0)) z))))
           ∙ ap (λ x. sortInto before [] (entriesAt W A from x)) q;
     }

@@ -92,7 +92,8 @@ head-greater x y xs ys h = let q : y ≤ x = omega arith in rw (textBefore, le-l
 
 -- of two numbers
 by-order : {C : Type 0} (x y : ℕ) → (x < y → C) → (x ≡ y → C) → (y < x → C) → C
-by-order x y p q r = by-test (ltb x y) (λ t. p (ltb-true x y t)) (λ t. by-test (eqb x y) (λ u. q (eqb-true x y u)) (λ u. r (let v = ltb-false x y t in let w : (x ≡ y → ⊥) = eqb-false x y u in omega (arith, w))))
+by-order x y p q r = by-test (ltb x y) (λ t. p (ltb-true x y t)) (λ t. by-test (eqb x y) (λ u. q (eqb-true x y u))
+    (λ u. r (let v = ltb-false x y t in let w : (x ≡ y → ⊥) = eqb-false x y u in omega (arith, w))))
 
 never-false : {C : Type 0} → false ≡ true → C
 never-false e = absurd (true≢false (sym e))
@@ -106,7 +107,8 @@ text-through (x ∷ xs) [] c p q = never-false p
 text-through (x ∷ xs) (y ∷ ys) [] p q = never-false q
 text-through (x ∷ xs) (y ∷ ys) (z ∷ zs) p q =
     by-order x y
-    (λ h. by-order y z (λ g. head-less x z xs zs (omega arith)) (λ g. head-less x z xs zs (omega arith)) (λ g. never-false (sym (head-greater y z ys zs g) ∙ q)))
+    (λ h. by-order y z (λ g. head-less x z xs zs (omega arith)) (λ g. head-less x z xs zs (omega arith))
+    (λ g. never-false (sym (head-greater y z ys zs g) ∙ q)))
     (λ h. by-order y z
     (λ g. head-less x z xs zs (omega arith))
     (λ g. head-same x z xs zs (omega arith) ∙ text-through xs ys zs (sym (head-same x y xs ys h) ∙ p) (sym (head-same y z ys zs g) ∙ q))
@@ -127,7 +129,8 @@ text-between (x ∷ xs) (y ∷ ys) (z ∷ zs) p q =
     (λ g. head-less y z ys zs (omega arith))
     (λ g. head-same y z ys zs (omega arith) ∙ text-between xs ys zs (sym (head-same x z xs zs g) ∙ p) (sym (head-same x y xs ys h) ∙ q))
     (λ g. never-false (sym (head-greater x z xs zs g) ∙ p)))
-    (λ h. by-order x z (λ g. head-less y z ys zs (omega arith)) (λ g. head-less y z ys zs (omega arith)) (λ g. never-false (sym (head-greater x z xs zs g) ∙ p)))
+    (λ h. by-order x z (λ g. head-less y z ys zs (omega arith)) (λ g. head-less y z ys zs (omega arith))
+    (λ g. never-false (sym (head-greater x z xs zs g) ∙ p)))
 
 -- the order by a text and a number
 
@@ -200,6 +203,7 @@ module _ (s : Snapshot) (x y : Scope) {p q m n : ℕ} (ep : p ≡ x .name) (eq :
   unfolding entryBefore
   entry-text h = rw (entryBefore, ← ep, ← eq, h)
 
-  pub entry-other : {a : Bool} → textBefore (textOf s p) (textOf s q) ≡ false → a ≡ textBefore (textOf s q) (textOf s p) → (not a && ltb m n) ≡ entryBefore s x y
+  pub entry-other : {a : Bool} → textBefore (textOf s p) (textOf s q) ≡ false → a ≡ textBefore (textOf s q) (textOf s p)
+      → (not a && ltb m n) ≡ entryBefore s x y
   unfolding entryBefore
   entry-other h e = rw (entryBefore, ← ep, ← eq, h, e, em, en)

@@ -1,9 +1,8 @@
 -- Sorting by parts: two sorted parts merged are the whole sorted; the elements of a sort that pass a test are the sort of those that pass.
-use Prim.Native.Nat.{_+_}
 use mathlib.Core.Path.{_≡_, refl, sym, _∙_, ap}
 use mathlib.Core.List.{List, [], _∷_, _++_}
 use mathlib.Core.Bool.{Bool, true, false, _&&_, not, true≢false}
-use Rattle.snapshot.specs.Lists.{any, all}
+use Rattle.snapshot.specs.Lists.{all}
 use Rattle.accept.proofs.Accepted.{by-test}
 use Rattle.hir_def.specs.Finds.{select}
 use Rattle.search_laws.proofs.Walks.{select-hit, select-miss}
@@ -46,23 +45,29 @@ module _ {A : Type 0} (before : A → A → Bool) where
     insert-merge x (a ∷ us) [] =
         by-test (before x a)
         (λ t. insert-yes x a us t ∙ sym (merge-second a x us [] t))
-        (λ t. insert-no x a us t ∙ ap (λ r. a ∷ r) (ap (insertBy before x) (sym (merge-none us)) ∙ insert-merge x us []) ∙ sym (merge-first a x us [] t))
+        (λ t. insert-no x a us t ∙ ap (λ r. a ∷ r) (ap (insertBy before x) (sym (merge-none us)) ∙ insert-merge x us [])
+        ∙ sym (merge-first a x us [] t))
     insert-merge x (a ∷ us) (b ∷ vs) =
         by-test (before b a)
         (λ t. by-test (before x b)
-        (λ u. ap (insertBy before x) (merge-second a b us vs t) ∙ insert-yes x b (mergeBy before (a ∷ us) vs) u ∙ ap (λ r. x ∷ r) (sym (merge-second a b us vs t))
+        (λ u. ap (insertBy before x) (merge-second a b us vs t) ∙ insert-yes x b (mergeBy before (a ∷ us) vs) u
+        ∙ ap (λ r. x ∷ r) (sym (merge-second a b us vs t))
         ∙ sym (merge-second a x us (b ∷ vs) (o .through x b a u t)) ∙ ap (mergeBy before (a ∷ us)) (sym (insert-yes x b vs u)))
-        (λ u. ap (insertBy before x) (merge-second a b us vs t) ∙ insert-no x b (mergeBy before (a ∷ us) vs) u ∙ ap (λ r. b ∷ r) (insert-merge x (a ∷ us) vs)
+        (λ u. ap (insertBy before x) (merge-second a b us vs t) ∙ insert-no x b (mergeBy before (a ∷ us) vs) u
+        ∙ ap (λ r. b ∷ r) (insert-merge x (a ∷ us) vs)
         ∙ sym (merge-second a b us (insertBy before x vs) t) ∙ ap (mergeBy before (a ∷ us)) (sym (insert-no x b vs u))))
         (λ t. by-test (before x b)
         (λ u. by-test (before x a)
-        (λ v. ap (insertBy before x) (merge-first a b us vs t) ∙ insert-yes x a (mergeBy before us (b ∷ vs)) v ∙ ap (λ r. x ∷ r) (sym (merge-first a b us vs t))
+        (λ v. ap (insertBy before x) (merge-first a b us vs t) ∙ insert-yes x a (mergeBy before us (b ∷ vs)) v
+        ∙ ap (λ r. x ∷ r) (sym (merge-first a b us vs t))
         ∙ sym (merge-second a x us (b ∷ vs) v) ∙ ap (mergeBy before (a ∷ us)) (sym (insert-yes x b vs u)))
-        (λ v. ap (insertBy before x) (merge-first a b us vs t) ∙ insert-no x a (mergeBy before us (b ∷ vs)) v ∙ ap (λ r. a ∷ r) (insert-merge x us (b ∷ vs) ∙ ap (mergeBy before us) (insert-yes x b vs u))
+        (λ v. ap (insertBy before x) (merge-first a b us vs t) ∙ insert-no x a (mergeBy before us (b ∷ vs)) v
+        ∙ ap (λ r. a ∷ r) (insert-merge x us (b ∷ vs) ∙ ap (mergeBy before us) (insert-yes x b vs u))
         ∙ sym (merge-first a x us (b ∷ vs) v) ∙ ap (mergeBy before (a ∷ us)) (sym (insert-yes x b vs u))))
         (λ u.
         let v : before x a ≡ false = by-test (before x a) (λ w. absurd (true≢false (sym (o .between x b a w u) ∙ t))) (λ w. w) in
-        ap (insertBy before x) (merge-first a b us vs t) ∙ insert-no x a (mergeBy before us (b ∷ vs)) v ∙ ap (λ r. a ∷ r) (insert-merge x us (b ∷ vs) ∙ ap (mergeBy before us) (insert-no x b vs u))
+        ap (insertBy before x) (merge-first a b us vs t) ∙ insert-no x a (mergeBy before us (b ∷ vs)) v
+        ∙ ap (λ r. a ∷ r) (insert-merge x us (b ∷ vs) ∙ ap (mergeBy before us) (insert-no x b vs u))
         ∙ sym (merge-first a b us (insertBy before x vs) t) ∙ ap (mergeBy before (a ∷ us)) (sym (insert-no x b vs u))))
 
     sort-merge : (us vs xs : List A) → sortInto before (mergeBy before us vs) xs ≡ mergeBy before us (sortInto before vs xs)
@@ -77,7 +82,8 @@ module _ {A : Type 0} (before : A → A → Bool) where
 
   pub sorted-merge : Order before → (xs ys : List A) → mergeBy before (sortInto before [] xs) (sortInto before [] ys) ≡ sortInto before [] (xs ++ ys)
   sorted-merge o xs ys =
-      sym (sort-append [] xs ys ∙ ap (λ r. sortInto before r ys) (sym (merge-none (sortInto before [] xs))) ∙ sort-merge o (sortInto before [] xs) [] ys)
+      sym (sort-append [] xs ys ∙ ap (λ r. sortInto before r ys) (sym (merge-none (sortInto before [] xs)))
+      ∙ sort-merge o (sortInto before [] xs) [] ys)
 
 -- an ordered list: nothing later stands before an earlier element
 ordered : {A : Type 0} → (A → A → Bool) → List A → Bool
@@ -111,7 +117,8 @@ module _ {A : Type 0} (before : A → A → Bool) (o : Order before) where
   all-insert q x (y ∷ ys) p h =
       by-test (before x y)
       (λ t. ap (all q) (insert-yes before x y ys t) ∙ and-true (q x) (all q (y ∷ ys)) p h)
-      (λ t. ap (all q) (insert-no before x y ys t) ∙ and-true (q y) (all q (insertBy before x ys)) (and-first (q y) (all q ys) h) (all-insert q x ys p (and-second (q y) (all q ys) h)))
+      (λ t. ap (all q) (insert-no before x y ys t) ∙ and-true (q y) (all q (insertBy before x ys)) (and-first (q y) (all q ys) h)
+      (all-insert q x ys p (and-second (q y) (all q ys) h)))
 
   -- what stands before the first of an ordered list stands before all of it
   before-all : (x y : A) (ys : List A) → before x y ≡ true → ordered before (y ∷ ys) ≡ true → all (before x) (y ∷ ys) ≡ true
@@ -160,7 +167,8 @@ module _ {A : Type 0} (before : A → A → Bool) (o : Order before) where
         (λ t. ap (select p) (insert-yes before x y ys t) ∙ select-hit p x (y ∷ ys) h
         ∙ sym (insert-front x (select p (y ∷ ys)) (all-select (before x) (y ∷ ys) (before-all x y ys t g))))
         (λ t. ap (select p) (insert-no before x y ys t) ∙ by-test (p y)
-        (λ u. select-hit p y (insertBy before x ys) u ∙ ap (λ r. y ∷ r) rest ∙ sym (insert-no before x y (select p ys) t) ∙ ap (insertBy before x) (sym (select-hit p y ys u)))
+        (λ u. select-hit p y (insertBy before x ys) u ∙ ap (λ r. y ∷ r) rest ∙ sym (insert-no before x y (select p ys) t)
+        ∙ ap (insertBy before x) (sym (select-hit p y ys u)))
         (λ u. select-miss p y (insertBy before x ys) u ∙ rest ∙ ap (insertBy before x) (sym (select-miss p y ys u))))
 
     select-out : (x : A) (ys : List A) → p x ≡ false → select p (insertBy before x ys) ≡ select p ys

@@ -20,7 +20,8 @@ unfolding insertBy
 length-insert before x [] = refl
 length-insert {A} before x (y ∷ ys) = by (before x y) (length-insert before x ys)
   where
-    by : (b : Bool) → length (insertBy before x ys) ≡ suc (length ys) → length {A = A} (elim b [ true ↦ x ∷ y ∷ ys | false ↦ y ∷ insertBy before x ys ]) ≡ suc (suc (length ys))
+    by : (b : Bool) → length (insertBy before x ys) ≡ suc (length ys)
+        → length {A = A} (elim b [ true ↦ x ∷ y ∷ ys | false ↦ y ∷ insertBy before x ys ]) ≡ suc (suc (length ys))
     by true p = refl
     by false p = ap suc p
 
@@ -37,14 +38,16 @@ unfolding piled
 length-piled s [] ws = omega arith
 length-piled s (e ∷ es) ws = by (eqb (definitionOf s (e .definition) .kind) moduleKind) (length-piled s es)
   where
-    by : (b : Bool) → ((vs : List ℕ) → length (piled s es vs) ≤ length es + length vs) → length (piled s es (elim b [ true ↦ definitionOf s (e .definition) .first ∷ ws | false ↦ ws ])) ≤ suc (length es) + length ws
+    by : (b : Bool) → ((vs : List ℕ) → length (piled s es vs) ≤ length es + length vs)
+        → length (piled s es (elim b [ true ↦ definitionOf s (e .definition) .first ∷ ws | false ↦ ws ])) ≤ suc (length es) + length ws
     by true f = let p = f (definitionOf s (e .definition) .first ∷ ws) in omega arith
     by false f = let p = f ws in omega arith
 
 -- a visit takes a module's entries out of those that wait
 module _ (m : ℕ) (seen : List ℕ) (new : any (eqb m) seen ≡ false) where
   one : (own public old : Bool) (a b c : ℕ) → (own ≡ true → old ≡ false) → a + b ≤ c
-      → _≤_ (elim (own && public) [ true ↦ suc a | false ↦ a ] + elim (own || old) [ true ↦ b | false ↦ suc b ]) (elim old [ true ↦ c | false ↦ suc c ])
+      → _≤_ (elim (own && public) [ true ↦ suc a | false ↦ a ] + elim (own || old) [ true ↦ b | false ↦ suc b ])
+      (elim old [ true ↦ c | false ↦ suc c ])
   one true true true a b c h p = absurd (true≢false (h refl))
   one true true false a b c h p = omega arith
   one true false true a b c h p = omega arith
@@ -56,9 +59,14 @@ module _ (m : ℕ) (seen : List ℕ) (new : any (eqb m) seen ≡ false) where
   unfolding waiting select any
   taken-out [] = omega arith
   taken-out (e ∷ es) =
-      subst (λ x. _≤_ (x + elim (eqb (e .owner) m || any (eqb (e .owner)) seen) [ true ↦ waiting (m ∷ seen) es | false ↦ suc (waiting (m ∷ seen) es) ]) (elim (any (eqb (e .owner)) seen) [ true ↦ waiting seen es | false ↦ suc (waiting seen es) ]))
+      subst (λ x. _≤_ (x + elim (eqb (e .owner) m || any (eqb (e .owner)) seen) [
+        | true ↦ waiting (m ∷ seen) es
+        | false ↦ suc
+            (waiting (m ∷ seen) es)
+      ]) (elim (any (eqb (e .owner)) seen) [ true ↦ waiting seen es | false ↦ suc (waiting seen es) ]))
       (by (isPublicIn m e))
-      (one (eqb (e .owner) m) (eqb (e .visibility) 0) (any (eqb (e .owner)) seen) (length (select (isPublicIn m) es)) (waiting (m ∷ seen) es) (waiting seen es)
+      (one (eqb (e .owner) m) (eqb (e .visibility) 0) (any (eqb (e .owner)) seen) (length (select (isPublicIn m) es))
+      (waiting (m ∷ seen) es) (waiting seen es)
       (λ t. ap (λ x. any (eqb x) seen) (eqb-true (e .owner) m t) ∙ new) (taken-out es))
     where
       by : (b : Bool) → elim b [ true ↦ suc (length (select (isPublicIn m) es)) | false ↦ length (select (isPublicIn m) es) ]
@@ -72,10 +80,12 @@ waiting-all [] = omega arith
 waiting-all (e ∷ es) = let p = waiting-all es in omega arith
 
 -- the entries of a module that was not visited are among those that wait
-pub entries-few : (m : ℕ) (s : Snapshot) (seen : List ℕ) → any (eqb m) seen ≡ false → length (entriesOf s m) + waiting (m ∷ seen) (s .scopes) ≤ waiting seen (s .scopes)
+pub entries-few : (m : ℕ) (s : Snapshot) (seen : List ℕ) → any (eqb m) seen ≡ false → length (entriesOf s m) + waiting (m ∷ seen)
+    (s .scopes) ≤ waiting seen (s .scopes)
 unfolding entriesOf
 entries-few m s seen t =
-    let b : length (entriesOf s m) ≡ 0 + length (select (isPublicIn m) (s .scopes)) = length-sort (entryBefore s) [] (select (isPublicIn m) (s .scopes)) in
+    let b : length (entriesOf s m) ≡ 0 + length (select (isPublicIn m) (s .scopes)) = length-sort (entryBefore s) []
+    (select (isPublicIn m) (s .scopes)) in
     let c = taken-out m seen t (s .scopes) in
     omega arith
 
@@ -88,7 +98,8 @@ room n m s seen ws h t =
     omega arith
 
 -- from any place on
-pub visits-same : (n k : ℕ) (s : Snapshot) (seen ws : List ℕ) → length ws + waiting seen (s .scopes) ≤ n → n ≤ k → visits k s seen ws ≡ visits n s seen ws
+pub visits-same : (n k : ℕ) (s : Snapshot) (seen ws : List ℕ) → length ws + waiting seen (s .scopes) ≤ n → n ≤ k
+    → visits k s seen ws ≡ visits n s seen ws
 unfolding visits
 visits-same zero zero s seen ws h p = refl
 visits-same zero (suc k) s seen [] h p = refl

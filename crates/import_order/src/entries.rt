@@ -12,7 +12,8 @@ use snapshot::record::scope_ns;
 /// Whether an entry stands before another, by their heads.
 pub fn entry_before(words: &[u32], area: &[u32], l: Layout, a: usize, b: usize) -> bool
     requires { ⌜ Reads (now words) (now area) l ⌝ }
-    ensures { λ r. ⌜ r ≡ entryBeforeOf (snapOf (now (words .entry)) (now (area .entry)) l) (scopeAt (now (words .entry)) a) (scopeAt (now (words .entry)) b) ⌝ }
+    ensures { λ r. ⌜ r ≡ entryBeforeOf (snapOf (now (words .entry)) (now (area .entry)) l) (scopeAt (now (words .entry)) a)
+        (scopeAt (now (words .entry)) b) ⌝ }
 {
     let x = scope_name(words, a);
     let y = scope_name(words, b);

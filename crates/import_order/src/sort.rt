@@ -55,7 +55,8 @@ fn second_first(
     end: usize,
 ) -> bool
     requires { ⌜ Reads (now words) (now area) l ⌝ }
-    ensures { λ r. ⌜ r ≡ (ltb second end && orderOf (now (words .entry)) (now (area .entry)) l (scopeAt (now (words .entry)) (getD (now (area .entry)) second 0)) (scopeAt (now (words .entry)) (getD (now (area .entry)) first 0))) ⌝ }
+    ensures { λ r. ⌜ r ≡ (ltb second end && orderOf (now (words .entry)) (now (area .entry)) l
+        (scopeAt (now (words .entry)) (getD (now (area .entry)) second 0)) (scopeAt (now (words .entry)) (getD (now (area .entry)) first 0))) ⌝ }
 {
     if end <= second {
         return false;

@@ -39,7 +39,8 @@ fn bytes_before(a: &[u32], n: usize, b: &[u32], m: usize) -> bool
 // The bytes of a name, none of a number that is no name's.
 fn bytes_of(words: &[u32], area: &[u32], l: Layout, n: Name) -> usize
     requires { ⌜ Reads (now words) (now area) l ⌝ }
-    ensures { λ r. ⌜ take r (unpacked (textAt (now (words .entry)) (nameHead (now (area .entry)) (n .0)))) ≡ textOf (snapOf (now (words .entry)) (now (area .entry)) l) (n .0) ⌝ }
+    ensures { λ r. ⌜ take r (unpacked (textAt (now (words .entry)) (nameHead (now (area .entry)) (n .0))))
+        ≡ textOf (snapOf (now (words .entry)) (now (area .entry)) l) (n .0) ⌝ }
     ensures { λ r. ⌜ r ≤ 3 * length (textAt (now (words .entry)) (nameHead (now (area .entry)) (n .0))) ⌝ }
 {
     if l.names <= n.0 {
@@ -51,7 +52,8 @@ fn bytes_of(words: &[u32], area: &[u32], l: Layout, n: Name) -> usize
 /// Whether a name stands before another by its text.
 pub fn text_before(words: &[u32], area: &[u32], l: Layout, x: Name, y: Name) -> bool
     requires { ⌜ Reads (now words) (now area) l ⌝ }
-    ensures { λ r. ⌜ r ≡ textBefore (textOf (snapOf (now (words .entry)) (now (area .entry)) l) (x .0)) (textOf (snapOf (now (words .entry)) (now (area .entry)) l) (y .0)) ⌝ }
+    ensures { λ r. ⌜ r ≡ textBefore (textOf (snapOf (now (words .entry)) (now (area .entry)) l) (x .0))
+        (textOf (snapOf (now (words .entry)) (now (area .entry)) l) (y .0)) ⌝ }
 {
     let n = bytes_of(words, area, l, x);
     let m = bytes_of(words, area, l, y);

@@ -7,14 +7,16 @@ use lib.Dec.{eqb}
 use Rattle.snapshot.specs.Lists.{rows, any, all, eqList}
 use Rattle.snapshot.specs.Words.{argumentsOf}
 use Rattle.check_rules.specs.Tests.{textBound, padded}
-use Rattle.check_rules.specs.Steps.{nameStep, crateStep, dependencyStep, mapStep, moduleStep, childStep, preludeStep, definitionStep, scopeStep, importStep, externStep, memberStep}
+use Rattle.check_rules.specs.Steps.{nameStep, crateStep, dependencyStep, mapStep, moduleStep, childStep, preludeStep, definitionStep, scopeStep}
+use Rattle.check_rules.specs.Steps.{importStep, externStep, memberStep}
 use Rattle.check_rules.specs.Verdict.{argumentsFrom, recordStep, stepAt, finish, records, verdict}
 use Rattle.check_rules.specs.Worked.{worked}
 use Rattle.hir_def.specs.Finds.{placeOf, select}
 use Rattle.hir_def.specs.Items.{definitionOf, rootOf, ownMap}
 use Rattle.path_choices.specs.Choices.{nameData}
 use Rattle.find_path.specs.Line.{unpacked, textOf}
-use Rattle.import_rules.specs.Collect.{textBefore, entryBefore, insertBy, sortInto, entriesOf, piled, visits, modulesFrom, memberNs, importsOf, importsIn, importsOver, collected, wordsOf}
+use Rattle.import_rules.specs.Collect.{textBefore, entryBefore, insertBy, sortInto, entriesOf, piled, visits, modulesFrom, memberNs, importsOf}
+use Rattle.import_rules.specs.Collect.{importsIn, importsOver, collected, wordsOf}
 use Rattle.import_rules.specs.Listings.{Listing, refusedBy, listed, listIn, listBy, listOf}
 
 -- the words of a work area, the snapshot, the crate, the words of the target, and what comes of it
@@ -47,5 +49,8 @@ pub worked-lists : agrees (record { area = 16384; words = worked; crate = 0; roo
     ∷ record { area = 16384; words = 0 ∷ []; crate = 1; room = 0; listing = refusedBy 31 }
     ∷ record { area = 16383; words = 0 ∷ []; crate = 1; room = 0; listing = refusedBy 20 }
     ∷ []) ≡ true
-unfolding agrees alike both listOf listBy listIn collected importsOver importsIn importsOf memberNs modulesFrom visits piled entriesOf sortInto insertBy entryBefore textBefore wordsOf textOf unpacked nameData definitionOf rootOf ownMap placeOf select verdict records stepAt recordStep finish argumentsFrom argumentsOf nameStep crateStep dependencyStep mapStep moduleStep childStep preludeStep definitionStep scopeStep importStep externStep memberStep textBound padded rows any all eqList
+unfolding agrees alike both listOf listBy listIn collected importsOver importsIn importsOf memberNs modulesFrom visits piled
+    entriesOf sortInto insertBy entryBefore textBefore wordsOf textOf unpacked nameData definitionOf rootOf ownMap placeOf select
+    verdict records stepAt recordStep finish argumentsFrom argumentsOf nameStep crateStep dependencyStep mapStep moduleStep childStep
+    preludeStep definitionStep scopeStep importStep externStep memberStep textBound padded rows any all eqList
 worked-lists = refl

@@ -17,7 +17,8 @@ use Rattle.accept.proofs.Valid.{accepted-valid}
 use Rattle.hir_def.specs.Finds.{select}
 use Rattle.hir_def.proofs.Found.{each-select}
 use Rattle.search_laws.proofs.Crates.{each-append}
-use Rattle.import_rules.specs.Collect.{insertBy, sortInto, entryBefore, isPublicIn, entriesOf, modulesFrom, isMemberOf, memberNs, memberImport, entryImport, importsOf, importsIn, importsOver, collected}
+use Rattle.import_rules.specs.Collect.{insertBy, sortInto, entryBefore, isPublicIn, entriesOf, modulesFrom, isMemberOf, memberNs, memberImport}
+use Rattle.import_rules.specs.Collect.{entryImport, importsOf, importsIn, importsOver, collected}
 use Rattle.import_words.specs.Words.{Fits}
 
 -- lists

@@ -16,7 +16,7 @@ use Rattle.check_rules.specs.Tests.{countsOf, sameEntry}
 use Rattle.check_rules.specs.Verdict.{accept, records, empty, verdict}
 use Rattle.accept.specs.Valid.{Each, Limits}
 use Rattle.accept.proofs.Ranges.{accepted-limits}
-use Rattle.edit_rules.specs.Entries.{movedScope, movedExtern, withLists, scopesEnd, inserted, cut}
+use Rattle.edit_rules.specs.Entries.{movedScope, movedExtern, withLists, scopesEnd, cut}
 use Rattle.scope_edits.proofs.Lists.{inserted-length, inserted-before, inserted-at, inserted-after, cut-length, cut-before, cut-after}
 use Rattle.scope_edits.proofs.Folded.{base, records-more, records-after, run-late, run-moved}
 use Rattle.scope_edits.proofs.Split.{verdict-is}

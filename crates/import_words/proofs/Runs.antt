@@ -13,7 +13,8 @@ use Rattle.snapshot.specs.Lists.{any}
 use Rattle.snapshot.specs.Words.{kindOf, argumentsAt}
 use Rattle.snapshot.specs.Sizes.{importSize}
 use Rattle.snapshot.specs.Records.{Snapshot, Import, Extern, Member, importAt, externAt, memberAt}
-use Rattle.check_rules.specs.Tests.{countsOf, importRange, importDefined, nsPlaced, externDefined, sameExtern, memberRange, memberDefined, memberPlaced}
+use Rattle.check_rules.specs.Tests.{countsOf, importRange, importDefined, nsPlaced, externDefined, sameExtern, memberRange, memberDefined}
+use Rattle.check_rules.specs.Tests.{memberPlaced}
 use Rattle.check_rules.specs.Steps.{Next, on, addImport, addExtern, addMember, importStep, externStep, memberStep}
 use Rattle.check_rules.specs.Verdict.{accept, finish, recordStep, records}
 use Rattle.accept.specs.Valid.{Each, none, more}

@@ -15,7 +15,7 @@ use Rattle.snapshot.specs.Records.{Snapshot, Import, importAt}
 use Rattle.check_rules.specs.Tests.{countsOf}
 use Rattle.check_rules.specs.Steps.{on, addImport, importStep}
 use Rattle.check_rules.specs.Verdict.{follows, argumentsFrom, recordStep, records}
-use Rattle.accept.specs.Valid.{Each, none, more, Limits}
+use Rattle.accept.specs.Valid.{Each, more, Limits}
 use Rattle.accept.proofs.Bools.{and-two, and-four}
 use Rattle.edit_rules.specs.Entries.{movedImport, withLists}
 use Rattle.scope_edits.proofs.Stepped.{Taking, taken-step, arguments-same}
@@ -177,7 +177,8 @@ over-next X n b last s x xs e r =
       before = r .before;
       low = r .low;
       enough = let m = r .enough in omega arith;
-      same = e ∙ r .same ∙ ap₂ (λ j t. records (r .fuel) X j (r .before) t) to (more-next s (movedImport (λ n. b) x) (placedFrom (b + importSize) xs));
+      same = e ∙ r .same ∙ ap₂ (λ j t. records (r .fuel) X j (r .before) t) to
+          (more-next s (movedImport (λ n. b) x) (placedFrom (b + importSize) xs));
     }
 
 pub over-imports : (X : List ℕ) (xs : List Import) (n b last : ℕ) (s : Snapshot) → Limits (countsOf s) → last ≤ 10 → Each (Fits s) xs

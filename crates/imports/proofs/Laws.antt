@@ -49,7 +49,8 @@ module _ (c room : ℕ) (s : Snapshot) where
     target-long h = rw (listIn, lt-ltb _ _ known, le-leb _ _ h)
 
 -- the modules in order, listed over the tables as they then are, are the crate's list
-module _ {W A B C : List ℕ} {l : Layout} {n c k : ℕ} (r : Ready W A l) (t : Threaded W B l n) (low : (i : ℕ) → i < 4160 → getD B i 0 ≡ getD A i 0) (w : Walked W B l c C k) where
+module _ {W A B C : List ℕ} {l : Layout} {n c k : ℕ} (r : Ready W A l) (t : Threaded W B l n) (low : (i : ℕ) → i < 4160
+    → getD B i 0 ≡ getD A i 0) (w : Walked W B l c C k) where
   snap-walked : snapOf W C l ≡ snapOf W B l
   snap-walked = snap-stays W B C l (t .ready .reads .tables) (λ i a b. w .below i (omega arith))
 
@@ -77,7 +78,8 @@ pub stored-front : (ws T : List ℕ) → length ws ≤ length T → sets T 0 ws 
 stored-front ws T h = let q : 0 + length ws ≤ length T = omega arith in sets-eq ws T 0 q ∙ ap (λ n. ws ++ drop n T) (zero-add (length ws))
 
 module _ {W A B C : List ℕ} {l : Layout} {n c k count : ℕ} (r : Ready W A l) (known : c < l .crates) (t : Threaded W B l n)
-    (low : (i : ℕ) → i < 4160 → getD B i 0 ≡ getD A i 0) (w : Walked W B l c C k) (e : count ≡ 0 + importSize * length (importsOver (snapOf W C l) c (orderAt C l k)))
+    (low : (i : ℕ) → i < 4160 → getD B i 0 ≡ getD A i 0) (w : Walked W B l c C k)
+    (e : count ≡ 0 + importSize * length (importsOver (snapOf W C l) c (orderAt C l k)))
   where
     in-crates : c < length (snapOf W A l .crates)
     in-crates = omega (arith, length-rows (λ j. crateAt W (crateBase l + 2 * j)) (l .crates))
@@ -105,8 +107,10 @@ module _ {W A B C : List ℕ} {l : Layout} {n c k count : ℕ} (r : Ready W A l)
           target = y ∙ ap₂ (λ u v. sets v 0 (wordsOf u)) (list-same r t low w) x ∙ stored-front ws T fits;
         })
 
-pub list-unknown : (W A : List ℕ) (l : Layout) (c : ℕ) (T : List ℕ) → l .crates ≤ c → Lists T (listIn c (length T) (snapOf W A l)) T (record { number = 23; count = 0 })
-list-unknown W A l c T h = lists-not 23 (crate-unknown c (length T) (snapOf W A l) (omega (arith, length-rows (λ j. crateAt W (crateBase l + 2 * j)) (l .crates))))
+pub list-unknown : (W A : List ℕ) (l : Layout) (c : ℕ) (T : List ℕ) → l .crates ≤ c
+    → Lists T (listIn c (length T) (snapOf W A l)) T (record { number = 23; count = 0 })
+list-unknown W A l c T h = lists-not 23 (crate-unknown c (length T) (snapOf W A l)
+    (omega (arith, length-rows (λ j. crateAt W (crateBase l + 2 * j)) (l .crates))))
 
 -- the check before it
 
@@ -115,7 +119,8 @@ module _ (W T : List ℕ) (c : ℕ) where
   unfolding listBy
   checked-not {k} {at} e = lists-not k (ap (listBy c (length T)) (sym e))
 
-  pub checked-done : {A : List ℕ} {l : Layout} {X : List ℕ} {r : Listed} → Reads W A l → Lists T (listIn c (length T) (snapOf W A l)) X r → Lists T (listBy c (length T) (verdict W)) X r
+  pub checked-done : {A : List ℕ} {l : Layout} {X : List ℕ} {r : Listed} → Reads W A l → Lists T (listIn c (length T) (snapOf W A l)) X r
+      → Lists T (listBy c (length T) (verdict W)) X r
   unfolding listBy
   checked-done {A} {l} {X} {r} q h = subst (λ v. Lists T (listBy c (length T) v) X r) (sym (q .same)) h
 
@@ -125,10 +130,12 @@ pub lists-small : (W A T : List ℕ) (c : ℕ) → length A < 16384 → ListsIn 
 unfolding listOf
 lists-small W A T c h = record { list = lists-not 20 (rw (listOf, lt-ltb _ _ h)); area = area-small A h }
 
-pub lists-large : (W A T X B : List ℕ) (c : ℕ) (r : Listed) → 16384 ≤ length A → B ≡ zeros 16384 → Lists T (listBy c (length T) (verdict W)) X r → ListsIn W A c T X (B ++ drop 16384 A) r
+pub lists-large : (W A T X B : List ℕ) (c : ℕ) (r : Listed) → 16384 ≤ length A → B ≡ zeros 16384 → Lists T (listBy c (length T) (verdict W)) X r
+    → ListsIn W A c T X (B ++ drop 16384 A) r
 unfolding listOf
 lists-large W A T X B c r h z q =
     record {
-      list = subst (λ e. Lists T e X r) (sym (let e : listOf (length A) W c (length T) ≡ listBy c (length T) (verdict W) = rw (listOf, le-ltb _ _ h) in e)) q;
+      list = subst (λ e. Lists T e X r)
+          (sym (let e : listOf (length A) W c (length T) ≡ listBy c (length T) (verdict W) = rw (listOf, le-ltb _ _ h) in e)) q;
       area = area-large A B h z;
     }

@@ -27,7 +27,8 @@ pub struct Listed {
 // The list of a crate of an accepted snapshot: counted first, then written where there is room for it.
 fn list_accepted(words: &[u32], area: &mut [u32], l: Layout, c: Crate, target: &mut [u32]) -> Listed
     requires { ⌜ Ready (now words) (now area) l ⌝ }
-    ensures { λ r. ⌜ Lists (now (target .entry)) (listIn (c .0) (length (now (target .entry))) (snapOf (now (words .entry)) (now (area .entry)) l)) (now (target .exit)) r ⌝ }
+    ensures { λ r. ⌜ Lists (now (target .entry)) (listIn (c .0) (length (now (target .entry))) (snapOf (now (words .entry)) (now (area .entry)) l))
+        (now (target .exit)) r ⌝ }
 {
     if l.crates <= c.0 {
         return Listed {
@@ -54,7 +55,8 @@ fn list_accepted(words: &[u32], area: &mut [u32], l: Layout, c: Crate, target: &
 // Checks the words, and lists.
 fn list_checked(words: &[u32], area: &mut [u32], c: Crate, target: &mut [u32]) -> Listed
     requires { ⌜ length (now area) ≡ areaLimit ⌝ }
-    ensures { λ r. ⌜ Lists (now (target .entry)) (listBy (c .0) (length (now (target .entry))) (verdict (now (words .entry)))) (now (target .exit)) r ⌝ }
+    ensures { λ r. ⌜ Lists (now (target .entry)) (listBy (c .0) (length (now (target .entry))) (verdict (now (words .entry))))
+        (now (target .exit)) r ⌝ }
 {
     let k = check(words, area);
     match k {
@@ -69,7 +71,8 @@ fn list_checked(words: &[u32], area: &mut [u32], c: Crate, target: &mut [u32]) -
 // The same, in a work area that serves and is cleared.
 fn list_within(words: &[u32], area: &mut [u32], c: Crate, target: &mut [u32]) -> Listed
     requires { ⌜ length (now area) ≡ areaLimit ⌝ }
-    ensures { λ r. ⌜ Lists (now (target .entry)) (listBy (c .0) (length (now (target .entry))) (verdict (now (words .entry)))) (now (target .exit)) r ⌝ }
+    ensures { λ r. ⌜ Lists (now (target .entry)) (listBy (c .0) (length (now (target .entry))) (verdict (now (words .entry))))
+        (now (target .exit)) r ⌝ }
     ensures { λ _. ⌜ now (area .exit) ≡ zeros areaLimit ⌝ }
 {
     let r = list_checked(words, area, c, target);

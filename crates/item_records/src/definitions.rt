@@ -52,7 +52,9 @@ pub fn ns_placed(words: &[u32], l: Layout, ns: usize, d: DefinitionId) -> bool
 
 // A builtin's name, where it is defined, is one of the builtins.
 fn builtin_named(words: &[u32], area: &[u32], l: Layout, at: usize) -> bool
-    ensures { λ r. ⌜ r ≡ (not (eqb (definitionAt (now (words .entry)) at .kind) 3) || leb (l .names) (definitionAt (now (words .entry)) at .first) || isBuiltin (nameAt (now (words .entry)) (nameHead (now (area .entry)) (definitionAt (now (words .entry)) at .first)))) ⌝ }
+    ensures { λ r. ⌜ r ≡ (not (eqb (definitionAt (now (words .entry)) at .kind) 3) || leb (l .names)
+        (definitionAt (now (words .entry)) at .first) || isBuiltin
+        (nameAt (now (words .entry)) (nameHead (now (area .entry)) (definitionAt (now (words .entry)) at .first)))) ⌝ }
 {
     if definition_kind(words, at) != DefinitionKind::BUILTIN {
         return true;
@@ -65,7 +67,10 @@ fn builtin_named(words: &[u32], area: &[u32], l: Layout, at: usize) -> bool
 }
 
 fn in_range(words: &[u32], area: &[u32], l: Layout, at: usize) -> bool
-    ensures { λ r. ⌜ r ≡ (leb 1 (definitionAt (now (words .entry)) at .kind) && leb (definitionAt (now (words .entry)) at .kind) 5 && (eqb (definitionAt (now (words .entry)) at .kind) 2 || eqb (definitionAt (now (words .entry)) at .second) 0) && (not (eqb (definitionAt (now (words .entry)) at .kind) 3) || leb (l .names) (definitionAt (now (words .entry)) at .first) || isBuiltin (nameAt (now (words .entry)) (nameHead (now (area .entry)) (definitionAt (now (words .entry)) at .first))))) ⌝ }
+    ensures { λ r. ⌜ r ≡ (leb 1 (definitionAt (now (words .entry)) at .kind) && leb (definitionAt (now (words .entry)) at .kind) 5 &&
+        (eqb (definitionAt (now (words .entry)) at .kind) 2 || eqb (definitionAt (now (words .entry)) at .second) 0) &&
+        (not (eqb (definitionAt (now (words .entry)) at .kind) 3) || leb (l .names) (definitionAt (now (words .entry)) at .first)
+        || isBuiltin (nameAt (now (words .entry)) (nameHead (now (area .entry)) (definitionAt (now (words .entry)) at .first))))) ⌝ }
 {
     let kind = definition_kind(words, at);
     let second = definition_second(words, at);
@@ -94,7 +99,8 @@ fn defined(words: &[u32], l: Layout, at: usize) -> bool
 
 fn placed(words: &[u32], l: Layout, at: usize) -> bool
     requires { ⌜ wordCount l < 2 ^ 32 ⌝ }
-    ensures { λ r. ⌜ r ≡ (not (eqb (definitionAt (now (words .entry)) at .kind) 2) || eqb (definitionAt (now (words .entry)) (definitionBase l + definitionSize * definitionAt (now (words .entry)) at .first) .kind) 4) ⌝ }
+    ensures { λ r. ⌜ r ≡ (not (eqb (definitionAt (now (words .entry)) at .kind) 2) || eqb
+        (definitionAt (now (words .entry)) (definitionBase l + definitionSize * definitionAt (now (words .entry)) at .first) .kind) 4) ⌝ }
 {
     let parent = DefinitionId(definition_first(words, at));
     (definition_kind(words, at) != DefinitionKind::VARIANT)
@@ -105,7 +111,9 @@ fn placed(words: &[u32], l: Layout, at: usize) -> bool
 fn again(words: &[u32], area: &[u32], l: Layout, at: usize) -> bool
     requires { ⌜ Marked (now area) moduleMarks (λ j. slotOf (now words) (definitionBase l + definitionSize * j)) (l .definitions) ⌝ }
     requires { ⌜ (wordCount l ≤ at) × (at + definitionSize ≤ length (now words)) × (length (now words) < 2 ^ 32) ⌝ }
-    ensures { λ r. ⌜ ((definitionAt (now (words .entry)) at .kind ≡ 1 → definitionAt (now (words .entry)) at .first < moduleLimit) → r ≡ ((eqb (definitionAt (now (words .entry)) at .kind) 1 || eqb (definitionAt (now (words .entry)) at .kind) 3) && any (sameBy (now (words .entry)) true 1 at) (rows (λ k. definitionBase l + definitionSize * k) 0 (l .definitions)))) ⌝ }
+    ensures { λ r. ⌜ ((definitionAt (now (words .entry)) at .kind ≡ 1 → definitionAt (now (words .entry)) at .first < moduleLimit)
+        → r ≡ ((eqb (definitionAt (now (words .entry)) at .kind) 1 || eqb (definitionAt (now (words .entry)) at .kind) 3) && any
+        (sameBy (now (words .entry)) true 1 at) (rows (λ k. definitionBase l + definitionSize * k) 0 (l .definitions)))) ⌝ }
 {
     let kind = definition_kind(words, at);
     if (kind != DefinitionKind::MODULE) & (kind != DefinitionKind::BUILTIN) {
@@ -129,7 +137,9 @@ fn again(words: &[u32], area: &[u32], l: Layout, at: usize) -> bool
 /// A definition.
 pub fn step(words: &[u32], area: &mut [u32], l: Layout, at: usize) -> Step
     requires { ⌜ Ready (now words) (now area) l at (at + definitionSize) ⌝ }
-    ensures { λ r. ⌜ ((ms : List Map) → Stands (now (words .entry)) (now (area .entry)) 8 at l ms → Answered (now (words .entry)) (now (area .exit)) 8 (at + definitionSize) (definitionStep (snapWith (now (words .entry)) (now (area .entry)) l ms) (definitionAt (now (words .entry)) at)) r) ⌝ }
+    ensures { λ r. ⌜ ((ms : List Map) → Stands (now (words .entry)) (now (area .entry)) 8 at l ms
+        → Answered (now (words .entry)) (now (area .exit)) 8 (at + definitionSize)
+        (definitionStep (snapWith (now (words .entry)) (now (area .entry)) l ms) (definitionAt (now (words .entry)) at)) r) ⌝ }
 {
     let room = l.definitions < DefinitionId::LIMIT;
     let n = judge(

@@ -32,7 +32,9 @@ fn defined(words: &[u32], l: Layout, at: usize) -> bool
 /// An extern.
 pub fn step(words: &[u32], area: &mut [u32], l: Layout, at: usize) -> Step
     requires { ⌜ Ready (now words) (now area) l at (at + externSize) ⌝ }
-    ensures { λ r. ⌜ ((ms : List Map) → Stands (now (words .entry)) (now (area .entry)) 11 at l ms → Answered (now (words .entry)) (now (area .exit)) 11 (at + externSize) (externStep (snapWith (now (words .entry)) (now (area .entry)) l ms) (externAt (now (words .entry)) at)) r) ⌝ }
+    ensures { λ r. ⌜ ((ms : List Map) → Stands (now (words .entry)) (now (area .entry)) 11 at l ms
+        → Answered (now (words .entry)) (now (area .exit)) 11 (at + externSize)
+        (externStep (snapWith (now (words .entry)) (now (area .entry)) l ms) (externAt (now (words .entry)) at)) r) ⌝ }
 {
     let key = record_key(words, at, 1);
     let count = l.externs;

@@ -42,7 +42,9 @@ fn defined(words: &[u32], l: Layout, at: usize) -> bool
 /// An import.
 pub fn step(words: &[u32], area: &[u32], l: Layout, at: usize) -> Step
     requires { ⌜ Ready (now words) (now area) l at (at + importSize) ⌝ }
-    ensures { λ r. ⌜ ((ms : List Map) → Stands (now (words .entry)) (now (area .entry)) 10 at l ms → Answered (now (words .entry)) (now (area .entry)) 10 (at + importSize) (importStep (snapWith (now (words .entry)) (now (area .entry)) l ms) (importAt (now (words .entry)) at)) r) ⌝ }
+    ensures { λ r. ⌜ ((ms : List Map) → Stands (now (words .entry)) (now (area .entry)) 10 at l ms
+        → Answered (now (words .entry)) (now (area .entry)) 10 (at + importSize)
+        (importStep (snapWith (now (words .entry)) (now (area .entry)) l ms) (importAt (now (words .entry)) at)) r) ⌝ }
 {
     let placed = ns_placed(words, l, import_ns(words, at), import_definition(words, at));
     let n = judge(

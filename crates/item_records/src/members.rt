@@ -42,7 +42,8 @@ fn defined(words: &[u32], l: Layout, at: usize) -> bool
 
 // Whether the definition with its head at a place may be the member: the parent's variant by its name, or a definition of kind 4.
 fn fits(words: &[u32], at: usize, head: usize) -> bool
-    ensures { λ r. ⌜ r ≡ isMember (memberAt (now (words .entry)) at .kind) (memberAt (now (words .entry)) at .parent) (memberAt (now (words .entry)) at .name) (definitionAt (now (words .entry)) head) ⌝ }
+    ensures { λ r. ⌜ r ≡ isMember (memberAt (now (words .entry)) at .kind) (memberAt (now (words .entry)) at .parent)
+        (memberAt (now (words .entry)) at .name) (definitionAt (now (words .entry)) head) ⌝ }
 {
     let kind = member_kind(words, at);
     let parent = member_parent(words, at);
@@ -56,7 +57,10 @@ fn fits(words: &[u32], at: usize, head: usize) -> bool
 
 fn placed(words: &[u32], l: Layout, at: usize) -> bool
     requires { ⌜ wordCount l < 2 ^ 32 ⌝ }
-    ensures { λ r. ⌜ r ≡ (eqb (definitionAt (now (words .entry)) (definitionBase l + definitionSize * memberAt (now (words .entry)) at .parent) .kind) 4 && isMember (memberAt (now (words .entry)) at .kind) (memberAt (now (words .entry)) at .parent) (memberAt (now (words .entry)) at .name) (definitionAt (now (words .entry)) (definitionBase l + definitionSize * memberAt (now (words .entry)) at .definition))) ⌝ }
+    ensures { λ r. ⌜ r ≡ (eqb (definitionAt (now (words .entry)) (definitionBase l + definitionSize * memberAt (now (words .entry))
+        at .parent) .kind) 4 && isMember (memberAt (now (words .entry)) at .kind) (memberAt (now (words .entry)) at .parent)
+        (memberAt (now (words .entry)) at .name) (definitionAt (now (words .entry)) (definitionBase l + definitionSize * memberAt
+        (now (words .entry)) at .definition))) ⌝ }
 {
     let parent = kind_at(words, l, member_parent(words, at));
     let definition = member_definition(words, at);
@@ -67,7 +71,9 @@ fn placed(words: &[u32], l: Layout, at: usize) -> bool
 /// A member.
 pub fn step(words: &[u32], area: &[u32], l: Layout, at: usize) -> Step
     requires { ⌜ Ready (now words) (now area) l at (at + memberSize) ⌝ }
-    ensures { λ r. ⌜ ((ms : List Map) → Stands (now (words .entry)) (now (area .entry)) 13 at l ms → Answered (now (words .entry)) (now (area .entry)) 13 (at + memberSize) (memberStep (snapWith (now (words .entry)) (now (area .entry)) l ms) (memberAt (now (words .entry)) at)) r) ⌝ }
+    ensures { λ r. ⌜ ((ms : List Map) → Stands (now (words .entry)) (now (area .entry)) 13 at l ms
+        → Answered (now (words .entry)) (now (area .entry)) 13 (at + memberSize)
+        (memberStep (snapWith (now (words .entry)) (now (area .entry)) l ms) (memberAt (now (words .entry)) at)) r) ⌝ }
 {
     let n = judge(
         in_range(words, at),

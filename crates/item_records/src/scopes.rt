@@ -54,7 +54,9 @@ fn defined(words: &[u32], l: Layout, at: usize) -> bool
 /// An entry.
 pub fn step(words: &[u32], area: &mut [u32], l: Layout, at: usize) -> Step
     requires { ⌜ Ready (now words) (now area) l at (at + scopeSize) ⌝ }
-    ensures { λ r. ⌜ ((ms : List Map) → Stands (now (words .entry)) (now (area .entry)) 9 at l ms → Answered (now (words .entry)) (now (area .exit)) 9 (at + scopeSize) (scopeStep (snapWith (now (words .entry)) (now (area .entry)) l ms) (scopeAt (now (words .entry)) at)) r) ⌝ }
+    ensures { λ r. ⌜ ((ms : List Map) → Stands (now (words .entry)) (now (area .entry)) 9 at l ms
+        → Answered (now (words .entry)) (now (area .exit)) 9 (at + scopeSize)
+        (scopeStep (snapWith (now (words .entry)) (now (area .entry)) l ms) (scopeAt (now (words .entry)) at)) r) ⌝ }
 {
     let key = record_key(words, at, 2);
     let count = l.scopes;

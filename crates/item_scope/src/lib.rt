@@ -6,7 +6,8 @@ ghost use Prim.Native.Nat.{ℕ, _^_, _<_};
 ghost use Rattle.snapshot.specs.Sizes.{scopeSize};
 ghost use Rattle.snapshot.specs.Records.{scopeAt};
 ghost use Rattle.snapshot.specs.Layouts.{wordCount, scopeBase, snapOf};
-ghost use Rattle.hir_def.specs.ItemScope.{isDeclared, isDeprecated, counts, isFor, isNamed, isModuleEntry, nameOf, namesOf, nameReads, namesReads, preferred, preferredReads, get as entryNamed};
+ghost use Rattle.hir_def.specs.ItemScope.{isDeclared, isDeprecated, counts, isFor, isNamed, isModuleEntry, nameOf, namesOf, nameReads, namesReads};
+ghost use Rattle.hir_def.specs.ItemScope.{preferred, preferredReads, get as entryNamed};
 ghost use Rattle.hir_def.specs.Finds.{orFirst};
 ghost use Rattle.hir_def.specs.Nameres.{entryIn};
 ghost use Rattle.hir_def.specs.Entries.{entryOf, oneIf, UpTo, NextOf};
@@ -60,7 +61,9 @@ pub fn is_for(words: &[u32], l: Layout, h: usize, m: ModuleId, item: Item) -> bo
 // The same, and the entry was declared there where only such entries count.
 fn is_entry(words: &[u32], l: Layout, h: usize, m: ModuleId, item: Item, declared: bool) -> bool
     requires { ⌜ wordCount l < 2 ^ 32 ⌝ }
-    ensures { λ r. ⌜ ((A : List ℕ) → r ≡ (isFor (snapOf (now (words .entry)) A l) (m .0) item (scopeAt (now (words .entry)) h) && counts declared (scopeAt (now (words .entry)) h))) ⌝ }
+    ensures { λ r. ⌜ ((A : List ℕ)
+        → r ≡ (isFor (snapOf (now (words .entry)) A l) (m .0) item (scopeAt (now (words .entry)) h) && counts declared
+        (scopeAt (now (words .entry)) h))) ⌝ }
 {
     if is_for(words, l, h, m, item) {
         let here = is_declared(words, h);
@@ -72,7 +75,9 @@ fn is_entry(words: &[u32], l: Layout, h: usize, m: ModuleId, item: Item, declare
 /// The first of the module's entries for the item; of those declared there, where only such entries count. Counts the records that it reads.
 pub fn names_of(words: &[u32], l: Layout, m: ModuleId, item: Item, declared: bool) -> Lookup
     requires { ⌜ wordCount l < 2 ^ 32 ⌝ }
-    ensures { λ r. ⌜ ((A : List ℕ) → entryOf scopeAt (now (words .entry)) (r .entry) ≡ namesOf (snapOf (now (words .entry)) A l) (m .0) item (counts declared)) × ((A : List ℕ) → r .read ≡ namesReads (snapOf (now (words .entry)) A l) (m .0) item (counts declared)) × UpTo 8 (scopeBase l) (l .scopes) (r .entry) (r .read) ⌝ }
+    ensures { λ r. ⌜ ((A : List ℕ) → entryOf scopeAt (now (words .entry)) (r .entry) ≡ namesOf (snapOf (now (words .entry)) A l)
+        (m .0) item (counts declared)) × ((A : List ℕ) → r .read ≡ namesReads (snapOf (now (words .entry)) A l) (m .0) item (counts declared))
+        × UpTo 8 (scopeBase l) (l .scopes) (r .entry) (r .read) ⌝ }
 {
     let base = l.scope_base();
     let mut read = 0;
@@ -95,7 +100,9 @@ pub fn names_of(words: &[u32], l: Layout, m: ModuleId, item: Item, declared: boo
 /// The first of the module's entries for the item.
 pub fn name_of(words: &[u32], l: Layout, m: ModuleId, item: Item) -> Lookup
     requires { ⌜ wordCount l < 2 ^ 32 ⌝ }
-    ensures { λ r. ⌜ ((A : List ℕ) → entryOf scopeAt (now (words .entry)) (r .entry) ≡ nameOf (snapOf (now (words .entry)) A l) (m .0) item) × ((A : List ℕ) → r .read ≡ nameReads (snapOf (now (words .entry)) A l) (m .0) item) × UpTo 8 (scopeBase l) (l .scopes) (r .entry) (r .read) ⌝ }
+    ensures { λ r. ⌜ ((A : List ℕ) → entryOf scopeAt (now (words .entry)) (r .entry) ≡ nameOf (snapOf (now (words .entry)) A l) (m .0) item)
+        × ((A : List ℕ) → r .read ≡ nameReads (snapOf (now (words .entry)) A l) (m .0) item)
+        × UpTo 8 (scopeBase l) (l .scopes) (r .entry) (r .read) ⌝ }
 {
     names_of(words, l, m, item, false)
 }
@@ -116,7 +123,9 @@ pub fn kept(first: Entry, passes: bool, h: usize) -> Entry
 /// The first of the entries of `names_of` that isn't deprecated; where there is none, the first of them, with all records read.
 pub fn fresh_of(words: &[u32], l: Layout, m: ModuleId, item: Item, declared: bool) -> Lookup
     requires { ⌜ wordCount l < 2 ^ 32 ⌝ }
-    ensures { λ r. ⌜ ((A : List ℕ) → entryOf scopeAt (now (words .entry)) (r .entry) ≡ preferred true (snapOf (now (words .entry)) A l) (m .0) item (counts declared) (namesOf (snapOf (now (words .entry)) A l) (m .0) item (counts declared))) × ((A : List ℕ) (n : ℕ) → r .read ≡ preferredReads true (snapOf (now (words .entry)) A l) (m .0) item (counts declared) n) ⌝ }
+    ensures { λ r. ⌜ ((A : List ℕ) → entryOf scopeAt (now (words .entry)) (r .entry) ≡ preferred true (snapOf (now (words .entry)) A l)
+        (m .0) item (counts declared) (namesOf (snapOf (now (words .entry)) A l) (m .0) item (counts declared)))
+        × ((A : List ℕ) (n : ℕ) → r .read ≡ preferredReads true (snapOf (now (words .entry)) A l) (m .0) item (counts declared) n) ⌝ }
 {
     let base = l.scope_base();
     let mut first = Entry::Nothing;
@@ -147,7 +156,9 @@ pub fn entry_in(
     fresh: bool,
 ) -> Lookup
     requires { ⌜ wordCount l < 2 ^ 32 ⌝ }
-    ensures { λ r. ⌜ ((A : List ℕ) → entryOf scopeAt (now (words .entry)) (r .entry) ≡ entryIn (snapOf (now (words .entry)) A l) item declared fresh (m .0)) × ((A : List ℕ) → r .read ≡ preferredReads fresh (snapOf (now (words .entry)) A l) (m .0) item (counts declared) (namesReads (snapOf (now (words .entry)) A l) (m .0) item (counts declared))) ⌝ }
+    ensures { λ r. ⌜ ((A : List ℕ) → entryOf scopeAt (now (words .entry)) (r .entry) ≡ entryIn (snapOf (now (words .entry)) A l)
+        item declared fresh (m .0)) × ((A : List ℕ) → r .read ≡ preferredReads fresh (snapOf (now (words .entry)) A l) (m .0) item
+        (counts declared) (namesReads (snapOf (now (words .entry)) A l) (m .0) item (counts declared))) ⌝ }
 {
     if fresh {
         return fresh_of(words, l, m, item, declared);
@@ -197,7 +208,8 @@ pub fn is_module_entry(words: &[u32], l: Layout, h: usize, m: ModuleId) -> bool
 /// The next of the module's entries for a module in types, from the entry number k on.
 pub fn modules_in_scope(words: &[u32], l: Layout, k: usize, m: ModuleId) -> Next
     requires { ⌜ wordCount l < 2 ^ 32 ⌝ }
-    ensures { λ r. ⌜ ((A : List ℕ) → NextOf (isModuleEntry (snapOf (now (words .entry)) A l) (m .0)) scopeAt scopeSize (now (words .entry)) (scopeBase l) (l .scopes) k r) ⌝ }
+    ensures { λ r. ⌜ ((A : List ℕ) → NextOf (isModuleEntry (snapOf (now (words .entry)) A l) (m .0)) scopeAt scopeSize
+        (now (words .entry)) (scopeBase l) (l .scopes) k r) ⌝ }
 {
     let base = l.scope_base();
     let mut j = k;

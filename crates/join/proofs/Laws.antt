@@ -21,7 +21,8 @@ use Rattle.hir_def.specs.Finds.{select}
 use Rattle.search_laws.proofs.Walks.{select-short}
 use Rattle.answer.specs.Answers.{zeros}
 use Rattle.answer.proofs.Areas.{area-small, area-large}
-use Rattle.join_words.specs.Joined.{isNew, merged, sameBuiltin, secondNumbers, moduleTo, definitionTo, together, joinedWords, isWithin, Joining, refusedBy, joinedAs, joinIn, joinBy, joinOf}
+use Rattle.join_words.specs.Joined.{isNew, merged, sameBuiltin, secondNumbers, moduleTo, definitionTo, together, joinedWords, isWithin, Joining}
+use Rattle.join_words.specs.Joined.{refusedBy, joinedAs, joinIn, joinBy, joinOf}
 use Rattle.join_words.proofs.Joins.{joined-accepted}
 use Rattle.join_words.proofs.Merged.{map-length}
 use Rattle.join_numbers.specs.Parts.{partOf, Part, Ready}
@@ -172,7 +173,8 @@ module _ {W X A B : List ℕ} {l m : Layout} {n : New} (r : Ready W X A l m) (f 
     counted : count ≡ length (joinedWords s t)
     counted = let a = w .next in let b = ap length same in omega arith
 
-    fits-same : (room : ℕ) → fitsIn count (l .names + n .names) (l .crates + m .crates) (l .modules + m .modules) (l .definitions + n .definitions) room
+    fits-same : (room : ℕ) → fitsIn count (l .names + n .names) (l .crates + m .crates) (l .modules + m .modules)
+        (l .definitions + n .definitions) room
         ≡ (isWithin (together s t) && leb (length (joinedWords s t)) room)
     unfolding fitsIn
     fits-same room =
@@ -181,7 +183,8 @@ module _ {W X A B : List ℕ} {l m : Layout} {n : New} (r : Ready W X A l m) (f 
         let b = crate-count in
         let c = module-count in
         let d = definition-count in
-        λ i. (leb (p i) wordLimit && leb (a i) nameLimit && leb (b i) crateLimit && leb (c i) moduleLimit && leb (d i) definitionLimit) && leb (p i) room
+        λ i. (leb (p i) wordLimit && leb (a i) nameLimit && leb (b i) crateLimit && leb (c i) moduleLimit && leb (d i) definitionLimit)
+        && leb (p i) room
 
     module _ {b : Bool}
         (e : b ≡ fitsIn count (l .names + n .names) (l .crates + m .crates) (l .modules + m .modules) (l .definitions + n .definitions) (length U))
@@ -234,7 +237,8 @@ module _ {W X A B : List ℕ} {l m : Layout} {n : New} (r : Ready W X A l m) (f 
 -- the checks before it
 
 module _ (W X T : List ℕ) where
-  pub second-not : {k at : ℕ} → refuse k at ≡ verdict X → Joins T (joinBy (length T) (accept (partOf W)) (verdict X)) T (record { number = k; count = 0 })
+  pub second-not : {k at : ℕ} → refuse k at ≡ verdict X → Joins T (joinBy (length T) (accept (partOf W)) (verdict X)) T
+      (record { number = k; count = 0 })
   unfolding joinBy
   second-not {k} e = joins-not k (ap (joinBy (length T) (accept (partOf W))) (sym e))
 
@@ -264,6 +268,7 @@ pub joins-large : (W X A T Y B : List ℕ) (r : Joined) → 16384 ≤ length A �
 unfolding joinOf
 joins-large W X A T Y B r h z q =
     record {
-      join = subst (λ e. Joins T e Y r) (sym (let e : joinOf (length A) W X (length T) ≡ joinBy (length T) (verdict W) (verdict X) = rw (joinOf, le-ltb _ _ h) in e)) q;
+      join = subst (λ e. Joins T e Y r) (sym (let e : joinOf (length A) W X (length T) ≡ joinBy (length T) (verdict W) (verdict X) =
+          rw (joinOf, le-ltb _ _ h) in e)) q;
       area = area-large A B h z;
     }

@@ -34,7 +34,8 @@ arguments-low W (suc n) at e i a b =
     by-less : (i ≡ at → ⊥) → at ≤ i → at + 1 ≤ i
     by-less o h = by-test (leb (at + 1) i) (λ c. leb-true (at + 1) i c) (λ c. absurd (o (let g = leb-false (at + 1) i c in omega arith)))
 
-low-more : (W : List ℕ) (at last : ℕ) → Low W at → kindOf (getD W at 0) ≤ 13 → argumentsFrom W (at + 1) (argumentsAt W at) ≡ true → Low W (at + 1 + argumentsAt W at)
+low-more : (W : List ℕ) (at last : ℕ) → Low W at → kindOf (getD W at 0) ≤ 13 → argumentsFrom W (at + 1) (argumentsAt W at) ≡ true
+    → Low W (at + 1 + argumentsAt W at)
 low-more W at last h k e i a l =
     by-test (ltb i at)
     (λ b. h i (ltb-true i at b) l)

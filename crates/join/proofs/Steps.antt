@@ -1,5 +1,5 @@
 -- Each record of the second, put with its numbers moved, has the words of the moved record.
-use Prim.Native.Nat.{ℕ, _+_, _-_, _*_, _≤_, _<_}
+use Prim.Native.Nat.{ℕ, _+_, _*_, _≤_, _<_}
 use mathlib.Core.Path.{_≡_, refl, sym, _∙_, ap, ap₂, subst}
 use mathlib.Core.List.{List, [], _∷_, map}
 use mathlib.Core.Bool.{Bool, true, false, not}
@@ -11,11 +11,14 @@ use Rattle.snapshot.specs.Words.{argumentsOf, wordsOf}
 use Rattle.snapshot.specs.Records.{Name, Crate, Dependency, Child, Prelude, Definition, Scope, Import, Extern, Member, Snapshot}
 use Rattle.snapshot.specs.declared.layout.Layout.{Layout}
 use Rattle.check_rules.specs.Tests.{countsOf, noName, noDefinition, sameName}
-use Rattle.accept.specs.Valid.{Limits, NameFits, CrateFits, DependencyFits, ChildFits, PreludeFits, DefinitionFits, ScopeFits, ImportFits, ExternFits, MemberFits}
+use Rattle.accept.specs.Valid.{Limits, NameFits, CrateFits, DependencyFits, ChildFits, PreludeFits, DefinitionFits, ScopeFits, ImportFits, ExternFits}
+use Rattle.accept.specs.Valid.{MemberFits}
 use Rattle.accept.proofs.Accepted.{by-test}
 use Rattle.edit_rules.specs.Entries.{scopeWords}
-use Rattle.edit_rules.specs.Written.{headOf, nameWords, crateWords, dependencyWords, childWords, preludeWords, definitionWords, importWords, externWords, memberWords}
-use Rattle.join_words.specs.Joined.{isNew, nameNumber, sameBuiltin, definitionNumber, Numbers, secondNumbers, dependencyTo, childTo, preludeTo, definitionTo, firstTo, secondTo, visibleTo, scopeTo, importTo, externTo, memberTo}
+use Rattle.edit_rules.specs.Written.{headOf, nameWords, crateWords, dependencyWords, childWords, preludeWords, definitionWords, importWords}
+use Rattle.edit_rules.specs.Written.{externWords, memberWords}
+use Rattle.join_words.specs.Joined.{isNew, nameNumber, sameBuiltin, definitionNumber, Numbers, secondNumbers, dependencyTo, childTo, preludeTo}
+use Rattle.join_words.specs.Joined.{definitionTo, firstTo, secondTo, visibleTo, scopeTo, importTo, externTo, memberTo}
 use Rattle.join_words.proofs.Runs.{At, kind-is, Small}
 use Rattle.join_numbers.specs.Parts.{Counted}
 use Rattle.join_numbers.specs.Numbered.{nameTable, definitionTable, NumbersIn}
@@ -61,7 +64,8 @@ module _ (s t : Snapshot) (A : List ℕ) (l : Layout) (X : List ℕ) (c : Counte
   abbrev e : Numbers
   e = secondNumbers s t
 
-  kept-by : (q n : ℕ) {b : Bool} {out : List ℕ} → keptAt A l X q n ≡ b → movedAt (numbersOf A l) X q ≡ out → keptWords A l X q n ≡ elim b [ true ↦ out | false ↦ [] ]
+  kept-by : (q n : ℕ) {b : Bool} {out : List ℕ} → keptAt A l X q n ≡ b → movedAt (numbersOf A l) X q ≡ out → keptWords A l X q n
+      ≡ elim b [ true ↦ out | false ↦ [] ]
   unfolding keptWords
   kept-by q n x y = ap₂ (λ b w. elim b [ true ↦ w | false ↦ [] ]) x y
 
@@ -105,7 +109,8 @@ module _ (s t : Snapshot) (A : List ℕ) (l : Layout) (X : List ℕ) (c : Counte
     dependency-step x f at =
         let o = f .owner in
         let b = limits .crates in
-        plain dependencyWords (λ y. dependencyWords (dependencyTo e y)) x 3 (x .owner) q n refl at (omega arith) refl (λ z. omega arith) (λ z. omega arith)
+        plain dependencyWords (λ y. dependencyWords (dependencyTo e y)) x 3 (x .owner) q n refl at (omega arith) refl (λ z. omega arith)
+        (λ z. omega arith)
         (ap (λ u. dependencyWords (dependencyTo u x)) (partly-same s A l c))
 
     pub child-step : (x : Child) → ChildFits (countsOf t) x → At X q (childWords x)
@@ -138,7 +143,8 @@ module _ (s t : Snapshot) (A : List ℕ) (l : Layout) (X : List ℕ) (c : Counte
         (ap (λ u. recordTo (numbersOf A l) 9 (x .owner) u
         (x .ns ∷ x .name ∷ x .definition ∷ x .visibility ∷ x .number ∷ x .declared ∷ x .bits ∷ [])) v
         ∙ ap (λ u. scopeWords (scopeTo u x)) (partly-same s A l c)
-        ∙ (λ i. headOf 9 (length (s .modules) + x .owner) ∷ x .ns ∷ name i ∷ definition i ∷ x .visibility ∷ visibleTo e (x .visibility) (x .number) ∷ x .declared ∷ x .bits ∷ []))
+        ∙ (λ i. headOf 9 (length (s .modules) + x .owner) ∷ x .ns ∷ name i ∷ definition i ∷ x .visibility ∷ visibleTo e (x .visibility)
+        (x .number) ∷ x .declared ∷ x .bits ∷ []))
 
     pub import-step : (x : Import) → ImportFits (countsOf t) x → At X q (importWords x)
         → Step A l X importWords (λ y. importWords (importTo e y)) (λ y. true) x q n
@@ -181,7 +187,8 @@ module _ (s t : Snapshot) (A : List ℕ) (l : Layout) (X : List ℕ) (c : Counte
         (λ a. h .definitions (x .first) (f .variant (eqb-true (x .kind) 2 a) .0)) (λ a. h .names (x .first) (f .builtin (eqb-true (x .kind) 3 a)))
       where
         by : (b d : Bool) (r : ℕ) {p p′ u u′ : ℕ} → (b ≡ true → p ≡ p′) → (d ≡ true → u ≡ u′)
-            → _≡_ {A = ℕ} (elim b [ true ↦ p | false ↦ elim d [ true ↦ u | false ↦ r ] ]) (elim b [ true ↦ p′ | false ↦ elim d [ true ↦ u′ | false ↦ r ] ])
+            → _≡_ {A = ℕ} (elim b [ true ↦ p | false ↦ elim d [ true ↦ u | false ↦ r ] ])
+            (elim b [ true ↦ p′ | false ↦ elim d [ true ↦ u′ | false ↦ r ] ])
         by true d r x y = x refl
         by false true r x y = y refl
         by false false r x y = refl

@@ -1,5 +1,5 @@
 -- The words that are put are those of the joined snapshot.
-use Prim.Native.Nat.{ℕ, _+_, _-_, _≤_, _<_}
+use Prim.Native.Nat.{ℕ, _+_, _≤_, _<_}
 use mathlib.Core.Path.{_≡_, refl, sym, _∙_, ap, ap₂, subst}
 use mathlib.Core.List.{List, [], _∷_, _++_, map}
 use mathlib.Core.Bool.{Bool, true}
@@ -8,7 +8,8 @@ use native.Mathlib.Nat.{zero-add}
 use lib.ListN.{length, getD}
 use Rattle.snapshot.specs.Lists.{rows}
 use Rattle.snapshot.specs.Records.{Crate, Dependency, Child, Prelude, Scope, Import, Extern, Member, Snapshot}
-use Rattle.snapshot.specs.Layouts.{crateBase, dependencyBase, mapBase, childBase, preludeBase, definitionBase, scopeBase, importBase, externBase, memberBase, wordCount}
+use Rattle.snapshot.specs.Layouts.{crateBase, dependencyBase, mapBase, childBase, preludeBase, definitionBase, scopeBase, importBase, externBase}
+use Rattle.snapshot.specs.Layouts.{memberBase, wordCount}
 use Rattle.snapshot.specs.declared.layout.Layout.{Layout}
 use Rattle.check_rules.specs.Tests.{noName, noDefinition, sameName}
 use Rattle.accept.specs.Valid.{Valid}
@@ -16,8 +17,10 @@ use Rattle.accept.proofs.Bools.{each-map, each-at}
 use Rattle.accept.proofs.Valid.{accepted-valid}
 use Rattle.hir_def.specs.Finds.{select}
 use Rattle.edit_rules.specs.Entries.{scopeWords}
-use Rattle.edit_rules.specs.Written.{nameWords, crateWords, dependencyWords, childWords, preludeWords, definitionWords, importWords, externWords, memberWords, eachWords, treeWords, joined, snapshotWords}
-use Rattle.join_words.specs.Joined.{isNew, merged, sameBuiltin, Numbers, secondNumbers, dependencyTo, mapTo, moduleTo, childTo, preludeTo, definitionTo, scopeTo, importTo, externTo, memberTo, together, joinedWords}
+use Rattle.edit_rules.specs.Written.{nameWords, crateWords, dependencyWords, childWords, preludeWords, definitionWords, importWords, externWords}
+use Rattle.edit_rules.specs.Written.{memberWords, eachWords, treeWords, joined, snapshotWords}
+use Rattle.join_words.specs.Joined.{isNew, merged, sameBuiltin, Numbers, secondNumbers, dependencyTo, mapTo, moduleTo, childTo, preludeTo}
+use Rattle.join_words.specs.Joined.{definitionTo, scopeTo, importTo, externTo, memberTo, together, joinedWords}
 use Rattle.join_words.proofs.Merged.{each-mapped}
 use Rattle.join_words.proofs.Runs.{At, words-append}
 use Rattle.join_words.proofs.Stages.{Whole}
@@ -28,7 +31,8 @@ use Rattle.join_numbers.proofs.Parts.{Kinds, part-kinds}
 use Rattle.join_records.specs.Moves.{movedRun, runOf, baseOf, kindTo, wordsTo}
 use Rattle.join_records.proofs.Passes.{run-is, passes-to, passes-done, Step, each-passes, select-all, each-of-map}
 use Rattle.join_records.proofs.Trees.{tree-both, tree-passes}
-use Rattle.join.proofs.Steps.{partly-same, name-step, crate-step, dependency-step, child-step, prelude-step, definition-step, scope-step, import-step, extern-step, member-step}
+use Rattle.join.proofs.Steps.{partly-same, name-step, crate-step, dependency-step, child-step, prelude-step, definition-step, scope-step}
+use Rattle.join.proofs.Steps.{import-step, extern-step, member-step}
 
 module _ (A W X : List ℕ) (l m : Layout) where
   -- one kind: the first's words, and the moved words of the second's records that pass a test
@@ -108,10 +112,12 @@ module _ (A W X : List ℕ) (l m : Layout) where
     unfolding kindTo baseOf together
     dependencies-same =
         let d : Dependency = record { owner = 0; crate = 0; sysroot = 0 } in
-        kind-both dependencyWords (λ y. dependencyWords (dependencyTo e y)) (λ y. true) d (s .dependencies) (t .dependencies) (mapBase l) (mapBase m) (ks .dependencies)
+        kind-both dependencyWords (λ y. dependencyWords (dependencyTo e y)) (λ y. true) d (s .dependencies) (t .dependencies)
+        (mapBase l) (mapBase m) (ks .dependencies)
         (let a = one .counted .dependencies in let b = ks .sizes .dependencies in omega arith) (kt .dependencies)
         (let a = two .counted .dependencies in let b = kt .sizes .dependencies in omega arith)
-        (λ i q j at. dependency-step s t A l X (one .counted) h (vt .limits) q i (getD (t .dependencies) i d) (each-at d i (vt .ranges .dependencies) j) at)
+        (λ i q j at. dependency-step s t A l X (one .counted) h (vt .limits) q i (getD (t .dependencies) i d)
+        (each-at d i (vt .ranges .dependencies) j) at)
         ∙ all-both dependencyWords (dependencyTo e) (s .dependencies) (t .dependencies)
 
     tree-same : kindTo A l m W X 3 ≡ treeWords 0 (u .maps) (u .modules)
@@ -127,11 +133,14 @@ module _ (A W X : List ℕ) (l m : Layout) where
         let z = vt .limits .crates in
         let y = few-maps in
         let p = tree-passes A l X (childBase m) 0 (t .maps) (t .modules) (mapBase m) 0 (omega arith) (kt .tree)
-        (each-map (λ x f. let g = f .crate in omega arith) (vt .ranges .maps)) (each-map (λ x f. let g = f .map in omega arith) (vt .ranges .modules)) in
-        let w = passes-done (passes-to (p .1) (let g : mapBase m + length (treeWords 0 (t .maps) (t .modules)) ≡ childBase m = omega arith in g) refl refl) in
+        (each-map (λ x f. let g = f .crate in omega arith) (vt .ranges .maps)) (each-map (λ x f. let g = f .map in omega arith)
+        (vt .ranges .modules)) in
+        let w = passes-done (passes-to (p .1) (let g : mapBase m + length (treeWords 0 (t .maps) (t .modules)) ≡ childBase m = omega arith in g)
+        refl refl) in
         let n : l .maps + 0 ≡ 0 + length (s .maps) = omega arith in
         ap₂ (λ u v. u ++ v) r
-        (w ∙ ap (λ (N : Numbers). treeWords (l .maps + 0) (map (mapTo N) (t .maps)) (map (moduleTo N) (t .modules))) (partly-same s A l (one .counted))
+        (w ∙ ap (λ (N : Numbers). treeWords (l .maps + 0) (map (mapTo N) (t .maps)) (map (moduleTo N) (t .modules)))
+        (partly-same s A l (one .counted))
         ∙ ap (λ k. treeWords k (map (mapTo e) (t .maps)) (map (moduleTo e) (t .modules))) n)
         ∙ sym (tree-both 0 (s .maps) (map (mapTo e) (t .maps)) (s .modules) (map (moduleTo e) (t .modules))
         (each-map (λ x f. let g = f .map in omega arith) (vs .ranges .modules))
@@ -151,17 +160,20 @@ module _ (A W X : List ℕ) (l m : Layout) where
     unfolding kindTo baseOf together
     preludes-same =
         let d : Prelude = record { map = 0; target = 0 } in
-        kind-both preludeWords (λ y. preludeWords (preludeTo e y)) (λ y. true) d (s .preludes) (t .preludes) (definitionBase l) (definitionBase m) (ks .preludes)
+        kind-both preludeWords (λ y. preludeWords (preludeTo e y)) (λ y. true) d (s .preludes) (t .preludes) (definitionBase l)
+        (definitionBase m) (ks .preludes)
         (let a = one .counted .preludes in let b = ks .sizes .preludes in omega arith) (kt .preludes)
         (let a = two .counted .preludes in let b = kt .sizes .preludes in omega arith)
-        (λ i q j at. prelude-step s t A l X (one .counted) h (vt .limits) q i (getD (t .preludes) i d) few-maps (each-at d i (vt .ranges .preludes) j) at)
+        (λ i q j at. prelude-step s t A l X (one .counted) h (vt .limits) q i (getD (t .preludes) i d) few-maps
+        (each-at d i (vt .ranges .preludes) j) at)
         ∙ all-both preludeWords (preludeTo e) (s .preludes) (t .preludes)
 
     definitions-same : kindTo A l m W X 6 ≡ eachWords definitionWords (u .definitions)
     unfolding kindTo baseOf together
     definitions-same =
         let p = isNew (sameBuiltin s t) (s .definitions) in
-        kind-both definitionWords (λ y. definitionWords (definitionTo e y)) p noDefinition (s .definitions) (t .definitions) (scopeBase l) (scopeBase m)
+        kind-both definitionWords (λ y. definitionWords (definitionTo e y)) p noDefinition (s .definitions) (t .definitions)
+        (scopeBase l) (scopeBase m)
         (ks .definitions) (let a = one .counted .definitions in let b = ks .sizes .definitions in omega arith) (kt .definitions)
         (let a = two .counted .definitions in let b = kt .sizes .definitions in omega arith)
         (λ i q j at. definition-step s t A l X (one .counted) h (vt .limits) q i (getD (t .definitions) i noDefinition)

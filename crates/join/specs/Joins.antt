@@ -34,4 +34,5 @@ pub record JoinsIn (W X A₀ T₀ T A : List ℕ) (r : Joined) : Type 0 where
 -- so many words, names, crates, modules and definitions pass no limit, and the words fit a target of so many
 unfoldable pub fitsIn : ℕ → ℕ → ℕ → ℕ → ℕ → ℕ → Bool
 fitsIn words names crates modules definitions room =
-    (leb words wordLimit && leb names nameLimit && leb crates crateLimit && leb modules moduleLimit && leb definitions definitionLimit) && leb words room
+    (leb words wordLimit && leb names nameLimit && leb crates crateLimit && leb modules moduleLimit && leb definitions definitionLimit)
+    && leb words room

@@ -66,7 +66,8 @@ fn join_accepted(
     target: &mut [u32],
 ) -> Joined
     requires { ⌜ Ready (now first) (now second) (now area) l m ⌝ }
-    ensures { λ r. ⌜ Joins (now (target .entry)) (joinIn (length (now (target .entry))) (partOf (now (first .entry))) (partOf (now (second .entry)))) (now (target .exit)) r ⌝ }
+    ensures { λ r. ⌜ Joins (now (target .entry)) (joinIn (length (now (target .entry))) (partOf (now (first .entry)))
+        (partOf (now (second .entry)))) (now (target .exit)) r ⌝ }
 {
     let n = number(first, second, area, l, m);
     let count = put_kinds(first, second, area, l, m, target, false);
@@ -100,7 +101,8 @@ fn join_second(
     target: &mut [u32],
 ) -> Joined
     requires { ⌜ (length (now area) ≡ areaLimit) × Part (now first) l ⌝ }
-    ensures { λ r. ⌜ Joins (now (target .entry)) (joinBy (length (now (target .entry))) (accept (partOf (now (first .entry)))) (verdict (now (second .entry)))) (now (target .exit)) r ⌝ }
+    ensures { λ r. ⌜ Joins (now (target .entry)) (joinBy (length (now (target .entry))) (accept (partOf (now (first .entry))))
+        (verdict (now (second .entry)))) (now (target .exit)) r ⌝ }
 {
     let k = check(second, area);
     match k {
@@ -115,7 +117,8 @@ fn join_second(
 // Checks both, and joins.
 fn join_checked(first: &[u32], second: &[u32], area: &mut [u32], target: &mut [u32]) -> Joined
     requires { ⌜ length (now area) ≡ areaLimit ⌝ }
-    ensures { λ r. ⌜ Joins (now (target .entry)) (joinBy (length (now (target .entry))) (verdict (now (first .entry))) (verdict (now (second .entry)))) (now (target .exit)) r ⌝ }
+    ensures { λ r. ⌜ Joins (now (target .entry)) (joinBy (length (now (target .entry))) (verdict (now (first .entry)))
+        (verdict (now (second .entry)))) (now (target .exit)) r ⌝ }
 {
     let k = check(first, area);
     match k {
@@ -130,7 +133,8 @@ fn join_checked(first: &[u32], second: &[u32], area: &mut [u32], target: &mut [u
 // The same, in a work area that serves and is cleared.
 fn join_within(first: &[u32], second: &[u32], area: &mut [u32], target: &mut [u32]) -> Joined
     requires { ⌜ length (now area) ≡ areaLimit ⌝ }
-    ensures { λ r. ⌜ Joins (now (target .entry)) (joinBy (length (now (target .entry))) (verdict (now (first .entry))) (verdict (now (second .entry)))) (now (target .exit)) r ⌝ }
+    ensures { λ r. ⌜ Joins (now (target .entry)) (joinBy (length (now (target .entry))) (verdict (now (first .entry)))
+        (verdict (now (second .entry)))) (now (target .exit)) r ⌝ }
     ensures { λ _. ⌜ now (area .exit) ≡ zeros areaLimit ⌝ }
 {
     let r = join_checked(first, second, area, target);
@@ -142,7 +146,8 @@ fn join_within(first: &[u32], second: &[u32], area: &mut [u32], target: &mut [u3
 /// by which the call is refused, with the target unchanged: 20 a small work area, 30 to 36 and 43 the first snapshot, then the second, 51 a result
 /// that passes a limit or does not fit the target. The work area is left as `find_path` leaves it.
 pub fn join(first: &[u32], second: &[u32], area: &mut [u32], target: &mut [u32]) -> Joined
-    ensures { λ r. ⌜ JoinsIn (now (first .entry)) (now (second .entry)) (now (area .entry)) (now (target .entry)) (now (target .exit)) (now (area .exit)) r ⌝ }
+    ensures { λ r. ⌜ JoinsIn (now (first .entry)) (now (second .entry)) (now (area .entry)) (now (target .entry)) (now (target .exit))
+        (now (area .exit)) r ⌝ }
 {
     if area.len() < WordCount::AREA {
         return Joined {

@@ -23,7 +23,8 @@ use Rattle.join_numbers.proofs.Finding.{place-none}
 pub filled-none : (A : List ℕ) (at : ℕ) (f : ℕ → ℕ) → Filled A A at f 0
 filled-none A at f = record { size = refl; table = λ i h. absurd (omega arith); below = λ i h. refl; above = λ i h. refl }
 
-pub filled-more : {A B : List ℕ} {at : ℕ} {f : ℕ → ℕ} {n : ℕ} (v : ℕ) → Filled A B at f n → at + n < length B → v ≡ f n → Filled A (set B (at + n) v) at f (n + 1)
+pub filled-more : {A B : List ℕ} {at : ℕ} {f : ℕ → ℕ} {n : ℕ} (v : ℕ) → Filled A B at f n → at + n < length B → v ≡ f n
+    → Filled A (set B (at + n) v) at f (n + 1)
 filled-more {A} {B} {at} {f} {n} v g h e =
     record {
       size = length-set B (at + n) v ∙ g .size;
@@ -45,7 +46,8 @@ pub put-new : (A : List ℕ) (at old place fresh : ℕ) → old ≤ place
 put-new A at old place fresh h = let t = le-ltb place old h in (rw (numberBy, t), rw (freshBy, t))
 
 -- elements that pass, among one more
-select-snoc : {R : Type 0} (p : R → Bool) (ys : List R) (y : R) → length (select p (ys ++ (y ∷ []))) ≡ length (select p ys) + length (select p (y ∷ []))
+select-snoc : {R : Type 0} (p : R → Bool) (ys : List R) (y : R) → length (select p (ys ++ (y ∷ []))) ≡ length (select p ys) + length
+    (select p (y ∷ []))
 unfolding select
 select-snoc p [] y = omega arith
 select-snoc p (x ∷ ys) y =
@@ -120,7 +122,8 @@ module _ {R : Type 0} (same : R → R → Bool) (d : R) (xs ys : List R) where
     numbering-start A = record { upto = omega arith; new = refl; filled = filled-none A at (mergedNumber same d xs ys) }
 
     pub numbering-next : (A B C : List ℕ) (n fresh old place r : ℕ) → Numbering A B n fresh → n < length ys → at + n < length A → old ≡ length xs
-        → place ≡ placeOf (same (getD ys n d)) 0 xs → C ≡ set B (at + n) (numberBy old place fresh) → r ≡ freshBy old place fresh → Numbering A C (n + 1) r
+        → place ≡ placeOf (same (getD ys n d)) 0 xs → C ≡ set B (at + n) (numberBy old place fresh) → r ≡ freshBy old place fresh
+        → Numbering A C (n + 1) r
     numbering-next A B C n fresh old place r h l w o e c q =
         let z = h .filled .size in
         let f = filled-more (numberBy old place fresh) (h .filled) (omega arith) (number-by n old place fresh o e (h .new)) in

@@ -110,7 +110,8 @@ module _ (W : List ℕ) (name base count k whole : ℕ)
     builtin-end h = place-end (isNamed name) whole k _ e (rows-none here k count h)
 
 pub builtin-based : (W : List ℕ) (name count : ℕ) {base base′ : ℕ} → base ≡ base′
-    → placeOf (isNamed name) 0 (recordsOf definitionAt definitionSize W base count) ≡ placeOf (isNamed name) 0 (recordsOf definitionAt definitionSize W base′ count)
+    → placeOf (isNamed name) 0 (recordsOf definitionAt definitionSize W base count) ≡ placeOf (isNamed name) 0
+    (recordsOf definitionAt definitionSize W base′ count)
 builtin-based W name count e = ap (λ b. placeOf (isNamed name) 0 (recordsOf definitionAt definitionSize W b count)) e
 
 -- the name with its head at a place, among those that are walked
@@ -120,7 +121,8 @@ module _ (W X A : List ℕ) (i at k count whole : ℕ)
     abbrev isIt : Name → Bool
     isIt = sameName (nameAt X (getD A i 0))
 
-    pub name-hit : (P : List ℕ) {r : Bool} → k < count → r ≡ any (sameName (nameAt W at)) (rows (λ j. nameAt X (getD P j 0)) 0 1) → getD P 0 0 ≡ getD A i 0
+    pub name-hit : (P : List ℕ) {r : Bool} → k < count → r ≡ any (sameName (nameAt W at)) (rows (λ j. nameAt X (getD P j 0)) 0 1)
+        → getD P 0 0 ≡ getD A i 0
         → r ≡ true → k ≡ whole
     name-hit P {r} h q g t =
         place-hit isIt whole k _ e (nameAt W at) _ (names-next W at k count h) (known-one W X A P at i r q g ∙ t)

@@ -6,13 +6,15 @@ use mathlib.Core.Bool.{false}
 use native.Mathlib.Omega.{arith}
 use borrow.Author.Tests.{eqb-true, eqb-false, ne-eqb}
 use lib.Dec.{eqb}
-use lib.ListN.{length, take, length-append}
+use lib.ListN.{length, length-append}
 use Rattle.snapshot.specs.Records.{Map, Module, Snapshot}
-use Rattle.snapshot.specs.Sizes.{crateSize, dependencySize, mapSize, moduleSize, childSize, preludeSize, definitionSize, scopeSize, importSize, externSize, memberSize}
+use Rattle.snapshot.specs.Sizes.{crateSize, dependencySize, mapSize, moduleSize, childSize, preludeSize, definitionSize, scopeSize, importSize}
+use Rattle.snapshot.specs.Sizes.{externSize, memberSize}
 use Rattle.accept.specs.Valid.{Each, none, more}
 use Rattle.accept.proofs.Accepted.{by-test}
 use Rattle.edit_rules.specs.Entries.{scopeWords}
-use Rattle.edit_rules.specs.Written.{nameWords, crateWords, dependencyWords, mapWords, moduleWords, childWords, preludeWords, definitionWords, importWords, externWords, memberWords, eachWords, wordsWithin, treeWords, kindsWords, joined, snapshotWords}
+use Rattle.edit_rules.specs.Written.{nameWords, crateWords, dependencyWords, mapWords, moduleWords, childWords, preludeWords, definitionWords}
+use Rattle.edit_rules.specs.Written.{importWords, externWords, memberWords, eachWords, wordsWithin, treeWords, kindsWords, joined, snapshotWords}
 use Rattle.join_words.proofs.Lists.{sized-length}
 
 -- the words of maps and modules
@@ -105,8 +107,10 @@ sizes s known =
 
 -- the words before and in a kind
 pub snapshot-length : (s : Snapshot) → Sizes s → length (snapshotWords s)
-    ≡ length (eachWords nameWords (s .names)) + crateSize * length (s .crates) + dependencySize * length (s .dependencies) + mapSize * length (s .maps)
-    + moduleSize * length (s .modules) + childSize * length (s .children) + preludeSize * length (s .preludes) + definitionSize * length (s .definitions)
+    ≡ length (eachWords nameWords (s .names)) + crateSize * length (s .crates) + dependencySize * length (s .dependencies) + mapSize
+    * length (s .maps)
+    + moduleSize * length (s .modules) + childSize * length (s .children) + preludeSize * length (s .preludes) + definitionSize *
+    length (s .definitions)
     + scopeSize * length (s .scopes) + importSize * length (s .imports) + externSize * length (s .externs) + memberSize * length (s .members)
 unfolding snapshotWords sumOf
 snapshot-length s z = let e = joined-length (kindsWords s) in omega arith

@@ -8,7 +8,8 @@ use lib.ListN.{length, getD}
 use Rattle.snapshot.specs.Lists.{rows}
 use Rattle.snapshot.specs.Words.{payOf, wordsOf}
 use Rattle.snapshot.specs.Records.{Name, Module, Snapshot, nameAt}
-use Rattle.snapshot.specs.Layouts.{crateBase, dependencyBase, mapBase, childBase, preludeBase, definitionBase, scopeBase, importBase, externBase, memberBase, tableWords, snapOf}
+use Rattle.snapshot.specs.Layouts.{crateBase, dependencyBase, mapBase, childBase, preludeBase, definitionBase, scopeBase, importBase, externBase}
+use Rattle.snapshot.specs.Layouts.{memberBase, tableWords, snapOf}
 use Rattle.snapshot.specs.declared.layout.Layout.{Layout}
 use Rattle.snapshot.proofs.Laws.{length-rows}
 use Rattle.check_rules.specs.Verdict.{accept, verdict}
@@ -19,7 +20,8 @@ use Rattle.accept.proofs.Stable.{reads-stay}
 use Rattle.accept.proofs.Valid.{accepted-valid}
 use Rattle.find_path.specs.Line.{snapshotOf}
 use Rattle.edit_rules.specs.Entries.{scopeWords}
-use Rattle.edit_rules.specs.Written.{nameWords, crateWords, dependencyWords, childWords, preludeWords, definitionWords, importWords, externWords, memberWords, eachWords, treeWords, kindsWords, joined, snapshotWords}
+use Rattle.edit_rules.specs.Written.{nameWords, crateWords, dependencyWords, childWords, preludeWords, definitionWords, importWords, externWords}
+use Rattle.edit_rules.specs.Written.{memberWords, eachWords, treeWords, kindsWords, joined, snapshotWords}
 use Rattle.scope_edits.proofs.Written.{accepted-written}
 use Rattle.join_words.proofs.Runs.{At, at-left, at-right, at-next, at-rows, pay-is}
 use Rattle.join_words.proofs.Stages.{NameWhole}
@@ -42,7 +44,8 @@ name-stands x {X} {p} at low size =
     let t = ap (λ m. rows (λ i. getD X (p + 1 + i) 0) 0 (wordsOf m)) b ∙ at-rows (x .text) (wordsOf (x .bytes)) size (at-next _ (x .text) at) in
     λ i. record { bytes = b i; text = t i }
 
-names-stand : {X : List ℕ} {p : ℕ} (xs : List Name) → Each NameWhole xs → Each NameFits xs → At X p (eachWords nameWords xs) → namesFrom X p (length xs) ≡ xs
+names-stand : {X : List ℕ} {p : ℕ} (xs : List Name) → Each NameWhole xs → Each NameFits xs → At X p (eachWords nameWords xs)
+    → namesFrom X p (length xs) ≡ xs
 unfolding namesFrom eachWords
 names-stand [] hs fs at = refl
 names-stand {X} {p} (x ∷ xs) (more h hs) (more f fs) at =
@@ -177,7 +180,8 @@ pub part-kinds : (W : List ℕ) (l : Layout) → Part W l → Kinds W l (partOf 
 part-kinds W l p = kinds W l (partOf W) (p .words) (p .counted) (sizes (partOf W) (known-maps W (partOf W) (p .same)))
 
 -- the second's tables stay while their words do
-pub ready-stays : (W X A B : List ℕ) (l m : Layout) → Ready W X A l m → length B ≡ length A → ((i : ℕ) → i < tableWords → getD B i 0 ≡ getD A i 0) → Ready W X B l m
+pub ready-stays : (W X A B : List ℕ) (l m : Layout) → Ready W X A l m → length B ≡ length A → ((i : ℕ) → i < tableWords → getD B i 0 ≡ getD A i 0)
+    → Ready W X B l m
 ready-stays W X A B l m r e kept =
     let a = r .room in
     record { first = r .first; second = reads-stay X A B m (r .second) (λ i p q. kept i q); room = omega arith }

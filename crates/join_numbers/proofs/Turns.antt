@@ -19,7 +19,8 @@ use Rattle.hir_def.specs.Finds.{placeOf}
 use Rattle.join_words.specs.Joined.{nameNumber, sameBuiltin, definitionNumber}
 use Rattle.join_words.proofs.Lists.{any-not}
 use Rattle.join_numbers.specs.Parts.{partOf, namesFrom, Part, Ready}
-use Rattle.join_numbers.specs.Numbered.{nameTable, definitionTable, Holds, isNamed, numberBy, freshBy, NamesNumbered, DefinitionsNumbered, Numbered}
+use Rattle.join_numbers.specs.Numbered.{nameTable, definitionTable, Holds, isNamed, numberBy, freshBy, NamesNumbered, DefinitionsNumbered}
+use Rattle.join_numbers.specs.Numbered.{Numbered}
 use Rattle.join_numbers.proofs.Parts.{read-is, part-of, ready-stays}
 use Rattle.join_numbers.proofs.Finding.{place-none, place-by}
 use Rattle.join_numbers.proofs.Filling.{Numbering, numbering-next, numbering-done, fresh-few}
@@ -112,7 +113,8 @@ module _ (W X A : List ℕ) (l m : Layout) (r : Ready W X A l m) where
       record { filled = d .0; new = d .1 }
 
   -- there is room for one number more
-  pub definitions-room : (B : List ℕ) (n fresh : ℕ) → Definitions B n fresh → n < m .definitions → (definitionTable + n < length B) × (l .definitions + fresh < 2 ^ 32)
+  pub definitions-room : (B : List ℕ) (n fresh : ℕ) → Definitions B n fresh → n < m .definitions → (definitionTable + n < length B)
+      × (l .definitions + fresh < 2 ^ 32)
   definitions-room B n fresh h k =
       let few = second-part .limited .definitions in
       let old = r .first .limited .definitions in
@@ -133,7 +135,8 @@ module _ (W X A : List ℕ) (l m : Layout) (r : Ready W X A l m) where
 
   pub builtin-place : (d : ℕ) {k f name place : ℕ} → Holds A nameTable (nameNumber s t) (m .names) → d < m .definitions
       → k ≡ definitionAt X (definitionBase m + definitionSize * d) .kind → k ≡ 3 → f ≡ definitionAt X (definitionBase m + definitionSize * d) .first
-      → name ≡ getD A (nameTable + f) 0 → place ≡ placeOf (isNamed name) 0 (recordsOf definitionAt definitionSize W (definitionBase l) (l .definitions))
+      → name ≡ getD A (nameTable + f) 0
+      → place ≡ placeOf (isNamed name) 0 (recordsOf definitionAt definitionSize W (definitionBase l) (l .definitions))
       → place ≡ placeOf (sameBuiltin s t (definitionAt X (definitionBase m + definitionSize * d))) 0 (s .definitions)
   builtin-place d {k} {f} {name} h i a b c e p =
       let y = definitionAt X (definitionBase m + definitionSize * d) in
@@ -157,7 +160,8 @@ module _ (W X A : List ℕ) (l m : Layout) (r : Ready W X A l m) where
   pub named-holds : (B : List ℕ) (n : ℕ) → NamesNumbered s t A B n → Holds B nameTable (nameNumber s t) (m .names)
   named-holds B n h i k = let z = second-part .counted .names in h .filled .table i (omega arith)
 
-  pub numbered : (B C : List ℕ) (n d : ℕ) → NamesNumbered s t A B n → DefinitionsNumbered s t B C d → Numbered s t A C (record { names = n; definitions = d })
+  pub numbered : (B C : List ℕ) (n d : ℕ) → NamesNumbered s t A B n → DefinitionsNumbered s t B C d
+      → Numbered s t A C (record { names = n; definitions = d })
   numbered B C n d h g =
       let few = second-part .limited .names in
       let z = second-part .counted .names in

@@ -19,7 +19,8 @@ pub fn moved_name(area: &[u32], n: Name) -> Name
 
 pub fn moved_definition(area: &[u32], d: DefinitionId) -> DefinitionId
     requires { ⌜ d .0 < 2 ^ 32 ⌝ }
-    ensures { λ r. ⌜ ((s t : Snapshot) → NumbersIn s t (now (area .entry)) → d .0 < length (t .definitions) → r .0 ≡ secondNumbers s t .definitions (d .0)) ⌝ }
+    ensures { λ r. ⌜ ((s t : Snapshot) → NumbersIn s t (now (area .entry)) → d .0 < length (t .definitions)
+        → r .0 ≡ secondNumbers s t .definitions (d .0)) ⌝ }
 {
     DefinitionId(word(area, Moved::DEFINITIONS + d.0))
 }

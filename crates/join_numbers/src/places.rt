@@ -23,7 +23,8 @@ use snapshot::words::payload;
 /// The number that a name of the second part has among the first's, their count for none.
 pub fn place_of_name(first: &[u32], count: usize, second: &[u32], area: &[u32], n: Name) -> usize
     requires { ⌜ (count ≤ nameLimit) × (n .0 < length (now area)) ⌝ }
-    ensures { λ r. ⌜ r ≡ placeOf (sameName (nameAt (now (second .entry)) (nameHead (now (area .entry)) (n .0)))) 0 (namesFrom (now (first .entry)) 0 count) ⌝ }
+    ensures { λ r. ⌜ r ≡ placeOf (sameName (nameAt (now (second .entry)) (nameHead (now (area .entry)) (n .0)))) 0
+        (namesFrom (now (first .entry)) 0 count) ⌝ }
 {
     let i = n.0;
     let mut at = 0;

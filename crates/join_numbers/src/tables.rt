@@ -84,7 +84,8 @@ fn place_of_definition(
 ) -> usize
     requires { ⌜ Ready (now first) (now second) (now area) l1 l2 × (d .0 < l2 .definitions) ⌝ }
     requires { ⌜ Holds (now area) nameTable (nameNumber (partOf (now first)) (partOf (now second))) (l2 .names) ⌝ }
-    ensures { λ r. ⌜ r ≡ placeOf (sameBuiltin (partOf (now (first .entry))) (partOf (now (second .entry))) (definitionAt (now (second .entry)) (definitionBase l2 + definitionSize * d .0))) 0 (partOf (now (first .entry)) .definitions) ⌝ }
+    ensures { λ r. ⌜ r ≡ placeOf (sameBuiltin (partOf (now (first .entry))) (partOf (now (second .entry)))
+        (definitionAt (now (second .entry)) (definitionBase l2 + definitionSize * d .0))) 0 (partOf (now (first .entry)) .definitions) ⌝ }
 {
     let at = l2.definition_base() + Size::DEFINITION * d.0;
     if definition_kind(second, at) != DefinitionKind::BUILTIN {

@@ -12,7 +12,8 @@ use lib.Seq.{sets, length-sets, getD-append-add}
 use Rattle.snapshot.specs.Limits.{wordLimit}
 use Rattle.snapshot.specs.Lists.{rows}
 use Rattle.snapshot.specs.Words.{kindOf, payOf, argumentsAt}
-use Rattle.snapshot.specs.Layouts.{dependencyBase, mapBase, childBase, preludeBase, definitionBase, scopeBase, importBase, externBase, memberBase, wordCount}
+use Rattle.snapshot.specs.Layouts.{dependencyBase, mapBase, childBase, preludeBase, definitionBase, scopeBase, importBase, externBase, memberBase}
+use Rattle.snapshot.specs.Layouts.{wordCount}
 use Rattle.snapshot.specs.declared.layout.Layout.{Layout}
 use Rattle.snapshot.proofs.Laws.{past, rows-next, rows-none, rows-snoc, length-rows, getD-rows}
 use Rattle.accept.proofs.Accepted.{by-test}
@@ -20,7 +21,8 @@ use Rattle.accept.proofs.Turns.{arguments-few}
 use Rattle.edit_rules.specs.Written.{headOf, joined}
 use Rattle.join_words.specs.Joined.{Numbers, orNone, firstTo, secondTo, visibleTo}
 use Rattle.join_numbers.specs.Numbered.{nameTable, definitionTable}
-use Rattle.join_records.specs.Moves.{numbersOf, roleTable, roleOf, definitionOf, fieldTo, movedWord, movedAt, keptAt, keptWords, walked, movedRun, runOf, baseOf, kindTo, kinds, wordsTo}
+use Rattle.join_records.specs.Moves.{numbersOf, roleTable, roleOf, definitionOf, fieldTo, movedWord, movedAt, keptAt, keptWords, walked}
+use Rattle.join_records.specs.Moves.{movedRun, runOf, baseOf, kindTo, kinds, wordsTo}
 use Rattle.join_records.specs.Writes.{written, Space, Wrote, Whole}
 
 -- a word moved
@@ -121,7 +123,19 @@ module _ (e : Numbers) (p v n : ℕ) where
       → (role ≡ 8 → ⊥) → (role ≡ 9 → ⊥) → n ≡ fieldTo e p v role n
   unfolding fieldTo
   field-none role a b c d f g h i j =
-      rw (fieldTo, ne-eqb role 1 a, ne-eqb role 2 b, ne-eqb role 3 c, ne-eqb role 4 d, ne-eqb role 5 f, ne-eqb role 6 g, ne-eqb role 7 h, ne-eqb role 8 i, ne-eqb role 9 j)
+      rw (
+        fieldTo,
+        ne-eqb role 1 a,
+        ne-eqb role 2 b,
+        ne-eqb role 3 c,
+        ne-eqb role 4 d,
+        ne-eqb role 5 f,
+        ne-eqb role 6 g,
+        ne-eqb
+            role 7 h,
+        ne-eqb role 8 i,
+        ne-eqb role 9 j,
+      )
 
 module _ (e : Numbers) (X : List ℕ) (at : ℕ) where
   pub word-head : (i : ℕ) → i ≡ 0 → movedWord e X at i
@@ -134,7 +148,8 @@ module _ (e : Numbers) (X : List ℕ) (at : ℕ) where
   unfolding movedWord
   word-field i h = rw (movedWord, ne-eqb i 0 h)
 
-module _ (e : Numbers) (X : List ℕ) (at i : ℕ) {k p v role : ℕ} (a : k ≡ kindOf (getD X at 0)) (b : p ≡ payOf (getD X at 0)) (c : v ≡ getD X (at + 4) 0)
+module _ (e : Numbers) (X : List ℕ) (at i : ℕ) {k p v role : ℕ} (a : k ≡ kindOf (getD X at 0)) (b : p ≡ payOf (getD X at 0))
+    (c : v ≡ getD X (at + 4) 0)
     (d : role ≡ roleOf k i)
   where
     pub head-is : i ≡ 0 → k * 268435456 + fieldTo e p v role p ≡ movedWord e X at i
@@ -155,14 +170,16 @@ pub store-start : (f : ℕ → ℕ) (T : List ℕ) (to : ℕ) → T ≡ sets T t
 unfolding rows
 store-start f T to = refl
 
-pub store-next : (f : ℕ → ℕ) {T : List ℕ} (T₀ : List ℕ) (to i v : ℕ) → T ≡ sets T₀ to (rows f 0 i) → v ≡ f i → set T (to + i) v ≡ sets T₀ to (rows f 0 (i + 1))
+pub store-next : (f : ℕ → ℕ) {T : List ℕ} (T₀ : List ℕ) (to i v : ℕ) → T ≡ sets T₀ to (rows f 0 i) → v ≡ f i
+    → set T (to + i) v ≡ sets T₀ to (rows f 0 (i + 1))
 store-next f {T} T₀ to i v e q =
     ap₂ (λ l w. set l (to + i) w) e q ∙ ap (λ k. set (sets T₀ to (rows f 0 i)) (to + k) (f i)) (sym (length-rows f i))
     ∙ sym (sets-append T₀ (rows f 0 i) (f i ∷ []) to) ∙ ap (sets T₀ to) (sym (rows-snoc f i))
 
 -- words that are written, or only counted
 
-written-append : (write : Bool) (at : ℕ) (xs ys T : List ℕ) → written write (at + length xs) ys (written write at xs T) ≡ written write at (xs ++ ys) T
+written-append : (write : Bool) (at : ℕ) (xs ys T : List ℕ) → written write (at + length xs) ys (written write at xs T)
+    ≡ written write at (xs ++ ys) T
 unfolding written
 written-append true at xs ys T = sym (sets-append T xs ys at)
 written-append false at xs ys T = refl
@@ -214,7 +231,8 @@ module _ {write : Bool} {at : ℕ} (xs ys : List ℕ) {T : List ℕ} (space : Sp
         fits = λ t i l. subst (λ w. w < 2 ^ 32) (getD-append-add xs ys i 0) (space .fits t (length xs + i) (omega arith));
       }
 
-pub wrote-both : {write : Bool} {at r q : ℕ} {xs ys T U Y : List ℕ} → Wrote write at xs T U r → Wrote write r ys U Y q → Wrote write at (xs ++ ys) T Y q
+pub wrote-both : {write : Bool} {at r q : ℕ} {xs ys T U Y : List ℕ} → Wrote write at xs T U r → Wrote write r ys U Y q
+    → Wrote write at (xs ++ ys) T Y q
 wrote-both {write} {at} {r} {q} {xs} {ys} {T} {U} {Y} w v =
     let n = length-append xs ys in
     let a = w .next in
@@ -232,7 +250,8 @@ counted f {write} {to} n {T} e =
     let l = length-rows f n in
     record { next = omega arith; same = sym (ap (λ b. written b to (rows f 0 n) T) (not-true write e)) }
 
-pub stored : (f : ℕ → ℕ) {write : Bool} {to : ℕ} (n i : ℕ) (T₀ : List ℕ) {T : List ℕ} → not write ≡ false → i ≤ n → n ≤ i → T ≡ sets T₀ to (rows f 0 i)
+pub stored : (f : ℕ → ℕ) {write : Bool} {to : ℕ} (n i : ℕ) (T₀ : List ℕ) {T : List ℕ} → not write ≡ false → i ≤ n → n ≤ i
+    → T ≡ sets T₀ to (rows f 0 i)
     → Wrote write to (rows f 0 n) T₀ T (to + n)
 unfolding written
 stored f {write} {to} n i T₀ {T} e a b q =
@@ -397,7 +416,8 @@ module _ {write : Bool} {A : List ℕ} {l : Layout} {X ws : List ℕ} {to : ℕ}
 
 -- where the kinds begin
 
-pub base-is : (l : Layout) (k : ℕ) {a b c d f g h i j m : ℕ} → a ≡ dependencyBase l → b ≡ mapBase l → c ≡ childBase l → d ≡ preludeBase l → f ≡ definitionBase l
+pub base-is : (l : Layout) (k : ℕ) {a b c d f g h i j m : ℕ} → a ≡ dependencyBase l → b ≡ mapBase l → c ≡ childBase l
+    → d ≡ preludeBase l → f ≡ definitionBase l
     → g ≡ scopeBase l → h ≡ importBase l → i ≡ externBase l → j ≡ memberBase l → m ≡ memberBase l
     → getD (0 ∷ l .text ∷ a ∷ b ∷ c ∷ d ∷ f ∷ g ∷ h ∷ i ∷ j ∷ (m + 5 * l .members) ∷ []) k 0 ≡ baseOf l k
 unfolding baseOf

@@ -29,11 +29,13 @@ fieldsTo e k p v i (w ∷ ws) = fieldTo e p v (roleOf k i) w ∷ fieldsTo e k p 
 abbrev pub recordTo : Numbers → ℕ → ℕ → ℕ → List ℕ → List ℕ
 recordTo e k p v ws = headOf k (fieldTo e p v (roleOf k 0) p) ∷ fieldsTo e k p v 1 ws
 
-module _ (e : Numbers) (k pay : ℕ) {X : List ℕ} {p : ℕ} {ws : List ℕ} (at : At X p (headOf k pay ∷ ws)) (low : pay < 268435456) (size : argumentsOf k pay ≡ length ws) where
+module _ (e : Numbers) (k pay : ℕ) {X : List ℕ} {p : ℕ} {ws : List ℕ} (at : At X p (headOf k pay ∷ ws)) (low : pay < 268435456)
+    (size : argumentsOf k pay ≡ length ws) where
   pub arguments-is : argumentsAt X p ≡ length ws
   arguments-is = ap₂ argumentsOf (kind-is k pay at low) (pay-is k pay at low) ∙ size
 
-  fields-are : (i : ℕ) (us : List ℕ) → At X (p + suc i) us → rows (movedWord e X p) (suc i) (length us) ≡ fieldsTo e k pay (getD X (p + 4) 0) (suc i) us
+  fields-are : (i : ℕ) (us : List ℕ) → At X (p + suc i) us → rows (movedWord e X p) (suc i) (length us) ≡ fieldsTo e k pay
+      (getD X (p + 4) 0) (suc i) us
   unfolding fieldsTo rows
   fields-are i [] h = refl
   fields-are i (u ∷ us) h =
@@ -116,11 +118,13 @@ each-passes {R} {A} {l} {X} {end} f h p d (y ∷ ys) q n b at one =
     let w : keptWords A l X q n ≡ elim (p y) [ true ↦ h y | false ↦ [] ] = ap (keptWords A l X q) (sym z) ∙ s .words in
     let o : q + 1 + argumentsAt X q ≡ q + length (f y) = omega arith in
     let first = passes-to (passes-one {A = A} {l = l} {X = X} {end = end} q n (omega arith)) o refl w in
-    let rest = each-passes {R = R} {A = A} {l = l} {X = X} {end = end} f h p d ys (q + length (f y)) (n + 1) (omega arith) (at-right (f y) (eachWords f ys) at)
+    let rest = each-passes {R = R} {A = A} {l = l} {X = X} {end = end} f h p d ys (q + length (f y)) (n + 1) (omega arith)
+    (at-right (f y) (eachWords f ys) at)
     (λ i r k a. let e : n + suc i ≡ n + 1 + i = omega arith in subst (λ j. Step A l X f h p (getD ys i d) r j) e (one (suc i) r (omega arith) a)) in
     passes-to (passes-then first rest) (omega arith) (omega arith) (out (p y))
   where
-    out : (b : Bool) → elim b [ true ↦ h y | false ↦ [] ] ++ eachWords h (select p ys) ≡ eachWords h (elim b [ true ↦ y ∷ select p ys | false ↦ select p ys ])
+    out : (b : Bool) → elim b [ true ↦ h y | false ↦ [] ] ++ eachWords h (select p ys) ≡ eachWords h
+        (elim b [ true ↦ y ∷ select p ys | false ↦ select p ys ])
     out true = refl
     out false = refl
 

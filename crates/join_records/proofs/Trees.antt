@@ -1,5 +1,5 @@
 -- Maps, each before its modules: those of two parts, and what the walk puts for the second's.
-use Prim.Native.Nat.{ℕ, suc, _+_, _-_, _≤_, _<_}
+use Prim.Native.Nat.{ℕ, suc, _+_, _≤_, _<_}
 use mathlib.Core.Path.{_≡_, refl, sym, _∙_, ap, ap₂, subst}
 use mathlib.Core.List.{List, [], _∷_, _++_, map, append-assoc, append-nil}
 use native.Mathlib.Omega.{arith}
@@ -43,7 +43,8 @@ tree-drop : (k : ℕ) (ms : List Map) (xs ys : List Module) → Each (λ x. x .m
 unfolding treeWords
 tree-drop k [] xs ys h = refl
 tree-drop k (m ∷ ms) xs ys h =
-    let a = words-append (wordsWithin k) xs ys ∙ ap (λ l. l ++ eachWords (wordsWithin k) ys) (within-none k xs (each-map (λ x p z. omega (arith, p)) h)) in
+    let a = words-append (wordsWithin k) xs ys ∙ ap (λ l. l ++ eachWords (wordsWithin k) ys)
+    (within-none k xs (each-map (λ x p z. omega (arith, p)) h)) in
     ap₂ (λ u v. mapWords m ++ (u ++ v)) a (tree-drop (k + 1) ms xs ys (each-map (λ x p. omega (arith, p)) h))
 
 pub tree-both : (k : ℕ) (ms ns : List Map) (xs ys : List Module) → Each (λ x. x .map < k + length ms) xs → Each (λ x. k + length ms ≤ x .map) ys
@@ -71,7 +72,8 @@ module _ (A : List ℕ) (l : Layout) (X : List ℕ) (end : ℕ) where
   abbrev e : Numbers
   e = numbersOf A l
 
-  map-passes : (x : Map) (q n : ℕ) → q + 3 ≤ end → At X q (mapWords x) → Small (x .crate) → Passes A l X end q n (q + 3) (n + 1) (mapWords (mapTo e x))
+  map-passes : (x : Map) (q n : ℕ) → q + 3 ≤ end → At X q (mapWords x) → Small (x .crate)
+      → Passes A l X end q n (q + 3) (n + 1) (mapWords (mapTo e x))
   unfolding fieldsTo roleOf fieldTo argumentsOf
   map-passes x q n b at low =
       let s = arguments-is e 4 (x .crate) at low refl in

@@ -8,7 +8,8 @@ use lib.ListN.{getD}
 use Rattle.snapshot.specs.Lists.{rows}
 use Rattle.snapshot.specs.Words.{kindOf, payOf, argumentsAt}
 use Rattle.snapshot.specs.Records.{Definition}
-use Rattle.snapshot.specs.Layouts.{crateBase, dependencyBase, mapBase, childBase, preludeBase, definitionBase, scopeBase, importBase, externBase, memberBase, wordCount}
+use Rattle.snapshot.specs.Layouts.{crateBase, dependencyBase, mapBase, childBase, preludeBase, definitionBase, scopeBase, importBase, externBase}
+use Rattle.snapshot.specs.Layouts.{memberBase, wordCount}
 use Rattle.snapshot.specs.declared.layout.Layout.{Layout}
 use Rattle.edit_rules.specs.Written.{headOf, joined}
 use Rattle.join_numbers.specs.Numbered.{nameTable, definitionTable}
@@ -83,7 +84,8 @@ fieldTo e p v role n =
 unfoldable pub movedWord : Numbers → List ℕ → ℕ → ℕ → ℕ
 movedWord e X at i =
     elim (eqb i 0) [
-      | true ↦ headOf (kindOf (getD X at 0)) (fieldTo e (payOf (getD X at 0)) (getD X (at + 4) 0) (roleOf (kindOf (getD X at 0)) 0) (payOf (getD X at 0)))
+      | true ↦ headOf (kindOf (getD X at 0)) (fieldTo e (payOf (getD X at 0)) (getD X (at + 4) 0) (roleOf (kindOf (getD X at 0)) 0)
+          (payOf (getD X at 0)))
       | false ↦ fieldTo e (payOf (getD X at 0)) (getD X (at + 4) 0) (roleOf (kindOf (getD X at 0)) i) (getD X (at + i) 0)
     ]
 

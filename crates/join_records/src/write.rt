@@ -46,7 +46,8 @@ fn put_record(
     write: bool,
 ) -> usize
     requires { ⌜ Space write to (movedAt (numbersOf (now area) l) (now words) at) (now target) ⌝ }
-    ensures { λ r. ⌜ Wrote write to (movedAt (numbersOf (now (area .entry)) l) (now (words .entry)) at) (now (target .entry)) (now (target .exit)) r ⌝ }
+    ensures { λ r. ⌜ Wrote write to (movedAt (numbersOf (now (area .entry)) l) (now (words .entry)) at) (now (target .entry))
+        (now (target .exit)) r ⌝ }
 {
     let n = 1 + arguments(words, at);
     if !write {
@@ -155,7 +156,8 @@ fn put_kind(
 ) -> usize
     requires { ⌜ Whole (now first) l × Whole (now second) m × (k < kinds) ⌝ }
     requires { ⌜ Space write to (kindTo (now area) l m (now first) (now second) k) (now target) ⌝ }
-    ensures { λ r. ⌜ Wrote write to (kindTo (now (area .entry)) l m (now (first .entry)) (now (second .entry)) k) (now (target .entry)) (now (target .exit)) r ⌝ }
+    ensures { λ r. ⌜ Wrote write to (kindTo (now (area .entry)) l m (now (first .entry)) (now (second .entry)) k) (now (target .entry))
+        (now (target .exit)) r ⌝ }
 {
     let t = copy(first, base(l, k), base(l, k + 1), target, to, write);
     put_moved(
@@ -183,7 +185,8 @@ pub fn put_kinds(
 ) -> usize
     requires { ⌜ Whole (now first) l × Whole (now second) m ⌝ }
     requires { ⌜ Space write 0 (wordsTo (now area) l m (now first) (now second)) (now target) ⌝ }
-    ensures { λ r. ⌜ Wrote write 0 (wordsTo (now (area .entry)) l m (now (first .entry)) (now (second .entry))) (now (target .entry)) (now (target .exit)) r ⌝ }
+    ensures { λ r. ⌜ Wrote write 0 (wordsTo (now (area .entry)) l m (now (first .entry)) (now (second .entry))) (now (target .entry))
+        (now (target .exit)) r ⌝ }
 {
     let mut to = 0;
     let mut k = 0;

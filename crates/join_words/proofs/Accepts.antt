@@ -1,31 +1,34 @@
 -- A valid snapshot, written out, is accepted, with each record at its place.
-use Prim.Native.Nat.{ℕ, zero, suc, _+_, _*_, _-_, _≤_, _<_}
-use mathlib.Core.Path.{_≡_, refl, sym, _∙_, ap, ap₂, subst}
+use Prim.Native.Nat.{ℕ, zero, suc, _+_, _*_, _≤_, _<_}
+use mathlib.Core.Path.{_≡_, refl, sym, _∙_, ap, subst}
 use mathlib.Core.List.{List, [], _∷_, _++_}
 use mathlib.Core.Bool.{Bool, true, false, _&&_, _||_, not}
 use native.Mathlib.Omega.{arith}
 use native.Mathlib.Nat.{add-zero, zero-add}
-use borrow.Author.Tests.{le-leb, lt-ltb, lt-leb, eq-eqb, ne-eqb, eqb-true, eqb-false, leb-true, leb-false}
+use borrow.Author.Tests.{le-leb, lt-ltb, lt-leb, eq-eqb, ne-eqb, eqb-true, eqb-false, leb-false}
 use lib.Dec.{eqb, leb, ltb}
 use lib.ListN.{length, getD, take, length-append}
 use lib.Seq.{getD-take}
-use Rattle.snapshot.specs.Lists.{any, all, rows}
-use Rattle.snapshot.specs.Limits.{wordLimit, crateLimit, moduleLimit, nameLimit, definitionLimit, namespaceLimit}
+use Rattle.snapshot.specs.Lists.{any, all}
+use Rattle.snapshot.specs.Limits.{wordLimit, definitionLimit}
 use Rattle.snapshot.specs.Sizes.{definitionSize, scopeSize, importSize, externSize}
-use Rattle.snapshot.specs.Records.{Name, Crate, Dependency, Map, Module, Child, Prelude, Definition, Scope, Import, Extern, Member, Snapshot}
-use Rattle.check_rules.specs.Tests.{Counts, countsOf, noName, noMap, noModule, noDefinition, isBuiltin, isOwn, isIn, definitionRange, definitionDefined, sameDefinition, definitionRepeated, definitionPlaced, kindOfDefinition, scopeRange, scopeDefined, sameEntry, nsPlaced, importRange, importDefined, externDefined, sameExtern, memberRange, memberDefined, isMember, memberPlaced, mapsFilled, cratesOwn}
-use Rattle.check_rules.specs.Steps.{addDefinition, addScope, addImport, addExtern, addMember}
-use Rattle.accept.specs.Valid.{Each, none, more, Valid, mapIn, definitionIn, crateIn, blockIn, DefinitionFits, ScopeFits, Belongs}
-use Rattle.check_rules.specs.Verdict.{verdict, accept, finish, records}
+use Rattle.snapshot.specs.Records.{Definition, Scope, Import, Extern, Member, Snapshot}
+use Rattle.check_rules.specs.Tests.{countsOf, noMap, noModule, noDefinition, isOwn, isIn, definitionRange, definitionDefined, sameDefinition}
+use Rattle.check_rules.specs.Tests.{definitionRepeated, definitionPlaced, scopeRange, scopeDefined, sameEntry, sameExtern, isMember, memberPlaced}
+use Rattle.check_rules.specs.Tests.{mapsFilled, cratesOwn}
+use Rattle.check_rules.specs.Steps.{addDefinition, addScope, addImport, addExtern}
+use Rattle.accept.specs.Valid.{Valid, mapIn, definitionIn, crateIn, blockIn, DefinitionFits, ScopeFits, Belongs}
+use Rattle.check_rules.specs.Verdict.{verdict, accept, finish}
 use Rattle.accept.proofs.Accepted.{by-test}
 use Rattle.accept.proofs.Bools.{each-at}
 use Rattle.accept.proofs.Folds.{records-end}
 use Rattle.edit_rules.specs.Entries.{scopeWords, movedScope, movedImport, movedExtern}
-use Rattle.edit_rules.specs.Written.{nameWords, crateWords, dependencyWords, childWords, preludeWords, definitionWords, importWords, externWords, memberWords, eachWords, treeWords, kindsWords, snapshotWords}
+use Rattle.edit_rules.specs.Written.{definitionWords, importWords, externWords, memberWords, eachWords, kindsWords, snapshotWords}
 use Rattle.edit_rules.specs.Written as written
 use Rattle.scope_edits.proofs.Split.{verdict-is}
 use Rattle.join_words.specs.Joined.{definitionPut, placedBy, placed, kindBase}
-use Rattle.join_words.proofs.Lists.{any-has, all-rows, before-length, before-any, placed-length, placed-at, placed-field, placed-words, sized-length}
+use Rattle.join_words.proofs.Lists.{any-has, all-rows, before-length, before-any, placed-length, placed-at, placed-field, placed-words}
+use Rattle.join_words.proofs.Lists.{sized-length}
 use Rattle.join_words.proofs.Runs.{At, at-left, at-right, Goes, Small, goes-then, each-goes}
 use Rattle.join_words.proofs.Taken.{definition-goes, scope-goes, import-goes, extern-goes, member-goes}
 use Rattle.join_words.proofs.Stages.{Whole, DefinitionWhole, lists, names-go, crates-go, dependencies-go, tree-go, children-go, preludes-go}
@@ -109,13 +112,20 @@ module _ (X : List ℕ) (u : Snapshot) (v : Valid u) (w : Whole u) where
           (λ c.
           let e = eqb-true (x .kind) 2 c in
           let f = v .enums i li e .0 in
-          rw (c, ne-eqb (x .kind) 3 (λ z. omega arith), lt-ltb (x .first) (length zs) (omega arith), lt-ltb (x .second) (length (u .names)) (fits .variant e .1)))
+          rw (
+            c,
+            ne-eqb (x .kind) 3 (λ z. omega arith),
+            lt-ltb (x .first) (length zs) (omega arith),
+            lt-ltb (x .second)
+                (length (u .names)) (fits .variant e .1),
+          ))
           (λ c. by-test (eqb (x .kind) 3)
           (λ e. rw (c, e, lt-ltb (x .first) (length (u .names)) (fits .builtin (eqb-true (x .kind) 3 e))))
           (λ e. rw (c, e, lt-ltb (x .first) (length (u .modules)) (fits .home (eqb-false (x .kind) 2 c) (eqb-false (x .kind) 3 e)))))
 
       once : (k : ℕ) → x .kind ≡ k
-          → ((j : ℕ) → j < i → definitionIn (u .definitions) j .kind ≡ k → definitionIn (u .definitions) j .first ≡ x .first → ⊥) → any (sameDefinition y) zs ≡ false
+          → ((j : ℕ) → j < i → definitionIn (u .definitions) j .kind ≡ k → definitionIn (u .definitions) j .first ≡ x .first → ⊥)
+          → any (sameDefinition y) zs ≡ false
       once k e h = none-before (sameDefinition y)
           (λ j l. apart (x .kind) (x .first) (getD zs j noDefinition .kind) (getD zs j noDefinition .first)
           (λ a b. h j l (sym (kinds j l) ∙ sym a ∙ e) (sym (firsts j l) ∙ sym b)))
@@ -156,7 +166,8 @@ module _ (X : List ℕ) (u : Snapshot) (v : Valid u) (w : Whole u) where
       definition-goes-on e a =
           let m = v .limits .definitions in
           let k = fits .kind in
-          definition-goes (stage zs [] [] [] []) y a e (omega arith) first-small second-small definition-range definition-defined definition-new definition-placed
+          definition-goes (stage zs [] [] [] []) y a e (omega arith) first-small second-small definition-range definition-defined
+          definition-new definition-placed
           (lt-ltb (length zs) definitionLimit (omega arith))
 
   pub kind-stays : (d : ℕ) → getD ds d noDefinition .kind ≡ definitionIn (u .definitions) d .kind
@@ -180,7 +191,8 @@ module _ (X : List ℕ) (u : Snapshot) (v : Valid u) (w : Whole u) where
       let z = sized-length definitionWords definitionSize (λ x. refl) (take i ds) in
       let to : kindBase u 6 + definitionSize * i ≡ p = omega arith in
       let same = placed-at definitionPut definitionSize noDefinition (kindBase u 6) (u .definitions) i (omega arith) in
-      subst (λ y. At X p (definitionWords y) → Goes X p 8 (stage (take i ds) [] [] [] []) (p + length (definitionWords y)) 8 (stage (take i ds ++ (y ∷ [])) [] [] [] []))
+      subst (λ y. At X p (definitionWords y) → Goes X p 8 (stage (take i ds) [] [] [] []) (p + length (definitionWords y)) 8
+      (stage (take i ds ++ (y ∷ [])) [] [] [] []))
       (sym same)
       (λ h. definition-goes-on (take i ds) i (kindBase u 6 + definitionSize * i) (omega arith) b
       (λ j k. ap (λ (y : Definition). y .kind) (getD-take i ds j noDefinition k) ∙ kind-stays j)
@@ -194,71 +206,74 @@ module _ (X : List ℕ) (u : Snapshot) (v : Valid u) (w : Whole u) where
   macros ns d h =
       by-test (eqb ns 2) (λ c. rw (c, eq-eqb (getD ds d noDefinition .kind) 5 (kind-stays d ∙ h (eqb-true ns 2 c)))) (λ c. rw c)
 
-  module _ (zs : List Scope) (i q : ℕ) (li : i < length (u .scopes)) (new : any (sameEntry (scopePut q (getD (u .scopes) i noScope))) zs ≡ false) where
-    abbrev sx : Scope
-    sx = getD (u .scopes) i noScope
+  module _ (zs : List Scope) (i q : ℕ) (li : i < length (u .scopes)) (new : any (sameEntry (scopePut q (getD (u .scopes) i noScope))) zs ≡ false)
+    where
+      abbrev sx : Scope
+      sx = getD (u .scopes) i noScope
 
-    sf : ScopeFits (countsOf u) sx
-    sf = each-at noScope i (v .ranges .scopes) li
+      sf : ScopeFits (countsOf u) sx
+      sf = each-at noScope i (v .ranges .scopes) li
 
-    number-range : not (eqb (sx .visibility) 0) || eqb (sx .number) 0 ≡ true
-    number-range =
-        by-test (eqb (sx .visibility) 0) (λ c. rw (c, eq-eqb (sx .number) 0 (sf .public (eqb-true (sx .visibility) 0 c)))) (λ c. rw c)
+      number-range : not (eqb (sx .visibility) 0) || eqb (sx .number) 0 ≡ true
+      number-range =
+          by-test (eqb (sx .visibility) 0) (λ c. rw (c, eq-eqb (sx .number) 0 (sf .public (eqb-true (sx .visibility) 0 c)))) (λ c. rw c)
 
-    number-crate : not (eqb (sx .visibility) 1) || ltb (sx .number) (length (u .crates)) ≡ true
-    number-crate =
-        by-test (eqb (sx .visibility) 1) (λ c. rw (c, lt-ltb (sx .number) (length (u .crates)) (sf .crate (eqb-true (sx .visibility) 1 c)))) (λ c. rw c)
+      number-crate : not (eqb (sx .visibility) 1) || ltb (sx .number) (length (u .crates)) ≡ true
+      number-crate =
+          by-test (eqb (sx .visibility) 1) (λ c. rw (c, lt-ltb (sx .number) (length (u .crates)) (sf .crate (eqb-true (sx .visibility) 1 c))))
+          (λ c. rw c)
 
-    number-module : leb (sx .visibility) 1 || ltb (sx .number) (length (u .modules)) ≡ true
-    number-module =
-        by-test (leb (sx .visibility) 1) (λ c. rw c)
-        (λ c. rw (c, lt-ltb (sx .number) (length (u .modules)) (sf .inside (leb-false (sx .visibility) 1 c))))
+      number-module : leb (sx .visibility) 1 || ltb (sx .number) (length (u .modules)) ≡ true
+      number-module =
+          by-test (leb (sx .visibility) 1) (λ c. rw c)
+          (λ c. rw (c, lt-ltb (sx .number) (length (u .modules)) (sf .inside (leb-false (sx .visibility) 1 c))))
 
-    number-small : Small (sx .number)
-    number-small =
-        let m = v .limits .modules in
-        let k = v .limits .crates in
-        by-test (eqb (sx .visibility) 0) (λ c. let e = sf .public (eqb-true (sx .visibility) 0 c) in omega arith)
-        (λ c. by-test (eqb (sx .visibility) 1) (λ d. let e = sf .crate (eqb-true (sx .visibility) 1 d) in omega arith)
-        (λ d. let a = eqb-false (sx .visibility) 0 c in let b = eqb-false (sx .visibility) 1 d in let e = sf .inside (omega arith) in omega arith))
+      number-small : Small (sx .number)
+      number-small =
+          let m = v .limits .modules in
+          let k = v .limits .crates in
+          by-test (eqb (sx .visibility) 0) (λ c. let e = sf .public (eqb-true (sx .visibility) 0 c) in omega arith)
+          (λ c. by-test (eqb (sx .visibility) 1) (λ d. let e = sf .crate (eqb-true (sx .visibility) 1 d) in omega arith)
+          (λ d. let a = eqb-false (sx .visibility) 0 c in let b = eqb-false (sx .visibility) 1 d in let e = sf .inside (omega arith) in omega arith))
 
-    scope-range : scopeRange sx ≡ true
-    scope-range =
-        rw (
-          le-leb (sx .ns) 2 (sf .ns),
-          le-leb (sx .visibility) 3 (sf .visibility),
-          number-range,
-          le-leb (sx .declared) 3 (sf .declared),
-          le-leb (sx .bits) 3 (sf .bits),
-        )
+      scope-range : scopeRange sx ≡ true
+      scope-range =
+          rw (
+            le-leb (sx .ns) 2 (sf .ns),
+            le-leb (sx .visibility) 3 (sf .visibility),
+            number-range,
+            le-leb (sx .declared) 3 (sf .declared),
+            le-leb (sx .bits) 3 (sf .bits),
+          )
 
-    scope-defined : scopeDefined (countsOf (stage ds zs [] [] [])) sx ≡ true
-    scope-defined =
-        let n = ds-length in
-        let d = sf .definition in
-        rw (
-          lt-ltb (sx .owner) (length (u .modules)) (sf .owner),
-          lt-ltb (sx .name) (length (u .names)) (sf .name),
-          lt-ltb (sx .definition) (length ds) (omega arith),
-          number-crate,
-          number-module,
-        )
+      scope-defined : scopeDefined (countsOf (stage ds zs [] [] [])) sx ≡ true
+      scope-defined =
+          let n = ds-length in
+          let d = sf .definition in
+          rw (
+            lt-ltb (sx .owner) (length (u .modules)) (sf .owner),
+            lt-ltb (sx .name) (length (u .names)) (sf .name),
+            lt-ltb (sx .definition) (length ds) (omega arith),
+            number-crate,
+            number-module,
+          )
 
-    scope-goes-on : {p : ℕ} → q ≡ p → At X p (scopeWords (scopePut q sx))
-        → Goes X p 9 (stage ds zs [] [] []) (p + length (scopeWords (scopePut q sx))) 9 (addScope (stage ds zs [] [] []) (scopePut q sx))
-    scope-goes-on e a =
-        let m = v .limits .modules in
-        let k = v .limits .names in
-        let l = v .limits .definitions in
-        let f0 = sf .owner in
-        let f1 = sf .ns in
-        let f2 = sf .name in
-        let f3 = sf .definition in
-        let f4 = sf .visibility in
-        let f6 = sf .declared in
-        let f7 = sf .bits in
-        scope-goes (stage ds zs [] [] []) (scopePut q sx) a e (omega arith) (omega arith) (omega arith) (omega arith) (omega arith) number-small (omega arith) (omega arith)
-        scope-range scope-defined new (macros (sx .ns) (sx .definition) (each-at noScope i (v .scopes) li))
+      scope-goes-on : {p : ℕ} → q ≡ p → At X p (scopeWords (scopePut q sx))
+          → Goes X p 9 (stage ds zs [] [] []) (p + length (scopeWords (scopePut q sx))) 9 (addScope (stage ds zs [] [] []) (scopePut q sx))
+      scope-goes-on e a =
+          let m = v .limits .modules in
+          let k = v .limits .names in
+          let l = v .limits .definitions in
+          let f0 = sf .owner in
+          let f1 = sf .ns in
+          let f2 = sf .name in
+          let f3 = sf .definition in
+          let f4 = sf .visibility in
+          let f6 = sf .declared in
+          let f7 = sf .bits in
+          scope-goes (stage ds zs [] [] []) (scopePut q sx) a e (omega arith) (omega arith) (omega arith) (omega arith) (omega arith)
+          number-small (omega arith) (omega arith)
+          scope-range scope-defined new (macros (sx .ns) (sx .definition) (each-at noScope i (v .scopes) li))
 
   ss-length : length ss ≡ length (u .scopes)
   ss-length = placed-length scopePut scopeSize (kindBase u 7) (u .scopes)
@@ -277,13 +292,15 @@ module _ (X : List ℕ) (u : Snapshot) (v : Valid u) (w : Whole u) where
       let y = scopePut (kindBase u 7 + scopeSize * i) (getD (u .scopes) i noScope) in
       let new : any (sameEntry y) (take i ss) ≡ false =
       before-any noScope ss i l (sameEntry y) (λ j o. ap (sameEntry y) (put j (omega arith)) ∙ v .once .scopes j i o li) in
-      subst (λ y. At X p (scopeWords y) → Goes X p 9 (stage ds (take i ss) [] [] []) (p + length (scopeWords y)) 9 (stage ds (take i ss ++ (y ∷ [])) [] [] []))
+      subst (λ y. At X p (scopeWords y) → Goes X p 9 (stage ds (take i ss) [] [] []) (p + length (scopeWords y)) 9
+      (stage ds (take i ss ++ (y ∷ [])) [] [] []))
       (sym (put i li))
       (λ h. scope-goes-on (take i ss) i (kindBase u 7 + scopeSize * i) li new to h) a)
 
   -- imports
 
-  import-goes-on : (zs : List Import) (i q : ℕ) → i < length (u .imports) → {p : ℕ} → q ≡ p → At X p (importWords (importPut q (getD (u .imports) i noImport)))
+  import-goes-on : (zs : List Import) (i q : ℕ) → i < length (u .imports) → {p : ℕ}
+      → q ≡ p → At X p (importWords (importPut q (getD (u .imports) i noImport)))
       → Goes X p 10 (stage ds ss zs [] []) (p + length (importWords (importPut q (getD (u .imports) i noImport)))) 10
       (addImport (stage ds ss zs [] []) (importPut q (getD (u .imports) i noImport)))
   import-goes-on zs i q li e a =
@@ -319,13 +336,15 @@ module _ (X : List ℕ) (u : Snapshot) (v : Valid u) (w : Whole u) where
       let z = sized-length importWords importSize (λ x. refl) (take i is) in
       let to : kindBase u 8 + importSize * i ≡ p = omega arith in
       let li : i < length (u .imports) = omega arith in
-      subst (λ y. At X p (importWords y) → Goes X p 10 (stage ds ss (take i is) [] []) (p + length (importWords y)) 10 (stage ds ss (take i is ++ (y ∷ [])) [] []))
+      subst (λ y. At X p (importWords y) → Goes X p 10 (stage ds ss (take i is) [] []) (p + length (importWords y)) 10
+      (stage ds ss (take i is ++ (y ∷ [])) [] []))
       (sym (placed-at importPut importSize noImport (kindBase u 8) (u .imports) i li))
       (λ h. import-goes-on (take i is) i (kindBase u 8 + importSize * i) li to h) a)
 
   -- externs
 
-  extern-goes-on : (zs : List Extern) (i q : ℕ) → i < length (u .externs) → any (sameExtern (externPut q (getD (u .externs) i noExtern))) zs ≡ false → {p : ℕ} → q ≡ p
+  extern-goes-on : (zs : List Extern) (i q : ℕ) → i < length (u .externs)
+      → any (sameExtern (externPut q (getD (u .externs) i noExtern))) zs ≡ false → {p : ℕ} → q ≡ p
       → At X p (externWords (externPut q (getD (u .externs) i noExtern)))
       → Goes X p 11 (stage ds ss is zs []) (p + length (externWords (externPut q (getD (u .externs) i noExtern)))) 11
       (addExtern (stage ds ss is zs []) (externPut q (getD (u .externs) i noExtern)))
@@ -355,7 +374,8 @@ module _ (X : List ℕ) (u : Snapshot) (v : Valid u) (w : Whole u) where
       let y = externPut (kindBase u 9 + externSize * i) (getD (u .externs) i noExtern) in
       let new : any (sameExtern y) (take i es) ≡ false =
       before-any noExtern es i l (sameExtern y) (λ j o. ap (sameExtern y) (put j (omega arith)) ∙ v .once .externs j i o li) in
-      subst (λ y. At X p (externWords y) → Goes X p 11 (stage ds ss is (take i es) []) (p + length (externWords y)) 11 (stage ds ss is (take i es ++ (y ∷ [])) []))
+      subst (λ y. At X p (externWords y) → Goes X p 11 (stage ds ss is (take i es) []) (p + length (externWords y)) 11
+      (stage ds ss is (take i es ++ (y ∷ [])) []))
       (sym (put i li))
       (λ h. extern-goes-on (take i es) i (kindBase u 9 + externSize * i) li new to h) a)
 
@@ -449,7 +469,8 @@ module _ (u : Snapshot) (v : Valid u) (w : Whole u) where
   piece : (k : ℕ) → k < 11 → At X (kindBase u k) (getD (kindsWords u) k [])
   piece k l = subst (λ p. At X p (getD (kindsWords u) k [])) (zero-add (kindBase u k)) (part-at (kindsWords u) k l here)
 
-  to-next : {a b : ℕ} {s t : Snapshot} (k : ℕ) → k < 11 → {ws : List ℕ} → ws ≡ getD (kindsWords u) k [] → Goes X (kindBase u k) a s (kindBase u k + length ws) b t
+  to-next : {a b : ℕ} {s t : Snapshot} (k : ℕ) → k < 11 → {ws : List ℕ} → ws ≡ getD (kindsWords u) k []
+      → Goes X (kindBase u k) a s (kindBase u k + length ws) b t
       → Goes X (kindBase u k) a s (kindBase u (suc k)) b t
   to-next {a} {b} {s} {t} k l e g =
       subst (λ q. Goes X (kindBase u k) a s q b t) (ap (λ y. kindBase u k + length y) e ∙ part-next (kindsWords u) k l) g
@@ -477,13 +498,17 @@ module _ (u : Snapshot) (v : Valid u) (w : Whole u) where
       (goes-then (omega arith) (to-next 4 (omega arith) refl (children-go X u v w (kindBase u 4) (piece 4 (omega arith))))
       (to-next 5 (omega arith) refl (preludes-go X u v w (kindBase u 5) (piece 5 (omega arith))))))))
 
-  second-half : Goes X (kindBase u 6) 8 (stage X u v w [] [] [] [] []) (kindBase u 11) 13 (stage X u v w (ds X u v w) (ss X u v w) (is X u v w) (es X u v w) (u .members))
+  second-half : Goes X (kindBase u 6) 8 (stage X u v w [] [] [] [] []) (kindBase u 11) 13 (stage X u v w (ds X u v w) (ss X u v w)
+      (is X u v w) (es X u v w) (u .members))
   second-half =
       goes-then (omega arith)
       (to-next 6 (omega arith) definitions-same (definitions-go X u v w (subst (At X (kindBase u 6)) (sym definitions-same) (piece 6 (omega arith)))))
-      (goes-then (omega arith) (to-next 7 (omega arith) scopes-same (scopes-go X u v w (subst (At X (kindBase u 7)) (sym scopes-same) (piece 7 (omega arith)))))
-      (goes-then (omega arith) (to-next 8 (omega arith) imports-same (imports-go X u v w (subst (At X (kindBase u 8)) (sym imports-same) (piece 8 (omega arith)))))
-      (goes-then (omega arith) (to-next 9 (omega arith) externs-same (externs-go X u v w (subst (At X (kindBase u 9)) (sym externs-same) (piece 9 (omega arith)))))
+      (goes-then (omega arith)
+      (to-next 7 (omega arith) scopes-same (scopes-go X u v w (subst (At X (kindBase u 7)) (sym scopes-same) (piece 7 (omega arith)))))
+      (goes-then (omega arith)
+      (to-next 8 (omega arith) imports-same (imports-go X u v w (subst (At X (kindBase u 8)) (sym imports-same) (piece 8 (omega arith)))))
+      (goes-then (omega arith)
+      (to-next 9 (omega arith) externs-same (externs-go X u v w (subst (At X (kindBase u 9)) (sym externs-same) (piece 9 (omega arith)))))
       (to-next 10 (omega arith) refl (members-go X u v w (kindBase u 10) (piece 10 (omega arith)))))))
 
   -- The words of a valid snapshot are accepted, as that snapshot with its records at their places.

@@ -1,8 +1,8 @@
 -- The joined words are accepted, as the joined snapshot.
 use Prim.Native.Nat.{ℕ, _≤_}
-use mathlib.Core.Path.{_≡_, refl, sym, _∙_, ap, subst}
+use mathlib.Core.Path.{_≡_, refl, sym, _∙_, ap}
 use mathlib.Core.List.{List}
-use mathlib.Core.Bool.{Bool, true, false, _&&_}
+use mathlib.Core.Bool.{true, _&&_}
 use native.Mathlib.Omega.{arith}
 use borrow.Author.Tests.{leb-true}
 use lib.Dec.{leb, ltb}
@@ -17,7 +17,7 @@ use Rattle.accept.proofs.Accepted.{by-test}
 use Rattle.accept.proofs.Bools.{and-two, and-five}
 use Rattle.accept.proofs.Valid.{accepted-valid}
 use Rattle.edit_rules.specs.Written.{snapshotWords}
-use Rattle.join_words.specs.Joined.{together, joined, joinedWords, isWithin, Joining, refusedBy, joinedAs, joinIn, joinBy, joinOf}
+use Rattle.join_words.specs.Joined.{together, joined, joinedWords, isWithin, refusedBy, joinedAs, joinIn, joinBy, joinOf}
 use Rattle.join_words.proofs.Accepts.{written-accepted}
 use Rattle.join_words.proofs.Sound.{sound, sound-whole}
 use Rattle.join_words.proofs.Wholes.{accepted-whole}
@@ -74,7 +74,8 @@ join-accepted area room W X Y e =
     (λ n at p. let g : refusedBy n ≡ joinedAs Y = ap (λ x. joinBy room x (verdict X)) (sym p) ∙ f in refused-not g)
     (λ s p.
     by-verdict (verdict X)
-    (λ n at q. let g : refusedBy n ≡ joinedAs Y = ap (λ x. joinBy room (accept s) x) (sym q) ∙ ap (λ x. joinBy room x (verdict X)) (sym p) ∙ f in refused-not g)
+    (λ n at q. let g : refusedBy n ≡ joinedAs Y = ap (λ x. joinBy room (accept s) x) (sym q) ∙ ap (λ x. joinBy room x (verdict X)) (sym p)
+    ∙ f in refused-not g)
     (λ t q.
     let g : joinIn room s t ≡ joinedAs Y = ap (λ x. joinBy room (accept s) x) (sym q) ∙ ap (λ x. joinBy room x (verdict X)) (sym p) ∙ f in
     by-test (isWithin (together s t) && leb (length (joinedWords s t)) room)

@@ -1,10 +1,9 @@
 -- Tests over the part of a list before an element, and records that got their places.
-use Prim.Native.Nat.{ℕ, zero, suc, _+_, _*_, _≤_, _<_}
-use mathlib.Core.Path.{_≡_, refl, sym, _∙_, ap, ap₂, subst}
+use Prim.Native.Nat.{ℕ, zero, suc, _+_, _*_, _<_}
+use mathlib.Core.Path.{_≡_, refl, _∙_, ap, ap₂}
 use mathlib.Core.List.{List, [], _∷_, _++_}
-use mathlib.Core.Bool.{Bool, true, false, _&&_, _||_, not}
+use mathlib.Core.Bool.{Bool, true, false, _||_}
 use native.Mathlib.Omega.{arith}
-use native.Mathlib.Nat.{add-zero}
 use lib.ListN.{length, getD, take, length-append}
 use lib.Seq.{getD-take, length-take-le}
 use Rattle.snapshot.specs.Lists.{any, all, rows}
@@ -71,13 +70,15 @@ module _ {A : Type 0} (put : ℕ → A → A) (size : ℕ) where
   placed-field f h d at (x ∷ xs) zero = h at x
   placed-field f h d at (x ∷ xs) (suc i) = placed-field f h d (at + size) xs i
 
-  pub placed-words : (f : A → List ℕ) → ((j : ℕ) (x : A) → f (put j x) ≡ f x) → (at : ℕ) (xs : List A) → eachWords f (placedBy put size at xs) ≡ eachWords f xs
+  pub placed-words : (f : A → List ℕ) → ((j : ℕ) (x : A) → f (put j x) ≡ f x) → (at : ℕ) (xs : List A)
+      → eachWords f (placedBy put size at xs) ≡ eachWords f xs
   unfolding placedBy eachWords
   placed-words f h at [] = refl
   placed-words f h at (x ∷ xs) = ap₂ (λ a b. a ++ b) (h at x) (placed-words f h (at + size) xs)
 
 -- records of one size
-pub sized-length : {A : Type 0} (f : A → List ℕ) (size : ℕ) → ((x : A) → length (f x) ≡ size) → (xs : List A) → length (eachWords f xs) ≡ size * length xs
+pub sized-length : {A : Type 0} (f : A → List ℕ) (size : ℕ) → ((x : A) → length (f x) ≡ size) → (xs : List A)
+    → length (eachWords f xs) ≡ size * length xs
 unfolding eachWords
 sized-length f size h [] = omega arith
 sized-length f size h (x ∷ xs) =

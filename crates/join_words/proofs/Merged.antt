@@ -1,8 +1,8 @@
 -- Merged lists: where each element stands.
 use Prim.Native.Nat.{ℕ, zero, suc, _+_, _-_, _≤_, _<_}
-use mathlib.Core.Path.{_≡_, refl, sym, _∙_, ap, ap₂, subst}
+use mathlib.Core.Path.{_≡_, refl, sym, _∙_, ap, ap₂}
 use mathlib.Core.List.{List, [], _∷_, _++_, map}
-use mathlib.Core.Bool.{Bool, true, false, _&&_, _||_, not, false≢true}
+use mathlib.Core.Bool.{Bool, true, false, false≢true}
 use native.Mathlib.Omega.{arith}
 use native.Mathlib.Nat.{add-zero, zero-add}
 use borrow.Author.Tests.{ltb-true, ltb-false, not-true, not-false, eqb-true, eq-eqb}
@@ -21,7 +21,8 @@ use Rattle.join_words.specs.Joined.{isNew, merged, mergedNumber}
 
 -- two lists, one after the other
 
-pub by-part : {A C : Type 0} (xs ys : List A) (i : ℕ) → i < length (xs ++ ys) → (i < length xs → C) → ((j : ℕ) → i ≡ length xs + j → j < length ys → C) → C
+pub by-part : {A C : Type 0} (xs ys : List A) (i : ℕ) → i < length (xs ++ ys) → (i < length xs → C)
+    → ((j : ℕ) → i ≡ length xs + j → j < length ys → C) → C
 by-part xs ys i l f g =
     let n = length-append xs ys in
     by-test (ltb i (length xs)) (λ a. f (ltb-true i (length xs) a))
@@ -36,7 +37,8 @@ map-at f d e [] j l = absurd (omega arith)
 map-at f d e (y ∷ ys) zero l = refl
 map-at f d e (y ∷ ys) (suc j) l = map-at f d e ys j (omega arith)
 
-pub each-mapped : {A B : Type 0} {P : A → Type 0} {Q : B → Type 0} (f : A → B) {ys : List A} → ((y : A) → P y → Q (f y)) → Each P ys → Each Q (map f ys)
+pub each-mapped : {A B : Type 0} {P : A → Type 0} {Q : B → Type 0} (f : A → B) {ys : List A} → ((y : A) → P y → Q (f y)) → Each P ys
+    → Each Q (map f ys)
 each-mapped f h none = none
 each-mapped f h (more {x = y} p ps) = more (h y p) (each-mapped f h ps)
 
@@ -61,7 +63,8 @@ module _ {A : Type 0} (p : A → Bool) (d : A) where
   abbrev pub kept : List A → ℕ → ℕ
   kept ys n = length (select p (take n ys))
 
-  pub kept-at : (ys : List A) (n : ℕ) → n < length ys → p (getD ys n d) ≡ true → (kept ys n < length (select p ys)) × (getD (select p ys) (kept ys n) d ≡ getD ys n d)
+  pub kept-at : (ys : List A) (n : ℕ) → n < length ys → p (getD ys n d) ≡ true → (kept ys n < length (select p ys))
+      × (getD (select p ys) (kept ys n) d ≡ getD ys n d)
   unfolding select
   kept-at [] n l e = absurd (omega arith)
   kept-at (y ∷ ys) zero l e = let q = select-hit p y ys e in (let n = ap length q in omega arith, ap (λ l. getD l 0 d) q)
@@ -170,7 +173,8 @@ place-from p d (x ∷ xs) k e =
 
 module _ {A : Type 0} (same : A → A → Bool) (d : A) (xs ys : List A) where
   -- a new element
-  pub number-new : (n : ℕ) → isNew same xs (getD ys n d) ≡ true → mergedNumber same d xs ys n ≡ length xs + length (select (isNew same xs) (take n ys))
+  pub number-new : (n : ℕ) → isNew same xs (getD ys n d) ≡ true → mergedNumber same d xs ys n ≡ length xs + length
+      (select (isNew same xs) (take n ys))
   unfolding mergedNumber
   number-new n e = rw (mergedNumber, e)
 

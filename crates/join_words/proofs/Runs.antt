@@ -1,12 +1,11 @@
 -- Records that stand in words, one after the other: the check takes them.
-use Prim.Native.Nat.{ℕ, zero, suc, _+_, _*_, _-_, _/_, _%_, _≤_, _<_}
+use Prim.Native.Nat.{ℕ, zero, suc, _+_, _*_, _/_, _%_, _≤_, _<_}
 use mathlib.Core.Path.{_≡_, refl, sym, _∙_, ap, ap₂, subst}
 use mathlib.Core.List.{List, [], _∷_, _++_, append-assoc}
-use mathlib.Core.Bool.{Bool, true, false, _&&_, _||_, not}
+use mathlib.Core.Bool.{true}
 use native.Mathlib.Omega.{arith}
 use native.Mathlib.Nat.{add-zero}
-use borrow.Author.Tests.{eq-eqb, le-leb, lt-ltb}
-use lib.Dec.{eqb, leb, ltb}
+use borrow.Author.Tests.{eq-eqb, lt-ltb}
 use lib.ListN.{length, getD, take, drop, length-append, List·getD-append}
 use lib.Seq.{getD-append-add, take-suc, take-all, split-at, ext-getD}
 use Rattle.snapshot.specs.Lists.{rows}
@@ -15,9 +14,9 @@ use Rattle.snapshot.specs.Records.{Snapshot}
 use Rattle.snapshot.proofs.Laws.{length-rows, getD-rows}
 use Rattle.check_rules.specs.Steps.{on}
 use Rattle.check_rules.specs.Verdict.{follows, argumentsFrom, recordStep, records}
-use Rattle.accept.specs.Valid.{Each, none, more}
+use Rattle.accept.specs.Valid.{Each, more}
 use Rattle.edit_rules.specs.Written.{headOf, eachWords}
-use Rattle.scope_edits.proofs.Stepped.{Taking, taken-step}
+use Rattle.scope_edits.proofs.Stepped.{taken-step}
 use Rattle.scope_edits.proofs.Folded.{records-take}
 use Rattle.scope_edits.proofs.Written.{each-more}
 
@@ -38,7 +37,8 @@ module _ {X : List ℕ} {p : ℕ} where
       let l = length-append a b in
       let w = h .within in
       record {
-        same = λ i k. let q : p + length a + i ≡ p + (length a + i) = omega arith in ap (λ j. getD X j 0) q ∙ h .same (length a + i) (omega arith) ∙ getD-append-add a b i 0;
+        same = λ i k. let q : p + length a + i ≡ p + (length a + i) = omega arith in ap (λ j. getD X j 0) q
+            ∙ h .same (length a + i) (omega arith) ∙ getD-append-add a b i 0;
         within = omega arith;
       }
 
@@ -145,7 +145,8 @@ module _ {R : Type 0} {X : List ℕ} (f : R → List ℕ) (d : R) (k base : ℕ)
     stands i h =
         let x = getD zs i d in
         let e = ap (eachWords f) (split-at zs i d h) ∙ words-append f (take i zs) (x ∷ drop (suc i) zs) in
-        at-left (f x) (eachWords f (drop (suc i) zs)) (at-right (eachWords f (take i zs)) (f x ++ eachWords f (drop (suc i) zs)) (subst (At X base) e at))
+        at-left (f x) (eachWords f (drop (suc i) zs)) (at-right (eachWords f (take i zs)) (f x ++ eachWords f (drop (suc i) zs))
+        (subst (At X base) e at))
 
     from : (n i : ℕ) → i + n ≡ length zs → Goes X (here i) k (with (take i zs)) (base + length (eachWords f zs)) k (with zs)
     from zero i e =
@@ -154,7 +155,8 @@ module _ {R : Type 0} {X : List ℕ} (f : R → List ℕ) (d : R) (k base : ℕ)
         (goes-none X (base + length (eachWords f zs)) k (with zs))
     from (suc n) i e =
         let h : i < length zs = omega arith in
-        let g = subst (λ l. Goes X (here i) k (with (take i zs)) (here i + length (f (getD zs i d))) k (with l)) (sym (take-suc zs i d h)) (one i (here i) h refl (stands i h)) in
+        let g = subst (λ l. Goes X (here i) k (with (take i zs)) (here i + length (f (getD zs i d))) k (with l)) (sym (take-suc zs i d h))
+        (one i (here i) h refl (stands i h)) in
         let j = subst (λ q. Goes X (here i) k (with (take i zs)) q k (with (take (suc i) zs))) (here-next i h) g in
         goes-then (omega arith) j (from n (suc i) (omega arith))
 

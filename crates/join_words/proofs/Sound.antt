@@ -1,26 +1,30 @@
 -- Two valid snapshots joined are a valid snapshot, where no limit is passed.
 use Prim.Native.Nat.{ℕ, zero, suc, _+_, _-_, _≤_, _<_}
-use mathlib.Core.Path.{_≡_, refl, sym, _∙_, ap, ap₂, subst}
-use mathlib.Core.List.{List, [], _∷_, _++_, map}
-use mathlib.Core.Bool.{Bool, true, false, _&&_, _||_, not, true≢false, false≢true}
+use mathlib.Core.Path.{_≡_, refl, sym, _∙_, ap, ap₂}
+use mathlib.Core.List.{List, _++_, map}
+use mathlib.Core.Bool.{Bool, true, false, _&&_, false≢true}
 use native.Mathlib.Omega.{arith}
-use borrow.Author.Tests.{eq-eqb, ne-eqb, eqb-true, eqb-false, ltb-true, ltb-false, leb-true, leb-false, le-leb, not-true}
-use lib.Dec.{eqb, leb, ltb}
+use borrow.Author.Tests.{eq-eqb, ne-eqb, eqb-true, eqb-false, ltb-true, ltb-false}
+use lib.Dec.{eqb, ltb}
 use lib.ListN.{length, getD, take, length-append}
-use Rattle.snapshot.specs.Lists.{any}
-use Rattle.snapshot.specs.Limits.{crateLimit, moduleLimit, nameLimit, definitionLimit}
-use Rattle.snapshot.specs.Records.{Name, Crate, Dependency, Map, Module, Child, Prelude, Definition, Scope, Import, Extern, Member, Snapshot}
-use Rattle.check_rules.specs.Tests.{Counts, countsOf, noName, noMap, noModule, noDefinition, sameName, sameChild, samePrelude, sameEntry, sameExtern, isBuiltin}
-use Rattle.accept.specs.Valid.{Each, none, more, Valid, Ranges, Limits, Tree, Once, Owned, Distinct, DefinedOnce, Enums, Under, MacroOnly, Belongs, NameFits, CrateFits, DependencyFits, MapFits, ModuleFits, ChildFits, PreludeFits, DefinitionFits, ScopeFits, ImportFits, ExternFits, MemberFits, mapIn, parentIn, blockIn, crateIn, definitionIn}
+use Rattle.snapshot.specs.Records.{Map, Module, Child, Prelude, Definition, Scope, Import, Extern, Member, Snapshot}
+use Rattle.check_rules.specs.Tests.{countsOf, noName, noMap, noModule, noDefinition, sameName, sameChild, samePrelude, sameEntry, sameExtern}
+use Rattle.check_rules.specs.Tests.{isBuiltin}
+use Rattle.accept.specs.Valid.{Each, Valid, Ranges, Limits, Tree, Owned, Distinct, DefinedOnce, Enums, Under, MacroOnly, Belongs, NameFits, CrateFits}
+use Rattle.accept.specs.Valid.{DependencyFits, MapFits, ModuleFits, ChildFits, PreludeFits, DefinitionFits, ScopeFits, ImportFits, ExternFits}
+use Rattle.accept.specs.Valid.{MemberFits, mapIn, parentIn, blockIn, crateIn, definitionIn}
 use Rattle.accept.proofs.Accepted.{by-test}
-use Rattle.accept.proofs.Bools.{and-two, and-three, each-at, each-map, any-none}
+use Rattle.accept.proofs.Bools.{and-three, each-at, each-map}
 use Rattle.hir_def.specs.Finds.{select}
 use Rattle.hir_def.proofs.Found.{each-select}
 use Rattle.search_laws.proofs.Crates.{each-append}
-use Rattle.join_words.specs.Joined.{isNew, merged, mergedNumber, nameNumber, sameBuiltin, definitionNumber, Numbers, secondNumbers, orNone, dependencyTo, mapTo, moduleTo, childTo, preludeTo, definitionTo, firstTo, secondTo, visibleTo, scopeTo, importTo, externTo, memberTo, together}
+use Rattle.join_words.specs.Joined.{isNew, merged, mergedNumber, nameNumber, sameBuiltin, definitionNumber, Numbers, secondNumbers, orNone}
+use Rattle.join_words.specs.Joined.{dependencyTo, mapTo, moduleTo, childTo, preludeTo, definitionTo, firstTo, secondTo, visibleTo, scopeTo}
+use Rattle.join_words.specs.Joined.{importTo, externTo, memberTo, together}
 use Rattle.join_words.proofs.Lists.{any-not}
-use Rattle.join_words.proofs.Merged.{by-part, map-length, map-at, each-mapped, both-length, both-low, both-high, by-both, kept-at, kept-rise, kept-less, From, from, from-less, number-new, number-old, new-apart, merged-length, merged-low, merged-high, name-equal, name-refl}
-use Rattle.join_words.proofs.Stages.{NameWhole, DefinitionWhole, Whole}
+use Rattle.join_words.proofs.Merged.{each-mapped, both-length, both-low, both-high, by-both, kept-at, kept-less, From, from, from-less}
+use Rattle.join_words.proofs.Merged.{number-new, number-old, new-apart, merged-length, merged-low, merged-high, name-equal, name-refl}
+use Rattle.join_words.proofs.Stages.{DefinitionWhole, Whole}
 use Rattle.join_words.proofs.Wholes.{each-two}
 
 by-none : {C : Type 0} (n : ℕ) → (n ≡ 0 → C) → ((m : ℕ) → n ≡ suc m → C) → C
@@ -70,7 +74,8 @@ module _ (s t : Snapshot) (v : Valid s) (w : Valid t) (sw : Whole s) (tw : Whole
   name-counts = merged-length sameName noName (s .names) (t .names)
 
   -- a name has its text under its new number
-  pub name-at : (n : ℕ) → n < length (t .names) → (nameNumber s t n < length (u .names)) × (getD (u .names) (nameNumber s t n) noName ≡ getD (t .names) n noName)
+  pub name-at : (n : ℕ) → n < length (t .names) → (nameNumber s t n < length (u .names))
+      × (getD (u .names) (nameNumber s t n) noName ≡ getD (t .names) n noName)
   unfolding together nameNumber
   name-at n l =
       let c = name-counts in
@@ -92,8 +97,10 @@ module _ (s t : Snapshot) (v : Valid s) (w : Valid t) (sw : Whole s) (tw : Whole
   name-apart m n l k q =
       let r : getD (t .names) m noName ≡ getD (t .names) n noName =
       sym (name-at m l .1) ∙ ap (λ j. getD (u .names) j noName) q ∙ name-at n k .1 in
-      let eq : sameName (getD (t .names) m noName) (getD (t .names) n noName) ≡ true = ap (λ y. sameName (getD (t .names) m noName) y) (sym r) ∙ name-refl (getD (t .names) m noName) in
-      let eq2 : sameName (getD (t .names) n noName) (getD (t .names) m noName) ≡ true = ap (λ y. sameName y (getD (t .names) m noName)) (sym r) ∙ name-refl (getD (t .names) m noName) in
+      let eq : sameName (getD (t .names) m noName) (getD (t .names) n noName) ≡ true = ap (λ y. sameName (getD (t .names) m noName) y) (sym r)
+      ∙ name-refl (getD (t .names) m noName) in
+      let eq2 : sameName (getD (t .names) n noName) (getD (t .names) m noName) ≡ true = ap (λ y. sameName y (getD (t .names) m noName)) (sym r)
+      ∙ name-refl (getD (t .names) m noName) in
       by-test (eqb m n) (λ a. eqb-true m n a)
       (λ a.
       let ne = eqb-false m n a in
@@ -124,19 +131,25 @@ module _ (s t : Snapshot) (v : Valid s) (w : Valid t) (sw : Whole s) (tw : Whole
 
   -- one that is not merged
   pub definition-at : (n : ℕ) → n < length (t .definitions) → isOther (definitionIn (t .definitions) n) ≡ true
-      → (definitionNumber s t n ≡ length (s .definitions) + length (select isOther (take n (t .definitions)))) × (definitionNumber s t n < length (u .definitions))
+      → (definitionNumber s t n ≡ length (s .definitions) + length (select isOther (take n (t .definitions))))
+      × (definitionNumber s t n < length (u .definitions))
       × (definitionIn (u .definitions) (definitionNumber s t n) ≡ definitionTo e (definitionIn (t .definitions) n))
   unfolding together definitionNumber
   definition-at n l a =
       let q = number-new (sameBuiltin s t) noDefinition (s .definitions) (t .definitions) n a in
       let k = kept-at isOther noDefinition (t .definitions) n l a in
       let k0 = k .0 in
-      let c = definition-counts in
-      (q, omega arith, ap (λ j. definitionIn (u .definitions) j) q ∙ both-high (definitionTo e) noDefinition (s .definitions) others _ k0 ∙ ap (definitionTo e) (k .1))
+      let c = definition-counts in (
+        q,
+        omega arith,
+        ap (λ j. definitionIn (u .definitions) j) q ∙ both-high (definitionTo e) noDefinition (s .definitions) others _ k0
+            ∙ ap (definitionTo e) (k .1),
+      )
 
   -- each has its kind
   definition-kind : (n : ℕ) → n < length (t .definitions)
-      → (definitionNumber s t n < length (u .definitions)) × (definitionIn (u .definitions) (definitionNumber s t n) .kind ≡ definitionIn (t .definitions) n .kind)
+      → (definitionNumber s t n < length (u .definitions))
+      × (definitionIn (u .definitions) (definitionNumber s t n) .kind ≡ definitionIn (t .definitions) n .kind)
   unfolding definitionNumber
   definition-kind n l =
       let y = definitionIn (t .definitions) n in
@@ -158,7 +171,8 @@ module _ (s t : Snapshot) (v : Valid s) (w : Valid t) (sw : Whole s) (tw : Whole
   added-less : (i j : ℕ) (a : Added i) (b : Added j) → i < j → a .number < b .number
   added-less i j a b h = from-less isOther noDefinition (t .definitions) i j a b h
 
-  definition-high : (j : ℕ) (r : Added j) → j < length others → definitionIn (u .definitions) (length (s .definitions) + j) ≡ definitionTo e (definitionIn (t .definitions) (r .number))
+  definition-high : (j : ℕ) (r : Added j) → j < length others → definitionIn (u .definitions) (length (s .definitions) + j)
+      ≡ definitionTo e (definitionIn (t .definitions) (r .number))
   unfolding together
   definition-high j r l = both-high (definitionTo e) noDefinition (s .definitions) others j l ∙ ap (definitionTo e) (r .same)
 
@@ -292,8 +306,12 @@ module _ (s t : Snapshot) (v : Valid s) (w : Valid t) (sw : Whole s) (tw : Whole
             let r0 = r .0 in
             let r1 = r .1 in
             let c = module-counts in
-            let p = map-of-high b (y .0) y2 r0 in
-            (omega arith, omega arith, crate-high (mapIn (u .modules) b) (mapIn (t .modules) (y .0)) p (omega arith) ∙ ap (λ n. cs + n) (r .2) ∙ sym (crate-high k j q a)));
+            let p = map-of-high b (y .0) y2 r0 in (
+              omega arith,
+              omega arith,
+              crate-high (mapIn (u .modules) b) (mapIn (t .modules) (y .0)) p (omega arith)
+                  ∙ ap (λ n. cs + n) (r .2) ∙ sym (crate-high k j q a),
+            ));
       }
 
   -- a definition that the second's numbers lead to
@@ -320,8 +338,11 @@ module _ (s t : Snapshot) (v : Valid s) (w : Valid t) (sw : Whole s) (tw : Whole
       let o = definition-low i a in
       let r = v .enums i a (ap (λ (x : Definition). x .kind) (sym o) ∙ k) in
       let r0 = r .0 in
-      let f = ap (λ (x : Definition). x .first) o in
-      (omega arith, ap (λ n. definitionIn (u .definitions) n .kind) f ∙ ap (λ (x : Definition). x .kind) (definition-low (definitionIn (s .definitions) i .first) (omega arith)) ∙ r .1))
+      let f = ap (λ (x : Definition). x .first) o in (
+        omega arith,
+        ap (λ n. definitionIn (u .definitions) n .kind) f ∙ ap (λ (x : Definition). x .kind)
+            (definition-low (definitionIn (s .definitions) i .first) (omega arith)) ∙ r .1,
+      ))
       (λ j q r o.
       let y = definitionIn (t .definitions) (r .number) in
       let kt : y .kind ≡ 2 = ap (λ (x : Definition). x .kind) (sym o) ∙ k in
@@ -381,7 +402,12 @@ module _ (s t : Snapshot) (v : Valid s) (w : Valid t) (sw : Whole s) (tw : Whole
       let c = module-counts in
       by-map k l
       (λ a. let f = v .filled k a in let f1 = f .1 in (f .0, omega arith, map-of-low (f .0) f1 ∙ f .2))
-      (λ j q a. let f = w .filled j a in let f1 = f .1 in (os + f .0, omega arith, map-of-high (os + f .0) (f .0) refl f1 ∙ ap (λ n. ks + n) (f .2) ∙ sym q))
+      (λ j q a. let f = w .filled j a in let f1 = f .1 in (
+        os + f .0,
+        omega arith,
+        map-of-high (os + f .0) (f .0) refl f1
+            ∙ ap (λ n. ks + n) (f .2) ∙ sym q,
+      ))
 
   owned : Owned (length (u .crates)) (u .maps)
   owned =
@@ -425,7 +451,8 @@ module _ (s t : Snapshot) (v : Valid s) (w : Valid t) (sw : Whole s) (tw : Whole
       (λ j′ ej rj oj.
       let yj = definitionIn (t .definitions) (rj .number) in
       let kj : yj .kind ≡ 1 = ap (λ (x : Definition). x .kind) (sym oj) ∙ b in
-      let fj : definitionIn (u .definitions) j .first ≡ os + yj .first = ap (λ (x : Definition). x .first) oj ∙ first-home yj (λ z. omega arith) (λ z. omega arith) in
+      let fj : definitionIn (u .definitions) j .first ≡ os + yj .first = ap (λ (x : Definition). x .first) oj
+      ∙ first-home yj (λ z. omega arith) (λ z. omega arith) in
       by-definition i (omega arith)
       (λ li.
       let oi = definition-low i li in
@@ -436,7 +463,8 @@ module _ (s t : Snapshot) (v : Valid s) (w : Valid t) (sw : Whole s) (tw : Whole
       (λ i′ ei ri oi.
       let yi = definitionIn (t .definitions) (ri .number) in
       let ki : yi .kind ≡ 1 = ap (λ (x : Definition). x .kind) (sym oi) ∙ a in
-      let fi : definitionIn (u .definitions) i .first ≡ os + yi .first = ap (λ (x : Definition). x .first) oi ∙ first-home yi (λ z. omega arith) (λ z. omega arith) in
+      let fi : definitionIn (u .definitions) i .first ≡ os + yi .first = ap (λ (x : Definition). x .first) oi
+      ∙ first-home yi (λ z. omega arith) (λ z. omega arith) in
       w .modules (ri .number) (rj .number) (added-less i′ j′ ri rj (omega arith)) (rj .inside) ki kj (omega arith)))
 
   builtins-once : DefinedOnce 3 (u .definitions)
@@ -467,7 +495,8 @@ module _ (s t : Snapshot) (v : Valid s) (w : Valid t) (sw : Whole s) (tw : Whole
       let fi : definitionIn (u .definitions) i .first ≡ nameNumber s t (yi .first) = ap (λ (x : Definition). x .first) oi ∙ first-builtin yi ki in
       let ni = each-at noDefinition (ri .number) (w .ranges .definitions) (ri .inside) .builtin ki in
       let nj = each-at noDefinition (rj .number) (w .ranges .definitions) (rj .inside) .builtin kj in
-      w .builtins (ri .number) (rj .number) (added-less i′ j′ ri rj (omega arith)) (rj .inside) ki kj (name-apart (yi .first) (yj .first) ni nj (sym fi ∙ q ∙ fj))))
+      w .builtins (ri .number) (rj .number) (added-less i′ j′ ri rj (omega arith)) (rj .inside) ki kj
+      (name-apart (yi .first) (yj .first) ni nj (sym fi ∙ q ∙ fj))))
 
   -- nothing stands twice
 
@@ -482,12 +511,15 @@ module _ (s t : Snapshot) (v : Valid s) (w : Valid t) (sw : Whole s) (tw : Whole
       (λ lj. ap₂ sameName (merged-low sameName noName xs ys j lj) (merged-low sameName noName xs ys i (omega arith)) ∙ v .once .names i j h lj)
       (λ j′ ej lj.
       let rj = from p noName ys j′ lj in
-      let oj : getD (u .names) j noName ≡ getD ys (rj .number) noName = ap (λ n. getD (u .names) n noName) ej ∙ merged-high sameName noName xs ys j′ ∙ rj .same in
+      let oj : getD (u .names) j noName ≡ getD ys (rj .number) noName = ap (λ n. getD (u .names) n noName) ej
+      ∙ merged-high sameName noName xs ys j′ ∙ rj .same in
       by-number (length xs) (length (select p ys)) (length (u .names)) i c (omega arith)
-      (λ li. ap₂ sameName oj (merged-low sameName noName xs ys i li) ∙ new-apart sameName noName xs ys (getD ys (rj .number) noName) (rj .passes) i li)
+      (λ li. ap₂ sameName oj (merged-low sameName noName xs ys i li) ∙ new-apart sameName noName xs ys (getD ys (rj .number) noName)
+      (rj .passes) i li)
       (λ i′ ei li.
       let ri = from p noName ys i′ li in
-      let oi : getD (u .names) i noName ≡ getD ys (ri .number) noName = ap (λ n. getD (u .names) n noName) ei ∙ merged-high sameName noName xs ys i′ ∙ ri .same in
+      let oi : getD (u .names) i noName ≡ getD ys (ri .number) noName = ap (λ n. getD (u .names) n noName) ei
+      ∙ merged-high sameName noName xs ys i′ ∙ ri .same in
       ap₂ sameName oj oi ∙ w .once .names (ri .number) (rj .number) (from-less p noName ys i′ j′ ri rj (omega arith)) (rj .inside)))
 
   -- of both parts: records of one part and of the other are apart, and moving keeps records apart
@@ -515,7 +547,8 @@ module _ (s t : Snapshot) (v : Valid s) (w : Valid t) (sw : Whole s) (tw : Whole
   children-once =
       let d : Child = record { owner = 0; child = 0 } in
       both-once (childTo e) d sameChild (s .children) (t .children)
-      (λ i j li lj. let k = each-at d i (v .ranges .children) li .child in ne-eqb (os + getD (t .children) j d .child) (getD (s .children) i d .child) (λ z. omega arith))
+      (λ i j li lj. let k = each-at d i (v .ranges .children) li .child in ne-eqb (os + getD (t .children) j d .child)
+      (getD (s .children) i d .child) (λ z. omega arith))
       (λ i j li lj h. shifted os (getD (t .children) j d .child) (getD (t .children) i d .child) h) (v .once .children) (w .once .children)
 
   preludes-once : Distinct samePrelude (record { map = 0; target = 0 }) (u .preludes)
@@ -523,10 +556,12 @@ module _ (s t : Snapshot) (v : Valid s) (w : Valid t) (sw : Whole s) (tw : Whole
   preludes-once =
       let d : Prelude = record { map = 0; target = 0 } in
       both-once (preludeTo e) d samePrelude (s .preludes) (t .preludes)
-      (λ i j li lj. let k = each-at d i (v .ranges .preludes) li .map in ne-eqb (ks + getD (t .preludes) j d .map) (getD (s .preludes) i d .map) (λ z. omega arith))
+      (λ i j li lj. let k = each-at d i (v .ranges .preludes) li .map in ne-eqb (ks + getD (t .preludes) j d .map)
+      (getD (s .preludes) i d .map) (λ z. omega arith))
       (λ i j li lj h. shifted ks (getD (t .preludes) j d .map) (getD (t .preludes) i d .map) h) (v .once .preludes) (w .once .preludes)
 
-  entry-apart : (x y : Scope) → y .name < length (t .names) → x .name < length (t .names) → sameEntry y x ≡ false → sameEntry (scopeTo e y) (scopeTo e x) ≡ false
+  entry-apart : (x y : Scope) → y .name < length (t .names) → x .name < length (t .names)
+      → sameEntry y x ≡ false → sameEntry (scopeTo e y) (scopeTo e x) ≡ false
   entry-apart x y ly lx h =
       by-test (eqb (os + y .owner) (os + x .owner))
       (λ a. by-test (eqb (y .ns) (x .ns))
@@ -540,7 +575,18 @@ module _ (s t : Snapshot) (v : Valid s) (w : Valid t) (sw : Whole s) (tw : Whole
       (λ b. rw (a, b)))
       (λ a. rw a)
 
-  scopes-once : Distinct sameEntry (record { owner = 0; ns = 0; name = 0; definition = 0; visibility = 0; number = 0; declared = 0; bits = 0; place = 0 }) (u .scopes)
+  scopes-once : Distinct sameEntry (record {
+    owner = 0;
+    ns = 0;
+    name = 0;
+    definition = 0;
+    visibility = 0;
+    number = 0;
+    declared =
+        0;
+    bits = 0;
+    place = 0;
+  }) (u .scopes)
   unfolding together
   scopes-once =
       let d : Scope = record { owner = 0; ns = 0; name = 0; definition = 0; visibility = 0; number = 0; declared = 0; bits = 0; place = 0 } in
@@ -548,10 +594,12 @@ module _ (s t : Snapshot) (v : Valid s) (w : Valid t) (sw : Whole s) (tw : Whole
       (λ i j li lj.
       let k = each-at d i (v .ranges .scopes) li .owner in
       apart-two (os + getD (t .scopes) j d .owner) (getD (s .scopes) i d .owner) (λ z. omega arith) _ _)
-      (λ i j li lj h. entry-apart (getD (t .scopes) i d) (getD (t .scopes) j d) (each-at d j (w .ranges .scopes) lj .name) (each-at d i (w .ranges .scopes) li .name) h)
+      (λ i j li lj h. entry-apart (getD (t .scopes) i d) (getD (t .scopes) j d) (each-at d j (w .ranges .scopes) lj .name)
+      (each-at d i (w .ranges .scopes) li .name) h)
       (v .once .scopes) (w .once .scopes)
 
-  extern-apart : (x y : Extern) → y .name < length (t .names) → x .name < length (t .names) → sameExtern y x ≡ false → sameExtern (externTo e y) (externTo e x) ≡ false
+  extern-apart : (x y : Extern) → y .name < length (t .names) → x .name < length (t .names)
+      → sameExtern y x ≡ false → sameExtern (externTo e y) (externTo e x) ≡ false
   extern-apart x y ly lx h =
       by-test (eqb (cs + y .owner) (cs + x .owner))
       (λ a. by-test (eqb (nameNumber s t (y .name)) (nameNumber s t (x .name)))
@@ -570,9 +618,11 @@ module _ (s t : Snapshot) (v : Valid s) (w : Valid t) (sw : Whole s) (tw : Whole
       both-once (externTo e) d sameExtern (s .externs) (t .externs)
       (λ i j li lj.
       let k = each-at d i (v .ranges .externs) li .owner in
-      let z : eqb (cs + getD (t .externs) j d .owner) (getD (s .externs) i d .owner) ≡ false = ne-eqb (cs + getD (t .externs) j d .owner) (getD (s .externs) i d .owner) (λ z. omega arith) in
+      let z : eqb (cs + getD (t .externs) j d .owner) (getD (s .externs) i d .owner) ≡ false = ne-eqb (cs + getD (t .externs) j d .owner)
+      (getD (s .externs) i d .owner) (λ z. omega arith) in
       rw z)
-      (λ i j li lj h. extern-apart (getD (t .externs) i d) (getD (t .externs) j d) (each-at d j (w .ranges .externs) lj .name) (each-at d i (w .ranges .externs) li .name) h)
+      (λ i j li lj h. extern-apart (getD (t .externs) i d) (getD (t .externs) j d) (each-at d j (w .ranges .externs) lj .name)
+      (each-at d i (w .ranges .externs) li .name) h)
       (v .once .externs) (w .once .externs)
 
   -- fields in their ranges
@@ -591,8 +641,14 @@ module _ (s t : Snapshot) (v : Valid s) (w : Valid t) (sw : Whole s) (tw : Whole
     dependencies-fit =
         let c = crate-counts in
         each-append
-        (each-map (λ x f. let a = f .owner in let b = f .crate in record { owner = omega arith; crate = omega arith; sysroot = f .sysroot }) (v .ranges .dependencies))
-        (each-mapped (dependencyTo e) (λ x f. let a = f .owner in let b = f .crate in record { owner = omega arith; crate = omega arith; sysroot = f .sysroot }) (w .ranges .dependencies))
+        (each-map (λ x f. let a = f .owner in let b = f .crate in record { owner = omega arith; crate = omega arith; sysroot = f .sysroot })
+        (v .ranges .dependencies))
+        (each-mapped (dependencyTo e) (λ x f. let a = f .owner in let b = f .crate in record {
+          owner = omega arith;
+          crate =
+              omega arith;
+          sysroot = f .sysroot;
+        }) (w .ranges .dependencies))
 
     maps-fit : Each (MapFits (countsOf u)) (u .maps)
     unfolding together
@@ -600,9 +656,11 @@ module _ (s t : Snapshot) (v : Valid s) (w : Valid t) (sw : Whole s) (tw : Whole
         let c = crate-counts in
         let m = module-counts in
         each-append
-        (each-map (λ x f. let a = f .crate in let b = f .block in record { crate = omega arith; block = omega arith; noStd = f .noStd }) (v .ranges .maps))
+        (each-map (λ x f. let a = f .crate in let b = f .block in record { crate = omega arith; block = omega arith; noStd = f .noStd })
+        (v .ranges .maps))
         (each-mapped (mapTo e)
-        (λ x f. let a = f .crate in let b = moved-low (e .modules) (x .block) (length (t .modules)) (os + length (t .modules)) (λ k l. omega arith) (f .block) in record { crate = omega arith; block = omega arith; noStd = f .noStd }) (w .ranges .maps))
+        (λ x f. let a = f .crate in let b = moved-low (e .modules) (x .block) (length (t .modules)) (os + length (t .modules))
+        (λ k l. omega arith) (f .block) in record { crate = omega arith; block = omega arith; noStd = f .noStd }) (w .ranges .maps))
 
     modules-fit : Each (ModuleFits (countsOf u)) (u .modules)
     unfolding together
@@ -612,7 +670,8 @@ module _ (s t : Snapshot) (v : Valid s) (w : Valid t) (sw : Whole s) (tw : Whole
         each-append
         (each-map (λ x f. let a = f .map in let b = f .parent in record { map = omega arith; parent = omega arith }) (v .ranges .modules))
         (each-mapped (moduleTo e)
-        (λ x f. let a = f .map in let b = moved-low (e .modules) (x .parent) (length (t .modules)) (os + length (t .modules)) (λ k l. omega arith) (f .parent) in record { map = omega arith; parent = omega arith }) (w .ranges .modules))
+        (λ x f. let a = f .map in let b = moved-low (e .modules) (x .parent) (length (t .modules)) (os + length (t .modules))
+        (λ k l. omega arith) (f .parent) in record { map = omega arith; parent = omega arith }) (w .ranges .modules))
 
     children-fit : Each (ChildFits (countsOf u)) (u .children)
     unfolding together
@@ -620,7 +679,8 @@ module _ (s t : Snapshot) (v : Valid s) (w : Valid t) (sw : Whole s) (tw : Whole
         let m = module-counts in
         each-append
         (each-map (λ x f. let a = f .owner in let b = f .child in record { owner = omega arith; child = omega arith }) (v .ranges .children))
-        (each-mapped (childTo e) (λ x f. let a = f .owner in let b = f .child in record { owner = omega arith; child = omega arith }) (w .ranges .children))
+        (each-mapped (childTo e) (λ x f. let a = f .owner in let b = f .child in record { owner = omega arith; child = omega arith })
+        (w .ranges .children))
 
     preludes-fit : Each (PreludeFits (countsOf u)) (u .preludes)
     unfolding together
@@ -629,7 +689,8 @@ module _ (s t : Snapshot) (v : Valid s) (w : Valid t) (sw : Whole s) (tw : Whole
         let m = module-counts in
         each-append
         (each-map (λ x f. let a = f .map in let b = f .target in record { map = omega arith; target = omega arith }) (v .ranges .preludes))
-        (each-mapped (preludeTo e) (λ x f. let a = f .map in let b = f .target in record { map = omega arith; target = omega arith }) (w .ranges .preludes))
+        (each-mapped (preludeTo e) (λ x f. let a = f .map in let b = f .target in record { map = omega arith; target = omega arith })
+        (w .ranges .preludes))
 
     definition-widened : (x : Definition) → DefinitionFits (countsOf s) x → DefinitionFits (countsOf u) x
     definition-widened x f =
@@ -666,7 +727,8 @@ module _ (s t : Snapshot) (v : Valid s) (w : Valid t) (sw : Whole s) (tw : Whole
 
     definitions-fit : Each (DefinitionFits (countsOf u)) (u .definitions)
     unfolding together
-    definitions-fit = each-append (each-map definition-widened (v .ranges .definitions)) (each-mapped (definitionTo e) definition-moved (each-select isOther (w .ranges .definitions)))
+    definitions-fit = each-append (each-map definition-widened (v .ranges .definitions))
+        (each-mapped (definitionTo e) definition-moved (each-select isOther (w .ranges .definitions)))
 
     visible-public : (n : ℕ) (x : ℕ) → x ≡ 0 → visibleTo e x n ≡ n
     visible-public n x k = rw (visibleTo, eq-eqb x 0 k)
@@ -729,7 +791,16 @@ module _ (s t : Snapshot) (v : Valid s) (w : Valid t) (sw : Whole s) (tw : Whole
         let f1 = f .name in
         let f2 = f .definition in
         let f3 = f .container in
-        record { owner = omega arith; ns = f .ns; definition = omega arith; name = omega arith; container = omega arith; bits = f .bits; place = f .place }
+        record {
+          owner = omega arith;
+          ns = f .ns;
+          definition = omega arith;
+          name = omega arith;
+          container = omega arith;
+          bits =
+              f .bits;
+          place = f .place;
+        }
 
     import-moved : (x : Import) → ImportFits (countsOf t) x → ImportFits (countsOf u) (importTo e x)
     import-moved x f =
@@ -828,10 +899,12 @@ module _ (s t : Snapshot) (v : Valid s) (w : Valid t) (sw : Whole s) (tw : Whole
               (each-mapped (childTo e) (λ x h. under-high x (h .0) (h .1)) (each-pair (w .ranges .children) (w .children)));
           scopes =
               each-append (each-two (λ x f h. macro-low (x .ns) (x .definition) (f .definition) h) (v .ranges .scopes) (v .scopes))
-              (each-mapped (scopeTo e) (λ x h. macro-high (x .ns) (x .definition) (h .0 .definition) (h .1)) (each-pair (w .ranges .scopes) (w .scopes)));
+              (each-mapped (scopeTo e) (λ x h. macro-high (x .ns) (x .definition) (h .0 .definition) (h .1))
+              (each-pair (w .ranges .scopes) (w .scopes)));
           imports =
               each-append (each-two (λ x f h. macro-low (x .ns) (x .definition) (f .definition) h) (v .ranges .imports) (v .imports))
-              (each-mapped (importTo e) (λ x h. macro-high (x .ns) (x .definition) (h .0 .definition) (h .1)) (each-pair (w .ranges .imports) (w .imports)));
+              (each-mapped (importTo e) (λ x h. macro-high (x .ns) (x .definition) (h .0 .definition) (h .1))
+              (each-pair (w .ranges .imports) (w .imports)));
           members =
               each-append (each-two (λ x f h. belongs-low x f h) (v .ranges .members) (v .members))
               (each-mapped (memberTo e) (λ x h. belongs-high x (h .0) (h .1)) (each-pair (w .ranges .members) (w .members)));
@@ -850,11 +923,13 @@ module _ (s t : Snapshot) (v : Valid s) (w : Valid t) (sw : Whole s) (tw : Whole
         builtin = λ k. ap isBuiltin (merged-low sameName noName (s .names) (t .names) (x .first) (f .builtin k)) ∙ h .builtin k;
       }
 
-  definition-whole-high : (x : Definition) → DefinitionFits (countsOf t) x → DefinitionWhole (t .names) x → DefinitionWhole (u .names) (definitionTo e x)
+  definition-whole-high : (x : Definition) → DefinitionFits (countsOf t) x → DefinitionWhole (t .names) x
+      → DefinitionWhole (u .names) (definitionTo e x)
   definition-whole-high x f h =
       record {
         second = λ k. second-other x k ∙ h .second k;
-        builtin = λ k. ap (λ n. isBuiltin (getD (u .names) n noName)) (first-builtin x k) ∙ ap isBuiltin (name-at (x .first) (f .builtin k) .1) ∙ h .builtin k;
+        builtin = λ k. ap (λ n. isBuiltin (getD (u .names) n noName)) (first-builtin x k) ∙ ap isBuiltin (name-at (x .first) (f .builtin k) .1)
+            ∙ h .builtin k;
       }
 
   pub sound-whole : Whole u
@@ -864,5 +939,6 @@ module _ (s t : Snapshot) (v : Valid s) (w : Valid t) (sw : Whole s) (tw : Whole
         names = each-append (sw .names) (each-select (isNew sameName (s .names)) (tw .names));
         definitions =
             each-append (each-two definition-whole-low (v .ranges .definitions) (sw .definitions))
-            (each-mapped (definitionTo e) (λ x h. definition-whole-high x (h .0) (h .1)) (each-select isOther (each-pair (w .ranges .definitions) (tw .definitions))));
+            (each-mapped (definitionTo e) (λ x h. definition-whole-high x (h .0) (h .1))
+            (each-select isOther (each-pair (w .ranges .definitions) (tw .definitions))));
       }

@@ -1,21 +1,22 @@
 -- A valid snapshot, written out: the check takes its records, kind after kind.
-use Prim.Native.Nat.{ℕ, zero, suc, _+_, _*_, _-_, _≤_, _<_}
+use Prim.Native.Nat.{ℕ, zero, suc, _+_, _-_, _≤_, _<_}
 use mathlib.Core.Path.{_≡_, refl, sym, _∙_, ap, ap₂, subst}
 use mathlib.Core.List.{List, [], _∷_, _++_, append-assoc, append-nil}
-use mathlib.Core.Bool.{Bool, true, false, _&&_, _||_, not}
+use mathlib.Core.Bool.{true, false}
 use native.Mathlib.Omega.{arith}
 use native.Mathlib.Nat.{add-zero}
 use borrow.Author.Tests.{le-leb, lt-ltb, eq-eqb, ne-eqb, eqb-true, eqb-false, ltb-true, ltb-false, leb-true, leb-false}
 use lib.Dec.{eqb, leb, ltb}
 use lib.ListN.{length, getD, take, length-append}
 use lib.Seq.{getD-take, take-suc, take-all, length-take-le}
-use Rattle.snapshot.specs.Lists.{any, all, rows}
-use Rattle.snapshot.specs.Limits.{crateLimit, moduleLimit, nameLimit, definitionLimit, namespaceLimit}
+use Rattle.snapshot.specs.Lists.{any}
+use Rattle.snapshot.specs.Limits.{crateLimit, moduleLimit, nameLimit}
 use Rattle.snapshot.specs.Words.{wordsOf}
 use Rattle.snapshot.specs.Records.{Name, Crate, Dependency, Map, Module, Child, Prelude, Definition, Scope, Import, Extern, Member, Snapshot}
-use Rattle.check_rules.specs.Tests.{Counts, countsOf, noName, noMap, noModule, noDefinition, padded, isBuiltin, isEdition, sameName, isOwn, isIn, mapRange, mapDefined, mapRepeated, mapPlaced, moduleDefined, modulePlaced, sameChild, samePrelude, childPlaced}
+use Rattle.check_rules.specs.Tests.{countsOf, noName, noMap, noModule, padded, isBuiltin, isEdition, sameName, isOwn, isIn, mapDefined, mapRepeated}
+use Rattle.check_rules.specs.Tests.{mapPlaced, moduleDefined, modulePlaced, sameChild, samePrelude}
 use Rattle.check_rules.specs.Steps.{addMap, addModule}
-use Rattle.accept.specs.Valid.{Each, none, more, Valid, Limits, mapIn, parentIn, blockIn, crateIn, MapFits}
+use Rattle.accept.specs.Valid.{Each, none, more, Valid, mapIn, parentIn, blockIn, crateIn}
 use Rattle.accept.proofs.Accepted.{by-test}
 use Rattle.accept.proofs.Bools.{each-at}
 use Rattle.edit_rules.specs.Written.{nameWords, crateWords, dependencyWords, mapWords, moduleWords, childWords, preludeWords, eachWords, treeWords}
@@ -82,7 +83,8 @@ noDependency = record { owner = 0; crate = 0; sysroot = 0 }
 
 module _ (X : List ℕ) (u : Snapshot) (v : Valid u) (w : Whole u) where
   pub names-go : At X 0 (eachWords nameWords (u .names))
-      → Goes X 0 1 (lists [] [] [] [] [] [] [] [] [] [] [] []) (0 + length (eachWords nameWords (u .names))) 1 (lists (u .names) [] [] [] [] [] [] [] [] [] [] [])
+      → Goes X 0 1 (lists [] [] [] [] [] [] [] [] [] [] [] []) (0 + length (eachWords nameWords (u .names))) 1
+      (lists (u .names) [] [] [] [] [] [] [] [] [] [] [])
   names-go at = each-goes nameWords noName 1 0 (λ zs. lists zs [] [] [] [] [] [] [] [] [] [] []) (u .names) at
       (λ i p l e a.
       let x = getD (u .names) i noName in
@@ -104,14 +106,16 @@ module _ (X : List ℕ) (u : Snapshot) (v : Valid u) (w : Whole u) where
       let f = each-at noCrate i (v .ranges .crates) l in
       let n = before-length noCrate (u .crates) i l in
       let m = v .limits .crates in
-      crate-goes (lists (u .names) (take i (u .crates)) [] [] [] [] [] [] [] [] [] []) x a (f .origin) (f .noStd) (edition-small (x .edition) (f .edition))
+      crate-goes (lists (u .names) (take i (u .crates)) [] [] [] [] [] [] [] [] [] []) x a (f .origin) (f .noStd)
+      (edition-small (x .edition) (f .edition))
       (rw (le-leb (x .origin) 4 (f .origin), le-leb (x .noStd) 1 (f .noStd))) (f .edition)
       (lt-ltb (length (take i (u .crates))) crateLimit (omega arith)))
 
   pub dependencies-go : (base : ℕ) → At X base (eachWords dependencyWords (u .dependencies))
       → Goes X base 3 (lists (u .names) (u .crates) [] [] [] [] [] [] [] [] [] []) (base + length (eachWords dependencyWords (u .dependencies))) 3
       (lists (u .names) (u .crates) (u .dependencies) [] [] [] [] [] [] [] [] [])
-  dependencies-go base at = each-goes dependencyWords noDependency 3 base (λ zs. lists (u .names) (u .crates) zs [] [] [] [] [] [] [] [] []) (u .dependencies) at
+  dependencies-go base at = each-goes dependencyWords noDependency 3 base (λ zs. lists (u .names) (u .crates) zs [] [] [] [] [] [] [] [] [])
+      (u .dependencies) at
       (λ i p l e a.
       let x = getD (u .dependencies) i noDependency in
       let f = each-at noDependency i (v .ranges .dependencies) l in
@@ -119,7 +123,8 @@ module _ (X : List ℕ) (u : Snapshot) (v : Valid u) (w : Whole u) where
       let o = f .owner in
       let c = f .crate in
       let y = f .sysroot in
-      dependency-goes (lists (u .names) (u .crates) (take i (u .dependencies)) [] [] [] [] [] [] [] [] []) x a (omega arith) (omega arith) (omega arith)
+      dependency-goes (lists (u .names) (u .crates) (take i (u .dependencies)) [] [] [] [] [] [] [] [] []) x a (omega arith)
+      (omega arith) (omega arith)
       (le-leb (x .sysroot) 1 y) (rw (lt-ltb (x .owner) (length (u .crates)) o, lt-ltb (x .crate) (length (u .crates)) c)))
 
   -- maps and modules: some maps, and the modules of the earlier ones and some of the last
@@ -166,7 +171,8 @@ module _ (X : List ℕ) (u : Snapshot) (v : Valid u) (w : Whole u) where
       any-has (isIn (x .map)) noModule (take i xs) p (omega arith) (eq-eqb (mapIn (take i xs) p) (x .map) n) in
       let y : eqb (x .parent) 0 ≡ false = ne-eqb (x .parent) 0 (λ o. omega arith) in
       let d : x .parent - 1 ≡ p = omega arith in
-      let g : eqb (mapIn (take i xs) (x .parent - 1)) (x .map) ≡ true = eq-eqb (mapIn (take i xs) (x .parent - 1)) (x .map) (ap (mapIn (take i xs)) d ∙ n) in
+      let g : eqb (mapIn (take i xs) (x .parent - 1)) (x .map) ≡ true = eq-eqb (mapIn (take i xs) (x .parent - 1)) (x .map)
+      (ap (mapIn (take i xs)) d ∙ n) in
       let f : leb (x .parent) (length (take i xs)) ≡ true = le-leb (x .parent) (length (take i xs)) (omega arith) in
       (rw (a, f), rw (b, c, y, g)))
 
@@ -267,7 +273,8 @@ module _ (X : List ℕ) (u : Snapshot) (v : Valid u) (w : Whole u) where
         → (At X (base + length (written k i)) ws → Goes X (base + length (written k i)) 5 (tree k i) (base + length (written k i) + length ws) high t)
         → Rest j o → Rest k i
     rest-more k i j o ws t high low e same one r =
-        let whole : treeWords 0 ms xs ≡ written k i ++ (ws ++ r .rest) = r .whole ∙ ap (λ l. l ++ r .rest) e ∙ append-assoc (written k i) ws (r .rest) in
+        let whole : treeWords 0 ms xs ≡ written k i ++ (ws ++ r .rest) = r .whole ∙ ap (λ l. l ++ r .rest) e
+        ∙ append-assoc (written k i) ws (r .rest) in
         let here = at-left ws (r .rest) (at-right (written k i) (ws ++ r .rest) (subst (At X base) whole at)) in
         let l = length-append (written k i) ws in
         let c = ap length e in
@@ -276,7 +283,8 @@ module _ (X : List ℕ) (u : Snapshot) (v : Valid u) (w : Whole u) where
         let f = subst (λ q. Goes X (base + length (written k i)) 5 (tree k i) q high (tree j o)) to g in
         record { rest = ws ++ r .rest; whole = whole; goes = goes-then low f (r .goes) }
 
-    take-module : (n k i : ℕ) (h : Upto k i) → k + i + suc n ≡ length ms + length xs → ((a b : ℕ) → a + b + n ≡ length ms + length xs → Upto a b → Rest a b)
+    take-module : (n k i : ℕ) (h : Upto k i) → k + i + suc n ≡ length ms + length xs
+        → ((a b : ℕ) → a + b + n ≡ length ms + length xs → Upto a b → Rest a b)
         → i < length xs → mapIn xs i + 1 ≡ k → Rest k i
     take-module n k i h e again l q =
         let km : length (take k ms) ≡ k = length-take-le k ms (h .maps) in
@@ -297,11 +305,13 @@ module _ (X : List ℕ) (u : Snapshot) (v : Valid u) (w : Whole u) where
         (record {
           maps = h .maps;
           modules = omega arith;
-          taken = λ j r. by-test (eqb j i) (λ s. let y = ap (mapIn xs) (eqb-true j i s) in omega arith) (λ s. let y = eqb-false j i s in h .taken j (omega arith));
+          taken = λ j r. by-test (eqb j i) (λ s. let y = ap (mapIn xs) (eqb-true j i s) in omega arith)
+              (λ s. let y = eqb-false j i s in h .taken j (omega arith));
           left = λ j r s. h .left j (omega arith) s;
         }))
 
-    take-map : (n k i : ℕ) (h : Upto k i) → k + i + suc n ≡ length ms + length xs → ((a b : ℕ) → a + b + n ≡ length ms + length xs → Upto a b → Rest a b)
+    take-map : (n k i : ℕ) (h : Upto k i) → k + i + suc n ≡ length ms + length xs → ((a b : ℕ) → a + b + n ≡ length ms + length xs
+        → Upto a b → Rest a b)
         → k < length ms → ((m : ℕ) → i ≤ m → m < length xs → k ≤ mapIn xs m) → Rest k i
     take-map n k i h e again l late =
         let x = getD ms k noMap in
@@ -364,14 +374,17 @@ module _ (X : List ℕ) (u : Snapshot) (v : Valid u) (w : Whole u) where
     tree-go =
         let r = tree-goes (length ms + length xs) 0 0 (omega arith)
         (record { maps = omega arith; modules = omega arith; taken = λ m l. absurd (omega arith); left = λ m l k. omega arith }) in
-        subst (λ p. Goes X p 5 (lists (u .names) (u .crates) (u .dependencies) [] [] [] [] [] [] [] [] []) (base + length (treeWords 0 ms xs)) 5 end) (add-zero base) (r .goes)
+        subst (λ p. Goes X p 5 (lists (u .names) (u .crates) (u .dependencies) [] [] [] [] [] [] [] [] [])
+        (base + length (treeWords 0 ms xs)) 5 end) (add-zero base) (r .goes)
 
   abbrev noChild : Child
   noChild = record { owner = 0; child = 0 }
 
   pub children-go : (base : ℕ) → At X base (eachWords childWords (u .children))
-      → Goes X base 6 end (base + length (eachWords childWords (u .children))) 6 (lists (u .names) (u .crates) (u .dependencies) ms xs (u .children) [] [] [] [] [] [])
-  children-go base at = each-goes childWords noChild 6 base (λ zs. lists (u .names) (u .crates) (u .dependencies) ms xs zs [] [] [] [] [] []) (u .children) at
+      → Goes X base 6 end (base + length (eachWords childWords (u .children))) 6 (lists (u .names) (u .crates) (u .dependencies) ms xs
+      (u .children) [] [] [] [] [] [])
+  children-go base at = each-goes childWords noChild 6 base (λ zs. lists (u .names) (u .crates) (u .dependencies) ms xs zs [] [] [] [] [] [])
+      (u .children) at
       (λ i p l e a.
       let x = getD (u .children) i noChild in
       let f = each-at noChild i (v .ranges .children) l in
@@ -389,9 +402,11 @@ module _ (X : List ℕ) (u : Snapshot) (v : Valid u) (w : Whole u) where
   noPrelude = record { map = 0; target = 0 }
 
   pub preludes-go : (base : ℕ) → At X base (eachWords preludeWords (u .preludes))
-      → Goes X base 7 (lists (u .names) (u .crates) (u .dependencies) ms xs (u .children) [] [] [] [] [] []) (base + length (eachWords preludeWords (u .preludes))) 7
+      → Goes X base 7 (lists (u .names) (u .crates) (u .dependencies) ms xs (u .children) [] [] [] [] [] [])
+      (base + length (eachWords preludeWords (u .preludes))) 7
       (lists (u .names) (u .crates) (u .dependencies) ms xs (u .children) (u .preludes) [] [] [] [] [])
-  preludes-go base at = each-goes preludeWords noPrelude 7 base (λ zs. lists (u .names) (u .crates) (u .dependencies) ms xs (u .children) zs [] [] [] [] []) (u .preludes) at
+  preludes-go base at = each-goes preludeWords noPrelude 7 base (λ zs. lists (u .names) (u .crates) (u .dependencies) ms xs
+      (u .children) zs [] [] [] [] []) (u .preludes) at
       (λ i p l e a.
       let x = getD (u .preludes) i noPrelude in
       let f = each-at noPrelude i (v .ranges .preludes) l in
@@ -399,6 +414,7 @@ module _ (X : List ℕ) (u : Snapshot) (v : Valid u) (w : Whole u) where
       let o = f .map in
       let c = f .target in
       let k = map-small (x .map) o in
-      prelude-goes (lists (u .names) (u .crates) (u .dependencies) ms xs (u .children) (take i (u .preludes)) [] [] [] [] []) x a (omega arith) (omega arith)
+      prelude-goes (lists (u .names) (u .crates) (u .dependencies) ms xs (u .children) (take i (u .preludes)) [] [] [] [] []) x a
+      (omega arith) (omega arith)
       (rw (lt-ltb (x .map) (length ms) o, lt-ltb (x .target) (length xs) c))
       (before-apart noPrelude (u .preludes) i l samePrelude (v .once .preludes)))

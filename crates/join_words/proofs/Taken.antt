@@ -1,26 +1,32 @@
 -- One record of each kind, in words: where it passes its tests the check takes it.
 use Prim.Native.Nat.{ℕ, zero, suc, _+_, _*_, _-_, _/_, _%_, _≤_, _<_}
-use mathlib.Core.Path.{_≡_, refl, sym, _∙_, ap, ap₂, subst}
-use mathlib.Core.List.{List, [], _∷_, _++_}
-use mathlib.Core.Bool.{Bool, true, false, _&&_, _||_, not}
+use mathlib.Core.Path.{_≡_, refl, sym, _∙_, ap}
+use mathlib.Core.List.{List, [], _∷_}
+use mathlib.Core.Bool.{true, false, not}
 use native.Mathlib.Omega.{arith}
-use native.Mathlib.Nat.{add-zero}
-use borrow.Author.Tests.{le-leb, lt-ltb, ltb-true, eq-eqb}
+use borrow.Author.Tests.{le-leb, ltb-true}
 use lib.Dec.{eqb, leb, ltb}
 use lib.ListN.{length, getD}
 use Rattle.snapshot.specs.Lists.{any, rows}
 use Rattle.snapshot.specs.Limits.{crateLimit, moduleLimit, nameLimit, definitionLimit}
-use Rattle.snapshot.specs.Words.{kindOf, payOf, wordsOf, argumentsOf}
-use Rattle.snapshot.specs.Records.{Name, Crate, Dependency, Map, Module, Child, Prelude, Definition, Scope, Import, Extern, Member, Snapshot, nameAt, crateAt, dependencyAt, mapAt, moduleAt, childAt, preludeAt, definitionAt, scopeAt, importAt, externAt, memberAt}
-use Rattle.check_rules.specs.Tests.{textBound, padded, childDefined, childPlaced, countsOf, crateRange, isEdition, definitionDefined, definitionPlaced, definitionRange, definitionRepeated, dependencyDefined, dependencyRange, externDefined, importDefined, importRange, mapDefined, mapPlaced, mapRange, mapRepeated, memberDefined, memberPlaced, memberRange, moduleDefined, modulePlaced, nameRange, nsPlaced, preludeDefined, sameChild, sameEntry, sameExtern, sameName, samePrelude, scopeDefined, scopeRange}
-use Rattle.check_rules.specs.Steps.{on, addName, addCrate, addDependency, addMap, addModule, addChild, addPrelude, addDefinition, addScope, addImport, addExtern, addMember, nameStep, crateStep, dependencyStep, mapStep, moduleStep, childStep, preludeStep, definitionStep, scopeStep, importStep, externStep, memberStep}
+use Rattle.snapshot.specs.Words.{wordsOf, argumentsOf}
+use Rattle.snapshot.specs.Records.{Name, Crate, Dependency, Map, Module, Child, Prelude, Definition, Scope, Import, Extern, Member, Snapshot, nameAt}
+use Rattle.snapshot.specs.Records.{crateAt, dependencyAt, mapAt, moduleAt, childAt, preludeAt, definitionAt, scopeAt, importAt, externAt, memberAt}
+use Rattle.check_rules.specs.Tests.{textBound, padded, childDefined, childPlaced, countsOf, crateRange, isEdition, definitionDefined}
+use Rattle.check_rules.specs.Tests.{definitionPlaced, definitionRange, definitionRepeated, dependencyDefined, dependencyRange, externDefined}
+use Rattle.check_rules.specs.Tests.{importDefined, importRange, mapDefined, mapPlaced, mapRange, mapRepeated, memberDefined, memberPlaced}
+use Rattle.check_rules.specs.Tests.{memberRange, moduleDefined, modulePlaced, nameRange, nsPlaced, preludeDefined, sameChild, sameEntry, sameExtern}
+use Rattle.check_rules.specs.Tests.{sameName, samePrelude, scopeDefined, scopeRange}
+use Rattle.check_rules.specs.Steps.{on, addName, addCrate, addDependency, addMap, addModule, addChild, addPrelude, addDefinition, addScope, addImport}
+use Rattle.check_rules.specs.Steps.{addExtern, addMember, nameStep, crateStep, dependencyStep, mapStep, moduleStep, childStep, preludeStep}
+use Rattle.check_rules.specs.Steps.{definitionStep, scopeStep, importStep, externStep, memberStep}
 use Rattle.check_rules.specs.Verdict.{follows, recordStep}
 use Rattle.accept.specs.Valid.{Each, none, more}
 use Rattle.accept.proofs.Bools.{and-two}
-use Rattle.edit_rules.specs.Entries.{scopeWords, movedScope, movedImport, movedExtern}
-use Rattle.edit_rules.specs.Written.{nameWords, crateWords, dependencyWords, mapWords, moduleWords, childWords, preludeWords, definitionWords, importWords, externWords, memberWords}
-use Rattle.join_words.specs.Joined.{definitionPut}
-use Rattle.join_words.proofs.Runs.{At, at-next, at-rows, Goes, Small, kind-is, pay-is, record-goes}
+use Rattle.edit_rules.specs.Entries.{scopeWords}
+use Rattle.edit_rules.specs.Written.{nameWords, crateWords, dependencyWords, mapWords, moduleWords, childWords, preludeWords, definitionWords}
+use Rattle.edit_rules.specs.Written.{importWords, externWords, memberWords}
+use Rattle.join_words.proofs.Runs.{At, at-next, at-rows, Goes, Small, pay-is, record-goes}
 
 follows-up : (k n : ℕ) → leb 1 k ≡ true → leb k 13 ≡ true → not (eqb k 12) ≡ true → n ≤ k → follows n k ≡ true
 follows-up k n a b c h = rw (a, b, c, le-leb n k h)
@@ -61,7 +67,8 @@ name-goes s x {X} {p} at b pad size a c e =
     let t = ap (λ m. rows (λ i. getD X (p + 1 + i) 0) 0 (wordsOf m)) n ∙ at-rows (x .text) (wordsOf (x .bytes)) size (at-next _ (x .text) at) in
     let r : nameAt X p ≡ x = λ i. record { bytes = n i; text = t i } in
     let q : nameStep s x ≡ on (addName s x) = rw (nameStep, a, c, e) in
-    record-goes 1 (x .bytes) at l 1 s (addName s x) (padded-small (x .bytes) (x .text) pad) (λ n h. follows-up 1 n refl refl refl h) (sym size) (ap (nameStep s) r ∙ q)
+    record-goes 1 (x .bytes) at l 1 s (addName s x) (padded-small (x .bytes) (x .text) pad) (λ n h. follows-up 1 n refl refl refl h)
+    (sym size) (ap (nameStep s) r ∙ q)
 
 pub crate-goes : (s : Snapshot) (x : Crate) {X : List ℕ} {p : ℕ} → At X p (crateWords x) → x .origin ≤ 4 → x .noStd ≤ 1 → x .edition < 268435456
     → crateRange x ≡ true → isEdition (x .edition) ≡ true → ltb (length (s .crates)) crateLimit ≡ true
@@ -77,9 +84,11 @@ crate-goes s x {X} {p} at o m l a b e =
     let y = at .same 1 (omega arith) in
     let r : crateAt X p ≡ x = λ i. record { origin = u i; noStd = v i; edition = y i } in
     let q : crateStep s x ≡ on (addCrate s x) = rw (crateStep, a, b, e) in
-    record-goes 2 (x .origin + 8 * x .noStd) at w 2 s (addCrate s x) (more l none) (λ n h. follows-up 2 n refl refl refl h) refl (ap (crateStep s) r ∙ q)
+    record-goes 2 (x .origin + 8 * x .noStd) at w 2 s (addCrate s x) (more l none) (λ n h. follows-up 2 n refl refl refl h) refl
+    (ap (crateStep s) r ∙ q)
 
-pub dependency-goes : (s : Snapshot) (x : Dependency) {X : List ℕ} {p : ℕ} → At X p (dependencyWords x) → Small (x .owner) → Small (x .crate) → Small (x .sysroot)
+pub dependency-goes : (s : Snapshot) (x : Dependency) {X : List ℕ} {p : ℕ} → At X p (dependencyWords x) → Small (x .owner)
+    → Small (x .crate) → Small (x .sysroot)
     → dependencyRange x ≡ true → dependencyDefined (countsOf s) x ≡ true
     → Goes X p 3 s (p + length (dependencyWords x)) 3 (addDependency s x)
 unfolding recordStep dependencyStep argumentsOf
@@ -89,7 +98,8 @@ dependency-goes s x {X} {p} at l h1 h2 a b =
     let f2 = at .same 2 (omega arith) in
     let r : dependencyAt X p ≡ x = λ i. record { owner = n i; crate = f1 i; sysroot = f2 i } in
     let q : dependencyStep s x ≡ on (addDependency s x) = rw (dependencyStep, a, b) in
-    record-goes 3 (x .owner) at l 3 s (addDependency s x) (more h1 (more h2 none)) (λ n h. follows-up 3 n refl refl refl h) refl (ap (dependencyStep s) r ∙ q)
+    record-goes 3 (x .owner) at l 3 s (addDependency s x) (more h1 (more h2 none)) (λ n h. follows-up 3 n refl refl refl h) refl
+    (ap (dependencyStep s) r ∙ q)
 
 pub map-goes : (s : Snapshot) (x : Map) {X : List ℕ} {p : ℕ} → At X p (mapWords x) → Small (x .crate) → Small (x .block) → Small (x .noStd)
     → mapRange x ≡ true → mapDefined (countsOf s) x ≡ true → mapRepeated s x ≡ false → mapPlaced s x ≡ true
@@ -136,8 +146,10 @@ prelude-goes s x {X} {p} at l h1 b c =
     let q : preludeStep s x ≡ on (addPrelude s x) = rw (preludeStep, b, c) in
     record-goes 7 (x .map) at l 7 s (addPrelude s x) (more h1 none) (λ n h. follows-up 7 n refl refl refl h) refl (ap (preludeStep s) r ∙ q)
 
-pub definition-goes : (s : Snapshot) (x : Definition) {X : List ℕ} {p : ℕ} → At X p (definitionWords x) → x .place ≡ p → Small (x .kind) → Small (x .first) → Small (x .second)
-    → definitionRange s x ≡ true → definitionDefined (countsOf s) x ≡ true → definitionRepeated s x ≡ false → definitionPlaced s x ≡ true → ltb (length (s .definitions)) definitionLimit ≡ true
+pub definition-goes : (s : Snapshot) (x : Definition) {X : List ℕ} {p : ℕ} → At X p (definitionWords x) → x .place ≡ p → Small (x .kind)
+    → Small (x .first) → Small (x .second)
+    → definitionRange s x ≡ true → definitionDefined (countsOf s) x ≡ true → definitionRepeated s x ≡ false → definitionPlaced s x ≡ true
+    → ltb (length (s .definitions)) definitionLimit ≡ true
     → Goes X p 8 s (p + length (definitionWords x)) 8 (addDefinition s x)
 unfolding recordStep definitionStep argumentsOf
 definition-goes s x {X} {p} at g l h1 h2 a b c d e =
@@ -146,9 +158,11 @@ definition-goes s x {X} {p} at g l h1 h2 a b c d e =
     let f2 = at .same 2 (omega arith) in
     let r : definitionAt X p ≡ x = λ i. record { kind = n i; first = f1 i; second = f2 i; place = sym g i } in
     let q : definitionStep s x ≡ on (addDefinition s x) = rw (definitionStep, a, b, c, d, e) in
-    record-goes 8 (x .kind) at l 8 s (addDefinition s x) (more h1 (more h2 none)) (λ n h. follows-up 8 n refl refl refl h) refl (ap (definitionStep s) r ∙ q)
+    record-goes 8 (x .kind) at l 8 s (addDefinition s x) (more h1 (more h2 none)) (λ n h. follows-up 8 n refl refl refl h) refl
+    (ap (definitionStep s) r ∙ q)
 
-pub scope-goes : (s : Snapshot) (x : Scope) {X : List ℕ} {p : ℕ} → At X p (scopeWords x) → x .place ≡ p → Small (x .owner) → Small (x .ns) → Small (x .name) → Small (x .definition) → Small (x .visibility) → Small (x .number) → Small (x .declared) → Small (x .bits)
+pub scope-goes : (s : Snapshot) (x : Scope) {X : List ℕ} {p : ℕ} → At X p (scopeWords x) → x .place ≡ p → Small (x .owner)
+    → Small (x .ns) → Small (x .name) → Small (x .definition) → Small (x .visibility) → Small (x .number) → Small (x .declared) → Small (x .bits)
     → scopeRange x ≡ true → scopeDefined (countsOf s) x ≡ true → any (sameEntry x) (s .scopes) ≡ false → nsPlaced s (x .ns) (x .definition) ≡ true
     → Goes X p 9 s (p + length (scopeWords x)) 9 (addScope s x)
 unfolding recordStep scopeStep argumentsOf scopeWords
@@ -161,11 +175,24 @@ scope-goes s x {X} {p} at g l h1 h2 h3 h4 h5 h6 h7 a b c d =
     let f5 = at .same 5 (omega arith) in
     let f6 = at .same 6 (omega arith) in
     let f7 = at .same 7 (omega arith) in
-    let r : scopeAt X p ≡ x = λ i. record { owner = n i; ns = f1 i; name = f2 i; definition = f3 i; visibility = f4 i; number = f5 i; declared = f6 i; bits = f7 i; place = sym g i } in
+    let r : scopeAt X p ≡ x = λ i. record {
+      owner = n i;
+      ns = f1 i;
+      name = f2 i;
+      definition = f3 i;
+      visibility = f4 i;
+      number =
+          f5 i;
+      declared = f6 i;
+      bits = f7 i;
+      place = sym g i;
+    } in
     let q : scopeStep s x ≡ on (addScope s x) = rw (scopeStep, a, b, c, d) in
-    record-goes 9 (x .owner) at l 9 s (addScope s x) (more h1 (more h2 (more h3 (more h4 (more h5 (more h6 (more h7 none))))))) (λ n h. follows-up 9 n refl refl refl h) refl (ap (scopeStep s) r ∙ q)
+    record-goes 9 (x .owner) at l 9 s (addScope s x) (more h1 (more h2 (more h3 (more h4 (more h5 (more h6 (more h7 none)))))))
+    (λ n h. follows-up 9 n refl refl refl h) refl (ap (scopeStep s) r ∙ q)
 
-pub import-goes : (s : Snapshot) (x : Import) {X : List ℕ} {p : ℕ} → At X p (importWords x) → x .place ≡ p → Small (x .owner) → Small (x .ns) → Small (x .definition) → Small (x .name) → Small (x .container) → Small (x .bits)
+pub import-goes : (s : Snapshot) (x : Import) {X : List ℕ} {p : ℕ} → At X p (importWords x) → x .place ≡ p → Small (x .owner)
+    → Small (x .ns) → Small (x .definition) → Small (x .name) → Small (x .container) → Small (x .bits)
     → importRange x ≡ true → importDefined (countsOf s) x ≡ true → nsPlaced s (x .ns) (x .definition) ≡ true
     → Goes X p 10 s (p + length (importWords x)) 10 (addImport s x)
 unfolding recordStep importStep argumentsOf
@@ -176,11 +203,22 @@ import-goes s x {X} {p} at g l h1 h2 h3 h4 h5 a b d =
     let f3 = at .same 3 (omega arith) in
     let f4 = at .same 4 (omega arith) in
     let f5 = at .same 5 (omega arith) in
-    let r : importAt X p ≡ x = λ i. record { owner = n i; ns = f1 i; definition = f2 i; name = f3 i; container = f4 i; bits = f5 i; place = sym g i } in
+    let r : importAt X p ≡ x = λ i. record {
+      owner = n i;
+      ns = f1 i;
+      definition = f2 i;
+      name = f3 i;
+      container = f4 i;
+      bits =
+          f5 i;
+      place = sym g i;
+    } in
     let q : importStep s x ≡ on (addImport s x) = rw (importStep, a, b, d) in
-    record-goes 10 (x .owner) at l 10 s (addImport s x) (more h1 (more h2 (more h3 (more h4 (more h5 none))))) (λ n h. follows-up 10 n refl refl refl h) refl (ap (importStep s) r ∙ q)
+    record-goes 10 (x .owner) at l 10 s (addImport s x) (more h1 (more h2 (more h3 (more h4 (more h5 none)))))
+    (λ n h. follows-up 10 n refl refl refl h) refl (ap (importStep s) r ∙ q)
 
-pub extern-goes : (s : Snapshot) (x : Extern) {X : List ℕ} {p : ℕ} → At X p (externWords x) → x .place ≡ p → Small (x .owner) → Small (x .name) → Small (x .target)
+pub extern-goes : (s : Snapshot) (x : Extern) {X : List ℕ} {p : ℕ} → At X p (externWords x) → x .place ≡ p → Small (x .owner)
+    → Small (x .name) → Small (x .target)
     → externDefined (countsOf s) x ≡ true → any (sameExtern x) (s .externs) ≡ false
     → Goes X p 11 s (p + length (externWords x)) 11 (addExtern s x)
 unfolding recordStep externStep argumentsOf
@@ -190,9 +228,11 @@ extern-goes s x {X} {p} at g l h1 h2 b c =
     let f2 = at .same 2 (omega arith) in
     let r : externAt X p ≡ x = λ i. record { owner = n i; name = f1 i; target = f2 i; place = sym g i } in
     let q : externStep s x ≡ on (addExtern s x) = rw (externStep, b, c) in
-    record-goes 11 (x .owner) at l 11 s (addExtern s x) (more h1 (more h2 none)) (λ n h. follows-up 11 n refl refl refl h) refl (ap (externStep s) r ∙ q)
+    record-goes 11 (x .owner) at l 11 s (addExtern s x) (more h1 (more h2 none)) (λ n h. follows-up 11 n refl refl refl h) refl
+    (ap (externStep s) r ∙ q)
 
-pub member-goes : (s : Snapshot) (x : Member) {X : List ℕ} {p : ℕ} → At X p (memberWords x) → Small (x .parent) → Small (x .name) → Small (x .definition) → Small (x .kind) → Small (x .bits)
+pub member-goes : (s : Snapshot) (x : Member) {X : List ℕ} {p : ℕ} → At X p (memberWords x) → Small (x .parent) → Small (x .name)
+    → Small (x .definition) → Small (x .kind) → Small (x .bits)
     → memberRange x ≡ true → memberDefined (countsOf s) x ≡ true → memberPlaced s x ≡ true
     → Goes X p 13 s (p + length (memberWords x)) 13 (addMember s x)
 unfolding recordStep memberStep argumentsOf
@@ -204,4 +244,5 @@ member-goes s x {X} {p} at l h1 h2 h3 h4 a b d =
     let f4 = at .same 4 (omega arith) in
     let r : memberAt X p ≡ x = λ i. record { parent = n i; name = f1 i; definition = f2 i; kind = f3 i; bits = f4 i } in
     let q : memberStep s x ≡ on (addMember s x) = rw (memberStep, a, b, d) in
-    record-goes 13 (x .parent) at l 13 s (addMember s x) (more h1 (more h2 (more h3 (more h4 none)))) (λ n h. follows-up 13 n refl refl refl h) refl (ap (memberStep s) r ∙ q)
+    record-goes 13 (x .parent) at l 13 s (addMember s x) (more h1 (more h2 (more h3 (more h4 none))))
+    (λ n h. follows-up 13 n refl refl refl h) refl (ap (memberStep s) r ∙ q)

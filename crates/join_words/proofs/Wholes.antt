@@ -1,27 +1,34 @@
 -- What an accepted snapshot has beside what a reader needs.
 use Prim.Native.Nat.{ℕ, zero, suc, _+_, _≤_, _<_}
-use mathlib.Core.Path.{_≡_, refl, sym, _∙_, ap, subst}
+use mathlib.Core.Path.{_≡_, _∙_, ap, subst}
 use mathlib.Core.List.{List, [], _∷_, _++_}
 use mathlib.Core.Bool.{Bool, true, false, _&&_, _||_, not, true≢false, false≢true}
 use native.Mathlib.Omega.{arith}
 use borrow.Author.Tests.{eqb-true, eq-eqb, ne-eqb, ltb-true, ltb-false, lt-leb}
 use lib.Dec.{eqb, leb, ltb}
 use lib.ListN.{length, getD}
-use Rattle.snapshot.specs.Lists.{any, rows}
+use Rattle.snapshot.specs.Lists.{any}
 use Rattle.snapshot.specs.Limits.{crateLimit, moduleLimit, nameLimit, definitionLimit}
 use Rattle.snapshot.specs.Words.{kindOf, payOf, wordsOf, argumentsAt}
-use Rattle.snapshot.specs.Records.{Name, Definition, Snapshot, nameAt, crateAt, dependencyAt, mapAt, moduleAt, childAt, preludeAt, definitionAt, scopeAt, importAt, externAt, memberAt}
+use Rattle.snapshot.specs.Records.{Name, Definition, Snapshot, nameAt, crateAt, dependencyAt, mapAt, moduleAt, childAt, preludeAt, definitionAt}
+use Rattle.snapshot.specs.Records.{scopeAt, importAt, externAt, memberAt}
 use Rattle.snapshot.proofs.Laws.{length-rows}
-use Rattle.check_rules.specs.Tests.{countsOf, noName, padded, isBuiltin, childDefined, childPlaced, crateRange, isEdition, definitionDefined, definitionPlaced, definitionRange, definitionRepeated, dependencyDefined, dependencyRange, externDefined, importDefined, importRange, mapDefined, mapPlaced, mapRange, mapRepeated, memberDefined, memberPlaced, memberRange, moduleDefined, modulePlaced, nameRange, nsPlaced, preludeDefined, sameChild, sameEntry, sameExtern, sameName, samePrelude, scopeDefined, scopeRange}
-use Rattle.check_rules.specs.Steps.{on, addName, addCrate, addDependency, addMap, addModule, addChild, addPrelude, addDefinition, addScope, addImport, addExtern, addMember, nameStep, crateStep, dependencyStep, mapStep, moduleStep, childStep, preludeStep, definitionStep, scopeStep, importStep, externStep, memberStep}
+use Rattle.check_rules.specs.Tests.{countsOf, noName, padded, isBuiltin, childDefined, childPlaced, crateRange, isEdition, definitionDefined}
+use Rattle.check_rules.specs.Tests.{definitionPlaced, definitionRange, definitionRepeated, dependencyDefined, dependencyRange, externDefined}
+use Rattle.check_rules.specs.Tests.{importDefined, importRange, mapDefined, mapPlaced, mapRange, mapRepeated, memberDefined, memberPlaced}
+use Rattle.check_rules.specs.Tests.{memberRange, moduleDefined, modulePlaced, nameRange, nsPlaced, preludeDefined, sameChild, sameEntry, sameExtern}
+use Rattle.check_rules.specs.Tests.{sameName, samePrelude, scopeDefined, scopeRange}
+use Rattle.check_rules.specs.Steps.{on, addName, addCrate, addDependency, addMap, addModule, addChild, addPrelude, addDefinition, addScope, addImport}
+use Rattle.check_rules.specs.Steps.{addExtern, addMember, nameStep, crateStep, dependencyStep, mapStep, moduleStep, childStep, preludeStep}
+use Rattle.check_rules.specs.Steps.{definitionStep, scopeStep, importStep, externStep, memberStep}
 use Rattle.check_rules.specs.Verdict.{recordStep, accept, records, empty, verdict}
 use Rattle.accept.specs.Valid.{Each, none, more}
-use Rattle.accept.proofs.Accepted.{by-test, Keeps, verdict-keeps, judge-on, judge-crate-on}
+use Rattle.accept.proofs.Accepted.{by-test, verdict-keeps, judge-on, judge-crate-on}
 use Rattle.accept.proofs.Bools.{and-three, and-four, unless-right, or-right, each-map, each-snoc, length-snoc, getD-old}
 use Rattle.scope_edits.proofs.Stepped.{taking}
 use Rattle.scope_edits.proofs.Folded.{records-done, next-record}
 use Rattle.scope_edits.proofs.Split.{verdict-records}
-use Rattle.join_words.proofs.Stages.{NameWhole, DefinitionWhole, Whole}
+use Rattle.join_words.proofs.Stages.{Whole}
 
 -- the text of a name that is read from words has its size
 
@@ -39,7 +46,8 @@ module _ (W : List ℕ) (at : ℕ) (s t : Snapshot) (h : Sized (s .names)) where
   unfolding nameStep
   name-sized e =
       let x = nameAt W at in
-      kept (addName s x) (judge-on (nameRange x) true (any (sameName x) (s .names)) true (ltb (length (s .names)) nameLimit) (addName s x) t e .same) (each-snoc h (sized-at W at))
+      kept (addName s x) (judge-on (nameRange x) true (any (sameName x) (s .names)) true (ltb (length (s .names)) nameLimit)
+      (addName s x) t e .same) (each-snoc h (sized-at W at))
 
   crate-sized : crateStep s (crateAt W at) ≡ on t → Sized (t .names)
   unfolding crateStep
@@ -63,13 +71,15 @@ module _ (W : List ℕ) (at : ℕ) (s t : Snapshot) (h : Sized (s .names)) where
   unfolding moduleStep
   module-sized e =
       let x = moduleAt W at in
-      kept (addModule s x) (judge-on true (moduleDefined (countsOf s) x) false (modulePlaced s x) (ltb (length (s .modules)) moduleLimit) (addModule s x) t e .same) h
+      kept (addModule s x) (judge-on true (moduleDefined (countsOf s) x) false (modulePlaced s x) (ltb (length (s .modules)) moduleLimit)
+      (addModule s x) t e .same) h
 
   child-sized : childStep s (childAt W at) ≡ on t → Sized (t .names)
   unfolding childStep
   child-sized e =
       let x = childAt W at in
-      kept (addChild s x) (judge-on true (childDefined (countsOf s) x) (any (sameChild x) (s .children)) (childPlaced s x) true (addChild s x) t e .same) h
+      kept (addChild s x) (judge-on true (childDefined (countsOf s) x) (any (sameChild x) (s .children)) (childPlaced s x) true
+      (addChild s x) t e .same) h
 
   prelude-sized : preludeStep s (preludeAt W at) ≡ on t → Sized (t .names)
   unfolding preludeStep
@@ -81,19 +91,22 @@ module _ (W : List ℕ) (at : ℕ) (s t : Snapshot) (h : Sized (s .names)) where
   unfolding definitionStep
   definition-sized e =
       let x = definitionAt W at in
-      kept (addDefinition s x) (judge-on (definitionRange s x) (definitionDefined (countsOf s) x) (definitionRepeated s x) (definitionPlaced s x) (ltb (length (s .definitions)) definitionLimit) (addDefinition s x) t e .same) h
+      kept (addDefinition s x) (judge-on (definitionRange s x) (definitionDefined (countsOf s) x) (definitionRepeated s x)
+      (definitionPlaced s x) (ltb (length (s .definitions)) definitionLimit) (addDefinition s x) t e .same) h
 
   scope-sized : scopeStep s (scopeAt W at) ≡ on t → Sized (t .names)
   unfolding scopeStep
   scope-sized e =
       let x = scopeAt W at in
-      kept (addScope s x) (judge-on (scopeRange x) (scopeDefined (countsOf s) x) (any (sameEntry x) (s .scopes)) (nsPlaced s (x .ns) (x .definition)) true (addScope s x) t e .same) h
+      kept (addScope s x) (judge-on (scopeRange x) (scopeDefined (countsOf s) x) (any (sameEntry x) (s .scopes))
+      (nsPlaced s (x .ns) (x .definition)) true (addScope s x) t e .same) h
 
   import-sized : importStep s (importAt W at) ≡ on t → Sized (t .names)
   unfolding importStep
   import-sized e =
       let x = importAt W at in
-      kept (addImport s x) (judge-on (importRange x) (importDefined (countsOf s) x) false (nsPlaced s (x .ns) (x .definition)) true (addImport s x) t e .same) h
+      kept (addImport s x) (judge-on (importRange x) (importDefined (countsOf s) x) false (nsPlaced s (x .ns) (x .definition)) true
+      (addImport s x) t e .same) h
 
   extern-sized : externStep s (externAt W at) ≡ on t → Sized (t .names)
   unfolding externStep
@@ -123,7 +136,8 @@ module _ (W : List ℕ) (at : ℕ) (s t : Snapshot) (h : Sized (s .names)) where
       by-test (eqb k 11) (λ a. extern-sized (rw (recordStep, n1, n2, n3, n4, n5, n6, n7, n8, n9, n10, a) at e)) (λ n11.
       member-sized (rw (recordStep, n1, n2, n3, n4, n5, n6, n7, n8, n9, n10, n11) at e))))))))))))
 
-records-sized : (W : List ℕ) (u : Snapshot) (n at last : ℕ) (s : Snapshot) → records n W at last s ≡ accept u → length W ≤ n + at → Sized (s .names) → Sized (u .names)
+records-sized : (W : List ℕ) (u : Snapshot) (n at last : ℕ) (s : Snapshot) → records n W at last s ≡ accept u → length W ≤ n + at
+    → Sized (s .names) → Sized (u .names)
 records-sized W u zero at last s e enough h =
     subst (λ (x : Snapshot). Sized (x .names)) (records-done W zero at last s u (omega arith) e) h
 records-sized W u (suc n) at last s e enough h =
@@ -166,11 +180,13 @@ held s y r k =
     let q = and-three (not (eqb (y .kind) 2) || ltb (y .first) (length (s .definitions)) && ltb (y .second) (length (s .names)))
     (not (eqb (y .kind) 3) || ltb (y .first) (length (s .names))) (eqb (y .kind) 2 || eqb (y .kind) 3 || ltb (y .first) (length (s .modules))) k in
     let below : y .kind ≡ 3 → y .first < length (s .names) =
-    λ z. ltb-true (y .first) (length (s .names)) (unless-right (eqb (y .kind) 3) (ltb (y .first) (length (s .names))) (q .1) (eq-eqb (y .kind) 3 z)) in
+    λ z. ltb-true (y .first) (length (s .names)) (unless-right (eqb (y .kind) 3) (ltb (y .first) (length (s .names))) (q .1) (eq-eqb (y .kind) 3 z))
+    in
     record {
       second = λ z. eqb-true (y .second) 0 (or-right (eqb (y .kind) 2) (eqb (y .second) 0) (p .2) (ne-eqb (y .kind) 2 z));
       known = below;
-      builtin = λ z. last-test (eqb (y .kind) 3) (leb (length (s .names)) (y .first)) b (p .3) (eq-eqb (y .kind) 3 z) (lt-leb (length (s .names)) (y .first) (below z));
+      builtin = λ z. last-test (eqb (y .kind) 3) (leb (length (s .names)) (y .first)) b (p .3) (eq-eqb (y .kind) 3 z)
+          (lt-leb (length (s .names)) (y .first) (below z));
     }
   where
     last-test : (a c b : Bool) → not a || c || b ≡ true → a ≡ true → c ≡ false → b ≡ true

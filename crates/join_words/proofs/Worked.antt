@@ -9,7 +9,8 @@ use Rattle.snapshot.specs.Lists.{rows, any, all, eqList}
 use Rattle.snapshot.specs.Words.{argumentsOf}
 use Rattle.snapshot.specs.Records.{Snapshot}
 use Rattle.check_rules.specs.Tests.{textBound, padded}
-use Rattle.check_rules.specs.Steps.{nameStep, crateStep, dependencyStep, mapStep, moduleStep, childStep, preludeStep, definitionStep, scopeStep, importStep, externStep, memberStep}
+use Rattle.check_rules.specs.Steps.{nameStep, crateStep, dependencyStep, mapStep, moduleStep, childStep, preludeStep, definitionStep, scopeStep}
+use Rattle.check_rules.specs.Steps.{importStep, externStep, memberStep}
 use Rattle.check_rules.specs.Verdict.{argumentsFrom, recordStep, stepAt, finish, records, verdict}
 use Rattle.check_rules.specs.Worked.{worked}
 use Rattle.hir_def.specs.Finds.{placeOf, select}
@@ -18,7 +19,8 @@ use Rattle.find_path.proofs.Worked.{Row, row, rowAt, passes, cases, withDepende
 use Rattle.edit_rules.specs.Entries.{scopeWords}
 use Rattle.edit_rules.specs.Written.{eachWords, treeWords, snapshotWords}
 use Rattle.edit_rules.specs.Written as written
-use Rattle.join_words.specs.Joined.{merged, mergedNumber, nameNumber, definitionNumber, Numbers, secondNumbers, questionTo, together, Joining, refusedBy, joinedAs, joinIn, joinBy, joinOf}
+use Rattle.join_words.specs.Joined.{merged, mergedNumber, nameNumber, definitionNumber, Numbers, secondNumbers, questionTo, together, Joining}
+use Rattle.join_words.specs.Joined.{refusedBy, joinedAs, joinIn, joinBy, joinOf}
 
 -- the words of a work area, both inputs, the words of the target, and what comes of it
 pub record Call : Type 0 where
@@ -124,7 +126,10 @@ pub worked-joins : agrees (record { area = 16384; first = worked; second = worke
     ∷ record { area = 16384; first = 0x20000000 ∷ 2020 ∷ []; second = []; room = 0; joining = refusedBy 43 }
     ∷ record { area = 16384; first = worked; second = 0x20000000 ∷ 2020 ∷ []; room = 0; joining = refusedBy 43 }
     ∷ []) ≡ true
-unfolding agrees alike twice few every fewEvery everyFew everyTwice crates joinOf joinBy joinIn together merged mergedNumber nameNumber definitionNumber snapshotWords written.joined eachWords treeWords scopeWords placeOf select verdict records stepAt recordStep finish argumentsFrom argumentsOf nameStep crateStep dependencyStep mapStep moduleStep childStep preludeStep definitionStep scopeStep importStep externStep memberStep textBound padded rows any all eqList
+unfolding agrees alike twice few every fewEvery everyFew everyTwice crates joinOf joinBy joinIn together merged mergedNumber
+    nameNumber definitionNumber snapshotWords written.joined eachWords treeWords scopeWords placeOf select verdict records stepAt
+    recordStep finish argumentsFrom argumentsOf nameStep crateStep dependencyStep mapStep moduleStep childStep preludeStep
+    definitionStep scopeStep importStep externStep memberStep textBound padded rows any all eqList
 worked-joins = refl
 
 -- the lines of each part's questions, put with their numbers moved, on the joined words
@@ -148,14 +153,23 @@ joinPasses W X first second =
 
 pub worked-twice : joinPasses worked worked cases cases
     && passes twice (row 4 0 0 1 0 9 "refused 23 0 0" ∷ row 1 1 4 1 0 9 "refused 23 0 0" ∷ row 2 2 2 1 0 9 "refused 24 0 0" ∷ []) ≡ true
-unfolding joinPasses wordsBy twice passes cases dependencyCases stdCases rowAt withDependency withStd head named snapshotOf joinOf joinBy joinIn together merged mergedNumber nameNumber definitionNumber snapshotWords written.joined eachWords treeWords scopeWords placeOf select verdict records stepAt recordStep finish argumentsFrom argumentsOf nameStep crateStep dependencyStep mapStep moduleStep childStep preludeStep definitionStep scopeStep importStep externStep memberStep textBound padded rows any all eqList
+unfolding joinPasses wordsBy twice passes cases dependencyCases stdCases rowAt withDependency withStd head named snapshotOf joinOf
+    joinBy joinIn together merged mergedNumber nameNumber definitionNumber snapshotWords written.joined eachWords treeWords
+    scopeWords placeOf select verdict records stepAt recordStep finish argumentsFrom argumentsOf nameStep crateStep dependencyStep
+    mapStep moduleStep childStep preludeStep definitionStep scopeStep importStep externStep memberStep textBound padded rows any all eqList
 worked-twice = refl
 
 -- names and `u8` are shared
 pub dependency-twice : joinPasses withDependency withDependency dependencyCases dependencyCases ≡ true
-unfolding joinPasses wordsBy twice passes cases dependencyCases stdCases rowAt withDependency withStd head named snapshotOf joinOf joinBy joinIn together merged mergedNumber nameNumber definitionNumber snapshotWords written.joined eachWords treeWords scopeWords placeOf select verdict records stepAt recordStep finish argumentsFrom argumentsOf nameStep crateStep dependencyStep mapStep moduleStep childStep preludeStep definitionStep scopeStep importStep externStep memberStep textBound padded rows any all eqList
+unfolding joinPasses wordsBy twice passes cases dependencyCases stdCases rowAt withDependency withStd head named snapshotOf joinOf
+    joinBy joinIn together merged mergedNumber nameNumber definitionNumber snapshotWords written.joined eachWords treeWords
+    scopeWords placeOf select verdict records stepAt recordStep finish argumentsFrom argumentsOf nameStep crateStep dependencyStep
+    mapStep moduleStep childStep preludeStep definitionStep scopeStep importStep externStep memberStep textBound padded rows any all eqList
 dependency-twice = refl
 
 pub dependency-std : joinPasses withDependency withStd dependencyCases stdCases ≡ true
-unfolding joinPasses wordsBy twice passes cases dependencyCases stdCases rowAt withDependency withStd head named snapshotOf joinOf joinBy joinIn together merged mergedNumber nameNumber definitionNumber snapshotWords written.joined eachWords treeWords scopeWords placeOf select verdict records stepAt recordStep finish argumentsFrom argumentsOf nameStep crateStep dependencyStep mapStep moduleStep childStep preludeStep definitionStep scopeStep importStep externStep memberStep textBound padded rows any all eqList
+unfolding joinPasses wordsBy twice passes cases dependencyCases stdCases rowAt withDependency withStd head named snapshotOf joinOf
+    joinBy joinIn together merged mergedNumber nameNumber definitionNumber snapshotWords written.joined eachWords treeWords
+    scopeWords placeOf select verdict records stepAt recordStep finish argumentsFrom argumentsOf nameStep crateStep dependencyStep
+    mapStep moduleStep childStep preludeStep definitionStep scopeStep importStep externStep memberStep textBound padded rows any all eqList
 dependency-std = refl

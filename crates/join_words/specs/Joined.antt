@@ -13,7 +13,6 @@ use Rattle.snapshot.specs.Records.{Dependency, Map, Module, Child, Prelude, Def
 use Rattle.check_rules.specs.Tests.{noName, noDefinition, sameName}
 use Rattle.check_rules.specs.Verdict.{Verdict, refuse, accept, verdict}
 use Rattle.hir_def.specs.Finds.{placeOf, select}
-use Rattle.find_path.specs.declared.Query.{Query}
 use Rattle.find_path.specs.declared.Question.{Question}
 use Rattle.edit_rules.specs.Entries.{movedScope, movedImport, movedExtern}
 use Rattle.edit_rules.specs.Written.{kindsWords, snapshotWords}

@@ -15,7 +15,8 @@ use Rattle.check_rules.specs.Verdict.{accept, verdict}
 use Rattle.printing.specs.Input.{wordsIn}
 use Rattle.find_path.specs.declared.Question.{Question}
 use Rattle.find_path.specs.Line.{lineOf}
-use Rattle.printer.specs.Printed.{isHead, firstFrom, questionsAt, wholeAt, questionAt, lineAt, nextAt, linesFrom, linesOf, linesUnless, inputFault, printed}
+use Rattle.printer.specs.Printed.{isHead, firstFrom, questionsAt, wholeAt, questionAt, lineAt, nextAt, linesFrom, linesOf, linesUnless, inputFault}
+use Rattle.printer.specs.Printed.{printed}
 use Rattle.printer.proofs.Laws.{no-fault, question-same}
 use Rattle.joined_lines.specs.Inputs.{numberLimit, questionWords, Writable, Asks, Room}
 use Rattle.joined_lines.proofs.Heads.{Free, accepted-free, first-skips}
@@ -77,13 +78,16 @@ module _ (W : List ℕ) (s : Snapshot) (accepted : verdict W ≡ accept s) (q : 
   same : questionAt T (length W) ≡ q
   unfolding questionWords
   same =
-      sym (question-same T (length W) (q .query .ns) (q .query .definition .0) (q .query .from .0) (q .query .prefix) (q .query .options) (q .query .limit) (q .fuel)
-      (sym (word-at 1)) (sym (ap payOf head-at ∙ head-pay _ (f .definition))) (sym (word-at 2)) (sym (word-at 3)) (sym (word-at 4)) (sym (word-at 6)) (sym (word-at 5)))
+      sym (question-same T (length W) (q .query .ns) (q .query .definition .0) (q .query .from .0) (q .query .prefix)
+      (q .query .options) (q .query .limit) (q .fuel)
+      (sym (word-at 1)) (sym (ap payOf head-at ∙ head-pay _ (f .definition))) (sym (word-at 2)) (sym (word-at 3)) (sym (word-at 4))
+      (sym (word-at 6)) (sym (word-at 5)))
 
   line : lineAt T W (length W) ≡ lineOf W q
   unfolding lineAt
   line =
-      let h : eqb (kindOf (getD T (length W) 0)) 14 ≡ false = ap (λ w. eqb (kindOf w) 14) head-at ∙ ap (λ k. eqb k 14) (head-kind _ (f .definition)) in
+      let h : eqb (kindOf (getD T (length W) 0)) 14 ≡ false = ap (λ w. eqb (kindOf w) 14) head-at
+      ∙ ap (λ k. eqb k 14) (head-kind _ (f .definition)) in
       rw (lineAt, whole, h) (ap (lineOf W) same)
 
   next-at : nextAt T (length W) ≡ length W + questionSize
@@ -106,7 +110,8 @@ module _ (W : List ℕ) (s : Snapshot) (accepted : verdict W ≡ accept s) (q : 
       ap (λ k. linesFrom (length T) T (take k T) k) b
       ∙ ap (λ X. linesFrom (length T) T X (length W)) t
       ∙ ap (λ m. linesFrom m T W (length W)) l
-      ∙ rw (linesFrom, i) (ap (λ x. x ∷ linesFrom (length W + 6) T W (nextAt T (length W))) line ∙ ap (λ xs. lineOf W q ∷ xs) (last-lines (length W + 6) (nextAt T (length W)) (omega (arith, next-at, long))))
+      ∙ rw (linesFrom, i) (ap (λ x. x ∷ linesFrom (length W + 6) T W (nextAt T (length W))) line
+      ∙ ap (λ xs. lineOf W q ∷ xs) (last-lines (length W + 6) (nextAt T (length W)) (omega (arith, next-at, long))))
 
   -- The printer has one line for the input: that of the question on the words.
   pub asked-printed : (B : List ℕ) → Asks B W q → Room W → printed B ≡ lineOf W q ∷ []

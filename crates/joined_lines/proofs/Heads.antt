@@ -62,7 +62,8 @@ step-free W at last i s u e h g =
     (λ b. let f : no formRefusal ≡ on u = rw (stepAt, a, b) at e in let z : _≡_ {A = ℕ} 0 1 = cc in absurd (omega arith)))
     (λ a. let f : no formRefusal ≡ on u = rw (stepAt, a) at e in let z : _≡_ {A = ℕ} 0 1 = cc in absurd (omega arith))
 
-records-free : (W : List ℕ) (n at last i : ℕ) (s u : Snapshot) → records n W at last s ≡ accept u → length W ≤ n + at → at ≤ i → i < length W → Free W i
+records-free : (W : List ℕ) (n at last i : ℕ) (s u : Snapshot) → records n W at last s ≡ accept u → length W ≤ n + at → at ≤ i
+    → i < length W → Free W i
 unfolding records
 records-free W zero at last i s u e m h g = absurd (omega (arith, m, h, g))
 records-free W (suc n) at last i s u e m h g =
@@ -71,7 +72,8 @@ records-free W (suc n) at last i s u e m h g =
     (λ r q. let f : refuse r at ≡ accept u = rw (records, a, q) at e in let z : _≡_ {A = ℕ} 0 1 = cc in absurd (omega arith))
     (λ t q. by-test (ltb i (at + 1 + argumentsAt W at))
     (λ b. step-free W at last i s t q h (ltb-true _ _ b))
-    (λ b. records-free W n (at + 1 + argumentsAt W at) (kindOf (getD W at 0)) i t u (rw (records, a, q) at e) (omega (arith, m)) (ltb-false _ _ b) g)))
+    (λ b. records-free W n (at + 1 + argumentsAt W at) (kindOf (getD W at 0)) i t u (rw (records, a, q) at e) (omega (arith, m))
+    (ltb-false _ _ b) g)))
     (λ a. absurd (omega (arith, ltb-false at (length W) a, h, g)))
 
 -- No word of an accepted snapshot is the head of a question.

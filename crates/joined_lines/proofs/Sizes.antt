@@ -2,7 +2,7 @@
 use Prim.Native.Nat.{ℕ, suc, _+_, _≤_, _<_}
 use mathlib.Core.Path.{_≡_, refl, sym, _∙_, ap, ap₂}
 use mathlib.Core.List.{List, [], _∷_, _++_, map}
-use mathlib.Core.Bool.{Bool, true, false, not, false≢true}
+use mathlib.Core.Bool.{Bool, true, false, false≢true}
 use native.Mathlib.Omega.{arith}
 use native.Mathlib.Nat.{add-zero}
 use borrow.Author.Tests.{eqb-true, eqb-false, eq-eqb, ne-eqb}
@@ -18,10 +18,12 @@ use Rattle.accept.proofs.Valid.{accepted-valid}
 use Rattle.hir_def.specs.Finds.{select}
 use Rattle.search_laws.proofs.Walks.{select-hit, select-miss}
 use Rattle.edit_rules.specs.Entries.{scopeWords}
-use Rattle.edit_rules.specs.Written.{nameWords, crateWords, dependencyWords, childWords, preludeWords, definitionWords, importWords, externWords, memberWords, eachWords, wordsWithin, treeWords, snapshotWords}
+use Rattle.edit_rules.specs.Written.{nameWords, crateWords, dependencyWords, childWords, preludeWords, definitionWords, importWords, externWords}
+use Rattle.edit_rules.specs.Written.{memberWords, eachWords, wordsWithin, treeWords, snapshotWords}
 use Rattle.edit_rules.specs.Written as written
 use Rattle.scope_edits.proofs.Written.{accepted-written}
-use Rattle.join_words.specs.Joined.{isNew, merged, sameBuiltin, nameNumber, secondNumbers, dependencyTo, mapTo, moduleTo, childTo, preludeTo, definitionTo, scopeTo, importTo, externTo, memberTo, together, joinedAs, joinOf}
+use Rattle.join_words.specs.Joined.{isNew, merged, sameBuiltin, nameNumber, secondNumbers, dependencyTo, mapTo, moduleTo, childTo, preludeTo}
+use Rattle.join_words.specs.Joined.{definitionTo, scopeTo, importTo, externTo, memberTo, together, joinedAs, joinOf}
 use Rattle.join_words.proofs.Joins.{join-accepted}
 use Rattle.join_words.proofs.Merged.{name-equal, name-refl}
 use Rattle.join_words.proofs.Runs.{words-append}

@@ -1,6 +1,6 @@
 -- The inputs that the theorem speaks of are there: the worked snapshot and its question, as bytes.
 use Prim.Native.Nat.{ℕ, _/_, _%_}
-use mathlib.Core.Path.{_≡_, refl}
+use mathlib.Core.Path.{refl}
 use mathlib.Core.List.{List, [], _∷_, _++_}
 use native.Mathlib.Omega.{arith}
 use Rattle.snapshot.specs.Lists.{rows}

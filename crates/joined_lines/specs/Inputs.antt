@@ -15,7 +15,8 @@ numberLimit = 268435456
 -- a head of kind 12, and six arguments
 unfoldable pub questionWords : Question → List ℕ
 questionWords q =
-    (12 * numberLimit + q .query .definition .0) ∷ q .query .ns ∷ q .query .from .0 ∷ q .query .prefix ∷ q .query .options ∷ q .fuel ∷ q .query .limit ∷ []
+    (12 * numberLimit + q .query .definition .0) ∷ q .query .ns ∷ q .query .from .0 ∷ q .query .prefix
+    ∷ q .query .options ∷ q .fuel ∷ q .query .limit ∷ []
 
 -- the question can be written in words
 pub record Writable (q : Question) : Type 0 where

@@ -44,15 +44,18 @@ module _ (x : Name) (f : ℕ → Name) (h : rows f 0 53 ≡ map (λ (k : Keyword
       by-2024 : 2018 ≤ e → (b : Bool) → ltb e 2024 ≡ b → any (sameName x) (rows f 0 (keywordsIn e)) ≡ isKeyword e x
       by-2024 g true t =
           let r = ltb-true e 2024 t in
-          by-first 52 (in-second e (omega arith) g r) (ap (any (sameName x)) (ap (take 52) h) ∙ sym (rw (isKeyword, le-leb 2015 e (omega arith), le-leb 2018 e g, lt-leb 2024 e r)))
+          by-first 52 (in-second e (omega arith) g r) (ap (any (sameName x)) (ap (take 52) h)
+          ∙ sym (rw (isKeyword, le-leb 2015 e (omega arith), le-leb 2018 e g, lt-leb 2024 e r)))
       by-2024 g false t =
           let r = ltb-false e 2024 t in
-          by-first 53 (in-third e (omega arith) g r) (ap (any (sameName x)) h ∙ sym (rw (isKeyword, le-leb 2015 e (omega arith), le-leb 2018 e g, le-leb 2024 e r)))
+          by-first 53 (in-third e (omega arith) g r) (ap (any (sameName x)) h
+          ∙ sym (rw (isKeyword, le-leb 2015 e (omega arith), le-leb 2018 e g, le-leb 2024 e r)))
 
       by-2018 : 2015 ≤ e → (b : Bool) → ltb e 2018 ≡ b → any (sameName x) (rows f 0 (keywordsIn e)) ≡ isKeyword e x
       by-2018 g true t =
           let r = ltb-true e 2018 t in
-          by-first 48 (in-first e g r) (ap (any (sameName x)) (ap (take 48) h) ∙ sym (rw (isKeyword, le-leb 2015 e g, lt-leb 2018 e r, lt-leb 2024 e (omega arith))))
+          by-first 48 (in-first e g r) (ap (any (sameName x)) (ap (take 48) h)
+          ∙ sym (rw (isKeyword, le-leb 2015 e g, lt-leb 2018 e r, lt-leb 2024 e (omega arith))))
       by-2018 g false t = by-2024 (ltb-false e 2018 t) (ltb e 2024) refl
 
       by-2015 : (b : Bool) → ltb e 2015 ≡ b → any (sameName x) (rows f 0 (keywordsIn e)) ≡ isKeyword e x

@@ -24,7 +24,8 @@ use Rattle.hir_def.specs.Items.{crateOf, crateData}
 use Rattle.find_path.specs.declared.Report.{Report}
 use Rattle.path_choices.specs.Choices.{nameData, nameLen}
 use Rattle.find_path.specs.Report.{refused}
-use Rattle.find_path.specs.Line.{bytesOf, unpacked, textOf, editionIn, writtenOf, decimalTo, decimal, joined, prefixParts, pathText, lineParts, lineIn}
+use Rattle.find_path.specs.Line.{bytesOf, unpacked, textOf, editionIn, writtenOf, decimalTo, decimal, joined, prefixParts, pathText, lineParts}
+use Rattle.find_path.specs.Line.{lineIn}
 use Rattle.search_laws.proofs.Lines.{decimal-digit, decimal-more}
 use Rattle.line.specs.Joints.{jointIf}
 
@@ -128,7 +129,8 @@ module _ (W A : List ℕ) (l : Layout) (r : Reads W A l) (n : ℕ) where
     pub no-name : l .names ≤ n → [] ≡ writtenOf (snapOf W A l) e n
     no-name h =
         by-test (isRaw e (nameData (snapOf W A l) n))
-        (λ t. absurd (let s = raw-short e (nameData (snapOf W A l) n) t .some in let z = ap (λ (x : Name). x .bytes) (nothing-there h) in omega arith))
+        (λ t. absurd (let s = raw-short e (nameData (snapOf W A l) n) t .some in let z = ap (λ (x : Name). x .bytes)
+        (nothing-there h) in omega arith))
         (λ t. no-text h ∙ written-plain t)
 
 -- the edition of a module's crate
@@ -250,10 +252,12 @@ unfolding pathTo
 path-next f k ns i n leading h e q =
     let t : take (i + 1) ns ≡ take i ns ++ (n ∷ []) = ap (λ x. take x ns) (add-one i) ∙ take-suc ns i 0 h ∙ ap (λ x. take i ns ++ (x ∷ [])) (sym e) in
     let b : (leading || ltb 0 i) ≡ filled (prefixParts k ++ map f (take i ns)) =
-    ap₂ (λ x y. x || y) (q ∙ sym (filled-prefix k)) (sym (filled-names f ns i (omega arith))) ∙ sym (filled-append (prefixParts k) (map f (take i ns))) in
+    ap₂ (λ x y. x || y) (q ∙ sym (filled-prefix k)) (sym (filled-names f ns i (omega arith)))
+    ∙ sym (filled-append (prefixParts k) (map f (take i ns))) in
     ap (λ x. joined (bytesOf "::") (prefixParts k ++ map f (take i ns)) ++ (jointIf x ++ f n)) b
     ∙ joined-snoc (prefixParts k ++ map f (take i ns)) (f n)
-    ∙ ap (joined (bytesOf "::")) (append-assoc (prefixParts k) (map f (take i ns)) (f n ∷ []) ∙ ap (λ x. prefixParts k ++ x) (sym (ap (map f) t ∙ map-snoc f (take i ns) n)))
+    ∙ ap (joined (bytesOf "::")) (append-assoc (prefixParts k) (map f (take i ns)) (f n ∷ [])
+    ∙ ap (λ x. prefixParts k ++ x) (sym (ap (map f) t ∙ map-snoc f (take i ns) n)))
 
 -- the first i names, each after a joint where something stands before it
 pub tailTo : (ℕ → List ℕ) → Bool → List ℕ → ℕ → List ℕ
@@ -309,9 +313,11 @@ line-whole s from r q =
     ∙ by (eqb (r .outcome) 0) (eqb (r .outcome) 1) (eqb (r .outcome) 3) _ _ _ _ _ _ _ _
   where
     by : (a b c : Bool) (o p q t u v w x : List ℕ)
-        → joined (bytesOf " ") (elim a [ true ↦ o ∷ p ∷ [] | false ↦ elim b [ true ↦ q ∷ t ∷ [] | false ↦ elim c [ true ↦ w ∷ x ∷ [] | false ↦ u ∷ v ∷ [] ] ] ])
+        → joined (bytesOf " ")
+        (elim a [ true ↦ o ∷ p ∷ [] | false ↦ elim b [ true ↦ q ∷ t ∷ [] | false ↦ elim c [ true ↦ w ∷ x ∷ [] | false ↦ u ∷ v ∷ [] ] ] ])
         ++ (bytesOf " " ++ (decimal (r .charges) ++ (bytesOf " " ++ decimal (r .empty))))
-        ≡ joined (bytesOf " ") (elim a [ true ↦ o ∷ p ∷ [] | false ↦ elim b [ true ↦ q ∷ t ∷ [] | false ↦ elim c [ true ↦ w ∷ x ∷ [] | false ↦ u ∷ v ∷ [] ] ] ]
+        ≡ joined (bytesOf " ")
+        (elim a [ true ↦ o ∷ p ∷ [] | false ↦ elim b [ true ↦ q ∷ t ∷ [] | false ↦ elim c [ true ↦ w ∷ x ∷ [] | false ↦ u ∷ v ∷ [] ] ] ]
         ++ (decimal (r .charges) ∷ decimal (r .empty) ∷ []))
     by true b c o p q t u v w x = two-parts o p _ _
     by false true c o p q t u v w x = two-parts q t _ _
@@ -326,7 +332,8 @@ pub none-text : (s : Snapshot) (y : ℕ) (r : Report) → r .outcome ≡ 1 → b
 unfolding lineParts joined
 none-text s y r e = let h : (r .outcome ≡ 0 → ⊥) = λ z. omega arith in rw (lineParts, ne-eqb _ _ h, eq-eqb _ _ e)
 
-pub misleads-text : (s : Snapshot) (y : ℕ) (r : Report) → r .outcome ≡ 3 → bytesOf "misleads " ++ pathText s y r ≡ joined (bytesOf " ") (lineParts s y r)
+pub misleads-text : (s : Snapshot) (y : ℕ) (r : Report) → r .outcome ≡ 3 → bytesOf "misleads " ++ pathText s y r
+    ≡ joined (bytesOf " ") (lineParts s y r)
 unfolding lineParts joined
 misleads-text s y r e =
     let h : (r .outcome ≡ 0 → ⊥) = λ z. omega arith in

@@ -48,7 +48,8 @@ fn put_outcome(
     r: Report,
 ) -> usize
     requires { ⌜ Reads (now words) (now area) l × (4126 ≤ length (now out)) × (r .count ≤ 16) ⌝ }
-    ensures { λ n. ⌜ Put (now (out .entry)) 0 (joined (bytesOf " ") (lineParts (snapOf (now (words .entry)) (now (area .entry)) l) edition r)) (now (out .exit)) n ⌝ }
+    ensures { λ n. ⌜ Put (now (out .entry)) 0 (joined (bytesOf " ") (lineParts (snapOf (now (words .entry)) (now (area .entry)) l) edition r))
+        (now (out .exit)) n ⌝ }
     ensures { λ n. ⌜ n ≤ 4126 ⌝ }
 {
     let names = r.names;
@@ -95,7 +96,8 @@ pub fn put_line(
     r: Report,
 ) -> usize
     requires { ⌜ Reads (now words) (now area) l × (lineLimit ≤ length (now out)) × (r .count ≤ 16) ⌝ }
-    ensures { λ n. ⌜ Put (now (out .entry)) 0 (lineIn (snapOf (now (words .entry)) (now (area .entry)) l) (from .0) r ++ bytesOf "\n") (now (out .exit)) n ⌝ }
+    ensures { λ n. ⌜ Put (now (out .entry)) 0 (lineIn (snapOf (now (words .entry)) (now (area .entry)) l) (from .0) r ++ bytesOf "\n")
+        (now (out .exit)) n ⌝ }
 {
     let a = put_bare(out, words, area, l, from, r);
     put(out, a, b"\n")

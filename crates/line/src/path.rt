@@ -43,7 +43,8 @@ fn put_part(
     joint: bool,
 ) -> usize
     requires { ⌜ Reads (now words) (now area) l × (at + 257 ≤ length (now out)) ⌝ }
-    ensures { λ r. ⌜ Put (now (out .entry)) at (jointIf joint ++ writtenOf (snapOf (now (words .entry)) (now (area .entry)) l) edition (n .0)) (now (out .exit)) r ⌝ }
+    ensures { λ r. ⌜ Put (now (out .entry)) at (jointIf joint ++ writtenOf (snapOf (now (words .entry)) (now (area .entry)) l) edition (n .0))
+        (now (out .exit)) r ⌝ }
     ensures { λ r. ⌜ r ≤ at + 257 ⌝ }
 {
     if joint {
@@ -67,7 +68,9 @@ pub(crate) fn put_path(
 ) -> usize
     requires { ⌜ Reads (now words) (now area) l × (at + 4117 ≤ length (now out)) ⌝ }
     requires { ⌜ (count ≤ 16) × (count ≤ length (now names)) ⌝ }
-    ensures { λ r. ⌜ Put (now (out .entry)) at (joined (bytesOf "::") (prefixParts kind ++ map (writtenOf (snapOf (now (words .entry)) (now (area .entry)) l) edition) (take count (now (names .entry))))) (now (out .exit)) r ⌝ }
+    ensures { λ r. ⌜ Put (now (out .entry)) at
+        (joined (bytesOf "::") (prefixParts kind ++ map (writtenOf (snapOf (now (words .entry)) (now (area .entry)) l) edition)
+        (take count (now (names .entry))))) (now (out .exit)) r ⌝ }
     ensures { λ r. ⌜ r ≤ at + 4117 ⌝ }
 {
     let leading = (kind == PathKind::SELF)

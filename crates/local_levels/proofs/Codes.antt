@@ -23,7 +23,8 @@ module _ (w : ℕ) where
   unfolding sameItem itemBy codeOf
   code-same (Mod m) h true e =
       let r = eqb-true (w % 4) 3 e in
-      both (eqb (w / 4) (m .0)) (eqb w (4 * m .0 + 3)) (λ t. eq-eqb w (4 * m .0 + 3) (let q = eqb-true (w / 4) (m .0) t in omega arith)) (λ t. eq-eqb (w / 4) (m .0) (let q = eqb-true w (4 * m .0 + 3) t in omega arith))
+      both (eqb (w / 4) (m .0)) (eqb w (4 * m .0 + 3)) (λ t. eq-eqb w (4 * m .0 + 3) (let q = eqb-true (w / 4) (m .0) t in omega arith))
+      (λ t. eq-eqb (w / 4) (m .0) (let q = eqb-true w (4 * m .0 + 3) t in omega arith))
   code-same (Mod m) h false e = let r = eqb-false (w % 4) 3 e in sym (ne-eqb w (4 * m .0 + 3) (λ q. r (omega arith)))
   code-same (Def ns d) h true e =
       let r = eqb-true (w % 4) 3 e in

@@ -54,7 +54,8 @@ module _ (W A₀ : List ℕ) (l : Layout) (from : ℕ) (s : Stack) (item : Item)
       begun =
           let seen = visited (levelsOf A₀ (s .place) (s .depth)) item in
           let cs = map (λ c. c .child) (childrenOf S from) in
-          let v : levelsOf A (s .place) (s .depth) ≡ levelsOf A₀ (s .place) (s .depth) = sym (levels-same A₀ A (s .top) (sym (d .below)) (s .depth) (s .place) chain) in
+          let v : levelsOf A (s .place) (s .depth) ≡ levelsOf A₀ (s .place) (s .depth) =
+          sym (levels-same A₀ A (s .top) (sym (d .below)) (s .depth) (s .place) chain) in
           record {
             same =
                 d₁ .same
@@ -87,7 +88,8 @@ module _ (W A₁ : List ℕ) (l : Layout) (from : ℕ) (s : Stack) (item : Item)
     pub walking-reads : Reads W A l
     walking-reads = reads-at W A₁ A l (s .top) r (g .ready .tables) (g .below)
 
-    pub walking-next : {m : ℕ} (B : List ℕ) (t : ℕ) → k < n → m ≡ getD A (s .top + k) 0 → Pushed A s n item (leadsTo (snapOf W A l) from m) B t → length B ≡ length A
+    pub walking-next : {m : ℕ} (B : List ℕ) (t : ℕ) → k < n → m ≡ getD A (s .top + k) 0 → Pushed A s n item (leadsTo (snapOf W A l) from m) B t
+        → length B ≡ length A
         → Walking S₁ from A₁ s item n₁ B t (k + 1)
     walking-next {m} B t h e d j =
         let b = turns S₁ from in
@@ -95,7 +97,8 @@ module _ (W A₁ : List ℕ) (l : Layout) (from : ℕ) (s : Stack) (item : Item)
         let seen = visited (levelsOf A₁ (s .place) (s .depth)) item in
         let run = runAt A (s .top) n in
         let f : ℕ → ℕ = λ i. getD A (s .top + i) 0 in
-        let v : levelsOf A (s .place) (s .depth) ≡ levelsOf A₁ (s .place) (s .depth) = levels-same A A₁ (s .top) (g .below) (s .depth) (s .place) (g .ready .chain) in
+        let v : levelsOf A (s .place) (s .depth) ≡ levelsOf A₁ (s .place) (s .depth) = levels-same A A₁ (s .top) (g .below)
+        (s .depth) (s .place) (g .ready .chain) in
         let q : runAt B (s .top) t ≡ push seen run (next m) =
         d .same ∙ ap₂ (λ x y. push (visited x item) run (leadsTo y from m)) v (snap-at W A₁ A l (s .top) r (g .ready .tables) (g .below)) in
         let o : b - k ≡ suc (b - (k + 1)) = omega (arith, g .ready .fits) in
@@ -103,7 +106,8 @@ module _ (W A₁ : List ℕ) (l : Layout) (from : ℕ) (s : Stack) (item : Item)
         let x : getD run k 0 ≡ m = getD-rows f 0 n k h ∙ sym e in
         let w = push-grown seen (next m) run in
         let z : t ≡ n + length (w .0) =
-        sym (length-rows (λ i. getD B (s .top + i) 0) t) ∙ ap length (q ∙ w .1) ∙ length-append run (w .0) ∙ ap (λ i. i + length (w .0)) (length-rows f n) in
+        sym (length-rows (λ i. getD B (s .top + i) 0) t) ∙ ap length (q ∙ w .1) ∙ length-append run (w .0)
+        ∙ ap (λ i. i + length (w .0)) (length-rows f n) in
         record {
           within = omega arith;
           whole =
@@ -118,24 +122,29 @@ module _ (W A₁ : List ℕ) (l : Layout) (from : ℕ) (s : Stack) (item : Item)
           ready = ready-after A s n item (leadsTo (snapOf W A l) from m) B t (g .ready) d j;
         }
 
-    walking-done : n ≤ k → lean (leadsTo S₁ from) (visited (levelsOf A₁ (s .place) (s .depth)) item) (turns S₁ from) (runAt A₁ (s .top) n₁) 0 ≡ runAt A (s .top) n
+    walking-done : n ≤ k → lean (leadsTo S₁ from) (visited (levelsOf A₁ (s .place) (s .depth)) item) (turns S₁ from) (runAt A₁ (s .top) n₁) 0
+        ≡ runAt A (s .top) n
     walking-done h =
         g .whole
         ∙ lean-end (leadsTo S₁ from) (visited (levelsOf A₁ (s .place) (s .depth)) item) (turns S₁ from - k) (runAt A (s .top) n) k
         (omega (arith, length-rows (λ i. getD A (s .top + i) 0) n))
 
     -- the start and the walk together
-    pub gathered : (A₀ : List ℕ) → Reads W A₀ l → Chain A₀ (s .place) (s .depth) (s .top) → Pushed A₀ s 0 item (startFrom (snapOf W A₀ l) from) A₁ n₁ → n ≤ k
+    pub gathered : (A₀ : List ℕ) → Reads W A₀ l → Chain A₀ (s .place) (s .depth) (s .top)
+        → Pushed A₀ s 0 item (startFrom (snapOf W A₀ l) from) A₁ n₁ → n ≤ k
         → Gathered A₀ (s .top) (findLocalImportLocations (snapOf W A₀ l) from (visited (levelsOf A₀ (s .place) (s .depth)) item)) A n
     gathered A₀ r₀ c d o =
         let seen = visited (levelsOf A₀ (s .place) (s .depth)) item in
         let S₀ = snapOf W A₀ l in
         let b = turns S₀ from in
-        let v : levelsOf A₀ (s .place) (s .depth) ≡ levelsOf A₁ (s .place) (s .depth) = levels-same A₀ A₁ (s .top) (sym (d .below)) (s .depth) (s .place) c in
-        let p : push seen [] (startFrom S₀ from) ≡ runAt A₁ (s .top) n₁ = sym (d .same ∙ ap (λ x. push seen x (startFrom S₀ from)) (run-none A₀ (s .top))) in
+        let v : levelsOf A₀ (s .place) (s .depth) ≡ levelsOf A₁ (s .place) (s .depth) = levels-same A₀ A₁ (s .top) (sym (d .below))
+        (s .depth) (s .place) c in
+        let p : push seen [] (startFrom S₀ from) ≡ runAt A₁ (s .top) n₁ = sym (d .same ∙ ap (λ x. push seen x (startFrom S₀ from))
+        (run-none A₀ (s .top))) in
         let q : findLocalImportLocations S₀ from seen ≡ runAt A (s .top) n =
         locations-lean S₀ from seen b (omega arith)
         ∙ ap (λ x. lean (leadsTo S₀ from) seen b x 0) p
-        ∙ ap₂ (λ x y. lean (leadsTo y from) (visited x item) (turns y from) (runAt A₁ (s .top) n₁) 0) v (sym (snap-at W A₀ A₁ l (s .top) r₀ (g .ready .tables) (d .below)))
+        ∙ ap₂ (λ x y. lean (leadsTo y from) (visited x item) (turns y from) (runAt A₁ (s .top) n₁) 0) v
+        (sym (snap-at W A₀ A₁ l (s .top) r₀ (g .ready .tables) (d .below)))
         ∙ walking-done o in
         record { run = sym q; below = g .below ∙ d .below; above = λ i h. g .above i h ∙ d .above i h; few = omega (arith, g .ready .fits) }

@@ -47,7 +47,8 @@ module _ (W : List ℕ) (l : Layout) (from k : ℕ) where
       ap (λ cs. map (λ c. c .child) (select (λ c. eqb (c .owner) from) cs)) (rows-next place k (l .children) h)
       ∙ ap (map (λ c. c .child)) (select-hit (λ c. eqb (c .owner) from) (place k) (rows place (k + 1) (l .children - (k + 1))) (eq-eqb _ _ e))
 
-  pub child-hit : {b o t : ℕ} → k < l .children → b ≡ childBase l → o ≡ childAt W (b + childSize * k) .owner → o ≡ from → t ≡ childAt W (b + childSize * k) .child
+  pub child-hit : {b o t : ℕ} → k < l .children → b ≡ childBase l → o ≡ childAt W (b + childSize * k) .owner
+      → o ≡ from → t ≡ childAt W (b + childSize * k) .child
       → childrenFrom W l from k ≡ t ∷ childrenFrom W l from (k + 1)
   child-hit h p e q r =
       child-hit′ h (ap (λ b. childAt W (b + childSize * k) .owner) (sym p) ∙ sym e ∙ q)
@@ -67,9 +68,11 @@ module _ (W : List ℕ) (l : Layout) (from k : ℕ) where
 
 pub children-start : (W A : List ℕ) (l : Layout) (from : ℕ) → map (λ c. c .child) (childrenOf (snapOf W A l) from) ≡ childrenFrom W l from 0
 unfolding childrenOf
-children-start W A l from = rows-whole (λ cs. map (λ c. c .child) (select (λ c. eqb (c .owner) from) cs)) (λ i. childAt W (childBase l + childSize * i)) (l .children)
+children-start W A l from = rows-whole (λ cs. map (λ c. c .child) (select (λ c. eqb (c .owner) from) cs))
+    (λ i. childAt W (childBase l + childSize * i)) (l .children)
 
-pub child-below : (W A : List ℕ) (l : Layout) → Reads W A l → {b k t : ℕ} → k < l .children → b ≡ childBase l → t ≡ childAt W (b + childSize * k) .child → t < moduleLimit
+pub child-below : (W A : List ℕ) (l : Layout) → Reads W A l → {b k t : ℕ} → k < l .children → b ≡ childBase l
+    → t ≡ childAt W (b + childSize * k) .child → t < moduleLimit
 child-below W A l r {b} {k} {t} h p e =
     let q : t ≡ childAt W (childBase l + childSize * k) .child = e ∙ ap (λ b. childAt W (b + childSize * k) .child) p in
     omega (arith, q, child-read W A l (accepted-valid W (snapOf W A l) (r .same)) k h .child, r .tables .limited .modules)
@@ -158,4 +161,5 @@ module _ (s : Snapshot) (from to : ℕ) (e : Scope) {there here : ℕ} (p : ther
   pub leads-by : {k n : ℕ} {r : Bool} → there ≡ here → k ≡ e .visibility → n ≡ e .number → r ≡ isVisibleFrom s k n from
       → r ≡ (eqb (crateOf s to) (crateOf s from) && sees s from e)
   leads-by z u v w =
-      w ∙ ap₂ (λ k n. isVisibleFrom s k n from) u v ∙ sym (ap (λ (b : Bool). b && sees s from e) (eq-eqb (crateOf s to) (crateOf s from) (sym p ∙ z ∙ q)))
+      w ∙ ap₂ (λ k n. isVisibleFrom s k n from) u v
+      ∙ sym (ap (λ (b : Bool). b && sees s from e) (eq-eqb (crateOf s to) (crateOf s from) (sym p ∙ z ∙ q)))

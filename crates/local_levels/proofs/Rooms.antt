@@ -43,7 +43,8 @@ module _ (r : List ℕ) (t : ℕ) where
   room-same zero h = refl
   room-same (suc n) h = alike n (λ p. omega arith) (has r n) refl 0 0 (room-same n (omega arith))
 
-  room-less-step : (n : ℕ) → has r t ≡ false → t < suc n → (t < n → room n r′ + 1 ≡ room n r + 0) → (b : Bool) → eqb n t ≡ b → room (suc n) r′ + 1 ≡ room (suc n) r + 0
+  room-less-step : (n : ℕ) → has r t ≡ false → t < suc n → (t < n → room n r′ + 1 ≡ room n r + 0) → (b : Bool)
+      → eqb n t ≡ b → room (suc n) r′ + 1 ≡ room (suc n) r + 0
   room-less-step n new h ih true e =
       let q : n ≡ t = eqb-true n t e in
       let a : has r n ≡ false = ap (has r) q ∙ new in

@@ -51,7 +51,8 @@ chain-first A p (suc d) t h c =
     record { header = c .0; within = c .1; rest = rw e (chain-wider A (getD A (p - 2) 0) d (p - 3) t (omega (arith, c .0, c .1)) (c .2)) }
 
 level-first : (A : List ℕ) (p d : ℕ) (item : Item) (m : ℕ) → Small item → 0 < d
-    → visited (levelsOf A p d) item m ≡ ((eqb (getD A (p - 3) 0) (codeOf item) && has (runAt A p (getD A (p - 1) 0 + 1)) m) || visited (levelsOf A (getD A (p - 2) 0) (d - 1)) item m)
+    → visited (levelsOf A p d) item m ≡ ((eqb (getD A (p - 3) 0) (codeOf item) && has (runAt A p (getD A (p - 1) 0 + 1)) m) || visited
+    (levelsOf A (getD A (p - 2) 0) (d - 1)) item m)
 unfolding levelsOf visited any
 level-first A p zero item m s h = absurd (omega arith)
 level-first A p (suc d) item m s h =
@@ -62,15 +63,18 @@ and-no true b e = e
 and-no false b e = refl
 
 module _ (A : List ℕ) (item : Item) (m : ℕ) (all : Bool) (p d : ℕ) (e : all ≡ visited (levelsOf A p d) item m) (s : Small item) (h : 0 < d) where
-  pub visited-hit : {w n c : ℕ} {r : Bool} → w ≡ getD A (p - 3) 0 → c ≡ codeOf item → w ≡ c → n ≡ getD A (p - 1) 0 → r ≡ has (runAt A p (n + 1)) m → r ≡ true → true ≡ all
+  pub visited-hit : {w n c : ℕ} {r : Bool} → w ≡ getD A (p - 3) 0 → c ≡ codeOf item → w ≡ c → n ≡ getD A (p - 1) 0
+      → r ≡ has (runAt A p (n + 1)) m → r ≡ true → true ≡ all
   visited-hit q v x y z t =
       let a : has (runAt A p (getD A (p - 1) 0 + 1)) m ≡ true = ap (λ n. has (runAt A p (n + 1)) m) (sym y) ∙ sym z ∙ t in
       rw (e, level-first A p d item m s h, eq-eqb _ _ (sym q ∙ x ∙ v), a)
 
-  pub visited-other : {w p′ d′ c : ℕ} → w ≡ getD A (p - 3) 0 → c ≡ codeOf item → (w ≡ c → ⊥) → p′ ≡ getD A (p - 2) 0 → d′ ≡ d - 1 → all ≡ visited (levelsOf A p′ d′) item m
+  pub visited-other : {w p′ d′ c : ℕ} → w ≡ getD A (p - 3) 0 → c ≡ codeOf item → (w ≡ c → ⊥) → p′ ≡ getD A (p - 2) 0 → d′ ≡ d - 1
+      → all ≡ visited (levelsOf A p′ d′) item m
   visited-other q v x y z = rw (e, level-first A p d item m s h, ne-eqb _ _ (λ o. x (q ∙ o ∙ sym v)), y, z)
 
-  pub visited-miss : {n p′ d′ : ℕ} {r : Bool} → n ≡ getD A (p - 1) 0 → r ≡ has (runAt A p (n + 1)) m → r ≡ false → p′ ≡ getD A (p - 2) 0 → d′ ≡ d - 1 → all ≡ visited (levelsOf A p′ d′) item m
+  pub visited-miss : {n p′ d′ : ℕ} {r : Bool} → n ≡ getD A (p - 1) 0 → r ≡ has (runAt A p (n + 1)) m → r ≡ false → p′ ≡ getD A (p - 2) 0
+      → d′ ≡ d - 1 → all ≡ visited (levelsOf A p′ d′) item m
   visited-miss y z t u v =
       let a : has (runAt A p (getD A (p - 1) 0 + 1)) m ≡ false = ap (λ n. has (runAt A p (n + 1)) m) (sym y) ∙ sym z ∙ t in
       rw (e, level-first A p d item m s h, and-no (eqb (getD A (p - 3) 0) (codeOf item)) _ a, u, v)
@@ -121,7 +125,8 @@ chains-at W A B l top r low same x =
     let z = accepted-sized W A l r in
     record {
       heads = λ m h. subst (FirstOf W l m 0) (sym (agree B A top same (indexAt + m) (omega (arith, z .few)))) (x .heads m h);
-      links = λ j h g. subst (FirstOf W l (ownerAt W l j) (j + 1)) (sym (agree B A top same (linksAt + j) (omega (arith, z .short)))) (x .links j h g);
+      links = λ j h g. subst (FirstOf W l (ownerAt W l j) (j + 1)) (sym (agree B A top same (linksAt + j) (omega (arith, z .short))))
+          (x .links j h g);
     }
 
 -- One module more, or not.
@@ -162,10 +167,12 @@ module _ (A : List ℕ) (s : Stack) (n : ℕ) (item : Item) (m : ℕ) (y : Ready
         fits = omega (arith, f, ap length (sym q) ∙ length-rows (λ i. getD B (s .top + i) 0) (n + 1), ap (room moduleLimit) q);
       }
 
-pub ready-none : (A : List ℕ) (s : Stack) → tableWords ≤ s .top → s .top + moduleLimit ≤ length A → Chain A (s .place) (s .depth) (s .top) → Ready A s 0
+pub ready-none : (A : List ℕ) (s : Stack) → tableWords ≤ s .top → s .top + moduleLimit ≤ length A → Chain A (s .place) (s .depth) (s .top)
+    → Ready A s 0
 ready-none A s t h c = record { tables = t; space = h; chain = c; fits = rw (run-none A (s .top)) (fits-none moduleLimit) }
 
-pub ready-after : (A : List ℕ) (s : Stack) (n : ℕ) (item : Item) (ms B : List ℕ) (r : ℕ) → Ready A s n → Pushed A s n item ms B r → length B ≡ length A → Ready B s r
+pub ready-after : (A : List ℕ) (s : Stack) (n : ℕ) (item : Item) (ms B : List ℕ) (r : ℕ) → Ready A s n → Pushed A s n item ms B r
+    → length B ≡ length A → Ready B s r
 ready-after A s n item ms B r y d l =
     record {
       tables = y .tables;
@@ -195,10 +202,13 @@ module _ (A₀ : List ℕ) (s : Stack) (n : ℕ) (item : Item) (ms : List ℕ) w
         → Pushing A₀ s n item ms B r′ rest′
     pushing-next {rest′} {B} {t} {r′} p d l =
         let s₀ = visited (levelsOf A₀ (s .place) (s .depth)) item in
-        let v : levelsOf A (s .place) (s .depth) ≡ levelsOf A₀ (s .place) (s .depth) = levels-same A A₀ (s .top) (g .below) (s .depth) (s .place) (g .ready .chain) in
-        let q : runAt B (s .top) r′ ≡ push s₀ (runAt A (s .top) r) (t ∷ []) = d .same ∙ ap (λ x. push (visited x item) (runAt A (s .top) r) (t ∷ [])) v in
+        let v : levelsOf A (s .place) (s .depth) ≡ levelsOf A₀ (s .place) (s .depth) = levels-same A A₀ (s .top) (g .below)
+        (s .depth) (s .place) (g .ready .chain) in
+        let q : runAt B (s .top) r′ ≡ push s₀ (runAt A (s .top) r) (t ∷ []) = d .same
+        ∙ ap (λ x. push (visited x item) (runAt A (s .top) r) (t ∷ [])) v in
         record {
-          whole = g .whole ∙ ap (push s₀ (runAt A (s .top) r)) p ∙ push-append s₀ (t ∷ []) rest′ (runAt A (s .top) r) ∙ ap (λ x. push s₀ x rest′) (sym q);
+          whole = g .whole ∙ ap (push s₀ (runAt A (s .top) r)) p ∙ push-append s₀ (t ∷ []) rest′ (runAt A (s .top) r)
+              ∙ ap (λ x. push s₀ x rest′) (sym q);
           below = d .below ∙ g .below;
           above = λ i h. d .above i h ∙ g .above i h;
           size = l ∙ g .size;
@@ -208,4 +218,9 @@ module _ (A₀ : List ℕ) (s : Stack) (n : ℕ) (item : Item) (ms : List ℕ) w
     pub pushing-done : rest ≡ [] → Pushed A₀ s n item ms A r
     pushing-done p =
         let s₀ = visited (levelsOf A₀ (s .place) (s .depth)) item in
-        record { same = sym (g .whole ∙ ap (push s₀ (runAt A (s .top) r)) p ∙ push-none s₀ (runAt A (s .top) r)); below = g .below; above = g .above; fits = g .ready .fits }
+        record {
+          same = sym (g .whole ∙ ap (push s₀ (runAt A (s .top) r)) p ∙ push-none s₀ (runAt A (s .top) r));
+          below = g .below;
+          above = g .above;
+          fits = g .ready .fits;
+        }

@@ -1,5 +1,5 @@
 -- The walk over a worklist that holds modules twice, and the walk along a run that never does: both take the same modules.
-use Prim.Native.Nat.{ℕ, zero, suc, _+_, _-_, _≤_, _<_}
+use Prim.Native.Nat.{ℕ, zero, suc, _+_, _≤_, _<_}
 use mathlib.Core.Path.{_≡_, refl, sym, _∙_, ap}
 use mathlib.Core.List.{List, [], _∷_, _++_, append-nil, append-assoc}
 use mathlib.Core.Bool.{Bool, true, false, _||_, not, true≢false}
@@ -173,10 +173,12 @@ module _ (next : ℕ → List ℕ) (seen : ℕ → Bool) (size : List ℕ → �
       ∙ sym (lean-go next seen b″ r (length d) (f .0))
       ∙ ap (λ x. lean next seen (suc b″) x (length d)) (sym (push-take seen d m ws e))
 
-  same-step : (b b′ : ℕ) (d : List ℕ) (m : ℕ) (ws : List ℕ) → Same b → length (m ∷ ws) + size d ≤ suc b → suc b ≤ b′ → (t : Bool) → seen m || has d m ≡ t
+  same-step : (b b′ : ℕ) (d : List ℕ) (m : ℕ) (ws : List ℕ) → Same b → length (m ∷ ws) + size d ≤ suc b → suc b ≤ b′ → (t : Bool)
+      → seen m || has d m ≡ t
       → walk next seen (suc b) d (m ∷ ws) ≡ lean next seen b′ (push seen d (m ∷ ws)) (length d)
   same-step b b′ d m ws ih h k true e =
-      walk-skip next seen size falls b d m ws e ∙ ih b′ d ws (omega arith) (omega arith) ∙ ap (λ x. lean next seen b′ x (length d)) (sym (push-skip seen d m ws e))
+      walk-skip next seen size falls b d m ws e ∙ ih b′ d ws (omega arith) (omega arith) ∙ ap (λ x. lean next seen b′ x (length d))
+      (sym (push-skip seen d m ws e))
   same-step b zero d m ws ih h k false e = absurd (omega arith)
   same-step b (suc b″) d m ws ih h k false e = same-take b b″ d m ws ih h (omega arith) e
 

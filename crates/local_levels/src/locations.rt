@@ -47,7 +47,8 @@ fn push_children(
     item: Item,
 ) -> usize
     requires { ⌜ Reads (now words) (now area) l × Ready (now area) s n × Small item ⌝ }
-    ensures { λ r. ⌜ Pushed (now (area .entry)) s n item (map (λ c. c .child) (childrenOf (snapOf (now (words .entry)) (now (area .entry)) l) (from .0))) (now (area .exit)) r ⌝ }
+    ensures { λ r. ⌜ Pushed (now (area .entry)) s n item
+        (map (λ c. c .child) (childrenOf (snapOf (now (words .entry)) (now (area .entry)) l) (from .0))) (now (area .exit)) r ⌝ }
 {
     let base = l.child_base();
     let mut run = n;
@@ -75,7 +76,8 @@ fn push_containers(
     item: Item,
 ) -> usize
     requires { ⌜ Reads (now words) (now area) l × (from .0 < l .modules) × Ready (now area) s n × Small item ⌝ }
-    ensures { λ r. ⌜ Pushed (now (area .entry)) s n item (containers (snapOf (now (words .entry)) (now (area .entry)) l) (from .0)) (now (area .exit)) r ⌝ }
+    ensures { λ r. ⌜ Pushed (now (area .entry)) s n item (containers (snapOf (now (words .entry)) (now (area .entry)) l) (from .0))
+        (now (area .exit)) r ⌝ }
 {
     let mut run = n;
     let mut m = from;
@@ -90,8 +92,11 @@ fn push_containers(
 
 // Whether the module entry with its head at a place leads on: in the viewer's crate, and visible from the viewer.
 fn leads(words: &[u32], area: &[u32], l: Layout, from: ModuleId, h: usize, to: ModuleId) -> bool
-    requires { ⌜ Reads (now words) (now area) l × (from .0 < l .modules) × (to .0 < l .modules) × (2 ≤ scopeAt (now words) h .visibility → scopeAt (now words) h .number < l .modules) ⌝ }
-    ensures { λ r. ⌜ r ≡ (eqb (crateOf (snapOf (now (words .entry)) (now (area .entry)) l) (to .0)) (crateOf (snapOf (now (words .entry)) (now (area .entry)) l) (from .0)) && sees (snapOf (now (words .entry)) (now (area .entry)) l) (from .0) (scopeAt (now (words .entry)) h)) ⌝ }
+    requires { ⌜ Reads (now words) (now area) l × (from .0 < l .modules) × (to .0 < l .modules)
+        × (2 ≤ scopeAt (now words) h .visibility → scopeAt (now words) h .number < l .modules) ⌝ }
+    ensures { λ r. ⌜ r ≡ (eqb (crateOf (snapOf (now (words .entry)) (now (area .entry)) l) (to .0))
+        (crateOf (snapOf (now (words .entry)) (now (area .entry)) l) (from .0)) && sees (snapOf (now (words .entry)) (now (area .entry)) l)
+        (from .0) (scopeAt (now (words .entry)) h)) ⌝ }
 {
     let there = krate(words, area, l, to);
     let here = krate(words, area, l, from);
@@ -113,8 +118,10 @@ fn push_next(
     item: Item,
     m: ModuleId,
 ) -> usize
-    requires { ⌜ Reads (now words) (now area) l × (from .0 < l .modules) × Ready (now area) s n × Small item × (indexEnd ≤ s .top) × Indexed (now words) l 0 (now area) ⌝ }
-    ensures { λ r. ⌜ Pushed (now (area .entry)) s n item (leadsTo (snapOf (now (words .entry)) (now (area .entry)) l) (from .0) (m .0)) (now (area .exit)) r ⌝ }
+    requires { ⌜ Reads (now words) (now area) l × (from .0 < l .modules) × Ready (now area) s n × Small item × (indexEnd ≤ s .top)
+        × Indexed (now words) l 0 (now area) ⌝ }
+    ensures { λ r. ⌜ Pushed (now (area .entry)) s n item (leadsTo (snapOf (now (words .entry)) (now (area .entry)) l) (from .0) (m .0))
+        (now (area .exit)) r ⌝ }
 {
     let mut run = n;
     let mut k = 0;
@@ -140,8 +147,10 @@ pub fn find_local_import_locations(
     s: Stack,
     item: Item,
 ) -> usize
-    requires { ⌜ Reads (now words) (now area) l × (from .0 < l .modules) × (tableWords ≤ s .top) × (s .top + moduleLimit ≤ length (now area)) × Chain (now area) (s .place) (s .depth) (s .top) × Small item × (indexEnd ≤ s .top) × Indexed (now words) l 0 (now area) ⌝ }
-    ensures { λ r. ⌜ Gathered (now (area .entry)) (s .top) (findLocalImportLocations (snapOf (now (words .entry)) (now (area .entry)) l) (from .0) (visited (levelsOf (now (area .entry)) (s .place) (s .depth)) item)) (now (area .exit)) r ⌝ }
+    requires { ⌜ Reads (now words) (now area) l × (from .0 < l .modules) × (tableWords ≤ s .top) × (s .top + moduleLimit ≤ length (now area))
+        × Chain (now area) (s .place) (s .depth) (s .top) × Small item × (indexEnd ≤ s .top) × Indexed (now words) l 0 (now area) ⌝ }
+    ensures { λ r. ⌜ Gathered (now (area .entry)) (s .top) (findLocalImportLocations (snapOf (now (words .entry)) (now (area .entry)) l)
+        (from .0) (visited (levelsOf (now (area .entry)) (s .place) (s .depth)) item)) (now (area .exit)) r ⌝ }
 {
     let children = push_children(words, area, l, from, s, 0, item);
     let mut n = push_containers(words, area, l, from, s, children, item);

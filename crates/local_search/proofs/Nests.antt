@@ -60,7 +60,8 @@ module _ (A₀ : List ℕ) (s : Stack) (code : ℕ) where
   head-size : length H₀ ≡ length A₀
   head-size = length-set (set A₀ (s .top) code) (s .top + 1) (s .place) ∙ length-set A₀ (s .top) code
 
-  open-start : (item : Item) (A₁ : List ℕ) (n : ℕ) → code ≡ codeOf item → s .top + 3 ≤ length A₀ → take (s .top + 3) A₁ ≡ take (s .top + 3) H₀ → Open A₁ s item n A₁
+  open-start : (item : Item) (A₁ : List ℕ) (n : ℕ) → code ≡ codeOf item → s .top + 3 ≤ length A₀ → take (s .top + 3) A₁ ≡ take (s .top + 3) H₀
+      → Open A₁ s item n A₁
   open-start item A₁ n c room e =
       let q : length (set A₀ (s .top) code) ≡ length A₀ = length-set A₀ (s .top) code in
       record {
@@ -120,11 +121,17 @@ module _ (A₁ : List ℕ) (s : Stack) (item : Item) (n : ℕ) (A : List ℕ) (o
     open-chain : Chain A (s .top + 3) (s .depth + 1) (s .top + 3 + n)
     unfolding Chain
     open-chain =
-        rw (add-one (s .depth)) (omega arith, omega (arith, at₁), rw (at₂, e₃) (chain-same A₁ A (s .top) (sym (o .below)) (s .depth) (s .place) chain))
+        rw (add-one (s .depth)) (
+          omega arith,
+          omega (arith, at₁),
+          rw (at₂, e₃) (chain-same A₁ A (s .top) (sym (o .below)) (s .depth)
+              (s .place) chain),
+        )
 
     -- it has taken the first k + 1 modules of its run
     open-levels : Small item
-        → levelsOf A (s .top + 3) (s .depth + 1) ≡ record { item = item; modules = take (k + 1) (runAt A₁ (s .top + 3) n) } ∷ levelsOf A₁ (s .place) (s .depth)
+        → levelsOf A (s .top + 3) (s .depth + 1) ≡ record { item = item; modules = take (k + 1) (runAt A₁ (s .top + 3) n) }
+        ∷ levelsOf A₁ (s .place) (s .depth)
     unfolding levelsOf
     open-levels h =
         let p = at₃ h in
@@ -145,7 +152,8 @@ module _ (S : Snapshot) (x : FindPathCtx) (left : ℕ) (ls : List Level) (item :
       let w = getD ws k 0 in
       let d : drop k ws ≡ w ∷ drop (k + 1) ws = rw (add-one k) (drop-cons ws k 0 h) in
       let t : take (k + 1) ws ≡ take k ws ++ (w ∷ []) = rw (add-one k) (take-suc ws k 0 h) in
-      let step : List ℕ → ℕ → Choice = λ u v. location S x (searchLocal S x) left (record { item = item; modules = u } ∷ ls) best v (importableName S x item v) in
+      let step : List ℕ → ℕ → Choice = λ u v. location S x (searchLocal S x) left (record { item = item; modules = u } ∷ ls) best v
+      (importableName S x item v) in
       let b : best′ ≡ step (take (k + 1) ws) w = eb ∙ ap (step (take (k + 1) ws)) em in
       ap (eachLocation S x (searchLocal S x) left ls item (take k ws) best) d
       ∙ ap (λ u. eachLocation S x (searchLocal S x) left ls item u (step u w) (drop (k + 1) ws)) (sym t)
@@ -161,7 +169,8 @@ step-fits S x zero ls best m a h f = absurd (omega arith)
 step-fits S x (suc l) ls best m a h f = location-fits S x (searchLocal S x) (search-local-fits S x) l ls best m a f
 
 -- What the loop of the search keeps.
-pub record Nesting (W : List ℕ) (l : Layout) (S : Snapshot) (x : FindPathCtx) (left : ℕ) (item : Item) (A₁ : List ℕ) (s : Stack) (n : ℕ) (A : List ℕ) (best : Choice) (k : ℕ) : Type 0 where
+pub record Nesting (W : List ℕ) (l : Layout) (S : Snapshot) (x : FindPathCtx) (left : ℕ) (item : Item) (A₁ : List ℕ) (s : Stack)
+    (n : ℕ) (A : List ℕ) (best : Choice) (k : ℕ) : Type 0 where
   pub within : k ≤ n
   pub few : n ≤ moduleLimit
   pub fits : Fits S left best
@@ -169,7 +178,8 @@ pub record Nesting (W : List ℕ) (l : Layout) (S : Snapshot) (x : FindPathCtx) 
   pub opened : Open A₁ s item n A
   pub rows : Rows W A l x
   pub whole : eachLocation S x (searchLocal S x) left (levelsOf A₁ (s .place) (s .depth)) item [] nothing (runAt A₁ (s .top + 3) n)
-      ≡ eachLocation S x (searchLocal S x) left (levelsOf A₁ (s .place) (s .depth)) item (take k (runAt A₁ (s .top + 3) n)) best (drop k (runAt A₁ (s .top + 3) n))
+      ≡ eachLocation S x (searchLocal S x) left (levelsOf A₁ (s .place) (s .depth)) item (take k (runAt A₁ (s .top + 3) n)) best
+      (drop k (runAt A₁ (s .top + 3) n))
 
 -- the stack while the run is gathered, and one level up
 abbrev pub above : Stack → Stack
@@ -193,7 +203,8 @@ module _ (W A₀ : List ℕ) (l : Layout) (x : FindPathCtx) (left : ℕ) (item :
   head-rows =
       rows-set W (set A₀ (s .top) code) l x (s .top + 1) (s .place)
       (reads-at W A₀ (set A₀ (s .top) code) l (s .top) (y .reads) (y .tables) (take-set-le (s .top) A₀ (s .top) code (omega arith)))
-      (rows-set W A₀ l x (s .top) code (y .reads) (y .rows) (omega (arith, y .numbers)) (omega (arith, room))) (omega (arith, y .numbers)) (omega (arith, room))
+      (rows-set W A₀ l x (s .top) code (y .reads) (y .rows) (omega (arith, y .numbers)) (omega (arith, room))) (omega (arith, y .numbers))
+      (omega (arith, room))
 
   pub head-chains : Indexed W l 0 H
   head-chains = chains-kept H y (head-below A₀ s code)
@@ -272,7 +283,8 @@ module _ (W A₀ : List ℕ) (l : Layout) (x : FindPathCtx) (left : ℕ) (item :
             indexed = chains-kept B y (cursor-open .below ∙ start-below);
             walked = walked-kept B y (cursor-open .below ∙ start-below);
             rows =
-                rows-set W A l x (s .top + 2) k (reads-at W A₀ A l (s .top) (y .reads) (y .tables) (v .opened .below ∙ start-below)) (v .rows) (omega (arith, y .numbers))
+                rows-set W A l x (s .top + 2) k (reads-at W A₀ A l (s .top) (y .reads) (y .tables) (v .opened .below ∙ start-below))
+                (v .rows) (omega (arith, y .numbers))
                 (omega (arith, room));
             space = omega (arith, y .space, v .few, some);
             deep = omega (arith, y .deep, some);
@@ -292,13 +304,15 @@ module _ (W A₀ : List ℕ) (l : Layout) (x : FindPathCtx) (left : ℕ) (item :
             subst (λ i. i < l .modules) (sym taken) (each-at 0 k b (omega (arith, length-rows f n)))
 
         pub nesting-next : (C : List ℕ) {r : Choice}
-            → Answered W B l x (s .top + 3 + n) (location (snapOf W B l) x (searchLocal (snapOf W B l) x) left (levelsOf B (s .top + 3) (s .depth + 1)) best m (importableName (snapOf W B l) x item m)) C r
+            → Answered W B l x (s .top + 3 + n) (location (snapOf W B l) x (searchLocal (snapOf W B l) x) left
+            (levelsOf B (s .top + 3) (s .depth + 1)) best m (importableName (snapOf W B l) x item m)) C r
             → length C ≡ length B → Nesting W l S₁ x left item A₁ s n C r (k + 1)
         nesting-next C {r} a c =
             let f : ℕ → ℕ = λ i. getD A₁ (s .top + 3 + i) 0 in
             let lv = open-levels A₁ s item n B cursor-open k cursor-at h (v .chain) small in
             let sn : snapOf W B l ≡ S₁ = snap-at W A₁ B l (s .top) start-reads (y .tables) (cursor-open .below) in
-            let er : r ≡ location S₁ x (searchLocal S₁ x) left (record { item = item; modules = take (k + 1) ws } ∷ levelsOf A₁ (s .place) (s .depth)) best m (importableName S₁ x item m) =
+            let er : r ≡ location S₁ x (searchLocal S₁ x) left (record { item = item; modules = take (k + 1) ws } ∷ levelsOf A₁
+            (s .place) (s .depth)) best m (importableName S₁ x item m) =
             a .same ∙ ap₂ (λ (z : Snapshot) (u : List Level). location z x (searchLocal z x) left u best m (importableName z x item m)) sn lv in
             record {
               within = omega arith;
@@ -311,7 +325,8 @@ module _ (W A₀ : List ℕ) (l : Layout) (x : FindPathCtx) (left : ℕ) (item :
             }
 
       pub nesting-done : n ≤ k
-          → Answered W A₀ l x (s .top) (calculateBestPathLocal (snapOf W A₀ l) x (searchLocal (snapOf W A₀ l) x) left (levelsOf A₀ (s .place) (s .depth)) item) A best
+          → Answered W A₀ l x (s .top) (calculateBestPathLocal (snapOf W A₀ l) x (searchLocal (snapOf W A₀ l) x) left
+          (levelsOf A₀ (s .place) (s .depth)) item) A best
       unfolding calculateBestPathLocal
       nesting-done h =
           let S₀ = snapOf W A₀ l in
@@ -319,11 +334,13 @@ module _ (W A₀ : List ℕ) (l : Layout) (x : FindPathCtx) (left : ℕ) (item :
           let sn : S₁ ≡ S₀ = snap-at W A₀ A₁ l (s .top) (y .reads) (y .tables) start-below in
           let hn : snapOf W H l ≡ S₀ = snap-at W A₀ H l (s .top) (y .reads) (y .tables) (head-below A₀ s code) in
           let lv : levelsOf A₁ (s .place) (s .depth) ≡ L = sym (levels-same A₀ A₁ (s .top) (sym start-below) (s .depth) (s .place) (y .chain)) in
-          let hv : levelsOf H (s .place) (s .depth) ≡ L = sym (levels-same A₀ H (s .top) (sym (head-below A₀ s code)) (s .depth) (s .place) (y .chain)) in
+          let hv : levelsOf H (s .place) (s .depth) ≡ L = sym (levels-same A₀ H (s .top) (sym (head-below A₀ s code)) (s .depth)
+          (s .place) (y .chain)) in
           let q : ws ≡ findLocalImportLocations S₀ (x .from .0) (visited L item) =
           g .run ∙ ap₂ (λ (z : Snapshot) (u : List Level). findLocalImportLocations z (x .from .0) (visited u item)) hn hv in
           let e : eachLocation S₁ x (searchLocal S₁ x) left (levelsOf A₁ (s .place) (s .depth)) item [] nothing ws ≡ best =
-          v .whole ∙ each-end S₁ x left (levelsOf A₁ (s .place) (s .depth)) item ws k best (omega (arith, length-rows (λ i. getD A₁ (s .top + 3 + i) 0) n)) in
+          v .whole ∙ each-end S₁ x left (levelsOf A₁ (s .place) (s .depth)) item ws k best
+          (omega (arith, length-rows (λ i. getD A₁ (s .top + 3 + i) 0) n)) in
           record {
             same =
                 sym e

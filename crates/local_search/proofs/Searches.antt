@@ -53,7 +53,8 @@ use Rattle.local_levels.proofs.Rows.{agree, take-less}
 use Rattle.local_levels.proofs.Stacks.{chain-none, snap-at, reads-at, chains-at}
 
 -- a smaller length can be searched too
-pub searchable-less : {W A : List ℕ} {l : Layout} {x : FindPathCtx} {left : ℕ} {s : Stack} (j : ℕ) → Searchable W A l x left s → j ≤ left → Searchable W A l x j s
+pub searchable-less : {W A : List ℕ} {l : Layout} {x : FindPathCtx} {left : ℕ} {s : Stack} (j : ℕ) → Searchable W A l x left s
+    → j ≤ left → Searchable W A l x j s
 searchable-less j y h =
     record {
       reads = y .reads;
@@ -72,7 +73,8 @@ searchable-less j y h =
     }
 
 -- the numbers stay while the words below top do
-pub bounds-at : {W A : List ℕ} {l : Layout} {x : FindPathCtx} {left : ℕ} {s : Stack} (B : List ℕ) → Searchable W A l x left s → take (s .top) B ≡ take (s .top) A
+pub bounds-at : {W A : List ℕ} {l : Layout} {x : FindPathCtx} {left : ℕ} {s : Stack} (B : List ℕ) → Searchable W A l x left s
+    → take (s .top) B ≡ take (s .top) A
     → Bounds (snapOf W B l) x (l .modules) (distance B)
 bounds-at {W} {A} {l} {x} {left} {s} B y e k m h n =
     let a = agree B A (s .top) e (tableWords + m) (omega (arith, y .numbers, h, y .reads .tables .limited .modules)) in
@@ -80,12 +82,14 @@ bounds-at {W} {A} {l} {x} {left} {s} B y e k m h n =
     omega (arith, a, b)
 
 -- ... and so do the chains
-pub chains-kept : {W A : List ℕ} {l : Layout} {x : FindPathCtx} {left : ℕ} {s : Stack} (B : List ℕ) → Searchable W A l x left s → take (s .top) B ≡ take (s .top) A → Indexed W l 0 B
+pub chains-kept : {W A : List ℕ} {l : Layout} {x : FindPathCtx} {left : ℕ} {s : Stack} (B : List ℕ) → Searchable W A l x left s
+    → take (s .top) B ≡ take (s .top) A → Indexed W l 0 B
 chains-kept {W} {A} {l} {x} {left} {s} B y e =
     chains-at W A B l (s .top) (y .reads) (omega (arith, y .numbers)) e (y .indexed)
 
 -- ... and the walk
-pub walked-kept : {W A : List ℕ} {l : Layout} {x : FindPathCtx} {left : ℕ} {s : Stack} (B : List ℕ) → Searchable W A l x left s → take (s .top) B ≡ take (s .top) A
+pub walked-kept : {W A : List ℕ} {l : Layout} {x : FindPathCtx} {left : ℕ} {s : Stack} (B : List ℕ) → Searchable W A l x left s
+    → take (s .top) B ≡ take (s .top) A
     → Walked (snapOf W B l) (x .from .0) B
 walked-kept {W} {A} {l} {x} {left} {s} B y e =
     subst (λ (z : Snapshot). Walked z (x .from .0) B) (sym (snap-at W A B l (s .top) (y .reads) (y .tables) e))
@@ -111,12 +115,14 @@ module _ (S : Snapshot) (x : FindPathCtx) (left : ℕ) (ls : List Level) (m : �
   unfolding findPathForModuleLocal
   search-none e q = q ∙ sym (local-more S x left ls m ∙ ap (λ n. findPathForModuleLocal S x (searchLocal S x) n ls m) e)
 
-  search-or : (left ≡ 0 → ⊥) → searchLocal S x left ls m ≡ orLocal S x (searchLocal S x) left ls m (moduleRules S x false m) (moduleRules S x false m .found)
+  search-or : (left ≡ 0 → ⊥) → searchLocal S x left ls m ≡ orLocal S x (searchLocal S x) left ls m (moduleRules S x false m)
+      (moduleRules S x false m .found)
   unfolding findPathForModuleLocal
   search-or h = local-more S x left ls m ∙ by left h
     where
       by : (n : ℕ) → (n ≡ 0 → ⊥)
-          → findPathForModuleLocal S x (searchLocal S x) n ls m ≡ orLocal S x (searchLocal S x) n ls m (moduleRules S x false m) (moduleRules S x false m .found)
+          → findPathForModuleLocal S x (searchLocal S x) n ls m ≡ orLocal S x (searchLocal S x) n ls m (moduleRules S x false m)
+          (moduleRules S x false m .found)
       by zero h = absurd (h refl)
       by (suc n) h = refl
 
@@ -150,14 +156,16 @@ module _ (S : Snapshot) (x : FindPathCtx) (n : ℕ) (d : ℕ → ℕ) (m : ℕ) 
   ruling-near e = record { found = ap (λ (z : Choice). z .found) e; same = λ _. e }
 
 -- a location whose search finds nothing changes nothing
-idle : (S : Snapshot) (x : FindPathCtx) (left : ℕ) (ls : List Level) (best : Choice) (m : ℕ) (a : Option Scope) → searchLocal S x (lengthLeft left best) ls m ≡ nothing
+idle : (S : Snapshot) (x : FindPathCtx) (left : ℕ) (ls : List Level) (best : Choice) (m : ℕ) (a : Option Scope)
+    → searchLocal S x (lengthLeft left best) ls m ≡ nothing
     → best ≡ location S x (searchLocal S x) left ls best m a
 unfolding location offerEntry offer
 idle S x left ls best m none c = refl
 idle S x left ls best m (some e) c = sym (ap (λ (z : Choice). offerEntry S x best z e) c)
 
 -- one location
-module _ (W A : List ℕ) (l : Layout) (x : FindPathCtx) (left : ℕ) (s : Stack) (some : 0 < left) (y : Searchable W A l x (left - 1) s) (best : Choice) (item : Item) (m : ℕ) where
+module _ (W A : List ℕ) (l : Layout) (x : FindPathCtx) (left : ℕ) (s : Stack) (some : 0 < left) (y : Searchable W A l x (left - 1) s)
+    (best : Choice) (item : Item) (m : ℕ) where
   abbrev S : Snapshot
   S = snapOf W A l
 
@@ -225,7 +233,8 @@ pub numbers-ready : (W A : List ℕ) (l : Layout) (x : FindPathCtx) → Prepared
 numbers-ready W A l x p = (record { reads = p .reads; area = p .area }, p .from)
 
 -- a search whose answer does not depend on the levels
-module _ (W A : List ℕ) (l : Layout) (x : FindPathCtx) (left : ℕ) (s : Stack) (y : Searchable W A l x left s) (m : ℕ) (known : m < l .modules) (t : Tight A s left m) where
+module _ (W A : List ℕ) (l : Layout) (x : FindPathCtx) (left : ℕ) (s : Stack) (y : Searchable W A l x left s) (m : ℕ)
+    (known : m < l .modules) (t : Tight A s left m) where
   abbrev S₀ : Snapshot
   S₀ = snapOf W A l
 
@@ -270,7 +279,8 @@ module _ (W A : List ℕ) (l : Layout) (x : FindPathCtx) (left : ℕ) (s : Stack
     made-row = row-kept W A l (y .reads) x (left - 1) left m made-next tight-low u (made-same ∙ tight-same) (omega (arith, y .deep))
 
     made-number : left ≡ distance B m
-    made-number = t .number ∙ sym (agree B A (s .top) (a .below) (tableWords + m) (omega (arith, y .numbers, known, y .reads .tables .limited .modules)))
+    made-number = t .number
+        ∙ sym (agree B A (s .top) (a .below) (tableWords + m) (omega (arith, y .numbers, known, y .reads .tables .limited .modules)))
 
     pub made-done : {w : ℕ} → w ≡ rowOf r → Answered W A l x (s .top) (searchLocal S₀ x left ls₀ m) (set B (rowsAt + m) w) r
     made-done {w} e =
@@ -297,13 +307,16 @@ module _ (W A : List ℕ) (l : Layout) (x : FindPathCtx) (left : ℕ) (s : Stack
     pub owner-call : Searchable W A l x (left - 1) s
     owner-call = searchable-less (left - 1) y (omega arith)
 
-    owner-same : 0 < left → searchLocal S₀ x (left - 1) ls₀ (scopeAt W (rowPlace w) .owner) ≡ searchLocal S₀ x (left - 1) [] (scopeAt W (rowPlace w) .owner)
+    owner-same : 0 < left → searchLocal S₀ x (left - 1) ls₀ (scopeAt W (rowPlace w) .owner) ≡ searchLocal S₀ x (left - 1) []
+        (scopeAt W (rowPlace w) .owner)
     owner-same more =
         farther S₀ x (l .modules) (distance A) (imports-known W A l (y .reads) x) (y .bounds) (left - 1) _ (row-entered .fits .owner)
-        (λ j n. let o = tight-low (suc j) (near-step S₀ x [] j m _ (record { taken = row-entered .taken; entry = row-entered .entry }) n) in omega arith)
+        (λ j n. let o = tight-low (suc j) (near-step S₀ x [] j m _ (record { taken = row-entered .taken; entry = row-entered .entry }) n)
+        in omega arith)
         ls₀ (λ i o. let f = t .farther i o in omega arith)
 
-    module _ (some : 0 < left) {o : ℕ} (q : o ≡ scopeAt W (rowPlace w) .owner) (B : List ℕ) {c : Choice} (a : Answered W A l x (s .top) (searchLocal S₀ x (left - 1) ls₀ o) B c) where
+    module _ (some : 0 < left) {o : ℕ} (q : o ≡ scopeAt W (rowPlace w) .owner) (B : List ℕ) {c : Choice}
+        (a : Answered W A l x (s .top) (searchLocal S₀ x (left - 1) ls₀ o) B c) where
       owner-choice : c ≡ searchLocal S₀ x (left - 1) [] (scopeAt W (rowPlace w) .owner)
       owner-choice = a .same ∙ ap (λ z. searchLocal S₀ x (left - 1) ls₀ z) q ∙ owner-same some
 
@@ -331,7 +344,8 @@ module _ (W A : List ℕ) (l : Layout) (x : FindPathCtx) (left : ℕ) (s : Stack
           record {
             same =
                 z
-                ∙ ap (λ (k : Snapshot). extended k c (scopeAt W (rowPlace w) .name) (stepBy viaLocal (rowPlace w)) (rowFlag w)) (snap-at W A B l (s .top) (y .reads) (y .tables) (a .below))
+                ∙ ap (λ (k : Snapshot). extended k c (scopeAt W (rowPlace w) .name) (stepBy viaLocal (rowPlace w)) (rowFlag w))
+                (snap-at W A B l (s .top) (y .reads) (y .tables) (a .below))
                 ∙ ap (λ (k : Choice). extended S₀ k (scopeAt W (rowPlace w) .name) (stepBy viaLocal (rowPlace w)) (rowFlag w)) owner-choice
                 ∙ sym (tight-same ∙ row-entered .same);
             below = a .below;
@@ -368,7 +382,8 @@ module _ (W A₀ : List ℕ) (l : Layout) (x : FindPathCtx) (p : Prepared W A₀
           let b = p .reads .tables .limited .modules in
           agree A I indexEnd below-walk (tableWords + m) (omega (arith, h, b)) ∙ agree I N indexAt (c .below) (tableWords + m) (omega (arith, h, b))
 
-      pub search-start : (left : ℕ) → left ≤ pathLimit → length A ≡ length A₀ → Searchable W A l x left (record { top = walkEnd; place = 0; depth = 0 })
+      pub search-start : (left : ℕ) → left ≤ pathLimit → length A ≡ length A₀
+          → Searchable W A l x left (record { top = walkEnd; place = 0; depth = 0 })
       search-start left h z =
           record {
             reads = same-reads W A₀ A l tables-same (p .reads);

@@ -26,7 +26,8 @@ pub record Ruling (c r : Choice) : Type 0 where
 abbrev pub levelSize : ℕ
 levelSize = 3 + moduleLimit
 
--- The arguments of a local search of that length: the words of each level that it can open, the numbers of the modules, the chains of the records and the walk below them, and the rows above.
+-- The arguments of a local search of that length: the words of each level that it can open, the numbers of the modules, the chains of the
+-- records and the walk below them, and the rows above.
 pub record Searchable (W A : List ℕ) (l : Layout) (x : FindPathCtx) (left : ℕ) (s : Stack) : Type 0 where
   pub reads : Reads W A l
   pub from : x .from .0 < l .modules

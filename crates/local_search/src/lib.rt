@@ -54,7 +54,10 @@ fn location(
     s: Stack,
 ) -> Choice
     requires { ⌜ (0 < left) × Searchable (now words) (now area) l x (left - 1) s × (m .0 < l .modules) × (best .count < 2 ^ 32) ⌝ }
-    ensures { λ r. ⌜ Answered (now (words .entry)) (now (area .entry)) l x (s .top) (locationOf (snapOf (now (words .entry)) (now (area .entry)) l) x (searchLocal (snapOf (now (words .entry)) (now (area .entry)) l) x) left (levelsOf (now (area .entry)) (s .place) (s .depth)) best (m .0) (importableName (snapOf (now (words .entry)) (now (area .entry)) l) x item (m .0))) (now (area .exit)) r ⌝ }
+    ensures { λ r. ⌜ Answered (now (words .entry)) (now (area .entry)) l x (s .top)
+        (locationOf (snapOf (now (words .entry)) (now (area .entry)) l) x (searchLocal (snapOf (now (words .entry)) (now (area .entry)) l) x)
+        left (levelsOf (now (area .entry)) (s .place) (s .depth)) best (m .0)
+        (importableName (snapOf (now (words .entry)) (now (area .entry)) l) x item (m .0))) (now (area .exit)) r ⌝ }
 {
     let j = length_left(left, best);
     if j < word(area, Distances::AT + m.0) {
@@ -70,7 +73,8 @@ fn location(
 
 // The rules' answer for a module, if it has one: a module with a number above 1 has none.
 fn rules_at(words: &[u32], area: &[u32], l: Layout, x: FindPathCtx, m: ModuleId) -> Choice
-    requires { ⌜ Reads (now words) (now area) l × (x .from .0 < l .modules) × (m .0 < l .modules) × Bounds (snapOf (now words) (now area) l) x (l .modules) (distance (now area)) ⌝ }
+    requires { ⌜ Reads (now words) (now area) l × (x .from .0 < l .modules) × (m .0 < l .modules)
+        × Bounds (snapOf (now words) (now area) l) x (l .modules) (distance (now area)) ⌝ }
     ensures { λ r. ⌜ Ruling (moduleRules (snapOf (now (words .entry)) (now (area .entry)) l) x false (m .0)) r ⌝ }
 {
     if 1 < word(area, Distances::AT + m.0) {
@@ -90,7 +94,9 @@ fn find_path_for_module_local(
     s: Stack,
 ) -> Choice
     requires { ⌜ Searchable (now words) (now area) l x left s × (m .0 < l .modules) ⌝ }
-    ensures { λ r. ⌜ Answered (now (words .entry)) (now (area .entry)) l x (s .top) (searchLocal (snapOf (now (words .entry)) (now (area .entry)) l) x left (levelsOf (now (area .entry)) (s .place) (s .depth)) (m .0)) (now (area .exit)) r ⌝ }
+    ensures { λ r. ⌜ Answered (now (words .entry)) (now (area .entry)) l x (s .top)
+        (searchLocal (snapOf (now (words .entry)) (now (area .entry)) l) x left (levelsOf (now (area .entry)) (s .place) (s .depth)) (m .0))
+        (now (area .exit)) r ⌝ }
 {
     if left == 0 {
         return nothing();
@@ -115,8 +121,11 @@ fn tight_at(
     m: ModuleId,
     s: Stack,
 ) -> Choice
-    requires { ⌜ (0 < left) × Searchable (now words) (now area) l x left s × (m .0 < l .modules) × Tight (now area) s left (m .0) × (moduleRules (snapOf (now words) (now area) l) x false (m .0) .found ≡ false) ⌝ }
-    ensures { λ r. ⌜ Answered (now (words .entry)) (now (area .entry)) l x (s .top) (searchLocal (snapOf (now (words .entry)) (now (area .entry)) l) x left (levelsOf (now (area .entry)) (s .place) (s .depth)) (m .0)) (now (area .exit)) r ⌝ }
+    requires { ⌜ (0 < left) × Searchable (now words) (now area) l x left s × (m .0 < l .modules) × Tight (now area) s left (m .0)
+        × (moduleRules (snapOf (now words) (now area) l) x false (m .0) .found ≡ false) ⌝ }
+    ensures { λ r. ⌜ Answered (now (words .entry)) (now (area .entry)) l x (s .top)
+        (searchLocal (snapOf (now (words .entry)) (now (area .entry)) l) x left (levelsOf (now (area .entry)) (s .place) (s .depth)) (m .0))
+        (now (area .exit)) r ⌝ }
 {
     let row = word(area, Rows::AT + m.0);
     if row == 0 {
@@ -144,7 +153,10 @@ fn local_at(
     s: Stack,
 ) -> Choice
     requires { ⌜ (0 < left) × Searchable (now words) (now area) l x left s × Small item ⌝ }
-    ensures { λ r. ⌜ Answered (now (words .entry)) (now (area .entry)) l x (s .top) (calculateBestPathLocal (snapOf (now (words .entry)) (now (area .entry)) l) x (searchLocal (snapOf (now (words .entry)) (now (area .entry)) l) x) left (levelsOf (now (area .entry)) (s .place) (s .depth)) item) (now (area .exit)) r ⌝ }
+    ensures { λ r. ⌜ Answered (now (words .entry)) (now (area .entry)) l x (s .top)
+        (calculateBestPathLocal (snapOf (now (words .entry)) (now (area .entry)) l) x
+        (searchLocal (snapOf (now (words .entry)) (now (area .entry)) l) x) left (levelsOf (now (area .entry)) (s .place) (s .depth)) item)
+        (now (area .exit)) r ⌝ }
 {
     let top = s.top;
     let base = top + 3;

@@ -33,7 +33,9 @@ fn edition_known(words: &[u32], at: usize) -> bool
 /// A crate; it has no own map yet.
 pub fn step(words: &[u32], area: &mut [u32], l: Layout, at: usize) -> Step
     requires { ⌜ Ready (now words) (now area) l at (at + crateSize) ⌝ }
-    ensures { λ r. ⌜ ((ms : List Map) → Stands (now (words .entry)) (now (area .entry)) 2 at l ms → Answered (now (words .entry)) (now (area .exit)) 2 (at + crateSize) (crateStep (snapWith (now (words .entry)) (now (area .entry)) l ms) (crateAt (now (words .entry)) at)) r) ⌝ }
+    ensures { λ r. ⌜ ((ms : List Map) → Stands (now (words .entry)) (now (area .entry)) 2 at l ms
+        → Answered (now (words .entry)) (now (area .exit)) 2 (at + crateSize)
+        (crateStep (snapWith (now (words .entry)) (now (area .entry)) l ms) (crateAt (now (words .entry)) at)) r) ⌝ }
 {
     let crates = l.crates;
     let n = judge_crate(

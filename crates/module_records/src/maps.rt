@@ -37,14 +37,17 @@ fn defined(words: &[u32], l: Layout, at: usize) -> bool
 
 // A second own map of its crate.
 fn repeated(words: &[u32], area: &[u32], at: usize) -> bool
-    ensures { λ r. ⌜ r ≡ (eqb (mapAt (now (words .entry)) at .block) 0 && not (eqb (ownMap (now (area .entry)) (mapAt (now (words .entry)) at .crate)) 0)) ⌝ }
+    ensures { λ r. ⌜ r ≡ (eqb (mapAt (now (words .entry)) at .block) 0 && not
+        (eqb (ownMap (now (area .entry)) (mapAt (now (words .entry)) at .crate)) 0)) ⌝ }
 {
     (map_block(words, at) == 0) & (own_map(area, map_crate(words, at)) != 0)
 }
 
 // A block stands in its own crate.
 fn placed(words: &[u32], area: &[u32], at: usize) -> bool
-    ensures { λ r. ⌜ r ≡ (eqb (mapAt (now (words .entry)) at .block) 0 || eqb (mapAt (now (words .entry)) (moduleHead (now (area .entry)) (mapAt (now (words .entry)) at .block - 1)) .crate) (mapAt (now (words .entry)) at .crate)) ⌝ }
+    ensures { λ r. ⌜ r ≡ (eqb (mapAt (now (words .entry)) at .block) 0 || eqb
+        (mapAt (now (words .entry)) (moduleHead (now (area .entry)) (mapAt (now (words .entry)) at .block - 1)) .crate)
+        (mapAt (now (words .entry)) at .crate)) ⌝ }
 {
     let block = map_block(words, at);
     if block == 0 {
@@ -58,7 +61,9 @@ fn placed(words: &[u32], area: &[u32], at: usize) -> bool
 /// A map.
 pub fn step(words: &[u32], area: &mut [u32], l: Layout, at: usize) -> Step
     requires { ⌜ Ready (now words) (now area) l at (at + mapSize) ⌝ }
-    ensures { λ r. ⌜ ((ms : List Map) → Stands (now (words .entry)) (now (area .entry)) 4 at l ms → Answered (now (words .entry)) (now (area .exit)) 4 (at + mapSize) (mapStep (snapWith (now (words .entry)) (now (area .entry)) l ms) (mapAt (now (words .entry)) at)) r) ⌝ }
+    ensures { λ r. ⌜ ((ms : List Map) → Stands (now (words .entry)) (now (area .entry)) 4 at l ms
+        → Answered (now (words .entry)) (now (area .exit)) 4 (at + mapSize)
+        (mapStep (snapWith (now (words .entry)) (now (area .entry)) l ms) (mapAt (now (words .entry)) at)) r) ⌝ }
 {
     let n = judge(
         in_range(words, at),

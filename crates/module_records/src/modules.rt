@@ -45,7 +45,8 @@ pub fn has_module(area: &[u32], n: usize, map: usize) -> bool
 
 // No parent, or one of the same map.
 fn parent_placed(words: &[u32], area: &[u32], at: usize) -> bool
-    ensures { λ r. ⌜ r ≡ (eqb (moduleAt (now (words .entry)) at .parent) 0 || eqb (moduleMap (now (area .entry)) (moduleAt (now (words .entry)) at .parent - 1)) (moduleAt (now (words .entry)) at .map)) ⌝ }
+    ensures { λ r. ⌜ r ≡ (eqb (moduleAt (now (words .entry)) at .parent) 0 || eqb
+        (moduleMap (now (area .entry)) (moduleAt (now (words .entry)) at .parent - 1)) (moduleAt (now (words .entry)) at .map)) ⌝ }
 {
     let parent = parent_named(words, at);
     if parent == 0 {
@@ -57,7 +58,12 @@ fn parent_placed(words: &[u32], area: &[u32], at: usize) -> bool
 // Of the latest map, which has a root and no other module without a parent.
 fn placed(words: &[u32], area: &[u32], l: Layout, at: usize) -> bool
     requires { ⌜ l .modules ≤ moduleLimit ⌝ }
-    ensures { λ r. ⌜ r ≡ (eqb (moduleAt (now (words .entry)) at .map + 1) (l .maps) && (any (isIn (moduleAt (now (words .entry)) at .map)) (modulesOf (now (area .entry)) (l .modules)) || eqb (moduleAt (now (words .entry)) at .parent) 0) && (not (any (isIn (moduleAt (now (words .entry)) at .map)) (modulesOf (now (area .entry)) (l .modules))) || not (eqb (moduleAt (now (words .entry)) at .parent) 0)) && (eqb (moduleAt (now (words .entry)) at .parent) 0 || eqb (moduleMap (now (area .entry)) (moduleAt (now (words .entry)) at .parent - 1)) (moduleAt (now (words .entry)) at .map))) ⌝ }
+    ensures { λ r. ⌜ r ≡ (eqb (moduleAt (now (words .entry)) at .map + 1) (l .maps) &&
+        (any (isIn (moduleAt (now (words .entry)) at .map)) (modulesOf (now (area .entry)) (l .modules)) || eqb
+        (moduleAt (now (words .entry)) at .parent) 0) &&
+        (not (any (isIn (moduleAt (now (words .entry)) at .map)) (modulesOf (now (area .entry)) (l .modules))) || not
+        (eqb (moduleAt (now (words .entry)) at .parent) 0)) && (eqb (moduleAt (now (words .entry)) at .parent) 0 || eqb
+        (moduleMap (now (area .entry)) (moduleAt (now (words .entry)) at .parent - 1)) (moduleAt (now (words .entry)) at .map))) ⌝ }
 {
     let map = map_named(words, at);
     let root = parent_named(words, at) == 0;
@@ -68,7 +74,9 @@ fn placed(words: &[u32], area: &[u32], l: Layout, at: usize) -> bool
 /// A module.
 pub fn step(words: &[u32], area: &mut [u32], l: Layout, at: usize) -> Step
     requires { ⌜ Ready (now words) (now area) l at (at + moduleSize) ⌝ }
-    ensures { λ r. ⌜ ((ms : List Map) → Stands (now (words .entry)) (now (area .entry)) 5 at l ms → Answered (now (words .entry)) (now (area .exit)) 5 (at + moduleSize) (moduleStep (snapWith (now (words .entry)) (now (area .entry)) l ms) (moduleAt (now (words .entry)) at)) r) ⌝ }
+    ensures { λ r. ⌜ ((ms : List Map) → Stands (now (words .entry)) (now (area .entry)) 5 at l ms
+        → Answered (now (words .entry)) (now (area .exit)) 5 (at + moduleSize)
+        (moduleStep (snapWith (now (words .entry)) (now (area .entry)) l ms) (moduleAt (now (words .entry)) at)) r) ⌝ }
 {
     let modules = l.modules;
     let n = judge(

@@ -173,7 +173,8 @@ module _ (s : Snapshot) (ok : Tree (s .maps) (s .modules)) where
         (λ y. met-meets (containing s) (length (s .modules)) up-falls v (climb s (mapNo s v) t) r (rw (n, y) at e))
         (λ m. absurd (false≢true (rw (n, m) at e))))),
     λ w.
-        let same = same-crate v (climb s (mapNo s v) t) r w ∙ sym (same-crate t (climb s (mapNo s v) t) q (within-climb (suc t) (mapNo s v) t (omega arith) q)) in
+        let same = same-crate v (climb s (mapNo s v) t) r w
+        ∙ sym (same-crate t (climb s (mapNo s v) t) q (within-climb (suc t) (mapNo s v) t (omega arith) q)) in
         let m = meets-met (containing s) (length (s .modules)) up-falls v (climb s (mapNo s v) t) r w in
         by-test (eqb v t) (λ y. rw y) (λ n. rw (n, eq-eqb (crateOf s v) (crateOf s t) same, m)),
   )

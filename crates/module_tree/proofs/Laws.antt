@@ -47,4 +47,5 @@ module _ (step : ℕ → ℕ) (n : ℕ) (falls : Falls step n) where
   met-more zero t r = by-number (step 0) (λ z. rw z (sym (or-false (eqb 0 t)))) (λ b q. let f = falls 0 b r q in absurd (omega arith))
   met-more (suc v) t r =
       by-number (step (suc v)) (λ z. rw z)
-      (λ b q. let f = falls (suc v) b r q in rw q (ap (λ (z : Bool). eqb (suc v) t || z) (metTo-same v b t b (omega arith) (omega arith) (omega arith))))
+      (λ b q. let f = falls (suc v) b r q in rw q
+      (ap (λ (z : Bool). eqb (suc v) t || z) (metTo-same v b t b (omega arith) (omega arith) (omega arith))))

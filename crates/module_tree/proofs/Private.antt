@@ -1,7 +1,7 @@
 -- The walk is privacy, but for the condition of `Differs`, and there it says visible.
 use mathlib.Core.Path.{_≡_, refl, ap, sym, _∙_, subst}
 use mathlib.Core.Bool.{Bool, true, false, true≢false}
-use mathlib.Core.Logic.{_⊎_, inl, ⊎-elim, _↔_}
+use mathlib.Core.Logic.{inl, ⊎-elim, _↔_}
 use Prim.Native.Nat.{ℕ, zero, suc, _≤_, _<_}
 use native.Mathlib.Omega.{arith}
 use mathlib.Core.List.{List}
@@ -21,7 +21,8 @@ use Rattle.module_tree.specs.Differs.{Leaves, here, later, Differs, Exce
 use Rattle.module_tree.proofs.Laws.{by-number}
 use Rattle.module_tree.proofs.Chains.{map-known, parent-fits, block-fits, containing-falls}
 use Rattle.module_tree.proofs.Ways.{met-meets, meets-met, meets-below}
-use Rattle.module_tree.proofs.Compared.{walk-within, privacy-walk, walk-privacy, differs-walk, differs-privacy, leaves-stands, stands-one, stands-within, step-on}
+use Rattle.module_tree.proofs.Compared.{walk-within, privacy-walk, walk-privacy, differs-walk, differs-privacy, leaves-stands, stands-one}
+use Rattle.module_tree.proofs.Compared.{stands-within, step-on}
 
 -- equal off the condition
 equal-off : (r : Bool) (P D : Type 0) → Answers r P D → (D → ⊥) → (r ≡ true) ↔ P

@@ -44,7 +44,8 @@ module _ (s : Snapshot) (ok : Tree (s .maps) (s .modules)) where
       (λ y. outermost z y (sym (last-end (blockStep s) (length (s .modules)) step-falls t r (step-root s t z ∙ y))))
       (λ b y.
       let l = block-fits s ok t b r y .0 in
-      block z y (rw (last-on (blockStep s) (length (s .modules)) step-falls t b r (step-root s t z ∙ y)) (around-stands d b (omega arith) (omega arith)))))
+      block z y (rw (last-on (blockStep s) (length (s .modules)) step-falls t b r (step-root s t z ∙ y))
+      (around-stands d b (omega arith) (omega arith)))))
       (λ p z. inner z (sym (last-end (blockStep s) (length (s .modules)) step-falls t r (step-inner s t p z))))
 
 -- Viewing module v and target module t of an accepted snapshot.

@@ -46,7 +46,8 @@ module _ (W A : List ℕ) (l : Layout) (t : Tables W A l) where
   no-std-read m h = ap (λ r. r .noStd) (record-read m h)
 
   -- the first place of a map's modules is the one that the table has
-  root-from : (k i n : ℕ) → i ≤ mapRoot A k → mapRoot A k < i + n → moduleMap A (mapRoot A k) ≡ k → ((j : ℕ) → j < i + n → moduleMap A j ≡ k → mapRoot A k ≤ j)
+  root-from : (k i n : ℕ) → i ≤ mapRoot A k → mapRoot A k < i + n → moduleMap A (mapRoot A k) ≡ k → ((j : ℕ) → j < i + n
+      → moduleMap A j ≡ k → mapRoot A k ≤ j)
       → mapRoot A k ≡ placeOf (λ x. eqb (x .map) k) i (rows (moduleRow A) i n)
   unfolding placeOf rows
   root-from k i zero p q e f = absurd (omega arith)
@@ -54,7 +55,8 @@ module _ (W A : List ℕ) (l : Layout) (t : Tables W A l) where
       by (eqb (moduleMap A i) k) refl
       (λ r. root-from k (i + 1) n r (omega arith) e (λ j u v. f j (omega arith) v))
     where
-      by : (b : Bool) → eqb (moduleMap A i) k ≡ b → (i + 1 ≤ mapRoot A k → mapRoot A k ≡ placeOf (λ x. eqb (x .map) k) (i + 1) (rows (moduleRow A) (i + 1) n))
+      by : (b : Bool) → eqb (moduleMap A i) k ≡ b → (i + 1 ≤ mapRoot A k → mapRoot A k ≡ placeOf (λ x. eqb (x .map) k) (i + 1)
+          (rows (moduleRow A) (i + 1) n))
           → mapRoot A k ≡ elim b [ true ↦ i | false ↦ placeOf (λ x. eqb (x .map) k) (i + 1) (rows (moduleRow A) (i + 1) n) ]
       by true g r = let u = f i (omega arith) (eqb-true _ _ g) in omega arith
       by false g r =

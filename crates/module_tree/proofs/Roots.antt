@@ -68,11 +68,13 @@ module _ (s : Snapshot) (v : Valid s) where
       omega (arith, f .0, l)
 
   -- a crate's own map is of that crate, and of no block
-  pub own-known : (c : ℕ) → c < length (s .crates) → (ownMap s c < length (s .maps)) × (mapOf s (ownMap s c) .crate ≡ c) × (mapOf s (ownMap s c) .block ≡ 0)
+  pub own-known : (c : ℕ) → c < length (s .crates) → (ownMap s c < length (s .maps)) × (mapOf s (ownMap s c) .crate ≡ c)
+      × (mapOf s (ownMap s c) .block ≡ 0)
   unfolding mapOf ownMap
   own-known c h =
       let o = v .owned .some c h in
-      let f = place-known (λ (x : Map). eqb (x .crate) c && eqb (x .block) 0) (s .maps) noMap (o .0) (o .1) (rw (eq-eqb _ c (o .2), eq-eqb _ 0 (o .3))) in
+      let f = place-known (λ (x : Map). eqb (x .crate) c && eqb (x .block) 0) (s .maps) noMap (o .0) (o .1)
+      (rw (eq-eqb _ c (o .2), eq-eqb _ 0 (o .3))) in
       let g = and-two _ _ (f .1) in
       (omega (arith, o .1, f .0), eqb-true _ c (g .0), eqb-true _ 0 (g .1))
 

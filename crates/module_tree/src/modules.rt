@@ -5,7 +5,8 @@ ghost use lib.Dec.{eqb};
 ghost use Rattle.snapshot.specs.Ids.{plusOne};
 ghost use Rattle.snapshot.specs.Layouts.{snapOf};
 ghost use Rattle.accept.specs.Post.{Reads};
-ghost use Rattle.tree_rules.specs.Modules.{mapNo, mapOf, crateOf, parentOf, blockOf, inBlock as inBlockOf, containing as containingOf, rootOf, ownMap, crateRoot};
+ghost use Rattle.tree_rules.specs.Modules.{mapNo, mapOf, crateOf, parentOf, blockOf, inBlock as inBlockOf, containing as containingOf, rootOf};
+ghost use Rattle.tree_rules.specs.Modules.{ownMap, crateRoot};
 use snapshot::ids::Crate;
 use snapshot::ids::ModuleId;
 use snapshot::ids::OptModule;
@@ -66,7 +67,8 @@ pub fn in_block(words: &[u32], area: &[u32], l: Layout, m: ModuleId) -> bool
 /// Whether a module's map is no_std.
 pub fn no_std(words: &[u32], area: &[u32], l: Layout, m: ModuleId) -> bool
     requires { ⌜ Reads (now words) (now area) l × (m .0 < l .modules) ⌝ }
-    ensures { λ r. ⌜ r ≡ eqb (mapOf (snapOf (now (words .entry)) (now (area .entry)) l) (mapNo (snapOf (now (words .entry)) (now (area .entry)) l) (m .0)) .noStd) 1 ⌝ }
+    ensures { λ r. ⌜ r ≡ eqb (mapOf (snapOf (now (words .entry)) (now (area .entry)) l)
+        (mapNo (snapOf (now (words .entry)) (now (area .entry)) l) (m .0)) .noStd) 1 ⌝ }
 {
     map_no_std(words, module_head(area, m)) == 1
 }

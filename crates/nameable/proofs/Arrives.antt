@@ -1,8 +1,8 @@
 -- A path to the item with at most k names is found where there is one, but for those through an enum.
 use Prim.Native.Nat.{ℕ, zero, suc, _+_, _≤_, _<_}
-use mathlib.Core.Path.{_≡_, refl, sym, ap, ap₂, subst, _∙_}
+use mathlib.Core.Path.{_≡_, refl, sym, ap, ap₂, _∙_}
 use mathlib.Core.List.{List, [], _∷_, _++_, List·Memᴰ, Memᴰ·append-left, Memᴰ·append-right}
-use mathlib.Core.Bool.{Bool, true, false, _&&_, or-true, true≢false}
+use mathlib.Core.Bool.{Bool, true, false, or-true, true≢false}
 use mathlib.Core.Option.{Option, none, some}
 use mathlib.Core.Logic.{_⊎_, inl, inr, ⊎-elim}
 use native.Mathlib.Omega.{arith}
@@ -10,7 +10,6 @@ use borrow.Author.Tests.{eqb-true, eq-eqb, leb-true, leb-false}
 use lib.Dec.{eqb, leb}
 use lib.ListN.{length}
 use Rattle.snapshot.specs.Records.{Snapshot}
-use Rattle.accept.specs.Valid.{Each}
 use Rattle.accept.proofs.Accepted.{by-test}
 use Rattle.accept.proofs.Bools.{and-two}
 use Rattle.hir_def.specs.Finds.{orFirst}
@@ -21,7 +20,9 @@ use Rattle.nameable.specs.Paths.{Keyword, reads, Path, keyword, absolute
 use Rattle.nameable.specs.Breadth.{Way, isMet, withMeaning, added, nameless, single, onward, reached, isItem, firstTo, arrives, arrival}
 use Rattle.nameable.specs.Queue.{passing}
 use Rattle.nameable.proofs.Lists.{by-option, none-some, first-found, first-some, map-in, passing-few, passing-more, passing-less}
-use Rattle.nameable.proofs.Reached.{each-append, each-in, wayTo, met-snoc, with-old, with-new, with-meets, with-keeps, added-keeps, Near, Good, near-more, nameless-near, single-near, onward-near, reached-good, into-means, into-from, onward-means, absolute-in, plain-in, Plenty, reached-meets}
+use Rattle.nameable.proofs.Reached.{each-append, each-in, wayTo, met-snoc, with-old, with-new, added-keeps, Near, near-more, nameless-near}
+use Rattle.nameable.proofs.Reached.{single-near, onward-near, reached-good, into-means, onward-means, absolute-in, plain-in, Plenty}
+use Rattle.nameable.proofs.Reached.{reached-meets}
 
 pub same-item : (a b : Item) → sameItem a b ≡ true → a ≡ b
 unfolding sameItem
@@ -80,7 +81,8 @@ module _ (s : Snapshot) (from : ℕ) (item : Item) where
     arrives-good (suc k) q e =
         by-option (arrives b s from item k)
         (λ z.
-        let f = first-to (onward s from (nsOf item) (reached b s from k) ++ single b s from (nsOf item)) q (sym (or-first-none (arrives b s from item k) (turn k) z) ∙ e) in
+        let f = first-to (onward s from (nsOf item) (reached b s from k) ++ single b s from (nsOf item)) q
+        (sym (or-first-none (arrives b s from item k) (turn k) z) ∙ e) in
         let near = each-append (onward-near s from b (nsOf item) k (reached-good s from b k)) (single-near s from b (nsOf item) k) in
         (each-in near (f .0), f .1))
         (λ x z.
@@ -119,7 +121,8 @@ Flat s from (plain n) = Unit {0}
 Flat s from (into p n) = (m : ℕ) × (means s from types p ≡ some (moduleItem m))
 
 module _ (s : Snapshot) (from : ℕ) (plenty : Plenty s from) (item : Item) where
-  pub arrives-meets : (p : Path) (b : Bool) → Flat s from p → isPlain p ≡ b → Names s from item p → (q : Path) × (arrives b s from item (namesIn p) ≡ some q)
+  pub arrives-meets : (p : Path) (b : Bool) → Flat s from p → isPlain p ≡ b → Names s from item p → (q : Path)
+      × (arrives b s from item (namesIn p) ≡ some q)
   unfolding arrives namesIn isPlain nameless within
   arrives-meets (keyword k) true g f e = absurd (true≢false (sym f))
   arrives-meets (keyword k) false g f e = to-first s from item (map-in keyword (plenty .tried k item (keyword-means s from (nsOf item) k ∙ e))) e
@@ -158,7 +161,8 @@ module _ (s : Snapshot) (from : ℕ) (plenty : Plenty s from) where
           let vs : List Way = ws ++ (wayTo p (m .0) ∷ []) in
           let here : isMet vs (m .0) ≡ true = met-snoc ws (wayTo p (m .0)) (m .0) ∙ rw (eq-eqb (m .0) (m .0) refl) (or-true (isMet ws (m .0))) in
           let one =
-          passing-less (isMet ws) (isMet vs) (λ n h. met-snoc ws (wayTo p (m .0)) n ∙ rw h) (m .0) (length (s .modules)) (plenty .known p (m .0) e) t here in
+          passing-less (isMet ws) (isMet vs) (λ n h. met-snoc ws (wayTo p (m .0)) n ∙ rw h) (m .0) (length (s .modules))
+          (plenty .known p (m .0) e) t here in
           let all = passing-more (isMet vs) (isMet (added s from vs ps)) (λ n h. added-keeps s from vs ps n h) (length (s .modules)) in
           rw (with-new ws p (m .0) t) (inr (omega (arith, one, all))))
 
@@ -194,7 +198,8 @@ module _ (s : Snapshot) (from : ℕ) (plenty : Plenty s from) where
 
     module _ (item : Item) where
       -- where nothing was found once the modules are settled, nothing is later
-      none-on : (j : ℕ) → reached b s from (suc j) ≡ reached b s from j → arrives b s from item (suc j) ≡ none → (k : ℕ) → suc j ≤ k → arrives b s from item k ≡ none
+      none-on : (j : ℕ) → reached b s from (suc j) ≡ reached b s from j → arrives b s from item (suc j) ≡ none → (k : ℕ) → suc j ≤ k
+          → arrives b s from item k ≡ none
       unfolding arrives
       none-on j e h zero l = absurd (omega arith)
       none-on j e h (suc k) l =
@@ -202,7 +207,8 @@ module _ (s : Snapshot) (from : ℕ) (plenty : Plenty s from) where
           (λ t.
           let ih : arrives b s from item k ≡ none = none-on j e h k (leb-true (suc j) k t) in
           let same : turn s from item b k ≡ turn s from item b j =
-          ap (λ (ws : List Way). firstTo s from item (onward s from (nsOf item) ws ++ single b s from (nsOf item))) (still j e k (omega (arith, leb-true (suc j) k t))) in
+          ap (λ (ws : List Way). firstTo s from item (onward s from (nsOf item) ws ++ single b s from (nsOf item)))
+          (still j e k (omega (arith, leb-true (suc j) k t))) in
           or-first-none (arrives b s from item k) (turn s from item b k) ih ∙ (same ∙ or-none (arrives b s from item j) (turn s from item b j) h))
           (λ t. let z : suc k ≡ suc j = omega (arith, leb-false (suc j) k t) in ap (arrives b s from item) z ∙ h)
 

@@ -1,26 +1,25 @@
 -- The shortest path is a shortest path.
-use Prim.Native.Nat.{ℕ, zero, suc, _+_, _≤_, _<_}
+use Prim.Native.Nat.{ℕ, suc, _≤_, _<_}
 use mathlib.Core.Path.{_≡_, refl, sym, ap, subst, _∙_}
-use mathlib.Core.List.{List, [], _∷_, List·Memᴰ, List·Memᴰ·head, List·Memᴰ·eq-of-singleton}
+use mathlib.Core.List.{[], _∷_, List·Memᴰ·head, List·Memᴰ·eq-of-singleton}
 use mathlib.Core.Bool.{Bool, true, false, true≢false}
 use mathlib.Core.Option.{Option, none, some}
 use mathlib.Core.Logic.{_⊎_, inl, inr, ⊎-elim}
 use native.Mathlib.Omega.{arith}
-use borrow.Author.Tests.{eqb-true, eq-eqb, lt-ltb, le-ltb, le-leb, lt-leb, ltb-true, ltb-false, leb-true, leb-false}
-use lib.Dec.{eqb, ltb, leb}
-use lib.ListN.{length}
-use Rattle.snapshot.specs.Records.{Snapshot, Definition, Member}
-use Rattle.accept.specs.Valid.{Belongs}
+use borrow.Author.Tests.{eq-eqb, lt-ltb, le-ltb, le-leb, lt-leb, ltb-true, ltb-false, leb-true, leb-false}
+use lib.Dec.{ltb, leb}
+use Rattle.snapshot.specs.Records.{Snapshot}
 use Rattle.accept.proofs.Accepted.{by-test}
 use Rattle.hir_def.specs.Items.{types, variantKind, definitionOf, nsOf, moduleItem, definedItem}
 use Rattle.hir_def.specs.declared.Item.{Item}
 use Rattle.hir_def.specs.declared.Item.the-variants.{Mod, Def}
 use Rattle.nameable.specs.Seen.{isVariant}
-use Rattle.nameable.specs.Paths.{Path, keyword, absolute, plain, into, namesIn, isPlain, Named, named, variantsIn, within, itemIn, means, Names, Nameable}
-use Rattle.nameable.specs.Breadth.{arrives, arrival, turns, firstTo, checkedPath, variantAfter, byEnum, shorter, shortestOf, shortest, found, longer, nowhere, namesLimit, upTo, anyPath}
-use Rattle.nameable.specs.Right.{Found, Longer, Right}
-use Rattle.nameable.proofs.Lists.{by-option, none-some}
-use Rattle.nameable.proofs.Reached.{each-in, named-in, into-means, into-from, Plenty, VariantBy, variant-named, variants-def}
+use Rattle.nameable.specs.Paths.{Path, keyword, absolute, plain, into, namesIn, isPlain, Named, named, variantsIn, within, itemIn, means, Names}
+use Rattle.nameable.specs.Breadth.{arrival, turns, firstTo, checkedPath, variantAfter, byEnum, shorter, shortestOf, shortest, found, longer}
+use Rattle.nameable.specs.Breadth.{namesLimit, upTo, anyPath}
+use Rattle.nameable.specs.Right.{Right}
+use Rattle.nameable.proofs.Lists.{none-some}
+use Rattle.nameable.proofs.Reached.{each-in, named-in, into-means, into-from, Plenty, variant-named, variants-def}
 use Rattle.nameable.proofs.Arrives.{first-to, to-first, arrives-good, arrives-on, arrives-meets, Flat, never-after}
 
 -- p is right, and as short as any of Q; or there is none of Q
@@ -266,7 +265,8 @@ module _ (s : Snapshot) (from : ℕ) where
       unfolding shortestOf
       one-least b =
           widened b (shorter (arrival b s from item) (byEnum b s from item))
-          (shorter-least (Mine b item) (Flats b item) (Enums b item) (arrival b s from item) (byEnum b s from item) (arrival-least b item) (enum-least b item))
+          (shorter-least (Mine b item) (Flats b item) (Enums b item) (arrival b s from item) (byEnum b s from item)
+          (arrival-least b item) (enum-least b item))
 
       -- as `Found`, whatever the number of names
       record Best (p : Path) : Type 0 where

@@ -1,9 +1,9 @@
 -- The entries of a module by name and by item: no name stands twice in a scope and namespace.
-use Prim.Native.Nat.{ℕ, zero, suc, _<_}
+use Prim.Native.Nat.{ℕ, suc, _<_}
 use mathlib.Core.Path.{_≡_, refl, sym, ap, subst, _∙_}
 use mathlib.Core.List.{List, [], _∷_, map, List·Memᴰ, List·Memᴰ·head, List·Memᴰ·tail}
 use mathlib.Core.Bool.{Bool, true, false, _&&_, true≢false}
-use mathlib.Core.Option.{Option, none, some, Option·map}
+use mathlib.Core.Option.{some, Option·map}
 use native.Mathlib.Omega.{arith}
 use borrow.Author.Tests.{eqb-true, eq-eqb, ltb-true, ltb-false}
 use lib.Dec.{eqb, ltb}
@@ -12,7 +12,7 @@ use Rattle.snapshot.specs.Records.{Snapshot, Scope}
 use Rattle.check_rules.specs.Tests.{sameEntry}
 use Rattle.accept.specs.Valid.{Valid}
 use Rattle.accept.proofs.Accepted.{by-test}
-use Rattle.accept.proofs.Bools.{and-two, and-three}
+use Rattle.accept.proofs.Bools.{and-two}
 use Rattle.hir_def.specs.Finds.{firstOf, select}
 use Rattle.hir_def.specs.Items.{types, moduleKind, definitionOf, itemOf, sameItem, nsOf, moduleItem}
 use Rattle.hir_def.specs.ItemScope.{isNamed, isFor, namesOf}
@@ -21,7 +21,7 @@ use Rattle.nameable.specs.Seen.{seen}
 use Rattle.nameable.specs.Paths.{Path, into, Named, named, isSeenIn, asNamed, entriesIn, within, itemIn, means}
 use Rattle.nameable.specs.Breadth.{Way, isItem, firstTo}
 use Rattle.nameable.specs.Queue.{pathsAfter, seenNamed}
-use Rattle.nameable.proofs.Lists.{by-option, none-some, first-found, first-some}
+use Rattle.nameable.proofs.Lists.{first-found, first-some}
 use Rattle.nameable.proofs.Reached.{into-means, item-of}
 use Rattle.nameable.proofs.Arrives.{same-item}
 
@@ -76,16 +76,19 @@ module _ (s : Snapshot) (from ns m : ℕ) where
       (λ e i. name-last (eqb (e .owner) m) (eqb (e .ns) ns) (seen s from e) (eqb (e .name) n)))
 
   -- two entries of one scope, namespace and name are one
-  pub entry-one : Valid s → (n : ℕ) (x y : Scope) → List·Memᴰ x (s .scopes) → List·Memᴰ y (s .scopes) → isNamed m ns n x ≡ true → isNamed m ns n y ≡ true → x ≡ y
+  pub entry-one : Valid s → (n : ℕ) (x y : Scope) → List·Memᴰ x (s .scopes) → List·Memᴰ y (s .scopes) → isNamed m ns n x ≡ true
+      → isNamed m ns n y ≡ true → x ≡ y
   entry-one ok n x y i j h k =
       let d : Scope = record { owner = 0; ns = 0; name = 0; definition = 0; visibility = 0; number = 0; declared = 0; bits = 0; place = 0 } in
       let a = place-in d i in
       let b = place-in d j in
       by-test (ltb (a .0) (b .0))
-      (λ t. absurd (apart x y h k (subst (λ z. sameEntry y z ≡ false) (a .2) (subst (λ z. sameEntry z (getD (s .scopes) (a .0) d) ≡ false) (b .2) (ok .once .scopes (a .0) (b .0) (ltb-true (a .0) (b .0) t) (b .1))))))
+      (λ t. absurd (apart x y h k (subst (λ z. sameEntry y z ≡ false) (a .2)
+      (subst (λ z. sameEntry z (getD (s .scopes) (a .0) d) ≡ false) (b .2) (ok .once .scopes (a .0) (b .0) (ltb-true (a .0) (b .0) t) (b .1))))))
       (λ t.
       by-test (ltb (b .0) (a .0))
-      (λ u. absurd (apart y x k h (subst (λ z. sameEntry x z ≡ false) (b .2) (subst (λ z. sameEntry z (getD (s .scopes) (b .0) d) ≡ false) (a .2) (ok .once .scopes (b .0) (a .0) (ltb-true (b .0) (a .0) u) (a .1))))))
+      (λ u. absurd (apart y x k h (subst (λ z. sameEntry x z ≡ false) (b .2)
+      (subst (λ z. sameEntry z (getD (s .scopes) (b .0) d) ≡ false) (a .2) (ok .once .scopes (b .0) (a .0) (ltb-true (b .0) (a .0) u) (a .1))))))
       (λ u.
       let same : a .0 ≡ b .0 = omega (arith, ltb-false (a .0) (b .0) t, ltb-false (b .0) (a .0) u) in
       sym (a .2) ∙ (ap (λ (z : ℕ). getD (s .scopes) z d) same ∙ b .2)))
@@ -100,7 +103,12 @@ module _ (s : Snapshot) (from ns m : ℕ) where
       apart x y h k e =
           let f = fields x h in
           let g = fields y k in
-          true≢false (sym (rw (eq-eqb (y .owner) (x .owner) (g .0 ∙ sym (f .0)), eq-eqb (y .ns) (x .ns) (g .1 ∙ sym (f .1)), eq-eqb (y .name) (x .name) (g .2 ∙ sym (f .2)))) ∙ e)
+          true≢false (sym (rw (
+            eq-eqb (y .owner) (x .owner) (g .0 ∙ sym (f .0)),
+            eq-eqb (y .ns) (x .ns) (g .1 ∙ sym (f .1)),
+            eq-eqb
+                (y .name) (x .name) (g .2 ∙ sym (f .2)),
+          )) ∙ e)
 
   -- a seen entry is what its name means
   pub seen-named : Valid s → (e : Scope) → List·Memᴰ e (s .scopes) → isSeenIn s from ns m e ≡ true
@@ -138,7 +146,8 @@ module _ (s : Snapshot) (ok : Valid s) (from : ℕ) (item : Item) (w : Way) (the
 
   -- an entry offered for the item, and one of the module's that is seen
   alike : (e : Scope) → List·Memᴰ e (s .scopes)
-      → (isSeenIn s from (nsOf item) (w .target) e && isItem item (means s from (nsOf item) (into (w .path) (e .name)))) ≡ (isFor s (w .target) item e && seen s from e)
+      → (isSeenIn s from (nsOf item) (w .target) e && isItem item (means s from (nsOf item) (into (w .path) (e .name))))
+      ≡ (isFor s (w .target) item e && seen s from e)
   unfolding isFor isItem
   alike e i =
       by-test (isSeenIn s from (nsOf item) (w .target) e)
@@ -152,7 +161,8 @@ module _ (s : Snapshot) (ok : Valid s) (from : ℕ) (item : Item) (w : Way) (the
       and-true true = refl
       and-true false = refl
 
-      none-for : (e : Scope) → isSeenIn s from (nsOf item) (w .target) e ≡ false → (eqb (e .owner) (w .target) && sameItem (itemOf s (e .ns) (e .definition)) item) && seen s from e ≡ false
+      none-for : (e : Scope) → isSeenIn s from (nsOf item) (w .target) e ≡ false
+          → (eqb (e .owner) (w .target) && sameItem (itemOf s (e .ns) (e .definition)) item) && seen s from e ≡ false
       none-for e t =
           by-test ((eqb (e .owner) (w .target) && sameItem (itemOf s (e .ns) (e .definition)) item) && seen s from e)
           (λ u.
@@ -165,12 +175,14 @@ module _ (s : Snapshot) (ok : Valid s) (from : ℕ) (item : Item) (w : Way) (the
           (λ u. u)
 
   -- The first path to the item with one name more is by the module's first seen entry for it.
-  pub after-first : firstTo s from item (pathsAfter s from (nsOf item) w) ≡ Option·map (λ e. into (w .path) (e .name)) (namesOf s (w .target) item (seen s from))
+  pub after-first : firstTo s from item (pathsAfter s from (nsOf item) w) ≡ Option·map (λ e. into (w .path) (e .name))
+      (namesOf s (w .target) item (seen s from))
   unfolding firstTo entriesIn namesOf
   after-first =
       ap (firstOf (λ (p : Path). isItem item (means s from (nsOf item) p)))
       (map-of-map (asNamed s) (λ (x : Named). into (w .path) (x .name)) (select (isSeenIn s from (nsOf item) (w .target)) (s .scopes)))
-      ∙ (first-mapped (λ (p : Path). isItem item (means s from (nsOf item) p)) (λ (e : Scope). into (w .path) (e .name)) (isSeenIn s from (nsOf item) (w .target)) (s .scopes)
+      ∙ (first-mapped (λ (p : Path). isItem item (means s from (nsOf item) p)) (λ (e : Scope). into (w .path) (e .name))
+      (isSeenIn s from (nsOf item) (w .target)) (s .scopes)
       ∙ ap (Option·map (λ (e : Scope). into (w .path) (e .name)))
       (first-same (λ (e : Scope). isSeenIn s from (nsOf item) (w .target) e && isItem item (means s from (nsOf item) (into (w .path) (e .name))))
       (λ (e : Scope). isFor s (w .target) item e && seen s from e) (s .scopes) alike))

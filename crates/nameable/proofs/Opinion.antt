@@ -1,6 +1,6 @@
 -- On an accepted snapshot the answer is right, and it is the only kind of answer that is.
 use Prim.Native.Nat.{ℕ, _≤_, _<_}
-use mathlib.Core.Path.{_≡_, refl, sym, subst}
+use mathlib.Core.Path.{_≡_, refl, subst}
 use mathlib.Core.List.{List}
 use mathlib.Core.Logic.{_↔_}
 use native.Mathlib.Omega.{arith}
@@ -30,14 +30,16 @@ module _ (W : List ℕ) (s : Snapshot) (accepted : verdict W ≡ accept s) (from
   pub nowhere-is : (anyPath s from item ≡ nowhere) ↔ (Nameable s from item → ⊥)
   nowhere-is = (
     (λ e. subst (Right s from item) e answer-right),
-    λ n. by-answer (anyPath s from item) answer-right (λ p e h. absurd (n (record { path = p; names = h .names }))) (λ e h. absurd (n (h .some))) (λ e h. e),
+    λ n. by-answer (anyPath s from item) answer-right (λ p e h. absurd (n (record { path = p; names = h .names })))
+        (λ e h. absurd (n (h .some))) (λ e h. e),
   )
 
   -- `longer` exactly where a path does, and each has more than sixteen names
   pub longer-is : (anyPath s from item ≡ longer) ↔ Longer s from item
   longer-is = (
     (λ e. subst (Right s from item) e answer-right),
-    λ l. by-answer (anyPath s from item) answer-right (λ p e h. absurd (omega (arith, h .few, l .many p (h .names)))) (λ e h. e) (λ e h. absurd (h (l .some))),
+    λ l. by-answer (anyPath s from item) answer-right (λ p e h. absurd (omega (arith, h .few, l .many p (h .names)))) (λ e h. e)
+        (λ e h. absurd (h (l .some))),
   )
 
   -- a path wherever one has at most sixteen names

@@ -1,17 +1,17 @@
 -- An accepted snapshot, with a viewing module of it, has what the proof asks.
 use Prim.Native.Nat.{ℕ, zero, suc, _+_, _≤_, _<_}
-use mathlib.Core.Path.{_≡_, refl, sym, ap, subst, _∙_}
-use mathlib.Core.List.{List, [], _∷_, _++_, map, List·Memᴰ, List·Memᴰ·head, List·Memᴰ·tail, Memᴰ·cast}
-use mathlib.Core.Bool.{Bool, true, false, _&&_}
+use mathlib.Core.Path.{_≡_, refl, sym, ap, subst}
+use mathlib.Core.List.{List, [], _∷_, map, List·Memᴰ, List·Memᴰ·head, List·Memᴰ·tail, Memᴰ·cast}
+use mathlib.Core.Bool.{true, false, _&&_}
 use mathlib.Core.Option.{Option, none, some}
 use native.Mathlib.Omega.{arith}
 use borrow.Author.Tests.{eqb-true}
 use lib.Dec.{eqb, ltb}
 use lib.ListN.{length}
 use Rattle.snapshot.specs.Lists.{rows}
-use Rattle.snapshot.specs.Records.{Snapshot, Scope, Extern, Member, Prelude}
+use Rattle.snapshot.specs.Records.{Snapshot, Scope, Extern, Prelude}
 use Rattle.check_rules.specs.Tests.{countsOf, noDefinition}
-use Rattle.accept.specs.Valid.{Each, more, Tree, Valid, ScopeFits, ExternFits}
+use Rattle.accept.specs.Valid.{Each, more, Valid, ScopeFits, ExternFits}
 use Rattle.accept.proofs.Accepted.{by-test}
 use Rattle.accept.proofs.Bools.{and-two, each-at}
 use Rattle.tree_rules.specs.Modules.{mapNo, crateOf, parentOf, crateRoot}
@@ -26,7 +26,9 @@ use Rattle.hir_def.specs.Items.{types, macros, moduleKind, definitionOf, crateD
 use Rattle.hir_def.specs.Nameres.{preludeOf}
 use Rattle.hir_def.specs.declared.Item.{Item}
 use Rattle.hir_def.specs.declared.Item.the-variants.{Mod, Def}
-use Rattle.nameable.specs.Paths.{Keyword, supers, crate, Path, keyword, absolute, plain, into, Named, named, isSeenIn, asNamed, entriesIn, isVariantOf, variantNamed, variantsIn, externNamed, externsIn, absolutes, entriesOver, scopesFrom, preludeEntries, firsts, within, aboveOr, above, keywordModule, moduleNamed, reads, itemIn, means}
+use Rattle.nameable.specs.Paths.{Keyword, supers, crate, Path, keyword, absolute, plain, into, Named, named, isSeenIn, asNamed, entriesIn}
+use Rattle.nameable.specs.Paths.{isVariantOf, variantNamed, variantsIn, externNamed, externsIn, absolutes, entriesOver, scopesFrom}
+use Rattle.nameable.specs.Paths.{preludeEntries, firsts, within, aboveOr, above, keywordModule, moduleNamed, reads, itemIn, means}
 use Rattle.nameable.specs.Breadth.{keywords}
 use Rattle.nameable.proofs.Lists.{by-option, none-some}
 use Rattle.nameable.proofs.Reached.{each-append, each-in, each-made, named-in, item-in, into-from, Plenty}
@@ -96,7 +98,8 @@ module _ (s : Snapshot) (ok : Valid s) where
         (λ t.
         let q = and-two (eqb (e .owner) m) _ t .1 in
         let same : e .ns ≡ ns = eqb-true (e .ns) ns (and-two (eqb (e .ns) ns) _ q .0) in
-        rw (t, select) (more (subst (λ (k : ℕ). Fit s k (itemOf s (e .ns) (e .definition))) same (item-fits (e .ns) (e .definition) (f .definition))) (seen-fits m h)))
+        rw (t, select) (more (subst (λ (k : ℕ). Fit s k (itemOf s (e .ns) (e .definition))) same
+        (item-fits (e .ns) (e .definition) (f .definition))) (seen-fits m h)))
         (λ t. rw (t, select) (seen-fits m h))
 
     entries-fit : (m : ℕ) → Fits s ns (entriesIn s from ns m)

@@ -3,7 +3,7 @@ use Prim.Native.Nat.{ℕ, zero, suc, _≤_, _<_}
 use native.Mathlib.Omega.{arith}
 use mathlib.Core.Path.{_≡_, refl}
 use mathlib.Core.List.{List, List·Memᴰ}
-use mathlib.Core.Bool.{Bool, true, false, _&&_}
+use mathlib.Core.Bool.{Bool, true, _&&_}
 use mathlib.Core.Option.{Option, none, some}
 use mathlib.Core.Logic.{_↔_}
 use borrow.Author.Tests.{eqb-true, eq-eqb}
@@ -19,7 +19,8 @@ use Rattle.module_tree.specs.Privacy.{Privacy}
 use Rattle.module_tree.specs.Differs.{Known}
 use Rattle.module_tree.proofs.Privately.{privately-is}
 use Rattle.hir_def.proofs.Found.{each-first}
-use Rattle.nameable.specs.Seen.{holds, holdsIn, isDeclaration, declaredNs, declaredAs, declaredIn, declarationIn, declarationOf, declarationHolds, bothHold, counts, seen, Holds, DeclarationHolds, BothHold, Seen}
+use Rattle.nameable.specs.Seen.{holds, holdsIn, isDeclaration, declaredNs, declaredAs, declaredIn, declarationIn, declarationOf}
+use Rattle.nameable.specs.Seen.{declarationHolds, bothHold, counts, seen, Holds, DeclarationHolds, BothHold, Seen}
 use Rattle.nameable.proofs.Lists.{none-some}
 use Rattle.nameable.proofs.Reached.{each-in}
 
@@ -42,7 +43,8 @@ module _ (W : List ℕ) (s : Snapshot) (accepted : verdict W ≡ accept s) where
     entry-is : (e : Scope) → ScopeFits (countsOf s) e → (holdsIn s v e ≡ true) ↔ Holds s v e
     entry-is e f = holds-is (e .visibility) (e .number) (known (e .visibility) (e .number) (f .public) (f .inside))
 
-    declaration-is : (o : Option Scope) → ((e : Scope) → o ≡ some e → ScopeFits (countsOf s) e) → (declarationHolds s v o ≡ true) ↔ DeclarationHolds s v o
+    declaration-is : (o : Option Scope) → ((e : Scope) → o ≡ some e → ScopeFits (countsOf s) e)
+        → (declarationHolds s v o ≡ true) ↔ DeclarationHolds s v o
     unfolding declarationHolds
     declaration-is none f = (λ e. tt, λ p. refl)
     declaration-is (some e) f = entry-is e (f e refl)

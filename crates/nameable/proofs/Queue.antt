@@ -1,17 +1,15 @@
 -- The modules taken up one after the other are those reached turn by turn.
 use Prim.Native.Nat.{ℕ, zero, suc, _+_, _-_, _≤_, _<_}
-use mathlib.Core.Path.{_≡_, refl, sym, ap, subst, _∙_}
+use mathlib.Core.Path.{_≡_, refl, sym, ap, _∙_}
 use mathlib.Core.List.{List, [], _∷_, _++_, append-assoc, append-nil, List·Memᴰ, List·Memᴰ·head, List·Memᴰ·tail, Memᴰ·append-left, Memᴰ·append-right}
-use mathlib.Core.Bool.{Bool, true, false, or-true}
+use mathlib.Core.Bool.{Bool, true, or-true}
 use mathlib.Core.Option.{Option, none, some}
 use native.Mathlib.Omega.{arith}
 use borrow.Author.Tests.{eq-eqb, lt-ltb, le-ltb}
-use lib.Dec.{eqb, ltb}
 use lib.ListN.{length, length-append, getD}
 use Rattle.snapshot.specs.Records.{Snapshot}
 use Rattle.accept.specs.Valid.{Each, more}
 use Rattle.accept.proofs.Accepted.{by-test}
-use Rattle.accept.proofs.Bools.{getD-new}
 use Rattle.hir_def.specs.Finds.{firstOf, orFirst}
 use Rattle.hir_def.specs.Items.{types, nsOf, moduleItem}
 use Rattle.hir_def.specs.declared.Item.{Item}
@@ -100,7 +98,8 @@ module _ (s : Snapshot) (from : ℕ) where
         ∙ (added-append w1 (a ++ n) c
         ∙ (ap (λ (u : List Way). added s from u c) (added-append w1 a n ∙ ap (λ (u : List Way). added s from u n) first) ∙ last))
 
-  pub queue-on : (f : ℕ) (ws : List Way) (i : ℕ) → i < length ws → queue s from (suc f) ws i ≡ queue s from f (added s from ws (pathsAfter s from types (getD ws i noWay))) (i + 1)
+  pub queue-on : (f : ℕ) (ws : List Way) (i : ℕ) → i < length ws
+      → queue s from (suc f) ws i ≡ queue s from f (added s from ws (pathsAfter s from types (getD ws i noWay))) (i + 1)
   unfolding queue
   queue-on f ws i h = rw (queue, lt-ltb i (length ws) h)
 
@@ -155,7 +154,8 @@ module _ (s : Snapshot) (from : ℕ) (plenty : Plenty s from) where
   few-added ws (p ∷ ps) h = by-meaning (λ us k. few-added us ps k) (means s from types p) refl
     where
       by-meaning : ((us : List Way) → length us ≤ metBelow us → length (added s from us ps) ≤ metBelow (added s from us ps))
-          → (o : Option Item) → means s from types p ≡ o → length (added s from (withMeaning ws p o) ps) ≤ metBelow (added s from (withMeaning ws p o) ps)
+          → (o : Option Item) → means s from types p ≡ o → length (added s from (withMeaning ws p o) ps) ≤ metBelow
+          (added s from (withMeaning ws p o) ps)
       by-meaning f none e = f ws h
       by-meaning f (some (Def ns d)) e = f ws h
       by-meaning f (some (Mod m)) e =
@@ -165,7 +165,8 @@ module _ (s : Snapshot) (from : ℕ) (plenty : Plenty s from) where
           let vs : List Way = ws ++ (wayTo p (m .0) ∷ []) in
           let here : isMet vs (m .0) ≡ true = met-snoc ws (wayTo p (m .0)) (m .0) ∙ rw (eq-eqb (m .0) (m .0) refl) (or-true (isMet ws (m .0))) in
           let one =
-          passing-less (isMet ws) (isMet vs) (λ n h. met-snoc ws (wayTo p (m .0)) n ∙ rw h) (m .0) (length (s .modules)) (plenty .known p (m .0) e) t here in
+          passing-less (isMet ws) (isMet vs) (λ n h. met-snoc ws (wayTo p (m .0)) n ∙ rw h) (m .0) (length (s .modules))
+          (plenty .known p (m .0) e) t here in
           rw (with-new ws p (m .0) t) (f vs (omega (arith, length-append ws (wayTo p (m .0) ∷ []), one, h))))
 
   few-reached : (b : Bool) (k : ℕ) → length (reached b s from k) ≤ metBelow (reached b s from k)
@@ -182,7 +183,8 @@ module _ (s : Snapshot) (from : ℕ) (plenty : Plenty s from) where
         → queue s from (length vs + f) (reached b s from (suc k)) (length (reached b s from k))
         ≡ queue s from f (reached b s from (suc (suc k))) (length (reached b s from (suc k)))
     queue-turn k f vs e =
-        let whole : reached b s from (suc k) ≡ reached b s from k ++ (vs ++ []) = e ∙ ap (λ (u : List Way). reached b s from k ++ u) (sym (append-nil vs)) in
+        let whole : reached b s from (suc k) ≡ reached b s from k ++ (vs ++ []) = e ∙ ap (λ (u : List Way). reached b s from k ++ u)
+        (sym (append-nil vs)) in
         let size : length (reached b s from k) + length vs ≡ length (reached b s from (suc k)) =
         sym (ap length e ∙ length-append (reached b s from k) vs) in
         ap (λ (u : List Way). queue s from (length vs + f) u (length (reached b s from k))) whole
@@ -196,12 +198,14 @@ module _ (s : Snapshot) (from : ℕ) (plenty : Plenty s from) where
         → queue s from f (reached b s from (suc k)) (length (reached b s from k)) ≡ reached b s from j
     queue-rest zero j k f q e h =
         let same : k ≡ j = omega arith in
-        let still : reached b s from (suc k) ≡ reached b s from k = ap (λ (x : ℕ). reached b s from (suc x)) same ∙ (e ∙ ap (reached b s from) (sym same)) in
+        let still : reached b s from (suc k) ≡ reached b s from k = ap (λ (x : ℕ). reached b s from (suc x)) same
+        ∙ (e ∙ ap (reached b s from) (sym same)) in
         queue-end s from f (reached b s from (suc k)) (length (reached b s from k)) (omega (arith, ap length still))
         ∙ (still ∙ ap (reached b s from) same)
     queue-rest (suc n) j k f q e h =
         let x = reached-end s from b k in
-        let size : length (reached b s from (suc k)) ≡ length (reached b s from k) + length (x .0) = ap length (x .1) ∙ length-append (reached b s from k) (x .0) in
+        let size : length (reached b s from (suc k)) ≡ length (reached b s from k) + length (x .0) = ap length (x .1)
+        ∙ length-append (reached b s from k) (x .0) in
         let few = reached-few b (suc k) in
         let left : ℕ = f - length (x .0) in
         let fuel : f ≡ length (x .0) + left = omega (arith, size, few, h) in
@@ -226,7 +230,8 @@ unfolding firstOf orFirst
 first-of-append p [] ys = refl
 first-of-append p (x ∷ xs) ys = by-test (p x) (λ t. rw (t, firstOf)) (λ t. rw (t, firstOf) (first-of-append p xs ys))
 
-pub first-append : (s : Snapshot) (from : ℕ) (item : Item) (ps qs : List Path) → firstTo s from item (ps ++ qs) ≡ orFirst (firstTo s from item ps) (firstTo s from item qs)
+pub first-append : (s : Snapshot) (from : ℕ) (item : Item) (ps qs : List Path)
+    → firstTo s from item (ps ++ qs) ≡ orFirst (firstTo s from item ps) (firstTo s from item qs)
 unfolding firstTo
 first-append s from item ps qs = first-of-append _ ps qs
 
@@ -237,7 +242,8 @@ or-again none (some x) c = refl
 or-again none none (some x) = refl
 or-again none none none = refl
 
-or-turn : {A : Type 0} (n b c d e : Option A) → orFirst (orFirst n (orFirst b (orFirst c d))) (orFirst (orFirst d e) c) ≡ orFirst n (orFirst b (orFirst c (orFirst d e)))
+or-turn : {A : Type 0} (n b c d e : Option A) → orFirst (orFirst n (orFirst b (orFirst c d))) (orFirst (orFirst d e) c)
+    ≡ orFirst n (orFirst b (orFirst c (orFirst d e)))
 unfolding orFirst
 or-turn (some x) b c d e = refl
 or-turn none (some x) c d e = refl
@@ -260,7 +266,8 @@ module _ (s : Snapshot) (from : ℕ) (b : Bool) (item : Item) where
   arrives-order : (k : ℕ) → arrives b s from item (suc k) ≡ inOrder (reached b s from k)
   unfolding arrives
   arrives-order zero =
-      ap (λ (o : Option Path). orFirst (to (nameless b s)) o) (first-append s from item (onward s from (nsOf item) (reached b s from 0)) (single b s from (nsOf item)))
+      ap (λ (o : Option Path). orFirst (to (nameless b s)) o) (first-append s from item (onward s from (nsOf item) (reached b s from 0))
+      (single b s from (nsOf item)))
       ∙ or-again (to (nameless b s)) (past (reached b s from 0)) (to (single b s from (nsOf item)))
   arrives-order (suc k) =
       let x = reached-end s from b k in
@@ -272,7 +279,8 @@ module _ (s : Snapshot) (from : ℕ) (b : Bool) (item : Item) where
       ap past (x .1) ∙ (ap to (onward-append s from (nsOf item) (reached b s from k) (x .0))
       ∙ first-append s from item (onward s from (nsOf item) (reached b s from k)) (onward s from (nsOf item) (x .0))) in
       ap (λ (o : Option Path). orFirst o (to (onward s from (nsOf item) w1 ++ single b s from (nsOf item)))) (arrives-order k)
-      ∙ (ap (orFirst (inOrder (reached b s from k))) (first-append s from item (onward s from (nsOf item) w1) (single b s from (nsOf item)) ∙ ap (λ (o : Option Path). orFirst o c) new)
+      ∙ (ap (orFirst (inOrder (reached b s from k))) (first-append s from item (onward s from (nsOf item) w1) (single b s from (nsOf item))
+      ∙ ap (λ (o : Option Path). orFirst o c) new)
       ∙ (or-turn (to (nameless b s)) (past (reached b s from 0)) c d e
       ∙ ap (λ (o : Option Path). orFirst (to (nameless b s)) (orFirst (past (reached b s from 0)) (orFirst c o))) (sym new)))
 

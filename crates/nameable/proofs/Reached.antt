@@ -1,11 +1,10 @@
 -- The modules reached with at most k names are those that a path of at most k names means.
-use Prim.Native.Nat.{ℕ, zero, suc, _+_, _≤_, _<_}
+use Prim.Native.Nat.{ℕ, zero, suc, _≤_, _<_}
 use mathlib.Core.Path.{_≡_, refl, sym, ap, subst, _∙_}
 use mathlib.Core.List.{List, [], _∷_, _++_, map, List·Memᴰ, List·Memᴰ·head, List·Memᴰ·tail, Memᴰ·cast, Memᴰ·append-left, Memᴰ·append-right}
 use mathlib.Core.Bool.{Bool, true, false, _||_, or-true, true≢false}
 use mathlib.Core.Option.{Option, none, some}
 use native.Mathlib.Omega.{arith}
-use native.Mathlib.Numerals.{add-one}
 use borrow.Author.Tests.{eqb-true, eq-eqb}
 use lib.Dec.{eqb, ltb}
 use lib.ListN.{length}
@@ -14,11 +13,12 @@ use Rattle.snapshot.specs.Records.{Snapshot, Member}
 use Rattle.accept.specs.Valid.{Each, more, Belongs}
 use Rattle.accept.proofs.Accepted.{by-test}
 use Rattle.accept.proofs.Bools.{and-two, each-map, each-snoc}
-use Rattle.hir_def.specs.Finds.{firstOf, select}
+use Rattle.hir_def.specs.Finds.{select}
 use Rattle.hir_def.specs.Items.{types, macros, moduleItem, definedItem}
 use Rattle.hir_def.specs.declared.Item.{Item}
 use Rattle.hir_def.specs.declared.Item.the-variants.{Mod, Def}
-use Rattle.nameable.specs.Paths.{Keyword, Path, keyword, absolute, plain, into, namesIn, isPlain, Named, named, entriesIn, isVariantOf, variantNamed, variantsIn, absolutes, firsts, within, keywordModule, moduleNamed, after, reads, itemIn, means}
+use Rattle.nameable.specs.Paths.{Keyword, Path, keyword, absolute, plain, into, namesIn, isPlain, Named, named, entriesIn, isVariantOf}
+use Rattle.nameable.specs.Paths.{variantNamed, variantsIn, absolutes, firsts, within, after, reads, itemIn, means}
 use Rattle.nameable.specs.Breadth.{Way, isMet, withMeaning, added, keywords, nameless, single, onward, reached}
 use Rattle.nameable.proofs.Lists.{by-option, none-some, first-found, map-in}
 
@@ -177,7 +177,8 @@ module _ (s : Snapshot) (from : ℕ) where
       Memᴰ·append-right (map (λ (y : Named). into (v .path) (y .name)) (entriesIn s from ns (v .target))) (onward-in ns k m)
 
   -- a name more after a path that means something
-  pub into-means : (ns n : ℕ) (p : Path) (x : Item) → means s from types p ≡ some x → means s from ns (into p n) ≡ itemIn (named n (within s from ns x))
+  pub into-means : (ns n : ℕ) (p : Path) (x : Item) → means s from types p ≡ some x
+      → means s from ns (into p n) ≡ itemIn (named n (within s from ns x))
   unfolding means reads after
   into-means ns n p x e = let f = item-in (reads s from types p) x e in rw (f .1, f .2)
 

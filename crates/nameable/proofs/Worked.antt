@@ -2,13 +2,12 @@
 use Prim.Native.Nat.{ℕ, zero, suc, _+_, _*_}
 use mathlib.Core.Path.{_≡_, refl}
 use mathlib.Core.List.{List, [], _∷_, _++_, map}
-use mathlib.Core.Bool.{Bool, true, false, _&&_, _||_}
 use mathlib.Core.Option.{Option, none, some}
 use Rattle.snapshot.specs.Lists.{rows, any, all, eqList}
 use Rattle.snapshot.specs.Words.{argumentsOf}
-use Rattle.snapshot.specs.Records.{Snapshot}
 use Rattle.check_rules.specs.Tests.{textBound, padded}
-use Rattle.check_rules.specs.Steps.{nameStep, crateStep, dependencyStep, mapStep, moduleStep, childStep, preludeStep, definitionStep, scopeStep, importStep, externStep, memberStep}
+use Rattle.check_rules.specs.Steps.{nameStep, crateStep, dependencyStep, mapStep, moduleStep, childStep, preludeStep, definitionStep, scopeStep}
+use Rattle.check_rules.specs.Steps.{importStep, externStep, memberStep}
 use Rattle.check_rules.specs.Verdict.{Verdict, refuse, accept, argumentsFrom, recordStep, stepAt, finish, records, verdict}
 use Rattle.tree_rules.specs.Modules.{placeOf, moduleOf, mapOf, rootOf, ownMap, crateRoot, orElse, containing}
 use Rattle.tree_rules.specs.Visibility.{lastOr, lastTo, last, metOr, metTo, met}
@@ -17,9 +16,13 @@ use Rattle.hir_def.specs.Finds.{firstOf, select, orFirst}
 use Rattle.hir_def.specs.Items.{definitionOf, crateData, itemOf, sameItem, nsOf, homeBy, moduleItem, definedItem}
 use Rattle.hir_def.specs.Nameres.{stepsOr, stepsTo, steps, preludeOf}
 use Rattle.hir_def.specs.declared.Item.{Item}
-use Rattle.nameable.specs.Seen.{holds, declaredNs, declaredAs, declaredIn, declarationIn, declarationOf, declarationHolds, bothHold, counts, seen}
-use Rattle.nameable.specs.Paths.{Keyword, supers, crate, Path, keyword, absolute, plain, into, namesIn, named, entriesIn, variantsIn, externsIn, absolutes, entriesOver, scopesFrom, preludeEntries, firsts, within, aboveOr, above, keywordModule, moduleNamed, after, reads, itemIn, means, placeIn, routeOf}
-use Rattle.nameable.specs.Breadth.{isMet, withMeaning, added, nameless, single, onward, reached, isItem, firstTo, arrives, checkedPath, variantAfter, byEnum, shorter, shortestOf, shortest, AnyPath, found, longer, nowhere, upTo, anyPath}
+use Rattle.nameable.specs.Seen.{holds, declaredNs, declaredAs, declaredIn, declarationIn, declarationOf, declarationHolds, bothHold, counts}
+use Rattle.nameable.specs.Seen.{seen}
+use Rattle.nameable.specs.Paths.{supers, crate, Path, keyword, absolute, plain, into, namesIn, named, entriesIn, variantsIn, externsIn}
+use Rattle.nameable.specs.Paths.{absolutes, entriesOver, scopesFrom, preludeEntries, firsts, within, aboveOr, above, keywordModule, moduleNamed}
+use Rattle.nameable.specs.Paths.{after, reads, itemIn, means, placeIn, routeOf}
+use Rattle.nameable.specs.Breadth.{isMet, withMeaning, added, nameless, single, onward, reached, isItem, firstTo, arrives, checkedPath}
+use Rattle.nameable.specs.Breadth.{variantAfter, byEnum, shorter, shortestOf, shortest, AnyPath, found, longer, nowhere, upTo}
 
 unfoldable pub head : ℕ → ℕ → ℕ
 head kind payload = kind * 0x10000000 + payload
@@ -95,12 +98,26 @@ pub any-paths : answers 16 (verdict (workspace 2021))
     ∷ found (into (into (into (into (keyword crate) 0) 3) 13) 14) ∷ found (into (into (keyword (supers 0)) 13) 14)
     ∷ found (keyword (supers 0)) ∷ found (plain 10) ∷ found (keyword (supers 1)) ∷ nowhere ∷ found (absolute 7)
     ∷ []
-unfolding answers ask head letter entry workspace upTo shortest shortestOf shorter byEnum variantAfter checkedPath arrives firstTo isItem reached onward single nameless added withMeaning isMet means itemIn reads after moduleNamed keywordModule above aboveOr within firsts preludeEntries scopesFrom entriesOver absolutes externsIn variantsIn entriesIn named namesIn seen counts bothHold declarationHolds declarationOf declarationIn declaredIn declaredAs declaredNs holds privately moduleAround blockStep ofRoot lastOr lastTo last metOr metTo met stepsOr stepsTo steps preludeOf firstOf select orFirst itemOf sameItem nsOf homeBy definitionOf crateData moduleOf mapOf rootOf ownMap crateRoot orElse containing placeOf verdict records stepAt recordStep finish argumentsFrom argumentsOf nameStep crateStep dependencyStep mapStep moduleStep childStep preludeStep definitionStep scopeStep importStep externStep memberStep textBound padded rows any all eqList
+unfolding answers ask head letter entry workspace upTo shortest shortestOf shorter byEnum variantAfter checkedPath arrives firstTo
+    isItem reached onward single nameless added withMeaning isMet means itemIn reads after moduleNamed keywordModule above aboveOr
+    within firsts preludeEntries scopesFrom entriesOver absolutes externsIn variantsIn entriesIn named namesIn seen counts bothHold
+    declarationHolds declarationOf declarationIn declaredIn declaredAs declaredNs holds privately moduleAround blockStep ofRoot
+    lastOr lastTo last metOr metTo met stepsOr stepsTo steps preludeOf firstOf select orFirst itemOf sameItem nsOf homeBy definitionOf
+    crateData moduleOf mapOf rootOf ownMap crateRoot orElse containing placeOf verdict records stepAt recordStep finish argumentsFrom
+    argumentsOf nameStep crateStep dependencyStep mapStep moduleStep childStep preludeStep definitionStep scopeStep importStep
+    externStep memberStep textBound padded rows any all eqList
 any-paths = refl
 
 -- The f of h has no entry in types: no module has a path to it.
 pub no-entry : answers 16 (verdict (workspace 2021)) (rows (λ m. ask m (definedItem 0 6)) 0 11) ≡ rows (λ m. nowhere) 0 11
-unfolding answers ask head letter entry workspace upTo shortest shortestOf shorter byEnum variantAfter checkedPath arrives firstTo isItem reached onward single nameless added withMeaning isMet means itemIn reads after moduleNamed keywordModule above aboveOr within firsts preludeEntries scopesFrom entriesOver absolutes externsIn variantsIn entriesIn named namesIn seen counts bothHold declarationHolds declarationOf declarationIn declaredIn declaredAs declaredNs holds privately moduleAround blockStep ofRoot lastOr lastTo last metOr metTo met stepsOr stepsTo steps preludeOf firstOf select orFirst itemOf sameItem nsOf homeBy definitionOf crateData moduleOf mapOf rootOf ownMap crateRoot orElse containing placeOf verdict records stepAt recordStep finish argumentsFrom argumentsOf nameStep crateStep dependencyStep mapStep moduleStep childStep preludeStep definitionStep scopeStep importStep externStep memberStep textBound padded rows any all eqList
+unfolding answers ask head letter entry workspace upTo shortest shortestOf shorter byEnum variantAfter checkedPath arrives firstTo
+    isItem reached onward single nameless added withMeaning isMet means itemIn reads after moduleNamed keywordModule above aboveOr
+    within firsts preludeEntries scopesFrom entriesOver absolutes externsIn variantsIn entriesIn named namesIn seen counts bothHold
+    declarationHolds declarationOf declarationIn declaredIn declaredAs declaredNs holds privately moduleAround blockStep ofRoot
+    lastOr lastTo last metOr metTo met stepsOr stepsTo steps preludeOf firstOf select orFirst itemOf sameItem nsOf homeBy definitionOf
+    crateData moduleOf mapOf rootOf ownMap crateRoot orElse containing placeOf verdict records stepAt recordStep finish argumentsFrom
+    argumentsOf nameStep crateStep dependencyStep mapStep moduleStep childStep preludeStep definitionStep scopeStep importStep
+    externStep memberStep textBound padded rows any all eqList
 no-entry = refl
 
 -- mod p { mod x {} pub use x as y; enum E { V } pub use E::V; pub fn g() {} } mod v { fn o() { use crate::p::g; } }
@@ -120,19 +137,40 @@ private =
 pub private-paths : answers 16 (verdict private)
     (ask 1 (moduleItem 2) ∷ ask 3 (moduleItem 2) ∷ ask 1 (definedItem 1 4) ∷ ask 3 (definedItem 1 4) ∷ ask 4 (definedItem 1 5) ∷ [])
     ≡ found (into (keyword (supers 0)) 1) ∷ nowhere ∷ found (into (keyword (supers 0)) 5) ∷ nowhere ∷ found (plain 6) ∷ []
-unfolding answers ask head letter entry private upTo shortest shortestOf shorter byEnum variantAfter checkedPath arrives firstTo isItem reached onward single nameless added withMeaning isMet means itemIn reads after moduleNamed keywordModule above aboveOr within firsts preludeEntries scopesFrom entriesOver absolutes externsIn variantsIn entriesIn named namesIn seen counts bothHold declarationHolds declarationOf declarationIn declaredIn declaredAs declaredNs holds privately moduleAround blockStep ofRoot lastOr lastTo last metOr metTo met stepsOr stepsTo steps preludeOf firstOf select orFirst itemOf sameItem nsOf homeBy definitionOf crateData moduleOf mapOf rootOf ownMap crateRoot orElse containing placeOf verdict records stepAt recordStep finish argumentsFrom argumentsOf nameStep crateStep dependencyStep mapStep moduleStep childStep preludeStep definitionStep scopeStep importStep externStep memberStep textBound padded rows any all eqList
+unfolding answers ask head letter entry private upTo shortest shortestOf shorter byEnum variantAfter checkedPath arrives firstTo
+    isItem reached onward single nameless added withMeaning isMet means itemIn reads after moduleNamed keywordModule above aboveOr
+    within firsts preludeEntries scopesFrom entriesOver absolutes externsIn variantsIn entriesIn named namesIn seen counts bothHold
+    declarationHolds declarationOf declarationIn declaredIn declaredAs declaredNs holds privately moduleAround blockStep ofRoot
+    lastOr lastTo last metOr metTo met stepsOr stepsTo steps preludeOf firstOf select orFirst itemOf sameItem nsOf homeBy definitionOf
+    crateData moduleOf mapOf rootOf ownMap crateRoot orElse containing placeOf verdict records stepAt recordStep finish argumentsFrom
+    argumentsOf nameStep crateStep dependencyStep mapStep moduleStep childStep preludeStep definitionStep scopeStep importStep
+    externStep memberStep textBound padded rows any all eqList
 private-paths = refl
 
 -- In edition 2015 there is no `::d`.
 pub old-edition : answers 16 (verdict (workspace 2015)) (ask 1 (definedItem 1 6) ∷ ask 4 (moduleItem 5) ∷ [])
     ≡ found (into (into (plain 7) 8) 9) ∷ found (plain 7) ∷ []
-unfolding answers ask head letter entry workspace upTo shortest shortestOf shorter byEnum variantAfter checkedPath arrives firstTo isItem reached onward single nameless added withMeaning isMet means itemIn reads after moduleNamed keywordModule above aboveOr within firsts preludeEntries scopesFrom entriesOver absolutes externsIn variantsIn entriesIn named namesIn seen counts bothHold declarationHolds declarationOf declarationIn declaredIn declaredAs declaredNs holds privately moduleAround blockStep ofRoot lastOr lastTo last metOr metTo met stepsOr stepsTo steps preludeOf firstOf select orFirst itemOf sameItem nsOf homeBy definitionOf crateData moduleOf mapOf rootOf ownMap crateRoot orElse containing placeOf verdict records stepAt recordStep finish argumentsFrom argumentsOf nameStep crateStep dependencyStep mapStep moduleStep childStep preludeStep definitionStep scopeStep importStep externStep memberStep textBound padded rows any all eqList
+unfolding answers ask head letter entry workspace upTo shortest shortestOf shorter byEnum variantAfter checkedPath arrives firstTo
+    isItem reached onward single nameless added withMeaning isMet means itemIn reads after moduleNamed keywordModule above aboveOr
+    within firsts preludeEntries scopesFrom entriesOver absolutes externsIn variantsIn entriesIn named namesIn seen counts bothHold
+    declarationHolds declarationOf declarationIn declaredIn declaredAs declaredNs holds privately moduleAround blockStep ofRoot
+    lastOr lastTo last metOr metTo met stepsOr stepsTo steps preludeOf firstOf select orFirst itemOf sameItem nsOf homeBy definitionOf
+    crateData moduleOf mapOf rootOf ownMap crateRoot orElse containing placeOf verdict records stepAt recordStep finish argumentsFrom
+    argumentsOf nameStep crateStep dependencyStep mapStep moduleStep childStep preludeStep definitionStep scopeStep importStep
+    externStep memberStep textBound padded rows any all eqList
 old-edition = refl
 
 -- The variant of four names, where three are allowed.
 pub too-long : answers 3 (verdict (workspace 2021)) (ask 4 (definedItem 1 13) ∷ ask 4 (definedItem 0 12) ∷ [])
     ≡ longer ∷ found (into (into (into (keyword crate) 0) 3) 13) ∷ []
-unfolding answers ask head letter entry workspace upTo shortest shortestOf shorter byEnum variantAfter checkedPath arrives firstTo isItem reached onward single nameless added withMeaning isMet means itemIn reads after moduleNamed keywordModule above aboveOr within firsts preludeEntries scopesFrom entriesOver absolutes externsIn variantsIn entriesIn named namesIn seen counts bothHold declarationHolds declarationOf declarationIn declaredIn declaredAs declaredNs holds privately moduleAround blockStep ofRoot lastOr lastTo last metOr metTo met stepsOr stepsTo steps preludeOf firstOf select orFirst itemOf sameItem nsOf homeBy definitionOf crateData moduleOf mapOf rootOf ownMap crateRoot orElse containing placeOf verdict records stepAt recordStep finish argumentsFrom argumentsOf nameStep crateStep dependencyStep mapStep moduleStep childStep preludeStep definitionStep scopeStep importStep externStep memberStep textBound padded rows any all eqList
+unfolding answers ask head letter entry workspace upTo shortest shortestOf shorter byEnum variantAfter checkedPath arrives firstTo
+    isItem reached onward single nameless added withMeaning isMet means itemIn reads after moduleNamed keywordModule above aboveOr
+    within firsts preludeEntries scopesFrom entriesOver absolutes externsIn variantsIn entriesIn named namesIn seen counts bothHold
+    declarationHolds declarationOf declarationIn declaredIn declaredAs declaredNs holds privately moduleAround blockStep ofRoot
+    lastOr lastTo last metOr metTo met stepsOr stepsTo steps preludeOf firstOf select orFirst itemOf sameItem nsOf homeBy definitionOf
+    crateData moduleOf mapOf rootOf ownMap crateRoot orElse containing placeOf verdict records stepAt recordStep finish argumentsFrom
+    argumentsOf nameStep crateStep dependencyStep mapStep moduleStep childStep preludeStep definitionStep scopeStep importStep
+    externStep memberStep textBound padded rows any all eqList
 too-long = refl
 
 pub readings : Verdict → List Path → List (Option Item)
@@ -151,7 +189,14 @@ pub block-readings : readings (verdict (workspace 2021))
     ∷ into (keyword (supers 2)) 0
     ∷ [])
     ≡ some (definedItem 1 6) ∷ some (definedItem 1 6) ∷ none ∷ none ∷ some (definedItem 1 13) ∷ none ∷ none ∷ []
-unfolding readings head letter entry workspace upTo shortest shortestOf shorter byEnum variantAfter checkedPath arrives firstTo isItem reached onward single nameless added withMeaning isMet means itemIn reads after moduleNamed keywordModule above aboveOr within firsts preludeEntries scopesFrom entriesOver absolutes externsIn variantsIn entriesIn named namesIn seen counts bothHold declarationHolds declarationOf declarationIn declaredIn declaredAs declaredNs holds privately moduleAround blockStep ofRoot lastOr lastTo last metOr metTo met stepsOr stepsTo steps preludeOf firstOf select orFirst itemOf sameItem nsOf homeBy definitionOf crateData moduleOf mapOf rootOf ownMap crateRoot orElse containing placeOf verdict records stepAt recordStep finish argumentsFrom argumentsOf nameStep crateStep dependencyStep mapStep moduleStep childStep preludeStep definitionStep scopeStep importStep externStep memberStep textBound padded rows any all eqList
+unfolding readings head letter entry workspace upTo shortest shortestOf shorter byEnum variantAfter checkedPath arrives firstTo
+    isItem reached onward single nameless added withMeaning isMet means itemIn reads after moduleNamed keywordModule above aboveOr
+    within firsts preludeEntries scopesFrom entriesOver absolutes externsIn variantsIn entriesIn named namesIn seen counts bothHold
+    declarationHolds declarationOf declarationIn declaredIn declaredAs declaredNs holds privately moduleAround blockStep ofRoot
+    lastOr lastTo last metOr metTo met stepsOr stepsTo steps preludeOf firstOf select orFirst itemOf sameItem nsOf homeBy definitionOf
+    crateData moduleOf mapOf rootOf ownMap crateRoot orElse containing placeOf verdict records stepAt recordStep finish argumentsFrom
+    argumentsOf nameStep crateStep dependencyStep mapStep moduleStep childStep preludeStep definitionStep scopeStep importStep
+    externStep memberStep textBound padded rows any all eqList
 block-readings = refl
 
 pub routes : Verdict → List Path → List (List ℕ)
@@ -160,7 +205,14 @@ routes (accept s) ps = map (routeOf s 1 1) ps
 
 -- The records by which `::d::h::f` is read: the extern and two entries.
 pub extern-route : routes (verdict (workspace 2021)) (into (into (absolute 7) 8) 9 ∷ []) ≡ (270 ∷ 214 ∷ 222 ∷ []) ∷ []
-unfolding routes routeOf placeIn head letter entry workspace upTo shortest shortestOf shorter byEnum variantAfter checkedPath arrives firstTo isItem reached onward single nameless added withMeaning isMet means itemIn reads after moduleNamed keywordModule above aboveOr within firsts preludeEntries scopesFrom entriesOver absolutes externsIn variantsIn entriesIn named namesIn seen counts bothHold declarationHolds declarationOf declarationIn declaredIn declaredAs declaredNs holds privately moduleAround blockStep ofRoot lastOr lastTo last metOr metTo met stepsOr stepsTo steps preludeOf firstOf select orFirst itemOf sameItem nsOf homeBy definitionOf crateData moduleOf mapOf rootOf ownMap crateRoot orElse containing placeOf verdict records stepAt recordStep finish argumentsFrom argumentsOf nameStep crateStep dependencyStep mapStep moduleStep childStep preludeStep definitionStep scopeStep importStep externStep memberStep textBound padded rows any all eqList
+unfolding routes routeOf placeIn head letter entry workspace upTo shortest shortestOf shorter byEnum variantAfter checkedPath
+    arrives firstTo isItem reached onward single nameless added withMeaning isMet means itemIn reads after moduleNamed keywordModule
+    above aboveOr within firsts preludeEntries scopesFrom entriesOver absolutes externsIn variantsIn entriesIn named namesIn seen
+    counts bothHold declarationHolds declarationOf declarationIn declaredIn declaredAs declaredNs holds privately moduleAround
+    blockStep ofRoot lastOr lastTo last metOr metTo met stepsOr stepsTo steps preludeOf firstOf select orFirst itemOf sameItem nsOf
+    homeBy definitionOf crateData moduleOf mapOf rootOf ownMap crateRoot orElse containing placeOf verdict records stepAt recordStep
+    finish argumentsFrom argumentsOf nameStep crateStep dependencyStep mapStep moduleStep childStep preludeStep definitionStep
+    scopeStep importStep externStep memberStep textBound padded rows any all eqList
 extern-route = refl
 
 unfoldable pub over : (ℕ → List ℕ) → ℕ → ℕ → List ℕ
@@ -177,9 +229,20 @@ nested =
 
 -- From the root the last module has sixteen names, the function seventeen; from the second module the function has sixteen.
 pub many-names : answers 16 (verdict nested) (ask 0 (moduleItem 16) ∷ ask 0 (definedItem 1 16) ∷ ask 1 (definedItem 1 16) ∷ [])
-    ≡ found (into (into (into (into (into (into (into (into (into (into (into (into (into (into (into (into (keyword (supers 0)) 0) 0) 0) 0) 0) 0) 0) 0) 0) 0) 0) 0) 0) 0) 0) 0)
+    ≡ found (into (into (into
+    (into (into (into (into (into (into (into (into (into (into (into (into (into (keyword (supers 0)) 0) 0) 0) 0) 0) 0) 0) 0) 0) 0) 0) 0) 0) 0)
+    0) 0)
     ∷ longer
-    ∷ found (into (into (into (into (into (into (into (into (into (into (into (into (into (into (into (into (keyword (supers 0)) 0) 0) 0) 0) 0) 0) 0) 0) 0) 0) 0) 0) 0) 0) 0) 1)
+    ∷ found (into (into (into
+    (into (into (into (into (into (into (into (into (into (into (into (into (into (keyword (supers 0)) 0) 0) 0) 0) 0) 0) 0) 0) 0) 0) 0) 0) 0) 0)
+    0) 1)
     ∷ []
-unfolding over nested answers ask head letter entry upTo shortest shortestOf shorter byEnum variantAfter checkedPath arrives firstTo isItem reached onward single nameless added withMeaning isMet means itemIn reads after moduleNamed keywordModule above aboveOr within firsts preludeEntries scopesFrom entriesOver absolutes externsIn variantsIn entriesIn named namesIn seen counts bothHold declarationHolds declarationOf declarationIn declaredIn declaredAs declaredNs holds privately moduleAround blockStep ofRoot lastOr lastTo last metOr metTo met stepsOr stepsTo steps preludeOf firstOf select orFirst itemOf sameItem nsOf homeBy definitionOf crateData moduleOf mapOf rootOf ownMap crateRoot orElse containing placeOf verdict records stepAt recordStep finish argumentsFrom argumentsOf nameStep crateStep dependencyStep mapStep moduleStep childStep preludeStep definitionStep scopeStep importStep externStep memberStep textBound padded rows any all eqList
+unfolding over nested answers ask head letter entry upTo shortest shortestOf shorter byEnum variantAfter checkedPath arrives firstTo
+    isItem reached onward single nameless added withMeaning isMet means itemIn reads after moduleNamed keywordModule above aboveOr
+    within firsts preludeEntries scopesFrom entriesOver absolutes externsIn variantsIn entriesIn named namesIn seen counts bothHold
+    declarationHolds declarationOf declarationIn declaredIn declaredAs declaredNs holds privately moduleAround blockStep ofRoot
+    lastOr lastTo last metOr metTo met stepsOr stepsTo steps preludeOf firstOf select orFirst itemOf sameItem nsOf homeBy definitionOf
+    crateData moduleOf mapOf rootOf ownMap crateRoot orElse containing placeOf verdict records stepAt recordStep finish argumentsFrom
+    argumentsOf nameStep crateStep dependencyStep mapStep moduleStep childStep preludeStep definitionStep scopeStep importStep
+    externStep memberStep textBound padded rows any all eqList
 many-names = refl

@@ -6,14 +6,13 @@ use mathlib.Core.Option.{Option, none, some}
 use lib.Dec.{eqb, ltb, leb}
 use lib.ListN.{length}
 use Rattle.snapshot.specs.Lists.{any, rows}
-use Rattle.snapshot.specs.Limits.{moduleLimit}
 use Rattle.snapshot.specs.Records.{Snapshot}
 use Rattle.hir_def.specs.Finds.{firstOf, orFirst}
 use Rattle.hir_def.specs.Items.{types, definitionOf, nsOf, sameItem, definedItem}
 use Rattle.hir_def.specs.declared.Item.{Item}
 use Rattle.hir_def.specs.declared.Item.the-variants.{Mod, Def}
 use Rattle.nameable.specs.Seen.{isVariant}
-use Rattle.nameable.specs.Paths.{Keyword, supers, crate, Path, keyword, absolute, plain, into, namesIn, Named, entriesIn, absolutes, firsts, means}
+use Rattle.nameable.specs.Paths.{Keyword, supers, crate, Path, keyword, absolute, plain, into, namesIn, entriesIn, absolutes, firsts, means}
 
 -- a module and a path to it
 pub record Way : Type 0 where

@@ -1,6 +1,6 @@
 -- The modules reached, taken up one after the other in the order in which they were reached: how a program goes over them.
 use Prim.Native.Nat.{ℕ, zero, suc, _+_}
-use mathlib.Core.List.{List, [], _∷_, map}
+use mathlib.Core.List.{List, [], map}
 use mathlib.Core.Bool.{Bool, true, false, _&&_}
 use mathlib.Core.Option.{Option}
 use lib.Dec.{ltb}

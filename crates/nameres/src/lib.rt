@@ -34,7 +34,8 @@ pub fn scope_entry(
     fresh: bool,
 ) -> Entry
     requires { ⌜ Reads (now words) (now area) l × (from .0 < l .modules) ⌝ }
-    ensures { λ r. ⌜ entryOf scopeAt (now (words .entry)) r ≡ scopeEntry (snapOf (now (words .entry)) (now (area .entry)) l) (from .0) item «declared_only» fresh ⌝ }
+    ensures { λ r. ⌜ entryOf scopeAt (now (words .entry)) r ≡ scopeEntry (snapOf (now (words .entry)) (now (area .entry)) l)
+        (from .0) item «declared_only» fresh ⌝ }
 {
     let mut m = from;
     loop {
@@ -59,7 +60,8 @@ pub fn entry_named(
     name: Name,
 ) -> Entry
     requires { ⌜ Reads (now words) (now area) l × (from .0 < l .modules) ⌝ }
-    ensures { λ r. ⌜ entryOf scopeAt (now (words .entry)) r ≡ entryNamed (snapOf (now (words .entry)) (now (area .entry)) l) (from .0) ns (name .0) ⌝ }
+    ensures { λ r. ⌜ entryOf scopeAt (now (words .entry)) r ≡ entryNamed (snapOf (now (words .entry)) (now (area .entry)) l)
+        (from .0) ns (name .0) ⌝ }
 {
     let mut m = from;
     loop {

@@ -74,7 +74,8 @@ numbers-large W X A B r h n k =
           let l = accepted-valid X t q .limits in
           record {
             names = λ j u. List·getD-append B (drop areaLimit A) 0 (nameTable + j) (omega (arith, u, n, l .names)) ∙ i .names j u;
-            definitions = λ j u. List·getD-append B (drop areaLimit A) 0 (definitionTable + j) (omega (arith, u, n, l .definitions)) ∙ i .definitions j u;
+            definitions = λ j u. List·getD-append B (drop areaLimit A) 0 (definitionTable + j) (omega (arith, u, n, l .definitions))
+                ∙ i .definitions j u;
           }
           );
       cleared = λ z. area-large A B h (k .cleared (λ e. z ((rw (numbersFault, le-ltb _ _ h)) ∙ e)));

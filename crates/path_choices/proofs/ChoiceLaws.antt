@@ -16,7 +16,8 @@ use Rattle.snapshot.proofs.Laws.{past}
 use Rattle.accept.specs.Post.{Reads}
 use Rattle.path_choices.specs.declared.Choice.{Choice}
 use Rattle.path_choices.proofs.Names.{name-read}
-use Rattle.path_choices.specs.Choices.{nameLen, isPrelude, pathKindLen, pathLen, keyword, choiceNew, extended, push, trySelect, compareBool, andThen, comparePrelude, taken, better, shorterIf, lengthLeft}
+use Rattle.path_choices.specs.Choices.{nameLen, isPrelude, pathKindLen, pathLen, keyword, choiceNew, extended, push, trySelect, compareBool}
+use Rattle.path_choices.specs.Choices.{andThen, comparePrelude, taken, better, shorterIf, lengthLeft}
 
 -- the branch of a test
 module _ {A : Type 0} (a b : A) where
@@ -38,7 +39,8 @@ module _ (W A : List ℕ) (l : Layout) (r : Reads W A l) (n : ℕ) (h : n < l .n
       seven : eqList (rows f 0 (wordsOf 7)) (0x657270 ∷ 0x64756C ∷ 0x65 ∷ []) ≡ (eqb (f 0) 0x657270 && (eqb (f 1) 0x64756C && eqb (f 2) 0x65))
       seven = ap (λ x. eqb (f 0) 0x657270 && (eqb (f 1) 0x64756C && x)) (and-true (eqb (f 2) 0x65))
 
-      by : (t : Bool) → eqb b 7 ≡ t → (t && (eqb (f 0) 0x657270 && (eqb (f 1) 0x64756C && eqb (f 2) 0x65))) ≡ (t && eqList (rows f 0 (wordsOf b)) (0x657270 ∷ 0x64756C ∷ 0x65 ∷ []))
+      by : (t : Bool) → eqb b 7 ≡ t → (t && (eqb (f 0) 0x657270 && (eqb (f 1) 0x64756C && eqb (f 2) 0x65)))
+          ≡ (t && eqList (rows f 0 (wordsOf b)) (0x657270 ∷ 0x64756C ∷ 0x65 ∷ []))
       by true e = sym (ap (λ x. eqList (rows f 0 (wordsOf x)) (0x657270 ∷ 0x64756C ∷ 0x65 ∷ [])) (eqb-true b 7 e) ∙ seven)
       by false e = refl
 
@@ -50,8 +52,10 @@ module _ (W A : List ℕ) (l : Layout) (r : Reads W A l) (n : ℕ) (h : n < l .n
       let a : nameHead A n + 1 ≡ nameHead A n + 1 + 0 = omega arith in
       let b : nameHead A n + 2 ≡ nameHead A n + 1 + 1 = omega arith in
       let c : nameHead A n + 3 ≡ nameHead A n + 1 + 2 = omega arith in
-      ap (λ x. eqb (payOf (getD W (nameHead A n) 0)) 7 && (eqb (getD W x 0) 0x657270 && (eqb (getD W (nameHead A n + 2) 0) 0x64756C && eqb (getD W (nameHead A n + 3) 0) 0x65))) a
-      ∙ ap₂ (λ x y. eqb (payOf (getD W (nameHead A n) 0)) 7 && (eqb (getD W (nameHead A n + 1 + 0) 0) 0x657270 && (eqb (getD W x 0) 0x64756C && eqb (getD W y 0) 0x65))) b c
+      ap (λ x. eqb (payOf (getD W (nameHead A n) 0)) 7 &&
+      (eqb (getD W x 0) 0x657270 && (eqb (getD W (nameHead A n + 2) 0) 0x64756C && eqb (getD W (nameHead A n + 3) 0) 0x65))) a
+      ∙ ap₂ (λ x y. eqb (payOf (getD W (nameHead A n) 0)) 7 && (eqb (getD W (nameHead A n + 1 + 0) 0) 0x657270 &&
+      (eqb (getD W x 0) 0x64756C && eqb (getD W y 0) 0x65))) b c
       ∙ three (payOf (getD W (nameHead A n) 0)) (λ i. getD W (nameHead A n + 1 + i) 0)
       ∙ ap (λ x. eqb (x .bytes) 7 && eqList (x .text) (0x657270 ∷ 0x64756C ∷ 0x65 ∷ [])) (name-read W A l r n h)
 
@@ -122,7 +126,8 @@ better-same s p cur oth n {a} {b} {k} ea eb ek =
     let r = ltb (oth .«path_text_len» + k) (cur .«path_text_len») in
     let o = compare a (b + 1) in
     ap (λ z. byFlags (oth .stable) (cur .stable) (byFlags x y z)) (by-order o r)
-    ∙ ap (byFlags (oth .stable) (cur .stable)) (by-flags x y o r ∙ ap (λ z. taken (andThen z o) r) (sym (by-prefer p (cur .«has_prelude_segment») (oth .«has_prelude_segment»))))
+    ∙ ap (byFlags (oth .stable) (cur .stable)) (by-flags x y o r ∙ ap (λ z. taken (andThen z o) r)
+    (sym (by-prefer p (cur .«has_prelude_segment») (oth .«has_prelude_segment»))))
     ∙ by-flags (oth .stable) (cur .stable) (andThen (comparePrelude p (cur .«has_prelude_segment») (oth .«has_prelude_segment»)) o) r
     ∙ cc
 
@@ -142,19 +147,63 @@ left-more left n c e f h = sym (ap₂ (λ b m. shorterIf b left m) e (sym f) ∙
 
 pub keyword-same : (k : ℕ) {t : ℕ} → t ≡ pathKindLen k
     → _≡_ {A = Choice}
-    (record { found = true; kind = k; names = replicate 16 0; count = 0; «path_text_len» = t; stable = true; «has_prelude_segment» = false; route = set (replicate 17 0) 0 4; steps = 1 })
+    (record {
+      found = true;
+      kind = k;
+      names = replicate 16 0;
+      count = 0;
+      «path_text_len» = t;
+      stable = true;
+      «has_prelude_segment» =
+          false;
+      route = set (replicate 17 0) 0 4;
+      steps = 1;
+    })
     (keyword k)
 unfolding keyword
 keyword-same k e =
-    λ i. record { found = true; kind = k; names = replicate 16 0; count = 0; «path_text_len» = e i; stable = true; «has_prelude_segment» = false; route = set (replicate 17 0) 0 4; steps = 1 }
+    λ i. record {
+      found = true;
+      kind = k;
+      names = replicate 16 0;
+      count = 0;
+      «path_text_len» = e i;
+      stable = true;
+      «has_prelude_segment» =
+          false;
+      route = set (replicate 17 0) 0 4;
+      steps = 1;
+    }
 
 pub new-same : (s : Snapshot) (k n via : ℕ) {t : ℕ} {b : Bool} → t ≡ pathKindLen k + nameLen s n → b ≡ isPrelude s n
     → _≡_ {A = Choice}
-    (record { found = true; kind = k; names = set (replicate 16 0) 0 n; count = 1; «path_text_len» = t; stable = true; «has_prelude_segment» = b; route = set (replicate 17 0) 0 via; steps = 1 })
+    (record {
+      found = true;
+      kind = k;
+      names = set (replicate 16 0) 0 n;
+      count = 1;
+      «path_text_len» = t;
+      stable =
+          true;
+      «has_prelude_segment» = b;
+      route = set (replicate 17 0) 0 via;
+      steps = 1;
+    })
     (choiceNew s k n via)
 unfolding choiceNew
 new-same s k n via e f =
-    λ i. record { found = true; kind = k; names = set (replicate 16 0) 0 n; count = 1; «path_text_len» = e i; stable = true; «has_prelude_segment» = f i; route = set (replicate 17 0) 0 via; steps = 1 }
+    λ i. record {
+      found = true;
+      kind = k;
+      names = set (replicate 16 0) 0 n;
+      count = 1;
+      «path_text_len» = e i;
+      stable =
+          true;
+      «has_prelude_segment» = f i;
+      route = set (replicate 17 0) 0 via;
+      steps = 1;
+    }
 
 pub extended-same : (s : Snapshot) (c : Choice) (n via : ℕ) (b : Bool) {t : ℕ} → t ≡ c .«path_text_len» + nameLen s n
     → _≡_ {A = Choice}

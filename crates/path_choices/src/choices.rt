@@ -4,7 +4,9 @@ ghost use Prim.Native.Nat.{_+_, _-_, _≤_, _<_, _^_};
 ghost use Rattle.snapshot.specs.Limits.{wordLimit};
 ghost use Rattle.snapshot.specs.Layouts.{snapOf};
 ghost use Rattle.accept.specs.Post.{Reads};
-ghost use Rattle.path_choices.specs.Choices.{nameLen, isPrelude, pathKindLen, pathLen, stepBy, nothing as nothingOf, keyword as keywordOf, choiceNew, extended as extendedOf, push as pushOf, unstably as unstablyOf, better as betterOf, trySelect, lengthLeft};
+ghost use Rattle.path_choices.specs.Choices.{nameLen, isPrelude, pathKindLen, pathLen, stepBy, nothing as nothingOf, keyword as keywordOf};
+ghost use Rattle.path_choices.specs.Choices.{choiceNew, extended as extendedOf, push as pushOf, unstably as unstablyOf, better as betterOf};
+ghost use Rattle.path_choices.specs.Choices.{trySelect, lengthLeft};
 use crate::Choice;
 use snapshot::ids::Name;
 use snapshot::layout::Layout;
@@ -147,7 +149,8 @@ fn better(
     other: Choice,
     n: Name,
 ) -> bool
-    requires { ⌜ Reads (now words) (now area) l × (n .0 < l .names) × (current .count < 2 ^ 32) × (other .count < 2 ^ 32) × (other .«path_text_len» < 2 ^ 32) ⌝ }
+    requires { ⌜ Reads (now words) (now area) l × (n .0 < l .names) × (current .count < 2 ^ 32) × (other .count < 2 ^ 32)
+        × (other .«path_text_len» < 2 ^ 32) ⌝ }
     ensures { λ r. ⌜ r ≡ betterOf (snapOf (now (words .entry)) (now (area .entry)) l) prefer current other (n .0) ⌝ }
 {
     let a = path_len(current);
@@ -197,7 +200,8 @@ impl Choice {
         via: usize,
         flag: bool,
     ) -> Choice
-        requires { ⌜ Reads (now words) (now area) l × (n .0 < l .names) × (self .count < 16) × (self .«path_text_len» < 2 ^ 32) × (self .steps < 17) ⌝ }
+        requires { ⌜ Reads (now words) (now area) l × (n .0 < l .names) × (self .count < 16) × (self .«path_text_len» < 2 ^ 32)
+            × (self .steps < 17) ⌝ }
         ensures { λ r. ⌜ r ≡ extendedOf (snapOf (now (words .entry)) (now (area .entry)) l) self (n .0) via flag ⌝ }
     {
         let count = self.count;
@@ -222,7 +226,8 @@ impl Choice {
 
     /// One name more, by a step.
     pub fn push(self, words: &[u32], area: &[u32], l: Layout, n: Name, via: usize) -> Choice
-        requires { ⌜ Reads (now words) (now area) l × (n .0 < l .names) × (self .count < 16) × (self .«path_text_len» < 2 ^ 32) × (self .steps < 17) ⌝ }
+        requires { ⌜ Reads (now words) (now area) l × (n .0 < l .names) × (self .count < 16) × (self .«path_text_len» < 2 ^ 32)
+            × (self .steps < 17) ⌝ }
         ensures { λ r. ⌜ r ≡ pushOf (snapOf (now (words .entry)) (now (area .entry)) l) self (n .0) via ⌝ }
     {
         let flag = is_prelude(words, area, l, n);
@@ -240,7 +245,8 @@ impl Choice {
         n: Name,
         via: usize,
     ) -> Choice
-        requires { ⌜ Reads (now words) (now area) l × (n .0 < l .names) × (self .count < 2 ^ 32) × (other .count < 16) × (other .«path_text_len» < 2 ^ 32) × (other .steps < 17) ⌝ }
+        requires { ⌜ Reads (now words) (now area) l × (n .0 < l .names) × (self .count < 2 ^ 32) × (other .count < 16)
+            × (other .«path_text_len» < 2 ^ 32) × (other .steps < 17) ⌝ }
         ensures { λ r. ⌜ r ≡ trySelect (snapOf (now (words .entry)) (now (area .entry)) l) prefer self other (n .0) via ⌝ }
     {
         if !self.found {

@@ -18,7 +18,8 @@ use Rattle.find_path.specs.Meters.{go, stop, drained, draw, fromTank}
 module _ (s : Snapshot) (q : Query) (home : ℕ) {i a b z b₁ b₂ b₃ b₄ b₅ b₆ : Bool} {p c d r o : ℕ} where
   pub context-same : o ≡ moduleIn (itemOf s (q .ns) (q .definition .0)) → i ≡ inBlock s home → p ≡ plainIf i (q .prefix) → c ≡ crateOf s (q .from .0)
       → a ≡ eqb (mapOf s (mapNo s (q .from .0)) .noStd) 1 → b ≡ eqb (crateData s c .noStd) 1
-      → b₁ ≡ bit (q .options) 1 → b₂ ≡ bit (q .options) 2 → b₃ ≡ bit (q .options) 4 → b₄ ≡ bit (q .options) 8 → b₅ ≡ bit (q .options) 16 → b₆ ≡ bit (q .options) 32
+      → b₁ ≡ bit (q .options) 1 → b₂ ≡ bit (q .options) 2 → b₃ ≡ bit (q .options) 4 → b₄ ≡ bit (q .options) 8 → b₅ ≡ bit (q .options) 16
+      → b₆ ≡ bit (q .options) 32
       → d ≡ crateOf s home → z ≡ isLang s d → r ≡ crateRoot s (q .from .0)
       → _≡_ {A = FindPathCtx}
       (record {

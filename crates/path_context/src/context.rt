@@ -74,7 +74,8 @@ pub fn context(
     home: ModuleId,
     own: usize,
 ) -> FindPathCtx
-    requires { ⌜ Reads (now words) (now area) l × (q .from .0 < l .modules) × (home .0 < l .modules) × (own ≡ moduleIn (itemOf (snapOf (now words) (now area) l) (q .ns) (q .definition .0))) ⌝ }
+    requires { ⌜ Reads (now words) (now area) l × (q .from .0 < l .modules) × (home .0 < l .modules)
+        × (own ≡ moduleIn (itemOf (snapOf (now words) (now area) l) (q .ns) (q .definition .0))) ⌝ }
     ensures { λ r. ⌜ r ≡ contextOf (snapOf (now (words .entry)) (now (area .entry)) l) q (home .0) ⌝ }
 {
     let options = q.options;
@@ -110,7 +111,8 @@ pub fn context(
 
 /// Whether the viewer sees the entry with its head at a place.
 pub fn sees(words: &[u32], area: &[u32], l: Layout, x: FindPathCtx, h: usize) -> bool
-    requires { ⌜ Reads (now words) (now area) l × (x .from .0 < l .modules) × (2 ≤ scopeAt (now words) h .visibility → scopeAt (now words) h .number < l .modules) ⌝ }
+    requires { ⌜ Reads (now words) (now area) l × (x .from .0 < l .modules) × (2 ≤ scopeAt (now words) h .visibility
+        → scopeAt (now words) h .number < l .modules) ⌝ }
     ensures { λ r. ⌜ r ≡ seesOf (snapOf (now (words .entry)) (now (area .entry)) l) (x .from .0) (scopeAt (now (words .entry)) h) ⌝ }
 {
     let kind = scope_visibility(words, h);

@@ -15,8 +15,12 @@ use Rattle.path_choices.proofs.ChoiceLaws.{taken-true, taken-false}
 pub unstably-fits : (c : Choice) {d : Choice} → d ≡ unstably c → c .count < 16 → c .«path_text_len» < 2 ^ 32 → c .steps < 17
     → (d .count < 16) × (d .«path_text_len» < 2 ^ 32) × (d .steps < 17)
 unfolding unstably
-unstably-fits c e h k l =
-    (subst (λ (z : Choice). z .count < 16) (sym e) h, subst (λ (z : Choice). z .«path_text_len» < 2 ^ 32) (sym e) k, subst (λ (z : Choice). z .steps < 17) (sym e) l)
+unstably-fits c e h k l = (
+  subst (λ (z : Choice). z .count < 16) (sym e) h,
+  subst (λ (z : Choice). z .«path_text_len» < 2 ^ 32) (sym e) k,
+  subst
+      (λ (z : Choice). z .steps < 17) (sym e) l,
+)
 
 module _ (s : Snapshot) (x : FindPathCtx) where
   -- an entry, where it can be imported

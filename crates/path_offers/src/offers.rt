@@ -41,7 +41,9 @@ fn entry_for(
     m: ModuleId,
 ) -> Entry
     requires { ⌜ Reads (now words) (now area) l × (x .from .0 < l .modules) × (m .0 < l .modules) × Indexed (now words) l 0 (now area) ⌝ }
-    ensures { λ r. ⌜ entryOf scopeAt (now (words .entry)) r ≡ preferred (x .fresh) (snapOf (now (words .entry)) (now (area .entry)) l) (m .0) item (isImportable (snapOf (now (words .entry)) (now (area .entry)) l) x) (nameOf (snapOf (now (words .entry)) (now (area .entry)) l) (m .0) item) ⌝ }
+    ensures { λ r. ⌜ entryOf scopeAt (now (words .entry)) r ≡ preferred (x .fresh) (snapOf (now (words .entry)) (now (area .entry)) l)
+        (m .0) item (isImportable (snapOf (now (words .entry)) (now (area .entry)) l) x)
+        (nameOf (snapOf (now (words .entry)) (now (area .entry)) l) (m .0) item) ⌝ }
 {
     if x.fresh {
         return entry_by(words, area, l, x, m, item, Rule::Local).entry;
@@ -60,7 +62,8 @@ pub fn importable_name(
     m: ModuleId,
 ) -> Entry
     requires { ⌜ Reads (now words) (now area) l × (x .from .0 < l .modules) × (m .0 < l .modules) × Indexed (now words) l 0 (now area) ⌝ }
-    ensures { λ r. ⌜ (entryOf scopeAt (now (words .entry)) r ≡ importableName (snapOf (now (words .entry)) (now (area .entry)) l) x item (m .0)) × EntryFits (now (words .entry)) l r ⌝ }
+    ensures { λ r. ⌜ (entryOf scopeAt (now (words .entry)) r ≡ importableName (snapOf (now (words .entry)) (now (area .entry)) l) x item (m .0))
+        × EntryFits (now (words .entry)) l r ⌝ }
 {
     let e = entry_for(words, area, l, x, item, m);
     let Entry::At(h) = e else {
@@ -83,7 +86,8 @@ fn offer(
     n: Name,
     via: usize,
 ) -> Choice
-    requires { ⌜ Reads (now words) (now area) l × (n .0 < l .names) × (best .count < 2 ^ 32) × (c .count < 16) × (c .«path_text_len» < 2 ^ 32) × (c .steps < 17) ⌝ }
+    requires { ⌜ Reads (now words) (now area) l × (n .0 < l .names) × (best .count < 2 ^ 32) × (c .count < 16)
+        × (c .«path_text_len» < 2 ^ 32) × (c .steps < 17) ⌝ }
     ensures { λ r. ⌜ r ≡ offerOf (snapOf (now (words .entry)) (now (area .entry)) l) x best c (n .0) via ⌝ }
 {
     if !c.found {
@@ -102,7 +106,8 @@ pub fn offer_entry(
     c: Choice,
     h: usize,
 ) -> Choice
-    requires { ⌜ Reads (now words) (now area) l × ScopeFits (countsIn l) (scopeAt (now words) h) × (best .count < 2 ^ 32) × (c .count < 16) × (c .«path_text_len» < 2 ^ 32) × (c .steps < 17) ⌝ }
+    requires { ⌜ Reads (now words) (now area) l × ScopeFits (countsIn l) (scopeAt (now words) h) × (best .count < 2 ^ 32)
+        × (c .count < 16) × (c .«path_text_len» < 2 ^ 32) × (c .steps < 17) ⌝ }
     ensures { λ r. ⌜ r ≡ offerEntry (snapOf (now (words .entry)) (now (area .entry)) l) x best c (scopeAt (now (words .entry)) h) ⌝ }
 {
     let n = scope_name(words, h);
@@ -120,7 +125,8 @@ pub fn offer_import(
     c: Choice,
     h: usize,
 ) -> Choice
-    requires { ⌜ Reads (now words) (now area) l × ImportFits (countsIn l) (importAt (now words) h) × (best .count < 2 ^ 32) × (c .count < 16) × (c .«path_text_len» < 2 ^ 32) × (c .steps < 17) ⌝ }
+    requires { ⌜ Reads (now words) (now area) l × ImportFits (countsIn l) (importAt (now words) h) × (best .count < 2 ^ 32)
+        × (c .count < 16) × (c .«path_text_len» < 2 ^ 32) × (c .steps < 17) ⌝ }
     ensures { λ r. ⌜ r ≡ offerImport (snapOf (now (words .entry)) (now (area .entry)) l) x best c (importAt (now (words .entry)) h) ⌝ }
 {
     let via = step_by(StepRule::IMPORT, h);

@@ -1,5 +1,5 @@
 -- Laws of the rules, for the code.
-use Prim.Native.Nat.{ℕ, zero, suc, _+_, _≤_}
+use Prim.Native.Nat.{ℕ, zero, suc, _≤_}
 use mathlib.Core.Path.{_≡_, refl, sym, _∙_, ap, ap₂}
 use mathlib.Core.List.{List, [], _∷_}
 use mathlib.Core.Bool.{Bool, true, false, _||_, not}
@@ -32,7 +32,8 @@ use Rattle.find_path.specs.declared.KwKind.the-variants.{Kw, NoKw}
 use Rattle.find_path.specs.declared.FindPathCtx.{FindPathCtx}
 use Rattle.path_choices.specs.Choices.{viaScope, viaExtern, stepBy, nothing, keyword, choiceNew}
 use Rattle.find_path.specs.Conditions.{EntryFits}
-use Rattle.find_path.specs.Rules.{prefixPathKind, firstFound, single, findInScope, mayBeInScope, scopeRule, isUsable, preludeEntry, inPrelude, findInPrelude, externKind, externName, rootRule, parentKind, keywordKind, isKwKindRelativeToFrom, keywordOf}
+use Rattle.find_path.specs.Rules.{prefixPathKind, firstFound, single, findInScope, mayBeInScope, scopeRule, isUsable, preludeEntry, inPrelude}
+use Rattle.find_path.specs.Rules.{findInPrelude, externKind, externName, rootRule, parentKind, keywordKind, isKwKindRelativeToFrom, keywordOf}
 use Rattle.path_choices.proofs.ChoiceLaws.{taken-true, taken-false}
 
 pub prefix-past : (p : ℕ) → 3 ≤ p → 0 ≡ prefixPathKind p
@@ -55,7 +56,8 @@ single-last s x k rule none = refl
 single-last s x k rule (some e) = refl
 
 -- what is found in one of several places
-some-first : {A B : Type 0} {P : B → Type 0} (f : A → Option B) → ((x : A) (y : B) → f x ≡ some y → P y) → (xs : List A) (y : B) → firstSome f xs ≡ some y → P y
+some-first : {A B : Type 0} {P : B → Type 0} (f : A → Option B) → ((x : A) (y : B) → f x ≡ some y → P y) → (xs : List A) (y : B)
+    → firstSome f xs ≡ some y → P y
 unfolding firstSome
 some-first f g [] y e = let z : _≡_ {A = ℕ} 0 1 = cc in absurd (omega arith)
 some-first {A} {B} {P} f g (x ∷ xs) y e = by (f x) refl (λ k. some-first f g xs y k) e
@@ -110,7 +112,8 @@ module _ (s : Snapshot) (x : FindPathCtx) where
       → o ≡ preferred (x .fresh) s t item (isUsable s x item) (nameOf s t item) → preludeEntry s x item o ≡ findInPrelude s x item
   unfolding findInPrelude inPrelude
   prelude-some item p e f g h =
-      ap (preludeEntry s x item) (h ∙ ap (λ t. preferred (x .fresh) s t item (isUsable s x item) (nameOf s t item)) g) ∙ ap (inPrelude s x item) (f ∙ ap (preludeOf s) e)
+      ap (preludeEntry s x item) (h ∙ ap (λ t. preferred (x .fresh) s t item (isUsable s x item) (nameOf s t item)) g)
+      ∙ ap (inPrelude s x item) (f ∙ ap (preludeOf s) e)
 
   -- an extern's name
   pub extern-some : (m : ℕ) (e : Extern) {n via : ℕ} {o : Bool} (t : Bool) → n ≡ e .name → via ≡ stepBy viaExtern (e .place)
@@ -132,10 +135,12 @@ module _ (s : Snapshot) (x : FindPathCtx) where
     unfolding rootRule
     root-crate e t = taken-true (keyword 3) _ (not b || eqb m (x .«crate_root» .0)) t ∙ taken-true _ nothing (eqb (crateRoot s m) m) (at-root e)
 
-    pub root-extern : r ≡ m → not b || eqb m (x .«crate_root» .0) ≡ false → {o : Option Extern} → o ≡ externOf s (x .«from_crate» .0) m → externName s x m o ≡ rootRule s x b m
+    pub root-extern : r ≡ m → not b || eqb m (x .«crate_root» .0) ≡ false → {o : Option Extern} → o ≡ externOf s (x .«from_crate» .0) m
+        → externName s x m o ≡ rootRule s x b m
     unfolding rootRule
     root-extern e t eo =
-        ap (externName s x m) eo ∙ taken-false (keyword 3) _ (not b || eqb m (x .«crate_root» .0)) t ∙ taken-true _ nothing (eqb (crateRoot s m) m) (at-root e)
+        ap (externName s x m) eo ∙ taken-false (keyword 3) _ (not b || eqb m (x .«crate_root» .0)) t
+        ∙ taken-true _ nothing (eqb (crateRoot s m) m) (at-root e)
 
   pub parent-none : (m p : ℕ) → p ≡ 0 → none ≡ parentKind s x m p
   unfolding parentKind
@@ -165,7 +170,8 @@ module _ (s : Snapshot) (x : FindPathCtx) where
         let same : m ≡ q = omega arith in
         taken-false (some 3) (some 2) _ (ne-eqb q _ (λ z. f (same ∙ z ∙ sym rooted))) ∙ taken-true _ none (eqb m q) (eq-eqb m q same)
 
-  module _ (m : ℕ) {c d : ℕ} {a b : Bool} (ec : c ≡ crateOf s m) (ed : d ≡ crateOf s (x .from .0)) (ea : a ≡ inBlock s m) (eb : b ≡ inBlock s (x .from .0)) where
+  module _ (m : ℕ) {c d : ℕ} {a b : Bool} (ec : c ≡ crateOf s m) (ed : d ≡ crateOf s (x .from .0)) (ea : a ≡ inBlock s m)
+      (eb : b ≡ inBlock s (x .from .0)) where
     apart : not (eqb c d) || (a || b) ≡ (not (eqb (crateOf s m) (crateOf s (x .from .0))) || (inBlock s m || inBlock s (x .from .0)))
     apart = cc
 
@@ -177,7 +183,8 @@ module _ (s : Snapshot) (x : FindPathCtx) where
     unfolding isKwKindRelativeToFrom
     kw-self t e = taken-true (some 1) _ (eqb m (x .from .0)) (eq-eqb m _ e) ∙ taken-false none _ _ (sym apart ∙ t)
 
-    pub kw-parent : not (eqb c d) || (a || b) ≡ false → (m ≡ x .from .0 → ⊥) → parentKind s x m (parentOf s (x .from .0)) ≡ isKwKindRelativeToFrom s x m
+    pub kw-parent : not (eqb c d) || (a || b) ≡ false → (m ≡ x .from .0 → ⊥) → parentKind s x m (parentOf s (x .from .0))
+        ≡ isKwKindRelativeToFrom s x m
     unfolding isKwKindRelativeToFrom
     kw-parent t e = taken-false (some 1) _ (eqb m (x .from .0)) (ne-eqb m _ e) ∙ taken-false none _ _ (sym apart ∙ t)
 

@@ -11,7 +11,8 @@ ghost use Rattle.hir_def.specs.Entries.{entryOf};
 ghost use Rattle.hir_def.specs.declared.Entry.the-variants.{At};
 ghost use Rattle.find_path.specs.declared.FindPathCtx.{FindPathCtx};
 ghost use Rattle.find_path.specs.Conditions.{EntryFits};
-ghost use Rattle.find_path.specs.Rules.{prefixPathKind, single as singleOf, findInScope, mayBeInScope, scopeRule, preludeEntry, findInPrelude, preludeRule, externName, rootRule, parentKind, keywordKind, isKwKindRelativeToFrom, keywordOf, moduleRules};
+ghost use Rattle.find_path.specs.Rules.{prefixPathKind, single as singleOf, findInScope, mayBeInScope, scopeRule, preludeEntry, findInPrelude};
+ghost use Rattle.find_path.specs.Rules.{preludeRule, externName, rootRule, parentKind, keywordKind, isKwKindRelativeToFrom, keywordOf, moduleRules};
 use crate::choices::StepRule;
 use crate::choices::keyword;
 use crate::choices::nothing;
@@ -59,7 +60,8 @@ fn prefix_path_kind(prefix: usize) -> usize
 // The single name of an entry, by a rule, or nothing.
 fn single(words: &[u32], area: &[u32], l: Layout, kind: usize, rule: usize, e: Entry) -> Choice
     requires { ⌜ Reads (now words) (now area) l × (rule ≤ 7) × EntryFits (now words) l e ⌝ }
-    ensures { λ r. ⌜ ((x : FindPathCtx) → r ≡ singleOf (snapOf (now (words .entry)) (now (area .entry)) l) x kind rule (entryOf scopeAt (now (words .entry)) e)) ⌝ }
+    ensures { λ r. ⌜ ((x : FindPathCtx) → r ≡ singleOf (snapOf (now (words .entry)) (now (area .entry)) l) x kind rule
+        (entryOf scopeAt (now (words .entry)) e)) ⌝ }
 {
     let Entry::At(h) = e else {
         return nothing();
@@ -71,7 +73,8 @@ fn single(words: &[u32], area: &[u32], l: Layout, kind: usize, rule: usize, e: E
 /// The item's entry in the viewing module, or around its blocks.
 pub fn find_in_scope(words: &[u32], area: &[u32], l: Layout, x: FindPathCtx, item: Item) -> Entry
     requires { ⌜ Reads (now words) (now area) l × (x .from .0 < l .modules) ⌝ }
-    ensures { λ r. ⌜ (entryOf scopeAt (now (words .entry)) r ≡ findInScope (snapOf (now (words .entry)) (now (area .entry)) l) x item) × EntryFits (now (words .entry)) l r ⌝ }
+    ensures { λ r. ⌜ (entryOf scopeAt (now (words .entry)) r ≡ findInScope (snapOf (now (words .entry)) (now (area .entry)) l) x item)
+        × EntryFits (now (words .entry)) l r ⌝ }
 {
     scope_entry(
         words,
@@ -119,8 +122,10 @@ fn prelude_entry(
     item: Item,
     e: Entry,
 ) -> Entry
-    requires { ⌜ Reads (now words) (now area) l × (x .from .0 < l .modules) × ((h : ℕ) → e ≡ At h → ScopeFits (countsIn l) (scopeAt (now words) h)) ⌝ }
-    ensures { λ r. ⌜ (entryOf scopeAt (now (words .entry)) r ≡ preludeEntry (snapOf (now (words .entry)) (now (area .entry)) l) x item (entryOf scopeAt (now (words .entry)) e)) × EntryFits (now (words .entry)) l r ⌝ }
+    requires { ⌜ Reads (now words) (now area) l × (x .from .0 < l .modules)
+        × ((h : ℕ) → e ≡ At h → ScopeFits (countsIn l) (scopeAt (now words) h)) ⌝ }
+    ensures { λ r. ⌜ (entryOf scopeAt (now (words .entry)) r ≡ preludeEntry (snapOf (now (words .entry)) (now (area .entry)) l) x item
+        (entryOf scopeAt (now (words .entry)) e)) × EntryFits (now (words .entry)) l r ⌝ }
 {
     let Entry::At(h) = e else {
         return Entry::Nothing;
@@ -135,7 +140,8 @@ fn prelude_entry(
 /// deprecated, if there is one.
 pub fn find_in_prelude(words: &[u32], area: &[u32], l: Layout, x: FindPathCtx, item: Item) -> Entry
     requires { ⌜ Reads (now words) (now area) l × (x .from .0 < l .modules) ⌝ }
-    ensures { λ r. ⌜ (entryOf scopeAt (now (words .entry)) r ≡ findInPrelude (snapOf (now (words .entry)) (now (area .entry)) l) x item) × EntryFits (now (words .entry)) l r ⌝ }
+    ensures { λ r. ⌜ (entryOf scopeAt (now (words .entry)) r ≡ findInPrelude (snapOf (now (words .entry)) (now (area .entry)) l) x item)
+        × EntryFits (now (words .entry)) l r ⌝ }
 {
     let p = prelude_of(words, l, map(words, area, l, x.from));
     let Entry::At(h) = p else {
@@ -171,7 +177,8 @@ fn extern_rule(
     m: ModuleId,
     e: Entry,
 ) -> Choice
-    requires { ⌜ Reads (now words) (now area) l × (x .from .0 < l .modules) × ((h : ℕ) → e ≡ At h → ExternFits (countsIn l) (externAt (now words) h)) ⌝ }
+    requires { ⌜ Reads (now words) (now area) l × (x .from .0 < l .modules)
+        × ((h : ℕ) → e ≡ At h → ExternFits (countsIn l) (externAt (now words) h)) ⌝ }
     ensures { λ r. ⌜ r ≡ externName (snapOf (now (words .entry)) (now (area .entry)) l) x (m .0) (entryOf externAt (now (words .entry)) e) ⌝ }
 {
     let Entry::At(h) = e else {
@@ -211,7 +218,8 @@ pub fn root_rule(
 // The module as the parent of the viewer's.
 fn parent_kind(words: &[u32], area: &[u32], l: Layout, x: FindPathCtx, m: ModuleId) -> KwKind
     requires { ⌜ Reads (now words) (now area) l × (x .from .0 < l .modules) × (m .0 < l .modules) ⌝ }
-    ensures { λ r. ⌜ keywordKind r ≡ parentKind (snapOf (now (words .entry)) (now (area .entry)) l) x (m .0) (parentOf (snapOf (now (words .entry)) (now (area .entry)) l) (x .from .0)) ⌝ }
+    ensures { λ r. ⌜ keywordKind r ≡ parentKind (snapOf (now (words .entry)) (now (area .entry)) l) x (m .0)
+        (parentOf (snapOf (now (words .entry)) (now (area .entry)) l) (x .from .0)) ⌝ }
 {
     let OptModule::Module(p) = parent(words, area, l, x.from) else {
         return KwKind::NoKw;
@@ -252,7 +260,8 @@ pub fn is_kw_kind_relative_to_from(
 /// The module by a keyword; ByCrate takes none but `crate`.
 pub fn keyword_rule(words: &[u32], area: &[u32], l: Layout, x: FindPathCtx, m: ModuleId) -> Choice
     requires { ⌜ Reads (now words) (now area) l × (x .from .0 < l .modules) × (m .0 < l .modules) ⌝ }
-    ensures { λ r. ⌜ r ≡ keywordOf (snapOf (now (words .entry)) (now (area .entry)) l) x (isKwKindRelativeToFrom (snapOf (now (words .entry)) (now (area .entry)) l) x (m .0)) ⌝ }
+    ensures { λ r. ⌜ r ≡ keywordOf (snapOf (now (words .entry)) (now (area .entry)) l) x
+        (isKwKindRelativeToFrom (snapOf (now (words .entry)) (now (area .entry)) l) x (m .0)) ⌝ }
 {
     let k = is_kw_kind_relative_to_from(words, area, l, x, m);
     let KwKind::Kw(kind) = k else {

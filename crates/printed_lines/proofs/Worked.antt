@@ -2,10 +2,9 @@
 use Prim.Native.Nat.{ℕ}
 use mathlib.Core.Path.{_≡_, refl}
 use mathlib.Core.List.{List, [], _∷_, map}
-use mathlib.Core.Bool.{Bool, true, false}
+use mathlib.Core.Bool.{true, false}
 use lib.ListN.{length, replicate}
-use Rattle.printing.specs.Input.{wordsIn}
-use Rattle.printed_lines.specs.Printed.{firstFrom, questionsAt, wholeAt, reachAt, nextAt, linesFrom, inputFault, linesOf, linesUnless, printed}
+use Rattle.printed_lines.specs.Printed.{firstFrom, questionsAt, wholeAt, reachAt, nextAt, linesFrom, inputFault, linesOf}
 
 -- a head of kind 12, 14 or 15, and its arguments
 pub path : List ℕ

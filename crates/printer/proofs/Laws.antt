@@ -29,7 +29,8 @@ use Rattle.reach_parts.specs.declared.Viewer.{Viewer}
 use Rattle.reach_parts.specs.Reach.{reachOf, reachLine}
 use Rattle.reach.specs.Reached.{ReachLineOn}
 use Rattle.route_line.specs.Routed.{RoutedOn}
-use Rattle.printer.specs.Printed.{isQuestion, isHead, firstFrom, questionsAt, isArgument, wholeAt, questionAt, asksRoute, reachAt, viewerAt, lineAt, nextAt, inputFault, Printed}
+use Rattle.printer.specs.Printed.{isQuestion, isHead, firstFrom, questionsAt, isArgument, wholeAt, questionAt, asksRoute, reachAt, viewerAt}
+use Rattle.printer.specs.Printed.{lineAt, nextAt, inputFault, Printed}
 
 -- faults of an input
 
@@ -75,7 +76,8 @@ module _ (W : List ℕ) where
 
 -- questions
 
-pub whole-same : (W : List ℕ) (i : ℕ) (h a b c d e f : Bool) → h ≡ isQuestion (kindOf (getD W i 0)) → a ≡ isArgument W (i + 1) → b ≡ isArgument W (i + 2)
+pub whole-same : (W : List ℕ) (i : ℕ) (h a b c d e f : Bool) → h ≡ isQuestion (kindOf (getD W i 0)) → a ≡ isArgument W (i + 1)
+    → b ≡ isArgument W (i + 2)
     → c ≡ isArgument W (i + 3) → d ≡ isArgument W (i + 4) → e ≡ isArgument W (i + 5) → f ≡ isArgument W (i + 6)
     → (h && ((a && b) && ((c && d) && ((e && f) && leb (i + questionSize) (length W))))) ≡ wholeAt W i
 unfolding wholeAt
@@ -96,14 +98,29 @@ unfolding wholeAt
 not-whole W i h =
     let g : length W < i + questionSize = omega arith in
     rw (wholeAt, lt-leb _ _ g)
-    (none-false (isQuestion (kindOf (getD W i 0))) (isArgument W (i + 1) && isArgument W (i + 2)) (isArgument W (i + 3) && isArgument W (i + 4)) (isArgument W (i + 5) && isArgument W (i + 6)))
+    (none-false (isQuestion (kindOf (getD W i 0))) (isArgument W (i + 1) && isArgument W (i + 2)) (isArgument W (i + 3) && isArgument W (i + 4))
+    (isArgument W (i + 5) && isArgument W (i + 6)))
 
 pub question-same : (W : List ℕ) (i ns d m p o n f : ℕ) → ns ≡ getD W (i + 1) 0 → d ≡ payOf (getD W i 0) → m ≡ getD W (i + 2) 0
     → p ≡ getD W (i + 3) 0 → o ≡ getD W (i + 4) 0 → n ≡ getD W (i + 6) 0 → f ≡ getD W (i + 5) 0
-    → _≡_ {A = Question} (record { query = record { ns = ns; definition = record { 0 = d }; from = record { 0 = m }; prefix = p; options = o; limit = n }; fuel = f }) (questionAt W i)
+    → _≡_ {A = Question} (record {
+      query = record {
+        ns = ns;
+        definition = record { 0 = d };
+        from = record { 0 = m };
+        prefix =
+            p;
+        options = o;
+        limit = n;
+      };
+      fuel = f;
+    }) (questionAt W i)
 unfolding questionAt
 question-same W i ns d m p o n f a b c e g k h =
-    λ j. record { query = record { ns = a j; definition = record { 0 = b j }; from = record { 0 = c j }; prefix = e j; options = g j; limit = k j }; fuel = h j }
+    λ j. record {
+      query = record { ns = a j; definition = record { 0 = b j }; from = record { 0 = c j }; prefix = e j; options = g j; limit = k j };
+      fuel = h j;
+    }
 
 -- questions for a reach
 
@@ -151,7 +168,8 @@ counts-of {old} {out} {t} {n} p =
     let h : n ≤ length out = omega arith in
     (h, sym (length-take-le n out h))
 
-pub refusal-counts : {old out : List ℕ} {n : ℕ} (k : ℕ) → ((s : Snapshot) (from : ℕ) → Put old 0 (lineIn s from (refused k) ++ bytesOf "\n") out n) → Counts n out
+pub refusal-counts : {old out : List ℕ} {n : ℕ} (k : ℕ) → ((s : Snapshot) (from : ℕ) → Put old 0 (lineIn s from (refused k) ++ bytesOf "\n") out n)
+    → Counts n out
 refusal-counts k p = counts-of (p empty 0)
 
 -- a turn
@@ -173,7 +191,8 @@ module _ (W S : List ℕ) (c : Checked) (i : ℕ) (A out : List ℕ) where
         checked = j;
       }
 
-  module _ (old : List ℕ) (n : ℕ) (b r : Bool) (q : Question) (e : b ≡ wholeAt W i) (t : b ≡ true) (h : q ≡ questionAt W i) (g : r ≡ asksRoute W i) where
+  module _ (old : List ℕ) (n : ℕ) (b r : Bool) (q : Question) (e : b ≡ wholeAt W i) (t : b ≡ true) (h : q ≡ questionAt W i)
+      (g : r ≡ asksRoute W i) where
     whole : wholeAt W i ≡ true
     whole = sym e ∙ t
 

@@ -1,11 +1,11 @@
 -- What the turns write, from the first question to the end of the words, are the lines that are defined for the bytes of the input.
-use Prim.Native.Nat.{ℕ, zero, suc, _+_, _/_, _≤_, _<_}
+use Prim.Native.Nat.{ℕ, zero, suc, _+_, _/_, _≤_}
 use mathlib.Core.Path.{_≡_, refl, sym, _∙_, ap, ap₂}
 use mathlib.Core.List.{List, [], _∷_, map}
-use mathlib.Core.Bool.{true, false, true≢false}
+use mathlib.Core.Bool.{true, true≢false}
 use native.Mathlib.Omega.{arith}
 use borrow.Author.Tests.{eqb-true, lt-ltb, le-ltb}
-use lib.Dec.{eqb, ltb}
+use lib.Dec.{eqb}
 use lib.ListN.{length, take}
 use Rattle.snapshot.specs.Lists.{rows, all, eqList}
 use Rattle.accept.specs.declared.check.Checked.{Checked}
@@ -14,7 +14,8 @@ use Rattle.printing.specs.Input.{wordsIn}
 use Rattle.find_path.specs.Line.{bytesOf, lineOf}
 use Rattle.find_path.proofs.Worked.{Row, passes}
 use Rattle.check_rules.specs.Worked.{worked}
-use Rattle.printer.specs.Printed.{firstFrom, questionsAt, wholeAt, questionAt, reachAt, refusalLine, lineAt, nextAt, linesFrom, linesOf, linesUnless, inputFault, printed, Turns, end, turn, ended}
+use Rattle.printer.specs.Printed.{firstFrom, questionsAt, wholeAt, questionAt, reachAt, refusalLine, lineAt, nextAt, linesFrom, linesOf}
+use Rattle.printer.specs.Printed.{linesUnless, inputFault, printed, Turns, end, turn, ended}
 use Rattle.printer.proofs.Laws.{next-more}
 
 turns-lines : (W S : List ℕ) (c : Checked) (n i : ℕ) (ls : List (List ℕ)) → length W ≤ n + i → Turns W S c i ls → ls ≡ map ended (linesFrom n W S i)
@@ -30,7 +31,8 @@ turns-lines W S c (suc n) i ls h (turn {later = ks} A old out r g p t) =
 
 -- The words of the bytes, the snapshot before the first question, and turns from there on: each line of `printed`, with its end, in order.
 pub turns-printed : (B : List ℕ) (c : Checked) (ls : List (List ℕ)) → inputFault B ≡ 0
-    → Turns (wordsIn B (length B / 4)) (take (questionsAt (wordsIn B (length B / 4))) (wordsIn B (length B / 4))) c (questionsAt (wordsIn B (length B / 4))) ls
+    → Turns (wordsIn B (length B / 4)) (take (questionsAt (wordsIn B (length B / 4))) (wordsIn B (length B / 4))) c
+    (questionsAt (wordsIn B (length B / 4))) ls
     → ls ≡ map ended (printed B)
 unfolding printed linesUnless linesOf
 turns-printed B c ls e t =

@@ -9,7 +9,21 @@ use Rattle.accept.specs.declared.check.Checked.{Checked}
 use Rattle.find_path.specs.Line.{bytesOf}
 use Rattle.printer.specs.declared.lines.Turn.{Turn}
 pub use Rattle.printed_lines.specs.Printed.{isQuestion, isHead, isArgument, refusalLine, asksRoute}
-unfoldable pub use Rattle.printed_lines.specs.Printed.{firstFrom, questionsAt, wholeAt, questionAt, reachAt, viewerAt, lineAt, nextAt, linesFrom, inputFault, linesOf, linesUnless, printed}
+unfoldable pub use Rattle.printed_lines.specs.Printed.{
+  firstFrom,
+  questionsAt,
+  wholeAt,
+  questionAt,
+  reachAt,
+  viewerAt,
+  lineAt,
+  nextAt,
+  linesFrom,
+  inputFault,
+  linesOf,
+  linesUnless,
+  printed,
+}
 
 -- One turn of the printer: the line of a place stands at the front of the bytes, with its end, those past it stay as they were in old, the
 -- next place is right, and the snapshot stays checked.

@@ -24,8 +24,8 @@ pub struct Turn {
     pub next: usize,
 }
 
-/// The line of what stands at a place: of a whole question, with its route where that is asked for, of a reach, or the refusal of words that are none. It stands
-/// at the front of the bytes, and those past it stay.
+/// The line of what stands at a place: of a whole question, with its route where that is asked for, of a reach, or the refusal of words
+/// that are none. It stands at the front of the bytes, and those past it stay.
 pub fn next_line(
     words: &[u32],
     snapshot: &[u32],
@@ -34,7 +34,8 @@ pub fn next_line(
     at: usize,
     out: &mut [u8],
 ) -> Turn
-    requires { ⌜ Judged (now snapshot) (now area) c × (length (now area) ≡ areaLimit) × (routedLimit ≤ length (now out)) × (at < length (now words)) × (length (now words) ≤ wordLimit) ⌝ }
+    requires { ⌜ Judged (now snapshot) (now area) c × (length (now area) ≡ areaLimit) × (routedLimit ≤ length (now out))
+        × (at < length (now words)) × (length (now words) ≤ wordLimit) ⌝ }
     ensures { λ r. ⌜ Printed (now (words .entry)) (now (snapshot .entry)) c at (now (area .exit)) (now (out .entry)) (now (out .exit)) r ⌝ }
 {
     if is_reach(words, at) {

@@ -30,7 +30,8 @@ and-true false b c e = absurd (false≢true e)
 
 pub fits-room : (n m : ℕ) → batchFits n m ≡ true → reportSize * (n / questionSize) ≤ m
 unfolding batchFits
-fits-room n m e = leb-true _ _ (and-true (leb (n / questionSize) questionLimit) (eqb (n % questionSize) 0) (leb (reportSize * (n / questionSize)) m) e)
+fits-room n m e = leb-true _ _ (and-true (leb (n / questionSize) questionLimit) (eqb (n % questionSize) 0)
+    (leb (reportSize * (n / questionSize)) m) e)
 
 -- a part that goes on to the end
 

@@ -9,7 +9,15 @@ use Rattle.find_path.specs.declared.Question.{Question}
 abbrev pub questionOf : List ℕ → Question
 questionOf q =
     record {
-      query = record { ns = getD q 0 0; definition = record { 0 = getD q 1 0 }; from = record { 0 = getD q 2 0 }; prefix = getD q 3 0; options = getD q 4 0; limit = getD q 6 0 };
+      query = record {
+        ns = getD q 0 0;
+        definition = record { 0 = getD q 1 0 };
+        from = record { 0 = getD q 2 0 };
+        prefix = getD q
+            3 0;
+        options = getD q 4 0;
+        limit = getD q 6 0;
+      };
       fuel = getD q 5 0;
     }
 

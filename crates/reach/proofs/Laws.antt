@@ -30,7 +30,8 @@ use Rattle.checked.proofs.Laws.{judged-stays}
 use Rattle.reach_parts.specs.declared.Viewer.{Viewer}
 use Rattle.reach_parts.specs.declared.Reach.{Reach}
 use Rattle.reach_parts.specs.Within.{Within}
-use Rattle.reach_parts.specs.Reach.{isMet, newFrom, distinct, reportFor, tallied, talliedReach, tallyAll, reachIn, refusedReach, reachBy, reachUnless, reachOf, queryFor}
+use Rattle.reach_parts.specs.Reach.{isMet, newFrom, distinct, reportFor, tallied, talliedReach, tallyAll, reachIn, refusedReach, reachBy, reachUnless}
+use Rattle.reach_parts.specs.Reach.{reachOf, queryFor}
 use Rattle.reach_parts.proofs.Laws.{Limited, report-few, report-flag, tallied-long, tallied-within}
 
 -- the test of the code
@@ -133,14 +134,18 @@ module _ (W A₀ : List ℕ) (l : Layout) (v : Viewer) where
           long = tallied-long (reach .counts) r (i .long) few flag;
           within = λ j. omega (arith, tallied-within (reach .counts) r (i .long) few flag (1 + 17 * k) (i .within) j);
           same = ap (λ x. counted (tallied (reach .counts) x) (newFrom first (rows (entry W l) 0 (k + 1)) rest)) q
-              ∙ sym (ap (counted (reach .counts)) (begins ∙ new-next first (rows (entry W l) 0 k) (entry W l k) rest (sym t) ∙ ap (λ x. entry W l k ∷ x) further)) ∙ i .same;
+              ∙ sym (ap (counted (reach .counts)) (begins ∙ new-next first (rows (entry W l) 0 k) (entry W l k) rest (sym t)
+              ∙ ap (λ x. entry W l k ∷ x) further)) ∙ i .same;
         })
 
   pub reaching-done : (A : List ℕ) (reach : Reach) (k : ℕ) → Reaching W A₀ l v A reach k → l .scopes ≤ k
       → (reach .number ≡ 0) × (reach .counts ≡ reachIn first v)
   unfolding newFrom tallyAll counted
-  reaching-done A reach k i h =
-      (i .number, sym (ap (λ es. counted (reach .counts) (newFrom first (rows (entry W l) 0 k) es)) (rows-none (entry W l) k (l .scopes) h)) ∙ i .same)
+  reaching-done A reach k i h = (
+    i .number,
+    sym (ap (λ es. counted (reach .counts) (newFrom first (rows (entry W l) 0 k) es)) (rows-none (entry W l) k (l .scopes) h))
+        ∙ i .same,
+  )
 
 -- refusals, and the reach on accepted words
 
@@ -149,7 +154,8 @@ module _ (v : Viewer) (r : Reach) where
   unfolding reachBy
   unknown-module s m e h p = rw (reachBy, e, le-ltb _ _ h) p
 
-  pub known-module : (s : Snapshot) (m : ℕ) → length (s .modules) ≡ m → v .from .0 < m → r .number ≡ 0 → r .counts ≡ reachIn s v → r ≡ reachBy v (accept s)
+  pub known-module : (s : Snapshot) (m : ℕ) → length (s .modules) ≡ m → v .from .0 < m → r .number ≡ 0 → r .counts ≡ reachIn s v
+      → r ≡ reachBy v (accept s)
   unfolding reachBy
   known-module s m e h p q = rw (reachBy, e, lt-ltb _ _ h) (λ i. record { number = p i; counts = q i })
 
@@ -191,7 +197,8 @@ module _ (v : Viewer) (r : Reach) where
 
     module _ (A : List ℕ) (n : ℕ) (h : n ≡ 0 → ⊥) (p : r ≡ refusedReach n) where
       -- a number of the call comes first, then one of the words
-      pub reach-earlier : (c : Checked) → Judged W A c → (f m : ℕ) → f ≡ callFault areaLimit (queryFor v 0 0) (v .fuel) → m ≡ numberOf c → n ≡ earlierOf f m
+      pub reach-earlier : (c : Checked) → Judged W A c → (f m : ℕ) → f ≡ callFault areaLimit (queryFor v 0 0) (v .fuel)
+          → m ≡ numberOf c → n ≡ earlierOf f m
           → r ≡ reachOf W areaLimit v
       unfolding earlierOf
       reach-earlier c j zero m e k u = reach-verdict areaLimit 0 e refl (by-words A n h p c j (u ∙ k))
@@ -205,11 +212,16 @@ module _ (W A : List ℕ) (l : Layout) (reads : Reads W A l) (k b : ℕ) (h : k 
       (let f = scope-read W A l (accepted-valid W (snapOf W A l) (reads .same)) k h in (f .definition, f .ns))
 
   -- and the tally of its report
-  pub report-fits : (v : Viewer) → Limited v → (t : List ℕ) (r : Report) → r ≡ reportFor (snapOf W A l) v (scopeAt W (b + scopeSize * k)) → Within (1 + 17 * k) t
+  pub report-fits : (v : Viewer) → Limited v → (t : List ℕ) (r : Report) → r ≡ reportFor (snapOf W A l) v (scopeAt W (b + scopeSize * k))
+      → Within (1 + 17 * k) t
       → (r .count ≤ 16) × (r .empty ≤ 1) × Within (2 ^ 32) t
-  report-fits v m t r q w =
-      (rw q (report-few (snapOf W A l) v (scopeAt W (b + scopeSize * k)) m), rw q (report-flag (snapOf W A l) v (scopeAt W (b + scopeSize * k))), λ i. omega (arith, w i, h, reads .tables .whole, reads .tables .short))
+  report-fits v m t r q w = (
+    rw q (report-few (snapOf W A l) v (scopeAt W (b + scopeSize * k)) m),
+    rw q (report-flag (snapOf W A l) v (scopeAt W (b + scopeSize * k))),
+    λ i. omega (arith, w i, h, reads .tables .whole, reads .tables .short),
+  )
 
   -- the report is that of the record numbered k
-  pub report-entry : (v : Viewer) (r : Report) → r ≡ reportFor (snapOf W A l) v (scopeAt W (b + scopeSize * k)) → r ≡ reportFor (snapOf W A l) v (entry W l k)
+  pub report-entry : (v : Viewer) (r : Report) → r ≡ reportFor (snapOf W A l) v (scopeAt W (b + scopeSize * k))
+      → r ≡ reportFor (snapOf W A l) v (entry W l k)
   report-entry v r q = q ∙ ap (λ x. reportFor (snapOf W A l) v (scopeAt W (x + scopeSize * k))) e

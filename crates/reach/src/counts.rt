@@ -22,7 +22,8 @@ use snapshot::record::scope_ns;
 
 // The report for the item of the scope record with its head at a place; the tables stay.
 fn report_for(words: &[u32], area: &mut [u32], l: Layout, v: Viewer, h: usize) -> Report
-    requires { ⌜ Reads (now words) (now area) l × (length (now area) ≡ areaLimit) × (v .from .0 < l .modules) × (v .fuel ≤ fuelLimit) × (0 < v .limit) × (v .limit ≤ pathLimit) ⌝ }
+    requires { ⌜ Reads (now words) (now area) l × (length (now area) ≡ areaLimit) × (v .from .0 < l .modules) × (v .fuel ≤ fuelLimit)
+        × (0 < v .limit) × (v .limit ≤ pathLimit) ⌝ }
     requires { ⌜ (scopeAt (now words) h .definition < l .definitions) × (scopeAt (now words) h .ns ≤ namespaceLimit) ⌝ }
     ensures { λ r. ⌜ r ≡ reportFor (snapOf (now (words .entry)) (now (area .entry)) l) v (scopeAt (now (words .entry)) h) ⌝ }
     ensures { λ _. ⌜ take tableWords (now (area .exit)) ≡ take tableWords (now (area .entry)) ⌝ }
@@ -43,7 +44,8 @@ fn report_for(words: &[u32], area: &mut [u32], l: Layout, v: Viewer, h: usize) -
 
 /// The counts of the reports for all distinct items; the tables stay.
 pub fn reach_in(words: &[u32], area: &mut [u32], l: Layout, v: Viewer) -> Reach
-    requires { ⌜ Reads (now words) (now area) l × (length (now area) ≡ areaLimit) × (v .from .0 < l .modules) × (v .fuel ≤ fuelLimit) × (0 < v .limit) × (v .limit ≤ pathLimit) ⌝ }
+    requires { ⌜ Reads (now words) (now area) l × (length (now area) ≡ areaLimit) × (v .from .0 < l .modules) × (v .fuel ≤ fuelLimit)
+        × (0 < v .limit) × (v .limit ≤ pathLimit) ⌝ }
     ensures { λ r. ⌜ (r .number ≡ 0) × (r .counts ≡ reachIn (snapOf (now (words .entry)) (now (area .entry)) l) v) ⌝ }
     ensures { λ _. ⌜ take tableWords (now (area .exit)) ≡ take tableWords (now (area .entry)) ⌝ }
 {

@@ -23,7 +23,8 @@ use snapshot::refusal::Refusal;
 
 // The reach on accepted words; the tables stay.
 fn reach_from(words: &[u32], area: &mut [u32], l: Layout, v: Viewer) -> Reach
-    requires { ⌜ Reads (now words) (now area) l × (length (now area) ≡ areaLimit) × (v .fuel ≤ fuelLimit) × (0 < v .limit) × (v .limit ≤ pathLimit) ⌝ }
+    requires { ⌜ Reads (now words) (now area) l × (length (now area) ≡ areaLimit) × (v .fuel ≤ fuelLimit) × (0 < v .limit)
+        × (v .limit ≤ pathLimit) ⌝ }
     ensures { λ r. ⌜ r ≡ reachBy v (accept (snapOf (now (words .entry)) (now (area .entry)) l)) ⌝ }
     ensures { λ _. ⌜ take tableWords (now (area .exit)) ≡ take tableWords (now (area .entry)) ⌝ }
 {
@@ -35,7 +36,8 @@ fn reach_from(words: &[u32], area: &mut [u32], l: Layout, v: Viewer) -> Reach
 
 // The reach on checked words, for a question without a fault of its own.
 fn reach_by(words: &[u32], area: &mut [u32], c: Checked, v: Viewer) -> Reach
-    requires { ⌜ Judged (now words) (now area) c × (length (now area) ≡ areaLimit) × (v .fuel ≤ fuelLimit) × (0 < v .limit) × (v .limit ≤ pathLimit) ⌝ }
+    requires { ⌜ Judged (now words) (now area) c × (length (now area) ≡ areaLimit) × (v .fuel ≤ fuelLimit) × (0 < v .limit)
+        × (v .limit ≤ pathLimit) ⌝ }
     ensures { λ r. ⌜ (r ≡ reachBy v (verdict (now (words .entry)))) × Judged (now (words .entry)) (now (area .exit)) c ⌝ }
 {
     match c {

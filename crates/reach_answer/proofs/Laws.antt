@@ -1,13 +1,11 @@
 -- Laws of the entry point.
 use Prim.Native.Nat.{ℕ, _≤_, _<_}
-use mathlib.Core.Path.{_≡_, sym, _∙_, ap}
+use mathlib.Core.Path.{_≡_, _∙_, ap}
 use mathlib.Core.List.{List, _++_}
-use borrow.Author.Tests.{lt-ltb, le-ltb}
 use native.Mathlib.Omega.{arith}
 use lib.ListN.{length, drop}
 use Rattle.snapshot.specs.Limits.{areaLimit}
 use Rattle.snapshot.specs.Refusals.{areaRefusal}
-use Rattle.find_path.specs.Report.{callFault}
 use Rattle.reach_parts.specs.declared.Viewer.{Viewer}
 use Rattle.reach_parts.specs.declared.Reach.{Reach}
 use Rattle.reach_parts.specs.Reach.{queryFor, refusedReach, reachUnless, reachOf}

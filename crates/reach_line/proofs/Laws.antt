@@ -18,7 +18,8 @@ joined-more : (j p : List ℕ) (ps : List (List ℕ)) (q : List ℕ) → joined 
 unfolding joined
 joined-more j p [] q = refl
 joined-more j p (r ∷ ps) q =
-    ap (λ x. p ++ (j ++ x)) (joined-more j r ps q) ∙ ap (λ x. p ++ x) (sym (append-assoc j (joined j (r ∷ ps)) (j ++ q))) ∙ sym (append-assoc p (j ++ joined j (r ∷ ps)) (j ++ q))
+    ap (λ x. p ++ (j ++ x)) (joined-more j r ps q) ∙ ap (λ x. p ++ x) (sym (append-assoc j (joined j (r ∷ ps)) (j ++ q)))
+    ∙ sym (append-assoc p (j ++ joined j (r ∷ ps)) (j ++ q))
 
 -- the first i numbers
 abbrev numbersTo : List ℕ → ℕ → List ℕ
@@ -42,7 +43,8 @@ after-first (n ∷ ns) (suc i) q h l = joined-more (bytesOf " ") (decimal n) (ma
 number-next : (ns : List ℕ) (i : ℕ) → 1 ≤ i → i < length ns → numbersTo ns i ++ (bytesOf " " ++ decimal (getD ns i 0)) ≡ numbersTo ns (i + 1)
 number-next ns i h l =
     sym (after-first ns i (decimal (getD ns i 0)) h l)
-    ∙ ap (joined (bytesOf " ")) (sym (map-snoc (take i ns) (getD ns i 0)) ∙ ap (map decimal) (sym (ap (λ k. take k ns) (add-one i) ∙ take-suc ns i 0 l)))
+    ∙ ap (joined (bytesOf " ")) (sym (map-snoc (take i ns) (getD ns i 0))
+    ∙ ap (map decimal) (sym (ap (λ k. take k ns) (add-one i) ∙ take-suc ns i 0 l)))
 
 numbers-done : (ns : List ℕ) (i : ℕ) → length ns ≤ i → numbersTo ns i ≡ joined (bytesOf " ") (map decimal ns)
 numbers-done ns i h = ap (λ x. joined (bytesOf " ") (map decimal x)) (take-all i ns h)

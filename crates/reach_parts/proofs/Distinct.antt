@@ -58,7 +58,8 @@ module _ (s : Snapshot) where
   apart before [] = end
   apart before (e ∷ es) =
       let others = each-map (λ d h. or-none (isMet s before d) (same e d) (sym (met-snoc before e d) ∙ h) .1) (unmet (before ++ (e ∷ [])) es) in
-      by-test (isMet s before e) (λ t. rw (newFrom, t) (apart (before ++ (e ∷ [])) es)) (λ t. rw (newFrom, t) (next others (apart (before ++ (e ∷ [])) es)))
+      by-test (isMet s before e) (λ t. rw (newFrom, t) (apart (before ++ (e ∷ [])) es))
+      (λ t. rw (newFrom, t) (next others (apart (before ++ (e ∷ [])) es)))
 
   -- the records of the items are there, or were met before
   abbrev Covered : List Scope → List Scope → Scope → Type 0

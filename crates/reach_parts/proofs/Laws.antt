@@ -2,7 +2,7 @@
 use Prim.Native.Nat.{ℕ, zero, suc, _+_, _*_, _≤_, _<_}
 use mathlib.Core.Path.{_≡_, refl, sym, _∙_, ap, ap₂}
 use mathlib.Core.List.{List, [], _∷_, map}
-use mathlib.Core.Bool.{Bool, true, false}
+use mathlib.Core.Bool.{Bool}
 use native.Mathlib.Omega.{arith}
 use native.Mathlib.Nat.{zero-add}
 use borrow.Author.Tests.{eq-eqb, ne-eqb, eqb-true, eqb-false}
@@ -28,7 +28,8 @@ use Rattle.search_laws.proofs.Refusals.{call-allowed}
 use Rattle.search_laws.proofs.Outcomes.{flag-small}
 use Rattle.reach_parts.specs.declared.Viewer.{Viewer}
 use Rattle.reach_parts.specs.declared.Reach.{Reach}
-use Rattle.reach_parts.specs.Reach.{itemIn, distinct, queryFor, refusedReach, reachBy, reachUnless, reachOf, reportFor, column, namesFound, added, tallied, talliedReach, tallyAll, reachIn, sum, total}
+use Rattle.reach_parts.specs.Reach.{itemIn, distinct, queryFor, refusedReach, reachBy, reachUnless, reachOf, reportFor, column, namesFound}
+use Rattle.reach_parts.specs.Reach.{added, tallied, talliedReach, tallyAll, reachIn, sum, total}
 use Rattle.reach_parts.specs.Within.{Within}
 
 -- the test of one earlier record
@@ -112,21 +113,31 @@ module _ (t : List ℕ) (r : Report) (long : length t ≡ 21) (few : r .count �
   tallied-within b w =
       let p = column-small r few flag in
       let q = names-small r few in
-      let v = added-within (added t (column r) 1) 20 (namesFound r) (b + 1) (omega (arith, first-long)) (added-within t (column r) 1 b (omega (arith, long)) w) in
+      let v = added-within (added t (column r) 1) 20 (namesFound r) (b + 1) (omega (arith, first-long))
+      (added-within t (column r) 1 b (omega (arith, long)) w) in
       λ j. omega (arith, v j)
 
   pub tallied-total : total (tallied t r) ≡ total t + 1
   unfolding tallied
   tallied-total =
-      sum-other 20 (added t (column r) 1) 20 (namesFound r) (omega arith) ∙ sum-added 20 t (column r) 1 (omega (arith, column-small r few flag)) (omega (arith, long, column-small r few flag))
+      sum-other 20 (added t (column r) 1) 20 (namesFound r) (omega arith)
+      ∙ sum-added 20 t (column r) 1 (omega (arith, column-small r few flag)) (omega (arith, long, column-small r few flag))
 
 -- what the code adds: in the column and the names that it found
 pub tallied-by : (t : Reach) (r : Report) {i n : ℕ} → i ≡ column r → n ≡ namesFound r
-    → record { number = t .number; counts = set (set (t .counts) i (getD (t .counts) i 0 + 1)) 20 (getD (set (t .counts) i (getD (t .counts) i 0 + 1)) 20 0 + n) }
+    → record {
+      number = t .number;
+      counts = set (set (t .counts) i (getD (t .counts) i 0 + 1)) 20
+          (getD (set (t .counts) i (getD (t .counts) i 0 + 1)) 20 0 + n);
+    }
     ≡ talliedReach t r
 unfolding talliedReach tallied added
 tallied-by t r e f =
-    ap₂ (λ i n. record { number = t .number; counts = set (set (t .counts) i (getD (t .counts) i 0 + 1)) 20 (getD (set (t .counts) i (getD (t .counts) i 0 + 1)) 20 0 + n) }) e f
+    ap₂ (λ i n. record {
+      number = t .number;
+      counts = set (set (t .counts) i (getD (t .counts) i 0 + 1)) 20
+          (getD (set (t .counts) i (getD (t .counts) i 0 + 1)) 20 0 + n);
+    }) e f
 
 pub last-fits : (t : List ℕ) (i n b : ℕ) → i < 20 → Within b t → n ≤ 16 → getD (set t i (getD t i 0 + 1)) 20 0 + n < b + 16
 last-fits t i n b h w f = let p = getD-set-other t i 20 (getD t i 0 + 1) 0 (omega arith) in omega (arith, w 20)

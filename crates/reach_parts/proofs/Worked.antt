@@ -9,7 +9,8 @@ use Rattle.check_rules.specs.Worked.{worked}
 use Rattle.find_path.specs.Line.{bytesOf}
 use Rattle.find_path.proofs.Worked.{passes, named, head, withBlock}
 use Rattle.reach_parts.specs.declared.Viewer.{Viewer}
-use Rattle.reach_parts.specs.Reach.{isMet, newFrom, distinct, reportFor, column, namesFound, added, tallied, tallyAll, reachIn, refusedReach, reachBy, reachUnless, reachOf, reachLine}
+use Rattle.reach_parts.specs.Reach.{isMet, newFrom, distinct, reportFor, column, namesFound, added, tallied, tallyAll, reachIn, refusedReach}
+use Rattle.reach_parts.specs.Reach.{reachBy, reachUnless, reachOf, reachLine}
 
 -- the words of the work area, who asks, and the line
 pub record Row : Type 0 where

@@ -25,7 +25,8 @@ fn item_in(words: &[u32], l: Layout, h: usize) -> Item
 /// Whether a scope record before the one numbered k is for the same item.
 pub fn is_met(words: &[u32], l: Layout, k: usize) -> bool
     requires { ⌜ (wordCount l < 2 ^ 32) × (k < l .scopes) ⌝ }
-    ensures { λ r. ⌜ ((A : List ℕ) → r ≡ isMet (snapOf (now (words .entry)) A l) (recordsOf scopeAt scopeSize (now (words .entry)) (scopeBase l) k) (scopeAt (now (words .entry)) (scopeBase l + scopeSize * k))) ⌝ }
+    ensures { λ r. ⌜ ((A : List ℕ) → r ≡ isMet (snapOf (now (words .entry)) A l) (recordsOf scopeAt scopeSize (now (words .entry)) (scopeBase l) k)
+        (scopeAt (now (words .entry)) (scopeBase l + scopeSize * k))) ⌝ }
 {
     let base = l.scope_base();
     let item = item_in(words, l, base + Size::SCOPE * k);

@@ -1,6 +1,6 @@
 //! The tally of reports.
 ghost use mathlib.Core.Path.{_≡_};
-ghost use Prim.Native.Nat.{_^_, _<_, _≤_};
+ghost use Prim.Native.Nat.{_^_, _≤_};
 ghost use Rattle.reach_parts.specs.Reach.{column as columnOf, namesFound, talliedReach, refusedReach};
 ghost use Rattle.reach_parts.specs.Within.{Within};
 use crate::Reach;

@@ -1,7 +1,7 @@
 -- Each case of a name.
 use Prim.Native.Nat.{ℕ, suc, _+_, _-_, _<_, _≤_}
 use mathlib.Core.Path.{_≡_, sym, ap, _∙_}
-use mathlib.Core.List.{List, [], _∷_}
+use mathlib.Core.List.{List, _∷_}
 use mathlib.Core.Bool.{Bool, true, false}
 use mathlib.Core.Option.{Option, none, some}
 use native.Mathlib.Omega.{arith}
@@ -19,11 +19,14 @@ use Rattle.hir_def.specs.Items.{types, itemOf, sameItem, nsOf, moduleItem, defi
 use Rattle.hir_def.specs.ItemScope.{get}
 use Rattle.hir_def.specs.Nameres.{preludeOf}
 use Rattle.hir_def.specs.declared.Item.{Item}
-use Rattle.readings.specs.Reads.{standsFor, meaning, entryOr, externNamed, externMeans, inExterns, preludeMeans, inPreludeOf, entryFrom, firstName, variantNamed, variantIn, laterName, after, lookedIn, follow, plainly, absolutely, parentMeans, readsTo, isThe, readsBack}
+use Rattle.readings.specs.Reads.{standsFor, meaning, entryOr, externNamed, externMeans, inExterns, preludeMeans, inPreludeOf, entryFrom, firstName}
+use Rattle.readings.specs.Reads.{variantNamed, variantIn, laterName, after, lookedIn, follow, plainly, absolutely, parentMeans, readsTo, isThe}
+use Rattle.readings.specs.Reads.{readsBack}
 
 module _ (s : Snapshot) (from : ℕ) where
   -- an entry
-  pub meaning-seen : (e : Scope) {t : Bool} {x : Item} → t ≡ sees s from e → t ≡ true → x ≡ itemOf s (e .ns) (e .definition) → some x ≡ meaning s from e
+  pub meaning-seen : (e : Scope) {t : Bool} {x : Item} → t ≡ sees s from e → t ≡ true → x ≡ itemOf s (e .ns) (e .definition)
+      → some x ≡ meaning s from e
   unfolding meaning
   meaning-seen e u v w = let q = sym u ∙ v in rw (meaning, q) (ap some w)
 
@@ -35,7 +38,8 @@ module _ (s : Snapshot) (from : ℕ) where
   unfolding entryOr
   entry-none other e = rw e
 
-  pub entry-some : (other : Option Item) {o : Option Scope} {e : Scope} {x : Option Item} → o ≡ some e → x ≡ meaning s from e → x ≡ entryOr s from other o
+  pub entry-some : (other : Option Item) {o : Option Scope} {e : Scope} {x : Option Item} → o ≡ some e → x ≡ meaning s from e
+      → x ≡ entryOr s from other o
   unfolding entryOr
   entry-some other q e = rw q e
 
@@ -49,16 +53,19 @@ module _ (s : Snapshot) (from : ℕ) where
     unfolding inExterns externMeans
     externs-none h u e = let q = ap (λ k. externNamed s k name) (sym u) ∙ e in rw (inExterns, eq-eqb _ _ h, q)
 
-    pub externs-some : {c m : ℕ} {x : Extern} {o : Option Item} → ns ≡ types → c ≡ crateOf s from → externNamed s c name ≡ some x → m ≡ x .target → o ≡ some (moduleItem m) → o ≡ inExterns s from ns name
+    pub externs-some : {c m : ℕ} {x : Extern} {o : Option Item} → ns ≡ types → c ≡ crateOf s from → externNamed s c name ≡ some x
+        → m ≡ x .target → o ≡ some (moduleItem m) → o ≡ inExterns s from ns name
     unfolding inExterns externMeans
-    externs-some h u e t w = let q = ap (λ k. externNamed s k name) (sym u) ∙ e in rw (inExterns, eq-eqb _ _ h, q) (w ∙ ap (λ m. some (moduleItem m)) t)
+    externs-some h u e t w = let q = ap (λ k. externNamed s k name) (sym u) ∙ e in rw (inExterns, eq-eqb _ _ h, q)
+        (w ∙ ap (λ m. some (moduleItem m)) t)
 
     -- the prelude
     pub prelude-none : {k : ℕ} → k ≡ mapNo s from → preludeOf s k ≡ none → none ≡ inPreludeOf s from ns name
     unfolding inPreludeOf preludeMeans
     prelude-none u e = let q = ap (preludeOf s) (sym u) ∙ e in rw (inPreludeOf, q)
 
-    pub prelude-some : {k m : ℕ} {p : Prelude} {o : Option Item} → k ≡ mapNo s from → preludeOf s k ≡ some p → m ≡ p .target → o ≡ entryOr s from none (get s m ns name)
+    pub prelude-some : {k m : ℕ} {p : Prelude} {o : Option Item} → k ≡ mapNo s from → preludeOf s k ≡ some p → m ≡ p .target
+        → o ≡ entryOr s from none (get s m ns name)
         → o ≡ inPreludeOf s from ns name
     unfolding inPreludeOf preludeMeans
     prelude-some u e t w =
@@ -74,7 +81,8 @@ module _ (s : Snapshot) (from : ℕ) where
     unfolding firstName orFirst entryOr
     first-extern q w = rw (firstName, q, w)
 
-    pub first-prelude : {o : Option Item} → entryFrom s from ns name ≡ none → inExterns s from ns name ≡ none → o ≡ inPreludeOf s from ns name → o ≡ firstName s from ns name
+    pub first-prelude : {o : Option Item} → entryFrom s from ns name ≡ none → inExterns s from ns name ≡ none → o ≡ inPreludeOf s from ns name
+        → o ≡ firstName s from ns name
     unfolding firstName orFirst entryOr
     first-prelude q w e = rw (firstName, q, w) e
 
@@ -94,11 +102,13 @@ module _ (s : Snapshot) (ns : ℕ) where
 
 -- a later name
 module _ (s : Snapshot) (from ns name : ℕ) where
-  pub later-module : {x : Item} {m : ℕ} {o : Option Item} → x ≡ moduleItem m → o ≡ entryOr s from none (get s m ns name) → o ≡ laterName s from ns name x
+  pub later-module : {x : Item} {m : ℕ} {o : Option Item} → x ≡ moduleItem m → o ≡ entryOr s from none (get s m ns name)
+      → o ≡ laterName s from ns name x
   unfolding laterName
   later-module e w = rw e w
 
-  pub later-other : {x : Item} {k d : ℕ} {o : Option Item} → x ≡ definedItem k d → o ≡ variantIn s ns (variantNamed s d name) → o ≡ laterName s from ns name x
+  pub later-other : {x : Item} {k d : ℕ} {o : Option Item} → x ≡ definedItem k d → o ≡ variantIn s ns (variantNamed s d name)
+      → o ≡ laterName s from ns name x
   unfolding laterName
   later-other e w = rw e w
 
@@ -122,13 +132,15 @@ module _ (ns : ℕ) (f : ℕ → ℕ) (k n : ℕ) where
 
 -- the names of a path, one after the other
 module _ (s : Snapshot) (from ns : ℕ) (f : ℕ → ℕ) (whole : Option Item) (k n : ℕ) where
-  pub follow-next : (here : Option Item) {next : Option Item} (v name : ℕ) → whole ≡ follow s from ns here (rows f k (n - k)) → k < n → v ≡ lookedIn ns (rows f (k + 1) (n - (k + 1))) → name ≡ f k
+  pub follow-next : (here : Option Item) {next : Option Item} (v name : ℕ) → whole ≡ follow s from ns here (rows f k (n - k))
+      → k < n → v ≡ lookedIn ns (rows f (k + 1) (n - (k + 1))) → name ≡ f k
       → next ≡ after here (laterName s from v name) → whole ≡ follow s from ns next (rows f (k + 1) (n - (k + 1)))
   unfolding follow
   follow-next here v name e h u w q =
       e ∙ ap (follow s from ns here) (rows-next f k n h)
       ∙ ap (λ o. follow s from ns o (rows f (k + 1) (n - (k + 1))))
-      (sym (q ∙ ap (λ v. after here (laterName s from v name)) u ∙ ap (λ x. after here (laterName s from (lookedIn ns (rows f (k + 1) (n - (k + 1)))) x)) w))
+      (sym (q ∙ ap (λ v. after here (laterName s from v name)) u
+      ∙ ap (λ x. after here (laterName s from (lookedIn ns (rows f (k + 1) (n - (k + 1)))) x)) w))
 
   pub follow-done : (here : Option Item) → whole ≡ follow s from ns here (rows f k (n - k)) → n ≤ k → here ≡ whole
   unfolding follow
@@ -146,7 +158,8 @@ pub names-first : (names : List ℕ) (n : ℕ) → n ≤ length names → 0 < n 
 names-first names n h p = sym (names-list names n h) ∙ rows-next (λ i. getD names i 0) 0 n p
 
 -- a path that begins with a keyword
-module _ (s : Snapshot) (from ns kind : ℕ) (names : List ℕ) (n : ℕ) (h : n ≤ length names) {o : Option Item} (here : Option Item) (e : o ≡ follow s from ns here (rows (λ i. getD names i 0) 0 (n - 0))) where
+module _ (s : Snapshot) (from ns kind : ℕ) (names : List ℕ) (n : ℕ) (h : n ≤ length names) {o : Option Item} (here : Option Item)
+    (e : o ≡ follow s from ns here (rows (λ i. getD names i 0) 0 (n - 0))) where
   all-later : o ≡ follow s from ns here (take n names)
   all-later = e ∙ ap (follow s from ns here) (names-list names n h)
 
@@ -158,17 +171,20 @@ module _ (s : Snapshot) (from ns kind : ℕ) (names : List ℕ) (n : ℕ) (h : n
   unfolding readsTo
   reads-super a t u = rw (readsTo, ne-eqb _ _ a, eq-eqb _ _ t) (all-later ∙ ap (λ x. follow s from ns x (take n names)) u)
 
-  pub reads-crate : (kind ≡ 1 → ⊥) → (kind ≡ 2 → ⊥) → kind ≡ 3 → here ≡ some (moduleItem (crateRoot s from)) → o ≡ readsTo s from ns kind (take n names)
+  pub reads-crate : (kind ≡ 1 → ⊥) → (kind ≡ 2 → ⊥) → kind ≡ 3 → here ≡ some (moduleItem (crateRoot s from))
+      → o ≡ readsTo s from ns kind (take n names)
   unfolding readsTo
   reads-crate a b t u = rw (readsTo, ne-eqb _ _ a, ne-eqb _ _ b, eq-eqb _ _ t) (all-later ∙ ap (λ x. follow s from ns x (take n names)) u)
 
 -- the other kinds
 module _ (s : Snapshot) (from ns kind : ℕ) (names : List ℕ) where
-  pub reads-absolute : {o : Option Item} → (kind ≡ 1 → ⊥) → (kind ≡ 2 → ⊥) → (kind ≡ 3 → ⊥) → kind ≡ 4 → o ≡ absolutely s from ns names → o ≡ readsTo s from ns kind names
+  pub reads-absolute : {o : Option Item} → (kind ≡ 1 → ⊥) → (kind ≡ 2 → ⊥) → (kind ≡ 3 → ⊥) → kind ≡ 4 → o ≡ absolutely s from ns names
+      → o ≡ readsTo s from ns kind names
   unfolding readsTo
   reads-absolute a b c h w = rw (readsTo, ne-eqb _ _ a, ne-eqb _ _ b, ne-eqb _ _ c, eq-eqb _ _ h) w
 
-  pub reads-plain : {o : Option Item} → (kind ≡ 1 → ⊥) → (kind ≡ 2 → ⊥) → (kind ≡ 3 → ⊥) → (kind ≡ 4 → ⊥) → o ≡ plainly s from ns names → o ≡ readsTo s from ns kind names
+  pub reads-plain : {o : Option Item} → (kind ≡ 1 → ⊥) → (kind ≡ 2 → ⊥) → (kind ≡ 3 → ⊥) → (kind ≡ 4 → ⊥) → o ≡ plainly s from ns names
+      → o ≡ readsTo s from ns kind names
   unfolding readsTo
   reads-plain a b c d w = rw (readsTo, ne-eqb _ _ a, ne-eqb _ _ b, ne-eqb _ _ c, ne-eqb _ _ d) w
 
@@ -178,14 +194,16 @@ module _ (s : Snapshot) (from ns : ℕ) (names : List ℕ) (n : ℕ) (h : n ≤ 
       → here ≡ inExterns s from v name → o ≡ follow s from ns here (rows (λ i. getD names i 0) 1 (n - 1)) → o ≡ absolutely s from ns (take n names)
   unfolding absolutely
   absolute-first {name = name} p u w q e =
-      e ∙ ap (λ x. follow s from ns x (rows (λ i. getD names i 0) 1 (n - 1))) (q ∙ ap (λ v. inExterns s from v name) u ∙ ap (inExterns s from (lookedIn ns (rows (λ i. getD names i 0) 1 (n - 1)))) w)
+      e ∙ ap (λ x. follow s from ns x (rows (λ i. getD names i 0) 1 (n - 1))) (q ∙ ap (λ v. inExterns s from v name) u
+      ∙ ap (inExterns s from (lookedIn ns (rows (λ i. getD names i 0) 1 (n - 1)))) w)
       ∙ ap (absolutely s from ns) (sym (names-first names n h p))
 
   pub plain-first : {o here : Option Item} {v name : ℕ} → 0 < n → v ≡ lookedIn ns (rows (λ i. getD names i 0) 1 (n - 1)) → name ≡ getD names 0 0
       → here ≡ firstName s from v name → o ≡ follow s from ns here (rows (λ i. getD names i 0) 1 (n - 1)) → o ≡ plainly s from ns (take n names)
   unfolding plainly
   plain-first {name = name} p u w q e =
-      e ∙ ap (λ x. follow s from ns x (rows (λ i. getD names i 0) 1 (n - 1))) (q ∙ ap (λ v. firstName s from v name) u ∙ ap (firstName s from (lookedIn ns (rows (λ i. getD names i 0) 1 (n - 1)))) w)
+      e ∙ ap (λ x. follow s from ns x (rows (λ i. getD names i 0) 1 (n - 1))) (q ∙ ap (λ v. firstName s from v name) u
+      ∙ ap (firstName s from (lookedIn ns (rows (λ i. getD names i 0) 1 (n - 1)))) w)
       ∙ ap (plainly s from ns) (sym (names-first names n h p))
 
 -- no names
@@ -220,6 +238,7 @@ module _ (s : Snapshot) (from : ℕ) {m : ℕ} (h : m ≡ standsFor s from) wher
   unfolding parentMeans
   super-none e = sym (ap (λ k. parentMeans s (parentOf s k)) (sym h) ∙ ap (parentMeans s) e)
 
-  pub super-some : {p q : ℕ} {o : Option Item} → parentOf s m ≡ suc p → q ≡ standsFor s p → o ≡ some (moduleItem q) → o ≡ parentMeans s (parentOf s (standsFor s from))
+  pub super-some : {p q : ℕ} {o : Option Item} → parentOf s m ≡ suc p → q ≡ standsFor s p → o ≡ some (moduleItem q)
+      → o ≡ parentMeans s (parentOf s (standsFor s from))
   unfolding parentMeans
   super-some e u w = w ∙ ap (λ q. some (moduleItem q)) u ∙ sym (ap (λ k. parentMeans s (parentOf s k)) (sym h) ∙ ap (parentMeans s) e)

@@ -19,7 +19,8 @@ same-item (Mod m) (Mod n) e = ap moduleItem (eqb-true (m .0) (n .0) e)
 same-item (Mod m) (Def ns d) e = absurd (false≢true e)
 same-item (Def ns d) (Mod n) e = absurd (false≢true e)
 same-item (Def ns d) (Def ns′ d′) e =
-    let f = and-two (eqb (ns .0) (ns′ .0)) (eqb (d .0) (d′ .0)) e in ap₂ definedItem (eqb-true (ns .0) (ns′ .0) (f .0)) (eqb-true (d .0) (d′ .0) (f .1))
+    let f = and-two (eqb (ns .0) (ns′ .0)) (eqb (d .0) (d′ .0)) e in ap₂ definedItem (eqb-true (ns .0) (ns′ .0) (f .0))
+    (eqb-true (d .0) (d′ .0) (f .1))
 
 pub same-self : (a : Item) → sameItem a a ≡ true
 unfolding sameItem

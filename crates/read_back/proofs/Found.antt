@@ -28,7 +28,8 @@ some-first f (x ∷ xs) y h e =
     (λ q. some-first f xs y h (rw (q, firstSome) at e))
     (λ z q. let same : some z ≡ some y = rw (q, firstSome) at e in h x (q ∙ same))
 
-pub from-fits : (W A : List ℕ) (l : Layout) → Reads W A l → (m ns name h : ℕ) → some (scopeAt W h) ≡ entryFrom (snapOf W A l) m ns name → ScopeFits (countsIn l) (scopeAt W h)
+pub from-fits : (W A : List ℕ) (l : Layout) → Reads W A l → (m ns name h : ℕ) → some (scopeAt W h) ≡ entryFrom (snapOf W A l) m ns name
+    → ScopeFits (countsIn l) (scopeAt W h)
 unfolding entryFrom
 from-fits W A l r m ns name h e =
     some-first (λ a. get (snapOf W A l) a ns name) (scopesFrom (snapOf W A l) m) (scopeAt W h) (λ a q. get-fits W A l r a ns name h (sym q)) (sym e)

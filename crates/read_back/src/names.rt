@@ -44,7 +44,8 @@ pub(crate) fn means_module(m: ModuleId) -> OptItem
 
 // What the entry with its head at a place means, where it is visible.
 fn meaning(words: &[u32], area: &[u32], l: Layout, from: ModuleId, h: usize) -> OptItem
-    requires { ⌜ Reads (now words) (now area) l × (from .0 < l .modules) × (2 ≤ scopeAt (now words) h .visibility → scopeAt (now words) h .number < l .modules) ⌝ }
+    requires { ⌜ Reads (now words) (now area) l × (from .0 < l .modules) × (2 ≤ scopeAt (now words) h .visibility
+        → scopeAt (now words) h .number < l .modules) ⌝ }
     ensures { λ r. ⌜ meant r ≡ meaningOf (snapOf (now (words .entry)) (now (area .entry)) l) (from .0) (scopeAt (now (words .entry)) h) ⌝ }
 {
     let kind = scope_visibility(words, h);
@@ -67,7 +68,8 @@ fn in_scope(
     name: Name,
 ) -> OptItem
     requires { ⌜ Reads (now words) (now area) l × (from .0 < l .modules) ⌝ }
-    ensures { λ r. ⌜ meant r ≡ entryOr (snapOf (now (words .entry)) (now (area .entry)) l) (from .0) none (entryNamed (snapOf (now (words .entry)) (now (area .entry)) l) (m .0) ns (name .0)) ⌝ }
+    ensures { λ r. ⌜ meant r ≡ entryOr (snapOf (now (words .entry)) (now (area .entry)) l) (from .0) none
+        (entryNamed (snapOf (now (words .entry)) (now (area .entry)) l) (m .0) ns (name .0)) ⌝ }
 {
     let Entry::At(h) = get(words, l, m, ns, name) else {
         return OptItem::NoItem;
@@ -138,7 +140,8 @@ pub(crate) fn first_name(
 // By the variants of an enum.
 fn in_enum(words: &[u32], l: Layout, d: DefinitionId, ns: usize, name: Name) -> OptItem
     requires { ⌜ wordCount l < 2 ^ 32 ⌝ }
-    ensures { λ r. ⌜ ((A : List ℕ) → meant r ≡ variantIn (snapOf (now (words .entry)) A l) ns (variantNamed (snapOf (now (words .entry)) A l) (d .0) (name .0))) ⌝ }
+    ensures { λ r. ⌜ ((A : List ℕ) → meant r ≡ variantIn (snapOf (now (words .entry)) A l) ns
+        (variantNamed (snapOf (now (words .entry)) A l) (d .0) (name .0))) ⌝ }
 {
     let Entry::At(h) = variant_named(words, l, d, name) else {
         return OptItem::NoItem;

@@ -50,7 +50,8 @@ fn follow(
     count: usize,
 ) -> OptItem
     requires { ⌜ Reads (now words) (now area) l × (from .0 < l .modules) × (count ≤ length (now names)) ⌝ }
-    ensures { λ r. ⌜ meant r ≡ followOf (snapOf (now (words .entry)) (now (area .entry)) l) (from .0) ns (meant start) (rows (λ i. getD (now (names .entry)) i 0) first (count - first)) ⌝ }
+    ensures { λ r. ⌜ meant r ≡ followOf (snapOf (now (words .entry)) (now (area .entry)) l) (from .0) ns (meant start)
+        (rows (λ i. getD (now (names .entry)) i 0) first (count - first)) ⌝ }
 {
     let mut here = start;
     let mut k = first;
@@ -65,7 +66,8 @@ fn follow(
 // What `super` means.
 fn super_of(words: &[u32], area: &[u32], l: Layout, from: ModuleId) -> OptItem
     requires { ⌜ Reads (now words) (now area) l × (from .0 < l .modules) ⌝ }
-    ensures { λ r. ⌜ meant r ≡ parentMeans (snapOf (now (words .entry)) (now (area .entry)) l) (parentOf (snapOf (now (words .entry)) (now (area .entry)) l) (standsFor (snapOf (now (words .entry)) (now (area .entry)) l) (from .0))) ⌝ }
+    ensures { λ r. ⌜ meant r ≡ parentMeans (snapOf (now (words .entry)) (now (area .entry)) l)
+        (parentOf (snapOf (now (words .entry)) (now (area .entry)) l) (standsFor (snapOf (now (words .entry)) (now (area .entry)) l) (from .0))) ⌝ }
 {
     let m = stands_for(words, area, l, from);
     let OptModule::Module(p) = parent(words, area, l, m) else {

@@ -8,7 +8,8 @@ use Rattle.snapshot.specs.Lists.{rows, any, all, eqList}
 use Rattle.snapshot.specs.Words.{argumentsOf}
 use Rattle.snapshot.specs.Records.{Snapshot}
 use Rattle.check_rules.specs.Tests.{textBound, padded}
-use Rattle.check_rules.specs.Steps.{nameStep, crateStep, dependencyStep, mapStep, moduleStep, childStep, preludeStep, definitionStep, scopeStep, importStep, externStep, memberStep}
+use Rattle.check_rules.specs.Steps.{nameStep, crateStep, dependencyStep, mapStep, moduleStep, childStep, preludeStep, definitionStep, scopeStep}
+use Rattle.check_rules.specs.Steps.{importStep, externStep, memberStep}
 use Rattle.check_rules.specs.Verdict.{Verdict, refuse, accept, argumentsFrom, recordStep, stepAt, finish, records, verdict}
 use Rattle.tree_rules.specs.Modules.{placeOf, moduleOf, mapOf, rootOf, ownMap, crateRoot, orElse, containing}
 use Rattle.tree_rules.specs.Visibility.{lastOr, lastTo, last, metOr, metTo, met, unless, climbStep, climb, inModule, isVisibleFrom}
@@ -17,7 +18,9 @@ use Rattle.hir_def.specs.Items.{definitionOf, itemOf, sameItem, moduleItem, def
 use Rattle.hir_def.specs.ItemScope.{get}
 use Rattle.hir_def.specs.Nameres.{stepsOr, stepsTo, steps, preludeOf}
 use Rattle.hir_def.specs.declared.Item.{Item}
-use Rattle.readings.specs.Reads.{outward, scopesFrom, standsFor, meaning, entryOr, externNamed, externMeans, inExterns, preludeMeans, inPreludeOf, entryFrom, firstName, variantNamed, variantIn, laterName, after, lookedIn, follow, plainly, absolutely, parentMeans, readsTo}
+use Rattle.readings.specs.Reads.{outward, scopesFrom, standsFor, meaning, entryOr, externNamed, externMeans, inExterns, preludeMeans}
+use Rattle.readings.specs.Reads.{inPreludeOf, entryFrom, firstName, variantNamed, variantIn, laterName, after, lookedIn, follow, plainly}
+use Rattle.readings.specs.Reads.{absolutely, parentMeans, readsTo}
 
 -- viewing module, namespace, kind of the path, its names, and what it means
 pub record Row : Type 0 where
@@ -48,12 +51,12 @@ head kind payload = kind * 0x10000000 + payload
 --   mod a /* 1 */ { pub fn f() { /* 6 */ } use super::g; }
 --   use a::f; enum E { V, V, W } pub fn g() {} struct t; const t; pub(in a) use a::f as h; macro a() {}
 --   fn o() { /* 2 */ fn f() {} pub(in c) fn g() {} const t; mod c /* 3 */ {} { /* 4 */ mod e /* 5 */ {} } }
---   the dependency's root /* 7 */ { pub fn f() {} pub(crate) fn t() {} mod prelude /* 8 */ { pub fn f() {} pub fn p() {} pub fn h() {} pub struct d; } }
--- The prelude is that of the crate's own map and of the inner block's. There are two variants `V`, the later definition first among the members,
--- none for `W`, and a function `f` among the members of `E`. The module `c` is an entry of the root in values, and the outer
--- block's root one in types as `p`, which no Rust source gives.
--- Names: 0 `a`, 1 `f`, 2 `E`, 3 `V`, 4 `g`, 5 `W`, 6 `p`, 7 `t`, 8 `h`, 9 `c`, 10 `d`.
--- Definitions: 0 `a`; 1 `a`'s f; 2 the block's f; 3 `E`; 4 `V`; 5 `W`; 6 g; 7 the block's g; 8 the dependency's f; 9 p; 10 the type t; 11 the value t;
+-- the dependency's root /* 7 */ { pub fn f() {} pub(crate) fn t() {} mod prelude /* 8 */ { pub fn f() {} pub fn p() {} pub fn h() {} pub
+-- struct d; } } The prelude is that of the crate's own map and of the inner block's. There are two variants `V`, the later definition first
+-- among the members, none for `W`, and a function `f` among the members of `E`. The module `c` is an entry of the root in values, and the
+-- outer block's root one in types as `p`, which no Rust source gives. Names: 0 `a`, 1 `f`, 2 `E`, 3 `V`, 4 `g`, 5 `W`, 6 `p`, 7 `t`, 8 `h`,
+-- 9 `c`, 10 `d`. Definitions: 0 `a`; 1 `a`'s f; 2 the block's f; 3 `E`; 4 `V`; 5 `W`; 6 g; 7 the block's g; 8 the dependency's f; 9 p; 10
+-- the type t; 11 the value t;
 -- 12 the block's t; 13 `c`; 14 the second `V`; 15 the macro a; 16 the prelude's d; 17 the outer block's root.
 pub blocks : List ℕ
 blocks =
@@ -185,5 +188,10 @@ pub block-reads : reads (verdict blocks)
     ∷ record { from = 0; ns = 0; kind = 0; names = []; means = none }
     ∷ record { from = 0; ns = 0; kind = 4; names = []; means = none }
     ∷ []) ≡ true
-unfolding reads agrees alike head blocks readsTo parentMeans absolutely plainly follow lookedIn after laterName variantIn variantNamed firstName entryFrom inPreludeOf preludeMeans inExterns externMeans externNamed entryOr meaning standsFor scopesFrom outward lastOr lastTo last metOr metTo met unless climbStep climb inModule isVisibleFrom stepsOr stepsTo steps preludeOf get firstOf orFirst firstSome itemOf sameItem definitionOf moduleOf mapOf rootOf ownMap crateRoot orElse containing placeOf verdict records stepAt recordStep finish argumentsFrom argumentsOf nameStep crateStep dependencyStep mapStep moduleStep childStep preludeStep definitionStep scopeStep importStep externStep memberStep textBound padded rows any all eqList
+unfolding reads agrees alike head blocks readsTo parentMeans absolutely plainly follow lookedIn after laterName variantIn variantNamed
+    firstName entryFrom inPreludeOf preludeMeans inExterns externMeans externNamed entryOr meaning standsFor scopesFrom outward
+    lastOr lastTo last metOr metTo met unless climbStep climb inModule isVisibleFrom stepsOr stepsTo steps preludeOf get firstOf
+    orFirst firstSome itemOf sameItem definitionOf moduleOf mapOf rootOf ownMap crateRoot orElse containing placeOf verdict records
+    stepAt recordStep finish argumentsFrom argumentsOf nameStep crateStep dependencyStep mapStep moduleStep childStep preludeStep
+    definitionStep scopeStep importStep externStep memberStep textBound padded rows any all eqList
 block-reads = refl

@@ -11,8 +11,11 @@ use Rattle.snapshot.specs.Lists.{any}
 use Rattle.snapshot.specs.Limits.{nameLimit, moduleLimit, definitionLimit}
 use Rattle.snapshot.specs.Words.{payOf, wordsOf}
 use Rattle.snapshot.specs.Sizes.{crateSize, dependencySize, childSize, preludeSize, definitionSize, scopeSize, importSize, externSize, memberSize}
-use Rattle.snapshot.specs.Records.{Map, Snapshot, nameAt, crateAt, dependencyAt, mapAt, moduleAt, childAt, preludeAt, definitionAt, scopeAt, importAt, externAt, memberAt}
-use Rattle.snapshot.specs.Layouts.{wordCount, crateBase, dependencyBase, mapBase, childBase, preludeBase, definitionBase, scopeBase, importBase, externBase, memberBase, nameHead, moduleMap, moduleHead, moduleRow, ownMap, namesOf, modulesOf, recordsOf, snapWith, moduleTable, rootTable, crateTable, tableWords}
+use Rattle.snapshot.specs.Records.{Map, Snapshot, nameAt, crateAt, dependencyAt, mapAt, moduleAt, childAt, preludeAt, definitionAt, scopeAt, importAt}
+use Rattle.snapshot.specs.Records.{externAt, memberAt}
+use Rattle.snapshot.specs.Layouts.{wordCount, crateBase, dependencyBase, mapBase, childBase, preludeBase, definitionBase, scopeBase, importBase}
+use Rattle.snapshot.specs.Layouts.{externBase, memberBase, nameHead, moduleMap, moduleHead, moduleRow, ownMap, namesOf, modulesOf, recordsOf}
+use Rattle.snapshot.specs.Layouts.{snapWith, moduleTable, rootTable, crateTable, tableWords}
 use Rattle.snapshot.specs.declared.layout.Layout.{Layout}
 use Rattle.snapshot.proofs.Laws.{rows-snoc, rows-zero, rows-ext}
 use Rattle.check_rules.specs.Tests.{noMap}
@@ -20,7 +23,7 @@ use Rattle.check_rules.specs.Steps.{judge}
 use Rattle.record_rules.specs.Stands.{ownOf, Upto, Limited, Indexes, Stands, Answered}
 use Rattle.record_rules.specs.declared.judge.Step.the-variants.{On}
 use Rattle.record_rules.proofs.Judged.{Judged, judged-on}
-use Rattle.record_rules.proofs.Indexed.{Kept, Above, SameRuns, indexes-kept}
+use Rattle.record_rules.proofs.Indexed.{Kept, Above, indexes-kept}
 
 -- a count and a list of kind j, with one record of kind k more
 
@@ -94,7 +97,8 @@ there k j n z h = by (leb j k) refl
     by false e = let q = z (leb-false j k e) in absurd (omega arith)
 
 -- the records of kind j, from b on, and from c on with one of kind k more
-list-grown : {R : Type 0} (f : List ℕ → ℕ → R) (size : ℕ) (W : List ℕ) (k j n at b c : ℕ) → (k ≡ j → b + size * n ≡ at) → (j ≤ k → c ≡ b) → (k < j → n ≡ 0)
+list-grown : {R : Type 0} (f : List ℕ → ℕ → R) (size : ℕ) (W : List ℕ) (k j n at b c : ℕ) → (k ≡ j → b + size * n ≡ at)
+    → (j ≤ k → c ≡ b) → (k < j → n ≡ 0)
     → recordsOf f size W c (more k j n) ≡ moreOf k j (recordsOf f size W b n) (f W at)
 list-grown f size W k j n at b c e s z = by (eqb k j) refl
   where
@@ -102,10 +106,12 @@ list-grown f size W k j n at b c e s z = by (eqb k j) refl
     stays true q = ap (λ x. recordsOf f size W x n) (s (leb-true j k q))
     stays false q = rows-zero _ _ n (z (leb-false j k q))
 
-    by : (t : Bool) → eqb k j ≡ t → recordsOf f size W c (elim t [ true ↦ n + 1 | false ↦ n ]) ≡ elim t [ true ↦ recordsOf f size W b n ++ (f W at ∷ []) | false ↦ recordsOf f size W b n ]
+    by : (t : Bool) → eqb k j ≡ t → recordsOf f size W c (elim t [ true ↦ n + 1 | false ↦ n ])
+        ≡ elim t [ true ↦ recordsOf f size W b n ++ (f W at ∷ []) | false ↦ recordsOf f size W b n ]
     by true q =
         let h = eqb-true k j q in
-        ap (λ x. recordsOf f size W x (n + 1)) (s (omega arith)) ∙ rows-snoc (λ i. f W (b + size * i)) n ∙ ap (λ x. recordsOf f size W b n ++ (f W x ∷ [])) (e h)
+        ap (λ x. recordsOf f size W x (n + 1)) (s (omega arith)) ∙ rows-snoc (λ i. f W (b + size * i)) n
+        ∙ ap (λ x. recordsOf f size W b n ++ (f W x ∷ [])) (e h)
     by false q = stays (leb j k) refl
 
 -- the names and modules of tables that are kept
@@ -171,15 +177,24 @@ module _ (W A B : List ℕ) (k at text latest : ℕ) (l : Layout) (ms : List Map
 
   same-bases : SameBases
   same-bases =
-      let b3 : 3 ≤ k → dependencyBase (grown k text latest l) ≡ dependencyBase l = λ h. (let p = texts (omega arith) in let q = more-other k 2 (l .crates) (λ e. omega arith) in omega arith) in
-      let b4 : 4 ≤ k → mapBase (grown k text latest l) ≡ mapBase l = λ h. (let p = b3 (omega arith) in let q = more-other k 3 (l .dependencies) (λ e. omega arith) in omega arith) in
-      let b6 : 6 ≤ k → childBase (grown k text latest l) ≡ childBase l = λ h. (let p = b4 (omega arith) in let q = more-other k 4 (l .maps) (λ e. omega arith) in let r = more-other k 5 (l .modules) (λ e. omega arith) in omega arith) in
-      let b7 : 7 ≤ k → preludeBase (grown k text latest l) ≡ preludeBase l = λ h. (let p = b6 (omega arith) in let q = more-other k 6 (l .children) (λ e. omega arith) in omega arith) in
-      let b8 : 8 ≤ k → definitionBase (grown k text latest l) ≡ definitionBase l = λ h. (let p = b7 (omega arith) in let q = more-other k 7 (l .preludes) (λ e. omega arith) in omega arith) in
-      let b9 : 9 ≤ k → scopeBase (grown k text latest l) ≡ scopeBase l = λ h. (let p = b8 (omega arith) in let q = more-other k 8 (l .definitions) (λ e. omega arith) in omega arith) in
-      let b10 : 10 ≤ k → importBase (grown k text latest l) ≡ importBase l = λ h. (let p = b9 (omega arith) in let q = more-other k 9 (l .scopes) (λ e. omega arith) in omega arith) in
-      let b11 : 11 ≤ k → externBase (grown k text latest l) ≡ externBase l = λ h. (let p = b10 (omega arith) in let q = more-other k 10 (l .imports) (λ e. omega arith) in omega arith) in
-      let b13 : 13 ≤ k → memberBase (grown k text latest l) ≡ memberBase l = λ h. (let p = b11 (omega arith) in let q = more-other k 11 (l .externs) (λ e. omega arith) in omega arith) in
+      let b3 : 3 ≤ k → dependencyBase (grown k text latest l) ≡ dependencyBase l = λ h. (let p = texts (omega arith) in let q =
+      more-other k 2 (l .crates) (λ e. omega arith) in omega arith) in
+      let b4 : 4 ≤ k → mapBase (grown k text latest l) ≡ mapBase l = λ h. (let p = b3 (omega arith) in let q = more-other k 3
+      (l .dependencies) (λ e. omega arith) in omega arith) in
+      let b6 : 6 ≤ k → childBase (grown k text latest l) ≡ childBase l = λ h. (let p = b4 (omega arith) in let q = more-other k 4
+      (l .maps) (λ e. omega arith) in let r = more-other k 5 (l .modules) (λ e. omega arith) in omega arith) in
+      let b7 : 7 ≤ k → preludeBase (grown k text latest l) ≡ preludeBase l = λ h. (let p = b6 (omega arith) in let q = more-other k 6
+      (l .children) (λ e. omega arith) in omega arith) in
+      let b8 : 8 ≤ k → definitionBase (grown k text latest l) ≡ definitionBase l = λ h. (let p = b7 (omega arith) in let q =
+      more-other k 7 (l .preludes) (λ e. omega arith) in omega arith) in
+      let b9 : 9 ≤ k → scopeBase (grown k text latest l) ≡ scopeBase l = λ h. (let p = b8 (omega arith) in let q = more-other k 8
+      (l .definitions) (λ e. omega arith) in omega arith) in
+      let b10 : 10 ≤ k → importBase (grown k text latest l) ≡ importBase l = λ h. (let p = b9 (omega arith) in let q = more-other k 9
+      (l .scopes) (λ e. omega arith) in omega arith) in
+      let b11 : 11 ≤ k → externBase (grown k text latest l) ≡ externBase l = λ h. (let p = b10 (omega arith) in let q = more-other k 10
+      (l .imports) (λ e. omega arith) in omega arith) in
+      let b13 : 13 ≤ k → memberBase (grown k text latest l) ≡ memberBase l = λ h. (let p = b11 (omega arith) in let q = more-other k 11
+      (l .externs) (λ e. omega arith) in omega arith) in
       record { dependency = b3; child = b6; prelude = b7; definition = b8; scope = b9; import = b10; extern = b11; member = b13 }
 
   -- and the words of kind k end at the place
@@ -210,7 +225,8 @@ module _ (W A B : List ℕ) (k at text latest : ℕ) (l : Layout) (ms : List Map
       record { name = e1; crate = e2; dependency = e3; child = e6; prelude = e7; definition = e8; scope = e9; import = e10; extern = e11 }
 
   -- the names, maps and modules of the tables are given
-  pub lists-grown : {ns : List Map} → namesOf W B (more k 1 (l .names)) ≡ moreOf k 1 (namesOf W A (l .names)) (nameAt W at) → ns ≡ moreOf k 4 ms (mapAt W at)
+  pub lists-grown : {ns : List Map} → namesOf W B (more k 1 (l .names)) ≡ moreOf k 1 (namesOf W A (l .names)) (nameAt W at)
+      → ns ≡ moreOf k 4 ms (mapAt W at)
       → modulesOf B (more k 5 (l .modules)) ≡ moreOf k 5 (modulesOf A (l .modules)) (moduleAt W at)
       → snapWith W B (grown k text latest l) ns ≡ addAt k W at (snapWith W A l ms)
   lists-grown names maps modules =
@@ -218,15 +234,30 @@ module _ (W A B : List ℕ) (k at text latest : ℕ) (l : Layout) (ms : List Map
       let s = same-bases in
       let e = ends in
       let p2 = list-grown crateAt crateSize W k 2 (l .crates) at (crateBase l) text (λ h. e .crate (omega arith)) texts (u .crates) in
-      let p3 = list-grown dependencyAt dependencySize W k 3 (l .dependencies) at (dependencyBase l) _ (λ h. e .dependency (omega arith)) (s .dependency) (u .dependencies) in
+      let p3 = list-grown dependencyAt dependencySize W k 3 (l .dependencies) at (dependencyBase l) _ (λ h. e .dependency (omega arith))
+      (s .dependency) (u .dependencies) in
       let p6 = list-grown childAt childSize W k 6 (l .children) at (childBase l) _ (λ h. e .child (omega arith)) (s .child) (u .children) in
       let p7 = list-grown preludeAt preludeSize W k 7 (l .preludes) at (preludeBase l) _ (λ h. e .prelude (omega arith)) (s .prelude) (u .preludes) in
-      let p8 = list-grown definitionAt definitionSize W k 8 (l .definitions) at (definitionBase l) _ (λ h. e .definition (omega arith)) (s .definition) (u .definitions) in
+      let p8 = list-grown definitionAt definitionSize W k 8 (l .definitions) at (definitionBase l) _ (λ h. e .definition (omega arith))
+      (s .definition) (u .definitions) in
       let p9 = list-grown scopeAt scopeSize W k 9 (l .scopes) at (scopeBase l) _ (λ h. e .scope (omega arith)) (s .scope) (u .scopes) in
       let p10 = list-grown importAt importSize W k 10 (l .imports) at (importBase l) _ (λ h. e .import (omega arith)) (s .import) (u .imports) in
       let p11 = list-grown externAt externSize W k 11 (l .externs) at (externBase l) _ (λ h. e .extern (omega arith)) (s .extern) (u .externs) in
       let p13 = list-grown memberAt memberSize W k 13 (l .members) at (memberBase l) _ (λ h. st .place) (s .member) (u .members) in
-      λ i. record { names = names i; crates = p2 i; dependencies = p3 i; maps = maps i; modules = modules i; children = p6 i; preludes = p7 i; definitions = p8 i; scopes = p9 i; imports = p10 i; externs = p11 i; members = p13 i }
+      λ i. record {
+        names = names i;
+        crates = p2 i;
+        dependencies = p3 i;
+        maps = maps i;
+        modules = modules i;
+        children = p6 i;
+        preludes = p7 i;
+        definitions = p8 i;
+        scopes = p9 i;
+        imports = p10 i;
+        externs = p11 i;
+        members = p13 i;
+      }
 
   pub upto-grown : Upto k (grown k text latest l)
   upto-grown =
@@ -268,7 +299,8 @@ module _ (W A B : List ℕ) (k at text latest : ℕ) (l : Layout) (ms : List Map
       })
 
   pub stands-grown : {next : ℕ} {ns : List Map} → wordCount (grown k text latest l) ≡ next → next ≤ length W → Limited (grown k text latest l)
-      → Told W B (more k 1 (l .names)) (more k 2 (l .crates)) (more k 4 (l .maps)) (more k 5 (l .modules)) latest ns → Indexes W B (grown k text latest l)
+      → Told W B (more k 1 (l .names)) (more k 2 (l .crates)) (more k 4 (l .maps)) (more k 5 (l .modules)) latest ns
+      → Indexes W B (grown k text latest l)
       → Stands W B k next (grown k text latest l) ns
   stands-grown place fits limited t index =
       record {
@@ -297,7 +329,8 @@ module _ (W A B : List ℕ) (k at : ℕ) (l : Layout) (ms : List Map) (st : Stan
         (rw (n4, moreOf))
         (rw (n5, more, moreOf) (modules-kept A B (l .modules) (st .limited .modules) (λ i u v. kept i (omega arith) (omega arith))))
 
-    pub plain-stands : {next : ℕ} → wordCount (oneMore k l) ≡ next → next ≤ length W → (k ≡ 8 → l .definitions < definitionLimit) → Indexes W B (oneMore k l)
+    pub plain-stands : {next : ℕ} → wordCount (oneMore k l) ≡ next → next ≤ length W → (k ≡ 8 → l .definitions < definitionLimit)
+        → Indexes W B (oneMore k l)
         → Stands W B k next (oneMore k l) ms
     plain-stands place fits room index =
         let d = st .limited in
@@ -310,7 +343,8 @@ module _ (W A B : List ℕ) (k at : ℕ) (l : Layout) (ms : List Map) (st : Stan
         })
         (rw (n1, n2, n4, n5, more) (told-kept W A B k at l ms st kept)) index
 
-    pub plain-on : {n next : ℕ} {a b c d e : Bool} → Judged n a b c d e → n ≡ 0 → wordCount (oneMore k l) ≡ next → next ≤ length W → (k ≡ 8 → l .definitions < definitionLimit)
+    pub plain-on : {n next : ℕ} {a b c d e : Bool} → Judged n a b c d e → n ≡ 0 → wordCount (oneMore k l) ≡ next → next ≤ length W
+        → (k ≡ 8 → l .definitions < definitionLimit)
         → Indexes W B (oneMore k l) → Answered W B k next (judge a b c d e (addAt k W at (snapWith W A l ms))) (On (oneMore k l))
     plain-on j z place fits room index = judged-on j z plain-added (plain-stands place fits room index)
 

@@ -15,8 +15,10 @@ use Rattle.snapshot.specs.Sizes.{childSize, definitionSize, scopeSize, externSi
 use Rattle.snapshot.specs.Records.{Name, nameAt}
 use Rattle.snapshot.specs.Layouts.{childBase, definitionBase, scopeBase, externBase, noRecords, nameHead, namesOf, moduleTable, tableWords}
 use Rattle.snapshot.specs.declared.layout.Layout.{Layout}
-use Rattle.chains.specs.Chains.{keys, nameKey, recordKey, slotOf, Marked, Last, Chained, linked, nameHeads, scopeHeads, externHeads, childMarks, moduleMarks, marksEnd, nameLinks, scopeLinks, externLinks}
-use Rattle.chains.proofs.Laws.{marked-none, marked-kept, chained-kept, chained-none, chained-linked, linked-other, first-of, next-of, Walking, walk-start, walk-hit, walk-miss, walk-end}
+use Rattle.chains.specs.Chains.{keys, nameKey, recordKey, slotOf, Marked, Last, Chained, linked, nameHeads, scopeHeads, externHeads, childMarks}
+use Rattle.chains.specs.Chains.{moduleMarks, marksEnd, nameLinks, scopeLinks, externLinks}
+use Rattle.chains.proofs.Laws.{marked-none, marked-kept, chained-kept, chained-none, chained-linked, linked-other, first-of, next-of, Walking}
+use Rattle.chains.proofs.Laws.{walk-start, walk-hit, walk-miss, walk-end}
 use Rattle.check_rules.specs.Tests.{sameName}
 use Rattle.record_rules.specs.Stands.{Upto, Indexes}
 use Rattle.record_rules.proofs.Judged.{and-left, and-right}
@@ -65,7 +67,8 @@ pub record SameRuns (l m : Layout) : Type 0 where
   pub extern : 0 < l .externs → externBase m ≡ externBase l
 
 -- a record of another kind
-pub indexes-kept : (W A B : List ℕ) (l m : Layout) → Indexes W A l → l .names ≤ nameLimit → Kept A B 0 moduleTable → Above A B → SameRuns l m → Indexes W B m
+pub indexes-kept : (W A B : List ℕ) (l m : Layout) → Indexes W A l → l .names ≤ nameLimit → Kept A B 0 moduleTable → Above A B
+    → SameRuns l m → Indexes W B m
 indexes-kept W A B l m ix few heads above s =
     record {
       names =
@@ -74,10 +77,12 @@ indexes-kept W A B l m ix few heads above s =
           (λ i h. ap (λ x. nameKey (nameAt W x)) (heads i (omega arith) (omega arith))));
       children =
           subst (λ k. Marked B childMarks (λ j. getD W (childBase m + childSize * j + 1) 0) k) (sym (s .children))
-          (marked-kept A B childMarks _ _ (l .children) (ix .children) (λ b h. above _ (omega arith)) (λ i h. ap (λ x. getD W (x + childSize * i + 1) 0) (s .child (omega arith))));
+          (marked-kept A B childMarks _ _ (l .children) (ix .children) (λ b h. above _ (omega arith))
+          (λ i h. ap (λ x. getD W (x + childSize * i + 1) 0) (s .child (omega arith))));
       definitions =
           subst (λ k. Marked B moduleMarks (λ j. slotOf W (definitionBase m + definitionSize * j)) k) (sym (s .definitions))
-          (marked-kept A B moduleMarks _ _ (l .definitions) (ix .definitions) (λ b h. above _ (omega arith)) (λ i h. ap (λ x. slotOf W (x + definitionSize * i)) (s .definition (omega arith))));
+          (marked-kept A B moduleMarks _ _ (l .definitions) (ix .definitions) (λ b h. above _ (omega arith))
+          (λ i h. ap (λ x. slotOf W (x + definitionSize * i)) (s .definition (omega arith))));
       scopes =
           subst (λ k. Chained B scopeHeads scopeLinks (λ i. recordKey W 2 (scopeBase m + scopeSize * i)) k) (sym (s .scopes))
           (chained-kept A B scopeHeads scopeLinks _ _ (l .scopes) (ix .scopes) (λ b h. above _ (omega arith)) (λ i h. above _ (omega arith))
@@ -97,10 +102,17 @@ pub record Early (k : ℕ) (l : Layout) : Type 0 where
 
 pub early : (k : ℕ) (l : Layout) → Upto k l → k < 6 → Early k l
 early k l u h =
-    record { children = u .children h; definitions = u .definitions (omega arith); scopes = u .scopes (omega arith); externs = u .externs (omega arith) }
+    record {
+      children = u .children h;
+      definitions = u .definitions (omega arith);
+      scopes = u .scopes (omega arith);
+      externs =
+          u .externs (omega arith);
+    }
 
 -- one name more: its head in the table, its number on the chain of its key
-module _ (W A : List ℕ) (l : Layout) (at key : ℕ) (ix : Indexes W A l) (room : l .names < nameLimit) (large : areaLimit ≤ length A) (ek : key ≡ nameKey (nameAt W at)) where
+module _ (W A : List ℕ) (l : Layout) (at key : ℕ) (ix : Indexes W A l) (room : l .names < nameLimit) (large : areaLimit ≤ length A)
+    (ek : key ≡ nameKey (nameAt W at)) where
   small : key < keys
   small = key-small _ ek
 
@@ -110,19 +122,24 @@ module _ (W A : List ℕ) (l : Layout) (at key : ℕ) (ix : Indexes W A l) (room
       (λ b h. set-above A (l .names) at (omega arith) _ (omega arith)) (λ i h. set-above A (l .names) at (omega arith) _ (omega arith))
       (λ i h. ap (λ x. nameKey (nameAt W x)) (getD-set-other A (l .names) i at 0 (omega arith)))
 
-  new-chain : Chained (linked (set A (l .names) at) nameHeads nameLinks key (l .names)) nameHeads nameLinks (keyAt W (set A (l .names) at)) (l .names + 1)
+  new-chain : Chained (linked (set A (l .names) at) nameHeads nameLinks key (l .names)) nameHeads nameLinks (keyAt W (set A (l .names) at))
+      (l .names + 1)
   new-chain =
       let p = small in
-      chained-linked (set A (l .names) at) nameHeads nameLinks key (l .names) (keyAt W (set A (l .names) at)) old-chain (omega arith) (simp length-set (omega arith)) small
+      chained-linked (set A (l .names) at) nameHeads nameLinks key (l .names) (keyAt W (set A (l .names) at)) old-chain (omega arith)
+      (simp length-set (omega arith)) small
       (ap (λ x. nameKey (nameAt W x)) (getD-set-same A (l .names) at 0 (omega arith)) ∙ sym ek)
 
-  pub name-stays : (i : ℕ) → i < tableWords → getD (linked (set A (l .names) at) nameHeads nameLinks key (l .names)) i 0 ≡ getD (set A (l .names) at) i 0
+  pub name-stays : (i : ℕ) → i < tableWords → getD (linked (set A (l .names) at) nameHeads nameLinks key (l .names)) i 0
+      ≡ getD (set A (l .names) at) i 0
   name-stays i h = linked-other (set A (l .names) at) nameHeads nameLinks key (l .names) i (omega arith) (omega arith)
 
   head-stays : (i : ℕ) → scopeHeads ≤ i → i < nameLinks → getD (linked (set A (l .names) at) nameHeads nameLinks key (l .names)) i 0 ≡ getD A i 0
-  head-stays i h k = let p = small in linked-other (set A (l .names) at) nameHeads nameLinks key (l .names) i (omega arith) (omega arith) ∙ set-above A (l .names) at (omega arith) i (omega arith)
+  head-stays i h k = let p = small in linked-other (set A (l .names) at) nameHeads nameLinks key (l .names) i (omega arith) (omega arith)
+      ∙ set-above A (l .names) at (omega arith) i (omega arith)
 
-  pub names-linked : (m : Layout) → Early 1 l → Early 1 m → m .names ≡ l .names + 1 → Indexes W (linked (set A (l .names) at) nameHeads nameLinks key (l .names)) m
+  pub names-linked : (m : Layout) → Early 1 l → Early 1 m → m .names ≡ l .names + 1
+      → Indexes W (linked (set A (l .names) at) nameHeads nameLinks key (l .names)) m
   names-linked m zl zm en =
       let zc = zl .children in
       let zd = zl .definitions in
@@ -130,21 +147,31 @@ module _ (W A : List ℕ) (l : Layout) (at key : ℕ) (ix : Indexes W A l) (room
       let ze = zl .externs in
       record {
         names =
-            subst (λ k. Chained (linked (set A (l .names) at) nameHeads nameLinks key (l .names)) nameHeads nameLinks (keyAt W (linked (set A (l .names) at) nameHeads nameLinks key (l .names))) k) (sym en)
-            (chained-kept (linked (set A (l .names) at) nameHeads nameLinks key (l .names)) (linked (set A (l .names) at) nameHeads nameLinks key (l .names)) nameHeads nameLinks _ _ (l .names + 1) new-chain
+            subst (λ k. Chained (linked (set A (l .names) at) nameHeads nameLinks key (l .names)) nameHeads nameLinks
+            (keyAt W (linked (set A (l .names) at) nameHeads nameLinks key (l .names))) k) (sym en)
+            (chained-kept (linked (set A (l .names) at) nameHeads nameLinks key (l .names))
+            (linked (set A (l .names) at) nameHeads nameLinks key (l .names)) nameHeads nameLinks _ _ (l .names + 1) new-chain
             (λ b h. refl) (λ i h. refl) (λ i h. ap (λ x. nameKey (nameAt W x)) (name-stays i (omega arith))));
         children =
-            subst (λ k. Marked (linked (set A (l .names) at) nameHeads nameLinks key (l .names)) childMarks (λ j. getD W (childBase m + childSize * j + 1) 0) k) (zc ∙ sym (zm .children))
-            (marked-kept A _ childMarks _ _ (l .children) (ix .children) (λ b h. head-stays _ (omega arith) (omega arith)) (λ i h. absurd (omega arith)));
+            subst (λ k. Marked (linked (set A (l .names) at) nameHeads nameLinks key (l .names)) childMarks
+            (λ j. getD W (childBase m + childSize * j + 1) 0) k) (zc ∙ sym (zm .children))
+            (marked-kept A _ childMarks _ _ (l .children) (ix .children) (λ b h. head-stays _ (omega arith) (omega arith))
+            (λ i h. absurd (omega arith)));
         definitions =
-            subst (λ k. Marked (linked (set A (l .names) at) nameHeads nameLinks key (l .names)) moduleMarks (λ j. slotOf W (definitionBase m + definitionSize * j)) k) (zd ∙ sym (zm .definitions))
-            (marked-kept A _ moduleMarks _ _ (l .definitions) (ix .definitions) (λ b h. head-stays _ (omega arith) (omega arith)) (λ i h. absurd (omega arith)));
+            subst (λ k. Marked (linked (set A (l .names) at) nameHeads nameLinks key (l .names)) moduleMarks
+            (λ j. slotOf W (definitionBase m + definitionSize * j)) k) (zd ∙ sym (zm .definitions))
+            (marked-kept A _ moduleMarks _ _ (l .definitions) (ix .definitions) (λ b h. head-stays _ (omega arith) (omega arith))
+            (λ i h. absurd (omega arith)));
         scopes =
-            subst (λ k. Chained (linked (set A (l .names) at) nameHeads nameLinks key (l .names)) scopeHeads scopeLinks (λ i. recordKey W 2 (scopeBase m + scopeSize * i)) k) (zs ∙ sym (zm .scopes))
-            (chained-kept A _ scopeHeads scopeLinks _ _ (l .scopes) (ix .scopes) (λ b h. head-stays _ (omega arith) (omega arith)) (λ i h. absurd (omega arith)) (λ i h. absurd (omega arith)));
+            subst (λ k. Chained (linked (set A (l .names) at) nameHeads nameLinks key (l .names)) scopeHeads scopeLinks
+            (λ i. recordKey W 2 (scopeBase m + scopeSize * i)) k) (zs ∙ sym (zm .scopes))
+            (chained-kept A _ scopeHeads scopeLinks _ _ (l .scopes) (ix .scopes) (λ b h. head-stays _ (omega arith) (omega arith))
+            (λ i h. absurd (omega arith)) (λ i h. absurd (omega arith)));
         externs =
-            subst (λ k. Chained (linked (set A (l .names) at) nameHeads nameLinks key (l .names)) externHeads externLinks (λ i. recordKey W 1 (externBase m + externSize * i)) k) (ze ∙ sym (zm .externs))
-            (chained-kept A _ externHeads externLinks _ _ (l .externs) (ix .externs) (λ b h. head-stays _ (omega arith) (omega arith)) (λ i h. absurd (omega arith)) (λ i h. absurd (omega arith)));
+            subst (λ k. Chained (linked (set A (l .names) at) nameHeads nameLinks key (l .names)) externHeads externLinks
+            (λ i. recordKey W 1 (externBase m + externSize * i)) k) (ze ∙ sym (zm .externs))
+            (chained-kept A _ externHeads externLinks _ _ (l .externs) (ix .externs) (λ b h. head-stays _ (omega arith) (omega arith))
+            (λ i h. absurd (omega arith)) (λ i h. absurd (omega arith)));
       }
 
 -- names of the same text have the same key
@@ -165,11 +192,13 @@ name-key-same x y e =
     cc
 
 -- a walk along the names with the key of the name at a place
-module _ (W A : List ℕ) (at n : ℕ) {key : ℕ} (ch : Chained A nameHeads nameLinks (λ i. nameKey (nameAt W (nameHead A i))) n) (ek : key ≡ nameKey (nameAt W at)) where
+module _ (W A : List ℕ) (at n : ℕ) {key : ℕ} (ch : Chained A nameHeads nameLinks (λ i. nameKey (nameAt W (nameHead A i))) n)
+    (ek : key ≡ nameKey (nameAt W at)) where
   only : (j : ℕ) → sameName (nameAt W at) (nameAt W (nameHead A j)) ≡ true → nameKey (nameAt W (nameHead A j)) ≡ key
   only j h = name-key-same (nameAt W at) (nameAt W (nameHead A j)) h ∙ sym ek
 
-  pub names-start : {k : ℕ} → k ≡ getD A (nameHeads + key) 0 → Walking (sameName (nameAt W at)) (λ j. nameAt W (nameHead A j)) (λ i. nameKey (nameAt W (nameHead A i))) key n k
+  pub names-start : {k : ℕ} → k ≡ getD A (nameHeads + key) 0 → Walking (sameName (nameAt W at)) (λ j. nameAt W (nameHead A j))
+      (λ i. nameKey (nameAt W (nameHead A i))) key n k
   names-start e = walk-start _ _ _ _ _ only (first-of A nameHeads nameLinks _ n ch (key-small _ ek) e)
 
   module _ (k : ℕ) (w : Walking (sameName (nameAt W at)) (λ j. nameAt W (nameHead A j)) (λ i. nameKey (nameAt W (nameHead A i))) key n k)

@@ -1,5 +1,5 @@
 -- From the code's tests of a record to the step's definition.
-use Prim.Native.Nat.{ℕ, zero, suc, _+_, _-_, _*_, _≤_, _<_}
+use Prim.Native.Nat.{ℕ, zero, suc, _+_, _*_, _≤_, _<_}
 use mathlib.Core.Path.{_≡_, refl, sym, _∙_, ap, ap₂}
 use mathlib.Core.List.{List}
 use mathlib.Core.Bool.{Bool, true, false, _&&_, _||_, not, and-true, and-false, false≢true}
@@ -11,11 +11,14 @@ use borrow.Author.Tests.{ltb-true, ne-eqb}
 use Rattle.snapshot.specs.Lists.{rows, any}
 use Rattle.snapshot.specs.Words.{payOf}
 use Rattle.snapshot.specs.Sizes.{crateSize, preludeSize, definitionSize, scopeSize, externSize}
-use Rattle.snapshot.specs.Records.{Map, Snapshot, Child, Definition, Scope, Import, Member, nameAt, crateAt, preludeAt, definitionAt, scopeAt, externAt}
+use Rattle.snapshot.specs.Records.{Map, Snapshot, Child, Definition, Scope, Import, Member, nameAt, crateAt, preludeAt, definitionAt, scopeAt}
+use Rattle.snapshot.specs.Records.{externAt}
 use Rattle.snapshot.specs.Layouts.{recordsOf, snapWith, crateBase, definitionBase, nameHead, moduleMap, moduleParent, moduleRow}
 use Rattle.snapshot.specs.declared.layout.Layout.{Layout}
 use Rattle.snapshot.proofs.Laws.{length-rows, getD-rows}
-use Rattle.check_rules.specs.Tests.{Counts, countsOf, noModule, noDefinition, kindOfDefinition, nsPlaced, samePrelude, sameDefinition, sameEntry, sameExtern, scopeDefined, importDefined, childDefined, childPlaced, definitionDefined, definitionPlaced, memberDefined, isMember, memberPlaced}
+use Rattle.check_rules.specs.Tests.{Counts, countsOf, noModule, noDefinition, kindOfDefinition, nsPlaced, samePrelude, sameDefinition, sameEntry}
+use Rattle.check_rules.specs.Tests.{sameExtern, scopeDefined, importDefined, childDefined, childPlaced, definitionDefined, definitionPlaced}
+use Rattle.check_rules.specs.Tests.{memberDefined, isMember, memberPlaced}
 use Rattle.check_rules.specs.Steps.{no, on, judge, judgeCrate}
 use Rattle.record_rules.specs.Stands.{numberOf, crateNumberOf, sameBy, countsIn, Stands, Answered}
 use Rattle.record_rules.specs.declared.judge.Step.the-variants.{On}
@@ -123,7 +126,8 @@ counts-same W A k at l ms st =
       definitions = sym (length-rows (λ j. definitionAt W (definitionBase l + definitionSize * j)) (l .definitions)) i;
     }
 
-pub any-same : {A B : Type 0} (p : A → Bool) (q : B → Bool) (f : ℕ → A) (g : ℕ → B) (k n : ℕ) → ((i : ℕ) → p (f i) ≡ q (g i)) → any p (rows f k n) ≡ any q (rows g k n)
+pub any-same : {A B : Type 0} (p : A → Bool) (q : B → Bool) (f : ℕ → A) (g : ℕ → B) (k n : ℕ) → ((i : ℕ) → p (f i) ≡ q (g i))
+    → any p (rows f k n) ≡ any q (rows g k n)
 unfolding rows any
 any-same p q f g k zero h = refl
 any-same p q f g k (suc n) h = rw (h k, any-same p q f g (k + 1) n h)
@@ -140,16 +144,20 @@ unlike W owner (suc (suc (suc n))) a b h o d = absurd (omega arith)
 
 -- a record that repeats an earlier one
 module _ (W : List ℕ) (at base n : ℕ) where
-  pub prelude-again : any (sameBy W true 0 at) (rows (λ k. base + preludeSize * k) 0 n) ≡ any (samePrelude (preludeAt W at)) (recordsOf preludeAt preludeSize W base n)
+  pub prelude-again : any (sameBy W true 0 at) (rows (λ k. base + preludeSize * k) 0 n) ≡ any (samePrelude (preludeAt W at))
+      (recordsOf preludeAt preludeSize W base n)
   prelude-again = any-same _ _ _ _ 0 n (λ i. and-true _ ∙ and-true _)
 
-  pub definition-again : any (sameBy W true 1 at) (rows (λ k. base + definitionSize * k) 0 n) ≡ any (sameDefinition (definitionAt W at)) (recordsOf definitionAt definitionSize W base n)
+  pub definition-again : any (sameBy W true 1 at) (rows (λ k. base + definitionSize * k) 0 n) ≡ any (sameDefinition (definitionAt W at))
+      (recordsOf definitionAt definitionSize W base n)
   definition-again = any-same _ _ _ _ 0 n (λ i. and-true _)
 
-  pub scope-again : any (sameBy W true 2 at) (rows (λ k. base + scopeSize * k) 0 n) ≡ any (sameEntry (scopeAt W at)) (recordsOf scopeAt scopeSize W base n)
+  pub scope-again : any (sameBy W true 2 at) (rows (λ k. base + scopeSize * k) 0 n) ≡ any (sameEntry (scopeAt W at))
+      (recordsOf scopeAt scopeSize W base n)
   scope-again = any-same _ _ _ _ 0 n (λ i. refl)
 
-  pub extern-again : any (sameBy W true 1 at) (rows (λ k. base + externSize * k) 0 n) ≡ any (sameExtern (externAt W at)) (recordsOf externAt externSize W base n)
+  pub extern-again : any (sameBy W true 1 at) (rows (λ k. base + externSize * k) 0 n) ≡ any (sameExtern (externAt W at))
+      (recordsOf externAt externSize W base n)
   extern-again = any-same _ _ _ _ 0 n (λ i. and-true _)
 
 -- what a record's numbers may be relied on for, once 33 is passed
@@ -180,7 +188,8 @@ import-definition n x h =
 -- the kind of a definition that is there
 pub kind-same : (W A : List ℕ) (l : Layout) (ms : List Map) (d : ℕ) → d < l .definitions
     → definitionAt W (definitionBase l + definitionSize * d) .kind ≡ kindOfDefinition (snapWith W A l ms) d
-kind-same W A l ms d h = ap (λ x. x .kind) (sym (getD-rows (λ k. definitionAt W (definitionBase l + definitionSize * k)) noDefinition (l .definitions) d h))
+kind-same W A l ms d h = ap (λ x. x .kind) (sym (getD-rows (λ k. definitionAt W (definitionBase l + definitionSize * k)) noDefinition
+    (l .definitions) d h))
 
 pub ns-same : (W A : List ℕ) (l : Layout) (ms : List Map) (ns d : ℕ) → d < l .definitions
     → (not (eqb ns 2) || eqb (definitionAt W (definitionBase l + definitionSize * d) .kind) 5) ≡ nsPlaced (snapWith W A l ms) ns d
@@ -189,8 +198,10 @@ ns-same W A l ms ns d h = ap (λ k. not (eqb ns 2) || eqb k 5) (kind-same W A l 
 pub child-same : (W A : List ℕ) (l : Layout) (ms : List Map) (x : Child) → childDefined (countsIn l) x ≡ true
     → (eqb (moduleMap A (x .child)) (moduleMap A (x .owner)) && eqb (moduleParent A (x .child)) (x .owner + 1)) ≡ childPlaced (snapWith W A l ms) x
 child-same W A l ms x h =
-    let p = getD-rows (moduleRow A) noModule (l .modules) (x .owner) (ltb-true _ _ (and-left (ltb (x .owner) (l .modules)) (ltb (x .child) (l .modules)) h)) in
-    let q = getD-rows (moduleRow A) noModule (l .modules) (x .child) (ltb-true _ _ (and-right (ltb (x .owner) (l .modules)) (ltb (x .child) (l .modules)) h)) in
+    let p = getD-rows (moduleRow A) noModule (l .modules) (x .owner)
+    (ltb-true _ _ (and-left (ltb (x .owner) (l .modules)) (ltb (x .child) (l .modules)) h)) in
+    let q = getD-rows (moduleRow A) noModule (l .modules) (x .child)
+    (ltb-true _ _ (and-right (ltb (x .owner) (l .modules)) (ltb (x .child) (l .modules)) h)) in
     ap₂ (λ u v. eqb (u .map) (v .map) && eqb (u .parent) (x .owner + 1)) (sym q) (sym p)
 
 pub parent-same : (W A : List ℕ) (l : Layout) (ms : List Map) (x : Definition) → definitionDefined (countsIn l) x ≡ true
@@ -207,7 +218,8 @@ parent-same W A l ms x h =
     variant-same false d g = refl
 
 pub member-same : (W A : List ℕ) (l : Layout) (ms : List Map) (x : Member) → memberDefined (countsIn l) x ≡ true
-    → (eqb (definitionAt W (definitionBase l + definitionSize * x .parent) .kind) 4 && isMember (x .kind) (x .parent) (x .name) (definitionAt W (definitionBase l + definitionSize * x .definition))) ≡ memberPlaced (snapWith W A l ms) x
+    → (eqb (definitionAt W (definitionBase l + definitionSize * x .parent) .kind) 4 && isMember (x .kind) (x .parent) (x .name)
+    (definitionAt W (definitionBase l + definitionSize * x .definition))) ≡ memberPlaced (snapWith W A l ms) x
 member-same W A l ms x h =
     let n = member-numbers (countsIn l) x h in
     ap₂ (λ k d. eqb k 4 && isMember (x .kind) (x .parent) (x .name) d) (kind-same W A l ms (x .parent) (n .0))

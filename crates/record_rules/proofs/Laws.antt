@@ -103,7 +103,8 @@ pub text-same : (L R : List ℕ) (a b : ℕ) {x y n : ℕ} {r : Bool} → x ≡ 
     → r ≡ eqList (rows (λ i. getD L (a + 1 + i) 0) 0 n) (rows (λ i. getD R (b + 1 + i) 0) 0 n) → r ≡ sameName (nameAt L a) (nameAt R b)
 text-same L R a b ex ey e en h =
     and-yes (eq-eqb _ _ (sym ex ∙ e ∙ ey))
-    (h ∙ ap₂ (λ m k. eqList (rows (λ i. getD L (a + 1 + i) 0) 0 m) (rows (λ i. getD R (b + 1 + i) 0) 0 k)) (en ∙ ap wordsOf ex) (en ∙ ap wordsOf (e ∙ ey)))
+    (h ∙ ap₂ (λ m k. eqList (rows (λ i. getD L (a + 1 + i) 0) 0 m) (rows (λ i. getD R (b + 1 + i) 0) 0 k)) (en ∙ ap wordsOf ex)
+    (en ∙ ap wordsOf (e ∙ ey)))
 
 -- equal lists have the same number at each place
 eq-at : (xs ys : List ℕ) (i : ℕ) → eqList xs ys ≡ true → getD xs i 0 ≡ getD ys i 0
@@ -127,7 +128,8 @@ last-same L R a b n en e = by n en
     by (suc i) q =
         let f : ℕ → ℕ = λ j. getD L (a + 1 + j) 0 in
         let g : ℕ → ℕ = λ j. getD R (b + 1 + j) 0 in
-        let t = eq-at (nameAt L a .text) (nameAt R b .text) i (and-right (eqb (nameAt L a .bytes) (nameAt R b .bytes)) (eqList (nameAt L a .text) (nameAt R b .text)) e) in
+        let t = eq-at (nameAt L a .text) (nameAt R b .text) i (and-right (eqb (nameAt L a .bytes) (nameAt R b .bytes))
+        (eqList (nameAt L a .text) (nameAt R b .text)) e) in
         let x : a + suc i ≡ a + 1 + i = omega arith in
         let y : b + suc i ≡ b + 1 + i = omega arith in
         let h : i < wordsOf (payOf (getD L a 0)) = rw (← q) (omega arith) in

@@ -10,9 +10,11 @@ use Rattle.snapshot.specs.Refusals.{rangeRefusal, undefinedRefusal, repeatedRef
 use Rattle.snapshot.specs.Words.{payOf, wordsOf}
 use Rattle.snapshot.specs.Sizes.{childSize, definitionSize, scopeSize, externSize}
 use Rattle.snapshot.specs.Records.{Map, nameAt, mapAt}
-use Rattle.snapshot.specs.Layouts.{wordCount, childBase, definitionBase, scopeBase, externBase, nameHead, moduleMap, moduleHead, mapRoot, ownMap, snapWith, rootTable}
+use Rattle.snapshot.specs.Layouts.{wordCount, childBase, definitionBase, scopeBase, externBase, nameHead, moduleMap, moduleHead, mapRoot, ownMap}
+use Rattle.snapshot.specs.Layouts.{snapWith, rootTable}
 use Rattle.snapshot.specs.declared.layout.Layout.{Layout}
-use Rattle.chains.specs.Chains.{nameKey, recordKey, slotOf, Marked, Chained, nameHeads, scopeHeads, externHeads, childMarks, moduleMarks, nameLinks, scopeLinks, externLinks}
+use Rattle.chains.specs.Chains.{nameKey, recordKey, slotOf, Marked, Chained, nameHeads, scopeHeads, externHeads, childMarks, moduleMarks, nameLinks}
+use Rattle.chains.specs.Chains.{scopeLinks, externLinks}
 use Rattle.check_rules.specs.Tests.{Counts, noMap, isOwn}
 use Rattle.check_rules.specs.Steps.{Next, no, on}
 use Rattle.record_rules.specs.declared.judge.Step.{Step}

@@ -115,7 +115,8 @@ fn same_text(left: &[u32], a: usize, right: &[u32], b: usize, n: usize, last: us
 /// Whether one of the n names with these heads has the text of the name at a place.
 pub fn known(words: &[u32], at: usize, names: &[u32], heads: &[u32], n: usize) -> bool
     requires { ⌜ (n < 2 ^ 32) × (n ≤ length (now heads)) ⌝ }
-    ensures { λ r. ⌜ r ≡ any (sameName (nameAt (now (words .entry)) at)) (rows (λ k. nameAt (now (names .entry)) (getD (now (heads .entry)) k 0)) 0 n) ⌝ }
+    ensures { λ r. ⌜ r ≡ any (sameName (nameAt (now (words .entry)) at))
+        (rows (λ k. nameAt (now (names .entry)) (getD (now (heads .entry)) k 0)) 0 n) ⌝ }
 {
     let size = text_words(payload(words, at));
     let last = payload_of(field(words, at, size));
@@ -229,7 +230,9 @@ fn repeated(words: &[u32], at: usize, area: &[u32], n: usize, key: usize) -> boo
 /// A name.
 pub fn step(words: &[u32], area: &mut [u32], l: Layout, at: usize) -> Step
     requires { ⌜ Ready (now words) (now area) l at (at + 1 + wordsOf (payOf (getD (now words) at 0))) ⌝ }
-    ensures { λ r. ⌜ ((ms : List Map) → Stands (now (words .entry)) (now (area .entry)) 1 at l ms → Answered (now (words .entry)) (now (area .exit)) 1 (at + 1 + wordsOf (payOf (getD (now (words .entry)) at 0))) (nameStep (snapWith (now (words .entry)) (now (area .entry)) l ms) (nameAt (now (words .entry)) at)) r) ⌝ }
+    ensures { λ r. ⌜ ((ms : List Map) → Stands (now (words .entry)) (now (area .entry)) 1 at l ms
+        → Answered (now (words .entry)) (now (area .exit)) 1 (at + 1 + wordsOf (payOf (getD (now (words .entry)) at 0)))
+        (nameStep (snapWith (now (words .entry)) (now (area .entry)) l ms) (nameAt (now (words .entry)) at)) r) ⌝ }
 {
     let names = l.names;
     let range = in_range(words, at);

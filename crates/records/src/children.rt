@@ -31,7 +31,9 @@ fn defined(words: &[u32], l: Layout, at: usize) -> bool
 
 // Of its owner's map, and under its owner.
 fn placed(words: &[u32], area: &[u32], at: usize) -> bool
-    ensures { λ r. ⌜ r ≡ eqb (moduleMap (now (area .entry)) (childAt (now (words .entry)) at .child)) (moduleMap (now (area .entry)) (childAt (now (words .entry)) at .owner)) && eqb (moduleParent (now (area .entry)) (childAt (now (words .entry)) at .child)) (childAt (now (words .entry)) at .owner + 1) ⌝ }
+    ensures { λ r. ⌜ r ≡ eqb (moduleMap (now (area .entry)) (childAt (now (words .entry)) at .child))
+        (moduleMap (now (area .entry)) (childAt (now (words .entry)) at .owner)) && eqb
+        (moduleParent (now (area .entry)) (childAt (now (words .entry)) at .child)) (childAt (now (words .entry)) at .owner + 1) ⌝ }
 {
     let owner = child_owner(words, at);
     let child = child_child(words, at);
@@ -42,7 +44,9 @@ fn placed(words: &[u32], area: &[u32], at: usize) -> bool
 /// A child.
 pub fn step(words: &[u32], area: &mut [u32], l: Layout, at: usize) -> Step
     requires { ⌜ Ready (now words) (now area) l at (at + childSize) ⌝ }
-    ensures { λ r. ⌜ ((ms : List Map) → Stands (now (words .entry)) (now (area .entry)) 6 at l ms → Answered (now (words .entry)) (now (area .exit)) 6 (at + childSize) (childStep (snapWith (now (words .entry)) (now (area .entry)) l ms) (childAt (now (words .entry)) at)) r) ⌝ }
+    ensures { λ r. ⌜ ((ms : List Map) → Stands (now (words .entry)) (now (area .entry)) 6 at l ms
+        → Answered (now (words .entry)) (now (area .exit)) 6 (at + childSize)
+        (childStep (snapWith (now (words .entry)) (now (area .entry)) l ms) (childAt (now (words .entry)) at)) r) ⌝ }
 {
     let child = child_child(words, at);
     let mark = Chains::CHILD_MARKS + child.0;

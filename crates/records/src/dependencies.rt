@@ -32,7 +32,9 @@ fn defined(words: &[u32], l: Layout, at: usize) -> bool
 /// A dependency.
 pub fn step(words: &[u32], area: &[u32], l: Layout, at: usize) -> Step
     requires { ⌜ Ready (now words) (now area) l at (at + dependencySize) ⌝ }
-    ensures { λ r. ⌜ ((ms : List Map) → Stands (now (words .entry)) (now (area .entry)) 3 at l ms → Answered (now (words .entry)) (now (area .entry)) 3 (at + dependencySize) (dependencyStep (snapWith (now (words .entry)) (now (area .entry)) l ms) (dependencyAt (now (words .entry)) at)) r) ⌝ }
+    ensures { λ r. ⌜ ((ms : List Map) → Stands (now (words .entry)) (now (area .entry)) 3 at l ms
+        → Answered (now (words .entry)) (now (area .entry)) 3 (at + dependencySize)
+        (dependencyStep (snapWith (now (words .entry)) (now (area .entry)) l ms) (dependencyAt (now (words .entry)) at)) r) ⌝ }
 {
     let n = judge(
         in_range(words, at),

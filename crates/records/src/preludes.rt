@@ -26,7 +26,9 @@ fn defined(words: &[u32], l: Layout, at: usize) -> bool
 /// A prelude.
 pub fn step(words: &[u32], area: &[u32], l: Layout, at: usize) -> Step
     requires { ⌜ Ready (now words) (now area) l at (at + preludeSize) ⌝ }
-    ensures { λ r. ⌜ ((ms : List Map) → Stands (now (words .entry)) (now (area .entry)) 7 at l ms → Answered (now (words .entry)) (now (area .entry)) 7 (at + preludeSize) (preludeStep (snapWith (now (words .entry)) (now (area .entry)) l ms) (preludeAt (now (words .entry)) at)) r) ⌝ }
+    ensures { λ r. ⌜ ((ms : List Map) → Stands (now (words .entry)) (now (area .entry)) 7 at l ms
+        → Answered (now (words .entry)) (now (area .entry)) 7 (at + preludeSize)
+        (preludeStep (snapWith (now (words .entry)) (now (area .entry)) l ms) (preludeAt (now (words .entry)) at)) r) ⌝ }
 {
     let old = repeated(
         words,

@@ -32,7 +32,8 @@ fn low(w: u32) -> u32
 
 // The same of a record whose last word that counts stands at p, with the first one's payload: mostly these differ.
 fn same(words: &[u32], owner: bool, fields: usize, a: usize, p: usize, last: u32) -> bool
-    requires { ⌜ (p < length (now words)) × (fields ≤ p) × (fields ≤ 2) × ((leb 1 fields || owner) ≡ true) × (last ≡ payOf (getD (now words) (a + fields) 0)) ⌝ }
+    requires { ⌜ (p < length (now words)) × (fields ≤ p) × (fields ≤ 2) × ((leb 1 fields || owner) ≡ true)
+        × (last ≡ payOf (getD (now words) (a + fields) 0)) ⌝ }
     ensures { λ r. ⌜ r ≡ sameBy (now (words .entry)) owner fields a (p - fields) ⌝ }
 {
     if low(words[p]) != last {
@@ -51,7 +52,8 @@ pub fn repeated(
     size: usize,
     count: usize,
 ) -> bool
-    requires { ⌜ (base + size * count ≤ length (now words)) × (at + size ≤ length (now words)) × (length (now words) < 2 ^ 32) × (fields < size) × (size ≤ scopeSize) × (fields ≤ 2) × ((leb 1 fields || owner) ≡ true) ⌝ }
+    requires { ⌜ (base + size * count ≤ length (now words)) × (at + size ≤ length (now words)) × (length (now words) < 2 ^ 32)
+        × (fields < size) × (size ≤ scopeSize) × (fields ≤ 2) × ((leb 1 fields || owner) ≡ true) ⌝ }
     ensures { λ r. ⌜ r ≡ any (sameBy (now (words .entry)) owner fields at) (rows (λ k. base + size * k) 0 count) ⌝ }
 {
     let last = low(words[at + fields]);

@@ -28,10 +28,12 @@ exact : (fuel : ℕ) (r : Report) → Bounded fuel r → Small r → reportWords
 unfolding reportWords reportNumbers
 exact fuel r b s =
     ap₂ (λ x y. x ++ y)
-    (each-low (r .outcome) (omega (arith, s .outcome)) (each-low (r .number) (omega (arith, s .number)) (each-low (r .kind) (omega (arith, s .kind)) none-low)))
+    (each-low (r .outcome) (omega (arith, s .outcome)) (each-low (r .number) (omega (arith, s .number))
+    (each-low (r .kind) (omega (arith, s .kind)) none-low)))
     (ap₂ (λ x y. x ++ y) (all-low (r .names) (λ i. omega (arith, s .names i)))
     (ap₂ (λ x y. x ++ y)
-    (each-low (r .count) (omega (arith, b .few)) (each-low (r .charges) (omega (arith, s .charges)) (each-low (r .empty) (omega (arith, b .flagged)) (each-low (r .left) (omega (arith, s .left)) (each-low (r .sought) (omega (arith, s .sought))
+    (each-low (r .count) (omega (arith, b .few)) (each-low (r .charges) (omega (arith, s .charges))
+    (each-low (r .empty) (omega (arith, b .flagged)) (each-low (r .left) (omega (arith, s .left)) (each-low (r .sought) (omega (arith, s .sought))
     (each-low (r .steps) (omega (arith, s .steps)) none-low))))))
     (all-low (r .route) (λ i. omega (arith, s .route i)))))
 

@@ -89,7 +89,8 @@ fn low(x: usize) -> u32
 // Writes numbers from a place on.
 fn put_words(out: &mut [u32], at: usize, numbers: &[usize])
     requires { ⌜ at + length (now numbers) ≤ length (now out) ⌝ }
-    ensures { λ _. ⌜ now (out .exit) ≡ take at (now (out .entry)) ++ (map lowOf (now (numbers .entry)) ++ drop (at + length (now (numbers .entry))) (now (out .entry))) ⌝ }
+    ensures { λ _. ⌜ now (out .exit) ≡ take at (now (out .entry)) ++ (map lowOf (now (numbers .entry)) ++ drop
+        (at + length (now (numbers .entry))) (now (out .entry))) ⌝ }
 {
     let mut i = 0;
     while i < numbers.len() {

@@ -62,7 +62,8 @@ pub steps-none : (ts : List ℕ) → [] ≡ stepsText (take 0 ts)
 unfolding stepsText
 steps-none ts = refl
 
-pub steps-next : (ts : List ℕ) (i : ℕ) → i < length ts → stepsText (take i ts) ++ (bytesOf " " ++ stepText (getD ts i 0)) ≡ stepsText (take (i + 1) ts)
+pub steps-next : (ts : List ℕ) (i : ℕ) → i < length ts → stepsText (take i ts) ++ (bytesOf " " ++ stepText (getD ts i 0))
+    ≡ stepsText (take (i + 1) ts)
 steps-next ts i h =
     steps-snoc (take i ts) (getD ts i 0) ∙ ap stepsText (sym (take-suc ts i 0 h) ∙ ap (λ k. take k ts) (sym (add-one i)))
 
@@ -103,13 +104,16 @@ module _ (W : List ℕ) (q : Question) (A : List ℕ) (c : Checked) (r : Report)
     routed-refused n place e p =
         let s : Snapshot = snapshotOf (verdict W) in
         let v : verdict W ≡ refuse n place = sym (subst (λ (x : Checked). Judged W A x) e (a .checked) .same) in
-        let u : refused (r .number) ≡ reportOf W areaLimit q = ap (λ (x : Report). refused (x .number)) (a .report) ∙ sym (refusal-only W q n place v) in
+        let u : refused (r .number) ≡ reportOf W areaLimit q = ap (λ (x : Report). refused (x .number)) (a .report)
+        ∙ sym (refusal-only W q n place v) in
         record {
-          line = put-as (ap (λ x. x ++ bytesOf "\n") (refused-routed s (q .query .from .0) (r .number) ∙ ap (routedLineIn s (q .query .from .0)) u)) (p s (q .query .from .0));
+          line = put-as (ap (λ x. x ++ bytesOf "\n") (refused-routed s (q .query .from .0) (r .number) ∙ ap (routedLineIn s (q .query .from .0)) u))
+              (p s (q .query .from .0));
           checked = a .checked;
         }
 
-    pub routed-accepted : (l : Layout) → c ≡ Accepted l → Put old 0 (routedLineIn (snapOf W A l) (q .query .from .0) r ++ bytesOf "\n") new t → RoutedOn W q c A old new t
+    pub routed-accepted : (l : Layout) → c ≡ Accepted l → Put old 0 (routedLineIn (snapOf W A l) (q .query .from .0) r ++ bytesOf "\n") new t
+        → RoutedOn W q c A old new t
     unfolding routedLineOf snapshotOf
     routed-accepted l e p =
         let v : snapOf W A l ≡ snapshotOf (verdict W) = ap snapshotOf (subst (λ (x : Checked). Judged W A x) e (a .checked) .same) in

@@ -91,7 +91,8 @@ pub fn put_routed(
     r: Report,
 ) -> usize
     requires { ⌜ Reads (now words) (now area) l × (routedLimit ≤ length (now out)) × (r .count ≤ 16) × (r .steps ≤ 17) ⌝ }
-    ensures { λ n. ⌜ Put (now (out .entry)) 0 (routedLineIn (snapOf (now (words .entry)) (now (area .entry)) l) (from .0) r ++ bytesOf "\n") (now (out .exit)) n ⌝ }
+    ensures { λ n. ⌜ Put (now (out .entry)) 0 (routedLineIn (snapOf (now (words .entry)) (now (area .entry)) l) (from .0) r ++ bytesOf "\n")
+        (now (out .exit)) n ⌝ }
 {
     let a = put_bare(out, words, area, l, from, r);
     let b = put_route(out, a, r);

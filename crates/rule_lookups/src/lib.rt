@@ -43,7 +43,8 @@ pub enum Rule {
 // Whether an entry stands for the item, or there is none.
 fn same_here(words: &[u32], l: Layout, item: Item, e: Entry) -> bool
     requires { ⌜ wordCount l < 2 ^ 32 ⌝ }
-    ensures { λ r. ⌜ ((A : List ℕ) (x : FindPathCtx) → r ≡ sameHere (snapOf (now (words .entry)) A l) x item (entryOf scopeAt (now (words .entry)) e)) ⌝ }
+    ensures { λ r. ⌜ ((A : List ℕ) (x : FindPathCtx) → r ≡ sameHere (snapOf (now (words .entry)) A l) x item
+        (entryOf scopeAt (now (words .entry)) e)) ⌝ }
 {
     let Entry::At(h) = e else {
         return true;
@@ -61,7 +62,8 @@ pub fn is_usable(
     item: Item,
     h: usize,
 ) -> bool
-    requires { ⌜ Reads (now words) (now area) l × (x .from .0 < l .modules) × (2 ≤ scopeAt (now words) h .visibility → scopeAt (now words) h .number < l .modules) ⌝ }
+    requires { ⌜ Reads (now words) (now area) l × (x .from .0 < l .modules) × (2 ≤ scopeAt (now words) h .visibility
+        → scopeAt (now words) h .number < l .modules) ⌝ }
     ensures { λ r. ⌜ r ≡ isUsable (snapOf (now (words .entry)) (now (area .entry)) l) x item (scopeAt (now (words .entry)) h) ⌝ }
 {
     let seen = sees(words, area, l, x, h);
@@ -72,7 +74,8 @@ pub fn is_usable(
 
 /// The tests of the local rule: visible, and declared there or no implicitly private import.
 pub fn is_importable(words: &[u32], area: &[u32], l: Layout, x: FindPathCtx, h: usize) -> bool
-    requires { ⌜ Reads (now words) (now area) l × (x .from .0 < l .modules) × (2 ≤ scopeAt (now words) h .visibility → scopeAt (now words) h .number < l .modules) ⌝ }
+    requires { ⌜ Reads (now words) (now area) l × (x .from .0 < l .modules) × (2 ≤ scopeAt (now words) h .visibility
+        → scopeAt (now words) h .number < l .modules) ⌝ }
     ensures { λ r. ⌜ r ≡ isImportable (snapOf (now (words .entry)) (now (area .entry)) l) x (scopeAt (now (words .entry)) h) ⌝ }
 {
     let seen = sees(words, area, l, x, h);
@@ -91,7 +94,8 @@ fn passes(
     rule: Rule,
     h: usize,
 ) -> bool
-    requires { ⌜ Reads (now words) (now area) l × (x .from .0 < l .modules) × (2 ≤ scopeAt (now words) h .visibility → scopeAt (now words) h .number < l .modules) ⌝ }
+    requires { ⌜ Reads (now words) (now area) l × (x .from .0 < l .modules) × (2 ≤ scopeAt (now words) h .visibility
+        → scopeAt (now words) h .number < l .modules) ⌝ }
     ensures { λ r. ⌜ r ≡ testOf (snapOf (now (words .entry)) (now (area .entry)) l) x item rule (scopeAt (now (words .entry)) h) ⌝ }
 {
     match rule {
@@ -111,8 +115,10 @@ fn is_fresh(
     its: bool,
     h: usize,
 ) -> bool
-    requires { ⌜ Reads (now words) (now area) l × (x .from .0 < l .modules) × (2 ≤ scopeAt (now words) h .visibility → scopeAt (now words) h .number < l .modules) ⌝ }
-    ensures { λ r. ⌜ r ≡ (its && isFresh (testOf (snapOf (now (words .entry)) (now (area .entry)) l) x item rule) (scopeAt (now (words .entry)) h)) ⌝ }
+    requires { ⌜ Reads (now words) (now area) l × (x .from .0 < l .modules) × (2 ≤ scopeAt (now words) h .visibility
+        → scopeAt (now words) h .number < l .modules) ⌝ }
+    ensures { λ r. ⌜ r ≡ (its && isFresh (testOf (snapOf (now (words .entry)) (now (area .entry)) l) x item rule) (scopeAt (now (words .entry)) h))
+        ⌝ }
 {
     if !its | is_deprecated(words, h) {
         return false;
@@ -132,7 +138,11 @@ fn fresh_of(
     rule: Rule,
 ) -> Lookup
     requires { ⌜ Reads (now words) (now area) l × (x .from .0 < l .modules) ⌝ }
-    ensures { λ r. ⌜ (entryOf scopeAt (now (words .entry)) (r .entry) ≡ preferred true (snapOf (now (words .entry)) (now (area .entry)) l) (m .0) item (testOf (snapOf (now (words .entry)) (now (area .entry)) l) x item rule) (nameOf (snapOf (now (words .entry)) (now (area .entry)) l) (m .0) item)) × ((n : ℕ) → r .read ≡ preferredReads true (snapOf (now (words .entry)) (now (area .entry)) l) (m .0) item (testOf (snapOf (now (words .entry)) (now (area .entry)) l) x item rule) n) ⌝ }
+    ensures { λ r. ⌜ (entryOf scopeAt (now (words .entry)) (r .entry) ≡ preferred true (snapOf (now (words .entry)) (now (area .entry)) l)
+        (m .0) item (testOf (snapOf (now (words .entry)) (now (area .entry)) l) x item rule)
+        (nameOf (snapOf (now (words .entry)) (now (area .entry)) l) (m .0) item))
+        × ((n : ℕ) → r .read ≡ preferredReads true (snapOf (now (words .entry)) (now (area .entry)) l) (m .0) item
+        (testOf (snapOf (now (words .entry)) (now (area .entry)) l) x item rule) n) ⌝ }
 {
     let base = l.scope_base();
     let mut first = Entry::Nothing;
@@ -165,7 +175,12 @@ pub fn entry_by(
     rule: Rule,
 ) -> Lookup
     requires { ⌜ Reads (now words) (now area) l × (x .from .0 < l .modules) ⌝ }
-    ensures { λ r. ⌜ (entryOf scopeAt (now (words .entry)) (r .entry) ≡ preferred (x .fresh) (snapOf (now (words .entry)) (now (area .entry)) l) (m .0) item (testOf (snapOf (now (words .entry)) (now (area .entry)) l) x item rule) (nameOf (snapOf (now (words .entry)) (now (area .entry)) l) (m .0) item)) × (r .read ≡ preferredReads (x .fresh) (snapOf (now (words .entry)) (now (area .entry)) l) (m .0) item (testOf (snapOf (now (words .entry)) (now (area .entry)) l) x item rule) (nameReads (snapOf (now (words .entry)) (now (area .entry)) l) (m .0) item)) ⌝ }
+    ensures { λ r. ⌜ (entryOf scopeAt (now (words .entry)) (r .entry) ≡ preferred (x .fresh) (snapOf (now (words .entry)) (now (area .entry)) l)
+        (m .0) item (testOf (snapOf (now (words .entry)) (now (area .entry)) l) x item rule)
+        (nameOf (snapOf (now (words .entry)) (now (area .entry)) l) (m .0) item))
+        × (r .read ≡ preferredReads (x .fresh) (snapOf (now (words .entry)) (now (area .entry)) l) (m .0) item
+        (testOf (snapOf (now (words .entry)) (now (area .entry)) l) x item rule)
+        (nameReads (snapOf (now (words .entry)) (now (area .entry)) l) (m .0) item)) ⌝ }
 {
     if x.fresh {
         return fresh_of(words, area, l, x, m, item, rule);

@@ -45,9 +45,11 @@ not-found t W s acc h =
 
 -- an addition that is not refused
 module _ (W : List ℕ) (s : Snapshot) (slice : ℕ) (x : Scope) (acc : verdict W ≡ accept s) (e : editFault s (length W) slice (adding x) ≡ 0) where
-  clean : Clean (scopeRange x) (scopeDefined (countsOf s) x) (nsPlaced s (x .ns) (x .definition)) (any (sameEntry x) (s .scopes)) (hasRoom (length W) slice)
+  clean : Clean (scopeRange x) (scopeDefined (countsOf s) x) (nsPlaced s (x .ns) (x .definition)) (any (sameEntry x) (s .scopes))
+      (hasRoom (length W) slice)
   unfolding editFault
-  clean = none-clean (scopeRange x) (scopeDefined (countsOf s) x) (nsPlaced s (x .ns) (x .definition)) (any (sameEntry x) (s .scopes)) (hasRoom (length W) slice) e
+  clean = none-clean (scopeRange x) (scopeDefined (countsOf s) x) (nsPlaced s (x .ns) (x .definition)) (any (sameEntry x) (s .scopes))
+      (hasRoom (length W) slice) e
 
   roomy : (leb (length W + scopeSize) wordLimit ≡ true) × (leb (length W + scopeSize) slice ≡ true)
   roomy = and-two (leb (length W + scopeSize) wordLimit) (leb (length W + scopeSize) slice) (clean .fits)
@@ -62,7 +64,8 @@ module _ (W : List ℕ) (s : Snapshot) (slice : ℕ) (x : Scope) (acc : verdict 
   add-longer = inserted-length W (scopeWords x) (scopesEnd W) (end-within W s acc) ∙ ap (λ n. length W + n) (words-length x add-small)
 
   pub add-accepted : verdict (inserted (scopesEnd W) (scopeWords x) W) ≡ accept (withScopes higher s (s .scopes ++ (placed (scopesEnd W) x ∷ [])))
-  add-accepted = added-accepted W s acc x (clean .ranged) (clean .known) (clean .new) (clean .right) (leb-true (length W + scopeSize) wordLimit (roomy .0))
+  add-accepted = added-accepted W s acc x (clean .ranged) (clean .known) (clean .new) (clean .right)
+      (leb-true (length W + scopeSize) wordLimit (roomy .0))
 
   stands : (i : ℕ) → i < scopeSize → getD (inserted (scopesEnd W) (scopeWords x) W) (scopesEnd W + i) 0 ≡ getD (scopeWords x) i 0
   stands i h = inserted-at W (scopeWords x) (scopesEnd W) (end-within W s acc) i (rw (words-length x add-small) h)
@@ -87,7 +90,8 @@ module _ (W : List ℕ) (s : Snapshot) (slice : ℕ) (x : Scope) (acc : verdict 
       let l = add-longer in
       let w = end-within W s acc in
       place-back (sameEntry x) W (inserted (scopesEnd W) (scopeWords x) W) (scopesEnd W)
-      (inserted-before W (scopeWords x) (scopesEnd W) w) (omega arith) found-there (length W) (length (inserted (scopesEnd W) (scopeWords x) W)) 0 refl (omega arith) (omega arith)
+      (inserted-before W (scopeWords x) (scopesEnd W) w) (omega arith) found-there (length W) (length (inserted (scopesEnd W) (scopeWords x) W))
+      0 refl (omega arith) (omega arith)
       (not-found (sameEntry x) W s acc (clean .new))
 
   -- an addition and at once its removal

@@ -12,7 +12,8 @@ use Rattle.snapshot.specs.Lists.{any}
 use Rattle.snapshot.specs.Refusals.{placeRefusal}
 use Rattle.snapshot.specs.Words.{kindOf, payOf, argumentsOf, argumentsAt}
 use Rattle.snapshot.specs.Records.{Snapshot, Scope, Import, Extern, Member, importAt, externAt, memberAt}
-use Rattle.check_rules.specs.Tests.{countsOf, sameEntry, mapsFilled, cratesOwn, importRange, importDefined, nsPlaced, externDefined, sameExtern, memberRange, memberDefined, memberPlaced}
+use Rattle.check_rules.specs.Tests.{countsOf, sameEntry, mapsFilled, cratesOwn, importRange, importDefined, nsPlaced, externDefined, sameExtern}
+use Rattle.check_rules.specs.Tests.{memberRange, memberDefined, memberPlaced}
 use Rattle.check_rules.specs.Steps.{on, addImport, addExtern, addMember, importStep, externStep, memberStep}
 use Rattle.check_rules.specs.Verdict.{recordStep, stepAt, refuse, accept, finish, records}
 use Rattle.accept.proofs.Accepted.{by-test, by-next, judge-on}
@@ -25,7 +26,8 @@ refuse-not : {C : Type 0} {n at : ℕ} {u : Snapshot} → refuse n at ≡ accept
 refuse-not e = let z : _≡_ {A = ℕ} 0 1 = cc in absurd (omega arith)
 
 -- enough turns are as good as more
-pub records-more : (W : List ℕ) (n m at last : ℕ) (s : Snapshot) → length W ≤ n + at → length W ≤ m + at → records n W at last s ≡ records m W at last s
+pub records-more : (W : List ℕ) (n m at last : ℕ) (s : Snapshot) → length W ≤ n + at → length W ≤ m + at
+    → records n W at last s ≡ records m W at last s
 unfolding records
 records-more W zero zero at last s h g = refl
 records-more W zero (suc m) at last s h g = sym (records-end W at last s (suc m) (omega arith))
@@ -91,7 +93,8 @@ module _ (W X : List ℕ) (m : ℕ → ℕ) (R : List Scope → List Scope → T
     abbrev Moved : ℕ → ℕ → ℕ → Snapshot → List Scope → Snapshot → Type 0
     Moved n b next s ys u = (zs : List Scope) × R (u .scopes) zs × (records n X b next (withScopes m s ys) ≡ accept (withScopes m u zs))
 
-    moved-end : (n a b next : ℕ) (s u : Snapshot) (ys : List Scope) → length X ≤ b → R (s .scopes) ys → finish (length W) s ≡ accept u → Moved n b next s ys u
+    moved-end : (n a b next : ℕ) (s u : Snapshot) (ys : List Scope) → length X ≤ b → R (s .scopes) ys → finish (length W) s ≡ accept u
+        → Moved n b next s ys u
     moved-end n a b next s u ys h rel e = (
       ys,
       subst (λ (x : Snapshot). R (x .scopes) ys) (finish-accepts (length W) s u e .0) rel,
@@ -127,8 +130,12 @@ module _ (W X : List ℕ) (m : ℕ → ℕ) (R : List Scope → List Scope → T
         (λ i. let x : b + 1 + argumentsAt W a + i ≡ b + (1 + argumentsAt W a + i) = omega arith in
         let y : a + (1 + argumentsAt W a + i) ≡ a + 1 + argumentsAt W a + i = omega arith in
         x ∙ to (1 + argumentsAt W a + i) ∙ ap m y)
-        (omega arith) (omega arith) (q .1) (r .rest) in
-        (p .0, p .1, _∙_ {b = records n X (b + 1 + argumentsAt W a) (kindOf (getD W a 0)) (withScopes m (r .state) (q .0))} (records-take X n b next (withScopes m s ys) (withScopes m (r .state) (q .0)) hx (q .2) v g) (p .2)))
+        (omega arith) (omega arith) (q .1) (r .rest) in (
+          p .0,
+          p .1,
+          _∙_ {b = records n X (b + 1 + argumentsAt W a) (kindOf (getD W a 0)) (withScopes m (r .state) (q .0))}
+              (records-take X n b next (withScopes m s ys) (withScopes m (r .state) (q .0)) hx (q .2) v g) (p .2),
+        ))
         (λ c.
         let h : length W ≤ a = ltb-false a (length W) c in
         moved-end (suc n) a b next s u ys (omega arith) rel (sym (records-end W a last s (suc n) h) ∙ e))
@@ -170,11 +177,13 @@ base s =
 
 import-base : (s t : Snapshot) (x : Import) → importStep s x ≡ on t → base t ≡ base s
 unfolding importStep
-import-base s t x e = sym (ap base (judge-on (importRange x) (importDefined (countsOf s) x) false (nsPlaced s (x .ns) (x .definition)) true (addImport s x) t e .same))
+import-base s t x e = sym (ap base (judge-on (importRange x) (importDefined (countsOf s) x) false (nsPlaced s (x .ns) (x .definition))
+    true (addImport s x) t e .same))
 
 extern-base : (s t : Snapshot) (x : Extern) → externStep s x ≡ on t → base t ≡ base s
 unfolding externStep
-extern-base s t x e = sym (ap base (judge-on true (externDefined (countsOf s) x) (any (sameExtern x) (s .externs)) true true (addExtern s x) t e .same))
+extern-base s t x e = sym (ap base (judge-on true (externDefined (countsOf s) x) (any (sameExtern x) (s .externs)) true true
+    (addExtern s x) t e .same))
 
 member-base : (s t : Snapshot) (x : Member) → memberStep s x ≡ on t → base t ≡ base s
 unfolding memberStep

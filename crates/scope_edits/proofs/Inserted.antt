@@ -63,7 +63,8 @@ fits-small u x l r e =
       name = omega arith;
       definition = omega arith;
       visibility = omega arith;
-      number = number-small (x .visibility) (x .number) (length (u .crates)) (length (u .modules)) (f .public) (f .crate) (f .inside) (l .crates) (l .modules);
+      number = number-small (x .visibility) (x .number) (length (u .crates)) (length (u .modules)) (f .public) (f .crate) (f .inside)
+          (l .crates) (l .modules);
       declared = omega arith;
       bits = omega arith;
     }
@@ -133,7 +134,8 @@ module _ (x : Scope) (small : Small x) where
         arguments-same (scopeWords x) X 1 (p + 1) (scopeSize - 1)
         (λ d h. let a : p + 1 + d ≡ p + (1 + d) = omega arith in ap (λ j. getD X j 0) a ∙ at (1 + d) (omega arith)) (omega arith) words-arguments
 
-    entry-taken : (last : ℕ) (s : Snapshot) → last ≤ 9 → scopeRange x ≡ true → scopeDefined (countsOf s) x ≡ true → any (sameEntry x) (s .scopes) ≡ false
+    entry-taken : (last : ℕ) (s : Snapshot) → last ≤ 9 → scopeRange x ≡ true → scopeDefined (countsOf s) x ≡ true
+        → any (sameEntry x) (s .scopes) ≡ false
         → nsPlaced s (x .ns) (x .definition) ≡ true → Taking X p last s (addScope s (placed p x))
     entry-taken last s low a b c d =
         record {
@@ -191,9 +193,11 @@ module _ (W : List ℕ) (u : Snapshot) (acc : verdict W ≡ accept u) where
       stands : (i : ℕ) → i < scopeSize → getD (inserted (scopesEnd W) (scopeWords x) W) (scopesEnd W + i) 0 ≡ getD (scopeWords x) i 0
       stands i h = inserted-at W (scopeWords x) (scopesEnd W) end-within i (rw (words-length x small) h)
 
-      taken : Taking (inserted (scopesEnd W) (scopeWords x) W) (scopesEnd W) (end-split .before) (end-split .state) (addScope (end-split .state) (placed (scopesEnd W) x))
+      taken : Taking (inserted (scopesEnd W) (scopeWords x) W) (scopesEnd W) (end-split .before) (end-split .state)
+          (addScope (end-split .state) (placed (scopesEnd W) x))
       taken =
-          entry-taken x small (inserted (scopesEnd W) (scopeWords x) W) (scopesEnd W) stands fits (end-split .before) (end-split .state) (end-split .holds .0) ranged
+          entry-taken x small (inserted (scopesEnd W) (scopeWords x) W) (scopesEnd W) stands fits (end-split .before) (end-split .state)
+          (end-split .holds .0) ranged
           (subst (λ (s : Snapshot). scopeDefined (countsOf s) x ≡ true) end-base known)
           (subst (λ (s : Snapshot). any (sameEntry x) (s .scopes) ≡ false) end-base new)
           (subst (λ (s : Snapshot). nsPlaced s (x .ns) (x .definition) ≡ true) end-base right)
@@ -201,30 +205,38 @@ module _ (W : List ℕ) (u : Snapshot) (acc : verdict W ≡ accept u) where
       -- over the record that was put in
       over : (n : ℕ) → length (inserted (scopesEnd W) (scopeWords x) W) ≤ n + scopesEnd W
           → records n (inserted (scopesEnd W) (scopeWords x) W) (scopesEnd W) (end-split .before) (end-split .state)
-          ≡ records (end-split .fuel) (inserted (scopesEnd W) (scopeWords x) W) (scopesEnd W + scopeSize) 9 (addScope (end-split .state) (placed (scopesEnd W) x))
+          ≡ records (end-split .fuel) (inserted (scopesEnd W) (scopeWords x) W) (scopesEnd W + scopeSize) 9
+          (addScope (end-split .state) (placed (scopesEnd W) x))
       over zero h = let f = fits in absurd (omega arith)
       over (suc n) h =
           let f = fits in
           let l = longer in
           let m = end-split .enough in
           let to : scopesEnd W + 1 + (scopeSize - 1) ≡ scopesEnd W + scopeSize = omega arith in
-          records-take (inserted (scopesEnd W) (scopeWords x) W) n (scopesEnd W) (end-split .before) (end-split .state) (addScope (end-split .state) (placed (scopesEnd W) x)) (omega arith)
-          (taken-step (inserted (scopesEnd W) (scopeWords x) W) (scopesEnd W) (end-split .before) (end-split .state) (addScope (end-split .state) (placed (scopesEnd W) x)) taken)
+          records-take (inserted (scopesEnd W) (scopeWords x) W) n (scopesEnd W) (end-split .before) (end-split .state)
+          (addScope (end-split .state) (placed (scopesEnd W) x)) (omega arith)
+          (taken-step (inserted (scopesEnd W) (scopeWords x) W) (scopesEnd W) (end-split .before) (end-split .state)
+          (addScope (end-split .state) (placed (scopesEnd W) x)) taken)
           (entry-size x small (inserted (scopesEnd W) (scopeWords x) W) (scopesEnd W) stands fits)
           (entry-kind x small (inserted (scopesEnd W) (scopeWords x) W) (scopesEnd W) stands fits)
           ∙ ap (λ j. records n (inserted (scopesEnd W) (scopeWords x) W) j 9 (addScope (end-split .state) (placed (scopesEnd W) x))) to
-          ∙ records-more (inserted (scopesEnd W) (scopeWords x) W) n (end-split .fuel) (scopesEnd W + scopeSize) 9 (addScope (end-split .state) (placed (scopesEnd W) x)) (omega arith) (omega arith)
+          ∙ records-more (inserted (scopesEnd W) (scopeWords x) W) n (end-split .fuel) (scopesEnd W + scopeSize) 9
+          (addScope (end-split .state) (placed (scopesEnd W) x)) (omega arith) (omega arith)
 
       -- over the records after it
       after : (zs : List Scope) × More (end-split .state .scopes) (placed (scopesEnd W) x) (u .scopes) zs
-          × (records (end-split .fuel) (inserted (scopesEnd W) (scopeWords x) W) (scopesEnd W + scopeSize) 9 (addScope (end-split .state) (placed (scopesEnd W) x)) ≡ accept (withScopes higher u zs))
+          × (records (end-split .fuel) (inserted (scopesEnd W) (scopeWords x) W) (scopesEnd W + scopeSize) 9
+          (addScope (end-split .state) (placed (scopesEnd W) x)) ≡ accept (withScopes higher u zs))
       after =
           let l = longer in
           let y = placed (scopesEnd W) x in
           let r =
-          run-moved W (inserted (scopesEnd W) (scopeWords x) W) higher (More (end-split .state .scopes) y) 10 (more-kept (end-split .state .scopes) y) (omega arith)
-          (end-split .fuel) (scopesEnd W) (scopesEnd W + scopeSize) 10 9 (end-split .state) u (end-split .state .scopes ++ (y ∷ [])) (omega arith) (omega arith)
-          (inserted-after W (scopeWords x) (scopesEnd W) end-within scopeSize (sym (words-length x small))) (λ i. omega arith) (omega arith) (end-split .enough) (refl, refl) end-rest in (
+          run-moved W (inserted (scopesEnd W) (scopeWords x) W) higher (More (end-split .state .scopes) y) 10
+          (more-kept (end-split .state .scopes) y) (omega arith)
+          (end-split .fuel) (scopesEnd W) (scopesEnd W + scopeSize) 10 9 (end-split .state) u (end-split .state .scopes ++ (y ∷ []))
+          (omega arith) (omega arith)
+          (inserted-after W (scopeWords x) (scopesEnd W) end-within scopeSize (sym (words-length x small))) (λ i. omega arith)
+          (omega arith) (end-split .enough) (refl, refl) end-rest in (
             r .0,
             r .1,
             ap (records (end-split .fuel) (inserted (scopesEnd W) (scopeWords x) W) (scopesEnd W + scopeSize) 9)
@@ -240,7 +252,8 @@ module _ (W : List ℕ) (u : Snapshot) (acc : verdict W ≡ accept u) where
           end-split .same (inserted (scopesEnd W) (scopeWords x) W) (inserted-before W (scopeWords x) (scopesEnd W) end-within) (omega arith)
           (length (inserted (scopesEnd W) (scopeWords x) W)) (omega arith)
 
-      pub added-accepted : verdict (inserted (scopesEnd W) (scopeWords x) W) ≡ accept (withScopes higher u (u .scopes ++ (placed (scopesEnd W) x ∷ [])))
+      pub added-accepted : verdict (inserted (scopesEnd W) (scopeWords x) W)
+          ≡ accept (withScopes higher u (u .scopes ++ (placed (scopesEnd W) x ∷ [])))
       added-accepted =
           let l = longer in
           verdict-is (inserted (scopesEnd W) (scopeWords x) W) (omega arith)

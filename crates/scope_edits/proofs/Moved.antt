@@ -11,11 +11,18 @@ use borrow.Author.Tests.{eqb-true, eqb-false, eq-eqb, leb-true}
 use Rattle.snapshot.specs.Lists.{any, rows}
 use Rattle.snapshot.specs.Limits.{crateLimit, moduleLimit, nameLimit, definitionLimit}
 use Rattle.snapshot.specs.Words.{kindOf, payOf, wordsOf, argumentsOf, argumentsAt}
-use Rattle.snapshot.specs.Sizes.{crateSize, dependencySize, mapSize, moduleSize, childSize, preludeSize, definitionSize, scopeSize, importSize, externSize, memberSize}
-use Rattle.snapshot.specs.Records.{Snapshot, Name, Crate, Dependency, Map, Module, Child, Prelude, Definition, Scope, Import, Extern, Member, nameAt, crateAt, dependencyAt, mapAt, moduleAt, childAt, preludeAt, definitionAt, scopeAt, importAt, externAt, memberAt}
+use Rattle.snapshot.specs.Sizes.{crateSize, dependencySize, mapSize, moduleSize, childSize, preludeSize, definitionSize, scopeSize, importSize}
+use Rattle.snapshot.specs.Sizes.{externSize, memberSize}
+use Rattle.snapshot.specs.Records.{Snapshot, Name, Crate, Dependency, Map, Module, Child, Prelude, Definition, Scope, Import, Extern, Member, nameAt}
+use Rattle.snapshot.specs.Records.{crateAt, dependencyAt, mapAt, moduleAt, childAt, preludeAt, definitionAt, scopeAt, importAt, externAt, memberAt}
 use Rattle.snapshot.proofs.Laws.{rows-ext, after-head}
-use Rattle.check_rules.specs.Tests.{childDefined, childPlaced, countsOf, crateRange, isEdition, definitionDefined, definitionPlaced, definitionRange, definitionRepeated, dependencyDefined, dependencyRange, externDefined, importDefined, importRange, mapDefined, mapPlaced, mapRange, mapRepeated, memberDefined, memberPlaced, memberRange, moduleDefined, modulePlaced, nameRange, nsPlaced, preludeDefined, sameChild, sameExtern, sameName, samePrelude}
-use Rattle.check_rules.specs.Steps.{Next, on, judge, addName, addCrate, addDependency, addMap, addModule, addChild, addPrelude, addDefinition, addImport, addExtern, addMember, nameStep, crateStep, dependencyStep, mapStep, moduleStep, childStep, preludeStep, definitionStep, importStep, externStep, memberStep}
+use Rattle.check_rules.specs.Tests.{childDefined, childPlaced, countsOf, crateRange, isEdition, definitionDefined, definitionPlaced, definitionRange}
+use Rattle.check_rules.specs.Tests.{definitionRepeated, dependencyDefined, dependencyRange, externDefined, importDefined, importRange, mapDefined}
+use Rattle.check_rules.specs.Tests.{mapPlaced, mapRange, mapRepeated, memberDefined, memberPlaced, memberRange, moduleDefined, modulePlaced}
+use Rattle.check_rules.specs.Tests.{nameRange, nsPlaced, preludeDefined, sameChild, sameExtern, sameName, samePrelude}
+use Rattle.check_rules.specs.Steps.{Next, on, judge, addName, addCrate, addDependency, addMap, addModule, addChild, addPrelude, addDefinition}
+use Rattle.check_rules.specs.Steps.{addImport, addExtern, addMember, nameStep, crateStep, dependencyStep, mapStep, moduleStep, childStep, preludeStep}
+use Rattle.check_rules.specs.Steps.{definitionStep, importStep, externStep, memberStep}
 use Rattle.check_rules.specs.Verdict.{recordStep}
 use Rattle.accept.proofs.Accepted.{by-test, judge-on, judge-crate-on}
 use Rattle.edit_rules.specs.Entries.{movedScope, movedImport, movedExtern, withLists, withScopes}
@@ -170,7 +177,8 @@ module _ (m : ℕ → ℕ) (k : ℕ) (s t : Snapshot) (ys : List Scope) where
   module-moved : (x : Module) → moduleStep s x ≡ on t → Kept (λ s. moduleStep s x)
   unfolding moduleStep
   module-moved x e =
-      judged-moved true (moduleDefined (countsOf s) x) false (modulePlaced s x) (ltb (length (s .modules)) moduleLimit) (addModule s x) e (refl, λ h b. b)
+      judged-moved true (moduleDefined (countsOf s) x) false (modulePlaced s x) (ltb (length (s .modules)) moduleLimit)
+      (addModule s x) e (refl, λ h b. b)
 
   child-moved : (x : Child) → childStep s x ≡ on t → Kept (λ s. childStep s x)
   unfolding childStep
@@ -241,31 +249,49 @@ module _ (W X : List ℕ) (m : ℕ → ℕ) (a b k : ℕ) (to : b ≡ m a) (stil
     sized : (n : ℕ) → eqb k n ≡ true → Same W X a b (argumentsOf n (payOf (getD W a 0)))
     sized n e = let q = arguments-are W a k here ∙ ap (λ x. argumentsOf x (payOf (getD W a 0))) (eqb-true k n e) in subst (λ m. Same W X a b m) q h
 
-    pub other-moved : eqb k 9 ≡ false → leb k 13 ≡ true → eqb k 12 ≡ false → leb 1 k ≡ true → recordStep k W a s ≡ on t → Kept m k s t ys (recordStep k X b)
+    pub other-moved : eqb k 9 ≡ false → leb k 13 ≡ true → eqb k 12 ≡ false → leb 1 k ≡ true → recordStep k W a s ≡ on t
+        → Kept m k s t ys (recordStep k X b)
     unfolding recordStep argumentsOf
     other-moved n9 most n12 least e =
         by-test (eqb k 1)
-        (λ c. rw (recordStep, c) (moved-to nameStep (nameAt W a) (nameAt X b) (name-same W X a b (sized 1 c)) (name-moved m k s t ys (nameAt W a) (rw (recordStep, c) at e)))) (λ n1.
+        (λ c. rw (recordStep, c) (moved-to nameStep (nameAt W a) (nameAt X b) (name-same W X a b (sized 1 c))
+        (name-moved m k s t ys (nameAt W a) (rw (recordStep, c) at e)))) (λ n1.
         by-test (eqb k 2)
-        (λ c. rw (recordStep, n1, c) (moved-to crateStep (crateAt W a) (crateAt X b) (crate-same W X a b (sized 2 c)) (crate-moved m k s t ys (crateAt W a) (rw (recordStep, n1, c) at e)))) (λ n2.
+        (λ c. rw (recordStep, n1, c) (moved-to crateStep (crateAt W a) (crateAt X b) (crate-same W X a b (sized 2 c))
+        (crate-moved m k s t ys (crateAt W a) (rw (recordStep, n1, c) at e)))) (λ n2.
         by-test (eqb k 3)
-        (λ c. rw (recordStep, n1, n2, c) (moved-to dependencyStep (dependencyAt W a) (dependencyAt X b) (dependency-same W X a b (sized 3 c)) (dependency-moved m k s t ys (dependencyAt W a) (rw (recordStep, n1, n2, c) at e)))) (λ n3.
+        (λ c. rw (recordStep, n1, n2, c) (moved-to dependencyStep (dependencyAt W a) (dependencyAt X b) (dependency-same W X a b (sized 3 c))
+        (dependency-moved m k s t ys (dependencyAt W a) (rw (recordStep, n1, n2, c) at e)))) (λ n3.
         by-test (eqb k 4)
-        (λ c. rw (recordStep, n1, n2, n3, c) (moved-to mapStep (mapAt W a) (mapAt X b) (map-same W X a b (sized 4 c)) (map-moved m k s t ys (mapAt W a) (rw (recordStep, n1, n2, n3, c) at e)))) (λ n4.
+        (λ c. rw (recordStep, n1, n2, n3, c) (moved-to mapStep (mapAt W a) (mapAt X b) (map-same W X a b (sized 4 c))
+        (map-moved m k s t ys (mapAt W a) (rw (recordStep, n1, n2, n3, c) at e)))) (λ n4.
         by-test (eqb k 5)
-        (λ c. rw (recordStep, n1, n2, n3, n4, c) (moved-to moduleStep (moduleAt W a) (moduleAt X b) (module-same W X a b (sized 5 c)) (module-moved m k s t ys (moduleAt W a) (rw (recordStep, n1, n2, n3, n4, c) at e)))) (λ n5.
+        (λ c. rw (recordStep, n1, n2, n3, n4, c) (moved-to moduleStep (moduleAt W a) (moduleAt X b) (module-same W X a b (sized 5 c))
+        (module-moved m k s t ys (moduleAt W a) (rw (recordStep, n1, n2, n3, n4, c) at e)))) (λ n5.
         by-test (eqb k 6)
-        (λ c. rw (recordStep, n1, n2, n3, n4, n5, c) (moved-to childStep (childAt W a) (childAt X b) (child-same W X a b (sized 6 c)) (child-moved m k s t ys (childAt W a) (rw (recordStep, n1, n2, n3, n4, n5, c) at e)))) (λ n6.
+        (λ c. rw (recordStep, n1, n2, n3, n4, n5, c) (moved-to childStep (childAt W a) (childAt X b) (child-same W X a b (sized 6 c))
+        (child-moved m k s t ys (childAt W a) (rw (recordStep, n1, n2, n3, n4, n5, c) at e)))) (λ n6.
         by-test (eqb k 7)
-        (λ c. rw (recordStep, n1, n2, n3, n4, n5, n6, c) (moved-to preludeStep (preludeAt W a) (preludeAt X b) (prelude-same W X a b (sized 7 c)) (prelude-moved m k s t ys (preludeAt W a) (rw (recordStep, n1, n2, n3, n4, n5, n6, c) at e)))) (λ n7.
+        (λ c. rw (recordStep, n1, n2, n3, n4, n5, n6, c) (moved-to preludeStep (preludeAt W a) (preludeAt X b)
+        (prelude-same W X a b (sized 7 c)) (prelude-moved m k s t ys (preludeAt W a) (rw (recordStep, n1, n2, n3, n4, n5, n6, c) at e)))) (λ n7.
         by-test (eqb k 8)
-        (λ c. rw (recordStep, n1, n2, n3, n4, n5, n6, n7, c) (moved-to definitionStep (definitionAt W a) (definitionAt X b) (definition-same W X a b (still (eqb-true k 8 c)) (sized 8 c)) (definition-moved m k s t ys (definitionAt W a) (rw (recordStep, n1, n2, n3, n4, n5, n6, n7, c) at e)))) (λ n8.
+        (λ c. rw (recordStep, n1, n2, n3, n4, n5, n6, n7, c) (moved-to definitionStep (definitionAt W a) (definitionAt X b)
+        (definition-same W X a b (still (eqb-true k 8 c)) (sized 8 c)) (definition-moved m k s t ys (definitionAt W a)
+        (rw (recordStep, n1, n2, n3, n4, n5, n6, n7, c) at e)))) (λ n8.
         by-test (eqb k 10)
-        (λ c. rw (recordStep, n1, n2, n3, n4, n5, n6, n7, n8, n9, c) (moved-to importStep (movedImport m (importAt W a)) (importAt X b) (import-same W X a b m to (sized 10 c)) (import-moved m k s t ys (importAt W a) (let x = eqb-true k 10 c in omega arith) (rw (recordStep, n1, n2, n3, n4, n5, n6, n7, n8, n9, c) at e)))) (λ n10.
+        (λ c. rw (recordStep, n1, n2, n3, n4, n5, n6, n7, n8, n9, c) (moved-to importStep (movedImport m (importAt W a))
+        (importAt X b) (import-same W X a b m to (sized 10 c))
+        (import-moved m k s t ys (importAt W a) (let x = eqb-true k 10 c in omega arith)
+        (rw (recordStep, n1, n2, n3, n4, n5, n6, n7, n8, n9, c) at e)))) (λ n10.
         by-test (eqb k 11)
-        (λ c. rw (recordStep, n1, n2, n3, n4, n5, n6, n7, n8, n9, n10, c) (moved-to externStep (movedExtern m (externAt W a)) (externAt X b) (extern-same W X a b m to (sized 11 c)) (extern-moved m k s t ys (externAt W a) (let x = eqb-true k 11 c in omega arith) (rw (recordStep, n1, n2, n3, n4, n5, n6, n7, n8, n9, n10, c) at e)))) (λ n11.
+        (λ c. rw (recordStep, n1, n2, n3, n4, n5, n6, n7, n8, n9, n10, c) (moved-to externStep (movedExtern m (externAt W a))
+        (externAt X b) (extern-same W X a b m to (sized 11 c))
+        (extern-moved m k s t ys (externAt W a) (let x = eqb-true k 11 c in omega arith)
+        (rw (recordStep, n1, n2, n3, n4, n5, n6, n7, n8, n9, n10, c) at e)))) (λ n11.
         let r4 = above 4 k (above 3 k (above 2 k (above 1 k (leb-true 1 k least) n1) n2) n3) n4 in
         let r8 = above 8 k (above 7 k (above 6 k (above 5 k r4 n5) n6) n7) n8 in
         let r12 = above 12 k (above 11 k (above 10 k (above 9 k r8 n9) n10) n11) n12 in
         let c : eqb k 13 ≡ true = eq-eqb k 13 (equal k 13 (leb-true k 13 most) r12) in
-        rw (recordStep, n1, n2, n3, n4, n5, n6, n7, n8, n9, n10, n11) (moved-to memberStep (memberAt W a) (memberAt X b) (member-same W X a b (sized 13 c)) (member-moved m k s t ys (memberAt W a) (rw (recordStep, n1, n2, n3, n4, n5, n6, n7, n8, n9, n10, n11) at e)))))))))))))
+        rw (recordStep, n1, n2, n3, n4, n5, n6, n7, n8, n9, n10, n11) (moved-to memberStep (memberAt W a) (memberAt X b)
+        (member-same W X a b (sized 13 c))
+        (member-moved m k s t ys (memberAt W a) (rw (recordStep, n1, n2, n3, n4, n5, n6, n7, n8, n9, n10, n11) at e)))))))))))))

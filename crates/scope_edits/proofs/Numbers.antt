@@ -83,7 +83,8 @@ entry-judged W A l E {a = a} {b = b} {p = p} j ea eb en ed ep =
 -- the number of an addition
 pub add-faulted : (W A : List ℕ) (l : Layout) (E : List ℕ) (slice : ℕ) → Reads W A l → {n k at o ns name : ℕ}
     → n ≡ addNumber k (ltb at (length W)) (hasRoom (length W) slice)
-    → k ≡ numberOf (scopeRange (entryOf E)) (scopeDefined (countsOf (snapOf W A l)) (entryOf E)) false (nsPlaced (snapOf W A l) (entryOf E .ns) (entryOf E .definition)) true
+    → k ≡ numberOf (scopeRange (entryOf E)) (scopeDefined (countsOf (snapOf W A l)) (entryOf E)) false
+    (nsPlaced (snapOf W A l) (entryOf E .ns) (entryOf E .definition)) true
     → at ≡ entryPlace (isNamed o ns name) W → o ≡ getD E 0 0 → ns ≡ getD E 1 0 → name ≡ getD E 2 0
     → n ≡ editFault (snapOf W A l) (length W) slice (adding (entryOf E))
 unfolding editFault

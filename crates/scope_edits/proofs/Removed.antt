@@ -74,7 +74,8 @@ module _ (t : Scope → Bool) (W : List ℕ) (u : Snapshot) (acc : verdict W ≡
   pub absent : length W ≤ entryPlace t W → any t (u .scopes) ≡ false
   absent h =
       let p = entry-split in
-      subst (λ (x : Snapshot). any t (x .scopes) ≡ false) (records-done W (p .fuel) (entryPlace t W) (p .before) (p .state) u h (p .rest)) (p .holds .0)
+      subst (λ (x : Snapshot). any t (x .scopes) ≡ false) (records-done W (p .fuel) (entryPlace t W) (p .before) (p .state) u h (p .rest))
+      (p .holds .0)
 
 -- a list with the entry y after those of pre, and the list without it
 abbrev Less : List Scope → Scope → List Scope → List Scope → Type 0
@@ -137,7 +138,8 @@ module _ (t : Scope → Bool) (W : List ℕ) (u : Snapshot) (acc : verdict W ≡
   -- after the record
   rest : records (first .0) W (entryPlace t W + scopeSize) 9 (addScope (p .state) (scopeAt W (entryPlace t W))) ≡ accept u
   rest =
-      ap (λ x. records (first .0) W (entryPlace t W + scopeSize) 9 x) (scope-added W (entryPlace t W) (p .before) (p .state) (first .2 .state) taken kind-here)
+      ap (λ x. records (first .0) W (entryPlace t W + scopeSize) 9 x) (scope-added W (entryPlace t W) (p .before) (p .state)
+      (first .2 .state) taken kind-here)
       ∙ ap (λ x. records (first .0) W x 9 (first .2 .state)) (sym to)
       ∙ ap (λ x. records (first .0) W (entryPlace t W + 1 + argumentsAt W (entryPlace t W)) x (first .2 .state)) (sym kind-here)
       ∙ first .2 .rest
@@ -153,25 +155,34 @@ module _ (t : Scope → Bool) (W : List ℕ) (u : Snapshot) (acc : verdict W ≡
   moved =
       let l = shorter in
       let r =
-      run-moved W (cut (entryPlace t W) scopeSize W) lower (Less (p .state .scopes) (scopeAt W (entryPlace t W))) 9 (less-kept (p .state .scopes) (scopeAt W (entryPlace t W))) (omega arith)
-      (first .0) (entryPlace t W + scopeSize) (entryPlace t W) 9 (p .before) (addScope (p .state) (scopeAt W (entryPlace t W))) u (p .state .scopes) (omega arith) low
-      (cut-after W (entryPlace t W) scopeSize fits) (λ i. omega arith) (omega arith) enough ([], refl, sym (append-nil (p .state .scopes))) rest in
-      (r .0, r .1, ap (records (first .0) (cut (entryPlace t W) scopeSize W) (entryPlace t W) (p .before)) (sym (bare-moved lower (p .state) (p .holds .1 low) (p .state .scopes))) ∙ r .2)
+      run-moved W (cut (entryPlace t W) scopeSize W) lower (Less (p .state .scopes) (scopeAt W (entryPlace t W))) 9
+      (less-kept (p .state .scopes) (scopeAt W (entryPlace t W))) (omega arith)
+      (first .0) (entryPlace t W + scopeSize) (entryPlace t W) 9 (p .before) (addScope (p .state) (scopeAt W (entryPlace t W))) u
+      (p .state .scopes) (omega arith) low
+      (cut-after W (entryPlace t W) scopeSize fits) (λ i. omega arith) (omega arith) enough ([], refl, sym (append-nil (p .state .scopes))) rest in (
+        r .0,
+        r .1,
+        ap (records (first .0) (cut (entryPlace t W) scopeSize W) (entryPlace t W) (p .before))
+            (sym (bare-moved lower (p .state) (p .holds .1 low) (p .state .scopes))) ∙ r .2,
+      )
 
   -- up to it
   up-to : (m : ℕ) × (length (cut (entryPlace t W) scopeSize W) ≤ m + entryPlace t W)
-      × (records (length (cut (entryPlace t W) scopeSize W)) (cut (entryPlace t W) scopeSize W) 0 0 empty ≡ records m (cut (entryPlace t W) scopeSize W) (entryPlace t W) (p .before) (p .state))
+      × (records (length (cut (entryPlace t W) scopeSize W)) (cut (entryPlace t W) scopeSize W) 0 0 empty
+      ≡ records m (cut (entryPlace t W) scopeSize W) (entryPlace t W) (p .before) (p .state))
   up-to =
       let l = shorter in
       let f = fits in
-      p .same (cut (entryPlace t W) scopeSize W) (cut-before W (entryPlace t W) scopeSize fits) (omega arith) (length (cut (entryPlace t W) scopeSize W)) (omega arith)
+      p .same (cut (entryPlace t W) scopeSize W) (cut-before W (entryPlace t W) scopeSize fits) (omega arith)
+      (length (cut (entryPlace t W) scopeSize W)) (omega arith)
 
   less : Less (p .state .scopes) (scopeAt W (entryPlace t W)) (u .scopes) (moved .0)
   less = moved .1
 
   left : moved .0 ≡ without t (u .scopes)
   left =
-      less .2 ∙ sym (without-middle t (p .state .scopes) (scopeAt W (entryPlace t W)) (less .0) (p .holds .0) (here .1)) ∙ ap (without t) (sym (less .1))
+      less .2 ∙ sym (without-middle t (p .state .scopes) (scopeAt W (entryPlace t W)) (less .0) (p .holds .0) (here .1))
+      ∙ ap (without t) (sym (less .1))
 
   accepted : verdict (cut (entryPlace t W) scopeSize W) ≡ accept (withScopes lower u (without t (u .scopes)))
   accepted =

@@ -49,7 +49,8 @@ module _ (stop : ℕ → Bool) (W : List ℕ) where
       (λ c. let e : firstFrom stop (suc n) W a ≡ a = rw (firstFrom, c) in subst (λ p. a ≤ p) (sym e) (omega arith))
 
 -- whether a record is the entry, in other words that are the same
-entry-same : (t : Scope → Bool) (W X : List ℕ) (a : ℕ) → ((i : ℕ) → i ≤ argumentsAt W a → getD X (a + i) 0 ≡ getD W (a + i) 0) → getD X a 0 ≡ getD W a 0
+entry-same : (t : Scope → Bool) (W X : List ℕ) (a : ℕ) → ((i : ℕ) → i ≤ argumentsAt W a → getD X (a + i) 0 ≡ getD W (a + i) 0)
+    → getD X a 0 ≡ getD W a 0
     → isEntry t W a ≡ false → isEntry t X a ≡ false
 unfolding argumentsOf
 entry-same t W X a same head e =
@@ -69,7 +70,8 @@ module _ (t : Scope → Bool) (W X : List ℕ) (p : ℕ) (agree : (i : ℕ) → 
 
     go-on : (n m a : ℕ) → a < length W → isLater W a ≡ false → firstFrom (isLater W) (suc n) W a ≡ p → length X ≤ m + a
         → isEntry t W a ≡ false
-        → ((k : ℕ) → firstFrom (isLater W) n W (a + 1 + argumentsAt W a) ≡ p → length X ≤ k + (a + 1 + argumentsAt W a) → firstFrom (isEntry t X) k X (a + 1 + argumentsAt W a) ≡ p)
+        → ((k : ℕ) → firstFrom (isLater W) n W (a + 1 + argumentsAt W a) ≡ p → length X ≤ k + (a + 1 + argumentsAt W a)
+        → firstFrom (isEntry t X) k X (a + 1 + argumentsAt W a) ≡ p)
         → firstFrom (isEntry t X) m X a ≡ p
     go-on n m a h d e g none rec =
         let f = sym (first-on (isLater W) W n a h d) ∙ e in
@@ -97,7 +99,8 @@ module _ (t : Scope → Bool) (W X : List ℕ) (p : ℕ) (agree : (i : ℕ) → 
         let h = ltb-true a (length W) c in
         let none = absent-here (suc n) a h absent in
         go-on n m a h d e g none
-        (λ k f r. place-back n k (a + 1 + argumentsAt W a) f (omega arith) r (subst (λ z. length W ≤ z) (first-on (isEntry t W) W n a h none) absent))))
+        (λ k f r. place-back n k (a + 1 + argumentsAt W a) f (omega arith) r
+        (subst (λ z. length W ≤ z) (first-on (isEntry t W) W n a h none) absent))))
         (λ c. at-end m a (sym (first-end (isLater W) W (suc n) a (ltb-false a (length W) c)) ∙ e))
 
 -- a loop that goes from record to record: the place that it looks for is that of the walk from where it stands

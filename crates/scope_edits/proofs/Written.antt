@@ -1,5 +1,5 @@
 -- Accepted words are those that their snapshot is written as.
-use Prim.Native.Nat.{ℕ, zero, suc, _+_, _*_, _-_, _/_, _%_, _≤_, _<_}
+use Prim.Native.Nat.{ℕ, zero, suc, _+_, _*_, _-_, _≤_, _<_}
 use mathlib.Core.Path.{_≡_, refl, sym, _∙_, ap, ap₂, subst}
 use mathlib.Core.List.{List, [], _∷_, _++_, append-nil, append-assoc}
 use mathlib.Core.Bool.{Bool, true, false, _&&_, _||_, not}
@@ -8,20 +8,28 @@ use native.Mathlib.Nat.{add-zero}
 use lib.Dec.{eqb, leb, ltb}
 use lib.ListN.{length, getD, take, drop}
 use lib.Seq.{take-add, take-all}
-use borrow.Author.Tests.{eqb-true, eqb-false, eq-eqb, ne-eqb, ltb-true, ltb-false, leb-true}
+use borrow.Author.Tests.{eqb-true, eq-eqb, ne-eqb, ltb-true, ltb-false, leb-true}
 use Rattle.snapshot.specs.Lists.{all, any, rows}
 use Rattle.snapshot.specs.Limits.{crateLimit, moduleLimit, nameLimit, definitionLimit}
 use Rattle.snapshot.specs.Words.{kindOf, payOf, wordsOf, argumentsOf, argumentsAt}
-use Rattle.snapshot.specs.Records.{Name, Crate, Dependency, Map, Module, Child, Prelude, Definition, Scope, Import, Extern, Member, Snapshot, nameAt, crateAt, dependencyAt, mapAt, moduleAt, childAt, preludeAt, definitionAt, scopeAt, importAt, externAt, memberAt}
+use Rattle.snapshot.specs.Records.{Map, Module, Snapshot, nameAt, crateAt, dependencyAt, mapAt, moduleAt, childAt, preludeAt, definitionAt, scopeAt}
+use Rattle.snapshot.specs.Records.{importAt, externAt, memberAt}
 use Rattle.snapshot.proofs.Laws.{rows-part, rows-ext, after-head}
-use Rattle.check_rules.specs.Tests.{childDefined, childPlaced, countsOf, crateRange, isEdition, definitionDefined, definitionPlaced, definitionRange, definitionRepeated, dependencyDefined, dependencyRange, externDefined, importDefined, importRange, isIn, mapDefined, mapPlaced, mapRange, mapRepeated, memberDefined, memberPlaced, memberRange, moduleDefined, modulePlaced, mapOf, nameRange, nsPlaced, preludeDefined, sameChild, sameEntry, sameExtern, sameName, samePrelude, scopeDefined, scopeRange}
-use Rattle.check_rules.specs.Steps.{on, addName, addCrate, addDependency, addMap, addModule, addChild, addPrelude, addDefinition, addScope, addImport, addExtern, addMember, nameStep, crateStep, dependencyStep, mapStep, moduleStep, childStep, preludeStep, definitionStep, scopeStep, importStep, externStep, memberStep}
+use Rattle.check_rules.specs.Tests.{childDefined, childPlaced, countsOf, crateRange, isEdition, definitionDefined, definitionPlaced, definitionRange}
+use Rattle.check_rules.specs.Tests.{definitionRepeated, dependencyDefined, dependencyRange, externDefined, importDefined, importRange, isIn}
+use Rattle.check_rules.specs.Tests.{mapDefined, mapPlaced, mapRange, mapRepeated, memberDefined, memberPlaced, memberRange, moduleDefined}
+use Rattle.check_rules.specs.Tests.{modulePlaced, mapOf, nameRange, nsPlaced, preludeDefined, sameChild, sameEntry, sameExtern, sameName, samePrelude}
+use Rattle.check_rules.specs.Tests.{scopeDefined, scopeRange}
+use Rattle.check_rules.specs.Steps.{on, addName, addCrate, addDependency, addMap, addModule, addChild, addPrelude, addDefinition, addScope, addImport}
+use Rattle.check_rules.specs.Steps.{addExtern, addMember, nameStep, crateStep, dependencyStep, mapStep, moduleStep, childStep, preludeStep}
+use Rattle.check_rules.specs.Steps.{definitionStep, scopeStep, importStep, externStep, memberStep}
 use Rattle.check_rules.specs.Verdict.{follows, recordStep, accept, records, empty, verdict}
 use Rattle.accept.specs.Valid.{Each, none, more}
 use Rattle.accept.proofs.Accepted.{by-test, judge-on, judge-crate-on}
 use Rattle.accept.proofs.Bools.{and-two, and-four, all-below, each-map, each-snoc, length-snoc, or-right, unless-right}
 use Rattle.edit_rules.specs.Entries.{scopeWords}
-use Rattle.edit_rules.specs.Written.{headOf, nameWords, crateWords, dependencyWords, mapWords, moduleWords, childWords, preludeWords, definitionWords, importWords, externWords, memberWords, eachWords, wordsWithin, treeWords, kindsWords, joined, snapshotWords}
+use Rattle.edit_rules.specs.Written.{headOf, nameWords, crateWords, dependencyWords, mapWords, moduleWords, childWords, preludeWords, definitionWords}
+use Rattle.edit_rules.specs.Written.{importWords, externWords, memberWords, eachWords, wordsWithin, treeWords, kindsWords, joined, snapshotWords}
 use Rattle.scope_edits.proofs.Moved.{arguments-are, above, equal}
 use Rattle.scope_edits.proofs.Stepped.{Taking, taking, taking-within, follows-parts}
 use Rattle.scope_edits.proofs.Folded.{records-done, next-record}
@@ -186,7 +194,8 @@ module _ (W : List ℕ) (at last : ℕ) (s t : Snapshot) (h : Written W at last 
       subst (λ x. Written W (at + 1 + argumentsAt W at) (kindOf (getD W at 0)) x) same
       (record {
         same = a ∙ ap (λ x. x ++ w) (h .same) ∙ sym (joined-put n w (kindsWords s) b none-later) ∙ ap joined (sym p);
-        later = ap (λ x. joined (drop x (kindsWords u))) c ∙ ap (λ x. joined (drop (suc n) x)) p ∙ ap joined (drop-put n w (kindsWords s)) ∙ none-later;
+        later = ap (λ x. joined (drop x (kindsWords u))) c ∙ ap (λ x. joined (drop (suc n) x)) p ∙ ap joined (drop-put n w (kindsWords s))
+            ∙ none-later;
         known = m;
       })
 
@@ -196,7 +205,8 @@ module _ (W : List ℕ) (at last : ℕ) (s t : Snapshot) (h : Written W at last 
       let x = nameAt W at in
       let o = judge-on (nameRange x) true (any (sameName x) (s .names)) true (ltb (length (s .names)) nameLimit) (addName s x) t f in
       grown 1 0 (nameWords x) (addName s x) e refl (omega arith) (rw (each-more nameWords (s .names) x))
-      (read 1 (wordsOf (x .bytes)) e (arguments-are W at 1 e) ∙ ap (λ y. take at W ++ (headOf 1 (x .bytes) ∷ y)) (text-read W at (wordsOf (x .bytes))))
+      (read 1 (wordsOf (x .bytes)) e (arguments-are W at 1 e) ∙ ap (λ y. take at W ++ (headOf 1 (x .bytes) ∷ y))
+      (text-read W at (wordsOf (x .bytes))))
       (h .known) (o .same)
 
   crate-written : kindOf (getD W at 0) ≡ 2 → crateStep s (crateAt W at) ≡ on t → Grown
@@ -269,7 +279,8 @@ module _ (W : List ℕ) (at last : ℕ) (s t : Snapshot) (h : Written W at last 
   unfolding scopeStep argumentsOf put rows scopeWords
   scope-written e f =
       let x = scopeAt W at in
-      let o = judge-on (scopeRange x) (scopeDefined (countsOf s) x) (any (sameEntry x) (s .scopes)) (nsPlaced s (x .ns) (x .definition)) true (addScope s x) t f in
+      let o = judge-on (scopeRange x) (scopeDefined (countsOf s) x) (any (sameEntry x) (s .scopes)) (nsPlaced s (x .ns) (x .definition))
+      true (addScope s x) t f in
       grown 9 7 (scopeWords x) (addScope s x) e refl (omega arith) (rw (each-more scopeWords (s .scopes) x))
       (read 9 7 e (arguments-are W at 9 e)) (h .known) (o .same)
 
@@ -329,7 +340,8 @@ records-written W u (suc n) at last s g e enough h =
     let l = ltb-true at (length W) c in
     let r = next-record W n at last s u l e in
     let t = taking W at last s (r .state) (r .step) in
-    records-written W u n (at + 1 + argumentsAt W at) (kindOf (getD W at 0)) (r .state) (taking-within W at last s (r .state) t l) (r .rest) (omega arith)
+    records-written W u n (at + 1 + argumentsAt W at) (kindOf (getD W at 0)) (r .state) (taking-within W at last s (r .state) t l)
+    (r .rest) (omega arith)
     (step-written W at last s (r .state) h t l))
     (λ c.
     let l = ltb-false at (length W) c in

@@ -49,7 +49,9 @@ fn defined(l: Layout, entry: &[u32]) -> bool
 // The number by which a scope record of the entry would be refused, but for a repeated one, or 0.
 fn entry_number(words: &[u32], l: Layout, entry: &[u32]) -> u32
     requires { ⌜ wordCount l ≤ wordLimit ⌝ }
-    ensures { λ r. ⌜ ((A : List ℕ) → r ≡ numberOf (scopeRange (entryOf (now (entry .entry)))) (scopeDefined (countsOf (snapOf (now (words .entry)) A l)) (entryOf (now (entry .entry)))) false (nsPlaced (snapOf (now (words .entry)) A l) (entryOf (now (entry .entry)) .ns) (entryOf (now (entry .entry)) .definition)) true) ⌝ }
+    ensures { λ r. ⌜ ((A : List ℕ) → r ≡ numberOf (scopeRange (entryOf (now (entry .entry))))
+        (scopeDefined (countsOf (snapOf (now (words .entry)) A l)) (entryOf (now (entry .entry)))) false
+        (nsPlaced (snapOf (now (words .entry)) A l) (entryOf (now (entry .entry)) .ns) (entryOf (now (entry .entry)) .definition)) true) ⌝ }
 {
     let ns = word(entry, 1);
     let definition = word(entry, 3);
@@ -77,7 +79,8 @@ fn add_number(entry: u32, there: bool, room: bool) -> u32
 /// words.
 pub fn add_fault(words: &[u32], l: Layout, entry: &[u32], slice: usize) -> u32
     requires { ⌜ (wordCount l ≡ length (now words)) × (length (now words) ≤ wordLimit) ⌝ }
-    ensures { λ r. ⌜ ((A : List ℕ) → Reads (now (words .entry)) A l → r ≡ editFault (snapOf (now (words .entry)) A l) (length (now (words .entry))) slice (adding (entryOf (now (entry .entry))))) ⌝ }
+    ensures { λ r. ⌜ ((A : List ℕ) → Reads (now (words .entry)) A l
+        → r ≡ editFault (snapOf (now (words .entry)) A l) (length (now (words .entry))) slice (adding (entryOf (now (entry .entry))))) ⌝ }
 {
     let owner = word(entry, 0);
     let ns = word(entry, 1);

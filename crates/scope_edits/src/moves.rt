@@ -11,7 +11,8 @@ use snapshot::kind::Size;
 // Moves the words from a place to another up by the words of a record.
 fn move_up(words: &mut [u32], at: usize, count: usize)
     requires { ⌜ (at ≤ count) × (count + scopeSize ≤ length (now words)) ⌝ }
-    ensures { λ _. ⌜ now (words .exit) ≡ take (at + scopeSize) (now (words .entry)) ++ (drop at (take count (now (words .entry))) ++ drop (count + scopeSize) (now (words .entry))) ⌝ }
+    ensures { λ _. ⌜ now (words .exit) ≡ take (at + scopeSize) (now (words .entry)) ++ (drop at (take count (now (words .entry)))
+        ++ drop (count + scopeSize) (now (words .entry))) ⌝ }
 {
     let mut i = count;
     while at < i {
@@ -35,7 +36,8 @@ fn put_record(words: &mut [u32], at: usize, added: &[u32])
 /// Puts a record in at a place of the first words, so many, and clears the words past them.
 pub fn insert(words: &mut [u32], at: usize, count: usize, added: &[u32])
     requires { ⌜ (at ≤ count) × (count + scopeSize ≤ length (now words)) × (length (now added) ≡ scopeSize) ⌝ }
-    ensures { λ _. ⌜ now (words .exit) ≡ inserted at (now (added .entry)) (take count (now (words .entry))) ++ replicate (length (now (words .entry)) - (count + scopeSize)) 0 ⌝ }
+    ensures { λ _. ⌜ now (words .exit) ≡ inserted at (now (added .entry)) (take count (now (words .entry))) ++ replicate
+        (length (now (words .entry)) - (count + scopeSize)) 0 ⌝ }
 {
     move_up(words, at, count);
     put_record(words, at, added);
@@ -57,7 +59,8 @@ fn move_down(words: &mut [u32], at: usize, count: usize)
 /// Takes the record at a place out of the first words, so many, and clears the words past them.
 pub fn remove(words: &mut [u32], at: usize, count: usize)
     requires { ⌜ (at + scopeSize ≤ count) × (count ≤ length (now words)) ⌝ }
-    ensures { λ _. ⌜ now (words .exit) ≡ cut at scopeSize (take count (now (words .entry))) ++ replicate (length (now (words .entry)) - (count - scopeSize)) 0 ⌝ }
+    ensures { λ _. ⌜ now (words .exit) ≡ cut at scopeSize (take count (now (words .entry))) ++ replicate
+        (length (now (words .entry)) - (count - scopeSize)) 0 ⌝ }
 {
     move_down(words, at, count);
     clear(words, count - Size::SCOPE, words.len());

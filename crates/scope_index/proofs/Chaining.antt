@@ -7,7 +7,7 @@ use mathlib.Core.Option.{Option, none, some}
 use native.Mathlib.Omega.{arith}
 use native.Mathlib.Nat.{add-zero}
 use lib.Dec.{eqb}
-use lib.ListN.{length, getD, set, take, length-set}
+use lib.ListN.{length, set, take, length-set}
 use lib.Seq.{getD-set-same, getD-set-other, take-set-le}
 use borrow.Author.Tests.{eqb-true, eqb-false, ne-eqb}
 use Rattle.snapshot.specs.Limits.{moduleLimit, areaLimit}
@@ -21,7 +21,6 @@ use Rattle.accept.specs.Post.{Reads}
 use Rattle.accept.proofs.Accepted.{by-test}
 use Rattle.accept.proofs.Laws.{and-no}
 use Rattle.hir_def.specs.Finds.{firstOf}
-use Rattle.hir_def.specs.Items.{itemOf, sameItem}
 use Rattle.hir_def.specs.ItemScope.{isFor, isModuleEntry}
 use Rattle.hir_def.specs.declared.Item.{Item}
 use Rattle.hir_def.proofs.Fits.{scope-fits}
@@ -63,7 +62,8 @@ module _ (W : List ℕ) (l : Layout) where
   first-end m = record { from = omega arith; most = omega arith; its = λ h. absurd (omega arith); least = λ i p g. absurd (omega arith) }
 
 -- the next record of the module of the record j
-pub first-next : (W A : List ℕ) (l : Layout) (m j : ℕ) → Indexed W l 0 A → j < l .scopes → ownerAt W l j ≡ m → {w : ℕ} → w ≡ linkAt A j → First W l m (j + 1) w
+pub first-next : (W A : List ℕ) (l : Layout) (m j : ℕ) → Indexed W l 0 A → j < l .scopes → ownerAt W l j ≡ m → {w : ℕ} → w ≡ linkAt A j
+    → First W l m (j + 1) w
 first-next W A l m j x h o e = subst (First W l m (j + 1)) (sym e) (subst (λ z. First W l z (j + 1) (linkAt A j)) o (x .links j (omega arith) h))
 
 -- clearing
@@ -126,17 +126,20 @@ module _ (W A : List ℕ) (l : Layout) (k : ℕ) (z : Sized W l) (size : length 
               (sym (link-at k ∙ getD-set-same A (linksAt + k) (headAt A o) 0 (omega (arith, z .short))))
               (subst (λ t. First W l t (k + 1) (headAt A o)) e (i .heads o (omega (arith, e, z .owners k h))))))
               (λ n.
-              subst (First W l (ownerAt W l j) (j + 1)) (sym (link-at j ∙ getD-set-other A (linksAt + k) (linksAt + j) (headAt A o) 0 (λ p. n (omega arith))))
+              subst (First W l (ownerAt W l j) (j + 1))
+              (sym (link-at j ∙ getD-set-other A (linksAt + k) (linksAt + j) (headAt A o) 0 (λ p. n (omega arith))))
               (i .links j (omega arith) g));
         }
 
     pub linked-below : take indexAt (B o) ≡ take indexAt A
     linked-below =
-        take-set-le indexAt (set A (linksAt + k) (headAt A o)) (indexAt + o) k (omega arith) ∙ take-set-le indexAt A (linksAt + k) (headAt A o) (omega arith)
+        take-set-le indexAt (set A (linksAt + k) (headAt A o)) (indexAt + o) k (omega arith) ∙ take-set-le indexAt A (linksAt + k)
+        (headAt A o) (omega arith)
 
 -- records that don't pass are passed over
 module _ {R : Type 0} (p : R → Bool) (f : ℕ → R) (n : ℕ) where
-  skip : (d k : ℕ) → k + d ≤ n → ((i : ℕ) → k ≤ i → i < k + d → p (f i) ≡ false) → firstOf p (rows f k (n - k)) ≡ firstOf p (rows f (k + d) (n - (k + d)))
+  skip : (d k : ℕ) → k + d ≤ n → ((i : ℕ) → k ≤ i → i < k + d → p (f i) ≡ false)
+      → firstOf p (rows f k (n - k)) ≡ firstOf p (rows f (k + d) (n - (k + d)))
   skip zero k h t = rw add-zero
   skip (suc d) k h t =
       let e : k + 1 + d ≡ k + suc d = omega arith in

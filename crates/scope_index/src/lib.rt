@@ -8,7 +8,6 @@ ghost use Rattle.snapshot.specs.Limits.{wordLimit, moduleLimit, areaLimit};
 ghost use Rattle.snapshot.specs.Sizes.{scopeSize};
 ghost use Rattle.snapshot.specs.Records.{scopeAt};
 ghost use Rattle.snapshot.specs.Layouts.{wordCount, scopeBase, snapOf};
-ghost use Rattle.accept.specs.Post.{Reads};
 ghost use Rattle.hir_def.specs.ItemScope.{isModuleEntry, nameOf};
 ghost use Rattle.hir_def.specs.Entries.{entryOf, NextOf};
 ghost use Rattle.scope_index.specs.Index.{First, Follows, Indexed, Sized};
@@ -107,7 +106,8 @@ fn first_from(area: &[u32], l: Layout, k: usize, m: ModuleId) -> usize
 /// The next of the module's entries for a module in types, from the entry number k on, where k is 0 or follows one of its entries.
 pub fn modules_from(words: &[u32], area: &[u32], l: Layout, k: usize, m: ModuleId) -> Next
     requires { ⌜ Sized (now words) l × (k ≤ l .scopes) × Follows (now words) l (m .0) k × Indexed (now words) l 0 (now area) ⌝ }
-    ensures { λ r. ⌜ ((A : List ℕ) → NextOf (isModuleEntry (snapOf (now (words .entry)) A l) (m .0)) scopeAt scopeSize (now (words .entry)) (scopeBase l) (l .scopes) k r) ⌝ }
+    ensures { λ r. ⌜ ((A : List ℕ) → NextOf (isModuleEntry (snapOf (now (words .entry)) A l) (m .0)) scopeAt scopeSize
+        (now (words .entry)) (scopeBase l) (l .scopes) k r) ⌝ }
 {
     let base = l.scope_base();
     let mut j = first_from(area, l, k, m);

@@ -33,7 +33,8 @@ use Rattle.find_path.specs.Meters.{fromTank}
 use Rattle.find_path.specs.Charged.{Out, foundOf, variantOf, pushVariant, afterEnum, viaEnum, orEnum, byName, ofModule, findPathInner}
 use Rattle.find_path.specs.Search.{bestLocal}
 use Rattle.search_laws.proofs.Unfold.{EnumNoVariant, inner-more}
-use Rattle.search_laws.proofs.Bounds.{Fits, more, either-fits, nothing-fits, scope-fits, prelude-fits, best-local-fits, best-within, module-search-fits}
+use Rattle.search_laws.proofs.Bounds.{Fits, more, either-fits, nothing-fits, scope-fits, prelude-fits, best-local-fits, best-within}
+use Rattle.search_laws.proofs.Bounds.{module-search-fits}
 use Rattle.charged_search.specs.Parts.{modules, bestPath}
 use Rattle.search_parts.specs.Parts.{straight}
 use Rattle.search.specs.Parts.{items, names}
@@ -70,7 +71,8 @@ module _ (s : Snapshot) where
   unfolding variantOf
   variant-module e = sym (ap (variantOf s) e)
 
-  pub variant-yes : {item : Item} {n d k : ℕ} {y : Definition} → item ≡ definedItem n d → y ≡ definitionOf s d → k ≡ y .kind → k ≡ 2 → some y ≡ variantOf s item
+  pub variant-yes : {item : Item} {n d k : ℕ} {y : Definition} → item ≡ definedItem n d → y ≡ definitionOf s d → k ≡ y .kind
+      → k ≡ 2 → some y ≡ variantOf s item
   unfolding variantOf
   variant-yes {d = d} e h g k =
       let u : eqb (definitionOf s d .kind) 2 ≡ true = eq-eqb _ _ (ap (λ (z : Definition). z .kind) (sym h) ∙ sym g ∙ k) in
@@ -107,7 +109,8 @@ module _ (s : Snapshot) where
   other-none d k =
       by-test (eqb 0 0 && eqb (definitionOf s d .kind) 1)
       (λ t. let q : definitionOf s d .kind ≡ 1 = eqb-true (definitionOf s d .kind) 1 t in absurd (omega (arith, q, k)))
-      (λ t. subst (λ (y : Item). variantOf s y ≡ none) (item-other s 0 d refl t) (sym (variant-no refl refl (λ (z : definitionOf s d .kind ≡ 2). omega (arith, z, k)))))
+      (λ t. subst (λ (y : Item). variantOf s y ≡ none) (item-other s 0 d refl t)
+      (sym (variant-no refl refl (λ (z : definitionOf s d .kind ≡ 2). omega (arith, z, k)))))
 
 -- what acceptance gives a variant
 module _ (W A : List ℕ) (l : Layout) (r : Reads W A l) where
@@ -177,7 +180,8 @@ module _ (s : Snapshot) (x : FindPathCtx) where
   by-name (Mod n) t false e h = let z : (n .0) + 1 ≡ 0 = h in absurd (omega (arith, z))
   by-name (Def n d) t b e h = refl
 
-  pub inner-at-once : (item : Item) (t : Tank) {m : ℕ} → EnumNoVariant s item → straight (x .«is_std_item») item ≡ suc m → modules s x (x .«max_len») m t ≡ items s x item t
+  pub inner-at-once : (item : Item) (t : Tank) {m : ℕ} → EnumNoVariant s item → straight (x .«is_std_item») item ≡ suc m
+      → modules s x (x .«max_len») m t ≡ items s x item t
   inner-at-once item t {m} one h = at-once item m t (x .«is_std_item») refl h ∙ sym (inner-more Tank fromTank s x item t one)
 
   pub inner-by-name : (item : Item) (t : Tank) → EnumNoVariant s item → straight (x .«is_std_item») item ≡ 0 → names s x item t ≡ items s x item t
@@ -248,14 +252,17 @@ module _ (s : Snapshot) (x : FindPathCtx) where
   -- an item that is no variant has as many names at most as the limit
   module _ (item : Item) (t : Tank) (h : variantOf s item ≡ none) (some-limit : 0 < x .«max_len») where
     best-short : Fits s (x .«max_len») (bestPath s x (x .«max_len») item t .choice)
-    best-short = best-within Tank fromTank s x (bestLocal s x) (best-local-fits s x) (modules s x) (module-search-fits Tank fromTank s x) (x .«max_len») some-limit item t
+    best-short = best-within Tank fromTank s x (bestLocal s x) (best-local-fits s x) (modules s x) (module-search-fits Tank fromTank s x)
+        (x .«max_len») some-limit item t
 
-    via-short : (v : Option Definition) → v ≡ none → Fits s (x .«max_len») (viaEnum Tank fromTank s x (bestLocal s x) (modules s x) (items s x) item t v .choice)
+    via-short : (v : Option Definition)
+        → v ≡ none → Fits s (x .«max_len») (viaEnum Tank fromTank s x (bestLocal s x) (modules s x) (items s x) item t v .choice)
     unfolding viaEnum
     via-short none e = best-short
     via-short (some v) e = let z : _≡_ {A = ℕ} 0 1 = cc in absurd (omega arith)
 
-    enum-short : (c : Choice) (b : Bool) → Fits s (x .«max_len») c → Fits s (x .«max_len») (orEnum Tank fromTank s x (bestLocal s x) (modules s x) (items s x) item t c b .choice)
+    enum-short : (c : Choice) (b : Bool) → Fits s (x .«max_len») c
+        → Fits s (x .«max_len») (orEnum Tank fromTank s x (bestLocal s x) (modules s x) (items s x) item t c b .choice)
     unfolding orEnum
     enum-short c true f = f
     enum-short c false f = via-short (variantOf s item) h
@@ -270,7 +277,8 @@ module _ (s : Snapshot) (x : FindPathCtx) where
 
     by-straight : (n : ℕ) → straight (x .«is_std_item») item ≡ n → Fits s (x .«max_len») (items s x item t .choice)
     by-straight (suc m) e =
-        subst (λ (o : Out Tank). Fits s (x .«max_len») (o .choice)) (inner-at-once item t no-enum e) (module-search-fits Tank fromTank s x (x .«max_len») m t)
+        subst (λ (o : Out Tank). Fits s (x .«max_len») (o .choice)) (inner-at-once item t no-enum e)
+        (module-search-fits Tank fromTank s x (x .«max_len») m t)
       where
         no-enum : EnumNoVariant s item
         no-enum v k = let z : none ≡ some v = sym h ∙ k in let c : _≡_ {A = ℕ} 0 1 = cc in absurd (omega arith)

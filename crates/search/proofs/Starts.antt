@@ -1,6 +1,6 @@
 -- The whole search, step by step, and the runs of an item's search.
-use mathlib.Core.Path.{_≡_, refl, sym, _∙_, ap, ap₂}
-use Prim.Native.Nat.{ℕ, zero, suc, _+_, _-_, _≤_, _<_, _^_}
+use mathlib.Core.Path.{_≡_, sym, _∙_, ap, ap₂}
+use Prim.Native.Nat.{ℕ, zero, suc, _+_, _<_, _^_}
 use native.Mathlib.Omega.{arith}
 use mathlib.Core.List.{List, [], _∷_}
 use mathlib.Core.Bool.{Bool, true, false, _&&_}
@@ -123,7 +123,8 @@ module _ (s : Snapshot) (q : Query) (fuel : ℕ) where
   unfolding fromItem
   start-builtin e h g = ap (λ (y : Choice). found y (full fuel)) g ∙ ap foundOf (by-builtin true e h)
 
-  by-home : {k : ℕ} (item : Item) (h : ℕ) → k ≡ definitionOf s (q .definition .0) .kind → builtin k ≡ false → item ≡ itemOf s (q .ns) (q .definition .0)
+  by-home : {k : ℕ} (item : Item) (h : ℕ) → k ≡ definitionOf s (q .definition .0) .kind
+      → builtin k ≡ false → item ≡ itemOf s (q .ns) (q .definition .0)
       → h ≡ homeOf s item → fromHome Tank fromTank s q item (full fuel) h ≡ searched s q fuel
   unfolding fromItem
   by-home item h e f g k =
@@ -152,7 +153,8 @@ builtin-kind s ns d {k} e f = sym e ∙ eqb-true k 3 (and-right (eqb ns 0) (eqb 
 
 -- a builtin's definition as it is read, its name and its place; the home of an item that has one
 module _ (W A : List ℕ) (l : Layout) (r : Reads W A l) where
-  module _ (d : ℕ) (i : d < l .definitions) (k : definitionOf (snapOf W A l) d .kind ≡ 3) {h : ℕ} (e : ReadsAs W h (definitionOf (snapOf W A l) d)) where
+  module _ (d : ℕ) (i : d < l .definitions) (k : definitionOf (snapOf W A l) d .kind ≡ 3) {h : ℕ}
+      (e : ReadsAs W h (definitionOf (snapOf W A l) d)) where
     builtin-read : definitionAt W h ≡ definitionOf (snapOf W A l) d
     builtin-read = e .whole (omega (arith, k))
 

@@ -52,7 +52,8 @@ use snapshot::record::definition_second;
 // The item's name in scope, else in the prelude.
 fn named(words: &[u32], area: &[u32], l: Layout, x: FindPathCtx, item: Item) -> Choice
     requires { ⌜ Reads (now words) (now area) l × (x .from .0 < l .modules) ⌝ }
-    ensures { λ r. ⌜ r ≡ firstFound (scopeRule (snapOf (now (words .entry)) (now (area .entry)) l) x item ∷ preludeRule (snapOf (now (words .entry)) (now (area .entry)) l) x item ∷ []) ⌝ }
+    ensures { λ r. ⌜ r ≡ firstFound (scopeRule (snapOf (now (words .entry)) (now (area .entry)) l) x item ∷ preludeRule
+        (snapOf (now (words .entry)) (now (area .entry)) l) x item ∷ []) ⌝ }
 {
     let scope = scope_rule(words, area, l, x, item);
     if scope.found {
@@ -82,7 +83,8 @@ fn variant_of(words: &[u32], l: Layout, item: Item) -> Entry
 
 // A variant's name, with its definition at a place, after the path of its enum.
 fn push_variant(words: &[u32], area: &[u32], l: Layout, c: Choice, n: Name, h: usize) -> Choice
-    requires { ⌜ Reads (now words) (now area) l × (n .0 < l .names) × (c .count < 16) × (c .«path_text_len» < 2 ^ 32) × (c .steps < 17) × (h < wordLimit) ⌝ }
+    requires { ⌜ Reads (now words) (now area) l × (n .0 < l .names) × (c .count < 16) × (c .«path_text_len» < 2 ^ 32) × (c .steps < 17)
+        × (h < wordLimit) ⌝ }
     ensures { λ r. ⌜ r ≡ pushOf (snapOf (now (words .entry)) (now (area .entry)) l) c (n .0) (stepBy viaVariant h) ⌝ }
 {
     let via = step_by(StepRule::VARIANT, h);
@@ -92,7 +94,8 @@ fn push_variant(words: &[u32], area: &[u32], l: Layout, c: Choice, n: Name, h: u
 // The name of a builtin.
 fn builtin_choice(words: &[u32], area: &[u32], l: Layout, d: DefinitionId) -> Choice
     requires { ⌜ Reads (now words) (now area) l × (d .0 < l .definitions) × (definitionOf (snapOf (now words) (now area) l) (d .0) .kind ≡ 3) ⌝ }
-    ensures { λ r. ⌜ r ≡ builtinChoice (snapOf (now (words .entry)) (now (area .entry)) l) (definitionOf (snapOf (now (words .entry)) (now (area .entry)) l) (d .0)) ⌝ }
+    ensures { λ r. ⌜ r ≡ builtinChoice (snapOf (now (words .entry)) (now (area .entry)) l)
+        (definitionOf (snapOf (now (words .entry)) (now (area .entry)) l) (d .0)) ⌝ }
 {
     let h = definition_head(words, l, d);
     let via = step_by(StepRule::BUILTIN, h);
@@ -109,7 +112,8 @@ pub fn find_path_inner(
     t: Tank,
 ) -> Found
     requires { ⌜ Prepared (now words) (now area) l x × Asked l item × (t .fuel + t .spent < 2 ^ 32) ⌝ }
-    ensures { λ r. ⌜ Searched (now (area .entry)) (searchItem Tank fromTank (snapOf (now (words .entry)) (now (area .entry)) l) x item t) (now (area .exit)) r ⌝ }
+    ensures { λ r. ⌜ Searched (now (area .entry)) (searchItem Tank fromTank (snapOf (now (words .entry)) (now (area .entry)) l) x item t)
+        (now (area .exit)) r ⌝ }
 {
     let OptModule::Module(m) = straight_of(x.is_std_item, item) else {
         return find_by_name(words, area, l, x, item, t);
@@ -160,7 +164,8 @@ fn find_by_name(
 
 /// The search for the item of a question with a full tank, for a limit in range.
 pub fn find_path(words: &[u32], area: &mut [u32], l: Layout, q: Query, fuel: usize) -> Found
-    requires { ⌜ Reads (now words) (now area) l × (length (now area) ≡ areaLimit) × (q .definition .0 < l .definitions) × (q .from .0 < l .modules) × (q .ns ≤ namespaceLimit) × (fuel ≤ fuelLimit) × (0 < q .limit) × (q .limit ≤ pathLimit) ⌝ }
+    requires { ⌜ Reads (now words) (now area) l × (length (now area) ≡ areaLimit) × (q .definition .0 < l .definitions)
+        × (q .from .0 < l .modules) × (q .ns ≤ namespaceLimit) × (fuel ≤ fuelLimit) × (0 < q .limit) × (q .limit ≤ pathLimit) ⌝ }
     ensures { λ r. ⌜ Searched (now (area .entry)) (searched (snapOf (now (words .entry)) (now (area .entry)) l) q fuel) (now (area .exit)) r ⌝ }
 {
     let meter = Tank {

@@ -11,20 +11,26 @@ use Rattle.snapshot.specs.Limits.{pathLimit}
 use Rattle.snapshot.specs.Records.{Snapshot, Scope, Dependency, Definition, Import, Extern}
 use Rattle.hir_def.specs.Items.{types, crateRoot, itemOf, moduleItem}
 use lib.Dec.{eqb}
-use Rattle.hir_def.specs.Nameres.{dependenciesOf, langOf, sysrootFirst, externOf}
+use Rattle.hir_def.specs.Nameres.{langOf, sysrootFirst, externOf}
 use Rattle.hir_def.specs.ImportMap.{importInfoFor, isUnstable}
 use Rattle.hir_def.specs.declared.Item.{Item}
 use Rattle.hir_def.specs.declared.Item.the-variants.{Mod, Def}
 use Rattle.path_choices.specs.declared.Choice.{Choice}
 use Rattle.find_path.specs.declared.FindPathCtx.{FindPathCtx}
 use Rattle.find_path.specs.declared.Query.{Query}
-use Rattle.path_choices.specs.Choices.{nameLen, pathKindLen, plainPath, cratePath, nothing, keyword, choiceNew, extended, push, unstably, better, trySelect}
+use Rattle.path_choices.specs.Choices.{nameLen, pathKindLen, plainPath, cratePath, nothing, keyword, choiceNew, extended, push, unstably, better}
+use Rattle.path_choices.specs.Choices.{trySelect}
 use Rattle.find_path.specs.Walk.{Level}
-use Rattle.find_path.specs.Rules.{byCrate, mayBeInScope, prefixPathKind, contextOf, firstFound, single, scopeRule, preludeRule, externName, rootRule, keywordOf, moduleRules, isKwKindRelativeToFrom, findInScope}
-use Rattle.find_path.specs.Local.{LocalSearch, offer, offerEntry, importableName, location, eachLocation, calculateBestPathLocal, orLocal, findPathForModuleLocal}
+use Rattle.find_path.specs.Rules.{byCrate, mayBeInScope, prefixPathKind, contextOf, firstFound, single, scopeRule, preludeRule, externName, rootRule}
+use Rattle.find_path.specs.Rules.{keywordOf, moduleRules, isKwKindRelativeToFrom, findInScope}
+use Rattle.find_path.specs.Local.{LocalSearch, offer, offerEntry, importableName, location, eachLocation, calculateBestPathLocal, orLocal}
+use Rattle.find_path.specs.Local.{findPathForModuleLocal}
 use Rattle.find_path.specs.Meters.{Charged, go, stop, Charge}
-use Rattle.find_path.specs.Charged.{Out, Search, Inner, langs, oneOrNone, variantOf, pushVariant, offerImport, findImport, findImports, findInDep, findInDeps, findInSysroot, goOn, afterCharge, calculateBestPath, orCharged, findPathForModule, afterEnum, viaEnum, orEnum, byName, ofModule, findPathInner}
-use Rattle.find_path.specs.Search.{builtinChoice, localTo, searchLocal, bestLocal, moduleTo, searchModule, itemTo, searchItem, fromHome, fromItem, findPath}
+use Rattle.find_path.specs.Charged.{Out, Search, Inner, langs, oneOrNone, variantOf, pushVariant, offerImport, findImport, findImports, findInDep}
+use Rattle.find_path.specs.Charged.{findInDeps, findInSysroot, goOn, afterCharge, calculateBestPath, orCharged, findPathForModule, afterEnum, viaEnum}
+use Rattle.find_path.specs.Charged.{orEnum, byName, ofModule, findPathInner}
+use Rattle.find_path.specs.Search.{builtinChoice, localTo, searchLocal, bestLocal, moduleTo, searchModule, itemTo, searchItem, fromHome, fromItem}
+use Rattle.find_path.specs.Search.{findPath}
 use Rattle.search_laws.proofs.Unfold.{length-falls}
 
 -- no name is longer than 255 bytes
@@ -59,7 +65,17 @@ kind-short (suc (suc (suc (suc (suc k))))) = omega arith
 
 pub more : {s : Snapshot} {c : Choice} (l left : ℕ) → l ≤ left → Fits s l c → Fits s left c
 more l left h f =
-    record { few = omega (arith, f .few); long = f .long; rest = f .rest; text = f .text; each = f .each; once = f .once; wide = f .wide; past = f .past }
+    record {
+      few = omega (arith, f .few);
+      long = f .long;
+      rest = f .rest;
+      text = f .text;
+      each = f .each;
+      once = f .once;
+      wide =
+          f .wide;
+      past = f .past;
+    }
 
 pub nothing-fits : {s : Snapshot} (left : ℕ) → Fits s left nothing
 nothing-fits left =
@@ -131,7 +147,8 @@ pub first-none : {s : Snapshot} (left : ℕ) → Fits s left (firstFound [])
 unfolding firstFound
 first-none left = nothing-fits left
 
-pub first-fits : {s : Snapshot} (left : ℕ) (c : Choice) (cs : List Choice) → Fits s left c → Fits s left (firstFound cs) → Fits s left (firstFound (c ∷ cs))
+pub first-fits : {s : Snapshot} (left : ℕ) (c : Choice) (cs : List Choice) → Fits s left c → Fits s left (firstFound cs)
+    → Fits s left (firstFound (c ∷ cs))
 unfolding firstFound
 first-fits left c cs f g = either-fits left (c .found) c (firstFound cs) f g
 
@@ -153,7 +170,8 @@ module _ (s : Snapshot) (x : FindPathCtx) where
   unstably-fits l c f =
       record { few = f .few; long = f .long; rest = f .rest; text = f .text; each = f .each; once = f .once; wide = f .wide; past = f .past }
 
-  pub offer-import-fits : (l left : ℕ) (best c : Choice) (i : Import) → l < left → Fits s left best → Fits s l c → Fits s left (offerImport s x best c i)
+  pub offer-import-fits : (l left : ℕ) (best c : Choice) (i : Import) → l < left → Fits s left best → Fits s l c
+      → Fits s left (offerImport s x best c i)
   unfolding offerImport
   offer-import-fits l left best c i h f g =
       either-fits left (isUnstable i) _ _
@@ -184,13 +202,15 @@ module _ (s : Snapshot) (x : FindPathCtx) where
   unfolding rootRule
   root-fits l b m =
       either-fits (suc l) (eqb (crateRoot s m) m) _ _
-      (either-fits (suc l) (not b || eqb m (x .«crate_root» .0)) _ _ (keyword-fits (suc l) cratePath) (extern-fits l m (externOf s (x .«from_crate» .0) m)))
+      (either-fits (suc l) (not b || eqb m (x .«crate_root» .0)) _ _ (keyword-fits (suc l) cratePath)
+      (extern-fits l m (externOf s (x .«from_crate» .0) m)))
       (nothing-fits (suc l))
 
   keyword-of-fits : (l : ℕ) (k : Option ℕ) → Fits s (suc l) (keywordOf s x k)
   unfolding keywordOf
   keyword-of-fits l none = nothing-fits (suc l)
-  keyword-of-fits l (some k) = either-fits (suc l) (not (eqb (x .prefix) byCrate) || eqb k cratePath) _ _ (keyword-fits (suc l) k) (nothing-fits (suc l))
+  keyword-of-fits l (some k) = either-fits (suc l) (not (eqb (x .prefix) byCrate) || eqb k cratePath) _ _ (keyword-fits (suc l) k)
+      (nothing-fits (suc l))
 
   pub rules-fit : (l : ℕ) (b : Bool) (m : ℕ) → Fits s (suc l) (moduleRules s x b m)
   unfolding moduleRules
@@ -204,7 +224,8 @@ module _ (s : Snapshot) (x : FindPathCtx) where
   FitsLocal rec = (left : ℕ) (ls : List Level) (m : ℕ) → Fits s left (rec left ls m)
 
   module _ (rec : LocalSearch) (fits : FitsLocal rec) where
-    pub location-fits : (l : ℕ) (ls : List Level) (best : Choice) (m : ℕ) (a : Option Scope) → Fits s (suc l) best → Fits s (suc l) (location s x rec (suc l) ls best m a)
+    pub location-fits : (l : ℕ) (ls : List Level) (best : Choice) (m : ℕ) (a : Option Scope) → Fits s (suc l) best
+        → Fits s (suc l) (location s x rec (suc l) ls best m a)
     unfolding location offerEntry
     location-fits l ls best m none f = f
     location-fits l ls best m (some e) f =
@@ -250,13 +271,15 @@ module _ (M : Type 0) (charge : Charge M) (s : Snapshot) where
 
   module _ (x : FindPathCtx) (here : ℕ → Item → Choice) (local : (l : ℕ) (item : Item) → Fits s (suc l) (here (suc l) item))
       (rec : Search M) (fits : FitsSearch rec) where
-    pub import-fits : (l : ℕ) (o : Out M) (i : Import) (b : Bool) → Fits s (suc l) (o .choice) → Fits s (suc l) (findImport M charge s x here rec (suc l) o i b .choice)
+    pub import-fits : (l : ℕ) (o : Out M) (i : Import) (b : Bool) → Fits s (suc l) (o .choice)
+        → Fits s (suc l) (findImport M charge s x here rec (suc l) o i b .choice)
     unfolding findImport
     import-fits l o i true f = f
     import-fits l o i false f =
         offer-import-fits s x _ (suc l) (o .choice) _ i (length-falls (suc l) _ (omega arith)) f (fits _ (i .container) (o .meter))
 
-    pub imports-fit : (l : ℕ) (o : Out M) (is : List Import) → Fits s (suc l) (o .choice) → Fits s (suc l) (findImports M charge s x here rec (suc l) o is .choice)
+    pub imports-fit : (l : ℕ) (o : Out M) (is : List Import) → Fits s (suc l) (o .choice)
+        → Fits s (suc l) (findImports M charge s x here rec (suc l) o is .choice)
     unfolding findImports
     imports-fit l o [] f = f
     imports-fit l o (i ∷ is) f = imports-fit l _ is (import-fits l o i _ f)
@@ -310,7 +333,8 @@ module _ (M : Type 0) (charge : Charge M) (s : Snapshot) where
       item-best : (item : Item) (t : M) → Fits s (suc n) (calculateBestPath M charge s x here rec (x .«max_len») item t .choice)
       item-best item t = more (x .«max_len») (suc n) wide (best-within (x .«max_len») pos item t)
 
-      enum-fits : (item : Item) (v : Definition) (o : Out M) (b : Bool) → Fits s n (o .choice) → Fits s (suc n) (afterEnum M charge s x here rec item v o b .choice)
+      enum-fits : (item : Item) (v : Definition) (o : Out M) (b : Bool) → Fits s n (o .choice)
+          → Fits s (suc n) (afterEnum M charge s x here rec item v o b .choice)
       unfolding afterEnum pushVariant
       enum-fits item v o true f = push-fits s n (o .choice) (v .second) _ f
       enum-fits item v o false f = item-best item (o .meter)
@@ -320,7 +344,8 @@ module _ (M : Type 0) (charge : Charge M) (s : Snapshot) where
       via-fits item t none = item-best item t
       via-fits item t (some v) = enum-fits item v _ _ (within (itemOf s types (v .first)) t)
 
-      named-fits : (item : Item) (t : M) (c : Choice) (b : Bool) → Fits s (suc n) c → Fits s (suc n) (orEnum M charge s x here rec inner item t c b .choice)
+      named-fits : (item : Item) (t : M) (c : Choice) (b : Bool) → Fits s (suc n) c
+          → Fits s (suc n) (orEnum M charge s x here rec inner item t c b .choice)
       unfolding orEnum
       named-fits item t c true f = f
       named-fits item t c false f = via-fits item t (variantOf s item)

@@ -43,14 +43,16 @@ module _ (s : Snapshot) (x : FindPathCtx) where
     abbrev pub Flagged : LocalSearch → Type 0
     Flagged rec = (left : ℕ) (ls : List Level) (m : ℕ) → left ≤ most → E m → rec left ls m .found ≡ true → rec left ls m .«has_prelude_segment» ≡ v m
 
-    module _ (rec : LocalSearch) (sound : Sound s x rec) (flagged : Flagged rec) (l : ℕ) (b : suc l ≤ most) (ls : List Level) (m : ℕ) (w : E m) (r : ruled s x m ≡ false) where
+    module _ (rec : LocalSearch) (sound : Sound s x rec) (flagged : Flagged rec) (l : ℕ) (b : suc l ≤ most) (ls : List Level)
+        (m : ℕ) (w : E m) (r : ruled s x m ≡ false) where
       -- a found best has the flag, and came from one of the locations before
       abbrev pub Kept : List ℕ → Choice → Type 0
       Kept done best = best .found ≡ true → (c : ℕ) × (has done c ≡ true) × Location s x [] m c × Reached most c × (best .«has_prelude_segment» ≡ v m)
 
       pub kept-step : (done : List ℕ) (best : Choice) (c : ℕ) → has done c ≡ false → has (locations s x [] m) c ≡ true
           → Kept done best
-          → Kept (done ++ (c ∷ [])) (location s x rec (suc l) (record { item = moduleItem m; modules = done ++ (c ∷ []) } ∷ ls) best c (importableName s x (moduleItem m) c))
+          → Kept (done ++ (c ∷ [])) (location s x rec (suc l) (record { item = moduleItem m; modules = done ++ (c ∷ []) } ∷ ls) best c
+          (importableName s x (moduleItem m) c))
       unfolding imports push extended
       kept-step done best c new in′ k =
           location-by s x (Kept (done ++ (c ∷ []))) rec (suc l) _ best c (importableName s x (moduleItem m) c)
@@ -63,17 +65,28 @@ module _ (s : Snapshot) (x : FindPathCtx) where
           let here : has (done ++ (c ∷ [])) c ≡ true = has-snoc done c c ∙ or-right (has done c) _ (eq-eqb c c refl) in
           select-by s x (Kept (done ++ (c ∷ []))) best _ (e .name) _
           (λ o _. (c, here, at, q, ap (λ z. z || isPrelude s (e .name)) p ∙ even .first m c e w r at q i))
-          (λ o _ _. (c, here, at, q, p ∙ ⊎-elim (λ z. z) (λ z. let (n, h, at′, q′, _) = k o in absurd (true≢false (sym h ∙ ap (has done) (z n at′ q′) ∙ new))) (even .later m c w r at q)))
+          (λ o _ _. (
+            c,
+            here,
+            at,
+            q,
+            p
+                ∙ ⊎-elim (λ z. z) (λ z. let (n, h, at′, q′, _) = k o in absurd (true≢false (sym h ∙ ap (has done) (z n at′ q′) ∙ new)))
+                (even .later m c w r at q),
+          ))
           (λ o _ _. let (n, h, at′, q′, p′) = k o in (n, has-snoc done c n ∙ or-left _ _ h, at′, q′, p′)))
 
-      loop-flag : calculateBestPathLocal s x rec (suc l) ls (moduleItem m) .found ≡ true → calculateBestPathLocal s x rec (suc l) ls (moduleItem m) .«has_prelude_segment» ≡ v m
+      loop-flag : calculateBestPathLocal s x rec (suc l) ls (moduleItem m) .found ≡ true → calculateBestPathLocal s x rec (suc l) ls
+          (moduleItem m) .«has_prelude_segment» ≡ v m
       unfolding calculateBestPathLocal
       loop-flag f =
           each-by s x Kept rec (suc l) ls (moduleItem m) _ [] nothing _ kept-step (fewer-locations s x ls m) (locations-once s (x .from .0) _)
           (λ o. absurd (false≢true o)) f .4
 
-    or-flag : (rec : LocalSearch) → Sound s x rec → Flagged rec → (l : ℕ) → suc l ≤ most → (ls : List Level) (m : ℕ) → E m → (f : Bool) → ruled s x m ≡ f
-        → orLocal s x rec (suc l) ls m (moduleRules s x false m) f .found ≡ true → orLocal s x rec (suc l) ls m (moduleRules s x false m) f .«has_prelude_segment» ≡ v m
+    or-flag : (rec : LocalSearch) → Sound s x rec → Flagged rec → (l : ℕ) → suc l ≤ most → (ls : List Level) (m : ℕ) → E m
+        → (f : Bool) → ruled s x m ≡ f
+        → orLocal s x rec (suc l) ls m (moduleRules s x false m) f .found ≡ true → orLocal s x rec (suc l) ls m
+        (moduleRules s x false m) f .«has_prelude_segment» ≡ v m
     unfolding orLocal
     or-flag rec sound ih l b ls m w true r f = even .rule m w r
     or-flag rec sound ih l b ls m w false r f = loop-flag rec sound ih l b ls m w r f

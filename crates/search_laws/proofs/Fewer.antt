@@ -94,7 +94,8 @@ module _ (p : ℕ → Bool) where
   unfolding any has
   any-one [] e = absurd (false≢true e)
   any-one (n ∷ ms) e =
-      ⊎-elim (λ h. (n, or-left _ _ (eq-eqb n n refl), h)) (λ h. let (m, a, b) = any-one ms h in (m, or-right (eqb m n) _ a, b)) (either (p n) (any p ms) e)
+      ⊎-elim (λ h. (n, or-left _ _ (eq-eqb n n refl), h)) (λ h. let (m, a, b) = any-one ms h in (m, or-right (eqb m n) _ a, b))
+      (either (p n) (any p ms) e)
 
   pub one-any : (ms : List ℕ) (m : ℕ) → has ms m ≡ true → p m ≡ true → any p ms ≡ true
   unfolding any has
@@ -219,6 +220,8 @@ module _ (s : Snapshot) (from : ℕ) (seen seen′ : ℕ → Bool) where
   unfolding findLocalImportLocations
   walk-fewer more =
       let a : untaken (s .scopes) [] ≤ length (s .scopes) = select-short _ (s .scopes) in
-      let w = walk-whole (leadsTo s from) seen (untaken (s .scopes)) (leads-fall s from) (length (startFrom s from) + length (s .scopes)) [] (startFrom s from) (omega arith) in
-      walk-stays (leadsTo s from) seen seen′ more (untaken (s .scopes)) (leads-fall s from) _ (λ m n h k. w .closed m n h (has-none m) k) _ [] (startFrom s from)
+      let w = walk-whole (leadsTo s from) seen (untaken (s .scopes)) (leads-fall s from) (length (startFrom s from) + length (s .scopes)) []
+      (startFrom s from) (omega arith) in
+      walk-stays (leadsTo s from) seen seen′ more (untaken (s .scopes)) (leads-fall s from) _ (λ m n h k. w .closed m n h (has-none m) k)
+      _ [] (startFrom s from)
       (λ m h. absurd (false≢true (sym (has-none m) ∙ h))) (w .met)

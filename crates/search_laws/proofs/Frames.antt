@@ -14,7 +14,8 @@ use Rattle.find_path.specs.declared.FindPathCtx.{FindPathCtx}
 use Rattle.path_choices.specs.Choices.{nothing, lengthLeft}
 use Rattle.find_path.specs.Walk.{Level, has, visited}
 use Rattle.find_path.specs.Rules.{moduleRules}
-use Rattle.find_path.specs.Local.{LocalSearch, offerEntry, importableName, location, eachLocation, calculateBestPathLocal, orLocal, findPathForModuleLocal}
+use Rattle.find_path.specs.Local.{LocalSearch, offerEntry, importableName, location, eachLocation, calculateBestPathLocal, orLocal}
+use Rattle.find_path.specs.Local.{findPathForModuleLocal}
 use Rattle.find_path.specs.Search.{localTo, searchLocal}
 use Rattle.search_laws.specs.Near.{isSome, ruled, locations, imports, near}
 use Rattle.search_laws.proofs.Unfold.{length-falls}
@@ -38,11 +39,13 @@ module _ (s : Snapshot) (x : FindPathCtx) where
   module _ (P : ℕ → ℕ → Type 0)
       (goes : (l m c j : ℕ) → P (suc l) m → Location s x [] m c → j ≤ l → near s x [] j c ≡ true → P j c) where
     abbrev Framed : LocalSearch → Type 0
-    Framed rec = (left : ℕ) (ls ls′ : List Level) (m : ℕ) → (near s x [] left m ≡ true → P left m) → SameFor P left ls ls′ → rec left ls m ≡ rec left ls′ m
+    Framed rec = (left : ℕ) (ls ls′ : List Level) (m : ℕ) → (near s x [] left m ≡ true → P left m) → SameFor P left ls ls′
+        → rec left ls m ≡ rec left ls′ m
 
     same-put : (left j : ℕ) (level : Level) (ls ls′ : List Level) → j ≤ left → SameFor P left ls ls′ → SameFor P j (level ∷ ls) (level ∷ ls′)
     unfolding visited any
-    same-put left j level ls ls′ h same l n k p r c = ap (λ b. sameItem (level .item) (moduleItem n) && has (level .modules) c || b) (same l n (omega arith) p r c)
+    same-put left j level ls ls′ h same l n k p r c = ap (λ b. sameItem (level .item) (moduleItem n) && has (level .modules) c || b)
+        (same l n (omega arith) p r c)
 
     module _ (rec : LocalSearch) (framed : Framed rec) (l m : ℕ) (p : P (suc l) m) (ls ls′ : List Level) (same : SameFor P (suc l) ls ls′) where
       location-frame : (level : Level) (best : Choice) (c : ℕ) (a : Option Scope)
@@ -62,7 +65,8 @@ module _ (s : Snapshot) (x : FindPathCtx) where
       unfolding eachLocation
       each-frame done best [] w = refl
       each-frame done best (c ∷ ms) w =
-          ap (λ (z : Choice). eachLocation s x rec (suc l) ls (moduleItem m) (done ++ (c ∷ [])) z ms) (location-frame _ best c _ (w c (has-first c ms)) refl)
+          ap (λ (z : Choice). eachLocation s x rec (suc l) ls (moduleItem m) (done ++ (c ∷ [])) z ms)
+          (location-frame _ best c _ (w c (has-first c ms)) refl)
           ∙ each-frame (done ++ (c ∷ [])) _ ms (λ n h. w n (has-later c ms n h))
 
       or-frame : (f : Bool) → ruled s x m ≡ f
@@ -96,4 +100,5 @@ module _ (s : Snapshot) (x : FindPathCtx) where
   pub no-module : (left : ℕ) (level : Level) (ls : List Level) (m : ℕ) → ((n : ℕ) → sameItem (level .item) (moduleItem n) ≡ false)
       → searchLocal s x left (level ∷ ls) m ≡ searchLocal s x left ls m
   unfolding visited any
-  no-module left level ls m h = near-frame left (level ∷ ls) ls m (λ l n _ _ _ c. ap (λ b. b && has (level .modules) c || visited ls (moduleItem n) c) (h n))
+  no-module left level ls m h = near-frame left (level ∷ ls) ls m
+      (λ l n _ _ _ c. ap (λ b. b && has (level .modules) c || visited ls (moduleItem n) c) (h n))

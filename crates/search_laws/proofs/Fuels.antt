@@ -103,7 +103,8 @@ within s q F a c (dry k m h n) l = absurd (omega arith)
 searches-sim : (s : Snapshot) (q : Query) (F : ℕ) → Counts F (searched s q F) (searchedFreely s q)
 unfolding searched searchedFreely filled
 searches-sim s q F =
-    search-sim ℕ counted (λ n. n) Over counts-free F s q (filled F) 0 (record { spent-is = refl; rest = omega arith; silent = refl; no-left = refl; no-sought = refl })
+    search-sim ℕ counted (λ n. n) Over counts-free F s q (filled F) 0
+    (record { spent-is = refl; rest = omega arith; silent = refl; no-left = refl; no-sought = refl })
 
 -- what the report of a search tells of the search without a tank
 pub searched-tells : (s : Snapshot) (q : Query) (F : ℕ) → Tells s q F (searchedFreely s q) (reported s q (searched s q F))
@@ -166,7 +167,8 @@ told-first s q F a c (dry l m h n) = record { left = λ _. n .1 ∙ sym (h .left
 pub searched-first : (s : Snapshot) (q : Query) (F : ℕ) → TellsFirst F (searchedListing s q) (reported s q (searched s q F))
 searched-first s q F = told-first s q F _ _ (lists-sim s q F)
 
-both-whole : (F : ℕ) (a : Out Tank) (c : Out ℕ) (d : Out (List Spot)) → Counts F a c → Lists F a d → c .meter ≤ F → length (d .meter) ≤ F → SameSearch c d
+both-whole : (F : ℕ) (a : Out Tank) (c : Out ℕ) (d : Out (List Spot)) → Counts F a c → Lists F a d → c .meter ≤ F → length (d .meter) ≤ F
+    → SameSearch c d
 both-whole F a c d (same e h) (same f k) u v = record { choice = sym f ∙ e; count = omega (arith, h .spent-is, k .spent-is) }
 both-whole F a c d (same e h) (dry l m i n) u v = absurd (omega (arith, n .0))
 both-whole F a c d (dry l m h n) k u v = absurd (omega arith)
@@ -179,7 +181,8 @@ listing-counts s q =
     both-whole (n + l) _ _ _ (searches-sim s q (n + l)) (lists-sim s q (n + l)) (omega arith) (omega arith)
 
 -- the second report is on the same snapshot
-moved : (words : List ℕ) (q : Query) (G : ℕ) (r : Report) (s : Snapshot) → verdict words ≡ accept s → Searched words q G r → r ≡ reported s q (searched s q G)
+moved : (words : List ℕ) (q : Query) (G : ℕ) (r : Report) (s : Snapshot) → verdict words ≡ accept s → Searched words q G r
+    → r ≡ reported s q (searched s q G)
 moved words q G r s e g =
     let same-snapshot : g .snapshot ≡ s = cc (e, g .accepted) in
     g .answer ∙ ap (λ (z : Snapshot). reported z q (searched z q G)) same-snapshot

@@ -5,7 +5,7 @@ use mathlib.Core.Bool.{Bool, true, false}
 use mathlib.Core.Option.{Option, none, some}
 use Rattle.snapshot.specs.Records.{Snapshot, Dependency, Definition, Import}
 use Rattle.hir_def.specs.Items.{types, itemOf, moduleItem}
-use Rattle.hir_def.specs.Nameres.{dependenciesOf, langOf, sysrootFirst}
+use Rattle.hir_def.specs.Nameres.{langOf, sysrootFirst}
 use Rattle.hir_def.specs.ImportMap.{importInfoFor}
 use Rattle.hir_def.specs.declared.Item.{Item}
 use Rattle.hir_def.specs.declared.Item.the-variants.{Mod, Def}
@@ -14,7 +14,9 @@ use Rattle.find_path.specs.declared.FindPathCtx.{FindPathCtx}
 use Rattle.find_path.specs.declared.Query.{Query}
 use Rattle.find_path.specs.Rules.{contextOf}
 use Rattle.find_path.specs.Meters.{Charged, go, stop, Charge}
-use Rattle.find_path.specs.Charged.{Out, Search, Inner, langs, oneOrNone, variantOf, findImport, findImports, findInDep, findInDeps, findInSysroot, goOn, afterCharge, calculateBestPath, orCharged, findPathForModule, afterEnum, viaEnum, orEnum, byName, ofModule, findPathInner}
+use Rattle.find_path.specs.Charged.{Out, Search, Inner, langs, oneOrNone, variantOf, findImport, findImports, findInDep, findInDeps, findInSysroot}
+use Rattle.find_path.specs.Charged.{goOn, afterCharge, calculateBestPath, orCharged, findPathForModule, afterEnum, viaEnum, orEnum, byName, ofModule}
+use Rattle.find_path.specs.Charged.{findPathInner}
 use Rattle.find_path.specs.Search.{bestLocal, moduleTo, searchModule, itemTo, searchItem, fromHome, fromItem, findPath}
 
 -- the meter after a charge
@@ -28,7 +30,8 @@ KeptBy {M} P rec = (left m : ℕ) (t : M) → P t → P (rec left m t .meter)
 abbrev pub KeptWithin : {M : Type 0} → (M → Type 0) → Inner M → Type 0
 KeptWithin {M} P inner = (item : Item) (t : M) → P t → P (inner item t .meter)
 
-module _ (M : Type 0) (charge : Charge M) (s : Snapshot) (P : M → Type 0) (kept : (left sought : ℕ) (t : M) → P t → P (left-by (charge left sought t))) where
+module _ (M : Type 0) (charge : Charge M) (s : Snapshot) (P : M → Type 0) (kept : (left sought : ℕ) (t : M) → P t
+    → P (left-by (charge left sought t))) where
   module _ (x : FindPathCtx) (here : ℕ → Item → Choice) (rec : Search M) (k : KeptBy P rec) where
     pub import-keeps : (left : ℕ) (o : Out M) (i : Import) (b : Bool) → P (o .meter) → P (findImport M charge s x here rec left o i b .meter)
     unfolding findImport
@@ -40,12 +43,14 @@ module _ (M : Type 0) (charge : Charge M) (s : Snapshot) (P : M → Type 0) (kep
     imports-keep left o [] h = h
     imports-keep left o (i ∷ is) h = imports-keep left _ is (import-keeps left o i _ h)
 
-    pub deps-keep : (left : ℕ) (item : Item) (o : Out M) (ds : List Dependency) → P (o .meter) → P (findInDeps M charge s x here rec left item o ds .meter)
+    pub deps-keep : (left : ℕ) (item : Item) (o : Out M) (ds : List Dependency) → P (o .meter)
+        → P (findInDeps M charge s x here rec left item o ds .meter)
     unfolding findInDeps findInDep
     deps-keep left item o [] h = h
     deps-keep left item o (d ∷ ds) h = deps-keep left item _ ds (imports-keep left o (importInfoFor s (d .crate) item) h)
 
-    pub sysroot-keeps : (left : ℕ) (item : Item) (o : Out M) (ls : List ℕ) (b : Bool) → P (o .meter) → P (findInSysroot M charge s x here rec left item o ls b .meter)
+    pub sysroot-keeps : (left : ℕ) (item : Item) (o : Out M) (ls : List ℕ) (b : Bool) → P (o .meter)
+        → P (findInSysroot M charge s x here rec left item o ls b .meter)
     unfolding findInSysroot
     sysroot-keeps left item o [] true h = h
     sysroot-keeps left item o [] false h = deps-keep left item o (sysrootFirst s (x .«from_crate» .0)) h

@@ -33,7 +33,8 @@ module _ (s : Snapshot) (x : FindPathCtx) where
       let off : (l i : ℕ) → l ≤ k → i < n → near s x [] l i ≡ true → isOn ls i ≡ false =
       λ l i o q e. refuted _ (λ t. let f = far i t in let g = bounds l i q e in omega arith) in
       ⊎-elim
-      (λ h. tight-off s x k m (record { reached = h; least = least }) (λ i. i < n) (λ l c _ _ at _. known m c (at .entry)) (λ l i c _ _ _ at _. known i c (at .entry)) ls
+      (λ h. tight-off s x k m (record { reached = h; least = least }) (λ i. i < n) (λ l c _ _ at _. known m c (at .entry))
+      (λ l i c _ _ _ at _. known i c (at .entry)) ls
       (λ _. off k m (omega arith) b h) (λ l i o a q _. off l i (omega arith) q (a .reached)))
       (λ h. far-nothing s x k ls m (far-under s x ls k m h) ∙ sym (far-nothing s x k [] m h))
       (tested (near s x [] k m))
@@ -52,7 +53,8 @@ module _ (s : Snapshot) (x : FindPathCtx) where
     -- a location that is found had the whole length left
     whole-left : (c j : ℕ) → Location s x [] m c → j ≤ l → searchLocal s x j [] c .found ≡ true → j ≡ l
     whole-left c j at h f =
-        ⊎-elim (λ o. absurd (true≢false (sym (near-later s x [] (suc j) l m (omega arith) (near-step s x [] j m c at (found-near s x j [] c f))) ∙ e)))
+        ⊎-elim (λ o. absurd (true≢false (sym (near-later s x [] (suc j) l m (omega arith) (near-step s x [] j m c at (found-near s x j [] c f)))
+        ∙ e)))
         (λ o. le-antisymm h o) (less-or j l)
 
     abbrev Kept : List ℕ → Choice → Type 0

@@ -18,9 +18,10 @@ use Rattle.accept.proofs.Accepted.{by-test}
 use Rattle.accept.proofs.Bools.{and-right, each-at}
 use Rattle.accept.proofs.Ranges.{accepted-ranges}
 use Rattle.hir_def.specs.Finds.{firstOf, orFirst, firstSome}
-use Rattle.hir_def.specs.Items.{types, variantKind, builtinKind, mapNo, parentOf, rootOf, crateOf, crateRoot, inBlock, definitionOf, itemOf, moduleItem}
+use Rattle.hir_def.specs.Items.{types, variantKind, builtinKind, mapNo, parentOf, rootOf, crateOf, crateRoot, inBlock, definitionOf, itemOf}
+use Rattle.hir_def.specs.Items.{moduleItem}
 use Rattle.hir_def.specs.ItemScope.{nameOf, namesOf, isFresh, preferred}
-use Rattle.hir_def.specs.Nameres.{ancestorMaps, scopeEntry, preludeOf, dependenciesOf, langOf, sysrootFirst, externOf}
+use Rattle.hir_def.specs.Nameres.{ancestorMaps, scopeEntry, preludeOf, langOf, sysrootFirst, externOf}
 use Rattle.hir_def.specs.ImportMap.{importInfoFor, isUnstable}
 use Rattle.hir_def.specs.declared.Item.{Item}
 use Rattle.hir_def.specs.declared.Item.the-variants.{Mod, Def}
@@ -32,13 +33,20 @@ use Rattle.find_path.specs.declared.Query.{Query}
 use Rattle.find_path.specs.declared.Question.{Question}
 use Rattle.find_path.specs.declared.Report.{Report}
 use Rattle.find_path.specs.declared.Tank.{Tank}
-use Rattle.path_choices.specs.Choices.{plainPath, selfPath, superPath, cratePath, viaScope, viaPrelude, stepBy, stepLimit, nothing, keyword, choiceNew, extended, push, unstably, better, trySelect}
+use Rattle.path_choices.specs.Choices.{plainPath, selfPath, superPath, cratePath, viaScope, viaPrelude, stepBy, stepLimit, nothing, keyword}
+use Rattle.path_choices.specs.Choices.{choiceNew, extended, push, unstably, better, trySelect}
 use Rattle.find_path.specs.Walk.{Level}
-use Rattle.find_path.specs.Rules.{byCrate, mayBeInScope, prefixPathKind, contextOf, firstFound, single, findInScope, scopeRule, isUsable, preludeEntry, inPrelude, findInPrelude, preludeRule, externKind, externName, rootRule, parentKind, isKwKindRelativeToFrom, keywordOf, moduleRules}
-use Rattle.find_path.specs.Local.{LocalSearch, offer, offerEntry, isImportable, entryIf, importableName, location, eachLocation, calculateBestPathLocal, orLocal, findPathForModuleLocal}
+use Rattle.find_path.specs.Rules.{byCrate, mayBeInScope, prefixPathKind, contextOf, firstFound, single, findInScope, scopeRule, isUsable}
+use Rattle.find_path.specs.Rules.{preludeEntry, inPrelude, findInPrelude, preludeRule, externKind, externName, rootRule, parentKind}
+use Rattle.find_path.specs.Rules.{isKwKindRelativeToFrom, keywordOf, moduleRules}
+use Rattle.find_path.specs.Local.{LocalSearch, offer, offerEntry, isImportable, entryIf, importableName, location, eachLocation}
+use Rattle.find_path.specs.Local.{calculateBestPathLocal, orLocal, findPathForModuleLocal}
 use Rattle.find_path.specs.Meters.{Charged, go, stop, fromTank, Charge}
-use Rattle.find_path.specs.Charged.{Out, Search, Inner, langs, oneOrNone, variantOf, pushVariant, offerImport, findImport, findImports, findInDep, findInDeps, findInSysroot, goOn, afterCharge, calculateBestPath, orCharged, findPathForModule, afterEnum, viaEnum, orEnum, byName, ofModule, findPathInner}
-use Rattle.find_path.specs.Search.{builtinChoice, localTo, searchLocal, bestLocal, moduleTo, searchModule, itemTo, searchItem, fromHome, fromItem, findPath}
+use Rattle.find_path.specs.Charged.{Out, Search, Inner, langs, oneOrNone, variantOf, pushVariant, offerImport, findImport, findImports, findInDep}
+use Rattle.find_path.specs.Charged.{findInDeps, findInSysroot, goOn, afterCharge, calculateBestPath, orCharged, findPathForModule, afterEnum, viaEnum}
+use Rattle.find_path.specs.Charged.{orEnum, byName, ofModule, findPathInner}
+use Rattle.find_path.specs.Search.{builtinChoice, localTo, searchLocal, bestLocal, moduleTo, searchModule, itemTo, searchItem, fromHome, fromItem}
+use Rattle.find_path.specs.Search.{findPath}
 use Rattle.find_path.specs.Report.{refused, reported, searched, reportOf}
 use Rattle.search_laws.specs.Fuels.{NamesKnown}
 use Rattle.search_laws.specs.Routes.{_∈_}
@@ -256,7 +264,8 @@ module _ (s : Snapshot) (r : Ranges (countsOf s) s) where
       by-test (eqb (definitionOf s (d .0) .kind) variantKind)
       (λ t.
       rw (variantOf, t)
-      (let k = eqb-true _ _ t in let f = definition-known (d .0) 1 k in by-rule (definitionOf s (d .0) .second) 5 _ (f .variant k .1) (omega arith) (f .place)))
+      (let k = eqb-true _ _ t in let f = definition-known (d .0) 1 k in by-rule (definitionOf s (d .0) .second) 5 _ (f .variant k .1)
+      (omega arith) (f .place)))
       (λ t. rw (variantOf, t) tt)
 
   module _ (x : FindPathCtx) where
@@ -293,7 +302,8 @@ module _ (s : Snapshot) (r : Ranges (countsOf s) s) where
     unfolding scopeRule
     scope-known item =
         either-known (mayBeInScope s x) _ _
-        (single-known _ viaScope (findInScope s x item) (prefix-small (x .prefix)) (omega arith) (scope-held s (ScopeFits (countsOf s)) (r .scopes) x item)) nothing-known
+        (single-known _ viaScope (findInScope s x item) (prefix-small (x .prefix)) (omega arith)
+        (scope-held s (ScopeFits (countsOf s)) (r .scopes) x item)) nothing-known
 
     prelude-known : (item : Item) → Known s (preludeRule s x item)
     unfolding preludeRule
@@ -362,7 +372,8 @@ module _ (s : Snapshot) (r : Ranges (countsOf s) s) where
       unfolding eachLocation
       each-known left ls item done best [] f = f
       each-known left ls item done best (m ∷ ms) f =
-          each-known left ls item (done ++ (m ∷ [])) _ ms (location-known left _ best m (importableName s x item m) f (importable-held s (ScopeFits (countsOf s)) (r .scopes) x item m))
+          each-known left ls item (done ++ (m ∷ [])) _ ms (location-known left _ best m (importableName s x item m) f
+          (importable-held s (ScopeFits (countsOf s)) (r .scopes) x item m))
 
       local-known : (left : ℕ) (ls : List Level) (item : Item) → Known s (calculateBestPathLocal s x rec left ls item)
       unfolding calculateBestPathLocal

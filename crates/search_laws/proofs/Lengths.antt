@@ -111,7 +111,8 @@ module _ (s : Snapshot) (x : FindPathCtx) where
       (λ h. single-brief _ _ _
       (⊎-elim
       (λ p.
-      let one′ : shift ≡ 1 = shift-one p (⊎-elim (λ o. absurd (false≢true (sym (ap not p) ∙ o))) (λ o. o) (either (not (eqb (x .prefix) byCrate)) (eqb (x .«crate_root» .0) (x .from .0)) h)) in
+      let one′ : shift ≡ 1 = shift-one p (⊎-elim (λ o. absurd (false≢true (sym (ap not p) ∙ o))) (λ o. o)
+      (either (not (eqb (x .prefix) byCrate)) (eqb (x .«crate_root» .0) (x .from .0)) h)) in
       omega (arith, weight-small (prefixPathKind (x .prefix))))
       (λ p. let o = prefix-plain (x .prefix) (eqb-false (x .prefix) byCrate p) in omega arith) (tested (eqb (x .prefix) byCrate))))
       nothing-brief
@@ -122,7 +123,8 @@ module _ (s : Snapshot) (x : FindPathCtx) where
   keyword-rule-brief (some k) =
       either-brief (not (eqb (x .prefix) byCrate) || eqb k cratePath) _ _ _ refl
       (λ h. keyword-brief k
-      (⊎-elim (λ o. ⊎-elim (λ p. absurd (false≢true (sym (ap not p) ∙ o))) (λ p. let n = shift-none p in omega arith) (tested (eqb (x .prefix) byCrate)))
+      (⊎-elim (λ o. ⊎-elim (λ p. absurd (false≢true (sym (ap not p) ∙ o))) (λ p. let n = shift-none p in omega arith)
+      (tested (eqb (x .prefix) byCrate)))
       (λ o. rw (eqb-true k cratePath o) shift-small) (either (not (eqb (x .prefix) byCrate)) (eqb k cratePath) h)))
       nothing-brief
 
@@ -137,7 +139,8 @@ module _ (s : Snapshot) (x : FindPathCtx) where
   pub rules-brief : (m : ℕ) → IfFound (moduleRules s x false m)
   unfolding moduleRules
   rules-brief m =
-      first-brief _ _ (root-brief m) (first-brief _ _ (scope-brief (moduleItem m)) (first-brief _ _ (keyword-rule-brief _) (first-brief _ _ (prelude-brief (moduleItem m)) none-brief)))
+      first-brief _ _ (root-brief m) (first-brief _ _ (scope-brief (moduleItem m))
+      (first-brief _ _ (keyword-rule-brief _) (first-brief _ _ (prelude-brief (moduleItem m)) none-brief)))
     where
       none-brief : IfFound (firstFound [])
       none-brief = unfold firstFound in nothing-brief
@@ -158,7 +161,14 @@ module _ (s : Snapshot) (x : FindPathCtx) where
       let b = rules-brief m f in
       let low = b .low in
       let high = b .high in
-      record { steps = pathLen (moduleRules s x false m) - shift; long = omega arith; close = near-rule s x [] _ m f; within = omega arith; stable = b .stable }
+      record {
+        steps = pathLen (moduleRules s x false m) - shift;
+        long = omega arith;
+        close = near-rule s x [] _ m f;
+        within =
+            omega arith;
+        stable = b .stable;
+      }
 
   longer-sized : (l j m c : ℕ) (r : Choice) (n t : ℕ) (b : Bool) → Location s x [] m c → j ≤ l → Sized j c r → Sized (suc l) m (extended s r n t b)
   unfolding extended
@@ -166,7 +176,14 @@ module _ (s : Snapshot) (x : FindPathCtx) where
       let e = extended-len s r n t b in
       let g = z .long in
       let w = z .within in
-      record { steps = suc (z .steps); long = omega arith; close = near-step s x [] (suc (z .steps)) m c at (z .close); within = omega arith; stable = z .stable }
+      record {
+        steps = suc (z .steps);
+        long = omega arith;
+        close = near-step s x [] (suc (z .steps)) m c at (z .close);
+        within =
+            omega arith;
+        stable = z .stable;
+      }
 
   module _ (rec : LocalSearch) (sized : AllSized rec) (l : ℕ) (ls : List Level) (m : ℕ) where
     abbrev pub SizedIf : List ℕ → Choice → Type 0
@@ -174,7 +191,8 @@ module _ (s : Snapshot) (x : FindPathCtx) where
 
     pub sized-step : (done : List ℕ) (best : Choice) (c : ℕ) → has done c ≡ false → has (locations s x [] m) c ≡ true
         → SizedIf done best
-        → SizedIf (done ++ (c ∷ [])) (location s x rec (suc l) (record { item = moduleItem m; modules = done ++ (c ∷ []) } ∷ ls) best c (importableName s x (moduleItem m) c))
+        → SizedIf (done ++ (c ∷ [])) (location s x rec (suc l) (record { item = moduleItem m; modules = done ++ (c ∷ []) } ∷ ls)
+        best c (importableName s x (moduleItem m) c))
     unfolding imports push
     sized-step done best c new in′ k =
         location-by s x (SizedIf done) rec (suc l) _ best c (importableName s x (moduleItem m) c) k
@@ -190,7 +208,8 @@ module _ (s : Snapshot) (x : FindPathCtx) where
     unfolding orLocal calculateBestPathLocal
     or-sized true r f = rule-sized l m r
     or-sized false r f =
-        each-by s x SizedIf rec (suc l) ls (moduleItem m) _ [] nothing _ sized-step (fewer-locations s x ls m) (locations-once s (x .from .0) _) (λ o. absurd (false≢true o)) f
+        each-by s x SizedIf rec (suc l) ls (moduleItem m) _ [] nothing _ sized-step (fewer-locations s x ls m)
+        (locations-once s (x .from .0) _) (λ o. absurd (false≢true o)) f
 
   to-sized : (d : ℕ) → AllSized (localTo s x d)
   unfolding localTo findPathForModuleLocal

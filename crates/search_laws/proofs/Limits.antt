@@ -13,7 +13,7 @@ use Rattle.accept.proofs.Bools.{and-left}
 use Rattle.hir_def.specs.Items.{types, mapNo, crateOf, crateRoot, parentOf, inBlock, itemOf, nsOf, moduleItem}
 use Rattle.tree_rules.specs.Visibility.{sees}
 use Rattle.hir_def.specs.ItemScope.{nameOf, preferred}
-use Rattle.hir_def.specs.Nameres.{entryNamed, occupied, preludeOf, externOf, dependenciesOf, langOf, sysrootFirst}
+use Rattle.hir_def.specs.Nameres.{entryNamed, occupied, preludeOf, externOf, langOf, sysrootFirst}
 use Rattle.hir_def.specs.ImportMap.{importInfoFor, isHidden, isUnstable}
 use Rattle.hir_def.specs.declared.Item.{Item}
 use Rattle.hir_def.specs.declared.Item.the-variants.{Mod, Def}
@@ -21,12 +21,18 @@ use Rattle.path_choices.specs.declared.Choice.{Choice}
 use Rattle.find_path.specs.declared.FindPathCtx.{FindPathCtx}
 use Rattle.find_path.specs.declared.Query.{Query}
 use Rattle.find_path.specs.declared.Report.{Report}
-use Rattle.path_choices.specs.Choices.{plainPath, selfPath, cratePath, viaScope, viaPrelude, viaExtern, viaImport, stepBy, nothing, keyword, choiceNew, extended, push, unstably, better, trySelect, pathLen, shorterIf, lengthLeft}
+use Rattle.path_choices.specs.Choices.{plainPath, selfPath, cratePath, viaScope, viaPrelude, viaExtern, viaImport, stepBy, nothing, keyword}
+use Rattle.path_choices.specs.Choices.{choiceNew, extended, push, unstably, better, trySelect, pathLen, shorterIf, lengthLeft}
 use Rattle.find_path.specs.Walk.{Level}
-use Rattle.find_path.specs.Rules.{prefixPathKind, contextOf, firstFound, single, findInScope, mayBeInScope, scopeRule, sameHere, isUsable, preludeEntry, inPrelude, findInPrelude, preludeRule, externKind, externName, rootRule, parentKind, isKwKindRelativeToFrom, keywordOf, moduleRules}
-use Rattle.find_path.specs.Local.{LocalSearch, offer, offerEntry, isImportable, entryIf, importableName, location, eachLocation, calculateBestPathLocal, orLocal, findPathForModuleLocal}
+use Rattle.find_path.specs.Rules.{prefixPathKind, contextOf, firstFound, single, findInScope, mayBeInScope, scopeRule, sameHere, isUsable}
+use Rattle.find_path.specs.Rules.{preludeEntry, inPrelude, findInPrelude, preludeRule, externKind, externName, rootRule, parentKind}
+use Rattle.find_path.specs.Rules.{isKwKindRelativeToFrom, keywordOf, moduleRules}
+use Rattle.find_path.specs.Local.{LocalSearch, offer, offerEntry, isImportable, entryIf, importableName, location, eachLocation}
+use Rattle.find_path.specs.Local.{calculateBestPathLocal, orLocal, findPathForModuleLocal}
 use Rattle.find_path.specs.Meters.{counted}
-use Rattle.find_path.specs.Charged.{Out, Search, Inner, isStable, langs, oneOrNone, variantOf, pushVariant, offerImport, findImport, findImports, findInDep, findInDeps, findInSysroot, goOn, afterCharge, calculateBestPath, orCharged, findPathForModule, afterEnum, viaEnum, orEnum, byName, ofModule, findPathInner}
+use Rattle.find_path.specs.Charged.{Out, Search, Inner, isStable, langs, oneOrNone, variantOf, pushVariant, offerImport, findImport, findImports}
+use Rattle.find_path.specs.Charged.{findInDep, findInDeps, findInSysroot, goOn, afterCharge, calculateBestPath, orCharged, findPathForModule}
+use Rattle.find_path.specs.Charged.{afterEnum, viaEnum, orEnum, byName, ofModule, findPathInner}
 use Rattle.find_path.specs.Search.{localTo, searchLocal, bestLocal, moduleTo, searchModule, itemTo, searchItem, fromHome, fromItem, findPath}
 use Rattle.find_path.specs.Report.{outcomeOf, searchedFreely}
 use Rattle.search_laws.specs.Fuels.{HasPath}
@@ -64,7 +70,10 @@ unfolding trySelect
 select-found s prefer best c n t = by (best .found) refl
   where
     by : (b : Bool) → best .found ≡ b
-        → IsFound (elim b [ true ↦ elim (better s prefer best c n) [ true ↦ extended s c n t (c .«has_prelude_segment») | false ↦ best ] | false ↦ push s c n t ])
+        → IsFound (elim b [
+          | true ↦ elim (better s prefer best c n) [ true ↦ extended s c n t (c .«has_prelude_segment») | false ↦ best ]
+          | false ↦ push s c n t
+        ])
     by true e = either-found (better s prefer best c n) _ _ (extended-found s c n t _) e
     by false e = push-found s c n t
 
@@ -93,7 +102,8 @@ module _ (s : Snapshot) (y : FindPathCtx) where
   import-keeps : (best c : Choice) (i : Import) → IsFound best → IsFound (offerImport s y best c i)
   unfolding offerImport
   import-keeps best c i h =
-      either-found (isUnstable i) _ _ (either-found (y .«allow_unstable») _ _ (offer-keeps best (unstably c) (i .name) _ h) h) (offer-keeps best c (i .name) _ h)
+      either-found (isUnstable i) _ _ (either-found (y .«allow_unstable») _ _ (offer-keeps best (unstably c) (i .name) _ h) h)
+      (offer-keeps best c (i .name) _ h)
 
   offer-taken : (best c : Choice) (n t : ℕ) → IsFound c → IsFound (offer s y best c n t)
   unfolding offer
@@ -108,7 +118,8 @@ module _ (s : Snapshot) (y : FindPathCtx) where
   offer-implies x best best′ c c′ n t h k f =
       by-test (c .found) (λ e. offer-taken best′ c′ n t (k e)) (λ e. offer-keeps best′ c′ n t (h (offer-from x best c n t f e)))
 
-  import-implies : (x : FindPathCtx) (best best′ c c′ : Choice) (i : Import) → x .«allow_unstable» ≡ y .«allow_unstable» → Implies best best′ → Implies c c′
+  import-implies : (x : FindPathCtx) (best best′ c c′ : Choice) (i : Import) → x .«allow_unstable» ≡ y .«allow_unstable»
+      → Implies best best′ → Implies c c′
       → Implies (offerImport s x best c i) (offerImport s y best′ c′ i)
   unfolding offerImport unstably
   import-implies x best best′ c c′ i e h k =
@@ -155,7 +166,11 @@ module _ (s : Snapshot) (x : FindPathCtx) (n : ℕ) where
 
   scope-same : (item : Item) → scopeRule s x item ≡ scopeRule s y item
   unfolding scopeRule mayBeInScope findInScope
-  scope-same item = λ i. elim (mayBeInScope s x) [ true ↦ single-same (prefixPathKind (x .prefix)) viaScope (findInScope s x item) i | false ↦ nothing ]
+  scope-same item = λ i. elim (mayBeInScope s x) [
+    | true ↦ single-same (prefixPathKind (x .prefix)) viaScope (findInScope s x item)
+        i
+    | false ↦ nothing
+  ]
 
   here-same : (item : Item) (e : Option Scope) → sameHere s x item e ≡ sameHere s y item e
   unfolding sameHere
@@ -187,7 +202,8 @@ module _ (s : Snapshot) (x : FindPathCtx) (n : ℕ) where
   extern-same : (m : ℕ) (e : Option Extern) → externName s x m e ≡ externName s y m e
   unfolding externName
   extern-same m none = refl
-  extern-same m (some e) = λ i. choiceNew s (extern-kind-same (occupied s (x .from .0) m (e .name) || x .«prefer_absolute») i) (e .name) (stepBy viaExtern (e .place))
+  extern-same m (some e) = λ i. choiceNew s (extern-kind-same (occupied s (x .from .0) m (e .name) || x .«prefer_absolute») i)
+      (e .name) (stepBy viaExtern (e .place))
 
   root-same : (b : Bool) (m : ℕ) → rootRule s x b m ≡ rootRule s y b m
   unfolding rootRule
@@ -215,7 +231,8 @@ module _ (s : Snapshot) (x : FindPathCtx) (n : ℕ) where
 
   rules-same : (b : Bool) (m : ℕ) → moduleRules s x b m ≡ moduleRules s y b m
   unfolding moduleRules
-  rules-same b m = λ i. firstFound (root-same b m i ∷ scope-same (moduleItem m) i ∷ keyword-same (kind-same m i) i ∷ prelude-same (moduleItem m) i ∷ [])
+  rules-same b m = λ i. firstFound (root-same b m i ∷ scope-same (moduleItem m) i ∷ keyword-same (kind-same m i) i ∷ prelude-same
+      (moduleItem m) i ∷ [])
 
   name-same : (e : Option Scope) → entryIf s x e ≡ entryIf s y e
   unfolding entryIf
@@ -249,7 +266,8 @@ module _ (s : Snapshot) (x : FindPathCtx) (n : ℕ) where
         let ls′ : List Level = record { item = item; modules = done ++ (k ∷ []) } ∷ ls in
         each-grows ls item (done ++ (k ∷ [])) (location s x f left ls′ best k (importableName s x item k))
         (location s (limited x n) g left′ ls′ best′ k (importableName s (limited x n) item k)) ms
-        (subst (λ (a : Option Scope). Implies (location s x f left ls′ best k (importableName s x item k)) (location s (limited x n) g left′ ls′ best′ k a))
+        (subst (λ (a : Option Scope). Implies (location s x f left ls′ best k (importableName s x item k))
+        (location s (limited x n) g left′ ls′ best′ k a))
         (importable-same s x n item k) (location-grows ls′ best best′ k (importableName s x item k) i))
 
     local-grows : (ls : List Level) (item : Item)
@@ -272,7 +290,8 @@ module _ (s : Snapshot) (x : FindPathCtx) (n : ℕ) where
   localTo-grows (suc d) (suc e) (suc l) (suc m) ls k h i =
       subst (λ (c : Choice). Implies (orLocal s x (localTo s x d) (suc l) ls k (moduleRules s x false k) (moduleRules s x false k .found))
       (orLocal s (limited x n) (localTo s (limited x n) e) (suc m) ls k c (c .found))) (rules-same s x n false k)
-      (or-local-grows (localTo s x d) (localTo s (limited x n) e) (λ l′ m′ ls′ k′ i′. localTo-grows d e l′ m′ ls′ k′ (omega arith) i′) (suc l) (suc m) i ls k _ _)
+      (or-local-grows (localTo s x d) (localTo s (limited x n) e) (λ l′ m′ ls′ k′ i′. localTo-grows d e l′ m′ ls′ k′ (omega arith) i′)
+      (suc l) (suc m) i ls k _ _)
 
   best-local-grows : (l m : ℕ) (item : Item) → l ≤ m → Implies (bestLocal s x l item) (bestLocal s (limited x n) m item)
   unfolding bestLocal searchLocal
@@ -331,7 +350,8 @@ module _ (s : Snapshot) (x : FindPathCtx) (n : ℕ) where
       unfolding findImports
       imports-grow o p [] k = k
       imports-grow o p (i ∷ is) k =
-          imports-grow (findImport ℕ counted s x here f left o i (isHidden i)) (findImport ℕ counted s (limited x n) here′ g left′ p i (isHidden i)) is
+          imports-grow (findImport ℕ counted s x here f left o i (isHidden i)) (findImport ℕ counted s (limited x n) here′ g left′ p i (isHidden i))
+          is
           (import-grows o p i (isHidden i) k)
 
       deps-grow : (item : Item) (o p : Out ℕ) (ds : List Dependency) → Both o p
@@ -355,7 +375,8 @@ module _ (s : Snapshot) (x : FindPathCtx) (n : ℕ) where
       sysroot-grows item o p (l ∷ ls) false false k e =
           let o′ : Out ℕ = findInDeps ℕ counted s x here f left item o (oneOrNone (langOf s (x .«from_crate» .0) l)) in
           let p′ : Out ℕ = findInDeps ℕ counted s (limited x n) here′ g left′ item p (oneOrNone (langOf s (x .«from_crate» .0) l)) in
-          sysroot-grows item o′ p′ ls (isStable (o′ .choice)) (isStable (p′ .choice)) (deps-grow item o p (oneOrNone (langOf s (x .«from_crate» .0) l)) k)
+          sysroot-grows item o′ p′ ls (isStable (o′ .choice)) (isStable (p′ .choice))
+          (deps-grow item o p (oneOrNone (langOf s (x .«from_crate» .0) l)) k)
           (λ e′. and-left (p′ .choice .found) (p′ .choice .stable) e′)
 
       go-grows : (item : Item) (t u : ℕ) (a b : Bool)
@@ -410,7 +431,8 @@ module _ (s : Snapshot) (x : FindPathCtx) (n : ℕ) where
       unfolding byName
       by-name-grows item t u =
           let c : Choice = firstFound (scopeRule s x item ∷ preludeRule s x item ∷ []) in
-          subst (λ (d : Choice). Both (orEnum ℕ counted s x here f v item t c (c .found)) (orEnum ℕ counted s (limited x n) here′ g w item u d (d .found)))
+          subst (λ (d : Choice). Both (orEnum ℕ counted s x here f v item t c (c .found))
+          (orEnum ℕ counted s (limited x n) here′ g w item u d (d .found)))
           (λ i. firstFound (scope-same s x n item i ∷ prelude-same s x n item i ∷ []))
           (named-grows item t u c (c .found))
 
@@ -431,7 +453,8 @@ module _ (s : Snapshot) (x : FindPathCtx) (n : ℕ) where
   moduleTo-grows zero e l m k t u h i = λ z. absurd (false≢true z)
   moduleTo-grows (suc d) zero l m k t u h i = absurd (omega arith)
   moduleTo-grows (suc d) (suc e) l m k t u h i =
-      module-grows (bestLocal s x) (bestLocal s (limited x n)) (best-local-grows s x n) (moduleTo ℕ counted s x d) (moduleTo ℕ counted s (limited x n) e)
+      module-grows (bestLocal s x) (bestLocal s (limited x n)) (best-local-grows s x n) (moduleTo ℕ counted s x d)
+      (moduleTo ℕ counted s (limited x n) e)
       (λ l′ m′ k′ t′ u′ i′. moduleTo-grows d e l′ m′ k′ t′ u′ (omega arith) i′) l m k t u i
 
   module-search-grows : Grows (searchModule ℕ counted s x) (searchModule ℕ counted s (limited x n))
@@ -442,7 +465,8 @@ module _ (s : Snapshot) (x : FindPathCtx) (n : ℕ) where
   unfolding itemTo
   itemTo-grows h zero item t u = λ z. absurd (false≢true z)
   itemTo-grows h (suc d) item t u =
-      item-grows (bestLocal s x) (bestLocal s (limited x n)) (best-local-grows s x n) (searchModule ℕ counted s x) (searchModule ℕ counted s (limited x n))
+      item-grows (bestLocal s x) (bestLocal s (limited x n)) (best-local-grows s x n) (searchModule ℕ counted s x)
+      (searchModule ℕ counted s (limited x n))
       module-search-grows h (itemTo ℕ counted s x d) (itemTo ℕ counted s (limited x n) d) (itemTo-grows h d) item t u
 
 -- the whole search without a tank

@@ -25,7 +25,8 @@ module _ (next : ℕ → List ℕ) (seen : ℕ → Bool) (size : List ℕ → �
   abbrev Adds : List ℕ → List ℕ → Type 0
   Adds d r = (rest : List ℕ) × (r ≡ d ++ rest) × Once d rest
 
-  adds-step : (b : ℕ) (d : List ℕ) (m : ℕ) (ws : List ℕ) → ((d′ ws′ : List ℕ) → Adds d′ (walk next seen b d′ ws′)) → (t : Bool) → seen m || has d m ≡ t
+  adds-step : (b : ℕ) (d : List ℕ) (m : ℕ) (ws : List ℕ) → ((d′ ws′ : List ℕ) → Adds d′ (walk next seen b d′ ws′)) → (t : Bool)
+      → seen m || has d m ≡ t
       → Adds d (walk next seen (suc b) d (m ∷ ws))
   adds-step b d m ws ih true e = rw (walk-skip next seen size falls b d m ws e) (ih d ws)
   adds-step b d m ws ih false e =
@@ -65,7 +66,8 @@ module _ (s : Snapshot) (x : FindPathCtx) where
   offer-by P best c e true h none′ some′ = rw (offer, h) (some′ h)
   offer-by P best c e false h none′ some′ = rw (offer, h) none′
 
-  pub offer-found : (best c : Choice) (e : Scope) → c .found ≡ true → offerEntry s x best c e ≡ trySelect s (x .«prefer_prelude») best c (e .name) (stepBy viaLocal (e .place))
+  pub offer-found : (best c : Choice) (e : Scope) → c .found ≡ true → offerEntry s x best c e ≡ trySelect s (x .«prefer_prelude»)
+      best c (e .name) (stepBy viaLocal (e .place))
   unfolding offerEntry offer
   offer-found best c e h = by (c .found) h
     where
@@ -85,7 +87,8 @@ module _ (s : Snapshot) (x : FindPathCtx) where
   location-by P rec left ls best m (some e) o f = offer-by P best (rec (lengthLeft left best) ls m) e _ refl o (f e refl)
 
   -- what each location keeps, the loop keeps
-  pub each-by : (P : List ℕ → Choice → Type 0) (rec : LocalSearch) (left : ℕ) (ls : List Level) (item : Item) (w done : List ℕ) (best : Choice) (ms : List ℕ)
+  pub each-by : (P : List ℕ → Choice → Type 0) (rec : LocalSearch) (left : ℕ) (ls : List Level) (item : Item) (w done : List ℕ)
+      (best : Choice) (ms : List ℕ)
       → ((done′ : List ℕ) (best′ : Choice) (c : ℕ) → has done′ c ≡ false → has w c ≡ true → P done′ best′
       → P (done′ ++ (c ∷ [])) (location s x rec left (record { item = item; modules = done′ ++ (c ∷ []) } ∷ ls) best′ c (importableName s x item c)))
       → Within ms w → Once done ms → P done best → P (done ++ ms) (eachLocation s x rec left ls item done best ms)
@@ -93,17 +96,21 @@ module _ (s : Snapshot) (x : FindPathCtx) where
   each-by P rec left ls item w done best [] step in′ once p = rw (append-nil done) p
   each-by P rec left ls item w done best (m ∷ ms) step in′ once p =
       rw (← (append-assoc done (m ∷ []) ms))
-      (each-by P rec left ls item w (done ++ (m ∷ [])) _ ms step (λ n h. in′ n (has-later m ms n h)) (once .1) (step done best m (once .0) (in′ m (has-first m ms)) p))
+      (each-by P rec left ls item w (done ++ (m ∷ [])) _ ms step (λ n h. in′ n (has-later m ms n h)) (once .1)
+      (step done best m (once .0) (in′ m (has-first m ms)) p))
 
   -- ... and so for two loops side by side
-  pub pair-by : (P : List ℕ → Choice → Choice → Type 0) (rec : LocalSearch) (l l′ : ℕ) (ls ls′ : List Level) (item : Item) (w done : List ℕ) (a b : Choice)
+  pub pair-by : (P : List ℕ → Choice → Choice → Type 0) (rec : LocalSearch) (l l′ : ℕ) (ls ls′ : List Level) (item : Item)
+      (w done : List ℕ) (a b : Choice)
       (ms : List ℕ)
       → ((done′ : List ℕ) (a′ b′ : Choice) (c : ℕ) → has done′ c ≡ false → has w c ≡ true → P done′ a′ b′
       → P (done′ ++ (c ∷ [])) (location s x rec l (record { item = item; modules = done′ ++ (c ∷ []) } ∷ ls) a′ c (importableName s x item c))
       (location s x rec l′ (record { item = item; modules = done′ ++ (c ∷ []) } ∷ ls′) b′ c (importableName s x item c)))
-      → Within ms w → Once done ms → P done a b → P (done ++ ms) (eachLocation s x rec l ls item done a ms) (eachLocation s x rec l′ ls′ item done b ms)
+      → Within ms w → Once done ms → P done a b → P (done ++ ms) (eachLocation s x rec l ls item done a ms)
+      (eachLocation s x rec l′ ls′ item done b ms)
   unfolding eachLocation
   pair-by P rec l l′ ls ls′ item w done a b [] step in′ once p = rw (append-nil done) p
   pair-by P rec l l′ ls ls′ item w done a b (m ∷ ms) step in′ once p =
       rw (← (append-assoc done (m ∷ []) ms))
-      (pair-by P rec l l′ ls ls′ item w (done ++ (m ∷ [])) _ _ ms step (λ n h. in′ n (has-later m ms n h)) (once .1) (step done a b m (once .0) (in′ m (has-first m ms)) p))
+      (pair-by P rec l l′ ls ls′ item w (done ++ (m ∷ [])) _ _ ms step (λ n h. in′ n (has-later m ms n h)) (once .1)
+      (step done a b m (once .0) (in′ m (has-first m ms)) p))

@@ -17,7 +17,8 @@ use Rattle.find_path.specs.declared.FindPathCtx.{FindPathCtx}
 use Rattle.path_choices.specs.Choices.{nothing, lengthLeft, better, extended, push, trySelect}
 use Rattle.find_path.specs.Walk.{Level, has, visited}
 use Rattle.find_path.specs.Rules.{moduleRules}
-use Rattle.find_path.specs.Local.{LocalSearch, offer, offerEntry, importableName, location, eachLocation, calculateBestPathLocal, orLocal, findPathForModuleLocal}
+use Rattle.find_path.specs.Local.{LocalSearch, offer, offerEntry, importableName, location, eachLocation, calculateBestPathLocal, orLocal}
+use Rattle.find_path.specs.Local.{findPathForModuleLocal}
 use Rattle.find_path.specs.Search.{localTo, searchLocal}
 use Rattle.search_laws.specs.Near.{isSome, ruled, locations, imports, near}
 use Rattle.search_laws.proofs.Unfold.{length-falls}
@@ -43,7 +44,8 @@ module _ (s : Snapshot) (x : FindPathCtx) where
   each-skips rec left ls item done best [] ms′ h = rw (append-nil done)
   each-skips rec left ls item done best (m ∷ ms) ms′ h =
       let level : Level = record { item = item; modules = done ++ (m ∷ []) } in
-      ap (λ (a : Option Scope). eachLocation s x rec left ls item (done ++ (m ∷ [])) (location s x rec left (level ∷ ls) best m a) (ms ++ ms′)) (h m (has-first m ms))
+      ap (λ (a : Option Scope). eachLocation s x rec left ls item (done ++ (m ∷ [])) (location s x rec left (level ∷ ls) best m a) (ms ++ ms′))
+      (h m (has-first m ms))
       ∙ each-skips rec left ls item (done ++ (m ∷ [])) best ms ms′ (λ n k. h n (has-later m ms n k)) ∙ rw append-assoc
 
   -- So the loop goes on at the next place that holds one.
@@ -145,7 +147,8 @@ module _ (s : Snapshot) (x : FindPathCtx) where
   near-less ls ls′ less zero m e = absurd (false≢true e)
   near-less ls ls′ less (suc k) m e =
       ⊎-elim (λ h. near-rule ls k m h)
-      (λ (c, a, n). near-step ls k m c (record { taken = walk-fewer s (x .from .0) _ _ (less m) c (a .taken); entry = a .entry }) (near-less ls ls′ less k c n))
+      (λ (c, a, n). near-step ls k m c (record { taken = walk-fewer s (x .from .0) _ _ (less m) c (a .taken); entry = a .entry })
+      (near-less ls ls′ less k c n))
       (near-cases ls′ k m e)
 
   -- ... and so under one level less
@@ -174,13 +177,15 @@ module _ (s : Snapshot) (x : FindPathCtx) where
         (λ f. or-left _ _ (sym (ap (λ (z : Choice). z .found) (f .1)) ∙ h)) (offer-cases best (rec j (level ∷ ls) c) e _ refl)
 
     -- a found best came from a location that is near
-    each-near : (ls : List Level) (m : ℕ) (done : List ℕ) (best : Choice) (ms : List ℕ) → eachLocation s x rec (suc l) ls (moduleItem m) done best ms .found ≡ true
+    each-near : (ls : List Level) (m : ℕ) (done : List ℕ) (best : Choice) (ms : List ℕ)
+        → eachLocation s x rec (suc l) ls (moduleItem m) done best ms .found ≡ true
         → best .found || any (λ c. imports s x m c && near s x ls l c) ms ≡ true
     unfolding eachLocation any imports
     each-near ls m done best [] h = or-left _ _ h
     each-near ls m done best (c ∷ ms) h =
         let level : Level = record { item = moduleItem m; modules = done ++ (c ∷ []) } in
-        or-through (location s x rec (suc l) (level ∷ ls) best c (importableName s x (moduleItem m) c) .found) (best .found) (imports s x m c && near s x ls l c) _
+        or-through (location s x rec (suc l) (level ∷ ls) best c (importableName s x (moduleItem m) c) .found) (best .found)
+        (imports s x m c && near s x ls l c) _
         (location-near level ls best c (importableName s x (moduleItem m) c)) (each-near ls m (done ++ (c ∷ [])) _ ms h)
 
     or-near : (ls : List Level) (m : ℕ) (f : Bool) → ruled s x m ≡ f

@@ -15,7 +15,8 @@ use Rattle.find_path.specs.declared.Query.{Query}
 use Rattle.find_path.specs.declared.Question.{Question}
 use Rattle.find_path.specs.declared.Report.{Report}
 use Rattle.find_path.specs.Rules.{bit}
-use Rattle.find_path.specs.Report.{callFault, questionFault, refused, flag, misleads, outcomeBy, outcomeOf, reported, searched, answerUnless, reportBy, reportUnless, reportOf}
+use Rattle.find_path.specs.Report.{callFault, questionFault, refused, flag, misleads, outcomeBy, outcomeOf, reported, searched, answerUnless}
+use Rattle.find_path.specs.Report.{reportBy, reportUnless, reportOf}
 use Rattle.search_laws.proofs.Refusals.{NumberSmall, verdict-small, call-small, question-small, Allowed, call-allowed}
 
 -- found or none

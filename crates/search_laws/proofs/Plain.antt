@@ -11,33 +11,44 @@ use lib.ListN.{length, take, length-map}
 use Rattle.snapshot.specs.Lists.{any}
 use Rattle.snapshot.specs.Records.{Snapshot, Scope, Dependency, Prelude, Definition, Import, Extern, Member}
 use Rattle.check_rules.specs.Verdict.{accept, verdict}
-use Rattle.hir_def.specs.Finds.{firstOf, orFirst, select, firstSome}
-use Rattle.hir_def.specs.Items.{types, moduleOf, mapOf, mapNo, crateOf, crateData, parentOf, rootOf, ownMap, crateRoot, inBlock, containing, definitionOf, itemOf, sameItem, nsOf, homeBy, homeOf, moduleItem}
+use Rattle.hir_def.specs.Finds.{orFirst, select, firstSome}
+use Rattle.hir_def.specs.Items.{types, moduleOf, mapOf, mapNo, crateOf, crateData, parentOf, rootOf, ownMap, crateRoot, inBlock, containing}
+use Rattle.hir_def.specs.Items.{definitionOf, itemOf, nsOf, homeBy, homeOf, moduleItem}
 use Rattle.tree_rules.specs.Visibility.{climbStep, climb, inModule, isVisibleFrom, sees}
-use Rattle.hir_def.specs.ItemScope.{counts, isFor, nameOf, namesOf, preferred, get, isModuleEntry, modulesInScope, entryModule}
-use Rattle.hir_def.specs.Nameres.{ancestorMaps, scopeEntry, entryNamed, isOther, occupied, containers, childrenOf, preludeOf, externOf, dependenciesOf, langOf, sysrootFirst}
+use Rattle.hir_def.specs.ItemScope.{nameOf, preferred, get, isModuleEntry, modulesInScope, entryModule}
+use Rattle.hir_def.specs.Nameres.{ancestorMaps, scopeEntry, entryNamed, isOther, occupied, containers, childrenOf, preludeOf, externOf}
+use Rattle.hir_def.specs.Nameres.{dependenciesOf, langOf, sysrootFirst}
 use Rattle.hir_def.specs.ImportMap.{importInfoFor, isHidden}
 use Rattle.hir_def.specs.declared.Item.{Item}
 use Rattle.hir_def.specs.declared.Item.the-variants.{Mod, Def}
 use Rattle.readings.specs.Reads as Reads
-use Rattle.readings.specs.Reads.{selfKind, superKind, crateKind, absoluteKind, outward, scopesFrom, standsFor, meaning, entryOr, externNamed, inExterns, preludeMeans, inPreludeOf, entryFrom, firstName, variantNamed, variantIn, laterName, after, lookedIn, follow, absolutely, parentMeans, readsTo, isThe, readsBack}
+use Rattle.readings.specs.Reads.{selfKind, superKind, crateKind, absoluteKind, outward, scopesFrom, standsFor, meaning, entryOr, externNamed}
+use Rattle.readings.specs.Reads.{inExterns, preludeMeans, inPreludeOf, entryFrom, firstName, variantNamed, variantIn, laterName, after, lookedIn}
+use Rattle.readings.specs.Reads.{follow, absolutely, parentMeans, readsTo, isThe, readsBack}
 use Rattle.hir_def.proofs.Plain.{plain, plainly, plainOf, first-plain, name-plain, names-plain}
 use Rattle.path_choices.specs.declared.Choice.{Choice}
 use Rattle.find_path.specs.declared.FindPathCtx.{FindPathCtx}
 use Rattle.find_path.specs.declared.Query.{Query}
 use Rattle.find_path.specs.declared.Question.{Question}
-use Rattle.find_path.specs.declared.Report.{Report}
 use Rattle.find_path.specs.declared.Tank.{Tank}
-use Rattle.path_choices.specs.Choices.{plainPath, selfPath, cratePath, viaScope, viaPrelude, viaExtern, stepBy, nothing, keyword, nameData, isPrelude, choiceNew, extended, push, better, trySelect}
+use Rattle.path_choices.specs.Choices.{plainPath, selfPath, cratePath, viaScope, viaPrelude, viaExtern, stepBy, nothing, keyword, nameData, isPrelude}
+use Rattle.path_choices.specs.Choices.{choiceNew, extended, push, better, trySelect}
 use Rattle.find_path.specs.Walk.{Level, visited, startFrom, leadsTo, walk, findLocalImportLocations}
-use Rattle.find_path.specs.Rules.{bit, prefixPathKind, contextOf, firstFound, single, findInScope, mayBeInScope, scopeRule, sameHere, isUsable, preludeEntry, inPrelude, findInPrelude, preludeRule, externKind, externName, rootRule, parentKind, isKwKindRelativeToFrom, keywordOf, moduleRules}
+use Rattle.find_path.specs.Rules.{bit, prefixPathKind, contextOf, firstFound, single, findInScope, mayBeInScope, scopeRule, sameHere, isUsable}
+use Rattle.find_path.specs.Rules.{preludeEntry, inPrelude, findInPrelude, preludeRule, externKind, externName, rootRule, parentKind}
+use Rattle.find_path.specs.Rules.{isKwKindRelativeToFrom, keywordOf, moduleRules}
 use Rattle.find_path.specs.Meters.{Charged, go, stop, Charge}
-use Rattle.find_path.specs.Charged.{Out, Search, Inner, isStable, langs, oneOrNone, isAt, variantOf, pushVariant, offerImport, findImport, findImports, findInDep, findInDeps, findInSysroot, goOn, afterCharge, calculateBestPath, orCharged, findPathForModule, afterEnum, viaEnum, orEnum, byName, ofModule, findPathInner}
-use Rattle.find_path.specs.Search.{isBuiltinType, builtinChoice, localTo, searchLocal, bestLocal, moduleTo, searchModule, itemTo, searchItem, fromHome, fromItem, findPath}
+use Rattle.find_path.specs.Charged.{Out, Search, Inner, isStable, langs, oneOrNone, isAt, variantOf, pushVariant, offerImport, findImport}
+use Rattle.find_path.specs.Charged.{findImports, findInDep, findInDeps, findInSysroot, goOn, afterCharge, calculateBestPath, orCharged}
+use Rattle.find_path.specs.Charged.{findPathForModule, afterEnum, viaEnum, orEnum, byName, ofModule, findPathInner}
+use Rattle.find_path.specs.Search.{isBuiltinType, builtinChoice, localTo, searchLocal, bestLocal, moduleTo, searchModule, itemTo, searchItem}
+use Rattle.find_path.specs.Search.{fromHome, fromItem, findPath}
 use Rattle.find_path.specs.Report.{questionFault, flag, misleads, outcomeBy, reported, searched, answerUnless, reportBy, reportUnless, reportOf}
-use Rattle.find_path.specs.Local.{LocalSearch, offer, offerEntry, isImportable, entryIf, importableName, location, eachLocation, calculateBestPathLocal, orLocal, findPathForModuleLocal}
+use Rattle.find_path.specs.Local.{LocalSearch, offer, offerEntry, isImportable, entryIf, importableName, location, eachLocation}
+use Rattle.find_path.specs.Local.{calculateBestPathLocal, orLocal, findPathForModuleLocal}
 
-some-step : (o r r′ : Option Scope) → r′ ≡ plainOf r → elim (plainOf o) [ some y ↦ some y | none ↦ r′ ] ≡ plainOf (elim o [ some y ↦ some y | none ↦ r ])
+some-step : (o r r′ : Option Scope) → r′ ≡ plainOf r → elim (plainOf o) [ some y ↦ some y | none ↦ r′ ]
+    ≡ plainOf (elim o [ some y ↦ some y | none ↦ r ])
 some-step none r r′ h = h
 some-step (some e) r r′ h = refl
 
@@ -103,7 +114,8 @@ module _ (s : Snapshot) where
   unfolding definitionOf
   module-entry-plain m e = refl
 
-  near-plain : (from : ℕ) (e : Scope) → (eqb (crateOf (plainly s) (entryModule (plainly s) (plain e))) (crateOf (plainly s) from) && sees (plainly s) from (plain e))
+  near-plain : (from : ℕ) (e : Scope)
+      → (eqb (crateOf (plainly s) (entryModule (plainly s) (plain e))) (crateOf (plainly s) from) && sees (plainly s) from (plain e))
       ≡ (eqb (crateOf s (entryModule s e)) (crateOf s from) && sees s from e)
   unfolding definitionOf moduleOf mapOf
   near-plain from e =
@@ -112,7 +124,8 @@ module _ (s : Snapshot) where
   leads-plain : (from m : ℕ) → leadsTo (plainly s) from m ≡ leadsTo s from m
   unfolding leadsTo modulesInScope definitionOf
   leads-plain from m =
-      ap (λ (es : List Scope). map (entryModule (plainly s)) (select (λ e. eqb (crateOf (plainly s) (entryModule (plainly s) e)) (crateOf (plainly s) from) && sees (plainly s) from e) es))
+      ap (λ (es : List Scope). map (entryModule (plainly s))
+      (select (λ e. eqb (crateOf (plainly s) (entryModule (plainly s) e)) (crateOf (plainly s) from) && sees (plainly s) from e) es))
       (select-plain _ _ (module-entry-plain m) (s .scopes))
       ∙ ap (map (entryModule (plainly s))) (select-plain _ _ (near-plain from) (modulesInScope s m))
       ∙ map-plain (entryModule s) (entryModule (plainly s)) (λ e. refl)
@@ -141,7 +154,8 @@ module _ (s : Snapshot) (from : ℕ) where
   entry-means-plain other (some e) = meaning-plain e
 
   -- an entry by its name
-  got-plain : (other : Option Item) (m ns name : ℕ) → entryOr (plainly s) from other (get (plainly s) m ns name) ≡ entryOr s from other (get s m ns name)
+  got-plain : (other : Option Item) (m ns name : ℕ) → entryOr (plainly s) from other (get (plainly s) m ns name)
+      ≡ entryOr s from other (get s m ns name)
   got-plain other m ns name = ap (entryOr (plainly s) from other) (get-plain s m ns name) ∙ entry-means-plain other (get s m ns name)
 
   prelude-means-plain : (ns name : ℕ) (p : Option Prelude) → preludeMeans (plainly s) from ns name p ≡ preludeMeans s from ns name p
@@ -200,7 +214,8 @@ module _ (s : Snapshot) (from : ℕ) where
       elim (eqb kind selfKind) [
         | true ↦ follow-plain ns (some (moduleItem (standsFor s from))) names i
         | false ↦ elim (eqb kind superKind) [
-          | true ↦ (ap (λ (x : Option Item). follow (plainly s) from ns x names) (parent-means-plain (parentOf s (standsFor s from))) ∙ follow-plain ns _ names) i
+          | true ↦ (ap (λ (x : Option Item). follow (plainly s) from ns x names) (parent-means-plain (parentOf s (standsFor s from)))
+              ∙ follow-plain ns _ names) i
           | false ↦ elim (eqb kind crateKind) [
             | true ↦ follow-plain ns (some (moduleItem (crateRoot s from))) names i
             | false ↦ elim (eqb kind absoluteKind) [ true ↦ absolutely-plain ns names i | false ↦ plainly-plain ns names i ]
@@ -241,9 +256,11 @@ module _ (s : Snapshot) (x : FindPathCtx) (clear : x .fresh ≡ false) where
   usable-plain : (item : Item) (e : Scope) → isUsable (plainly s) x item (plain e) ≡ isUsable s x item e
   usable-plain item e =
       ap₂ (λ (a b : Bool). a && b) (visible-plain s (e .visibility) (e .number) (x .from .0))
-      (ap (sameHere (plainly s) x item) (named-plain s (x .from .0) (nsOf item) (e .name)) ∙ here-plain item (entryNamed s (x .from .0) (nsOf item) (e .name)))
+      (ap (sameHere (plainly s) x item) (named-plain s (x .from .0) (nsOf item) (e .name))
+      ∙ here-plain item (entryNamed s (x .from .0) (nsOf item) (e .name)))
 
-  if-plain : (e : Scope) (b : Bool) → _≡_ {A = Option Scope} (elim b [ true ↦ some (plain e) | false ↦ none ]) (plainOf (elim b [ true ↦ some e | false ↦ none ]))
+  if-plain : (e : Scope) (b : Bool) → _≡_ {A = Option Scope} (elim b [ true ↦ some (plain e) | false ↦ none ])
+      (plainOf (elim b [ true ↦ some e | false ↦ none ]))
   if-plain e true = refl
   if-plain e false = refl
 
@@ -316,7 +333,8 @@ module _ (s : Snapshot) (x : FindPathCtx) (clear : x .fresh ≡ false) where
   unfolding moduleRules
   rules-plain b m =
       λ i. firstFound
-      (root-plain b m i ∷ by-scope-plain (moduleItem m) i ∷ (ap (keywordOf (plainly s) x) (relative-plain m) ∙ keyword-plain (isKwKindRelativeToFrom s x m)) i
+      (root-plain b m i ∷ by-scope-plain (moduleItem m) i ∷ (ap (keywordOf (plainly s) x) (relative-plain m)
+      ∙ keyword-plain (isKwKindRelativeToFrom s x m)) i
       ∷ by-prelude-plain (moduleItem m) i ∷ [])
 
   -- the local search
@@ -356,17 +374,21 @@ module _ (s : Snapshot) (x : FindPathCtx) (clear : x .fresh ≡ false) where
         ∙ location-plain left below best m (importableName s x item m))
         ∙ each-plain left ls item (done ++ (m ∷ [])) _ ms
 
-    local-plain : (left : ℕ) (ls : List Level) (item : Item) → calculateBestPathLocal (plainly s) x rec left ls item ≡ calculateBestPathLocal s x rec left ls item
+    local-plain : (left : ℕ) (ls : List Level) (item : Item) → calculateBestPathLocal (plainly s) x rec left ls item
+        ≡ calculateBestPathLocal s x rec left ls item
     unfolding calculateBestPathLocal
     local-plain left ls item =
-        ap (eachLocation (plainly s) x rec left ls item [] nothing) (locations-plain s (x .from .0) (visited ls item)) ∙ each-plain left ls item [] nothing _
+        ap (eachLocation (plainly s) x rec left ls item [] nothing) (locations-plain s (x .from .0) (visited ls item))
+        ∙ each-plain left ls item [] nothing _
 
-    or-local-plain : (left : ℕ) (ls : List Level) (m : ℕ) (c : Choice) (b : Bool) → orLocal (plainly s) x rec left ls m c b ≡ orLocal s x rec left ls m c b
+    or-local-plain : (left : ℕ) (ls : List Level) (m : ℕ) (c : Choice) (b : Bool) → orLocal (plainly s) x rec left ls m c b
+        ≡ orLocal s x rec left ls m c b
     unfolding orLocal
     or-local-plain left ls m c true = refl
     or-local-plain left ls m c false = local-plain left ls (moduleItem m)
 
-    module-local-plain : (left : ℕ) (ls : List Level) (m : ℕ) → findPathForModuleLocal (plainly s) x rec left ls m ≡ findPathForModuleLocal s x rec left ls m
+    module-local-plain : (left : ℕ) (ls : List Level) (m : ℕ) → findPathForModuleLocal (plainly s) x rec left ls m
+        ≡ findPathForModuleLocal s x rec left ls m
     unfolding findPathForModuleLocal
     module-local-plain zero ls m = refl
     module-local-plain (suc l) ls m =
@@ -387,7 +409,8 @@ module _ (s : Snapshot) (x : FindPathCtx) (clear : x .fresh ≡ false) where
   unfolding bestLocal
   best-local-plain =
       λ i left item.
-      (ap (λ (r : LocalSearch). calculateBestPathLocal (plainly s) x r left [] item) search-local-plain ∙ local-plain (searchLocal s x) left [] item) i
+      (ap (λ (r : LocalSearch). calculateBestPathLocal (plainly s) x r left [] item) search-local-plain
+      ∙ local-plain (searchLocal s x) left [] item) i
 
   -- the charged search
 
@@ -466,7 +489,8 @@ module _ (s : Snapshot) (x : FindPathCtx) (clear : x .fresh ≡ false) where
     or-plain left m t c true = refl
     or-plain left m t c false = best-plain left (moduleItem m) t
 
-    module-plain : (left m : ℕ) (t : M) → findPathForModule M charge (plainly s) x here rec left m t ≡ findPathForModule M charge s x here rec left m t
+    module-plain : (left m : ℕ) (t : M) → findPathForModule M charge (plainly s) x here rec left m t ≡ findPathForModule M charge
+        s x here rec left m t
     unfolding findPathForModule
     module-plain zero m t = refl
     module-plain (suc l) m t =
@@ -504,7 +528,8 @@ module _ (s : Snapshot) (x : FindPathCtx) (clear : x .fresh ≡ false) where
       of-plain m t true = by-name-plain (moduleItem m) t
       of-plain m t false = refl
 
-      inner-plain : (item : Item) (t : M) → findPathInner M charge (plainly s) x here rec inner item t ≡ findPathInner M charge s x here rec inner item t
+      inner-plain : (item : Item) (t : M) → findPathInner M charge (plainly s) x here rec inner item t ≡ findPathInner M charge s
+          x here rec inner item t
       unfolding findPathInner
       inner-plain (Mod m) t = of-plain (m .0) t (x .«is_std_item»)
       inner-plain (Def ns d) t = by-name-plain (Def ns d) t

@@ -1,8 +1,8 @@
 -- The report with options bit 64 beside the one without it.
 use mathlib.Core.Path.{_≡_, refl, ap, sym, _∙_, subst}
 use mathlib.Core.List.{List}
-use mathlib.Core.Bool.{Bool, true, false, _&&_, _||_, not, true≢false, false≢true}
-use mathlib.Core.Logic.{_⊎_, inl, inr, ⊎-elim, _↔_}
+use mathlib.Core.Bool.{Bool, true, false, _&&_, _||_, not, false≢true}
+use mathlib.Core.Logic.{inl, inr, ⊎-elim, _↔_}
 use mathlib.Core.Option.{some}
 use Prim.Native.Nat.{ℕ, zero, suc, _+_, _/_, _%_, _≤_, _<_}
 use native.Mathlib.Omega.{arith}
@@ -22,16 +22,16 @@ use Rattle.read_back.proofs.Exact.{reads-exactly, exactly-reads}
 use Rattle.path_choices.specs.declared.Choice.{Choice}
 use Rattle.find_path.specs.declared.FindPathCtx.{FindPathCtx}
 use Rattle.find_path.specs.declared.Query.{Query}
-use Rattle.find_path.specs.declared.Report.{Report}
 use Rattle.find_path.specs.declared.Tank.{Tank}
 use Rattle.find_path.specs.Rules.{bit, contextOf}
 use Rattle.find_path.specs.Meters.{Charge}
 use Rattle.find_path.specs.Charged.{Out}
 use Rattle.find_path.specs.Search.{isBuiltinType, searchItem, fromHome, fromItem, findPath}
-use Rattle.find_path.specs.Report.{callFault, questionFault, refused, flag, misleads, outcomeBy, outcomeOf, reported, searched, answerUnless, reportBy, reportUnless, reportOf}
+use Rattle.find_path.specs.Report.{callFault, questionFault, refused, flag, misleads, outcomeBy, outcomeOf, reported, searched, answerUnless}
+use Rattle.find_path.specs.Report.{reportBy, reportUnless, reportOf}
 use Rattle.find_path.specs.Report.{reportAt}
 use Rattle.search_laws.specs.Routes.{askedItem}
-use Rattle.search_laws.specs.Reading.{withReading, MeansItem, withOutcome, ReadAs, ReadBack}
+use Rattle.search_laws.specs.Reading.{withReading, MeansItem, ReadAs, ReadBack}
 use Rattle.search_laws.proofs.Outcomes.{outcome-unread}
 
 -- the other bits are the same
@@ -158,14 +158,17 @@ module _ (s : Snapshot) (q : Query) (o : Out Tank) (below : q .options < 64) whe
   means-back h =
       ⊎-elim (λ e. rw (eq-eqb _ _ (e .0), eq-eqb _ _ (e .1)))
       (λ e. or-back (isBuiltinType s q) back (exactly-reads s (q .from .0) (askedItem s q) (choice .kind) (take (choice .count) (choice .names))
-      (subst (λ (n : ℕ). readsTo s (q .from .0) n (choice .kind) (take (choice .count) (choice .names)) ≡ some (askedItem s q)) (sym (item-ns s (q .ns) (q .definition .0))) e))) h
+      (subst (λ (n : ℕ). readsTo s (q .from .0) n (choice .kind) (take (choice .count) (choice .names)) ≡ some (askedItem s q))
+      (sym (item-ns s (q .ns) (q .definition .0))) e))) h
 
   back-means : (isBuiltinType s q || back) ≡ true → means
   unfolding reported
   back-means h =
       by-test (isBuiltinType s q)
-      (λ e. let f = and-two (eqb (q .ns) types) (eqb (definitionOf s (q .definition .0) .kind) builtinKind) e in inl (eqb-true _ _ (f .0), eqb-true _ _ (f .1)))
-      (λ e. inr (subst (λ (n : ℕ). readsTo s (q .from .0) n (choice .kind) (take (choice .count) (choice .names)) ≡ some (askedItem s q)) (item-ns s (q .ns) (q .definition .0))
+      (λ e. let f = and-two (eqb (q .ns) types) (eqb (definitionOf s (q .definition .0) .kind) builtinKind) e in
+      inl (eqb-true _ _ (f .0), eqb-true _ _ (f .1)))
+      (λ e. inr (subst (λ (n : ℕ). readsTo s (q .from .0) n (choice .kind) (take (choice .count) (choice .names)) ≡ some (askedItem s q))
+      (item-ns s (q .ns) (q .definition .0))
       (reads-exactly s (q .from .0) (askedItem s q) (choice .kind) (take (choice .count) (choice .names)) (or-right _ _ h e))))
 
   clear : bit (q .options) 64 ≡ false
@@ -243,7 +246,8 @@ fault-unread area q fuel h =
 pub read-back : ReadBack
 unfolding reportOf
 read-back words area q fuel s e h =
-    subst (λ (n : ℕ). ReadAs s q (reportUnless words q fuel (callFault area q fuel)) (reportUnless words (withReading q) fuel n)) (sym (fault-unread area q fuel h))
+    subst (λ (n : ℕ). ReadAs s q (reportUnless words q fuel (callFault area q fuel)) (reportUnless words (withReading q) fuel n))
+    (sym (fault-unread area q fuel h))
     (call-as s q fuel h words e (callFault area q fuel))
 
 refused-unread : (words : List ℕ) (q : Query) (fuel n place : ℕ) → verdict words ≡ refuse n place → (k : ℕ)

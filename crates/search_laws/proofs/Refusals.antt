@@ -1,11 +1,11 @@
 -- No number of a refusal is above 46.
 use mathlib.Core.Path.{_≡_, refl}
-use Prim.Native.Nat.{ℕ, zero, suc, _+_, _≤_, _<_}
+use Prim.Native.Nat.{ℕ, _≤_, _<_}
 use native.Mathlib.Omega.{arith}
 use mathlib.Core.List.{List}
 use mathlib.Core.Bool.{Bool, true, false, _&&_, _||_, not}
-use lib.Dec.{eqb, ltb, leb}
-use lib.ListN.{length, getD}
+use lib.Dec.{eqb, ltb}
+use lib.ListN.{length}
 use borrow.Author.Tests.{eqb-false, ltb-false}
 use Rattle.snapshot.specs.Limits.{areaLimit, fuelLimit, pathLimit, namespaceLimit, prefixLimit, optionsLimit}
 use Rattle.snapshot.specs.Refusals.{areaRefusal, fuelRefusal, fieldRefusal, unknownRefusal, macroRefusal, limitRefusal, largestRefusal}
@@ -63,8 +63,10 @@ unfolding callFault
 call-allowed area q fuel e =
     by-test (ltb area areaLimit) (λ t. let z : areaRefusal ≡ 0 = rw (callFault, t) at e in absurd (omega arith)) (λ t.
     by-test (ltb fuelLimit fuel) (λ u. let z : fuelRefusal ≡ 0 = rw (callFault, t, u) at e in absurd (omega arith)) (λ u.
-    by-test (ltb namespaceLimit (q .ns) || (ltb prefixLimit (q .prefix) || ltb optionsLimit (q .options))) (λ v. let z : fieldRefusal ≡ 0 = rw (callFault, t, u, v) at e in absurd (omega arith)) (λ v.
-    by-test (eqb (q .limit) 0 || ltb pathLimit (q .limit)) (λ w. let z : limitRefusal ≡ 0 = rw (callFault, t, u, v, w) at e in absurd (omega arith)) (λ w.
+    by-test (ltb namespaceLimit (q .ns) || (ltb prefixLimit (q .prefix) || ltb optionsLimit (q .options)))
+    (λ v. let z : fieldRefusal ≡ 0 = rw (callFault, t, u, v) at e in absurd (omega arith)) (λ v.
+    by-test (eqb (q .limit) 0 || ltb pathLimit (q .limit)) (λ w. let z : limitRefusal ≡ 0 = rw (callFault, t, u, v, w) at e in absurd (omega arith))
+    (λ w.
     let n = or-none (eqb (q .limit) 0) (ltb pathLimit (q .limit)) w in
     let z = eqb-false (q .limit) 0 (n .0) in
     record { fuel = ltb-false fuelLimit fuel u; some = omega (arith, z); limit = ltb-false pathLimit (q .limit) (n .1) }))))

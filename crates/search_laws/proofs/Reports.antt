@@ -127,7 +127,8 @@ pub refusal-zero : (words : List ℕ) (area : ℕ) (q : Question) → IsRefused 
     → reportOf words area q ≡ refused (reportOf words area q .number)
 refusal-zero words area q h = refused-whole (reportOf words area q) (kind-of words area q) h
 
-told-first : {words : List ℕ} {q : Query} {fuel : ℕ} (s : Snapshot) → verdict words ≡ accept s → (r : Report) → Kind words q fuel r → TellsFirst fuel (searchedListing s q) r
+told-first : {words : List ℕ} {q : Query} {fuel : ℕ} (s : Snapshot) → verdict words ≡ accept s → (r : Report) → Kind words q fuel r
+    → TellsFirst fuel (searchedListing s q) r
 unfolding refused
 told-first s a r (refusal n l e) =
     let z = ap (λ (y : Report). y .empty) e in

@@ -21,7 +21,8 @@ use Rattle.accept.proofs.Bools.{and-left, and-right, and-two, or-none, each-map
 use Rattle.accept.proofs.Places.{accepted-placed}
 use Rattle.accept.proofs.Valid.{accepted-valid}
 use Rattle.hir_def.specs.Finds.{firstOf}
-use Rattle.hir_def.specs.Items.{types, builtinKind, mapNo, crateOf, crateRoot, rootOf, parentOf, blockOf, inBlock, definitionOf, itemOf, sameItem, homeOf, definedItem, moduleItem}
+use Rattle.hir_def.specs.Items.{types, builtinKind, mapNo, crateOf, crateRoot, rootOf, parentOf, blockOf, inBlock, definitionOf, itemOf, sameItem}
+use Rattle.hir_def.specs.Items.{homeOf, moduleItem}
 use Rattle.tree_rules.specs.Visibility.{sees}
 use Rattle.hir_def.specs.ItemScope.{isFor, nameOf, namesOf}
 use Rattle.hir_def.specs.Nameres.{dependenciesOf, langOf, sysrootFirst, externOf}
@@ -36,17 +37,26 @@ use Rattle.find_path.specs.declared.Query.{Query}
 use Rattle.find_path.specs.declared.Question.{Question}
 use Rattle.find_path.specs.declared.Report.{Report}
 use Rattle.find_path.specs.declared.Tank.{Tank}
-use Rattle.path_choices.specs.Choices.{plainPath, selfPath, superPath, cratePath, viaBuiltin, viaScope, viaPrelude, viaExtern, viaKeyword, viaVariant, viaLocal, viaImport, stepBy, nothing, keyword, choiceNew, extended, push, unstably, better, trySelect}
+use Rattle.path_choices.specs.Choices.{plainPath, selfPath, superPath, cratePath, viaBuiltin, viaScope, viaPrelude, viaExtern, viaKeyword, viaVariant}
+use Rattle.path_choices.specs.Choices.{viaLocal, viaImport, stepBy, nothing, keyword, choiceNew, extended, push, unstably, better, trySelect}
 use Rattle.find_path.specs.Walk.{Level, visited}
-use Rattle.find_path.specs.Rules.{bit, byCrate, mayBeInScope, prefixPathKind, contextOf, firstFound, single, findInScope, scopeRule, findInPrelude, preludeRule, externName, rootRule, parentKind, isKwKindRelativeToFrom, keywordOf, moduleRules}
-use Rattle.find_path.specs.Local.{LocalSearch, offer, offerEntry, isImportable, entryIf, importableName, location, eachLocation, calculateBestPathLocal, orLocal, findPathForModuleLocal}
+use Rattle.find_path.specs.Rules.{bit, byCrate, mayBeInScope, prefixPathKind, contextOf, firstFound, single, findInScope, scopeRule, findInPrelude}
+use Rattle.find_path.specs.Rules.{preludeRule, externName, rootRule, parentKind, isKwKindRelativeToFrom, keywordOf, moduleRules}
+use Rattle.find_path.specs.Local.{LocalSearch, offer, offerEntry, isImportable, entryIf, importableName, location, eachLocation}
+use Rattle.find_path.specs.Local.{calculateBestPathLocal, orLocal, findPathForModuleLocal}
 use Rattle.find_path.specs.Meters.{Charged, go, stop, fromTank, Charge, filled}
-use Rattle.find_path.specs.Charged.{Out, Search, Inner, langs, oneOrNone, isAt, variantOf, pushVariant, offerImport, findImport, findImports, findInDep, findInDeps, findInSysroot, goOn, afterCharge, calculateBestPath, orCharged, findPathForModule, afterEnum, viaEnum, orEnum, byName, ofModule, findPathInner}
-use Rattle.find_path.specs.Search.{builtinChoice, localTo, searchLocal, bestLocal, moduleTo, searchModule, itemTo, searchItem, fromHome, fromItem, findPath}
+use Rattle.find_path.specs.Charged.{Out, Search, Inner, langs, oneOrNone, isAt, variantOf, pushVariant, offerImport, findImport, findImports}
+use Rattle.find_path.specs.Charged.{findInDep, findInDeps, findInSysroot, goOn, afterCharge, calculateBestPath, orCharged, findPathForModule}
+use Rattle.find_path.specs.Charged.{afterEnum, viaEnum, orEnum, byName, ofModule, findPathInner}
+use Rattle.find_path.specs.Search.{builtinChoice, localTo, searchLocal, bestLocal, moduleTo, searchModule, itemTo, searchItem, fromHome, fromItem}
+use Rattle.find_path.specs.Search.{findPath}
 use Rattle.find_path.specs.Report.{refused, reported, searched, reportOf}
 use Rattle.search_laws.specs.Fuels.{HasPath}
-use Rattle.search_laws.specs.Routes.{_∈_, Start, self, super, crate, scope, prelude, extern, builtin, Step, entry, imported, Route, start, step, Path, direct, variant, ruleKind, ruleOf, placeOf, Shown, askedItem, askedContext, routeSteps, Routed, isNear}
-use Rattle.search_laws.proofs.Bounds.{Fits, more as wider, first-none as none-fits, first-fits, new-fits, scope-fits, prelude-fits, best-local-fits, best-within, module-search-fits, itemTo-fits, search-fits}
+use Rattle.search_laws.specs.Routes.{_∈_, Start, self, super, crate, scope, prelude, extern, builtin, Step, entry, imported, Route, start, step}
+use Rattle.search_laws.specs.Routes.{Path, direct, variant, ruleKind, ruleOf, placeOf, Shown, askedItem, askedContext, routeSteps, Routed}
+use Rattle.search_laws.specs.Routes.{isNear}
+use Rattle.search_laws.proofs.Bounds.{Fits, more as wider, first-none as none-fits, first-fits, new-fits, scope-fits, prelude-fits}
+use Rattle.search_laws.proofs.Bounds.{best-local-fits, best-within, module-search-fits, itemTo-fits, search-fits}
 use Rattle.search_laws.proofs.Crates.{Near, each-in, each-append, select-found, own-root, crate-root, locations-near}
 use Rattle.search_laws.proofs.Known.{held-at, scope-held, prelude-held, extern-held, definition-in, variant-in}
 use Rattle.search_laws.proofs.Refusals.{Allowed}
@@ -113,7 +123,8 @@ module _ (s : Snapshot) where
         let f = and-two (eqb (i .owner) (d .crate)) _ t in
         record { dependency = d; known = k; stands = h; owner = eqb-true _ _ (f .0); away = away; same = same-item _ item (f .1) })
 
-    entry-step : (m : ℕ) (item : Item) (e : Scope) → e ∈ s .scopes → isNear s x item ≡ true → isFor s m item e ≡ true → importableName s x item m ≡ some e
+    entry-step : (m : ℕ) (item : Item) (e : Scope) → e ∈ s .scopes → isNear s x item ≡ true → isFor s m item e ≡ true
+        → importableName s x item m ≡ some e
         → sees s (x .from .0) e ≡ true → Step s x m (e .name) (stepBy viaLocal (e .place)) item
     unfolding isFor
     entry-step m item e h near p o v =
@@ -121,7 +132,8 @@ module _ (s : Snapshot) where
         let a = eqb-true (e .owner) m (f .0) in
         let b = same-item _ item (f .1) in
         subst (λ (k : ℕ). Step s x k (e .name) (stepBy viaLocal (e .place)) item) a
-        (subst (Step s x (e .owner) (e .name) (stepBy viaLocal (e .place))) b (entry e h (ap (isNear s x) b ∙ near) (ap₂ (importableName s x) b a ∙ o) v))
+        (subst (Step s x (e .owner) (e .name) (stepBy viaLocal (e .place))) b
+        (entry e h (ap (isNear s x) b ∙ near) (ap₂ (importableName s x) b a ∙ o) v))
 
     import-step : (item : Item) (i : Import) → Listed s x item i → isHidden i ≡ false → (isUnstable i ≡ true → x .«allow_unstable» ≡ true)
         → Step s x (i .container) (i .name) (stepBy viaImport (i .place)) item
@@ -149,7 +161,8 @@ module _ (s : Snapshot) where
       route = λ _ h l.
           let i : c .count < length (c .names) = omega (arith, h, length-set (c .names) (c .count) n) in
           let j : c .steps < length (c .route) = omega (arith, l, length-set (c .route) (c .steps) t) in
-          subst (λ (ts : List ℕ). Route s x (c .kind) (take (c .count + 1) (set (c .names) (c .count) n)) ts item) (sym (names-more (c .route) (c .steps) t j))
+          subst (λ (ts : List ℕ). Route s x (c .kind) (take (c .count + 1) (set (c .names) (c .count) n)) ts item)
+          (sym (names-more (c .route) (c .steps) t j))
           (subst (λ (ns : List ℕ). Route s x (c .kind) ns (take (c .steps) (c .route) ++ (t ∷ [])) item) (sym (names-more (c .names) (c .count) n i))
           (step (f .route e (omega (arith, i)) (omega (arith, j))) g));
     }
@@ -173,7 +186,8 @@ module _ (s : Snapshot) where
     unfolding firstFound
     first-none = nothing-leads
 
-    first-leads : {item : Item} (c : Choice) (cs : List Choice) → Leads s x item c → Leads s x item (firstFound cs) → Leads s x item (firstFound (c ∷ cs))
+    first-leads : {item : Item} (c : Choice) (cs : List Choice) → Leads s x item c → Leads s x item (firstFound cs)
+        → Leads s x item (firstFound (c ∷ cs))
     unfolding firstFound
     first-leads c cs f g = either-leads (c .found) c (firstFound cs) (λ _. f) (λ _. g)
 
@@ -225,11 +239,14 @@ module _ (s : Snapshot) where
         single-leads item plainPath viaPrelude (findInPrelude s x item)
         (λ e h. prelude item e (held-at (λ y. y ∈ s .scopes) _ (prelude-held s (λ y. y ∈ s .scopes) (each-self (s .scopes)) x item) h) h)
 
-    extern-leads : (m : ℕ) (o : Option Extern) → crateRoot s m ≡ m → (m ≡ x .«crate_root» .0 → ⊥) → externOf s (x .«from_crate» .0) m ≡ o → Leads s x (moduleItem m) (externName s x m o)
+    extern-leads : (m : ℕ) (o : Option Extern) → crateRoot s m ≡ m → (m ≡ x .«crate_root» .0 → ⊥)
+        → externOf s (x .«from_crate» .0) m ≡ o → Leads s x (moduleItem m) (externName s x m o)
     unfolding externName
     extern-leads m none r z h = nothing-leads
     extern-leads m (some e) r z h =
-        new-leads (moduleItem m) _ (e .name) _ (extern m e (held-at (λ y. y ∈ s .externs) _ (extern-held s (λ y. y ∈ s .externs) (each-self (s .externs)) (x .«from_crate» .0) m) h) r z h)
+        new-leads (moduleItem m) _ (e .name) _
+        (extern m e (held-at (λ y. y ∈ s .externs) _ (extern-held s (λ y. y ∈ s .externs) (each-self (s .externs)) (x .«from_crate» .0) m) h)
+        r z h)
 
     -- in a valid snapshot, with the root that is set for the viewing module
     module _ (valid : Valid s) (rooted : Rooted s x) where
@@ -245,7 +262,8 @@ module _ (s : Snapshot) where
           either-leads (eqb (crateRoot s m) m) _ _
           (λ e. either-leads (not b || eqb m (x .«crate_root» .0)) _ _
           (λ t. keyword-leads m cratePath (crate-start m (root-here b m near (eqb-true (crateRoot s m) m e) t)))
-          (λ t. extern-leads m (externOf s (x .«from_crate» .0) m) (eqb-true (crateRoot s m) m e) (eqb-false m (x .«crate_root» .0) (or-none (not b) _ t .1)) refl))
+          (λ t. extern-leads m (externOf s (x .«from_crate» .0) m) (eqb-true (crateRoot s m) m e)
+          (eqb-false m (x .«crate_root» .0) (or-none (not b) _ t .1)) refl))
           (λ _. nothing-leads)
 
       -- a keyword other than `crate` is not taken under ByCrate
@@ -276,7 +294,8 @@ module _ (s : Snapshot) where
           (λ t.
           let f = or-none (inBlock s m) (inBlock s (x .from .0)) (or-none (not (eqb (crateOf s m) (crateOf s (x .from .0)))) _ t .1) .1 in
           either-started m (eqb m (x .from .0)) (some selfPath) _
-          (λ e k. subst (λ (j : ℕ). Start s x selfPath [] (stepBy viaKeyword 0) (moduleItem j)) (sym (eqb-true m (x .from .0) e)) (self (not-by-crate selfPath refl k)))
+          (λ e k. subst (λ (j : ℕ). Start s x selfPath [] (stepBy viaKeyword 0) (moduleItem j)) (sym (eqb-true m (x .from .0) e))
+          (self (not-by-crate selfPath refl k)))
           (λ _. parent-started m (parentOf s (x .from .0)) refl (eqb-true (blockOf s (x .from .0)) 0 (not-false _ f))))
 
       keyword-of-leads : (m : ℕ) (k : Option ℕ) → Started s x m k → Leads s x (moduleItem m) (keywordOf s x k)
@@ -356,7 +375,8 @@ module _ (s : Snapshot) where
             each-leads left ls item (done ++ (m ∷ [])) _ near ms
             (location-leads item left _ best m (importableName s x item m) here f (importable-led item m near))
 
-        local-leads : (left : ℕ) (ls : List Level) (item : Item) → isNear s x item ≡ true → Leads s x item (calculateBestPathLocal s x rec left ls item)
+        local-leads : (left : ℕ) (ls : List Level) (item : Item)
+            → isNear s x item ≡ true → Leads s x item (calculateBestPathLocal s x rec left ls item)
         unfolding calculateBestPathLocal
         local-leads left ls item near = each-leads left ls item [] nothing near (locations-near s valid (x .from .0) (visited ls item)) nothing-leads
 
@@ -397,7 +417,8 @@ module _ (M : Type 0) (charge : Charge M) (s : Snapshot) (x : FindPathCtx) (vali
   sysroot-ours : Each Ours (sysrootFirst s (x .«from_crate» .0))
   unfolding sysrootFirst
   sysroot-ours =
-      each-append (select-found _ (dependenciesOf s (x .«from_crate» .0)) (λ d h t. h)) (select-found _ (dependenciesOf s (x .«from_crate» .0)) (λ d h t. h))
+      each-append (select-found _ (dependenciesOf s (x .«from_crate» .0)) (λ d h t. h))
+      (select-found _ (dependenciesOf s (x .«from_crate» .0)) (λ d h t. h))
 
   module _ (rec : Search M) (leads : LeadsSearch rec) where
     -- an import that is not passed over is not hidden
@@ -432,7 +453,8 @@ module _ (M : Type 0) (charge : Charge M) (s : Snapshot) (x : FindPathCtx) (vali
     sysroot-leads left item o (n ∷ ls) false away f =
         sysroot-leads left item _ ls _ away (deps-lead left item o (oneOrNone (langOf s (x .«from_crate» .0) n)) away (lang-ours n) f)
 
-    go-leads : (left : ℕ) (item : Item) (t : M) (a b : Bool) → isNear s x item ≡ a → Leads s x item (goOn M charge s x (bestLocal s x) rec left item t a b .choice)
+    go-leads : (left : ℕ) (item : Item) (t : M) (a b : Bool)
+        → isNear s x item ≡ a → Leads s x item (goOn M charge s x (bestLocal s x) rec left item t a b .choice)
     unfolding goOn
     go-leads left item t true b near = best-local-leads s x valid rooted left item near
     go-leads left item t false true away = sysroot-leads left item _ (langs (x .«prefer_no_std»)) false away (nothing-leads s x)
@@ -447,7 +469,8 @@ module _ (M : Type 0) (charge : Charge M) (s : Snapshot) (x : FindPathCtx) (vali
     unfolding calculateBestPath
     best-leads left item t = after-leads left item (charge _ _ t)
 
-    or-leads : (left m : ℕ) (t : M) (c : Choice) (b : Bool) → Leads s x (moduleItem m) c → Leads s x (moduleItem m) (orCharged M charge s x (bestLocal s x) rec left m t c b .choice)
+    or-leads : (left m : ℕ) (t : M) (c : Choice) (b : Bool) → Leads s x (moduleItem m) c
+        → Leads s x (moduleItem m) (orCharged M charge s x (bestLocal s x) rec left m t c b .choice)
     unfolding orCharged
     or-leads left m t c true f = f
     or-leads left m t c false f = best-leads left (moduleItem m) t
@@ -508,10 +531,13 @@ module _ (M : Type 0) (charge : Charge M) (s : Snapshot) (x : FindPathCtx) (vali
       (short : (item : Item) (c : Choice) → Leads s x item c → Fits s (x .«max_len») c → P item c)
       (within : (item : Item) (t : M) (v : Definition) → variantOf s item ≡ some v → inner (itemOf s types (v .first)) t .choice .found ≡ true
       → P item (pushVariant s (inner (itemOf s types (v .first)) t .choice) v)) where
-    best-path : (item : Item) (t : M) → P item (calculateBestPath M charge s x (bestLocal s x) (searchModule M charge s x) (x .«max_len») item t .choice)
+    best-path : (item : Item) (t : M)
+        → P item (calculateBestPath M charge s x (bestLocal s x) (searchModule M charge s x) (x .«max_len») item t .choice)
     best-path item t =
-        short item _ (best-leads M charge s x valid rooted (searchModule M charge s x) (module-search-leads M charge s x valid rooted) (x .«max_len») item t)
-        (best-within M charge s x (bestLocal s x) (best-local-fits s x) (searchModule M charge s x) (module-search-fits M charge s x) (x .«max_len») some-limit item t)
+        short item _ (best-leads M charge s x valid rooted (searchModule M charge s x) (module-search-leads M charge s x valid rooted)
+        (x .«max_len») item t)
+        (best-within M charge s x (bestLocal s x) (best-local-fits s x) (searchModule M charge s x) (module-search-fits M charge s x)
+        (x .«max_len») some-limit item t)
 
     enum-path : (item : Item) (v : Definition) (o : Out M) (b : Bool) → (b ≡ true → P item (pushVariant s (o .choice) v))
         → P item (afterEnum M charge s x (bestLocal s x) (searchModule M charge s x) item v o b .choice)
@@ -542,7 +568,8 @@ module _ (M : Type 0) (charge : Charge M) (s : Snapshot) (x : FindPathCtx) (vali
     of-path : (m : ℕ) (t : M) (b : Bool) → P (moduleItem m) (ofModule M charge s x (bestLocal s x) (searchModule M charge s x) inner m t b .choice)
     unfolding ofModule
     of-path m t true = by-name-path (moduleItem m) t
-    of-path m t false = short (moduleItem m) _ (module-search-leads M charge s x valid rooted (x .«max_len») m t) (module-search-fits M charge s x (x .«max_len») m t)
+    of-path m t false = short (moduleItem m) _ (module-search-leads M charge s x valid rooted (x .«max_len») m t)
+        (module-search-fits M charge s x (x .«max_len») m t)
 
     inner-path : (item : Item) (t : M) → P item (findPathInner M charge s x (bestLocal s x) (searchModule M charge s x) inner item t .choice)
     unfolding findPathInner
@@ -570,7 +597,8 @@ context-limit : (s : Snapshot) (q : Query) (home : ℕ) → contextOf s q home .
 unfolding contextOf
 context-limit s q home = refl
 
-module _ (M : Type 0) (charge : Charge M) (s : Snapshot) (valid : Valid s) (q : Query) (some-limit : 0 < q .limit) (limit : q .limit ≤ pathLimit) where
+module _ (M : Type 0) (charge : Charge M) (s : Snapshot) (valid : Valid s) (q : Query) (some-limit : 0 < q .limit)
+    (limit : q .limit ≤ pathLimit) where
   abbrev Asked : Choice → Type 0
   Asked c = Paths s (askedContext s q) (askedItem s q) c
 
@@ -615,7 +643,8 @@ allowed : (s : Snapshot) (q : Query) → askedContext s q .«allow_unstable» �
 unfolding contextOf
 allowed s q = refl
 
-searched-routed : (s : Snapshot) → Valid s → (q : Query) (fuel : ℕ) → Allowed q fuel → searched s q fuel .choice .found ≡ true → Routed s q (reported s q (searched s q fuel))
+searched-routed : (s : Snapshot) → Valid s → (q : Query) (fuel : ℕ) → Allowed q fuel → searched s q fuel .choice .found ≡ true
+    → Routed s q (reported s q (searched s q fuel))
 unfolding searched reported
 searched-routed s valid q fuel a e =
     let t : Tank = filled fuel in
@@ -671,7 +700,8 @@ module _ (W : List ℕ) (s : Snapshot) (placed : Placed W s) (x : FindPathCtx) w
   start-shown (scope item e h m q) = by-record viaScope (e .place) (omega arith) (λ z. omega arith) (each-in (placed .scopes) h .head)
   start-shown (prelude item e h q) = by-record viaPrelude (e .place) (omega arith) (λ z. omega arith) (each-in (placed .scopes) h .head)
   start-shown (extern m e h r z q) = by-record viaExtern (e .place) (omega arith) (λ z. omega arith) (each-in (placed .externs) h .head)
-  start-shown (builtin d h q) = by-record viaBuiltin (definitionOf s d .place) (omega arith) (λ z. omega arith) (each-in (placed .definitions) h .head)
+  start-shown (builtin d h q) = by-record viaBuiltin (definitionOf s d .place) (omega arith) (λ z. omega arith)
+      (each-in (placed .definitions) h .head)
 
   step-shown : {m n t : ℕ} {item : Item} → Step s x m n t item → Shown W t
   step-shown (entry e h n o v) = by-record viaLocal (e .place) (omega arith) (λ z. omega arith) (each-in (placed .scopes) h .head)
@@ -683,7 +713,8 @@ module _ (W : List ℕ) (s : Snapshot) (placed : Placed W s) (x : FindPathCtx) w
 
   path-shown : {k : ℕ} {ns ts : List ℕ} {item : Item} → Path s x k ns ts item → Each (Shown W) ts
   path-shown (direct r l) = route-shown r
-  path-shown (variant v h q r l) = each-snoc (route-shown r) (by-record viaVariant (v .place) (omega arith) (λ z. omega arith) (each-in (placed .definitions) h .head))
+  path-shown (variant v h q r l) = each-snoc (route-shown r) (by-record viaVariant (v .place) (omega arith) (λ z. omega arith)
+      (each-in (placed .definitions) h .head))
 
 -- At the place of every step of a found path the words have the head of a record that its rule uses, unless it is a keyword's.
 pub found-shown : (words : List ℕ) (area : ℕ) (q : Question) (s : Snapshot) → verdict words ≡ accept s

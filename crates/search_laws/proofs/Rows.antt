@@ -16,7 +16,8 @@ use Rattle.path_choices.specs.declared.Choice.{Choice}
 use Rattle.find_path.specs.declared.FindPathCtx.{FindPathCtx}
 use Rattle.path_choices.specs.Choices.{nothing, shorterIf, lengthLeft}
 use Rattle.find_path.specs.Walk.{Level, has}
-use Rattle.find_path.specs.Local.{LocalSearch, offerEntry, importableName, location, eachLocation, calculateBestPathLocal, orLocal, findPathForModuleLocal}
+use Rattle.find_path.specs.Local.{LocalSearch, offerEntry, importableName, location, eachLocation, calculateBestPathLocal, orLocal}
+use Rattle.find_path.specs.Local.{findPathForModuleLocal}
 use Rattle.find_path.specs.Search.{searchLocal, bestLocal}
 use Rattle.search_laws.specs.Near.{isSome, isOn, ruled, locations, imports, near}
 use Rattle.search_laws.proofs.Unfold.{length-falls, local-more}
@@ -52,7 +53,8 @@ module _ (s : Snapshot) (x : FindPathCtx) where
       } in
       let (q, f) = location-distance s x l m c j d at h n in
       subst (λ i. searchLocal s x i (only m done) c ≡ searchLocal s x i [] c) (sym q)
-      (tight-off s x l c f (λ _. Unit {0}) (λ _ _ _ _ _ _. tt) (λ _ _ _ _ _ _ _ _. tt) (only m done) (λ _. nearer-off (suc l) l m c done d f (omega arith))
+      (tight-off s x l c f (λ _. Unit {0}) (λ _ _ _ _ _ _. tt) (λ _ _ _ _ _ _ _ _. tt) (only m done)
+      (λ _. nearer-off (suc l) l m c done d f (omega arith))
       (λ i n′ o a _ _. nearer-off (suc l) i m n′ done d a (omega arith))))
       (λ n. far-nothing s x j (only m done) c (far-under s x (only m done) j c n) ∙ sym (far-nothing s x j [] c n))
       (tested (near s x [] j c))
@@ -69,14 +71,16 @@ module _ (s : Snapshot) (x : FindPathCtx) where
     location-row done best c none w i = refl
     location-row done best c (some a) w i =
         let less : lengthLeft (suc l) best < suc l = length-falls (suc l) best (omega arith) in
-        ap (λ (z : Choice). offerEntry s x best z a) (row l m c (lengthLeft (suc l) best) done e (record { taken = w; entry = ap isSome i }) (omega arith))
+        ap (λ (z : Choice). offerEntry s x best z a) (row l m c (lengthLeft (suc l) best) done e (record { taken = w; entry = ap isSome i })
+        (omega arith))
 
     each-row : (done : List ℕ) (best : Choice) (ms : List ℕ) → Within ms (locations s x [] m)
         → eachLocation s x (searchLocal s x) (suc l) [] (moduleItem m) done best ms ≡ eachLocation s x rowOf (suc l) [] (moduleItem m) done best ms
     unfolding eachLocation
     each-row done best [] w = refl
     each-row done best (c ∷ ms) w =
-        ap (λ (z : Choice). eachLocation s x (searchLocal s x) (suc l) [] (moduleItem m) (done ++ (c ∷ [])) z ms) (location-row _ best c _ (w c (has-first c ms)) refl)
+        ap (λ (z : Choice). eachLocation s x (searchLocal s x) (suc l) [] (moduleItem m) (done ++ (c ∷ [])) z ms)
+        (location-row _ best c _ (w c (has-first c ms)) refl)
         ∙ each-row (done ++ (c ∷ [])) _ ms (λ n h. w n (has-later c ms n h))
 
     -- The answer of a round is the loop over the answers of the rounds before.
@@ -99,14 +103,16 @@ module _ (s : Snapshot) (x : FindPathCtx) where
 
   -- a loop finds if one of its locations does, whatever the best is there
   each-finds : (rec : LocalSearch) (left : ℕ) (ls : List Level) (item : Item) (done : List ℕ) (best : Choice) (ms : List ℕ) (c : ℕ) → has ms c ≡ true
-      → ((done′ : List ℕ) (best′ : Choice) → location s x rec left (record { item = item; modules = done′ } ∷ ls) best′ c (importableName s x item c) .found ≡ true)
+      → ((done′ : List ℕ) (best′ : Choice) → location s x rec left (record { item = item; modules = done′ } ∷ ls) best′ c
+      (importableName s x item c) .found ≡ true)
       → eachLocation s x rec left ls item done best ms .found ≡ true
   unfolding eachLocation
   each-finds rec left ls item done best [] c w hit = absurd (false≢true (sym (has-none c) ∙ w))
   each-finds rec left ls item done best (n ∷ ms) c w hit =
       ⊎-elim
       (λ q. each-keeps rec left ls item _ _ ms
-      (subst (λ z. location s x rec left (record { item = item; modules = done ++ (n ∷ []) } ∷ ls) best z (importableName s x item z) .found ≡ true) (eqb-true c n q) (hit _ best)))
+      (subst (λ z. location s x rec left (record { item = item; modules = done ++ (n ∷ []) } ∷ ls) best z (importableName s x item z) .found ≡ true)
+      (eqb-true c n q) (hit _ best)))
       (λ q. each-finds rec left ls item _ _ ms c q hit)
       (either (eqb c n) (has ms c) (sym (has-cons n ms c) ∙ w))
 
@@ -125,9 +131,11 @@ module _ (s : Snapshot) (x : FindPathCtx) where
     loop-finds : (m : ℕ) → Location s x [] m c → calculateBestPathLocal s x rowOf (suc l) [] (moduleItem m) .found ≡ true
     unfolding calculateBestPathLocal imports
     loop-finds m at =
-        each-finds rowOf (suc l) [] (moduleItem m) [] nothing _ c (at .taken) (λ done best. location-finds _ best (importableName s x (moduleItem m) c) (at .entry) _ refl)
+        each-finds rowOf (suc l) [] (moduleItem m) [] nothing _ c (at .taken)
+        (λ done best. location-finds _ best (importableName s x (moduleItem m) c) (at .entry) _ refl)
 
-  rule-found : (rec : LocalSearch) (left : ℕ) (ls : List Level) (m : ℕ) (c : Choice) (f : Bool) → c .found ≡ f → f ≡ true → orLocal s x rec left ls m c f .found ≡ true
+  rule-found : (rec : LocalSearch) (left : ℕ) (ls : List Level) (m : ℕ) (c : Choice) (f : Bool) → c .found ≡ f → f ≡ true
+      → orLocal s x rec left ls m c f .found ≡ true
   unfolding orLocal
   rule-found rec left ls m c true e h = e
   rule-found rec left ls m c false e h = absurd (false≢true h)
@@ -144,7 +152,8 @@ module _ (s : Snapshot) (x : FindPathCtx) where
       λ r. ap (λ (z : Choice). z .found) (local-more s x (suc l) [] m) ∙ rule-found (searchLocal s x) (suc l) [] m _ _ refl r in
       ⊎-elim by-rule
       (λ (c, at, n). ⊎-elim by-rule
-      (λ r. ap (λ (z : Choice). z .found) (rows l m (below-far l m d) r) ∙ loop-finds l c (near-found l c (location-distance s x l m c l d at (omega arith) n .1)) m at)
+      (λ r. ap (λ (z : Choice). z .found) (rows l m (below-far l m d) r)
+      ∙ loop-finds l c (near-found l c (location-distance s x l m c l d at (omega arith) n .1)) m at)
       (tested (ruled s x m)))
       (near-cases s x [] l m (d .reached))
 

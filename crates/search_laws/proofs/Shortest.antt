@@ -36,7 +36,8 @@ unfolding leastOf
 least-holds p zero h = h
 least-holds p (suc k) h = by (p zero) refl (least-holds (λ j. p (suc j)) k h)
   where
-    by : (b : Bool) → p zero ≡ b → p (suc (leastOf (λ j. p (suc j)) k)) ≡ true → p (elim b [ true ↦ zero | false ↦ suc (leastOf (λ j. p (suc j)) k) ]) ≡ true
+    by : (b : Bool) → p zero ≡ b → p (suc (leastOf (λ j. p (suc j)) k)) ≡ true
+        → p (elim b [ true ↦ zero | false ↦ suc (leastOf (λ j. p (suc j)) k) ]) ≡ true
     by true e i = e
     by false e i = i
 
@@ -87,7 +88,8 @@ module _ (s : Snapshot) (x : FindPathCtx) where
   within-step : (j m c : ℕ) → ruled s x m ≡ false → Location s x [] m c → within j c ≡ true → within (suc j) m ≡ true
   unfolding within
   within-step j m c f at h =
-      or-right (byRule (suc j) m) _ (and-both _ _ (ap not f) (one-any (λ n. imports s x m n && within j n) _ c (at .taken) (and-both _ _ (at .entry) h)))
+      or-right (byRule (suc j) m) _ (and-both _ _ (ap not f) (one-any (λ n. imports s x m n && within j n) _ c (at .taken)
+      (and-both _ _ (at .entry) h)))
 
   within-cases : (j m : ℕ) → ruled s x m ≡ false → within j m ≡ true → (i c : ℕ) × (j ≡ suc i) × Location s x [] m c × (within i c ≡ true)
   unfolding within
@@ -159,7 +161,8 @@ module _ (s : Snapshot) (x : FindPathCtx) where
 
       floor-step : (done : List ℕ) (best : Choice) (c : ℕ) → has done c ≡ false → has (locations s x [] m) c ≡ true
           → FloorIf done best
-          → FloorIf (done ++ (c ∷ [])) (location s x rec (suc l) (record { item = moduleItem m; modules = done ++ (c ∷ []) } ∷ ls) best c (importableName s x (moduleItem m) c))
+          → FloorIf (done ++ (c ∷ [])) (location s x rec (suc l) (record { item = moduleItem m; modules = done ++ (c ∷ []) } ∷ ls)
+          best c (importableName s x (moduleItem m) c))
       unfolding imports push
       floor-step done best c new in′ k =
           location-by s x (FloorIf done) rec (suc l) _ best c (importableName s x (moduleItem m) c) k
@@ -172,12 +175,15 @@ module _ (s : Snapshot) (x : FindPathCtx) where
           select-by s x (FloorIf done) best _ (e .name) _ (λ _ _. rw extended-len (omega arith))
           (λ _ _ _. rw extended-len (omega arith)) (λ z _ _. k z))
 
-      loop-floor : calculateBestPathLocal s x rec (suc l) ls (moduleItem m) .found ≡ true → L m + shift s x ≤ pathLen (calculateBestPathLocal s x rec (suc l) ls (moduleItem m))
+      loop-floor : calculateBestPathLocal s x rec (suc l) ls (moduleItem m) .found ≡ true → L m + shift s x ≤ pathLen
+          (calculateBestPathLocal s x rec (suc l) ls (moduleItem m))
       unfolding calculateBestPathLocal
       loop-floor f =
-          each-by s x FloorIf rec (suc l) ls (moduleItem m) _ [] nothing _ floor-step (fewer-locations s x ls m) (locations-once s (x .from .0) _) (λ o. absurd (false≢true o)) f
+          each-by s x FloorIf rec (suc l) ls (moduleItem m) _ [] nothing _ floor-step (fewer-locations s x ls m)
+          (locations-once s (x .from .0) _) (λ o. absurd (false≢true o)) f
 
-    or-floor : (rec : LocalSearch) → Sound s x rec → Floored rec → (l : ℕ) → suc l ≤ most → (ls : List Level) (m : ℕ) → E m → (f : Bool) → ruled s x m ≡ f
+    or-floor : (rec : LocalSearch) → Sound s x rec → Floored rec → (l : ℕ) → suc l ≤ most → (ls : List Level) (m : ℕ) → E m
+        → (f : Bool) → ruled s x m ≡ f
         → orLocal s x rec (suc l) ls m (moduleRules s x false m) f .found ≡ true
         → L m + shift s x ≤ pathLen (orLocal s x rec (suc l) ls m (moduleRules s x false m) f)
     unfolding orLocal

@@ -7,7 +7,7 @@ use mathlib.Core.Bool.{Bool, true, false, true≢false}
 use mathlib.Core.Option.{Option, none, some}
 use Rattle.snapshot.specs.Records.{Snapshot, Dependency, Definition, Import}
 use Rattle.hir_def.specs.Items.{types, itemOf, moduleItem}
-use Rattle.hir_def.specs.Nameres.{dependenciesOf, langOf, sysrootFirst}
+use Rattle.hir_def.specs.Nameres.{langOf, sysrootFirst}
 use Rattle.hir_def.specs.ImportMap.{importInfoFor}
 use Rattle.hir_def.specs.declared.Item.{Item}
 use Rattle.hir_def.specs.declared.Item.the-variants.{Mod, Def}
@@ -17,7 +17,9 @@ use Rattle.find_path.specs.declared.FindPathCtx.{FindPathCtx}
 use Rattle.find_path.specs.declared.Query.{Query}
 use Rattle.find_path.specs.Rules.{contextOf}
 use Rattle.find_path.specs.Meters.{Charged, Charge, go, drained, draw, fromTank}
-use Rattle.find_path.specs.Charged.{Out, Search, Inner, isStable, langs, oneOrNone, variantOf, offerImport, findImport, findImports, findInDep, findInDeps, findInSysroot, goOn, afterCharge, calculateBestPath, orCharged, findPathForModule, afterEnum, viaEnum, orEnum, byName, ofModule, findPathInner}
+use Rattle.find_path.specs.Charged.{Out, Search, Inner, isStable, langs, oneOrNone, variantOf, offerImport, findImport, findImports, findInDep}
+use Rattle.find_path.specs.Charged.{findInDeps, findInSysroot, goOn, afterCharge, calculateBestPath, orCharged, findPathForModule, afterEnum, viaEnum}
+use Rattle.find_path.specs.Charged.{orEnum, byName, ofModule, findPathInner}
 use Rattle.find_path.specs.Search.{bestLocal, moduleTo, searchModule, itemTo, searchItem, fromHome, fromItem, findPath}
 use Rattle.search_laws.proofs.Keeps.{left-by, KeptBy, sysroot-keeps, go-keeps, enum-keeps, moduleTo-keeps, module-search-keeps}
 
@@ -57,7 +59,13 @@ drained-first F left sought t false h k = record { none-left = refl; all-spent =
 
 drained-dry : (F l m left sought : ℕ) (t : Tank) (e : Bool) → e ≡ true → Dry F l m t → Dry F l m (drained left sought t e)
 unfolding drained
-drained-dry F l m left sought t true e h = record { none-left = refl; all-spent = h .all-spent; said = refl; left-is = h .left-is; sought-is = h .sought-is }
+drained-dry F l m left sought t true e h = record {
+  none-left = refl;
+  all-spent = h .all-spent;
+  said = refl;
+  left-is = h .left-is;
+  sought-is = h .sought-is;
+}
 drained-dry F l m left sought t false e h = absurd (true≢false (sym e))
 
 draw-dry : (F l m left sought : ℕ) (t : Tank) (f : ℕ) → f ≡ 0 → Dry F l m t → Dry F l m (left-by (draw left sought t f))
@@ -86,7 +94,8 @@ module _ (C : Type 0) (charge : Charge C) (size : C → ℕ) (Past : ℕ → ℕ
     module _ (x : FindPathCtx) (here : ℕ → Item → Choice) (rt : Search Tank) (rc : Search C)
         (kt : (l m : ℕ) → KeptBy (Dry F l m) rt) (kc : (l m : ℕ) → KeptBy (Past F l m) rc) (al : Alike F rt rc) where
       offered : (a : Choice) (i : Import) (p : Out Tank) (q : Out C) → Both F p q
-          → Both F (record { choice = offerImport s x a (p .choice) i; meter = p .meter }) (record { choice = offerImport s x a (q .choice) i; meter = q .meter })
+          → Both F (record { choice = offerImport s x a (p .choice) i; meter = p .meter })
+          (record { choice = offerImport s x a (q .choice) i; meter = q .meter })
       offered a i p q (same e h) = same (cc) h
       offered a i p q (dry l′ m′ d o) = dry l′ m′ d o
 
@@ -95,7 +104,8 @@ module _ (C : Type 0) (charge : Charge C) (size : C → ℕ) (Past : ℕ → ℕ
       unfolding findImport
       import-sim left a c i true h = h
       import-sim left a c i false (same e h) =
-          subst (λ (z : Choice). Both F (findImport Tank fromTank s x here rt left a i false) (findImport C charge s x here rc left (record { choice = z; meter = c .meter }) i false)) e
+          subst (λ (z : Choice). Both F (findImport Tank fromTank s x here rt left a i false)
+          (findImport C charge s x here rc left (record { choice = z; meter = c .meter }) i false)) e
           (offered (a .choice) i _ _ (al _ (i .container) (a .meter) (c .meter) h))
       import-sim left a c i false (dry l′ m′ d o) =
           dry l′ m′ (kt l′ m′ _ (i .container) (a .meter) d) (kc l′ m′ _ (i .container) (c .meter) o)
@@ -114,11 +124,14 @@ module _ (C : Type 0) (charge : Charge C) (size : C → ℕ) (Past : ℕ → ℕ
 
       -- on to the next language, if the choice is not stable
       sysroot-next : (left : ℕ) (item : Item) (ls : List ℕ) (a : Out Tank) (c : Out C)
-          → ((b : Bool) → Both F a c → Both F (findInSysroot Tank fromTank s x here rt left item a ls b) (findInSysroot C charge s x here rc left item c ls b))
+          → ((b : Bool) → Both F a c → Both F (findInSysroot Tank fromTank s x here rt left item a ls b)
+          (findInSysroot C charge s x here rc left item c ls b))
           → Both F a c
-          → Both F (findInSysroot Tank fromTank s x here rt left item a ls (isStable (a .choice))) (findInSysroot C charge s x here rc left item c ls (isStable (c .choice)))
+          → Both F (findInSysroot Tank fromTank s x here rt left item a ls (isStable (a .choice)))
+          (findInSysroot C charge s x here rc left item c ls (isStable (c .choice)))
       sysroot-next left item ls a c go-on (same e h) =
-          subst (λ (b : Bool). Both F (findInSysroot Tank fromTank s x here rt left item a ls b) (findInSysroot C charge s x here rc left item c ls (isStable (c .choice))))
+          subst (λ (b : Bool). Both F (findInSysroot Tank fromTank s x here rt left item a ls b)
+          (findInSysroot C charge s x here rc left item c ls (isStable (c .choice))))
           (ap isStable (sym e)) (go-on (isStable (c .choice)) (same e h))
       sysroot-next left item ls a c go-on (dry l′ m′ d o) =
           dry l′ m′ (sysroot-keeps Tank fromTank s (Dry F l′ m′) (dry-stays F l′ m′) x here rt (kt l′ m′) left item a ls (isStable (a .choice)) d)
@@ -131,7 +144,8 @@ module _ (C : Type 0) (charge : Charge C) (size : C → ℕ) (Past : ℕ → ℕ
       sysroot-sim left item a c [] false h = deps-sim left item a c (sysrootFirst s (x .«from_crate» .0)) h
       sysroot-sim left item a c (l ∷ ls) true h = h
       sysroot-sim left item a c (l ∷ ls) false h =
-          sysroot-next left item ls _ _ (λ b k. sysroot-sim left item _ _ ls b k) (deps-sim left item a c (oneOrNone (langOf s (x .«from_crate» .0) l)) h)
+          sysroot-next left item ls _ _ (λ b k. sysroot-sim left item _ _ ls b k)
+          (deps-sim left item a c (oneOrNone (langOf s (x .«from_crate» .0) l)) h)
 
       go-sim : (left : ℕ) (item : Item) (t : Tank) (n : C) (a b : Bool) → Sync F t (size n)
           → Both F (goOn Tank fromTank s x here rt left item t a b) (goOn C charge s x here rc left item n a b)
@@ -143,12 +157,14 @@ module _ (C : Type 0) (charge : Charge C) (size : C → ℕ) (Past : ℕ → ℕ
       go-on : (left : ℕ) (item : Item) → Charged C → Out C
       go-on left item = afterCharge C charge s x here rc left item
 
-      draw-sim : (t : Tank) (l : ℕ) (n : C) (left sought : ℕ) (item : Item) → t .spent ≡ size n → l + size n ≡ F → t .empty ≡ false → t .left ≡ 0 → t .sought ≡ 0
+      draw-sim : (t : Tank) (l : ℕ) (n : C) (left sought : ℕ) (item : Item) → t .spent ≡ size n → l + size n ≡ F → t .empty ≡ false
+          → t .left ≡ 0 → t .sought ≡ 0
           → Both F (afterCharge Tank fromTank s x here rt left item (draw left sought t l)) (go-on left item (go (free .next left sought n)))
       unfolding draw afterCharge go-on
       draw-sim t zero n left sought item hs hl he hn hm =
           dry left sought (drained-first F left sought t (t .empty) he (omega arith))
-          (go-keeps C charge s (Past F left sought) (past-stays F left sought) x here rc (kc left sought) left item _ _ _ (free .meets F left sought n (omega arith)))
+          (go-keeps C charge s (Past F left sought) (past-stays F left sought) x here rc (kc left sought) left item _ _ _
+          (free .meets F left sought n (omega arith)))
       draw-sim t (suc l) n left sought item hs hl he hn hm =
           let g = free .grows left sought n in
           go-sim left item _ _ _ _ (record { spent-is = omega arith; rest = omega arith; silent = he; no-left = hn; no-sought = hm })
@@ -216,7 +232,8 @@ module _ (C : Type 0) (charge : Charge C) (size : C → ℕ) (Past : ℕ → ℕ
       moduleTo-sim zero left m t n h = same refl h
       moduleTo-sim (suc d) left m t n h =
           module-sim x (bestLocal s x) (moduleTo Tank fromTank s x d) (moduleTo C charge s x d)
-          (λ l m. moduleTo-keeps Tank fromTank s (Dry F l m) (dry-stays F l m) x d) (λ l m. moduleTo-keeps C charge s (Past F l m) (past-stays F l m) x d)
+          (λ l m. moduleTo-keeps Tank fromTank s (Dry F l m) (dry-stays F l m) x d) (λ l m. moduleTo-keeps C charge s (Past F l m)
+          (past-stays F l m) x d)
           (moduleTo-sim d) left m t n h
 
       module-search-sim : Alike F (searchModule Tank fromTank s x) (searchModule C charge s x)
@@ -228,7 +245,8 @@ module _ (C : Type 0) (charge : Charge C) (size : C → ℕ) (Past : ℕ → ℕ
       itemTo-sim zero item t n h = same refl h
       itemTo-sim (suc d) item t n h =
           item-sim x (bestLocal s x) (searchModule Tank fromTank s x) (searchModule C charge s x)
-          (λ l m. module-search-keeps Tank fromTank s (Dry F l m) (dry-stays F l m) x) (λ l m. module-search-keeps C charge s (Past F l m) (past-stays F l m) x)
+          (λ l m. module-search-keeps Tank fromTank s (Dry F l m) (dry-stays F l m) x)
+          (λ l m. module-search-keeps C charge s (Past F l m) (past-stays F l m) x)
           module-search-sim (itemTo Tank fromTank s x d) (itemTo C charge s x d) (itemTo-sim d) item t n h
 
     home-sim : (q : Query) (item : Item) (t : Tank) (n : C) (h : ℕ) → Sync F t (size n)

@@ -49,14 +49,21 @@ module _ (s : Snapshot) (x : FindPathCtx) where
   last-round M goes k still zero m w e = absurd (false≢true e)
   last-round M goes k still (suc j) m w e =
       still m w
-      (⊎-elim (λ r. near-rule s x [] k m r) (λ (c, at, n). near-step s x [] k m c at (last-round M goes k still j c (goes m c w at) n)) (near-cases s x [] j m e))
+      (⊎-elim (λ r. near-rule s x [] k m r) (λ (c, at, n). near-step s x [] k m c at (last-round M goes k still j c (goes m c w at) n))
+      (near-cases s x [] j m e))
 
   -- of the locations of a module only those are near in time that are one step nearer
   pub location-distance : (l m c j : ℕ) → Distance (suc l) m → Location s x [] m c → j ≤ l → near s x [] j c ≡ true → (j ≡ l) × Distance l c
   location-distance l m c j d at h n =
       let k = d .least (suc j) (near-step s x [] j m c at n) in
-      let e : j ≡ l = le-antisymm h (omega arith) in
-      (e, record { reached = subst (λ i. near s x [] i c ≡ true) e n; least = λ i o. let q = d .least (suc i) (near-step s x [] i m c at o) in omega arith })
+      let e : j ≡ l = le-antisymm h (omega arith) in (
+        e,
+        record {
+          reached = subst (λ i. near s x [] i c ≡ true) e n;
+          least = λ i o. let q = d .least (suc i)
+              (near-step s x [] i m c at o) in omega arith;
+        },
+      )
 
   -- Q holds of what a search for m comes to when its length left is the distance of m
   module _ (k m : ℕ) (d : Distance k m) (Q : ℕ → Type 0)

@@ -16,7 +16,7 @@ use Rattle.accept.specs.Valid.{Each, more, ImportFits, Ranges}
 use Rattle.accept.proofs.Accepted.{by-test}
 use Rattle.accept.proofs.Ranges.{accepted-ranges}
 use Rattle.hir_def.specs.Items.{types, moduleKind, definitionOf, itemOf, moduleItem}
-use Rattle.hir_def.specs.Nameres.{dependenciesOf, langOf, sysrootFirst}
+use Rattle.hir_def.specs.Nameres.{langOf, sysrootFirst}
 use Rattle.hir_def.specs.ImportMap.{importInfoFor}
 use Rattle.hir_def.specs.declared.Item.{Item}
 use Rattle.hir_def.specs.declared.Item.the-variants.{Mod, Def}
@@ -26,7 +26,9 @@ use Rattle.find_path.specs.declared.FindPathCtx.{FindPathCtx}
 use Rattle.find_path.specs.declared.Query.{Query}
 use Rattle.find_path.specs.Rules.{contextOf, moduleIn, soughtOf}
 use Rattle.find_path.specs.Meters.{Charged, go, stop, drained, draw, fromTank, filled}
-use Rattle.find_path.specs.Charged.{Out, Search, Inner, langs, oneOrNone, variantOf, findImport, findImports, findInDep, findInDeps, findInSysroot, goOn, afterCharge, calculateBestPath, orCharged, findPathForModule, afterEnum, viaEnum, orEnum, byName, ofModule, findPathInner}
+use Rattle.find_path.specs.Charged.{Out, Search, Inner, langs, oneOrNone, variantOf, findImport, findImports, findInDep, findInDeps, findInSysroot}
+use Rattle.find_path.specs.Charged.{goOn, afterCharge, calculateBestPath, orCharged, findPathForModule, afterEnum, viaEnum, orEnum, byName, ofModule}
+use Rattle.find_path.specs.Charged.{findPathInner}
 use Rattle.find_path.specs.Search.{bestLocal, moduleTo, searchModule, itemTo, searchItem, fromHome, fromItem, findPath}
 use Rattle.find_path.specs.Report.{searched}
 use Rattle.search_laws.proofs.Keeps.{left-by}
@@ -85,11 +87,13 @@ module _ (s : Snapshot) (r : Ranges (countsOf s) s) where
 
   module _ (x : FindPathCtx) (here : ℕ → Item → Choice) (rec : Search Tank) (known : ToldBy rec) where
     module _ (left : ℕ) (some-left : 0 < left) (limit : left ≤ pathLimit) where
-      import-told : (o : Out Tank) (i : Import) (b : Bool) → ImportFits (countsOf s) i → Keeps (o .meter) → Keeps (findImport Tank fromTank s x here rec left o i b .meter)
+      import-told : (o : Out Tank) (i : Import) (b : Bool) → ImportFits (countsOf s) i → Keeps (o .meter)
+          → Keeps (findImport Tank fromTank s x here rec left o i b .meter)
       unfolding findImport
       import-told o i true h f = f
       import-told o i false h f =
-          known _ (i .container) (o .meter) (omega (arith, limit, length-falls left (o .choice) some-left)) (module-inside (i .container) (h .container)) f
+          known _ (i .container) (o .meter) (omega (arith, limit, length-falls left (o .choice) some-left))
+          (module-inside (i .container) (h .container)) f
 
       imports-told : (o : Out Tank) {is : List Import} → Each (ImportFits (countsOf s)) is → Keeps (o .meter)
           → Keeps (findImports Tank fromTank s x here rec left o is .meter)
@@ -97,12 +101,14 @@ module _ (s : Snapshot) (r : Ranges (countsOf s) s) where
       imports-told o Each.none f = f
       imports-told o (more {x = i} h hs) f = imports-told _ hs (import-told o i _ h f)
 
-      deps-told : (item : Item) (o : Out Tank) (ds : List Dependency) → Keeps (o .meter) → Keeps (findInDeps Tank fromTank s x here rec left item o ds .meter)
+      deps-told : (item : Item) (o : Out Tank) (ds : List Dependency) → Keeps (o .meter)
+          → Keeps (findInDeps Tank fromTank s x here rec left item o ds .meter)
       unfolding findInDeps findInDep importInfoFor
       deps-told item o [] f = f
       deps-told item o (d ∷ ds) f = deps-told item _ ds (imports-told o (each-select _ (r .imports)) f)
 
-      sysroot-told : (item : Item) (o : Out Tank) (ls : List ℕ) (b : Bool) → Keeps (o .meter) → Keeps (findInSysroot Tank fromTank s x here rec left item o ls b .meter)
+      sysroot-told : (item : Item) (o : Out Tank) (ls : List ℕ) (b : Bool) → Keeps (o .meter)
+          → Keeps (findInSysroot Tank fromTank s x here rec left item o ls b .meter)
       unfolding findInSysroot
       sysroot-told item o [] true f = f
       sysroot-told item o [] false f = deps-told item o (sysrootFirst s (x .«from_crate» .0)) f
@@ -145,12 +151,14 @@ module _ (s : Snapshot) (r : Ranges (countsOf s) s) where
       enum-told item v o true h f = f
       enum-told item v o false h f = item-best item (o .meter) h f
 
-      via-told : (item : Item) (t : Tank) (v : Option Definition) → Inside item → Keeps t → Keeps (viaEnum Tank fromTank s x here rec inner item t v .meter)
+      via-told : (item : Item) (t : Tank) (v : Option Definition) → Inside item → Keeps t
+          → Keeps (viaEnum Tank fromTank s x here rec inner item t v .meter)
       unfolding viaEnum
       via-told item t none h f = item-best item t h f
       via-told item t (some v) h f = enum-told item v _ _ h (within (itemOf s types (v .first)) t (item-inside types (v .first)) f)
 
-      named-told : (item : Item) (t : Tank) (c : Choice) (b : Bool) → Inside item → Keeps t → Keeps (orEnum Tank fromTank s x here rec inner item t c b .meter)
+      named-told : (item : Item) (t : Tank) (c : Choice) (b : Bool) → Inside item → Keeps t
+          → Keeps (orEnum Tank fromTank s x here rec inner item t c b .meter)
       unfolding orEnum
       named-told item t c true h f = f
       named-told item t c false h f = via-told item t (variantOf s item) h f
@@ -179,7 +187,8 @@ module _ (s : Snapshot) (r : Ranges (countsOf s) s) where
     unfolding itemTo
     itemTo-told zero item t h f = f
     itemTo-told (suc d) item t h f =
-        item-told x (bestLocal s x) (searchModule Tank fromTank s x) module-search-told some-limit limit (itemTo Tank fromTank s x d) (itemTo-told d) item t h f
+        item-told x (bestLocal s x) (searchModule Tank fromTank s x) module-search-told some-limit limit (itemTo Tank fromTank s x d)
+        (itemTo-told d) item t h f
 
   module _ (q : Query) (p : 0 < q .limit) (l : q .limit ≤ pathLimit) where
     home-told : (item : Item) (t : Tank) (h : ℕ) → Inside item → Keeps t → Keeps (fromHome Tank fromTank s q item t h .meter)
@@ -200,4 +209,5 @@ module _ (s : Snapshot) (r : Ranges (countsOf s) s) where
 pub searched-told : (words : List ℕ) (s : Snapshot) → verdict words ≡ accept s → (q : Query) → 0 < q .limit → q .limit ≤ pathLimit
     → (fuel : ℕ) → Told (length (s .modules)) (searched s q fuel .meter)
 unfolding searched filled
-searched-told words s e q p l fuel = search-told s (accepted-ranges words s e) q p l (filled fuel) (record { left = omega arith; sought = omega arith })
+searched-told words s e q p l fuel = search-told s (accepted-ranges words s e) q p l (filled fuel)
+    (record { left = omega arith; sought = omega arith })

@@ -1,13 +1,13 @@
 -- The depth hidden: each search is its rule over itself. No later proof names a depth.
 use mathlib.Core.Path.{_≡_, refl, ap, sym, _∙_}
-use Prim.Native.Nat.{ℕ, zero, suc, _+_, _-_, _≤_, _<_}
+use Prim.Native.Nat.{ℕ, zero, suc, _≤_, _<_}
 use native.Mathlib.Omega.{arith}
 use mathlib.Core.List.{List, [], _∷_, _++_}
 use mathlib.Core.Bool.{Bool, true, false}
 use mathlib.Core.Option.{Option, none, some}
 use Rattle.snapshot.specs.Records.{Snapshot, Scope, Dependency, Definition, Import}
 use Rattle.hir_def.specs.Items.{types, itemOf, moduleItem}
-use Rattle.hir_def.specs.Nameres.{dependenciesOf, langOf, sysrootFirst}
+use Rattle.hir_def.specs.Nameres.{langOf, sysrootFirst}
 use Rattle.hir_def.specs.ImportMap.{importInfoFor}
 use Rattle.hir_def.specs.declared.Item.{Item}
 use Rattle.hir_def.specs.declared.Item.the-variants.{Mod, Def}
@@ -15,9 +15,12 @@ use Rattle.path_choices.specs.declared.Choice.{Choice}
 use Rattle.find_path.specs.declared.FindPathCtx.{FindPathCtx}
 use Rattle.path_choices.specs.Choices.{nothing, pathLen, shorterIf, lengthLeft}
 use Rattle.find_path.specs.Walk.{Level}
-use Rattle.find_path.specs.Local.{LocalSearch, offerEntry, importableName, location, eachLocation, calculateBestPathLocal, orLocal, findPathForModuleLocal}
+use Rattle.find_path.specs.Local.{LocalSearch, offerEntry, importableName, location, eachLocation, calculateBestPathLocal, orLocal}
+use Rattle.find_path.specs.Local.{findPathForModuleLocal}
 use Rattle.find_path.specs.Meters.{Charged, go, stop, Charge}
-use Rattle.find_path.specs.Charged.{Out, Search, Inner, isStable, langs, oneOrNone, variantOf, offerImport, findImport, findImports, findInDep, findInDeps, findInSysroot, goOn, afterCharge, calculateBestPath, orCharged, findPathForModule, afterEnum, viaEnum, orEnum, byName, ofModule, findPathInner}
+use Rattle.find_path.specs.Charged.{Out, Search, Inner, isStable, langs, oneOrNone, variantOf, offerImport, findImport, findImports, findInDep}
+use Rattle.find_path.specs.Charged.{findInDeps, findInSysroot, goOn, afterCharge, calculateBestPath, orCharged, findPathForModule, afterEnum, viaEnum}
+use Rattle.find_path.specs.Charged.{orEnum, byName, ofModule, findPathInner}
 use Rattle.find_path.specs.Search.{localTo, searchLocal, bestLocal, moduleTo, searchModule, itemTo, searchItem}
 
 -- The length left for a step is smaller.
@@ -103,7 +106,8 @@ module _ (M : Type 0) (charge : Charge M) (s : Snapshot) (x : FindPathCtx) where
     imports-same o (i ∷ is) =
         ap (λ (r : Out M). findImports M charge s x here f left r is) (import-same o i _) ∙ imports-same _ is
 
-    deps-same : (item : Item) (o : Out M) (ds : List Dependency) → findInDeps M charge s x here f left item o ds ≡ findInDeps M charge s x here g left item o ds
+    deps-same : (item : Item) (o : Out M) (ds : List Dependency) → findInDeps M charge s x here f left item o ds
+        ≡ findInDeps M charge s x here g left item o ds
     unfolding findInDeps findInDep
     deps-same item o [] = refl
     deps-same item o (d ∷ ds) =
@@ -116,7 +120,8 @@ module _ (M : Type 0) (charge : Charge M) (s : Snapshot) (x : FindPathCtx) where
     sysroot-same item o [] false = deps-same item o (sysrootFirst s (x .«from_crate» .0))
     sysroot-same item o (l ∷ ls) true = refl
     sysroot-same item o (l ∷ ls) false =
-        ap (λ (r : Out M). findInSysroot M charge s x here f left item r ls (isStable (r .choice))) (deps-same item o (oneOrNone (langOf s (x .«from_crate» .0) l)))
+        ap (λ (r : Out M). findInSysroot M charge s x here f left item r ls (isStable (r .choice)))
+        (deps-same item o (oneOrNone (langOf s (x .«from_crate» .0) l)))
         ∙ sysroot-same item _ ls _
 
     go-same : (item : Item) (t : M) (a b : Bool) → goOn M charge s x here f left item t a b ≡ goOn M charge s x here g left item t a b
@@ -163,7 +168,8 @@ module _ (M : Type 0) (charge : Charge M) (s : Snapshot) (x : FindPathCtx) where
   -- where the two searches for the enum agree, so do those for the item
   module _ (here : ℕ → Item → Choice) (rec : Search M) (f g : Inner M) (item : Item)
       (agree : (v : Definition) (t : M) → variantOf s item ≡ some v → f (itemOf s types (v .first)) t ≡ g (itemOf s types (v .first)) t) where
-    via-same : (t : M) (v : Option Definition) → variantOf s item ≡ v → viaEnum M charge s x here rec f item t v ≡ viaEnum M charge s x here rec g item t v
+    via-same : (t : M) (v : Option Definition) → variantOf s item ≡ v → viaEnum M charge s x here rec f item t v
+        ≡ viaEnum M charge s x here rec g item t v
     unfolding viaEnum
     via-same t none e = refl
     via-same t (some v) e =

@@ -1,12 +1,10 @@
 -- The local search with one set that is changed and given back answers as the one that passes its pairs down.
-use mathlib.Core.Path.{_≡_, refl, ap, ap₂, sym, _∙_}
-use Prim.Native.Nat.{ℕ, zero, suc, _+_, _≤_}
-use native.Mathlib.Omega.{arith}
+use mathlib.Core.Path.{_≡_, refl, ap, sym, _∙_}
+use Prim.Native.Nat.{ℕ, zero, suc}
 use mathlib.Core.List.{List, [], _∷_, _++_, append-nil}
 use mathlib.Core.Bool.{Bool, true, false, _&&_, _||_, not, false≢true}
 use mathlib.Core.Option.{Option, none, some}
 use lib.Dec.{eqb}
-use lib.ListN.{length}
 use lib.Seq.{append-snoc}
 use borrow.Author.Tests.{eq-eqb, eqb-true}
 use Rattle.snapshot.specs.Lists.{any}
@@ -18,12 +16,13 @@ use Rattle.hir_def.specs.declared.Item.{Item}
 use Rattle.hir_def.specs.declared.Item.the-variants.{Mod, Def}
 use Rattle.path_choices.specs.declared.Choice.{Choice}
 use Rattle.find_path.specs.declared.FindPathCtx.{FindPathCtx}
-use Rattle.path_choices.specs.Choices.{nothing, lengthLeft}
-use Rattle.find_path.specs.Walk.{Level, has, visited, startFrom, leadsTo, unmet, walk, findLocalImportLocations}
-use Rattle.find_path.specs.Rules.{moduleRules}
-use Rattle.find_path.specs.Local.{LocalSearch, offerEntry, importableName, location, eachLocation, calculateBestPathLocal, orLocal, findPathForModuleLocal}
+use Rattle.path_choices.specs.Choices.{nothing}
+use Rattle.find_path.specs.Walk.{Level, has, visited, startFrom, leadsTo, unmet, walk}
+use Rattle.find_path.specs.Local.{LocalSearch, offerEntry, importableName, location, eachLocation, calculateBestPathLocal, orLocal}
+use Rattle.find_path.specs.Local.{findPathForModuleLocal}
 use Rattle.find_path.specs.Search.{localTo, searchLocal, bestLocal}
-use Rattle.search_laws.specs.Visited.{Pairs, noPairs, insert, remove, removeAll, Handed, SetSearch, callback, worklist, bestInSet, orInSet, moduleInSet, setTo, searchInSet, OneSet, Enough}
+use Rattle.search_laws.specs.Visited.{Pairs, noPairs, insert, remove, removeAll, Handed, SetSearch, callback, worklist, bestInSet, orInSet}
+use Rattle.search_laws.specs.Visited.{moduleInSet, setTo, searchInSet, OneSet, Enough}
 use Rattle.read_back.proofs.Exact.{same-item}
 use Rattle.search_laws.proofs.Walks.{has-snoc, locations-more}
 
@@ -178,8 +177,13 @@ module _ (s : Snapshot) (x : FindPathCtx) (turns : ℕ) where
           let r : callback s x turns rec left best (insert (under v item d) item m) m o
           ≡ record { choice = callback s x turns rec left best (under v item d′) m o .choice; set = under v item d′ } =
           ap (λ (w : Pairs). callback s x turns rec left best w m o) i
-          ∙ (λ k. record { choice = callback s x turns rec left best (under v item d′) m o .choice; set = callback-back best (under v item d′) m o k }) in
-          rw (worklist, u, emits, e, r, outside-unmet v item d′ (leadsTo s (x .from .0) m)) (ih d′ _ _ (fresh-more v item d m f (or-none (v item m) (has d m) e .0)))
+          ∙ (λ k. record {
+            choice = callback s x turns rec left best (under v item d′) m o .choice;
+            set = callback-back best
+                (under v item d′) m o k;
+          }) in
+          rw (worklist, u, emits, e, r, outside-unmet v item d′ (leadsTo s (x .from .0) m))
+          (ih d′ _ _ (fresh-more v item d m f (or-none (v item m) (has d m) e .0)))
 
       loops : (b : ℕ) → Loops b
       unfolding worklist emits eachPair

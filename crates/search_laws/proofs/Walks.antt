@@ -129,7 +129,8 @@ module _ (d : List ℕ) (m : ℕ) (new : has d m ≡ false) (p : Scope → Bool)
       by true k same =
           rw (select-miss (λ z. not (has (d ++ (m ∷ [])) (z .owner))) e es (rw (same, k)), select-miss (λ z. not (has d (z .owner))) e es (rw k)) ih
       by false k same =
-          rw (select-hit (λ z. not (has (d ++ (m ∷ [])) (z .owner))) e es (rw (same, k)), select-hit (λ z. not (has d (z .owner))) e es (rw k)) (omega arith)
+          rw (select-hit (λ z. not (has (d ++ (m ∷ [])) (z .owner))) e es (rw (same, k)), select-hit (λ z. not (has d (z .owner))) e es (rw k))
+          (omega arith)
 
   sum-step : (e : Scope) (es : List Scope) → Sum es → (t : Bool) → eqb (e .owner) m ≡ t → Sum (e ∷ es)
   sum-step e es ih true k = sum-own e es ih (eqb-true (e .owner) m k)

@@ -13,7 +13,8 @@ use Rattle.snapshot.specs.Records.{Snapshot, Scope}
 use Rattle.hir_def.specs.Items.{sameItem, moduleItem}
 use Rattle.path_choices.specs.declared.Choice.{Choice}
 use Rattle.find_path.specs.declared.FindPathCtx.{FindPathCtx}
-use Rattle.path_choices.specs.Choices.{viaLocal, stepBy, isPrelude, nameLen, nothing, pathLen, shorterIf, lengthLeft, compareBool, andThen, comparePrelude, taken, better, extended, push}
+use Rattle.path_choices.specs.Choices.{viaLocal, stepBy, isPrelude, nameLen, nothing, pathLen, shorterIf, lengthLeft, compareBool, andThen}
+use Rattle.path_choices.specs.Choices.{comparePrelude, taken, better, extended, push}
 use Rattle.find_path.specs.Walk.{Level, has, visited}
 use Rattle.find_path.specs.Rules.{moduleRules}
 use Rattle.find_path.specs.Local.{offerEntry, importableName, location, eachLocation, calculateBestPathLocal, orLocal, findPathForModuleLocal}
@@ -49,12 +50,14 @@ prelude-same true false = refl
 prelude-same false true = refl
 prelude-same false false = refl
 
-order-same : (p b c d e f : Bool) (o : Ordering) → b ≡ true → c ≡ true → d ≡ f → e ≡ f → andThen (compareBool b c) (andThen (comparePrelude p d e) o) ≡ o
+order-same : (p b c d e f : Bool) (o : Ordering) → b ≡ true → c ≡ true → d ≡ f → e ≡ f → andThen (compareBool b c)
+    (andThen (comparePrelude p d e) o) ≡ o
 unfolding andThen compareBool
 order-same p b c d e f o hb hc hd he = rw (hb, hc, hd, he, prelude-same p f)
 
 -- of two stable choices with one flag the lengths decide
-module _ (s : Snapshot) (p : Bool) (a r : Choice) (n : ℕ) (f : Bool) (sa : a .stable ≡ true) (sr : r .stable ≡ true) (fa : a .«has_prelude_segment» ≡ f) (fr : r .«has_prelude_segment» ≡ f) where
+module _ (s : Snapshot) (p : Bool) (a r : Choice) (n : ℕ) (f : Bool) (sa : a .stable ≡ true) (sr : r .stable ≡ true)
+    (fa : a .«has_prelude_segment» ≡ f) (fr : r .«has_prelude_segment» ≡ f) where
   by-length : better s p a r n ≡ taken (compare (pathLen a) (pathLen r + 1)) (ltb (r .«path_text_len» + nameLen s n) (a .«path_text_len»))
   unfolding better
   by-length =
@@ -62,7 +65,8 @@ module _ (s : Snapshot) (p : Bool) (a r : Choice) (n : ℕ) (f : Bool) (sa : a .
       (order-same p (r .stable) (a .stable) (a .«has_prelude_segment») (r .«has_prelude_segment») f (compare (pathLen a) (pathLen r + 1)) sr sa fa fr)
 
   longer-left : pathLen a < suc (pathLen r) → better s p a r n ≡ false
-  longer-left h = by-length ∙ taken-less _ _ (le-leb (pathLen a) (pathLen r + 1) (omega arith)) (ne-eqb (pathLen a) (pathLen r + 1) (λ e. omega arith))
+  longer-left h = by-length ∙ taken-less _ _ (le-leb (pathLen a) (pathLen r + 1) (omega arith))
+      (ne-eqb (pathLen a) (pathLen r + 1) (λ e. omega arith))
 
   shorter-taken : suc (pathLen r) < pathLen a → better s p a r n ≡ true
   shorter-taken h = by-length ∙ taken-more _ _ (lt-leb (pathLen a) (pathLen r + 1) (omega arith))
@@ -85,7 +89,8 @@ module _ (s : Snapshot) (x : FindPathCtx) where
     Behind m c = c .found ≡ true → L m + shift s x < pathLen c
 
     -- One location in the loop for m, with the best choice a before it.
-    module _ (l : ℕ) (hl : suc l ≤ most) (ls : List Level) (m : ℕ) (w : E m) (r : ruled s x m ≡ false) (done : List ℕ) (a : Choice) (c : ℕ) (e : Scope)
+    module _ (l : ℕ) (hl : suc l ≤ most) (ls : List Level) (m : ℕ) (w : E m) (r : ruled s x m ≡ false) (done : List ℕ) (a : Choice)
+        (c : ℕ) (e : Scope)
         (new : has done c ≡ false) (at : Location s x [] m c) (i : importableName s x (moduleItem m) c ≡ some e)
         (kept : a .found ≡ true → (n : ℕ) × (has done n ≡ true) × Location s x [] m n × Reached s x most n × (a .«has_prelude_segment» ≡ v m))
         (sized : a .found ≡ true → Sized s x (suc l) m a) where
@@ -108,7 +113,8 @@ module _ (s : Snapshot) (x : FindPathCtx) where
       got-later : a .found ≡ true → got .found ≡ true → got .«has_prelude_segment» ≡ v m
       got-later o f =
           got-flag f
-          ∙ ⊎-elim (λ z. z) (λ z. let (n, h, at′, q, _) = kept o in absurd (true≢false (sym h ∙ ap (has done) (z n at′ q) ∙ new))) (even .later m c w r at (got-reached f))
+          ∙ ⊎-elim (λ z. z) (λ z. let (n, h, at′, q, _) = kept o in absurd (true≢false (sym h ∙ ap (has done) (z n at′ q) ∙ new)))
+          (even .later m c w r at (got-reached f))
 
       got-stable : got .found ≡ true → got .stable ≡ true
       got-stable f = length-near s x _ _ c f .stable
@@ -122,7 +128,8 @@ module _ (s : Snapshot) (x : FindPathCtx) where
           offer-by s x (λ z. z ≡ a) a got e _ refl refl
           (λ f. select-by s x (λ z. z ≡ a) a got (e .name) _ (λ u. absurd (true≢false (sym o ∙ u)))
           (λ _ b. let q = h f in
-          absurd (true≢false (sym b ∙ longer-left s (x .«prefer_prelude») a got (e .name) (v m) (sized o .stable) (got-stable f) (kept o .4) (got-later o f) (omega arith))))
+          absurd (true≢false (sym b ∙ longer-left s (x .«prefer_prelude») a got (e .name) (v m) (sized o .stable) (got-stable f)
+          (kept o .4) (got-later o f) (omega arith))))
           (λ _ _. refl))
 
       -- ... and is behind it
@@ -148,7 +155,8 @@ module _ (s : Snapshot) (x : FindPathCtx) where
             refl,
             ⊎-elim
                 (λ q.
-                absurd (true≢false (sym b ∙ longer-left s (x .«prefer_prelude») a got (e .name) (v m) (sized o .stable) (got-stable f) (kept o .4) (got-later o f) q)))
+                absurd (true≢false (sym b ∙ longer-left s (x .«prefer_prelude») a got (e .name) (v m) (sized o .stable) (got-stable f)
+                (kept o .4) (got-later o f) q)))
                 (λ q. extended-len s got _ _ _ ∙ (let z : suc (pathLen got) ≡ L m + shift s x = omega arith in z))
                 (less-or (pathLen a) (suc (pathLen got))),
           ))
@@ -160,16 +168,19 @@ module _ (s : Snapshot) (x : FindPathCtx) where
       taken-first k b (f, len) =
           offer-found s x a got e f
           ∙ select-by s x (λ z. z ≡ extended s got (e .name) (stepBy viaLocal (e .place)) (v m)) a got (e .name) _
-          (λ _. ap (extended s got (e .name) (stepBy viaLocal (e .place))) (ap (λ z. z || isPrelude s (e .name)) (got-flag f) ∙ even .first m c e w r at (got-reached f) i))
+          (λ _. ap (extended s got (e .name) (stepBy viaLocal (e .place))) (ap (λ z. z || isPrelude s (e .name)) (got-flag f)
+          ∙ even .first m c e w r at (got-reached f) i))
           (λ o _. ap (extended s got (e .name) (stepBy viaLocal (e .place))) (got-later o f))
           (λ o u. let q = b o in
-          absurd (true≢false (sym (shorter-taken s (x .«prefer_prelude») a got (e .name) (v m) (sized o .stable) (got-stable f) (kept o .4) (got-later o f) (omega arith)) ∙ u)))
+          absurd (true≢false (sym (shorter-taken s (x .«prefer_prelude») a got (e .name) (v m) (sized o .stable) (got-stable f)
+          (kept o .4) (got-later o f) (omega arith)) ∙ u)))
 
     -- no even module on the levels has as short a path
     abbrev pub Clear : List Level → ℕ → Type 0
     Clear ls m = (n : ℕ) → E n → ruled s x n ≡ false → isOn ls n ≡ true → L m < L n
 
-    clear-put : (ls : List Level) (m c : ℕ) (done : List ℕ) → L m ≡ suc (L c) → Clear ls m → Clear (record { item = moduleItem m; modules = done } ∷ ls) c
+    clear-put : (ls : List Level) (m c : ℕ) (done : List ℕ) → L m ≡ suc (L c) → Clear ls m
+        → Clear (record { item = moduleItem m; modules = done } ∷ ls) c
     unfolding isOn any sameItem
     clear-put ls m c done k h n w r o =
         ⊎-elim (λ q. let z = ap L (eqb-true m n q) in omega arith) (λ q. let z = h n w r q in omega arith) (either (eqb m n) (isOn ls n) o)
@@ -179,11 +190,13 @@ module _ (s : Snapshot) (x : FindPathCtx) where
     Enough left left′ m = (left ≡ left′) ⊎ ((L m < left) × (L m < left′))
 
     abbrev Claim : ℕ → Type 0
-    Claim b = (left left′ : ℕ) (ls ls′ : List Level) (m : ℕ) → left ≤ b → left′ ≤ b → E m → Reached s x most m → Clear ls m → Clear ls′ m → Enough left left′ m
+    Claim b = (left left′ : ℕ) (ls ls′ : List Level) (m : ℕ) → left ≤ b → left′ ≤ b → E m → Reached s x most m → Clear ls m
+        → Clear ls′ m → Enough left left′ m
         → (searchLocal s x left ls m ≡ searchLocal s x left′ ls′ m) × (L m < left → Exact m (searchLocal s x left ls m))
 
     -- Two loops for m side by side.
-    module _ (b : ℕ) (hb : suc b ≤ most) (ih : Claim b) (l l′ : ℕ) (hl : l ≤ b) (hl′ : l′ ≤ b) (ls ls′ : List Level) (m : ℕ) (w : E m) (reached : Reached s x most m)
+    module _ (b : ℕ) (hb : suc b ≤ most) (ih : Claim b) (l l′ : ℕ) (hl : l ≤ b) (hl′ : l′ ≤ b) (ls ls′ : List Level) (m : ℕ)
+        (w : E m) (reached : Reached s x most m)
         (r : ruled s x m ≡ false) (clear : Clear ls m) (clear′ : Clear ls′ m)
         (enough : ((l ≡ l′) × (suc l ≤ L m)) ⊎ ((L m < suc l) × (L m < suc l′))) where
       abbrev goal : ℕ
@@ -196,8 +209,10 @@ module _ (s : Snapshot) (x : FindPathCtx) where
       abbrev KeptIf : List ℕ → Choice → Type 0
       KeptIf done a = a .found ≡ true → (n : ℕ) × (has done n ≡ true) × Location s x [] m n × Reached s x most n × (a .«has_prelude_segment» ≡ v m)
 
-      module _ (done : List ℕ) (a a′ : Choice) (c : ℕ) (e : Scope) (new : has done c ≡ false) (at : Location s x [] m c) (i : importableName s x (moduleItem m) c ≡ some e)
-          (kept : KeptIf done a) (kept′ : KeptIf done a′) (sized : a .found ≡ true → Sized s x (suc l) m a) (sized′ : a′ .found ≡ true → Sized s x (suc l′) m a′) where
+      module _ (done : List ℕ) (a a′ : Choice) (c : ℕ) (e : Scope) (new : has done c ≡ false) (at : Location s x [] m c)
+          (i : importableName s x (moduleItem m) c ≡ some e)
+          (kept : KeptIf done a) (kept′ : KeptIf done a′) (sized : a .found ≡ true → Sized s x (suc l) m a) (sized′ : a′ .found ≡ true
+          → Sized s x (suc l′) m a′) where
         abbrev q : Choice
         q = got l (omega arith) ls m w r done a c e new at i kept sized
 
@@ -210,14 +225,19 @@ module _ (s : Snapshot) (x : FindPathCtx) where
         abbrev n′ : Choice
         n′ = now l′ (omega arith) ls′ m w r done a′ c e new at i kept′ sized′
 
-        far-longer : L m < suc (L c) → (k : ℕ) (lv : List Level) → k ≤ most → E c → searchLocal s x k lv c .found ≡ true → L m + shift s x < suc (pathLen (searchLocal s x k lv c))
+        far-longer : L m < suc (L c) → (k : ℕ) (lv : List Level) → k ≤ most → E c → searchLocal s x k lv c .found ≡ true
+            → L m + shift s x < suc (pathLen (searchLocal s x k lv c))
         far-longer h k lv y u f = let o = length-floor s x most E v L even short k lv c y u f in omega arith
 
         -- a location that is not on a shortest path
         far-state : L m < suc (L c) → State done a a′ → State (done ++ (c ∷ [])) n n′
         far-state h st =
-            let u : q .found ≡ true → L m + shift s x < suc (pathLen q) = λ f. far-longer h _ _ (got-left l (omega arith) ls m w r done a c e new at i kept sized) (got-even l (omega arith) ls m w r done a c e new at i kept sized f) f in
-            let u′ : q′ .found ≡ true → L m + shift s x < suc (pathLen q′) = λ f. far-longer h _ _ (got-left l′ (omega arith) ls′ m w r done a′ c e new at i kept′ sized′) (got-even l′ (omega arith) ls′ m w r done a′ c e new at i kept′ sized′ f) f in
+            let u : q .found ≡ true → L m + shift s x < suc (pathLen q) = λ f. far-longer h _ _
+            (got-left l (omega arith) ls m w r done a c e new at i kept sized)
+            (got-even l (omega arith) ls m w r done a c e new at i kept sized f) f in
+            let u′ : q′ .found ≡ true → L m + shift s x < suc (pathLen q′) = λ f. far-longer h _ _
+            (got-left l′ (omega arith) ls′ m w r done a′ c e new at i kept′ sized′)
+            (got-even l′ (omega arith) ls′ m w r done a′ c e new at i kept′ sized′ f) f in
             ⊎-elim
             (λ (eq, ex).
             let o = stays l (omega arith) ls m w r done a c e new at i kept sized ex u in
@@ -226,17 +246,20 @@ module _ (s : Snapshot) (x : FindPathCtx) where
             (λ (d, d′, op). inr (
               falls-behind l (omega arith) ls m w r done a c e new at i kept sized d u,
               falls-behind l′ (omega arith) ls′ m w r done a′ c e new at i kept′ sized′ d′ u′,
-              λ g g′. has-snoc done c goal ∙ or-none _ _ (op g g′) (ne-eqb goal c (λ z. let y = ap L z in let k = short .attained m w r reached .3 in omega arith)),
+              λ g g′. has-snoc done c goal
+                  ∙ or-none _ _ (op g g′) (ne-eqb goal c (λ z. let y = ap L z in let k = short .attained m w r reached .3 in omega arith)),
             ))
             st
 
         behind-left : L m ≡ suc (L c) → (j : ℕ) (z : Choice) → Behind m z → L m < suc j → L c < lengthLeft (suc j) z
         behind-left k j z d h =
-            ⊎-elim (λ f. let o = left-found (suc j) z f in let u = d f in omega arith) (λ f. let o = left-none (suc j) z f in omega arith) (tested (z .found))
+            ⊎-elim (λ f. let o = left-found (suc j) z f in let u = d f in omega arith) (λ f. let o = left-none (suc j) z f in omega arith)
+            (tested (z .found))
 
         behind-same : (j : ℕ) (z : Choice) → Behind m z → suc j ≤ L m → lengthLeft (suc j) z ≡ j
         behind-same j z d h =
-            ⊎-elim (λ f. let o = left-found (suc j) z f in let u = d f in omega arith) (λ f. let o = left-none (suc j) z f in omega arith) (tested (z .found))
+            ⊎-elim (λ f. let o = left-found (suc j) z f in let u = d f in omega arith) (λ f. let o = left-none (suc j) z f in omega arith)
+            (tested (z .found))
 
         exact-left : (j : ℕ) (z : Choice) → Exact m z → L m < suc j → lengthLeft (suc j) z ≡ (L m + shift s x) - 1
         exact-left j z (f, len) h = let o = left-found (suc j) z f in let u = shift-small s x in omega arith
@@ -251,7 +274,8 @@ module _ (s : Snapshot) (x : FindPathCtx) where
             ⊎-elim (λ (same, u). inl (behind-same l a d u ∙ same ∙ sym (behind-same l′ a′ d′ (omega arith))))
             (λ (g, g′). inr (behind-left k l a d g, behind-left k l′ a′ d′ g′)) enough
 
-        got-same : L m ≡ suc (L c) → Reached s x most c → Enough (lengthLeft (suc l) a) (lengthLeft (suc l′) a′) c → (q ≡ q′) × (L c < lengthLeft (suc l) a → Exact c q)
+        got-same : L m ≡ suc (L c) → Reached s x most c → Enough (lengthLeft (suc l) a) (lengthLeft (suc l′) a′) c → (q ≡ q′)
+            × (L c < lengthLeft (suc l) a → Exact c q)
         got-same k rc fit =
             let less : lengthLeft (suc l) a < suc l = length-falls (suc l) a (omega arith) in
             let less′ : lengthLeft (suc l′) a′ < suc l′ = length-falls (suc l′) a′ (omega arith) in
@@ -262,16 +286,27 @@ module _ (s : Snapshot) (x : FindPathCtx) where
         unfolding extended
         near-state k rc st =
             ⊎-elim
-            (λ (eq, ex). let (sq, _) = got-same k rc (enough-ahead eq ex) in inl (λ j. offerEntry s x (eq j) (sq j) e, stays-exact l (omega arith) ls m w r done a c e new at i kept sized k ex))
+            (λ (eq, ex). let (sq, _) = got-same k rc (enough-ahead eq ex) in inl (
+              λ j. offerEntry s x (eq j) (sq j) e,
+              stays-exact l
+                  (omega arith) ls m w r done a c e new at i kept sized k ex,
+            ))
             (λ (d, d′, op).
             let (sq, ex) = got-same k rc (enough-behind k d d′) in
             ⊎-elim
             (λ f. ⊎-elim
             (λ t.
             let z : pathLen q ≡ pathLen q′ = ap pathLen sq in
-            inr (falls-behind l (omega arith) ls m w r done a c e new at i kept sized d (λ _. omega arith), falls-behind l′ (omega arith) ls′ m w r done a′ c e new at i kept′ sized′ d′ (λ _. omega arith), λ g g′. let y = ex (behind-left k l a d g) .1 in absurd (omega arith)))
+            inr (
+              falls-behind l (omega arith) ls m w r done a c e new at i kept sized d (λ _. omega arith),
+              falls-behind l′
+                  (omega arith) ls′ m w r done a′ c e new at i kept′ sized′ d′ (λ _. omega arith),
+              λ g g′. let y =
+                  ex (behind-left k l a d g) .1 in absurd (omega arith),
+            ))
             (λ t.
-            let low = length-floor s x most E v L even short _ _ c (got-left l (omega arith) ls m w r done a c e new at i kept sized) (even .goes m c w r at rc) f in
+            let low = length-floor s x most E v L even short _ _ c (got-left l (omega arith) ls m w r done a c e new at i kept sized)
+            (even .goes m c w r at rc) f in
             let len : pathLen q ≡ L c + shift s x = omega arith in
             let o = taken-first l (omega arith) ls m w r done a c e new at i kept sized k d (f, len) in
             let o′ = taken-first l′ (omega arith) ls′ m w r done a′ c e new at i kept′ sized′ k d′ (subst (Exact c) sq (f, len)) in
@@ -282,7 +317,8 @@ module _ (s : Snapshot) (x : FindPathCtx) where
             (less-or (L c + shift s x) (pathLen q)))
             (λ f. inr (
               subst (Behind m) (sym (unfound-same l (omega arith) ls m w r done a c e new at i kept sized f)) d,
-              subst (Behind m) (sym (unfound-same l′ (omega arith) ls′ m w r done a′ c e new at i kept′ sized′ (ap (λ (z : Choice). z .found) (sym sq) ∙ f))) d′,
+              subst (Behind m) (sym (unfound-same l′ (omega arith) ls′ m w r done a′ c e new at i kept′ sized′
+                  (ap (λ (z : Choice). z .found) (sym sq) ∙ f))) d′,
               λ g g′. absurd (true≢false (sym (ex (behind-left k l a d g) .0) ∙ f)),
             ))
             (tested (q .found)))
@@ -294,7 +330,12 @@ module _ (s : Snapshot) (x : FindPathCtx) where
             let o = unfound-same l (omega arith) ls m w r done a c e new at i kept sized f in
             let o′ = unfound-same l′ (omega arith) ls′ m w r done a′ c e new at i kept′ sized′ f′ in
             ⊎-elim (λ (eq, ex). inl (o ∙ eq ∙ sym o′, subst (Exact m) (sym o) ex))
-            (λ (d, d′, op). inr (subst (Behind m) (sym o) d, subst (Behind m) (sym o′) d′, λ g g′. has-snoc done c goal ∙ or-none _ _ (op g g′) (ne-eqb goal c h)))
+            (λ (d, d′, op). inr (
+              subst (Behind m) (sym o) d,
+              subst (Behind m) (sym o′) d′,
+              λ g g′. has-snoc done c goal
+                  ∙ or-none _ _ (op g g′) (ne-eqb goal c h),
+            ))
             st
 
         some-state : State done a a′ → State (done ++ (c ∷ [])) n n′
@@ -304,7 +345,8 @@ module _ (s : Snapshot) (x : FindPathCtx) where
             ⊎-elim (λ h. far-state h st) (λ h. near-state (omega arith) rc st) (less-or (L m) (suc (L c))) in
             ⊎-elim (λ f. step (got-reached l (omega arith) ls m w r done a c e new at i kept sized f))
             (λ f. ⊎-elim (λ f′. step (got-reached l′ (omega arith) ls′ m w r done a′ c e new at i kept′ sized′ f′))
-            (λ f′. ⊎-elim (λ z. step (subst (Reached s x most) (eqb-true goal c z) (short .attained m w r reached .2))) (λ z. idle-state (eqb-false goal c z) f f′ st) (tested (eqb goal c)))
+            (λ f′. ⊎-elim (λ z. step (subst (Reached s x most) (eqb-true goal c z) (short .attained m w r reached .2)))
+            (λ z. idle-state (eqb-false goal c z) f f′ st) (tested (eqb goal c)))
             (tested (q′ .found)))
             (tested (q .found))
 
@@ -318,7 +360,8 @@ module _ (s : Snapshot) (x : FindPathCtx) where
 
       state-step : (done : List ℕ) (a a′ : Choice) (c : ℕ) → has done c ≡ false → has (locations s x [] m) c ≡ true
           → Both done a a′ → (o : Option Scope) → importableName s x (moduleItem m) c ≡ o
-          → State (done ++ (c ∷ [])) (location s x (searchLocal s x) (suc l) (put done c ls) a c o) (location s x (searchLocal s x) (suc l′) (put done c ls′) a′ c o)
+          → State (done ++ (c ∷ [])) (location s x (searchLocal s x) (suc l) (put done c ls) a c o)
+          (location s x (searchLocal s x) (suc l′) (put done c ls′) a′ c o)
       unfolding location imports
       state-step done a a′ c new in′ (kept, kept′, sized, sized′, st) none i =
           ⊎-elim (λ (eq, ex). inl (eq, ex))
@@ -326,7 +369,8 @@ module _ (s : Snapshot) (x : FindPathCtx) where
             d,
             d′,
             λ g g′. has-snoc done c goal ∙ or-none _ _ (op g g′)
-                (ne-eqb goal c (λ z. absurd (true≢false (sym (short .attained m w r reached .1 .entry) ∙ ap (λ y. isSome (importableName s x (moduleItem m) y)) z ∙ ap isSome i)))),
+                (ne-eqb goal c (λ z. absurd (true≢false (sym (short .attained m w r reached .1 .entry)
+                ∙ ap (λ y. isSome (importableName s x (moduleItem m) y)) z ∙ ap isSome i)))),
           ))
           st
       state-step done a a′ c new in′ (kept, kept′, sized, sized′, st) (some e) i =
@@ -338,7 +382,8 @@ module _ (s : Snapshot) (x : FindPathCtx) where
           (location s x (searchLocal s x) (suc l′) (put done c ls′) a′ c (importableName s x (moduleItem m) c))
       both-step done a a′ c new in′ p = (
         kept-step s x most E v even (searchLocal s x) (found-near s x) (even-flag s x most E v even) l (omega arith) ls m w r done a c new in′ (p .0),
-        kept-step s x most E v even (searchLocal s x) (found-near s x) (even-flag s x most E v even) l′ (omega arith) ls′ m w r done a′ c new in′ (p .1),
+        kept-step s x most E v even (searchLocal s x) (found-near s x) (even-flag s x most E v even) l′ (omega arith) ls′ m w r
+            done a′ c new in′ (p .1),
         sized-step s x (searchLocal s x) (length-near s x) l ls m done a c new in′ (p .2),
         sized-step s x (searchLocal s x) (length-near s x) l′ ls′ m done a′ c new in′ (p .3),
         state-step done a a′ c new in′ p (importableName s x (moduleItem m) c) refl,
@@ -348,7 +393,8 @@ module _ (s : Snapshot) (x : FindPathCtx) where
           (eachLocation s x (searchLocal s x) (suc l) ls (moduleItem m) [] nothing (locations s x [] m))
           (eachLocation s x (searchLocal s x) (suc l′) ls′ (moduleItem m) [] nothing (locations s x [] m))
       loops =
-          pair-by s x Both (searchLocal s x) (suc l) (suc l′) ls ls′ (moduleItem m) _ [] nothing nothing _ both-step (λ _ h. h) (locations-once s (x .from .0) _) (
+          pair-by s x Both (searchLocal s x) (suc l) (suc l′) ls ls′ (moduleItem m) _ [] nothing nothing _ both-step (λ _ h. h)
+          (locations-once s (x .from .0) _) (
             (λ f. absurd (false≢true f)),
             (λ f. absurd (false≢true f)),
             (λ f. absurd (false≢true f)),
@@ -399,7 +445,8 @@ module _ (s : Snapshot) (x : FindPathCtx) where
         by true h = absurd (true≢false h)
         by false h = unfold orLocal calculateBestPathLocal in refl
 
-    claim-step : (b l l′ : ℕ) → suc b ≤ most → Claim b → l ≤ b → l′ ≤ b → (ls ls′ : List Level) (m : ℕ) → E m → Reached s x most m → Clear ls m → Clear ls′ m → Enough (suc l) (suc l′) m
+    claim-step : (b l l′ : ℕ) → suc b ≤ most → Claim b → l ≤ b → l′ ≤ b → (ls ls′ : List Level) (m : ℕ) → E m → Reached s x most m
+        → Clear ls m → Clear ls′ m → Enough (suc l) (suc l′) m
         → (f : Bool) → ruled s x m ≡ f
         → (searchLocal s x (suc l) ls m ≡ searchLocal s x (suc l′) ls′ m) × (L m < suc l → Exact m (searchLocal s x (suc l) ls m))
     claim-step b l l′ hb ih h h′ ls ls′ m w rc clear clear′ fit true f =
@@ -410,21 +457,27 @@ module _ (s : Snapshot) (x : FindPathCtx) where
         (by-loop l ls m w clear f) (by-loop l′ ls′ m w clear′ f)
 
     claim : (b : ℕ) → b ≤ most → Claim b
-    claim zero hb zero zero ls ls′ m h h′ w rc clear clear′ fit = (local-more s x 0 ls m ∙ none-left ls ∙ sym (local-more s x 0 ls′ m ∙ none-left ls′), λ g. absurd (omega arith))
+    claim zero hb zero zero ls ls′ m h h′ w rc clear clear′ fit = (
+      local-more s x 0 ls m ∙ none-left ls
+          ∙ sym (local-more s x 0 ls′ m ∙ none-left ls′),
+      λ g. absurd (omega arith),
+    )
       where
         none-left : (lv : List Level) → findPathForModuleLocal s x (searchLocal s x) 0 lv m ≡ nothing
         none-left lv = unfold findPathForModuleLocal in refl
     claim zero hb zero (suc l′) ls ls′ m h h′ w rc clear clear′ fit = absurd (omega arith)
     claim zero hb (suc l) zero ls ls′ m h h′ w rc clear clear′ fit = absurd (omega arith)
     claim zero hb (suc l) (suc l′) ls ls′ m h h′ w rc clear clear′ fit = absurd (omega arith)
-    claim (suc b) hb zero zero ls ls′ m h h′ w rc clear clear′ fit = claim b (omega arith) zero zero ls ls′ m (omega arith) (omega arith) w rc clear clear′ fit
+    claim (suc b) hb zero zero ls ls′ m h h′ w rc clear clear′ fit = claim b (omega arith) zero zero ls ls′ m (omega arith)
+        (omega arith) w rc clear clear′ fit
     claim (suc b) hb zero (suc l′) ls ls′ m h h′ w rc clear clear′ fit = absurd (⊎-elim (λ e. omega arith) (λ (g, _). omega arith) fit)
     claim (suc b) hb (suc l) zero ls ls′ m h h′ w rc clear clear′ fit = absurd (⊎-elim (λ e. omega arith) (λ (_, g). omega arith) fit)
     claim (suc b) hb (suc l) (suc l′) ls ls′ m h h′ w rc clear clear′ fit =
         claim-step b l l′ hb (claim b (omega arith)) (omega arith) (omega arith) ls ls′ m w rc clear clear′ fit _ refl
 
     -- An even module with more left than its shortest path is found, with a path of that length.
-    pub wide-exact : (left : ℕ) (ls : List Level) (m : ℕ) → left ≤ most → E m → Reached s x most m → Clear ls m → L m < left → Exact m (searchLocal s x left ls m)
+    pub wide-exact : (left : ℕ) (ls : List Level) (m : ℕ) → left ≤ most → E m → Reached s x most m → Clear ls m → L m < left
+        → Exact m (searchLocal s x left ls m)
     wide-exact left ls m b w rc clear h = claim left b left left ls ls m (omega arith) (omega arith) w rc clear clear (inl refl) .1 h
 
     -- The answer for an even module depends neither on the levels nor on what is left past its shortest path.
@@ -454,7 +507,8 @@ module _ (s : Snapshot) (x : FindPathCtx) where
     unfolding isOn any
     wide k left ls m b w d clear =
         wide-same left (min left (suc k)) ls [] m b (omega arith) w clear (λ n _ _ o. absurd (false≢true o))
-        (⊎-elim (λ g. let h = shortest-distance k m (omega arith) w d in inr (omega arith, omega arith)) (λ g. inl (omega arith)) (less-or (suc k) left))
+        (⊎-elim (λ g. let h = shortest-distance k m (omega arith) w d in inr (omega arith, omega arith)) (λ g. inl (omega arith))
+        (less-or (suc k) left))
 
     -- ... and as long as a shortest path
     pub row-length : (k m : ℕ) → k ≤ most → E m → Distance s x k m → pathLen (searchLocal s x k [] m) ≡ L m + shift s x

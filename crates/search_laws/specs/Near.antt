@@ -4,9 +4,8 @@ use mathlib.Core.List.{List}
 use mathlib.Core.Bool.{Bool, true, false, _&&_, _||_}
 use mathlib.Core.Option.{Option, none, some}
 use Rattle.snapshot.specs.Lists.{any}
-use Rattle.snapshot.specs.Records.{Snapshot, Scope}
+use Rattle.snapshot.specs.Records.{Snapshot}
 use Rattle.hir_def.specs.Items.{sameItem, moduleItem}
-use Rattle.path_choices.specs.declared.Choice.{Choice}
 use Rattle.find_path.specs.declared.FindPathCtx.{FindPathCtx}
 use Rattle.find_path.specs.Walk.{Level, visited, findLocalImportLocations}
 use Rattle.find_path.specs.Local.{importableName}

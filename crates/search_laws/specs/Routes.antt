@@ -16,7 +16,8 @@ use Rattle.hir_def.specs.declared.Item.{Item}
 use Rattle.find_path.specs.declared.FindPathCtx.{FindPathCtx}
 use Rattle.find_path.specs.declared.Query.{Query}
 use Rattle.find_path.specs.declared.Report.{Report}
-use Rattle.path_choices.specs.Choices.{plainPath, selfPath, superPath, cratePath, viaBuiltin, viaScope, viaPrelude, viaExtern, viaKeyword, viaVariant, viaLocal, viaImport, stepBy}
+use Rattle.path_choices.specs.Choices.{plainPath, selfPath, superPath, cratePath, viaBuiltin, viaScope, viaPrelude, viaExtern, viaKeyword, viaVariant}
+use Rattle.path_choices.specs.Choices.{viaLocal, viaImport, stepBy}
 use Rattle.find_path.specs.Rules.{byCrate, bit, prefixPathKind, contextOf, mayBeInScope, findInScope, findInPrelude, externKind}
 use Rattle.find_path.specs.Local.{importableName}
 use Rattle.find_path.specs.Charged.{isAt, variantOf}
@@ -42,7 +43,8 @@ pub data Start (s : Snapshot) (x : FindPathCtx) : ℕ → List ℕ → ℕ → I
   prelude : (item : Item) (e : Scope) → e ∈ s .scopes → findInPrelude s x item ≡ some e
       → Start s x plainPath (e .name ∷ []) (stepBy viaPrelude (e .place)) item
   extern : (m : ℕ) (e : Extern) → e ∈ s .externs → crateRoot s m ≡ m → (m ≡ x .«crate_root» .0 → ⊥) → externOf s (x .«from_crate» .0) m ≡ some e
-      → Start s x (externKind s x (occupied s (x .from .0) m (e .name) || x .«prefer_absolute»)) (e .name ∷ []) (stepBy viaExtern (e .place)) (moduleItem m)
+      → Start s x (externKind s x (occupied s (x .from .0) m (e .name) || x .«prefer_absolute»)) (e .name ∷ [])
+      (stepBy viaExtern (e .place)) (moduleItem m)
   -- a builtin is its name
   builtin : (d : ℕ) → definitionOf s d ∈ s .definitions → definitionOf s d .kind ≡ builtinKind
       → Start s x plainPath (definitionOf s d .first ∷ []) (stepBy viaBuiltin (definitionOf s d .place)) (itemOf s types d)

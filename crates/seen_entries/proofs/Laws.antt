@@ -1,9 +1,9 @@
 -- Privacy and declarations, case by case.
 use Prim.Native.Nat.{ℕ, zero, suc, _<_}
-use mathlib.Core.Path.{_≡_, refl, sym, ap, _∙_}
+use mathlib.Core.Path.{_≡_, refl, sym, _∙_}
 use mathlib.Core.List.{List}
 use mathlib.Core.Bool.{Bool, true, false, _&&_}
-use mathlib.Core.Option.{Option, none, some}
+use mathlib.Core.Option.{none, some}
 use native.Mathlib.Omega.{arith}
 use borrow.Author.Tests.{eq-eqb, ne-eqb}
 use lib.Dec.{eqb}
@@ -24,7 +24,8 @@ use Rattle.module_tree.proofs.Ways.{last-end, last-on}
 use Rattle.hir_def.specs.Items.{types, moduleKind, variantKind, definitionOf, homeBy}
 use Rattle.hir_def.specs.ItemScope.{isDeclared}
 use Rattle.hir_def.proofs.Found.{each-first}
-use Rattle.nameable.specs.Seen.{holds, holdsIn, isDeclaration, declaredNs, declaredAs, declaredIn, declarationIn, declarationOf, declarationHolds, bothHold, counts, seen}
+use Rattle.nameable.specs.Seen.{holds, holdsIn, isDeclaration, declaredNs, declaredAs, declaredIn, declarationIn, declarationOf, declarationHolds}
+use Rattle.nameable.specs.Seen.{bothHold, counts, seen}
 
 pub and-so : (a b : Bool) → a ≡ true → b ≡ (a && b)
 and-so a b e = rw e
@@ -114,7 +115,8 @@ module _ (s : Snapshot) (e : Scope) where
   unfolding declarationOf declarationIn
   declared-nowhere z = rw z
 
-  pub declared-there : (m ns d : ℕ) → declaredIn s (e .definition) ≡ suc m → ns ≡ declaredNs s (e .ns) (e .definition) → d ≡ declaredAs s (e .definition)
+  pub declared-there : (m ns d : ℕ) → declaredIn s (e .definition) ≡ suc m → ns ≡ declaredNs s (e .ns) (e .definition)
+      → d ≡ declaredAs s (e .definition)
       → declarationIn s ns d (suc m) ≡ declarationOf s e
   unfolding declarationOf
   declared-there m ns d z a b = rw (z, a, b)
@@ -142,7 +144,8 @@ module _ (s : Snapshot) (e : Scope) where
 
 -- the declaration is a record of the snapshot
 
-in-fits : (W A : List ℕ) (l : Layout) → Valid (snapOf W A l) → (ns d m : ℕ) (x : Scope) → declarationIn (snapOf W A l) ns d m ≡ some x → ScopeFits (countsIn l) x
+in-fits : (W A : List ℕ) (l : Layout) → Valid (snapOf W A l) → (ns d m : ℕ) (x : Scope) → declarationIn (snapOf W A l) ns d m ≡ some x
+    → ScopeFits (countsIn l) x
 unfolding declarationIn
 in-fits W A l v ns d zero x h = let z : _≡_ {A = ℕ} 0 1 = cc in absurd (omega arith)
 in-fits W A l v ns d (suc m) x h = each-first (isDeclaration m ns d) x (ranges-read W A l v .scopes) h
@@ -151,4 +154,5 @@ pub declared-fits : (W A : List ℕ) (l : Layout) → Reads W A l → (e x : Sco
 unfolding declarationOf
 declared-fits W A l r e x h =
     let s = snapOf W A l in
-    in-fits W A l (accepted-valid W s (r .same)) (declaredNs s (e .ns) (e .definition)) (declaredAs s (e .definition)) (declaredIn s (e .definition)) x h
+    in-fits W A l (accepted-valid W s (r .same)) (declaredNs s (e .ns) (e .definition)) (declaredAs s (e .definition))
+    (declaredIn s (e .definition)) x h

@@ -9,7 +9,8 @@ ghost use Rattle.record_rules.specs.Stands.{countsIn};
 ghost use Rattle.accept.specs.Post.{Reads};
 ghost use Rattle.accept.specs.Valid.{ScopeFits};
 ghost use Rattle.hir_def.specs.Entries.{entryOf};
-ghost use Rattle.nameable.specs.Seen.{isDeclaration, declaredNs, declaredAs, declaredIn, declarationIn, declarationOf, bothHold, holdsIn, seen as seenFrom};
+ghost use Rattle.nameable.specs.Seen.{isDeclaration, declaredNs, declaredAs, declaredIn, declarationIn, declarationOf, bothHold, holdsIn};
+ghost use Rattle.nameable.specs.Seen.{seen as seenFrom};
 use crate::privacy::holds;
 use hir_def::Entry;
 use hir_def::Item;
@@ -80,7 +81,8 @@ fn is_declaration(words: &[u32], h: usize, m: ModuleId, ns: usize, d: Definition
 // The declared entry of a module for a namespace and a definition.
 fn declaration_in(words: &[u32], l: Layout, m: ModuleId, ns: usize, d: DefinitionId) -> Entry
     requires { ⌜ wordCount l < 2 ^ 32 ⌝ }
-    ensures { λ r. ⌜ ((A : List ℕ) → entryOf scopeAt (now (words .entry)) r ≡ declarationIn (snapOf (now (words .entry)) A l) ns (d .0) (suc (m .0))) ⌝ }
+    ensures { λ r. ⌜ ((A : List ℕ) → entryOf scopeAt (now (words .entry)) r ≡ declarationIn (snapOf (now (words .entry)) A l) ns
+        (d .0) (suc (m .0))) ⌝ }
 {
     let base = l.scope_base();
     let mut k = 0;
@@ -97,7 +99,8 @@ fn declaration_in(words: &[u32], l: Layout, m: ModuleId, ns: usize, d: Definitio
 /// The declaration of the item of the entry with its head at a place.
 pub fn declaration_of(words: &[u32], area: &[u32], l: Layout, h: usize) -> Entry
     requires { ⌜ Reads (now words) (now area) l × ScopeFits (countsIn l) (scopeAt (now words) h) ⌝ }
-    ensures { λ r. ⌜ entryOf scopeAt (now (words .entry)) r ≡ declarationOf (snapOf (now (words .entry)) (now (area .entry)) l) (scopeAt (now (words .entry)) h) ⌝ }
+    ensures { λ r. ⌜ entryOf scopeAt (now (words .entry)) r ≡ declarationOf (snapOf (now (words .entry)) (now (area .entry)) l)
+        (scopeAt (now (words .entry)) h) ⌝ }
 {
     let d = scope_definition(words, h);
     let OptModule::Module(m) = declared_in(words, area, l, d) else {

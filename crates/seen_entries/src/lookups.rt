@@ -35,7 +35,8 @@ fn is_named_seen(
     h: usize,
 ) -> bool
     requires { ⌜ Reads (now words) (now area) l × (from .0 < l .modules) × ScopeFits (countsIn l) (scopeAt (now words) h) ⌝ }
-    ensures { λ r. ⌜ r ≡ (isNamed (m .0) ns (name .0) (scopeAt (now (words .entry)) h) && seenFrom (snapOf (now (words .entry)) (now (area .entry)) l) (from .0) (scopeAt (now (words .entry)) h)) ⌝ }
+    ensures { λ r. ⌜ r ≡ (isNamed (m .0) ns (name .0) (scopeAt (now (words .entry)) h) && seenFrom
+        (snapOf (now (words .entry)) (now (area .entry)) l) (from .0) (scopeAt (now (words .entry)) h)) ⌝ }
 {
     let owner = scope_owner(words, h);
     let its = scope_name(words, h);
@@ -56,7 +57,8 @@ pub fn entry_named(
     name: Name,
 ) -> Entry
     requires { ⌜ Reads (now words) (now area) l × (from .0 < l .modules) ⌝ }
-    ensures { λ r. ⌜ entryOf scopeAt (now (words .entry)) r ≡ seenNamed (snapOf (now (words .entry)) (now (area .entry)) l) (from .0) ns (m .0) (name .0) ⌝ }
+    ensures { λ r. ⌜ entryOf scopeAt (now (words .entry)) r ≡ seenNamed (snapOf (now (words .entry)) (now (area .entry)) l)
+        (from .0) ns (m .0) (name .0) ⌝ }
 {
     let base = l.scope_base();
     let mut k = 0;
@@ -81,7 +83,8 @@ fn is_for_seen(
     h: usize,
 ) -> bool
     requires { ⌜ Reads (now words) (now area) l × (from .0 < l .modules) × ScopeFits (countsIn l) (scopeAt (now words) h) ⌝ }
-    ensures { λ r. ⌜ r ≡ (isFor (snapOf (now (words .entry)) (now (area .entry)) l) (m .0) item (scopeAt (now (words .entry)) h) && seenFrom (snapOf (now (words .entry)) (now (area .entry)) l) (from .0) (scopeAt (now (words .entry)) h)) ⌝ }
+    ensures { λ r. ⌜ r ≡ (isFor (snapOf (now (words .entry)) (now (area .entry)) l) (m .0) item (scopeAt (now (words .entry)) h)
+        && seenFrom (snapOf (now (words .entry)) (now (area .entry)) l) (from .0) (scopeAt (now (words .entry)) h)) ⌝ }
 {
     if is_for(words, l, h, m, item) {
         return seen(words, area, l, from, h);
@@ -99,7 +102,8 @@ pub fn entry_for(
     item: Item,
 ) -> Entry
     requires { ⌜ Reads (now words) (now area) l × (from .0 < l .modules) ⌝ }
-    ensures { λ r. ⌜ entryOf scopeAt (now (words .entry)) r ≡ namesOf (snapOf (now (words .entry)) (now (area .entry)) l) (m .0) item (seenFrom (snapOf (now (words .entry)) (now (area .entry)) l) (from .0)) ⌝ }
+    ensures { λ r. ⌜ entryOf scopeAt (now (words .entry)) r ≡ namesOf (snapOf (now (words .entry)) (now (area .entry)) l) (m .0) item
+        (seenFrom (snapOf (now (words .entry)) (now (area .entry)) l) (from .0)) ⌝ }
 {
     let base = l.scope_base();
     let mut k = 0;

@@ -1,21 +1,20 @@
 -- Laws of a variant by its enum, and of the two runs.
 use Prim.Native.Nat.{ℕ, _+_, _≤_, _<_}
-use mathlib.Core.Path.{_≡_, refl, sym, ap, subst, _∙_}
-use mathlib.Core.List.{List, [], _∷_, map}
+use mathlib.Core.Path.{_≡_, refl, sym, ap, _∙_}
+use mathlib.Core.List.{List}
 use mathlib.Core.Bool.{Bool, true, false, _&&_, not, true≢false}
 use mathlib.Core.Option.{Option, none, some, Option·map}
 use native.Mathlib.Omega.{arith}
 use borrow.Author.Tests.{lt-ltb, le-ltb, eq-eqb, ne-eqb, not-true, not-false}
-use lib.Dec.{eqb, ltb}
+use lib.Dec.{eqb}
 use Rattle.snapshot.specs.Records.{Snapshot, Member}
 use Rattle.snapshot.specs.Layouts.{snapOf}
 use Rattle.snapshot.specs.declared.layout.Layout.{Layout}
 use Rattle.accept.specs.Post.{Reads}
-use Rattle.hir_def.specs.Finds.{firstOf, select}
+use Rattle.hir_def.specs.Finds.{firstOf}
 use Rattle.hir_def.specs.Items.{types, macros, variantKind, definitionOf, nsOf, sameItem, moduleItem, definedItem}
 use Rattle.hir_def.specs.declared.Item.{Item}
 use Rattle.readings.specs.Reads.{isVariantNamed, variantNamed as firstVariant}
-use Rattle.nameable.specs.Seen.{isVariant}
 use Rattle.nameable.specs.Paths.{Path, into, Named, named, isVariantOf, variantNamed, variantsIn, within, itemIn, means}
 use Rattle.nameable.specs.Breadth.{isItem, firstTo, arrival, turns, checkedPath, variantAfter, byEnum, shorter, shortestOf, shortest}
 use Rattle.nameable.specs.Queue.{run}
@@ -23,7 +22,7 @@ use Rattle.nameable.proofs.Lists.{by-option}
 use Rattle.nameable.proofs.Reached.{into-means}
 use Rattle.nameable.proofs.Arrives.{arrives-good}
 use Rattle.nameable.proofs.Lookups.{first-mapped, first-same}
-use Rattle.any_path.specs.Rows.{runAt, Stays, Grown}
+use Rattle.any_path.specs.Rows.{Stays, Grown}
 use Rattle.any_path.proofs.Taken.{stays-snap, stays-reads}
 use Rattle.arrivals.specs.declared.OptStep.{OptStep}
 use Rattle.arrivals.specs.declared.OptStep.the-variants.{Step, NoStep}

@@ -37,7 +37,8 @@ fn is_variant(
     d: DefinitionId,
 ) -> bool
     requires { ⌜ wordCount l < 2 ^ 32 ⌝ }
-    ensures { λ r. ⌜ ((A : List ℕ) → r ≡ isItem (definedItem ns (d .0)) (itemIn (namedIn (name .0) (variantsIn (snapOf (now (words .entry)) A l) ns (e .0))))) ⌝ }
+    ensures { λ r. ⌜ ((A : List ℕ)
+        → r ≡ isItem (definedItem ns (d .0)) (itemIn (namedIn (name .0) (variantsIn (snapOf (now (words .entry)) A l) ns (e .0))))) ⌝ }
 {
     if Namespace::MACROS <= ns {
         return false;
@@ -60,7 +61,8 @@ fn variant_told(
     d: DefinitionId,
     named: bool,
 ) -> ToldPath
-    requires { ⌜ Reads (now words) (now area) l × (from .0 < l .modules) × Ready named (snapOf (now words) (now area) l) (from .0) (l .modules) (now area) n ⌝ }
+    requires { ⌜ Reads (now words) (now area) l × (from .0 < l .modules) × Ready named (snapOf (now words) (now area) l) (from .0)
+        (l .modules) (now area) n ⌝ }
     ensures { λ r. ⌜ r ≡ toldBy (byEnum named (snapOf (now (words .entry)) (now (area .entry)) l) (from .0) (definedItem (ns .0) (d .0))) ⌝ }
 {
     if kind_of(words, l, d) != DefinitionKind::VARIANT {
@@ -88,7 +90,8 @@ pub(crate) fn enum_told(
     item: Item,
     named: bool,
 ) -> ToldPath
-    requires { ⌜ Reads (now words) (now area) l × (from .0 < l .modules) × Ready named (snapOf (now words) (now area) l) (from .0) (l .modules) (now area) n ⌝ }
+    requires { ⌜ Reads (now words) (now area) l × (from .0 < l .modules) × Ready named (snapOf (now words) (now area) l) (from .0)
+        (l .modules) (now area) n ⌝ }
     ensures { λ r. ⌜ r ≡ toldBy (byEnum named (snapOf (now (words .entry)) (now (area .entry)) l) (from .0) item) ⌝ }
 {
     match item {

@@ -29,7 +29,8 @@ fn shortest_of(
     item: Item,
     named: bool,
 ) -> ToldPath
-    requires { ⌜ Reads (now words) (now area) l × (from .0 < l .modules) × Ready named (snapOf (now words) (now area) l) (from .0) (l .modules) (now area) n ⌝ }
+    requires { ⌜ Reads (now words) (now area) l × (from .0 < l .modules) × Ready named (snapOf (now words) (now area) l) (from .0)
+        (l .modules) (now area) n ⌝ }
     ensures { λ r. ⌜ r ≡ toldBy (shortestOf named (snapOf (now (words .entry)) (now (area .entry)) l) (from .0) item) ⌝ }
 {
     let near = arrival_told(words, area, l, from, n, item, named);

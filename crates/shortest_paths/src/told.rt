@@ -22,7 +22,8 @@ pub(crate) fn arrival_told(
     item: Item,
     named: bool,
 ) -> ToldPath
-    requires { ⌜ Reads (now words) (now area) l × (from .0 < l .modules) × Ready named (snapOf (now words) (now area) l) (from .0) (l .modules) (now area) n ⌝ }
+    requires { ⌜ Reads (now words) (now area) l × (from .0 < l .modules) × Ready named (snapOf (now words) (now area) l) (from .0)
+        (l .modules) (now area) n ⌝ }
     ensures { λ r. ⌜ r ≡ toldBy (arrival named (snapOf (now (words .entry)) (now (area .entry)) l) (from .0) item) ⌝ }
     ensures { λ r. ⌜ r .count < 2 ^ 32 ⌝ }
 {

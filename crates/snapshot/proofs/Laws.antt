@@ -144,10 +144,12 @@ text-none W h p =
     let q : length W ≤ h + 1 = omega arith in
     sym (ap (take (wordsOf (payOf (getD W h 0)))) (drop-of-length-le W q) ∙ take-nil (wordsOf (payOf (getD W h 0))))
 
-pub text-cut : (W : List ℕ) (h n : ℕ) → n ≡ wordsOf (payOf (getD W h 0)) → length W - (h + 1) < n → take (length W - (h + 1)) (drop (h + 1) W) ≡ textAt W h
+pub text-cut : (W : List ℕ) (h n : ℕ) → n ≡ wordsOf (payOf (getD W h 0)) → length W - (h + 1) < n
+    → take (length W - (h + 1)) (drop (h + 1) W) ≡ textAt W h
 text-cut W h n e p =
     let q : length (drop (h + 1) W) ≡ length W - (h + 1) = simp length-drop in
-    take-all (length W - (h + 1)) (drop (h + 1) W) (omega arith) ∙ sym (take-all (wordsOf (payOf (getD W h 0))) (drop (h + 1) W) (rw (← e) (omega arith)))
+    take-all (length W - (h + 1)) (drop (h + 1) W) (omega arith)
+    ∙ sym (take-all (wordsOf (payOf (getD W h 0))) (drop (h + 1) W) (rw (← e) (omega arith)))
 
 pub text-whole : (W : List ℕ) (h n : ℕ) → n ≡ wordsOf (payOf (getD W h 0)) → take (h + 1 + n - (h + 1)) (drop (h + 1) W) ≡ textAt W h
 text-whole W h n e = let q : h + 1 + n - (h + 1) ≡ n = omega arith in ap (λ x. take x (drop (h + 1) W)) (q ∙ e)

@@ -4,8 +4,10 @@ use mathlib.Core.List.{List}
 use lib.ListN.{getD}
 use Rattle.snapshot.specs.Lists.{rows}
 use Rattle.snapshot.specs.Limits.{crateLimit, moduleLimit, nameLimit}
-use Rattle.snapshot.specs.Sizes.{crateSize, dependencySize, mapSize, moduleSize, childSize, preludeSize, definitionSize, scopeSize, importSize, externSize, memberSize}
-use Rattle.snapshot.specs.Records.{Name, Map, Module, Snapshot, nameAt, crateAt, dependencyAt, mapAt, childAt, preludeAt, definitionAt, scopeAt, importAt, externAt, memberAt}
+use Rattle.snapshot.specs.Sizes.{crateSize, dependencySize, mapSize, moduleSize, childSize, preludeSize, definitionSize, scopeSize, importSize}
+use Rattle.snapshot.specs.Sizes.{externSize, memberSize}
+use Rattle.snapshot.specs.Records.{Name, Map, Module, Snapshot, nameAt, crateAt, dependencyAt, mapAt, childAt, preludeAt, definitionAt, scopeAt}
+use Rattle.snapshot.specs.Records.{importAt, externAt, memberAt}
 use Rattle.snapshot.specs.declared.layout.Layout.{Layout}
 
 -- the place of the first record of a kind; maps and modules share a run

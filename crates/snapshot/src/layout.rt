@@ -1,7 +1,8 @@
 //! Where the records of an accepted snapshot stand.
 ghost use mathlib.Core.Path.{_≡_};
 ghost use Prim.Native.Nat.{_+_, _*_, _^_, _<_};
-ghost use Rattle.snapshot.specs.Layouts.{dependencyBase, mapBase, childBase, preludeBase, definitionBase, scopeBase, importBase, externBase, memberBase, wordCount, noRecords};
+ghost use Rattle.snapshot.specs.Layouts.{dependencyBase, mapBase, childBase, preludeBase, definitionBase, scopeBase, importBase, externBase};
+ghost use Rattle.snapshot.specs.Layouts.{memberBase, wordCount, noRecords};
 use crate::kind::Size;
 
 /// How many records of each kind there are, and how many words the names take; the kinds stand in order, so the rest follows.

@@ -1,6 +1,7 @@
 //! The fields of the records, by the place of the record's head.
 ghost use mathlib.Core.Path.{_≡_};
-ghost use Rattle.snapshot.specs.Records.{crateAt, dependencyAt, mapAt, moduleAt, childAt, preludeAt, definitionAt, scopeAt, importAt, externAt, memberAt};
+ghost use Rattle.snapshot.specs.Records.{crateAt, dependencyAt, mapAt, moduleAt, childAt, preludeAt, definitionAt, scopeAt, importAt, externAt};
+ghost use Rattle.snapshot.specs.Records.{memberAt};
 use crate::ids::Crate;
 use crate::ids::DefinitionId;
 use crate::ids::ModuleId;

@@ -93,8 +93,9 @@ walk-is-privacy-but = private.walk-is-privacy-but
 
 -- Fuel
 
--- Two fuels, neither refused: the reports are equal in every field exactly where the search without a tank makes at most as many charges as the smaller
--- fuel; each counts the smaller of its fuel and that count, says empty exactly where its fuel is less, and otherwise has that search's path or none.
+-- Two fuels, neither refused: the reports are equal in every field exactly where the search without a tank makes at most as many charges as
+-- the smaller fuel; each counts the smaller of its fuel and that count, says empty exactly where its fuel is less, and otherwise has that
+-- search's path or none.
 pub fuels-compared : (words : List ℕ) (area : ℕ) (q : Query) (F G : ℕ) → F < G → G ≤ fuelLimit
     → (IsRefused (reportAt words area q F) → ⊥) → (IsRefused (reportAt words area q G) → ⊥)
     → Compared words area q F G
@@ -229,7 +230,8 @@ restored = fresh.restored
 -- Eight windows
 
 -- A question that is placed is served by one of the eight turns that follow, whatever is placed between them.
-pub placed-within-eight : (before os : List windows.Operation) (w : ℕ) (q : Question) → placeFault (windows.afterRun emptyState before) w ≡ 0 → 8 ≤ turns os
+pub placed-within-eight : (before os : List windows.Operation) (w : ℕ) (q : Question)
+    → placeFault (windows.afterRun emptyState before) w ≡ 0 → 8 ≤ turns os
     → ServedWithin 8 (afterPlace (windows.afterRun emptyState before) w q) w q os
 placed-within-eight = served.placed-within-eight
 
@@ -265,7 +267,8 @@ first-printed = printing.first-printed
 pub second-printed : (area room : ℕ) (W X Y : List ℕ) (e : joinOf area W X room ≡ joinedAs Y) (q : Question) (B C : List ℕ) (fits : Room Y)
     → Answered X q → Writable q
     → Writable (questionTo (secondNumbers (stays.lines-kept area room W X Y e .first) (stays.lines-kept area room W X Y e .second)) q) → Asks B X q
-    → Asks C Y (questionTo (secondNumbers (stays.lines-kept area room W X Y e .first) (stays.lines-kept area room W X Y e .second)) q) → printed C ≡ printed B
+    → Asks C Y (questionTo (secondNumbers (stays.lines-kept area room W X Y e .first) (stays.lines-kept area room W X Y e .second)) q)
+    → printed C ≡ printed B
 second-printed = printing.second-printed
 
 -- The printer

@@ -27,7 +27,8 @@ module _ (w n : ℕ) where
   same-module = same-by (eqb (w % 4) 3) refl
 
 -- the number of the module whose item a word is
-pub far-item : (A : List ℕ) (w left n : ℕ) {v : ℕ} → v ≡ getD A (tableWords + w / 4) 0 → left < v → sameItem (itemAt w) (moduleItem n) ≡ true → left < distance A n
+pub far-item : (A : List ℕ) (w left n : ℕ) {v : ℕ} → v ≡ getD A (tableWords + w / 4) 0 → left < v
+    → sameItem (itemAt w) (moduleItem n) ≡ true → left < distance A n
 far-item A w left n e h o =
     let q : getD A (tableWords + w / 4) 0 ≡ distance A n = ap (λ z. getD A (tableWords + z) 0) (same-module w n o .1) in
     omega (arith, e, h, q)

@@ -1,5 +1,5 @@
 -- The laws of rows.
-use Prim.Native.Nat.{ℕ, zero, suc, _+_, _-_, _*_, _/_, _%_, _≤_, _<_, _^_}
+use Prim.Native.Nat.{ℕ, suc, _+_, _-_, _*_, _/_, _%_, _≤_, _<_, _^_}
 use mathlib.Core.Path.{_≡_, refl, sym, ap, subst, _∙_}
 use mathlib.Core.List.{List, []}
 use mathlib.Core.Bool.{Bool, true, false, false≢true}
@@ -66,7 +66,8 @@ module _ (c : Choice) where
 
   pub row-flag : {w : ℕ} → c .found ≡ true → w ≡ lastPlace c → c .«has_prelude_segment» ≡ true → 2 * w + 2 + 1 ≡ rowOf c
   unfolding rowIf flagNumber
-  row-flag {w} e q t = ap (λ z. 2 * z + 2 + 1) q ∙ sym (ap (λ b. rowIf b (lastPlace c) (c .«has_prelude_segment»)) e ∙ ap (λ b. rowIf true (lastPlace c) b) t)
+  row-flag {w} e q t = ap (λ z. 2 * z + 2 + 1) q ∙ sym (ap (λ b. rowIf b (lastPlace c) (c .«has_prelude_segment»)) e
+      ∙ ap (λ b. rowIf true (lastPlace c) b) t)
 
   pub row-plain : {w : ℕ} → c .found ≡ true → w ≡ lastPlace c → c .«has_prelude_segment» ≡ false → 2 * w + 2 ≡ rowOf c
   unfolding rowIf flagNumber
@@ -75,12 +76,14 @@ module _ (c : Choice) where
       ∙ sym (ap (λ b. rowIf b (lastPlace c) (c .«has_prelude_segment»)) e ∙ ap (λ b. rowIf true (lastPlace c) b) t)
 
 -- the last step of a choice that was extended by an entry
-last-place : (s : Snapshot) (c : Choice) (n h : ℕ) (b : Bool) → length (c .route) ≡ 17 → c .steps < 17 → lastPlace (extended s c n (stepBy viaLocal h) b) ≡ h
+last-place : (s : Snapshot) (c : Choice) (n h : ℕ) (b : Bool) → length (c .route) ≡ 17 → c .steps < 17
+    → lastPlace (extended s c n (stepBy viaLocal h) b) ≡ h
 unfolding extended
 last-place s c n h b w o =
     let q : c .steps + 1 - 1 ≡ c .steps = omega arith in
     let g : (h * 8 + 6) / 8 ≡ h = omega arith in
-    ap (λ z. getD (set (c .route) (c .steps) (h * 8 + 6)) z 0 / 8) q ∙ ap (λ z. z / 8) (getD-set-same (c .route) (c .steps) (h * 8 + 6) 0 (omega (arith, w))) ∙ g
+    ap (λ z. getD (set (c .route) (c .steps) (h * 8 + 6)) z 0 / 8) q
+    ∙ ap (λ z. z / 8) (getD-set-same (c .route) (c .steps) (h * 8 + 6) 0 (omega (arith, w))) ∙ g
 
 some-is : (o : Option Scope) → isSome o ≡ true → (e : Scope) × (o ≡ some e)
 some-is none h = absurd (false≢true h)
@@ -99,7 +102,8 @@ row-offer e = subst (λ (z : Choice). z .count < 2 ^ 32) (sym e) (omega arith)
 pub row-entry : (W : List ℕ) (l : Layout) {h p : ℕ} → h ≡ p → ScopeFits (countsIn l) (scopeAt W p) → ScopeFits (countsIn l) (scopeAt W h)
 row-entry W l e f = subst (λ z. ScopeFits (countsIn l) (scopeAt W z)) (sym e) f
 
-pub row-choice : (W A : List ℕ) (l : Layout) (x : FindPathCtx) (c : Choice) (w : ℕ) {h : ℕ} {b d r : Choice} → h ≡ rowPlace w → b ≡ nothing → c .found ≡ true
+pub row-choice : (W A : List ℕ) (l : Layout) (x : FindPathCtx) (c : Choice) (w : ℕ) {h : ℕ} {b d r : Choice} → h ≡ rowPlace w
+    → b ≡ nothing → c .found ≡ true
     → d ≡ offerEntry (snapOf W A l) x b c (scopeAt W h) → r ≡ flagged d (rowFlag w)
     → r ≡ extended (snapOf W A l) c (scopeAt W (rowPlace w) .name) (stepBy viaLocal (rowPlace w)) (rowFlag w)
 row-choice W A l x c w {h} {b} {d} {r} eh eb f ed er =
@@ -140,7 +144,8 @@ module _ (W A : List ℕ) (l : Layout) (r : Reads W A l) (x : FindPathCtx) where
           fits = f .0 .0;
           taken = subst (λ z. has (locations S x [] m) z ≡ true) o (d .at .taken);
           entry = subst (λ z. imports S x m z ≡ true) o (d .at .entry);
-          found = subst (λ z. searchLocal S x z [] (d .entry .owner) .found ≡ true) q (subst (λ z. searchLocal S x j [] z .found ≡ true) o (d .found));
+          found = subst (λ z. searchLocal S x z [] (d .entry .owner) .found ≡ true) q
+              (subst (λ z. searchLocal S x j [] z .found ≡ true) o (d .found));
           same =
               d .same
               ∙ ap (λ z. extended S (searchLocal S x j [] z) (d .entry .name) (stepBy viaLocal (d .entry .place)) (d .flag)) o
@@ -157,7 +162,8 @@ module _ (W A : List ℕ) (l : Layout) (r : Reads W A l) (x : FindPathCtx) where
       last-made : lastPlace c ≡ d .entry .place
       last-made =
           ap (λ (z : Choice). lastPlace z) (e ∙ d .same)
-          ∙ last-place S (searchLocal S x j [] (d .from)) (d .entry .name) (d .entry .place) (d .flag) (fitting .wide) (omega (arith, fitting .once, fitting .few))
+          ∙ last-place S (searchLocal S x j [] (d .from)) (d .entry .name) (d .entry .place) (d .flag) (fitting .wide)
+          (omega (arith, fitting .once, fitting .few))
 
       flag-made : c .«has_prelude_segment» ≡ d .flag
       unfolding extended
@@ -178,7 +184,8 @@ module _ (W A : List ℕ) (l : Layout) (r : Reads W A l) (x : FindPathCtx) where
       row-made f =
           let h = d .entry .place in
           let w : rowOf c ≡ rowIf true h (d .flag) = λ i. rowIf (f i) (last-made i) (flag-made i) in
-          let p : scopeAt W (rowPlace (rowOf c)) ≡ d .entry = ap (λ z. scopeAt W (rowPlace z)) w ∙ ap (λ z. scopeAt W z) (place-back h (d .flag)) ∙ standing in
+          let p : scopeAt W (rowPlace (rowOf c)) ≡ d .entry = ap (λ z. scopeAt W (rowPlace z)) w ∙ ap (λ z. scopeAt W z) (place-back h (d .flag))
+          ∙ standing in
           let b : rowFlag (rowOf c) ≡ d .flag = ap rowFlag w ∙ flag-back h (d .flag) in
           record {
             nowhere = λ z. absurd (omega (arith, row-least h (d .flag), w, z));
@@ -188,7 +195,8 @@ module _ (W A : List ℕ) (l : Layout) (r : Reads W A l) (x : FindPathCtx) where
           }
 
   -- the answer with no levels for a module that is not nearer and that no rule answers for
-  module _ (j k m : ℕ) (q : k ≡ suc j) (low : (i : ℕ) → near S x [] i m ≡ true → k ≤ i) (u : ruled S x m ≡ false) {c : Choice} (e : c ≡ searchLocal S x k [] m) (few : k ≤ 16) where
+  module _ (j k m : ℕ) (q : k ≡ suc j) (low : (i : ℕ) → near S x [] i m ≡ true → k ≤ i) (u : ruled S x m ≡ false) {c : Choice}
+      (e : c ≡ searchLocal S x k [] m) (few : k ≤ 16) where
     at-next : c ≡ searchLocal S x (suc j) [] m
     at-next = e ∙ ap (λ z. searchLocal S x z [] m) q
 
@@ -218,7 +226,8 @@ rows-at W A B l x r v e f m h =
     (subst (λ z. Row W l (snapOf W A l) x z m (rowAt B m)) d (subst (λ z. Row W l (snapOf W A l) x (distance A m) m z) o (v m h)))
 
 -- a store between the numbers and the rows
-pub rows-set : (W A : List ℕ) (l : Layout) (x : FindPathCtx) (i w : ℕ) → Reads W A l → Rows W A l x → distancesEnd ≤ i → i < rowsAt → Rows W (set A i w) l x
+pub rows-set : (W A : List ℕ) (l : Layout) (x : FindPathCtx) (i w : ℕ) → Reads W A l → Rows W A l x → distancesEnd ≤ i → i < rowsAt
+    → Rows W (set A i w) l x
 rows-set W A l x i w r v h k =
     rows-at W A (set A i w) l x r v (take-set-le distancesEnd A i w h) (λ j o. getD-set-other A i j w 0 (λ q. omega arith))
 
@@ -235,7 +244,8 @@ rows-put W A l x m w r size known v row i h =
     ⊎-elim
     (λ t.
     let q : m ≡ i = sym (eqb-true i m t) in
-    let g : w ≡ rowAt B i = sym (ap (λ z. getD B (rowsAt + z) 0) (sym q) ∙ getD-set-same A (rowsAt + m) w 0 (omega (arith, size, known, r .tables .limited .modules))) in
+    let g : w ≡ rowAt B i = sym (ap (λ z. getD B (rowsAt + z) 0) (sym q) ∙ getD-set-same A (rowsAt + m) w 0
+    (omega (arith, size, known, r .tables .limited .modules))) in
     back (subst (λ z. Row W l (snapOf W A l) x (distance A i) i z) g (subst (λ z. Row W l (snapOf W A l) x (distance A z) z w) q row)))
     (λ t.
     let g : rowAt A i ≡ rowAt B i = sym (getD-set-other A (rowsAt + m) (rowsAt + i) w 0 (λ q. eqb-false i m t (omega arith))) in
@@ -253,7 +263,8 @@ module _ (A₀ : List ℕ) (n : ℕ) (A : List ℕ) (v : Cleared A₀ n A) where
       record {
         none = λ m o.
             ⊎-elim (λ t. getD-set-other A (rowsAt + n) (rowsAt + m) 0 0 (λ q. omega arith) ∙ v .none m t)
-            (λ t. let q : m ≡ n = omega arith in ap (λ z. rowAt (set A (rowsAt + n) 0) z) q ∙ getD-set-same A (rowsAt + n) 0 0 (omega arith)) (less-or m n);
+            (λ t. let q : m ≡ n = omega arith in ap (λ z. rowAt (set A (rowsAt + n) 0) z) q ∙ getD-set-same A (rowsAt + n) 0 0 (omega arith))
+            (less-or m n);
         below = take-set-le rowsAt A (rowsAt + n) 0 (omega arith) ∙ v .below;
       }
 

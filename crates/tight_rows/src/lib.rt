@@ -126,8 +126,10 @@ pub fn from_row(
     c: Choice,
     row: usize,
 ) -> Choice
-    requires { ⌜ Reads (now words) (now area) l × (2 ≤ row) × ScopeFits (countsIn l) (scopeAt (now words) (rowPlace row)) × (c .found ≡ true) × (c .count < 16) × (c .«path_text_len» < 2 ^ 32) × (c .steps < 17) ⌝ }
-    ensures { λ r. ⌜ r ≡ extended (snapOf (now (words .entry)) (now (area .entry)) l) c (scopeAt (now (words .entry)) (rowPlace row) .name) (stepBy viaLocal (rowPlace row)) (rowFlag row) ⌝ }
+    requires { ⌜ Reads (now words) (now area) l × (2 ≤ row) × ScopeFits (countsIn l) (scopeAt (now words) (rowPlace row))
+        × (c .found ≡ true) × (c .count < 16) × (c .«path_text_len» < 2 ^ 32) × (c .steps < 17) ⌝ }
+    ensures { λ r. ⌜ r ≡ extended (snapOf (now (words .entry)) (now (area .entry)) l) c (scopeAt (now (words .entry)) (rowPlace row) .name)
+        (stepBy viaLocal (rowPlace row)) (rowFlag row) ⌝ }
 {
     let h = row_place(row);
     let d = offer_entry(words, area, l, x, nothing(), c, h);

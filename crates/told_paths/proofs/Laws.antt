@@ -1,28 +1,24 @@
 -- Laws of paths that are told.
-use Prim.Native.Nat.{ℕ, zero, suc, _+_, _-_, _≤_, _<_, _^_}
+use Prim.Native.Nat.{ℕ, suc, _+_, _≤_, _<_, _^_}
 use mathlib.Core.Path.{_≡_, refl, sym, ap, ap₂, subst, _∙_}
 use mathlib.Core.List.{List, [], _∷_, _++_, append-assoc}
-use mathlib.Core.Bool.{Bool, true, false, not, true≢false}
+use mathlib.Core.Bool.{true, false, not, true≢false}
 use mathlib.Core.Option.{Option, none, some}
 use native.Mathlib.Omega.{arith}
 use borrow.Author.Tests.{leb-true, leb-false, le-leb, lt-leb, lt-ltb, le-ltb, not-true, not-false}
-use lib.Dec.{ltb, leb}
-use lib.ListN.{length, length-append, drop, set, length-set, replicate, length-replicate}
+use lib.Dec.{leb}
+use lib.ListN.{length, length-append, drop, set, replicate, length-replicate}
 use lib.Seq.{set-append-seam, drop-cons}
 use Rattle.snapshot.specs.Records.{Snapshot}
-use Rattle.snapshot.specs.Limits.{moduleLimit}
 use Rattle.accept.proofs.Accepted.{by-test}
-use Rattle.nameable.specs.Paths.{Keyword, supers, crate, Path, keyword, absolute, plain, into, namesIn, namesOf}
+use Rattle.nameable.specs.Paths.{supers, Path, keyword, absolute, plain, into, namesIn, namesOf}
 use Rattle.nameable.specs.Breadth.{namesLimit, shorter}
-use Rattle.nameable.proofs.Lists.{none-some}
-use Rattle.any_path.specs.Rows.{linkAt, nameAt, keywordFrom, pathFrom, pathAt}
-use Rattle.any_path.proofs.Taken.{link-into}
+use Rattle.any_path.specs.Rows.{pathFrom, pathAt}
 use Rattle.arrivals.specs.declared.OptStep.{OptStep}
 use Rattle.arrivals.specs.declared.OptStep.the-variants.{Step, NoStep}
 use Rattle.arrivals.specs.Steps.{Steps, LeadsTo}
-use Rattle.arrivals.proofs.Steps.{row-path}
 use Rattle.told_paths.specs.declared.ToldPath.{ToldPath}
-use Rattle.told_paths.specs.Tells.{stepLink, keywordKind, kindOf, keywordSupers, supersOf, padded, toldNone, toldLong, tell, toldBy}
+use Rattle.told_paths.specs.Tells.{stepLink, kindOf, supersOf, padded, toldNone, toldLong, tell, toldBy}
 
 pub length-names : (p : Path) → length (namesOf p) ≡ namesIn p
 unfolding namesOf namesIn
@@ -91,7 +87,8 @@ module _ (p : Path) (n : ℕ) {t : ToldPath} (e : t ≡ tell p) where
       let whole : t ≡ wholly p = e ∙ tell-few p (omega (arith, k, h)) in
       let size : length (namesOf p) ≡ namesIn p = length-names p in
       tell-made (into p n) (omega (arith, k, h)) (ap (λ (u : ToldPath). u .kind) whole) (ap (λ (u : ToldPath). u .supers) whole)
-      (ap₂ (λ (N : List ℕ) (i : ℕ). set N i n) (ap (λ (u : ToldPath). u .names) whole) (k ∙ sym size) ∙ pad-more (namesOf p) n (omega (arith, size, k, h)))
+      (ap₂ (λ (N : List ℕ) (i : ℕ). set N i n) (ap (λ (u : ToldPath). u .names) whole) (k ∙ sym size)
+      ∙ pad-more (namesOf p) n (omega (arith, size, k, h)))
       (omega (arith, ec, k))
 
 -- The shorter of two.
@@ -161,7 +158,8 @@ module _ (A : List ℕ) (n : ℕ) (q : OptStep) where
   unfolding stepLink
   step-link {k} {x} {p} e h = let same : stepLink q ≡ k = ap stepLink e in omega (arith, h, same)
 
-  pub leads-none : q ≡ NoStep → {t : ToldPath} → t ≡ toldNone → (s : Snapshot) (from ns : ℕ) (o : Option Path) → LeadsTo s from ns A n o q → t ≡ toldBy o
+  pub leads-none : q ≡ NoStep → {t : ToldPath} → t ≡ toldNone → (s : Snapshot) (from ns : ℕ) (o : Option Path) → LeadsTo s from ns A n o q
+      → t ≡ toldBy o
   unfolding LeadsTo toldBy
   leads-none e et s from ns o h =
       let z : o ≡ none = subst (λ (u : OptStep). LeadsTo s from ns A n o u) e h in et ∙ sym (ap toldBy z)

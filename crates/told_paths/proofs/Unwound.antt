@@ -10,7 +10,6 @@ use Rattle.nameable.specs.Breadth.{namesLimit}
 use Rattle.any_path.specs.Rows.{linkAt, nameAt, keywordFrom, pathFrom, pathAt}
 use Rattle.any_path.proofs.Taken.{link-into}
 use Rattle.arrivals.proofs.Steps.{row-path}
-use Rattle.told_paths.specs.declared.ToldPath.{ToldPath}
 use Rattle.told_paths.specs.Tells.{keywordKind, kindOf, keywordSupers, supersOf, padded, tell}
 use Rattle.told_paths.proofs.Laws.{length-names, tell-made}
 
@@ -43,7 +42,8 @@ names-on (into p n) N h =
 names-padded : (p : Path) → namesIn p ≤ namesLimit → namesOn p (replicate 16 0) ≡ padded (namesOf p)
 unfolding padded
 names-padded p h =
-    names-on p (replicate 16 0) (omega (arith, length-replicate {A = ℕ} 16 0, h)) ∙ ap (λ (k : ℕ). namesOf p ++ drop k (replicate 16 0)) (sym (length-names p))
+    names-on p (replicate 16 0) (omega (arith, length-replicate {A = ℕ} 16 0, h)) ∙ ap (λ (k : ℕ). namesOf p ++ drop k (replicate 16 0))
+    (sym (length-names p))
 
 -- the number of names goes by the link alone
 names-any : (f : ℕ → Path) (k x y : ℕ) → namesIn (pathFrom f k x) ≡ namesIn (pathFrom f k y)

@@ -3,7 +3,7 @@ use Prim.Native.Nat.{ℕ, zero, suc}
 use mathlib.Core.List.{List, _++_}
 use mathlib.Core.Bool.{true, false}
 use mathlib.Core.Option.{Option, none, some}
-use lib.Dec.{ltb, leb}
+use lib.Dec.{leb}
 use lib.ListN.{length, drop, replicate}
 use Rattle.nameable.specs.Paths.{Keyword, supers, crate, Path, keyword, absolute, plain, into, namesIn, namesOf}
 use Rattle.nameable.specs.Breadth.{namesLimit}

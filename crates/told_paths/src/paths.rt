@@ -93,7 +93,8 @@ fn names_in(area: &[u32], n: usize, link: usize) -> usize
 
 // The path with that last step, which has so many names.
 fn read(area: &[u32], n: usize, link: usize, name: usize, count: usize) -> ToldPath
-    requires { ⌜ (n ≤ moduleLimit) × (link < n + 3) × ((i : ℕ) → i < n → linkAt (now area) i < i + 3) × (count ≤ namesLimit) × (count ≡ namesIn (pathFrom (pathAt (now area)) link name)) ⌝ }
+    requires { ⌜ (n ≤ moduleLimit) × (link < n + 3) × ((i : ℕ) → i < n → linkAt (now area) i < i + 3) × (count ≤ namesLimit)
+        × (count ≡ namesIn (pathFrom (pathAt (now area)) link name)) ⌝ }
     ensures { λ r. ⌜ r ≡ tellOf (pathFrom (pathAt (now (area .entry))) link name) ⌝ }
     ensures { λ r. ⌜ r .count ≤ namesLimit ⌝ }
 {

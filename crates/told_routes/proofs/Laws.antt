@@ -1,7 +1,7 @@
 -- Each case of a name.
-use Prim.Native.Nat.{ℕ, zero, suc, _+_, _-_, _≤_, _<_}
-use mathlib.Core.Path.{_≡_, refl, sym, ap, ap₂, subst, _∙_}
-use mathlib.Core.List.{List, [], _∷_}
+use Prim.Native.Nat.{ℕ, suc, _-_, _≤_, _<_}
+use mathlib.Core.Path.{_≡_, refl, sym, ap, subst, _∙_}
+use mathlib.Core.List.{List}
 use mathlib.Core.Bool.{true, false, _&&_}
 use mathlib.Core.Option.{Option, none, some, Option·map}
 use native.Mathlib.Omega.{arith}
@@ -25,7 +25,8 @@ use Rattle.hir_def.specs.Finds.{firstOf}
 use Rattle.hir_def.specs.Items.{types, macros, definitionOf, crateData, itemOf, moduleItem, definedItem}
 use Rattle.hir_def.specs.declared.Item.{Item}
 use Rattle.hir_def.specs.declared.Item.the-variants.{Mod, Def}
-use Rattle.nameable.specs.Paths.{Keyword, supers, crate, Path, keyword, absolute, plain, into, Named, named, asNamed, entriesIn, variantNamed, placeIn}
+use Rattle.nameable.specs.Paths.{Keyword, supers, crate, Path, keyword, absolute, plain, into, Named, named, asNamed, entriesIn, variantNamed}
+use Rattle.nameable.specs.Paths.{placeIn}
 use Rattle.nameable.specs.Paths.{variantsIn, externNamed, absolutes, within, aboveOr, above, keywordModule, moduleNamed, after, reads, itemIn}
 use Rattle.nameable.specs.Queue.{seenNamed}
 use Rattle.nameable.proofs.Lists.{none-some, first-found}

@@ -44,7 +44,8 @@ pub(crate) fn start(
     supers: usize,
 ) -> OptItem
     requires { ⌜ Reads (now words) (now area) l × (from .0 < l .modules) ⌝ }
-    ensures { λ r. ⌜ meant r ≡ itemIn (reads (snapOf (now (words .entry)) (now (area .entry)) l) (from .0) types (keyword (keywordBy kind supers))) ⌝ }
+    ensures { λ r. ⌜ meant r ≡ itemIn (reads (snapOf (now (words .entry)) (now (area .entry)) l) (from .0) types (keyword (keywordBy kind supers)))
+        ⌝ }
 {
     if kind == PathKind::CRATE {
         return OptItem::Means(Item::Mod(crate_root(words, area, l, from)));

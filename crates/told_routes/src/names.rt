@@ -7,7 +7,8 @@ ghost use Rattle.snapshot.specs.Records.{scopeAt, externAt};
 ghost use Rattle.snapshot.specs.Layouts.{wordCount, snapOf};
 ghost use Rattle.accept.specs.Post.{Reads};
 ghost use Rattle.hir_def.specs.Items.{types};
-ghost use Rattle.nameable.specs.Paths.{Path, absolute, plain, Named, named, asNamed, entriesIn, variantsIn, externNamed, within, after, reads, itemIn};
+ghost use Rattle.nameable.specs.Paths.{Path, absolute, plain, Named, named, asNamed, entriesIn, variantsIn, externNamed, within, after, reads};
+ghost use Rattle.nameable.specs.Paths.{itemIn};
 ghost use Rattle.read_back.specs.Answers.{meant};
 ghost use Rattle.told_routes.specs.Routes.{nextPath, Answers};
 use crate::Meaning;
@@ -186,7 +187,8 @@ fn read_after(
     name: Name,
 ) -> Meaning
     requires { ⌜ Reads (now words) (now area) l × (from .0 < l .modules) ⌝ }
-    ensures { λ r. ⌜ ((o : Option Named) → meant here ≡ itemIn o → Answers (after o (λ x. named (name .0) (within (snapOf (now (words .entry)) (now (area .entry)) l) (from .0) ns x))) r) ⌝ }
+    ensures { λ r. ⌜ ((o : Option Named) → meant here ≡ itemIn o
+        → Answers (after o (λ x. named (name .0) (within (snapOf (now (words .entry)) (now (area .entry)) l) (from .0) ns x))) r) ⌝ }
 {
     let OptItem::Means(x) = here else {
         return nothing();
@@ -207,7 +209,8 @@ pub(crate) fn read_name(
     name: Name,
 ) -> Meaning
     requires { ⌜ Reads (now words) (now area) l × (from .0 < l .modules) ⌝ }
-    ensures { λ r. ⌜ ((p : Path) → meant here ≡ itemIn (reads (snapOf (now (words .entry)) (now (area .entry)) l) (from .0) types p) → Answers (reads (snapOf (now (words .entry)) (now (area .entry)) l) (from .0) ns (nextPath kind k p (name .0))) r) ⌝ }
+    ensures { λ r. ⌜ ((p : Path) → meant here ≡ itemIn (reads (snapOf (now (words .entry)) (now (area .entry)) l) (from .0) types p)
+        → Answers (reads (snapOf (now (words .entry)) (now (area .entry)) l) (from .0) ns (nextPath kind k p (name .0))) r) ⌝ }
 {
     if 0 < k {
         return read_after(words, area, l, from, here, ns, name);

@@ -36,7 +36,8 @@ fn route_by(
     t: ToldPath,
 ) -> [usize; 16]
     requires { ⌜ Reads (now words) (now area) l × (from .0 < l .modules) × (t .count ≤ namesLimit) ⌝ }
-    ensures { λ r. ⌜ r ≡ padded (routeOf (snapOf (now (words .entry)) (now (area .entry)) l) (from .0) ns (pathBy (t .kind) (t .supers) (t .names) (t .count))) ⌝ }
+    ensures { λ r. ⌜ r ≡ padded (routeOf (snapOf (now (words .entry)) (now (area .entry)) l) (from .0) ns
+        (pathBy (t .kind) (t .supers) (t .names) (t .count))) ⌝ }
 {
     let names = t.names;
     let kind = t.kind;
@@ -64,7 +65,8 @@ pub fn route_of(
     t: ToldPath,
 ) -> [usize; 16]
     requires { ⌜ Reads (now words) (now area) l × (from .0 < l .modules) ⌝ }
-    ensures { λ r. ⌜ ((p : Path) → t ≡ tell p → namesIn p ≤ namesLimit → r ≡ padded (routeOf (snapOf (now (words .entry)) (now (area .entry)) l) (from .0) ns p)) ⌝ }
+    ensures { λ r. ⌜ ((p : Path) → t ≡ tell p → namesIn p ≤ namesLimit
+        → r ≡ padded (routeOf (snapOf (now (words .entry)) (now (area .entry)) l) (from .0) ns p)) ⌝ }
 {
     if NameCount::LIMIT < t.count {
         let none = [0usize; 16];

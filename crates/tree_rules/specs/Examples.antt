@@ -62,14 +62,16 @@ smallest-accepted = refl
 
 -- The walk says that f is visible from the crate's root, and privacy that it is not.
 pub smallest-answers : asked smallestSnapshot 0 2 ≡ record { walk = true; privacy = false }
-unfolding moduleOf mapOf lastOr lastTo last metOr metTo met orElse containing unless climbStep climb inModule ofRoot blockStep moduleAround privately asked
+unfolding moduleOf mapOf lastOr lastTo last metOr metTo met orElse containing unless climbStep climb inModule ofRoot blockStep
+    moduleAround privately asked
 smallest-answers = refl
 
 -- fn o() { mod m { fn f() {} } { fn g() {} HERE } }
 -- 3 is the root of the inner block, HERE.
 abbrev pub outside : List ℕ
 outside =
-    0x20000000 ∷ 2021 ∷ 0x40000000 ∷ 0 ∷ 0 ∷ 0x50000000 ∷ 0 ∷ 0x40000000 ∷ 1 ∷ 0 ∷ 0x50000001 ∷ 0 ∷ 0x50000001 ∷ 2 ∷ 0x40000000 ∷ 2 ∷ 0 ∷ 0x50000002 ∷ 0 ∷ []
+    0x20000000 ∷ 2021 ∷ 0x40000000 ∷ 0 ∷ 0 ∷ 0x50000000 ∷ 0 ∷ 0x40000000 ∷ 1 ∷ 0 ∷ 0x50000001 ∷ 0 ∷ 0x50000001 ∷ 2 ∷ 0x40000000 ∷ 2
+    ∷ 0 ∷ 0x50000002 ∷ 0 ∷ []
 
 abbrev pub outsideSnapshot : Snapshot
 outsideSnapshot = oneCrate (aMap 0 ∷ aMap 1 ∷ aMap 2 ∷ []) (aModule 0 0 ∷ aModule 1 0 ∷ aModule 1 2 ∷ aModule 2 0 ∷ [])
@@ -83,14 +85,16 @@ outside-accepted = refl
 pub outside-answers : asked outsideSnapshot 3 2 ∷ asked outsideSnapshot 0 2 ∷ asked outsideSnapshot 1 2 ∷ asked outsideSnapshot 2 2 ∷ []
     ≡ record { walk = true; privacy = false } ∷ record { walk = true; privacy = false } ∷ record { walk = false; privacy = false }
     ∷ record { walk = true; privacy = true } ∷ []
-unfolding moduleOf mapOf lastOr lastTo last metOr metTo met orElse containing unless climbStep climb inModule ofRoot blockStep moduleAround privately asked
+unfolding moduleOf mapOf lastOr lastTo last metOr metTo met orElse containing unless climbStep climb inModule ofRoot blockStep
+    moduleAround privately asked
 outside-answers = refl
 
 -- fn o() { mod m { fn f() { impl super::S { fn h() {} } } } { fn g() {} HERE } }
 -- h is private in the root 3 of f's block, which stands in m; HERE is 4. Also a block's root can be where they differ.
 abbrev pub deeper : List ℕ
 deeper =
-    0x20000000 ∷ 2021 ∷ 0x40000000 ∷ 0 ∷ 0 ∷ 0x50000000 ∷ 0 ∷ 0x40000000 ∷ 1 ∷ 0 ∷ 0x50000001 ∷ 0 ∷ 0x50000001 ∷ 2 ∷ 0x40000000 ∷ 3 ∷ 0 ∷ 0x50000002 ∷ 0 ∷ 0x40000000 ∷ 2 ∷ 0 ∷ 0x50000003 ∷ 0 ∷ []
+    0x20000000 ∷ 2021 ∷ 0x40000000 ∷ 0 ∷ 0 ∷ 0x50000000 ∷ 0 ∷ 0x40000000 ∷ 1 ∷ 0 ∷ 0x50000001 ∷ 0 ∷ 0x50000001 ∷ 2 ∷ 0x40000000 ∷ 3
+    ∷ 0 ∷ 0x50000002 ∷ 0 ∷ 0x40000000 ∷ 2 ∷ 0 ∷ 0x50000003 ∷ 0 ∷ []
 
 abbrev pub deeperSnapshot : Snapshot
 deeperSnapshot = oneCrate (aMap 0 ∷ aMap 1 ∷ aMap 3 ∷ aMap 2 ∷ []) (aModule 0 0 ∷ aModule 1 0 ∷ aModule 1 2 ∷ aModule 2 0 ∷ aModule 3 0 ∷ [])
@@ -100,14 +104,16 @@ unfolding verdict records stepAt recordStep finish argumentsFrom argumentsOf cra
 deeper-accepted = refl
 
 pub deeper-answers : asked deeperSnapshot 4 3 ≡ record { walk = true; privacy = false }
-unfolding moduleOf mapOf lastOr lastTo last metOr metTo met orElse containing unless climbStep climb inModule ofRoot blockStep moduleAround privately asked
+unfolding moduleOf mapOf lastOr lastTo last metOr metTo met orElse containing unless climbStep climb inModule ofRoot blockStep
+    moduleAround privately asked
 deeper-answers = refl
 
 -- mod a { fn o() { { { HERE } } } }
 -- 0 is the crate's root, 1 is a, and 2, 3, 4 are three blocks, one in the other.
 abbrev pub nested : List ℕ
 nested =
-    0x20000000 ∷ 2021 ∷ 0x40000000 ∷ 0 ∷ 0 ∷ 0x50000000 ∷ 0 ∷ 0x50000000 ∷ 1 ∷ 0x40000000 ∷ 2 ∷ 0 ∷ 0x50000001 ∷ 0 ∷ 0x40000000 ∷ 3 ∷ 0 ∷ 0x50000002 ∷ 0 ∷ 0x40000000 ∷ 4 ∷ 0 ∷ 0x50000003 ∷ 0 ∷ []
+    0x20000000 ∷ 2021 ∷ 0x40000000 ∷ 0 ∷ 0 ∷ 0x50000000 ∷ 0 ∷ 0x50000000 ∷ 1 ∷ 0x40000000 ∷ 2 ∷ 0 ∷ 0x50000001 ∷ 0 ∷ 0x40000000 ∷ 3
+    ∷ 0 ∷ 0x50000002 ∷ 0 ∷ 0x40000000 ∷ 4 ∷ 0 ∷ 0x50000003 ∷ 0 ∷ []
 
 abbrev pub nestedSnapshot : Snapshot
 nestedSnapshot = oneCrate (aMap 0 ∷ aMap 2 ∷ aMap 3 ∷ aMap 4 ∷ []) (aModule 0 0 ∷ aModule 0 1 ∷ aModule 1 0 ∷ aModule 2 0 ∷ aModule 3 0 ∷ [])
@@ -120,7 +126,8 @@ nested-accepted = refl
 -- no `mod` is written inside a block, so they agree.
 pub nested-answers : asked nestedSnapshot 4 2 ∷ asked nestedSnapshot 1 4 ∷ asked nestedSnapshot 0 4 ∷ []
     ≡ record { walk = true; privacy = true } ∷ record { walk = true; privacy = true } ∷ record { walk = false; privacy = false } ∷ []
-unfolding moduleOf mapOf lastOr lastTo last metOr metTo met orElse containing unless climbStep climb inModule ofRoot blockStep moduleAround privately asked
+unfolding moduleOf mapOf lastOr lastTo last metOr metTo met orElse containing unless climbStep climb inModule ofRoot blockStep
+    moduleAround privately asked
 nested-answers = refl
 
 -- Of visibility 1, a crate's: seen from the crate's root, crate 0's is visible, and another crate's is not.

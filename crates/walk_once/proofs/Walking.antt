@@ -1,27 +1,25 @@
 -- The laws of the walk that is done once.
-use Prim.Native.Nat.{ℕ, _+_, _-_, _≤_, _<_}
-use mathlib.Core.Path.{_≡_, refl, sym, ap, subst, _∙_}
+use Prim.Native.Nat.{ℕ, _+_, _≤_, _<_}
+use mathlib.Core.Path.{_≡_, refl, sym, ap, _∙_}
 use mathlib.Core.List.{List, [], _∷_, _++_}
-use mathlib.Core.Bool.{Bool, false}
+use mathlib.Core.Bool.{false}
 use native.Mathlib.Omega.{arith}
 use lib.ListN.{length, getD, set, take}
 use lib.Seq.{getD-set-same, getD-set-other, take-set-le}
 use Rattle.snapshot.specs.Limits.{moduleLimit, areaLimit}
-use Rattle.snapshot.specs.Lists.{rows, any}
+use Rattle.snapshot.specs.Lists.{any}
 use Rattle.snapshot.specs.Records.{Snapshot}
-use Rattle.snapshot.specs.Layouts.{tableWords, snapOf}
+use Rattle.snapshot.specs.Layouts.{snapOf}
 use Rattle.snapshot.specs.declared.layout.Layout.{Layout}
 use Rattle.snapshot.proofs.Laws.{rows-ext, rows-snoc}
-use Rattle.accept.specs.Post.{Reads}
 use Rattle.hir_def.specs.declared.Item.{Item}
-use Rattle.find_path.specs.Walk.{Level, visited, findLocalImportLocations}
+use Rattle.find_path.specs.Walk.{visited, findLocalImportLocations}
 use Rattle.search_laws.proofs.Fewer.{walk-same}
 use Rattle.scope_index.specs.Index.{indexEnd}
 use Rattle.local_levels.specs.declared.Stack.{Stack}
-use Rattle.local_levels.specs.Levels.{codeOf, runAt, levelsOf, Chain}
+use Rattle.local_levels.specs.Levels.{runAt, levelsOf}
 use Rattle.local_levels.specs.Post.{Gathered}
-use Rattle.local_levels.proofs.Rows.{run-none, run-put, agree, take-less, run-same}
-use Rattle.local_levels.proofs.Stacks.{chain-none, snap-at}
+use Rattle.local_levels.proofs.Rows.{run-none, run-put, agree, run-same}
 use Rattle.walk_once.specs.Walked.{walkCount, walkEnd, Walked}
 use Rattle.walk_once.specs.Post.{Copied, Kept}
 
@@ -40,7 +38,8 @@ unfolding visited any
 none-visited item m = refl
 
 -- one module more is copied
-module _ (A₀ : List ℕ) (to n : ℕ) (A : List ℕ) (v : Copied A₀ to n A) (past : walkEnd ≤ to) (space : to + moduleLimit ≤ length A) (few : n < moduleLimit) where
+module _ (A₀ : List ℕ) (to n : ℕ) (A : List ℕ) (v : Copied A₀ to n A) (past : walkEnd ≤ to) (space : to + moduleLimit ≤ length A)
+    (few : n < moduleLimit) where
   pub copied-next : {w : ℕ} → w ≡ getD A (indexEnd + n) 0 → Copied A₀ to (n + 1) (set A (to + n) w)
   copied-next {w} e =
       let o : w ≡ getD A₀ (indexEnd + n) 0 = e ∙ agree A A₀ to (v .below) (indexEnd + n) (omega arith) in
@@ -71,7 +70,8 @@ module _ (W A₀ : List ℕ) (l : Layout) (from : ℕ) (s : Stack) (item : Item)
 -- the walk was taken
 module _ (W A₀ : List ℕ) (l : Layout) (from : ℕ) (item : Item) (size : length A₀ ≡ areaLimit) where
   pub kept-walk : (A : List ℕ) (n : ℕ) → length A ≡ length A₀
-      → Gathered A₀ indexEnd (findLocalImportLocations (snapOf W A₀ l) from (visited (levelsOf A₀ 0 0) item)) A n → Kept W A₀ l from (set A walkCount n)
+      → Gathered A₀ indexEnd (findLocalImportLocations (snapOf W A₀ l) from (visited (levelsOf A₀ 0 0) item)) A n
+      → Kept W A₀ l from (set A walkCount n)
   unfolding levelsOf
   kept-walk A n long g =
       let B = set A walkCount n in

@@ -6,11 +6,15 @@ use mathlib.Core.List.{List, [], _∷_}
 use lib.Dec.{eqb}
 use lib.ListN.{length, replicate}
 use Rattle.find_path.specs.declared.Question.{Question}
-use Rattle.window_rules.specs.States.{withRow, waits, askedBy, waiting, placeFault, placedUnless, afterPlace, firstFrom, served, afterServing, afterTurn}
+use Rattle.window_rules.specs.States.{withRow, waits, askedBy, waiting, placeFault, placedUnless, afterPlace, firstFrom, served, afterServing}
+use Rattle.window_rules.specs.States.{afterTurn}
 
 -- a question that is known by its fuel
 pub asked : ℕ → Question
-asked fuel = record { query = record { ns = 1; definition = record { 0 = 1 }; from = record { 0 = 0 }; prefix = 1; options = 0; limit = 15 }; fuel = fuel }
+asked fuel = record {
+  query = record { ns = 1; definition = record { 0 = 1 }; from = record { 0 = 0 }; prefix = 1; options = 0; limit = 15 };
+  fuel = fuel;
+}
 
 -- Operations: a question placed in that window, its fuel the number of operations after it; 9 a turn. Of a question its number is told, of a turn the
 -- window and the question's fuel.

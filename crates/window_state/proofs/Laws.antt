@@ -101,10 +101,12 @@ fault-free S w e = free (waits S w) refl
 
 -- a question served
 
-pub asked-part : (S : List ℕ) (w : ℕ) (q : Question) → length S ≡ 65 → q ≡ questionOf (midOf (1 + 8 * w + 1) (65 - (1 + 8 * w + 1)) S) → q ≡ askedBy S w
+pub asked-part : (S : List ℕ) (w : ℕ) (q : Question) → length S ≡ 65 → q ≡ questionOf (midOf (1 + 8 * w + 1) (65 - (1 + 8 * w + 1)) S)
+    → q ≡ askedBy S w
 unfolding askedBy
 asked-part S w q l e =
-    e ∙ ap (λ (n : ℕ). questionOf (midOf (1 + 8 * w + 1) (n - (1 + 8 * w + 1)) S)) (sym l) ∙ ap (λ (x : List ℕ). questionOf x) (mid-end (1 + 8 * w + 1) S)
+    e ∙ ap (λ (n : ℕ). questionOf (midOf (1 + 8 * w + 1) (n - (1 + 8 * w + 1)) S)) (sym l) ∙ ap (λ (x : List ℕ). questionOf x)
+    (mid-end (1 + 8 * w + 1) S)
 
 first-bound : (S : List ℕ) (w n : ℕ) → w < 8 → firstFrom S w n ≤ 8
 unfolding firstFrom

@@ -84,7 +84,15 @@ module _ (s : Windows) (w : ℕ) (d : Row) (h : w < length (s .rows)) where
   abbrev asked : Question
   asked =
       record {
-        query = record { ns = row .ns; definition = record { 0 = row .definition }; from = record { 0 = row .from }; prefix = row .prefix; options = row .options; limit = row .limit };
+        query = record {
+          ns = row .ns;
+          definition = record { 0 = row .definition };
+          from = record { 0 = row .from };
+          prefix =
+              row .prefix;
+          options = row .options;
+          limit = row .limit;
+        };
         fuel = row .fuel;
       }
 
@@ -134,7 +142,8 @@ module _ (S : List ℕ) (w : ℕ) (l : length S ≡ 65) (h : w < 8) where
       (read 2 5 (omega arith) ∙ ap (λ x. word 5 ∷ x) (read 1 6 (omega arith) ∙ ap (λ x. word 6 ∷ x) (read 0 7 (omega arith)))))))))
       ∙ ap (λ x. take 8 (drop x S)) z
 
-pub apart-next : (S : List ℕ) (R : List Row) (r : Row) (i : ℕ) → i < length R → rowsWords (take i R) ≡ take (8 * i) (drop 1 S) → rowWords r ≡ rowOf S i
+pub apart-next : (S : List ℕ) (R : List Row) (r : Row) (i : ℕ) → i < length R → rowsWords (take i R) ≡ take (8 * i) (drop 1 S)
+    → rowWords r ≡ rowOf S i
     → rowsWords (take (i + 1) (set R i r)) ≡ take (8 * (i + 1)) (drop 1 S)
 unfolding rowOf rowsWords
 apart-next S R r i h e k =
@@ -162,7 +171,8 @@ apart-done S R i l m h k e =
 
 -- and put together
 
-pub together-next : (S T : List ℕ) (R : List Row) (d : Row) (n i : ℕ) → length S ≡ 65 → i < 8 → i < length R → take (1 + 8 * i) S ≡ n ∷ rowsWords (take i R)
+pub together-next : (S T : List ℕ) (R : List Row) (d : Row) (n i : ℕ) → length S ≡ 65 → i < 8 → i < length R
+    → take (1 + 8 * i) S ≡ n ∷ rowsWords (take i R)
     → T ≡ withRow S i (rowWords (getD R i d)) → take (1 + 8 * (i + 1)) T ≡ n ∷ rowsWords (take (i + 1) R)
 unfolding withRow rowsWords
 together-next S T R d n i l h k e t =

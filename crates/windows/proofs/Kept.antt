@@ -79,7 +79,15 @@ row-waits S w =
 abbrev pub asking : List ℕ → Question
 asking r =
     record {
-      query = record { ns = getD r 1 0; definition = record { 0 = getD r 2 0 }; from = record { 0 = getD r 3 0 }; prefix = getD r 4 0; options = getD r 5 0; limit = getD r 7 0 };
+      query = record {
+        ns = getD r 1 0;
+        definition = record { 0 = getD r 2 0 };
+        from = record { 0 = getD r 3 0 };
+        prefix = getD r
+            4 0;
+        options = getD r 5 0;
+        limit = getD r 7 0;
+      };
       fuel = getD r 6 0;
     }
 

@@ -15,7 +15,8 @@ use Rattle.windows.specs.declared.turns.Turn.{Turn}
 use Rattle.windows.specs.Windows.{idleTurn, servingTurn, turnOf}
 use Rattle.windows.specs.Runs.{emptyState, Operation, placing, turning, afterOne, afterRun, turns, servingIn, servings, ServedWithin}
 use Rattle.window_state.proofs.Laws.{served-start, first-here, first-next, fault-room}
-use Rattle.windows.proofs.Kept.{asking, row-waits, row-asked, placed-row, place-puts, turn-serves, place-length, place-next, place-row, serving-next, serving-row, turn-length}
+use Rattle.windows.proofs.Kept.{asking, row-waits, row-asked, placed-row, place-puts, turn-serves, place-length, place-next, place-row}
+use Rattle.windows.proofs.Kept.{serving-next, serving-row, turn-length}
 
 -- Counting round, the first window that waits is as near as any other that waits.
 
@@ -218,7 +219,8 @@ module _ (S : List ℕ) (w d : ℕ) (l : length S ≡ 65) (t : waits S w ≡ tru
           let m : ServedWithin (d - c - 1 + 1) (afterTurn S) w (askedBy (afterTurn S) w) os =
           r (afterTurn S) (d - c - 1) (turn-length S l) (same-waits S (afterTurn S) w z ∙ t) b (less-by c d y) in
           turned-first S w (askedBy S w) os d z
-          (served-more (afterTurn S) w (d - c - 1 + 1) d (askedBy (afterTurn S) w) (askedBy S w) os (less-by c d y) (same-asked S (afterTurn S) w z) m)
+          (served-more (afterTurn S) w (d - c - 1 + 1) d (askedBy (afterTurn S) w) (askedBy S w) os (less-by c d y)
+          (same-asked S (afterTurn S) w z) m)
 
       at : (b : Bool) → eqb c d ≡ b → ServedWithin (d + 1) S w (askedBy S w) (turning ∷ os)
       at true x =

@@ -12,7 +12,8 @@ use Rattle.find_path.specs.Report.{flag}
 use Rattle.find_path.proofs.Worked.{passes}
 use Rattle.reports.specs.Written.{reportWords}
 use Rattle.windows.specs.declared.turns.Turn.{Turn}
-use Rattle.window_rules.specs.States.{withRow, waits, askedBy, waiting, placeFault, placedUnless, afterPlace, firstFrom, served, afterServing, afterTurn}
+use Rattle.window_rules.specs.States.{withRow, waits, askedBy, waiting, placeFault, placedUnless, afterPlace, firstFrom, served, afterServing}
+use Rattle.window_rules.specs.States.{afterTurn}
 use Rattle.windows.specs.Windows.{idleTurn, servingTurn, turnOf}
 use Rattle.windows.specs.Runs.{emptyState, Operation, placing, turning, afterOne, afterRun}
 
@@ -33,12 +34,16 @@ pub record Row : Type 0 where
 
 -- the turns are those of the definitions; `passes` unfolds the search
 pub passesAll : List Row → Bool
-unfolding passes turnWords told reportWords withRow waits askedBy waiting placeFault placedUnless afterPlace firstFrom served afterServing afterTurn idleTurn servingTurn turnOf emptyState
+unfolding passes turnWords told reportWords withRow waits askedBy waiting placeFault placedUnless afterPlace firstFrom served
+    afterServing afterTurn idleTurn servingTurn turnOf emptyState
 passesAll table = all (λ r. eqList (told emptyState (r .operations)) (r .turns)) table
 
 -- the function `f` from the root, with a fuel
 abbrev asked : ℕ → Question
-asked fuel = record { query = record { ns = 1; definition = record { 0 = 1 }; from = record { 0 = 0 }; prefix = 1; options = 0; limit = 15 }; fuel = fuel }
+asked fuel = record {
+  query = record { ns = 1; definition = record { 0 = 1 }; from = record { 0 = 0 }; prefix = 1; options = 0; limit = 15 };
+  fuel = fuel;
+}
 
 -- `found a::f 1 0 scope@21 local@29` of a window, `refused 21 0 0` of a window, and an idle turn
 abbrev found : ℕ → List ℕ

@@ -21,7 +21,8 @@ pub fn place(windows: &mut Windows, window: usize, question: &[u32; Size::QUESTI
 /// Serves the next window that waits, counting round from the one after that served last, on the words of a snapshot: its question
 /// waits no more. The work area is left as `find_path` leaves it. Where no question waits, the turn is idle and changes nothing.
 pub fn turn(windows: &mut Windows, words: &[u32], area: &mut [u32]) -> Turn
-    ensures { λ r. ⌜ Turned (wordsOf (now (windows .entry))) (now (words .entry)) (now (area .entry)) (wordsOf (now (windows .exit))) (now (area .exit)) r ⌝ }
+    ensures { λ r. ⌜ Turned (wordsOf (now (windows .entry))) (now (words .entry)) (now (area .entry))
+        (wordsOf (now (windows .exit))) (now (area .exit)) r ⌝ }
 {
     let t = turned(*windows, words, area);
     *windows = t.windows;

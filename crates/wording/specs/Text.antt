@@ -4,7 +4,8 @@ use Prim.Native.String.{String}
 use mathlib.Core.List.{List, _++_}
 use mathlib.Core.Bool.{true, false}
 use lib.Dec.{eqb}
-use Rattle.snapshot.specs.Refusals.{wordsRefusal, formRefusal, rangeRefusal, undefinedRefusal, repeatedRefusal, placeRefusal, countRefusal, bytesRefusal, restRefusal, editionRefusal}
+use Rattle.snapshot.specs.Refusals.{wordsRefusal, formRefusal, rangeRefusal, undefinedRefusal, repeatedRefusal, placeRefusal, countRefusal}
+use Rattle.snapshot.specs.Refusals.{bytesRefusal, restRefusal, editionRefusal}
 use Rattle.printing.specs.Output.{bytesOf, decimal}
 
 -- bytes of a buffer that serves for a text

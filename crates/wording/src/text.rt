@@ -118,7 +118,8 @@ fn put_first_lines(out: &mut [u8], at: usize, l: Layout) -> usize
 // The kinds from children to externs.
 fn put_last_lines(out: &mut [u8], at: usize, l: Layout) -> usize
     requires { ⌜ at + 179 ≤ length (now out) ⌝ }
-    ensures { λ r. ⌜ Put (now (out .entry)) at (lastLines (l .children) (l .preludes) (l .definitions) (l .scopes) (l .imports) (l .externs)) (now (out .exit)) r ⌝ }
+    ensures { λ r. ⌜ Put (now (out .entry)) at (lastLines (l .children) (l .preludes) (l .definitions) (l .scopes) (l .imports) (l .externs))
+        (now (out .exit)) r ⌝ }
     ensures { λ r. ⌜ r ≤ at + 179 ⌝ }
 {
     let a = put_line(out, at, b"children ", l.children);
@@ -132,7 +133,10 @@ fn put_last_lines(out: &mut [u8], at: usize, l: Layout) -> usize
 /// How many records of each kind there are.
 pub fn put_counts(out: &mut [u8], l: Layout) -> usize
     requires { ⌜ textLimit ≤ length (now out) ⌝ }
-    ensures { λ r. ⌜ Put (now (out .entry)) 0 (bytesOf "accepted\n" ++ (firstLines (l .names) (l .crates) (l .dependencies) (l .maps) (l .modules) ++ (lastLines (l .children) (l .preludes) (l .definitions) (l .scopes) (l .imports) (l .externs) ++ line "members " (l .members)))) (now (out .exit)) r ⌝ }
+    ensures { λ r. ⌜ Put (now (out .entry)) 0
+        (bytesOf "accepted\n" ++ (firstLines (l .names) (l .crates) (l .dependencies) (l .maps) (l .modules)
+        ++ (lastLines (l .children) (l .preludes) (l .definitions) (l .scopes) (l .imports) (l .externs) ++ line "members " (l .members))))
+        (now (out .exit)) r ⌝ }
 {
     let a = put(out, 0, b"accepted\n");
     let b = put_first_lines(out, a, l);

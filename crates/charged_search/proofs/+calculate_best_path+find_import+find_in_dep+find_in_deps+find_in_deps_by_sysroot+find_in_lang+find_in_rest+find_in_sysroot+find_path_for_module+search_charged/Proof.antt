@@ -19,9 +19,11 @@ use Rattle.find_path.specs.Conditions.{Searched}
 use Rattle.search_laws.proofs.Unfold.{length-falls}
 use Rattle.search_laws.proofs.Tables.{same-reads}
 use Rattle.charged_search.specs.Parts.{outOf, imports, dependencies, sysroot}
-use Rattle.charged_search.proofs.Parts.{at-home, module-ns, module-none, module-found, module-charged, best-empty, best-charged, go-here, go-sysroot, go-dependencies, lang-stable, lang-none, lang-some, rest-stable, import-hidden}
+use Rattle.charged_search.proofs.Parts.{at-home, module-ns, module-none, module-found, module-charged, best-empty, best-charged, go-here}
+use Rattle.charged_search.proofs.Parts.{go-sysroot, go-dependencies, lang-stable, lang-none, lang-some, rest-stable, import-hidden}
 use Rattle.charged_search.proofs.Holding.{offered, charge-sum, module-small, held-nothing, home-below}
-use Rattle.charged_search.proofs.Runs.{Running, begun-later, lang-passed, deps-passed, lang-run, rest-run, import-run, running-done, left-none, imports-end, imports-next, deps-end, deps-next}
+use Rattle.charged_search.proofs.Runs.{Running, begun-later, lang-passed, deps-passed, lang-run, rest-run, import-run, running-done, left-none}
+use Rattle.charged_search.proofs.Runs.{imports-end, imports-next, deps-end, deps-next}
 use borrow.Fn.Kinds.{In}
 use borrow.Fn.PlainCycle.{Measures, is, falls, and}
 use Rattle.charged_search.proofs.calculate_best_path.Reads as calculate-best-path
@@ -240,180 +242,182 @@ search-charged-below t =
     (falls 2 search-charged-kinds.ps _<_ μ-search-charged t)
     search-charged.Pre
 
-calculate-best-path-charge-requires : (t : ℕ) → calculate-best-path-lts.Need-charge-requires (
+abbrev calculate-best-path-claims : ℕ → calculate-best-path-lts.Claims
+calculate-best-path-claims t = (
   charge-reads.Asked,
   charge-reads.Learnt,
   nothing-reads.Asked,
   nothing-reads.Learnt,
   search-charged-below t,
   search-charged.Post,
-) (calculate-best-path-at t) calculate-best-path.Post
+)
+
+abbrev find-import-claims : ℕ → find-import-lts.Claims
+find-import-claims t = (
+  is-hidden-reads.Asked,
+  is-hidden-reads.Learnt,
+  length-left-reads.Asked,
+  length-left-reads.Learnt,
+  import-container-reads.Asked,
+  import-container-reads.Learnt,
+  find-path-for-module-below t,
+  find-path-for-module.Post,
+  offer-import-reads.Asked,
+  offer-import-reads.Learnt,
+)
+
+abbrev find-in-dep-claims : ℕ → find-in-dep-lts.Claims
+find-in-dep-claims t = (
+  import-info-for-reads.Asked,
+  import-info-for-reads.Learnt,
+  find-import-below t,
+  find-import.Post,
+)
+
+abbrev find-in-deps-claims : ℕ → find-in-deps-lts.Claims
+find-in-deps-claims t = (
+  next-dependency-reads.Asked,
+  next-dependency-reads.Learnt,
+  dependency-crate-reads.Asked,
+  dependency-crate-reads.Learnt,
+  find-in-dep-below t,
+  find-in-dep.Post,
+)
+
+abbrev find-in-deps-by-sysroot-claims : ℕ → find-in-deps-by-sysroot-lts.Claims
+find-in-deps-by-sysroot-claims t = (
+  next-by-sysroot-reads.Asked,
+  next-by-sysroot-reads.Learnt,
+  dependency-crate-reads.Asked,
+  dependency-crate-reads.Learnt,
+  find-in-dep-below t,
+  find-in-dep.Post,
+)
+
+abbrev find-in-lang-claims : ℕ → find-in-lang-lts.Claims
+find-in-lang-claims t = (
+  is-stable-reads.Asked,
+  is-stable-reads.Learnt,
+  lang-of-reads.Asked,
+  lang-of-reads.Learnt,
+  dependency-crate-reads.Asked,
+  dependency-crate-reads.Learnt,
+  find-in-dep-below t,
+  find-in-dep.Post,
+)
+
+abbrev find-in-rest-claims : ℕ → find-in-rest-lts.Claims
+find-in-rest-claims t = (
+  is-stable-reads.Asked,
+  is-stable-reads.Learnt,
+  find-in-deps-by-sysroot-below t,
+  find-in-deps-by-sysroot.Post,
+)
+
+abbrev find-in-sysroot-claims : ℕ → find-in-sysroot-lts.Claims
+find-in-sysroot-claims t = (
+  langs-for-reads.Asked,
+  langs-for-reads.Learnt,
+  find-in-lang-below t,
+  find-in-lang.Post,
+  find-in-rest-below t,
+  find-in-rest.Post,
+)
+
+abbrev find-path-for-module-claims : ℕ → find-path-for-module-lts.Claims
+find-path-for-module-claims t = (
+  nothing-reads.Asked,
+  nothing-reads.Learnt,
+  module-rules-reads.Asked,
+  module-rules-reads.Learnt,
+  calculate-best-path-below t,
+  calculate-best-path.Post,
+)
+
+abbrev search-charged-claims : ℕ → search-charged-lts.Claims
+search-charged-claims t = (
+  home-of-reads.Asked,
+  home-of-reads.Learnt,
+  is-at-reads.Asked,
+  is-at-reads.Learnt,
+  calculate-best-path-local-reads.Asked,
+  calculate-best-path-local-reads.Learnt,
+  nothing-reads.Asked,
+  nothing-reads.Learnt,
+  find-in-sysroot-below t,
+  find-in-sysroot.Post,
+  find-in-deps-below t,
+  find-in-deps.Post,
+)
+
+calculate-best-path-charge-requires : (t : ℕ) → calculate-best-path-lts.Need-charge-requires (calculate-best-path-claims t)
+    (calculate-best-path-at t) calculate-best-path.Post
 calculate-best-path-charge-requires t c κs =
-    let o = c .before .before in
-    (module-small (now (o .args .words)) (now (o .args .area)) (o .args .l) (o .args .item) (o .pre .1 .0 .ready .reads) (o .pre .1 .1 .0), o .pre .1 .2)
-
-calculate-best-path-enum-known-meter : (t : ℕ) → calculate-best-path-lts.Need-enum-known-meter (
-  charge-reads.Asked,
-  charge-reads.Learnt,
-  nothing-reads.Asked,
-  nothing-reads.Learnt,
-  search-charged-below t,
-  search-charged.Post,
-) (calculate-best-path-at t) calculate-best-path.Post
-calculate-best-path-enum-known-meter t c = search needs
-
-calculate-best-path-nothing-requires : (t : ℕ) → calculate-best-path-lts.Need-nothing-requires (
-  charge-reads.Asked,
-  charge-reads.Learnt,
-  nothing-reads.Asked,
-  nothing-reads.Learnt,
-  search-charged-below t,
-  search-charged.Post,
-) (calculate-best-path-at t) calculate-best-path.Post
-calculate-best-path-nothing-requires t c κs = tt
-
-calculate-best-path-enum-known-meter-2 : (t : ℕ) → calculate-best-path-lts.Need-enum-known-meter-2 (
-  charge-reads.Asked,
-  charge-reads.Learnt,
-  nothing-reads.Asked,
-  nothing-reads.Learnt,
-  search-charged-below t,
-  search-charged.Post,
-) (calculate-best-path-at t) calculate-best-path.Post
-calculate-best-path-enum-known-meter-2 t c = search needs
+    let o = c .before .before in (
+      module-small (now (o .args .words)) (now (o .args .area)) (o .args .l) (o .args .item) (o .pre .1 .0 .ready .reads)
+          (o .pre .1 .1 .0),
+      o .pre .1 .2,
+    )
 
 calculate-best-path-search-charged-requires :
-    (t : ℕ) → calculate-best-path-lts.Need-search-charged-requires (
-      charge-reads.Asked,
-      charge-reads.Learnt,
-      nothing-reads.Asked,
-      nothing-reads.Learnt,
-      search-charged-below t,
-      search-charged.Post,
-    ) (calculate-best-path-at t) calculate-best-path.Post
+    (t : ℕ) → calculate-best-path-lts.Need-search-charged-requires (calculate-best-path-claims t) (calculate-best-path-at t) calculate-best-path.Post
 calculate-best-path-search-charged-requires t c κs =
     let o = c .before .before .before .before .before .before .before in
-    let a = o .args in
-    (omega (arith, o .pre .0), (o .pre .1 .0, o .pre .1 .1, charge-sum (a .left) _ (a .t) (c .before .before .before .before .charge .ensures) (c .before .before .meter2 .given .1) (o .pre .1 .2)))
+    let a = o .args in (
+      omega (arith, o .pre .0),
+      (
+        o .pre .1 .0,
+        o .pre .1 .1,
+        charge-sum (a .left) _ (a .t) (c .before .before .before .before .charge .ensures)
+            (c .before .before .meter2 .given .1) (o .pre .1 .2),
+      ),
+    )
 
-calculate-best-path-returns : (t : ℕ) → calculate-best-path-lts.Need-returns (
-  charge-reads.Asked,
-  charge-reads.Learnt,
-  nothing-reads.Asked,
-  nothing-reads.Learnt,
-  search-charged-below t,
-  search-charged.Post,
-) (calculate-best-path-at t) calculate-best-path.Post
+calculate-best-path-returns : (t : ℕ) → calculate-best-path-lts.Need-returns (calculate-best-path-claims t) (calculate-best-path-at t)
+    calculate-best-path.Post
 calculate-best-path-returns t c =
     let o = c .before .before .before .before .before .before .before in
     let a = o .args in
     record {
-      same = best-empty (snapOf (now (a .words)) (now (a .area)) (a .l)) (a .x) (a .left) (a .item) (a .t) (c .before .before .before .before .charge .ensures) (c .before .before .meter .given .1) (c .nothing .ensures);
+      same = best-empty (snapOf (now (a .words)) (now (a .area)) (a .l)) (a .x) (a .left) (a .item) (a .t)
+          (c .before .before .before .before .charge .ensures) (c .before .before .meter .given .1) (c .nothing .ensures);
       tables = refl;
     }
 
-calculate-best-path-same-length : (t : ℕ) → calculate-best-path-lts.Need-same-length (
-  charge-reads.Asked,
-  charge-reads.Learnt,
-  nothing-reads.Asked,
-  nothing-reads.Learnt,
-  search-charged-below t,
-  search-charged.Post,
-) (calculate-best-path-at t) calculate-best-path.Post
+calculate-best-path-same-length :
+    (t : ℕ) → calculate-best-path-lts.Need-same-length (calculate-best-path-claims t) (calculate-best-path-at t) calculate-best-path.Post
 calculate-best-path-same-length t c = c .before .before .search-charged .kept .1 .0
 
-calculate-best-path-returns-2 : (t : ℕ) → calculate-best-path-lts.Need-returns-2 (
-  charge-reads.Asked,
-  charge-reads.Learnt,
-  nothing-reads.Asked,
-  nothing-reads.Learnt,
-  search-charged-below t,
-  search-charged.Post,
-) (calculate-best-path-at t) calculate-best-path.Post
+calculate-best-path-returns-2 : (t : ℕ) → calculate-best-path-lts.Need-returns-2 (calculate-best-path-claims t)
+    (calculate-best-path-at t) calculate-best-path.Post
 calculate-best-path-returns-2 t c =
     let o = c .before .before .before .before .before .before .before .before .before .before in
     let a = o .args in
     let f = c .before .before .search-charged in
     record {
-      same = f .ensures .same ∙ ap foundOf (best-charged (snapOf (now (a .words)) (now (a .area)) (a .l)) (a .x) (a .left) (a .item) (a .t) (c .before .before .before .before .before .before .before .charge .ensures) (c .before .before .before .before .before .meter2 .given .1));
+      same = f .ensures .same ∙ ap foundOf (best-charged (snapOf (now (a .words)) (now (a .area)) (a .l)) (a .x) (a .left) (a .item)
+          (a .t) (c .before .before .before .before .before .before .before .charge .ensures)
+          (c .before .before .before .before .before .meter2 .given .1));
       tables = f .ensures .tables;
     }
 
-find-import-is-hidden-requires : (t : ℕ) → find-import-lts.Need-is-hidden-requires (
-  is-hidden-reads.Asked,
-  is-hidden-reads.Learnt,
-  length-left-reads.Asked,
-  length-left-reads.Learnt,
-  import-container-reads.Asked,
-  import-container-reads.Learnt,
-  find-path-for-module-below t,
-  find-path-for-module.Post,
-  offer-import-reads.Asked,
-  offer-import-reads.Learnt,
-) (find-import-at t) find-import.Post
-find-import-is-hidden-requires t c κs = tt
-
-find-import-returns : (t : ℕ) → find-import-lts.Need-returns (
-  is-hidden-reads.Asked,
-  is-hidden-reads.Learnt,
-  length-left-reads.Asked,
-  length-left-reads.Learnt,
-  import-container-reads.Asked,
-  import-container-reads.Learnt,
-  find-path-for-module-below t,
-  find-path-for-module.Post,
-  offer-import-reads.Asked,
-  offer-import-reads.Learnt,
-) (find-import-at t) find-import.Post
+find-import-returns : (t : ℕ) → find-import-lts.Need-returns (find-import-claims t) (find-import-at t) find-import.Post
 find-import-returns t c =
     let o = c .before .before .before .before in
     let a = o .args in
     record {
-      same = ap foundOf (import-hidden (snapOf (now (a .words)) (now (a .area)) (a .l)) (a .x) (a .left) (outOf (a .o)) (importAt (now (a .words)) (a .h)) _ (sym (c .before .is-hidden .ensures) ∙ c .if1 .taken));
+      same = ap foundOf (import-hidden (snapOf (now (a .words)) (now (a .area)) (a .l)) (a .x) (a .left) (outOf (a .o))
+          (importAt (now (a .words)) (a .h)) _ (sym (c .before .is-hidden .ensures) ∙ c .if1 .taken));
       tables = refl;
     }
 
-find-import-length-left-requires : (t : ℕ) → find-import-lts.Need-length-left-requires (
-  is-hidden-reads.Asked,
-  is-hidden-reads.Learnt,
-  length-left-reads.Asked,
-  length-left-reads.Learnt,
-  import-container-reads.Asked,
-  import-container-reads.Learnt,
-  find-path-for-module-below t,
-  find-path-for-module.Post,
-  offer-import-reads.Asked,
-  offer-import-reads.Learnt,
-) (find-import-at t) find-import.Post
-find-import-length-left-requires t c κs = let o = c .before .before .before .before .before .before in omega (arith, o .pre .1 .3 .few, o .pre .1 .0 .limit)
-
-find-import-import-container-requires : (t : ℕ) → find-import-lts.Need-import-container-requires (
-  is-hidden-reads.Asked,
-  is-hidden-reads.Learnt,
-  length-left-reads.Asked,
-  length-left-reads.Learnt,
-  import-container-reads.Asked,
-  import-container-reads.Learnt,
-  find-path-for-module-below t,
-  find-path-for-module.Post,
-  offer-import-reads.Asked,
-  offer-import-reads.Learnt,
-) (find-import-at t) find-import.Post
-find-import-import-container-requires t c κs = tt
+find-import-length-left-requires :
+    (t : ℕ) → find-import-lts.Need-length-left-requires (find-import-claims t) (find-import-at t) find-import.Post
+find-import-length-left-requires t c κs = let o = c .before .before .before .before .before .before in
+    omega (arith, o .pre .1 .3 .few, o .pre .1 .0 .limit)
 
 find-import-find-path-for-module-requires :
-    (t : ℕ) → find-import-lts.Need-find-path-for-module-requires (
-      is-hidden-reads.Asked,
-      is-hidden-reads.Learnt,
-      length-left-reads.Asked,
-      length-left-reads.Learnt,
-      import-container-reads.Asked,
-      import-container-reads.Learnt,
-      find-path-for-module-below t,
-      find-path-for-module.Post,
-      offer-import-reads.Asked,
-      offer-import-reads.Learnt,
-    ) (find-import-at t) find-import.Post
+    (t : ℕ) → find-import-lts.Need-find-path-for-module-requires (find-import-claims t) (find-import-at t) find-import.Post
 find-import-find-path-for-module-requires t c κs =
     let o = c .before .before .before .before .before .before .before .before .before in
     let a = o .args in
@@ -424,25 +428,15 @@ find-import-find-path-for-module-requires t c κs =
       (g .ready, omega (arith, c .import-container .ensures, o .pre .1 .1), omega (arith, k, e, g .limit), o .pre .1 .3 .tank),
     )
 
-find-import-offer-import-requires : (t : ℕ) → find-import-lts.Need-offer-import-requires (
-  is-hidden-reads.Asked,
-  is-hidden-reads.Learnt,
-  length-left-reads.Asked,
-  length-left-reads.Learnt,
-  import-container-reads.Asked,
-  import-container-reads.Learnt,
-  find-path-for-module-below t,
-  find-path-for-module.Post,
-  offer-import-reads.Asked,
-  offer-import-reads.Learnt,
-) (find-import-at t) find-import.Post
+find-import-offer-import-requires : (t : ℕ) → find-import-lts.Need-offer-import-requires (find-import-claims t) (find-import-at t) find-import.Post
 find-import-offer-import-requires t c κs =
     let o = c .before .before .before .before .before .before .before .before .before .before .before .before .before .before .before in
     let a = o .args in
     let g = o .pre .1 .0 in
     let f = c .before .before .before .before .before .find-path-for-module in
     let k = length-falls (a .left) (a .o .choice) (g .some) in
-    let q = offered (now (a .words)) (now (a .area)) (a .l) (a .x) (a .left) _ _ _ (f .result) (g .ready .reads) (g .limit) (omega (arith, k, c .before .before .before .before .before .before .before .before .length-left .ensures)) (f .ensures .same) in (
+    let q = offered (now (a .words)) (now (a .area)) (a .l) (a .x) (a .left) _ _ _ (f .result) (g .ready .reads) (g .limit)
+    (omega (arith, k, c .before .before .before .before .before .before .before .before .length-left .ensures)) (f .ensures .same) in (
       same-reads (now (a .words)) (now (a .area)) _ (a .l) (f .ensures .tables) (g .ready .reads),
       o .pre .1 .2,
       omega (arith, o .pre .1 .3 .few, g .limit),
@@ -451,113 +445,64 @@ find-import-offer-import-requires t c κs =
       q .steps,
     )
 
-find-import-same-length : (t : ℕ) → find-import-lts.Need-same-length (
-  is-hidden-reads.Asked,
-  is-hidden-reads.Learnt,
-  length-left-reads.Asked,
-  length-left-reads.Learnt,
-  import-container-reads.Asked,
-  import-container-reads.Learnt,
-  find-path-for-module-below t,
-  find-path-for-module.Post,
-  offer-import-reads.Asked,
-  offer-import-reads.Learnt,
-) (find-import-at t) find-import.Post
+find-import-same-length :
+    (t : ℕ) → find-import-lts.Need-same-length (find-import-claims t) (find-import-at t) find-import.Post
 find-import-same-length t c = c .before .before .before .before .before .before .find-path-for-module .kept .1 .0
 
-find-import-returns-2 : (t : ℕ) → find-import-lts.Need-returns-2 (
-  is-hidden-reads.Asked,
-  is-hidden-reads.Learnt,
-  length-left-reads.Asked,
-  length-left-reads.Learnt,
-  import-container-reads.Asked,
-  import-container-reads.Learnt,
-  find-path-for-module-below t,
-  find-path-for-module.Post,
-  offer-import-reads.Asked,
-  offer-import-reads.Learnt,
-) (find-import-at t) find-import.Post
+find-import-returns-2 : (t : ℕ) → find-import-lts.Need-returns-2 (find-import-claims t) (find-import-at t) find-import.Post
 find-import-returns-2 t c =
     let o = c .before .before .before .before .before .before .before .before .before .before .before .before .before .before .before .before in
     let a = o .args in
     let f = c .before .before .before .before .before .before .find-path-for-module in
-    import-run (a .left) (a .h) (a .o) (o .pre .1 .0 .ready) (sym (c .before .before .before .before .before .before .before .before .before .before .before .before .before .is-hidden .ensures) ∙ c .before .before .before .before .before .before .before .before .before .before .before .before .if1 .left) (c .before .before .before .before .before .before .before .before .before .length-left .ensures) (c .before .before .before .before .before .before .before .import-container .ensures) (f .ensures) (c .offer-import .ensures)
+    import-run (a .left) (a .h) (a .o) (o .pre .1 .0 .ready)
+    (sym (c .before .before .before .before .before .before .before .before .before .before .before .before .before .is-hidden .ensures)
+    ∙ c .before .before .before .before .before .before .before .before .before .before .before .before .if1 .left)
+    (c .before .before .before .before .before .before .before .before .before .length-left .ensures)
+    (c .before .before .before .before .before .before .before .import-container .ensures) (f .ensures) (c .offer-import .ensures)
 
 abbrev find-in-dep-Inv-loop : find-in-dep-lts.InvT-loop
 find-in-dep-Inv-loop words area₀ l x left item c best₀ k₀ area best k =
     Running area₀ area left best
-    (imports (snapOf words area₀ l) x left (outOf best) (leftOf (isImport (snapOf words area₀ l) (c .0) item) (λ i. importAt words (importBase l + importSize * i)) (l .imports) k))
+    (imports (snapOf words area₀ l) x left (outOf best) (leftOf (isImport (snapOf words area₀ l) (c .0) item)
+    (λ i. importAt words (importBase l + importSize * i)) (l .imports) k))
     (imports (snapOf words area₀ l) x left (outOf best₀) (importInfoFor (snapOf words area₀ l) (c .0) item))
 
 abbrev find-in-dep-μ-loop : find-in-dep-lts.MeasureT-loop
 find-in-dep-μ-loop words area₀ l x left item c best₀ k₀ area best k = l .imports - k
 
-find-in-dep-loop-holds : (t : ℕ) → find-in-dep-lts.Need-loop-holds (
-  import-info-for-reads.Asked,
-  import-info-for-reads.Learnt,
-  find-import-below t,
-  find-import.Post,
-) (find-in-dep-at t) find-in-dep.Post find-in-dep-Inv-loop find-in-dep-μ-loop
+find-in-dep-loop-holds : (t : ℕ) → find-in-dep-lts.Need-loop-holds (find-in-dep-claims t) (find-in-dep-at t) find-in-dep.Post
+    find-in-dep-Inv-loop find-in-dep-μ-loop
 find-in-dep-loop-holds t c =
     let o = c .before .before in
     let a = o .args in
     record {
-      same = ap (imports (snapOf (now (a .words)) (now (a .area)) (a .l)) (a .x) (a .left) (outOf (a .o))) (sym (imports-whole (now (a .words)) (now (a .area)) (a .l) (a .c .0) (a .item)));
+      same = ap (imports (snapOf (now (a .words)) (now (a .area)) (a .l)) (a .x) (a .left) (outOf (a .o)))
+          (sym (imports-whole (now (a .words)) (now (a .area)) (a .l) (a .c .0) (a .item)));
       tables = refl;
       long = refl;
       held = o .pre .1 .1;
     }
 
-find-in-dep-import-info-for-requires : (t : ℕ) → find-in-dep-lts.Need-import-info-for-requires (
-  import-info-for-reads.Asked,
-  import-info-for-reads.Learnt,
-  find-import-below t,
-  find-import.Post,
-) (find-in-dep-at t) find-in-dep.Post find-in-dep-Inv-loop find-in-dep-μ-loop
+find-in-dep-import-info-for-requires :
+    (t : ℕ) → find-in-dep-lts.Need-import-info-for-requires (find-in-dep-claims t) (find-in-dep-at t) find-in-dep.Post
+    find-in-dep-Inv-loop find-in-dep-μ-loop
 find-in-dep-import-info-for-requires t c κs = let o = c .before .before .before .before .before in few-words _ _ _ (o .pre .1 .0 .ready .reads)
 
-find-in-dep-enum-known-j : (t : ℕ) → find-in-dep-lts.Need-enum-known-j (
-  import-info-for-reads.Asked,
-  import-info-for-reads.Learnt,
-  find-import-below t,
-  find-import.Post,
-) (find-in-dep-at t) find-in-dep.Post find-in-dep-Inv-loop find-in-dep-μ-loop
-find-in-dep-enum-known-j t c = search needs
-
-find-in-dep-enum-told : (t : ℕ) → find-in-dep-lts.Need-enum-told (
-  import-info-for-reads.Asked,
-  import-info-for-reads.Learnt,
-  find-import-below t,
-  find-import.Post,
-) (find-in-dep-at t) find-in-dep.Post find-in-dep-Inv-loop find-in-dep-μ-loop
-find-in-dep-enum-told t c = search needs
-
-find-in-dep-same-length : (t : ℕ) → find-in-dep-lts.Need-same-length (
-  import-info-for-reads.Asked,
-  import-info-for-reads.Learnt,
-  find-import-below t,
-  find-import.Post,
-) (find-in-dep-at t) find-in-dep.Post find-in-dep-Inv-loop find-in-dep-μ-loop
+find-in-dep-same-length :
+    (t : ℕ) → find-in-dep-lts.Need-same-length (find-in-dep-claims t) (find-in-dep-at t) find-in-dep.Post find-in-dep-Inv-loop find-in-dep-μ-loop
 find-in-dep-same-length t c = c .before .before .before .before .before .loop .inv .long
 
-find-in-dep-returns : (t : ℕ) → find-in-dep-lts.Need-returns (
-  import-info-for-reads.Asked,
-  import-info-for-reads.Learnt,
-  find-import-below t,
-  find-import.Post,
-) (find-in-dep-at t) find-in-dep.Post find-in-dep-Inv-loop find-in-dep-μ-loop
+find-in-dep-returns : (t : ℕ) → find-in-dep-lts.Need-returns (find-in-dep-claims t) (find-in-dep-at t) find-in-dep.Post
+    find-in-dep-Inv-loop find-in-dep-μ-loop
 find-in-dep-returns t c =
     let o = c .before .before .before .before .before .before .before .before in
     let a = o .args in
     let g = c .before .before .before .before .before .loop in
-    running-done (g .inv) (imports-end (now (a .words)) (now (a .area)) (g .area) (a .l) (a .x) (a .left) (o .pre .1 .0 .ready) (o .pre .1 .0 .some) (g .best) _ (next-none (c .before .before .import-info-for .ensures (now (a .area))) (c .enum-told .given .1) .none))
+    running-done (g .inv) (imports-end (now (a .words)) (now (a .area)) (g .area) (a .l) (a .x) (a .left) (o .pre .1 .0 .ready)
+    (o .pre .1 .0 .some) (g .best) _ (next-none (c .before .before .import-info-for .ensures (now (a .area))) (c .enum-told .given .1) .none))
 
-find-in-dep-find-import-requires : (t : ℕ) → find-in-dep-lts.Need-find-import-requires (
-  import-info-for-reads.Asked,
-  import-info-for-reads.Learnt,
-  find-import-below t,
-  find-import.Post,
-) (find-in-dep-at t) find-in-dep.Post find-in-dep-Inv-loop find-in-dep-μ-loop
+find-in-dep-find-import-requires : (t : ℕ) → find-in-dep-lts.Need-find-import-requires (find-in-dep-claims t) (find-in-dep-at t)
+    find-in-dep.Post find-in-dep-Inv-loop find-in-dep-μ-loop
 find-in-dep-find-import-requires t c κs =
     let o = c .before .before .before .before .before .before .before .before .before .before in
     let a = o .args in
@@ -566,370 +511,193 @@ find-in-dep-find-import-requires t c κs =
     let q = import-meets (now (a .words)) (now (a .area)) (a .l) (o .pre .1 .0 .ready .reads) m in
     (omega (arith, o .pre .0), (begun-later (o .pre .1 .0) (g .inv .tables) (g .inv .long), q .container, q, g .inv .held))
 
-find-in-dep-add-k : (t : ℕ) → find-in-dep-lts.Need-add-k (
-  import-info-for-reads.Asked,
-  import-info-for-reads.Learnt,
-  find-import-below t,
-  find-import.Post,
-) (find-in-dep-at t) find-in-dep.Post find-in-dep-Inv-loop find-in-dep-μ-loop
+find-in-dep-add-k : (t : ℕ) → find-in-dep-lts.Need-add-k (find-in-dep-claims t) (find-in-dep-at t) find-in-dep.Post find-in-dep-Inv-loop
+    find-in-dep-μ-loop
 find-in-dep-add-k t c =
     let o = c .before .before .before .before .before .before .before .before .before .before .before .before .before in
     let a = o .args in
-    let m = next-record (c .before .before .before .before .before .before .before .import-info-for .ensures (now (a .area))) (c .before .before .before .before .before .j .given .1) in
+    let m = next-record (c .before .before .before .before .before .before .before .import-info-for .ensures (now (a .area)))
+    (c .before .before .before .before .before .j .given .1) in
     record { fits = omega (arith, m .below, few-words _ _ _ (o .pre .1 .0 .ready .reads)) }
 
-find-in-dep-loop-less : (t : ℕ) → find-in-dep-lts.Need-loop-less (
-  import-info-for-reads.Asked,
-  import-info-for-reads.Learnt,
-  find-import-below t,
-  find-import.Post,
-) (find-in-dep-at t) find-in-dep.Post find-in-dep-Inv-loop find-in-dep-μ-loop
+find-in-dep-loop-less : (t : ℕ) → find-in-dep-lts.Need-loop-less (find-in-dep-claims t) (find-in-dep-at t) find-in-dep.Post
+    find-in-dep-Inv-loop find-in-dep-μ-loop
 find-in-dep-loop-less t c =
     let o = c .before .before .before .before .before .before .before .before .before .before .before .before .before in
     let a = o .args in
-    let m = next-record (c .before .before .before .before .before .before .before .import-info-for .ensures (now (a .area))) (c .before .before .before .before .before .j .given .1) in
+    let m = next-record (c .before .before .before .before .before .before .before .import-info-for .ensures (now (a .area)))
+    (c .before .before .before .before .before .j .given .1) in
     omega (arith, m .from, m .below)
 
-find-in-dep-loop-again : (t : ℕ) → find-in-dep-lts.Need-loop-again (
-  import-info-for-reads.Asked,
-  import-info-for-reads.Learnt,
-  find-import-below t,
-  find-import.Post,
-) (find-in-dep-at t) find-in-dep.Post find-in-dep-Inv-loop find-in-dep-μ-loop
+find-in-dep-loop-again : (t : ℕ) → find-in-dep-lts.Need-loop-again (find-in-dep-claims t) (find-in-dep-at t) find-in-dep.Post
+    find-in-dep-Inv-loop find-in-dep-μ-loop
 find-in-dep-loop-again t c =
     let o = c .before .before .before .before .before .before .before .before .before .before .before .before .before in
     let a = o .args in
-    let m = next-record (c .before .before .before .before .before .before .before .import-info-for .ensures (now (a .area))) (c .before .before .before .before .before .j .given .1) in
+    let m = next-record (c .before .before .before .before .before .before .before .import-info-for .ensures (now (a .area)))
+    (c .before .before .before .before .before .j .given .1) in
     let g = c .before .before .before .before .before .before .before .before .before .before .loop in
     let f = c .before .before .find-import in
-    imports-next (now (a .words)) (now (a .area)) (g .area) (a .l) (a .x) (a .left) (o .pre .1 .0 .ready) (o .pre .1 .0 .some) (g .inv) m (f .ensures) (f .kept .1 .0)
+    imports-next (now (a .words)) (now (a .area)) (g .area) (a .l) (a .x) (a .left) (o .pre .1 .0 .ready) (o .pre .1 .0 .some)
+    (g .inv) m (f .ensures) (f .kept .1 .0)
 
-find-in-dep-same-length-2 : (t : ℕ) → find-in-dep-lts.Need-same-length-2 (
-  import-info-for-reads.Asked,
-  import-info-for-reads.Learnt,
-  find-import-below t,
-  find-import.Post,
-) (find-in-dep-at t) find-in-dep.Post find-in-dep-Inv-loop find-in-dep-μ-loop
+find-in-dep-same-length-2 :
+    (t : ℕ) → find-in-dep-lts.Need-same-length-2 (find-in-dep-claims t) (find-in-dep-at t) find-in-dep.Post find-in-dep-Inv-loop find-in-dep-μ-loop
 find-in-dep-same-length-2 t c = c .before .before .loop .inv .long
 
-find-in-dep-returns-2 : (t : ℕ) → find-in-dep-lts.Need-returns-2 (
-  import-info-for-reads.Asked,
-  import-info-for-reads.Learnt,
-  find-import-below t,
-  find-import.Post,
-) (find-in-dep-at t) find-in-dep.Post find-in-dep-Inv-loop find-in-dep-μ-loop
+find-in-dep-returns-2 : (t : ℕ) → find-in-dep-lts.Need-returns-2 (find-in-dep-claims t) (find-in-dep-at t) find-in-dep.Post
+    find-in-dep-Inv-loop find-in-dep-μ-loop
 find-in-dep-returns-2 t c =
     let o = c .before .before .before .before .before in
     let a = o .args in
     let g = c .before .before .loop in
-    running-done (g .inv) (imports-end (now (a .words)) (now (a .area)) (g .area) (a .l) (a .x) (a .left) (o .pre .1 .0 .ready) (o .pre .1 .0 .some) (g .best) _ (left-none _ _ _ _ (c .if1 .left)))
+    running-done (g .inv) (imports-end (now (a .words)) (now (a .area)) (g .area) (a .l) (a .x) (a .left) (o .pre .1 .0 .ready)
+    (o .pre .1 .0 .some) (g .best) _ (left-none _ _ _ _ (c .if1 .left)))
 
 abbrev find-in-deps-Inv-loop : find-in-deps-lts.InvT-loop
 find-in-deps-Inv-loop words area₀ l x left item best₀ k₀ area best k =
     Running area₀ area left best
-    (dependencies (snapOf words area₀ l) x left item (outOf best) (leftOf (isDependency (x .«from_crate» .0)) (λ i. dependencyAt words (dependencyBase l + dependencySize * i)) (l .dependencies) k))
+    (dependencies (snapOf words area₀ l) x left item (outOf best) (leftOf (isDependency (x .«from_crate» .0))
+    (λ i. dependencyAt words (dependencyBase l + dependencySize * i)) (l .dependencies) k))
     (dependencies (snapOf words area₀ l) x left item (outOf best₀) (dependenciesOf (snapOf words area₀ l) (x .«from_crate» .0)))
 
 abbrev find-in-deps-μ-loop : find-in-deps-lts.MeasureT-loop
 find-in-deps-μ-loop words area₀ l x left item best₀ k₀ area best k = l .dependencies - k
 
-find-in-deps-loop-holds : (t : ℕ) → find-in-deps-lts.Need-loop-holds (
-  next-dependency-reads.Asked,
-  next-dependency-reads.Learnt,
-  dependency-crate-reads.Asked,
-  dependency-crate-reads.Learnt,
-  find-in-dep-below t,
-  find-in-dep.Post,
-) (find-in-deps-at t) find-in-deps.Post find-in-deps-Inv-loop find-in-deps-μ-loop
+find-in-deps-loop-holds : (t : ℕ) → find-in-deps-lts.Need-loop-holds (find-in-deps-claims t) (find-in-deps-at t) find-in-deps.Post
+    find-in-deps-Inv-loop find-in-deps-μ-loop
 find-in-deps-loop-holds t c =
     let o = c .before .before in
     let a = o .args in
     record {
-      same = ap (dependencies (snapOf (now (a .words)) (now (a .area)) (a .l)) (a .x) (a .left) (a .item) (outOf (a .o))) (sym (dependencies-whole (now (a .words)) (now (a .area)) (a .l) (a .x .«from_crate» .0)));
+      same = ap (dependencies (snapOf (now (a .words)) (now (a .area)) (a .l)) (a .x) (a .left) (a .item) (outOf (a .o)))
+          (sym (dependencies-whole (now (a .words)) (now (a .area)) (a .l) (a .x .«from_crate» .0)));
       tables = refl;
       long = refl;
       held = o .pre .1 .1;
     }
 
-find-in-deps-next-dependency-requires : (t : ℕ) → find-in-deps-lts.Need-next-dependency-requires (
-  next-dependency-reads.Asked,
-  next-dependency-reads.Learnt,
-  dependency-crate-reads.Asked,
-  dependency-crate-reads.Learnt,
-  find-in-dep-below t,
-  find-in-dep.Post,
-) (find-in-deps-at t) find-in-deps.Post find-in-deps-Inv-loop find-in-deps-μ-loop
+find-in-deps-next-dependency-requires :
+    (t : ℕ) → find-in-deps-lts.Need-next-dependency-requires (find-in-deps-claims t) (find-in-deps-at t) find-in-deps.Post
+    find-in-deps-Inv-loop find-in-deps-μ-loop
 find-in-deps-next-dependency-requires t c κs = let o = c .before .before .before .before .before in few-words _ _ _ (o .pre .1 .0 .ready .reads)
 
-find-in-deps-enum-known-j : (t : ℕ) → find-in-deps-lts.Need-enum-known-j (
-  next-dependency-reads.Asked,
-  next-dependency-reads.Learnt,
-  dependency-crate-reads.Asked,
-  dependency-crate-reads.Learnt,
-  find-in-dep-below t,
-  find-in-dep.Post,
-) (find-in-deps-at t) find-in-deps.Post find-in-deps-Inv-loop find-in-deps-μ-loop
-find-in-deps-enum-known-j t c = search needs
-
-find-in-deps-enum-told : (t : ℕ) → find-in-deps-lts.Need-enum-told (
-  next-dependency-reads.Asked,
-  next-dependency-reads.Learnt,
-  dependency-crate-reads.Asked,
-  dependency-crate-reads.Learnt,
-  find-in-dep-below t,
-  find-in-dep.Post,
-) (find-in-deps-at t) find-in-deps.Post find-in-deps-Inv-loop find-in-deps-μ-loop
-find-in-deps-enum-told t c = search needs
-
-find-in-deps-same-length : (t : ℕ) → find-in-deps-lts.Need-same-length (
-  next-dependency-reads.Asked,
-  next-dependency-reads.Learnt,
-  dependency-crate-reads.Asked,
-  dependency-crate-reads.Learnt,
-  find-in-dep-below t,
-  find-in-dep.Post,
-) (find-in-deps-at t) find-in-deps.Post find-in-deps-Inv-loop find-in-deps-μ-loop
+find-in-deps-same-length :
+    (t : ℕ) → find-in-deps-lts.Need-same-length (find-in-deps-claims t) (find-in-deps-at t) find-in-deps.Post find-in-deps-Inv-loop
+    find-in-deps-μ-loop
 find-in-deps-same-length t c = c .before .before .before .before .before .loop .inv .long
 
-find-in-deps-returns : (t : ℕ) → find-in-deps-lts.Need-returns (
-  next-dependency-reads.Asked,
-  next-dependency-reads.Learnt,
-  dependency-crate-reads.Asked,
-  dependency-crate-reads.Learnt,
-  find-in-dep-below t,
-  find-in-dep.Post,
-) (find-in-deps-at t) find-in-deps.Post find-in-deps-Inv-loop find-in-deps-μ-loop
+find-in-deps-returns : (t : ℕ) → find-in-deps-lts.Need-returns (find-in-deps-claims t) (find-in-deps-at t) find-in-deps.Post
+    find-in-deps-Inv-loop find-in-deps-μ-loop
 find-in-deps-returns t c =
     let o = c .before .before .before .before .before .before .before .before in
     let a = o .args in
     let g = c .before .before .before .before .before .loop in
-    running-done (g .inv) (deps-end (now (a .words)) (now (a .area)) (g .area) (a .l) (a .x) (a .left) (o .pre .1 .0 .ready) (o .pre .1 .0 .some) (a .item) (g .best) _ (next-none (c .before .before .next-dependency .ensures) (c .enum-told .given .1) .none))
+    running-done (g .inv) (deps-end (now (a .words)) (now (a .area)) (g .area) (a .l) (a .x) (a .left) (o .pre .1 .0 .ready)
+    (o .pre .1 .0 .some) (a .item) (g .best) _ (next-none (c .before .before .next-dependency .ensures) (c .enum-told .given .1) .none))
 
-find-in-deps-dependency-crate-requires : (t : ℕ) → find-in-deps-lts.Need-dependency-crate-requires (
-  next-dependency-reads.Asked,
-  next-dependency-reads.Learnt,
-  dependency-crate-reads.Asked,
-  dependency-crate-reads.Learnt,
-  find-in-dep-below t,
-  find-in-dep.Post,
-) (find-in-deps-at t) find-in-deps.Post find-in-deps-Inv-loop find-in-deps-μ-loop
-find-in-deps-dependency-crate-requires t c κs = tt
-
-find-in-deps-find-in-dep-requires : (t : ℕ) → find-in-deps-lts.Need-find-in-dep-requires (
-  next-dependency-reads.Asked,
-  next-dependency-reads.Learnt,
-  dependency-crate-reads.Asked,
-  dependency-crate-reads.Learnt,
-  find-in-dep-below t,
-  find-in-dep.Post,
-) (find-in-deps-at t) find-in-deps.Post find-in-deps-Inv-loop find-in-deps-μ-loop
+find-in-deps-find-in-dep-requires : (t : ℕ) → find-in-deps-lts.Need-find-in-dep-requires (find-in-deps-claims t) (find-in-deps-at t)
+    find-in-deps.Post find-in-deps-Inv-loop find-in-deps-μ-loop
 find-in-deps-find-in-dep-requires t c κs =
     let o = c .before .before .before .before .before .before .before .before .before .before .before in
     let a = o .args in
     let g = c .before .before .before .before .before .before .before .before .loop in
     (omega (arith, o .pre .0), (begun-later (o .pre .1 .0) (g .inv .tables) (g .inv .long), g .inv .held))
 
-find-in-deps-add-k : (t : ℕ) → find-in-deps-lts.Need-add-k (
-  next-dependency-reads.Asked,
-  next-dependency-reads.Learnt,
-  dependency-crate-reads.Asked,
-  dependency-crate-reads.Learnt,
-  find-in-dep-below t,
-  find-in-dep.Post,
-) (find-in-deps-at t) find-in-deps.Post find-in-deps-Inv-loop find-in-deps-μ-loop
+find-in-deps-add-k : (t : ℕ) → find-in-deps-lts.Need-add-k (find-in-deps-claims t) (find-in-deps-at t) find-in-deps.Post
+    find-in-deps-Inv-loop find-in-deps-μ-loop
 find-in-deps-add-k t c =
     let o = c .before .before .before .before .before .before .before .before .before .before .before .before .before .before in
     let a = o .args in
-    let m = next-record (c .before .before .before .before .before .before .before .before .next-dependency .ensures) (c .before .before .before .before .before .before .j .given .1) in
+    let m = next-record (c .before .before .before .before .before .before .before .before .next-dependency .ensures)
+    (c .before .before .before .before .before .before .j .given .1) in
     record { fits = omega (arith, m .below, few-words _ _ _ (o .pre .1 .0 .ready .reads)) }
 
-find-in-deps-loop-less : (t : ℕ) → find-in-deps-lts.Need-loop-less (
-  next-dependency-reads.Asked,
-  next-dependency-reads.Learnt,
-  dependency-crate-reads.Asked,
-  dependency-crate-reads.Learnt,
-  find-in-dep-below t,
-  find-in-dep.Post,
-) (find-in-deps-at t) find-in-deps.Post find-in-deps-Inv-loop find-in-deps-μ-loop
+find-in-deps-loop-less : (t : ℕ) → find-in-deps-lts.Need-loop-less (find-in-deps-claims t) (find-in-deps-at t) find-in-deps.Post
+    find-in-deps-Inv-loop find-in-deps-μ-loop
 find-in-deps-loop-less t c =
     let o = c .before .before .before .before .before .before .before .before .before .before .before .before .before .before in
     let a = o .args in
-    let m = next-record (c .before .before .before .before .before .before .before .before .next-dependency .ensures) (c .before .before .before .before .before .before .j .given .1) in
+    let m = next-record (c .before .before .before .before .before .before .before .before .next-dependency .ensures)
+    (c .before .before .before .before .before .before .j .given .1) in
     omega (arith, m .from, m .below)
 
-find-in-deps-loop-again : (t : ℕ) → find-in-deps-lts.Need-loop-again (
-  next-dependency-reads.Asked,
-  next-dependency-reads.Learnt,
-  dependency-crate-reads.Asked,
-  dependency-crate-reads.Learnt,
-  find-in-dep-below t,
-  find-in-dep.Post,
-) (find-in-deps-at t) find-in-deps.Post find-in-deps-Inv-loop find-in-deps-μ-loop
+find-in-deps-loop-again : (t : ℕ) → find-in-deps-lts.Need-loop-again (find-in-deps-claims t) (find-in-deps-at t) find-in-deps.Post
+    find-in-deps-Inv-loop find-in-deps-μ-loop
 find-in-deps-loop-again t c =
     let o = c .before .before .before .before .before .before .before .before .before .before .before .before .before .before in
     let a = o .args in
-    let m = next-record (c .before .before .before .before .before .before .before .before .next-dependency .ensures) (c .before .before .before .before .before .before .j .given .1) in
+    let m = next-record (c .before .before .before .before .before .before .before .before .next-dependency .ensures)
+    (c .before .before .before .before .before .before .j .given .1) in
     let g = c .before .before .before .before .before .before .before .before .before .before .before .loop in
     let f = c .before .before .find-in-dep in
-    deps-next (now (a .words)) (now (a .area)) (g .area) (a .l) (a .x) (a .left) (o .pre .1 .0 .ready) (o .pre .1 .0 .some) (a .item) (g .inv) m (c .before .before .before .dependency-crate .ensures) (f .ensures) (f .kept .1 .0)
+    deps-next (now (a .words)) (now (a .area)) (g .area) (a .l) (a .x) (a .left) (o .pre .1 .0 .ready) (o .pre .1 .0 .some) (a .item)
+    (g .inv) m (c .before .before .before .dependency-crate .ensures) (f .ensures) (f .kept .1 .0)
 
-find-in-deps-same-length-2 : (t : ℕ) → find-in-deps-lts.Need-same-length-2 (
-  next-dependency-reads.Asked,
-  next-dependency-reads.Learnt,
-  dependency-crate-reads.Asked,
-  dependency-crate-reads.Learnt,
-  find-in-dep-below t,
-  find-in-dep.Post,
-) (find-in-deps-at t) find-in-deps.Post find-in-deps-Inv-loop find-in-deps-μ-loop
+find-in-deps-same-length-2 :
+    (t : ℕ) → find-in-deps-lts.Need-same-length-2 (find-in-deps-claims t) (find-in-deps-at t) find-in-deps.Post find-in-deps-Inv-loop
+    find-in-deps-μ-loop
 find-in-deps-same-length-2 t c = c .before .before .loop .inv .long
 
-find-in-deps-returns-2 : (t : ℕ) → find-in-deps-lts.Need-returns-2 (
-  next-dependency-reads.Asked,
-  next-dependency-reads.Learnt,
-  dependency-crate-reads.Asked,
-  dependency-crate-reads.Learnt,
-  find-in-dep-below t,
-  find-in-dep.Post,
-) (find-in-deps-at t) find-in-deps.Post find-in-deps-Inv-loop find-in-deps-μ-loop
+find-in-deps-returns-2 : (t : ℕ) → find-in-deps-lts.Need-returns-2 (find-in-deps-claims t) (find-in-deps-at t) find-in-deps.Post
+    find-in-deps-Inv-loop find-in-deps-μ-loop
 find-in-deps-returns-2 t c =
     let o = c .before .before .before .before .before in
     let a = o .args in
     let g = c .before .before .loop in
-    running-done (g .inv) (deps-end (now (a .words)) (now (a .area)) (g .area) (a .l) (a .x) (a .left) (o .pre .1 .0 .ready) (o .pre .1 .0 .some) (a .item) (g .best) _ (left-none _ _ _ _ (c .if1 .left)))
+    running-done (g .inv) (deps-end (now (a .words)) (now (a .area)) (g .area) (a .l) (a .x) (a .left) (o .pre .1 .0 .ready)
+    (o .pre .1 .0 .some) (a .item) (g .best) _ (left-none _ _ _ _ (c .if1 .left)))
 
 abbrev find-in-deps-by-sysroot-Inv-loop : find-in-deps-by-sysroot-lts.InvT-loop
 find-in-deps-by-sysroot-Inv-loop words area₀ l x left item inside best₀ k₀ area best k =
     Running area₀ area left best
-    (dependencies (snapOf words area₀ l) x left item (outOf best) (leftOf (bySysroot (x .«from_crate» .0) inside) (λ i. dependencyAt words (dependencyBase l + dependencySize * i)) (l .dependencies) k))
-    (dependencies (snapOf words area₀ l) x left item (outOf best₀) (select (bySysroot (x .«from_crate» .0) inside) (snapOf words area₀ l .dependencies)))
+    (dependencies (snapOf words area₀ l) x left item (outOf best) (leftOf (bySysroot (x .«from_crate» .0) inside)
+    (λ i. dependencyAt words (dependencyBase l + dependencySize * i)) (l .dependencies) k))
+    (dependencies (snapOf words area₀ l) x left item (outOf best₀) (select (bySysroot (x .«from_crate» .0) inside)
+    (snapOf words area₀ l .dependencies)))
 
 abbrev find-in-deps-by-sysroot-μ-loop : find-in-deps-by-sysroot-lts.MeasureT-loop
 find-in-deps-by-sysroot-μ-loop words area₀ l x left item inside best₀ k₀ area best k = l .dependencies - k
 
-find-in-deps-by-sysroot-loop-holds : (t : ℕ) → find-in-deps-by-sysroot-lts.Need-loop-holds (
-  next-by-sysroot-reads.Asked,
-  next-by-sysroot-reads.Learnt,
-  dependency-crate-reads.Asked,
-  dependency-crate-reads.Learnt,
-  find-in-dep-below t,
-  find-in-dep.Post,
-)
-    (find-in-deps-by-sysroot-at t)
-    find-in-deps-by-sysroot.Post
-    find-in-deps-by-sysroot-Inv-loop
+find-in-deps-by-sysroot-loop-holds : (t : ℕ) → find-in-deps-by-sysroot-lts.Need-loop-holds (find-in-deps-by-sysroot-claims t)
+    (find-in-deps-by-sysroot-at t) find-in-deps-by-sysroot.Post find-in-deps-by-sysroot-Inv-loop
     find-in-deps-by-sysroot-μ-loop
 find-in-deps-by-sysroot-loop-holds t c =
     let o = c .before .before in
     let a = o .args in
     record {
-      same = ap (dependencies (snapOf (now (a .words)) (now (a .area)) (a .l)) (a .x) (a .left) (a .item) (outOf (a .o))) (sym (rows-whole (select (bySysroot (a .x .«from_crate» .0) (a .inside))) (λ i. dependencyAt (now (a .words)) (dependencyBase (a .l) + dependencySize * i)) (a .l .dependencies)));
+      same = ap (dependencies (snapOf (now (a .words)) (now (a .area)) (a .l)) (a .x) (a .left) (a .item) (outOf (a .o)))
+          (sym (rows-whole (select (bySysroot (a .x .«from_crate» .0) (a .inside)))
+          (λ i. dependencyAt (now (a .words)) (dependencyBase (a .l) + dependencySize * i)) (a .l .dependencies)));
       tables = refl;
       long = refl;
       held = o .pre .1 .1;
     }
 
 find-in-deps-by-sysroot-next-by-sysroot-requires :
-    (t : ℕ) → find-in-deps-by-sysroot-lts.Need-next-by-sysroot-requires (
-      next-by-sysroot-reads.Asked,
-      next-by-sysroot-reads.Learnt,
-      dependency-crate-reads.Asked,
-      dependency-crate-reads.Learnt,
-      find-in-dep-below t,
-      find-in-dep.Post,
-    )
-    (find-in-deps-by-sysroot-at t)
-    find-in-deps-by-sysroot.Post
-    find-in-deps-by-sysroot-Inv-loop
-    find-in-deps-by-sysroot-μ-loop
-find-in-deps-by-sysroot-next-by-sysroot-requires t c κs = let o = c .before .before .before .before .before in few-words _ _ _ (o .pre .1 .0 .ready .reads)
+    (t : ℕ) → find-in-deps-by-sysroot-lts.Need-next-by-sysroot-requires (find-in-deps-by-sysroot-claims t) (find-in-deps-by-sysroot-at t)
+    find-in-deps-by-sysroot.Post find-in-deps-by-sysroot-Inv-loop find-in-deps-by-sysroot-μ-loop
+find-in-deps-by-sysroot-next-by-sysroot-requires t c κs = let o = c .before .before .before .before .before in few-words _ _ _
+    (o .pre .1 .0 .ready .reads)
 
-find-in-deps-by-sysroot-enum-known-j : (t : ℕ) → find-in-deps-by-sysroot-lts.Need-enum-known-j (
-  next-by-sysroot-reads.Asked,
-  next-by-sysroot-reads.Learnt,
-  dependency-crate-reads.Asked,
-  dependency-crate-reads.Learnt,
-  find-in-dep-below t,
-  find-in-dep.Post,
-)
-    (find-in-deps-by-sysroot-at t)
-    find-in-deps-by-sysroot.Post
-    find-in-deps-by-sysroot-Inv-loop
-    find-in-deps-by-sysroot-μ-loop
-find-in-deps-by-sysroot-enum-known-j t c = search needs
-
-find-in-deps-by-sysroot-enum-told : (t : ℕ) → find-in-deps-by-sysroot-lts.Need-enum-told (
-  next-by-sysroot-reads.Asked,
-  next-by-sysroot-reads.Learnt,
-  dependency-crate-reads.Asked,
-  dependency-crate-reads.Learnt,
-  find-in-dep-below t,
-  find-in-dep.Post,
-)
-    (find-in-deps-by-sysroot-at t)
-    find-in-deps-by-sysroot.Post
-    find-in-deps-by-sysroot-Inv-loop
-    find-in-deps-by-sysroot-μ-loop
-find-in-deps-by-sysroot-enum-told t c = search needs
-
-find-in-deps-by-sysroot-same-length : (t : ℕ) → find-in-deps-by-sysroot-lts.Need-same-length (
-  next-by-sysroot-reads.Asked,
-  next-by-sysroot-reads.Learnt,
-  dependency-crate-reads.Asked,
-  dependency-crate-reads.Learnt,
-  find-in-dep-below t,
-  find-in-dep.Post,
-)
-    (find-in-deps-by-sysroot-at t)
-    find-in-deps-by-sysroot.Post
-    find-in-deps-by-sysroot-Inv-loop
-    find-in-deps-by-sysroot-μ-loop
+find-in-deps-by-sysroot-same-length :
+    (t : ℕ) → find-in-deps-by-sysroot-lts.Need-same-length (find-in-deps-by-sysroot-claims t) (find-in-deps-by-sysroot-at t)
+    find-in-deps-by-sysroot.Post find-in-deps-by-sysroot-Inv-loop find-in-deps-by-sysroot-μ-loop
 find-in-deps-by-sysroot-same-length t c = c .before .before .before .before .before .loop .inv .long
 
-find-in-deps-by-sysroot-returns : (t : ℕ) → find-in-deps-by-sysroot-lts.Need-returns (
-  next-by-sysroot-reads.Asked,
-  next-by-sysroot-reads.Learnt,
-  dependency-crate-reads.Asked,
-  dependency-crate-reads.Learnt,
-  find-in-dep-below t,
-  find-in-dep.Post,
-)
-    (find-in-deps-by-sysroot-at t)
-    find-in-deps-by-sysroot.Post
-    find-in-deps-by-sysroot-Inv-loop
+find-in-deps-by-sysroot-returns : (t : ℕ) → find-in-deps-by-sysroot-lts.Need-returns (find-in-deps-by-sysroot-claims t)
+    (find-in-deps-by-sysroot-at t) find-in-deps-by-sysroot.Post find-in-deps-by-sysroot-Inv-loop
     find-in-deps-by-sysroot-μ-loop
 find-in-deps-by-sysroot-returns t c =
     let o = c .before .before .before .before .before .before .before .before in
     let a = o .args in
     let g = c .before .before .before .before .before .loop in
-    running-done (g .inv) (deps-end (now (a .words)) (now (a .area)) (g .area) (a .l) (a .x) (a .left) (o .pre .1 .0 .ready) (o .pre .1 .0 .some) (a .item) (g .best) _ (next-none (c .before .before .next-by-sysroot .ensures) (c .enum-told .given .1) .none))
-
-find-in-deps-by-sysroot-dependency-crate-requires :
-    (t : ℕ) → find-in-deps-by-sysroot-lts.Need-dependency-crate-requires (
-      next-by-sysroot-reads.Asked,
-      next-by-sysroot-reads.Learnt,
-      dependency-crate-reads.Asked,
-      dependency-crate-reads.Learnt,
-      find-in-dep-below t,
-      find-in-dep.Post,
-    )
-    (find-in-deps-by-sysroot-at t)
-    find-in-deps-by-sysroot.Post
-    find-in-deps-by-sysroot-Inv-loop
-    find-in-deps-by-sysroot-μ-loop
-find-in-deps-by-sysroot-dependency-crate-requires t c κs = tt
+    running-done (g .inv) (deps-end (now (a .words)) (now (a .area)) (g .area) (a .l) (a .x) (a .left) (o .pre .1 .0 .ready)
+    (o .pre .1 .0 .some) (a .item) (g .best) _ (next-none (c .before .before .next-by-sysroot .ensures) (c .enum-told .given .1) .none))
 
 find-in-deps-by-sysroot-find-in-dep-requires :
-    (t : ℕ) → find-in-deps-by-sysroot-lts.Need-find-in-dep-requires (
-      next-by-sysroot-reads.Asked,
-      next-by-sysroot-reads.Learnt,
-      dependency-crate-reads.Asked,
-      dependency-crate-reads.Learnt,
-      find-in-dep-below t,
-      find-in-dep.Post,
-    )
-    (find-in-deps-by-sysroot-at t)
-    find-in-deps-by-sysroot.Post
-    find-in-deps-by-sysroot-Inv-loop
+    (t : ℕ) → find-in-deps-by-sysroot-lts.Need-find-in-dep-requires (find-in-deps-by-sysroot-claims t)
+    (find-in-deps-by-sysroot-at t) find-in-deps-by-sysroot.Post find-in-deps-by-sysroot-Inv-loop
     find-in-deps-by-sysroot-μ-loop
 find-in-deps-by-sysroot-find-in-dep-requires t c κs =
     let o = c .before .before .before .before .before .before .before .before .before .before .before in
@@ -937,268 +705,124 @@ find-in-deps-by-sysroot-find-in-dep-requires t c κs =
     let g = c .before .before .before .before .before .before .before .before .loop in
     (omega (arith, o .pre .0), (begun-later (o .pre .1 .0) (g .inv .tables) (g .inv .long), g .inv .held))
 
-find-in-deps-by-sysroot-add-k : (t : ℕ) → find-in-deps-by-sysroot-lts.Need-add-k (
-  next-by-sysroot-reads.Asked,
-  next-by-sysroot-reads.Learnt,
-  dependency-crate-reads.Asked,
-  dependency-crate-reads.Learnt,
-  find-in-dep-below t,
-  find-in-dep.Post,
-)
-    (find-in-deps-by-sysroot-at t)
-    find-in-deps-by-sysroot.Post
-    find-in-deps-by-sysroot-Inv-loop
+find-in-deps-by-sysroot-add-k : (t : ℕ) → find-in-deps-by-sysroot-lts.Need-add-k (find-in-deps-by-sysroot-claims t)
+    (find-in-deps-by-sysroot-at t) find-in-deps-by-sysroot.Post find-in-deps-by-sysroot-Inv-loop
     find-in-deps-by-sysroot-μ-loop
 find-in-deps-by-sysroot-add-k t c =
     let o = c .before .before .before .before .before .before .before .before .before .before .before .before .before .before in
     let a = o .args in
-    let m = next-record (c .before .before .before .before .before .before .before .before .next-by-sysroot .ensures) (c .before .before .before .before .before .before .j .given .1) in
+    let m = next-record (c .before .before .before .before .before .before .before .before .next-by-sysroot .ensures)
+    (c .before .before .before .before .before .before .j .given .1) in
     record { fits = omega (arith, m .below, few-words _ _ _ (o .pre .1 .0 .ready .reads)) }
 
-find-in-deps-by-sysroot-loop-less : (t : ℕ) → find-in-deps-by-sysroot-lts.Need-loop-less (
-  next-by-sysroot-reads.Asked,
-  next-by-sysroot-reads.Learnt,
-  dependency-crate-reads.Asked,
-  dependency-crate-reads.Learnt,
-  find-in-dep-below t,
-  find-in-dep.Post,
-)
-    (find-in-deps-by-sysroot-at t)
-    find-in-deps-by-sysroot.Post
-    find-in-deps-by-sysroot-Inv-loop
+find-in-deps-by-sysroot-loop-less : (t : ℕ) → find-in-deps-by-sysroot-lts.Need-loop-less (find-in-deps-by-sysroot-claims t)
+    (find-in-deps-by-sysroot-at t) find-in-deps-by-sysroot.Post find-in-deps-by-sysroot-Inv-loop
     find-in-deps-by-sysroot-μ-loop
 find-in-deps-by-sysroot-loop-less t c =
     let o = c .before .before .before .before .before .before .before .before .before .before .before .before .before .before in
     let a = o .args in
-    let m = next-record (c .before .before .before .before .before .before .before .before .next-by-sysroot .ensures) (c .before .before .before .before .before .before .j .given .1) in
+    let m = next-record (c .before .before .before .before .before .before .before .before .next-by-sysroot .ensures)
+    (c .before .before .before .before .before .before .j .given .1) in
     omega (arith, m .from, m .below)
 
-find-in-deps-by-sysroot-loop-again : (t : ℕ) → find-in-deps-by-sysroot-lts.Need-loop-again (
-  next-by-sysroot-reads.Asked,
-  next-by-sysroot-reads.Learnt,
-  dependency-crate-reads.Asked,
-  dependency-crate-reads.Learnt,
-  find-in-dep-below t,
-  find-in-dep.Post,
-)
-    (find-in-deps-by-sysroot-at t)
-    find-in-deps-by-sysroot.Post
-    find-in-deps-by-sysroot-Inv-loop
+find-in-deps-by-sysroot-loop-again : (t : ℕ) → find-in-deps-by-sysroot-lts.Need-loop-again (find-in-deps-by-sysroot-claims t)
+    (find-in-deps-by-sysroot-at t) find-in-deps-by-sysroot.Post find-in-deps-by-sysroot-Inv-loop
     find-in-deps-by-sysroot-μ-loop
 find-in-deps-by-sysroot-loop-again t c =
     let o = c .before .before .before .before .before .before .before .before .before .before .before .before .before .before in
     let a = o .args in
-    let m = next-record (c .before .before .before .before .before .before .before .before .next-by-sysroot .ensures) (c .before .before .before .before .before .before .j .given .1) in
+    let m = next-record (c .before .before .before .before .before .before .before .before .next-by-sysroot .ensures)
+    (c .before .before .before .before .before .before .j .given .1) in
     let g = c .before .before .before .before .before .before .before .before .before .before .before .loop in
     let f = c .before .before .find-in-dep in
-    deps-next (now (a .words)) (now (a .area)) (g .area) (a .l) (a .x) (a .left) (o .pre .1 .0 .ready) (o .pre .1 .0 .some) (a .item) (g .inv) m (c .before .before .before .dependency-crate .ensures) (f .ensures) (f .kept .1 .0)
+    deps-next (now (a .words)) (now (a .area)) (g .area) (a .l) (a .x) (a .left) (o .pre .1 .0 .ready) (o .pre .1 .0 .some) (a .item)
+    (g .inv) m (c .before .before .before .dependency-crate .ensures) (f .ensures) (f .kept .1 .0)
 
-find-in-deps-by-sysroot-same-length-2 : (t : ℕ) → find-in-deps-by-sysroot-lts.Need-same-length-2 (
-  next-by-sysroot-reads.Asked,
-  next-by-sysroot-reads.Learnt,
-  dependency-crate-reads.Asked,
-  dependency-crate-reads.Learnt,
-  find-in-dep-below t,
-  find-in-dep.Post,
-)
-    (find-in-deps-by-sysroot-at t)
-    find-in-deps-by-sysroot.Post
-    find-in-deps-by-sysroot-Inv-loop
-    find-in-deps-by-sysroot-μ-loop
+find-in-deps-by-sysroot-same-length-2 :
+    (t : ℕ) → find-in-deps-by-sysroot-lts.Need-same-length-2 (find-in-deps-by-sysroot-claims t) (find-in-deps-by-sysroot-at t)
+    find-in-deps-by-sysroot.Post find-in-deps-by-sysroot-Inv-loop find-in-deps-by-sysroot-μ-loop
 find-in-deps-by-sysroot-same-length-2 t c = c .before .before .loop .inv .long
 
-find-in-deps-by-sysroot-returns-2 : (t : ℕ) → find-in-deps-by-sysroot-lts.Need-returns-2 (
-  next-by-sysroot-reads.Asked,
-  next-by-sysroot-reads.Learnt,
-  dependency-crate-reads.Asked,
-  dependency-crate-reads.Learnt,
-  find-in-dep-below t,
-  find-in-dep.Post,
-)
-    (find-in-deps-by-sysroot-at t)
-    find-in-deps-by-sysroot.Post
-    find-in-deps-by-sysroot-Inv-loop
+find-in-deps-by-sysroot-returns-2 : (t : ℕ) → find-in-deps-by-sysroot-lts.Need-returns-2 (find-in-deps-by-sysroot-claims t)
+    (find-in-deps-by-sysroot-at t) find-in-deps-by-sysroot.Post find-in-deps-by-sysroot-Inv-loop
     find-in-deps-by-sysroot-μ-loop
 find-in-deps-by-sysroot-returns-2 t c =
     let o = c .before .before .before .before .before in
     let a = o .args in
     let g = c .before .before .loop in
-    running-done (g .inv) (deps-end (now (a .words)) (now (a .area)) (g .area) (a .l) (a .x) (a .left) (o .pre .1 .0 .ready) (o .pre .1 .0 .some) (a .item) (g .best) _ (left-none _ _ _ _ (c .if1 .left)))
+    running-done (g .inv) (deps-end (now (a .words)) (now (a .area)) (g .area) (a .l) (a .x) (a .left) (o .pre .1 .0 .ready)
+    (o .pre .1 .0 .some) (a .item) (g .best) _ (left-none _ _ _ _ (c .if1 .left)))
 
-find-in-lang-is-stable-requires : (t : ℕ) → find-in-lang-lts.Need-is-stable-requires (
-  is-stable-reads.Asked,
-  is-stable-reads.Learnt,
-  lang-of-reads.Asked,
-  lang-of-reads.Learnt,
-  dependency-crate-reads.Asked,
-  dependency-crate-reads.Learnt,
-  find-in-dep-below t,
-  find-in-dep.Post,
-) (find-in-lang-at t) find-in-lang.Post
-find-in-lang-is-stable-requires t c κs = tt
-
-find-in-lang-returns : (t : ℕ) → find-in-lang-lts.Need-returns (
-  is-stable-reads.Asked,
-  is-stable-reads.Learnt,
-  lang-of-reads.Asked,
-  lang-of-reads.Learnt,
-  dependency-crate-reads.Asked,
-  dependency-crate-reads.Learnt,
-  find-in-dep-below t,
-  find-in-dep.Post,
-) (find-in-lang-at t) find-in-lang.Post
+find-in-lang-returns : (t : ℕ) → find-in-lang-lts.Need-returns (find-in-lang-claims t) (find-in-lang-at t) find-in-lang.Post
 find-in-lang-returns t c =
     let o = c .before .before .before .before .before in
     let a = o .args in
-    record { same = ap foundOf (lang-stable (snapOf (now (a .words)) (now (a .area)) (a .l)) (a .x) (a .left) (a .item) (outOf (a .o)) (a .lang) _ (sym (c .before .is-stable .ensures) ∙ c .if1 .taken)); tables = refl }
+    record {
+      same = ap foundOf (lang-stable (snapOf (now (a .words)) (now (a .area)) (a .l)) (a .x) (a .left) (a .item) (outOf (a .o))
+          (a .lang) _ (sym (c .before .is-stable .ensures) ∙ c .if1 .taken));
+      tables = refl;
+    }
 
-find-in-lang-lang-of-requires : (t : ℕ) → find-in-lang-lts.Need-lang-of-requires (
-  is-stable-reads.Asked,
-  is-stable-reads.Learnt,
-  lang-of-reads.Asked,
-  lang-of-reads.Learnt,
-  dependency-crate-reads.Asked,
-  dependency-crate-reads.Learnt,
-  find-in-dep-below t,
-  find-in-dep.Post,
-) (find-in-lang-at t) find-in-lang.Post
+find-in-lang-lang-of-requires :
+    (t : ℕ) → find-in-lang-lts.Need-lang-of-requires (find-in-lang-claims t) (find-in-lang-at t) find-in-lang.Post
 find-in-lang-lang-of-requires t c κs = let o = c .before .before .before .before .before in few-words _ _ _ (o .pre .1 .0 .ready .reads)
 
-find-in-lang-enum-known-h : (t : ℕ) → find-in-lang-lts.Need-enum-known-h (
-  is-stable-reads.Asked,
-  is-stable-reads.Learnt,
-  lang-of-reads.Asked,
-  lang-of-reads.Learnt,
-  dependency-crate-reads.Asked,
-  dependency-crate-reads.Learnt,
-  find-in-dep-below t,
-  find-in-dep.Post,
-) (find-in-lang-at t) find-in-lang.Post
-find-in-lang-enum-known-h t c = search needs
-
-find-in-lang-enum-told : (t : ℕ) → find-in-lang-lts.Need-enum-told (
-  is-stable-reads.Asked,
-  is-stable-reads.Learnt,
-  lang-of-reads.Asked,
-  lang-of-reads.Learnt,
-  dependency-crate-reads.Asked,
-  dependency-crate-reads.Learnt,
-  find-in-dep-below t,
-  find-in-dep.Post,
-) (find-in-lang-at t) find-in-lang.Post
-find-in-lang-enum-told t c = search needs
-
-find-in-lang-returns-2 : (t : ℕ) → find-in-lang-lts.Need-returns-2 (
-  is-stable-reads.Asked,
-  is-stable-reads.Learnt,
-  lang-of-reads.Asked,
-  lang-of-reads.Learnt,
-  dependency-crate-reads.Asked,
-  dependency-crate-reads.Learnt,
-  find-in-dep-below t,
-  find-in-dep.Post,
-) (find-in-lang-at t) find-in-lang.Post
+find-in-lang-returns-2 : (t : ℕ) → find-in-lang-lts.Need-returns-2 (find-in-lang-claims t) (find-in-lang-at t) find-in-lang.Post
 find-in-lang-returns-2 t c =
     let o = c .before .before .before .before .before .before .before .before in
     let a = o .args in
     let e = sym (ap (entryOf dependencyAt (now (a .words))) (c .enum-told .given .1)) ∙ c .before .before .lang-of .ensures (now (a .area)) in
-    record { same = ap foundOf (lang-none (snapOf (now (a .words)) (now (a .area)) (a .l)) (a .x) (a .left) (a .item) (outOf (a .o)) (a .lang) _ (sym (c .before .before .before .before .is-stable .ensures) ∙ c .before .before .before .if1 .left) e); tables = refl }
+    record {
+      same = ap foundOf (lang-none (snapOf (now (a .words)) (now (a .area)) (a .l)) (a .x) (a .left) (a .item) (outOf (a .o))
+          (a .lang) _ (sym (c .before .before .before .before .is-stable .ensures) ∙ c .before .before .before .if1 .left) e);
+      tables = refl;
+    }
 
-find-in-lang-dependency-crate-requires : (t : ℕ) → find-in-lang-lts.Need-dependency-crate-requires (
-  is-stable-reads.Asked,
-  is-stable-reads.Learnt,
-  lang-of-reads.Asked,
-  lang-of-reads.Learnt,
-  dependency-crate-reads.Asked,
-  dependency-crate-reads.Learnt,
-  find-in-dep-below t,
-  find-in-dep.Post,
-) (find-in-lang-at t) find-in-lang.Post
-find-in-lang-dependency-crate-requires t c κs = tt
+find-in-lang-find-in-dep-requires :
+    (t : ℕ) → find-in-lang-lts.Need-find-in-dep-requires (find-in-lang-claims t) (find-in-lang-at t) find-in-lang.Post
+find-in-lang-find-in-dep-requires t c κs = let o = c .before .before .before .before .before .before .before .before .before .before .before in
+    (omega (arith, o .pre .0), (o .pre .1 .0, o .pre .1 .1))
 
-find-in-lang-find-in-dep-requires : (t : ℕ) → find-in-lang-lts.Need-find-in-dep-requires (
-  is-stable-reads.Asked,
-  is-stable-reads.Learnt,
-  lang-of-reads.Asked,
-  lang-of-reads.Learnt,
-  dependency-crate-reads.Asked,
-  dependency-crate-reads.Learnt,
-  find-in-dep-below t,
-  find-in-dep.Post,
-) (find-in-lang-at t) find-in-lang.Post
-find-in-lang-find-in-dep-requires t c κs = let o = c .before .before .before .before .before .before .before .before .before .before .before in (omega (arith, o .pre .0), (o .pre .1 .0, o .pre .1 .1))
-
-find-in-lang-same-length : (t : ℕ) → find-in-lang-lts.Need-same-length (
-  is-stable-reads.Asked,
-  is-stable-reads.Learnt,
-  lang-of-reads.Asked,
-  lang-of-reads.Learnt,
-  dependency-crate-reads.Asked,
-  dependency-crate-reads.Learnt,
-  find-in-dep-below t,
-  find-in-dep.Post,
-) (find-in-lang-at t) find-in-lang.Post
+find-in-lang-same-length :
+    (t : ℕ) → find-in-lang-lts.Need-same-length (find-in-lang-claims t) (find-in-lang-at t) find-in-lang.Post
 find-in-lang-same-length t c = c .before .before .find-in-dep .kept .1 .0
 
-find-in-lang-returns-3 : (t : ℕ) → find-in-lang-lts.Need-returns-3 (
-  is-stable-reads.Asked,
-  is-stable-reads.Learnt,
-  lang-of-reads.Asked,
-  lang-of-reads.Learnt,
-  dependency-crate-reads.Asked,
-  dependency-crate-reads.Learnt,
-  find-in-dep-below t,
-  find-in-dep.Post,
-) (find-in-lang-at t) find-in-lang.Post
+find-in-lang-returns-3 : (t : ℕ) → find-in-lang-lts.Need-returns-3 (find-in-lang-claims t) (find-in-lang-at t) find-in-lang.Post
 find-in-lang-returns-3 t c =
     let o = c .before .before .before .before .before .before .before .before .before .before .before .before .before .before in
     let a = o .args in
     let f = c .before .before .find-in-dep in
     let h = c .before .before .before .before .before .before .h .given in
-    let e = sym (ap (entryOf dependencyAt (now (a .words))) (h .1)) ∙ c .before .before .before .before .before .before .before .before .lang-of .ensures (now (a .area)) in
+    let e = sym (ap (entryOf dependencyAt (now (a .words))) (h .1))
+    ∙ c .before .before .before .before .before .before .before .before .lang-of .ensures (now (a .area)) in
     record {
       same =
           f .ensures .same
-          ∙ ap (λ (z : ℕ). foundOf (imports (snapOf (now (a .words)) (now (a .area)) (a .l)) (a .x) (a .left) (outOf (a .o)) (importInfoFor (snapOf (now (a .words)) (now (a .area)) (a .l)) z (a .item)))) (c .before .before .before .dependency-crate .ensures)
-          ∙ ap foundOf (lang-some (snapOf (now (a .words)) (now (a .area)) (a .l)) (a .x) (a .left) (a .item) (outOf (a .o)) (a .lang) _ _ (sym (c .before .before .before .before .before .before .before .before .before .before .is-stable .ensures) ∙ c .before .before .before .before .before .before .before .before .before .if1 .left) e);
+          ∙ ap (λ (z : ℕ). foundOf (imports (snapOf (now (a .words)) (now (a .area)) (a .l)) (a .x) (a .left) (outOf (a .o))
+          (importInfoFor (snapOf (now (a .words)) (now (a .area)) (a .l)) z (a .item)))) (c .before .before .before .dependency-crate .ensures)
+          ∙ ap foundOf (lang-some (snapOf (now (a .words)) (now (a .area)) (a .l)) (a .x) (a .left) (a .item) (outOf (a .o))
+          (a .lang) _ _ (sym (c .before .before .before .before .before .before .before .before .before .before .is-stable .ensures)
+          ∙ c .before .before .before .before .before .before .before .before .before .if1 .left) e);
       tables = f .ensures .tables;
     }
 
-find-in-rest-is-stable-requires : (t : ℕ) → find-in-rest-lts.Need-is-stable-requires (
-  is-stable-reads.Asked,
-  is-stable-reads.Learnt,
-  find-in-deps-by-sysroot-below t,
-  find-in-deps-by-sysroot.Post,
-) (find-in-rest-at t) find-in-rest.Post
-find-in-rest-is-stable-requires t c κs = tt
-
-find-in-rest-returns : (t : ℕ) → find-in-rest-lts.Need-returns (
-  is-stable-reads.Asked,
-  is-stable-reads.Learnt,
-  find-in-deps-by-sysroot-below t,
-  find-in-deps-by-sysroot.Post,
-) (find-in-rest-at t) find-in-rest.Post
+find-in-rest-returns : (t : ℕ) → find-in-rest-lts.Need-returns (find-in-rest-claims t) (find-in-rest-at t) find-in-rest.Post
 find-in-rest-returns t c =
     let o = c .before .before .before .before .before in
     let a = o .args in
-    record { same = ap foundOf (rest-stable (snapOf (now (a .words)) (now (a .area)) (a .l)) (a .x) (a .left) (a .item) (outOf (a .o)) _ (sym (c .before .is-stable .ensures) ∙ c .if1 .taken)); tables = refl }
+    record {
+      same = ap foundOf (rest-stable (snapOf (now (a .words)) (now (a .area)) (a .l)) (a .x) (a .left) (a .item)
+          (outOf (a .o)) _ (sym (c .before .is-stable .ensures) ∙ c .if1 .taken));
+      tables = refl;
+    }
 
 find-in-rest-find-in-deps-by-sysroot-requires :
-    (t : ℕ) → find-in-rest-lts.Need-find-in-deps-by-sysroot-requires (
-      is-stable-reads.Asked,
-      is-stable-reads.Learnt,
-      find-in-deps-by-sysroot-below t,
-      find-in-deps-by-sysroot.Post,
-    ) (find-in-rest-at t) find-in-rest.Post
-find-in-rest-find-in-deps-by-sysroot-requires t c κs = let o = c .before .before .before .before .before .before in (omega (arith, o .pre .0), (o .pre .1 .0, o .pre .1 .1))
+    (t : ℕ) → find-in-rest-lts.Need-find-in-deps-by-sysroot-requires (find-in-rest-claims t) (find-in-rest-at t) find-in-rest.Post
+find-in-rest-find-in-deps-by-sysroot-requires t c κs = let o = c .before .before .before .before .before .before in
+    (omega (arith, o .pre .0), (o .pre .1 .0, o .pre .1 .1))
 
 find-in-rest-find-in-deps-by-sysroot-requires-2 :
-    (t : ℕ) → find-in-rest-lts.Need-find-in-deps-by-sysroot-requires-2 (
-      is-stable-reads.Asked,
-      is-stable-reads.Learnt,
-      find-in-deps-by-sysroot-below t,
-      find-in-deps-by-sysroot.Post,
-    ) (find-in-rest-at t) find-in-rest.Post
+    (t : ℕ) → find-in-rest-lts.Need-find-in-deps-by-sysroot-requires-2 (find-in-rest-claims t) (find-in-rest-at t) find-in-rest.Post
 find-in-rest-find-in-deps-by-sysroot-requires-2 t c κs =
     let o = c .before .before .before .before .before .before .before .before .before .before in
     let a = o .args in
@@ -1206,56 +830,27 @@ find-in-rest-find-in-deps-by-sysroot-requires-2 t c κs =
     let p = deps-passed (a .item) _ (record { begun = o .pre .1 .0; held = o .pre .1 .1 }) (f .ensures) (f .kept .1 .0) in
     (omega (arith, o .pre .0), (p .begun, p .held))
 
-find-in-rest-same-length : (t : ℕ) → find-in-rest-lts.Need-same-length (
-  is-stable-reads.Asked,
-  is-stable-reads.Learnt,
-  find-in-deps-by-sysroot-below t,
-  find-in-deps-by-sysroot.Post,
-) (find-in-rest-at t) find-in-rest.Post
-find-in-rest-same-length t c = c .before .before .find-in-deps-by-sysroot2 .kept .1 .0 ∙ c .before .before .before .before .before .before .find-in-deps-by-sysroot .kept .1 .0
+find-in-rest-same-length :
+    (t : ℕ) → find-in-rest-lts.Need-same-length (find-in-rest-claims t) (find-in-rest-at t) find-in-rest.Post
+find-in-rest-same-length t c = c .before .before .find-in-deps-by-sysroot2 .kept .1 .0
+    ∙ c .before .before .before .before .before .before .find-in-deps-by-sysroot .kept .1 .0
 
-find-in-rest-returns-2 : (t : ℕ) → find-in-rest-lts.Need-returns-2 (
-  is-stable-reads.Asked,
-  is-stable-reads.Learnt,
-  find-in-deps-by-sysroot-below t,
-  find-in-deps-by-sysroot.Post,
-) (find-in-rest-at t) find-in-rest.Post
+find-in-rest-returns-2 : (t : ℕ) → find-in-rest-lts.Need-returns-2 (find-in-rest-claims t) (find-in-rest-at t) find-in-rest.Post
 find-in-rest-returns-2 t c =
     let o = c .before .before .before .before .before .before .before .before .before .before .before .before .before in
     let a = o .args in
     let f = c .before .before .before .before .before .before .find-in-deps-by-sysroot in
     let r = c .before .before .find-in-deps-by-sysroot2 in
-    rest-run (a .left) (a .item) (a .o) (o .pre .1 .0 .ready) (sym (c .before .before .before .before .before .before .before .before .before .is-stable .ensures) ∙ c .before .before .before .before .before .before .before .before .if1 .left) (f .ensures) (r .ensures)
+    rest-run (a .left) (a .item) (a .o) (o .pre .1 .0 .ready)
+    (sym (c .before .before .before .before .before .before .before .before .before .is-stable .ensures)
+    ∙ c .before .before .before .before .before .before .before .before .if1 .left) (f .ensures) (r .ensures)
 
-find-in-sysroot-langs-for-requires : (t : ℕ) → find-in-sysroot-lts.Need-langs-for-requires (
-  langs-for-reads.Asked,
-  langs-for-reads.Learnt,
-  find-in-lang-below t,
-  find-in-lang.Post,
-  find-in-rest-below t,
-  find-in-rest.Post,
-) (find-in-sysroot-at t) find-in-sysroot.Post
-find-in-sysroot-langs-for-requires t c κs = tt
-
-find-in-sysroot-find-in-lang-requires : (t : ℕ) → find-in-sysroot-lts.Need-find-in-lang-requires (
-  langs-for-reads.Asked,
-  langs-for-reads.Learnt,
-  find-in-lang-below t,
-  find-in-lang.Post,
-  find-in-rest-below t,
-  find-in-rest.Post,
-) (find-in-sysroot-at t) find-in-sysroot.Post
+find-in-sysroot-find-in-lang-requires :
+    (t : ℕ) → find-in-sysroot-lts.Need-find-in-lang-requires (find-in-sysroot-claims t) (find-in-sysroot-at t) find-in-sysroot.Post
 find-in-sysroot-find-in-lang-requires t c κs = let o = c .before .before .before .before in (omega (arith, o .pre .0), (o .pre .1 .0, o .pre .1 .1))
 
 find-in-sysroot-find-in-lang-requires-2 :
-    (t : ℕ) → find-in-sysroot-lts.Need-find-in-lang-requires-2 (
-      langs-for-reads.Asked,
-      langs-for-reads.Learnt,
-      find-in-lang-below t,
-      find-in-lang.Post,
-      find-in-rest-below t,
-      find-in-rest.Post,
-    ) (find-in-sysroot-at t) find-in-sysroot.Post
+    (t : ℕ) → find-in-sysroot-lts.Need-find-in-lang-requires-2 (find-in-sysroot-claims t) (find-in-sysroot-at t) find-in-sysroot.Post
 find-in-sysroot-find-in-lang-requires-2 t c κs =
     let o = c .before .before .before .before .before .before .before .before in
     let a = o .args in
@@ -1264,14 +859,7 @@ find-in-sysroot-find-in-lang-requires-2 t c κs =
     (omega (arith, o .pre .0), (p1 .begun, p1 .held))
 
 find-in-sysroot-find-in-lang-requires-3 :
-    (t : ℕ) → find-in-sysroot-lts.Need-find-in-lang-requires-3 (
-      langs-for-reads.Asked,
-      langs-for-reads.Learnt,
-      find-in-lang-below t,
-      find-in-lang.Post,
-      find-in-rest-below t,
-      find-in-rest.Post,
-    ) (find-in-sysroot-at t) find-in-sysroot.Post
+    (t : ℕ) → find-in-sysroot-lts.Need-find-in-lang-requires-3 (find-in-sysroot-claims t) (find-in-sysroot-at t) find-in-sysroot.Post
 find-in-sysroot-find-in-lang-requires-3 t c κs =
     let o = c .before .before .before .before .before .before .before .before .before .before .before .before in
     let a = o .args in
@@ -1281,14 +869,8 @@ find-in-sysroot-find-in-lang-requires-3 t c κs =
     let p2 = lang-passed (a .item) _ (p1) (f2 .ensures) (f2 .kept .1 .0) in
     (omega (arith, o .pre .0), (p2 .begun, p2 .held))
 
-find-in-sysroot-find-in-rest-requires : (t : ℕ) → find-in-sysroot-lts.Need-find-in-rest-requires (
-  langs-for-reads.Asked,
-  langs-for-reads.Learnt,
-  find-in-lang-below t,
-  find-in-lang.Post,
-  find-in-rest-below t,
-  find-in-rest.Post,
-) (find-in-sysroot-at t) find-in-sysroot.Post
+find-in-sysroot-find-in-rest-requires : (t : ℕ) → find-in-sysroot-lts.Need-find-in-rest-requires (find-in-sysroot-claims t)
+    (find-in-sysroot-at t) find-in-sysroot.Post
 find-in-sysroot-find-in-rest-requires t c κs =
     let o = c .before .before .before .before .before .before .before .before .before .before .before .before .before .before .before .before in
     let a = o .args in
@@ -1300,26 +882,17 @@ find-in-sysroot-find-in-rest-requires t c κs =
     let p3 = lang-passed (a .item) _ (p2) (f3 .ensures) (f3 .kept .1 .0) in
     (omega (arith, o .pre .0), (p3 .begun, p3 .held))
 
-find-in-sysroot-same-length : (t : ℕ) → find-in-sysroot-lts.Need-same-length (
-  langs-for-reads.Asked,
-  langs-for-reads.Learnt,
-  find-in-lang-below t,
-  find-in-lang.Post,
-  find-in-rest-below t,
-  find-in-rest.Post,
-) (find-in-sysroot-at t) find-in-sysroot.Post
-find-in-sysroot-same-length t c = c .before .before .find-in-rest .kept .1 .0 ∙ c .before .before .before .before .before .before .find-in-lang3 .kept .1 .0 ∙ c .before .before .before .before .before .before .before .before .before .before .find-in-lang2 .kept .1 .0 ∙ c .before .before .before .before .before .before .before .before .before .before .before .before .before .before .find-in-lang .kept .1 .0
+find-in-sysroot-same-length :
+    (t : ℕ) → find-in-sysroot-lts.Need-same-length (find-in-sysroot-claims t) (find-in-sysroot-at t) find-in-sysroot.Post
+find-in-sysroot-same-length t c = c .before .before .find-in-rest .kept .1 .0
+    ∙ c .before .before .before .before .before .before .find-in-lang3 .kept .1 .0
+    ∙ c .before .before .before .before .before .before .before .before .before .before .find-in-lang2 .kept .1 .0
+    ∙ c .before .before .before .before .before .before .before .before .before .before .before .before .before .before .find-in-lang .kept .1 .0
 
-find-in-sysroot-returns : (t : ℕ) → find-in-sysroot-lts.Need-returns (
-  langs-for-reads.Asked,
-  langs-for-reads.Learnt,
-  find-in-lang-below t,
-  find-in-lang.Post,
-  find-in-rest-below t,
-  find-in-rest.Post,
-) (find-in-sysroot-at t) find-in-sysroot.Post
+find-in-sysroot-returns : (t : ℕ) → find-in-sysroot-lts.Need-returns (find-in-sysroot-claims t) (find-in-sysroot-at t) find-in-sysroot.Post
 find-in-sysroot-returns t c =
-    let o = c .before .before .before .before .before .before .before .before .before .before .before .before .before .before .before .before .before .before .before in
+    let o = c .before .before .before .before .before .before .before .before .before .before .before .before .before .before
+    .before .before .before .before .before in
     let a = o .args in
     let f1 = c .before .before .before .before .before .before .before .before .before .before .before .before .before .before .find-in-lang in
     let p1 = lang-passed (a .item) _ (record { begun = o .pre .1 .0; held = o .pre .1 .1 }) (f1 .ensures) (f1 .kept .1 .0) in
@@ -1327,140 +900,82 @@ find-in-sysroot-returns t c =
     let p2 = lang-passed (a .item) _ (p1) (f2 .ensures) (f2 .kept .1 .0) in
     let f3 = c .before .before .before .before .before .before .find-in-lang3 in
     let r = c .before .before .find-in-rest in
-    let n = c .before .before .before .before .before .before .before .before .before .before .before .before .before .before .before .before .langs-for in
-    subst (λ (ls : List ℕ). Searched (now (a .area)) (sysroot (snapOf (now (a .words)) (now (a .area)) (a .l)) (a .x) (a .left) (a .item) (outOf (a .o)) ls (isStable (a .o .choice))) (r .last .1 .0) (r .result)) (n .ensures)
+    let n = c .before .before .before .before .before .before .before .before .before .before .before .before .before .before
+    .before .before .langs-for in
+    subst (λ (ls : List ℕ). Searched (now (a .area)) (sysroot (snapOf (now (a .words)) (now (a .area)) (a .l)) (a .x) (a .left)
+    (a .item) (outOf (a .o)) ls (isStable (a .o .choice))) (r .last .1 .0) (r .result)) (n .ensures)
     (lang-run (a .left) (a .item) _ _ (a .o) (o .pre .1 .0 .ready) (f1 .ensures)
     (lang-run (a .left) (a .item) _ _ (f1 .result) (p1 .begun .ready) (f2 .ensures)
     (lang-run (a .left) (a .item) _ _ (f2 .result) (p2 .begun .ready) (f3 .ensures) (r .ensures))))
 
-find-path-for-module-nothing-requires : (t : ℕ) → find-path-for-module-lts.Need-nothing-requires (
-  nothing-reads.Asked,
-  nothing-reads.Learnt,
-  module-rules-reads.Asked,
-  module-rules-reads.Learnt,
-  calculate-best-path-below t,
-  calculate-best-path.Post,
-) (find-path-for-module-at t) find-path-for-module.Post
-find-path-for-module-nothing-requires t c κs = tt
-
-find-path-for-module-returns : (t : ℕ) → find-path-for-module-lts.Need-returns (
-  nothing-reads.Asked,
-  nothing-reads.Learnt,
-  module-rules-reads.Asked,
-  module-rules-reads.Learnt,
-  calculate-best-path-below t,
-  calculate-best-path.Post,
-) (find-path-for-module-at t) find-path-for-module.Post
+find-path-for-module-returns : (t : ℕ) → find-path-for-module-lts.Need-returns (find-path-for-module-claims t)
+    (find-path-for-module-at t) find-path-for-module.Post
 find-path-for-module-returns t c =
     let o = c .before .before .before .before in
     let a = o .args in
-    record { same = module-none (snapOf (now (a .words)) (now (a .area)) (a .l)) (a .x) (a .left) (a .m .0) (a .t) (c .before .if1 .taken) (c .nothing .ensures); tables = refl }
+    record {
+      same = module-none (snapOf (now (a .words)) (now (a .area)) (a .l)) (a .x) (a .left) (a .m .0) (a .t)
+          (c .before .if1 .taken) (c .nothing .ensures);
+      tables = refl;
+    }
 
 find-path-for-module-module-rules-requires :
-    (t : ℕ) → find-path-for-module-lts.Need-module-rules-requires (
-      nothing-reads.Asked,
-      nothing-reads.Learnt,
-      module-rules-reads.Asked,
-      module-rules-reads.Learnt,
-      calculate-best-path-below t,
-      calculate-best-path.Post,
-    ) (find-path-for-module-at t) find-path-for-module.Post
-find-path-for-module-module-rules-requires t c κs = let o = c .before .before .before .before in (o .pre .1 .0 .reads, o .pre .1 .0 .from, o .pre .1 .1)
+    (t : ℕ) → find-path-for-module-lts.Need-module-rules-requires (find-path-for-module-claims t) (find-path-for-module-at t)
+    find-path-for-module.Post
+find-path-for-module-module-rules-requires t c κs = let o = c .before .before .before .before in
+    (o .pre .1 .0 .reads, o .pre .1 .0 .from, o .pre .1 .1)
 
-find-path-for-module-same-length : (t : ℕ) → find-path-for-module-lts.Need-same-length (
-  nothing-reads.Asked,
-  nothing-reads.Learnt,
-  module-rules-reads.Asked,
-  module-rules-reads.Learnt,
-  calculate-best-path-below t,
-  calculate-best-path.Post,
-) (find-path-for-module-at t) find-path-for-module.Post
-find-path-for-module-same-length t c = refl
-
-find-path-for-module-returns-2 : (t : ℕ) → find-path-for-module-lts.Need-returns-2 (
-  nothing-reads.Asked,
-  nothing-reads.Learnt,
-  module-rules-reads.Asked,
-  module-rules-reads.Learnt,
-  calculate-best-path-below t,
-  calculate-best-path.Post,
-) (find-path-for-module-at t) find-path-for-module.Post
+find-path-for-module-returns-2 : (t : ℕ) → find-path-for-module-lts.Need-returns-2 (find-path-for-module-claims t)
+    (find-path-for-module-at t) find-path-for-module.Post
 find-path-for-module-returns-2 t c =
     let o = c .before .before .before .before .before .before in
     let a = o .args in
-    record { same = module-found (snapOf (now (a .words)) (now (a .area)) (a .l)) (a .x) (a .left) (a .m .0) (a .t) (c .before .before .before .if1 .left) (c .before .module-rules .ensures) (c .if2 .taken); tables = refl }
+    record {
+      same = module-found (snapOf (now (a .words)) (now (a .area)) (a .l)) (a .x) (a .left) (a .m .0) (a .t)
+          (c .before .before .before .if1 .left) (c .before .module-rules .ensures) (c .if2 .taken);
+      tables = refl;
+    }
 
 find-path-for-module-calculate-best-path-requires :
-    (t : ℕ) → find-path-for-module-lts.Need-calculate-best-path-requires (
-      nothing-reads.Asked,
-      nothing-reads.Learnt,
-      module-rules-reads.Asked,
-      module-rules-reads.Learnt,
-      calculate-best-path-below t,
-      calculate-best-path.Post,
-    ) (find-path-for-module-at t) find-path-for-module.Post
+    (t : ℕ) → find-path-for-module-lts.Need-calculate-best-path-requires (find-path-for-module-claims t) (find-path-for-module-at t)
+    find-path-for-module.Post
 find-path-for-module-calculate-best-path-requires t c κs =
     let o = c .before .before .before .before .before .before .before in
-    let a = o .args in
-    (omega (arith, o .pre .0), (record { ready = o .pre .1 .0; some = omega (arith, c .before .before .before .before .if1 .left); limit = o .pre .1 .2 }, (o .pre .1 .1, module-ns _), o .pre .1 .3))
+    let a = o .args in (
+      omega (arith, o .pre .0),
+      (
+        record {
+          ready = o .pre .1 .0;
+          some = omega (arith, c .before .before .before .before .if1 .left);
+          limit = o .pre .1 .2;
+        },
+        (o .pre .1 .1, module-ns _),
+        o .pre .1 .3,
+      ),
+    )
 
-find-path-for-module-same-length-2 : (t : ℕ) → find-path-for-module-lts.Need-same-length-2 (
-  nothing-reads.Asked,
-  nothing-reads.Learnt,
-  module-rules-reads.Asked,
-  module-rules-reads.Learnt,
-  calculate-best-path-below t,
-  calculate-best-path.Post,
-) (find-path-for-module-at t) find-path-for-module.Post
+find-path-for-module-same-length-2 :
+    (t : ℕ) → find-path-for-module-lts.Need-same-length-2 (find-path-for-module-claims t) (find-path-for-module-at t) find-path-for-module.Post
 find-path-for-module-same-length-2 t c = c .before .before .calculate-best-path .kept .1 .0
 
-find-path-for-module-returns-3 : (t : ℕ) → find-path-for-module-lts.Need-returns-3 (
-  nothing-reads.Asked,
-  nothing-reads.Learnt,
-  module-rules-reads.Asked,
-  module-rules-reads.Learnt,
-  calculate-best-path-below t,
-  calculate-best-path.Post,
-) (find-path-for-module-at t) find-path-for-module.Post
+find-path-for-module-returns-3 : (t : ℕ) → find-path-for-module-lts.Need-returns-3 (find-path-for-module-claims t)
+    (find-path-for-module-at t) find-path-for-module.Post
 find-path-for-module-returns-3 t c =
     let o = c .before .before .before .before .before .before .before .before .before .before in
     let a = o .args in
     let f = c .before .before .calculate-best-path in
     record {
-      same = f .ensures .same ∙ ap foundOf (module-charged (snapOf (now (a .words)) (now (a .area)) (a .l)) (a .x) (a .left) (a .m .0) (a .t) (c .before .before .before .before .before .before .before .if1 .left) (c .before .before .before .before .before .module-rules .ensures) (c .before .before .before .before .if2 .left));
+      same = f .ensures .same ∙ ap foundOf (module-charged (snapOf (now (a .words)) (now (a .area)) (a .l)) (a .x) (a .left)
+          (a .m .0) (a .t) (c .before .before .before .before .before .before .before .if1 .left)
+          (c .before .before .before .before .before .module-rules .ensures) (c .before .before .before .before .if2 .left));
       tables = f .ensures .tables;
     }
 
-search-charged-home-of-requires : (t : ℕ) → search-charged-lts.Need-home-of-requires (
-  home-of-reads.Asked,
-  home-of-reads.Learnt,
-  is-at-reads.Asked,
-  is-at-reads.Learnt,
-  calculate-best-path-local-reads.Asked,
-  calculate-best-path-local-reads.Learnt,
-  nothing-reads.Asked,
-  nothing-reads.Learnt,
-  find-in-sysroot-below t,
-  find-in-sysroot.Post,
-  find-in-deps-below t,
-  find-in-deps.Post,
-) (search-charged-at t) search-charged.Post
+search-charged-home-of-requires :
+    (t : ℕ) → search-charged-lts.Need-home-of-requires (search-charged-claims t) (search-charged-at t) search-charged.Post
 search-charged-home-of-requires t c κs = let o = c .before .before in few-words _ _ _ (o .pre .1 .0 .ready .reads)
 
-search-charged-is-at-requires : (t : ℕ) → search-charged-lts.Need-is-at-requires (
-  home-of-reads.Asked,
-  home-of-reads.Learnt,
-  is-at-reads.Asked,
-  is-at-reads.Learnt,
-  calculate-best-path-local-reads.Asked,
-  calculate-best-path-local-reads.Learnt,
-  nothing-reads.Asked,
-  nothing-reads.Learnt,
-  find-in-sysroot-below t,
-  find-in-sysroot.Post,
-  find-in-deps-below t,
-  find-in-deps.Post,
-) (search-charged-at t) search-charged.Post
+search-charged-is-at-requires : (t : ℕ) → search-charged-lts.Need-is-at-requires (search-charged-claims t) (search-charged-at t) search-charged.Post
 search-charged-is-at-requires t c κs =
     let o = c .before .before .before .before in
     let a = o .args in
@@ -1468,416 +983,124 @@ search-charged-is-at-requires t c κs =
     (r, home-below (now (a .words)) (now (a .area)) (a .l) (a .item) r (o .pre .1 .1 .0) (c .before .home-of .ensures (now (a .area))))
 
 search-charged-calculate-best-path-local-requires :
-    (t : ℕ) → search-charged-lts.Need-calculate-best-path-local-requires (
-      home-of-reads.Asked,
-      home-of-reads.Learnt,
-      is-at-reads.Asked,
-      is-at-reads.Learnt,
-      calculate-best-path-local-reads.Asked,
-      calculate-best-path-local-reads.Learnt,
-      nothing-reads.Asked,
-      nothing-reads.Learnt,
-      find-in-sysroot-below t,
-      find-in-sysroot.Post,
-      find-in-deps-below t,
-      find-in-deps.Post,
-    ) (search-charged-at t) search-charged.Post
-search-charged-calculate-best-path-local-requires t c κs = let o = c .before .before .before .before .before .before .before in (o .pre .1 .0 .ready, o .pre .1 .1, o .pre .1 .0 .some, o .pre .1 .0 .limit)
+    (t : ℕ) → search-charged-lts.Need-calculate-best-path-local-requires (search-charged-claims t) (search-charged-at t) search-charged.Post
+search-charged-calculate-best-path-local-requires t c κs = let o = c .before .before .before .before .before .before .before in
+    (o .pre .1 .0 .ready, o .pre .1 .1, o .pre .1 .0 .some, o .pre .1 .0 .limit)
 
-search-charged-same-length : (t : ℕ) → search-charged-lts.Need-same-length (
-  home-of-reads.Asked,
-  home-of-reads.Learnt,
-  is-at-reads.Asked,
-  is-at-reads.Learnt,
-  calculate-best-path-local-reads.Asked,
-  calculate-best-path-local-reads.Learnt,
-  nothing-reads.Asked,
-  nothing-reads.Learnt,
-  find-in-sysroot-below t,
-  find-in-sysroot.Post,
-  find-in-deps-below t,
-  find-in-deps.Post,
-) (search-charged-at t) search-charged.Post
+search-charged-same-length :
+    (t : ℕ) → search-charged-lts.Need-same-length (search-charged-claims t) (search-charged-at t) search-charged.Post
 search-charged-same-length t c = c .before .before .calculate-best-path-local .kept .1 .0
 
-search-charged-returns : (t : ℕ) → search-charged-lts.Need-returns (
-  home-of-reads.Asked,
-  home-of-reads.Learnt,
-  is-at-reads.Asked,
-  is-at-reads.Learnt,
-  calculate-best-path-local-reads.Asked,
-  calculate-best-path-local-reads.Learnt,
-  nothing-reads.Asked,
-  nothing-reads.Learnt,
-  find-in-sysroot-below t,
-  find-in-sysroot.Post,
-  find-in-deps-below t,
-  find-in-deps.Post,
-) (search-charged-at t) search-charged.Post
+search-charged-returns : (t : ℕ) → search-charged-lts.Need-returns (search-charged-claims t) (search-charged-at t) search-charged.Post
 search-charged-returns t c =
     let o = c .before .before .before .before .before .before .before .before .before .before in
     let a = o .args in
     let f = c .before .before .calculate-best-path-local in
     record {
-      same = go-here (snapOf (now (a .words)) (now (a .area)) (a .l)) (a .x) (a .left) (a .item) (a .t) (f .ensures .same) (at-home (snapOf (now (a .words)) (now (a .area)) (a .l)) (a .item) (a .x .«from_crate» .0) (c .before .before .before .before .before .before .before .home-of .ensures (now (a .area))) (c .before .before .before .before .before .is-at .ensures) ∙ c .before .before .before .before .if1 .taken);
+      same = go-here (snapOf (now (a .words)) (now (a .area)) (a .l)) (a .x) (a .left) (a .item) (a .t) (f .ensures .same)
+          (at-home (snapOf (now (a .words)) (now (a .area)) (a .l)) (a .item) (a .x .«from_crate» .0)
+          (c .before .before .before .before .before .before .before .home-of .ensures (now (a .area)))
+          (c .before .before .before .before .before .is-at .ensures) ∙ c .before .before .before .before .if1 .taken);
       tables = f .ensures .tables;
     }
 
-search-charged-nothing-requires : (t : ℕ) → search-charged-lts.Need-nothing-requires (
-  home-of-reads.Asked,
-  home-of-reads.Learnt,
-  is-at-reads.Asked,
-  is-at-reads.Learnt,
-  calculate-best-path-local-reads.Asked,
-  calculate-best-path-local-reads.Learnt,
-  nothing-reads.Asked,
-  nothing-reads.Learnt,
-  find-in-sysroot-below t,
-  find-in-sysroot.Post,
-  find-in-deps-below t,
-  find-in-deps.Post,
-) (search-charged-at t) search-charged.Post
-search-charged-nothing-requires t c κs = tt
-
 search-charged-find-in-sysroot-requires :
-    (t : ℕ) → search-charged-lts.Need-find-in-sysroot-requires (
-      home-of-reads.Asked,
-      home-of-reads.Learnt,
-      is-at-reads.Asked,
-      is-at-reads.Learnt,
-      calculate-best-path-local-reads.Asked,
-      calculate-best-path-local-reads.Learnt,
-      nothing-reads.Asked,
-      nothing-reads.Learnt,
-      find-in-sysroot-below t,
-      find-in-sysroot.Post,
-      find-in-deps-below t,
-      find-in-deps.Post,
-    ) (search-charged-at t) search-charged.Post
+    (t : ℕ) → search-charged-lts.Need-find-in-sysroot-requires (search-charged-claims t) (search-charged-at t) search-charged.Post
 search-charged-find-in-sysroot-requires t c κs =
     let o = c .before .before .before .before .before .before .before .before .before in
     let a = o .args in
     (omega (arith, o .pre .0), (o .pre .1 .0, held-nothing (a .left) (a .t) (c .before .before .nothing .ensures) (o .pre .1 .2)))
 
-search-charged-same-length-2 : (t : ℕ) → search-charged-lts.Need-same-length-2 (
-  home-of-reads.Asked,
-  home-of-reads.Learnt,
-  is-at-reads.Asked,
-  is-at-reads.Learnt,
-  calculate-best-path-local-reads.Asked,
-  calculate-best-path-local-reads.Learnt,
-  nothing-reads.Asked,
-  nothing-reads.Learnt,
-  find-in-sysroot-below t,
-  find-in-sysroot.Post,
-  find-in-deps-below t,
-  find-in-deps.Post,
-) (search-charged-at t) search-charged.Post
+search-charged-same-length-2 :
+    (t : ℕ) → search-charged-lts.Need-same-length-2 (search-charged-claims t) (search-charged-at t) search-charged.Post
 search-charged-same-length-2 t c = c .before .before .find-in-sysroot .kept .1 .0
 
-search-charged-returns-2 : (t : ℕ) → search-charged-lts.Need-returns-2 (
-  home-of-reads.Asked,
-  home-of-reads.Learnt,
-  is-at-reads.Asked,
-  is-at-reads.Learnt,
-  calculate-best-path-local-reads.Asked,
-  calculate-best-path-local-reads.Learnt,
-  nothing-reads.Asked,
-  nothing-reads.Learnt,
-  find-in-sysroot-below t,
-  find-in-sysroot.Post,
-  find-in-deps-below t,
-  find-in-deps.Post,
-) (search-charged-at t) search-charged.Post
+search-charged-returns-2 : (t : ℕ) → search-charged-lts.Need-returns-2 (search-charged-claims t) (search-charged-at t) search-charged.Post
 search-charged-returns-2 t c =
     let o = c .before .before .before .before .before .before .before .before .before .before .before .before in
     let a = o .args in
     let f = c .before .before .find-in-sysroot in
     record {
-      same = f .ensures .same ∙ ap foundOf (go-sysroot (snapOf (now (a .words)) (now (a .area)) (a .l)) (a .x) (a .left) (a .item) (a .t) (c .before .before .before .before .before .nothing .ensures) (at-home (snapOf (now (a .words)) (now (a .area)) (a .l)) (a .item) (a .x .«from_crate» .0) (c .before .before .before .before .before .before .before .before .before .home-of .ensures (now (a .area))) (c .before .before .before .before .before .before .before .is-at .ensures) ∙ c .before .before .before .before .before .before .if1 .left) (c .before .before .before .before .if2 .taken));
+      same = f .ensures .same ∙ ap foundOf (go-sysroot (snapOf (now (a .words)) (now (a .area)) (a .l)) (a .x) (a .left) (a .item)
+          (a .t) (c .before .before .before .before .before .nothing .ensures)
+          (at-home (snapOf (now (a .words)) (now (a .area)) (a .l)) (a .item) (a .x .«from_crate» .0)
+          (c .before .before .before .before .before .before .before .before .before .home-of .ensures (now (a .area)))
+          (c .before .before .before .before .before .before .before .is-at .ensures)
+          ∙ c .before .before .before .before .before .before .if1 .left) (c .before .before .before .before .if2 .taken));
       tables = f .ensures .tables;
     }
 
-search-charged-find-in-deps-requires : (t : ℕ) → search-charged-lts.Need-find-in-deps-requires (
-  home-of-reads.Asked,
-  home-of-reads.Learnt,
-  is-at-reads.Asked,
-  is-at-reads.Learnt,
-  calculate-best-path-local-reads.Asked,
-  calculate-best-path-local-reads.Learnt,
-  nothing-reads.Asked,
-  nothing-reads.Learnt,
-  find-in-sysroot-below t,
-  find-in-sysroot.Post,
-  find-in-deps-below t,
-  find-in-deps.Post,
-) (search-charged-at t) search-charged.Post
+search-charged-find-in-deps-requires : (t : ℕ) → search-charged-lts.Need-find-in-deps-requires (search-charged-claims t)
+    (search-charged-at t) search-charged.Post
 search-charged-find-in-deps-requires t c κs =
     let o = c .before .before .before .before .before .before .before .before .before in
     let a = o .args in
     (omega (arith, o .pre .0), (o .pre .1 .0, held-nothing (a .left) (a .t) (c .before .before .nothing .ensures) (o .pre .1 .2)))
 
-search-charged-same-length-3 : (t : ℕ) → search-charged-lts.Need-same-length-3 (
-  home-of-reads.Asked,
-  home-of-reads.Learnt,
-  is-at-reads.Asked,
-  is-at-reads.Learnt,
-  calculate-best-path-local-reads.Asked,
-  calculate-best-path-local-reads.Learnt,
-  nothing-reads.Asked,
-  nothing-reads.Learnt,
-  find-in-sysroot-below t,
-  find-in-sysroot.Post,
-  find-in-deps-below t,
-  find-in-deps.Post,
-) (search-charged-at t) search-charged.Post
+search-charged-same-length-3 :
+    (t : ℕ) → search-charged-lts.Need-same-length-3 (search-charged-claims t) (search-charged-at t) search-charged.Post
 search-charged-same-length-3 t c = c .before .before .find-in-deps .kept .1 .0
 
-search-charged-returns-3 : (t : ℕ) → search-charged-lts.Need-returns-3 (
-  home-of-reads.Asked,
-  home-of-reads.Learnt,
-  is-at-reads.Asked,
-  is-at-reads.Learnt,
-  calculate-best-path-local-reads.Asked,
-  calculate-best-path-local-reads.Learnt,
-  nothing-reads.Asked,
-  nothing-reads.Learnt,
-  find-in-sysroot-below t,
-  find-in-sysroot.Post,
-  find-in-deps-below t,
-  find-in-deps.Post,
-) (search-charged-at t) search-charged.Post
+search-charged-returns-3 : (t : ℕ) → search-charged-lts.Need-returns-3 (search-charged-claims t) (search-charged-at t) search-charged.Post
 search-charged-returns-3 t c =
     let o = c .before .before .before .before .before .before .before .before .before .before .before .before in
     let a = o .args in
     let f = c .before .before .find-in-deps in
     record {
-      same = f .ensures .same ∙ ap foundOf (go-dependencies (snapOf (now (a .words)) (now (a .area)) (a .l)) (a .x) (a .left) (a .item) (a .t) (c .before .before .before .before .before .nothing .ensures) (at-home (snapOf (now (a .words)) (now (a .area)) (a .l)) (a .item) (a .x .«from_crate» .0) (c .before .before .before .before .before .before .before .before .before .home-of .ensures (now (a .area))) (c .before .before .before .before .before .before .before .is-at .ensures) ∙ c .before .before .before .before .before .before .if1 .left) (c .before .before .before .before .if2 .left));
+      same = f .ensures .same ∙ ap foundOf (go-dependencies (snapOf (now (a .words)) (now (a .area)) (a .l)) (a .x) (a .left)
+          (a .item) (a .t) (c .before .before .before .before .before .nothing .ensures)
+          (at-home (snapOf (now (a .words)) (now (a .area)) (a .l)) (a .item) (a .x .«from_crate» .0)
+          (c .before .before .before .before .before .before .before .before .before .home-of .ensures (now (a .area)))
+          (c .before .before .before .before .before .before .before .is-at .ensures)
+          ∙ c .before .before .before .before .before .before .if1 .left) (c .before .before .before .before .if2 .left));
       tables = f .ensures .tables;
     }
 
 pub +calculate-best-path+find-import+find-in-dep+find-in-deps+find-in-deps-by-sysroot+find-in-lang+find-in-rest+find-in-sysroot+find-path-for-module+search-charged-spec :
     {M : Type 1} → statement M
 +calculate-best-path+find-import+find-in-dep+find-in-deps+find-in-deps-by-sysroot+find-in-lang+find-in-rest+find-in-sysroot+find-path-for-module+search-charged-spec =
-    close
-    μ-calculate-best-path
-    μ-find-import
-    μ-find-in-dep
-    μ-find-in-deps
-    μ-find-in-deps-by-sysroot
-    μ-find-in-lang
-    μ-find-in-rest
-    μ-find-in-sysroot
-    μ-find-path-for-module
-    μ-search-charged
-    (λ t. calculate-best-path-lts.spec (
-      charge-reads.Asked,
-      charge-reads.Learnt,
-      nothing-reads.Asked,
-      nothing-reads.Learnt,
-      search-charged-below t,
-      search-charged.Post,
-    )
-    (calculate-best-path-at t)
-    calculate-best-path.Post
-    (calculate-best-path-charge-requires t)
-    (calculate-best-path-enum-known-meter t)
-    (calculate-best-path-nothing-requires t)
-    (calculate-best-path-enum-known-meter-2 t)
-    (calculate-best-path-search-charged-requires t)
-    (calculate-best-path-returns t)
-    (calculate-best-path-same-length t)
-    (calculate-best-path-returns-2 t))
-    (λ t. find-import-lts.spec (
-      is-hidden-reads.Asked,
-      is-hidden-reads.Learnt,
-      length-left-reads.Asked,
-      length-left-reads.Learnt,
-      import-container-reads.Asked,
-      import-container-reads.Learnt,
-      find-path-for-module-below t,
-      find-path-for-module.Post,
-      offer-import-reads.Asked,
-      offer-import-reads.Learnt,
-    )
-    (find-import-at t)
-    find-import.Post
-    (find-import-is-hidden-requires t)
-    (find-import-returns t)
-    (find-import-length-left-requires t)
-    (find-import-import-container-requires t)
-    (find-import-find-path-for-module-requires t)
-    (find-import-offer-import-requires t)
-    (find-import-same-length t)
-    (find-import-returns-2 t))
-    (λ t. find-in-dep-lts.spec (
-      import-info-for-reads.Asked,
-      import-info-for-reads.Learnt,
-      find-import-below t,
-      find-import.Post,
-    )
-    (find-in-dep-at t)
-    find-in-dep.Post
-    find-in-dep-Inv-loop
-    find-in-dep-μ-loop
-    (find-in-dep-loop-holds t)
-    (find-in-dep-import-info-for-requires t)
-    (find-in-dep-enum-known-j t)
-    (find-in-dep-enum-told t)
-    (find-in-dep-same-length t)
-    (find-in-dep-returns t)
-    (find-in-dep-find-import-requires t)
-    (find-in-dep-add-k t)
-    (find-in-dep-loop-less t)
-    (find-in-dep-loop-again t)
-    (find-in-dep-same-length-2 t)
-    (find-in-dep-returns-2 t))
-    (λ t. find-in-deps-lts.spec (
-      next-dependency-reads.Asked,
-      next-dependency-reads.Learnt,
-      dependency-crate-reads.Asked,
-      dependency-crate-reads.Learnt,
-      find-in-dep-below t,
-      find-in-dep.Post,
-    )
-    (find-in-deps-at t)
-    find-in-deps.Post
-    find-in-deps-Inv-loop
-    find-in-deps-μ-loop
-    (find-in-deps-loop-holds t)
-    (find-in-deps-next-dependency-requires t)
-    (find-in-deps-enum-known-j t)
-    (find-in-deps-enum-told t)
-    (find-in-deps-same-length t)
-    (find-in-deps-returns t)
-    (find-in-deps-dependency-crate-requires t)
-    (find-in-deps-find-in-dep-requires t)
-    (find-in-deps-add-k t)
-    (find-in-deps-loop-less t)
-    (find-in-deps-loop-again t)
-    (find-in-deps-same-length-2 t)
-    (find-in-deps-returns-2 t))
-    (λ t. find-in-deps-by-sysroot-lts.spec (
-      next-by-sysroot-reads.Asked,
-      next-by-sysroot-reads.Learnt,
-      dependency-crate-reads.Asked,
-      dependency-crate-reads.Learnt,
-      find-in-dep-below t,
-      find-in-dep.Post,
-    )
-    (find-in-deps-by-sysroot-at t)
-    find-in-deps-by-sysroot.Post
-    find-in-deps-by-sysroot-Inv-loop
-    find-in-deps-by-sysroot-μ-loop
-    (find-in-deps-by-sysroot-loop-holds t)
-    (find-in-deps-by-sysroot-next-by-sysroot-requires t)
-    (find-in-deps-by-sysroot-enum-known-j t)
-    (find-in-deps-by-sysroot-enum-told t)
-    (find-in-deps-by-sysroot-same-length t)
-    (find-in-deps-by-sysroot-returns t)
-    (find-in-deps-by-sysroot-dependency-crate-requires t)
-    (find-in-deps-by-sysroot-find-in-dep-requires t)
-    (find-in-deps-by-sysroot-add-k t)
-    (find-in-deps-by-sysroot-loop-less t)
-    (find-in-deps-by-sysroot-loop-again t)
-    (find-in-deps-by-sysroot-same-length-2 t)
-    (find-in-deps-by-sysroot-returns-2 t))
-    (λ t. find-in-lang-lts.spec (
-      is-stable-reads.Asked,
-      is-stable-reads.Learnt,
-      lang-of-reads.Asked,
-      lang-of-reads.Learnt,
-      dependency-crate-reads.Asked,
-      dependency-crate-reads.Learnt,
-      find-in-dep-below t,
-      find-in-dep.Post,
-    )
-    (find-in-lang-at t)
-    find-in-lang.Post
-    (find-in-lang-is-stable-requires t)
-    (find-in-lang-returns t)
-    (find-in-lang-lang-of-requires t)
-    (find-in-lang-enum-known-h t)
-    (find-in-lang-enum-told t)
-    (find-in-lang-returns-2 t)
-    (find-in-lang-dependency-crate-requires t)
-    (find-in-lang-find-in-dep-requires t)
-    (find-in-lang-same-length t)
-    (find-in-lang-returns-3 t))
-    (λ t. find-in-rest-lts.spec (
-      is-stable-reads.Asked,
-      is-stable-reads.Learnt,
-      find-in-deps-by-sysroot-below t,
-      find-in-deps-by-sysroot.Post,
-    )
-    (find-in-rest-at t)
-    find-in-rest.Post
-    (find-in-rest-is-stable-requires t)
-    (find-in-rest-returns t)
-    (find-in-rest-find-in-deps-by-sysroot-requires t)
-    (find-in-rest-find-in-deps-by-sysroot-requires-2 t)
-    (find-in-rest-same-length t)
-    (find-in-rest-returns-2 t))
-    (λ t. find-in-sysroot-lts.spec (
-      langs-for-reads.Asked,
-      langs-for-reads.Learnt,
-      find-in-lang-below t,
-      find-in-lang.Post,
-      find-in-rest-below t,
-      find-in-rest.Post,
-    )
-    (find-in-sysroot-at t)
-    find-in-sysroot.Post
-    (find-in-sysroot-langs-for-requires t)
-    (find-in-sysroot-find-in-lang-requires t)
-    (find-in-sysroot-find-in-lang-requires-2 t)
-    (find-in-sysroot-find-in-lang-requires-3 t)
-    (find-in-sysroot-find-in-rest-requires t)
-    (find-in-sysroot-same-length t)
-    (find-in-sysroot-returns t))
-    (λ t. find-path-for-module-lts.spec (
-      nothing-reads.Asked,
-      nothing-reads.Learnt,
-      module-rules-reads.Asked,
-      module-rules-reads.Learnt,
-      calculate-best-path-below t,
-      calculate-best-path.Post,
-    )
-    (find-path-for-module-at t)
-    find-path-for-module.Post
-    (find-path-for-module-nothing-requires t)
-    (find-path-for-module-returns t)
-    (find-path-for-module-module-rules-requires t)
-    (find-path-for-module-same-length t)
-    (find-path-for-module-returns-2 t)
-    (find-path-for-module-calculate-best-path-requires t)
-    (find-path-for-module-same-length-2 t)
-    (find-path-for-module-returns-3 t))
-    λ t. search-charged-lts.spec (
-      home-of-reads.Asked,
-      home-of-reads.Learnt,
-      is-at-reads.Asked,
-      is-at-reads.Learnt,
-      calculate-best-path-local-reads.Asked,
-      calculate-best-path-local-reads.Learnt,
-      nothing-reads.Asked,
-      nothing-reads.Learnt,
-      find-in-sysroot-below t,
-      find-in-sysroot.Post,
-      find-in-deps-below t,
-      find-in-deps.Post,
-    )
-    (search-charged-at t)
-    search-charged.Post
-    (search-charged-home-of-requires t)
-    (search-charged-is-at-requires t)
-    (search-charged-calculate-best-path-local-requires t)
-    (search-charged-same-length t)
-    (search-charged-returns t)
-    (search-charged-nothing-requires t)
-    (search-charged-find-in-sysroot-requires t)
-    (search-charged-same-length-2 t)
-    (search-charged-returns-2 t)
-    (search-charged-find-in-deps-requires t)
-    (search-charged-same-length-3 t)
+    close μ-calculate-best-path μ-find-import μ-find-in-dep μ-find-in-deps μ-find-in-deps-by-sysroot μ-find-in-lang
+    μ-find-in-rest μ-find-in-sysroot μ-find-path-for-module μ-search-charged
+    (λ t. calculate-best-path-lts.spec (calculate-best-path-claims t) (calculate-best-path-at t)
+    calculate-best-path.Post (calculate-best-path-charge-requires t) (λ c. search needs) (λ c κs. tt)
+    (λ c. search needs) (calculate-best-path-search-charged-requires t) (calculate-best-path-returns t)
+    (calculate-best-path-same-length t) (calculate-best-path-returns-2 t))
+    (λ t. find-import-lts.spec (find-import-claims t) (find-import-at t) find-import.Post (λ c κs. tt)
+    (find-import-returns t) (find-import-length-left-requires t) (λ c κs. tt)
+    (find-import-find-path-for-module-requires t) (find-import-offer-import-requires t) (find-import-same-length t)
+    (find-import-returns-2 t)) (λ t. find-in-dep-lts.spec (find-in-dep-claims t) (find-in-dep-at t) find-in-dep.Post
+    find-in-dep-Inv-loop find-in-dep-μ-loop (find-in-dep-loop-holds t) (find-in-dep-import-info-for-requires t)
+    (λ c. search needs) (λ c. search needs) (find-in-dep-same-length t) (find-in-dep-returns t)
+    (find-in-dep-find-import-requires t) (find-in-dep-add-k t) (find-in-dep-loop-less t) (find-in-dep-loop-again t)
+    (find-in-dep-same-length-2 t) (find-in-dep-returns-2 t)) (λ t. find-in-deps-lts.spec (find-in-deps-claims t)
+    (find-in-deps-at t) find-in-deps.Post find-in-deps-Inv-loop find-in-deps-μ-loop (find-in-deps-loop-holds t)
+    (find-in-deps-next-dependency-requires t) (λ c. search needs) (λ c. search needs) (find-in-deps-same-length t)
+    (find-in-deps-returns t) (λ c κs. tt) (find-in-deps-find-in-dep-requires t) (find-in-deps-add-k t)
+    (find-in-deps-loop-less t) (find-in-deps-loop-again t) (find-in-deps-same-length-2 t) (find-in-deps-returns-2 t))
+    (λ t. find-in-deps-by-sysroot-lts.spec (find-in-deps-by-sysroot-claims t) (find-in-deps-by-sysroot-at t)
+    find-in-deps-by-sysroot.Post find-in-deps-by-sysroot-Inv-loop find-in-deps-by-sysroot-μ-loop
+    (find-in-deps-by-sysroot-loop-holds t) (find-in-deps-by-sysroot-next-by-sysroot-requires t) (λ c. search needs)
+    (λ c. search needs) (find-in-deps-by-sysroot-same-length t) (find-in-deps-by-sysroot-returns t) (λ c κs. tt)
+    (find-in-deps-by-sysroot-find-in-dep-requires t) (find-in-deps-by-sysroot-add-k t)
+    (find-in-deps-by-sysroot-loop-less t) (find-in-deps-by-sysroot-loop-again t)
+    (find-in-deps-by-sysroot-same-length-2 t) (find-in-deps-by-sysroot-returns-2 t))
+    (λ t. find-in-lang-lts.spec (find-in-lang-claims t) (find-in-lang-at t) find-in-lang.Post (λ c κs. tt)
+    (find-in-lang-returns t) (find-in-lang-lang-of-requires t) (λ c. search needs) (λ c. search needs)
+    (find-in-lang-returns-2 t) (λ c κs. tt) (find-in-lang-find-in-dep-requires t) (find-in-lang-same-length t)
+    (find-in-lang-returns-3 t)) (λ t. find-in-rest-lts.spec (find-in-rest-claims t) (find-in-rest-at t)
+    find-in-rest.Post (λ c κs. tt) (find-in-rest-returns t) (find-in-rest-find-in-deps-by-sysroot-requires t)
+    (find-in-rest-find-in-deps-by-sysroot-requires-2 t) (find-in-rest-same-length t) (find-in-rest-returns-2 t))
+    (λ t. find-in-sysroot-lts.spec (find-in-sysroot-claims t) (find-in-sysroot-at t) find-in-sysroot.Post (λ c κs. tt)
+    (find-in-sysroot-find-in-lang-requires t) (find-in-sysroot-find-in-lang-requires-2 t)
+    (find-in-sysroot-find-in-lang-requires-3 t) (find-in-sysroot-find-in-rest-requires t)
+    (find-in-sysroot-same-length t) (find-in-sysroot-returns t))
+    (λ t. find-path-for-module-lts.spec (find-path-for-module-claims t) (find-path-for-module-at t)
+    find-path-for-module.Post (λ c κs. tt) (find-path-for-module-returns t)
+    (find-path-for-module-module-rules-requires t) (λ c. refl) (find-path-for-module-returns-2 t)
+    (find-path-for-module-calculate-best-path-requires t) (find-path-for-module-same-length-2 t)
+    (find-path-for-module-returns-3 t)) λ t. search-charged-lts.spec (search-charged-claims t) (search-charged-at t)
+    search-charged.Post (search-charged-home-of-requires t) (search-charged-is-at-requires t)
+    (search-charged-calculate-best-path-local-requires t) (search-charged-same-length t) (search-charged-returns t)
+    (λ c κs. tt) (search-charged-find-in-sysroot-requires t) (search-charged-same-length-2 t)
+    (search-charged-returns-2 t) (search-charged-find-in-deps-requires t) (search-charged-same-length-3 t)
     (search-charged-returns-3 t)

@@ -9,12 +9,6 @@ use Rattle.charged_search.proofs.Parts.{at-none, at-some}
 use Rattle.charged_search.proofs.is_at.Statement.{statement}
 use Rattle.charged_search.proofs.is_at.Tie as tie
 
-enum-known-home : tie.Need-enum-known-home
-enum-known-home c = search needs
-
-enum-told : tie.Need-enum-told
-enum-told c = search needs
-
 returns : tie.Need-returns
 returns c =
     let a = c .before .before .before .before .args in
@@ -28,7 +22,8 @@ krate-requires c κs =
 returns-2 : tie.Need-returns-2
 returns-2 c =
     let a = c .before .before .before .before .before .before .before .before .args in
-    at-some (snapOf (now (a .words)) (now (a .area)) (a .l)) (plusOne (a .home)) (a .c .0) (is-some _ refl (c .before .before .before .before .home .given .1)) (c .before .before .krate .ensures)
+    at-some (snapOf (now (a .words)) (now (a .area)) (a .l)) (plusOne (a .home)) (a .c .0)
+    (is-some _ refl (c .before .before .before .before .home .given .1)) (c .before .before .krate .ensures)
 
 pub is-at-spec : {M : Type 1} → statement M
-is-at-spec = tie.close (tie.spec enum-known-home enum-told returns krate-requires returns-2)
+is-at-spec = tie.close (tie.spec (λ c. search needs) (λ c. search needs) returns krate-requires returns-2)

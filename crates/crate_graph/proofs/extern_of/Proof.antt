@@ -14,28 +14,21 @@ use Rattle.crate_graph.proofs.extern_of.Statement.{statement}
 use Rattle.crate_graph.proofs.extern_of.Tie as tie
 
 abbrev Inv-loop : tie.InvT-loop
-Inv-loop words c m base k₀ k = (k ≤ k₀) × (firstOf (isExtern (c .0) (m .0)) (reverse (rows (λ i. externAt words (base + externSize * i)) 0 k₀)) ≡ firstOf (isExtern (c .0) (m .0)) (reverse (rows (λ i. externAt words (base + externSize * i)) 0 k)))
+Inv-loop words c m base k₀ k = (k ≤ k₀)
+    × (firstOf (isExtern (c .0) (m .0)) (reverse (rows (λ i. externAt words (base + externSize * i)) 0 k₀))
+    ≡ firstOf (isExtern (c .0) (m .0)) (reverse (rows (λ i. externAt words (base + externSize * i)) 0 k)))
 
 abbrev μ-loop : tie.MeasureT-loop
 μ-loop words c m base k₀ k = k
 
-extern-base-requires : tie.Need-extern-base-requires Inv-loop μ-loop
-extern-base-requires c κs = search needs
-
 loop-holds : tie.Need-loop-holds Inv-loop μ-loop
 loop-holds c = (omega arith, refl)
-
-sub-k : tie.Need-sub-k Inv-loop μ-loop
-sub-k c = search needs
 
 mul-h : tie.Need-mul-h Inv-loop μ-loop
 mul-h c = record { fits = omega (arith, c .before .loop .inv .0, c .before .before .before .before .pre) }
 
 add-h : tie.Need-add-h Inv-loop μ-loop
 add-h c = record { fits = omega (arith, c .before .loop .inv .0, c .before .before .extern-base .ensures, c .before .before .before .before .pre) }
-
-is-extern-requires : tie.Need-is-extern-requires Inv-loop μ-loop
-is-extern-requires c κs = search needs
 
 returns : tie.Need-returns Inv-loop μ-loop
 returns c =
@@ -50,8 +43,11 @@ loop-less c = omega (arith, c .before .before .loop-test .taken)
 
 loop-again : tie.Need-loop-again Inv-loop μ-loop
 loop-again c =
-    let w = c .before .before .before .loop in
-    (omega (arith, w .inv .0), back-miss _ _ _ _ (w .inv .1) (c .before .before .loop-test .taken) refl (c .before .is-extern .ensures) (c .if1 .left))
+    let w = c .before .before .before .loop in (
+      omega (arith, w .inv .0),
+      back-miss _ _ _ _ (w .inv .1) (c .before .before .loop-test .taken) refl (c .before .is-extern .ensures)
+          (c .if1 .left),
+    )
 
 returns-2 : tie.Need-returns-2 Inv-loop μ-loop
 returns-2 c =
@@ -63,17 +59,5 @@ returns-2 c =
 
 pub extern-of-spec : {M : Type 1} → statement M
 extern-of-spec =
-    tie.close
-    (tie.spec
-    Inv-loop
-    μ-loop
-    extern-base-requires
-    loop-holds
-    sub-k
-    mul-h
-    add-h
-    is-extern-requires
-    returns
-    loop-less
-    loop-again
-    returns-2)
+    tie.close (tie.spec Inv-loop μ-loop (λ c κs. search needs) loop-holds (λ c. search needs) mul-h add-h
+    (λ c κs. search needs) returns loop-less loop-again returns-2)

@@ -17,9 +17,6 @@ Inv-loop words l k c sysroot base j₀ j = Came (bySysroot (c .0) sysroot) depen
 abbrev μ-loop : tie.MeasureT-loop
 μ-loop words l k c sysroot base j₀ j = l .dependencies - j
 
-dependency-base-requires : tie.Need-dependency-base-requires Inv-loop μ-loop
-dependency-base-requires c κs = search needs
-
 loop-holds : tie.Need-loop-holds Inv-loop μ-loop
 loop-holds c = next-start _ _ _ _ _ _ _
 
@@ -27,16 +24,22 @@ mul-h : tie.Need-mul-h Inv-loop μ-loop
 mul-h c = record { fits = omega (arith, c .if1 .taken, c .before .before .before .before .before .pre) }
 
 add-h : tie.Need-add-h Inv-loop μ-loop
-add-h c = record { fits = omega (arith, c .if1 .taken, c .before .before .before .dependency-base .ensures, c .before .before .before .before .before .pre) }
-
-by-sysroot-requires : tie.Need-by-sysroot-requires Inv-loop μ-loop
-by-sysroot-requires c κs = search needs
+add-h c = record {
+  fits = omega (
+    arith,
+    c .if1 .taken,
+    c .before .before .before .dependency-base .ensures,
+    c .before .before .before .before .before .pre,
+  );
+}
 
 returns : tie.Need-returns Inv-loop μ-loop
 unfolding NextOf
 returns c =
     let w = c .before .before .before .before .loop in
-    next-hit (w .inv) (c .before .before .if1 .taken) (ap (λ b. b + dependencySize * w .j) (c .before .before .before .before .before .dependency-base .ensures)) (c .before .by-sysroot .ensures) (c .if2 .taken)
+    next-hit (w .inv) (c .before .before .if1 .taken)
+    (ap (λ b. b + dependencySize * w .j) (c .before .before .before .before .before .dependency-base .ensures))
+    (c .before .by-sysroot .ensures) (c .if2 .taken)
 
 add-j : tie.Need-add-j Inv-loop μ-loop
 add-j c = record { fits = omega (arith, c .before .before .if1 .taken, c .before .before .before .before .before .before .before .pre) }
@@ -47,7 +50,9 @@ loop-less c = omega (arith, c .before .before .if1 .taken)
 loop-again : tie.Need-loop-again Inv-loop μ-loop
 loop-again c =
     let w = c .before .before .before .before .loop in
-    next-miss (w .inv) (c .before .before .if1 .taken) (ap (λ b. b + dependencySize * w .j) (c .before .before .before .before .before .dependency-base .ensures)) (c .before .by-sysroot .ensures) (c .if2 .left)
+    next-miss (w .inv) (c .before .before .if1 .taken)
+    (ap (λ b. b + dependencySize * w .j) (c .before .before .before .before .before .dependency-base .ensures))
+    (c .before .by-sysroot .ensures) (c .if2 .left)
 
 returns-2 : tie.Need-returns-2 Inv-loop μ-loop
 unfolding NextOf
@@ -55,17 +60,5 @@ returns-2 c = next-end (c .before .before .loop .inv) (c .if1 .left)
 
 pub next-by-sysroot-spec : {M : Type 1} → statement M
 next-by-sysroot-spec =
-    tie.close
-    (tie.spec
-    Inv-loop
-    μ-loop
-    dependency-base-requires
-    loop-holds
-    mul-h
-    add-h
-    by-sysroot-requires
-    returns
-    add-j
-    loop-less
-    loop-again
-    returns-2)
+    tie.close (tie.spec Inv-loop μ-loop (λ c κs. search needs) loop-holds mul-h add-h (λ c κs. search needs) returns
+    add-j loop-less loop-again returns-2)

@@ -18,9 +18,6 @@ Inv-loop words l k c base j₀ j = Came (isDependency (c .0)) dependencyAt depen
 abbrev μ-loop : tie.MeasureT-loop
 μ-loop words l k c base j₀ j = l .dependencies - j
 
-dependency-base-requires : tie.Need-dependency-base-requires Inv-loop μ-loop
-dependency-base-requires c κs = search needs
-
 loop-holds : tie.Need-loop-holds Inv-loop μ-loop
 loop-holds c = next-start _ _ _ _ _ _ _
 
@@ -28,19 +25,31 @@ mul-h : tie.Need-mul-h Inv-loop μ-loop
 mul-h c = record { fits = omega (arith, c .if1 .taken, c .before .before .before .before .before .pre) }
 
 add-h : tie.Need-add-h Inv-loop μ-loop
-add-h c = record { fits = omega (arith, c .if1 .taken, c .before .before .before .dependency-base .ensures, c .before .before .before .before .before .pre) }
-
-dependency-owner-requires : tie.Need-dependency-owner-requires Inv-loop μ-loop
-dependency-owner-requires c κs = search needs
+add-h c = record {
+  fits = omega (
+    arith,
+    c .if1 .taken,
+    c .before .before .before .dependency-base .ensures,
+    c .before .before .before .before .before .pre,
+  );
+}
 
 returns : tie.Need-returns Inv-loop μ-loop
 unfolding NextOf
 returns c =
     let w = c .before .before .before .before .before .before .loop in
-    next-hit (w .inv) (c .before .before .before .before .if1 .taken) (ap (λ b. b + dependencySize * w .j) (c .before .before .before .before .before .before .before .dependency-base .ensures)) refl (eq-eqb _ _ (sym (c .before .before .before .dependency-owner .ensures) ∙ c .if2 .taken))
+    next-hit (w .inv) (c .before .before .before .before .if1 .taken)
+    (ap (λ b. b + dependencySize * w .j) (c .before .before .before .before .before .before .before .dependency-base .ensures))
+    refl (eq-eqb _ _ (sym (c .before .before .before .dependency-owner .ensures) ∙ c .if2 .taken))
 
 add-j : tie.Need-add-j Inv-loop μ-loop
-add-j c = record { fits = omega (arith, c .before .before .before .before .if1 .taken, c .before .before .before .before .before .before .before .before .before .pre) }
+add-j c = record {
+  fits = omega (
+    arith,
+    c .before .before .before .before .if1 .taken,
+    c .before .before .before .before .before .before .before .before .before .pre,
+  );
+}
 
 loop-less : tie.Need-loop-less Inv-loop μ-loop
 loop-less c = omega (arith, c .before .before .before .before .if1 .taken)
@@ -48,7 +57,9 @@ loop-less c = omega (arith, c .before .before .before .before .if1 .taken)
 loop-again : tie.Need-loop-again Inv-loop μ-loop
 loop-again c =
     let w = c .before .before .before .before .before .before .loop in
-    next-miss (w .inv) (c .before .before .before .before .if1 .taken) (ap (λ b. b + dependencySize * w .j) (c .before .before .before .before .before .before .before .dependency-base .ensures)) refl (ne-eqb _ _ (λ e. c .if2 .left (c .before .before .before .dependency-owner .ensures ∙ e)))
+    next-miss (w .inv) (c .before .before .before .before .if1 .taken)
+    (ap (λ b. b + dependencySize * w .j) (c .before .before .before .before .before .before .before .dependency-base .ensures))
+    refl (ne-eqb _ _ (λ e. c .if2 .left (c .before .before .before .dependency-owner .ensures ∙ e)))
 
 returns-2 : tie.Need-returns-2 Inv-loop μ-loop
 unfolding NextOf
@@ -56,17 +67,5 @@ returns-2 c = next-end (c .before .before .loop .inv) (c .if1 .left)
 
 pub next-dependency-spec : {M : Type 1} → statement M
 next-dependency-spec =
-    tie.close
-    (tie.spec
-    Inv-loop
-    μ-loop
-    dependency-base-requires
-    loop-holds
-    mul-h
-    add-h
-    dependency-owner-requires
-    returns
-    add-j
-    loop-less
-    loop-again
-    returns-2)
+    tie.close (tie.spec Inv-loop μ-loop (λ c κs. search needs) loop-holds mul-h add-h (λ c κs. search needs) returns
+    add-j loop-less loop-again returns-2)

@@ -6,37 +6,25 @@ use Rattle.distances.proofs.Marking.{entry-other, entry-plain, entry-be
 use Rattle.distances.proofs.mark_entry.Statement.{statement}
 use Rattle.distances.proofs.mark_entry.Tie as tie
 
-scope-owner-requires : tie.Need-scope-owner-requires
-scope-owner-requires c κs = search needs
-
 returns : tie.Need-returns
 returns c =
     let o = c .before .before .before in
-    let s = o .before .before .before in
-    (lowers-same _, entry-other (now (s .args .words)) (now (s .args .area)) (s .args .l) (s .args .c .0) (s .args .h) (o .scope-owner .ensures) (c .if1 .taken))
-
-scope-ns-requires : tie.Need-scope-ns-requires
-scope-ns-requires c κs = search needs
-
-scope-definition-requires : tie.Need-scope-definition-requires
-scope-definition-requires c κs = search needs
-
-item-of-requires : tie.Need-item-of-requires
-item-of-requires c κs = search needs
-
-enum-known-item : tie.Need-enum-known-item
-enum-known-item c = search needs
-
-enum-told : tie.Need-enum-told
-enum-told c = search needs
+    let s = o .before .before .before in (
+      lowers-same _,
+      entry-other (now (s .args .words)) (now (s .args .area)) (s .args .l) (s .args .c .0) (s .args .h)
+          (o .scope-owner .ensures) (c .if1 .taken),
+    )
 
 returns-2 : tie.Need-returns-2
 returns-2 c =
     let i = c .before .before in
     let o = i .before .before .before .before .before .before in
     let s = o .before .before .before in
-    let A = now (s .args .area) in
-    (lowers-same _, entry-plain (now (s .args .words)) A (s .args .l) (s .args .c .0) (s .args .h) (i .item-of .ensures A) (i .before .before .scope-ns .ensures) (i .before .scope-definition .ensures) (c .enum-told .given .1))
+    let A = now (s .args .area) in (
+      lowers-same _,
+      entry-plain (now (s .args .words)) A (s .args .l) (s .args .c .0) (s .args .h) (i .item-of .ensures A)
+          (i .before .before .scope-ns .ensures) (i .before .scope-definition .ensures) (c .enum-told .given .1),
+    )
 
 mark-requires : tie.Need-mark-requires
 mark-requires c κs =
@@ -44,11 +32,16 @@ mark-requires c κs =
     let i = t .before .before in
     let o = i .before .before .before .before .before .before in
     let s = o .before .before .before in
-    let A = now (s .args .area) in
-    (s .pre .0 .area, omega (arith, s .pre .0 .reads .tables .limited .modules, entry-below (now (s .args .words)) A (s .args .l) (s .args .c .0) (s .args .h) (i .item-of .ensures A) (i .before .before .scope-ns .ensures) (i .before .scope-definition .ensures) (s .pre .0 .reads) (s .pre .1) (t .item .given .1)))
-
-same-length : tie.Need-same-length
-same-length c = search needs
+    let A = now (s .args .area) in (
+      s .pre .0 .area,
+      omega (
+        arith,
+        s .pre .0 .reads .tables .limited .modules,
+        entry-below (now (s .args .words)) A (s .args .l)
+            (s .args .c .0) (s .args .h) (i .item-of .ensures A) (i .before .before .scope-ns .ensures) (i .before .scope-definition .ensures)
+            (s .pre .0 .reads) (s .pre .1) (t .item .given .1),
+      ),
+    )
 
 returns-3 : tie.Need-returns-3
 returns-3 c =
@@ -57,21 +50,14 @@ returns-3 c =
     let i = t .before .before in
     let o = i .before .before .before .before .before .before in
     let s = o .before .before .before in
-    let A = now (s .args .area) in
-    (m .mark .ensures .0, entry-marked (now (s .args .words)) A (s .args .l) (s .args .c .0) (s .args .h) (i .item-of .ensures A) (i .before .before .scope-ns .ensures) (i .before .scope-definition .ensures) (m .mark .last .0) (t .item .given .1) (m .mark .ensures .1))
+    let A = now (s .args .area) in (
+      m .mark .ensures .0,
+      entry-marked (now (s .args .words)) A (s .args .l) (s .args .c .0) (s .args .h) (i .item-of .ensures A)
+          (i .before .before .scope-ns .ensures) (i .before .scope-definition .ensures) (m .mark .last .0) (t .item .given .1) (m .mark .ensures .1),
+    )
 
 pub mark-entry-spec : {M : Type 1} → statement M
 mark-entry-spec =
-    tie.close
-    (tie.spec
-    scope-owner-requires
-    returns
-    scope-ns-requires
-    scope-definition-requires
-    item-of-requires
-    enum-known-item
-    enum-told
-    returns-2
-    mark-requires
-    same-length
+    tie.close (tie.spec (λ c κs. search needs) returns (λ c κs. search needs) (λ c κs. search needs)
+    (λ c κs. search needs) (λ c. search needs) (λ c. search needs) returns-2 mark-requires (λ c. search needs)
     returns-3)

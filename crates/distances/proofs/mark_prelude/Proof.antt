@@ -8,37 +8,16 @@ use Rattle.distances.proofs.Marking.{no-prelude, one-prelude}
 use Rattle.distances.proofs.mark_prelude.Statement.{statement}
 use Rattle.distances.proofs.mark_prelude.Tie as tie
 
-map-requires : tie.Need-map-requires
-map-requires c κs = search needs
-
-prelude-of-requires : tie.Need-prelude-of-requires
-prelude-of-requires c κs = search needs
-
-enum-known-p : tie.Need-enum-known-p
-enum-known-p c = search needs
-
-enum-told : tie.Need-enum-told
-enum-told c = search needs
-
-same-length : tie.Need-same-length
-same-length c = search needs
-
 returns : tie.Need-returns
 returns c =
     let p = c .before .before in
     let s = p .before .before .before .before .before in
     let W = now (s .args .words) in
-    let A = now (s .args .area) in
-    (lowers-same A, no-prelude W A (s .args .l) (s .args .from .0) (p .before .map .ensures) (p .prelude-of .ensures A) (ap (entryOf preludeAt W) (c .enum-told .given .1)))
-
-prelude-target-requires : tie.Need-prelude-target-requires
-prelude-target-requires c κs = search needs
-
-mark-scope-requires : tie.Need-mark-scope-requires
-mark-scope-requires c κs = search needs
-
-same-length-2 : tie.Need-same-length-2
-same-length-2 c = search needs
+    let A = now (s .args .area) in (
+      lowers-same A,
+      no-prelude W A (s .args .l) (s .args .from .0) (p .before .map .ensures) (p .prelude-of .ensures A)
+          (ap (entryOf preludeAt W) (c .enum-told .given .1)),
+    )
 
 returns-2 : tie.Need-returns-2
 returns-2 c =
@@ -50,21 +29,12 @@ returns-2 c =
     let W = now (s .args .words) in
     let A = now (s .args .area) in (
       m .mark-scope .ensures .0,
-      one-prelude W A (s .args .l) (s .args .from .0) (preludeAt W (e .p .given .0 .0)) (m .mark-scope .last .1 .0) (p .before .map .ensures) (p .prelude-of .ensures A)
+      one-prelude W A (s .args .l) (s .args .from .0) (preludeAt W (e .p .given .0 .0)) (m .mark-scope .last .1 .0)
+          (p .before .map .ensures) (p .prelude-of .ensures A)
           (ap (entryOf preludeAt W) (e .p .given .1)) (t .prelude-target .ensures) (m .mark-scope .ensures .1),
     )
 
 pub mark-prelude-spec : {M : Type 1} → statement M
 mark-prelude-spec =
-    tie.close
-    (tie.spec
-    map-requires
-    prelude-of-requires
-    enum-known-p
-    enum-told
-    same-length
-    returns
-    prelude-target-requires
-    mark-scope-requires
-    same-length-2
-    returns-2)
+    tie.close (tie.spec (λ c κs. search needs) (λ c κs. search needs) (λ c. search needs) (λ c. search needs)
+    (λ c. search needs) returns (λ c κs. search needs) (λ c κs. search needs) (λ c. search needs) returns-2)

@@ -15,19 +15,10 @@ Inv-loop words area₀ l c base count k₀ area k = Marking words area₀ l (c .
 abbrev μ-loop : tie.MeasureT-loop
 μ-loop words area₀ l c base count k₀ area k = count - k
 
-scope-base-requires : tie.Need-scope-base-requires Inv-loop μ-loop
-scope-base-requires c κs = search needs
-
 loop-holds : tie.Need-loop-holds Inv-loop μ-loop
 loop-holds c =
     let s = c .before .before .before in
     marking-start (now (s .args .words)) (now (s .args .area)) (s .args .l) (s .args .c .0)
-
-mul-mark-entry : tie.Need-mul-mark-entry Inv-loop μ-loop
-mul-mark-entry c = search needs
-
-add-mark-entry : tie.Need-add-mark-entry Inv-loop μ-loop
-add-mark-entry c = search needs
 
 mark-entry-requires : tie.Need-mark-entry-requires Inv-loop μ-loop
 mark-entry-requires c κs =
@@ -35,14 +26,9 @@ mark-entry-requires c κs =
     let b = k .before in
     let s = b .before .before .before in (
       lowers-ready (now (s .args .words)) (s .args .l) (k .loop .inv .lowers) (s .pre) (k .loop .inv .size),
-      scope-fits (now (s .args .words)) (now (s .args .area)) (s .args .l) (s .pre .reads) (c .before .loop-test .taken) (b .scope-base .ensures) refl,
+      scope-fits (now (s .args .words)) (now (s .args .area)) (s .args .l) (s .pre .reads) (c .before .loop-test .taken)
+          (b .scope-base .ensures) refl,
     )
-
-add-k : tie.Need-add-k Inv-loop μ-loop
-add-k c = search needs
-
-loop-less : tie.Need-loop-less Inv-loop μ-loop
-loop-less c = search needs
 
 loop-again : tie.Need-loop-again Inv-loop μ-loop
 loop-again c =
@@ -60,21 +46,10 @@ returns : tie.Need-returns Inv-loop μ-loop
 returns c =
     let k = c .before in
     let s = k .before .before .before .before in
-    marking-done (now (s .args .words)) (now (s .args .area)) (s .args .l) (s .pre .reads) (s .args .c .0) (k .loop .area) (k .loop .k) (k .loop .inv) (omega (arith, c .loop-test .left))
+    marking-done (now (s .args .words)) (now (s .args .area)) (s .args .l) (s .pre .reads) (s .args .c .0) (k .loop .area)
+    (k .loop .k) (k .loop .inv) (omega (arith, c .loop-test .left))
 
 pub mark-scope-spec : {M : Type 1} → statement M
 mark-scope-spec =
-    tie.close
-    (tie.spec
-    Inv-loop
-    μ-loop
-    scope-base-requires
-    loop-holds
-    mul-mark-entry
-    add-mark-entry
-    mark-entry-requires
-    add-k
-    loop-less
-    loop-again
-    same-length
-    returns)
+    tie.close (tie.spec Inv-loop μ-loop (λ c κs. search needs) loop-holds (λ c. search needs) (λ c. search needs)
+    mark-entry-requires (λ c. search needs) (λ c. search needs) loop-again same-length returns)

@@ -28,14 +28,12 @@ block-requires : tie.Need-block-requires Inv-loop μ-loop
 block-requires c κs =
     let m = c .before .before .before in
     let k = m .before .before in
-    let s = k .before .before .before in
-    (lowers-ready (now (s .args .words)) (s .args .l) (climbing-lowers (now (s .args .words)) (now (s .args .area)) (s .args .l) (s .pre .0 .reads) (s .args .from .0) (k .loop .area) (k .loop .m .0) (k .loop .inv) _ (m .mark-scope .ensures) (m .mark-scope .kept .1 .0)) (s .pre .0) (m .mark-scope .kept .1 .0 ∙ k .loop .inv .size) .reads, k .loop .inv .known)
-
-enum-known-b : tie.Need-enum-known-b Inv-loop μ-loop
-enum-known-b c = search needs
-
-enum-told : tie.Need-enum-told Inv-loop μ-loop
-enum-told c = search needs
+    let s = k .before .before .before in (
+      lowers-ready (now (s .args .words)) (s .args .l) (climbing-lowers (now (s .args .words)) (now (s .args .area)) (s .args .l)
+          (s .pre .0 .reads) (s .args .from .0) (k .loop .area) (k .loop .m .0) (k .loop .inv) _ (m .mark-scope .ensures) (m .mark-scope .kept .1 .0))
+          (s .pre .0) (m .mark-scope .kept .1 .0 ∙ k .loop .inv .size) .reads,
+      k .loop .inv .known,
+    )
 
 same-length : tie.Need-same-length Inv-loop μ-loop
 same-length c =
@@ -49,7 +47,9 @@ returns c =
     let m = b .before .before .before .before in
     let k = m .before .before in
     let s = k .before .before .before in
-    climbing-done (now (s .args .words)) (now (s .args .area)) (s .args .l) (s .pre .0 .reads) (s .args .from .0) (k .loop .area) (k .loop .m .0) (k .loop .inv) _ (m .mark-scope .ensures) (m .mark-scope .kept .1 .0) (b .block .ensures) (is-none _ refl (c .enum-told .given .1))
+    climbing-done (now (s .args .words)) (now (s .args .area)) (s .args .l) (s .pre .0 .reads) (s .args .from .0) (k .loop .area)
+    (k .loop .m .0) (k .loop .inv) _ (m .mark-scope .ensures) (m .mark-scope .kept .1 .0) (b .block .ensures)
+    (is-none _ refl (c .enum-told .given .1))
 
 loop-less : tie.Need-loop-less Inv-loop μ-loop
 loop-less c =
@@ -57,7 +57,9 @@ loop-less c =
     let m = b .before .before .before .before in
     let k = m .before .before in
     let s = k .before .before .before in
-    climbing-less (now (s .args .words)) (now (s .args .area)) (s .args .l) (s .pre .0 .reads) (s .args .from .0) (k .loop .area) (k .loop .m .0) (k .loop .inv) _ (m .mark-scope .ensures) (m .mark-scope .kept .1 .0) (b .block .ensures) (is-some _ refl (c .before .b .given .1))
+    climbing-less (now (s .args .words)) (now (s .args .area)) (s .args .l) (s .pre .0 .reads) (s .args .from .0) (k .loop .area)
+    (k .loop .m .0) (k .loop .inv) _ (m .mark-scope .ensures) (m .mark-scope .kept .1 .0) (b .block .ensures)
+    (is-some _ refl (c .before .b .given .1))
 
 loop-again : tie.Need-loop-again Inv-loop μ-loop
 loop-again c =
@@ -65,20 +67,11 @@ loop-again c =
     let m = b .before .before .before .before in
     let k = m .before .before in
     let s = k .before .before .before in
-    climbing-next (now (s .args .words)) (now (s .args .area)) (s .args .l) (s .pre .0 .reads) (s .args .from .0) (k .loop .area) (k .loop .m .0) (k .loop .inv) _ (m .mark-scope .ensures) (m .mark-scope .kept .1 .0) (b .block .ensures) (is-some _ refl (c .before .b .given .1))
+    climbing-next (now (s .args .words)) (now (s .args .area)) (s .args .l) (s .pre .0 .reads) (s .args .from .0) (k .loop .area)
+    (k .loop .m .0) (k .loop .inv) _ (m .mark-scope .ensures) (m .mark-scope .kept .1 .0) (b .block .ensures)
+    (is-some _ refl (c .before .b .given .1))
 
 pub mark-scopes-spec : {M : Type 1} → statement M
 mark-scopes-spec =
-    tie.close
-    (tie.spec
-    Inv-loop
-    μ-loop
-    loop-holds
-    mark-scope-requires
-    block-requires
-    enum-known-b
-    enum-told
-    same-length
-    returns
-    loop-less
-    loop-again)
+    tie.close (tie.spec Inv-loop μ-loop loop-holds mark-scope-requires block-requires (λ c. search needs)
+    (λ c. search needs) same-length returns loop-less loop-again)

@@ -15,19 +15,10 @@ Inv-loop words area₀ l x base count changed₀ k₀ area changed k = Relaxing 
 abbrev μ-loop : tie.MeasureT-loop
 μ-loop words area₀ l x base count changed₀ k₀ area changed k = count - k
 
-scope-base-requires : tie.Need-scope-base-requires Inv-loop μ-loop
-scope-base-requires c κs = search needs
-
 loop-holds : tie.Need-loop-holds Inv-loop μ-loop
 loop-holds c =
     let s = c .before .before .before in
     relaxing-start (now (s .args .words)) (now (s .args .area)) (s .args .l) (s .args .x)
-
-mul-relax-entry : tie.Need-mul-relax-entry Inv-loop μ-loop
-mul-relax-entry c = search needs
-
-add-relax-entry : tie.Need-add-relax-entry Inv-loop μ-loop
-add-relax-entry c = search needs
 
 relax-entry-requires : tie.Need-relax-entry-requires Inv-loop μ-loop
 relax-entry-requires c κs =
@@ -36,14 +27,9 @@ relax-entry-requires c κs =
     let s = b .before .before .before in (
       lowers-numbered (now (s .args .words)) (s .args .l) (k .loop .inv .lowers) (s .pre .0) (k .loop .inv .size),
       s .pre .1,
-      scope-fits (now (s .args .words)) (now (s .args .area)) (s .args .l) (s .pre .0 .ready .reads) (c .before .loop-test .taken) (b .scope-base .ensures) refl,
+      scope-fits (now (s .args .words)) (now (s .args .area)) (s .args .l) (s .pre .0 .ready .reads) (c .before .loop-test .taken)
+          (b .scope-base .ensures) refl,
     )
-
-add-k : tie.Need-add-k Inv-loop μ-loop
-add-k c = search needs
-
-loop-less : tie.Need-loop-less Inv-loop μ-loop
-loop-less c = search needs
 
 loop-again : tie.Need-loop-again Inv-loop μ-loop
 loop-again c =
@@ -51,7 +37,8 @@ loop-again c =
     let k = m .before .before .before in
     let b = k .before in
     let s = b .before .before .before in
-    relaxing-next (now (s .args .words)) (now (s .args .area)) (s .args .l) (s .args .x) (s .pre .0 .ready .reads) (k .loop .area) (k .loop .changed) (k .loop .k) (k .loop .inv)
+    relaxing-next (now (s .args .words)) (now (s .args .area)) (s .args .l) (s .args .x) (s .pre .0 .ready .reads) (k .loop .area)
+    (k .loop .changed) (k .loop .k) (k .loop .inv)
     _ (m .before .before .loop-test .taken) (b .scope-base .ensures) refl (m .relax-entry .ensures) (m .relax-entry .kept .1 .0)
 
 same-length : tie.Need-same-length Inv-loop μ-loop
@@ -61,21 +48,10 @@ returns : tie.Need-returns Inv-loop μ-loop
 returns c =
     let k = c .before in
     let s = k .before .before .before .before in
-    relaxing-done (now (s .args .words)) (now (s .args .area)) (s .args .l) (s .args .x) (s .pre .0 .ready .reads) (k .loop .area) (k .loop .changed) (k .loop .k) (k .loop .inv) (omega (arith, c .loop-test .left))
+    relaxing-done (now (s .args .words)) (now (s .args .area)) (s .args .l) (s .args .x) (s .pre .0 .ready .reads) (k .loop .area)
+    (k .loop .changed) (k .loop .k) (k .loop .inv) (omega (arith, c .loop-test .left))
 
 pub relax-spec : {M : Type 1} → statement M
 relax-spec =
-    tie.close
-    (tie.spec
-    Inv-loop
-    μ-loop
-    scope-base-requires
-    loop-holds
-    mul-relax-entry
-    add-relax-entry
-    relax-entry-requires
-    add-k
-    loop-less
-    loop-again
-    same-length
-    returns)
+    tie.close (tie.spec Inv-loop μ-loop (λ c κs. search needs) loop-holds (λ c. search needs) (λ c. search needs)
+    relax-entry-requires (λ c. search needs) (λ c. search needs) loop-again same-length returns)

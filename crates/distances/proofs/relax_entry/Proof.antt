@@ -7,24 +7,12 @@ use Rattle.distances.proofs.Relaxing.{step-far, step-plain, step-low, s
 use Rattle.distances.proofs.relax_entry.Statement.{statement}
 use Rattle.distances.proofs.relax_entry.Tie as tie
 
-scope-owner-requires : tie.Need-scope-owner-requires
-scope-owner-requires c κs = search needs
-
-add-word : tie.Need-add-word
-add-word c = search needs
-
-word-requires : tie.Need-word-requires
-word-requires c κs = search needs
-
 add-d : tie.Need-add-d
 add-d c =
     let o = c .before .before .before in
     let s = o .before .before .before in
     let far = s .pre .0 .far (o .scope-owner .result .0) (rw (o .scope-owner .ensures) (s .pre .2 .owner)) in
     record { fits = omega (arith, c .word .ensures, far) }
-
-same-length : tie.Need-same-length
-same-length c = search needs
 
 returns : tie.Need-returns
 returns c =
@@ -34,25 +22,8 @@ returns c =
     let W = now (s .args .words) in
     let A = now (s .args .area) in
     let l = s .args .l in
-    step-far W A l (s .args .x) (s .args .h) (o .scope-owner .ensures) (w .word .ensures) (s .pre .0 .ready .reads) (s .pre .0 .far) (s .pre .2) (c .if1 .taken)
-
-scope-ns-requires : tie.Need-scope-ns-requires
-scope-ns-requires c κs = search needs
-
-scope-definition-requires : tie.Need-scope-definition-requires
-scope-definition-requires c κs = search needs
-
-item-of-requires : tie.Need-item-of-requires
-item-of-requires c κs = search needs
-
-enum-known-item : tie.Need-enum-known-item
-enum-known-item c = search needs
-
-enum-told : tie.Need-enum-told
-enum-told c = search needs
-
-same-length-2 : tie.Need-same-length-2
-same-length-2 c = search needs
+    step-far W A l (s .args .x) (s .args .h) (o .scope-owner .ensures) (w .word .ensures) (s .pre .0 .ready .reads) (s .pre .0 .far)
+    (s .pre .2) (c .if1 .taken)
 
 returns-2 : tie.Need-returns-2
 returns-2 c =
@@ -63,7 +34,8 @@ returns-2 c =
     let W = now (s .args .words) in
     let A = now (s .args .area) in
     let l = s .args .l in
-    step-plain W A l (s .args .x) (s .args .h) (o .scope-owner .ensures) (w .word .ensures) (i .item-of .ensures A) (i .before .before .scope-ns .ensures) (i .before .scope-definition .ensures) (c .enum-told .given .1)
+    step-plain W A l (s .args .x) (s .args .h) (o .scope-owner .ensures) (w .word .ensures) (i .item-of .ensures A)
+    (i .before .before .scope-ns .ensures) (i .before .scope-definition .ensures) (c .enum-told .given .1)
 
 add-at : tie.Need-add-at
 add-at c =
@@ -75,14 +47,9 @@ add-at c =
     let W = now (s .args .words) in
     let A = now (s .args .area) in
     let l = s .args .l in
-    let b = entry-below W A l 0 (s .args .h) (i .item-of .ensures A) (i .before .before .scope-ns .ensures) (i .before .scope-definition .ensures) (s .pre .0 .ready .reads) (s .pre .2) (t .item .given .1) in
+    let b = entry-below W A l 0 (s .args .h) (i .item-of .ensures A) (i .before .before .scope-ns .ensures)
+    (i .before .scope-definition .ensures) (s .pre .0 .ready .reads) (s .pre .2) (t .item .given .1) in
     record { fits = omega (arith, b, s .pre .0 .ready .reads .tables .limited .modules) }
-
-word-requires-2 : tie.Need-word-requires-2
-word-requires-2 c κs = search needs
-
-same-length-3 : tie.Need-same-length-3
-same-length-3 c = search needs
 
 returns-3 : tie.Need-returns-3
 returns-3 c =
@@ -95,13 +62,8 @@ returns-3 c =
     let W = now (s .args .words) in
     let A = now (s .args .area) in
     let l = s .args .l in
-    step-low W A l (s .args .x) (s .args .h) (o .scope-owner .ensures) (w .word .ensures) (i .item-of .ensures A) (i .before .before .scope-ns .ensures) (i .before .scope-definition .ensures) (t .item .given .1) (v .word2 .ensures) (c .if2 .taken)
-
-is-importable-requires : tie.Need-is-importable-requires
-is-importable-requires c κs = search needs
-
-same-length-4 : tie.Need-same-length-4
-same-length-4 c = search needs
+    step-low W A l (s .args .x) (s .args .h) (o .scope-owner .ensures) (w .word .ensures) (i .item-of .ensures A)
+    (i .before .before .scope-ns .ensures) (i .before .scope-definition .ensures) (t .item .given .1) (v .word2 .ensures) (c .if2 .taken)
 
 returns-4 : tie.Need-returns-4
 returns-4 c =
@@ -115,10 +77,9 @@ returns-4 c =
     let W = now (s .args .words) in
     let A = now (s .args .area) in
     let l = s .args .l in
-    step-hidden W A l (s .args .x) (s .args .h) (o .scope-owner .ensures) (w .word .ensures) (i .item-of .ensures A) (i .before .before .scope-ns .ensures) (i .before .scope-definition .ensures) (t .item .given .1) (p .is-importable .ensures) (not-true _ (c .if3 .taken))
-
-cast-area : tie.Need-cast-area
-cast-area c = search needs
+    step-hidden W A l (s .args .x) (s .args .h) (o .scope-owner .ensures) (w .word .ensures) (i .item-of .ensures A)
+    (i .before .before .scope-ns .ensures) (i .before .scope-definition .ensures) (t .item .given .1) (p .is-importable .ensures)
+    (not-true _ (c .if3 .taken))
 
 mul-area : tie.Need-mul-area
 mul-area c =
@@ -130,7 +91,8 @@ mul-area c =
     let W = now (s .args .words) in
     let A = now (s .args .area) in
     let l = s .args .l in
-    let b = entry-below W A l 0 (s .args .h) (i .item-of .ensures A) (i .before .before .scope-ns .ensures) (i .before .scope-definition .ensures) (s .pre .0 .ready .reads) (s .pre .2) (t .item .given .1) in
+    let b = entry-below W A l 0 (s .args .h) (i .item-of .ensures A) (i .before .before .scope-ns .ensures)
+    (i .before .scope-definition .ensures) (s .pre .0 .ready .reads) (s .pre .2) (t .item .given .1) in
     record { fits = omega (arith, b, s .pre .0 .ready .reads .tables .limited .modules) }
 
 slice-write-area : tie.Need-slice-write-area
@@ -143,11 +105,9 @@ slice-write-area c =
     let W = now (s .args .words) in
     let A = now (s .args .area) in
     let l = s .args .l in
-    let b = entry-below W A l 0 (s .args .h) (i .item-of .ensures A) (i .before .before .scope-ns .ensures) (i .before .scope-definition .ensures) (s .pre .0 .ready .reads) (s .pre .2) (t .item .given .1) in
+    let b = entry-below W A l 0 (s .args .h) (i .item-of .ensures A) (i .before .before .scope-ns .ensures)
+    (i .before .scope-definition .ensures) (s .pre .0 .ready .reads) (s .pre .2) (t .item .given .1) in
     omega (arith, b, s .pre .0 .ready .reads .tables .limited .modules, s .pre .0 .ready .area)
-
-same-length-5 : tie.Need-same-length-5
-same-length-5 c = search needs
 
 returns-5 : tie.Need-returns-5
 returns-5 c =
@@ -160,35 +120,16 @@ returns-5 c =
     let W = now (s .args .words) in
     let A = now (s .args .area) in
     let l = s .args .l in
-    let b = entry-below W A l 0 (s .args .h) (i .item-of .ensures A) (i .before .before .scope-ns .ensures) (i .before .scope-definition .ensures) (s .pre .0 .ready .reads) (s .pre .2) (t .item .given .1) in
-    step-set W A l (s .args .x) (s .args .h) (o .scope-owner .ensures) (w .word .ensures) (i .item-of .ensures A) (i .before .before .scope-ns .ensures) (i .before .scope-definition .ensures) (t .item .given .1) (s .pre .0 .ready .area) (omega (arith, b, s .pre .0 .ready .reads .tables .limited .modules)) (v .word2 .ensures) (λ h. omega (arith, c .before .before .before .if2 .left, h))
+    let b = entry-below W A l 0 (s .args .h) (i .item-of .ensures A) (i .before .before .scope-ns .ensures)
+    (i .before .scope-definition .ensures) (s .pre .0 .ready .reads) (s .pre .2) (t .item .given .1) in
+    step-set W A l (s .args .x) (s .args .h) (o .scope-owner .ensures) (w .word .ensures) (i .item-of .ensures A)
+    (i .before .before .scope-ns .ensures) (i .before .scope-definition .ensures) (t .item .given .1) (s .pre .0 .ready .area)
+    (omega (arith, b, s .pre .0 .ready .reads .tables .limited .modules)) (v .word2 .ensures)
+    (λ h. omega (arith, c .before .before .before .if2 .left, h))
 
 pub relax-entry-spec : {M : Type 1} → statement M
 relax-entry-spec =
-    tie.close
-    (tie.spec
-    scope-owner-requires
-    add-word
-    word-requires
-    add-d
-    same-length
-    returns
-    scope-ns-requires
-    scope-definition-requires
-    item-of-requires
-    enum-known-item
-    enum-told
-    same-length-2
-    returns-2
-    add-at
-    word-requires-2
-    same-length-3
-    returns-3
-    is-importable-requires
-    same-length-4
-    returns-4
-    cast-area
-    mul-area
-    slice-write-area
-    same-length-5
-    returns-5)
+    tie.close (tie.spec (λ c κs. search needs) (λ c. search needs) (λ c κs. search needs) add-d (λ c. search needs)
+    returns (λ c κs. search needs) (λ c κs. search needs) (λ c κs. search needs) (λ c. search needs) (λ c. search needs)
+    (λ c. search needs) returns-2 add-at (λ c κs. search needs) (λ c. search needs) returns-3 (λ c κs. search needs)
+    (λ c. search needs) returns-4 (λ c. search needs) mul-area slice-write-area (λ c. search needs) returns-5)

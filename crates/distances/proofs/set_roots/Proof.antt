@@ -1,5 +1,5 @@
 use borrow.Author.Needs.{needs}
-use Prim.Native.Nat.{_-_, _≤_, _<_}
+use Prim.Native.Nat.{_-_, _≤_}
 use mathlib.Core.Path.{_≡_, refl, subst, _∙_}
 use native.Mathlib.Omega.{arith}
 use denote.Ref.{now}
@@ -25,32 +25,19 @@ loop-holds c =
 crate-root-requires : tie.Need-crate-root-requires Inv-loop μ-loop
 crate-root-requires c κs =
     let k = c .before .before in
-    let s = k .before .before .before in
-    (same-reads (now (s .args .words)) (now (s .args .area)) (k .loop .area) (s .args .l) (k .loop .inv .0 .tables) (s .pre .reads), c .before .loop-test .taken)
-
-first-number-requires : tie.Need-first-number-requires Inv-loop μ-loop
-first-number-requires c κs = search needs
+    let s = k .before .before .before in (
+      same-reads (now (s .args .words)) (now (s .args .area)) (k .loop .area) (s .args .l) (k .loop .inv .0 .tables) (s .pre .reads),
+      c .before .loop-test .taken,
+    )
 
 cast-area : tie.Need-cast-area Inv-loop μ-loop
 cast-area c = omega (arith, c .first-number .ensures .0)
-
-add-area : tie.Need-add-area Inv-loop μ-loop
-add-area c = search needs
-
-mul-area : tie.Need-mul-area Inv-loop μ-loop
-mul-area c = search needs
 
 slice-write-area : tie.Need-slice-write-area Inv-loop μ-loop
 slice-write-area c =
     let k = c .before .before .before .before in
     let s = k .before .before .before in
     omega (arith, k .loop .inv .1, s .pre .area, s .pre .reads .tables .limited .modules, c .before .before .before .loop-test .taken)
-
-add-m : tie.Need-add-m Inv-loop μ-loop
-add-m c = search needs
-
-loop-less : tie.Need-loop-less Inv-loop μ-loop
-loop-less c = search needs
 
 loop-again : tie.Need-loop-again Inv-loop μ-loop
 loop-again c =
@@ -76,19 +63,6 @@ returns c =
 
 pub set-roots-spec : {M : Type 1} → statement M
 set-roots-spec =
-    tie.close
-    (tie.spec
-    Inv-loop
-    μ-loop
-    loop-holds
-    crate-root-requires
-    first-number-requires
-    cast-area
-    add-area
-    mul-area
-    slice-write-area
-    add-m
-    loop-less
-    loop-again
-    same-length
-    returns)
+    tie.close (tie.spec Inv-loop μ-loop loop-holds crate-root-requires (λ c κs. search needs) cast-area
+    (λ c. search needs) (λ c. search needs) slice-write-area (λ c. search needs) (λ c. search needs) loop-again
+    same-length returns)

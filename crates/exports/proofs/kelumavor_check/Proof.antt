@@ -6,24 +6,6 @@ use Rattle.exports.proofs.Checking.{answered-refused, answered-accepted
 use Rattle.exports.proofs.kelumavor_check.Statement.{statement}
 use Rattle.exports.proofs.kelumavor_check.Tie as tie
 
-check-requires : tie.Need-check-requires
-check-requires c κs = search needs
-
-enum-known-c : tie.Need-enum-known-c
-enum-known-c c = search needs
-
-clear-front-requires : tie.Need-clear-front-requires
-clear-front-requires c κs = search needs
-
-cast-number : tie.Need-cast-number
-cast-number c = search needs
-
-enum-known-c-2 : tie.Need-enum-known-c-2
-enum-known-c-2 c = search needs
-
-same-length : tie.Need-same-length
-same-length c = search needs
-
 returns : tie.Need-returns
 returns c =
     let f = c .before .before .before in
@@ -31,11 +13,9 @@ returns c =
     let k = m .before .before .before .before in
     let s = k .before .before .before .before in
     let n : length (k .check .last .1 .0) ≡ length (now (s .args .area)) = search needs in
-    answered-refused (now (s .args .words)) (now (s .args .area)) (k .check .last .1 .0) (k .check .result) (k .check .ensures) (f .clear-front .last .0) n
+    answered-refused (now (s .args .words)) (now (s .args .area)) (k .check .last .1 .0) (k .check .result) (k .check .ensures)
+    (f .clear-front .last .0) n
     (f .clear-front .ensures) _ _ (m .c .given .1)
-
-same-length-2 : tie.Need-same-length-2
-same-length-2 c = search needs
 
 returns-2 : tie.Need-returns-2
 returns-2 c =
@@ -46,14 +26,5 @@ returns-2 c =
 
 pub kelumavor-check-spec : {M : Type 1} → statement M
 kelumavor-check-spec =
-    tie.close
-    (tie.spec
-    check-requires
-    enum-known-c
-    clear-front-requires
-    cast-number
-    enum-known-c-2
-    same-length
-    returns
-    same-length-2
-    returns-2)
+    tie.close (tie.spec (λ c κs. search needs) (λ c. search needs) (λ c κs. search needs) (λ c. search needs)
+    (λ c. search needs) (λ c. search needs) returns (λ c. search needs) returns-2)

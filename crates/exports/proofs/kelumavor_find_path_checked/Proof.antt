@@ -4,36 +4,16 @@ use Rattle.exports.proofs.Asking.{asked-checked}
 use Rattle.exports.proofs.kelumavor_find_path_checked.Statement.{statement}
 use Rattle.exports.proofs.kelumavor_find_path_checked.Tie as tie
 
-question-of-requires : tie.Need-question-of-requires
-question-of-requires c κs = search needs
-
-find-path-checked-requires : tie.Need-find-path-checked-requires
-find-path-checked-requires c κs = search needs
-
-write-report-requires : tie.Need-write-report-requires
-write-report-requires c κs = search needs
-
-same-length : tie.Need-same-length
-same-length c = search needs
-
-same-length-2 : tie.Need-same-length-2
-same-length-2 c = search needs
-
 returns : tie.Need-returns
 returns c =
     let w = c .before .before in
     let f = w .before .before .before .before in
     let q = f .before in
     let a = q .before .before .before .before .before .before .args in
-    asked-checked (now (a .words)) (now (a .area)) (now (a .counts)) _ _ _ _ _ _ _ (q .question-of .ensures) (f .find-path-checked .ensures) (w .write-report .ensures)
+    asked-checked (now (a .words)) (now (a .area)) (now (a .counts)) _ _ _ _ _ _ _ (q .question-of .ensures) (f .find-path-checked .ensures)
+    (w .write-report .ensures)
 
 pub kelumavor-find-path-checked-spec : {M : Type 1} → statement M
 kelumavor-find-path-checked-spec =
-    tie.close
-    (tie.spec
-    question-of-requires
-    find-path-checked-requires
-    write-report-requires
-    same-length
-    same-length-2
-    returns)
+    tie.close (tie.spec (λ c κs. search needs) (λ c κs. search needs) (λ c κs. search needs) (λ c. search needs)
+    (λ c. search needs) returns)

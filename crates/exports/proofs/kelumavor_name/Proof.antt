@@ -7,20 +7,11 @@ use Rattle.exports.proofs.kelumavor_name.Tie as tie
 
 returns : tie.Need-returns
 returns c =
-    let a = c .before .before .before .before .args in
-    (copied-none (now (a .words)) (now (a .tables)) (now (a .out)) (a .name) (omega (arith, c .if1 .taken)), named (now (a .words)) (now (a .tables)) (a .name))
-
-name-head-requires : tie.Need-name-head-requires
-name-head-requires c κs = search needs
-
-text-at-requires : tie.Need-text-at-requires
-text-at-requires c κs = search needs
-
-payload-requires : tie.Need-payload-requires
-payload-requires c κs = search needs
-
-held-requires : tie.Need-held-requires
-held-requires c κs = search needs
+    let a = c .before .before .before .before .args in (
+      copied-none (now (a .words)) (now (a .tables)) (now (a .out)) (a .name) (omega (arith, c .if1 .taken)),
+      named (now (a .words))
+          (now (a .tables)) (a .name),
+    )
 
 returns-2 : tie.Need-returns-2
 returns-2 c =
@@ -29,7 +20,8 @@ returns-2 c =
     let e = t .before .before in
     let a = e .before .before .before .before .args in (
       copied-not (now (a .words)) (now (a .tables)) (now (a .out)) (now (t .text-at .result)) (a .name) (h .held .result) (h .before .payload .result)
-          (t .before .name-head .result) (e .if1 .left) (t .before .name-head .ensures) (t .text-at .ensures) (h .before .payload .ensures) (h .held .ensures)
+          (t .before .name-head .result) (e .if1 .left) (t .before .name-head .ensures) (t .text-at .ensures) (h .before .payload .ensures)
+          (h .held .ensures)
           (c .if2 .taken),
       named (now (a .words)) (now (a .tables)) (a .name),
     )
@@ -39,9 +31,6 @@ copy-text-requires c κs =
     let h = c .before .before in
     (omega (arith, c .before .if2 .left), held-within (now (h .before .before .text-at .result)) (h .before .payload .result) _ (h .held .ensures))
 
-same-length : tie.Need-same-length
-same-length c = search needs
-
 returns-3 : tie.Need-returns-3
 returns-3 c =
     let k = c .before .before in
@@ -49,22 +38,15 @@ returns-3 c =
     let t = h .before .before in
     let e = t .before .before in
     let a = e .before .before .before .before .args in (
-      copied-whole (now (a .words)) (now (a .tables)) (now (a .out)) (now (t .text-at .result)) (a .name) (h .held .result) (h .before .payload .result)
-          (t .before .name-head .result) (e .if1 .left) (t .before .name-head .ensures) (t .text-at .ensures) (h .before .payload .ensures) (h .held .ensures)
+      copied-whole (now (a .words)) (now (a .tables)) (now (a .out)) (now (t .text-at .result)) (a .name) (h .held .result)
+          (h .before .payload .result)
+          (t .before .name-head .result) (e .if1 .left) (t .before .name-head .ensures) (t .text-at .ensures) (h .before .payload .ensures)
+          (h .held .ensures)
           (k .before .before .if2 .left) _ (k .copy-text .ensures),
       named (now (a .words)) (now (a .tables)) (a .name),
     )
 
 pub kelumavor-name-spec : {M : Type 1} → statement M
 kelumavor-name-spec =
-    tie.close
-    (tie.spec
-    returns
-    name-head-requires
-    text-at-requires
-    payload-requires
-    held-requires
-    returns-2
-    copy-text-requires
-    same-length
-    returns-3)
+    tie.close (tie.spec returns (λ c κs. search needs) (λ c κs. search needs) (λ c κs. search needs)
+    (λ c κs. search needs) returns-2 copy-text-requires (λ c. search needs) returns-3)

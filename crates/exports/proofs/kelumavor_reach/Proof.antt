@@ -4,15 +4,6 @@ use Rattle.exports.proofs.Reaching.{reached}
 use Rattle.exports.proofs.kelumavor_reach.Statement.{statement}
 use Rattle.exports.proofs.kelumavor_reach.Tie as tie
 
-viewer-of-requires : tie.Need-viewer-of-requires
-viewer-of-requires c κs = search needs
-
-find-reach-requires : tie.Need-find-reach-requires
-find-reach-requires c κs = search needs
-
-same-length : tie.Need-same-length
-same-length c = search needs
-
 returns : tie.Need-returns
 returns c =
     let f = c .before .before .before in
@@ -22,4 +13,4 @@ returns c =
 
 pub kelumavor-reach-spec : {M : Type 1} → statement M
 kelumavor-reach-spec =
-    tie.close (tie.spec viewer-of-requires find-reach-requires same-length returns)
+    tie.close (tie.spec (λ c κs. search needs) (λ c κs. search needs) (λ c. search needs) returns)

@@ -11,18 +11,6 @@ returns c =
     turn-short (now (s .state)) (now (s .words)) (now (s .area)) (now (s .report)) _ _ _ _ (c .if1 .taken)
     (record { none = refl; state = refl; area = refl; report = refl })
 
-windows-of-requires : tie.Need-windows-of-requires
-windows-of-requires c κs = search needs
-
-turn-in-requires : tie.Need-turn-in-requires
-turn-in-requires c κs = search needs
-
-words-of-requires : tie.Need-words-of-requires
-words-of-requires c κs = search needs
-
-same-length : tie.Need-same-length
-same-length c = search needs
-
 returns-2 : tie.Need-returns-2
 returns-2 c =
     let o = c .before .before in
@@ -33,15 +21,6 @@ returns-2 c =
     let k = turned-words (now (s .state)) _ _ _ (w .windows-of .ensures) (o .words-of .ensures) _ _ _ _ (t .turn-in .ensures) in
     turn-long (now (s .state)) (now (s .words)) (now (s .area)) (now (s .report)) _ _ _ _ (e .if1 .left)
     (served-none (now (s .state)) (now (s .words)) (now (s .area)) _ _ (now (s .report)) (t .turn-in .result .turn) k (c .if2 .taken))
-
-write-report-requires : tie.Need-write-report-requires
-write-report-requires c κs = search needs
-
-same-length-2 : tie.Need-same-length-2
-same-length-2 c = search needs
-
-same-length-3 : tie.Need-same-length-3
-same-length-3 c = search needs
 
 returns-3 : tie.Need-returns-3
 returns-3 c =
@@ -54,19 +33,10 @@ returns-3 c =
     let s = e .before .before .before .before .args in
     let k = turned-words (now (s .state)) _ _ _ (w .windows-of .ensures) (o .words-of .ensures) _ _ _ _ (t .turn-in .ensures) in
     turn-long (now (s .state)) (now (s .words)) (now (s .area)) (now (s .report)) _ _ _ _ (e .if1 .left)
-    (served-one (now (s .state)) (now (s .words)) (now (s .area)) _ _ (now (s .report)) (t .turn-in .result .turn) k (i .if2 .left) _ _ (p .write-report .ensures))
+    (served-one (now (s .state)) (now (s .words)) (now (s .area)) _ _ (now (s .report)) (t .turn-in .result .turn) k (i .if2 .left)
+    _ _ (p .write-report .ensures))
 
 pub kelumavor-turn-spec : {M : Type 1} → statement M
 kelumavor-turn-spec =
-    tie.close
-    (tie.spec
-    returns
-    windows-of-requires
-    turn-in-requires
-    words-of-requires
-    same-length
-    returns-2
-    write-report-requires
-    same-length-2
-    same-length-3
-    returns-3)
+    tie.close (tie.spec returns (λ c κs. search needs) (λ c κs. search needs) (λ c κs. search needs) (λ c. search needs)
+    returns-2 (λ c κs. search needs) (λ c. search needs) (λ c. search needs) returns-3)

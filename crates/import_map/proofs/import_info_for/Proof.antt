@@ -13,13 +13,11 @@ use Rattle.import_map.proofs.import_info_for.Statement.{statement}
 use Rattle.import_map.proofs.import_info_for.Tie as tie
 
 abbrev Inv-loop : tie.InvT-loop
-Inv-loop words l k c item base j₀ j = (A : List ℕ) → Came (isImport (snapOf words A l) (c .0) item) importAt importSize words (importBase l) (l .imports) k j
+Inv-loop words l k c item base j₀ j = (A : List ℕ) → Came (isImport (snapOf words A l) (c .0) item) importAt importSize words
+    (importBase l) (l .imports) k j
 
 abbrev μ-loop : tie.MeasureT-loop
 μ-loop words l k c item base j₀ j = l .imports - j
-
-import-base-requires : tie.Need-import-base-requires Inv-loop μ-loop
-import-base-requires c κs = search needs
 
 loop-holds : tie.Need-loop-holds Inv-loop μ-loop
 loop-holds c = λ A. next-start _ _ _ _ _ _ _
@@ -28,17 +26,23 @@ mul-h : tie.Need-mul-h Inv-loop μ-loop
 mul-h c = record { fits = omega (arith, c .if1 .taken, c .before .before .before .before .before .pre) }
 
 add-h : tie.Need-add-h Inv-loop μ-loop
-add-h c = record { fits = omega (arith, c .if1 .taken, c .before .before .before .import-base .ensures, c .before .before .before .before .before .pre) }
-
-is-import-requires : tie.Need-is-import-requires Inv-loop μ-loop
-is-import-requires c κs = search needs
+add-h c = record {
+  fits = omega (
+    arith,
+    c .if1 .taken,
+    c .before .before .before .import-base .ensures,
+    c .before .before .before .before .before .pre,
+  );
+}
 
 returns : tie.Need-returns Inv-loop μ-loop
 unfolding NextOf
 returns c =
     λ A.
     let w = c .before .before .before .before .loop in
-    next-hit (w .inv A) (c .before .before .if1 .taken) (ap (λ b. b + importSize * w .j) (c .before .before .before .before .before .import-base .ensures)) (c .before .is-import .ensures A) (c .if2 .taken)
+    next-hit (w .inv A) (c .before .before .if1 .taken)
+    (ap (λ b. b + importSize * w .j) (c .before .before .before .before .before .import-base .ensures)) (c .before .is-import .ensures A)
+    (c .if2 .taken)
 
 add-j : tie.Need-add-j Inv-loop μ-loop
 add-j c = record { fits = omega (arith, c .before .before .if1 .taken, c .before .before .before .before .before .before .before .pre) }
@@ -50,7 +54,9 @@ loop-again : tie.Need-loop-again Inv-loop μ-loop
 loop-again c =
     λ A.
     let w = c .before .before .before .before .loop in
-    next-miss (w .inv A) (c .before .before .if1 .taken) (ap (λ b. b + importSize * w .j) (c .before .before .before .before .before .import-base .ensures)) (c .before .is-import .ensures A) (c .if2 .left)
+    next-miss (w .inv A) (c .before .before .if1 .taken)
+    (ap (λ b. b + importSize * w .j) (c .before .before .before .before .before .import-base .ensures)) (c .before .is-import .ensures A)
+    (c .if2 .left)
 
 returns-2 : tie.Need-returns-2 Inv-loop μ-loop
 unfolding NextOf
@@ -58,17 +64,5 @@ returns-2 c = λ A. next-end (c .before .before .loop .inv A) (c .if1 .left)
 
 pub import-info-for-spec : {M : Type 1} → statement M
 import-info-for-spec =
-    tie.close
-    (tie.spec
-    Inv-loop
-    μ-loop
-    import-base-requires
-    loop-holds
-    mul-h
-    add-h
-    is-import-requires
-    returns
-    add-j
-    loop-less
-    loop-again
-    returns-2)
+    tie.close (tie.spec Inv-loop μ-loop (λ c κs. search needs) loop-holds mul-h add-h (λ c κs. search needs) returns
+    add-j loop-less loop-again returns-2)

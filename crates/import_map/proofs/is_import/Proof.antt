@@ -8,40 +8,20 @@ use Rattle.hir_def.specs.Items.{itemOf, sameItem}
 use Rattle.import_map.proofs.is_import.Statement.{statement}
 use Rattle.import_map.proofs.is_import.Tie as tie
 
-import-owner-requires : tie.Need-import-owner-requires
-import-owner-requires c κs = search needs
-
 returns : tie.Need-returns
 returns c = λ A. and-no _ (ne-eqb _ _ (λ e. c .if1 .taken (c .before .before .before .import-owner .ensures ∙ e)))
-
-import-ns-requires : tie.Need-import-ns-requires
-import-ns-requires c κs = search needs
-
-import-definition-requires : tie.Need-import-definition-requires
-import-definition-requires c κs = search needs
-
-item-of-requires : tie.Need-item-of-requires
-item-of-requires c κs = search needs
-
-same-item-requires : tie.Need-same-item-requires
-same-item-requires c κs = search needs
 
 returns-2 : tie.Need-returns-2
 returns-2 c =
     λ A.
     let s = c .before .before .before .before .before .before .before .before .before in
     let S = snapOf (now (s .args .words)) A (s .args .l) in
-    and-yes (eq-eqb _ _ (sym (c .before .before .before .before .before .before .before .import-owner .ensures) ∙ c .before .before .before .before .if1 .left))
-    (c .same-item .ensures ∙ ap (λ x. sameItem x (s .args .item)) (c .before .item-of .ensures A ∙ ap₂ (itemOf S) (c .before .before .before .import-ns .ensures) (c .before .before .import-definition .ensures)))
+    and-yes (eq-eqb _ _ (sym (c .before .before .before .before .before .before .before .import-owner .ensures)
+    ∙ c .before .before .before .before .if1 .left))
+    (c .same-item .ensures ∙ ap (λ x. sameItem x (s .args .item)) (c .before .item-of .ensures A
+    ∙ ap₂ (itemOf S) (c .before .before .before .import-ns .ensures) (c .before .before .import-definition .ensures)))
 
 pub is-import-spec : {M : Type 1} → statement M
 is-import-spec =
-    tie.close
-    (tie.spec
-    import-owner-requires
-    returns
-    import-ns-requires
-    import-definition-requires
-    item-of-requires
-    same-item-requires
-    returns-2)
+    tie.close (tie.spec (λ c κs. search needs) returns (λ c κs. search needs) (λ c κs. search needs)
+    (λ c κs. search needs) (λ c κs. search needs) returns-2)

@@ -5,11 +5,8 @@ use lib.Dec.{eqb}
 use Rattle.item_scope.proofs.is_declared.Statement.{statement}
 use Rattle.item_scope.proofs.is_declared.Tie as tie
 
-scope-declared-requires : tie.Need-scope-declared-requires
-scope-declared-requires c κs = search needs
-
 returns : tie.Need-returns
 returns c = ap (λ n. eqb (n % 2) 1) (c .scope-declared .ensures)
 
 pub is-declared-spec : {M : Type 1} → statement M
-is-declared-spec = tie.close (tie.spec scope-declared-requires returns)
+is-declared-spec = tie.close (tie.spec (λ c κs. search needs) returns)

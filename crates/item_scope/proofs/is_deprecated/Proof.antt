@@ -4,11 +4,8 @@ use lib.Dec.{leb}
 use Rattle.item_scope.proofs.is_deprecated.Statement.{statement}
 use Rattle.item_scope.proofs.is_deprecated.Tie as tie
 
-scope-declared-requires : tie.Need-scope-declared-requires
-scope-declared-requires c κs = search needs
-
 returns : tie.Need-returns
 returns c = ap (leb 2) (c .scope-declared .ensures)
 
 pub is-deprecated-spec : {M : Type 1} → statement M
-is-deprecated-spec = tie.close (tie.spec scope-declared-requires returns)
+is-deprecated-spec = tie.close (tie.spec (λ c κs. search needs) returns)

@@ -5,12 +5,6 @@ use Rattle.accept.proofs.Laws.{and-no, and-yes}
 use Rattle.item_scope.proofs.is_entry.Statement.{statement}
 use Rattle.item_scope.proofs.is_entry.Tie as tie
 
-is-for-requires : tie.Need-is-for-requires
-is-for-requires c κs = search needs
-
-is-declared-requires : tie.Need-is-declared-requires
-is-declared-requires c κs = search needs
-
 returns : tie.Need-returns
 returns c =
     λ A.
@@ -21,4 +15,4 @@ returns-2 : tie.Need-returns-2
 returns-2 c = λ A. and-no _ (sym (c .before .is-for .ensures A) ∙ c .if1 .left)
 
 pub is-entry-spec : {M : Type 1} → statement M
-is-entry-spec = tie.close (tie.spec is-for-requires is-declared-requires returns returns-2)
+is-entry-spec = tie.close (tie.spec (λ c κs. search needs) (λ c κs. search needs) returns returns-2)

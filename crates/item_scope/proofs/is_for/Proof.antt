@@ -9,24 +9,9 @@ use Rattle.hir_def.specs.ItemScope.{isFor}
 use Rattle.item_scope.proofs.is_for.Statement.{statement}
 use Rattle.item_scope.proofs.is_for.Tie as tie
 
-scope-owner-requires : tie.Need-scope-owner-requires
-scope-owner-requires c κs = search needs
-
 returns : tie.Need-returns
 unfolding isFor
 returns c = λ A. and-no _ (ne-eqb _ _ (λ e. c .if1 .taken (c .before .before .before .scope-owner .ensures ∙ e)))
-
-scope-ns-requires : tie.Need-scope-ns-requires
-scope-ns-requires c κs = search needs
-
-scope-definition-requires : tie.Need-scope-definition-requires
-scope-definition-requires c κs = search needs
-
-item-of-requires : tie.Need-item-of-requires
-item-of-requires c κs = search needs
-
-same-item-requires : tie.Need-same-item-requires
-same-item-requires c κs = search needs
 
 returns-2 : tie.Need-returns-2
 unfolding isFor
@@ -34,17 +19,12 @@ returns-2 c =
     λ A.
     let s = c .before .before .before .before .before .before .before .before .before in
     let S = snapOf (now (s .args .words)) A (s .args .l) in
-    and-yes (eq-eqb _ _ (sym (c .before .before .before .before .before .before .before .scope-owner .ensures) ∙ c .before .before .before .before .if1 .left))
-    (c .same-item .ensures ∙ ap (λ x. sameItem x (s .args .item)) (c .before .item-of .ensures A ∙ ap₂ (itemOf S) (c .before .before .before .scope-ns .ensures) (c .before .before .scope-definition .ensures)))
+    and-yes (eq-eqb _ _ (sym (c .before .before .before .before .before .before .before .scope-owner .ensures)
+    ∙ c .before .before .before .before .if1 .left))
+    (c .same-item .ensures ∙ ap (λ x. sameItem x (s .args .item)) (c .before .item-of .ensures A
+    ∙ ap₂ (itemOf S) (c .before .before .before .scope-ns .ensures) (c .before .before .scope-definition .ensures)))
 
 pub is-for-spec : {M : Type 1} → statement M
 is-for-spec =
-    tie.close
-    (tie.spec
-    scope-owner-requires
-    returns
-    scope-ns-requires
-    scope-definition-requires
-    item-of-requires
-    same-item-requires
-    returns-2)
+    tie.close (tie.spec (λ c κs. search needs) returns (λ c κs. search needs) (λ c κs. search needs)
+    (λ c κs. search needs) (λ c κs. search needs) returns-2)

@@ -10,20 +10,8 @@ use Rattle.hir_def.specs.Items.{definitionOf}
 use Rattle.item_scope.proofs.is_module_entry.Statement.{statement}
 use Rattle.item_scope.proofs.is_module_entry.Tie as tie
 
-scope-owner-requires : tie.Need-scope-owner-requires
-scope-owner-requires c κs = search needs
-
 returns : tie.Need-returns
 returns c = λ A. and-no _ (ne-eqb _ _ (λ e. c .if1 .taken (c .before .before .before .scope-owner .ensures ∙ e)))
-
-scope-definition-requires : tie.Need-scope-definition-requires
-scope-definition-requires c κs = search needs
-
-kind-of-requires : tie.Need-kind-of-requires
-kind-of-requires c κs = search needs
-
-scope-ns-requires : tie.Need-scope-ns-requires
-scope-ns-requires c κs = search needs
 
 returns-2 : tie.Need-returns-2
 returns-2 c =
@@ -31,15 +19,10 @@ returns-2 c =
     let s = c .before .before .before .before .before .before .before .before in
     let S = snapOf (now (s .args .words)) A (s .args .l) in
     and-yes (eq-eqb _ _ (sym (c .before .before .before .before .before .before .scope-owner .ensures) ∙ c .before .before .before .if1 .left))
-    (ap₂ (λ n k. eqb n 0 && eqb k 1) (c .scope-ns .ensures) (c .before .kind-of .ensures A ∙ ap (λ d. definitionOf S d .kind) (c .before .before .scope-definition .ensures)))
+    (ap₂ (λ n k. eqb n 0 && eqb k 1) (c .scope-ns .ensures) (c .before .kind-of .ensures A ∙ ap (λ d. definitionOf S d .kind)
+    (c .before .before .scope-definition .ensures)))
 
 pub is-module-entry-spec : {M : Type 1} → statement M
 is-module-entry-spec =
-    tie.close
-    (tie.spec
-    scope-owner-requires
-    returns
-    scope-definition-requires
-    kind-of-requires
-    scope-ns-requires
-    returns-2)
+    tie.close (tie.spec (λ c κs. search needs) returns (λ c κs. search needs) (λ c κs. search needs)
+    (λ c κs. search needs) returns-2)

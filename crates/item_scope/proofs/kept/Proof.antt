@@ -6,12 +6,6 @@ use Rattle.hir_def.specs.Entries.{entryOf, oneIf}
 use Rattle.item_scope.proofs.kept.Statement.{statement}
 use Rattle.item_scope.proofs.kept.Tie as tie
 
-enum-known-first : tie.Need-enum-known-first
-enum-known-first c = search needs
-
-enum-told : tie.Need-enum-told
-enum-told c = search needs
-
 returns : tie.Need-returns
 unfolding orFirst
 returns c =
@@ -34,4 +28,4 @@ returns-3 c =
     sym (ap (λ e. orFirst (entryOf scopeAt W e) (oneIf (s .args .passes) (scopeAt W (s .args .h)))) (c .before .first .given .1))
 
 pub kept-spec : {M : Type 1} → statement M
-kept-spec = tie.close (tie.spec enum-known-first enum-told returns returns-2 returns-3)
+kept-spec = tie.close (tie.spec (λ c. search needs) (λ c. search needs) returns returns-2 returns-3)

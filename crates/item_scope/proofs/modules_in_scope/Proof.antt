@@ -18,9 +18,6 @@ Inv-loop words l k m base j₀ j = (A : List ℕ) → Came (isModuleEntry (snapO
 abbrev μ-loop : tie.MeasureT-loop
 μ-loop words l k m base j₀ j = l .scopes - j
 
-scope-base-requires : tie.Need-scope-base-requires Inv-loop μ-loop
-scope-base-requires c κs = search needs
-
 loop-holds : tie.Need-loop-holds Inv-loop μ-loop
 loop-holds c = λ A. next-start _ _ _ _ _ _ _
 
@@ -28,17 +25,23 @@ mul-h : tie.Need-mul-h Inv-loop μ-loop
 mul-h c = record { fits = omega (arith, c .if1 .taken, c .before .before .before .before .before .pre) }
 
 add-h : tie.Need-add-h Inv-loop μ-loop
-add-h c = record { fits = omega (arith, c .if1 .taken, c .before .before .before .scope-base .ensures, c .before .before .before .before .before .pre) }
-
-is-module-entry-requires : tie.Need-is-module-entry-requires Inv-loop μ-loop
-is-module-entry-requires c κs = search needs
+add-h c = record {
+  fits = omega (
+    arith,
+    c .if1 .taken,
+    c .before .before .before .scope-base .ensures,
+    c .before .before .before .before .before .pre,
+  );
+}
 
 returns : tie.Need-returns Inv-loop μ-loop
 unfolding NextOf
 returns c =
     λ A.
     let w = c .before .before .before .before .loop in
-    next-hit (w .inv A) (c .before .before .if1 .taken) (ap (λ b. b + scopeSize * w .j) (c .before .before .before .before .before .scope-base .ensures)) (c .before .is-module-entry .ensures A) (c .if2 .taken)
+    next-hit (w .inv A) (c .before .before .if1 .taken)
+    (ap (λ b. b + scopeSize * w .j) (c .before .before .before .before .before .scope-base .ensures))
+    (c .before .is-module-entry .ensures A) (c .if2 .taken)
 
 add-j : tie.Need-add-j Inv-loop μ-loop
 add-j c = record { fits = omega (arith, c .before .before .if1 .taken, c .before .before .before .before .before .before .before .pre) }
@@ -50,7 +53,9 @@ loop-again : tie.Need-loop-again Inv-loop μ-loop
 loop-again c =
     λ A.
     let w = c .before .before .before .before .loop in
-    next-miss (w .inv A) (c .before .before .if1 .taken) (ap (λ b. b + scopeSize * w .j) (c .before .before .before .before .before .scope-base .ensures)) (c .before .is-module-entry .ensures A) (c .if2 .left)
+    next-miss (w .inv A) (c .before .before .if1 .taken)
+    (ap (λ b. b + scopeSize * w .j) (c .before .before .before .before .before .scope-base .ensures))
+    (c .before .is-module-entry .ensures A) (c .if2 .left)
 
 returns-2 : tie.Need-returns-2 Inv-loop μ-loop
 unfolding NextOf
@@ -58,17 +63,5 @@ returns-2 c = λ A. next-end (c .before .before .loop .inv A) (c .if1 .left)
 
 pub modules-in-scope-spec : {M : Type 1} → statement M
 modules-in-scope-spec =
-    tie.close
-    (tie.spec
-    Inv-loop
-    μ-loop
-    scope-base-requires
-    loop-holds
-    mul-h
-    add-h
-    is-module-entry-requires
-    returns
-    add-j
-    loop-less
-    loop-again
-    returns-2)
+    tie.close (tie.spec Inv-loop μ-loop (λ c κs. search needs) loop-holds mul-h add-h (λ c κs. search needs) returns
+    add-j loop-less loop-again returns-2)

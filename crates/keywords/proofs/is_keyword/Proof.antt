@@ -6,15 +6,6 @@ use Rattle.keywords.proofs.Laws.{edition-known}
 use Rattle.keywords.proofs.is_keyword.Statement.{statement}
 use Rattle.keywords.proofs.is_keyword.Tie as tie
 
-keywords-in-requires : tie.Need-keywords-in-requires
-keywords-in-requires c κs = search needs
-
-slice-aggregate-known : tie.Need-slice-aggregate-known
-slice-aggregate-known c = search needs
-
-slice-aggregate-known-2 : tie.Need-slice-aggregate-known-2
-slice-aggregate-known-2 c = search needs
-
 known-requires : tie.Need-known-requires
 known-requires c κs = let b = c .before .before .keywords-in .ensures .1 in (omega arith, b)
 
@@ -24,5 +15,4 @@ returns c = edition-known _ _ refl _ (c .known .ensures) (c .before .before .bef
 
 pub is-keyword-spec : {M : Type 1} → statement M
 is-keyword-spec =
-    tie.close
-    (tie.spec keywords-in-requires slice-aggregate-known slice-aggregate-known-2 known-requires returns)
+    tie.close (tie.spec (λ c κs. search needs) (λ c. search needs) (λ c. search needs) known-requires returns)

@@ -17,7 +17,8 @@ use Rattle.nameres.proofs.entry_named.Statement.{statement}
 use Rattle.nameres.proofs.entry_named.Tie as tie
 
 abbrev Inv-loop : tie.InvT-loop
-Inv-loop words area l ns name m₀ m = (entryNamed (snapOf words area l) (m₀ .0) ns (name .0) ≡ entryNamed (snapOf words area l) (m .0) ns (name .0)) × (m .0 < l .modules)
+Inv-loop words area l ns name m₀ m = (entryNamed (snapOf words area l) (m₀ .0) ns (name .0) ≡ entryNamed (snapOf words area l) (m .0) ns (name .0))
+    × (m .0 < l .modules)
 
 abbrev μ-loop : tie.MeasureT-loop
 μ-loop words area l ns name m₀ m = m .0
@@ -32,64 +33,67 @@ get-requires c κs =
     let b = s .pre .0 .tables .short in
     omega arith
 
-enum-known-e : tie.Need-enum-known-e Inv-loop μ-loop
-enum-known-e c = search needs
-
 returns : tie.Need-returns Inv-loop μ-loop
 unfolding entryNamed
 returns c =
     let s = c .before .before .before .before .before .before .before in
     let g = c .before .before .before .before .loop in
-    answer-here (snapOf (now (s .args .words)) (now (s .args .area)) (s .args .l)) (block-falls (snapOf (now (s .args .words)) (now (s .args .area)) (s .args .l)) (accepted-tree (now (s .args .words)) (snapOf (now (s .args .words)) (now (s .args .area)) (s .args .l)) (s .pre .0 .same))) (g .m .0) (rw (length-modules (now (s .args .words)) (now (s .args .area)) (s .args .l)) (g .inv .1)) (λ a. get (snapOf (now (s .args .words)) (now (s .args .area)) (s .args .l)) a (s .args .ns) (s .args .name .0)) (sym (c .before .before .before .get .ensures (now (s .args .area))) ∙ ap (entryOf scopeAt (now (s .args .words))) (c .before .e .given .1)) ∙ sym (g .inv .0)
-
-enum-told : tie.Need-enum-told Inv-loop μ-loop
-enum-told c = search needs
+    answer-here (snapOf (now (s .args .words)) (now (s .args .area)) (s .args .l))
+    (block-falls (snapOf (now (s .args .words)) (now (s .args .area)) (s .args .l))
+    (accepted-tree (now (s .args .words)) (snapOf (now (s .args .words)) (now (s .args .area)) (s .args .l)) (s .pre .0 .same)))
+    (g .m .0) (rw (length-modules (now (s .args .words)) (now (s .args .area)) (s .args .l)) (g .inv .1))
+    (λ a. get (snapOf (now (s .args .words)) (now (s .args .area)) (s .args .l)) a (s .args .ns) (s .args .name .0))
+    (sym (c .before .before .before .get .ensures (now (s .args .area))) ∙ ap (entryOf scopeAt (now (s .args .words))) (c .before .e .given .1))
+    ∙ sym (g .inv .0)
 
 block-requires : tie.Need-block-requires Inv-loop μ-loop
 block-requires c κs = (c .before .before .before .before .before .before .pre .0, c .before .before .before .loop .inv .1)
-
-enum-known-b : tie.Need-enum-known-b Inv-loop μ-loop
-enum-known-b c = search needs
-
-enum-told-2 : tie.Need-enum-told-2 Inv-loop μ-loop
-enum-told-2 c = search needs
 
 returns-2 : tie.Need-returns-2 Inv-loop μ-loop
 unfolding entryNamed
 returns-2 c =
     let s = c .before .before .before .before .before .before .before .before .before in
     let g = c .before .before .before .before .before .before .loop in
-    answer-none (snapOf (now (s .args .words)) (now (s .args .area)) (s .args .l)) (block-falls (snapOf (now (s .args .words)) (now (s .args .area)) (s .args .l)) (accepted-tree (now (s .args .words)) (snapOf (now (s .args .words)) (now (s .args .area)) (s .args .l)) (s .pre .0 .same))) (g .m .0) (rw (length-modules (now (s .args .words)) (now (s .args .area)) (s .args .l)) (g .inv .1)) (λ a. get (snapOf (now (s .args .words)) (now (s .args .area)) (s .args .l)) a (s .args .ns) (s .args .name .0)) (sym (c .before .before .before .before .before .get .ensures (now (s .args .area))) ∙ ap (entryOf scopeAt (now (s .args .words))) (c .before .before .before .enum-told .given .1)) (is-none _ (c .before .before .block .ensures) (c .enum-told2 .given .1)) ∙ sym (g .inv .0)
+    answer-none (snapOf (now (s .args .words)) (now (s .args .area)) (s .args .l))
+    (block-falls (snapOf (now (s .args .words)) (now (s .args .area)) (s .args .l))
+    (accepted-tree (now (s .args .words)) (snapOf (now (s .args .words)) (now (s .args .area)) (s .args .l)) (s .pre .0 .same)))
+    (g .m .0) (rw (length-modules (now (s .args .words)) (now (s .args .area)) (s .args .l)) (g .inv .1))
+    (λ a. get (snapOf (now (s .args .words)) (now (s .args .area)) (s .args .l)) a (s .args .ns) (s .args .name .0))
+    (sym (c .before .before .before .before .before .get .ensures (now (s .args .area)))
+    ∙ ap (entryOf scopeAt (now (s .args .words))) (c .before .before .before .enum-told .given .1))
+    (is-none _ (c .before .before .block .ensures) (c .enum-told2 .given .1)) ∙ sym (g .inv .0)
 
 loop-less : tie.Need-loop-less Inv-loop μ-loop
 loop-less c =
     let s = c .before .before .before .before .before .before .before .before .before .before in
     let g = c .before .before .before .before .before .before .before .loop in
-    (block-falls (snapOf (now (s .args .words)) (now (s .args .area)) (s .args .l)) (accepted-tree (now (s .args .words)) (snapOf (now (s .args .words)) (now (s .args .area)) (s .args .l)) (s .pre .0 .same))) (g .m .0) _ (rw (length-modules (now (s .args .words)) (now (s .args .area)) (s .args .l)) (g .inv .1)) (is-some _ (c .before .before .before .block .ensures) (c .before .b .given .1))
+    (block-falls (snapOf (now (s .args .words)) (now (s .args .area)) (s .args .l))
+    (accepted-tree (now (s .args .words)) (snapOf (now (s .args .words)) (now (s .args .area)) (s .args .l)) (s .pre .0 .same)))
+    (g .m .0) _ (rw (length-modules (now (s .args .words)) (now (s .args .area)) (s .args .l)) (g .inv .1))
+    (is-some _ (c .before .before .before .block .ensures) (c .before .b .given .1))
 
 loop-again : tie.Need-loop-again Inv-loop μ-loop
 unfolding entryNamed
 loop-again c =
     let s = c .before .before .before .before .before .before .before .before .before .before in
     let g = c .before .before .before .before .before .before .before .loop in
-    let d = (block-falls (snapOf (now (s .args .words)) (now (s .args .area)) (s .args .l)) (accepted-tree (now (s .args .words)) (snapOf (now (s .args .words)) (now (s .args .area)) (s .args .l)) (s .pre .0 .same))) (g .m .0) _ (rw (length-modules (now (s .args .words)) (now (s .args .area)) (s .args .l)) (g .inv .1)) (is-some _ (c .before .before .before .block .ensures) (c .before .b .given .1)) in
-    let k = g .inv .1 in
-    (g .inv .0 ∙ answer-on (snapOf (now (s .args .words)) (now (s .args .area)) (s .args .l)) (block-falls (snapOf (now (s .args .words)) (now (s .args .area)) (s .args .l)) (accepted-tree (now (s .args .words)) (snapOf (now (s .args .words)) (now (s .args .area)) (s .args .l)) (s .pre .0 .same))) (g .m .0) (rw (length-modules (now (s .args .words)) (now (s .args .area)) (s .args .l)) (g .inv .1)) (λ a. get (snapOf (now (s .args .words)) (now (s .args .area)) (s .args .l)) a (s .args .ns) (s .args .name .0)) (sym (c .before .before .before .before .before .before .get .ensures (now (s .args .area))) ∙ ap (entryOf scopeAt (now (s .args .words))) (c .before .before .before .before .enum-told .given .1)) _ (is-some _ (c .before .before .before .block .ensures) (c .before .b .given .1)), omega (arith, d, k))
+    let d = (block-falls (snapOf (now (s .args .words)) (now (s .args .area)) (s .args .l))
+    (accepted-tree (now (s .args .words)) (snapOf (now (s .args .words)) (now (s .args .area)) (s .args .l)) (s .pre .0 .same)))
+    (g .m .0) _ (rw (length-modules (now (s .args .words)) (now (s .args .area)) (s .args .l)) (g .inv .1))
+    (is-some _ (c .before .before .before .block .ensures) (c .before .b .given .1)) in
+    let k = g .inv .1 in (
+      g .inv .0 ∙ answer-on (snapOf (now (s .args .words)) (now (s .args .area)) (s .args .l))
+          (block-falls (snapOf (now (s .args .words)) (now (s .args .area)) (s .args .l))
+          (accepted-tree (now (s .args .words)) (snapOf (now (s .args .words)) (now (s .args .area)) (s .args .l)) (s .pre .0 .same)))
+          (g .m .0) (rw (length-modules (now (s .args .words)) (now (s .args .area)) (s .args .l)) (g .inv .1))
+          (λ a. get (snapOf (now (s .args .words)) (now (s .args .area)) (s .args .l)) a (s .args .ns) (s .args .name .0))
+          (sym (c .before .before .before .before .before .before .get .ensures (now (s .args .area)))
+          ∙ ap (entryOf scopeAt (now (s .args .words))) (c .before .before .before .before .enum-told .given .1)) _
+          (is-some _ (c .before .before .before .block .ensures) (c .before .b .given .1)),
+      omega (arith, d, k),
+    )
 
 pub entry-named-spec : {M : Type 1} → statement M
 entry-named-spec =
-    tie.close
-    (tie.spec
-    Inv-loop
-    μ-loop
-    loop-holds
-    get-requires
-    enum-known-e
-    returns
-    enum-told
-    block-requires
-    enum-known-b
-    enum-told-2
-    returns-2
-    loop-less
-    loop-again)
+    tie.close (tie.spec Inv-loop μ-loop loop-holds get-requires (λ c. search needs) returns (λ c. search needs)
+    block-requires (λ c. search needs) (λ c. search needs) returns-2 loop-less loop-again)

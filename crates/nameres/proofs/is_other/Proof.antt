@@ -10,49 +10,26 @@ use Rattle.hir_def.specs.Nameres.{isOther}
 use Rattle.nameres.proofs.is_other.Statement.{statement}
 use Rattle.nameres.proofs.is_other.Tie as tie
 
-enum-known-e : tie.Need-enum-known-e
-enum-known-e c = search needs
-
-enum-told : tie.Need-enum-told
-enum-told c = search needs
-
 returns : tie.Need-returns
 unfolding isOther
 returns c =
     λ A.
     (let s = c .before .before .before in
-    sym (ap (λ e. isOther (snapOf (now (s .args .words)) A (s .args .l)) (s .args .m .0) (entryOf scopeAt (now (s .args .words)) e)) (c .enum-told .given .1)))
-
-scope-ns-requires : tie.Need-scope-ns-requires
-scope-ns-requires c κs = search needs
-
-scope-definition-requires : tie.Need-scope-definition-requires
-scope-definition-requires c κs = search needs
-
-item-of-requires : tie.Need-item-of-requires
-item-of-requires c κs = search needs
-
-same-item-requires : tie.Need-same-item-requires
-same-item-requires c κs = search needs
+    sym (ap (λ e. isOther (snapOf (now (s .args .words)) A (s .args .l)) (s .args .m .0) (entryOf scopeAt (now (s .args .words)) e))
+    (c .enum-told .given .1)))
 
 returns-2 : tie.Need-returns-2
 unfolding isOther
 returns-2 c =
     λ A.
     (let s = c .before .before .before .before .before .before .before .before in
-    let i = c .before .item-of .ensures A ∙ ap₂ (λ n d. itemOf (snapOf (now (s .args .words)) A (s .args .l)) n d) (c .before .before .before .scope-ns .ensures) (c .before .before .scope-definition .ensures) in
+    let i = c .before .item-of .ensures A ∙ ap₂ (λ n d. itemOf (snapOf (now (s .args .words)) A (s .args .l)) n d)
+    (c .before .before .before .scope-ns .ensures) (c .before .before .scope-definition .ensures) in
     ap not (c .same-item .ensures ∙ ap (λ x. sameItem x (moduleItem (s .args .m .0))) i)
-    ∙ sym (ap (λ e. isOther (snapOf (now (s .args .words)) A (s .args .l)) (s .args .m .0) (entryOf scopeAt (now (s .args .words)) e)) (c .before .before .before .before .before .e .given .1)))
+    ∙ sym (ap (λ e. isOther (snapOf (now (s .args .words)) A (s .args .l)) (s .args .m .0) (entryOf scopeAt (now (s .args .words)) e))
+    (c .before .before .before .before .before .e .given .1)))
 
 pub is-other-spec : {M : Type 1} → statement M
 is-other-spec =
-    tie.close
-    (tie.spec
-    enum-known-e
-    enum-told
-    returns
-    scope-ns-requires
-    scope-definition-requires
-    item-of-requires
-    same-item-requires
-    returns-2)
+    tie.close (tie.spec (λ c. search needs) (λ c. search needs) returns (λ c κs. search needs) (λ c κs. search needs)
+    (λ c κs. search needs) (λ c κs. search needs) returns-2)

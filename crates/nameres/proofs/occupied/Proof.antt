@@ -16,7 +16,8 @@ use Rattle.nameres.proofs.occupied.Statement.{statement}
 use Rattle.nameres.proofs.occupied.Tie as tie
 
 abbrev Inv-loop : tie.InvT-loop
-Inv-loop words area l m name a₀ a = (occupied (snapOf words area l) (a₀ .0) (m .0) (name .0) ≡ occupied (snapOf words area l) (a .0) (m .0) (name .0)) × (a .0 < l .modules)
+Inv-loop words area l m name a₀ a = (occupied (snapOf words area l) (a₀ .0) (m .0) (name .0) ≡ occupied (snapOf words area l) (a .0)
+    (m .0) (name .0)) × (a .0 < l .modules)
 
 abbrev μ-loop : tie.MeasureT-loop
 μ-loop words area l m name a₀ a = a .0
@@ -43,52 +44,68 @@ unfolding occupied
 returns c =
     let s = c .before .before .before .before .before .before in
     let g = c .before .before .before .loop in
-    some-here (snapOf (now (s .args .words)) (now (s .args .area)) (s .args .l)) (block-falls (snapOf (now (s .args .words)) (now (s .args .area)) (s .args .l)) (accepted-tree (now (s .args .words)) (snapOf (now (s .args .words)) (now (s .args .area)) (s .args .l)) (s .pre .0 .same))) (g .a .0) (rw (length-modules (now (s .args .words)) (now (s .args .area)) (s .args .l)) (g .inv .1)) (λ a. isOther (snapOf (now (s .args .words)) (now (s .args .area)) (s .args .l)) (s .args .m .0) (get (snapOf (now (s .args .words)) (now (s .args .area)) (s .args .l)) a types (s .args .name .0))) (ap (isOther (snapOf (now (s .args .words)) (now (s .args .area)) (s .args .l)) (s .args .m .0)) (sym (c .before .before .get .ensures (now (s .args .area)))) ∙ sym (c .before .is-other .ensures (now (s .args .area))) ∙ c .if1 .taken) ∙ sym (g .inv .0)
+    some-here (snapOf (now (s .args .words)) (now (s .args .area)) (s .args .l))
+    (block-falls (snapOf (now (s .args .words)) (now (s .args .area)) (s .args .l))
+    (accepted-tree (now (s .args .words)) (snapOf (now (s .args .words)) (now (s .args .area)) (s .args .l)) (s .pre .0 .same)))
+    (g .a .0) (rw (length-modules (now (s .args .words)) (now (s .args .area)) (s .args .l)) (g .inv .1))
+    (λ a. isOther (snapOf (now (s .args .words)) (now (s .args .area)) (s .args .l)) (s .args .m .0)
+    (get (snapOf (now (s .args .words)) (now (s .args .area)) (s .args .l)) a types (s .args .name .0)))
+    (ap (isOther (snapOf (now (s .args .words)) (now (s .args .area)) (s .args .l)) (s .args .m .0))
+    (sym (c .before .before .get .ensures (now (s .args .area)))) ∙ sym (c .before .is-other .ensures (now (s .args .area))) ∙ c .if1 .taken)
+    ∙ sym (g .inv .0)
 
 block-requires : tie.Need-block-requires Inv-loop μ-loop
 block-requires c κs = (c .before .before .before .before .before .before .pre .0, c .before .before .before .loop .inv .1)
-
-enum-known-b : tie.Need-enum-known-b Inv-loop μ-loop
-enum-known-b c = search needs
-
-enum-told : tie.Need-enum-told Inv-loop μ-loop
-enum-told c = search needs
 
 returns-2 : tie.Need-returns-2 Inv-loop μ-loop
 unfolding occupied
 returns-2 c =
     let s = c .before .before .before .before .before .before .before .before .before in
     let g = c .before .before .before .before .before .before .loop in
-    some-none (snapOf (now (s .args .words)) (now (s .args .area)) (s .args .l)) (block-falls (snapOf (now (s .args .words)) (now (s .args .area)) (s .args .l)) (accepted-tree (now (s .args .words)) (snapOf (now (s .args .words)) (now (s .args .area)) (s .args .l)) (s .pre .0 .same))) (g .a .0) (rw (length-modules (now (s .args .words)) (now (s .args .area)) (s .args .l)) (g .inv .1)) (λ a. isOther (snapOf (now (s .args .words)) (now (s .args .area)) (s .args .l)) (s .args .m .0) (get (snapOf (now (s .args .words)) (now (s .args .area)) (s .args .l)) a types (s .args .name .0))) (ap (isOther (snapOf (now (s .args .words)) (now (s .args .area)) (s .args .l)) (s .args .m .0)) (sym (c .before .before .before .before .before .get .ensures (now (s .args .area)))) ∙ sym (c .before .before .before .before .is-other .ensures (now (s .args .area))) ∙ c .before .before .before .if1 .left) (is-none _ (c .before .before .block .ensures) (c .enum-told .given .1)) ∙ sym (g .inv .0)
+    some-none (snapOf (now (s .args .words)) (now (s .args .area)) (s .args .l))
+    (block-falls (snapOf (now (s .args .words)) (now (s .args .area)) (s .args .l))
+    (accepted-tree (now (s .args .words)) (snapOf (now (s .args .words)) (now (s .args .area)) (s .args .l)) (s .pre .0 .same)))
+    (g .a .0) (rw (length-modules (now (s .args .words)) (now (s .args .area)) (s .args .l)) (g .inv .1))
+    (λ a. isOther (snapOf (now (s .args .words)) (now (s .args .area)) (s .args .l)) (s .args .m .0)
+    (get (snapOf (now (s .args .words)) (now (s .args .area)) (s .args .l)) a types (s .args .name .0)))
+    (ap (isOther (snapOf (now (s .args .words)) (now (s .args .area)) (s .args .l)) (s .args .m .0))
+    (sym (c .before .before .before .before .before .get .ensures (now (s .args .area))))
+    ∙ sym (c .before .before .before .before .is-other .ensures (now (s .args .area))) ∙ c .before .before .before .if1 .left)
+    (is-none _ (c .before .before .block .ensures) (c .enum-told .given .1)) ∙ sym (g .inv .0)
 
 loop-less : tie.Need-loop-less Inv-loop μ-loop
 loop-less c =
     let s = c .before .before .before .before .before .before .before .before .before .before in
     let g = c .before .before .before .before .before .before .before .loop in
-    (block-falls (snapOf (now (s .args .words)) (now (s .args .area)) (s .args .l)) (accepted-tree (now (s .args .words)) (snapOf (now (s .args .words)) (now (s .args .area)) (s .args .l)) (s .pre .0 .same))) (g .a .0) _ (rw (length-modules (now (s .args .words)) (now (s .args .area)) (s .args .l)) (g .inv .1)) (is-some _ (c .before .before .before .block .ensures) (c .before .b .given .1))
+    (block-falls (snapOf (now (s .args .words)) (now (s .args .area)) (s .args .l))
+    (accepted-tree (now (s .args .words)) (snapOf (now (s .args .words)) (now (s .args .area)) (s .args .l)) (s .pre .0 .same)))
+    (g .a .0) _ (rw (length-modules (now (s .args .words)) (now (s .args .area)) (s .args .l)) (g .inv .1))
+    (is-some _ (c .before .before .before .block .ensures) (c .before .b .given .1))
 
 loop-again : tie.Need-loop-again Inv-loop μ-loop
 unfolding occupied
 loop-again c =
     let s = c .before .before .before .before .before .before .before .before .before .before in
     let g = c .before .before .before .before .before .before .before .loop in
-    let d = (block-falls (snapOf (now (s .args .words)) (now (s .args .area)) (s .args .l)) (accepted-tree (now (s .args .words)) (snapOf (now (s .args .words)) (now (s .args .area)) (s .args .l)) (s .pre .0 .same))) (g .a .0) _ (rw (length-modules (now (s .args .words)) (now (s .args .area)) (s .args .l)) (g .inv .1)) (is-some _ (c .before .before .before .block .ensures) (c .before .b .given .1)) in
-    let k = g .inv .1 in
-    (g .inv .0 ∙ some-on (snapOf (now (s .args .words)) (now (s .args .area)) (s .args .l)) (block-falls (snapOf (now (s .args .words)) (now (s .args .area)) (s .args .l)) (accepted-tree (now (s .args .words)) (snapOf (now (s .args .words)) (now (s .args .area)) (s .args .l)) (s .pre .0 .same))) (g .a .0) (rw (length-modules (now (s .args .words)) (now (s .args .area)) (s .args .l)) (g .inv .1)) (λ a. isOther (snapOf (now (s .args .words)) (now (s .args .area)) (s .args .l)) (s .args .m .0) (get (snapOf (now (s .args .words)) (now (s .args .area)) (s .args .l)) a types (s .args .name .0))) (ap (isOther (snapOf (now (s .args .words)) (now (s .args .area)) (s .args .l)) (s .args .m .0)) (sym (c .before .before .before .before .before .before .get .ensures (now (s .args .area)))) ∙ sym (c .before .before .before .before .before .is-other .ensures (now (s .args .area))) ∙ c .before .before .before .before .if1 .left) _ (is-some _ (c .before .before .before .block .ensures) (c .before .b .given .1)), omega (arith, d, k))
+    let d = (block-falls (snapOf (now (s .args .words)) (now (s .args .area)) (s .args .l))
+    (accepted-tree (now (s .args .words)) (snapOf (now (s .args .words)) (now (s .args .area)) (s .args .l)) (s .pre .0 .same)))
+    (g .a .0) _ (rw (length-modules (now (s .args .words)) (now (s .args .area)) (s .args .l)) (g .inv .1))
+    (is-some _ (c .before .before .before .block .ensures) (c .before .b .given .1)) in
+    let k = g .inv .1 in (
+      g .inv .0 ∙ some-on (snapOf (now (s .args .words)) (now (s .args .area)) (s .args .l))
+          (block-falls (snapOf (now (s .args .words)) (now (s .args .area)) (s .args .l))
+          (accepted-tree (now (s .args .words)) (snapOf (now (s .args .words)) (now (s .args .area)) (s .args .l)) (s .pre .0 .same)))
+          (g .a .0) (rw (length-modules (now (s .args .words)) (now (s .args .area)) (s .args .l)) (g .inv .1))
+          (λ a. isOther (snapOf (now (s .args .words)) (now (s .args .area)) (s .args .l)) (s .args .m .0)
+          (get (snapOf (now (s .args .words)) (now (s .args .area)) (s .args .l)) a types (s .args .name .0)))
+          (ap (isOther (snapOf (now (s .args .words)) (now (s .args .area)) (s .args .l)) (s .args .m .0))
+          (sym (c .before .before .before .before .before .before .get .ensures (now (s .args .area))))
+          ∙ sym (c .before .before .before .before .before .is-other .ensures (now (s .args .area))) ∙ c .before .before .before .before .if1 .left) _
+          (is-some _ (c .before .before .before .block .ensures) (c .before .b .given .1)),
+      omega (arith, d, k),
+    )
 
 pub occupied-spec : {M : Type 1} → statement M
 occupied-spec =
-    tie.close
-    (tie.spec
-    Inv-loop
-    μ-loop
-    loop-holds
-    get-requires
-    is-other-requires
-    returns
-    block-requires
-    enum-known-b
-    enum-told
-    returns-2
-    loop-less
-    loop-again)
+    tie.close (tie.spec Inv-loop μ-loop loop-holds get-requires is-other-requires returns block-requires
+    (λ c. search needs) (λ c. search needs) returns-2 loop-less loop-again)

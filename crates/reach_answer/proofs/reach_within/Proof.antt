@@ -6,20 +6,11 @@ use Rattle.answer.specs.Answers.{zeros}
 use Rattle.reach_answer.proofs.reach_within.Statement.{statement}
 use Rattle.reach_answer.proofs.reach_within.Tie as tie
 
-check-requires : tie.Need-check-requires
-check-requires c κs = search needs
-
 reach-on-requires : tie.Need-reach-on-requires
 reach-on-requires c κs =
     let k = c .before .before .before in
     let s = k .before .before .before .before in
     (checks-judged (now (s .args .words)) (now (s .args .area)) _ _ (s .pre) (k .check .ensures), k .check .kept .1 .0 ∙ s .pre)
-
-clear-requires : tie.Need-clear-requires
-clear-requires c κs = search needs
-
-same-length : tie.Need-same-length
-same-length c = search needs
 
 returns : tie.Need-returns
 returns c =
@@ -31,4 +22,4 @@ returns c =
 
 pub reach-within-spec : {M : Type 1} → statement M
 reach-within-spec =
-    tie.close (tie.spec check-requires reach-on-requires clear-requires same-length returns)
+    tie.close (tie.spec (λ c κs. search needs) reach-on-requires (λ c κs. search needs) (λ c. search needs) returns)

@@ -23,32 +23,72 @@ put-number-requires : tie.Need-put-number-requires Inv-loop μ-loop
 put-number-requires c κs = omega (arith, c .before .before .before .before .pre .2)
 
 loop-holds : tie.Need-loop-holds Inv-loop μ-loop
-loop-holds c = (omega arith, omega (arith, c .before .before .before .before .before .before .before .pre .0), refl, put-as (rest-one _) (put-none _ _), omega arith)
-
-slice-aggregate-put : tie.Need-slice-aggregate-put Inv-loop μ-loop
-slice-aggregate-put c = refl
+loop-holds c = (
+  omega arith,
+  omega (arith, c .before .before .before .before .before .before .before .pre .0),
+  refl,
+  put-as
+      (rest-one _) (put-none _ _),
+  omega arith,
+)
 
 put-requires : tie.Need-put-requires Inv-loop μ-loop
-put-requires c κs = omega (arith, c .before .before .loop-test .taken, c .before .before .before .loop .inv .1, c .before .before .before .loop .inv .2, c .before .before .before .loop .inv .4, c .before .before .before .before .before .before .put-number .ensures .1, c .before .before .before .before .before .before .put-number .kept .0, c .before .before .before .before .before .before .before .before .before .before .before .pre .1, c .before .before .before .before .before .before .before .before .before .before .before .pre .2)
+put-requires c κs = omega (
+  arith,
+  c .before .before .loop-test .taken,
+  c .before .before .before .loop .inv .1,
+  c .before .before .before .loop .inv .2,
+  c .before .before .before .loop .inv .4,
+  c .before .before .before .before .before .before .put-number .ensures .1,
+  c .before .before .before .before .before .before .put-number .kept .0,
+  c .before .before .before .before .before .before .before .before .before .before .before .pre .1,
+  c .before .before .before .before .before .before .before .before .before .before .before .pre .2,
+)
 
 mul-put-number : tie.Need-mul-put-number Inv-loop μ-loop
-mul-put-number c = record { fits = omega (arith, c .before .before .before .before .before .before .loop-test .taken, c .before .before .before .before .before .before .before .before .before .before .before .before .before .before .before .pre .1) }
+mul-put-number c = record {
+  fits = omega (
+    arith,
+    c .before .before .before .before .before .before .loop-test .taken,
+    c .before .before .before .before .before .before .before .before .before .before .before .before .before .before .before .pre .1,
+  );
+}
 
 shared-slice-read-put-number-2 : tie.Need-shared-slice-read-put-number-2 Inv-loop μ-loop
 shared-slice-read-put-number-2 c = c .before .before .before .before .before .before .before .loop-test .taken
 
 put-number-requires-2 : tie.Need-put-number-requires-2 Inv-loop μ-loop
-put-number-requires-2 c κs = omega (arith, c .before .before .before .before .put .ensures .next, c .before .before .before .before .put .kept .0, c .before .before .before .before .before .before .before .loop-test .taken, c .before .before .before .before .before .before .before .before .loop .inv .1, c .before .before .before .before .before .before .before .before .loop .inv .2, c .before .before .before .before .before .before .before .before .loop .inv .4, c .before .before .before .before .before .before .before .before .before .before .before .put-number .ensures .1, c .before .before .before .before .before .before .before .before .before .before .before .put-number .kept .0, c .before .before .before .before .before .before .before .before .before .before .before .before .before .before .before .before .pre .1, c .before .before .before .before .before .before .before .before .before .before .before .before .before .before .before .before .pre .2)
+put-number-requires-2 c κs = omega (
+  arith,
+  c .before .before .before .before .put .ensures .next,
+  c .before .before .before .before .put .kept .0,
+  c .before .before .before .before .before .before .before .loop-test .taken,
+  c .before .before .before .before .before .before .before .before .loop .inv .1,
+  c .before .before .before .before .before .before .before .before .loop .inv .2,
+  c .before .before .before .before .before .before .before .before .loop .inv .4,
+  c .before .before .before .before .before .before .before .before .before .before .before .put-number .ensures .1,
+  c .before .before .before .before .before .before .before .before .before .before .before .put-number .kept .0,
+  c .before .before .before .before .before .before .before .before .before .before .before .before .before .before .before .before .pre .1,
+  c .before .before .before .before .before .before .before .before .before .before .before .before .before .before .before .before .pre .2,
+)
 
 add-i : tie.Need-add-i Inv-loop μ-loop
-add-i c = record { fits = omega (arith, c .before .before .before .before .before .before .before .before .before .before .loop-test .taken, c .before .before .before .before .before .before .before .before .before .before .before .before .before .before .before .before .before .before .before .pre .1) }
+add-i c = record {
+  fits = omega (
+    arith,
+    c .before .before .before .before .before .before .before .before .before .before .loop-test .taken,
+    c .before .before .before .before .before .before .before .before .before .before .before .before .before .before .before
+        .before .before .before .before .pre .1,
+  );
+}
 
 loop-less : tie.Need-loop-less Inv-loop μ-loop
 loop-less c = omega (arith, c .before .before .before .before .before .before .before .before .before .before .loop-test .taken)
 
 loop-again : tie.Need-loop-again Inv-loop μ-loop
 loop-again c =
-    let s = c .before .before .before .before .before .before .before .before .before .before .before .before .before .before .before .before .before .before .before in
+    let s = c .before .before .before .before .before .before .before .before .before .before .before .before .before .before
+    .before .before .before .before .before in
     let o = c .before .before .before .before .before .before .before .before .before .before .before in
     let l = o .loop in
     let p = c .before .before .before .before .before .before .before .put in
@@ -74,20 +114,6 @@ returns c =
 
 pub put-numbers-spec : {M : Type 1} → statement M
 put-numbers-spec =
-    tie.close
-    (tie.spec
-    Inv-loop
-    μ-loop
-    shared-slice-read-put-number
-    put-number-requires
-    loop-holds
-    slice-aggregate-put
-    put-requires
-    mul-put-number
-    shared-slice-read-put-number-2
-    put-number-requires-2
-    add-i
-    loop-less
-    loop-again
-    same-length
-    returns)
+    tie.close (tie.spec Inv-loop μ-loop shared-slice-read-put-number put-number-requires loop-holds (λ c. refl)
+    put-requires mul-put-number shared-slice-read-put-number-2 put-number-requires-2 add-i loop-less loop-again
+    same-length returns)

@@ -8,12 +8,6 @@ use Rattle.reach_line.proofs.Laws.{refusal-text, counts-text}
 use Rattle.reach_line.proofs.put_reach.Statement.{statement}
 use Rattle.reach_line.proofs.put_reach.Tie as tie
 
-put-refusal-requires : tie.Need-put-refusal-requires
-put-refusal-requires c κs = search needs
-
-same-length : tie.Need-same-length
-same-length c = search needs
-
 returns : tie.Need-returns
 returns c =
     let p = c .before .before in
@@ -29,18 +23,12 @@ put-numbers-requires c κs =
     let h : 21 ≡ length (s .args .r .counts) = slice-aggregate-put-numbers c in
     (omega (arith, h), omega (arith, h), s .pre)
 
-slice-aggregate-put : tie.Need-slice-aggregate-put
-slice-aggregate-put c = search needs
-
 put-requires : tie.Need-put-requires
 put-requires c κs =
     let p = c .before .before .before .before in
     let s = p .before .before .before .before .before .before .before in
     let h : 21 ≡ length (s .args .r .counts) = slice-aggregate-put-numbers (p .before) in
     omega (arith, h, p .put-numbers .ensures .1, p .put-numbers .kept .0, s .pre)
-
-same-length-2 : tie.Need-same-length-2
-same-length-2 c = search needs
 
 returns-2 : tie.Need-returns-2
 returns-2 c =
@@ -51,14 +39,5 @@ returns-2 c =
 
 pub put-reach-spec : {M : Type 1} → statement M
 put-reach-spec =
-    tie.close
-    (tie.spec
-    put-refusal-requires
-    same-length
-    returns
-    slice-aggregate-put-numbers
-    put-numbers-requires
-    slice-aggregate-put
-    put-requires
-    same-length-2
-    returns-2)
+    tie.close (tie.spec (λ c κs. search needs) (λ c. search needs) returns slice-aggregate-put-numbers
+    put-numbers-requires (λ c. search needs) put-requires (λ c. search needs) returns-2)

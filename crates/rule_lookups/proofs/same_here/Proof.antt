@@ -9,12 +9,6 @@ use Rattle.find_path.specs.Rules.{sameHere}
 use Rattle.rule_lookups.proofs.same_here.Statement.{statement}
 use Rattle.rule_lookups.proofs.same_here.Tie as tie
 
-enum-known-e : tie.Need-enum-known-e
-enum-known-e c = search needs
-
-enum-told : tie.Need-enum-told
-enum-told c = search needs
-
 returns : tie.Need-returns
 unfolding sameHere
 returns c =
@@ -23,37 +17,19 @@ returns c =
     let n = snapOf (now (s .args .words)) A (s .args .l) in
     sym (ap (λ e. sameHere n x (s .args .item) (entryOf scopeAt (now (s .args .words)) e)) (c .enum-told .given .1)))
 
-scope-ns-requires : tie.Need-scope-ns-requires
-scope-ns-requires c κs = search needs
-
-scope-definition-requires : tie.Need-scope-definition-requires
-scope-definition-requires c κs = search needs
-
-item-of-requires : tie.Need-item-of-requires
-item-of-requires c κs = search needs
-
-same-item-requires : tie.Need-same-item-requires
-same-item-requires c κs = search needs
-
 returns-2 : tie.Need-returns-2
 unfolding sameHere
 returns-2 c =
     λ A x.
     (let s = c .before .before .before .before .before .before .before .before in
     let n = snapOf (now (s .args .words)) A (s .args .l) in
-    let i = c .before .item-of .ensures A ∙ ap₂ (itemOf n) (c .before .before .before .scope-ns .ensures) (c .before .before .scope-definition .ensures) in
+    let i = c .before .item-of .ensures A ∙ ap₂ (itemOf n) (c .before .before .before .scope-ns .ensures)
+    (c .before .before .scope-definition .ensures) in
     c .same-item .ensures ∙ ap (λ y. sameItem y (s .args .item)) i
-    ∙ sym (ap (λ e. sameHere n x (s .args .item) (entryOf scopeAt (now (s .args .words)) e)) (c .before .before .before .before .before .e .given .1)))
+    ∙ sym (ap (λ e. sameHere n x (s .args .item) (entryOf scopeAt (now (s .args .words)) e))
+    (c .before .before .before .before .before .e .given .1)))
 
 pub same-here-spec : {M : Type 1} → statement M
 same-here-spec =
-    tie.close
-    (tie.spec
-    enum-known-e
-    enum-told
-    returns
-    scope-ns-requires
-    scope-definition-requires
-    item-of-requires
-    same-item-requires
-    returns-2)
+    tie.close (tie.spec (λ c. search needs) (λ c. search needs) returns (λ c κs. search needs) (λ c κs. search needs)
+    (λ c κs. search needs) (λ c κs. search needs) returns-2)

@@ -18,33 +18,22 @@ abbrev μ-loop : tie.MeasureT-loop
 loop-holds : tie.Need-loop-holds Inv-loop μ-loop
 loop-holds c = (cleared-start _ _, refl, omega arith)
 
-cast-area : tie.Need-cast-area Inv-loop μ-loop
-cast-area c = search needs
-
-add-area : tie.Need-add-area Inv-loop μ-loop
-add-area c = search needs
-
-mul-area : tie.Need-mul-area Inv-loop μ-loop
-mul-area c = search needs
-
 slice-write-area : tie.Need-slice-write-area Inv-loop μ-loop
 slice-write-area c =
     let k = c .before in
     let s = k .before in
     omega (arith, k .loop .inv .1, s .pre .0, s .pre .1, c .loop-test .taken)
 
-add-m : tie.Need-add-m Inv-loop μ-loop
-add-m c = search needs
-
-loop-less : tie.Need-loop-less Inv-loop μ-loop
-loop-less c = search needs
-
 loop-again : tie.Need-loop-again Inv-loop μ-loop
 loop-again c =
     let k = c .before in
     let s = k .before in
-    let h = c .loop-test .taken in
-    (cleared-next (now (s .args .area)) (s .args .end) (k .loop .m) (k .loop .area) (k .loop .inv .0) (omega (arith, h, s .pre .1)) (k .loop .inv .1 ∙ s .pre .0), length-set (k .loop .area) _ _ ∙ k .loop .inv .1, omega (arith, h))
+    let h = c .loop-test .taken in (
+      cleared-next (now (s .args .area)) (s .args .end) (k .loop .m) (k .loop .area) (k .loop .inv .0) (omega (arith, h, s .pre .1))
+          (k .loop .inv .1 ∙ s .pre .0),
+      length-set (k .loop .area) _ _ ∙ k .loop .inv .1,
+      omega (arith, h),
+    )
 
 same-length : tie.Need-same-length Inv-loop μ-loop
 same-length c = c .before .loop .inv .1
@@ -58,17 +47,5 @@ returns c =
 
 pub clear-heads-spec : {M : Type 1} → statement M
 clear-heads-spec =
-    tie.close
-    (tie.spec
-    Inv-loop
-    μ-loop
-    loop-holds
-    cast-area
-    add-area
-    mul-area
-    slice-write-area
-    add-m
-    loop-less
-    loop-again
-    same-length
-    returns)
+    tie.close (tie.spec Inv-loop μ-loop loop-holds (λ c. search needs) (λ c. search needs) (λ c. search needs)
+    slice-write-area (λ c. search needs) (λ c. search needs) loop-again same-length returns)

@@ -12,9 +12,6 @@ add-word c =
     let s = c .before .before in
     omega (arith, s .pre .0, s .pre .2)
 
-word-requires : tie.Need-word-requires
-word-requires c κs = tt
-
 returns : tie.Need-returns
 returns c =
     let t = c .before in
@@ -27,31 +24,21 @@ add-word-2 c =
     let s = t .before .before .before .before .before in
     omega (arith, t .if2 .taken, s .pre .1)
 
-word-requires-2 : tie.Need-word-requires-2
-word-requires-2 c κs = tt
-
 returns-2 : tie.Need-returns-2
 returns-2 c =
     let t = c .before .before in
     let e = t .before .before .before in
     let s = e .before .before in
-    λ W z x o. from-head W (now (s .args .area)) (s .args .l) (s .args .m .0) (s .args .k) z x (omega (arith, e .if1 .left)) (t .if2 .taken) (c .word2 .ensures)
+    λ W z x o. from-head W (now (s .args .area)) (s .args .l) (s .args .m .0) (s .args .k) z x (omega (arith, e .if1 .left))
+    (t .if2 .taken) (c .word2 .ensures)
 
 returns-3 : tie.Need-returns-3
 returns-3 c =
     let e = c .before .before .before in
     let s = e .before .before in
-    λ W z x o. from-none W (now (s .args .area)) (s .args .l) (s .args .m .0) (s .args .k) z x (omega (arith, e .if1 .left)) (omega (arith, c .if2 .left))
+    λ W z x o. from-none W (now (s .args .area)) (s .args .l) (s .args .m .0) (s .args .k) z x (omega (arith, e .if1 .left))
+    (omega (arith, c .if2 .left))
 
 pub first-from-spec : {M : Type 1} → statement M
 first-from-spec =
-    tie.close
-    (tie.spec
-    sub-word
-    add-word
-    word-requires
-    returns
-    add-word-2
-    word-requires-2
-    returns-2
-    returns-3)
+    tie.close (tie.spec sub-word add-word (λ c κs. tt) returns add-word-2 (λ c κs. tt) returns-2 returns-3)

@@ -1,4 +1,3 @@
-use borrow.Author.Needs.{needs}
 use Prim.Native.Nat.{_+_, _-_, _≤_}
 use mathlib.Core.Path.{_≡_, refl, sym, subst, _∙_}
 use native.Mathlib.Omega.{arith}
@@ -72,15 +71,5 @@ returns c =
 
 pub index-scopes-spec : {M : Type 1} → statement M
 index-scopes-spec =
-    tie.close
-    (tie.spec
-    Inv-loop
-    μ-loop
-    clear-heads-requires
-    loop-holds
-    sub-k
-    link-requires
-    loop-less
-    loop-again
-    same-length
-    returns)
+    tie.close (tie.spec Inv-loop μ-loop clear-heads-requires loop-holds sub-k link-requires loop-less loop-again
+    same-length returns)

@@ -16,8 +16,10 @@ use Rattle.snapshot.proofs.layout.Layout.scope_base.Reads as scope-base-reads
 use Rattle.snapshot.proofs.record.scope_owner.Reads as scope-owner-reads
 
 -- the owner that the code reads is that of the record
-owner : (c : lts.After-scope-owner (scope-base-reads.Asked, scope-base-reads.Learnt, scope-owner-reads.Asked, scope-owner-reads.Learnt) reads.Pre reads.Post)
-    → c .scope-owner .result .0 ≡ ownerAt (now (c .before .before .before .before .args .words)) (c .before .before .before .before .args .l) (c .before .before .before .before .args .k)
+owner : (c : lts.After-scope-owner (scope-base-reads.Asked, scope-base-reads.Learnt, scope-owner-reads.Asked, scope-owner-reads.Learnt)
+    reads.Pre reads.Post)
+    → c .scope-owner .result .0 ≡ ownerAt (now (c .before .before .before .before .args .words)) (c .before .before .before .before .args .l)
+    (c .before .before .before .before .args .k)
 owner c =
     let s = c .before .before .before .before in
     c .scope-owner .ensures ∙ ap (λ z. scopeAt (now (s .args .words)) (z + scopeSize * s .args .k) .owner) (c .before .scope-base .ensures)
@@ -31,17 +33,11 @@ mul-scope-owner c = let s = c .before .before .before in omega (arith, s .pre .0
 add-scope-owner : tie.Need-add-scope-owner
 add-scope-owner c = let s = c .before .before .before in omega (arith, c .scope-base .ensures, s .pre .0 .short, s .pre .2)
 
-scope-owner-requires : tie.Need-scope-owner-requires
-scope-owner-requires c κs = tt
-
 add-at : tie.Need-add-at
 add-at c =
     let o = c .before in
     let s = o .before .before .before .before in
     omega (arith, owner o, s .pre .0 .owners _ (s .pre .2), s .pre .0 .few, s .pre .1)
-
-mul-area : tie.Need-mul-area
-mul-area c = search needs
 
 slice-read-area : tie.Need-slice-read-area
 slice-read-area c =
@@ -49,29 +45,19 @@ slice-read-area c =
     let s = o .before .before .before .before in
     omega (arith, owner o, s .pre .0 .owners _ (s .pre .2), s .pre .0 .few, s .pre .1)
 
-add-area : tie.Need-add-area
-add-area c = search needs
-
-mul-area-2 : tie.Need-mul-area-2
-mul-area-2 c = search needs
-
-slice-write-area : tie.Need-slice-write-area
-slice-write-area c = search needs
-
-cast-area : tie.Need-cast-area
-cast-area c = search needs
-
-mul-area-3 : tie.Need-mul-area-3
-mul-area-3 c = search needs
-
 slice-write-area-2 : tie.Need-slice-write-area-2
 slice-write-area-2 c =
     let o = c .before .before in
     let s = o .before .before .before .before in
-    omega (arith, owner o, s .pre .0 .owners _ (s .pre .2), s .pre .0 .few, s .pre .1, length-set (s .args .area .now) (5184 + s .args .k) (getD (s .args .area .now) (4672 + o .scope-owner .result .0) 0))
-
-same-length : tie.Need-same-length
-same-length c = search needs
+    omega (
+      arith,
+      owner o,
+      s .pre .0 .owners _ (s .pre .2),
+      s .pre .0 .few,
+      s .pre .1,
+      length-set (s .args .area .now)
+          (5184 + s .args .k) (getD (s .args .area .now) (4672 + o .scope-owner .result .0) 0),
+    )
 
 returns : tie.Need-returns
 returns c =
@@ -86,20 +72,6 @@ returns c =
 
 pub link-spec : {M : Type 1} → statement M
 link-spec =
-    tie.close
-    (tie.spec
-    scope-base-requires
-    mul-scope-owner
-    add-scope-owner
-    scope-owner-requires
-    add-at
-    mul-area
-    slice-read-area
-    add-area
-    mul-area-2
-    slice-write-area
-    cast-area
-    mul-area-3
-    slice-write-area-2
-    same-length
-    returns)
+    tie.close (tie.spec scope-base-requires mul-scope-owner add-scope-owner (λ c κs. tt) add-at (λ c. search needs)
+    slice-read-area (λ c. search needs) (λ c. search needs) (λ c. search needs) (λ c. search needs) (λ c. search needs)
+    slice-write-area-2 (λ c. search needs) returns)

@@ -1,4 +1,3 @@
-use borrow.Author.Needs.{needs}
 use Prim.Native.Nat.{ℕ, _+_, _-_, _*_, _<_}
 use mathlib.Core.Path.{_≡_, ap}
 use mathlib.Core.List.{List}
@@ -17,7 +16,8 @@ use Rattle.scope_index.proofs.modules_from.Tie as tie
 
 abbrev Inv-loop : tie.InvT-loop
 Inv-loop words area l k m base j₀ j =
-    ((A : List ℕ) → Came (isModuleEntry (snapOf words A l) (m .0)) scopeAt scopeSize words (scopeBase l) (l .scopes) k j) × (j < l .scopes → ownerAt words l j ≡ m .0)
+    ((A : List ℕ) → Came (isModuleEntry (snapOf words A l) (m .0)) scopeAt scopeSize words (scopeBase l) (l .scopes) k j)
+    × (j < l .scopes → ownerAt words l j ≡ m .0)
 
 abbrev μ-loop : tie.MeasureT-loop
 μ-loop words area l k m base j₀ j = l .scopes - j
@@ -57,7 +57,8 @@ unfolding NextOf
 returns c =
     let t = c .before .before in
     let k = t .before .before in
-    λ A. next-hit (k .loop .inv .0 A) (t .if1 .taken) (ap (λ b. b + scopeSize * k .loop .j) (k .before .before .scope-base .ensures)) (c .before .is-module-entry .ensures A) (c .if2 .taken)
+    λ A. next-hit (k .loop .inv .0 A) (t .if1 .taken) (ap (λ b. b + scopeSize * k .loop .j) (k .before .before .scope-base .ensures))
+    (c .before .is-module-entry .ensures A) (c .if2 .taken)
 
 add-word : tie.Need-add-word Inv-loop μ-loop
 add-word c =
@@ -65,15 +66,13 @@ add-word c =
     let s = t .before .before .before .before .before .before .before in
     omega (arith, t .if1 .taken, s .pre .0 .short)
 
-word-requires : tie.Need-word-requires Inv-loop μ-loop
-word-requires c κs = tt
-
 loop-less : tie.Need-loop-less Inv-loop μ-loop
 loop-less c =
     let t = c .before .before .before in
     let k = t .before .before in
     let s = k .before .before .before .before .before in
-    let f = first-next (now (s .args .words)) (now (s .args .area)) (s .args .l) (s .args .m .0) (k .loop .j) (s .pre .3) (t .if1 .taken) (k .loop .inv .1 (t .if1 .taken)) (c .word .ensures) in
+    let f = first-next (now (s .args .words)) (now (s .args .area)) (s .args .l) (s .args .m .0) (k .loop .j) (s .pre .3)
+    (t .if1 .taken) (k .loop .inv .1 (t .if1 .taken)) (c .word .ensures) in
     omega (arith, f .from, t .if1 .taken)
 
 loop-again : tie.Need-loop-again Inv-loop μ-loop
@@ -84,9 +83,11 @@ loop-again c =
     let b = k .before .before in
     let s = b .before .before .before in
     let W = now (s .args .words) in
-    let f = first-next W (now (s .args .area)) (s .args .l) (s .args .m .0) (k .loop .j) (s .pre .3) (t .if1 .taken) (k .loop .inv .1 (t .if1 .taken)) (c .word .ensures) in (
+    let f = first-next W (now (s .args .area)) (s .args .l) (s .args .m .0) (k .loop .j) (s .pre .3) (t .if1 .taken)
+    (k .loop .inv .1 (t .if1 .taken)) (c .word .ensures) in (
       λ A. came-to W A (s .args .l) (s .args .m .0) (s .args .k)
-          (next-miss (k .loop .inv .0 A) (t .if1 .taken) (ap (λ b. b + scopeSize * k .loop .j) (b .scope-base .ensures)) (i .is-module-entry .ensures A) (c .before .if2 .left)) f,
+          (next-miss (k .loop .inv .0 A) (t .if1 .taken) (ap (λ b. b + scopeSize * k .loop .j) (b .scope-base .ensures))
+          (i .is-module-entry .ensures A) (c .before .if2 .left)) f,
       f .its,
     )
 
@@ -96,19 +97,5 @@ returns-2 c = λ A. next-end (c .before .before .loop .inv .0 A) (c .if1 .left)
 
 pub modules-from-spec : {M : Type 1} → statement M
 modules-from-spec =
-    tie.close
-    (tie.spec
-    Inv-loop
-    μ-loop
-    scope-base-requires
-    first-from-requires
-    loop-holds
-    mul-h
-    add-h
-    is-module-entry-requires
-    returns
-    add-word
-    word-requires
-    loop-less
-    loop-again
-    returns-2)
+    tie.close (tie.spec Inv-loop μ-loop scope-base-requires first-from-requires loop-holds mul-h add-h
+    is-module-entry-requires returns add-word (λ c κs. tt) loop-less loop-again returns-2)

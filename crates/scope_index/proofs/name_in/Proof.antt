@@ -1,4 +1,3 @@
-use borrow.Author.Needs.{needs}
 use Prim.Native.Nat.{_+_, _-_, _*_}
 use mathlib.Core.Path.{refl, ap}
 use native.Mathlib.Omega.{arith}
@@ -24,9 +23,6 @@ add-word : tie.Need-add-word Inv-loop μ-loop
 add-word c =
     let s = c .before .before .before .before in
     omega (arith, s .pre .1, s .pre .0 .few)
-
-word-requires : tie.Need-word-requires Inv-loop μ-loop
-word-requires c κs = tt
 
 loop-holds : tie.Need-loop-holds Inv-loop μ-loop
 unfolding nameOf
@@ -62,7 +58,8 @@ returns c =
     let s = b .before .before .before in
     let W = now (s .args .words) in
     let A = now (s .args .area) in
-    ahead-hit W A (s .args .l) _ _ (s .args .m .0) (k .loop .inv) (t .if1 .taken) (ap (λ z. scopeAt W (z + scopeSize * k .loop .k)) (b .scope-base .ensures))
+    ahead-hit W A (s .args .l) _ _ (s .args .m .0) (k .loop .inv) (t .if1 .taken) (ap (λ z. scopeAt W (z + scopeSize * k .loop .k))
+    (b .scope-base .ensures))
     (i .is-for .ensures A) (c .if2 .taken)
 
 add-word-2 : tie.Need-add-word-2 Inv-loop μ-loop
@@ -71,9 +68,6 @@ add-word-2 c =
     let s = t .before .before .before .before .before .before .before .before in
     omega (arith, t .if1 .taken, s .pre .0 .short)
 
-word-requires-2 : tie.Need-word-requires-2 Inv-loop μ-loop
-word-requires-2 c κs = tt
-
 loop-less : tie.Need-loop-less Inv-loop μ-loop
 loop-less c =
     let t = c .before .before .before in
@@ -81,7 +75,8 @@ loop-less c =
     let s = k .before .before .before .before .before .before in
     let W = now (s .args .words) in
     let A = now (s .args .area) in
-    let more = ahead-more W A (s .args .l) _ _ (s .args .m .0) (s .pre .2) (for-within W A (s .args .l) (s .args .m .0) (s .args .item)) (k .loop .inv) (t .if1 .taken) (c .word2 .ensures) in
+    let more = ahead-more W A (s .args .l) _ _ (s .args .m .0) (s .pre .2) (for-within W A (s .args .l) (s .args .m .0) (s .args .item))
+    (k .loop .inv) (t .if1 .taken) (c .word2 .ensures) in
     omega (arith, t .if1 .taken, more)
 
 loop-again : tie.Need-loop-again Inv-loop μ-loop
@@ -94,7 +89,8 @@ loop-again c =
     let s = b .before .before .before in
     let W = now (s .args .words) in
     let A = now (s .args .area) in
-    ahead-next W A (s .args .l) _ _ (s .args .m .0) (s .pre .2) (for-within W A (s .args .l) (s .args .m .0) (s .args .item)) (k .loop .inv) (t .if1 .taken)
+    ahead-next W A (s .args .l) _ _ (s .args .m .0) (s .pre .2) (for-within W A (s .args .l) (s .args .m .0) (s .args .item))
+    (k .loop .inv) (t .if1 .taken)
     (ap (λ z. scopeAt W (z + scopeSize * k .loop .k)) (b .scope-base .ensures)) (i .is-for .ensures A) (e .if2 .left) (c .word2 .ensures)
 
 returns-2 : tie.Need-returns-2 Inv-loop μ-loop
@@ -105,20 +101,5 @@ returns-2 c =
 
 pub name-in-spec : {M : Type 1} → statement M
 name-in-spec =
-    tie.close
-    (tie.spec
-    Inv-loop
-    μ-loop
-    scope-base-requires
-    add-word
-    word-requires
-    loop-holds
-    mul-h
-    add-h
-    is-for-requires
-    returns
-    add-word-2
-    word-requires-2
-    loop-less
-    loop-again
-    returns-2)
+    tie.close (tie.spec Inv-loop μ-loop scope-base-requires add-word (λ c κs. tt) loop-holds mul-h add-h is-for-requires
+    returns add-word-2 (λ c κs. tt) loop-less loop-again returns-2)

@@ -17,18 +17,6 @@ abbrev μ-loop : tie.MeasureT-loop
 loop-holds : tie.Need-loop-holds Inv-loop μ-loop
 loop-holds c = (omega arith, refl)
 
-sub-read-more : tie.Need-sub-read-more Inv-loop μ-loop
-sub-read-more c = omega arith
-
-part-read-more-start : tie.Need-part-read-more-start Inv-loop μ-loop
-part-read-more-start c = omega arith
-
-part-read-more-end : tie.Need-part-read-more-end Inv-loop μ-loop
-part-read-more-end c = omega arith
-
-read-more-requires : tie.Need-read-more-requires Inv-loop μ-loop
-read-more-requires c κs = search needs
-
 same-length : tie.Need-same-length Inv-loop μ-loop
 same-length c =
     let w = c .before .before .before .before in
@@ -41,12 +29,6 @@ returns c =
     let l = w .before .before .before .loop in
     let k = same-len-mid (l .count) (length (l .bytes) - l .count) (l .bytes) (w .read-more .last .0) (w .read-more .kept .0) ∙ l .inv .1 in
     (omega (arith, k, l .inv .0), sym (length-take-le _ _ (omega (arith, k, l .inv .0))))
-
-add-count : tie.Need-add-count Inv-loop μ-loop
-add-count c = omega arith
-
-loop-less : tie.Need-loop-less Inv-loop μ-loop
-loop-less c = omega arith
 
 loop-again : tie.Need-loop-again Inv-loop μ-loop
 loop-again c =
@@ -66,19 +48,5 @@ returns-2 c =
 
 pub read-input-spec : {M : Type 1} → statement M
 read-input-spec =
-    tie.close
-    (tie.spec
-    Inv-loop
-    μ-loop
-    loop-holds
-    sub-read-more
-    part-read-more-start
-    part-read-more-end
-    read-more-requires
-    same-length
-    returns
-    add-count
-    loop-less
-    loop-again
-    same-length-2
-    returns-2)
+    tie.close (tie.spec Inv-loop μ-loop loop-holds (λ c. omega arith) (λ c. omega arith) (λ c. omega arith)
+    (λ c κs. search needs) same-length returns (λ c. omega arith) (λ c. omega arith) loop-again same-length-2 returns-2)

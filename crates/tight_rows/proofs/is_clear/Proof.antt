@@ -1,4 +1,3 @@
-use Prim.Native.Nat.{_-_}
 use mathlib.Core.Path.{refl}
 use mathlib.Core.Bool.{false≢true}
 use mathlib.Core.Logic.{inr}
@@ -24,7 +23,8 @@ abbrev μ-loop : tie.MeasureT-loop
 
 -- the first level, in the loop
 first : (c : lts.In-loop (word-reads.Asked, word-reads.Learnt, is-far-reads.Asked, is-far-reads.Learnt) reads.Pre reads.Post Inv-loop μ-loop)
-    → First (now (c .before .before .before .args .area)) (c .before .loop .p) (c .before .loop .d) (length (now (c .before .before .before .args .area)))
+    → First (now (c .before .before .before .args .area)) (c .before .loop .p) (c .before .loop .d)
+    (length (now (c .before .before .before .args .area)))
 first c = chain-first _ _ _ _ (c .loop-test .taken) (c .before .loop .inv .1)
 
 loop-holds : tie.Need-loop-holds Inv-loop μ-loop
@@ -33,20 +33,11 @@ loop-holds c = (λ n o. inr o, c .before .pre)
 sub-word : tie.Need-sub-word Inv-loop μ-loop
 sub-word c = omega (arith, first c .header)
 
-word-requires : tie.Need-word-requires Inv-loop μ-loop
-word-requires c κs = tt
-
-is-far-requires : tie.Need-is-far-requires Inv-loop μ-loop
-is-far-requires c κs = tt
-
 returns : tie.Need-returns Inv-loop μ-loop
 returns c = λ e. absurd (false≢true e)
 
 sub-word-2 : tie.Need-sub-word-2 Inv-loop μ-loop
 sub-word-2 c = omega (arith, first (c .before .before .before) .header)
-
-word-requires-2 : tie.Need-word-requires-2 Inv-loop μ-loop
-word-requires-2 c κs = tt
 
 sub-d : tie.Need-sub-d Inv-loop μ-loop
 sub-d c = omega (arith, c .before .before .before .before .loop-test .taken)
@@ -59,8 +50,11 @@ loop-again c =
     let f = c .before .before in
     let i = f .before .before in
     let l = i .before .loop in
-    let s = i .before .before .before in
-    (passing-next (now (s .args .area)) (s .args .left) _ _ (l .p) (l .d) (l .inv .0) (i .loop-test .taken) (f .before .word .ensures) (f .is-far .ensures (not-false _ (c .before .if1 .left))) (c .word2 .ensures) refl, rw (c .word2 .ensures) (first i .rest))
+    let s = i .before .before .before in (
+      passing-next (now (s .args .area)) (s .args .left) _ _ (l .p) (l .d) (l .inv .0) (i .loop-test .taken) (f .before .word .ensures)
+          (f .is-far .ensures (not-false _ (c .before .if1 .left))) (c .word2 .ensures) refl,
+      rw (c .word2 .ensures) (first i .rest),
+    )
 
 returns-2 : tie.Need-returns-2 Inv-loop μ-loop
 returns-2 c =
@@ -70,18 +64,5 @@ returns-2 c =
 
 pub is-clear-spec : {M : Type 1} → statement M
 is-clear-spec =
-    tie.close
-    (tie.spec
-    Inv-loop
-    μ-loop
-    loop-holds
-    sub-word
-    word-requires
-    is-far-requires
-    returns
-    sub-word-2
-    word-requires-2
-    sub-d
-    loop-less
-    loop-again
-    returns-2)
+    tie.close (tie.spec Inv-loop μ-loop loop-holds sub-word (λ c κs. tt) (λ c κs. tt) returns sub-word-2 (λ c κs. tt)
+    sub-d loop-less loop-again returns-2)

@@ -8,16 +8,10 @@ use Rattle.tight_rows.proofs.is_far.Tie as tie
 returns : tie.Need-returns
 returns c = λ _ n h. absurd (c .if1 .taken (same-module _ n h .0))
 
-add-word : tie.Need-add-word
-add-word c = search needs
-
-word-requires : tie.Need-word-requires
-word-requires c κs = search needs
-
 returns-2 : tie.Need-returns-2
 returns-2 c =
     let s = c .before .before .before in
     λ e n h. far-item (now (s .args .area)) (s .args .code) (s .args .left) n (c .word .ensures) (ltb-true _ _ e) h
 
 pub is-far-spec : {M : Type 1} → statement M
-is-far-spec = tie.close (tie.spec returns add-word word-requires returns-2)
+is-far-spec = tie.close (tie.spec returns (λ c. search needs) (λ c κs. search needs) returns-2)

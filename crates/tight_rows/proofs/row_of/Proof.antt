@@ -60,14 +60,4 @@ returns-3 c =
 
 pub row-of-spec : {M : Type 1} → statement M
 row-of-spec =
-    tie.close
-    (tie.spec
-    returns
-    sub-last
-    mul-row
-    array-read-row
-    mul-row-2
-    add-row
-    add-result
-    returns-2
-    returns-3)
+    tie.close (tie.spec returns sub-last mul-row array-read-row mul-row-2 add-row add-result returns-2 returns-3)

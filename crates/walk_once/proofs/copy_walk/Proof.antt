@@ -18,12 +18,6 @@ abbrev μ-loop : tie.MeasureT-loop
 loop-holds : tie.Need-loop-holds Inv-loop μ-loop
 loop-holds c = (copied-start _ _, refl, omega arith)
 
-add-area : tie.Need-add-area Inv-loop μ-loop
-add-area c = search needs
-
-mul-area : tie.Need-mul-area Inv-loop μ-loop
-mul-area c = search needs
-
 slice-read-area : tie.Need-slice-read-area Inv-loop μ-loop
 slice-read-area c =
     let i = c .before in
@@ -52,19 +46,14 @@ slice-write-area c =
     let s = k .before in
     omega (arith, k .loop .inv .1, s .pre .0, s .pre .1, s .pre .2, i .loop-test .taken)
 
-add-i : tie.Need-add-i Inv-loop μ-loop
-add-i c = search needs
-
-loop-less : tie.Need-loop-less Inv-loop μ-loop
-loop-less c = search needs
-
 loop-again : tie.Need-loop-again Inv-loop μ-loop
 loop-again c =
     let i = c .before in
     let k = i .before in
     let s = k .before in
     let h = i .loop-test .taken in (
-      copied-next (now (s .args .area)) (s .args .to) (k .loop .i) (k .loop .area) (k .loop .inv .0) (s .pre .0) (omega (arith, k .loop .inv .1, s .pre .1)) (omega (arith, h, s .pre .2)) refl,
+      copied-next (now (s .args .area)) (s .args .to) (k .loop .i) (k .loop .area) (k .loop .inv .0) (s .pre .0)
+          (omega (arith, k .loop .inv .1, s .pre .1)) (omega (arith, h, s .pre .2)) refl,
       length-set (k .loop .area) _ _ ∙ k .loop .inv .1,
       omega (arith, h),
     )
@@ -81,19 +70,5 @@ returns c =
 
 pub copy-walk-spec : {M : Type 1} → statement M
 copy-walk-spec =
-    tie.close
-    (tie.spec
-    Inv-loop
-    μ-loop
-    loop-holds
-    add-area
-    mul-area
-    slice-read-area
-    add-area-2
-    mul-area-2
-    slice-write-area
-    add-i
-    loop-less
-    loop-again
-    same-length
-    returns)
+    tie.close (tie.spec Inv-loop μ-loop loop-holds (λ c. search needs) (λ c. search needs) slice-read-area add-area-2
+    mul-area-2 slice-write-area (λ c. search needs) (λ c. search needs) loop-again same-length returns)

@@ -1,6 +1,6 @@
 use mathlib.Core.Path.{_≡_, refl, sym}
 use mathlib.Core.Bool.{true≢false}
-use Prim.Native.Nat.{ℕ, _-_}
+use Prim.Native.Nat.{ℕ}
 use native.Mathlib.Omega.{arith}
 use denote.Ref.{now}
 use lib.ListN.{length}
@@ -25,7 +25,8 @@ abbrev μ-loop : tie.MeasureT-loop
 
 -- the first level, in the loop
 first : (c : lts.In-loop (code-of-reads.Asked, code-of-reads.Learnt, word-reads.Asked, word-reads.Learnt) reads.Pre reads.Post Inv-loop μ-loop)
-    → First (now (c .before .before .before .before .args .area)) (c .before .loop .p) (c .before .loop .d) (length (now (c .before .before .before .before .args .area)))
+    → First (now (c .before .before .before .before .args .area)) (c .before .loop .p) (c .before .loop .d)
+    (length (now (c .before .before .before .before .args .area)))
 first c = chain-first _ _ _ _ (c .loop-test .taken) (c .before .loop .inv .1)
 
 code-of-requires : tie.Need-code-of-requires Inv-loop μ-loop
@@ -37,17 +38,11 @@ loop-holds c = (λ item s e m. refl, c .before .before .pre .0)
 sub-word : tie.Need-sub-word Inv-loop μ-loop
 sub-word c = omega (arith, first c .header)
 
-word-requires : tie.Need-word-requires Inv-loop μ-loop
-word-requires c κs = tt
-
 returns : tie.Need-returns Inv-loop μ-loop
 returns c = λ e. absurd (true≢false e)
 
 sub-word-2 : tie.Need-sub-word-2 Inv-loop μ-loop
 sub-word-2 c = omega (arith, first (c .before .before) .header)
-
-word-requires-2 : tie.Need-word-requires-2 Inv-loop μ-loop
-word-requires-2 c κs = tt
 
 sub-d : tie.Need-sub-d Inv-loop μ-loop
 sub-d c = omega (arith, c .before .before .before .loop-test .taken)
@@ -61,7 +56,8 @@ loop-again c =
     let i = w .before in
     let l = i .before .loop in
     let A = now (i .before .before .before .before .args .area) in (
-      λ item s e m. visited-other A item m _ (l .p) (l .d) (l .inv .0 item s e m) s (i .loop-test .taken) (w .word .ensures) e (c .before .if1 .left) (c .word2 .ensures) refl,
+      λ item s e m. visited-other A item m _ (l .p) (l .d) (l .inv .0 item s e m) s (i .loop-test .taken) (w .word .ensures) e
+          (c .before .if1 .left) (c .word2 .ensures) refl,
       rw (c .word2 .ensures) (first i .rest),
     )
 
@@ -70,22 +66,10 @@ returns-2 c =
     let l = c .before .loop in
     let o = c .before .before in
     let s = o .before .before in
-    λ _ m. sym (visited-end (now (s .args .area)) (s .args .item) m _ (l .p) (l .d) (l .inv .0 _ (s .pre .1) (o .code-of .ensures .0) m) (omega (arith, c .loop-test .left)))
+    λ _ m. sym (visited-end (now (s .args .area)) (s .args .item) m _ (l .p) (l .d) (l .inv .0 _ (s .pre .1) (o .code-of .ensures .0) m)
+    (omega (arith, c .loop-test .left)))
 
 pub is-on-spec : {M : Type 1} → statement M
 is-on-spec =
-    tie.close
-    (tie.spec
-    Inv-loop
-    μ-loop
-    code-of-requires
-    loop-holds
-    sub-word
-    word-requires
-    returns
-    sub-word-2
-    word-requires-2
-    sub-d
-    loop-less
-    loop-again
-    returns-2)
+    tie.close (tie.spec Inv-loop μ-loop code-of-requires loop-holds sub-word (λ c κs. tt) returns sub-word-2
+    (λ c κs. tt) sub-d loop-less loop-again returns-2)

@@ -1,5 +1,3 @@
-use borrow.Author.Needs.{needs}
-use mathlib.Core.Path.{refl}
 use native.Mathlib.Omega.{arith}
 use denote.Ref.{now}
 use Rattle.local_levels.proofs.Stacks.{chain-wider}
@@ -23,9 +21,6 @@ same-length c = c .before .before .find-local-import-locations .kept .1 .0
 returns : tie.Need-returns
 returns c = c .before .before .find-local-import-locations .ensures
 
-word-requires : tie.Need-word-requires
-word-requires c κs = tt
-
 copy-walk-requires : tie.Need-copy-walk-requires
 copy-walk-requires c κs =
     let w = c .before in
@@ -43,17 +38,10 @@ returns-2 c =
     let e = w .before .before in
     let o = e .before in
     let s = o .before .before .before .before in
-    gathered-copy (now (s .args .words)) (now (s .args .area)) (s .args .l) (s .args .from .0) (s .args .s) (s .args .item) (s .pre .6) _ (w .word .ensures) (v .copy-walk .ensures) (o .is-on .ensures (e .if1 .left))
+    gathered-copy (now (s .args .words)) (now (s .args .area)) (s .args .l) (s .args .from .0) (s .args .s) (s .args .item)
+    (s .pre .6) _ (w .word .ensures) (v .copy-walk .ensures) (o .is-on .ensures (e .if1 .left))
 
 pub locations-spec : {M : Type 1} → statement M
 locations-spec =
-    tie.close
-    (tie.spec
-    is-on-requires
-    find-local-import-locations-requires
-    same-length
-    returns
-    word-requires
-    copy-walk-requires
-    same-length-2
-    returns-2)
+    tie.close (tie.spec is-on-requires find-local-import-locations-requires same-length returns (λ c κs. tt)
+    copy-walk-requires same-length-2 returns-2)

@@ -1,4 +1,3 @@
-use borrow.Author.Needs.{needs}
 use mathlib.Core.Path.{_∙_}
 use native.Mathlib.Omega.{arith}
 use denote.Ref.{now}
@@ -31,9 +30,9 @@ returns : tie.Need-returns
 returns c =
     let f = c .before .before in
     let s = f .before .before .before .before in
-    kept-walk (now (s .args .words)) (now (s .args .area)) (s .args .l) (s .args .from .0) (s .args .item) (s .pre .2) _ _ (f .find-local-import-locations .kept .1 .0) (f .find-local-import-locations .ensures)
+    kept-walk (now (s .args .words)) (now (s .args .area)) (s .args .l) (s .args .from .0) (s .args .item) (s .pre .2) _ _
+    (f .find-local-import-locations .kept .1 .0) (f .find-local-import-locations .ensures)
 
 pub take-walk-spec : {M : Type 1} → statement M
 take-walk-spec =
-    tie.close
-    (tie.spec find-local-import-locations-requires cast-area slice-write-area same-length returns)
+    tie.close (tie.spec find-local-import-locations-requires cast-area slice-write-area same-length returns)

@@ -19,39 +19,21 @@ loop-holds c = (refl, refl)
 returns : tie.Need-returns Inv-loop μ-loop
 returns c = arguments-short _ _ _ _ (c .before .before .loop .inv .0) (omega arith) (c .if1 .taken)
 
-kind-requires : tie.Need-kind-requires Inv-loop μ-loop
-kind-requires c κs = search needs
-
 returns-2 : tie.Need-returns-2 Inv-loop μ-loop
-returns-2 c = arguments-other _ _ _ _ (c .before .before .before .before .loop .inv .0) (omega arith) (c .before .before .if1 .left) (λ e. c .if2 .taken (c .before .kind .ensures ∙ e))
-
-add-i : tie.Need-add-i Inv-loop μ-loop
-add-i c = search needs
-
-sub-left : tie.Need-sub-left Inv-loop μ-loop
-sub-left c = search needs
-
-loop-less : tie.Need-loop-less Inv-loop μ-loop
-loop-less c = search needs
+returns-2 c = arguments-other _ _ _ _ (c .before .before .before .before .loop .inv .0) (omega arith) (c .before .before .if1 .left)
+    (λ e. c .if2 .taken (c .before .kind .ensures ∙ e))
 
 loop-again : tie.Need-loop-again Inv-loop μ-loop
-loop-again c = (arguments-go _ _ _ _ (c .before .before .before .before .loop .inv .0) (omega arith) (c .before .before .if1 .left) (sym (c .before .kind .ensures) ∙ c .if2 .left), omega arith)
+loop-again c = (
+  arguments-go _ _ _ _ (c .before .before .before .before .loop .inv .0) (omega arith) (c .before .before .if1 .left)
+      (sym (c .before .kind .ensures) ∙ c .if2 .left),
+  omega arith,
+)
 
 returns-3 : tie.Need-returns-3 Inv-loop μ-loop
 returns-3 c = arguments-end _ _ _ _ (c .before .loop .inv .0) (omega arith)
 
 pub arguments-from-spec : {M : Type 1} → statement M
 arguments-from-spec =
-    tie.close
-    (tie.spec
-    Inv-loop
-    μ-loop
-    loop-holds
-    returns
-    kind-requires
-    returns-2
-    add-i
-    sub-left
-    loop-less
-    loop-again
-    returns-3)
+    tie.close (tie.spec Inv-loop μ-loop loop-holds returns (λ c κs. search needs) returns-2 (λ c. search needs)
+    (λ c. search needs) (λ c. search needs) loop-again returns-3)

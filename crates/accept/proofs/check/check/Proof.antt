@@ -11,9 +11,6 @@ use Rattle.accept.proofs.check.check.Tie as tie
 returns : tie.Need-returns
 returns c = checks-small (now (c .before .before .before .args .words)) (now (c .before .before .before .args .area)) (c .if1 .taken)
 
-slice-relend-prefix-check-within : tie.Need-slice-relend-prefix-check-within
-slice-relend-prefix-check-within c = search needs
-
 slice-aggregate-check-within : tie.Need-slice-aggregate-check-within
 slice-aggregate-check-within c =
     let s = c .before .before .before .before in
@@ -25,22 +22,14 @@ check-within-requires c κs =
     let e = length-take-le areaLimit (now (s .args .area)) (c .before .if1 .left) in
     omega arith
 
-same-length : tie.Need-same-length
-same-length c = search needs
-
 returns-2 : tie.Need-returns-2
 returns-2 c =
     let s = c .before .before .before .before .before .before .before in
     let q = c .before .before .check-within in
-    checks-part (now (s .args .words)) (now (s .args .area)) (q .last .1 .0) (c .before .before .before .before .if1 .left) (q .kept .1 .0 ∙ length-take-le areaLimit (now (s .args .area)) (c .before .before .before .before .if1 .left)) (q .result) (q .ensures)
+    checks-part (now (s .args .words)) (now (s .args .area)) (q .last .1 .0) (c .before .before .before .before .if1 .left)
+    (q .kept .1 .0 ∙ length-take-le areaLimit (now (s .args .area)) (c .before .before .before .before .if1 .left)) (q .result) (q .ensures)
 
 pub check-spec : {M : Type 1} → statement M
 check-spec =
-    tie.close
-    (tie.spec
-    returns
-    slice-relend-prefix-check-within
-    slice-aggregate-check-within
-    check-within-requires
-    same-length
-    returns-2)
+    tie.close (tie.spec returns (λ c. search needs) slice-aggregate-check-within check-within-requires
+    (λ c. search needs) returns-2)

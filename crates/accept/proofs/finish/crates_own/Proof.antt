@@ -12,7 +12,8 @@ use Rattle.accept.proofs.finish.crates_own.Statement.{statement}
 use Rattle.accept.proofs.finish.crates_own.Tie as tie
 
 abbrev Inv-loop : tie.InvT-loop
-Inv-loop area crates c₀ c = (c ≤ crates) × (all (λ j. not (eqb (ownMap area j) 0)) (rows (λ j. j) 0 crates) ≡ all (λ j. not (eqb (ownMap area j) 0)) (rows (λ j. j) c (crates - c)))
+Inv-loop area crates c₀ c = (c ≤ crates)
+    × (all (λ j. not (eqb (ownMap area j) 0)) (rows (λ j. j) 0 crates) ≡ all (λ j. not (eqb (ownMap area j) 0)) (rows (λ j. j) c (crates - c)))
 
 abbrev μ-loop : tie.MeasureT-loop
 μ-loop area crates c₀ c = crates - c
@@ -20,19 +21,10 @@ abbrev μ-loop : tie.MeasureT-loop
 loop-holds : tie.Need-loop-holds Inv-loop μ-loop
 loop-holds c = (omega arith, rows-whole (all _) _ _)
 
-own-map-requires : tie.Need-own-map-requires Inv-loop μ-loop
-own-map-requires c κs = search needs
-
 returns : tie.Need-returns Inv-loop μ-loop
 returns c =
     let l = c .before .before .before .loop in
     all-stop _ _ _ _ _ (l .inv .1) (omega arith) (ap not (eq-eqb _ _ (sym (c .before .own-map .ensures) ∙ c .if1 .taken)))
-
-add-c : tie.Need-add-c Inv-loop μ-loop
-add-c c = search needs
-
-loop-less : tie.Need-loop-less Inv-loop μ-loop
-loop-less c = search needs
 
 loop-again : tie.Need-loop-again Inv-loop μ-loop
 loop-again c =
@@ -44,14 +36,5 @@ returns-2 c = all-end _ _ _ _ _ (c .before .loop .inv .1) (omega arith)
 
 pub crates-own-spec : {M : Type 1} → statement M
 crates-own-spec =
-    tie.close
-    (tie.spec
-    Inv-loop
-    μ-loop
-    loop-holds
-    own-map-requires
-    returns
-    add-c
-    loop-less
-    loop-again
-    returns-2)
+    tie.close (tie.spec Inv-loop μ-loop loop-holds (λ c κs. search needs) returns (λ c. search needs)
+    (λ c. search needs) loop-again returns-2)

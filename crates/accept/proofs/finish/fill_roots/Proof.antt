@@ -34,21 +34,24 @@ add-area : tie.Need-add-area Inv-loop μ-loop
 add-area c =
     let s = c .before .before .before .before .before in
     let l = c .before .before .before .loop in
-    let h = filled-small (now (s .args .area)) (l .area) (s .args .modules) (l .m) (l .inv) (c .before .before .loop-test .taken) (s .pre .0 .1) (s .pre .0 .0) (s .pre .1) (c .module-map .ensures) in
+    let h = filled-small (now (s .args .area)) (l .area) (s .args .modules) (l .m) (l .inv) (c .before .before .loop-test .taken)
+    (s .pre .0 .1) (s .pre .0 .0) (s .pre .1) (c .module-map .ensures) in
     omega arith
 
 mul-area : tie.Need-mul-area Inv-loop μ-loop
 mul-area c =
     let s = c .before .before .before .before .before in
     let l = c .before .before .before .loop in
-    let h = filled-small (now (s .args .area)) (l .area) (s .args .modules) (l .m) (l .inv) (c .before .before .loop-test .taken) (s .pre .0 .1) (s .pre .0 .0) (s .pre .1) (c .module-map .ensures) in
+    let h = filled-small (now (s .args .area)) (l .area) (s .args .modules) (l .m) (l .inv) (c .before .before .loop-test .taken)
+    (s .pre .0 .1) (s .pre .0 .0) (s .pre .1) (c .module-map .ensures) in
     omega arith
 
 slice-write-area : tie.Need-slice-write-area Inv-loop μ-loop
 slice-write-area c =
     let s = c .before .before .before .before .before in
     let l = c .before .before .before .loop in
-    let h = filled-small (now (s .args .area)) (l .area) (s .args .modules) (l .m) (l .inv) (c .before .before .loop-test .taken) (s .pre .0 .1) (s .pre .0 .0) (s .pre .1) (c .module-map .ensures) in
+    let h = filled-small (now (s .args .area)) (l .area) (s .args .modules) (l .m) (l .inv) (c .before .before .loop-test .taken)
+    (s .pre .0 .1) (s .pre .0 .0) (s .pre .1) (c .module-map .ensures) in
     let u = l .inv .long in
     let v = s .pre .0 .0 in
     omega arith
@@ -62,28 +65,17 @@ loop-again : tie.Need-loop-again Inv-loop μ-loop
 loop-again c =
     let s = c .before .before .before .before .before in
     let l = c .before .before .before .loop in
-    filled-more (now (s .args .area)) (l .area) (s .args .modules) (l .m) (l .inv) (c .before .before .loop-test .taken) (s .pre .0 .1) (s .pre .0 .0) (s .pre .1) (c .module-map .ensures)
+    filled-more (now (s .args .area)) (l .area) (s .args .modules) (l .m) (l .inv) (c .before .before .loop-test .taken)
+    (s .pre .0 .1) (s .pre .0 .0) (s .pre .1) (c .module-map .ensures)
 
 same-length : tie.Need-same-length Inv-loop μ-loop
 same-length c = c .before .loop .inv .long
 
 returns : tie.Need-returns Inv-loop μ-loop
-returns c = filled-all (now (c .before .before .before .args .area)) (c .before .loop .area) (c .before .before .before .args .modules) (c .before .loop .m) (c .before .loop .inv) (c .loop-test .left)
+returns c = filled-all (now (c .before .before .before .args .area)) (c .before .loop .area) (c .before .before .before .args .modules)
+    (c .before .loop .m) (c .before .loop .inv) (c .loop-test .left)
 
 pub fill-roots-spec : {M : Type 1} → statement M
 fill-roots-spec =
-    tie.close
-    (tie.spec
-    Inv-loop
-    μ-loop
-    loop-holds
-    sub-m
-    module-map-requires
-    cast-area
-    add-area
-    mul-area
-    slice-write-area
-    loop-less
-    loop-again
-    same-length
-    returns)
+    tie.close (tie.spec Inv-loop μ-loop loop-holds sub-m module-map-requires cast-area add-area mul-area
+    slice-write-area loop-less loop-again same-length returns)

@@ -11,7 +11,9 @@ use Rattle.accept.proofs.finish.maps_filled.Statement.{statement}
 use Rattle.accept.proofs.finish.maps_filled.Tie as tie
 
 abbrev Inv-loop : tie.InvT-loop
-Inv-loop area maps modules k₀ k = (k ≤ maps) × (all (λ j. any (isIn j) (modulesOf area modules)) (rows (λ j. j) 0 maps) ≡ all (λ j. any (isIn j) (modulesOf area modules)) (rows (λ j. j) k (maps - k)))
+Inv-loop area maps modules k₀ k = (k ≤ maps)
+    × (all (λ j. any (isIn j) (modulesOf area modules)) (rows (λ j. j) 0 maps) ≡ all (λ j. any (isIn j) (modulesOf area modules))
+    (rows (λ j. j) k (maps - k)))
 
 abbrev μ-loop : tie.MeasureT-loop
 μ-loop area maps modules k₀ k = maps - k
@@ -19,19 +21,10 @@ abbrev μ-loop : tie.MeasureT-loop
 loop-holds : tie.Need-loop-holds Inv-loop μ-loop
 loop-holds c = (omega arith, rows-whole (all _) _ _)
 
-has-module-requires : tie.Need-has-module-requires Inv-loop μ-loop
-has-module-requires c κs = search needs
-
 returns : tie.Need-returns Inv-loop μ-loop
 returns c =
     let l = c .before .before .before .loop in
     all-stop _ _ _ _ _ (l .inv .1) (omega arith) (sym (c .before .has-module .ensures) ∙ not-true _ (c .if1 .taken))
-
-add-k : tie.Need-add-k Inv-loop μ-loop
-add-k c = search needs
-
-loop-less : tie.Need-loop-less Inv-loop μ-loop
-loop-less c = search needs
 
 loop-again : tie.Need-loop-again Inv-loop μ-loop
 loop-again c =
@@ -43,14 +36,5 @@ returns-2 c = all-end _ _ _ _ _ (c .before .loop .inv .1) (omega arith)
 
 pub maps-filled-spec : {M : Type 1} → statement M
 maps-filled-spec =
-    tie.close
-    (tie.spec
-    Inv-loop
-    μ-loop
-    loop-holds
-    has-module-requires
-    returns
-    add-k
-    loop-less
-    loop-again
-    returns-2)
+    tie.close (tie.spec Inv-loop μ-loop loop-holds (λ c κs. search needs) returns (λ c. search needs)
+    (λ c. search needs) loop-again returns-2)

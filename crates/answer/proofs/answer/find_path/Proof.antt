@@ -9,33 +9,15 @@ use Rattle.answer.proofs.Areas.{answers-small, answers-fault, answers-l
 use Rattle.answer.proofs.answer.find_path.Statement.{statement}
 use Rattle.answer.proofs.answer.find_path.Tie as tie
 
-refused-requires : tie.Need-refused-requires
-refused-requires c κs = search needs
-
 returns : tie.Need-returns
 returns c =
     let s = c .before .before .before .before .args in
     answers-small (now (s .words)) (now (s .area)) (s .question) _ (c .before .if1 .taken) (c .refused .ensures)
 
-call-fault-requires : tie.Need-call-fault-requires
-call-fault-requires c κs = search needs
-
-slice-relend-prefix-clear : tie.Need-slice-relend-prefix-clear
-slice-relend-prefix-clear c = search needs
-
 slice-aggregate-clear : tie.Need-slice-aggregate-clear
 slice-aggregate-clear c =
     let e = c .before .before .before in
     sym (length-take-le _ (now (e .before .before .before .args .area)) (omega (arith, e .if1 .left)))
-
-clear-requires : tie.Need-clear-requires
-clear-requires c κs = search needs
-
-refused-requires-2 : tie.Need-refused-requires-2
-refused-requires-2 c κs = search needs
-
-same-length : tie.Need-same-length
-same-length c = search needs
 
 returns-2 : tie.Need-returns-2
 returns-2 c =
@@ -44,10 +26,8 @@ returns-2 c =
     let e = t .before .before in
     let s = e .before .before .before .args in
     let l = length-take-le areaLimit (now (s .area)) (e .if1 .left) in
-    answers-fault (now (s .words)) (now (s .area)) (s .question) _ (k .clear .last .0) (e .if1 .left) (k .clear .ensures ∙ ap zeros l) _ (t .before .call-fault .ensures) (t .if2 .taken) (c .refused2 .ensures)
-
-slice-relend-prefix-find-path-within : tie.Need-slice-relend-prefix-find-path-within
-slice-relend-prefix-find-path-within c = search needs
+    answers-fault (now (s .words)) (now (s .area)) (s .question) _ (k .clear .last .0) (e .if1 .left) (k .clear .ensures ∙ ap zeros l) _
+    (t .before .call-fault .ensures) (t .if2 .taken) (c .refused2 .ensures)
 
 slice-aggregate-find-path-within : tie.Need-slice-aggregate-find-path-within
 slice-aggregate-find-path-within c =
@@ -59,31 +39,16 @@ find-path-within-requires c κs =
     let e = c .before .before .before in
     length-take-le areaLimit (now (e .before .before .before .args .area)) (e .if1 .left)
 
-same-length-2 : tie.Need-same-length-2
-same-length-2 c = search needs
-
 returns-3 : tie.Need-returns-3
 returns-3 c =
     let f = c .before .before in
     let e = f .before .before .before .before in
     let s = e .before .before .before .args in
-    answers-large (now (s .words)) (now (s .area)) (s .question) _ (f .find-path-within .last .1 .0) (e .if1 .left) (f .find-path-within .ensures .0) (f .find-path-within .ensures .1)
+    answers-large (now (s .words)) (now (s .area)) (s .question) _ (f .find-path-within .last .1 .0) (e .if1 .left)
+    (f .find-path-within .ensures .0) (f .find-path-within .ensures .1)
 
 pub find-path-spec : {M : Type 1} → statement M
 find-path-spec =
-    tie.close
-    (tie.spec
-    refused-requires
-    returns
-    call-fault-requires
-    slice-relend-prefix-clear
-    slice-aggregate-clear
-    clear-requires
-    refused-requires-2
-    same-length
-    returns-2
-    slice-relend-prefix-find-path-within
-    slice-aggregate-find-path-within
-    find-path-within-requires
-    same-length-2
-    returns-3)
+    tie.close (tie.spec (λ c κs. search needs) returns (λ c κs. search needs) (λ c. search needs) slice-aggregate-clear
+    (λ c κs. search needs) (λ c κs. search needs) (λ c. search needs) returns-2 (λ c. search needs)
+    slice-aggregate-find-path-within find-path-within-requires (λ c. search needs) returns-3)

@@ -10,17 +10,8 @@ use Rattle.answer.proofs.area.clear_front.Tie as tie
 returns : tie.Need-returns
 returns c = area-small (now (c .before .before .args .area)) (c .if1 .taken)
 
-slice-relend-prefix-clear : tie.Need-slice-relend-prefix-clear
-slice-relend-prefix-clear c = search needs
-
 slice-aggregate-clear : tie.Need-slice-aggregate-clear
 slice-aggregate-clear c = sym (length-take-le 16384 (now (c .before .before .before .args .area)) (c .before .if1 .left))
-
-clear-requires : tie.Need-clear-requires
-clear-requires c κs = search needs
-
-same-length : tie.Need-same-length
-same-length c = search needs
 
 returns-2 : tie.Need-returns-2
 returns-2 c =
@@ -31,11 +22,5 @@ returns-2 c =
 
 pub clear-front-spec : {M : Type 1} → statement M
 clear-front-spec =
-    tie.close
-    (tie.spec
-    returns
-    slice-relend-prefix-clear
-    slice-aggregate-clear
-    clear-requires
-    same-length
+    tie.close (tie.spec returns (λ c. search needs) slice-aggregate-clear (λ c κs. search needs) (λ c. search needs)
     returns-2)

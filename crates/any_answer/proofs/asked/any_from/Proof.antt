@@ -1,5 +1,5 @@
 use borrow.Author.Needs.{needs}
-use mathlib.Core.Path.{_≡_, refl, sym, ap, _∙_}
+use mathlib.Core.Path.{ap, _∙_}
 use native.Mathlib.Omega.{arith}
 use denote.Ref.{now}
 use Rattle.snapshot.specs.Layouts.{snapOf}
@@ -16,15 +16,13 @@ question-fault-requires : tie.Need-question-fault-requires
 question-fault-requires c κs =
     let s = c .before .before in few-words (now (s .args .words)) (now (s .args .area)) (s .args .l) (s .pre .0)
 
-refused-requires : tie.Need-refused-requires
-refused-requires c κs = search needs
-
 returns : tie.Need-returns
 returns c =
     let t = c .before in
     let f = t .before in
     let s = f .before .before .before in
-    any-fault (snapOf (now (s .args .words)) (now (s .args .area)) (s .args .l)) (s .args .q) (f .question-fault .ensures (now (s .args .area))) (t .if1 .taken) (c .refused .ensures)
+    any-fault (snapOf (now (s .args .words)) (now (s .args .area)) (s .args .l)) (s .args .q) (f .question-fault .ensures (now (s .args .area)))
+    (t .if1 .taken) (c .refused .ensures)
 
 item-of-requires : tie.Need-item-of-requires
 item-of-requires c κs =
@@ -51,12 +49,6 @@ route-of-requires c κs =
     let inside = asked-known W A (s .args .l) (s .args .q) (f .question-fault .ensures A) (e .if1 .left) in
     (stays-reads W A (h .shortest .last .1 .0) (s .args .l) (s .pre .0) (h .shortest .ensures .1), inside)
 
-reported-requires : tie.Need-reported-requires
-reported-requires c κs = search needs
-
-same-length : tie.Need-same-length
-same-length c = search needs
-
 returns-2 : tie.Need-returns-2
 returns-2 c =
     let u = c .before in
@@ -77,14 +69,5 @@ returns-2 c =
 
 pub any-from-spec : {M : Type 1} → statement M
 any-from-spec =
-    tie.close
-    (tie.spec
-    question-fault-requires
-    refused-requires
-    returns
-    item-of-requires
-    shortest-requires
-    route-of-requires
-    reported-requires
-    same-length
-    returns-2)
+    tie.close (tie.spec question-fault-requires (λ c κs. search needs) returns item-of-requires shortest-requires
+    route-of-requires (λ c κs. search needs) (λ c. search needs) returns-2)

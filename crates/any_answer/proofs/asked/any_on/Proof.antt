@@ -1,38 +1,18 @@
 use borrow.Author.Needs.{needs}
-use mathlib.Core.Path.{_≡_, refl, sym, ap, _∙_}
-use native.Mathlib.Omega.{arith}
 use denote.Ref.{now}
-use Rattle.snapshot.specs.Layouts.{snapOf}
 use Rattle.snapshot.specs.Limits.{areaLimit}
 use Rattle.checked.proofs.Laws.{fault-at, reads-of}
 use Rattle.any_answer.proofs.Laws.{on-fault, on-refused, on-accepted}
 use Rattle.any_answer.proofs.asked.any_on.Statement.{statement}
 use Rattle.any_answer.proofs.asked.any_on.Tie as tie
 
-call-fault-requires : tie.Need-call-fault-requires
-call-fault-requires c κs = search needs
-
-refused-requires : tie.Need-refused-requires
-refused-requires c κs = search needs
-
 returns : tie.Need-returns
 returns c =
     let t = c .before in
     let f = t .before in
     let s = f .before .before .before in
-    on-fault (now (s .args .words)) areaLimit (s .args .q) (fault-at _ _ _ _ (s .pre .1) (f .call-fault .ensures)) (t .if1 .taken) (c .refused .ensures)
-
-enum-known-c : tie.Need-enum-known-c
-enum-known-c c = search needs
-
-cast-refused : tie.Need-cast-refused
-cast-refused c = search needs
-
-refused-requires-2 : tie.Need-refused-requires-2
-refused-requires-2 c κs = search needs
-
-enum-known-c-2 : tie.Need-enum-known-c-2
-enum-known-c-2 c = search needs
+    on-fault (now (s .args .words)) areaLimit (s .args .q) (fault-at _ _ _ _ (s .pre .1) (f .call-fault .ensures)) (t .if1 .taken)
+    (c .refused .ensures)
 
 any-from-requires : tie.Need-any-from-requires
 any-from-requires c κs =
@@ -46,11 +26,9 @@ returns-2 c =
     let e = k .before .before in
     let f = e .before in
     let s = f .before .before .before in
-    on-refused (now (s .args .words)) areaLimit (s .args .q) (now (s .args .area)) (s .args .c) (s .pre .0) (fault-at _ _ _ _ (s .pre .1) (f .call-fault .ensures))
+    on-refused (now (s .args .words)) areaLimit (s .args .q) (now (s .args .area)) (s .args .c) (s .pre .0)
+    (fault-at _ _ _ _ (s .pre .1) (f .call-fault .ensures))
     (e .if1 .left) _ _ (k .c .given .1) (c .refused2 .ensures)
-
-same-length : tie.Need-same-length
-same-length c = search needs
 
 returns-3 : tie.Need-returns-3
 returns-3 c =
@@ -59,21 +37,11 @@ returns-3 c =
     let e = k .before .before in
     let f = e .before in
     let s = f .before .before .before in
-    on-accepted (now (s .args .words)) areaLimit (s .args .q) (now (s .args .area)) (s .args .c) (s .pre .0) (fault-at _ _ _ _ (s .pre .1) (f .call-fault .ensures))
+    on-accepted (now (s .args .words)) areaLimit (s .args .q) (now (s .args .area)) (s .args .c) (s .pre .0)
+    (fault-at _ _ _ _ (s .pre .1) (f .call-fault .ensures))
     (e .if1 .left) _ (k .c2 .given .1) (a .any-from .ensures)
 
 pub any-on-spec : {M : Type 1} → statement M
 any-on-spec =
-    tie.close
-    (tie.spec
-    call-fault-requires
-    refused-requires
-    returns
-    enum-known-c
-    cast-refused
-    refused-requires-2
-    enum-known-c-2
-    any-from-requires
-    returns-2
-    same-length
-    returns-3)
+    tie.close (tie.spec (λ c κs. search needs) (λ c κs. search needs) returns (λ c. search needs) (λ c. search needs)
+    (λ c κs. search needs) (λ c. search needs) any-from-requires returns-2 (λ c. search needs) returns-3)

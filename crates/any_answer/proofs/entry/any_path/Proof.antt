@@ -1,24 +1,17 @@
 use borrow.Author.Needs.{needs}
-use mathlib.Core.Path.{_≡_, refl, sym, ap, _∙_}
+use mathlib.Core.Path.{sym}
 use native.Mathlib.Omega.{arith}
 use denote.Ref.{now}
-use Rattle.snapshot.specs.Layouts.{snapOf}
 use lib.Seq.{length-take-le}
 use Rattle.snapshot.specs.Limits.{areaLimit}
 use Rattle.any_answer.proofs.Laws.{answers-small, answers-large}
 use Rattle.any_answer.proofs.entry.any_path.Statement.{statement}
 use Rattle.any_answer.proofs.entry.any_path.Tie as tie
 
-refused-requires : tie.Need-refused-requires
-refused-requires c κs = search needs
-
 returns : tie.Need-returns
 returns c =
     let s = c .before .before .before .before .args in
     answers-small (now (s .words)) (now (s .area)) (s .ns) (s .definition) (s .from) (c .before .if1 .taken) (c .refused .ensures)
-
-slice-relend-prefix-any-within : tie.Need-slice-relend-prefix-any-within
-slice-relend-prefix-any-within c = search needs
 
 slice-aggregate-any-within : tie.Need-slice-aggregate-any-within
 slice-aggregate-any-within c =
@@ -30,24 +23,15 @@ any-within-requires c κs =
     let e = c .before in
     length-take-le areaLimit (now (e .before .before .before .args .area)) (e .if1 .left)
 
-same-length : tie.Need-same-length
-same-length c = search needs
-
 returns-2 : tie.Need-returns-2
 returns-2 c =
     let f = c .before .before in
     let e = f .before .before in
     let s = e .before .before .before .args in
-    answers-large (now (s .words)) (now (s .area)) (s .ns) (s .definition) (s .from) (f .any-within .last .1 .0) (e .if1 .left) (f .any-within .ensures .0) (f .any-within .ensures .1)
+    answers-large (now (s .words)) (now (s .area)) (s .ns) (s .definition) (s .from) (f .any-within .last .1 .0) (e .if1 .left)
+    (f .any-within .ensures .0) (f .any-within .ensures .1)
 
 pub any-path-spec : {M : Type 1} → statement M
 any-path-spec =
-    tie.close
-    (tie.spec
-    refused-requires
-    returns
-    slice-relend-prefix-any-within
-    slice-aggregate-any-within
-    any-within-requires
-    same-length
-    returns-2)
+    tie.close (tie.spec (λ c κs. search needs) returns (λ c. search needs) slice-aggregate-any-within
+    any-within-requires (λ c. search needs) returns-2)

@@ -1,27 +1,16 @@
 use borrow.Author.Needs.{needs}
-use mathlib.Core.Path.{_≡_, refl, sym, ap, _∙_}
-use native.Mathlib.Omega.{arith}
+use mathlib.Core.Path.{ap, _∙_}
 use denote.Ref.{now}
-use Rattle.snapshot.specs.Layouts.{snapOf}
 use Rattle.checked.proofs.Laws.{checks-judged}
 use Rattle.answer.specs.Answers.{zeros}
 use Rattle.any_answer.proofs.entry.any_within.Statement.{statement}
 use Rattle.any_answer.proofs.entry.any_within.Tie as tie
-
-check-requires : tie.Need-check-requires
-check-requires c κs = search needs
 
 any-on-requires : tie.Need-any-on-requires
 any-on-requires c κs =
     let k = c .before .before .before in
     let s = k .before .before .before .before in
     (checks-judged (now (s .args .words)) (now (s .args .area)) _ _ (s .pre) (k .check .ensures), k .check .kept .1 .0 ∙ s .pre)
-
-clear-requires : tie.Need-clear-requires
-clear-requires c κs = search needs
-
-same-length : tie.Need-same-length
-same-length c = search needs
 
 returns : tie.Need-returns
 returns c =
@@ -33,10 +22,4 @@ returns c =
 
 pub any-within-spec : {M : Type 1} → statement M
 any-within-spec =
-    tie.close
-    (tie.spec
-    check-requires
-    any-on-requires
-    clear-requires
-    same-length
-    returns)
+    tie.close (tie.spec (λ c κs. search needs) any-on-requires (λ c κs. search needs) (λ c. search needs) returns)

@@ -1,20 +1,11 @@
 use borrow.Author.Needs.{needs}
-use mathlib.Core.Path.{_≡_, refl, sym, ap, _∙_}
 use native.Mathlib.Omega.{arith}
-use denote.Ref.{now}
-use Rattle.snapshot.specs.Layouts.{snapOf}
 use Rattle.any_answer.proofs.Laws.{told-nowhere, told-longer, told-found}
 use Rattle.any_answer.proofs.report.reported.Statement.{statement}
 use Rattle.any_answer.proofs.report.reported.Tie as tie
 
-without-requires : tie.Need-without-requires
-without-requires c κs = search needs
-
 returns : tie.Need-returns
 returns c = λ s from ns o e er. told-nowhere s from ns o e (c .before .if1 .taken) (c .without .ensures)
-
-without-requires-2 : tie.Need-without-requires-2
-without-requires-2 c κs = search needs
 
 returns-2 : tie.Need-returns-2
 returns-2 c =
@@ -28,10 +19,4 @@ returns-3 c =
 
 pub reported-spec : {M : Type 1} → statement M
 reported-spec =
-    tie.close
-    (tie.spec
-    without-requires
-    returns
-    without-requires-2
-    returns-2
-    returns-3)
+    tie.close (tie.spec (λ c κs. search needs) returns (λ c κs. search needs) returns-2 returns-3)

@@ -1,8 +1,4 @@
-use borrow.Author.Needs.{needs}
-use mathlib.Core.Path.{_≡_, refl, sym, ap, _∙_}
-use native.Mathlib.Omega.{arith}
-use denote.Ref.{now}
-use Rattle.snapshot.specs.Layouts.{snapOf}
+use mathlib.Core.Path.{refl}
 use Rattle.any_answer.specs.Any.{anyWithout}
 use Rattle.any_answer.proofs.report.without.Statement.{statement}
 use Rattle.any_answer.proofs.report.without.Tie as tie
@@ -13,6 +9,4 @@ returns c = refl
 
 pub without-spec : {M : Type 1} → statement M
 without-spec =
-    tie.close
-    (tie.spec
-    returns)
+    tie.close (tie.spec returns)

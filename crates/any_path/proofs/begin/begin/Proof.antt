@@ -6,12 +6,6 @@ use Rattle.any_path.proofs.Begins.{run-empty, root-below, begin-done}
 use Rattle.any_path.proofs.begin.begin.Statement.{statement}
 use Rattle.any_path.proofs.begin.begin.Tie as tie
 
-module-around-requires : tie.Need-module-around-requires
-module-around-requires c κs = search needs
-
-crate-root-requires : tie.Need-crate-root-requires
-crate-root-requires c κs = search needs
-
 offer-requires : tie.Need-offer-requires
 offer-requires c κs =
     let a = c .before .before .before in
@@ -35,9 +29,6 @@ offer-supers-requires c κs =
     let two = grown-then (as-run (o .offer .ensures)) (as-run (t .offer2 .ensures)) in
     (stays-reads (now (s .args .words)) (now (s .args .area)) _ (s .args .l) (s .pre .0) (two .stays), s .pre .1, t .offer2 .ensures .run)
 
-same-length : tie.Need-same-length
-same-length c = search needs
-
 returns : tie.Need-returns
 returns c =
     let u = c .before .before in
@@ -51,12 +42,5 @@ returns c =
 
 pub begin-spec : {M : Type 1} → statement M
 begin-spec =
-    tie.close
-    (tie.spec
-    module-around-requires
-    crate-root-requires
-    offer-requires
-    offer-requires-2
-    offer-supers-requires
-    same-length
-    returns)
+    tie.close (tie.spec (λ c κs. search needs) (λ c κs. search needs) offer-requires offer-requires-2
+    offer-supers-requires (λ c. search needs) returns)

@@ -18,9 +18,6 @@ Inv-loop words area₀ l n m₀ count₀ k₀ area m count k =
 abbrev μ-loop : tie.MeasureT-loop
 μ-loop words area₀ l n m₀ count₀ k₀ area m count k = m .0
 
-module-around-requires : tie.Need-module-around-requires Inv-loop μ-loop
-module-around-requires c κs = search needs
-
 loop-holds : tie.Need-loop-holds Inv-loop μ-loop
 loop-holds c =
     let s = c .before .before .before .before in
@@ -34,12 +31,6 @@ parent-requires c κs =
     let s = b .before .before .before .before in
     let inv = k .loop .inv (s .args .from .0) (b .module-around .ensures .0) (s .pre .1) in
     (stays-reads (now (s .args .words)) (now (s .args .area)) (k .loop .area) (s .args .l) (s .pre .0) (inv .grown .stays), inv .known)
-
-enum-known-p : tie.Need-enum-known-p Inv-loop μ-loop
-enum-known-p c = search needs
-
-enum-told : tie.Need-enum-told Inv-loop μ-loop
-enum-told c = search needs
 
 same-length : tie.Need-same-length Inv-loop μ-loop
 same-length c =
@@ -136,20 +127,5 @@ loop-again c =
 
 pub offer-supers-spec : {M : Type 1} → statement M
 offer-supers-spec =
-    tie.close
-    (tie.spec
-    Inv-loop
-    μ-loop
-    module-around-requires
-    loop-holds
-    parent-requires
-    enum-known-p
-    enum-told
-    same-length
-    returns
-    module-around-requires-2
-    add-k
-    add-t18
-    offer-requires
-    loop-less
-    loop-again)
+    tie.close (tie.spec Inv-loop μ-loop (λ c κs. search needs) loop-holds parent-requires (λ c. search needs)
+    (λ c. search needs) same-length returns module-around-requires-2 add-k add-t18 offer-requires loop-less loop-again)

@@ -46,12 +46,6 @@ offer-entry-requires c κs =
       omega (arith, s .pre .3, g .more),
     )
 
-add-k : tie.Need-add-k Inv-loop μ-loop
-add-k c = search needs
-
-loop-less : tie.Need-loop-less Inv-loop μ-loop
-loop-less c = search needs
-
 loop-again : tie.Need-loop-again Inv-loop μ-loop
 loop-again c =
     let m = c .before .before in
@@ -73,17 +67,5 @@ returns c =
 
 pub expand-spec : {M : Type 1} → statement M
 expand-spec =
-    tie.close
-    (tie.spec
-    Inv-loop
-    μ-loop
-    scope-base-requires
-    loop-holds
-    mul-offer-entry
-    add-offer-entry
-    offer-entry-requires
-    add-k
-    loop-less
-    loop-again
-    same-length
-    returns)
+    tie.close (tie.spec Inv-loop μ-loop scope-base-requires loop-holds mul-offer-entry add-offer-entry
+    offer-entry-requires (λ c. search needs) (λ c. search needs) loop-again same-length returns)

@@ -13,9 +13,6 @@ use Rattle.any_path.proofs.expand.leads_on.Tie as tie
 is-module-entry-requires : tie.Need-is-module-entry-requires
 is-module-entry-requires c κs = few-words _ _ _ (c .before .before .pre .0)
 
-seen-requires : tie.Need-seen-requires
-seen-requires c κs = search needs
-
 returns : tie.Need-returns
 returns c =
     let e = c .before .before in
@@ -34,4 +31,4 @@ returns-2 c =
     and-no (isModuleEntry S (s .args .m .0) x) (seen S (s .args .from .0) x) (sym (e .is-module-entry .ensures (now (s .args .area))) ∙ c .if1 .left)
 
 pub leads-on-spec : {M : Type 1} → statement M
-leads-on-spec = tie.close (tie.spec is-module-entry-requires seen-requires returns returns-2)
+leads-on-spec = tie.close (tie.spec is-module-entry-requires (λ c κs. search needs) returns returns-2)

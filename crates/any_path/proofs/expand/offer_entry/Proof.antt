@@ -20,21 +20,6 @@ add-word c =
     let s = c .before .before .before in
     record { fits = omega (arith, run-small _ _ _ (s .pre .3) (s .pre .0 .tables .limited .modules), s .pre .4) }
 
-word-requires : tie.Need-word-requires
-word-requires c κs = search needs
-
-leads-on-requires : tie.Need-leads-on-requires
-leads-on-requires c κs = search needs
-
-scope-definition-requires : tie.Need-scope-definition-requires
-scope-definition-requires c κs = search needs
-
-first-of-requires : tie.Need-first-of-requires
-first-of-requires c κs = search needs
-
-scope-name-requires : tie.Need-scope-name-requires
-scope-name-requires c κs = search needs
-
 add-t21 : tie.Need-add-t21
 add-t21 c =
     let s = c .before .before .before .before .before .before .before .before .before .before in
@@ -62,9 +47,6 @@ offer-requires c κs =
       omega (arith, s .pre .2 .place),
     )
 
-same-length : tie.Need-same-length
-same-length c = search needs
-
 returns : tie.Need-returns
 returns c =
     let p = c .before .before in
@@ -80,9 +62,6 @@ returns c =
     entry-offered W A (s .args .l) (s .pre .0) (s .args .from .0) (s .args .i) (s .args .n) (s .args .h) _ (w .word .ensures)
     (sym (o .leads-on .ensures) ∙ t .if1 .taken) target refl (x .scope-name .ensures) (p .offer .ensures)
 
-same-length-2 : tie.Need-same-length-2
-same-length-2 c = search needs
-
 returns-2 : tie.Need-returns-2
 returns-2 c =
     let o = c .before in
@@ -93,18 +72,6 @@ returns-2 c =
 
 pub offer-entry-spec : {M : Type 1} → statement M
 offer-entry-spec =
-    tie.close
-    (tie.spec
-    mul-word
-    add-word
-    word-requires
-    leads-on-requires
-    scope-definition-requires
-    first-of-requires
-    scope-name-requires
-    add-t21
-    offer-requires
-    same-length
-    returns
-    same-length-2
+    tie.close (tie.spec mul-word add-word (λ c κs. search needs) (λ c κs. search needs) (λ c κs. search needs)
+    (λ c κs. search needs) (λ c κs. search needs) add-t21 offer-requires (λ c. search needs) returns (λ c. search needs)
     returns-2)

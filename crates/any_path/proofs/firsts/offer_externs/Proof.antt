@@ -1,5 +1,5 @@
 use borrow.Author.Needs.{needs}
-use mathlib.Core.Path.{_≡_, refl, sym, ap, _∙_}
+use mathlib.Core.Path.{refl}
 use Prim.Native.Nat.{_+_, _-_, _*_}
 use lib.Dec.{eqb}
 use native.Mathlib.Omega.{arith}
@@ -23,9 +23,6 @@ Inv-loop words area₀ l from n c base externs count₀ k₀ area count k =
 
 abbrev μ-loop : tie.MeasureT-loop
 μ-loop words area₀ l from n c base externs count₀ k₀ area count k = externs - k
-
-krate-requires : tie.Need-krate-requires Inv-loop μ-loop
-krate-requires c κs = search needs
 
 extern-base-requires : tie.Need-extern-base-requires Inv-loop μ-loop
 extern-base-requires c κs = let s = c .before .before .before .before in few-words _ _ _ (s .pre .0)
@@ -68,12 +65,6 @@ offer-owned-requires c κs =
       g .run,
     )
 
-add-k : tie.Need-add-k Inv-loop μ-loop
-add-k c = search needs
-
-loop-less : tie.Need-loop-less Inv-loop μ-loop
-loop-less c = search needs
-
 loop-again : tie.Need-loop-again Inv-loop μ-loop
 loop-again c =
     let m = c .before .before in
@@ -110,18 +101,5 @@ returns c =
 
 pub offer-externs-spec : {M : Type 1} → statement M
 offer-externs-spec =
-    tie.close
-    (tie.spec
-    Inv-loop
-    μ-loop
-    krate-requires
-    extern-base-requires
-    loop-holds
-    mul-offer-owned
-    add-offer-owned
-    offer-owned-requires
-    add-k
-    loop-less
-    loop-again
-    same-length
-    returns)
+    tie.close (tie.spec Inv-loop μ-loop (λ c κs. search needs) extern-base-requires loop-holds mul-offer-owned
+    add-offer-owned offer-owned-requires (λ c. search needs) (λ c. search needs) loop-again same-length returns)

@@ -8,20 +8,11 @@ use Rattle.any_path.proofs.Plains.{name-tried, name-passed}
 use Rattle.any_path.proofs.firsts.offer_lead.Statement.{statement}
 use Rattle.any_path.proofs.firsts.offer_lead.Tie as tie
 
-leads-on-requires : tie.Need-leads-on-requires
-leads-on-requires c κs = search needs
-
-scope-name-requires : tie.Need-scope-name-requires
-scope-name-requires c κs = search needs
-
 offer-plain-requires : tie.Need-offer-plain-requires
 offer-plain-requires c κs =
     let a = c .before .before in
     let s = a .before .before .before .before .before in
     (s .pre .0, s .pre .1, s .pre .3, omega (arith, s .pre .2 .name, c .scope-name .ensures))
-
-same-length : tie.Need-same-length
-same-length c = search needs
 
 returns : tie.Need-returns
 returns c =
@@ -37,9 +28,6 @@ returns c =
     let S = snapOf W A L in
     name-tried S from (scopeAt W (s .args .h) .name) (sym (e .leads-on .ensures) ∙ t .if1 .taken) (x .scope-name .ensures) (o .offer-plain .ensures)
 
-same-length-2 : tie.Need-same-length-2
-same-length-2 c = search needs
-
 returns-2 : tie.Need-returns-2
 returns-2 c =
     let e = c .before in
@@ -53,12 +41,5 @@ returns-2 c =
 
 pub offer-lead-spec : {M : Type 1} → statement M
 offer-lead-spec =
-    tie.close
-    (tie.spec
-    leads-on-requires
-    scope-name-requires
-    offer-plain-requires
-    same-length
-    returns
-    same-length-2
-    returns-2)
+    tie.close (tie.spec (λ c κs. search needs) (λ c κs. search needs) offer-plain-requires (λ c. search needs) returns
+    (λ c. search needs) returns-2)

@@ -1,5 +1,5 @@
 use borrow.Author.Needs.{needs}
-use mathlib.Core.Path.{sym, ap, _∙_}
+use mathlib.Core.Path.{sym, _∙_}
 use native.Mathlib.Omega.{arith}
 use denote.Ref.{now}
 use borrow.Author.Tests.{eq-eqb, ne-eqb}
@@ -8,9 +8,6 @@ use Rattle.snapshot.specs.Records.{externAt}
 use Rattle.any_path.proofs.Plains.{name-tried, name-passed}
 use Rattle.any_path.proofs.firsts.offer_owned.Statement.{statement}
 use Rattle.any_path.proofs.firsts.offer_owned.Tie as tie
-
-extern-owner-requires : tie.Need-extern-owner-requires
-extern-owner-requires c κs = search needs
 
 returns : tie.Need-returns
 returns c =
@@ -23,16 +20,10 @@ returns c =
     let S = snapOf W A L in
     name-passed S from (externAt W (s .args .h) .name) (ne-eqb _ _ (λ e. c .if1 .taken (o .extern-owner .ensures ∙ e))) (s .pre .3)
 
-extern-name-requires : tie.Need-extern-name-requires
-extern-name-requires c κs = search needs
-
 offer-plain-requires : tie.Need-offer-plain-requires
 offer-plain-requires c κs =
     let s = c .before .before .before .before .before .before .before .before in
     (s .pre .0, s .pre .1, s .pre .3, omega (arith, s .pre .2 .name, c .extern-name .ensures))
-
-same-length : tie.Need-same-length
-same-length c = search needs
 
 returns-2 : tie.Need-returns-2
 returns-2 c =
@@ -51,11 +42,5 @@ returns-2 c =
 
 pub offer-owned-spec : {M : Type 1} → statement M
 offer-owned-spec =
-    tie.close
-    (tie.spec
-    extern-owner-requires
-    returns
-    extern-name-requires
-    offer-plain-requires
-    same-length
+    tie.close (tie.spec (λ c κs. search needs) returns (λ c κs. search needs) offer-plain-requires (λ c. search needs)
     returns-2)

@@ -9,21 +9,6 @@ use Rattle.any_path.proofs.Plains.{plain-known, plain-place, plain-offe
 use Rattle.any_path.proofs.firsts.offer_plain.Statement.{statement}
 use Rattle.any_path.proofs.firsts.offer_plain.Tie as tie
 
-read-plain-requires : tie.Need-read-plain-requires
-read-plain-requires c κs = search needs
-
-module-read-requires : tie.Need-module-read-requires
-module-read-requires c κs = search needs
-
-enum-known-m : tie.Need-enum-known-m
-enum-known-m c = search needs
-
-enum-told : tie.Need-enum-told
-enum-told c = search needs
-
-same-length : tie.Need-same-length
-same-length c = search needs
-
 returns : tie.Need-returns
 returns c =
     let m = c .before .before in
@@ -36,9 +21,6 @@ returns c =
     let S = snapOf W A L in
     plain-passed S from (s .args .name .0) (s .pre .2)
     (ap moduleIn (sym (p .read-plain .ensures)) ∙ is-none _ (m .module-read .ensures A) (c .enum-told .given .1))
-
-place-read-requires : tie.Need-place-read-requires
-place-read-requires c κs = search needs
 
 offer-requires : tie.Need-offer-requires
 offer-requires c κs =
@@ -58,9 +40,6 @@ offer-requires c κs =
     (q .place-read .ensures S W) in
     (s .pre .2, limits .modules, known, omega arith, omega (arith, s .pre .3, limits .names), omega (arith, place))
 
-same-length-2 : tie.Need-same-length-2
-same-length-2 c = search needs
-
 returns-2 : tie.Need-returns-2
 returns-2 c =
     let o = c .before .before in
@@ -78,15 +57,5 @@ returns-2 c =
 
 pub offer-plain-spec : {M : Type 1} → statement M
 offer-plain-spec =
-    tie.close
-    (tie.spec
-    read-plain-requires
-    module-read-requires
-    enum-known-m
-    enum-told
-    same-length
-    returns
-    place-read-requires
-    offer-requires
-    same-length-2
-    returns-2)
+    tie.close (tie.spec (λ c κs. search needs) (λ c κs. search needs) (λ c. search needs) (λ c. search needs)
+    (λ c. search needs) returns (λ c κs. search needs) offer-requires (λ c. search needs) returns-2)

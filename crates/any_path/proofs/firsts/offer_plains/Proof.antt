@@ -5,9 +5,6 @@ use Rattle.any_path.proofs.Plains.{plains-done}
 use Rattle.any_path.proofs.firsts.offer_plains.Statement.{statement}
 use Rattle.any_path.proofs.firsts.offer_plains.Tie as tie
 
-offer-scopes-requires : tie.Need-offer-scopes-requires
-offer-scopes-requires c κs = search needs
-
 offer-externs-requires : tie.Need-offer-externs-requires
 offer-externs-requires c κs =
     let o = c .before .before .before in
@@ -29,9 +26,6 @@ offer-prelude-requires c κs =
     let g = x .offer-externs .ensures in
     (stays-reads W A _ L (s .pre .0) (grown-then (o .offer-scopes .ensures) g .stays), s .pre .1, g .run)
 
-same-length : tie.Need-same-length
-same-length c = search needs
-
 returns : tie.Need-returns
 returns c =
     let p = c .before .before in
@@ -46,10 +40,5 @@ returns c =
 
 pub offer-plains-spec : {M : Type 1} → statement M
 offer-plains-spec =
-    tie.close
-    (tie.spec
-    offer-scopes-requires
-    offer-externs-requires
-    offer-prelude-requires
-    same-length
+    tie.close (tie.spec (λ c κs. search needs) offer-externs-requires offer-prelude-requires (λ c. search needs)
     returns)

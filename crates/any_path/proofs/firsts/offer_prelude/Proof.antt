@@ -9,21 +9,6 @@ use Rattle.any_path.proofs.Plains.{prelude-passed, prelude-offered}
 use Rattle.any_path.proofs.firsts.offer_prelude.Statement.{statement}
 use Rattle.any_path.proofs.firsts.offer_prelude.Tie as tie
 
-map-requires : tie.Need-map-requires
-map-requires c κs = search needs
-
-prelude-of-requires : tie.Need-prelude-of-requires
-prelude-of-requires c κs = search needs
-
-enum-known-p : tie.Need-enum-known-p
-enum-known-p c = search needs
-
-enum-told : tie.Need-enum-told
-enum-told c = search needs
-
-same-length : tie.Need-same-length
-same-length c = search needs
-
 returns : tie.Need-returns
 returns c =
     let g = c .before .before in
@@ -35,15 +20,6 @@ returns c =
     let S = snapOf W A L in
     prelude-passed W A L (s .pre .0) from (s .args .n) (s .pre .2)
     (ap (preludeOf S) (sym (g .before .map .ensures)) ∙ (sym (g .prelude-of .ensures A) ∙ ap (entryOf preludeAt W) (c .enum-told .given .1)))
-
-prelude-target-requires : tie.Need-prelude-target-requires
-prelude-target-requires c κs = search needs
-
-offer-scope-requires : tie.Need-offer-scope-requires
-offer-scope-requires c κs = search needs
-
-same-length-2 : tie.Need-same-length-2
-same-length-2 c = search needs
 
 returns-2 : tie.Need-returns-2
 returns-2 c =
@@ -63,15 +39,5 @@ returns-2 c =
 
 pub offer-prelude-spec : {M : Type 1} → statement M
 offer-prelude-spec =
-    tie.close
-    (tie.spec
-    map-requires
-    prelude-of-requires
-    enum-known-p
-    enum-told
-    same-length
-    returns
-    prelude-target-requires
-    offer-scope-requires
-    same-length-2
-    returns-2)
+    tie.close (tie.spec (λ c κs. search needs) (λ c κs. search needs) (λ c. search needs) (λ c. search needs)
+    (λ c. search needs) returns (λ c κs. search needs) (λ c κs. search needs) (λ c. search needs) returns-2)

@@ -1,5 +1,5 @@
 use borrow.Author.Needs.{needs}
-use mathlib.Core.Path.{_≡_, refl, sym, ap, _∙_}
+use mathlib.Core.Path.{refl}
 use Prim.Native.Nat.{_+_, _-_, _*_}
 use native.Mathlib.Omega.{arith}
 use denote.Ref.{now}
@@ -10,7 +10,6 @@ use Rattle.hir_def.specs.Items.{types}
 use Rattle.hir_def.proofs.Fits.{few-words, scope-fits}
 use Rattle.nameable.specs.Paths.{isSeenIn, asNamed, entriesIn}
 use Rattle.any_path.proofs.Taken.{stays-snap, stays-reads}
-use Rattle.any_path.proofs.Alone.{lead-test}
 use Rattle.any_path.proofs.Plains.{Trying, trying-start, trying-next, trying-done, lead-here, name-here}
 use Rattle.any_path.proofs.firsts.offer_scope.Statement.{statement}
 use Rattle.any_path.proofs.firsts.offer_scope.Tie as tie
@@ -63,12 +62,6 @@ offer-lead-requires c κs =
       g .run,
     )
 
-add-k : tie.Need-add-k Inv-loop μ-loop
-add-k c = search needs
-
-loop-less : tie.Need-loop-less Inv-loop μ-loop
-loop-less c = search needs
-
 loop-again : tie.Need-loop-again Inv-loop μ-loop
 loop-again c =
     let m = c .before .before in
@@ -105,17 +98,5 @@ returns c =
 
 pub offer-scope-spec : {M : Type 1} → statement M
 offer-scope-spec =
-    tie.close
-    (tie.spec
-    Inv-loop
-    μ-loop
-    scope-base-requires
-    loop-holds
-    mul-offer-lead
-    add-offer-lead
-    offer-lead-requires
-    add-k
-    loop-less
-    loop-again
-    same-length
-    returns)
+    tie.close (tie.spec Inv-loop μ-loop scope-base-requires loop-holds mul-offer-lead add-offer-lead offer-lead-requires
+    (λ c. search needs) (λ c. search needs) loop-again same-length returns)

@@ -1,6 +1,5 @@
 use borrow.Author.Needs.{needs}
-use mathlib.Core.Path.{_≡_, _∙_}
-use native.Mathlib.Omega.{arith}
+use mathlib.Core.Path.{_∙_}
 use denote.Ref.{now}
 use Rattle.module_tree.proofs.Climbs.{is-some, is-none}
 use Rattle.any_path.proofs.Taken.{stays-reads}
@@ -44,12 +43,6 @@ block-step-requires c κs =
     let L = s .args .l in
     let from = s .args .from .0 in
     (stays-reads W A _ L (s .pre .0) (around-stays W A L (s .pre .0) from (s .args .n) (k .loop .inv) (o .offer-scope .ensures)), k .loop .inv .known)
-
-enum-known-b : tie.Need-enum-known-b Inv-loop μ-loop
-enum-known-b c = search needs
-
-enum-told : tie.Need-enum-told Inv-loop μ-loop
-enum-told c = search needs
 
 same-length : tie.Need-same-length Inv-loop μ-loop
 same-length c =
@@ -98,16 +91,5 @@ loop-again c =
 
 pub offer-scopes-spec : {M : Type 1} → statement M
 offer-scopes-spec =
-    tie.close
-    (tie.spec
-    Inv-loop
-    μ-loop
-    loop-holds
-    offer-scope-requires
-    block-step-requires
-    enum-known-b
-    enum-told
-    same-length
-    returns
-    loop-less
-    loop-again)
+    tie.close (tie.spec Inv-loop μ-loop loop-holds offer-scope-requires block-step-requires (λ c. search needs)
+    (λ c. search needs) same-length returns loop-less loop-again)

@@ -1,5 +1,5 @@
 use borrow.Author.Needs.{needs}
-use mathlib.Core.Path.{_≡_, sym, ap}
+use mathlib.Core.Path.{sym, ap}
 use mathlib.Core.Option.{Option·map}
 use Rattle.snapshot.specs.Records.{scopeAt, externAt}
 use Rattle.hir_def.specs.declared.Entry.{Entry}
@@ -7,12 +7,6 @@ use Rattle.hir_def.specs.Entries.{entryOf}
 use Rattle.nameable.specs.Paths.{asNamed, externNamed, placeIn}
 use Rattle.any_path.proofs.places.entry_place.Statement.{statement}
 use Rattle.any_path.proofs.places.entry_place.Tie as tie
-
-enum-known-e : tie.Need-enum-known-e
-enum-known-e c = search needs
-
-enum-told : tie.Need-enum-told
-enum-told c = search needs
 
 returns : tie.Need-returns
 unfolding placeIn
@@ -34,9 +28,4 @@ returns-2 c =
 
 pub entry-place-spec : {M : Type 1} → statement M
 entry-place-spec =
-    tie.close
-    (tie.spec
-    enum-known-e
-    enum-told
-    returns
-    returns-2)
+    tie.close (tie.spec (λ c. search needs) (λ c. search needs) returns returns-2)

@@ -1,5 +1,5 @@
 use borrow.Author.Needs.{needs}
-use mathlib.Core.Path.{_≡_, sym, ap, _∙_}
+use mathlib.Core.Path.{ap, _∙_}
 use mathlib.Core.Option.{Option, Option·map}
 use native.Mathlib.Omega.{arith}
 use denote.Ref.{now}
@@ -26,16 +26,10 @@ add-word c =
     let s = c .before .before in
     record { fits = omega (arith, run-small _ _ _ (s .pre .2 .run) (s .pre .0 .tables .limited .modules), s .pre .2 .below) }
 
-word-requires : tie.Need-word-requires
-word-requires c κs = search needs
-
 add-word-2 : tie.Need-add-word-2
 add-word-2 c =
     let s = c .before .before .before in
     record { fits = omega (arith, run-small _ _ _ (s .pre .2 .run) (s .pre .0 .tables .limited .modules), s .pre .2 .below) }
-
-word-requires-2 : tie.Need-word-requires-2
-word-requires-2 c κs = search needs
 
 returns : tie.Need-returns
 returns c =
@@ -47,12 +41,6 @@ returns c =
     let L = s .args .l in
     let S = snapOf W A L in
     place-keyword S from (s .args .l .modules) A (s .args .i) (s .pre .2) (w .before .word .ensures) (w .word2 .ensures) (c .if1 .taken)
-
-externs-named-requires : tie.Need-externs-named-requires
-externs-named-requires c κs = search needs
-
-entry-place-requires : tie.Need-entry-place-requires
-entry-place-requires c κs = search needs
 
 returns-2 : tie.Need-returns-2
 returns-2 c =
@@ -68,12 +56,6 @@ returns-2 c =
     place-absolute S from (s .args .l .modules) A (s .args .i) (s .pre .2) (w .before .word .ensures) (w .word2 .ensures) (t .if2 .taken)
     (c .entry-place .ensures S W .1 ∙ ap (λ (o : Option Extern). placeIn (Option·map externNamed o)) (x .externs-named .ensures))
 
-read-plain-requires : tie.Need-read-plain-requires
-read-plain-requires c κs = search needs
-
-place-read-requires : tie.Need-place-read-requires
-place-read-requires c κs = search needs
-
 returns-3 : tie.Need-returns-3
 returns-3 c =
     let x = c .before in
@@ -87,9 +69,6 @@ returns-3 c =
     let S = snapOf W A L in
     place-plain S from (s .args .l .modules) A (s .args .i) (s .pre .2) (w .before .word .ensures) (w .word2 .ensures) (t .if3 .taken)
     (c .place-read .ensures S W ∙ ap placeIn (x .read-plain .ensures))
-
-sub-word : tie.Need-sub-word
-sub-word c = search needs
 
 mul-word : tie.Need-mul-word
 mul-word c =
@@ -123,15 +102,6 @@ add-word-3 c =
       );
     }
 
-word-requires-3 : tie.Need-word-requires-3
-word-requires-3 c κs = search needs
-
-entry-named-requires : tie.Need-entry-named-requires
-entry-named-requires c κs = search needs
-
-entry-place-requires-2 : tie.Need-entry-place-requires-2
-entry-place-requires-2 c κs = search needs
-
 returns-4 : tie.Need-returns-4
 returns-4 c =
     let x = c .before in
@@ -150,25 +120,7 @@ returns-4 c =
 
 pub row-place-spec : {M : Type 1} → statement M
 row-place-spec =
-    tie.close
-    (tie.spec
-    mul-at
-    add-at
-    add-word
-    word-requires
-    add-word-2
-    word-requires-2
-    returns
-    externs-named-requires
-    entry-place-requires
-    returns-2
-    read-plain-requires
-    place-read-requires
-    returns-3
-    sub-word
-    mul-word
-    add-word-3
-    word-requires-3
-    entry-named-requires
-    entry-place-requires-2
+    tie.close (tie.spec mul-at add-at add-word (λ c κs. search needs) add-word-2 (λ c κs. search needs) returns
+    (λ c κs. search needs) (λ c κs. search needs) returns-2 (λ c κs. search needs) (λ c κs. search needs) returns-3
+    (λ c. search needs) mul-word add-word-3 (λ c κs. search needs) (λ c κs. search needs) (λ c κs. search needs)
     returns-4)

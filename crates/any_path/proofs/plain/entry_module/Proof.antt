@@ -6,21 +6,6 @@ use Rattle.any_path.proofs.Plains.{mod-is, def-is, entry-item}
 use Rattle.any_path.proofs.plain.entry_module.Statement.{statement}
 use Rattle.any_path.proofs.plain.entry_module.Tie as tie
 
-scope-ns-requires : tie.Need-scope-ns-requires
-scope-ns-requires c κs = search needs
-
-scope-definition-requires : tie.Need-scope-definition-requires
-scope-definition-requires c κs = search needs
-
-item-of-requires : tie.Need-item-of-requires
-item-of-requires c κs = search needs
-
-enum-known-m : tie.Need-enum-known-m
-enum-known-m c = search needs
-
-enum-told : tie.Need-enum-told
-enum-told c = search needs
-
 returns : tie.Need-returns
 returns c =
     λ A.
@@ -45,12 +30,5 @@ returns-2 c =
 
 pub entry-module-spec : {M : Type 1} → statement M
 entry-module-spec =
-    tie.close
-    (tie.spec
-    scope-ns-requires
-    scope-definition-requires
-    item-of-requires
-    enum-known-m
-    enum-told
-    returns
-    returns-2)
+    tie.close (tie.spec (λ c κs. search needs) (λ c κs. search needs) (λ c κs. search needs) (λ c. search needs)
+    (λ c. search needs) returns returns-2)

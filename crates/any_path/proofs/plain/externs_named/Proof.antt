@@ -16,12 +16,6 @@ returns c =
     let S = snapOf W A L in
     externs-others S from (s .args .ns) (s .args .name .0) (c .if1 .taken)
 
-krate-requires : tie.Need-krate-requires
-krate-requires c κs = search needs
-
-extern-named-requires : tie.Need-extern-named-requires
-extern-named-requires c κs = search needs
-
 returns-2 : tie.Need-returns-2
 returns-2 c =
     let s = c .before .before .before .before .before in
@@ -35,9 +29,4 @@ returns-2 c =
 
 pub externs-named-spec : {M : Type 1} → statement M
 externs-named-spec =
-    tie.close
-    (tie.spec
-    returns
-    krate-requires
-    extern-named-requires
-    returns-2)
+    tie.close (tie.spec returns (λ c κs. search needs) (λ c κs. search needs) returns-2)

@@ -1,5 +1,5 @@
 use borrow.Author.Needs.{needs}
-use mathlib.Core.Path.{_≡_, sym, ap, _∙_}
+use mathlib.Core.Path.{sym, ap, _∙_}
 use denote.Ref.{now}
 use Rattle.snapshot.specs.Ids.{plusOne}
 use Rattle.snapshot.specs.Layouts.{snapOf}
@@ -8,21 +8,6 @@ use Rattle.any_path.specs.declared.plain.Reading.{Reading}
 use Rattle.any_path.proofs.Plains.{mod-no}
 use Rattle.any_path.proofs.plain.module_read.Statement.{statement}
 use Rattle.any_path.proofs.plain.module_read.Tie as tie
-
-enum-known-r : tie.Need-enum-known-r
-enum-known-r c = search needs
-
-entry-module-requires : tie.Need-entry-module-requires
-entry-module-requires c κs = search needs
-
-enum-known-r-2 : tie.Need-enum-known-r-2
-enum-known-r-2 c = search needs
-
-extern-target-requires : tie.Need-extern-target-requires
-extern-target-requires c κs = search needs
-
-enum-told : tie.Need-enum-told
-enum-told c = search needs
 
 returns : tie.Need-returns
 unfolding moduleIn recordRead
@@ -53,13 +38,5 @@ returns-3 c =
 
 pub module-read-spec : {M : Type 1} → statement M
 module-read-spec =
-    tie.close
-    (tie.spec
-    enum-known-r
-    entry-module-requires
-    enum-known-r-2
-    extern-target-requires
-    enum-told
-    returns
-    returns-2
-    returns-3)
+    tie.close (tie.spec (λ c. search needs) (λ c κs. search needs) (λ c. search needs) (λ c κs. search needs)
+    (λ c. search needs) returns returns-2 returns-3)

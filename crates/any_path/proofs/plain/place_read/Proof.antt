@@ -1,19 +1,10 @@
 use borrow.Author.Needs.{needs}
-use mathlib.Core.Path.{_≡_, sym, ap}
+use mathlib.Core.Path.{sym, ap}
 use Rattle.nameable.specs.Paths.{placeIn}
 use Rattle.any_path.specs.Plain.{recordRead}
 use Rattle.any_path.specs.declared.plain.Reading.{Reading}
 use Rattle.any_path.proofs.plain.place_read.Statement.{statement}
 use Rattle.any_path.proofs.plain.place_read.Tie as tie
-
-enum-known-r : tie.Need-enum-known-r
-enum-known-r c = search needs
-
-enum-known-r-2 : tie.Need-enum-known-r-2
-enum-known-r-2 c = search needs
-
-enum-told : tie.Need-enum-told
-enum-told c = search needs
 
 returns : tie.Need-returns
 unfolding placeIn recordRead
@@ -29,11 +20,4 @@ returns-3 c = λ s W. sym (ap (λ (x : Reading). placeIn (recordRead s W x)) (c 
 
 pub place-read-spec : {M : Type 1} → statement M
 place-read-spec =
-    tie.close
-    (tie.spec
-    enum-known-r
-    enum-known-r-2
-    enum-told
-    returns
-    returns-2
-    returns-3)
+    tie.close (tie.spec (λ c. search needs) (λ c. search needs) (λ c. search needs) returns returns-2 returns-3)

@@ -8,18 +8,6 @@ use Rattle.any_path.proofs.Plains.{prelude-there, prelude-gone}
 use Rattle.any_path.proofs.plain.prelude_named.Statement.{statement}
 use Rattle.any_path.proofs.plain.prelude_named.Tie as tie
 
-map-requires : tie.Need-map-requires
-map-requires c κs = search needs
-
-prelude-of-requires : tie.Need-prelude-of-requires
-prelude-of-requires c κs = search needs
-
-enum-known-p : tie.Need-enum-known-p
-enum-known-p c = search needs
-
-enum-told : tie.Need-enum-told
-enum-told c = search needs
-
 returns : tie.Need-returns
 returns c =
     let s = c .before .before .before .before .before .before in
@@ -31,12 +19,6 @@ returns c =
     let g = c .before .before in
     prelude-gone S from (s .args .ns) (s .args .name .0) (g .before .map .ensures)
     (sym (g .prelude-of .ensures A) ∙ ap (entryOf preludeAt W) (c .enum-told .given .1))
-
-prelude-target-requires : tie.Need-prelude-target-requires
-prelude-target-requires c κs = search needs
-
-entry-named-requires : tie.Need-entry-named-requires
-entry-named-requires c κs = search needs
 
 returns-2 : tie.Need-returns-2
 returns-2 c =
@@ -53,13 +35,5 @@ returns-2 c =
 
 pub prelude-named-spec : {M : Type 1} → statement M
 prelude-named-spec =
-    tie.close
-    (tie.spec
-    map-requires
-    prelude-of-requires
-    enum-known-p
-    enum-told
-    returns
-    prelude-target-requires
-    entry-named-requires
-    returns-2)
+    tie.close (tie.spec (λ c κs. search needs) (λ c κs. search needs) (λ c. search needs) (λ c. search needs) returns
+    (λ c κs. search needs) (λ c κs. search needs) returns-2)

@@ -1,8 +1,8 @@
 use borrow.Author.Needs.{needs}
-use mathlib.Core.Path.{_≡_, sym, ap, _∙_}
+use mathlib.Core.Path.{sym, ap, _∙_}
 use mathlib.Core.Option.{Option·map}
 use denote.Ref.{now}
-use Rattle.snapshot.specs.Records.{Scope, scopeAt, externAt}
+use Rattle.snapshot.specs.Records.{scopeAt, externAt}
 use Rattle.snapshot.specs.Layouts.{snapOf}
 use Rattle.hir_def.specs.Entries.{entryOf}
 use Rattle.nameable.specs.Paths.{asNamed}
@@ -10,12 +10,6 @@ use Rattle.any_path.specs.Plain.{recordRead}
 use Rattle.any_path.proofs.Plains.{plain-scope, plain-extern, plain-prelude}
 use Rattle.any_path.proofs.plain.read_plain.Statement.{statement}
 use Rattle.any_path.proofs.plain.read_plain.Tie as tie
-
-scopes-named-requires : tie.Need-scopes-named-requires
-scopes-named-requires c κs = search needs
-
-enum-known-near : tie.Need-enum-known-near
-enum-known-near c = search needs
 
 returns : tie.Need-returns
 unfolding recordRead
@@ -28,15 +22,6 @@ returns c =
     let S = snapOf W A L in
     plain-scope S from (s .args .ns) (s .args .name .0) _ (sym (c .before .before .before .scopes-named .ensures) ∙ ap (entryOf scopeAt W)
     (c .before .near .given .1))
-
-enum-told : tie.Need-enum-told
-enum-told c = search needs
-
-externs-named-requires : tie.Need-externs-named-requires
-externs-named-requires c κs = search needs
-
-enum-known-outer : tie.Need-enum-known-outer
-enum-known-outer c = search needs
 
 returns-2 : tie.Need-returns-2
 unfolding recordRead
@@ -51,18 +36,6 @@ returns-2 c =
     plain-extern S from (s .args .ns) (s .args .name .0) (sym (n .scopes-named .ensures) ∙ ap (entryOf scopeAt W)
     (c .before .before .before .before .enum-told .given .1)) _
     (sym (c .before .before .before .externs-named .ensures) ∙ ap (entryOf externAt W) (c .before .outer .given .1))
-
-enum-told-2 : tie.Need-enum-told-2
-enum-told-2 c = search needs
-
-prelude-named-requires : tie.Need-prelude-named-requires
-prelude-named-requires c κs = search needs
-
-enum-known-h : tie.Need-enum-known-h
-enum-known-h c = search needs
-
-enum-told-3 : tie.Need-enum-told-3
-enum-told-3 c = search needs
 
 returns-3 : tie.Need-returns-3
 unfolding recordRead
@@ -96,18 +69,6 @@ returns-4 c =
 
 pub read-plain-spec : {M : Type 1} → statement M
 read-plain-spec =
-    tie.close
-    (tie.spec
-    scopes-named-requires
-    enum-known-near
-    returns
-    enum-told
-    externs-named-requires
-    enum-known-outer
-    returns-2
-    enum-told-2
-    prelude-named-requires
-    enum-known-h
-    enum-told-3
-    returns-3
-    returns-4)
+    tie.close (tie.spec (λ c κs. search needs) (λ c. search needs) returns (λ c. search needs) (λ c κs. search needs)
+    (λ c. search needs) returns-2 (λ c. search needs) (λ c κs. search needs) (λ c. search needs) (λ c. search needs)
+    returns-3 returns-4)

@@ -25,9 +25,6 @@ loop-holds c = (refl, c .before .before .pre .1)
 entry-named-requires : tie.Need-entry-named-requires Inv-loop μ-loop
 entry-named-requires c κs = (c .before .before .before .pre .0, c .before .before .before .pre .1)
 
-enum-known-e : tie.Need-enum-known-e Inv-loop μ-loop
-enum-known-e c = search needs
-
 returns : tie.Need-returns Inv-loop μ-loop
 unfolding scopesNamed
 returns c =
@@ -40,17 +37,8 @@ returns c =
     near-here W A L (s .pre .0) from (s .args .ns) (s .args .name .0) (g .m .0) (g .inv .1) (sym
     (c .before .before .before .entry-named .ensures) ∙ ap (entryOf scopeAt W) (c .before .e .given .1)) ∙ sym (g .inv .0)
 
-enum-told : tie.Need-enum-told Inv-loop μ-loop
-enum-told c = search needs
-
 block-step-requires : tie.Need-block-step-requires Inv-loop μ-loop
 block-step-requires c κs = (c .before .before .before .before .before .before .pre .0, c .before .before .before .loop .inv .1)
-
-enum-known-b : tie.Need-enum-known-b Inv-loop μ-loop
-enum-known-b c = search needs
-
-enum-told-2 : tie.Need-enum-told-2 Inv-loop μ-loop
-enum-told-2 c = search needs
 
 returns-2 : tie.Need-returns-2 Inv-loop μ-loop
 unfolding scopesNamed
@@ -98,18 +86,5 @@ loop-again c =
 
 pub scopes-named-spec : {M : Type 1} → statement M
 scopes-named-spec =
-    tie.close
-    (tie.spec
-    Inv-loop
-    μ-loop
-    loop-holds
-    entry-named-requires
-    enum-known-e
-    returns
-    enum-told
-    block-step-requires
-    enum-known-b
-    enum-told-2
-    returns-2
-    loop-less
-    loop-again)
+    tie.close (tie.spec Inv-loop μ-loop loop-holds entry-named-requires (λ c. search needs) returns (λ c. search needs)
+    block-step-requires (λ c. search needs) (λ c. search needs) returns-2 loop-less loop-again)

@@ -21,26 +21,11 @@ loop-holds c =
     let s = c .before in
     (omega arith, met-start (now (s .args .area)) _ _)
 
-mul-word : tie.Need-mul-word Inv-loop μ-loop
-mul-word c = search needs
-
-add-word : tie.Need-add-word Inv-loop μ-loop
-add-word c = search needs
-
-word-requires : tie.Need-word-requires Inv-loop μ-loop
-word-requires c κs = tt
-
 returns : tie.Need-returns Inv-loop μ-loop
 returns c =
     let i = c .before .before in
     let s = i .before .before .before in
     met-hit (now (s .args .area)) _ _ _ (i .before .loop .inv .1) (i .loop-test .taken) (c .before .word .ensures) (c .if1 .taken)
-
-add-i : tie.Need-add-i Inv-loop μ-loop
-add-i c = search needs
-
-loop-less : tie.Need-loop-less Inv-loop μ-loop
-loop-less c = omega arith
 
 loop-again : tie.Need-loop-again Inv-loop μ-loop
 loop-again c =
@@ -55,16 +40,5 @@ returns-2 c =
 
 pub is-met-spec : {M : Type 1} → statement M
 is-met-spec =
-    tie.close
-    (tie.spec
-    Inv-loop
-    μ-loop
-    loop-holds
-    mul-word
-    add-word
-    word-requires
-    returns
-    add-i
-    loop-less
-    loop-again
-    returns-2)
+    tie.close (tie.spec Inv-loop μ-loop loop-holds (λ c. search needs) (λ c. search needs) (λ c κs. tt) returns
+    (λ c. search needs) (λ c. omega arith) loop-again returns-2)

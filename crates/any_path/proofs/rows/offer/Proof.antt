@@ -12,9 +12,6 @@ is-met-requires c κs =
     let s = c .before .before in
     run-small _ _ _ (s .pre .0) (s .pre .1)
 
-same-length : tie.Need-same-length
-same-length c = search needs
-
 returns : tie.Need-returns
 returns c =
     let s = c .before .before .before .before in
@@ -30,9 +27,6 @@ add-at : tie.Need-add-at
 add-at c =
     let s = c .before .before .before .before in
     record { fits = omega (arith, run-small _ _ _ (s .pre .0) (s .pre .1)) }
-
-cast-area : tie.Need-cast-area
-cast-area c = search needs
 
 mul-area : tie.Need-mul-area
 mul-area c =
@@ -72,9 +66,6 @@ slice-write-area-2 c =
           (s .pre .2) (s .pre .3) (sym (c .before .before .before .is-met .ensures) ∙ c .before .before .if1 .left),
     ))
 
-cast-area-3 : tie.Need-cast-area-3
-cast-area-3 c = search needs
-
 add-area-2 : tie.Need-add-area-2
 add-area-2 c =
     let s = c .before .before .before .before .before .before .before in
@@ -93,9 +84,6 @@ slice-write-area-3 c =
       row-space _ _ _ (s .args .row .target) (s .args .row .link) (s .args .row .name) (s .pre .0) (s .pre .1)
           (s .pre .2) (s .pre .3) (sym (c .before .before .before .before .is-met .ensures) ∙ c .before .before .before .if1 .left),
     ))
-
-cast-area-4 : tie.Need-cast-area-4
-cast-area-4 c = search needs
 
 add-area-3 : tie.Need-add-area-3
 add-area-3 c =
@@ -121,9 +109,6 @@ add-result c =
     let s = c .before .before .before .before .before .before .before .before in
     record { fits = omega (arith, run-small _ _ _ (s .pre .0) (s .pre .1)) }
 
-same-length-2 : tie.Need-same-length-2
-same-length-2 c = search needs
-
 returns-2 : tie.Need-returns-2
 returns-2 c =
     let s = c .before .before .before .before .before .before .before .before in
@@ -132,28 +117,7 @@ returns-2 c =
 
 pub offer-spec : {M : Type 1} → statement M
 offer-spec =
-    tie.close
-    (tie.spec
-    is-met-requires
-    same-length
-    returns
-    mul-at
-    add-at
-    cast-area
-    mul-area
-    slice-write-area
-    cast-area-2
-    add-area
-    mul-area-2
-    slice-write-area-2
-    cast-area-3
-    add-area-2
-    mul-area-3
-    slice-write-area-3
-    cast-area-4
-    add-area-3
-    mul-area-4
-    slice-write-area-4
-    add-result
-    same-length-2
+    tie.close (tie.spec is-met-requires (λ c. search needs) returns mul-at add-at (λ c. search needs) mul-area
+    slice-write-area cast-area-2 add-area mul-area-2 slice-write-area-2 (λ c. search needs) add-area-2 mul-area-3
+    slice-write-area-3 (λ c. search needs) add-area-3 mul-area-4 slice-write-area-4 add-result (λ c. search needs)
     returns-2)

@@ -67,14 +67,4 @@ returns c =
 
 pub expand-all-spec : {M : Type 1} → statement M
 expand-all-spec =
-    tie.close
-    (tie.spec
-    Inv-loop
-    μ-loop
-    loop-holds
-    expand-requires
-    add-i
-    loop-less
-    loop-again
-    same-length
-    returns)
+    tie.close (tie.spec Inv-loop μ-loop loop-holds expand-requires add-i loop-less loop-again same-length returns)

@@ -6,9 +6,6 @@ use Rattle.any_path.proofs.Whole.{first-meant, near-reads, all-reads, a
 use Rattle.any_path.proofs.run.run_keywords.Statement.{statement}
 use Rattle.any_path.proofs.run.run_keywords.Tie as tie
 
-begin-requires : tie.Need-begin-requires
-begin-requires c κs = search needs
-
 expand-all-requires : tie.Need-expand-all-requires
 expand-all-requires c κs =
     let b = c .before .before .before in
@@ -48,9 +45,6 @@ take-up-requires c κs =
           (now (s .args .words)) (now (s .args .area)) (s .args .l) (s .pre .0) (s .args .from .0) false f g h,
     )
 
-same-length : tie.Need-same-length
-same-length c = search needs
-
 returns : tie.Need-returns
 returns c =
     let t = c .before .before in
@@ -58,16 +52,11 @@ returns c =
     let e = a .before .before .before .before in
     let b = e .before .before .before .before in
     let s = b .before .before .before .before in
-    run-done (now (s .args .words)) (now (s .args .area)) (s .args .l) (s .pre .0) (s .args .from .0) false (b .begin .ensures) (e .expand-all .ensures)
+    run-done (now (s .args .words)) (now (s .args .area)) (s .args .l) (s .pre .0) (s .args .from .0) false (b .begin .ensures)
+    (e .expand-all .ensures)
     (a .offer-absolutes .ensures) (t .take-up .ensures)
 
 pub run-keywords-spec : {M : Type 1} → statement M
 run-keywords-spec =
-    tie.close
-    (tie.spec
-    begin-requires
-    expand-all-requires
-    offer-absolutes-requires
-    take-up-requires
-    same-length
-    returns)
+    tie.close (tie.spec (λ c κs. search needs) expand-all-requires offer-absolutes-requires take-up-requires
+    (λ c. search needs) returns)

@@ -31,9 +31,6 @@ take-up-requires c κs =
       all-meant W A L (s .pre .0) from true f g h,
     )
 
-same-length : tie.Need-same-length
-same-length c = search needs
-
 returns : tie.Need-returns
 returns c =
     let t = c .before .before in
@@ -50,9 +47,4 @@ returns c =
 
 pub run-plain-spec : {M : Type 1} → statement M
 run-plain-spec =
-    tie.close
-    (tie.spec
-    offer-plains-requires
-    take-up-requires
-    same-length
-    returns)
+    tie.close (tie.spec offer-plains-requires take-up-requires (λ c. search needs) returns)

@@ -68,14 +68,4 @@ returns c =
 
 pub take-up-spec : {M : Type 1} → statement M
 take-up-spec =
-    tie.close
-    (tie.spec
-    Inv-loop
-    μ-loop
-    loop-holds
-    expand-requires
-    add-i
-    loop-less
-    loop-again
-    same-length
-    returns)
+    tie.close (tie.spec Inv-loop μ-loop loop-holds expand-requires add-i loop-less loop-again same-length returns)

@@ -18,14 +18,8 @@ Inv-loop words area₀ l n c base externs count₀ k₀ area count k =
 abbrev μ-loop : tie.MeasureT-loop
 μ-loop words area₀ l n c base externs count₀ k₀ area count k = externs - k
 
-krate-requires : tie.Need-krate-requires Inv-loop μ-loop
-krate-requires c κs = search needs
-
 edition-of-requires : tie.Need-edition-of-requires Inv-loop μ-loop
 edition-of-requires c κs = let s = c .before .before .before .before in few-words _ _ _ (s .pre .0)
-
-same-length : tie.Need-same-length Inv-loop μ-loop
-same-length c = search needs
 
 returns : tie.Need-returns Inv-loop μ-loop
 returns c =
@@ -68,12 +62,6 @@ offer-extern-requires c κs =
       g .run,
     )
 
-add-k : tie.Need-add-k Inv-loop μ-loop
-add-k c = search needs
-
-loop-less : tie.Need-loop-less Inv-loop μ-loop
-loop-less c = search needs
-
 loop-again : tie.Need-loop-again Inv-loop μ-loop
 loop-again c =
     let m = c .before .before in
@@ -106,21 +94,6 @@ returns-2 c =
 
 pub offer-absolutes-spec : {M : Type 1} → statement M
 offer-absolutes-spec =
-    tie.close
-    (tie.spec
-    Inv-loop
-    μ-loop
-    krate-requires
-    edition-of-requires
-    same-length
-    returns
-    extern-base-requires
-    loop-holds
-    mul-offer-extern
-    add-offer-extern
-    offer-extern-requires
-    add-k
-    loop-less
-    loop-again
-    same-length-2
-    returns-2)
+    tie.close (tie.spec Inv-loop μ-loop (λ c κs. search needs) edition-of-requires (λ c. search needs) returns
+    extern-base-requires loop-holds mul-offer-extern add-offer-extern offer-extern-requires (λ c. search needs)
+    (λ c. search needs) loop-again same-length-2 returns-2)

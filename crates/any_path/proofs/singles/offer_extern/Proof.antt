@@ -5,26 +5,11 @@ use Rattle.any_path.proofs.Externs.{extern-passed, extern-offered}
 use Rattle.any_path.proofs.singles.offer_extern.Statement.{statement}
 use Rattle.any_path.proofs.singles.offer_extern.Tie as tie
 
-extern-owner-requires : tie.Need-extern-owner-requires
-extern-owner-requires c κs = search needs
-
 returns : tie.Need-returns
 returns c =
     let o = c .before .before .before in
     let s = o .before .before .before in
     extern-passed (externAt (now (s .args .words)) (s .args .h)) (o .extern-owner .ensures) (s .pre .2) (c .if1 .taken)
-
-extern-target-requires : tie.Need-extern-target-requires
-extern-target-requires c κs = search needs
-
-extern-name-requires : tie.Need-extern-name-requires
-extern-name-requires c κs = search needs
-
-offer-requires : tie.Need-offer-requires
-offer-requires c κs = search needs
-
-same-length : tie.Need-same-length
-same-length c = search needs
 
 returns-2 : tie.Need-returns-2
 returns-2 c =
@@ -39,12 +24,5 @@ returns-2 c =
 
 pub offer-extern-spec : {M : Type 1} → statement M
 offer-extern-spec =
-    tie.close
-    (tie.spec
-    extern-owner-requires
-    returns
-    extern-target-requires
-    extern-name-requires
-    offer-requires
-    same-length
-    returns-2)
+    tie.close (tie.spec (λ c κs. search needs) returns (λ c κs. search needs) (λ c κs. search needs)
+    (λ c κs. search needs) (λ c. search needs) returns-2)

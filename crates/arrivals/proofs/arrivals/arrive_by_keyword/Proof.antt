@@ -1,6 +1,5 @@
 use borrow.Author.Needs.{needs}
-use mathlib.Core.Path.{_≡_, refl, sym, ap, subst, _∙_}
-use native.Mathlib.Omega.{arith}
+use mathlib.Core.Path.{refl}
 use denote.Ref.{now}
 use Rattle.snapshot.specs.Layouts.{snapOf}
 use Rattle.hir_def.specs.Items.{nsOf}
@@ -8,15 +7,10 @@ use Rattle.arrivals.proofs.Means.{ready-few, ready-meant, leads-module,
 use Rattle.arrivals.proofs.arrivals.arrive_by_keyword.Statement.{statement}
 use Rattle.arrivals.proofs.arrivals.arrive_by_keyword.Tie as tie
 
-enum-known-item : tie.Need-enum-known-item
-enum-known-item c = search needs
-
 row-of-requires : tie.Need-row-of-requires
 row-of-requires c κs =
-    let s = c .before .before .before .before .before in ready-few (now (s .args .words)) (now (s .args .area)) (s .args .l) (s .pre .0) _ _ (s .pre .1) (s .pre .2)
-
-enum-known-item-2 : tie.Need-enum-known-item-2
-enum-known-item-2 c = search needs
+    let s = c .before .before .before .before .before in ready-few (now (s .args .words)) (now (s .args .area)) (s .args .l)
+    (s .pre .0) _ _ (s .pre .1) (s .pre .2)
 
 by-rows-requires : tie.Need-by-rows-requires
 by-rows-requires c κs =
@@ -39,15 +33,9 @@ unfolding nsOf
 returns-2 c =
     let i = c .before .before in
     let s = i .before .before .before .before in
-    leads-keyword (now (s .args .words)) (now (s .args .area)) (s .args .l) (s .pre .0) _ _ (s .pre .1) (s .pre .2) _ _ _ refl (i .item2 .given .1) (c .by-rows .ensures)
+    leads-keyword (now (s .args .words)) (now (s .args .area)) (s .args .l) (s .pre .0) _ _ (s .pre .1) (s .pre .2) _ _ _ refl
+    (i .item2 .given .1) (c .by-rows .ensures)
 
 pub arrive-by-keyword-spec : {M : Type 1} → statement M
 arrive-by-keyword-spec =
-    tie.close
-    (tie.spec
-    enum-known-item
-    row-of-requires
-    enum-known-item-2
-    by-rows-requires
-    returns
-    returns-2)
+    tie.close (tie.spec (λ c. search needs) row-of-requires (λ c. search needs) by-rows-requires returns returns-2)

@@ -1,6 +1,4 @@
 use borrow.Author.Needs.{needs}
-use mathlib.Core.Path.{_≡_, refl, sym, ap, subst, _∙_}
-use native.Mathlib.Omega.{arith}
 use denote.Ref.{now}
 use Rattle.snapshot.specs.Layouts.{snapOf}
 use mathlib.Core.Bool.{true}
@@ -8,18 +6,10 @@ use Rattle.arrivals.proofs.Means.{ready-few, leads-module, leads-as}
 use Rattle.arrivals.proofs.arrivals.arrive_plainly.Statement.{statement}
 use Rattle.arrivals.proofs.arrivals.arrive_plainly.Tie as tie
 
-enum-known-item : tie.Need-enum-known-item
-enum-known-item c = search needs
-
 row-of-requires : tie.Need-row-of-requires
 row-of-requires c κs =
-    let s = c .before .before .before .before .before in ready-few (now (s .args .words)) (now (s .args .area)) (s .args .l) (s .pre .0) _ _ (s .pre .1) (s .pre .2)
-
-enum-known-item-2 : tie.Need-enum-known-item-2
-enum-known-item-2 c = search needs
-
-plainly-requires : tie.Need-plainly-requires
-plainly-requires c κs = search needs
+    let s = c .before .before .before .before .before in ready-few (now (s .args .words)) (now (s .args .area)) (s .args .l)
+    (s .pre .0) _ _ (s .pre .1) (s .pre .2)
 
 returns : tie.Need-returns
 returns c =
@@ -32,15 +22,10 @@ returns-2 : tie.Need-returns-2
 returns-2 c =
     let i = c .before .before in
     let s = i .before .before .before .before in
-    leads-as (snapOf (now (s .args .words)) (now (s .args .area)) (s .args .l)) (s .args .from .0) (s .args .n) (now (s .args .area)) true _ _ _ (i .item2 .given .1) (c .plainly .ensures)
+    leads-as (snapOf (now (s .args .words)) (now (s .args .area)) (s .args .l)) (s .args .from .0) (s .args .n) (now (s .args .area))
+    true _ _ _ (i .item2 .given .1) (c .plainly .ensures)
 
 pub arrive-plainly-spec : {M : Type 1} → statement M
 arrive-plainly-spec =
-    tie.close
-    (tie.spec
-    enum-known-item
-    row-of-requires
-    enum-known-item-2
-    plainly-requires
-    returns
+    tie.close (tie.spec (λ c. search needs) row-of-requires (λ c. search needs) (λ c κs. search needs) returns
     returns-2)

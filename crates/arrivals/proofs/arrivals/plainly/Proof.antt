@@ -1,8 +1,6 @@
 use borrow.Author.Needs.{needs}
-use mathlib.Core.Path.{_≡_, refl, sym, ap, subst, _∙_}
-use native.Mathlib.Omega.{arith}
+use mathlib.Core.Path.{refl, sym, ap, _∙_}
 use denote.Ref.{now}
-use Rattle.snapshot.specs.Layouts.{snapOf}
 use Rattle.snapshot.specs.Records.{scopeAt}
 use Rattle.hir_def.specs.Entries.{entryOf}
 use Rattle.hir_def.specs.Items.{nsOf}
@@ -10,15 +8,6 @@ use Rattle.arrivals.specs.Steps.{LeadsTo}
 use Rattle.arrivals.proofs.Means.{ready-few, ready-meant, leads-plain, leads-past}
 use Rattle.arrivals.proofs.arrivals.plainly.Statement.{statement}
 use Rattle.arrivals.proofs.arrivals.plainly.Tie as tie
-
-plain-entry-requires : tie.Need-plain-entry-requires
-plain-entry-requires c κs = search needs
-
-enum-known-h : tie.Need-enum-known-h
-enum-known-h c = search needs
-
-scope-name-requires : tie.Need-scope-name-requires
-scope-name-requires c κs = search needs
 
 returns : tie.Need-returns
 unfolding LeadsTo
@@ -28,9 +17,6 @@ returns c =
     let s = p .before .before .before in
     leads-plain (now (s .args .words)) (now (s .args .area)) (s .args .l) (s .pre .0) _ _ (s .pre .1) (s .pre .2) _ _ refl
     (sym (ap (entryOf scopeAt (now (s .args .words))) (h .h .given .1)) ∙ p .plain-entry .ensures) (c .scope-name .ensures)
-
-enum-told : tie.Need-enum-told
-enum-told c = search needs
 
 by-rows-requires : tie.Need-by-rows-requires
 by-rows-requires c κs =
@@ -52,12 +38,5 @@ returns-2 c =
 
 pub plainly-spec : {M : Type 1} → statement M
 plainly-spec =
-    tie.close
-    (tie.spec
-    plain-entry-requires
-    enum-known-h
-    scope-name-requires
-    returns
-    enum-told
-    by-rows-requires
-    returns-2)
+    tie.close (tie.spec (λ c κs. search needs) (λ c. search needs) (λ c κs. search needs) returns (λ c. search needs)
+    by-rows-requires returns-2)

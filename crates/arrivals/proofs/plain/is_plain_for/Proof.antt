@@ -1,6 +1,4 @@
 use borrow.Author.Needs.{needs}
-use mathlib.Core.Path.{_≡_, refl, sym, ap, subst, _∙_}
-use native.Mathlib.Omega.{arith}
 use denote.Ref.{now}
 use Rattle.snapshot.specs.Layouts.{snapOf}
 use Rattle.hir_def.proofs.Fits.{few-words}
@@ -14,15 +12,6 @@ is-for-requires c κs =
     let s = c .before .before in
     few-words (now (s .args .words)) (now (s .args .area)) (s .args .l) (s .pre .0)
 
-seen-requires : tie.Need-seen-requires
-seen-requires c κs = search needs
-
-scope-name-requires : tie.Need-scope-name-requires
-scope-name-requires c κs = search needs
-
-means-item-requires : tie.Need-means-item-requires
-means-item-requires c κs = search needs
-
 returns : tie.Need-returns
 returns c =
     let n = c .before in
@@ -30,32 +19,29 @@ returns c =
     let v = t .before in
     let i = v .before .before in
     let s = i .before .before .before in
-    plain-so (snapOf (now (s .args .words)) (now (s .args .area)) (s .args .l)) (s .args .from .0) (s .args .m .0) (s .args .ns .0) (s .args .d .0) (scopeAt (now (s .args .words)) (s .args .h))
-    (i .is-for .ensures (now (s .args .area))) (v .before .if1 .taken) (v .seen .ensures) (t .if2 .taken) (n .scope-name .ensures) (c .means-item .ensures)
+    plain-so (snapOf (now (s .args .words)) (now (s .args .area)) (s .args .l)) (s .args .from .0) (s .args .m .0) (s .args .ns .0)
+    (s .args .d .0) (scopeAt (now (s .args .words)) (s .args .h))
+    (i .is-for .ensures (now (s .args .area))) (v .before .if1 .taken) (v .seen .ensures) (t .if2 .taken) (n .scope-name .ensures)
+    (c .means-item .ensures)
 
 returns-2 : tie.Need-returns-2
 returns-2 c =
     let v = c .before in
     let i = v .before .before in
     let s = i .before .before .before in
-    plain-unseen (snapOf (now (s .args .words)) (now (s .args .area)) (s .args .l)) (s .args .from .0) (s .args .m .0) (s .args .ns .0) (s .args .d .0) (scopeAt (now (s .args .words)) (s .args .h))
+    plain-unseen (snapOf (now (s .args .words)) (now (s .args .area)) (s .args .l)) (s .args .from .0) (s .args .m .0) (s .args .ns .0)
+    (s .args .d .0) (scopeAt (now (s .args .words)) (s .args .h))
     (i .is-for .ensures (now (s .args .area))) (v .before .if1 .taken) (v .seen .ensures) (c .if2 .left)
 
 returns-3 : tie.Need-returns-3
 returns-3 c =
     let i = c .before in
     let s = i .before .before .before in
-    plain-not (snapOf (now (s .args .words)) (now (s .args .area)) (s .args .l)) (s .args .from .0) (s .args .m .0) (s .args .ns .0) (s .args .d .0) (scopeAt (now (s .args .words)) (s .args .h))
+    plain-not (snapOf (now (s .args .words)) (now (s .args .area)) (s .args .l)) (s .args .from .0) (s .args .m .0) (s .args .ns .0)
+    (s .args .d .0) (scopeAt (now (s .args .words)) (s .args .h))
     (i .is-for .ensures (now (s .args .area))) (c .if1 .left)
 
 pub is-plain-for-spec : {M : Type 1} → statement M
 is-plain-for-spec =
-    tie.close
-    (tie.spec
-    is-for-requires
-    seen-requires
-    scope-name-requires
-    means-item-requires
-    returns
-    returns-2
-    returns-3)
+    tie.close (tie.spec is-for-requires (λ c κs. search needs) (λ c κs. search needs) (λ c κs. search needs) returns
+    returns-2 returns-3)

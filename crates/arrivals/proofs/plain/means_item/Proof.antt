@@ -1,6 +1,4 @@
 use borrow.Author.Needs.{needs}
-use mathlib.Core.Path.{_≡_, refl, sym, ap, subst, _∙_}
-use native.Mathlib.Omega.{arith}
 use denote.Ref.{now}
 use Rattle.snapshot.specs.Layouts.{snapOf}
 use Rattle.hir_def.proofs.Fits.{few-words}
@@ -8,52 +6,35 @@ use Rattle.arrivals.proofs.Means.{means-scope, means-extern, means-noth
 use Rattle.arrivals.proofs.plain.means_item.Statement.{statement}
 use Rattle.arrivals.proofs.plain.means_item.Tie as tie
 
-read-plain-requires : tie.Need-read-plain-requires
-read-plain-requires c κs = search needs
-
-enum-known-h : tie.Need-enum-known-h
-enum-known-h c = search needs
-
 is-entry-for-requires : tie.Need-is-entry-for-requires
 is-entry-for-requires c κs =
     let s = c .before .before .before .before .before .before in
     few-words (now (s .args .words)) (now (s .args .area)) (s .args .l) (s .pre .0)
-
-enum-told : tie.Need-enum-told
-enum-told c = search needs
-
-enum-told-2 : tie.Need-enum-told-2
-enum-told-2 c = search needs
 
 returns : tie.Need-returns
 returns c =
     let h = c .before .before in
     let r = h .before .before in
     let s = r .before .before .before in
-    means-scope (snapOf (now (s .args .words)) (now (s .args .area)) (s .args .l)) (now (s .args .words)) (s .args .from .0) (s .args .ns .0) (s .args .d .0) (s .args .name .0) (r .read-plain .ensures) _ (h .h .given .1)
+    means-scope (snapOf (now (s .args .words)) (now (s .args .area)) (s .args .l)) (now (s .args .words)) (s .args .from .0)
+    (s .args .ns .0) (s .args .d .0) (s .args .name .0) (r .read-plain .ensures) _ (h .h .given .1)
     (c .is-entry-for .ensures (now (s .args .area)))
 
 returns-2 : tie.Need-returns-2
 returns-2 c =
     let r = c .before .before in
     let s = r .before .before .before in
-    means-extern (snapOf (now (s .args .words)) (now (s .args .area)) (s .args .l)) (now (s .args .words)) (s .args .from .0) (s .args .ns .0) (s .args .d .0) (s .args .name .0) (r .read-plain .ensures) _ (c .enum-told .given .1)
+    means-extern (snapOf (now (s .args .words)) (now (s .args .area)) (s .args .l)) (now (s .args .words)) (s .args .from .0)
+    (s .args .ns .0) (s .args .d .0) (s .args .name .0) (r .read-plain .ensures) _ (c .enum-told .given .1)
 
 returns-3 : tie.Need-returns-3
 returns-3 c =
     let r = c .before .before in
     let s = r .before .before .before in
-    means-nothing (snapOf (now (s .args .words)) (now (s .args .area)) (s .args .l)) (now (s .args .words)) (s .args .from .0) (s .args .ns .0) (s .args .d .0) (s .args .name .0) (r .read-plain .ensures) (c .enum-told2 .given .1)
+    means-nothing (snapOf (now (s .args .words)) (now (s .args .area)) (s .args .l)) (now (s .args .words)) (s .args .from .0)
+    (s .args .ns .0) (s .args .d .0) (s .args .name .0) (r .read-plain .ensures) (c .enum-told2 .given .1)
 
 pub means-item-spec : {M : Type 1} → statement M
 means-item-spec =
-    tie.close
-    (tie.spec
-    read-plain-requires
-    enum-known-h
-    is-entry-for-requires
-    enum-told
-    enum-told-2
-    returns
-    returns-2
-    returns-3)
+    tie.close (tie.spec (λ c κs. search needs) (λ c. search needs) is-entry-for-requires (λ c. search needs)
+    (λ c. search needs) returns returns-2 returns-3)

@@ -1,6 +1,5 @@
 use borrow.Author.Needs.{needs}
-use mathlib.Core.Path.{_≡_, refl, sym, ap, subst, _∙_}
-use native.Mathlib.Omega.{arith}
+use mathlib.Core.Path.{sym, ap, _∙_}
 use denote.Ref.{now}
 use Rattle.snapshot.specs.Layouts.{snapOf}
 use Rattle.snapshot.specs.Records.{scopeAt}
@@ -10,12 +9,6 @@ use Rattle.arrivals.proofs.Means.{entry-near, entry-far}
 use Rattle.arrivals.proofs.plain.plain_entry.Statement.{statement}
 use Rattle.arrivals.proofs.plain.plain_entry.Tie as tie
 
-plain-around-requires : tie.Need-plain-around-requires
-plain-around-requires c κs = search needs
-
-enum-known-h : tie.Need-enum-known-h
-enum-known-h c = search needs
-
 returns : tie.Need-returns
 returns c =
     let h = c .before in
@@ -23,12 +16,6 @@ returns c =
     let s = p .before .before .before in
     entry-near (snapOf (now (s .args .words)) (now (s .args .area)) (s .args .l)) (s .args .from .0) (definedItem (s .args .ns .0) (s .args .d .0))
     (sym (ap (entryOf scopeAt (now (s .args .words))) (h .h .given .1)) ∙ p .plain-around .ensures)
-
-enum-told : tie.Need-enum-told
-enum-told c = search needs
-
-plain-in-prelude-requires : tie.Need-plain-in-prelude-requires
-plain-in-prelude-requires c κs = search needs
 
 returns-2 : tie.Need-returns-2
 returns-2 c =
@@ -40,11 +27,5 @@ returns-2 c =
 
 pub plain-entry-spec : {M : Type 1} → statement M
 plain-entry-spec =
-    tie.close
-    (tie.spec
-    plain-around-requires
-    enum-known-h
-    returns
-    enum-told
-    plain-in-prelude-requires
+    tie.close (tie.spec (λ c κs. search needs) (λ c. search needs) returns (λ c. search needs) (λ c κs. search needs)
     returns-2)

@@ -1,5 +1,4 @@
-use borrow.Author.Needs.{needs}
-use mathlib.Core.Path.{_≡_, refl, sym, ap, subst, _∙_}
+use mathlib.Core.Path.{_≡_, refl, ap}
 use native.Mathlib.Omega.{arith}
 use denote.Ref.{now}
 use Rattle.snapshot.specs.Layouts.{snapOf}
@@ -19,7 +18,8 @@ use Rattle.arrivals.proofs.plain.plain_in.Tie as tie
 
 abbrev Inv-loop : tie.InvT-loop
 Inv-loop words area l from m ns d base k₀ k = plainIn (snapOf words area l) (from .0) (definedItem (ns .0) (d .0)) (m .0)
-    ≡ firstOf (isPlainFor (snapOf words area l) (from .0) (m .0) (definedItem (ns .0) (d .0))) (rows (λ i. scopeAt words (scopeBase l + scopeSize * i)) k (l .scopes - k))
+    ≡ firstOf (isPlainFor (snapOf words area l) (from .0) (m .0) (definedItem (ns .0) (d .0)))
+    (rows (λ i. scopeAt words (scopeBase l + scopeSize * i)) k (l .scopes - k))
 
 abbrev μ-loop : tie.MeasureT-loop
 μ-loop words area l from m ns d base k₀ k = l .scopes - k
@@ -34,17 +34,30 @@ loop-holds c = rows-whole (firstOf _) _ _
 
 mul-h : tie.Need-mul-h Inv-loop μ-loop
 mul-h c =
-    let s = c .before .before .before .before .before .before in record { fits = omega (arith, c .if1 .taken, few-words (now (s .args .words)) (now (s .args .area)) (s .args .l) (s .pre .0)) }
+    let s = c .before .before .before .before .before .before in
+    record { fits = omega (arith, c .if1 .taken, few-words (now (s .args .words)) (now (s .args .area)) (s .args .l) (s .pre .0)) }
 
 add-h : tie.Need-add-h Inv-loop μ-loop
 add-h c =
     let s = c .before .before .before .before .before .before in
-    record { fits = omega (arith, c .if1 .taken, c .before .before .before .scope-base .ensures, few-words (now (s .args .words)) (now (s .args .area)) (s .args .l) (s .pre .0)) }
+    record {
+      fits = omega (
+        arith,
+        c .if1 .taken,
+        c .before .before .before .scope-base .ensures,
+        few-words (now (s .args .words))
+            (now (s .args .area)) (s .args .l) (s .pre .0),
+      );
+    }
 
 is-plain-for-requires : tie.Need-is-plain-for-requires Inv-loop μ-loop
 is-plain-for-requires c κs =
-    let s = c .before .before .before .before .before .before in
-    (s .pre .0, s .pre .1, scope-fits (now (s .args .words)) (now (s .args .area)) (s .args .l) (s .pre .0) (c .if1 .taken) (c .before .before .before .scope-base .ensures) refl)
+    let s = c .before .before .before .before .before .before in (
+      s .pre .0,
+      s .pre .1,
+      scope-fits (now (s .args .words)) (now (s .args .area)) (s .args .l) (s .pre .0) (c .if1 .taken)
+          (c .before .before .before .scope-base .ensures) refl,
+    )
 
 returns : tie.Need-returns Inv-loop μ-loop
 returns c =
@@ -75,17 +88,5 @@ returns-2 c = first-none _ _ _ _ _ (c .before .before .loop .inv) (c .if1 .left)
 
 pub plain-in-spec : {M : Type 1} → statement M
 plain-in-spec =
-    tie.close
-    (tie.spec
-    Inv-loop
-    μ-loop
-    scope-base-requires
-    loop-holds
-    mul-h
-    add-h
-    is-plain-for-requires
-    returns
-    add-k
-    loop-less
-    loop-again
-    returns-2)
+    tie.close (tie.spec Inv-loop μ-loop scope-base-requires loop-holds mul-h add-h is-plain-for-requires returns add-k
+    loop-less loop-again returns-2)

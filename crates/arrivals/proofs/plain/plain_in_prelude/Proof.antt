@@ -1,6 +1,5 @@
 use borrow.Author.Needs.{needs}
-use mathlib.Core.Path.{_≡_, refl, sym, ap, subst, _∙_}
-use native.Mathlib.Omega.{arith}
+use mathlib.Core.Path.{sym, ap, _∙_}
 use denote.Ref.{now}
 use Rattle.snapshot.specs.Layouts.{snapOf}
 use Rattle.snapshot.specs.Records.{preludeAt}
@@ -11,50 +10,29 @@ use Rattle.arrivals.proofs.Means.{prelude-none, prelude-some}
 use Rattle.arrivals.proofs.plain.plain_in_prelude.Statement.{statement}
 use Rattle.arrivals.proofs.plain.plain_in_prelude.Tie as tie
 
-map-requires : tie.Need-map-requires
-map-requires c κs = search needs
-
 prelude-of-requires : tie.Need-prelude-of-requires
 prelude-of-requires c κs =
     let s = c .before .before .before in few-words (now (s .args .words)) (now (s .args .area)) (s .args .l) (s .pre .0)
-
-enum-known-p : tie.Need-enum-known-p
-enum-known-p c = search needs
-
-enum-told : tie.Need-enum-told
-enum-told c = search needs
 
 returns : tie.Need-returns
 returns c =
     let g = c .before .before in
     let s = g .before .before .before .before in
-    prelude-none (snapOf (now (s .args .words)) (now (s .args .area)) (s .args .l)) (s .args .from .0) (definedItem (s .args .ns .0) (s .args .d .0)) (g .before .map .ensures)
+    prelude-none (snapOf (now (s .args .words)) (now (s .args .area)) (s .args .l)) (s .args .from .0)
+    (definedItem (s .args .ns .0) (s .args .d .0)) (g .before .map .ensures)
     (sym (g .prelude-of .ensures (now (s .args .area))) ∙ ap (entryOf preludeAt (now (s .args .words))) (c .enum-told .given .1))
-
-prelude-target-requires : tie.Need-prelude-target-requires
-prelude-target-requires c κs = search needs
-
-plain-in-requires : tie.Need-plain-in-requires
-plain-in-requires c κs = search needs
 
 returns-2 : tie.Need-returns-2
 returns-2 c =
     let p = c .before .before .before in
     let g = p .before .before in
     let s = g .before .before .before .before in
-    prelude-some (snapOf (now (s .args .words)) (now (s .args .area)) (s .args .l)) (s .args .from .0) (definedItem (s .args .ns .0) (s .args .d .0)) (g .before .map .ensures)
+    prelude-some (snapOf (now (s .args .words)) (now (s .args .area)) (s .args .l)) (s .args .from .0)
+    (definedItem (s .args .ns .0) (s .args .d .0)) (g .before .map .ensures)
     (sym (g .prelude-of .ensures (now (s .args .area))) ∙ ap (entryOf preludeAt (now (s .args .words))) (p .p .given .1))
     (c .before .prelude-target .ensures) (c .plain-in .ensures)
 
 pub plain-in-prelude-spec : {M : Type 1} → statement M
 plain-in-prelude-spec =
-    tie.close
-    (tie.spec
-    map-requires
-    prelude-of-requires
-    enum-known-p
-    enum-told
-    returns
-    prelude-target-requires
-    plain-in-requires
-    returns-2)
+    tie.close (tie.spec (λ c κs. search needs) prelude-of-requires (λ c. search needs) (λ c. search needs) returns
+    (λ c κs. search needs) (λ c κs. search needs) returns-2)

@@ -1,5 +1,5 @@
 use borrow.Author.Needs.{needs}
-use Prim.Native.Nat.{_≤_, _-_}
+use Prim.Native.Nat.{_-_}
 use mathlib.Core.Path.{_≡_, refl, sym, ap, _∙_}
 use native.Mathlib.Omega.{arith}
 use denote.Ref.{now}
@@ -26,27 +26,6 @@ abbrev μ-loop : tie.MeasureT-loop
 loop-holds : tie.Need-loop-holds Inv-loop μ-loop
 loop-holds c = let s = c .before .before in found-start (now (s .args .words)) (now (s .args .area)) (s .args .l) (s .pre .0) _ _ _
 
-mul-word : tie.Need-mul-word Inv-loop μ-loop
-mul-word c = search needs
-
-add-word : tie.Need-add-word Inv-loop μ-loop
-add-word c = search needs
-
-word-requires : tie.Need-word-requires Inv-loop μ-loop
-word-requires c κs = tt
-
-entry-for-requires : tie.Need-entry-for-requires Inv-loop μ-loop
-entry-for-requires c κs = search needs
-
-enum-known-h : tie.Need-enum-known-h Inv-loop μ-loop
-enum-known-h c = search needs
-
-scope-name-requires : tie.Need-scope-name-requires Inv-loop μ-loop
-scope-name-requires c κs = search needs
-
-add-t16 : tie.Need-add-t16 Inv-loop μ-loop
-add-t16 c = search needs
-
 returns : tie.Need-returns Inv-loop μ-loop
 unfolding LeadsTo
 returns c =
@@ -54,25 +33,18 @@ returns c =
     let e = h .before .before in
     let i = e .before .before in
     let s = i .before .before .before .before in
-    found-hit (now (s .args .words)) (now (s .args .area)) (s .args .l) (s .pre .0) (s .args .from .0) (s .args .n) (s .args .item) _ (i .before .loop .inv)
+    found-hit (now (s .args .words)) (now (s .args .area)) (s .args .l) (s .pre .0) (s .args .from .0) (s .args .n) (s .args .item) _
+    (i .before .loop .inv)
     (i .loop-test .taken) (s .pre .3) (e .before .word .ensures)
     (sym (ap (entryOf scopeAt (now (s .args .words))) (h .h .given .1)) ∙ e .entry-for .ensures) refl (c .scope-name .ensures)
-
-enum-told : tie.Need-enum-told Inv-loop μ-loop
-enum-told c = search needs
-
-add-i : tie.Need-add-i Inv-loop μ-loop
-add-i c = search needs
-
-loop-less : tie.Need-loop-less Inv-loop μ-loop
-loop-less c = search needs
 
 loop-again : tie.Need-loop-again Inv-loop μ-loop
 loop-again c =
     let e = c .before .before in
     let i = e .before .before in
     let s = i .before .before .before .before in
-    found-miss (now (s .args .words)) (now (s .args .area)) (s .args .l) (s .pre .0) (s .args .from .0) (s .args .n) (s .args .item) _ (i .before .loop .inv)
+    found-miss (now (s .args .words)) (now (s .args .area)) (s .args .l) (s .pre .0) (s .args .from .0) (s .args .n) (s .args .item) _
+    (i .before .loop .inv)
     (i .loop-test .taken) (s .pre .3) (e .before .word .ensures)
     (sym (ap (entryOf scopeAt (now (s .args .words))) (c .enum-told .given .1)) ∙ e .entry-for .ensures)
 
@@ -80,26 +52,12 @@ returns-2 : tie.Need-returns-2 Inv-loop μ-loop
 unfolding LeadsTo
 returns-2 c =
     let s = c .before .before .before .before in
-    found-none (now (s .args .words)) (now (s .args .area)) (s .args .l) (s .pre .0) (s .args .from .0) (s .args .n) (s .args .item) _ (c .before .loop .inv)
+    found-none (now (s .args .words)) (now (s .args .area)) (s .args .l) (s .pre .0) (s .args .from .0) (s .args .n) (s .args .item) _
+    (c .before .loop .inv)
     (omega (arith, c .loop-test .left))
 
 pub by-rows-spec : {M : Type 1} → statement M
 by-rows-spec =
-    tie.close
-    (tie.spec
-    Inv-loop
-    μ-loop
-    loop-holds
-    mul-word
-    add-word
-    word-requires
-    entry-for-requires
-    enum-known-h
-    scope-name-requires
-    add-t16
-    returns
-    enum-told
-    add-i
-    loop-less
-    loop-again
-    returns-2)
+    tie.close (tie.spec Inv-loop μ-loop loop-holds (λ c. search needs) (λ c. search needs) (λ c κs. tt)
+    (λ c κs. search needs) (λ c. search needs) (λ c κs. search needs) (λ c. search needs) returns (λ c. search needs)
+    (λ c. search needs) (λ c. search needs) loop-again returns-2)

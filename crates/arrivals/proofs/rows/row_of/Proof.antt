@@ -1,5 +1,5 @@
 use borrow.Author.Needs.{needs}
-use Prim.Native.Nat.{_≤_, _-_}
+use Prim.Native.Nat.{_-_}
 use mathlib.Core.Path.{_≡_}
 use native.Mathlib.Omega.{arith}
 use denote.Ref.{now}
@@ -19,33 +19,6 @@ abbrev μ-loop : tie.MeasureT-loop
 loop-holds : tie.Need-loop-holds Inv-loop μ-loop
 loop-holds c = let s = c .before in way-start (now (s .args .area)) _ _
 
-mul-at : tie.Need-mul-at Inv-loop μ-loop
-mul-at c = search needs
-
-add-at : tie.Need-add-at Inv-loop μ-loop
-add-at c = search needs
-
-word-requires : tie.Need-word-requires Inv-loop μ-loop
-word-requires c κs = tt
-
-add-word : tie.Need-add-word Inv-loop μ-loop
-add-word c = search needs
-
-word-requires-2 : tie.Need-word-requires-2 Inv-loop μ-loop
-word-requires-2 c κs = tt
-
-add-word-2 : tie.Need-add-word-2 Inv-loop μ-loop
-add-word-2 c = search needs
-
-word-requires-3 : tie.Need-word-requires-3 Inv-loop μ-loop
-word-requires-3 c κs = tt
-
-add-word-3 : tie.Need-add-word-3 Inv-loop μ-loop
-add-word-3 c = search needs
-
-word-requires-4 : tie.Need-word-requires-4 Inv-loop μ-loop
-word-requires-4 c κs = tt
-
 returns : tie.Need-returns Inv-loop μ-loop
 unfolding LeadsTo
 returns c =
@@ -53,14 +26,9 @@ returns c =
     let w = t .before .before in
     let i = w .before in
     let s = i .before .before .before in
-    way-hit (now (s .args .area)) _ _ _ (i .before .loop .inv) (i .loop-test .taken) (w .word .ensures) (t .if1 .taken) (c .before .before .word2 .ensures)
+    way-hit (now (s .args .area)) _ _ _ (i .before .loop .inv) (i .loop-test .taken) (w .word .ensures) (t .if1 .taken)
+    (c .before .before .word2 .ensures)
     (c .before .word3 .ensures) (c .word4 .ensures)
-
-add-i : tie.Need-add-i Inv-loop μ-loop
-add-i c = search needs
-
-loop-less : tie.Need-loop-less Inv-loop μ-loop
-loop-less c = search needs
 
 loop-again : tie.Need-loop-again Inv-loop μ-loop
 loop-again c =
@@ -77,22 +45,6 @@ returns-2 c =
 
 pub row-of-spec : {M : Type 1} → statement M
 row-of-spec =
-    tie.close
-    (tie.spec
-    Inv-loop
-    μ-loop
-    loop-holds
-    mul-at
-    add-at
-    word-requires
-    add-word
-    word-requires-2
-    add-word-2
-    word-requires-3
-    add-word-3
-    word-requires-4
-    returns
-    add-i
-    loop-less
-    loop-again
-    returns-2)
+    tie.close (tie.spec Inv-loop μ-loop loop-holds (λ c. search needs) (λ c. search needs) (λ c κs. tt)
+    (λ c. search needs) (λ c κs. tt) (λ c. search needs) (λ c κs. tt) (λ c. search needs) (λ c κs. tt) returns
+    (λ c. search needs) (λ c. search needs) loop-again returns-2)

@@ -12,9 +12,6 @@ layout-of-requires c κs =
     let s = c .before .before in
     layout-fits (now (s .args .words)) (now (s .args .area)) (now (s .args .counts)) (s .pre)
 
-slice-relend-prefix-report-on : tie.Need-slice-relend-prefix-report-on
-slice-relend-prefix-report-on c = search needs
-
 slice-aggregate-report-on : tie.Need-slice-aggregate-report-on
 slice-aggregate-report-on c =
     let s = c .before .before .before .before in
@@ -25,9 +22,6 @@ report-on-requires c κs =
     let s = c .before .before .before .before in
     judged-part (now (s .args .words)) (now (s .args .area)) (now (s .args .counts)) (s .pre) _ _ (c .before .layout-of .ensures) refl
 
-same-length : tie.Need-same-length
-same-length c = search needs
-
 returns : tie.Need-returns
 returns c =
     let r = c .before .before in
@@ -37,11 +31,5 @@ returns c =
 
 pub find-path-checked-spec : {M : Type 1} → statement M
 find-path-checked-spec =
-    tie.close
-    (tie.spec
-    layout-of-requires
-    slice-relend-prefix-report-on
-    slice-aggregate-report-on
-    report-on-requires
-    same-length
-    returns)
+    tie.close (tie.spec layout-of-requires (λ c. search needs) slice-aggregate-report-on report-on-requires
+    (λ c. search needs) returns)

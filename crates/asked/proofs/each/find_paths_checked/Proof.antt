@@ -10,9 +10,6 @@ use Rattle.asked.proofs.Laws.{layout-fits, judged-part, asked-not, aske
 use Rattle.asked.proofs.each.find_paths_checked.Statement.{statement}
 use Rattle.asked.proofs.each.find_paths_checked.Tie as tie
 
-fits-requires : tie.Need-fits-requires
-fits-requires c κs = search needs
-
 returns : tie.Need-returns
 returns c =
     let s = c .before .before .before .before .before .before in
@@ -24,9 +21,6 @@ layout-of-requires c κs =
     let s = c .before .before .before .before .before .before in
     layout-fits (now (s .args .words)) (now (s .args .area)) (now (s .args .counts)) (s .pre)
 
-slice-relend-prefix-report-each : tie.Need-slice-relend-prefix-report-each
-slice-relend-prefix-report-each c = search needs
-
 slice-aggregate-report-each : tie.Need-slice-aggregate-report-each
 slice-aggregate-report-each c =
     let s = c .before .before .before .before .before .before .before .before in
@@ -37,14 +31,12 @@ report-each-requires c κs =
     let l = c .before .before in
     let e = l .before in
     let s = e .before .before .before .before .before .before in
-    let j = judged-part (now (s .args .words)) (now (s .args .area)) (now (s .args .counts)) (s .pre) _ _ (l .layout-of .ensures) refl in
-    (j .0, j .1, fits-room (length (now (s .args .questions))) (length (now (s .args .reports))) (sym (e .before .fits2 .ensures) ∙ not-false _ (e .if1 .left)))
-
-same-length : tie.Need-same-length
-same-length c = search needs
-
-same-length-2 : tie.Need-same-length-2
-same-length-2 c = search needs
+    let j = judged-part (now (s .args .words)) (now (s .args .area)) (now (s .args .counts)) (s .pre) _ _ (l .layout-of .ensures) refl in (
+      j .0,
+      j .1,
+      fits-room (length (now (s .args .questions))) (length (now (s .args .reports))) (sym (e .before .fits2 .ensures)
+          ∙ not-false _ (e .if1 .left)),
+    )
 
 returns-2 : tie.Need-returns-2
 returns-2 c =
@@ -58,14 +50,5 @@ returns-2 c =
 
 pub find-paths-checked-spec : {M : Type 1} → statement M
 find-paths-checked-spec =
-    tie.close
-    (tie.spec
-    fits-requires
-    returns
-    layout-of-requires
-    slice-relend-prefix-report-each
-    slice-aggregate-report-each
-    report-each-requires
-    same-length
-    same-length-2
-    returns-2)
+    tie.close (tie.spec (λ c κs. search needs) returns layout-of-requires (λ c. search needs)
+    slice-aggregate-report-each report-each-requires (λ c. search needs) (λ c. search needs) returns-2)

@@ -6,23 +6,11 @@ use Rattle.answer.specs.Answers.{zeros}
 use Rattle.batch.proofs.each.answer_each.Statement.{statement}
 use Rattle.batch.proofs.each.answer_each.Tie as tie
 
-check-requires : tie.Need-check-requires
-check-requires c κs = search needs
-
 report-each-requires : tie.Need-report-each-requires
 report-each-requires c κs =
     let k = c .before .before .before .before in
     let s = k .before .before .before .before .before .before in
     (checks-judged (now (s .args .words)) (now (s .args .area)) _ _ (s .pre .0) (k .check .ensures), k .check .kept .1 .0 ∙ s .pre .0, s .pre .1)
-
-clear-requires : tie.Need-clear-requires
-clear-requires c κs = search needs
-
-same-length : tie.Need-same-length
-same-length c = search needs
-
-same-length-2 : tie.Need-same-length-2
-same-length-2 c = search needs
 
 returns : tie.Need-returns
 returns c =
@@ -34,4 +22,4 @@ returns c =
 pub answer-each-spec : {M : Type 1} → statement M
 answer-each-spec =
     tie.close
-    (tie.spec check-requires report-each-requires clear-requires same-length same-length-2 returns)
+    (tie.spec (λ c κs. search needs) report-each-requires (λ c κs. search needs) (λ c. search needs) (λ c. search needs) returns)

@@ -24,24 +24,6 @@ loop-holds c =
     let s = c .before .before .before .before in
     (omega arith, s .pre .0, s .pre .1, refl, none-reported (now (s .args .words)) (now (s .args .questions)) (now (s .args .reports)))
 
-mul-from : tie.Need-mul-from Inv-loop μ-loop
-mul-from c = omega arith
-
-mul-question-of : tie.Need-mul-question-of Inv-loop μ-loop
-mul-question-of c = omega arith
-
-sub-question-of : tie.Need-sub-question-of Inv-loop μ-loop
-sub-question-of c = omega arith
-
-part-question-of-start : tie.Need-part-question-of-start Inv-loop μ-loop
-part-question-of-start c = omega arith
-
-part-question-of-end : tie.Need-part-question-of-end Inv-loop μ-loop
-part-question-of-end c = omega arith
-
-question-of-requires : tie.Need-question-of-requires Inv-loop μ-loop
-question-of-requires c κs = search needs
-
 report-on-requires : tie.Need-report-on-requires Inv-loop μ-loop
 report-on-requires c κs =
     let l = c .before .before .before .before .loop in
@@ -59,25 +41,10 @@ mul-write-report c =
     let s = t .before .before .before .before .before .before in
     omega (arith, t .loop-test .taken, s .pre .2, s .good)
 
-sub-write-report : tie.Need-sub-write-report Inv-loop μ-loop
-sub-write-report c = omega arith
-
-part-write-report-start : tie.Need-part-write-report-start Inv-loop μ-loop
-part-write-report-start c = omega arith
-
-part-write-report-end : tie.Need-part-write-report-end Inv-loop μ-loop
-part-write-report-end c = omega arith
-
-write-report-requires : tie.Need-write-report-requires Inv-loop μ-loop
-write-report-requires c κs = search needs
-
 add-i : tie.Need-add-i Inv-loop μ-loop
 add-i c =
     let t = c .before .before .before .before .before .before .before .before .before .before in
     omega (arith, t .loop-test .taken, t .before .before .before .before .before .before .good .1 .1 .1 .0 .0)
-
-loop-less : tie.Need-loop-less Inv-loop μ-loop
-loop-less c = omega arith
 
 loop-again : tie.Need-loop-again Inv-loop μ-loop
 loop-again c =
@@ -86,12 +53,15 @@ loop-again c =
     let t = o .before .before .before .before in
     let l = t .before .loop in
     let s = t .before .before .before .before .before .before in
-    let k = same-len-mid (reportSize * l .i) (length (l .reports) - reportSize * l .i) (l .reports) (w .write-report .last .1 .0) (w .write-report .kept .1 .0) in (
+    let k = same-len-mid (reportSize * l .i) (length (l .reports) - reportSize * l .i) (l .reports) (w .write-report .last .1 .0)
+    (w .write-report .kept .1 .0) in (
       omega (arith, t .loop-test .taken),
       o .report-on .ensures .checked,
       o .report-on .kept .1 .0 ∙ l .inv .2,
       k ∙ l .inv .3,
-      one-more (now (s .args .words)) (now (s .args .questions)) (now (s .args .reports)) (l .i) (l .reports) (l .inv .4) _ _ (o .before .question-of .ensures) (o .report-on .ensures .report) (l .inv .3) (omega (arith, t .loop-test .taken, s .pre .2)) _ _ (w .write-report .ensures) (w .write-report .kept .1 .0),
+      one-more (now (s .args .words)) (now (s .args .questions)) (now (s .args .reports)) (l .i) (l .reports) (l .inv .4) _ _
+          (o .before .question-of .ensures) (o .report-on .ensures .report) (l .inv .3) (omega (arith, t .loop-test .taken, s .pre .2))
+          _ _ (w .write-report .ensures) (w .write-report .kept .1 .0),
     )
 
 same-length : tie.Need-same-length Inv-loop μ-loop
@@ -104,33 +74,14 @@ returns : tie.Need-returns Inv-loop μ-loop
 returns c =
     let l = c .before .loop in
     let s = c .before .before .before .before .before .before in (
-      all-reported (now (s .args .words)) (now (s .args .questions)) (now (s .args .reports)) (l .i) (l .reports) (l .inv .4) _ (l .inv .0) (c .loop-test .left),
+      all-reported (now (s .args .words)) (now (s .args .questions)) (now (s .args .reports)) (l .i) (l .reports) (l .inv .4) _
+          (l .inv .0) (c .loop-test .left),
       l .inv .1,
     )
 
 pub report-each-spec : {M : Type 1} → statement M
 report-each-spec =
-    tie.close
-    (tie.spec
-    Inv-loop
-    μ-loop
-    loop-holds
-    mul-from
-    mul-question-of
-    sub-question-of
-    part-question-of-start
-    part-question-of-end
-    question-of-requires
-    report-on-requires
-    mul-to
-    mul-write-report
-    sub-write-report
-    part-write-report-start
-    part-write-report-end
-    write-report-requires
-    add-i
-    loop-less
-    loop-again
-    same-length
-    same-length-2
-    returns)
+    tie.close (tie.spec Inv-loop μ-loop loop-holds (λ c. omega arith) (λ c. omega arith) (λ c. omega arith)
+    (λ c. omega arith) (λ c. omega arith) (λ c κs. search needs) report-on-requires mul-to mul-write-report
+    (λ c. omega arith) (λ c. omega arith) (λ c. omega arith) (λ c κs. search needs) add-i (λ c. omega arith) loop-again
+    same-length same-length-2 returns)

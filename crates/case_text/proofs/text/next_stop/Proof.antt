@@ -40,43 +40,34 @@ abbrev μ-loop : tie.MeasureT-loop
 loop-holds : tie.Need-loop-holds Inv-loop μ-loop
 loop-holds c = (omega arith, c .pre, unmet-none (now (c .args .text)) (c .args .from) (c .args .stop))
 
-shared-slice-read-if1 : tie.Need-shared-slice-read-if1 Inv-loop μ-loop
-shared-slice-read-if1 c = search needs
-
 returns : tie.Need-returns Inv-loop μ-loop
 returns c =
     let l = c .before .before .before in
     let a = l .before .args in
     (l .loop .inv .0, l .loop .inv .1, unmet-all (now (a .text)) (a .from) (a .stop) (l .loop .i) (l .loop .inv .2), λ h. c .if1 .taken)
 
-add-i : tie.Need-add-i Inv-loop μ-loop
-add-i c = search needs
-
-loop-less : tie.Need-loop-less Inv-loop μ-loop
-loop-less c = search needs
-
 loop-again : tie.Need-loop-again Inv-loop μ-loop
 loop-again c =
     let l = c .before .before .before in
-    let a = l .before .args in
-    (omega (arith, l .loop .inv .0), omega (arith, c .before .before .loop-test .taken), unmet-next (now (a .text)) (a .from) (a .stop) (l .loop .i) (l .loop .inv .2) (c .if1 .left))
+    let a = l .before .args in (
+      omega (arith, l .loop .inv .0),
+      omega (arith, c .before .before .loop-test .taken),
+      unmet-next (now (a .text)) (a .from)
+          (a .stop) (l .loop .i) (l .loop .inv .2) (c .if1 .left),
+    )
 
 returns-2 : tie.Need-returns-2 Inv-loop μ-loop
 returns-2 c =
     let l = c .before in
-    let a = l .before .args in
-    (l .loop .inv .0, l .loop .inv .1, unmet-all (now (a .text)) (a .from) (a .stop) (l .loop .i) (l .loop .inv .2), λ h. absurd (omega (arith, h, c .loop-test .left)))
+    let a = l .before .args in (
+      l .loop .inv .0,
+      l .loop .inv .1,
+      unmet-all (now (a .text)) (a .from) (a .stop) (l .loop .i) (l .loop .inv .2),
+      λ h. absurd
+          (omega (arith, h, c .loop-test .left)),
+    )
 
 pub next-stop-spec : {M : Type 1} → statement M
 next-stop-spec =
-    tie.close
-    (tie.spec
-    Inv-loop
-    μ-loop
-    loop-holds
-    shared-slice-read-if1
-    returns
-    add-i
-    loop-less
-    loop-again
-    returns-2)
+    tie.close (tie.spec Inv-loop μ-loop loop-holds (λ c. search needs) returns (λ c. search needs) (λ c. search needs)
+    loop-again returns-2)

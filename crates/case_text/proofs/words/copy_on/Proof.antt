@@ -1,4 +1,3 @@
-use Prim.Native.Nat.{_-_}
 use mathlib.Core.Path.{_≡_, refl, _∙_, sym}
 use lib.ListN.{length, length-set}
 use borrow.Author.Needs.{needs}
@@ -18,17 +17,11 @@ abbrev μ-loop : tie.MeasureT-loop
 loop-holds : tie.Need-loop-holds Inv-loop μ-loop
 loop-holds c = (refl, refl)
 
-same-length : tie.Need-same-length Inv-loop μ-loop
-same-length c = search needs
-
 returns : tie.Need-returns Inv-loop μ-loop
 returns c =
     let l = c .before .before in
     let a = l .before .before .args in
     copied-early (l .loop .words) (l .loop .i) (a .k) (a .heads) (a .arguments) (l .loop .left) (c .if1 .taken) ∙ l .loop .inv .1
-
-same-length-2 : tie.Need-same-length-2 Inv-loop μ-loop
-same-length-2 c = search needs
 
 returns-2 : tie.Need-returns-2 Inv-loop μ-loop
 returns-2 c =
@@ -36,30 +29,6 @@ returns-2 c =
     let a = l .before .before .args in
     copied-full (l .loop .words) (l .loop .i) (a .k) (a .heads) (a .arguments) (l .loop .left) (c .before .if1 .left) (c .if2 .taken)
     ∙ l .loop .inv .1
-
-mul-w : tie.Need-mul-w Inv-loop μ-loop
-mul-w c = search needs
-
-slice-read-w : tie.Need-slice-read-w Inv-loop μ-loop
-slice-read-w c = search needs
-
-raised-requires : tie.Need-raised-requires Inv-loop μ-loop
-raised-requires c κs = search needs
-
-mul-words : tie.Need-mul-words Inv-loop μ-loop
-mul-words c = search needs
-
-slice-write-words : tie.Need-slice-write-words Inv-loop μ-loop
-slice-write-words c = search needs
-
-add-i : tie.Need-add-i Inv-loop μ-loop
-add-i c = search needs
-
-sub-left : tie.Need-sub-left Inv-loop μ-loop
-sub-left c = search needs
-
-loop-less : tie.Need-loop-less Inv-loop μ-loop
-loop-less c = search needs
 
 loop-again : tie.Need-loop-again Inv-loop μ-loop
 loop-again c =
@@ -71,9 +40,6 @@ loop-again c =
           (e .before .if1 .left) (e .if2 .left) (c .raised .result) (c .raised .ensures) ∙ l .loop .inv .1,
     )
 
-same-length-3 : tie.Need-same-length-3 Inv-loop μ-loop
-same-length-3 c = search needs
-
 returns-3 : tie.Need-returns-3 Inv-loop μ-loop
 returns-3 c =
     let l = c .before in
@@ -82,23 +48,6 @@ returns-3 c =
 
 pub copy-on-spec : {M : Type 1} → statement M
 copy-on-spec =
-    tie.close
-    (tie.spec
-    Inv-loop
-    μ-loop
-    loop-holds
-    same-length
-    returns
-    same-length-2
-    returns-2
-    mul-w
-    slice-read-w
-    raised-requires
-    mul-words
-    slice-write-words
-    add-i
-    sub-left
-    loop-less
-    loop-again
-    same-length-3
-    returns-3)
+    tie.close (tie.spec Inv-loop μ-loop loop-holds (λ c. search needs) returns (λ c. search needs) returns-2
+    (λ c. search needs) (λ c. search needs) (λ c κs. search needs) (λ c. search needs) (λ c. search needs)
+    (λ c. search needs) (λ c. search needs) (λ c. search needs) loop-again (λ c. search needs) returns-3)

@@ -3,15 +3,6 @@ use Rattle.case_text.proofs.Laws.{digit-numeral, digit-letter, digit-lo
 use Rattle.case_text.proofs.words.digit.Statement.{statement}
 use Rattle.case_text.proofs.words.digit.Tie as tie
 
-cast-result : tie.Need-cast-result
-cast-result c = search needs
-
-sub-result : tie.Need-sub-result
-sub-result c = search needs
-
-cast-result-2 : tie.Need-cast-result-2
-cast-result-2 c = search needs
-
 returns : tie.Need-returns
 returns c = digit-star (c .before .args .b) (c .match .keys1)
 
@@ -32,14 +23,5 @@ returns-6 c = digit-high (c .before .before .before .before .before .args .b) (c
 
 pub digit-spec : {M : Type 1} → statement M
 digit-spec =
-    tie.close
-    (tie.spec
-    cast-result
-    sub-result
-    cast-result-2
-    returns
-    returns-2
-    returns-3
-    returns-4
-    returns-5
-    returns-6)
+    tie.close (tie.spec (λ c. search needs) (λ c. search needs) (λ c. search needs) returns returns-2 returns-3
+    returns-4 returns-5 returns-6)

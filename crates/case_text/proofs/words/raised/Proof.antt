@@ -4,16 +4,10 @@ use Rattle.case_text.proofs.Laws.{raised-argument, raised-head}
 use Rattle.case_text.proofs.words.raised.Statement.{statement}
 use Rattle.case_text.proofs.words.raised.Tie as tie
 
-wrapping-add-u32-requires : tie.Need-wrapping-add-u32-requires
-wrapping-add-u32-requires c κs = search needs
-
 returns : tie.Need-returns
 returns c =
     let a = c .before .before .args in
     c .wrapping-add-u32 .ensures ∙ raised-argument (a .w) (a .heads) (a .arguments) (c .before .if1 .taken)
-
-wrapping-add-u32-requires-2 : tie.Need-wrapping-add-u32-requires-2
-wrapping-add-u32-requires-2 c κs = search needs
 
 returns-2 : tie.Need-returns-2
 returns-2 c =
@@ -22,4 +16,4 @@ returns-2 c =
 
 pub raised-spec : {M : Type 1} → statement M
 raised-spec =
-    tie.close (tie.spec wrapping-add-u32-requires returns wrapping-add-u32-requires-2 returns-2)
+    tie.close (tie.spec (λ c κs. search needs) returns (λ c κs. search needs) returns-2)

@@ -11,21 +11,6 @@ returns c = let a = c .before .args in stored-digit (now (a .words)) (a .n) (a .
 returns-2 : tie.Need-returns-2
 returns-2 c = let a = c .before .before .args in stored-none (now (a .words)) (a .n) (a .w) (a .d) (c .before .if1 .left) (c .if2 .taken)
 
-cast-words : tie.Need-cast-words
-cast-words c = search needs
-
-mul-words : tie.Need-mul-words
-mul-words c = search needs
-
-slice-write-words : tie.Need-slice-write-words
-slice-write-words c = search needs
-
-add-result : tie.Need-add-result
-add-result c = search needs
-
-same-length : tie.Need-same-length
-same-length c = search needs
-
 returns-3 : tie.Need-returns-3
 returns-3 c =
     let a = c .before .before .before .args in
@@ -40,14 +25,5 @@ returns-4 c =
 
 pub store-spec : {M : Type 1} → statement M
 store-spec =
-    tie.close
-    (tie.spec
-    returns
-    returns-2
-    cast-words
-    mul-words
-    slice-write-words
-    add-result
-    same-length
-    returns-3
-    returns-4)
+    tie.close (tie.spec returns returns-2 (λ c. search needs) (λ c. search needs) (λ c. search needs)
+    (λ c. search needs) (λ c. search needs) returns-3 returns-4)

@@ -20,17 +20,8 @@ abbrev μ-loop : tie.MeasureT-loop
 loop-holds : tie.Need-loop-holds Inv-loop μ-loop
 loop-holds c = (omega arith, refl, (λ k p q. absurd (omega arith)), omega arith, (λ k p. refl), λ k p. refl)
 
-mul-area : tie.Need-mul-area Inv-loop μ-loop
-mul-area c = search needs
-
 slice-write-area : tie.Need-slice-write-area Inv-loop μ-loop
 slice-write-area c = (let e = c .before .loop .inv .1 in let h = c .loop-test .taken in let p = c .before .before .pre in omega arith)
-
-add-i : tie.Need-add-i Inv-loop μ-loop
-add-i c = search needs
-
-loop-less : tie.Need-loop-less Inv-loop μ-loop
-loop-less c = search needs
 
 loop-again : tie.Need-loop-again Inv-loop μ-loop
 loop-again c =
@@ -66,15 +57,5 @@ returns c =
 
 pub clear-spec : {M : Type 1} → statement M
 clear-spec =
-    tie.close
-    (tie.spec
-    Inv-loop
-    μ-loop
-    loop-holds
-    mul-area
-    slice-write-area
-    add-i
-    loop-less
-    loop-again
-    same-length
-    returns)
+    tie.close (tie.spec Inv-loop μ-loop loop-holds (λ c. search needs) slice-write-area (λ c. search needs)
+    (λ c. search needs) loop-again same-length returns)

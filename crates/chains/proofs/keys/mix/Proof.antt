@@ -12,19 +12,14 @@ use Rattle.chains.proofs.keys.mix.Statement.{statement}
 use Rattle.chains.proofs.keys.mix.Tie as tie
 
 abbrev Inv-loop : tie.InvT-loop
-Inv-loop words head bytes n a₀ i₀ a i = (a < 4294967296) × (i ≤ n) × (mixed bytes (rows (λ j. getD words (head + 1 + j) 0) 0 n) ≡ mixed a (rows (λ j. getD words (head + 1 + j) 0) i (n - i)))
+Inv-loop words head bytes n a₀ i₀ a i = (a < 4294967296) × (i ≤ n)
+    × (mixed bytes (rows (λ j. getD words (head + 1 + j) 0) 0 n) ≡ mixed a (rows (λ j. getD words (head + 1 + j) 0) i (n - i)))
 
 abbrev μ-loop : tie.MeasureT-loop
 μ-loop words head bytes n a₀ i₀ a i = n - i
 
 loop-holds : tie.Need-loop-holds Inv-loop μ-loop
 loop-holds c = (omega arith, omega arith, rows-whole (mixed _) _ _)
-
-add-field : tie.Need-add-field Inv-loop μ-loop
-add-field c = search needs
-
-field-requires : tie.Need-field-requires Inv-loop μ-loop
-field-requires c κs = search needs
 
 add-a : tie.Need-add-a Inv-loop μ-loop
 add-a c =
@@ -44,34 +39,21 @@ mul-a c =
     let h = l .inv .0 in
     omega arith
 
-add-i : tie.Need-add-i Inv-loop μ-loop
-add-i c = search needs
-
-loop-less : tie.Need-loop-less Inv-loop μ-loop
-loop-less c = search needs
-
 loop-again : tie.Need-loop-again Inv-loop μ-loop
 loop-again c =
     let l = c .before .before .loop in
     let s = c .before .before .before .before in
-    let h = c .before .loop-test .taken in
-    (omega arith, omega arith, mixed-go _ _ _ _ _ (l .inv .2) (omega arith) (c .field .ensures ∙ after-head (now (s .args .words)) (s .args .head) (l .i)) refl)
+    let h = c .before .loop-test .taken in (
+      omega arith,
+      omega arith,
+      mixed-go _ _ _ _ _ (l .inv .2) (omega arith) (c .field .ensures ∙ after-head (now (s .args .words))
+          (s .args .head) (l .i)) refl,
+    )
 
 returns : tie.Need-returns Inv-loop μ-loop
 returns c = mixed-end _ _ _ _ _ (c .before .loop .inv .2) (omega arith)
 
 pub mix-spec : {M : Type 1} → statement M
 mix-spec =
-    tie.close
-    (tie.spec
-    Inv-loop
-    μ-loop
-    loop-holds
-    add-field
-    field-requires
-    add-a
-    mul-a
-    add-i
-    loop-less
-    loop-again
-    returns)
+    tie.close (tie.spec Inv-loop μ-loop loop-holds (λ c. search needs) (λ c κs. search needs) add-a mul-a
+    (λ c. search needs) (λ c. search needs) loop-again returns)

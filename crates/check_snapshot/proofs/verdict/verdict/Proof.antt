@@ -12,39 +12,16 @@ returns c = verdict-long _ (omega arith)
 returns-2 : tie.Need-returns-2
 returns-2 c = verdict-rest _ (omega arith) (c .if2 .taken)
 
-words-in-requires : tie.Need-words-in-requires
-words-in-requires c κs = search needs
-
-slice-reshare-prefix-check : tie.Need-slice-reshare-prefix-check
-slice-reshare-prefix-check c = search needs
-
 slice-aggregate-check : tie.Need-slice-aggregate-check
 slice-aggregate-check c = sym (length-take-le _ _ (omega arith))
-
-check-requires : tie.Need-check-requires
-check-requires c κs = search needs
-
-same-length : tie.Need-same-length
-same-length c = search needs
-
-same-length-2 : tie.Need-same-length-2
-same-length-2 c = search needs
 
 returns-3 : tie.Need-returns-3
 returns-3 c =
     let k = c .before .before .check in
-    verdict-same _ _ (k .last .1 .0) _ (k .result) (c .before .before .before .before .before .before .before .words-in .ensures .0) (k .ensures .same) (omega arith) (omega arith) (c .before .before .before .before .before .before .before .before .before .if2 .left)
+    verdict-same _ _ (k .last .1 .0) _ (k .result) (c .before .before .before .before .before .before .before .words-in .ensures .0)
+    (k .ensures .same) (omega arith) (omega arith) (c .before .before .before .before .before .before .before .before .before .if2 .left)
 
 pub verdict-spec : {M : Type 1} → statement M
 verdict-spec =
-    tie.close
-    (tie.spec
-    returns
-    returns-2
-    words-in-requires
-    slice-reshare-prefix-check
-    slice-aggregate-check
-    check-requires
-    same-length
-    same-length-2
-    returns-3)
+    tie.close (tie.spec returns returns-2 (λ c κs. search needs) (λ c. search needs) slice-aggregate-check
+    (λ c κs. search needs) (λ c. search needs) (λ c. search needs) returns-3)

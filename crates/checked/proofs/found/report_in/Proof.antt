@@ -10,9 +10,6 @@ use Rattle.checked.proofs.Reading.{found-few}
 use Rattle.checked.proofs.found.report_in.Statement.{statement}
 use Rattle.checked.proofs.found.report_in.Tie as tie
 
-find-path-requires : tie.Need-find-path-requires
-find-path-requires c κs = search needs
-
 misleads-requires : tie.Need-misleads-requires
 misleads-requires c κs =
     let s = c .before .before .before .before .before .before .before .before in
@@ -24,12 +21,6 @@ misleads-requires c κs =
       found-few (snapOf W A (s .args .l)) (s .args .q) (s .args .fuel) (s .pre .6) (s .pre .7) (f .result) (f .ensures .same),
     )
 
-reported-requires : tie.Need-reported-requires
-reported-requires c κs = search needs
-
-same-length : tie.Need-same-length
-same-length c = search needs
-
 returns : tie.Need-returns
 returns c =
     let s = c .before .before .before .before .before .before .before .before .before .before in
@@ -39,10 +30,11 @@ returns c =
     let S = snapOf W A (s .args .l) in
     let q = s .args .q in (
       c .reported .ensures S q
-          (c .before .misleads .ensures ∙ ap (λ (x : Snapshot). misleads x q (f .result .choice)) (same-snap W A (f .last .1 .0) (s .args .l) (f .ensures .tables) (s .pre .0)))
+          (c .before .misleads .ensures ∙ ap (λ (x : Snapshot). misleads x q (f .result .choice))
+          (same-snap W A (f .last .1 .0) (s .args .l) (f .ensures .tables) (s .pre .0)))
           ∙ reported-out S q (f .result) _ (f .ensures .same),
       f .ensures .tables,
     )
 
 pub report-in-spec : {M : Type 1} → statement M
-report-in-spec = tie.close (tie.spec find-path-requires misleads-requires reported-requires same-length returns)
+report-in-spec = tie.close (tie.spec (λ c κs. search needs) misleads-requires (λ c κs. search needs) (λ c. search needs) returns)

@@ -5,18 +5,6 @@ use Rattle.checked.proofs.Putting.{few-names, line-refused, line-accept
 use Rattle.checked.proofs.lines.line_on.Statement.{statement}
 use Rattle.checked.proofs.lines.line_on.Tie as tie
 
-report-on-requires : tie.Need-report-on-requires
-report-on-requires c κs = search needs
-
-enum-told : tie.Need-enum-told
-enum-told c = search needs
-
-put-refusal-requires : tie.Need-put-refusal-requires
-put-refusal-requires c κs = search needs
-
-enum-known-c : tie.Need-enum-known-c
-enum-known-c c = search needs
-
 put-line-requires : tie.Need-put-line-requires
 put-line-requires c κs =
     let s = c .before .before .before .before .before .before .before .before .before .before .before .before in
@@ -26,42 +14,21 @@ put-line-requires c κs =
       few-names (now (s .args .words)) (s .args .question) (a .last .1 .0) (s .args .c) (a .result) (a .ensures),
     )
 
-same-length : tie.Need-same-length
-same-length c = search needs
-
-same-length-2 : tie.Need-same-length-2
-same-length-2 c = search needs
-
 returns : tie.Need-returns
 returns c =
     let s = c .before .before .before .before .before .before .before .before .before .before .before .before .before .args in
     let a = c .before .before .before .before .before .before .before .before .report-on in
-    line-refused (now (s .words)) (s .question) (a .last .1 .0) (s .c) (a .result) (a .ensures) _ _ _ _ _ (c .before .before .before .before .enum-told .given .1) (c .before .before .put-refusal .ensures)
-
-same-length-3 : tie.Need-same-length-3
-same-length-3 c = search needs
-
-same-length-4 : tie.Need-same-length-4
-same-length-4 c = search needs
+    line-refused (now (s .words)) (s .question) (a .last .1 .0) (s .c) (a .result) (a .ensures) _ _ _ _ _
+    (c .before .before .before .before .enum-told .given .1) (c .before .before .put-refusal .ensures)
 
 returns-2 : tie.Need-returns-2
 returns-2 c =
     let s = c .before .before .before .before .before .before .before .before .before .before .before .before .before .before .before .args in
     let a = c .before .before .before .before .before .before .before .before .before .before .report-on in
-    line-accepted (now (s .words)) (s .question) (a .last .1 .0) (s .c) (a .result) (a .ensures) _ _ _ _ (c .before .before .before .before .before .before .c .given .1) (c .before .before .put-line .ensures)
+    line-accepted (now (s .words)) (s .question) (a .last .1 .0) (s .c) (a .result) (a .ensures) _ _ _ _
+    (c .before .before .before .before .before .before .c .given .1) (c .before .before .put-line .ensures)
 
 pub line-on-spec : {M : Type 1} → statement M
 line-on-spec =
-    tie.close
-    (tie.spec
-    report-on-requires
-    enum-told
-    put-refusal-requires
-    enum-known-c
-    put-line-requires
-    same-length
-    same-length-2
-    returns
-    same-length-3
-    same-length-4
-    returns-2)
+    tie.close (tie.spec (λ c κs. search needs) (λ c. search needs) (λ c κs. search needs) (λ c. search needs)
+    put-line-requires (λ c. search needs) (λ c. search needs) returns (λ c. search needs) (λ c. search needs) returns-2)

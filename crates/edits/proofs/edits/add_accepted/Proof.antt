@@ -11,36 +11,19 @@ use borrow.Author.Needs.{needs}
 use Rattle.edits.proofs.edits.add_accepted.Statement.{statement}
 use Rattle.edits.proofs.edits.add_accepted.Tie as tie
 
-slice-reshare-prefix-add-fault : tie.Need-slice-reshare-prefix-add-fault
-slice-reshare-prefix-add-fault c = search needs
-
 slice-aggregate-add-fault : tie.Need-slice-aggregate-add-fault
 slice-aggregate-add-fault c = let s = c .before .before in sym (length-take-le _ (now (s .args .words)) (s .pre .0))
-
-add-fault-requires : tie.Need-add-fault-requires
-add-fault-requires c κs = search needs
-
-cast-t14 : tie.Need-cast-t14
-cast-t14 c = search needs
-
-same-length : tie.Need-same-length
-same-length c = search needs
 
 returns : tie.Need-returns
 returns c =
     let f = c .before in
     let s = f .before .before .before .before in
     let r = s .pre .1 .1 in
-    added-not (now (s .args .words)) (s .args .count) (s .pre .0) _ (r .same) (entryOf (now (s .args .entry))) _ (f .add-fault .ensures (s .pre .1 .0) r) (c .if1 .taken)
-
-slice-reshare-prefix-scopes-end : tie.Need-slice-reshare-prefix-scopes-end
-slice-reshare-prefix-scopes-end c = search needs
+    added-not (now (s .args .words)) (s .args .count) (s .pre .0) _ (r .same) (entryOf (now (s .args .entry))) _
+    (f .add-fault .ensures (s .pre .1 .0) r) (c .if1 .taken)
 
 slice-aggregate-scopes-end : tie.Need-slice-aggregate-scopes-end
 slice-aggregate-scopes-end c = let s = c .before .before .before .before .before .before in sym (length-take-le _ (now (s .args .words)) (s .pre .0))
-
-scopes-end-requires : tie.Need-scopes-end-requires
-scopes-end-requires c κs = search needs
 
 record-of-requires : tie.Need-record-of-requires
 record-of-requires c κs =
@@ -48,10 +31,8 @@ record-of-requires c κs =
     let f = e .before in
     let s = f .before .before .before .before in
     let r = s .pre .1 .1 in
-    added-head (now (s .args .words)) (s .args .count) (s .pre .0) _ (r .same) (entryOf (now (s .args .entry))) _ (f .add-fault .ensures (s .pre .1 .0) r) (e .if1 .left)
-
-slice-aggregate-insert : tie.Need-slice-aggregate-insert
-slice-aggregate-insert c = search needs
+    added-head (now (s .args .words)) (s .args .count) (s .pre .0) _ (r .same) (entryOf (now (s .args .entry))) _
+    (f .add-fault .ensures (s .pre .1 .0) r) (e .if1 .left)
 
 insert-requires : tie.Need-insert-requires
 insert-requires c κs =
@@ -62,15 +43,10 @@ insert-requires c κs =
     let s = f .before .before .before .before in
     let r = s .pre .1 .1 in
     let q =
-    added-fits (now (s .args .words)) (s .args .count) (s .pre .0) _ (r .same) (entryOf (now (s .args .entry))) _ (f .add-fault .ensures (s .pre .1 .0) r) (e .if1 .left) _
+    added-fits (now (s .args .words)) (s .args .count) (s .pre .0) _ (r .same) (entryOf (now (s .args .entry))) _
+    (f .add-fault .ensures (s .pre .1 .0) r) (e .if1 .left) _
     (p .scopes-end .ensures) in
     (q .0, q .1, record-long (entryOf (now (s .args .entry))) _ (d .record-of .ensures))
-
-add-t23 : tie.Need-add-t23
-add-t23 c = search needs
-
-same-length-2 : tie.Need-same-length-2
-same-length-2 c = search needs
 
 returns-2 : tie.Need-returns-2
 returns-2 c =
@@ -82,27 +58,15 @@ returns-2 c =
     let s = f .before .before .before .before in
     let r = s .pre .1 .1 in
     let W = now (s .args .words) in
-    added-done W (s .args .count) (s .pre .0) _ (r .same) (entryOf (now (s .args .entry))) _ (f .add-fault .ensures (s .pre .1 .0) r) (i .insert .last .0) _ (e .if1 .left)
+    added-done W (s .args .count) (s .pre .0) _ (r .same) (entryOf (now (s .args .entry))) _ (f .add-fault .ensures (s .pre .1 .0) r)
+    (i .insert .last .0) _ (e .if1 .left)
     (p .scopes-end .ensures)
     (i .insert .ensures
-    ∙ ap (λ y. inserted (p .scopes-end .result) y (take (s .args .count) W) ++ replicate (length W - (s .args .count + scopeSize)) 0) (d .record-of .ensures))
+    ∙ ap (λ y. inserted (p .scopes-end .result) y (take (s .args .count) W) ++ replicate (length W - (s .args .count + scopeSize)) 0)
+    (d .record-of .ensures))
 
 pub add-accepted-spec : {M : Type 1} → statement M
 add-accepted-spec =
-    tie.close
-    (tie.spec
-    slice-reshare-prefix-add-fault
-    slice-aggregate-add-fault
-    add-fault-requires
-    cast-t14
-    same-length
-    returns
-    slice-reshare-prefix-scopes-end
-    slice-aggregate-scopes-end
-    scopes-end-requires
-    record-of-requires
-    slice-aggregate-insert
-    insert-requires
-    add-t23
-    same-length-2
-    returns-2)
+    tie.close (tie.spec (λ c. search needs) slice-aggregate-add-fault (λ c κs. search needs) (λ c. search needs)
+    (λ c. search needs) returns (λ c. search needs) slice-aggregate-scopes-end (λ c κs. search needs) record-of-requires
+    (λ c. search needs) insert-requires (λ c. search needs) (λ c. search needs) returns-2)

@@ -16,8 +16,10 @@ returns-2 : tie.Need-returns-2
 returns-2 c =
     let t = c .before .before .before .before in
     let e = t .before in
-    let s = e .before .before .before in
-    (opens-short (now (s .args .words)) (now (s .args .area)) (s .args .count) (e .if1 .left) (t .if2 .taken), c .before .before .clear-front .ensures)
+    let s = e .before .before .before in (
+      opens-short (now (s .args .words)) (now (s .args .area)) (s .args .count) (e .if1 .left) (t .if2 .taken),
+      c .before .before .clear-front .ensures,
+    )
 
 slice-aggregate-check : tie.Need-slice-aggregate-check
 slice-aggregate-check c =
@@ -41,14 +43,5 @@ returns-3 c =
 
 pub opened-spec : {M : Type 1} → statement M
 opened-spec =
-    tie.close
-    (tie.spec
-    returns
-    (λ c κs. search needs)
-    (λ c. search needs)
-    returns-2
-    slice-aggregate-check
-    (λ c κs. search needs)
-    (λ c κs. search needs)
-    (λ c. search needs)
-    returns-3)
+    tie.close (tie.spec returns (λ c κs. search needs) (λ c. search needs) returns-2 slice-aggregate-check
+    (λ c κs. search needs) (λ c κs. search needs) (λ c. search needs) returns-3)

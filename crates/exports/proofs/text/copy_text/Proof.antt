@@ -1,4 +1,4 @@
-use Prim.Native.Nat.{_+_, _-_, _≤_}
+use Prim.Native.Nat.{_-_, _≤_}
 use mathlib.Core.Path.{_≡_, refl}
 use mathlib.Core.List.{_++_}
 use native.Mathlib.Omega.{arith}
@@ -19,9 +19,6 @@ abbrev μ-loop : tie.MeasureT-loop
 loop-holds : tie.Need-loop-holds Inv-loop μ-loop
 loop-holds c = (omega arith, refl)
 
-text-byte-requires : tie.Need-text-byte-requires Inv-loop μ-loop
-text-byte-requires c κs = search needs
-
 slice-write-out : tie.Need-slice-write-out Inv-loop μ-loop
 slice-write-out c =
     let l = c .before .before .loop in
@@ -29,12 +26,6 @@ slice-write-out c =
     let p = c .before .before .before .before .before .pre in
     let e = copy-long (now (a .text)) (now (a .out)) (l .out) (a .n) (l .i) (p .0) (p .1) (l .inv .1) (omega arith) in
     omega arith
-
-add-i : tie.Need-add-i Inv-loop μ-loop
-add-i c = omega arith
-
-loop-less : tie.Need-loop-less Inv-loop μ-loop
-loop-less c = omega arith
 
 loop-again : tie.Need-loop-again Inv-loop μ-loop
 loop-again c =
@@ -61,15 +52,5 @@ returns c =
 
 pub copy-text-spec : {M : Type 1} → statement M
 copy-text-spec =
-    tie.close
-    (tie.spec
-    Inv-loop
-    μ-loop
-    loop-holds
-    text-byte-requires
-    slice-write-out
-    add-i
-    loop-less
-    loop-again
-    same-length
-    returns)
+    tie.close (tie.spec Inv-loop μ-loop loop-holds (λ c κs. search needs) slice-write-out (λ c. omega arith)
+    (λ c. omega arith) loop-again same-length returns)

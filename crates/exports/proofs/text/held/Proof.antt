@@ -8,14 +8,8 @@ use Rattle.exports.proofs.Texts.{held-all, held-cut}
 use Rattle.exports.proofs.text.held.Statement.{statement}
 use Rattle.exports.proofs.text.held.Tie as tie
 
-text-words-requires : tie.Need-text-words-requires
-text-words-requires c κs = search needs
-
 returns : tie.Need-returns
 returns c = held-all _ _ (omega (arith, c .before .text-words .ensures, c .if1 .taken))
-
-mul-result : tie.Need-mul-result
-mul-result c = search needs
 
 returns-2 : tie.Need-returns-2
 returns-2 c =
@@ -24,4 +18,4 @@ returns-2 c =
     held-cut (now (a .text)) (a .bytes) h
 
 pub held-spec : {M : Type 1} → statement M
-held-spec = tie.close (tie.spec text-words-requires returns mul-result returns-2)
+held-spec = tie.close (tie.spec (λ c κs. search needs) returns (λ c. search needs) returns-2)

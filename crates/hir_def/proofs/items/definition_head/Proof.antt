@@ -7,18 +7,10 @@ use Rattle.hir_def.proofs.items.definition_head.Tie as tie
 returns : tie.Need-returns
 returns c = λ A. let s = c .before .before .before .before in definition-none (now (s .args .words)) A (s .args .l) (s .args .d .0) (c .if1 .taken)
 
-definition-base-requires : tie.Need-definition-base-requires
-definition-base-requires c κs = search needs
-
-mul-result : tie.Need-mul-result
-mul-result c = search needs
-
-add-result : tie.Need-add-result
-add-result c = search needs
-
 returns-2 : tie.Need-returns-2
-returns-2 c = λ A. let s = c .before .before .before .before .before .before in definition-there (now (s .args .words)) A (s .args .l) (s .args .d .0) (c .before .before .if1 .left) (c .before .definition-base .ensures)
+returns-2 c = λ A. let s = c .before .before .before .before .before .before in definition-there (now (s .args .words)) A (s .args .l)
+    (s .args .d .0) (c .before .before .if1 .left) (c .before .definition-base .ensures)
 
 pub definition-head-spec : {M : Type 1} → statement M
 definition-head-spec =
-    tie.close (tie.spec returns definition-base-requires mul-result add-result returns-2)
+    tie.close (tie.spec returns (λ c κs. search needs) (λ c. search needs) (λ c. search needs) returns-2)

@@ -6,21 +6,9 @@ use Rattle.hir_def.proofs.Lookups.{home-builtin, home-variant, home-oth
 use Rattle.hir_def.proofs.items.home_at.Statement.{statement}
 use Rattle.hir_def.proofs.items.home_at.Tie as tie
 
-definition-kind-requires : tie.Need-definition-kind-requires
-definition-kind-requires c κs = search needs
-
-definition-first-requires : tie.Need-definition-first-requires
-definition-first-requires c κs = search needs
-
 returns : tie.Need-returns
 unfolding plusOne
 returns c = λ A. home-builtin _ _ _ (sym (c .before .before .definition-kind .ensures) ∙ c .if1 .taken)
-
-definition-head-requires : tie.Need-definition-head-requires
-definition-head-requires c κs = search needs
-
-definition-first-requires-2 : tie.Need-definition-first-requires-2
-definition-first-requires-2 c κs = search needs
 
 returns-2 : tie.Need-returns-2
 unfolding plusOne
@@ -28,7 +16,8 @@ returns-2 c =
     λ A.
     let k = c .before .before .before .before .before .definition-kind .ensures in
     let e = c .before .before .before .before .definition-first .ensures in
-    home-variant _ _ _ (λ z. c .before .before .before .if1 .left (k ∙ z)) (sym k ∙ c .before .before .if2 .taken) (c .definition-first2 .ensures ∙ c .before .definition-head .ensures A .first) e
+    home-variant _ _ _ (λ z. c .before .before .before .if1 .left (k ∙ z)) (sym k ∙ c .before .before .if2 .taken)
+    (c .definition-first2 .ensures ∙ c .before .definition-head .ensures A .first) e
 
 returns-3 : tie.Need-returns-3
 unfolding plusOne
@@ -40,12 +29,5 @@ returns-3 c =
 
 pub home-at-spec : {M : Type 1} → statement M
 home-at-spec =
-    tie.close
-    (tie.spec
-    definition-kind-requires
-    definition-first-requires
-    returns
-    definition-head-requires
-    definition-first-requires-2
-    returns-2
-    returns-3)
+    tie.close (tie.spec (λ c κs. search needs) (λ c κs. search needs) returns (λ c κs. search needs)
+    (λ c κs. search needs) returns-2 returns-3)

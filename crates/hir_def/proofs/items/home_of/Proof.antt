@@ -7,18 +7,6 @@ use Rattle.hir_def.specs.Items.{homeBy, homeOf}
 use Rattle.hir_def.proofs.items.home_of.Statement.{statement}
 use Rattle.hir_def.proofs.items.home_of.Tie as tie
 
-enum-known-item : tie.Need-enum-known-item
-enum-known-item c = search needs
-
-enum-known-item-2 : tie.Need-enum-known-item-2
-enum-known-item-2 c = search needs
-
-definition-head-requires : tie.Need-definition-head-requires
-definition-head-requires c κs = search needs
-
-home-at-requires : tie.Need-home-at-requires
-home-at-requires c κs = search needs
-
 returns : tie.Need-returns
 unfolding plusOne homeOf
 returns c = λ A. ap (homeOf _) (sym (c .before .item .given .1))
@@ -29,15 +17,10 @@ returns-2 c =
     λ A.
     let s = c .before .before .before .before .before .before in
     let x = c .before .definition-head .ensures A in
-    c .home-at .ensures A ∙ ap₂ (homeBy (snapOf (now (s .args .words)) A (s .args .l))) (x .kind) (x .first) ∙ sym (ap (homeOf _) (c .before .before .before .item2 .given .1))
+    c .home-at .ensures A ∙ ap₂ (homeBy (snapOf (now (s .args .words)) A (s .args .l))) (x .kind) (x .first)
+    ∙ sym (ap (homeOf _) (c .before .before .before .item2 .given .1))
 
 pub home-of-spec : {M : Type 1} → statement M
 home-of-spec =
-    tie.close
-    (tie.spec
-    enum-known-item
-    enum-known-item-2
-    definition-head-requires
-    home-at-requires
-    returns
+    tie.close (tie.spec (λ c. search needs) (λ c. search needs) (λ c κs. search needs) (λ c κs. search needs) returns
     returns-2)

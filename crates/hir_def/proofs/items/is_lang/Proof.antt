@@ -5,11 +5,8 @@ use mathlib.Core.Bool.{not}
 use Rattle.hir_def.proofs.items.is_lang.Statement.{statement}
 use Rattle.hir_def.proofs.items.is_lang.Tie as tie
 
-origin-of-requires : tie.Need-origin-of-requires
-origin-of-requires c κs = search needs
-
 returns : tie.Need-returns
 returns c = λ A. ap (λ n. not (eqb n 0)) (c .origin-of .ensures A)
 
 pub is-lang-spec : {M : Type 1} → statement M
-is-lang-spec = tie.close (tie.spec origin-of-requires returns)
+is-lang-spec = tie.close (tie.spec (λ c κs. search needs) returns)

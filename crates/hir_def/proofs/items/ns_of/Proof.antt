@@ -4,12 +4,6 @@ use Rattle.hir_def.specs.Items.{nsOf}
 use Rattle.hir_def.proofs.items.ns_of.Statement.{statement}
 use Rattle.hir_def.proofs.items.ns_of.Tie as tie
 
-enum-told : tie.Need-enum-told
-enum-told c = search needs
-
-enum-known-item : tie.Need-enum-known-item
-enum-known-item c = search needs
-
 returns : tie.Need-returns
 unfolding nsOf
 returns c = sym (ap nsOf (c .enum-told .given .1))
@@ -19,4 +13,4 @@ unfolding nsOf
 returns-2 c = sym (ap nsOf (c .before .item .given .1))
 
 pub ns-of-spec : {M : Type 1} → statement M
-ns-of-spec = tie.close (tie.spec enum-told enum-known-item returns returns-2)
+ns-of-spec = tie.close (tie.spec (λ c. search needs) (λ c. search needs) returns returns-2)

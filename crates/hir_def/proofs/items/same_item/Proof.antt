@@ -4,24 +4,6 @@ use Rattle.hir_def.specs.Items.{sameItem}
 use Rattle.hir_def.proofs.items.same_item.Statement.{statement}
 use Rattle.hir_def.proofs.items.same_item.Tie as tie
 
-enum-known-a : tie.Need-enum-known-a
-enum-known-a c = search needs
-
-enum-known-b : tie.Need-enum-known-b
-enum-known-b c = search needs
-
-enum-told : tie.Need-enum-told
-enum-told c = search needs
-
-enum-known-a-2 : tie.Need-enum-known-a-2
-enum-known-a-2 c = search needs
-
-enum-told-2 : tie.Need-enum-told-2
-enum-told-2 c = search needs
-
-enum-known-b-2 : tie.Need-enum-known-b-2
-enum-known-b-2 c = search needs
-
 returns : tie.Need-returns
 unfolding sameItem
 returns c = sym (ap₂ sameItem (c .before .before .before .before .before .before .a .given .1) (c .before .before .before .b .given .1))
@@ -36,19 +18,10 @@ returns-3 c = sym (ap₂ sameItem (c .before .before .before .a2 .given .1) (c .
 
 returns-4 : tie.Need-returns-4
 unfolding sameItem
-returns-4 c = sym (ap₂ sameItem (c .before .before .before .before .before .before .before .before .a2 .given .1) (c .before .before .before .before .before .b2 .given .1))
+returns-4 c = sym (ap₂ sameItem (c .before .before .before .before .before .before .before .before .a2 .given .1)
+    (c .before .before .before .before .before .b2 .given .1))
 
 pub same-item-spec : {M : Type 1} → statement M
 same-item-spec =
-    tie.close
-    (tie.spec
-    enum-known-a
-    enum-known-b
-    enum-told
-    enum-known-a-2
-    enum-told-2
-    enum-known-b-2
-    returns
-    returns-2
-    returns-3
-    returns-4)
+    tie.close (tie.spec (λ c. search needs) (λ c. search needs) (λ c. search needs) (λ c. search needs)
+    (λ c. search needs) (λ c. search needs) returns returns-2 returns-3 returns-4)

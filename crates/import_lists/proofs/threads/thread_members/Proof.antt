@@ -7,47 +7,17 @@ use Rattle.import_lists.specs.Threads.{Threads}
 use Rattle.import_lists.proofs.Threading.{threads-none, threads-more, threads-key}
 use Rattle.import_lists.proofs.threads.thread_members.Statement.{statement}
 use Rattle.import_lists.proofs.threads.thread_members.Tie as tie
-use Rattle.import_lists.proofs.threads.thread_members.Reads as reads
-use Rattle.import_lists.proofs.threads.thread_members.Lts as lts
-use Rattle.chains.proofs.chain.link.Reads as link-reads
-use Rattle.snapshot.proofs.layout.Layout.member_base.Reads as member-base-reads
-use Rattle.snapshot.proofs.record.member_parent.Reads as member-parent-reads
 
 abbrev Inv-loop : tie.InvT-loop
-Inv-loop words area₀ base count j₀ area j = (j ≤ count) × Threads 2048 8768 10816 (λ i. memberAt words (base + 5 * (count - 1 - i)) .parent) j area₀ area
+Inv-loop words area₀ base count j₀ area j = (j ≤ count)
+    × Threads 2048 8768 10816 (λ i. memberAt words (base + 5 * (count - 1 - i)) .parent) j area₀ area
 
 abbrev μ-loop : tie.MeasureT-loop
 μ-loop words area₀ base count j₀ area j = count - j
 
--- src/threads.rt:59:9
-member-base-requires : tie.Need-member-base-requires Inv-loop μ-loop
-member-base-requires c κs = search needs
-
--- src/threads.rt:62:5
 loop-holds : tie.Need-loop-holds Inv-loop μ-loop
 loop-holds c = (omega arith, threads-none _ _ (c .before .before .before .pre .1 .0))
 
--- src/threads.rt:63:50
-sub-member-parent : tie.Need-sub-member-parent Inv-loop μ-loop
-sub-member-parent c = omega arith
-
--- src/threads.rt:63:50
-sub-member-parent-2 : tie.Need-sub-member-parent-2 Inv-loop μ-loop
-sub-member-parent-2 c = omega arith
-
--- src/threads.rt:63:45
-mul-member-parent : tie.Need-mul-member-parent Inv-loop μ-loop
-mul-member-parent c = omega arith
-
--- src/threads.rt:63:38
-add-member-parent : tie.Need-add-member-parent Inv-loop μ-loop
-add-member-parent c = omega arith
-
--- src/threads.rt:63:13
-member-parent-requires : tie.Need-member-parent-requires Inv-loop μ-loop
-member-parent-requires c κs = search needs
-
--- src/threads.rt:64:9
 link-requires : tie.Need-link-requires Inv-loop μ-loop
 link-requires c κs =
     let k = c .before .before .before in
@@ -58,15 +28,6 @@ link-requires c κs =
     let q : c .before .member-parent .result .0 < 2048 = rw (e, b) h in
     (omega (arith, k .loop .inv .1 .size), omega (arith, k .loop .inv .1 .size), omega arith)
 
--- src/threads.rt:65:9
-add-j : tie.Need-add-j Inv-loop μ-loop
-add-j c = omega arith
-
--- src/threads.rt:62:5
-loop-less : tie.Need-loop-less Inv-loop μ-loop
-loop-less c = omega arith
-
--- src/threads.rt:62:5
 loop-again : tie.Need-loop-again Inv-loop μ-loop
 loop-again c =
     let k = c .before .before .before .before .before .before in
@@ -77,11 +38,6 @@ loop-again c =
     let q : c .before .before .before .before .member-parent .result .0 < 2048 = rw (e, b) h in
     (omega arith, threads-more (k .loop .inv .1) (omega arith) (omega arith) q e (c .before .before .link .ensures))
 
--- src/threads.rt:54:1
-same-length : tie.Need-same-length Inv-loop μ-loop
-same-length c = search needs
-
--- src/threads.rt:54:1
 returns : tie.Need-returns Inv-loop μ-loop
 returns c =
     let s = c .before .before .before .before .before in
@@ -90,20 +46,6 @@ returns c =
 
 pub thread-members-spec : {M : Type 1} → statement M
 thread-members-spec =
-    tie.close
-    (tie.spec
-    Inv-loop
-    μ-loop
-    member-base-requires
-    loop-holds
-    sub-member-parent
-    sub-member-parent-2
-    mul-member-parent
-    add-member-parent
-    member-parent-requires
-    link-requires
-    add-j
-    loop-less
-    loop-again
-    same-length
-    returns)
+    tie.close (tie.spec Inv-loop μ-loop (λ c κs. search needs) loop-holds (λ c. omega arith) (λ c. omega arith)
+    (λ c. omega arith) (λ c. omega arith) (λ c κs. search needs) link-requires (λ c. omega arith) (λ c. omega arith)
+    loop-again (λ c. search needs) returns)

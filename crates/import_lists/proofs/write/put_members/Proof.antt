@@ -3,28 +3,18 @@ use mathlib.Core.Path.{refl, sym, ap}
 use native.Mathlib.Omega.{arith}
 use borrow.Author.Needs.{needs}
 use Rattle.snapshot.specs.Records.{scopeAt}
-use Rattle.import_lists.proofs.Writing.{space-first, space-as, wrote-as, Going, going-start, going-next, going-done, keptAt, kept-end, kept-first, kept-next, member-bounded}
+use Rattle.import_lists.proofs.Writing.{space-first, space-as, wrote-as, Going, going-start, going-next, going-done, keptAt, kept-end}
+use Rattle.import_lists.proofs.Writing.{kept-first, kept-next, member-bounded}
 use Rattle.import_lists.proofs.write.put_members.Statement.{statement}
 use Rattle.import_lists.proofs.write.put_members.Tie as tie
 
 abbrev Inv-loop : tie.InvT-loop
 Inv-loop words area l target₀ at write c entry base t₀ k₀ target t k =
-    (k ≤ l .members) × Going write (keptAt words l (c .0) (scopeAt words entry) k₀) t₀ target₀ (keptAt words l (c .0) (scopeAt words entry) k) t target
+    (k ≤ l .members) × Going write (keptAt words l (c .0) (scopeAt words entry) k₀) t₀ target₀ (keptAt words l (c .0) (scopeAt words entry) k)
+    t target
 
 abbrev μ-loop : tie.MeasureT-loop
 μ-loop words area l target₀ at write c entry base t₀ k₀ target t k = k
-
-scope-definition-requires : tie.Need-scope-definition-requires Inv-loop μ-loop
-scope-definition-requires c κs = search needs
-
-member-base-requires : tie.Need-member-base-requires Inv-loop μ-loop
-member-base-requires c κs = search needs
-
-add-word : tie.Need-add-word Inv-loop μ-loop
-add-word c = omega arith
-
-word-requires : tie.Need-word-requires Inv-loop μ-loop
-word-requires c κs = search needs
 
 loop-holds : tie.Need-loop-holds Inv-loop μ-loop
 loop-holds c =
@@ -32,32 +22,17 @@ loop-holds c =
     let q = kept-first (s .pre .0) (c .before .before .before .scope-definition .ensures) (c .word .ensures) in
     (q .1, going-start (space-as (s .pre .1) (sym (q .0))))
 
-sub-member : tie.Need-sub-member Inv-loop μ-loop
-sub-member c = omega arith
-
-mul-member : tie.Need-mul-member Inv-loop μ-loop
-mul-member c = omega arith
-
-add-member : tie.Need-add-member Inv-loop μ-loop
-add-member c = omega arith
-
 put-member-requires : tie.Need-put-member-requires Inv-loop μ-loop
 put-member-requires c κs =
     let p = c .before .before .before in
     let w = p .before in
     let s = w .before .before .before .before .before .before .before in
     let some : 0 < p .loop .k = omega (arith, c .before .before .loop-test .taken) in
-    let at = ap (λ b. b + 5 * (s .args .l .members - p .loop .k)) (w .before .before .member-base .ensures) in
-    (member-bounded (s .pre .0) (p .loop .inv .0) some at, space-first (p .loop .inv .1 .space) (kept-next (s .pre .0) (p .loop .inv .0) some at refl .0))
-
-sub-word : tie.Need-sub-word Inv-loop μ-loop
-sub-word c = omega arith
-
-add-word-2 : tie.Need-add-word-2 Inv-loop μ-loop
-add-word-2 c = omega arith
-
-word-requires-2 : tie.Need-word-requires-2 Inv-loop μ-loop
-word-requires-2 c κs = search needs
+    let at = ap (λ b. b + 5 * (s .args .l .members - p .loop .k)) (w .before .before .member-base .ensures) in (
+      member-bounded (s .pre .0) (p .loop .inv .0) some at,
+      space-first (p .loop .inv .1 .space)
+          (kept-next (s .pre .0) (p .loop .inv .0) some at refl .0),
+    )
 
 loop-less : tie.Need-loop-less Inv-loop μ-loop
 loop-less c =
@@ -88,27 +63,11 @@ returns c =
     let w = p .before in
     let s = w .before .before .before .before .before .before .before in
     let q = kept-first (s .pre .0) (w .before .before .before .scope-definition .ensures) (w .word .ensures) in
-    wrote-as (going-done (p .loop .inv .1) (kept-end (s .args .words .now) (s .args .l) (s .args .c .0) (scopeAt (s .args .words .now) (s .args .entry)) (p .loop .k) (c .loop-test .left))) (q .0)
+    wrote-as (going-done (p .loop .inv .1) (kept-end (s .args .words .now) (s .args .l) (s .args .c .0)
+    (scopeAt (s .args .words .now) (s .args .entry)) (p .loop .k) (c .loop-test .left))) (q .0)
 
 pub put-members-spec : {M : Type 1} → statement M
 put-members-spec =
-    tie.close
-    (tie.spec
-    Inv-loop
-    μ-loop
-    scope-definition-requires
-    member-base-requires
-    add-word
-    word-requires
-    loop-holds
-    sub-member
-    mul-member
-    add-member
-    put-member-requires
-    sub-word
-    add-word-2
-    word-requires-2
-    loop-less
-    loop-again
-    same-length
-    returns)
+    tie.close (tie.spec Inv-loop μ-loop (λ c κs. search needs) (λ c κs. search needs) (λ c. omega arith)
+    (λ c κs. search needs) loop-holds (λ c. omega arith) (λ c. omega arith) (λ c. omega arith) put-member-requires
+    (λ c. omega arith) (λ c. omega arith) (λ c κs. search needs) loop-less loop-again same-length returns)

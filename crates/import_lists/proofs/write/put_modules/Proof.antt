@@ -3,7 +3,8 @@ use mathlib.Core.Path.{sym, _∙_, ap}
 use native.Mathlib.Omega.{arith}
 use borrow.Author.Needs.{needs}
 use lib.ListN.{getD}
-use Rattle.import_lists.proofs.Writing.{space-first, space-as, wrote-as, Going, going-start, going-next, going-done, importsFrom, over-first, over-next, over-end, order-known}
+use Rattle.import_lists.proofs.Writing.{space-first, space-as, wrote-as, Going, going-start, going-next, going-done, importsFrom, over-first}
+use Rattle.import_lists.proofs.Writing.{over-next, over-end, order-known}
 use Rattle.import_lists.proofs.write.put_modules.Statement.{statement}
 use Rattle.import_lists.proofs.write.put_modules.Tie as tie
 
@@ -14,20 +15,11 @@ Inv-loop words area l n order target₀ at write c base t₀ i₀ target t i =
 abbrev μ-loop : tie.MeasureT-loop
 μ-loop words area l n order target₀ at write c base t₀ i₀ target t i = order - i
 
-order-base-requires : tie.Need-order-base-requires Inv-loop μ-loop
-order-base-requires c κs = search needs
-
 loop-holds : tie.Need-loop-holds Inv-loop μ-loop
 loop-holds c =
     let s = c .before .before .before .before in
     let a = s .args in
     (omega arith, going-start (space-as (s .pre .1) (over-first (a .words .now) (a .area .now) (a .l) (a .c .0) (a .order))))
-
-add-word : tie.Need-add-word Inv-loop μ-loop
-add-word c = omega arith
-
-word-requires : tie.Need-word-requires Inv-loop μ-loop
-word-requires c κs = search needs
 
 put-module-requires : tie.Need-put-module-requires Inv-loop μ-loop
 put-module-requires c κs =
@@ -41,12 +33,6 @@ put-module-requires c κs =
     let h = order-known (a .area .now) (a .l) (a .order) (s .pre .0 .3) i t e in
     let m = s .pre .0 .0 .ready .reads .tables .limited .modules in
     ((s .pre .0 .0, s .pre .0 .1, omega arith), space-first (p .loop .inv .1 .space) q)
-
-add-i : tie.Need-add-i Inv-loop μ-loop
-add-i c = omega arith
-
-loop-less : tie.Need-loop-less Inv-loop μ-loop
-loop-less c = omega arith
 
 loop-again : tie.Need-loop-again Inv-loop μ-loop
 loop-again c =
@@ -72,17 +58,5 @@ returns c =
 
 pub put-modules-spec : {M : Type 1} → statement M
 put-modules-spec =
-    tie.close
-    (tie.spec
-    Inv-loop
-    μ-loop
-    order-base-requires
-    loop-holds
-    add-word
-    word-requires
-    put-module-requires
-    add-i
-    loop-less
-    loop-again
-    same-length
-    returns)
+    tie.close (tie.spec Inv-loop μ-loop (λ c κs. search needs) loop-holds (λ c. omega arith) (λ c κs. search needs)
+    put-module-requires (λ c. omega arith) (λ c. omega arith) loop-again same-length returns)

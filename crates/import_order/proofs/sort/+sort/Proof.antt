@@ -1,4 +1,3 @@
-use Prim.Native.Nat.{_+_, _-_, _/_}
 use native.Mathlib.Omega.{arith}
 use borrow.Author.Needs.{needs}
 use Rattle.import_order.proofs.Merges.{runs-ready, sorts-few, sorts-halves}
@@ -21,81 +20,41 @@ sort-at t = and 2 sort-kinds.ps (is 2 sort-kinds.ps μ-sort t) sort.Pre
 abbrev sort-below : ℕ → In 2 sort-kinds.ps
 sort-below t = and 2 sort-kinds.ps (falls 2 sort-kinds.ps _<_ μ-sort t) sort.Pre
 
--- src/sort.rt:79:9
-sort-returns : (t : ℕ) → sort-lts.Need-returns (
+abbrev sort-claims : ℕ → sort-lts.Claims
+sort-claims t = (
   sort-below t,
   sort.Post,
   merge-reads.Asked,
   merge-reads.Learnt,
-) (sort-at t) sort.Post
+)
+
+sort-returns : (t : ℕ) → sort-lts.Need-returns (sort-claims t) (sort-at t) sort.Post
 sort-returns t c = sorts-few _ _ _ _ _ (c .if1 .taken)
 
--- src/sort.rt:82:16
-sort-sub-rest : (t : ℕ) → sort-lts.Need-sub-rest (
-  sort-below t,
-  sort.Post,
-  merge-reads.Asked,
-  merge-reads.Learnt,
-) (sort-at t) sort.Post
-sort-sub-rest t c = omega arith
-
--- src/sort.rt:83:5
-sort-sort-requires : (t : ℕ) → sort-lts.Need-sort-requires (
-  sort-below t,
-  sort.Post,
-  merge-reads.Asked,
-  merge-reads.Learnt,
-) (sort-at t) sort.Post
+sort-sort-requires : (t : ℕ) → sort-lts.Need-sort-requires (sort-claims t) (sort-at t) sort.Post
 sort-sort-requires t c κs = (omega arith, (c .before .before .before .before .pre .1 .0, omega arith, omega arith))
 
--- src/sort.rt:84:26
-sort-add-sort : (t : ℕ) → sort-lts.Need-add-sort (
-  sort-below t,
-  sort.Post,
-  merge-reads.Asked,
-  merge-reads.Learnt,
-) (sort-at t) sort.Post
-sort-add-sort t c = omega arith
+sort-sort-requires-2 : (t : ℕ) → sort-lts.Need-sort-requires-2 (sort-claims t) (sort-at t) sort.Post
+sort-sort-requires-2 t c κs = (
+  omega arith,
+  (
+    runs-ready (c .before .before .before .before .before .before .before .before .pre .1 .0)
+        (c .before .before .before .sort .ensures .frame) (omega arith),
+    omega arith,
+    omega arith,
+  ),
+)
 
--- src/sort.rt:84:5
-sort-sort-requires-2 : (t : ℕ) → sort-lts.Need-sort-requires-2 (
-  sort-below t,
-  sort.Post,
-  merge-reads.Asked,
-  merge-reads.Learnt,
-) (sort-at t) sort.Post
-sort-sort-requires-2 t c κs = (omega arith, (runs-ready (c .before .before .before .before .before .before .before .before .pre .1 .0) (c .before .before .before .sort .ensures .frame) (omega arith), omega arith, omega arith))
-
--- src/sort.rt:85:5
-sort-merge-requires : (t : ℕ) → sort-lts.Need-merge-requires (
-  sort-below t,
-  sort.Post,
-  merge-reads.Asked,
-  merge-reads.Learnt,
-) (sort-at t) sort.Post
+sort-merge-requires : (t : ℕ) → sort-lts.Need-merge-requires (sort-claims t) (sort-at t) sort.Post
 sort-merge-requires t c κs =
     let q = c .before .before .before .before .before .before .before in (
-      runs-ready (runs-ready (q .before .before .before .before .before .pre .1 .0) (q .sort .ensures .frame) (omega arith)) (c .before .before .before .sort2 .ensures .frame) (omega arith),
+      runs-ready (runs-ready (q .before .before .before .before .before .pre .1 .0) (q .sort .ensures .frame) (omega arith))
+          (c .before .before .before .sort2 .ensures .frame) (omega arith),
       omega arith,
       omega arith,
     )
 
--- src/sort.rt:73:1
-sort-same-length : (t : ℕ) → sort-lts.Need-same-length (
-  sort-below t,
-  sort.Post,
-  merge-reads.Asked,
-  merge-reads.Learnt,
-) (sort-at t) sort.Post
-sort-same-length t c = search needs
-
--- src/sort.rt:73:1
-sort-returns-2 : (t : ℕ) → sort-lts.Need-returns-2 (
-  sort-below t,
-  sort.Post,
-  merge-reads.Asked,
-  merge-reads.Learnt,
-) (sort-at t) sort.Post
+sort-returns-2 : (t : ℕ) → sort-lts.Need-returns-2 (sort-claims t) (sort-at t) sort.Post
 sort-returns-2 t c =
     let k = c .before .before in
     let q = k .before .before .before .before in
@@ -104,19 +63,14 @@ sort-returns-2 t c =
     sorts-halves _ (s .pre .1 .0) (omega arith) (omega arith) (omega arith) (p .sort .ensures) (q .sort2 .ensures) (k .merge .ensures)
 
 pub +sort-spec : {M : Type 1} → statement M
-+sort-spec = close μ-sort λ t. sort-lts.spec (
-  sort-below t,
-  sort.Post,
-  merge-reads.Asked,
-  merge-reads.Learnt,
-)
++sort-spec = close μ-sort λ t. sort-lts.spec (sort-claims t)
     (sort-at t)
     sort.Post
     (sort-returns t)
-    (sort-sub-rest t)
+    (λ c. omega arith)
     (sort-sort-requires t)
-    (sort-add-sort t)
+    (λ c. omega arith)
     (sort-sort-requires-2 t)
     (sort-merge-requires t)
-    (sort-same-length t)
+    (λ c. search needs)
     (sort-returns-2 t)

@@ -11,9 +11,6 @@ returns c =
     let s = c .before .before .before .before .before in
     (no-text (now (s .args .words)) (now (s .args .area)) (s .args .l) (s .pre) (s .args .n .0) (c .if1 .taken), omega arith)
 
-name-len-requires : tie.Need-name-len-requires
-name-len-requires c κs = search needs
-
 returns-2 : tie.Need-returns-2
 returns-2 c =
     let s = c .before .before .before .before .before .before in
@@ -23,4 +20,4 @@ returns-2 c =
     )
 
 pub bytes-of-spec : {M : Type 1} → statement M
-bytes-of-spec = tie.close (tie.spec returns name-len-requires returns-2)
+bytes-of-spec = tie.close (tie.spec returns (λ c κs. search needs) returns-2)

@@ -7,18 +7,6 @@ use Rattle.import_rules.specs.Collect.{textBefore}
 use Rattle.import_order.proofs.texts.text_before.Statement.{statement}
 use Rattle.import_order.proofs.texts.text_before.Tie as tie
 
-bytes-of-requires : tie.Need-bytes-of-requires
-bytes-of-requires c κs = search needs
-
-bytes-of-requires-2 : tie.Need-bytes-of-requires-2
-bytes-of-requires-2 c κs = search needs
-
-text-of-requires : tie.Need-text-of-requires
-text-of-requires c κs = search needs
-
-text-of-requires-2 : tie.Need-text-of-requires-2
-text-of-requires-2 c κs = search needs
-
 bytes-before-requires : tie.Need-bytes-before-requires
 bytes-before-requires c κs =
     let k = c .before .before in (
@@ -30,16 +18,11 @@ returns : tie.Need-returns
 returns c =
     let k = c .before .before .before in
     c .bytes-before .ensures
-    ∙ ap₂ textBefore (ap (λ t. take (k .before .bytes-of .result) (unpacked t)) (c .before .before .text-of .ensures) ∙ k .before .bytes-of .ensures .0)
+    ∙ ap₂ textBefore (ap (λ t. take (k .before .bytes-of .result) (unpacked t)) (c .before .before .text-of .ensures)
+    ∙ k .before .bytes-of .ensures .0)
     (ap (λ t. take (k .bytes-of2 .result) (unpacked t)) (c .before .text-of2 .ensures) ∙ k .bytes-of2 .ensures .0)
 
 pub text-before-spec : {M : Type 1} → statement M
 text-before-spec =
-    tie.close
-    (tie.spec
-    bytes-of-requires
-    bytes-of-requires-2
-    text-of-requires
-    text-of-requires-2
-    bytes-before-requires
-    returns)
+    tie.close (tie.spec (λ c κs. search needs) (λ c κs. search needs) (λ c κs. search needs) (λ c κs. search needs)
+    bytes-before-requires returns)

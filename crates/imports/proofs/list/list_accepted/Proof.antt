@@ -6,94 +6,70 @@ use Rattle.imports.proofs.Laws.{walked-threaded, list-small, list-short
 use borrow.Author.Needs.{needs}
 use Rattle.imports.proofs.list.list_accepted.Statement.{statement}
 use Rattle.imports.proofs.list.list_accepted.Tie as tie
-use Rattle.imports.proofs.list.list_accepted.Reads as reads
-use Rattle.imports.proofs.list.list_accepted.Lts as lts
-use Rattle.import_lists.proofs.threads.thread.Reads as thread-reads
-use Rattle.import_lists.proofs.walk.walk.Reads as walk-reads
-use Rattle.import_lists.proofs.write.put_modules.Reads as put-modules-reads
 
--- src/list.rt:31:9
 returns : tie.Need-returns
 returns c =
     let s = c .before .before .before .before .before .before in
     list-unknown (now (s .args .words)) (now (s .args .area)) (s .args .l) (s .args .c .0) (now (s .args .target)) (c .if1 .taken)
 
--- src/list.rt:36:9
-thread-requires : tie.Need-thread-requires
-thread-requires c κs = search needs
-
--- src/list.rt:37:9
-walk-requires : tie.Need-walk-requires
-walk-requires c κs = search needs
-
--- src/list.rt:38:9
 put-modules-requires : tie.Need-put-modules-requires
 put-modules-requires c κs =
     let s = c .before .before .before .before .before .before .before .before .before .before .before .before .before .before .before .before in
     let t = c .before .before .before .before .before .before .before .before .thread .ensures in
     let w = c .before .before .before .before .walk .ensures in (
-      (walked-threaded (s .pre) (t .0) (t .1) w, c .before .before .before .before .before .before .before .before .before .before .if1 .left, w .few, w .inside),
+      (
+        walked-threaded (s .pre) (t .0) (t .1) w,
+        c .before .before .before .before .before .before .before .before .before .before .if1 .left,
+        w .few,
+        w .inside,
+      ),
       record { small = list-small (s .pre) (t .0) (t .1) w; room = λ e. absurd (false≢true e) },
     )
 
--- src/list.rt:40:9
-same-length : tie.Need-same-length
-same-length c = search needs
-
--- src/list.rt:40:9
-same-length-2 : tie.Need-same-length-2
-same-length-2 c = search needs
-
--- src/list.rt:40:9
 returns-2 : tie.Need-returns-2
 unfolding written
 returns-2 c =
-    let s = c .before .before .before .before .before .before .before .before .before .before .before .before .before .before .before .before .before .before .before .before in
+    let s = c .before .before .before .before .before .before .before .before .before .before .before .before .before .before
+    .before .before .before .before .before .before in
     let t = c .before .before .before .before .before .before .before .before .before .before .before .before .thread .ensures in
     let p = c .before .before .before .put-modules .ensures in
-    list-short (s .pre) (c .before .before .before .before .before .before .before .before .before .before .before .before .before .before .if1 .left) (t .0) (t .1) (c .before .before .before .before .before .before .before .before .walk .ensures) (p .next) (p .same) (c .if2 .taken)
+    list-short (s .pre) (c .before .before .before .before .before .before .before .before .before .before .before .before .before
+    .before .if1 .left) (t .0) (t .1) (c .before .before .before .before .before .before .before .before .walk .ensures)
+    (p .next) (p .same) (c .if2 .taken)
 
--- src/list.rt:45:5
 put-modules-requires-2 : tie.Need-put-modules-requires-2
 put-modules-requires-2 c κs =
-    let s = c .before .before .before .before .before .before .before .before .before .before .before .before .before .before .before .before .before .before .before .before .before .before in
+    let s = c .before .before .before .before .before .before .before .before .before .before .before .before .before .before
+    .before .before .before .before .before .before .before .before in
     let t = c .before .before .before .before .before .before .before .before .before .before .before .before .before .before .thread .ensures in
     let w = c .before .before .before .before .before .before .before .before .before .before .walk .ensures in
     let p = c .before .before .before .before .before .put-modules .ensures in
     let g = c .before .before .if2 .left in (
-      (walked-threaded (s .pre) (t .0) (t .1) w, c .before .before .before .before .before .before .before .before .before .before .before .before .before .before .before .before .if1 .left, w .few, w .inside),
+      (
+        walked-threaded (s .pre) (t .0) (t .1) w,
+        c .before .before .before .before .before .before .before .before .before .before .before .before .before .before .before
+            .before .if1 .left,
+        w .few,
+        w .inside,
+      ),
       record { small = list-small (s .pre) (t .0) (t .1) w; room = λ e. omega (arith, p .next, g) },
     )
 
--- src/list.rt:26:1
-same-length-3 : tie.Need-same-length-3
-same-length-3 c = search needs
-
--- src/list.rt:26:1
-same-length-4 : tie.Need-same-length-4
-same-length-4 c = search needs
-
--- src/list.rt:26:1
 returns-3 : tie.Need-returns-3
 unfolding written
 returns-3 c =
-    let s = c .before .before .before .before .before .before .before .before .before .before .before .before .before .before .before .before .before .before .before .before .before .before .before .before .before in
-    let t = c .before .before .before .before .before .before .before .before .before .before .before .before .before .before .before .before .before .thread .ensures in
+    let s = c .before .before .before .before .before .before .before .before .before .before .before .before .before .before
+    .before .before .before .before .before .before .before .before .before .before .before in
+    let t = c .before .before .before .before .before .before .before .before .before .before .before .before .before .before
+    .before .before .before .thread .ensures in
     let p = c .before .before .before .before .before .before .before .before .put-modules .ensures in
-    list-written (s .pre) (c .before .before .before .before .before .before .before .before .before .before .before .before .before .before .before .before .before .before .before .if1 .left) (t .0) (t .1) (c .before .before .before .before .before .before .before .before .before .before .before .before .before .walk .ensures) (p .next) (p .same) (c .before .before .before .before .before .if2 .left) (c .before .before .put-modules2 .ensures .same)
+    list-written (s .pre)
+    (c .before .before .before .before .before .before .before .before .before .before .before .before .before .before .before
+    .before .before .before .before .if1 .left) (t .0) (t .1)
+    (c .before .before .before .before .before .before .before .before .before .before .before .before .before .walk .ensures)
+    (p .next) (p .same) (c .before .before .before .before .before .if2 .left) (c .before .before .put-modules2 .ensures .same)
 
 pub list-accepted-spec : {M : Type 1} → statement M
 list-accepted-spec =
-    tie.close
-    (tie.spec
-    returns
-    thread-requires
-    walk-requires
-    put-modules-requires
-    same-length
-    same-length-2
-    returns-2
-    put-modules-requires-2
-    same-length-3
-    same-length-4
-    returns-3)
+    tie.close (tie.spec returns (λ c κs. search needs) (λ c κs. search needs) put-modules-requires (λ c. search needs)
+    (λ c. search needs) returns-2 put-modules-requires-2 (λ c. search needs) (λ c. search needs) returns-3)

@@ -32,20 +32,15 @@ either k q h = by (eqb k 1) (eqb k 3) (ap (λ x. not (eqb x 1) && not (eqb x 3))
     by false true h = refl
     by false false h = absurd (false≢true (sym h))
 
-definition-kind-requires : tie.Need-definition-kind-requires
-definition-kind-requires c κs = search needs
-
 returns : tie.Need-returns
 returns c h = and-no _ (neither _ (c .before .definition-kind .ensures) (c .if1 .taken))
 
-definition-first-requires : tie.Need-definition-first-requires
-definition-first-requires c κs = search needs
-
 add-mark : tie.Need-add-mark
-add-mark c = (let s = c .before .before .before .before .before .before in omega (arith, c .definition-first .ensures, c .before .before .before .before .before .shared-slice-known .given (s .args .at + 1)))
-
-word-requires : tie.Need-word-requires
-word-requires c κs = search needs
+add-mark c = (let s = c .before .before .before .before .before .before in omega (
+  arith,
+  c .definition-first .ensures,
+  c .before .before .before .before .before .shared-slice-known .given (s .args .at + 1),
+))
 
 returns-2 : tie.Need-returns-2
 returns-2 c h =
@@ -53,30 +48,18 @@ returns-2 c h =
     let e = sym (c .before .before .before .before .definition-kind .ensures) ∙ c .before .before .if2 .taken in
     and-yes (either _ (c .before .before .before .before .definition-kind .ensures) (c .before .before .before .if1 .left))
     (ap (λ x. not (eqb x 0)) (c .word .ensures ∙ ap (λ f. getD (now (s .args .area)) (moduleMarks + f) 0) (c .before .definition-first .ensures))
-    ∙ module-again (now (s .args .words)) (now (s .args .area)) (s .args .at) (definitionBase (s .args .l)) (s .args .l .definitions) e (h e) (s .pre .0))
-
-definition-base-requires : tie.Need-definition-base-requires
-definition-base-requires c κs = search needs
-
-repeated-requires : tie.Need-repeated-requires
-repeated-requires c κs = search needs
+    ∙ module-again (now (s .args .words)) (now (s .args .area)) (s .args .at) (definitionBase (s .args .l)) (s .args .l .definitions) e
+    (h e) (s .pre .0))
 
 returns-3 : tie.Need-returns-3
 returns-3 c h =
     let s = c .before .before .before .before .before .before .before in
     and-yes (either _ (c .before .before .before .before .definition-kind .ensures) (c .before .before .before .if1 .left))
-    (c .repeated .ensures ∙ ap (λ m. any (sameBy (now (s .args .words)) true 1 (s .args .at)) (rows (λ j. m + definitionSize * j) 0 (s .args .l .definitions))) (c .before .definition-base .ensures))
+    (c .repeated .ensures
+    ∙ ap (λ m. any (sameBy (now (s .args .words)) true 1 (s .args .at)) (rows (λ j. m + definitionSize * j) 0 (s .args .l .definitions)))
+    (c .before .definition-base .ensures))
 
 pub again-spec : {M : Type 1} → statement M
 again-spec =
-    tie.close
-    (tie.spec
-    definition-kind-requires
-    returns
-    definition-first-requires
-    add-mark
-    word-requires
-    returns-2
-    definition-base-requires
-    repeated-requires
-    returns-3)
+    tie.close (tie.spec (λ c κs. search needs) returns (λ c κs. search needs) add-mark (λ c κs. search needs) returns-2
+    (λ c κs. search needs) (λ c κs. search needs) returns-3)

@@ -4,19 +4,20 @@ use native.Mathlib.Omega.{arith}
 use Rattle.item_records.proofs.definitions.placed.Statement.{statement}
 use Rattle.item_records.proofs.definitions.placed.Tie as tie
 
-definition-first-requires : tie.Need-definition-first-requires
-definition-first-requires c κs = search needs
-
-definition-kind-requires : tie.Need-definition-kind-requires
-definition-kind-requires c κs = search needs
-
 kind-at-requires : tie.Need-kind-at-requires
-kind-at-requires c κs = (omega arith, omega (arith, c .before .definition-first .ensures, c .before .before .shared-slice-known .given (c .before .before .before .args .at + 1)))
+kind-at-requires c κs = (
+  omega arith,
+  omega (
+    arith,
+    c .before .definition-first .ensures,
+    c .before .before .shared-slice-known .given
+        (c .before .before .before .args .at + 1),
+  ),
+)
 
 returns : tie.Need-returns
 returns c = rw (c .kind-at .ensures, c .before .definition-kind .ensures, c .before .before .definition-first .ensures)
 
 pub placed-spec : {M : Type 1} → statement M
 placed-spec =
-    tie.close
-    (tie.spec definition-first-requires definition-kind-requires kind-at-requires returns)
+    tie.close (tie.spec (λ c κs. search needs) (λ c κs. search needs) kind-at-requires returns)

@@ -7,24 +7,6 @@ use Rattle.records.proofs.Linked.{slot-small, definition-linked}
 use Rattle.item_records.proofs.definitions.step.Statement.{statement}
 use Rattle.item_records.proofs.definitions.step.Tie as tie
 
-in-range-requires : tie.Need-in-range-requires
-in-range-requires c κs = search needs
-
-defined-requires : tie.Need-defined-requires
-defined-requires c κs = search needs
-
-again-requires : tie.Need-again-requires
-again-requires c κs = search needs
-
-placed-requires : tie.Need-placed-requires
-placed-requires c κs = search needs
-
-judge-requires : tie.Need-judge-requires
-judge-requires c κs = search needs
-
-same-length : tie.Need-same-length
-same-length c = search needs
-
 returns : tie.Need-returns
 returns c ms st =
     let k = c .before in
@@ -38,14 +20,12 @@ returns c ms st =
     refl
     (c .if1 .taken)
 
-module-slot-requires : tie.Need-module-slot-requires
-module-slot-requires c κs = search needs
-
 add-area : tie.Need-add-area
 add-area c =
     let k = c .before .before in
     let s = k .before .before .before .before .before .before .before .before .before .before in
-    let h = slot-small (now (s .args .words)) (s .args .at) (s .args .l) _ _ _ _ _ (k .judge .ensures) (c .before .if1 .left) (k .before .before .before .before .defined .ensures) (s .pre .limited .modules) (c .module-slot .ensures) in
+    let h = slot-small (now (s .args .words)) (s .args .at) (s .args .l) _ _ _ _ _ (k .judge .ensures) (c .before .if1 .left)
+    (k .before .before .before .before .defined .ensures) (s .pre .limited .modules) (c .module-slot .ensures) in
     let g = s .pre .room in
     omega arith
 
@@ -53,7 +33,8 @@ mul-area : tie.Need-mul-area
 mul-area c =
     let k = c .before .before in
     let s = k .before .before .before .before .before .before .before .before .before .before in
-    let h = slot-small (now (s .args .words)) (s .args .at) (s .args .l) _ _ _ _ _ (k .judge .ensures) (c .before .if1 .left) (k .before .before .before .before .defined .ensures) (s .pre .limited .modules) (c .module-slot .ensures) in
+    let h = slot-small (now (s .args .words)) (s .args .at) (s .args .l) _ _ _ _ _ (k .judge .ensures) (c .before .if1 .left)
+    (k .before .before .before .before .defined .ensures) (s .pre .limited .modules) (c .module-slot .ensures) in
     let g = s .pre .room in
     omega arith
 
@@ -61,21 +42,17 @@ slice-write-area : tie.Need-slice-write-area
 slice-write-area c =
     let k = c .before .before in
     let s = k .before .before .before .before .before .before .before .before .before .before in
-    let h = slot-small (now (s .args .words)) (s .args .at) (s .args .l) _ _ _ _ _ (k .judge .ensures) (c .before .if1 .left) (k .before .before .before .before .defined .ensures) (s .pre .limited .modules) (c .module-slot .ensures) in
+    let h = slot-small (now (s .args .words)) (s .args .at) (s .args .l) _ _ _ _ _ (k .judge .ensures) (c .before .if1 .left)
+    (k .before .before .before .before .defined .ensures) (s .pre .limited .modules) (c .module-slot .ensures) in
     let g = s .pre .room in
     omega arith
-
-add-m : tie.Need-add-m
-add-m c = search needs
-
-same-length-2 : tie.Need-same-length-2
-same-length-2 c = search needs
 
 returns-2 : tie.Need-returns-2
 returns-2 c ms st =
     let k = c .before .before .before in
     let s = k .before .before .before .before .before .before .before .before .before .before in
-    let h = slot-small (now (s .args .words)) (s .args .at) (s .args .l) _ _ _ _ _ (k .judge .ensures) (c .before .before .if1 .left) (k .before .before .before .before .defined .ensures) (s .pre .limited .modules) (c .before .module-slot .ensures) in
+    let h = slot-small (now (s .args .words)) (s .args .at) (s .args .l) _ _ _ _ _ (k .judge .ensures) (c .before .before .if1 .left)
+    (k .before .before .before .before .defined .ensures) (s .pre .limited .modules) (c .before .module-slot .ensures) in
     definition-on (now (s .args .words)) (now (s .args .area)) (s .args .at) (s .args .l) ms st
     (k .judge .ensures)
     (k .before .before .before .before .before .in-range .ensures)
@@ -84,23 +61,11 @@ returns-2 c ms st =
     (k .before .placed .ensures)
     refl
     _ (c .before .before .if1 .left) (s .pre .fits)
-    (definition-linked (now (s .args .words)) (now (s .args .area)) (s .args .at) (s .args .l) ms (s .pre .room) st (c .before .module-slot .ensures) h)
+    (definition-linked (now (s .args .words)) (now (s .args .area)) (s .args .at) (s .args .l) ms (s .pre .room) st
+    (c .before .module-slot .ensures) h)
 
 pub step-spec : {M : Type 1} → statement M
 step-spec =
-    tie.close
-    (tie.spec
-    in-range-requires
-    defined-requires
-    again-requires
-    placed-requires
-    judge-requires
-    same-length
-    returns
-    module-slot-requires
-    add-area
-    mul-area
-    slice-write-area
-    add-m
-    same-length-2
-    returns-2)
+    tie.close (tie.spec (λ c κs. search needs) (λ c κs. search needs) (λ c κs. search needs) (λ c κs. search needs)
+    (λ c κs. search needs) (λ c. search needs) returns (λ c κs. search needs) add-area mul-area slice-write-area
+    (λ c. search needs) (λ c. search needs) returns-2)

@@ -6,29 +6,16 @@ use Rattle.records.proofs.Linked.{extern-chain, extern-linked}
 use Rattle.item_records.proofs.externs.step.Statement.{statement}
 use Rattle.item_records.proofs.externs.step.Tie as tie
 
-record-key-requires : tie.Need-record-key-requires
-record-key-requires c κs = search needs
-
-extern-base-requires : tie.Need-extern-base-requires
-extern-base-requires c κs = search needs
-
 repeated-with-requires : tie.Need-repeated-with-requires
 repeated-with-requires c κs =
     let s = c .before .before .before .before .before in
     let e = c .extern-base .ensures in
     let p = s .pre .place in
     let f = s .pre .fits in
-    let q = s .pre .short in
-    (extern-chain (now (s .args .words)) (now (s .args .area)) (s .args .l) (s .pre .index) e, ((c .before .before .record-key .ensures, omega arith, omega arith, omega arith, omega arith), (omega arith, f, omega arith, omega arith)))
-
-defined-requires : tie.Need-defined-requires
-defined-requires c κs = search needs
-
-judge-requires : tie.Need-judge-requires
-judge-requires c κs = search needs
-
-same-length : tie.Need-same-length
-same-length c = search needs
+    let q = s .pre .short in (
+      extern-chain (now (s .args .words)) (now (s .args .area)) (s .args .l) (s .pre .index) e,
+      ((c .before .before .record-key .ensures, omega arith, omega arith, omega arith, omega arith), (omega arith, f, omega arith, omega arith)),
+    )
 
 returns : tie.Need-returns
 returns c ms st =
@@ -41,15 +28,6 @@ returns c ms st =
     (k .before .before .repeated-with .ensures)
     (c .if1 .taken)
 
-link-requires : tie.Need-link-requires
-link-requires c κs = search needs
-
-add-m : tie.Need-add-m
-add-m c = search needs
-
-same-length-2 : tie.Need-same-length-2
-same-length-2 c = search needs
-
 returns-2 : tie.Need-returns-2
 returns-2 c ms st =
     let k = c .before .before .before .before .before in
@@ -60,20 +38,11 @@ returns-2 c ms st =
     (k .before .before .before .extern-base .ensures)
     (k .before .before .repeated-with .ensures)
     (c .before .before .link .last .0) (c .before .before .before .before .if1 .left) (s .pre .fits)
-    (extern-linked (now (s .args .words)) (now (s .args .area)) (s .args .at) (s .args .l) ms (s .pre .short) (s .pre .room) st (s .pre .fits) (k .before .before .before .before .before .record-key .ensures) (c .before .before .link .ensures))
+    (extern-linked (now (s .args .words)) (now (s .args .area)) (s .args .at) (s .args .l) ms (s .pre .short) (s .pre .room) st
+    (s .pre .fits) (k .before .before .before .before .before .record-key .ensures) (c .before .before .link .ensures))
 
 pub step-spec : {M : Type 1} → statement M
 step-spec =
-    tie.close
-    (tie.spec
-    record-key-requires
-    extern-base-requires
-    repeated-with-requires
-    defined-requires
-    judge-requires
-    same-length
-    returns
-    link-requires
-    add-m
-    same-length-2
+    tie.close (tie.spec (λ c κs. search needs) (λ c κs. search needs) repeated-with-requires (λ c κs. search needs)
+    (λ c κs. search needs) (λ c. search needs) returns (λ c κs. search needs) (λ c. search needs) (λ c. search needs)
     returns-2)

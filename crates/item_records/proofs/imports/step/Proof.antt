@@ -6,25 +6,16 @@ use Prim.Native.Nat.{_+_}
 use Rattle.item_records.proofs.imports.step.Statement.{statement}
 use Rattle.item_records.proofs.imports.step.Tie as tie
 
-import-ns-requires : tie.Need-import-ns-requires
-import-ns-requires c κs = search needs
-
-import-definition-requires : tie.Need-import-definition-requires
-import-definition-requires c κs = search needs
-
 ns-placed-requires : tie.Need-ns-placed-requires
 ns-placed-requires c κs =
-    let s = c .before .before .before .before in
-    (omega (arith, s .pre .place, s .pre .fits, s .pre .short), omega (arith, c .import-definition .ensures, c .before .before .before .shared-slice-known .given (s .args .at + 2)))
-
-in-range-requires : tie.Need-in-range-requires
-in-range-requires c κs = search needs
-
-defined-requires : tie.Need-defined-requires
-defined-requires c κs = search needs
-
-judge-requires : tie.Need-judge-requires
-judge-requires c κs = search needs
+    let s = c .before .before .before .before in (
+      omega (arith, s .pre .place, s .pre .fits, s .pre .short),
+      omega (
+        arith,
+        c .import-definition .ensures,
+        c .before .before .before .shared-slice-known .given (s .args .at + 2),
+      ),
+    )
 
 returns : tie.Need-returns
 returns c ms st =
@@ -37,9 +28,6 @@ returns c ms st =
     (k .before .before .before .before .before .import-ns .ensures) (k .before .before .before .before .import-definition .ensures)
     (k .before .before .before .ns-placed .ensures)
     (c .if1 .taken)
-
-add-m : tie.Need-add-m
-add-m c = search needs
 
 returns-2 : tie.Need-returns-2
 returns-2 c ms st =
@@ -55,14 +43,5 @@ returns-2 c ms st =
 
 pub step-spec : {M : Type 1} → statement M
 step-spec =
-    tie.close
-    (tie.spec
-    import-ns-requires
-    import-definition-requires
-    ns-placed-requires
-    in-range-requires
-    defined-requires
-    judge-requires
-    returns
-    add-m
-    returns-2)
+    tie.close (tie.spec (λ c κs. search needs) (λ c κs. search needs) ns-placed-requires (λ c κs. search needs)
+    (λ c κs. search needs) (λ c κs. search needs) returns (λ c. search needs) returns-2)

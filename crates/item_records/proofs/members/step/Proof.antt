@@ -5,19 +5,10 @@ use Rattle.records.proofs.Steps.{member-no, member-on}
 use Rattle.item_records.proofs.members.step.Statement.{statement}
 use Rattle.item_records.proofs.members.step.Tie as tie
 
-in-range-requires : tie.Need-in-range-requires
-in-range-requires c κs = search needs
-
-defined-requires : tie.Need-defined-requires
-defined-requires c κs = search needs
-
 placed-requires : tie.Need-placed-requires
 placed-requires c κs =
     let s = c .before .before .before .before in
     omega (arith, s .pre .place, s .pre .fits, s .pre .short)
-
-judge-requires : tie.Need-judge-requires
-judge-requires c κs = search needs
 
 returns : tie.Need-returns
 returns c ms st =
@@ -26,9 +17,6 @@ returns c ms st =
     member-no (now (s .args .words)) (now (s .args .area)) (s .args .at) (s .args .l) ms st
     (k .judge .ensures) (k .before .before .before .in-range .ensures) (k .before .before .defined .ensures) (k .before .placed .ensures)
     (c .if1 .taken)
-
-add-m : tie.Need-add-m
-add-m c = search needs
 
 returns-2 : tie.Need-returns-2
 returns-2 c ms st =
@@ -40,12 +28,5 @@ returns-2 c ms st =
 
 pub step-spec : {M : Type 1} → statement M
 step-spec =
-    tie.close
-    (tie.spec
-    in-range-requires
-    defined-requires
-    placed-requires
-    judge-requires
-    returns
-    add-m
-    returns-2)
+    tie.close (tie.spec (λ c κs. search needs) (λ c κs. search needs) placed-requires (λ c κs. search needs) returns
+    (λ c. search needs) returns-2)

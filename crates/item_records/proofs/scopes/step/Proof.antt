@@ -7,43 +7,27 @@ use Rattle.records.proofs.Linked.{scope-chain, scope-linked}
 use Rattle.item_records.proofs.scopes.step.Statement.{statement}
 use Rattle.item_records.proofs.scopes.step.Tie as tie
 
-record-key-requires : tie.Need-record-key-requires
-record-key-requires c κs = search needs
-
-scope-base-requires : tie.Need-scope-base-requires
-scope-base-requires c κs = search needs
-
 repeated-with-requires : tie.Need-repeated-with-requires
 repeated-with-requires c κs =
     let s = c .before .before .before .before .before in
     let e = c .scope-base .ensures in
     let p = s .pre .place in
     let f = s .pre .fits in
-    let q = s .pre .short in
-    (scope-chain (now (s .args .words)) (now (s .args .area)) (s .args .l) (s .pre .index) e, ((c .before .before .record-key .ensures, omega arith, omega arith, omega arith, omega arith), (omega arith, f, omega arith, omega arith)))
-
-scope-ns-requires : tie.Need-scope-ns-requires
-scope-ns-requires c κs = search needs
-
-scope-definition-requires : tie.Need-scope-definition-requires
-scope-definition-requires c κs = search needs
+    let q = s .pre .short in (
+      scope-chain (now (s .args .words)) (now (s .args .area)) (s .args .l) (s .pre .index) e,
+      ((c .before .before .record-key .ensures, omega arith, omega arith, omega arith, omega arith), (omega arith, f, omega arith, omega arith)),
+    )
 
 ns-placed-requires : tie.Need-ns-placed-requires
 ns-placed-requires c κs =
-    let s = c .before .before .before .before .before .before .before .before in
-    (omega (arith, s .pre .place, s .pre .fits, s .pre .short), omega (arith, c .scope-definition .ensures, c .before .before .before .before .before .before .before .shared-slice-known .given (s .args .at + 3)))
-
-in-range-requires : tie.Need-in-range-requires
-in-range-requires c κs = search needs
-
-defined-requires : tie.Need-defined-requires
-defined-requires c κs = search needs
-
-judge-requires : tie.Need-judge-requires
-judge-requires c κs = search needs
-
-same-length : tie.Need-same-length
-same-length c = search needs
+    let s = c .before .before .before .before .before .before .before .before in (
+      omega (arith, s .pre .place, s .pre .fits, s .pre .short),
+      omega (
+        arith,
+        c .scope-definition .ensures,
+        c .before .before .before .before .before .before .before .shared-slice-known .given (s .args .at + 3),
+      ),
+    )
 
 returns : tie.Need-returns
 returns c ms st =
@@ -59,15 +43,6 @@ returns c ms st =
     (k .before .before .before .ns-placed .ensures)
     (c .if1 .taken)
 
-link-requires : tie.Need-link-requires
-link-requires c κs = search needs
-
-add-m : tie.Need-add-m
-add-m c = search needs
-
-same-length-2 : tie.Need-same-length-2
-same-length-2 c = search needs
-
 returns-2 : tie.Need-returns-2
 returns-2 c ms st =
     let k = c .before .before .before .before .before in
@@ -81,24 +56,12 @@ returns-2 c ms st =
     (k .before .before .before .before .before .scope-ns .ensures) (k .before .before .before .before .scope-definition .ensures)
     (k .before .before .before .ns-placed .ensures)
     (c .before .before .link .last .0) (c .before .before .before .before .if1 .left) (s .pre .fits)
-    (scope-linked (now (s .args .words)) (now (s .args .area)) (s .args .at) (s .args .l) ms (s .pre .short) (s .pre .room) st (s .pre .fits) (k .before .before .before .before .before .before .before .before .before .record-key .ensures) (c .before .before .link .ensures))
+    (scope-linked (now (s .args .words)) (now (s .args .area)) (s .args .at) (s .args .l) ms (s .pre .short) (s .pre .room) st
+    (s .pre .fits) (k .before .before .before .before .before .before .before .before .before .record-key .ensures)
+    (c .before .before .link .ensures))
 
 pub step-spec : {M : Type 1} → statement M
 step-spec =
-    tie.close
-    (tie.spec
-    record-key-requires
-    scope-base-requires
-    repeated-with-requires
-    scope-ns-requires
-    scope-definition-requires
-    ns-placed-requires
-    in-range-requires
-    defined-requires
-    judge-requires
-    same-length
-    returns
-    link-requires
-    add-m
-    same-length-2
-    returns-2)
+    tie.close (tie.spec (λ c κs. search needs) (λ c κs. search needs) repeated-with-requires (λ c κs. search needs)
+    (λ c κs. search needs) ns-placed-requires (λ c κs. search needs) (λ c κs. search needs) (λ c κs. search needs)
+    (λ c. search needs) returns (λ c κs. search needs) (λ c. search needs) (λ c. search needs) returns-2)

@@ -3,14 +3,8 @@ use borrow.Author.Needs.{needs}
 use Rattle.join_numbers.proofs.moved.moved_definition.Statement.{statement}
 use Rattle.join_numbers.proofs.moved.moved_definition.Tie as tie
 
-add-word : tie.Need-add-word
-add-word c = search needs
-
-word-requires : tie.Need-word-requires
-word-requires c κs = search needs
-
 returns : tie.Need-returns
 returns c = λ s t h l. c .word .ensures ∙ h .definitions _ l
 
 pub moved-definition-spec : {M : Type 1} → statement M
-moved-definition-spec = tie.close (tie.spec add-word word-requires returns)
+moved-definition-spec = tie.close (tie.spec (λ c. search needs) (λ c κs. search needs) returns)

@@ -23,9 +23,6 @@ Inv-loop first name base count k₀ k =
 abbrev μ-loop : tie.MeasureT-loop
 μ-loop first name base count k₀ k = count - k
 
-definition-base-requires : tie.Need-definition-base-requires Inv-loop μ-loop
-definition-base-requires c κs = search needs
-
 loop-holds : tie.Need-loop-holds Inv-loop μ-loop
 loop-holds c = (omega arith, rows-whole (placeOf _ 0) _ _)
 
@@ -33,13 +30,8 @@ mul-at : tie.Need-mul-at Inv-loop μ-loop
 mul-at c = let h = c .loop-test .taken in let w = c .before .before .before .before .pre in omega arith
 
 add-at : tie.Need-add-at Inv-loop μ-loop
-add-at c = let h = c .loop-test .taken in let e = c .before .before .definition-base .ensures in let w = c .before .before .before .before .pre in omega arith
-
-definition-kind-requires : tie.Need-definition-kind-requires Inv-loop μ-loop
-definition-kind-requires c κs = search needs
-
-definition-first-requires : tie.Need-definition-first-requires Inv-loop μ-loop
-definition-first-requires c κs = search needs
+add-at c = let h = c .loop-test .taken in let e = c .before .before .definition-base .ensures in let w =
+    c .before .before .before .before .pre in omega arith
 
 returns : tie.Need-returns Inv-loop μ-loop
 returns c =
@@ -47,22 +39,20 @@ returns c =
     let l = d .before .before .loop in
     let b = d .before .before .before in
     let a = b .before .before .args in
-    builtin-hit (now (a .first)) (a .name) (b .definition-base .result) (a .l .definitions) (l .k) _ (l .inv .1) (omega arith) (d .definition-kind .ensures) (c .before .definition-first .ensures) (c .if1 .taken)
+    builtin-hit (now (a .first)) (a .name) (b .definition-base .result) (a .l .definitions) (l .k) _ (l .inv .1) (omega arith)
+    (d .definition-kind .ensures) (c .before .definition-first .ensures) (c .if1 .taken)
     ∙ builtin-based (now (a .first)) (a .name) (a .l .definitions) (b .definition-base .ensures)
-
-add-k : tie.Need-add-k Inv-loop μ-loop
-add-k c = omega arith
-
-loop-less : tie.Need-loop-less Inv-loop μ-loop
-loop-less c = omega arith
 
 loop-again : tie.Need-loop-again Inv-loop μ-loop
 loop-again c =
     let d = c .before .before in
     let l = d .before .before .loop in
     let b = d .before .before .before in
-    let a = b .before .before .args in
-    (omega arith, builtin-miss (now (a .first)) (a .name) (b .definition-base .result) (a .l .definitions) (l .k) _ (l .inv .1) (omega arith) (d .definition-kind .ensures) (c .before .definition-first .ensures) (c .if1 .left))
+    let a = b .before .before .args in (
+      omega arith,
+      builtin-miss (now (a .first)) (a .name) (b .definition-base .result) (a .l .definitions) (l .k) _ (l .inv .1)
+          (omega arith) (d .definition-kind .ensures) (c .before .definition-first .ensures) (c .if1 .left),
+    )
 
 returns-2 : tie.Need-returns-2 Inv-loop μ-loop
 returns-2 c =
@@ -74,18 +64,5 @@ returns-2 c =
 
 pub place-of-builtin-spec : {M : Type 1} → statement M
 place-of-builtin-spec =
-    tie.close
-    (tie.spec
-    Inv-loop
-    μ-loop
-    definition-base-requires
-    loop-holds
-    mul-at
-    add-at
-    definition-kind-requires
-    definition-first-requires
-    returns
-    add-k
-    loop-less
-    loop-again
-    returns-2)
+    tie.close (tie.spec Inv-loop μ-loop (λ c κs. search needs) loop-holds mul-at add-at (λ c κs. search needs)
+    (λ c κs. search needs) returns (λ c. omega arith) (λ c. omega arith) loop-again returns-2)

@@ -16,25 +16,14 @@ use Rattle.join_numbers.proofs.places.place_of_name.Tie as tie
 abbrev Inv-loop : tie.InvT-loop
 Inv-loop first count second area i at₀ k₀ at k =
     (k ≤ count) × (at ≤ k * 268435456)
-    × (placeOf (sameName (nameAt second (nameHead area i))) 0 (namesFrom first 0 count) ≡ placeOf (sameName (nameAt second (nameHead area i))) k (namesFrom first at (count - k)))
+    × (placeOf (sameName (nameAt second (nameHead area i))) 0 (namesFrom first 0 count) ≡ placeOf (sameName (nameAt second (nameHead area i))) k
+    (namesFrom first at (count - k)))
 
 abbrev μ-loop : tie.MeasureT-loop
 μ-loop first count second area i at₀ k₀ at k = count - k
 
 loop-holds : tie.Need-loop-holds Inv-loop μ-loop
 loop-holds c = (omega arith, omega arith, names-whole _ _ _)
-
-mul-known : tie.Need-mul-known Inv-loop μ-loop
-mul-known c = search needs
-
-sub-known : tie.Need-sub-known Inv-loop μ-loop
-sub-known c = search needs
-
-part-known-start : tie.Need-part-known-start Inv-loop μ-loop
-part-known-start c = search needs
-
-part-known-end : tie.Need-part-known-end Inv-loop μ-loop
-part-known-end c = search needs
 
 known-requires : tie.Need-known-requires Inv-loop μ-loop
 known-requires c κs = (omega arith, simp (length-take, length-drop) (omega arith))
@@ -46,25 +35,8 @@ returns c =
     let g = a .args in
     let m = now (g .area) in
     name-hit (now (g .first)) (now (g .second)) m (g .n .0) (l .at) (l .k) (g .count) _ (l .inv .2)
-    (take (length m - g .n .0) (drop (g .n .0) m)) (omega arith) (c .before .known .ensures) (part-first m (g .n .0) (length m - g .n .0) (a .pre .1) refl) (c .if1 .taken)
-
-add-at : tie.Need-add-at Inv-loop μ-loop
-add-at c = omega arith
-
-payload-requires : tie.Need-payload-requires Inv-loop μ-loop
-payload-requires c κs = search needs
-
-text-words-requires : tie.Need-text-words-requires Inv-loop μ-loop
-text-words-requires c κs = search needs
-
-add-at-2 : tie.Need-add-at-2 Inv-loop μ-loop
-add-at-2 c = omega arith
-
-add-k : tie.Need-add-k Inv-loop μ-loop
-add-k c = omega arith
-
-loop-less : tie.Need-loop-less Inv-loop μ-loop
-loop-less c = omega arith
+    (take (length m - g .n .0) (drop (g .n .0) m)) (omega arith) (c .before .known .ensures)
+    (part-first m (g .n .0) (length m - g .n .0) (a .pre .1) refl) (c .if1 .taken)
 
 loop-again : tie.Need-loop-again Inv-loop μ-loop
 loop-again c =
@@ -78,7 +50,8 @@ loop-again c =
       omega arith,
       omega arith,
       name-miss (now (g .first)) (now (g .second)) m (g .n .0) (l .at) (l .k) (g .count) _ (l .inv .2)
-          (take (length m - g .n .0) (drop (g .n .0) m)) (omega arith) (d .before .known .ensures) (part-first m (g .n .0) (length m - g .n .0) (a .pre .1) refl) (d .if1 .left) b z,
+          (take (length m - g .n .0) (drop (g .n .0) m)) (omega arith) (d .before .known .ensures)
+          (part-first m (g .n .0) (length m - g .n .0) (a .pre .1) refl) (d .if1 .left) b z,
     )
 
 returns-2 : tie.Need-returns-2 Inv-loop μ-loop
@@ -89,22 +62,6 @@ returns-2 c =
 
 pub place-of-name-spec : {M : Type 1} → statement M
 place-of-name-spec =
-    tie.close
-    (tie.spec
-    Inv-loop
-    μ-loop
-    loop-holds
-    mul-known
-    sub-known
-    part-known-start
-    part-known-end
-    known-requires
-    returns
-    add-at
-    payload-requires
-    text-words-requires
-    add-at-2
-    add-k
-    loop-less
-    loop-again
-    returns-2)
+    tie.close (tie.spec Inv-loop μ-loop loop-holds (λ c. search needs) (λ c. search needs) (λ c. search needs)
+    (λ c. search needs) known-requires returns (λ c. omega arith) (λ c κs. search needs) (λ c κs. search needs)
+    (λ c. omega arith) (λ c. omega arith) (λ c. omega arith) loop-again returns-2)

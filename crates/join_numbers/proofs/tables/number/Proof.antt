@@ -4,9 +4,6 @@ use borrow.Author.Needs.{needs}
 use Rattle.join_numbers.proofs.tables.number.Statement.{statement}
 use Rattle.join_numbers.proofs.tables.number.Tie as tie
 
-number-names-requires : tie.Need-number-names-requires
-number-names-requires c κs = search needs
-
 number-definitions-requires : tie.Need-number-definitions-requires
 number-definitions-requires c κs =
     let s = c .before .before .before .before .before .before .before .before in
@@ -16,9 +13,6 @@ number-definitions-requires c κs =
       named-ready (now (a .first)) (now (a .second)) (now (a .area)) (a .l1) (a .l2) (s .pre) b (n .result) (n .ensures),
       named-holds (now (a .first)) (now (a .second)) (now (a .area)) (a .l1) (a .l2) (s .pre) b (n .result) (n .ensures),
     )
-
-same-length : tie.Need-same-length
-same-length c = search needs
 
 returns : tie.Need-returns
 returns c =
@@ -31,4 +25,4 @@ returns c =
 
 pub number-spec : {M : Type 1} → statement M
 number-spec =
-    tie.close (tie.spec number-names-requires number-definitions-requires same-length returns)
+    tie.close (tie.spec (λ c κs. search needs) number-definitions-requires (λ c. search needs) returns)

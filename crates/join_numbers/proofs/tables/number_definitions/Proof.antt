@@ -12,7 +12,8 @@ use Rattle.join_numbers.proofs.tables.number_definitions.Tie as tie
 
 abbrev Inv-loop : tie.InvT-loop
 Inv-loop first second area₀ l1 l2 old count fresh₀ n₀ area fresh n =
-    Numbering (sameBuiltin (partOf first) (partOf second)) noDefinition (partOf first .definitions) (partOf second .definitions) definitionTable area₀ area n fresh
+    Numbering (sameBuiltin (partOf first) (partOf second)) noDefinition (partOf first .definitions) (partOf second .definitions)
+    definitionTable area₀ area n fresh
 
 abbrev μ-loop : tie.MeasureT-loop
 μ-loop first second area₀ l1 l2 old count fresh₀ n₀ area fresh n = count - n
@@ -26,7 +27,11 @@ place-of-definition-requires c κs =
     let a = s .args in
     let l = c .before .before .loop in
     let r = s .pre .0 in (
-      (definitions-ready (now (a .first)) (now (a .second)) (now (a .area)) (a .l1) (a .l2) r (l .area) (l .n) (l .fresh) (l .inv), c .before .loop-test .taken),
+      (
+        definitions-ready (now (a .first)) (now (a .second)) (now (a .area)) (a .l1) (a .l2) r (l .area) (l .n) (l .fresh)
+            (l .inv),
+        c .before .loop-test .taken,
+      ),
       definitions-named (now (a .first)) (now (a .second)) (now (a .area)) (a .l1) (a .l2) r (l .area) (l .n) (l .fresh) (l .inv) (s .pre .1),
     )
 
@@ -35,7 +40,8 @@ add-put-number c =
     let s = c .before .before .before .before .before .before .before .before in
     let l = c .before .before .before .before .loop in
     let a = s .args in
-    let q = definitions-room (now (a .first)) (now (a .second)) (now (a .area)) (a .l1) (a .l2) (s .pre .0) (l .area) (l .n) (l .fresh) (l .inv) (c .before .before .before .loop-test .taken) .0 in
+    let q = definitions-room (now (a .first)) (now (a .second)) (now (a .area)) (a .l1) (a .l2) (s .pre .0) (l .area) (l .n)
+    (l .fresh) (l .inv) (c .before .before .before .loop-test .taken) .0 in
     omega arith
 
 put-number-requires : tie.Need-put-number-requires Inv-loop μ-loop
@@ -43,13 +49,8 @@ put-number-requires c κs =
     let s = c .before .before .before .before .before .before .before .before in
     let a = s .args in
     let l = c .before .before .before .before .loop in
-    definitions-room (now (a .first)) (now (a .second)) (now (a .area)) (a .l1) (a .l2) (s .pre .0) (l .area) (l .n) (l .fresh) (l .inv) (c .before .before .before .loop-test .taken)
-
-add-n : tie.Need-add-n Inv-loop μ-loop
-add-n c = omega arith
-
-loop-less : tie.Need-loop-less Inv-loop μ-loop
-loop-less c = omega arith
+    definitions-room (now (a .first)) (now (a .second)) (now (a .area)) (a .l1) (a .l2) (s .pre .0) (l .area) (l .n) (l .fresh)
+    (l .inv) (c .before .before .before .loop-test .taken)
 
 loop-again : tie.Need-loop-again Inv-loop μ-loop
 loop-again c =
@@ -57,8 +58,10 @@ loop-again c =
     let a = s .args in
     let l = c .before .before .before .before .before .before .before .loop in
     let p = c .before .before .put-number in
-    definitions-next (now (a .first)) (now (a .second)) (now (a .area)) (a .l1) (a .l2) (s .pre .0) (l .area) (p .last .0) (l .n) (l .fresh) (c .before .before .before .before .place-of-definition .result) (p .result) (l .inv)
-    (c .before .before .before .before .before .before .loop-test .taken) (c .before .before .before .before .place-of-definition .ensures) (p .ensures .0) (p .ensures .1)
+    definitions-next (now (a .first)) (now (a .second)) (now (a .area)) (a .l1) (a .l2) (s .pre .0) (l .area) (p .last .0) (l .n)
+    (l .fresh) (c .before .before .before .before .place-of-definition .result) (p .result) (l .inv)
+    (c .before .before .before .before .before .before .loop-test .taken) (c .before .before .before .before .place-of-definition .ensures)
+    (p .ensures .0) (p .ensures .1)
 
 same-length : tie.Need-same-length Inv-loop μ-loop
 same-length c = c .before .loop .inv .filled .size
@@ -68,20 +71,10 @@ returns c =
     let s = c .before .before .before .before .before in
     let a = s .args in
     let l = c .before .loop in
-    definitions-done (now (a .first)) (now (a .second)) (now (a .area)) (a .l1) (a .l2) (s .pre .0) (l .area) (l .n) (l .fresh) (l .inv) (c .loop-test .left)
+    definitions-done (now (a .first)) (now (a .second)) (now (a .area)) (a .l1) (a .l2) (s .pre .0) (l .area) (l .n) (l .fresh)
+    (l .inv) (c .loop-test .left)
 
 pub number-definitions-spec : {M : Type 1} → statement M
 number-definitions-spec =
-    tie.close
-    (tie.spec
-    Inv-loop
-    μ-loop
-    loop-holds
-    place-of-definition-requires
-    add-put-number
-    put-number-requires
-    add-n
-    loop-less
-    loop-again
-    same-length
-    returns)
+    tie.close (tie.spec Inv-loop μ-loop loop-holds place-of-definition-requires add-put-number put-number-requires
+    (λ c. omega arith) (λ c. omega arith) loop-again same-length returns)

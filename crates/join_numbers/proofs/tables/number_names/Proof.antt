@@ -10,7 +10,8 @@ use Rattle.join_numbers.proofs.tables.number_names.Statement.{statement
 use Rattle.join_numbers.proofs.tables.number_names.Tie as tie
 
 abbrev Inv-loop : tie.InvT-loop
-Inv-loop first second area₀ old count fresh₀ n₀ area fresh n = Numbering sameName noName (partOf first .names) (partOf second .names) nameTable area₀ area n fresh
+Inv-loop first second area₀ old count fresh₀ n₀ area fresh n = Numbering sameName noName (partOf first .names) (partOf second .names)
+    nameTable area₀ area n fresh
 
 abbrev μ-loop : tie.MeasureT-loop
 μ-loop first second area₀ old count fresh₀ n₀ area fresh n = count - n
@@ -23,7 +24,8 @@ place-of-name-requires c κs =
     let s = c .before .before .before .before .before .before in
     let a = s .args in
     let l = c .before .before .loop in
-    let q = names-room (now (a .first)) (now (a .second)) (now (a .area)) (a .l1) (a .l2) (s .pre) (l .area) (l .n) (l .fresh) (l .inv) (c .before .loop-test .taken) .0 in
+    let q = names-room (now (a .first)) (now (a .second)) (now (a .area)) (a .l1) (a .l2) (s .pre) (l .area) (l .n) (l .fresh)
+    (l .inv) (c .before .loop-test .taken) .0 in
     (s .pre .first .limited .names, omega arith)
 
 add-put-number : tie.Need-add-put-number Inv-loop μ-loop
@@ -31,7 +33,8 @@ add-put-number c =
     let s = c .before .before .before .before .before .before .before .before in
     let l = c .before .before .before .before .loop in
     let a = s .args in
-    let q = names-room (now (a .first)) (now (a .second)) (now (a .area)) (a .l1) (a .l2) (s .pre) (l .area) (l .n) (l .fresh) (l .inv) (c .before .before .before .loop-test .taken) .0 in
+    let q = names-room (now (a .first)) (now (a .second)) (now (a .area)) (a .l1) (a .l2) (s .pre) (l .area) (l .n) (l .fresh)
+    (l .inv) (c .before .before .before .loop-test .taken) .0 in
     omega arith
 
 put-number-requires : tie.Need-put-number-requires Inv-loop μ-loop
@@ -39,13 +42,8 @@ put-number-requires c κs =
     let s = c .before .before .before .before .before .before .before .before in
     let a = s .args in
     let l = c .before .before .before .before .loop in
-    names-room (now (a .first)) (now (a .second)) (now (a .area)) (a .l1) (a .l2) (s .pre) (l .area) (l .n) (l .fresh) (l .inv) (c .before .before .before .loop-test .taken)
-
-add-n : tie.Need-add-n Inv-loop μ-loop
-add-n c = omega arith
-
-loop-less : tie.Need-loop-less Inv-loop μ-loop
-loop-less c = omega arith
+    names-room (now (a .first)) (now (a .second)) (now (a .area)) (a .l1) (a .l2) (s .pre) (l .area) (l .n) (l .fresh) (l .inv)
+    (c .before .before .before .loop-test .taken)
 
 loop-again : tie.Need-loop-again Inv-loop μ-loop
 loop-again c =
@@ -53,8 +51,10 @@ loop-again c =
     let a = s .args in
     let l = c .before .before .before .before .before .before .before .loop in
     let p = c .before .before .put-number in
-    names-next (now (a .first)) (now (a .second)) (now (a .area)) (a .l1) (a .l2) (s .pre) (l .area) (p .last .0) (l .n) (l .fresh) (c .before .before .before .before .place-of-name .result) (p .result) (l .inv)
-    (c .before .before .before .before .before .before .loop-test .taken) (c .before .before .before .before .place-of-name .ensures) (p .ensures .0) (p .ensures .1)
+    names-next (now (a .first)) (now (a .second)) (now (a .area)) (a .l1) (a .l2) (s .pre) (l .area) (p .last .0) (l .n) (l .fresh)
+    (c .before .before .before .before .place-of-name .result) (p .result) (l .inv)
+    (c .before .before .before .before .before .before .loop-test .taken) (c .before .before .before .before .place-of-name .ensures)
+    (p .ensures .0) (p .ensures .1)
 
 same-length : tie.Need-same-length Inv-loop μ-loop
 same-length c = c .before .loop .inv .filled .size
@@ -68,16 +68,5 @@ returns c =
 
 pub number-names-spec : {M : Type 1} → statement M
 number-names-spec =
-    tie.close
-    (tie.spec
-    Inv-loop
-    μ-loop
-    loop-holds
-    place-of-name-requires
-    add-put-number
-    put-number-requires
-    add-n
-    loop-less
-    loop-again
-    same-length
-    returns)
+    tie.close (tie.spec Inv-loop μ-loop loop-holds place-of-name-requires add-put-number put-number-requires
+    (λ c. omega arith) (λ c. omega arith) loop-again same-length returns)

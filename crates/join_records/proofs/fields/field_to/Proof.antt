@@ -2,148 +2,117 @@ use native.Mathlib.Omega.{arith}
 use mathlib.Core.Path.{_∙_}
 use denote.Ref.{now}
 use Rattle.join_records.specs.Moves.{numbersOf}
-use Rattle.join_records.proofs.Laws.{under, field-crate, field-map, field-module, field-parent, field-name, field-definition, field-first, field-second, field-seen, field-none}
+use Rattle.join_records.proofs.Laws.{under, field-crate, field-map, field-module, field-parent, field-name, field-definition, field-first}
+use Rattle.join_records.proofs.Laws.{field-second, field-seen, field-none}
 use borrow.Author.Needs.{needs}
 use Rattle.join_records.proofs.fields.field_to.Statement.{statement}
 use Rattle.join_records.proofs.fields.field_to.Tie as tie
-use Rattle.join_records.proofs.fields.field_to.Reads as reads
-use Rattle.join_records.proofs.fields.field_to.Lts as lts
-use Rattle.join_records.proofs.fields.definition_to.Reads as definition-to-reads
-use Rattle.join_records.proofs.fields.first_to.Reads as first-to-reads
-use Rattle.join_records.proofs.fields.name_to.Reads as name-to-reads
-use Rattle.join_records.proofs.fields.parent_to.Reads as parent-to-reads
-use Rattle.join_records.proofs.fields.second_to.Reads as second-to-reads
-use Rattle.join_records.proofs.fields.seen_to.Reads as seen-to-reads
 
--- src/fields.rt:153:16
 add-result : tie.Need-add-result
 add-result c =
     let s = c .before .before .before in
-    omega (arith, under (field-crate (numbersOf (now (s .args .area)) (s .args .l)) (s .args .p) (s .args .v) (s .args .n) (s .args .role) (c .before .if1 .taken)) (s .pre))
+    omega (
+      arith,
+      under (field-crate (numbersOf (now (s .args .area)) (s .args .l)) (s .args .p) (s .args .v) (s .args .n)
+          (s .args .role) (c .before .if1 .taken)) (s .pre),
+    )
 
--- src/fields.rt:153:9
 returns : tie.Need-returns
 returns c =
     let s = c .before .before .before in
     field-crate (numbersOf (now (s .args .area)) (s .args .l)) (s .args .p) (s .args .v) (s .args .n) (s .args .role) (c .before .if1 .taken)
 
--- src/fields.rt:156:16
 add-result-2 : tie.Need-add-result-2
 add-result-2 c =
     let s = c .before .before .before .before in
-    omega (arith, under (field-map (numbersOf (now (s .args .area)) (s .args .l)) (s .args .p) (s .args .v) (s .args .n) (s .args .role) (c .before .if2 .taken)) (s .pre))
+    omega (
+      arith,
+      under (field-map (numbersOf (now (s .args .area)) (s .args .l)) (s .args .p) (s .args .v) (s .args .n)
+          (s .args .role) (c .before .if2 .taken)) (s .pre),
+    )
 
--- src/fields.rt:156:9
 returns-2 : tie.Need-returns-2
 returns-2 c =
     let s = c .before .before .before .before in
     field-map (numbersOf (now (s .args .area)) (s .args .l)) (s .args .p) (s .args .v) (s .args .n) (s .args .role) (c .before .if2 .taken)
 
--- src/fields.rt:159:16
 add-result-3 : tie.Need-add-result-3
 add-result-3 c =
     let s = c .before .before .before .before .before in
-    omega (arith, under (field-module (numbersOf (now (s .args .area)) (s .args .l)) (s .args .p) (s .args .v) (s .args .n) (s .args .role) (c .before .if3 .taken)) (s .pre))
+    omega (
+      arith,
+      under (field-module (numbersOf (now (s .args .area)) (s .args .l)) (s .args .p) (s .args .v) (s .args .n)
+          (s .args .role) (c .before .if3 .taken)) (s .pre),
+    )
 
--- src/fields.rt:159:9
 returns-3 : tie.Need-returns-3
 returns-3 c =
     let s = c .before .before .before .before .before in
     field-module (numbersOf (now (s .args .area)) (s .args .l)) (s .args .p) (s .args .v) (s .args .n) (s .args .role) (c .before .if3 .taken)
 
--- src/fields.rt:162:9
 parent-to-requires : tie.Need-parent-to-requires
 parent-to-requires c κs =
     let s = c .before .before .before .before .before in
-    under (field-parent (numbersOf (now (s .args .area)) (s .args .l)) (s .args .p) (s .args .v) (s .args .n) (s .args .role) (c .if4 .taken)) (s .pre)
+    under (field-parent (numbersOf (now (s .args .area)) (s .args .l)) (s .args .p) (s .args .v) (s .args .n) (s .args .role) (c .if4 .taken))
+    (s .pre)
 
--- src/fields.rt:162:9
 returns-4 : tie.Need-returns-4
 returns-4 c =
     let s = c .before .before .before .before .before .before in
-    c .parent-to .ensures ∙ field-parent (numbersOf (now (s .args .area)) (s .args .l)) (s .args .p) (s .args .v) (s .args .n) (s .args .role) (c .before .if4 .taken)
+    c .parent-to .ensures ∙ field-parent (numbersOf (now (s .args .area)) (s .args .l)) (s .args .p) (s .args .v) (s .args .n)
+    (s .args .role) (c .before .if4 .taken)
 
--- src/fields.rt:165:9
-name-to-requires : tie.Need-name-to-requires
-name-to-requires c κs = search needs
-
--- src/fields.rt:165:9
 returns-5 : tie.Need-returns-5
 returns-5 c =
     let s = c .before .before .before .before .before .before .before in
-    c .name-to .ensures ∙ field-name (numbersOf (now (s .args .area)) (s .args .l)) (s .args .p) (s .args .v) (s .args .n) (s .args .role) (c .before .if5 .taken)
+    c .name-to .ensures ∙ field-name (numbersOf (now (s .args .area)) (s .args .l)) (s .args .p) (s .args .v) (s .args .n)
+    (s .args .role) (c .before .if5 .taken)
 
--- src/fields.rt:168:9
-definition-to-requires : tie.Need-definition-to-requires
-definition-to-requires c κs = search needs
-
--- src/fields.rt:168:9
 returns-6 : tie.Need-returns-6
 returns-6 c =
     let s = c .before .before .before .before .before .before .before .before in
-    c .definition-to .ensures ∙ field-definition (numbersOf (now (s .args .area)) (s .args .l)) (s .args .p) (s .args .v) (s .args .n) (s .args .role) (c .before .if6 .taken)
+    c .definition-to .ensures ∙ field-definition (numbersOf (now (s .args .area)) (s .args .l)) (s .args .p) (s .args .v) (s .args .n)
+    (s .args .role) (c .before .if6 .taken)
 
--- src/fields.rt:171:9
 first-to-requires : tie.Need-first-to-requires
 first-to-requires c κs =
     let s = c .before .before .before .before .before .before .before .before in
     under (field-first (numbersOf (now (s .args .area)) (s .args .l)) (s .args .p) (s .args .v) (s .args .n) (s .args .role) (c .if7 .taken)) (s .pre)
 
--- src/fields.rt:171:9
 returns-7 : tie.Need-returns-7
 returns-7 c =
     let s = c .before .before .before .before .before .before .before .before .before in
-    c .first-to .ensures ∙ field-first (numbersOf (now (s .args .area)) (s .args .l)) (s .args .p) (s .args .v) (s .args .n) (s .args .role) (c .before .if7 .taken)
+    c .first-to .ensures ∙ field-first (numbersOf (now (s .args .area)) (s .args .l)) (s .args .p) (s .args .v) (s .args .n)
+    (s .args .role) (c .before .if7 .taken)
 
--- src/fields.rt:174:9
-second-to-requires : tie.Need-second-to-requires
-second-to-requires c κs = search needs
-
--- src/fields.rt:174:9
 returns-8 : tie.Need-returns-8
 returns-8 c =
     let s = c .before .before .before .before .before .before .before .before .before .before in
-    c .second-to .ensures ∙ field-second (numbersOf (now (s .args .area)) (s .args .l)) (s .args .p) (s .args .v) (s .args .n) (s .args .role) (c .before .if8 .taken)
+    c .second-to .ensures ∙ field-second (numbersOf (now (s .args .area)) (s .args .l)) (s .args .p) (s .args .v) (s .args .n)
+    (s .args .role) (c .before .if8 .taken)
 
--- src/fields.rt:177:9
 seen-to-requires : tie.Need-seen-to-requires
 seen-to-requires c κs =
     let s = c .before .before .before .before .before .before .before .before .before .before in
     under (field-seen (numbersOf (now (s .args .area)) (s .args .l)) (s .args .p) (s .args .v) (s .args .n) (s .args .role) (c .if9 .taken)) (s .pre)
 
--- src/fields.rt:177:9
 returns-9 : tie.Need-returns-9
 returns-9 c =
     let s = c .before .before .before .before .before .before .before .before .before .before .before in
-    c .seen-to .ensures ∙ field-seen (numbersOf (now (s .args .area)) (s .args .l)) (s .args .p) (s .args .v) (s .args .n) (s .args .role) (c .before .if9 .taken)
+    c .seen-to .ensures ∙ field-seen (numbersOf (now (s .args .area)) (s .args .l)) (s .args .p) (s .args .v) (s .args .n)
+    (s .args .role) (c .before .if9 .taken)
 
--- src/fields.rt:148:1
 returns-10 : tie.Need-returns-10
 returns-10 c =
     let s = c .before .before .before .before .before .before .before .before .before .before in
     field-none (numbersOf (now (s .args .area)) (s .args .l)) (s .args .p) (s .args .v) (s .args .n) (s .args .role)
-    (c .before .before .before .before .before .before .before .before .if1 .left) (c .before .before .before .before .before .before .before .if2 .left) (c .before .before .before .before .before .before .if3 .left) (c .before .before .before .before .before .if4 .left) (c .before .before .before .before .if5 .left) (c .before .before .before .if6 .left) (c .before .before .if7 .left) (c .before .if8 .left) (c .if9 .left)
+    (c .before .before .before .before .before .before .before .before .if1 .left)
+    (c .before .before .before .before .before .before .before .if2 .left) (c .before .before .before .before .before .before .if3 .left)
+    (c .before .before .before .before .before .if4 .left) (c .before .before .before .before .if5 .left)
+    (c .before .before .before .if6 .left) (c .before .before .if7 .left) (c .before .if8 .left) (c .if9 .left)
 
 pub field-to-spec : {M : Type 1} → statement M
 field-to-spec =
-    tie.close
-    (tie.spec
-    add-result
-    returns
-    add-result-2
-    returns-2
-    add-result-3
-    returns-3
-    parent-to-requires
-    returns-4
-    name-to-requires
-    returns-5
-    definition-to-requires
-    returns-6
-    first-to-requires
-    returns-7
-    second-to-requires
-    returns-8
-    seen-to-requires
-    returns-9
-    returns-10)
+    tie.close (tie.spec add-result returns add-result-2 returns-2 add-result-3 returns-3 parent-to-requires returns-4
+    (λ c κs. search needs) returns-5 (λ c κs. search needs) returns-6 first-to-requires returns-7 (λ c κs. search needs)
+    returns-8 seen-to-requires returns-9 returns-10)

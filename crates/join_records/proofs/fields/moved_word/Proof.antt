@@ -7,91 +7,63 @@ use Rattle.join_records.proofs.Laws.{under, head-is, field-is}
 use borrow.Author.Needs.{needs}
 use Rattle.join_records.proofs.fields.moved_word.Statement.{statement}
 use Rattle.join_records.proofs.fields.moved_word.Tie as tie
-use Rattle.join_records.proofs.fields.moved_word.Reads as reads
-use Rattle.join_records.proofs.fields.moved_word.Lts as lts
-use Rattle.join_records.proofs.fields.field_to.Reads as field-to-reads
-use Rattle.join_records.proofs.fields.role_of.Reads as role-of-reads
-use Rattle.snapshot.proofs.words.field.Reads as field-reads
-use Rattle.snapshot.proofs.words.kind.Reads as kind-reads
-use Rattle.snapshot.proofs.words.payload.Reads as payload-reads
 
--- src/fields.rt:187:9
-kind-requires : tie.Need-kind-requires
-kind-requires c κs = search needs
-
--- src/fields.rt:188:9
-payload-requires : tie.Need-payload-requires
-payload-requires c κs = search needs
-
--- src/fields.rt:189:9
-field-requires : tie.Need-field-requires
-field-requires c κs = search needs
-
--- src/fields.rt:190:9
-role-of-requires : tie.Need-role-of-requires
-role-of-requires c κs = search needs
-
--- src/fields.rt:192:16
 mul-result : tie.Need-mul-result
 mul-result c =
     let s = c .before .before .before .before .before .before .before in
     let q = c .before in
-    omega (arith, under (head-is (numbersOf (now (s .args .area)) (s .args .l)) (now (s .args .words)) (s .args .at) (s .args .i) (q .before .before .before .kind .ensures) (q .before .before .payload .ensures) (q .before .field .ensures) (q .role-of .ensures) (c .if1 .taken)) (s .pre))
+    omega (
+      arith,
+      under (head-is (numbersOf (now (s .args .area)) (s .args .l)) (now (s .args .words)) (s .args .at) (s .args .i)
+          (q .before .before .before .kind .ensures) (q .before .before .payload .ensures) (q .before .field .ensures)
+          (q .role-of .ensures) (c .if1 .taken)) (s .pre),
+    )
 
--- src/fields.rt:192:32
 field-to-requires : tie.Need-field-to-requires
 field-to-requires c κs =
     let s = c .before .before .before .before .before .before .before in
     let q = c .before in
-    let h = under (head-is (numbersOf (now (s .args .area)) (s .args .l)) (now (s .args .words)) (s .args .at) (s .args .i) (q .before .before .before .kind .ensures) (q .before .before .payload .ensures) (q .before .field .ensures) (q .role-of .ensures) (c .if1 .taken)) (s .pre) in
+    let h = under (head-is (numbersOf (now (s .args .area)) (s .args .l)) (now (s .args .words)) (s .args .at) (s .args .i)
+    (q .before .before .before .kind .ensures) (q .before .before .payload .ensures) (q .before .field .ensures)
+    (q .role-of .ensures) (c .if1 .taken)) (s .pre) in
     omega arith
 
--- src/fields.rt:192:16
 add-result : tie.Need-add-result
 add-result c =
     let s = c .before .before .before .before .before .before .before .before in
     let q = c .before .before in
     let f = c .field-to .ensures in
-    let h = under (head-is (numbersOf (now (s .args .area)) (s .args .l)) (now (s .args .words)) (s .args .at) (s .args .i) (q .before .before .before .kind .ensures) (q .before .before .payload .ensures) (q .before .field .ensures) (q .role-of .ensures) (c .before .if1 .taken)) (s .pre) in
+    let h = under (head-is (numbersOf (now (s .args .area)) (s .args .l)) (now (s .args .words)) (s .args .at) (s .args .i)
+    (q .before .before .before .kind .ensures) (q .before .before .payload .ensures) (q .before .field .ensures)
+    (q .role-of .ensures) (c .before .if1 .taken)) (s .pre) in
     omega arith
 
--- src/fields.rt:192:9
 returns : tie.Need-returns
 returns c =
     let s = c .before .before .before .before .before .before .before .before in
     let q = c .before .before in
-    ap (λ x. q .before .before .before .kind .result * 268435456 + x) (c .field-to .ensures) ∙ head-is (numbersOf (now (s .args .area)) (s .args .l)) (now (s .args .words)) (s .args .at) (s .args .i) (q .before .before .before .kind .ensures) (q .before .before .payload .ensures) (q .before .field .ensures) (q .role-of .ensures) (c .before .if1 .taken)
+    ap (λ x. q .before .before .before .kind .result * 268435456 + x) (c .field-to .ensures)
+    ∙ head-is (numbersOf (now (s .args .area)) (s .args .l)) (now (s .args .words)) (s .args .at) (s .args .i)
+    (q .before .before .before .kind .ensures) (q .before .before .payload .ensures) (q .before .field .ensures)
+    (q .role-of .ensures) (c .before .if1 .taken)
 
--- src/fields.rt:194:35
-field-requires-2 : tie.Need-field-requires-2
-field-requires-2 c κs = search needs
-
--- src/fields.rt:194:5
 field-to-requires-2 : tie.Need-field-to-requires-2
 field-to-requires-2 c κs =
     let s = c .before .before .before .before .before .before .before .before in
     let q = c .before .before in
-    under (field-is (numbersOf (now (s .args .area)) (s .args .l)) (now (s .args .words)) (s .args .at) (s .args .i) (q .before .before .before .kind .ensures) (q .before .before .payload .ensures) (q .before .field .ensures) (q .role-of .ensures) (c .before .if1 .left) (c .field2 .ensures)) (s .pre)
+    under (field-is (numbersOf (now (s .args .area)) (s .args .l)) (now (s .args .words)) (s .args .at) (s .args .i)
+    (q .before .before .before .kind .ensures) (q .before .before .payload .ensures) (q .before .field .ensures)
+    (q .role-of .ensures) (c .before .if1 .left) (c .field2 .ensures)) (s .pre)
 
--- src/fields.rt:183:1
 returns-2 : tie.Need-returns-2
 returns-2 c =
     let s = c .before .before .before .before .before .before .before .before .before in
     let q = c .before .before .before in
-    c .field-to2 .ensures ∙ field-is (numbersOf (now (s .args .area)) (s .args .l)) (now (s .args .words)) (s .args .at) (s .args .i) (q .before .before .before .kind .ensures) (q .before .before .payload .ensures) (q .before .field .ensures) (q .role-of .ensures) (c .before .before .if1 .left) (c .before .field2 .ensures)
+    c .field-to2 .ensures ∙ field-is (numbersOf (now (s .args .area)) (s .args .l)) (now (s .args .words)) (s .args .at) (s .args .i)
+    (q .before .before .before .kind .ensures) (q .before .before .payload .ensures) (q .before .field .ensures)
+    (q .role-of .ensures) (c .before .before .if1 .left) (c .before .field2 .ensures)
 
 pub moved-word-spec : {M : Type 1} → statement M
 moved-word-spec =
-    tie.close
-    (tie.spec
-    kind-requires
-    payload-requires
-    field-requires
-    role-of-requires
-    mul-result
-    field-to-requires
-    add-result
-    returns
-    field-requires-2
-    field-to-requires-2
-    returns-2)
+    tie.close (tie.spec (λ c κs. search needs) (λ c κs. search needs) (λ c κs. search needs) (λ c κs. search needs)
+    mul-result field-to-requires add-result returns (λ c κs. search needs) field-to-requires-2 returns-2)

@@ -5,25 +5,16 @@ use Rattle.join_records.proofs.Laws.{second-variant, second-none}
 use borrow.Author.Needs.{needs}
 use Rattle.join_records.proofs.fields.second_to.Statement.{statement}
 use Rattle.join_records.proofs.fields.second_to.Tie as tie
-use Rattle.join_records.proofs.fields.second_to.Reads as reads
-use Rattle.join_records.proofs.fields.second_to.Lts as lts
-use Rattle.join_records.proofs.fields.name_to.Reads as name-to-reads
 
--- src/fields.rt:117:9
-name-to-requires : tie.Need-name-to-requires
-name-to-requires c κs = search needs
-
--- src/fields.rt:117:9
 returns : tie.Need-returns
 returns c =
     let s = c .before .before .before in
     c .name-to .ensures ∙ second-variant (numbersOf (now (s .args .area)) (s .args .l)) (s .args .k) (s .args .n) (c .before .if1 .taken)
 
--- src/fields.rt:113:1
 returns-2 : tie.Need-returns-2
 returns-2 c =
     let s = c .before .before in
     second-none (numbersOf (now (s .args .area)) (s .args .l)) (s .args .k) (s .args .n) (c .if1 .left)
 
 pub second-to-spec : {M : Type 1} → statement M
-second-to-spec = tie.close (tie.spec name-to-requires returns returns-2)
+second-to-spec = tie.close (tie.spec (λ c κs. search needs) returns returns-2)

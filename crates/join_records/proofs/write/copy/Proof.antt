@@ -8,8 +8,6 @@ use Rattle.snapshot.specs.Lists.{rows}
 use Rattle.join_records.proofs.Laws.{store-start, store-next, counted, stored, space-small, space-room, stored-size}
 use Rattle.join_records.proofs.write.copy.Statement.{statement}
 use Rattle.join_records.proofs.write.copy.Tie as tie
-use Rattle.join_records.proofs.write.copy.Reads as reads
-use Rattle.join_records.proofs.write.copy.Lts as lts
 
 abbrev Inv-loop : tie.InvT-loop
 Inv-loop words from end target₀ to write n i₀ target i = (i ≤ n) × (target ≡ sets target₀ to (rows (λ j. getD words (from + j) 0) 0 i))
@@ -17,23 +15,23 @@ Inv-loop words from end target₀ to write n i₀ target i = (i ≤ n) × (targe
 abbrev μ-loop : tie.MeasureT-loop
 μ-loop words from end target₀ to write n i₀ target i = n - i
 
--- src/write.rt:23:13
 sub-n : tie.Need-sub-n Inv-loop μ-loop
 sub-n c = let h = c .pre .0 in omega arith
 
--- src/write.rt:25:16
 add-result : tie.Need-add-result Inv-loop μ-loop
-add-result c = let s = c .before in let h = space-small (λ j. getD (now (s .args .words)) (s .args .from + j) 0) (s .args .end - s .args .from) (s .pre .2) in omega arith
+add-result c = let s = c .before in let h = space-small (λ j. getD (now (s .args .words)) (s .args .from + j) 0)
+    (s .args .end - s .args .from) (s .pre .2) in omega arith
 
--- src/write.rt:25:9
 returns : tie.Need-returns Inv-loop μ-loop
 returns c = let s = c .before in counted (λ j. getD (now (s .args .words)) (s .args .from + j) 0) (s .args .end - s .args .from) (c .if1 .taken)
 
--- src/write.rt:28:5
 loop-holds : tie.Need-loop-holds Inv-loop μ-loop
-loop-holds c = let s = c .before in (omega arith, store-start (λ j. getD (now (s .args .words)) (s .args .from + j) 0) (now (s .args .target)) (s .args .to))
+loop-holds c = let s = c .before in (
+  omega arith,
+  store-start (λ j. getD (now (s .args .words)) (s .args .from + j) 0)
+      (now (s .args .target)) (s .args .to),
+)
 
--- src/write.rt:29:32
 add-target : tie.Need-add-target Inv-loop μ-loop
 add-target c =
     let s = c .before .before .before in
@@ -42,11 +40,6 @@ add-target c =
     let i = c .loop-test .taken in
     omega arith
 
--- src/write.rt:29:26
-mul-target : tie.Need-mul-target Inv-loop μ-loop
-mul-target c = omega arith
-
--- src/write.rt:29:26
 shared-slice-read-target : tie.Need-shared-slice-read-target Inv-loop μ-loop
 shared-slice-read-target c =
     let s = c .before .before .before .before in
@@ -55,7 +48,6 @@ shared-slice-read-target c =
     let i = c .before .loop-test .taken in
     omega arith
 
--- src/write.rt:29:16
 add-target-2 : tie.Need-add-target-2 Inv-loop μ-loop
 add-target-2 c =
     let s = c .before .before .before .before in
@@ -63,79 +55,56 @@ add-target-2 c =
     let i = c .before .loop-test .taken in
     omega arith
 
--- src/write.rt:29:9
 mul-target-2 : tie.Need-mul-target-2 Inv-loop μ-loop
 mul-target-2 c =
     let s = c .before .before .before .before in
     let p = c .before .before in
     let h = space-room (λ j. getD (now (s .args .words)) (s .args .from + j) 0) (s .args .end - s .args .from) (s .pre .2) (p .before .if1 .left) in
-    let z = stored-size (λ j. getD (now (s .args .words)) (s .args .from + j) 0) (s .args .end - s .args .from) (s .pre .2) (p .before .if1 .left) (p .loop .i) (p .loop .inv .1) in
+    let z = stored-size (λ j. getD (now (s .args .words)) (s .args .from + j) 0) (s .args .end - s .args .from) (s .pre .2)
+    (p .before .if1 .left) (p .loop .i) (p .loop .inv .1) in
     let i = c .before .loop-test .taken in
     omega arith
 
--- src/write.rt:29:9
 slice-write-target : tie.Need-slice-write-target Inv-loop μ-loop
 slice-write-target c =
     let s = c .before .before .before .before in
     let p = c .before .before in
     let h = space-room (λ j. getD (now (s .args .words)) (s .args .from + j) 0) (s .args .end - s .args .from) (s .pre .2) (p .before .if1 .left) in
-    let z = stored-size (λ j. getD (now (s .args .words)) (s .args .from + j) 0) (s .args .end - s .args .from) (s .pre .2) (p .before .if1 .left) (p .loop .i) (p .loop .inv .1) in
+    let z = stored-size (λ j. getD (now (s .args .words)) (s .args .from + j) 0) (s .args .end - s .args .from) (s .pre .2)
+    (p .before .if1 .left) (p .loop .i) (p .loop .inv .1) in
     let i = c .before .loop-test .taken in
     omega arith
 
--- src/write.rt:30:9
-add-i : tie.Need-add-i Inv-loop μ-loop
-add-i c = omega arith
-
--- src/write.rt:28:5
-loop-less : tie.Need-loop-less Inv-loop μ-loop
-loop-less c = omega arith
-
--- src/write.rt:28:5
 loop-again : tie.Need-loop-again Inv-loop μ-loop
 loop-again c =
     let s = c .before .before .before .before in
     let p = c .before .before in
-    let i = c .before .loop-test .taken in
-    (omega arith, store-next (λ j. getD (now (s .args .words)) (s .args .from + j) 0) (now (s .args .target)) (s .args .to) (p .loop .i) _ (p .loop .inv .1) refl)
+    let i = c .before .loop-test .taken in (
+      omega arith,
+      store-next (λ j. getD (now (s .args .words)) (s .args .from + j) 0) (now (s .args .target)) (s .args .to)
+          (p .loop .i) _ (p .loop .inv .1) refl,
+    )
 
--- src/write.rt:32:5
 add-result-2 : tie.Need-add-result-2 Inv-loop μ-loop
-add-result-2 c = let s = c .before .before .before in let h = space-small (λ j. getD (now (s .args .words)) (s .args .from + j) 0) (s .args .end - s .args .from) (s .pre .2) in omega arith
+add-result-2 c = let s = c .before .before .before in let h = space-small (λ j. getD (now (s .args .words)) (s .args .from + j) 0)
+    (s .args .end - s .args .from) (s .pre .2) in omega arith
 
--- src/write.rt:19:1
 same-length : tie.Need-same-length Inv-loop μ-loop
 same-length c =
     let s = c .before .before .before in
     let p = c .before in
-    stored-size (λ j. getD (now (s .args .words)) (s .args .from + j) 0) (s .args .end - s .args .from) (s .pre .2) (p .before .if1 .left) (p .loop .i) (p .loop .inv .1)
+    stored-size (λ j. getD (now (s .args .words)) (s .args .from + j) 0) (s .args .end - s .args .from) (s .pre .2)
+    (p .before .if1 .left) (p .loop .i) (p .loop .inv .1)
 
--- src/write.rt:19:1
 returns-2 : tie.Need-returns-2 Inv-loop μ-loop
 returns-2 c =
     let s = c .before .before .before in
     let p = c .before in
-    stored (λ j. getD (now (s .args .words)) (s .args .from + j) 0) (s .args .end - s .args .from) (p .loop .i) (now (s .args .target)) (p .before .if1 .left) (p .loop .inv .0) (c .loop-test .left) (p .loop .inv .1)
+    stored (λ j. getD (now (s .args .words)) (s .args .from + j) 0) (s .args .end - s .args .from) (p .loop .i) (now (s .args .target))
+    (p .before .if1 .left) (p .loop .inv .0) (c .loop-test .left) (p .loop .inv .1)
 
 pub copy-spec : {M : Type 1} → statement M
 copy-spec =
-    tie.close
-    (tie.spec
-    Inv-loop
-    μ-loop
-    sub-n
-    add-result
-    returns
-    loop-holds
-    add-target
-    mul-target
-    shared-slice-read-target
-    add-target-2
-    mul-target-2
-    slice-write-target
-    add-i
-    loop-less
-    loop-again
-    add-result-2
-    same-length
-    returns-2)
+    tie.close (tie.spec Inv-loop μ-loop sub-n add-result returns loop-holds add-target (λ c. omega arith)
+    shared-slice-read-target add-target-2 mul-target-2 slice-write-target (λ c. omega arith) (λ c. omega arith)
+    loop-again add-result-2 same-length returns-2)

@@ -7,10 +7,6 @@ use Rattle.join_records.specs.Moves.{movedRun}
 use Rattle.join_records.proofs.Laws.{going-size, Walking, walking-start, walking-space, walking-next, walking-done}
 use Rattle.join_records.proofs.write.put_moved.Statement.{statement}
 use Rattle.join_records.proofs.write.put_moved.Tie as tie
-use Rattle.join_records.proofs.write.put_moved.Reads as reads
-use Rattle.join_records.proofs.write.put_moved.Lts as lts
-use Rattle.join_records.proofs.write.put_kept.Reads as put-kept-reads
-use Rattle.snapshot.proofs.kind.arguments.Reads as arguments-reads
 
 abbrev Inv-loop : tie.InvT-loop
 Inv-loop words area l from end target₀ to write at₀ n₀ t₀ target at n t =
@@ -19,20 +15,18 @@ Inv-loop words area l from end target₀ to write at₀ n₀ t₀ target at n t 
 abbrev μ-loop : tie.MeasureT-loop
 μ-loop words area l from end target₀ to write at₀ n₀ t₀ target at n t = end - at
 
--- src/write.rt:85:5
 loop-holds : tie.Need-loop-holds Inv-loop μ-loop
 loop-holds c =
     let s = c .before .before .before in
-    walking-start (s .args .write) (now (s .args .area)) (s .args .l) (now (s .args .words)) (s .args .to) (now (s .args .target)) (s .args .from) (s .args .end)
+    walking-start (s .args .write) (now (s .args .area)) (s .args .l) (now (s .args .words)) (s .args .to) (now (s .args .target))
+    (s .args .from) (s .args .end)
 
--- src/write.rt:86:9
 put-kept-requires : tie.Need-put-kept-requires Inv-loop μ-loop
 put-kept-requires c κs =
     let p = c .before .before in
     let s = p .before .before .before .before in
     walking-space (p .loop .inv) (c .before .loop-test .taken) (s .pre .1)
 
--- src/write.rt:87:14
 add-at : tie.Need-add-at Inv-loop μ-loop
 add-at c =
     let p = c .before .before .before .before .before in
@@ -41,11 +35,6 @@ add-at c =
     let h = c .before .before .before .before .loop-test .taken in
     omega arith
 
--- src/write.rt:87:23
-arguments-requires : tie.Need-arguments-requires Inv-loop μ-loop
-arguments-requires c κs = search needs
-
--- src/write.rt:87:14
 add-at-2 : tie.Need-add-at-2 Inv-loop μ-loop
 add-at-2 c =
     let p = c .before .before .before .before .before .before in
@@ -55,7 +44,6 @@ add-at-2 c =
     let k = arguments-few (now (s .args .words)) (p .loop .at) _ (c .arguments .ensures) in
     omega arith
 
--- src/write.rt:88:9
 add-n : tie.Need-add-n Inv-loop μ-loop
 add-n c =
     let p = c .before .before .before .before .before .before in
@@ -65,37 +53,22 @@ add-n c =
     let k = p .loop .inv .low in
     omega arith
 
--- src/write.rt:85:5
 loop-less : tie.Need-loop-less Inv-loop μ-loop
 loop-less c = omega (arith, c .before .before .before .before .before .loop-test .taken)
 
--- src/write.rt:85:5
 loop-again : tie.Need-loop-again Inv-loop μ-loop
 loop-again c =
     let p = c .before .before .before .before .before .before in
-    walking-next (p .loop .inv) (c .before .before .before .before .before .loop-test .taken) (c .before .before .before .put-kept .ensures) (c .arguments .ensures)
+    walking-next (p .loop .inv) (c .before .before .before .before .before .loop-test .taken) (c .before .before .before .put-kept .ensures)
+    (c .arguments .ensures)
 
--- src/write.rt:78:1
 same-length : tie.Need-same-length Inv-loop μ-loop
 same-length c = going-size (c .before .loop .inv .going)
 
--- src/write.rt:78:1
 returns : tie.Need-returns Inv-loop μ-loop
 returns c = walking-done (c .before .loop .inv) (c .loop-test .left)
 
 pub put-moved-spec : {M : Type 1} → statement M
 put-moved-spec =
-    tie.close
-    (tie.spec
-    Inv-loop
-    μ-loop
-    loop-holds
-    put-kept-requires
-    add-at
-    arguments-requires
-    add-at-2
-    add-n
-    loop-less
-    loop-again
-    same-length
-    returns)
+    tie.close (tie.spec Inv-loop μ-loop loop-holds put-kept-requires add-at (λ c κs. search needs) add-at-2 add-n
+    loop-less loop-again same-length returns)

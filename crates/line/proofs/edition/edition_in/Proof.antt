@@ -13,12 +13,6 @@ returns c =
     edition-none (snapOf (now (s .args .words)) (now (s .args .area)) (s .args .l)) (s .args .m .0)
     (let e = length-rows (moduleRow (now (s .args .area))) (s .args .l .modules) in omega (arith, e, c .if1 .taken))
 
-krate-requires : tie.Need-krate-requires
-krate-requires c κs = search needs
-
-edition-of-requires : tie.Need-edition-of-requires
-edition-of-requires c κs = search needs
-
 returns-2 : tie.Need-returns-2
 returns-2 c =
     let s = c .before .before .before .before .before .before .before in
@@ -27,4 +21,4 @@ returns-2 c =
     (c .before .krate .ensures) (c .edition-of .ensures (now (s .args .area)))
 
 pub edition-in-spec : {M : Type 1} → statement M
-edition-in-spec = tie.close (tie.spec returns krate-requires edition-of-requires returns-2)
+edition-in-spec = tie.close (tie.spec returns (λ c κs. search needs) (λ c κs. search needs) returns-2)

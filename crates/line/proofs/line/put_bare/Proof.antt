@@ -7,24 +7,15 @@ use Rattle.snapshot.specs.Layouts.{snapOf}
 use Rattle.line.proofs.line.put_bare.Statement.{statement}
 use Rattle.line.proofs.line.put_bare.Tie as tie
 
-edition-in-requires : tie.Need-edition-in-requires
-edition-in-requires c κs = search needs
-
-put-outcome-requires : tie.Need-put-outcome-requires
-put-outcome-requires c κs = search needs
-
-put-meter-requires : tie.Need-put-meter-requires
-put-meter-requires c κs = search needs
-
-same-length : tie.Need-same-length
-same-length c = search needs
-
 returns : tie.Need-returns
 returns c =
     let s = c .before .before .before .before .before .before .before .before .before .before .before .before .args in
     let o = c .before .before .before .before .before .before .put-outcome .ensures in
-    let m = c .before .before .put-meter .ensures in
-    (put-as (line-whole (snapOf (now (s .words)) (now (s .area)) (s .l)) (s .from .0) (s .r) (c .before .before .before .before .before .before .before .before .edition-in .ensures)) (put-two (o .0) (m .0)), omega (arith, o .1, m .1))
+    let m = c .before .before .put-meter .ensures in (
+      put-as (line-whole (snapOf (now (s .words)) (now (s .area)) (s .l)) (s .from .0) (s .r)
+          (c .before .before .before .before .before .before .before .before .edition-in .ensures)) (put-two (o .0) (m .0)),
+      omega (arith, o .1, m .1),
+    )
 
 pub put-bare-spec : {M : Type 1} → statement M
-put-bare-spec = tie.close (tie.spec edition-in-requires put-outcome-requires put-meter-requires same-length returns)
+put-bare-spec = tie.close (tie.spec (λ c κs. search needs) (λ c κs. search needs) (λ c κs. search needs) (λ c. search needs) returns)

@@ -4,44 +4,16 @@ use Rattle.printing.proofs.Laws.{put-two}
 use Rattle.line.proofs.line.put_meter.Statement.{statement}
 use Rattle.line.proofs.line.put_meter.Tie as tie
 
-slice-aggregate-put : tie.Need-slice-aggregate-put
-slice-aggregate-put c = search needs
-
-put-requires : tie.Need-put-requires
-put-requires c κs = search needs
-
-put-number-requires : tie.Need-put-number-requires
-put-number-requires c κs = search needs
-
-slice-aggregate-put-2 : tie.Need-slice-aggregate-put-2
-slice-aggregate-put-2 c = search needs
-
-put-requires-2 : tie.Need-put-requires-2
-put-requires-2 c κs = search needs
-
-put-number-requires-2 : tie.Need-put-number-requires-2
-put-number-requires-2 c κs = search needs
-
-same-length : tie.Need-same-length
-same-length c = search needs
-
 returns : tie.Need-returns
 returns c =
     let p4 = c .before .before .put-number2 .ensures in
     let p3 = c .before .before .before .before .before .before .put2 .ensures in
     let p2 = c .before .before .before .before .before .before .before .before .before .before .before .put-number .ensures in
-    let p1 = c .before .before .before .before .before .before .before .before .before .before .before .before .before .before .before .put .ensures in
+    let p1 = c .before .before .before .before .before .before .before .before .before .before .before .before .before .before .before .put .ensures
+    in
     (put-two p1 (put-two (p2 .0) (put-two p3 (p4 .0))), omega (arith, p1 .next, p2 .1, p3 .next, p4 .1))
 
 pub put-meter-spec : {M : Type 1} → statement M
 put-meter-spec =
-    tie.close
-    (tie.spec
-    slice-aggregate-put
-    put-requires
-    put-number-requires
-    slice-aggregate-put-2
-    put-requires-2
-    put-number-requires-2
-    same-length
-    returns)
+    tie.close (tie.spec (λ c. search needs) (λ c κs. search needs) (λ c κs. search needs) (λ c. search needs)
+    (λ c κs. search needs) (λ c κs. search needs) (λ c. search needs) returns)

@@ -10,50 +10,26 @@ use Rattle.snapshot.specs.Layouts.{snapOf}
 use Rattle.line.proofs.path.put_part.Statement.{statement}
 use Rattle.line.proofs.path.put_part.Tie as tie
 
-slice-aggregate-put : tie.Need-slice-aggregate-put
-slice-aggregate-put c = search needs
-
-put-requires : tie.Need-put-requires
-put-requires c κs = search needs
-
-put-name-requires : tie.Need-put-name-requires
-put-name-requires c κs = search needs
-
-same-length : tie.Need-same-length
-same-length c = search needs
-
 returns : tie.Need-returns
 returns c =
     let s = c .before .before .before .before .before .before .before .before .before .before .before .before .before .args in
     let p = c .before .before .before .before .before .before .put .ensures in
     let q = c .before .before .put-name .ensures in (
-      put-as (ap (λ b. jointIf b ++ writtenOf (snapOf (now (s .words)) (now (s .area)) (s .l)) (s .edition) (s .n .0)) (sym (c .before .before .before .before .before .before .before .before .before .if1 .taken))) (put-two p (q .0)),
+      put-as (ap (λ b. jointIf b ++ writtenOf (snapOf (now (s .words)) (now (s .area)) (s .l)) (s .edition) (s .n .0))
+          (sym (c .before .before .before .before .before .before .before .before .before .if1 .taken))) (put-two p (q .0)),
       omega (arith, p .next, q .1),
     )
-
-put-name-requires-2 : tie.Need-put-name-requires-2
-put-name-requires-2 c κs = search needs
-
-same-length-2 : tie.Need-same-length-2
-same-length-2 c = search needs
 
 returns-2 : tie.Need-returns-2
 returns-2 c =
     let s = c .before .before .before .before .before .before .before .before .args in
     let q = c .before .before .put-name2 .ensures in (
-      put-as (ap (λ b. jointIf b ++ writtenOf (snapOf (now (s .words)) (now (s .area)) (s .l)) (s .edition) (s .n .0)) (sym (c .before .before .before .before .if1 .left))) (q .0),
+      put-as (ap (λ b. jointIf b ++ writtenOf (snapOf (now (s .words)) (now (s .area)) (s .l)) (s .edition) (s .n .0))
+          (sym (c .before .before .before .before .if1 .left))) (q .0),
       omega (arith, q .1),
     )
 
 pub put-part-spec : {M : Type 1} → statement M
 put-part-spec =
-    tie.close
-    (tie.spec
-    slice-aggregate-put
-    put-requires
-    put-name-requires
-    same-length
-    returns
-    put-name-requires-2
-    same-length-2
-    returns-2)
+    tie.close (tie.spec (λ c. search needs) (λ c κs. search needs) (λ c κs. search needs) (λ c. search needs) returns
+    (λ c κs. search needs) (λ c. search needs) returns-2)

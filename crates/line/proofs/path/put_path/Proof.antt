@@ -13,34 +13,32 @@ use Rattle.line.proofs.path.put_path.Tie as tie
 
 abbrev Inv-loop : tie.InvT-loop
 Inv-loop out₀ at words area l edition kind names count leading to₀ i₀ out to i =
-    (i ≤ count) × (length out ≡ length out₀) × Put out₀ to₀ (tailTo (writtenOf (snapOf words area l) edition) leading names i) out to × (to ≤ to₀ + 257 * i)
+    (i ≤ count) × (length out ≡ length out₀) × Put out₀ to₀ (tailTo (writtenOf (snapOf words area l) edition) leading names i) out to
+    × (to ≤ to₀ + 257 * i)
 
 abbrev μ-loop : tie.MeasureT-loop
 μ-loop out₀ at words area l edition kind names count leading to₀ i₀ out to i = count - i
 
-put-prefix-requires : tie.Need-put-prefix-requires Inv-loop μ-loop
-put-prefix-requires c κs = omega arith
-
 loop-holds : tie.Need-loop-holds Inv-loop μ-loop
 loop-holds c = (omega arith, refl, put-as (tail-none _ _ _) (put-none _ _), omega arith)
-
-mul-t23 : tie.Need-mul-t23 Inv-loop μ-loop
-mul-t23 c = omega arith
-
-shared-slice-read-t25 : tie.Need-shared-slice-read-t25 Inv-loop μ-loop
-shared-slice-read-t25 c = omega arith
 
 put-part-requires : tie.Need-put-part-requires Inv-loop μ-loop
 put-part-requires c κs =
     let s = c .before .before .before .before .before .before .before .before .before .before .before .before in
-    let l = c .before .before .before .loop in
-    (s .pre .0 .0, omega (arith, s .pre .0 .1, s .pre .1, l .inv .0, l .inv .1, l .inv .3, c .before .before .loop-test .taken, c .before .before .before .before .before .before .put-prefix .ensures .1, c .before .before .before .before .before .before .put-prefix .kept .0))
-
-add-i : tie.Need-add-i Inv-loop μ-loop
-add-i c = omega arith
-
-loop-less : tie.Need-loop-less Inv-loop μ-loop
-loop-less c = omega arith
+    let l = c .before .before .before .loop in (
+      s .pre .0 .0,
+      omega (
+        arith,
+        s .pre .0 .1,
+        s .pre .1,
+        l .inv .0,
+        l .inv .1,
+        l .inv .3,
+        c .before .before .loop-test .taken,
+        c .before .before .before .before .before .before .put-prefix .ensures .1,
+        c .before .before .before .before .before .before .put-prefix .kept .0,
+      ),
+    )
 
 loop-again : tie.Need-loop-again Inv-loop μ-loop
 loop-again c =
@@ -49,7 +47,8 @@ loop-again c =
     let p = c .before .before .put-part in (
       omega arith,
       p .kept .0 ∙ l .inv .1,
-      put-as (tail-next (writtenOf (snapOf (now (s .words)) (now (s .area)) (s .l)) (s .edition)) _ (now (s .names)) (l .i)) (put-two (l .inv .2) (p .ensures .0)),
+      put-as (tail-next (writtenOf (snapOf (now (s .words)) (now (s .area)) (s .l)) (s .edition)) _ (now (s .names)) (l .i))
+          (put-two (l .inv .2) (p .ensures .0)),
       omega (arith, l .inv .3, p .ensures .1),
     )
 
@@ -61,23 +60,13 @@ returns c =
     let s = c .before .before .before .before .before .before .before .before .before .before in
     let l = c .before .loop in
     let p = c .before .before .before .before .put-prefix .ensures in (
-      put-as (path-done (writtenOf (snapOf (now (s .args .words)) (now (s .args .area)) (s .args .l)) (s .args .edition)) (s .args .kind) (now (s .args .names)) (l .i) (s .args .count) (l .inv .0) (c .loop-test .left) (s .pre .1 .1)) (put-two (p .0) (l .inv .2)),
+      put-as (path-done (writtenOf (snapOf (now (s .args .words)) (now (s .args .area)) (s .args .l)) (s .args .edition))
+          (s .args .kind) (now (s .args .names)) (l .i) (s .args .count) (l .inv .0) (c .loop-test .left) (s .pre .1 .1))
+          (put-two (p .0) (l .inv .2)),
       omega (arith, l .inv .0, l .inv .3, p .1, s .pre .1 .0),
     )
 
 pub put-path-spec : {M : Type 1} → statement M
 put-path-spec =
-    tie.close
-    (tie.spec
-    Inv-loop
-    μ-loop
-    put-prefix-requires
-    loop-holds
-    mul-t23
-    shared-slice-read-t25
-    put-part-requires
-    add-i
-    loop-less
-    loop-again
-    same-length
-    returns)
+    tie.close (tie.spec Inv-loop μ-loop (λ c κs. omega arith) loop-holds (λ c. omega arith) (λ c. omega arith)
+    put-part-requires (λ c. omega arith) (λ c. omega arith) loop-again same-length returns)

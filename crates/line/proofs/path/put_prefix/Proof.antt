@@ -7,44 +7,17 @@ use Rattle.printing.proofs.Laws.{put-as, put-none}
 use Rattle.line.proofs.path.put_prefix.Statement.{statement}
 use Rattle.line.proofs.path.put_prefix.Tie as tie
 
-slice-aggregate-put : tie.Need-slice-aggregate-put
-slice-aggregate-put c = search needs
-
-put-requires : tie.Need-put-requires
-put-requires c κs = search needs
-
-same-length : tie.Need-same-length
-same-length c = search needs
-
 returns : tie.Need-returns
 unfolding joined prefixParts
 returns c =
     let p = c .before .before .put .ensures in
     (put-as (ap (λ k. joined (bytesOf "::") (prefixParts k)) (sym (c .before .before .before .before .before .if1 .taken))) p, omega (arith, p .next))
 
-slice-aggregate-put-2 : tie.Need-slice-aggregate-put-2
-slice-aggregate-put-2 c = search needs
-
-put-requires-2 : tie.Need-put-requires-2
-put-requires-2 c κs = search needs
-
-same-length-2 : tie.Need-same-length-2
-same-length-2 c = search needs
-
 returns-2 : tie.Need-returns-2
 unfolding joined prefixParts
 returns-2 c =
     let p = c .before .before .put2 .ensures in
     (put-as (ap (λ k. joined (bytesOf "::") (prefixParts k)) (sym (c .before .before .before .before .before .if2 .taken))) p, omega (arith, p .next))
-
-slice-aggregate-put-3 : tie.Need-slice-aggregate-put-3
-slice-aggregate-put-3 c = search needs
-
-put-requires-3 : tie.Need-put-requires-3
-put-requires-3 c κs = search needs
-
-same-length-3 : tie.Need-same-length-3
-same-length-3 c = search needs
 
 returns-3 : tie.Need-returns-3
 unfolding joined prefixParts
@@ -59,18 +32,6 @@ returns-4 c =
 
 pub put-prefix-spec : {M : Type 1} → statement M
 put-prefix-spec =
-    tie.close
-    (tie.spec
-    slice-aggregate-put
-    put-requires
-    same-length
-    returns
-    slice-aggregate-put-2
-    put-requires-2
-    same-length-2
-    returns-2
-    slice-aggregate-put-3
-    put-requires-3
-    same-length-3
-    returns-3
-    returns-4)
+    tie.close (tie.spec (λ c. search needs) (λ c κs. search needs) (λ c. search needs) returns (λ c. search needs)
+    (λ c κs. search needs) (λ c. search needs) returns-2 (λ c. search needs) (λ c κs. search needs) (λ c. search needs)
+    returns-3 returns-4)

@@ -9,26 +9,11 @@ use Rattle.line.proofs.text.put_name.Tie as tie
 
 returns : tie.Need-returns
 returns c =
-    let s = c .before .before .before .before .before .before in
-    (put-as (no-name (now (s .args .words)) (now (s .args .area)) (s .args .l) (s .pre .0) (s .args .n .0) (s .args .edition) (c .if1 .taken)) (put-none _ _), omega arith)
-
-name-len-requires : tie.Need-name-len-requires
-name-len-requires c κs = search needs
-
-text-of-requires : tie.Need-text-of-requires
-text-of-requires c κs = search needs
-
-name-head-requires : tie.Need-name-head-requires
-name-head-requires c κs = search needs
-
-is-raw-requires : tie.Need-is-raw-requires
-is-raw-requires c κs = search needs
-
-slice-aggregate-put : tie.Need-slice-aggregate-put
-slice-aggregate-put c = search needs
-
-put-requires : tie.Need-put-requires
-put-requires c κs = search needs
+    let s = c .before .before .before .before .before .before in (
+      put-as (no-name (now (s .args .words)) (now (s .args .area)) (s .args .l) (s .pre .0) (s .args .n .0) (s .args .edition) (c .if1 .taken))
+          (put-none _ _),
+      omega arith,
+    )
 
 put-text-requires : tie.Need-put-text-requires
 put-text-requires c κs =
@@ -37,15 +22,14 @@ put-text-requires c κs =
     let k = i .before .before .before .name-len .ensures in
     let h = i .before .before .before .before .if1 .left in
     let t = i .before .before .text-of .ensures in
-    let w = raw-read (now (s .args .words)) (now (s .args .area)) (s .args .l) (s .pre .0) (s .args .n .0) (s .args .edition) h (i .is-raw .ensures) (i .before .name-head .ensures) in
+    let w = raw-read (now (s .args .words)) (now (s .args .area)) (s .args .l) (s .pre .0) (s .args .n .0) (s .args .edition) h
+    (i .is-raw .ensures) (i .before .name-head .ensures) in
     let p = c .before .before .before .put in
-    let b = raw-few (now (s .args .words)) (now (s .args .area)) (s .args .l) (s .pre .0) (s .args .n .0) (s .args .edition) (sym w ∙ c .before .before .before .before .before .before .if2 .taken) (k .0) in (
+    let b = raw-few (now (s .args .words)) (now (s .args .area)) (s .args .l) (s .pre .0) (s .args .n .0) (s .args .edition)
+    (sym w ∙ c .before .before .before .before .before .before .if2 .taken) (k .0) in (
       omega (arith, b, p .ensures .next, p .kept .0, s .pre .1),
       text-long (now (s .args .words)) (now (s .args .area)) (s .args .l) (s .pre .0) (s .args .n .0) h _ _ t (k .0),
     )
-
-same-length : tie.Need-same-length
-same-length c = search needs
 
 returns-2 : tie.Need-returns-2
 returns-2 c =
@@ -54,12 +38,15 @@ returns-2 c =
     let k = i .before .before .before .name-len .ensures in
     let h = i .before .before .before .before .if1 .left in
     let t = i .before .before .text-of .ensures in
-    let w = raw-read (now (s .args .words)) (now (s .args .area)) (s .args .l) (s .pre .0) (s .args .n .0) (s .args .edition) h (i .is-raw .ensures) (i .before .name-head .ensures) in
+    let w = raw-read (now (s .args .words)) (now (s .args .area)) (s .args .l) (s .pre .0) (s .args .n .0) (s .args .edition) h
+    (i .is-raw .ensures) (i .before .name-head .ensures) in
     let r = sym w ∙ c .before .before .before .before .before .before .before .before .before .if2 .taken in
     let b = raw-few (now (s .args .words)) (now (s .args .area)) (s .args .l) (s .pre .0) (s .args .n .0) (s .args .edition) r (k .0) in
     let p = c .before .before .before .before .before .before .put .ensures in
     let q = c .before .before .put-text .ensures in (
-      put-as (written-raw (now (s .args .words)) (now (s .args .area)) (s .args .l) (s .pre .0) (s .args .n .0) (s .args .edition) r) (put-two p (put-as (name-text (now (s .args .words)) (now (s .args .area)) (s .args .l) (s .pre .0) (s .args .n .0) h _ _ t (k .0)) (q .0))),
+      put-as (written-raw (now (s .args .words)) (now (s .args .area)) (s .args .l) (s .pre .0) (s .args .n .0) (s .args .edition) r)
+          (put-two p (put-as (name-text (now (s .args .words)) (now (s .args .area)) (s .args .l) (s .pre .0) (s .args .n .0) h _ _ t (k .0))
+          (q .0))),
       omega (arith, b, p .next, q .1),
     )
 
@@ -70,11 +57,9 @@ put-text-requires-2 c κs =
     let k = i .before .before .before .name-len .ensures in
     let h = i .before .before .before .before .if1 .left in
     let t = i .before .before .text-of .ensures in
-    let w = raw-read (now (s .args .words)) (now (s .args .area)) (s .args .l) (s .pre .0) (s .args .n .0) (s .args .edition) h (i .is-raw .ensures) (i .before .name-head .ensures) in
+    let w = raw-read (now (s .args .words)) (now (s .args .area)) (s .args .l) (s .pre .0) (s .args .n .0) (s .args .edition) h
+    (i .is-raw .ensures) (i .before .name-head .ensures) in
     (omega (arith, k .1, s .pre .1), text-long (now (s .args .words)) (now (s .args .area)) (s .args .l) (s .pre .0) (s .args .n .0) h _ _ t (k .0))
-
-same-length-2 : tie.Need-same-length-2
-same-length-2 c = search needs
 
 returns-3 : tie.Need-returns-3
 returns-3 c =
@@ -83,26 +68,17 @@ returns-3 c =
     let k = i .before .before .before .name-len .ensures in
     let h = i .before .before .before .before .if1 .left in
     let t = i .before .before .text-of .ensures in
-    let w = raw-read (now (s .args .words)) (now (s .args .area)) (s .args .l) (s .pre .0) (s .args .n .0) (s .args .edition) h (i .is-raw .ensures) (i .before .name-head .ensures) in
+    let w = raw-read (now (s .args .words)) (now (s .args .area)) (s .args .l) (s .pre .0) (s .args .n .0) (s .args .edition) h
+    (i .is-raw .ensures) (i .before .name-head .ensures) in
     let q = c .before .before .put-text2 .ensures in (
-      put-as (name-text (now (s .args .words)) (now (s .args .area)) (s .args .l) (s .pre .0) (s .args .n .0) h _ _ t (k .0) ∙ written-plain (now (s .args .words)) (now (s .args .area)) (s .args .l) (s .pre .0) (s .args .n .0) (s .args .edition) (sym w ∙ c .before .before .before .before .if2 .left)) (q .0),
+      put-as (name-text (now (s .args .words)) (now (s .args .area)) (s .args .l) (s .pre .0) (s .args .n .0) h _ _ t (k .0)
+          ∙ written-plain (now (s .args .words)) (now (s .args .area)) (s .args .l) (s .pre .0) (s .args .n .0) (s .args .edition)
+          (sym w ∙ c .before .before .before .before .if2 .left)) (q .0),
       omega (arith, k .1, q .1),
     )
 
 pub put-name-spec : {M : Type 1} → statement M
 put-name-spec =
-    tie.close
-    (tie.spec
-    returns
-    name-len-requires
-    text-of-requires
-    name-head-requires
-    is-raw-requires
-    slice-aggregate-put
-    put-requires
-    put-text-requires
-    same-length
-    returns-2
-    put-text-requires-2
-    same-length-2
-    returns-3)
+    tie.close (tie.spec returns (λ c κs. search needs) (λ c κs. search needs) (λ c κs. search needs)
+    (λ c κs. search needs) (λ c. search needs) (λ c κs. search needs) put-text-requires (λ c. search needs) returns-2
+    put-text-requires-2 (λ c. search needs) returns-3)

@@ -5,12 +5,6 @@ use Rattle.printing.proofs.Laws.{put-as, length-decimal}
 use Rattle.line.proofs.text.put_number.Statement.{statement}
 use Rattle.line.proofs.text.put_number.Tie as tie
 
-put-digits-requires : tie.Need-put-digits-requires
-put-digits-requires c κs = search needs
-
-same-length : tie.Need-same-length
-same-length c = search needs
-
 returns : tie.Need-returns
 returns c =
     let s = c .before .before .before .before .before in
@@ -19,4 +13,4 @@ returns c =
     (put-as (number-text (s .args .n) (search needs)) p, omega (arith, p .next, h))
 
 pub put-number-spec : {M : Type 1} → statement M
-put-number-spec = tie.close (tie.spec put-digits-requires same-length returns)
+put-number-spec = tie.close (tie.spec (λ c κs. search needs) (λ c. search needs) returns)

@@ -6,9 +6,6 @@ use borrow.Author.Needs.{needs}
 use Rattle.local_levels.proofs.levels.code_of.Statement.{statement}
 use Rattle.local_levels.proofs.levels.code_of.Tie as tie
 
-enum-known-item : tie.Need-enum-known-item
-enum-known-item c = search needs
-
 mul-result : tie.Need-mul-result
 mul-result c =
     let g = c .before .before .item .given in
@@ -20,9 +17,6 @@ add-result c =
     let g = c .before .before .item .given in
     let p : Small (Mod (g .0 .0)) = subst Small (g .1) (c .before .before .before .before .pre) in
     record { fits = omega (arith, p) }
-
-enum-known-item-2 : tie.Need-enum-known-item-2
-enum-known-item-2 c = search needs
 
 mul-result-2 : tie.Need-mul-result-2
 mul-result-2 c =
@@ -52,13 +46,5 @@ returns-2 c =
 
 pub code-of-spec : {M : Type 1} → statement M
 code-of-spec =
-    tie.close
-    (tie.spec
-    enum-known-item
-    mul-result
-    add-result
-    enum-known-item-2
-    mul-result-2
-    add-result-2
-    returns
+    tie.close (tie.spec (λ c. search needs) mul-result add-result (λ c. search needs) mul-result-2 add-result-2 returns
     returns-2)

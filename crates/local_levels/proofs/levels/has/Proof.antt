@@ -24,29 +24,20 @@ loop-holds c =
     let s = c .before in
     (omega arith, has-start (now (s .args .area)) _ _ _)
 
-add-word : tie.Need-add-word Inv-loop μ-loop
-add-word c = search needs
-
-word-requires : tie.Need-word-requires Inv-loop μ-loop
-word-requires c κs = tt
-
 returns : tie.Need-returns Inv-loop μ-loop
 returns c =
     let i = c .before .before .before in
     let s = i .before .before .before in
     has-hit (now (s .args .area)) _ _ _ _ (i .before .loop .inv .1) (i .loop-test .taken) (c .before .before .word .ensures) (c .if1 .taken)
 
-add-i : tie.Need-add-i Inv-loop μ-loop
-add-i c = search needs
-
-loop-less : tie.Need-loop-less Inv-loop μ-loop
-loop-less c = omega arith
-
 loop-again : tie.Need-loop-again Inv-loop μ-loop
 loop-again c =
     let i = c .before .before .before in
-    let s = i .before .before .before in
-    (omega arith, has-miss (now (s .args .area)) _ _ _ _ (i .before .loop .inv .1) (i .loop-test .taken) (c .before .before .word .ensures) (c .if1 .left))
+    let s = i .before .before .before in (
+      omega arith,
+      has-miss (now (s .args .area)) _ _ _ _ (i .before .loop .inv .1) (i .loop-test .taken) (c .before .before .word .ensures)
+          (c .if1 .left),
+    )
 
 returns-2 : tie.Need-returns-2 Inv-loop μ-loop
 returns-2 c =
@@ -55,15 +46,5 @@ returns-2 c =
 
 pub has-spec : {M : Type 1} → statement M
 has-spec =
-    tie.close
-    (tie.spec
-    Inv-loop
-    μ-loop
-    loop-holds
-    add-word
-    word-requires
-    returns
-    add-i
-    loop-less
-    loop-again
-    returns-2)
+    tie.close (tie.spec Inv-loop μ-loop loop-holds (λ c. search needs) (λ c κs. tt) returns (λ c. search needs)
+    (λ c. omega arith) loop-again returns-2)

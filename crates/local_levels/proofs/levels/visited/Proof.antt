@@ -1,4 +1,3 @@
-use Prim.Native.Nat.{_-_}
 use mathlib.Core.Path.{_≡_, refl}
 use mathlib.Core.Logic.{⊎-elim}
 use native.Mathlib.Omega.{arith}
@@ -25,8 +24,10 @@ abbrev μ-loop : tie.MeasureT-loop
 μ-loop area m code p₀ d₀ p d = d
 
 -- the first level, in the loop
-first : (c : lts.In-loop (code-of-reads.Asked, code-of-reads.Learnt, word-reads.Asked, word-reads.Learnt, has-reads.Asked, has-reads.Learnt) reads.Pre reads.Post Inv-loop μ-loop)
-    → First (now (c .before .before .before .before .args .area)) (c .before .loop .p) (c .before .loop .d) (length (now (c .before .before .before .before .args .area)))
+first : (c : lts.In-loop (code-of-reads.Asked, code-of-reads.Learnt, word-reads.Asked, word-reads.Learnt, has-reads.Asked, has-reads.Learnt)
+    reads.Pre reads.Post Inv-loop μ-loop)
+    → First (now (c .before .before .before .before .args .area)) (c .before .loop .p) (c .before .loop .d)
+    (length (now (c .before .before .before .before .args .area)))
 first c = chain-first _ _ _ _ (c .loop-test .taken) (c .before .loop .inv .1)
 
 code-of-requires : tie.Need-code-of-requires Inv-loop μ-loop
@@ -38,14 +39,8 @@ loop-holds c = (λ item s e. refl, c .before .before .pre .0)
 sub-word : tie.Need-sub-word Inv-loop μ-loop
 sub-word c = omega (arith, first c .header)
 
-word-requires : tie.Need-word-requires Inv-loop μ-loop
-word-requires c κs = tt
-
 sub-word-2 : tie.Need-sub-word-2 Inv-loop μ-loop
 sub-word-2 c = omega (arith, first (c .before .before) .header)
-
-word-requires-2 : tie.Need-word-requires-2 Inv-loop μ-loop
-word-requires-2 c κs = tt
 
 add-has : tie.Need-add-has Inv-loop μ-loop
 add-has c = omega (arith, first (c .before .before .before) .within, c .word2 .ensures)
@@ -61,13 +56,12 @@ returns c =
     let l = i .before .loop in
     let o = i .before .before in
     let s = o .before .before in
-    visited-hit (now (s .args .area)) _ _ _ (l .p) (l .d) (l .inv .0 _ (s .pre .1) (o .code-of .ensures .0)) (s .pre .1) (i .loop-test .taken) (b .word .ensures) (o .code-of .ensures .0) (w .before .if1 .taken) (w .word2 .ensures) (c .before .has .ensures) (c .if2 .taken)
+    visited-hit (now (s .args .area)) _ _ _ (l .p) (l .d) (l .inv .0 _ (s .pre .1) (o .code-of .ensures .0)) (s .pre .1)
+    (i .loop-test .taken) (b .word .ensures) (o .code-of .ensures .0) (w .before .if1 .taken) (w .word2 .ensures)
+    (c .before .has .ensures) (c .if2 .taken)
 
 sub-word-3 : tie.Need-sub-word-3 Inv-loop μ-loop
 sub-word-3 c = omega (arith, first (c .before .before) .header)
-
-word-requires-3 : tie.Need-word-requires-3 Inv-loop μ-loop
-word-requires-3 c κs = tt
 
 sub-d : tie.Need-sub-d Inv-loop μ-loop
 sub-d c = omega (arith, c .before .before .before .loop-test .taken)
@@ -84,7 +78,8 @@ loop-again c =
       λ item s e.
           ⊎-elim
           (λ w. visited-miss A item _ _ (l .p) (l .d) (l .inv .0 item s e) s t (w .1 .ensures) (w .2 .ensures) (w .3 .left) (c .word3 .ensures) refl)
-          (λ w. visited-other A item _ _ (l .p) (l .d) (l .inv .0 item s e) s t (c .before .before .word .ensures) e (w .left) (c .word3 .ensures) refl)
+          (λ w. visited-other A item _ _ (l .p) (l .d) (l .inv .0 item s e) s t (c .before .before .word .ensures) e (w .left)
+          (c .word3 .ensures) refl)
           (c .before .if1 .came),
       rw (c .word3 .ensures) (first i .rest),
     )
@@ -98,22 +93,5 @@ returns-2 c =
 
 pub visited-spec : {M : Type 1} → statement M
 visited-spec =
-    tie.close
-    (tie.spec
-    Inv-loop
-    μ-loop
-    code-of-requires
-    loop-holds
-    sub-word
-    word-requires
-    sub-word-2
-    word-requires-2
-    add-has
-    has-requires
-    returns
-    sub-word-3
-    word-requires-3
-    sub-d
-    loop-less
-    loop-again
-    returns-2)
+    tie.close (tie.spec Inv-loop μ-loop code-of-requires loop-holds sub-word (λ c κs. tt) sub-word-2 (λ c κs. tt)
+    add-has has-requires returns sub-word-3 (λ c κs. tt) sub-d loop-less loop-again returns-2)

@@ -27,7 +27,8 @@ child-base-requires c κs =
 loop-holds : tie.Need-loop-holds Inv-loop μ-loop
 loop-holds c =
     let s = c .before .before .before in
-    pushing-skip _ _ _ _ _ (pushing-start (now (s .args .area)) _ _ (s .args .item) _ (s .pre .1)) (children-start (now (s .args .words)) (now (s .args .area)) (s .args .l) (s .args .from .0)) refl refl
+    pushing-skip _ _ _ _ _ (pushing-start (now (s .args .area)) _ _ (s .args .item) _ (s .pre .1))
+    (children-start (now (s .args .words)) (now (s .args .area)) (s .args .l) (s .args .from .0)) refl refl
 
 mul-h : tie.Need-mul-h Inv-loop μ-loop
 mul-h c =
@@ -38,21 +39,27 @@ add-h : tie.Need-add-h Inv-loop μ-loop
 add-h c =
     let b = c .before .before .before in
     let s = b .before .before .before in
-    record { fits = omega (arith, c .if1 .taken, b .child-base .ensures, few-words (now (s .args .words)) (now (s .args .area)) (s .args .l) (s .pre .0)) }
-
-child-owner-requires : tie.Need-child-owner-requires Inv-loop μ-loop
-child-owner-requires c κs = tt
-
-child-child-requires : tie.Need-child-child-requires Inv-loop μ-loop
-child-child-requires c κs = tt
+    record {
+      fits = omega (
+        arith,
+        c .if1 .taken,
+        b .child-base .ensures,
+        few-words (now (s .args .words)) (now (s .args .area))
+            (s .args .l) (s .pre .0),
+      );
+    }
 
 push-module-requires : tie.Need-push-module-requires Inv-loop μ-loop
 push-module-requires c κs =
     let i = c .before .before .before .before .before .before in
     let l = i .before .before .loop in
     let b = i .before .before .before in
-    let s = b .before .before .before in
-    (l .inv .ready, s .pre .2, child-below (now (s .args .words)) (now (s .args .area)) (s .args .l) (s .pre .0) (i .if1 .taken) (b .child-base .ensures) (c .before .child-child .ensures))
+    let s = b .before .before .before in (
+      l .inv .ready,
+      s .pre .2,
+      child-below (now (s .args .words)) (now (s .args .area)) (s .args .l) (s .pre .0) (i .if1 .taken)
+          (b .child-base .ensures) (c .before .child-child .ensures),
+    )
 
 add-k : tie.Need-add-k Inv-loop μ-loop
 add-k c =
@@ -72,8 +79,10 @@ loop-again c =
     let s = b .before .before .before in
     let W = now (s .args .words) in
     ⊎-elim
-    (λ w. pushing-skip _ _ _ _ _ (pushing-next _ _ _ _ _ (l .inv) (child-hit W (s .args .l) (s .args .from .0) (l .k) (i .if1 .taken) (b .child-base .ensures) (o .child-owner .ensures) (w .0 .taken) (w .1 .ensures)) (w .3 .ensures) (w .3 .kept .0)) refl (w .6) (w .7))
-    (λ w. pushing-skip _ _ _ _ _ (l .inv) (child-miss W (s .args .l) (s .args .from .0) (l .k) (i .if1 .taken) (b .child-base .ensures) (o .child-owner .ensures) (w .0 .left)) (w .1) (w .2))
+    (λ w. pushing-skip _ _ _ _ _ (pushing-next _ _ _ _ _ (l .inv) (child-hit W (s .args .l) (s .args .from .0) (l .k) (i .if1 .taken)
+    (b .child-base .ensures) (o .child-owner .ensures) (w .0 .taken) (w .1 .ensures)) (w .3 .ensures) (w .3 .kept .0)) refl (w .6) (w .7))
+    (λ w. pushing-skip _ _ _ _ _ (l .inv) (child-miss W (s .args .l) (s .args .from .0) (l .k) (i .if1 .taken) (b .child-base .ensures)
+    (o .child-owner .ensures) (w .0 .left)) (w .1) (w .2))
     (c .if2 .came)
 
 same-length : tie.Need-same-length Inv-loop μ-loop
@@ -87,19 +96,5 @@ returns c =
 
 pub push-children-spec : {M : Type 1} → statement M
 push-children-spec =
-    tie.close
-    (tie.spec
-    Inv-loop
-    μ-loop
-    child-base-requires
-    loop-holds
-    mul-h
-    add-h
-    child-owner-requires
-    child-child-requires
-    push-module-requires
-    add-k
-    loop-less
-    loop-again
-    same-length
-    returns)
+    tie.close (tie.spec Inv-loop μ-loop child-base-requires loop-holds mul-h add-h (λ c κs. tt) (λ c κs. tt)
+    push-module-requires add-k loop-less loop-again same-length returns)

@@ -42,14 +42,13 @@ modules-from-requires c κs =
     let l = c .before .loop in
     let s = c .before .before .before .before in
     let W = now (s .args .words) in
-    let A = now (s .args .area) in
-    (accepted-sized W A (s .args .l) (s .pre .0), l .inv .1, l .inv .2, chains-at W A (l .area) (s .args .l) (s .args .s .top) (s .pre .0) (s .pre .4) (l .inv .0 .below) (s .pre .5))
-
-enum-known-e : tie.Need-enum-known-e Inv-loop μ-loop
-enum-known-e c = search needs
-
-enum-told : tie.Need-enum-told Inv-loop μ-loop
-enum-told c = search needs
+    let A = now (s .args .area) in (
+      accepted-sized W A (s .args .l) (s .pre .0),
+      l .inv .1,
+      l .inv .2,
+      chains-at W A (l .area) (s .args .l) (s .args .s .top)
+          (s .pre .0) (s .pre .4) (l .inv .0 .below) (s .pre .5),
+    )
 
 same-length : tie.Need-same-length Inv-loop μ-loop
 same-length c = c .before .before .before .before .loop .inv .0 .size
@@ -59,10 +58,8 @@ returns c =
     let n = c .before .before in
     let s = n .before .before .before .before .before in
     let A = now (s .args .area) in
-    pushing-done _ _ _ _ _ (n .before .before .loop .inv .0) (leads-end (now (s .args .words)) A (s .args .l) (s .args .from .0) (s .args .m .0) (next-none (n .modules-from .ensures A) (c .enum-told .given .1)))
-
-scope-definition-requires : tie.Need-scope-definition-requires Inv-loop μ-loop
-scope-definition-requires c κs = tt
+    pushing-done _ _ _ _ _ (n .before .before .loop .inv .0) (leads-end (now (s .args .words)) A (s .args .l) (s .args .from .0)
+    (s .args .m .0) (next-none (n .modules-from .ensures A) (c .enum-told .given .1)))
 
 first-of-requires : tie.Need-first-of-requires Inv-loop μ-loop
 first-of-requires c κs =
@@ -79,8 +76,13 @@ leads-requires c κs =
     let W = now (s .args .words) in
     let A = now (s .args .area) in
     let x = next-record (n .modules-from .ensures A) (e .e .given .1) in
-    let t = f .first-of .ensures A ∙ ap (λ y. definitionOf (snapOf W A (s .args .l)) y .first) (f .before .scope-definition .ensures) in
-    (reads-at W A (l .area) (s .args .l) (s .args .s .top) (s .pre .0) (s .pre .2 .tables) (l .inv .0 .below), s .pre .1, leads-below W A (s .args .l) (s .args .from .0) (s .args .m .0) x (s .pre .0) t, module-meets W A (s .args .l) (s .pre .0) x .inside)
+    let t = f .first-of .ensures A ∙ ap (λ y. definitionOf (snapOf W A (s .args .l)) y .first) (f .before .scope-definition .ensures) in (
+      reads-at W A (l .area) (s .args .l) (s .args .s .top) (s .pre .0) (s .pre .2 .tables) (l .inv .0 .below),
+      s .pre .1,
+      leads-below
+          W A (s .args .l) (s .args .from .0) (s .args .m .0) x (s .pre .0) t,
+      module-meets W A (s .args .l) (s .pre .0) x .inside,
+    )
 
 push-module-requires : tie.Need-push-module-requires Inv-loop μ-loop
 push-module-requires c κs =
@@ -92,8 +94,16 @@ push-module-requires c κs =
     let W = now (s .args .words) in
     let A = now (s .args .area) in
     let x = next-record (n .modules-from .ensures A) (e .e .given .1) in
-    let t = f .first-of .ensures A ∙ ap (λ y. definitionOf (snapOf W A (s .args .l)) y .first) (f .before .scope-definition .ensures) in
-    (l .inv .0 .ready, s .pre .3, omega (arith, s .pre .0 .tables .limited .modules, leads-below W A (s .args .l) (s .args .from .0) (s .args .m .0) x (s .pre .0) t))
+    let t = f .first-of .ensures A ∙ ap (λ y. definitionOf (snapOf W A (s .args .l)) y .first) (f .before .scope-definition .ensures) in (
+      l .inv .0 .ready,
+      s .pre .3,
+      omega (
+        arith,
+        s .pre .0 .tables .limited .modules,
+        leads-below W A (s .args .l) (s .args .from .0)
+            (s .args .m .0) x (s .pre .0) t,
+      ),
+    )
 
 add-k : tie.Need-add-k Inv-loop μ-loop
 add-k c =
@@ -129,10 +139,13 @@ loop-again c =
     let A = now (s .args .area) in
     let x = next-record (n .modules-from .ensures A) (e .e .given .1) in
     let t = f .first-of .ensures A ∙ ap (λ y. definitionOf (snapOf W A (s .args .l)) y .first) (f .before .scope-definition .ensures) in
-    let q = g .leads .ensures ∙ ap (λ y. eqb (crateOf y (f .first-of .result)) (crateOf y (s .args .from .0)) && sees y (s .args .from .0) (scopeAt W (e .e .given .0 .1 .0))) (snap-at W A (l .area) (s .args .l) (s .args .s .top) (s .pre .0) (s .pre .2 .tables) (l .inv .0 .below)) in
+    let q = g .leads .ensures ∙ ap (λ y. eqb (crateOf y (f .first-of .result)) (crateOf y (s .args .from .0)) && sees y
+    (s .args .from .0) (scopeAt W (e .e .given .0 .1 .0))) (snap-at W A (l .area) (s .args .l) (s .args .s .top) (s .pre .0)
+    (s .pre .2 .tables) (l .inv .0 .below)) in
     let k = leads-follow W A (s .args .l) (s .args .from .0) (s .args .m .0) x in (
       ⊎-elim
-          (λ w. pushing-skip _ _ _ _ _ (pushing-next _ _ _ _ _ (l .inv .0) (leads-hit W A (s .args .l) (s .args .from .0) (s .args .m .0) x t q (w .0 .taken)) (w .2 .ensures) (w .2 .kept .0)) refl (w .5) (w .6))
+          (λ w. pushing-skip _ _ _ _ _ (pushing-next _ _ _ _ _ (l .inv .0) (leads-hit W A (s .args .l) (s .args .from .0)
+          (s .args .m .0) x t q (w .0 .taken)) (w .2 .ensures) (w .2 .kept .0)) refl (w .5) (w .6))
           (λ w. pushing-skip _ _ _ _ _ (l .inv .0) (leads-miss W A (s .args .l) (s .args .from .0) (s .args .m .0) x t q (w .0 .left)) (w .1) (w .2))
           (c .if1 .came),
       omega (arith, x .below),
@@ -141,20 +154,5 @@ loop-again c =
 
 pub push-next-spec : {M : Type 1} → statement M
 push-next-spec =
-    tie.close
-    (tie.spec
-    Inv-loop
-    μ-loop
-    loop-holds
-    modules-from-requires
-    enum-known-e
-    enum-told
-    same-length
-    returns
-    scope-definition-requires
-    first-of-requires
-    leads-requires
-    push-module-requires
-    add-k
-    loop-less
-    loop-again)
+    tie.close (tie.spec Inv-loop μ-loop loop-holds modules-from-requires (λ c. search needs) (λ c. search needs)
+    same-length returns (λ c κs. tt) first-of-requires leads-requires push-module-requires add-k loop-less loop-again)

@@ -7,37 +7,29 @@ use Rattle.record_rules.proofs.Laws.{or-yes, or-no}
 use Rattle.module_records.proofs.maps.placed.Statement.{statement}
 use Rattle.module_records.proofs.maps.placed.Tie as tie
 
-map-block-requires : tie.Need-map-block-requires
-map-block-requires c κs = search needs
-
 returns : tie.Need-returns
 returns c = or-yes _ (eq-eqb _ _ (sym (c .before .map-block .ensures) ∙ c .if1 .taken))
 
-sub-t9 : tie.Need-sub-t9
-sub-t9 c = search needs
-
 module-head-requires : tie.Need-module-head-requires
-module-head-requires c κs = omega (arith, c .before .map-block .ensures, c .before .before .before .shared-slice-known .given (c .before .before .before .before .args .at + 1))
-
-map-crate-requires : tie.Need-map-crate-requires
-map-crate-requires c κs = search needs
-
-map-crate-requires-2 : tie.Need-map-crate-requires-2
-map-crate-requires-2 c κs = search needs
+module-head-requires c κs = omega (
+  arith,
+  c .before .map-block .ensures,
+  c .before .before .before .shared-slice-known .given
+      (c .before .before .before .before .args .at + 1),
+)
 
 returns-2 : tie.Need-returns-2
 returns-2 c =
     let d = c .before .before in
-    or-no (ne-eqb _ _ (λ e. d .before .before .before .if1 .left (d .before .before .before .before .map-block .ensures ∙ e))) (rw (d .map-crate2 .ensures, d .before .map-crate .ensures, d .before .before .module-head .ensures, d .before .before .before .before .map-block .ensures))
+    or-no (ne-eqb _ _ (λ e. d .before .before .before .if1 .left (d .before .before .before .before .map-block .ensures ∙ e)))
+    (rw (
+      d .map-crate2 .ensures,
+      d .before .map-crate .ensures,
+      d .before .before .module-head .ensures,
+      d .before .before .before .before .map-block .ensures,
+    ))
 
 pub placed-spec : {M : Type 1} → statement M
 placed-spec =
-    tie.close
-    (tie.spec
-    map-block-requires
-    returns
-    sub-t9
-    module-head-requires
-    map-crate-requires
-    map-crate-requires-2
-    returns-2)
+    tie.close (tie.spec (λ c κs. search needs) returns (λ c. search needs) module-head-requires (λ c κs. search needs)
+    (λ c κs. search needs) returns-2)

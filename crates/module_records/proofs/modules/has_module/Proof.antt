@@ -19,19 +19,10 @@ abbrev μ-loop : tie.MeasureT-loop
 loop-holds : tie.Need-loop-holds Inv-loop μ-loop
 loop-holds c = (omega arith, rows-whole (any _) _ _)
 
-module-map-requires : tie.Need-module-map-requires Inv-loop μ-loop
-module-map-requires c κs = search needs
-
 returns : tie.Need-returns Inv-loop μ-loop
 returns c =
     let l = c .before .before .before .loop in
     any-hit _ _ _ _ _ (l .inv .1) (omega arith) (eq-eqb _ _ (sym (c .before .module-map .ensures) ∙ c .if1 .taken))
-
-add-m : tie.Need-add-m Inv-loop μ-loop
-add-m c = search needs
-
-loop-less : tie.Need-loop-less Inv-loop μ-loop
-loop-less c = search needs
 
 loop-again : tie.Need-loop-again Inv-loop μ-loop
 loop-again c =
@@ -43,14 +34,5 @@ returns-2 c = any-none _ _ _ _ _ (c .before .loop .inv .1) (omega arith)
 
 pub has-module-spec : {M : Type 1} → statement M
 has-module-spec =
-    tie.close
-    (tie.spec
-    Inv-loop
-    μ-loop
-    loop-holds
-    module-map-requires
-    returns
-    add-m
-    loop-less
-    loop-again
-    returns-2)
+    tie.close (tie.spec Inv-loop μ-loop loop-holds (λ c κs. search needs) returns (λ c. search needs)
+    (λ c. search needs) loop-again returns-2)

@@ -14,16 +14,12 @@ module-head-requires c κs =
     let g = s .pre .1 in
     omega arith
 
-map-block-requires : tie.Need-map-block-requires
-map-block-requires c κs = search needs
-
-opt-module-requires : tie.Need-opt-module-requires
-opt-module-requires c κs = tt
-
 returns : tie.Need-returns
 returns c =
     let s = c .before .before .before .before .before in
-    c .opt-module .ensures ∙ c .before .map-block .ensures ∙ ap (λ h. mapAt (now (s .args .words)) h .block) (c .before .before .module-head .ensures) ∙ block-read (now (s .args .words)) (now (s .args .area)) (s .args .l) (s .pre .0 .tables) (s .args .m .0) (s .pre .1)
+    c .opt-module .ensures ∙ c .before .map-block .ensures ∙ ap (λ h. mapAt (now (s .args .words)) h .block)
+    (c .before .before .module-head .ensures) ∙ block-read (now (s .args .words)) (now (s .args .area)) (s .args .l)
+    (s .pre .0 .tables) (s .args .m .0) (s .pre .1)
 
 pub block-spec : {M : Type 1} → statement M
-block-spec = tie.close (tie.spec module-head-requires map-block-requires opt-module-requires returns)
+block-spec = tie.close (tie.spec module-head-requires (λ c κs. search needs) (λ c κs. tt) returns)

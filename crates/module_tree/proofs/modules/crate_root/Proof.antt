@@ -7,13 +7,13 @@ use Rattle.module_tree.proofs.Reading.{crate-there}
 use Rattle.module_tree.proofs.modules.crate_root.Statement.{statement}
 use Rattle.module_tree.proofs.modules.crate_root.Tie as tie
 
-krate-requires : tie.Need-krate-requires
-krate-requires c κs = search needs
-
 own-requires : tie.Need-own-requires
 own-requires c κs =
-    let s = c .before .before .before in
-    (s .pre .0, rw (c .krate .ensures) (crate-there (now (s .args .words)) (now (s .args .area)) (s .args .l) (s .pre .0) (s .args .m .0) (s .pre .1)))
+    let s = c .before .before .before in (
+      s .pre .0,
+      rw (c .krate .ensures) (crate-there (now (s .args .words)) (now (s .args .area)) (s .args .l) (s .pre .0)
+          (s .args .m .0) (s .pre .1)),
+    )
 
 root-requires : tie.Need-root-requires
 root-requires c κs = (c .before .before .before .before .pre .0, c .own .ensures .1)
@@ -26,4 +26,4 @@ returns c =
     c .root .ensures ∙ ap (rootOf n) (c .before .own .ensures .0 ∙ ap (ownMap n) (c .before .before .krate .ensures))
 
 pub crate-root-spec : {M : Type 1} → statement M
-crate-root-spec = tie.close (tie.spec krate-requires own-requires root-requires returns)
+crate-root-spec = tie.close (tie.spec (λ c κs. search needs) own-requires root-requires returns)

@@ -6,15 +6,6 @@ use Rattle.module_tree.proofs.Climbs.{is-some, is-none, some-not}
 use Rattle.module_tree.proofs.modules.in_block.Statement.{statement}
 use Rattle.module_tree.proofs.modules.in_block.Tie as tie
 
-block-requires : tie.Need-block-requires
-block-requires c κs = search needs
-
-enum-told : tie.Need-enum-told
-enum-told c = search needs
-
-enum-told-2 : tie.Need-enum-told-2
-enum-told-2 c = search needs
-
 returns : tie.Need-returns
 returns c = some-not (is-some _ (c .before .before .block .ensures) (c .enum-told .given .1))
 
@@ -22,4 +13,4 @@ returns-2 : tie.Need-returns-2
 returns-2 c = sym (ap (λ b. not (eqb b 0)) (is-none _ (c .before .before .block .ensures) (c .enum-told2 .given .1)))
 
 pub in-block-spec : {M : Type 1} → statement M
-in-block-spec = tie.close (tie.spec block-requires enum-told enum-told-2 returns returns-2)
+in-block-spec = tie.close (tie.spec (λ c κs. search needs) (λ c. search needs) (λ c. search needs) returns returns-2)

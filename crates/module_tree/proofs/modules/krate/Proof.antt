@@ -14,13 +14,11 @@ module-head-requires c κs =
     let g = s .pre .1 in
     omega arith
 
-map-crate-requires : tie.Need-map-crate-requires
-map-crate-requires c κs = search needs
-
 returns : tie.Need-returns
 returns c =
     let s = c .before .before .before .before in
-    c .map-crate .ensures ∙ ap (λ h. mapAt (now (s .args .words)) h .crate) (c .before .module-head .ensures) ∙ crate-read (now (s .args .words)) (now (s .args .area)) (s .args .l) (s .pre .0 .tables) (s .args .m .0) (s .pre .1)
+    c .map-crate .ensures ∙ ap (λ h. mapAt (now (s .args .words)) h .crate) (c .before .module-head .ensures)
+    ∙ crate-read (now (s .args .words)) (now (s .args .area)) (s .args .l) (s .pre .0 .tables) (s .args .m .0) (s .pre .1)
 
 pub krate-spec : {M : Type 1} → statement M
-krate-spec = tie.close (tie.spec module-head-requires map-crate-requires returns)
+krate-spec = tie.close (tie.spec module-head-requires (λ c κs. search needs) returns)

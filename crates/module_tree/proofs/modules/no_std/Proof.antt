@@ -15,9 +15,6 @@ module-head-requires c κs =
     let g = s .pre .1 in
     omega arith
 
-map-no-std-requires : tie.Need-map-no-std-requires
-map-no-std-requires c κs = search needs
-
 returns : tie.Need-returns
 returns c =
     let s = c .before .before .before .before in
@@ -26,4 +23,4 @@ returns c =
     ∙ no-std-read (now (s .args .words)) (now (s .args .area)) (s .args .l) (s .pre .0 .tables) (s .args .m .0) (s .pre .1))
 
 pub no-std-spec : {M : Type 1} → statement M
-no-std-spec = tie.close (tie.spec module-head-requires map-no-std-requires returns)
+no-std-spec = tie.close (tie.spec module-head-requires (λ c κs. search needs) returns)

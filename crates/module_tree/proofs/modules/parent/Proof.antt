@@ -12,13 +12,11 @@ module-parent-requires c κs =
     let g = s .pre .1 in
     omega arith
 
-opt-module-requires : tie.Need-opt-module-requires
-opt-module-requires c κs = tt
-
 returns : tie.Need-returns
 returns c =
     let s = c .before .before .before .before in
-    c .opt-module .ensures ∙ c .before .module-parent .ensures ∙ parent-read (now (s .args .words)) (now (s .args .area)) (s .args .l) (s .pre .0 .tables) (s .args .m .0) (s .pre .1)
+    c .opt-module .ensures ∙ c .before .module-parent .ensures ∙ parent-read (now (s .args .words)) (now (s .args .area)) (s .args .l)
+    (s .pre .0 .tables) (s .args .m .0) (s .pre .1)
 
 pub parent-spec : {M : Type 1} → statement M
-parent-spec = tie.close (tie.spec module-parent-requires opt-module-requires returns)
+parent-spec = tie.close (tie.spec module-parent-requires (λ c κs. tt) returns)

@@ -27,55 +27,59 @@ map-requires c κs = (c .before .before .before .pre .0, c .loop .inv .1)
 block-requires : tie.Need-block-requires Inv-loop μ-loop
 block-requires c κs = (c .before .before .before .before .before .pre .0, c .before .before .loop .inv .1)
 
-enum-known-b : tie.Need-enum-known-b Inv-loop μ-loop
-enum-known-b c = search needs
-
-enum-told : tie.Need-enum-told Inv-loop μ-loop
-enum-told c = search needs
-
 returns : tie.Need-returns Inv-loop μ-loop
 returns c =
     let s = c .before .before .before .before .before .before .before .before in
     let g = c .before .before .before .before .before .loop in
-    let n = (snapOf (now (s .args .words)) (now (s .args .area)) (s .args .l)) in
-    (climb-top n (s .args .viewer) (climb-falls n (accepted-tree (now (s .args .words)) (snapOf (now (s .args .words)) (now (s .args .area)) (s .args .l)) (s .pre .0 .same)) (s .args .viewer)) (g .t .0) (rw (length-modules (now (s .args .words)) (now (s .args .area)) (s .args .l)) (g .inv .1)) (λ e. c .before .before .before .if1 .taken (c .before .before .before .before .map .ensures ∙ e)) (is-none _ (c .before .before .block .ensures) (c .enum-told .given .1)) ∙ sym (g .inv .0), g .inv .1)
+    let n = (snapOf (now (s .args .words)) (now (s .args .area)) (s .args .l)) in (
+      climb-top n (s .args .viewer)
+          (climb-falls n (accepted-tree (now (s .args .words)) (snapOf (now (s .args .words)) (now (s .args .area)) (s .args .l)) (s .pre .0 .same))
+          (s .args .viewer)) (g .t .0) (rw (length-modules (now (s .args .words)) (now (s .args .area)) (s .args .l)) (g .inv .1))
+          (λ e. c .before .before .before .if1 .taken (c .before .before .before .before .map .ensures ∙ e))
+          (is-none _ (c .before .before .block .ensures) (c .enum-told .given .1)) ∙ sym (g .inv .0),
+      g .inv .1,
+    )
 
 loop-less : tie.Need-loop-less Inv-loop μ-loop
 loop-less c =
     let s = c .before .before .before .before .before .before .before .before .before in
     let g = c .before .before .before .before .before .before .loop in
     let n = (snapOf (now (s .args .words)) (now (s .args .area)) (s .args .l)) in
-    climb-less n (s .args .viewer) (climb-falls n (accepted-tree (now (s .args .words)) (snapOf (now (s .args .words)) (now (s .args .area)) (s .args .l)) (s .pre .0 .same)) (s .args .viewer)) (g .t .0) (rw (length-modules (now (s .args .words)) (now (s .args .area)) (s .args .l)) (g .inv .1)) (λ e. c .before .before .before .before .if1 .taken (c .before .before .before .before .before .map .ensures ∙ e)) _ (is-some _ (c .before .before .before .block .ensures) (c .before .b .given .1))
+    climb-less n (s .args .viewer)
+    (climb-falls n (accepted-tree (now (s .args .words)) (snapOf (now (s .args .words)) (now (s .args .area)) (s .args .l)) (s .pre .0 .same))
+    (s .args .viewer)) (g .t .0) (rw (length-modules (now (s .args .words)) (now (s .args .area)) (s .args .l)) (g .inv .1))
+    (λ e. c .before .before .before .before .if1 .taken (c .before .before .before .before .before .map .ensures ∙ e)) _
+    (is-some _ (c .before .before .before .block .ensures) (c .before .b .given .1))
 
 loop-again : tie.Need-loop-again Inv-loop μ-loop
 loop-again c =
     let s = c .before .before .before .before .before .before .before .before .before in
     let g = c .before .before .before .before .before .before .loop in
     let n = (snapOf (now (s .args .words)) (now (s .args .area)) (s .args .l)) in
-    let f = climb-falls n (accepted-tree (now (s .args .words)) (snapOf (now (s .args .words)) (now (s .args .area)) (s .args .l)) (s .pre .0 .same)) (s .args .viewer) in
+    let f = climb-falls n (accepted-tree (now (s .args .words)) (snapOf (now (s .args .words)) (now (s .args .area)) (s .args .l))
+    (s .pre .0 .same)) (s .args .viewer) in
     let e = is-some _ (c .before .before .before .block .ensures) (c .before .b .given .1) in
-    let d = climb-less n (s .args .viewer) f (g .t .0) (rw (length-modules (now (s .args .words)) (now (s .args .area)) (s .args .l)) (g .inv .1)) (λ e. c .before .before .before .before .if1 .taken (c .before .before .before .before .before .map .ensures ∙ e)) _ e in
-    (g .inv .0 ∙ climb-on n (s .args .viewer) f (g .t .0) (rw (length-modules (now (s .args .words)) (now (s .args .area)) (s .args .l)) (g .inv .1)) (λ e. c .before .before .before .before .if1 .taken (c .before .before .before .before .before .map .ensures ∙ e)) _ e, omega (arith, d, g .inv .1))
+    let d = climb-less n (s .args .viewer) f (g .t .0) (rw (length-modules (now (s .args .words)) (now (s .args .area)) (s .args .l)) (g .inv .1))
+    (λ e. c .before .before .before .before .if1 .taken (c .before .before .before .before .before .map .ensures ∙ e)) _ e in (
+      g .inv .0 ∙ climb-on n (s .args .viewer) f (g .t .0) (rw (length-modules (now (s .args .words)) (now (s .args .area)) (s .args .l))
+          (g .inv .1)) (λ e. c .before .before .before .before .if1 .taken (c .before .before .before .before .before .map .ensures ∙ e))
+          _ e,
+      omega (arith, d, g .inv .1),
+    )
 
 returns-2 : tie.Need-returns-2 Inv-loop μ-loop
 returns-2 c =
     let s = c .before .before .before .before .before in
     let g = c .before .before .loop in
-    let n = (snapOf (now (s .args .words)) (now (s .args .area)) (s .args .l)) in
-    (climb-here n (s .args .viewer) (climb-falls n (accepted-tree (now (s .args .words)) (snapOf (now (s .args .words)) (now (s .args .area)) (s .args .l)) (s .pre .0 .same)) (s .args .viewer)) (g .t .0) (rw (length-modules (now (s .args .words)) (now (s .args .area)) (s .args .l)) (g .inv .1)) (sym (c .before .map .ensures) ∙ c .if1 .left) ∙ sym (g .inv .0), g .inv .1)
+    let n = (snapOf (now (s .args .words)) (now (s .args .area)) (s .args .l)) in (
+      climb-here n (s .args .viewer)
+          (climb-falls n (accepted-tree (now (s .args .words)) (snapOf (now (s .args .words)) (now (s .args .area)) (s .args .l)) (s .pre .0 .same))
+          (s .args .viewer)) (g .t .0) (rw (length-modules (now (s .args .words)) (now (s .args .area)) (s .args .l)) (g .inv .1))
+          (sym (c .before .map .ensures) ∙ c .if1 .left) ∙ sym (g .inv .0),
+      g .inv .1,
+    )
 
 pub climb-spec : {M : Type 1} → statement M
 climb-spec =
-    tie.close
-    (tie.spec
-    Inv-loop
-    μ-loop
-    loop-holds
-    map-requires
-    block-requires
-    enum-known-b
-    enum-told
-    returns
-    loop-less
-    loop-again
-    returns-2)
+    tie.close (tie.spec Inv-loop μ-loop loop-holds map-requires block-requires (λ c. search needs) (λ c. search needs)
+    returns loop-less loop-again returns-2)

@@ -11,15 +11,15 @@ use Rattle.module_tree.proofs.visibility.is_visible_from.Tie as tie
 returns : tie.Need-returns
 returns c =
     let s = c .before .before .before in
-    visible-public (snapOf (now (s .args .words)) (now (s .args .area)) (s .args .l)) (s .args .kind) (s .args .number) (s .args .viewer .0) (c .if1 .taken)
-
-krate-requires : tie.Need-krate-requires
-krate-requires c κs = search needs
+    visible-public (snapOf (now (s .args .words)) (now (s .args .area)) (s .args .l)) (s .args .kind) (s .args .number)
+    (s .args .viewer .0) (c .if1 .taken)
 
 returns-2 : tie.Need-returns-2
 returns-2 c =
     let s = c .before .before .before .before .before .before in
-    ap (λ x. eqb x (s .args .number)) (c .before .krate .ensures) ∙ visible-crate (snapOf (now (s .args .words)) (now (s .args .area)) (s .args .l)) (s .args .kind) (s .args .number) (s .args .viewer .0) (c .before .before .if2 .taken)
+    ap (λ x. eqb x (s .args .number)) (c .before .krate .ensures)
+    ∙ visible-crate (snapOf (now (s .args .words)) (now (s .args .area)) (s .args .l)) (s .args .kind) (s .args .number)
+    (s .args .viewer .0) (c .before .before .if2 .taken)
 
 in-module-requires : tie.Need-in-module-requires
 in-module-requires c κs =
@@ -31,8 +31,9 @@ in-module-requires c κs =
 returns-3 : tie.Need-returns-3
 returns-3 c =
     let s = c .before .before .before .before .before in
-    c .in-module .ensures ∙ visible-module (snapOf (now (s .args .words)) (now (s .args .area)) (s .args .l)) (s .args .kind) (s .args .number) (s .args .viewer .0) (c .before .before .if1 .left) (c .before .if2 .left)
+    c .in-module .ensures ∙ visible-module (snapOf (now (s .args .words)) (now (s .args .area)) (s .args .l)) (s .args .kind)
+    (s .args .number) (s .args .viewer .0) (c .before .before .if1 .left) (c .before .if2 .left)
 
 pub is-visible-from-spec : {M : Type 1} → statement M
 is-visible-from-spec =
-    tie.close (tie.spec returns krate-requires returns-2 in-module-requires returns-3)
+    tie.close (tie.spec returns (λ c κs. search needs) returns-2 in-module-requires returns-3)

@@ -12,17 +12,11 @@ returns c =
     let s = c .before .before .before .before .args in
     numbers-small (now (s .first)) (now (s .second)) (now (s .area)) (c .if1 .taken)
 
-slice-relend-prefix-number-checked : tie.Need-slice-relend-prefix-number-checked
-slice-relend-prefix-number-checked c = search needs
-
 slice-aggregate-number-checked : tie.Need-slice-aggregate-number-checked
 slice-aggregate-number-checked c = sym (length-take-le areaLimit (now (c .before .before .before .before .before .args .area)) (c .before .if1 .left))
 
 number-checked-requires : tie.Need-number-checked-requires
 number-checked-requires c κs = length-take-le areaLimit (now (c .before .before .before .before .before .args .area)) (c .before .if1 .left)
-
-same-length : tie.Need-same-length
-same-length c = search needs
 
 returns-2 : tie.Need-returns-2
 returns-2 c =
@@ -34,11 +28,5 @@ returns-2 c =
 
 pub new-numbers-spec : {M : Type 1} → statement M
 new-numbers-spec =
-    tie.close
-    (tie.spec
-    returns
-    slice-relend-prefix-number-checked
-    slice-aggregate-number-checked
-    number-checked-requires
-    same-length
-    returns-2)
+    tie.close (tie.spec returns (λ c. search needs) slice-aggregate-number-checked number-checked-requires
+    (λ c. search needs) returns-2)

@@ -8,30 +8,12 @@ use Rattle.new_numbers.proofs.Laws.{first-refused, by-first}
 use Rattle.new_numbers.proofs.numbers.number_checked.Statement.{statement}
 use Rattle.new_numbers.proofs.numbers.number_checked.Tie as tie
 
-check-requires : tie.Need-check-requires
-check-requires c κs = search needs
-
-enum-known-k : tie.Need-enum-known-k
-enum-known-k c = search needs
-
-clear-requires : tie.Need-clear-requires
-clear-requires c κs = search needs
-
-cast-result : tie.Need-cast-result
-cast-result c = search needs
-
-enum-known-k-2 : tie.Need-enum-known-k-2
-enum-known-k-2 c = search needs
-
 number-second-requires : tie.Need-number-second-requires
 number-second-requires c κs =
     let k = c .before .before .before .before .before .before in
     let s = k .before .before .before .before .before in
     let r = accepted-reads (now (s .args .first)) (now (s .args .area)) _ _ (s .pre) (k .check .ensures) _ (c .before .before .k2 .given .1) in
     (k .check .kept .1 .0 ∙ s .pre, part-of (now (s .args .first)) _ _ r)
-
-same-length : tie.Need-same-length
-same-length c = search needs
 
 returns : tie.Need-returns
 returns c =
@@ -42,9 +24,6 @@ returns c =
     first-refused _ _ _ _ (z .clear .ensures ∙ ap zeros (k .check .kept .1 .0 ∙ s .pre))
     (refused-verdict (now (s .args .first)) (now (s .args .area)) _ _ (s .pre) (k .check .ensures) _ _ (e .k .given .1))
 
-same-length-2 : tie.Need-same-length-2
-same-length-2 c = search needs
-
 returns-2 : tie.Need-returns-2
 returns-2 c =
     let n = c .before .before in
@@ -52,19 +31,10 @@ returns-2 c =
     let k = m .before .before .before .before in
     let s = k .before .before .before .before .before in
     let r = accepted-reads (now (s .args .first)) (now (s .args .area)) _ _ (s .pre) (k .check .ensures) _ (m .k2 .given .1) in
-    by-first (now (s .args .first)) (now (s .args .second)) (now (s .args .area)) (part-of (now (s .args .first)) _ _ r .same) _ _ (n .number-second .ensures)
+    by-first (now (s .args .first)) (now (s .args .second)) (now (s .args .area)) (part-of (now (s .args .first)) _ _ r .same) _ _
+    (n .number-second .ensures)
 
 pub number-checked-spec : {M : Type 1} → statement M
 number-checked-spec =
-    tie.close
-    (tie.spec
-    check-requires
-    enum-known-k
-    clear-requires
-    cast-result
-    enum-known-k-2
-    number-second-requires
-    same-length
-    returns
-    same-length-2
-    returns-2)
+    tie.close (tie.spec (λ c κs. search needs) (λ c. search needs) (λ c κs. search needs) (λ c. search needs)
+    (λ c. search needs) number-second-requires (λ c. search needs) returns (λ c. search needs) returns-2)

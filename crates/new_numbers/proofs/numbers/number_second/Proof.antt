@@ -9,21 +9,6 @@ use Rattle.new_numbers.proofs.Laws.{second-refused, both-numbered}
 use Rattle.new_numbers.proofs.numbers.number_second.Statement.{statement}
 use Rattle.new_numbers.proofs.numbers.number_second.Tie as tie
 
-check-requires : tie.Need-check-requires
-check-requires c κs = search needs
-
-enum-known-k : tie.Need-enum-known-k
-enum-known-k c = search needs
-
-clear-requires : tie.Need-clear-requires
-clear-requires c κs = search needs
-
-cast-result : tie.Need-cast-result
-cast-result c = search needs
-
-enum-known-k-2 : tie.Need-enum-known-k-2
-enum-known-k-2 c = search needs
-
 number-requires : tie.Need-number-requires
 number-requires c κs =
     let k = c .before .before .before .before .before .before in
@@ -35,9 +20,6 @@ number-requires c κs =
       room = omega (arith, z);
     }
 
-same-length : tie.Need-same-length
-same-length c = search needs
-
 returns : tie.Need-returns
 returns c =
     let z = c .before .before in
@@ -47,9 +29,6 @@ returns c =
     second-refused _ _ _ _ (z .clear .ensures ∙ ap zeros (k .check .kept .1 .0 ∙ s .pre .0))
     (refused-verdict (now (s .args .second)) (now (s .args .area)) _ _ (s .pre .0) (k .check .ensures) _ _ (e .k .given .1))
 
-same-length-2 : tie.Need-same-length-2
-same-length-2 c = search needs
-
 returns-2 : tie.Need-returns-2
 returns-2 c =
     let n = c .before .before in
@@ -57,19 +36,10 @@ returns-2 c =
     let k = m .before .before .before .before in
     let s = k .before .before .before .before .before in
     let r = accepted-reads (now (s .args .second)) (now (s .args .area)) _ _ (s .pre .0) (k .check .ensures) _ (m .k2 .given .1) in
-    both-numbered (now (s .args .first)) (now (s .args .second)) _ (s .pre .1 .same) (part-of (now (s .args .second)) _ _ r .same) _ _ (n .number .ensures)
+    both-numbered (now (s .args .first)) (now (s .args .second)) _ (s .pre .1 .same) (part-of (now (s .args .second)) _ _ r .same)
+    _ _ (n .number .ensures)
 
 pub number-second-spec : {M : Type 1} → statement M
 number-second-spec =
-    tie.close
-    (tie.spec
-    check-requires
-    enum-known-k
-    clear-requires
-    cast-result
-    enum-known-k-2
-    number-requires
-    same-length
-    returns
-    same-length-2
-    returns-2)
+    tie.close (tie.spec (λ c κs. search needs) (λ c. search needs) (λ c κs. search needs) (λ c. search needs)
+    (λ c. search needs) number-requires (λ c. search needs) returns (λ c. search needs) returns-2)

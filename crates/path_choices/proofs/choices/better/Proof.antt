@@ -5,27 +5,15 @@ use Rattle.path_choices.proofs.ChoiceLaws.{better-same}
 use Rattle.path_choices.proofs.choices.better.Statement.{statement}
 use Rattle.path_choices.proofs.choices.better.Tie as tie
 
-path-len-requires : tie.Need-path-len-requires
-path-len-requires c κs = search needs
-
-path-len-requires-2 : tie.Need-path-len-requires-2
-path-len-requires-2 c κs = search needs
-
-add-b : tie.Need-add-b
-add-b c = search needs
-
-name-len-requires : tie.Need-name-len-requires
-name-len-requires c κs = search needs
-
-add-shorter : tie.Need-add-shorter
-add-shorter c = search needs
-
 returns : tie.Need-returns
 returns c =
     let s = c .before .before .before .before .before .before .before .before .before .before .before in
-    better-same (snapOf (now (s .args .words)) (now (s .args .area)) (s .args .l)) (s .args .prefer) (s .args .current) (s .args .other) (s .args .n .0) (c .before .before .before .before .before .before .before .before .path-len .ensures .0) (c .before .before .before .before .before .before .before .path-len2 .ensures .0) (c .before .before .before .before .before .before .name-len .ensures .0)
+    better-same (snapOf (now (s .args .words)) (now (s .args .area)) (s .args .l)) (s .args .prefer) (s .args .current)
+    (s .args .other) (s .args .n .0) (c .before .before .before .before .before .before .before .before .path-len .ensures .0)
+    (c .before .before .before .before .before .before .before .path-len2 .ensures .0)
+    (c .before .before .before .before .before .before .name-len .ensures .0)
 
 pub better-spec : {M : Type 1} → statement M
 better-spec =
     tie.close
-    (tie.spec path-len-requires path-len-requires-2 add-b name-len-requires add-shorter returns)
+    (tie.spec (λ c κs. search needs) (λ c κs. search needs) (λ c. search needs) (λ c κs. search needs) (λ c. search needs) returns)

@@ -3,14 +3,8 @@ use Rattle.path_choices.proofs.ChoiceLaws.{keyword-same}
 use Rattle.path_choices.proofs.choices.keyword.Statement.{statement}
 use Rattle.path_choices.proofs.choices.keyword.Tie as tie
 
-array-write-route : tie.Need-array-write-route
-array-write-route c = search needs
-
-path-kind-len-requires : tie.Need-path-kind-len-requires
-path-kind-len-requires c κs = search needs
-
 returns : tie.Need-returns
 returns c = keyword-same (c .before .args .kind) (c .path-kind-len .ensures .0)
 
 pub keyword-spec : {M : Type 1} → statement M
-keyword-spec = tie.close (tie.spec array-write-route path-kind-len-requires returns)
+keyword-spec = tie.close (tie.spec (λ c. search needs) (λ c κs. search needs) returns)

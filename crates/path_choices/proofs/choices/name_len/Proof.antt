@@ -8,12 +8,6 @@ use Rattle.path_choices.proofs.Names.{name-bytes, name-short}
 use Rattle.path_choices.proofs.choices.name_len.Statement.{statement}
 use Rattle.path_choices.proofs.choices.name_len.Tie as tie
 
-name-head-requires : tie.Need-name-head-requires
-name-head-requires c κs = search needs
-
-payload-requires : tie.Need-payload-requires
-payload-requires c κs = search needs
-
 returns : tie.Need-returns
 returns c =
     let s = c .before .before .before .before in
@@ -22,4 +16,4 @@ returns c =
     (e ∙ name-bytes (now (s .args .words)) (now (s .args .area)) (s .args .l) (s .pre .0) (s .args .n .0) (s .pre .1), omega arith)
 
 pub name-len-spec : {M : Type 1} → statement M
-name-len-spec = tie.close (tie.spec name-head-requires payload-requires returns)
+name-len-spec = tie.close (tie.spec (λ c κs. search needs) (λ c κs. search needs) returns)

@@ -9,15 +9,9 @@ use Rattle.path_choices.proofs.choices.path_kind_len.Tie as tie
 returns : tie.Need-returns
 returns c = (kind-past _ (c .if1 .taken), omega arith)
 
-mul-result : tie.Need-mul-result
-mul-result c = search needs
-
-array-read-result : tie.Need-array-read-result
-array-read-result c = search needs
-
 returns-2 : tie.Need-returns-2
 unfolding pathKindLen
 returns-2 c = (refl, kind-text (c .before .args .kind))
 
 pub path-kind-len-spec : {M : Type 1} → statement M
-path-kind-len-spec = tie.close (tie.spec returns mul-result array-read-result returns-2)
+path-kind-len-spec = tie.close (tie.spec returns (λ c. search needs) (λ c. search needs) returns-2)

@@ -9,12 +9,6 @@ use Rattle.path_choices.proofs.choices.path_len.Tie as tie
 returns : tie.Need-returns
 returns c = (len-past (c .before .args .c) (c .if1 .taken), omega arith)
 
-mul-result : tie.Need-mul-result
-mul-result c = search needs
-
-array-read-result : tie.Need-array-read-result
-array-read-result c = search needs
-
 add-result : tie.Need-add-result
 add-result c =
     let s = c .before .before in
@@ -30,4 +24,4 @@ returns-2 c =
     (refl, omega arith)
 
 pub path-len-spec : {M : Type 1} → statement M
-path-len-spec = tie.close (tie.spec returns mul-result array-read-result add-result returns-2)
+path-len-spec = tie.close (tie.spec returns (λ c. search needs) (λ c. search needs) add-result returns-2)

@@ -4,16 +4,10 @@ use Rattle.find_path.specs.Meters.{fromTank}
 use Rattle.path_context.proofs.context.charge.Statement.{statement}
 use Rattle.path_context.proofs.context.charge.Tie as tie
 
-sought-of-requires : tie.Need-sought-of-requires
-sought-of-requires c κs = search needs
-
-take-unit-requires : tie.Need-take-unit-requires
-take-unit-requires c κs = search needs
-
 returns : tie.Need-returns
 returns c =
     let s = c .before .before .args in
     c .take-unit .ensures ∙ ap (λ n. fromTank (s .left) n (s .t)) (c .before .sought-of .ensures)
 
 pub charge-spec : {M : Type 1} → statement M
-charge-spec = tie.close (tie.spec sought-of-requires take-unit-requires returns)
+charge-spec = tie.close (tie.spec (λ c κs. search needs) (λ c κs. search needs) returns)

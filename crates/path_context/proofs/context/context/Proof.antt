@@ -6,76 +6,36 @@ use Rattle.path_context.proofs.ContextLaws.{context-same}
 use Rattle.path_context.proofs.context.context.Statement.{statement}
 use Rattle.path_context.proofs.context.context.Tie as tie
 
-in-block-requires : tie.Need-in-block-requires
-in-block-requires c κs = search needs
-
-plain-if-requires : tie.Need-plain-if-requires
-plain-if-requires c κs = search needs
-
-krate-requires : tie.Need-krate-requires
-krate-requires c κs = search needs
-
-no-std-requires : tie.Need-no-std-requires
-no-std-requires c κs = search needs
-
-supports-no-std-requires : tie.Need-supports-no-std-requires
-supports-no-std-requires c κs = search needs
-
-bit-requires : tie.Need-bit-requires
-bit-requires c κs = search needs
-
-bit-requires-2 : tie.Need-bit-requires-2
-bit-requires-2 c κs = search needs
-
-bit-requires-3 : tie.Need-bit-requires-3
-bit-requires-3 c κs = search needs
-
-bit-requires-4 : tie.Need-bit-requires-4
-bit-requires-4 c κs = search needs
-
-bit-requires-5 : tie.Need-bit-requires-5
-bit-requires-5 c κs = search needs
-
-bit-requires-6 : tie.Need-bit-requires-6
-bit-requires-6 c κs = search needs
-
-krate-requires-2 : tie.Need-krate-requires-2
-krate-requires-2 c κs = search needs
-
 is-lang-requires : tie.Need-is-lang-requires
 is-lang-requires c κs =
     let s = c .before .before .before .before .before .before .before .before .before .before .before .before .before .before .before in
     few-words (now (s .args .words)) (now (s .args .area)) (s .args .l) (s .pre .0)
 
 crate-root-requires : tie.Need-crate-root-requires
-crate-root-requires c κs = let s = c .before .before .before .before .before .before .before .before .before .before .before .before .before .before .before .before in (s .pre .0, s .pre .1)
+crate-root-requires c κs = let s =
+    c .before .before .before .before .before .before .before .before .before .before .before .before .before .before .before .before in
+    (s .pre .0, s .pre .1)
 
 returns : tie.Need-returns
 returns c =
-    let s = c .before .before .before .before .before .before .before .before .before .before .before .before .before .before .before .before .before in
+    let s = c .before .before .before .before .before .before .before .before .before .before .before .before .before .before
+    .before .before .before in
     let n = snapOf (now (s .args .words)) (now (s .args .area)) (s .args .l) in
     let A = now (s .args .area) in
-    context-same n (s .args .q) (s .args .home .0) (s .pre .3) (c .before .before .before .before .before .before .before .before .before .before .before .before .before .in-block .ensures) (c .before .before .before .before .before .before .before .before .before .before .before .before .plain-if .ensures) (c .before .before .before .before .before .before .before .before .before .before .before .krate .ensures)
-    (c .before .before .before .before .before .before .before .before .before .before .no-std .ensures) (c .before .before .before .before .before .before .before .before .before .supports-no-std .ensures A)
-    (c .before .before .before .before .before .before .before .before .bit .ensures) (c .before .before .before .before .before .before .before .bit2 .ensures) (c .before .before .before .before .before .before .bit3 .ensures) (c .before .before .before .before .before .bit4 .ensures) (c .before .before .before .before .bit5 .ensures) (c .before .before .before .bit6 .ensures)
+    context-same n (s .args .q) (s .args .home .0) (s .pre .3)
+    (c .before .before .before .before .before .before .before .before .before .before .before .before .before .in-block .ensures)
+    (c .before .before .before .before .before .before .before .before .before .before .before .before .plain-if .ensures)
+    (c .before .before .before .before .before .before .before .before .before .before .before .krate .ensures)
+    (c .before .before .before .before .before .before .before .before .before .before .no-std .ensures)
+    (c .before .before .before .before .before .before .before .before .before .supports-no-std .ensures A)
+    (c .before .before .before .before .before .before .before .before .bit .ensures)
+    (c .before .before .before .before .before .before .before .bit2 .ensures)
+    (c .before .before .before .before .before .before .bit3 .ensures) (c .before .before .before .before .before .bit4 .ensures)
+    (c .before .before .before .before .bit5 .ensures) (c .before .before .before .bit6 .ensures)
     (c .before .before .krate2 .ensures) (c .before .is-lang .ensures A) (c .crate-root .ensures)
 
 pub context-spec : {M : Type 1} → statement M
 context-spec =
-    tie.close
-    (tie.spec
-    in-block-requires
-    plain-if-requires
-    krate-requires
-    no-std-requires
-    supports-no-std-requires
-    bit-requires
-    bit-requires-2
-    bit-requires-3
-    bit-requires-4
-    bit-requires-5
-    bit-requires-6
-    krate-requires-2
-    is-lang-requires
-    crate-root-requires
-    returns)
+    tie.close (tie.spec (λ c κs. search needs) (λ c κs. search needs) (λ c κs. search needs) (λ c κs. search needs)
+    (λ c κs. search needs) (λ c κs. search needs) (λ c κs. search needs) (λ c κs. search needs) (λ c κs. search needs)
+    (λ c κs. search needs) (λ c κs. search needs) (λ c κs. search needs) is-lang-requires crate-root-requires returns)

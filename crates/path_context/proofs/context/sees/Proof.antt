@@ -6,12 +6,6 @@ use Rattle.tree_rules.specs.Visibility.{isVisibleFrom}
 use Rattle.path_context.proofs.context.sees.Statement.{statement}
 use Rattle.path_context.proofs.context.sees.Tie as tie
 
-scope-visibility-requires : tie.Need-scope-visibility-requires
-scope-visibility-requires c κs = search needs
-
-scope-number-requires : tie.Need-scope-number-requires
-scope-number-requires c κs = search needs
-
 is-visible-from-requires : tie.Need-is-visible-from-requires
 is-visible-from-requires c κs =
     let s = c .before .before .before .before in
@@ -21,9 +15,9 @@ returns : tie.Need-returns
 returns c =
     let s = c .before .before .before .before .before in
     let n = snapOf (now (s .args .words)) (now (s .args .area)) (s .args .l) in
-    c .is-visible-from .ensures ∙ ap₂ (λ k m. isVisibleFrom n k m (s .args .x .from .0)) (c .before .before .scope-visibility .ensures) (c .before .scope-number .ensures)
+    c .is-visible-from .ensures ∙ ap₂ (λ k m. isVisibleFrom n k m (s .args .x .from .0)) (c .before .before .scope-visibility .ensures)
+    (c .before .scope-number .ensures)
 
 pub sees-spec : {M : Type 1} → statement M
 sees-spec =
-    tie.close
-    (tie.spec scope-visibility-requires scope-number-requires is-visible-from-requires returns)
+    tie.close (tie.spec (λ c κs. search needs) (λ c κs. search needs) is-visible-from-requires returns)

@@ -3,9 +3,6 @@ use Rattle.path_context.proofs.ContextLaws.{sought-own, sought-other}
 use Rattle.path_context.proofs.context.sought_of.Statement.{statement}
 use Rattle.path_context.proofs.context.sought_of.Tie as tie
 
-module-in-requires : tie.Need-module-in-requires
-module-in-requires c κs = search needs
-
 returns : tie.Need-returns
 returns c =
     let m = c .before .before in
@@ -17,4 +14,4 @@ returns-2 c =
     sought-other (m .before .args .x) (m .before .args .item) _ (m .module-in .ensures) (c .if1 .left)
 
 pub sought-of-spec : {M : Type 1} → statement M
-sought-of-spec = tie.close (tie.spec module-in-requires returns returns-2)
+sought-of-spec = tie.close (tie.spec (λ c κs. search needs) returns returns-2)

@@ -4,20 +4,11 @@ use Rattle.path_context.proofs.ContextLaws.{charge-stops, charge-goes}
 use Rattle.path_context.proofs.context.take_unit.Statement.{statement}
 use Rattle.path_context.proofs.context.take_unit.Tie as tie
 
-drained-requires : tie.Need-drained-requires
-drained-requires c κs = search needs
-
 returns : tie.Need-returns
 unfolding chargedBy
 returns c =
     let s = c .before .before in
     charge-stops (s .args .left) (s .args .sought) (s .args .t) _ (c .drained .ensures) (c .before .if1 .taken)
-
-sub-t8 : tie.Need-sub-t8
-sub-t8 c = search needs
-
-add-t9 : tie.Need-add-t9
-add-t9 c = search needs
 
 returns-2 : tie.Need-returns-2
 unfolding chargedBy
@@ -26,4 +17,4 @@ returns-2 c =
     charge-goes (s .args .left) (s .args .sought) (s .args .t) (c .if1 .left)
 
 pub take-unit-spec : {M : Type 1} → statement M
-take-unit-spec = tie.close (tie.spec drained-requires returns sub-t8 add-t9 returns-2)
+take-unit-spec = tie.close (tie.spec (λ c κs. search needs) returns (λ c. search needs) (λ c. search needs) returns-2)

@@ -9,9 +9,6 @@ use Rattle.scope_index.proofs.Chaining.{accepted-sized}
 use Rattle.path_offers.proofs.offers.entry_for.Statement.{statement}
 use Rattle.path_offers.proofs.offers.entry_for.Tie as tie
 
-entry-by-requires : tie.Need-entry-by-requires
-entry-by-requires c κs = search needs
-
 returns : tie.Need-returns
 unfolding testOf
 returns c = c .entry-by .ensures .0
@@ -31,4 +28,4 @@ returns-2 c =
     c .name-in .ensures ∙ sym (ap (λ t. preferred t n m i (isImportable n (s .args .x)) (nameOf n m i)) (c .before .if1 .left))
 
 pub entry-for-spec : {M : Type 1} → statement M
-entry-for-spec = tie.close (tie.spec entry-by-requires returns name-in-requires returns-2)
+entry-for-spec = tie.close (tie.spec (λ c κs. search needs) returns name-in-requires returns-2)

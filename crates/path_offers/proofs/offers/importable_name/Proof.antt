@@ -10,15 +10,6 @@ use Rattle.path_offers.proofs.OfferLaws.{entry-taken, entry-left}
 use Rattle.path_offers.proofs.offers.importable_name.Statement.{statement}
 use Rattle.path_offers.proofs.offers.importable_name.Tie as tie
 
-entry-for-requires : tie.Need-entry-for-requires
-entry-for-requires c κs = search needs
-
-enum-known-e : tie.Need-enum-known-e
-enum-known-e c = search needs
-
-enum-told : tie.Need-enum-told
-enum-told c = search needs
-
 returns : tie.Need-returns
 unfolding entryIf importableName
 returns c =
@@ -44,8 +35,11 @@ returns-2 c =
     let W = now (s .args .words) in
     let g = c .before .before .before .e .given in
     let o = sym (ap (entryOf scopeAt W) (g .1)) ∙ c .before .before .before .before .before .entry-for .ensures in
-    let e = entry-taken n (s .args .x) (scopeAt W (g .0 .0)) (c .before .is-importable .ensures) (c .if1 .taken) in
-    (e ∙ ap (entryIf n (s .args .x)) o, preferred-fits W (now (s .args .area)) (s .args .l) (s .pre .0) (s .args .x .fresh) (s .args .m .0) (g .0 .0) (s .args .item) _ o)
+    let e = entry-taken n (s .args .x) (scopeAt W (g .0 .0)) (c .before .is-importable .ensures) (c .if1 .taken) in (
+      e ∙ ap (entryIf n (s .args .x)) o,
+      preferred-fits W (now (s .args .area)) (s .args .l) (s .pre .0) (s .args .x .fresh)
+          (s .args .m .0) (g .0 .0) (s .args .item) _ o,
+    )
 
 returns-3 : tie.Need-returns-3
 unfolding importableName
@@ -60,12 +54,5 @@ returns-3 c =
 
 pub importable-name-spec : {M : Type 1} → statement M
 importable-name-spec =
-    tie.close
-    (tie.spec
-    entry-for-requires
-    enum-known-e
-    enum-told
-    returns
-    is-importable-requires
-    returns-2
-    returns-3)
+    tie.close (tie.spec (λ c κs. search needs) (λ c. search needs) (λ c. search needs) returns is-importable-requires
+    returns-2 returns-3)

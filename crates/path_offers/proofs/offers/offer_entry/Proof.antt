@@ -8,9 +8,6 @@ use Rattle.path_offers.proofs.OfferLaws.{entry-offered}
 use Rattle.path_offers.proofs.offers.offer_entry.Statement.{statement}
 use Rattle.path_offers.proofs.offers.offer_entry.Tie as tie
 
-scope-name-requires : tie.Need-scope-name-requires
-scope-name-requires c κs = search needs
-
 step-by-requires : tie.Need-step-by-requires
 step-by-requires c κs = let s = c .before .before .before in (omega arith, s .pre .1 .place)
 
@@ -24,7 +21,8 @@ returns c =
     let s = c .before .before .before .before .before in
     let n = snapOf (now (s .args .words)) (now (s .args .area)) (s .args .l) in
     let e = scopeAt (now (s .args .words)) (s .args .h) in
-    c .offer .ensures ∙ entry-offered n (s .args .x) (s .args .best) (s .args .c) e (c .before .before .scope-name .ensures) (c .before .step-by .ensures)
+    c .offer .ensures ∙ entry-offered n (s .args .x) (s .args .best) (s .args .c) e (c .before .before .scope-name .ensures)
+    (c .before .step-by .ensures)
 
 pub offer-entry-spec : {M : Type 1} → statement M
-offer-entry-spec = tie.close (tie.spec scope-name-requires step-by-requires offer-requires returns)
+offer-entry-spec = tie.close (tie.spec (λ c κs. search needs) step-by-requires offer-requires returns)

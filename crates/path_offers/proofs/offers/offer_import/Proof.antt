@@ -12,12 +12,6 @@ use Rattle.path_offers.proofs.offers.offer_import.Tie as tie
 step-by-requires : tie.Need-step-by-requires
 step-by-requires c κs = let s = c .before .before in (omega arith, s .pre .1 .place)
 
-import-name-requires : tie.Need-import-name-requires
-import-name-requires c κs = search needs
-
-is-unstable-requires : tie.Need-is-unstable-requires
-is-unstable-requires c κs = search needs
-
 offer-requires : tie.Need-offer-requires
 offer-requires c κs =
     let s = c .before .before .before .before .before .before in
@@ -28,17 +22,17 @@ returns c =
     let s = c .before .before .before .before .before .before .before in
     let n = snapOf (now (s .args .words)) (now (s .args .area)) (s .args .l) in
     let i = importAt (now (s .args .words)) (s .args .h) in
-    c .offer .ensures ∙ import-stable n (s .args .x) (s .args .best) (s .args .c) i (c .before .before .before .import-name .ensures) (c .before .before .before .before .step-by .ensures) (sym (c .before .before .is-unstable .ensures) ∙ not-true _ (c .before .if1 .taken))
+    c .offer .ensures ∙ import-stable n (s .args .x) (s .args .best) (s .args .c) i (c .before .before .before .import-name .ensures)
+    (c .before .before .before .before .step-by .ensures) (sym (c .before .before .is-unstable .ensures) ∙ not-true _ (c .before .if1 .taken))
 
 returns-2 : tie.Need-returns-2
 returns-2 c =
     let s = c .before .before .before .before .before .before .before .before in
     let n = snapOf (now (s .args .words)) (now (s .args .area)) (s .args .l) in
     let i = importAt (now (s .args .words)) (s .args .h) in
-    import-barred n (s .args .x) (s .args .best) (s .args .c) i (c .before .before .before .before .import-name .ensures) (c .before .before .before .before .before .step-by .ensures) (sym (c .before .before .before .is-unstable .ensures) ∙ not-false _ (c .before .before .if1 .left)) (not-true _ (c .if2 .taken))
-
-unstably-requires : tie.Need-unstably-requires
-unstably-requires c κs = search needs
+    import-barred n (s .args .x) (s .args .best) (s .args .c) i (c .before .before .before .before .import-name .ensures)
+    (c .before .before .before .before .before .step-by .ensures) (sym (c .before .before .before .is-unstable .ensures)
+    ∙ not-false _ (c .before .before .if1 .left)) (not-true _ (c .if2 .taken))
 
 offer-requires-2 : tie.Need-offer-requires-2
 offer-requires-2 c κs =
@@ -51,18 +45,13 @@ returns-3 c =
     let s = c .before .before .before .before .before .before .before .before .before .before in
     let n = snapOf (now (s .args .words)) (now (s .args .area)) (s .args .l) in
     let i = importAt (now (s .args .words)) (s .args .h) in
-    c .offer2 .ensures ∙ import-unstable n (s .args .x) (s .args .best) (s .args .c) i (c .before .before .before .before .before .before .import-name .ensures) (c .before .before .before .before .before .before .before .step-by .ensures) (c .before .unstably .ensures) (sym (c .before .before .before .before .before .is-unstable .ensures) ∙ not-false _ (c .before .before .before .before .if1 .left)) (not-false _ (c .before .before .if2 .left))
+    c .offer2 .ensures ∙ import-unstable n (s .args .x) (s .args .best) (s .args .c) i
+    (c .before .before .before .before .before .before .import-name .ensures)
+    (c .before .before .before .before .before .before .before .step-by .ensures) (c .before .unstably .ensures)
+    (sym (c .before .before .before .before .before .is-unstable .ensures) ∙ not-false _ (c .before .before .before .before .if1 .left))
+    (not-false _ (c .before .before .if2 .left))
 
 pub offer-import-spec : {M : Type 1} → statement M
 offer-import-spec =
-    tie.close
-    (tie.spec
-    step-by-requires
-    import-name-requires
-    is-unstable-requires
-    offer-requires
-    returns
-    returns-2
-    unstably-requires
-    offer-requires-2
-    returns-3)
+    tie.close (tie.spec step-by-requires (λ c κs. search needs) (λ c κs. search needs) offer-requires returns returns-2
+    (λ c κs. search needs) offer-requires-2 returns-3)

@@ -22,9 +22,6 @@ abbrev μ-loop : tie.MeasureT-loop
 slice-aggregate-snapshot : tie.Need-slice-aggregate-snapshot Inv-loop μ-loop
 slice-aggregate-snapshot c = sym (length-take-le _ _ (omega arith))
 
-check-requires : tie.Need-check-requires Inv-loop μ-loop
-check-requires c κs = search needs
-
 loop-holds : tie.Need-loop-holds Inv-loop μ-loop
 loop-holds c =
     let s = c .before .before .before .before .before .before .before .before in
@@ -37,15 +34,6 @@ next-line-requires c κs =
     let l = c .before .before .before .loop .inv in
     (l .0, l .1 ∙ l .3, omega (arith, l .2, l .4), c .before .before .loop-test .taken, s .pre .1)
 
-slice-reshare-prefix-write-output : tie.Need-slice-reshare-prefix-write-output Inv-loop μ-loop
-slice-reshare-prefix-write-output c = search needs
-
-slice-aggregate-write-output : tie.Need-slice-aggregate-write-output Inv-loop μ-loop
-slice-aggregate-write-output c = search needs
-
-write-output-requires : tie.Need-write-output-requires Inv-loop μ-loop
-write-output-requires c κs = search needs
-
 same-length : tie.Need-same-length Inv-loop μ-loop
 same-length c =
     let t = c .before .before .before .before .before .before .before in
@@ -56,9 +44,6 @@ same-length-2 : tie.Need-same-length-2 Inv-loop μ-loop
 same-length-2 c =
     let t = c .before .before .before .before .before .before .before in
     t .next-line .kept .1 .1 .1 .1 .1 .0 ∙ t .before .before .before .before .loop .inv .2
-
-returns : tie.Need-returns Inv-loop μ-loop
-returns c = search needs
 
 loop-less : tie.Need-loop-less Inv-loop μ-loop
 loop-less c =
@@ -80,27 +65,8 @@ same-length-3 c = c .before .loop .inv .1 ∙ c .before .before .before .before 
 same-length-4 : tie.Need-same-length-4 Inv-loop μ-loop
 same-length-4 c = c .before .loop .inv .2
 
-returns-2 : tie.Need-returns-2 Inv-loop μ-loop
-returns-2 c = search needs
-
 pub print-questions-spec : {M : Type 1} → statement M
 print-questions-spec =
-    tie.close
-    (tie.spec
-    Inv-loop
-    μ-loop
-    slice-aggregate-snapshot
-    check-requires
-    loop-holds
-    next-line-requires
-    slice-reshare-prefix-write-output
-    slice-aggregate-write-output
-    write-output-requires
-    same-length
-    same-length-2
-    returns
-    loop-less
-    loop-again
-    same-length-3
-    same-length-4
-    returns-2)
+    tie.close (tie.spec Inv-loop μ-loop slice-aggregate-snapshot (λ c κs. search needs) loop-holds next-line-requires
+    (λ c. search needs) (λ c. search needs) (λ c κs. search needs) same-length same-length-2 (λ c. search needs)
+    loop-less loop-again same-length-3 same-length-4 (λ c. search needs))

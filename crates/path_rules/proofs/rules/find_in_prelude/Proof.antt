@@ -10,37 +10,24 @@ use Rattle.path_rules.proofs.RuleLaws.{prelude-none, prelude-some}
 use Rattle.path_rules.proofs.rules.find_in_prelude.Statement.{statement}
 use Rattle.path_rules.proofs.rules.find_in_prelude.Tie as tie
 
-map-requires : tie.Need-map-requires
-map-requires c κs = search needs
-
-prelude-of-requires : tie.Need-prelude-of-requires
-prelude-of-requires c κs = search needs
-
-enum-known-p : tie.Need-enum-known-p
-enum-known-p c = search needs
-
-enum-told : tie.Need-enum-told
-enum-told c = search needs
-
 returns : tie.Need-returns
 returns c =
     let s = c .before .before .before .before .before .before in
     let n = snapOf (now (s .args .words)) (now (s .args .area)) (s .args .l) in
-    let e = sym (ap (entryOf preludeAt (now (s .args .words))) (c .enum-told .given .1)) ∙ c .before .before .prelude-of .ensures (now (s .args .area)) in
+    let e = sym (ap (entryOf preludeAt (now (s .args .words))) (c .enum-told .given .1)) ∙ c .before .before .prelude-of .ensures
+    (now (s .args .area)) in
     (prelude-none n (s .args .x) (s .args .item) (c .before .before .before .map .ensures) e, tt)
-
-prelude-target-requires : tie.Need-prelude-target-requires
-prelude-target-requires c κs = search needs
-
-entry-by-requires : tie.Need-entry-by-requires
-entry-by-requires c κs = search needs
 
 prelude-entry-requires : tie.Need-prelude-entry-requires
 prelude-entry-requires c κs =
     let s = c .before .before .before .before .before .before .before .before .before in
     let W = now (s .args .words) in
-    let A = now (s .args .area) in
-    (s .pre .0, s .pre .1, λ h e. preferred-fits W A (s .args .l) (s .pre .0) (s .args .x .fresh) (c .before .prelude-target .result .0) h (s .args .item) _ (sym (ap (entryOf scopeAt W) e) ∙ c .entry-by .ensures .0))
+    let A = now (s .args .area) in (
+      s .pre .0,
+      s .pre .1,
+      λ h e. preferred-fits W A (s .args .l) (s .pre .0) (s .args .x .fresh) (c .before .prelude-target .result .0) h
+          (s .args .item) _ (sym (ap (entryOf scopeAt W) e) ∙ c .entry-by .ensures .0),
+    )
 
 returns-2 : tie.Need-returns-2
 unfolding testOf
@@ -51,19 +38,12 @@ returns-2 c =
     let A = now (s .args .area) in
     let g = c .before .before .before .before .p .given in
     let e = sym (ap (entryOf preludeAt W) (g .1)) ∙ c .before .before .before .before .before .before .prelude-of .ensures A in
-    let k = prelude-some n (s .args .x) (s .args .item) (preludeAt W (g .0 .0)) (c .before .before .before .before .before .before .before .map .ensures) e (c .before .before .prelude-target .ensures) (c .before .entry-by .ensures .0) in
+    let k = prelude-some n (s .args .x) (s .args .item) (preludeAt W (g .0 .0))
+    (c .before .before .before .before .before .before .before .map .ensures) e (c .before .before .prelude-target .ensures)
+    (c .before .entry-by .ensures .0) in
     (c .prelude-entry .ensures .0 ∙ k, c .prelude-entry .ensures .1)
 
 pub find-in-prelude-spec : {M : Type 1} → statement M
 find-in-prelude-spec =
-    tie.close
-    (tie.spec
-    map-requires
-    prelude-of-requires
-    enum-known-p
-    enum-told
-    returns
-    prelude-target-requires
-    entry-by-requires
-    prelude-entry-requires
-    returns-2)
+    tie.close (tie.spec (λ c κs. search needs) (λ c κs. search needs) (λ c. search needs) (λ c. search needs) returns
+    (λ c κs. search needs) (λ c κs. search needs) prelude-entry-requires returns-2)

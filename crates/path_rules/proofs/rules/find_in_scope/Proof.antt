@@ -5,9 +5,6 @@ use Rattle.path_rules.proofs.RuleLaws.{scope-below}
 use Rattle.path_rules.proofs.rules.find_in_scope.Statement.{statement}
 use Rattle.path_rules.proofs.rules.find_in_scope.Tie as tie
 
-scope-entry-requires : tie.Need-scope-entry-requires
-scope-entry-requires c κs = search needs
-
 returns : tie.Need-returns
 unfolding findInScope
 returns c =
@@ -16,4 +13,4 @@ returns c =
     (e, scope-below (now (s .args .words)) (now (s .args .area)) (s .args .l) (s .pre .0) (s .args .x) (s .args .item) (c .scope-entry .result) e)
 
 pub find-in-scope-spec : {M : Type 1} → statement M
-find-in-scope-spec = tie.close (tie.spec scope-entry-requires returns)
+find-in-scope-spec = tie.close (tie.spec (λ c κs. search needs) returns)

@@ -10,15 +10,6 @@ use Rattle.path_rules.proofs.RuleLaws.{parent-none, parent-no, parent-c
 use Rattle.path_rules.proofs.rules.parent_kind.Statement.{statement}
 use Rattle.path_rules.proofs.rules.parent_kind.Tie as tie
 
-parent-requires : tie.Need-parent-requires
-parent-requires c κs = search needs
-
-enum-known-p : tie.Need-enum-known-p
-enum-known-p c = search needs
-
-enum-told : tie.Need-enum-told
-enum-told c = search needs
-
 returns : tie.Need-returns
 unfolding keywordKind
 returns c =
@@ -34,9 +25,6 @@ returns-2 c =
     let n = snapOf (now (s .args .words)) (now (s .args .area)) (s .args .l) in
     parent-no n (s .args .x) (s .args .m .0) _ (is-some _ (e .before .before .before .parent .ensures) (e .before .p .given .1)) (c .if1 .taken)
 
-map-requires : tie.Need-map-requires
-map-requires c κs = search needs
-
 root-requires : tie.Need-root-requires
 root-requires c κs =
     let s = c .before .before .before .before .before .before .before .before .before .before in
@@ -51,7 +39,8 @@ returns-3 c =
     let e = r .before .before .before .before .before in
     let s = e .before .before .before .before .before .before in
     let n = snapOf (now (s .args .words)) (now (s .args .area)) (s .args .l) in
-    parent-crate n (s .args .x) (s .args .m .0) (r .before .map .ensures) (r .root .ensures) _ (is-some _ (e .before .before .before .parent .ensures) (e .before .p .given .1)) (r .before .before .if1 .left) (c .if2 .taken)
+    parent-crate n (s .args .x) (s .args .m .0) (r .before .map .ensures) (r .root .ensures) _
+    (is-some _ (e .before .before .before .parent .ensures) (e .before .p .given .1)) (r .before .before .if1 .left) (c .if2 .taken)
 
 returns-4 : tie.Need-returns-4
 unfolding keywordKind
@@ -60,18 +49,10 @@ returns-4 c =
     let e = r .before .before .before .before .before in
     let s = e .before .before .before .before .before .before in
     let n = snapOf (now (s .args .words)) (now (s .args .area)) (s .args .l) in
-    parent-super n (s .args .x) (s .args .m .0) (r .before .map .ensures) (r .root .ensures) _ (is-some _ (e .before .before .before .parent .ensures) (e .before .p .given .1)) (r .before .before .if1 .left) (c .if2 .left)
+    parent-super n (s .args .x) (s .args .m .0) (r .before .map .ensures) (r .root .ensures) _
+    (is-some _ (e .before .before .before .parent .ensures) (e .before .p .given .1)) (r .before .before .if1 .left) (c .if2 .left)
 
 pub parent-kind-spec : {M : Type 1} → statement M
 parent-kind-spec =
-    tie.close
-    (tie.spec
-    parent-requires
-    enum-known-p
-    enum-told
-    returns
-    returns-2
-    map-requires
-    root-requires
-    returns-3
-    returns-4)
+    tie.close (tie.spec (λ c κs. search needs) (λ c. search needs) (λ c. search needs) returns returns-2
+    (λ c κs. search needs) root-requires returns-3 returns-4)

@@ -8,15 +8,9 @@ use Rattle.path_rules.proofs.rules.prefix_path_kind.Tie as tie
 returns : tie.Need-returns
 returns c = prefix-past _ (c .if1 .taken)
 
-mul-result : tie.Need-mul-result
-mul-result c = search needs
-
-array-read-result : tie.Need-array-read-result
-array-read-result c = search needs
-
 returns-2 : tie.Need-returns-2
 unfolding prefixPathKind
 returns-2 c = refl
 
 pub prefix-path-kind-spec : {M : Type 1} → statement M
-prefix-path-kind-spec = tie.close (tie.spec returns mul-result array-read-result returns-2)
+prefix-path-kind-spec = tie.close (tie.spec returns (λ c. search needs) (λ c. search needs) returns-2)

@@ -9,12 +9,6 @@ use Rattle.path_rules.proofs.RuleLaws.{entry-taken, entry-left}
 use Rattle.path_rules.proofs.rules.prelude_entry.Statement.{statement}
 use Rattle.path_rules.proofs.rules.prelude_entry.Tie as tie
 
-enum-known-e : tie.Need-enum-known-e
-enum-known-e c = search needs
-
-enum-told : tie.Need-enum-told
-enum-told c = search needs
-
 returns : tie.Need-returns
 unfolding preludeEntry
 returns c =
@@ -47,5 +41,4 @@ returns-3 c =
 
 pub prelude-entry-spec : {M : Type 1} → statement M
 prelude-entry-spec =
-    tie.close
-    (tie.spec enum-known-e enum-told returns is-usable-requires returns-2 returns-3)
+    tie.close (tie.spec (λ c. search needs) (λ c. search needs) returns is-usable-requires returns-2 returns-3)

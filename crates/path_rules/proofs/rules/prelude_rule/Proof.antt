@@ -6,12 +6,6 @@ use Rattle.find_path.specs.Rules.{single, preludeRule}
 use Rattle.path_rules.proofs.rules.prelude_rule.Statement.{statement}
 use Rattle.path_rules.proofs.rules.prelude_rule.Tie as tie
 
-find-in-prelude-requires : tie.Need-find-in-prelude-requires
-find-in-prelude-requires c κs = search needs
-
-single-requires : tie.Need-single-requires
-single-requires c κs = search needs
-
 returns : tie.Need-returns
 unfolding preludeRule
 returns c =
@@ -20,4 +14,4 @@ returns c =
     c .single .ensures (s .args .x) ∙ ap (single n (s .args .x) 0 2) (c .before .find-in-prelude .ensures .0)
 
 pub prelude-rule-spec : {M : Type 1} → statement M
-prelude-rule-spec = tie.close (tie.spec find-in-prelude-requires single-requires returns)
+prelude-rule-spec = tie.close (tie.spec (λ c κs. search needs) (λ c κs. search needs) returns)

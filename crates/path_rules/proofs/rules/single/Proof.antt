@@ -10,30 +10,19 @@ use Rattle.find_path.specs.Rules.{single}
 use Rattle.path_rules.proofs.rules.single.Statement.{statement}
 use Rattle.path_rules.proofs.rules.single.Tie as tie
 
-enum-known-e : tie.Need-enum-known-e
-enum-known-e c = search needs
-
-enum-told : tie.Need-enum-told
-enum-told c = search needs
-
-nothing-requires : tie.Need-nothing-requires
-nothing-requires c κs = search needs
-
 returns : tie.Need-returns
 unfolding single
 returns c =
     λ x.
     (let s = c .before .before .before .before .before in
     let n = snapOf (now (s .args .words)) (now (s .args .area)) (s .args .l) in
-    c .nothing .ensures ∙ sym (ap (λ e. single n x (s .args .kind) (s .args .rule) (entryOf scopeAt (now (s .args .words)) e)) (c .before .enum-told .given .1)))
+    c .nothing .ensures ∙ sym (ap (λ e. single n x (s .args .kind) (s .args .rule) (entryOf scopeAt (now (s .args .words)) e))
+    (c .before .enum-told .given .1)))
 
 step-by-requires : tie.Need-step-by-requires
 step-by-requires c κs =
     let s = c .before .before .before .before .before in
     (s .pre .1, subst (EntryFits (now (s .args .words)) (s .args .l)) (c .before .e .given .1) (s .pre .2) .place)
-
-scope-name-requires : tie.Need-scope-name-requires
-scope-name-requires c κs = search needs
 
 new-requires : tie.Need-new-requires
 new-requires c κs =
@@ -54,13 +43,5 @@ returns-2 c =
 
 pub single-spec : {M : Type 1} → statement M
 single-spec =
-    tie.close
-    (tie.spec
-    enum-known-e
-    enum-told
-    nothing-requires
-    returns
-    step-by-requires
-    scope-name-requires
-    new-requires
-    returns-2)
+    tie.close (tie.spec (λ c. search needs) (λ c. search needs) (λ c κs. search needs) returns step-by-requires
+    (λ c κs. search needs) new-requires returns-2)

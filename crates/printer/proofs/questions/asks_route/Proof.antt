@@ -4,11 +4,8 @@ use lib.Dec.{eqb}
 use Rattle.printer.proofs.questions.asks_route.Statement.{statement}
 use Rattle.printer.proofs.questions.asks_route.Tie as tie
 
-kind-requires : tie.Need-kind-requires
-kind-requires c κs = search needs
-
 returns : tie.Need-returns
 returns c = ap (λ k. eqb k 14) (c .kind .ensures)
 
 pub asks-route-spec : {M : Type 1} → statement M
-asks-route-spec = tie.close (tie.spec kind-requires returns)
+asks-route-spec = tie.close (tie.spec (λ c κs. search needs) returns)

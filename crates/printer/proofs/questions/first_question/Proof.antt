@@ -17,29 +17,23 @@ abbrev μ-loop : tie.MeasureT-loop
 loop-holds : tie.Need-loop-holds Inv-loop μ-loop
 loop-holds c = (omega arith, first-start (now (c .before .args .words)))
 
-kind-requires : tie.Need-kind-requires Inv-loop μ-loop
-kind-requires c κs = tt
-
-is-head-requires : tie.Need-is-head-requires Inv-loop μ-loop
-is-head-requires c κs = tt
-
 returns : tie.Need-returns Inv-loop μ-loop
 returns c =
     let l = c .before .before .before .before .loop in
-    let q = c .before .is-head .ensures ∙ ap isHead (c .before .before .kind .ensures) in
-    (first-here (now (c .before .before .before .before .before .before .args .words)) (l .i) (l .inv .1) _ (c .before .before .before .loop-test .taken) q (c .if1 .taken), l .inv .0)
-
-add-i : tie.Need-add-i Inv-loop μ-loop
-add-i c = omega arith
-
-loop-less : tie.Need-loop-less Inv-loop μ-loop
-loop-less c = omega arith
+    let q = c .before .is-head .ensures ∙ ap isHead (c .before .before .kind .ensures) in (
+      first-here (now (c .before .before .before .before .before .before .args .words)) (l .i) (l .inv .1) _
+          (c .before .before .before .loop-test .taken) q (c .if1 .taken),
+      l .inv .0,
+    )
 
 loop-again : tie.Need-loop-again Inv-loop μ-loop
 loop-again c =
     let l = c .before .before .before .before .loop in
-    let q = c .before .is-head .ensures ∙ ap isHead (c .before .before .kind .ensures) in
-    (omega arith, first-later (now (c .before .before .before .before .before .before .args .words)) (l .i) (l .inv .1) _ (c .before .before .before .loop-test .taken) q (c .if1 .left))
+    let q = c .before .is-head .ensures ∙ ap isHead (c .before .before .kind .ensures) in (
+      omega arith,
+      first-later (now (c .before .before .before .before .before .before .args .words)) (l .i) (l .inv .1) _
+          (c .before .before .before .loop-test .taken) q (c .if1 .left),
+    )
 
 returns-2 : tie.Need-returns-2 Inv-loop μ-loop
 returns-2 c =
@@ -48,15 +42,5 @@ returns-2 c =
 
 pub first-question-spec : {M : Type 1} → statement M
 first-question-spec =
-    tie.close
-    (tie.spec
-    Inv-loop
-    μ-loop
-    loop-holds
-    kind-requires
-    is-head-requires
-    returns
-    add-i
-    loop-less
-    loop-again
-    returns-2)
+    tie.close (tie.spec Inv-loop μ-loop loop-holds (λ c κs. tt) (λ c κs. tt) returns (λ c. omega arith)
+    (λ c. omega arith) loop-again returns-2)

@@ -4,11 +4,8 @@ use lib.Dec.{eqb}
 use Rattle.printer.proofs.questions.is_argument.Statement.{statement}
 use Rattle.printer.proofs.questions.is_argument.Tie as tie
 
-kind-requires : tie.Need-kind-requires
-kind-requires c κs = search needs
-
 returns : tie.Need-returns
 returns c = ap (λ k. eqb k 0) (c .kind .ensures)
 
 pub is-argument-spec : {M : Type 1} → statement M
-is-argument-spec = tie.close (tie.spec kind-requires returns)
+is-argument-spec = tie.close (tie.spec (λ c κs. search needs) returns)

@@ -5,11 +5,8 @@ use lib.Dec.{eqb}
 use Rattle.printer.proofs.questions.is_head.Statement.{statement}
 use Rattle.printer.proofs.questions.is_head.Tie as tie
 
-is-question-requires : tie.Need-is-question-requires
-is-question-requires c κs = search needs
-
 returns : tie.Need-returns
 returns c = ap (λ b. b || eqb (c .before .args .kind) 15) (c .is-question .ensures)
 
 pub is-head-spec : {M : Type 1} → statement M
-is-head-spec = tie.close (tie.spec is-question-requires returns)
+is-head-spec = tie.close (tie.spec (λ c κs. search needs) returns)

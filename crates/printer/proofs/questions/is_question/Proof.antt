@@ -2,8 +2,5 @@ use mathlib.Core.Path.{refl}
 use Rattle.printer.proofs.questions.is_question.Statement.{statement}
 use Rattle.printer.proofs.questions.is_question.Tie as tie
 
-returns : tie.Need-returns
-returns c = refl
-
 pub is-question-spec : {M : Type 1} → statement M
-is-question-spec = tie.close (tie.spec returns)
+is-question-spec = tie.close (tie.spec (λ c. refl))

@@ -5,12 +5,6 @@ use Rattle.snapshot.proofs.Laws.{past}
 use Rattle.printing.proofs.input.byte.Statement.{statement}
 use Rattle.printing.proofs.input.byte.Tie as tie
 
-shared-slice-read-wide : tie.Need-shared-slice-read-wide
-shared-slice-read-wide c = search needs
-
-wide-requires : tie.Need-wide-requires
-wide-requires c κs = search needs
-
 returns : tie.Need-returns
 returns c =
     let a = c .before .before .before .before .args in
@@ -20,4 +14,4 @@ returns-2 : tie.Need-returns-2
 returns-2 c = (past (now (c .before .before .args .bytes)) _ (c .if1 .left), omega arith)
 
 pub byte-spec : {M : Type 1} → statement M
-byte-spec = tie.close (tie.spec shared-slice-read-wide wide-requires returns returns-2)
+byte-spec = tie.close (tie.spec (λ c. search needs) (λ c κs. search needs) returns returns-2)

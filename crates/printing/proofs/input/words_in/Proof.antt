@@ -16,29 +16,16 @@ abbrev μ-loop : tie.MeasureT-loop
 loop-holds : tie.Need-loop-holds Inv-loop μ-loop
 loop-holds c = (omega arith, refl, rows-empty _, refl)
 
-mul-word-in : tie.Need-mul-word-in Inv-loop μ-loop
-mul-word-in c = omega arith
-
-word-in-requires : tie.Need-word-in-requires Inv-loop μ-loop
-word-in-requires c κs = omega arith
-
-mul-words : tie.Need-mul-words Inv-loop μ-loop
-mul-words c = omega arith
-
-slice-write-words : tie.Need-slice-write-words Inv-loop μ-loop
-slice-write-words c = omega arith
-
-add-k : tie.Need-add-k Inv-loop μ-loop
-add-k c = omega arith
-
-loop-less : tie.Need-loop-less Inv-loop μ-loop
-loop-less c = omega arith
-
 loop-again : tie.Need-loop-again Inv-loop μ-loop
 loop-again c =
     let l = c .before .before .loop in
-    let h : l .k < length (l .words) = omega arith in
-    (omega arith, (simp length-set) ∙ l .inv .1, words-next _ (l .words) (l .k) _ h (l .inv .2) (c .word-in .ensures), past-next (l .words) _ (l .k) _ (l .inv .3))
+    let h : l .k < length (l .words) = omega arith in (
+      omega arith,
+      (simp length-set) ∙ l .inv .1,
+      words-next _ (l .words) (l .k) _ h (l .inv .2) (c .word-in .ensures),
+      past-next
+          (l .words) _ (l .k) _ (l .inv .3),
+    )
 
 same-length : tie.Need-same-length Inv-loop μ-loop
 same-length c = c .before .loop .inv .1
@@ -51,17 +38,5 @@ returns c =
 
 pub words-in-spec : {M : Type 1} → statement M
 words-in-spec =
-    tie.close
-    (tie.spec
-    Inv-loop
-    μ-loop
-    loop-holds
-    mul-word-in
-    word-in-requires
-    mul-words
-    slice-write-words
-    add-k
-    loop-less
-    loop-again
-    same-length
-    returns)
+    tie.close (tie.spec Inv-loop μ-loop loop-holds (λ c. omega arith) (λ c κs. omega arith) (λ c. omega arith)
+    (λ c. omega arith) (λ c. omega arith) (λ c. omega arith) loop-again same-length returns)

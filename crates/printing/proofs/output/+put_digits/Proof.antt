@@ -23,101 +23,60 @@ abbrev put-digits-below : ℕ → In 1 put-digits-kinds.ps
 put-digits-below t =
     and 1 put-digits-kinds.ps (falls 1 put-digits-kinds.ps _<_ μ-put-digits t) put-digits.Pre
 
-put-digits-returns : (t : ℕ) → put-digits-lts.Need-returns (
+abbrev put-digits-claims : ℕ → put-digits-lts.Claims
+put-digits-claims t = (
   put-digit-reads.Asked,
   put-digit-reads.Learnt,
   put-digits-below t,
   put-digits.Post,
-) (put-digits-at t) put-digits.Post
+)
+
+put-digits-returns : (t : ℕ) → put-digits-lts.Need-returns (put-digits-claims t) (put-digits-at t) put-digits.Post
 put-digits-returns t c =
     let a = c .before .before .args in
     put-as (decimal-none (a .most) (a .n) (c .if1 .taken)) (put-none (now (a .out)) (a .at))
 
-put-digits-put-digit-requires : (t : ℕ) → put-digits-lts.Need-put-digit-requires (
-  put-digit-reads.Asked,
-  put-digit-reads.Learnt,
-  put-digits-below t,
-  put-digits.Post,
-) (put-digits-at t) put-digits.Post
+put-digits-put-digit-requires :
+    (t : ℕ) → put-digits-lts.Need-put-digit-requires (put-digits-claims t) (put-digits-at t) put-digits.Post
 put-digits-put-digit-requires t c κs = (omega arith, omega arith)
 
-put-digits-same-length : (t : ℕ) → put-digits-lts.Need-same-length (
-  put-digit-reads.Asked,
-  put-digit-reads.Learnt,
-  put-digits-below t,
-  put-digits.Post,
-) (put-digits-at t) put-digits.Post
+put-digits-same-length :
+    (t : ℕ) → put-digits-lts.Need-same-length (put-digits-claims t) (put-digits-at t) put-digits.Post
 put-digits-same-length t c = c .before .before .put-digit .kept .0
 
-put-digits-returns-2 : (t : ℕ) → put-digits-lts.Need-returns-2 (
-  put-digit-reads.Asked,
-  put-digit-reads.Learnt,
-  put-digits-below t,
-  put-digits.Post,
-) (put-digits-at t) put-digits.Post
+put-digits-returns-2 : (t : ℕ) → put-digits-lts.Need-returns-2 (put-digits-claims t) (put-digits-at t) put-digits.Post
 put-digits-returns-2 t c =
     put-as (decimal-last _ _ (omega arith) (omega arith)) (c .before .before .put-digit .ensures)
 
-put-digits-sub-put-digits : (t : ℕ) → put-digits-lts.Need-sub-put-digits (
-  put-digit-reads.Asked,
-  put-digit-reads.Learnt,
-  put-digits-below t,
-  put-digits.Post,
-) (put-digits-at t) put-digits.Post
-put-digits-sub-put-digits t c = omega arith
-
-put-digits-put-digits-requires : (t : ℕ) → put-digits-lts.Need-put-digits-requires (
-  put-digit-reads.Asked,
-  put-digit-reads.Learnt,
-  put-digits-below t,
-  put-digits.Post,
-) (put-digits-at t) put-digits.Post
+put-digits-put-digits-requires :
+    (t : ℕ) → put-digits-lts.Need-put-digits-requires (put-digits-claims t) (put-digits-at t) put-digits.Post
 put-digits-put-digits-requires t c κs = (omega arith, omega arith)
 
-put-digits-put-digit-requires-2 : (t : ℕ) → put-digits-lts.Need-put-digit-requires-2 (
-  put-digit-reads.Asked,
-  put-digit-reads.Learnt,
-  put-digits-below t,
-  put-digits.Post,
-) (put-digits-at t) put-digits.Post
+put-digits-put-digit-requires-2 : (t : ℕ) → put-digits-lts.Need-put-digit-requires-2 (put-digits-claims t) (put-digits-at t) put-digits.Post
 put-digits-put-digit-requires-2 t c κs =
     let a = c .before .before .before .before .before .before .before .before .args in
     let h = length-decimal (a .most - 1) (a .n / 10) in
     (omega arith, omega arith)
 
-put-digits-same-length-2 : (t : ℕ) → put-digits-lts.Need-same-length-2 (
-  put-digit-reads.Asked,
-  put-digit-reads.Learnt,
-  put-digits-below t,
-  put-digits.Post,
-) (put-digits-at t) put-digits.Post
+put-digits-same-length-2 :
+    (t : ℕ) → put-digits-lts.Need-same-length-2 (put-digits-claims t) (put-digits-at t) put-digits.Post
 put-digits-same-length-2 t c = c .before .before .put-digit2 .kept .0 ∙ c .before .before .before .before .before .before .put-digits .kept .0
 
-put-digits-returns-3 : (t : ℕ) → put-digits-lts.Need-returns-3 (
-  put-digit-reads.Asked,
-  put-digit-reads.Learnt,
-  put-digits-below t,
-  put-digits.Post,
-) (put-digits-at t) put-digits.Post
+put-digits-returns-3 : (t : ℕ) → put-digits-lts.Need-returns-3 (put-digits-claims t) (put-digits-at t) put-digits.Post
 put-digits-returns-3 t c =
     let a = c .before .before .before .before .before .before .before .before .before .before .before .args in
     put-as (decimal-more (a .most) (a .n) (omega arith) (omega arith))
     (put-two (c .before .before .before .before .before .before .put-digits .ensures) (c .before .before .put-digit2 .ensures))
 
 pub +put-digits-spec : {M : Type 1} → statement M
-+put-digits-spec = close μ-put-digits λ t. put-digits-lts.spec (
-  put-digit-reads.Asked,
-  put-digit-reads.Learnt,
-  put-digits-below t,
-  put-digits.Post,
-)
++put-digits-spec = close μ-put-digits λ t. put-digits-lts.spec (put-digits-claims t)
     (put-digits-at t)
     put-digits.Post
     (put-digits-returns t)
     (put-digits-put-digit-requires t)
     (put-digits-same-length t)
     (put-digits-returns-2 t)
-    (put-digits-sub-put-digits t)
+    (λ c. omega arith)
     (put-digits-put-digits-requires t)
     (put-digits-put-digit-requires-2 t)
     (put-digits-same-length-2 t)

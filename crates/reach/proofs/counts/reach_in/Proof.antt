@@ -6,7 +6,8 @@ use native.Mathlib.Omega.{arith}
 use denote.Ref.{now}
 use Rattle.search_laws.proofs.Tables.{same-reads}
 use Rattle.hir_def.proofs.Fits.{few-words}
-use Rattle.reach.proofs.Laws.{not-met, met, Reaching, reaching-start, reaching-met, reaching-new, reaching-done, entry-fits, report-fits, report-entry}
+use Rattle.reach.proofs.Laws.{not-met, met, Reaching, reaching-start, reaching-met, reaching-new, reaching-done, entry-fits, report-fits}
+use Rattle.reach.proofs.Laws.{report-entry}
 use Rattle.reach.proofs.counts.reach_in.Statement.{statement}
 use Rattle.reach.proofs.counts.reach_in.Tie as tie
 
@@ -20,9 +21,6 @@ scope-base-requires : tie.Need-scope-base-requires Inv-loop μ-loop
 scope-base-requires c κs =
     let s = c .before .before in
     few-words (now (s .args .words)) (now (s .args .area)) (s .args .l) (s .pre .0)
-
-refused-requires : tie.Need-refused-requires Inv-loop μ-loop
-refused-requires c κs = search needs
 
 loop-holds : tie.Need-loop-holds Inv-loop μ-loop
 loop-holds c =
@@ -45,7 +43,15 @@ add-report-for c =
     let i = c .before .before .before in
     let b = i .before .before .before .before in
     let s = b .before .before .before in
-    record { fits = omega (arith, i .if1 .taken, b .scope-base .ensures, few-words (now (s .args .words)) (now (s .args .area)) (s .args .l) (s .pre .0)) }
+    record {
+      fits = omega (
+        arith,
+        i .if1 .taken,
+        b .scope-base .ensures,
+        few-words (now (s .args .words)) (now (s .args .area))
+            (s .args .l) (s .pre .0),
+      );
+    }
 
 report-for-requires : tie.Need-report-for-requires Inv-loop μ-loop
 report-for-requires c κs =
@@ -54,8 +60,11 @@ report-for-requires c κs =
     let b = o .before .before in
     let s = b .before .before .before in
     let W = now (s .args .words) in
-    let r = same-reads W (now (s .args .area)) (o .loop .area) (s .args .l) (o .loop .inv .tables) (s .pre .0) in
-    ((r, o .loop .inv .size ∙ s .pre .1, s .pre .2, s .pre .3, s .pre .4, s .pre .5), entry-fits W (o .loop .area) (s .args .l) r (o .loop .k) _ (i .if1 .taken) (b .scope-base .ensures))
+    let r = same-reads W (now (s .args .area)) (o .loop .area) (s .args .l) (o .loop .inv .tables) (s .pre .0) in (
+      (r, o .loop .inv .size ∙ s .pre .1, s .pre .2, s .pre .3, s .pre .4, s .pre .5),
+      entry-fits W (o .loop .area) (s .args .l) r
+          (o .loop .k) _ (i .if1 .taken) (b .scope-base .ensures),
+    )
 
 tally-requires : tie.Need-tally-requires Inv-loop μ-loop
 tally-requires c κs =
@@ -66,7 +75,8 @@ tally-requires c κs =
     let s = b .before .before .before in
     let W = now (s .args .words) in
     let r = same-reads W (now (s .args .area)) (o .loop .area) (s .args .l) (o .loop .inv .tables) (s .pre .0) in
-    report-fits W (o .loop .area) (s .args .l) r (o .loop .k) _ (i .if1 .taken) (b .scope-base .ensures) (s .args .v) (record { some = s .pre .4; most = s .pre .5 }) (o .loop .reach .counts) _ (f .report-for .ensures .0) (o .loop .inv .within)
+    report-fits W (o .loop .area) (s .args .l) r (o .loop .k) _ (i .if1 .taken) (b .scope-base .ensures) (s .args .v)
+    (record { some = s .pre .4; most = s .pre .5 }) (o .loop .reach .counts) _ (f .report-for .ensures .0) (o .loop .inv .within)
 
 add-k : tie.Need-add-k Inv-loop μ-loop
 add-k c =
@@ -90,12 +100,16 @@ loop-again c =
     ⊎-elim
     (λ w.
     subst (λ x. Reaching W A₀ (s .args .l) (s .args .v) x (c .if2 .reach) (o .loop .k + 1)) (sym (w .6))
-    (reaching-new W A₀ (s .args .l) (s .args .v) (o .loop .area) (o .loop .reach) (o .loop .k) (o .loop .inv) (i .if1 .taken) (not-met _ (w .0 .taken) ∙ m .is-met .ensures A₀) (record { some = s .pre .4; most = s .pre .5 }) (s .pre .0) _ _ (w .2 .ensures .1) (w .2 .kept .1 .0)
-    (report-entry W (o .loop .area) (s .args .l) r (o .loop .k) _ (i .if1 .taken) (b .scope-base .ensures) (s .args .v) _ (w .2 .ensures .0)) _ (w .7 ∙ w .5 .ensures)))
+    (reaching-new W A₀ (s .args .l) (s .args .v) (o .loop .area) (o .loop .reach) (o .loop .k) (o .loop .inv) (i .if1 .taken)
+    (not-met _ (w .0 .taken) ∙ m .is-met .ensures A₀) (record { some = s .pre .4; most = s .pre .5 }) (s .pre .0) _ _
+    (w .2 .ensures .1) (w .2 .kept .1 .0)
+    (report-entry W (o .loop .area) (s .args .l) r (o .loop .k) _ (i .if1 .taken) (b .scope-base .ensures) (s .args .v) _ (w .2 .ensures .0)) _
+    (w .7 ∙ w .5 .ensures)))
     (λ w.
     subst (λ x. Reaching W A₀ (s .args .l) (s .args .v) x (c .if2 .reach) (o .loop .k + 1)) (sym (w .1))
     (subst (λ x. Reaching W A₀ (s .args .l) (s .args .v) (o .loop .area) x (o .loop .k + 1)) (sym (w .2))
-    (reaching-met W A₀ (s .args .l) (s .args .v) (o .loop .area) (o .loop .reach) (o .loop .k) (o .loop .inv) (i .if1 .taken) (met _ (w .0 .left) ∙ m .is-met .ensures A₀))))
+    (reaching-met W A₀ (s .args .l) (s .args .v) (o .loop .area) (o .loop .reach) (o .loop .k) (o .loop .inv) (i .if1 .taken)
+    (met _ (w .0 .left) ∙ m .is-met .ensures A₀))))
     (c .if2 .came)
 
 same-length : tie.Need-same-length Inv-loop μ-loop
@@ -104,25 +118,13 @@ same-length c = c .before .before .loop .inv .size
 returns : tie.Need-returns Inv-loop μ-loop
 returns c =
     let o = c .before .before in
-    let s = o .before .before .before .before .before in
-    (reaching-done (now (s .args .words)) (now (s .args .area)) (s .args .l) (s .args .v) (o .loop .area) (o .loop .reach) (o .loop .k) (o .loop .inv) (c .if1 .left), o .loop .inv .tables)
+    let s = o .before .before .before .before .before in (
+      reaching-done (now (s .args .words)) (now (s .args .area)) (s .args .l) (s .args .v) (o .loop .area) (o .loop .reach)
+          (o .loop .k) (o .loop .inv) (c .if1 .left),
+      o .loop .inv .tables,
+    )
 
 pub reach-in-spec : {M : Type 1} → statement M
 reach-in-spec =
-    tie.close
-    (tie.spec
-    Inv-loop
-    μ-loop
-    scope-base-requires
-    refused-requires
-    loop-holds
-    is-met-requires
-    mul-report-for
-    add-report-for
-    report-for-requires
-    tally-requires
-    add-k
-    loop-less
-    loop-again
-    same-length
-    returns)
+    tie.close (tie.spec Inv-loop μ-loop scope-base-requires (λ c κs. search needs) loop-holds is-met-requires
+    mul-report-for add-report-for report-for-requires tally-requires add-k loop-less loop-again same-length returns)

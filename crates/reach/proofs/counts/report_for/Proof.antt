@@ -8,12 +8,6 @@ use Rattle.reach_parts.specs.Reach.{queryFor, reportFor}
 use Rattle.reach.proofs.counts.report_for.Statement.{statement}
 use Rattle.reach.proofs.counts.report_for.Tie as tie
 
-scope-ns-requires : tie.Need-scope-ns-requires
-scope-ns-requires c κs = search needs
-
-scope-definition-requires : tie.Need-scope-definition-requires
-scope-definition-requires c κs = search needs
-
 report-in-requires : tie.Need-report-in-requires
 report-in-requires c κs =
     let d = c .before .before in
@@ -28,9 +22,6 @@ report-in-requires c κs =
       s .pre .0 .5,
     )
 
-same-length : tie.Need-same-length
-same-length c = search needs
-
 returns : tie.Need-returns
 unfolding reportFor
 returns c =
@@ -39,10 +30,11 @@ returns c =
     let s = d .before .before .before .before in
     let S = snapOf (now (s .args .words)) (now (s .args .area)) (s .args .l) in (
       f .report-in .ensures .0
-          ∙ ap₂ (λ n m. let q = queryFor (s .args .v) n m in reported S q (searched S q (s .args .v .fuel))) (d .before .scope-ns .ensures) (d .scope-definition .ensures),
+          ∙ ap₂ (λ n m. let q = queryFor (s .args .v) n m in reported S q (searched S q (s .args .v .fuel))) (d .before .scope-ns .ensures)
+          (d .scope-definition .ensures),
       f .report-in .ensures .1,
     )
 
 pub report-for-spec : {M : Type 1} → statement M
 report-for-spec =
-    tie.close (tie.spec scope-ns-requires scope-definition-requires report-in-requires same-length returns)
+    tie.close (tie.spec (λ c κs. search needs) (λ c κs. search needs) report-in-requires (λ c. search needs) returns)

@@ -7,18 +7,6 @@ use Rattle.reach_parts.specs.Reach.{reachLine}
 use Rattle.reach.proofs.lines.reach_line_on.Statement.{statement}
 use Rattle.reach.proofs.lines.reach_line_on.Tie as tie
 
-reach-on-requires : tie.Need-reach-on-requires
-reach-on-requires c κs = search needs
-
-put-reach-requires : tie.Need-put-reach-requires
-put-reach-requires c κs = search needs
-
-same-length : tie.Need-same-length
-same-length c = search needs
-
-same-length-2 : tie.Need-same-length-2
-same-length-2 c = search needs
-
 returns : tie.Need-returns
 returns c =
     let p = c .before .before in
@@ -26,4 +14,4 @@ returns c =
     record { line = put-as (ap (λ x. reachLine x ++ bytesOf "\n") (r .reach)) (p .put-reach .ensures); checked = r .checked }
 
 pub reach-line-on-spec : {M : Type 1} → statement M
-reach-line-on-spec = tie.close (tie.spec reach-on-requires put-reach-requires same-length same-length-2 returns)
+reach-line-on-spec = tie.close (tie.spec (λ c κs. search needs) (λ c κs. search needs) (λ c. search needs) (λ c. search needs) returns)

@@ -8,25 +8,14 @@ use Rattle.reach.proofs.Laws.{reach-earlier, reach-verdict}
 use Rattle.reach.proofs.reach.reach_on.Statement.{statement}
 use Rattle.reach.proofs.reach.reach_on.Tie as tie
 
-call-fault-requires : tie.Need-call-fault-requires
-call-fault-requires c κs = search needs
-
-number-of-requires : tie.Need-number-of-requires
-number-of-requires c κs = search needs
-
-earlier-requires : tie.Need-earlier-requires
-earlier-requires c κs = search needs
-
-refused-requires : tie.Need-refused-requires
-refused-requires c κs = search needs
-
 returns : tie.Need-returns
 returns c =
     let e = c .before .before in
     let f = e .before .before in
     let s = f .before .before .before .before in
     record {
-      reach = reach-earlier (s .args .v) _ (now (s .args .words)) (now (s .args .area)) _ (c .before .if1 .taken) (c .refused .ensures) (s .args .c) (s .pre .0) _ _ (fault-at _ _ _ _ (s .pre .1) (f .call-fault .ensures)) (e .before .number-of .ensures) (e .earlier .ensures);
+      reach = reach-earlier (s .args .v) _ (now (s .args .words)) (now (s .args .area)) _ (c .before .if1 .taken) (c .refused .ensures)
+          (s .args .c) (s .pre .0) _ _ (fault-at _ _ _ _ (s .pre .1) (f .call-fault .ensures)) (e .before .number-of .ensures) (e .earlier .ensures);
       checked = s .pre .0;
     }
 
@@ -39,9 +28,6 @@ reach-by-requires c κs =
     let k = fault-free areaLimit (queryFor (s .args .v) 0 0) (s .args .v .fuel) (z ∙ fault-at _ _ _ _ (s .pre .1) (f .call-fault .ensures)) in
     (s .pre .0, s .pre .1, k .1, k .3, k .4)
 
-same-length : tie.Need-same-length
-same-length c = search needs
-
 returns-2 : tie.Need-returns-2
 returns-2 c =
     let b = c .before .before in
@@ -50,19 +36,12 @@ returns-2 c =
     let s = f .before .before .before .before in
     let z = none-earlier (f .call-fault .result) (e .before .number-of .result) (sym (b .before .before .if1 .left) ∙ e .earlier .ensures) in
     record {
-      reach = reach-verdict (s .args .v) _ (now (s .args .words)) areaLimit _ (fault-at _ _ _ _ (s .pre .1) (f .call-fault .ensures)) (sym z) (b .reach-by .ensures .0);
+      reach = reach-verdict (s .args .v) _ (now (s .args .words)) areaLimit _ (fault-at _ _ _ _ (s .pre .1) (f .call-fault .ensures))
+          (sym z) (b .reach-by .ensures .0);
       checked = b .reach-by .ensures .1;
     }
 
 pub reach-on-spec : {M : Type 1} → statement M
 reach-on-spec =
-    tie.close
-    (tie.spec
-    call-fault-requires
-    number-of-requires
-    earlier-requires
-    refused-requires
-    returns
-    reach-by-requires
-    same-length
-    returns-2)
+    tie.close (tie.spec (λ c κs. search needs) (λ c κs. search needs) (λ c κs. search needs) (λ c κs. search needs)
+    returns reach-by-requires (λ c. search needs) returns-2)

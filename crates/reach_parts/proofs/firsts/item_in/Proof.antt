@@ -6,20 +6,12 @@ use Rattle.hir_def.specs.Items.{itemOf}
 use Rattle.reach_parts.proofs.firsts.item_in.Statement.{statement}
 use Rattle.reach_parts.proofs.firsts.item_in.Tie as tie
 
-scope-ns-requires : tie.Need-scope-ns-requires
-scope-ns-requires c κs = search needs
-
-scope-definition-requires : tie.Need-scope-definition-requires
-scope-definition-requires c κs = search needs
-
-item-of-requires : tie.Need-item-of-requires
-item-of-requires c κs = search needs
-
 returns : tie.Need-returns
 returns c =
     λ A.
     let s = c .before .before .before .before in
-    c .item-of .ensures A ∙ ap₂ (itemOf (snapOf (now (s .args .words)) A (s .args .l))) (c .before .before .scope-ns .ensures) (c .before .scope-definition .ensures)
+    c .item-of .ensures A ∙ ap₂ (itemOf (snapOf (now (s .args .words)) A (s .args .l))) (c .before .before .scope-ns .ensures)
+    (c .before .scope-definition .ensures)
 
 pub item-in-spec : {M : Type 1} → statement M
-item-in-spec = tie.close (tie.spec scope-ns-requires scope-definition-requires item-of-requires returns)
+item-in-spec = tie.close (tie.spec (λ c κs. search needs) (λ c κs. search needs) (λ c κs. search needs) returns)

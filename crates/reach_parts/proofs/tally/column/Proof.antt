@@ -6,9 +6,6 @@ use Rattle.reach_parts.proofs.tally.column.Tie as tie
 returns : tie.Need-returns
 returns c = found-column _ (c .if1 .taken)
 
-add-result : tie.Need-add-result
-add-result c = search needs
-
 returns-2 : tie.Need-returns-2
 returns-2 c = none-column _ (c .before .before .before .if1 .left) (c .before .if2 .taken)
 
@@ -16,4 +13,4 @@ returns-3 : tie.Need-returns-3
 returns-3 c = other-column _ (c .before .before .if1 .left) (c .if2 .left)
 
 pub column-spec : {M : Type 1} → statement M
-column-spec = tie.close (tie.spec returns add-result returns-2 returns-3)
+column-spec = tie.close (tie.spec returns (λ c. search needs) returns-2 returns-3)

@@ -16,7 +16,8 @@ use Rattle.read_back.proofs.blocks.entry_from.Statement.{statement}
 use Rattle.read_back.proofs.blocks.entry_from.Tie as tie
 
 abbrev Inv-loop : tie.InvT-loop
-Inv-loop words area l ns name m₀ m = (entryFrom (snapOf words area l) (m₀ .0) ns (name .0) ≡ entryFrom (snapOf words area l) (m .0) ns (name .0)) × (m .0 < l .modules)
+Inv-loop words area l ns name m₀ m = (entryFrom (snapOf words area l) (m₀ .0) ns (name .0) ≡ entryFrom (snapOf words area l) (m .0) ns (name .0))
+    × (m .0 < l .modules)
 
 abbrev μ-loop : tie.MeasureT-loop
 μ-loop words area l ns name m₀ m = m .0
@@ -27,41 +28,38 @@ loop-holds c = (refl, c .before .before .pre .1)
 get-requires : tie.Need-get-requires Inv-loop μ-loop
 get-requires c κs = let s = c .before .before .before in few-words (now (s .args .words)) (now (s .args .area)) (s .args .l) (s .pre .0)
 
-enum-known-e : tie.Need-enum-known-e Inv-loop μ-loop
-enum-known-e c = search needs
-
 returns : tie.Need-returns Inv-loop μ-loop
 returns c =
     let s = c .before .before .before .before .before .before .before in
     let g = c .before .before .before .before .loop in
     let n = snapOf (now (s .args .words)) (now (s .args .area)) (s .args .l) in
-    from-here n (outward-falls n (accepted-tree (now (s .args .words)) n (s .pre .0 .same))) (g .m .0) (rw (length-modules (now (s .args .words)) (now (s .args .area)) (s .args .l)) (g .inv .1)) (s .args .ns) (s .args .name .0) (sym (c .before .before .before .get .ensures (now (s .args .area))) ∙ ap (entryOf scopeAt (now (s .args .words))) (c .before .e .given .1)) ∙ sym (g .inv .0)
-
-enum-told : tie.Need-enum-told Inv-loop μ-loop
-enum-told c = search needs
+    from-here n (outward-falls n (accepted-tree (now (s .args .words)) n (s .pre .0 .same))) (g .m .0)
+    (rw (length-modules (now (s .args .words)) (now (s .args .area)) (s .args .l)) (g .inv .1)) (s .args .ns) (s .args .name .0)
+    (sym (c .before .before .before .get .ensures (now (s .args .area))) ∙ ap (entryOf scopeAt (now (s .args .words))) (c .before .e .given .1))
+    ∙ sym (g .inv .0)
 
 outward-requires : tie.Need-outward-requires Inv-loop μ-loop
 outward-requires c κs = (c .before .before .before .before .before .before .pre .0, c .before .before .before .loop .inv .1)
-
-enum-known-b : tie.Need-enum-known-b Inv-loop μ-loop
-enum-known-b c = search needs
-
-enum-told-2 : tie.Need-enum-told-2 Inv-loop μ-loop
-enum-told-2 c = search needs
 
 returns-2 : tie.Need-returns-2 Inv-loop μ-loop
 returns-2 c =
     let s = c .before .before .before .before .before .before .before .before .before in
     let g = c .before .before .before .before .before .before .loop in
     let n = snapOf (now (s .args .words)) (now (s .args .area)) (s .args .l) in
-    from-end n (outward-falls n (accepted-tree (now (s .args .words)) n (s .pre .0 .same))) (g .m .0) (rw (length-modules (now (s .args .words)) (now (s .args .area)) (s .args .l)) (g .inv .1)) (s .args .ns) (s .args .name .0) (sym (c .before .before .before .before .before .get .ensures (now (s .args .area))) ∙ ap (entryOf scopeAt (now (s .args .words))) (c .before .before .before .enum-told .given .1)) (is-none _ (c .before .before .outward .ensures) (c .enum-told2 .given .1)) ∙ sym (g .inv .0)
+    from-end n (outward-falls n (accepted-tree (now (s .args .words)) n (s .pre .0 .same))) (g .m .0)
+    (rw (length-modules (now (s .args .words)) (now (s .args .area)) (s .args .l)) (g .inv .1)) (s .args .ns) (s .args .name .0)
+    (sym (c .before .before .before .before .before .get .ensures (now (s .args .area)))
+    ∙ ap (entryOf scopeAt (now (s .args .words))) (c .before .before .before .enum-told .given .1))
+    (is-none _ (c .before .before .outward .ensures) (c .enum-told2 .given .1)) ∙ sym (g .inv .0)
 
 loop-less : tie.Need-loop-less Inv-loop μ-loop
 loop-less c =
     let s = c .before .before .before .before .before .before .before .before .before .before in
     let g = c .before .before .before .before .before .before .before .loop in
     let n = snapOf (now (s .args .words)) (now (s .args .area)) (s .args .l) in
-    outward-falls n (accepted-tree (now (s .args .words)) n (s .pre .0 .same)) (g .m .0) _ (rw (length-modules (now (s .args .words)) (now (s .args .area)) (s .args .l)) (g .inv .1)) (is-some _ (c .before .before .before .outward .ensures) (c .before .b .given .1))
+    outward-falls n (accepted-tree (now (s .args .words)) n (s .pre .0 .same)) (g .m .0) _
+    (rw (length-modules (now (s .args .words)) (now (s .args .area)) (s .args .l)) (g .inv .1))
+    (is-some _ (c .before .before .before .outward .ensures) (c .before .b .given .1))
 
 loop-again : tie.Need-loop-again Inv-loop μ-loop
 loop-again c =
@@ -70,23 +68,14 @@ loop-again c =
     let n = snapOf (now (s .args .words)) (now (s .args .area)) (s .args .l) in
     let f = outward-falls n (accepted-tree (now (s .args .words)) n (s .pre .0 .same)) in
     let e = is-some _ (c .before .before .before .outward .ensures) (c .before .b .given .1) in
-    let d = f (g .m .0) _ (rw (length-modules (now (s .args .words)) (now (s .args .area)) (s .args .l)) (g .inv .1)) e in
-    (g .inv .0 ∙ from-on n f (g .m .0) (rw (length-modules (now (s .args .words)) (now (s .args .area)) (s .args .l)) (g .inv .1)) (s .args .ns) (s .args .name .0) (sym (c .before .before .before .before .before .before .get .ensures (now (s .args .area))) ∙ ap (entryOf scopeAt (now (s .args .words))) (c .before .before .before .before .enum-told .given .1)) _ e, omega (arith, d, g .inv .1))
+    let d = f (g .m .0) _ (rw (length-modules (now (s .args .words)) (now (s .args .area)) (s .args .l)) (g .inv .1)) e in (
+      g .inv .0 ∙ from-on n f (g .m .0) (rw (length-modules (now (s .args .words)) (now (s .args .area)) (s .args .l)) (g .inv .1))
+          (s .args .ns) (s .args .name .0) (sym (c .before .before .before .before .before .before .get .ensures (now (s .args .area)))
+          ∙ ap (entryOf scopeAt (now (s .args .words))) (c .before .before .before .before .enum-told .given .1)) _ e,
+      omega (arith, d, g .inv .1),
+    )
 
 pub entry-from-spec : {M : Type 1} → statement M
 entry-from-spec =
-    tie.close
-    (tie.spec
-    Inv-loop
-    μ-loop
-    loop-holds
-    get-requires
-    enum-known-e
-    returns
-    enum-told
-    outward-requires
-    enum-known-b
-    enum-told-2
-    returns-2
-    loop-less
-    loop-again)
+    tie.close (tie.spec Inv-loop μ-loop loop-holds get-requires (λ c. search needs) returns (λ c. search needs)
+    outward-requires (λ c. search needs) (λ c. search needs) returns-2 loop-less loop-again)

@@ -6,18 +6,6 @@ use Rattle.read_back.proofs.Outward.{outward-root, outward-not}
 use Rattle.read_back.proofs.blocks.outward.Statement.{statement}
 use Rattle.read_back.proofs.blocks.outward.Tie as tie
 
-parent-requires : tie.Need-parent-requires
-parent-requires c κs = search needs
-
-enum-told : tie.Need-enum-told
-enum-told c = search needs
-
-enum-told-2 : tie.Need-enum-told-2
-enum-told-2 c = search needs
-
-block-requires : tie.Need-block-requires
-block-requires c κs = search needs
-
 returns : tie.Need-returns
 unfolding plusOne
 returns c = outward-not _ _ (is-some _ (c .before .before .parent .ensures) (c .enum-told .given .1))
@@ -27,4 +15,4 @@ returns-2 c = c .block .ensures ∙ sym (outward-root _ _ (is-none _ (c .before 
 
 pub outward-spec : {M : Type 1} → statement M
 outward-spec =
-    tie.close (tie.spec parent-requires enum-told enum-told-2 block-requires returns returns-2)
+    tie.close (tie.spec (λ c κs. search needs) (λ c. search needs) (λ c. search needs) (λ c κs. search needs) returns returns-2)

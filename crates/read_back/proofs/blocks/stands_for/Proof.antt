@@ -24,25 +24,25 @@ loop-holds c = (refl, c .before .before .pre .1)
 outward-requires : tie.Need-outward-requires Inv-loop μ-loop
 outward-requires c κs = (c .before .before .before .pre .0, c .loop .inv .1)
 
-enum-known-b : tie.Need-enum-known-b Inv-loop μ-loop
-enum-known-b c = search needs
-
-enum-told : tie.Need-enum-told Inv-loop μ-loop
-enum-told c = search needs
-
 returns : tie.Need-returns Inv-loop μ-loop
 returns c =
     let s = c .before .before .before .before .before .before in
     let g = c .before .before .before .loop in
-    let n = snapOf (now (s .args .words)) (now (s .args .area)) (s .args .l) in
-    (stands-here n (outward-falls n (accepted-tree (now (s .args .words)) n (s .pre .0 .same))) (g .t .0) (rw (length-modules (now (s .args .words)) (now (s .args .area)) (s .args .l)) (g .inv .1)) (is-none _ (c .before .before .outward .ensures) (c .enum-told .given .1)) ∙ sym (g .inv .0), g .inv .1)
+    let n = snapOf (now (s .args .words)) (now (s .args .area)) (s .args .l) in (
+      stands-here n (outward-falls n (accepted-tree (now (s .args .words)) n (s .pre .0 .same))) (g .t .0)
+          (rw (length-modules (now (s .args .words)) (now (s .args .area)) (s .args .l)) (g .inv .1))
+          (is-none _ (c .before .before .outward .ensures) (c .enum-told .given .1)) ∙ sym (g .inv .0),
+      g .inv .1,
+    )
 
 loop-less : tie.Need-loop-less Inv-loop μ-loop
 loop-less c =
     let s = c .before .before .before .before .before .before .before in
     let g = c .before .before .before .before .loop in
     let n = snapOf (now (s .args .words)) (now (s .args .area)) (s .args .l) in
-    outward-falls n (accepted-tree (now (s .args .words)) n (s .pre .0 .same)) (g .t .0) _ (rw (length-modules (now (s .args .words)) (now (s .args .area)) (s .args .l)) (g .inv .1)) (is-some _ (c .before .before .before .outward .ensures) (c .before .b .given .1))
+    outward-falls n (accepted-tree (now (s .args .words)) n (s .pre .0 .same)) (g .t .0) _
+    (rw (length-modules (now (s .args .words)) (now (s .args .area)) (s .args .l)) (g .inv .1))
+    (is-some _ (c .before .before .before .outward .ensures) (c .before .b .given .1))
 
 loop-again : tie.Need-loop-again Inv-loop μ-loop
 loop-again c =
@@ -51,19 +51,13 @@ loop-again c =
     let n = snapOf (now (s .args .words)) (now (s .args .area)) (s .args .l) in
     let f = outward-falls n (accepted-tree (now (s .args .words)) n (s .pre .0 .same)) in
     let e = is-some _ (c .before .before .before .outward .ensures) (c .before .b .given .1) in
-    let d = f (g .t .0) _ (rw (length-modules (now (s .args .words)) (now (s .args .area)) (s .args .l)) (g .inv .1)) e in
-    (g .inv .0 ∙ stands-on n f (g .t .0) (rw (length-modules (now (s .args .words)) (now (s .args .area)) (s .args .l)) (g .inv .1)) _ e, omega (arith, d, g .inv .1))
+    let d = f (g .t .0) _ (rw (length-modules (now (s .args .words)) (now (s .args .area)) (s .args .l)) (g .inv .1)) e in (
+      g .inv .0 ∙ stands-on n f (g .t .0) (rw (length-modules (now (s .args .words)) (now (s .args .area)) (s .args .l)) (g .inv .1))
+          _ e,
+      omega (arith, d, g .inv .1),
+    )
 
 pub stands-for-spec : {M : Type 1} → statement M
 stands-for-spec =
-    tie.close
-    (tie.spec
-    Inv-loop
-    μ-loop
-    loop-holds
-    outward-requires
-    enum-known-b
-    enum-told
-    returns
-    loop-less
-    loop-again)
+    tie.close (tie.spec Inv-loop μ-loop loop-holds outward-requires (λ c. search needs) (λ c. search needs) returns
+    loop-less loop-again)

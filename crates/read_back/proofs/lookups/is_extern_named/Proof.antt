@@ -5,16 +5,11 @@ use lib.Dec.{eqb}
 use Rattle.read_back.proofs.lookups.is_extern_named.Statement.{statement}
 use Rattle.read_back.proofs.lookups.is_extern_named.Tie as tie
 
-extern-owner-requires : tie.Need-extern-owner-requires
-extern-owner-requires c κs = search needs
-
-extern-name-requires : tie.Need-extern-name-requires
-extern-name-requires c κs = search needs
-
 returns : tie.Need-returns
 returns c =
     let s = c .before .before .before .before .before .before .before in
-    ap₂ (λ o t. eqb o (s .args .c .0) && eqb t (s .args .name .0)) (c .before .before .before .before .before .extern-owner .ensures) (c .before .before .before .before .extern-name .ensures)
+    ap₂ (λ o t. eqb o (s .args .c .0) && eqb t (s .args .name .0)) (c .before .before .before .before .before .extern-owner .ensures)
+    (c .before .before .before .before .extern-name .ensures)
 
 pub is-extern-named-spec : {M : Type 1} → statement M
-is-extern-named-spec = tie.close (tie.spec extern-owner-requires extern-name-requires returns)
+is-extern-named-spec = tie.close (tie.spec (λ c κs. search needs) (λ c κs. search needs) returns)

@@ -5,20 +5,13 @@ use lib.Dec.{eqb}
 use Rattle.read_back.proofs.lookups.is_variant_named.Statement.{statement}
 use Rattle.read_back.proofs.lookups.is_variant_named.Tie as tie
 
-member-parent-requires : tie.Need-member-parent-requires
-member-parent-requires c κs = search needs
-
-member-name-requires : tie.Need-member-name-requires
-member-name-requires c κs = search needs
-
-member-kind-requires : tie.Need-member-kind-requires
-member-kind-requires c κs = search needs
-
 returns : tie.Need-returns
 returns c =
     let s = c .before .before .before .before .before .before .before .before in
-    ap₂ (λ o t. eqb o (s .args .d .0) && t) (c .before .before .before .before .before .before .member-parent .ensures) (ap₂ (λ n i. eqb n 0 && eqb i (s .args .name .0)) (c .before .before .member-kind .ensures) (c .before .before .before .before .before .member-name .ensures))
+    ap₂ (λ o t. eqb o (s .args .d .0) && t) (c .before .before .before .before .before .before .member-parent .ensures)
+    (ap₂ (λ n i. eqb n 0 && eqb i (s .args .name .0)) (c .before .before .member-kind .ensures)
+    (c .before .before .before .before .before .member-name .ensures))
 
 pub is-variant-named-spec : {M : Type 1} → statement M
 is-variant-named-spec =
-    tie.close (tie.spec member-parent-requires member-name-requires member-kind-requires returns)
+    tie.close (tie.spec (λ c κs. search needs) (λ c κs. search needs) (λ c κs. search needs) returns)

@@ -10,61 +10,41 @@ use Rattle.read_back.proofs.Cases.{first-entry, first-extern, first-pre
 use Rattle.read_back.proofs.names.first_name.Statement.{statement}
 use Rattle.read_back.proofs.names.first_name.Tie as tie
 
-entry-from-requires : tie.Need-entry-from-requires
-entry-from-requires c κs = search needs
-
-enum-known-h : tie.Need-enum-known-h
-enum-known-h c = search needs
-
 meaning-requires : tie.Need-meaning-requires
 meaning-requires c κs =
-    let s = c .before .before .before .before .before .before in
-    (s .pre .0, s .pre .1, from-fits (now (s .args .words)) (now (s .args .area)) (s .args .l) (s .pre .0) _ _ _ _ (sym (ap (entryOf scopeAt (now (s .args .words))) (c .before .h .given .1)) ∙ c .before .before .before .entry-from .ensures) .inside)
+    let s = c .before .before .before .before .before .before in (
+      s .pre .0,
+      s .pre .1,
+      from-fits (now (s .args .words)) (now (s .args .area)) (s .args .l) (s .pre .0) _ _ _ _
+          (sym (ap (entryOf scopeAt (now (s .args .words))) (c .before .h .given .1)) ∙ c .before .before .before .entry-from .ensures) .inside,
+    )
 
 returns : tie.Need-returns
 returns c =
     let s = c .before .before .before .before .before .before .before in
-    first-entry (snapOf (now (s .args .words)) (now (s .args .area)) (s .args .l)) (s .args .from .0) (s .args .ns) (s .args .name .0) (sym (c .before .before .before .before .entry-from .ensures) ∙ ap (entryOf scopeAt (now (s .args .words))) (c .before .before .h .given .1)) (c .meaning .ensures)
-
-enum-told : tie.Need-enum-told
-enum-told c = search needs
-
-in-externs-requires : tie.Need-in-externs-requires
-in-externs-requires c κs = search needs
-
-enum-known-x : tie.Need-enum-known-x
-enum-known-x c = search needs
-
-enum-told-2 : tie.Need-enum-told-2
-enum-told-2 c = search needs
-
-in-prelude-requires : tie.Need-in-prelude-requires
-in-prelude-requires c κs = search needs
+    first-entry (snapOf (now (s .args .words)) (now (s .args .area)) (s .args .l)) (s .args .from .0) (s .args .ns) (s .args .name .0)
+    (sym (c .before .before .before .before .entry-from .ensures) ∙ ap (entryOf scopeAt (now (s .args .words)))
+    (c .before .before .h .given .1)) (c .meaning .ensures)
 
 returns-2 : tie.Need-returns-2
 unfolding meant
 returns-2 c =
     let s = c .before .before .before .before .before .before .before .before .before in
-    first-prelude (snapOf (now (s .args .words)) (now (s .args .area)) (s .args .l)) (s .args .from .0) (s .args .ns) (s .args .name .0) (sym (c .before .before .before .before .before .before .entry-from .ensures) ∙ ap (entryOf scopeAt (now (s .args .words))) (c .before .before .before .before .enum-told .given .1)) (sym (c .before .before .before .in-externs .ensures) ∙ ap meant (c .before .enum-told2 .given .1)) (c .in-prelude .ensures)
+    first-prelude (snapOf (now (s .args .words)) (now (s .args .area)) (s .args .l)) (s .args .from .0) (s .args .ns) (s .args .name .0)
+    (sym (c .before .before .before .before .before .before .entry-from .ensures) ∙ ap (entryOf scopeAt (now (s .args .words)))
+    (c .before .before .before .before .enum-told .given .1)) (sym (c .before .before .before .in-externs .ensures)
+    ∙ ap meant (c .before .enum-told2 .given .1)) (c .in-prelude .ensures)
 
 returns-3 : tie.Need-returns-3
 unfolding meant
 returns-3 c =
     let s = c .before .before .before .before .before .before .before .before .before in
-    first-extern (snapOf (now (s .args .words)) (now (s .args .area)) (s .args .l)) (s .args .from .0) (s .args .ns) (s .args .name .0) (sym (c .before .before .before .before .before .before .entry-from .ensures) ∙ ap (entryOf scopeAt (now (s .args .words))) (c .before .before .before .before .enum-told .given .1)) (sym (c .before .before .before .in-externs .ensures) ∙ ap meant (c .before .x .given .1))
+    first-extern (snapOf (now (s .args .words)) (now (s .args .area)) (s .args .l)) (s .args .from .0) (s .args .ns) (s .args .name .0)
+    (sym (c .before .before .before .before .before .before .entry-from .ensures) ∙ ap (entryOf scopeAt (now (s .args .words)))
+    (c .before .before .before .before .enum-told .given .1)) (sym (c .before .before .before .in-externs .ensures)
+    ∙ ap meant (c .before .x .given .1))
 
 pub first-name-spec : {M : Type 1} → statement M
 first-name-spec =
-    tie.close
-    (tie.spec
-    entry-from-requires
-    enum-known-h
-    meaning-requires
-    returns
-    enum-told
-    in-externs-requires
-    enum-known-x
-    enum-told-2
-    in-prelude-requires
-    returns-2
-    returns-3)
+    tie.close (tie.spec (λ c κs. search needs) (λ c. search needs) meaning-requires returns (λ c. search needs)
+    (λ c κs. search needs) (λ c. search needs) (λ c. search needs) (λ c κs. search needs) returns-2 returns-3)

@@ -14,31 +14,32 @@ use Rattle.read_back.proofs.names.in_scope.Tie as tie
 get-requires : tie.Need-get-requires
 get-requires c κs = let s = c .before .before in few-words (now (s .args .words)) (now (s .args .area)) (s .args .l) (s .pre .0)
 
-enum-known-h : tie.Need-enum-known-h
-enum-known-h c = search needs
-
-enum-told : tie.Need-enum-told
-enum-told c = search needs
-
 returns : tie.Need-returns
 unfolding meant
 returns c =
     let s = c .before .before .before .before .before in
     let g = c .before .before in
-    entry-none (snapOf (now (s .args .words)) (now (s .args .area)) (s .args .l)) (s .args .from .0) none (sym (g .get .ensures (now (s .args .area))) ∙ ap (entryOf scopeAt (now (s .args .words))) (c .enum-told .given .1))
+    entry-none (snapOf (now (s .args .words)) (now (s .args .area)) (s .args .l)) (s .args .from .0) none
+    (sym (g .get .ensures (now (s .args .area))) ∙ ap (entryOf scopeAt (now (s .args .words))) (c .enum-told .given .1))
 
 meaning-requires : tie.Need-meaning-requires
 meaning-requires c κs =
     let s = c .before .before .before .before .before .before in
-    let g = c .before .before .before in
-    (s .pre .0, s .pre .1, get-fits (now (s .args .words)) (now (s .args .area)) (s .args .l) (s .pre .0) _ _ _ _ (sym (sym (g .get .ensures (now (s .args .area))) ∙ ap (entryOf scopeAt (now (s .args .words))) (c .before .h .given .1))) .inside)
+    let g = c .before .before .before in (
+      s .pre .0,
+      s .pre .1,
+      get-fits (now (s .args .words)) (now (s .args .area)) (s .args .l) (s .pre .0) _ _ _ _
+          (sym (sym (g .get .ensures (now (s .args .area))) ∙ ap (entryOf scopeAt (now (s .args .words))) (c .before .h .given .1))) .inside,
+    )
 
 returns-2 : tie.Need-returns-2
 returns-2 c =
     let s = c .before .before .before .before .before .before .before in
     let g = c .before .before .before .before in
-    entry-some (snapOf (now (s .args .words)) (now (s .args .area)) (s .args .l)) (s .args .from .0) none (sym (g .get .ensures (now (s .args .area))) ∙ ap (entryOf scopeAt (now (s .args .words))) (c .before .before .h .given .1)) (c .meaning .ensures)
+    entry-some (snapOf (now (s .args .words)) (now (s .args .area)) (s .args .l)) (s .args .from .0) none
+    (sym (g .get .ensures (now (s .args .area))) ∙ ap (entryOf scopeAt (now (s .args .words))) (c .before .before .h .given .1))
+    (c .meaning .ensures)
 
 pub in-scope-spec : {M : Type 1} → statement M
 in-scope-spec =
-    tie.close (tie.spec get-requires enum-known-h enum-told returns meaning-requires returns-2)
+    tie.close (tie.spec get-requires (λ c. search needs) (λ c. search needs) returns meaning-requires returns-2)

@@ -10,25 +10,10 @@ use Rattle.read_back.proofs.Cases.{meaning-seen, meaning-hidden}
 use Rattle.read_back.proofs.names.meaning.Statement.{statement}
 use Rattle.read_back.proofs.names.meaning.Tie as tie
 
-scope-visibility-requires : tie.Need-scope-visibility-requires
-scope-visibility-requires c κs = search needs
-
-scope-number-requires : tie.Need-scope-number-requires
-scope-number-requires c κs = search needs
-
 is-visible-from-requires : tie.Need-is-visible-from-requires
 is-visible-from-requires c κs =
     let s = c .before .before .before .before in
     (s .pre .0, s .pre .1, rw (c .before .scope-visibility .ensures, c .scope-number .ensures) (s .pre .2))
-
-scope-ns-requires : tie.Need-scope-ns-requires
-scope-ns-requires c κs = search needs
-
-scope-definition-requires : tie.Need-scope-definition-requires
-scope-definition-requires c κs = search needs
-
-item-of-requires : tie.Need-item-of-requires
-item-of-requires c κs = search needs
 
 returns : tie.Need-returns
 unfolding meant
@@ -36,7 +21,10 @@ returns c =
     let s = c .before .before .before .before .before .before .before .before .before in
     let n = snapOf (now (s .args .words)) (now (s .args .area)) (s .args .l) in
     let v = c .before .before .before .before in
-    meaning-seen n (s .args .from .0) (scopeAt (now (s .args .words)) (s .args .h)) (v .is-visible-from .ensures ∙ ap₂ (λ k m. isVisibleFrom n k m (s .args .from .0)) (v .before .before .scope-visibility .ensures) (v .before .scope-number .ensures)) (c .before .before .before .if1 .taken) (c .item-of .ensures (now (s .args .area)) ∙ ap₂ (itemOf n) (c .before .before .scope-ns .ensures) (c .before .scope-definition .ensures))
+    meaning-seen n (s .args .from .0) (scopeAt (now (s .args .words)) (s .args .h)) (v .is-visible-from .ensures
+    ∙ ap₂ (λ k m. isVisibleFrom n k m (s .args .from .0)) (v .before .before .scope-visibility .ensures) (v .before .scope-number .ensures))
+    (c .before .before .before .if1 .taken) (c .item-of .ensures (now (s .args .area))
+    ∙ ap₂ (itemOf n) (c .before .before .scope-ns .ensures) (c .before .scope-definition .ensures))
 
 returns-2 : tie.Need-returns-2
 unfolding meant
@@ -44,17 +32,11 @@ returns-2 c =
     let s = c .before .before .before .before .before .before in
     let n = snapOf (now (s .args .words)) (now (s .args .area)) (s .args .l) in
     let v = c .before in
-    meaning-hidden n (s .args .from .0) (scopeAt (now (s .args .words)) (s .args .h)) (v .is-visible-from .ensures ∙ ap₂ (λ k m. isVisibleFrom n k m (s .args .from .0)) (v .before .before .scope-visibility .ensures) (v .before .scope-number .ensures)) (c .if1 .left)
+    meaning-hidden n (s .args .from .0) (scopeAt (now (s .args .words)) (s .args .h)) (v .is-visible-from .ensures
+    ∙ ap₂ (λ k m. isVisibleFrom n k m (s .args .from .0)) (v .before .before .scope-visibility .ensures) (v .before .scope-number .ensures))
+    (c .if1 .left)
 
 pub meaning-spec : {M : Type 1} → statement M
 meaning-spec =
-    tie.close
-    (tie.spec
-    scope-visibility-requires
-    scope-number-requires
-    is-visible-from-requires
-    scope-ns-requires
-    scope-definition-requires
-    item-of-requires
-    returns
-    returns-2)
+    tie.close (tie.spec (λ c κs. search needs) (λ c κs. search needs) is-visible-from-requires (λ c κs. search needs)
+    (λ c κs. search needs) (λ c κs. search needs) returns returns-2)

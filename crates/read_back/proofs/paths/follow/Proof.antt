@@ -20,51 +20,29 @@ Inv-loop words area l from ns names first count here₀ k₀ here k =
 abbrev μ-loop : tie.MeasureT-loop
 μ-loop words area l from ns names first count here₀ k₀ here k = count - k
 
-loop-holds : tie.Need-loop-holds Inv-loop μ-loop
-loop-holds c = refl
-
 looked-in-requires : tie.Need-looked-in-requires Inv-loop μ-loop
 looked-in-requires c κs = c .loop-test .taken
 
-mul-t14 : tie.Need-mul-t14 Inv-loop μ-loop
-mul-t14 c = omega arith
-
-shared-slice-read-t16 : tie.Need-shared-slice-read-t16 Inv-loop μ-loop
-shared-slice-read-t16 c = omega arith
-
 next-name-requires : tie.Need-next-name-requires Inv-loop μ-loop
 next-name-requires c κs = let s = c .before .before .before .before .before .before .before in (s .pre .0, s .pre .1)
-
-add-k : tie.Need-add-k Inv-loop μ-loop
-add-k c = omega arith
-
-loop-less : tie.Need-loop-less Inv-loop μ-loop
-loop-less c = omega arith
 
 loop-again : tie.Need-loop-again Inv-loop μ-loop
 loop-again c =
     let s = c .before .before .before .before .before .before .before .before in
     let g = c .before .before .before .before .loop in
-    follow-next (snapOf (now (s .args .words)) (now (s .args .area)) (s .args .l)) (s .args .from .0) (s .args .ns) (λ i. getD (now (s .args .names)) i 0) _ (g .k) (s .args .count) (meant (g .here)) _ _ (g .inv) (c .before .before .before .loop-test .taken) (c .before .before .looked-in .ensures (λ i. getD (now (s .args .names)) i 0)) refl (c .next-name .ensures)
+    follow-next (snapOf (now (s .args .words)) (now (s .args .area)) (s .args .l)) (s .args .from .0) (s .args .ns)
+    (λ i. getD (now (s .args .names)) i 0) _ (g .k) (s .args .count) (meant (g .here)) _ _ (g .inv)
+    (c .before .before .before .loop-test .taken) (c .before .before .looked-in .ensures (λ i. getD (now (s .args .names)) i 0))
+    refl (c .next-name .ensures)
 
 returns : tie.Need-returns Inv-loop μ-loop
 returns c =
     let s = c .before .before .before .before .before in
     let g = c .before .loop in
-    follow-done (snapOf (now (s .args .words)) (now (s .args .area)) (s .args .l)) (s .args .from .0) (s .args .ns) (λ i. getD (now (s .args .names)) i 0) _ (g .k) (s .args .count) (meant (g .here)) (g .inv) (c .loop-test .left)
+    follow-done (snapOf (now (s .args .words)) (now (s .args .area)) (s .args .l)) (s .args .from .0) (s .args .ns)
+    (λ i. getD (now (s .args .names)) i 0) _ (g .k) (s .args .count) (meant (g .here)) (g .inv) (c .loop-test .left)
 
 pub follow-spec : {M : Type 1} → statement M
 follow-spec =
-    tie.close
-    (tie.spec
-    Inv-loop
-    μ-loop
-    loop-holds
-    looked-in-requires
-    mul-t14
-    shared-slice-read-t16
-    next-name-requires
-    add-k
-    loop-less
-    loop-again
-    returns)
+    tie.close (tie.spec Inv-loop μ-loop (λ c. refl) looked-in-requires (λ c. omega arith) (λ c. omega arith)
+    next-name-requires (λ c. omega arith) (λ c. omega arith) loop-again returns)

@@ -8,41 +8,23 @@ use Rattle.read_back.proofs.Cases.{back-none, back-some}
 use Rattle.read_back.proofs.paths.reads_back.Statement.{statement}
 use Rattle.read_back.proofs.paths.reads_back.Tie as tie
 
-ns-of-requires : tie.Need-ns-of-requires
-ns-of-requires c κs = search needs
-
-reads-to-requires : tie.Need-reads-to-requires
-reads-to-requires c κs = search needs
-
-enum-known-x : tie.Need-enum-known-x
-enum-known-x c = search needs
-
-enum-told : tie.Need-enum-told
-enum-told c = search needs
-
 returns : tie.Need-returns
 unfolding meant
 returns c =
     let s = c .before .before .before .before .before .before .before in
-    back-none (snapOf (now (s .args .words)) (now (s .args .area)) (s .args .l)) (s .args .from .0) (s .args .item) (s .args .kind) (take (s .args .count) (now (s .args .names))) (c .before .before .before .ns-of .ensures) (sym (c .before .before .reads-to .ensures) ∙ ap meant (c .enum-told .given .1))
-
-same-item-requires : tie.Need-same-item-requires
-same-item-requires c κs = search needs
+    back-none (snapOf (now (s .args .words)) (now (s .args .area)) (s .args .l)) (s .args .from .0) (s .args .item) (s .args .kind)
+    (take (s .args .count) (now (s .args .names))) (c .before .before .before .ns-of .ensures)
+    (sym (c .before .before .reads-to .ensures) ∙ ap meant (c .enum-told .given .1))
 
 returns-2 : tie.Need-returns-2
 unfolding meant
 returns-2 c =
     let s = c .before .before .before .before .before .before .before .before .before in
-    back-some (snapOf (now (s .args .words)) (now (s .args .area)) (s .args .l)) (s .args .from .0) (s .args .item) (s .args .kind) (take (s .args .count) (now (s .args .names))) (c .before .before .before .before .before .ns-of .ensures) (sym (c .before .before .before .before .reads-to .ensures) ∙ ap meant (c .before .before .x .given .1)) (c .same-item .ensures)
+    back-some (snapOf (now (s .args .words)) (now (s .args .area)) (s .args .l)) (s .args .from .0) (s .args .item) (s .args .kind)
+    (take (s .args .count) (now (s .args .names))) (c .before .before .before .before .before .ns-of .ensures)
+    (sym (c .before .before .before .before .reads-to .ensures) ∙ ap meant (c .before .before .x .given .1)) (c .same-item .ensures)
 
 pub reads-back-spec : {M : Type 1} → statement M
 reads-back-spec =
-    tie.close
-    (tie.spec
-    ns-of-requires
-    reads-to-requires
-    enum-known-x
-    enum-told
-    returns
-    same-item-requires
-    returns-2)
+    tie.close (tie.spec (λ c κs. search needs) (λ c κs. search needs) (λ c. search needs) (λ c. search needs) returns
+    (λ c κs. search needs) returns-2)

@@ -11,107 +11,65 @@ use Rattle.read_back.proofs.Cases.{reads-self, reads-super, reads-crate
 use Rattle.read_back.proofs.paths.reads_to.Statement.{statement}
 use Rattle.read_back.proofs.paths.reads_to.Tie as tie
 
-stands-for-requires : tie.Need-stands-for-requires
-stands-for-requires c κs = search needs
-
-means-module-requires : tie.Need-means-module-requires
-means-module-requires c κs = search needs
-
-follow-requires : tie.Need-follow-requires
-follow-requires c κs = search needs
-
 returns : tie.Need-returns
 returns c =
     let s = c .before .before .before .before .before .before .before in
     let n = snapOf (now (s .args .words)) (now (s .args .area)) (s .args .l) in
-    reads-self n (s .args .from .0) (s .args .ns) (s .args .kind) (now (s .args .names)) (s .args .count) (s .pre .2) _ (c .follow .ensures) (c .before .before .before .if1 .taken) (c .before .means-module .ensures ∙ ap (λ m. some (moduleItem m)) (c .before .before .stands-for .ensures .0))
-
-super-of-requires : tie.Need-super-of-requires
-super-of-requires c κs = search needs
-
-follow-requires-2 : tie.Need-follow-requires-2
-follow-requires-2 c κs = search needs
+    reads-self n (s .args .from .0) (s .args .ns) (s .args .kind) (now (s .args .names)) (s .args .count) (s .pre .2) _
+    (c .follow .ensures) (c .before .before .before .if1 .taken) (c .before .means-module .ensures
+    ∙ ap (λ m. some (moduleItem m)) (c .before .before .stands-for .ensures .0))
 
 returns-2 : tie.Need-returns-2
 returns-2 c =
     let s = c .before .before .before .before .before .before .before in
     let n = snapOf (now (s .args .words)) (now (s .args .area)) (s .args .l) in
-    reads-super n (s .args .from .0) (s .args .ns) (s .args .kind) (now (s .args .names)) (s .args .count) (s .pre .2) _ (c .follow2 .ensures) (c .before .before .before .if1 .left) (c .before .before .if2 .taken) (c .before .super-of .ensures)
-
-crate-root-requires : tie.Need-crate-root-requires
-crate-root-requires c κs = search needs
-
-means-module-requires-2 : tie.Need-means-module-requires-2
-means-module-requires-2 c κs = search needs
-
-follow-requires-3 : tie.Need-follow-requires-3
-follow-requires-3 c κs = search needs
+    reads-super n (s .args .from .0) (s .args .ns) (s .args .kind) (now (s .args .names)) (s .args .count) (s .pre .2) _
+    (c .follow2 .ensures) (c .before .before .before .if1 .left) (c .before .before .if2 .taken) (c .before .super-of .ensures)
 
 returns-3 : tie.Need-returns-3
 returns-3 c =
     let s = c .before .before .before .before .before .before .before .before .before in
     let n = snapOf (now (s .args .words)) (now (s .args .area)) (s .args .l) in
-    reads-crate n (s .args .from .0) (s .args .ns) (s .args .kind) (now (s .args .names)) (s .args .count) (s .pre .2) _ (c .follow3 .ensures) (c .before .before .before .before .before .if1 .left) (c .before .before .before .before .if2 .left) (c .before .before .before .if3 .taken) (c .before .means-module2 .ensures ∙ ap (λ m. some (moduleItem m)) (c .before .before .crate-root .ensures))
+    reads-crate n (s .args .from .0) (s .args .ns) (s .args .kind) (now (s .args .names)) (s .args .count) (s .pre .2) _
+    (c .follow3 .ensures) (c .before .before .before .before .before .if1 .left) (c .before .before .before .before .if2 .left)
+    (c .before .before .before .if3 .taken) (c .before .means-module2 .ensures
+    ∙ ap (λ m. some (moduleItem m)) (c .before .before .crate-root .ensures))
 
 returns-4 : tie.Need-returns-4
 unfolding meant
 returns-4 c =
     let s = c .before .before .before .before .before .before .before in
-    reads-none (snapOf (now (s .args .words)) (now (s .args .area)) (s .args .l)) (s .args .from .0) (s .args .ns) (now (s .args .names)) (s .args .count) (c .if4 .taken) (s .args .kind) (c .before .before .before .if1 .left) (c .before .before .if2 .left) (c .before .if3 .left)
+    reads-none (snapOf (now (s .args .words)) (now (s .args .area)) (s .args .l)) (s .args .from .0) (s .args .ns) (now (s .args .names))
+    (s .args .count) (c .if4 .taken) (s .args .kind) (c .before .before .before .if1 .left) (c .before .before .if2 .left) (c .before .if3 .left)
 
 looked-in-requires : tie.Need-looked-in-requires
 looked-in-requires c κs = omega (arith, c .if4 .left)
-
-shared-slice-read-t20 : tie.Need-shared-slice-read-t20
-shared-slice-read-t20 c = search needs
-
-in-externs-requires : tie.Need-in-externs-requires
-in-externs-requires c κs = search needs
-
-follow-requires-4 : tie.Need-follow-requires-4
-follow-requires-4 c κs = search needs
 
 returns-5 : tie.Need-returns-5
 returns-5 c =
     let s = c .before .before .before .before .before .before .before .before .before .before .before .before in
     let n = snapOf (now (s .args .words)) (now (s .args .area)) (s .args .l) in
     let e = c .before .before .before .before .before in
-    reads-absolute n (s .args .from .0) (s .args .ns) (s .args .kind) (take (s .args .count) (now (s .args .names))) (e .before .before .before .if1 .left) (e .before .before .if2 .left) (e .before .if3 .left) (c .before .before .if5 .taken) (absolute-first n (s .args .from .0) (s .args .ns) (now (s .args .names)) (s .args .count) (s .pre .2) (omega (arith, e .if4 .left)) (c .before .before .before .before .looked-in .ensures (λ i. getD (now (s .args .names)) i 0)) refl (c .before .in-externs .ensures) (c .follow4 .ensures))
-
-first-name-requires : tie.Need-first-name-requires
-first-name-requires c κs = search needs
-
-follow-requires-5 : tie.Need-follow-requires-5
-follow-requires-5 c κs = search needs
+    reads-absolute n (s .args .from .0) (s .args .ns) (s .args .kind) (take (s .args .count) (now (s .args .names)))
+    (e .before .before .before .if1 .left) (e .before .before .if2 .left) (e .before .if3 .left) (c .before .before .if5 .taken)
+    (absolute-first n (s .args .from .0) (s .args .ns) (now (s .args .names)) (s .args .count) (s .pre .2)
+    (omega (arith, e .if4 .left)) (c .before .before .before .before .looked-in .ensures (λ i. getD (now (s .args .names)) i 0))
+    refl (c .before .in-externs .ensures) (c .follow4 .ensures))
 
 returns-6 : tie.Need-returns-6
 returns-6 c =
     let s = c .before .before .before .before .before .before .before .before .before .before .before .before in
     let n = snapOf (now (s .args .words)) (now (s .args .area)) (s .args .l) in
     let e = c .before .before .before .before .before in
-    reads-plain n (s .args .from .0) (s .args .ns) (s .args .kind) (take (s .args .count) (now (s .args .names))) (e .before .before .before .if1 .left) (e .before .before .if2 .left) (e .before .if3 .left) (c .before .before .if5 .left) (plain-first n (s .args .from .0) (s .args .ns) (now (s .args .names)) (s .args .count) (s .pre .2) (omega (arith, e .if4 .left)) (c .before .before .before .before .looked-in .ensures (λ i. getD (now (s .args .names)) i 0)) refl (c .before .first-name .ensures) (c .follow5 .ensures))
+    reads-plain n (s .args .from .0) (s .args .ns) (s .args .kind) (take (s .args .count) (now (s .args .names)))
+    (e .before .before .before .if1 .left) (e .before .before .if2 .left) (e .before .if3 .left) (c .before .before .if5 .left)
+    (plain-first n (s .args .from .0) (s .args .ns) (now (s .args .names)) (s .args .count) (s .pre .2) (omega (arith, e .if4 .left))
+    (c .before .before .before .before .looked-in .ensures (λ i. getD (now (s .args .names)) i 0)) refl (c .before .first-name .ensures)
+    (c .follow5 .ensures))
 
 pub reads-to-spec : {M : Type 1} → statement M
 reads-to-spec =
-    tie.close
-    (tie.spec
-    stands-for-requires
-    means-module-requires
-    follow-requires
-    returns
-    super-of-requires
-    follow-requires-2
-    returns-2
-    crate-root-requires
-    means-module-requires-2
-    follow-requires-3
-    returns-3
-    returns-4
-    looked-in-requires
-    shared-slice-read-t20
-    in-externs-requires
-    follow-requires-4
-    returns-5
-    first-name-requires
-    follow-requires-5
-    returns-6)
+    tie.close (tie.spec (λ c κs. search needs) (λ c κs. search needs) (λ c κs. search needs) returns
+    (λ c κs. search needs) (λ c κs. search needs) returns-2 (λ c κs. search needs) (λ c κs. search needs)
+    (λ c κs. search needs) returns-3 returns-4 looked-in-requires (λ c. search needs) (λ c κs. search needs)
+    (λ c κs. search needs) returns-5 (λ c κs. search needs) (λ c κs. search needs) returns-6)

@@ -11,48 +11,33 @@ use Rattle.read_back.proofs.Cases.{super-none, super-some}
 use Rattle.read_back.proofs.paths.super_of.Statement.{statement}
 use Rattle.read_back.proofs.paths.super_of.Tie as tie
 
-stands-for-requires : tie.Need-stands-for-requires
-stands-for-requires c κs = search needs
-
-parent-requires : tie.Need-parent-requires
-parent-requires c κs = search needs
-
-enum-known-p : tie.Need-enum-known-p
-enum-known-p c = search needs
-
-enum-told : tie.Need-enum-told
-enum-told c = search needs
-
 returns : tie.Need-returns
 unfolding meant
 returns c =
     let s = c .before .before .before .before .before .before in
-    super-none (snapOf (now (s .args .words)) (now (s .args .area)) (s .args .l)) (s .args .from .0) (c .before .before .before .stands-for .ensures .0) (is-none _ (c .before .before .parent .ensures) (c .enum-told .given .1))
+    super-none (snapOf (now (s .args .words)) (now (s .args .area)) (s .args .l)) (s .args .from .0)
+    (c .before .before .before .stands-for .ensures .0) (is-none _ (c .before .before .parent .ensures) (c .enum-told .given .1))
 
 stands-for-requires-2 : tie.Need-stands-for-requires-2
 stands-for-requires-2 c κs =
     let s = c .before .before .before .before .before .before .before in
     let n = snapOf (now (s .args .words)) (now (s .args .area)) (s .args .l) in
-    let m = c .before .before .before .before .stands-for .ensures .1 in
-    (s .pre .0, (let f = parent-fits n (accepted-tree (now (s .args .words)) n (s .pre .0 .same)) _ _ (rw (length-modules (now (s .args .words)) (now (s .args .area)) (s .args .l)) m) (is-some _ (c .before .before .before .parent .ensures) (c .before .p .given .1)) .0 in omega (arith, f, m)))
-
-means-module-requires : tie.Need-means-module-requires
-means-module-requires c κs = search needs
+    let m = c .before .before .before .before .stands-for .ensures .1 in (
+      s .pre .0,
+      (let f = parent-fits n (accepted-tree (now (s .args .words)) n (s .pre .0 .same)) _ _
+          (rw (length-modules (now (s .args .words)) (now (s .args .area)) (s .args .l)) m)
+          (is-some _ (c .before .before .before .parent .ensures) (c .before .p .given .1)) .0 in omega (arith, f, m)),
+    )
 
 returns-2 : tie.Need-returns-2
 returns-2 c =
     let s = c .before .before .before .before .before .before .before .before .before in
-    super-some (snapOf (now (s .args .words)) (now (s .args .area)) (s .args .l)) (s .args .from .0) (c .before .before .before .before .before .before .stands-for .ensures .0) (is-some _ (c .before .before .before .before .before .parent .ensures) (c .before .before .before .p .given .1)) (c .before .stands-for2 .ensures .0) (c .means-module .ensures)
+    super-some (snapOf (now (s .args .words)) (now (s .args .area)) (s .args .l)) (s .args .from .0)
+    (c .before .before .before .before .before .before .stands-for .ensures .0)
+    (is-some _ (c .before .before .before .before .before .parent .ensures) (c .before .before .before .p .given .1))
+    (c .before .stands-for2 .ensures .0) (c .means-module .ensures)
 
 pub super-of-spec : {M : Type 1} → statement M
 super-of-spec =
-    tie.close
-    (tie.spec
-    stands-for-requires
-    parent-requires
-    enum-known-p
-    enum-told
-    returns
-    stands-for-requires-2
-    means-module-requires
-    returns-2)
+    tie.close (tie.spec (λ c κs. search needs) (λ c κs. search needs) (λ c. search needs) (λ c. search needs) returns
+    stands-for-requires-2 (λ c κs. search needs) returns-2)

@@ -12,14 +12,5 @@ returns c = let s = c .before .before in past (now (s .args .words)) (s .args .a
 returns-2 : tie.Need-returns-2
 returns-2 c = let s = c .before .before .before in past (now (s .args .words)) (s .args .at + s .args .i) (omega arith)
 
-add-word : tie.Need-add-word
-add-word c = search needs
-
-word-requires : tie.Need-word-requires
-word-requires c κs = search needs
-
-returns-3 : tie.Need-returns-3
-returns-3 c = search needs
-
 pub field-spec : {M : Type 1} → statement M
-field-spec = tie.close (tie.spec returns returns-2 add-word word-requires returns-3)
+field-spec = tie.close (tie.spec returns returns-2 (λ c. search needs) (λ c κs. search needs) (λ c. search needs))

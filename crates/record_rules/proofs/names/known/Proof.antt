@@ -12,52 +12,40 @@ use Rattle.record_rules.proofs.names.known.Statement.{statement}
 use Rattle.record_rules.proofs.names.known.Tie as tie
 
 abbrev Inv-loop : tie.InvT-loop
-Inv-loop words at names heads n size last k₀ k = (k ≤ n) × (any (sameName (nameAt words at)) (rows (λ j. nameAt names (getD heads j 0)) 0 n) ≡ any (sameName (nameAt words at)) (rows (λ j. nameAt names (getD heads j 0)) k (n - k)))
+Inv-loop words at names heads n size last k₀ k = (k ≤ n)
+    × (any (sameName (nameAt words at)) (rows (λ j. nameAt names (getD heads j 0)) 0 n) ≡ any (sameName (nameAt words at))
+    (rows (λ j. nameAt names (getD heads j 0)) k (n - k)))
 
 abbrev μ-loop : tie.MeasureT-loop
 μ-loop words at names heads n size last k₀ k = n - k
 
-payload-requires : tie.Need-payload-requires Inv-loop μ-loop
-payload-requires c κs = search needs
-
-text-words-requires : tie.Need-text-words-requires Inv-loop μ-loop
-text-words-requires c κs = search needs
-
-field-requires : tie.Need-field-requires Inv-loop μ-loop
-field-requires c κs = search needs
-
-payload-of-requires : tie.Need-payload-of-requires Inv-loop μ-loop
-payload-of-requires c κs = search needs
-
 loop-holds : tie.Need-loop-holds Inv-loop μ-loop
 loop-holds c = (omega arith, rows-whole (any _) _ _)
 
-mul-same-text : tie.Need-mul-same-text Inv-loop μ-loop
-mul-same-text c = search needs
-
-shared-slice-read-same-text : tie.Need-shared-slice-read-same-text Inv-loop μ-loop
-shared-slice-read-same-text c = search needs
-
 cast-same-text : tie.Need-cast-same-text Inv-loop μ-loop
-cast-same-text c = record { fits = omega (arith, c .before .before .before .before .before .before .before .shared-slice-known3 .given (c .before .before .loop .k)) }
+cast-same-text c = record {
+  fits = omega (
+    arith,
+    c .before .before .before .before .before .before .before .shared-slice-known3 .given
+        (c .before .before .loop .k),
+  );
+}
 
 same-text-requires : tie.Need-same-text-requires Inv-loop μ-loop
 same-text-requires c κs =
     let d = c .before .before .before in
     let t = d .before .before in
-    let e = t .before .payload .ensures in
-    (omega (arith, t .before .before .shared-slice-known3 .given (c .before .before .loop .k), t .text-words .ensures, e), t .text-words .ensures ∙ ap wordsOf e, d .payload-of .ensures ∙ ap payOf (d .before .field .ensures))
+    let e = t .before .payload .ensures in (
+      omega (arith, t .before .before .shared-slice-known3 .given (c .before .before .loop .k), t .text-words .ensures, e),
+      t .text-words .ensures
+          ∙ ap wordsOf e,
+      d .payload-of .ensures ∙ ap payOf (d .before .field .ensures),
+    )
 
 returns : tie.Need-returns Inv-loop μ-loop
 returns c =
     let l = c .before .before .before .before .loop in
     any-hit _ _ _ _ _ (l .inv .1) (omega arith) (sym (c .before .same-text .ensures) ∙ c .if1 .taken)
-
-add-k : tie.Need-add-k Inv-loop μ-loop
-add-k c = search needs
-
-loop-less : tie.Need-loop-less Inv-loop μ-loop
-loop-less c = search needs
 
 loop-again : tie.Need-loop-again Inv-loop μ-loop
 loop-again c =
@@ -69,21 +57,6 @@ returns-2 c = any-none _ _ _ _ _ (c .before .loop .inv .1) (omega arith)
 
 pub known-spec : {M : Type 1} → statement M
 known-spec =
-    tie.close
-    (tie.spec
-    Inv-loop
-    μ-loop
-    payload-requires
-    text-words-requires
-    field-requires
-    payload-of-requires
-    loop-holds
-    mul-same-text
-    shared-slice-read-same-text
-    cast-same-text
-    same-text-requires
-    returns
-    add-k
-    loop-less
-    loop-again
-    returns-2)
+    tie.close (tie.spec Inv-loop μ-loop (λ c κs. search needs) (λ c κs. search needs) (λ c κs. search needs)
+    (λ c κs. search needs) loop-holds (λ c. search needs) (λ c. search needs) cast-same-text same-text-requires returns
+    (λ c. search needs) (λ c. search needs) loop-again returns-2)

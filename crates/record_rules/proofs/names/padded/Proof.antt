@@ -12,7 +12,8 @@ use Rattle.record_rules.proofs.names.padded.Statement.{statement}
 use Rattle.record_rules.proofs.names.padded.Tie as tie
 
 abbrev Inv-loop : tie.InvT-loop
-Inv-loop words head bytes n b₀ i₀ b i = (i ≤ n) × (padded bytes (rows (λ j. getD words (head + 1 + j) 0) 0 n) ≡ padded b (rows (λ j. getD words (head + 1 + j) 0) i (n - i)))
+Inv-loop words head bytes n b₀ i₀ b i = (i ≤ n)
+    × (padded bytes (rows (λ j. getD words (head + 1 + j) 0) 0 n) ≡ padded b (rows (λ j. getD words (head + 1 + j) 0) i (n - i)))
 
 abbrev μ-loop : tie.MeasureT-loop
 μ-loop words head bytes n b₀ i₀ b i = n - i
@@ -20,53 +21,27 @@ abbrev μ-loop : tie.MeasureT-loop
 loop-holds : tie.Need-loop-holds Inv-loop μ-loop
 loop-holds c = (omega arith, rows-whole (padded _) _ _)
 
-text-bound-requires : tie.Need-text-bound-requires Inv-loop μ-loop
-text-bound-requires c κs = search needs
-
-add-field : tie.Need-add-field Inv-loop μ-loop
-add-field c = search needs
-
-field-requires : tie.Need-field-requires Inv-loop μ-loop
-field-requires c κs = search needs
-
 returns : tie.Need-returns Inv-loop μ-loop
 returns c =
     let s = c .before .before .before .before .before .before in
     let l = c .before .before .before .before .loop in
-    padded-stop _ _ _ _ _ (l .inv .1) (omega arith) (c .before .before .text-bound .ensures) (c .before .field .ensures ∙ after-head (now (s .args .words)) (s .args .head) (l .i)) (c .if1 .taken)
-
-less-requires : tie.Need-less-requires Inv-loop μ-loop
-less-requires c κs = search needs
-
-add-i : tie.Need-add-i Inv-loop μ-loop
-add-i c = search needs
-
-loop-less : tie.Need-loop-less Inv-loop μ-loop
-loop-less c = search needs
+    padded-stop _ _ _ _ _ (l .inv .1) (omega arith) (c .before .before .text-bound .ensures) (c .before .field .ensures
+    ∙ after-head (now (s .args .words)) (s .args .head) (l .i)) (c .if1 .taken)
 
 loop-again : tie.Need-loop-again Inv-loop μ-loop
 loop-again c =
     let s = c .before .before .before .before .before .before .before in
     let b = c .before in
-    let l = b .before .before .before .before .loop in
-    (omega arith, padded-go _ _ _ _ _ (l .inv .1) (omega arith) (b .before .before .text-bound .ensures) (b .before .field .ensures ∙ after-head (now (s .args .words)) (s .args .head) (l .i)) (b .if1 .left) (c .less .ensures))
+    let l = b .before .before .before .before .loop in (
+      omega arith,
+      padded-go _ _ _ _ _ (l .inv .1) (omega arith) (b .before .before .text-bound .ensures) (b .before .field .ensures
+          ∙ after-head (now (s .args .words)) (s .args .head) (l .i)) (b .if1 .left) (c .less .ensures),
+    )
 
 returns-2 : tie.Need-returns-2 Inv-loop μ-loop
 returns-2 c = padded-end _ _ _ _ _ (c .before .loop .inv .1) (omega arith)
 
 pub padded-spec : {M : Type 1} → statement M
 padded-spec =
-    tie.close
-    (tie.spec
-    Inv-loop
-    μ-loop
-    loop-holds
-    text-bound-requires
-    add-field
-    field-requires
-    returns
-    less-requires
-    add-i
-    loop-less
-    loop-again
-    returns-2)
+    tie.close (tie.spec Inv-loop μ-loop loop-holds (λ c κs. search needs) (λ c. search needs) (λ c κs. search needs)
+    returns (λ c κs. search needs) (λ c. search needs) (λ c. search needs) loop-again returns-2)

@@ -14,31 +14,17 @@ use Rattle.record_rules.proofs.names.repeated.Statement.{statement}
 use Rattle.record_rules.proofs.names.repeated.Tie as tie
 
 abbrev Inv-loop : tie.InvT-loop
-Inv-loop words at area n key size last k₀ k = Walking (sameName (nameAt words at)) (λ j. nameAt words (getD area j 0)) (λ i. nameKey (nameAt words (getD area i 0))) key n k
+Inv-loop words at area n key size last k₀ k = Walking (sameName (nameAt words at)) (λ j. nameAt words (getD area j 0))
+    (λ i. nameKey (nameAt words (getD area i 0))) key n k
 
 abbrev μ-loop : tie.MeasureT-loop
 μ-loop words at area n key size last k₀ k = k
-
-payload-requires : tie.Need-payload-requires Inv-loop μ-loop
-payload-requires c κs = search needs
-
-text-words-requires : tie.Need-text-words-requires Inv-loop μ-loop
-text-words-requires c κs = search needs
-
-field-requires : tie.Need-field-requires Inv-loop μ-loop
-field-requires c κs = search needs
-
-payload-of-requires : tie.Need-payload-of-requires Inv-loop μ-loop
-payload-of-requires c κs = search needs
 
 add-word : tie.Need-add-word Inv-loop μ-loop
 add-word c =
     let s = c .before .before .before .before .before .before in
     let h = key-small _ (s .pre .1 .1) in
     omega arith
-
-word-requires : tie.Need-word-requires Inv-loop μ-loop
-word-requires c κs = search needs
 
 loop-holds : tie.Need-loop-holds Inv-loop μ-loop
 loop-holds c =
@@ -50,17 +36,17 @@ sub-j c =
     let h = c .loop-test .taken in
     omega arith
 
-name-head-requires : tie.Need-name-head-requires Inv-loop μ-loop
-name-head-requires c κs = search needs
-
 same-text-requires : tie.Need-same-text-requires Inv-loop μ-loop
 same-text-requires c κs =
     let t = c .before .before .before .before .before .before in
     let s = t .before .before .before .before in
     let l = c .before .before .loop in
     let e = t .before .payload .ensures in
-    let f = c .before .before .before .before in
-    (omega (arith, c .name-head .ensures, t .before .before .shared-slice-known2 .given (l .k - 1), t .text-words .ensures, e), t .text-words .ensures ∙ ap wordsOf e, f .payload-of .ensures ∙ ap payOf (f .before .field .ensures))
+    let f = c .before .before .before .before in (
+      omega (arith, c .name-head .ensures, t .before .before .shared-slice-known2 .given (l .k - 1), t .text-words .ensures, e),
+      t .text-words .ensures ∙ ap wordsOf e,
+      f .payload-of .ensures ∙ ap payOf (f .before .field .ensures),
+    )
 
 returns : tie.Need-returns Inv-loop μ-loop
 returns c =
@@ -69,7 +55,8 @@ returns c =
     let i = i2 .before in
     let l = i .before .loop in
     let s = i .before .before .before .before .before .before .before .before .before in
-    names-hit (now (s .args .words)) (now (s .args .area)) (s .args .at) (s .args .n) (s .pre .0) (s .pre .1 .1) (l .k) (l .inv) (i .loop-test .taken) (i2 .name-head .ensures) (i3 .same-text .ensures) (c .if1 .taken)
+    names-hit (now (s .args .words)) (now (s .args .area)) (s .args .at) (s .args .n) (s .pre .0) (s .pre .1 .1) (l .k) (l .inv)
+    (i .loop-test .taken) (i2 .name-head .ensures) (i3 .same-text .ensures) (c .if1 .taken)
 
 add-word-2 : tie.Need-add-word-2 Inv-loop μ-loop
 add-word-2 c =
@@ -79,9 +66,6 @@ add-word-2 c =
     let v = s .pre .1 .0 in
     omega arith
 
-word-requires-2 : tie.Need-word-requires-2 Inv-loop μ-loop
-word-requires-2 c κs = search needs
-
 loop-less : tie.Need-loop-less Inv-loop μ-loop
 loop-less c =
     let i3 = c .before .before in
@@ -89,7 +73,8 @@ loop-less c =
     let i = i2 .before in
     let l = i .before .loop in
     let s = i .before .before .before .before .before .before .before .before .before in
-    names-less (now (s .args .words)) (now (s .args .area)) (s .args .at) (s .args .n) (s .pre .0) (s .pre .1 .1) (l .k) (l .inv) (i .loop-test .taken) (i2 .name-head .ensures) (i3 .same-text .ensures) (c .word2 .ensures)
+    names-less (now (s .args .words)) (now (s .args .area)) (s .args .at) (s .args .n) (s .pre .0) (s .pre .1 .1) (l .k) (l .inv)
+    (i .loop-test .taken) (i2 .name-head .ensures) (i3 .same-text .ensures) (c .word2 .ensures)
 
 loop-again : tie.Need-loop-again Inv-loop μ-loop
 loop-again c =
@@ -98,7 +83,8 @@ loop-again c =
     let i = i2 .before in
     let l = i .before .loop in
     let s = i .before .before .before .before .before .before .before .before .before in
-    names-miss (now (s .args .words)) (now (s .args .area)) (s .args .at) (s .args .n) (s .pre .0) (s .pre .1 .1) (l .k) (l .inv) (i .loop-test .taken) (i2 .name-head .ensures) (i3 .same-text .ensures) (c .word2 .ensures) (c .before .if1 .left)
+    names-miss (now (s .args .words)) (now (s .args .area)) (s .args .at) (s .args .n) (s .pre .0) (s .pre .1 .1) (l .k) (l .inv)
+    (i .loop-test .taken) (i2 .name-head .ensures) (i3 .same-text .ensures) (c .word2 .ensures) (c .before .if1 .left)
 
 returns-2 : tie.Need-returns-2 Inv-loop μ-loop
 returns-2 c =
@@ -108,23 +94,6 @@ returns-2 c =
 
 pub repeated-spec : {M : Type 1} → statement M
 repeated-spec =
-    tie.close
-    (tie.spec
-    Inv-loop
-    μ-loop
-    payload-requires
-    text-words-requires
-    field-requires
-    payload-of-requires
-    add-word
-    word-requires
-    loop-holds
-    sub-j
-    name-head-requires
-    same-text-requires
-    returns
-    add-word-2
-    word-requires-2
-    loop-less
-    loop-again
-    returns-2)
+    tie.close (tie.spec Inv-loop μ-loop (λ c κs. search needs) (λ c κs. search needs) (λ c κs. search needs)
+    (λ c κs. search needs) add-word (λ c κs. search needs) loop-holds sub-j (λ c κs. search needs) same-text-requires
+    returns add-word-2 (λ c κs. search needs) loop-less loop-again returns-2)

@@ -11,25 +11,15 @@ use Rattle.record_rules.proofs.names.same_words.Statement.{statement}
 use Rattle.record_rules.proofs.names.same_words.Tie as tie
 
 abbrev Inv-loop : tie.InvT-loop
-Inv-loop left a right b n i₀ i = (i ≤ n) × (eqList (rows (λ j. getD left (a + 1 + j) 0) 0 n) (rows (λ j. getD right (b + 1 + j) 0) 0 n) ≡ eqList (rows (λ j. getD left (a + 1 + j) 0) i (n - i)) (rows (λ j. getD right (b + 1 + j) 0) i (n - i)))
+Inv-loop left a right b n i₀ i = (i ≤ n)
+    × (eqList (rows (λ j. getD left (a + 1 + j) 0) 0 n) (rows (λ j. getD right (b + 1 + j) 0) 0 n)
+    ≡ eqList (rows (λ j. getD left (a + 1 + j) 0) i (n - i)) (rows (λ j. getD right (b + 1 + j) 0) i (n - i)))
 
 abbrev μ-loop : tie.MeasureT-loop
 μ-loop left a right b n i₀ i = n - i
 
 loop-holds : tie.Need-loop-holds Inv-loop μ-loop
 loop-holds c = (omega arith, rw sub-zero)
-
-add-field : tie.Need-add-field Inv-loop μ-loop
-add-field c = search needs
-
-field-requires : tie.Need-field-requires Inv-loop μ-loop
-field-requires c κs = search needs
-
-add-field-2 : tie.Need-add-field-2 Inv-loop μ-loop
-add-field-2 c = search needs
-
-field-requires-2 : tie.Need-field-requires-2 Inv-loop μ-loop
-field-requires-2 c κs = search needs
 
 returns : tie.Need-returns Inv-loop μ-loop
 returns c =
@@ -38,12 +28,6 @@ returns c =
     let x = c .before .before .field .ensures ∙ after-head (now (s .args .left)) (s .args .a) (l .i) in
     let y = c .before .field2 .ensures ∙ after-head (now (s .args .right)) (s .args .b) (l .i) in
     same-stop _ _ _ _ _ (l .inv .1) (omega arith) (λ e. c .if1 .taken (x ∙ e ∙ sym y))
-
-add-i : tie.Need-add-i Inv-loop μ-loop
-add-i c = search needs
-
-loop-less : tie.Need-loop-less Inv-loop μ-loop
-loop-less c = search needs
 
 loop-again : tie.Need-loop-again Inv-loop μ-loop
 loop-again c =
@@ -58,17 +42,5 @@ returns-2 c = same-end _ _ _ _ _ (c .before .loop .inv .1) (omega arith)
 
 pub same-words-spec : {M : Type 1} → statement M
 same-words-spec =
-    tie.close
-    (tie.spec
-    Inv-loop
-    μ-loop
-    loop-holds
-    add-field
-    field-requires
-    add-field-2
-    field-requires-2
-    returns
-    add-i
-    loop-less
-    loop-again
-    returns-2)
+    tie.close (tie.spec Inv-loop μ-loop loop-holds (λ c. search needs) (λ c κs. search needs) (λ c. search needs)
+    (λ c κs. search needs) returns (λ c. search needs) (λ c. search needs) loop-again returns-2)

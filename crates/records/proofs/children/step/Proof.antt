@@ -10,26 +10,12 @@ use Rattle.records.proofs.Linked.{child-small, child-linked}
 use Rattle.records.proofs.children.step.Statement.{statement}
 use Rattle.records.proofs.children.step.Tie as tie
 
-child-child-requires : tie.Need-child-child-requires
-child-child-requires c κs = search needs
-
 add-mark : tie.Need-add-mark
-add-mark c = (let s = c .before .before .before .before in omega (arith, c .before .child-child .ensures, c .before .before .before .shared-slice-known .given (s .args .at + 1)))
-
-word-requires : tie.Need-word-requires
-word-requires c κs = search needs
-
-defined-requires : tie.Need-defined-requires
-defined-requires c κs = search needs
-
-placed-requires : tie.Need-placed-requires
-placed-requires c κs = search needs
-
-judge-requires : tie.Need-judge-requires
-judge-requires c κs = search needs
-
-same-length : tie.Need-same-length
-same-length c = search needs
+add-mark c = (let s = c .before .before .before .before in omega (
+  arith,
+  c .before .child-child .ensures,
+  c .before .before .before .shared-slice-known .given (s .args .at + 1),
+))
 
 returns : tie.Need-returns
 returns c ms st =
@@ -47,7 +33,8 @@ mul-area : tie.Need-mul-area
 mul-area c =
     let k = c .before in
     let s = k .before .before .before .before .before .before .before .before .before .before in
-    let h = child-small (now (s .args .words)) (s .args .at) (s .args .l) _ _ _ (k .judge .ensures) (c .if1 .left) (k .before .before .before .defined .ensures) in
+    let h = child-small (now (s .args .words)) (s .args .at) (s .args .l) _ _ _ (k .judge .ensures) (c .if1 .left)
+    (k .before .before .before .defined .ensures) in
     let e = k .before .before .before .before .before .before .before .child-child .ensures in
     let f = s .pre .limited .modules in
     let g = s .pre .room in
@@ -57,23 +44,19 @@ slice-write-area : tie.Need-slice-write-area
 slice-write-area c =
     let k = c .before in
     let s = k .before .before .before .before .before .before .before .before .before .before in
-    let h = child-small (now (s .args .words)) (s .args .at) (s .args .l) _ _ _ (k .judge .ensures) (c .if1 .left) (k .before .before .before .defined .ensures) in
+    let h = child-small (now (s .args .words)) (s .args .at) (s .args .l) _ _ _ (k .judge .ensures) (c .if1 .left)
+    (k .before .before .before .defined .ensures) in
     let e = k .before .before .before .before .before .before .before .child-child .ensures in
     let f = s .pre .limited .modules in
     let g = s .pre .room in
     omega arith
 
-add-m : tie.Need-add-m
-add-m c = search needs
-
-same-length-2 : tie.Need-same-length-2
-same-length-2 c = search needs
-
 returns-2 : tie.Need-returns-2
 returns-2 c ms st =
     let k = c .before .before in
     let s = k .before .before .before .before .before .before .before .before .before .before in
-    let h = child-small (now (s .args .words)) (s .args .at) (s .args .l) _ _ _ (k .judge .ensures) (c .before .if1 .left) (k .before .before .before .defined .ensures) in
+    let h = child-small (now (s .args .words)) (s .args .at) (s .args .l) _ _ _ (k .judge .ensures) (c .before .if1 .left)
+    (k .before .before .before .defined .ensures) in
     let e = k .before .before .before .before .before .before .before .child-child .ensures in
     let f = s .pre .limited .modules in
     child-on (now (s .args .words)) (now (s .args .area)) (s .args .at) (s .args .l) ms st
@@ -87,18 +70,6 @@ returns-2 c ms st =
 
 pub step-spec : {M : Type 1} → statement M
 step-spec =
-    tie.close
-    (tie.spec
-    child-child-requires
-    add-mark
-    word-requires
-    defined-requires
-    placed-requires
-    judge-requires
-    same-length
-    returns
-    mul-area
-    slice-write-area
-    add-m
-    same-length-2
-    returns-2)
+    tie.close (tie.spec (λ c κs. search needs) add-mark (λ c κs. search needs) (λ c κs. search needs)
+    (λ c κs. search needs) (λ c κs. search needs) (λ c. search needs) returns mul-area slice-write-area
+    (λ c. search needs) (λ c. search needs) returns-2)

@@ -4,15 +4,6 @@ use Rattle.records.proofs.Steps.{dependency-no, dependency-on}
 use Rattle.records.proofs.dependencies.step.Statement.{statement}
 use Rattle.records.proofs.dependencies.step.Tie as tie
 
-in-range-requires : tie.Need-in-range-requires
-in-range-requires c κs = search needs
-
-defined-requires : tie.Need-defined-requires
-defined-requires c κs = search needs
-
-judge-requires : tie.Need-judge-requires
-judge-requires c κs = search needs
-
 returns : tie.Need-returns
 returns c ms st =
     let k = c .before in
@@ -22,9 +13,6 @@ returns c ms st =
     (k .before .before .in-range .ensures)
     (k .before .defined .ensures)
     (c .if1 .taken)
-
-add-m : tie.Need-add-m
-add-m c = search needs
 
 returns-2 : tie.Need-returns-2
 returns-2 c ms st =
@@ -38,4 +26,4 @@ returns-2 c ms st =
 
 pub step-spec : {M : Type 1} → statement M
 step-spec =
-    tie.close (tie.spec in-range-requires defined-requires judge-requires returns add-m returns-2)
+    tie.close (tie.spec (λ c κs. search needs) (λ c κs. search needs) (λ c κs. search needs) returns (λ c. search needs) returns-2)

@@ -4,18 +4,6 @@ use Rattle.records.proofs.Steps.{prelude-no, prelude-on}
 use Rattle.records.proofs.preludes.step.Statement.{statement}
 use Rattle.records.proofs.preludes.step.Tie as tie
 
-prelude-base-requires : tie.Need-prelude-base-requires
-prelude-base-requires c κs = search needs
-
-repeated-requires : tie.Need-repeated-requires
-repeated-requires c κs = search needs
-
-defined-requires : tie.Need-defined-requires
-defined-requires c κs = search needs
-
-judge-requires : tie.Need-judge-requires
-judge-requires c κs = search needs
-
 returns : tie.Need-returns
 returns c ms st =
     let k = c .before in
@@ -26,9 +14,6 @@ returns c ms st =
     (k .before .before .before .prelude-base .ensures)
     (k .before .before .repeated .ensures)
     (c .if1 .taken)
-
-add-m : tie.Need-add-m
-add-m c = search needs
 
 returns-2 : tie.Need-returns-2
 returns-2 c ms st =
@@ -43,12 +28,5 @@ returns-2 c ms st =
 
 pub step-spec : {M : Type 1} → statement M
 step-spec =
-    tie.close
-    (tie.spec
-    prelude-base-requires
-    repeated-requires
-    defined-requires
-    judge-requires
-    returns
-    add-m
-    returns-2)
+    tie.close (tie.spec (λ c κs. search needs) (λ c κs. search needs) (λ c κs. search needs) (λ c κs. search needs)
+    returns (λ c. search needs) returns-2)

@@ -11,25 +11,12 @@ use Rattle.records.proofs.repeats.repeated.Statement.{statement}
 use Rattle.records.proofs.repeats.repeated.Tie as tie
 
 abbrev Inv-loop : tie.InvT-loop
-Inv-loop words owner fields at base size count last p₀ k₀ p k = (k ≤ count) × (p ≡ base + size * k + fields) × (any (sameBy words owner fields at) (rows (λ j. base + size * j) 0 count) ≡ any (sameBy words owner fields at) (rows (λ j. base + size * j) k (count - k)))
+Inv-loop words owner fields at base size count last p₀ k₀ p k = (k ≤ count) × (p ≡ base + size * k + fields)
+    × (any (sameBy words owner fields at) (rows (λ j. base + size * j) 0 count) ≡ any (sameBy words owner fields at)
+    (rows (λ j. base + size * j) k (count - k)))
 
 abbrev μ-loop : tie.MeasureT-loop
 μ-loop words owner fields at base size count last p₀ k₀ p k = count - k
-
-add-low : tie.Need-add-low Inv-loop μ-loop
-add-low c = search needs
-
-mul-low : tie.Need-mul-low Inv-loop μ-loop
-mul-low c = search needs
-
-shared-slice-read-low : tie.Need-shared-slice-read-low Inv-loop μ-loop
-shared-slice-read-low c = search needs
-
-low-requires : tie.Need-low-requires Inv-loop μ-loop
-low-requires c κs = search needs
-
-add-p : tie.Need-add-p Inv-loop μ-loop
-add-p c = search needs
 
 loop-holds : tie.Need-loop-holds Inv-loop μ-loop
 loop-holds c = (omega arith, omega arith, rows-whole (any _) _ _)
@@ -49,45 +36,34 @@ returns : tie.Need-returns Inv-loop μ-loop
 returns c =
     let l = c .before .before .before .loop in
     let s = c .before .before .before .before .before .before .before in
-    any-hit _ _ _ _ _ (l .inv .2) (omega arith) (ap (sameBy (now (s .args .words)) (s .args .owner) (s .args .fields) (s .args .at)) (here (s .args .base) (s .args .size) (l .k) (l .p) (s .args .fields) (l .inv .1)) ∙ sym (c .before .same .ensures) ∙ c .if1 .taken)
+    any-hit _ _ _ _ _ (l .inv .2) (omega arith) (ap (sameBy (now (s .args .words)) (s .args .owner) (s .args .fields) (s .args .at))
+    (here (s .args .base) (s .args .size) (l .k) (l .p) (s .args .fields) (l .inv .1)) ∙ sym (c .before .same .ensures) ∙ c .if1 .taken)
 
 add-p-2 : tie.Need-add-p-2 Inv-loop μ-loop
 add-p-2 c =
     let l = c .before .before .before .loop in
     let s = c .before .before .before .before .before .before .before in
-    record { fits = (let e = step-le (s .args .size) (l .k) (s .args .count) (omega arith) in omega (arith, l .inv .1, s .pre .0, s .pre .2, s .pre .5)) }
-
-add-k : tie.Need-add-k Inv-loop μ-loop
-add-k c = search needs
-
-loop-less : tie.Need-loop-less Inv-loop μ-loop
-loop-less c = search needs
+    record {
+      fits = (let e = step-le (s .args .size) (l .k) (s .args .count) (omega arith) in
+          omega (arith, l .inv .1, s .pre .0, s .pre .2, s .pre .5));
+    }
 
 loop-again : tie.Need-loop-again Inv-loop μ-loop
 loop-again c =
     let l = c .before .before .before .loop in
-    let s = c .before .before .before .before .before .before .before in
-    (omega arith, omega (arith, l .inv .1), any-miss _ _ _ _ _ (l .inv .2) (omega arith) (ap (sameBy (now (s .args .words)) (s .args .owner) (s .args .fields) (s .args .at)) (here (s .args .base) (s .args .size) (l .k) (l .p) (s .args .fields) (l .inv .1)) ∙ sym (c .before .same .ensures) ∙ c .if1 .left))
+    let s = c .before .before .before .before .before .before .before in (
+      omega arith,
+      omega (arith, l .inv .1),
+      any-miss _ _ _ _ _ (l .inv .2) (omega arith)
+          (ap (sameBy (now (s .args .words)) (s .args .owner) (s .args .fields) (s .args .at))
+          (here (s .args .base) (s .args .size) (l .k) (l .p) (s .args .fields) (l .inv .1)) ∙ sym (c .before .same .ensures) ∙ c .if1 .left),
+    )
 
 returns-2 : tie.Need-returns-2 Inv-loop μ-loop
 returns-2 c = any-none _ _ _ _ _ (c .before .loop .inv .2) (omega arith)
 
 pub repeated-spec : {M : Type 1} → statement M
 repeated-spec =
-    tie.close
-    (tie.spec
-    Inv-loop
-    μ-loop
-    add-low
-    mul-low
-    shared-slice-read-low
-    low-requires
-    add-p
-    loop-holds
-    same-requires
-    returns
-    add-p-2
-    add-k
-    loop-less
-    loop-again
-    returns-2)
+    tie.close (tie.spec Inv-loop μ-loop (λ c. search needs) (λ c. search needs) (λ c. search needs)
+    (λ c κs. search needs) (λ c. search needs) loop-holds same-requires returns add-p-2 (λ c. search needs)
+    (λ c. search needs) loop-again returns-2)

@@ -27,7 +27,8 @@ small-by zero j h = absurd (omega arith)
 small-by (suc size) j h = omega arith
 
 abbrev Inv-loop : tie.InvT-loop
-Inv-loop words area fields at base size count heads links key last k₀ k = Walking (sameBy words true fields at) (λ j. base + size * j) (λ i. recordKey words fields (base + size * i)) key count k
+Inv-loop words area fields at base size count heads links key last k₀ k = Walking (sameBy words true fields at) (λ j. base + size * j)
+    (λ i. recordKey words fields (base + size * i)) key count k
 
 abbrev μ-loop : tie.MeasureT-loop
 μ-loop words area fields at base size count heads links key last k₀ k = k
@@ -41,19 +42,14 @@ mul-low c = (let s = c .before .before in let p = s .pre .1 .1 .1 in let q = s .
 shared-slice-read-low : tie.Need-shared-slice-read-low Inv-loop μ-loop
 shared-slice-read-low c = (let s = c .before .before .before in let p = s .pre .1 .1 .1 in let r = s .pre .1 .1 .3 in omega arith)
 
-low-requires : tie.Need-low-requires Inv-loop μ-loop
-low-requires c κs = search needs
-
 add-word : tie.Need-add-word Inv-loop μ-loop
 add-word c = (let s = c .before .before .before .before in let h = key-small _ (s .pre .1 .0 .0) in let p = s .pre .1 .0 .1 in omega arith)
-
-word-requires : tie.Need-word-requires Inv-loop μ-loop
-word-requires c κs = search needs
 
 loop-holds : tie.Need-loop-holds Inv-loop μ-loop
 loop-holds c =
     let s = c .before .before .before .before .before in
-    records-start (now (s .args .words)) (now (s .args .area)) (s .args .fields) (s .args .at) (s .args .base) (s .args .size) (s .args .count) (s .args .heads) (s .args .links) (s .pre .0) (s .pre .1 .0 .0) (s .pre .1 .0 .3) (s .pre .1 .0 .4) (c .word .ensures)
+    records-start (now (s .args .words)) (now (s .args .area)) (s .args .fields) (s .args .at) (s .args .base) (s .args .size)
+    (s .args .count) (s .args .heads) (s .args .links) (s .pre .0) (s .pre .1 .0 .0) (s .pre .1 .0 .3) (s .pre .1 .0 .4) (c .word .ensures)
 
 sub-j : tie.Need-sub-j Inv-loop μ-loop
 sub-j c = (let h = c .loop-test .taken in omega arith)
@@ -64,7 +60,8 @@ mul-same c =
     let l = c .before .loop in
     let u = l .inv .within in
     let h = c .loop-test .taken in
-    let f = row-fits (s .args .base) (s .args .size) (l .k - 1) (s .args .count) (length (now (s .args .words))) (s .args .fields) (omega arith) (s .pre .1 .1 .0) (s .pre .1 .1 .3) in
+    let f = row-fits (s .args .base) (s .args .size) (l .k - 1) (s .args .count) (length (now (s .args .words))) (s .args .fields)
+    (omega arith) (s .pre .1 .1 .0) (s .pre .1 .1 .3) in
     let q = s .pre .1 .1 .2 in
     omega arith
 
@@ -74,7 +71,8 @@ add-same c =
     let l = c .before .loop in
     let u = l .inv .within in
     let h = c .loop-test .taken in
-    let f = row-fits (s .args .base) (s .args .size) (l .k - 1) (s .args .count) (length (now (s .args .words))) (s .args .fields) (omega arith) (s .pre .1 .1 .0) (s .pre .1 .1 .3) in
+    let f = row-fits (s .args .base) (s .args .size) (l .k - 1) (s .args .count) (length (now (s .args .words))) (s .args .fields)
+    (omega arith) (s .pre .1 .1 .0) (s .pre .1 .1 .3) in
     let q = s .pre .1 .1 .2 in
     omega arith
 
@@ -84,7 +82,8 @@ add-same-2 c =
     let l = c .before .loop in
     let u = l .inv .within in
     let h = c .loop-test .taken in
-    let f = row-fits (s .args .base) (s .args .size) (l .k - 1) (s .args .count) (length (now (s .args .words))) (s .args .fields) (omega arith) (s .pre .1 .1 .0) (s .pre .1 .1 .3) in
+    let f = row-fits (s .args .base) (s .args .size) (l .k - 1) (s .args .count) (length (now (s .args .words))) (s .args .fields)
+    (omega arith) (s .pre .1 .1 .0) (s .pre .1 .1 .3) in
     let q = s .pre .1 .1 .2 in
     omega arith
 
@@ -94,7 +93,8 @@ same-requires c κs =
     let l = c .before .loop in
     let u = l .inv .within in
     let h = c .loop-test .taken in
-    let f = row-fits (s .args .base) (s .args .size) (l .k - 1) (s .args .count) (length (now (s .args .words))) (s .args .fields) (omega arith) (s .pre .1 .1 .0) (s .pre .1 .1 .3) in
+    let f = row-fits (s .args .base) (s .args .size) (l .k - 1) (s .args .count) (length (now (s .args .words))) (s .args .fields)
+    (omega arith) (s .pre .1 .1 .0) (s .pre .1 .1 .3) in
     let q = s .pre .1 .1 .2 in
     (f, omega arith, s .pre .1 .0 .4, some (s .args .fields) (s .pre .1 .0 .3), c .before .before .before .low .ensures)
 
@@ -104,7 +104,9 @@ returns c =
     let i = i2 .before in
     let l = i .before .loop in
     let s = i .before .before .before .before .before .before .before in
-    records-hit (now (s .args .words)) (now (s .args .area)) (s .args .fields) (s .args .at) (s .args .base) (s .args .size) (s .args .count) (s .args .heads) (s .args .links) (s .pre .0) (s .pre .1 .0 .0) (s .pre .1 .0 .3) (s .pre .1 .0 .4) (l .k) (l .inv) (i .loop-test .taken) (here (s .args .base) (s .args .size * (l .k - 1)) (s .args .fields)) (i2 .same .ensures) (c .if1 .taken)
+    records-hit (now (s .args .words)) (now (s .args .area)) (s .args .fields) (s .args .at) (s .args .base) (s .args .size)
+    (s .args .count) (s .args .heads) (s .args .links) (s .pre .0) (s .pre .1 .0 .0) (s .pre .1 .0 .3) (s .pre .1 .0 .4) (l .k)
+    (l .inv) (i .loop-test .taken) (here (s .args .base) (s .args .size * (l .k - 1)) (s .args .fields)) (i2 .same .ensures) (c .if1 .taken)
 
 add-word-2 : tie.Need-add-word-2 Inv-loop μ-loop
 add-word-2 c =
@@ -112,14 +114,12 @@ add-word-2 c =
     let l = i .before .loop in
     let s = i .before .before .before .before .before .before .before in
     let u = l .inv .within in
-    let f = row-fits (s .args .base) (s .args .size) (l .k - 1) (s .args .count) (length (now (s .args .words))) (s .args .fields) (let h = i .loop-test .taken in omega arith) (s .pre .1 .1 .0) (s .pre .1 .1 .3) in
+    let f = row-fits (s .args .base) (s .args .size) (l .k - 1) (s .args .count) (length (now (s .args .words))) (s .args .fields)
+    (let h = i .loop-test .taken in omega arith) (s .pre .1 .1 .0) (s .pre .1 .1 .3) in
     let p = s .pre .1 .0 .2 in
     let g = small-by (s .args .size) (l .k - 1) (s .pre .1 .1 .3) in
     let q = s .pre .1 .1 .2 in
     omega arith
-
-word-requires-2 : tie.Need-word-requires-2 Inv-loop μ-loop
-word-requires-2 c κs = search needs
 
 loop-less : tie.Need-loop-less Inv-loop μ-loop
 loop-less c =
@@ -127,7 +127,9 @@ loop-less c =
     let i = i2 .before in
     let l = i .before .loop in
     let s = i .before .before .before .before .before .before .before in
-    records-less (now (s .args .words)) (now (s .args .area)) (s .args .fields) (s .args .at) (s .args .base) (s .args .size) (s .args .count) (s .args .heads) (s .args .links) (s .pre .0) (s .pre .1 .0 .0) (s .pre .1 .0 .3) (s .pre .1 .0 .4) (l .k) (l .inv) (i .loop-test .taken) (here (s .args .base) (s .args .size * (l .k - 1)) (s .args .fields)) (i2 .same .ensures) (c .word2 .ensures)
+    records-less (now (s .args .words)) (now (s .args .area)) (s .args .fields) (s .args .at) (s .args .base) (s .args .size)
+    (s .args .count) (s .args .heads) (s .args .links) (s .pre .0) (s .pre .1 .0 .0) (s .pre .1 .0 .3) (s .pre .1 .0 .4) (l .k)
+    (l .inv) (i .loop-test .taken) (here (s .args .base) (s .args .size * (l .k - 1)) (s .args .fields)) (i2 .same .ensures) (c .word2 .ensures)
 
 loop-again : tie.Need-loop-again Inv-loop μ-loop
 loop-again c =
@@ -135,35 +137,21 @@ loop-again c =
     let i = i2 .before in
     let l = i .before .loop in
     let s = i .before .before .before .before .before .before .before in
-    records-miss (now (s .args .words)) (now (s .args .area)) (s .args .fields) (s .args .at) (s .args .base) (s .args .size) (s .args .count) (s .args .heads) (s .args .links) (s .pre .0) (s .pre .1 .0 .0) (s .pre .1 .0 .3) (s .pre .1 .0 .4) (l .k) (l .inv) (i .loop-test .taken) (here (s .args .base) (s .args .size * (l .k - 1)) (s .args .fields)) (i2 .same .ensures) (c .word2 .ensures) (c .before .if1 .left)
+    records-miss (now (s .args .words)) (now (s .args .area)) (s .args .fields) (s .args .at) (s .args .base) (s .args .size)
+    (s .args .count) (s .args .heads) (s .args .links) (s .pre .0) (s .pre .1 .0 .0) (s .pre .1 .0 .3) (s .pre .1 .0 .4) (l .k)
+    (l .inv) (i .loop-test .taken) (here (s .args .base) (s .args .size * (l .k - 1)) (s .args .fields)) (i2 .same .ensures)
+    (c .word2 .ensures) (c .before .if1 .left)
 
 returns-2 : tie.Need-returns-2 Inv-loop μ-loop
 returns-2 c =
     let s = c .before .before .before .before .before .before .before in
     let l = c .before .loop in
-    records-end (now (s .args .words)) (now (s .args .area)) (s .args .fields) (s .args .at) (s .args .base) (s .args .size) (s .args .count) (s .args .heads) (s .args .links) (s .pre .0) (s .pre .1 .0 .0) (s .pre .1 .0 .3) (s .pre .1 .0 .4) (l .k) (l .inv) (c .loop-test .left)
+    records-end (now (s .args .words)) (now (s .args .area)) (s .args .fields) (s .args .at) (s .args .base) (s .args .size)
+    (s .args .count) (s .args .heads) (s .args .links) (s .pre .0) (s .pre .1 .0 .0) (s .pre .1 .0 .3) (s .pre .1 .0 .4) (l .k)
+    (l .inv) (c .loop-test .left)
 
 pub repeated-with-spec : {M : Type 1} → statement M
 repeated-with-spec =
-    tie.close
-    (tie.spec
-    Inv-loop
-    μ-loop
-    add-low
-    mul-low
-    shared-slice-read-low
-    low-requires
-    add-word
-    word-requires
-    loop-holds
-    sub-j
-    mul-same
-    add-same
-    add-same-2
-    same-requires
-    returns
-    add-word-2
-    word-requires-2
-    loop-less
-    loop-again
-    returns-2)
+    tie.close (tie.spec Inv-loop μ-loop add-low mul-low shared-slice-read-low (λ c κs. search needs) add-word
+    (λ c κs. search needs) loop-holds sub-j mul-same add-same add-same-2 same-requires returns add-word-2
+    (λ c κs. search needs) loop-less loop-again returns-2)

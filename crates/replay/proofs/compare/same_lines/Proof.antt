@@ -14,7 +14,8 @@ use Rattle.replay.proofs.compare.same_lines.Tie as tie
 
 abbrev Inv-loop : tie.InvT-loop
 Inv-loop words k lines area₀ out₀ snapshot c at₀ to₀ area out at to =
-    Judged snapshot area c × (length area ≡ length area₀) × (length out ≡ length out₀) × (length area₀ ≡ areaLimit) × (routedLimit ≤ length out₀) × (to ≤ length lines)
+    Judged snapshot area c × (length area ≡ length area₀) × (length out ≡ length out₀) × (length area₀ ≡ areaLimit)
+    × (routedLimit ≤ length out₀) × (to ≤ length lines)
 
 abbrev μ-loop : tie.MeasureT-loop
 μ-loop words k lines area₀ out₀ snapshot c at₀ to₀ area out at to = length words - at
@@ -22,95 +23,36 @@ abbrev μ-loop : tie.MeasureT-loop
 slice-aggregate-snapshot : tie.Need-slice-aggregate-snapshot Inv-loop μ-loop
 slice-aggregate-snapshot c = sym (length-take-le _ _ (omega arith))
 
-check-requires : tie.Need-check-requires Inv-loop μ-loop
-check-requires c κs = search needs
-
 loop-holds : tie.Need-loop-holds Inv-loop μ-loop
 loop-holds c =
     let s = c .before .before .before .before .before .before .before .before .before in
     let k = c .before .before .check in
     (checks-judged _ (now (s .args .area)) _ _ (sym (s .pre .2)) (k .ensures), refl, refl, k .kept .1 .0 ∙ sym (s .pre .2), s .pre .3, omega arith)
 
-next-line-requires : tie.Need-next-line-requires Inv-loop μ-loop
-next-line-requires c κs = search needs
-
-sub-if1 : tie.Need-sub-if1 Inv-loop μ-loop
-sub-if1 c = search needs
-
-same-length : tie.Need-same-length Inv-loop μ-loop
-same-length c = search needs
-
-same-length-2 : tie.Need-same-length-2 Inv-loop μ-loop
-same-length-2 c = search needs
-
-returns : tie.Need-returns Inv-loop μ-loop
-returns c = search needs
-
-slice-reshare-prefix-stands : tie.Need-slice-reshare-prefix-stands Inv-loop μ-loop
-slice-reshare-prefix-stands c = search needs
-
-slice-aggregate-stands : tie.Need-slice-aggregate-stands Inv-loop μ-loop
-slice-aggregate-stands c = search needs
-
-stands-requires : tie.Need-stands-requires Inv-loop μ-loop
-stands-requires c κs = search needs
-
-same-length-3 : tie.Need-same-length-3 Inv-loop μ-loop
-same-length-3 c = search needs
-
-same-length-4 : tie.Need-same-length-4 Inv-loop μ-loop
-same-length-4 c = search needs
-
-returns-2 : tie.Need-returns-2 Inv-loop μ-loop
-returns-2 c = search needs
-
-add-to : tie.Need-add-to Inv-loop μ-loop
-add-to c = search needs
-
 loop-less : tie.Need-loop-less Inv-loop μ-loop
 loop-less c =
     let t = c .before .before .before .before .before .before .before .before .before .before .before .loop-test .taken in
-    let m = next-more _ (c .before .before .before .before .before .before .before .before .before .before .before .before .loop .at) _ t (c .before .before .before .before .before .before .before .before .next-line .ensures .next) in
+    let m = next-more _ (c .before .before .before .before .before .before .before .before .before .before .before .before .loop .at)
+    _ t (c .before .before .before .before .before .before .before .before .next-line .ensures .next) in
     omega (arith, m, t)
 
 loop-again : tie.Need-loop-again Inv-loop μ-loop
 loop-again c =
     let l = c .before .before .before .before .before .before .before .before .before .before .before .before .loop .inv in
-    let t = c .before .before .before .before .before .before .before .before .next-line in
-    (t .ensures .checked, t .kept .1 .1 .0 ∙ l .1, t .kept .1 .1 .1 .1 .1 .0 ∙ l .2, l .3, l .4, omega (arith, c .before .before .before .if1 .left, l .5))
-
-same-length-5 : tie.Need-same-length-5 Inv-loop μ-loop
-same-length-5 c = search needs
-
-same-length-6 : tie.Need-same-length-6 Inv-loop μ-loop
-same-length-6 c = search needs
-
-returns-3 : tie.Need-returns-3 Inv-loop μ-loop
-returns-3 c = search needs
+    let t = c .before .before .before .before .before .before .before .before .next-line in (
+      t .ensures .checked,
+      t .kept .1 .1 .0 ∙ l .1,
+      t .kept .1 .1 .1 .1 .1 .0
+          ∙ l .2,
+      l .3,
+      l .4,
+      omega (arith, c .before .before .before .if1 .left, l .5),
+    )
 
 pub same-lines-spec : {M : Type 1} → statement M
 same-lines-spec =
-    tie.close
-    (tie.spec
-    Inv-loop
-    μ-loop
-    slice-aggregate-snapshot
-    check-requires
-    loop-holds
-    next-line-requires
-    sub-if1
-    same-length
-    same-length-2
-    returns
-    slice-reshare-prefix-stands
-    slice-aggregate-stands
-    stands-requires
-    same-length-3
-    same-length-4
-    returns-2
-    add-to
-    loop-less
-    loop-again
-    same-length-5
-    same-length-6
-    returns-3)
+    tie.close (tie.spec Inv-loop μ-loop slice-aggregate-snapshot (λ c κs. search needs) loop-holds
+    (λ c κs. search needs) (λ c. search needs) (λ c. search needs) (λ c. search needs) (λ c. search needs)
+    (λ c. search needs) (λ c. search needs) (λ c κs. search needs) (λ c. search needs) (λ c. search needs)
+    (λ c. search needs) (λ c. search needs) loop-less loop-again (λ c. search needs) (λ c. search needs)
+    (λ c. search needs))

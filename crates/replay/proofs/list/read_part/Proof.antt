@@ -9,28 +9,13 @@ use Rattle.replay.proofs.list.read_part.Tie as tie
 returns : tie.Need-returns
 returns c = λ e. absurd (false≢true e)
 
-slice-relend-prefix-read-full : tie.Need-slice-relend-prefix-read-full
-slice-relend-prefix-read-full c = search needs
-
 slice-aggregate-read-full : tie.Need-slice-aggregate-read-full
 slice-aggregate-read-full c = sym (length-take-le _ _ (omega arith))
-
-read-full-requires : tie.Need-read-full-requires
-read-full-requires c κs = search needs
-
-same-length : tie.Need-same-length
-same-length c = search needs
 
 returns-2 : tie.Need-returns-2
 returns-2 c = λ e. omega (arith, c .before .before .before .before .if1 .left)
 
 pub read-part-spec : {M : Type 1} → statement M
 read-part-spec =
-    tie.close
-    (tie.spec
-    returns
-    slice-relend-prefix-read-full
-    slice-aggregate-read-full
-    read-full-requires
-    same-length
+    tie.close (tie.spec returns (λ c. search needs) slice-aggregate-read-full (λ c κs. search needs) (λ c. search needs)
     returns-2)

@@ -9,12 +9,9 @@ returns : tie.Need-returns
 unfolding outcomeBy
 returns c = sym (ap (λ (b : Bool). outcomeBy b (c .before .args .found)) (c .if1 .taken))
 
-flag-requires : tie.Need-flag-requires
-flag-requires c κs = search needs
-
 returns-2 : tie.Need-returns-2
 unfolding outcomeBy
 returns-2 c = c .flag .ensures ∙ sym (ap (λ (b : Bool). outcomeBy b (c .before .before .args .found)) (c .before .if1 .left))
 
 pub outcome-spec : {M : Type 1} → statement M
-outcome-spec = tie.close (tie.spec returns flag-requires returns-2)
+outcome-spec = tie.close (tie.spec returns (λ c κs. search needs) returns-2)

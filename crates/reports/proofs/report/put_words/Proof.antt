@@ -17,31 +17,12 @@ abbrev μ-loop : tie.MeasureT-loop
 μ-loop out₀ at numbers i₀ out i = length numbers - i
 
 loop-holds : tie.Need-loop-holds Inv-loop μ-loop
-loop-holds c = (omega arith, refl, words-start (now (c .before .before .args .out)) (now (c .before .before .args .numbers)) (c .before .before .args .at))
-
-mul-low : tie.Need-mul-low Inv-loop μ-loop
-mul-low c = omega arith
-
-shared-slice-read-low : tie.Need-shared-slice-read-low Inv-loop μ-loop
-shared-slice-read-low c = omega arith
-
-low-requires : tie.Need-low-requires Inv-loop μ-loop
-low-requires c κs = tt
-
-add-out : tie.Need-add-out Inv-loop μ-loop
-add-out c = omega arith
-
-mul-out : tie.Need-mul-out Inv-loop μ-loop
-mul-out c = omega arith
-
-slice-write-out : tie.Need-slice-write-out Inv-loop μ-loop
-slice-write-out c = omega arith
-
-add-i : tie.Need-add-i Inv-loop μ-loop
-add-i c = omega arith
-
-loop-less : tie.Need-loop-less Inv-loop μ-loop
-loop-less c = omega arith
+loop-holds c = (
+  omega arith,
+  refl,
+  words-start (now (c .before .before .args .out)) (now (c .before .before .args .numbers))
+      (c .before .before .args .at),
+)
 
 loop-again : tie.Need-loop-again Inv-loop μ-loop
 loop-again c =
@@ -64,19 +45,5 @@ returns c =
 
 pub put-words-spec : {M : Type 1} → statement M
 put-words-spec =
-    tie.close
-    (tie.spec
-    Inv-loop
-    μ-loop
-    loop-holds
-    mul-low
-    shared-slice-read-low
-    low-requires
-    add-out
-    mul-out
-    slice-write-out
-    add-i
-    loop-less
-    loop-again
-    same-length
-    returns)
+    tie.close (tie.spec Inv-loop μ-loop loop-holds (λ c. omega arith) (λ c. omega arith) (λ c κs. tt) (λ c. omega arith)
+    (λ c. omega arith) (λ c. omega arith) (λ c. omega arith) (λ c. omega arith) loop-again same-length returns)

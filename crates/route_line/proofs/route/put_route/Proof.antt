@@ -22,9 +22,6 @@ put-steps-requires c κs =
     let h : 17 ≡ length (s .args .r .route) = slice-aggregate-put-steps c in
     (s .pre .0, s .pre .1, omega (arith, s .pre .1, h))
 
-same-length : tie.Need-same-length
-same-length c = search needs
-
 returns-2 : tie.Need-returns-2
 returns-2 c =
     let s = c .before .before .before .before .before .before .before .before .before .before in
@@ -32,4 +29,4 @@ returns-2 c =
     (put-as (route-found (s .args .r) (not-false _ (c .before .before .before .before .before .before .if1 .left))) (q .0), q .1)
 
 pub put-route-spec : {M : Type 1} → statement M
-put-route-spec = tie.close (tie.spec returns slice-aggregate-put-steps put-steps-requires same-length returns-2)
+put-route-spec = tie.close (tie.spec returns slice-aggregate-put-steps put-steps-requires (λ c. search needs) returns-2)

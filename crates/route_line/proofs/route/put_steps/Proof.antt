@@ -20,23 +20,11 @@ abbrev μ-loop : tie.MeasureT-loop
 loop-holds : tie.Need-loop-holds Inv-loop μ-loop
 loop-holds c = (omega arith, refl, put-as (steps-none (now (c .before .before .args .route))) (put-none _ _), omega arith)
 
-mul-put-step : tie.Need-mul-put-step Inv-loop μ-loop
-mul-put-step c = omega arith
-
-shared-slice-read-put-step : tie.Need-shared-slice-read-put-step Inv-loop μ-loop
-shared-slice-read-put-step c = omega arith
-
 put-step-requires : tie.Need-put-step-requires Inv-loop μ-loop
 put-step-requires c κs =
     let s = c .before .before .before .before .before .before in
     let l = c .before .before .before .loop in
     omega (arith, s .pre .0, s .pre .1, l .inv .1, l .inv .3, c .before .before .loop-test .taken)
-
-add-i : tie.Need-add-i Inv-loop μ-loop
-add-i c = omega arith
-
-loop-less : tie.Need-loop-less Inv-loop μ-loop
-loop-less c = omega arith
 
 loop-again : tie.Need-loop-again Inv-loop μ-loop
 loop-again c =
@@ -45,7 +33,8 @@ loop-again c =
     let p = c .before .before .put-step in (
       omega arith,
       p .kept .0 ∙ l .inv .1,
-      put-as (steps-next (now (s .args .route)) (l .i) (omega (arith, s .pre .2, c .before .before .before .before .before .loop-test .taken))) (put-two (l .inv .2) (p .ensures .0)),
+      put-as (steps-next (now (s .args .route)) (l .i) (omega (arith, s .pre .2, c .before .before .before .before .before .loop-test .taken)))
+          (put-two (l .inv .2) (p .ensures .0)),
       omega (arith, l .inv .3, p .ensures .1),
     )
 
@@ -62,16 +51,5 @@ returns c =
 
 pub put-steps-spec : {M : Type 1} → statement M
 put-steps-spec =
-    tie.close
-    (tie.spec
-    Inv-loop
-    μ-loop
-    loop-holds
-    mul-put-step
-    shared-slice-read-put-step
-    put-step-requires
-    add-i
-    loop-less
-    loop-again
-    same-length
-    returns)
+    tie.close (tie.spec Inv-loop μ-loop loop-holds (λ c. omega arith) (λ c. omega arith) put-step-requires
+    (λ c. omega arith) (λ c. omega arith) loop-again same-length returns)

@@ -2,33 +2,18 @@ use borrow.Author.Needs.{needs}
 use Rattle.scope_edits.proofs.entries.defined.Statement.{statement}
 use Rattle.scope_edits.proofs.entries.defined.Tie as tie
 
-word-requires : tie.Need-word-requires
-word-requires c κs = search needs
-
-word-requires-2 : tie.Need-word-requires-2
-word-requires-2 c κs = search needs
-
-word-requires-3 : tie.Need-word-requires-3
-word-requires-3 c κs = search needs
-
-word-requires-4 : tie.Need-word-requires-4
-word-requires-4 c κs = search needs
-
-word-requires-5 : tie.Need-word-requires-5
-word-requires-5 c κs = search needs
-
 returns : tie.Need-returns
 returns c =
     let d = c .before .before .before .before .before in
-    rw (d .word5 .ensures, d .before .word4 .ensures, d .before .before .word3 .ensures, d .before .before .before .word2 .ensures, d .before .before .before .before .word .ensures)
+    rw (
+      d .word5 .ensures,
+      d .before .word4 .ensures,
+      d .before .before .word3 .ensures,
+      d .before .before .before .word2 .ensures,
+      d .before .before .before .before .word .ensures,
+    )
 
 pub defined-spec : {M : Type 1} → statement M
 defined-spec =
-    tie.close
-    (tie.spec
-    word-requires
-    word-requires-2
-    word-requires-3
-    word-requires-4
-    word-requires-5
-    returns)
+    tie.close (tie.spec (λ c κs. search needs) (λ c κs. search needs) (λ c κs. search needs) (λ c κs. search needs)
+    (λ c κs. search needs) returns)

@@ -11,34 +11,14 @@ use Rattle.scope_edits.proofs.moves.move_up.Tie as tie
 
 abbrev Inv-loop : tie.InvT-loop
 Inv-loop words₀ at count i₀ words i =
-    (at ≤ i) × (i ≤ count) × (length words ≡ length words₀) × (words ≡ take (i + scopeSize) words₀ ++ (drop i (take count words₀) ++ drop (count + scopeSize) words₀))
+    (at ≤ i) × (i ≤ count) × (length words ≡ length words₀)
+    × (words ≡ take (i + scopeSize) words₀ ++ (drop i (take count words₀) ++ drop (count + scopeSize) words₀))
 
 abbrev μ-loop : tie.MeasureT-loop
 μ-loop words₀ at count i₀ words i = i
 
 loop-holds : tie.Need-loop-holds Inv-loop μ-loop
 loop-holds c = let p = c .pre in (p .0, omega arith, refl, up-start (now (c .args .words)) (c .args .count) (omega arith))
-
-sub-i : tie.Need-sub-i Inv-loop μ-loop
-sub-i c = omega arith
-
-mul-words : tie.Need-mul-words Inv-loop μ-loop
-mul-words c = omega arith
-
-slice-read-words : tie.Need-slice-read-words Inv-loop μ-loop
-slice-read-words c = omega arith
-
-add-words : tie.Need-add-words Inv-loop μ-loop
-add-words c = omega arith
-
-mul-words-2 : tie.Need-mul-words-2 Inv-loop μ-loop
-mul-words-2 c = omega arith
-
-slice-write-words : tie.Need-slice-write-words Inv-loop μ-loop
-slice-write-words c = omega arith
-
-loop-less : tie.Need-loop-less Inv-loop μ-loop
-loop-less c = omega arith
 
 loop-again : tie.Need-loop-again Inv-loop μ-loop
 loop-again c =
@@ -50,7 +30,8 @@ loop-again c =
       omega arith,
       omega arith,
       (simp length-set) ∙ k .2,
-      up-next (now (s .args .words)) (l .words) (drop (s .args .count + scopeSize) (now (s .args .words))) (s .args .count) (l .i) (l .i - 1) (omega arith) (k .1) (p .1) (k .3),
+      up-next (now (s .args .words)) (l .words) (drop (s .args .count + scopeSize) (now (s .args .words))) (s .args .count) (l .i)
+          (l .i - 1) (omega arith) (k .1) (p .1) (k .3),
     )
 
 same-length : tie.Need-same-length Inv-loop μ-loop
@@ -62,22 +43,10 @@ returns c =
     let s = c .before .before in
     let k = l .inv in
     let e : l .i ≡ s .args .at = let t = c .loop-test .left in let a = k .0 in omega arith in
-    k .3 ∙ ap (λ i. take (i + scopeSize) (now (s .args .words)) ++ (drop i (take (s .args .count) (now (s .args .words))) ++ drop (s .args .count + scopeSize) (now (s .args .words)))) e
+    k .3 ∙ ap (λ i. take (i + scopeSize) (now (s .args .words)) ++ (drop i (take (s .args .count) (now (s .args .words))) ++ drop
+    (s .args .count + scopeSize) (now (s .args .words)))) e
 
 pub move-up-spec : {M : Type 1} → statement M
 move-up-spec =
-    tie.close
-    (tie.spec
-    Inv-loop
-    μ-loop
-    loop-holds
-    sub-i
-    mul-words
-    slice-read-words
-    add-words
-    mul-words-2
-    slice-write-words
-    loop-less
-    loop-again
-    same-length
-    returns)
+    tie.close (tie.spec Inv-loop μ-loop loop-holds (λ c. omega arith) (λ c. omega arith) (λ c. omega arith)
+    (λ c. omega arith) (λ c. omega arith) (λ c. omega arith) (λ c. omega arith) loop-again same-length returns)

@@ -70,7 +70,8 @@ find-path-inner-below t =
     (falls 2 find-path-inner-kinds.ps _<_ μ-find-path-inner t)
     find-path-inner.Pre
 
-find-by-name-named-requires : (t : ℕ) → find-by-name-lts.Need-named-requires (
+abbrev find-by-name-claims : ℕ → find-by-name-lts.Claims
+find-by-name-claims t = (
   named-reads.Asked,
   named-reads.Learnt,
   variant-of-reads.Asked,
@@ -87,301 +88,104 @@ find-by-name-named-requires : (t : ℕ) → find-by-name-lts.Need-named-requires
   definition-second-reads.Learnt,
   push-variant-reads.Asked,
   push-variant-reads.Learnt,
-) (find-by-name-at t) find-by-name.Post
+)
+
+abbrev find-path-inner-claims : ℕ → find-path-inner-lts.Claims
+find-path-inner-claims t = (
+  straight-of-reads.Asked,
+  straight-of-reads.Learnt,
+  find-by-name-below t,
+  find-by-name.Post,
+  find-path-for-module-reads.Asked,
+  find-path-for-module-reads.Learnt,
+)
+
+find-by-name-named-requires :
+    (t : ℕ) → find-by-name-lts.Need-named-requires (find-by-name-claims t) (find-by-name-at t) find-by-name.Post
 find-by-name-named-requires t c κs = let o = c .before .before .before in (o .pre .1 .0 .reads, o .pre .1 .0 .from)
 
-find-by-name-same-length : (t : ℕ) → find-by-name-lts.Need-same-length (
-  named-reads.Asked,
-  named-reads.Learnt,
-  variant-of-reads.Asked,
-  variant-of-reads.Learnt,
-  calculate-best-path-reads.Asked,
-  calculate-best-path-reads.Learnt,
-  definition-first-reads.Asked,
-  definition-first-reads.Learnt,
-  item-of-reads.Asked,
-  item-of-reads.Learnt,
-  find-path-inner-below t,
-  find-path-inner.Post,
-  definition-second-reads.Asked,
-  definition-second-reads.Learnt,
-  push-variant-reads.Asked,
-  push-variant-reads.Learnt,
-) (find-by-name-at t) find-by-name.Post
-find-by-name-same-length t c = refl
-
-find-by-name-returns : (t : ℕ) → find-by-name-lts.Need-returns (
-  named-reads.Asked,
-  named-reads.Learnt,
-  variant-of-reads.Asked,
-  variant-of-reads.Learnt,
-  calculate-best-path-reads.Asked,
-  calculate-best-path-reads.Learnt,
-  definition-first-reads.Asked,
-  definition-first-reads.Learnt,
-  item-of-reads.Asked,
-  item-of-reads.Learnt,
-  find-path-inner-below t,
-  find-path-inner.Post,
-  definition-second-reads.Asked,
-  definition-second-reads.Learnt,
-  push-variant-reads.Asked,
-  push-variant-reads.Learnt,
-) (find-by-name-at t) find-by-name.Post
+find-by-name-returns : (t : ℕ) → find-by-name-lts.Need-returns (find-by-name-claims t) (find-by-name-at t) find-by-name.Post
 find-by-name-returns t c =
     let o = c .before .before .before .before .before in
     let a = o .args in
-    record { same = name-found (snapOf (now (a .words)) (now (a .area)) (a .l)) (a .x) (a .item) (a .t) (c .before .named .ensures) (c .if1 .taken); tables = refl }
+    record {
+      same = name-found (snapOf (now (a .words)) (now (a .area)) (a .l)) (a .x) (a .item) (a .t) (c .before .named .ensures)
+          (c .if1 .taken);
+      tables = refl;
+    }
 
-find-by-name-variant-of-requires : (t : ℕ) → find-by-name-lts.Need-variant-of-requires (
-  named-reads.Asked,
-  named-reads.Learnt,
-  variant-of-reads.Asked,
-  variant-of-reads.Learnt,
-  calculate-best-path-reads.Asked,
-  calculate-best-path-reads.Learnt,
-  definition-first-reads.Asked,
-  definition-first-reads.Learnt,
-  item-of-reads.Asked,
-  item-of-reads.Learnt,
-  find-path-inner-below t,
-  find-path-inner.Post,
-  definition-second-reads.Asked,
-  definition-second-reads.Learnt,
-  push-variant-reads.Asked,
-  push-variant-reads.Learnt,
-) (find-by-name-at t) find-by-name.Post
+find-by-name-variant-of-requires :
+    (t : ℕ) → find-by-name-lts.Need-variant-of-requires (find-by-name-claims t) (find-by-name-at t) find-by-name.Post
 find-by-name-variant-of-requires t c κs = let o = c .before .before .before .before .before in few-words _ _ _ (o .pre .1 .0 .reads)
 
-find-by-name-enum-known-h : (t : ℕ) → find-by-name-lts.Need-enum-known-h (
-  named-reads.Asked,
-  named-reads.Learnt,
-  variant-of-reads.Asked,
-  variant-of-reads.Learnt,
-  calculate-best-path-reads.Asked,
-  calculate-best-path-reads.Learnt,
-  definition-first-reads.Asked,
-  definition-first-reads.Learnt,
-  item-of-reads.Asked,
-  item-of-reads.Learnt,
-  find-path-inner-below t,
-  find-path-inner.Post,
-  definition-second-reads.Asked,
-  definition-second-reads.Learnt,
-  push-variant-reads.Asked,
-  push-variant-reads.Learnt,
-) (find-by-name-at t) find-by-name.Post
-find-by-name-enum-known-h t c = search needs
-
-find-by-name-enum-told : (t : ℕ) → find-by-name-lts.Need-enum-told (
-  named-reads.Asked,
-  named-reads.Learnt,
-  variant-of-reads.Asked,
-  variant-of-reads.Learnt,
-  calculate-best-path-reads.Asked,
-  calculate-best-path-reads.Learnt,
-  definition-first-reads.Asked,
-  definition-first-reads.Learnt,
-  item-of-reads.Asked,
-  item-of-reads.Learnt,
-  find-path-inner-below t,
-  find-path-inner.Post,
-  definition-second-reads.Asked,
-  definition-second-reads.Learnt,
-  push-variant-reads.Asked,
-  push-variant-reads.Learnt,
-) (find-by-name-at t) find-by-name.Post
-find-by-name-enum-told t c = search needs
-
 find-by-name-calculate-best-path-requires :
-    (t : ℕ) → find-by-name-lts.Need-calculate-best-path-requires (
-      named-reads.Asked,
-      named-reads.Learnt,
-      variant-of-reads.Asked,
-      variant-of-reads.Learnt,
-      calculate-best-path-reads.Asked,
-      calculate-best-path-reads.Learnt,
-      definition-first-reads.Asked,
-      definition-first-reads.Learnt,
-      item-of-reads.Asked,
-      item-of-reads.Learnt,
-      find-path-inner-below t,
-      find-path-inner.Post,
-      definition-second-reads.Asked,
-      definition-second-reads.Learnt,
-      push-variant-reads.Asked,
-      push-variant-reads.Learnt,
-    ) (find-by-name-at t) find-by-name.Post
-find-by-name-calculate-best-path-requires t c κs = let o = c .before .before .before .before .before .before .before .before .before in (begun (o .pre .1 .0), o .pre .1 .1, o .pre .1 .2)
+    (t : ℕ) → find-by-name-lts.Need-calculate-best-path-requires (find-by-name-claims t) (find-by-name-at t) find-by-name.Post
+find-by-name-calculate-best-path-requires t c κs = let o = c .before .before .before .before .before .before .before .before .before in
+    (begun (o .pre .1 .0), o .pre .1 .1, o .pre .1 .2)
 
-find-by-name-same-length-2 : (t : ℕ) → find-by-name-lts.Need-same-length-2 (
-  named-reads.Asked,
-  named-reads.Learnt,
-  variant-of-reads.Asked,
-  variant-of-reads.Learnt,
-  calculate-best-path-reads.Asked,
-  calculate-best-path-reads.Learnt,
-  definition-first-reads.Asked,
-  definition-first-reads.Learnt,
-  item-of-reads.Asked,
-  item-of-reads.Learnt,
-  find-path-inner-below t,
-  find-path-inner.Post,
-  definition-second-reads.Asked,
-  definition-second-reads.Learnt,
-  push-variant-reads.Asked,
-  push-variant-reads.Learnt,
-) (find-by-name-at t) find-by-name.Post
+find-by-name-same-length-2 :
+    (t : ℕ) → find-by-name-lts.Need-same-length-2 (find-by-name-claims t) (find-by-name-at t) find-by-name.Post
 find-by-name-same-length-2 t c = c .before .before .calculate-best-path .kept .1 .0
 
-find-by-name-returns-2 : (t : ℕ) → find-by-name-lts.Need-returns-2 (
-  named-reads.Asked,
-  named-reads.Learnt,
-  variant-of-reads.Asked,
-  variant-of-reads.Learnt,
-  calculate-best-path-reads.Asked,
-  calculate-best-path-reads.Learnt,
-  definition-first-reads.Asked,
-  definition-first-reads.Learnt,
-  item-of-reads.Asked,
-  item-of-reads.Learnt,
-  find-path-inner-below t,
-  find-path-inner.Post,
-  definition-second-reads.Asked,
-  definition-second-reads.Learnt,
-  push-variant-reads.Asked,
-  push-variant-reads.Learnt,
-) (find-by-name-at t) find-by-name.Post
+find-by-name-returns-2 : (t : ℕ) → find-by-name-lts.Need-returns-2 (find-by-name-claims t) (find-by-name-at t) find-by-name.Post
 find-by-name-returns-2 t c =
     let o = c .before .before .before .before .before .before .before .before .before .before .before .before in
     let a = o .args in
     let f = c .before .before .calculate-best-path in
-    let e = sym (ap (entryOf definitionAt (now (a .words))) (c .before .before .before .before .enum-told .given .1)) ∙ c .before .before .before .before .before .before .variant-of .ensures (now (a .area)) in
+    let e = sym (ap (entryOf definitionAt (now (a .words))) (c .before .before .before .before .enum-told .given .1))
+    ∙ c .before .before .before .before .before .before .variant-of .ensures (now (a .area)) in
     record {
-      same = f .ensures .same ∙ ap foundOf (name-plain (snapOf (now (a .words)) (now (a .area)) (a .l)) (a .x) (a .item) (a .t) (c .before .before .before .before .before .before .before .before .named .ensures) (c .before .before .before .before .before .before .before .if1 .left) e);
+      same = f .ensures .same ∙ ap foundOf (name-plain (snapOf (now (a .words)) (now (a .area)) (a .l)) (a .x) (a .item) (a .t)
+          (c .before .before .before .before .before .before .before .before .named .ensures)
+          (c .before .before .before .before .before .before .before .if1 .left) e);
       tables = f .ensures .tables;
     }
 
-find-by-name-definition-first-requires : (t : ℕ) → find-by-name-lts.Need-definition-first-requires (
-  named-reads.Asked,
-  named-reads.Learnt,
-  variant-of-reads.Asked,
-  variant-of-reads.Learnt,
-  calculate-best-path-reads.Asked,
-  calculate-best-path-reads.Learnt,
-  definition-first-reads.Asked,
-  definition-first-reads.Learnt,
-  item-of-reads.Asked,
-  item-of-reads.Learnt,
-  find-path-inner-below t,
-  find-path-inner.Post,
-  definition-second-reads.Asked,
-  definition-second-reads.Learnt,
-  push-variant-reads.Asked,
-  push-variant-reads.Learnt,
-) (find-by-name-at t) find-by-name.Post
-find-by-name-definition-first-requires t c κs = tt
+find-by-name-item-of-requires :
+    (t : ℕ) → find-by-name-lts.Need-item-of-requires (find-by-name-claims t) (find-by-name-at t) find-by-name.Post
+find-by-name-item-of-requires t c κs = let o = c .before .before .before .before .before .before .before .before .before .before
+    in few-words _ _ _ (o .pre .1 .0 .reads)
 
-find-by-name-item-of-requires : (t : ℕ) → find-by-name-lts.Need-item-of-requires (
-  named-reads.Asked,
-  named-reads.Learnt,
-  variant-of-reads.Asked,
-  variant-of-reads.Learnt,
-  calculate-best-path-reads.Asked,
-  calculate-best-path-reads.Learnt,
-  definition-first-reads.Asked,
-  definition-first-reads.Learnt,
-  item-of-reads.Asked,
-  item-of-reads.Learnt,
-  find-path-inner-below t,
-  find-path-inner.Post,
-  definition-second-reads.Asked,
-  definition-second-reads.Learnt,
-  push-variant-reads.Asked,
-  push-variant-reads.Learnt,
-) (find-by-name-at t) find-by-name.Post
-find-by-name-item-of-requires t c κs = let o = c .before .before .before .before .before .before .before .before .before .before in few-words _ _ _ (o .pre .1 .0 .reads)
-
-find-by-name-find-path-inner-requires : (t : ℕ) → find-by-name-lts.Need-find-path-inner-requires (
-  named-reads.Asked,
-  named-reads.Learnt,
-  variant-of-reads.Asked,
-  variant-of-reads.Learnt,
-  calculate-best-path-reads.Asked,
-  calculate-best-path-reads.Learnt,
-  definition-first-reads.Asked,
-  definition-first-reads.Learnt,
-  item-of-reads.Asked,
-  item-of-reads.Learnt,
-  find-path-inner-below t,
-  find-path-inner.Post,
-  definition-second-reads.Asked,
-  definition-second-reads.Learnt,
-  push-variant-reads.Asked,
-  push-variant-reads.Learnt,
-) (find-by-name-at t) find-by-name.Post
+find-by-name-find-path-inner-requires : (t : ℕ) → find-by-name-lts.Need-find-path-inner-requires (find-by-name-claims t)
+    (find-by-name-at t) find-by-name.Post
 find-by-name-find-path-inner-requires t c κs =
     let o = c .before .before .before .before .before .before .before .before .before .before .before .before in
     let a = o .args in
-    let e = sym (ap (entryOf definitionAt (now (a .words))) (c .before .before .before .before .h .given .1)) ∙ c .before .before .before .before .before .before .variant-of .ensures (now (a .area)) in
-    let g = c .before .item-of .ensures (now (a .area)) ∙ ap (itemOf (snapOf (now (a .words)) (now (a .area)) (a .l)) 0) (c .before .before .definition-first .ensures) in
+    let e = sym (ap (entryOf definitionAt (now (a .words))) (c .before .before .before .before .h .given .1))
+    ∙ c .before .before .before .before .before .before .variant-of .ensures (now (a .area)) in
+    let g = c .before .item-of .ensures (now (a .area)) ∙ ap (itemOf (snapOf (now (a .words)) (now (a .area)) (a .l)) 0)
+    (c .before .before .definition-first .ensures) in
     let p = parent-of (now (a .words)) (now (a .area)) (a .l) (o .pre .1 .0 .reads) (a .item) _ (o .pre .1 .1 .0) e in
     let n = ap number g in (
       omega (arith, o .pre .0, p .falls, n),
       (
         o .pre .1 .0,
-        (subst (Known (a .l)) (sym g) (p .asked), subst (λ (y : Item). nsOf y ≤ 2) (sym g) (item-ns (snapOf (now (a .words)) (now (a .area)) (a .l)) 0 _ (omega arith))),
+        (
+          subst (Known (a .l)) (sym g) (p .asked),
+          subst (λ (y : Item). nsOf y ≤ 2) (sym g)
+              (item-ns (snapOf (now (a .words)) (now (a .area)) (a .l)) 0 _ (omega arith)),
+        ),
         o .pre .1 .2,
       ),
     )
 
-find-by-name-definition-second-requires :
-    (t : ℕ) → find-by-name-lts.Need-definition-second-requires (
-      named-reads.Asked,
-      named-reads.Learnt,
-      variant-of-reads.Asked,
-      variant-of-reads.Learnt,
-      calculate-best-path-reads.Asked,
-      calculate-best-path-reads.Learnt,
-      definition-first-reads.Asked,
-      definition-first-reads.Learnt,
-      item-of-reads.Asked,
-      item-of-reads.Learnt,
-      find-path-inner-below t,
-      find-path-inner.Post,
-      definition-second-reads.Asked,
-      definition-second-reads.Learnt,
-      push-variant-reads.Asked,
-      push-variant-reads.Learnt,
-    ) (find-by-name-at t) find-by-name.Post
-find-by-name-definition-second-requires t c κs = tt
-
-find-by-name-push-variant-requires : (t : ℕ) → find-by-name-lts.Need-push-variant-requires (
-  named-reads.Asked,
-  named-reads.Learnt,
-  variant-of-reads.Asked,
-  variant-of-reads.Learnt,
-  calculate-best-path-reads.Asked,
-  calculate-best-path-reads.Learnt,
-  definition-first-reads.Asked,
-  definition-first-reads.Learnt,
-  item-of-reads.Asked,
-  item-of-reads.Learnt,
-  find-path-inner-below t,
-  find-path-inner.Post,
-  definition-second-reads.Asked,
-  definition-second-reads.Learnt,
-  push-variant-reads.Asked,
-  push-variant-reads.Learnt,
-) (find-by-name-at t) find-by-name.Post
+find-by-name-push-variant-requires : (t : ℕ) → find-by-name-lts.Need-push-variant-requires (find-by-name-claims t)
+    (find-by-name-at t) find-by-name.Post
 find-by-name-push-variant-requires t c κs =
-    let o = c .before .before .before .before .before .before .before .before .before .before .before .before .before .before .before .before .before .before .before .before in
+    let o = c .before .before .before .before .before .before .before .before .before .before .before .before .before .before
+    .before .before .before .before .before .before in
     let a = o .args in
-    let e = sym (ap (entryOf definitionAt (now (a .words))) (c .before .before .before .before .before .before .before .before .before .before .before .before .h .given .1)) ∙ c .before .before .before .before .before .before .before .before .before .before .before .before .before .before .variant-of .ensures (now (a .area)) in
-    let g = c .before .before .before .before .before .before .before .before .before .item-of .ensures (now (a .area)) ∙ ap (itemOf (snapOf (now (a .words)) (now (a .area)) (a .l)) 0) (c .before .before .before .before .before .before .before .before .before .before .definition-first .ensures) in
+    let e = sym (ap (entryOf definitionAt (now (a .words)))
+    (c .before .before .before .before .before .before .before .before .before .before .before .before .h .given .1))
+    ∙ c .before .before .before .before .before .before .before .before .before .before .before .before .before .before .variant-of .ensures
+    (now (a .area)) in
+    let g = c .before .before .before .before .before .before .before .before .before .item-of .ensures (now (a .area))
+    ∙ ap (itemOf (snapOf (now (a .words)) (now (a .area)) (a .l)) 0)
+    (c .before .before .before .before .before .before .before .before .before .before .definition-first .ensures) in
     let p = parent-of (now (a .words)) (now (a .area)) (a .l) (o .pre .1 .0 .reads) (a .item) _ (o .pre .1 .1 .0) e in
     let f = c .before .before .before .before .before .before .before .find-path-inner in
-    let q = enum-offered (now (a .words)) (now (a .area)) (a .l) (a .x) _ (a .t) (f .result) (o .pre .1 .0) (subst (λ (y : Item). variantOf (snapOf (now (a .words)) (now (a .area)) (a .l)) y ≡ none) (sym g) (p .plain)) (f .ensures .same) in (
+    let q = enum-offered (now (a .words)) (now (a .area)) (a .l) (a .x) _ (a .t) (f .result) (o .pre .1 .0)
+    (subst (λ (y : Item). variantOf (snapOf (now (a .words)) (now (a .area)) (a .l)) y ≡ none) (sym g) (p .plain)) (f .ensures .same) in (
       same-reads (now (a .words)) (now (a .area)) _ (a .l) (f .ensures .tables) (o .pre .1 .0 .reads),
       omega (arith, c .definition-second .ensures, p .name),
       q .few,
@@ -390,291 +194,128 @@ find-by-name-push-variant-requires t c κs =
       p .place,
     )
 
-find-by-name-same-length-3 : (t : ℕ) → find-by-name-lts.Need-same-length-3 (
-  named-reads.Asked,
-  named-reads.Learnt,
-  variant-of-reads.Asked,
-  variant-of-reads.Learnt,
-  calculate-best-path-reads.Asked,
-  calculate-best-path-reads.Learnt,
-  definition-first-reads.Asked,
-  definition-first-reads.Learnt,
-  item-of-reads.Asked,
-  item-of-reads.Learnt,
-  find-path-inner-below t,
-  find-path-inner.Post,
-  definition-second-reads.Asked,
-  definition-second-reads.Learnt,
-  push-variant-reads.Asked,
-  push-variant-reads.Learnt,
-) (find-by-name-at t) find-by-name.Post
+find-by-name-same-length-3 :
+    (t : ℕ) → find-by-name-lts.Need-same-length-3 (find-by-name-claims t) (find-by-name-at t) find-by-name.Post
 find-by-name-same-length-3 t c = c .before .before .before .before .before .before .before .before .find-path-inner .kept .1 .0
 
-find-by-name-returns-3 : (t : ℕ) → find-by-name-lts.Need-returns-3 (
-  named-reads.Asked,
-  named-reads.Learnt,
-  variant-of-reads.Asked,
-  variant-of-reads.Learnt,
-  calculate-best-path-reads.Asked,
-  calculate-best-path-reads.Learnt,
-  definition-first-reads.Asked,
-  definition-first-reads.Learnt,
-  item-of-reads.Asked,
-  item-of-reads.Learnt,
-  find-path-inner-below t,
-  find-path-inner.Post,
-  definition-second-reads.Asked,
-  definition-second-reads.Learnt,
-  push-variant-reads.Asked,
-  push-variant-reads.Learnt,
-) (find-by-name-at t) find-by-name.Post
+find-by-name-returns-3 : (t : ℕ) → find-by-name-lts.Need-returns-3 (find-by-name-claims t) (find-by-name-at t) find-by-name.Post
 find-by-name-returns-3 t c =
-    let o = c .before .before .before .before .before .before .before .before .before .before .before .before .before .before .before .before .before .before .before .before .before in
+    let o = c .before .before .before .before .before .before .before .before .before .before .before .before .before .before
+    .before .before .before .before .before .before .before in
     let a = o .args in
-    let e = sym (ap (entryOf definitionAt (now (a .words))) (c .before .before .before .before .before .before .before .before .before .before .before .before .before .h .given .1)) ∙ c .before .before .before .before .before .before .before .before .before .before .before .before .before .before .before .variant-of .ensures (now (a .area)) in
-    let g = c .before .before .before .before .before .before .before .before .before .before .item-of .ensures (now (a .area)) ∙ ap (itemOf (snapOf (now (a .words)) (now (a .area)) (a .l)) 0) (c .before .before .before .before .before .before .before .before .before .before .before .definition-first .ensures) in
+    let e = sym (ap (entryOf definitionAt (now (a .words)))
+    (c .before .before .before .before .before .before .before .before .before .before .before .before .before .h .given .1))
+    ∙ c .before .before .before .before .before .before .before .before .before .before .before .before .before .before .before
+    .variant-of .ensures (now (a .area)) in
+    let g = c .before .before .before .before .before .before .before .before .before .before .item-of .ensures (now (a .area))
+    ∙ ap (itemOf (snapOf (now (a .words)) (now (a .area)) (a .l)) 0)
+    (c .before .before .before .before .before .before .before .before .before .before .before .definition-first .ensures) in
     let f = c .before .before .before .before .before .before .before .before .find-path-inner in
-    enum-run (o .pre .1 .0) (a .item) (a .t) (c .before .before .before .before .before .before .before .before .before .before .before .before .before .before .before .before .before .named .ensures) (c .before .before .before .before .before .before .before .before .before .before .before .before .before .before .before .before .if1 .left) _ e g (f .ensures) (c .before .before .before .if2 .taken) (c .before .definition-second .ensures) (c .push-variant .ensures)
+    enum-run (o .pre .1 .0) (a .item) (a .t)
+    (c .before .before .before .before .before .before .before .before .before .before .before .before .before .before .before
+    .before .before .named .ensures)
+    (c .before .before .before .before .before .before .before .before .before .before .before .before .before .before .before
+    .before .if1 .left) _ e g (f .ensures) (c .before .before .before .if2 .taken) (c .before .definition-second .ensures)
+    (c .push-variant .ensures)
 
 find-by-name-calculate-best-path-requires-2 :
-    (t : ℕ) → find-by-name-lts.Need-calculate-best-path-requires-2 (
-      named-reads.Asked,
-      named-reads.Learnt,
-      variant-of-reads.Asked,
-      variant-of-reads.Learnt,
-      calculate-best-path-reads.Asked,
-      calculate-best-path-reads.Learnt,
-      definition-first-reads.Asked,
-      definition-first-reads.Learnt,
-      item-of-reads.Asked,
-      item-of-reads.Learnt,
-      find-path-inner-below t,
-      find-path-inner.Post,
-      definition-second-reads.Asked,
-      definition-second-reads.Learnt,
-      push-variant-reads.Asked,
-      push-variant-reads.Learnt,
-    ) (find-by-name-at t) find-by-name.Post
+    (t : ℕ) → find-by-name-lts.Need-calculate-best-path-requires-2 (find-by-name-claims t) (find-by-name-at t) find-by-name.Post
 find-by-name-calculate-best-path-requires-2 t c κs =
-    let o = c .before .before .before .before .before .before .before .before .before .before .before .before .before .before .before .before .before .before .before in
+    let o = c .before .before .before .before .before .before .before .before .before .before .before .before .before .before
+    .before .before .before .before .before in
     let a = o .args in
-    let f = c .before .before .before .before .before .before .find-path-inner in
-    (begun-later (begun (o .pre .1 .0)) (f .ensures .tables) (f .kept .1 .0), o .pre .1 .1, omega (arith, o .pre .1 .2, tank-stays (snapOf (now (a .words)) (now (a .area)) (a .l)) (a .x) _ (a .t) (f .result) (f .ensures .same) (o .pre .1 .2)))
+    let f = c .before .before .before .before .before .before .find-path-inner in (
+      begun-later (begun (o .pre .1 .0)) (f .ensures .tables) (f .kept .1 .0),
+      o .pre .1 .1,
+      omega (
+        arith,
+        o .pre .1 .2,
+        tank-stays
+            (snapOf (now (a .words)) (now (a .area)) (a .l)) (a .x) _ (a .t) (f .result) (f .ensures .same) (o .pre .1 .2),
+      ),
+    )
 
-find-by-name-same-length-4 : (t : ℕ) → find-by-name-lts.Need-same-length-4 (
-  named-reads.Asked,
-  named-reads.Learnt,
-  variant-of-reads.Asked,
-  variant-of-reads.Learnt,
-  calculate-best-path-reads.Asked,
-  calculate-best-path-reads.Learnt,
-  definition-first-reads.Asked,
-  definition-first-reads.Learnt,
-  item-of-reads.Asked,
-  item-of-reads.Learnt,
-  find-path-inner-below t,
-  find-path-inner.Post,
-  definition-second-reads.Asked,
-  definition-second-reads.Learnt,
-  push-variant-reads.Asked,
-  push-variant-reads.Learnt,
-) (find-by-name-at t) find-by-name.Post
-find-by-name-same-length-4 t c = c .before .before .calculate-best-path2 .kept .1 .0 ∙ c .before .before .before .before .before .before .before .before .before .find-path-inner .kept .1 .0
+find-by-name-same-length-4 :
+    (t : ℕ) → find-by-name-lts.Need-same-length-4 (find-by-name-claims t) (find-by-name-at t) find-by-name.Post
+find-by-name-same-length-4 t c = c .before .before .calculate-best-path2 .kept .1 .0
+    ∙ c .before .before .before .before .before .before .before .before .before .find-path-inner .kept .1 .0
 
-find-by-name-returns-4 : (t : ℕ) → find-by-name-lts.Need-returns-4 (
-  named-reads.Asked,
-  named-reads.Learnt,
-  variant-of-reads.Asked,
-  variant-of-reads.Learnt,
-  calculate-best-path-reads.Asked,
-  calculate-best-path-reads.Learnt,
-  definition-first-reads.Asked,
-  definition-first-reads.Learnt,
-  item-of-reads.Asked,
-  item-of-reads.Learnt,
-  find-path-inner-below t,
-  find-path-inner.Post,
-  definition-second-reads.Asked,
-  definition-second-reads.Learnt,
-  push-variant-reads.Asked,
-  push-variant-reads.Learnt,
-) (find-by-name-at t) find-by-name.Post
+find-by-name-returns-4 : (t : ℕ) → find-by-name-lts.Need-returns-4 (find-by-name-claims t) (find-by-name-at t) find-by-name.Post
 find-by-name-returns-4 t c =
-    let o = c .before .before .before .before .before .before .before .before .before .before .before .before .before .before .before .before .before .before .before .before .before .before in
+    let o = c .before .before .before .before .before .before .before .before .before .before .before .before .before .before
+    .before .before .before .before .before .before .before .before in
     let a = o .args in
-    let e = sym (ap (entryOf definitionAt (now (a .words))) (c .before .before .before .before .before .before .before .before .before .before .before .before .before .before .h .given .1)) ∙ c .before .before .before .before .before .before .before .before .before .before .before .before .before .before .before .before .variant-of .ensures (now (a .area)) in
-    let g = c .before .before .before .before .before .before .before .before .before .before .before .item-of .ensures (now (a .area)) ∙ ap (itemOf (snapOf (now (a .words)) (now (a .area)) (a .l)) 0) (c .before .before .before .before .before .before .before .before .before .before .before .before .definition-first .ensures) in
+    let e = sym (ap (entryOf definitionAt (now (a .words)))
+    (c .before .before .before .before .before .before .before .before .before .before .before .before .before .before .h .given .1))
+    ∙ c .before .before .before .before .before .before .before .before .before .before .before .before .before .before .before
+    .before .variant-of .ensures (now (a .area)) in
+    let g = c .before .before .before .before .before .before .before .before .before .before .before .item-of .ensures (now (a .area))
+    ∙ ap (itemOf (snapOf (now (a .words)) (now (a .area)) (a .l)) 0)
+    (c .before .before .before .before .before .before .before .before .before .before .before .before .definition-first .ensures) in
     let f = c .before .before .before .before .before .before .before .before .before .find-path-inner in
-    else-run (o .pre .1 .0) (a .item) (a .t) (c .before .before .before .before .before .before .before .before .before .before .before .before .before .before .before .before .before .before .named .ensures) (c .before .before .before .before .before .before .before .before .before .before .before .before .before .before .before .before .before .if1 .left) _ e g (f .ensures) (c .before .before .before .before .if2 .left) (c .before .before .calculate-best-path2 .ensures)
+    else-run (o .pre .1 .0) (a .item) (a .t)
+    (c .before .before .before .before .before .before .before .before .before .before .before .before .before .before .before
+    .before .before .before .named .ensures)
+    (c .before .before .before .before .before .before .before .before .before .before .before .before .before .before .before
+    .before .before .if1 .left) _ e g (f .ensures) (c .before .before .before .before .if2 .left)
+    (c .before .before .calculate-best-path2 .ensures)
 
-find-path-inner-straight-of-requires : (t : ℕ) → find-path-inner-lts.Need-straight-of-requires (
-  straight-of-reads.Asked,
-  straight-of-reads.Learnt,
-  find-by-name-below t,
-  find-by-name.Post,
-  find-path-for-module-reads.Asked,
-  find-path-for-module-reads.Learnt,
-) (find-path-inner-at t) find-path-inner.Post
-find-path-inner-straight-of-requires t c κs = tt
-
-find-path-inner-enum-known-m : (t : ℕ) → find-path-inner-lts.Need-enum-known-m (
-  straight-of-reads.Asked,
-  straight-of-reads.Learnt,
-  find-by-name-below t,
-  find-by-name.Post,
-  find-path-for-module-reads.Asked,
-  find-path-for-module-reads.Learnt,
-) (find-path-inner-at t) find-path-inner.Post
-find-path-inner-enum-known-m t c = search needs
-
-find-path-inner-enum-told : (t : ℕ) → find-path-inner-lts.Need-enum-told (
-  straight-of-reads.Asked,
-  straight-of-reads.Learnt,
-  find-by-name-below t,
-  find-by-name.Post,
-  find-path-for-module-reads.Asked,
-  find-path-for-module-reads.Learnt,
-) (find-path-inner-at t) find-path-inner.Post
-find-path-inner-enum-told t c = search needs
-
-find-path-inner-find-by-name-requires : (t : ℕ) → find-path-inner-lts.Need-find-by-name-requires (
-  straight-of-reads.Asked,
-  straight-of-reads.Learnt,
-  find-by-name-below t,
-  find-by-name.Post,
-  find-path-for-module-reads.Asked,
-  find-path-for-module-reads.Learnt,
-) (find-path-inner-at t) find-path-inner.Post
+find-path-inner-find-by-name-requires :
+    (t : ℕ) → find-path-inner-lts.Need-find-by-name-requires (find-path-inner-claims t) (find-path-inner-at t) find-path-inner.Post
 find-path-inner-find-by-name-requires t c κs = let o = c .before .before .before .before .before .before in (omega (arith, o .pre .0), o .pre .1)
 
-find-path-inner-same-length : (t : ℕ) → find-path-inner-lts.Need-same-length (
-  straight-of-reads.Asked,
-  straight-of-reads.Learnt,
-  find-by-name-below t,
-  find-by-name.Post,
-  find-path-for-module-reads.Asked,
-  find-path-for-module-reads.Learnt,
-) (find-path-inner-at t) find-path-inner.Post
+find-path-inner-same-length :
+    (t : ℕ) → find-path-inner-lts.Need-same-length (find-path-inner-claims t) (find-path-inner-at t) find-path-inner.Post
 find-path-inner-same-length t c = c .before .before .find-by-name .kept .1 .0
 
-find-path-inner-returns : (t : ℕ) → find-path-inner-lts.Need-returns (
-  straight-of-reads.Asked,
-  straight-of-reads.Learnt,
-  find-by-name-below t,
-  find-by-name.Post,
-  find-path-for-module-reads.Asked,
-  find-path-for-module-reads.Learnt,
-) (find-path-inner-at t) find-path-inner.Post
+find-path-inner-returns : (t : ℕ) → find-path-inner-lts.Need-returns (find-path-inner-claims t) (find-path-inner-at t) find-path-inner.Post
 find-path-inner-returns t c =
     let o = c .before .before .before .before .before .before .before .before .before in
     let a = o .args in
     let f = c .before .before .find-by-name in
-    let e = is-none _ (c .before .before .before .before .before .before .straight-of .ensures) (c .before .before .before .before .enum-told .given .1) in
+    let e = is-none _ (c .before .before .before .before .before .before .straight-of .ensures)
+    (c .before .before .before .before .enum-told .given .1) in
     record {
-      same = f .ensures .same ∙ ap foundOf (inner-by-name (snapOf (now (a .words)) (now (a .area)) (a .l)) (a .x) (a .item) (a .t) (enum-no-variant (now (a .words)) (now (a .area)) (a .l) (o .pre .1 .0 .reads) (a .item) (o .pre .1 .1 .0)) e);
+      same = f .ensures .same ∙ ap foundOf (inner-by-name (snapOf (now (a .words)) (now (a .area)) (a .l)) (a .x) (a .item) (a .t)
+          (enum-no-variant (now (a .words)) (now (a .area)) (a .l) (o .pre .1 .0 .reads) (a .item) (o .pre .1 .1 .0)) e);
       tables = f .ensures .tables;
     }
 
 find-path-inner-find-path-for-module-requires :
-    (t : ℕ) → find-path-inner-lts.Need-find-path-for-module-requires (
-      straight-of-reads.Asked,
-      straight-of-reads.Learnt,
-      find-by-name-below t,
-      find-by-name.Post,
-      find-path-for-module-reads.Asked,
-      find-path-for-module-reads.Learnt,
-    ) (find-path-inner-at t) find-path-inner.Post
+    (t : ℕ) → find-path-inner-lts.Need-find-path-for-module-requires (find-path-inner-claims t) (find-path-inner-at t) find-path-inner.Post
 find-path-inner-find-path-for-module-requires t c κs =
     let o = c .before .before .before .before .before .before .before in
     let a = o .args in
     let e = is-some _ (c .before .before .before .before .straight-of .ensures) (c .before .before .m .given .1) in
     (o .pre .1 .0, straight-known (a .l) _ (a .item) e (o .pre .1 .1 .0), o .pre .1 .0 .limit, o .pre .1 .2)
 
-find-path-inner-same-length-2 : (t : ℕ) → find-path-inner-lts.Need-same-length-2 (
-  straight-of-reads.Asked,
-  straight-of-reads.Learnt,
-  find-by-name-below t,
-  find-by-name.Post,
-  find-path-for-module-reads.Asked,
-  find-path-for-module-reads.Learnt,
-) (find-path-inner-at t) find-path-inner.Post
+find-path-inner-same-length-2 :
+    (t : ℕ) → find-path-inner-lts.Need-same-length-2 (find-path-inner-claims t) (find-path-inner-at t) find-path-inner.Post
 find-path-inner-same-length-2 t c = c .before .before .find-path-for-module .kept .1 .0
 
-find-path-inner-returns-2 : (t : ℕ) → find-path-inner-lts.Need-returns-2 (
-  straight-of-reads.Asked,
-  straight-of-reads.Learnt,
-  find-by-name-below t,
-  find-by-name.Post,
-  find-path-for-module-reads.Asked,
-  find-path-for-module-reads.Learnt,
-) (find-path-inner-at t) find-path-inner.Post
+find-path-inner-returns-2 : (t : ℕ) → find-path-inner-lts.Need-returns-2 (find-path-inner-claims t) (find-path-inner-at t) find-path-inner.Post
 find-path-inner-returns-2 t c =
     let o = c .before .before .before .before .before .before .before .before .before .before in
     let a = o .args in
     let f = c .before .before .find-path-for-module in
-    let e = is-some _ (c .before .before .before .before .before .before .before .straight-of .ensures) (c .before .before .before .before .before .m .given .1) in
+    let e = is-some _ (c .before .before .before .before .before .before .before .straight-of .ensures)
+    (c .before .before .before .before .before .m .given .1) in
     record {
-      same = f .ensures .same ∙ ap foundOf (inner-at-once (snapOf (now (a .words)) (now (a .area)) (a .l)) (a .x) (a .item) (a .t) (enum-no-variant (now (a .words)) (now (a .area)) (a .l) (o .pre .1 .0 .reads) (a .item) (o .pre .1 .1 .0)) e);
+      same = f .ensures .same ∙ ap foundOf (inner-at-once (snapOf (now (a .words)) (now (a .area)) (a .l)) (a .x) (a .item) (a .t)
+          (enum-no-variant (now (a .words)) (now (a .area)) (a .l) (o .pre .1 .0 .reads) (a .item) (o .pre .1 .1 .0)) e);
       tables = f .ensures .tables;
     }
 
 pub +find-by-name+find-path-inner-spec : {M : Type 1} → statement M
 +find-by-name+find-path-inner-spec =
-    close μ-find-by-name μ-find-path-inner (λ t. find-by-name-lts.spec (
-      named-reads.Asked,
-      named-reads.Learnt,
-      variant-of-reads.Asked,
-      variant-of-reads.Learnt,
-      calculate-best-path-reads.Asked,
-      calculate-best-path-reads.Learnt,
-      definition-first-reads.Asked,
-      definition-first-reads.Learnt,
-      item-of-reads.Asked,
-      item-of-reads.Learnt,
-      find-path-inner-below t,
-      find-path-inner.Post,
-      definition-second-reads.Asked,
-      definition-second-reads.Learnt,
-      push-variant-reads.Asked,
-      push-variant-reads.Learnt,
-    )
-    (find-by-name-at t)
-    find-by-name.Post
-    (find-by-name-named-requires t)
-    (find-by-name-same-length t)
-    (find-by-name-returns t)
-    (find-by-name-variant-of-requires t)
-    (find-by-name-enum-known-h t)
-    (find-by-name-enum-told t)
-    (find-by-name-calculate-best-path-requires t)
-    (find-by-name-same-length-2 t)
-    (find-by-name-returns-2 t)
-    (find-by-name-definition-first-requires t)
-    (find-by-name-item-of-requires t)
-    (find-by-name-find-path-inner-requires t)
-    (find-by-name-definition-second-requires t)
-    (find-by-name-push-variant-requires t)
-    (find-by-name-same-length-3 t)
-    (find-by-name-returns-3 t)
-    (find-by-name-calculate-best-path-requires-2 t)
-    (find-by-name-same-length-4 t)
-    (find-by-name-returns-4 t))
-    λ t. find-path-inner-lts.spec (
-      straight-of-reads.Asked,
-      straight-of-reads.Learnt,
-      find-by-name-below t,
-      find-by-name.Post,
-      find-path-for-module-reads.Asked,
-      find-path-for-module-reads.Learnt,
-    )
-    (find-path-inner-at t)
-    find-path-inner.Post
-    (find-path-inner-straight-of-requires t)
-    (find-path-inner-enum-known-m t)
-    (find-path-inner-enum-told t)
-    (find-path-inner-find-by-name-requires t)
-    (find-path-inner-same-length t)
-    (find-path-inner-returns t)
-    (find-path-inner-find-path-for-module-requires t)
-    (find-path-inner-same-length-2 t)
+    close μ-find-by-name μ-find-path-inner (λ t. find-by-name-lts.spec (find-by-name-claims t) (find-by-name-at t)
+    find-by-name.Post (find-by-name-named-requires t) (λ c. refl) (find-by-name-returns t)
+    (find-by-name-variant-of-requires t) (λ c. search needs) (λ c. search needs)
+    (find-by-name-calculate-best-path-requires t) (find-by-name-same-length-2 t) (find-by-name-returns-2 t) (λ c κs. tt)
+    (find-by-name-item-of-requires t) (find-by-name-find-path-inner-requires t) (λ c κs. tt)
+    (find-by-name-push-variant-requires t) (find-by-name-same-length-3 t) (find-by-name-returns-3 t)
+    (find-by-name-calculate-best-path-requires-2 t) (find-by-name-same-length-4 t) (find-by-name-returns-4 t))
+    λ t. find-path-inner-lts.spec (find-path-inner-claims t) (find-path-inner-at t) find-path-inner.Post (λ c κs. tt)
+    (λ c. search needs) (λ c. search needs) (find-path-inner-find-by-name-requires t) (find-path-inner-same-length t)
+    (find-path-inner-returns t) (find-path-inner-find-path-for-module-requires t) (find-path-inner-same-length-2 t)
     (find-path-inner-returns-2 t)

@@ -12,30 +12,29 @@ definition-head-requires c κs = let s = c .before .before in few-words _ _ _ (s
 step-by-requires : tie.Need-step-by-requires
 step-by-requires c κs =
     let s = c .before .before .before in
-    let A = now (s .args .area) in
-    (omega arith, builtin-at (now (s .args .words)) A (s .args .l) (s .pre .0) (s .args .d .0) (s .pre .1) (s .pre .2) (c .definition-head .ensures A))
-
-definition-first-requires : tie.Need-definition-first-requires
-definition-first-requires c κs = search needs
+    let A = now (s .args .area) in (
+      omega arith,
+      builtin-at (now (s .args .words)) A (s .args .l) (s .pre .0) (s .args .d .0) (s .pre .1) (s .pre .2)
+          (c .definition-head .ensures A),
+    )
 
 new-requires : tie.Need-new-requires
 new-requires c κs =
     let s = c .before .before .before .before .before in
-    let A = now (s .args .area) in
-    (s .pre .0, builtin-name (now (s .args .words)) A (s .args .l) (s .pre .0) (s .args .d .0) (s .pre .1) (s .pre .2) (c .before .before .definition-head .ensures A) (c .definition-first .ensures))
+    let A = now (s .args .area) in (
+      s .pre .0,
+      builtin-name (now (s .args .words)) A (s .args .l) (s .pre .0) (s .args .d .0) (s .pre .1) (s .pre .2)
+          (c .before .before .definition-head .ensures A) (c .definition-first .ensures),
+    )
 
 returns : tie.Need-returns
 returns c =
     let s = c .before .before .before .before .before .before in
     let A = now (s .args .area) in
-    builtin-same (now (s .args .words)) A (s .args .l) (s .pre .0) (s .args .d .0) (s .pre .1) (s .pre .2) (c .before .before .before .definition-head .ensures A) (c .before .definition-first .ensures) (c .before .before .step-by .ensures) (c .new .ensures)
+    builtin-same (now (s .args .words)) A (s .args .l) (s .pre .0) (s .args .d .0) (s .pre .1) (s .pre .2)
+    (c .before .before .before .definition-head .ensures A) (c .before .definition-first .ensures) (c .before .before .step-by .ensures)
+    (c .new .ensures)
 
 pub builtin-choice-spec : {M : Type 1} → statement M
 builtin-choice-spec =
-    tie.close
-    (tie.spec
-    definition-head-requires
-    step-by-requires
-    definition-first-requires
-    new-requires
-    returns)
+    tie.close (tie.spec definition-head-requires step-by-requires (λ c κs. search needs) new-requires returns)

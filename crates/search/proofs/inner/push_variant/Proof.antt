@@ -4,14 +4,8 @@ use Rattle.path_choices.specs.Choices.{push}
 use Rattle.search.proofs.inner.push_variant.Statement.{statement}
 use Rattle.search.proofs.inner.push_variant.Tie as tie
 
-step-by-requires : tie.Need-step-by-requires
-step-by-requires c κs = search needs
-
-push-requires : tie.Need-push-requires
-push-requires c κs = search needs
-
 returns : tie.Need-returns
 returns c = c .push .ensures ∙ ap (push _ _ _) (c .before .step-by .ensures)
 
 pub push-variant-spec : {M : Type 1} → statement M
-push-variant-spec = tie.close (tie.spec step-by-requires push-requires returns)
+push-variant-spec = tie.close (tie.spec (λ c κs. search needs) (λ c κs. search needs) returns)

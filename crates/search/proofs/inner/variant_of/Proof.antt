@@ -5,20 +5,8 @@ use Rattle.search.proofs.Items.{variant-module, variant-yes, variant-no
 use Rattle.search.proofs.inner.variant_of.Statement.{statement}
 use Rattle.search.proofs.inner.variant_of.Tie as tie
 
-enum-known-item : tie.Need-enum-known-item
-enum-known-item c = search needs
-
-enum-told : tie.Need-enum-told
-enum-told c = search needs
-
 returns : tie.Need-returns
 returns c = λ A. variant-module _ (c .enum-told .given .1)
-
-definition-head-requires : tie.Need-definition-head-requires
-definition-head-requires c κs = search needs
-
-definition-kind-requires : tie.Need-definition-kind-requires
-definition-kind-requires c κs = search needs
 
 returns-2 : tie.Need-returns-2
 returns-2 c =
@@ -30,16 +18,10 @@ returns-2 c =
 returns-3 : tie.Need-returns-3
 returns-3 c =
     λ A.
-    variant-no _ (c .before .before .before .before .item .given .1) (c .before .definition-kind .ensures ∙ c .before .before .definition-head .ensures A .kind) (c .if1 .left)
+    variant-no _ (c .before .before .before .before .item .given .1) (c .before .definition-kind .ensures
+    ∙ c .before .before .definition-head .ensures A .kind) (c .if1 .left)
 
 pub variant-of-spec : {M : Type 1} → statement M
 variant-of-spec =
-    tie.close
-    (tie.spec
-    enum-known-item
-    enum-told
-    returns
-    definition-head-requires
-    definition-kind-requires
-    returns-2
-    returns-3)
+    tie.close (tie.spec (λ c. search needs) (λ c. search needs) returns (λ c κs. search needs) (λ c κs. search needs)
+    returns-2 returns-3)

@@ -8,51 +8,41 @@ use Rattle.seen_entries.proofs.Laws.{declared-fits, both-not, both-alon
 use Rattle.seen_entries.proofs.entries.both_hold.Statement.{statement}
 use Rattle.seen_entries.proofs.entries.both_hold.Tie as tie
 
-holds-at-requires : tie.Need-holds-at-requires
-holds-at-requires c κs = search needs
-
-declaration-of-requires : tie.Need-declaration-of-requires
-declaration-of-requires c κs = search needs
-
-enum-known-e : tie.Need-enum-known-e
-enum-known-e c = search needs
-
-enum-told : tie.Need-enum-told
-enum-told c = search needs
-
 returns : tie.Need-returns
 returns c =
     let s = c .before .before .before .before .before .before .before in
     let W = now (s .args .words) in
-    both-alone (snapOf (now (s .args .words)) (now (s .args .area)) (s .args .l)) (scopeAt (now (s .args .words)) (s .args .h)) (s .args .v .0) (sym (c .before .before .before .before .holds-at .ensures) ∙ c .before .before .before .if1 .taken) (sym (c .before .before .declaration-of .ensures) ∙ ap (entryOf scopeAt W) (c .enum-told .given .1))
+    both-alone (snapOf (now (s .args .words)) (now (s .args .area)) (s .args .l)) (scopeAt (now (s .args .words)) (s .args .h))
+    (s .args .v .0) (sym (c .before .before .before .before .holds-at .ensures) ∙ c .before .before .before .if1 .taken)
+    (sym (c .before .before .declaration-of .ensures) ∙ ap (entryOf scopeAt W) (c .enum-told .given .1))
 
 holds-at-requires-2 : tie.Need-holds-at-requires-2
 holds-at-requires-2 c κs =
     let s = c .before .before .before .before .before .before .before .before in
-    let W = now (s .args .words) in
-    (s .pre .0, s .pre .1, declared-fits W (now (s .args .area)) (s .args .l) (s .pre .0) (scopeAt (now (s .args .words)) (s .args .h)) _ (sym (c .before .before .before .declaration-of .ensures) ∙ ap (entryOf scopeAt W) (c .before .e .given .1)))
+    let W = now (s .args .words) in (
+      s .pre .0,
+      s .pre .1,
+      declared-fits W (now (s .args .area)) (s .args .l) (s .pre .0) (scopeAt (now (s .args .words)) (s .args .h)) _
+          (sym (c .before .before .before .declaration-of .ensures) ∙ ap (entryOf scopeAt W) (c .before .e .given .1)),
+    )
 
 returns-2 : tie.Need-returns-2
 returns-2 c =
     let s = c .before .before .before .before .before .before .before .before .before in
     let W = now (s .args .words) in
     c .holds-at2 .ensures
-    ∙ both-declared (snapOf (now (s .args .words)) (now (s .args .area)) (s .args .l)) (scopeAt (now (s .args .words)) (s .args .h)) (s .args .v .0) _ (sym (c .before .before .before .before .before .before .holds-at .ensures) ∙ c .before .before .before .before .before .if1 .taken) (sym (c .before .before .before .before .declaration-of .ensures) ∙ ap (entryOf scopeAt W) (c .before .before .e .given .1))
+    ∙ both-declared (snapOf (now (s .args .words)) (now (s .args .area)) (s .args .l)) (scopeAt (now (s .args .words)) (s .args .h))
+    (s .args .v .0) _ (sym (c .before .before .before .before .before .before .holds-at .ensures)
+    ∙ c .before .before .before .before .before .if1 .taken) (sym (c .before .before .before .before .declaration-of .ensures)
+    ∙ ap (entryOf scopeAt W) (c .before .before .e .given .1))
 
 returns-3 : tie.Need-returns-3
 returns-3 c =
     let s = c .before .before .before .before in
-    both-not (snapOf (now (s .args .words)) (now (s .args .area)) (s .args .l)) (scopeAt (now (s .args .words)) (s .args .h)) (s .args .v .0) (sym (c .before .holds-at .ensures) ∙ c .if1 .left)
+    both-not (snapOf (now (s .args .words)) (now (s .args .area)) (s .args .l)) (scopeAt (now (s .args .words)) (s .args .h))
+    (s .args .v .0) (sym (c .before .holds-at .ensures) ∙ c .if1 .left)
 
 pub both-hold-spec : {M : Type 1} → statement M
 both-hold-spec =
-    tie.close
-    (tie.spec
-    holds-at-requires
-    declaration-of-requires
-    enum-known-e
-    enum-told
-    returns
-    holds-at-requires-2
-    returns-2
-    returns-3)
+    tie.close (tie.spec (λ c κs. search needs) (λ c κs. search needs) (λ c. search needs) (λ c. search needs) returns
+    holds-at-requires-2 returns-2 returns-3)

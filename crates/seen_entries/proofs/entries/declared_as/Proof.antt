@@ -6,17 +6,12 @@ use Rattle.seen_entries.proofs.Laws.{as-variant, as-other}
 use Rattle.seen_entries.proofs.entries.declared_as.Statement.{statement}
 use Rattle.seen_entries.proofs.entries.declared_as.Tie as tie
 
-kind-of-requires : tie.Need-kind-of-requires
-kind-of-requires c κs = search needs
-
-first-of-requires : tie.Need-first-of-requires
-first-of-requires c κs = search needs
-
 returns : tie.Need-returns
 returns c =
     λ A.
     let s = c .before .before .before .before in
-    c .first-of .ensures A ∙ as-variant (snapOf (now (s .args .words)) A (s .args .l)) (s .args .d .0) (sym (c .before .before .kind-of .ensures A) ∙ c .before .if1 .taken)
+    c .first-of .ensures A ∙ as-variant (snapOf (now (s .args .words)) A (s .args .l)) (s .args .d .0)
+    (sym (c .before .before .kind-of .ensures A) ∙ c .before .if1 .taken)
 
 returns-2 : tie.Need-returns-2
 returns-2 c =
@@ -25,4 +20,4 @@ returns-2 c =
     as-other (snapOf (now (s .args .words)) A (s .args .l)) (s .args .d .0) (λ e. c .if1 .left (c .before .kind-of .ensures A ∙ e))
 
 pub declared-as-spec : {M : Type 1} → statement M
-declared-as-spec = tie.close (tie.spec kind-of-requires first-of-requires returns returns-2)
+declared-as-spec = tie.close (tie.spec (λ c κs. search needs) (λ c κs. search needs) returns returns-2)

@@ -6,9 +6,6 @@ use Rattle.seen_entries.proofs.Laws.{ns-variant, ns-other}
 use Rattle.seen_entries.proofs.entries.declared_ns.Statement.{statement}
 use Rattle.seen_entries.proofs.entries.declared_ns.Tie as tie
 
-kind-of-requires : tie.Need-kind-of-requires
-kind-of-requires c κs = search needs
-
 returns : tie.Need-returns
 returns c =
     λ A.
@@ -22,4 +19,4 @@ returns-2 c =
     ns-other (snapOf (now (s .args .words)) A (s .args .l)) (s .args .d .0) (s .args .ns) (λ e. c .if1 .left (c .before .kind-of .ensures A ∙ e))
 
 pub declared-ns-spec : {M : Type 1} → statement M
-declared-ns-spec = tie.close (tie.spec kind-of-requires returns returns-2)
+declared-ns-spec = tie.close (tie.spec (λ c κs. search needs) returns returns-2)

@@ -5,12 +5,6 @@ use Rattle.seen_entries.proofs.Laws.{and-so, and-no}
 use Rattle.seen_entries.proofs.lookups.is_for_seen.Statement.{statement}
 use Rattle.seen_entries.proofs.lookups.is_for_seen.Tie as tie
 
-is-for-requires : tie.Need-is-for-requires
-is-for-requires c κs = search needs
-
-seen-requires : tie.Need-seen-requires
-seen-requires c κs = search needs
-
 returns : tie.Need-returns
 returns c =
     let s = c .before .before .before .before .before in
@@ -22,4 +16,4 @@ returns-2 c =
     and-no _ _ (sym (c .before .is-for .ensures (now (s .args .area))) ∙ c .if1 .left)
 
 pub is-for-seen-spec : {M : Type 1} → statement M
-is-for-seen-spec = tie.close (tie.spec is-for-requires seen-requires returns returns-2)
+is-for-seen-spec = tie.close (tie.spec (λ c κs. search needs) (λ c κs. search needs) returns returns-2)

@@ -6,35 +6,22 @@ use Rattle.seen_entries.proofs.Laws.{and-so, and-no}
 use Rattle.seen_entries.proofs.lookups.is_named_seen.Statement.{statement}
 use Rattle.seen_entries.proofs.lookups.is_named_seen.Tie as tie
 
-scope-owner-requires : tie.Need-scope-owner-requires
-scope-owner-requires c κs = search needs
-
-scope-name-requires : tie.Need-scope-name-requires
-scope-name-requires c κs = search needs
-
-scope-ns-requires : tie.Need-scope-ns-requires
-scope-ns-requires c κs = search needs
-
-seen-requires : tie.Need-seen-requires
-seen-requires c κs = search needs
-
 returns : tie.Need-returns
 returns c =
     let s = c .before .before .before .before .before .before .before .before .before .before .before in
-    c .seen .ensures ∙ and-so _ _ (sym (ap₂ (λ o t. eqb o (s .args .m .0) && t) (c .before .before .before .before .before .before .before .before .scope-owner .ensures) (ap₂ (λ n i. eqb n (s .args .ns) && eqb i (s .args .name .0)) (c .before .before .before .before .scope-ns .ensures) (c .before .before .before .before .before .before .before .scope-name .ensures))) ∙ c .before .if1 .taken)
+    c .seen .ensures ∙ and-so _ _
+    (sym (ap₂ (λ o t. eqb o (s .args .m .0) && t) (c .before .before .before .before .before .before .before .before .scope-owner .ensures)
+    (ap₂ (λ n i. eqb n (s .args .ns) && eqb i (s .args .name .0)) (c .before .before .before .before .scope-ns .ensures)
+    (c .before .before .before .before .before .before .before .scope-name .ensures))) ∙ c .before .if1 .taken)
 
 returns-2 : tie.Need-returns-2
 returns-2 c =
     let s = c .before .before .before .before .before .before .before .before .before .before in
-    and-no _ _ (sym (ap₂ (λ o t. eqb o (s .args .m .0) && t) (c .before .before .before .before .before .before .before .scope-owner .ensures) (ap₂ (λ n i. eqb n (s .args .ns) && eqb i (s .args .name .0)) (c .before .before .before .scope-ns .ensures) (c .before .before .before .before .before .before .scope-name .ensures))) ∙ c .if1 .left)
+    and-no _ _ (sym (ap₂ (λ o t. eqb o (s .args .m .0) && t) (c .before .before .before .before .before .before .before .scope-owner .ensures)
+    (ap₂ (λ n i. eqb n (s .args .ns) && eqb i (s .args .name .0)) (c .before .before .before .scope-ns .ensures)
+    (c .before .before .before .before .before .before .scope-name .ensures))) ∙ c .if1 .left)
 
 pub is-named-seen-spec : {M : Type 1} → statement M
 is-named-seen-spec =
-    tie.close
-    (tie.spec
-    scope-owner-requires
-    scope-name-requires
-    scope-ns-requires
-    seen-requires
-    returns
-    returns-2)
+    tie.close (tie.spec (λ c κs. search needs) (λ c κs. search needs) (λ c κs. search needs) (λ c κs. search needs)
+    returns returns-2)

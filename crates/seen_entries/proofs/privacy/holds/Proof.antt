@@ -11,15 +11,14 @@ use Rattle.seen_entries.proofs.privacy.holds.Tie as tie
 returns : tie.Need-returns
 returns c =
     let s = c .before .before .before in
-    holds-public (snapOf (now (s .args .words)) (now (s .args .area)) (s .args .l)) (s .args .kind) (s .args .number) (s .args .viewer .0) (c .if1 .taken)
-
-krate-requires : tie.Need-krate-requires
-krate-requires c κs = search needs
+    holds-public (snapOf (now (s .args .words)) (now (s .args .area)) (s .args .l)) (s .args .kind) (s .args .number)
+    (s .args .viewer .0) (c .if1 .taken)
 
 returns-2 : tie.Need-returns-2
 returns-2 c =
     let s = c .before .before .before .before .before .before in
-    ap (λ x. eqb x (s .args .number)) (c .before .krate .ensures) ∙ holds-crate (snapOf (now (s .args .words)) (now (s .args .area)) (s .args .l)) (s .args .kind) (s .args .number) (s .args .viewer .0) (c .before .before .if2 .taken)
+    ap (λ x. eqb x (s .args .number)) (c .before .krate .ensures) ∙ holds-crate (snapOf (now (s .args .words)) (now (s .args .area)) (s .args .l))
+    (s .args .kind) (s .args .number) (s .args .viewer .0) (c .before .before .if2 .taken)
 
 privately-requires : tie.Need-privately-requires
 privately-requires c κs =
@@ -31,8 +30,9 @@ privately-requires c κs =
 returns-3 : tie.Need-returns-3
 returns-3 c =
     let s = c .before .before .before .before .before in
-    c .privately .ensures ∙ holds-module (snapOf (now (s .args .words)) (now (s .args .area)) (s .args .l)) (s .args .kind) (s .args .number) (s .args .viewer .0) (c .before .before .if1 .left) (c .before .if2 .left)
+    c .privately .ensures ∙ holds-module (snapOf (now (s .args .words)) (now (s .args .area)) (s .args .l)) (s .args .kind)
+    (s .args .number) (s .args .viewer .0) (c .before .before .if1 .left) (c .before .if2 .left)
 
 pub holds-spec : {M : Type 1} → statement M
 holds-spec =
-    tie.close (tie.spec returns krate-requires returns-2 privately-requires returns-3)
+    tie.close (tie.spec returns (λ c κs. search needs) returns-2 privately-requires returns-3)

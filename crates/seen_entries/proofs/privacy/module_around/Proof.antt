@@ -24,19 +24,16 @@ loop-holds c = (refl, c .before .before .pre .1)
 block-step-requires : tie.Need-block-step-requires Inv-loop μ-loop
 block-step-requires c κs = (c .before .before .before .pre .0, c .loop .inv .1)
 
-enum-known-b : tie.Need-enum-known-b Inv-loop μ-loop
-enum-known-b c = search needs
-
-enum-told : tie.Need-enum-told Inv-loop μ-loop
-enum-told c = search needs
-
 returns : tie.Need-returns Inv-loop μ-loop
 returns c =
     let s = c .before .before .before .before .before .before in
     let g = c .before .before .before .loop in
     let n = (snapOf (now (s .args .words)) (now (s .args .area)) (s .args .l)) in
-    let ok = accepted-tree (now (s .args .words)) n (s .pre .0 .same) in
-    (around-here n ok (g .t .0) (rw (length-modules (now (s .args .words)) (now (s .args .area)) (s .args .l)) (g .inv .1)) (is-none _ (c .before .before .block-step .ensures) (c .enum-told .given .1)) ∙ sym (g .inv .0), g .inv .1)
+    let ok = accepted-tree (now (s .args .words)) n (s .pre .0 .same) in (
+      around-here n ok (g .t .0) (rw (length-modules (now (s .args .words)) (now (s .args .area)) (s .args .l)) (g .inv .1))
+          (is-none _ (c .before .before .block-step .ensures) (c .enum-told .given .1)) ∙ sym (g .inv .0),
+      g .inv .1,
+    )
 
 loop-less : tie.Need-loop-less Inv-loop μ-loop
 loop-less c =
@@ -44,7 +41,8 @@ loop-less c =
     let g = c .before .before .before .before .loop in
     let n = (snapOf (now (s .args .words)) (now (s .args .area)) (s .args .l)) in
     let ok = accepted-tree (now (s .args .words)) n (s .pre .0 .same) in
-    step-falls n ok (g .t .0) _ (rw (length-modules (now (s .args .words)) (now (s .args .area)) (s .args .l)) (g .inv .1)) (is-some _ (c .before .before .before .block-step .ensures) (c .before .b .given .1))
+    step-falls n ok (g .t .0) _ (rw (length-modules (now (s .args .words)) (now (s .args .area)) (s .args .l)) (g .inv .1))
+    (is-some _ (c .before .before .before .block-step .ensures) (c .before .b .given .1))
 
 loop-again : tie.Need-loop-again Inv-loop μ-loop
 loop-again c =
@@ -52,19 +50,18 @@ loop-again c =
     let g = c .before .before .before .before .loop in
     let n = (snapOf (now (s .args .words)) (now (s .args .area)) (s .args .l)) in
     let ok = accepted-tree (now (s .args .words)) n (s .pre .0 .same) in
-    let e = is-some _ (c .before .before .before .block-step .ensures) (c .before .b .given .1) in
-    (g .inv .0 ∙ around-on n ok (g .t .0) _ (rw (length-modules (now (s .args .words)) (now (s .args .area)) (s .args .l)) (g .inv .1)) e, omega (arith, step-falls n ok (g .t .0) _ (rw (length-modules (now (s .args .words)) (now (s .args .area)) (s .args .l)) (g .inv .1)) e, g .inv .1))
+    let e = is-some _ (c .before .before .before .block-step .ensures) (c .before .b .given .1) in (
+      g .inv .0 ∙ around-on n ok (g .t .0) _ (rw (length-modules (now (s .args .words)) (now (s .args .area)) (s .args .l)) (g .inv .1))
+          e,
+      omega (
+        arith,
+        step-falls n ok (g .t .0) _ (rw (length-modules (now (s .args .words)) (now (s .args .area)) (s .args .l)) (g .inv .1))
+            e,
+        g .inv .1,
+      ),
+    )
 
 pub module-around-spec : {M : Type 1} → statement M
 module-around-spec =
-    tie.close
-    (tie.spec
-    Inv-loop
-    μ-loop
-    loop-holds
-    block-step-requires
-    enum-known-b
-    enum-told
-    returns
-    loop-less
-    loop-again)
+    tie.close (tie.spec Inv-loop μ-loop loop-holds block-step-requires (λ c. search needs) (λ c. search needs) returns
+    loop-less loop-again)

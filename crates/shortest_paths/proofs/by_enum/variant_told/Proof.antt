@@ -1,6 +1,5 @@
 use borrow.Author.Needs.{needs}
-use mathlib.Core.Path.{_≡_, refl, sym, ap, _∙_}
-use native.Mathlib.Omega.{arith}
+use mathlib.Core.Path.{sym, _∙_}
 use denote.Ref.{now}
 use Rattle.snapshot.specs.Layouts.{snapOf}
 use Rattle.hir_def.proofs.Fits.{few-words}
@@ -12,15 +11,13 @@ kind-of-requires : tie.Need-kind-of-requires
 kind-of-requires c κs =
     let s = c .before .before in few-words (now (s .args .words)) (now (s .args .area)) (s .args .l) (s .pre .0)
 
-nothing-requires : tie.Need-nothing-requires
-nothing-requires c κs = search needs
-
 returns : tie.Need-returns
 returns c =
     let t = c .before in
     let k = t .before in
     let s = k .before .before .before in
-    enum-other (s .args .named) (snapOf (now (s .args .words)) (now (s .args .area)) (s .args .l)) (s .args .from .0) (s .args .ns .0) (s .args .d .0) (λ z. t .if1 .taken (k .kind-of .ensures (now (s .args .area)) ∙ z)) (c .nothing .ensures)
+    enum-other (s .args .named) (snapOf (now (s .args .words)) (now (s .args .area)) (s .args .l)) (s .args .from .0) (s .args .ns .0)
+    (s .args .d .0) (λ z. t .if1 .taken (k .kind-of .ensures (now (s .args .area)) ∙ z)) (c .nothing .ensures)
 
 first-of-requires : tie.Need-first-of-requires
 first-of-requires c κs =
@@ -34,9 +31,6 @@ is-variant-requires : tie.Need-is-variant-requires
 is-variant-requires c κs =
     let s = c .before .before .before .before .before .before in few-words (now (s .args .words)) (now (s .args .area)) (s .args .l) (s .pre .0)
 
-nothing-requires-2 : tie.Need-nothing-requires-2
-nothing-requires-2 c κs = search needs
-
 returns-2 : tie.Need-returns-2
 returns-2 c =
     let t = c .before in
@@ -47,14 +41,13 @@ returns-2 c =
     let k = e .before in
     let s = k .before .before .before in
     let A = now (s .args .area) in
-    enum-not (s .args .named) (snapOf (now (s .args .words)) (now (s .args .area)) (s .args .l)) (s .args .from .0) (s .args .ns .0) (s .args .d .0) (sym (k .kind-of .ensures A) ∙ e .if1 .left) _ _ (f .first-of .ensures A) (x .second-of .ensures A) (v .is-variant .ensures A) (t .if2 .taken) (c .nothing2 .ensures)
+    enum-not (s .args .named) (snapOf (now (s .args .words)) (now (s .args .area)) (s .args .l)) (s .args .from .0) (s .args .ns .0)
+    (s .args .d .0) (sym (k .kind-of .ensures A) ∙ e .if1 .left) _ _ (f .first-of .ensures A) (x .second-of .ensures A)
+    (v .is-variant .ensures A) (t .if2 .taken) (c .nothing2 .ensures)
 
 arrival-told-requires : tie.Need-arrival-told-requires
 arrival-told-requires c κs =
     let s = c .before .before .before .before .before .before .before .before in (s .pre .0, s .pre .1, s .pre .2)
-
-nothing-requires-3 : tie.Need-nothing-requires-3
-nothing-requires-3 c κs = search needs
 
 returns-3 : tie.Need-returns-3
 returns-3 c =
@@ -67,7 +60,9 @@ returns-3 c =
     let k = e .before in
     let s = k .before .before .before in
     let A = now (s .args .area) in
-    enum-nowhere (s .args .named) (snapOf (now (s .args .words)) (now (s .args .area)) (s .args .l)) (s .args .from .0) (s .args .ns .0) (s .args .d .0) (sym (k .kind-of .ensures A) ∙ e .if1 .left) _ _ (f .first-of .ensures A) (x .second-of .ensures A) (a .arrival-told .ensures .0) (t .if3 .taken) (c .nothing3 .ensures)
+    enum-nowhere (s .args .named) (snapOf (now (s .args .words)) (now (s .args .area)) (s .args .l)) (s .args .from .0)
+    (s .args .ns .0) (s .args .d .0) (sym (k .kind-of .ensures A) ∙ e .if1 .left) _ _ (f .first-of .ensures A)
+    (x .second-of .ensures A) (a .arrival-told .ensures .0) (t .if3 .taken) (c .nothing3 .ensures)
 
 more-requires : tie.Need-more-requires
 more-requires c κs = c .before .before .arrival-told .ensures .1
@@ -83,22 +78,12 @@ returns-4 c =
     let k = e .before in
     let s = k .before .before .before in
     let A = now (s .args .area) in
-    enum-there (s .args .named) (snapOf (now (s .args .words)) (now (s .args .area)) (s .args .l)) (s .args .from .0) (s .args .ns .0) (s .args .d .0) (sym (k .kind-of .ensures A) ∙ e .if1 .left) _ _ (f .first-of .ensures A) (x .second-of .ensures A) (a .arrival-told .ensures .0) (v .is-variant .ensures A) (a .before .if2 .left) (t .if3 .left) (c .more .ensures)
+    enum-there (s .args .named) (snapOf (now (s .args .words)) (now (s .args .area)) (s .args .l)) (s .args .from .0) (s .args .ns .0)
+    (s .args .d .0) (sym (k .kind-of .ensures A) ∙ e .if1 .left) _ _ (f .first-of .ensures A) (x .second-of .ensures A)
+    (a .arrival-told .ensures .0) (v .is-variant .ensures A) (a .before .if2 .left) (t .if3 .left) (c .more .ensures)
 
 pub variant-told-spec : {M : Type 1} → statement M
 variant-told-spec =
-    tie.close
-    (tie.spec
-    kind-of-requires
-    nothing-requires
-    returns
-    first-of-requires
-    second-of-requires
-    is-variant-requires
-    nothing-requires-2
-    returns-2
-    arrival-told-requires
-    nothing-requires-3
-    returns-3
-    more-requires
-    returns-4)
+    tie.close (tie.spec kind-of-requires (λ c κs. search needs) returns first-of-requires second-of-requires
+    is-variant-requires (λ c κs. search needs) returns-2 arrival-told-requires (λ c κs. search needs) returns-3
+    more-requires returns-4)

@@ -1,8 +1,4 @@
 use borrow.Author.Needs.{needs}
-use mathlib.Core.Path.{_≡_, refl, sym, ap, _∙_}
-use native.Mathlib.Omega.{arith}
-use denote.Ref.{now}
-use Rattle.snapshot.specs.Layouts.{snapOf}
 use Rattle.nameable.specs.Breadth.{shortestOf}
 use Rattle.shortest_paths.proofs.shortest.shortest_of.Statement.{statement}
 use Rattle.shortest_paths.proofs.shortest.shortest_of.Tie as tie
@@ -15,9 +11,6 @@ enum-told-requires : tie.Need-enum-told-requires
 enum-told-requires c κs =
     let s = c .before .before .before in (s .pre .0, s .pre .1, s .pre .2)
 
-shorter-requires : tie.Need-shorter-requires
-shorter-requires c κs = search needs
-
 returns : tie.Need-returns
 unfolding shortestOf
 returns c =
@@ -26,9 +19,4 @@ returns c =
 
 pub shortest-of-spec : {M : Type 1} → statement M
 shortest-of-spec =
-    tie.close
-    (tie.spec
-    arrival-told-requires
-    enum-told-requires
-    shorter-requires
-    returns)
+    tie.close (tie.spec arrival-told-requires enum-told-requires (λ c κs. search needs) returns)

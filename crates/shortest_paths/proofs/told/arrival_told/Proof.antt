@@ -1,21 +1,18 @@
 use borrow.Author.Needs.{needs}
-use mathlib.Core.Path.{_≡_, refl, sym, ap, _∙_}
-use native.Mathlib.Omega.{arith}
 use denote.Ref.{now}
-use Rattle.snapshot.specs.Layouts.{snapOf}
 use Rattle.arrivals.proofs.Means.{ready-few}
-use Rattle.hir_def.specs.Items.{nsOf}
 use Rattle.shortest_paths.proofs.Laws.{leads-link}
 use Rattle.shortest_paths.proofs.told.arrival_told.Statement.{statement}
 use Rattle.shortest_paths.proofs.told.arrival_told.Tie as tie
 
-arrive-requires : tie.Need-arrive-requires
-arrive-requires c κs = search needs
-
 tell-requires : tie.Need-tell-requires
 tell-requires c κs =
-    let s = c .before .before .before in
-    (ready-few (now (s .args .words)) (now (s .args .area)) (s .args .l) (s .pre .0) _ _ (s .pre .1) (s .pre .2), leads-link _ _ _ _ _ _ _ (c .arrive .ensures), s .pre .2 .rows .linked)
+    let s = c .before .before .before in (
+      ready-few (now (s .args .words)) (now (s .args .area)) (s .args .l) (s .pre .0) _ _ (s .pre .1) (s .pre .2),
+      leads-link _ _ _
+          _ _ _ _ (c .arrive .ensures),
+      s .pre .2 .rows .linked,
+    )
 
 returns : tie.Need-returns
 returns c =
@@ -24,8 +21,4 @@ returns c =
 
 pub arrival-told-spec : {M : Type 1} → statement M
 arrival-told-spec =
-    tie.close
-    (tie.spec
-    arrive-requires
-    tell-requires
-    returns)
+    tie.close (tie.spec (λ c κs. search needs) tell-requires returns)

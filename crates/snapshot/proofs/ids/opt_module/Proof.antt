@@ -9,12 +9,9 @@ returns : tie.Need-returns
 unfolding plusOne
 returns c = sym (c .if1 .taken)
 
-sub-t3 : tie.Need-sub-t3
-sub-t3 c = search needs
-
 returns-2 : tie.Need-returns-2
 unfolding plusOne
 returns-2 c = let h = c .if1 .left in omega arith
 
 pub opt-module-spec : {M : Type 1} → statement M
-opt-module-spec = tie.close (tie.spec returns sub-t3 returns-2)
+opt-module-spec = tie.close (tie.spec returns (λ c. search needs) returns-2)

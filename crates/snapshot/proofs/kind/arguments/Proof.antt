@@ -7,22 +7,10 @@ use Rattle.snapshot.proofs.Laws.{arguments-name, arguments-fixed}
 use Rattle.snapshot.proofs.kind.arguments.Statement.{statement}
 use Rattle.snapshot.proofs.kind.arguments.Tie as tie
 
-kind-requires : tie.Need-kind-requires
-kind-requires c κs = search needs
-
-payload-requires : tie.Need-payload-requires
-payload-requires c κs = search needs
-
-text-words-requires : tie.Need-text-words-requires
-text-words-requires c κs = search needs
-
 returns : tie.Need-returns
 returns c =
     let k = c .before .before .before in
     c .text-words .ensures ∙ ap wordsOf (c .before .payload .ensures) ∙ arguments-name _ _ (sym (k .kind .ensures) ∙ c .before .before .if1 .taken)
-
-fixed-requires : tie.Need-fixed-requires
-fixed-requires c κs = search needs
 
 returns-2 : tie.Need-returns-2
 returns-2 c =
@@ -32,4 +20,4 @@ returns-2 c =
 pub arguments-spec : {M : Type 1} → statement M
 arguments-spec =
     tie.close
-    (tie.spec kind-requires payload-requires text-words-requires returns fixed-requires returns-2)
+    (tie.spec (λ c κs. search needs) (λ c κs. search needs) (λ c κs. search needs) returns (λ c κs. search needs) returns-2)

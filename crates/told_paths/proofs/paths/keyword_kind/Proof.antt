@@ -1,7 +1,3 @@
-use borrow.Author.Needs.{needs}
-use mathlib.Core.Path.{_≡_, refl, sym, ap, _∙_}
-use native.Mathlib.Omega.{arith}
-use denote.Ref.{now}
 use Rattle.told_paths.proofs.Unwound.{kind-crate, kind-self, kind-super}
 use Rattle.told_paths.proofs.paths.keyword_kind.Statement.{statement}
 use Rattle.told_paths.proofs.paths.keyword_kind.Tie as tie
@@ -17,8 +13,4 @@ returns-3 c = kind-super _ (c .before .if1 .left) (c .if2 .left)
 
 pub keyword-kind-spec : {M : Type 1} → statement M
 keyword-kind-spec =
-    tie.close
-    (tie.spec
-    returns
-    returns-2
-    returns-3)
+    tie.close (tie.spec returns returns-2 returns-3)

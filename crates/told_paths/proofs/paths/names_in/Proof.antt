@@ -1,5 +1,4 @@
-use borrow.Author.Needs.{needs}
-use mathlib.Core.Path.{_≡_, refl, sym, ap, _∙_}
+use mathlib.Core.Path.{refl}
 use native.Mathlib.Omega.{arith}
 use denote.Ref.{now}
 use Rattle.told_paths.proofs.Unwound.{Counted, link-less, counted-start, counted-next, counted-keyword, counted-name}
@@ -35,9 +34,6 @@ add-word-2 c =
     let i = c in
     let s = i .before .before .before in
     record { fits = omega (arith, i .before .loop .inv .low, i .before .loop .inv .few, s .pre .0, s .pre .1, i .loop-test .taken) }
-
-word-requires : tie.Need-word-requires Inv-loop μ-loop
-word-requires c κs = tt
 
 add-count : tie.Need-add-count Inv-loop μ-loop
 add-count c =
@@ -79,19 +75,5 @@ returns-2 c =
 
 pub names-in-spec : {M : Type 1} → statement M
 names-in-spec =
-    tie.close
-    (tie.spec
-    Inv-loop
-    μ-loop
-    loop-holds
-    sub-word
-    mul-word
-    add-word
-    add-word-2
-    word-requires
-    add-count
-    loop-less
-    loop-again
-    returns
-    add-result
-    returns-2)
+    tie.close (tie.spec Inv-loop μ-loop loop-holds sub-word mul-word add-word add-word-2 (λ c κs. tt) add-count
+    loop-less loop-again returns add-result returns-2)

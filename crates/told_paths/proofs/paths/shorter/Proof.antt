@@ -1,7 +1,3 @@
-use borrow.Author.Needs.{needs}
-use mathlib.Core.Path.{_≡_, refl, sym, ap, _∙_}
-use native.Mathlib.Omega.{arith}
-use denote.Ref.{now}
 use Rattle.told_paths.proofs.Laws.{shorter-second, shorter-first, shorter-less, shorter-keeps}
 use Rattle.told_paths.proofs.paths.shorter.Statement.{statement}
 use Rattle.told_paths.proofs.paths.shorter.Tie as tie
@@ -24,9 +20,4 @@ returns-4 c =
 
 pub shorter-spec : {M : Type 1} → statement M
 shorter-spec =
-    tie.close
-    (tie.spec
-    returns
-    returns-2
-    returns-3
-    returns-4)
+    tie.close (tie.spec returns returns-2 returns-3 returns-4)

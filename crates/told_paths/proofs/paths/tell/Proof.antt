@@ -1,19 +1,9 @@
 use borrow.Author.Needs.{needs}
-use mathlib.Core.Path.{_≡_, refl, sym, ap, _∙_}
 use native.Mathlib.Omega.{arith}
 use denote.Ref.{now}
 use Rattle.told_paths.proofs.Laws.{step-link, leads-none, leads-long, leads-read, none-few, long-few}
 use Rattle.told_paths.proofs.paths.tell.Statement.{statement}
 use Rattle.told_paths.proofs.paths.tell.Tie as tie
-
-enum-known-step : tie.Need-enum-known-step
-enum-known-step c = search needs
-
-enum-told : tie.Need-enum-told
-enum-told c = search needs
-
-nothing-requires : tie.Need-nothing-requires
-nothing-requires c κs = search needs
 
 returns : tie.Need-returns
 returns c =
@@ -27,9 +17,6 @@ names-in-requires c κs =
     let s = i .before .before .before in
     (s .pre .0, step-link (now (s .args .area)) (s .args .n) (s .args .step) (i .step .given .1) (s .pre .1), s .pre .2)
 
-long-requires : tie.Need-long-requires
-long-requires c κs = search needs
-
 returns-2 : tie.Need-returns-2
 returns-2 c =
     let i = c .before in
@@ -37,7 +24,8 @@ returns-2 c =
     let k = n .before .before in
     let s = k .before .before .before in
     let low = step-link (now (s .args .area)) (s .args .n) (s .args .step) (k .step .given .1) (s .pre .1) in (
-      (λ z from ns o h. leads-long (now (s .args .area)) (s .args .n) (s .args .step) (k .step .given .1) z from ns o h (i .if1 .taken) (n .names-in .ensures .0 _) (c .long .ensures)),
+      (λ z from ns o h. leads-long (now (s .args .area)) (s .args .n) (s .args .step) (k .step .given .1) z from ns o h (i .if1 .taken)
+          (n .names-in .ensures .0 _) (c .long .ensures)),
       long-few (c .long .ensures) (omega (arith, n .names-in .ensures .1, low, s .pre .0)),
     )
 
@@ -45,8 +33,13 @@ read-requires : tie.Need-read-requires
 read-requires c κs =
     let n = c .before in
     let k = n .before .before in
-    let s = k .before .before .before in
-    (s .pre .0, step-link (now (s .args .area)) (s .args .n) (s .args .step) (k .step .given .1) (s .pre .1), s .pre .2, omega (arith, c .if1 .left), n .names-in .ensures .0 _)
+    let s = k .before .before .before in (
+      s .pre .0,
+      step-link (now (s .args .area)) (s .args .n) (s .args .step) (k .step .given .1) (s .pre .1),
+      s .pre .2,
+      omega (arith, c .if1 .left),
+      n .names-in .ensures .0 _,
+    )
 
 returns-3 : tie.Need-returns-3
 returns-3 c =
@@ -60,14 +53,5 @@ returns-3 c =
 
 pub tell-spec : {M : Type 1} → statement M
 tell-spec =
-    tie.close
-    (tie.spec
-    enum-known-step
-    enum-told
-    nothing-requires
-    returns
-    names-in-requires
-    long-requires
-    returns-2
-    read-requires
-    returns-3)
+    tie.close (tie.spec (λ c. search needs) (λ c. search needs) (λ c κs. search needs) returns names-in-requires
+    (λ c κs. search needs) returns-2 read-requires returns-3)

@@ -23,12 +23,6 @@ loop-holds c = (refl, c .before .before .pre .1)
 parent-requires : tie.Need-parent-requires Inv-loop μ-loop
 parent-requires c κs = let g = c .before in (g .before .before .before .pre .0, g .loop .inv .1)
 
-enum-known-p : tie.Need-enum-known-p Inv-loop μ-loop
-enum-known-p c = search needs
-
-enum-told : tie.Need-enum-told Inv-loop μ-loop
-enum-told c = search needs
-
 returns : tie.Need-returns Inv-loop μ-loop
 unfolding meant
 returns c =
@@ -81,17 +75,5 @@ returns-2 c =
 
 pub above-spec : {M : Type 1} → statement M
 above-spec =
-    tie.close
-    (tie.spec
-    Inv-loop
-    μ-loop
-    loop-holds
-    parent-requires
-    enum-known-p
-    enum-told
-    returns
-    module-around-requires
-    sub-left
-    loop-less
-    loop-again
-    returns-2)
+    tie.close (tie.spec Inv-loop μ-loop loop-holds parent-requires (λ c. search needs) (λ c. search needs) returns
+    module-around-requires sub-left loop-less loop-again returns-2)

@@ -1,15 +1,10 @@
 use borrow.Author.Needs.{needs}
-use mathlib.Core.Path.{_≡_, refl, sym, ap, _∙_}
-use native.Mathlib.Omega.{arith}
 use denote.Ref.{now}
 use Rattle.snapshot.specs.Layouts.{snapOf}
 use Rattle.read_back.specs.Answers.{meant}
 use Rattle.told_routes.proofs.Laws.{start-crate, start-above}
 use Rattle.told_routes.proofs.keywords.start.Statement.{statement}
 use Rattle.told_routes.proofs.keywords.start.Tie as tie
-
-crate-root-requires : tie.Need-crate-root-requires
-crate-root-requires c κs = search needs
 
 returns : tie.Need-returns
 unfolding meant
@@ -18,9 +13,6 @@ returns c =
     let s = t .before .before .before in
     let S = snapOf (now (s .args .words)) (now (s .args .area)) (s .args .l) in
     start-crate S (s .args .from .0) (s .args .kind) (s .args .supers) _ (t .if1 .taken) (c .crate-root .ensures)
-
-module-around-requires : tie.Need-module-around-requires
-module-around-requires c κs = search needs
 
 above-requires : tie.Need-above-requires
 above-requires c κs = let s = c .before .before .before .before in (s .pre .0, c .module-around .ensures .1)
@@ -35,10 +27,4 @@ returns-2 c =
 
 pub start-spec : {M : Type 1} → statement M
 start-spec =
-    tie.close
-    (tie.spec
-    crate-root-requires
-    returns
-    module-around-requires
-    above-requires
-    returns-2)
+    tie.close (tie.spec (λ c κs. search needs) returns (λ c κs. search needs) above-requires returns-2)

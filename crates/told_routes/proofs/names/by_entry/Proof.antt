@@ -1,6 +1,4 @@
 use borrow.Author.Needs.{needs}
-use mathlib.Core.Path.{_≡_, refl, sym, ap, _∙_}
-use native.Mathlib.Omega.{arith}
 use denote.Ref.{now}
 use Rattle.snapshot.specs.Layouts.{snapOf}
 use Prim.Native.Nat.{ℕ}
@@ -9,15 +7,6 @@ use Rattle.snapshot.specs.Records.{scopeAt}
 use Rattle.told_routes.proofs.Laws.{answers-entry}
 use Rattle.told_routes.proofs.names.by_entry.Statement.{statement}
 use Rattle.told_routes.proofs.names.by_entry.Tie as tie
-
-scope-ns-requires : tie.Need-scope-ns-requires
-scope-ns-requires c κs = search needs
-
-scope-definition-requires : tie.Need-scope-definition-requires
-scope-definition-requires c κs = search needs
-
-item-of-requires : tie.Need-item-of-requires
-item-of-requires c κs = search needs
 
 returns : tie.Need-returns
 returns c =
@@ -29,4 +18,4 @@ returns c =
 
 pub by-entry-spec : {M : Type 1} → statement M
 by-entry-spec =
-    tie.close (tie.spec scope-ns-requires scope-definition-requires item-of-requires returns)
+    tie.close (tie.spec (λ c κs. search needs) (λ c κs. search needs) (λ c κs. search needs) returns)

@@ -1,15 +1,9 @@
 use borrow.Author.Needs.{needs}
-use mathlib.Core.Path.{_≡_, refl, sym, ap, _∙_}
-use native.Mathlib.Omega.{arith}
 use denote.Ref.{now}
-use Rattle.snapshot.specs.Layouts.{snapOf}
 use Rattle.snapshot.specs.Records.{externAt}
 use Rattle.told_routes.proofs.Laws.{answers-extern}
 use Rattle.told_routes.proofs.names.by_extern.Statement.{statement}
 use Rattle.told_routes.proofs.names.by_extern.Tie as tie
-
-extern-target-requires : tie.Need-extern-target-requires
-extern-target-requires c κs = search needs
 
 returns : tie.Need-returns
 returns c =
@@ -17,4 +11,4 @@ returns c =
     answers-extern (externAt (now (s .args .words)) (s .args .h)) _ (c .extern-target .ensures)
 
 pub by-extern-spec : {M : Type 1} → statement M
-by-extern-spec = tie.close (tie.spec extern-target-requires returns)
+by-extern-spec = tie.close (tie.spec (λ c κs. search needs) returns)

@@ -1,16 +1,12 @@
 use borrow.Author.Needs.{needs}
-use mathlib.Core.Path.{_≡_, refl, sym, ap, _∙_}
+use mathlib.Core.Path.{sym, ap, _∙_}
 use native.Mathlib.Omega.{arith}
 use denote.Ref.{now}
-use Rattle.snapshot.specs.Layouts.{snapOf}
 use Rattle.snapshot.specs.Records.{memberAt}
 use Rattle.hir_def.specs.Entries.{entryOf}
 use Rattle.told_routes.proofs.Laws.{answers-as, variant-macro, variant-gone, variant-answers}
 use Rattle.told_routes.proofs.names.in_enum.Statement.{statement}
 use Rattle.told_routes.proofs.names.in_enum.Tie as tie
-
-nothing-requires : tie.Need-nothing-requires
-nothing-requires c κs = search needs
 
 returns : tie.Need-returns
 returns c =
@@ -20,18 +16,6 @@ returns c =
     (variant-macro (now (s .args .words)) (now (s .args .area)) (s .args .l) (s .pre) (s .args .ns) (s .args .d .0) (s .args .name .0)
     (t .if1 .taken))
     (c .nothing .ensures)
-
-variant-named-requires : tie.Need-variant-named-requires
-variant-named-requires c κs = search needs
-
-enum-known-h : tie.Need-enum-known-h
-enum-known-h c = search needs
-
-enum-told : tie.Need-enum-told
-enum-told c = search needs
-
-nothing-requires-2 : tie.Need-nothing-requires-2
-nothing-requires-2 c κs = search needs
 
 returns-2 : tie.Need-returns-2
 returns-2 c =
@@ -44,12 +28,6 @@ returns-2 c =
     (variant-gone (now (s .args .words)) A (s .args .l) (s .pre) (s .args .ns) (s .args .d .0) (s .args .name .0) (omega (arith, t .if1 .left))
     (sym (ap (entryOf memberAt (now (s .args .words))) (e .enum-told .given .1)) ∙ v .variant-named .ensures A))
     (c .nothing2 .ensures)
-
-member-definition-requires : tie.Need-member-definition-requires
-member-definition-requires c κs = search needs
-
-definition-head-requires : tie.Need-definition-head-requires
-definition-head-requires c κs = search needs
 
 returns-3 : tie.Need-returns-3
 returns-3 c =
@@ -65,15 +43,5 @@ returns-3 c =
 
 pub in-enum-spec : {M : Type 1} → statement M
 in-enum-spec =
-    tie.close
-    (tie.spec
-    nothing-requires
-    returns
-    variant-named-requires
-    enum-known-h
-    enum-told
-    nothing-requires-2
-    returns-2
-    member-definition-requires
-    definition-head-requires
-    returns-3)
+    tie.close (tie.spec (λ c κs. search needs) returns (λ c κs. search needs) (λ c. search needs) (λ c. search needs)
+    (λ c κs. search needs) returns-2 (λ c κs. search needs) (λ c κs. search needs) returns-3)

@@ -1,23 +1,9 @@
 use borrow.Author.Needs.{needs}
-use mathlib.Core.Path.{_≡_, refl, sym, ap, _∙_}
-use native.Mathlib.Omega.{arith}
 use denote.Ref.{now}
 use Rattle.snapshot.specs.Layouts.{snapOf}
 use Rattle.told_routes.proofs.Laws.{within-module, within-other}
 use Rattle.told_routes.proofs.names.in_item.Statement.{statement}
 use Rattle.told_routes.proofs.names.in_item.Tie as tie
-
-enum-known-item : tie.Need-enum-known-item
-enum-known-item c = search needs
-
-in-module-requires : tie.Need-in-module-requires
-in-module-requires c κs = search needs
-
-enum-known-item-2 : tie.Need-enum-known-item-2
-enum-known-item-2 c = search needs
-
-in-enum-requires : tie.Need-in-enum-requires
-in-enum-requires c κs = search needs
 
 returns : tie.Need-returns
 returns c =
@@ -35,11 +21,5 @@ returns-2 c =
 
 pub in-item-spec : {M : Type 1} → statement M
 in-item-spec =
-    tie.close
-    (tie.spec
-    enum-known-item
-    in-module-requires
-    enum-known-item-2
-    in-enum-requires
-    returns
+    tie.close (tie.spec (λ c. search needs) (λ c κs. search needs) (λ c. search needs) (λ c κs. search needs) returns
     returns-2)

@@ -1,8 +1,4 @@
-use borrow.Author.Needs.{needs}
-use mathlib.Core.Path.{_≡_, refl, sym, ap, _∙_}
-use native.Mathlib.Omega.{arith}
-use denote.Ref.{now}
-use Rattle.snapshot.specs.Layouts.{snapOf}
+use mathlib.Core.Path.{refl}
 use Rattle.nameable.specs.Paths.{itemIn, placeIn}
 use Rattle.read_back.specs.Answers.{meant}
 use Rattle.told_routes.proofs.names.nothing.Statement.{statement}

@@ -1,21 +1,10 @@
 use borrow.Author.Needs.{needs}
-use mathlib.Core.Path.{_≡_, refl, sym, ap, _∙_}
-use native.Mathlib.Omega.{arith}
 use denote.Ref.{now}
 use Rattle.snapshot.specs.Layouts.{snapOf}
 use Rattle.nameable.specs.Paths.{named, within}
 use Rattle.told_routes.proofs.Laws.{answers-as, after-nothing, after-thing}
 use Rattle.told_routes.proofs.names.read_after.Statement.{statement}
 use Rattle.told_routes.proofs.names.read_after.Tie as tie
-
-enum-known-here : tie.Need-enum-known-here
-enum-known-here c = search needs
-
-enum-told : tie.Need-enum-told
-enum-told c = search needs
-
-nothing-requires : tie.Need-nothing-requires
-nothing-requires c κs = search needs
 
 returns : tie.Need-returns
 returns c =
@@ -25,9 +14,6 @@ returns c =
     λ o h.
     answers-as (after-nothing (λ x. named (s .args .name .0) (within S (s .args .from .0) (s .args .ns) x)) (e .enum-told .given .1) o h)
     (c .nothing .ensures)
-
-in-item-requires : tie.Need-in-item-requires
-in-item-requires c κs = search needs
 
 returns-2 : tie.Need-returns-2
 returns-2 c =
@@ -41,4 +27,4 @@ returns-2 c =
 pub read-after-spec : {M : Type 1} → statement M
 read-after-spec =
     tie.close
-    (tie.spec enum-known-here enum-told nothing-requires returns in-item-requires returns-2)
+    (tie.spec (λ c. search needs) (λ c. search needs) (λ c κs. search needs) returns (λ c κs. search needs) returns-2)

@@ -1,33 +1,11 @@
 use borrow.Author.Needs.{needs}
-use mathlib.Core.Path.{_≡_, refl, sym, ap, _∙_}
-use native.Mathlib.Omega.{arith}
+use mathlib.Core.Path.{sym, ap, _∙_}
 use denote.Ref.{now}
 use Rattle.snapshot.specs.Layouts.{snapOf}
 use Rattle.any_path.specs.Plain.{recordRead}
 use Rattle.told_routes.proofs.Laws.{answers-as}
 use Rattle.told_routes.proofs.names.read_alone.Statement.{statement}
 use Rattle.told_routes.proofs.names.read_alone.Tie as tie
-
-read-plain-requires : tie.Need-read-plain-requires
-read-plain-requires c κs = search needs
-
-enum-known-h : tie.Need-enum-known-h
-enum-known-h c = search needs
-
-by-entry-requires : tie.Need-by-entry-requires
-by-entry-requires c κs = search needs
-
-enum-known-h-2 : tie.Need-enum-known-h-2
-enum-known-h-2 c = search needs
-
-by-extern-requires : tie.Need-by-extern-requires
-by-extern-requires c κs = search needs
-
-enum-told : tie.Need-enum-told
-enum-told c = search needs
-
-nothing-requires : tie.Need-nothing-requires
-nothing-requires c κs = search needs
 
 returns : tie.Need-returns
 unfolding recordRead
@@ -58,15 +36,5 @@ returns-3 c =
 
 pub read-alone-spec : {M : Type 1} → statement M
 read-alone-spec =
-    tie.close
-    (tie.spec
-    read-plain-requires
-    enum-known-h
-    by-entry-requires
-    enum-known-h-2
-    by-extern-requires
-    enum-told
-    nothing-requires
-    returns
-    returns-2
-    returns-3)
+    tie.close (tie.spec (λ c κs. search needs) (λ c. search needs) (λ c κs. search needs) (λ c. search needs)
+    (λ c κs. search needs) (λ c. search needs) (λ c κs. search needs) returns returns-2 returns-3)

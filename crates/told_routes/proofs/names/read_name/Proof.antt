@@ -1,5 +1,5 @@
 use borrow.Author.Needs.{needs}
-use mathlib.Core.Path.{_≡_, refl, sym, ap, _∙_}
+use mathlib.Core.Path.{ap}
 use native.Mathlib.Omega.{arith}
 use denote.Ref.{now}
 use Rattle.snapshot.specs.Layouts.{snapOf}
@@ -7,9 +7,6 @@ use Rattle.nameable.specs.Paths.{reads}
 use Rattle.told_routes.proofs.Laws.{answers-as, next-later, next-plain, next-absolute, next-keyword}
 use Rattle.told_routes.proofs.names.read_name.Statement.{statement}
 use Rattle.told_routes.proofs.names.read_name.Tie as tie
-
-read-after-requires : tie.Need-read-after-requires
-read-after-requires c κs = search needs
 
 returns : tie.Need-returns
 unfolding reads
@@ -23,9 +20,6 @@ returns c =
     (next-later (s .args .kind) (s .args .k) p (s .args .name .0) (t .if1 .taken)))
     (c .read-after .ensures _ h)
 
-read-alone-requires : tie.Need-read-alone-requires
-read-alone-requires c κs = search needs
-
 returns-2 : tie.Need-returns-2
 returns-2 c =
     let t = c .before in
@@ -37,9 +31,6 @@ returns-2 c =
     (ap (reads S (s .args .from .0) (s .args .ns))
     (next-plain (s .args .kind) (s .args .k) p (s .args .name .0) (omega (arith, z .if1 .left)) (t .if2 .taken)))
     (c .read-alone .ensures)
-
-read-absolute-requires : tie.Need-read-absolute-requires
-read-absolute-requires c κs = search needs
 
 returns-3 : tie.Need-returns-3
 returns-3 c =
@@ -53,9 +44,6 @@ returns-3 c =
     (ap (reads S (s .args .from .0) (s .args .ns))
     (next-absolute (s .args .kind) (s .args .k) p (s .args .name .0) (omega (arith, z .if1 .left)) (n .if2 .left) (t .if3 .taken)))
     (c .read-absolute .ensures)
-
-read-after-requires-2 : tie.Need-read-after-requires-2
-read-after-requires-2 c κs = search needs
 
 returns-4 : tie.Need-returns-4
 unfolding reads
@@ -73,13 +61,5 @@ returns-4 c =
 
 pub read-name-spec : {M : Type 1} → statement M
 read-name-spec =
-    tie.close
-    (tie.spec
-    read-after-requires
-    returns
-    read-alone-requires
-    returns-2
-    read-absolute-requires
-    returns-3
-    read-after-requires-2
-    returns-4)
+    tie.close (tie.spec (λ c κs. search needs) returns (λ c κs. search needs) returns-2 (λ c κs. search needs) returns-3
+    (λ c κs. search needs) returns-4)

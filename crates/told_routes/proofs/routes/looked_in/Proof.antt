@@ -1,8 +1,4 @@
-use borrow.Author.Needs.{needs}
-use mathlib.Core.Path.{_≡_, refl, sym, ap, _∙_}
-use native.Mathlib.Omega.{arith}
-use denote.Ref.{now}
-use Rattle.snapshot.specs.Layouts.{snapOf}
+use mathlib.Core.Path.{sym}
 use borrow.Author.Tests.{eq-eqb, ne-eqb}
 use Rattle.told_routes.specs.Routes.{nsOfFirst}
 use Rattle.told_routes.proofs.routes.looked_in.Statement.{statement}

@@ -1,6 +1,5 @@
-use borrow.Author.Needs.{needs}
 use Prim.Native.Nat.{ℕ, _-_}
-use mathlib.Core.Path.{_≡_, refl, sym, ap, _∙_}
+use mathlib.Core.Path.{_≡_}
 use native.Mathlib.Omega.{arith}
 use denote.Ref.{now}
 use Rattle.snapshot.specs.Layouts.{snapOf}
@@ -35,9 +34,6 @@ add-looked-in : tie.Need-add-looked-in Inv-loop μ-loop
 add-looked-in c =
     let s = c .before .before .before .before .before .before in
     record { fits = omega (arith, c .loop-test .taken, s .pre .2) }
-
-looked-in-requires : tie.Need-looked-in-requires Inv-loop μ-loop
-looked-in-requires c κs = tt
 
 mul-t16 : tie.Need-mul-t16 Inv-loop μ-loop
 mul-t16 c =
@@ -102,20 +98,5 @@ returns c =
 
 pub route-by-spec : {M : Type 1} → statement M
 route-by-spec =
-    tie.close
-    (tie.spec
-    Inv-loop
-    μ-loop
-    start-requires
-    loop-holds
-    add-looked-in
-    looked-in-requires
-    mul-t16
-    array-read-t19
-    read-name-requires
-    mul-route
-    array-write-route
-    add-k
-    loop-less
-    loop-again
-    returns)
+    tie.close (tie.spec Inv-loop μ-loop start-requires loop-holds add-looked-in (λ c κs. tt) mul-t16 array-read-t19
+    read-name-requires mul-route array-write-route add-k loop-less loop-again returns)

@@ -1,5 +1,4 @@
-use borrow.Author.Needs.{needs}
-use mathlib.Core.Path.{_≡_, refl, sym, ap, _∙_}
+use mathlib.Core.Path.{ap, _∙_}
 use native.Mathlib.Omega.{arith}
 use denote.Ref.{now}
 use Rattle.snapshot.specs.Layouts.{snapOf}
@@ -31,8 +30,4 @@ returns-2 c =
 
 pub route-of-spec : {M : Type 1} → statement M
 route-of-spec =
-    tie.close
-    (tie.spec
-    returns
-    route-by-requires
-    returns-2)
+    tie.close (tie.spec returns route-by-requires returns-2)

@@ -13,9 +13,6 @@ Inv-loop windows window₀ left₀ window left = (window < 8) × (left ≤ 8) ×
 abbrev μ-loop : tie.MeasureT-loop
 μ-loop windows window₀ left₀ window left = left
 
-cast-window : tie.Need-cast-window Inv-loop μ-loop
-cast-window c = omega arith
-
 loop-holds : tie.Need-loop-holds Inv-loop μ-loop
 unfolding wordsOf
 loop-holds c = (omega arith, omega arith, served-start _)
@@ -28,15 +25,6 @@ returns c =
     let t = c .before .before in
     let l = t .before .loop in
     sym (l .inv .2 ∙ first-here _ (l .window) _ (c .before .waits .ensures) (l .left) (t .loop-test .taken) (c .if1 .taken))
-
-add-window : tie.Need-add-window Inv-loop μ-loop
-add-window c = omega arith
-
-sub-left : tie.Need-sub-left Inv-loop μ-loop
-sub-left c = omega arith
-
-loop-less : tie.Need-loop-less Inv-loop μ-loop
-loop-less c = omega arith
 
 loop-again : tie.Need-loop-again Inv-loop μ-loop
 loop-again c =
@@ -51,16 +39,5 @@ returns-2 c =
 
 pub next-waiting-spec : {M : Type 1} → statement M
 next-waiting-spec =
-    tie.close
-    (tie.spec
-    Inv-loop
-    μ-loop
-    cast-window
-    loop-holds
-    waits-requires
-    returns
-    add-window
-    sub-left
-    loop-less
-    loop-again
-    returns-2)
+    tie.close (tie.spec Inv-loop μ-loop (λ c. omega arith) loop-holds waits-requires returns (λ c. omega arith)
+    (λ c. omega arith) (λ c. omega arith) loop-again returns-2)

@@ -4,12 +4,6 @@ use borrow.Author.Needs.{needs}
 use Rattle.window_state.proofs.rows.waits.Statement.{statement}
 use Rattle.window_state.proofs.rows.waits.Tie as tie
 
-mul-row : tie.Need-mul-row
-mul-row c = search needs
-
-element-copy-out-row : tie.Need-element-copy-out-row
-element-copy-out-row c = search needs
-
 returns : tie.Need-returns
 returns c =
     let s = c .before .before .args in
@@ -17,4 +11,4 @@ returns c =
     word-waits (s .t1) (s .window) _ (omega (arith, l))
 
 pub waits-spec : {M : Type 1} → statement M
-waits-spec = tie.close (tie.spec mul-row element-copy-out-row returns)
+waits-spec = tie.close (tie.spec (λ c. search needs) (λ c. search needs) returns)

@@ -7,23 +7,12 @@ use borrow.Author.Needs.{needs}
 use Rattle.window_state.proofs.serve.after_serving.Statement.{statement}
 use Rattle.window_state.proofs.serve.after_serving.Tie as tie
 
-empty-row-requires : tie.Need-empty-row-requires
-empty-row-requires c κs = search needs
-
-with-row-requires : tie.Need-with-row-requires
-with-row-requires c κs = search needs
-
-add-served : tie.Need-add-served
-add-served c = search needs
-
-cast-served : tie.Need-cast-served
-cast-served c = search needs
-
 returns : tie.Need-returns
 returns c =
     words-served _ (c .with-row .result) _
-    (c .with-row .ensures ∙ ap (λ (r : Row). withRow (wordsOf (c .before .before .args .windows)) (c .before .before .args .window) (rowWords r)) (c .before .empty-row .ensures))
+    (c .with-row .ensures ∙ ap (λ (r : Row). withRow (wordsOf (c .before .before .args .windows)) (c .before .before .args .window) (rowWords r))
+    (c .before .empty-row .ensures))
 
 pub after-serving-spec : {M : Type 1} → statement M
 after-serving-spec =
-    tie.close (tie.spec empty-row-requires with-row-requires add-served cast-served returns)
+    tie.close (tie.spec (λ c κs. search needs) (λ c κs. search needs) (λ c. search needs) (λ c. search needs) returns)

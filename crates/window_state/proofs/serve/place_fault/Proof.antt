@@ -7,9 +7,6 @@ use Rattle.window_state.proofs.serve.place_fault.Tie as tie
 returns : tie.Need-returns
 returns c = fault-window _ _ (omega (arith, c .if1 .taken))
 
-waits-requires : tie.Need-waits-requires
-waits-requires c κs = search needs
-
 returns-2 : tie.Need-returns-2
 returns-2 c = fault-waits _ _ (c .before .before .if1 .left) _ (c .before .waits .ensures) (c .if2 .taken)
 
@@ -17,4 +14,4 @@ returns-3 : tie.Need-returns-3
 returns-3 c = fault-none _ _ (c .before .before .if1 .left) _ (c .before .waits .ensures) (c .if2 .left)
 
 pub place-fault-spec : {M : Type 1} → statement M
-place-fault-spec = tie.close (tie.spec returns waits-requires returns-2 returns-3)
+place-fault-spec = tie.close (tie.spec returns (λ c κs. search needs) returns-2 returns-3)

@@ -1,5 +1,5 @@
 use borrow.Author.Needs.{needs}
-use Prim.Native.Nat.{_-_, _*_, _+_, _≤_}
+use Prim.Native.Nat.{_-_, _*_, _≤_}
 use mathlib.Core.Path.{_≡_, refl, _∙_}
 use native.Mathlib.Omega.{arith}
 use lib.ListN.{length, take, drop, length-set}
@@ -14,27 +14,9 @@ Inv-loop words rows₀ i₀ rows i = (i ≤ 8) × (length rows ≡ 8) × (rowsWo
 abbrev μ-loop : tie.MeasureT-loop
 μ-loop words rows₀ i₀ rows i = 8 - i
 
-empty-row-requires : tie.Need-empty-row-requires Inv-loop μ-loop
-empty-row-requires c κs = search needs
-
 loop-holds : tie.Need-loop-holds Inv-loop μ-loop
 unfolding rowsWords
 loop-holds c = (omega arith, refl, refl)
-
-row-of-requires : tie.Need-row-of-requires Inv-loop μ-loop
-row-of-requires c κs = search needs
-
-mul-rows : tie.Need-mul-rows Inv-loop μ-loop
-mul-rows c = omega arith
-
-array-set-from-rows : tie.Need-array-set-from-rows Inv-loop μ-loop
-array-set-from-rows c = omega arith
-
-add-i : tie.Need-add-i Inv-loop μ-loop
-add-i c = omega arith
-
-loop-less : tie.Need-loop-less Inv-loop μ-loop
-loop-less c = omega arith
 
 loop-again : tie.Need-loop-again Inv-loop μ-loop
 loop-again c =
@@ -44,9 +26,6 @@ loop-again c =
       apart-next _ (l .rows) (c .row-of .result) (l .i) (omega arith) (l .inv .2) (c .row-of .ensures),
     )
 
-array-read-next : tie.Need-array-read-next Inv-loop μ-loop
-array-read-next c = search needs
-
 returns : tie.Need-returns Inv-loop μ-loop
 returns c =
     let l = c .before .loop in
@@ -54,17 +33,5 @@ returns c =
 
 pub windows-of-spec : {M : Type 1} → statement M
 windows-of-spec =
-    tie.close
-    (tie.spec
-    Inv-loop
-    μ-loop
-    empty-row-requires
-    loop-holds
-    row-of-requires
-    mul-rows
-    array-set-from-rows
-    add-i
-    loop-less
-    loop-again
-    array-read-next
-    returns)
+    tie.close (tie.spec Inv-loop μ-loop (λ c κs. search needs) loop-holds (λ c κs. search needs) (λ c. omega arith)
+    (λ c. omega arith) (λ c. omega arith) (λ c. omega arith) loop-again (λ c. search needs) returns)

@@ -18,30 +18,9 @@ Inv-loop windows words₀ i₀ words i =
 abbrev μ-loop : tie.MeasureT-loop
 μ-loop windows words₀ i₀ words i = 8 - i
 
-array-write-words : tie.Need-array-write-words Inv-loop μ-loop
-array-write-words c = search needs
-
 loop-holds : tie.Need-loop-holds Inv-loop μ-loop
 unfolding rowsWords
 loop-holds c = (omega arith, refl, refl)
-
-mul-row : tie.Need-mul-row Inv-loop μ-loop
-mul-row c = search needs
-
-element-copy-out-row : tie.Need-element-copy-out-row Inv-loop μ-loop
-element-copy-out-row c = search needs
-
-row-words-requires : tie.Need-row-words-requires Inv-loop μ-loop
-row-words-requires c κs = search needs
-
-with-words-requires : tie.Need-with-words-requires Inv-loop μ-loop
-with-words-requires c κs = search needs
-
-add-i : tie.Need-add-i Inv-loop μ-loop
-add-i c = omega arith
-
-loop-less : tie.Need-loop-less Inv-loop μ-loop
-loop-less c = omega arith
 
 loop-again : tie.Need-loop-again Inv-loop μ-loop
 unfolding emptyRow
@@ -60,21 +39,10 @@ loop-again c =
 returns : tie.Need-returns Inv-loop μ-loop
 returns c =
     let l = c .before .loop in
-    together-done (c .before .before .args .t1) (l .words) (l .i) (l .inv .1) (rows-eight (c .before .before .args .t1) _ (c .before .before .good .0)) (l .inv .0) (c .loop-test .left) (l .inv .2)
+    together-done (c .before .before .args .t1) (l .words) (l .i) (l .inv .1) (rows-eight (c .before .before .args .t1) _
+    (c .before .before .good .0)) (l .inv .0) (c .loop-test .left) (l .inv .2)
 
 pub words-of-spec : {M : Type 1} → statement M
 words-of-spec =
-    tie.close
-    (tie.spec
-    Inv-loop
-    μ-loop
-    array-write-words
-    loop-holds
-    mul-row
-    element-copy-out-row
-    row-words-requires
-    with-words-requires
-    add-i
-    loop-less
-    loop-again
-    returns)
+    tie.close (tie.spec Inv-loop μ-loop (λ c. search needs) loop-holds (λ c. search needs) (λ c. search needs)
+    (λ c κs. search needs) (λ c κs. search needs) (λ c. omega arith) (λ c. omega arith) loop-again returns)

@@ -7,12 +7,9 @@ use Rattle.windows.specs.Windows.{idleTurn}
 use Rattle.windows.proofs.turns.idle_turn.Statement.{statement}
 use Rattle.windows.proofs.turns.idle_turn.Tie as tie
 
-refused-requires : tie.Need-refused-requires
-refused-requires c κs = search needs
-
 returns : tie.Need-returns
 unfolding idleTurn
 returns c = ap {B = Turn} (λ (r : Report). record { idle = true; window = 8; report = r }) (c .refused .ensures)
 
 pub idle-turn-spec : {M : Type 1} → statement M
-idle-turn-spec = tie.close (tie.spec refused-requires returns)
+idle-turn-spec = tie.close (tie.spec (λ c κs. search needs) returns)

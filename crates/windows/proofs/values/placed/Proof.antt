@@ -6,9 +6,6 @@ use Rattle.windows.proofs.Laws.{placed-not, placed-so}
 use Rattle.windows.proofs.values.placed.Statement.{statement}
 use Rattle.windows.proofs.values.placed.Tie as tie
 
-place-fault-requires : tie.Need-place-fault-requires
-place-fault-requires c κs = search needs
-
 returns : tie.Need-returns
 returns c =
     let s = c .before .before .args in
@@ -26,4 +23,4 @@ returns-2 c =
     placed-so (wordsOf (s .windows)) (s .window) _ _ (f .place-fault .ensures) (c .before .if1 .left) _ (c .with-question .ensures)
 
 pub placed-spec : {M : Type 1} → statement M
-placed-spec = tie.close (tie.spec place-fault-requires returns with-question-requires returns-2)
+placed-spec = tie.close (tie.spec (λ c κs. search needs) returns with-question-requires returns-2)

@@ -6,12 +6,6 @@ use Rattle.windows.proofs.Laws.{turned-not, turned-so}
 use Rattle.windows.proofs.values.turned.Statement.{statement}
 use Rattle.windows.proofs.values.turned.Tie as tie
 
-next-waiting-requires : tie.Need-next-waiting-requires
-next-waiting-requires c κs = search needs
-
-idle-turn-requires : tie.Need-idle-turn-requires
-idle-turn-requires c κs = search needs
-
 returns : tie.Need-returns
 returns c =
     let f = c .before .before in
@@ -23,17 +17,11 @@ asked-by-requires c κs =
     let f = c .before .before in
     served-bound (wordsOf (f .before .before .before .args .windows)) _ (f .next-waiting .ensures) (c .before .if1 .left)
 
-find-path-requires : tie.Need-find-path-requires
-find-path-requires c κs = search needs
-
 after-serving-requires : tie.Need-after-serving-requires
 after-serving-requires c κs =
     let e = c .before .before .before .before .before in
     let f = e .before in
     served-bound (wordsOf (f .before .before .before .args .windows)) _ (f .next-waiting .ensures) (e .if1 .left)
-
-same-length : tie.Need-same-length
-same-length c = search needs
 
 returns-2 : tie.Need-returns-2
 returns-2 c =
@@ -41,17 +29,10 @@ returns-2 c =
     let e = p .before .before .before in
     let f = e .before in
     let s = f .before .before .before .args in
-    turned-so (wordsOf (s .windows)) (now (s .words)) (now (s .area)) _ (f .next-waiting .ensures) (e .if1 .left) _ (p .before .asked-by .ensures) _ _ (p .find-path .ensures) _ (c .after-serving .ensures)
+    turned-so (wordsOf (s .windows)) (now (s .words)) (now (s .area)) _ (f .next-waiting .ensures) (e .if1 .left) _
+    (p .before .asked-by .ensures) _ _ (p .find-path .ensures) _ (c .after-serving .ensures)
 
 pub turned-spec : {M : Type 1} → statement M
 turned-spec =
-    tie.close
-    (tie.spec
-    next-waiting-requires
-    idle-turn-requires
-    returns
-    asked-by-requires
-    find-path-requires
-    after-serving-requires
-    same-length
-    returns-2)
+    tie.close (tie.spec (λ c κs. search needs) (λ c κs. search needs) returns asked-by-requires (λ c κs. search needs)
+    after-serving-requires (λ c. search needs) returns-2)

@@ -4,15 +4,6 @@ use Rattle.printing.proofs.Laws.{put-two, length-decimal}
 use Rattle.wording.proofs.text.put_labelled.Statement.{statement}
 use Rattle.wording.proofs.text.put_labelled.Tie as tie
 
-put-requires : tie.Need-put-requires
-put-requires c κs = search needs
-
-put-digits-requires : tie.Need-put-digits-requires
-put-digits-requires c κs = search needs
-
-same-length : tie.Need-same-length
-same-length c = search needs
-
 returns : tie.Need-returns
 returns c =
     let e = c .before .before in
@@ -21,4 +12,4 @@ returns c =
     (put-two (a .put .ensures) (e .put-digits .ensures), omega (arith, a .put .ensures .next, e .put-digits .ensures .next))
 
 pub put-labelled-spec : {M : Type 1} → statement M
-put-labelled-spec = tie.close (tie.spec put-requires put-digits-requires same-length returns)
+put-labelled-spec = tie.close (tie.spec (λ c κs. search needs) (λ c κs. search needs) (λ c. search needs) returns)

@@ -4,18 +4,6 @@ use Rattle.printing.proofs.Laws.{put-two}
 use Rattle.wording.proofs.text.put_line.Statement.{statement}
 use Rattle.wording.proofs.text.put_line.Tie as tie
 
-put-labelled-requires : tie.Need-put-labelled-requires
-put-labelled-requires c κs = search needs
-
-slice-aggregate-put : tie.Need-slice-aggregate-put
-slice-aggregate-put c = search needs
-
-put-requires : tie.Need-put-requires
-put-requires c κs = search needs
-
-same-length : tie.Need-same-length
-same-length c = search needs
-
 returns : tie.Need-returns
 returns c =
     let e = c .before .before in
@@ -24,4 +12,4 @@ returns c =
 
 pub put-line-spec : {M : Type 1} → statement M
 put-line-spec =
-    tie.close (tie.spec put-labelled-requires slice-aggregate-put put-requires same-length returns)
+    tie.close (tie.spec (λ c κs. search needs) (λ c. search needs) (λ c κs. search needs) (λ c. search needs) returns)
