@@ -1,9 +1,10 @@
 //! Times of the proved code, through the Rust bindings: the check by the size of the snapshot, and questions.
 //!
-//! `bench` prints tables, `bench files` that of several questions at once, `bench families` that of inputs made to be slow, `bench lists`
-//! that of import lists (feature `lists`). For a profiler,
+//! `bench` prints tables, `bench files` that of several questions at once, `bench families` that of inputs made to be slow, `bench any` that of
+//! any path, `bench lists` that of import lists (feature `lists`). For a profiler,
 //! `bench check SHAPE COUNT` checks one snapshot so many times, `bench ask SHAPE COUNT` puts so many questions to the library on a checked snapshot, and
 //! `bench recheck SHAPE COUNT` to its function that checks in every call; all print nothing.
+mod any;
 mod families;
 mod library;
 #[cfg(feature = "lists")]
@@ -19,7 +20,7 @@ use std::io::Write;
 use kelumavor::{Snapshot, WorkArea};
 use shapes::Shape;
 
-const USAGE: &str = "bench [files | families | lists | check SHAPE COUNT | ask SHAPE COUNT | recheck SHAPE COUNT | family FAMILY SIZE COUNT
+const USAGE: &str = "bench [files | families | any | lists | check SHAPE COUNT | ask SHAPE COUNT | recheck SHAPE COUNT | family FAMILY SIZE COUNT
     | input SHAPE COUNT]
   SHAPE   small, workspace, chain, dependencies, names or scope
   FAMILY  unreached, globs, layers or clique
@@ -34,11 +35,13 @@ fn main() {
             questions::print_all();
             questions::print_files();
             families::print();
+            any::print();
             #[cfg(feature = "lists")]
             lists::print();
         }
         ["files"] => questions::print_files(),
         ["families"] => families::print(),
+        ["any"] => any::print(),
         #[cfg(feature = "lists")]
         ["lists"] => lists::print(),
         ["check", shape, count] => repeat_check(&named(shape), number(count)),
