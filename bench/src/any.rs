@@ -13,23 +13,17 @@ pub fn print() {
     println!("|---|---|---|---|---|");
     for shape in shapes::all() {
         let snapshot = Snapshot::check(&shape.words).expect(&shape.name);
-        let (definitions, modules) = (snapshot.counts().definitions, snapshot.counts().modules);
+        let (definitions, last) = (snapshot.counts().definitions, snapshot.counts().modules - 1);
         let mut times = [Vec::new(), Vec::new()];
         for definition in (0..definitions).step_by(definitions.div_ceil(ITEMS).max(1)) {
-            let ask = || snapshot.any_path(Namespace::Types, DefinitionId(definition), ModuleId(modules - 1));
+            let (item, from) = (DefinitionId(definition as u32), ModuleId(last as u32));
+            let ask = || snapshot.any_path(Namespace::Types, item, from);
             let Ok(answer) = ask() else { continue };
             let ns = timing::nanoseconds(|| std::hint::black_box(ask()).is_ok());
             times[usize::from(answer == AnyPath::Nowhere)].push(ns / 1000.0);
         }
         let [found, nowhere] = times.map(|times| (range(&times), times.len()));
-        println!(
-            "| {} | {} | {} | {} | {} |",
-            shape.name,
-            shape.words.len(),
-            found.1 + nowhere.1,
-            found.0,
-            nowhere.0
-        );
+        println!("| {} | {} | {} | {} | {} |", shape.name, shape.words.len(), found.1 + nowhere.1, found.0, nowhere.0);
     }
     println!();
 }
