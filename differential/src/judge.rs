@@ -292,10 +292,6 @@ impl Asking<'_> {
         }
     }
 
-    fn viewer(&self, scope: usize) -> Viewer<'_> {
-        Viewer::new(&self.written.s, self.written.modules[scope])
-    }
-
     fn ask(&mut self, pair: usize, path: String, asked: Asked) {
         let Pair { scope, definition, ns } = self.pairs[pair];
         let known = self.lines.get(&(pair, path.clone())).copied();
@@ -367,13 +363,32 @@ impl Asking<'_> {
         viewer.reads_to(ns, &self.parsed(path).0) == Some(item(s, ns, definition))
     }
 
+    /// The library's own answer.
+    #[cfg(feature = "library")]
+    fn any_path(&self, scope: usize, ns: usize, definition: usize) -> Answer {
+        use kelumavor::{DefinitionId, ModuleId, Namespace};
+        let snapshot = kelumavor::Snapshot::check(&words(&self.written.s)).expect("an accepted snapshot");
+        let namespace = [Namespace::Types, Namespace::Values, Namespace::Macros][ns];
+        let from = ModuleId(self.written.modules[scope] as u32);
+        match snapshot.any_path(namespace, DefinitionId(definition as u32), from) {
+            Ok(kelumavor::AnyPath::Found(path)) => Answer::Found(crate::library::path_of(&path)),
+            Ok(kelumavor::AnyPath::Longer) => Answer::Longer,
+            _ => Answer::None,
+        }
+    }
+
+    #[cfg(not(feature = "library"))]
+    fn any_path(&self, scope: usize, ns: usize, definition: usize) -> Answer {
+        Viewer::new(&self.written.s, self.written.modules[scope]).any_path(ns, definition)
+    }
+
     fn any_paths(&mut self, mistakes: bool) {
         self.none = vec![false; self.pairs.len()];
         for pair in 0..self.pairs.len() {
             let Pair { scope, definition, ns } = self.pairs[pair];
             let krate = self.w.scopes[scope].krate;
             let written = |path: &AnyPath| text(path, |name| self.w.written(name, krate));
-            let right = self.viewer(scope).any_path(ns, definition);
+            let right = self.any_path(scope, ns, definition);
             for (mistake, &one) in any_path::MISTAKES.iter().enumerate().filter(|_| mistakes) {
                 let from = self.written.modules[scope];
                 match (&right, Viewer::mistaken(&self.written.s, from, one).any_path(ns, definition)) {

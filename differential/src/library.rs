@@ -1,6 +1,7 @@
-//! The import lists of the static library, which the bindings link.
-use kelumavor as _;
+//! The import lists of the static library, which the bindings link, and its paths as those of `any_path.rs`.
+use kelumavor::{PathKind, ShortestPath};
 
+use crate::any_path::{AnyPath, Start};
 use crate::import_lists::ImportLists;
 
 unsafe extern "C" {
@@ -36,4 +37,16 @@ impl ImportLists for Library {
         };
         (refusal, count)
     }
+}
+
+/// A path of the library.
+pub fn path_of(path: &ShortestPath) -> AnyPath {
+    let start = match path.kind() {
+        PathKind::Plain => Start::Plain,
+        PathKind::SelfModule => Start::SelfModule,
+        PathKind::Super => Start::Super(path.supers()),
+        PathKind::Crate => Start::Crate,
+        PathKind::Absolute => Start::Extern,
+    };
+    AnyPath { start, names: path.ids().map(|name| name.0 as usize).collect() }
 }

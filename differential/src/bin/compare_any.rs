@@ -7,9 +7,10 @@ use std::time::Instant;
 use differential::any_path::{Answer, AnyPath, Start, Viewer};
 use differential::check::{Snapshot, check, kind, payload};
 use differential::generate::case;
+use differential::library::path_of;
 use differential::reading::{Item, item};
 use differential::usage::{fail, seeds};
-use kelumavor::{DefinitionId, ModuleId, Namespace, PathKind, ShortestPath};
+use kelumavor::{DefinitionId, ModuleId, Namespace};
 
 const USAGE: &str = "compare_any FROM TO
   FROM TO   seeds, the last one not taken";
@@ -113,15 +114,4 @@ fn report(same: bool, seed: u64, ns: usize, definition: usize, from: usize, told
         totals.differences += 1;
         println!("seed {seed}: definition {definition} in namespace {ns} from module {from}: {told}");
     }
-}
-
-fn path_of(path: &ShortestPath) -> AnyPath {
-    let start = match path.kind() {
-        PathKind::Plain => Start::Plain,
-        PathKind::SelfModule => Start::SelfModule,
-        PathKind::Super => Start::Super(path.supers()),
-        PathKind::Crate => Start::Crate,
-        PathKind::Absolute => Start::Extern,
-    };
-    AnyPath { start, names: path.ids().map(|name| name.0 as usize).collect() }
 }
