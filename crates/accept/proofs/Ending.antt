@@ -8,7 +8,7 @@ use native.Mathlib.Nat.{add-zero, zero-add}
 use lib.ListN.{length, get_or}
 use lib.Seq.{ext_get_or}
 use lib.Dec.{eqb, leb}
-use borrow.Author.Tests.{eqb-true, eqb-false, leb-true, leb-false, lt-leb, not_true}
+use borrow.Author.Tests.{eqb-true, eqb-false, leb-true, leb-false, lt-leb, not-true}
 use Rattle.snapshot.specs.Lists.{rows, any, all}
 use Rattle.snapshot.specs.Limits.{word_limit, module_limit}
 use Rattle.snapshot.specs.Refusals.{words_refusal, place_refusal}
@@ -208,7 +208,7 @@ module _ (W A : List ℕ) (k : ℕ) (l : Layout) (ms : List Map) (st : Stands W 
                   owned = λ c h.
                       (let e = r.crates c in
                       let n : (own_map A c ≡ 0 → ⊥) = eqb-false (own_map A c) 0
-                      (not_true (eqb (own_map A c) 0) (all_at (λ c. not (eqb (own_map A c) 0)) l.crates c h owned)) in
+                      (not-true (eqb (own_map A c) 0) (all_at (λ c. not (eqb (own_map A c) 0)) l.crates c h owned)) in
                       omega arith);
                 };
           }

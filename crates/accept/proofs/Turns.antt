@@ -6,7 +6,7 @@ use mathlib.Core.Bool.{Bool, true, false, ◌&&◌, ◌||◌, not, false≢true}
 use native.Mathlib.Omega.{arith}
 use lib.ListN.{length, get_or}
 use lib.Dec.{eqb, leb, ltb, lit≤}
-use borrow.Author.Tests.{ltb-true, leb-true, eqb-true, eqb-false, not_true}
+use borrow.Author.Tests.{ltb-true, leb-true, eqb-true, eqb-false, not-true}
 use Rattle.snapshot.specs.Refusals.{form_refusal}
 use Rattle.snapshot.specs.Words.{kind_of, pay_of, words_of, argument_table, arguments_of, arguments_at}
 use Rattle.snapshot.specs.Sizes.{scope_size}
@@ -96,7 +96,7 @@ known_kind last k h =
     let r = leb last k || eqb last 5 && eqb k 4 in
     let u = and_left (p && q && t) r h in
     let v = and_left (p && q) t u in
-    (leb-true _ _ (and_left p q v), leb-true _ _ (and_right p q v), eqb-false _ _ (not_true _ (and_right (p && q) t u)))
+    (leb-true _ _ (and_left p q v), leb-true _ _ (and_right p q v), eqb-false _ _ (not-true _ (and_right (p && q) t u)))
 
 -- a record of a later kind, or a map after a module
 rises : (last k : ℕ) → follows last k ≡ true → (t : ℕ) → (t ≡ 5 → ⊥) → k < t → last < t

@@ -15,7 +15,7 @@ use snapshot::refusal::CheckRefusal;
 use snapshot::words::kind;
 
 /// A refusal by its number, with the place of the record or the number of words; or where the records stand.
-#[derive(Drop)]
+#[derive(Clone, Copy)]
 pub enum Checked {
     Refused(u32, usize),
     Accepted(Layout),

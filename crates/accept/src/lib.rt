@@ -1,4 +1,6 @@
 //! The check of a snapshot: which words are one, and by which number the others are refused.
+#![tactic(auto)]
+
 mod arguments;
 pub mod check;
 mod finish;

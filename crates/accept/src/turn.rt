@@ -3,7 +3,7 @@ ghost use Rattle.std.specs.Prelude.{◌≡◌, List, ◌+◌, ◌≤◌, get_or}
 ghost use Rattle.snapshot.specs.Words.{kind_of, arguments_at};
 ghost use Rattle.snapshot.specs.Records.{Map};
 ghost use Rattle.snapshot.specs.Layouts.{snap_with};
-ghost use Rattle.check_rules.specs.Verdict.{follows as followsOf, record_step, step_at};
+ghost use Rattle.check_rules.specs.Verdict.{follows as follows_of, record_step, step_at};
 ghost use Rattle.record_rules.specs.Stands.{Ready, Here, Stands, Answered};
 
 use crate::arguments::arguments_from;
@@ -15,7 +15,7 @@ use snapshot::words::kind;
 
 // Whether a record of a kind may follow one of the last kind.
 fn follows(last: usize, kind: usize) -> bool
-    ensures { result ≡ followsOf last kind }
+    ensures { result ≡ follows_of last kind }
 {
     let again = (last == Kind::MODULE) & (kind == Kind::MAP);
     (Kind::NAME <= kind) & (kind <= Kind::MEMBER) & (kind != 12) & ((last <= kind) | again)

@@ -5,7 +5,7 @@ use crate::answer::find_path;
 use find_path::{Query, Question, Report};
 
 /// The reports of one question with two fuels.
-#[derive(Drop)]
+#[derive(Clone, Copy)]
 pub struct Reports {
     pub first: Report,
     pub second: Report,

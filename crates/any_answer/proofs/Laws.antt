@@ -5,7 +5,7 @@ use mathlib.Core.List.{List, [], ◌∷◌, ◌++◌}
 use mathlib.Core.Bool.{true, false, not, true≢false}
 use mathlib.Core.Option.{Option, none, some}
 use native.Mathlib.Omega.{arith}
-use borrow.Author.Tests.{le-leb, lt-leb, not_true, not-false}
+use borrow.Author.Tests.{le-leb, lt-leb, not-true, not-false}
 use lib.ListN.{length, get_or, drop}
 use Rattle.snapshot.specs.Limits.{area_limit}
 use Rattle.snapshot.specs.Refusals.{area_refusal}
@@ -46,7 +46,7 @@ module _ (s : Snapshot) (from ns : ℕ) (o : Option Path) {t : ToldPath} (e : t 
   unfolding up_to any_reported told_by
   nowhere_by none z h er = er ∙ sym (ap (λ (v : Option Path). any_reported s from ns (up_to names_limit v)) z)
   nowhere_by (some p) z h er =
-      absurd (true≢false (sym (tell_found p) ∙ (sym (ap (λ (v : ToldPath). v.found) (e ∙ ap told_by z)) ∙ not_true t.found h)))
+      absurd (true≢false (sym (tell_found p) ∙ (sym (ap (λ (v : ToldPath). v.found) (e ∙ ap told_by z)) ∙ not-true t.found h)))
 
   pub told_nowhere : {r : AnyReport} → not t.found ≡ true → r ≡ any_without 1 0 → r ≡ any_reported s from ns (up_to names_limit o)
   told_nowhere h er = nowhere_by o refl h er

@@ -1,4 +1,6 @@
 //! Whether any path names an item in a module, and a shortest one.
+#![tactic(auto)]
+
 mod asked;
 pub mod entry;
 pub mod numbers;
@@ -7,7 +9,7 @@ pub mod report;
 /// The answer: 0 a path, 1 there is none, 2 a refusal with its number, 3 there are paths and each has more than sixteen names; then the
 /// path: its kind as a report's, how many times `super`, its names, how many they are, and the places of the records by which they are
 /// read.
-#[derive(Drop)]
+#[derive(Clone, Copy)]
 pub struct AnyReport {
     pub outcome: usize,
     pub number: usize,

@@ -12,7 +12,7 @@ use told_paths::ToldPath;
 use told_paths::paths::NameCount;
 
 /// Outcomes.
-#[derive(Drop)]
+#[derive(Clone, Copy)]
 pub struct AnyOutcome(pub usize);
 
 impl AnyOutcome {

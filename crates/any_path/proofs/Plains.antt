@@ -46,7 +46,7 @@ use Rattle.nameable.proofs.Plenty.{plenty}
 use Rattle.nameable.proofs.Reached.{each_append, each_in, named_in_lem}
 use Rattle.nameable.proofs.Queue.{added_append, first_of_append}
 use Rattle.nameable.proofs.Lookups.{named_seen, first_mapped}
-use Rattle.readings.specs.Reads.{extern_named as externOfName}
+use Rattle.readings.specs.Reads.{extern_named as extern_of_name}
 use Rattle.seen_entries.proofs.Laws.{step_falls}
 use Rattle.any_path.specs.Rows.{path_from, run_at, Run, Stays, Grown, Offered, leads_on, name_if}
 use Rattle.any_path.specs.Plain.{scopes_named, externs_named, named_in, prelude_named, module_no, module_in, is_module, names_alone}
@@ -77,7 +77,7 @@ module _ (s : Snapshot) (from ns n : ℕ) where
       ∙ ap (Option.map (as_named s)) (sym (first_or (λ m. seen_named s from ns m n) m ms))))
 
   pub externs_read : named n (externs_in s from ns) ≡ Option.map extern_named (externs_named s from ns n)
-  unfolding named externs_in externs_named externOfName first_of
+  unfolding named externs_in externs_named extern_of_name first_of
   externs_read =
       by_test (eqb ns types)
       (λ t.
@@ -114,9 +114,9 @@ module _ (s : Snapshot) (from ns n : ℕ) where
     unfolding or_first
     plain_prelude h = sym (three ∙ rw (no, h))
 
-  pub externs_types : {c : ℕ} → c ≡ crate_of s from → ns ≡ types → externOfName s c n ≡ externs_named s from ns n
+  pub externs_types : {c : ℕ} → c ≡ crate_of s from → ns ≡ types → extern_of_name s c n ≡ externs_named s from ns n
   unfolding externs_named
-  externs_types k e = ap (λ (c : ℕ). externOfName s c n) k ∙ rw (externs_named, eq-eqb ns types e)
+  externs_types k e = ap (λ (c : ℕ). extern_of_name s c n) k ∙ rw (externs_named, eq-eqb ns types e)
 
   pub externs_others : (ns ≡ types → ⊥) → none ≡ externs_named s from ns n
   unfolding externs_named

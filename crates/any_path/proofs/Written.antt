@@ -2,7 +2,7 @@
 use Prim.Native.Nat.{ℕ, zero, suc, ◌+◌, ◌-◌, ◌≤◌, ◌<◌}
 use mathlib.Core.Path.{◌≡◌, refl, sym, ap, ap₂, ◌∙◌}
 use mathlib.Core.List.{List, [], ◌∷◌, ◌++◌}
-use mathlib.Core.Bool.{Bool, true, false, or_true}
+use mathlib.Core.Bool.{Bool, true, false, or-true}
 use native.Mathlib.Omega.{arith}
 use borrow.Author.Tests.{eq-eqb, ne_eqb, eqb-true, eqb-false}
 use lib.Dec.{eqb}
@@ -143,7 +143,7 @@ module _ (modules : ℕ) (A : List ℕ) (n t k x : ℕ) (run : Run modules A n) 
         let q : Path = path_from (path_at A) k x in
         let vs : List Way = ws ++ (way_to q t ∷ []) in
         let whole : run_at (written A n t k x p) (n + 1) ≡ vs = run_more A n t k x p row_space run.linked link in
-        let here : is_met vs t ≡ true = met_snoc ws (way_to q t) t ∙ rw (eq-eqb t t refl) (or_true (is_met ws t)) in
+        let here : is_met vs t ≡ true = met_snoc ws (way_to q t) t ∙ rw (eq-eqb t t refl) (or-true (is_met ws t)) in
         let one = passing_less (is_met ws) (is_met vs) (λ m h. met_snoc ws (way_to q t) m ∙ rw h) t modules known new here in
         record {
           run = record {

@@ -10,7 +10,7 @@ use Rattle.hir_def.specs.declared.Item.{Item}
 use Rattle.hir_def.specs.declared.Item.TheVariants.{Mod, Def}
 use Rattle.nameable.specs.Paths.{Path, plain, Named, as_named, extern_named, scopes_from}
 use Rattle.nameable.specs.Queue.{seen_named}
-use Rattle.readings.specs.Reads.{extern_named as externOfName}
+use Rattle.readings.specs.Reads.{extern_named as extern_of_name}
 use Rattle.any_path.specs.declared.plain.Reading.{Reading}
 use Rattle.any_path.specs.declared.plain.Reading.TheVariants.{Scope as ByScope, Extern as ByExtern, Nothing}
 
@@ -20,7 +20,7 @@ scopes_named s from ns n = first_some (λ m. seen_named s from ns m n) (scopes_f
 
 -- the extern of the viewer's crate, in types
 unfoldable pub externs_named : Snapshot → ℕ → ℕ → ℕ → Option Extern
-externs_named s from ns n = elim (eqb ns types) [ true ↦ externOfName s (crate_of s from) n | false ↦ none ]
+externs_named s from ns n = elim (eqb ns types) [ true ↦ extern_of_name s (crate_of s from) n | false ↦ none ]
 
 -- the seen entry of the prelude
 

@@ -1,4 +1,6 @@
 //! A shortest path to an item, and whether any path names it.
+#![tactic(auto)]
+
 mod begin;
 mod expand;
 mod firsts;

@@ -21,7 +21,7 @@ use snapshot::layout::Layout;
 use snapshot::record::{extern_target, prelude_target, scope_definition, scope_ns};
 
 /// The record by which a name is read, with the place of its head: a scope entry, an extern, or none.
-#[derive(Drop)]
+#[derive(Clone, Copy)]
 pub enum Reading {
     Scope(usize),
     Extern(usize),

@@ -7,7 +7,7 @@ ghost use Rattle.any_path.specs.Rows.{run_at, Run, Offered};
 use snapshot::words::word;
 
 /// The module, the link (0 a keyword, 1 `::n`, 2 `n`, 3 and more a name after the path of a row), the name or keyword, and the place of the record.
-#[derive(Drop)]
+#[derive(Clone, Copy)]
 pub struct Row {
     pub target: usize,
     pub link: usize,

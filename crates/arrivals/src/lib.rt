@@ -1,10 +1,12 @@
 //! The first path to an item, over the rows of a run.
+#![tactic(auto)]
+
 pub mod arrivals;
 mod plain;
 mod rows;
 
 /// The last step of a path: its link and its name as in a row, and the place of the record by which the name is read; or no path.
-#[derive(Drop)]
+#[derive(Clone, Copy)]
 pub enum OptStep {
     Step(usize, usize, usize),
     NoStep,

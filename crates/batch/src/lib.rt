@@ -1,3 +1,5 @@
 //! A file's worth of questions, with one snapshot.
+#![tactic(auto)]
+
 pub mod batch;
 pub mod each;

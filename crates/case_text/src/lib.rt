@@ -1,3 +1,5 @@
 //! Lists of test cases as text.
+#![tactic(auto)]
+
 pub mod text;
 pub mod words;

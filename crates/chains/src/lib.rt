@@ -1,3 +1,5 @@
 //! Records in chains by a key, in the work area: each key has the last number with it, each number the one before it with the same key.
+#![tactic(auto)]
+
 pub mod chain;
 pub mod keys;

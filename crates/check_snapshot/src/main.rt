@@ -1,4 +1,6 @@
 //! Checks a snapshot on standard input: prints how many records of each kind it has, or why it is refused.
+#![tactic(auto)]
+
 ghost use Rattle.std.specs.Prelude.{◌≡◌, ◌+◌, length};
 ghost use Rattle.snapshot.specs.Limits.{word_limit, input_limit};
 ghost use Rattle.wording.specs.Text.{text_limit};

@@ -3,7 +3,7 @@ ghost use Rattle.std.specs.Prelude.{◌≡◌, ◌≤◌, ◌<◌, length, take}
 ghost use Rattle.snapshot.specs.Limits.{path_limit, fuel_limit, area_limit, namespace_limit};
 ghost use Rattle.snapshot.specs.Layouts.{table_words, snap_of};
 ghost use Rattle.accept.specs.Post.{Reads};
-ghost use Rattle.find_path.specs.Report.{misleads as misleadsIn, reported as reportedOf, searched};
+ghost use Rattle.find_path.specs.Report.{misleads as misleads_in, reported as reported_of, searched};
 
 use find_path::{Query, Report};
 use hir_def::items::{item_of, kind_of};
@@ -17,7 +17,7 @@ use snapshot::layout::Layout;
 // Whether a path was found that is to be read, and does not read back to the item. A builtin in types is not read.
 fn misleads(words: &[u32], area: &[u32], l: Layout, q: Query, c: Choice) -> bool
     requires { Reads words.now area.now l × (q.from.0 < l.modules) × (c.count ≤ 16) }
-    ensures { result ≡ misleadsIn (snap_of words.now area.now l) q c }
+    ensures { result ≡ misleads_in (snap_of words.now area.now l) q c }
 {
     let d = q.definition;
     let builtin = (q.ns == Namespace::TYPES) & (kind_of(words, l, d) == DefinitionKind::BUILTIN);
@@ -34,7 +34,7 @@ fn misleads(words: &[u32], area: &[u32], l: Layout, q: Query, c: Choice) -> bool
 pub fn report_in(words: &[u32], area: &mut [u32], l: Layout, q: Query, fuel: usize) -> Report
     requires { Reads words.now area.old l × (length area.old ≡ area_limit) × (q.definition.0 < l.definitions)
         × (q.from.0 < l.modules) × (q.ns ≤ namespace_limit) × (fuel ≤ fuel_limit) × (0 < q.limit) × (q.limit ≤ path_limit) }
-    ensures value { result ≡ reportedOf (snap_of words.now area.old l) q
+    ensures value { result ≡ reported_of (snap_of words.now area.old l) q
         (searched (snap_of words.now area.old l) q fuel) }
     ensures area_unchanged { take table_words area.new ≡ take table_words area.old }
 {

@@ -1,4 +1,6 @@
 //! Externs, preludes and dependencies: what the search asks of nameres.rs and of the crate graph.
+#![tactic(auto)]
+
 ghost use Rattle.std.specs.Prelude.{◌≡◌, List, ◌&&◌, ℕ, ◌^◌, ◌<◌};
 ghost use Rattle.snapshot.specs.Sizes.{dependency_size};
 ghost use Rattle.snapshot.specs.Records.{dependency_at, prelude_at, extern_at};

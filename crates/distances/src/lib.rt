@@ -1,5 +1,7 @@
 //! Numbers of modules, in the work area past the tables: with less than its number left, no local search finds a module. They are lower
 //! bounds of the steps to an answer of the rules, taken over all entries that the viewer can use.
+#![tactic(auto)]
+
 ghost use Rattle.std.specs.Prelude.{◌≡◌, true, ℕ, ◌≤◌, ◌<◌, length};
 ghost use Rattle.std.proofs.Math.Option.{some};
 ghost use Rattle.snapshot.specs.Limits.{module_limit, area_limit};
@@ -27,7 +29,7 @@ use snapshot::table::Tables;
 use snapshot::words::word;
 
 /// Where the numbers stand, a word a module.
-#[derive(Drop)]
+#[derive(Clone, Copy)]
 pub struct Distances(pub usize);
 
 impl Distances {

@@ -19,7 +19,7 @@ use snapshot::layout::Layout;
 use snapshot::refusal::{CheckRefusal, Refusal};
 
 /// The number by which an edit is refused, 0 for none, and how many words the snapshot has after it.
-#[derive(Drop)]
+#[derive(Clone, Copy)]
 pub struct Edited {
     pub number: usize,
     pub count: usize,

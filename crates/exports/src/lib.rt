@@ -1,5 +1,7 @@
 //! The functions of the static library, for programs in Rust and C. None keeps a state but the one that the caller lends, and none asks
 //! anything of its caller but the two that end in `_checked`: these answer on words that `kelumavor_check` accepted before.
+#![tactic(auto)]
+
 ghost use Rattle.std.specs.Prelude.{◌≡◌, ◌≤◌, ◌<◌, length};
 ghost use Rattle.any_answer.specs.Any.{AnyIn};
 ghost use Rattle.asked.specs.Asked.{AskedEach};
@@ -54,7 +56,7 @@ use snapshot::words::payload;
 use window_state::words::{windows_of, words_of};
 
 /// The format of snapshots, questions and states.
-#[derive(Drop)]
+#[derive(Clone, Copy)]
 pub struct Format(pub usize);
 
 impl Format {

@@ -133,9 +133,9 @@ module _ (s : Snapshot) (x : FindPathCtx) where
 
   -- a crate's root is `crate`, in the viewer's crate or where no extern may be used; else its extern name
   unfoldable pub root_rule : Bool → ℕ → Choice
-  root_rule maybeExtern m =
+  root_rule maybe_extern m =
       elim (crate_root s m == m) [
-        | true ↦ elim (not maybeExtern || m == x.crate_root.0) [
+        | true ↦ elim (not maybe_extern || m == x.crate_root.0) [
           | true ↦ keyword crate_path
           | false ↦ extern_name m
               (extern_of s x.from_crate.0 m)
@@ -167,5 +167,5 @@ module _ (s : Snapshot) (x : FindPathCtx) where
 
   -- `find_path_for_module` before its search: root, extern, scope, keyword, prelude, in this order
   unfoldable pub module_rules : Bool → ℕ → Choice
-  module_rules maybeExtern m =
-      first_found (root_rule maybeExtern m ∷ scope_rule (module_item m) ∷ keyword_of (is_kw_kind_relative_to_from m) ∷ prelude_rule (module_item m) ∷ [])
+  module_rules maybe_extern m =
+      first_found (root_rule maybe_extern m ∷ scope_rule (module_item m) ∷ keyword_of (is_kw_kind_relative_to_from m) ∷ prelude_rule (module_item m) ∷ [])

@@ -1,10 +1,12 @@
 //! What the search takes and answers.
+#![tactic(auto)]
+
 pub use path_choices::Choice;
 use snapshot::ids::{Crate, DefinitionId, ModuleId};
 
 // What is set once for a question, after the Rust's `FindPathCtx` and its config; `fresh` is old names last; `own` is the module asked for, +1,
 // or 0 where the item is no module; `max_len` is the length left at the start.
-#[derive(Drop)]
+#[derive(Clone, Copy)]
 pub struct FindPathCtx {
     pub prefix: usize,
     pub prefer_no_std: bool,
@@ -22,7 +24,7 @@ pub struct FindPathCtx {
 }
 
 // The path kind of a keyword, or no keyword.
-#[derive(Drop)]
+#[derive(Clone, Copy)]
 pub enum KwKind {
     Kw(usize),
     NoKw,
@@ -30,7 +32,7 @@ pub enum KwKind {
 
 // The fuel left, the charges so far, and whether a charge found no fuel. Of the first that found none: the length left, and the module
 // that it looked for, +1, or 0 for the question's own item or its enum.
-#[derive(Drop)]
+#[derive(Clone, Copy)]
 pub struct Tank {
     pub fuel: usize,
     pub spent: usize,
@@ -40,14 +42,14 @@ pub struct Tank {
 }
 
 // What a charge leaves: it goes on, or stops.
-#[derive(Drop)]
+#[derive(Clone, Copy)]
 pub enum Drawn {
     Go(Tank),
     Stop(Tank),
 }
 
 // What a search answers: its choice, and the tank that it leaves.
-#[derive(Drop)]
+#[derive(Clone, Copy)]
 pub struct Found {
     pub choice: Choice,
     pub meter: Tank,
@@ -55,7 +57,7 @@ pub struct Found {
 
 // A question without its fuel: the item's namespace and definition, the viewing module, prefix, options, and the limit, the length
 // left at the start.
-#[derive(Drop)]
+#[derive(Clone, Copy)]
 pub struct Query {
     pub ns: usize,
     pub definition: DefinitionId,
@@ -66,14 +68,14 @@ pub struct Query {
 }
 
 // A question.
-#[derive(Drop)]
+#[derive(Clone, Copy)]
 pub struct Question {
     pub query: Query,
     pub fuel: usize,
 }
 
 /// Outcomes of a report.
-#[derive(Drop)]
+#[derive(Clone, Copy)]
 pub struct Outcome(pub usize);
 
 impl Outcome {
@@ -88,7 +90,7 @@ impl Outcome {
 
 // A report: an outcome, and the number of a refusal; then the path, the charges, and empty 0 or 1;
 // `left` and `sought` are those of the first charge that found the tank empty, 0 where none did; `route` and `steps` are the path's.
-#[derive(Drop)]
+#[derive(Clone, Copy)]
 pub struct Report {
     pub outcome: usize,
     pub number: usize,

@@ -2,7 +2,7 @@
 use Prim.Native.Nat.{ℕ, ◌+◌, ◌-◌, ◌*◌, ◌/◌, ◌%◌, ◌≤◌, ◌<◌}
 use mathlib.Core.Path.{◌≡◌, refl, sym, ◌∙◌, ap, ap₂, subst}
 use mathlib.Core.List.{List, [], ◌∷◌, ◌++◌, reverse, reverse-append}
-use mathlib.Core.Bool.{Bool, true, false, ◌&&◌, not, and_true, or_true, false≢true}
+use mathlib.Core.Bool.{Bool, true, false, ◌&&◌, not, and-true, or-true, false≢true}
 use mathlib.Core.Option.{Option, none, some}
 use native.Mathlib.Omega.{arith}
 use lib.ListN.{length, get_or, get_or-eq_default}
@@ -248,7 +248,7 @@ first_same p q xs h = ap (λ t. first_of t xs) (λ i x. h x i)
 
 -- where declared entries do not count alone, `names_of` is `name_of`
 any_declared : (s : Snapshot) (m : ℕ) (item : Item) (e : Scope) → (is_for s m item e && counts false e) ≡ is_for s m item e
-any_declared s m item e = ap (λ b. is_for s m item e && b) (or_true (is_declared e)) ∙ and_true (is_for s m item e)
+any_declared s m item e = ap (λ b. is_for s m item e && b) (or-true (is_declared e)) ∙ and-true (is_for s m item e)
 
 pub names_name : (s : Snapshot) (m : ℕ) (item : Item) → names_of s m item (counts false) ≡ name_of s m item
 unfolding names_of name_of

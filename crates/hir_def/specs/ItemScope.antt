@@ -16,7 +16,7 @@ is_deprecated e = leb 2 e.declared
 
 -- declared there, where such entries alone count
 abbrev pub counts : Bool → Scope → Bool
-counts declaredOnly e = is_declared e || not declaredOnly
+counts declared_only e = is_declared e || not declared_only
 
 -- the entry of the module m stands for the item
 unfoldable pub is_for : Snapshot → ℕ → Item → Scope → Bool

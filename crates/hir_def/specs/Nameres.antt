@@ -26,11 +26,11 @@ ancestor_maps s m = m ∷ steps (block_of s) m
 
 -- the item's entry in one scope: the first that counts, by options bit 32 the first of these that isn't deprecated, if there is one
 abbrev pub entry_in : Snapshot → Item → Bool → Bool → ℕ → Option Scope
-entry_in s item declaredOnly fresh a = preferred fresh s a item (counts declaredOnly) (names_of s a item (counts declaredOnly))
+entry_in s item declared_only fresh a = preferred fresh s a item (counts declared_only) (names_of s a item (counts declared_only))
 
 -- the item's entry in the module, or around its blocks; only entries declared there where these alone count
 unfoldable pub scope_entry : Snapshot → ℕ → Item → Bool → Bool → Option Scope
-scope_entry s m item declaredOnly fresh = first_some (entry_in s item declaredOnly fresh) (ancestor_maps s m)
+scope_entry s m item declared_only fresh = first_some (entry_in s item declared_only fresh) (ancestor_maps s m)
 
 -- the first entry with that namespace and name in the module, or around its blocks
 unfoldable pub entry_named : Snapshot → ℕ → ℕ → ℕ → Option Scope

@@ -1,4 +1,6 @@
 //! What the lookups over an accepted snapshot answer.
+#![tactic(auto)]
+
 pub mod items;
 pub mod modules;
 pub mod visibility;
@@ -6,28 +8,28 @@ pub mod visibility;
 use snapshot::ids::{DefinitionId, ModuleId, Namespace};
 
 // An item: a module in the types namespace, or a namespace and another definition.
-#[derive(Drop)]
+#[derive(Clone, Copy)]
 pub enum Item {
     Mod(ModuleId),
     Def(Namespace, DefinitionId),
 }
 
 /// The place of a record's head, or no record.
-#[derive(Drop)]
+#[derive(Clone, Copy)]
 pub enum Entry {
     At(usize),
     Nothing,
 }
 
 /// An item's entry in a scope, and how many scope records were read for it.
-#[derive(Drop)]
+#[derive(Clone, Copy)]
 pub struct Lookup {
     pub entry: Entry,
     pub read: usize,
 }
 
 /// The number of a record of its kind and the place of its head, or no record.
-#[derive(Drop)]
+#[derive(Clone, Copy)]
 pub enum Next {
     Record(usize, usize),
     End,

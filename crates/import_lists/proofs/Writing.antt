@@ -7,7 +7,7 @@ use native.Mathlib.Omega.{arith}
 use native.Mathlib.Nat.{add-zero}
 use borrow.Author.Tests.{eq-eqb, ne_eqb}
 use lib.Dec.{eqb}
-use lib.ListN.{length, get_or, take, drop, set, length-append, length_map}
+use lib.ListN.{length, get_or, take, drop, set, length-append, length-map}
 use lib.Seq.{sets, length-sets, sets-eq}
 use Rattle.snapshot.specs.Sizes.{import_size, member_size, scope_size}
 use Rattle.snapshot.specs.Lists.{rows}
@@ -353,7 +353,7 @@ module _ (s : Snapshot) (c : ℕ) (members : length s.members ≤ 3276) where
   of_few e =
       let xs = select (is_member_of e.definition) s.members in
       let a = length-append (map (member_import c e) xs) (entry_import c e ∷ []) in
-      let b = length_map xs (member_import c e) in
+      let b = length-map xs (member_import c e) in
       let d = select_short (is_member_of e.definition) s.members in
       omega arith
 

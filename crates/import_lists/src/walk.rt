@@ -18,7 +18,7 @@ use snapshot::record::scope_definition;
 use snapshot::words::word;
 
 /// After a turn: how many modules are in order, and how many wait.
-#[derive(Drop)]
+#[derive(Clone, Copy)]
 pub struct Turn {
     pub order: usize,
     pub top: usize,

@@ -1,4 +1,6 @@
 //! The import map of a crate, after import_map.rs.
+#![tactic(auto)]
+
 ghost use Rattle.std.specs.Prelude.{◌≡◌, List, ℕ, ◌^◌, ◌<◌};
 ghost use Rattle.snapshot.specs.Sizes.{import_size};
 ghost use Rattle.snapshot.specs.Records.{import_at};

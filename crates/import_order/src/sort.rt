@@ -11,7 +11,7 @@ use snapshot::layout::Layout;
 use snapshot::words::word;
 
 /// The first words of the lists in the work area, past the tables.
-#[derive(Drop)]
+#[derive(Clone, Copy)]
 pub struct Lists(pub usize);
 
 impl Lists {

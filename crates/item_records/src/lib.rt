@@ -1,4 +1,6 @@
 //! The step of a definition, a scope, an import, an extern and a member.
+#![tactic(auto)]
+
 pub mod definitions;
 pub mod externs;
 pub mod imports;

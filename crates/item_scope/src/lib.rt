@@ -1,4 +1,6 @@
 //! The scope of a module, after item_scope.rs: its entries in record order.
+#![tactic(auto)]
+
 ghost use Rattle.std.specs.Prelude.{◌≡◌, List, true, ◌&&◌, ℕ, ◌^◌, ◌<◌};
 ghost use Rattle.snapshot.specs.Sizes.{scope_size};
 ghost use Rattle.snapshot.specs.Records.{scope_at};

@@ -5,7 +5,7 @@ use mathlib.Core.List.{List, ◌++◌, map}
 use mathlib.Core.Bool.{Bool, true, false, ◌&&◌, not, false≢true}
 use native.Mathlib.Omega.{arith}
 use native.Mathlib.Nat.{zero-add}
-use borrow.Author.Tests.{lt-ltb, le-ltb, le-leb, lt-leb, leb-true, not_true, not-false}
+use borrow.Author.Tests.{lt-ltb, le-ltb, le-leb, lt-leb, leb-true, not-true, not-false}
 use lib.Dec.{leb}
 use lib.ListN.{length, get_or, drop, length-append}
 use lib.Seq.{sets, sets-eq}
@@ -195,7 +195,7 @@ module _ {W X A B : List ℕ} {l m : Layout} {n : New} (r : Ready W X A l m) (f 
         pub join_not : not b ≡ true → Joins T (join_in (length T) s t) U (record { number = 51; count = 0 })
         unfolding join_in
         join_not h =
-            let q : (is_within (together s t) && leb (length (joined_words s t)) (length T)) ≡ false = sym room_same ∙ not_true b h in
+            let q : (is_within (together s t) && leb (length (joined_words s t)) (length T)) ≡ false = sym room_same ∙ not-true b h in
             subst (λ y. Joins T (join_in (length T) s t) y (record { number = 51; count = 0 })) (sym counted_same)
             (joins_not 51 (rw (join_in, q)))
 

@@ -17,7 +17,7 @@ use snapshot::layout::Layout;
 use snapshot::refusal::Refusal;
 
 /// The number by which a call is refused, 0 for none, and how many words were written.
-#[derive(Drop)]
+#[derive(Clone, Copy)]
 pub struct Joined {
     pub number: usize,
     pub count: usize,

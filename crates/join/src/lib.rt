@@ -1,2 +1,4 @@
 //! Two snapshots joined, for every input.
+#![tactic(auto)]
+
 pub mod join;

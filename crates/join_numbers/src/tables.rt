@@ -17,7 +17,7 @@ use snapshot::table::Tables;
 use snapshot::words::word;
 
 /// The first word of each table.
-#[derive(Drop)]
+#[derive(Clone, Copy)]
 pub struct Moved(pub usize);
 
 impl Moved {
@@ -27,7 +27,7 @@ impl Moved {
 }
 
 /// How many names and definitions of the second part are new.
-#[derive(Drop)]
+#[derive(Clone, Copy)]
 pub struct New {
     pub names: usize,
     pub definitions: usize,

@@ -5,7 +5,7 @@ use mathlib.Core.List.{List, [], ◌∷◌, ◌++◌, append_assoc, append-nil}
 use mathlib.Core.Bool.{Bool, true, false, not}
 use native.Mathlib.Omega.{arith}
 use native.Mathlib.Nat.{add-zero}
-use borrow.Author.Tests.{eq-eqb, ne_eqb, lt-ltb, le-ltb, ltb-true, ltb-false, leb-true, leb-false, not_true, not-false}
+use borrow.Author.Tests.{eq-eqb, ne_eqb, lt-ltb, le-ltb, ltb-true, ltb-false, leb-true, leb-false, not-true, not-false}
 use lib.Dec.{leb, ltb}
 use lib.ListN.{length, get_or, set, length-append, get_or-append}
 use lib.Seq.{sets, length-sets, get_or-append-add}
@@ -248,7 +248,7 @@ pub counted : (f : ℕ → ℕ) {write : Bool} {to : ℕ} (n : ℕ) {T : List �
 unfolding written
 counted f {write} {to} n {T} e =
     let l = length_rows f n in
-    record { next = omega arith; same = sym (ap (λ b. written b to (rows f 0 n) T) (not_true write e)) }
+    record { next = omega arith; same = sym (ap (λ b. written b to (rows f 0 n) T) (not-true write e)) }
 
 pub stored : (f : ℕ → ℕ) {write : Bool} {to : ℕ} (n i : ℕ) (T₀ : List ℕ) {T : List ℕ} → not write ≡ false → i ≤ n → n ≤ i
     → T ≡ sets T₀ to (rows f 0 i)
@@ -331,7 +331,7 @@ module _ (A : List ℕ) (l : Layout) (X : List ℕ) (at n : ℕ) where
   module _ {r : Bool} (a : r ≡ kept_at A l X at n) where
     pub kept_not : not r ≡ true → kept_words A l X at n ≡ []
     unfolding kept_words
-    kept_not h = rw (kept_words, ← a, not_true r h)
+    kept_not h = rw (kept_words, ← a, not-true r h)
 
     pub kept_is : not r ≡ false → moved_at (numbers_of A l) X at ≡ kept_words A l X at n
     unfolding kept_words

@@ -11,7 +11,7 @@ use snapshot::layout::Layout;
 use snapshot::words::{field, kind, payload};
 
 // What a word of a record numbers. FIRST and SECOND say it of a definition's, by its kind; SEEN of a visibility's.
-#[derive(Drop)]
+#[derive(Clone, Copy)]
 struct Role(usize);
 
 impl Role {

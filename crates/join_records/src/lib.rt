@@ -1,3 +1,5 @@
 //! The words of a join: the first's as they are, then the second's with their numbers moved, kind by kind.
+#![tactic(auto)]
+
 pub mod fields;
 pub mod write;

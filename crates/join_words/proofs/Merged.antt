@@ -5,7 +5,7 @@ use mathlib.Core.List.{List, [], ◌∷◌, ◌++◌, map}
 use mathlib.Core.Bool.{Bool, true, false, false≢true}
 use native.Mathlib.Omega.{arith}
 use native.Mathlib.Nat.{add-zero, zero-add}
-use borrow.Author.Tests.{ltb-true, ltb-false, not_true, not-false, eqb-true, eq-eqb}
+use borrow.Author.Tests.{ltb-true, ltb-false, not-true, not-false, eqb-true, eq-eqb}
 use lib.Dec.{eqb, ltb}
 use lib.ListN.{length, get_or, take, length-append, get_or-append}
 use lib.Seq.{get_or-append-add}
@@ -190,7 +190,7 @@ module _ {A : Type 0} (same : A → A → Bool) (d : A) (xs ys : List A) where
 
   -- none of the first list is the same as a new one
   pub new_apart : (y : A) → is_new same xs y ≡ true → (i : ℕ) → i < length xs → same y (get_or xs i d) ≡ false
-  new_apart y e i l = any_none (same y) xs d i (not_true (any (same y) xs) e) l
+  new_apart y e i l = any_none (same y) xs d i (not-true (any (same y) xs) e) l
 
   pub merged_length : length (merged same xs ys) ≡ length xs + length (select (is_new same xs) ys)
   unfolding merged

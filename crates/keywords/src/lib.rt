@@ -1,4 +1,6 @@
 //! Which names an edition writes with `r#`.
+#![tactic(auto)]
+
 ghost use Rattle.std.specs.Prelude.{◌≡◌, ◌≤◌};
 ghost use Rattle.snapshot.specs.Lists.{any};
 ghost use Rattle.snapshot.specs.Records.{name_at};

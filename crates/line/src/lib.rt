@@ -1,4 +1,6 @@
 //! The printed line of a report, as bytes.
+#![tactic(auto)]
+
 mod edition;
 pub mod line;
 mod path;

@@ -17,7 +17,7 @@ use snapshot::ids::ModuleId;
 use snapshot::layout::Layout;
 
 /// A number of bytes.
-#[derive(Drop)]
+#[derive(Clone, Copy)]
 pub struct LineBytes(pub usize);
 
 impl LineBytes {

@@ -2,7 +2,7 @@
 use Prim.Native.Nat.{ℕ, zero, suc, ◌+◌, ◌≤◌, ◌<◌}
 use mathlib.Core.Path.{◌≡◌, refl, ◌∙◌, ap}
 use mathlib.Core.List.{List, [], ◌∷◌, ◌++◌}
-use mathlib.Core.Bool.{Bool, true, false, ◌||◌, or_false, or_true}
+use mathlib.Core.Bool.{Bool, true, false, ◌||◌, or-false, or-true}
 use native.Mathlib.Omega.{arith}
 use lib.Dec.{eqb}
 use lib.ListN.{length, length-append}
@@ -31,7 +31,7 @@ module _ (r : List ℕ) (t : ℕ) where
   r' = r ++ (t ∷ [])
 
   other : (i : ℕ) → (i ≡ t → ⊥) → has r' i ≡ has r i
-  other i h = has_snoc r t i ∙ ap (λ (b : Bool). has r i || b) (ne_eqb _ _ h) ∙ or_false (has r i)
+  other i h = has_snoc r t i ∙ ap (λ (b : Bool). has r i || b) (ne_eqb _ _ h) ∙ or-false (has r i)
 
   -- another number counts alike
   alike : (n : ℕ) → (n ≡ t → ⊥) → (b : Bool) → has r n ≡ b → (x y : ℕ) → room n r' + x ≡ room n r + y → room (suc n) r' + x ≡ room (suc n) r + y
@@ -48,7 +48,7 @@ module _ (r : List ℕ) (t : ℕ) where
   room_less_step n new h ih true e =
       let q : n ≡ t = eqb-true n t e in
       let a : has r n ≡ false = ap (has r) q ∙ new in
-      let z : has r' n ≡ true = has_snoc r t n ∙ ap (λ (b : Bool). has r n || b) e ∙ or_true (has r n) in
+      let z : has r' n ≡ true = has_snoc r t n ∙ ap (λ (b : Bool). has r n || b) e ∙ or-true (has r n) in
       rw (room_in n r' z, room_out n r a) (omega (arith, room_same n (omega arith)))
   room_less_step n new h ih false e =
       let q : n ≡ t → ⊥ = eqb-false n t e in

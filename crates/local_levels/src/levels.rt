@@ -1,7 +1,7 @@
 //! Levels in the work area: three words (item, place of the level below, cursor), and then a run of modules.
 ghost use Rattle.std.specs.Prelude.{◌≡◌, [], ◌∷◌, ◌+◌, ◌<◌, ◌≤◌, length};
 ghost use Rattle.snapshot.specs.Limits.{module_limit};
-ghost use Rattle.find_path.specs.Walk.{has as hasIn, visited as visitedIn};
+ghost use Rattle.find_path.specs.Walk.{has as has_in, visited as visited_in};
 ghost use Rattle.local_levels.specs.Levels.{Small, code_of, run_at, levels_of, Chain};
 ghost use Rattle.local_levels.specs.Post.{Ready, Pushed};
 
@@ -24,7 +24,7 @@ pub fn code_of(item: Item) -> usize
 // Whether m is among the n words from a place on.
 fn has(area: &[u32], from: usize, n: usize, m: ModuleId) -> bool
     requires { from + n ≤ length area.now }
-    ensures { result ≡ hasIn (run_at area.now from n) m.0 }
+    ensures { result ≡ has_in (run_at area.now from n) m.0 }
 {
     let mut i = 0;
     while i < n {
@@ -39,7 +39,7 @@ fn has(area: &[u32], from: usize, n: usize, m: ModuleId) -> bool
 // Whether a level is a search for the item that has taken m.
 fn visited(area: &[u32], s: Stack, item: Item, m: ModuleId) -> bool
     requires { Chain area.now s.place s.depth (length area.now) × Small item }
-    ensures { result ≡ visitedIn (levels_of area.now s.place s.depth) item m.0 }
+    ensures { result ≡ visited_in (levels_of area.now s.place s.depth) item m.0 }
 {
     let code = code_of(item);
     let mut p = s.place;

@@ -1,10 +1,12 @@
 //! The local search, which is never charged: `calculate_best_path_local` and the searches below it.
+#![tactic(auto)]
+
 ghost use Rattle.std.specs.Prelude.{◌≡◌, false, ◌-◌, ◌≤◌, ◌<◌, ◌^◌};
 ghost use Rattle.snapshot.specs.Limits.{path_limit};
 ghost use Rattle.snapshot.specs.Layouts.{snap_of};
 ghost use Rattle.accept.specs.Post.{Reads};
 ghost use Rattle.find_path.specs.Rules.{module_rules};
-ghost use Rattle.find_path.specs.Local.{importable_name, location as locationOf, calculate_best_path_local};
+ghost use Rattle.find_path.specs.Local.{importable_name, location as location_of, calculate_best_path_local};
 ghost use Rattle.find_path.specs.Search.{search_local, best_local};
 ghost use Rattle.find_path.specs.Conditions.{Prepared, Asked, Chosen};
 ghost use Rattle.distances.specs.Distances.{distance, Bounds};
@@ -43,7 +45,7 @@ fn location(
 ) -> Choice
     requires { (0 < left) × Searchable words.now area.old l x (left - 1) s × (m.0 < l.modules) × (best.count < 2 ^ 32) }
     ensures { Answered words.now area.old l x s.top
-        (locationOf (snap_of words.now area.old l) x (search_local (snap_of words.now area.old l) x)
+        (location_of (snap_of words.now area.old l) x (search_local (snap_of words.now area.old l) x)
         left (levels_of area.old s.place s.depth) best m.0
         (importable_name (snap_of words.now area.old l) x item m.0)) area.new result }
 {

@@ -1,4 +1,6 @@
 //! Tests of the lookups and of visibility: the cases of the stored list. Prints a line a query.
+#![tactic(auto)]
+
 ghost use Rattle.std.specs.Prelude.{◌≡◌, length};
 
 use snapshot::ids::WordCount;

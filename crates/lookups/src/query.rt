@@ -15,7 +15,7 @@ use snapshot::layout::Layout;
 use snapshot::record::{extern_name, scope_definition, scope_name};
 
 /// What a query answers.
-#[derive(Drop)]
+#[derive(Clone, Copy)]
 pub enum Reply {
     Yes,
     No,

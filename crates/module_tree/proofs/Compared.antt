@@ -70,15 +70,18 @@ module _ (s : Snapshot) (ok : Tree s.maps s.modules) where
       let f = parent_fits s ok v p r y in
       on (up_parent s v p y) (to_root d p t (omega arith) (omega arith) q z (e ∙ sym f.1)))
 
-  same_crate : (v t : ℕ) → v < length s.modules → Within s v t → crate_of s v ≡ crate_of s t
-  same_crate v t r (now e) = ap (crate_of s) e
-  same_crate v t r (on {w = w} e m) =
+  same_crate' : (t v : ℕ) → v < length s.modules → Within s v t → crate_of s v ≡ crate_of s t
+  same_crate' t v r (now e) = ap (crate_of s) e
+  same_crate' t v r (on {w = w} e m) =
       let l = up_falls v w r e in
       by_number (parent_of s v)
       (λ z. sym (block_fits s ok v w r (sym (up_root s v z) ∙ e)).1)
       (λ p q. let f = parent_fits s ok v p r q in let u = up_parent s v p q in let same : p ≡ w = omega arith in
       ap (λ (k : ℕ). (map_of s k).crate) (sym f.1 ∙ ap (map_no s) same))
-      ∙ same_crate w t (omega arith) m
+      ∙ same_crate' t w (omega arith) m
+
+  same_crate : (v t : ℕ) → v < length s.modules → Within s v t → crate_of s v ≡ crate_of s t
+  same_crate v t = same_crate' t v
 
   climb_end : (k t : ℕ) → t < length s.modules → climb_step s k t ≡ 0 → climb s k t ≡ t
   unfolding climb
@@ -110,46 +113,61 @@ module _ (s : Snapshot) (ok : Tree s.maps s.modules) where
       (i.0, block z q i.1)))
       (λ p q. (t, inner q refl))
 
+  stands_within' : (x t : ℕ) → t < length s.modules → StandsIn s x t → Within s t x
+  stands_within' x t r (inner q e) = now e
+  stands_within' x t r (outermost z y e) = now e
+  stands_within' x t r (block {b = b} z q i) = let l = (block_fits s ok t b r q).0 in on (up_root s t z ∙ q) (stands_within' x b (omega arith) i)
+
   pub stands_within : (t x : ℕ) → t < length s.modules → StandsIn s x t → Within s t x
-  stands_within t x r (inner q e) = now e
-  stands_within t x r (outermost z y e) = now e
-  stands_within t x r (block {b = b} z q i) = let l = (block_fits s ok t b r q).0 in on (up_root s t z ∙ q) (stands_within b x (omega arith) i)
+  stands_within t x = stands_within' x t
+
+  stands_one' : (x y t : ℕ) → StandsIn s x t → StandsIn s y t → x ≡ y
+  stands_one' x y t (inner q e) (inner q' e') = cc
+  stands_one' x y t (inner q e) (outermost z w e') = absurd (omega arith)
+  stands_one' x y t (inner q e) (block z w i) = absurd (omega arith)
+  stands_one' x y t (outermost z w e) (inner q e') = absurd (omega arith)
+  stands_one' x y t (outermost z w e) (outermost z' w' e') = cc
+  stands_one' x y t (outermost z w e) (block z' w' i) = absurd (omega arith)
+  stands_one' x y t (block z w i) (inner q e') = absurd (omega arith)
+  stands_one' x y t (block z w i) (outermost z' w' e') = absurd (omega arith)
+  stands_one' x y t (block {b = b} z w i) (block {b = b'} z' w' i') =
+      let same : b' ≡ b = omega arith in
+      stands_one' x y b i (subst (λ (m : ℕ). StandsIn s y m) same i')
 
   pub stands_one : (t x y : ℕ) → StandsIn s x t → StandsIn s y t → x ≡ y
-  stands_one t x y (inner q e) (inner q' e') = cc
-  stands_one t x y (inner q e) (outermost z w e') = absurd (omega arith)
-  stands_one t x y (inner q e) (block z w i) = absurd (omega arith)
-  stands_one t x y (outermost z w e) (inner q e') = absurd (omega arith)
-  stands_one t x y (outermost z w e) (outermost z' w' e') = cc
-  stands_one t x y (outermost z w e) (block z' w' i) = absurd (omega arith)
-  stands_one t x y (block z w i) (inner q e') = absurd (omega arith)
-  stands_one t x y (block z w i) (outermost z' w' e') = absurd (omega arith)
-  stands_one t x y (block {b = b} z w i) (block {b = b'} z' w' i') =
-      let same : b' ≡ b = omega arith in
-      stands_one b x y i (subst (λ (m : ℕ). StandsIn s y m) same i')
+  stands_one t x y = stands_one' x y t
+
+  stands_itself' : (x t : ℕ) → StandsIn s x t → StandsIn s x x
+  stands_itself' x t (inner q e) = subst (λ (m : ℕ). StandsIn s x m) e (inner q e)
+  stands_itself' x t (outermost z y e) = subst (λ (m : ℕ). StandsIn s x m) e (outermost z y e)
+  stands_itself' x t (block {b = b} z q i) = stands_itself' x b i
 
   stands_itself : (t x : ℕ) → StandsIn s x t → StandsIn s x x
-  stands_itself t x (inner q e) = subst (λ (m : ℕ). StandsIn s x m) e (inner q e)
-  stands_itself t x (outermost z y e) = subst (λ (m : ℕ). StandsIn s x m) e (outermost z y e)
-  stands_itself t x (block {b = b} z q i) = stands_itself b x i
+  stands_itself t x = stands_itself' x t
 
-  descends_within : (x y : ℕ) → x < length s.modules → Descends s y x → Within s x y
-  descends_within x y r (itself e) = now e
-  descends_within x y r (child {p = p} {q = q} e i d) =
+  descends_within' : (y x : ℕ) → x < length s.modules → Descends s y x → Within s x y
+  descends_within' y x r (itself e) = now e
+  descends_within' y x r (child {p = p} {q = q} e i d) =
       let f = parent_fits s ok x p r e in
       let w = stands_within p q (omega arith) i in
-      meets_trans (on (up_parent s x p e) w) (descends_within q y (meets_below (containing s) (length s.modules) up_falls p q (omega arith) w) d)
+      meets_trans (on (up_parent s x p e) w) (descends_within' y q (meets_below (containing s) (length s.modules) up_falls p q (omega arith) w) d)
 
-  within_descends : (v x : ℕ) → StandsIn s x x → Within s v x → (h : ℕ) × StandsIn s h v × Descends s x h
-  within_descends v x i (now e) = (x, subst (λ (m : ℕ). StandsIn s x m) (sym e) i, itself refl)
-  within_descends v x i (on {w = w} e m) =
-      let (h, j, d) = within_descends w x i m in
+  descends_within : (x y : ℕ) → x < length s.modules → Descends s y x → Within s x y
+  descends_within x y = descends_within' y x
+
+  within_descends' : (x v : ℕ) → StandsIn s x x → Within s v x → (h : ℕ) × StandsIn s h v × Descends s x h
+  within_descends' x v i (now e) = (x, subst (λ (m : ℕ). StandsIn s x m) (sym e) i, itself refl)
+  within_descends' x v i (on {w = w} e m) =
+      let (h, j, d) = within_descends' x w i m in
       by_number (parent_of s v)
       (λ z. (h, block z (sym (up_root s v z) ∙ e) j, d))
       (λ p q.
       let u = up_parent s v p q in
       let same : w ≡ p = omega arith in
       (v, inner q refl, child q (subst (λ (y : ℕ). StandsIn s h y) same j) d))
+
+  within_descends : (v x : ℕ) → StandsIn s x x → Within s v x → (h : ℕ) × StandsIn s h v × Descends s x h
+  within_descends v x = within_descends' x v
 
   -- Privacy by the way up alone.
   pub visible_within : (v t x : ℕ) → v < length s.modules → StandsIn s x t → Visible s v t ↔ Within s v x
@@ -184,31 +202,37 @@ module _ (s : Snapshot) (ok : Tree s.maps s.modules) where
         → Compared s v t x (climb s (map_no s v) t)
     ended t x q z i f = rw (climb_end (map_no s v) t q z) (record { back = f; forth = inl (λ w. meets_trans w (stands_within t x q i)) })
 
-    compared : (t x : ℕ) → t < length s.modules → StandsIn s x t → Compared s v t x (climb s (map_no s v) t)
-    compared t x q (inner z e) = by_number (climb_step s (map_no s v) t)
+    compared' : (x t : ℕ) → t < length s.modules → StandsIn s x t → Compared s v t x (climb s (map_no s v) t)
+    compared' x t q (inner z e) = by_number (climb_step s (map_no s v) t)
         (λ y. ended t x q y (inner z e) (λ w. rw e w))
         (λ b y. record {
           back = λ w. meets_trans w (subst (λ (m : ℕ). Within s m (climb s (map_no s v) t)) e (within_climb (suc t) (map_no s v) t (omega arith) q));
           forth = inr (here y z e);
         })
-    compared t x q (outermost z y e) = by_number (climb_step s (map_no s v) t)
+    compared' x t q (outermost z y e) = by_number (climb_step s (map_no s v) t)
         (λ n. ended t x q n (outermost z y e) (λ w. rw e w))
         (λ b n. let m = (step_on s (map_no s v) t b n).1 in absurd (omega arith))
-    compared t x q (block {b = b} z y i) = by_test (eqb (map_no s t) (map_no s v))
+    compared' x t q (block {b = b} z y i) = by_test (eqb (map_no s t) (map_no s v))
         (λ a. let e = eqb-true (map_no s t) (map_no s v) a in
         ended t x q (step_same s (map_no s v) t e) (block z y i) (λ w. to_root (suc v) v t (omega arith) r q z e))
         (λ n.
         let step : climb_step s (map_no s v) t ≡ suc b = step_other s (map_no s v) t (eqb-false (map_no s t) (map_no s v) n) ∙ y in
         let l = (block_fits s ok t b q y).0 in
-        let a = compared b x (omega arith) i in
+        let a = compared' x b (omega arith) i in
         rw (climb_on (map_no s v) t b q step) (record {
           back = a.back;
           forth = ⊎_elim (λ f. inl f) (λ f. inr (later step z f)) a.forth;
         }))
 
+    compared : (t x : ℕ) → t < length s.modules → StandsIn s x t → Compared s v t x (climb s (map_no s v) t)
+    compared t x = compared' x t
+
+    leaves_stands' : (x t : ℕ) → Leaves s (map_no s v) x t → StandsIn s x t
+    leaves_stands' x t (here e p q) = inner p q
+    leaves_stands' x t (later {b = b} e z l) = block z (step_on s (map_no s v) t b e).1 (leaves_stands' x b l)
+
     pub leaves_stands : (t x : ℕ) → Leaves s (map_no s v) x t → StandsIn s x t
-    leaves_stands t x (here e p q) = inner p q
-    leaves_stands t x (later {b = b} e z l) = block z (step_on s (map_no s v) t b e).1 (leaves_stands b x l)
+    leaves_stands t x = leaves_stands' x t
 
     module _ (t : ℕ) (q : t < length s.modules) where
       -- Privacy implies the walk.

@@ -2,7 +2,7 @@
 use mathlib.Core.Path.{◌≡◌, refl, ap, sym}
 use Prim.Native.Nat.{ℕ, zero, suc, ◌≤◌, ◌<◌}
 use native.Mathlib.Omega.{arith}
-use mathlib.Core.Bool.{Bool, ◌||◌, or_false}
+use mathlib.Core.Bool.{Bool, ◌||◌, or-false}
 use lib.Dec.{eqb}
 use Rattle.tree_rules.specs.Visibility.{last_or, last_to, last, met_or, met_to, met}
 
@@ -35,16 +35,16 @@ module _ (step : ℕ → ℕ) (n : ℕ) (falls : Falls step n) where
   unfolding met_to met_or
   met_to_same zero zero t v r h k = refl
   met_to_same zero (suc e) t v r h k =
-      by_number (step v) (λ z. rw z (sym (or_false (eqb v t)))) (λ b q. let f = falls v b r q in absurd (omega arith))
+      by_number (step v) (λ z. rw z (sym (or-false (eqb v t)))) (λ b q. let f = falls v b r q in absurd (omega arith))
   met_to_same (suc d) zero t v r h k =
-      by_number (step v) (λ z. rw z (or_false (eqb v t))) (λ b q. let f = falls v b r q in absurd (omega arith))
+      by_number (step v) (λ z. rw z (or-false (eqb v t))) (λ b q. let f = falls v b r q in absurd (omega arith))
   met_to_same (suc d) (suc e) t v r h k =
       by_number (step v) (λ z. rw z)
       (λ b q. let f = falls v b r q in rw q (ap (λ (z : Bool). eqb v t || z) (met_to_same d e t b (omega arith) (omega arith) (omega arith))))
 
   pub met_more : (v t : ℕ) → v < n → met step v t ≡ (eqb v t || met_or (λ w. met step w t) (step v))
   unfolding met met_to met_or
-  met_more zero t r = by_number (step 0) (λ z. rw z (sym (or_false (eqb 0 t)))) (λ b q. let f = falls 0 b r q in absurd (omega arith))
+  met_more zero t r = by_number (step 0) (λ z. rw z (sym (or-false (eqb 0 t)))) (λ b q. let f = falls 0 b r q in absurd (omega arith))
   met_more (suc v) t r =
       by_number (step (suc v)) (λ z. rw z)
       (λ b q. let f = falls (suc v) b r q in rw q

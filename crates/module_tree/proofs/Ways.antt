@@ -39,17 +39,23 @@ module _ (step : ℕ → ℕ) (n : ℕ) (falls : Falls step n) where
   pub met_meets : (v t : ℕ) → v < n → met step v t ≡ true → Meets step t v
   met_meets v t r e = met_meets' (suc v) v t (omega arith) r e
 
-  pub meets_met : (v t : ℕ) → v < n → Meets step t v → met step v t ≡ true
+  meets_met' : (t v : ℕ) → v < n → Meets step t v → met step v t ≡ true
   unfolding met_or
-  meets_met v t r (now q) = met_more step n falls v t r ∙ rw (eq-eqb v t q)
-  meets_met v t r (on {w = w} q m) =
+  meets_met' t v r (now q) = met_more step n falls v t r ∙ rw (eq-eqb v t q)
+  meets_met' t v r (on {w = w} q m) =
       let f = falls v w r q in
       met_more step n falls v t r
-      ∙ or_second (eqb v t) (met_or (λ w. met step w t) (step v)) (rw q (meets_met w t (omega arith) m))
+      ∙ or_second (eqb v t) (met_or (λ w. met step w t) (step v)) (rw q (meets_met' t w (omega arith) m))
+
+  pub meets_met : (v t : ℕ) → v < n → Meets step t v → met step v t ≡ true
+  meets_met v t = meets_met' t v
+
+  meets_below' : (t v : ℕ) → v < n → Meets step t v → t < n
+  meets_below' t v r (now q) = rw (← q) r
+  meets_below' t v r (on {w = w} q m) = let f = falls v w r q in meets_below' t w (omega arith) m
 
   pub meets_below : (v t : ℕ) → v < n → Meets step t v → t < n
-  meets_below v t r (now q) = rw (← q) r
-  meets_below v t r (on {w = w} q m) = let f = falls v w r q in meets_below w t (omega arith) m
+  meets_below v t = meets_below' t v
 
 pub meets_trans : {step : ℕ → ℕ} {t u v : ℕ} → Meets step u v → Meets step t u → Meets step t v
 meets_trans {step} {t} {u} (now q) m = subst (λ (x : ℕ). Meets step t x) (sym q) m

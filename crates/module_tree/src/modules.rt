@@ -3,7 +3,7 @@ ghost use Rattle.std.specs.Prelude.{◌≡◌, ◌<◌, eqb};
 ghost use Rattle.snapshot.specs.Ids.{plus_one};
 ghost use Rattle.snapshot.specs.Layouts.{snap_of};
 ghost use Rattle.accept.specs.Post.{Reads};
-ghost use Rattle.tree_rules.specs.Modules.{map_no, map_of, crate_of, parent_of, block_of, in_block as inBlockOf, containing as containingOf, root_of};
+ghost use Rattle.tree_rules.specs.Modules.{map_no, map_of, crate_of, parent_of, block_of, in_block as in_block_of, containing as containing_of, root_of};
 ghost use Rattle.tree_rules.specs.Modules.{own_map, crate_root};
 
 use snapshot::ids::{Crate, ModuleId, OptModule, opt_module};
@@ -46,7 +46,7 @@ pub fn block(words: &[u32], area: &[u32], l: Layout, m: ModuleId) -> OptModule
 /// Whether a module stands in a block.
 pub fn in_block(words: &[u32], area: &[u32], l: Layout, m: ModuleId) -> bool
     requires { Reads words.now area.now l × (m.0 < l.modules) }
-    ensures { result ≡ inBlockOf (snap_of words.now area.now l) m.0 }
+    ensures { result ≡ in_block_of (snap_of words.now area.now l) m.0 }
 {
     match block(words, area, l, m) {
         OptModule::Module(_) => true,
@@ -66,7 +66,7 @@ pub fn no_std(words: &[u32], area: &[u32], l: Layout, m: ModuleId) -> bool
 /// The containing module: the parent, and from a map's root the block's parent.
 pub fn containing_module(words: &[u32], area: &[u32], l: Layout, m: ModuleId) -> OptModule
     requires { Reads words.now area.now l × (m.0 < l.modules) }
-    ensures { plus_one result ≡ containingOf (snap_of words.now area.now l) m.0 }
+    ensures { plus_one result ≡ containing_of (snap_of words.now area.now l) m.0 }
 {
     let OptModule::Module(p) = parent(words, area, l, m) else {
         return block(words, area, l, m);

@@ -2,8 +2,8 @@
 ghost use Rattle.std.specs.Prelude.{◌≡◌, ◌<◌, ◌≤◌};
 ghost use Rattle.snapshot.specs.Layouts.{snap_of};
 ghost use Rattle.accept.specs.Post.{Reads};
-ghost use Rattle.tree_rules.specs.Modules.{containing as containingOf};
-ghost use Rattle.tree_rules.specs.Visibility.{climb as climbOf, met as metOf, in_module, is_visible_from};
+ghost use Rattle.tree_rules.specs.Modules.{containing as containing_of};
+ghost use Rattle.tree_rules.specs.Visibility.{climb as climb_of, met as met_of, in_module, is_visible_from};
 
 use crate::modules::{block, containing_module, krate, map};
 use snapshot::ids::{ModuleId, OptModule};
@@ -12,7 +12,7 @@ use snapshot::layout::Layout;
 // The target, climbed out of block maps until its map is the viewer's or a crate's own.
 fn climb(words: &[u32], area: &[u32], l: Layout, viewer: usize, target: ModuleId) -> ModuleId
     requires { Reads words.now area.now l × (target.0 < l.modules) }
-    ensures { (result.0 ≡ climbOf (snap_of words.now area.now l) viewer target.0) × (result.0 < l.modules) }
+    ensures { (result.0 ≡ climb_of (snap_of words.now area.now l) viewer target.0) × (result.0 < l.modules) }
 {
     let mut t = target;
     while map(words, area, l, t) != viewer {
@@ -27,7 +27,7 @@ fn climb(words: &[u32], area: &[u32], l: Layout, viewer: usize, target: ModuleId
 /// Whether a module is met on the way from the viewer through its containing modules.
 pub fn meets(words: &[u32], area: &[u32], l: Layout, viewer: ModuleId, target: ModuleId) -> bool
     requires { Reads words.now area.now l × (viewer.0 < l.modules) }
-    ensures { result ≡ metOf (containingOf (snap_of words.now area.now l)) viewer.0 target.0 }
+    ensures { result ≡ met_of (containing_of (snap_of words.now area.now l)) viewer.0 target.0 }
 {
     let mut v = viewer;
     let t = target.0;

@@ -3,7 +3,7 @@ use Prim.Native.Nat.{ℕ, zero, suc, ◌+◌, ◌≤◌, ◌<◌}
 use mathlib.Core.Path.{◌≡◌, refl, sym, ap, ap₂, ◌∙◌}
 use mathlib.Core.List.Memᴰ
 use mathlib.Core.List.{List, [], ◌∷◌, ◌++◌, Memᴰ}
-use mathlib.Core.Bool.{Bool, true, false, or_true, true≢false}
+use mathlib.Core.Bool.{Bool, true, false, or-true, true≢false}
 use mathlib.Core.Option.{Option, none, some}
 use mathlib.Core.Logic.{◌⊎◌, inl, inr, ⊎_elim}
 use native.Mathlib.Omega.{arith}
@@ -160,7 +160,7 @@ module _ (s : Snapshot) (from : ℕ) (plenty : Plenty s from) where
           (λ t. rw (with_old ws p m.0 t) rest)
           (λ t.
           let vs : List Way = ws ++ (way_to p m.0 ∷ []) in
-          let here : is_met vs m.0 ≡ true = met_snoc ws (way_to p m.0) m.0 ∙ rw (eq-eqb m.0 m.0 refl) (or_true (is_met ws m.0)) in
+          let here : is_met vs m.0 ≡ true = met_snoc ws (way_to p m.0) m.0 ∙ rw (eq-eqb m.0 m.0 refl) (or-true (is_met ws m.0)) in
           let one =
           passing_less (is_met ws) (is_met vs) (λ n h. met_snoc ws (way_to p m.0) n ∙ rw h) m.0 (length s.modules)
           (plenty.known p m.0 e) t here in

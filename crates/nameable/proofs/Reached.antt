@@ -3,7 +3,7 @@ use Prim.Native.Nat.{ℕ, zero, suc, ◌≤◌, ◌<◌}
 use mathlib.Core.Path.{◌≡◌, refl, sym, ap, subst, ◌∙◌}
 use mathlib.Core.List.Memᴰ
 use mathlib.Core.List.{List, [], ◌∷◌, ◌++◌, map, Memᴰ}
-use mathlib.Core.Bool.{Bool, true, false, ◌||◌, or_true, true≢false}
+use mathlib.Core.Bool.{Bool, true, false, ◌||◌, or-true, true≢false}
 use mathlib.Core.Option.{Option, none, some}
 use native.Mathlib.Omega.{arith}
 use borrow.Author.Tests.{eqb-true, eq-eqb}
@@ -90,7 +90,7 @@ module _ (ws : List Way) (p : Path) where
   with_meets m =
       by_test (is_met ws m)
       (λ e. rw (with_old m e) e)
-      (λ e. rw (with_new m e) (met_snoc ws (way_to p m) m ∙ rw (eq-eqb m m refl) (or_true (is_met ws m))))
+      (λ e. rw (with_new m e) (met_snoc ws (way_to p m) m ∙ rw (eq-eqb m m refl) (or-true (is_met ws m))))
 
 module _ (s : Snapshot) (from : ℕ) where
   pub added_keeps : (ws : List Way) (ps : List Path) (m : ℕ) → is_met ws m ≡ true → is_met (added s from ws ps) m ≡ true

@@ -1,9 +1,11 @@
 //! Names in a module and around its blocks: the uses of `with_ancestor_maps`.
+#![tactic(auto)]
+
 ghost use Rattle.std.specs.Prelude.{◌≡◌, List, ℕ, ◌<◌, ◌^◌};
 ghost use Rattle.snapshot.specs.Records.{scope_at};
 ghost use Rattle.snapshot.specs.Layouts.{word_count, snap_of};
 ghost use Rattle.accept.specs.Post.{Reads};
-ghost use Rattle.hir_def.specs.Nameres.{scope_entry, entry_named, is_other, occupied as occupiedBy};
+ghost use Rattle.hir_def.specs.Nameres.{scope_entry, entry_named, is_other, occupied as occupied_by};
 ghost use Rattle.hir_def.specs.Entries.{entry_of};
 
 use hir_def::items::{item_of, same_item};
@@ -90,7 +92,7 @@ pub fn occupied(
     name: Name,
 ) -> bool
     requires { Reads words.now area.now l × (from.0 < l.modules) }
-    ensures { result ≡ occupiedBy (snap_of words.now area.now l) from.0 m.0 name.0 }
+    ensures { result ≡ occupied_by (snap_of words.now area.now l) from.0 m.0 name.0 }
 {
     let mut a = from;
     loop {

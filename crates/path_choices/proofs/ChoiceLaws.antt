@@ -2,7 +2,7 @@
 use Prim.Native.Nat.{ℕ, zero, suc, ◌+◌, ◌-◌, ◌≤◌, ◌<◌, min, compare, Ordering}
 use mathlib.Core.Path.{◌≡◌, refl, sym, ◌∙◌, ap, ap₂}
 use mathlib.Core.List.{List, [], ◌∷◌}
-use mathlib.Core.Bool.{Bool, true, false, ◌&&◌, ◌||◌, not, and_true, true≢false, false≢true}
+use mathlib.Core.Bool.{Bool, true, false, ◌&&◌, ◌||◌, not, and-true, true≢false, false≢true}
 use native.Mathlib.Omega.{arith}
 use lib.Dec.{eqb, ltb, leb, is_le, compare_is_eq}
 use lib.ListN.{get_or, set, replicate}
@@ -37,7 +37,7 @@ module _ (W A : List ℕ) (l : Layout) (r : Reads W A l) (n : ℕ) (h : n < l.na
   three b f = by (eqb b 7) refl
     where
       seven : eq_list (rows f 0 (words_of 7)) (0x657270 ∷ 0x64756C ∷ 0x65 ∷ []) ≡ (eqb (f 0) 0x657270 && (eqb (f 1) 0x64756C && eqb (f 2) 0x65))
-      seven = ap (λ x. eqb (f 0) 0x657270 && (eqb (f 1) 0x64756C && x)) (and_true (eqb (f 2) 0x65))
+      seven = ap (λ x. eqb (f 0) 0x657270 && (eqb (f 1) 0x64756C && x)) (and-true (eqb (f 2) 0x65))
 
       by : (t : Bool) → eqb b 7 ≡ t → (t && (eqb (f 0) 0x657270 && (eqb (f 1) 0x64756C && eqb (f 2) 0x65)))
           ≡ (t && eq_list (rows f 0 (words_of b)) (0x657270 ∷ 0x64756C ∷ 0x65 ∷ []))

@@ -3,8 +3,8 @@ ghost use Rattle.std.specs.Prelude.{◌≡◌, ◌+◌, ◌-◌, ◌≤◌, ◌<
 ghost use Rattle.snapshot.specs.Limits.{word_limit};
 ghost use Rattle.snapshot.specs.Layouts.{snap_of};
 ghost use Rattle.accept.specs.Post.{Reads};
-ghost use Rattle.path_choices.specs.Choices.{name_len, is_prelude, path_kind_len, path_len, step_by, nothing as nothingOf, keyword as keyword_of};
-ghost use Rattle.path_choices.specs.Choices.{choice_new, extended as extendedOf, push as pushOf, unstably as unstablyOf, better as betterOf};
+ghost use Rattle.path_choices.specs.Choices.{name_len, is_prelude, path_kind_len, path_len, step_by, nothing as nothing_of, keyword as keyword_of};
+ghost use Rattle.path_choices.specs.Choices.{choice_new, extended as extended_of, push as push_of, unstably as unstably_of, better as better_of};
 ghost use Rattle.path_choices.specs.Choices.{try_select, length_left};
 
 use crate::Choice;
@@ -61,7 +61,7 @@ pub fn path_len(c: Choice) -> usize
 }
 
 /// The rules of a route.
-#[derive(Drop)]
+#[derive(Clone, Copy)]
 pub struct StepRule(pub usize);
 
 impl StepRule {
@@ -92,7 +92,7 @@ pub fn step_by(rule: usize, place: usize) -> usize
 
 /// No path.
 pub fn nothing() -> Choice
-    ensures { result ≡ nothingOf }
+    ensures { result ≡ nothing_of }
 {
     let names = [0usize; 16];
     let route = [0usize; 17];
@@ -132,7 +132,7 @@ pub fn keyword(kind: usize) -> Choice
 
 /// The choice, unstable.
 pub fn unstably(c: Choice) -> Choice
-    ensures { result ≡ unstablyOf c }
+    ensures { result ≡ unstably_of c }
 {
     let mut d = c;
     d.stable = false;
@@ -151,7 +151,7 @@ fn better(
 ) -> bool
     requires { Reads words.now area.now l × (n.0 < l.names) × (current.count < 2 ^ 32) × (other.count < 2 ^ 32)
         × (other.path_text_len < 2 ^ 32) }
-    ensures { result ≡ betterOf (snap_of words.now area.now l) prefer current other n.0 }
+    ensures { result ≡ better_of (snap_of words.now area.now l) prefer current other n.0 }
 {
     let a = path_len(current);
     let b = path_len(other) + 1;
@@ -202,7 +202,7 @@ impl Choice {
     ) -> Choice
         requires { Reads words.now area.now l × (n.0 < l.names) × (self.count < 16) × (self.path_text_len < 2 ^ 32)
             × (self.steps < 17) }
-        ensures { result ≡ extendedOf (snap_of words.now area.now l) self n.0 via flag }
+        ensures { result ≡ extended_of (snap_of words.now area.now l) self n.0 via flag }
     {
         let count = self.count;
         let mut names = self.names;
@@ -228,7 +228,7 @@ impl Choice {
     pub fn push(self, words: &[u32], area: &[u32], l: Layout, n: Name, via: usize) -> Choice
         requires { Reads words.now area.now l × (n.0 < l.names) × (self.count < 16) × (self.path_text_len < 2 ^ 32)
             × (self.steps < 17) }
-        ensures { result ≡ pushOf (snap_of words.now area.now l) self n.0 via }
+        ensures { result ≡ push_of (snap_of words.now area.now l) self n.0 via }
     {
         let flag = is_prelude(words, area, l, n);
         self.extended(words, area, l, n, via, self.has_prelude_segment | flag)

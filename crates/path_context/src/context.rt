@@ -3,10 +3,10 @@ ghost use Rattle.std.specs.Prelude.{◌≡◌, ◌+◌, ◌≤◌, ◌<◌, ◌^
 ghost use Rattle.snapshot.specs.Records.{scope_at};
 ghost use Rattle.snapshot.specs.Layouts.{snap_of};
 ghost use Rattle.accept.specs.Post.{Reads};
-ghost use Rattle.tree_rules.specs.Visibility.{sees as seesOf};
+ghost use Rattle.tree_rules.specs.Visibility.{sees as sees_of};
 ghost use Rattle.hir_def.specs.Items.{item_of};
 ghost use Rattle.find_path.specs.Rules.{bit as bit_of, plain_if, module_in, context_of, sought_of};
-ghost use Rattle.find_path.specs.Meters.{drained as drainedTo, from_tank};
+ghost use Rattle.find_path.specs.Meters.{drained as drained_to, from_tank};
 ghost use Rattle.find_path.specs.Conditions.{charged_by};
 
 use find_path::{Drawn, FindPathCtx, Query, Tank};
@@ -19,7 +19,7 @@ use snapshot::layout::Layout;
 use snapshot::record::{scope_number, scope_visibility};
 
 /// Prefixes.
-#[derive(Drop)]
+#[derive(Clone, Copy)]
 pub struct PrefixKind(pub usize);
 
 impl PrefixKind {
@@ -106,7 +106,7 @@ pub fn context(
 pub fn sees(words: &[u32], area: &[u32], l: Layout, x: FindPathCtx, h: usize) -> bool
     requires { Reads words.now area.now l × (x.from.0 < l.modules) × (2 ≤ (scope_at words.now h).visibility
         → (scope_at words.now h).number < l.modules) }
-    ensures { result ≡ seesOf (snap_of words.now area.now l) x.from.0 (scope_at words.now h) }
+    ensures { result ≡ sees_of (snap_of words.now area.now l) x.from.0 (scope_at words.now h) }
 {
     let kind = scope_visibility(words, h);
     let number = scope_number(words, h);
@@ -127,7 +127,7 @@ fn sought_of(x: FindPathCtx, item: Item) -> usize
 
 // The tank that is found empty: the first time, with what the charge was told.
 fn drained(t: Tank, left: usize, sought: usize) -> Tank
-    ensures { result ≡ drainedTo left sought t t.empty }
+    ensures { result ≡ drained_to left sought t t.empty }
 {
     if t.empty {
         return Tank {

@@ -1,2 +1,4 @@
 //! What is set for a question.
+#![tactic(auto)]
+
 pub mod context;

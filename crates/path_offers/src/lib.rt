@@ -1,2 +1,4 @@
 //! What a step of a search offers.
+#![tactic(auto)]
+
 pub mod offers;

@@ -8,7 +8,7 @@ ghost use Rattle.accept.specs.Valid.{ScopeFits, ImportFits};
 ghost use Rattle.hir_def.specs.Entries.{entry_of};
 ghost use Rattle.hir_def.specs.ItemScope.{name_of, preferred};
 ghost use Rattle.find_path.specs.Conditions.{EntryFits};
-ghost use Rattle.find_path.specs.Local.{offer as offerOf, offer_entry, is_importable, importable_name};
+ghost use Rattle.find_path.specs.Local.{offer as offer_of, offer_entry, is_importable, importable_name};
 ghost use Rattle.find_path.specs.Charged.{offer_import};
 ghost use Rattle.scope_index.specs.Index.{Indexed};
 
@@ -80,7 +80,7 @@ fn offer(
 ) -> Choice
     requires { Reads words.now area.now l × (n.0 < l.names) × (best.count < 2 ^ 32) × (c.count < 16)
         × (c.path_text_len < 2 ^ 32) × (c.steps < 17) }
-    ensures { result ≡ offerOf (snap_of words.now area.now l) x best c n.0 via }
+    ensures { result ≡ offer_of (snap_of words.now area.now l) x best c n.0 via }
 {
     if !c.found {
         return best;

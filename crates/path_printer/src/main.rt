@@ -1,4 +1,6 @@
 //! Prints the path of each question on standard input, a line each: a snapshot, then the questions.
+#![tactic(auto)]
+
 ghost use Rattle.std.specs.Prelude.{◌≡◌, ◌+◌, length};
 ghost use Rattle.snapshot.specs.Limits.{word_limit, routed_limit, input_limit};
 

@@ -10,7 +10,7 @@ ghost use Rattle.hir_def.specs.Entries.{entry_of};
 ghost use Rattle.hir_def.specs.declared.Entry.TheVariants.{At};
 ghost use Rattle.find_path.specs.declared.FindPathCtx.{FindPathCtx};
 ghost use Rattle.find_path.specs.Conditions.{EntryFits};
-ghost use Rattle.find_path.specs.Rules.{prefix_path_kind, single as singleOf, find_in_scope, may_be_in_scope, scope_rule, prelude_entry, find_in_prelude};
+ghost use Rattle.find_path.specs.Rules.{prefix_path_kind, single as single_of, find_in_scope, may_be_in_scope, scope_rule, prelude_entry, find_in_prelude};
 ghost use Rattle.find_path.specs.Rules.{prelude_rule, extern_name, root_rule, parent_kind, keyword_kind, is_kw_kind_relative_to_from, keyword_of, module_rules};
 
 use crate::choices::{StepRule, keyword, nothing, step_by};
@@ -41,7 +41,7 @@ fn prefix_path_kind(prefix: usize) -> usize
 // The single name of an entry, by a rule, or nothing.
 fn single(words: &[u32], area: &[u32], l: Layout, kind: usize, rule: usize, e: Entry) -> Choice
     requires { Reads words.now area.now l × (rule ≤ 7) × EntryFits words.now l e }
-    ensures { (x : FindPathCtx) → result ≡ singleOf (snap_of words.now area.now l) x kind rule
+    ensures { (x : FindPathCtx) → result ≡ single_of (snap_of words.now area.now l) x kind rule
         (entry_of scope_at words.now e) }
 {
     let Entry::At(h) = e else {

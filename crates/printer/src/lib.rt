@@ -1,4 +1,6 @@
 //! The lines of an input: a snapshot, then questions.
+#![tactic(auto)]
+
 pub mod input;
 pub mod lines;
 pub mod questions;

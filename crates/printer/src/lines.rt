@@ -14,7 +14,7 @@ use snapshot::kind::Size;
 use snapshot::refusal::Refusal;
 
 /// How many bytes a line has, and the place after what it is for.
-#[derive(Drop)]
+#[derive(Clone, Copy)]
 pub struct Turn {
     pub bytes: usize,
     pub next: usize,

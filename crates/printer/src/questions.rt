@@ -9,7 +9,7 @@ use snapshot::kind::{Kind, Size};
 use snapshot::words::{field, kind, payload};
 
 /// The kinds of what is asked: a path, a path with its route, and the reach of a module.
-#[derive(Drop)]
+#[derive(Clone, Copy)]
 pub struct QuestionKind(pub usize);
 
 impl QuestionKind {

@@ -1,3 +1,5 @@
 //! Bytes that come in as words, and text that goes out as bytes.
+#![tactic(auto)]
+
 pub mod input;
 pub mod output;

@@ -3,7 +3,7 @@ ghost use Rattle.std.specs.Prelude.{◌+◌, ◌≤◌, [], ◌∷◌, length};
 ghost use Rattle.printing.specs.Output.{Put, decimal_to};
 
 /// Digits of a number.
-#[derive(Drop)]
+#[derive(Clone, Copy)]
 pub struct Digits(pub usize);
 
 impl Digits {

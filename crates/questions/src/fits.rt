@@ -6,7 +6,7 @@ use reports::report::ReportWords;
 use snapshot::kind::Size;
 
 /// A number of questions.
-#[derive(Drop)]
+#[derive(Clone, Copy)]
 pub struct QuestionCount(pub usize);
 
 impl QuestionCount {

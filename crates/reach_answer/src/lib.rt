@@ -1,4 +1,6 @@
 //! The reach of a module, put to words that nobody checked yet.
+#![tactic(auto)]
+
 ghost use Rattle.std.specs.Prelude.{◌≡◌, length};
 ghost use Rattle.snapshot.specs.Limits.{area_limit};
 ghost use Rattle.answer.specs.Answers.{zeros};

@@ -1,4 +1,6 @@
 //! The printed line of a reach.
+#![tactic(auto)]
+
 ghost use Rattle.std.specs.Prelude.{map, ◌++◌, ◌*◌, ◌≤◌, ◌<◌, length};
 ghost use Rattle.snapshot.specs.Limits.{line_limit};
 ghost use Rattle.printing.specs.Output.{Put};

@@ -1,11 +1,13 @@
 //! Parts of the reach of a module: the records that stand for an item first, and the tally of reports.
+#![tactic(auto)]
+
 pub mod firsts;
 pub mod tally;
 
 use snapshot::ids::ModuleId;
 
 // Who asks: the viewing module, prefix, options, and the fuel and the limit of each search.
-#[derive(Drop)]
+#[derive(Clone, Copy)]
 pub struct Viewer {
     pub from: ModuleId,
     pub prefix: usize,
@@ -16,7 +18,7 @@ pub struct Viewer {
 
 // The number by which a question is refused, or 0; the counts of found paths by number of names, 0 to 16, of misleading ones, of
 // none with a full enough tank, of none with an empty one, and the names of all found paths together.
-#[derive(Drop)]
+#[derive(Clone, Copy)]
 pub struct Reach {
     pub number: usize,
     pub counts: [usize; 21],

@@ -1,6 +1,6 @@
 //! The tally of reports.
 ghost use Rattle.std.specs.Prelude.{◌≡◌, ◌^◌, ◌≤◌};
-ghost use Rattle.reach_parts.specs.Reach.{column as columnOf, names_found, tallied_reach, refused_reach};
+ghost use Rattle.reach_parts.specs.Reach.{column as column_of, names_found, tallied_reach, refused_reach};
 ghost use Rattle.reach_parts.specs.Within.{Within};
 
 use crate::Reach;
@@ -9,7 +9,7 @@ use find_path::{Outcome, Report};
 // Where a report counts.
 fn column(r: Report) -> usize
     requires { r.empty ≤ 1 }
-    ensures { result ≡ columnOf r }
+    ensures { result ≡ column_of r }
 {
     if r.outcome == Outcome::FOUND {
         return r.count;

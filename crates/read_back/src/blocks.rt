@@ -5,7 +5,7 @@ ghost use Rattle.snapshot.specs.Records.{scope_at};
 ghost use Rattle.snapshot.specs.Layouts.{snap_of};
 ghost use Rattle.accept.specs.Post.{Reads};
 ghost use Rattle.hir_def.specs.Entries.{entry_of};
-ghost use Rattle.readings.specs.Reads.{outward as outwardOf, stands_for, entry_from};
+ghost use Rattle.readings.specs.Reads.{outward as outward_of, stands_for, entry_from};
 
 use hir_def::Entry;
 use hir_def::modules::{block, parent};
@@ -16,7 +16,7 @@ use snapshot::layout::Layout;
 // The block's parent of a block map's root, none of any other module.
 fn outward(words: &[u32], area: &[u32], l: Layout, m: ModuleId) -> OptModule
     requires { Reads words.now area.now l × (m.0 < l.modules) }
-    ensures { plus_one result ≡ outwardOf (snap_of words.now area.now l) m.0 }
+    ensures { plus_one result ≡ outward_of (snap_of words.now area.now l) m.0 }
 {
     match parent(words, area, l, m) {
         OptModule::Module(_) => OptModule::NoModule,

@@ -1,4 +1,6 @@
 //! What a path means where it is written: its names read from the viewing module.
+#![tactic(auto)]
+
 mod blocks;
 pub mod lookups;
 mod names;
@@ -7,7 +9,7 @@ pub mod paths;
 use hir_def::Item;
 
 /// The item that a name means, or none.
-#[derive(Drop)]
+#[derive(Clone, Copy)]
 pub enum OptItem {
     Means(Item),
     NoItem,

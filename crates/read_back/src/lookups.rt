@@ -12,7 +12,7 @@ use snapshot::layout::Layout;
 use snapshot::record::{extern_name, extern_owner, member_kind, member_name, member_parent};
 
 /// Kinds of members.
-#[derive(Drop)]
+#[derive(Clone, Copy)]
 pub struct MemberKind(pub usize);
 
 impl MemberKind {

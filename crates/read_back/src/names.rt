@@ -7,7 +7,7 @@ ghost use Rattle.accept.specs.Post.{Reads};
 ghost use Rattle.hir_def.specs.ItemScope.{get as entry_named};
 ghost use Rattle.hir_def.specs.declared.Item.TheVariants.{Mod};
 ghost use Rattle.read_back.specs.Answers.{meant};
-ghost use Rattle.readings.specs.Reads.{meaning as meaningOf, entry_or, in_externs, in_prelude_of, first_name, variant_named, variant_in, later_name, after};
+ghost use Rattle.readings.specs.Reads.{meaning as meaning_of, entry_or, in_externs, in_prelude_of, first_name, variant_named, variant_in, later_name, after};
 
 use crate::OptItem;
 use crate::blocks::entry_from;
@@ -36,7 +36,7 @@ pub(crate) fn means_module(m: ModuleId) -> OptItem
 fn meaning(words: &[u32], area: &[u32], l: Layout, from: ModuleId, h: usize) -> OptItem
     requires { Reads words.now area.now l × (from.0 < l.modules) × (2 ≤ (scope_at words.now h).visibility
         → (scope_at words.now h).number < l.modules) }
-    ensures { meant result ≡ meaningOf (snap_of words.now area.now l) from.0 (scope_at words.now h) }
+    ensures { meant result ≡ meaning_of (snap_of words.now area.now l) from.0 (scope_at words.now h) }
 {
     let kind = scope_visibility(words, h);
     let number = scope_number(words, h);

@@ -5,7 +5,7 @@ ghost use Rattle.snapshot.specs.Layouts.{snap_of};
 ghost use Rattle.accept.specs.Post.{Reads};
 ghost use Rattle.hir_def.specs.Items.{parent_of};
 ghost use Rattle.read_back.specs.Answers.{meant};
-ghost use Rattle.readings.specs.Reads.{stands_for, parent_means, looked_in, follow as followOf, reads_to, reads_back};
+ghost use Rattle.readings.specs.Reads.{stands_for, parent_means, looked_in, follow as follow_of, reads_to, reads_back};
 
 use crate::OptItem;
 use crate::blocks::stands_for;
@@ -40,7 +40,7 @@ fn follow(
     count: usize,
 ) -> OptItem
     requires { Reads words.now area.now l × (from.0 < l.modules) × (count ≤ length names.now) }
-    ensures { meant result ≡ followOf (snap_of words.now area.now l) from.0 ns (meant start)
+    ensures { meant result ≡ follow_of (snap_of words.now area.now l) from.0 ns (meant start)
         (rows (λ i. get_or names.now i 0) first (count - first)) }
 {
     let mut here = start;

@@ -1,2 +1,4 @@
 //! Words, and their kinds and payloads.
+#![tactic(auto)]
+
 pub mod words;

@@ -2,7 +2,7 @@
 use Prim.Native.Nat.{ℕ, zero, suc, ◌+◌, ◌*◌, ◌≤◌, ◌<◌}
 use mathlib.Core.Path.{◌≡◌, refl, sym, ◌∙◌, ap, ap₂}
 use mathlib.Core.List.{List}
-use mathlib.Core.Bool.{Bool, true, false, ◌&&◌, ◌||◌, not, and_true, and_false, false≢true}
+use mathlib.Core.Bool.{Bool, true, false, ◌&&◌, ◌||◌, not, and-true, and-false, false≢true}
 use native.Mathlib.Omega.{arith}
 use native.Mathlib.Nat.{add-zero}
 use lib.ListN.{get_or}
@@ -138,19 +138,19 @@ pub unlike : (W : List ℕ) (owner : Bool) (fields a b : ℕ) → fields ≤ 2 �
 unlike W owner zero a b h o d =
     let e : eqb (pay_of (get_or W a 0)) (pay_of (get_or W b 0)) ≡ false = ne_eqb _ _ (λ q. d (rw (add-zero, add-zero) (sym q))) in
     rw (o, e)
-unlike W owner (suc zero) a b h o d = rw (ne_eqb (get_or W (a + 1) 0) (get_or W (b + 1) 0) (λ e. d (ap pay_of (sym e))), and_false)
-unlike W owner (suc (suc zero)) a b h o d = rw (ne_eqb (get_or W (a + 2) 0) (get_or W (b + 2) 0) (λ e. d (ap pay_of (sym e))), and_false)
+unlike W owner (suc zero) a b h o d = rw (ne_eqb (get_or W (a + 1) 0) (get_or W (b + 1) 0) (λ e. d (ap pay_of (sym e))), and-false)
+unlike W owner (suc (suc zero)) a b h o d = rw (ne_eqb (get_or W (a + 2) 0) (get_or W (b + 2) 0) (λ e. d (ap pay_of (sym e))), and-false)
 unlike W owner (suc (suc (suc n))) a b h o d = absurd (omega arith)
 
 -- a record that repeats an earlier one
 module _ (W : List ℕ) (at base n : ℕ) where
   pub prelude_again : any (same_by W true 0 at) (rows (λ k. base + prelude_size * k) 0 n) ≡ any (same_prelude (prelude_at W at))
       (records_of prelude_at prelude_size W base n)
-  prelude_again = any_same _ _ _ _ 0 n (λ i. and_true _ ∙ and_true _)
+  prelude_again = any_same _ _ _ _ 0 n (λ i. and-true _ ∙ and-true _)
 
   pub definition_again : any (same_by W true 1 at) (rows (λ k. base + definition_size * k) 0 n) ≡ any (same_definition (definition_at W at))
       (records_of definition_at definition_size W base n)
-  definition_again = any_same _ _ _ _ 0 n (λ i. and_true _)
+  definition_again = any_same _ _ _ _ 0 n (λ i. and-true _)
 
   pub scope_again : any (same_by W true 2 at) (rows (λ k. base + scope_size * k) 0 n) ≡ any (same_entry (scope_at W at))
       (records_of scope_at scope_size W base n)
@@ -158,7 +158,7 @@ module _ (W : List ℕ) (at base n : ℕ) where
 
   pub extern_again : any (same_by W true 1 at) (rows (λ k. base + extern_size * k) 0 n) ≡ any (same_extern (extern_at W at))
       (records_of extern_at extern_size W base n)
-  extern_again = any_same _ _ _ _ 0 n (λ i. and_true _)
+  extern_again = any_same _ _ _ _ 0 n (λ i. and-true _)
 
 -- what a record's numbers may be relied on for, once 33 is passed
 

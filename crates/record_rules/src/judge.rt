@@ -6,7 +6,7 @@ use snapshot::layout::Layout;
 use snapshot::refusal::CheckRefusal;
 
 /// A refusal, or the layout with the record.
-#[derive(Drop)]
+#[derive(Clone, Copy)]
 pub enum Step {
     No(u32),
     On(Layout),

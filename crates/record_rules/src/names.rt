@@ -6,7 +6,7 @@ ghost use Rattle.snapshot.specs.Words.{pay_of, words_of};
 ghost use Rattle.snapshot.specs.Records.{Map, name_at};
 ghost use Rattle.snapshot.specs.Layouts.{name_head, names_of, snap_with};
 ghost use Rattle.chains.specs.Chains.{name_key, Chained, name_heads, name_links};
-ghost use Rattle.check_rules.specs.Tests.{text_bound, padded as paddedOf, name_range, same_name, is_builtin};
+ghost use Rattle.check_rules.specs.Tests.{text_bound, padded as padded_of, name_range, same_name, is_builtin};
 ghost use Rattle.check_rules.specs.Steps.{name_step};
 ghost use Rattle.record_rules.specs.Stands.{Ready, Stands, Answered};
 
@@ -48,7 +48,7 @@ fn less(b: usize) -> usize
 // Whether n words after a head, with the bytes in them, have nothing past these.
 fn padded(words: &[u32], head: usize, bytes: usize, n: usize) -> bool
     requires { n < 2 ^ 32 }
-    ensures { result ≡ paddedOf bytes (rows (λ i. get_or words.now (head + 1 + i) 0) 0 n) }
+    ensures { result ≡ padded_of bytes (rows (λ i. get_or words.now (head + 1 + i) 0) 0 n) }
 {
     let mut b = bytes;
     let mut i = 0;

@@ -2,7 +2,7 @@
 use Prim.Native.Nat.{ℕ, zero, suc, ◌+◌, ◌-◌, ◌*◌, ◌≤◌, ◌<◌}
 use mathlib.Core.Path.{◌≡◌, refl, sym, ◌∙◌, ap, subst}
 use mathlib.Core.List.{List}
-use mathlib.Core.Bool.{Bool, true, false, ◌&&◌, ◌||◌, not, and_true}
+use mathlib.Core.Bool.{Bool, true, false, ◌&&◌, ◌||◌, not, and-true}
 use native.Mathlib.Omega.{arith}
 use lib.Dec.{eqb, ltb, lit<}
 use lib.ListN.{length, get_or, set}
@@ -217,7 +217,7 @@ slot_same : (W : List ℕ) (at b : ℕ) → pay_of (get_or W at 0) ≡ 1 → get
 unfolding slot_of
 slot_same W at b ek small true q =
     let e : eqb (pay_of (get_or W at 0)) (pay_of (get_or W b 0)) ≡ true = eq-eqb _ _ (ek ∙ sym (eqb-true _ _ q)) in
-    rw (slot_of, q, e) (sym (and_true _))
+    rw (slot_of, q, e) (sym (and-true _))
 slot_same W at b ek small false q =
     let e : eqb (pay_of (get_or W at 0)) (pay_of (get_or W b 0)) ≡ false = ne_eqb _ _ (λ x. eqb-false _ _ q (sym x ∙ ek)) in
     rw (slot_of, q, e) (ne_eqb (get_or W (at + 1) 0) module_limit (λ x. omega arith))

@@ -1,4 +1,6 @@
 //! Tests of the check: the cases of the stored list, then the work area. Prints a line a case.
+#![tactic(auto)]
+
 ghost use Rattle.std.specs.Prelude.{◌≡◌, length};
 
 mod area;

@@ -1,4 +1,6 @@
 //! Puts the stored inputs to the printer and compares its lines with those of the Rust.
+#![tactic(auto)]
+
 ghost use Rattle.std.specs.Prelude.{◌≡◌, length};
 ghost use Rattle.snapshot.specs.Limits.{word_limit, routed_limit};
 

@@ -2,7 +2,7 @@
 ghost use Rattle.std.specs.Prelude.{◌≡◌, map, ◌++◌, ◌+◌, ◌≤◌, length, take, drop};
 ghost use Rattle.snapshot.specs.Records.{Snapshot};
 ghost use Rattle.find_path.specs.declared.Query.{Query};
-ghost use Rattle.find_path.specs.Report.{flag as flagOf, misleads as misleadsIn, outcome_by, refused as refusedOf, reported as reportedOf};
+ghost use Rattle.find_path.specs.Report.{flag as flag_of, misleads as misleads_in, outcome_by, refused as refused_of, reported as reported_of};
 ghost use Rattle.reports.specs.Outcomes.{out_of};
 ghost use Rattle.reports.specs.Written.{low as low_of, Written};
 
@@ -10,7 +10,7 @@ use find_path::{Found, Outcome, Report};
 
 /// A refusal: all else is zero.
 pub fn refused(number: usize) -> Report
-    ensures { result ≡ refusedOf number }
+    ensures { result ≡ refused_of number }
 {
     let names = [0usize; 16];
     let route = [0usize; 17];
@@ -30,7 +30,7 @@ pub fn refused(number: usize) -> Report
 }
 
 fn flag(b: bool) -> usize
-    ensures { result ≡ flagOf b }
+    ensures { result ≡ flag_of b }
 {
     if b { 1 } else { 0 }
 }
@@ -46,7 +46,7 @@ fn outcome(misleads: bool, found: bool) -> usize
 
 /// What a search found and how, whether that misleads, what it was charged, and whether, and where first, it found the tank empty.
 pub fn reported(f: Found, misleads: bool) -> Report
-    ensures { (s : Snapshot) (q : Query) → misleads ≡ misleadsIn s q f.choice → result ≡ reportedOf s q (out_of f) }
+    ensures { (s : Snapshot) (q : Query) → misleads ≡ misleads_in s q f.choice → result ≡ reported_of s q (out_of f) }
 {
     let c = f.choice;
     let t = f.meter;
@@ -68,7 +68,7 @@ pub fn reported(f: Found, misleads: bool) -> Report
 }
 
 /// A number of words.
-#[derive(Drop)]
+#[derive(Clone, Copy)]
 pub struct ReportWords(pub usize);
 
 impl ReportWords {

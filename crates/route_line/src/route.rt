@@ -15,7 +15,7 @@ use snapshot::layout::Layout;
 use wording::text::chosen;
 
 /// A number of bytes.
-#[derive(Drop)]
+#[derive(Clone, Copy)]
 pub struct RoutedBytes(pub usize);
 
 impl RoutedBytes {

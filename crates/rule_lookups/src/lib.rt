@@ -1,4 +1,6 @@
 //! The lookups of the prelude and the local rule: each rule's tests of an entry, and by options bit 32 old names last.
+#![tactic(auto)]
+
 ghost use Rattle.std.specs.Prelude.{◌≡◌, List, true, ◌&&◌, ℕ, ◌<◌, ◌≤◌, ◌^◌};
 ghost use Rattle.snapshot.specs.Records.{scope_at};
 ghost use Rattle.snapshot.specs.Layouts.{word_count, snap_of};
@@ -22,7 +24,7 @@ use snapshot::layout::Layout;
 use snapshot::record::{scope_definition, scope_name, scope_ns, scope_visibility};
 
 /// The rule that looks an item up.
-#[derive(Drop)]
+#[derive(Clone, Copy)]
 pub enum Rule {
     Prelude,
     Local,

@@ -7,7 +7,7 @@ use native.Mathlib.Omega.{arith}
 use native.Mathlib.Nat.{add-zero}
 use lib.Dec.{eqb, leb, ltb}
 use lib.ListN.{length, get_or}
-use borrow.Author.Tests.{eqb-true, ltb-true, lt-ltb, leb-true, le-leb, not_true}
+use borrow.Author.Tests.{eqb-true, ltb-true, lt-ltb, leb-true, le-leb, not-true}
 use Rattle.snapshot.specs.Lists.{any}
 use Rattle.snapshot.specs.Refusals.{form_refusal}
 use Rattle.snapshot.specs.Words.{kind_of, pay_of, arguments_of, arguments_at}
@@ -27,7 +27,7 @@ module _ (last k : ℕ) (h : follows last k ≡ true) where
   pub follows_parts : (leb 1 k ≡ true) × (leb k 13 ≡ true) × (eqb k 12 ≡ false) × (leb last k || eqb last 5 && eqb k 4 ≡ true)
   follows_parts =
       let p = and_four (leb 1 k) (leb k 13) (not (eqb k 12)) (leb last k || eqb last 5 && eqb k 4) h in
-      (p.0, p.1, not_true (eqb k 12) p.2, p.3)
+      (p.0, p.1, not-true (eqb k 12) p.2, p.3)
 
   -- another kind before it that is not higher
   pub follows_other : (m : ℕ) → m ≤ k → follows m k ≡ true

@@ -1,5 +1,7 @@
 //! The scope records of each module as a chain in record order, in the work area past the numbers of the modules: a lookup in one scope reads its
 //! records alone.
+#![tactic(auto)]
+
 ghost use Rattle.std.specs.Prelude.{◌≡◌, List, ℕ, ◌+◌, ◌≤◌, ◌<◌, ◌^◌, length};
 ghost use Rattle.snapshot.specs.Limits.{word_limit, module_limit, area_limit};
 ghost use Rattle.snapshot.specs.Sizes.{scope_size};
@@ -20,7 +22,7 @@ use snapshot::words::word;
 
 /// Where the chains stand: a word a module, its first record, and then a word a record, the next one of its module. The number of all records
 /// ends a chain.
-#[derive(Drop)]
+#[derive(Clone, Copy)]
 pub struct Index(pub usize);
 
 impl Index {

@@ -6,7 +6,7 @@ ghost use Rattle.snapshot.specs.Records.{definition_at};
 ghost use Rattle.accept.specs.Post.{Reads};
 ghost use Rattle.hir_def.specs.Items.{definition_of};
 ghost use Rattle.hir_def.specs.Entries.{entry_of};
-ghost use Rattle.path_choices.specs.Choices.{via_variant, step_by, push as pushOf};
+ghost use Rattle.path_choices.specs.Choices.{via_variant, step_by, push as push_of};
 ghost use Rattle.find_path.specs.Rules.{first_found, scope_rule, prelude_rule};
 ghost use Rattle.find_path.specs.Charged.{variant_of};
 ghost use Rattle.find_path.specs.Meters.{from_tank};
@@ -64,7 +64,7 @@ fn variant_of(words: &[u32], l: Layout, item: Item) -> Entry
 fn push_variant(words: &[u32], area: &[u32], l: Layout, c: Choice, n: Name, h: usize) -> Choice
     requires { Reads words.now area.now l × (n.0 < l.names) × (c.count < 16) × (c.path_text_len < 2 ^ 32) × (c.steps < 17)
         × (h < word_limit) }
-    ensures { result ≡ pushOf (snap_of words.now area.now l) c n.0 (step_by via_variant h) }
+    ensures { result ≡ push_of (snap_of words.now area.now l) c n.0 (step_by via_variant h) }
 {
     let via = step_by(StepRule::VARIANT, h);
     c.push(words, area, l, n, via)

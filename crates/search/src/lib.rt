@@ -1,2 +1,4 @@
 //! The search of a question with a tank.
+#![tactic(auto)]
+
 pub mod inner;

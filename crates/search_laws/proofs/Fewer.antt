@@ -3,7 +3,7 @@ use mathlib.Core.Path.{◌≡◌, refl, ap, sym, ◌∙◌}
 use Prim.Native.Nat.{ℕ, zero, suc, ◌+◌, ◌≤◌, ◌<◌}
 use native.Mathlib.Omega.{arith}
 use mathlib.Core.List.{List, [], ◌∷◌, ◌++◌}
-use mathlib.Core.Bool.{Bool, true, false, ◌&&◌, ◌||◌, not, and_false, or_true, or_assoc, true≢false, false≢true}
+use mathlib.Core.Bool.{Bool, true, false, ◌&&◌, ◌||◌, not, and-false, or-true, or_assoc, true≢false, false≢true}
 use mathlib.Core.Logic.{◌⊎◌, inl, inr, ⊎_elim}
 use lib.Dec.{eqb, ltb}
 use lib.ListN.{length, length-append}
@@ -41,7 +41,7 @@ pub or_left : (a b : Bool) → a ≡ true → a || b ≡ true
 or_left a b e = rw e
 
 pub or_right : (a b : Bool) → b ≡ true → a || b ≡ true
-or_right a b e = rw e (or_true a)
+or_right a b e = rw e (or-true a)
 
 pub or_none_lem : (a b : Bool) → a ≡ false → b ≡ false → a || b ≡ false
 or_none_lem a b e f = rw e f
@@ -81,7 +81,7 @@ module _ (p : ℕ → Bool) where
   has_select_step n m ms ih true false h k = rw (select_hit p n ms h, k) ih
   has_select_step n m ms ih false true h k =
       let o : p m ≡ false = ap p (eqb-true m n k) ∙ h in
-      rw (select_miss p n ms h, k) (ih ∙ rw o (and_false (has ms m)))
+      rw (select_miss p n ms h, k) (ih ∙ rw o (and-false (has ms m)))
   has_select_step n m ms ih false false h k = rw (select_miss p n ms h, k) ih
 
   has_select : (ms : List ℕ) (m : ℕ) → has (select p ms) m ≡ (has ms m && p m)

@@ -7,7 +7,7 @@ use mathlib.Core.List.{List, [], ◌∷◌, ◌++◌, map}
 use mathlib.Core.Bool.{Bool, true, false, ◌&&◌, ◌||◌, not}
 use mathlib.Core.Option.{Option, none, some}
 use lib.Dec.{eqb}
-use lib.ListN.{length, take, length_map}
+use lib.ListN.{length, take, length-map}
 use Rattle.snapshot.specs.Lists.{any}
 use Rattle.snapshot.specs.Records.{Snapshot, Scope, Dependency, Prelude, Definition, Import, Extern, Member}
 use Rattle.check_rules.specs.Verdict.{accept, verdict}
@@ -138,7 +138,7 @@ module _ (s : Snapshot) where
   locations_plain : (from : ℕ) (seen : ℕ → Bool) → find_local_import_locations (plainly s) from seen ≡ find_local_import_locations s from seen
   unfolding find_local_import_locations start_from children_of containers containing module_of map_of
   locations_plain from seen =
-      let n : length (map plain s.scopes) ≡ length s.scopes = rw length_map in
+      let n : length (map plain s.scopes) ≡ length s.scopes = rw length-map in
       λ i. walk (λ m. leads_plain from m i) seen (length (start_from s from) + n i) [] (start_from s from)
 
 -- the reading of a path, which looks at no declared field

@@ -3,9 +3,9 @@ use mathlib.Core.Path.{◌≡◌, refl, ap, sym, ◌∙◌}
 use Prim.Native.Nat.{ℕ, zero, suc, ◌+◌, ◌≤◌}
 use native.Mathlib.Omega.{arith}
 use mathlib.Core.List.{List, [], ◌∷◌, ◌++◌}
-use mathlib.Core.Bool.{Bool, true, false, ◌&&◌, ◌||◌, not, or_false, true≢false}
+use mathlib.Core.Bool.{Bool, true, false, ◌&&◌, ◌||◌, not, or-false, true≢false}
 use lib.Dec.{eqb}
-use lib.ListN.{length, length-append, length_map}
+use lib.ListN.{length, length-append, length-map}
 use borrow.Author.Tests.{eq-eqb, ne_eqb, eqb-true, eqb-false}
 use Rattle.snapshot.specs.Lists.{any}
 use Rattle.snapshot.specs.Records.{Snapshot, Scope}
@@ -39,7 +39,7 @@ module _ {A : Type 0} (p : A → Bool) where
 
 pub has_snoc : (d : List ℕ) (m n : ℕ) → has (d ++ (m ∷ [])) n ≡ (has d n || eqb n m)
 unfolding has any
-has_snoc [] m n = or_false (eqb n m)
+has_snoc [] m n = or-false (eqb n m)
 has_snoc (x ∷ d) m n = rw (has_snoc d m n) (sym (assoc (eqb n x) (has d n) (eqb n m)))
   where
     assoc : (a b c : Bool) → (a || b) || c ≡ a || (b || c)
@@ -121,7 +121,7 @@ module _ (d : List ℕ) (m : ℕ) (new : has d m ≡ false) (p : Scope → Bool)
   sum_other : (e : Scope) (es : List Scope) → Sum es → (e.owner ≡ m → ⊥) → (t : Bool) → has d e.owner ≡ t → Sum (e ∷ es)
   sum_other e es ih q t k =
       let no : eqb e.owner m ≡ false = ne_eqb e.owner m q in
-      let same : has (d ++ (m ∷ [])) e.owner ≡ has d e.owner = has_snoc d m e.owner ∙ rw no (or_false (has d e.owner)) in
+      let same : has (d ++ (m ∷ [])) e.owner ≡ has d e.owner = has_snoc d m e.owner ∙ rw no (or-false (has d e.owner)) in
       rw (select_miss (λ z. eqb z.owner m && p z) e es (rw no)) (by t k same)
     where
       by : (t : Bool) → has d e.owner ≡ t → has (d ++ (m ∷ [])) e.owner ≡ has d e.owner
@@ -152,7 +152,7 @@ module _ (s : Snapshot) (from : ℕ) where
   leads_fall d m new =
       let a = untaken_falls d m new (λ e. eqb e.ns 0 && eqb (definition_of s e.definition).kind 1) s.scopes in
       let b = select_short (λ e. eqb (crate_of s (entry_module s e)) (crate_of s from) && sees s from e) (modules_in_scope s m) in
-      rw length_map (omega arith)
+      rw length-map (omega arith)
 
   -- The local walk does not depend on its number of turns.
   pub locations_more : (seen : ℕ → Bool) (b : ℕ) → length (start_from s from) + length s.scopes ≤ b

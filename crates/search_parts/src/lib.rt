@@ -1,4 +1,6 @@
 //! Small parts of the search, outside its cycles of calls.
+#![tactic(auto)]
+
 ghost use Rattle.std.specs.Prelude.{◌≡◌, [], ◌∷◌};
 ghost use Rattle.find_path.specs.Charged.{is_stable, langs};
 ghost use Rattle.snapshot.specs.Ids.{plus_one};
@@ -16,7 +18,7 @@ pub fn is_stable(c: Choice) -> bool
 }
 
 /// Three origins, in the order in which their crates are tried.
-#[derive(Drop)]
+#[derive(Clone, Copy)]
 pub struct Langs {
     pub first: usize,
     pub second: usize,

@@ -8,7 +8,7 @@ ghost use Rattle.accept.specs.Post.{Reads};
 ghost use Rattle.accept.specs.Valid.{ScopeFits};
 ghost use Rattle.hir_def.specs.Entries.{entry_of};
 ghost use Rattle.nameable.specs.Seen.{is_declaration, declared_ns, declared_as, declared_in, declaration_in, declaration_of, both_hold, holds_in};
-ghost use Rattle.nameable.specs.Seen.{seen as seenFrom};
+ghost use Rattle.nameable.specs.Seen.{seen as seen_from};
 
 use crate::privacy::holds;
 use hir_def::items::{first_of, home_of, kind_of};
@@ -130,7 +130,7 @@ fn both_hold(words: &[u32], area: &[u32], l: Layout, v: ModuleId, h: usize) -> b
 /// Whether the entry with its head at a place counts in its module and is seen from the viewer.
 pub fn seen(words: &[u32], area: &[u32], l: Layout, from: ModuleId, h: usize) -> bool
     requires { Reads words.now area.now l × (from.0 < l.modules) × ScopeFits (counts_in l) (scope_at words.now h) }
-    ensures { result ≡ seenFrom (snap_of words.now area.now l) from.0 (scope_at words.now h) }
+    ensures { result ≡ seen_from (snap_of words.now area.now l) from.0 (scope_at words.now h) }
 {
     if both_hold(words, area, l, scope_owner(words, h), h) {
         return both_hold(words, area, l, from, h);

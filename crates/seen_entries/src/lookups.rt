@@ -7,7 +7,7 @@ ghost use Rattle.record_rules.specs.Stands.{counts_in};
 ghost use Rattle.accept.specs.Valid.{ScopeFits};
 ghost use Rattle.hir_def.specs.Entries.{entry_of};
 ghost use Rattle.hir_def.specs.ItemScope.{is_for, is_named, names_of};
-ghost use Rattle.nameable.specs.Seen.{seen as seenFrom};
+ghost use Rattle.nameable.specs.Seen.{seen as seen_from};
 ghost use Rattle.nameable.specs.Queue.{seen_named};
 
 use crate::entries::seen;
@@ -30,7 +30,7 @@ fn is_named_seen(
     h: usize,
 ) -> bool
     requires { Reads words.now area.now l × (from.0 < l.modules) × ScopeFits (counts_in l) (scope_at words.now h) }
-    ensures { result ≡ (is_named m.0 ns name.0 (scope_at words.now h) && seenFrom
+    ensures { result ≡ (is_named m.0 ns name.0 (scope_at words.now h) && seen_from
         (snap_of words.now area.now l) from.0 (scope_at words.now h)) }
 {
     let owner = scope_owner(words, h);
@@ -79,7 +79,7 @@ fn is_for_seen(
 ) -> bool
     requires { Reads words.now area.now l × (from.0 < l.modules) × ScopeFits (counts_in l) (scope_at words.now h) }
     ensures { result ≡ (is_for (snap_of words.now area.now l) m.0 item (scope_at words.now h)
-        && seenFrom (snap_of words.now area.now l) from.0 (scope_at words.now h)) }
+        && seen_from (snap_of words.now area.now l) from.0 (scope_at words.now h)) }
 {
     if is_for(words, l, h, m, item) {
         return seen(words, area, l, from, h);
@@ -98,7 +98,7 @@ pub fn entry_for(
 ) -> Entry
     requires { Reads words.now area.now l × (from.0 < l.modules) }
     ensures { entry_of scope_at words.now result ≡ names_of (snap_of words.now area.now l) m.0 item
-        (seenFrom (snap_of words.now area.now l) from.0) }
+        (seen_from (snap_of words.now area.now l) from.0) }
 {
     let base = l.scope_base();
     let mut k = 0;

@@ -3,7 +3,7 @@ ghost use Rattle.std.specs.Prelude.{◌≡◌, ◌<◌, ◌≤◌};
 ghost use Rattle.snapshot.specs.Ids.{plus_one};
 ghost use Rattle.snapshot.specs.Layouts.{snap_of};
 ghost use Rattle.accept.specs.Post.{Reads};
-ghost use Rattle.tree_rules.specs.Privately.{block_step, module_around, privately as privatelyOf};
+ghost use Rattle.tree_rules.specs.Privately.{block_step, module_around, privately as privately_of};
 ghost use Rattle.nameable.specs.Seen.{holds as holds_of};
 
 use module_tree::modules::{block, krate, parent};
@@ -39,7 +39,7 @@ pub fn module_around(words: &[u32], area: &[u32], l: Layout, m: ModuleId) -> Mod
 // Whether what is visible in the target is visible from the viewer.
 fn privately(words: &[u32], area: &[u32], l: Layout, viewer: ModuleId, target: ModuleId) -> bool
     requires { Reads words.now area.now l × (viewer.0 < l.modules) × (target.0 < l.modules) }
-    ensures { result ≡ privatelyOf (snap_of words.now area.now l) viewer.0 target.0 }
+    ensures { result ≡ privately_of (snap_of words.now area.now l) viewer.0 target.0 }
 {
     let t = module_around(words, area, l, target);
     meets(words, area, l, viewer, t)

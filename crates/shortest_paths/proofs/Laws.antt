@@ -5,7 +5,7 @@ use mathlib.Core.List.{List}
 use mathlib.Core.Bool.{Bool, true, false, ◌&&◌, not, true≢false}
 use mathlib.Core.Option.{Option, none, some, map}
 use native.Mathlib.Omega.{arith}
-use borrow.Author.Tests.{lt-ltb, le-ltb, eq-eqb, ne_eqb, not_true, not-false}
+use borrow.Author.Tests.{lt-ltb, le-ltb, eq-eqb, ne_eqb, not-true, not-false}
 use lib.Dec.{eqb}
 use Rattle.snapshot.specs.Records.{Snapshot, Member}
 use Rattle.snapshot.specs.Layouts.{snap_of}
@@ -14,7 +14,7 @@ use Rattle.accept.specs.Post.{Reads}
 use Rattle.hir_def.specs.Finds.{first_of}
 use Rattle.hir_def.specs.Items.{types, macros, variant_kind, definition_of, ns_of, same_item, module_item, defined_item}
 use Rattle.hir_def.specs.declared.Item.{Item}
-use Rattle.readings.specs.Reads.{is_variant_named, variant_named as firstVariant}
+use Rattle.readings.specs.Reads.{is_variant_named, variant_named as first_variant}
 use Rattle.nameable.specs.Paths.{Path, into, Named, named, is_variant_of, variant_named, variants_in, within, item_in, means}
 use Rattle.nameable.specs.Breadth.{is_item, first_to, arrival, turns, checked_path, variant_after, by_enum, shorter, shortest_of, shortest}
 use Rattle.nameable.specs.Queue.{run}
@@ -54,8 +54,8 @@ module _ (s : Snapshot) (ns d e n : ℕ) where
   variant_macro h = sym (rw (variants_in, le-ltb ns macros h))
 
   module _ (low : ns < macros) where
-    pub variant_first : named n (variants_in s ns e) ≡ map (variant_named s ns) (firstVariant s e n)
-    unfolding variants_in named firstVariant
+    pub variant_first : named n (variants_in s ns e) ≡ map (variant_named s ns) (first_variant s e n)
+    unfolding variants_in named first_variant
     variant_first =
         ap (named n) (rw (variants_in, lt-ltb ns macros low))
         ∙ (first_mapped (λ (x : Named). eqb x.name n) (variant_named s ns) (is_variant_of e) s.members
@@ -63,11 +63,11 @@ module _ (s : Snapshot) (ns d e n : ℕ) where
         (first_same (λ (x : Member). is_variant_of e x && eqb x.name n) (is_variant_named e n) s.members
         (λ x i. and_left (eqb x.parent e) (eqb x.kind 0) (eqb x.name n))))
 
-    pub variant_none : none ≡ firstVariant s e n → false ≡ is_item (defined_item ns d) (item_in (named n (variants_in s ns e)))
+    pub variant_none : none ≡ first_variant s e n → false ≡ is_item (defined_item ns d) (item_in (named n (variants_in s ns e)))
     unfolding item_in is_item
     variant_none h = sym (ap (λ (o : Option Named). is_item item (item_in o)) (variant_first ∙ ap (map (variant_named s ns)) (sym h)))
 
-    pub variant_some : {x : Member} {y : ℕ} → some x ≡ firstVariant s e n → y ≡ x.definition
+    pub variant_some : {x : Member} {y : ℕ} → some x ≡ first_variant s e n → y ≡ x.definition
         → eqb y d ≡ is_item (defined_item ns d) (item_in (named n (variants_in s ns e)))
     unfolding item_in is_item same_item
     variant_some {x} {y} h ey =
@@ -116,7 +116,7 @@ module _ (b : Bool) (s : Snapshot) (from ns d : ℕ) where
         → t ≡ told_by (by_enum b s from (defined_item ns d))
     unfolding variant_after told_by
     enum_not {r} er h et =
-        let no : test ≡ false = sym er ∙ not_true r h in
+        let no : test ≡ false = sym er ∙ not-true r h in
         let none_there : variant_after s from its n way ≡ none =
         by_option way (λ z. ap (variant_after s from its n) z) (λ p z. ap (variant_after s from its n) z ∙ no_path p z no) in
         et ∙ sym (ap told_by (enum_path ∙ none_there))
@@ -128,7 +128,7 @@ module _ (b : Bool) (s : Snapshot) (from ns d : ℕ) where
       enum_nowhere h et =
           by_option way
           (λ z. et ∙ sym (ap told_by (enum_path ∙ ap (variant_after s from its n) z)))
-          (λ p z. absurd (true≢false (sym (tell_found p) ∙ (sym (ap (λ (u : ToldPath). u.found) (ea ∙ ap told_by z)) ∙ not_true a.found h))))
+          (λ p z. absurd (true≢false (sym (tell_found p) ∙ (sym (ap (λ (u : ToldPath). u.found) (ea ∙ ap told_by z)) ∙ not-true a.found h))))
 
       -- one name more
       pub enum_there : {r : Bool} {t : ToldPath} → r ≡ is_item (defined_item ns d) (item_in (named n (variants_in s ns e))) → not r ≡ false

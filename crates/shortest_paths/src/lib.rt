@@ -1,4 +1,6 @@
 //! A shortest path to an item, on checked words.
+#![tactic(auto)]
+
 mod by_enum;
 pub mod shortest;
 mod told;

@@ -3,7 +3,7 @@ ghost use Rattle.std.specs.Prelude.{◌≡◌, ◌≤◌, ◌<◌, length};
 ghost use Rattle.snapshot.specs.Limits.{module_limit};
 ghost use Rattle.snapshot.specs.Layouts.{snap_of};
 ghost use Rattle.accept.specs.Post.{Reads};
-ghost use Rattle.nameable.specs.Breadth.{shortest_of, shortest as shortestPath};
+ghost use Rattle.nameable.specs.Breadth.{shortest_of, shortest as shortest_path};
 ghost use Rattle.any_path.specs.Rows.{row_at, Stays};
 ghost use Rattle.arrivals.specs.Steps.{Ready};
 ghost use Rattle.told_paths.specs.Tells.{told_by};
@@ -39,7 +39,7 @@ fn shortest_of(
 /// A shortest path to the item, one that does not begin with a name where there is one; the tables of the check stay.
 pub fn shortest(words: &[u32], area: &mut [u32], l: Layout, from: ModuleId, item: Item) -> ToldPath
     requires { Reads words.now area.old l × (from.0 < l.modules) × (row_at module_limit ≤ length area.old) }
-    ensures value { result ≡ told_by (shortestPath (snap_of words.now area.old l) from.0 item) }
+    ensures value { result ≡ told_by (shortest_path (snap_of words.now area.old l) from.0 item) }
     ensures stays { Stays area.old area.new }
 {
     let n = run_keywords(words, area, l, from);

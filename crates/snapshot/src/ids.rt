@@ -3,7 +3,7 @@ ghost use Rattle.std.specs.Prelude.{◌≡◌};
 ghost use Rattle.snapshot.specs.Ids.{plus_one};
 
 /// A module of the snapshot.
-#[derive(Drop)]
+#[derive(Clone, Copy)]
 pub struct ModuleId(pub usize);
 
 impl ModuleId {
@@ -12,7 +12,7 @@ impl ModuleId {
 }
 
 /// A module, or none: a parent, a block's parent, a containing module, an item's home.
-#[derive(Drop)]
+#[derive(Clone, Copy)]
 pub enum OptModule {
     Module(ModuleId),
     NoModule,
@@ -29,7 +29,7 @@ pub fn opt_module(n: usize) -> OptModule
 }
 
 /// A crate of the snapshot.
-#[derive(Drop)]
+#[derive(Clone, Copy)]
 pub struct Crate(pub usize);
 
 impl Crate {
@@ -38,7 +38,7 @@ impl Crate {
 }
 
 /// A definition of the snapshot.
-#[derive(Drop)]
+#[derive(Clone, Copy)]
 pub struct DefinitionId(pub usize);
 
 impl DefinitionId {
@@ -47,7 +47,7 @@ impl DefinitionId {
 }
 
 /// A name of the snapshot.
-#[derive(Drop)]
+#[derive(Clone, Copy)]
 pub struct Name(pub usize);
 
 impl Name {
@@ -58,7 +58,7 @@ impl Name {
 }
 
 /// Namespaces.
-#[derive(Drop)]
+#[derive(Clone, Copy)]
 pub struct Namespace(pub usize);
 
 impl Namespace {
@@ -72,7 +72,7 @@ impl Namespace {
 }
 
 /// Kinds of definitions.
-#[derive(Drop)]
+#[derive(Clone, Copy)]
 pub struct DefinitionKind(pub usize);
 
 impl DefinitionKind {
@@ -88,7 +88,7 @@ impl DefinitionKind {
 }
 
 /// Path kinds.
-#[derive(Drop)]
+#[derive(Clone, Copy)]
 pub struct PathKind(pub usize);
 
 impl PathKind {
@@ -104,7 +104,7 @@ impl PathKind {
 }
 
 /// The length that a path may still have.
-#[derive(Drop)]
+#[derive(Clone, Copy)]
 pub struct PathLen(pub usize);
 
 impl PathLen {
@@ -113,7 +113,7 @@ impl PathLen {
 }
 
 /// The prefix that a question asks for.
-#[derive(Drop)]
+#[derive(Clone, Copy)]
 pub struct Prefix(pub usize);
 
 impl Prefix {
@@ -122,7 +122,7 @@ impl Prefix {
 }
 
 /// The options of a question, added up.
-#[derive(Drop)]
+#[derive(Clone, Copy)]
 pub struct Options(pub usize);
 
 impl Options {
@@ -133,7 +133,7 @@ impl Options {
 }
 
 /// Charges that a question may make.
-#[derive(Drop)]
+#[derive(Clone, Copy)]
 pub struct Fuel(pub usize);
 
 impl Fuel {
@@ -142,7 +142,7 @@ impl Fuel {
 }
 
 /// A number of words.
-#[derive(Drop)]
+#[derive(Clone, Copy)]
 pub struct WordCount(pub usize);
 
 impl WordCount {

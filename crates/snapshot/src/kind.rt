@@ -6,7 +6,7 @@ ghost use Rattle.snapshot.specs.Sizes.{argument_table, arguments_at};
 use crate::words::{kind, payload};
 
 /// A record's kind, as its head has it.
-#[derive(Drop)]
+#[derive(Clone, Copy)]
 pub struct Kind(pub usize);
 
 impl Kind {
@@ -38,7 +38,7 @@ impl Kind {
 }
 
 /// The words of a record of each kind, its head included; a name's depend on its text. Then those of a question, and of one for a reach.
-#[derive(Drop)]
+#[derive(Clone, Copy)]
 pub struct Size(pub usize);
 
 impl Size {

@@ -6,7 +6,7 @@ ghost use Rattle.snapshot.specs.Layouts.{member_base, word_count, no_records};
 use crate::kind::Size;
 
 /// How many records of each kind there are, and how many words the names take; the kinds stand in order, so the rest follows.
-#[derive(Drop)]
+#[derive(Clone, Copy)]
 pub struct Layout {
     /// Words of the name records.
     pub text: usize,

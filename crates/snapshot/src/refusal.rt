@@ -1,7 +1,7 @@
 //! The numbers by which a call, a snapshot, a question or an edit is refused.
 
 /// A refusal's number.
-#[derive(Drop)]
+#[derive(Clone, Copy)]
 pub struct Refusal(pub usize);
 
 impl Refusal {
@@ -56,7 +56,7 @@ impl Refusal {
 }
 
 /// The same numbers where they come with the check of words or of an entry, in 32 bits.
-#[derive(Drop)]
+#[derive(Clone, Copy)]
 pub struct CheckRefusal(pub u32);
 
 impl CheckRefusal {

@@ -6,7 +6,7 @@ use crate::ids::{Crate, ModuleId, Name};
 use crate::words::word;
 
 /// The first word of each table, and the first word past them.
-#[derive(Drop)]
+#[derive(Clone, Copy)]
 pub struct Tables(pub usize);
 
 impl Tables {

@@ -1,11 +1,13 @@
 //! Standard input and output, with failures told apart from ends.
+#![tactic(auto)]
+
 ghost use Rattle.std.specs.Prelude.{◌≤◌, length};
 ghost use Rattle.io.specs.Counts.{IsPrefixLen};
 
 use libc::{STDERR_FILENO, STDIN_FILENO, STDOUT_FILENO};
 
 /// How many bytes were read, and whether a read failed before the input's end.
-#[derive(Drop)]
+#[derive(Clone, Copy)]
 pub struct Reading {
     pub count: usize,
     pub failed: bool,

@@ -1,5 +1,7 @@
 //! Rows of modules, in the last words of the work area: the answer of a local search for a module that has just its number left and whose
 //! levels are all farther does not depend on the levels, so it is searched once.
+#![tactic(auto)]
+
 ghost use Rattle.std.specs.Prelude.{◌≡◌, true, ℕ, ◌≤◌, ◌<◌, ◌^◌, length};
 ghost use Rattle.snapshot.specs.Limits.{word_limit, module_limit, area_limit};
 ghost use Rattle.snapshot.specs.Records.{scope_at};
@@ -11,7 +13,7 @@ ghost use Rattle.hir_def.specs.Items.{same_item, module_item};
 ghost use Rattle.path_choices.specs.Choices.{via_local, step_by, extended};
 ghost use Rattle.distances.specs.Distances.{distance};
 ghost use Rattle.local_levels.specs.Levels.{item_at, Chain};
-ghost use Rattle.tight_rows.specs.Rows.{last_place, row_of, row_place, row_flag, flagged as flaggedOf};
+ghost use Rattle.tight_rows.specs.Rows.{last_place, row_of, row_place, row_flag, flagged as flagged_of};
 ghost use Rattle.tight_rows.specs.Post.{Cleared, Farther, Tight};
 
 use distances::Distances;
@@ -24,7 +26,7 @@ use snapshot::layout::Layout;
 use snapshot::words::word;
 
 /// Where the rows stand, a word a module.
-#[derive(Drop)]
+#[derive(Clone, Copy)]
 pub struct Rows(pub usize);
 
 impl Rows {
@@ -100,7 +102,7 @@ pub fn row_of(c: Choice) -> usize
 
 // The choice with that flag for `prelude`.
 fn flagged(c: Choice, flag: bool) -> Choice
-    ensures { result ≡ flaggedOf c flag }
+    ensures { result ≡ flagged_of c flag }
 {
     let mut d = c;
     d.has_prelude_segment = flag;

@@ -5,7 +5,7 @@ use mathlib.Core.List.{List, [], ◌∷◌, ◌++◌, append_assoc}
 use mathlib.Core.Bool.{true, false, not, true≢false}
 use mathlib.Core.Option.{Option, none, some}
 use native.Mathlib.Omega.{arith}
-use borrow.Author.Tests.{leb-true, leb-false, le-leb, lt-leb, lt-ltb, le-ltb, not_true, not-false}
+use borrow.Author.Tests.{leb-true, leb-false, le-leb, lt-leb, lt-ltb, le-ltb, not-true, not-false}
 use lib.Dec.{leb}
 use lib.ListN.{length, length-append, drop, set, replicate, length-replicate}
 use lib.Seq.{set-append_seam, drop-cons}
@@ -106,7 +106,7 @@ module _ (p q : Option Path) {a b : ToldPath} (ea : a ≡ told_by p) (eb : b ≡
   unfolding told_by shorter
   second_by none z h = eb ∙ sym (ap (λ (o : Option Path). told_by (shorter o q)) z)
   second_by (some x) z h =
-      absurd (true≢false (sym (tell_found x) ∙ (sym (ap (λ (u : ToldPath). u.found) (ea ∙ ap told_by z)) ∙ not_true a.found h)))
+      absurd (true≢false (sym (tell_found x) ∙ (sym (ap (λ (u : ToldPath). u.found) (ea ∙ ap told_by z)) ∙ not-true a.found h)))
 
   pub shorter_second : not a.found ≡ true → b ≡ told_by (shorter p q)
   shorter_second h = second_by p refl h
@@ -116,7 +116,7 @@ module _ (p q : Option Path) {a b : ToldPath} (ea : a ≡ told_by p) (eb : b ≡
   first_by none none y z h = ea ∙ (ap told_by y ∙ sym (ap₂ (λ (o u : Option Path). told_by (shorter o u)) y z))
   first_by (some x) none y z h = ea ∙ (ap told_by y ∙ sym (ap₂ (λ (o u : Option Path). told_by (shorter o u)) y z))
   first_by o (some x) y z h =
-      absurd (true≢false (sym (tell_found x) ∙ (sym (ap (λ (u : ToldPath). u.found) (eb ∙ ap told_by z)) ∙ not_true b.found h)))
+      absurd (true≢false (sym (tell_found x) ∙ (sym (ap (λ (u : ToldPath). u.found) (eb ∙ ap told_by z)) ∙ not-true b.found h)))
 
   pub shorter_first : not b.found ≡ true → a ≡ told_by (shorter p q)
   shorter_first h = first_by p q refl refl h

@@ -4,10 +4,10 @@ ghost use Rattle.std.proofs.Math.Option.{Option};
 ghost use Rattle.snapshot.specs.Limits.{module_limit};
 ghost use Rattle.snapshot.specs.Records.{Snapshot};
 ghost use Rattle.nameable.specs.Paths.{Path, into, names_in};
-ghost use Rattle.nameable.specs.Breadth.{names_limit, shorter as shorterOf};
+ghost use Rattle.nameable.specs.Breadth.{names_limit, shorter as shorter_of};
 ghost use Rattle.any_path.specs.Rows.{keyword_from, path_from, path_at, link_at};
 ghost use Rattle.arrivals.specs.Steps.{LeadsTo};
-ghost use Rattle.told_paths.specs.Tells.{step_link, keyword_kind, keyword_supers, told_none, told_long, tell as tellOf, told_by};
+ghost use Rattle.told_paths.specs.Tells.{step_link, keyword_kind, keyword_supers, told_none, told_long, tell as tell_of, told_by};
 
 use crate::ToldPath;
 use any_path::rows::Row;
@@ -16,7 +16,7 @@ use snapshot::ids::PathKind;
 use snapshot::words::word;
 
 /// Names of a path.
-#[derive(Drop)]
+#[derive(Clone, Copy)]
 pub struct NameCount(pub usize);
 
 impl NameCount {
@@ -96,7 +96,7 @@ fn names_in(area: &[u32], n: usize, link: usize) -> usize
 fn read(area: &[u32], n: usize, link: usize, name: usize, count: usize) -> ToldPath
     requires { (n ≤ module_limit) × (link < n + 3) × ((i : ℕ) → i < n → link_at area.now i < i + 3) × (count ≤ names_limit)
         × (count ≡ names_in (path_from (path_at area.now) link name)) }
-    ensures value { result ≡ tellOf (path_from (path_at area.now) link name) }
+    ensures value { result ≡ tell_of (path_from (path_at area.now) link name) }
     ensures count_le_names_limit { result.count ≤ names_limit }
 {
     let mut names = [0usize; 16];
@@ -157,7 +157,7 @@ pub fn tell(area: &[u32], n: usize, step: OptStep) -> ToldPath
 /// One name more.
 pub fn more(t: ToldPath, name: usize) -> ToldPath
     requires { t.count < 2 ^ 32 }
-    ensures { (p : Path) → t ≡ tellOf p → result ≡ tellOf (into p name) }
+    ensures { (p : Path) → t ≡ tell_of p → result ≡ tell_of (into p name) }
 {
     if NameCount::LIMIT <= t.count {
         return long(t.count + 1);
@@ -176,7 +176,7 @@ pub fn more(t: ToldPath, name: usize) -> ToldPath
 
 /// The second where it is shorter.
 pub fn shorter(a: ToldPath, b: ToldPath) -> ToldPath
-    ensures { (p q : Option Path) → a ≡ told_by p → b ≡ told_by q → result ≡ told_by (shorterOf p q) }
+    ensures { (p q : Option Path) → a ≡ told_by p → b ≡ told_by q → result ≡ told_by (shorter_of p q) }
 {
     if !a.found {
         return b;

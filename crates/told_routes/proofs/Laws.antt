@@ -33,7 +33,7 @@ use Rattle.nameable.proofs.Lists.{none_some, first_found_lem}
 use Rattle.nameable.proofs.Reached.{each_in, item_in_lem}
 use Rattle.nameable.proofs.Lookups.{named_seen}
 use Rattle.read_back.specs.Answers.{meant}
-use Rattle.readings.specs.Reads.{extern_named as externOfName, is_variant_named, variant_named as firstVariant}
+use Rattle.readings.specs.Reads.{extern_named as extern_of_name, is_variant_named, variant_named as first_variant}
 use Rattle.read_back.specs.declared.OptItem.{OptItem}
 use Rattle.read_back.specs.declared.OptItem.TheVariants.{Means, NoItem}
 use Rattle.any_path.specs.Plain.{externs_named}
@@ -80,7 +80,7 @@ module _ (s : Snapshot) (from ns n : ℕ) {c : ℕ} (k : c ≡ crate_of s from) 
     pub absolute_other : (ns ≡ types → ⊥) → none ≡ reads s from ns (absolute n)
     absolute_other h = ap (map extern_named) (externs_others s from ns n h) ∙ sym absolute_late
 
-    pub absolute_by : ns ≡ types → {o : Option Extern} → o ≡ externOfName s c n → map extern_named o ≡ reads s from ns (absolute n)
+    pub absolute_by : ns ≡ types → {o : Option Extern} → o ≡ extern_of_name s c n → map extern_named o ≡ reads s from ns (absolute n)
     absolute_by h e = ap (map extern_named) (e ∙ externs_types s from ns n k h) ∙ sym absolute_late
 
 -- By an entry of a module.
@@ -95,11 +95,11 @@ module _ (W A : List ℕ) (l : Layout) (r : Reads W A l) (ns d n : ℕ) where
   variant_macro h = rw (variants_in, le-ltb ns macros h)
 
   module _ (low : ns < macros) where
-    pub variant_gone : none ≡ firstVariant (snap_of W A l) d n → none ≡ named n (variants_in (snap_of W A l) ns d)
+    pub variant_gone : none ≡ first_variant (snap_of W A l) d n → none ≡ named n (variants_in (snap_of W A l) ns d)
     variant_gone e = ap (map (variant_named (snap_of W A l) ns)) e ∙ sym (variant_first (snap_of W A l) ns d d n low)
 
-    variant_kind_lem : (x : Member) → some x ≡ firstVariant (snap_of W A l) d n → (definition_of (snap_of W A l) x.definition).kind ≡ 2
-    unfolding firstVariant definition_of
+    variant_kind_lem : (x : Member) → some x ≡ first_variant (snap_of W A l) d n → (definition_of (snap_of W A l) x.definition).kind ≡ 2
+    unfolding first_variant definition_of
     variant_kind_lem x e =
         let s : Snapshot = snap_of W A l in
         let ok : Valid s = accepted_valid W s r.same in
@@ -108,7 +108,7 @@ module _ (W A : List ℕ) (l : Layout) (r : Reads W A l) (ns d n : ℕ) where
         let k = and_two (eqb x.kind 0) (eqb x.name n) g.1 in
         ((each_in ok.members f.0).variant (eqb-true x.kind 0 k.0)).0
 
-    pub variant_answers : {x : Member} (y : DefinitionId) {h : ℕ} → some x ≡ firstVariant (snap_of W A l) d n → y.0 ≡ x.definition
+    pub variant_answers : {x : Member} (y : DefinitionId) {h : ℕ} → some x ≡ first_variant (snap_of W A l) d n → y.0 ≡ x.definition
         → ReadsAs W h (definition_of (snap_of W A l) y.0)
         → Answers (named n (variants_in (snap_of W A l) ns d)) (record { item = Means (Def (record { 0 = ns }) y); place = h })
     unfolding meant item_in place_in

@@ -3,7 +3,7 @@ ghost use Rattle.std.specs.Prelude.{◌≡◌, ◌<◌};
 ghost use Rattle.snapshot.specs.Layouts.{snap_of};
 ghost use Rattle.accept.specs.Post.{Reads};
 ghost use Rattle.hir_def.specs.Items.{types};
-ghost use Rattle.nameable.specs.Paths.{keyword, above as moduleAbove, module_named, reads, item_in};
+ghost use Rattle.nameable.specs.Paths.{keyword, above as module_above, module_named, reads, item_in};
 ghost use Rattle.read_back.specs.Answers.{meant};
 ghost use Rattle.told_routes.specs.Routes.{keyword_by};
 
@@ -17,7 +17,7 @@ use snapshot::layout::Layout;
 // The module so many times above another.
 fn above(words: &[u32], area: &[u32], l: Layout, m: ModuleId, supers: usize) -> OptItem
     requires { Reads words.now area.now l × (m.0 < l.modules) }
-    ensures { meant result ≡ item_in (module_named (moduleAbove (snap_of words.now area.now l) supers m.0)) }
+    ensures { meant result ≡ item_in (module_named (module_above (snap_of words.now area.now l) supers m.0)) }
 {
     let mut at = m;
     let mut left = supers;

@@ -1,4 +1,6 @@
 //! The records by which the names of a path are read.
+#![tactic(auto)]
+
 mod keywords;
 mod names;
 pub mod routes;
@@ -6,7 +8,7 @@ pub mod routes;
 use read_back::OptItem;
 
 /// What the names read so far mean, and the place of the record by which the last of them is read, 0 for none.
-#[derive(Drop)]
+#[derive(Clone, Copy)]
 pub struct Meaning {
     pub item: OptItem,
     pub place: usize,

@@ -1,4 +1,6 @@
 //! The walk of a local search for an item that no search under way is for: the same for all of them, so it is done once a question.
+#![tactic(auto)]
+
 ghost use Rattle.std.specs.Prelude.{◌≡◌, false, ℕ, ◌+◌, ◌≤◌, ◌<◌, length};
 ghost use Rattle.snapshot.specs.Limits.{module_limit, area_limit};
 ghost use Rattle.snapshot.specs.Layouts.{snap_of};
@@ -20,7 +22,7 @@ use snapshot::layout::Layout;
 use snapshot::words::word;
 
 /// Where the walk stands: its modules, and then how many they are.
-#[derive(Drop)]
+#[derive(Clone, Copy)]
 pub struct Walk(pub usize);
 
 impl Walk {

@@ -6,7 +6,7 @@ use mathlib.Core.List.{List, [], ◌∷◌, ◌++◌, append_assoc, append-nil}
 use native.Mathlib.Omega.{arith}
 use native.Mathlib.Numerals.{add-one}
 use lib.Dec.{eqb}
-use lib.ListN.{length, get_or, take, drop, set, length-append, length-drop, length_map}
+use lib.ListN.{length, get_or, take, drop, set, length-append, length-drop, length-map}
 use lib.Seq.{length-take-le, take_all, take-suc, split_at, set_split, take-suc-set, take-add, drop-drop, drop-cons, take_at, drop_at, get_or_at}
 use mir.Val.{Val}
 use denote.Laws.{Is}
@@ -23,7 +23,7 @@ use Rattle.window_state.proofs.rows.Windows.TheLaws as T'
 
 -- what a state's type says
 pub rows_eight : (s : Windows) (vs : List Val) → Is T.the_row s vs → length s.rows ≡ 8
-rows_eight s vs g = sym (length_map s.rows (R.the_field).into) ∙ (LL.owed T.the_type T'.the_laws s vs g).1.0.1.0.1
+rows_eight s vs g = sym (length-map s.rows (R.the_field).into) ∙ (LL.owed T.the_type T'.the_laws s vs g).1.0.1.0.1
 
 pub row_length : (r : Row) → length (row_words r) ≡ 8
 unfolding row_words

@@ -1,4 +1,6 @@
 //! The state of eight windows: whose question waits, which window is next, what placing and serving change, and the state as words.
+#![tactic(auto)]
+
 pub mod rows;
 pub mod serve;
 pub mod words;

@@ -1,10 +1,10 @@
 //! The state: the window from which the next turn counts, and a row for each of eight windows.
 ghost use Rattle.std.specs.Prelude.{◌≡◌, ◌<◌};
-ghost use Rattle.window_rules.specs.States.{waits as waitsOf, served, with_row};
+ghost use Rattle.window_rules.specs.States.{waits as waits_of, served, with_row};
 ghost use Rattle.window_state.specs.Words.{empty_row, row_words, words_of};
 
 /// A number of windows.
-#[derive(Drop)]
+#[derive(Clone, Copy)]
 pub struct WindowCount(pub usize);
 
 impl WindowCount {
@@ -13,7 +13,7 @@ impl WindowCount {
 }
 
 /// A window: whether its question waits, any word but 0, and the question's words.
-#[derive(Drop)]
+#[derive(Clone, Copy)]
 pub struct Row {
     pub waits: u32,
     pub ns: u32,
@@ -26,7 +26,7 @@ pub struct Row {
 }
 
 /// Eight windows, and the one from which the next turn counts, modulo 8.
-#[derive(Drop)]
+#[derive(Clone, Copy)]
 pub struct Windows {
     pub next: u32,
     pub rows: [Row; 8],
@@ -51,7 +51,7 @@ pub fn empty_row() -> Row
 /// Whether the question of a window waits.
 pub fn waits(windows: Windows, window: usize) -> bool
     requires { window < 8 }
-    ensures { result ≡ waitsOf (words_of windows) window }
+    ensures { result ≡ waits_of (words_of windows) window }
 {
     let row = windows.rows[window];
     row.waits != 0

@@ -6,7 +6,7 @@ ghost use Rattle.window_state.specs.Words.{row_words, words_of};
 use crate::rows::{Row, WindowCount, Windows, empty_row};
 
 /// A number of words.
-#[derive(Drop)]
+#[derive(Clone, Copy)]
 pub struct StateWords(pub usize);
 
 impl StateWords {

@@ -7,7 +7,7 @@ use reports::report::refused;
 use window_state::rows::{WindowCount, Windows};
 
 /// A turn: idle, or the window that was served and the report of its question.
-#[derive(Drop)]
+#[derive(Clone, Copy)]
 pub struct Turn {
     pub idle: bool,
     pub window: usize,
@@ -15,14 +15,14 @@ pub struct Turn {
 }
 
 /// The state after a turn, and the turn.
-#[derive(Drop)]
+#[derive(Clone, Copy)]
 pub struct Turning {
     pub windows: Windows,
     pub turn: Turn,
 }
 
 /// The state after a question was placed, and the number by which it is refused, 0 for none.
-#[derive(Drop)]
+#[derive(Clone, Copy)]
 pub struct Placing {
     pub windows: Windows,
     pub number: usize,

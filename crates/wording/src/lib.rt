@@ -1,2 +1,4 @@
 //! The words of an answer.
+#![tactic(auto)]
+
 pub mod text;

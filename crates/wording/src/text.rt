@@ -8,7 +8,7 @@ use snapshot::layout::Layout;
 use snapshot::refusal::CheckRefusal;
 
 /// A number of bytes.
-#[derive(Drop)]
+#[derive(Clone, Copy)]
 pub struct TextBytes(pub usize);
 
 impl TextBytes {

@@ -1,0 +1,37 @@
+use mathlib.Core.Path.{sym}
+use lib.Seq.{length-take-le}
+use Rattle.snapshot.specs.Limits.{area_limit}
+use Rattle.answer.proofs.Lined.{lined_none, lined_small, lined_large}
+use Rattle.answer.proofs.line.find_line.Goals as goal
+
+pub returns-then-out-lt-LIMIT : goal.returns-then-out-lt-LIMIT
+returns-then-out-lt-LIMIT c =
+    
+    
+    let s = c.args in
+    lined_none s.words.now s.area.now s.question s.out.now c.clear_front.new.area c.if-out-lt-LIMIT.true c.clear_front.ensures
+
+pub returns-then-area-lt-AREA : goal.returns-then-area-lt-AREA
+returns-then-area-lt-AREA c =
+    let s = c.args in
+    lined_small s.words.now s.area.now s.question s.out.now c.if-out-lt-LIMIT.false
+    _ _ c.if-area-lt-AREA.true c.put_refusal.ensures
+
+pub slice_bounds-line_within-end-2 : goal.slice_bounds-line_within-end-2
+slice_bounds-line_within-end-2 c = sym (length-take-le area_limit c.args.area.now
+    c.if-area-lt-AREA.false)
+
+pub line_within-requires : goal.line_within-requires
+line_within-requires c = (
+  length-take-le area_limit c.args.area.now
+      c.if-area-lt-AREA.false,
+  c.if-out-lt-LIMIT.false,
+)
+
+pub returns : goal.returns
+returns c =
+    let s = c.args in
+    
+    lined_large s.words.now s.area.now s.question s.out.now
+    c.if-out-lt-LIMIT.false _ _ c.line_within.new.area
+    c.if-area-lt-AREA.false c.line_within.ensures.area_after c.line_within.ensures.put

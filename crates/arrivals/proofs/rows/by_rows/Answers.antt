@@ -1,0 +1,43 @@
+use mathlib.Core.Path.{refl, sym, ap, ◌∙◌}
+use native.Mathlib.Omega.{arith}
+use Rattle.snapshot.specs.Records.{scope_at}
+use Rattle.hir_def.specs.Entries.{entry_of}
+use Rattle.arrivals.specs.Steps.{LeadsTo}
+use Rattle.arrivals.proofs.Steps.{found_start, found_hit, found_miss, found_none}
+use Rattle.arrivals.proofs.rows.by_rows.Goals as goal
+
+pub loop-i-init : goal.loop-i-init
+loop-i-init c = found_start c.args.words.now c.args.area.now c.args.l c.requires.0 _ _ _
+
+pub returns-in-At : goal.returns-in-At
+unfolding LeadsTo
+returns-in-At c =
+    
+    
+    
+    
+    found_hit c.args.words.now c.args.area.now c.args.l c.requires.0 c.args.from.0 c.args.n c.args.item _
+    c.loop-i.invariant
+    c.loop-i-test.true c.requires.3 c.word.ensures
+    (sym (ap (entry_of scope_at c.args.words.now) c.in-At.is) ∙ c.entry_for.ensures) refl c.scope_name-name.ensures
+
+pub loop-i-preserved : goal.loop-i-preserved
+loop-i-preserved c =
+    
+    
+    
+    found_miss c.args.words.now c.args.area.now c.args.l c.requires.0 c.args.from.0 c.args.n c.args.item _
+    c.loop-i.invariant
+    c.loop-i-test.true c.requires.3 c.word.ensures
+    (sym (ap (entry_of scope_at c.args.words.now) c.in_default.is) ∙ c.entry_for.ensures)
+
+pub returns : goal.returns
+unfolding LeadsTo
+returns c =
+    
+    found_none c.args.words.now c.args.area.now c.args.l c.requires.0 c.args.from.0 c.args.n c.args.item _
+    c.loop-i.invariant
+    (omega (arith, c.loop-i-test.false))
+
+pub word-requires : goal.word-requires
+word-requires c = tt

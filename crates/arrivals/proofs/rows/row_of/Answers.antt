@@ -1,0 +1,43 @@
+use native.Mathlib.Omega.{arith}
+use Rattle.arrivals.specs.Steps.{LeadsTo}
+use Rattle.arrivals.proofs.Steps.{way_start, way_hit, way_miss, way_none}
+use Rattle.arrivals.proofs.rows.row_of.Goals as goal
+
+pub loop-i-init : goal.loop-i-init
+loop-i-init c = way_start c.args.area.now _ _
+
+pub returns-then-word-m : goal.returns-then-word-m
+unfolding LeadsTo
+returns-then-word-m c =
+    
+    
+    
+    
+    way_hit c.args.area.now _ _ _ c.loop-i.invariant c.loop-i-test.true c.word.ensures c.if-word-m.true
+    c.word-then-word-m.ensures
+    c.word-then-word-m-2.ensures c.word-then-word-m-3.ensures
+
+pub loop-i-preserved : goal.loop-i-preserved
+loop-i-preserved c =
+    
+    
+    
+    way_miss c.args.area.now _ _ _ c.loop-i.invariant c.loop-i-test.true c.word.ensures c.if-word-m.false
+
+pub returns : goal.returns
+unfolding LeadsTo
+returns c =
+    
+    λ z from modules run. way_none c.args.area.now _ _ _ c.loop-i.invariant (omega (arith, c.loop-i-test.false))
+
+pub word-requires : goal.word-requires
+word-requires c = tt
+
+pub word-requires-then-word-m : goal.word-requires-then-word-m
+word-requires-then-word-m c = tt
+
+pub word-requires-then-word-m-2 : goal.word-requires-then-word-m-2
+word-requires-then-word-m-2 c = tt
+
+pub word-requires-then-word-m-3 : goal.word-requires-then-word-m-3
+word-requires-then-word-m-3 c = tt

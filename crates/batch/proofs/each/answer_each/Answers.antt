@@ -1,0 +1,13 @@
+use mathlib.Core.Path.{ap, ◌∙◌}
+use Rattle.checked.proofs.Laws.{checks_judged}
+use Rattle.answer.specs.Answers.{zeros}
+use Rattle.batch.proofs.each.answer_each.Goals as goal
+
+pub report_each-requires : goal.report_each-requires
+report_each-requires c =
+    
+    
+    (checks_judged c.args.words.now c.args.area.now _ _ c.requires.0 c.check-c.ensures, c.check-c.auto.area ∙ c.requires.0, c.requires.1)
+
+pub returns : goal.returns
+returns c = record { area_after = c.clear.ensures ∙ ap zeros (c.report_each.auto.area ∙ c.check-c.auto.area ∙ c.requires.0); reports_after = c.report_each.ensures.reports_after }

@@ -1,0 +1,87 @@
+use Prim.Native.Nat.{ℕ, ◌+◌, ◌-◌, ◌*◌, ◌<◌}
+use native.Mathlib.Omega.{arith}
+use borrow.Author.Rules.{rules}
+use mathlib.Core.Path.{refl, sym, ap, ◌∙◌, subst}
+use mathlib.Core.List.{List}
+use Rattle.snapshot.specs.Sizes.{dependency_size, import_size}
+use Rattle.snapshot.specs.Records.{import_at, dependency_at}
+use Rattle.snapshot.specs.Layouts.{import_base, dependency_base, snap_of}
+use Rattle.snapshot.proofs.Laws.{rows_whole}
+use Rattle.hir_def.specs.Finds.{select}
+use Rattle.hir_def.specs.Nameres.{is_dependency, by_sysroot, dependencies_of}
+use Rattle.hir_def.specs.ImportMap.{is_import, import_info_for}
+use Rattle.hir_def.specs.Entries.{entry_of, left_of}
+use Rattle.hir_def.proofs.Lookups.{next_record, next_none, imports_whole, dependencies_whole}
+use Rattle.hir_def.proofs.Fits.{few_words, import_meets}
+use Rattle.find_path.specs.Charged.{found_of, is_stable}
+use Rattle.find_path.specs.Conditions.{Searched}
+use Rattle.search_laws.proofs.Unfold.{length_falls}
+use Rattle.search_laws.proofs.Tables.{same_reads}
+use Rattle.charged_search.specs.Parts.{out_of, imports, dependencies, sysroot}
+use Rattle.charged_search.proofs.Parts.{at_home, module_ns, module_none, module_found, module_charged, best_empty, best_charged, go_here}
+use Rattle.charged_search.proofs.Parts.{go_sysroot, go_dependencies, lang_stable, lang_none, lang_some, rest_stable, import_hidden}
+use Rattle.charged_search.proofs.Holding.{offered, charge_sum, module_small, held_nothing, home_below}
+use Rattle.charged_search.proofs.Runs.{Running, begun_later, lang_passed, deps_passed, lang_run, rest_run, import_run, running_done, left_none}
+use Rattle.charged_search.proofs.Runs.{imports_end, imports_next, deps_end, deps_next}
+use Rattle.charged_search.proofs.+calculate_best_path_find_import_find_in_dep_find_in_deps_find_in_deps_by_sysroot_find_in_lang_find_in_rest_find_in_sysroot_find_path_for_module_search_charged.Given as goal
+
+abbrev pub decreases-calculate_best_path : goal.decreases-calculate_best_path
+decreases-calculate_best_path l = 8 * l.left + 7
+
+abbrev pub decreases-find_import : goal.decreases-find_import
+decreases-find_import l = 8 * l.left + 1
+
+abbrev pub decreases-find_in_dep : goal.decreases-find_in_dep
+decreases-find_in_dep l = 8 * l.left + 2
+
+abbrev pub decreases-find_in_deps : goal.decreases-find_in_deps
+decreases-find_in_deps l = 8 * l.left + 3
+
+abbrev pub decreases-find_in_deps_by_sysroot : goal.decreases-find_in_deps_by_sysroot
+decreases-find_in_deps_by_sysroot l = 8 * l.left + 3
+
+abbrev pub decreases-find_in_lang : goal.decreases-find_in_lang
+decreases-find_in_lang l = 8 * l.left + 3
+
+abbrev pub decreases-find_in_rest : goal.decreases-find_in_rest
+decreases-find_in_rest l = 8 * l.left + 4
+
+abbrev pub decreases-find_in_sysroot : goal.decreases-find_in_sysroot
+decreases-find_in_sysroot l = 8 * l.left + 5
+
+abbrev pub decreases-find_path_for_module : goal.decreases-find_path_for_module
+decreases-find_path_for_module l = 8 * l.left + 8
+
+abbrev pub decreases-search_charged : goal.decreases-search_charged
+decreases-search_charged l = 8 * l.left + 6
+
+abbrev pub find_in_dep-invariant-loop-k : goal.find_in_dep-invariant-loop-k
+find_in_dep-invariant-loop-k l =
+    Running l.initial.area l.area l.left l.best
+    (imports (snap_of l.words l.initial.area l.l) l.x l.left (out_of l.best) (left_of (is_import (snap_of l.words l.initial.area l.l) l.c.0 l.item)
+    (λ i. import_at l.words (import_base l.l + import_size * i)) l.l.imports l.k))
+    (imports (snap_of l.words l.initial.area l.l) l.x l.left (out_of l.initial.best) (import_info_for (snap_of l.words l.initial.area l.l) l.c.0 l.item))
+
+abbrev pub find_in_dep-decreases-loop-k : goal.find_in_dep-decreases-loop-k
+find_in_dep-decreases-loop-k l = l.l.imports - l.k
+
+abbrev pub find_in_deps-invariant-loop-k : goal.find_in_deps-invariant-loop-k
+find_in_deps-invariant-loop-k l =
+    Running l.initial.area l.area l.left l.best
+    (dependencies (snap_of l.words l.initial.area l.l) l.x l.left l.item (out_of l.best) (left_of (is_dependency l.x.from_crate.0)
+    (λ i. dependency_at l.words (dependency_base l.l + dependency_size * i)) l.l.dependencies l.k))
+    (dependencies (snap_of l.words l.initial.area l.l) l.x l.left l.item (out_of l.initial.best) (dependencies_of (snap_of l.words l.initial.area l.l) l.x.from_crate.0))
+
+abbrev pub find_in_deps-decreases-loop-k : goal.find_in_deps-decreases-loop-k
+find_in_deps-decreases-loop-k l = l.l.dependencies - l.k
+
+abbrev pub find_in_deps_by_sysroot-invariant-loop-k : goal.find_in_deps_by_sysroot-invariant-loop-k
+find_in_deps_by_sysroot-invariant-loop-k l =
+    Running l.initial.area l.area l.left l.best
+    (dependencies (snap_of l.words l.initial.area l.l) l.x l.left l.item (out_of l.best) (left_of (by_sysroot l.x.from_crate.0 l.inside)
+    (λ i. dependency_at l.words (dependency_base l.l + dependency_size * i)) l.l.dependencies l.k))
+    (dependencies (snap_of l.words l.initial.area l.l) l.x l.left l.item (out_of l.initial.best) (select (by_sysroot l.x.from_crate.0 l.inside)
+    (snap_of l.words l.initial.area l.l).dependencies))
+
+abbrev pub find_in_deps_by_sysroot-decreases-loop-k : goal.find_in_deps_by_sysroot-decreases-loop-k
+find_in_deps_by_sysroot-decreases-loop-k l = l.l.dependencies - l.k

@@ -1,0 +1,30 @@
+use borrow.Author.Rules.{rules}
+use mathlib.Core.Path.{◌≡◌}
+use native.Mathlib.Omega.{arith}
+use lib.ListN.{length}
+use Rattle.snapshot.specs.Layouts.{snap_of}
+use Rattle.checked.proofs.Reading.{not_read, is_read}
+use Rattle.checked.proofs.found.misleads.Goals as goal
+
+pub returns-then-not-read : goal.returns-then-not-read
+returns-then-not-read c =
+    let s = c.args in
+    let A = s.area.now in
+    not_read (snap_of s.words.now A s.l) s.q s.c (c.kind_of.ensures A) c.if-not-read.true
+
+pub slice_bounds-reads_back-end : goal.slice_bounds-reads_back-end
+slice_bounds-reads_back-end c =
+    search (rules, c.well_formed.1.1.1.1.0)
+
+pub reads_back-requires : goal.reads_back-requires
+reads_back-requires c =
+    
+    let h : 16 ≡ length c.args.c.names = slice_bounds-reads_back-end c in
+    (c.requires.0, c.requires.1, omega (arith, c.requires.2, h))
+
+pub returns : goal.returns
+returns c =
+    let s = c.args in
+    let A = s.area.now in
+    is_read (snap_of s.words.now A s.l) s.q s.c (c.kind_of.ensures A)
+    c.if-not-read.false (c.item_of-item.ensures A) c.reads_back.ensures

@@ -1,0 +1,62 @@
+use mathlib.Core.Path.{ap, ◌∙◌}
+use Rattle.snapshot.specs.Records.{Snapshot}
+use Rattle.snapshot.specs.Layouts.{snap_of}
+use Rattle.hir_def.specs.Items.{parent_of}
+use Rattle.hir_def.proofs.Climbs.{is_some, is_none}
+use Rattle.distances.specs.Distances.{is_keyword}
+use Rattle.distances.proofs.Lowering.{lowers_snap, lowers_ready, lowers_then, distances_less}
+use Rattle.distances.proofs.Marking.{keywords_one, keywords_two, parent_known}
+use Rattle.distances.proofs.mark_keywords.Goals as goal
+
+pub parent-requires : goal.parent-requires
+parent-requires c =
+    
+    
+    ((lowers_ready c.args.words.now c.args.l c.mark_keyword.ensures.0 c.requires.0 c.mark_keyword.auto.area).reads, c.requires.1)
+
+pub returns-in_default : goal.returns-in_default
+returns-in_default c =
+    
+    
+    let W = c.args.words.now in
+    let A = c.args.area.now in
+    let l = c.args.l in
+    let f = c.mark_keyword.ensures in
+    let q = c.parent.ensures ∙ ap (λ (z : Snapshot). parent_of z c.args.x.from.0)
+    (lowers_snap W l f.0 c.requires.0.reads) in
+    (f.0, keywords_one (snap_of W A l) c.args.x _ f.1 (is_none _ q c.in_default.is))
+
+pub mark_keyword-requires-2 : goal.mark_keyword-requires-2
+mark_keyword-requires-2 c =
+    
+    
+    
+    let W = c.args.words.now in
+    let A = c.args.area.now in
+    let l = c.args.l in
+    let f = c.mark_keyword.ensures in
+    let q = c.parent.ensures ∙ ap (λ (z : Snapshot). parent_of z c.args.x.from.0)
+    (lowers_snap W l f.0 c.requires.0.reads) in (
+      lowers_ready W l f.0 c.requires.0 c.mark_keyword.auto.area,
+      c.requires.1,
+      parent_known W A l c.requires.0.reads
+          c.args.x.from.0 c.requires.1 (is_some _ q c.in-Module.is),
+    )
+
+pub returns : goal.returns
+returns c =
+    
+    
+    
+    
+    let W = c.args.words.now in
+    let A = c.args.area.now in
+    let l = c.args.l in
+    let f = c.mark_keyword.ensures in
+    let g = c.mark_keyword-2.ensures in
+    let sn = lowers_snap W l f.0 c.requires.0.reads in
+    let q = c.parent.ensures ∙ ap (λ (z : Snapshot). parent_of z c.args.x.from.0) sn in (
+      lowers_then f.0 g.0,
+      keywords_two (snap_of W A l) c.args.x _ _ (is_some _ q c.in-Module.is) (distances_less g.0)
+          f.1 (λ e. g.1 (ap (λ (z : Snapshot). is_keyword z c.args.x c.in-Module.p.0) sn ∙ e)),
+    )

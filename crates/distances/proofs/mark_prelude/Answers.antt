@@ -1,0 +1,32 @@
+use mathlib.Core.Path.{ap}
+use Rattle.snapshot.specs.Records.{prelude_at}
+use Rattle.hir_def.specs.Entries.{entry_of}
+use Rattle.distances.proofs.Lowering.{lowers_same}
+use Rattle.distances.proofs.Marking.{no_prelude_lem, one_prelude}
+use Rattle.distances.proofs.mark_prelude.Goals as goal
+
+pub returns-in_default : goal.returns-in_default
+returns-in_default c =
+    
+    
+    let W = c.args.words.now in
+    let A = c.args.area.now in (
+      lowers_same A,
+      no_prelude_lem W A c.args.l c.args.from.0 c.map.ensures (c.prelude_of-p.ensures A)
+          (ap (entry_of prelude_at W) c.in_default.is),
+    )
+
+pub returns : goal.returns
+returns c =
+    
+    
+    
+    
+    
+    let W = c.args.words.now in
+    let A = c.args.area.now in (
+      c.mark_scope.ensures.0,
+      one_prelude W A c.args.l c.args.from.0 (prelude_at W c.in-At.h) c.mark_scope.new.area
+          c.map.ensures (c.prelude_of-p.ensures A)
+          (ap (entry_of prelude_at W) c.in-At.is) c.prelude_target.ensures c.mark_scope.ensures.1,
+    )

@@ -1,0 +1,35 @@
+use native.Mathlib.Omega.{arith}
+use Rattle.import_order.proofs.Merges.{runs_ready}
+use Rattle.import_lists.proofs.Threading.{scopes_few, entries_required, members_required, threaded_all}
+use Rattle.import_lists.proofs.threads.thread.Goals as goal
+
+pub sort-requires : goal.sort-requires
+sort-requires c =
+    
+    let g = c.gather-n.ensures in
+    let q = (scopes_few c.requires).0 in
+    let f = g.few in
+    (runs_ready c.requires g.frame (omega arith), omega arith, omega arith)
+
+pub thread_entries-requires : goal.thread_entries-requires
+thread_entries-requires c =
+    entries_required c.requires c.gather-n.ensures
+    c.sort.ensures c.clear.ensures
+    c.area-3-1.given
+
+pub thread_members-requires : goal.thread_members-requires
+thread_members-requires c =
+    members_required c.requires
+    c.gather-n.ensures
+    c.sort.ensures
+    c.clear.ensures c.area-3-1.given
+    c.thread_entries.ensures
+
+pub returns : goal.returns
+returns c = threaded_all
+    c.requires
+    c.gather-n.ensures
+    c.sort.ensures
+    c.clear.ensures
+    c.area-3-1.given
+    c.thread_entries.ensures c.thread_members.ensures

@@ -1,0 +1,52 @@
+use Prim.Native.Nat.{◌<◌}
+use mathlib.Core.Path.{◌≡◌}
+use native.Mathlib.Omega.{arith}
+use Rattle.import_lists.proofs.Threading.{threads_none, threads_more, threads_key}
+use Rattle.import_lists.proofs.threads.thread_members.Goals as goal
+
+pub loop-j-init : goal.loop-j-init
+loop-j-init c = (omega arith, threads_none _ _ c.requires.by_index.0)
+
+pub link-requires : goal.link-requires
+link-requires c =
+    
+    
+    let h = c.requires.by_index.1 c.loop-j.j c.loop-j-test.true in
+    let e = c.member_parent-d.ensures in
+    let b = c.member_base-base.ensures in
+    let q : c.member_parent-d.result.0 < 2048 = rw (e, b) h in
+    (omega (arith, c.loop-j.invariant.1.size), omega (arith, c.loop-j.invariant.1.size), omega arith)
+
+pub loop-j-preserved : goal.loop-j-preserved
+loop-j-preserved c =
+    
+    
+    let h = c.requires.by_index.1 c.loop-j.j c.loop-j-test.true in
+    let e = c.member_parent-d.ensures in
+    let b = c.member_base-base.ensures in
+    let q : c.member_parent-d.result.0 < 2048 = rw (e, b) h in
+    (omega arith, threads_more c.loop-j.invariant.1 (omega arith) (omega arith) q e c.link.ensures)
+
+pub returns : goal.returns
+returns c =
+    
+    let e : c.loop-j.j ≡ c.args.l.members = omega arith in
+    threads_key _ (rw e at c.loop-j.invariant.1) (λ i h. rw c.member_base-base.ensures)
+
+pub overflow_sub-count : goal.overflow_sub-count
+overflow_sub-count c = omega arith
+
+pub overflow_sub-count-in-loop-j : goal.overflow_sub-count-in-loop-j
+overflow_sub-count-in-loop-j c = omega arith
+
+pub overflow_mul-count : goal.overflow_mul-count
+overflow_mul-count c = omega arith
+
+pub overflow_add-base : goal.overflow_add-base
+overflow_add-base c = omega arith
+
+pub overflow_add-j : goal.overflow_add-j
+overflow_add-j c = omega arith
+
+pub loop-j-smaller : goal.loop-j-smaller
+loop-j-smaller c = omega arith

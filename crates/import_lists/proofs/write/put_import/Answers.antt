@@ -1,0 +1,34 @@
+use mathlib.Core.Logic.{⊎_elim}
+use native.Mathlib.Omega.{arith}
+use lib.ListN.{length-set}
+use Rattle.import_lists.proofs.Writing.{wrote_one, counted_one}
+use Rattle.import_lists.proofs.write.put_import.Goals as goal
+
+pub bounds-target-at : goal.bounds-target-at
+bounds-target-at c = let h = c.requires.1.room c.if-write.true in omega arith
+
+pub bounds-target-at-then-write : goal.bounds-target-at-then-write
+bounds-target-at-then-write c = let h = c.requires.1.room c.if-write.true in simp length-set (omega arith)
+
+pub bounds-target-at-then-write-2 : goal.bounds-target-at-then-write-2
+bounds-target-at-then-write-2 c = let h = c.requires.1.room c.if-write.true in simp length-set (omega arith)
+
+pub bounds-target-at-then-write-3 : goal.bounds-target-at-then-write-3
+bounds-target-at-then-write-3 c = let h = c.requires.1.room c.if-write.true in
+    simp length-set (omega arith)
+
+pub bounds-target-at-then-write-4 : goal.bounds-target-at-then-write-4
+bounds-target-at-then-write-4 c = let h = c.requires.1.room c.if-write.true
+    in simp length-set (omega arith)
+
+pub bounds-target-at-then-write-5 : goal.bounds-target-at-then-write-5
+bounds-target-at-then-write-5 c = let h = c.requires.1.room c.if-write.true
+    in simp length-set (omega arith)
+
+pub returns : goal.returns
+returns c =
+    let a = c.args in
+    ⊎_elim
+    (λ w. rw (w.0.taken, w.5) (wrote_one a.at a.c.0 a.ns a.d.0 a.name.0 a.m.0 a.bits a.target.now))
+    (λ w. rw (w.0.left, w.1) (counted_one a.at a.c.0 a.ns a.d.0 a.name.0 a.m.0 a.bits a.target.now))
+    c.if-write.branch

@@ -1,0 +1,65 @@
+use Prim.Native.Nat.{◌+◌, ◌-◌, ◌*◌, ◌<◌}
+use mathlib.Core.Path.{refl, sym, ap}
+use native.Mathlib.Omega.{arith}
+use Rattle.snapshot.specs.Records.{scope_at}
+use Rattle.import_lists.proofs.Writing.{space_first, space_as, wrote_as, going_start, going_next, going_done, kept_end}
+use Rattle.import_lists.proofs.Writing.{kept_first, kept_next, member_bounded}
+use Rattle.import_lists.proofs.write.put_members.Goals as goal
+
+pub loop-k-init : goal.loop-k-init
+loop-k-init c =
+    
+    let q = kept_first c.requires.listed c.scope_definition-d.ensures c.word-k.ensures in
+    (q.1, going_start (space_as c.requires.space (sym q.0)))
+
+pub put_member-t-requires : goal.put_member-t-requires
+put_member-t-requires c = let some : 0 < c.loop-k.k = omega (arith, c.loop-k-test.true) in
+    let at = ap (λ b. b + 5 * (c.args.l.members - c.loop-k.k)) c.member_base-base.ensures in  record { bounded = member_bounded c.requires.listed c.loop-k.invariant.0 some at; space = space_first c.loop-k.invariant.1.space
+          (kept_next c.requires.listed c.loop-k.invariant.0 some at refl).0 }
+
+pub loop-k-smaller : goal.loop-k-smaller
+loop-k-smaller c =
+    
+    
+    
+    let some : 0 < c.loop-k.k = omega (arith, c.loop-k-test.true) in
+    let at = ap (λ b. b + 5 * (c.args.l.members - c.loop-k.k)) c.member_base-base.ensures in
+    (kept_next c.requires.listed c.loop-k.invariant.0 some at c.word-k-in-loop-k.ensures).1
+
+pub loop-k-preserved : goal.loop-k-preserved
+loop-k-preserved c =
+    
+    
+    
+    let some : 0 < c.loop-k.k = omega (arith, c.loop-k-test.true) in
+    let at = ap (λ b. b + 5 * (c.args.l.members - c.loop-k.k)) c.member_base-base.ensures in
+    let q = kept_next c.requires.listed c.loop-k.invariant.0 some at c.word-k-in-loop-k.ensures in
+    let h = q.1 in
+    (omega arith, going_next c.loop-k.invariant.1 q.0 c.put_member-t.ensures)
+
+pub returns : goal.returns
+returns c =
+    
+    
+    
+    let q = kept_first c.requires.listed c.scope_definition-d.ensures c.word-k.ensures in
+    wrote_as (going_done c.loop-k.invariant.1 (kept_end c.args.words.now c.args.l c.args.c.0
+    (scope_at c.args.words.now c.args.entry) c.loop-k.k c.loop-k-test.false)) q.0
+
+pub overflow_add-d : goal.overflow_add-d
+overflow_add-d c = omega arith
+
+pub overflow_sub-member : goal.overflow_sub-member
+overflow_sub-member c = omega arith
+
+pub overflow_mul-member : goal.overflow_mul-member
+overflow_mul-member c = omega arith
+
+pub overflow_add-member : goal.overflow_add-member
+overflow_add-member c = omega arith
+
+pub overflow_sub-k : goal.overflow_sub-k
+overflow_sub-k c = omega arith
+
+pub overflow_add-k : goal.overflow_add-k
+overflow_add-k c = omega arith

@@ -1,0 +1,59 @@
+use Prim.Native.Nat.{◌<◌}
+use mathlib.Core.Path.{refl, sym}
+use native.Mathlib.Omega.{arith}
+use Rattle.import_lists.proofs.Writing.{space_first, space_as, wrote_as, going_start, going_next, going_done, imports_end}
+use Rattle.import_lists.proofs.Writing.{imports_first, imports_next, entry_listed}
+use Rattle.import_lists.proofs.write.put_module.Goals as goal
+
+pub loop-k-init : goal.loop-k-init
+loop-k-init c =
+    
+    let q = imports_first c.requires.threaded.0 c.args.c.0 c.requires.threaded.2 c.word-k.ensures in
+    (q.1, going_start (space_as c.requires.space (sym q.0)))
+
+pub put_entry-t-requires : goal.put_entry-t-requires
+put_entry-t-requires c = let some : 0 < c.loop-k.k = omega (arith, c.loop-k-test.true) in
+    let e = c.word-entry.ensures in  record { listed = entry_listed c.requires.threaded.0 c.args.c.0 c.loop-k.invariant.0 some e c.requires.threaded.1; space = space_first c.loop-k.invariant.1.space (imports_next c.requires.threaded.0 c.args.c.0 c.loop-k.invariant.0 some e refl).0 }
+
+pub loop-k-smaller : goal.loop-k-smaller
+loop-k-smaller c =
+    
+    
+    let some : 0 < c.loop-k.k = omega (arith, c.loop-k-test.true) in
+    let e = c.word-entry.ensures in
+    (imports_next c.requires.threaded.0 c.args.c.0 c.loop-k.invariant.0 some e c.word-k-in-loop-k.ensures).1
+
+pub loop-k-preserved : goal.loop-k-preserved
+loop-k-preserved c =
+    
+    
+    let some : 0 < c.loop-k.k = omega (arith, c.loop-k-test.true) in
+    let e = c.word-entry.ensures in
+    let q = imports_next c.requires.threaded.0 c.args.c.0 c.loop-k.invariant.0 some e c.word-k-in-loop-k.ensures in
+    let h = q.1 in
+    let z = c.loop-k.invariant.0 in
+    (omega arith, going_next c.loop-k.invariant.1 q.0 c.put_entry-t.ensures)
+
+pub returns : goal.returns
+returns c =
+    
+    
+    
+    let q = imports_first c.requires.threaded.0 c.args.c.0 c.requires.threaded.2 c.word-k.ensures in
+    let z = imports_end c.args.words.now c.args.area.now c.args.l c.args.n c.args.c.0 c.loop-k.k c.loop-k-test.false in
+    wrote_as (going_done c.loop-k.invariant.1 z) q.0
+
+pub overflow_add-m : goal.overflow_add-m
+overflow_add-m c = omega arith
+
+pub overflow_sub-n : goal.overflow_sub-n
+overflow_sub-n c = omega arith
+
+pub overflow_add-n : goal.overflow_add-n
+overflow_add-n c = omega arith
+
+pub overflow_sub-k : goal.overflow_sub-k
+overflow_sub-k c = omega arith
+
+pub overflow_add-k : goal.overflow_add-k
+overflow_add-k c = omega arith

@@ -1,0 +1,13 @@
+use Prim.Native.Nat.{◌+◌, ◌-◌}
+use Rattle.import_order.specs.Lists.{order_of, entries_at, merge_by}
+use Rattle.import_order.proofs.Merges.{Merging}
+use Rattle.import_order.proofs.sort.merge.Reads as reads
+use Rattle.import_order.proofs.sort.merge.Given as goal
+
+abbrev pub invariant-loop-i : goal.invariant-loop-i
+invariant-loop-i l =
+    Merging l.words (order_of l.words l.initial.area l.l) (merge_by (order_of l.words l.initial.area l.l) (entries_at l.words l.initial.area 6720 l.m) (entries_at l.words l.initial.area (l.from + l.m) l.n))
+    l.initial.area l.area l.from l.m l.n l.i l.j
+
+abbrev pub decreases-loop-i : goal.decreases-loop-i
+decreases-loop-i l = l.m + l.n - (l.i + l.j)

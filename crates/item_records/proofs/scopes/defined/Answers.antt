@@ -1,0 +1,12 @@
+use Rattle.item_records.proofs.scopes.defined.Goals as goal
+
+pub returns : goal.returns
+returns c =
+    
+    rw (
+      c.scope_number-number.ensures,
+      c.scope_visibility-visibility.ensures,
+      c.scope_definition-definition.ensures,
+      c.scope_name-name.ensures,
+      c.scope_owner-owner.ensures,
+    )

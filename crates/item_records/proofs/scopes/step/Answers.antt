@@ -1,0 +1,53 @@
+use Prim.Native.Nat.{◌+◌}
+use native.Mathlib.Omega.{arith}
+use Rattle.records.proofs.Steps.{scope_no, scope_on}
+use Rattle.records.proofs.Linked.{scope_chain, scope_linked}
+use Rattle.item_records.proofs.scopes.step.Goals as goal
+
+pub repeated_with-old-requires : goal.repeated_with-old-requires
+repeated_with-old-requires c = let e = c.scope_base.ensures in
+    let p = c.requires.place in
+    let f = c.requires.fits in
+    let q = c.requires.short in  record { chained = scope_chain c.args.words.now c.args.area.now c.args.l c.requires.index e; key_value = (c.record_key-key.ensures, omega arith, omega arith, omega arith, omega arith); count_in_bounds = (omega arith, f, omega arith, omega arith) }
+
+pub ns_placed-placed-requires : goal.ns_placed-placed-requires
+ns_placed-placed-requires c =
+    (
+      omega (arith, c.requires.place, c.requires.fits, c.requires.short),
+      omega (
+        arith,
+        c.scope_definition.ensures,
+        c.type_inv.words (c.args.at + 3),
+      ),
+    )
+
+pub returns-then-n-ne0 : goal.returns-then-n-ne0
+returns-then-n-ne0 c ms st =
+    
+    
+    scope_no c.args.words.now c.args.area.now c.args.at c.args.l ms st
+    c.judge-n.ensures
+    c.in_range.ensures
+    c.defined.ensures
+    c.scope_base.ensures
+    c.repeated_with-old.ensures
+    c.scope_ns.ensures c.scope_definition.ensures
+    c.ns_placed-placed.ensures
+    c.if-n-ne0.true
+
+pub returns : goal.returns
+returns c ms st =
+    
+    
+    scope_on c.args.words.now c.args.area.now c.args.at c.args.l ms st
+    c.judge-n.ensures
+    c.in_range.ensures
+    c.defined.ensures
+    c.scope_base.ensures
+    c.repeated_with-old.ensures
+    c.scope_ns.ensures c.scope_definition.ensures
+    c.ns_placed-placed.ensures
+    c.link.new.area c.if-n-ne0.false c.requires.fits
+    (scope_linked c.args.words.now c.args.area.now c.args.at c.args.l ms c.requires.short c.requires.room st
+    c.requires.fits c.record_key-key.ensures
+    c.link.ensures)

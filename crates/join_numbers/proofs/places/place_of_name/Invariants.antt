@@ -1,0 +1,17 @@
+use Prim.Native.Nat.{◌*◌, ◌-◌, ◌≤◌}
+use mathlib.Core.Path.{◌≡◌}
+use Rattle.snapshot.specs.Records.{name_at}
+use Rattle.snapshot.specs.Layouts.{name_head}
+use Rattle.check_rules.specs.Tests.{same_name}
+use Rattle.hir_def.specs.Finds.{place_of}
+use Rattle.join_numbers.specs.Parts.{names_from}
+use Rattle.join_numbers.proofs.places.place_of_name.Given as goal
+
+abbrev pub invariant-loop-k : goal.invariant-loop-k
+invariant-loop-k l =
+    (l.k ≤ l.count) × (l.at ≤ l.k * 268435456)
+    × (place_of (same_name (name_at l.second (name_head l.area l.i))) 0 (names_from l.first 0 l.count) ≡ place_of (same_name (name_at l.second (name_head l.area l.i))) l.k
+    (names_from l.first l.at (l.count - l.k)))
+
+abbrev pub decreases-loop-k : goal.decreases-loop-k
+decreases-loop-k l = l.count - l.k

@@ -1,0 +1,58 @@
+use native.Mathlib.Omega.{arith}
+use Rattle.join_numbers.proofs.Filling.{numbering_start}
+use Rattle.join_numbers.proofs.Turns.{definitions_room, definitions_ready, definitions_named, definitions_next, definitions_done}
+use Rattle.join_numbers.proofs.tables.number_definitions.Goals as goal
+
+pub loop-n-init : goal.loop-n-init
+loop-n-init c = numbering_start _ _ _ _ _ _
+
+pub place_of_definition-place-requires : goal.place_of_definition-place-requires
+place_of_definition-place-requires c = let a = c.args in
+    let l = c.loop-n in
+    let r = c.requires.ready in  record { ready = (
+        definitions_ready a.first.now a.second.now a.area.now a.l1 a.l2 r l.area l.n l.fresh
+            l.invariant,
+        c.loop-n-test.true,
+      ); holds = definitions_named a.first.now a.second.now a.area.now a.l1 a.l2 r l.area l.n l.fresh l.invariant c.requires.holds }
+
+pub overflow_add-n : goal.overflow_add-n
+overflow_add-n c =
+    
+    let l = c.loop-n in
+    let a = c.args in
+    let q = (definitions_room a.first.now a.second.now a.area.now a.l1 a.l2 c.requires.ready l.area l.n
+    l.fresh l.invariant c.loop-n-test.true).0 in
+    omega arith
+
+pub put_number-fresh-requires : goal.put_number-fresh-requires
+put_number-fresh-requires c =
+    
+    let a = c.args in
+    let l = c.loop-n in
+    definitions_room a.first.now a.second.now a.area.now a.l1 a.l2 c.requires.ready l.area l.n l.fresh
+    l.invariant c.loop-n-test.true
+
+pub loop-n-preserved : goal.loop-n-preserved
+loop-n-preserved c =
+    
+    let a = c.args in
+    let l = c.loop-n in
+    
+    definitions_next a.first.now a.second.now a.area.now a.l1 a.l2 c.requires.ready l.area c.put_number-fresh.new.area l.n
+    l.fresh c.place_of_definition-place.result c.put_number-fresh.result l.invariant
+    c.loop-n-test.true c.place_of_definition-place.ensures
+    c.put_number-fresh.ensures.0 c.put_number-fresh.ensures.1
+
+pub returns : goal.returns
+returns c =
+    
+    let a = c.args in
+    let l = c.loop-n in
+    definitions_done a.first.now a.second.now a.area.now a.l1 a.l2 c.requires.ready l.area l.n l.fresh
+    l.invariant c.loop-n-test.false
+
+pub overflow_add-n-in-loop-n : goal.overflow_add-n-in-loop-n
+overflow_add-n-in-loop-n c = omega arith
+
+pub loop-n-smaller : goal.loop-n-smaller
+loop-n-smaller c = omega arith

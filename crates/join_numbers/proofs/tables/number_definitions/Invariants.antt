@@ -1,0 +1,15 @@
+use Prim.Native.Nat.{◌-◌}
+use Rattle.check_rules.specs.Tests.{no_definition}
+use Rattle.join_words.specs.Joined.{same_builtin}
+use Rattle.join_numbers.specs.Parts.{part_of}
+use Rattle.join_numbers.specs.Numbered.{definition_table}
+use Rattle.join_numbers.proofs.Filling.{Numbering}
+use Rattle.join_numbers.proofs.tables.number_definitions.Given as goal
+
+abbrev pub invariant-loop-n : goal.invariant-loop-n
+invariant-loop-n l =
+    Numbering (same_builtin (part_of l.first) (part_of l.second)) no_definition (part_of l.first).definitions (part_of l.second).definitions
+    definition_table l.initial.area l.area l.n l.fresh
+
+abbrev pub decreases-loop-n : goal.decreases-loop-n
+decreases-loop-n l = l.count - l.n

@@ -1,0 +1,13 @@
+use Prim.Native.Nat.{◌-◌}
+use Rattle.check_rules.specs.Tests.{no_name, same_name}
+use Rattle.join_numbers.specs.Parts.{part_of}
+use Rattle.join_numbers.specs.Numbered.{name_table}
+use Rattle.join_numbers.proofs.Filling.{Numbering}
+use Rattle.join_numbers.proofs.tables.number_names.Given as goal
+
+abbrev pub invariant-loop-n : goal.invariant-loop-n
+invariant-loop-n l = Numbering same_name no_name (part_of l.first).names (part_of l.second).names
+    name_table l.initial.area l.area l.n l.fresh
+
+abbrev pub decreases-loop-n : goal.decreases-loop-n
+decreases-loop-n l = l.count - l.n

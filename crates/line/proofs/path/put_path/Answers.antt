@@ -1,0 +1,66 @@
+use mathlib.Core.Path.{refl, ◌∙◌}
+use native.Mathlib.Omega.{arith}
+use Rattle.line.proofs.Laws.{tail_none, tail_next, path_done}
+use Rattle.printing.proofs.Laws.{put_as, put_two, put_none}
+use Rattle.find_path.specs.Line.{written_of}
+use Rattle.snapshot.specs.Layouts.{snap_of}
+use Rattle.line.proofs.path.put_path.Goals as goal
+
+pub loop-i-init : goal.loop-i-init
+loop-i-init c = (omega arith, refl, put_as (tail_none _ _ _) (put_none _ _), omega arith)
+
+pub put_part-to-requires : goal.put_part-to-requires
+put_part-to-requires c =
+    
+    let l = c.loop-i in (
+      c.requires.0.0,
+      omega (
+        arith,
+        c.requires.0.1,
+        c.requires.1,
+        l.invariant.0,
+        l.invariant.1,
+        l.invariant.3,
+        c.loop-i-test.true,
+        c.put_prefix-to.ensures.upper_bound,
+        c.put_prefix-to.auto.out,
+      ),
+    )
+
+pub loop-i-preserved : goal.loop-i-preserved
+loop-i-preserved c =
+    let s = c.args in
+    let l = c.loop-i in
+    (
+      omega arith,
+      c.put_part-to.auto.out ∙ l.invariant.1,
+      put_as (tail_next (written_of (snap_of s.words.now s.area.now s.l) s.edition) _ s.names.now l.i)
+          (put_two l.invariant.2 c.put_part-to.ensures.put),
+      omega (arith, l.invariant.3, c.put_part-to.ensures.upper_bound),
+    )
+
+pub returns : goal.returns
+returns c =
+    
+    let l = c.loop-i in
+    let p = c.put_prefix-to.ensures in (
+      put_as (path_done (written_of (snap_of c.args.words.now c.args.area.now c.args.l) c.args.edition)
+          c.args.kind c.args.names.now l.i c.args.count l.invariant.0 c.loop-i-test.false c.requires.1.1)
+          (put_two p.0 l.invariant.2),
+      omega (arith, l.invariant.0, l.invariant.3, p.1, c.requires.1.0),
+    )
+
+pub put_prefix-to-requires : goal.put_prefix-to-requires
+put_prefix-to-requires c = omega arith
+
+pub offset_bounds-names-i : goal.offset_bounds-names-i
+offset_bounds-names-i c = omega arith
+
+pub bounds-names-i : goal.bounds-names-i
+bounds-names-i c = omega arith
+
+pub overflow_add-i : goal.overflow_add-i
+overflow_add-i c = omega arith
+
+pub loop-i-smaller : goal.loop-i-smaller
+loop-i-smaller c = omega arith

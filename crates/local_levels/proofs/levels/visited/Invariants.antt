@@ -1,0 +1,21 @@
+use mathlib.Core.Path.{◌≡◌}
+use lib.ListN.{length}
+use Rattle.hir_def.specs.declared.Item.{Item}
+use Rattle.find_path.specs.Walk.{visited}
+use Rattle.local_levels.specs.Levels.{Small, code_of, levels_of, Chain}
+use Rattle.local_levels.proofs.levels.visited.Reads as reads
+use Rattle.local_levels.proofs.levels.visited.Lts as lts
+use Rattle.local_levels.proofs.levels.code_of.Reads as code-of-reads
+use Rattle.local_levels.proofs.levels.has.Reads as has-reads
+use Rattle.snapshot.proofs.words.word.Reads as word-reads
+use Rattle.local_levels.proofs.levels.visited.Given as goal
+
+abbrev pub invariant-loop-d : goal.invariant-loop-d
+invariant-loop-d l =
+    ((item : Item) → Small item → l.code ≡ code_of item → visited (levels_of l.area l.initial.p l.initial.d) item l.m.0 ≡ visited (levels_of l.area l.p l.d) item l.m.0)
+    × Chain l.area l.p l.d (length l.area)
+
+abbrev pub decreases-loop-d : goal.decreases-loop-d
+decreases-loop-d l = l.d
+
+-- the first level, in the loop

@@ -1,0 +1,85 @@
+use mathlib.Core.Path.{refl}
+use native.Mathlib.Omega.{arith}
+use mathlib.Core.Logic.{⊎_elim}
+use Rattle.hir_def.proofs.Fits.{few_words}
+use Rattle.local_levels.proofs.Stacks.{pushing_start, pushing_skip, pushing_next, pushing_done}
+use Rattle.local_levels.proofs.Nexts.{children_start, child_hit, child_miss, child_end, child_below}
+use Rattle.local_levels.proofs.locations.push_children.Goals as goal
+
+pub child_base-base-requires : goal.child_base-base-requires
+child_base-base-requires c =
+    
+    few_words c.args.words.now c.args.area.now _ c.requires.0
+
+pub loop-k-init : goal.loop-k-init
+loop-k-init c =
+    
+    pushing_skip _ _ _ _ _ (pushing_start c.args.area.now _ _ c.args.item _ c.requires.1)
+    (children_start c.args.words.now c.args.area.now c.args.l c.args.from.0) refl refl
+
+pub overflow_mul-h : goal.overflow_mul-h
+overflow_mul-h c =
+    
+    record { fits = omega (arith, c.loop-k-test.true, few_words c.args.words.now c.args.area.now c.args.l c.requires.0) }
+
+pub overflow_add-h : goal.overflow_add-h
+overflow_add-h c =
+    
+    
+    record {
+      fits = omega (
+        arith,
+        c.loop-k-test.true,
+        c.child_base-base.ensures,
+        few_words c.args.words.now c.args.area.now
+            c.args.l c.requires.0,
+      );
+    }
+
+pub push_module-run-requires : goal.push_module-run-requires
+push_module-run-requires c =
+    
+    let l = c.loop-k in
+    
+    (
+      l.invariant.ready,
+      c.requires.2,
+      child_below c.args.words.now c.args.area.now c.args.l c.requires.0 c.loop-k-test.true
+          c.child_base-base.ensures c.child_child-m.ensures,
+    )
+
+pub overflow_add-k : goal.overflow_add-k
+overflow_add-k c =
+    
+    
+    record { fits = omega (arith, c.loop-k-test.true, few_words c.args.words.now c.args.area.now c.args.l c.requires.0) }
+
+pub loop-k-smaller : goal.loop-k-smaller
+loop-k-smaller c = omega (arith, c.loop-k-test.true)
+
+pub loop-k-preserved : goal.loop-k-preserved
+loop-k-preserved c =
+    
+    
+    let l = c.loop-k in
+    
+    
+    let W = c.args.words.now in
+    ⊎_elim
+    (λ w. pushing_skip _ _ _ _ _ (pushing_next _ _ _ _ _ l.invariant (child_hit W c.args.l c.args.from.0 l.k c.loop-k-test.true
+    c.child_base-base.ensures c.child_owner-owner.ensures w.0.taken w.1.ensures) w.3.ensures w.3.kept.0) refl w.6 w.7)
+    (λ w. pushing_skip _ _ _ _ _ l.invariant (child_miss W c.args.l c.args.from.0 l.k c.loop-k-test.true c.child_base-base.ensures
+    c.child_owner-owner.ensures w.0.left) w.1 w.2)
+    c.if-owner-from.branch
+
+pub returns : goal.returns
+returns c =
+    let l = c.loop-k in
+    
+    pushing_done _ _ _ _ _ l.invariant (child_end c.args.words.now c.args.l c.args.from.0 l.k (omega (arith, c.loop-k-test.false)))
+
+pub child_owner-owner-requires : goal.child_owner-owner-requires
+child_owner-owner-requires c = tt
+
+pub child_child-m-requires : goal.child_child-m-requires
+child_child-m-requires c = tt

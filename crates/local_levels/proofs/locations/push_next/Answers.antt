@@ -1,0 +1,139 @@
+use mathlib.Core.Path.{refl, ap, ◌∙◌}
+use native.Mathlib.Omega.{arith}
+use mathlib.Core.Bool.{◌&&◌}
+use mathlib.Core.Logic.{⊎_elim}
+use lib.Dec.{eqb}
+use Rattle.snapshot.specs.Records.{scope_at}
+use Rattle.snapshot.specs.Layouts.{snap_of}
+use Rattle.hir_def.specs.Items.{crate_of, definition_of}
+use Rattle.tree_rules.specs.Visibility.{sees}
+use Rattle.hir_def.proofs.Lookups.{next_record, next_none}
+use Rattle.hir_def.proofs.Fits.{few_words, module_meets}
+use Rattle.scope_index.proofs.Chaining.{accepted_sized}
+use Rattle.local_levels.proofs.Stacks.{snap_at, reads_at, chains_at, pushing_start, pushing_skip, pushing_next, pushing_done}
+use Rattle.local_levels.proofs.Nexts.{leads_start, leads_hit, leads_miss, leads_follow, leads_end, leads_below}
+use Rattle.local_levels.proofs.locations.push_next.Goals as goal
+
+pub loop-j-init : goal.loop-j-init
+loop-j-init c =
+    (
+      pushing_skip _ _ _ _ _ (pushing_start c.args.area.now _ _ c.args.item _ c.requires.2)
+          (leads_start c.args.words.now c.args.area.now c.args.l c.args.from.0 c.args.m.0) refl refl,
+      omega arith,
+      λ h. absurd (omega arith),
+    )
+
+pub modules_from-e-requires : goal.modules_from-e-requires
+modules_from-e-requires c =
+    let l = c.loop-j in
+    
+    let W = c.args.words.now in
+    let A = c.args.area.now in (
+      accepted_sized W A c.args.l c.requires.0,
+      l.invariant.1,
+      l.invariant.2,
+      chains_at W A l.area c.args.l c.args.s.top
+          c.requires.0 c.requires.4 l.invariant.0.below c.requires.5,
+    )
+
+pub returns-in_default : goal.returns-in_default
+returns-in_default c =
+    
+    
+    let A = c.args.area.now in
+    pushing_done _ _ _ _ _ c.loop-j.invariant.0 (leads_end c.args.words.now A c.args.l c.args.from.0
+    c.args.m.0 (next_none (c.modules_from-e.ensures A) c.in_default.is))
+
+pub first_of-requires : goal.first_of-requires
+first_of-requires c =
+    
+    few_words c.args.words.now c.args.area.now c.args.l c.requires.0
+
+pub leads-requires : goal.leads-requires
+leads-requires c =
+    
+    
+    
+    let l = c.loop-j in
+    
+    let W = c.args.words.now in
+    let A = c.args.area.now in
+    let x = next_record (c.modules_from-e.ensures A) c.in-Record.is in
+    let t = c.first_of.ensures A ∙ ap (λ y. (definition_of (snap_of W A c.args.l) y).first) c.scope_definition.ensures in (
+      reads_at W A l.area c.args.l c.args.s.top c.requires.0 c.requires.2.tables l.invariant.0.below,
+      c.requires.1,
+      leads_below
+          W A c.args.l c.args.from.0 c.args.m.0 x c.requires.0 t,
+      (module_meets W A c.args.l c.requires.0 x).inside,
+    )
+
+pub push_module-run-requires : goal.push_module-run-requires
+push_module-run-requires c =
+    
+    
+    
+    let l = c.loop-j in
+    
+    let W = c.args.words.now in
+    let A = c.args.area.now in
+    let x = next_record (c.modules_from-e.ensures A) c.in-Record.is in
+    let t = c.first_of.ensures A ∙ ap (λ y. (definition_of (snap_of W A c.args.l) y).first) c.scope_definition.ensures in (
+      l.invariant.0.ready,
+      c.requires.3,
+      omega (
+        arith,
+        c.requires.0.tables.limited.modules,
+        leads_below W A c.args.l c.args.from.0
+            c.args.m.0 x c.requires.0 t,
+      ),
+    )
+
+pub overflow_add-k : goal.overflow_add-k
+overflow_add-k c =
+    
+    
+    let l = c.loop-j in
+    
+    let W = c.args.words.now in
+    let A = c.args.area.now in
+    let x = next_record (c.modules_from-e.ensures A) c.in-Record.is in
+    record { fits = omega (arith, x.below, few_words W A c.args.l c.requires.0) }
+
+pub loop-j-smaller : goal.loop-j-smaller
+loop-j-smaller c =
+    
+    
+    let l = c.loop-j in
+    
+    let W = c.args.words.now in
+    let A = c.args.area.now in
+    let x = next_record (c.modules_from-e.ensures A) c.in-Record.is in
+    omega (arith, x.below, x.from)
+
+pub loop-j-preserved : goal.loop-j-preserved
+loop-j-preserved c =
+    
+    
+    
+    
+    let l = c.loop-j in
+    
+    let W = c.args.words.now in
+    let A = c.args.area.now in
+    let x = next_record (c.modules_from-e.ensures A) c.in-Record.is in
+    let t = c.first_of.ensures A ∙ ap (λ y. (definition_of (snap_of W A c.args.l) y).first) c.scope_definition.ensures in
+    let q = c.leads.ensures ∙ ap (λ y. eqb (crate_of y c.first_of.result) (crate_of y c.args.from.0) && sees y
+    c.args.from.0 (scope_at W c.in-Record.h)) (snap_at W A l.area c.args.l c.args.s.top c.requires.0
+    c.requires.2.tables l.invariant.0.below) in
+    let k = leads_follow W A c.args.l c.args.from.0 c.args.m.0 x in (
+      ⊎_elim
+          (λ w. pushing_skip _ _ _ _ _ (pushing_next _ _ _ _ _ l.invariant.0 (leads_hit W A c.args.l c.args.from.0
+          c.args.m.0 x t q w.0.taken) w.2.ensures w.2.kept.0) refl w.5 w.6)
+          (λ w. pushing_skip _ _ _ _ _ l.invariant.0 (leads_miss W A c.args.l c.args.from.0 c.args.m.0 x t q w.0.left) w.1 w.2)
+          c.if-leads.branch,
+      omega (arith, x.below),
+      k,
+    )
+
+pub scope_definition-requires : goal.scope_definition-requires
+scope_definition-requires c = tt

@@ -1,9 +1,0 @@
-use borrow.Author.Rules.{rules}
-use Rattle.module_records.proofs.maps.in_range.Statement.{statement}
-use Rattle.module_records.proofs.maps.in_range.Tie as tie
-
-returns : tie.Need-returns
-returns c = rw c.map-no-std.ensures
-
-pub in-range-spec : {M : Type 1} → statement M
-in-range-spec = tie.close (tie.spec (λ c κs. search rules) returns)

@@ -1,0 +1,44 @@
+use mathlib.Core.Path.{refl}
+use native.Mathlib.Omega.{arith}
+use Rattle.module_records.proofs.ModuleRows.{module_no_lem, module_on}
+use lib.ListN.{length-set}
+use Prim.Native.Nat.{◌+◌}
+use Rattle.module_records.proofs.modules.step.Goals as goal
+
+pub returns-then-n-ne0 : goal.returns-then-n-ne0
+returns-then-n-ne0 c ms st =
+    
+    
+    module_no_lem c.args.words.now c.args.area.now c.args.at c.args.l ms st
+    c.judge-n.ensures
+    c.defined.ensures
+    c.placed.ensures
+    refl
+    c.if-n-ne0.true
+
+pub bounds-area-row-2 : goal.bounds-area-row-2
+bounds-area-row-2 c = simp length-set (omega arith)
+
+pub overflow_cast-area-2 : goal.overflow_cast-area-2
+overflow_cast-area-2 c =
+    
+    omega (
+      arith,
+      c.module_parent.ensures,
+      c.type_inv.words
+          (c.args.at + 1),
+    )
+
+pub bounds-area-row-3 : goal.bounds-area-row-3
+bounds-area-row-3 c = simp length-set (omega arith)
+
+pub returns : goal.returns
+returns c ms st =
+    
+    
+    module_on c.args.words.now c.args.area.now c.args.at c.args.l ms st
+    c.judge-n.ensures
+    c.defined.ensures
+    c.placed.ensures
+    refl
+    c.if-n-ne0.false c.requires.fits c.requires.room c.module_map.ensures refl c.module_parent.ensures

@@ -1,0 +1,13 @@
+use Prim.Native.Nat.{◌<◌}
+use mathlib.Core.Path.{◌≡◌}
+use Rattle.snapshot.specs.Layouts.{snap_of}
+use Rattle.tree_rules.specs.Modules.{containing}
+use Rattle.tree_rules.specs.Visibility.{met}
+use Rattle.module_tree.proofs.visibility.meets.Given as goal
+
+abbrev pub invariant-loop-v : goal.invariant-loop-v
+invariant-loop-v l = (met (containing (snap_of l.words l.area l.l)) l.initial.v.0 l.t ≡ met (containing (snap_of l.words l.area l.l)) l.v.0 l.t)
+    × (l.v.0 < l.l.modules)
+
+abbrev pub decreases-loop-v : goal.decreases-loop-v
+decreases-loop-v l = l.v.0

@@ -1,9 +1,0 @@
-use borrow.Author.Rules.{rules}
-use Rattle.new_numbers.proofs.read.new_name.Statement.{statement}
-use Rattle.new_numbers.proofs.read.new_name.Tie as tie
-
-returns-2 : tie.Need-returns-2
-returns-2 c = λ s t k h g. c.moved-name.ensures s t k h
-
-pub new-name-spec : {M : Type 1} → statement M
-new-name-spec = tie.close (tie.spec (λ c. search rules) (λ c κs. search rules) returns-2)

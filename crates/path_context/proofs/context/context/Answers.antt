@@ -1,0 +1,30 @@
+use Rattle.snapshot.specs.Layouts.{snap_of}
+use Rattle.hir_def.proofs.Fits.{few_words}
+use Rattle.path_context.proofs.ContextLaws.{context_same}
+use Rattle.path_context.proofs.context.context.Goals as goal
+
+pub is_lang-std-requires : goal.is_lang-std-requires
+is_lang-std-requires c =
+    
+    few_words c.args.words.now c.args.area.now c.args.l c.requires.0
+
+pub crate_root-root-requires : goal.crate_root-root-requires
+crate_root-root-requires c = 
+    (c.pre.0, c.pre.1)
+
+pub returns : goal.returns
+returns c =
+    
+    let n = snap_of c.args.words.now c.args.area.now c.args.l in
+    let A = c.args.area.now in
+    context_same n c.args.q c.args.home.0 c.pre.3
+    c.in_block.ensures
+    c.plain_if-prefix.ensures
+    c.krate-here.ensures
+    c.no_std-map.ensures
+    (c.supports_no_std-its.ensures A)
+    c.bit.ensures
+    c.bit-prelude.ensures
+    c.bit-absolute.ensures c.bit-unstable.ensures
+    c.bit-declared.ensures c.bit-fresh.ensures
+    c.krate.ensures (c.is_lang-std.ensures A) c.crate_root-root.ensures

@@ -1,0 +1,41 @@
+use mathlib.Core.Path.{sym, ap, ◌∙◌}
+use Rattle.snapshot.specs.Records.{prelude_at, scope_at}
+use Rattle.snapshot.specs.Layouts.{snap_of}
+use Rattle.hir_def.specs.Entries.{entry_of}
+use Rattle.hir_def.proofs.Fits.{preferred_fits}
+use Rattle.rule_lookups.specs.Tests.{test_of}
+use Rattle.path_rules.proofs.RuleLaws.{prelude_none, prelude_some}
+use Rattle.path_rules.proofs.rules.find_in_prelude.Goals as goal
+
+pub returns-in_default : goal.returns-in_default
+returns-in_default c =
+    
+    let n = snap_of c.args.words.now c.args.area.now c.args.l in
+    let e = sym (ap (entry_of prelude_at c.args.words.now) c.in_default.is) ∙ c.prelude_of-p.ensures
+    c.args.area.now in
+    (prelude_none n c.args.x c.args.item c.map.ensures e, tt)
+
+pub prelude_entry-requires : goal.prelude_entry-requires
+prelude_entry-requires c =
+    
+    let W = c.args.words.now in
+    let A = c.args.area.now in (
+      c.requires.0,
+      c.requires.1,
+      λ h e. preferred_fits W A c.args.l c.requires.0 c.args.x.fresh c.prelude_target.result.0 h
+          c.args.item _ (sym (ap (entry_of scope_at W) e) ∙ c.entry_by-e.ensures.0),
+    )
+
+pub returns : goal.returns
+unfolding test_of
+returns c =
+    
+    let n = snap_of c.args.words.now c.args.area.now c.args.l in
+    let W = c.args.words.now in
+    let A = c.args.area.now in
+    
+    let e = sym (ap (entry_of prelude_at W) c.in-At.is) ∙ c.prelude_of-p.ensures A in
+    let k = prelude_some n c.args.x c.args.item (prelude_at W c.in-At.h)
+    c.map.ensures e c.prelude_target.ensures
+    c.entry_by-e.ensures.0 in
+    (c.prelude_entry.ensures.0 ∙ k, c.prelude_entry.ensures.1)

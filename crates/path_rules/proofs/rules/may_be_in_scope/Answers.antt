@@ -1,0 +1,7 @@
+use mathlib.Core.Path.{refl}
+use Rattle.find_path.specs.Rules.{may_be_in_scope}
+use Rattle.path_rules.proofs.rules.may_be_in_scope.Goals as goal
+
+pub returns : goal.returns
+unfolding may_be_in_scope
+returns c = λ s. refl

@@ -1,0 +1,12 @@
+use mathlib.Core.Path.{ap}
+use mathlib.Core.List.{◌++◌}
+use Rattle.printing.proofs.Laws.{put_as}
+use Rattle.find_path.specs.Line.{bytes_of}
+use Rattle.reach_parts.specs.Reach.{reach_line}
+use Rattle.reach.proofs.lines.reach_line_on.Goals as goal
+
+pub returns : goal.returns
+returns c =
+    
+    let r = c.reach_on-r.ensures in
+    record { line = put_as (ap (λ x. reach_line x ++ bytes_of "\n") r.reach) c.put_reach.ensures; checked = r.checked }

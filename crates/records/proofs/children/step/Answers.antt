@@ -1,0 +1,66 @@
+use Prim.Native.Nat.{◌+◌}
+use mathlib.Core.Path.{ap}
+use mathlib.Core.Bool.{not}
+use native.Mathlib.Omega.{arith}
+use lib.Dec.{eqb}
+use Rattle.records.proofs.Steps.{child_no, child_on}
+use Rattle.records.proofs.Linked.{child_small, child_linked}
+use Rattle.records.proofs.children.step.Goals as goal
+
+pub overflow_add-mark : goal.overflow_add-mark
+overflow_add-mark c = (omega (
+  arith,
+  c.child_child-child.ensures,
+  c.type_inv.words (c.args.at + 1),
+))
+
+pub returns-then-n-ne0 : goal.returns-then-n-ne0
+returns-then-n-ne0 c ms st =
+    
+    
+    child_no c.args.words.now c.args.area.now c.args.at c.args.l ms st
+    c.judge-n.ensures
+    c.defined.ensures
+    c.child_child-child.ensures
+    (ap (λ x. not (eqb x 0)) c.word-old.ensures)
+    c.placed.ensures
+    c.if-n-ne0.true
+
+pub offset_bounds-area-mark : goal.offset_bounds-area-mark
+offset_bounds-area-mark c =
+    
+    
+    let h = child_small c.args.words.now c.args.at c.args.l _ _ _ c.judge-n.ensures c.if-n-ne0.false
+    c.defined.ensures in
+    let e = c.child_child-child.ensures in
+    let f = c.requires.limited.modules in
+    let g = c.requires.room in
+    omega arith
+
+pub bounds-area-mark : goal.bounds-area-mark
+bounds-area-mark c =
+    
+    
+    let h = child_small c.args.words.now c.args.at c.args.l _ _ _ c.judge-n.ensures c.if-n-ne0.false
+    c.defined.ensures in
+    let e = c.child_child-child.ensures in
+    let f = c.requires.limited.modules in
+    let g = c.requires.room in
+    omega arith
+
+pub returns : goal.returns
+returns c ms st =
+    
+    
+    let h = child_small c.args.words.now c.args.at c.args.l _ _ _ c.judge-n.ensures c.if-n-ne0.false
+    c.defined.ensures in
+    let e = c.child_child-child.ensures in
+    let f = c.requires.limited.modules in
+    child_on c.args.words.now c.args.area.now c.args.at c.args.l ms st
+    c.judge-n.ensures
+    c.defined.ensures
+    c.child_child-child.ensures
+    (ap (λ x. not (eqb x 0)) c.word-old.ensures)
+    c.placed.ensures
+    _ c.if-n-ne0.false c.requires.fits
+    (child_linked c.args.words.now c.args.area.now c.args.at c.args.l ms c.requires.room st e (omega arith))

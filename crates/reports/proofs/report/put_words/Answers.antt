@@ -1,0 +1,55 @@
+use Prim.Native.Nat.{◌+◌, ◌<◌}
+use mathlib.Core.Path.{refl, ◌∙◌}
+use native.Mathlib.Omega.{arith}
+use lib.ListN.{length, length-set}
+use Rattle.reports.proofs.Laws.{words_start, words_next, words_done}
+use Rattle.reports.specs.Written.{low}
+use Rattle.reports.proofs.report.put_words.Goals as goal
+
+pub loop-i-init : goal.loop-i-init
+loop-i-init c = (
+  omega arith,
+  refl,
+  words_start c.args.out.now c.args.numbers.now
+      c.args.at,
+)
+
+pub loop-i-preserved : goal.loop-i-preserved
+loop-i-preserved c =
+    let a = c.args in
+    let l = c.loop-i in
+    let h : a.at + l.i < length a.out.now = omega arith in (
+      omega arith,
+      (simp length-set) ∙ l.invariant.1,
+      words_next a.out.now l.out a.numbers.now a.at l.i _ l.invariant.2 h c.loop-i-test.true c.low.ensures,
+    )
+
+pub returns : goal.returns
+returns c =
+    let a = c.args in
+    let l = c.loop-i in
+    words_done a.out.now l.out a.numbers.now a.at l.i l.invariant.2 l.invariant.0 c.loop-i-test.false
+
+pub offset_bounds-numbers-i : goal.offset_bounds-numbers-i
+offset_bounds-numbers-i c = omega arith
+
+pub bounds-numbers-i : goal.bounds-numbers-i
+bounds-numbers-i c = omega arith
+
+pub low-requires : goal.low-requires
+low-requires c = tt
+
+pub overflow_add-out : goal.overflow_add-out
+overflow_add-out c = omega arith
+
+pub offset_bounds-out-at : goal.offset_bounds-out-at
+offset_bounds-out-at c = omega arith
+
+pub bounds-out-at : goal.bounds-out-at
+bounds-out-at c = omega arith
+
+pub overflow_add-i : goal.overflow_add-i
+overflow_add-i c = omega arith
+
+pub loop-i-smaller : goal.loop-i-smaller
+loop-i-smaller c = omega arith

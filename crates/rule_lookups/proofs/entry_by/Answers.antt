@@ -1,0 +1,30 @@
+use mathlib.Core.Path.{sym, ap, ◌∙◌}
+use Rattle.snapshot.specs.Layouts.{snap_of}
+use Rattle.hir_def.specs.ItemScope.{name_of, name_reads, preferred, preferred_reads}
+use Rattle.rule_lookups.specs.Tests.{test_of}
+use Rattle.rule_lookups.proofs.entry_by.Goals as goal
+
+pub returns-then-x : goal.returns-then-x
+returns-then-x c =
+    
+    let n = snap_of c.args.words.now c.args.area.now c.args.l in
+    let m = c.args.m.0 in
+    let i = c.args.item in (
+      c.fresh_of.ensures.0 ∙ sym (ap (λ t. preferred t n m i (test_of n c.args.x c.args.item c.args.rule) (name_of n m i))
+          c.if-x.true),
+      c.fresh_of.ensures.1 _
+          ∙ sym (ap (λ t. preferred_reads t n m i (test_of n c.args.x c.args.item c.args.rule) (name_reads n m i)) c.if-x.true),
+    )
+
+pub returns : goal.returns
+unfolding preferred preferred_reads
+returns c =
+    
+    let n = snap_of c.args.words.now c.args.area.now c.args.l in
+    let m = c.args.m.0 in
+    let i = c.args.item in (
+      c.name_of.ensures.0 c.args.area.now
+          ∙ sym (ap (λ t. preferred t n m i (test_of n c.args.x c.args.item c.args.rule) (name_of n m i)) c.if-x.false),
+      c.name_of.ensures.1 c.args.area.now
+          ∙ sym (ap (λ t. preferred_reads t n m i (test_of n c.args.x c.args.item c.args.rule) (name_reads n m i)) c.if-x.false),
+    )

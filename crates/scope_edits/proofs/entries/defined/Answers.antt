@@ -1,0 +1,12 @@
+use Rattle.scope_edits.proofs.entries.defined.Goals as goal
+
+pub returns : goal.returns
+returns c =
+    
+    rw (
+      c.word-number.ensures,
+      c.word-visibility.ensures,
+      c.word-definition.ensures,
+      c.word-name.ensures,
+      c.word-owner.ensures,
+    )

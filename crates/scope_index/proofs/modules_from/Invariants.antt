@@ -1,0 +1,18 @@
+use Prim.Native.Nat.{ℕ, ◌-◌, ◌<◌}
+use mathlib.Core.Path.{◌≡◌}
+use mathlib.Core.List.{List}
+use Rattle.snapshot.specs.Sizes.{scope_size}
+use Rattle.snapshot.specs.Layouts.{scope_base, snap_of}
+use Rattle.snapshot.specs.Records.{scope_at}
+use Rattle.hir_def.specs.ItemScope.{is_module_entry}
+use Rattle.hir_def.proofs.Lookups.{Came}
+use Rattle.scope_index.specs.Index.{owner_at}
+use Rattle.scope_index.proofs.modules_from.Given as goal
+
+abbrev pub invariant-loop-j : goal.invariant-loop-j
+invariant-loop-j l =
+    ((A : List ℕ) → Came (is_module_entry (snap_of l.words A l.l) l.m.0) scope_at scope_size l.words (scope_base l.l) l.l.scopes l.k l.j)
+    × (l.j < l.l.scopes → owner_at l.words l.l l.j ≡ l.m.0)
+
+abbrev pub decreases-loop-j : goal.decreases-loop-j
+decreases-loop-j l = l.l.scopes - l.j

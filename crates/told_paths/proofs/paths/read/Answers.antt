@@ -1,0 +1,86 @@
+use mathlib.Core.Path.{refl}
+use native.Mathlib.Omega.{arith}
+use Rattle.told_paths.proofs.Unwound.{link_less, unwound_start, unwound_more, unwound_next, unwound_keyword, unwound_absolute}
+use Rattle.told_paths.proofs.Unwound.{unwound_plain}
+use Rattle.told_paths.proofs.paths.read.Goals as goal
+
+pub loop-k-init : goal.loop-k-init
+loop-k-init c = unwound_start c.args.area.now c.args.n c.requires.2 c.args.link c.args.name
+    c.args.count c.requires.1 c.requires.3 c.requires.4
+
+pub overflow_sub-j : goal.overflow_sub-j
+overflow_sub-j c =
+    
+    omega (arith, unwound_more c.args.area.now c.args.n c.requires.2 c.loop-k.invariant c.loop-k-test.true)
+
+pub offset_bounds-names-j : goal.offset_bounds-names-j
+offset_bounds-names-j c = record { fits = omega (arith, c.loop-k.invariant.few) }
+
+pub bounds-names-j : goal.bounds-names-j
+bounds-names-j c = omega (arith, c.loop-k.invariant.few)
+
+pub overflow_sub-at : goal.overflow_sub-at
+overflow_sub-at c = omega (arith, c.loop-k-test.true)
+
+pub overflow_mul-at : goal.overflow_mul-at
+overflow_mul-at c =
+    
+    
+    record { fits = omega (arith, c.loop-k.invariant.low, c.requires.0, c.loop-k-test.true) }
+
+pub overflow_add-at : goal.overflow_add-at
+overflow_add-at c =
+    
+    
+    record { fits = omega (arith, c.loop-k.invariant.low, c.requires.0, c.loop-k-test.true) }
+
+pub overflow_add-at-in-loop-k : goal.overflow_add-at-in-loop-k
+overflow_add-at-in-loop-k c =
+    
+    
+    record { fits = omega (arith, c.loop-k.invariant.low, c.requires.0, c.loop-k-test.true) }
+
+pub overflow_add-at-in-loop-k-2 : goal.overflow_add-at-in-loop-k-2
+overflow_add-at-in-loop-k-2 c =
+    
+    
+    record { fits = omega (arith, c.loop-k.invariant.low, c.requires.0, c.loop-k-test.true) }
+
+pub loop-k-smaller : goal.loop-k-smaller
+loop-k-smaller c =
+    
+    
+    omega (
+      arith,
+      c.word-k.ensures,
+      link_less c.args.area.now c.args.n c.requires.2 c.loop-k-test.true
+          c.loop-k.invariant.low,
+    )
+
+pub loop-k-preserved : goal.loop-k-preserved
+loop-k-preserved c =
+    
+    
+    unwound_next c.args.area.now c.args.n c.requires.2 c.loop-k.invariant c.loop-k-test.true refl refl
+    c.word-k.ensures c.word-x.ensures
+
+pub returns-then-k-eq0 : goal.returns-then-k-eq0
+returns-then-k-eq0 c = record { value = unwound_keyword c.args.area.now c.args.n c.requires.2 c.loop-k.invariant c.requires.3 c.requires.4 c.if-k-eq0.true
+          c.keyword_kind.ensures c.keyword_supers.ensures; count_le_names_limit = c.requires.3 }
+
+pub returns-then-k-eq1 : goal.returns-then-k-eq1
+returns-then-k-eq1 c = record { value = unwound_absolute c.args.area.now c.args.n c.requires.2 c.loop-k.invariant c.requires.3 c.requires.4 c.if-k-eq1.true
+          refl refl; count_le_names_limit = c.requires.3 }
+
+pub returns : goal.returns
+returns c = record { value = unwound_plain c.args.area.now c.args.n c.requires.2 c.loop-k.invariant c.requires.3 c.requires.4 c.if-k-eq0.false
+          c.if-k-eq1.false (omega (arith, c.loop-k-test.false)) refl refl; count_le_names_limit = c.requires.3 }
+
+pub word-k-requires : goal.word-k-requires
+word-k-requires c = tt
+
+pub word-x-requires : goal.word-x-requires
+word-x-requires c = tt
+
+pub bounds-names-0 : goal.bounds-names-0
+bounds-names-0 c = omega arith

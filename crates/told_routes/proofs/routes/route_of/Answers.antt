@@ -1,0 +1,27 @@
+use mathlib.Core.Path.{ap, ◌∙◌}
+use native.Mathlib.Omega.{arith}
+use Rattle.snapshot.specs.Layouts.{snap_of}
+use Rattle.nameable.specs.Paths.{Path, route_of}
+use Rattle.told_paths.specs.Tells.{padded}
+use Rattle.told_paths.specs.declared.ToldPath.{ToldPath}
+use Rattle.told_paths.proofs.Laws.{tell_count}
+use Rattle.told_routes.proofs.Walks.{told_by_lem}
+use Rattle.told_routes.proofs.routes.route_of.Goals as goal
+
+pub returns-then-t-gt-LIMIT : goal.returns-then-t-gt-LIMIT
+returns-then-t-gt-LIMIT c =
+    λ p e h.
+    let n = ap (λ (u : ToldPath). u.count) e ∙ tell_count p in
+    absurd (omega (arith, c.if-t-gt-LIMIT.true, n, h))
+
+pub route_by-requires : goal.route_by-requires
+route_by-requires c =
+    (c.requires.0, c.requires.1, omega (arith, c.if-t-gt-LIMIT.false))
+
+pub returns : goal.returns
+returns c =
+    
+    let S = snap_of c.args.words.now c.args.area.now c.args.l in
+    λ p e h.
+    c.route_by.ensures
+    ∙ ap (λ (q : Path). padded (route_of S c.args.from.0 c.args.ns q)) (told_by_lem p e h)

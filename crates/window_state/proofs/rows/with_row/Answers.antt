@@ -1,0 +1,9 @@
+use native.Mathlib.Omega.{arith}
+use Rattle.window_state.specs.Words.{empty_row}
+use Rattle.window_state.proofs.StateWords.{rows_eight, words_put}
+use Rattle.window_state.proofs.rows.with_row.Goals as goal
+
+pub returns : goal.returns
+returns c =
+    let l = rows_eight c.args.t1 _ c.well_formed.0 in
+    words_put c.args.t1 c.args.window empty_row (omega (arith, l)) c.args.row
