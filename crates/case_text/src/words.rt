@@ -7,6 +7,7 @@ ghost use Rattle.case_text.specs.Words.{digit_of, next_word, read_to, stored, ra
 use std::num::wrapping_add_u32;
 
 // The value of a hexadecimal digit, 16 for another byte, 17 for a star.
+#[tactic(auto, unfolding(crate::specs::Words::digit_of))]
 fn digit(b: u8) -> u64
     ensures { result ≡ digit_of b }
 {
@@ -45,6 +46,7 @@ fn store(words: &mut [u32], n: usize, w: u64, d: u64) -> usize
     n
 }
 
+#[tactic(auto, unfolding(crate::specs::Words::raised_by))]
 fn raised(w: u32, heads: u32, arguments: u32) -> u32
     ensures { result ≡ raised_by w heads arguments }
 {

@@ -8,7 +8,7 @@ use borrow.Author.Tests.{eq-eqb, ne_eqb, lt-ltb, le-ltb, le-leb, lt-leb}
 use lib.Dec.{eqb}
 use lib.ListN.{length, get_or, take, length-take}
 use lib.Seq.{length-take-le}
-use Rattle.io.specs.Counts.{IsPrefixLen}
+use Rattle.std.specs.Counts.{IsPrefixLen}
 use Rattle.snapshot.specs.Limits.{word_limit, area_limit, input_limit}
 use Rattle.snapshot.specs.Refusals.{form_refusal, bytes_refusal, rest_refusal}
 use Rattle.snapshot.specs.Layouts.{snap_of}

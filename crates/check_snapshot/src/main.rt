@@ -32,17 +32,17 @@ fn text() -> [u8; TextBytes::LIMIT]
     [0; TextBytes::LIMIT]
 }
 
-fn main() {
+fn main(rt: HostRuntime) {
     let mut bytes = input();
     let mut snapshot = words();
     let mut area = words();
     let mut out = text();
-    let read = read_input(&mut bytes);
+    let read = read_input(&rt, &mut bytes);
     if read.failed {
-        say_unread();
+        say_unread(&rt);
         return;
     }
     let n = read.count;
     let m = report::report(&bytes[..n], &mut snapshot, &mut area, &mut out);
-    write_output(&out[..m]);
+    write_output(&rt, &out[..m]);
 }

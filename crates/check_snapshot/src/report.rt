@@ -2,7 +2,7 @@
 ghost use Rattle.std.specs.Prelude.{◌≡◌, ◌≤◌, length, take, drop};
 ghost use Rattle.snapshot.specs.Limits.{word_limit, area_limit};
 ghost use Rattle.wording.specs.Text.{text_limit};
-ghost use Rattle.io.specs.Counts.{IsPrefixLen};
+ghost use Rattle.std.specs.Counts.{IsPrefixLen};
 ghost use Rattle.printing.specs.Output.{Put};
 ghost use Rattle.check_snapshot.specs.Verdict.{verdict_of};
 ghost use Rattle.check_snapshot.specs.Text.{asks, asks_at, refused_text, text_of};

@@ -8,12 +8,19 @@ use crate::query::answer;
 use accept::check::{Checked, check};
 use case_text::text::next_stop;
 use case_text::words::read_words;
-use libc::STDOUT_FILENO;
 use snapshot::layout::Layout;
 use snapshot::words::word;
+use std::io;
 
 // The query that begins at a place.
-fn run_query(words: &[u32], area: &[u32], l: Layout, queries: &[u32], k: usize)
+fn run_query(
+    rt: &impl Print,
+    words: &[u32],
+    area: &[u32],
+    l: Layout,
+    queries: &[u32],
+    k: usize,
+) -> io::Result<()>
     requires { Reads words.now area.now l × (k + 5 ≤ length queries.now) }
 {
     let code = word(queries, k);
@@ -21,61 +28,86 @@ fn run_query(words: &[u32], area: &[u32], l: Layout, queries: &[u32], k: usize)
     let b = word(queries, k + 2);
     let c = word(queries, k + 3);
     let d = word(queries, k + 4);
-    print_query(code, a, b, c, d);
-    print_reply(answer(words, area, l, code, a, b, c, d));
+    print_query(rt, code, a, b, c, d)?;
+    print_reply(rt, answer(words, area, l, code, a, b, c, d))
 }
 
-fn run_queries(words: &[u32], area: &[u32], l: Layout, queries: &[u32])
+fn run_queries(
+    rt: &impl Print,
+    words: &[u32],
+    area: &[u32],
+    l: Layout,
+    queries: &[u32],
+) -> io::Result<()>
     requires { Reads words.now area.now l }
 {
     let mut k = 0;
     while 5 <= queries.len() - k {
-        run_query(words, area, l, queries, k);
+        run_query(rt, words, area, l, queries, k)?;
         k += 5;
     }
+    Ok(())
 }
 
-fn judge(words: &[u32], queries: &[u32], area: &mut [u32]) {
+fn judge(rt: &impl Print, words: &[u32], queries: &[u32], area: &mut [u32]) -> io::Result<()> {
     let c = check(words, area);
     match c {
-        Checked::Refused(n, place) => {
-            print_refusal(n, place);
-        }
-        Checked::Accepted(l) => {
-            run_queries(words, area, l, queries);
-        }
+        Checked::Refused(n, place) => print_refusal(rt, n, place),
+        Checked::Accepted(l) => run_queries(rt, words, area, l, queries),
     }
 }
 
-fn run_parts(words: &[u32], n: usize, queries: &[u32], k: usize, area: &mut [u32]) {
+fn run_parts(
+    rt: &impl Print,
+    words: &[u32],
+    n: usize,
+    queries: &[u32],
+    k: usize,
+    area: &mut [u32],
+) -> io::Result<()> {
     if n <= words.len() {
         if k <= queries.len() {
-            judge(&words[..n], &queries[..k], area);
+            return judge(rt, &words[..n], &queries[..k], area);
         }
     }
+    Ok(())
 }
 
-fn run_case(text: &[u8], words: &mut [u32], queries: &mut [u32], area: &mut [u32]) {
+fn run_case(
+    rt: &impl Print,
+    text: &[u8],
+    words: &mut [u32],
+    queries: &mut [u32],
+    area: &mut [u32],
+) -> io::Result<()> {
     let a = next_stop(text, 0, b'=');
     let b = next_stop(text, a, b'?');
     if b < text.len() {
-        io::write_all(STDOUT_FILENO, &text[..a]);
-        io::write_all(STDOUT_FILENO, b"\n");
+        rt.write_all(&text[..a])?;
+        println!(rt)?;
         let n = read_words(&text[a..b], words);
         let k = read_words(&text[b..], queries);
-        run_parts(words, n, queries, k, area);
+        return run_parts(rt, words, n, queries, k, area);
     }
+    Ok(())
 }
 
 /// Checks and asks each case of the list.
-pub fn run(text: &[u8], words: &mut [u32], queries: &mut [u32], area: &mut [u32]) {
+pub fn run(
+    rt: &impl Print,
+    text: &[u8],
+    words: &mut [u32],
+    queries: &mut [u32],
+    area: &mut [u32],
+) -> io::Result<()> {
     let mut at = 0;
     while at < text.len() {
         let e = next_stop(text, at, b'.');
         if e == text.len() {
-            return;
+            return Ok(());
         }
-        run_case(&text[at..e], words, queries, area);
+        run_case(rt, &text[at..e], words, queries, area)?;
         at = e + 1;
     }
+    Ok(())
 }

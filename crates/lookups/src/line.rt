@@ -1,62 +1,60 @@
 //! A line of the output.
 use crate::query::Reply;
-use libc::STDOUT_FILENO;
+use std::io;
 
-fn print_label(code: usize) {
+fn print_label(rt: &impl Print, code: usize) -> io::Result<()> {
     match code {
-        1 => io::write_all(STDOUT_FILENO, b"visible"),
-        2 => io::write_all(STDOUT_FILENO, b"name"),
-        3 => io::write_all(STDOUT_FILENO, b"scope"),
-        4 => io::write_all(STDOUT_FILENO, b"named"),
-        5 => io::write_all(STDOUT_FILENO, b"occupied"),
-        6 => io::write_all(STDOUT_FILENO, b"root"),
-        7 => io::write_all(STDOUT_FILENO, b"containing"),
-        8 => io::write_all(STDOUT_FILENO, b"extern"),
-        9 => io::write_all(STDOUT_FILENO, b"home"),
-        10 => io::write_all(STDOUT_FILENO, b"reads"),
-        _ => io::write_all(STDOUT_FILENO, b"unknown"),
-    };
+        1 => rt.print("visible"),
+        2 => rt.print("name"),
+        3 => rt.print("scope"),
+        4 => rt.print("named"),
+        5 => rt.print("occupied"),
+        6 => rt.print("root"),
+        7 => rt.print("containing"),
+        8 => rt.print("extern"),
+        9 => rt.print("home"),
+        10 => rt.print("reads"),
+        _ => rt.print("unknown"),
+    }
 }
 
-fn print_number(label: &[u8], n: usize) {
-    io::write_all(STDOUT_FILENO, label);
-    io::print_decimal(STDOUT_FILENO, n as u64);
+fn print_number(rt: &impl Print, label: &str, n: usize) -> io::Result<()> {
+    print!(rt; "{label}{n}")
 }
 
 /// The query.
-pub fn print_query(code: usize, a: usize, b: usize, c: usize, d: usize) {
-    print_label(code);
-    print_number(b" ", a);
-    print_number(b" ", b);
-    print_number(b" ", c);
-    print_number(b" ", d);
+pub fn print_query(
+    rt: &impl Print,
+    code: usize,
+    a: usize,
+    b: usize,
+    c: usize,
+    d: usize,
+) -> io::Result<()> {
+    print_label(rt, code)?;
+    print_number(rt, " ", a)?;
+    print_number(rt, " ", b)?;
+    print_number(rt, " ", c)?;
+    print_number(rt, " ", d)
 }
 
 /// Its answer.
-pub fn print_reply(r: Reply) {
+pub fn print_reply(rt: &impl Print, r: Reply) -> io::Result<()> {
     match r {
-        Reply::Yes => {
-            io::write_all(STDOUT_FILENO, b": yes\n");
-        }
-        Reply::No => {
-            io::write_all(STDOUT_FILENO, b": no\n");
-        }
+        Reply::Yes => println!(rt; ": yes"),
+        Reply::No => println!(rt; ": no"),
         Reply::Number(n) => {
-            print_number(b": ", n);
-            io::write_all(STDOUT_FILENO, b"\n");
+            print_number(rt, ": ", n)?;
+            println!(rt)
         }
-        Reply::Nothing => {
-            io::write_all(STDOUT_FILENO, b": -\n");
-        }
-        Reply::OutOfRange => {
-            io::write_all(STDOUT_FILENO, b": out of range\n");
-        }
+        Reply::Nothing => println!(rt; ": -"),
+        Reply::OutOfRange => println!(rt; ": out of range"),
     }
 }
 
 /// Why the words of a case are refused.
-pub fn print_refusal(n: u32, place: usize) {
-    print_number(b"refused ", n as usize);
-    print_number(b" at ", place);
-    io::write_all(STDOUT_FILENO, b"\n");
+pub fn print_refusal(rt: &impl Print, n: u32, place: usize) -> io::Result<()> {
+    print_number(rt, "refused ", n as usize)?;
+    print_number(rt, " at ", place)?;
+    println!(rt)
 }

@@ -4,6 +4,8 @@
 ghost use Rattle.std.specs.Prelude.{◌≡◌, length};
 
 use snapshot::ids::WordCount;
+use std::io;
+use streams::{read_input, say_unread};
 
 mod cases;
 mod line;
@@ -21,11 +23,16 @@ fn space() -> [u32; WordCount::SNAPSHOT]
     [0; WordCount::SNAPSHOT]
 }
 
-fn main() {
+fn main(rt: HostRuntime) -> io::Result<()> {
     let mut text = list();
     let mut words = space();
     let mut queries = space();
     let mut area = space();
-    let n = io::read_full(libc::STDIN_FILENO, &mut text);
-    cases::run(&text[..n], &mut words, &mut queries, &mut area);
+    let read = read_input(&rt, &mut text);
+    if read.failed {
+        say_unread(&rt);
+        return Ok(());
+    }
+    let n = read.count;
+    cases::run(&rt, &text[..n], &mut words, &mut queries, &mut area)
 }

@@ -30,16 +30,16 @@ fn text() -> [u8; RoutedBytes::LIMIT]
     [0; RoutedBytes::LIMIT]
 }
 
-fn main() {
+fn main(rt: HostRuntime) {
     let mut bytes = input();
     let mut space = words();
     let mut area = words();
     let mut out = text();
-    let read = read_input(&mut bytes);
+    let read = read_input(&rt, &mut bytes);
     if read.failed {
-        say_unread();
+        say_unread(&rt);
         return;
     }
     let n = read.count;
-    print::print(&bytes[..n], &mut space, &mut area, &mut out);
+    print::print(&rt, &bytes[..n], &mut space, &mut area, &mut out);
 }

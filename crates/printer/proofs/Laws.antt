@@ -9,7 +9,7 @@ use borrow.Author.Tests.{eq-eqb, ne_eqb, eqb-true, lt-ltb, le-ltb, lt-leb, ltb-t
 use lib.Dec.{eqb, leb, ltb}
 use lib.ListN.{length, get_or, take, length-take}
 use lib.Seq.{length-take-le}
-use Rattle.io.specs.Counts.{IsPrefixLen}
+use Rattle.std.specs.Counts.{IsPrefixLen}
 use Rattle.snapshot.specs.Limits.{area_limit, input_limit}
 use Rattle.snapshot.specs.Refusals.{bytes_refusal, rest_refusal, question_refusal}
 use Rattle.snapshot.specs.Sizes.{question_size, reach_size}

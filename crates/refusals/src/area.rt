@@ -3,6 +3,7 @@ ghost use Rattle.std.specs.Prelude.{◌≤◌};
 
 use crate::line::print_changed;
 use accept::check::check;
+use std::io;
 
 fn fill(area: &mut [u32], w: u32) {
     let mut i = 0;
@@ -33,26 +34,34 @@ fn changed(area: &[u32], from: usize, w: u32) -> usize {
 }
 
 // An area of so many words, of which none may change from a place on.
-fn area_of(name: &[u8], size: usize, from: usize, words: &[u32], area: &mut [u32]) {
+fn area_of(
+    rt: &impl Print,
+    name: &[u8],
+    size: usize,
+    from: usize,
+    words: &[u32],
+    area: &mut [u32],
+) -> io::Result<()> {
     fill(area, 7);
     if size <= area.len() {
         let c = check(words, &mut area[..size]);
-        print_changed(name, c, changed(area, from, 7));
+        return print_changed(rt, name, c, changed(area, from, 7));
     }
+    Ok(())
 }
 
-fn run_small(words: &[u32], area: &mut [u32]) {
-    area_of(b"area-0", 0, 0, words, area);
-    area_of(b"area-16383", 16383, 0, words, area);
+fn run_small(rt: &impl Print, words: &[u32], area: &mut [u32]) -> io::Result<()> {
+    area_of(rt, b"area-0", 0, 0, words, area)?;
+    area_of(rt, b"area-16383", 16383, 0, words, area)
 }
 
-fn run_large(words: &[u32], area: &mut [u32]) {
-    area_of(b"area-16384", 16384, 16384, words, area);
-    area_of(b"area-16400", 16400, 16384, words, area);
+fn run_large(rt: &impl Print, words: &[u32], area: &mut [u32]) -> io::Result<()> {
+    area_of(rt, b"area-16384", 16384, 16384, words, area)?;
+    area_of(rt, b"area-16400", 16400, 16384, words, area)
 }
 
 /// Areas that are too small, then large enough, with good words and with bad ones.
-pub fn run(area: &mut [u32]) {
+pub fn run(rt: &impl Print, area: &mut [u32]) -> io::Result<()> {
     let words = [
         0x10000001u32,
         0x61,
@@ -64,8 +73,8 @@ pub fn run(area: &mut [u32]) {
         0x50000000,
         0,
     ];
-    run_small(&words, area);
-    run_large(&words, area);
-    area_of(b"area-16383-bad-words", 16383, 0, &words[..5], area);
-    area_of(b"area-16400-bad-words", 16400, 16384, &words[..5], area);
+    run_small(rt, &words, area)?;
+    run_large(rt, &words, area)?;
+    area_of(rt, b"area-16383-bad-words", 16383, 0, &words[..5], area)?;
+    area_of(rt, b"area-16400-bad-words", 16400, 16384, &words[..5], area)
 }

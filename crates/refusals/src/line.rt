@@ -1,42 +1,44 @@
 //! A line of the output.
 use accept::check::{Checked, check};
-use libc::STDOUT_FILENO;
+use std::io;
 
-fn print_number(label: &[u8], n: u64) {
-    io::write_all(STDOUT_FILENO, label);
-    io::print_decimal(STDOUT_FILENO, n);
+fn print_number(rt: &impl Print, label: &str, n: u64) -> io::Result<()> {
+    print!(rt; "{label}{n}")
 }
 
-fn print_refusal(n: u32, place: usize) {
-    print_number(b" refused ", n as u64);
-    print_number(b" at ", place as u64);
+fn print_refusal(rt: &impl Print, n: u32, place: usize) -> io::Result<()> {
+    print_number(rt, " refused ", n as u64)?;
+    print_number(rt, " at ", place as u64)
 }
 
 // The outcome of a case.
-pub fn print_outcome(name: &[u8], c: Checked) {
-    io::write_all(STDOUT_FILENO, name);
+pub fn print_outcome(rt: &impl Print, name: &[u8], c: Checked) -> io::Result<()> {
+    rt.write_all(name)?;
     match c {
-        Checked::Refused(n, place) => {
-            print_refusal(n, place);
-        }
-        Checked::Accepted(_) => {
-            io::write_all(STDOUT_FILENO, b" accepted");
-        }
+        Checked::Refused(n, place) => print_refusal(rt, n, place)?,
+        Checked::Accepted(_) => rt.print(" accepted")?,
     }
-    io::write_all(STDOUT_FILENO, b"\n");
+    println!(rt)
 }
 
 // The outcome of a case, and how many words of the work area changed that should not.
-pub fn print_changed(name: &[u8], c: Checked, changed: usize) {
-    print_outcome(name, c);
-    io::write_all(STDOUT_FILENO, name);
-    print_number(b" changed ", changed as u64);
-    io::write_all(STDOUT_FILENO, b"\n");
+pub fn print_changed(rt: &impl Print, name: &[u8], c: Checked, changed: usize) -> io::Result<()> {
+    print_outcome(rt, name, c)?;
+    rt.write_all(name)?;
+    print_number(rt, " changed ", changed as u64)?;
+    println!(rt)
 }
 
 // Checks the first n words.
-pub fn print_case(name: &[u8], words: &[u32], n: usize, area: &mut [u32]) {
+pub fn print_case(
+    rt: &impl Print,
+    name: &[u8],
+    words: &[u32],
+    n: usize,
+    area: &mut [u32],
+) -> io::Result<()> {
     if n <= words.len() {
-        print_outcome(name, check(&words[..n], area));
+        return print_outcome(rt, name, check(&words[..n], area));
     }
+    Ok(())
 }

@@ -7,6 +7,9 @@ mod area;
 mod cases;
 mod line;
 
+use std::io;
+use streams::{read_input, say_unread};
+
 fn list() -> [u8; 65536]
     ensures { 65536 ≡ length result }
 {
@@ -20,11 +23,16 @@ fn space() -> [u32; 16400]
     [0; 16400]
 }
 
-fn main() {
+fn main(rt: HostRuntime) -> io::Result<()> {
     let mut text = list();
     let mut words = space();
     let mut area = space();
-    let n = io::read_full(libc::STDIN_FILENO, &mut text);
-    cases::run(&text[..n], &mut words, &mut area);
-    area::run(&mut area);
+    let read = read_input(&rt, &mut text);
+    if read.failed {
+        say_unread(&rt);
+        return Ok(());
+    }
+    let n = read.count;
+    cases::run(&rt, &text[..n], &mut words, &mut area)?;
+    area::run(&rt, &mut area)
 }

@@ -3,36 +3,38 @@ ghost use Rattle.std.specs.Prelude.{◌≡◌, true, ◌≤◌, length};
 ghost use Rattle.snapshot.specs.Limits.{word_limit, area_limit, routed_limit};
 
 use crate::compare::same;
-use libc::{STDIN_FILENO, STDOUT_FILENO};
 use printing::input::word_in;
+use std::io;
+use streams::read_input;
 
 // The next number, four bytes, the lowest first; past every length at the end.
-fn next_number() -> usize {
+fn next_number(rt: &impl Input) -> usize {
     let mut b = [0u8; 4];
-    let n = io::read_full(STDIN_FILENO, &mut b);
-    if n < 4 {
+    let read = read_input(rt, &mut b);
+    if read.count < 4 {
         return 4294967296;
     }
     word_in(&b, 0) as usize
 }
 
 // Reads so many bytes to the front.
-fn read_part(bytes: &mut [u8], n: usize) -> bool
+fn read_part(rt: &impl Input, bytes: &mut [u8], n: usize) -> bool
     ensures { result ≡ true → n ≤ length bytes.old }
 {
     if bytes.len() < n {
         return false;
     }
-    io::read_full(STDIN_FILENO, &mut bytes[..n]) == n
+    let read = read_input(rt, &mut bytes[..n]);
+    read.count == n
 }
 
-fn print_number(n: usize, label: &[u8]) {
-    io::print_decimal(STDOUT_FILENO, n as u64);
-    io::write_all(STDOUT_FILENO, label);
+fn print_number(rt: &impl Print, n: usize, label: &str) -> io::Result<()> {
+    println!(rt; "{n}{label}")
 }
 
 // The next input: 0 its lines are as stored, 1 they differ, 2 there is none.
 fn compare_next(
+    rt: &impl Input,
     bytes: &mut [u8],
     expected: &mut [u8],
     space: &mut [u32],
@@ -41,12 +43,12 @@ fn compare_next(
 ) -> usize
     requires { (word_limit ≤ length space.old) × (area_limit ≡ length area.old) × (routed_limit ≤ length out.old) }
 {
-    let n = next_number();
-    if !read_part(bytes, n) {
+    let n = next_number(rt);
+    if !read_part(rt, bytes, n) {
         return 2;
     }
-    let m = next_number();
-    if !read_part(expected, m) {
+    let m = next_number(rt);
+    if !read_part(rt, expected, m) {
         return 2;
     }
     if same(&bytes[..n], &expected[..m], space, area, out) {
@@ -57,24 +59,25 @@ fn compare_next(
 
 /// Compares each input of the list, at most 100,000, and prints the places of those that differ, and how many there are.
 pub fn run(
+    rt: &(impl Input + Print),
     bytes: &mut [u8],
     expected: &mut [u8],
     space: &mut [u32],
     area: &mut [u32],
     out: &mut [u8],
-)
+) -> io::Result<()>
     requires { (word_limit ≤ length space.old) × (area_limit ≡ length area.old) × (routed_limit ≤ length out.old) }
 {
     let mut k = 0;
     while k < 100000 {
-        let r = compare_next(bytes, expected, space, area, out);
+        let r = compare_next(rt, bytes, expected, space, area, out);
         if r == 2 {
-            print_number(k, b" inputs compared\n");
-            return;
+            return print_number(rt, k, " inputs compared");
         }
         if r == 1 {
-            print_number(k, b": differs\n");
+            print_number(rt, k, ": differs")?;
         }
         k += 1;
     }
+    Ok(())
 }

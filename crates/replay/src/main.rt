@@ -6,6 +6,7 @@ ghost use Rattle.snapshot.specs.Limits.{word_limit, routed_limit};
 
 use route_line::route::RoutedBytes;
 use snapshot::ids::WordCount;
+use std::io;
 
 mod compare;
 mod list;
@@ -34,11 +35,18 @@ fn text() -> [u8; RoutedBytes::LIMIT]
     [0; RoutedBytes::LIMIT]
 }
 
-fn main() {
+fn main(rt: HostRuntime) -> io::Result<()> {
     let mut bytes = input();
     let mut expected = lines();
     let mut space = words();
     let mut area = words();
     let mut out = text();
-    list::run(&mut bytes, &mut expected, &mut space, &mut area, &mut out);
+    list::run(
+        &rt,
+        &mut bytes,
+        &mut expected,
+        &mut space,
+        &mut area,
+        &mut out,
+    )
 }

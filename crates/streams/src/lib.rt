@@ -2,9 +2,9 @@
 #![tactic(auto)]
 
 ghost use Rattle.std.specs.Prelude.{◌≤◌, length};
-ghost use Rattle.io.specs.Counts.{IsPrefixLen};
+ghost use Rattle.std.specs.Counts.{IsPrefixLen};
 
-use libc::{STDERR_FILENO, STDIN_FILENO, STDOUT_FILENO};
+use std::io::Read;
 
 /// How many bytes were read, and whether a read failed before the input's end.
 #[derive(Clone, Copy)]
@@ -14,24 +14,28 @@ pub struct Reading {
 }
 
 // One read of standard input: no bytes where the input ends, or where the read fails.
-fn read_more(bytes: &mut [u8]) -> Reading
+fn read_more(rt: &impl Input, bytes: &mut [u8]) -> Reading
     ensures { result.count ≤ length bytes.new }
 {
-    let got = libc::read(STDIN_FILENO, bytes);
-    let count = io::count(got, bytes);
-    Reading {
-        count,
-        failed: got < 0,
+    match rt.reader().read(bytes) {
+        Ok(count) => Reading {
+            count,
+            failed: false,
+        },
+        Err(_) => Reading {
+            count: 0,
+            failed: true,
+        },
     }
 }
 
 /// Reads standard input until the bytes are full, the input ends or a read fails.
-pub fn read_input(bytes: &mut [u8]) -> Reading
+pub fn read_input(rt: &impl Input, bytes: &mut [u8]) -> Reading
     ensures { IsPrefixLen result.count bytes.new }
 {
     let mut count = 0;
     while count < bytes.len() {
-        let more = read_more(&mut bytes[count..]);
+        let more = read_more(rt, &mut bytes[count..]);
         if more.count == 0 {
             return Reading {
                 count,
@@ -47,21 +51,15 @@ pub fn read_input(bytes: &mut [u8]) -> Reading
 }
 
 /// Says on standard error that standard input cannot be read.
-pub fn say_unread() {
-    io::write_all(
-        STDERR_FILENO,
-        b"standard input cannot be read: nothing is known of it\n",
-    );
+pub fn say_unread(rt: &impl Eprint) {
+    let _ = eprintln!(rt; "standard input cannot be read: nothing is known of it");
 }
 
 /// Writes a text to standard output, and answers whether all of it was written; where not, standard error says so.
-pub fn write_output(text: &[u8]) -> bool {
-    if io::write_all(STDOUT_FILENO, text) {
+pub fn write_output(rt: &(impl Print + Eprint), text: &[u8]) -> bool {
+    if rt.write_all(text).is_ok() {
         return true;
     }
-    io::write_all(
-        STDERR_FILENO,
-        b"standard output cannot be written: the answer is not whole\n",
-    );
+    let _ = eprintln!(rt; "standard output cannot be written: the answer is not whole");
     false
 }

@@ -9,11 +9,6 @@ loop-i-init c = (refl, refl)
 
 pub loop-i-preserved : goal.loop-i-preserved
 loop-i-preserved c =
-    
-    
-    
-    
-    
     let a = c.args in (
       search rules,
       read_next a.text.now c.loop-i.i c.loop-i.w c.digit-d.result _ _ _ c.next_word-w.result c.loop-i-test.true c.digit-d.ensures
@@ -22,5 +17,4 @@ loop-i-preserved c =
 
 pub returns : goal.returns
 returns c =
-    
     sym (read_done _ c.loop-i.i c.loop-i.w _ c.loop-i-test.false) ∙ c.loop-i.invariant.1

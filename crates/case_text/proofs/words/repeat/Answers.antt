@@ -14,7 +14,6 @@ returns-then-words-n c =
 
 pub returns : goal.returns
 returns c =
-    
     let a = c.args in
     repeated_star a.words.now a.n a.d c.if-d-lt17.false c.if-n-lt4.false c.if-words-n.false _
     c.copy_on.ensures

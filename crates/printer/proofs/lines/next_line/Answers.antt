@@ -12,7 +12,6 @@ returns-then-is_reach c =
 
 pub returns-then-not-is_whole : goal.returns-then-not-is_whole
 returns-then-not-is_whole c =
-    
     let s = c.args in
     turn_refused s.words.now s.snapshot.now s.c s.at _ _ _ _ _ _
     c.is_reach.ensures

@@ -8,7 +8,6 @@ returns-then-words-at c = not_whole c.args.words.now c.args.at c.if-words-at.tru
 
 pub returns : goal.returns
 returns c =
-    
     let s = c.args in
     let q = c.is_question-head.ensures
     ∙ ap is_question c.kind.ensures in
