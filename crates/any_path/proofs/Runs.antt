@@ -40,7 +40,7 @@ module _ (s : Snapshot) (from : ℕ) where
   pub added_meant : {ws : List Way} (ps : List Path) → Each (Meant s from) ws → Each (Meant s from) (added s from ws ps)
   unfolding added
   added_meant [] h = h
-  added_meant (p ∷ ps) h = added_meant ps (with_meant p h (means s from types p) refl)
+  added_meant {ws = ws} (p ∷ ps) h = added_meant {ws = with_meaning ws p (means s from types p)} ps (with_meant p h (means s from types p) refl)
 
 -- The rows from number i on are left of n, with c rows in the area B.
 pub record Spreading (W A : List ℕ) (l : Layout) (from n : ℕ) (B : List ℕ) (c i : ℕ) : Type 0 where

@@ -73,13 +73,13 @@ module _ (s : Snapshot) (x : FindPathCtx) where
   pub held_imports : (left : ℕ) (o : Out Tank) (is : List Import) → 0 < left → Held left (found_of o) → Held left (found_of (imports s x left o is))
   unfolding find_imports
   held_imports left o [] h f = f
-  held_imports left o (i ∷ is) h f = held_imports left _ is h (held_import left o i (is_hidden i) h f)
+  held_imports left o (i ∷ is) h f = held_imports left (one_import s x left o i (is_hidden i)) is h (held_import left o i (is_hidden i) h f)
 
   pub held_deps : (left : ℕ) (item : Item) (o : Out Tank) (ds : List Dependency) → 0 < left → Held left (found_of o)
       → Held left (found_of (dependencies s x left item o ds))
   unfolding find_in_deps find_in_dep
   held_deps left item o [] h f = f
-  held_deps left item o (d ∷ ds) h f = held_deps left item _ ds h (held_imports left o (import_info_for s d.crate item) h f)
+  held_deps left item o (d ∷ ds) h f = held_deps left item (imports s x left o (import_info_for s d.crate item)) ds h (held_imports left o (import_info_for s d.crate item) h f)
 
   pub held_lang : (left : ℕ) (item : Item) (o : Out Tank) (n : ℕ) (b : Bool) → 0 < left → Held left (found_of o)
       → Held left (found_of (in_lang s x left item o n b))

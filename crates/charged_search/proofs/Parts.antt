@@ -179,7 +179,7 @@ module _ (s : Snapshot) (x : FindPathCtx) where
         → dependencies s x left item (dependencies s x left item o ds) es ≡ dependencies s x left item o (ds ++ es)
     unfolding find_in_deps
     deps_append o [] es = refl
-    deps_append o (d ∷ ds) es = deps_append _ ds es
+    deps_append o (d ∷ ds) es = deps_append (find_in_dep Tank from_tank s x (best_local s x) (modules s x) left item o d) ds es
 
     sysroot_parts : select (by_sysroot x.from_crate.0 true) s.dependencies ++ select (by_sysroot x.from_crate.0 false)
         s.dependencies ≡ sysroot_first s x.from_crate.0

@@ -108,4 +108,4 @@ each_insert {A} {P} before x p (more {x = y} {xs = ys} q h) =
 pub each_sort : {A : Type 0} {P : A → Type 0} (before : A → A → Bool) {ys xs : List A} → Each P ys → Each P xs → Each P (sort_into before ys xs)
 unfolding sort_into
 each_sort before h Each.none = h
-each_sort before h (more {x = x} p g) = each_sort before (each_insert before x p h) g
+each_sort before {ys = ys} h (more {x = x} p g) = each_sort before {ys = insert_by before x ys} (each_insert before x p h) g

@@ -36,7 +36,7 @@ each_insert before x p (more {x = y} q qs) =
 each_sort : {A : Type 0} {P : A → Type 0} (before : A → A → Bool) {ys xs : List A} → Each P ys → Each P xs → Each P (sort_into before ys xs)
 unfolding sort_into
 each_sort before r none = r
-each_sort before r (more {x = x} p ps) = each_sort before (each_insert before x p r) ps
+each_sort before {ys = ys} r (more {x = x} p ps) = each_sort before {ys = insert_by before x ys} (each_insert before x p r) ps
 
 -- whatever their order
 pub each_entries : {P : Scope → Type 0} (s : Snapshot) (m : ℕ) → Each P s.scopes → Each P (entries_of s m)

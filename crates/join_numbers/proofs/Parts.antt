@@ -56,7 +56,7 @@ names_stand {X} {p} (x ∷ xs) (more h hs) (more f fs) at =
     let g = h.size in
     let q : after_name X p ≡ p + length (name_words x) = omega arith in
     ap₂ (λ y ys. y ∷ ys) e
-    (ap (λ j. names_from X j (length xs)) q ∙ names_stand xs hs fs (at_right (name_words x) (each_words name_words xs) at))
+    (ap (λ j. names_from X j (length xs)) q ∙ names_stand {p = p + length (name_words x)} xs hs fs (at_right (name_words x) (each_words name_words xs) at))
 
 at_whole : (W : List ℕ) → At W 0 W
 at_whole W = record { same = λ i h. ap (λ j. get_or W j 0) (zero-add i); within = omega arith }

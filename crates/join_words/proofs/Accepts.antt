@@ -445,7 +445,7 @@ part_at {X} {b} (w ∷ ws) zero l a = subst (λ p. At X p w) (sym (add-zero b)) 
 part_at {X} {b} (w ∷ ws) (suc k) l a =
     let n = length-append w (written.joined (take k ws)) in
     let e : b + length w + length (written.joined (take k ws)) ≡ b + length (w ++ written.joined (take k ws)) = omega arith in
-    subst (λ p. At X p (get_or ws k [])) e (part_at ws k (omega arith) (at_right w (written.joined ws) a))
+    subst (λ p. At X p (get_or ws k [])) e (part_at {b = b + length w} ws k (omega arith) (at_right w (written.joined ws) a))
 
 part_next : (ws : List (List ℕ)) (k : ℕ) → k < length ws
     → length (written.joined (take k ws)) + length (get_or ws k []) ≡ length (written.joined (take (suc k) ws))

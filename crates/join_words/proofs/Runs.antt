@@ -86,7 +86,7 @@ arguments_stand {X} {q} (w ∷ ws) (more l h) a =
     let e : get_or X q 0 ≡ w = ap (λ j. get_or X j 0) (sym (add-zero q)) ∙ a.same 0 (omega arith) in
     let z : w / 268435456 ≡ 0 = omega arith in
     let k : kind_of (get_or X q 0) ≡ 0 = ap kind_of e ∙ z in
-    rw (lt-ltb q (length X) (omega arith), eq-eqb (kind_of (get_or X q 0)) 0 k, arguments_stand ws h (at_next w ws a))
+    rw (lt-ltb q (length X) (omega arith), eq-eqb (kind_of (get_or X q 0)) 0 k, arguments_stand {q = q + 1} ws h (at_next w ws a))
 
 -- one record
 module _ (k pay : ℕ) {X : List ℕ} {p : ℕ} {ws : List ℕ} (at : At X p (head_of k pay ∷ ws)) (low : pay < 268435456) where

@@ -28,6 +28,7 @@ each_append Each.none h = h
 each_append (more p g) h = more p (each_append g h)
 
 pub each_in : {A : Type 0} {P : A → Type 0} {y : A} {xs : List A} → Each P xs → Memᴰ y xs → P y
+each_in {A = A} {P = P} {y = y} Each.none m = elim m [ ]
 each_in {P = P} (more p h) (Memᴰ.head e) = subst P (sym e) p
 each_in (more p h) (Memᴰ.tail m) = each_in h m
 
@@ -100,7 +101,7 @@ module _ (s : Snapshot) (from : ℕ) where
       added_keeps (with_meaning ws p (means s from types p)) ps m (with_keeps ws p (means s from types p) m h)
 
   -- a path that means a module has it met
-  pub added_meets : (ws : List Way) {ps : List Path} {p : Path} (m : ℕ) → Memᴰ p ps → means s from types p ≡ some (module_item m)
+  pub added_meets : {p : Path} (ws : List Way) {ps : List Path} (m : ℕ) → Memᴰ p ps → means s from types p ≡ some (module_item m)
       → is_met (added s from ws ps) m ≡ true
   unfolding added
   added_meets ws m (Memᴰ.head {x = q} {xs = ps} e) h =
@@ -156,7 +157,8 @@ module _ (s : Snapshot) (from : ℕ) where
       → Each (Good s from b k) (added s from ws ps)
   unfolding added
   added_good b k h Each.none = h
-  added_good b k h (more {x = p} n g) = added_good b k (with_good b k p h n (means s from types p) refl) g
+  added_good b k {ws = ws} h (more {x = p} n g) =
+      added_good b k {ws = with_meaning ws p (means s from types p)} (with_good b k p h n (means s from types p) refl) g
 
   -- what is reached is meant
   pub reached_good : (b : Bool) (k : ℕ) → Each (Good s from b k) (reached b s from k)
@@ -168,7 +170,7 @@ module _ (s : Snapshot) (from : ℕ) where
       (each_append (onward_near b types k g) (single_near b types k))
 
   -- the names of a module reached are offered, each after the way to it
-  onward_in : (ns : ℕ) {ws : List Way} {w : Way} {x : Named} → Memᴰ w ws → Memᴰ x (entries_in s from ns w.target)
+  onward_in : (ns : ℕ) {w : Way} {ws : List Way} {x : Named} → Memᴰ w ws → Memᴰ x (entries_in s from ns w.target)
       → Memᴰ (into w.path x.name) (onward s from ns ws)
   unfolding onward
   onward_in ns {x = x} (Memᴰ.head {x = v} {xs = ws} e) m =

@@ -12,7 +12,7 @@ use Rattle.snapshot.specs.Records.{Snapshot, Scope, Dependency, Definition, Impo
 use Rattle.hir_def.specs.Items.{types, crate_root, item_of, module_item}
 use lib.Dec.{eqb}
 use Rattle.hir_def.specs.Nameres.{lang_of, sysroot_first, extern_of}
-use Rattle.hir_def.specs.ImportMap.{import_info_for, is_unstable}
+use Rattle.hir_def.specs.ImportMap.{import_info_for, is_unstable, is_hidden}
 use Rattle.hir_def.specs.declared.Item.{Item}
 use Rattle.hir_def.specs.declared.Item.TheVariants.{Mod, Def}
 use Rattle.path_choices.specs.declared.Choice.{Choice}
@@ -282,13 +282,13 @@ module _ (M : Type 0) (charge : Charge M) (s : Snapshot) where
         → Fits s (suc l) (find_imports M charge s x here rec (suc l) o is).choice
     unfolding find_imports
     imports_fit l o [] f = f
-    imports_fit l o (i ∷ is) f = imports_fit l _ is (import_fits l o i _ f)
+    imports_fit l o (i ∷ is) f = imports_fit l (find_import M charge s x here rec (suc l) o i (is_hidden i)) is (import_fits l o i _ f)
 
     pub deps_fit : (l : ℕ) (item : Item) (o : Out M) (ds : List Dependency) → Fits s (suc l) o.choice
         → Fits s (suc l) (find_in_deps M charge s x here rec (suc l) item o ds).choice
     unfolding find_in_deps find_in_dep
     deps_fit l item o [] f = f
-    deps_fit l item o (d ∷ ds) f = deps_fit l item _ ds (imports_fit l o (import_info_for s d.crate item) f)
+    deps_fit l item o (d ∷ ds) f = deps_fit l item (find_in_dep M charge s x here rec (suc l) item o d) ds (imports_fit l o (import_info_for s d.crate item) f)
 
     pub sysroot_fits : (l : ℕ) (item : Item) (o : Out M) (ls : List ℕ) (b : Bool) → Fits s (suc l) o.choice
         → Fits s (suc l) (find_in_sysroot M charge s x here rec (suc l) item o ls b).choice
@@ -297,7 +297,7 @@ module _ (M : Type 0) (charge : Charge M) (s : Snapshot) where
     sysroot_fits l item o [] false f = deps_fit l item o (sysroot_first s x.from_crate.0) f
     sysroot_fits l item o (n ∷ ls) true f = f
     sysroot_fits l item o (n ∷ ls) false f =
-        sysroot_fits l item _ ls _ (deps_fit l item o (one_or_none (lang_of s x.from_crate.0 n)) f)
+        sysroot_fits l item (find_in_deps M charge s x here rec (suc l) item o (one_or_none (lang_of s x.from_crate.0 n))) ls _ (deps_fit l item o (one_or_none (lang_of s x.from_crate.0 n)) f)
 
     go_fits : (l : ℕ) (item : Item) (t : M) (a b : Bool) → Fits s (suc l) (go_on M charge s x here rec (suc l) item t a b).choice
     unfolding go_on

@@ -6,7 +6,7 @@ use mathlib.Core.Option.{Option, none, some}
 use Rattle.snapshot.specs.Records.{Snapshot, Dependency, Definition, Import}
 use Rattle.hir_def.specs.Items.{types, item_of, module_item}
 use Rattle.hir_def.specs.Nameres.{lang_of, sysroot_first}
-use Rattle.hir_def.specs.ImportMap.{import_info_for}
+use Rattle.hir_def.specs.ImportMap.{import_info_for, is_hidden}
 use Rattle.hir_def.specs.declared.Item.{Item}
 use Rattle.hir_def.specs.declared.Item.TheVariants.{Mod, Def}
 use Rattle.path_choices.specs.declared.Choice.{Choice}
@@ -41,13 +41,13 @@ module _ (M : Type 0) (charge : Charge M) (s : Snapshot) (P : M → Type 0) (kep
     imports_keep : (left : ℕ) (o : Out M) (is : List Import) → P o.meter → P (find_imports M charge s x here rec left o is).meter
     unfolding find_imports
     imports_keep left o [] h = h
-    imports_keep left o (i ∷ is) h = imports_keep left _ is (import_keeps left o i _ h)
+    imports_keep left o (i ∷ is) h = imports_keep left (find_import M charge s x here rec left o i (is_hidden i)) is (import_keeps left o i _ h)
 
     pub deps_keep : (left : ℕ) (item : Item) (o : Out M) (ds : List Dependency) → P o.meter
         → P (find_in_deps M charge s x here rec left item o ds).meter
     unfolding find_in_deps find_in_dep
     deps_keep left item o [] h = h
-    deps_keep left item o (d ∷ ds) h = deps_keep left item _ ds (imports_keep left o (import_info_for s d.crate item) h)
+    deps_keep left item o (d ∷ ds) h = deps_keep left item (find_in_dep M charge s x here rec left item o d) ds (imports_keep left o (import_info_for s d.crate item) h)
 
     pub sysroot_keeps : (left : ℕ) (item : Item) (o : Out M) (ls : List ℕ) (b : Bool) → P o.meter
         → P (find_in_sysroot M charge s x here rec left item o ls b).meter
@@ -56,7 +56,7 @@ module _ (M : Type 0) (charge : Charge M) (s : Snapshot) (P : M → Type 0) (kep
     sysroot_keeps left item o [] false h = deps_keep left item o (sysroot_first s x.from_crate.0) h
     sysroot_keeps left item o (l ∷ ls) true h = h
     sysroot_keeps left item o (l ∷ ls) false h =
-        sysroot_keeps left item _ ls _ (deps_keep left item o (one_or_none (lang_of s x.from_crate.0 l)) h)
+        sysroot_keeps left item (find_in_deps M charge s x here rec left item o (one_or_none (lang_of s x.from_crate.0 l))) ls _ (deps_keep left item o (one_or_none (lang_of s x.from_crate.0 l)) h)
 
     pub go_keeps : (left : ℕ) (item : Item) (t : M) (a b : Bool) → P t → P (go_on M charge s x here rec left item t a b).meter
     unfolding go_on

@@ -23,7 +23,7 @@ use Rattle.hir_def.specs.Items.{types, variant_kind, builtin_kind, map_no, paren
 use Rattle.hir_def.specs.Items.{module_item}
 use Rattle.hir_def.specs.ItemScope.{name_of, names_of, is_fresh, preferred}
 use Rattle.hir_def.specs.Nameres.{ancestor_maps, scope_entry, prelude_of, lang_of, sysroot_first, extern_of}
-use Rattle.hir_def.specs.ImportMap.{import_info_for, is_unstable}
+use Rattle.hir_def.specs.ImportMap.{import_info_for, is_unstable, is_hidden}
 use Rattle.hir_def.specs.declared.Item.{Item}
 use Rattle.hir_def.specs.declared.Item.TheVariants.{Mod, Def}
 use Rattle.hir_def.proofs.Found.{each_first, each_select}
@@ -414,13 +414,13 @@ module _ (M : Type 0) (charge : Charge M) (s : Snapshot) (r : Ranges (counts_of 
         → Known s (find_imports M charge s x here rec left o is).choice
     unfolding find_imports
     imports_known left o f Each.none = f
-    imports_known left o f (more {x = i} h hs) = imports_known left _ (import_known left o i _ f h) hs
+    imports_known left o f (more {x = i} h hs) = imports_known left (find_import M charge s x here rec left o i (is_hidden i)) (import_known left o i _ f h) hs
 
     deps_known : (left : ℕ) (item : Item) (o : Out M) (ds : List Dependency) → Known s o.choice
         → Known s (find_in_deps M charge s x here rec left item o ds).choice
     unfolding find_in_deps find_in_dep import_info_for
     deps_known left item o [] f = f
-    deps_known left item o (d ∷ ds) f = deps_known left item _ ds (imports_known left o f (each_select _ r.imports))
+    deps_known left item o (d ∷ ds) f = deps_known left item (find_in_dep M charge s x here rec left item o d) ds (imports_known left o f (each_select _ r.imports))
 
     sysroot_known : (left : ℕ) (item : Item) (o : Out M) (ls : List ℕ) (b : Bool) → Known s o.choice
         → Known s (find_in_sysroot M charge s x here rec left item o ls b).choice
@@ -429,7 +429,7 @@ module _ (M : Type 0) (charge : Charge M) (s : Snapshot) (r : Ranges (counts_of 
     sysroot_known left item o [] false f = deps_known left item o (sysroot_first s x.from_crate.0) f
     sysroot_known left item o (n ∷ ls) true f = f
     sysroot_known left item o (n ∷ ls) false f =
-        sysroot_known left item _ ls _ (deps_known left item o (one_or_none (lang_of s x.from_crate.0 n)) f)
+        sysroot_known left item (find_in_deps M charge s x here rec left item o (one_or_none (lang_of s x.from_crate.0 n))) ls _ (deps_known left item o (one_or_none (lang_of s x.from_crate.0 n)) f)
 
     go_known : (left : ℕ) (item : Item) (t : M) (a b : Bool) → Known s (go_on M charge s x here rec left item t a b).choice
     unfolding go_on

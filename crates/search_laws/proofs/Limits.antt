@@ -312,19 +312,20 @@ module _ (s : Snapshot) (y : FindPathCtx) (here : ℕ → Item → Choice) (rec 
   imports_stay : (o : Out ℕ) (is : List Import) → Has o → Has (find_imports ℕ counted s y here rec left o is)
   unfolding find_imports
   imports_stay o [] f = f
-  imports_stay o (i ∷ is) f = imports_stay _ is (import_stays o i _ f)
+  imports_stay o (i ∷ is) f = imports_stay (find_import ℕ counted s y here rec left o i (is_hidden i)) is (import_stays o i _ f)
 
   deps_stay : (item : Item) (o : Out ℕ) (ds : List Dependency) → Has o → Has (find_in_deps ℕ counted s y here rec left item o ds)
   unfolding find_in_deps find_in_dep
   deps_stay item o [] f = f
-  deps_stay item o (d ∷ ds) f = deps_stay item _ ds (imports_stay o (import_info_for s d.crate item) f)
+  deps_stay item o (d ∷ ds) f = deps_stay item (find_in_dep ℕ counted s y here rec left item o d) ds (imports_stay o (import_info_for s d.crate item) f)
 
   sysroot_stays : (item : Item) (o : Out ℕ) (ls : List ℕ) (b : Bool) → Has o → Has (find_in_sysroot ℕ counted s y here rec left item o ls b)
   unfolding find_in_sysroot
   sysroot_stays item o [] true f = f
   sysroot_stays item o [] false f = deps_stay item o (sysroot_first s y.from_crate.0) f
   sysroot_stays item o (l ∷ ls) true f = f
-  sysroot_stays item o (l ∷ ls) false f = sysroot_stays item _ ls _ (deps_stay item o (one_or_none (lang_of s y.from_crate.0 l)) f)
+  sysroot_stays item o (l ∷ ls) false f = sysroot_stays item (find_in_deps ℕ counted s y here rec left item o (one_or_none (lang_of s y.from_crate.0 l))) ls _
+      (deps_stay item o (one_or_none (lang_of s y.from_crate.0 l)) f)
 
 abbrev Both : Out ℕ → Out ℕ → Type 0
 Both o p = Implies o.choice p.choice

@@ -86,7 +86,7 @@ module _ (s : Snapshot) (x : FindPathCtx) where
         → Plain (each_location s x rec left ls item done best ms)
     unfolding each_location
     each_plain ls item done best [] h = h
-    each_plain ls item done best (m ∷ ms) h = each_plain ls item _ _ ms (location_plain _ best m _ h)
+    each_plain ls item done best (m ∷ ms) h = each_plain ls item (done ++ m ∷ []) _ ms (location_plain _ best m _ h)
 
     or_plain : (ls : List Level) (m : ℕ) (c : Choice) (f : Bool) → c.found ≡ f → Plain (or_local s x rec left ls m c f)
     unfolding or_local calculate_best_path_local

@@ -189,7 +189,7 @@ module _ (s : Snapshot) (from : ℕ) where
   unfolding follow
   follow_plain ns here [] = refl
   follow_plain ns here (n ∷ more) =
-      ap (λ (x : Option Item). follow (plainly s) from ns x more) (reached_plain (looked_in ns more) n here) ∙ follow_plain ns _ more
+      ap (λ (x : Option Item). follow (plainly s) from ns x more) (reached_plain (looked_in ns more) n here) ∙ follow_plain ns (after here (later_name s from (looked_in ns more) n)) more
 
   plainly_plain : (ns : ℕ) (names : List ℕ) → Reads.plainly (plainly s) from ns names ≡ Reads.plainly s from ns names
   unfolding Reads.plainly
@@ -441,7 +441,8 @@ module _ (s : Snapshot) (x : FindPathCtx) (clear : x.fresh ≡ false) where
     unfolding find_imports
     imports_plain left o [] = refl
     imports_plain left o (i ∷ is) =
-        ap (λ (r : Out M). find_imports M charge (plainly s) x here rec left r is) (import_plain left o i (is_hidden i)) ∙ imports_plain left _ is
+        ap (λ (r : Out M). find_imports M charge (plainly s) x here rec left r is) (import_plain left o i (is_hidden i)) 
+        ∙ imports_plain left (find_import M charge s x here rec left o i (is_hidden i)) is
 
     deps_plain : (left : ℕ) (item : Item) (o : Out M) (ds : List Dependency)
         → find_in_deps M charge (plainly s) x here rec left item o ds ≡ find_in_deps M charge s x here rec left item o ds
@@ -449,7 +450,7 @@ module _ (s : Snapshot) (x : FindPathCtx) (clear : x.fresh ≡ false) where
     deps_plain left item o [] = refl
     deps_plain left item o (d ∷ ds) =
         ap (λ (r : Out M). find_in_deps M charge (plainly s) x here rec left item r ds) (imports_plain left o (import_info_for s d.crate item))
-        ∙ deps_plain left item _ ds
+        ∙ deps_plain left item (find_in_dep M charge s x here rec left item o d) ds
 
     sysroot_plain : (left : ℕ) (item : Item) (o : Out M) (ls : List ℕ) (b : Bool)
         → find_in_sysroot M charge (plainly s) x here rec left item o ls b ≡ find_in_sysroot M charge s x here rec left item o ls b
@@ -460,7 +461,7 @@ module _ (s : Snapshot) (x : FindPathCtx) (clear : x.fresh ≡ false) where
     sysroot_plain left item o (l ∷ ls) false =
         ap (λ (r : Out M). find_in_sysroot M charge (plainly s) x here rec left item r ls (is_stable r.choice))
         (deps_plain left item o (one_or_none (lang_of s x.from_crate.0 l)))
-        ∙ sysroot_plain left item _ ls _
+        ∙ sysroot_plain left item (find_in_deps M charge s x here rec left item o (one_or_none (lang_of s x.from_crate.0 l))) ls _
 
     go_plain : (left : ℕ) (item : Item) (t : M) (a b : Bool)
         → go_on M charge (plainly s) x here rec left item t a b ≡ go_on M charge s x here rec left item t a b

@@ -443,7 +443,7 @@ module _ (M : Type 0) (charge : Charge M) (s : Snapshot) (x : FindPathCtx) (vali
     unfolding find_in_deps find_in_dep
     deps_lead left item o [] away h f = f
     deps_lead left item o (d ∷ ds) away (more k h) f =
-        deps_lead left item _ ds away h (imports_lead item left o f (imports_listed s x d item k away))
+        deps_lead left item (find_in_dep M charge s x (best_local s x) rec left item o d) ds away h (imports_lead item left o f (imports_listed s x d item k away))
 
     sysroot_leads : (left : ℕ) (item : Item) (o : Out M) (ls : List ℕ) (b : Bool) → is_near s x item ≡ false → Leads s x item o.choice
         → Leads s x item (find_in_sysroot M charge s x (best_local s x) rec left item o ls b).choice
@@ -452,7 +452,8 @@ module _ (M : Type 0) (charge : Charge M) (s : Snapshot) (x : FindPathCtx) (vali
     sysroot_leads left item o [] false away f = deps_lead left item o (sysroot_first s x.from_crate.0) away sysroot_ours f
     sysroot_leads left item o (n ∷ ls) true away f = f
     sysroot_leads left item o (n ∷ ls) false away f =
-        sysroot_leads left item _ ls _ away (deps_lead left item o (one_or_none (lang_of s x.from_crate.0 n)) away (lang_ours n) f)
+        sysroot_leads left item (find_in_deps M charge s x (best_local s x) rec left item o (one_or_none (lang_of s x.from_crate.0 n))) ls _ away
+        (deps_lead left item o (one_or_none (lang_of s x.from_crate.0 n)) away (lang_ours n) f)
 
     go_leads : (left : ℕ) (item : Item) (t : M) (a b : Bool)
         → is_near s x item ≡ a → Leads s x item (go_on M charge s x (best_local s x) rec left item t a b).choice

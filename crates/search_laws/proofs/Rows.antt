@@ -99,7 +99,7 @@ module _ (s : Snapshot) (x : FindPathCtx) where
       → (each_location s x rec left ls item done best ms).found ≡ true
   unfolding each_location
   each_keeps rec left ls item done best [] h = h
-  each_keeps rec left ls item done best (m ∷ ms) h = each_keeps rec left ls item _ _ ms (location_keeps rec left _ best m _ h)
+  each_keeps rec left ls item done best (m ∷ ms) h = each_keeps rec left ls item (done ++ m ∷ []) _ ms (location_keeps rec left _ best m _ h)
 
   -- a loop finds if one of its locations does, whatever the best is there
   each_finds : (rec : LocalSearch) (left : ℕ) (ls : List Level) (item : Item) (done : List ℕ) (best : Choice) (ms : List ℕ) (c : ℕ) → has ms c ≡ true
@@ -110,10 +110,10 @@ module _ (s : Snapshot) (x : FindPathCtx) where
   each_finds rec left ls item done best [] c w hit = absurd (false≢true (sym (has_none c) ∙ w))
   each_finds rec left ls item done best (n ∷ ms) c w hit =
       ⊎_elim
-      (λ q. each_keeps rec left ls item _ _ ms
+      (λ q. each_keeps rec left ls item (done ++ n ∷ []) _ ms
       (subst (λ z. (location s x rec left (record { item = item; modules = done ++ (n ∷ []) } ∷ ls) best z (importable_name s x item z)).found ≡ true)
       (eqb-true c n q) (hit _ best)))
-      (λ q. each_finds rec left ls item _ _ ms c q hit)
+      (λ q. each_finds rec left ls item (done ++ n ∷ []) _ ms c q hit)
       (either (eqb c n) (has ms c) (sym (has_cons n ms c) ∙ w))
 
   module _ (l c : ℕ) (found : (search_local s x l [] c).found ≡ true) where

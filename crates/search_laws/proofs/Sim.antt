@@ -8,7 +8,7 @@ use mathlib.Core.Option.{Option, none, some}
 use Rattle.snapshot.specs.Records.{Snapshot, Dependency, Definition, Import}
 use Rattle.hir_def.specs.Items.{types, item_of, module_item}
 use Rattle.hir_def.specs.Nameres.{lang_of, sysroot_first}
-use Rattle.hir_def.specs.ImportMap.{import_info_for}
+use Rattle.hir_def.specs.ImportMap.{import_info_for, is_hidden}
 use Rattle.hir_def.specs.declared.Item.{Item}
 use Rattle.hir_def.specs.declared.Item.TheVariants.{Mod, Def}
 use Rattle.path_choices.specs.declared.Choice.{Choice}
@@ -114,13 +114,14 @@ module _ (C : Type 0) (charge : Charge C) (size : C → ℕ) (Past : ℕ → ℕ
           → Both F (find_imports Tank from_tank s x here rt left a is) (find_imports C charge s x here rc left c is)
       unfolding find_imports
       imports_sim left a c [] h = h
-      imports_sim left a c (i ∷ is) h = imports_sim left _ _ is (import_sim left a c i _ h)
+      imports_sim left a c (i ∷ is) h = imports_sim left (find_import Tank from_tank s x here rt left a i (is_hidden i)) (find_import C charge s x here rc left c i (is_hidden i)) is
+          (import_sim left a c i _ h)
 
       deps_sim : (left : ℕ) (item : Item) (a : Out Tank) (c : Out C) (ds : List Dependency) → Both F a c
           → Both F (find_in_deps Tank from_tank s x here rt left item a ds) (find_in_deps C charge s x here rc left item c ds)
       unfolding find_in_deps find_in_dep
       deps_sim left item a c [] h = h
-      deps_sim left item a c (d ∷ ds) h = deps_sim left item _ _ ds (imports_sim left a c (import_info_for s d.crate item) h)
+      deps_sim left item a c (d ∷ ds) h = deps_sim left item (find_in_dep Tank from_tank s x here rt left item a d) (find_in_dep C charge s x here rc left item c d) ds (imports_sim left a c (import_info_for s d.crate item) h)
 
       -- on to the next language, if the choice is not stable
       sysroot_next : (left : ℕ) (item : Item) (ls : List ℕ) (a : Out Tank) (c : Out C)
@@ -144,7 +145,8 @@ module _ (C : Type 0) (charge : Charge C) (size : C → ℕ) (Past : ℕ → ℕ
       sysroot_sim left item a c [] false h = deps_sim left item a c (sysroot_first s x.from_crate.0) h
       sysroot_sim left item a c (l ∷ ls) true h = h
       sysroot_sim left item a c (l ∷ ls) false h =
-          sysroot_next left item ls _ _ (λ b k. sysroot_sim left item _ _ ls b k)
+          sysroot_next left item ls _ _ (λ b k. sysroot_sim left item (find_in_deps Tank from_tank s x here rt left item a (one_or_none (lang_of s x.from_crate.0 l)))
+          (find_in_deps C charge s x here rc left item c (one_or_none (lang_of s x.from_crate.0 l))) ls b k)
           (deps_sim left item a c (one_or_none (lang_of s x.from_crate.0 l)) h)
 
       go_sim : (left : ℕ) (item : Item) (t : Tank) (n : C) (a b : Bool) → Sync F t (size n)

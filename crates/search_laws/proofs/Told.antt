@@ -17,7 +17,7 @@ use Rattle.accept.proofs.Accepted.{by_test}
 use Rattle.accept.proofs.Ranges.{accepted_ranges}
 use Rattle.hir_def.specs.Items.{types, module_kind, definition_of, item_of, module_item}
 use Rattle.hir_def.specs.Nameres.{lang_of, sysroot_first}
-use Rattle.hir_def.specs.ImportMap.{import_info_for}
+use Rattle.hir_def.specs.ImportMap.{import_info_for, is_hidden}
 use Rattle.hir_def.specs.declared.Item.{Item}
 use Rattle.hir_def.specs.declared.Item.TheVariants.{Mod, Def}
 use Rattle.path_choices.specs.declared.Choice.{Choice}
@@ -99,13 +99,13 @@ module _ (s : Snapshot) (r : Ranges (counts_of s) s) where
           → Keeps (find_imports Tank from_tank s x here rec left o is).meter
       unfolding find_imports
       imports_told o Each.none f = f
-      imports_told o (more {x = i} h hs) f = imports_told _ hs (import_told o i _ h f)
+      imports_told o (more {x = i} h hs) f = imports_told (find_import Tank from_tank s x here rec left o i (is_hidden i)) hs (import_told o i _ h f)
 
       deps_told : (item : Item) (o : Out Tank) (ds : List Dependency) → Keeps o.meter
           → Keeps (find_in_deps Tank from_tank s x here rec left item o ds).meter
       unfolding find_in_deps find_in_dep import_info_for
       deps_told item o [] f = f
-      deps_told item o (d ∷ ds) f = deps_told item _ ds (imports_told o (each_select _ r.imports) f)
+      deps_told item o (d ∷ ds) f = deps_told item (find_in_dep Tank from_tank s x here rec left item o d) ds (imports_told o (each_select _ r.imports) f)
 
       sysroot_told : (item : Item) (o : Out Tank) (ls : List ℕ) (b : Bool) → Keeps o.meter
           → Keeps (find_in_sysroot Tank from_tank s x here rec left item o ls b).meter
@@ -113,7 +113,8 @@ module _ (s : Snapshot) (r : Ranges (counts_of s) s) where
       sysroot_told item o [] true f = f
       sysroot_told item o [] false f = deps_told item o (sysroot_first s x.from_crate.0) f
       sysroot_told item o (l ∷ ls) true f = f
-      sysroot_told item o (l ∷ ls) false f = sysroot_told item _ ls _ (deps_told item o (one_or_none (lang_of s x.from_crate.0 l)) f)
+      sysroot_told item o (l ∷ ls) false f = sysroot_told item (find_in_deps Tank from_tank s x here rec left item o (one_or_none (lang_of s x.from_crate.0 l))) ls _
+          (deps_told item o (one_or_none (lang_of s x.from_crate.0 l)) f)
 
       go_told : (item : Item) (t : Tank) (a b : Bool) → Keeps t → Keeps (go_on Tank from_tank s x here rec left item t a b).meter
       unfolding go_on

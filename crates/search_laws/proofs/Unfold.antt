@@ -8,7 +8,7 @@ use mathlib.Core.Option.{Option, none, some}
 use Rattle.snapshot.specs.Records.{Snapshot, Scope, Dependency, Definition, Import}
 use Rattle.hir_def.specs.Items.{types, item_of, module_item}
 use Rattle.hir_def.specs.Nameres.{lang_of, sysroot_first}
-use Rattle.hir_def.specs.ImportMap.{import_info_for}
+use Rattle.hir_def.specs.ImportMap.{import_info_for, is_hidden}
 use Rattle.hir_def.specs.declared.Item.{Item}
 use Rattle.hir_def.specs.declared.Item.TheVariants.{Mod, Def}
 use Rattle.path_choices.specs.declared.Choice.{Choice}
@@ -104,14 +104,15 @@ module _ (M : Type 0) (charge : Charge M) (s : Snapshot) (x : FindPathCtx) where
     unfolding find_imports
     imports_same o [] = refl
     imports_same o (i ∷ is) =
-        ap (λ (r : Out M). find_imports M charge s x here f left r is) (import_same o i _) ∙ imports_same _ is
+        ap (λ (r : Out M). find_imports M charge s x here f left r is) (import_same o i _)
+        ∙ imports_same (find_import M charge s x here g left o i (is_hidden i)) is
 
     deps_same : (item : Item) (o : Out M) (ds : List Dependency) → find_in_deps M charge s x here f left item o ds
         ≡ find_in_deps M charge s x here g left item o ds
     unfolding find_in_deps find_in_dep
     deps_same item o [] = refl
     deps_same item o (d ∷ ds) =
-        ap (λ (r : Out M). find_in_deps M charge s x here f left item r ds) (imports_same o (import_info_for s d.crate item)) ∙ deps_same item _ ds
+        ap (λ (r : Out M). find_in_deps M charge s x here f left item r ds) (imports_same o (import_info_for s d.crate item)) ∙ deps_same item (find_in_dep M charge s x here g left item o d) ds
 
     sysroot_same : (item : Item) (o : Out M) (ls : List ℕ) (b : Bool)
         → find_in_sysroot M charge s x here f left item o ls b ≡ find_in_sysroot M charge s x here g left item o ls b
@@ -122,7 +123,7 @@ module _ (M : Type 0) (charge : Charge M) (s : Snapshot) (x : FindPathCtx) where
     sysroot_same item o (l ∷ ls) false =
         ap (λ (r : Out M). find_in_sysroot M charge s x here f left item r ls (is_stable r.choice))
         (deps_same item o (one_or_none (lang_of s x.from_crate.0 l)))
-        ∙ sysroot_same item _ ls _
+        ∙ sysroot_same item (find_in_deps M charge s x here g left item o (one_or_none (lang_of s x.from_crate.0 l))) ls _
 
     go_same : (item : Item) (t : M) (a b : Bool) → go_on M charge s x here f left item t a b ≡ go_on M charge s x here g left item t a b
     unfolding go_on

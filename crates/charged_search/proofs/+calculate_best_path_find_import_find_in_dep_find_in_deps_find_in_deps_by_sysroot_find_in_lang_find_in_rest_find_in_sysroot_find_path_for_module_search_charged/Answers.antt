@@ -28,21 +28,21 @@ use Rattle.charged_search.proofs.+calculate_best_path_find_import_find_in_dep_fi
 pub calculate_best_path-charge-requires : goal.calculate_best_path-charge-requires
 calculate_best_path-charge-requires t c =
     (
-      module_small c.args.words.now c.args.area.now c.args.l c.args.item c.requires.1.0.ready.reads
-          c.requires.1.1.0,
-      c.requires.1.2,
+      module_small c.args.words.now c.args.area.now c.args.l c.args.item c.requires.0.ready.reads
+          c.requires.1.0,
+      c.requires.2,
     )
 
 pub calculate_best_path-search_charged-requires : goal.calculate_best_path-search_charged-requires
 calculate_best_path-search_charged-requires t c =
     
     let a = c.args in (
-      omega (arith, c.requires.0),
+      omega (arith, c.decreases),
       (
-        c.requires.1.0,
-        c.requires.1.1,
+        c.requires.0,
+        c.requires.1,
         charge_sum a.left _ a.t c.charge.ensures
-            c.in-Go.is c.requires.1.2,
+            c.in-Go.is c.requires.2,
       ),
     )
 
@@ -80,31 +80,31 @@ find_import-returns-then-is_hidden t c =
 
 pub find_import-length_left-n-requires : goal.find_import-length_left-n-requires
 find_import-length_left-n-requires t c = 
-    omega (arith, c.requires.1.3.few, c.requires.1.0.limit)
+    omega (arith, c.requires.3.few, c.requires.0.limit)
 
 pub find_import-find_path_for_module-r-requires : goal.find_import-find_path_for_module-r-requires
 find_import-find_path_for_module-r-requires t c =
     
     let a = c.args in
-    let g = c.requires.1.0 in
+    let g = c.requires.0 in
     let k = length_falls a.left a.o.choice g.some in
     let e = c.length_left-n.ensures in (
-      omega (arith, c.requires.0, k, e),
-      (g.ready, omega (arith, c.import_container.ensures, c.requires.1.1), omega (arith, k, e, g.limit), c.requires.1.3.tank),
+      omega (arith, c.decreases, k, e),
+      (g.ready, omega (arith, c.import_container.ensures, c.requires.1), omega (arith, k, e, g.limit), c.requires.3.tank),
     )
 
 pub find_import-offer_import-choice-requires : goal.find_import-offer_import-choice-requires
 find_import-offer_import-choice-requires t c =
     
     let a = c.args in
-    let g = c.requires.1.0 in
+    let g = c.requires.0 in
     let f = c.find_path_for_module-r in
     let k = length_falls a.left a.o.choice g.some in
     let q = offered a.words.now a.area.now a.l a.x a.left _ _ _ f.result g.ready.reads g.limit
     (omega (arith, k, c.length_left-n.ensures)) f.ensures.same in (
       same_reads a.words.now a.area.now _ a.l f.ensures.tables g.ready.reads,
-      c.requires.1.2,
-      omega (arith, c.requires.1.3.few, g.limit),
+      c.requires.2,
+      omega (arith, c.requires.3.few, g.limit),
       q.few,
       q.text,
       q.steps,
@@ -115,7 +115,7 @@ find_import-returns t c =
     
     let a = c.args in
     let f = c.find_path_for_module-r in
-    import_run a.left a.h a.o c.requires.1.0.ready
+    import_run a.left a.h a.o c.requires.0.ready
     (sym c.is_hidden.ensures
     ∙ c.if-is_hidden.false)
     c.length_left-n.ensures
@@ -130,19 +130,19 @@ find_in_dep-loop-k-init t c =
           (sym (imports_whole a.words.now a.area.now a.l a.c.0 a.item));
       tables = refl;
       long = refl;
-      held = c.requires.1.1;
+      held = c.requires.1;
     }
 
 pub find_in_dep-import_info_for-requires : goal.find_in_dep-import_info_for-requires
-find_in_dep-import_info_for-requires t c = few_words _ _ _ c.requires.1.0.ready.reads
+find_in_dep-import_info_for-requires t c = few_words _ _ _ c.requires.0.ready.reads
 
 pub find_in_dep-returns-in_default : goal.find_in_dep-returns-in_default
 find_in_dep-returns-in_default t c =
     
     let a = c.args in
     let g = c.loop-k in
-    running_done g.invariant (imports_end a.words.now a.area.now g.area a.l a.x a.left c.requires.1.0.ready
-    c.requires.1.0.some g.best _ (next_none (c.import_info_for.ensures a.area.now) c.in_default.is).none)
+    running_done g.invariant (imports_end a.words.now a.area.now g.area a.l a.x a.left c.requires.0.ready
+    c.requires.0.some g.best _ (next_none (c.import_info_for.ensures a.area.now) c.in_default.is).none)
 
 pub find_in_dep-find_import-best-requires : goal.find_in_dep-find_import-best-requires
 find_in_dep-find_import-best-requires t c =
@@ -150,8 +150,8 @@ find_in_dep-find_import-best-requires t c =
     let a = c.args in
     let g = c.loop-k in
     let m = next_record (c.import_info_for.ensures a.area.now) c.in-Record.is in
-    let q = import_meets a.words.now a.area.now a.l c.requires.1.0.ready.reads m in
-    (omega (arith, c.requires.0), (begun_later c.requires.1.0 g.invariant.tables g.invariant.long, q.container, q, g.invariant.held))
+    let q = import_meets a.words.now a.area.now a.l c.requires.0.ready.reads m in
+    (omega (arith, c.decreases), (begun_later c.requires.0 g.invariant.tables g.invariant.long, q.container, q, g.invariant.held))
 
 pub find_in_dep-overflow_add-k : goal.find_in_dep-overflow_add-k
 find_in_dep-overflow_add-k t c =
@@ -159,7 +159,7 @@ find_in_dep-overflow_add-k t c =
     let a = c.args in
     let m = next_record (c.import_info_for.ensures a.area.now)
     c.in-Record.is in
-    record { fits = omega (arith, m.below, few_words _ _ _ c.requires.1.0.ready.reads) }
+    record { fits = omega (arith, m.below, few_words _ _ _ c.requires.0.ready.reads) }
 
 pub find_in_dep-loop-k-smaller : goal.find_in_dep-loop-k-smaller
 find_in_dep-loop-k-smaller t c =
@@ -177,7 +177,7 @@ find_in_dep-loop-k-preserved t c =
     c.in-Record.is in
     let g = c.loop-k in
     
-    imports_next a.words.now a.area.now g.area a.l a.x a.left c.requires.1.0.ready c.requires.1.0.some
+    imports_next a.words.now a.area.now g.area a.l a.x a.left c.requires.0.ready c.requires.0.some
     g.invariant m c.find_import-best.ensures c.find_import-best.auto.area
 
 pub find_in_dep-returns : goal.find_in_dep-returns
@@ -185,8 +185,8 @@ find_in_dep-returns t c =
     
     let a = c.args in
     let g = c.loop-k in
-    running_done g.invariant (imports_end a.words.now a.area.now g.area a.l a.x a.left c.requires.1.0.ready
-    c.requires.1.0.some g.best _ (left_none _ _ _ _ c.loop-k-test.false))
+    running_done g.invariant (imports_end a.words.now a.area.now g.area a.l a.x a.left c.requires.0.ready
+    c.requires.0.some g.best _ (left_none _ _ _ _ c.loop-k-test.false))
 
 pub find_in_deps-loop-k-init : goal.find_in_deps-loop-k-init
 find_in_deps-loop-k-init t c =
@@ -197,26 +197,26 @@ find_in_deps-loop-k-init t c =
           (sym (dependencies_whole a.words.now a.area.now a.l a.x.from_crate.0));
       tables = refl;
       long = refl;
-      held = c.requires.1.1;
+      held = c.requires.1;
     }
 
 pub find_in_deps-next_dependency-requires : goal.find_in_deps-next_dependency-requires
-find_in_deps-next_dependency-requires t c = few_words _ _ _ c.requires.1.0.ready.reads
+find_in_deps-next_dependency-requires t c = few_words _ _ _ c.requires.0.ready.reads
 
 pub find_in_deps-returns-in_default : goal.find_in_deps-returns-in_default
 find_in_deps-returns-in_default t c =
     
     let a = c.args in
     let g = c.loop-k in
-    running_done g.invariant (deps_end a.words.now a.area.now g.area a.l a.x a.left c.requires.1.0.ready
-    c.requires.1.0.some a.item g.best _ (next_none c.next_dependency.ensures c.in_default.is).none)
+    running_done g.invariant (deps_end a.words.now a.area.now g.area a.l a.x a.left c.requires.0.ready
+    c.requires.0.some a.item g.best _ (next_none c.next_dependency.ensures c.in_default.is).none)
 
 pub find_in_deps-find_in_dep-best-requires : goal.find_in_deps-find_in_dep-best-requires
 find_in_deps-find_in_dep-best-requires t c =
     
     let a = c.args in
     let g = c.loop-k in
-    (omega (arith, c.requires.0), (begun_later c.requires.1.0 g.invariant.tables g.invariant.long, g.invariant.held))
+    (omega (arith, c.decreases), (begun_later c.requires.0 g.invariant.tables g.invariant.long, g.invariant.held))
 
 pub find_in_deps-overflow_add-k : goal.find_in_deps-overflow_add-k
 find_in_deps-overflow_add-k t c =
@@ -224,7 +224,7 @@ find_in_deps-overflow_add-k t c =
     let a = c.args in
     let m = next_record c.next_dependency.ensures
     c.in-Record.is in
-    record { fits = omega (arith, m.below, few_words _ _ _ c.requires.1.0.ready.reads) }
+    record { fits = omega (arith, m.below, few_words _ _ _ c.requires.0.ready.reads) }
 
 pub find_in_deps-loop-k-smaller : goal.find_in_deps-loop-k-smaller
 find_in_deps-loop-k-smaller t c =
@@ -242,7 +242,7 @@ find_in_deps-loop-k-preserved t c =
     c.in-Record.is in
     let g = c.loop-k in
     
-    deps_next a.words.now a.area.now g.area a.l a.x a.left c.requires.1.0.ready c.requires.1.0.some a.item
+    deps_next a.words.now a.area.now g.area a.l a.x a.left c.requires.0.ready c.requires.0.some a.item
     g.invariant m c.dependency_crate.ensures c.find_in_dep-best.ensures c.find_in_dep-best.auto.area
 
 pub find_in_deps-returns : goal.find_in_deps-returns
@@ -250,8 +250,8 @@ find_in_deps-returns t c =
     
     let a = c.args in
     let g = c.loop-k in
-    running_done g.invariant (deps_end a.words.now a.area.now g.area a.l a.x a.left c.requires.1.0.ready
-    c.requires.1.0.some a.item g.best _ (left_none _ _ _ _ c.loop-k-test.false))
+    running_done g.invariant (deps_end a.words.now a.area.now g.area a.l a.x a.left c.requires.0.ready
+    c.requires.0.some a.item g.best _ (left_none _ _ _ _ c.loop-k-test.false))
 
 pub find_in_deps_by_sysroot-loop-k-init : goal.find_in_deps_by_sysroot-loop-k-init
 find_in_deps_by_sysroot-loop-k-init t c =
@@ -263,27 +263,27 @@ find_in_deps_by_sysroot-loop-k-init t c =
           (λ i. dependency_at a.words.now (dependency_base a.l + dependency_size * i)) a.l.dependencies));
       tables = refl;
       long = refl;
-      held = c.requires.1.1;
+      held = c.requires.1;
     }
 
 pub find_in_deps_by_sysroot-next_by_sysroot-requires : goal.find_in_deps_by_sysroot-next_by_sysroot-requires
 find_in_deps_by_sysroot-next_by_sysroot-requires t c = few_words _ _ _
-    c.requires.1.0.ready.reads
+    c.requires.0.ready.reads
 
 pub find_in_deps_by_sysroot-returns-in_default : goal.find_in_deps_by_sysroot-returns-in_default
 find_in_deps_by_sysroot-returns-in_default t c =
     
     let a = c.args in
     let g = c.loop-k in
-    running_done g.invariant (deps_end a.words.now a.area.now g.area a.l a.x a.left c.requires.1.0.ready
-    c.requires.1.0.some a.item g.best _ (next_none c.next_by_sysroot.ensures c.in_default.is).none)
+    running_done g.invariant (deps_end a.words.now a.area.now g.area a.l a.x a.left c.requires.0.ready
+    c.requires.0.some a.item g.best _ (next_none c.next_by_sysroot.ensures c.in_default.is).none)
 
 pub find_in_deps_by_sysroot-find_in_dep-best-requires : goal.find_in_deps_by_sysroot-find_in_dep-best-requires
 find_in_deps_by_sysroot-find_in_dep-best-requires t c =
     
     let a = c.args in
     let g = c.loop-k in
-    (omega (arith, c.requires.0), (begun_later c.requires.1.0 g.invariant.tables g.invariant.long, g.invariant.held))
+    (omega (arith, c.decreases), (begun_later c.requires.0 g.invariant.tables g.invariant.long, g.invariant.held))
 
 pub find_in_deps_by_sysroot-overflow_add-k : goal.find_in_deps_by_sysroot-overflow_add-k
 find_in_deps_by_sysroot-overflow_add-k t c =
@@ -291,7 +291,7 @@ find_in_deps_by_sysroot-overflow_add-k t c =
     let a = c.args in
     let m = next_record c.next_by_sysroot.ensures
     c.in-Record.is in
-    record { fits = omega (arith, m.below, few_words _ _ _ c.requires.1.0.ready.reads) }
+    record { fits = omega (arith, m.below, few_words _ _ _ c.requires.0.ready.reads) }
 
 pub find_in_deps_by_sysroot-loop-k-smaller : goal.find_in_deps_by_sysroot-loop-k-smaller
 find_in_deps_by_sysroot-loop-k-smaller t c =
@@ -309,7 +309,7 @@ find_in_deps_by_sysroot-loop-k-preserved t c =
     c.in-Record.is in
     let g = c.loop-k in
     
-    deps_next a.words.now a.area.now g.area a.l a.x a.left c.requires.1.0.ready c.requires.1.0.some a.item
+    deps_next a.words.now a.area.now g.area a.l a.x a.left c.requires.0.ready c.requires.0.some a.item
     g.invariant m c.dependency_crate.ensures c.find_in_dep-best.ensures c.find_in_dep-best.auto.area
 
 pub find_in_deps_by_sysroot-returns : goal.find_in_deps_by_sysroot-returns
@@ -317,8 +317,8 @@ find_in_deps_by_sysroot-returns t c =
     
     let a = c.args in
     let g = c.loop-k in
-    running_done g.invariant (deps_end a.words.now a.area.now g.area a.l a.x a.left c.requires.1.0.ready
-    c.requires.1.0.some a.item g.best _ (left_none _ _ _ _ c.loop-k-test.false))
+    running_done g.invariant (deps_end a.words.now a.area.now g.area a.l a.x a.left c.requires.0.ready
+    c.requires.0.some a.item g.best _ (left_none _ _ _ _ c.loop-k-test.false))
 
 pub find_in_lang-returns-then-is_stable : goal.find_in_lang-returns-then-is_stable
 find_in_lang-returns-then-is_stable t c =
@@ -331,7 +331,7 @@ find_in_lang-returns-then-is_stable t c =
     }
 
 pub find_in_lang-lang_of-requires : goal.find_in_lang-lang_of-requires
-find_in_lang-lang_of-requires t c = few_words _ _ _ c.requires.1.0.ready.reads
+find_in_lang-lang_of-requires t c = few_words _ _ _ c.requires.0.ready.reads
 
 pub find_in_lang-returns-in_default : goal.find_in_lang-returns-in_default
 find_in_lang-returns-in_default t c =
@@ -346,7 +346,7 @@ find_in_lang-returns-in_default t c =
 
 pub find_in_lang-find_in_dep-requires : goal.find_in_lang-find_in_dep-requires
 find_in_lang-find_in_dep-requires t c = 
-    (omega (arith, c.requires.0), (c.requires.1.0, c.requires.1.1))
+    (omega (arith, c.decreases), (c.requires.0, c.requires.1))
 
 pub find_in_lang-returns : goal.find_in_lang-returns
 find_in_lang-returns t c =
@@ -379,15 +379,15 @@ find_in_rest-returns-then-is_stable t c =
 
 pub find_in_rest-find_in_deps_by_sysroot-a-requires : goal.find_in_rest-find_in_deps_by_sysroot-a-requires
 find_in_rest-find_in_deps_by_sysroot-a-requires t c = 
-    (omega (arith, c.requires.0), (c.requires.1.0, c.requires.1.1))
+    (omega (arith, c.decreases), (c.requires.0, c.requires.1))
 
 pub find_in_rest-find_in_deps_by_sysroot-requires : goal.find_in_rest-find_in_deps_by_sysroot-requires
 find_in_rest-find_in_deps_by_sysroot-requires t c =
     
     let a = c.args in
     
-    let p = deps_passed a.item _ (record { begun = c.requires.1.0; held = c.requires.1.1 }) c.find_in_deps_by_sysroot-a.ensures c.find_in_deps_by_sysroot-a.auto.area in
-    (omega (arith, c.requires.0), (p.begun, p.held))
+    let p = deps_passed a.item _ (record { begun = c.requires.0; held = c.requires.1 }) c.find_in_deps_by_sysroot-a.ensures c.find_in_deps_by_sysroot-a.auto.area in
+    (omega (arith, c.decreases), (p.begun, p.held))
 
 pub find_in_rest-returns : goal.find_in_rest-returns
 find_in_rest-returns t c =
@@ -395,37 +395,37 @@ find_in_rest-returns t c =
     let a = c.args in
     let f = c.find_in_deps_by_sysroot-a in
     let r = c.find_in_deps_by_sysroot in
-    rest_run a.left a.item a.o c.requires.1.0.ready
+    rest_run a.left a.item a.o c.requires.0.ready
     (sym c.is_stable.ensures
     ∙ c.if-is_stable.false) f.ensures r.ensures
 
 pub find_in_sysroot-find_in_lang-a-requires : goal.find_in_sysroot-find_in_lang-a-requires
-find_in_sysroot-find_in_lang-a-requires t c = (omega (arith, c.requires.0), (c.requires.1.0, c.requires.1.1))
+find_in_sysroot-find_in_lang-a-requires t c = (omega (arith, c.decreases), (c.requires.0, c.requires.1))
 
 pub find_in_sysroot-find_in_lang-b-requires : goal.find_in_sysroot-find_in_lang-b-requires
 find_in_sysroot-find_in_lang-b-requires t c =
     
     let a = c.args in
     
-    let p1 = lang_passed a.item _ (record { begun = c.requires.1.0; held = c.requires.1.1 }) c.find_in_lang-a.ensures c.find_in_lang-a.auto.area in
-    (omega (arith, c.requires.0), (p1.begun, p1.held))
+    let p1 = lang_passed a.item _ (record { begun = c.requires.0; held = c.requires.1 }) c.find_in_lang-a.ensures c.find_in_lang-a.auto.area in
+    (omega (arith, c.decreases), (p1.begun, p1.held))
 
 pub find_in_sysroot-find_in_lang-c-requires : goal.find_in_sysroot-find_in_lang-c-requires
 find_in_sysroot-find_in_lang-c-requires t c =
     
     let a = c.args in
     
-    let p1 = lang_passed a.item _ (record { begun = c.requires.1.0; held = c.requires.1.1 }) c.find_in_lang-a.ensures c.find_in_lang-a.auto.area in
+    let p1 = lang_passed a.item _ (record { begun = c.requires.0; held = c.requires.1 }) c.find_in_lang-a.ensures c.find_in_lang-a.auto.area in
     
     let p2 = lang_passed a.item _ (p1) c.find_in_lang-b.ensures c.find_in_lang-b.auto.area in
-    (omega (arith, c.requires.0), (p2.begun, p2.held))
+    (omega (arith, c.decreases), (p2.begun, p2.held))
 
 pub find_in_sysroot-returns : goal.find_in_sysroot-returns
 find_in_sysroot-returns t c =
     
     let a = c.args in
     
-    let p1 = lang_passed a.item _ (record { begun = c.requires.1.0; held = c.requires.1.1 }) c.find_in_lang-a.ensures c.find_in_lang-a.auto.area in
+    let p1 = lang_passed a.item _ (record { begun = c.requires.0; held = c.requires.1 }) c.find_in_lang-a.ensures c.find_in_lang-a.auto.area in
     
     let p2 = lang_passed a.item _ (p1) c.find_in_lang-b.ensures c.find_in_lang-b.auto.area in
     let f3 = c.find_in_lang-c in
@@ -433,7 +433,7 @@ find_in_sysroot-returns t c =
     let n = c.langs_for-langs in
     subst (λ (ls : List ℕ). Searched a.area.now (sysroot (snap_of a.words.now a.area.now a.l) a.x a.left
     a.item (out_of a.o) ls (is_stable a.o.choice)) c.find-in-default.new.1.0 c.find-in-default.result) n.ensures
-    (lang_run a.left a.item _ _ a.o c.requires.1.0.ready c.find_in_lang-a.ensures
+    (lang_run a.left a.item _ _ a.o c.requires.0.ready c.find_in_lang-a.ensures
     (lang_run a.left a.item _ _ c.find_in_lang-a.result p1.begun.ready c.find_in_lang-b.ensures
     (lang_run a.left a.item _ _ c.find_in_lang-b.result p2.begun.ready f3.ensures c.find-in-default.ensures)))
 
@@ -449,7 +449,7 @@ find_path_for_module-returns-then-left-eq0 t c =
 
 pub find_path_for_module-module_rules-choice-requires : goal.find_path_for_module-module_rules-choice-requires
 find_path_for_module-module_rules-choice-requires t c = 
-    (c.requires.1.0.reads, c.requires.1.0.from, c.requires.1.1)
+    (c.requires.0.reads, c.requires.0.from, c.requires.1)
 
 pub find_path_for_module-returns-then-choice : goal.find_path_for_module-returns-then-choice
 find_path_for_module-returns-then-choice t c =
@@ -465,15 +465,15 @@ pub find_path_for_module-calculate_best_path-requires : goal.find_path_for_modul
 find_path_for_module-calculate_best_path-requires t c =
     
     let a = c.args in (
-      omega (arith, c.requires.0),
+      omega (arith, c.decreases),
       (
         record {
-          ready = c.requires.1.0;
+          ready = c.requires.0;
           some = omega (arith, c.if-left-eq0.false);
-          limit = c.requires.1.2;
+          limit = c.requires.2;
         },
-        (c.requires.1.1, module_ns _),
-        c.requires.1.3,
+        (c.requires.1, module_ns _),
+        c.requires.3,
       ),
     )
 
@@ -490,18 +490,18 @@ find_path_for_module-returns t c =
     }
 
 pub search_charged-home_of-home-requires : goal.search_charged-home_of-home-requires
-search_charged-home_of-home-requires t c = few_words _ _ _ c.requires.1.0.ready.reads
+search_charged-home_of-home-requires t c = few_words _ _ _ c.requires.0.ready.reads
 
 pub search_charged-is_at-requires : goal.search_charged-is_at-requires
 search_charged-is_at-requires t c =
     
     let a = c.args in
-    let r = c.requires.1.0.ready.reads in
-    (r, home_below a.words.now a.area.now a.l a.item r c.requires.1.1.0 (c.home_of-home.ensures a.area.now))
+    let r = c.requires.0.ready.reads in
+    (r, home_below a.words.now a.area.now a.l a.item r c.requires.1.0 (c.home_of-home.ensures a.area.now))
 
 pub search_charged-calculate_best_path_local-choice-requires : goal.search_charged-calculate_best_path_local-choice-requires
 search_charged-calculate_best_path_local-choice-requires t c = 
-    (c.requires.1.0.ready, c.requires.1.1, c.requires.1.0.some, c.requires.1.0.limit)
+    (c.requires.0.ready, c.requires.1, c.requires.0.some, c.requires.0.limit)
 
 pub search_charged-returns-then-is_at : goal.search_charged-returns-then-is_at
 search_charged-returns-then-is_at t c =
@@ -520,7 +520,7 @@ pub search_charged-find_in_sysroot-requires : goal.search_charged-find_in_sysroo
 search_charged-find_in_sysroot-requires t c =
     
     let a = c.args in
-    (omega (arith, c.requires.0), (c.requires.1.0, held_nothing a.left a.t c.nothing-choice.ensures c.requires.1.2))
+    (omega (arith, c.decreases), (c.requires.0, held_nothing a.left a.t c.nothing-choice.ensures c.requires.2))
 
 pub search_charged-returns-then-x : goal.search_charged-returns-then-x
 search_charged-returns-then-x t c =
@@ -541,7 +541,7 @@ pub search_charged-find_in_deps-requires : goal.search_charged-find_in_deps-requ
 search_charged-find_in_deps-requires t c =
     
     let a = c.args in
-    (omega (arith, c.requires.0), (c.requires.1.0, held_nothing a.left a.t c.nothing-choice.ensures c.requires.1.2))
+    (omega (arith, c.decreases), (c.requires.0, held_nothing a.left a.t c.nothing-choice.ensures c.requires.2))
 
 pub search_charged-returns : goal.search_charged-returns
 search_charged-returns t c =

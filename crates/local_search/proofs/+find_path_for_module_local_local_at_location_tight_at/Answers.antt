@@ -27,13 +27,13 @@ find_path_for_module_local-returns-then-left-eq0 t c =
           (levels_of c.args.area.now c.args.s.place c.args.s.depth) c.args.m.0 c.if-left-eq0.true
           c.nothing.ensures;
       below = refl;
-      rows = c.requires.1.0.rows;
+      rows = c.requires.0.rows;
     }
 
 pub find_path_for_module_local-rules_at-c-requires : goal.find_path_for_module_local-rules_at-c-requires
 find_path_for_module_local-rules_at-c-requires t c =
     
-    (c.requires.1.0.reads, c.requires.1.0.from, c.requires.1.1, c.requires.1.0.bounds)
+    (c.requires.0.reads, c.requires.0.from, c.requires.1, c.requires.0.bounds)
 
 pub find_path_for_module_local-returns-then-c : goal.find_path_for_module_local-returns-then-c
 find_path_for_module_local-returns-then-c t c =
@@ -44,15 +44,15 @@ find_path_for_module_local-returns-then-c t c =
           (levels_of c.args.area.now c.args.s.place c.args.s.depth) c.args.m.0 c.if-left-eq0.false
           (c.rules_at-c.ensures.same c.if-c.true) c.if-c.true;
       below = refl;
-      rows = c.requires.1.0.rows;
+      rows = c.requires.0.rows;
     }
 
 pub find_path_for_module_local-is_tight-requires : goal.find_path_for_module_local-is_tight-requires
 find_path_for_module_local-is_tight-requires t c =
     (
-      chain_wider c.args.area.now _ _ c.args.s.top _ (omega (arith, c.requires.1.0.space, c.requires.1.0.area))
-          c.requires.1.0.chain,
-      omega (arith, c.requires.1.1, c.requires.1.0.reads.tables.limited.modules),
+      chain_wider c.args.area.now _ _ c.args.s.top _ (omega (arith, c.requires.0.space, c.requires.0.area))
+          c.requires.0.chain,
+      omega (arith, c.requires.1, c.requires.0.reads.tables.limited.modules),
     )
 
 pub find_path_for_module_local-tight_at-requires : goal.find_path_for_module_local-tight_at-requires
@@ -64,11 +64,11 @@ find_path_for_module_local-tight_at-requires t c =
     
     
     let h = c.if-left-eq0.false in (
-      omega (arith, c.requires.0),
+      omega (arith, c.decreases),
       (
         omega arith,
-        c.requires.1.0,
-        c.requires.1.1,
+        c.requires.0,
+        c.requires.1,
         c.is_tight.ensures c.if-is_tight.true,
         unruled
             (snap_of c.args.words.now c.args.area.now c.args.l) c.args.x c.args.m.0 c.rules_at-c.ensures.found c.if-c.false,
@@ -84,12 +84,12 @@ find_path_for_module_local-local_at-requires t c =
     
     
     let h = c.if-left-eq0.false in (
-      omega (arith, c.requires.0),
+      omega (arith, c.decreases),
       (
         omega arith,
-        c.requires.1.0,
+        c.requires.0,
         module_small c.args.words.now c.args.area.now c.args.l
-            c.requires.1.0.reads c.args.m.0 c.requires.1.1,
+            c.requires.0.reads c.args.m.0 c.requires.1,
       ),
     )
 
@@ -112,11 +112,11 @@ find_path_for_module_local-returns t c =
 pub local_at-overflow_add-base : goal.local_at-overflow_add-base
 local_at-overflow_add-base t c =
     
-    omega (arith, c.requires.1.1.space, c.requires.1.0)
+    omega (arith, c.requires.1.space, c.requires.0)
 
 pub local_at-code_of-code-requires : goal.local_at-code_of-code-requires
 local_at-code_of-code-requires t c =
-    c.requires.1.2
+    c.requires.2
 
 pub local_at-overflow_cast-area : goal.local_at-overflow_cast-area
 local_at-overflow_cast-area t c =
@@ -125,36 +125,36 @@ local_at-overflow_cast-area t c =
 pub local_at-offset_bounds-area-top : goal.local_at-offset_bounds-area-top
 local_at-offset_bounds-area-top t c =
     
-    omega (arith, c.requires.1.1.space, c.requires.1.0)
+    omega (arith, c.requires.1.space, c.requires.0)
 
 pub local_at-bounds-area-top : goal.local_at-bounds-area-top
 local_at-bounds-area-top t c =
     
-    omega (arith, c.requires.1.1.space, c.requires.1.0, c.requires.1.1.area)
+    omega (arith, c.requires.1.space, c.requires.0, c.requires.1.area)
 
 pub local_at-overflow_cast-area-2 : goal.local_at-overflow_cast-area-2
 local_at-overflow_cast-area-2 t c =
     
-    omega (arith, c.requires.1.1.space, c.requires.1.0, c.requires.1.1.under)
+    omega (arith, c.requires.1.space, c.requires.0, c.requires.1.under)
 
 pub local_at-overflow_add-area : goal.local_at-overflow_add-area
 local_at-overflow_add-area t c =
     
-    omega (arith, c.requires.1.1.space, c.requires.1.0)
+    omega (arith, c.requires.1.space, c.requires.0)
 
 pub local_at-offset_bounds-area-top-2 : goal.local_at-offset_bounds-area-top-2
 local_at-offset_bounds-area-top-2 t c =
     
-    omega (arith, c.requires.1.1.space, c.requires.1.0)
+    omega (arith, c.requires.1.space, c.requires.0)
 
 pub local_at-bounds-area-top-2 : goal.local_at-bounds-area-top-2
 local_at-bounds-area-top-2 t c =
     
     omega (
       arith,
-      c.requires.1.1.space,
-      c.requires.1.0,
-      c.requires.1.1.area,
+      c.requires.1.space,
+      c.requires.0,
+      c.requires.1.area,
       length-set c.args.area.now c.args.s.top
           c.code_of-code.result,
     )
@@ -164,19 +164,19 @@ local_at-locations-n-requires t c =
     
     (
       head_reads c.args.words.now c.args.area.now c.args.l c.args.x c.args.left c.args.item c.args.s
-          c.requires.1.0 c.requires.1.1 c.requires.1.2 c.code_of-code.result c.code_of-code.ensures.0,
-      c.requires.1.1.from,
-      omega (arith, c.requires.1.1.numbers),
+          c.requires.0 c.requires.1 c.requires.2 c.code_of-code.result c.code_of-code.ensures.0,
+      c.requires.1.from,
+      omega (arith, c.requires.1.numbers),
       head_space c.args.words.now c.args.area.now c.args.l c.args.x
-          c.args.left c.args.item c.args.s c.requires.1.0 c.requires.1.1 c.requires.1.2 c.code_of-code.result
+          c.args.left c.args.item c.args.s c.requires.0 c.requires.1 c.requires.2 c.code_of-code.result
           c.code_of-code.ensures.0,
       head_chain c.args.words.now c.args.area.now c.args.l c.args.x c.args.left
-          c.args.item c.args.s c.requires.1.0 c.requires.1.1 c.requires.1.2 c.code_of-code.result c.code_of-code.ensures.0,
-      c.requires.1.2,
+          c.args.item c.args.s c.requires.0 c.requires.1 c.requires.2 c.code_of-code.result c.code_of-code.ensures.0,
+      c.requires.2,
       head_walked c.args.words.now c.args.area.now c.args.l c.args.x c.args.left
-          c.args.item c.args.s c.requires.1.0 c.requires.1.1 c.requires.1.2 c.code_of-code.result c.code_of-code.ensures.0,
+          c.args.item c.args.s c.requires.0 c.requires.1 c.requires.2 c.code_of-code.result c.code_of-code.ensures.0,
       head_chains c.args.words.now c.args.area.now c.args.l c.args.x c.args.left c.args.item
-          c.args.s c.requires.1.0 c.requires.1.1 c.requires.1.2 c.code_of-code.result c.code_of-code.ensures.0,
+          c.args.s c.requires.0 c.requires.1 c.requires.2 c.code_of-code.result c.code_of-code.ensures.0,
     )
 
 pub local_at-overflow_add-up : goal.local_at-overflow_add-up
@@ -186,17 +186,17 @@ local_at-overflow_add-up t c =
     
     omega (
       arith,
-      c.requires.1.1.space,
-      c.requires.1.0,
+      c.requires.1.space,
+      c.requires.0,
       start_few c.args.words.now c.args.area.now c.args.l c.args.x
-          c.args.left c.args.item c.args.s c.requires.1.0 c.requires.1.1 c.requires.1.2 c.code_of-code.result
+          c.args.left c.args.item c.args.s c.requires.0 c.requires.1 c.requires.2 c.code_of-code.result
           c.code_of-code.ensures.0 _ _ c.locations-n.ensures c.locations-n.auto.area,
     )
 
 pub local_at-overflow_add-up-2 : goal.local_at-overflow_add-up-2
 local_at-overflow_add-up-2 t c =
     
-    omega (arith, c.requires.1.1.deep)
+    omega (arith, c.requires.1.deep)
 
 pub local_at-nothing-best-requires : goal.local_at-nothing-best-requires
 local_at-nothing-best-requires t c =
@@ -208,13 +208,13 @@ local_at-loop-k-init t c =
     
     
     nesting_start c.args.words.now c.args.area.now c.args.l c.args.x c.args.left c.args.item c.args.s
-    c.requires.1.0 c.requires.1.1 c.requires.1.2 c.code_of-code.result c.code_of-code.ensures.0 _ _ c.locations-n.ensures
+    c.requires.0 c.requires.1 c.requires.2 c.code_of-code.result c.code_of-code.ensures.0 _ _ c.locations-n.ensures
     c.locations-n.auto.area c.nothing-best.ensures
 
 pub local_at-overflow_add-cursor : goal.local_at-overflow_add-cursor
 local_at-overflow_add-cursor t c =
     
-    omega (arith, c.requires.1.1.space, c.requires.1.0)
+    omega (arith, c.requires.1.space, c.requires.0)
 
 pub local_at-overflow_cast-area-in-loop-k : goal.local_at-overflow_cast-area-in-loop-k
 local_at-overflow_cast-area-in-loop-k t c =
@@ -224,7 +224,7 @@ local_at-overflow_cast-area-in-loop-k t c =
 pub local_at-offset_bounds-area-cursor : goal.local_at-offset_bounds-area-cursor
 local_at-offset_bounds-area-cursor t c =
     
-    omega (arith, c.requires.1.1.space, c.requires.1.0)
+    omega (arith, c.requires.1.space, c.requires.0)
 
 pub local_at-bounds-area-cursor : goal.local_at-bounds-area-cursor
 local_at-bounds-area-cursor t c =
@@ -235,10 +235,10 @@ local_at-bounds-area-cursor t c =
     omega (
       arith,
       room c.args.words.now c.args.area.now c.args.l c.args.x c.args.left c.args.item
-          c.args.s c.requires.1.0 c.requires.1.1 c.requires.1.2 c.code_of-code.result c.code_of-code.ensures.0,
+          c.args.s c.requires.0 c.requires.1 c.requires.2 c.code_of-code.result c.code_of-code.ensures.0,
       loop_size
           c.args.words.now c.args.area.now c.args.l c.args.x c.args.left c.args.item c.args.s
-          c.requires.1.0 c.requires.1.1 c.requires.1.2 c.code_of-code.result c.code_of-code.ensures.0 _ _ c.locations-n.ensures
+          c.requires.0 c.requires.1 c.requires.2 c.code_of-code.result c.code_of-code.ensures.0 _ _ c.locations-n.ensures
           c.locations-n.auto.area c.loop-k.area c.loop-k.best c.loop-k.k c.loop-k.invariant,
     )
 
@@ -246,7 +246,7 @@ pub local_at-overflow_add-base-in-loop-k : goal.local_at-overflow_add-base-in-lo
 local_at-overflow_add-base-in-loop-k t c =
     
     
-    omega (arith, c.requires.1.1.space, c.requires.1.0, c.loop-k-test.true, c.loop-k.invariant.few)
+    omega (arith, c.requires.1.space, c.requires.0, c.loop-k-test.true, c.loop-k.invariant.few)
 
 pub local_at-word-m-requires : goal.local_at-word-m-requires
 local_at-word-m-requires t c =
@@ -260,18 +260,18 @@ local_at-location-best-requires t c =
     
     
     (
-      omega (arith, c.requires.0),
+      omega (arith, c.decreases),
       (
-        c.requires.1.0,
+        c.requires.0,
         nesting_call c.args.words.now c.args.area.now c.args.l c.args.x
-            c.args.left c.args.item c.args.s c.requires.1.0 c.requires.1.1 c.requires.1.2 c.code_of-code.result
+            c.args.left c.args.item c.args.s c.requires.0 c.requires.1 c.requires.2 c.code_of-code.result
             c.code_of-code.ensures.0 _ _ c.locations-n.ensures c.locations-n.auto.area c.loop-k.area c.loop-k.best c.loop-k.k
             c.loop-k.invariant c.loop-k-test.true,
         nesting_known c.args.words.now c.args.area.now c.args.l c.args.x
-            c.args.left c.args.item c.args.s c.requires.1.0 c.requires.1.1 c.requires.1.2 c.code_of-code.result
+            c.args.left c.args.item c.args.s c.requires.0 c.requires.1 c.requires.2 c.code_of-code.result
             c.code_of-code.ensures.0 _ _ c.locations-n.ensures c.locations-n.auto.area c.loop-k.area c.loop-k.best c.loop-k.k
             c.loop-k.invariant c.loop-k-test.true c.word-m.ensures,
-        omega (arith, c.loop-k.invariant.fits.few, c.requires.1.1.deep),
+        omega (arith, c.loop-k.invariant.fits.few, c.requires.1.deep),
       ),
     )
 
@@ -294,7 +294,7 @@ local_at-loop-k-preserved t c =
     
     
     nesting_next c.args.words.now c.args.area.now c.args.l c.args.x c.args.left c.args.item c.args.s
-    c.requires.1.0 c.requires.1.1 c.requires.1.2 c.code_of-code.result c.code_of-code.ensures.0 _ _ c.locations-n.ensures
+    c.requires.0 c.requires.1 c.requires.2 c.code_of-code.result c.code_of-code.ensures.0 _ _ c.locations-n.ensures
     c.locations-n.auto.area c.loop-k.area c.loop-k.best c.loop-k.k c.loop-k.invariant c.loop-k-test.true
     c.word-m.ensures _ c.location-best.ensures c.location-best.auto.area
 
@@ -305,17 +305,17 @@ local_at-returns t c =
     
     
     nesting_done c.args.words.now c.args.area.now c.args.l c.args.x c.args.left c.args.item c.args.s
-    c.requires.1.0 c.requires.1.1 c.requires.1.2 c.code_of-code.result c.code_of-code.ensures.0 _ _ c.locations-n.ensures
+    c.requires.0 c.requires.1 c.requires.2 c.code_of-code.result c.code_of-code.ensures.0 _ _ c.locations-n.ensures
     c.locations-n.auto.area c.loop-k.area c.loop-k.best c.loop-k.k c.loop-k.invariant c.loop-k-test.false
 
 pub location-length_left-j-requires : goal.location-length_left-j-requires
 location-length_left-j-requires t c =
-    c.requires.1.3
+    c.requires.3
 
 pub location-overflow_add-m : goal.location-overflow_add-m
 location-overflow_add-m t c =
     
-    record { fits = omega (arith, c.requires.1.2, c.requires.1.1.reads.tables.limited.modules) }
+    record { fits = omega (arith, c.requires.2, c.requires.1.reads.tables.limited.modules) }
 
 pub location-word-requires : goal.location-word-requires
 location-word-requires t c =
@@ -328,10 +328,10 @@ location-returns-then-j-word t c =
     
     record {
       same = location_far c.args.words.now c.args.area.now c.args.l c.args.x c.args.left c.args.s
-          c.requires.1.0 c.requires.1.1 c.args.best c.args.item c.args.m.0 c.requires.1.2 c.length_left-j.ensures
+          c.requires.0 c.requires.1 c.args.best c.args.item c.args.m.0 c.requires.2 c.length_left-j.ensures
           c.word.ensures c.if-j-word.true;
       below = refl;
-      rows = c.requires.1.1.rows;
+      rows = c.requires.1.rows;
     }
 
 pub location-importable_name-a-requires : goal.location-importable_name-a-requires
@@ -339,7 +339,7 @@ location-importable_name-a-requires t c =
     
     
     
-    (c.requires.1.1.reads, c.requires.1.1.from, c.requires.1.2, c.requires.1.1.indexed)
+    (c.requires.1.reads, c.requires.1.from, c.requires.2, c.requires.1.indexed)
 
 pub location-returns-in_default : goal.location-returns-in_default
 location-returns-in_default t c =
@@ -349,10 +349,10 @@ location-returns-in_default t c =
     
     record {
       same = location_none c.args.words.now c.args.area.now c.args.l c.args.x c.args.left c.args.s
-          c.requires.1.0 c.requires.1.1 c.args.best c.args.item c.args.m.0 c.importable_name-a.ensures.0
+          c.requires.0 c.requires.1 c.args.best c.args.item c.args.m.0 c.importable_name-a.ensures.0
           c.in_default.is;
       below = refl;
-      rows = c.requires.1.1.rows;
+      rows = c.requires.1.rows;
     }
 
 pub location-find_path_for_module_local-c-requires : goal.location-find_path_for_module_local-c-requires
@@ -364,14 +364,14 @@ location-find_path_for_module_local-c-requires t c =
     (
       omega (
         arith,
-        c.requires.0,
+        c.decreases,
         location_shorter c.args.words.now c.args.area.now c.args.l c.args.x c.args.left
-            c.args.s c.requires.1.0 c.requires.1.1 c.args.best c.args.item c.args.m.0 c.length_left-j.ensures,
+            c.args.s c.requires.0 c.requires.1 c.args.best c.args.item c.args.m.0 c.length_left-j.ensures,
       ),
       (
         location_call c.args.words.now c.args.area.now c.args.l c.args.x c.args.left c.args.s
-            c.requires.1.0 c.requires.1.1 c.args.best c.args.item c.args.m.0 c.length_left-j.ensures,
-        c.requires.1.2,
+            c.requires.0 c.requires.1 c.args.best c.args.item c.args.m.0 c.length_left-j.ensures,
+        c.requires.2,
       ),
     )
 
@@ -383,18 +383,18 @@ location-offer_entry-requires t c =
     
     
     (
-      location_reads c.args.words.now c.args.area.now c.args.l c.args.x c.args.left c.args.s c.requires.1.0
-          c.requires.1.1 c.args.best c.args.item c.args.m.0 c.length_left-j.ensures _ c.find_path_for_module_local-c.ensures,
+      location_reads c.args.words.now c.args.area.now c.args.l c.args.x c.args.left c.args.s c.requires.0
+          c.requires.1 c.args.best c.args.item c.args.m.0 c.length_left-j.ensures _ c.find_path_for_module_local-c.ensures,
       entry_at c.args.words.now c.args.l c.importable_name-a.ensures.1 c.in-At.is,
-      c.requires.1.3,
+      c.requires.3,
       location_few
-          c.args.words.now c.args.area.now c.args.l c.args.x c.args.left c.args.s c.requires.1.0
-          c.requires.1.1 c.args.best c.args.item c.args.m.0 c.length_left-j.ensures _ c.find_path_for_module_local-c.ensures,
+          c.args.words.now c.args.area.now c.args.l c.args.x c.args.left c.args.s c.requires.0
+          c.requires.1 c.args.best c.args.item c.args.m.0 c.length_left-j.ensures _ c.find_path_for_module_local-c.ensures,
       location_text c.args.words.now c.args.area.now c.args.l c.args.x c.args.left c.args.s
-          c.requires.1.0 c.requires.1.1 c.args.best c.args.item c.args.m.0 c.length_left-j.ensures _
+          c.requires.0 c.requires.1 c.args.best c.args.item c.args.m.0 c.length_left-j.ensures _
           c.find_path_for_module_local-c.ensures,
       location_steps c.args.words.now c.args.area.now c.args.l
-          c.args.x c.args.left c.args.s c.requires.1.0 c.requires.1.1 c.args.best c.args.item c.args.m.0
+          c.args.x c.args.left c.args.s c.requires.0 c.requires.1 c.args.best c.args.item c.args.m.0
           c.length_left-j.ensures _ c.find_path_for_module_local-c.ensures,
     )
 
@@ -406,14 +406,14 @@ location-returns t c =
     
     
     
-    location_some c.args.words.now c.args.area.now c.args.l c.args.x c.args.left c.args.s c.requires.1.0
-    c.requires.1.1 c.args.best c.args.item c.args.m.0 c.length_left-j.ensures _ c.find_path_for_module_local-c.ensures
+    location_some c.args.words.now c.args.area.now c.args.l c.args.x c.args.left c.args.s c.requires.0
+    c.requires.1 c.args.best c.args.item c.args.m.0 c.length_left-j.ensures _ c.find_path_for_module_local-c.ensures
     c.importable_name-a.ensures.0 c.in-At.is c.offer_entry.ensures
 
 pub tight_at-overflow_add-m : goal.tight_at-overflow_add-m
 tight_at-overflow_add-m t c =
     
-    record { fits = omega (arith, c.requires.1.2, c.requires.1.1.reads.tables.limited.modules) }
+    record { fits = omega (arith, c.requires.2, c.requires.1.reads.tables.limited.modules) }
 
 pub tight_at-word-row-requires : goal.tight_at-word-row-requires
 tight_at-word-row-requires t c =
@@ -423,12 +423,12 @@ pub tight_at-local_at-r-requires : goal.tight_at-local_at-r-requires
 tight_at-local_at-r-requires t c =
     
     (
-      omega (arith, c.requires.0),
+      omega (arith, c.decreases),
       (
-        c.requires.1.0,
-        c.requires.1.1,
+        c.requires.0,
+        c.requires.1,
         module_small c.args.words.now c.args.area.now c.args.l
-            c.requires.1.1.reads c.args.m.0 c.requires.1.2,
+            c.requires.1.reads c.args.m.0 c.requires.2,
       ),
     )
 
@@ -437,8 +437,8 @@ tight_at-row_of-made-requires t c =
     
     
     
-    made_asked c.args.words.now c.args.area.now c.args.l c.args.x c.args.left c.args.s c.requires.1.1
-    c.args.m.0 c.requires.1.2 c.requires.1.3 c.requires.1.0 c.requires.1.4 _ c.local_at-r.auto.area c.local_at-r.ensures
+    made_asked c.args.words.now c.args.area.now c.args.l c.args.x c.args.left c.args.s c.requires.1
+    c.args.m.0 c.requires.2 c.requires.3 c.requires.0 c.requires.4 _ c.local_at-r.auto.area c.local_at-r.ensures
 
 pub tight_at-overflow_cast-area : goal.tight_at-overflow_cast-area
 tight_at-overflow_cast-area t c =
@@ -450,7 +450,7 @@ tight_at-overflow_add-area t c =
     
     
     
-    omega (arith, c.requires.1.2, c.requires.1.1.reads.tables.limited.modules)
+    omega (arith, c.requires.2, c.requires.1.reads.tables.limited.modules)
 
 pub tight_at-offset_bounds-area-m : goal.tight_at-offset_bounds-area-m
 tight_at-offset_bounds-area-m t c =
@@ -458,7 +458,7 @@ tight_at-offset_bounds-area-m t c =
     
     
     
-    omega (arith, c.requires.1.2, c.requires.1.1.reads.tables.limited.modules)
+    omega (arith, c.requires.2, c.requires.1.reads.tables.limited.modules)
 
 pub tight_at-bounds-area-m : goal.tight_at-bounds-area-m
 tight_at-bounds-area-m t c =
@@ -466,7 +466,7 @@ tight_at-bounds-area-m t c =
     
     
     
-    omega (arith, c.requires.1.2, c.requires.1.1.reads.tables.limited.modules, c.requires.1.1.area, c.local_at-r.auto.area)
+    omega (arith, c.requires.2, c.requires.1.reads.tables.limited.modules, c.requires.1.area, c.local_at-r.auto.area)
 
 pub tight_at-returns-then-row-eq0 : goal.tight_at-returns-then-row-eq0
 tight_at-returns-then-row-eq0 t c =
@@ -474,8 +474,8 @@ tight_at-returns-then-row-eq0 t c =
     
     
     
-    made_done c.args.words.now c.args.area.now c.args.l c.args.x c.args.left c.args.s c.requires.1.1
-    c.args.m.0 c.requires.1.2 c.requires.1.3 c.requires.1.0 c.requires.1.4 _ c.local_at-r.auto.area c.local_at-r.ensures
+    made_done c.args.words.now c.args.area.now c.args.l c.args.x c.args.left c.args.s c.requires.1
+    c.args.m.0 c.requires.2 c.requires.3 c.requires.0 c.requires.4 _ c.local_at-r.auto.area c.local_at-r.ensures
     c.row_of-made.ensures.0
 
 pub tight_at-nothing-requires : goal.tight_at-nothing-requires
@@ -487,16 +487,16 @@ tight_at-returns-then-row-eq1 t c =
     
     
     
-    tight_none c.args.words.now c.args.area.now c.args.l c.args.x c.args.left c.args.s c.requires.1.1
-    c.args.m.0 c.requires.1.2 c.requires.1.3 c.word-row.ensures c.if-row-eq1.true c.nothing.ensures
+    tight_none c.args.words.now c.args.area.now c.args.l c.args.x c.args.left c.args.s c.requires.1
+    c.args.m.0 c.requires.2 c.requires.3 c.word-row.ensures c.if-row-eq1.true c.nothing.ensures
 
 pub tight_at-row_place-requires : goal.tight_at-row_place-requires
 tight_at-row_place-requires t c =
     
     
     
-    row_two c.args.words.now c.args.area.now c.args.l c.args.x c.args.left c.args.s c.requires.1.1
-    c.args.m.0 c.requires.1.2 c.requires.1.3 c.word-row.ensures c.if-row-eq0.left c.if-row-eq1.left
+    row_two c.args.words.now c.args.area.now c.args.l c.args.x c.args.left c.args.s c.requires.1
+    c.args.m.0 c.requires.2 c.requires.3 c.word-row.ensures c.if-row-eq0.left c.if-row-eq1.left
 
 pub tight_at-scope_owner-owner-requires : goal.tight_at-scope_owner-owner-requires
 tight_at-scope_owner-owner-requires t c =
@@ -509,7 +509,7 @@ tight_at-overflow_sub-left t c =
     
     
     
-    omega (arith, c.requires.1.0)
+    omega (arith, c.requires.0)
 
 pub tight_at-find_path_for_module_local-c-requires : goal.tight_at-find_path_for_module_local-c-requires
 tight_at-find_path_for_module_local-c-requires t c =
@@ -519,13 +519,13 @@ tight_at-find_path_for_module_local-c-requires t c =
     
     
     let q = c.scope_owner-owner.ensures ∙ ap (λ z. (scope_at c.args.words.now z).owner) c.row_place.ensures in (
-      omega (arith, c.requires.0, c.requires.1.0),
+      omega (arith, c.decreases, c.requires.0),
       (
         owner_call c.args.words.now c.args.area.now c.args.l c.args.x
-            c.args.left c.args.s c.requires.1.1 c.args.m.0 c.requires.1.2 c.requires.1.3 c.word-row.ensures
+            c.args.left c.args.s c.requires.1 c.args.m.0 c.requires.2 c.requires.3 c.word-row.ensures
             c.if-row-eq0.false c.if-row-eq1.false,
         owner_known c.args.words.now c.args.area.now c.args.l c.args.x
-            c.args.left c.args.s c.requires.1.1 c.args.m.0 c.requires.1.2 c.requires.1.3 c.word-row.ensures
+            c.args.left c.args.s c.requires.1 c.args.m.0 c.requires.2 c.requires.3 c.word-row.ensures
             c.if-row-eq0.false c.if-row-eq1.false q,
       ),
     )
@@ -539,28 +539,28 @@ tight_at-from_row-requires t c =
     
     
     let q = c.scope_owner-owner.ensures ∙ ap (λ z. (scope_at c.args.words.now z).owner) c.row_place.ensures in (
-      owner_reads c.args.words.now c.args.area.now c.args.l c.args.x c.args.left c.args.s c.requires.1.1
-          c.args.m.0 c.requires.1.2 c.requires.1.3 c.word-row.ensures c.if-row-eq0.false c.if-row-eq1.false c.requires.1.0 q _
+      owner_reads c.args.words.now c.args.area.now c.args.l c.args.x c.args.left c.args.s c.requires.1
+          c.args.m.0 c.requires.2 c.requires.3 c.word-row.ensures c.if-row-eq0.false c.if-row-eq1.false c.requires.0 q _
           c.find_path_for_module_local-c.ensures,
       row_two c.args.words.now c.args.area.now c.args.l c.args.x
-          c.args.left c.args.s c.requires.1.1 c.args.m.0 c.requires.1.2 c.requires.1.3 c.word-row.ensures
+          c.args.left c.args.s c.requires.1 c.args.m.0 c.requires.2 c.requires.3 c.word-row.ensures
           c.if-row-eq0.false c.if-row-eq1.false,
       (row_entered c.args.words.now c.args.area.now c.args.l c.args.x
-          c.args.left c.args.s c.requires.1.1 c.args.m.0 c.requires.1.2 c.requires.1.3 c.word-row.ensures
+          c.args.left c.args.s c.requires.1 c.args.m.0 c.requires.2 c.requires.3 c.word-row.ensures
           c.if-row-eq0.false c.if-row-eq1.false).fits,
       owner_found c.args.words.now c.args.area.now c.args.l
-          c.args.x c.args.left c.args.s c.requires.1.1 c.args.m.0 c.requires.1.2 c.requires.1.3 c.word-row.ensures
-          c.if-row-eq0.false c.if-row-eq1.false c.requires.1.0 q _ c.find_path_for_module_local-c.ensures,
+          c.args.x c.args.left c.args.s c.requires.1 c.args.m.0 c.requires.2 c.requires.3 c.word-row.ensures
+          c.if-row-eq0.false c.if-row-eq1.false c.requires.0 q _ c.find_path_for_module_local-c.ensures,
       owner_few
-          c.args.words.now c.args.area.now c.args.l c.args.x c.args.left c.args.s c.requires.1.1
-          c.args.m.0 c.requires.1.2 c.requires.1.3 c.word-row.ensures c.if-row-eq0.false c.if-row-eq1.false c.requires.1.0 q _
+          c.args.words.now c.args.area.now c.args.l c.args.x c.args.left c.args.s c.requires.1
+          c.args.m.0 c.requires.2 c.requires.3 c.word-row.ensures c.if-row-eq0.false c.if-row-eq1.false c.requires.0 q _
           c.find_path_for_module_local-c.ensures,
       owner_text c.args.words.now c.args.area.now c.args.l c.args.x
-          c.args.left c.args.s c.requires.1.1 c.args.m.0 c.requires.1.2 c.requires.1.3 c.word-row.ensures
-          c.if-row-eq0.false c.if-row-eq1.false c.requires.1.0 q _ c.find_path_for_module_local-c.ensures,
+          c.args.left c.args.s c.requires.1 c.args.m.0 c.requires.2 c.requires.3 c.word-row.ensures
+          c.if-row-eq0.false c.if-row-eq1.false c.requires.0 q _ c.find_path_for_module_local-c.ensures,
       owner_steps
-          c.args.words.now c.args.area.now c.args.l c.args.x c.args.left c.args.s c.requires.1.1
-          c.args.m.0 c.requires.1.2 c.requires.1.3 c.word-row.ensures c.if-row-eq0.false c.if-row-eq1.false c.requires.1.0 q _
+          c.args.words.now c.args.area.now c.args.l c.args.x c.args.left c.args.s c.requires.1
+          c.args.m.0 c.requires.2 c.requires.3 c.word-row.ensures c.if-row-eq0.false c.if-row-eq1.false c.requires.0 q _
           c.find_path_for_module_local-c.ensures,
     )
 
@@ -573,6 +573,6 @@ tight_at-returns t c =
     
     
     let q = c.scope_owner-owner.ensures ∙ ap (λ z. (scope_at c.args.words.now z).owner) c.row_place.ensures in
-    owner_done c.args.words.now c.args.area.now c.args.l c.args.x c.args.left c.args.s c.requires.1.1
-    c.args.m.0 c.requires.1.2 c.requires.1.3 c.word-row.ensures c.if-row-eq0.false c.if-row-eq1.false c.requires.1.0 q _
+    owner_done c.args.words.now c.args.area.now c.args.l c.args.x c.args.left c.args.s c.requires.1
+    c.args.m.0 c.requires.2 c.requires.3 c.word-row.ensures c.if-row-eq0.false c.if-row-eq1.false c.requires.0 q _
     c.find_path_for_module_local-c.ensures c.from_row.ensures

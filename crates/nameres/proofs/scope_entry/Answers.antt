@@ -30,7 +30,7 @@ returns-in-At c =
     (block_falls (snap_of c.args.words.now c.args.area.now c.args.l)
     (accepted_tree c.args.words.now (snap_of c.args.words.now c.args.area.now c.args.l) c.requires.0.same))
     g.m.0 (rw (length_modules c.args.words.now c.args.area.now c.args.l) g.invariant.1)
-    (entry_in (snap_of c.args.words.now c.args.area.now c.args.l) c.args.item c.args.declared-only c.args.fresh)
+    (entry_in (snap_of c.args.words.now c.args.area.now c.args.l) c.args.item c.args.declared_only c.args.fresh)
     (sym (c.entry_in-e.ensures.0 c.args.area.now) ∙ ap (entry_of scope_at c.args.words.now)
     c.in-At.is) ∙ sym g.invariant.0
 
@@ -46,7 +46,7 @@ returns-in_default-block c =
     (block_falls (snap_of c.args.words.now c.args.area.now c.args.l)
     (accepted_tree c.args.words.now (snap_of c.args.words.now c.args.area.now c.args.l) c.requires.0.same))
     g.m.0 (rw (length_modules c.args.words.now c.args.area.now c.args.l) g.invariant.1)
-    (entry_in (snap_of c.args.words.now c.args.area.now c.args.l) c.args.item c.args.declared-only c.args.fresh)
+    (entry_in (snap_of c.args.words.now c.args.area.now c.args.l) c.args.item c.args.declared_only c.args.fresh)
     (sym (c.entry_in-e.ensures.0 c.args.area.now)
     ∙ ap (entry_of scope_at c.args.words.now) c.in_default.is)
     (is_none _ c.block.ensures c.in_default-block.is) ∙ sym g.invariant.0
@@ -74,7 +74,7 @@ loop-h-preserved c =
           (block_falls (snap_of c.args.words.now c.args.area.now c.args.l)
           (accepted_tree c.args.words.now (snap_of c.args.words.now c.args.area.now c.args.l) c.requires.0.same))
           g.m.0 (rw (length_modules c.args.words.now c.args.area.now c.args.l) g.invariant.1)
-          (entry_in (snap_of c.args.words.now c.args.area.now c.args.l) c.args.item c.args.declared-only c.args.fresh)
+          (entry_in (snap_of c.args.words.now c.args.area.now c.args.l) c.args.item c.args.declared_only c.args.fresh)
           (sym (c.entry_in-e.ensures.0 c.args.area.now)
           ∙ ap (entry_of scope_at c.args.words.now) c.in_default.is) _
           (is_some _ c.block.ensures c.in-Module.is),

@@ -10,4 +10,4 @@ line_on-n-requires c =
     (checks_judged c.args.words.now c.args.area.now _ _ c.requires.0 c.check-c.ensures, c.check-c.auto.area ∙ c.requires.0, c.requires.1)
 
 pub returns : goal.returns
-returns c = record { put = c.line_on-n.ensures.line; area_after = c.clear.ensures ∙ ap zeros (c.line_on-n.auto.area ∙ c.check-c.auto.area ∙ c.pre.0) }
+returns c = record { put = c.line_on-n.ensures.line; area_after = c.clear.ensures ∙ ap zeros (c.line_on-n.auto.area ∙ c.check-c.auto.area ∙ c.requires.0) }

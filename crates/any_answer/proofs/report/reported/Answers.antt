@@ -1,3 +1,4 @@
+use borrow.Author.Tests.{not-true, not-false}
 use native.Mathlib.Omega.{arith}
 use Rattle.any_answer.proofs.Laws.{told_nowhere, told_longer, told_found}
 use Rattle.any_answer.proofs.report.reported.Goals as goal

@@ -8,13 +8,13 @@ pub returns-then-n-lt2 : goal.returns-then-n-lt2
 returns-then-n-lt2 t c = sorts_few _ _ _ _ _ c.if-n-lt2.true
 
 pub sort-requires : goal.sort-requires
-sort-requires t c = (omega arith, (c.requires.1.0, omega arith, omega arith))
+sort-requires t c = (omega arith, (c.requires.0, omega arith, omega arith))
 
 pub sort-requires-2 : goal.sort-requires-2
 sort-requires-2 t c = (
   omega arith,
   (
-    runs_ready c.requires.1.0
+    runs_ready c.requires.0
         c.sort.ensures.frame (omega arith),
     omega arith,
     omega arith,
@@ -24,7 +24,7 @@ sort-requires-2 t c = (
 pub merge-requires : goal.merge-requires
 merge-requires t c =
     (
-      runs_ready (runs_ready c.requires.1.0 c.sort.ensures.frame (omega arith))
+      runs_ready (runs_ready c.requires.0 c.sort.ensures.frame (omega arith))
           c.sort-2.ensures.frame (omega arith),
       omega arith,
       omega arith,
@@ -36,4 +36,4 @@ returns t c =
     
     
     
-    sorts_halves _ c.requires.1.0 (omega arith) (omega arith) (omega arith) c.sort.ensures c.sort-2.ensures c.merge.ensures
+    sorts_halves _ c.requires.0 (omega arith) (omega arith) (omega arith) c.sort.ensures c.sort-2.ensures c.merge.ensures

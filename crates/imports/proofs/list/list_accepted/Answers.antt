@@ -24,7 +24,7 @@ returns-then-target-count c =
     
     let t = c.thread-n.ensures in
     let p = c.put_modules-count.ensures in
-    list_short c.pre c.if-l-c.false t.0 t.1 c.walk-k.ensures
+    list_short c.requires c.if-l-c.false t.0 t.1 c.walk-k.ensures
     p.next p.same c.if-target-count.true
 
 pub put_modules-requires : goal.put_modules-requires
@@ -32,11 +32,11 @@ put_modules-requires c = let t = c.thread-n.ensures in
     let w = c.walk-k.ensures in
     let p = c.put_modules-count.ensures in
     let g = c.if-target-count.false in  record { threaded = (
-        walked_threaded c.pre t.0 t.1 w,
+        walked_threaded c.requires t.0 t.1 w,
         c.if-l-c.false,
         w.few,
         w.inside,
-      ); space = record { small = list_small c.pre t.0 t.1 w; room = λ e. omega (arith, p.next, g) } }
+      ); space = record { small = list_small c.requires t.0 t.1 w; room = λ e. omega (arith, p.next, g) } }
 
 pub returns : goal.returns
 unfolding written
@@ -44,7 +44,7 @@ returns c =
     
     let t = c.thread-n.ensures in
     let p = c.put_modules-count.ensures in
-    list_written c.pre
+    list_written c.requires
     c.if-l-c.false t.0 t.1
     c.walk-k.ensures
     p.next p.same c.if-target-count.false c.put_modules.ensures.same

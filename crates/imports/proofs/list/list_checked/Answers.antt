@@ -26,5 +26,5 @@ returns-in-Accepted c =
     
     
     checked_done c.args.words.now c.args.target.now c.args.c.0
-    (accepted_reads c.args.words.now c.args.area.now c.check-k.new.area _ c.pre c.check-k.ensures _
+    (accepted_reads c.args.words.now c.args.area.now c.check-k.new.area _ c.requires c.check-k.ensures _
     c.in-Accepted.is) c.list_accepted.ensures

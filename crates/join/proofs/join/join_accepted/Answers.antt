@@ -17,32 +17,32 @@ pub overflow_add-l-2 : goal.overflow_add-l-2
 overflow_add-l-2 c =
     
     let f = c.number-n.ensures in
-    let q = (sums c.pre f).crates in
+    let q = (sums c.requires f).crates in
     omega arith
 
 pub overflow_add-l-3 : goal.overflow_add-l-3
 overflow_add-l-3 c =
     
     let f = c.number-n.ensures in
-    let q = (sums c.pre f).modules in
+    let q = (sums c.requires f).modules in
     omega arith
 
 pub overflow_add-l-4 : goal.overflow_add-l-4
 overflow_add-l-4 c =
     
     let f = c.number-n.ensures in
-    let q = (sums c.pre f).definitions in
+    let q = (sums c.requires f).definitions in
     omega arith
 
 pub returns-then-not-fits : goal.returns-then-not-fits
 returns-then-not-fits c =
     
     let f = c.number-n.ensures in
-    join_not c.pre f c.put_kinds-count.ensures
+    join_not c.requires f c.put_kinds-count.ensures
     c.fits.ensures c.if-not-fits.true
 
 pub put_kinds-requires : goal.put_kinds-requires
-put_kinds-requires c = let f = c.number-n.ensures in  record { whole = wholes c.pre f; space = write_space c.pre f
+put_kinds-requires c = let f = c.number-n.ensures in  record { whole = wholes c.requires f; space = write_space c.requires f
           c.put_kinds-count.ensures
           c.fits.ensures c.if-not-fits.false }
 
@@ -50,6 +50,6 @@ pub returns : goal.returns
 returns c =
     
     let f = c.number-n.ensures in
-    join_done c.pre f
+    join_done c.requires f
     c.put_kinds-count.ensures c.fits.ensures
     c.if-not-fits.false c.put_kinds.ensures

@@ -26,5 +26,5 @@ returns-in-Accepted c =
     
     
     first_done c.args.first.now c.args.second.now c.args.target.now
-    (accepted_reads c.args.first.now c.args.area.now c.check-k.new.area _ c.pre c.check-k.ensures _
+    (accepted_reads c.args.first.now c.args.area.now c.check-k.new.area _ c.requires c.check-k.ensures _
     c.in-Accepted.is) c.join_second.ensures

@@ -28,5 +28,5 @@ returns-in-Accepted c =
     
     
     second_done c.args.first.now c.args.second.now c.args.target.now
-    (accepted_reads c.args.second.now c.args.area.now c.check-k.new.area _ c.pre.0 c.check-k.ensures _
+    (accepted_reads c.args.second.now c.args.area.now c.check-k.new.area _ c.requires.0 c.check-k.ensures _
     c.in-Accepted.is) c.join_accepted.ensures

@@ -44,15 +44,15 @@ put_path-requires-then-r-eq-MISLEADS c =
     
     let h : 16 ≡ length c.args.r.names = slice_bounds-put_path-end-then-r-eq-MISLEADS c in (
       (
-        c.pre.0,
+        c.requires.0,
         omega (
           arith,
-          c.pre.1,
+          c.requires.1,
           c.put-a-then-r-eq-MISLEADS.ensures.next,
           c.put-a-then-r-eq-MISLEADS.auto.out,
         ),
       ),
-      (c.pre.2, omega (arith, c.pre.2, h)),
+      (c.requires.2, omega (arith, c.requires.2, h)),
     )
 
 pub returns-then-r-eq-MISLEADS : goal.returns-then-r-eq-MISLEADS

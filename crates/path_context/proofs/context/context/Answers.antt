@@ -10,14 +10,14 @@ is_lang-std-requires c =
 
 pub crate_root-root-requires : goal.crate_root-root-requires
 crate_root-root-requires c = 
-    (c.pre.0, c.pre.1)
+    (c.requires.0, c.requires.1)
 
 pub returns : goal.returns
 returns c =
     
     let n = snap_of c.args.words.now c.args.area.now c.args.l in
     let A = c.args.area.now in
-    context_same n c.args.q c.args.home.0 c.pre.3
+    context_same n c.args.q c.args.home.0 c.requires.3
     c.in_block.ensures
     c.plain_if-prefix.ensures
     c.krate-here.ensures

@@ -10,14 +10,14 @@ pub returns-then-top-m : goal.returns-then-top-m
 returns-then-top-m c =
     
     let n = snap_of c.args.words.now c.args.area.now c.args.l in
-    c.nothing.ensures ∙ root_other n c.args.x c.args.maybe-extern c.args.m.0 c.crate_root-top.ensures
+    c.nothing.ensures ∙ root_other n c.args.x c.args.maybe_extern c.args.m.0 c.crate_root-top.ensures
     c.if-top-m.true
 
 pub returns-then-maybe_extern-m : goal.returns-then-maybe_extern-m
 returns-then-maybe_extern-m c =
     
     let n = snap_of c.args.words.now c.args.area.now c.args.l in
-    c.keyword.ensures ∙ root_crate n c.args.x c.args.maybe-extern c.args.m.0
+    c.keyword.ensures ∙ root_crate n c.args.x c.args.maybe_extern c.args.m.0
     c.crate_root-top.ensures c.if-top-m.false
     c.if-maybe_extern-m.true
 
@@ -37,6 +37,6 @@ returns c =
     
     let n = snap_of c.args.words.now c.args.area.now c.args.l in
     c.extern_rule.ensures
-    ∙ root_extern n c.args.x c.args.maybe-extern c.args.m.0
+    ∙ root_extern n c.args.x c.args.maybe_extern c.args.m.0
     c.crate_root-top.ensures
     c.if-top-m.false c.if-maybe_extern-m.false (c.extern_of-e.ensures c.args.area.now)

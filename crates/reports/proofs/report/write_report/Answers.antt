@@ -14,7 +14,7 @@ slice_bounds-put_words-end-2 c = search rules
 pub put_words-requires-2 : goal.put_words-requires-2
 put_words-requires-2 c =
     let h : 16 ≡ length c.args.report.names =
-    slice_bounds-put_words-end-2 c in
+    search rules in
     omega (
       arith,
       h,
@@ -27,7 +27,7 @@ slice_bounds-put_words-end-4 c = search rules
 
 pub put_words-requires-4 : goal.put_words-requires-4
 put_words-requires-4 c =
-    let h : 17 ≡ length c.args.report.route = slice_bounds-put_words-end-4 c in
+    let h : 17 ≡ length c.args.report.route = search rules in
     omega (
       arith,
       h,
@@ -40,9 +40,8 @@ put_words-requires-4 c =
 pub returns : goal.returns
 returns c =
     let s = c.args in
-    let h : 16 ≡ length s.report.names = slice_bounds-put_words-end-2
-    c in
-    let k : 17 ≡ length s.report.route = slice_bounds-put_words-end-4 c in
+    let h : 16 ≡ length s.report.names = search rules in
+    let k : 17 ≡ length s.report.route = search rules in
     written s.report s.out.now _ _ _ _
     c.if-out-lt-COUNT.false (sym h) (sym k)
     c.put_words.ensures

@@ -18,7 +18,7 @@ use Rattle.search.proofs.Starts.{begun, straight_known, enum_offered, tank_stays
 use Rattle.search.proofs.inner.+find_by_name_find_path_inner.Goals as goal
 
 pub find_by_name-named-choice-requires : goal.find_by_name-named-choice-requires
-find_by_name-named-choice-requires t c = (c.requires.1.0.reads, c.requires.1.0.from)
+find_by_name-named-choice-requires t c = (c.requires.0.reads, c.requires.0.from)
 
 pub find_by_name-returns-then-choice : goal.find_by_name-returns-then-choice
 find_by_name-returns-then-choice t c =
@@ -31,11 +31,11 @@ find_by_name-returns-then-choice t c =
     }
 
 pub find_by_name-variant_of-requires : goal.find_by_name-variant_of-requires
-find_by_name-variant_of-requires t c = few_words _ _ _ c.requires.1.0.reads
+find_by_name-variant_of-requires t c = few_words _ _ _ c.requires.0.reads
 
 pub find_by_name-calculate_best_path-requires : goal.find_by_name-calculate_best_path-requires
 find_by_name-calculate_best_path-requires t c = 
-    (begun c.requires.1.0, c.requires.1.1, c.requires.1.2)
+    (begun c.requires.0, c.requires.1, c.requires.2)
 
 pub find_by_name-returns-in_default : goal.find_by_name-returns-in_default
 find_by_name-returns-in_default t c =
@@ -52,7 +52,7 @@ find_by_name-returns-in_default t c =
     }
 
 pub find_by_name-item_of-parent-requires : goal.find_by_name-item_of-parent-requires
-find_by_name-item_of-parent-requires t c = few_words _ _ _ c.requires.1.0.reads
+find_by_name-item_of-parent-requires t c = few_words _ _ _ c.requires.0.reads
 
 pub find_by_name-find_path_inner-o-requires : goal.find_by_name-find_path_inner-o-requires
 find_by_name-find_path_inner-o-requires t c =
@@ -62,17 +62,17 @@ find_by_name-find_path_inner-o-requires t c =
     ∙ c.variant_of.ensures a.area.now in
     let g = c.item_of-parent.ensures a.area.now ∙ ap (item_of (snap_of a.words.now a.area.now a.l) 0)
     c.definition_first.ensures in
-    let p = parent_of a.words.now a.area.now a.l c.requires.1.0.reads a.item _ c.requires.1.1.0 e in
+    let p = parent_of a.words.now a.area.now a.l c.requires.0.reads a.item _ c.requires.1.0 e in
     let n = ap number g in (
-      omega (arith, c.requires.0, p.falls, n),
+      omega (arith, c.decreases, p.falls, n),
       (
-        c.requires.1.0,
+        c.requires.0,
         (
           subst (Known a.l) (sym g) p.asked,
           subst (λ (y : Item). ns_of y ≤ 2) (sym g)
               (item_ns (snap_of a.words.now a.area.now a.l) 0 _ (omega arith)),
         ),
-        c.requires.1.2,
+        c.requires.2,
       ),
     )
 
@@ -87,11 +87,11 @@ find_by_name-push_variant-choice-requires t c =
     let g = c.item_of-parent.ensures a.area.now
     ∙ ap (item_of (snap_of a.words.now a.area.now a.l) 0)
     c.definition_first.ensures in
-    let p = parent_of a.words.now a.area.now a.l c.requires.1.0.reads a.item _ c.requires.1.1.0 e in
+    let p = parent_of a.words.now a.area.now a.l c.requires.0.reads a.item _ c.requires.1.0 e in
     let f = c.find_path_inner-o in
-    let q = enum_offered a.words.now a.area.now a.l a.x _ a.t f.result c.requires.1.0
+    let q = enum_offered a.words.now a.area.now a.l a.x _ a.t f.result c.requires.0
     (subst (λ (y : Item). variant_of (snap_of a.words.now a.area.now a.l) y ≡ none) (sym g) p.plain) f.ensures.same in (
-      same_reads a.words.now a.area.now _ a.l f.ensures.tables c.requires.1.0.reads,
+      same_reads a.words.now a.area.now _ a.l f.ensures.tables c.requires.0.reads,
       omega (arith, c.definition_second.ensures, p.name),
       q.few,
       q.text,
@@ -110,7 +110,7 @@ find_by_name-returns-then-best t c =
     ∙ ap (item_of (snap_of a.words.now a.area.now a.l) 0)
     c.definition_first.ensures in
     let f = c.find_path_inner-o in
-    enum_run c.requires.1.0 a.item a.t
+    enum_run c.requires.0 a.item a.t
     c.named-choice.ensures
     c.if-choice.false _ e g f.ensures c.if-best.true c.definition_second.ensures
     c.push_variant-choice.ensures
@@ -120,13 +120,13 @@ find_by_name-calculate_best_path-requires-2 t c =
     
     let a = c.args in
     (
-      begun_later (begun c.requires.1.0) c.find_path_inner-o.ensures.tables c.find_path_inner-o.auto.area,
-      c.requires.1.1,
+      begun_later (begun c.requires.0) c.find_path_inner-o.ensures.tables c.find_path_inner-o.auto.area,
+      c.requires.1,
       omega (
         arith,
-        c.requires.1.2,
+        c.requires.2,
         tank_stays
-            (snap_of a.words.now a.area.now a.l) a.x _ a.t c.find_path_inner-o.result c.find_path_inner-o.ensures.same c.requires.1.2,
+            (snap_of a.words.now a.area.now a.l) a.x _ a.t c.find_path_inner-o.result c.find_path_inner-o.ensures.same c.requires.2,
       ),
     )
 
@@ -141,13 +141,13 @@ find_by_name-returns t c =
     ∙ ap (item_of (snap_of a.words.now a.area.now a.l) 0)
     c.definition_first.ensures in
     let f = c.find_path_inner-o in
-    else_run c.requires.1.0 a.item a.t
+    else_run c.requires.0 a.item a.t
     c.named-choice.ensures
     c.if-choice.false _ e g f.ensures c.if-best.false
     c.calculate_best_path-2.ensures
 
 pub find_path_inner-find_by_name-requires : goal.find_path_inner-find_by_name-requires
-find_path_inner-find_by_name-requires t c = (omega (arith, c.requires.0), c.requires.1)
+find_path_inner-find_by_name-requires t c = (omega (arith, c.decreases), c.requires)
 
 pub find_path_inner-returns-in_default : goal.find_path_inner-returns-in_default
 find_path_inner-returns-in_default t c =
@@ -158,7 +158,7 @@ find_path_inner-returns-in_default t c =
     c.in_default.is in
     record {
       same = f.ensures.same ∙ ap found_of (inner_by_name (snap_of a.words.now a.area.now a.l) a.x a.item a.t
-          (enum_no_variant a.words.now a.area.now a.l c.requires.1.0.reads a.item c.requires.1.1.0) e);
+          (enum_no_variant a.words.now a.area.now a.l c.requires.0.reads a.item c.requires.1.0) e);
       tables = f.ensures.tables;
     }
 
@@ -167,7 +167,7 @@ find_path_inner-find_path_for_module-requires t c =
     
     let a = c.args in
     let e = is_some _ c.straight_of.ensures c.in-Module.is in
-    (c.requires.1.0, straight_known a.l _ a.item e c.requires.1.1.0, c.requires.1.0.limit, c.requires.1.2)
+    (c.requires.0, straight_known a.l _ a.item e c.requires.1.0, c.requires.0.limit, c.requires.2)
 
 pub find_path_inner-returns : goal.find_path_inner-returns
 find_path_inner-returns t c =
@@ -178,6 +178,6 @@ find_path_inner-returns t c =
     c.in-Module.is in
     record {
       same = f.ensures.same ∙ ap found_of (inner_at_once (snap_of a.words.now a.area.now a.l) a.x a.item a.t
-          (enum_no_variant a.words.now a.area.now a.l c.requires.1.0.reads a.item c.requires.1.1.0) e);
+          (enum_no_variant a.words.now a.area.now a.l c.requires.0.reads a.item c.requires.1.0) e);
       tables = f.ensures.tables;
     }

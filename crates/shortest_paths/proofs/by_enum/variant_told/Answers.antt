@@ -1,3 +1,4 @@
+use borrow.Author.Tests.{not-true, not-false}
 use mathlib.Core.Path.{sym, ◌∙◌}
 use Rattle.snapshot.specs.Layouts.{snap_of}
 use Rattle.hir_def.proofs.Fits.{few_words}

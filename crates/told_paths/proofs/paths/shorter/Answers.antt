@@ -1,3 +1,4 @@
+use borrow.Author.Tests.{not-true, not-false}
 use Rattle.told_paths.proofs.Laws.{shorter_second, shorter_first, shorter_less, shorter_keeps}
 use Rattle.told_paths.proofs.paths.shorter.Goals as goal
 
