@@ -420,6 +420,18 @@ find_in_sysroot-find_in_lang-c-requires t c =
     let p2 = lang_passed a.item _ (p1) c.find_in_lang-b.ensures c.find_in_lang-b.auto.area in
     (omega (arith, c.decreases), (p2.begun, p2.held))
 
+pub find_in_sysroot-find_in_rest-requires : goal.find_in_sysroot-find_in_rest-requires
+find_in_sysroot-find_in_rest-requires t c =
+    
+    let a = c.args in
+    
+    let p1 = lang_passed a.item _ (record { begun = c.requires.0; held = c.requires.1 }) c.find_in_lang-a.ensures c.find_in_lang-a.auto.area in
+    
+    let p2 = lang_passed a.item _ (p1) c.find_in_lang-b.ensures c.find_in_lang-b.auto.area in
+    
+    let p3 = lang_passed a.item _ (p2) c.find_in_lang-c.ensures c.find_in_lang-c.auto.area in
+    (omega (arith, c.decreases), (p3.begun, p3.held))
+
 pub find_in_sysroot-returns : goal.find_in_sysroot-returns
 find_in_sysroot-returns t c =
     
@@ -432,10 +444,10 @@ find_in_sysroot-returns t c =
     
     let n = c.langs_for-langs in
     subst (λ (ls : List ℕ). Searched a.area.now (sysroot (snap_of a.words.now a.area.now a.l) a.x a.left
-    a.item (out_of a.o) ls (is_stable a.o.choice)) c.find-in-default.new.1.0 c.find-in-default.result) n.ensures
+    a.item (out_of a.o) ls (is_stable a.o.choice)) c.find_in_rest.new.area c.find_in_rest.result) n.ensures
     (lang_run a.left a.item _ _ a.o c.requires.0.ready c.find_in_lang-a.ensures
     (lang_run a.left a.item _ _ c.find_in_lang-a.result p1.begun.ready c.find_in_lang-b.ensures
-    (lang_run a.left a.item _ _ c.find_in_lang-b.result p2.begun.ready f3.ensures c.find-in-default.ensures)))
+    (lang_run a.left a.item _ _ c.find_in_lang-b.result p2.begun.ready f3.ensures c.find_in_rest.ensures)))
 
 pub find_path_for_module-returns-then-left-eq0 : goal.find_path_for_module-returns-then-left-eq0
 find_path_for_module-returns-then-left-eq0 t c =

@@ -1,20 +1,9 @@
 use mathlib.Core.Path.{refl}
-use mathlib.Core.Logic.{⊎_elim}
 use native.Mathlib.Omega.{arith}
 use lib.ListN.{length}
 use Rattle.local_levels.proofs.Stacks.{First, chain_first, visited_hit, visited_other, visited_miss, visited_end}
-use Rattle.local_levels.proofs.levels.visited.Reads as reads
-use Rattle.local_levels.proofs.levels.visited.Lts as lts
-use Rattle.local_levels.proofs.levels.code_of.Reads as code-of-reads
-use Rattle.local_levels.proofs.levels.has.Reads as has-reads
-use Rattle.snapshot.proofs.words.word.Reads as word-reads
 use Rattle.local_levels.proofs.levels.visited.Goals as goal
-
-first : (c : lts.In-loop (code-of-reads.Asked, code-of-reads.Learnt, word-reads.Asked, word-reads.Learnt, has-reads.Asked, has-reads.Learnt)
-    reads.Pre reads.Post invariant-loop decreases-loop)
-    → First c.before.before.before.before.args.area.now c.before.loop.p c.before.loop.d
-    (length c.before.before.before.before.args.area.now)
-first c = chain_first _ _ _ _ c.loop-test.true c.before.loop.invariant.1
+use Rattle.local_levels.proofs.levels.visited.Goals.{then-word-code, else-word-code}
 
 pub code_of-code-requires : goal.code_of-code-requires
 code_of-code-requires c = c.requires.1
@@ -23,16 +12,16 @@ pub loop-d-init : goal.loop-d-init
 loop-d-init c = (λ item s e. refl, c.requires.0)
 
 pub overflow_sub-p : goal.overflow_sub-p
-overflow_sub-p c = omega (arith, (first c).header)
+overflow_sub-p c = omega (arith, (chain_first _ _ _ _ c.loop-d-test.true c.loop-d.invariant.1).header)
 
 pub overflow_sub-p-then-word-code : goal.overflow_sub-p-then-word-code
-overflow_sub-p-then-word-code c = omega (arith, (first c).header)
+overflow_sub-p-then-word-code c = omega (arith, (chain_first _ _ _ _ c.loop-d-test.true c.loop-d.invariant.1).header)
 
 pub overflow_add-cursor : goal.overflow_add-cursor
-overflow_add-cursor c = omega (arith, (first c).within, c.word-cursor.ensures)
+overflow_add-cursor c = omega (arith, (chain_first _ _ _ _ c.loop-d-test.true c.loop-d.invariant.1).within, c.word-cursor.ensures)
 
 pub has-requires : goal.has-requires
-has-requires c = omega (arith, (first c).within, c.word-cursor.ensures)
+has-requires c = omega (arith, (chain_first _ _ _ _ c.loop-d-test.true c.loop-d.invariant.1).within, c.word-cursor.ensures)
 
 pub returns-then-has : goal.returns-then-has
 returns-then-has c =
@@ -47,7 +36,7 @@ returns-then-has c =
     c.has.ensures c.if-has.true
 
 pub overflow_sub-p-in-loop-d : goal.overflow_sub-p-in-loop-d
-overflow_sub-p-in-loop-d c = omega (arith, (first c).header)
+overflow_sub-p-in-loop-d c = omega (arith, (chain_first _ _ _ _ c.loop-d-test.true c.loop-d.invariant.1).header)
 
 pub overflow_sub-d : goal.overflow_sub-d
 overflow_sub-d c = omega (arith, c.loop-d-test.true)
@@ -57,17 +46,17 @@ loop-d-smaller c = omega (arith, c.loop-d-test.true)
 
 pub loop-d-preserved : goal.loop-d-preserved
 loop-d-preserved c =
-    let i = c in 
     let l = c.loop-d in
     let A = c.args.area.now in
     let t = c.loop-d-test.true in (
       λ item s e.
-          ⊎_elim
-          (λ w. visited_miss A item _ _ l.p l.d (l.invariant.0 item s e) s t w.1.ensures w.2.ensures w.3.left c.word-p.ensures refl)
-          (λ w. visited_other A item _ _ l.p l.d (l.invariant.0 item s e) s t c.word.ensures e w.left
-          c.word-p.ensures refl)
-          c.if-word-code.branch,
-      rw c.word-p.ensures (first i).rest,
+          elim c.if-word-code.branch [
+            | then-word-code w ↦ visited_miss A item _ _ l.p l.d (l.invariant.0 item s e) s t w.word-cursor.ensures w.has.ensures w.if-has.false
+                c.word-p.ensures refl
+            | else-word-code w ↦ visited_other A item _ _ l.p l.d (l.invariant.0 item s e) s t c.word.ensures e w.if-word-code.false
+                c.word-p.ensures refl
+          ],
+      rw c.word-p.ensures (chain_first _ _ _ _ t l.invariant.1).rest,
     )
 
 pub returns : goal.returns

@@ -1,10 +1,10 @@
 use mathlib.Core.Path.{refl}
 use native.Mathlib.Omega.{arith}
-use mathlib.Core.Logic.{⊎_elim}
 use Rattle.hir_def.proofs.Fits.{few_words}
 use Rattle.local_levels.proofs.Stacks.{pushing_start, pushing_skip, pushing_next, pushing_done}
 use Rattle.local_levels.proofs.Nexts.{children_start, child_hit, child_miss, child_end, child_below}
 use Rattle.local_levels.proofs.locations.push_children.Goals as goal
+use Rattle.local_levels.proofs.locations.push_children.Goals.{then-owner-from, else-owner-from}
 
 pub child_base-base-requires : goal.child_base-base-requires
 child_base-base-requires c =
@@ -65,12 +65,13 @@ loop-k-preserved c =
     
     
     let W = c.args.words.now in
-    ⊎_elim
-    (λ w. pushing_skip _ _ _ _ _ (pushing_next _ _ _ _ _ l.invariant (child_hit W c.args.l c.args.from.0 l.k c.loop-k-test.true
-    c.child_base-base.ensures c.child_owner-owner.ensures w.0.taken w.1.ensures) w.3.ensures w.3.kept.0) refl w.6 w.7)
-    (λ w. pushing_skip _ _ _ _ _ l.invariant (child_miss W c.args.l c.args.from.0 l.k c.loop-k-test.true c.child_base-base.ensures
-    c.child_owner-owner.ensures w.0.left) w.1 w.2)
-    c.if-owner-from.branch
+    elim c.if-owner-from.branch [
+      | then-owner-from w ↦ pushing_skip _ _ _ _ _ (pushing_next _ _ _ _ _ l.invariant (child_hit W c.args.l c.args.from.0 l.k c.loop-k-test.true
+          c.child_base-base.ensures c.child_owner-owner.ensures w.if-owner-from.true w.child_child-m.ensures)
+          w.push_module-run.ensures w.push_module-run.auto.area) refl w.area-is w.run-is
+      | else-owner-from w ↦ pushing_skip _ _ _ _ _ l.invariant (child_miss W c.args.l c.args.from.0 l.k c.loop-k-test.true
+          c.child_base-base.ensures c.child_owner-owner.ensures w.if-owner-from.false) w.area-is w.run-is
+    ]
 
 pub returns : goal.returns
 returns c =

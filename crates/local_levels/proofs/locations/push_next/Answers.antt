@@ -1,7 +1,6 @@
 use mathlib.Core.Path.{refl, ap, ◌∙◌}
 use native.Mathlib.Omega.{arith}
 use mathlib.Core.Bool.{◌&&◌}
-use mathlib.Core.Logic.{⊎_elim}
 use lib.Dec.{eqb}
 use Rattle.snapshot.specs.Records.{scope_at}
 use Rattle.snapshot.specs.Layouts.{snap_of}
@@ -13,6 +12,7 @@ use Rattle.scope_index.proofs.Chaining.{accepted_sized}
 use Rattle.local_levels.proofs.Stacks.{snap_at, reads_at, chains_at, pushing_start, pushing_skip, pushing_next, pushing_done}
 use Rattle.local_levels.proofs.Nexts.{leads_start, leads_hit, leads_miss, leads_follow, leads_end, leads_below}
 use Rattle.local_levels.proofs.locations.push_next.Goals as goal
+use Rattle.local_levels.proofs.locations.push_next.Goals.{then-leads, else-leads}
 
 pub loop-j-init : goal.loop-j-init
 loop-j-init c =
@@ -126,11 +126,12 @@ loop-j-preserved c =
     c.args.from.0 (scope_at W c.in-Record.h)) (snap_at W A l.area c.args.l c.args.s.top c.requires.0
     c.requires.2.tables l.invariant.0.below) in
     let k = leads_follow W A c.args.l c.args.from.0 c.args.m.0 x in (
-      ⊎_elim
-          (λ w. pushing_skip _ _ _ _ _ (pushing_next _ _ _ _ _ l.invariant.0 (leads_hit W A c.args.l c.args.from.0
-          c.args.m.0 x t q w.0.taken) w.2.ensures w.2.kept.0) refl w.5 w.6)
-          (λ w. pushing_skip _ _ _ _ _ l.invariant.0 (leads_miss W A c.args.l c.args.from.0 c.args.m.0 x t q w.0.left) w.1 w.2)
-          c.if-leads.branch,
+      elim c.if-leads.branch [
+        | then-leads w ↦ pushing_skip _ _ _ _ _ (pushing_next _ _ _ _ _ l.invariant.0 (leads_hit W A c.args.l c.args.from.0
+            c.args.m.0 x t q w.if-leads.true) w.push_module-run.ensures w.push_module-run.auto.area) refl w.area-is w.run-is
+        | else-leads w ↦ pushing_skip _ _ _ _ _ l.invariant.0 (leads_miss W A c.args.l c.args.from.0 c.args.m.0 x t q w.if-leads.false)
+            w.area-is w.run-is
+      ],
       omega (arith, x.below),
       k,
     )
