@@ -3,6 +3,44 @@ use Rattle.std.proofs.Common.{◌≡◌, ℕ, zero, suc, ◌+◌, ◌-◌, ◌*�
 use borrow.Author.Tests.{lt-leb}
 use Rattle.case_text.specs.Words.{digit_of, next_word, Read, read_to, put_word, stored, raised_by, copied, repeated, read_from}
 
+-- a digit
+
+pub digit_numeral : (b : ℕ) → 48 ≤ b → b < 58 → b - 48 ≡ digit_of b
+unfolding digit_of
+digit_numeral b h g = let l : b ≤ 57 = omega arith in sym (rw (digit_of, le-leb 48 b h, le-leb b 57 l))
+
+pub digit_letter : (b : ℕ) → 97 ≤ b → b < 103 → b - 87 ≡ digit_of b
+unfolding digit_of
+digit_letter b h g =
+    let f : 48 ≤ b = omega arith in
+    let m : 57 < b = omega arith in
+    let l : b ≤ 102 = omega arith in
+    sym (rw (digit_of, le-leb 48 b f, lt-leb b 57 m, le-leb 97 b h, le-leb b 102 l))
+
+pub digit_low : (b : ℕ) → b < 48 → (b ≡ 42 → ⊥) → 16 ≡ digit_of b
+unfolding digit_of
+digit_low b h n = let l : b < 97 = omega arith in sym (rw (digit_of, lt-leb 48 b h, lt-leb 97 b l, ne_eqb b 42 n))
+
+pub digit_between : (b : ℕ) → 58 ≤ b → b < 97 → 16 ≡ digit_of b
+unfolding digit_of
+digit_between b h g =
+    let f : 48 ≤ b = omega arith in
+    let n : b ≡ 42 → ⊥ = λ e. omega arith in
+    sym (rw (digit_of, le-leb 48 b f, lt-leb b 57 h, lt-leb 97 b g, ne_eqb b 42 n))
+
+pub digit_high : (b : ℕ) → 103 ≤ b → 16 ≡ digit_of b
+unfolding digit_of
+digit_high b h =
+    let f : 48 ≤ b = omega arith in
+    let m : 57 < b = omega arith in
+    let g : 97 ≤ b = omega arith in
+    let n : b ≡ 42 → ⊥ = λ e. omega arith in
+    sym (rw (digit_of, le-leb 48 b f, lt-leb b 57 m, le-leb 97 b g, lt-leb b 102 h, ne_eqb b 42 n))
+
+pub digit_star : (b : ℕ) → b ≡ 42 → 17 ≡ digit_of b
+unfolding digit_of
+digit_star b e = rw e
+
 -- a word that is under way
 
 module _ (w d : ℕ) where
@@ -13,6 +51,17 @@ module _ (w d : ℕ) where
   pub next_none : 16 ≤ d → 0 ≡ next_word w d
   unfolding next_word
   next_none h = sym (rw (next_word, le-ltb d 16 h))
+
+-- a copy of a word
+
+module _ (w heads arguments : ℕ) where
+  pub raised_argument : w < 268435456 → (w + arguments) % 4294967296 ≡ raised_by w heads arguments
+  unfolding raised_by
+  raised_argument h = sym (rw (raised_by, lt-ltb w 268435456 h))
+
+  pub raised_head : 268435456 ≤ w → (w + heads) % 4294967296 ≡ raised_by w heads arguments
+  unfolding raised_by
+  raised_head h = sym (rw (raised_by, le-ltb w 268435456 h))
 
 -- a word that is whole
 

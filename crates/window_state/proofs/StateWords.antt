@@ -23,7 +23,7 @@ use Rattle.window_state.proofs.rows.Windows.TheLaws as T'
 
 -- what a state's type says
 pub rows_eight : (s : Windows) (vs : List Val) → Is T.the_row s vs → length s.rows ≡ 8
-rows_eight s vs g = sym (length-map s.rows (R.the_field).into) ∙ (LL.owed T.the_type T'.the_laws s vs g).1.0.1.0.1
+rows_eight s vs g = (LL.owed T.the_type T'.the_laws s vs g).1.0.1.0.1
 
 pub row_length : (r : Row) → length (row_words r) ≡ 8
 unfolding row_words

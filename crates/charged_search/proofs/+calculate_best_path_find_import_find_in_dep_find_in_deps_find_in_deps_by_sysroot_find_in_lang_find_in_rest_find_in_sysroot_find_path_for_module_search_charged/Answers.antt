@@ -35,7 +35,6 @@ calculate_best_path-charge-requires t c =
 
 pub calculate_best_path-search_charged-requires : goal.calculate_best_path-search_charged-requires
 calculate_best_path-search_charged-requires t c =
-    
     let a = c.args in (
       omega (arith, c.decreases),
       (
@@ -48,7 +47,6 @@ calculate_best_path-search_charged-requires t c =
 
 pub calculate_best_path-returns-in-Stop : goal.calculate_best_path-returns-in-Stop
 calculate_best_path-returns-in-Stop t c =
-    
     let a = c.args in
     record {
       same = best_empty (snap_of a.words.now a.area.now a.l) a.x a.left a.item a.t
@@ -58,7 +56,6 @@ calculate_best_path-returns-in-Stop t c =
 
 pub calculate_best_path-returns-in-Go : goal.calculate_best_path-returns-in-Go
 calculate_best_path-returns-in-Go t c =
-    
     let a = c.args in
     let f = c.search_charged in
     record {
@@ -70,7 +67,6 @@ calculate_best_path-returns-in-Go t c =
 
 pub find_import-returns-then-is_hidden : goal.find_import-returns-then-is_hidden
 find_import-returns-then-is_hidden t c =
-    
     let a = c.args in
     record {
       same = ap found_of (import_hidden (snap_of a.words.now a.area.now a.l) a.x a.left (out_of a.o)
@@ -84,7 +80,6 @@ find_import-length_left-n-requires t c =
 
 pub find_import-find_path_for_module-r-requires : goal.find_import-find_path_for_module-r-requires
 find_import-find_path_for_module-r-requires t c =
-    
     let a = c.args in
     let g = c.requires.0 in
     let k = length_falls a.left a.o.choice g.some in
@@ -95,7 +90,6 @@ find_import-find_path_for_module-r-requires t c =
 
 pub find_import-offer_import-choice-requires : goal.find_import-offer_import-choice-requires
 find_import-offer_import-choice-requires t c =
-    
     let a = c.args in
     let g = c.requires.0 in
     let f = c.find_path_for_module-r in
@@ -112,7 +106,6 @@ find_import-offer_import-choice-requires t c =
 
 pub find_import-returns : goal.find_import-returns
 find_import-returns t c =
-    
     let a = c.args in
     let f = c.find_path_for_module-r in
     import_run a.left a.h a.o c.requires.0.ready
@@ -123,7 +116,6 @@ find_import-returns t c =
 
 pub find_in_dep-loop-k-init : goal.find_in_dep-loop-k-init
 find_in_dep-loop-k-init t c =
-    
     let a = c.args in
     record {
       same = ap (imports (snap_of a.words.now a.area.now a.l) a.x a.left (out_of a.o))
@@ -138,7 +130,6 @@ find_in_dep-import_info_for-requires t c = few_words _ _ _ c.requires.0.ready.re
 
 pub find_in_dep-returns-in_default : goal.find_in_dep-returns-in_default
 find_in_dep-returns-in_default t c =
-    
     let a = c.args in
     let g = c.loop-k in
     running_done g.invariant (imports_end a.words.now a.area.now g.area a.l a.x a.left c.requires.0.ready
@@ -146,7 +137,6 @@ find_in_dep-returns-in_default t c =
 
 pub find_in_dep-find_import-best-requires : goal.find_in_dep-find_import-best-requires
 find_in_dep-find_import-best-requires t c =
-    
     let a = c.args in
     let g = c.loop-k in
     let m = next_record (c.import_info_for.ensures a.area.now) c.in-Record.is in
@@ -155,7 +145,6 @@ find_in_dep-find_import-best-requires t c =
 
 pub find_in_dep-overflow_add-k : goal.find_in_dep-overflow_add-k
 find_in_dep-overflow_add-k t c =
-    
     let a = c.args in
     let m = next_record (c.import_info_for.ensures a.area.now)
     c.in-Record.is in
@@ -163,7 +152,6 @@ find_in_dep-overflow_add-k t c =
 
 pub find_in_dep-loop-k-smaller : goal.find_in_dep-loop-k-smaller
 find_in_dep-loop-k-smaller t c =
-    
     let a = c.args in
     let m = next_record (c.import_info_for.ensures a.area.now)
     c.in-Record.is in
@@ -171,18 +159,15 @@ find_in_dep-loop-k-smaller t c =
 
 pub find_in_dep-loop-k-preserved : goal.find_in_dep-loop-k-preserved
 find_in_dep-loop-k-preserved t c =
-    
     let a = c.args in
     let m = next_record (c.import_info_for.ensures a.area.now)
     c.in-Record.is in
     let g = c.loop-k in
-    
     imports_next a.words.now a.area.now g.area a.l a.x a.left c.requires.0.ready c.requires.0.some
     g.invariant m c.find_import-best.ensures c.find_import-best.auto.area
 
 pub find_in_dep-returns : goal.find_in_dep-returns
 find_in_dep-returns t c =
-    
     let a = c.args in
     let g = c.loop-k in
     running_done g.invariant (imports_end a.words.now a.area.now g.area a.l a.x a.left c.requires.0.ready
@@ -190,7 +175,6 @@ find_in_dep-returns t c =
 
 pub find_in_deps-loop-k-init : goal.find_in_deps-loop-k-init
 find_in_deps-loop-k-init t c =
-    
     let a = c.args in
     record {
       same = ap (dependencies (snap_of a.words.now a.area.now a.l) a.x a.left a.item (out_of a.o))
@@ -205,7 +189,6 @@ find_in_deps-next_dependency-requires t c = few_words _ _ _ c.requires.0.ready.r
 
 pub find_in_deps-returns-in_default : goal.find_in_deps-returns-in_default
 find_in_deps-returns-in_default t c =
-    
     let a = c.args in
     let g = c.loop-k in
     running_done g.invariant (deps_end a.words.now a.area.now g.area a.l a.x a.left c.requires.0.ready
@@ -213,14 +196,12 @@ find_in_deps-returns-in_default t c =
 
 pub find_in_deps-find_in_dep-best-requires : goal.find_in_deps-find_in_dep-best-requires
 find_in_deps-find_in_dep-best-requires t c =
-    
     let a = c.args in
     let g = c.loop-k in
     (omega (arith, c.decreases), (begun_later c.requires.0 g.invariant.tables g.invariant.long, g.invariant.held))
 
 pub find_in_deps-overflow_add-k : goal.find_in_deps-overflow_add-k
 find_in_deps-overflow_add-k t c =
-    
     let a = c.args in
     let m = next_record c.next_dependency.ensures
     c.in-Record.is in
@@ -228,7 +209,6 @@ find_in_deps-overflow_add-k t c =
 
 pub find_in_deps-loop-k-smaller : goal.find_in_deps-loop-k-smaller
 find_in_deps-loop-k-smaller t c =
-    
     let a = c.args in
     let m = next_record c.next_dependency.ensures
     c.in-Record.is in
@@ -236,18 +216,15 @@ find_in_deps-loop-k-smaller t c =
 
 pub find_in_deps-loop-k-preserved : goal.find_in_deps-loop-k-preserved
 find_in_deps-loop-k-preserved t c =
-    
     let a = c.args in
     let m = next_record c.next_dependency.ensures
     c.in-Record.is in
     let g = c.loop-k in
-    
     deps_next a.words.now a.area.now g.area a.l a.x a.left c.requires.0.ready c.requires.0.some a.item
     g.invariant m c.dependency_crate.ensures c.find_in_dep-best.ensures c.find_in_dep-best.auto.area
 
 pub find_in_deps-returns : goal.find_in_deps-returns
 find_in_deps-returns t c =
-    
     let a = c.args in
     let g = c.loop-k in
     running_done g.invariant (deps_end a.words.now a.area.now g.area a.l a.x a.left c.requires.0.ready
@@ -255,7 +232,6 @@ find_in_deps-returns t c =
 
 pub find_in_deps_by_sysroot-loop-k-init : goal.find_in_deps_by_sysroot-loop-k-init
 find_in_deps_by_sysroot-loop-k-init t c =
-    
     let a = c.args in
     record {
       same = ap (dependencies (snap_of a.words.now a.area.now a.l) a.x a.left a.item (out_of a.o))
@@ -272,7 +248,6 @@ find_in_deps_by_sysroot-next_by_sysroot-requires t c = few_words _ _ _
 
 pub find_in_deps_by_sysroot-returns-in_default : goal.find_in_deps_by_sysroot-returns-in_default
 find_in_deps_by_sysroot-returns-in_default t c =
-    
     let a = c.args in
     let g = c.loop-k in
     running_done g.invariant (deps_end a.words.now a.area.now g.area a.l a.x a.left c.requires.0.ready
@@ -280,14 +255,12 @@ find_in_deps_by_sysroot-returns-in_default t c =
 
 pub find_in_deps_by_sysroot-find_in_dep-best-requires : goal.find_in_deps_by_sysroot-find_in_dep-best-requires
 find_in_deps_by_sysroot-find_in_dep-best-requires t c =
-    
     let a = c.args in
     let g = c.loop-k in
     (omega (arith, c.decreases), (begun_later c.requires.0 g.invariant.tables g.invariant.long, g.invariant.held))
 
 pub find_in_deps_by_sysroot-overflow_add-k : goal.find_in_deps_by_sysroot-overflow_add-k
 find_in_deps_by_sysroot-overflow_add-k t c =
-    
     let a = c.args in
     let m = next_record c.next_by_sysroot.ensures
     c.in-Record.is in
@@ -295,7 +268,6 @@ find_in_deps_by_sysroot-overflow_add-k t c =
 
 pub find_in_deps_by_sysroot-loop-k-smaller : goal.find_in_deps_by_sysroot-loop-k-smaller
 find_in_deps_by_sysroot-loop-k-smaller t c =
-    
     let a = c.args in
     let m = next_record c.next_by_sysroot.ensures
     c.in-Record.is in
@@ -303,18 +275,15 @@ find_in_deps_by_sysroot-loop-k-smaller t c =
 
 pub find_in_deps_by_sysroot-loop-k-preserved : goal.find_in_deps_by_sysroot-loop-k-preserved
 find_in_deps_by_sysroot-loop-k-preserved t c =
-    
     let a = c.args in
     let m = next_record c.next_by_sysroot.ensures
     c.in-Record.is in
     let g = c.loop-k in
-    
     deps_next a.words.now a.area.now g.area a.l a.x a.left c.requires.0.ready c.requires.0.some a.item
     g.invariant m c.dependency_crate.ensures c.find_in_dep-best.ensures c.find_in_dep-best.auto.area
 
 pub find_in_deps_by_sysroot-returns : goal.find_in_deps_by_sysroot-returns
 find_in_deps_by_sysroot-returns t c =
-    
     let a = c.args in
     let g = c.loop-k in
     running_done g.invariant (deps_end a.words.now a.area.now g.area a.l a.x a.left c.requires.0.ready
@@ -322,7 +291,6 @@ find_in_deps_by_sysroot-returns t c =
 
 pub find_in_lang-returns-then-is_stable : goal.find_in_lang-returns-then-is_stable
 find_in_lang-returns-then-is_stable t c =
-    
     let a = c.args in
     record {
       same = ap found_of (lang_stable (snap_of a.words.now a.area.now a.l) a.x a.left a.item (out_of a.o)
@@ -335,7 +303,6 @@ find_in_lang-lang_of-requires t c = few_words _ _ _ c.requires.0.ready.reads
 
 pub find_in_lang-returns-in_default : goal.find_in_lang-returns-in_default
 find_in_lang-returns-in_default t c =
-    
     let a = c.args in
     let e = sym (ap (entry_of dependency_at a.words.now) c.in_default.is) ∙ c.lang_of.ensures a.area.now in
     record {
@@ -350,10 +317,8 @@ find_in_lang-find_in_dep-requires t c =
 
 pub find_in_lang-returns : goal.find_in_lang-returns
 find_in_lang-returns t c =
-    
     let a = c.args in
     let f = c.find_in_dep in
-    
     let e = sym (ap (entry_of dependency_at a.words.now) c.in-At.is)
     ∙ c.lang_of.ensures a.area.now in
     record {
@@ -369,7 +334,6 @@ find_in_lang-returns t c =
 
 pub find_in_rest-returns-then-is_stable : goal.find_in_rest-returns-then-is_stable
 find_in_rest-returns-then-is_stable t c =
-    
     let a = c.args in
     record {
       same = ap found_of (rest_stable (snap_of a.words.now a.area.now a.l) a.x a.left a.item
@@ -383,15 +347,12 @@ find_in_rest-find_in_deps_by_sysroot-a-requires t c =
 
 pub find_in_rest-find_in_deps_by_sysroot-requires : goal.find_in_rest-find_in_deps_by_sysroot-requires
 find_in_rest-find_in_deps_by_sysroot-requires t c =
-    
     let a = c.args in
-    
     let p = deps_passed a.item _ (record { begun = c.requires.0; held = c.requires.1 }) c.find_in_deps_by_sysroot-a.ensures c.find_in_deps_by_sysroot-a.auto.area in
     (omega (arith, c.decreases), (p.begun, p.held))
 
 pub find_in_rest-returns : goal.find_in_rest-returns
 find_in_rest-returns t c =
-    
     let a = c.args in
     let f = c.find_in_deps_by_sysroot-a in
     let r = c.find_in_deps_by_sysroot in
@@ -404,44 +365,31 @@ find_in_sysroot-find_in_lang-a-requires t c = (omega (arith, c.decreases), (c.re
 
 pub find_in_sysroot-find_in_lang-b-requires : goal.find_in_sysroot-find_in_lang-b-requires
 find_in_sysroot-find_in_lang-b-requires t c =
-    
     let a = c.args in
-    
     let p1 = lang_passed a.item _ (record { begun = c.requires.0; held = c.requires.1 }) c.find_in_lang-a.ensures c.find_in_lang-a.auto.area in
     (omega (arith, c.decreases), (p1.begun, p1.held))
 
 pub find_in_sysroot-find_in_lang-c-requires : goal.find_in_sysroot-find_in_lang-c-requires
 find_in_sysroot-find_in_lang-c-requires t c =
-    
     let a = c.args in
-    
     let p1 = lang_passed a.item _ (record { begun = c.requires.0; held = c.requires.1 }) c.find_in_lang-a.ensures c.find_in_lang-a.auto.area in
-    
     let p2 = lang_passed a.item _ (p1) c.find_in_lang-b.ensures c.find_in_lang-b.auto.area in
     (omega (arith, c.decreases), (p2.begun, p2.held))
 
 pub find_in_sysroot-find_in_rest-requires : goal.find_in_sysroot-find_in_rest-requires
 find_in_sysroot-find_in_rest-requires t c =
-    
     let a = c.args in
-    
     let p1 = lang_passed a.item _ (record { begun = c.requires.0; held = c.requires.1 }) c.find_in_lang-a.ensures c.find_in_lang-a.auto.area in
-    
     let p2 = lang_passed a.item _ (p1) c.find_in_lang-b.ensures c.find_in_lang-b.auto.area in
-    
     let p3 = lang_passed a.item _ (p2) c.find_in_lang-c.ensures c.find_in_lang-c.auto.area in
     (omega (arith, c.decreases), (p3.begun, p3.held))
 
 pub find_in_sysroot-returns : goal.find_in_sysroot-returns
 find_in_sysroot-returns t c =
-    
     let a = c.args in
-    
     let p1 = lang_passed a.item _ (record { begun = c.requires.0; held = c.requires.1 }) c.find_in_lang-a.ensures c.find_in_lang-a.auto.area in
-    
     let p2 = lang_passed a.item _ (p1) c.find_in_lang-b.ensures c.find_in_lang-b.auto.area in
     let f3 = c.find_in_lang-c in
-    
     let n = c.langs_for-langs in
     subst (λ (ls : List ℕ). Searched a.area.now (sysroot (snap_of a.words.now a.area.now a.l) a.x a.left
     a.item (out_of a.o) ls (is_stable a.o.choice)) c.find_in_rest.new.area c.find_in_rest.result) n.ensures
@@ -451,7 +399,6 @@ find_in_sysroot-returns t c =
 
 pub find_path_for_module-returns-then-left-eq0 : goal.find_path_for_module-returns-then-left-eq0
 find_path_for_module-returns-then-left-eq0 t c =
-    
     let a = c.args in
     record {
       same = module_none (snap_of a.words.now a.area.now a.l) a.x a.left a.m.0 a.t
@@ -465,7 +412,6 @@ find_path_for_module-module_rules-choice-requires t c =
 
 pub find_path_for_module-returns-then-choice : goal.find_path_for_module-returns-then-choice
 find_path_for_module-returns-then-choice t c =
-    
     let a = c.args in
     record {
       same = module_found (snap_of a.words.now a.area.now a.l) a.x a.left a.m.0 a.t
@@ -475,7 +421,6 @@ find_path_for_module-returns-then-choice t c =
 
 pub find_path_for_module-calculate_best_path-requires : goal.find_path_for_module-calculate_best_path-requires
 find_path_for_module-calculate_best_path-requires t c =
-    
     let a = c.args in (
       omega (arith, c.decreases),
       (
@@ -491,7 +436,6 @@ find_path_for_module-calculate_best_path-requires t c =
 
 pub find_path_for_module-returns : goal.find_path_for_module-returns
 find_path_for_module-returns t c =
-    
     let a = c.args in
     let f = c.calculate_best_path in
     record {
@@ -506,7 +450,6 @@ search_charged-home_of-home-requires t c = few_words _ _ _ c.requires.0.ready.re
 
 pub search_charged-is_at-requires : goal.search_charged-is_at-requires
 search_charged-is_at-requires t c =
-    
     let a = c.args in
     let r = c.requires.0.ready.reads in
     (r, home_below a.words.now a.area.now a.l a.item r c.requires.1.0 (c.home_of-home.ensures a.area.now))
@@ -517,7 +460,6 @@ search_charged-calculate_best_path_local-choice-requires t c =
 
 pub search_charged-returns-then-is_at : goal.search_charged-returns-then-is_at
 search_charged-returns-then-is_at t c =
-    
     let a = c.args in
     let f = c.calculate_best_path_local-choice in
     record {
@@ -530,13 +472,11 @@ search_charged-returns-then-is_at t c =
 
 pub search_charged-find_in_sysroot-requires : goal.search_charged-find_in_sysroot-requires
 search_charged-find_in_sysroot-requires t c =
-    
     let a = c.args in
     (omega (arith, c.decreases), (c.requires.0, held_nothing a.left a.t c.nothing-choice.ensures c.requires.2))
 
 pub search_charged-returns-then-x : goal.search_charged-returns-then-x
 search_charged-returns-then-x t c =
-    
     let a = c.args in
     let f = c.find_in_sysroot in
     record {
@@ -551,13 +491,11 @@ search_charged-returns-then-x t c =
 
 pub search_charged-find_in_deps-requires : goal.search_charged-find_in_deps-requires
 search_charged-find_in_deps-requires t c =
-    
     let a = c.args in
     (omega (arith, c.decreases), (c.requires.0, held_nothing a.left a.t c.nothing-choice.ensures c.requires.2))
 
 pub search_charged-returns : goal.search_charged-returns
 search_charged-returns t c =
-    
     let a = c.args in
     let f = c.find_in_deps in
     record {

@@ -13,7 +13,6 @@ returns-in_default c =
 
 pub krate-k-requires : goal.krate-k-requires
 krate-k-requires c =
-    
     (c.requires.0, omega (arith, is_some _ refl c.in-Module.is, c.requires.1))
 
 pub returns : goal.returns

@@ -14,7 +14,6 @@ returns-then-out-n c = let a = c.args in  record { copied = copied_not a.words.n
 
 pub copy_text-requires : goal.copy_text-requires
 copy_text-requires c =
-    
     (omega (arith, c.if-out-n.false), held_within c.text_at-text.result.now c.payload.result _ c.held-n.ensures)
 
 pub returns : goal.returns

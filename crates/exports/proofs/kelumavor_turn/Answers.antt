@@ -10,10 +10,6 @@ returns-then-report-lt-COUNT c =
 
 pub returns-then-idle : goal.returns-then-idle
 returns-then-idle c =
-    
-    
-    
-    
     let s = c.args in
     let k = turned_words s.state.now _ _ _ c.windows_of.ensures c.words_of-after.ensures _ _ _ _ c.turn_in-turned.ensures in
     turn_long s.state.now s.words.now s.area.now s.report.now _ _ _ _ c.if-report-lt-COUNT.false
@@ -21,12 +17,6 @@ returns-then-idle c =
 
 pub returns : goal.returns
 returns c =
-    
-    
-    
-    
-    
-    
     let s = c.args in
     let k = turned_words s.state.now _ _ _ c.windows_of.ensures c.words_of-after.ensures _ _ _ _ c.turn_in-turned.ensures in
     turn_long s.state.now s.words.now s.area.now s.report.now _ _ _ _ c.if-report-lt-COUNT.false

@@ -21,7 +21,6 @@ find_path_for_module_local-nothing-requires t c =
 
 pub find_path_for_module_local-returns-then-left-eq0 : goal.find_path_for_module_local-returns-then-left-eq0
 find_path_for_module_local-returns-then-left-eq0 t c =
-    
     record {
       same = search_none (snap_of c.args.words.now c.args.area.now c.args.l) c.args.x c.args.left
           (levels_of c.args.area.now c.args.s.place c.args.s.depth) c.args.m.0 c.if-left-eq0.true
@@ -32,13 +31,10 @@ find_path_for_module_local-returns-then-left-eq0 t c =
 
 pub find_path_for_module_local-rules_at-c-requires : goal.find_path_for_module_local-rules_at-c-requires
 find_path_for_module_local-rules_at-c-requires t c =
-    
     (c.requires.0.reads, c.requires.0.from, c.requires.1, c.requires.0.bounds)
 
 pub find_path_for_module_local-returns-then-c : goal.find_path_for_module_local-returns-then-c
 find_path_for_module_local-returns-then-c t c =
-    
-    
     record {
       same = search_rules (snap_of c.args.words.now c.args.area.now c.args.l) c.args.x c.args.left
           (levels_of c.args.area.now c.args.s.place c.args.s.depth) c.args.m.0 c.if-left-eq0.false
@@ -57,12 +53,6 @@ find_path_for_module_local-is_tight-requires t c =
 
 pub find_path_for_module_local-tight_at-requires : goal.find_path_for_module_local-tight_at-requires
 find_path_for_module_local-tight_at-requires t c =
-    
-    
-    
-    
-    
-    
     let h = c.if-left-eq0.false in (
       omega (arith, c.decreases),
       (
@@ -81,8 +71,6 @@ find_path_for_module_local-returns-then-is_tight t c =
 
 pub find_path_for_module_local-local_at-requires : goal.find_path_for_module_local-local_at-requires
 find_path_for_module_local-local_at-requires t c =
-    
-    
     let h = c.if-left-eq0.false in (
       omega (arith, c.decreases),
       (
@@ -95,11 +83,6 @@ find_path_for_module_local-local_at-requires t c =
 
 pub find_path_for_module_local-returns : goal.find_path_for_module_local-returns
 find_path_for_module_local-returns t c =
-    
-    
-    
-    
-    
     record {
       same = search_on (snap_of c.args.words.now c.args.area.now c.args.l) c.args.x c.args.left
           (levels_of c.args.area.now c.args.s.place c.args.s.depth) c.args.m.0 c.if-left-eq0.false
@@ -111,7 +94,6 @@ find_path_for_module_local-returns t c =
 
 pub local_at-overflow_add-base : goal.local_at-overflow_add-base
 local_at-overflow_add-base t c =
-    
     omega (arith, c.requires.1.space, c.requires.0)
 
 pub local_at-code_of-code-requires : goal.local_at-code_of-code-requires
@@ -124,32 +106,26 @@ local_at-overflow_cast-area t c =
 
 pub local_at-offset_bounds-area-top : goal.local_at-offset_bounds-area-top
 local_at-offset_bounds-area-top t c =
-    
     omega (arith, c.requires.1.space, c.requires.0)
 
 pub local_at-bounds-area-top : goal.local_at-bounds-area-top
 local_at-bounds-area-top t c =
-    
     omega (arith, c.requires.1.space, c.requires.0, c.requires.1.area)
 
 pub local_at-overflow_cast-area-2 : goal.local_at-overflow_cast-area-2
 local_at-overflow_cast-area-2 t c =
-    
     omega (arith, c.requires.1.space, c.requires.0, c.requires.1.under)
 
 pub local_at-overflow_add-area : goal.local_at-overflow_add-area
 local_at-overflow_add-area t c =
-    
     omega (arith, c.requires.1.space, c.requires.0)
 
 pub local_at-offset_bounds-area-top-2 : goal.local_at-offset_bounds-area-top-2
 local_at-offset_bounds-area-top-2 t c =
-    
     omega (arith, c.requires.1.space, c.requires.0)
 
 pub local_at-bounds-area-top-2 : goal.local_at-bounds-area-top-2
 local_at-bounds-area-top-2 t c =
-    
     omega (
       arith,
       c.requires.1.space,
@@ -161,7 +137,6 @@ local_at-bounds-area-top-2 t c =
 
 pub local_at-locations-n-requires : goal.local_at-locations-n-requires
 local_at-locations-n-requires t c =
-    
     (
       head_reads c.args.words.now c.args.area.now c.args.l c.args.x c.args.left c.args.item c.args.s
           c.requires.0 c.requires.1 c.requires.2 c.code_of-code.result c.code_of-code.ensures.0,
@@ -181,9 +156,6 @@ local_at-locations-n-requires t c =
 
 pub local_at-overflow_add-up : goal.local_at-overflow_add-up
 local_at-overflow_add-up t c =
-    
-    
-    
     omega (
       arith,
       c.requires.1.space,
@@ -195,7 +167,6 @@ local_at-overflow_add-up t c =
 
 pub local_at-overflow_add-up-2 : goal.local_at-overflow_add-up-2
 local_at-overflow_add-up-2 t c =
-    
     omega (arith, c.requires.1.deep)
 
 pub local_at-nothing-best-requires : goal.local_at-nothing-best-requires
@@ -204,34 +175,24 @@ local_at-nothing-best-requires t c =
 
 pub local_at-loop-k-init : goal.local_at-loop-k-init
 local_at-loop-k-init t c =
-    
-    
-    
     nesting_start c.args.words.now c.args.area.now c.args.l c.args.x c.args.left c.args.item c.args.s
     c.requires.0 c.requires.1 c.requires.2 c.code_of-code.result c.code_of-code.ensures.0 _ _ c.locations-n.ensures
     c.locations-n.auto.area c.nothing-best.ensures
 
 pub local_at-overflow_add-cursor : goal.local_at-overflow_add-cursor
 local_at-overflow_add-cursor t c =
-    
     omega (arith, c.requires.1.space, c.requires.0)
 
 pub local_at-overflow_cast-area-in-loop-k : goal.local_at-overflow_cast-area-in-loop-k
 local_at-overflow_cast-area-in-loop-k t c =
-    
     omega (arith, c.loop-k-test.true, c.loop-k.invariant.few)
 
 pub local_at-offset_bounds-area-cursor : goal.local_at-offset_bounds-area-cursor
 local_at-offset_bounds-area-cursor t c =
-    
     omega (arith, c.requires.1.space, c.requires.0)
 
 pub local_at-bounds-area-cursor : goal.local_at-bounds-area-cursor
 local_at-bounds-area-cursor t c =
-    
-    
-    
-    
     omega (
       arith,
       room c.args.words.now c.args.area.now c.args.l c.args.x c.args.left c.args.item
@@ -244,8 +205,6 @@ local_at-bounds-area-cursor t c =
 
 pub local_at-overflow_add-base-in-loop-k : goal.local_at-overflow_add-base-in-loop-k
 local_at-overflow_add-base-in-loop-k t c =
-    
-    
     omega (arith, c.requires.1.space, c.requires.0, c.loop-k-test.true, c.loop-k.invariant.few)
 
 pub local_at-word-m-requires : goal.local_at-word-m-requires
@@ -254,11 +213,6 @@ local_at-word-m-requires t c =
 
 pub local_at-location-best-requires : goal.local_at-location-best-requires
 local_at-location-best-requires t c =
-    
-    
-    
-    
-    
     (
       omega (arith, c.decreases),
       (
@@ -277,7 +231,6 @@ local_at-location-best-requires t c =
 
 pub local_at-overflow_add-k : goal.local_at-overflow_add-k
 local_at-overflow_add-k t c =
-    
     omega (arith, c.loop-k-test.true, c.loop-k.invariant.few)
 
 pub local_at-loop-k-smaller : goal.local_at-loop-k-smaller
@@ -286,13 +239,6 @@ local_at-loop-k-smaller t c =
 
 pub local_at-loop-k-preserved : goal.local_at-loop-k-preserved
 local_at-loop-k-preserved t c =
-    
-    
-    
-    
-    
-    
-    
     nesting_next c.args.words.now c.args.area.now c.args.l c.args.x c.args.left c.args.item c.args.s
     c.requires.0 c.requires.1 c.requires.2 c.code_of-code.result c.code_of-code.ensures.0 _ _ c.locations-n.ensures
     c.locations-n.auto.area c.loop-k.area c.loop-k.best c.loop-k.k c.loop-k.invariant c.loop-k-test.true
@@ -300,10 +246,6 @@ local_at-loop-k-preserved t c =
 
 pub local_at-returns : goal.local_at-returns
 local_at-returns t c =
-    
-    
-    
-    
     nesting_done c.args.words.now c.args.area.now c.args.l c.args.x c.args.left c.args.item c.args.s
     c.requires.0 c.requires.1 c.requires.2 c.code_of-code.result c.code_of-code.ensures.0 _ _ c.locations-n.ensures
     c.locations-n.auto.area c.loop-k.area c.loop-k.best c.loop-k.k c.loop-k.invariant c.loop-k-test.false
@@ -314,7 +256,6 @@ location-length_left-j-requires t c =
 
 pub location-overflow_add-m : goal.location-overflow_add-m
 location-overflow_add-m t c =
-    
     record { fits = omega (arith, c.requires.2, c.requires.1.reads.tables.limited.modules) }
 
 pub location-word-requires : goal.location-word-requires
@@ -323,9 +264,6 @@ location-word-requires t c =
 
 pub location-returns-then-j-word : goal.location-returns-then-j-word
 location-returns-then-j-word t c =
-    
-    
-    
     record {
       same = location_far c.args.words.now c.args.area.now c.args.l c.args.x c.args.left c.args.s
           c.requires.0 c.requires.1 c.args.best c.args.item c.args.m.0 c.requires.2 c.length_left-j.ensures
@@ -336,17 +274,10 @@ location-returns-then-j-word t c =
 
 pub location-importable_name-a-requires : goal.location-importable_name-a-requires
 location-importable_name-a-requires t c =
-    
-    
-    
     (c.requires.1.reads, c.requires.1.from, c.requires.2, c.requires.1.indexed)
 
 pub location-returns-in_default : goal.location-returns-in_default
 location-returns-in_default t c =
-    
-    
-    
-    
     record {
       same = location_none c.args.words.now c.args.area.now c.args.l c.args.x c.args.left c.args.s
           c.requires.0 c.requires.1 c.args.best c.args.item c.args.m.0 c.importable_name-a.ensures.0
@@ -357,10 +288,6 @@ location-returns-in_default t c =
 
 pub location-find_path_for_module_local-c-requires : goal.location-find_path_for_module_local-c-requires
 location-find_path_for_module_local-c-requires t c =
-    
-    
-    
-    
     (
       omega (
         arith,
@@ -377,11 +304,6 @@ location-find_path_for_module_local-c-requires t c =
 
 pub location-offer_entry-requires : goal.location-offer_entry-requires
 location-offer_entry-requires t c =
-    
-    
-    
-    
-    
     (
       location_reads c.args.words.now c.args.area.now c.args.l c.args.x c.args.left c.args.s c.requires.0
           c.requires.1 c.args.best c.args.item c.args.m.0 c.length_left-j.ensures _ c.find_path_for_module_local-c.ensures,
@@ -400,19 +322,12 @@ location-offer_entry-requires t c =
 
 pub location-returns : goal.location-returns
 location-returns t c =
-    
-    
-    
-    
-    
-    
     location_some c.args.words.now c.args.area.now c.args.l c.args.x c.args.left c.args.s c.requires.0
     c.requires.1 c.args.best c.args.item c.args.m.0 c.length_left-j.ensures _ c.find_path_for_module_local-c.ensures
     c.importable_name-a.ensures.0 c.in-At.is c.offer_entry.ensures
 
 pub tight_at-overflow_add-m : goal.tight_at-overflow_add-m
 tight_at-overflow_add-m t c =
-    
     record { fits = omega (arith, c.requires.2, c.requires.1.reads.tables.limited.modules) }
 
 pub tight_at-word-row-requires : goal.tight_at-word-row-requires
@@ -421,7 +336,6 @@ tight_at-word-row-requires t c =
 
 pub tight_at-local_at-r-requires : goal.tight_at-local_at-r-requires
 tight_at-local_at-r-requires t c =
-    
     (
       omega (arith, c.decreases),
       (
@@ -434,9 +348,6 @@ tight_at-local_at-r-requires t c =
 
 pub tight_at-row_of-made-requires : goal.tight_at-row_of-made-requires
 tight_at-row_of-made-requires t c =
-    
-    
-    
     made_asked c.args.words.now c.args.area.now c.args.l c.args.x c.args.left c.args.s c.requires.1
     c.args.m.0 c.requires.2 c.requires.3 c.requires.0 c.requires.4 _ c.local_at-r.auto.area c.local_at-r.ensures
 
@@ -446,34 +357,18 @@ tight_at-overflow_cast-area t c =
 
 pub tight_at-overflow_add-area : goal.tight_at-overflow_add-area
 tight_at-overflow_add-area t c =
-    
-    
-    
-    
     omega (arith, c.requires.2, c.requires.1.reads.tables.limited.modules)
 
 pub tight_at-offset_bounds-area-m : goal.tight_at-offset_bounds-area-m
 tight_at-offset_bounds-area-m t c =
-    
-    
-    
-    
     omega (arith, c.requires.2, c.requires.1.reads.tables.limited.modules)
 
 pub tight_at-bounds-area-m : goal.tight_at-bounds-area-m
 tight_at-bounds-area-m t c =
-    
-    
-    
-    
     omega (arith, c.requires.2, c.requires.1.reads.tables.limited.modules, c.requires.1.area, c.local_at-r.auto.area)
 
 pub tight_at-returns-then-row-eq0 : goal.tight_at-returns-then-row-eq0
 tight_at-returns-then-row-eq0 t c =
-    
-    
-    
-    
     made_done c.args.words.now c.args.area.now c.args.l c.args.x c.args.left c.args.s c.requires.1
     c.args.m.0 c.requires.2 c.requires.3 c.requires.0 c.requires.4 _ c.local_at-r.auto.area c.local_at-r.ensures
     c.row_of-made.ensures.0
@@ -484,17 +379,11 @@ tight_at-nothing-requires t c =
 
 pub tight_at-returns-then-row-eq1 : goal.tight_at-returns-then-row-eq1
 tight_at-returns-then-row-eq1 t c =
-    
-    
-    
     tight_none c.args.words.now c.args.area.now c.args.l c.args.x c.args.left c.args.s c.requires.1
     c.args.m.0 c.requires.2 c.requires.3 c.word-row.ensures c.if-row-eq1.true c.nothing.ensures
 
 pub tight_at-row_place-requires : goal.tight_at-row_place-requires
 tight_at-row_place-requires t c =
-    
-    
-    
     row_two c.args.words.now c.args.area.now c.args.l c.args.x c.args.left c.args.s c.requires.1
     c.args.m.0 c.requires.2 c.requires.3 c.word-row.ensures c.if-row-eq0.left c.if-row-eq1.left
 
@@ -504,20 +393,10 @@ tight_at-scope_owner-owner-requires t c =
 
 pub tight_at-overflow_sub-left : goal.tight_at-overflow_sub-left
 tight_at-overflow_sub-left t c =
-    
-    
-    
-    
-    
     omega (arith, c.requires.0)
 
 pub tight_at-find_path_for_module_local-c-requires : goal.tight_at-find_path_for_module_local-c-requires
 tight_at-find_path_for_module_local-c-requires t c =
-    
-    
-    
-    
-    
     let q = c.scope_owner-owner.ensures ∙ ap (λ z. (scope_at c.args.words.now z).owner) c.row_place.ensures in (
       omega (arith, c.decreases, c.requires.0),
       (
@@ -532,12 +411,6 @@ tight_at-find_path_for_module_local-c-requires t c =
 
 pub tight_at-from_row-requires : goal.tight_at-from_row-requires
 tight_at-from_row-requires t c =
-    
-    
-    
-    
-    
-    
     let q = c.scope_owner-owner.ensures ∙ ap (λ z. (scope_at c.args.words.now z).owner) c.row_place.ensures in (
       owner_reads c.args.words.now c.args.area.now c.args.l c.args.x c.args.left c.args.s c.requires.1
           c.args.m.0 c.requires.2 c.requires.3 c.word-row.ensures c.if-row-eq0.false c.if-row-eq1.false c.requires.0 q _
@@ -566,12 +439,6 @@ tight_at-from_row-requires t c =
 
 pub tight_at-returns : goal.tight_at-returns
 tight_at-returns t c =
-    
-    
-    
-    
-    
-    
     let q = c.scope_owner-owner.ensures ∙ ap (λ z. (scope_at c.args.words.now z).owner) c.row_place.ensures in
     owner_done c.args.words.now c.args.area.now c.args.l c.args.x c.args.left c.args.s c.requires.1
     c.args.m.0 c.requires.2 c.requires.3 c.word-row.ensures c.if-row-eq0.false c.if-row-eq1.false c.requires.0 q _

@@ -4,12 +4,10 @@ use Rattle.local_search.proofs.calculate_best_path_local.Goals as goal
 
 pub set_distances-requires : goal.set_distances-requires
 set_distances-requires c =
-    
     numbers_ready c.args.words.now c.args.area.now c.args.l c.args.x c.requires.0
 
 pub index_scopes-requires : goal.index_scopes-requires
 index_scopes-requires c =
-    
     (
       chains_sized c.args.words.now c.args.area.now c.args.l c.args.x c.requires.0 _ c.set_distances.ensures,
       c.set_distances.auto.area ∙ c.requires.0.area,
@@ -17,9 +15,6 @@ index_scopes-requires c =
 
 pub take_walk-requires : goal.take_walk-requires
 take_walk-requires c =
-    
-    
-    
     let W = c.args.words.now in
     let A = c.args.area.now in
     let r = chains_reads W A c.args.l c.args.x c.requires.0 _ c.set_distances.ensures _ c.index_scopes.ensures in (
@@ -33,9 +28,6 @@ take_walk-requires c =
 
 pub clear_rows-requires : goal.clear_rows-requires
 clear_rows-requires c =
-    
-    
-    
     (
       c.take_walk.auto.area ∙ c.index_scopes.auto.area ∙ c.set_distances.auto.area
           ∙ c.requires.0.area,
@@ -44,11 +36,6 @@ clear_rows-requires c =
 
 pub local_at-requires : goal.local_at-requires
 local_at-requires c =
-    
-    
-    
-    
-    
     let W = c.args.words.now in
     let A = c.args.area.now in
     let y = search_start W A c.args.l c.args.x c.requires.0 _ c.set_distances.ensures _ c.index_scopes.ensures _
@@ -58,11 +45,5 @@ local_at-requires c =
 
 pub returns : goal.returns
 returns c =
-    
-    
-    
-    
-    
-    
     search_done c.args.words.now c.args.area.now c.args.l c.args.x c.requires.0 _ c.set_distances.ensures _
     c.index_scopes.ensures _ c.take_walk.ensures _ c.clear_rows.ensures c.args.left c.args.item _ _ c.local_at.ensures

@@ -12,18 +12,14 @@ returns-then-area-lt-AREA c =
 
 pub slice_bounds-reach_within-end-2 : goal.slice_bounds-reach_within-end-2
 slice_bounds-reach_within-end-2 c =
-    
     sym (length-take-le _ c.args.area.now (omega (arith, c.if-area-lt-AREA.false)))
 
 pub reach_within-requires : goal.reach_within-requires
 reach_within-requires c =
-    
     length-take-le area_limit c.args.area.now c.if-area-lt-AREA.false
 
 pub returns : goal.returns
 returns c =
-    
-    
     let s = c.args in
     reaches_large s.words.now s.area.now s.v _ c.reach_within.new.area c.if-area-lt-AREA.false c.reach_within.ensures.value
     c.reach_within.ensures.area_after

@@ -5,8 +5,6 @@ use Rattle.reach_answer.proofs.reach_within.Goals as goal
 
 pub reach_on-r-requires : goal.reach_on-r-requires
 reach_on-r-requires c =
-    
-    
     (checks_judged c.args.words.now c.args.area.now _ _ c.requires c.check-c.ensures, c.check-c.auto.area ∙ c.requires)
 
 pub returns : goal.returns

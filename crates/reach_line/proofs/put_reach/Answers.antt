@@ -9,8 +9,6 @@ use Rattle.reach_line.proofs.put_reach.Goals as goal
 
 pub returns-then-r-ne0 : goal.returns-then-r-ne0
 returns-then-r-ne0 c =
-    
-    
     put_as (refusal_text c.args.r c.if-r-ne0.true) (c.put_refusal.ensures empty 0)
 
 pub slice_bounds-put_numbers-end : goal.slice_bounds-put_numbers-end
@@ -18,20 +16,14 @@ slice_bounds-put_numbers-end c = search rules
 
 pub put_numbers-a-requires : goal.put_numbers-a-requires
 put_numbers-a-requires c =
-    
     let h : 21 ≡ length c.args.r.counts = slice_bounds-put_numbers-end c in
     (omega (arith, h), omega (arith, h), c.requires)
 
 pub put-requires : goal.put-requires
 put-requires c =
-    
-    
     let h : 21 ≡ length c.args.r.counts = slice_bounds-put_numbers-end c in
     omega (arith, h, c.put_numbers-a.ensures.upper_bound, c.put_numbers-a.auto.out, c.requires)
 
 pub returns : goal.returns
 returns c =
-    
-    
-    
     put_as (counts_text c.args.r c.if-r-ne0.false) (put_two c.put_numbers-a.ensures.put c.put.ensures)

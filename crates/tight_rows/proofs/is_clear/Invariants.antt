@@ -1,10 +1,6 @@
 use lib.ListN.{length}
 use Rattle.local_levels.specs.Levels.{Chain}
 use Rattle.tight_rows.proofs.Farther.{Passing}
-use Rattle.tight_rows.proofs.is_clear.Reads as reads
-use Rattle.tight_rows.proofs.is_clear.Lts as lts
-use Rattle.snapshot.proofs.words.word.Reads as word-reads
-use Rattle.tight_rows.proofs.is_far.Reads as is-far-reads
 use Rattle.tight_rows.proofs.is_clear.Given as goal
 
 abbrev pub invariant-loop-d : goal.invariant-loop-d

@@ -7,5 +7,4 @@ returns-then-code-ne3 c = λ _ n h. absurd (c.if-code-ne3.true (same_module _ n 
 
 pub returns : goal.returns
 returns c =
-    
     λ e n h. far_item c.args.area.now c.args.code c.args.left n c.word.ensures (ltb-true _ _ e) h

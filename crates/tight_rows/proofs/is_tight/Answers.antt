@@ -7,5 +7,4 @@ returns-then-word-left c = λ e. absurd (false≢true e)
 
 pub returns : goal.returns
 returns c =
-    
     λ t. record { number = sym c.if-word-left.false ∙ c.word.ensures; farther = c.is_clear.ensures t }

@@ -4,10 +4,6 @@ use lib.ListN.{length}
 use Rattle.hir_def.specs.declared.Item.{Item}
 use Rattle.find_path.specs.Walk.{visited}
 use Rattle.local_levels.specs.Levels.{Small, code_of, levels_of, Chain}
-use Rattle.walk_once.proofs.is_on.Reads as reads
-use Rattle.walk_once.proofs.is_on.Lts as lts
-use Rattle.local_levels.proofs.levels.code_of.Reads as code-of-reads
-use Rattle.snapshot.proofs.words.word.Reads as word-reads
 use Rattle.walk_once.proofs.is_on.Given as goal
 
 abbrev pub invariant-loop-d : goal.invariant-loop-d

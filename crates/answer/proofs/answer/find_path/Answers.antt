@@ -13,14 +13,10 @@ returns-then-area-lt-AREA c =
 
 pub slice_bounds-clear-end-then-n-ne0 : goal.slice_bounds-clear-end-then-n-ne0
 slice_bounds-clear-end-then-n-ne0 c =
-    
     sym (length-take-le _ c.args.area.now (omega (arith, c.if-area-lt-AREA.false)))
 
 pub returns-then-n-ne0 : goal.returns-then-n-ne0
 returns-then-n-ne0 c =
-    
-    
-    
     let s = c.args in
     let l = length-take-le area_limit s.area.now c.if-area-lt-AREA.false in
     answers_fault s.words.now s.area.now s.question _ c.clear.new.area c.if-area-lt-AREA.false (c.clear.ensures ∙ ap zeros l) _
@@ -28,18 +24,14 @@ returns-then-n-ne0 c =
 
 pub slice_bounds-find_path_within-end-2 : goal.slice_bounds-find_path_within-end-2
 slice_bounds-find_path_within-end-2 c =
-    
     sym (length-take-le _ c.args.area.now (omega (arith, c.if-area-lt-AREA.false)))
 
 pub find_path_within-requires : goal.find_path_within-requires
 find_path_within-requires c =
-    
     length-take-le area_limit c.args.area.now c.if-area-lt-AREA.false
 
 pub returns : goal.returns
 returns c =
-    
-    
     let s = c.args in
     answers_large s.words.now s.area.now s.question _ c.find_path_within.new.area c.if-area-lt-AREA.false
     c.find_path_within.ensures.value c.find_path_within.ensures.area_after

@@ -5,8 +5,6 @@ use Rattle.answer.proofs.answer.find_path_within.Goals as goal
 
 pub report_on-r-requires : goal.report_on-r-requires
 report_on-r-requires c =
-    
-    
     (checks_judged c.args.words.now c.args.area.now _ _ c.requires c.check-c.ensures, c.check-c.auto.area ∙ c.requires)
 
 pub returns : goal.returns

@@ -12,7 +12,5 @@ slice_bounds-clear-end-2 c = sym (length-take-le 16384 c.args.area.now c.if-area
 
 pub returns : goal.returns
 returns c =
-    
-    
     let a = c.args.area.now in
     area_large a c.clear.new.area c.if-area-lt-AREA.false (c.clear.ensures ∙ ap zeros (length-take-le 16384 a c.if-area-lt-AREA.false))

@@ -6,8 +6,6 @@ use Rattle.answer.proofs.line.find_line.Goals as goal
 
 pub returns-then-out-lt-LIMIT : goal.returns-then-out-lt-LIMIT
 returns-then-out-lt-LIMIT c =
-    
-    
     let s = c.args in
     lined_none s.words.now s.area.now s.question s.out.now c.clear_front.new.area c.if-out-lt-LIMIT.true c.clear_front.ensures
 
@@ -31,7 +29,6 @@ line_within-requires c = (
 pub returns : goal.returns
 returns c =
     let s = c.args in
-    
     lined_large s.words.now s.area.now s.question s.out.now
     c.if-out-lt-LIMIT.false _ _ c.line_within.new.area
     c.if-area-lt-AREA.false c.line_within.ensures.area_after c.line_within.ensures.put

@@ -5,8 +5,6 @@ use Rattle.answer.proofs.line.line_within.Goals as goal
 
 pub line_on-n-requires : goal.line_on-n-requires
 line_on-n-requires c =
-    
-    
     (checks_judged c.args.words.now c.args.area.now _ _ c.requires.0 c.check-c.ensures, c.check-c.auto.area ∙ c.requires.0, c.requires.1)
 
 pub returns : goal.returns

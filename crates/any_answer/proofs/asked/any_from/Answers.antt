@@ -15,9 +15,6 @@ question_fault-n-requires c =
 
 pub returns-then-n-ne0 : goal.returns-then-n-ne0
 returns-then-n-ne0 c =
-    
-    
-    
     any_fault (snap_of c.args.words.now c.args.area.now c.args.l) c.args.q (c.question_fault-n.ensures c.args.area.now)
     c.if-n-ne0.true c.refused.ensures
 
@@ -27,9 +24,6 @@ item_of-item-requires c =
 
 pub shortest-t-requires : goal.shortest-t-requires
 shortest-t-requires c =
-    
-    
-    
     let W = c.args.words.now in
     let A = c.args.area.now in
     let inside = asked_known W A c.args.l c.args.q (c.question_fault-n.ensures A) c.if-n-ne0.false in
@@ -37,10 +31,6 @@ shortest-t-requires c =
 
 pub route_of-route-requires : goal.route_of-route-requires
 route_of-route-requires c =
-    
-    
-    
-    
     let W = c.args.words.now in
     let A = c.args.area.now in
     let inside = asked_known W A c.args.l c.args.q (c.question_fault-n.ensures A) c.if-n-ne0.false in
@@ -48,12 +38,6 @@ route_of-route-requires c =
 
 pub returns : goal.returns
 returns c =
-    
-    
-    
-    
-    
-    
     let W = c.args.words.now in
     let A = c.args.area.now in
     let q = c.args.q in

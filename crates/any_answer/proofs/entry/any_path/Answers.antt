@@ -12,18 +12,14 @@ returns-then-area-lt-AREA c =
 
 pub slice_bounds-any_within-end-2 : goal.slice_bounds-any_within-end-2
 slice_bounds-any_within-end-2 c =
-    
     sym (length-take-le _ c.args.area.now (omega (arith, c.if-area-lt-AREA.false)))
 
 pub any_within-requires : goal.any_within-requires
 any_within-requires c =
-    
     length-take-le area_limit c.args.area.now c.if-area-lt-AREA.false
 
 pub returns : goal.returns
 returns c =
-    
-    
     let s = c.args in
     answers_large s.words.now s.area.now s.ns s.definition s.from c.any_within.new.area c.if-area-lt-AREA.false
     c.any_within.ensures.value c.any_within.ensures.area_after

@@ -5,8 +5,6 @@ use Rattle.any_answer.proofs.entry.any_within.Goals as goal
 
 pub any_on-r-requires : goal.any_on-r-requires
 any_on-r-requires c =
-    
-    
     (checks_judged c.args.words.now c.args.area.now _ _ c.requires c.check-c.ensures, c.check-c.auto.area ∙ c.requires)
 
 pub returns : goal.returns

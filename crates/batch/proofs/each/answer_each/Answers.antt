@@ -5,8 +5,6 @@ use Rattle.batch.proofs.each.answer_each.Goals as goal
 
 pub report_each-requires : goal.report_each-requires
 report_each-requires c =
-    
-    
     (checks_judged c.args.words.now c.args.area.now _ _ c.requires.0 c.check-c.ensures, c.check-c.auto.area ∙ c.requires.0, c.requires.1)
 
 pub returns : goal.returns

@@ -9,7 +9,6 @@ use Rattle.batch.proofs.each.report_each.Goals as goal
 
 pub loop-i-init : goal.loop-i-init
 loop-i-init c =
-    
     (omega arith, c.requires.0, c.requires.1, refl, none_reported c.args.words.now c.args.questions.now c.args.reports.now)
 
 pub report_on-r-requires : goal.report_on-r-requires
@@ -19,28 +18,19 @@ report_on-r-requires c =
 
 pub overflow_mul-to : goal.overflow_mul-to
 overflow_mul-to c =
-    
-    
     omega (arith, c.loop-i-test.true, c.requires.2, c.well_formed)
 
 pub offset_bounds-reports-to : goal.offset_bounds-reports-to
 offset_bounds-reports-to c =
-    
-    
     omega (arith, c.loop-i-test.true, c.requires.2, c.well_formed)
 
 pub overflow_add-i : goal.overflow_add-i
 overflow_add-i c =
-    
     omega (arith, c.loop-i-test.true, c.well_formed.1.1.1.0.0)
 
 pub loop-i-preserved : goal.loop-i-preserved
 loop-i-preserved c =
-    
-    
-    
     let l = c.loop-i in
-    
     let k = same_len_mid (report_size * l.i) (length l.reports - report_size * l.i) l.reports c.write_report.new.out
     c.write_report.auto.out in (
       omega (arith, c.loop-i-test.true),

@@ -10,7 +10,6 @@ returns-then-n-ne0 c = let s = c.args in
 
 pub report_in-requires : goal.report_in-requires
 report_in-requires c =
-    
     let A = c.args.area.now in
     let k = fault_known (snap_of c.args.words.now A c.args.l) c.args.q c.args.l.definitions c.args.l.modules
     (definitions_count c.args.words.now A c.args.l) (modules_count c.args.words.now A c.args.l)
@@ -21,4 +20,4 @@ pub returns : goal.returns
 returns c = let s = c.args in
     let A = s.area.now in
     let f = c.report_in in  record { value = answer_found (snap_of s.words.now A s.l) s.q s.fuel _ _ (c.question_fault-n.ensures A)
-          c.if-n-ne0.false f.ensures.0; area_unchanged = f.ensures.1 }
+          c.if-n-ne0.false f.ensures.value; area_unchanged = f.ensures.area_unchanged }

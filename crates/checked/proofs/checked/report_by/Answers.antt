@@ -14,13 +14,11 @@ ask-requires c =
 
 pub returns-in-Refused : goal.returns-in-Refused
 returns-in-Refused c =
-    
     report_refused c.args.words.now c.args.area.now c.args.c c.requires.0 c.args.q c.args.fuel _ _ _
     c.in-Refused.is c.refused.ensures
 
 pub returns-in-Accepted : goal.returns-in-Accepted
 returns-in-Accepted c =
-    
     let a = c.ask in
     report_accepted c.args.words.now c.args.area.now c.args.c c.requires.0 c.args.q c.args.fuel _ _ _
-    c.in-Accepted.is a.ensures.1 a.ensures.0
+    c.in-Accepted.is a.ensures.area_unchanged a.ensures.value

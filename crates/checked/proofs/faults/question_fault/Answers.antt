@@ -11,14 +11,12 @@ returns-then-unknown c =
 
 pub returns-then-misfit : goal.returns-then-misfit
 returns-then-misfit c =
-    
     let s = c.args in
     λ A. no_macro (snap_of s.words.now A s.l) s.q s.l.definitions s.l.modules (definitions_count s.words.now A s.l)
     (modules_count s.words.now A s.l) _ (not-false _ c.if-unknown.false) (c.kind_of-kind.ensures A) c.if-misfit.true
 
 pub returns : goal.returns
 returns c =
-    
     let s = c.args in
     λ A. sound (snap_of s.words.now A s.l) s.q s.l.definitions s.l.modules (definitions_count s.words.now A s.l)
     (modules_count s.words.now A s.l) _ (not-false _ c.if-unknown.false) (c.kind_of-kind.ensures A) c.if-misfit.false

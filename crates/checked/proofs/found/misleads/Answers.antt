@@ -1,3 +1,5 @@
+use mathlib.Core.Bool.{not}
+use mathlib.Core.Path.{ap}
 use borrow.Author.Rules.{rules}
 use mathlib.Core.Path.{◌≡◌}
 use native.Mathlib.Omega.{arith}
@@ -10,7 +12,7 @@ pub returns-then-not-read : goal.returns-then-not-read
 returns-then-not-read c =
     let s = c.args in
     let A = s.area.now in
-    not_read (snap_of s.words.now A s.l) s.q s.c (c.kind_of.ensures A) c.if-not-read.true
+    not_read (snap_of s.words.now A s.l) s.q s.c (c.kind_of.ensures A) (ap not c.if-not-read.true)
 
 pub slice_bounds-reads_back-end : goal.slice_bounds-reads_back-end
 slice_bounds-reads_back-end c =
@@ -18,7 +20,6 @@ slice_bounds-reads_back-end c =
 
 pub reads_back-requires : goal.reads_back-requires
 reads_back-requires c =
-    
     let h : 16 ≡ length c.args.c.names = slice_bounds-reads_back-end c in
     (c.requires.0, c.requires.1, omega (arith, c.requires.2, h))
 
@@ -27,4 +28,4 @@ returns c =
     let s = c.args in
     let A = s.area.now in
     is_read (snap_of s.words.now A s.l) s.q s.c (c.kind_of.ensures A)
-    c.if-not-read.false (c.item_of-item.ensures A) c.reads_back.ensures
+    (ap not c.if-not-read.false) (c.item_of-item.ensures A) c.reads_back.ensures

@@ -9,7 +9,6 @@ use Rattle.checked.proofs.found.report_in.Goals as goal
 
 pub misleads-misleading-requires : goal.misleads-misleading-requires
 misleads-misleading-requires c =
-    
     let f = c.find_path-f in
     let W = c.args.words.now in
     let A = c.args.area.now in (

@@ -13,8 +13,6 @@ slice_bounds-add_fault-end-2 c = sym (length-take-le _ c.args.words.now c.requir
 
 pub returns-then-n-ne0 : goal.returns-then-n-ne0
 returns-then-n-ne0 c =
-    
-    
     let r = c.requires.1.1 in
     added_not c.args.words.now c.args.count c.requires.0 _ r.same (entry_of c.args.entry.now) _
     (c.add_fault-n.ensures c.requires.1.0 r) c.if-n-ne0.true
@@ -24,20 +22,12 @@ slice_bounds-scopes_end-end-2 c = sym (length-take-le _ c.args.words.now c.requi
 
 pub record_of-added-requires : goal.record_of-added-requires
 record_of-added-requires c =
-    
-    
-    
     let r = c.requires.1.1 in
     added_head c.args.words.now c.args.count c.requires.0 _ r.same (entry_of c.args.entry.now) _
     (c.add_fault-n.ensures c.requires.1.0 r) c.if-n-ne0.false
 
 pub insert-requires : goal.insert-requires
 insert-requires c =
-    
-    
-    
-    
-    
     let r = c.requires.1.1 in
     let q =
     added_fits c.args.words.now c.args.count c.requires.0 _ r.same (entry_of c.args.entry.now) _
@@ -47,12 +37,6 @@ insert-requires c =
 
 pub returns : goal.returns
 returns c =
-    
-    
-    
-    
-    
-    
     let r = c.requires.1.1 in
     let W = c.args.words.now in
     added_done W c.args.count c.requires.0 _ r.same (entry_of c.args.entry.now) _ (c.add_fault-n.ensures c.requires.1.0 r)

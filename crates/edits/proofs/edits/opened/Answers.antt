@@ -12,7 +12,6 @@ returns-then-words-count c = record { opens = opens_short c.args.words.now c.arg
 
 pub slice_bounds-check-end : goal.slice_bounds-check-end
 slice_bounds-check-end c =
-    
     sym (length-take-le _ c.args.words.now c.if-words-count.false)
 
 pub returns : goal.returns

@@ -15,14 +15,11 @@ entry_place-at-requires c = (verdict_records (take c.args.count c.args.words.now
 
 pub returns-then-count-at : goal.returns-then-count-at
 returns-then-count-at c =
-    
-    
     removed_not c.args.words.now c.args.count c.requires.0 c.requires.1.0 c.requires.1.1 _ _ _ _ c.entry_place-at.ensures
     (omega (arith, c.if-count-at.true))
 
 pub remove-requires : goal.remove-requires
 remove-requires c =
-    
     (
       removed_fits c.args.words.now c.args.count c.requires.0 c.requires.1.0 c.requires.1.1 _ _ _ _ c.entry_place-at.ensures
           c.if-count-at.false,
@@ -31,18 +28,11 @@ remove-requires c =
 
 pub overflow_sub-result : goal.overflow_sub-result
 overflow_sub-result c =
-    
-    
-    
     let f = removed_fits c.args.words.now c.args.count c.requires.0 c.requires.1.0 c.requires.1.1 _ _ _ _
     c.entry_place-at.ensures c.if-count-at.false in
     omega (arith, f)
 
 pub returns : goal.returns
 returns c =
-    
-    
-    
-    
     removed_done c.args.words.now c.args.count c.requires.0 c.requires.1.0 c.requires.1.1 _ _ _ _ c.entry_place-at.ensures
     c.remove.new.words c.if-count-at.false c.remove.ensures

@@ -1,6 +1,5 @@
 use Prim.Native.Nat.{◌-◌}
 use Rattle.import_lists.proofs.Threading.{Gathering}
-use Rattle.import_lists.proofs.threads.gather.Reads as reads
 use Rattle.import_lists.proofs.threads.gather.Given as goal
 
 abbrev pub invariant-loop-k : goal.invariant-loop-k

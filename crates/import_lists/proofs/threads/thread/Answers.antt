@@ -5,7 +5,6 @@ use Rattle.import_lists.proofs.threads.thread.Goals as goal
 
 pub sort-requires : goal.sort-requires
 sort-requires c =
-    
     let g = c.gather-n.ensures in
     let q = (scopes_few c.requires).0 in
     let f = g.few in

@@ -8,8 +8,6 @@ loop-j-init c = (omega arith, threads_none _ _ c.requires.by_index.0)
 
 pub link-requires : goal.link-requires
 link-requires c =
-    
-    
     let e = owner_at_lem c.args.words.now c.args.area.now c.args.n c.loop-j.invariant.1 (omega arith) (omega arith)
     c.loop-j-test.true
     c.word-at.ensures c.scope_owner-m.ensures in
@@ -18,8 +16,6 @@ link-requires c =
 
 pub loop-j-preserved : goal.loop-j-preserved
 loop-j-preserved c =
-    
-    
     let t = c.loop-j-test.true in
     let e = owner_at_lem c.args.words.now c.args.area.now c.args.n c.loop-j.invariant.1 (omega arith) (omega arith) t
     c.word-at.ensures c.scope_owner-m.ensures in

@@ -9,8 +9,6 @@ loop-j-init c = (omega arith, threads_none _ _ c.requires.by_index.0)
 
 pub link-requires : goal.link-requires
 link-requires c =
-    
-    
     let h = c.requires.by_index.1 c.loop-j.j c.loop-j-test.true in
     let e = c.member_parent-d.ensures in
     let b = c.member_base-base.ensures in
@@ -19,8 +17,6 @@ link-requires c =
 
 pub loop-j-preserved : goal.loop-j-preserved
 loop-j-preserved c =
-    
-    
     let h = c.requires.by_index.1 c.loop-j.j c.loop-j-test.true in
     let e = c.member_parent-d.ensures in
     let b = c.member_base-base.ensures in
@@ -29,7 +25,6 @@ loop-j-preserved c =
 
 pub returns : goal.returns
 returns c =
-    
     let e : c.loop-j.j ≡ c.args.l.members = omega arith in
     threads_key _ (rw e at c.loop-j.invariant.1) (λ i h. rw c.member_base-base.ensures)
 

@@ -2,7 +2,6 @@ use mathlib.Core.Path.{refl}
 use native.Mathlib.Omega.{arith}
 use Rattle.import_lists.proofs.Walks.{few_words, cleared_reads, root_of_lem, root_inside, walking_start, going_start, going_top, going_next}
 use Rattle.import_lists.proofs.Walks.{going_falls, going_done}
-use Rattle.import_lists.proofs.walk.walk.Reads as reads
 use Rattle.import_lists.proofs.walk.walk.Goals as goal
 
 pub marks_base-base-requires : goal.marks_base-base-requires
@@ -36,7 +35,6 @@ root-first-requires c =
 
 pub overflow_cast-area : goal.overflow_cast-area
 overflow_cast-area c =
-    
     let h = root_inside c.requires.0 c.marks_base-base.ensures
     c.clear.ensures c.own.ensures.1 c.root-first.ensures in
     omega (arith, c.requires.0.ready.reads.tables.limited.modules)
@@ -66,7 +64,6 @@ bounds-area-pile_base c =
 
 pub loop-top-init : goal.loop-top-init
 loop-top-init c =
-    
     going_start (walking_start c.requires.0 c.marks_base-base.ensures
     refl c.clear.ensures
     c.area-1.given c.pile_base.ensures refl
@@ -87,7 +84,6 @@ loop-top-preserved c = going_next c.loop-top.invariant c.loop-top-test.true
 
 pub returns : goal.returns
 returns c =
-    
     going_done c.args.c.0 c.requires.0
     c.marks_base-base.ensures
     c.clear.ensures

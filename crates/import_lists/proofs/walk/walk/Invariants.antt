@@ -1,6 +1,5 @@
 use Rattle.import_lists.specs.Walks.{turns_at}
 use Rattle.import_lists.proofs.Walks.{Going}
-use Rattle.import_lists.proofs.walk.walk.Reads as reads
 use Rattle.import_lists.proofs.walk.walk.Given as goal
 
 abbrev pub invariant-loop-top : goal.invariant-loop-top

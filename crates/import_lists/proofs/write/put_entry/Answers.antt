@@ -12,9 +12,6 @@ put_members-t-requires c = let e = scope_at c.args.words.now c.args.entry in
 
 pub put_import-requires : goal.put_import-requires
 put_import-requires c =
-    
-    
-    
     let e = scope_at c.args.words.now c.args.entry in
     let p = imports_entry (snap_of c.args.words.now c.args.area.now c.args.l) c.args.c.0 e in
     let q = entry_same_import c.args.c.0 e c.scope_ns-ns.ensures
@@ -24,9 +21,6 @@ put_import-requires c =
 
 pub returns : goal.returns
 returns c =
-    
-    
-    
     let e = scope_at c.args.words.now c.args.entry in
     let p = imports_entry (snap_of c.args.words.now c.args.area.now c.args.l) c.args.c.0 e in
     let q = entry_same_import c.args.c.0 e c.scope_ns-ns.ensures

@@ -1,8 +1,8 @@
-use mathlib.Core.Logic.{⊎_elim}
 use native.Mathlib.Omega.{arith}
 use lib.ListN.{length-set}
 use Rattle.import_lists.proofs.Writing.{wrote_one, counted_one}
 use Rattle.import_lists.proofs.write.put_import.Goals as goal
+use Rattle.import_lists.proofs.write.put_import.Goals.{then-write, else-write}
 
 pub bounds-target-at : goal.bounds-target-at
 bounds-target-at c = let h = c.requires.1.room c.if-write.true in omega arith
@@ -28,7 +28,7 @@ bounds-target-at-then-write-5 c = let h = c.requires.1.room c.if-write.true
 pub returns : goal.returns
 returns c =
     let a = c.args in
-    ⊎_elim
-    (λ w. rw (w.0.taken, w.5) (wrote_one a.at a.c.0 a.ns a.d.0 a.name.0 a.m.0 a.bits a.target.now))
-    (λ w. rw (w.0.left, w.1) (counted_one a.at a.c.0 a.ns a.d.0 a.name.0 a.m.0 a.bits a.target.now))
-    c.if-write.branch
+    elim c.if-write.branch [
+      | then-write w ↦ rw (w.if-write.true, w.target-is) (wrote_one a.at a.c.0 a.ns a.d.0 a.name.0 a.m.0 a.bits a.target.now)
+      | else-write w ↦ rw (w.if-write.false, w.target-is) (counted_one a.at a.c.0 a.ns a.d.0 a.name.0 a.m.0 a.bits a.target.now)
+    ]

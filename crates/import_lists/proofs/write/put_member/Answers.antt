@@ -6,16 +6,12 @@ use Rattle.import_lists.proofs.write.put_member.Goals as goal
 
 pub returns-then-kind-eq3 : goal.returns-then-kind-eq3
 returns-then-kind-eq3 c =
-    
     let W = c.args.words.now in
     wrote_none (kept_none c.args.c.0 (scope_at W c.args.entry) (member_at W c.args.member) (sym c.member_kind-kind.ensures
     ∙ c.if-kind-eq3.true))
 
 pub put_import-requires : goal.put_import-requires
 put_import-requires c =
-    
-    
-    
     let W = c.args.words.now in
     let e = scope_at W c.args.entry in
     let x = member_at W c.args.member in
@@ -28,9 +24,6 @@ put_import-requires c =
 
 pub returns : goal.returns
 returns c =
-    
-    
-    
     let W = c.args.words.now in
     let e = scope_at W c.args.entry in
     let x = member_at W c.args.member in

@@ -8,7 +8,6 @@ use Rattle.import_lists.proofs.write.put_members.Goals as goal
 
 pub loop-k-init : goal.loop-k-init
 loop-k-init c =
-    
     let q = kept_first c.requires.listed c.scope_definition-d.ensures c.word-k.ensures in
     (q.1, going_start (space_as c.requires.space (sym q.0)))
 
@@ -19,18 +18,12 @@ put_member-t-requires c = let some : 0 < c.loop-k.k = omega (arith, c.loop-k-tes
 
 pub loop-k-smaller : goal.loop-k-smaller
 loop-k-smaller c =
-    
-    
-    
     let some : 0 < c.loop-k.k = omega (arith, c.loop-k-test.true) in
     let at = ap (λ b. b + 5 * (c.args.l.members - c.loop-k.k)) c.member_base-base.ensures in
     (kept_next c.requires.listed c.loop-k.invariant.0 some at c.word-k-in-loop-k.ensures).1
 
 pub loop-k-preserved : goal.loop-k-preserved
 loop-k-preserved c =
-    
-    
-    
     let some : 0 < c.loop-k.k = omega (arith, c.loop-k-test.true) in
     let at = ap (λ b. b + 5 * (c.args.l.members - c.loop-k.k)) c.member_base-base.ensures in
     let q = kept_next c.requires.listed c.loop-k.invariant.0 some at c.word-k-in-loop-k.ensures in
@@ -39,9 +32,6 @@ loop-k-preserved c =
 
 pub returns : goal.returns
 returns c =
-    
-    
-    
     let q = kept_first c.requires.listed c.scope_definition-d.ensures c.word-k.ensures in
     wrote_as (going_done c.loop-k.invariant.1 (kept_end c.args.words.now c.args.l c.args.c.0
     (scope_at c.args.words.now c.args.entry) c.loop-k.k c.loop-k-test.false)) q.0

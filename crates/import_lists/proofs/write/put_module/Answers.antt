@@ -7,7 +7,6 @@ use Rattle.import_lists.proofs.write.put_module.Goals as goal
 
 pub loop-k-init : goal.loop-k-init
 loop-k-init c =
-    
     let q = imports_first c.requires.threaded.0 c.args.c.0 c.requires.threaded.2 c.word-k.ensures in
     (q.1, going_start (space_as c.requires.space (sym q.0)))
 
@@ -17,16 +16,12 @@ put_entry-t-requires c = let some : 0 < c.loop-k.k = omega (arith, c.loop-k-test
 
 pub loop-k-smaller : goal.loop-k-smaller
 loop-k-smaller c =
-    
-    
     let some : 0 < c.loop-k.k = omega (arith, c.loop-k-test.true) in
     let e = c.word-entry.ensures in
     (imports_next c.requires.threaded.0 c.args.c.0 c.loop-k.invariant.0 some e c.word-k-in-loop-k.ensures).1
 
 pub loop-k-preserved : goal.loop-k-preserved
 loop-k-preserved c =
-    
-    
     let some : 0 < c.loop-k.k = omega (arith, c.loop-k-test.true) in
     let e = c.word-entry.ensures in
     let q = imports_next c.requires.threaded.0 c.args.c.0 c.loop-k.invariant.0 some e c.word-k-in-loop-k.ensures in
@@ -36,9 +31,6 @@ loop-k-preserved c =
 
 pub returns : goal.returns
 returns c =
-    
-    
-    
     let q = imports_first c.requires.threaded.0 c.args.c.0 c.requires.threaded.2 c.word-k.ensures in
     let z = imports_end c.args.words.now c.args.area.now c.args.l c.args.n c.args.c.0 c.loop-k.k c.loop-k-test.false in
     wrote_as (going_done c.loop-k.invariant.1 z) q.0

@@ -8,7 +8,6 @@ use Rattle.import_lists.proofs.write.put_modules.Goals as goal
 
 pub loop-i-init : goal.loop-i-init
 loop-i-init c =
-    
     let a = c.args in
     (omega arith, going_start (space_as c.requires.space (over_first a.words.now a.area.now a.l a.c.0 a.order)))
 
@@ -24,8 +23,6 @@ put_module-t-requires c = let a = c.args in
 
 pub loop-i-preserved : goal.loop-i-preserved
 loop-i-preserved c =
-    
-    
     let a = c.args in
     let i = c.loop-i.i in
     let t = c.loop-i-test.true in
@@ -35,8 +32,6 @@ loop-i-preserved c =
 
 pub returns : goal.returns
 returns c =
-    
-    
     let a = c.args in
     let z = over_end a.words.now a.area.now a.l a.c.0 a.order c.loop-i.i c.loop-i-test.false in
     wrote_as (going_done c.loop-i.invariant.1 z) (sym (over_first a.words.now a.area.now a.l a.c.0 a.order))

@@ -4,20 +4,17 @@ use Rattle.import_order.proofs.entries.entry_before.Goals as goal
 
 pub returns-then-x-y : goal.returns-then-x-y
 returns-then-x-y c =
-    
     entry_same _ _ _ c.scope_name-x.ensures c.scope_name-y.ensures
     c.scope_ns.ensures c.scope_ns-2.ensures c.if-x-y.true
 
 pub returns-then-text_before : goal.returns-then-text_before
 returns-then-text_before c =
-    
     entry_text _ _ _ c.scope_name-x.ensures c.scope_name-y.ensures
     c.scope_ns.ensures c.scope_ns-2.ensures
     (sym c.text_before.ensures ∙ c.if-text_before.true)
 
 pub returns : goal.returns
 returns c =
-    
     entry_other _ _ _ c.scope_name-x.ensures c.scope_name-y.ensures
     c.scope_ns.ensures c.scope_ns-2.ensures
     (sym c.text_before.ensures ∙ c.if-text_before.false) c.text_before-after.ensures

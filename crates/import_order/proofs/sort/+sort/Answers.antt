@@ -32,8 +32,4 @@ merge-requires t c =
 
 pub returns : goal.returns
 returns t c =
-    
-    
-    
-    
     sorts_halves _ c.requires.0 (omega arith) (omega arith) (omega arith) c.sort.ensures c.sort-2.ensures c.merge.ensures

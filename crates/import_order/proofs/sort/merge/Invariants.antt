@@ -1,7 +1,6 @@
 use Prim.Native.Nat.{◌+◌, ◌-◌}
 use Rattle.import_order.specs.Lists.{order_of, entries_at, merge_by}
 use Rattle.import_order.proofs.Merges.{Merging}
-use Rattle.import_order.proofs.sort.merge.Reads as reads
 use Rattle.import_order.proofs.sort.merge.Given as goal
 
 abbrev pub invariant-loop-i : goal.invariant-loop-i

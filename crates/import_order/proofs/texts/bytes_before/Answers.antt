@@ -8,24 +8,19 @@ loop-i-init c = (omega arith, refl)
 
 pub returns-then-m-i : goal.returns-then-m-i
 returns-then-m-i c =
-    
     let w = c.loop-i in
     text_longer c.args.a.now c.args.b.now c.args.n c.args.m w.i c.requires.0 c.requires.1 w.invariant.1
     c.loop-i-test.true c.if-m-i.true
 
 pub returns-then-x-y : goal.returns-then-x-y
 returns-then-x-y c =
-    
     let w = c.loop-i in
-    
     text_less c.args.a.now c.args.b.now c.args.n c.args.m w.i c.requires.0 c.requires.1 w.invariant.1 _ _
     c.loop-i-test.true c.if-m-i.false c.text_byte-x.ensures c.text_byte-y.ensures c.if-x-y.true
 
 pub returns-then-y-x : goal.returns-then-y-x
 returns-then-y-x c =
-    
     let w = c.loop-i in
-    
     text_greater c.args.a.now c.args.b.now c.args.n c.args.m w.i c.requires.0 c.requires.1 w.invariant.1 _ _
     c.loop-i-test.true c.if-m-i.false c.text_byte-x.ensures c.text_byte-y.ensures
     c.if-y-x.true
@@ -38,7 +33,6 @@ loop-i-smaller c = omega (arith, c.loop-i-test.true)
 
 pub loop-i-preserved : goal.loop-i-preserved
 loop-i-preserved c =
-    
     let w = c.loop-i in
     (
       omega (arith, c.loop-i-test.true),
@@ -50,7 +44,6 @@ loop-i-preserved c =
 pub returns : goal.returns
 returns c =
     let w = c.loop-i in
-    
     text_ended c.args.a.now c.args.b.now c.args.n c.args.m w.i c.requires.0 c.requires.1 w.invariant.1 c.loop-i-test.false
 
 pub text_byte-x-requires : goal.text_byte-x-requires

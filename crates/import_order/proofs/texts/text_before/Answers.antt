@@ -14,7 +14,6 @@ bytes_before-requires c =
 
 pub returns : goal.returns
 returns c =
-    
     c.bytes_before.ensures
     ∙ ap₂ text_before (ap (λ t. take c.bytes_of-n.result (unpacked t)) c.text_of-a.ensures
     ∙ c.bytes_of-n.ensures.n_value)

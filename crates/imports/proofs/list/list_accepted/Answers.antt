@@ -6,7 +6,6 @@ use Rattle.imports.proofs.list.list_accepted.Goals as goal
 
 pub returns-then-l-c : goal.returns-then-l-c
 returns-then-l-c c =
-    
     list_unknown c.args.words.now c.args.area.now c.args.l c.args.c.0 c.args.target.now c.if-l-c.true
 
 pub put_modules-count-requires : goal.put_modules-count-requires
@@ -21,7 +20,6 @@ put_modules-count-requires c = let t = c.thread-n.ensures in
 pub returns-then-target-count : goal.returns-then-target-count
 unfolding written
 returns-then-target-count c =
-    
     let t = c.thread-n.ensures in
     let p = c.put_modules-count.ensures in
     list_short c.requires c.if-l-c.false t.0 t.1 c.walk-k.ensures
@@ -41,7 +39,6 @@ put_modules-requires c = let t = c.thread-n.ensures in
 pub returns : goal.returns
 unfolding written
 returns c =
-    
     let t = c.thread-n.ensures in
     let p = c.put_modules-count.ensures in
     list_written c.requires

@@ -5,7 +5,6 @@ use Rattle.join.proofs.join.join.Goals as goal
 
 pub returns-then-area-lt-AREA : goal.returns-then-area-lt-AREA
 returns-then-area-lt-AREA c =
-    
     joins_small c.args.first.now c.args.second.now c.args.area.now c.args.target.now c.if-area-lt-AREA.true
 
 pub slice_bounds-join_within-end-2 : goal.slice_bounds-join_within-end-2
@@ -18,7 +17,6 @@ join_within-requires c = length-take-le 16384 c.args.area.now
 
 pub returns : goal.returns
 returns c =
-    
     joins_large c.args.first.now c.args.second.now c.args.area.now c.args.target.now _ _ _
     c.if-area-lt-AREA.false c.join_within.ensures.area_after
     c.join_within.ensures.joins

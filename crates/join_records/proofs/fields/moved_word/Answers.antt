@@ -7,8 +7,6 @@ use Rattle.join_records.proofs.fields.moved_word.Goals as goal
 
 pub overflow_mul-result : goal.overflow_mul-result
 overflow_mul-result c =
-    
-    
     omega (
       arith,
       under (head_is (numbers_of c.args.area.now c.args.l) c.args.words.now c.args.at c.args.i
@@ -18,8 +16,6 @@ overflow_mul-result c =
 
 pub field_to-requires : goal.field_to-requires
 field_to-requires c =
-    
-    
     let h = under (head_is (numbers_of c.args.area.now c.args.l) c.args.words.now c.args.at c.args.i
     c.kind-k.ensures c.payload-p.ensures c.field-v.ensures
     c.role_of-role.ensures c.if-i-eq0.true) c.requires in
@@ -27,8 +23,6 @@ field_to-requires c =
 
 pub overflow_add-result : goal.overflow_add-result
 overflow_add-result c =
-    
-    
     let f = c.field_to.ensures in
     let h = under (head_is (numbers_of c.args.area.now c.args.l) c.args.words.now c.args.at c.args.i
     c.kind-k.ensures c.payload-p.ensures c.field-v.ensures
@@ -37,8 +31,6 @@ overflow_add-result c =
 
 pub returns-then-i-eq0 : goal.returns-then-i-eq0
 returns-then-i-eq0 c =
-    
-    
     ap (λ x. c.kind-k.result * 268435456 + x) c.field_to.ensures
     ∙ head_is (numbers_of c.args.area.now c.args.l) c.args.words.now c.args.at c.args.i
     c.kind-k.ensures c.payload-p.ensures c.field-v.ensures
@@ -46,16 +38,12 @@ returns-then-i-eq0 c =
 
 pub field_to-requires-2 : goal.field_to-requires-2
 field_to-requires-2 c =
-    
-    
     under (field_is (numbers_of c.args.area.now c.args.l) c.args.words.now c.args.at c.args.i
     c.kind-k.ensures c.payload-p.ensures c.field-v.ensures
     c.role_of-role.ensures c.if-i-eq0.false c.field.ensures) c.requires
 
 pub returns : goal.returns
 returns c =
-    
-    
     c.field_to-2.ensures ∙ field_is (numbers_of c.args.area.now c.args.l) c.args.words.now c.args.at c.args.i
     c.kind-k.ensures c.payload-p.ensures c.field-v.ensures
     c.role_of-role.ensures c.if-i-eq0.false c.field.ensures

@@ -5,22 +5,18 @@ use Rattle.join_records.proofs.fields.seen_to.Goals as goal
 
 pub returns-then-v-eq0 : goal.returns-then-v-eq0
 returns-then-v-eq0 c =
-    
     seen_public (numbers_of c.args.area.now c.args.l) c.args.v c.args.n c.if-v-eq0.true
 
 pub overflow_add-result : goal.overflow_add-result
 overflow_add-result c =
-    
     omega (arith, under (seen_crate (numbers_of c.args.area.now c.args.l) c.args.v c.args.n c.if-v-eq1.true) c.requires)
 
 pub returns-then-v-eq1 : goal.returns-then-v-eq1
 returns-then-v-eq1 c =
-    
     seen_crate (numbers_of c.args.area.now c.args.l) c.args.v c.args.n c.if-v-eq1.true
 
 pub overflow_add-result-2 : goal.overflow_add-result-2
 overflow_add-result-2 c =
-    
     omega (
       arith,
       under (seen_module (numbers_of c.args.area.now c.args.l) c.args.v c.args.n c.if-v-eq0.false
@@ -29,5 +25,4 @@ overflow_add-result-2 c =
 
 pub returns : goal.returns
 returns c =
-    
     seen_module (numbers_of c.args.area.now c.args.l) c.args.v c.args.n c.if-v-eq0.false c.if-v-eq1.false

@@ -3,7 +3,6 @@ use Rattle.join_records.proofs.write.base.Goals as goal
 
 pub returns : goal.returns
 returns c =
-    
     base_is c.args.l c.args.k c.dependency_base.ensures
     c.map_base.ensures
     c.child_base.ensures

@@ -1,3 +1,5 @@
+use mathlib.Core.Path.{ap}
+use mathlib.Core.Bool.{not}
 use Prim.Native.Nat.{◌+◌, ◌-◌}
 use mathlib.Core.Path.{refl}
 use native.Mathlib.Omega.{arith}
@@ -13,7 +15,7 @@ overflow_add-result c = let h = space_small (λ j. get_or c.args.words.now (c.ar
     (c.args.end - c.args.from) c.requires.2 in omega arith
 
 pub returns-then-not-write : goal.returns-then-not-write
-returns-then-not-write c = counted (λ j. get_or c.args.words.now (c.args.from + j) 0) (c.args.end - c.args.from) c.if-not-write.true
+returns-then-not-write c = counted (λ j. get_or c.args.words.now (c.args.from + j) 0) (c.args.end - c.args.from) (ap not c.if-not-write.true)
 
 pub loop-i-init : goal.loop-i-init
 loop-i-init c = (
@@ -24,7 +26,6 @@ loop-i-init c = (
 
 pub overflow_add-target : goal.overflow_add-target
 overflow_add-target c =
-    
     let h = c.requires.0 in
     let g = c.requires.1 in
     let i = c.loop-i-test.true in
@@ -32,7 +33,6 @@ overflow_add-target c =
 
 pub bounds-words-from : goal.bounds-words-from
 bounds-words-from c =
-    
     let h = c.requires.0 in
     let g = c.requires.1 in
     let i = c.loop-i-test.true in
@@ -40,35 +40,28 @@ bounds-words-from c =
 
 pub overflow_add-target-in-loop-i : goal.overflow_add-target-in-loop-i
 overflow_add-target-in-loop-i c =
-    
     let h = space_small (λ j. get_or c.args.words.now (c.args.from + j) 0) (c.args.end - c.args.from) c.requires.2 in
     let i = c.loop-i-test.true in
     omega arith
 
 pub offset_bounds-target-to : goal.offset_bounds-target-to
 offset_bounds-target-to c =
-    
-    
-    let h = space_room (λ j. get_or c.args.words.now (c.args.from + j) 0) (c.args.end - c.args.from) c.requires.2 c.if-not-write.false in
+    let h = space_room (λ j. get_or c.args.words.now (c.args.from + j) 0) (c.args.end - c.args.from) c.requires.2 (ap not c.if-not-write.false) in
     let z = stored_size (λ j. get_or c.args.words.now (c.args.from + j) 0) (c.args.end - c.args.from) c.requires.2
-    c.if-not-write.false c.loop-i.i c.loop-i.invariant.1 in
+    (ap not c.if-not-write.false) c.loop-i.i c.loop-i.invariant.1 in
     let i = c.loop-i-test.true in
     omega arith
 
 pub bounds-target-to : goal.bounds-target-to
 bounds-target-to c =
-    
-    
-    let h = space_room (λ j. get_or c.args.words.now (c.args.from + j) 0) (c.args.end - c.args.from) c.requires.2 c.if-not-write.false in
+    let h = space_room (λ j. get_or c.args.words.now (c.args.from + j) 0) (c.args.end - c.args.from) c.requires.2 (ap not c.if-not-write.false) in
     let z = stored_size (λ j. get_or c.args.words.now (c.args.from + j) 0) (c.args.end - c.args.from) c.requires.2
-    c.if-not-write.false c.loop-i.i c.loop-i.invariant.1 in
+    (ap not c.if-not-write.false) c.loop-i.i c.loop-i.invariant.1 in
     let i = c.loop-i-test.true in
     omega arith
 
 pub loop-i-preserved : goal.loop-i-preserved
 loop-i-preserved c =
-    
-    
     let i = c.loop-i-test.true in (
       omega arith,
       store_next (λ j. get_or c.args.words.now (c.args.from + j) 0) c.args.target.now c.args.to
@@ -81,10 +74,8 @@ overflow_add-result-2 c = let h = space_small (λ j. get_or c.args.words.now (c.
 
 pub returns : goal.returns
 returns c =
-    
-    
     stored (λ j. get_or c.args.words.now (c.args.from + j) 0) (c.args.end - c.args.from) c.loop-i.i c.args.target.now
-    c.if-not-write.false c.loop-i.invariant.0 c.loop-i-test.false c.loop-i.invariant.1
+    (ap not c.if-not-write.false) c.loop-i.invariant.0 c.loop-i-test.false c.loop-i.invariant.1
 
 pub offset_bounds-words-from : goal.offset_bounds-words-from
 offset_bounds-words-from c = omega arith

@@ -26,8 +26,6 @@ loop-k-smaller c = omega (arith, c.loop-k-test.true)
 
 pub loop-k-preserved : goal.loop-k-preserved
 loop-k-preserved c =
-    
-    
     let t = c.loop-k-test.true in (
       omega arith,
       going_next c.loop-k.invariant.1
@@ -37,7 +35,5 @@ loop-k-preserved c =
 
 pub returns : goal.returns
 returns c =
-    
-    
     going_done c.loop-k.invariant.1 (joined_end (kind_to c.args.area.now c.args.l c.args.m c.args.first.now c.args.second.now)
     c.loop-k.k kinds c.loop-k-test.false)

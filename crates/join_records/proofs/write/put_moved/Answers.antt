@@ -5,28 +5,21 @@ use Rattle.join_records.proofs.write.put_moved.Goals as goal
 
 pub loop-at-init : goal.loop-at-init
 loop-at-init c =
-    
     walking_start c.args.write c.args.area.now c.args.l c.args.words.now c.args.to c.args.target.now
     c.args.from c.args.end
 
 pub put_kept-t-requires : goal.put_kept-t-requires
 put_kept-t-requires c =
-    
-    
     walking_space c.loop-at.invariant c.loop-at-test.true c.requires.1
 
 pub overflow_add-at : goal.overflow_add-at
 overflow_add-at c =
-    
-    
     let e = c.requires.0 in
     let h = c.loop-at-test.true in
     omega arith
 
 pub overflow_add-at-in-loop-at : goal.overflow_add-at-in-loop-at
 overflow_add-at-in-loop-at c =
-    
-    
     let e = c.requires.0 in
     let h = c.loop-at-test.true in
     let k = arguments_few c.args.words.now c.loop-at.at _ c.arguments.ensures in
@@ -34,8 +27,6 @@ overflow_add-at-in-loop-at c =
 
 pub overflow_add-n : goal.overflow_add-n
 overflow_add-n c =
-    
-    
     let e = c.requires.0 in
     let h = c.loop-at-test.true in
     let k = c.loop-at.invariant.low in
@@ -46,7 +37,6 @@ loop-at-smaller c = omega (arith, c.loop-at-test.true)
 
 pub loop-at-preserved : goal.loop-at-preserved
 loop-at-preserved c =
-    
     walking_next c.loop-at.invariant c.loop-at-test.true c.put_kept-t.ensures
     c.arguments.ensures
 

@@ -1,3 +1,5 @@
+use mathlib.Core.Path.{ap}
+use mathlib.Core.Bool.{not}
 use Prim.Native.Nat.{◌+◌}
 use native.Mathlib.Omega.{arith}
 use Rattle.accept.proofs.Turns.{arguments_few}
@@ -8,14 +10,11 @@ use Rattle.join_records.proofs.write.put_record.Goals as goal
 
 pub overflow_add-n : goal.overflow_add-n
 overflow_add-n c =
-    
     let h = arguments_few c.args.words.now c.args.at _ c.arguments-n.ensures in
     omega arith
 
 pub overflow_add-result : goal.overflow_add-result
 overflow_add-result c =
-    
-    
     let q = (counted_space (moved_word (numbers_of c.args.area.now c.args.l) c.args.words.now c.args.at) c.requires
     c.arguments-n.ensures) in
     let h = space_small (moved_word (numbers_of c.args.area.now c.args.l) c.args.words.now c.args.at)
@@ -24,18 +23,14 @@ overflow_add-result c =
 
 pub returns-then-not-write : goal.returns-then-not-write
 returns-then-not-write c =
-    
-    
     let q = (counted_space (moved_word (numbers_of c.args.area.now c.args.l) c.args.words.now c.args.at) c.requires
     c.arguments-n.ensures) in
     counted_as (moved_word (numbers_of c.args.area.now c.args.l) c.args.words.now c.args.at) c.arguments-n.ensures
     (counted (moved_word (numbers_of c.args.area.now c.args.l) c.args.words.now c.args.at)
-    (1 + c.arguments-n.result) c.if-not-write.true)
+    (1 + c.arguments-n.result) (ap not c.if-not-write.true))
 
 pub loop-i-init : goal.loop-i-init
 loop-i-init c =
-    
-    
     let q = (counted_space (moved_word (numbers_of c.args.area.now c.args.l) c.args.words.now c.args.at) c.requires
     c.arguments-n.ensures) in (
       omega arith,
@@ -45,33 +40,24 @@ loop-i-init c =
 
 pub moved_word-requires : goal.moved_word-requires
 moved_word-requires c =
-    
-    
-    
     let q = (counted_space (moved_word (numbers_of c.args.area.now c.args.l) c.args.words.now c.args.at) c.requires
     c.arguments-n.ensures) in
     space_fits (moved_word (numbers_of c.args.area.now c.args.l) c.args.words.now c.args.at) (1 + c.arguments-n.result) q
-    c.if-not-write.false c.loop-i.i c.loop-i-test.true
+    (ap not c.if-not-write.false) c.loop-i.i c.loop-i-test.true
 
 pub overflow_cast-target : goal.overflow_cast-target
 overflow_cast-target c =
-    
     let i = c.loop-i-test.true in
-    
-    
     let q = (counted_space (moved_word (numbers_of c.args.area.now c.args.l) c.args.words.now c.args.at) c.requires
     c.arguments-n.ensures) in
     let h = space_fits (moved_word (numbers_of c.args.area.now c.args.l) c.args.words.now c.args.at)
-    (1 + c.arguments-n.result) q c.if-not-write.false c.loop-i.i i in
+    (1 + c.arguments-n.result) q (ap not c.if-not-write.false) c.loop-i.i i in
     let e = c.moved_word.ensures in
     omega arith
 
 pub overflow_add-target : goal.overflow_add-target
 overflow_add-target c =
-    
     let i = c.loop-i-test.true in
-    
-    
     let q = (counted_space (moved_word (numbers_of c.args.area.now c.args.l) c.args.words.now c.args.at) c.requires
     c.arguments-n.ensures) in
     let h = space_small (moved_word (numbers_of c.args.area.now c.args.l) c.args.words.now c.args.at)
@@ -80,38 +66,29 @@ overflow_add-target c =
 
 pub offset_bounds-target-to : goal.offset_bounds-target-to
 offset_bounds-target-to c =
-    
     let i = c.loop-i-test.true in
-    
-    
     let q = (counted_space (moved_word (numbers_of c.args.area.now c.args.l) c.args.words.now c.args.at) c.requires
     c.arguments-n.ensures) in
     let h = space_room (moved_word (numbers_of c.args.area.now c.args.l) c.args.words.now c.args.at)
-    (1 + c.arguments-n.result) q c.if-not-write.false in
+    (1 + c.arguments-n.result) q (ap not c.if-not-write.false) in
     let z = stored_size (moved_word (numbers_of c.args.area.now c.args.l) c.args.words.now c.args.at)
-    (1 + c.arguments-n.result) q c.if-not-write.false c.loop-i.i c.loop-i.invariant.1 in
+    (1 + c.arguments-n.result) q (ap not c.if-not-write.false) c.loop-i.i c.loop-i.invariant.1 in
     omega arith
 
 pub bounds-target-to : goal.bounds-target-to
 bounds-target-to c =
-    
     let i = c.loop-i-test.true in
-    
-    
     let q = (counted_space (moved_word (numbers_of c.args.area.now c.args.l) c.args.words.now c.args.at) c.requires
     c.arguments-n.ensures) in
     let h = space_room (moved_word (numbers_of c.args.area.now c.args.l) c.args.words.now c.args.at)
-    (1 + c.arguments-n.result) q c.if-not-write.false in
+    (1 + c.arguments-n.result) q (ap not c.if-not-write.false) in
     let z = stored_size (moved_word (numbers_of c.args.area.now c.args.l) c.args.words.now c.args.at)
-    (1 + c.arguments-n.result) q c.if-not-write.false c.loop-i.i c.loop-i.invariant.1 in
+    (1 + c.arguments-n.result) q (ap not c.if-not-write.false) c.loop-i.i c.loop-i.invariant.1 in
     omega arith
 
 pub overflow_add-i : goal.overflow_add-i
 overflow_add-i c =
-    
     let i = c.loop-i-test.true in
-    
-    
     let q = (counted_space (moved_word (numbers_of c.args.area.now c.args.l) c.args.words.now c.args.at) c.requires
     c.arguments-n.ensures) in
     let h = space_small (moved_word (numbers_of c.args.area.now c.args.l) c.args.words.now c.args.at)
@@ -120,10 +97,7 @@ overflow_add-i c =
 
 pub loop-i-preserved : goal.loop-i-preserved
 loop-i-preserved c =
-    
     let i = c.loop-i-test.true in
-    
-    
     let q = (counted_space (moved_word (numbers_of c.args.area.now c.args.l) c.args.words.now c.args.at) c.requires
     c.arguments-n.ensures) in (
       omega arith,
@@ -133,8 +107,6 @@ loop-i-preserved c =
 
 pub overflow_add-result-2 : goal.overflow_add-result-2
 overflow_add-result-2 c =
-    
-    
     let q = (counted_space (moved_word (numbers_of c.args.area.now c.args.l) c.args.words.now c.args.at) c.requires
     c.arguments-n.ensures) in
     let h = space_small (moved_word (numbers_of c.args.area.now c.args.l) c.args.words.now c.args.at)
@@ -143,14 +115,11 @@ overflow_add-result-2 c =
 
 pub returns : goal.returns
 returns c =
-    
-    
-    
     let q = (counted_space (moved_word (numbers_of c.args.area.now c.args.l) c.args.words.now c.args.at) c.requires
     c.arguments-n.ensures) in
     counted_as (moved_word (numbers_of c.args.area.now c.args.l) c.args.words.now c.args.at) c.arguments-n.ensures
     (stored (moved_word (numbers_of c.args.area.now c.args.l) c.args.words.now c.args.at) (1 + c.arguments-n.result)
-    c.loop-i.i c.args.target.now c.if-not-write.false c.loop-i.invariant.0 c.loop-i-test.false c.loop-i.invariant.1)
+    c.loop-i.i c.args.target.now (ap not c.if-not-write.false) c.loop-i.invariant.0 c.loop-i-test.false c.loop-i.invariant.1)
 
 pub loop-i-smaller : goal.loop-i-smaller
 loop-i-smaller c = omega arith

@@ -8,4 +8,4 @@ pub returns : goal.returns
 returns c = let s = c.args in
     let o = c.put_outcome-a.ensures in
     let m = c.put_meter.ensures in  record { put = put_as (line_whole (snap_of s.words.now s.area.now s.l) s.from.0 s.r
-          c.edition_in-edition.ensures) (put_two o.0 m.0); upper_bound = omega (arith, o.1, m.1) }
+          c.edition_in-edition.ensures) (put_two o.put m.put); upper_bound = omega (arith, o.upper_bound, m.upper_bound) }

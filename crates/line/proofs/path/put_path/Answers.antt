@@ -11,13 +11,12 @@ loop-i-init c = (omega arith, refl, put_as (tail_none _ _ _) (put_none _ _), ome
 
 pub put_part-to-requires : goal.put_part-to-requires
 put_part-to-requires c =
-    
     let l = c.loop-i in (
-      c.requires.0.0,
+      c.requires.reads.0,
       omega (
         arith,
-        c.requires.0.1,
-        c.requires.1,
+        c.requires.reads.1,
+        c.requires.count_bound,
         l.invariant.0,
         l.invariant.1,
         l.invariant.3,
@@ -40,15 +39,10 @@ loop-i-preserved c =
     )
 
 pub returns : goal.returns
-returns c =
-    
-    let l = c.loop-i in
-    let p = c.put_prefix-to.ensures in (
-      put_as (path_done (written_of (snap_of c.args.words.now c.args.area.now c.args.l) c.args.edition)
-          c.args.kind c.args.names.now l.i c.args.count l.invariant.0 c.loop-i-test.false c.requires.1.1)
-          (put_two p.0 l.invariant.2),
-      omega (arith, l.invariant.0, l.invariant.3, p.1, c.requires.1.0),
-    )
+returns c = let l = c.loop-i in
+    let p = c.put_prefix-to.ensures in  record { put = put_as (path_done (written_of (snap_of c.args.words.now c.args.area.now c.args.l) c.args.edition)
+          c.args.kind c.args.names.now l.i c.args.count l.invariant.0 c.loop-i-test.false c.requires.count_bound.1)
+          (put_two p.put l.invariant.2); upper_bound = omega (arith, l.invariant.0, l.invariant.3, p.upper_bound, c.requires.count_bound.0) }
 
 pub put_prefix-to-requires : goal.put_prefix-to-requires
 put_prefix-to-requires c = omega arith

@@ -3,7 +3,7 @@ use native.Mathlib.Omega.{arith}
 use lib.ListN.{length}
 use Rattle.local_levels.proofs.Stacks.{First, chain_first, visited_hit, visited_other, visited_miss, visited_end}
 use Rattle.local_levels.proofs.levels.visited.Goals as goal
-use Rattle.local_levels.proofs.levels.visited.Goals.{then-word-code, else-word-code}
+use Rattle.local_levels.proofs.levels.visited.Goals.{then-word-code+else-has, else-word-code}
 
 pub code_of-code-requires : goal.code_of-code-requires
 code_of-code-requires c = c.requires.1
@@ -25,12 +25,7 @@ has-requires c = omega (arith, (chain_first _ _ _ _ c.loop-d-test.true c.loop-d.
 
 pub returns-then-has : goal.returns-then-has
 returns-then-has c =
-    
-    
-    
     let l = c.loop-d in
-    
-    
     visited_hit c.args.area.now _ _ _ l.p l.d (l.invariant.0 _ c.requires.1 c.code_of-code.ensures.0) c.requires.1
     c.loop-d-test.true c.word.ensures c.code_of-code.ensures.0 c.if-word-code.true c.word-cursor.ensures
     c.has.ensures c.if-has.true
@@ -51,7 +46,7 @@ loop-d-preserved c =
     let t = c.loop-d-test.true in (
       λ item s e.
           elim c.if-word-code.branch [
-            | then-word-code w ↦ visited_miss A item _ _ l.p l.d (l.invariant.0 item s e) s t w.word-cursor.ensures w.has.ensures w.if-has.false
+            | then-word-code+else-has w ↦ visited_miss A item _ _ l.p l.d (l.invariant.0 item s e) s t w.word-cursor.ensures w.has.ensures w.if-has.false
                 c.word-p.ensures refl
             | else-word-code w ↦ visited_other A item _ _ l.p l.d (l.invariant.0 item s e) s t c.word.ensures e w.if-word-code.false
                 c.word-p.ensures refl
@@ -62,8 +57,6 @@ loop-d-preserved c =
 pub returns : goal.returns
 returns c =
     let l = c.loop-d in
-    
-    
     visited_end c.args.area.now _ _ _ l.p l.d (l.invariant.0 _ c.requires.1 c.code_of-code.ensures.0) (omega (arith, c.loop-d-test.false))
 
 pub word-requires : goal.word-requires

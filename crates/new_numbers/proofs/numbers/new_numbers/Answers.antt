@@ -17,8 +17,6 @@ number_checked-requires c = length-take-le area_limit c.args.area.now c.if-area-
 
 pub returns : goal.returns
 returns c =
-    
-    
     let s = c.args in
     numbers_large s.first.now s.second.now s.area.now c.number_checked.new.area _ c.if-area-lt-AREA.false
     (c.number_checked.auto.area ∙ length-take-le area_limit s.area.now c.if-area-lt-AREA.false) c.number_checked.ensures

@@ -8,8 +8,6 @@ use Rattle.new_numbers.proofs.numbers.number_second.Goals as goal
 
 pub number-requires : goal.number-requires
 number-requires c =
-    
-    
     let z = c.check-k.auto.area ∙ c.requires.0 in
     record {
       first = c.requires.1;
@@ -19,19 +17,11 @@ number-requires c =
 
 pub returns-in-Refused : goal.returns-in-Refused
 returns-in-Refused c =
-    
-    
-    
-    
     second_refused _ _ _ _ (c.clear.ensures ∙ ap zeros (c.check-k.auto.area ∙ c.requires.0))
     (refused_verdict c.args.second.now c.args.area.now _ _ c.requires.0 c.check-k.ensures _ _ c.in-Refused.is)
 
 pub returns-in-Accepted : goal.returns-in-Accepted
 returns-in-Accepted c =
-    
-    
-    
-    
     let r = accepted_reads c.args.second.now c.args.area.now _ _ c.requires.0 c.check-k.ensures _ c.in-Accepted.is in
     both_numbered c.args.first.now c.args.second.now _ c.requires.1.same (part_of_lem c.args.second.now _ _ r).same
     _ _ c.number.ensures

@@ -7,7 +7,6 @@ use Rattle.reach.proofs.counts.report_for.Goals as goal
 
 pub report_in-requires : goal.report_in-requires
 report_in-requires c =
-    
     (
       c.requires.reads.0,
       c.requires.reads.1,

@@ -7,6 +7,5 @@ use Rattle.reach.proofs.lines.reach_line_on.Goals as goal
 
 pub returns : goal.returns
 returns c =
-    
     let r = c.reach_on-r.ensures in
     record { line = put_as (ap (λ x. reach_line x ++ bytes_of "\n") r.reach) c.put_reach.ensures; checked = r.checked }

@@ -12,8 +12,6 @@ returns-then-l-v c = let s = c.args in
 
 pub reach_in-requires : goal.reach_in-requires
 reach_in-requires c =
-    
-    
     (c.requires.0, c.requires.1, c.if-l-v.false, c.requires.2, c.requires.3, c.requires.4)
 
 pub returns : goal.returns

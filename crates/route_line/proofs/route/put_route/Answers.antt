@@ -15,10 +15,9 @@ slice_bounds-put_steps-end c = search rules
 
 pub put_steps-requires : goal.put_steps-requires
 put_steps-requires c =
-    
     let h : 17 ≡ length c.args.r.route = slice_bounds-put_steps-end c in
     (c.requires.0, c.requires.1, omega (arith, c.requires.1, h))
 
 pub returns : goal.returns
 returns c = let q = c.put_steps.ensures in
-     record { put = put_as (route_found c.args.r c.if-not-found.false) q.0; upper_bound = q.1 }
+     record { put = put_as (route_found c.args.r c.if-not-found.false) q.put; upper_bound = q.upper_bound }

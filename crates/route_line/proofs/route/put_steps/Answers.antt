@@ -9,13 +9,11 @@ loop-i-init c = (omega arith, refl, put_as (steps_none c.args.route.now) (put_no
 
 pub put_step-to-requires : goal.put_step-to-requires
 put_step-to-requires c =
-    
     let l = c.loop-i in
     omega (arith, c.requires.0, c.requires.1, l.invariant.1, l.invariant.3, c.loop-i-test.true)
 
 pub loop-i-preserved : goal.loop-i-preserved
 loop-i-preserved c =
-    
     let l = c.loop-i in
     (
       omega arith,

@@ -22,7 +22,6 @@ find_by_name-named-choice-requires t c = (c.requires.0.reads, c.requires.0.from)
 
 pub find_by_name-returns-then-choice : goal.find_by_name-returns-then-choice
 find_by_name-returns-then-choice t c =
-    
     let a = c.args in
     record {
       same = name_found (snap_of a.words.now a.area.now a.l) a.x a.item a.t c.named-choice.ensures
@@ -39,7 +38,6 @@ find_by_name-calculate_best_path-requires t c =
 
 pub find_by_name-returns-in_default : goal.find_by_name-returns-in_default
 find_by_name-returns-in_default t c =
-    
     let a = c.args in
     let f = c.calculate_best_path in
     let e = sym (ap (entry_of definition_at a.words.now) c.in_default.is)
@@ -56,7 +54,6 @@ find_by_name-item_of-parent-requires t c = few_words _ _ _ c.requires.0.reads
 
 pub find_by_name-find_path_inner-o-requires : goal.find_by_name-find_path_inner-o-requires
 find_by_name-find_path_inner-o-requires t c =
-    
     let a = c.args in
     let e = sym (ap (entry_of definition_at a.words.now) c.in-At.is)
     ∙ c.variant_of.ensures a.area.now in
@@ -78,7 +75,6 @@ find_by_name-find_path_inner-o-requires t c =
 
 pub find_by_name-push_variant-choice-requires : goal.find_by_name-push_variant-choice-requires
 find_by_name-push_variant-choice-requires t c =
-    
     let a = c.args in
     let e = sym (ap (entry_of definition_at a.words.now)
     c.in-At.is)
@@ -101,7 +97,6 @@ find_by_name-push_variant-choice-requires t c =
 
 pub find_by_name-returns-then-best : goal.find_by_name-returns-then-best
 find_by_name-returns-then-best t c =
-    
     let a = c.args in
     let e = sym (ap (entry_of definition_at a.words.now)
     c.in-At.is)
@@ -117,7 +112,6 @@ find_by_name-returns-then-best t c =
 
 pub find_by_name-calculate_best_path-requires-2 : goal.find_by_name-calculate_best_path-requires-2
 find_by_name-calculate_best_path-requires-2 t c =
-    
     let a = c.args in
     (
       begun_later (begun c.requires.0) c.find_path_inner-o.ensures.tables c.find_path_inner-o.auto.area,
@@ -132,7 +126,6 @@ find_by_name-calculate_best_path-requires-2 t c =
 
 pub find_by_name-returns : goal.find_by_name-returns
 find_by_name-returns t c =
-    
     let a = c.args in
     let e = sym (ap (entry_of definition_at a.words.now)
     c.in-At.is)
@@ -151,7 +144,6 @@ find_path_inner-find_by_name-requires t c = (omega (arith, c.decreases), c.requi
 
 pub find_path_inner-returns-in_default : goal.find_path_inner-returns-in_default
 find_path_inner-returns-in_default t c =
-    
     let a = c.args in
     let f = c.find_by_name in
     let e = is_none _ c.straight_of.ensures
@@ -164,14 +156,12 @@ find_path_inner-returns-in_default t c =
 
 pub find_path_inner-find_path_for_module-requires : goal.find_path_inner-find_path_for_module-requires
 find_path_inner-find_path_for_module-requires t c =
-    
     let a = c.args in
     let e = is_some _ c.straight_of.ensures c.in-Module.is in
     (c.requires.0, straight_known a.l _ a.item e c.requires.1.0, c.requires.0.limit, c.requires.2)
 
 pub find_path_inner-returns : goal.find_path_inner-returns
 find_path_inner-returns t c =
-    
     let a = c.args in
     let f = c.find_path_for_module in
     let e = is_some _ c.straight_of.ensures

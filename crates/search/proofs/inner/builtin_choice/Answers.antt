@@ -8,7 +8,6 @@ definition_head-h-requires c = few_words _ _ _ c.requires.0
 
 pub step_by-via-requires : goal.step_by-via-requires
 step_by-via-requires c =
-    
     let A = c.args.area.now in (
       omega arith,
       builtin_at c.args.words.now A c.args.l c.requires.0 c.args.d.0 c.requires.1 c.requires.2
@@ -17,7 +16,6 @@ step_by-via-requires c =
 
 pub new-requires : goal.new-requires
 new-requires c =
-    
     let A = c.args.area.now in (
       c.requires.0,
       builtin_name c.args.words.now A c.args.l c.requires.0 c.args.d.0 c.requires.1 c.requires.2
@@ -26,7 +24,6 @@ new-requires c =
 
 pub returns : goal.returns
 returns c =
-    
     let A = c.args.area.now in
     builtin_same c.args.words.now A c.args.l c.requires.0 c.args.d.0 c.requires.1 c.requires.2
     (c.definition_head-h.ensures A) c.definition_first.ensures c.step_by-via.ensures

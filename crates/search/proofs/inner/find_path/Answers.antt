@@ -19,7 +19,6 @@ kind_of-requires c = few_words _ _ _ c.requires.0
 
 pub builtin_choice-choice-requires : goal.builtin_choice-choice-requires
 builtin_choice-choice-requires c =
-    
     let a = c.args in (
       c.requires.0,
       c.requires.2,
@@ -29,7 +28,6 @@ builtin_choice-choice-requires c =
 
 pub returns-then-q-kind_of : goal.returns-then-q-kind_of
 returns-then-q-kind_of c =
-    
     let a = c.args in
     record {
       same = start_builtin (snap_of a.words.now a.area.now a.l) a.q a.fuel
@@ -45,7 +43,6 @@ home_of-requires c = few_words _ _ _ c.requires.0
 
 pub returns-in_default : goal.returns-in_default
 returns-in_default c =
-    
     let a = c.args in
     record {
       same = start_none (snap_of a.words.now a.area.now a.l) a.q a.fuel _ _
@@ -57,7 +54,6 @@ returns-in_default c =
 
 pub module_in-own-requires : goal.module_in-own-requires
 module_in-own-requires c =
-    
     let a = c.args in
     let k = subst (Known a.l) (sym (c.item_of-item.ensures a.area.now))
     (item_known a.words.now a.area.now a.l c.requires.0 a.q.ns a.q.definition.0 c.requires.2) in
@@ -65,7 +61,6 @@ module_in-own-requires c =
 
 pub context-x-requires : goal.context-x-requires
 context-x-requires c =
-    
     let a = c.args in
     let i = c.item_of-item.ensures a.area.now in
     let k = subst (Known a.l) (sym (c.item_of-item.ensures a.area.now))
@@ -79,7 +74,6 @@ context-x-requires c =
 
 pub find_path_inner-requires : goal.find_path_inner-requires
 find_path_inner-requires c =
-    
     let a = c.args in
     let k = subst (Known a.l) (sym (c.item_of-item.ensures a.area.now))
     (item_known a.words.now a.area.now a.l c.requires.0 a.q.ns a.q.definition.0 c.requires.2) in
@@ -103,7 +97,6 @@ find_path_inner-requires c =
 
 pub returns : goal.returns
 returns c =
-    
     let a = c.args in
     let f = c.find_path_inner in
     record {
@@ -116,9 +109,6 @@ returns c =
           c.context-x.ensures);
       tables = f.ensures.tables;
     }
-
-pub returns-then-q-kind_of : goal.returns-then-q-kind_of
-returns-then-q-kind_of c = refl
 
 pub nothing-choice-requires : goal.nothing-choice-requires
 nothing-choice-requires c = tt

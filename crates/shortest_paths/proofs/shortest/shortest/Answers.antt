@@ -4,8 +4,6 @@ use Rattle.shortest_paths.proofs.shortest.shortest.Goals as goal
 
 pub shortest_of-a-requires : goal.shortest_of-a-requires
 shortest_of-a-requires c =
-    
-    
     let g = c.run_keywords-n.ensures in (
       run_reads c.args.words.now c.args.area.now c.args.l c.requires.0 c.args.from.0 false g,
       c.requires.1,
@@ -15,16 +13,11 @@ shortest_of-a-requires c =
 
 pub run_plain-m-requires : goal.run_plain-m-requires
 run_plain-m-requires c =
-    
-    
     let g = c.run_keywords-n.ensures in
     (run_reads c.args.words.now c.args.area.now c.args.l c.requires.0 c.args.from.0 false g, c.requires.1, g.run.space)
 
 pub shortest_of-b-requires : goal.shortest_of-b-requires
 shortest_of-b-requires c =
-    
-    
-    
     let g = c.run_keywords-n.ensures in
     let h = c.run_plain-m.ensures in
     let r = run_reads c.args.words.now c.args.area.now c.args.l c.requires.0 c.args.from.0 false g in (
@@ -36,11 +29,7 @@ shortest_of-b-requires c =
 
 pub returns : goal.returns
 returns c =
-    
-    
-    
-    
-    
-    both_told c.args.words.now c.args.area.now c.args.l c.requires.0 c.args.from.0 c.run_keywords-n.ensures
+    let t = both_told c.args.words.now c.args.area.now c.args.l c.requires.0 c.args.from.0 c.run_keywords-n.ensures
     c.run_plain-m.ensures c.args.item c.shortest_of-a.ensures c.shortest_of-b.ensures
-    c.shorter.ensures
+    c.shorter.ensures in
+    record { value = t.0; stays = t.1 }

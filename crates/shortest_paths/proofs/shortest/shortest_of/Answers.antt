@@ -12,5 +12,4 @@ enum_told-by-requires c =
 pub returns : goal.returns
 unfolding shortest_of
 returns c =
-    
-    c.shorter.ensures _ _ c.arrival_told-near.ensures.0 c.enum_told-by.ensures
+    c.shorter.ensures _ _ c.arrival_told-near.ensures.value c.enum_told-by.ensures

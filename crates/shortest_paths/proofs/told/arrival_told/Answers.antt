@@ -12,6 +12,4 @@ tell-requires c =
     )
 
 pub returns : goal.returns
-returns c =
-    
-    (c.tell.ensures.value _ _ _ _ c.arrive-step.ensures, c.tell.ensures.count_bound)
+returns c = record { value = c.tell.ensures.value _ _ _ _ c.arrive-step.ensures; count_bound = c.tell.ensures.count_bound }

@@ -16,19 +16,12 @@ parent-requires c = (c.requires.0, c.loop-left.invariant.1)
 pub returns-in_default : goal.returns-in_default
 unfolding meant
 returns-in_default c =
-    
-    
-    
-    
     let S = snap_of c.args.words.now c.args.area.now c.args.l in
     above_gone S c.loop-left.at.0 c.loop-left.left c.loop-left-test.true
     (is_none _ c.parent.ensures c.in_default.is) ∙ sym c.loop-left.invariant.0
 
 pub module_around-at-requires : goal.module_around-at-requires
 module_around-at-requires c =
-    
-    
-    
     (
       c.requires.0,
       parent_below c.args.words.now c.args.area.now c.args.l c.requires.0 c.loop-left.at.0 _ c.loop-left.invariant.1
@@ -43,11 +36,6 @@ loop-left-smaller c = omega (arith, c.loop-left-test.true)
 
 pub loop-left-preserved : goal.loop-left-preserved
 loop-left-preserved c =
-    
-    
-    
-    
-    
     let S = snap_of c.args.words.now c.args.area.now c.args.l in (
       c.loop-left.invariant.0
           ∙ (above_on S c.loop-left.at.0 c.loop-left.left _ c.loop-left-test.true (is_some _ c.parent.ensures c.in-Module.is)
@@ -58,7 +46,5 @@ loop-left-preserved c =
 pub returns : goal.returns
 unfolding meant
 returns c =
-    
-    
     let S = snap_of c.args.words.now c.args.area.now c.args.l in
     above_here S c.loop-left.at c.loop-left.left (omega (arith, c.loop-left-test.false)) ∙ sym c.loop-left.invariant.0

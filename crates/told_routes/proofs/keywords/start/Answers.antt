@@ -6,8 +6,6 @@ use Rattle.told_routes.proofs.keywords.start.Goals as goal
 pub returns-then-kind-eq-CRATE : goal.returns-then-kind-eq-CRATE
 unfolding meant
 returns-then-kind-eq-CRATE c =
-    
-    
     let S = snap_of c.args.words.now c.args.area.now c.args.l in
     start_crate S c.args.from.0 c.args.kind c.args.supers _ c.if-kind-eq-CRATE.true c.crate_root.ensures
 
@@ -16,8 +14,5 @@ above-requires c = (c.requires.0, c.module_around.ensures.1)
 
 pub returns : goal.returns
 returns c =
-    
-    
-    
     let S = snap_of c.args.words.now c.args.area.now c.args.l in
     start_above S c.args.from.0 c.args.kind c.args.supers c.if-kind-eq-CRATE.false c.module_around.ensures.0 c.above.ensures

@@ -7,8 +7,6 @@ use Rattle.told_routes.proofs.names.in_enum.Goals as goal
 
 pub returns-then-ns-ge-MACROS : goal.returns-then-ns-ge-MACROS
 returns-then-ns-ge-MACROS c =
-    
-    
     answers_as
     (variant_macro c.args.words.now c.args.area.now c.args.l c.requires c.args.ns c.args.d.0 c.args.name.0
     c.if-ns-ge-MACROS.true)
@@ -16,10 +14,6 @@ returns-then-ns-ge-MACROS c =
 
 pub returns-in_default : goal.returns-in_default
 returns-in_default c =
-    
-    
-    
-    
     let A = c.args.area.now in
     answers_as
     (variant_gone c.args.words.now A c.args.l c.requires c.args.ns c.args.d.0 c.args.name.0 (omega (arith, c.if-ns-ge-MACROS.false))
@@ -28,11 +22,6 @@ returns-in_default c =
 
 pub returns : goal.returns
 returns c =
-    
-    
-    
-    
-    
     let A = c.args.area.now in
     variant_answers c.args.words.now A c.args.l c.requires c.args.ns c.args.d.0 c.args.name.0 (omega (arith, c.if-ns-ge-MACROS.false)) _
     (sym (ap (entry_of member_at c.args.words.now) c.in-At.is) ∙ c.variant_named.ensures A)

@@ -7,10 +7,6 @@ use Rattle.told_routes.proofs.names.read_absolute.Goals as goal
 
 pub returns-then-edition_of-eq2015 : goal.returns-then-edition_of-eq2015
 returns-then-edition_of-eq2015 c =
-    
-    
-    
-    
     let S = snap_of c.args.words.now c.args.area.now c.args.l in
     answers_as (absolute_old S c.args.from.0 c.args.ns c.args.name.0
     c.krate-c.ensures (c.edition_of.ensures c.args.area.now) c.if-edition_of-eq2015.true)
@@ -18,11 +14,6 @@ returns-then-edition_of-eq2015 c =
 
 pub returns-then-ns-ne-TYPES : goal.returns-then-ns-ne-TYPES
 returns-then-ns-ne-TYPES c =
-    
-    
-    
-    
-    
     let S = snap_of c.args.words.now c.args.area.now c.args.l in
     answers_as (absolute_other S c.args.from.0 c.args.ns c.args.name.0
     c.krate-c.ensures (c.edition_of.ensures c.args.area.now) c.if-edition_of-eq2015.false c.if-ns-ne-TYPES.true)
@@ -30,13 +21,6 @@ returns-then-ns-ne-TYPES c =
 
 pub returns-in_default : goal.returns-in_default
 returns-in_default c =
-    
-    
-    
-    
-    
-    
-    
     let S = snap_of c.args.words.now c.args.area.now c.args.l in
     let A = c.args.area.now in
     answers_as (absolute_by S c.args.from.0 c.args.ns c.args.name.0
@@ -46,13 +30,6 @@ returns-in_default c =
 
 pub returns : goal.returns
 returns c =
-    
-    
-    
-    
-    
-    
-    
     let S = snap_of c.args.words.now c.args.area.now c.args.l in
     let A = c.args.area.now in
     answers_as (absolute_by S c.args.from.0 c.args.ns c.args.name.0

@@ -5,8 +5,6 @@ use Rattle.told_routes.proofs.names.read_after.Goals as goal
 
 pub returns-in_default : goal.returns-in_default
 returns-in_default c =
-    
-    
     let S = snap_of c.args.words.now c.args.area.now c.args.l in
     λ o h.
     answers_as (after_nothing (λ x. named c.args.name.0 (within S c.args.from.0 c.args.ns x)) c.in_default.is o h)
@@ -15,7 +13,6 @@ returns-in_default c =
 pub returns : goal.returns
 returns c =
     let x = c in 
-    
     let S = snap_of c.args.words.now c.args.area.now c.args.l in
     λ o h.
     answers_as (after_thing (λ x. named c.args.name.0 (within S c.args.from.0 c.args.ns x)) c.in-Means.is o h)

@@ -8,8 +8,6 @@ use Rattle.told_routes.proofs.names.read_name.Goals as goal
 pub returns-then-k-gt0 : goal.returns-then-k-gt0
 unfolding reads
 returns-then-k-gt0 c =
-    
-    
     let S = snap_of c.args.words.now c.args.area.now c.args.l in
     λ p h.
     answers_as
@@ -19,9 +17,6 @@ returns-then-k-gt0 c =
 
 pub returns-then-kind-eq-PLAIN : goal.returns-then-kind-eq-PLAIN
 returns-then-kind-eq-PLAIN c =
-    
-    
-    
     let S = snap_of c.args.words.now c.args.area.now c.args.l in
     λ p h.
     answers_as
@@ -31,10 +26,6 @@ returns-then-kind-eq-PLAIN c =
 
 pub returns-then-kind-eq-ABSOLUTE : goal.returns-then-kind-eq-ABSOLUTE
 returns-then-kind-eq-ABSOLUTE c =
-    
-    
-    
-    
     let S = snap_of c.args.words.now c.args.area.now c.args.l in
     λ p h.
     answers_as
@@ -45,10 +36,6 @@ returns-then-kind-eq-ABSOLUTE c =
 pub returns : goal.returns
 unfolding reads
 returns c =
-    
-    
-    
-    
     let S = snap_of c.args.words.now c.args.area.now c.args.l in
     λ p h.
     answers_as

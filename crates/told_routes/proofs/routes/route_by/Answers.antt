@@ -9,7 +9,6 @@ start-here-requires c = (c.requires.0, c.requires.1)
 
 pub loop-k-init : goal.loop-k-init
 loop-k-init c =
-    
     let S = snap_of c.args.words.now c.args.area.now c.args.l in
     λ u e.
     walked_start S c.args.from.0 c.args.ns c.args.t.kind u c.args.t.names
@@ -17,19 +16,14 @@ loop-k-init c =
 
 pub overflow_add-k : goal.overflow_add-k
 overflow_add-k c =
-    
     record { fits = omega (arith, c.loop-k-test.true, c.requires.2) }
 
 pub offset_bounds-names-k : goal.offset_bounds-names-k
 offset_bounds-names-k c =
-    
-    
     record { fits = omega (arith, c.loop-k-test.true, c.requires.2) }
 
 pub bounds-names-k : goal.bounds-names-k
 bounds-names-k c =
-    
-    
     omega (arith, c.loop-k-test.true, c.requires.2)
 
 pub read_name-x-requires : goal.read_name-x-requires
@@ -37,20 +31,14 @@ read_name-x-requires c = (c.requires.0, c.requires.1)
 
 pub offset_bounds-route-k : goal.offset_bounds-route-k
 offset_bounds-route-k c =
-    
-    
     record { fits = omega (arith, c.loop-k-test.true, c.requires.2) }
 
 pub bounds-route-k : goal.bounds-route-k
 bounds-route-k c =
-    
-    
     omega (arith, c.loop-k-test.true, c.requires.2)
 
 pub overflow_add-k-in-loop-k : goal.overflow_add-k-in-loop-k
 overflow_add-k-in-loop-k c =
-    
-    
     record { fits = omega (arith, c.loop-k-test.true, c.requires.2) }
 
 pub loop-k-smaller : goal.loop-k-smaller
@@ -58,10 +46,6 @@ loop-k-smaller c = omega (arith, c.loop-k-test.true)
 
 pub loop-k-preserved : goal.loop-k-preserved
 loop-k-preserved c =
-    
-    
-    
-    
     let S = snap_of c.args.words.now c.args.area.now c.args.l in
     let from = c.args.from.0 in
     let kind = c.args.t.kind in
@@ -74,9 +58,6 @@ loop-k-preserved c =
 
 pub returns : goal.returns
 returns c =
-    
-    
-    
     let S = snap_of c.args.words.now c.args.area.now c.args.l in
     walked_done S c.args.from.0 c.args.ns c.args.t.kind c.args.t.supers c.args.t.names
     c.args.t.count (c.loop-k.invariant c.args.t.supers c.start-here.ensures) (omega (arith, c.loop-k-test.false))

@@ -20,7 +20,6 @@ route_by-requires c =
 
 pub returns : goal.returns
 returns c =
-    
     let S = snap_of c.args.words.now c.args.area.now c.args.l in
     λ p e h.
     c.route_by.ensures

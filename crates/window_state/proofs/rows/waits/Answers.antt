@@ -5,5 +5,5 @@ use Rattle.window_state.proofs.rows.waits.Goals as goal
 pub returns : goal.returns
 returns c =
     let s = c.args in
-    let l = rows_eight s.t1 _ c.well_formed.0 in
-    word_waits s.t1 s.window _ (omega (arith, l))
+    let l = rows_eight s.windows _ c.well_formed.0 in
+    word_waits s.windows s.window _ (omega (arith, l))

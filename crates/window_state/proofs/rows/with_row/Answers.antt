@@ -5,5 +5,5 @@ use Rattle.window_state.proofs.rows.with_row.Goals as goal
 
 pub returns : goal.returns
 returns c =
-    let l = rows_eight c.args.t1 _ c.well_formed.0 in
-    words_put c.args.t1 c.args.window empty_row (omega (arith, l)) c.args.row
+    let l = rows_eight c.args.windows _ c.well_formed.0 in
+    words_put c.args.windows c.args.window empty_row (omega (arith, l)) c.args.row

@@ -4,7 +4,6 @@ use Rattle.window_state.proofs.serve.asked_by.Goals as goal
 
 pub returns : goal.returns
 returns c =
-    
     let s = c.args in
-    let l = rows_eight s.t1 _ c.well_formed.0 in
-    word_asked s.t1 s.window _ (omega (arith, l, c.requires))
+    let l = rows_eight s.windows _ c.well_formed.0 in
+    word_asked s.windows s.window _ (omega (arith, l, c.requires))

@@ -6,4 +6,4 @@ use Rattle.window_state.proofs.words.row_of.Goals as goal
 
 pub returns : goal.returns
 unfolding row_words
-returns c = row_read c.args.t1 c.args.window c.well_formed.0.1.0.1 (omega arith) _ refl
+returns c = row_read c.args.words c.args.window c.well_formed.0.1.0.1 (omega arith) _ refl

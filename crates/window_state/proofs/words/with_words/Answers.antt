@@ -7,7 +7,7 @@ use Rattle.window_state.proofs.Laws.{row_next, row_done}
 use Rattle.window_state.proofs.words.with_words.Goals as goal
 
 pub loop-i-init : goal.loop-i-init
-loop-i-init c = (omega arith, c.well_formed.0.1.0.1, paste-zero c.args.t1 (1 + 8 * c.args.window) c.args.t3)
+loop-i-init c = (omega arith, c.well_formed.0.1.0.1, paste-zero c.args.words (1 + 8 * c.args.window) c.args.row)
 
 pub loop-i-preserved : goal.loop-i-preserved
 loop-i-preserved c =

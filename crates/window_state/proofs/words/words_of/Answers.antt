@@ -15,7 +15,7 @@ pub loop-i-preserved : goal.loop-i-preserved
 unfolding empty_row
 loop-i-preserved c =
     let l = c.loop-i in
-    let s = c.args.t1 in
+    let s = c.args.windows in
     let m = rows_eight s _ c.well_formed.0 in
     let r = get_or s.rows l.i empty_row in
     let e : c.with_words-more.result ≡ with_row l.words l.i (row_words r) =
@@ -28,7 +28,7 @@ loop-i-preserved c =
 pub returns : goal.returns
 returns c =
     let l = c.loop-i in
-    together_done c.args.t1 l.words l.i l.invariant.1 (rows_eight c.args.t1 _
+    together_done c.args.windows l.words l.i l.invariant.1 (rows_eight c.args.windows _
     c.well_formed.0) l.invariant.0 c.loop-i-test.false l.invariant.2
 
 pub overflow_add-i : goal.overflow_add-i

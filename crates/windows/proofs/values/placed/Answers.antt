@@ -16,6 +16,5 @@ with_question-windows-requires c =
 
 pub returns : goal.returns
 returns c =
-    
     let s = c.args in
     placed_so (words_of s.windows) s.window _ _ c.place_fault-number.ensures c.if-number-ne0.false _ c.with_question-windows.ensures
