@@ -20,6 +20,7 @@ fn asks(kind: u8) -> bool
 }
 
 // Whether a question begins at the word at a place.
+#[tactic(auto, using(crate::proofs::Laws::asks_in, crate::proofs::Laws::asks_past))]
 fn asks_at(bytes: &[u8], place: usize) -> bool
     ensures { result ≡ asks_at bytes.now place }
 {

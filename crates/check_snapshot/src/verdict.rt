@@ -10,6 +10,7 @@ use snapshot::ids::WordCount;
 use snapshot::refusal::CheckRefusal;
 
 /// The check of the bytes, by way of their words: 40 and 41 come first.
+#[tactic(auto, using(crate::proofs::Laws::verdict_long, crate::proofs::Laws::verdict_rest))]
 pub fn verdict(bytes: &[u8], words: &mut [u32], area: &mut [u32]) -> Checked
     requires { (word_limit ≤ length words.old) × (area_limit ≤ length area.old) }
     ensures { outcome (words_of bytes.now) area.new result ≡ verdict_of bytes.now }

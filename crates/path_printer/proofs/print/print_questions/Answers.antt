@@ -1,0 +1,16 @@
+use Rattle.std.proofs.Common.{sym, arith}
+use Rattle.checked.proofs.Laws.{checks_judged}
+use Rattle.printer.proofs.Laws.{next_more}
+use Rattle.path_printer.proofs.print.print_questions.Goals as goal
+
+pub loop-at-init : goal.loop-at-init
+loop-at-init g c = (
+  checks_judged _ c.args.area.now _ _ (sym c.requires.2) c.check-c.ensures,
+  omega (arith, c.check-c.auto.area, c.requires.2),
+  c.requires.3,
+)
+
+pub loop-at-smaller : goal.loop-at-smaller
+loop-at-smaller g c =
+    let m = next_more _ c.loop-at.at _ c.loop-at-test.true c.next_line-t.ensures.next in
+    omega (arith, m, c.loop-at-test.true)

@@ -1,0 +1,10 @@
+use Rattle.std.specs.Prelude.{◌-◌, ◌≤◌, ◌≡◌, length}
+use Rattle.snapshot.specs.Limits.{area_limit, routed_limit}
+use Rattle.accept.specs.Post.{Judged}
+use Rattle.path_printer.proofs.print.print_questions.Given as goal
+
+abbrev pub invariant-loop-at : goal.invariant-loop-at
+invariant-loop-at g l = Judged l.snapshot l.area l.c × (length l.area ≡ area_limit) × (routed_limit ≤ length l.out)
+
+abbrev pub decreases-loop-at : goal.decreases-loop-at
+decreases-loop-at g l = length l.words - l.at
