@@ -441,7 +441,7 @@ module _ (s : Snapshot) (x : FindPathCtx) (clear : x.fresh ≡ false) where
     unfolding find_imports
     imports_plain left o [] = refl
     imports_plain left o (i ∷ is) =
-        ap (λ (r : Out M). find_imports M charge (plainly s) x here rec left r is) (import_plain left o i (is_hidden i)) 
+        ap (λ (r : Out M). find_imports M charge (plainly s) x here rec left r is) (import_plain left o i (is_hidden i))
         ∙ imports_plain left (find_import M charge s x here rec left o i (is_hidden i)) is
 
     deps_plain : (left : ℕ) (item : Item) (o : Out M) (ds : List Dependency)

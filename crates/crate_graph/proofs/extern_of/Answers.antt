@@ -16,7 +16,6 @@ overflow_add-h c = record { fits = omega (arith, c.loop-k.invariant.0, c.extern_
 pub returns-then-is_extern : goal.returns-then-is_extern
 returns-then-is_extern c =
     λ A.
-    
     let w = c.loop-k in
     back_hit _ _ _ _ w.invariant.1 c.loop-k-test.true refl c.is_extern.ensures c.if-is_extern.true
     ∙ extern_whole c.args.words.now A c.args.l c.args.c.0 c.args.m.0 c.extern_base-base.ensures
@@ -35,7 +34,6 @@ loop-k-preserved c =
 pub returns : goal.returns
 returns c =
     λ A.
-    
     let w = c.loop-k in
     back_none _ _ _ _ w.invariant.1 c.loop-k-test.false
     ∙ extern_whole c.args.words.now A c.args.l c.args.c.0 c.args.m.0 c.extern_base-base.ensures

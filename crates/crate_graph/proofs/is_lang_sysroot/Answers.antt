@@ -8,7 +8,6 @@ use Rattle.crate_graph.proofs.is_lang_sysroot.Goals as goal
 pub returns : goal.returns
 returns c =
     λ A.
-    
     let S = snap_of c.args.words.now A c.args.l in
     ap₂ (λ o t. eqb o c.args.c.0 && t) c.dependency_owner-owner.ensures
     (ap₂ (λ n o. eqb n 1 && eqb o c.args.lang) c.dependency_sysroot-inside.ensures

@@ -26,7 +26,6 @@ overflow_add-h c = record {
 pub returns-then-is_lang_sysroot : goal.returns-then-is_lang_sysroot
 returns-then-is_lang_sysroot c =
     λ A.
-    
     let w = c.loop-k in
     first_hit _ _ _ _ _ (w.invariant A) c.loop-k-test.true (ap (λ b. dependency_at c.args.words.now (b + dependency_size * w.k))
     c.dependency_base-base.ensures) (c.is_lang_sysroot.ensures A) c.if-is_lang_sysroot.true
@@ -40,7 +39,6 @@ loop-k-smaller c = omega (arith, c.loop-k-test.true)
 pub loop-k-preserved : goal.loop-k-preserved
 loop-k-preserved c =
     λ A.
-    
     let w = c.loop-k in
     first_miss _ _ _ _ _ (w.invariant A) c.loop-k-test.true
     (ap (λ b. dependency_at c.args.words.now (b + dependency_size * w.k))

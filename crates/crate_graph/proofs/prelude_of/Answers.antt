@@ -30,7 +30,6 @@ overflow_add-h c = record {
 pub returns-then-prelude_map-map : goal.returns-then-prelude_map-map
 returns-then-prelude_map-map c =
     λ A.
-    
     let w = c.loop-k in
     first_hit _ _ _ _ _ (w.invariant A) c.loop-k-test.true (ap (λ b. prelude_at c.args.words.now (b + prelude_size * w.k))
     c.prelude_base-base.ensures) refl (eq-eqb _ _ (sym c.prelude_map.ensures ∙ c.if-prelude_map-map.true))
@@ -44,7 +43,6 @@ loop-k-smaller c = omega (arith, c.loop-k-test.true)
 pub loop-k-preserved : goal.loop-k-preserved
 loop-k-preserved c =
     λ A.
-    
     let w = c.loop-k in
     first_miss _ _ _ _ _ (w.invariant A) c.loop-k-test.true (ap (λ b. prelude_at c.args.words.now (b + prelude_size * w.k))
     c.prelude_base-base.ensures) refl

@@ -4,19 +4,14 @@ use Rattle.distances.proofs.Marking.{entry_other, entry_plain, entry_below, entr
 use Rattle.distances.proofs.mark_entry.Goals as goal
 
 pub returns-then-owner-c : goal.returns-then-owner-c
-returns-then-owner-c c =
-    
-    (
-      lowers_same _,
-      entry_other c.args.words.now c.args.area.now c.args.l c.args.c.0 c.args.h
-          c.scope_owner-owner.ensures c.if-owner-c.true,
-    )
+returns-then-owner-c c = (
+  lowers_same _,
+  entry_other c.args.words.now c.args.area.now c.args.l c.args.c.0 c.args.h
+      c.scope_owner-owner.ensures c.if-owner-c.true,
+)
 
 pub returns-in_default : goal.returns-in_default
 returns-in_default c =
-    
-    
-    
     let A = c.args.area.now in (
       lowers_same _,
       entry_plain c.args.words.now A c.args.l c.args.c.0 c.args.h (c.item_of-item.ensures A)
@@ -25,10 +20,6 @@ returns-in_default c =
 
 pub mark-requires : goal.mark-requires
 mark-requires c =
-    
-    
-    
-    
     let A = c.args.area.now in (
       c.requires.0.area,
       omega (
@@ -42,11 +33,6 @@ mark-requires c =
 
 pub returns : goal.returns
 returns c =
-    
-    
-    
-    
-    
     let A = c.args.area.now in (
       c.mark.ensures.0,
       entry_marked c.args.words.now A c.args.l c.args.c.0 c.args.h (c.item_of-item.ensures A)

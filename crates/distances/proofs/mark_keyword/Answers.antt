@@ -7,5 +7,4 @@ use Rattle.distances.proofs.mark_keyword.Goals as goal
 
 pub returns-then-not-c : goal.returns-then-not-c
 returns-then-not-c c =
-    
     (lowers_same _, λ e. absurd (true≢false (sym e ∙ sym (ap (λ (z : Choice). z.found) c.keyword_rule-c.ensures) ∙ (not-true _ c.if-not-c.true))))

@@ -10,14 +10,10 @@ use Rattle.distances.proofs.mark_keywords.Goals as goal
 
 pub parent-requires : goal.parent-requires
 parent-requires c =
-    
-    
     ((lowers_ready c.args.words.now c.args.l c.mark_keyword.ensures.0 c.requires.0 c.mark_keyword.auto.area).reads, c.requires.1)
 
 pub returns-in_default : goal.returns-in_default
 returns-in_default c =
-    
-    
     let W = c.args.words.now in
     let A = c.args.area.now in
     let l = c.args.l in
@@ -28,9 +24,6 @@ returns-in_default c =
 
 pub mark_keyword-requires-2 : goal.mark_keyword-requires-2
 mark_keyword-requires-2 c =
-    
-    
-    
     let W = c.args.words.now in
     let A = c.args.area.now in
     let l = c.args.l in
@@ -45,10 +38,6 @@ mark_keyword-requires-2 c =
 
 pub returns : goal.returns
 returns c =
-    
-    
-    
-    
     let W = c.args.words.now in
     let A = c.args.area.now in
     let l = c.args.l in

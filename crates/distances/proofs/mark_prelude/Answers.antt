@@ -7,8 +7,6 @@ use Rattle.distances.proofs.mark_prelude.Goals as goal
 
 pub returns-in_default : goal.returns-in_default
 returns-in_default c =
-    
-    
     let W = c.args.words.now in
     let A = c.args.area.now in (
       lowers_same A,
@@ -18,11 +16,6 @@ returns-in_default c =
 
 pub returns : goal.returns
 returns c =
-    
-    
-    
-    
-    
     let W = c.args.words.now in
     let A = c.args.area.now in (
       c.mark_scope.ensures.0,

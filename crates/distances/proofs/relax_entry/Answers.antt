@@ -6,16 +6,11 @@ use Rattle.distances.proofs.relax_entry.Goals as goal
 
 pub overflow_add-d : goal.overflow_add-d
 overflow_add-d c =
-    
-    
     let far = c.requires.0.far c.scope_owner-owner.result.0 (rw c.scope_owner-owner.ensures c.requires.2.owner) in
     record { fits = omega (arith, c.word-d.ensures, far) }
 
 pub returns-then-d-ge-FAR : goal.returns-then-d-ge-FAR
 returns-then-d-ge-FAR c =
-    
-    
-    
     let W = c.args.words.now in
     let A = c.args.area.now in
     let l = c.args.l in
@@ -24,10 +19,6 @@ returns-then-d-ge-FAR c =
 
 pub returns-in_default : goal.returns-in_default
 returns-in_default c =
-    
-    
-    
-    
     let W = c.args.words.now in
     let A = c.args.area.now in
     let l = c.args.l in
@@ -36,11 +27,6 @@ returns-in_default c =
 
 pub overflow_add-at : goal.overflow_add-at
 overflow_add-at c =
-    
-    
-    
-    
-    
     let W = c.args.words.now in
     let A = c.args.area.now in
     let l = c.args.l in
@@ -50,12 +36,6 @@ overflow_add-at c =
 
 pub returns-then-word-d : goal.returns-then-word-d
 returns-then-word-d c =
-    
-    
-    
-    
-    
-    
     let W = c.args.words.now in
     let A = c.args.area.now in
     let l = c.args.l in
@@ -64,13 +44,6 @@ returns-then-word-d c =
 
 pub returns-then-not-is_importable : goal.returns-then-not-is_importable
 returns-then-not-is_importable c =
-    
-    
-    
-    
-    
-    
-    
     let W = c.args.words.now in
     let A = c.args.area.now in
     let l = c.args.l in
@@ -80,11 +53,6 @@ returns-then-not-is_importable c =
 
 pub offset_bounds-area-at : goal.offset_bounds-area-at
 offset_bounds-area-at c =
-    
-    
-    
-    
-    
     let W = c.args.words.now in
     let A = c.args.area.now in
     let l = c.args.l in
@@ -94,11 +62,6 @@ offset_bounds-area-at c =
 
 pub bounds-area-at : goal.bounds-area-at
 bounds-area-at c =
-    
-    
-    
-    
-    
     let W = c.args.words.now in
     let A = c.args.area.now in
     let l = c.args.l in
@@ -108,12 +71,6 @@ bounds-area-at c =
 
 pub returns : goal.returns
 returns c =
-    
-    
-    
-    
-    
-    
     let W = c.args.words.now in
     let A = c.args.area.now in
     let l = c.args.l in

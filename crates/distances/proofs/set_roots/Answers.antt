@@ -9,30 +9,23 @@ use Rattle.distances.proofs.set_roots.Goals as goal
 
 pub loop-m-init : goal.loop-m-init
 loop-m-init c =
-    
     (rooted_start c.args.words.now c.args.area.now c.args.l, refl, omega arith)
 
 pub crate_root-root-requires : goal.crate_root-root-requires
-crate_root-root-requires c =
-    
-    (
-      same_reads c.args.words.now c.args.area.now c.loop-m.area c.args.l c.loop-m.invariant.0.tables c.requires.reads,
-      c.loop-m-test.true,
-    )
+crate_root-root-requires c = (
+  same_reads c.args.words.now c.args.area.now c.loop-m.area c.args.l c.loop-m.invariant.0.tables c.requires.reads,
+  c.loop-m-test.true,
+)
 
 pub overflow_cast-area : goal.overflow_cast-area
 overflow_cast-area c = omega (arith, c.first_number-d.ensures.0)
 
 pub bounds-area-m : goal.bounds-area-m
 bounds-area-m c =
-    
-    
     omega (arith, c.loop-m.invariant.1, c.requires.area, c.requires.reads.tables.limited.modules, c.loop-m-test.true)
 
 pub loop-m-preserved : goal.loop-m-preserved
 loop-m-preserved c =
-    
-    
     let h = c.loop-m-test.true in
     let size : length c.loop-m.area ≡ area_limit = c.loop-m.invariant.1 ∙ c.requires.area in (
       rooted_next c.args.words.now c.args.area.now c.args.l c.requires.reads c.loop-m.m c.loop-m.area c.loop-m.invariant.0 size
@@ -43,7 +36,5 @@ loop-m-preserved c =
 
 pub returns : goal.returns
 returns c =
-    
-    
     let e : c.loop-m.m ≡ c.args.l.modules = omega (arith, c.loop-m.invariant.2, c.loop-m-test.false) in
     subst (λ n. Rooted c.args.words.now c.args.area.now c.args.l n c.loop-m.area) e c.loop-m.invariant.0

@@ -11,7 +11,6 @@ returns-then-owner-c c = λ A. and_no _ (ne_eqb _ _ (λ e. c.if-owner-c.true (c.
 pub returns : goal.returns
 returns c =
     λ A.
-    
     let S = snap_of c.args.words.now A c.args.l in
     and_yes (eq-eqb _ _ (sym c.import_owner-owner.ensures
     ∙ c.if-owner-c.false))

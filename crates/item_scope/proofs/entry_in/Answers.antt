@@ -6,7 +6,6 @@ use Rattle.item_scope.proofs.entry_in.Goals as goal
 
 pub returns-then-fresh : goal.returns-then-fresh
 returns-then-fresh c =
-    
     let W = c.args.words.now in
     let l = c.args.l in
     let m = c.args.m.0 in
@@ -20,7 +19,6 @@ returns-then-fresh c =
 pub returns : goal.returns
 unfolding preferred preferred_reads
 returns c =
-    
     let W = c.args.words.now in
     let l = c.args.l in
     let m = c.args.m.0 in

@@ -27,24 +27,22 @@ overflow_add-count c = record { fits = omega (arith, c.loop-count-test.true, c.r
 
 pub returns-then-its-is_deprecated : goal.returns-then-its-is_deprecated
 unfolding names_of
-returns-then-its-is_deprecated c =
-    (
-      λ A. (looking_hit _ A _ _ _ _ _ (c.loop-count.invariant A) c.loop-count-test.true
-          c.scope_base-base.ensures refl
-          (fresh_test (snap_of c.args.words.now A c.args.l) _ _ (counts c.args.declared) _
-          (c.is_entry-its.ensures A) c.is_deprecated.ensures) c.if-its-is_deprecated.true).entry,
-      λ A n. (looking_hit _ A _ _ _ _ _ (c.loop-count.invariant A) c.loop-count-test.true
-          c.scope_base-base.ensures refl
-          (fresh_test (snap_of c.args.words.now A c.args.l) _ _ (counts c.args.declared) _
-          (c.is_entry-its.ensures A) c.is_deprecated.ensures) c.if-its-is_deprecated.true).reads n,
-    )
+returns-then-its-is_deprecated c = (
+  λ A. (looking_hit _ A _ _ _ _ _ (c.loop-count.invariant A) c.loop-count-test.true
+      c.scope_base-base.ensures refl
+      (fresh_test (snap_of c.args.words.now A c.args.l) _ _ (counts c.args.declared) _
+      (c.is_entry-its.ensures A) c.is_deprecated.ensures) c.if-its-is_deprecated.true).entry,
+  λ A n. (looking_hit _ A _ _ _ _ _ (c.loop-count.invariant A) c.loop-count-test.true
+      c.scope_base-base.ensures refl
+      (fresh_test (snap_of c.args.words.now A c.args.l) _ _ (counts c.args.declared) _
+      (c.is_entry-its.ensures A) c.is_deprecated.ensures) c.if-its-is_deprecated.true).reads n,
+)
 
 pub loop-count-smaller : goal.loop-count-smaller
 loop-count-smaller c = omega (arith, c.loop-count-test.true)
 
 pub loop-count-preserved : goal.loop-count-preserved
 loop-count-preserved c =
-    
     λ A. looking_next _ A _ _ _ _ _ (c.loop-count.invariant A)
     c.loop-count-test.true c.scope_base-base.ensures
     refl (fresh_test (snap_of c.args.words.now A c.args.l) _ _ (counts c.args.declared) _

@@ -6,7 +6,6 @@ use Rattle.item_scope.proofs.is_entry.Goals as goal
 pub returns-then-is_for : goal.returns-then-is_for
 returns-then-is_for c =
     λ A.
-    
     and_yes (sym (c.is_for.ensures A) ∙ c.if-is_for.true) (ap (λ y. y || not c.args.declared) c.is_declared-here.ensures)
 
 pub returns : goal.returns

@@ -14,7 +14,6 @@ pub returns : goal.returns
 unfolding is_for
 returns c =
     λ A.
-    
     let S = snap_of c.args.words.now A c.args.l in
     and_yes (eq-eqb _ _ (sym c.scope_owner-owner.ensures
     ∙ c.if-owner-m.false))

@@ -13,7 +13,6 @@ returns-then-owner-m c = λ A. and_no _ (ne_eqb _ _ (λ e. c.if-owner-m.true (c.
 pub returns : goal.returns
 returns c =
     λ A.
-    
     let S = snap_of c.args.words.now A c.args.l in
     and_yes (eq-eqb _ _ (sym c.scope_owner-owner.ensures ∙ c.if-owner-m.false))
     (ap₂ (λ n k. eqb n 0 && eqb k 1) c.scope_ns.ensures (c.kind_of-kind.ensures A ∙ ap (λ d. (definition_of S d).kind)

@@ -31,7 +31,6 @@ overflow_add-read c = record { fits = omega (arith, c.loop-read-test.true, c.req
 
 pub returns-then-is_entry : goal.returns-then-is_entry
 returns-then-is_entry c =
-    
     let w = c.loop-read in
     let b = c.scope_base-base.ensures in
     let u = ap (λ x. scope_at c.args.words.now (x + scope_size * w.read)) b in (
@@ -45,7 +44,6 @@ loop-read-smaller c = omega (arith, c.loop-read-test.true)
 
 pub loop-read-preserved : goal.loop-read-preserved
 loop-read-preserved c =
-    
     let w = c.loop-read in
     let u = ap (λ x. scope_at c.args.words.now (x + scope_size * w.read)) c.scope_base-base.ensures in (
       λ A. first_miss _ _ _ _ _ (w.invariant.0 A) c.loop-read-test.true u (c.is_entry.ensures A) c.if-is_entry.false,

@@ -44,12 +44,11 @@ find_path_for_module_local-returns-then-c t c =
     }
 
 pub find_path_for_module_local-is_tight-requires : goal.find_path_for_module_local-is_tight-requires
-find_path_for_module_local-is_tight-requires t c =
-    (
-      chain_wider c.args.area.now _ _ c.args.s.top _ (omega (arith, c.requires.0.space, c.requires.0.area))
-          c.requires.0.chain,
-      omega (arith, c.requires.1, c.requires.0.reads.tables.limited.modules),
-    )
+find_path_for_module_local-is_tight-requires t c = (
+  chain_wider c.args.area.now _ _ c.args.s.top _ (omega (arith, c.requires.0.space, c.requires.0.area))
+      c.requires.0.chain,
+  omega (arith, c.requires.1, c.requires.0.reads.tables.limited.modules),
+)
 
 pub find_path_for_module_local-tight_at-requires : goal.find_path_for_module_local-tight_at-requires
 find_path_for_module_local-tight_at-requires t c =
@@ -136,23 +135,22 @@ local_at-bounds-area-top-2 t c =
     )
 
 pub local_at-locations-n-requires : goal.local_at-locations-n-requires
-local_at-locations-n-requires t c =
-    (
-      head_reads c.args.words.now c.args.area.now c.args.l c.args.x c.args.left c.args.item c.args.s
-          c.requires.0 c.requires.1 c.requires.2 c.code_of-code.result c.code_of-code.ensures.0,
-      c.requires.1.from,
-      omega (arith, c.requires.1.numbers),
-      head_space c.args.words.now c.args.area.now c.args.l c.args.x
-          c.args.left c.args.item c.args.s c.requires.0 c.requires.1 c.requires.2 c.code_of-code.result
-          c.code_of-code.ensures.0,
-      head_chain c.args.words.now c.args.area.now c.args.l c.args.x c.args.left
-          c.args.item c.args.s c.requires.0 c.requires.1 c.requires.2 c.code_of-code.result c.code_of-code.ensures.0,
-      c.requires.2,
-      head_walked c.args.words.now c.args.area.now c.args.l c.args.x c.args.left
-          c.args.item c.args.s c.requires.0 c.requires.1 c.requires.2 c.code_of-code.result c.code_of-code.ensures.0,
-      head_chains c.args.words.now c.args.area.now c.args.l c.args.x c.args.left c.args.item
-          c.args.s c.requires.0 c.requires.1 c.requires.2 c.code_of-code.result c.code_of-code.ensures.0,
-    )
+local_at-locations-n-requires t c = (
+  head_reads c.args.words.now c.args.area.now c.args.l c.args.x c.args.left c.args.item c.args.s
+      c.requires.0 c.requires.1 c.requires.2 c.code_of-code.result c.code_of-code.ensures.0,
+  c.requires.1.from,
+  omega (arith, c.requires.1.numbers),
+  head_space c.args.words.now c.args.area.now c.args.l c.args.x
+      c.args.left c.args.item c.args.s c.requires.0 c.requires.1 c.requires.2 c.code_of-code.result
+      c.code_of-code.ensures.0,
+  head_chain c.args.words.now c.args.area.now c.args.l c.args.x c.args.left
+      c.args.item c.args.s c.requires.0 c.requires.1 c.requires.2 c.code_of-code.result c.code_of-code.ensures.0,
+  c.requires.2,
+  head_walked c.args.words.now c.args.area.now c.args.l c.args.x c.args.left
+      c.args.item c.args.s c.requires.0 c.requires.1 c.requires.2 c.code_of-code.result c.code_of-code.ensures.0,
+  head_chains c.args.words.now c.args.area.now c.args.l c.args.x c.args.left c.args.item
+      c.args.s c.requires.0 c.requires.1 c.requires.2 c.code_of-code.result c.code_of-code.ensures.0,
+)
 
 pub local_at-overflow_add-up : goal.local_at-overflow_add-up
 local_at-overflow_add-up t c =
@@ -212,22 +210,21 @@ local_at-word-m-requires t c =
     tt
 
 pub local_at-location-best-requires : goal.local_at-location-best-requires
-local_at-location-best-requires t c =
-    (
-      omega (arith, c.decreases),
-      (
-        c.requires.0,
-        nesting_call c.args.words.now c.args.area.now c.args.l c.args.x
-            c.args.left c.args.item c.args.s c.requires.0 c.requires.1 c.requires.2 c.code_of-code.result
-            c.code_of-code.ensures.0 _ _ c.locations-n.ensures c.locations-n.auto.area c.loop-k.area c.loop-k.best c.loop-k.k
-            c.loop-k.invariant c.loop-k-test.true,
-        nesting_known c.args.words.now c.args.area.now c.args.l c.args.x
-            c.args.left c.args.item c.args.s c.requires.0 c.requires.1 c.requires.2 c.code_of-code.result
-            c.code_of-code.ensures.0 _ _ c.locations-n.ensures c.locations-n.auto.area c.loop-k.area c.loop-k.best c.loop-k.k
-            c.loop-k.invariant c.loop-k-test.true c.word-m.ensures,
-        omega (arith, c.loop-k.invariant.fits.few, c.requires.1.deep),
-      ),
-    )
+local_at-location-best-requires t c = (
+  omega (arith, c.decreases),
+  (
+    c.requires.0,
+    nesting_call c.args.words.now c.args.area.now c.args.l c.args.x
+        c.args.left c.args.item c.args.s c.requires.0 c.requires.1 c.requires.2 c.code_of-code.result
+        c.code_of-code.ensures.0 _ _ c.locations-n.ensures c.locations-n.auto.area c.loop-k.area c.loop-k.best c.loop-k.k
+        c.loop-k.invariant c.loop-k-test.true,
+    nesting_known c.args.words.now c.args.area.now c.args.l c.args.x
+        c.args.left c.args.item c.args.s c.requires.0 c.requires.1 c.requires.2 c.code_of-code.result
+        c.code_of-code.ensures.0 _ _ c.locations-n.ensures c.locations-n.auto.area c.loop-k.area c.loop-k.best c.loop-k.k
+        c.loop-k.invariant c.loop-k-test.true c.word-m.ensures,
+    omega (arith, c.loop-k.invariant.fits.few, c.requires.1.deep),
+  ),
+)
 
 pub local_at-overflow_add-k : goal.local_at-overflow_add-k
 local_at-overflow_add-k t c =
@@ -287,38 +284,36 @@ location-returns-in_default t c =
     }
 
 pub location-find_path_for_module_local-c-requires : goal.location-find_path_for_module_local-c-requires
-location-find_path_for_module_local-c-requires t c =
-    (
-      omega (
-        arith,
-        c.decreases,
-        location_shorter c.args.words.now c.args.area.now c.args.l c.args.x c.args.left
-            c.args.s c.requires.0 c.requires.1 c.args.best c.args.item c.args.m.0 c.length_left-j.ensures,
-      ),
-      (
-        location_call c.args.words.now c.args.area.now c.args.l c.args.x c.args.left c.args.s
-            c.requires.0 c.requires.1 c.args.best c.args.item c.args.m.0 c.length_left-j.ensures,
-        c.requires.2,
-      ),
-    )
+location-find_path_for_module_local-c-requires t c = (
+  omega (
+    arith,
+    c.decreases,
+    location_shorter c.args.words.now c.args.area.now c.args.l c.args.x c.args.left
+        c.args.s c.requires.0 c.requires.1 c.args.best c.args.item c.args.m.0 c.length_left-j.ensures,
+  ),
+  (
+    location_call c.args.words.now c.args.area.now c.args.l c.args.x c.args.left c.args.s
+        c.requires.0 c.requires.1 c.args.best c.args.item c.args.m.0 c.length_left-j.ensures,
+    c.requires.2,
+  ),
+)
 
 pub location-offer_entry-requires : goal.location-offer_entry-requires
-location-offer_entry-requires t c =
-    (
-      location_reads c.args.words.now c.args.area.now c.args.l c.args.x c.args.left c.args.s c.requires.0
-          c.requires.1 c.args.best c.args.item c.args.m.0 c.length_left-j.ensures _ c.find_path_for_module_local-c.ensures,
-      entry_at c.args.words.now c.args.l c.importable_name-a.ensures.1 c.in-At.is,
-      c.requires.3,
-      location_few
-          c.args.words.now c.args.area.now c.args.l c.args.x c.args.left c.args.s c.requires.0
-          c.requires.1 c.args.best c.args.item c.args.m.0 c.length_left-j.ensures _ c.find_path_for_module_local-c.ensures,
-      location_text c.args.words.now c.args.area.now c.args.l c.args.x c.args.left c.args.s
-          c.requires.0 c.requires.1 c.args.best c.args.item c.args.m.0 c.length_left-j.ensures _
-          c.find_path_for_module_local-c.ensures,
-      location_steps c.args.words.now c.args.area.now c.args.l
-          c.args.x c.args.left c.args.s c.requires.0 c.requires.1 c.args.best c.args.item c.args.m.0
-          c.length_left-j.ensures _ c.find_path_for_module_local-c.ensures,
-    )
+location-offer_entry-requires t c = (
+  location_reads c.args.words.now c.args.area.now c.args.l c.args.x c.args.left c.args.s c.requires.0
+      c.requires.1 c.args.best c.args.item c.args.m.0 c.length_left-j.ensures _ c.find_path_for_module_local-c.ensures,
+  entry_at c.args.words.now c.args.l c.importable_name-a.ensures.1 c.in-At.is,
+  c.requires.3,
+  location_few
+      c.args.words.now c.args.area.now c.args.l c.args.x c.args.left c.args.s c.requires.0
+      c.requires.1 c.args.best c.args.item c.args.m.0 c.length_left-j.ensures _ c.find_path_for_module_local-c.ensures,
+  location_text c.args.words.now c.args.area.now c.args.l c.args.x c.args.left c.args.s
+      c.requires.0 c.requires.1 c.args.best c.args.item c.args.m.0 c.length_left-j.ensures _
+      c.find_path_for_module_local-c.ensures,
+  location_steps c.args.words.now c.args.area.now c.args.l
+      c.args.x c.args.left c.args.s c.requires.0 c.requires.1 c.args.best c.args.item c.args.m.0
+      c.length_left-j.ensures _ c.find_path_for_module_local-c.ensures,
+)
 
 pub location-returns : goal.location-returns
 location-returns t c =
@@ -335,16 +330,15 @@ tight_at-word-row-requires t c =
     tt
 
 pub tight_at-local_at-r-requires : goal.tight_at-local_at-r-requires
-tight_at-local_at-r-requires t c =
-    (
-      omega (arith, c.decreases),
-      (
-        c.requires.0,
-        c.requires.1,
-        module_small c.args.words.now c.args.area.now c.args.l
-            c.requires.1.reads c.args.m.0 c.requires.2,
-      ),
-    )
+tight_at-local_at-r-requires t c = (
+  omega (arith, c.decreases),
+  (
+    c.requires.0,
+    c.requires.1,
+    module_small c.args.words.now c.args.area.now c.args.l
+        c.requires.1.reads c.args.m.0 c.requires.2,
+  ),
+)
 
 pub tight_at-row_of-made-requires : goal.tight_at-row_of-made-requires
 tight_at-row_of-made-requires t c =
@@ -385,7 +379,7 @@ tight_at-returns-then-row-eq1 t c =
 pub tight_at-row_place-requires : goal.tight_at-row_place-requires
 tight_at-row_place-requires t c =
     row_two c.args.words.now c.args.area.now c.args.l c.args.x c.args.left c.args.s c.requires.1
-    c.args.m.0 c.requires.2 c.requires.3 c.word-row.ensures c.if-row-eq0.left c.if-row-eq1.left
+    c.args.m.0 c.requires.2 c.requires.3 c.word-row.ensures c.if-row-eq0.false c.if-row-eq1.false
 
 pub tight_at-scope_owner-owner-requires : goal.tight_at-scope_owner-owner-requires
 tight_at-scope_owner-owner-requires t c =

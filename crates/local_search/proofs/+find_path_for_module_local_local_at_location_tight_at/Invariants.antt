@@ -27,10 +27,10 @@ decreases-location l = 4 * l.left
 abbrev pub decreases-tight_at : goal.decreases-tight_at
 decreases-tight_at l = 4 * l.left + 2
 
-abbrev pub local_at-invariant-loop-k : goal.local_at-invariant-loop-k
-local_at-invariant-loop-k l =
+abbrev pub invariant-local_at-loop-k : goal.invariant-local_at-loop-k
+invariant-local_at-loop-k l =
     Nesting l.words l.l (snap_of l.words l.initial.area l.l) l.x l.left l.item l.initial.area l.s l.n l.area l.best l.k
 
-abbrev pub local_at-decreases-loop-k : goal.local_at-decreases-loop-k
-local_at-decreases-loop-k l =
+abbrev pub decreases-local_at-loop-k : goal.decreases-local_at-loop-k
+decreases-local_at-loop-k l =
     l.n - l.k

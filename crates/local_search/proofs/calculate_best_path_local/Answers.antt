@@ -7,11 +7,10 @@ set_distances-requires c =
     numbers_ready c.args.words.now c.args.area.now c.args.l c.args.x c.requires.0
 
 pub index_scopes-requires : goal.index_scopes-requires
-index_scopes-requires c =
-    (
-      chains_sized c.args.words.now c.args.area.now c.args.l c.args.x c.requires.0 _ c.set_distances.ensures,
-      c.set_distances.auto.area ∙ c.requires.0.area,
-    )
+index_scopes-requires c = (
+  chains_sized c.args.words.now c.args.area.now c.args.l c.args.x c.requires.0 _ c.set_distances.ensures,
+  c.set_distances.auto.area ∙ c.requires.0.area,
+)
 
 pub take_walk-requires : goal.take_walk-requires
 take_walk-requires c =
@@ -27,12 +26,11 @@ take_walk-requires c =
     )
 
 pub clear_rows-requires : goal.clear_rows-requires
-clear_rows-requires c =
-    (
-      c.take_walk.auto.area ∙ c.index_scopes.auto.area ∙ c.set_distances.auto.area
-          ∙ c.requires.0.area,
-      c.requires.0.reads.tables.limited.modules,
-    )
+clear_rows-requires c = (
+  c.take_walk.auto.area ∙ c.index_scopes.auto.area ∙ c.set_distances.auto.area
+      ∙ c.requires.0.area,
+  c.requires.0.reads.tables.limited.modules,
+)
 
 pub local_at-requires : goal.local_at-requires
 local_at-requires c =

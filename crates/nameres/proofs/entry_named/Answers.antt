@@ -17,7 +17,6 @@ loop-h-init c = (refl, c.requires.1)
 
 pub get-e-requires : goal.get-e-requires
 get-e-requires c =
-    
     let a = c.requires.0.tables.whole in
     let b = c.requires.0.tables.short in
     omega arith
@@ -25,7 +24,6 @@ get-e-requires c =
 pub returns-in-At : goal.returns-in-At
 unfolding entry_named
 returns-in-At c =
-    
     let g = c.loop-h in
     answer_here (snap_of c.args.words.now c.args.area.now c.args.l)
     (block_falls (snap_of c.args.words.now c.args.area.now c.args.l)
@@ -41,7 +39,6 @@ block-requires c = (c.requires.0, c.loop-h.invariant.1)
 pub returns-in_default-block : goal.returns-in_default-block
 unfolding entry_named
 returns-in_default-block c =
-    
     let g = c.loop-h in
     answer_none (snap_of c.args.words.now c.args.area.now c.args.l)
     (block_falls (snap_of c.args.words.now c.args.area.now c.args.l)
@@ -54,7 +51,6 @@ returns-in_default-block c =
 
 pub loop-h-smaller : goal.loop-h-smaller
 loop-h-smaller c =
-    
     let g = c.loop-h in
     (block_falls (snap_of c.args.words.now c.args.area.now c.args.l)
     (accepted_tree c.args.words.now (snap_of c.args.words.now c.args.area.now c.args.l) c.requires.0.same))
@@ -64,7 +60,6 @@ loop-h-smaller c =
 pub loop-h-preserved : goal.loop-h-preserved
 unfolding entry_named
 loop-h-preserved c =
-    
     let g = c.loop-h in
     let d = (block_falls (snap_of c.args.words.now c.args.area.now c.args.l)
     (accepted_tree c.args.words.now (snap_of c.args.words.now c.args.area.now c.args.l) c.requires.0.same))

@@ -16,14 +16,12 @@ loop-l-init c = (refl, c.requires.1)
 
 pub get-e-requires : goal.get-e-requires
 get-e-requires c =
-    
     let a = c.requires.0.tables.whole in
     let b = c.requires.0.tables.short in
     omega arith
 
 pub is_other-requires : goal.is_other-requires
 is_other-requires c =
-    
     let a = c.requires.0.tables.whole in
     let b = c.requires.0.tables.short in
     omega arith
@@ -31,7 +29,6 @@ is_other-requires c =
 pub returns-then-is_other : goal.returns-then-is_other
 unfolding occupied
 returns-then-is_other c =
-    
     let g = c.loop-l in
     some_here (snap_of c.args.words.now c.args.area.now c.args.l)
     (block_falls (snap_of c.args.words.now c.args.area.now c.args.l)
@@ -49,7 +46,6 @@ block-requires c = (c.requires.0, c.loop-l.invariant.1)
 pub returns-in_default : goal.returns-in_default
 unfolding occupied
 returns-in_default c =
-    
     let g = c.loop-l in
     some_none (snap_of c.args.words.now c.args.area.now c.args.l)
     (block_falls (snap_of c.args.words.now c.args.area.now c.args.l)
@@ -64,7 +60,6 @@ returns-in_default c =
 
 pub loop-l-smaller : goal.loop-l-smaller
 loop-l-smaller c =
-    
     let g = c.loop-l in
     (block_falls (snap_of c.args.words.now c.args.area.now c.args.l)
     (accepted_tree c.args.words.now (snap_of c.args.words.now c.args.area.now c.args.l) c.requires.0.same))
@@ -74,7 +69,6 @@ loop-l-smaller c =
 pub loop-l-preserved : goal.loop-l-preserved
 unfolding occupied
 loop-l-preserved c =
-    
     let g = c.loop-l in
     let d = (block_falls (snap_of c.args.words.now c.args.area.now c.args.l)
     (accepted_tree c.args.words.now (snap_of c.args.words.now c.args.area.now c.args.l) c.requires.0.same))

@@ -74,8 +74,7 @@ loop-i-smaller c = omega (arith, c.loop-i-test.true)
 
 pub loop-i-preserved : goal.loop-i-preserved
 loop-i-preserved c =
-    let l = c.loop-i in
-    (
+    let l = c.loop-i in (
       omega arith,
       omega (arith, c.loop-i-test.true),
       c.put_number-to-in-loop-i.auto.out ∙ c.put-at.auto.out ∙ l.invariant.2,
@@ -86,4 +85,4 @@ loop-i-preserved c =
 pub returns : goal.returns
 returns c = let l = c.loop-i in
     let p = c.put_number-to.ensures in
-     record { put = put_as (rest_done c.args.numbers.now l.i l.invariant.0 l.invariant.1 c.loop-i-test.false) (put_two p.put l.invariant.3); upper_bound = omega (arith, l.invariant.1, l.invariant.4, p.upper_bound) }
+    record { put = put_as (rest_done c.args.numbers.now l.i l.invariant.0 l.invariant.1 c.loop-i-test.false) (put_two p.put l.invariant.3); upper_bound = omega (arith, l.invariant.1, l.invariant.4, p.upper_bound) }

@@ -16,12 +16,12 @@ slice_bounds-put_numbers-end c = search rules
 
 pub put_numbers-a-requires : goal.put_numbers-a-requires
 put_numbers-a-requires c =
-    let h : 21 ≡ length c.args.r.counts = slice_bounds-put_numbers-end c in
+    let h : 21 ≡ length c.args.r.counts = search rules in
     (omega (arith, h), omega (arith, h), c.requires)
 
 pub put-requires : goal.put-requires
 put-requires c =
-    let h : 21 ≡ length c.args.r.counts = slice_bounds-put_numbers-end c in
+    let h : 21 ≡ length c.args.r.counts = search rules in
     omega (arith, h, c.put_numbers-a.ensures.upper_bound, c.put_numbers-a.auto.out, c.requires)
 
 pub returns : goal.returns

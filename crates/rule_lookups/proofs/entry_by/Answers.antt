@@ -6,7 +6,6 @@ use Rattle.rule_lookups.proofs.entry_by.Goals as goal
 
 pub returns-then-x : goal.returns-then-x
 returns-then-x c =
-    
     let n = snap_of c.args.words.now c.args.area.now c.args.l in
     let m = c.args.m.0 in
     let i = c.args.item in (
@@ -19,7 +18,6 @@ returns-then-x c =
 pub returns : goal.returns
 unfolding preferred preferred_reads
 returns c =
-    
     let n = snap_of c.args.words.now c.args.area.now c.args.l in
     let m = c.args.m.0 in
     let i = c.args.item in (

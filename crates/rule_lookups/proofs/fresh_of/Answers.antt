@@ -55,18 +55,16 @@ is_for-its-requires c = few_words c.args.words.now
     c.requires.0
 
 pub is_fresh-requires : goal.is_fresh-requires
-is_fresh-requires c =
-    (
-      c.requires.0,
-      c.requires.1,
-      (scope_fits c.args.words.now c.args.area.now c.args.l c.requires.0 c.loop-count-test.true
-          c.scope_base-base.ensures refl).inside,
-    )
+is_fresh-requires c = (
+  c.requires.0,
+  c.requires.1,
+  (scope_fits c.args.words.now c.args.area.now c.args.l c.requires.0 c.loop-count-test.true
+      c.scope_base-base.ensures refl).inside,
+)
 
 pub returns-then-is_fresh : goal.returns-then-is_fresh
 unfolding name_of
 returns-then-is_fresh c =
-    
     let r = looking_hit _ _ _ _ _ _ _ c.loop-count.invariant c.loop-count-test.true
     c.scope_base-base.ensures refl
     (for_test (snap_of c.args.words.now c.args.area.now c.args.l) c.args.m.0 c.args.item
@@ -79,7 +77,6 @@ loop-count-smaller c = omega (arith, c.loop-count-test.true)
 
 pub loop-count-preserved : goal.loop-count-preserved
 loop-count-preserved c =
-    
     looking_next _ _ _ _ _ _ _ c.loop-count.invariant c.loop-count-test.true
     c.scope_base-base.ensures refl
     (for_test (snap_of c.args.words.now c.args.area.now c.args.l) c.args.m.0 c.args.item

@@ -5,6 +5,5 @@ use Rattle.rule_lookups.proofs.is_importable.Goals as goal
 
 pub returns : goal.returns
 returns c =
-    
     importable_same (snap_of c.args.words.now c.args.area.now c.args.l) c.args.x (scope_at c.args.words.now c.args.h)
     c.sees-seen.ensures c.is_declared-declared.ensures c.scope_visibility-explicit.ensures

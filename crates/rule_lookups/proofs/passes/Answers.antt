@@ -7,7 +7,6 @@ use Rattle.rule_lookups.proofs.passes.Goals as goal
 pub returns-in-Prelude : goal.returns-in-Prelude
 unfolding test_of
 returns-in-Prelude c =
-    
     c.is_usable.ensures
     ∙ sym (ap (λ r. test_of (snap_of c.args.words.now c.args.area.now c.args.l) c.args.x c.args.item r
     (scope_at c.args.words.now c.args.h)) c.in-Prelude.is)
@@ -15,7 +14,6 @@ returns-in-Prelude c =
 pub returns-in-Local : goal.returns-in-Local
 unfolding test_of
 returns-in-Local c =
-    
     c.is_importable.ensures
     ∙ sym (ap (λ r. test_of (snap_of c.args.words.now c.args.area.now c.args.l) c.args.x c.args.item r
     (scope_at c.args.words.now c.args.h)) c.in-Local.is)

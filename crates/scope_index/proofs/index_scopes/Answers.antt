@@ -7,13 +7,10 @@ use Rattle.scope_index.proofs.index_scopes.Goals as goal
 
 pub clear_heads-requires : goal.clear_heads-requires
 clear_heads-requires c =
-    
     (c.requires.1, c.requires.0.few, omega (arith, c.requires.0.short))
 
 pub loop-k-init : goal.loop-k-init
 loop-k-init c =
-    
-    
     let m = made_start c.args.words.now c.args.area.now c.args.l _ c.clear_heads.ensures in
     (record { indexed = m.indexed; below = refl }, refl, omega arith)
 
@@ -22,9 +19,6 @@ overflow_sub-k c = omega (arith, c.loop-k-test.true)
 
 pub link-requires : goal.link-requires
 link-requires c =
-    
-    
-    
     let t = c.loop-k-test.true in
     let e : c.loop-k.k - 1 + 1 ≡ c.loop-k.k = omega arith in (
       c.requires.0,
@@ -37,19 +31,14 @@ pub loop-k-smaller : goal.loop-k-smaller
 loop-k-smaller c = omega (arith, c.loop-k-test.true)
 
 pub loop-k-preserved : goal.loop-k-preserved
-loop-k-preserved c =
-    
-    (
-      record { indexed = c.link.ensures.indexed; below = c.link.ensures.below ∙ c.loop-k.invariant.0.below },
-      c.link.auto.area ∙ c.loop-k.invariant.1,
-      omega (arith, c.loop-k.invariant.2),
-    )
+loop-k-preserved c = (
+  record { indexed = c.link.ensures.indexed; below = c.link.ensures.below ∙ c.loop-k.invariant.0.below },
+  c.link.auto.area ∙ c.loop-k.invariant.1,
+  omega (arith, c.loop-k.invariant.2),
+)
 
 pub returns : goal.returns
 returns c =
-    
-    
-    
     let e : c.loop-k.k ≡ 0 = omega (arith, c.loop-k-test.false) in
     record {
       indexed = subst (λ j. Indexed c.args.words.now c.args.l j c.loop-k.area) e c.loop-k.invariant.0.indexed;

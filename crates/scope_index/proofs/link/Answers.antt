@@ -20,22 +20,22 @@ overflow_add-base c = omega (arith, c.scope_base-base.ensures, c.requires.0.shor
 pub overflow_add-at : goal.overflow_add-at
 overflow_add-at c =
     let owner : c.scope_owner-owner.result.0 ≡ owner_at c.args.words.now c.args.l c.args.k =
-        c.scope_owner-owner.ensures
-        ∙ ap (λ z. (scope_at c.args.words.now (z + scope_size * c.args.k)).owner) c.scope_base-base.ensures in
+    c.scope_owner-owner.ensures
+    ∙ ap (λ z. (scope_at c.args.words.now (z + scope_size * c.args.k)).owner) c.scope_base-base.ensures in
     omega (arith, owner, c.requires.0.owners _ c.requires.2, c.requires.0.few, c.requires.1)
 
 pub bounds-area-at : goal.bounds-area-at
 bounds-area-at c =
     let owner : c.scope_owner-owner.result.0 ≡ owner_at c.args.words.now c.args.l c.args.k =
-        c.scope_owner-owner.ensures
-        ∙ ap (λ z. (scope_at c.args.words.now (z + scope_size * c.args.k)).owner) c.scope_base-base.ensures in
+    c.scope_owner-owner.ensures
+    ∙ ap (λ z. (scope_at c.args.words.now (z + scope_size * c.args.k)).owner) c.scope_base-base.ensures in
     omega (arith, owner, c.requires.0.owners _ c.requires.2, c.requires.0.few, c.requires.1)
 
 pub bounds-area-at-2 : goal.bounds-area-at-2
 bounds-area-at-2 c =
     let owner : c.scope_owner-owner.result.0 ≡ owner_at c.args.words.now c.args.l c.args.k =
-        c.scope_owner-owner.ensures
-        ∙ ap (λ z. (scope_at c.args.words.now (z + scope_size * c.args.k)).owner) c.scope_base-base.ensures in
+    c.scope_owner-owner.ensures
+    ∙ ap (λ z. (scope_at c.args.words.now (z + scope_size * c.args.k)).owner) c.scope_base-base.ensures in
     omega (
       arith,
       owner,
@@ -48,8 +48,8 @@ bounds-area-at-2 c =
 pub returns : goal.returns
 returns c =
     let owner : c.scope_owner-owner.result.0 ≡ owner_at c.args.words.now c.args.l c.args.k =
-        c.scope_owner-owner.ensures
-        ∙ ap (λ z. (scope_at c.args.words.now (z + scope_size * c.args.k)).owner) c.scope_base-base.ensures in
+    c.scope_owner-owner.ensures
+    ∙ ap (λ z. (scope_at c.args.words.now (z + scope_size * c.args.k)).owner) c.scope_base-base.ensures in
     let W = c.args.words.now in
     let A = c.args.area.now in
     record {

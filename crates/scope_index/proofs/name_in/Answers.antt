@@ -13,13 +13,11 @@ scope_base-base-requires c = omega (arith, c.requires.0.short)
 
 pub overflow_add-m : goal.overflow_add-m
 overflow_add-m c =
-    
     omega (arith, c.requires.1, c.requires.0.few)
 
 pub loop-k-init : goal.loop-k-init
 unfolding name_of
 loop-k-init c =
-    
     let W = c.args.words.now in
     let A = c.args.area.now in
     let n = snap_of W A c.args.l in
@@ -28,26 +26,18 @@ loop-k-init c =
 
 pub overflow_mul-h : goal.overflow_mul-h
 overflow_mul-h c =
-    
     record { fits = omega (arith, c.loop-k-test.true, c.requires.0.short) }
 
 pub overflow_add-h : goal.overflow_add-h
 overflow_add-h c =
-    
     record { fits = omega (arith, c.loop-k-test.true, c.scope_base-base.ensures, c.requires.0.short) }
 
 pub is_for-requires : goal.is_for-requires
 is_for-requires c =
-    
     omega (arith, c.requires.0.short)
 
 pub returns-then-is_for : goal.returns-then-is_for
 returns-then-is_for c =
-    
-    
-    
-    
-    
     let W = c.args.words.now in
     let A = c.args.area.now in
     ahead_hit W A c.args.l _ _ c.args.m.0 c.loop-k.invariant c.loop-k-test.true (ap (λ z. scope_at W (z + scope_size * c.loop-k.k))
@@ -56,15 +46,10 @@ returns-then-is_for c =
 
 pub overflow_add-k : goal.overflow_add-k
 overflow_add-k c =
-    
-    
     omega (arith, c.loop-k-test.true, c.requires.0.short)
 
 pub loop-k-smaller : goal.loop-k-smaller
 loop-k-smaller c =
-    
-    
-    
     let W = c.args.words.now in
     let A = c.args.area.now in
     let more = ahead_more W A c.args.l _ _ c.args.m.0 c.requires.2 (for_within W A c.args.l c.args.m.0 c.args.item)
@@ -73,12 +58,6 @@ loop-k-smaller c =
 
 pub loop-k-preserved : goal.loop-k-preserved
 loop-k-preserved c =
-    
-    
-    
-    
-    
-    
     let W = c.args.words.now in
     let A = c.args.area.now in
     ahead_next W A c.args.l _ _ c.args.m.0 c.requires.2 (for_within W A c.args.l c.args.m.0 c.args.item)
@@ -87,8 +66,6 @@ loop-k-preserved c =
 
 pub returns : goal.returns
 returns c =
-    
-    
     ahead_done c.args.words.now c.args.area.now c.args.l _ _ c.args.m.0 c.loop-k.invariant (omega (arith, c.loop-k-test.false))
 
 pub word-k-requires : goal.word-k-requires

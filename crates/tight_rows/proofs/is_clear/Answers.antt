@@ -28,8 +28,7 @@ loop-d-smaller c = omega (arith, c.loop-d-test.true)
 
 pub loop-d-preserved : goal.loop-d-preserved
 loop-d-preserved c =
-    let l = c.loop-d in
-    (
+    let l = c.loop-d in (
       passing_next c.args.area.now c.args.left _ _ l.p l.d l.invariant.0 c.loop-d-test.true c.word.ensures
           (c.is_far.ensures c.if-not-is_far.false) c.word-p.ensures refl,
       rw c.word-p.ensures (chain_first _ _ _ _ c.loop-d-test.true c.loop-d.invariant.1).rest,

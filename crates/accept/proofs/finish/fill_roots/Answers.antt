@@ -16,7 +16,6 @@ module_map-map-requires c =
 
 pub overflow_cast-area : goal.overflow_cast-area
 overflow_cast-area c =
-    
     let l = c.loop-m in
     let u = l.invariant.upto in
     let v = c.requires.area_limit_in_bounds.1 in
@@ -24,7 +23,6 @@ overflow_cast-area c =
 
 pub overflow_add-area : goal.overflow_add-area
 overflow_add-area c =
-    
     let l = c.loop-m in
     let h = filled_small c.args.area.now l.area c.args.modules l.m l.invariant c.loop-m-test.true
     c.requires.area_limit_in_bounds.1 c.requires.area_limit_in_bounds.0 c.requires.by_index c.module_map-map.ensures in
@@ -32,7 +30,6 @@ overflow_add-area c =
 
 pub offset_bounds-area-map : goal.offset_bounds-area-map
 offset_bounds-area-map c =
-    
     let l = c.loop-m in
     let h = filled_small c.args.area.now l.area c.args.modules l.m l.invariant c.loop-m-test.true
     c.requires.area_limit_in_bounds.1 c.requires.area_limit_in_bounds.0 c.requires.by_index c.module_map-map.ensures in
@@ -40,7 +37,6 @@ offset_bounds-area-map c =
 
 pub bounds-area-map : goal.bounds-area-map
 bounds-area-map c =
-    
     let l = c.loop-m in
     let h = filled_small c.args.area.now l.area c.args.modules l.m l.invariant c.loop-m-test.true
     c.requires.area_limit_in_bounds.1 c.requires.area_limit_in_bounds.0 c.requires.by_index c.module_map-map.ensures in
@@ -55,7 +51,6 @@ loop-m-smaller c =
 
 pub loop-m-preserved : goal.loop-m-preserved
 loop-m-preserved c =
-    
     let l = c.loop-m in
     filled_more c.args.area.now l.area c.args.modules l.m l.invariant c.loop-m-test.true
     c.requires.area_limit_in_bounds.1 c.requires.area_limit_in_bounds.0 c.requires.by_index c.module_map-map.ensures

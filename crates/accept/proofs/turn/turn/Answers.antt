@@ -7,13 +7,11 @@ use Rattle.accept.proofs.turn.turn.Goals as goal
 
 pub returns-then-not-follows : goal.returns-then-not-follows
 returns-then-not-follows c ms st =
-    
     turn_kind c.args.words.now c.args.at c.args.last (snap_with c.args.words.now c.args.area.now c.args.l ms)
     c.kind-k.ensures (sym c.follows.ensures ∙ c.if-not-follows.true)
 
 pub arguments_from-requires : goal.arguments_from-requires
 arguments_from-requires c =
-    
     let h = arguments_few c.args.words.now c.args.at _ c.arguments-n.ensures in
     let g = c.requires.here in
     let f = c.requires.short in
@@ -21,26 +19,26 @@ arguments_from-requires c =
 
 pub returns-then-not-arguments_from : goal.returns-then-not-arguments_from
 returns-then-not-arguments_from c ms st =
-    
-    
     turn_arguments c.args.words.now c.args.at c.args.last (snap_with c.args.words.now c.args.area.now c.args.l ms)
     c.kind-k.ensures (sym c.follows.ensures
     ∙ c.if-not-follows.false) c.arguments-n.ensures (sym c.arguments_from.ensures ∙ c.if-not-arguments_from.true)
 
 pub by_kind-requires : goal.by_kind-requires
-by_kind-requires c = record { ready = ready_for c.args.words.now c.args.area.now c.args.l c.args.at _ c.requires c.arguments-n.ensures
-          (sym c.arguments_from.ensures ∙ c.if-not-arguments_from.false); k_value = (
-        c.kind-k.ensures,
-        (known_kind c.args.last _
-            (sym c.follows.ensures ∙ c.if-not-follows.false)).0,
-        (known_kind
-            c.args.last _ (sym c.follows.ensures ∙ c.if-not-follows.false)).1,
-        (known_kind c.args.last _ (sym c.follows.ensures ∙ c.if-not-follows.false)).2,
-      ) }
+by_kind-requires c = record {
+  ready = ready_for c.args.words.now c.args.area.now c.args.l c.args.at _ c.requires c.arguments-n.ensures
+      (sym c.arguments_from.ensures ∙ c.if-not-arguments_from.false);
+  k_value = (
+    c.kind-k.ensures,
+    (known_kind c.args.last _
+        (sym c.follows.ensures ∙ c.if-not-follows.false)).0,
+    (known_kind
+        c.args.last _ (sym c.follows.ensures ∙ c.if-not-follows.false)).1,
+    (known_kind c.args.last _ (sym c.follows.ensures ∙ c.if-not-follows.false)).2,
+  );
+}
 
 pub returns : goal.returns
 returns c ms st =
-    
     let f = sym c.follows.ensures
     ∙ c.if-not-follows.false in
     answers_at c.args.words.now c.by_kind.new.area c.by_kind.result

@@ -5,34 +5,19 @@ use Rattle.any_path.proofs.begin.begin.Goals as goal
 
 pub offer-one-requires : goal.offer-one-requires
 offer-one-requires c =
-    
-    
     (run_empty _ _ c.requires.2, c.requires.0.tables.limited.modules, c.module_around-around.ensures.1, omega arith, omega arith, omega arith)
 
 pub offer-two-requires : goal.offer-two-requires
 offer-two-requires c =
-    
-    
-    
     let below = root_below c.args.words.now c.args.area.now c.args.l c.requires.0 c.args.from.0 c.requires.1 in
     (c.offer-one.ensures.run, c.requires.0.tables.limited.modules, omega (arith, below, c.crate_root-root.ensures), omega arith, omega arith, omega arith)
 
 pub offer_supers-requires : goal.offer_supers-requires
 offer_supers-requires c =
-    
-    
-    
-    
     let two = grown_then (as_run c.offer-one.ensures) (as_run c.offer-two.ensures) in
     (stays_reads c.args.words.now c.args.area.now _ c.args.l c.requires.0 two.stays, c.requires.1, c.offer-two.ensures.run)
 
 pub returns : goal.returns
 returns c =
-    
-    
-    
-    
-    
-    
     begin_done c.args.words.now c.args.area.now c.args.l c.requires.0 c.args.from.0 _ _ c.module_around-around.ensures.0
     c.crate_root-root.ensures c.offer-one.ensures c.offer-two.ensures c.offer_supers.ensures

@@ -6,35 +6,22 @@ use Rattle.any_path.proofs.begin.offer_supers.Goals as goal
 
 pub loop-p-init : goal.loop-p-init
 loop-p-init c =
-    
     λ from e h. climbing_start c.args.words.now c.args.area.now c.args.l c.requires.0 from c.args.n h c.requires.2 e
     c.module_around-m.ensures.1
 
 pub parent-requires : goal.parent-requires
 parent-requires c =
-    
-    
-    
     let inv = c.loop-p.invariant c.args.from.0 c.module_around-m.ensures.0 c.requires.1 in
     (stays_reads c.args.words.now c.args.area.now c.loop-p.area c.args.l c.requires.0 inv.grown.stays, inv.known)
 
 pub returns-in_default : goal.returns-in_default
 returns-in_default c =
-    
-    
-    
-    
     let inv = c.loop-p.invariant c.args.from.0 c.module_around-m.ensures.0 c.requires.1 in
     climbing_done c.args.words.now c.args.area.now c.args.l c.requires.0 c.args.from.0 c.args.n c.requires.1 inv
     (is_none _ c.parent.ensures c.in_default.is)
 
 pub module_around-m-requires-in-loop-p : goal.module_around-m-requires-in-loop-p
 module_around-m-requires-in-loop-p c =
-    
-    
-    
-    
-    
     let inv = c.loop-p.invariant c.args.from.0 c.module_around-m.ensures.0 c.requires.1 in
     let up = is_some _ c.parent.ensures c.in-Module.is in
     let less = parent_less c.args.words.now c.args.area.now c.args.l c.requires.0 c.args.from.0 c.args.n
@@ -46,31 +33,18 @@ module_around-m-requires-in-loop-p c =
 
 pub overflow_add-k : goal.overflow_add-k
 overflow_add-k c =
-    
-    
-    
-    
     let inv = c.loop-p.invariant c.args.from.0 c.module_around-m.ensures.0 c.requires.1 in
     let few = climbing_few c.args.words.now c.args.area.now c.args.l c.requires.0 c.args.from.0 c.args.n c.requires.1 inv in
     record { fits = omega (arith, few, c.requires.0.tables.limited.modules) }
 
 pub overflow_add-row : goal.overflow_add-row
 overflow_add-row c =
-    
-    
-    
-    
     let inv = c.loop-p.invariant c.args.from.0 c.module_around-m.ensures.0 c.requires.1 in
     let few = climbing_few c.args.words.now c.args.area.now c.args.l c.requires.0 c.args.from.0 c.args.n c.requires.1 inv in
     record { fits = omega (arith, few, c.requires.0.tables.limited.modules) }
 
 pub offer-count-requires : goal.offer-count-requires
 offer-count-requires c =
-    
-    
-    
-    
-    
     let inv = c.loop-p.invariant c.args.from.0 c.module_around-m.ensures.0 c.requires.1 in
     let few = climbing_few c.args.words.now c.args.area.now c.args.l c.requires.0 c.args.from.0 c.args.n c.requires.1 inv in
     let limit = c.requires.0.tables.limited.modules in
@@ -78,12 +52,6 @@ offer-count-requires c =
 
 pub loop-p-smaller : goal.loop-p-smaller
 loop-p-smaller c =
-    
-    
-    
-    
-    
-    
     let inv = c.loop-p.invariant c.args.from.0 c.module_around-m.ensures.0 c.requires.1 in
     let up = is_some _ c.parent.ensures c.in-Module.is in
     let less = climbing_less c.args.words.now c.args.area.now c.args.l c.requires.0 c.args.from.0 c.args.n
@@ -92,13 +60,6 @@ loop-p-smaller c =
 
 pub loop-p-preserved : goal.loop-p-preserved
 loop-p-preserved c =
-    
-    
-    
-    
-    
-    
-    
     let up = is_some _ c.parent.ensures c.in-Module.is in
     λ from f h.
     climbing_next c.args.words.now c.args.area.now c.args.l c.requires.0 from c.args.n h (c.loop-p.invariant from f h) _ up

@@ -9,25 +9,18 @@ scope_base-base-requires c = few_words _ _ _ c.requires.0
 
 pub loop-k-init : goal.loop-k-init
 loop-k-init c =
-    
     expanding_start c.args.words.now c.args.area.now c.args.l c.requires.0 c.args.from.0 c.args.i c.args.n c.requires.2
 
 pub overflow_mul-k : goal.overflow_mul-k
 overflow_mul-k c =
-    
     record { fits = omega (arith, c.loop-k-test.true, few_words _ _ _ c.requires.0) }
 
 pub overflow_add-base : goal.overflow_add-base
 overflow_add-base c =
-    
-    
     record { fits = omega (arith, c.loop-k-test.true, c.scope_base-base.ensures, few_words _ _ _ c.requires.0) }
 
 pub offer_entry-count-requires : goal.offer_entry-count-requires
 offer_entry-count-requires c =
-    
-    
-    
     let g = c.loop-k.invariant.grown in (
       stays_reads c.args.words.now c.args.area.now c.loop-k.area c.args.l c.requires.0 g.stays,
       c.requires.1,
@@ -38,16 +31,10 @@ offer_entry-count-requires c =
 
 pub loop-k-preserved : goal.loop-k-preserved
 loop-k-preserved c =
-    
-    
-    
-    
     expanding_next c.args.words.now c.args.area.now c.args.l c.requires.0 c.args.from.0 c.args.i c.args.n
     c.requires.3 c.requires.4 c.loop-k.invariant c.loop-k-test.true c.scope_base-base.ensures refl c.offer_entry-count.ensures
 
 pub returns : goal.returns
 returns c =
-    
-    
     expanding_done c.args.words.now c.args.area.now c.args.l c.requires.0 c.args.from.0 c.args.i c.args.n
     c.loop-k.invariant (omega (arith, c.loop-k-test.false))

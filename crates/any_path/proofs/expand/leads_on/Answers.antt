@@ -12,8 +12,6 @@ is_module_entry-requires c = few_words _ _ _ c.requires.0
 
 pub returns-then-is_module_entry : goal.returns-then-is_module_entry
 returns-then-is_module_entry c =
-    
-    
     let S = snap_of c.args.words.now c.args.area.now c.args.l in
     c.seen.ensures
     ∙ and_so (is_module_entry S c.args.m.0 (scope_at c.args.words.now c.args.h)) _
@@ -21,8 +19,6 @@ returns-then-is_module_entry c =
 
 pub returns : goal.returns
 returns c =
-    
-    
     let S = snap_of c.args.words.now c.args.area.now c.args.l in
     let x = scope_at c.args.words.now c.args.h in
     and_no (is_module_entry S c.args.m.0 x) (seen S c.args.from.0 x) (sym (c.is_module_entry.ensures c.args.area.now) ∙ c.if-is_module_entry.false)

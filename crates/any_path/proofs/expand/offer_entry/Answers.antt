@@ -9,27 +9,18 @@ use Rattle.any_path.proofs.expand.offer_entry.Goals as goal
 
 pub overflow_mul-i : goal.overflow_mul-i
 overflow_mul-i c =
-    
     record { fits = omega (arith, run_small _ _ _ c.requires.3 c.requires.0.tables.limited.modules, c.requires.4) }
 
 pub overflow_add-i : goal.overflow_add-i
 overflow_add-i c =
-    
     record { fits = omega (arith, run_small _ _ _ c.requires.3 c.requires.0.tables.limited.modules, c.requires.4) }
 
 pub overflow_add-row : goal.overflow_add-row
 overflow_add-row c =
-    
     record { fits = omega (arith, run_small _ _ _ c.requires.3 c.requires.0.tables.limited.modules, c.requires.4) }
 
 pub offer-requires : goal.offer-requires
 offer-requires c =
-    
-    
-    
-    
-    
-    
     let W = c.args.words.now in
     let A = c.args.area.now in
     let limits = c.requires.0.tables.limited in
@@ -46,13 +37,6 @@ offer-requires c =
 
 pub returns-then-leads_on : goal.returns-then-leads_on
 returns-then-leads_on c =
-    
-    
-    
-    
-    
-    
-    
     let W = c.args.words.now in
     let A = c.args.area.now in
     let target = c.first_of-target.ensures A ∙ ap (λ (d : ℕ). (definition_of (snap_of W A c.args.l) d).first) c.scope_definition.ensures in
@@ -61,8 +45,5 @@ returns-then-leads_on c =
 
 pub returns : goal.returns
 returns c =
-    
-    
-    
     entry_passed c.args.words.now c.args.area.now c.args.l c.requires.0 c.args.from.0 c.args.i c.args.n c.args.h _
     c.requires.3 c.word.ensures (sym c.leads_on.ensures ∙ c.if-leads_on.false)

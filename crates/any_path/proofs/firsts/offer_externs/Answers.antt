@@ -18,7 +18,6 @@ extern_base-base-requires c = few_words _ _ _ c.requires.0
 
 pub loop-k-init : goal.loop-k-init
 loop-k-init c =
-    
     let W = c.args.words.now in
     let A = c.args.area.now in
     let L = c.args.l in
@@ -29,20 +28,14 @@ loop-k-init c =
 
 pub overflow_mul-k : goal.overflow_mul-k
 overflow_mul-k c =
-    
     record { fits = omega (arith, c.loop-k-test.true, few_words _ _ _ c.requires.0) }
 
 pub overflow_add-base : goal.overflow_add-base
 overflow_add-base c =
-    
-    
     record { fits = omega (arith, c.loop-k-test.true, c.extern_base-base.ensures, few_words _ _ _ c.requires.0) }
 
 pub offer_owned-count-requires : goal.offer_owned-count-requires
 offer_owned-count-requires c =
-    
-    
-    
     let W = c.args.words.now in
     let A = c.args.area.now in
     let L = c.args.l in
@@ -56,11 +49,6 @@ offer_owned-count-requires c =
 
 pub loop-k-preserved : goal.loop-k-preserved
 loop-k-preserved c =
-    
-    
-    
-    
-    
     let W = c.args.words.now in
     let A = c.args.area.now in
     let L = c.args.l in
@@ -75,8 +63,6 @@ loop-k-preserved c =
 pub returns : goal.returns
 unfolding externs_in
 returns c =
-    
-    
     let W = c.args.words.now in
     let A = c.args.area.now in
     let L = c.args.l in

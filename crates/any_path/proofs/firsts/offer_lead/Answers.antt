@@ -7,17 +7,10 @@ use Rattle.any_path.proofs.firsts.offer_lead.Goals as goal
 
 pub offer_plain-requires : goal.offer_plain-requires
 offer_plain-requires c =
-    
-    
     (c.requires.0, c.requires.1, c.requires.3, omega (arith, c.requires.2.name, c.scope_name.ensures))
 
 pub returns-then-leads_on : goal.returns-then-leads_on
 returns-then-leads_on c =
-    
-    
-    
-    
-    
     let W = c.args.words.now in
     let from = c.args.from.0 in
     let A = c.args.area.now in
@@ -27,8 +20,6 @@ returns-then-leads_on c =
 
 pub returns : goal.returns
 returns c =
-    
-    
     let W = c.args.words.now in
     let from = c.args.from.0 in
     let A = c.args.area.now in

@@ -8,8 +8,6 @@ use Rattle.any_path.proofs.firsts.offer_owned.Goals as goal
 
 pub returns-then-owner-c : goal.returns-then-owner-c
 returns-then-owner-c c =
-    
-    
     let W = c.args.words.now in
     let from = c.args.from.0 in
     let A = c.args.area.now in
@@ -19,16 +17,10 @@ returns-then-owner-c c =
 
 pub offer_plain-requires : goal.offer_plain-requires
 offer_plain-requires c =
-    
     (c.requires.0, c.requires.1, c.requires.3, omega (arith, c.requires.2.name, c.extern_name.ensures))
 
 pub returns : goal.returns
 returns c =
-    
-    
-    
-    
-    
     let W = c.args.words.now in
     let from = c.args.from.0 in
     let A = c.args.area.now in

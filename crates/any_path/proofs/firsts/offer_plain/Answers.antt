@@ -8,9 +8,6 @@ use Rattle.any_path.proofs.firsts.offer_plain.Goals as goal
 
 pub returns-in_default : goal.returns-in_default
 returns-in_default c =
-    
-    
-    
     let A = c.args.area.now in
     let from = c.args.from.0 in
     let W = c.args.words.now in
@@ -21,10 +18,6 @@ returns-in_default c =
 
 pub offer-requires : goal.offer-requires
 offer-requires c =
-    
-    
-    
-    
     let W = c.args.words.now in
     let A = c.args.area.now in
     let L = c.args.l in
@@ -39,11 +32,6 @@ offer-requires c =
 
 pub returns : goal.returns
 returns c =
-    
-    
-    
-    
-    
     let A = c.args.area.now in
     let from = c.args.from.0 in
     let W = c.args.words.now in

@@ -4,8 +4,6 @@ use Rattle.any_path.proofs.firsts.offer_plains.Goals as goal
 
 pub offer_externs-outer-requires : goal.offer_externs-outer-requires
 offer_externs-outer-requires c =
-    
-    
     let W = c.args.words.now in
     let A = c.args.area.now in
     let L = c.args.l in
@@ -14,9 +12,6 @@ offer_externs-outer-requires c =
 
 pub offer_prelude-requires : goal.offer_prelude-requires
 offer_prelude-requires c =
-    
-    
-    
     let W = c.args.words.now in
     let A = c.args.area.now in
     let L = c.args.l in
@@ -25,10 +20,6 @@ offer_prelude-requires c =
 
 pub returns : goal.returns
 returns c =
-    
-    
-    
-    
     let W = c.args.words.now in
     let A = c.args.area.now in
     let L = c.args.l in

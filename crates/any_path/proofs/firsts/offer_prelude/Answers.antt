@@ -8,8 +8,6 @@ use Rattle.any_path.proofs.firsts.offer_prelude.Goals as goal
 
 pub returns-in_default : goal.returns-in_default
 returns-in_default c =
-    
-    
     let W = c.args.words.now in
     let A = c.args.area.now in
     let L = c.args.l in
@@ -20,11 +18,6 @@ returns-in_default c =
 
 pub returns : goal.returns
 returns c =
-    
-    
-    
-    
-    
     let W = c.args.words.now in
     let A = c.args.area.now in
     let L = c.args.l in

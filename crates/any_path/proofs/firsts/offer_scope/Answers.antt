@@ -16,7 +16,6 @@ scope_base-base-requires c = few_words _ _ _ c.requires.0
 
 pub loop-k-init : goal.loop-k-init
 loop-k-init c =
-    
     let W = c.args.words.now in
     let A = c.args.area.now in
     let L = c.args.l in
@@ -27,20 +26,14 @@ loop-k-init c =
 
 pub overflow_mul-k : goal.overflow_mul-k
 overflow_mul-k c =
-    
     record { fits = omega (arith, c.loop-k-test.true, few_words _ _ _ c.requires.0) }
 
 pub overflow_add-base : goal.overflow_add-base
 overflow_add-base c =
-    
-    
     record { fits = omega (arith, c.loop-k-test.true, c.scope_base-base.ensures, few_words _ _ _ c.requires.0) }
 
 pub offer_lead-count-requires : goal.offer_lead-count-requires
 offer_lead-count-requires c =
-    
-    
-    
     let W = c.args.words.now in
     let A = c.args.area.now in
     let L = c.args.l in
@@ -53,11 +46,6 @@ offer_lead-count-requires c =
 
 pub loop-k-preserved : goal.loop-k-preserved
 loop-k-preserved c =
-    
-    
-    
-    
-    
     let W = c.args.words.now in
     let A = c.args.area.now in
     let L = c.args.l in
@@ -72,8 +60,6 @@ loop-k-preserved c =
 pub returns : goal.returns
 unfolding entries_in
 returns c =
-    
-    
     let W = c.args.words.now in
     let A = c.args.area.now in
     let L = c.args.l in

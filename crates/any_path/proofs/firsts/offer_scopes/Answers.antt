@@ -5,7 +5,6 @@ use Rattle.any_path.proofs.firsts.offer_scopes.Goals as goal
 
 pub loop-b-init : goal.loop-b-init
 loop-b-init c =
-    
     let W = c.args.words.now in
     let A = c.args.area.now in
     let L = c.args.l in
@@ -14,8 +13,6 @@ loop-b-init c =
 
 pub offer_scope-count-requires : goal.offer_scope-count-requires
 offer_scope-count-requires c =
-    
-    
     let W = c.args.words.now in
     let A = c.args.area.now in
     let L = c.args.l in
@@ -24,9 +21,6 @@ offer_scope-count-requires c =
 
 pub block_step-requires : goal.block_step-requires
 block_step-requires c =
-    
-    
-    
     let W = c.args.words.now in
     let A = c.args.area.now in
     let L = c.args.l in
@@ -35,10 +29,6 @@ block_step-requires c =
 
 pub returns-in_default : goal.returns-in_default
 returns-in_default c =
-    
-    
-    
-    
     let W = c.args.words.now in
     let A = c.args.area.now in
     let L = c.args.l in
@@ -48,10 +38,6 @@ returns-in_default c =
 
 pub loop-b-smaller : goal.loop-b-smaller
 loop-b-smaller c =
-    
-    
-    
-    
     let W = c.args.words.now in
     let A = c.args.area.now in
     let L = c.args.l in
@@ -61,10 +47,6 @@ loop-b-smaller c =
 
 pub loop-b-preserved : goal.loop-b-preserved
 loop-b-preserved c =
-    
-    
-    
-    
     let W = c.args.words.now in
     let A = c.args.area.now in
     let L = c.args.l in

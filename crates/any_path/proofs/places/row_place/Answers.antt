@@ -10,28 +10,22 @@ use Rattle.any_path.proofs.places.row_place.Goals as goal
 
 pub overflow_mul-at : goal.overflow_mul-at
 overflow_mul-at c =
-    
     record { fits = omega (arith, run_small _ _ _ c.requires.2.run c.requires.0.tables.limited.modules, c.requires.2.below) }
 
 pub overflow_add-at : goal.overflow_add-at
 overflow_add-at c =
-    
     record { fits = omega (arith, run_small _ _ _ c.requires.2.run c.requires.0.tables.limited.modules, c.requires.2.below) }
 
 pub overflow_add-at-2 : goal.overflow_add-at-2
 overflow_add-at-2 c =
-    
     record { fits = omega (arith, run_small _ _ _ c.requires.2.run c.requires.0.tables.limited.modules, c.requires.2.below) }
 
 pub overflow_add-at-3 : goal.overflow_add-at-3
 overflow_add-at-3 c =
-    
     record { fits = omega (arith, run_small _ _ _ c.requires.2.run c.requires.0.tables.limited.modules, c.requires.2.below) }
 
 pub returns-then-link-eq0 : goal.returns-then-link-eq0
 returns-then-link-eq0 c =
-    
-    
     let A = c.args.area.now in
     let from = c.args.from.0 in
     let W = c.args.words.now in
@@ -41,10 +35,6 @@ returns-then-link-eq0 c =
 
 pub returns-then-link-eq1 : goal.returns-then-link-eq1
 returns-then-link-eq1 c =
-    
-    
-    
-    
     let W = c.args.words.now in
     let A = c.args.area.now in
     let from = c.args.from.0 in
@@ -55,10 +45,6 @@ returns-then-link-eq1 c =
 
 pub returns-then-link-eq2 : goal.returns-then-link-eq2
 returns-then-link-eq2 c =
-    
-    
-    
-    
     let W = c.args.words.now in
     let A = c.args.area.now in
     let from = c.args.from.0 in
@@ -69,8 +55,6 @@ returns-then-link-eq2 c =
 
 pub overflow_mul-link : goal.overflow_mul-link
 overflow_mul-link c =
-    
-    
     let below = c.requires.2.run.linked c.args.i c.requires.2.below in
     record {
       fits = omega (
@@ -85,8 +69,6 @@ overflow_mul-link c =
 
 pub overflow_add-link : goal.overflow_add-link
 overflow_add-link c =
-    
-    
     let below = c.requires.2.run.linked c.args.i c.requires.2.below in
     record {
       fits = omega (
@@ -101,11 +83,6 @@ overflow_add-link c =
 
 pub returns : goal.returns
 returns c =
-    
-    
-    
-    
-    
     let W = c.args.words.now in
     let A = c.args.area.now in
     let from = c.args.from.0 in

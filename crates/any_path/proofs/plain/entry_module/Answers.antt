@@ -6,8 +6,6 @@ use Rattle.any_path.proofs.plain.entry_module.Goals as goal
 pub returns-in-Mod : goal.returns-in-Mod
 returns-in-Mod c =
     λ A.
-    
-    
     let W = c.args.words.now in
     let L = c.args.l in
     mod_is _ c.in-Mod.is
@@ -17,8 +15,6 @@ returns-in-Mod c =
 pub returns-in-Def : goal.returns-in-Def
 returns-in-Def c =
     λ A.
-    
-    
     let W = c.args.words.now in
     let L = c.args.l in
     def_is c.in-Def.is

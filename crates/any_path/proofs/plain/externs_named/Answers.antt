@@ -5,7 +5,6 @@ use Rattle.any_path.proofs.plain.externs_named.Goals as goal
 
 pub returns-then-ns-ne-TYPES : goal.returns-then-ns-ne-TYPES
 returns-then-ns-ne-TYPES c =
-    
     let from = c.args.from.0 in
     let W = c.args.words.now in
     let A = c.args.area.now in
@@ -15,7 +14,6 @@ returns-then-ns-ne-TYPES c =
 
 pub returns : goal.returns
 returns c =
-    
     let A = c.args.area.now in
     let from = c.args.from.0 in
     let W = c.args.words.now in

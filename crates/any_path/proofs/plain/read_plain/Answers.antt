@@ -11,7 +11,6 @@ use Rattle.any_path.proofs.plain.read_plain.Goals as goal
 pub returns-in-At : goal.returns-in-At
 unfolding record_read
 returns-in-At c =
-    
     let W = c.args.words.now in
     let from = c.args.from.0 in
     let A = c.args.area.now in
@@ -23,8 +22,6 @@ returns-in-At c =
 pub returns-in-At-outer : goal.returns-in-At-outer
 unfolding record_read
 returns-in-At-outer c =
-    
-    
     let W = c.args.words.now in
     let from = c.args.from.0 in
     let A = c.args.area.now in
@@ -37,9 +34,6 @@ returns-in-At-outer c =
 pub returns-in_default-prelude_named : goal.returns-in_default-prelude_named
 unfolding record_read
 returns-in_default-prelude_named c =
-    
-    
-    
     let W = c.args.words.now in
     let from = c.args.from.0 in
     let A = c.args.area.now in
@@ -52,9 +46,6 @@ returns-in_default-prelude_named c =
 pub returns : goal.returns
 unfolding record_read
 returns c =
-    
-    
-    
     let W = c.args.words.now in
     let from = c.args.from.0 in
     let A = c.args.area.now in

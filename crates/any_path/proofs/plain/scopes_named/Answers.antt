@@ -16,7 +16,6 @@ entry_named-e-requires c = (c.requires.0, c.requires.1)
 pub returns-in-At : goal.returns-in-At
 unfolding scopes_named
 returns-in-At c =
-    
     let W = c.args.words.now in
     let A = c.args.area.now in
     let L = c.args.l in
@@ -31,7 +30,6 @@ block_step-requires c = (c.requires.0, c.loop-h.invariant.1)
 pub returns-in_default-block_step : goal.returns-in_default-block_step
 unfolding scopes_named
 returns-in_default-block_step c =
-    
     let W = c.args.words.now in
     let A = c.args.area.now in
     let L = c.args.l in
@@ -43,7 +41,6 @@ returns-in_default-block_step c =
 
 pub loop-h-smaller : goal.loop-h-smaller
 loop-h-smaller c =
-    
     let W = c.args.words.now in
     let A = c.args.area.now in
     let L = c.args.l in
@@ -54,7 +51,6 @@ loop-h-smaller c =
 
 pub loop-h-preserved : goal.loop-h-preserved
 loop-h-preserved c =
-    
     let W = c.args.words.now in
     let A = c.args.area.now in
     let L = c.args.l in

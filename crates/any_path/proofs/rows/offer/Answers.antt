@@ -6,33 +6,27 @@ use Rattle.any_path.proofs.rows.offer.Goals as goal
 
 pub is_met-requires : goal.is_met-requires
 is_met-requires c =
-    
     run_small _ _ _ c.requires.0 c.requires.1
 
 pub returns-then-is_met : goal.returns-then-is_met
 returns-then-is_met c =
-    
     offer_old c.args.modules c.args.area.now c.args.n c.args.row.target c.args.row.link c.args.row.name c.requires.0
     (sym c.is_met.ensures ∙ c.if-is_met.true)
 
 pub overflow_mul-at : goal.overflow_mul-at
 overflow_mul-at c =
-    
     record { fits = omega (arith, run_small _ _ _ c.requires.0 c.requires.1) }
 
 pub overflow_add-at : goal.overflow_add-at
 overflow_add-at c =
-    
     record { fits = omega (arith, run_small _ _ _ c.requires.0 c.requires.1) }
 
 pub offset_bounds-area-at : goal.offset_bounds-area-at
 offset_bounds-area-at c =
-    
     record { fits = omega (arith, run_small _ _ _ c.requires.0 c.requires.1) }
 
 pub bounds-area-at : goal.bounds-area-at
 bounds-area-at c =
-    
     omega (
       arith,
       row_space _ _ _ c.args.row.target c.args.row.link c.args.row.name c.requires.0 c.requires.1 c.requires.2 c.requires.3
@@ -41,22 +35,18 @@ bounds-area-at c =
 
 pub overflow_cast-area-2 : goal.overflow_cast-area-2
 overflow_cast-area-2 c =
-    
     record { fits = omega (arith, run_small _ _ _ c.requires.0 c.requires.1, c.requires.3) }
 
 pub overflow_add-area : goal.overflow_add-area
 overflow_add-area c =
-    
     record { fits = omega (arith, run_small _ _ _ c.requires.0 c.requires.1) }
 
 pub offset_bounds-area-at-2 : goal.offset_bounds-area-at-2
 offset_bounds-area-at-2 c =
-    
     record { fits = omega (arith, run_small _ _ _ c.requires.0 c.requires.1) }
 
 pub bounds-area-at-2 : goal.bounds-area-at-2
 bounds-area-at-2 c =
-    
     simp length-set (omega (
       arith,
       row_space _ _ _ c.args.row.target c.args.row.link c.args.row.name c.requires.0 c.requires.1
@@ -65,17 +55,14 @@ bounds-area-at-2 c =
 
 pub overflow_add-area-2 : goal.overflow_add-area-2
 overflow_add-area-2 c =
-    
     record { fits = omega (arith, run_small _ _ _ c.requires.0 c.requires.1) }
 
 pub offset_bounds-area-at-3 : goal.offset_bounds-area-at-3
 offset_bounds-area-at-3 c =
-    
     record { fits = omega (arith, run_small _ _ _ c.requires.0 c.requires.1) }
 
 pub bounds-area-at-3 : goal.bounds-area-at-3
 bounds-area-at-3 c =
-    
     simp length-set (omega (
       arith,
       row_space _ _ _ c.args.row.target c.args.row.link c.args.row.name c.requires.0 c.requires.1
@@ -84,17 +71,14 @@ bounds-area-at-3 c =
 
 pub overflow_add-area-3 : goal.overflow_add-area-3
 overflow_add-area-3 c =
-    
     record { fits = omega (arith, run_small _ _ _ c.requires.0 c.requires.1) }
 
 pub offset_bounds-area-at-4 : goal.offset_bounds-area-at-4
 offset_bounds-area-at-4 c =
-    
     record { fits = omega (arith, run_small _ _ _ c.requires.0 c.requires.1) }
 
 pub bounds-area-at-4 : goal.bounds-area-at-4
 bounds-area-at-4 c =
-    
     simp length-set (omega (
       arith,
       row_space _ _ _ c.args.row.target c.args.row.link c.args.row.name c.requires.0 c.requires.1
@@ -103,11 +87,9 @@ bounds-area-at-4 c =
 
 pub overflow_add-result : goal.overflow_add-result
 overflow_add-result c =
-    
     record { fits = omega (arith, run_small _ _ _ c.requires.0 c.requires.1) }
 
 pub returns : goal.returns
 returns c =
-    
     offer_new _ _ _ c.args.row.target c.args.row.link c.args.row.name c.requires.0 c.requires.1 c.requires.2 c.requires.3
     (sym c.is_met.ensures ∙ c.if-is_met.false) c.args.row.place

@@ -6,13 +6,10 @@ use Rattle.any_path.proofs.run.expand_all.Goals as goal
 
 pub loop-i-init : goal.loop-i-init
 loop-i-init c =
-    
     spreading_start c.args.words.now c.args.area.now c.args.l c.requires.0 c.args.from.0 c.args.n c.requires.2
 
 pub expand-count-requires : goal.expand-count-requires
 expand-count-requires c =
-    
-    
     let g = c.loop-i.invariant.grown in (
       stays_reads c.args.words.now c.args.area.now c.loop-i.area c.args.l c.requires.0 g.stays,
       c.requires.1,
@@ -24,8 +21,6 @@ expand-count-requires c =
 
 pub overflow_add-i : goal.overflow_add-i
 overflow_add-i c =
-    
-    
     let few = run_few _ _ _ c.loop-i.invariant.grown.run in
     record {
       fits =
@@ -34,21 +29,15 @@ overflow_add-i c =
 
 pub loop-i-smaller : goal.loop-i-smaller
 loop-i-smaller c =
-    
     let few = run_few _ _ _ c.loop-i.invariant.grown.run in
     omega (arith, few, c.loop-i-test.true)
 
 pub loop-i-preserved : goal.loop-i-preserved
 loop-i-preserved c =
-    
-    
-    
     spreading_next c.args.words.now c.args.area.now c.args.l c.requires.0 c.args.from.0 c.args.n c.loop-i.invariant
     c.loop-i-test.true c.expand-count.ensures
 
 pub returns : goal.returns
 returns c =
-    
-    
     spreading_done c.args.words.now c.args.area.now c.args.l c.requires.0 c.args.from.0 c.args.n c.loop-i.invariant
     (omega (arith, c.loop-i-test.false))

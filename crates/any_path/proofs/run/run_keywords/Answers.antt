@@ -5,8 +5,6 @@ use Rattle.any_path.proofs.run.run_keywords.Goals as goal
 
 pub expand_all-near-requires : goal.expand_all-near-requires
 expand_all-near-requires c =
-    
-    
     let f = c.begin-start.ensures in (
       stays_reads c.args.words.now c.args.area.now _ c.args.l c.requires.0 f.stays,
       c.requires.1,
@@ -16,22 +14,15 @@ expand_all-near-requires c =
     )
 
 pub offer_absolutes-all-requires : goal.offer_absolutes-all-requires
-offer_absolutes-all-requires c =
-    
-    
-    (
-      near_reads c.args.words.now c.args.area.now c.args.l c.requires.0 c.args.from.0 false c.begin-start.ensures
-          c.expand_all-near.ensures,
-      c.requires.1,
-      c.expand_all-near.ensures.run,
-    )
+offer_absolutes-all-requires c = (
+  near_reads c.args.words.now c.args.area.now c.args.l c.requires.0 c.args.from.0 false c.begin-start.ensures
+      c.expand_all-near.ensures,
+  c.requires.1,
+  c.expand_all-near.ensures.run,
+)
 
 pub take_up-requires : goal.take_up-requires
 take_up-requires c =
-    
-    
-    
-    
     let f = c.begin-start.ensures in
     let g = c.expand_all-near.ensures in
     let h = c.offer_absolutes-all.ensures in (
@@ -44,11 +35,6 @@ take_up-requires c =
 
 pub returns : goal.returns
 returns c =
-    
-    
-    
-    
-    
     run_done c.args.words.now c.args.area.now c.args.l c.requires.0 c.args.from.0 false c.begin-start.ensures
     c.expand_all-near.ensures
     c.offer_absolutes-all.ensures c.take_up.ensures

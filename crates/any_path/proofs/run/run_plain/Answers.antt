@@ -6,13 +6,10 @@ use Rattle.any_path.proofs.run.run_plain.Goals as goal
 
 pub offer_plains-near-requires : goal.offer_plains-near-requires
 offer_plains-near-requires c =
-    
     (c.requires.0, c.requires.1, run_empty _ _ c.requires.2)
 
 pub take_up-requires : goal.take_up-requires
 take_up-requires c =
-    
-    
     let W = c.args.words.now in
     let A = c.args.area.now in
     let L = c.args.l in
@@ -30,9 +27,6 @@ take_up-requires c =
 
 pub returns : goal.returns
 returns c =
-    
-    
-    
     let W = c.args.words.now in
     let A = c.args.area.now in
     let L = c.args.l in

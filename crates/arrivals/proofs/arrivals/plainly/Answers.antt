@@ -9,26 +9,19 @@ use Rattle.arrivals.proofs.arrivals.plainly.Goals as goal
 pub returns-in-At : goal.returns-in-At
 unfolding LeadsTo
 returns-in-At c =
-    
-    
-    
     leads_plain c.args.words.now c.args.area.now c.args.l c.requires.0 _ _ c.requires.1 c.requires.2 _ _ refl
     (sym (ap (entry_of scope_at c.args.words.now) c.in-At.is) ∙ c.plain_entry.ensures) c.scope_name-name.ensures
 
 pub by_rows-requires : goal.by_rows-requires
-by_rows-requires c =
-    (
-      c.requires.0,
-      c.requires.1,
-      ready_few c.args.words.now c.args.area.now c.args.l c.requires.0 _ _ c.requires.1 c.requires.2,
-      ready_meant c.args.words.now c.args.area.now c.args.l c.requires.0 _ _ c.requires.1 c.requires.2,
-    )
+by_rows-requires c = (
+  c.requires.0,
+  c.requires.1,
+  ready_few c.args.words.now c.args.area.now c.args.l c.requires.0 _ _ c.requires.1 c.requires.2,
+  ready_meant c.args.words.now c.args.area.now c.args.l c.requires.0 _ _ c.requires.1 c.requires.2,
+)
 
 pub returns : goal.returns
 unfolding ns_of
 returns c =
-    
-    
-    
     leads_past c.args.words.now c.args.area.now c.args.l c.requires.0 _ _ c.requires.1 c.requires.2 _ _ refl _
     (sym (ap (entry_of scope_at c.args.words.now) c.in_default.is) ∙ c.plain_entry.ensures) c.by_rows.ensures

@@ -7,8 +7,5 @@ use Rattle.arrivals.proofs.plain.is_entry_for.Goals as goal
 
 pub returns : goal.returns
 returns c =
-    
-    
-    
     λ (A : List ℕ). entry_item (snap_of c.args.words.now A c.args.l) c.args.item (scope_at c.args.words.now c.args.h)
     c.same_item.ensures (c.item_of.ensures A) c.scope_ns-ns.ensures c.scope_definition.ensures

@@ -6,16 +6,10 @@ use Rattle.arrivals.proofs.plain.is_plain_for.Goals as goal
 
 pub is_for-requires : goal.is_for-requires
 is_for-requires c =
-    
     few_words c.args.words.now c.args.area.now c.args.l c.requires.0
 
 pub returns-then-seen : goal.returns-then-seen
 returns-then-seen c =
-    
-    
-    
-    
-    
     plain_so (snap_of c.args.words.now c.args.area.now c.args.l) c.args.from.0 c.args.m.0 c.args.ns.0
     c.args.d.0 (scope_at c.args.words.now c.args.h)
     (c.is_for.ensures c.args.area.now) c.if-is_for.true c.seen.ensures c.if-seen.true c.scope_name.ensures
@@ -23,17 +17,12 @@ returns-then-seen c =
 
 pub returns-else-seen : goal.returns-else-seen
 returns-else-seen c =
-    
-    
-    
     plain_unseen (snap_of c.args.words.now c.args.area.now c.args.l) c.args.from.0 c.args.m.0 c.args.ns.0
     c.args.d.0 (scope_at c.args.words.now c.args.h)
     (c.is_for.ensures c.args.area.now) c.if-is_for.true c.seen.ensures c.if-seen.false
 
 pub returns-else-is_for : goal.returns-else-is_for
 returns-else-is_for c =
-    
-    
     plain_not (snap_of c.args.words.now c.args.area.now c.args.l) c.args.from.0 c.args.m.0 c.args.ns.0
     c.args.d.0 (scope_at c.args.words.now c.args.h)
     (c.is_for.ensures c.args.area.now) c.if-is_for.false

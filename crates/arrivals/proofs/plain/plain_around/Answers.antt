@@ -14,25 +14,16 @@ loop-h-init c = (refl, c.requires.1)
 
 pub returns-in-At : goal.returns-in-At
 returns-in-At c =
-    
-    
-    
-    
     scopes_here c.args.words.now c.args.area.now c.args.l c.requires.0 c.loop-h.m.0 c.loop-h.invariant.1
     (plain_in (snap_of c.args.words.now c.args.area.now c.args.l) c.args.from.0 (defined_item c.args.ns.0 c.args.d.0))
     (sym c.plain_in-e.ensures ∙ ap (entry_of scope_at c.args.words.now) c.in-At.is) ∙ sym c.loop-h.invariant.0
 
 pub block_step-requires : goal.block_step-requires
 block_step-requires c =
-    
     (c.requires.0, c.loop-h.invariant.1)
 
 pub returns-in_default-block_step : goal.returns-in_default-block_step
 returns-in_default-block_step c =
-    
-    
-    
-    
     scopes_end_lem c.args.words.now c.args.area.now c.args.l c.requires.0 c.loop-h.m.0 c.loop-h.invariant.1
     (plain_in (snap_of c.args.words.now c.args.area.now c.args.l) c.args.from.0 (defined_item c.args.ns.0 c.args.d.0))
     (sym c.plain_in-e.ensures ∙ ap (entry_of scope_at c.args.words.now) c.in_default.is)
@@ -40,18 +31,11 @@ returns-in_default-block_step c =
 
 pub loop-h-smaller : goal.loop-h-smaller
 loop-h-smaller c =
-    
-    
-    
     scopes_less c.args.words.now c.args.area.now c.args.l c.requires.0 c.loop-h.m.0 c.loop-h.invariant.1 _
     (is_some _ c.block_step.ensures c.in-Module.is)
 
 pub loop-h-preserved : goal.loop-h-preserved
 loop-h-preserved c =
-    
-    
-    
-    
     let step = is_some _ c.block_step.ensures c.in-Module.is in
     let less = scopes_less c.args.words.now c.args.area.now c.args.l c.requires.0 c.loop-h.m.0 c.loop-h.invariant.1 _ step in
     let low = c.loop-h.invariant.1 in (

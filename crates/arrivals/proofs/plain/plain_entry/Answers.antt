@@ -8,16 +8,10 @@ use Rattle.arrivals.proofs.plain.plain_entry.Goals as goal
 
 pub returns-in-At : goal.returns-in-At
 returns-in-At c =
-    
-    
-    
     entry_near (snap_of c.args.words.now c.args.area.now c.args.l) c.args.from.0 (defined_item c.args.ns.0 c.args.d.0)
     (sym (ap (entry_of scope_at c.args.words.now) c.in-At.is) ∙ c.plain_around.ensures)
 
 pub returns : goal.returns
 returns c =
-    
-    
-    
     entry_far (snap_of c.args.words.now c.args.area.now c.args.l) c.args.from.0 (defined_item c.args.ns.0 c.args.d.0)
     (sym (ap (entry_of scope_at c.args.words.now) c.in_default.is) ∙ c.plain_around.ensures) c.plain_in_prelude.ensures

@@ -20,12 +20,10 @@ loop-k-init c = rows_whole (first_of _) _ _
 
 pub overflow_mul-h : goal.overflow_mul-h
 overflow_mul-h c =
-    
     record { fits = omega (arith, c.loop-k-test.true, few_words c.args.words.now c.args.area.now c.args.l c.requires.0) }
 
 pub overflow_add-h : goal.overflow_add-h
 overflow_add-h c =
-    
     record {
       fits = omega (
         arith,
@@ -37,17 +35,15 @@ overflow_add-h c =
     }
 
 pub is_plain_for-requires : goal.is_plain_for-requires
-is_plain_for-requires c =
-    (
-      c.requires.0,
-      c.requires.1,
-      scope_fits c.args.words.now c.args.area.now c.args.l c.requires.0 c.loop-k-test.true
-          c.scope_base-base.ensures refl,
-    )
+is_plain_for-requires c = (
+  c.requires.0,
+  c.requires.1,
+  scope_fits c.args.words.now c.args.area.now c.args.l c.requires.0 c.loop-k-test.true
+      c.scope_base-base.ensures refl,
+)
 
 pub returns-then-is_plain_for : goal.returns-then-is_plain_for
 returns-then-is_plain_for c =
-    
     let w = c.loop-k in
     first_hit _ _ _ _ _ w.invariant c.loop-k-test.true
     (ap (λ b. scope_at c.args.words.now (b + scope_size * w.k)) c.scope_base-base.ensures)
@@ -55,7 +51,6 @@ returns-then-is_plain_for c =
 
 pub overflow_add-k : goal.overflow_add-k
 overflow_add-k c =
-    
     record { fits = omega (arith, c.loop-k-test.true, few_words c.args.words.now c.args.area.now c.args.l c.requires.0) }
 
 pub loop-k-smaller : goal.loop-k-smaller
@@ -63,7 +58,6 @@ loop-k-smaller c = omega (arith, c.loop-k-test.true)
 
 pub loop-k-preserved : goal.loop-k-preserved
 loop-k-preserved c =
-    
     let w = c.loop-k in
     first_miss _ _ _ _ _ w.invariant c.loop-k-test.true
     (ap (λ b. scope_at c.args.words.now (b + scope_size * w.k)) c.scope_base-base.ensures)

@@ -13,17 +13,12 @@ prelude_of-requires c =
 
 pub returns-in_default : goal.returns-in_default
 returns-in_default c =
-    
-    
     prelude_none (snap_of c.args.words.now c.args.area.now c.args.l) c.args.from.0
     (defined_item c.args.ns.0 c.args.d.0) c.map.ensures
     (sym (c.prelude_of.ensures c.args.area.now) ∙ ap (entry_of prelude_at c.args.words.now) c.in_default.is)
 
 pub returns : goal.returns
 returns c =
-    
-    
-    
     prelude_some (snap_of c.args.words.now c.args.area.now c.args.l) c.args.from.0
     (defined_item c.args.ns.0 c.args.d.0) c.map.ensures
     (sym (c.prelude_of.ensures c.args.area.now) ∙ ap (entry_of prelude_at c.args.words.now) c.in-At.is)

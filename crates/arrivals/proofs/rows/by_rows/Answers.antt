@@ -12,10 +12,6 @@ loop-i-init c = found_start c.args.words.now c.args.area.now c.args.l c.requires
 pub returns-in-At : goal.returns-in-At
 unfolding LeadsTo
 returns-in-At c =
-    
-    
-    
-    
     found_hit c.args.words.now c.args.area.now c.args.l c.requires.0 c.args.from.0 c.args.n c.args.item _
     c.loop-i.invariant
     c.loop-i-test.true c.requires.3 c.word.ensures
@@ -23,9 +19,6 @@ returns-in-At c =
 
 pub loop-i-preserved : goal.loop-i-preserved
 loop-i-preserved c =
-    
-    
-    
     found_miss c.args.words.now c.args.area.now c.args.l c.requires.0 c.args.from.0 c.args.n c.args.item _
     c.loop-i.invariant
     c.loop-i-test.true c.requires.3 c.word.ensures
@@ -34,7 +27,6 @@ loop-i-preserved c =
 pub returns : goal.returns
 unfolding LeadsTo
 returns c =
-    
     found_none c.args.words.now c.args.area.now c.args.l c.requires.0 c.args.from.0 c.args.n c.args.item _
     c.loop-i.invariant
     (omega (arith, c.loop-i-test.false))

@@ -44,8 +44,11 @@ loop-i-preserved c =
 
 pub returns : goal.returns
 returns c = let l = c.loop-i in
-     record { reports_after = all_reported c.args.words.now c.args.questions.now c.args.reports.now l.i l.reports l.invariant.4 _
-          l.invariant.0 c.loop-i-test.false; judged = l.invariant.1 }
+    record {
+      reports_after = all_reported c.args.words.now c.args.questions.now c.args.reports.now l.i l.reports l.invariant.4 _
+          l.invariant.0 c.loop-i-test.false;
+      judged = l.invariant.1;
+    }
 
 pub overflow_mul-from : goal.overflow_mul-from
 overflow_mul-from c = omega arith

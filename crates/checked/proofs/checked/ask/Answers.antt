@@ -5,8 +5,11 @@ use Rattle.checked.proofs.checked.ask.Goals as goal
 
 pub returns-then-n-ne0 : goal.returns-then-n-ne0
 returns-then-n-ne0 c = let s = c.args in
-    let A = s.area.now in  record { value = answer_fault (snap_of s.words.now A s.l) s.q s.fuel _ _ (c.question_fault-n.ensures A)
-          c.if-n-ne0.true c.refused.ensures; area_unchanged = refl }
+    let A = s.area.now in record {
+      value = answer_fault (snap_of s.words.now A s.l) s.q s.fuel _ _ (c.question_fault-n.ensures A)
+          c.if-n-ne0.true c.refused.ensures;
+      area_unchanged = refl;
+    }
 
 pub report_in-requires : goal.report_in-requires
 report_in-requires c =
@@ -19,5 +22,8 @@ report_in-requires c =
 pub returns : goal.returns
 returns c = let s = c.args in
     let A = s.area.now in
-    let f = c.report_in in  record { value = answer_found (snap_of s.words.now A s.l) s.q s.fuel _ _ (c.question_fault-n.ensures A)
-          c.if-n-ne0.false f.ensures.value; area_unchanged = f.ensures.area_unchanged }
+    let f = c.report_in in record {
+      value = answer_found (snap_of s.words.now A s.l) s.q s.fuel _ _ (c.question_fault-n.ensures A)
+          c.if-n-ne0.false f.ensures.value;
+      area_unchanged = f.ensures.area_unchanged;
+    }

@@ -2,15 +2,14 @@ use Rattle.checked.proofs.Laws.{reads_of, report_refused, report_accepted}
 use Rattle.checked.proofs.checked.report_by.Goals as goal
 
 pub ask-requires : goal.ask-requires
-ask-requires c =
-    (
-      reads_of c.args.words.now c.args.area.now c.args.c c.requires.0 _ c.in-Accepted.is,
-      c.requires.1,
-      c.requires.2,
-      c.requires.3,
-      c.requires.4,
-      c.requires.5,
-    )
+ask-requires c = (
+  reads_of c.args.words.now c.args.area.now c.args.c c.requires.0 _ c.in-Accepted.is,
+  c.requires.1,
+  c.requires.2,
+  c.requires.3,
+  c.requires.4,
+  c.requires.5,
+)
 
 pub returns-in-Refused : goal.returns-in-Refused
 returns-in-Refused c =

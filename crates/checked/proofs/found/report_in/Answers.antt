@@ -21,7 +21,10 @@ pub returns : goal.returns
 returns c = let W = c.args.words.now in
     let A = c.args.area.now in
     let S = snap_of W A c.args.l in
-    let q = c.args.q in  record { value = c.reported.ensures S q
+    let q = c.args.q in record {
+      value = c.reported.ensures S q
           (c.misleads-misleading.ensures ∙ ap (λ (x : Snapshot). misleads x q c.find_path-f.result.choice)
           (same_snap W A c.find_path-f.new.area c.args.l c.find_path-f.ensures.tables c.requires.0))
-          ∙ reported_out S q c.find_path-f.result _ c.find_path-f.ensures.same; area_unchanged = c.find_path-f.ensures.tables }
+          ∙ reported_out S q c.find_path-f.result _ c.find_path-f.ensures.same;
+      area_unchanged = c.find_path-f.ensures.tables;
+    }

@@ -3,12 +3,11 @@ use Rattle.checked.proofs.Putting.{few_names, line_refused, line_accepted}
 use Rattle.checked.proofs.lines.line_on.Goals as goal
 
 pub put_line-requires : goal.put_line-requires
-put_line-requires c =
-    (
-      reads_of c.args.words.now c.report_on-r.new.area c.args.c c.report_on-r.ensures.checked _ c.in-Accepted.is,
-      c.requires.2,
-      few_names c.args.words.now c.args.question c.report_on-r.new.area c.args.c c.report_on-r.result c.report_on-r.ensures,
-    )
+put_line-requires c = (
+  reads_of c.args.words.now c.report_on-r.new.area c.args.c c.report_on-r.ensures.checked _ c.in-Accepted.is,
+  c.requires.2,
+  few_names c.args.words.now c.args.question c.report_on-r.new.area c.args.c c.report_on-r.result c.report_on-r.ensures,
+)
 
 pub returns-in-Refused : goal.returns-in-Refused
 returns-in-Refused c =

@@ -18,4 +18,4 @@ pub returns : goal.returns
 returns c = let W = c.args.words.now in
     let A₀ = c.args.area.now in
     let A = c.check-c.new.area in
-    let p = c.check-c.ensures in  record { opens = opens_checked W A₀ c.args.count c.if-area-lt-AREA.false A c.check-c.result c.if-words-count.false p; area_after = cleared W A₀ c.args.count c.if-area-lt-AREA.false A _ c.check-c.auto.area p.rest c.clear_front-2.ensures }
+    let p = c.check-c.ensures in record { opens = opens_checked W A₀ c.args.count c.if-area-lt-AREA.false A c.check-c.result c.if-words-count.false p; area_after = cleared W A₀ c.args.count c.if-area-lt-AREA.false A _ c.check-c.auto.area p.rest c.clear_front-2.ensures }

@@ -19,12 +19,11 @@ returns-then-count-at c =
     (omega (arith, c.if-count-at.true))
 
 pub remove-requires : goal.remove-requires
-remove-requires c =
-    (
-      removed_fits c.args.words.now c.args.count c.requires.0 c.requires.1.0 c.requires.1.1 _ _ _ _ c.entry_place-at.ensures
-          c.if-count-at.false,
-      c.requires.0,
-    )
+remove-requires c = (
+  removed_fits c.args.words.now c.args.count c.requires.0 c.requires.1.0 c.requires.1.1 _ _ _ _ c.entry_place-at.ensures
+      c.if-count-at.false,
+  c.requires.0,
+)
 
 pub overflow_sub-result : goal.overflow_sub-result
 overflow_sub-result c =

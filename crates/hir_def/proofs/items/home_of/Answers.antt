@@ -12,7 +12,6 @@ pub returns-in-Def : goal.returns-in-Def
 unfolding home_of
 returns-in-Def c =
     λ A.
-    
     let x = c.definition_head.ensures A in
     c.home_at.ensures A ∙ ap₂ (home_by (snap_of c.args.words.now A c.args.l)) x.kind x.first
     ∙ sym (ap (home_of _) c.in-Def.is)

@@ -12,17 +12,21 @@ sort-requires c =
 
 pub thread_entries-requires : goal.thread_entries-requires
 thread_entries-requires c =
+    let t = (
     entries_required c.requires c.gather-n.ensures
     c.sort.ensures c.clear.ensures
-    c.area-3-1.given
+    c.area-3-1.given) in
+    record { area_len = t.0; by_index = t.1 }
 
 pub thread_members-requires : goal.thread_members-requires
 thread_members-requires c =
+    let t = (
     members_required c.requires
     c.gather-n.ensures
     c.sort.ensures
     c.clear.ensures c.area-3-1.given
-    c.thread_entries.ensures
+    c.thread_entries.ensures) in
+    record { area_len = t.0; by_index = t.1 }
 
 pub returns : goal.returns
 returns c = threaded_all

@@ -19,19 +19,17 @@ clear-requires c = omega (
 )
 
 pub own-requires : goal.own-requires
-own-requires c =
-    (
-      cleared_reads c.requires.0 c.marks_base-base.ensures c.clear.ensures,
-      c.requires.1,
-    )
+own-requires c = (
+  cleared_reads c.requires.0 c.marks_base-base.ensures c.clear.ensures,
+  c.requires.1,
+)
 
 pub root-first-requires : goal.root-first-requires
-root-first-requires c =
-    (
-      cleared_reads c.requires.0 c.marks_base-base.ensures
-          c.clear.ensures,
-      c.own.ensures.1,
-    )
+root-first-requires c = (
+  cleared_reads c.requires.0 c.marks_base-base.ensures
+      c.clear.ensures,
+  c.own.ensures.1,
+)
 
 pub overflow_cast-area : goal.overflow_cast-area
 overflow_cast-area c =

@@ -8,7 +8,7 @@ use Rattle.import_lists.proofs.write.put_entry.Goals as goal
 
 pub put_members-t-requires : goal.put_members-t-requires
 put_members-t-requires c = let e = scope_at c.args.words.now c.args.entry in
-     record { listed = c.requires.listed; space = space_first c.requires.space (imports_entry (snap_of c.args.words.now c.args.area.now c.args.l) c.args.c.0 e) }
+    record { listed = c.requires.listed; space = space_first c.requires.space (imports_entry (snap_of c.args.words.now c.args.area.now c.args.l) c.args.c.0 e) }
 
 pub put_import-requires : goal.put_import-requires
 put_import-requires c =

@@ -13,8 +13,11 @@ loop-k-init c =
 
 pub put_member-t-requires : goal.put_member-t-requires
 put_member-t-requires c = let some : 0 < c.loop-k.k = omega (arith, c.loop-k-test.true) in
-    let at = ap (λ b. b + 5 * (c.args.l.members - c.loop-k.k)) c.member_base-base.ensures in  record { bounded = member_bounded c.requires.listed c.loop-k.invariant.0 some at; space = space_first c.loop-k.invariant.1.space
-          (kept_next c.requires.listed c.loop-k.invariant.0 some at refl).0 }
+    let at = ap (λ b. b + 5 * (c.args.l.members - c.loop-k.k)) c.member_base-base.ensures in record {
+      bounded = member_bounded c.requires.listed c.loop-k.invariant.0 some at;
+      space = space_first c.loop-k.invariant.1.space
+          (kept_next c.requires.listed c.loop-k.invariant.0 some at refl).0;
+    }
 
 pub loop-k-smaller : goal.loop-k-smaller
 loop-k-smaller c =

@@ -12,7 +12,7 @@ loop-k-init c =
 
 pub put_entry-t-requires : goal.put_entry-t-requires
 put_entry-t-requires c = let some : 0 < c.loop-k.k = omega (arith, c.loop-k-test.true) in
-    let e = c.word-entry.ensures in  record { listed = entry_listed c.requires.threaded.0 c.args.c.0 c.loop-k.invariant.0 some e c.requires.threaded.1; space = space_first c.loop-k.invariant.1.space (imports_next c.requires.threaded.0 c.args.c.0 c.loop-k.invariant.0 some e refl).0 }
+    let e = c.word-entry.ensures in record { listed = entry_listed c.requires.threaded.0 c.args.c.0 c.loop-k.invariant.0 some e c.requires.threaded.1; space = space_first c.loop-k.invariant.1.space (imports_next c.requires.threaded.0 c.args.c.0 c.loop-k.invariant.0 some e refl).0 }
 
 pub loop-k-smaller : goal.loop-k-smaller
 loop-k-smaller c =

@@ -19,7 +19,7 @@ put_module-t-requires c = let a = c.args in
     let q = over_next a.words.now a.area.now a.l a.c.0 a.order i t e in
     let h = order_known a.area.now a.l a.order c.requires.threaded.3 i t e in
     let m = c.requires.threaded.0.ready.reads.tables.limited.modules in
-     record { threaded = (c.requires.threaded.0, c.requires.threaded.1, omega arith); space = space_first c.loop-i.invariant.1.space q }
+    record { threaded = (c.requires.threaded.0, c.requires.threaded.1, omega arith); space = space_first c.loop-i.invariant.1.space q }
 
 pub loop-i-preserved : goal.loop-i-preserved
 loop-i-preserved c =

@@ -22,13 +22,12 @@ sort-requires-2 t c = (
 )
 
 pub merge-requires : goal.merge-requires
-merge-requires t c =
-    (
-      runs_ready (runs_ready c.requires.0 c.sort.ensures.frame (omega arith))
-          c.sort-2.ensures.frame (omega arith),
-      omega arith,
-      omega arith,
-    )
+merge-requires t c = (
+  runs_ready (runs_ready c.requires.0 c.sort.ensures.frame (omega arith))
+      c.sort-2.ensures.frame (omega arith),
+  omega arith,
+  omega arith,
+)
 
 pub returns : goal.returns
 returns t c =

@@ -33,8 +33,7 @@ loop-i-smaller c = omega (arith, c.loop-i-test.true)
 
 pub loop-i-preserved : goal.loop-i-preserved
 loop-i-preserved c =
-    let w = c.loop-i in
-    (
+    let w = c.loop-i in (
       omega (arith, c.loop-i-test.true),
       text_equal c.args.a.now c.args.b.now c.args.n c.args.m w.i
           c.requires.0 c.requires.1 w.invariant.1 _ _ c.loop-i-test.true c.if-m-i.false c.text_byte-x.ensures

@@ -6,11 +6,10 @@ use Rattle.import_rules.specs.Collect.{text_before}
 use Rattle.import_order.proofs.texts.text_before.Goals as goal
 
 pub bytes_before-requires : goal.bytes_before-requires
-bytes_before-requires c =
-    (
-      omega (arith, c.bytes_of-n.ensures.upper_bound, ap length c.text_of-a.ensures),
-      omega (arith, c.bytes_of-m.ensures.upper_bound, ap length c.text_of-b.ensures),
-    )
+bytes_before-requires c = (
+  omega (arith, c.bytes_of-n.ensures.upper_bound, ap length c.text_of-a.ensures),
+  omega (arith, c.bytes_of-m.ensures.upper_bound, ap length c.text_of-b.ensures),
+)
 
 pub returns : goal.returns
 returns c =

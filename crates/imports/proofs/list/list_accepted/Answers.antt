@@ -10,12 +10,15 @@ returns-then-l-c c =
 
 pub put_modules-count-requires : goal.put_modules-count-requires
 put_modules-count-requires c = let t = c.thread-n.ensures in
-    let w = c.walk-k.ensures in  record { threaded = (
+    let w = c.walk-k.ensures in record {
+      threaded = (
         walked_threaded c.requires t.0 t.1 w,
         c.if-l-c.false,
         w.few,
         w.inside,
-      ); space = record { small = list_small c.requires t.0 t.1 w; room = λ e. absurd (false≢true e) } }
+      );
+      space = record { small = list_small c.requires t.0 t.1 w; room = λ e. absurd (false≢true e) };
+    }
 
 pub returns-then-target-count : goal.returns-then-target-count
 unfolding written
@@ -29,12 +32,15 @@ pub put_modules-requires : goal.put_modules-requires
 put_modules-requires c = let t = c.thread-n.ensures in
     let w = c.walk-k.ensures in
     let p = c.put_modules-count.ensures in
-    let g = c.if-target-count.false in  record { threaded = (
+    let g = c.if-target-count.false in record {
+      threaded = (
         walked_threaded c.requires t.0 t.1 w,
         c.if-l-c.false,
         w.few,
         w.inside,
-      ); space = record { small = list_small c.requires t.0 t.1 w; room = λ e. omega (arith, p.next, g) } }
+      );
+      space = record { small = list_small c.requires t.0 t.1 w; room = λ e. omega (arith, p.next, g) };
+    }
 
 pub returns : goal.returns
 unfolding written

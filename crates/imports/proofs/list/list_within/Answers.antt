@@ -3,6 +3,9 @@ use Rattle.answer.specs.Answers.{zeros}
 use Rattle.imports.proofs.list.list_within.Goals as goal
 
 pub returns : goal.returns
-returns c = record { lists = c.list_checked-r.ensures; area_after = c.clear.ensures
+returns c = record {
+  lists = c.list_checked-r.ensures;
+  area_after = c.clear.ensures
       ∙ ap zeros (c.area-1.given
-      ∙ c.requires) }
+      ∙ c.requires);
+}

@@ -41,7 +41,6 @@ overflow_add-mark c = (omega (
 
 pub returns-then-kind-eq-MODULE : goal.returns-then-kind-eq-MODULE
 returns-then-kind-eq-MODULE c h =
-    
     let e = sym c.definition_kind-kind.ensures ∙ c.if-kind-eq-MODULE.true in
     and_yes (either _ c.definition_kind-kind.ensures c.if-kind.false)
     (ap (λ x. not (eqb x 0)) (c.word.ensures ∙ ap (λ f. get_or c.args.area.now (module_marks + f) 0) c.definition_first-mark.ensures)
@@ -50,7 +49,6 @@ returns-then-kind-eq-MODULE c h =
 
 pub returns : goal.returns
 returns c h =
-    
     and_yes (either _ c.definition_kind-kind.ensures c.if-kind.false)
     (c.repeated.ensures
     ∙ ap (λ m. any (same_by c.args.words.now true 1 c.args.at) (rows (λ j. m + definition_size * j) 0 c.args.l.definitions))

@@ -6,8 +6,6 @@ use Rattle.item_records.proofs.definitions.step.Goals as goal
 
 pub returns-then-n-ne0 : goal.returns-then-n-ne0
 returns-then-n-ne0 c ms st =
-    
-    
     definition_no c.args.words.now c.args.area.now c.args.at c.args.l ms st
     c.judge-n.ensures
     c.in_range.ensures
@@ -19,8 +17,6 @@ returns-then-n-ne0 c ms st =
 
 pub overflow_add-area : goal.overflow_add-area
 overflow_add-area c =
-    
-    
     let h = slot_small c.args.words.now c.args.at c.args.l _ _ _ _ _ c.judge-n.ensures c.if-n-ne0.false
     c.defined.ensures c.requires.limited.modules c.module_slot-slot.ensures in
     let g = c.requires.room in
@@ -28,8 +24,6 @@ overflow_add-area c =
 
 pub offset_bounds-area-slot : goal.offset_bounds-area-slot
 offset_bounds-area-slot c =
-    
-    
     let h = slot_small c.args.words.now c.args.at c.args.l _ _ _ _ _ c.judge-n.ensures c.if-n-ne0.false
     c.defined.ensures c.requires.limited.modules c.module_slot-slot.ensures in
     let g = c.requires.room in
@@ -37,8 +31,6 @@ offset_bounds-area-slot c =
 
 pub bounds-area-slot : goal.bounds-area-slot
 bounds-area-slot c =
-    
-    
     let h = slot_small c.args.words.now c.args.at c.args.l _ _ _ _ _ c.judge-n.ensures c.if-n-ne0.false
     c.defined.ensures c.requires.limited.modules c.module_slot-slot.ensures in
     let g = c.requires.room in
@@ -46,8 +38,6 @@ bounds-area-slot c =
 
 pub returns : goal.returns
 returns c ms st =
-    
-    
     let h = slot_small c.args.words.now c.args.at c.args.l _ _ _ _ _ c.judge-n.ensures c.if-n-ne0.false
     c.defined.ensures c.requires.limited.modules c.module_slot-slot.ensures in
     definition_on c.args.words.now c.args.area.now c.args.at c.args.l ms st

@@ -7,12 +7,10 @@ pub repeated_with-old-requires : goal.repeated_with-old-requires
 repeated_with-old-requires c = let e = c.extern_base.ensures in
     let p = c.requires.place in
     let f = c.requires.fits in
-    let q = c.requires.short in  record { chained = extern_chain c.args.words.now c.args.area.now c.args.l c.requires.index e; key_value = (c.record_key-key.ensures, omega arith, omega arith, omega arith, omega arith); count_in_bounds = (omega arith, f, omega arith, omega arith) }
+    let q = c.requires.short in record { chained = extern_chain c.args.words.now c.args.area.now c.args.l c.requires.index e; key_value = (c.record_key-key.ensures, omega arith, omega arith, omega arith, omega arith); count_in_bounds = (omega arith, f, omega arith, omega arith) }
 
 pub returns-then-n-ne0 : goal.returns-then-n-ne0
 returns-then-n-ne0 c ms st =
-    
-    
     extern_no c.args.words.now c.args.area.now c.args.at c.args.l ms st
     c.judge-n.ensures
     c.defined.ensures
@@ -22,8 +20,6 @@ returns-then-n-ne0 c ms st =
 
 pub returns : goal.returns
 returns c ms st =
-    
-    
     extern_on c.args.words.now c.args.area.now c.args.at c.args.l ms st
     c.judge-n.ensures
     c.defined.ensures

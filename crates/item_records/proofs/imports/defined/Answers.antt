@@ -2,7 +2,6 @@ use Rattle.item_records.proofs.imports.defined.Goals as goal
 
 pub returns : goal.returns
 returns c =
-    
     rw (
       c.import_container-container.ensures,
       c.import_name-name.ensures,

@@ -2,8 +2,6 @@ use Rattle.item_records.proofs.members.fits.Goals as goal
 
 pub returns : goal.returns
 returns c =
-    
-    
     rw (
       c.definition_second.ensures,
       c.definition_first.ensures,

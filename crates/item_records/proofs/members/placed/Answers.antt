@@ -28,7 +28,6 @@ overflow_add-head c =
 
 pub returns : goal.returns
 returns c =
-    
     rw (
       c.fits.ensures,
       c.definition_base.ensures,

@@ -2,7 +2,6 @@ use Rattle.item_records.proofs.scopes.defined.Goals as goal
 
 pub returns : goal.returns
 returns c =
-    
     rw (
       c.scope_number-number.ensures,
       c.scope_visibility-visibility.ensures,

@@ -2,7 +2,6 @@ use Rattle.item_records.proofs.scopes.in_range.Goals as goal
 
 pub returns : goal.returns
 returns c =
-    
     rw (
       c.scope_bits.ensures,
       c.scope_declared.ensures,

@@ -8,23 +8,20 @@ pub repeated_with-old-requires : goal.repeated_with-old-requires
 repeated_with-old-requires c = let e = c.scope_base.ensures in
     let p = c.requires.place in
     let f = c.requires.fits in
-    let q = c.requires.short in  record { chained = scope_chain c.args.words.now c.args.area.now c.args.l c.requires.index e; key_value = (c.record_key-key.ensures, omega arith, omega arith, omega arith, omega arith); count_in_bounds = (omega arith, f, omega arith, omega arith) }
+    let q = c.requires.short in record { chained = scope_chain c.args.words.now c.args.area.now c.args.l c.requires.index e; key_value = (c.record_key-key.ensures, omega arith, omega arith, omega arith, omega arith); count_in_bounds = (omega arith, f, omega arith, omega arith) }
 
 pub ns_placed-placed-requires : goal.ns_placed-placed-requires
-ns_placed-placed-requires c =
-    (
-      omega (arith, c.requires.place, c.requires.fits, c.requires.short),
-      omega (
-        arith,
-        c.scope_definition.ensures,
-        c.type_inv.words (c.args.at + 3),
-      ),
-    )
+ns_placed-placed-requires c = (
+  omega (arith, c.requires.place, c.requires.fits, c.requires.short),
+  omega (
+    arith,
+    c.scope_definition.ensures,
+    c.type_inv.words (c.args.at + 3),
+  ),
+)
 
 pub returns-then-n-ne0 : goal.returns-then-n-ne0
 returns-then-n-ne0 c ms st =
-    
-    
     scope_no c.args.words.now c.args.area.now c.args.at c.args.l ms st
     c.judge-n.ensures
     c.in_range.ensures
@@ -37,8 +34,6 @@ returns-then-n-ne0 c ms st =
 
 pub returns : goal.returns
 returns c ms st =
-    
-    
     scope_on c.args.words.now c.args.area.now c.args.at c.args.l ms st
     c.judge-n.ensures
     c.in_range.ensures

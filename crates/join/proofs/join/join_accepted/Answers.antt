@@ -6,7 +6,7 @@ use Rattle.join.proofs.join.join_accepted.Goals as goal
 
 pub put_kinds-count-requires : goal.put_kinds-count-requires
 put_kinds-count-requires c = let f = c.number-n.ensures in
-     record { whole = wholes c.requires f; space = count_space c.requires f _ }
+    record { whole = wholes c.requires f; space = count_space c.requires f _ }
 
 pub overflow_add-l : goal.overflow_add-l
 overflow_add-l c =
@@ -39,9 +39,12 @@ returns-then-not-fits c =
     c.fits.ensures (ap not c.if-not-fits.true)
 
 pub put_kinds-requires : goal.put_kinds-requires
-put_kinds-requires c = let f = c.number-n.ensures in  record { whole = wholes c.requires f; space = write_space c.requires f
-          c.put_kinds-count.ensures
-          c.fits.ensures (ap not c.if-not-fits.false) }
+put_kinds-requires c = let f = c.number-n.ensures in record {
+  whole = wholes c.requires f;
+  space = write_space c.requires f
+      c.put_kinds-count.ensures
+      c.fits.ensures (ap not c.if-not-fits.false);
+}
 
 pub returns : goal.returns
 returns c =

@@ -5,13 +5,12 @@ use Rattle.join.proofs.Laws.{first_not, first_done}
 use Rattle.join.proofs.join.join_checked.Goals as goal
 
 pub join_second-requires : goal.join_second-requires
-join_second-requires c =
-    (
-      c.area-1.given ∙ c.requires,
-      part_of_lem c.args.first.now _ _
-          (accepted_reads c.args.first.now c.args.area.now c.check-k.new.area _ c.requires c.check-k.ensures _
-          c.in-Accepted.is),
-    )
+join_second-requires c = (
+  c.area-1.given ∙ c.requires,
+  part_of_lem c.args.first.now _ _
+      (accepted_reads c.args.first.now c.args.area.now c.check-k.new.area _ c.requires c.check-k.ensures _
+      c.in-Accepted.is),
+)
 
 pub returns-in-Refused : goal.returns-in-Refused
 returns-in-Refused c =

@@ -3,5 +3,8 @@ use Rattle.answer.specs.Answers.{zeros}
 use Rattle.join.proofs.join.join_within.Goals as goal
 
 pub returns : goal.returns
-returns c = record { joins = c.join_checked-r.ensures; area_after = c.clear.ensures
-          ∙ ap zeros (c.area-1.given ∙ c.requires) }
+returns c = record {
+  joins = c.join_checked-r.ensures;
+  area_after = c.clear.ensures
+      ∙ ap zeros (c.area-1.given ∙ c.requires);
+}

@@ -17,9 +17,7 @@ overflow_add-at c = let h = c.loop-k-test.true in let e = c.definition_base-base
 
 pub returns-then-builtin-name : goal.returns-then-builtin-name
 returns-then-builtin-name c =
-    
     let l = c.loop-k in
-    
     let a = c.args in
     builtin_hit a.first.now a.name c.definition_base-base.result a.l.definitions l.k _ l.invariant.1 (omega arith)
     c.definition_kind-builtin.ensures c.definition_first.ensures c.if-builtin-name.true
@@ -27,9 +25,7 @@ returns-then-builtin-name c =
 
 pub loop-k-preserved : goal.loop-k-preserved
 loop-k-preserved c =
-    
     let l = c.loop-k in
-    
     let a = c.args in (
       omega arith,
       builtin_miss a.first.now a.name c.definition_base-base.result a.l.definitions l.k _ l.invariant.1
@@ -39,7 +35,6 @@ loop-k-preserved c =
 pub returns : goal.returns
 returns c =
     let l = c.loop-k in
-    
     let a = c.args in
     builtin_end a.first.now a.name c.definition_base-base.result a.l.definitions l.k _ l.invariant.1 (omega arith)
     ∙ builtin_based a.first.now a.name a.l.definitions c.definition_base-base.ensures

@@ -14,7 +14,6 @@ known-requires c = (omega arith, simp (length-take, length-drop) (omega arith))
 pub returns-then-known : goal.returns-then-known
 returns-then-known c =
     let l = c.loop-k in
-    
     let g = c.args in
     let m = g.area.now in
     name_hit g.first.now g.second.now m g.n.0 l.at l.k g.count _ l.invariant.2
@@ -23,9 +22,7 @@ returns-then-known c =
 
 pub loop-k-preserved : goal.loop-k-preserved
 loop-k-preserved c =
-    
     let l = c.loop-k in
-    
     let g = c.args in
     let m = g.area.now in
     let z = c.text_words.ensures in

@@ -9,15 +9,17 @@ loop-n-init c = numbering_start _ _ _ _ _ _
 pub place_of_definition-place-requires : goal.place_of_definition-place-requires
 place_of_definition-place-requires c = let a = c.args in
     let l = c.loop-n in
-    let r = c.requires.ready in  record { ready = (
+    let r = c.requires.ready in record {
+      ready = (
         definitions_ready a.first.now a.second.now a.area.now a.l1 a.l2 r l.area l.n l.fresh
             l.invariant,
         c.loop-n-test.true,
-      ); holds = definitions_named a.first.now a.second.now a.area.now a.l1 a.l2 r l.area l.n l.fresh l.invariant c.requires.holds }
+      );
+      holds = definitions_named a.first.now a.second.now a.area.now a.l1 a.l2 r l.area l.n l.fresh l.invariant c.requires.holds;
+    }
 
 pub overflow_add-n : goal.overflow_add-n
 overflow_add-n c =
-    
     let l = c.loop-n in
     let a = c.args in
     let q = (definitions_room a.first.now a.second.now a.area.now a.l1 a.l2 c.requires.ready l.area l.n
@@ -26,7 +28,6 @@ overflow_add-n c =
 
 pub put_number-fresh-requires : goal.put_number-fresh-requires
 put_number-fresh-requires c =
-    
     let a = c.args in
     let l = c.loop-n in
     definitions_room a.first.now a.second.now a.area.now a.l1 a.l2 c.requires.ready l.area l.n l.fresh
@@ -34,10 +35,8 @@ put_number-fresh-requires c =
 
 pub loop-n-preserved : goal.loop-n-preserved
 loop-n-preserved c =
-    
     let a = c.args in
     let l = c.loop-n in
-    
     definitions_next a.first.now a.second.now a.area.now a.l1 a.l2 c.requires.ready l.area c.put_number-fresh.new.area l.n
     l.fresh c.place_of_definition-place.result c.put_number-fresh.result l.invariant
     c.loop-n-test.true c.place_of_definition-place.ensures
@@ -45,7 +44,6 @@ loop-n-preserved c =
 
 pub returns : goal.returns
 returns c =
-    
     let a = c.args in
     let l = c.loop-n in
     definitions_done a.first.now a.second.now a.area.now a.l1 a.l2 c.requires.ready l.area l.n l.fresh

@@ -8,7 +8,6 @@ loop-n-init c = numbering_start _ _ _ _ _ _
 
 pub place_of_name-place-requires : goal.place_of_name-place-requires
 place_of_name-place-requires c =
-    
     let a = c.args in
     let l = c.loop-n in
     let q = (names_room a.first.now a.second.now a.area.now a.l1 a.l2 c.requires l.area l.n l.fresh
@@ -17,7 +16,6 @@ place_of_name-place-requires c =
 
 pub overflow_add-n : goal.overflow_add-n
 overflow_add-n c =
-    
     let l = c.loop-n in
     let a = c.args in
     let q = (names_room a.first.now a.second.now a.area.now a.l1 a.l2 c.requires l.area l.n l.fresh
@@ -26,7 +24,6 @@ overflow_add-n c =
 
 pub put_number-fresh-requires : goal.put_number-fresh-requires
 put_number-fresh-requires c =
-    
     let a = c.args in
     let l = c.loop-n in
     names_room a.first.now a.second.now a.area.now a.l1 a.l2 c.requires l.area l.n l.fresh l.invariant
@@ -34,10 +31,8 @@ put_number-fresh-requires c =
 
 pub loop-n-preserved : goal.loop-n-preserved
 loop-n-preserved c =
-    
     let a = c.args in
     let l = c.loop-n in
-    
     names_next a.first.now a.second.now a.area.now a.l1 a.l2 c.requires l.area c.put_number-fresh.new.area l.n l.fresh
     c.place_of_name-place.result c.put_number-fresh.result l.invariant
     c.loop-n-test.true c.place_of_name-place.ensures
@@ -45,7 +40,6 @@ loop-n-preserved c =
 
 pub returns : goal.returns
 returns c =
-    
     let a = c.args in
     let l = c.loop-n in
     names_done a.first.now a.second.now a.area.now a.l1 a.l2 c.requires l.area l.n l.fresh l.invariant c.loop-n-test.false

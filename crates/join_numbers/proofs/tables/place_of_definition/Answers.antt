@@ -9,7 +9,6 @@ use Rattle.join_numbers.proofs.tables.place_of_definition.Goals as goal
 
 pub returns-then-definition_kind-ne-BUILTIN : goal.returns-then-definition_kind-ne-BUILTIN
 returns-then-definition_kind-ne-BUILTIN c =
-    
     let a = c.args in
     let b = c.definition_base.ensures in
     let k = c.definition_kind.ensures ∙ ap (λ j. (definition_at a.second.now (j + definition_size * a.d.0)).kind) b in
@@ -18,14 +17,12 @@ returns-then-definition_kind-ne-BUILTIN c =
 
 pub overflow_add-definition_first : goal.overflow_add-definition_first
 overflow_add-definition_first c =
-    
     let f = c.definition_first.ensures in
     let d = c.args.d.0 in
     omega (arith, c.type_inv.second (c.definition_base.result + definition_size * d + 1))
 
 pub returns : goal.returns
 returns c =
-    
     let a = c.args in
     let b = c.definition_base.ensures in
     let k = c.definition_kind.ensures

@@ -6,17 +6,19 @@ use Rattle.join_records.proofs.Laws.{going_start, going_space, going_next, going
 use Rattle.join_records.proofs.write.put_kinds.Goals as goal
 
 pub loop-k-init : goal.loop-k-init
-loop-k-init c =
-    (
-      omega arith,
-      going_start c.args.write 0 c.args.target.now
-          (rows_whole joined (kind_to c.args.area.now c.args.l c.args.m c.args.first.now c.args.second.now) kinds),
-    )
+loop-k-init c = (
+  omega arith,
+  going_start c.args.write 0 c.args.target.now
+      (rows_whole joined (kind_to c.args.area.now c.args.l c.args.m c.args.first.now c.args.second.now) kinds),
+)
 
 pub put_kind-to-requires : goal.put_kind-to-requires
-put_kind-to-requires c = let t = c.loop-k-test.true in  record { whole = (c.requires.whole.0, c.requires.whole.1, t); space = going_space c.loop-k.invariant.1 _ _
-          (joined_next (kind_to c.args.area.now c.args.l c.args.m c.args.first.now c.args.second.now) c.loop-k.k kinds t)
-          c.requires.space }
+put_kind-to-requires c = let t = c.loop-k-test.true in record {
+  whole = (c.requires.whole.0, c.requires.whole.1, t);
+  space = going_space c.loop-k.invariant.1 _ _
+      (joined_next (kind_to c.args.area.now c.args.l c.args.m c.args.first.now c.args.second.now) c.loop-k.k kinds t)
+      c.requires.space;
+}
 
 pub overflow_add-k : goal.overflow_add-k
 overflow_add-k c = let t = c.loop-k-test.true in omega arith

@@ -7,5 +7,8 @@ use Rattle.line.proofs.line.put_bare.Goals as goal
 pub returns : goal.returns
 returns c = let s = c.args in
     let o = c.put_outcome-a.ensures in
-    let m = c.put_meter.ensures in  record { put = put_as (line_whole (snap_of s.words.now s.area.now s.l) s.from.0 s.r
-          c.edition_in-edition.ensures) (put_two o.put m.put); upper_bound = omega (arith, o.upper_bound, m.upper_bound) }
+    let m = c.put_meter.ensures in record {
+      put = put_as (line_whole (snap_of s.words.now s.area.now s.l) s.from.0 s.r
+          c.edition_in-edition.ensures) (put_two o.put m.put);
+      upper_bound = omega (arith, o.upper_bound, m.upper_bound);
+    }

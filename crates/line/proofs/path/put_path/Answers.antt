@@ -29,8 +29,7 @@ put_part-to-requires c =
 pub loop-i-preserved : goal.loop-i-preserved
 loop-i-preserved c =
     let s = c.args in
-    let l = c.loop-i in
-    (
+    let l = c.loop-i in (
       omega arith,
       c.put_part-to.auto.out ∙ l.invariant.1,
       put_as (tail_next (written_of (snap_of s.words.now s.area.now s.l) s.edition) _ s.names.now l.i)
@@ -40,9 +39,12 @@ loop-i-preserved c =
 
 pub returns : goal.returns
 returns c = let l = c.loop-i in
-    let p = c.put_prefix-to.ensures in  record { put = put_as (path_done (written_of (snap_of c.args.words.now c.args.area.now c.args.l) c.args.edition)
+    let p = c.put_prefix-to.ensures in record {
+      put = put_as (path_done (written_of (snap_of c.args.words.now c.args.area.now c.args.l) c.args.edition)
           c.args.kind c.args.names.now l.i c.args.count l.invariant.0 c.loop-i-test.false c.requires.count_bound.1)
-          (put_two p.put l.invariant.2); upper_bound = omega (arith, l.invariant.0, l.invariant.3, p.upper_bound, c.requires.count_bound.0) }
+          (put_two p.put l.invariant.2);
+      upper_bound = omega (arith, l.invariant.0, l.invariant.3, p.upper_bound, c.requires.count_bound.0);
+    }
 
 pub put_prefix-to-requires : goal.put_prefix-to-requires
 put_prefix-to-requires c = omega arith

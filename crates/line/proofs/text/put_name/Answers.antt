@@ -5,8 +5,11 @@ use Rattle.printing.proofs.Laws.{put_as, put_two, put_none}
 use Rattle.line.proofs.text.put_name.Goals as goal
 
 pub returns-then-l-n : goal.returns-then-l-n
-returns-then-l-n c = record { put = put_as (no_name_lem c.args.words.now c.args.area.now c.args.l c.requires.0 c.args.n.0 c.args.edition c.if-l-n.true)
-          (put_none _ _); upper_bound = omega arith }
+returns-then-l-n c = record {
+  put = put_as (no_name_lem c.args.words.now c.args.area.now c.args.l c.requires.0 c.args.n.0 c.args.edition c.if-l-n.true)
+      (put_none _ _);
+  upper_bound = omega arith;
+}
 
 pub put_text-requires : goal.put_text-requires
 put_text-requires c =
@@ -30,9 +33,12 @@ returns-then-raw c = let k = c.name_len-bytes.ensures in
     let r = sym w ∙ c.if-raw.true in
     let b = raw_few c.args.words.now c.args.area.now c.args.l c.requires.0 c.args.n.0 c.args.edition r k.0 in
     let p = c.put-to.ensures in
-    let q = c.put_text.ensures in  record { put = put_as (written_raw c.args.words.now c.args.area.now c.args.l c.requires.0 c.args.n.0 c.args.edition r)
+    let q = c.put_text.ensures in record {
+      put = put_as (written_raw c.args.words.now c.args.area.now c.args.l c.requires.0 c.args.n.0 c.args.edition r)
           (put_two p (put_as (name_text_lem c.args.words.now c.args.area.now c.args.l c.requires.0 c.args.n.0 h _ _ t k.0)
-          q.put)); upper_bound = omega (arith, b, p.next, q.value) }
+          q.put));
+      upper_bound = omega (arith, b, p.next, q.value);
+    }
 
 pub put_text-requires-2 : goal.put_text-requires-2
 put_text-requires-2 c =
@@ -49,6 +55,9 @@ returns c = let k = c.name_len-bytes.ensures in
     let t = c.text_of-text.ensures in
     let w = raw_read c.args.words.now c.args.area.now c.args.l c.requires.0 c.args.n.0 c.args.edition h
     c.is_raw-raw.ensures c.name_head.ensures in
-    let q = c.put_text-2.ensures in  record { put = put_as (name_text_lem c.args.words.now c.args.area.now c.args.l c.requires.0 c.args.n.0 h _ _ t k.0
+    let q = c.put_text-2.ensures in record {
+      put = put_as (name_text_lem c.args.words.now c.args.area.now c.args.l c.requires.0 c.args.n.0 h _ _ t k.0
           ∙ written_plain c.args.words.now c.args.area.now c.args.l c.requires.0 c.args.n.0 c.args.edition
-          (sym w ∙ c.if-raw.false)) q.put; upper_bound = omega (arith, k.1, q.value) }
+          (sym w ∙ c.if-raw.false)) q.put;
+      upper_bound = omega (arith, k.1, q.value);
+    }

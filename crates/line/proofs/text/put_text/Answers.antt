@@ -31,7 +31,7 @@ pub returns : goal.returns
 returns c = let l = c.loop-i in
     let a = c.args in
     let e : l.i ≡ a.n = omega arith in
-     record { put = put_as (ap (λ n. take n (unpacked a.text.now)) e) l.invariant.2; value = omega arith }
+    record { put = put_as (ap (λ n. take n (unpacked a.text.now)) e) l.invariant.2; value = omega arith }
 
 pub text_byte-requires : goal.text_byte-requires
 text_byte-requires c = tt

@@ -8,24 +8,19 @@ use Rattle.local_levels.proofs.locations.push_children.Goals.{then-owner-from, e
 
 pub child_base-base-requires : goal.child_base-base-requires
 child_base-base-requires c =
-    
     few_words c.args.words.now c.args.area.now _ c.requires.0
 
 pub loop-k-init : goal.loop-k-init
 loop-k-init c =
-    
     pushing_skip _ _ _ _ _ (pushing_start c.args.area.now _ _ c.args.item _ c.requires.1)
     (children_start c.args.words.now c.args.area.now c.args.l c.args.from.0) refl refl
 
 pub overflow_mul-h : goal.overflow_mul-h
 overflow_mul-h c =
-    
     record { fits = omega (arith, c.loop-k-test.true, few_words c.args.words.now c.args.area.now c.args.l c.requires.0) }
 
 pub overflow_add-h : goal.overflow_add-h
 overflow_add-h c =
-    
-    
     record {
       fits = omega (
         arith,
@@ -38,10 +33,7 @@ overflow_add-h c =
 
 pub push_module-run-requires : goal.push_module-run-requires
 push_module-run-requires c =
-    
-    let l = c.loop-k in
-    
-    (
+    let l = c.loop-k in (
       l.invariant.ready,
       c.requires.2,
       child_below c.args.words.now c.args.area.now c.args.l c.requires.0 c.loop-k-test.true
@@ -50,8 +42,6 @@ push_module-run-requires c =
 
 pub overflow_add-k : goal.overflow_add-k
 overflow_add-k c =
-    
-    
     record { fits = omega (arith, c.loop-k-test.true, few_words c.args.words.now c.args.area.now c.args.l c.requires.0) }
 
 pub loop-k-smaller : goal.loop-k-smaller
@@ -59,11 +49,7 @@ loop-k-smaller c = omega (arith, c.loop-k-test.true)
 
 pub loop-k-preserved : goal.loop-k-preserved
 loop-k-preserved c =
-    
-    
     let l = c.loop-k in
-    
-    
     let W = c.args.words.now in
     elim c.if-owner-from.branch [
       | then-owner-from w ↦ pushing_skip _ _ _ _ _ (pushing_next _ _ _ _ _ l.invariant (child_hit W c.args.l c.args.from.0 l.k c.loop-k-test.true
@@ -76,7 +62,6 @@ loop-k-preserved c =
 pub returns : goal.returns
 returns c =
     let l = c.loop-k in
-    
     pushing_done _ _ _ _ _ l.invariant (child_end c.args.words.now c.args.l c.args.from.0 l.k (omega (arith, c.loop-k-test.false)))
 
 pub child_owner-owner-requires : goal.child_owner-owner-requires

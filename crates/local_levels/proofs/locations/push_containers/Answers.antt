@@ -8,13 +8,11 @@ use Rattle.local_levels.proofs.locations.push_containers.Goals as goal
 
 pub loop-c-init : goal.loop-c-init
 loop-c-init c =
-    
     (c.requires.1, pushing_start c.args.area.now _ _ c.args.item _ c.requires.2)
 
 pub containing_module-requires : goal.containing_module-requires
 containing_module-requires c =
-    let l = c.loop-c in
-    (
+    let l = c.loop-c in (
       reads_at c.args.words.now c.args.area.now l.area _ c.args.s.top c.requires.0 c.requires.2.tables
           l.invariant.1.below,
       l.invariant.0,
@@ -23,7 +21,6 @@ containing_module-requires c =
 pub returns-in_default : goal.returns-in_default
 returns-in_default c =
     let l = c.loop-c in
-    
     pushing_done _ _ _ _ _ l.invariant.1 (containers_end c.args.words.now c.args.area.now c.args.l c.requires.0
     l.m.0 l.invariant.0 (c.containing_module.ensures ∙ ap (λ x. containing x l.m.0)
     (snap_at c.args.words.now c.args.area.now l.area c.args.l c.args.s.top c.requires.0 c.requires.2.tables
@@ -31,9 +28,7 @@ returns-in_default c =
 
 pub push_module-run-requires : goal.push_module-run-requires
 push_module-run-requires c =
-    
-    let l = c.loop-c in
-    (
+    let l = c.loop-c in (
       l.invariant.1.ready,
       c.requires.3,
       omega (
@@ -49,9 +44,7 @@ push_module-run-requires c =
 
 pub loop-c-smaller : goal.loop-c-smaller
 loop-c-smaller c =
-    
     let l = c.loop-c in
-    
     containers_less c.args.words.now c.args.area.now c.args.l c.requires.0 l.m.0 l.invariant.0
     (c.containing_module.ensures ∙ ap (λ x. containing x l.m.0)
     (snap_at c.args.words.now c.args.area.now l.area c.args.l c.args.s.top c.requires.0 c.requires.2.tables
@@ -59,10 +52,7 @@ loop-c-smaller c =
 
 pub loop-c-preserved : goal.loop-c-preserved
 loop-c-preserved c =
-    
-    
     let l = c.loop-c in
-    
     let q = c.containing_module.ensures ∙ ap (λ x. containing x l.m.0)
     (snap_at c.args.words.now c.args.area.now l.area c.args.l c.args.s.top c.requires.0 c.requires.2.tables
     l.invariant.1.below) in (

@@ -15,18 +15,16 @@ use Rattle.local_levels.proofs.locations.push_next.Goals as goal
 use Rattle.local_levels.proofs.locations.push_next.Goals.{then-leads, else-leads}
 
 pub loop-j-init : goal.loop-j-init
-loop-j-init c =
-    (
-      pushing_skip _ _ _ _ _ (pushing_start c.args.area.now _ _ c.args.item _ c.requires.2)
-          (leads_start c.args.words.now c.args.area.now c.args.l c.args.from.0 c.args.m.0) refl refl,
-      omega arith,
-      λ h. absurd (omega arith),
-    )
+loop-j-init c = (
+  pushing_skip _ _ _ _ _ (pushing_start c.args.area.now _ _ c.args.item _ c.requires.2)
+      (leads_start c.args.words.now c.args.area.now c.args.l c.args.from.0 c.args.m.0) refl refl,
+  omega arith,
+  λ h. absurd (omega arith),
+)
 
 pub modules_from-e-requires : goal.modules_from-e-requires
 modules_from-e-requires c =
     let l = c.loop-j in
-    
     let W = c.args.words.now in
     let A = c.args.area.now in (
       accepted_sized W A c.args.l c.requires.0,
@@ -38,24 +36,17 @@ modules_from-e-requires c =
 
 pub returns-in_default : goal.returns-in_default
 returns-in_default c =
-    
-    
     let A = c.args.area.now in
     pushing_done _ _ _ _ _ c.loop-j.invariant.0 (leads_end c.args.words.now A c.args.l c.args.from.0
     c.args.m.0 (next_none (c.modules_from-e.ensures A) c.in_default.is))
 
 pub first_of-requires : goal.first_of-requires
 first_of-requires c =
-    
     few_words c.args.words.now c.args.area.now c.args.l c.requires.0
 
 pub leads-requires : goal.leads-requires
 leads-requires c =
-    
-    
-    
     let l = c.loop-j in
-    
     let W = c.args.words.now in
     let A = c.args.area.now in
     let x = next_record (c.modules_from-e.ensures A) c.in-Record.is in
@@ -69,11 +60,7 @@ leads-requires c =
 
 pub push_module-run-requires : goal.push_module-run-requires
 push_module-run-requires c =
-    
-    
-    
     let l = c.loop-j in
-    
     let W = c.args.words.now in
     let A = c.args.area.now in
     let x = next_record (c.modules_from-e.ensures A) c.in-Record.is in
@@ -90,10 +77,7 @@ push_module-run-requires c =
 
 pub overflow_add-k : goal.overflow_add-k
 overflow_add-k c =
-    
-    
     let l = c.loop-j in
-    
     let W = c.args.words.now in
     let A = c.args.area.now in
     let x = next_record (c.modules_from-e.ensures A) c.in-Record.is in
@@ -101,10 +85,7 @@ overflow_add-k c =
 
 pub loop-j-smaller : goal.loop-j-smaller
 loop-j-smaller c =
-    
-    
     let l = c.loop-j in
-    
     let W = c.args.words.now in
     let A = c.args.area.now in
     let x = next_record (c.modules_from-e.ensures A) c.in-Record.is in
@@ -112,12 +93,7 @@ loop-j-smaller c =
 
 pub loop-j-preserved : goal.loop-j-preserved
 loop-j-preserved c =
-    
-    
-    
-    
     let l = c.loop-j in
-    
     let W = c.args.words.now in
     let A = c.args.area.now in
     let x = next_record (c.modules_from-e.ensures A) c.in-Record.is in

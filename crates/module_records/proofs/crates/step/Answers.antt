@@ -4,8 +4,6 @@ use Rattle.module_records.proofs.crates.step.Goals as goal
 
 pub returns-then-n-ne0 : goal.returns-then-n-ne0
 returns-then-n-ne0 c ms st =
-    
-    
     crate_no c.args.words.now c.args.area.now c.args.at c.args.l ms st
     c.judge_crate-n.ensures
     c.in_range.ensures
@@ -15,8 +13,6 @@ returns-then-n-ne0 c ms st =
 
 pub returns : goal.returns
 returns c ms st =
-    
-    
     crate_on c.args.words.now c.args.area.now c.args.at c.args.l ms st
     c.judge_crate-n.ensures
     c.in_range.ensures

@@ -18,7 +18,6 @@ module_head-requires c = omega (
 
 pub returns : goal.returns
 returns c =
-    
     or_no (ne_eqb _ _ (λ e. c.if-block-eq0.false (c.map_block-block.ensures ∙ e)))
     (rw (
       c.map_crate-krate.ensures,

@@ -7,8 +7,6 @@ use Rattle.module_records.proofs.modules.step.Goals as goal
 
 pub returns-then-n-ne0 : goal.returns-then-n-ne0
 returns-then-n-ne0 c ms st =
-    
-    
     module_no_lem c.args.words.now c.args.area.now c.args.at c.args.l ms st
     c.judge-n.ensures
     c.defined.ensures
@@ -21,7 +19,6 @@ bounds-area-row-2 c = simp length-set (omega arith)
 
 pub overflow_cast-area-2 : goal.overflow_cast-area-2
 overflow_cast-area-2 c =
-    
     omega (
       arith,
       c.module_parent.ensures,
@@ -34,8 +31,6 @@ bounds-area-row-3 c = simp length-set (omega arith)
 
 pub returns : goal.returns
 returns c ms st =
-    
-    
     module_on c.args.words.now c.args.area.now c.args.at c.args.l ms st
     c.judge-n.ensures
     c.defined.ensures

@@ -10,7 +10,6 @@ use Rattle.module_tree.proofs.modules.containing_module.Goals as goal
 pub returns-in_default : goal.returns-in_default
 unfolding containing
 returns-in_default c =
-    
     let e = c.parent.ensures in
     c.block.ensures ∙ containing_block (parent_of (snap_of c.args.words.now c.args.area.now c.args.l) c.args.m.0) _
     (is_none _ e c.in_default.is)
@@ -18,7 +17,6 @@ returns-in_default c =
 pub returns : goal.returns
 unfolding containing
 returns c =
-    
     let e = c.parent.ensures in
     let p = c.in-Module.is in
     sym (ap plus_one p) ∙ e ∙ containing_parent (parent_of (snap_of c.args.words.now c.args.area.now c.args.l) c.args.m.0) _

@@ -5,12 +5,11 @@ use Rattle.module_tree.proofs.Reading.{crate_there}
 use Rattle.module_tree.proofs.modules.crate_root.Goals as goal
 
 pub own-requires : goal.own-requires
-own-requires c =
-    (
-      c.requires.0,
-      rw c.krate-c.ensures (crate_there c.args.words.now c.args.area.now c.args.l c.requires.0
-          c.args.m.0 c.requires.1),
-    )
+own-requires c = (
+  c.requires.0,
+  rw c.krate-c.ensures (crate_there c.args.words.now c.args.area.now c.args.l c.requires.0
+      c.args.m.0 c.requires.1),
+)
 
 pub root-requires : goal.root-requires
 root-requires c = (c.requires.0, c.own.ensures.1)
@@ -18,6 +17,5 @@ root-requires c = (c.requires.0, c.own.ensures.1)
 pub returns : goal.returns
 unfolding crate_root
 returns c =
-    
     let n = snap_of c.args.words.now c.args.area.now c.args.l in
     c.root.ensures ∙ ap (root_of n) (c.own.ensures.0 ∙ ap (own_map n) c.krate-c.ensures)

@@ -6,13 +6,11 @@ use Rattle.module_tree.proofs.modules.krate.Goals as goal
 
 pub module_head-requires : goal.module_head-requires
 module_head-requires c =
-    
     let h = c.requires.0.tables.limited.modules in
     let g = c.requires.1 in
     omega arith
 
 pub returns : goal.returns
 returns c =
-    
     c.map_crate.ensures ∙ ap (λ h. (map_at c.args.words.now h).crate) c.module_head.ensures
     ∙ crate_read c.args.words.now c.args.area.now c.args.l c.requires.0.tables c.args.m.0 c.requires.1

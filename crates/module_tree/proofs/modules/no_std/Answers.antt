@@ -7,14 +7,12 @@ use Rattle.module_tree.proofs.modules.no_std.Goals as goal
 
 pub module_head-requires : goal.module_head-requires
 module_head-requires c =
-    
     let h = c.requires.0.tables.limited.modules in
     let g = c.requires.1 in
     omega arith
 
 pub returns : goal.returns
 returns c =
-    
     ap (λ x. eqb x 1)
     (c.map_no_std.ensures ∙ ap (λ h. (map_at c.args.words.now h).no_std) c.module_head.ensures
     ∙ no_std_read c.args.words.now c.args.area.now c.args.l c.requires.0.tables c.args.m.0 c.requires.1)

@@ -18,7 +18,6 @@ block-requires c = (c.requires.0, c.loop-l.invariant.1)
 
 pub returns-in_default : goal.returns-in_default
 returns-in_default c =
-    
     let g = c.loop-l in
     let n = (snap_of c.args.words.now c.args.area.now c.args.l) in (
       climb_top n c.args.viewer
@@ -31,7 +30,6 @@ returns-in_default c =
 
 pub loop-l-smaller : goal.loop-l-smaller
 loop-l-smaller c =
-    
     let g = c.loop-l in
     let n = (snap_of c.args.words.now c.args.area.now c.args.l) in
     climb_less n c.args.viewer
@@ -42,7 +40,6 @@ loop-l-smaller c =
 
 pub loop-l-preserved : goal.loop-l-preserved
 loop-l-preserved c =
-    
     let g = c.loop-l in
     let n = (snap_of c.args.words.now c.args.area.now c.args.l) in
     let f = climb_falls n (accepted_tree c.args.words.now (snap_of c.args.words.now c.args.area.now c.args.l)
@@ -58,7 +55,6 @@ loop-l-preserved c =
 
 pub returns : goal.returns
 returns c =
-    
     let g = c.loop-l in
     let n = (snap_of c.args.words.now c.args.area.now c.args.l) in (
       climb_here n c.args.viewer

@@ -15,7 +15,6 @@ containing_module-requires c = (c.requires.0, c.loop-v.invariant.1)
 
 pub returns-in_default : goal.returns-in_default
 returns-in_default c =
-    
     let g = c.loop-v in
     let n = (snap_of c.args.words.now c.args.area.now c.args.l) in
     meets_end n (containing_falls n (accepted_tree c.args.words.now (snap_of c.args.words.now c.args.area.now c.args.l)
@@ -25,7 +24,6 @@ returns-in_default c =
 
 pub loop-v-smaller : goal.loop-v-smaller
 loop-v-smaller c =
-    
     let g = c.loop-v in
     let n = (snap_of c.args.words.now c.args.area.now c.args.l) in
     containing_falls n (accepted_tree c.args.words.now (snap_of c.args.words.now c.args.area.now c.args.l) c.requires.0.same)
@@ -34,7 +32,6 @@ loop-v-smaller c =
 
 pub loop-v-preserved : goal.loop-v-preserved
 loop-v-preserved c =
-    
     let g = c.loop-v in
     let n = (snap_of c.args.words.now c.args.area.now c.args.l) in
     let f = containing_falls n (accepted_tree c.args.words.now (snap_of c.args.words.now c.args.area.now c.args.l)
@@ -47,7 +44,6 @@ loop-v-preserved c =
 
 pub returns : goal.returns
 returns c =
-    
     let g = c.loop-v in
     let n = (snap_of c.args.words.now c.args.area.now c.args.l) in
     meets_here n (containing_falls n (accepted_tree c.args.words.now (snap_of c.args.words.now c.args.area.now c.args.l)

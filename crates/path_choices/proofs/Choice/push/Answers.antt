@@ -7,7 +7,6 @@ use Rattle.path_choices.proofs.Choice.push.Goals as goal
 pub returns : goal.returns
 unfolding push
 returns c =
-    
     let n = snap_of c.args.words.now c.args.area.now c.args.l in
     c.extended.ensures ∙ ap (λ b. extended n c.args.self c.args.n.0 c.args.via (c.args.self.has_prelude_segment || b))
     c.is_prelude-flag.ensures

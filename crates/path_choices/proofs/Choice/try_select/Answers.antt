@@ -6,19 +6,16 @@ use Rattle.path_choices.proofs.Choice.try_select.Goals as goal
 
 pub returns-then-not-self : goal.returns-then-not-self
 returns-then-not-self c =
-    
     c.push.ensures ∙ select_first (snap_of c.args.words.now c.args.area.now c.args.l) c.args.prefer
     c.args.self c.args.other c.args.n.0 c.args.via (not-true _ c.if-not-self.true)
 
 pub returns-then-better : goal.returns-then-better
 returns-then-better c =
-    
     c.extended.ensures ∙ select_new (snap_of c.args.words.now c.args.area.now c.args.l) c.args.prefer
     c.args.self c.args.other c.args.n.0 c.args.via (not-false _ c.if-not-self.false)
     (sym c.better.ensures ∙ c.if-better.true)
 
 pub returns : goal.returns
 returns c =
-    
     select_old (snap_of c.args.words.now c.args.area.now c.args.l) c.args.prefer c.args.self c.args.other
     c.args.n.0 c.args.via (not-false _ c.if-not-self.false) (sym c.better.ensures ∙ c.if-better.false)

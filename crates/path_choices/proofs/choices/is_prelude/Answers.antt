@@ -3,7 +3,6 @@ use Rattle.path_choices.proofs.choices.is_prelude.Goals as goal
 
 pub returns : goal.returns
 returns c =
-    
     rw (
       c.payload.ensures,
       c.field-third.ensures,

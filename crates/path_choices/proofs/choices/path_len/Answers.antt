@@ -9,7 +9,6 @@ returns-then-kind-ge5 c = (len_past c.args.c c.if-kind-ge5.true, omega arith)
 
 pub overflow_add-result : goal.overflow_add-result
 overflow_add-result c =
-    
     let h = kind_names c.args.c.kind in
     let g = c.requires in
     omega arith
@@ -17,6 +16,5 @@ overflow_add-result c =
 pub returns : goal.returns
 unfolding path_len
 returns c =
-    
     let h = kind_names c.args.c.kind in
     (refl, omega arith)

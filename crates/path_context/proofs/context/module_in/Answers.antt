@@ -4,7 +4,6 @@ use Rattle.path_context.proofs.context.module_in.Goals as goal
 
 pub overflow_add-result : goal.overflow_add-result
 overflow_add-result c =
-    
     omega (arith, c.requires, in_module_lem c.args.item _ c.in-Mod.is)
 
 pub returns-in-Mod : goal.returns-in-Mod

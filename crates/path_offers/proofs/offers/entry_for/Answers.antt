@@ -12,13 +12,11 @@ returns-then-x c = c.entry_by.ensures.0
 
 pub name_in-requires : goal.name_in-requires
 name_in-requires c =
-    
     (accepted_sized c.args.words.now c.args.area.now c.args.l c.requires.0, c.requires.2, c.requires.3)
 
 pub returns : goal.returns
 unfolding preferred
 returns c =
-    
     let n = snap_of c.args.words.now c.args.area.now c.args.l in
     let m = c.args.m.0 in
     let i = c.args.item in

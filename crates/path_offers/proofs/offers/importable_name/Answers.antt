@@ -10,27 +10,22 @@ use Rattle.path_offers.proofs.offers.importable_name.Goals as goal
 pub returns-in_default : goal.returns-in_default
 unfolding entry_if importable_name
 returns-in_default c =
-    
     let n = snap_of c.args.words.now c.args.area.now c.args.l in
     let W = c.args.words.now in
     (ap (entry_if n c.args.x) (sym (ap (entry_of scope_at W) c.in_default.is) ∙ c.entry_for-e.ensures), tt)
 
 pub is_importable-requires : goal.is_importable-requires
 is_importable-requires c =
-    
     let W = c.args.words.now in
     let A = c.args.area.now in
-    
     let o = sym (ap (entry_of scope_at W) c.in-At.is) ∙ c.entry_for-e.ensures in
     (c.requires.0, c.requires.1, (preferred_fits W A c.args.l c.requires.0 c.args.x.fresh c.args.m.0 c.in-At.h c.args.item _ o).inside)
 
 pub returns-then-is_importable : goal.returns-then-is_importable
 unfolding importable_name
 returns-then-is_importable c =
-    
     let n = snap_of c.args.words.now c.args.area.now c.args.l in
     let W = c.args.words.now in
-    
     let o = sym (ap (entry_of scope_at W) c.in-At.is) ∙ c.entry_for-e.ensures in
     let e = entry_taken n c.args.x (scope_at W c.in-At.h) c.is_importable.ensures c.if-is_importable.true in (
       e ∙ ap (entry_if n c.args.x) o,
@@ -41,10 +36,8 @@ returns-then-is_importable c =
 pub returns : goal.returns
 unfolding importable_name
 returns c =
-    
     let n = snap_of c.args.words.now c.args.area.now c.args.l in
     let W = c.args.words.now in
-    
     let o = sym (ap (entry_of scope_at W) c.in-At.is) ∙ c.entry_for-e.ensures in
     let e = entry_left n c.args.x (scope_at W c.in-At.h) c.is_importable.ensures c.if-is_importable.false in
     (e ∙ ap (entry_if n c.args.x) o, tt)

@@ -11,12 +11,10 @@ step_by-via-requires c = (omega arith, c.requires.1.place)
 
 pub offer-requires : goal.offer-requires
 offer-requires c =
-    
     (c.requires.0, rw c.import_name-n.ensures c.requires.1.name, c.requires.2, c.requires.3, c.requires.4, c.requires.5)
 
 pub returns-then-not-is_unstable : goal.returns-then-not-is_unstable
 returns-then-not-is_unstable c =
-    
     let n = snap_of c.args.words.now c.args.area.now c.args.l in
     let i = import_at c.args.words.now c.args.h in
     c.offer.ensures ∙ import_stable n c.args.x c.args.best c.args.c i c.import_name-n.ensures
@@ -24,7 +22,6 @@ returns-then-not-is_unstable c =
 
 pub returns-then-not-x : goal.returns-then-not-x
 returns-then-not-x c =
-    
     let n = snap_of c.args.words.now c.args.area.now c.args.l in
     let i = import_at c.args.words.now c.args.h in
     import_barred n c.args.x c.args.best c.args.c i c.import_name-n.ensures
@@ -33,13 +30,11 @@ returns-then-not-x c =
 
 pub offer-requires-2 : goal.offer-requires-2
 offer-requires-2 c =
-    
     let u = unstably_fits c.args.c c.unstably.ensures c.requires.3 c.requires.4 c.requires.5 in
     (c.requires.0, rw c.import_name-n.ensures c.requires.1.name, c.requires.2, u.0, u.1, u.2)
 
 pub returns : goal.returns
 returns c =
-    
     let n = snap_of c.args.words.now c.args.area.now c.args.l in
     let i = import_at c.args.words.now c.args.h in
     c.offer-2.ensures ∙ import_unstable n c.args.x c.args.best c.args.c i

@@ -9,7 +9,6 @@ use Rattle.path_rules.proofs.rules.find_in_prelude.Goals as goal
 
 pub returns-in_default : goal.returns-in_default
 returns-in_default c =
-    
     let n = snap_of c.args.words.now c.args.area.now c.args.l in
     let e = sym (ap (entry_of prelude_at c.args.words.now) c.in_default.is) ∙ c.prelude_of-p.ensures
     c.args.area.now in
@@ -17,7 +16,6 @@ returns-in_default c =
 
 pub prelude_entry-requires : goal.prelude_entry-requires
 prelude_entry-requires c =
-    
     let W = c.args.words.now in
     let A = c.args.area.now in (
       c.requires.0,
@@ -29,11 +27,9 @@ prelude_entry-requires c =
 pub returns : goal.returns
 unfolding test_of
 returns c =
-    
     let n = snap_of c.args.words.now c.args.area.now c.args.l in
     let W = c.args.words.now in
     let A = c.args.area.now in
-    
     let e = sym (ap (entry_of prelude_at W) c.in-At.is) ∙ c.prelude_of-p.ensures A in
     let k = prelude_some n c.args.x c.args.item (prelude_at W c.in-At.h)
     c.map.ensures e c.prelude_target.ensures

@@ -5,6 +5,5 @@ use Rattle.path_rules.proofs.rules.find_in_scope.Goals as goal
 pub returns : goal.returns
 unfolding find_in_scope
 returns c =
-    
     let e = c.scope_entry.ensures in
     (e, scope_below c.args.words.now c.args.area.now c.args.l c.requires.0 c.args.x c.args.item c.scope_entry.result e)

@@ -7,7 +7,6 @@ use Rattle.path_rules.proofs.rules.is_kw_kind_relative_to_from.Goals as goal
 pub returns-then-there-here : goal.returns-then-there-here
 unfolding keyword_kind
 returns-then-there-here c =
-    
     let n = snap_of c.args.words.now c.args.area.now c.args.l in
     kw_none n c.args.x c.args.m.0 c.krate-there.ensures
     c.krate-here.ensures c.in_block.ensures
@@ -16,7 +15,6 @@ returns-then-there-here c =
 pub returns-then-m-x : goal.returns-then-m-x
 unfolding keyword_kind
 returns-then-m-x c =
-    
     let n = snap_of c.args.words.now c.args.area.now c.args.l in
     kw_self n c.args.x c.args.m.0 c.krate-there.ensures
     c.krate-here.ensures
@@ -26,7 +24,6 @@ returns-then-m-x c =
 pub returns : goal.returns
 unfolding keyword_kind
 returns c =
-    
     let n = snap_of c.args.words.now c.args.area.now c.args.l in
     c.parent_kind.ensures ∙ kw_parent n c.args.x c.args.m.0
     c.krate-there.ensures

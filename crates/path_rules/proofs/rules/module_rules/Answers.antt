@@ -24,7 +24,6 @@ returns-then-third c =
 pub returns : goal.returns
 unfolding prelude_rule module_rules
 returns c =
-    
     let n = snap_of c.args.words.now c.args.area.now c.args.l in
     c.prelude_rule.ensures ∙ single_last n c.args.x 0 2 (find_in_prelude n c.args.x (module_item c.args.m.0))
     ∙ first_miss _ c.keyword_rule-third.ensures c.if-third.false

@@ -9,29 +9,23 @@ use Rattle.path_rules.proofs.rules.prelude_entry.Goals as goal
 pub returns-in_default : goal.returns-in_default
 unfolding prelude_entry
 returns-in_default c =
-    
     let n = snap_of c.args.words.now c.args.area.now c.args.l in
     (sym (ap (λ e. prelude_entry n c.args.x c.args.item (entry_of scope_at c.args.words.now e)) c.in_default.is), tt)
 
 pub is_usable-requires : goal.is_usable-requires
 is_usable-requires c =
-    
     (c.requires.0, c.requires.1, (c.requires.2 _ c.in-At.is).inside)
 
 pub returns-then-is_usable : goal.returns-then-is_usable
 returns-then-is_usable c =
-    
     let n = snap_of c.args.words.now c.args.area.now c.args.l in
     let W = c.args.words.now in
-    
     let e = entry_taken n c.args.x c.args.item (scope_at W c.in-At.h) c.is_usable.ensures c.if-is_usable.true in
     (e ∙ sym (ap (λ e. prelude_entry n c.args.x c.args.item (entry_of scope_at W e)) c.in-At.is), c.requires.2 _ c.in-At.is)
 
 pub returns : goal.returns
 returns c =
-    
     let n = snap_of c.args.words.now c.args.area.now c.args.l in
     let W = c.args.words.now in
-    
     let e = entry_left n c.args.x c.args.item (scope_at W c.in-At.h) c.is_usable.ensures c.if-is_usable.false in
     (e ∙ sym (ap (λ e. prelude_entry n c.args.x c.args.item (entry_of scope_at W e)) c.in-At.is), tt)

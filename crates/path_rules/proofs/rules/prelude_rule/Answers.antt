@@ -6,6 +6,5 @@ use Rattle.path_rules.proofs.rules.prelude_rule.Goals as goal
 pub returns : goal.returns
 unfolding prelude_rule
 returns c =
-    
     let n = snap_of c.args.words.now c.args.area.now c.args.l in
     c.single.ensures c.args.x ∙ ap (single n c.args.x 0 2) c.find_in_prelude-e.ensures.0

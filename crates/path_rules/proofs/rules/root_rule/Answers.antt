@@ -8,14 +8,12 @@ use Rattle.path_rules.proofs.rules.root_rule.Goals as goal
 
 pub returns-then-top-m : goal.returns-then-top-m
 returns-then-top-m c =
-    
     let n = snap_of c.args.words.now c.args.area.now c.args.l in
     c.nothing.ensures ∙ root_other n c.args.x c.args.maybe_extern c.args.m.0 c.crate_root-top.ensures
     c.if-top-m.true
 
 pub returns-then-maybe_extern-m : goal.returns-then-maybe_extern-m
 returns-then-maybe_extern-m c =
-    
     let n = snap_of c.args.words.now c.args.area.now c.args.l in
     c.keyword.ensures ∙ root_crate n c.args.x c.args.maybe_extern c.args.m.0
     c.crate_root-top.ensures c.if-top-m.false
@@ -23,7 +21,6 @@ returns-then-maybe_extern-m c =
 
 pub extern_rule-requires : goal.extern_rule-requires
 extern_rule-requires c =
-    
     let W = c.args.words.now in
     let A = c.args.area.now in (
       c.requires.0,
@@ -34,7 +31,6 @@ extern_rule-requires c =
 
 pub returns : goal.returns
 returns c =
-    
     let n = snap_of c.args.words.now c.args.area.now c.args.l in
     c.extern_rule.ensures
     ∙ root_extern n c.args.x c.args.maybe_extern c.args.m.0

@@ -18,12 +18,10 @@ returns-in_default c =
 
 pub step_by-via-requires : goal.step_by-via-requires
 step_by-via-requires c =
-    
     (c.requires.1, (subst (EntryFits c.args.words.now c.args.l) c.in-At.is c.requires.2).place)
 
 pub new-requires : goal.new-requires
 new-requires c =
-    
     let f = subst (EntryFits c.args.words.now c.args.l) c.in-At.is c.requires.2 in
     (c.requires.0, rw c.scope_name.ensures f.name)
 

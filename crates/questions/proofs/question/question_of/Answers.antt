@@ -2,11 +2,6 @@ use Rattle.questions.proofs.question.question_of.Goals as goal
 
 pub returns : goal.returns
 returns c =
-    
-    
-    
-    
-    
     λ i. record {
       query =
           record {

@@ -38,8 +38,11 @@ overflow_add-base c =
 
 pub report_for-r-requires : goal.report_for-r-requires
 report_for-r-requires c = let W = c.args.words.now in
-    let r = same_reads W c.args.area.now c.loop-k.area c.args.l c.loop-k.invariant.tables c.requires.0 in  record { reads = (r, c.loop-k.invariant.size ∙ c.requires.1, c.requires.2, c.requires.3, c.requires.4, c.requires.5); h_bound = entry_fits W c.loop-k.area c.args.l r
-          c.loop-k.k _ c.loop-k-test.true c.scope_base-base.ensures }
+    let r = same_reads W c.args.area.now c.loop-k.area c.args.l c.loop-k.invariant.tables c.requires.0 in record {
+      reads = (r, c.loop-k.invariant.size ∙ c.requires.1, c.requires.2, c.requires.3, c.requires.4, c.requires.5);
+      h_bound = entry_fits W c.loop-k.area c.args.l r
+          c.loop-k.k _ c.loop-k-test.true c.scope_base-base.ensures;
+    }
 
 pub tally-reach-requires : goal.tally-reach-requires
 tally-reach-requires c =
@@ -62,19 +65,22 @@ loop-k-preserved c =
     let r = same_reads W A₀ c.loop-k.area c.args.l c.loop-k.invariant.tables c.requires.0 in
     elim c.if-not-is_met.branch [
       | then-not-is_met w ↦
-        subst (λ x. Reaching W A₀ c.args.l c.args.v x c.if-not-is_met.reach (c.loop-k.k + 1)) (sym w.area-is)
-        (reaching_new W A₀ c.args.l c.args.v c.loop-k.area c.loop-k.reach c.loop-k.k c.loop-k.invariant c.loop-k-test.true
-        (sym w.if-not-is_met.true ∙ c.is_met.ensures A₀) (record { some = c.requires.4; most = c.requires.5 }) c.requires.0 _ _
-        w.report_for-r.ensures.area_unchanged w.report_for-r.auto.area
-        (report_entry W c.loop-k.area c.args.l r c.loop-k.k _ c.loop-k-test.true c.scope_base-base.ensures c.args.v _
-        w.report_for-r.ensures.value) _ (w.reach-is ∙ w.tally.ensures))
+          subst (λ x. Reaching W A₀ c.args.l c.args.v x c.if-not-is_met.reach (c.loop-k.k + 1)) (sym w.area-is)
+          (reaching_new W A₀ c.args.l c.args.v c.loop-k.area c.loop-k.reach c.loop-k.k c.loop-k.invariant c.loop-k-test.true
+          (sym w.if-not-is_met.true ∙ c.is_met.ensures A₀) (record { some = c.requires.4; most = c.requires.5 }) c.requires.0 _ _
+          w.report_for-r.ensures.area_unchanged w.report_for-r.auto.area
+          (report_entry W c.loop-k.area c.args.l r c.loop-k.k _ c.loop-k-test.true c.scope_base-base.ensures c.args.v _
+          w.report_for-r.ensures.value) _ (w.reach-is ∙ w.tally.ensures))
       | else-not-is_met w ↦
-        subst (λ x. Reaching W A₀ c.args.l c.args.v x c.if-not-is_met.reach (c.loop-k.k + 1)) (sym w.area-is)
-        (subst (λ x. Reaching W A₀ c.args.l c.args.v c.loop-k.area x (c.loop-k.k + 1)) (sym w.reach-is)
-        (reaching_met W A₀ c.args.l c.args.v c.loop-k.area c.loop-k.reach c.loop-k.k c.loop-k.invariant c.loop-k-test.true
-        (sym w.if-not-is_met.false ∙ c.is_met.ensures A₀)))
+          subst (λ x. Reaching W A₀ c.args.l c.args.v x c.if-not-is_met.reach (c.loop-k.k + 1)) (sym w.area-is)
+          (subst (λ x. Reaching W A₀ c.args.l c.args.v c.loop-k.area x (c.loop-k.k + 1)) (sym w.reach-is)
+          (reaching_met W A₀ c.args.l c.args.v c.loop-k.area c.loop-k.reach c.loop-k.k c.loop-k.invariant c.loop-k-test.true
+          (sym w.if-not-is_met.false ∙ c.is_met.ensures A₀)))
     ]
 
 pub returns : goal.returns
-returns c = record { number_value = reaching_done c.args.words.now c.args.area.now c.args.l c.args.v c.loop-k.area c.loop-k.reach
-          c.loop-k.k c.loop-k.invariant c.loop-k-test.false; area_unchanged = c.loop-k.invariant.tables }
+returns c = record {
+  number_value = reaching_done c.args.words.now c.args.area.now c.args.l c.args.v c.loop-k.area c.loop-k.reach
+      c.loop-k.k c.loop-k.invariant c.loop-k-test.false;
+  area_unchanged = c.loop-k.invariant.tables;
+}

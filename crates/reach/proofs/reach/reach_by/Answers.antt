@@ -3,14 +3,13 @@ use Rattle.reach.proofs.Laws.{by_refusal, by_answer}
 use Rattle.reach.proofs.reach.reach_by.Goals as goal
 
 pub reach_from-requires : goal.reach_from-requires
-reach_from-requires c =
-    (
-      reads_of c.args.words.now c.args.area.now c.args.c c.requires.0 _ c.in-Accepted.is,
-      c.requires.1,
-      c.requires.2,
-      c.requires.3,
-      c.requires.4,
-    )
+reach_from-requires c = (
+  reads_of c.args.words.now c.args.area.now c.args.c c.requires.0 _ c.in-Accepted.is,
+  c.requires.1,
+  c.requires.2,
+  c.requires.3,
+  c.requires.4,
+)
 
 pub returns-in-Refused : goal.returns-in-Refused
 returns-in-Refused c =

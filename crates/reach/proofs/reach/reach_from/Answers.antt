@@ -8,7 +8,7 @@ pub returns-then-l-v : goal.returns-then-l-v
 returns-then-l-v c = let s = c.args in
     let W = s.words.now in
     let A = s.area.now in
-     record { value = unknown_module s.v _ (snap_of W A s.l) _ (modules_count W A s.l) c.if-l-v.true c.refused.ensures; area_unchanged = refl }
+    record { value = unknown_module s.v _ (snap_of W A s.l) _ (modules_count W A s.l) c.if-l-v.true c.refused.ensures; area_unchanged = refl }
 
 pub reach_in-requires : goal.reach_in-requires
 reach_in-requires c =
@@ -17,5 +17,8 @@ reach_in-requires c =
 pub returns : goal.returns
 returns c = let s = c.args in
     let W = s.words.now in
-    let A = s.area.now in  record { value = known_module s.v _ (snap_of W A s.l) _ (modules_count W A s.l) c.if-l-v.false c.reach_in.ensures.number_value.0
-          c.reach_in.ensures.number_value.1; area_unchanged = c.reach_in.ensures.area_unchanged }
+    let A = s.area.now in record {
+      value = known_module s.v _ (snap_of W A s.l) _ (modules_count W A s.l) c.if-l-v.false c.reach_in.ensures.number_value.0
+          c.reach_in.ensures.number_value.1;
+      area_unchanged = c.reach_in.ensures.area_unchanged;
+    }

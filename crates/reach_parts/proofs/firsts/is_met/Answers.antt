@@ -41,9 +41,7 @@ overflow_add-base-in-loop-j c = record {
 pub returns-then-same_item : goal.returns-then-same_item
 returns-then-same_item c =
     λ A.
-    
     let w = c.loop-j in
-    
     any_hit _ _ _ _ _ (w.invariant A) c.loop-j-test.true
     (met_test c.args.words.now A c.args.l w.j c.args.k c.scope_base-base.ensures c.same_item.ensures
     (c.item_in.ensures A) (c.item_in-item.ensures A) ∙ c.if-same_item.true)
@@ -64,9 +62,7 @@ loop-j-smaller c = omega (arith, c.loop-j-test.true)
 pub loop-j-preserved : goal.loop-j-preserved
 loop-j-preserved c =
     λ A.
-    
     let w = c.loop-j in
-    
     any_miss _ _ _ _ _ (w.invariant A) c.loop-j-test.true
     (met_test c.args.words.now A c.args.l w.j c.args.k c.scope_base-base.ensures c.same_item.ensures
     (c.item_in.ensures A) (c.item_in-item.ensures A) ∙ c.if-same_item.false)

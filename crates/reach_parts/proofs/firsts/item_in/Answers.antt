@@ -6,6 +6,5 @@ use Rattle.reach_parts.proofs.firsts.item_in.Goals as goal
 pub returns : goal.returns
 returns c =
     λ A.
-    
     c.item_of.ensures A ∙ ap₂ (item_of (snap_of c.args.words.now A c.args.l)) c.scope_ns.ensures
     c.scope_definition.ensures

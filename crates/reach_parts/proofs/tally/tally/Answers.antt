@@ -4,7 +4,7 @@ use Rattle.reach_parts.proofs.Laws.{column_small, names_small, last_fits, tallie
 use Rattle.reach_parts.proofs.tally.tally.Goals as goal
 
 pub offset_bounds-counts-at : goal.offset_bounds-counts-at
-offset_bounds-counts-at c = 
+offset_bounds-counts-at c =
     record { fits = omega (arith, column_small c.args.r c.requires.0 c.requires.1, c.column-at.ensures) }
 
 pub bounds-counts-at : goal.bounds-counts-at
@@ -26,7 +26,6 @@ bounds-counts-at-2 c = omega (
 
 pub overflow_add-counts-2 : goal.overflow_add-counts-2
 overflow_add-counts-2 c =
-    
     let p : c.column-at.result < 20 = omega (
       arith,
       column_small c.args.r c.requires.0 c.requires.1,
@@ -43,5 +42,4 @@ overflow_add-counts-2 c =
 
 pub returns : goal.returns
 returns c =
-    
     tallied_by c.args.reach c.args.r c.column-at.ensures c.names_found-names.ensures

@@ -18,7 +18,6 @@ get-e-requires c = few_words c.args.words.now c.args.area.now c.args.l c.require
 
 pub returns-in-At : goal.returns-in-At
 returns-in-At c =
-    
     let g = c.loop-h in
     let n = snap_of c.args.words.now c.args.area.now c.args.l in
     from_here n (outward_falls n (accepted_tree c.args.words.now n c.requires.0.same)) g.m.0
@@ -31,7 +30,6 @@ outward-requires c = (c.requires.0, c.loop-h.invariant.1)
 
 pub returns-in_default-outward : goal.returns-in_default-outward
 returns-in_default-outward c =
-    
     let g = c.loop-h in
     let n = snap_of c.args.words.now c.args.area.now c.args.l in
     from_end n (outward_falls n (accepted_tree c.args.words.now n c.requires.0.same)) g.m.0
@@ -42,7 +40,6 @@ returns-in_default-outward c =
 
 pub loop-h-smaller : goal.loop-h-smaller
 loop-h-smaller c =
-    
     let g = c.loop-h in
     let n = snap_of c.args.words.now c.args.area.now c.args.l in
     outward_falls n (accepted_tree c.args.words.now n c.requires.0.same) g.m.0 _
@@ -51,7 +48,6 @@ loop-h-smaller c =
 
 pub loop-h-preserved : goal.loop-h-preserved
 loop-h-preserved c =
-    
     let g = c.loop-h in
     let n = snap_of c.args.words.now c.args.area.now c.args.l in
     let f = outward_falls n (accepted_tree c.args.words.now n c.requires.0.same) in

@@ -29,7 +29,6 @@ overflow_add-h c = record {
 pub returns-then-is_extern_named : goal.returns-then-is_extern_named
 returns-then-is_extern_named c =
     λ A.
-    
     let w = c.loop-k in
     first_hit _ _ _ _ _ (w.invariant A) c.loop-k-test.true (ap (λ b. extern_at c.args.words.now (b + extern_size * w.k))
     c.extern_base-base.ensures) c.is_extern_named.ensures c.if-is_extern_named.true
@@ -43,7 +42,6 @@ loop-k-smaller c = omega (arith, c.loop-k-test.true)
 pub loop-k-preserved : goal.loop-k-preserved
 loop-k-preserved c =
     λ A.
-    
     let w = c.loop-k in
     first_miss _ _ _ _ _ (w.invariant A) c.loop-k-test.true (ap (λ b. extern_at c.args.words.now (b + extern_size * w.k))
     c.extern_base-base.ensures) c.is_extern_named.ensures c.if-is_extern_named.false

@@ -8,17 +8,15 @@ use Rattle.read_back.proofs.Cases.{first_entry, first_extern, first_prelude}
 use Rattle.read_back.proofs.names.first_name.Goals as goal
 
 pub meaning-requires : goal.meaning-requires
-meaning-requires c =
-    (
-      c.requires.0,
-      c.requires.1,
-      (from_fits c.args.words.now c.args.area.now c.args.l c.requires.0 _ _ _ _
-          (sym (ap (entry_of scope_at c.args.words.now) c.in-At.is) ∙ c.entry_from.ensures)).inside,
-    )
+meaning-requires c = (
+  c.requires.0,
+  c.requires.1,
+  (from_fits c.args.words.now c.args.area.now c.args.l c.requires.0 _ _ _ _
+      (sym (ap (entry_of scope_at c.args.words.now) c.in-At.is) ∙ c.entry_from.ensures)).inside,
+)
 
 pub returns-in-At : goal.returns-in-At
 returns-in-At c =
-    
     first_entry (snap_of c.args.words.now c.args.area.now c.args.l) c.args.from.0 c.args.ns c.args.name.0
     (sym c.entry_from.ensures ∙ ap (entry_of scope_at c.args.words.now)
     c.in-At.is) c.meaning.ensures
@@ -26,7 +24,6 @@ returns-in-At c =
 pub returns-in_default-in_externs : goal.returns-in_default-in_externs
 unfolding meant
 returns-in_default-in_externs c =
-    
     first_prelude (snap_of c.args.words.now c.args.area.now c.args.l) c.args.from.0 c.args.ns c.args.name.0
     (sym c.entry_from.ensures ∙ ap (entry_of scope_at c.args.words.now)
     c.in_default.is) (sym c.in_externs.ensures
@@ -35,7 +32,6 @@ returns-in_default-in_externs c =
 pub returns : goal.returns
 unfolding meant
 returns c =
-    
     first_extern (snap_of c.args.words.now c.args.area.now c.args.l) c.args.from.0 c.args.ns c.args.name.0
     (sym c.entry_from.ensures ∙ ap (entry_of scope_at c.args.words.now)
     c.in_default.is) (sym c.in_externs.ensures

@@ -11,7 +11,6 @@ pub returns-in_default : goal.returns-in_default
 unfolding meant
 returns-in_default c =
     λ A.
-    
     variant_none (snap_of c.args.words.now A c.args.l) c.args.ns (sym (c.variant_named.ensures A)
     ∙ ap (entry_of member_at c.args.words.now) c.in_default.is)
 
@@ -19,7 +18,6 @@ pub returns-then-ns-lt-MACROS : goal.returns-then-ns-lt-MACROS
 unfolding meant
 returns-then-ns-lt-MACROS c =
     λ A.
-    
     variant_some (snap_of c.args.words.now A c.args.l) c.args.ns
     (sym (c.variant_named.ensures A)
     ∙ ap (entry_of member_at c.args.words.now) c.in-At.is) c.if-ns-lt-MACROS.true
@@ -29,6 +27,5 @@ pub returns : goal.returns
 unfolding meant
 returns c =
     λ A.
-    
     variant_macro (snap_of c.args.words.now A c.args.l) c.args.ns (sym (c.variant_named.ensures A)
     ∙ ap (entry_of member_at c.args.words.now) c.in-At.is) c.if-ns-lt-MACROS.false

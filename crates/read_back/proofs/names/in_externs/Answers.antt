@@ -18,16 +18,12 @@ extern_named-requires c = few_words c.args.words.now c.args.area.now
 pub returns-in_default : goal.returns-in_default
 unfolding meant
 returns-in_default c =
-    
-    
     externs_none (snap_of c.args.words.now c.args.area.now c.args.l) c.args.from.0 c.args.ns c.args.name.0
     c.if-ns-ne-TYPES.false c.krate.ensures (sym (c.extern_named.ensures c.args.area.now)
     ∙ ap (entry_of extern_at c.args.words.now) c.in_default.is)
 
 pub returns : goal.returns
 returns c =
-    
-    
     externs_some (snap_of c.args.words.now c.args.area.now c.args.l) c.args.from.0 c.args.ns c.args.name.0
     c.if-ns-ne-TYPES.false c.krate.ensures (sym (c.extern_named.ensures c.args.area.now)
     ∙ ap (entry_of extern_at c.args.words.now) c.in-At.is) c.extern_target.ensures

@@ -13,16 +13,12 @@ prelude_of-requires c = few_words c.args.words.now c.args.area.now c.args.l c.re
 pub returns-in_default : goal.returns-in_default
 unfolding meant
 returns-in_default c =
-    
-    
     prelude_none (snap_of c.args.words.now c.args.area.now c.args.l) c.args.from.0 c.args.ns c.args.name.0
     c.map.ensures (sym (c.prelude_of.ensures c.args.area.now) ∙ ap (entry_of prelude_at c.args.words.now)
     c.in_default.is)
 
 pub returns : goal.returns
 returns c =
-    
-    
     prelude_some (snap_of c.args.words.now c.args.area.now c.args.l) c.args.from.0 c.args.ns c.args.name.0
     c.map.ensures (sym (c.prelude_of.ensures c.args.area.now) ∙ ap (entry_of prelude_at c.args.words.now)
     c.in-At.is) c.prelude_target.ensures c.in_scope.ensures

@@ -14,25 +14,19 @@ get-requires c = few_words c.args.words.now c.args.area.now c.args.l c.requires.
 pub returns-in_default : goal.returns-in_default
 unfolding meant
 returns-in_default c =
-    
-    
     entry_none (snap_of c.args.words.now c.args.area.now c.args.l) c.args.from.0 none
     (sym (c.get.ensures c.args.area.now) ∙ ap (entry_of scope_at c.args.words.now) c.in_default.is)
 
 pub meaning-requires : goal.meaning-requires
-meaning-requires c =
-    
-    (
-      c.requires.0,
-      c.requires.1,
-      (get_fits c.args.words.now c.args.area.now c.args.l c.requires.0 _ _ _ _
-          (sym (sym (c.get.ensures c.args.area.now) ∙ ap (entry_of scope_at c.args.words.now) c.in-At.is))).inside,
-    )
+meaning-requires c = (
+  c.requires.0,
+  c.requires.1,
+  (get_fits c.args.words.now c.args.area.now c.args.l c.requires.0 _ _ _ _
+      (sym (sym (c.get.ensures c.args.area.now) ∙ ap (entry_of scope_at c.args.words.now) c.in-At.is))).inside,
+)
 
 pub returns : goal.returns
 returns c =
-    
-    
     entry_some (snap_of c.args.words.now c.args.area.now c.args.l) c.args.from.0 none
     (sym (c.get.ensures c.args.area.now) ∙ ap (entry_of scope_at c.args.words.now) c.in-At.is)
     c.meaning.ensures

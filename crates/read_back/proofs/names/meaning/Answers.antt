@@ -9,15 +9,12 @@ use Rattle.read_back.proofs.names.meaning.Goals as goal
 
 pub is_visible_from-requires : goal.is_visible_from-requires
 is_visible_from-requires c =
-    
     (c.requires.0, c.requires.1, rw (c.scope_visibility-kind.ensures, c.scope_number-number.ensures) c.requires.2)
 
 pub returns-then-is_visible_from : goal.returns-then-is_visible_from
 unfolding meant
 returns-then-is_visible_from c =
-    
     let n = snap_of c.args.words.now c.args.area.now c.args.l in
-    
     meaning_seen n c.args.from.0 (scope_at c.args.words.now c.args.h) (c.is_visible_from.ensures
     ∙ ap₂ (λ k m. is_visible_from n k m c.args.from.0) c.scope_visibility-kind.ensures c.scope_number-number.ensures)
     c.if-is_visible_from.true (c.item_of.ensures c.args.area.now
@@ -26,9 +23,7 @@ returns-then-is_visible_from c =
 pub returns : goal.returns
 unfolding meant
 returns c =
-    
     let n = snap_of c.args.words.now c.args.area.now c.args.l in
-    
     meaning_hidden n c.args.from.0 (scope_at c.args.words.now c.args.h) (c.is_visible_from.ensures
     ∙ ap₂ (λ k m. is_visible_from n k m c.args.from.0) c.scope_visibility-kind.ensures c.scope_number-number.ensures)
     c.if-is_visible_from.false

@@ -15,7 +15,6 @@ next_name-here-requires c = (c.requires.0, c.requires.1)
 
 pub loop-k-preserved : goal.loop-k-preserved
 loop-k-preserved c =
-    
     let g = c.loop-k in
     follow_next (snap_of c.args.words.now c.args.area.now c.args.l) c.args.from.0 c.args.ns
     (λ i. get_or c.args.names.now i 0) _ g.k c.args.count (meant g.here) _ _ g.invariant
@@ -24,7 +23,6 @@ loop-k-preserved c =
 
 pub returns : goal.returns
 returns c =
-    
     let g = c.loop-k in
     follow_done (snap_of c.args.words.now c.args.area.now c.args.l) c.args.from.0 c.args.ns
     (λ i. get_or c.args.names.now i 0) _ g.k c.args.count (meant g.here) g.invariant c.loop-k-test.false

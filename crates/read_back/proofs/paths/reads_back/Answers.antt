@@ -8,7 +8,6 @@ use Rattle.read_back.proofs.paths.reads_back.Goals as goal
 pub returns-in_default : goal.returns-in_default
 unfolding meant
 returns-in_default c =
-    
     back_none (snap_of c.args.words.now c.args.area.now c.args.l) c.args.from.0 c.args.item c.args.kind
     (take c.args.count c.args.names.now) c.ns_of.ensures
     (sym c.reads_to.ensures ∙ ap meant c.in_default.is)
@@ -16,7 +15,6 @@ returns-in_default c =
 pub returns : goal.returns
 unfolding meant
 returns c =
-    
     back_some (snap_of c.args.words.now c.args.area.now c.args.l) c.args.from.0 c.args.item c.args.kind
     (take c.args.count c.args.names.now) c.ns_of.ensures
     (sym c.reads_to.ensures ∙ ap meant c.in-Means.is) c.same_item.ensures

@@ -10,7 +10,6 @@ use Rattle.read_back.proofs.paths.reads_to.Goals as goal
 
 pub returns-then-kind-eq-SELF : goal.returns-then-kind-eq-SELF
 returns-then-kind-eq-SELF c =
-    
     let n = snap_of c.args.words.now c.args.area.now c.args.l in
     reads_self n c.args.from.0 c.args.ns c.args.kind c.args.names.now c.args.count c.requires.2 _
     c.follow.ensures c.if-kind-eq-SELF.true (c.means_module-here.ensures
@@ -18,14 +17,12 @@ returns-then-kind-eq-SELF c =
 
 pub returns-then-kind-eq-SUPER : goal.returns-then-kind-eq-SUPER
 returns-then-kind-eq-SUPER c =
-    
     let n = snap_of c.args.words.now c.args.area.now c.args.l in
     reads_super n c.args.from.0 c.args.ns c.args.kind c.args.names.now c.args.count c.requires.2 _
     c.follow-then-kind-eq-SUPER.ensures c.if-kind-eq-SELF.false c.if-kind-eq-SUPER.true c.super_of-above.ensures
 
 pub returns-then-kind-eq-CRATE : goal.returns-then-kind-eq-CRATE
 returns-then-kind-eq-CRATE c =
-    
     let n = snap_of c.args.words.now c.args.area.now c.args.l in
     reads_crate n c.args.from.0 c.args.ns c.args.kind c.args.names.now c.args.count c.requires.2 _
     c.follow-then-kind-eq-CRATE.ensures c.if-kind-eq-SELF.false c.if-kind-eq-SUPER.false
@@ -35,7 +32,6 @@ returns-then-kind-eq-CRATE c =
 pub returns-then-count-eq0 : goal.returns-then-count-eq0
 unfolding meant
 returns-then-count-eq0 c =
-    
     reads_none (snap_of c.args.words.now c.args.area.now c.args.l) c.args.from.0 c.args.ns c.args.names.now
     c.args.count c.if-count-eq0.true c.args.kind c.if-kind-eq-SELF.false c.if-kind-eq-SUPER.false c.if-kind-eq-CRATE.false
 
@@ -44,9 +40,7 @@ looked_in-its-requires c = omega (arith, c.if-count-eq0.false)
 
 pub returns-then-kind-eq-ABSOLUTE : goal.returns-then-kind-eq-ABSOLUTE
 returns-then-kind-eq-ABSOLUTE c =
-    
     let n = snap_of c.args.words.now c.args.area.now c.args.l in
-    
     reads_absolute n c.args.from.0 c.args.ns c.args.kind (take c.args.count c.args.names.now)
     c.if-kind-eq-SELF.false c.if-kind-eq-SUPER.false c.if-kind-eq-CRATE.false c.if-kind-eq-ABSOLUTE.true
     (absolute_first n c.args.from.0 c.args.ns c.args.names.now c.args.count c.requires.2
@@ -55,9 +49,7 @@ returns-then-kind-eq-ABSOLUTE c =
 
 pub returns : goal.returns
 returns c =
-    
     let n = snap_of c.args.words.now c.args.area.now c.args.l in
-    
     reads_plain n c.args.from.0 c.args.ns c.args.kind (take c.args.count c.args.names.now)
     c.if-kind-eq-SELF.false c.if-kind-eq-SUPER.false c.if-kind-eq-CRATE.false c.if-kind-eq-ABSOLUTE.false
     (plain_first n c.args.from.0 c.args.ns c.args.names.now c.args.count c.requires.2 (omega (arith, c.if-count-eq0.false))

@@ -11,13 +11,11 @@ use Rattle.read_back.proofs.paths.super_of.Goals as goal
 pub returns-in_default : goal.returns-in_default
 unfolding meant
 returns-in_default c =
-    
     super_none (snap_of c.args.words.now c.args.area.now c.args.l) c.args.from.0
     c.stands_for-m.ensures.0 (is_none _ c.parent.ensures c.in_default.is)
 
 pub stands_for-requires : goal.stands_for-requires
 stands_for-requires c =
-    
     let n = snap_of c.args.words.now c.args.area.now c.args.l in
     let m = c.stands_for-m.ensures.1 in (
       c.requires.0,
@@ -28,7 +26,6 @@ stands_for-requires c =
 
 pub returns : goal.returns
 returns c =
-    
     super_some (snap_of c.args.words.now c.args.area.now c.args.l) c.args.from.0
     c.stands_for-m.ensures.0
     (is_some _ c.parent.ensures c.in-Module.is)

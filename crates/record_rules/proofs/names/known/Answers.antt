@@ -10,8 +10,6 @@ loop-k-init c = (omega arith, rows_whole (any _) _ _)
 
 pub same_text-requires : goal.same_text-requires
 same_text-requires c =
-    
-    
     let e = c.payload.ensures in (
       omega (arith, c.shared_slice_known-3-1.given c.loop-k.k, c.text_words-size.ensures, e),
       c.text_words-size.ensures

@@ -10,15 +10,12 @@ loop-i-init c = (omega arith, rows_whole (padded _) _ _)
 
 pub returns-then-most-field : goal.returns-then-most-field
 returns-then-most-field c =
-    
     let l = c.loop-i in
     padded_stop _ _ _ _ _ l.invariant.1 (omega arith) c.text_bound-most.ensures (c.field.ensures
     ∙ after_head c.args.words.now c.args.head l.i) c.if-most-field.true
 
 pub loop-i-preserved : goal.loop-i-preserved
 loop-i-preserved c =
-    
-    
     let l = c.loop-i in (
       omega arith,
       padded_go _ _ _ _ _ l.invariant.1 (omega arith) c.text_bound-most.ensures (c.field.ensures

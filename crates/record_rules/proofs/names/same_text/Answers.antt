@@ -6,7 +6,6 @@ use Rattle.record_rules.proofs.names.same_text.Goals as goal
 
 pub returns-then-payload-last : goal.returns-then-payload-last
 returns-then-payload-last c =
-    
     text_unlike c.args.left.now c.args.right.now c.args.a c.args.b c.args.n c.requires.1
     (λ e. c.if-payload-last.true (c.payload.ensures ∙ e ∙ sym c.requires.2))
 
@@ -15,7 +14,5 @@ returns-then-x-y c = and_no _ (ne_eqb _ _ (λ e. c.if-x-y.true (c.payload-x.ensu
 
 pub returns : goal.returns
 returns c =
-    
-    
     text_same c.args.left.now c.args.right.now c.args.a c.args.b c.payload-x.ensures
     c.payload-y.ensures c.if-x-y.false (c.requires.1 ∙ ap words_of (sym c.payload-x.ensures)) c.same_words.ensures

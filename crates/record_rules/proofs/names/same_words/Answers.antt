@@ -9,7 +9,6 @@ loop-i-init c = (omega arith, rw sub-zero)
 
 pub returns-then-x-y : goal.returns-then-x-y
 returns-then-x-y c =
-    
     let l = c.loop-i in
     let x = c.field-x.ensures ∙ after_head c.args.left.now c.args.a l.i in
     let y = c.field-y.ensures ∙ after_head c.args.right.now c.args.b l.i in
@@ -17,7 +16,6 @@ returns-then-x-y c =
 
 pub loop-i-preserved : goal.loop-i-preserved
 loop-i-preserved c =
-    
     let l = c.loop-i in
     let x = c.field-x.ensures ∙ after_head c.args.left.now c.args.a l.i in
     let y = c.field-y.ensures ∙ after_head c.args.right.now c.args.b l.i in

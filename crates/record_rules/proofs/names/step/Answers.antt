@@ -9,8 +9,6 @@ use Rattle.record_rules.proofs.names.step.Goals as goal
 
 pub returns-then-n-ne0 : goal.returns-then-n-ne0
 returns-then-n-ne0 c ms st =
-    
-    
     name_no c.args.words.now c.args.area.now c.args.at c.args.l ms st
     c.judge-n.ensures
     c.in_range-range.ensures
@@ -20,8 +18,6 @@ returns-then-n-ne0 c ms st =
 
 pub link-requires : goal.link-requires
 link-requires c =
-    
-    
     let r = names_room c.args.l.names _ _ c.judge-n.ensures c.if-n-ne0.false in
     let h = key_small _ c.name_key-key.ensures in
     let e = length-set c.args.area.now c.args.l.names c.args.at in
@@ -30,8 +26,6 @@ link-requires c =
 
 pub returns : goal.returns
 returns c ms st =
-    
-    
     name_on_lem c.args.words.now c.args.area.now c.args.at c.args.l ms st
     c.judge-n.ensures
     c.in_range-range.ensures

@@ -16,8 +16,6 @@ overflow_add-mark c = (omega (
 
 pub returns-then-n-ne0 : goal.returns-then-n-ne0
 returns-then-n-ne0 c ms st =
-    
-    
     child_no c.args.words.now c.args.area.now c.args.at c.args.l ms st
     c.judge-n.ensures
     c.defined.ensures
@@ -28,8 +26,6 @@ returns-then-n-ne0 c ms st =
 
 pub offset_bounds-area-mark : goal.offset_bounds-area-mark
 offset_bounds-area-mark c =
-    
-    
     let h = child_small c.args.words.now c.args.at c.args.l _ _ _ c.judge-n.ensures c.if-n-ne0.false
     c.defined.ensures in
     let e = c.child_child-child.ensures in
@@ -39,8 +35,6 @@ offset_bounds-area-mark c =
 
 pub bounds-area-mark : goal.bounds-area-mark
 bounds-area-mark c =
-    
-    
     let h = child_small c.args.words.now c.args.at c.args.l _ _ _ c.judge-n.ensures c.if-n-ne0.false
     c.defined.ensures in
     let e = c.child_child-child.ensures in
@@ -50,8 +44,6 @@ bounds-area-mark c =
 
 pub returns : goal.returns
 returns c ms st =
-    
-    
     let h = child_small c.args.words.now c.args.at c.args.l _ _ _ c.judge-n.ensures c.if-n-ne0.false
     c.defined.ensures in
     let e = c.child_child-child.ensures in

@@ -3,8 +3,6 @@ use Rattle.records.proofs.preludes.step.Goals as goal
 
 pub returns-then-n-ne0 : goal.returns-then-n-ne0
 returns-then-n-ne0 c ms st =
-    
-    
     prelude_no c.args.words.now c.args.area.now c.args.at c.args.l ms st
     c.judge-n.ensures
     c.defined.ensures
@@ -14,8 +12,6 @@ returns-then-n-ne0 c ms st =
 
 pub returns : goal.returns
 returns c ms st =
-    
-    
     prelude_on c.args.words.now c.args.area.now c.args.at c.args.l ms st
     c.judge-n.ensures
     c.defined.ensures

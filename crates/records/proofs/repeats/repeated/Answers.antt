@@ -16,7 +16,6 @@ loop-k-init c = (omega arith, omega arith, rows_whole (any _) _ _)
 pub same-requires : goal.same-requires
 same-requires c =
     let l = c.loop-k in
-    
     let e = step_le c.args.size l.k c.args.count c.loop-k-test.true in
     (omega (arith, l.invariant.1, c.requires.0, c.requires.3), omega (arith, l.invariant.1), c.requires.5, c.requires.6, c.low-last.ensures)
 
@@ -25,14 +24,12 @@ same-requires c =
 pub returns-then-same : goal.returns-then-same
 returns-then-same c =
     let l = c.loop-k in
-    
     any_hit _ _ _ _ _ l.invariant.2 (omega arith) (ap (same_by c.args.words.now c.args.owner c.args.fields c.args.at)
     (here c.args.base c.args.size l.k l.p c.args.fields l.invariant.1) ∙ sym c.same.ensures ∙ c.if-same.true)
 
 pub overflow_add-p-in-loop-k : goal.overflow_add-p-in-loop-k
 overflow_add-p-in-loop-k c =
     let l = c.loop-k in
-    
     record {
       fits = (let e = step_le c.args.size l.k c.args.count (omega arith) in
           omega (arith, l.invariant.1, c.requires.0, c.requires.2, c.requires.5));
@@ -40,8 +37,7 @@ overflow_add-p-in-loop-k c =
 
 pub loop-k-preserved : goal.loop-k-preserved
 loop-k-preserved c =
-    let l = c.loop-k in
-    (
+    let l = c.loop-k in (
       omega arith,
       omega (arith, l.invariant.1),
       any_miss _ _ _ _ _ l.invariant.2 (omega arith)

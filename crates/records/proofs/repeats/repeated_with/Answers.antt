@@ -35,7 +35,6 @@ overflow_add-heads c = (let h = key_small _ c.requires.key_value.0 in let p = c.
 
 pub loop-k-init : goal.loop-k-init
 loop-k-init c =
-    
     records_start c.args.words.now c.args.area.now c.args.fields c.args.at c.args.base c.args.size
     c.args.count c.args.heads c.args.links c.requires.chained c.requires.key_value.0 c.requires.key_value.3 c.requires.key_value.4 c.word-k.ensures
 
@@ -44,7 +43,6 @@ overflow_sub-j c = (let h = c.loop-k-test.true in omega arith)
 
 pub overflow_mul-size : goal.overflow_mul-size
 overflow_mul-size c =
-    
     let l = c.loop-k in
     let u = l.invariant.within in
     let h = c.loop-k-test.true in
@@ -55,7 +53,6 @@ overflow_mul-size c =
 
 pub overflow_add-base : goal.overflow_add-base
 overflow_add-base c =
-    
     let l = c.loop-k in
     let u = l.invariant.within in
     let h = c.loop-k-test.true in
@@ -66,7 +63,6 @@ overflow_add-base c =
 
 pub overflow_add-base-in-loop-k : goal.overflow_add-base-in-loop-k
 overflow_add-base-in-loop-k c =
-    
     let l = c.loop-k in
     let u = l.invariant.within in
     let h = c.loop-k-test.true in
@@ -77,7 +73,6 @@ overflow_add-base-in-loop-k c =
 
 pub same-requires : goal.same-requires
 same-requires c =
-    
     let l = c.loop-k in
     let u = l.invariant.within in
     let h = c.loop-k-test.true in
@@ -88,19 +83,14 @@ same-requires c =
 
 pub returns-then-same : goal.returns-then-same
 returns-then-same c =
-    
-    
     let l = c.loop-k in
-    
     records_hit c.args.words.now c.args.area.now c.args.fields c.args.at c.args.base c.args.size
     c.args.count c.args.heads c.args.links c.requires.chained c.requires.key_value.0 c.requires.key_value.3 c.requires.key_value.4 l.k
     l.invariant c.loop-k-test.true (here c.args.base (c.args.size * (l.k - 1)) c.args.fields) c.same.ensures c.if-same.true
 
 pub overflow_add-links : goal.overflow_add-links
 overflow_add-links c =
-    
     let l = c.loop-k in
-    
     let u = l.invariant.within in
     let f = row_fits c.args.base c.args.size (l.k - 1) c.args.count (length c.args.words.now) c.args.fields
     (let h = c.loop-k-test.true in omega arith) c.requires.count_in_bounds.0 c.requires.count_in_bounds.3 in
@@ -111,20 +101,14 @@ overflow_add-links c =
 
 pub loop-k-smaller : goal.loop-k-smaller
 loop-k-smaller c =
-    
-    
     let l = c.loop-k in
-    
     records_less c.args.words.now c.args.area.now c.args.fields c.args.at c.args.base c.args.size
     c.args.count c.args.heads c.args.links c.requires.chained c.requires.key_value.0 c.requires.key_value.3 c.requires.key_value.4 l.k
     l.invariant c.loop-k-test.true (here c.args.base (c.args.size * (l.k - 1)) c.args.fields) c.same.ensures c.word-k-in-loop-k.ensures
 
 pub loop-k-preserved : goal.loop-k-preserved
 loop-k-preserved c =
-    
-    
     let l = c.loop-k in
-    
     records_miss c.args.words.now c.args.area.now c.args.fields c.args.at c.args.base c.args.size
     c.args.count c.args.heads c.args.links c.requires.chained c.requires.key_value.0 c.requires.key_value.3 c.requires.key_value.4 l.k
     l.invariant c.loop-k-test.true (here c.args.base (c.args.size * (l.k - 1)) c.args.fields) c.same.ensures
@@ -132,7 +116,6 @@ loop-k-preserved c =
 
 pub returns : goal.returns
 returns c =
-    
     let l = c.loop-k in
     records_end c.args.words.now c.args.area.now c.args.fields c.args.at c.args.base c.args.size
     c.args.count c.args.heads c.args.links c.requires.chained c.requires.key_value.0 c.requires.key_value.3 c.requires.key_value.4 l.k

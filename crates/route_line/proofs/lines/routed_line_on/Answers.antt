@@ -3,13 +3,12 @@ use Rattle.route_line.proofs.Laws.{few_names, few_steps, routed_refused, routed_
 use Rattle.route_line.proofs.lines.routed_line_on.Goals as goal
 
 pub put_routed-requires : goal.put_routed-requires
-put_routed-requires c =
-    (
-      reads_of c.args.words.now c.report_on-r.new.area c.args.c c.report_on-r.ensures.checked _ c.in-Accepted.is,
-      c.requires.2,
-      few_names c.args.words.now c.args.question c.report_on-r.new.area c.args.c c.report_on-r.result c.report_on-r.ensures,
-      few_steps c.args.words.now c.args.question c.report_on-r.new.area c.args.c c.report_on-r.result c.report_on-r.ensures,
-    )
+put_routed-requires c = (
+  reads_of c.args.words.now c.report_on-r.new.area c.args.c c.report_on-r.ensures.checked _ c.in-Accepted.is,
+  c.requires.2,
+  few_names c.args.words.now c.args.question c.report_on-r.new.area c.args.c c.report_on-r.result c.report_on-r.ensures,
+  few_steps c.args.words.now c.args.question c.report_on-r.new.area c.args.c c.report_on-r.result c.report_on-r.ensures,
+)
 
 pub returns-in-Refused : goal.returns-in-Refused
 returns-in-Refused c =

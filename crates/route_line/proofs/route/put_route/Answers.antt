@@ -20,4 +20,4 @@ put_steps-requires c =
 
 pub returns : goal.returns
 returns c = let q = c.put_steps.ensures in
-     record { put = put_as (route_found c.args.r c.if-not-found.false) q.put; upper_bound = q.upper_bound }
+    record { put = put_as (route_found c.args.r c.if-not-found.false) q.put; upper_bound = q.upper_bound }

@@ -14,8 +14,7 @@ put_step-to-requires c =
 
 pub loop-i-preserved : goal.loop-i-preserved
 loop-i-preserved c =
-    let l = c.loop-i in
-    (
+    let l = c.loop-i in (
       omega arith,
       c.put_step-to.auto.out ∙ l.invariant.1,
       put_as (steps_next c.args.route.now l.i (omega (arith, c.requires.2, c.loop-i-test.true)))
@@ -24,7 +23,7 @@ loop-i-preserved c =
     )
 
 pub returns : goal.returns
-returns c = let l = c.loop-i in  record { put = put_as (steps_done c.args.route.now l.i c.args.steps l.invariant.0 c.loop-i-test.false) l.invariant.2; upper_bound = omega (arith, l.invariant.0, l.invariant.3, c.requires.1) }
+returns c = let l = c.loop-i in record { put = put_as (steps_done c.args.route.now l.i c.args.steps l.invariant.0 c.loop-i-test.false) l.invariant.2; upper_bound = omega (arith, l.invariant.0, l.invariant.3, c.requires.1) }
 
 pub offset_bounds-route-i : goal.offset_bounds-route-i
 offset_bounds-route-i c = omega arith

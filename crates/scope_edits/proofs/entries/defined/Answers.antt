@@ -2,7 +2,6 @@ use Rattle.scope_edits.proofs.entries.defined.Goals as goal
 
 pub returns : goal.returns
 returns c =
-    
     rw (
       c.word-number.ensures,
       c.word-visibility.ensures,

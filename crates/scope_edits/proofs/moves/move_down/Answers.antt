@@ -10,7 +10,6 @@ loop-i-init c = let p = c.requires in (omega arith, p.0, refl, down_start c.args
 pub loop-i-preserved : goal.loop-i-preserved
 loop-i-preserved c =
     let l = c.loop-i in
-    
     let p = c.requires in
     let k = l.invariant in
     let t = c.loop-i-test.true in (
@@ -23,7 +22,6 @@ loop-i-preserved c =
 pub returns : goal.returns
 returns c =
     let l = c.loop-i in
-    
     let p = c.requires in
     let k = l.invariant in
     down_end c.args.words.now c.args.at c.args.count p.0 p.1 l.words l.i k.1 c.loop-i-test.false k.3

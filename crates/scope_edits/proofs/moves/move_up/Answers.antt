@@ -13,7 +13,6 @@ loop-i-init c = let p = c.requires in (p.0, omega arith, refl, up_start c.args.w
 pub loop-i-preserved : goal.loop-i-preserved
 loop-i-preserved c =
     let l = c.loop-i in
-    
     let p = c.requires in
     let k = l.invariant in
     let t = c.loop-i-test.true in (
@@ -27,7 +26,6 @@ loop-i-preserved c =
 pub returns : goal.returns
 returns c =
     let l = c.loop-i in
-    
     let k = l.invariant in
     let e : l.i ≡ c.args.at = let t = c.loop-i-test.false in let a = k.0 in omega arith in
     k.3 ∙ ap (λ i. take (i + scope_size) c.args.words.now ++ (drop i (take c.args.count c.args.words.now) ++ drop

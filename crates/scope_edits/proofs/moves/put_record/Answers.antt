@@ -11,7 +11,6 @@ loop-i-init c = (omega arith, refl, paste-zero c.args.words.now c.args.at c.args
 pub loop-i-preserved : goal.loop-i-preserved
 loop-i-preserved c =
     let l = c.loop-i in
-    
     let p = c.requires in
     let k = l.invariant in
     let t = c.loop-i-test.true in (
@@ -23,7 +22,6 @@ loop-i-preserved c =
 pub returns : goal.returns
 returns c =
     let l = c.loop-i in
-    
     let k = l.invariant in
     put_end c.args.words.now l.words c.args.added.now c.args.at l.i c.requires.1 k.0 c.loop-i-test.false k.2
 

@@ -10,7 +10,6 @@ loop-at-init c = entry_start _ _
 
 pub returns-then-is_entry : goal.returns-then-is_entry
 returns-then-is_entry c =
-    
     let a = c.args in
     let W = a.words.now in
     walk_stop (is_entry (is_named a.owner a.ns a.name) W) W _ c.loop-at.at c.loop-at.invariant (sym c.is_entry.ensures ∙ c.if-is_entry.true)
@@ -20,7 +19,6 @@ overflow_add-at c = let h = c.loop-at-test.true in omega arith
 
 pub overflow_add-at-in-loop-at : goal.overflow_add-at-in-loop-at
 overflow_add-at-in-loop-at c =
-    
     let h = c.loop-at-test.true in
     let f = c.requires in
     let e = arguments_few c.args.words.now _ _ c.arguments.ensures in
@@ -31,7 +29,6 @@ loop-at-smaller c = let h = c.loop-at-test.true in omega arith
 
 pub loop-at-preserved : goal.loop-at-preserved
 loop-at-preserved c =
-    
     let a = c.args in
     let W = a.words.now in
     walk_on (is_entry (is_named a.owner a.ns a.name) W) W _ c.loop-at.at c.loop-at.invariant c.loop-at-test.true
@@ -39,7 +36,6 @@ loop-at-preserved c =
 
 pub returns : goal.returns
 returns c =
-    
     let a = c.args in
     let W = a.words.now in
     walk_end_lem (is_entry (is_named a.owner a.ns a.name) W) W _ c.loop-at.at c.loop-at.invariant c.loop-at-test.false

@@ -12,7 +12,6 @@ loop-at-init c = end_start _
 
 pub returns-then-kind-gt-SCOPE : goal.returns-then-kind-gt-SCOPE
 returns-then-kind-gt-SCOPE c =
-    
     let W = c.args.words.now in
     walk_stop (is_later W) W _ c.loop-at.at c.loop-at.invariant (ap (ltb 9) (sym c.kind.ensures) ∙ lt-ltb 9 _ c.if-kind-gt-SCOPE.true)
 
@@ -21,7 +20,6 @@ overflow_add-at c = let h = c.loop-at-test.true in omega arith
 
 pub overflow_add-at-in-loop-at : goal.overflow_add-at-in-loop-at
 overflow_add-at-in-loop-at c =
-    
     let h = c.loop-at-test.true in
     let f = c.requires in
     let e = arguments_few c.args.words.now _ _ c.arguments.ensures in
@@ -32,13 +30,11 @@ loop-at-smaller c = let h = c.loop-at-test.true in omega arith
 
 pub loop-at-preserved : goal.loop-at-preserved
 loop-at-preserved c =
-    
     let W = c.args.words.now in
     walk_on (is_later W) W _ c.loop-at.at c.loop-at.invariant c.loop-at-test.true
     (ap (ltb 9) (sym c.kind.ensures) ∙ le-ltb 9 _ c.if-kind-gt-SCOPE.false) c.arguments.ensures
 
 pub returns : goal.returns
 returns c =
-    
     let W = c.args.words.now in
     walk_end_lem (is_later W) W _ c.loop-at.at c.loop-at.invariant c.loop-at-test.false

@@ -33,7 +33,7 @@ pub find_by_name-variant_of-requires : goal.find_by_name-variant_of-requires
 find_by_name-variant_of-requires t c = few_words _ _ _ c.requires.0.reads
 
 pub find_by_name-calculate_best_path-requires : goal.find_by_name-calculate_best_path-requires
-find_by_name-calculate_best_path-requires t c = 
+find_by_name-calculate_best_path-requires t c =
     (begun c.requires.0, c.requires.1, c.requires.2)
 
 pub find_by_name-returns-in_default : goal.find_by_name-returns-in_default
@@ -112,8 +112,7 @@ find_by_name-returns-then-best t c =
 
 pub find_by_name-calculate_best_path-requires-2 : goal.find_by_name-calculate_best_path-requires-2
 find_by_name-calculate_best_path-requires-2 t c =
-    let a = c.args in
-    (
+    let a = c.args in (
       begun_later (begun c.requires.0) c.find_path_inner-o.ensures.tables c.find_path_inner-o.auto.area,
       c.requires.1,
       omega (

@@ -7,7 +7,6 @@ use Rattle.seen_entries.proofs.entries.both_hold.Goals as goal
 
 pub returns-in_default : goal.returns-in_default
 returns-in_default c =
-    
     let W = c.args.words.now in
     both_alone (snap_of c.args.words.now c.args.area.now c.args.l) (scope_at c.args.words.now c.args.h)
     c.args.v.0 (sym c.holds_at.ensures ∙ c.if-holds_at.true)
@@ -15,7 +14,6 @@ returns-in_default c =
 
 pub holds_at-requires-then-holds_at : goal.holds_at-requires-then-holds_at
 holds_at-requires-then-holds_at c =
-    
     let W = c.args.words.now in (
       c.requires.0,
       c.requires.1,
@@ -25,7 +23,6 @@ holds_at-requires-then-holds_at c =
 
 pub returns-then-holds_at : goal.returns-then-holds_at
 returns-then-holds_at c =
-    
     let W = c.args.words.now in
     c.holds_at-then-holds_at.ensures
     ∙ both_declared (snap_of c.args.words.now c.args.area.now c.args.l) (scope_at c.args.words.now c.args.h)
@@ -35,6 +32,5 @@ returns-then-holds_at c =
 
 pub returns : goal.returns
 returns c =
-    
     both_not (snap_of c.args.words.now c.args.area.now c.args.l) (scope_at c.args.words.now c.args.h)
     c.args.v.0 (sym c.holds_at.ensures ∙ c.if-holds_at.false)

@@ -8,14 +8,12 @@ use Rattle.seen_entries.proofs.entries.declaration_of.Goals as goal
 
 pub returns-in_default : goal.returns-in_default
 returns-in_default c =
-    
     let n = (snap_of c.args.words.now c.args.area.now c.args.l) in
     declared_nowhere n (scope_at c.args.words.now c.args.h) (ap (declared_in n) (sym c.scope_definition-d.ensures)
     ∙ is_none _ c.declared_in.ensures c.in_default.is)
 
 pub returns : goal.returns
 returns c =
-    
     let n = (snap_of c.args.words.now c.args.area.now c.args.l) in
     let A = c.args.area.now in
     let q = c.scope_definition-d.ensures in

@@ -9,7 +9,6 @@ use Rattle.seen_entries.proofs.entries.declared_in.Goals as goal
 
 pub parent-requires : goal.parent-requires
 parent-requires c =
-    
     let A = c.args.area.now in
     let k = sym (c.kind_of.ensures A) ∙ c.if-kind_of-eq-MODULE.true in (
       c.requires.0,
@@ -19,7 +18,6 @@ parent-requires c =
 
 pub returns-then-kind_of-eq-MODULE : goal.returns-then-kind_of-eq-MODULE
 returns-then-kind_of-eq-MODULE c =
-    
     let A = c.args.area.now in
     let k = sym (c.kind_of.ensures A) ∙ c.if-kind_of-eq-MODULE.true in
     c.parent.ensures ∙ ap (λ x. parent_of (snap_of c.args.words.now c.args.area.now c.args.l) x) (c.first_of.ensures A)
@@ -28,7 +26,6 @@ returns-then-kind_of-eq-MODULE c =
 pub returns : goal.returns
 unfolding home_of
 returns c =
-    
     let A = c.args.area.now in
     c.home_of.ensures A ∙ in_home (snap_of c.args.words.now c.args.area.now c.args.l) c.args.d.0
     (λ e. c.if-kind_of-eq-MODULE.false (c.kind_of.ensures A ∙ e))

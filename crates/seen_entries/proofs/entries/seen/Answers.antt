@@ -7,7 +7,6 @@ use Rattle.seen_entries.proofs.entries.seen.Goals as goal
 
 pub returns-then-both_hold : goal.returns-then-both_hold
 returns-then-both_hold c =
-    
     let n = (snap_of c.args.words.now c.args.area.now c.args.l) in
     let e = (scope_at c.args.words.now c.args.h) in
     c.both_hold-then-both_hold.ensures
@@ -16,7 +15,6 @@ returns-then-both_hold c =
 
 pub returns : goal.returns
 returns c =
-    
     let n = (snap_of c.args.words.now c.args.area.now c.args.l) in
     let e = (scope_at c.args.words.now c.args.h) in
     seen_not n e c.args.from.0 (ap (λ x. both_hold n x e) (sym c.scope_owner.ensures)

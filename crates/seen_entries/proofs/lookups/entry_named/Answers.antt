@@ -42,17 +42,15 @@ overflow_add-h c = record {
 }
 
 pub is_named_seen-requires : goal.is_named_seen-requires
-is_named_seen-requires c =
-    (
-      c.requires.0,
-      c.requires.1,
-      scope_fits c.args.words.now c.args.area.now c.args.l c.requires.0 c.loop-k-test.true
-          c.scope_base-base.ensures refl,
-    )
+is_named_seen-requires c = (
+  c.requires.0,
+  c.requires.1,
+  scope_fits c.args.words.now c.args.area.now c.args.l c.requires.0 c.loop-k-test.true
+      c.scope_base-base.ensures refl,
+)
 
 pub returns-then-is_named_seen : goal.returns-then-is_named_seen
 returns-then-is_named_seen c =
-    
     let w = c.loop-k in
     first_hit _ _ _ _ _ w.invariant c.loop-k-test.true (ap (λ b. scope_at c.args.words.now (b + scope_size * w.k))
     c.scope_base-base.ensures) c.is_named_seen.ensures c.if-is_named_seen.true
@@ -74,7 +72,6 @@ loop-k-smaller c = omega (arith, c.loop-k-test.true)
 
 pub loop-k-preserved : goal.loop-k-preserved
 loop-k-preserved c =
-    
     let w = c.loop-k in
     first_miss _ _ _ _ _ w.invariant c.loop-k-test.true (ap (λ b. scope_at c.args.words.now (b + scope_size * w.k))
     c.scope_base-base.ensures) c.is_named_seen.ensures c.if-is_named_seen.false

@@ -15,7 +15,6 @@ block_step-requires c = (c.requires.0, c.loop-b.invariant.1)
 
 pub returns-in_default : goal.returns-in_default
 returns-in_default c =
-    
     let g = c.loop-b in
     let n = (snap_of c.args.words.now c.args.area.now c.args.l) in
     let ok = accepted_tree c.args.words.now n c.requires.0.same in (
@@ -26,7 +25,6 @@ returns-in_default c =
 
 pub loop-b-smaller : goal.loop-b-smaller
 loop-b-smaller c =
-    
     let g = c.loop-b in
     let n = (snap_of c.args.words.now c.args.area.now c.args.l) in
     let ok = accepted_tree c.args.words.now n c.requires.0.same in
@@ -35,7 +33,6 @@ loop-b-smaller c =
 
 pub loop-b-preserved : goal.loop-b-preserved
 loop-b-preserved c =
-    
     let g = c.loop-b in
     let n = (snap_of c.args.words.now c.args.area.now c.args.l) in
     let ok = accepted_tree c.args.words.now n c.requires.0.same in

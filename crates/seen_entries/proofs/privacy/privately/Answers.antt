@@ -8,6 +8,5 @@ use Rattle.seen_entries.proofs.privacy.privately.Goals as goal
 pub returns : goal.returns
 unfolding privately
 returns c =
-    
     c.meets.ensures ∙ ap (met (containing (snap_of c.args.words.now c.args.area.now c.args.l)) c.args.viewer.0)
     c.module_around-t.ensures.0

@@ -8,14 +8,10 @@ variant_told-requires c =
 
 pub returns-in-Mod : goal.returns-in-Mod
 returns-in-Mod c =
-    
-    
     enum_module c.args.named (snap_of c.args.words.now c.args.area.now c.args.l) c.args.from.0 _
     c.in-Mod.is c.nothing.ensures
 
 pub returns-in-Def : goal.returns-in-Def
 returns-in-Def c =
-    
-    
     enum_as c.args.named (snap_of c.args.words.now c.args.area.now c.args.l) c.args.from.0 _ _
     c.in-Def.is c.variant_told.ensures

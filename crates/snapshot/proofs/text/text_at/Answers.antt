@@ -8,12 +8,10 @@ returns-then-words-head c = text_none c.before.before.before.args.words.now _ c.
 
 pub returns-then-words-a : goal.returns-then-words-a
 returns-then-words-a c =
-    
     text_cut c.args.words.now c.args.head _ (c.text_words-n.ensures
     ∙ ap words_of c.payload.ensures) c.if-words-a.true
 
 pub returns : goal.returns
 returns c =
-    
     text_whole c.args.words.now c.args.head _ (c.text_words-n.ensures
     ∙ ap words_of c.payload.ensures)

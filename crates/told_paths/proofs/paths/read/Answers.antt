@@ -10,7 +10,6 @@ loop-k-init c = unwound_start c.args.area.now c.args.n c.requires.2 c.args.link 
 
 pub overflow_sub-j : goal.overflow_sub-j
 overflow_sub-j c =
-    
     omega (arith, unwound_more c.args.area.now c.args.n c.requires.2 c.loop-k.invariant c.loop-k-test.true)
 
 pub offset_bounds-names-j : goal.offset_bounds-names-j
@@ -24,32 +23,22 @@ overflow_sub-at c = omega (arith, c.loop-k-test.true)
 
 pub overflow_mul-at : goal.overflow_mul-at
 overflow_mul-at c =
-    
-    
     record { fits = omega (arith, c.loop-k.invariant.low, c.requires.0, c.loop-k-test.true) }
 
 pub overflow_add-at : goal.overflow_add-at
 overflow_add-at c =
-    
-    
     record { fits = omega (arith, c.loop-k.invariant.low, c.requires.0, c.loop-k-test.true) }
 
 pub overflow_add-at-in-loop-k : goal.overflow_add-at-in-loop-k
 overflow_add-at-in-loop-k c =
-    
-    
     record { fits = omega (arith, c.loop-k.invariant.low, c.requires.0, c.loop-k-test.true) }
 
 pub overflow_add-at-in-loop-k-2 : goal.overflow_add-at-in-loop-k-2
 overflow_add-at-in-loop-k-2 c =
-    
-    
     record { fits = omega (arith, c.loop-k.invariant.low, c.requires.0, c.loop-k-test.true) }
 
 pub loop-k-smaller : goal.loop-k-smaller
 loop-k-smaller c =
-    
-    
     omega (
       arith,
       c.word-k.ensures,
@@ -59,22 +48,29 @@ loop-k-smaller c =
 
 pub loop-k-preserved : goal.loop-k-preserved
 loop-k-preserved c =
-    
-    
     unwound_next c.args.area.now c.args.n c.requires.2 c.loop-k.invariant c.loop-k-test.true refl refl
     c.word-k.ensures c.word-x.ensures
 
 pub returns-then-k-eq0 : goal.returns-then-k-eq0
-returns-then-k-eq0 c = record { value = unwound_keyword c.args.area.now c.args.n c.requires.2 c.loop-k.invariant c.requires.3 c.requires.4 c.if-k-eq0.true
-          c.keyword_kind.ensures c.keyword_supers.ensures; count_le_names_limit = c.requires.3 }
+returns-then-k-eq0 c = record {
+  value = unwound_keyword c.args.area.now c.args.n c.requires.2 c.loop-k.invariant c.requires.3 c.requires.4 c.if-k-eq0.true
+      c.keyword_kind.ensures c.keyword_supers.ensures;
+  count_le_names_limit = c.requires.3;
+}
 
 pub returns-then-k-eq1 : goal.returns-then-k-eq1
-returns-then-k-eq1 c = record { value = unwound_absolute c.args.area.now c.args.n c.requires.2 c.loop-k.invariant c.requires.3 c.requires.4 c.if-k-eq1.true
-          refl refl; count_le_names_limit = c.requires.3 }
+returns-then-k-eq1 c = record {
+  value = unwound_absolute c.args.area.now c.args.n c.requires.2 c.loop-k.invariant c.requires.3 c.requires.4 c.if-k-eq1.true
+      refl refl;
+  count_le_names_limit = c.requires.3;
+}
 
 pub returns : goal.returns
-returns c = record { value = unwound_plain c.args.area.now c.args.n c.requires.2 c.loop-k.invariant c.requires.3 c.requires.4 c.if-k-eq0.false
-          c.if-k-eq1.false (omega (arith, c.loop-k-test.false)) refl refl; count_le_names_limit = c.requires.3 }
+returns c = record {
+  value = unwound_plain c.args.area.now c.args.n c.requires.2 c.loop-k.invariant c.requires.3 c.requires.4 c.if-k-eq0.false
+      c.if-k-eq1.false (omega (arith, c.loop-k-test.false)) refl refl;
+  count_le_names_limit = c.requires.3;
+}
 
 pub word-k-requires : goal.word-k-requires
 word-k-requires c = tt

@@ -21,12 +21,11 @@ returns-in_default c =
     (is_none _ c.parent.ensures c.in_default.is) ∙ sym c.loop-left.invariant.0
 
 pub module_around-at-requires : goal.module_around-at-requires
-module_around-at-requires c =
-    (
-      c.requires.0,
-      parent_below c.args.words.now c.args.area.now c.args.l c.requires.0 c.loop-left.at.0 _ c.loop-left.invariant.1
-          (is_some _ c.parent.ensures c.in-Module.is),
-    )
+module_around-at-requires c = (
+  c.requires.0,
+  parent_below c.args.words.now c.args.area.now c.args.l c.requires.0 c.loop-left.at.0 _ c.loop-left.invariant.1
+      (is_some _ c.parent.ensures c.in-Module.is),
+)
 
 pub overflow_sub-left : goal.overflow_sub-left
 overflow_sub-left c = omega (arith, c.loop-left-test.true)

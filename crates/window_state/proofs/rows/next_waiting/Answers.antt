@@ -13,13 +13,11 @@ waits-requires c = c.loop-left.invariant.0
 
 pub returns-then-waits : goal.returns-then-waits
 returns-then-waits c =
-    
     let l = c.loop-left in
     sym (l.invariant.2 ∙ first_here _ l.window _ c.waits.ensures l.left c.loop-left-test.true c.if-waits.true)
 
 pub loop-left-preserved : goal.loop-left-preserved
 loop-left-preserved c =
-    
     let l = c.loop-left in
     (omega arith, omega arith, l.invariant.2 ∙ first_next _ l.window _ c.waits.ensures l.left c.loop-left-test.true c.if-waits.false)
 

@@ -3,5 +3,4 @@ use Rattle.wording.proofs.text.put_asked.Goals as goal
 
 pub returns : goal.returns
 returns c =
-    
     put_two c.put_line-a.ensures.put c.put.ensures
