@@ -4,6 +4,6 @@
 
 pub mod answer;
 pub mod area;
-pub mod line;
+pub mod lines;
 pub mod report;
 pub mod twice;

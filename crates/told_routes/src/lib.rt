@@ -1,9 +1,9 @@
 //! The records by which the names of a path are read.
 #![tactic(auto)]
 
-mod keywords;
 mod names;
 pub mod routes;
+mod starts;
 
 use read_back::OptItem;
 

@@ -7,8 +7,8 @@ ghost use Rattle.nameable.specs.Breadth.{names_limit};
 ghost use Rattle.told_paths.specs.Tells.{padded, tell};
 ghost use Rattle.told_routes.specs.Routes.{path_by, ns_of_first};
 
-use crate::keywords::start;
 use crate::names::read_name;
+use crate::starts::start;
 use snapshot::ids::{ModuleId, Name, Namespace};
 use snapshot::layout::Layout;
 use told_paths::ToldPath;

@@ -1,7 +1,7 @@
 use mathlib.Core.Path.{ap, ◌∙◌}
 use Rattle.checked.proofs.Laws.{checks_judged}
 use Rattle.answer.specs.Answers.{zeros}
-use Rattle.answer.proofs.line.line_within.Goals as goal
+use Rattle.answer.proofs.lines.line_within.Goals as goal
 
 pub line_on-n-requires : goal.line_on-n-requires
 line_on-n-requires c =

@@ -2,7 +2,7 @@ use mathlib.Core.Path.{◌≡◌}
 use Rattle.snapshot.specs.Layouts.{snap_of}
 use Prim.Native.Nat.{◌<◌}
 use Rattle.told_routes.proofs.Laws.{above_means}
-use Rattle.told_routes.proofs.keywords.above.Given as goal
+use Rattle.told_routes.proofs.starts.above.Given as goal
 
 abbrev pub invariant-loop-left : goal.invariant-loop-left
 invariant-loop-left l =

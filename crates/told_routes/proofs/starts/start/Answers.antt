@@ -1,7 +1,7 @@
 use Rattle.snapshot.specs.Layouts.{snap_of}
 use Rattle.read_back.specs.Answers.{meant}
 use Rattle.told_routes.proofs.Laws.{start_crate, start_above}
-use Rattle.told_routes.proofs.keywords.start.Goals as goal
+use Rattle.told_routes.proofs.starts.start.Goals as goal
 
 pub returns-then-kind-eq-CRATE : goal.returns-then-kind-eq-CRATE
 unfolding meant

@@ -5,7 +5,7 @@ use Prim.Native.Nat.{◌-◌}
 use Rattle.module_tree.proofs.Climbs.{is_some, is_none}
 use Rattle.told_routes.proofs.Laws.{above_means, above_here, above_gone, above_on, parent_below}
 use Rattle.read_back.specs.Answers.{meant}
-use Rattle.told_routes.proofs.keywords.above.Goals as goal
+use Rattle.told_routes.proofs.starts.above.Goals as goal
 
 pub loop-left-init : goal.loop-left-init
 loop-left-init c = (refl, c.requires.1)

@@ -2,7 +2,7 @@ use mathlib.Core.Path.{sym}
 use lib.Seq.{length-take-le}
 use Rattle.snapshot.specs.Limits.{area_limit}
 use Rattle.answer.proofs.Lined.{lined_none, lined_small, lined_large}
-use Rattle.answer.proofs.line.find_line.Goals as goal
+use Rattle.answer.proofs.lines.find_line.Goals as goal
 
 pub returns-then-out-lt-LIMIT : goal.returns-then-out-lt-LIMIT
 returns-then-out-lt-LIMIT c =
