@@ -1,5 +1,5 @@
-//! Links the static library of the proved code under a name of its own. It is made by `rt staticlib exports` where it is missing or
-//! older than the sources of the crates, and its version is compared with the one that this crate is written for.
+//! Links the static library of the proved code under a name of its own. It is made by `rt lib` in `crates/exports` where it is missing
+//! or older than the sources of the crates, and its version is compared with the one that this crate is written for.
 use std::path::{Path, PathBuf};
 use std::process::{Command, Output};
 use std::time::SystemTime;
@@ -9,7 +9,7 @@ use std::{env, fs};
 #[path = "src/version.rs"]
 mod version;
 
-/// The name that `rt staticlib exports` gives.
+/// The name that `rt lib` gives.
 const MADE: &str = "libexports.a";
 
 const OWN: &str = "libkelumavor.a";
@@ -40,25 +40,39 @@ fn lent(folder: &Path) -> PathBuf {
 
 /// The library below the repository's root, made where it is missing or older than the crates.
 fn built(root: &Path) -> PathBuf {
-    let library = root.join("target/staticlib").join(MADE);
-    let crates = root.join("crates");
-    println!("cargo::rerun-if-changed={}", crates.display());
+    let maker = root.join("crates/exports");
+    let library = maker.join("out").join(MADE);
+    let sources = sources(root);
     let made = changed(&library);
-    if made.is_some() && !newer(made, &crates) {
+    if made.is_some() && !sources.iter().any(|folder| newer(made, folder)) {
         return library;
     }
-    match Command::new("rt").args(["staticlib", "exports"]).current_dir(root).output() {
+    match Command::new("rt").arg("lib").current_dir(&maker).output() {
         Ok(output) if output.status.success() => renew(&library),
-        Ok(output) => fail(&format!("`rt staticlib exports` failed in {}:\n{}", root.display(), said(&output))),
+        Ok(output) => fail(&format!("`rt lib` failed in {}:\n{}", maker.display(), said(&output))),
         Err(error) if made.is_some() => {
             let old = format!("{} is older than the crates, and `rt` cannot be run to make it anew", library.display());
             println!("cargo::warning={old}: {error}");
         }
-        Err(error) => {
-            fail(&format!("`rt`, the toolchain that proves and compiles the library, cannot be run: {error}"))
-        }
+        Err(error) => fail(&format!(
+            "`rt`, the toolchain that proves and compiles the library, cannot be run in {}: {error}",
+            maker.display()
+        )),
     }
     library
+}
+
+/// The folders of the crates' sources, which the build is to be run again for. What `rt` keeps beside them is none.
+fn sources(root: &Path) -> Vec<PathBuf> {
+    let list = root.join("crates.txt");
+    println!("cargo::rerun-if-changed={}", list.display());
+    let Ok(crates) = root.join("crates").read_dir() else { return Vec::new() };
+    let folders: Vec<PathBuf> =
+        crates.flatten().map(|entry| entry.path().join("src")).filter(|it| it.is_dir()).collect();
+    for folder in &folders {
+        println!("cargo::rerun-if-changed={}", folder.display());
+    }
+    folders
 }
 
 fn said(output: &Output) -> String {
@@ -116,7 +130,7 @@ fn stale(library: &Path, reason: &str) -> ! {
 fn fail(reason: &str) -> ! {
     eprintln!(
         "the static library of Kelumavor is not there: {reason}\n\
-         run `rt staticlib exports` in the repository's root, or set KELUMAVOR_STATICLIB to a folder that has {OWN}"
+         run `rt lib` in the repository's crates/exports, or set KELUMAVOR_STATICLIB to a folder that has {OWN}"
     );
     std::process::exit(1)
 }

@@ -2,23 +2,29 @@
 //! be written.
 mod common;
 
-use std::process::Command;
+use std::path::PathBuf;
+use std::process::{Command, Stdio};
 use std::sync::LazyLock;
 
 use common::{errors, out, repository};
 
+/// Where the toolchain leaves a program.
+fn made(program: &str) -> PathBuf {
+    repository("crates").join(program).join("out").join(program)
+}
+
 /// Runs a program behind a shell's redirections, which see it as `$0`. The toolchain makes the programs where they are missing.
 fn shell(program: &str, script: &str) -> (String, String) {
     static MADE: LazyLock<()> = LazyLock::new(|| {
-        let programs = ["check_snapshot", "path_printer"];
-        if !programs.iter().all(|program| repository("target/bin").join(program).exists()) {
-            let made = Command::new("rt").arg("check").args(programs).current_dir(repository(".")).output();
-            assert!(made.is_ok_and(|made| made.status.success()), "`rt check` makes the programs");
+        for program in ["check_snapshot", "path_printer"].into_iter().filter(|program| !made(program).exists()) {
+            let folder = repository("crates").join(program);
+            let ran = Command::new("rt").arg("run").stdin(Stdio::null()).current_dir(folder).output();
+            assert!(ran.is_ok_and(|ran| ran.status.success()), "`rt run` makes the program {program}");
         }
     });
     LazyLock::force(&MADE);
-    let program = repository("target/bin").join(program);
-    let output = Command::new("sh").args(["-c", script]).arg(program).current_dir(repository(".")).output().unwrap();
+    let output =
+        Command::new("sh").args(["-c", script]).arg(made(program)).current_dir(repository(".")).output().unwrap();
     (out(&output), errors(&output))
 }
 

@@ -1,5 +1,5 @@
 //! The definitions of the check, the lookups and the search (`crates/*/specs`), written out in Rust function by function
-//! and under their names. It follows the definitions and not the text of rust-analyzer, so a difference between the two is a
+//! and under their names, in camel case. It follows the definitions and not the text of rust-analyzer, so a difference between the two is a
 //! fault of one of them. Lists are scanned as the definitions say: it is slow. The reading of paths is `reading`, which follows the request and no
 //! definition.
 #![allow(non_snake_case)]

@@ -17,7 +17,7 @@ fn compiled(compiler: &str, standard: &str, file: &str) -> Option<PathBuf> {
         .args([standard, "-Wall", "-Wextra", "-Wpedantic", "-Werror", "-O2", "-o"])
         .arg(&program)
         .arg(repository("bindings/c").join(format!("{file}.c")))
-        .arg(repository("target/staticlib/libexports.a"))
+        .arg(concat!(env!("OUT_DIR"), "/libkelumavor.a"))
         .output();
     let Ok(made) = made else {
         eprintln!("no {compiler}: not tested");

@@ -54,60 +54,84 @@ fn a_library_without_a_version() {
     assert!(said.contains("it does not answer `kelumavor_version`"), "{said}");
 }
 
-/// A copy of this package in a repository of its own, with one source and an `rt` that counts its runs and lends a library.
-fn repository(library: &Path) -> PathBuf {
-    let root = Path::new(env!("CARGO_TARGET_TMPDIR")).join("remade");
-    std::fs::remove_dir_all(&root).ok();
-    let package = root.join("bindings/rust");
-    for folder in [package.join("src"), root.join("crates/one/src"), root.join("bin")] {
-        std::fs::create_dir_all(folder).unwrap();
+/// A copy of this package in a repository of its own, with one source and an `rt` that counts its runs and lends a library. It stands
+/// among the temporary files: `rt ci` refuses a source that no check reads below its checkout.
+struct Remade(PathBuf);
+
+impl Drop for Remade {
+    fn drop(&mut self) {
+        std::fs::remove_dir_all(&self.0).ok();
     }
-    let own = Path::new(env!("CARGO_MANIFEST_DIR"));
-    for file in ["Cargo.toml", "Cargo.lock", "README.md", "build.rs"] {
-        std::fs::copy(own.join(file), package.join(file)).unwrap();
-    }
-    for source in std::fs::read_dir(own.join("src")).unwrap() {
-        let source = source.unwrap().path();
-        std::fs::copy(&source, package.join("src").join(source.file_name().unwrap())).unwrap();
-    }
-    std::fs::write(root.join("crates/one/src/lib.rt"), "").unwrap();
-    let script = format!(
-        "#!/bin/sh\necho \"$@\" >> runs\nmkdir -p target/staticlib\ncp '{}' target/staticlib/libexports.a\n",
-        library.join("libkelumavor.a").display()
-    );
-    std::fs::write(root.join("bin/rt"), script).unwrap();
-    let made = Command::new("chmod").arg("+x").arg(root.join("bin/rt")).status().unwrap();
-    assert!(made.success());
-    root
 }
 
-/// Builds the copy; answers how often its `rt` has run.
-fn runs(root: &Path) -> usize {
-    let path = format!("{}:{}", root.join("bin").display(), std::env::var("PATH").unwrap_or_default());
-    let output = Command::new(env!("CARGO"))
-        .args(["build", "--offline", "--manifest-path"])
-        .arg(root.join("bindings/rust/Cargo.toml"))
-        .arg("--target-dir")
-        .arg(root.join("build"))
-        .env("PATH", path)
-        .env_remove("KELUMAVOR_STATICLIB")
-        .output()
-        .unwrap();
-    assert!(output.status.success(), "{}", String::from_utf8_lossy(&output.stderr));
-    let said = std::fs::read_to_string(root.join("runs")).unwrap();
-    assert!(said.lines().all(|line| line == "staticlib exports"), "{said}");
-    said.lines().count()
+impl Remade {
+    fn new(library: &Path) -> Self {
+        let root = std::env::temp_dir().join(format!("kelumavor-remade-{}", std::process::id()));
+        std::fs::remove_dir_all(&root).ok();
+        let made = Remade(root);
+        let root = &made.0;
+        let package = root.join("bindings/rust");
+        for folder in [package.join("src"), root.join("crates/one/src"), root.join("crates/exports"), root.join("bin")]
+        {
+            std::fs::create_dir_all(folder).unwrap();
+        }
+        let own = Path::new(env!("CARGO_MANIFEST_DIR"));
+        for file in ["Cargo.toml", "Cargo.lock", "README.md", "build.rs"] {
+            std::fs::copy(own.join(file), package.join(file)).unwrap();
+        }
+        for source in std::fs::read_dir(own.join("src")).unwrap() {
+            let source = source.unwrap().path();
+            std::fs::copy(&source, package.join("src").join(source.file_name().unwrap())).unwrap();
+        }
+        std::fs::write(root.join("crates.txt"), "one:\nexports staticlib: one\n").unwrap();
+        std::fs::write(root.join("crates/one/src/lib.rt"), "").unwrap();
+        let script = format!(
+            "#!/bin/sh\necho \"$(basename \"$PWD\") $*\" >> ../../runs\nmkdir -p out\ncp '{}' out/libexports.a\n",
+            library.join("libkelumavor.a").display()
+        );
+        std::fs::write(root.join("bin/rt"), script).unwrap();
+        let status = Command::new("chmod").arg("+x").arg(root.join("bin/rt")).status().unwrap();
+        assert!(status.success());
+        made
+    }
+
+    /// Changes a file of a crate, with a later time than that of the library.
+    fn change(&self, file: &str) {
+        std::thread::sleep(std::time::Duration::from_millis(1100));
+        let file = self.0.join("crates/one").join(file);
+        std::fs::create_dir_all(file.parent().unwrap()).unwrap();
+        std::fs::write(file, "// changed\n").unwrap();
+    }
+
+    /// Builds the copy; answers how often its `rt` has run.
+    fn runs(&self) -> usize {
+        let path = format!("{}:{}", self.0.join("bin").display(), std::env::var("PATH").unwrap_or_default());
+        let output = Command::new(env!("CARGO"))
+            .args(["build", "--offline", "--manifest-path"])
+            .arg(self.0.join("bindings/rust/Cargo.toml"))
+            .arg("--target-dir")
+            .arg(self.0.join("build"))
+            .env("PATH", path)
+            .env_remove("KELUMAVOR_STATICLIB")
+            .output()
+            .unwrap();
+        assert!(output.status.success(), "{}", String::from_utf8_lossy(&output.stderr));
+        let said = std::fs::read_to_string(self.0.join("runs")).unwrap();
+        assert!(said.lines().all(|line| line == "exports lib"), "{said}");
+        said.lines().count()
+    }
 }
 
-/// The library is made where it is missing, and again after a source has changed.
+/// The library is made where it is missing, and again after a source has changed; what the toolchain keeps beside the sources is none.
 #[test]
 fn sources_that_change() {
-    let root = repository(&library("lent_version", &versioned(VERSION)));
-    assert_eq!(runs(&root), 1);
-    assert_eq!(runs(&root), 1);
-    std::thread::sleep(std::time::Duration::from_millis(1100));
-    std::fs::write(root.join("crates/one/src/lib.rt"), "// changed\n").unwrap();
-    assert_eq!(runs(&root), 2);
+    let made = Remade::new(&library("lent_version", &versioned(VERSION)));
+    assert_eq!(made.runs(), 1);
+    assert_eq!(made.runs(), 1);
+    made.change("src/lib.rt");
+    assert_eq!(made.runs(), 2);
+    made.change("out/rlib/one.rlib/src/lib.rt");
+    assert_eq!(made.runs(), 2);
 }
 
 #[test]

@@ -54,10 +54,11 @@ pub fn option_bits(options: Options) -> u32 {
 /// The path printer, which the toolchain makes where it is missing.
 fn path_printer() -> &'static Path {
     static PRINTER: LazyLock<PathBuf> = LazyLock::new(|| {
-        let printer = repository("target/bin/path_printer");
+        let folder = repository("crates/path_printer");
+        let printer = folder.join("out/path_printer");
         if !printer.exists() {
-            let made = Command::new("rt").args(["check", "path_printer"]).current_dir(repository(".")).output();
-            assert!(made.is_ok_and(|made| made.status.success()), "`rt check path_printer` makes the path printer");
+            let made = Command::new("rt").arg("run").stdin(Stdio::null()).current_dir(folder).output();
+            assert!(made.is_ok_and(|made| made.status.success()), "`rt run` makes the path printer");
         }
         printer
     });
