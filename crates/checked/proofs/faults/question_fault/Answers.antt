@@ -1,4 +1,3 @@
-use borrow.Author.Tests.{not-true, not-false}
 use Rattle.checked.proofs.Laws.{unknown, no_macro, sound, definitions_count, modules_count}
 use Rattle.snapshot.specs.Layouts.{snap_of}
 use Rattle.checked.proofs.faults.question_fault.Goals as goal
@@ -7,16 +6,16 @@ pub returns-then-unknown : goal.returns-then-unknown
 returns-then-unknown c =
     let s = c.args in
     λ A. unknown (snap_of s.words.now A s.l) s.q s.l.definitions s.l.modules (definitions_count s.words.now A s.l)
-    (modules_count s.words.now A s.l) (not-true _ c.if-unknown.true)
+    (modules_count s.words.now A s.l) c.if-unknown.true
 
 pub returns-then-misfit : goal.returns-then-misfit
 returns-then-misfit c =
     let s = c.args in
     λ A. no_macro (snap_of s.words.now A s.l) s.q s.l.definitions s.l.modules (definitions_count s.words.now A s.l)
-    (modules_count s.words.now A s.l) _ (not-false _ c.if-unknown.false) (c.kind_of-kind.ensures A) c.if-misfit.true
+    (modules_count s.words.now A s.l) _ c.if-unknown.false (c.kind_of-kind.ensures A) c.if-misfit.true
 
 pub returns : goal.returns
 returns c =
     let s = c.args in
     λ A. sound (snap_of s.words.now A s.l) s.q s.l.definitions s.l.modules (definitions_count s.words.now A s.l)
-    (modules_count s.words.now A s.l) _ (not-false _ c.if-unknown.false) (c.kind_of-kind.ensures A) c.if-misfit.false
+    (modules_count s.words.now A s.l) _ c.if-unknown.false (c.kind_of-kind.ensures A) c.if-misfit.false

@@ -70,7 +70,7 @@ loop-k-preserved c =
           (sym w.if-not-is_met.true ∙ c.is_met.ensures A₀) (record { some = c.requires.4; most = c.requires.5 }) c.requires.0 _ _
           w.report_for-r.ensures.area_unchanged w.report_for-r.auto.area
           (report_entry W c.loop-k.area c.args.l r c.loop-k.k _ c.loop-k-test.true c.scope_base-base.ensures c.args.v _
-          w.report_for-r.ensures.value) _ (w.reach-is ∙ w.tally.ensures))
+          w.report_for-r.ensures.value) _ (w.reach-is ∙ w.tally-reach.ensures))
       | else-not-is_met w ↦
           subst (λ x. Reaching W A₀ c.args.l c.args.v x c.if-not-is_met.reach (c.loop-k.k + 1)) (sym w.area-is)
           (subst (λ x. Reaching W A₀ c.args.l c.args.v c.loop-k.area x (c.loop-k.k + 1)) (sym w.reach-is)
