@@ -5,7 +5,7 @@ ghost use Rattle.std.specs.Prelude.{◌≡◌, length};
 
 use snapshot::ids::WordCount;
 use std::io;
-use streams::{read_input, say_unread};
+use streams::read_input;
 
 mod cases;
 mod line;
@@ -28,11 +28,6 @@ fn main(rt: HostRuntime) -> io::Result<()> {
     let mut words = space();
     let mut queries = space();
     let mut area = space();
-    let read = read_input(&rt, &mut text);
-    if read.failed {
-        say_unread(&rt);
-        return Ok(());
-    }
-    let n = read.count;
+    let n = read_input(&rt, &mut text).count;
     cases::run(&rt, &text[..n], &mut words, &mut queries, &mut area)
 }

@@ -8,7 +8,7 @@ mod cases;
 mod line;
 
 use std::io;
-use streams::{read_input, say_unread};
+use streams::read_input;
 
 fn list() -> [u8; 65536]
     ensures { 65536 ≡ length result }
@@ -27,12 +27,7 @@ fn main(rt: HostRuntime) -> io::Result<()> {
     let mut text = list();
     let mut words = space();
     let mut area = space();
-    let read = read_input(&rt, &mut text);
-    if read.failed {
-        say_unread(&rt);
-        return Ok(());
-    }
-    let n = read.count;
+    let n = read_input(&rt, &mut text).count;
     cases::run(&rt, &text[..n], &mut words, &mut area)?;
     area::run(&rt, &mut area)
 }

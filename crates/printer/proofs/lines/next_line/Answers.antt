@@ -1,4 +1,3 @@
-use borrow.Author.Tests.{not-true, not-false}
 use Rattle.printer.proofs.Laws.{turn_reach, turn_refused, turn_line, turn_route}
 use Rattle.printer.proofs.lines.next_line.Goals as goal
 
