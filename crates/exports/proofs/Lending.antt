@@ -3,7 +3,7 @@
 use mathlib.Core.List.{[], ◌∷◌, List}
 use Prim.Native.Nat.{ℕ}
 use seplogic.Ra.Ura.{Ura}
-use seplogic.Ra.TreeShare.{full_share}
+use base.Fraction.{full_share}
 use mir.Val.{Val}
 use base.Logic.{ent, guard, guard_i}
 use base.Fml.{Fml, fsep, fat}
