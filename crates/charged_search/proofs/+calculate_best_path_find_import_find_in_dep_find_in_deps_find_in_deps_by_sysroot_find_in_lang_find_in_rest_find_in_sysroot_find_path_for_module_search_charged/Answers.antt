@@ -26,12 +26,11 @@ use Rattle.charged_search.proofs.Runs.{imports_end, imports_next, deps_end, deps
 use Rattle.charged_search.proofs.+calculate_best_path_find_import_find_in_dep_find_in_deps_find_in_deps_by_sysroot_find_in_lang_find_in_rest_find_in_sysroot_find_path_for_module_search_charged.Goals as goal
 
 pub calculate_best_path-charge-requires : goal.calculate_best_path-charge-requires
-calculate_best_path-charge-requires t c =
-    (
-      module_small c.args.words.now c.args.area.now c.args.l c.args.item c.requires.0.ready.reads
-          c.requires.1.0,
-      c.requires.2,
-    )
+calculate_best_path-charge-requires t c = (
+  module_small c.args.words.now c.args.area.now c.args.l c.args.item c.requires.0.ready.reads
+      c.requires.1.0,
+  c.requires.2,
+)
 
 pub calculate_best_path-search_charged-requires : goal.calculate_best_path-search_charged-requires
 calculate_best_path-search_charged-requires t c =
@@ -75,7 +74,7 @@ find_import-returns-then-is_hidden t c =
     }
 
 pub find_import-length_left-n-requires : goal.find_import-length_left-n-requires
-find_import-length_left-n-requires t c = 
+find_import-length_left-n-requires t c =
     omega (arith, c.requires.3.few, c.requires.0.limit)
 
 pub find_import-find_path_for_module-r-requires : goal.find_import-find_path_for_module-r-requires
@@ -312,7 +311,7 @@ find_in_lang-returns-in_default t c =
     }
 
 pub find_in_lang-find_in_dep-requires : goal.find_in_lang-find_in_dep-requires
-find_in_lang-find_in_dep-requires t c = 
+find_in_lang-find_in_dep-requires t c =
     (omega (arith, c.decreases), (c.requires.0, c.requires.1))
 
 pub find_in_lang-returns : goal.find_in_lang-returns
@@ -342,7 +341,7 @@ find_in_rest-returns-then-is_stable t c =
     }
 
 pub find_in_rest-find_in_deps_by_sysroot-a-requires : goal.find_in_rest-find_in_deps_by_sysroot-a-requires
-find_in_rest-find_in_deps_by_sysroot-a-requires t c = 
+find_in_rest-find_in_deps_by_sysroot-a-requires t c =
     (omega (arith, c.decreases), (c.requires.0, c.requires.1))
 
 pub find_in_rest-find_in_deps_by_sysroot-requires : goal.find_in_rest-find_in_deps_by_sysroot-requires
@@ -407,7 +406,7 @@ find_path_for_module-returns-then-left-eq0 t c =
     }
 
 pub find_path_for_module-module_rules-choice-requires : goal.find_path_for_module-module_rules-choice-requires
-find_path_for_module-module_rules-choice-requires t c = 
+find_path_for_module-module_rules-choice-requires t c =
     (c.requires.0.reads, c.requires.0.from, c.requires.1)
 
 pub find_path_for_module-returns-then-choice : goal.find_path_for_module-returns-then-choice
@@ -455,7 +454,7 @@ search_charged-is_at-requires t c =
     (r, home_below a.words.now a.area.now a.l a.item r c.requires.1.0 (c.home_of-home.ensures a.area.now))
 
 pub search_charged-calculate_best_path_local-choice-requires : goal.search_charged-calculate_best_path_local-choice-requires
-search_charged-calculate_best_path_local-choice-requires t c = 
+search_charged-calculate_best_path_local-choice-requires t c =
     (c.requires.0.ready, c.requires.1, c.requires.0.some, c.requires.0.limit)
 
 pub search_charged-returns-then-is_at : goal.search_charged-returns-then-is_at
