@@ -11,7 +11,6 @@ use lib.Dec.{eqb, leb}
 use borrow.Author.Tests.{eqb-true, eqb-false, leb-true, leb-false, lt-leb, not-true}
 use Rattle.snapshot.specs.Lists.{rows, any, all}
 use Rattle.snapshot.specs.Limits.{word_limit, module_limit}
-use Rattle.snapshot.specs.Refusals.{words_refusal, place_refusal}
 use Rattle.snapshot.specs.Sizes.{crate_size, dependency_size, child_size, prelude_size, definition_size, scope_size, import_size, extern_size, member_size}
 use Rattle.snapshot.specs.Records.{Map, map_at, crate_at, dependency_at, child_at, prelude_at, definition_at, scope_at, import_at, extern_at, member_at}
 use Rattle.snapshot.specs.Layouts.{crate_base, dependency_base, child_base, prelude_base, definition_base, scope_base, import_base, extern_base, member_base}
@@ -20,12 +19,13 @@ use Rattle.snapshot.specs.Layouts.{module_table, root_table}
 use Rattle.snapshot.specs.declared.layout.Layout.{Layout}
 use Rattle.snapshot.proofs.Laws.{length_rows, get_d_rows}
 use Rattle.check_rules.specs.Tests.{no_map, is_own, is_in, maps_filled, crates_own}
-use Rattle.check_rules.specs.Verdict.{refuse, accept, finish, verdict}
+use Rattle.check_rules.specs.Verdict.{accept, finish, verdict}
 use Rattle.record_rules.specs.Stands.{own_of, Stands, Rooted}
 use Rattle.accept.specs.Post.{Judged}
 use Rattle.accept.specs.Ends.{Ended}
-use Rattle.accept.specs.declared.check.Checked.{Checked}
-use Rattle.accept.specs.declared.check.Checked.TheVariants.{Refused, Accepted}
+use Rattle.std.specs.Prelude.{Ok, Err}
+use Rattle.snapshot.specs.declared.refusal.Refusal.TheVariants.{Words, Place}
+use Rattle.accept.specs.declared.check.Refused.{Refused}
 use Rattle.record_rules.proofs.Judged.{and_left, and_right}
 use Rattle.module_records.proofs.Regions.{own_any}
 use Rattle.record_rules.proofs.Tabled.{Kept, names_kept, modules_kept, heads_kept}
@@ -111,12 +111,12 @@ module _ (W A : List ℕ) (k : ℕ) (l : Layout) (ms : List Map) (st : Stands W 
 
   module _ (v : verdict W ≡ finish (length W) (snap_with W A l ms)) where
     pub not_filled : {a : Bool} → a ≡ all (λ j. any (is_in j) (modules_of A l.modules)) (rows (λ j. j) 0 l.maps)
-        → a ≡ false → Judged W A (Refused place_refusal (length W))
+        → a ≡ false → Judged W A (Err (record { why = Place; at = length W }))
     unfolding finish
     not_filled e h = record { same = sym (v ∙ rw (finish, ← filled_same, ← e, h)); tables = tt }
 
     pub not_owned : {a b : Bool} → a ≡ all (λ j. any (is_in j) (modules_of A l.modules)) (rows (λ j. j) 0 l.maps) → a ≡ true
-        → b ≡ all (λ c. not (eqb (own_map A c) 0)) (rows (λ c. c) 0 l.crates) → b ≡ false → Judged W A (Refused place_refusal (length W))
+        → b ≡ all (λ c. not (eqb (own_map A c) 0)) (rows (λ c. c) 0 l.crates) → b ≡ false → Judged W A (Err (record { why = Place; at = length W }))
     unfolding finish
     not_owned e h f g = record { same = sym (v ∙ rw (finish, ← filled_same, ← e, h, ← owned_same, ← f, g)); tables = tt }
 
@@ -184,7 +184,7 @@ module _ (W A : List ℕ) (k : ℕ) (l : Layout) (ms : List Map) (st : Stands W 
 
       pub accepted : length W ≤ word_limit → verdict W ≡ finish (length W) (snap_with W A l ms)
           → all (λ c. not (eqb (own_map A c) 0)) (rows (λ c. c) 0 l.crates) ≡ true
-          → Judged W B (Accepted l)
+          → Judged W B (Ok l)
       unfolding finish
       accepted short v owned =
           record {
@@ -213,14 +213,9 @@ module _ (W A : List ℕ) (k : ℕ) (l : Layout) (ms : List Map) (st : Stands W 
                 };
           }
 
-pub too_long : (W A : List ℕ) → word_limit < length W → Judged W A (Refused words_refusal word_limit)
+pub too_long : (W A : List ℕ) → word_limit < length W → Judged W A (Err (record { why = Words; at = word_limit }))
 unfolding verdict
 too_long W A h = record { same = sym (rw (verdict, lt-leb _ _ h)); tables = tt }
 
-pub ended_all : (W A : List ℕ) {r : Checked} {l : Layout} → r ≡ Accepted l → Ended W A r → Ended W A (Accepted l)
-ended_all W A e h = subst (λ x. Ended W A x) e h
-
-pub ended_judged : (W A : List ℕ) {r : Checked} {n at : ℕ} → r ≡ Refused n at → Ended W A r → Judged W A r
-ended_judged W A {n = n} {at = at} e h =
-    let g : verdict W ≡ refuse n at = subst (λ x. Ended W A x) e h in
-    subst (λ x. Judged W A x) (sym e) (record { same = sym g; tables = tt })
+pub ended_judged : (W A : List ℕ) (e : Refused) → Ended W A (Err e) → Judged W A (Err e)
+ended_judged W A e h = record { same = sym h; tables = tt }

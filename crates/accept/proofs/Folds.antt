@@ -17,9 +17,10 @@ use Rattle.check_rules.specs.Verdict.{step_at, refuse, finish, records, verdict}
 use Rattle.record_rules.specs.Stands.{Here, Stands, Answered}
 use Rattle.accept.specs.Ends.{Ended}
 use Rattle.record_rules.proofs.Indexed.{indexes_none}
-use Rattle.record_rules.specs.declared.judge.Step.{Step}
-use Rattle.record_rules.specs.declared.judge.Step.TheVariants.{No, On}
-use Rattle.accept.specs.declared.check.Checked.TheVariants.{Accepted}
+use Rattle.std.specs.Prelude.{Result, Ok, Err, MatchResult}
+use Rattle.std.specs.Result.{IsErrAnd}
+use Rattle.snapshot.specs.Refusals.{refusal_number}
+use Rattle.snapshot.specs.declared.refusal.Refusal.{Refusal}
 
 module _ (W : List ℕ) (at last : ℕ) (s : Snapshot) where
   records_stop : (f n : ℕ) → at < length W → length W ≤ f + at → step_at W at last s ≡ no n → records f W at last s ≡ refuse n at
@@ -98,28 +99,40 @@ going_here W A at last l g h s r = record {
 }
 
 -- r is what a turn answered, B the area after it
-module _ (W A B : List ℕ) (at last : ℕ) (l : Layout) (r : Step) (g : Going W A at last l) (h : at < length W)
+module _ (W A B : List ℕ) (at last : ℕ) (l : Layout) (r : Result Layout Refusal) (g : Going W A at last l) (h : at < length W)
     (a : (ms : List Map) → Stands W A last at l ms → Answered W B (kind_of (get_or W at 0)) (at + 1 + arguments_at W at)
     (step_at W at last (snap_with W A l ms)) r)
   where
-    answer : {t : Step} → r ≡ t → Answered W B (kind_of (get_or W at 0)) (at + 1 + arguments_at W at) (step_at W at last (snap_with W A l g.maps)) t
+    answer : {t : Result Layout Refusal} → r ≡ t → Answered W B (kind_of (get_or W at 0)) (at + 1 + arguments_at W at) (step_at W at last (snap_with W A l g.maps)) t
     answer e = subst (λ x. Answered W B (kind_of (get_or W at 0)) (at + 1 + arguments_at W at) (step_at W at last (snap_with W A l g.maps)) x) e
         (a g.maps g.stands)
 
-    pub going_stop : (n : ℕ) → r ≡ No n → verdict W ≡ refuse n at
-    going_stop n e = g.same ∙ records_stop W at last (snap_with W A l g.maps) g.fuel n h g.enough (answer e)
+    pub going_stop : (n : Refusal) → r ≡ Err n → verdict W ≡ refuse (refusal_number n) at
+    going_stop n e = g.same ∙ records_stop W at last (snap_with W A l g.maps) g.fuel (refusal_number n) h g.enough (answer e)
 
-    going_next : (m : Layout) → r ≡ On m → Going W B (at + 1 + arguments_at W at) (kind_of (get_or W at 0)) m
+    going_next : (m : Layout) → r ≡ Ok m → Going W B (at + 1 + arguments_at W at) (kind_of (get_or W at 0)) m
     going_next m e =
         let b = answer e in
         let x = records_go W at last (snap_with W A l g.maps) g.fuel (snap_with W B m b.0) h g.enough b.1 in
         record { maps = b.0; stands = b.2; fuel = x.0; enough = x.1; same = g.same ∙ x.2 }
 
-    pub going_on : (m : Layout) → r ≡ On m → {n k : ℕ} → n ≡ arguments_at W at → k ≡ kind_of (get_or W at 0) → Going W B (at + 1 + n) k m
+    pub going_on : (m : Layout) → r ≡ Ok m → {n k : ℕ} → n ≡ arguments_at W at → k ≡ kind_of (get_or W at 0) → Going W B (at + 1 + n) k m
     going_on m e {k = k} en ek = subst (λ n. Going W B (at + 1 + n) k m) (sym en)
         (subst (λ k. Going W B (at + 1 + arguments_at W at) k m) (sym ek) (going_next m e))
 
-pub going_end : (W A : List ℕ) (at last : ℕ) (l : Layout) → Going W A at last l → length W ≤ at → Ended W A (Accepted l)
+pub going_end : (W A : List ℕ) (at last : ℕ) (l : Layout) → Going W A at last l → length W ≤ at → Ended W A (Ok l)
 going_end W A at last l g h =
     let e : at ≡ length W = (let q = g.stands.within in omega arith) in
     (g.maps, last, subst (λ p. Stands W A last p l g.maps) e g.stands, g.same ∙ records_end W at last (snap_with W A l g.maps) g.fuel h)
+
+-- what an answer was, before its error was mapped
+
+pub before_ok : {T E D : Type 0} (P : E → D → Type 0) (s : Result T E) {r : Result T D} (x : T)
+    → MatchResult s (λ y. r ≡ Ok y) (λ e. IsErrAnd r (P e)) → r ≡ Ok x → s ≡ Ok x
+before_ok P (Ok y) x h e = cc
+before_ok P (Err f) x h e = absurd (subst (λ z. IsErrAnd z (P f)) e h)
+
+pub before_err : {T E D : Type 0} (P : E → D → Type 0) (s : Result T E) {r : Result T D} (d : D)
+    → MatchResult s (λ y. r ≡ Ok y) (λ e. IsErrAnd r (P e)) → r ≡ Err d → (e : E) × (s ≡ Err e) × P e d
+before_err P (Ok y) {r = r} d h e = absurd (let f : Ok y ≡ Err d = sym h ∙ e in cc)
+before_err P (Err f) d h e = (f, refl, subst (λ z. IsErrAnd z (P f)) e h)

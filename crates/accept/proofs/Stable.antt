@@ -7,7 +7,6 @@ use lib.ListN.{length, get_or, drop, get_or-append}
 use lib.Seq.{drop_at}
 use borrow.Author.Tests.{lt-ltb, le-ltb}
 use Rattle.snapshot.specs.Limits.{area_limit}
-use Rattle.snapshot.specs.Refusals.{area_refusal}
 use Rattle.snapshot.specs.Sizes.{crate_size, dependency_size, child_size, prelude_size, definition_size, scope_size, import_size, extern_size, member_size}
 use Rattle.snapshot.specs.Records.{map_at, crate_at, dependency_at, child_at, prelude_at, definition_at, scope_at, import_at, extern_at, member_at}
 use Rattle.snapshot.specs.Layouts.{crate_base, dependency_base, child_base, prelude_base, definition_base, scope_base, import_base, extern_base, member_base}
@@ -18,9 +17,9 @@ use Rattle.snapshot.proofs.Laws.{rows_ext}
 use Rattle.check_rules.specs.Tests.{no_map}
 use Rattle.check_rules.specs.Verdict.{accept}
 use Rattle.record_rules.specs.Stands.{own_of}
-use Rattle.accept.specs.Post.{Tables, Reads, Judged, Checks, check_of, outcome, Readable}
-use Rattle.accept.specs.declared.check.Checked.{Checked}
-use Rattle.accept.specs.declared.check.Checked.TheVariants.{Refused, Accepted}
+use Rattle.accept.specs.Post.{Tables, Reads, Judged, Checks, check_of, outcome, Readable, Checked}
+use Rattle.std.specs.Prelude.{Ok, Err}
+use Rattle.snapshot.specs.declared.refusal.Refusal.TheVariants.{Area}
 use Rattle.record_rules.proofs.Tabled.{Kept, names_kept, modules_kept, heads_kept}
 
 module _ (W A B : List ℕ) (l : Layout) (t : Tables W A l) (kept : Kept A B 0 table_words) where
@@ -91,12 +90,12 @@ module _ (W A B : List ℕ) (large : area_limit ≤ length A) (long : length B �
   joined i p q = get_or-append B (drop area_limit A) 0 i (omega arith)
 
   same_at : (r : Checked) → Readable W B r → outcome W (B ++ drop area_limit A) r ≡ outcome W B r
-  same_at (Refused n at) t = refl
-  same_at (Accepted l) t = ap accept (snap_stays W B (B ++ drop area_limit A) l t joined)
+  same_at (Err e) t = refl
+  same_at (Ok l) t = ap accept (snap_stays W B (B ++ drop area_limit A) l t joined)
 
   tables_at : (r : Checked) → Readable W B r → Readable W (B ++ drop area_limit A) r
-  tables_at (Refused n at) t = tt
-  tables_at (Accepted l) t = tables_stay W B (B ++ drop area_limit A) l t joined
+  tables_at (Err e) t = tt
+  tables_at (Ok l) t = tables_stay W B (B ++ drop area_limit A) l t joined
 
   pub checks_part : (r : Checked) → Judged W B r → Checks W A (B ++ drop area_limit A) r
   unfolding check_of
@@ -108,7 +107,7 @@ module _ (W A B : List ℕ) (large : area_limit ≤ length A) (long : length B �
         untouched = λ h. absurd (omega arith);
       }
 
-pub checks_small : (W A : List ℕ) → length A < area_limit → Checks W A A (Refused area_refusal 0)
+pub checks_small : (W A : List ℕ) → length A < area_limit → Checks W A A (Err (record { why = Area; at = 0 }))
 unfolding check_of
 checks_small W A h = record { same = sym (rw (check_of, lt-ltb _ _ h)); tables = tt; rest = refl; untouched = λ g. refl }
 

@@ -7,7 +7,11 @@ use native.Mathlib.Omega.{arith}
 use lib.ListN.{length, get_or}
 use lib.Dec.{eqb, leb, ltb, lit≤}
 use borrow.Author.Tests.{ltb-true, leb-true, eqb-true, eqb-false, not-true}
+use Rattle.std.specs.Prelude.{None}
 use Rattle.snapshot.specs.Refusals.{form_refusal}
+use Rattle.snapshot.specs.Kinds.{kind_number, kind_with}
+use Rattle.snapshot.specs.declared.kind.Kind.{Kind}
+use Rattle.snapshot.proofs.KindLaws.{kind_unknown, kind_bounds}
 use Rattle.snapshot.specs.Words.{kind_of, pay_of, words_of, argument_table, arguments_of, arguments_at}
 use Rattle.snapshot.specs.Sizes.{scope_size}
 use Rattle.snapshot.specs.Records.{Map, Snapshot}
@@ -16,10 +20,11 @@ use Rattle.snapshot.specs.declared.layout.Layout.{Layout}
 use Rattle.check_rules.specs.Steps.{Next, no, need}
 use Rattle.check_rules.specs.Verdict.{follows, arguments_from, record_step, step_at}
 use Rattle.record_rules.specs.Stands.{Here, Ready, Stands, Answered}
-use Rattle.record_rules.specs.declared.judge.Step.{Step}
+use Rattle.std.specs.Prelude.{Result}
+use Rattle.snapshot.specs.declared.refusal.Refusal.{Refusal}
 use Rattle.record_rules.proofs.Judged.{and_left, and_right}
 
-pub answers_at : (W A : List ℕ) (r : Step) {k j n m : ℕ} {x y : Next} → k ≡ j → n ≡ m → x ≡ y → Answered W A j m y r → Answered W A k n x r
+pub answers_at : (W A : List ℕ) (r : Result Layout Refusal) {k j n m : ℕ} {x y : Next} → k ≡ j → n ≡ m → x ≡ y → Answered W A j m y r → Answered W A k n x r
 answers_at W A r {k} {j} {n} {m} {x} {y} e f g a =
     subst (λ t. Answered W A t n x r) (sym e) (subst (λ t. Answered W A j t x r) (sym f) (subst (λ t. Answered W A j m t r) (sym g) a))
 
@@ -29,42 +34,18 @@ ends_at : (W : List ℕ) (at j : ℕ) {k next : ℕ} → k ≡ kind_of (get_or W
 ends_at W at j ek ej e = ap (λ x. at + 1 + arguments_of x (pay_of (get_or W at 0))) (sym ek ∙ ej) ∙ e
 
 -- what the step of kind j asks and answers, in the terms of the record's own kind
-module _ {W A : List ℕ} {l : Layout} {at k next : ℕ} (j : ℕ) (ek : (k ≡ kind_of (get_or W at 0)) × (1 ≤ k) × (k ≤ 13) × (k ≡ 12 → ⊥)) (ej : k ≡ j)
+module _ {W A : List ℕ} {l : Layout} {at k next : ℕ} (j : ℕ) (ek : k ≡ kind_of (get_or W at 0)) (ej : k ≡ j)
     (e : at + 1 + arguments_of j (pay_of (get_or W at 0)) ≡ next)
   where
     pub kind_ready : Ready W A l at (at + 1 + arguments_at W at) → Ready W A l at next
-    kind_ready r = subst (λ x. Ready W A l at x) (ends_at W at j ek.0 ej e) r
+    kind_ready r = subst (λ x. Ready W A l at x) (ends_at W at j ek ej e) r
 
-    pub kind_answers : (B : List ℕ) (r : Step) → ((ms : List Map) → Stands W A j at l ms
+    pub kind_answers : (B : List ℕ) (r : Result Layout Refusal) → ((ms : List Map) → Stands W A j at l ms
         → Answered W B j next (record_step j W at (snap_with W A l ms)) r)
         → (ms : List Map) → Stands W A k at l ms → Answered W B k (at + 1 + arguments_at W at) (record_step k W at (snap_with W A l ms)) r
     kind_answers B r f ms st =
-        answers_at W B r ej (ends_at W at j ek.0 ej e) (ap (λ x. record_step x W at (snap_with W A l ms)) ej)
+        answers_at W B r ej (ends_at W at j ek ej e) (ap (λ x. record_step x W at (snap_with W A l ms)) ej)
         (f ms (subst (λ x. Stands W A x at l ms) ej st))
-
--- none of the first eleven kinds
-pub thirteen : {X : Type 0} {k w : ℕ} → (k ≡ w) × (1 ≤ k) × (k ≤ 13) × (k ≡ 12 → ⊥)
-    → (((((((((((X × (k ≡ 1 → ⊥)) × (k ≡ 2 → ⊥)) × (k ≡ 3 → ⊥)) × (k ≡ 4 → ⊥)) × (k ≡ 5 → ⊥)) × (k ≡ 6 → ⊥))
-    × (k ≡ 7 → ⊥)) × (k ≡ 8 → ⊥)) × (k ≡ 9 → ⊥)) × (k ≡ 10 → ⊥)) × (k ≡ 11 → ⊥)) → k ≡ 13
-thirteen {k = k} p r =
-    let p2 = beyond k 1 p.1 r.0.0.0.0.0.0.0.0.0.0.1 in
-    let p3 = beyond k 2 p2 r.0.0.0.0.0.0.0.0.0.1 in
-    let p4 = beyond k 3 p3 r.0.0.0.0.0.0.0.0.1 in
-    let p5 = beyond k 4 p4 r.0.0.0.0.0.0.0.1 in
-    let p6 = beyond k 5 p5 r.0.0.0.0.0.0.1 in
-    let p7 = beyond k 6 p6 r.0.0.0.0.0.1 in
-    let p8 = beyond k 7 p7 r.0.0.0.0.1 in
-    let p9 = beyond k 8 p8 r.0.0.0.1 in
-    let p10 = beyond k 9 p9 r.0.0.1 in
-    let p11 = beyond k 10 p10 r.0.1 in
-    let p12 = beyond k 11 p11 r.1 in
-    last k (beyond k 12 p12 p.3) p.2
-  where
-    beyond : (k n : ℕ) → n ≤ k → (k ≡ n → ⊥) → n + 1 ≤ k
-    beyond k n p h = omega arith
-
-    last : (k : ℕ) → 12 + 1 ≤ k → k ≤ 13 → k ≡ 13
-    last k p q = omega arith
 
 -- one record of any kind
 module _ (W : List ℕ) (at last : ℕ) (s : Snapshot) {k : ℕ} (ek : k ≡ kind_of (get_or W at 0)) where
@@ -88,15 +69,13 @@ module _ (W : List ℕ) (at last : ℕ) (s : Snapshot) {k : ℕ} (ek : k ≡ kin
   turn_on h e g = turn_right h ∙ ap (λ b. need b form_refusal (record_step (kind_of (get_or W at 0)) W at s)) (ap (arguments_from W (at + 1)) (sym e) ∙ g)
       ∙ ap (λ j. record_step j W at s) (sym ek)
 
-pub known_kind : (last k : ℕ) → follows last k ≡ true → (1 ≤ k) × (k ≤ 13) × (k ≡ 12 → ⊥)
-known_kind last k h =
-    let p = leb 1 k in
-    let q = leb k 13 in
-    let t = not (eqb k 12) in
-    let r = leb last k || eqb last 5 && eqb k 4 in
-    let u = and_left (p && q && t) r h in
-    let v = and_left (p && q) t u in
-    (leb-true _ _ (and_left p q v), leb-true _ _ (and_right p q v), eqb-false _ _ (not-true _ (and_right (p && q) t u)))
+-- a number that is no kind's
+pub follows_none : (last k : ℕ) → kind_with k ≡ None → follows last k ≡ false
+follows_none last k e = ap (λ b. b && (leb last k || eqb last 5 && eqb k 4)) (kind_unknown k e)
+
+-- a kind's
+pub follows_kind : (last : ℕ) (k : Kind) → (leb last (kind_number k) || eqb last 5 && eqb (kind_number k) 4) ≡ follows last (kind_number k)
+follows_kind last k = ap (λ b. b && (leb last (kind_number k) || eqb last 5 && eqb (kind_number k) 4)) (sym (kind_bounds k))
 
 -- a record of a later kind, or a map after a module
 rises : (last k : ℕ) → follows last k ≡ true → (t : ℕ) → (t ≡ 5 → ⊥) → k < t → last < t

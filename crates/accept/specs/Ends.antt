@@ -1,14 +1,14 @@
 -- What holds where all the records are read, before the tests that come after the last.
-use Rattle.std.specs.Prelude.{ℕ, ◌≡◌, List, length}
+use Rattle.std.specs.Prelude.{ℕ, ◌≡◌, List, length, Ok, Err}
+use Rattle.snapshot.specs.Refusals.{refusal_number}
 use Rattle.snapshot.specs.Records.{Map}
 use Rattle.snapshot.specs.Layouts.{snap_with}
 use Rattle.check_rules.specs.Verdict.{refuse, finish, verdict}
 use Rattle.record_rules.specs.Stands.{Stands}
-use Rattle.accept.specs.declared.check.Checked.{Checked}
-use Rattle.accept.specs.declared.check.Checked.TheVariants.{Refused, Accepted}
+use Rattle.accept.specs.Post.{Checked}
 
 -- a record is refused, or the verdict is that of the last tests
 abbrev pub Ended : List ℕ → List ℕ → Checked → Type 0
-Ended W A (Refused n at) = verdict W ≡ refuse n at
-Ended W A (Accepted l) =
+Ended W A (Err e) = verdict W ≡ refuse (refusal_number e.why) e.at
+Ended W A (Ok l) =
     (ms : List Map) × (k : ℕ) × Stands W A k (length W) l ms × (verdict W ≡ finish (length W) (snap_with W A l ms))

@@ -1,7 +1,7 @@
 -- What the check promises, and what a reader of accepted words may rely on.
-use Rattle.std.specs.Prelude.{ℕ, ◌+◌, ◌≤◌, ◌<◌, ◌≡◌, List, true, false, ltb, length, get_or, drop}
+use Rattle.std.specs.Prelude.{ℕ, ◌+◌, ◌≤◌, ◌<◌, ◌≡◌, List, true, false, ltb, length, get_or, drop, Result, Ok, Err}
 use Rattle.snapshot.specs.Limits.{area_limit, word_limit}
-use Rattle.snapshot.specs.Refusals.{area_refusal}
+use Rattle.snapshot.specs.Refusals.{area_refusal, refusal_number}
 use Rattle.snapshot.specs.Words.{pay_of, words_of}
 use Rattle.snapshot.specs.Records.{map_at}
 use Rattle.snapshot.specs.Layouts.{word_count, name_head, module_map, module_head, map_root, own_map, maps_of, snap_of}
@@ -9,8 +9,11 @@ use Rattle.snapshot.specs.declared.layout.Layout.{Layout}
 use Rattle.check_rules.specs.Verdict.{Verdict, refuse, accept, verdict}
 use Rattle.check_rules.specs.Tests.{no_map}
 use Rattle.record_rules.specs.Stands.{Limited, own_of}
-use Rattle.accept.specs.declared.check.Checked.{Checked}
-use Rattle.accept.specs.declared.check.Checked.TheVariants.{Refused, Accepted}
+use Rattle.accept.specs.declared.check.Refused.{Refused}
+
+-- what the check answers
+abbrev pub Checked : Type 0
+Checked = Result Layout Refused
 
 -- the layout and the tables of accepted words: everything lies within the words, and the tables say what the lists say
 pub record Tables (W A : List ℕ) (l : Layout) : Type 0 where
@@ -44,12 +47,12 @@ check_of n W = elim (ltb n area_limit) [ true ↦ refuse area_refusal 0 | false 
 
 -- an answer as a verdict; A is the area that it leaves
 abbrev pub outcome : List ℕ → List ℕ → Checked → Verdict
-outcome W A (Refused n at) = refuse n at
-outcome W A (Accepted l) = accept (snap_of W A l)
+outcome W A (Err e) = refuse (refusal_number e.why) e.at
+outcome W A (Ok l) = accept (snap_of W A l)
 
 abbrev pub Readable : List ℕ → List ℕ → Checked → Type 0
-Readable W A (Refused n at) = Unit
-Readable W A (Accepted l) = Tables W A l
+Readable W A (Err e) = Unit
+Readable W A (Ok l) = Tables W A l
 
 -- the answer is the verdict's, and accepted words can be read by the tables
 pub record Judged (W A : List ℕ) (r : Checked) : Type 0 where

@@ -9,17 +9,13 @@ pub fn arguments_from(words: &[u32], at: usize, n: usize) -> bool
     requires { at + n < 2 ^ 64 }
     ensures { result ≡ arguments_from words.now at n }
 {
-    let mut i = at;
-    let mut left = n;
-    while 0 < left {
+    for i in at..at + n {
         if words.len() <= i {
             return false;
         }
         if kind(words, i) != 0 {
             return false;
         }
-        i += 1;
-        left -= 1;
     }
     true
 }

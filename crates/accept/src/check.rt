@@ -1,5 +1,5 @@
 //! The check of all the words.
-ghost use Rattle.std.specs.Prelude.{◌≤◌, length};
+ghost use Rattle.std.specs.Prelude.{◌≡◌, ◌≤◌, length};
 ghost use Rattle.snapshot.specs.Limits.{word_limit, area_limit};
 ghost use Rattle.accept.specs.Post.{Judged, Checks};
 ghost use Rattle.accept.specs.Ends.{Ended};
@@ -7,22 +7,29 @@ ghost use Rattle.accept.specs.Ends.{Ended};
 use crate::finish::{crates_own, fill_roots, maps_filled};
 use crate::turn::turn;
 use chains::chain::{Chains, clear};
-use record_rules::judge::Step;
 use snapshot::ids::WordCount;
 use snapshot::kind::arguments;
 use snapshot::layout::Layout;
-use snapshot::refusal::CheckRefusal;
+use snapshot::refusal::Refusal;
 use snapshot::words::kind;
 
-/// A refusal by its number, with the place of the record or the number of words; or where the records stand.
-#[derive(Clone, Copy)]
-pub enum Checked {
-    Refused(u32, usize),
-    Accepted(Layout),
+/// Why words are refused, and where: at the offset of a record, or at the number of words for a fault after the last.
+#[derive(Clone, Copy, PartialEq, Eq)]
+pub struct Refused {
+    pub why: Refusal,
+    pub at: usize,
+}
+
+impl From<Refused> for Refusal {
+    ghost from_gives = { λ no why. why ≡ no.why };
+
+    fn from(no: Refused) -> Refusal {
+        no.why
+    }
 }
 
 // The records one after the other.
-fn read_records(words: &[u32], area: &mut [u32]) -> Checked
+fn read_records(words: &[u32], area: &mut [u32]) -> Result<Layout, Refused>
     requires { (length words.now ≤ word_limit) × (area_limit ≤ length area.old) }
     ensures { Ended words.now area.new result }
 {
@@ -31,49 +38,50 @@ fn read_records(words: &[u32], area: &mut [u32]) -> Checked
     let mut last = 0;
     let mut l = Layout::new();
     while at < words.len() {
-        let s = turn(words, area, l, at, last);
-        match s {
-            Step::No(n) => {
-                return Checked::Refused(n, at);
-            }
-            Step::On(m) => {
-                l = m;
-                last = kind(words, at);
-                at = at + 1 + arguments(words, at);
-            }
-        }
+        l = turn(words, area, l, at, last).map_err(|why| Refused { why, at })?;
+        last = kind(words, at);
+        at = at + 1 + arguments(words, at);
     }
-    Checked::Accepted(l)
+    Ok(l)
 }
 
 // The check in an area that is large enough.
-fn check_within(words: &[u32], area: &mut [u32]) -> Checked
+fn check_within(words: &[u32], area: &mut [u32]) -> Result<Layout, Refused>
     requires { area_limit ≤ length area.old }
     ensures { Judged words.now area.new result }
 {
     if WordCount::SNAPSHOT < words.len() {
-        return Checked::Refused(CheckRefusal::WORDS, WordCount::SNAPSHOT);
+        return Err(Refused {
+            why: Refusal::Words,
+            at: WordCount::SNAPSHOT,
+        });
     }
-    let k = read_records(words, area);
-    let Checked::Accepted(l) = k else {
-        return k;
-    };
+    let l = read_records(words, area)?;
     if !maps_filled(area, l.maps, l.modules) {
-        return Checked::Refused(CheckRefusal::PLACE, words.len());
+        return Err(Refused {
+            why: Refusal::Place,
+            at: words.len(),
+        });
     }
     if !crates_own(area, l.crates) {
-        return Checked::Refused(CheckRefusal::PLACE, words.len());
+        return Err(Refused {
+            why: Refusal::Place,
+            at: words.len(),
+        });
     }
     fill_roots(area, l.modules);
-    Checked::Accepted(l)
+    Ok(l)
 }
 
 /// The check of the words, which leaves the tables of accepted words in the work area.
-pub fn check(words: &[u32], area: &mut [u32]) -> Checked
+pub fn check(words: &[u32], area: &mut [u32]) -> Result<Layout, Refused>
     ensures { Checks words.now area.old area.new result }
 {
     if area.len() < WordCount::AREA {
-        return Checked::Refused(CheckRefusal::AREA, 0);
+        return Err(Refused {
+            why: Refusal::Area,
+            at: 0,
+        });
     }
     check_within(words, &mut area[..WordCount::AREA])
 }

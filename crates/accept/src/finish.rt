@@ -15,12 +15,10 @@ pub fn maps_filled(area: &[u32], maps: usize, modules: usize) -> bool
     requires { (maps < 2 ^ 32) × (modules ≤ module_limit) }
     ensures { result ≡ all (λ k. any (is_in k) (modules_of area.now modules)) (rows (λ k. k) 0 maps) }
 {
-    let mut k = 0;
-    while k < maps {
+    for k in 0..maps {
         if !has_module(area, modules, k) {
             return false;
         }
-        k += 1;
     }
     true
 }
@@ -30,12 +28,10 @@ pub fn crates_own(area: &[u32], crates: usize) -> bool
     requires { crates ≤ crate_limit }
     ensures { result ≡ all (λ c. not (eqb (own_map area.now c) 0)) (rows (λ c. c) 0 crates) }
 {
-    let mut c = 0;
-    while c < crates {
+    for c in 0..crates {
         if own_map(area, Crate(c)) == 0 {
             return false;
         }
-        c += 1;
     }
     true
 }
@@ -46,9 +42,7 @@ pub fn fill_roots(area: &mut [u32], modules: usize)
     requires by_index { (m : ℕ) → m < modules → module_map area.old m < module_limit }
     ensures { Rooted area.old area.new modules }
 {
-    let mut m = modules;
-    while 0 < m {
-        m -= 1;
+    for m in (0..modules).rev() {
         let map = module_map(area, ModuleId(m));
         area[Tables::ROOTS + map] = m as u32;
     }

@@ -1,5 +1,6 @@
 //! One record, by its kind.
-ghost use Rattle.std.specs.Prelude.{◌≡◌, List, ◌+◌, ◌≤◌, get_or};
+ghost use Rattle.std.specs.Prelude.{◌≡◌, List, ◌+◌, get_or};
+ghost use Rattle.snapshot.specs.Kinds.{kind_number};
 ghost use Rattle.snapshot.specs.Words.{kind_of, arguments_at};
 ghost use Rattle.snapshot.specs.Records.{Map};
 ghost use Rattle.snapshot.specs.Layouts.{snap_with};
@@ -7,59 +8,72 @@ ghost use Rattle.check_rules.specs.Verdict.{follows as follows_of, record_step, 
 ghost use Rattle.record_rules.specs.Stands.{Ready, Here, Stands, Answered};
 
 use crate::arguments::arguments_from;
-use record_rules::judge::Step;
 use snapshot::kind::{Kind, arguments};
 use snapshot::layout::Layout;
-use snapshot::refusal::CheckRefusal;
+use snapshot::refusal::Refusal;
 use snapshot::words::kind;
 
 // Whether a record of a kind may follow one of the last kind.
-fn follows(last: usize, kind: usize) -> bool
-    ensures { result ≡ follows_of last kind }
+fn follows(last: usize, kind: Kind) -> bool
+    ensures { result ≡ follows_of last (kind_number kind) }
 {
-    let again = (last == Kind::MODULE) & (kind == Kind::MAP);
-    (Kind::NAME <= kind) & (kind <= Kind::MEMBER) & (kind != 12) & ((last <= kind) | again)
+    let again = (last == Kind::Module as usize) & (kind == Kind::Map);
+    (last <= kind as usize) | again
 }
 
 // The record of a known kind.
-fn by_kind(words: &[u32], area: &mut [u32], l: Layout, at: usize, k: usize) -> Step
+fn by_kind(
+    words: &[u32],
+    area: &mut [u32],
+    l: Layout,
+    at: usize,
+    kind: Kind,
+) -> Result<Layout, Refusal>
     requires ready { Ready words.now area.old l at (at + 1 + arguments_at words.now at) }
-    requires k_value { (k ≡ kind_of (get_or words.now at 0)) × (1 ≤ k) × (k ≤ 13) × (k ≡ 12 → ⊥) }
-    ensures { (ms : List Map) → Stands words.now area.old k at l ms
-        → Answered words.now area.new k (at + 1 + arguments_at words.now at)
-        (record_step k words.now at (snap_with words.now area.old l ms)) result }
+    requires of_kind { kind_number kind ≡ kind_of (get_or words.now at 0) }
+    ensures { (ms : List Map) → Stands words.now area.old (kind_number kind) at l ms
+        → Answered words.now area.new (kind_number kind) (at + 1 + arguments_at words.now at)
+        (record_step (kind_number kind) words.now at (snap_with words.now area.old l ms)) result }
 {
-    match k {
-        1 => record_rules::names::step(words, area, l, at),
-        2 => module_records::crates::step(words, area, l, at),
-        3 => records::dependencies::step(words, area, l, at),
-        4 => module_records::maps::step(words, area, l, at),
-        5 => module_records::modules::step(words, area, l, at),
-        6 => records::children::step(words, area, l, at),
-        7 => records::preludes::step(words, area, l, at),
-        8 => item_records::definitions::step(words, area, l, at),
-        9 => item_records::scopes::step(words, area, l, at),
-        10 => item_records::imports::step(words, area, l, at),
-        11 => item_records::externs::step(words, area, l, at),
-        _ => item_records::members::step(words, area, l, at),
+    match kind {
+        Kind::Name => record_rules::names::step(words, area, l, at),
+        Kind::Crate => module_records::crates::step(words, area, l, at),
+        Kind::Dependency => records::dependencies::step(words, area, l, at),
+        Kind::Map => module_records::maps::step(words, area, l, at),
+        Kind::Module => module_records::modules::step(words, area, l, at),
+        Kind::Child => records::children::step(words, area, l, at),
+        Kind::Prelude => records::preludes::step(words, area, l, at),
+        Kind::Definition => item_records::definitions::step(words, area, l, at),
+        Kind::Scope => item_records::scopes::step(words, area, l, at),
+        Kind::Import => item_records::imports::step(words, area, l, at),
+        Kind::Extern => item_records::externs::step(words, area, l, at),
+        Kind::Member => item_records::members::step(words, area, l, at),
     }
 }
 
 /// The record at a place, after one of the last kind.
-pub fn turn(words: &[u32], area: &mut [u32], l: Layout, at: usize, last: usize) -> Step
+pub fn turn(
+    words: &[u32],
+    area: &mut [u32],
+    l: Layout,
+    at: usize,
+    last: usize,
+) -> Result<Layout, Refusal>
     requires { Here words.now area.old l at }
     ensures { (ms : List Map) → Stands words.now area.old last at l ms
         → Answered words.now area.new (kind_of (get_or words.now at 0))
         (at + 1 + arguments_at words.now at)
         (step_at words.now at last (snap_with words.now area.old l ms)) result }
 {
-    let k = kind(words, at);
-    if !follows(last, k) {
-        return Step::No(CheckRefusal::FORM);
+    let Some(its) = Kind::of(kind(words, at)) else {
+        return Err(Refusal::Form);
+    };
+    if !follows(last, its) {
+        return Err(Refusal::Form);
     }
     let n = arguments(words, at);
     if !arguments_from(words, at + 1, n) {
-        return Step::No(CheckRefusal::FORM);
+        return Err(Refusal::Form);
     }
-    by_kind(words, area, l, at, k)
+    by_kind(words, area, l, at, its)
 }

@@ -14,17 +14,6 @@ use Rattle.find_path.specs.Report.{call_fault, refused, report_of}
 use Rattle.checked.proofs.Laws.{small, report_fault, same_report}
 use Rattle.answer.specs.Answers.{zeros, area_after, Answers}
 
--- clearing: the first i words are zero
-
-pub clear_next : (A B : List ℕ) (i : ℕ) → A ≡ replicate i 0 ++ drop i B → i < length B → set A i 0 ≡ replicate (i + 1) 0 ++ drop (i + 1) B
-clear_next A B i e h = ap (λ x. set x i 0) e ∙ fill_more i 0 B h
-
-pub clear_done : (A B : List ℕ) (i : ℕ) → A ≡ replicate i 0 ++ drop i B → i ≤ length B → length B ≤ i → A ≡ zeros (length B)
-unfolding zeros
-clear_done A B i e h k =
-    let q : i ≡ length B = omega arith in
-    e ∙ ap (λ x. replicate i 0 ++ x) (drop_of_length-le B k) ∙ append-nil (replicate i 0) ∙ ap (λ n. replicate n 0) q
-
 -- an entry point
 
 pub area_small : (A : List ℕ) → length A < area_limit → A ≡ area_after A

@@ -31,12 +31,11 @@ pub fn find_path(words: &[u32], area: &mut [u32], question: Question) -> Report
     ensures { Answers words.now area.old question area.new result }
 {
     if area.len() < WordCount::AREA {
-        return refused(Refusal::AREA);
+        return refused(Refusal::Area.number());
     }
-    let n = call_fault(area.len(), question.query, question.fuel);
-    if n != 0 {
+    if let Err(why) = call_fault(area.len(), question.query, question.fuel) {
         clear(&mut area[..WordCount::AREA]);
-        return refused(n);
+        return refused(why.number());
     }
     find_path_within(words, &mut area[..WordCount::AREA], question)
 }

@@ -8,11 +8,7 @@ use snapshot::ids::WordCount;
 pub fn clear(area: &mut [u32])
     ensures { area.new ≡ zeros (length area.old) }
 {
-    let mut i = 0;
-    while i < area.len() {
-        area[i] = 0;
-        i += 1;
-    }
+    area.fill(0);
 }
 
 /// Sets the first 16,384 words to zero, as every call that is not refused by 20 leaves them; a smaller area stays.

@@ -36,7 +36,7 @@ pub fn find_line(words: &[u32], area: &mut [u32], question: Question, out: &mut 
         return 0;
     }
     if area.len() < WordCount::AREA {
-        return put_refusal(out, Refusal::AREA);
+        return put_refusal(out, Refusal::Area.number());
     }
     line_within(words, &mut area[..WordCount::AREA], question, out)
 }

@@ -3,7 +3,7 @@ use Prim.Native.Nat.{ℕ, zero, suc, ◌≤◌, ◌<◌}
 use mathlib.Core.Path.{◌≡◌, refl, sym, ap, ap₂, subst, ◌∙◌}
 use mathlib.Core.List.{List, [], ◌∷◌, ◌++◌}
 use mathlib.Core.Bool.{true, false, not, true≢false}
-use mathlib.Core.Option.{Option, none, some}
+use Rattle.std.specs.Prelude.{Option, None, Some}
 use native.Mathlib.Omega.{arith}
 use borrow.Author.Tests.{le-leb, lt-leb, not-true, not-false}
 use lib.ListN.{length, get_or, drop}
@@ -13,9 +13,10 @@ use Rattle.snapshot.specs.Records.{Snapshot}
 use Rattle.snapshot.specs.Layouts.{snap_of}
 use Rattle.snapshot.specs.declared.layout.Layout.{Layout}
 use Rattle.check_rules.specs.Verdict.{accept, verdict}
-use Rattle.accept.specs.Post.{Judged}
-use Rattle.accept.specs.declared.check.Checked.{Checked}
-use Rattle.accept.specs.declared.check.Checked.TheVariants.{Refused, Accepted}
+use Rattle.accept.specs.Post.{Checked, Judged}
+use Rattle.std.specs.Prelude.{Ok, Err}
+use Rattle.snapshot.specs.Refusals.{refusal_number}
+use Rattle.accept.specs.declared.check.Refused.{Refused}
 use Rattle.hir_def.specs.Items.{item_of}
 use Rattle.hir_def.specs.declared.Item.{Item}
 use Rattle.nameable.specs.Paths.{Path, names_in, route_of}
@@ -32,11 +33,11 @@ use Rattle.any_answer.specs.declared.AnyReport.{AnyReport}
 use Rattle.any_answer.specs.Any.{any_without, any_refused, any_reported, any_query, any_unless, any_by, any_after, any_report, AnyAnswers, question_of}
 use Rattle.any_answer.specs.Any.{AnyIn}
 
-up_few : (p : Path) → names_in p ≤ names_limit → up_to names_limit (some p) ≡ found p
+up_few : (p : Path) → names_in p ≤ names_limit → up_to names_limit (Some p) ≡ found p
 unfolding up_to
 up_few p h = rw (up_to, le-leb (names_in p) names_limit h)
 
-up_many : (p : Path) → names_limit < names_in p → up_to names_limit (some p) ≡ longer
+up_many : (p : Path) → names_limit < names_in p → up_to names_limit (Some p) ≡ longer
 unfolding up_to
 up_many p h = rw (up_to, lt-leb (names_in p) names_limit h)
 
@@ -44,20 +45,20 @@ up_many p h = rw (up_to, lt-leb (names_in p) names_limit h)
 module _ (s : Snapshot) (from ns : ℕ) (o : Option Path) {t : ToldPath} (e : t ≡ told_by o) where
   nowhere_by : {r : AnyReport} (u : Option Path) → o ≡ u → not t.found ≡ true → r ≡ any_without 1 0 → r ≡ any_reported s from ns (up_to names_limit o)
   unfolding up_to any_reported told_by
-  nowhere_by none z h er = er ∙ sym (ap (λ (v : Option Path). any_reported s from ns (up_to names_limit v)) z)
-  nowhere_by (some p) z h er =
+  nowhere_by None z h er = er ∙ sym (ap (λ (v : Option Path). any_reported s from ns (up_to names_limit v)) z)
+  nowhere_by (Some p) z h er =
       absurd (true≢false (sym (tell_found p) ∙ (sym (ap (λ (v : ToldPath). v.found) (e ∙ ap told_by z)) ∙ not-true t.found h)))
 
   pub told_nowhere : {r : AnyReport} → not t.found ≡ true → r ≡ any_without 1 0 → r ≡ any_reported s from ns (up_to names_limit o)
   told_nowhere h er = nowhere_by o refl h er
 
   module _ (there : not t.found ≡ false) where
-    which : (u : Option Path) → o ≡ u → (p : Path) × (o ≡ some p)
+    which : (u : Option Path) → o ≡ u → (p : Path) × (o ≡ Some p)
     unfolding told_by told_none
-    which none z = absurd (true≢false (sym (not-false t.found there) ∙ ap (λ (v : ToldPath). v.found) (e ∙ ap told_by z)))
-    which (some p) z = (p, z)
+    which None z = absurd (true≢false (sym (not-false t.found there) ∙ ap (λ (v : ToldPath). v.found) (e ∙ ap told_by z)))
+    which (Some p) z = (p, z)
 
-    its_count : (p : Path) → o ≡ some p → t.count ≡ names_in p
+    its_count : (p : Path) → o ≡ Some p → t.count ≡ names_in p
     unfolding told_by
     its_count p z = ap (λ (v : ToldPath). v.count) (e ∙ ap told_by z) ∙ tell_count p
 
@@ -122,14 +123,14 @@ module _ (W : List ℕ) (area : ℕ) (q : Query) where
   on_verdict en z er = er ∙ ap (any_after W q) (sym z ∙ en)
 
   module _ (A : List ℕ) (c : Checked) (j : Judged W A c) {n : ℕ} (en : n ≡ call_fault area q 0) (z : n ≡ 0) where
-    pub on_refused : {r : AnyReport} (m at : ℕ) → c ≡ Refused m at → r ≡ any_refused m → r ≡ any_report W area q
+    pub on_refused : {r : AnyReport} (f : Refused) → c ≡ Err f → r ≡ any_refused (refusal_number f.why) → r ≡ any_report W area q
     unfolding any_by
-    on_refused m at e er =
-        let k : Judged W A (Refused m at) = subst (λ (x : Checked). Judged W A x) e j in on_verdict en z (er ∙ ap (any_by q) k.same)
+    on_refused f e er =
+        let k : Judged W A (Err f) = subst (λ (x : Checked). Judged W A x) e j in on_verdict en z (er ∙ ap (any_by q) k.same)
 
-    pub on_accepted : {r : AnyReport} (l : Layout) → c ≡ Accepted l → r ≡ any_by q (accept (snap_of W A l)) → r ≡ any_report W area q
+    pub on_accepted : {r : AnyReport} (l : Layout) → c ≡ Ok l → r ≡ any_by q (accept (snap_of W A l)) → r ≡ any_report W area q
     on_accepted l e er =
-        let k : Judged W A (Accepted l) = subst (λ (x : Checked). Judged W A x) e j in on_verdict en z (er ∙ ap (any_by q) k.same)
+        let k : Judged W A (Ok l) = subst (λ (x : Checked). Judged W A x) e j in on_verdict en z (er ∙ ap (any_by q) k.same)
 
 -- The entry point.
 module _ (W A : List ℕ) (ns d m : ℕ) where

@@ -1,6 +1,8 @@
 -- Whether any path names an item, put to words that nobody checked yet.
-use Rattle.std.specs.Prelude.{ℕ, zero, suc, ◌≡◌, List, [], ◌∷◌, length, get_or, replicate}
+use Rattle.std.specs.Prelude.{ℕ, zero, suc, ◌≡◌, List, [], ◌∷◌, length, get_or, replicate, Result, Ok, Err}
 use Rattle.snapshot.specs.Limits.{path_limit}
+use Rattle.snapshot.specs.Refusals.{refusal_number}
+use Rattle.snapshot.specs.declared.refusal.Refusal.{Refusal}
 use Rattle.snapshot.specs.Records.{Snapshot}
 use Rattle.check_rules.specs.Verdict.{Verdict, refuse, accept, verdict}
 use Rattle.hir_def.specs.Items.{item_of}
@@ -18,6 +20,11 @@ any_without o n = record { outcome = o; number = n; kind = 0; supers = 0; names 
 
 unfoldable pub any_refused : ℕ → AnyReport
 any_refused n = any_without 2 n
+
+-- an answer, or that of a refusal
+abbrev pub told : Result AnyReport Refusal → AnyReport
+told (Ok r) = r
+told (Err k) = any_refused (refusal_number k)
 
 -- 0 a path, with the records by which it is read in the module `from`, its last name in the namespace; 1 there is none; 3 there are paths, and each
 -- has more than sixteen names

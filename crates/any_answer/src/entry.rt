@@ -37,7 +37,7 @@ pub fn any_path(
     ensures { AnyAnswers words.now area.old ns definition from area.new result }
 {
     if area.len() < WordCount::AREA {
-        return refused(Refusal::AREA);
+        return refused(Refusal::Area);
     }
     let q = Query {
         ns: ns,

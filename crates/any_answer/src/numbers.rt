@@ -6,6 +6,7 @@ use snapshot::words::word;
 
 /// Namespace, definition and module as words. Writes the outcome, the kind, how many times `super` and how many names, the names, and the places of
 /// the records by which they are read; answers the number of the refusal, 0 for none.
+// The C interface takes a number.
 pub fn any_path_in(
     words: &[u32],
     area: &mut [u32],

@@ -1,38 +1,44 @@
 //! The answer, made of a refusal or of what was found.
 ghost use Rattle.std.specs.Prelude.{◌≡◌, ℕ, ◌≤◌};
-ghost use Rattle.std.proofs.Math.Option.{Option};
+ghost use Rattle.std.specs.Prelude.{Option};
+ghost use Rattle.snapshot.specs.Refusals.{refusal_number};
 ghost use Rattle.snapshot.specs.Records.{Snapshot};
 ghost use Rattle.nameable.specs.Paths.{Path, names_in, route_of};
 ghost use Rattle.nameable.specs.Breadth.{names_limit, up_to};
 ghost use Rattle.told_paths.specs.Tells.{padded, tell, told_by};
+ghost use Rattle.any_answer.specs.Outcomes.{outcome_number};
 ghost use Rattle.any_answer.specs.Any.{any_without, any_refused, any_reported};
 
 use crate::AnyReport;
+use snapshot::refusal::Refusal;
 use told_paths::ToldPath;
 use told_paths::paths::NameCount;
 
 /// Outcomes.
 #[derive(Clone, Copy)]
-pub struct AnyOutcome(pub usize);
+pub enum AnyOutcome {
+    Found,
+    Nowhere,
+    Refused,
+    Longer,
+}
 
 impl AnyOutcome {
-    pub const FOUND: usize = 0;
-
-    pub const NOWHERE: usize = 1;
-
-    pub const REFUSED: usize = 2;
-
-    pub const LONGER: usize = 3;
+    fn number(self) -> usize
+        ensures { result ≡ outcome_number self }
+    {
+        self as usize
+    }
 }
 
 // An outcome without a path.
-fn without(outcome: usize, number: usize) -> AnyReport
-    ensures { result ≡ any_without outcome number }
+fn without(outcome: AnyOutcome, number: usize) -> AnyReport
+    ensures { result ≡ any_without (outcome_number outcome) number }
 {
     let names = [0usize; 16];
     let route = [0usize; 16];
     AnyReport {
-        outcome: outcome,
+        outcome: outcome.number(),
         number: number,
         kind: 0,
         supers: 0,
@@ -43,10 +49,10 @@ fn without(outcome: usize, number: usize) -> AnyReport
 }
 
 /// A refusal.
-pub(crate) fn refused(number: usize) -> AnyReport
-    ensures { result ≡ any_refused number }
+pub(crate) fn refused(why: Refusal) -> AnyReport
+    ensures { result ≡ any_refused (refusal_number why) }
 {
-    without(AnyOutcome::REFUSED, number)
+    without(AnyOutcome::Refused, why.number())
 }
 
 /// What was found, with its route.
@@ -56,14 +62,14 @@ pub(crate) fn reported(t: ToldPath, route: [usize; 16]) -> AnyReport
         → result ≡ any_reported s from ns (up_to names_limit o) }
 {
     if !t.found {
-        return without(AnyOutcome::NOWHERE, 0);
+        return without(AnyOutcome::Nowhere, 0);
     }
     if NameCount::LIMIT < t.count {
-        return without(AnyOutcome::LONGER, 0);
+        return without(AnyOutcome::Longer, 0);
     }
     let names = t.names;
     AnyReport {
-        outcome: AnyOutcome::FOUND,
+        outcome: AnyOutcome::Found as usize,
         number: 0,
         kind: t.kind,
         supers: t.supers,

@@ -3,7 +3,7 @@ use Prim.Native.Nat.{ℕ}
 use mathlib.Core.Path.{◌≡◌, refl, sym, ap, ap₂, subst, ◌∙◌}
 use mathlib.Core.List.{List, [], ◌∷◌, ◌++◌, map, append_assoc}
 use mathlib.Core.Bool.{Bool, true, false, ◌&&◌, true≢false}
-use mathlib.Core.Option.{Option, none, some}
+use Rattle.std.specs.Prelude.{Option, None, Some}
 use borrow.Author.Tests.{eq-eqb}
 use lib.Dec.{eqb}
 use Rattle.snapshot.specs.Records.{Snapshot, Scope, Extern}
@@ -31,16 +31,16 @@ alone_append (x ∷ xs) ys =
     by_test (is_module x.item) (λ t. rw (t, select) (ap (λ (ps : List Path). plain x.name ∷ ps) (alone_append xs ys))) (λ t. rw (t, select)
     (alone_append xs ys))
 
-with_tried : (ws : List Way) (p : Path) (o : Option Item) → ((m : ℕ) → o ≡ some (module_item m) → is_met ws m ≡ true) → with_meaning ws p o ≡ ws
+with_tried : (ws : List Way) (p : Path) (o : Option Item) → ((m : ℕ) → o ≡ Some (module_item m) → is_met ws m ≡ true) → with_meaning ws p o ≡ ws
 unfolding with_meaning
-with_tried ws p none h = refl
-with_tried ws p (some (Def ns d)) h = refl
-with_tried ws p (some (Mod m)) h = with_old ws p m.0 (h m.0 refl)
+with_tried ws p None h = refl
+with_tried ws p (Some (Def ns d)) h = refl
+with_tried ws p (Some (Mod m)) h = with_old ws p m.0 (h m.0 refl)
 
 module _ (s : Snapshot) (from : ℕ) where
   -- the module that its name means, if it is one, is met
   abbrev Tried : List Way → Named → Type 0
-  Tried ws x = (m : ℕ) → means s from types (plain x.name) ≡ some (module_item m) → is_met ws m ≡ true
+  Tried ws x = (m : ℕ) → means s from types (plain x.name) ≡ Some (module_item m) → is_met ws m ≡ true
 
   -- where those before it were tried, one that is no module is too: it is the first of its name, or that one stands before it
   other_tried : (ws : List Way) (pre : List Named) (x : Named) (rest : List Named) → firsts s from types ≡ pre ++ (x ∷ rest) → Each (Tried ws) pre
@@ -48,14 +48,14 @@ module _ (s : Snapshot) (from : ℕ) where
   unfolding means reads named is_module or_first
   other_tried ws pre x rest e h other m is =
       let f = item_in_lem (reads s from types (plain x.name)) (module_item m) is in
-      let g : or_first (named x.name pre) (named x.name (x ∷ rest)) ≡ some f.0 =
+      let g : or_first (named x.name pre) (named x.name (x ∷ rest)) ≡ Some f.0 =
       sym (first_of_append (λ (y : Named). eqb y.name x.name) pre (x ∷ rest)) ∙ (ap (named x.name) (sym e) ∙ f.1) in
       by_option (named x.name pre)
       (λ z.
-      let here : named x.name (x ∷ rest) ≡ some x = first_of_hit (λ (y : Named). eqb y.name x.name) x rest (eq-eqb x.name
+      let here : named x.name (x ∷ rest) ≡ Some x = first_of_hit (λ (y : Named). eqb y.name x.name) x rest (eq-eqb x.name
       x.name refl) in
-      let k : named x.name (x ∷ rest) ≡ some f.0 = ap (λ (o : Option Named). or_first o (named x.name (x ∷ rest))) (sym z) ∙ g in
-      let two : some x ≡ some f.0 = sym here ∙ k in
+      let k : named x.name (x ∷ rest) ≡ Some f.0 = ap (λ (o : Option Named). or_first o (named x.name (x ∷ rest))) (sym z) ∙ g in
+      let two : Some x ≡ Some f.0 = sym here ∙ k in
       let same : x ≡ f.0 = cc in
       absurd (true≢false (sym (ap (λ (y : Named). is_module y.item) same ∙ ap is_module f.2) ∙ other)))
       (λ y z. let a = named_in_lem x.name pre y z in each_in h a.0 m (ap (λ (n : ℕ). means s from types (plain n)) a.1 ∙ is))

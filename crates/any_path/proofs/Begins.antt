@@ -3,7 +3,7 @@ use Prim.Native.Nat.{ℕ, zero, suc, ◌+◌, ◌-◌, ◌≤◌, ◌<◌}
 use mathlib.Core.Path.{◌≡◌, refl, sym, ap, ap₂, subst, ◌∙◌}
 use mathlib.Core.List.{List, ◌∷◌, map}
 use mathlib.Core.Bool.{false}
-use mathlib.Core.Option.{Option, none, some}
+use Rattle.std.specs.Prelude.{Option, None, Some}
 use native.Mathlib.Omega.{arith}
 use lib.ListN.{length}
 use Rattle.snapshot.specs.Lists.{rows}
@@ -36,7 +36,7 @@ run_empty modules A h = record { space = h; linked = λ i l. absurd (omega arith
 
 -- a path that means a module was offered, the others are left
 pub added_offered : (s : Snapshot) (from : ℕ) {modules : ℕ} {A B : List ℕ} {n r : ℕ} (p : Path) (t : ℕ) (ps : List Path)
-    → means s from types p ≡ some (module_item t) → Grown modules A n B r (with_meaning (run_at A n) p (some (module_item t)))
+    → means s from types p ≡ Some (module_item t) → Grown modules A n B r (with_meaning (run_at A n) p (Some (module_item t)))
     → added s from (run_at A n) (p ∷ ps) ≡ added s from (run_at B r) ps
 unfolding added
 added_offered s from {A = A} {n = n} p t ps e g =
@@ -44,16 +44,16 @@ added_offered s from {A = A} {n = n} p t ps e g =
 
 module _ (s : Snapshot) (from : ℕ) where
   -- a keyword means its module
-  pub keyword_means : (k : Keyword) (m : ℕ) → keyword_module s from k ≡ some m → means s from types (keyword k) ≡ some (module_item m)
+  pub keyword_means : (k : Keyword) (m : ℕ) → keyword_module s from k ≡ Some m → means s from types (keyword k) ≡ Some (module_item m)
   unfolding means reads module_named item_in
   keyword_means k m e = rw e
 
-  keyword_nothing : (k : Keyword) → keyword_module s from k ≡ none → means s from types (keyword k) ≡ none
+  keyword_nothing : (k : Keyword) → keyword_module s from k ≡ None → means s from types (keyword k) ≡ None
   unfolding means reads module_named item_in
   keyword_nothing k e = rw e
 
   -- keywords without meaning add nothing
-  supers_nothing : (ws : List Way) (k n : ℕ) → ((i : ℕ) → k ≤ i → keyword_module s from (supers i) ≡ none)
+  supers_nothing : (ws : List Way) (k n : ℕ) → ((i : ℕ) → k ≤ i → keyword_module s from (supers i) ≡ None)
       → added s from ws (map keyword (rows supers k n)) ≡ ws
   unfolding rows added with_meaning
   supers_nothing ws k zero h = refl
@@ -63,7 +63,7 @@ module _ (s : Snapshot) (from : ℕ) where
       ∙ supers_nothing ws (k + 1) n (λ i q. h i (omega arith))
 
 -- `super` so many times, and then more
-above_on : (s : Snapshot) (k a m : ℕ) → above s k a ≡ some m → (j : ℕ) → above s (k + j) a ≡ above s j m
+above_on : (s : Snapshot) (k a m : ℕ) → above s k a ≡ Some m → (j : ℕ) → above s (k + j) a ≡ above s j m
 unfolding above above_or
 above_on s zero a m e j = let z : 0 + j ≡ j = omega arith in let same : a ≡ m = cc in ap₂ (above s) z same
 above_on s (suc k) a m e j =
@@ -71,14 +71,14 @@ above_on s (suc k) a m e j =
     ap (λ (i : ℕ). above s i a) z
     ∙ by_number (parent_of s a) (λ y. absurd (none_some (rw y at e))) (λ p y. rw y (above_on s k (module_around s p) m (rw y at e) j))
 
-module _ (s : Snapshot) (k a m : ℕ) (here : above s k a ≡ some m) where
+module _ (s : Snapshot) (k a m : ℕ) (here : above s k a ≡ Some m) where
   -- one time more
-  pub above_next : (p : ℕ) → parent_of s m ≡ suc p → above s (k + 1) a ≡ some (module_around s p)
+  pub above_next : (p : ℕ) → parent_of s m ≡ suc p → above s (k + 1) a ≡ Some (module_around s p)
   unfolding above above_or
   above_next p e = above_on s k a m here 1 ∙ rw e
 
   -- no more than that
-  pub above_end : parent_of s m ≡ 0 → (i : ℕ) → k + 1 ≤ i → above s i a ≡ none
+  pub above_end : parent_of s m ≡ 0 → (i : ℕ) → k + 1 ≤ i → above s i a ≡ None
   unfolding above above_or
   above_end e i h =
       let j : ℕ = i - (k + 1) in
@@ -88,7 +88,7 @@ module _ (s : Snapshot) (k a m : ℕ) (here : above s k a ≡ some m) where
 -- `super` was tried k times from the module in which the viewer stands, and is at m; c rows are in the area B.
 pub record Climbing (W A : List ℕ) (l : Layout) (from n : ℕ) (B : List ℕ) (c m k : ℕ) : Type 0 where
   pub grown : Grown l.modules A n B c (run_at B c)
-  pub here : above (snap_of W A l) k (module_around (snap_of W A l) from) ≡ some m
+  pub here : above (snap_of W A l) k (module_around (snap_of W A l) from) ≡ Some m
   pub known : m < l.modules
   pub rest : added (snap_of W A l) from (run_at A n) (map keyword (rows supers 1 (length (snap_of W A l).modules)))
       ≡ added (snap_of W A l) from (run_at B c) (map keyword (rows supers (k + 1) (length (snap_of W A l).modules - k)))
@@ -116,7 +116,7 @@ module _ (W A : List ℕ) (l : Layout) (r : Reads W A l) (from n : ℕ) (inside 
       let all : size ≡ size - 0 = omega arith in
       record {
         grown = unchanged l.modules A n run;
-        here = ap some (sym e);
+        here = ap Some (sym e);
         known = known;
         rest = ap₂ (λ (i j : ℕ). added s from (run_at A n) (map keyword (rows supers i j))) one all;
       }
@@ -146,13 +146,13 @@ module _ (W A : List ℕ) (l : Layout) (r : Reads W A l) (from n : ℕ) (inside 
           → Climbing W A l from n C q t (k + 1)
       unfolding path_from keyword_from rows keyword_module
       climbing_next {C} {q} {t} et known g =
-          let above' : above s (k + 1) start ≡ some t =
-          above_next s k start m inv.here p its_parent ∙ ap some (sym (et ∙ ap (λ (u : Snapshot). module_around u p) same_snap)) in
+          let above' : above s (k + 1) start ≡ Some t =
+          above_next s k start m inv.here p its_parent ∙ ap Some (sym (et ∙ ap (λ (u : Snapshot). module_around u p) same_snap)) in
           let few = above_few s valid (k + 1) start t start_few above' in
           let z : size - k ≡ suc (size - (k + 1)) = omega (arith, few, start_few) in
           let x : k + 1 + 1 ≡ suc (k + 1) = omega arith in
           let path : path_from (path_at B) 0 (k + 1 + 1) ≡ keyword (supers (k + 1)) = ap (λ (j : ℕ). keyword (keyword_from j)) x in
-          let offered = subst (λ (v : Path). Grown l.modules B c C q (with_meaning (run_at B c) v (some (module_item t)))) path g in
+          let offered = subst (λ (v : Path). Grown l.modules B c C q (with_meaning (run_at B c) v (Some (module_item t)))) path g in
           record {
             grown = grown_then inv.grown (as_run g);
             here = above';
@@ -190,6 +190,6 @@ begin_done W A l r from {B} {C} {D} {n} {c} {q} a root ea er f g h =
     let ups : Snapshot → List Path = λ (u : Snapshot). map keyword (rows supers 1 (length u.modules)) in
     let same : added (snap_of W C l) from (run_at C c) (ups (snap_of W C l)) ≡ begun false s from =
     ap (λ (u : Snapshot). added u from (run_at C c) (ups u)) (stays_snap W A C l r two.stays)
-    ∙ sym (added_offered s from (keyword (supers 0)) a (keyword crate ∷ ups s) (keyword_means s from (supers 0) a (ap some (sym ea))) f
-    ∙ added_offered s from (keyword crate) root (ups s) (keyword_means s from crate root (ap some (sym er))) g) in
+    ∙ sym (added_offered s from (keyword (supers 0)) a (keyword crate ∷ ups s) (keyword_means s from (supers 0) a (ap Some (sym ea))) f
+    ∙ added_offered s from (keyword crate) root (ups s) (keyword_means s from crate root (ap Some (sym er))) g) in
     subst (Grown l.modules A 0 D q) same (grown_then two h)

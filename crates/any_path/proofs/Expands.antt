@@ -3,7 +3,7 @@ use Prim.Native.Nat.{ℕ}
 use mathlib.Core.Path.{◌≡◌, sym, ap, ◌∙◌}
 use mathlib.Core.List.{List, ◌∷◌, map, Memᴰ}
 use mathlib.Core.Bool.{true, false, ◌&&◌, true≢false}
-use mathlib.Core.Option.{Option, some}
+use Rattle.std.specs.Prelude.{Option, Some}
 use lib.Dec.{eqb}
 use Rattle.snapshot.specs.Records.{Snapshot, Scope}
 use Rattle.accept.specs.Valid.{Valid}
@@ -33,13 +33,13 @@ module _ (s : Snapshot) (from m : ℕ) (p : Path) (e : Scope) (xs : List Scope) 
   unfolding select
   by_unseen t = rw (t, select)
 
-  module _ (ok : Valid s) (there : means s from types p ≡ some (module_item m)) (listed : Memᴰ e s.scopes) (ws : List Way) where
-    its_meaning : is_seen_in s from types m e ≡ true → means s from types (into p e.name) ≡ some (item_of s e.ns e.definition)
+  module _ (ok : Valid s) (there : means s from types p ≡ Some (module_item m)) (listed : Memᴰ e s.scopes) (ws : List Way) where
+    its_meaning : is_seen_in s from types m e ≡ true → means s from types (into p e.name) ≡ Some (item_of s e.ns e.definition)
     its_meaning t = after_means s ok from (module_item 0) (way_to p m) there types e listed t
 
     one_by : is_seen_in s from types m e ≡ true
         → added s from ws (paths_by s from m p (e ∷ xs)) ≡ added s from
-        (with_meaning ws (into p e.name) (some (item_of s e.ns e.definition))) (paths_by s from m p xs)
+        (with_meaning ws (into p e.name) (Some (item_of s e.ns e.definition))) (paths_by s from m p xs)
     unfolding added
     one_by t =
         ap (added s from ws) (by_seen t)
@@ -54,13 +54,13 @@ module _ (s : Snapshot) (from m : ℕ) (p : Path) (e : Scope) (xs : List Scope) 
         (rw (g.0, h.0) f.1, g.1)
 
     pub lead_yes : leads_on s from m e ≡ true
-        → added s from ws (paths_by s from m p (e ∷ xs)) ≡ added s from (with_meaning ws (into p e.name) (some (module_item (entry_module s e))))
+        → added s from ws (paths_by s from m p (e ∷ xs)) ≡ added s from (with_meaning ws (into p e.name) (Some (module_item (entry_module s e))))
         (paths_by s from m p xs)
     unfolding item_of
     lead_yes t =
         let f = leads_fields t in
         let is : item_of s e.ns e.definition ≡ module_item (entry_module s e) = rw (item_of, f.1) in
-        one_by f.0 ∙ ap (λ (x : Item). added s from (with_meaning ws (into p e.name) (some x)) (paths_by s from m p xs)) is
+        one_by f.0 ∙ ap (λ (x : Item). added s from (with_meaning ws (into p e.name) (Some x)) (paths_by s from m p xs)) is
 
     pub lead_no : leads_on s from m e ≡ false → added s from ws (paths_by s from m p (e ∷ xs)) ≡ added s from ws (paths_by s from m p xs)
     unfolding item_of with_meaning
@@ -73,7 +73,7 @@ module _ (s : Snapshot) (from m : ℕ) (p : Path) (e : Scope) (xs : List Scope) 
         (λ k. absurd (true≢false (sym (rw (f.0, g.0, k) g.1) ∙ t)))
         (λ k.
         let is : item_of s e.ns e.definition ≡ defined_item e.ns e.definition = rw (item_of, g.0, k) in
-        one_by u ∙ ap (λ (x : Item). added s from (with_meaning ws (into p e.name) (some x)) (paths_by s from m p xs)) is))
+        one_by u ∙ ap (λ (x : Item). added s from (with_meaning ws (into p e.name) (Some x)) (paths_by s from m p xs)) is))
         (λ u. ap (added s from ws) (by_unseen u))
 
     -- the entry's name, and then the others'
@@ -83,7 +83,7 @@ module _ (s : Snapshot) (from m : ℕ) (p : Path) (e : Scope) (xs : List Scope) 
 
 module _ (s : Snapshot) (from : ℕ) (ws : List Way) (w : Way) (e : Scope) where
   pub with_lead : leads_on s from w.target e ≡ true
-      → with_meaning ws (into w.path e.name) (some (module_item (entry_module s e))) ≡ with_entry s from ws w e
+      → with_meaning ws (into w.path e.name) (Some (module_item (entry_module s e))) ≡ with_entry s from ws w e
   unfolding with_entry
   with_lead t = rw (t, with_entry)
 

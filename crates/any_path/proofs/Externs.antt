@@ -3,8 +3,7 @@ use Prim.Native.Nat.{ℕ, ◌+◌, ◌-◌, ◌*◌, ◌≤◌, ◌<◌}
 use mathlib.Core.Path.{◌≡◌, refl, sym, ap, ap₂, subst, ◌∙◌}
 use mathlib.Core.List.{List, [], ◌∷◌, map, Memᴰ}
 use mathlib.Core.Bool.{Bool, true, false, ◌&&◌, true≢false}
-use mathlib.Core.Option
-use mathlib.Core.Option.{Option, some}
+use Rattle.std.specs.Prelude.{Option, Some, option_map}
 use native.Mathlib.Omega.{arith}
 use borrow.Author.Tests.{eqb-true, eq-eqb, ne_eqb, ltb-true, ltb-false}
 use lib.Dec.{eqb, ltb}
@@ -68,7 +67,7 @@ module _ (s : Snapshot) (ok : Valid s) (from : ℕ) where
 
   -- an extern of the viewer's crate is what its name means
   pub extern_named_lem : (x : Extern) → Memᴰ x s.externs → eqb x.owner (crate_of s from) ≡ true
-      → named x.name (externs_in s from types) ≡ some (extern_named x)
+      → named x.name (externs_in s from types) ≡ Some (extern_named x)
   unfolding named externs_in
   extern_named_lem x i h =
       let test : Extern → Bool = λ (y : Extern). owned y && eqb y.name x.name in
@@ -79,11 +78,11 @@ module _ (s : Snapshot) (ok : Valid s) (from : ℕ) where
       let one : f.0 ≡ x =
       extern_one f.0 x g.0 i (eqb-true f.0.owner (crate_of s from) k.0 ∙ sym (eqb-true x.owner (crate_of s from) h))
       (eqb-true f.0.name x.name k.1) in
-      first_mapped (λ (y : Named). eqb y.name x.name) extern_named owned s.externs ∙ ap (Option.map extern_named) (f.1 ∙ ap some one)
+      first_mapped (λ (y : Named). eqb y.name x.name) extern_named owned s.externs ∙ ap (option_map extern_named) (f.1 ∙ ap Some one)
 
   module _ (late : eqb (crate_data s (crate_of s from)).edition 2015 ≡ false) where
     extern_means_lem : (x : Extern) → Memᴰ x s.externs → eqb x.owner (crate_of s from) ≡ true
-        → means s from types (absolute x.name) ≡ some (module_item x.target)
+        → means s from types (absolute x.name) ≡ Some (module_item x.target)
     unfolding means reads absolutes
     extern_means_lem x i h = item_of_lem (reads s from types (absolute x.name)) (extern_named x) (rw (absolutes, late) (extern_named_lem x i h))
 
@@ -95,7 +94,7 @@ module _ (s : Snapshot) (ok : Valid s) (from : ℕ) where
         by_test (owned x)
         (λ t.
         let paths : extern_paths s from (x ∷ xs) ≡ absolute x.name ∷ extern_paths s from xs = rw (t, select) in
-        let here : with_meaning ws (absolute x.name) (some (module_item x.target)) ≡ with_extern (crate_of s from) ws x = rw (t, with_extern) in
+        let here : with_meaning ws (absolute x.name) (Some (module_item x.target)) ≡ with_extern (crate_of s from) ws x = rw (t, with_extern) in
         ap (added s from ws) paths
         ∙ (ap (λ (o : Option Item). added s from (with_meaning ws (absolute x.name) o) (extern_paths s from xs)) (extern_means_lem x i t)
         ∙ ap (λ (us : List Way). added s from us (extern_paths s from xs)) here))
@@ -122,8 +121,8 @@ module _ {modules c n : ℕ} {A : List ℕ} (x : Extern) {o : ℕ} (owner : o �
   unfolding with_extern path_from
   extern_offered {B} {r} {t} {y} h et ey g =
       let own : eqb x.owner c ≡ true = eq-eqb x.owner c (sym owner ∙ h) in
-      let same : with_meaning (run_at A n) (absolute x.name) (some (module_item x.target)) ≡ with_extern c (run_at A n) x = rw (own, with_extern) in
-      subst (Grown modules A n B r) (ap₂ (λ (v u : ℕ). with_meaning (run_at A n) (absolute v) (some (module_item u))) ey et ∙ same) g
+      let same : with_meaning (run_at A n) (absolute x.name) (Some (module_item x.target)) ≡ with_extern c (run_at A n) x = rw (own, with_extern) in
+      subst (Grown modules A n B r) (ap₂ (λ (v u : ℕ). with_meaning (run_at A n) (absolute v) (Some (module_item u))) ey et ∙ same) g
 
 -- Externs from number k on are left, with c rows in the area B.
 pub record Naming (W A : List ℕ) (l : Layout) (from n : ℕ) (B : List ℕ) (c k : ℕ) : Type 0 where

@@ -2,7 +2,7 @@
 use Prim.Native.Nat.{ℕ, suc, ◌-◌, ◌≤◌, ◌<◌}
 use mathlib.Core.Path.{◌≡◌, refl, sym, ap, ◌∙◌}
 use mathlib.Core.List.{List}
-use mathlib.Core.Option.{Option, none, some, map}
+use Rattle.std.specs.Prelude.{Option, None, Some, option_map}
 use native.Mathlib.Omega.{arith}
 use lib.Dec.{eqb}
 use Rattle.snapshot.specs.Records.{Snapshot}
@@ -25,20 +25,20 @@ use Rattle.any_path.proofs.Plains.{externs_read}
 
 keyword_place : (o : Option ℕ) → 0 ≡ place_in (module_named o)
 unfolding module_named place_in
-keyword_place none = refl
-keyword_place (some m) = refl
+keyword_place None = refl
+keyword_place (Some m) = refl
 
 module _ (s : Snapshot) (from : ℕ) where
-  absolute_read : (n : ℕ) (x : Item) → means s from types (absolute n) ≡ some x
-      → reads s from types (absolute n) ≡ map extern_named (externs_named s from types n)
+  absolute_read : (n : ℕ) (x : Item) → means s from types (absolute n) ≡ Some x
+      → reads s from types (absolute n) ≡ option_map extern_named (externs_named s from types n)
   unfolding means reads absolutes item_in named first_of
   absolute_read n x e =
       by_test (eqb (crate_data s (crate_of s from)).edition 2015)
       (λ t. absurd (none_some (rw (t, absolutes) at e)))
       (λ t. rw (t, absolutes) (externs_read s from types n))
 
-  into_read : (n t : ℕ) (p : Path) → means s from types p ≡ some (module_item t)
-      → reads s from types (into p n) ≡ map (as_named s) (seen_named s from types t n)
+  into_read : (n t : ℕ) (p : Path) → means s from types p ≡ Some (module_item t)
+      → reads s from types (into p n) ≡ option_map (as_named s) (seen_named s from types t n)
   unfolding means reads after within
   into_read n t p e =
       let f = item_in_lem (reads s from types p) (module_item t) e in
@@ -69,12 +69,12 @@ module _ (s : Snapshot) (from modules : ℕ) (A : List ℕ) (i : ℕ) (there : I
     unfolding path_from reads
     place_keyword e = its_place (keyword (keyword_from x)) (ap (λ (j : ℕ). path_from (path_at A) j x) e) (keyword_place _)
 
-    pub place_absolute : {p : ℕ} → k ≡ 1 → p ≡ place_in (map extern_named (externs_named s from types x))
+    pub place_absolute : {p : ℕ} → k ≡ 1 → p ≡ place_in (option_map extern_named (externs_named s from types x))
         → p ≡ place_in (reads s from types (path_at A i))
     unfolding path_from
     place_absolute e h =
         let is : path_from (path_at A) k x ≡ absolute x = ap (λ (j : ℕ). path_from (path_at A) j x) e in
-        let m : means s from types (absolute x) ≡ some (module_item (target_at A i)) =
+        let m : means s from types (absolute x) ≡ Some (module_item (target_at A i)) =
         ap (means s from types) (sym (its_path ∙ is)) ∙ row_means i there.below in
         its_place (absolute x) is (h ∙ ap place_in (sym (absolute_read s from x (module_item (target_at A i)) m)))
 
@@ -89,7 +89,7 @@ module _ (s : Snapshot) (from modules : ℕ) (A : List ℕ) (i : ℕ) (there : I
       pub link_below : k - 3 < i
       link_below = let l = there.run.linked i there.below in omega (arith, l, link, link_far)
 
-      pub place_into : {p t : ℕ} → t ≡ target_at A (k - 3) → p ≡ place_in (map (as_named s) (seen_named s from types t x))
+      pub place_into : {p t : ℕ} → t ≡ target_at A (k - 3) → p ≡ place_in (option_map (as_named s) (seen_named s from types t x))
           → p ≡ place_in (reads s from types (path_at A i))
       unfolding path_from
       place_into {p} {t} et h =
@@ -98,6 +98,6 @@ module _ (s : Snapshot) (from modules : ℕ) (A : List ℕ) (i : ℕ) (there : I
           let z : k ≡ suc (suc (suc j)) = omega (arith, far) in
           let is : path_from (path_at A) k x ≡ into (path_at A j) x = ap (λ (u : ℕ). path_from (path_at A) u x) z in
           let below = there.below in
-          let m : means s from types (path_at A j) ≡ some (module_item t) = row_means j (omega (arith, link_below, below)) ∙ ap (λ (u : ℕ). some
+          let m : means s from types (path_at A j) ≡ Some (module_item t) = row_means j (omega (arith, link_below, below)) ∙ ap (λ (u : ℕ). Some
           (module_item u)) (sym et) in
           its_place (into (path_at A j) x) is (h ∙ ap place_in (sym (into_read s from x t (path_at A j) m)))

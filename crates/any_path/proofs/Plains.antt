@@ -3,8 +3,7 @@ use Prim.Native.Nat.{ℕ, suc, ◌+◌, ◌-◌, ◌*◌, ◌≤◌, ◌<◌}
 use mathlib.Core.Path.{◌≡◌, refl, sym, ap, ap₂, subst, ◌∙◌}
 use mathlib.Core.List.{List, [], ◌∷◌, ◌++◌, map}
 use mathlib.Core.Bool.{Bool, true, false, ◌&&◌}
-use mathlib.Core.Option
-use mathlib.Core.Option.{Option, none, some}
+use Rattle.std.specs.Prelude.{Option, None, Some, option_map}
 use native.Mathlib.Omega.{arith}
 use borrow.Author.Tests.{eq-eqb, ne_eqb}
 use lib.Dec.{eqb}
@@ -18,7 +17,6 @@ use Rattle.snapshot.specs.Layouts.{scope_base, extern_base, snap_of}
 use Rattle.snapshot.specs.declared.ids.DefinitionId.{DefinitionId}
 use Rattle.snapshot.specs.declared.ids.ModuleId.{ModuleId}
 use Rattle.snapshot.specs.declared.ids.Namespace.{Namespace}
-use Rattle.snapshot.specs.declared.ids.OptModule.TheVariants.{Module, NoModule}
 use Rattle.snapshot.specs.declared.layout.Layout.{Layout}
 use Rattle.snapshot.proofs.Laws.{rows_next, rows_none, rows_whole}
 use Rattle.accept.specs.Post.{Reads}
@@ -36,7 +34,6 @@ use Rattle.hir_def.specs.Nameres.{steps_or, steps, prelude_of}
 use Rattle.hir_def.specs.declared.Item.{Item}
 use Rattle.hir_def.specs.declared.Item.TheVariants.{Mod, Def}
 use Rattle.hir_def.proofs.Laws.{steps_more}
-use Rattle.hir_def.proofs.Ancestors.{first_here, first_end, first_on}
 use Rattle.nameable.specs.Paths.{Path, plain, Named, named, is_seen_in, as_named, entries_in, extern_named, externs_in, entries_over, scopes_from}
 use Rattle.nameable.specs.Paths.{prelude_entries, firsts, reads, item_in, means, place_in}
 use Rattle.nameable.specs.Breadth.{Way, with_meaning, added, single}
@@ -57,26 +54,26 @@ named_append : (n : ℕ) (xs ys : List Named) → named n (xs ++ ys) ≡ or_firs
 unfolding named
 named_append n xs ys = first_of_append (λ (x : Named). eqb x.name n) xs ys
 
-map_or : {A B : Type 0} (f : A → B) (o p : Option A) → or_first (Option.map f o) (Option.map f p) ≡ Option.map f (or_first o p)
+map_or : {A B : Type 0} (f : A → B) (o p : Option A) → or_first (option_map f o) (option_map f p) ≡ option_map f (or_first o p)
 unfolding or_first
-map_or f none p = refl
-map_or f (some x) p = refl
+map_or f None p = refl
+map_or f (Some x) p = refl
 
 first_or : {A B : Type 0} (f : A → Option B) (x : A) (xs : List A) → first_some f (x ∷ xs) ≡ or_first (f x) (first_some f xs)
 unfolding first_some or_first
 first_or f x xs = by_option (f x) (λ e. rw (first_some, e)) (λ y e. rw (first_some, e))
 
 module _ (s : Snapshot) (from ns n : ℕ) where
-  over_named : (ms : List ℕ) → named n (entries_over s from ns ms) ≡ Option.map (as_named s) (first_some (λ m. seen_named s from ns m n) ms)
+  over_named : (ms : List ℕ) → named n (entries_over s from ns ms) ≡ option_map (as_named s) (first_some (λ m. seen_named s from ns m n) ms)
   unfolding entries_over named first_of first_some
   over_named [] = refl
   over_named (m ∷ ms) =
       named_append n (entries_in s from ns m) (entries_over s from ns ms)
       ∙ (ap₂ or_first (named_seen s from ns m n) (over_named ms)
       ∙ (map_or (as_named s) (seen_named s from ns m n) (first_some (λ m. seen_named s from ns m n) ms)
-      ∙ ap (Option.map (as_named s)) (sym (first_or (λ m. seen_named s from ns m n) m ms))))
+      ∙ ap (option_map (as_named s)) (sym (first_or (λ m. seen_named s from ns m n) m ms))))
 
-  pub externs_read : named n (externs_in s from ns) ≡ Option.map extern_named (externs_named s from ns n)
+  pub externs_read : named n (externs_in s from ns) ≡ option_map extern_named (externs_named s from ns n)
   unfolding named externs_in externs_named extern_of_name first_of
   externs_read =
       by_test (eqb ns types)
@@ -85,14 +82,14 @@ module _ (s : Snapshot) (from ns n : ℕ) where
       (first_mapped (λ (x : Named). eqb x.name n) extern_named (λ (x : Extern). eqb x.owner (crate_of s from)) s.externs))
       (λ t. rw (t, externs_in, externs_named))
 
-  prelude_named_lem : (o : Option Prelude) → named n (prelude_entries s from ns o) ≡ Option.map (as_named s) (named_in s from ns n o)
+  prelude_named_lem : (o : Option Prelude) → named n (prelude_entries s from ns o) ≡ option_map (as_named s) (named_in s from ns n o)
   unfolding prelude_entries named_in named first_of
-  prelude_named_lem none = refl
-  prelude_named_lem (some p) = named_seen s from ns p.target n
+  prelude_named_lem None = refl
+  prelude_named_lem (Some p) = named_seen s from ns p.target n
 
   three : reads s from ns (plain n)
-      ≡ or_first (Option.map (as_named s) (scopes_named s from ns n))
-      (or_first (Option.map extern_named (externs_named s from ns n)) (Option.map (as_named s) (prelude_named s from ns n)))
+      ≡ or_first (option_map (as_named s) (scopes_named s from ns n))
+      (or_first (option_map extern_named (externs_named s from ns n)) (option_map (as_named s) (prelude_named s from ns n)))
   unfolding reads firsts scopes_named prelude_named
   three =
       let a : List Named = entries_over s from ns (scopes_from s from) in
@@ -101,16 +98,16 @@ module _ (s : Snapshot) (from ns n : ℕ) where
       named_append n a (b ++ c)
       ∙ ap₂ or_first (over_named (scopes_from s from)) (named_append n b c ∙ ap₂ or_first externs_read (prelude_named_lem (prelude_of s (map_no s from))))
 
-  pub plain_scope : (e : Scope) → scopes_named s from ns n ≡ some e → some (as_named s e) ≡ reads s from ns (plain n)
+  pub plain_scope : (e : Scope) → scopes_named s from ns n ≡ Some e → Some (as_named s e) ≡ reads s from ns (plain n)
   unfolding or_first
   plain_scope e h = sym (three ∙ rw h)
 
-  module _ (no : scopes_named s from ns n ≡ none) where
-    pub plain_extern : (x : Extern) → externs_named s from ns n ≡ some x → some (extern_named x) ≡ reads s from ns (plain n)
+  module _ (no : scopes_named s from ns n ≡ None) where
+    pub plain_extern : (x : Extern) → externs_named s from ns n ≡ Some x → Some (extern_named x) ≡ reads s from ns (plain n)
     unfolding or_first
     plain_extern x h = sym (three ∙ rw (no, h))
 
-    pub plain_prelude : externs_named s from ns n ≡ none → Option.map (as_named s) (prelude_named s from ns n) ≡ reads s from ns (plain n)
+    pub plain_prelude : externs_named s from ns n ≡ None → option_map (as_named s) (prelude_named s from ns n) ≡ reads s from ns (plain n)
     unfolding or_first
     plain_prelude h = sym (three ∙ rw (no, h))
 
@@ -118,57 +115,27 @@ module _ (s : Snapshot) (from ns n : ℕ) where
   unfolding externs_named
   externs_types k e = ap (λ (c : ℕ). extern_of_name s c n) k ∙ rw (externs_named, eq-eqb ns types e)
 
-  pub externs_others : (ns ≡ types → ⊥) → none ≡ externs_named s from ns n
+  pub externs_others : (ns ≡ types → ⊥) → None ≡ externs_named s from ns n
   unfolding externs_named
   externs_others e = rw (externs_named, ne_eqb ns types e)
 
   module _ {k : ℕ} (at : k ≡ map_no s from) where
-    pub prelude_there : (p : Prelude) {t : ℕ} → prelude_of s k ≡ some p → t ≡ p.target → seen_named s from ns t n ≡ prelude_named s from ns n
+    pub prelude_there : (p : Prelude) {t : ℕ} → prelude_of s k ≡ Some p → t ≡ p.target → seen_named s from ns t n ≡ prelude_named s from ns n
     unfolding prelude_named named_in
     prelude_there p e et =
         ap (λ (m : ℕ). seen_named s from ns m n) et ∙ ap (named_in s from ns n) (sym (ap (prelude_of s) (sym at) ∙ e))
 
-    pub prelude_gone : prelude_of s k ≡ none → none ≡ prelude_named s from ns n
+    pub prelude_gone : prelude_of s k ≡ None → None ≡ prelude_named s from ns n
     unfolding prelude_named named_in
     prelude_gone e = ap (named_in s from ns n) (sym (ap (prelude_of s) (sym at) ∙ e))
 
--- the nearest in the scopes from the module m on
-abbrev pub nearest : Snapshot → ℕ → ℕ → ℕ → ℕ → Option Scope
-nearest s from ns n m = first_some (λ a. seen_named s from ns a n) (scopes_from s m)
-
-module _ (W A : List ℕ) (l : Layout) (r : Reads W A l) (from ns n m : ℕ) (known : m < l.modules) where
-  abbrev snap : Snapshot
-  snap = snap_of W A l
-
-  step_less : Falls (block_step snap) (length snap.modules)
-  step_less = step_falls snap (accepted_tree W snap r.same)
-
-  is_inside : m < length snap.modules
-  is_inside = let e = length_modules W A l in omega (arith, e, known)
-
-  pub near_here : {e : Scope} → seen_named (snap_of W A l) from ns m n ≡ some e → some e ≡ nearest (snap_of W A l) from ns n m
-  unfolding scopes_from
-  near_here e = first_here (block_step snap) (length snap.modules) step_less m is_inside (λ a. seen_named snap from ns a n) e
-
-  module _ (gone : seen_named (snap_of W A l) from ns m n ≡ none) where
-    pub near_end : block_step (snap_of W A l) m ≡ 0 → none ≡ nearest (snap_of W A l) from ns n m
-    unfolding scopes_from
-    near_end e = first_end (block_step snap) (length snap.modules) step_less m is_inside (λ a. seen_named snap from ns a n) gone e
-
-    pub near_on : (p : ℕ) → block_step (snap_of W A l) m ≡ suc p → nearest (snap_of W A l) from ns n m ≡ nearest (snap_of W A l) from ns n p
-    unfolding scopes_from
-    near_on p e = first_on (block_step snap) (length snap.modules) step_less m is_inside (λ a. seen_named snap from ns a n) gone p e
-
-  pub near_less : (p : ℕ) → block_step (snap_of W A l) m ≡ suc p → p < m
-  near_less p e = step_less m p is_inside e
-
 -- The module of what is read.
 
-pub mod_is : (m : ModuleId) {i j : Item} → i ≡ Mod m → i ≡ j → plus_one (Module m) ≡ module_no j
+pub mod_is : (m : ModuleId) {i j : Item} → i ≡ Mod m → i ≡ j → plus_one (Some m) ≡ module_no j
 unfolding plus_one module_no
 mod_is m e f = let z : m.0 + 1 ≡ suc m.0 = omega arith in z ∙ ap module_no (sym e ∙ f)
 
-pub def_is : {ns : Namespace} {d : DefinitionId} {i j : Item} → i ≡ Def ns d → i ≡ j → plus_one NoModule ≡ module_no j
+pub def_is : {ns : Namespace} {d : DefinitionId} {i j : Item} → i ≡ Def ns d → i ≡ j → plus_one None ≡ module_no j
 unfolding plus_one module_no
 def_is e f = ap module_no (sym e ∙ f)
 
@@ -176,31 +143,31 @@ pub entry_item : (s : Snapshot) (e : Scope) {i : Item} {ns d : ℕ} → i ≡ it
     → i ≡ item_of s e.ns e.definition
 entry_item s e q a b = q ∙ ap₂ (item_of s) a b
 
-pub mod_no : (m : ModuleId) {t : ℕ} → m.0 ≡ t → plus_one (Module m) ≡ suc t
+pub mod_no : (m : ModuleId) {t : ℕ} → m.0 ≡ t → plus_one (Some m) ≡ suc t
 unfolding plus_one
 mod_no m e = omega (arith, e)
 
 -- A name alone is offered.
 module _ (s : Snapshot) (from n : ℕ) where
-  module_meant : (o : Option Named) (t : ℕ) → module_in o ≡ suc t → item_in o ≡ some (module_item t)
+  module_meant : (o : Option Named) (t : ℕ) → module_in o ≡ suc t → item_in o ≡ Some (module_item t)
   unfolding module_in module_no item_in
-  module_meant none t e = absurd (omega arith)
-  module_meant (some x) t e = by x.item e
+  module_meant None t e = absurd (omega arith)
+  module_meant (Some x) t e = by x.item e
     where
-      by : (y : Item) → module_no y ≡ suc t → some y ≡ some (module_item t)
+      by : (y : Item) → module_no y ≡ suc t → Some y ≡ Some (module_item t)
       by (Def ns d) h = absurd (omega arith)
-      by (Mod m) h = let same : m.0 ≡ t = omega arith in ap (λ (j : ℕ). some (module_item j)) same
+      by (Mod m) h = let same : m.0 ≡ t = omega arith in ap (λ (j : ℕ). Some (module_item j)) same
 
   no_module_lem : (ws : List Way) (p : Path) (o : Option Named) → module_in o ≡ 0 → with_meaning ws p (item_in o) ≡ ws
   unfolding module_in module_no item_in with_meaning
-  no_module_lem ws p none e = refl
-  no_module_lem ws p (some x) e = by x.item e
+  no_module_lem ws p None e = refl
+  no_module_lem ws p (Some x) e = by x.item e
     where
-      by : (y : Item) → module_no y ≡ 0 → with_meaning ws p (some y) ≡ ws
+      by : (y : Item) → module_no y ≡ 0 → with_meaning ws p (Some y) ≡ ws
       by (Def ns d) h = refl
       by (Mod m) h = absurd (omega arith)
 
-  pub plain_means : (t : ℕ) → module_in (reads s from types (plain n)) ≡ suc t → means s from types (plain n) ≡ some (module_item t)
+  pub plain_means : (t : ℕ) → module_in (reads s from types (plain n)) ≡ suc t → means s from types (plain n) ≡ Some (module_item t)
   unfolding means
   plain_means t e = module_meant (reads s from types (plain n)) t e
 
@@ -209,7 +176,7 @@ module _ (s : Snapshot) (from n : ℕ) where
   unfolding added path_from
   plain_offered {modules} {A} {B} {k} {r} {t} {x} e ex g =
       subst (Grown modules A k B r)
-      (ap (λ (y : ℕ). with_meaning (run_at A k) (plain y) (some (module_item t))) ex
+      (ap (λ (y : ℕ). with_meaning (run_at A k) (plain y) (Some (module_item t))) ex
       ∙ ap (with_meaning (run_at A k) (plain n)) (sym (plain_means t e)))
       g
 
@@ -250,8 +217,8 @@ module _ (s : Snapshot) (ok : Valid s) (from ns : ℕ) where
 
   prelude_placed : (o : Option Prelude) → Each Placed (prelude_entries s from ns o)
   unfolding prelude_entries
-  prelude_placed none = Each.none
-  prelude_placed (some p) = entries_placed p.target
+  prelude_placed None = Each.none
+  prelude_placed (Some p) = entries_placed p.target
 
   firsts_placed : Each Placed (firsts s from ns)
   unfolding firsts
@@ -425,7 +392,7 @@ module _ (W A : List ℕ) (l : Layout) (r : Reads W A l) (from n : ℕ) where
         (sym (inv.rest ∙ (ap (λ (ms : List ℕ). added s from (run_at B c) (over (m ∷ ms))) end ∙ one [])))
         (as_run (grown_then inv.grown g))
 
-  pub prelude_passed : Run l.modules A n → prelude_of (snap_of W A l) (map_no (snap_of W A l) from) ≡ none
+  pub prelude_passed : Run l.modules A n → prelude_of (snap_of W A l) (map_no (snap_of W A l) from) ≡ None
       → Grown l.modules A n A n
       (added (snap_of W A l) from (run_at A n)
       (names_alone (prelude_entries (snap_of W A l) from types (prelude_of (snap_of W A l) (map_no (snap_of W A l) from)))))
@@ -434,7 +401,7 @@ module _ (W A : List ℕ) (l : Layout) (r : Reads W A l) (from n : ℕ) where
       subst (λ (o : Option Prelude). Grown l.modules A n A n (added s from (run_at A n) (names_alone (prelude_entries s from types o)))) (sym e)
       (unchanged l.modules A n run)
 
-  pub prelude_offered : {B : List ℕ} {c t : ℕ} (p : Prelude) → prelude_of (snap_of W A l) (map_no (snap_of W A l) from) ≡ some p → t ≡ p.target
+  pub prelude_offered : {B : List ℕ} {c t : ℕ} (p : Prelude) → prelude_of (snap_of W A l) (map_no (snap_of W A l) from) ≡ Some p → t ≡ p.target
       → Grown l.modules A n B c (added (snap_of W A l) from (run_at A n) (names_alone (entries_in (snap_of W A l) from types t)))
       → Grown l.modules A n B c
       (added (snap_of W A l) from (run_at A n)

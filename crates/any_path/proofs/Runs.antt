@@ -2,7 +2,7 @@
 use Prim.Native.Nat.{ℕ, suc, ◌+◌, ◌-◌, ◌≤◌, ◌<◌}
 use mathlib.Core.Path.{◌≡◌, refl, sym, ap, subst, ◌∙◌}
 use mathlib.Core.List.{List, [], ◌∷◌}
-use mathlib.Core.Option.{Option, none, some}
+use Rattle.std.specs.Prelude.{Option, None, Some}
 use native.Mathlib.Omega.{arith}
 use lib.ListN.{length, get_or}
 use Rattle.snapshot.specs.Lists.{rows}
@@ -32,9 +32,9 @@ module _ (s : Snapshot) (from : ℕ) where
   with_meant : {ws : List Way} (p : Path) → Each (Meant s from) ws → (o : Option Item) → means s from types p ≡ o
       → Each (Meant s from) (with_meaning ws p o)
   unfolding with_meaning
-  with_meant p h none e = h
-  with_meant p h (some (Def ns d)) e = h
-  with_meant {ws} p h (some (Mod m)) e =
+  with_meant p h None e = h
+  with_meant p h (Some (Def ns d)) e = h
+  with_meant {ws} p h (Some (Mod m)) e =
       by_test (is_met ws m.0) (λ t. rw (with_old ws p m.0 t) h) (λ t. rw (with_new ws p m.0 t) (each_snoc h e))
 
   pub added_meant : {ws : List Way} (ps : List Path) → Each (Meant s from) ws → Each (Meant s from) (added s from ws ps)

@@ -3,7 +3,7 @@ use Prim.Native.Nat.{ℕ, suc, ◌+◌, ◌-◌, ◌*◌, ◌≤◌, ◌<◌}
 use mathlib.Core.Path.{◌≡◌, refl, sym, ap, ap₂, subst, ◌∙◌}
 use mathlib.Core.List.{List, Memᴰ}
 use mathlib.Core.Bool.{true, false, ◌&&◌}
-use mathlib.Core.Option.{some}
+use Rattle.std.specs.Prelude.{Some}
 use native.Mathlib.Omega.{arith}
 use borrow.Author.Tests.{eqb-true}
 use lib.Dec.{eqb}
@@ -88,8 +88,8 @@ module _ (W A : List ℕ) (l : Layout) (r : Reads W A l) (from i n h : ℕ) wher
   entry_offered {B} {c} {t} {k} {x} m em lead et ek ex g =
       let ws : List Way = run_at A n in
       let q : path_from (path_at A) k x ≡ into (path_at A i) entry.name = ap₂ (path_from (path_at A)) ek ex ∙ link_into (path_at A) i entry.name in
-      let same : with_meaning ws (path_from (path_at A) k x) (some (module_item t)) ≡ with_entry snap from ws (way_at A i) entry =
-      ap₂ (λ (p : Path) (m : ℕ). with_meaning ws p (some (module_item m))) q et
+      let same : with_meaning ws (path_from (path_at A) k x) (Some (module_item t)) ≡ with_entry snap from ws (way_at A i) entry =
+      ap₂ (λ (p : Path) (m : ℕ). with_meaning ws p (Some (module_item m))) q et
       ∙ with_lead snap from ws (way_at A i) entry (ap (λ (m : ℕ). leads_on snap from m entry) (sym em) ∙ lead) in
       subst (Grown l.modules A n B c) same g
 

@@ -1,6 +1,6 @@
 -- What a name alone means, as a program looks it up; and the names alone that mean modules.
 use Rattle.std.specs.Prelude.{ℕ, suc, List, map, Bool, true, false, eqb}
-use Rattle.std.proofs.Math.Option.{Option, none, some}
+use Rattle.std.specs.Prelude.{Option, None, Some}
 use Rattle.snapshot.specs.Records.{Snapshot, Scope, Prelude, Extern, scope_at, extern_at}
 use Rattle.tree_rules.specs.Modules.{map_no, crate_of}
 use Rattle.hir_def.specs.Finds.{first_some, select}
@@ -20,22 +20,22 @@ scopes_named s from ns n = first_some (λ m. seen_named s from ns m n) (scopes_f
 
 -- the extern of the viewer's crate, in types
 unfoldable pub externs_named : Snapshot → ℕ → ℕ → ℕ → Option Extern
-externs_named s from ns n = elim (eqb ns types) [ true ↦ extern_of_name s (crate_of s from) n | false ↦ none ]
+externs_named s from ns n = elim (eqb ns types) [ true ↦ extern_of_name s (crate_of s from) n | false ↦ None ]
 
 -- the seen entry of the prelude
 
 unfoldable pub named_in : Snapshot → ℕ → ℕ → ℕ → Option Prelude → Option Scope
-named_in s from ns n none = none
-named_in s from ns n (some p) = seen_named s from ns p.target n
+named_in s from ns n None = None
+named_in s from ns n (Some p) = seen_named s from ns p.target n
 
 unfoldable pub prelude_named : Snapshot → ℕ → ℕ → ℕ → Option Scope
 prelude_named s from ns n = named_in s from ns n (prelude_of s (map_no s from))
 
 -- what the record at the place that is answered says
 unfoldable pub record_read : Snapshot → List ℕ → Reading → Option Named
-record_read s W (ByScope h) = some (as_named s (scope_at W h))
-record_read s W (ByExtern h) = some (extern_named (extern_at W h))
-record_read s W Nothing = none
+record_read s W (ByScope h) = Some (as_named s (scope_at W h))
+record_read s W (ByExtern h) = Some (extern_named (extern_at W h))
+record_read s W Nothing = None
 
 -- the module +1 that is meant, 0 for none
 
@@ -44,8 +44,8 @@ module_no (Mod m) = suc m.0
 module_no (Def ns d) = 0
 
 unfoldable pub module_in : Option Named → ℕ
-module_in none = 0
-module_in (some x) = module_no x.item
+module_in None = 0
+module_in (Some x) = module_no x.item
 
 -- the names alone of those that are modules
 

@@ -1,6 +1,6 @@
 -- The modules reached as rows of the work area, each with the row before it.
 use Rattle.std.specs.Prelude.{ℕ, zero, suc, ◌+◌, ◌*◌, ◌≤◌, ◌<◌, ◌≡◌, List, [], ◌∷◌, Bool, true, false, ◌&&◌, eqb, length, get_or}
-use Rattle.std.proofs.Math.Option.{some}
+use Rattle.std.specs.Prelude.{Some}
 use Rattle.snapshot.specs.Lists.{rows}
 use Rattle.snapshot.specs.Records.{Snapshot, Scope, Extern}
 use Rattle.snapshot.specs.Limits.{module_limit}
@@ -76,7 +76,7 @@ pub record Grown (modules : ℕ) (A : List ℕ) (n : ℕ) (B : List ℕ) (r : �
 
 -- a row was offered
 abbrev pub Offered : ℕ → List ℕ → ℕ → ℕ → ℕ → ℕ → List ℕ → ℕ → Type 0
-Offered modules A n t k x B r = Grown modules A n B r (with_meaning (run_at A n) (path_from (path_at A) k x) (some (module_item t)))
+Offered modules A n t k x B r = Grown modules A n B r (with_meaning (run_at A n) (path_from (path_at A) k x) (Some (module_item t)))
 
 -- an entry that leads on to a module
 abbrev pub leads_on : Snapshot → ℕ → ℕ → Scope → Bool
@@ -86,14 +86,14 @@ leads_on s from m e = is_module_entry s m e && seen s from e
 unfoldable pub with_entry : Snapshot → ℕ → List Way → Way → Scope → List Way
 with_entry s from ws w e =
     elim (leads_on s from w.target e) [
-      | true ↦ with_meaning ws (into w.path e.name) (some (module_item (entry_module s e)))
+      | true ↦ with_meaning ws (into w.path e.name) (Some (module_item (entry_module s e)))
       | false ↦ ws
     ]
 
 -- an extern of the crate c, by `::` and its name
 unfoldable pub with_extern : ℕ → List Way → Extern → List Way
 with_extern c ws x =
-    elim (eqb x.owner c) [ true ↦ with_meaning ws (absolute x.name) (some (module_item x.target)) | false ↦ ws ]
+    elim (eqb x.owner c) [ true ↦ with_meaning ws (absolute x.name) (Some (module_item x.target)) | false ↦ ws ]
 
 -- a name alone, where the test says so
 unfoldable pub name_if : Snapshot → ℕ → List Way → Bool → ℕ → List Way
@@ -101,7 +101,7 @@ name_if s from ws b n = elim b [ true ↦ added s from ws (plain n ∷ []) | fal
 
 -- a way means its module
 abbrev pub Meant : Snapshot → ℕ → Way → Type 0
-Meant s from w = means s from types w.path ≡ some (module_item w.target)
+Meant s from w = means s from types w.path ≡ Some (module_item w.target)
 
 -- the row number i is one of rows that mean their modules
 pub record InRun (s : Snapshot) (from modules : ℕ) (A : List ℕ) (i : ℕ) : Type 0 where

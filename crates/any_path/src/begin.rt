@@ -12,7 +12,7 @@ ghost use Rattle.any_path.specs.Rows.{row_at, run_at, Run, Grown};
 use crate::rows::{Row, offer};
 use module_tree::modules::{crate_root, parent};
 use seen_entries::privacy::module_around;
-use snapshot::ids::{ModuleId, OptModule};
+use snapshot::ids::ModuleId;
 use snapshot::layout::Layout;
 
 // The modules that `super`, one time and more, means.
@@ -26,7 +26,7 @@ fn offer_supers(words: &[u32], area: &mut [u32], l: Layout, from: ModuleId, n: u
     let mut count = n;
     let mut k = 0;
     loop {
-        let OptModule::Module(p) = parent(words, area, l, m) else {
+        let Some(p) = parent(words, area, l, m) else {
             return count;
         };
         m = module_around(words, area, l, p);

@@ -87,10 +87,8 @@ pub(crate) fn expand(
     let base = l.scope_base();
     let scopes = l.scopes;
     let mut count = n;
-    let mut k = 0;
-    while k < scopes {
+    for k in 0..scopes {
         count = offer_entry(words, area, l, from, i, count, base + Size::SCOPE * k);
-        k += 1;
     }
     count
 }

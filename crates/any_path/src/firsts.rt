@@ -17,10 +17,9 @@ use crate::expand::leads_on;
 use crate::plain::{module_read, place_read, read_plain};
 use crate::rows::{Row, offer};
 use crate_graph::prelude_of;
-use hir_def::Entry;
 use module_tree::modules::{krate, map};
 use seen_entries::privacy::block_step;
-use snapshot::ids::{Crate, ModuleId, Name, Namespace, OptModule};
+use snapshot::ids::{Crate, ModuleId, Name, Namespace};
 use snapshot::kind::Size;
 use snapshot::layout::Layout;
 use snapshot::record::{extern_name, extern_owner, prelude_target, scope_name};
@@ -39,7 +38,7 @@ fn offer_plain(
         (added (snap_of words.now area.old l) from.0 (run_at area.old n) (plain name.0 ∷ [])) }
 {
     let r = read_plain(words, area, l, from, Namespace::TYPES, name);
-    let OptModule::Module(m) = module_read(words, l, r) else {
+    let Some(m) = module_read(words, l, r) else {
         return n;
     };
     let row = Row {
@@ -91,10 +90,8 @@ fn offer_scope(
     let base = l.scope_base();
     let scopes = l.scopes;
     let mut count = n;
-    let mut k = 0;
-    while k < scopes {
+    for k in 0..scopes {
         count = offer_lead(words, area, l, from, m, count, base + Size::SCOPE * k);
-        k += 1;
     }
     count
 }
@@ -111,7 +108,7 @@ fn offer_scopes(words: &[u32], area: &mut [u32], l: Layout, from: ModuleId, n: u
     let mut count = n;
     loop {
         count = offer_scope(words, area, l, from, m, count);
-        let OptModule::Module(b) = block_step(words, area, l, m) else {
+        let Some(b) = block_step(words, area, l, m) else {
             return count;
         };
         m = b;
@@ -152,10 +149,8 @@ fn offer_externs(words: &[u32], area: &mut [u32], l: Layout, from: ModuleId, n: 
     let base = l.extern_base();
     let externs = l.externs;
     let mut count = n;
-    let mut k = 0;
-    while k < externs {
+    for k in 0..externs {
         count = offer_owned(words, area, l, from, c, count, base + Size::EXTERN * k);
-        k += 1;
     }
     count
 }
@@ -168,7 +163,7 @@ fn offer_prelude(words: &[u32], area: &mut [u32], l: Layout, from: ModuleId, n: 
         (names_alone (prelude_entries (snap_of words.now area.old l) from.0 types
         (prelude_of (snap_of words.now area.old l) (map_no (snap_of words.now area.old l) from.0))))) }
 {
-    let Entry::At(p) = prelude_of(words, l, map(words, area, l, from)) else {
+    let Some(p) = prelude_of(words, l, map(words, area, l, from)) else {
         return n;
     };
     offer_scope(words, area, l, from, prelude_target(words, p), n)

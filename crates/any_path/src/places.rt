@@ -1,6 +1,6 @@
 //! The place of the record by which the last name of a row's path is read.
 ghost use Rattle.std.specs.Prelude.{◌≡◌, List, ℕ, ◌<◌};
-ghost use Rattle.std.proofs.Math.Option.{map};
+ghost use Rattle.std.specs.Prelude.{option_map};
 ghost use Rattle.snapshot.specs.Records.{Snapshot, scope_at, extern_at};
 ghost use Rattle.snapshot.specs.Layouts.{snap_of};
 ghost use Rattle.accept.specs.Post.{Reads};
@@ -11,20 +11,19 @@ ghost use Rattle.any_path.specs.Rows.{path_at, InRun};
 
 use crate::plain::{externs_named, place_read, read_plain};
 use crate::rows::Row;
-use hir_def::Entry;
 use seen_entries::lookups::entry_named;
 use snapshot::ids::{ModuleId, Name, Namespace};
 use snapshot::layout::Layout;
 use snapshot::words::word;
 
 // The place of an entry or an extern, 0 for none.
-fn entry_place(e: Entry) -> usize
-    ensures { (s : Snapshot) (W : List ℕ) → (result ≡ place_in (map (as_named s) (entry_of scope_at W e)))
-        × (result ≡ place_in (map extern_named (entry_of extern_at W e))) }
+fn entry_place(e: Option<usize>) -> usize
+    ensures { (s : Snapshot) (W : List ℕ) → (result ≡ place_in (option_map (as_named s) (entry_of scope_at W e)))
+        × (result ≡ place_in (option_map extern_named (entry_of extern_at W e))) }
 {
     match e {
-        Entry::At(h) => h,
-        Entry::Nothing => 0,
+        Some(h) => h,
+        None => 0,
     }
 }
 

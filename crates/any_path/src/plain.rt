@@ -10,13 +10,14 @@ ghost use Rattle.nameable.specs.Paths.{plain, reads, place_in};
 ghost use Rattle.any_path.specs.Plain.{scopes_named, externs_named, prelude_named, record_read, module_no, module_in};
 
 use crate_graph::prelude_of;
+use hir_def::Item;
+use hir_def::finds::nearest;
 use hir_def::items::item_of;
-use hir_def::{Entry, Item};
 use module_tree::modules::{krate, map};
 use read_back::lookups::extern_named;
 use seen_entries::lookups::entry_named;
 use seen_entries::privacy::block_step;
-use snapshot::ids::{ModuleId, Name, Namespace, OptModule};
+use snapshot::ids::{ModuleId, Name, Namespace};
 use snapshot::layout::Layout;
 use snapshot::record::{extern_target, prelude_target, scope_definition, scope_ns};
 
@@ -36,22 +37,14 @@ fn scopes_named(
     from: ModuleId,
     ns: usize,
     name: Name,
-) -> Entry
+) -> Option<usize>
     requires { Reads words.now area.now l × (from.0 < l.modules) }
     ensures { entry_of scope_at words.now result ≡ scopes_named (snap_of words.now area.now l)
         from.0 ns name.0 }
 {
-    let mut m = from;
-    loop {
-        let e = entry_named(words, area, l, from, m, ns, name);
-        if let Entry::At(h) = e {
-            return Entry::At(h);
-        }
-        let OptModule::Module(b) = block_step(words, area, l, m) else {
-            return Entry::Nothing;
-        };
-        m = b;
-    }
+    let find = |m| entry_named(words, area, l, from, m, ns, name);
+    let outward = |m| block_step(words, area, l, m);
+    nearest(from, find, outward)
 }
 
 // The seen entry of the prelude with a namespace and a name.
@@ -62,14 +55,12 @@ fn prelude_named(
     from: ModuleId,
     ns: usize,
     name: Name,
-) -> Entry
+) -> Option<usize>
     requires { Reads words.now area.now l × (from.0 < l.modules) }
     ensures { entry_of scope_at words.now result ≡ prelude_named (snap_of words.now area.now l)
         from.0 ns name.0 }
 {
-    let Entry::At(p) = prelude_of(words, l, map(words, area, l, from)) else {
-        return Entry::Nothing;
-    };
+    let p = prelude_of(words, l, map(words, area, l, from))?;
     entry_named(words, area, l, from, prelude_target(words, p), ns, name)
 }
 
@@ -81,13 +72,13 @@ pub(crate) fn externs_named(
     from: ModuleId,
     ns: usize,
     name: Name,
-) -> Entry
+) -> Option<usize>
     requires { Reads words.now area.now l × (from.0 < l.modules) }
     ensures { entry_of extern_at words.now result ≡ externs_named (snap_of words.now area.now l)
         from.0 ns name.0 }
 {
     if ns != Namespace::TYPES {
-        return Entry::Nothing;
+        return None;
     }
     extern_named(words, l, krate(words, area, l, from), name)
 }
@@ -106,41 +97,41 @@ pub fn read_plain(
         ≡ reads (snap_of words.now area.now l) from.0 ns (plain name.0) }
 {
     let near = scopes_named(words, area, l, from, ns, name);
-    if let Entry::At(h) = near {
+    if let Some(h) = near {
         return Reading::Scope(h);
     }
     let outer = externs_named(words, area, l, from, ns, name);
-    if let Entry::At(h) = outer {
+    if let Some(h) = outer {
         return Reading::Extern(h);
     }
-    let Entry::At(h) = prelude_named(words, area, l, from, ns, name) else {
+    let Some(h) = prelude_named(words, area, l, from, ns, name) else {
         return Reading::Nothing;
     };
     Reading::Scope(h)
 }
 
 // The module that the entry with its head at a place stands for.
-fn entry_module(words: &[u32], l: Layout, h: usize) -> OptModule
+fn entry_module(words: &[u32], l: Layout, h: usize) -> Option<ModuleId>
     requires { word_count l < 2 ^ 32 }
     ensures { (A : List ℕ)
         → plus_one result ≡ module_no (item_of (snap_of words.now A l) (scope_at words.now h).ns
         (scope_at words.now h).definition) }
 {
     match item_of(words, l, scope_ns(words, h), scope_definition(words, h)) {
-        Item::Mod(m) => OptModule::Module(m),
-        Item::Def(_, _) => OptModule::NoModule,
+        Item::Mod(m) => Some(m),
+        Item::Def(_, _) => None,
     }
 }
 
 /// The module that a record stands for.
-pub fn module_read(words: &[u32], l: Layout, r: Reading) -> OptModule
+pub fn module_read(words: &[u32], l: Layout, r: Reading) -> Option<ModuleId>
     requires { word_count l < 2 ^ 32 }
     ensures { (A : List ℕ) → plus_one result ≡ module_in (record_read (snap_of words.now A l) words.now r) }
 {
     match r {
         Reading::Scope(h) => entry_module(words, l, h),
-        Reading::Extern(h) => OptModule::Module(extern_target(words, h)),
-        Reading::Nothing => OptModule::NoModule,
+        Reading::Extern(h) => Some(extern_target(words, h)),
+        Reading::Nothing => None,
     }
 }
 

@@ -27,12 +27,10 @@ pub(crate) fn is_met(area: &[u32], n: usize, m: usize) -> bool
     requires { n ≤ module_limit }
     ensures { result ≡ is_met (run_at area.now n) m }
 {
-    let mut i = 0;
-    while i < n {
+    for i in 0..n {
         if word(area, Row::BASE + Row::SIZE * i) == m {
             return true;
         }
-        i += 1;
     }
     false
 }

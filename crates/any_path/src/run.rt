@@ -31,10 +31,8 @@ pub(crate) fn expand_all(
         (onward (snap_of words.now area.old l) from.0 types (run_at area.old n))) }
 {
     let mut count = n;
-    let mut i = 0;
-    while i < n {
+    for i in 0..n {
         count = expand(words, area, l, from, i, count);
-        i += 1;
     }
     count
 }
@@ -56,6 +54,7 @@ pub(crate) fn take_up(
 {
     let mut count = n;
     let mut i = start;
+    // No range: `count` grows in the loop.
     while i < count {
         count = expand(words, area, l, from, i, count);
         i += 1;

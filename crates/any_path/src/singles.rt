@@ -58,10 +58,8 @@ pub(crate) fn offer_absolutes(
     let base = l.extern_base();
     let externs = l.externs;
     let mut count = n;
-    let mut k = 0;
-    while k < externs {
+    for k in 0..externs {
         count = offer_extern(words, area, l, c, count, base + Size::EXTERN * k);
-        k += 1;
     }
     count
 }

@@ -1,30 +1,25 @@
 -- Plain names, as the code looks them up.
-use Prim.Native.Nat.{ℕ, suc, ◌<◌, ◌≤◌}
+use Rattle.arrivals.specs.declared.LastStep.{LastStep}
+use Prim.Native.Nat.{ℕ, ◌<◌, ◌≤◌}
 use mathlib.Core.Path.{◌≡◌, sym, ap, subst, ◌∙◌}
 use mathlib.Core.List.{List}
 use mathlib.Core.Bool.{Bool, true, false}
-use mathlib.Core.Option
-use mathlib.Core.Option.{Option, none, some}
+use Rattle.std.specs.Prelude.{Option, None, Some, option_map}
 use native.Mathlib.Omega.{arith}
-use lib.ListN.{length}
 use Rattle.snapshot.specs.Limits.{module_limit}
 use Rattle.snapshot.specs.Records.{Snapshot, Scope, Prelude, scope_at}
 use Rattle.snapshot.specs.Layouts.{snap_of}
 use Rattle.snapshot.specs.declared.layout.Layout.{Layout}
 use Rattle.accept.specs.Post.{Reads}
-use Rattle.accept.specs.Valid.{Each, Valid}
+use Rattle.accept.specs.Valid.{Each}
 use Rattle.accept.proofs.Valid.{accepted_valid}
 use Rattle.tree_rules.specs.Modules.{map_no}
-use Rattle.tree_rules.specs.Privately.{block_step}
-use Rattle.module_tree.proofs.Laws.{Falls}
 use Rattle.module_tree.proofs.Reading.{length_modules}
 use Rattle.hir_def.specs.Finds.{first_some, or_first}
 use Rattle.hir_def.specs.Items.{types, ns_of, item_of, same_item, module_item, defined_item}
 use Rattle.hir_def.specs.ItemScope.{is_for}
 use Rattle.hir_def.specs.Nameres.{prelude_of}
 use Rattle.hir_def.specs.declared.Item.{Item}
-use Rattle.hir_def.proofs.Ancestors.{first_here, first_end, first_on}
-use Rattle.seen_entries.proofs.Laws.{step_falls}
 use Rattle.nameable.specs.Seen.{seen}
 use Rattle.nameable.specs.Paths.{Path, plain, scopes_from, reads, item_in, means, place_in}
 use Rattle.nameable.specs.Breadth.{Way, onward, single, is_item, first_to, arrival}
@@ -37,7 +32,6 @@ use Rattle.any_path.specs.declared.plain.Reading.{Reading}
 use Rattle.any_path.specs.declared.plain.Reading.TheVariants.{Scope as ByScope, Extern as ByExtern, Nothing}
 use Rattle.any_path.specs.Plain.{record_read}
 use Rattle.any_path.proofs.Written.{run_small}
-use Rattle.arrivals.specs.declared.OptStep.{OptStep}
 use Rattle.arrivals.specs.Steps.{way_of, Steps, LeadsTo, Ready, is_plain_for, plain_in, plain_in_prelude, plain_entry}
 use Rattle.arrivals.proofs.Modules.{arrival_module, run_meant}
 use Rattle.arrivals.proofs.Others.{arrival_keywords, arrival_plainly}
@@ -59,40 +53,12 @@ module _ (s : Snapshot) (W : List ℕ) (from k d n : ℕ) {r : Reading} (e : rec
   unfolding means item_in is_item record_read
   means_nothing q = ap (λ o. is_item (defined_item k d) (item_in o)) (ap (record_read s W) (sym q) ∙ e)
 
--- The viewer's scopes, one after the other.
-module _ (W A : List ℕ) (l : Layout) (r : Reads W A l) (m : ℕ) (known : m < l.modules) where
-  valid : Valid (snap_of W A l)
-  valid = accepted_valid W (snap_of W A l) r.same
-
-  falls : Falls (block_step (snap_of W A l)) (length (snap_of W A l).modules)
-  falls = step_falls (snap_of W A l) valid.tree
-
-  inside : m < length (snap_of W A l).modules
-  inside = rw (length_modules W A l) known
-
-  pub scopes_less : (b : ℕ) → block_step (snap_of W A l) m ≡ suc b → b < m
-  scopes_less b e = falls m b inside e
-
-  module _ {B : Type 0} (f : ℕ → Option B) where
-    pub scopes_here : {y : B} → f m ≡ some y → some y ≡ first_some f (scopes_from (snap_of W A l) m)
-    unfolding scopes_from
-    scopes_here e = first_here (block_step (snap_of W A l)) (length (snap_of W A l).modules) falls m inside f e
-
-    pub scopes_end_lem : f m ≡ none → block_step (snap_of W A l) m ≡ 0 → none ≡ first_some f (scopes_from (snap_of W A l) m)
-    unfolding scopes_from
-    scopes_end_lem e z = first_end (block_step (snap_of W A l)) (length (snap_of W A l).modules) falls m inside f e z
-
-    pub scopes_on : f m ≡ none → (b : ℕ) → block_step (snap_of W A l) m ≡ suc b
-        → first_some f (scopes_from (snap_of W A l) m) ≡ first_some f (scopes_from (snap_of W A l) b)
-    unfolding scopes_from
-    scopes_on e b z = first_on (block_step (snap_of W A l)) (length (snap_of W A l).modules) falls m inside f e b z
-
 module _ (s : Snapshot) (from : ℕ) (item : Item) {k : ℕ} (map : k ≡ map_no s from) where
-  pub prelude_none : prelude_of s k ≡ none → none ≡ plain_in_prelude s from item (prelude_of s (map_no s from))
+  pub prelude_none : prelude_of s k ≡ None → None ≡ plain_in_prelude s from item (prelude_of s (map_no s from))
   unfolding plain_in_prelude
   prelude_none e = sym (ap (plain_in_prelude s from item) (ap (prelude_of s) (sym map) ∙ e))
 
-  pub prelude_some : {p : Prelude} {m : ℕ} {o : Option Scope} → prelude_of s k ≡ some p → m ≡ p.target → o ≡ plain_in s from item m
+  pub prelude_some : {p : Prelude} {m : ℕ} {o : Option Scope} → prelude_of s k ≡ Some p → m ≡ p.target → o ≡ plain_in s from item m
       → o ≡ plain_in_prelude s from item (prelude_of s (map_no s from))
   unfolding plain_in_prelude
   prelude_some e em eo = eo ∙ (ap (plain_in s from item) em ∙ sym (ap (plain_in_prelude s from item) (ap (prelude_of s) (sym map) ∙ e)))
@@ -104,11 +70,11 @@ module _ (s : Snapshot) (from : ℕ) (item : Item) where
   abbrev far : Option Scope
   far = plain_in_prelude s from item (prelude_of s (map_no s from))
 
-  pub entry_near : {e : Scope} → some e ≡ first_some (plain_in s from item) (scopes_from s from) → some e ≡ plain_entry s from item
+  pub entry_near : {e : Scope} → Some e ≡ first_some (plain_in s from item) (scopes_from s from) → Some e ≡ plain_entry s from item
   unfolding plain_entry
   entry_near {e} q = sym (or_first_some near far e (sym q))
 
-  pub entry_far : {o : Option Scope} → none ≡ first_some (plain_in s from item) (scopes_from s from)
+  pub entry_far : {o : Option Scope} → None ≡ first_some (plain_in s from item) (scopes_from s from)
       → o ≡ plain_in_prelude s from item (prelude_of s (map_no s from)) → o ≡ plain_entry s from item
   unfolding plain_entry
   entry_far q u = u ∙ sym (or_first_none near far (sym q))
@@ -129,7 +95,7 @@ module _ (W A : List ℕ) (l : Layout) (r : Reads W A l) (from n : ℕ) (known :
   ready_meant = subst (Each (Meant s from)) (sym ready.same) (run_meant s from enough b)
 
   -- a module, by its row
-  pub leads_module : {item : Item} (q : OptStep) (m : ℕ) → item ≡ module_item m → LeadsTo (snap_of W A l) from types A n (way_of m (run_at A n)) q
+  pub leads_module : {item : Item} (q : Option LastStep) (m : ℕ) → item ≡ module_item m → LeadsTo (snap_of W A l) from types A n (way_of m (run_at A n)) q
       → LeadsTo (snap_of W A l) from (ns_of item) A n (arrival b (snap_of W A l) from item) q
   unfolding ns_of
   leads_module q m e h =
@@ -141,7 +107,7 @@ module _ (W A : List ℕ) (l : Layout) (r : Reads W A l) (from n : ℕ) (known :
   past k d = first_to s from (defined_item k d) (onward s from k (run_at A n))
 
   -- what is no module, by one name more after a row
-  pub leads_keyword : {item : Item} (q : OptStep) (k d : ℕ) → b ≡ false → item ≡ defined_item k d
+  pub leads_keyword : {item : Item} (q : Option LastStep) (k d : ℕ) → b ≡ false → item ≡ defined_item k d
       → LeadsTo (snap_of W A l) from k A n (past k d) q → LeadsTo (snap_of W A l) from (ns_of item) A n (arrival b (snap_of W A l) from item) q
   unfolding ns_of
   leads_keyword q k d eb e h =
@@ -153,7 +119,7 @@ module _ (W A : List ℕ) (l : Layout) (r : Reads W A l) (from n : ℕ) (known :
 
   module _ (k d : ℕ) (eb : b ≡ true) where
     plain_name : Option Path
-    plain_name = Option.map (λ (x : Scope). plain x.name) (plain_entry s from (defined_item k d))
+    plain_name = option_map (λ (x : Scope). plain x.name) (plain_entry s from (defined_item k d))
 
     plain_whole : arrival b s from (defined_item k d) ≡ or_first plain_name (past k d)
     unfolding plain_name
@@ -166,28 +132,28 @@ module _ (W A : List ℕ) (l : Layout) (r : Reads W A l) (from n : ℕ) (known :
         ∙ ap (λ (o : Option Path). or_first o (past k d)) (plain_first s from k d)))
 
     -- by its name alone
-    pub leads_plain : {h x : ℕ} → some (scope_at W h) ≡ plain_entry (snap_of W A l) from (defined_item k d) → x ≡ (scope_at W h).name
+    pub leads_plain : {h x : ℕ} → Some (scope_at W h) ≡ plain_entry (snap_of W A l) from (defined_item k d) → x ≡ (scope_at W h).name
         → Steps (snap_of W A l) from k A n (arrival b (snap_of W A l) from (defined_item k d)) 2 x h
     unfolding plain_name path_from place_in
     leads_plain {h} {x} q ex =
         record {
           path = plain_whole
-              ∙ (or_first_some plain_name (past k d) (plain (scope_at W h).name) (ap (Option.map (λ (y : Scope). plain y.name)) (sym q))
-              ∙ ap (λ (y : ℕ). some (plain y)) (sym ex));
+              ∙ (or_first_some plain_name (past k d) (plain (scope_at W h).name) (ap (option_map (λ (y : Scope). plain y.name)) (sym q))
+              ∙ ap (λ (y : ℕ). Some (plain y)) (sym ex));
           linked = omega arith;
           place = λ placed. sym (ap (λ (y : ℕ). place_in (reads s from k (plain y))) ex ∙ ap place_in (plain_reads s from k d (scope_at W h) (sym q)));
         }
 
     -- else by one name more after a row
-    pub leads_past : (q : OptStep) → none ≡ plain_entry (snap_of W A l) from (defined_item k d) → LeadsTo (snap_of W A l) from k A n (past k d) q
+    pub leads_past : (q : Option LastStep) → None ≡ plain_entry (snap_of W A l) from (defined_item k d) → LeadsTo (snap_of W A l) from k A n (past k d) q
         → LeadsTo (snap_of W A l) from k A n (arrival b (snap_of W A l) from (defined_item k d)) q
     unfolding plain_name
     leads_past q e h =
         subst (λ (o : Option Path). LeadsTo s from k A n o q)
-        (sym (plain_whole ∙ or_first_none plain_name (past k d) (ap (Option.map (λ (y : Scope). plain y.name)) (sym e)))) h
+        (sym (plain_whole ∙ or_first_none plain_name (past k d) (ap (option_map (λ (y : Scope). plain y.name)) (sym e)))) h
 
 -- along the item
-pub leads_as : (s : Snapshot) (from n : ℕ) (A : List ℕ) (b : Bool) {item : Item} (q : OptStep) (k d : ℕ) → item ≡ defined_item k d
+pub leads_as : (s : Snapshot) (from n : ℕ) (A : List ℕ) (b : Bool) {item : Item} (q : Option LastStep) (k d : ℕ) → item ≡ defined_item k d
     → LeadsTo s from k A n (arrival b s from (defined_item k d)) q → LeadsTo s from (ns_of item) A n (arrival b s from item) q
 unfolding ns_of
 leads_as s from n A b q k d e h = subst (λ (i : Item). LeadsTo s from (ns_of i) A n (arrival b s from i) q) (sym e) h
@@ -210,6 +176,6 @@ pub entry_item : (s : Snapshot) (item : Item) (e : Scope) {t : Bool} {i : Item} 
 entry_item s item e et ei ea eb = et ∙ rw (ei, ea, eb)
 
 -- along the kind of paths
-pub leads_by : (s : Snapshot) (from n : ℕ) (A : List ℕ) (item : Item) (q : OptStep) {b c : Bool} → b ≡ c
+pub leads_by : (s : Snapshot) (from n : ℕ) (A : List ℕ) (item : Item) (q : Option LastStep) {b c : Bool} → b ≡ c
     → LeadsTo s from (ns_of item) A n (arrival c s from item) q → LeadsTo s from (ns_of item) A n (arrival b s from item) q
 leads_by s from n A item q e h = subst (λ (d : Bool). LeadsTo s from (ns_of item) A n (arrival d s from item) q) (sym e) h

@@ -3,7 +3,7 @@ use Prim.Native.Nat.{ℕ, zero, suc}
 use mathlib.Core.Path.{◌≡◌, refl, sym, ap, ◌∙◌}
 use mathlib.Core.List.{List, [], ◌∷◌, ◌++◌}
 use mathlib.Core.Bool.{Bool, true, false, true≢false}
-use mathlib.Core.Option.{Option, none, some}
+use Rattle.std.specs.Prelude.{Option, None, Some}
 use borrow.Author.Tests.{eqb-true}
 use lib.Dec.{eqb}
 use Rattle.snapshot.specs.Lists.{any}
@@ -23,19 +23,19 @@ use Rattle.nameable.proofs.Queue.{run_reached}
 use Rattle.any_path.specs.Rows.{Meant}
 use Rattle.arrivals.specs.Steps.{way_of}
 
-or_nothing : {A : Type 0} (a : Option A) → a ≡ or_first a none
+or_nothing : {A : Type 0} (a : Option A) → a ≡ or_first a None
 unfolding or_first
-or_nothing none = refl
-or_nothing (some x) = refl
+or_nothing None = refl
+or_nothing (Some x) = refl
 
 pub or_left : {A : Type 0} (a b c : Option A) → or_first (or_first a b) c ≡ or_first a (or_first b c)
 unfolding or_first
-or_left none b c = refl
-or_left (some x) b c = refl
+or_left None b c = refl
+or_left (Some x) b c = refl
 
 if_so : Path → Bool → Option Path
-if_so p true = some p
-if_so p false = none
+if_so p true = Some p
+if_so p false = None
 
 module _ (m : ℕ) where
   way_end : (ws vs : List Way) → way_of m (ws ++ vs) ≡ or_first (way_of m ws) (way_of m vs)
@@ -53,20 +53,20 @@ module _ (m : ℕ) where
   abbrev if_module : Path → Option Item → Option Path
   if_module p o = if_so p (is_item (module_item m) o)
 
-  way_one : (p : Path) (t : ℕ) → way_of m (way_to p t ∷ []) ≡ if_module p (some (module_item t))
+  way_one : (p : Path) (t : ℕ) → way_of m (way_to p t ∷ []) ≡ if_module p (Some (module_item t))
   unfolding way_of if_so is_item same_item
   way_one p t = by_test (eqb t m) (λ e. rw (e, way_of)) (λ e. rw (e, way_of))
 
   way_with : (ws : List Way) (p : Path) (o : Option Item) → way_of m (with_meaning ws p o) ≡ or_first (way_of m ws) (if_module p o)
   unfolding with_meaning if_so is_item same_item
-  way_with ws p none = or_nothing (way_of m ws)
-  way_with ws p (some (Def ns d)) = or_nothing (way_of m ws)
-  way_with ws p (some (Mod t)) =
+  way_with ws p None = or_nothing (way_of m ws)
+  way_with ws p (Some (Def ns d)) = or_nothing (way_of m ws)
+  way_with ws p (Some (Mod t)) =
       by_test (is_met ws t.0)
       (λ e.
       ap (way_of m) (with_old ws p t.0 e)
       ∙ by_test (eqb t.0 m)
-      (λ q. met_first ws (if_module p (some (Mod t))) (ap (is_met ws) (sym (eqb-true t.0 m q)) ∙ e))
+      (λ q. met_first ws (if_module p (Some (Mod t))) (ap (is_met ws) (sym (eqb-true t.0 m q)) ∙ e))
       (λ q. rw q (or_nothing (way_of m ws))))
       (λ e.
       ap (way_of m) (with_new ws p t.0 e)

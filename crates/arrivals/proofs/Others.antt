@@ -3,7 +3,7 @@ use Prim.Native.Nat.{ℕ, zero, suc}
 use mathlib.Core.Path.{◌≡◌, refl, sym, ap, ◌∙◌}
 use mathlib.Core.List.{List, [], ◌∷◌, ◌++◌, map, append-nil, append_assoc}
 use mathlib.Core.Bool.{Bool, true, false}
-use mathlib.Core.Option.{Option, none, some}
+use Rattle.std.specs.Prelude.{Option, None, Some}
 use lib.Dec.{eqb}
 use Rattle.snapshot.specs.Records.{Snapshot, Extern}
 use Rattle.accept.specs.Valid.{Each}
@@ -20,15 +20,15 @@ use Rattle.nameable.proofs.Reached.{each_in, each_made, named_in_lem, Plenty}
 use Rattle.nameable.proofs.Queue.{onward_append, reached_end, first_append, arrival_order, run_reached}
 
 -- a test that fails for each finds nothing
-pub first_nothing : {A B : Type 0} (p : B → Bool) (f : A → B) (xs : List A) → ((x : A) → p (f x) ≡ false) → first_of p (map f xs) ≡ none
+pub first_nothing : {A B : Type 0} (p : B → Bool) (f : A → B) (xs : List A) → ((x : A) → p (f x) ≡ false) → first_of p (map f xs) ≡ None
 unfolding first_of
 first_nothing p f [] h = refl
 first_nothing p f (x ∷ xs) h = rw (h x, first_of) (first_nothing p f xs h)
 
 or_same : {A : Type 0} (a b : Option A) → or_first a (or_first a b) ≡ or_first a b
 unfolding or_first
-or_same none b = refl
-or_same (some x) b = refl
+or_same None b = refl
+or_same (Some x) b = refl
 
 -- modules alone
 abbrev pub IsModule : Named → Type 0
@@ -64,12 +64,12 @@ module _ (s : Snapshot) (from k d : ℕ) where
   unfolding is_item means reads module_named item_in same_item
   keyword_not w = by_option (keyword_module s from w) (λ z. rw z) (λ m z. rw z)
 
-  nameless_none : (b : Bool) → first_to s from item (nameless b s) ≡ none
+  nameless_none : (b : Bool) → first_to s from item (nameless b s) ≡ None
   unfolding nameless first_to first_of
   nameless_none true = refl
   nameless_none false = first_nothing (λ (p : Path). is_item item (means s from (ns_of item) p)) keyword (keywords s) keyword_not
 
-  absolute_none : first_to s from item (single false s from k) ≡ none
+  absolute_none : first_to s from item (single false s from k) ≡ None
   unfolding single first_to ns_of means reads
   absolute_none =
       first_nothing (λ (p : Path). is_item item (means s from k p)) (λ (x : Named). absolute x.name) (absolutes s from k)

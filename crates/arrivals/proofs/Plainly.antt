@@ -3,8 +3,7 @@ use Prim.Native.Nat.{ℕ}
 use mathlib.Core.Path.{◌≡◌, refl, sym, ap, ap₂, subst, ◌∙◌}
 use mathlib.Core.List.{List, [], ◌∷◌, ◌++◌, map, append_assoc}
 use mathlib.Core.Bool.{Bool, true, false, ◌&&◌, true≢false}
-use mathlib.Core.Option
-use mathlib.Core.Option.{Option, none, some}
+use Rattle.std.specs.Prelude.{Option, None, Some, option_map}
 use borrow.Author.Tests.{eq-eqb}
 use lib.Dec.{eqb}
 use Rattle.snapshot.specs.Records.{Snapshot, Scope, Prelude}
@@ -29,7 +28,7 @@ use Rattle.nameable.proofs.Queue.{first_of_append}
 use Rattle.arrivals.specs.Steps.{is_plain_for, plain_in, plain_in_prelude, plain_entry}
 use Rattle.arrivals.proofs.Others.{IsModule, externs_modules}
 
-first_hit : {A : Type 0} (p : A → Bool) (x : A) (xs : List A) → p x ≡ true → first_of p (x ∷ xs) ≡ some x
+first_hit : {A : Type 0} (p : A → Bool) (x : A) (xs : List A) → p x ≡ true → first_of p (x ∷ xs) ≡ Some x
 unfolding first_of
 first_hit p x xs e = rw (first_of, e)
 
@@ -37,13 +36,13 @@ first_miss : {A : Type 0} (p : A → Bool) (x : A) (xs : List A) → p x ≡ fal
 unfolding first_of
 first_miss p x xs e = rw (first_of, e)
 
-first_map : {A B : Type 0} (p : B → Bool) (f : A → B) (xs : List A) → first_of p (map f xs) ≡ Option.map f (first_of (λ x. p (f x)) xs)
+first_map : {A B : Type 0} (p : B → Bool) (f : A → B) (xs : List A) → first_of p (map f xs) ≡ option_map f (first_of (λ x. p (f x)) xs)
 unfolding first_of
 first_map p f [] = refl
 first_map p f (x ∷ xs) = by_test (p (f x)) (λ t. rw (t, first_of)) (λ t. rw (t, first_of) (first_map p f xs))
 
 -- one test more that the one found passes
-and_first : {A : Type 0} (p q : A → Bool) (xs : List A) → ((x : A) → first_of p xs ≡ some x → q x ≡ true) → first_of p xs ≡ first_of (λ x. q x && p x) xs
+and_first : {A : Type 0} (p q : A → Bool) (xs : List A) → ((x : A) → first_of p xs ≡ Some x → q x ≡ true) → first_of p xs ≡ first_of (λ x. q x && p x) xs
 unfolding first_of
 and_first p q [] h = refl
 and_first p q (x ∷ xs) h =
@@ -53,7 +52,7 @@ and_first p q (x ∷ xs) h =
     first_miss p x xs t
     ∙ (and_first p q xs (λ y e. h y (first_miss p x xs t ∙ e)) ∙ sym (first_miss (λ y. q y && p y) x xs (by_test (q x) (λ u. rw u t) (λ u. rw u)))))
 
-first_each : {A : Type 0} (p : A → Bool) {xs : List A} → Each (λ x. p x ≡ false) xs → first_of p xs ≡ none
+first_each : {A : Type 0} (p : A → Bool) {xs : List A} → Each (λ x. p x ≡ false) xs → first_of p xs ≡ None
 unfolding first_of
 first_each p Each.none = refl
 first_each p (more {x = x} {xs = xs} e h) = first_miss p x xs e ∙ first_each p h
@@ -65,29 +64,29 @@ module _ (item : Item) (xs : List Named) where
 
   -- the first name that means the item is what it means
   own_from_lem : (pre rest : List Named) → xs ≡ pre ++ rest → Each (λ (y : Named). is_meant y.name ≡ false) pre
-      → (x : Named) → first_of (λ (y : Named). is_meant y.name) rest ≡ some x → named x.name xs ≡ some x
+      → (x : Named) → first_of (λ (y : Named). is_meant y.name) rest ≡ Some x → named x.name xs ≡ Some x
   unfolding named first_of
   own_from_lem pre [] e h x f = absurd (none_some f)
   own_from_lem pre (y ∷ rest) e h x f =
       by_test (is_meant y.name)
       (λ t.
-      let g : some y ≡ some x = sym (first_hit (λ (z : Named). is_meant z.name) y rest t) ∙ f in
+      let g : Some y ≡ Some x = sym (first_hit (λ (z : Named). is_meant z.name) y rest t) ∙ f in
       let same : y ≡ x = cc in
       let here : named y.name xs ≡ or_first (named y.name pre) (named y.name (y ∷ rest)) =
       ap (named y.name) e ∙ first_of_append (λ (z : Named). eqb z.name y.name) pre (y ∷ rest) in
-      let hit : named y.name (y ∷ rest) ≡ some y = first_hit (λ (z : Named). eqb z.name y.name) y rest (eq-eqb y.name y.name refl) in
-      let none_before : named y.name pre ≡ none =
+      let hit : named y.name (y ∷ rest) ≡ Some y = first_hit (λ (z : Named). eqb z.name y.name) y rest (eq-eqb y.name y.name refl) in
+      let none_before : named y.name pre ≡ None =
       by_option (named y.name pre) (λ z. z)
       (λ w z.
       let i = named_in_lem y.name pre w z in
       absurd (true≢false (sym t ∙ (ap is_meant (sym i.1) ∙ each_in h i.0)))) in
-      subst (λ (z : Named). named z.name xs ≡ some z) same
+      subst (λ (z : Named). named z.name xs ≡ Some z) same
       (here ∙ (or_first_none (named y.name pre) (named y.name (y ∷ rest)) none_before ∙ hit)))
       (λ t.
       own_from_lem (pre ++ (y ∷ [])) rest (e ∙ sym (append_assoc pre (y ∷ []) rest)) (each_snoc h t) x
       (sym (first_miss (λ (z : Named). is_meant z.name) y rest t) ∙ f))
 
-  own : (x : Named) → first_of (λ (y : Named). is_meant y.name) xs ≡ some x → named x.name xs ≡ some x
+  own : (x : Named) → first_of (λ (y : Named). is_meant y.name) xs ≡ Some x → named x.name xs ≡ Some x
   own x f = own_from_lem [] xs refl Each.none x f
 
   abbrev is_own : Named → Bool
@@ -102,10 +101,10 @@ module _ (item : Item) (xs : List Named) where
       let t = (first_found_lem (λ (y : Named). is_meant y.name) xs x f).1 in
       sym (ap (λ (o : Option Named). is_item item (item_in o)) (own x f)) ∙ t)
 
-map_or : {A B : Type 0} (f : A → B) (a b : Option A) → or_first (Option.map f a) (Option.map f b) ≡ Option.map f (or_first a b)
+map_or : {A B : Type 0} (f : A → B) (a b : Option A) → or_first (option_map f a) (option_map f b) ≡ option_map f (or_first a b)
 unfolding or_first
-map_or f none b = refl
-map_or f (some x) b = refl
+map_or f None b = refl
+map_or f (Some x) b = refl
 
 some_more : {A B : Type 0} (f : A → Option B) (x : A) (xs : List A) → first_some f (x ∷ xs) ≡ or_first (f x) (first_some f xs)
 unfolding first_some or_first
@@ -138,32 +137,32 @@ module _ (s : Snapshot) (from k d : ℕ) where
       let same : item_of s e.ns e.definition ≡ item = same_item_lem (item_of s e.ns e.definition) item t in
       eq-eqb e.ns k (sym (ns_of_item s e.ns e.definition) ∙ ap ns_of same))
 
-  module_first : (m : ℕ) → first_of test (entries_in s from k m) ≡ Option.map (as_named s) (plain_in s from item m)
+  module_first : (m : ℕ) → first_of test (entries_in s from k m) ≡ option_map (as_named s) (plain_in s from item m)
   unfolding entries_in plain_in
   module_first m =
       first_mapped test (as_named s) (is_seen_in s from k m) s.scopes
-      ∙ ap (Option.map (as_named s))
+      ∙ ap (option_map (as_named s))
       (first_same (λ (e : Scope). is_seen_in s from k m e && test (as_named s e)) (is_plain_for s from m item) s.scopes (λ e i. entry_same m e))
 
-  scopes_first : (ms : List ℕ) → first_of test (entries_over s from k ms) ≡ Option.map (as_named s) (first_some (plain_in s from item) ms)
+  scopes_first : (ms : List ℕ) → first_of test (entries_over s from k ms) ≡ option_map (as_named s) (first_some (plain_in s from item) ms)
   unfolding entries_over first_of first_some
   scopes_first [] = refl
   scopes_first (m ∷ ms) =
       first_of_append test (entries_in s from k m) (entries_over s from k ms)
       ∙ (ap₂ or_first (module_first m) (scopes_first ms)
       ∙ (map_or (as_named s) (plain_in s from item m) (first_some (plain_in s from item) ms)
-      ∙ ap (Option.map (as_named s)) (sym (some_more (plain_in s from item) m ms))))
+      ∙ ap (option_map (as_named s)) (sym (some_more (plain_in s from item) m ms))))
 
-  prelude_first : (o : Option Prelude) → first_of test (prelude_entries s from k o) ≡ Option.map (as_named s) (plain_in_prelude s from item o)
+  prelude_first : (o : Option Prelude) → first_of test (prelude_entries s from k o) ≡ option_map (as_named s) (plain_in_prelude s from item o)
   unfolding prelude_entries plain_in_prelude first_of
-  prelude_first none = refl
-  prelude_first (some p) = module_first p.target
+  prelude_first None = refl
+  prelude_first (Some p) = module_first p.target
 
-  externs_first : first_of test (externs_in s from k) ≡ none
+  externs_first : first_of test (externs_in s from k) ≡ None
   unfolding same_item
   externs_first = first_each test (each_map (λ (x : Named) (h : IsModule x). rw h.1) (externs_modules s from k))
 
-  all_first : first_of test (firsts s from k) ≡ Option.map (as_named s) (plain_entry s from (defined_item k d))
+  all_first : first_of test (firsts s from k) ≡ option_map (as_named s) (plain_entry s from (defined_item k d))
   unfolding firsts plain_entry or_first
   all_first =
       let p : Option Prelude = prelude_of s (map_no s from) in
@@ -172,23 +171,23 @@ module _ (s : Snapshot) (from k d : ℕ) where
       (first_of_append test (externs_in s from k) (prelude_entries s from k p) ∙ (ap₂ or_first externs_first (prelude_first p)))
       ∙ map_or (as_named s) (first_some (plain_in s from item) (scopes_from s from)) (plain_in_prelude s from item p))
 
-  meant_first : first_of (λ (x : Named). is_meant item all x.name) all ≡ Option.map (as_named s) (plain_entry s from item)
+  meant_first : first_of (λ (x : Named). is_meant item all x.name) all ≡ option_map (as_named s) (plain_entry s from item)
   meant_first = own_first item all ∙ all_first
 
-  name_after : (o : Option Scope) → Option.map (λ (x : Named). plain x.name) (Option.map (as_named s) o)
-      ≡ Option.map (λ (e : Scope). plain e.name) o
-  name_after none = refl
-  name_after (some e) = refl
+  name_after : (o : Option Scope) → option_map (λ (x : Named). plain x.name) (option_map (as_named s) o)
+      ≡ option_map (λ (e : Scope). plain e.name) o
+  name_after None = refl
+  name_after (Some e) = refl
 
   -- the first plain name
   pub plain_first : first_to s from (defined_item k d) (single true s from k)
-      ≡ Option.map (λ e. plain e.name) (plain_entry s from (defined_item k d))
+      ≡ option_map (λ e. plain e.name) (plain_entry s from (defined_item k d))
   unfolding first_to single means reads ns_of
   plain_first =
       first_map (λ (p : Path). is_item item (means s from k p)) (λ (x : Named). plain x.name) all
-      ∙ (ap (Option.map (λ (x : Named). plain x.name)) meant_first ∙ name_after (plain_entry s from item))
+      ∙ (ap (option_map (λ (x : Named). plain x.name)) meant_first ∙ name_after (plain_entry s from item))
 
   -- it is read by that entry
-  pub plain_reads : (e : Scope) → plain_entry s from (defined_item k d) ≡ some e → reads s from k (plain e.name) ≡ some (as_named s e)
+  pub plain_reads : (e : Scope) → plain_entry s from (defined_item k d) ≡ Some e → reads s from k (plain e.name) ≡ Some (as_named s e)
   unfolding reads
-  plain_reads e h = own item all (as_named s e) (meant_first ∙ ap (Option.map (as_named s)) h)
+  plain_reads e h = own item all (as_named s e) (meant_first ∙ ap (option_map (as_named s)) h)

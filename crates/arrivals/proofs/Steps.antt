@@ -3,7 +3,7 @@ use Prim.Native.Nat.{ℕ, suc, ◌+◌, ◌-◌, ◌≤◌, ◌<◌}
 use mathlib.Core.Path.{◌≡◌, refl, sym, ap, ap₂, ◌∙◌}
 use mathlib.Core.List.{List}
 use mathlib.Core.Bool.{true, ◌&&◌}
-use mathlib.Core.Option.{Option, none, some, map}
+use Rattle.std.specs.Prelude.{Option, None, Some, option_map}
 use native.Mathlib.Omega.{arith}
 use borrow.Author.Tests.{eq-eqb, ne_eqb}
 use lib.Dec.{eqb}
@@ -55,7 +55,7 @@ module _ (A : List ℕ) (n m : ℕ) where
   way_start = rows_whole (way_of m) (way_at A) n
 
   module _ (i : ℕ) (e : way_of m (run_at A n) ≡ way_of m (rows (way_at A) i (n - i))) where
-    way_found : i < n → target_at A i ≡ m → way_of m (run_at A n) ≡ some (path_at A i)
+    way_found : i < n → target_at A i ≡ m → way_of m (run_at A n) ≡ Some (path_at A i)
     unfolding way_of
     way_found h q = e ∙ rw (rows_next (way_at A) i n h, eq-eqb (target_at A i) m q, way_of)
 
@@ -66,7 +66,7 @@ module _ (A : List ℕ) (n m : ℕ) where
         row_path A n run.linked i h ∙ ap₂ (path_from (path_at A)) (sym ek) (sym ex) in
         let low = run.linked i h in
         record {
-          path = way_found h (sym et ∙ q) ∙ ap some there;
+          path = way_found h (sym et ∙ q) ∙ ap Some there;
           linked = omega (arith, low, ek, h);
           place = λ placed. ep ∙ (placed i h ∙ ap (λ (y : Path). place_in (reads s from types y)) there);
         }
@@ -75,20 +75,20 @@ module _ (A : List ℕ) (n m : ℕ) where
     unfolding way_of
     way_miss h et q = e ∙ rw (rows_next (way_at A) i n h, ne_eqb (target_at A i) m (λ z. q (et ∙ z)), way_of)
 
-    pub way_none : n ≤ i → way_of m (run_at A n) ≡ none
+    pub way_none : n ≤ i → way_of m (run_at A n) ≡ None
     unfolding way_of
     way_none h = e ∙ rw (rows_none (way_at A) i n h)
 
 -- what one name more after a path is read by
-pub into_reads : (s : Snapshot) (from ns n : ℕ) (p : Path) (x : Item) → means s from types p ≡ some x
+pub into_reads : (s : Snapshot) (from ns n : ℕ) (p : Path) (x : Item) → means s from types p ≡ Some x
     → reads s from ns (into p n) ≡ named n (within s from ns x)
 unfolding means reads after
 into_reads s from ns n p x e = let f = item_in_lem (reads s from types p) x e in rw (f.1, f.2)
 
 module _ (s : Snapshot) (ok : Valid s) (from : ℕ) (item : Item) (w : Way) (there : Meant s from w) where
   -- the entry found for the item is what its name is read by
-  pub found_reads : (e : Scope) → names_of s w.target item (seen s from) ≡ some e
-      → reads s from (ns_of item) (into w.path e.name) ≡ some (as_named s e)
+  pub found_reads : (e : Scope) → names_of s w.target item (seen s from) ≡ Some e
+      → reads s from (ns_of item) (into w.path e.name) ≡ Some (as_named s e)
   unfolding names_of is_for within
   found_reads e h =
       let f = first_found_lem (λ (x : Scope). is_for s w.target item x && seen s from x) s.scopes e h in
@@ -124,7 +124,7 @@ module _ (W A : List ℕ) (l : Layout) (r : Reads W A l) (from n : ℕ) (item : 
       here = each_rows {P = Meant s from} (way_at A) n i meant less
 
       first : Option Scope → Option Path
-      first o = map (λ (x : Scope). into (path_at A i) x.name) o
+      first o = option_map (λ (x : Scope). into (path_at A i) x.name) o
 
       one : whole ≡ or_first (first (names_of s m item (seen s from))) (rest (i + 1))
       unfolding onward first
@@ -134,27 +134,27 @@ module _ (W A : List ℕ) (l : Layout) (r : Reads W A l) (from n : ℕ) (item : 
           ∙ ap (λ (o : Option Path). or_first o (rest (i + 1)))
           (after_first s valid from item (way_at A i) here ∙ ap (λ (t : ℕ). first (names_of s t item (seen s from))) (sym em))))
 
-      pub found_hit : {h k x : ℕ} → some (scope_at W h) ≡ names_of (snap_of W A l) m item (seen (snap_of W A l) from) → k ≡ i + 3
+      pub found_hit : {h k x : ℕ} → Some (scope_at W h) ≡ names_of (snap_of W A l) m item (seen (snap_of W A l) from) → k ≡ i + 3
           → x ≡ (scope_at W h).name → Steps (snap_of W A l) from (ns_of item) A n whole k x h
       unfolding first place_in
       found_hit {h} {k} {x} q ek ex =
-          let found : names_of s (target_at A i) item (seen s from) ≡ some (scope_at W h) =
+          let found : names_of s (target_at A i) item (seen s from) ≡ Some (scope_at W h) =
           ap (λ (t : ℕ). names_of s t item (seen s from)) (sym em) ∙ sym q in
           let there : into (path_at A i) (scope_at W h).name ≡ path_from (path_at A) k x =
           sym (ap₂ (path_from (path_at A)) ek ex ∙ link_into (path_at A) i (scope_at W h).name) in
           record {
             path = one ∙ (or_first_some (first (names_of s m item (seen s from))) (rest (i + 1)) (into (path_at A i) (scope_at W h).name)
                 (ap first (sym q))
-                ∙ ap some there);
+                ∙ ap Some there);
             linked = omega (arith, ek, less);
             place = λ placed. sym (ap (λ (y : Path). place_in (reads s from (ns_of item) y)) (sym there)
                 ∙ ap place_in (found_reads s valid from item (way_at A i) here (scope_at W h) found));
           }
 
-      pub found_miss : none ≡ names_of (snap_of W A l) m item (seen (snap_of W A l) from) → whole ≡ rest (i + 1)
+      pub found_miss : None ≡ names_of (snap_of W A l) m item (seen (snap_of W A l) from) → whole ≡ rest (i + 1)
       unfolding first
       found_miss q = one ∙ or_first_none (first (names_of s m item (seen s from))) (rest (i + 1)) (ap first (sym q))
 
-    pub found_none : n ≤ i → whole ≡ none
+    pub found_none : n ≤ i → whole ≡ None
     unfolding onward first_to first_of
     found_none h = e ∙ ap (λ (ws : List Way). first_to s from item (onward s from (ns_of item) ws)) (rows_none (way_at A) i n h)

@@ -1,6 +1,7 @@
 -- The first path to an item as its last step after the rows.
+use Rattle.arrivals.specs.declared.LastStep.{LastStep}
 use Rattle.std.specs.Prelude.{ℕ, ◌+◌, ◌<◌, ◌≡◌, List, [], ◌∷◌, Bool, true, false, ◌&&◌, eqb, get_or}
-use Rattle.std.proofs.Math.Option.{Option, none, some}
+use Rattle.std.specs.Prelude.{Option, None, Some}
 use Rattle.snapshot.specs.Records.{Snapshot, Scope, Prelude}
 use Rattle.tree_rules.specs.Modules.{map_no}
 use Rattle.hir_def.specs.Finds.{first_of, first_some, or_first}
@@ -13,13 +14,11 @@ use Rattle.nameable.specs.Paths.{Path, plain, place_in, reads, means, scopes_fro
 use Rattle.nameable.specs.Breadth.{Way, is_item}
 use Rattle.nameable.specs.Queue.{run}
 use Rattle.any_path.specs.Rows.{row_at, path_from, path_at, run_at, Run}
-use Rattle.arrivals.specs.declared.OptStep.{OptStep}
-use Rattle.arrivals.specs.declared.OptStep.TheVariants.{Step, NoStep}
 
 -- the path of the first way to the module
 unfoldable pub way_of : ℕ → List Way → Option Path
-way_of m [] = none
-way_of m (w ∷ ws) = elim (eqb w.target m) [ true ↦ some w.path | false ↦ way_of m ws ]
+way_of m [] = None
+way_of m (w ∷ ws) = elim (eqb w.target m) [ true ↦ Some w.path | false ↦ way_of m ws ]
 
 -- each row has the place of the record by which its last name is read
 abbrev pub Placed : Snapshot → ℕ → List ℕ → ℕ → Type 0
@@ -27,14 +26,14 @@ Placed s from A n = (i : ℕ) → i < n → get_or A (row_at i + 3) 0 ≡ place_
 
 -- a step after one of n rows of the area: the path, and, where the rows have their places, the record by which its last name is read
 pub record Steps (s : Snapshot) (from ns : ℕ) (A : List ℕ) (n : ℕ) (o : Option Path) (k x p : ℕ) : Type 0 where
-  pub path : o ≡ some (path_from (path_at A) k x)
+  pub path : o ≡ Some (path_from (path_at A) k x)
   pub linked : k < n + 3
   pub place : Placed s from A n → p ≡ place_in (reads s from ns (path_from (path_at A) k x))
 
 -- what is answered is this path
-unfoldable pub LeadsTo : Snapshot → ℕ → ℕ → List ℕ → ℕ → Option Path → OptStep → Type 0
-LeadsTo s from ns A n o (Step k x p) = Steps s from ns A n o k x p
-LeadsTo s from ns A n o NoStep = o ≡ none
+unfoldable pub LeadsTo : Snapshot → ℕ → ℕ → List ℕ → ℕ → Option Path → Option LastStep → Type 0
+LeadsTo s from ns A n o (Some q) = Steps s from ns A n o q.link q.name q.at
+LeadsTo s from ns A n o None = o ≡ None
 
 -- the n rows of the area are a run
 pub record Ready (b : Bool) (s : Snapshot) (from modules : ℕ) (A : List ℕ) (n : ℕ) : Type 0 where
@@ -51,8 +50,8 @@ unfoldable pub plain_in : Snapshot → ℕ → Item → ℕ → Option Scope
 plain_in s from item m = first_of (is_plain_for s from m item) s.scopes
 
 unfoldable pub plain_in_prelude : Snapshot → ℕ → Item → Option Prelude → Option Scope
-plain_in_prelude s from item none = none
-plain_in_prelude s from item (some p) = plain_in s from item p.target
+plain_in_prelude s from item None = None
+plain_in_prelude s from item (Some p) = plain_in s from item p.target
 
 -- in the viewer's scopes, and in the prelude of its map
 unfoldable pub plain_entry : Snapshot → ℕ → Item → Option Scope

@@ -6,10 +6,10 @@ ghost use Rattle.hir_def.specs.Items.{ns_of, defined_item};
 ghost use Rattle.nameable.specs.Breadth.{arrival};
 ghost use Rattle.arrivals.specs.Steps.{LeadsTo, Ready};
 
-use crate::OptStep;
+use crate::LastStep;
 use crate::plain::plain_entry;
 use crate::rows::{by_rows, row_of};
-use hir_def::{Entry, Item};
+use hir_def::Item;
 use snapshot::ids::{DefinitionId, ModuleId, Namespace};
 use snapshot::layout::Layout;
 use snapshot::record::scope_name;
@@ -22,7 +22,7 @@ fn arrive_by_keyword(
     from: ModuleId,
     n: usize,
     item: Item,
-) -> OptStep
+) -> Option<LastStep>
     requires { Reads words.now area.now l × (from.0 < l.modules) × Ready false (snap_of words.now area.now l) from.0
         l.modules area.now n }
     ensures { LeadsTo (snap_of words.now area.now l) from.0 (ns_of item) area.now n
@@ -43,15 +43,19 @@ fn plainly(
     n: usize,
     ns: Namespace,
     d: DefinitionId,
-) -> OptStep
+) -> Option<LastStep>
     requires { Reads words.now area.now l × (from.0 < l.modules) × Ready true (snap_of words.now area.now l) from.0
         l.modules area.now n }
     ensures { LeadsTo (snap_of words.now area.now l) from.0 ns.0 area.now n
         (arrival true (snap_of words.now area.now l) from.0 (defined_item ns.0 d.0)) result }
 {
-    if let Entry::At(h) = plain_entry(words, area, l, from, ns, d) {
+    if let Some(h) = plain_entry(words, area, l, from, ns, d) {
         let name = scope_name(words, h);
-        return OptStep::Step(2, name.0, h);
+        return Some(LastStep {
+            link: 2,
+            name: name.0,
+            at: h,
+        });
     }
     by_rows(words, area, l, from, n, Item::Def(ns, d))
 }
@@ -64,7 +68,7 @@ fn arrive_plainly(
     from: ModuleId,
     n: usize,
     item: Item,
-) -> OptStep
+) -> Option<LastStep>
     requires { Reads words.now area.now l × (from.0 < l.modules) × Ready true (snap_of words.now area.now l) from.0
         l.modules area.now n }
     ensures { LeadsTo (snap_of words.now area.now l) from.0 (ns_of item) area.now n
@@ -85,7 +89,7 @@ pub fn arrive(
     n: usize,
     item: Item,
     named: bool,
-) -> OptStep
+) -> Option<LastStep>
     requires { Reads words.now area.now l × (from.0 < l.modules) × Ready named (snap_of words.now area.now l) from.0
         l.modules area.now n }
     ensures { LeadsTo (snap_of words.now area.now l) from.0 (ns_of item) area.now n

@@ -5,9 +5,10 @@ pub mod arrivals;
 mod plain;
 mod rows;
 
-/// The last step of a path: its link and its name as in a row, and the place of the record by which the name is read; or no path.
+/// The last step of a path: its link and its name as in a row, and the place of the record by which the name is read.
 #[derive(Clone, Copy)]
-pub enum OptStep {
-    Step(usize, usize, usize),
-    NoStep,
+pub struct LastStep {
+    pub link: usize,
+    pub name: usize,
+    pub at: usize,
 }

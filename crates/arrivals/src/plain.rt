@@ -16,13 +16,14 @@ ghost use Rattle.arrivals.specs.Steps.{is_plain_for, plain_in, plain_in_prelude,
 
 use any_path::plain::{Reading, read_plain};
 use crate_graph::prelude_of;
+use hir_def::Item;
+use hir_def::finds::{first_where, nearest};
 use hir_def::items::{item_of, same_item};
-use hir_def::{Entry, Item};
 use item_scope::is_for;
 use module_tree::modules::map;
 use seen_entries::entries::seen;
 use seen_entries::privacy::block_step;
-use snapshot::ids::{DefinitionId, ModuleId, Name, Namespace, OptModule};
+use snapshot::ids::{DefinitionId, ModuleId, Name, Namespace};
 use snapshot::kind::Size;
 use snapshot::layout::Layout;
 use snapshot::record::{prelude_target, scope_definition, scope_name, scope_ns};
@@ -90,21 +91,13 @@ fn plain_in(
     m: ModuleId,
     ns: Namespace,
     d: DefinitionId,
-) -> Entry
+) -> Option<usize>
     requires { Reads words.now area.now l × (from.0 < l.modules) }
     ensures { entry_of scope_at words.now result ≡ plain_in (snap_of words.now area.now l) from.0
         (defined_item ns.0 d.0) m.0 }
 {
-    let base = l.scope_base();
-    let mut k = 0;
-    while k < l.scopes {
-        let h = base + Size::SCOPE * k;
-        if is_plain_for(words, area, l, from, m, ns, d, h) {
-            return Entry::At(h);
-        }
-        k += 1;
-    }
-    Entry::Nothing
+    let test = |h| is_plain_for(words, area, l, from, m, ns, d, h);
+    first_where(l.scope_base(), Size::SCOPE, l.scopes, test)
 }
 
 // The first in the viewer's scopes.
@@ -115,22 +108,14 @@ fn plain_around(
     from: ModuleId,
     ns: Namespace,
     d: DefinitionId,
-) -> Entry
+) -> Option<usize>
     requires { Reads words.now area.now l × (from.0 < l.modules) }
     ensures { entry_of scope_at words.now result ≡ first_some (plain_in (snap_of words.now area.now l)
         from.0 (defined_item ns.0 d.0)) (scopes_from (snap_of words.now area.now l) from.0) }
 {
-    let mut m = from;
-    loop {
-        let e = plain_in(words, area, l, from, m, ns, d);
-        if let Entry::At(h) = e {
-            return Entry::At(h);
-        }
-        let OptModule::Module(b) = block_step(words, area, l, m) else {
-            return Entry::Nothing;
-        };
-        m = b;
-    }
+    let find = |m| plain_in(words, area, l, from, m, ns, d);
+    let outward = |m| block_step(words, area, l, m);
+    nearest(from, find, outward)
 }
 
 // The first in the prelude of the viewer's map.
@@ -141,15 +126,13 @@ fn plain_in_prelude(
     from: ModuleId,
     ns: Namespace,
     d: DefinitionId,
-) -> Entry
+) -> Option<usize>
     requires { Reads words.now area.now l × (from.0 < l.modules) }
     ensures { entry_of scope_at words.now result ≡ plain_in_prelude (snap_of words.now area.now l)
         from.0 (defined_item ns.0 d.0) (prelude_of (snap_of words.now area.now l)
         (map_no (snap_of words.now area.now l) from.0)) }
 {
-    let Entry::At(p) = prelude_of(words, l, map(words, area, l, from)) else {
-        return Entry::Nothing;
-    };
+    let p = prelude_of(words, l, map(words, area, l, from))?;
     plain_in(words, area, l, from, prelude_target(words, p), ns, d)
 }
 
@@ -161,13 +144,13 @@ pub(crate) fn plain_entry(
     from: ModuleId,
     ns: Namespace,
     d: DefinitionId,
-) -> Entry
+) -> Option<usize>
     requires { Reads words.now area.now l × (from.0 < l.modules) }
     ensures { entry_of scope_at words.now result ≡ plain_entry (snap_of words.now area.now l)
         from.0 (defined_item ns.0 d.0) }
 {
-    if let Entry::At(h) = plain_around(words, area, l, from, ns, d) {
-        return Entry::At(h);
+    if let Some(h) = plain_around(words, area, l, from, ns, d) {
+        return Some(h);
     }
     plain_in_prelude(words, area, l, from, ns, d)
 }

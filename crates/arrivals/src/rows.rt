@@ -10,9 +10,9 @@ ghost use Rattle.nameable.specs.Breadth.{onward, first_to};
 ghost use Rattle.any_path.specs.Rows.{run_at, Run, Meant};
 ghost use Rattle.arrivals.specs.Steps.{way_of, LeadsTo};
 
-use crate::OptStep;
+use crate::LastStep;
 use any_path::rows::Row;
-use hir_def::{Entry, Item};
+use hir_def::Item;
 use seen_entries::lookups::entry_for;
 use snapshot::ids::ModuleId;
 use snapshot::layout::Layout;
@@ -20,20 +20,22 @@ use snapshot::record::scope_name;
 use snapshot::words::word;
 
 // The path of the module's row, of n rows.
-pub(crate) fn row_of(area: &[u32], n: usize, m: ModuleId) -> OptStep
+pub(crate) fn row_of(area: &[u32], n: usize, m: ModuleId) -> Option<LastStep>
     requires { n ≤ module_limit }
     ensures { (s : Snapshot) (from modules : ℕ) → Run modules area.now n
         → LeadsTo s from types area.now n (way_of m.0 (run_at area.now n)) result }
 {
-    let mut i = 0;
-    while i < n {
+    for i in 0..n {
         let at = Row::BASE + Row::SIZE * i;
         if word(area, at) == m.0 {
-            return OptStep::Step(word(area, at + 1), word(area, at + 2), word(area, at + 3));
+            return Some(LastStep {
+                link: word(area, at + 1),
+                name: word(area, at + 2),
+                at: word(area, at + 3),
+            });
         }
-        i += 1;
     }
-    OptStep::NoStep
+    None
 }
 
 // One name more after the first of n rows whose module has a seen entry for the item.
@@ -44,21 +46,23 @@ pub(crate) fn by_rows(
     from: ModuleId,
     n: usize,
     item: Item,
-) -> OptStep
+) -> Option<LastStep>
     requires { Reads words.now area.now l × (from.0 < l.modules) × (n ≤ module_limit)
         × Each (Meant (snap_of words.now area.now l) from.0) (run_at area.now n) }
     ensures { LeadsTo (snap_of words.now area.now l) from.0 (ns_of item) area.now n
         (first_to (snap_of words.now area.now l) from.0 item
         (onward (snap_of words.now area.now l) from.0 (ns_of item) (run_at area.now n))) result }
 {
-    let mut i = 0;
-    while i < n {
+    for i in 0..n {
         let m = ModuleId(word(area, Row::BASE + Row::SIZE * i));
-        if let Entry::At(h) = entry_for(words, area, l, from, m, item) {
+        if let Some(h) = entry_for(words, area, l, from, m, item) {
             let name = scope_name(words, h);
-            return OptStep::Step(i + 3, name.0, h);
+            return Some(LastStep {
+                link: i + 3,
+                name: name.0,
+                at: h,
+            });
         }
-        i += 1;
     }
-    OptStep::NoStep
+    None
 }

@@ -11,9 +11,8 @@ use Rattle.snapshot.specs.Limits.{area_limit}
 use Rattle.snapshot.specs.Refusals.{batch_refusal}
 use Rattle.snapshot.specs.Layouts.{word_count, table_words}
 use Rattle.snapshot.specs.declared.layout.Layout.{Layout}
-use Rattle.accept.specs.Post.{Tables, Reads, Judged}
-use Rattle.accept.specs.declared.check.Checked.{Checked}
-use Rattle.accept.specs.declared.check.Checked.TheVariants.{Accepted}
+use Rattle.accept.specs.Post.{Checked, Tables, Reads, Judged}
+use Rattle.std.specs.Prelude.{Ok}
 use Rattle.checked.specs.Questioned.{Questioned}
 use Rattle.checked.proofs.Laws.{reads_of, judged_stays, same_report}
 use Rattle.find_path.specs.declared.Question.{Question}
@@ -75,7 +74,7 @@ module _ (W A C : List ℕ) (k : StillChecked W A C) where
       subst (λ x. Reads W A (layout_of (length W) x)) (sym k.counts)
       (subst (λ n. Reads W A (layout_with n (counted l))) (names_words W A l k.reads.tables) r)
 
-  judged_back : Judged W A (Accepted (layout_of (length W) C))
+  judged_back : Judged W A (Ok (layout_of (length W) C))
   judged_back = record { same = sym reads_back_lem.same; tables = reads_back_lem.tables }
 
   -- another area with the same tables serves as well
@@ -83,30 +82,30 @@ module _ (W A C : List ℕ) (k : StillChecked W A C) where
   tables_moved B e h =
       record {
         layout = layout_of (length W) C;
-        reads = reads_of W B (Accepted (layout_of (length W) C)) (judged_stays W A B (layout_of (length W) C) judged_back e)
+        reads = reads_of W B (Ok (layout_of (length W) C)) (judged_stays W A B (layout_of (length W) C) judged_back e)
             (layout_of (length W) C) refl;
         counts = counts_back;
         room = h;
       }
 
   -- the call in the first part of the area
-  module _ (l : Layout) (c : Checked) (e : l ≡ layout_of (length W) C) (f : c ≡ Accepted l) where
+  module _ (l : Layout) (c : Checked) (e : l ≡ layout_of (length W) C) (f : c ≡ Ok l) where
     pub judged_part : Judged W (take area_limit A) c × (length (take area_limit A) ≡ area_limit)
     judged_part =
         let j = judged_stays W A (take area_limit A) (layout_of (length W) C) judged_back (take-take table_words area_limit A (omega arith)) in
-        (subst (λ x. Judged W (take area_limit A) x) (sym (f ∙ ap Accepted e)) j, length-take-le area_limit A k.room)
+        (subst (λ x. Judged W (take area_limit A) x) (sym (f ∙ ap Ok e)) j, length-take-le area_limit A k.room)
 
     module _ (B : List ℕ) (n : length B ≡ area_limit) (j : Judged W B c) where
       pub part_stays : Stays W A C (B ++ drop area_limit A)
       part_stays =
-          let J : Judged W B (Accepted (layout_of (length W) C)) = subst (λ x. Judged W B x) (f ∙ ap Accepted e) j in
+          let J : Judged W B (Ok (layout_of (length W) C)) = subst (λ x. Judged W B x) (f ∙ ap Ok e) j in
           let D = drop area_limit A in
           let u : take table_words (B ++ D) ≡ take table_words B = take-append-le table_words B D (omega (arith, n)) in
           record {
             checked =
                 record {
                   layout = layout_of (length W) C;
-                  reads = reads_of W (B ++ D) (Accepted (layout_of (length W) C)) (judged_stays W B (B ++ D) (layout_of (length W) C) J u)
+                  reads = reads_of W (B ++ D) (Ok (layout_of (length W) C)) (judged_stays W B (B ++ D) (layout_of (length W) C) J u)
                       (layout_of (length W) C) refl;
                   counts = counts_back;
                   room = omega (arith, n, length-append B D);
@@ -114,7 +113,7 @@ module _ (W A C : List ℕ) (k : StillChecked W A C) where
             rest = drop_at B D area_limit n;
           }
 
-  pub asked_by_lem : (l : Layout) (c : Checked) (e : l ≡ layout_of (length W) C) (f : c ≡ Accepted l) (B : List ℕ) → length B ≡ length (take area_limit A)
+  pub asked_by_lem : (l : Layout) (c : Checked) (e : l ≡ layout_of (length W) C) (f : c ≡ Ok l) (B : List ℕ) → length B ≡ length (take area_limit A)
       → (q : Question) (r : Report) → Questioned W q c B r → Asked W A C q (B ++ drop area_limit A) r
   asked_by_lem l c e f B n q r k' =
       record {
@@ -132,7 +131,7 @@ module _ (W A C : List ℕ) (k : StillChecked W A C) where
           stays = record { checked = k; rest = refl };
         }
 
-    pub asked_each : b ≡ true → (l : Layout) (c : Checked) (e : l ≡ layout_of (length W) C) (f : c ≡ Accepted l) (B : List ℕ)
+    pub asked_each : b ≡ true → (l : Layout) (c : Checked) (e : l ≡ layout_of (length W) C) (f : c ≡ Ok l) (B : List ℕ)
         → length B ≡ length (take area_limit A) → Judged W B c → (S : List ℕ) → S ≡ reports_to W Q R → AskedEach W A C Q R (B ++ drop area_limit A) S 0
     unfolding batch_fault reports_after
     asked_each h l c e f B n j S p =

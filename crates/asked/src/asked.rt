@@ -3,7 +3,6 @@ ghost use Rattle.asked.specs.Asked.{Asked};
 ghost use Rattle.asked.specs.StillChecked.{StillChecked};
 
 use crate::layout::layout_of;
-use accept::check::Checked;
 use checked::checked::report_on;
 use find_path::{Question, Report};
 use snapshot::ids::WordCount;
@@ -20,6 +19,5 @@ pub fn find_path_checked(
     ensures { Asked words.now area.old counts.now question area.new result }
 {
     let l = layout_of(words.len(), counts);
-    let c = Checked::Accepted(l);
-    report_on(words, &mut area[..WordCount::AREA], c, question)
+    report_on(words, &mut area[..WordCount::AREA], Ok(l), question)
 }

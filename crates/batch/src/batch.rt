@@ -1,4 +1,5 @@
 //! A file's worth of questions.
+ghost use Rattle.snapshot.specs.Refusals.{fault_number};
 ghost use Rattle.batch.specs.Batch.{Batch};
 
 use crate::each::answer_each;
@@ -8,20 +9,25 @@ use snapshot::ids::WordCount;
 use snapshot::refusal::Refusal;
 
 /// Answers up to 64 questions on the words of a snapshot, which are checked once, and writes their reports one after the other:
-/// those that the questions get one at a time. Answers 0, or the number by which the whole call is refused: 20 a small work area,
-/// 44 too many questions, a part of one, or too few words for the reports; the reports then stay unwritten. After every number
-/// but 20 the first 16,384 words of the work area are zero.
-pub fn find_paths(words: &[u32], area: &mut [u32], questions: &[u32], reports: &mut [u32]) -> usize
+/// those that the questions get one at a time. Or answers why the whole call is refused: 20 a small work area,
+/// 44 too many questions, a part of one, or too few words for the reports; the reports then stay unwritten. After every call
+/// but one refused by 20 the first 16,384 words of the work area are zero.
+pub fn find_paths(
+    words: &[u32],
+    area: &mut [u32],
+    questions: &[u32],
+    reports: &mut [u32],
+) -> Result<(), Refusal>
     ensures { Batch words.now area.old questions.now reports.old area.new
-        reports.new result }
+        reports.new (fault_number result) }
 {
     if area.len() < WordCount::AREA {
-        return Refusal::AREA;
+        return Err(Refusal::Area);
     }
     if !fits(questions.len(), reports.len()) {
         clear(&mut area[..WordCount::AREA]);
-        return Refusal::BATCH;
+        return Err(Refusal::Batch);
     }
     answer_each(words, &mut area[..WordCount::AREA], questions, reports);
-    0
+    Ok(())
 }

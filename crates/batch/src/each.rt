@@ -7,18 +7,19 @@ ghost use Rattle.accept.specs.Post.{Judged};
 ghost use Rattle.answer.specs.Answers.{zeros};
 ghost use Rattle.batch.specs.Batch.{reports_to};
 
-use accept::check::{Checked, check};
+use accept::check::{Refused, check};
 use answer::area::clear;
 use checked::checked::report_on;
 use questions::question::question_of;
 use reports::report::{ReportWords, write_report};
 use snapshot::kind::Size;
+use snapshot::layout::Layout;
 
 /// Writes the report of each question on checked words, which stay so.
 pub fn report_each(
     words: &[u32],
     area: &mut [u32],
-    c: Checked,
+    c: Result<Layout, Refused>,
     questions: &[u32],
     reports: &mut [u32],
 )
@@ -28,13 +29,11 @@ pub fn report_each(
     ensures judged { Judged words.now area.new c }
 {
     let n = questions.len() / Size::QUESTION;
-    let mut i = 0;
-    while i < n {
+    for i in 0..n {
         let from = Size::QUESTION * i;
         let r = report_on(words, area, c, question_of(&questions[from..]));
         let to = ReportWords::COUNT * i;
         write_report(r, &mut reports[to..]);
-        i += 1;
     }
 }
 

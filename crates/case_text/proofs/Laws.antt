@@ -1,7 +1,11 @@
 -- Laws of the words of a text.
 use Rattle.std.proofs.Common.{◌≡◌, ℕ, zero, suc, ◌+◌, ◌-◌, ◌*◌, ◌%◌, ◌<◌, ◌≤◌, List, ◌∷◌, length, get_or, drop, set, sym, refl, ap, ◌∙◌, ap₂, add-one, arith, drop_of_length-le, drop-cons, le-ltb, lt-ltb, ne_eqb, le-leb}
+use Rattle.std.proofs.Common.{length-drop, take}
+use Rattle.std.proofs.lemmas.List.{take_all}
+use Rattle.std.proofs.lemmas.List.{get_or-drop}
 use borrow.Author.Tests.{lt-leb}
-use Rattle.case_text.specs.Words.{digit_of, next_word, Read, read_to, put_word, stored, raised_by, copied, repeated, read_from}
+use Rattle.std.specs.Prelude.{Option, None, Some, unwrap_or}
+use Rattle.case_text.specs.Words.{digit_of, next_word, under_way, Read, read_to, put_word, stored, raised_by, copied, repeated, read_from}
 
 -- a digit
 
@@ -52,6 +56,17 @@ module _ (w d : ℕ) where
   unfolding next_word
   next_none h = sym (rw (next_word, le-ltb d 16 h))
 
+-- the digits of a word that is under way
+under_way_low : (v : ℕ) → (4294967296 + v) % 268435456 ≡ v % 268435456
+under_way_low v = omega arith
+
+pub with_digit : (o : Option ℕ) (v d : ℕ) → v ≡ unwrap_or o 0 → d < 16 → 4294967296 + (v % 268435456 * 16 + d) ≡ next_word (under_way o) d
+with_digit None v d e h = let q : 4294967296 + (v % 268435456 * 16 + d) ≡ 4294967296 + 0 % 268435456 * 16 + d = rw e (omega arith) in q ∙ next_digit 0 d h
+with_digit (Some w) v d e h =
+    let q : 4294967296 + (v % 268435456 * 16 + d) ≡ 4294967296 + (4294967296 + w) % 268435456 * 16 + d =
+    rw (e, under_way_low w) (omega arith) in
+    q ∙ next_digit (4294967296 + w) d h
+
 -- a copy of a word
 
 module _ (w heads arguments : ℕ) where
@@ -88,6 +103,17 @@ module _ (W : List ℕ) (n : ℕ) where
   pub stored_word : (w d : ℕ) → 16 ≤ d → 4294967296 ≤ w → put_word at (w % 4294967296) ≡ stored at w d
   unfolding stored
   stored_word w d h g = sym (rw (stored, le-ltb d 16 h, le-ltb w 4294967296 g))
+
+  pub stored_nothing : at ≡ stored at 0 16
+  stored_nothing = stored_none 0 16 (omega arith) (omega arith)
+
+  pub stored_room : (w : ℕ) → w < 4294967296 → n < length W → read_to (set W n w) (n + 1) ≡ stored at (4294967296 + w) 16
+  stored_room w b h =
+      let e : (4294967296 + w) % 4294967296 ≡ w = omega arith in
+      put_room h w ∙ ap (put_word at) (sym e) ∙ stored_word (4294967296 + w) 16 (omega arith) (omega arith)
+
+  pub stored_full : (w : ℕ) → length W ≤ n → at ≡ stored at (4294967296 + w) 16
+  stored_full w h = put_full h _ ∙ stored_word (4294967296 + w) 16 (omega arith) (omega arith)
 
   -- copies
 
@@ -147,6 +173,66 @@ read_next text i w d r s t v h e f g q =
     let c : drop i text ≡ get_or text i 0 ∷ drop (i + 1) text = rw (add-one i) (drop-cons text i 0 h) in
     read_byte (get_or text i 0) (drop (i + 1) text) w d r s t v e f g q ∙ ap (λ x. read_from x w r) (sym c)
 
+-- what a byte of each kind makes of it
+module _ (text W : List ℕ) (i n : ℕ) (h : i < length text) where
+  abbrev next : Read → ℕ → Read
+  next r w = read_from (drop (i + 1) text) w r
+
+  pub read_digit : (w v d : ℕ) → d ≡ digit_of (get_or text i 0) → d < 16 → v ≡ next_word w d → next (read_to W n) v ≡ read_from (drop i text) w (read_to W n)
+  read_digit w v d e l g =
+      read_next text i w d (read_to W n) (read_to W n) (read_to W n) v h e (stored_digit W n w d l) (repeated_other W n d (omega (arith, l))) g
+
+  pub read_gap : (w : ℕ) (W' : List ℕ) (n' : ℕ) → 16 ≡ digit_of (get_or text i 0) → read_to W' n' ≡ stored (read_to W n) w 16
+      → next (read_to W' n') 0 ≡ read_from (drop i text) w (read_to W n)
+  read_gap w W' n' e s = read_next text i w 16 _ _ _ 0 h e s (repeated_other W' n' 16 (omega arith)) (next_none w 16 (omega arith))
+
+  pub read_star : (w : ℕ) (s t : Read) → 17 ≡ digit_of (get_or text i 0) → s ≡ stored (read_to W n) w 16 → t ≡ repeated s 17
+      → next t 0 ≡ read_from (drop i text) w (read_to W n)
+  unfolding stored
+  read_star w s t e p q = read_next text i w 17 _ s t 0 h e p q (next_none w 17 (omega arith))
+
 pub read_done : (text : List ℕ) (i w : ℕ) (r : Read) → length text ≤ i → read_from (drop i text) w r ≡ r
 unfolding read_from
 read_done text i w r h = rw (drop_of_length-le text h)
+
+-- the first place of a byte from a place on
+
+module _ (xs : List ℕ) (from stop : ℕ) (h : from ≤ length xs) where
+  -- `&xs[from..]`
+  abbrev rest : List ℕ
+  rest = take (length xs - from) (drop from xs)
+
+  rest_drop : rest ≡ drop from xs
+  rest_drop = let d = length-drop from xs in take_all _ (drop from xs) (omega (arith, d))
+
+  rest_length : length rest ≡ length xs - from
+  rest_length = ap length rest_drop ∙ length-drop from xs
+
+  rest_at : (k : ℕ) → get_or rest k 0 ≡ get_or xs (from + k) 0
+  rest_at k = ap (λ l. get_or l k 0) rest_drop ∙ get_or-drop from xs k 0
+
+  -- the byte at a place, which is the one that far into the rest
+  stop_at : (i : ℕ) → from ≤ i → get_or rest (i - from) 0 ≡ get_or xs i 0
+  stop_at i g = let e : from + (i - from) ≡ i = omega arith in rest_at (i - from) ∙ ap (λ j. get_or xs j 0) e
+
+  pub stop_found : (n : ℕ) → n < length rest → get_or rest n 0 ≡ stop → ((k : ℕ) → k < n → get_or rest k 0 ≡ stop → ⊥)
+      → (from ≤ from + n) × (from + n ≤ length xs) × ((i : ℕ) → from ≤ i → i < from + n → get_or xs i 0 ≡ stop → ⊥)
+      × (from + n < length xs → get_or xs (from + n) 0 ≡ stop)
+  stop_found n l e p =
+      let d = rest_length in (
+        omega arith,
+        omega (arith, d, l),
+        λ i g b q. p (i - from) (omega arith) (stop_at i g ∙ q),
+        λ b. sym (rest_at n) ∙ e,
+      )
+
+  pub stop_none : ((k : ℕ) → k < length rest → get_or rest k 0 ≡ stop → ⊥)
+      → (from ≤ length xs) × (length xs ≤ length xs) × ((i : ℕ) → from ≤ i → i < length xs → get_or xs i 0 ≡ stop → ⊥)
+      × (length xs < length xs → get_or xs (length xs) 0 ≡ stop)
+  stop_none p =
+      let d = rest_length in (
+        h,
+        omega arith,
+        λ i g b q. p (i - from) (omega (arith, d, b, g)) (stop_at i g ∙ q),
+        λ b. absurd (omega arith),
+      )

@@ -1,5 +1,7 @@
 -- The words that a text in hexadecimal stands for.
-use Rattle.std.specs.Prelude.{ℕ, zero, suc, ◌+◌, ◌-◌, ◌*◌, ◌%◌, true, false, ◌&&◌, ◌||◌, List, [], ◌∷◌, length, ◌==◌, nat_le, nat_lt, slice_index, slice_set}
+use Rattle.std.specs.Prelude.{ℕ, zero, suc, ◌+◌, ◌-◌, ◌*◌, ◌%◌, ◌<◌, true, false, ◌&&◌, ◌||◌, List, [], ◌∷◌, length, ◌==◌, nat_le, nat_lt, slice_index, slice_set, Option, None, Some}
+use Rattle.case_text.specs.declared.words.Mark.{Mark}
+use Rattle.case_text.specs.declared.words.Mark.TheVariants.{Digit, Star, Gap}
 
 -- the value of a digit, 16 for another byte, 17 for a star
 unfoldable pub digit_of : ℕ → ℕ
@@ -9,9 +11,26 @@ digit_of b =
       | false ↦ elim (nat_le 97 b && nat_le b 102) [ true ↦ b - 87 | false ↦ elim (b == 42) [ true ↦ 17 | false ↦ 16 ] ]
     ]
 
+-- the same of what a byte says
+abbrev pub code_of : Mark → ℕ
+code_of (Digit d) = d
+code_of Star = 17
+code_of Gap = 16
+
+-- a digit is one of sixteen
+abbrev pub IsDigit : Mark → Type 0
+IsDigit (Digit d) = d < 16
+IsDigit Star = Unit {0}
+IsDigit Gap = Unit {0}
+
 -- a word with one digit more; from the first digit on it has bit 32
 unfoldable pub next_word : ℕ → ℕ → ℕ
 next_word w d = elim (nat_lt d 16) [ true ↦ 4294967296 + w % 268435456 * 16 + d | false ↦ 0 ]
+
+-- the word that is under way, with bit 32; 0 before its first digit
+abbrev pub under_way : Option ℕ → ℕ
+under_way None = 0
+under_way (Some w) = 4294967296 + w
 
 -- a slice of words, and how many were read
 pub record Read : Type 0 where

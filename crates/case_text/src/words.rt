@@ -1,116 +1,171 @@
 //! Words that are written in hexadecimal, with a space or a line end after each.
 //! After four words k, n, h and a, a star drops them and writes n words more: copies of the k words before, in each copy
 //! with h added to the heads and a to the arguments.
-ghost use Rattle.std.specs.Prelude.{◌≡◌};
-ghost use Rattle.case_text.specs.Words.{digit_of, next_word, read_to, stored, raised_by, copied, repeated, words_read};
+ghost use Rattle.std.specs.Prelude.{◌≡◌, ◌<◌, replicate, take, IfOk};
+ghost use Rattle.case_text.specs.Words.{digit_of, code_of, IsDigit, next_word, under_way, read_to, stored, raised_by, copied, repeated, words_read};
 
-use std::num::wrapping_add_u32;
+use std::alloc::{AllocError, Global};
 
-// The value of a hexadecimal digit, 16 for another byte, 17 for a star.
+// What a byte says.
+#[derive(Clone, Copy)]
+enum Mark {
+    Digit(u32),
+    Star,
+    Gap,
+}
+
 #[tactic(auto, unfolding(crate::specs::Words::digit_of))]
-fn digit(b: u8) -> u64
-    ensures { result ≡ digit_of b }
+fn mark_of(b: u8) -> Mark
+    ensures code { code_of result ≡ digit_of b }
+    ensures digit { IsDigit result }
 {
     match b {
-        48..=57 => (b - 48) as u64,
-        97..=102 => (b - 87) as u64,
-        42 => 17,
-        _ => 16,
+        b'0'..=b'9' => Mark::Digit(u32::from(b - b'0')),
+        b'a'..=b'f' => Mark::Digit(u32::from(b - b'a' + 10)),
+        b'*' => Mark::Star,
+        _ => Mark::Gap,
     }
 }
 
-// A word with one digit more; from the first digit on it has bit 32.
-fn next_word(w: u64, d: u64) -> u64
-    ensures { result ≡ next_word w d }
+// The word with one digit more: its last eight digits.
+fn with_digit(word: Option<u32>, d: u32) -> u32
+    requires { d < 16 }
+    ensures { under_way (Some result) ≡ next_word (under_way word) d }
 {
-    if d < 16 {
-        return 4294967296 + w % 268435456 * 16 + d;
-    }
-    0
+    word.unwrap_or(0) % 0x1000_0000 * 16 + d
 }
 
-// Stores a word that is whole.
-fn store(words: &mut [u32], n: usize, w: u64, d: u64) -> usize
-    ensures { read_to words.new result ≡ stored (read_to words.old n) w d }
+// Puts a word where there is room for it, and answers the place after it.
+fn put(words: &mut [u32], n: usize, w: u32) -> usize
+    ensures { read_to words.new result ≡ stored (read_to words.old n) (under_way (Some w)) 16 }
 {
-    if d < 16 {
-        return n;
-    }
-    if w < 4294967296 {
-        return n;
-    }
     if n < words.len() {
-        words[n] = (w % 4294967296) as u32;
+        words[n] = w;
         return n + 1;
     }
     n
 }
 
-#[tactic(auto, unfolding(crate::specs::Words::raised_by))]
-fn raised(w: u32, heads: u32, arguments: u32) -> u32
-    ensures { result ≡ raised_by w heads arguments }
+// Stores a word that is whole.
+#[tactic(auto, using(crate::proofs::Laws::stored_nothing))]
+fn store(words: &mut [u32], n: usize, word: Option<u32>) -> usize
+    ensures { read_to words.new result ≡ stored (read_to words.old n) (under_way word) 16 }
 {
-    if w < 268435456 {
-        return wrapping_add_u32(w, arguments);
+    match word {
+        Some(w) => put(words, n, w),
+        None => n,
     }
-    wrapping_add_u32(w, heads)
 }
 
-// Writes n copies from a place on, each of the word k places before.
-fn copy_on(words: &mut [u32], from: usize, k: u32, n: u32, heads: u32, arguments: u32) -> usize
-    ensures { read_to words.new result ≡ copied n k heads arguments (read_to words.old from) }
-{
-    let back = k as usize;
-    let mut i = from;
-    let mut left = n;
-    while 0 < left {
-        if i < back {
-            return i;
+// What a star repeats: so many words, each made of the one some places before.
+#[derive(Clone, Copy)]
+struct Repeat {
+    back: u32,
+    count: u32,
+    heads: u32,
+    arguments: u32,
+}
+
+impl Repeat {
+    #[tactic(auto, unfolding(crate::specs::Words::raised_by))]
+    fn raised(&self, w: u32) -> u32
+        ensures { result ≡ raised_by w self.now.heads self.now.arguments }
+    {
+        if w < 0x1000_0000 {
+            w.wrapping_add(self.arguments)
+        } else {
+            w.wrapping_add(self.heads)
         }
-        if words.len() <= i {
-            return i;
-        }
-        let w = words[i - back];
-        words[i] = raised(w, heads, arguments);
-        i += 1;
-        left -= 1;
     }
-    i
+
+    // Writes the words from a place on, as far as there is room.
+    fn copy_on(&self, words: &mut [u32], from: usize) -> usize
+        ensures { read_to words.new result ≡ copied self.now.count self.now.back self.now.heads self.now.arguments (read_to words.old from) }
+    {
+        let back = self.back as usize;
+        let mut i = from;
+        for _ in 0..self.count {
+            if i < back {
+                return i;
+            }
+            if words.len() <= i {
+                return i;
+            }
+            words[i] = self.raised(words[i - back]);
+            i += 1;
+        }
+        i
+    }
 }
 
 // What a star asks for.
-fn repeat(words: &mut [u32], n: usize, d: u64) -> usize
-    ensures { read_to words.new result ≡ repeated (read_to words.old n) d }
+fn repeat_last(words: &mut [u32], n: usize) -> usize
+    ensures { read_to words.new result ≡ repeated (read_to words.old n) 17 }
 {
-    if d < 17 {
-        return n;
-    }
     if n < 4 {
         return n;
     }
     if words.len() < n {
         return n;
     }
-    let k = words[n - 4];
-    let more = words[n - 3];
-    let heads = words[n - 2];
-    let arguments = words[n - 1];
-    copy_on(words, n - 4, k, more, heads, arguments)
+    let repeat = Repeat {
+        back: words[n - 4],
+        count: words[n - 3],
+        heads: words[n - 2],
+        arguments: words[n - 1],
+    };
+    repeat.copy_on(words, n - 4)
 }
 
 /// Reads the words of a text as far as the slice has room, and answers how many.
+// Byte by byte: a star may follow a digit and any other byte parts words, so pieces of the text would be no plainer.
 pub fn read_words(text: &[u8], words: &mut [u32]) -> usize
     ensures { read_to words.new result ≡ words_read text.now words.old }
 {
     let mut n = 0;
-    let mut w = 0;
-    let mut i = 0;
-    while i < text.len() {
-        let d = digit(text[i]);
-        n = store(words, n, w, d);
-        n = repeat(words, n, d);
-        w = next_word(w, d);
-        i += 1;
+    let mut word = None;
+    for b in text {
+        match mark_of(*b) {
+            Mark::Digit(d) => word = Some(with_digit(word, d)),
+            Mark::Gap => n = store(words, n, word.take()),
+            Mark::Star => {
+                n = store(words, n, word.take());
+                n = repeat_last(words, n);
+            }
+        }
     }
     n
+}
+
+/// The words of a text, so many at most.
+pub fn words_of(alloc: Global, text: &[u8], room: usize) -> Result<Vec<u32>, AllocError>
+    ensures { IfOk result (λ v. let read = words_read text.now (replicate room 0) in v.items ≡ take read.count read.words) }
+{
+    let mut words = vec![in alloc; 0; room]?;
+    let count = read_words(text, &mut words);
+    words.truncate(count);
+    Ok(words)
+}
+
+#[cfg(test)]
+mod tests {
+    use super::*;
+    use std::test::Fail;
+
+    #[test]
+    fn words_with_a_star(rt: HostRuntime) -> Result<(), Fail> {
+        let words = words_of(rt.alloc(), b"5 10000000 2 3 1 4 *\n", 7)?;
+        assert_eq!(rt;
+            words.as_slice(),
+            [5, 0x10000000, 9, 0x10000001, 13].as_slice()
+        );
+        Ok(())
+    }
+
+    #[test]
+    fn no_more_words_than_room(rt: HostRuntime) -> Result<(), Fail> {
+        let words = words_of(rt.alloc(), b"1f 2 3 ", 2)?;
+        assert_eq!(rt; words.as_slice(), [0x1f, 2].as_slice());
+        Ok(())
+    }
 }

@@ -6,8 +6,7 @@ use snapshot::table::Tables;
 
 /// The first word of the heads, a word a key, of the marks, a word a module, and of the links, a word a number. What lies before the end of
 /// the marks is cleared at first; the word there is marked for definitions of no module.
-#[derive(Clone, Copy)]
-pub struct Chains(pub usize);
+pub struct Chains;
 
 impl Chains {
     /// How many keys there are.
@@ -39,10 +38,9 @@ pub fn clear(area: &mut [u32], from: usize, to: usize)
     requires { to ≤ length area.old }
     ensures { Cleared area.old area.new from to }
 {
-    let mut i = from;
-    while i < to {
+    // Not `fill`: the slice would need from ≤ to, which no caller owes.
+    for i in from..to {
         area[i] = 0;
-        i += 1;
     }
 }
 

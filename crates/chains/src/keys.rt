@@ -15,10 +15,8 @@ fn mix(words: &[u32], head: usize, bytes: usize, n: usize) -> usize
     ensures { result ≡ mixed bytes (rows (λ i. get_or words.now (head + 1 + i) 0) 0 n) }
 {
     let mut a = bytes;
-    let mut i = 0;
-    while i < n {
+    for i in 0..n {
         a = (a + field(words, head, 1 + i)) * 1640531527 % 4294967296;
-        i += 1;
     }
     a
 }

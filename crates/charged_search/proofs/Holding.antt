@@ -1,4 +1,5 @@
 -- What the search passes on stays in range.
+use Rattle.std.specs.Prelude.{Result, Ok}
 use mathlib.Core.Path.{◌≡◌, refl, sym, ◌∙◌, ap}
 use Prim.Native.Nat.{ℕ, zero, suc, ◌+◌, ◌≤◌, ◌<◌, ◌^◌}
 use native.Mathlib.Omega.{arith}
@@ -18,8 +19,6 @@ use Rattle.hir_def.specs.declared.Item.{Item}
 use Rattle.hir_def.specs.declared.Item.TheVariants.{Mod, Def}
 use Rattle.path_choices.specs.declared.Choice.{Choice}
 use Rattle.find_path.specs.declared.Tank.{Tank}
-use Rattle.find_path.specs.declared.Drawn.{Drawn}
-use Rattle.find_path.specs.declared.Drawn.TheVariants.{Go}
 use Rattle.find_path.specs.declared.Found.{Found}
 use Rattle.find_path.specs.declared.FindPathCtx.{FindPathCtx}
 use Rattle.path_choices.specs.Choices.{nothing, extended, push, unstably, better, try_select, length_left}
@@ -113,7 +112,7 @@ draw_sum left sought t (suc f) u e =
     let p = ap (λ (y : Tank). y.fuel + y.spent) k in
     omega (arith, p)
 
-pub charge_sum : (left sought : ℕ) (t : Tank) {d : Drawn} {u : Tank} → charged_by d ≡ from_tank left sought t → d ≡ Go u → t.fuel + t.spent < 2 ^ 32
+pub charge_sum : (left sought : ℕ) (t : Tank) {d : Result Tank Tank} {u : Tank} → charged_by d ≡ from_tank left sought t → d ≡ Ok u → t.fuel + t.spent < 2 ^ 32
     → u.fuel + u.spent < 2 ^ 32
 unfolding charged_by from_tank
 charge_sum left sought t {d} {u} e h k =

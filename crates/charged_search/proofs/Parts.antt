@@ -4,7 +4,7 @@ use Prim.Native.Nat.{ℕ, zero, suc, ◌≤◌}
 use native.Mathlib.Omega.{arith}
 use mathlib.Core.List.{List, [], ◌∷◌, ◌++◌}
 use mathlib.Core.Bool.{Bool, true, false, not, false≢true}
-use mathlib.Core.Option.{Option, none, some}
+use Rattle.std.specs.Prelude.{Option, None, Some, Result, Ok, Err}
 use lib.Dec.{eqb}
 use Rattle.snapshot.specs.Records.{Snapshot, Dependency, Import}
 use Rattle.hir_def.specs.Finds.{select}
@@ -15,8 +15,6 @@ use Rattle.hir_def.specs.declared.Item.{Item}
 use Rattle.hir_def.proofs.Lookups.{select_select}
 use Rattle.path_choices.specs.declared.Choice.{Choice}
 use Rattle.find_path.specs.declared.Tank.{Tank}
-use Rattle.find_path.specs.declared.Drawn.{Drawn}
-use Rattle.find_path.specs.declared.Drawn.TheVariants.{Go, Stop}
 use Rattle.find_path.specs.declared.Found.{Found}
 use Rattle.find_path.specs.declared.FindPathCtx.{FindPathCtx}
 use Rattle.path_choices.specs.Choices.{nothing, length_left}
@@ -94,18 +92,18 @@ module _ (s : Snapshot) (x : FindPathCtx) where
     abbrev pub after : Charged Tank → Out Tank
     after = after_charge Tank from_tank s x (best_local s x) (modules s x) left item
 
-    by_charge : (t : Tank) (d : Drawn) (c : Charged Tank) → charged_by d ≡ from_tank left (sought_of x item) t
+    by_charge : (t : Tank) (d : Result Tank Tank) (c : Charged Tank) → charged_by d ≡ from_tank left (sought_of x item) t
         → charged_by d ≡ c → after c ≡ best_path s x left item t
     unfolding calculate_best_path
     by_charge t d c e h = ap after (sym h ∙ e)
 
-    pub best_empty : (t : Tank) {c : Choice} {d : Drawn} {u : Tank} → charged_by d ≡ from_tank left (sought_of x item) t → d ≡ Stop u → c ≡ nothing
+    pub best_empty : (t : Tank) {c : Choice} {d : Result Tank Tank} {u : Tank} → charged_by d ≡ from_tank left (sought_of x item) t → d ≡ Err u → c ≡ nothing
         → found c u ≡ found_of (best_path s x left item t)
     unfolding after_charge charged_by
     best_empty t {d = d} {u} e h k =
         ap (λ (c : Choice). found c u) k ∙ ap found_of (by_charge t d (stop u) e (ap charged_by h))
 
-    pub best_charged : (t : Tank) {d : Drawn} {u : Tank} → charged_by d ≡ from_tank left (sought_of x item) t → d ≡ Go u
+    pub best_charged : (t : Tank) {d : Result Tank Tank} {u : Tank} → charged_by d ≡ from_tank left (sought_of x item) t → d ≡ Ok u
         → after (go u) ≡ best_path s x left item t
     unfolding charged_by
     best_charged t {d} {u} e h = by_charge t d (go u) e (ap charged_by h)
@@ -165,14 +163,14 @@ module _ (s : Snapshot) (x : FindPathCtx) where
     lang_by o n true d e h = absurd (false≢true (sym e))
     lang_by o n false d e h = ap (λ (y : Option Dependency). dependencies s x left item o (one_or_none y)) h
 
-    pub lang_none : (o : Out Tank) (n : ℕ) (b : Bool) → b ≡ false → none ≡ lang_of s x.from_crate.0 n → o ≡ in_lang s x left item o n b
+    pub lang_none : (o : Out Tank) (n : ℕ) (b : Bool) → b ≡ false → None ≡ lang_of s x.from_crate.0 n → o ≡ in_lang s x left item o n b
     unfolding find_in_deps one_or_none
-    lang_none o n b e h = lang_by o n b none e h
+    lang_none o n b e h = lang_by o n b None e h
 
-    pub lang_some : (o : Out Tank) (n : ℕ) (b : Bool) (d : Dependency) → b ≡ false → some d ≡ lang_of s x.from_crate.0 n
+    pub lang_some : (o : Out Tank) (n : ℕ) (b : Bool) (d : Dependency) → b ≡ false → Some d ≡ lang_of s x.from_crate.0 n
         → imports s x left o (import_info_for s d.crate item) ≡ in_lang s x left item o n b
     unfolding find_in_deps find_in_dep one_or_none
-    lang_some o n b d e h = lang_by o n b (some d) e h
+    lang_some o n b d e h = lang_by o n b (Some d) e h
 
     -- every dependency, those of the sysroot first
     deps_append : (o : Out Tank) (ds es : List Dependency)

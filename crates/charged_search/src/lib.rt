@@ -3,13 +3,14 @@
 
 ghost use Rattle.std.specs.Prelude.{◌≡◌, [], ◌+◌, ◌≤◌, ◌<◌, ◌^◌};
 ghost use Rattle.snapshot.specs.Ids.{plus_one};
+ghost use Rattle.snapshot.specs.Origins.{origin_number};
 ghost use Rattle.snapshot.specs.Limits.{path_limit};
 ghost use Rattle.snapshot.specs.Layouts.{snap_of};
 ghost use Rattle.snapshot.specs.Records.{import_at};
 ghost use Rattle.record_rules.specs.Stands.{counts_in};
 ghost use Rattle.accept.specs.Post.{Reads};
 ghost use Rattle.accept.specs.Valid.{ImportFits};
-ghost use Rattle.hir_def.specs.Nameres.{dependencies_of, by_sysroot};
+ghost use Rattle.crate_graph.specs.Among.{among};
 ghost use Rattle.hir_def.specs.ImportMap.{import_info_for, is_hidden};
 ghost use Rattle.hir_def.specs.Finds.{select};
 ghost use Rattle.find_path.specs.Charged.{is_stable, is_at, langs, after_charge};
@@ -19,11 +20,11 @@ ghost use Rattle.find_path.specs.declared.Tank.{Tank};
 ghost use Rattle.find_path.specs.Conditions.{Prepared, Asked, Searched};
 ghost use Rattle.charged_search.specs.Parts.{out_of, modules, best_path, one_import, imports, dependencies, sysroot, in_lang, Begun, Held};
 
-use crate_graph::{lang_of, next_by_sysroot, next_dependency};
-use find_path::{Drawn, FindPathCtx, Found, Tank};
+use crate_graph::{Which, lang_of, next_dependency};
+use find_path::{FindPathCtx, Found, Tank};
+use hir_def::Item;
 use hir_def::items::home_of;
 use hir_def::modules::krate;
-use hir_def::{Entry, Item, Next};
 use import_map::{import_info_for, is_hidden};
 use local_search::calculate_best_path_local;
 use path_offers::offers::offer_import;
@@ -31,16 +32,16 @@ use path_rules::choices::{length_left, nothing};
 use path_rules::context::charge;
 use path_rules::rules::module_rules;
 use search_parts::{is_stable, langs_for};
-use snapshot::ids::{Crate, ModuleId, OptModule};
+use snapshot::ids::{Crate, CrateOrigin, ModuleId};
 use snapshot::layout::Layout;
 use snapshot::record::{dependency_crate, import_container};
 
 // Whether a home is in the crate.
-fn is_at(words: &[u32], area: &[u32], l: Layout, home: OptModule, c: Crate) -> bool
+fn is_at(words: &[u32], area: &[u32], l: Layout, home: Option<ModuleId>, c: Crate) -> bool
     requires { Reads words.now area.now l × (plus_one home ≤ l.modules) }
     ensures { result ≡ is_at (snap_of words.now area.now l) (plus_one home) c.0 }
 {
-    let OptModule::Module(m) = home else {
+    let Some(m) = home else {
         return false;
     };
     let k = krate(words, area, l, m);
@@ -48,7 +49,7 @@ fn is_at(words: &[u32], area: &[u32], l: Layout, home: OptModule, c: Crate) -> b
 }
 
 /// The search for a module, where externs count: the rules, else the charged search. Length 0 finds no module.
-#[cycle(calculate_best_path_find_import_find_in_dep_find_in_deps_find_in_deps_by_sysroot_find_in_lang_find_in_rest_find_in_sysroot_find_path_for_module_search_charged)]
+#[cycle(charged)]
 pub fn find_path_for_module(
     words: &[u32],
     area: &mut [u32],
@@ -80,7 +81,7 @@ pub fn find_path_for_module(
 }
 
 /// The only rule that charges: the local search in the viewer's crate, else the sysroot for a std item, else the dependencies.
-#[cycle(calculate_best_path_find_import_find_in_dep_find_in_deps_find_in_deps_by_sysroot_find_in_lang_find_in_rest_find_in_sysroot_find_path_for_module_search_charged)]
+#[cycle(charged)]
 pub fn calculate_best_path(
     words: &[u32],
     area: &mut [u32],
@@ -95,19 +96,19 @@ pub fn calculate_best_path(
         area.new result }
 {
     match charge(x, left, item, t) {
-        Drawn::Stop(meter) => {
+        Err(meter) => {
             let choice = nothing();
             Found {
                 choice: choice,
                 meter: meter,
             }
         }
-        Drawn::Go(meter) => search_charged(words, area, l, x, left, item, meter),
+        Ok(meter) => search_charged(words, area, l, x, left, item, meter),
     }
 }
 
 // What follows a charge.
-#[cycle(calculate_best_path_find_import_find_in_dep_find_in_deps_find_in_deps_by_sysroot_find_in_lang_find_in_rest_find_in_sysroot_find_path_for_module_search_charged)]
+#[cycle(charged)]
 fn search_charged(
     words: &[u32],
     area: &mut [u32],
@@ -138,11 +139,11 @@ fn search_charged(
     if x.is_std_item {
         return find_in_sysroot(words, area, l, x, left, item, o);
     }
-    find_in_deps(words, area, l, x, left, item, o)
+    find_in_deps(words, area, l, x, left, item, Which::All, o)
 }
 
 // Core, alloc and std, until the choice is stable; then every dependency, those of the sysroot first.
-#[cycle(calculate_best_path_find_import_find_in_dep_find_in_deps_find_in_deps_by_sysroot_find_in_lang_find_in_rest_find_in_sysroot_find_path_for_module_search_charged)]
+#[cycle(charged)]
 fn find_in_sysroot(
     words: &[u32],
     area: &mut [u32],
@@ -164,7 +165,7 @@ fn find_in_sysroot(
 }
 
 // The crate of one language in the sysroot, unless the choice is stable.
-#[cycle(calculate_best_path_find_import_find_in_dep_find_in_deps_find_in_deps_by_sysroot_find_in_lang_find_in_rest_find_in_sysroot_find_path_for_module_search_charged)]
+#[cycle(charged)]
 fn find_in_lang(
     words: &[u32],
     area: &mut [u32],
@@ -172,25 +173,25 @@ fn find_in_lang(
     x: FindPathCtx,
     left: usize,
     item: Item,
-    lang: usize,
+    lang: CrateOrigin,
     o: Found,
 ) -> Found
     requires { Begun words.now area.old l x left × Held left o }
     ensures { Searched area.old (in_lang (snap_of words.now area.old l) x left item
-        (out_of o) lang (is_stable o.choice)) area.new result }
+        (out_of o) (origin_number lang) (is_stable o.choice)) area.new result }
 {
     let choice = o.choice;
     if is_stable(choice) {
         return o;
     }
-    let Entry::At(h) = lang_of(words, l, x.from_crate, lang) else {
+    let Some(h) = lang_of(words, l, x.from_crate, lang) else {
         return o;
     };
     find_in_dep(words, area, l, x, left, item, dependency_crate(words, h), o)
 }
 
 // Every dependency, those of the sysroot first, unless the choice is stable.
-#[cycle(calculate_best_path_find_import_find_in_dep_find_in_deps_find_in_deps_by_sysroot_find_in_lang_find_in_rest_find_in_sysroot_find_path_for_module_search_charged)]
+#[cycle(charged)]
 fn find_in_rest(
     words: &[u32],
     area: &mut [u32],
@@ -208,50 +209,12 @@ fn find_in_rest(
     if is_stable(choice) {
         return o;
     }
-    let a = find_in_deps_by_sysroot(words, area, l, x, left, item, true, o);
-    find_in_deps_by_sysroot(words, area, l, x, left, item, false, a)
+    let a = find_in_deps(words, area, l, x, left, item, Which::Sysroot, o);
+    find_in_deps(words, area, l, x, left, item, Which::Others, a)
 }
 
-// The dependencies that are in the sysroot, or those that are not.
-#[cycle(calculate_best_path_find_import_find_in_dep_find_in_deps_find_in_deps_by_sysroot_find_in_lang_find_in_rest_find_in_sysroot_find_path_for_module_search_charged)]
-fn find_in_deps_by_sysroot(
-    words: &[u32],
-    area: &mut [u32],
-    l: Layout,
-    x: FindPathCtx,
-    left: usize,
-    item: Item,
-    inside: bool,
-    o: Found,
-) -> Found
-    requires { Begun words.now area.old l x left × Held left o }
-    ensures { Searched area.old (dependencies (snap_of words.now area.old l) x left item
-        (out_of o) (select (by_sysroot x.from_crate.0 inside) (snap_of words.now area.old l).dependencies))
-        area.new result }
-{
-    let mut best = o;
-    let mut k = 0;
-    while k < l.dependencies {
-        let Next::Record(j, h) = next_by_sysroot(words, l, k, x.from_crate, inside) else {
-            return best;
-        };
-        best = find_in_dep(
-            words,
-            area,
-            l,
-            x,
-            left,
-            item,
-            dependency_crate(words, h),
-            best,
-        );
-        k = j + 1;
-    }
-    best
-}
-
-// Every dependency.
-#[cycle(calculate_best_path_find_import_find_in_dep_find_in_deps_find_in_deps_by_sysroot_find_in_lang_find_in_rest_find_in_sysroot_find_path_for_module_search_charged)]
+// The dependencies of one sort, in record order.
+#[cycle(charged)]
 fn find_in_deps(
     words: &[u32],
     area: &mut [u32],
@@ -259,16 +222,17 @@ fn find_in_deps(
     x: FindPathCtx,
     left: usize,
     item: Item,
+    which: Which,
     o: Found,
 ) -> Found
     requires { Begun words.now area.old l x left × Held left o }
     ensures { Searched area.old (dependencies (snap_of words.now area.old l) x left item
-        (out_of o) (dependencies_of (snap_of words.now area.old l) x.from_crate.0)) area.new result }
+        (out_of o) (select (among x.from_crate.0 which) (snap_of words.now area.old l).dependencies)) area.new result }
 {
     let mut best = o;
     let mut k = 0;
     while k < l.dependencies {
-        let Next::Record(j, h) = next_dependency(words, l, k, x.from_crate) else {
+        let Some(next) = next_dependency(words, l, k, x.from_crate, which) else {
             return best;
         };
         best = find_in_dep(
@@ -278,16 +242,16 @@ fn find_in_deps(
             x,
             left,
             item,
-            dependency_crate(words, h),
+            dependency_crate(words, next.head),
             best,
         );
-        k = j + 1;
+        k = next.number + 1;
     }
     best
 }
 
 // The imports of the item in a crate.
-#[cycle(calculate_best_path_find_import_find_in_dep_find_in_deps_find_in_deps_by_sysroot_find_in_lang_find_in_rest_find_in_sysroot_find_path_for_module_search_charged)]
+#[cycle(charged)]
 fn find_in_dep(
     words: &[u32],
     area: &mut [u32],
@@ -305,18 +269,18 @@ fn find_in_dep(
     let mut best = o;
     let mut k = 0;
     while k < l.imports {
-        let Next::Record(j, h) = import_info_for(words, l, k, c, item) else {
+        let Some(next) = import_info_for(words, l, k, c, item) else {
             return best;
         };
-        best = find_import(words, area, l, x, left, h, best);
-        k = j + 1;
+        best = find_import(words, area, l, x, left, next.head, best);
+        k = next.number + 1;
     }
     best
 }
 
 // One import, unless it is hidden: the best path of its container is offered with its name. An unstable one is searched for,
 // and charged, even where it is not allowed.
-#[cycle(calculate_best_path_find_import_find_in_dep_find_in_deps_find_in_deps_by_sysroot_find_in_lang_find_in_rest_find_in_sysroot_find_path_for_module_search_charged)]
+#[cycle(charged)]
 fn find_import(
     words: &[u32],
     area: &mut [u32],

@@ -1,6 +1,7 @@
 //! The text that is printed.
 ghost use Rattle.std.specs.Prelude.{◌≡◌, ◌≤◌, length, take, drop};
 ghost use Rattle.snapshot.specs.Limits.{word_limit, area_limit};
+ghost use Rattle.snapshot.specs.Refusals.{refusal_number};
 ghost use Rattle.wording.specs.Text.{text_limit};
 ghost use Rattle.std.specs.Counts.{IsPrefixLen};
 ghost use Rattle.printing.specs.Output.{Put};
@@ -8,15 +9,15 @@ ghost use Rattle.check_snapshot.specs.Verdict.{verdict_of};
 ghost use Rattle.check_snapshot.specs.Text.{asks, asks_at, refused_text, text_of};
 
 use crate::verdict::verdict;
-use accept::check::Checked;
-use snapshot::refusal::CheckRefusal;
+use accept::check::Refused;
+use snapshot::refusal::Refusal;
 use wording::text::{put_asked, put_counts, put_refusal};
 
 // Whether a kind is a question's, for a path, for a path with its route or for a reach.
 fn asks(kind: u8) -> bool
     ensures { result ≡ asks kind }
 {
-    (kind == 12) | (kind > 13)
+    matches!(kind, 12 | 14..)
 }
 
 // Whether a question begins at the word at a place.
@@ -24,22 +25,18 @@ fn asks(kind: u8) -> bool
 fn asks_at(bytes: &[u8], place: usize) -> bool
     ensures { result ≡ asks_at bytes.now place }
 {
-    if place < bytes.len() / 4 {
-        return asks(bytes[4 * place + 3] / 16);
-    }
-    false
+    place < bytes.len() / 4 && asks(bytes[4 * place + 3] / 16)
 }
 
 // The text of a refusal.
-fn put_refused(bytes: &[u8], n: u32, place: usize, out: &mut [u8]) -> usize
+fn put_refused(bytes: &[u8], no: Refused, out: &mut [u8]) -> usize
     requires { text_limit ≤ length out.old }
-    ensures { Put out.old 0 (refused_text bytes.now n place) out.new result }
+    ensures { Put out.old 0 (refused_text bytes.now (refusal_number no.why) no.at) out.new result }
 {
-    let asked = asks_at(bytes, place);
-    if (n == CheckRefusal::FORM) & asked {
-        return put_asked(out, place);
+    if no.why == Refusal::Form && asks_at(bytes, no.at) {
+        return put_asked(out, no.at);
     }
-    put_refusal(out, n, place)
+    put_refusal(out, no.why, no.at)
 }
 
 /// Puts the text that answers for the bytes at the front, and answers its length; the bytes past it stay.
@@ -50,9 +47,8 @@ pub fn report(bytes: &[u8], words: &mut [u32], area: &mut [u32], out: &mut [u8])
         × (drop result out.new ≡ drop result out.old) }
     ensures prefix_len { IsPrefixLen result out.new }
 {
-    let c = verdict(bytes, words, area);
-    match c {
-        Checked::Refused(n, place) => put_refused(bytes, n, place, out),
-        Checked::Accepted(l) => put_counts(out, l),
+    match verdict(bytes, words, area) {
+        Err(no) => put_refused(bytes, no, out),
+        Ok(l) => put_counts(out, l),
     }
 }

@@ -15,9 +15,10 @@ use Rattle.snapshot.specs.Layouts.{snap_of, table_words}
 use Rattle.snapshot.specs.declared.layout.Layout.{Layout}
 use Rattle.snapshot.proofs.Laws.{length_rows}
 use Rattle.check_rules.specs.Verdict.{refuse, accept, verdict}
-use Rattle.accept.specs.Post.{Reads, Judged, Checks, check_of, outcome, Readable}
-use Rattle.accept.specs.declared.check.Checked.{Checked}
-use Rattle.accept.specs.declared.check.Checked.TheVariants.{Refused, Accepted}
+use Rattle.accept.specs.Post.{Checked, Reads, Judged, Checks, check_of, outcome, Readable}
+use Rattle.std.specs.Prelude.{Ok, Err}
+use Rattle.snapshot.specs.Refusals.{refusal_number}
+use Rattle.accept.specs.declared.check.Refused.{Refused}
 use Rattle.accept.proofs.Accepted.{by_test}
 use Rattle.accept.proofs.Tabled.{Kept}
 use Rattle.accept.proofs.Stable.{snap_stays, tables_stay}
@@ -27,7 +28,6 @@ use Rattle.find_path.specs.declared.Question.{Question}
 use Rattle.find_path.specs.declared.Report.{Report}
 use Rattle.find_path.specs.Report.{call_fault, question_fault, refused, reported, searched, answer_unless, report_by, report_unless, report_of}
 use Rattle.search_laws.proofs.Refusals.{call_allowed}
-use Rattle.checked.specs.Order.{earlier_of, number_of}
 
 -- faults of a call
 
@@ -88,13 +88,13 @@ module _ (s : Snapshot) (q : Query) (D M : ℕ) (d : length s.definitions ≡ D)
   unfolding question_fault
   unknown h = rw (question_fault, d, m, h)
 
-  pub no_macro : (k : ℕ) → (ltb q.definition.0 D && ltb q.from.0 M) ≡ true → k ≡ (definition_of s q.definition.0).kind
-      → (eqb q.ns 2 && not (eqb k 5)) ≡ true → macro_refusal ≡ question_fault s q
+  pub no_macro : (k : Bool) → (ltb q.definition.0 D && ltb q.from.0 M) ≡ true → k ≡ not (eqb (definition_of s q.definition.0).kind 5)
+      → (eqb q.ns 2 && k) ≡ true → macro_refusal ≡ question_fault s q
   unfolding question_fault
   no_macro k h e t = let t' = rw e at t in rw (question_fault, d, m, h, t')
 
-  pub sound : (k : ℕ) → (ltb q.definition.0 D && ltb q.from.0 M) ≡ true → k ≡ (definition_of s q.definition.0).kind
-      → (eqb q.ns 2 && not (eqb k 5)) ≡ false → 0 ≡ question_fault s q
+  pub sound : (k : Bool) → (ltb q.definition.0 D && ltb q.from.0 M) ≡ true → k ≡ not (eqb (definition_of s q.definition.0).kind 5)
+      → (eqb q.ns 2 && k) ≡ false → 0 ≡ question_fault s q
   unfolding question_fault
   sound k h e t = let t' = rw e at t in rw (question_fault, d, m, h, t')
 
@@ -143,10 +143,10 @@ module _ (W : List ℕ) (q : Query) (fuel : ℕ) (r : Report) where
 kept_by : (A B : List ℕ) → take table_words B ≡ take table_words A → Kept A B 0 table_words
 kept_by A B e i u v = sym (get_or-take table_words B i 0 v) ∙ ap (λ (x : List ℕ). get_or x i 0) e ∙ get_or-take table_words A i 0 v
 
-judged_reads : (W A : List ℕ) (l : Layout) → Judged W A (Accepted l) → Reads W A l
+judged_reads : (W A : List ℕ) (l : Layout) → Judged W A (Ok l) → Reads W A l
 judged_reads W A l j = record { same = sym j.same; tables = j.tables }
 
-pub judged_stays : (W A B : List ℕ) (l : Layout) → Judged W A (Accepted l) → take table_words B ≡ take table_words A → Judged W B (Accepted l)
+pub judged_stays : (W A B : List ℕ) (l : Layout) → Judged W A (Ok l) → take table_words B ≡ take table_words A → Judged W B (Ok l)
 judged_stays W A B l j e =
     record {
       same = ap accept (snap_stays W A B l j.tables (kept_by A B e)) ∙ j.same;
@@ -154,19 +154,19 @@ judged_stays W A B l j e =
     }
 
 module _ (W A : List ℕ) (c : Checked) (j : Judged W A c) where
-  pub reads_of : (l : Layout) → c ≡ Accepted l → Reads W A l
+  pub reads_of : (l : Layout) → c ≡ Ok l → Reads W A l
   reads_of l e = judged_reads W A l (subst (λ x. Judged W A x) e j)
 
   module _ (q : Query) (fuel : ℕ) (r : Report) where
-    pub report_refused : (n at : ℕ) → c ≡ Refused n at → r ≡ refused n → (r ≡ report_by q fuel (verdict W)) × Judged W A c
-    report_refused n at e p =
-        let k : Judged W A (Refused n at) = subst (λ x. Judged W A x) e j in
-        (by_refusal W q fuel r n at k.same p, j)
+    pub report_refused : (e : Refused) → c ≡ Err e → r ≡ refused (refusal_number e.why) → (r ≡ report_by q fuel (verdict W)) × Judged W A c
+    report_refused e f p =
+        let k : Judged W A (Err e) = subst (λ x. Judged W A x) f j in
+        (by_refusal W q fuel r (refusal_number e.why) e.at k.same p, j)
 
-    pub report_accepted : (l : Layout) (B : List ℕ) → c ≡ Accepted l → take table_words B ≡ take table_words A
+    pub report_accepted : (l : Layout) (B : List ℕ) → c ≡ Ok l → take table_words B ≡ take table_words A
         → r ≡ answer_unless (snap_of W A l) q fuel (question_fault (snap_of W A l) q) → (r ≡ report_by q fuel (verdict W)) × Judged W B c
     report_accepted l B e t p =
-        let k : Judged W A (Accepted l) = subst (λ x. Judged W A x) e j in
+        let k : Judged W A (Ok l) = subst (λ x. Judged W A x) e j in
         (by_answer W q fuel r (snap_of W A l) k.same p, subst (λ x. Judged W B x) (sym e) (judged_stays W A B l k t))
 
 -- a check in an area that serves
@@ -179,10 +179,10 @@ checks_judged W A₀ A c e k =
 -- what the check of the words answers
 
 module _ (W A₀ A : List ℕ) (r : Checked) (a : length A₀ ≡ 16384) (c : Checks W A₀ A r) where
-  pub refused_verdict : (k at : ℕ) → r ≡ Refused k at → refuse k at ≡ verdict W
-  refused_verdict k at e = sym (ap (outcome W A) e) ∙ (checks_judged W A₀ A r a c).same
+  pub refused_verdict : (f : Refused) → r ≡ Err f → refuse (refusal_number f.why) f.at ≡ verdict W
+  refused_verdict f e = sym (ap (outcome W A) e) ∙ (checks_judged W A₀ A r a c).same
 
-  pub accepted_reads : (l : Layout) → r ≡ Accepted l → Reads W A l
+  pub accepted_reads : (l : Layout) → r ≡ Ok l → Reads W A l
   accepted_reads l e =
       record {
         same = sym (checks_judged W A₀ A r a c).same ∙ ap (outcome W A) e;
@@ -205,43 +205,6 @@ module _ (W : List ℕ) (area : ℕ) (q : Question) (r : Report) where
       → r ≡ report_of W area q
   unfolding report_of report_unless
   report_verdict n e z p = p ∙ ap (report_unless W q.query q.fuel) (sym z ∙ e)
-
--- the order of the numbers
-
-pub earlier_first : (a b : ℕ) → (a ≡ 0 → ⊥) → a ≡ earlier_of a b
-unfolding earlier_of
-earlier_first zero b h = absurd (h refl)
-earlier_first (suc a) b h = refl
-
-pub earlier_second : (a b : ℕ) → a ≡ 0 → b ≡ earlier_of a b
-unfolding earlier_of
-earlier_second a b e = ap (λ x. earlier_of x b) (sym e)
-
-pub none_earlier : (a b : ℕ) → 0 ≡ earlier_of a b → 0 ≡ a
-unfolding earlier_of
-none_earlier zero b e = refl
-none_earlier (suc a) b e = e
-
-pub number_refused : (c : Checked) (n place : ℕ) → c ≡ Refused n place → n ≡ number_of c
-unfolding number_of
-number_refused c n place e = ap number_of (sym e)
-
-pub number_accepted : (c : Checked) (l : Layout) → c ≡ Accepted l → 0 ≡ number_of c
-unfolding number_of
-number_accepted c l e = ap number_of (sym e)
-
-module _ (W A : List ℕ) (q : Question) (r : Report) (n : ℕ) (h : n ≡ 0 → ⊥) (p : r ≡ refused n) where
-  by_words : (c : Checked) → Judged W A c → n ≡ number_of c → r ≡ report_by q.query q.fuel (verdict W)
-  unfolding number_of
-  by_words (Refused m place) j e = by_refusal W q.query q.fuel r m place j.same (p ∙ ap refused e)
-  by_words (Accepted l) j e = absurd (h e)
-
-  -- a number of the call comes first, then one of the words
-  pub report_earlier : (c : Checked) → Judged W A c → (f m : ℕ) → f ≡ call_fault area_limit q.query q.fuel → m ≡ number_of c → n ≡ earlier_of f m
-      → r ≡ report_of W area_limit q
-  unfolding earlier_of
-  report_earlier c j zero m e k u = report_verdict W area_limit q r 0 e refl (by_words c j (u ∙ k))
-  report_earlier c j (suc f) m e k u = report_fault W area_limit q r n (u ∙ e) h p
 
 pub same_report : (W : List ℕ) (a b : ℕ) (q : Question) → area_limit ≤ a → area_limit ≤ b → report_of W a q ≡ report_of W b q
 unfolding report_of

@@ -7,9 +7,10 @@ use Rattle.snapshot.specs.Records.{Snapshot}
 use Rattle.snapshot.specs.Layouts.{snap_of}
 use Rattle.snapshot.specs.declared.layout.Layout.{Layout}
 use Rattle.check_rules.specs.Verdict.{Verdict, refuse, verdict}
-use Rattle.accept.specs.Post.{Judged}
-use Rattle.accept.specs.declared.check.Checked.{Checked}
-use Rattle.accept.specs.declared.check.Checked.TheVariants.{Refused, Accepted}
+use Rattle.accept.specs.Post.{Judged, Checked}
+use Rattle.std.specs.Prelude.{Ok, Err}
+use Rattle.snapshot.specs.Refusals.{refusal_number}
+use Rattle.accept.specs.declared.check.Refused.{Refused}
 use Rattle.printing.specs.Output.{Put}
 use Rattle.printing.proofs.Laws.{put_as}
 use Rattle.find_path.specs.declared.Question.{Question}
@@ -45,20 +46,20 @@ module _ (W : List ℕ) (q : Question) where
     few_names = rw a.report (report_bounded W area_limit q).few
 
     module _ (old new : List ℕ) (t : ℕ) where
-      pub line_refused : (n place : ℕ) → c ≡ Refused n place
+      pub line_refused : (f : Refused) → c ≡ Err f
           → ((s : Snapshot) (from : ℕ) → Put old 0 (line_in s from (refused r.number) ++ bytes_of "\n") new t) → LineOn W q c A old new t
       unfolding line_of
-      line_refused n place e p =
-          let v : verdict W ≡ refuse n place = sym (subst (λ (x : Checked). Judged W A x) e a.checked).same in
+      line_refused f e p =
+          let v : verdict W ≡ refuse (refusal_number f.why) f.at = sym (subst (λ (x : Checked). Judged W A x) e a.checked).same in
           let u : refused r.number ≡ report_of W area_limit q = ap (λ (x : Report). refused x.number) a.report
-          ∙ sym (refusal_only n place v) in
+          ∙ sym (refusal_only (refusal_number f.why) f.at v) in
           record {
             line = put_as (ap (λ x. line_in (snapshot_of (verdict W)) q.query.from.0 x ++ bytes_of "\n") u)
                 (p (snapshot_of (verdict W)) q.query.from.0);
             checked = a.checked;
           }
 
-      pub line_accepted : (l : Layout) → c ≡ Accepted l → Put old 0 (line_in (snap_of W A l) q.query.from.0 r ++ bytes_of "\n") new t
+      pub line_accepted : (l : Layout) → c ≡ Ok l → Put old 0 (line_in (snap_of W A l) q.query.from.0 r ++ bytes_of "\n") new t
           → LineOn W q c A old new t
       unfolding line_of snapshot_of
       line_accepted l e p =

@@ -32,10 +32,10 @@ read true true false d e = refl
 read true false c d e = absurd (true≢false e)
 read false b c d e = absurd (true≢false e)
 
-module _ (s : Snapshot) (q : Query) (c : Choice) {k : ℕ} (e : k ≡ (definition_of s q.definition.0).kind) where
+module _ (s : Snapshot) (q : Query) (c : Choice) {k : Bool} (e : k ≡ eqb (definition_of s q.definition.0).kind builtin_kind) where
   -- what the code tests
-  abbrev builtin : ℕ → Bool
-  builtin n = eqb q.ns types && eqb n builtin_kind
+  abbrev builtin : Bool → Bool
+  builtin n = eqb q.ns types && n
 
   abbrev asked : Bool
   asked = eqb (q.options / 64 % 2) 1

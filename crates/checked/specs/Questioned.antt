@@ -1,11 +1,17 @@
 -- A question on words that were checked.
-use Rattle.std.specs.Prelude.{ℕ, ◌≡◌, List}
+use Rattle.std.specs.Prelude.{ℕ, ◌≡◌, List, Result, Ok, Err}
 use Rattle.snapshot.specs.Limits.{area_limit}
-use Rattle.accept.specs.Post.{Judged}
-use Rattle.accept.specs.declared.check.Checked.{Checked}
+use Rattle.snapshot.specs.Refusals.{refusal_number}
+use Rattle.snapshot.specs.declared.refusal.Refusal.{Refusal}
+use Rattle.accept.specs.Post.{Judged, Checked}
 use Rattle.find_path.specs.declared.Question.{Question}
 use Rattle.find_path.specs.declared.Report.{Report}
-use Rattle.find_path.specs.Report.{report_of}
+use Rattle.find_path.specs.Report.{refused, report_of}
+
+-- a report, or the report of a refusal
+abbrev pub told : Result Report Refusal → Report
+told (Ok r) = r
+told (Err k) = refused (refusal_number k)
 
 -- W are the words, A the work area after the call: the report is the same as alone, and the words stay checked for the next question
 pub record Questioned (W : List ℕ) (q : Question) (c : Checked) (A : List ℕ) (r : Report) : Type 0 where

@@ -1,57 +1,46 @@
 //! Questions put to words that were checked.
-ghost use Rattle.std.specs.Prelude.{◌≡◌, ◌≤◌, ◌<◌, length, take};
-ghost use Rattle.snapshot.specs.Limits.{path_limit, fuel_limit, area_limit, namespace_limit};
-ghost use Rattle.snapshot.specs.Layouts.{table_words, snap_of};
-ghost use Rattle.accept.specs.Post.{Reads, Judged};
-ghost use Rattle.check_rules.specs.Verdict.{verdict};
-ghost use Rattle.find_path.specs.Report.{question_fault, answer_unless, report_by};
-ghost use Rattle.checked.specs.Questioned.{Questioned};
+ghost use Rattle.std.specs.Prelude.{◌≡◌, length};
+ghost use Rattle.snapshot.specs.Limits.{area_limit};
+ghost use Rattle.accept.specs.Post.{Judged};
+ghost use Rattle.checked.specs.Questioned.{Questioned, told};
 
-use crate::faults::{call_fault, earlier, number_of, question_fault};
+use crate::faults::{call_fault, question_fault};
 use crate::found::report_in;
-use accept::check::Checked;
-use find_path::{Query, Question, Report};
+use accept::check::Refused;
+use find_path::{Question, Report};
 use reports::report::refused;
 use snapshot::layout::Layout;
+use snapshot::refusal::Refusal;
 
-// The answer on accepted words; the tables stay.
-fn ask(words: &[u32], area: &mut [u32], l: Layout, q: Query, fuel: usize) -> Report
-    requires { Reads words.now area.old l × (length area.old ≡ area_limit) × (q.ns ≤ namespace_limit) × (fuel ≤ fuel_limit)
-        × (0 < q.limit) × (q.limit ≤ path_limit) }
-    ensures value { result ≡ answer_unless (snap_of words.now area.old l) q fuel
-        (question_fault (snap_of words.now area.old l) q) }
-    ensures area_unchanged { take table_words area.new ≡ take table_words area.old }
+// The report of a search, or why the question is refused: 20, 21, 22 and 46 come before what the check says, 23 and 24 after it.
+fn answered(
+    words: &[u32],
+    area: &mut [u32],
+    c: Result<Layout, Refused>,
+    question: Question,
+) -> Result<Report, Refusal>
+    requires { Judged words.now area.old c × (length area.old ≡ area_limit) }
+    ensures { Questioned words.now question c area.new (told result) }
 {
-    let n = question_fault(words, l, q);
-    if n != 0 {
-        return refused(n);
-    }
-    report_in(words, area, l, q, fuel)
-}
-
-// The answer on checked words, to a question without a fault of its own.
-fn report_by(words: &[u32], area: &mut [u32], c: Checked, q: Query, fuel: usize) -> Report
-    requires { Judged words.now area.old c × (length area.old ≡ area_limit) × (q.ns ≤ namespace_limit) × (fuel ≤ fuel_limit)
-        × (0 < q.limit) × (q.limit ≤ path_limit) }
-    ensures { (result ≡ report_by q fuel (verdict words.now)) × Judged words.now area.new c }
-{
-    match c {
-        Checked::Refused(n, _) => refused(n as usize),
-        Checked::Accepted(l) => ask(words, area, l, q, fuel),
-    }
+    let q = question.query;
+    call_fault(area.len(), q, question.fuel)?;
+    let l = c?;
+    question_fault(words, l, q)?;
+    Ok(report_in(words, area, l, q, question.fuel))
 }
 
 /// The answer to a question on checked words, which stay so: the next question can follow.
-pub fn report_on(words: &[u32], area: &mut [u32], c: Checked, question: Question) -> Report
+pub fn report_on(
+    words: &[u32],
+    area: &mut [u32],
+    c: Result<Layout, Refused>,
+    question: Question,
+) -> Report
     requires { Judged words.now area.old c × (length area.old ≡ area_limit) }
     ensures { Questioned words.now question c area.new result }
 {
-    let q = question.query;
-    let call = call_fault(area.len(), q, question.fuel);
-    let number = number_of(c);
-    let n = earlier(call, number);
-    if n != 0 {
-        return refused(n);
+    match answered(words, area, c, question) {
+        Ok(report) => report,
+        Err(why) => refused(why.number()),
     }
-    report_by(words, area, c, q, question.fuel)
 }

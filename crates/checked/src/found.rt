@@ -20,7 +20,8 @@ fn misleads(words: &[u32], area: &[u32], l: Layout, q: Query, c: Choice) -> bool
     ensures { result ≡ misleads_in (snap_of words.now area.now l) q c }
 {
     let d = q.definition;
-    let builtin = (q.ns == Namespace::TYPES) & (kind_of(words, l, d) == DefinitionKind::BUILTIN);
+    let builtin = (q.ns == Namespace::TYPES)
+        & (kind_of(words, l, d) == Some(DefinitionKind::Builtin));
     let read = (q.options / Options::READ_BACK % 2 == 1) & (c.found & !builtin);
     if !read {
         return false;

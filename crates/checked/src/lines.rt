@@ -5,16 +5,17 @@ ghost use Rattle.accept.specs.Post.{Judged};
 ghost use Rattle.checked.specs.Lines.{LineOn};
 
 use crate::checked::report_on;
-use accept::check::Checked;
+use accept::check::Refused;
 use find_path::Question;
 use line::line::put_line;
 pub use line::line::{LineBytes, put_refusal};
+use snapshot::layout::Layout;
 
 /// Puts the line of a question on checked words and its end at the front, and answers its length. The words stay checked.
 pub fn line_on(
     words: &[u32],
     area: &mut [u32],
-    c: Checked,
+    c: Result<Layout, Refused>,
     question: Question,
     out: &mut [u8],
 ) -> usize
@@ -23,7 +24,7 @@ pub fn line_on(
 {
     let r = report_on(words, area, c, question);
     match c {
-        Checked::Refused(_, _) => put_refusal(out, r.number),
-        Checked::Accepted(l) => put_line(out, words, area, l, question.query.from, r),
+        Err(_) => put_refusal(out, r.number),
+        Ok(l) => put_line(out, words, area, l, question.query.from, r),
     }
 }

@@ -4,7 +4,7 @@ use mathlib.Core.Path.{◌≡◌, refl, ap, sym, ◌∙◌, subst}
 use mathlib.Core.List.{List, [], ◌∷◌}
 use mathlib.Core.Bool.{Bool, true, false, ◌||◌, not, true≢false, false≢true}
 use mathlib.Core.Logic.{◌⊎◌, inl, inr, ⊎_elim}
-use mathlib.Core.Option.{Option, none, some}
+use Rattle.std.specs.Prelude.{Option, None, Some}
 use native.Mathlib.Omega.{arith}
 use lib.Dec.{eqb}
 use lib.ListN.{length, set}
@@ -130,23 +130,23 @@ module _ (W A₀ : List ℕ) (l : Layout) (r : Reads W A₀ l) (c : ℕ) (A : Li
 
 -- a module with a keyword is the viewer's or its parent
 module _ (s : Snapshot) (x : FindPathCtx) where
-  kind_of_some : (m : ℕ) (o : Option ℕ) → (keyword_of s x o).found ≡ true → (k : ℕ) × (o ≡ some k)
+  kind_of_some : (m : ℕ) (o : Option ℕ) → (keyword_of s x o).found ≡ true → (k : ℕ) × (o ≡ Some k)
   unfolding keyword_of
-  kind_of_some m none h = absurd (false≢true h)
-  kind_of_some m (some k) h = (k, refl)
+  kind_of_some m None h = absurd (false≢true h)
+  kind_of_some m (Some k) h = (k, refl)
 
-  parent_some : (m p k : ℕ) → parent_kind s x m p ≡ some k → p ≡ suc m
+  parent_some : (m p k : ℕ) → parent_kind s x m p ≡ Some k → p ≡ suc m
   unfolding parent_kind
   parent_some m zero k h = let z : ◌≡◌ {A = ℕ} 0 1 = cc in absurd (omega arith)
   parent_some m (suc p) k h =
       by_test (eqb m p) (λ t. ap suc (sym (eqb-true m p t)))
-      (λ t. let g : none ≡ some k = rw (parent_kind, t) at h in let z : ◌≡◌ {A = ℕ} 0 1 = cc in absurd (omega arith))
+      (λ t. let g : None ≡ Some k = rw (parent_kind, t) at h in let z : ◌≡◌ {A = ℕ} 0 1 = cc in absurd (omega arith))
 
-  keyword_some : (m k : ℕ) → is_kw_kind_relative_to_from s x m ≡ some k → (m ≡ x.from.0) ⊎ (parent_of s x.from.0 ≡ suc m)
+  keyword_some : (m k : ℕ) → is_kw_kind_relative_to_from s x m ≡ Some k → (m ≡ x.from.0) ⊎ (parent_of s x.from.0 ≡ suc m)
   unfolding is_kw_kind_relative_to_from
   keyword_some m k h =
       by_test (not (eqb (crate_of s m) (crate_of s x.from.0)) || (in_block s m || in_block s x.from.0))
-      (λ t. let g : none ≡ some k = rw (is_kw_kind_relative_to_from, t) at h in let z : ◌≡◌ {A = ℕ} 0 1 = cc in absurd (omega arith))
+      (λ t. let g : None ≡ Some k = rw (is_kw_kind_relative_to_from, t) at h in let z : ◌≡◌ {A = ℕ} 0 1 = cc in absurd (omega arith))
       (λ t. by_test (eqb m x.from.0) (λ u. inl (eqb-true m x.from.0 u))
       (λ u. inr (parent_some m (parent_of s x.from.0) k (rw (is_kw_kind_relative_to_from, t, u) at h))))
 
@@ -239,17 +239,17 @@ module _ (W A : List ℕ) (l : Layout) (from : ℕ) where
   abbrev P₀ : Option Prelude
   P₀ = prelude_of (snap_of W A l) (map_no (snap_of W A l) from)
 
-  pub no_prelude_lem : {k : ℕ} {o : Option Prelude} → k ≡ map_no (snap_of W A l) from → o ≡ prelude_of (snap_of W A l) k → o ≡ none
-      → (p : Prelude) → P₀ ≡ some p → AllNamed W A l A p.target
+  pub no_prelude_lem : {k : ℕ} {o : Option Prelude} → k ≡ map_no (snap_of W A l) from → o ≡ prelude_of (snap_of W A l) k → o ≡ None
+      → (p : Prelude) → P₀ ≡ Some p → AllNamed W A l A p.target
   no_prelude_lem {k} e f n p h =
-      let g : none ≡ some p = sym n ∙ f ∙ ap (prelude_of (snap_of W A l)) e ∙ h in
+      let g : None ≡ Some p = sym n ∙ f ∙ ap (prelude_of (snap_of W A l)) e ∙ h in
       let w : ◌≡◌ {A = ℕ} 0 1 = cc in absurd (omega arith)
 
   pub one_prelude : {k t : ℕ} {o : Option Prelude} (q : Prelude) (B : List ℕ) → k ≡ map_no (snap_of W A l) from
-      → o ≡ prelude_of (snap_of W A l) k → o ≡ some q → t ≡ q.target
-      → AllNamed W A l B t → (p : Prelude) → P₀ ≡ some p → AllNamed W A l B p.target
+      → o ≡ prelude_of (snap_of W A l) k → o ≡ Some q → t ≡ q.target
+      → AllNamed W A l B t → (p : Prelude) → P₀ ≡ Some p → AllNamed W A l B p.target
   one_prelude {k} {t} q B e f n u h p g =
-      let j : some q ≡ some p = sym n ∙ f ∙ ap (prelude_of (snap_of W A l)) e ∙ g in
+      let j : Some q ≡ Some p = sym n ∙ f ∙ ap (prelude_of (snap_of W A l)) e ∙ g in
       let same : q ≡ p = cc in
       subst (AllNamed W A l B) (u ∙ ap (λ (y : Prelude). y.target) same) h
 
@@ -267,7 +267,7 @@ module _ (W A₀ : List ℕ) (l : Layout) (x : FindPathCtx) (y : Ready W A₀ l)
     ready_keywords = lowers_ready W l f₂.0 ready_roots z₂
 
     module _ (A₃ : List ℕ)
-        (f₃ : Lowers A₂ A₃ × ((p : Prelude) → prelude_of (T A₂) (map_no (T A₂) x.from.0) ≡ some p
+        (f₃ : Lowers A₂ A₃ × ((p : Prelude) → prelude_of (T A₂) (map_no (T A₂) x.from.0) ≡ Some p
         → Each (Named (T A₂) (distance A₃) p.target) (T A₂).scopes))
         (z₃ : length A₃ ≡ length A₂) where
       pub ready_prelude : Ready W A₃ l
@@ -298,7 +298,7 @@ module _ (W A₀ : List ℕ) (l : Layout) (x : FindPathCtx) (y : Ready W A₀ l)
                   scope = scope;
                   prelude = λ p e.
                       all_less (T A₀) (distance A₃) (distance A) (distances_less g) p.target
-                      (subst (λ (s : Snapshot). prelude_of s (map_no s x.from.0) ≡ some p
+                      (subst (λ (s : Snapshot). prelude_of s (map_no s x.from.0) ≡ Some p
                       → Each (Named s (distance A₃) p.target) s.scopes) same₂ (f₃.1 p) e);
                 };
             tables = h₂.tables ∙ f₁.tables;

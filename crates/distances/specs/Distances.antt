@@ -1,6 +1,6 @@
 -- Numbers of modules by which a local search passes over what it cannot find.
 use Rattle.std.specs.Prelude.{ℕ, ◌+◌, ◌≤◌, ◌<◌, ◌≡◌, List, [], Bool, true, get_or}
-use Rattle.std.proofs.Math.Option.{some}
+use Rattle.std.specs.Prelude.{Some}
 use Rattle.snapshot.specs.Records.{Snapshot, Scope, Prelude}
 use Rattle.snapshot.specs.Layouts.{table_words}
 use Rattle.accept.specs.Valid.{Each}
@@ -39,7 +39,7 @@ pub record Ruled (s : Snapshot) (x : FindPathCtx) (n : ℕ) (d : ℕ → ℕ) : 
   pub roots : (m : ℕ) → m < n → crate_root s m ≡ m → d m ≤ 1
   pub keywords : (m : ℕ) → is_keyword s x m ≡ true → d m ≤ 1
   pub scope : may_be_in_scope s x ≡ true → Each (λ a. Each (Named s d a) s.scopes) (ancestor_maps s x.from.0)
-  pub prelude : (p : Prelude) → prelude_of s (map_no s x.from.0) ≡ some p → Each (Named s d p.target) s.scopes
+  pub prelude : (p : Prelude) → prelude_of s (map_no s x.from.0) ≡ Some p → Each (Named s d p.target) s.scopes
 
 -- They grow by at most 1 with each entry too.
 pub record Closed (s : Snapshot) (x : FindPathCtx) (n : ℕ) (d : ℕ → ℕ) : Type 0 where

@@ -3,7 +3,7 @@
 #![tactic(auto)]
 
 ghost use Rattle.std.specs.Prelude.{◌≡◌, true, ℕ, ◌≤◌, ◌<◌, length};
-ghost use Rattle.std.proofs.Math.Option.{some};
+ghost use Rattle.std.specs.Prelude.{Some};
 ghost use Rattle.snapshot.specs.Limits.{module_limit, area_limit};
 ghost use Rattle.snapshot.specs.Records.{Prelude, scope_at};
 ghost use Rattle.snapshot.specs.Layouts.{snap_of};
@@ -16,12 +16,12 @@ ghost use Rattle.distances.specs.Post.{Ready, Numbered, Rooted, Marked, Lowers, 
 
 use crate_graph::prelude_of;
 use find_path::FindPathCtx;
+use hir_def::Item;
 use hir_def::items::item_of;
 use hir_def::modules::{block, crate_root, map, parent};
-use hir_def::{Entry, Item};
 use path_rules::rules::{keyword_rule, may_be_in_scope};
 use rule_lookups::is_importable;
-use snapshot::ids::{ModuleId, OptModule};
+use snapshot::ids::ModuleId;
 use snapshot::kind::Size;
 use snapshot::layout::Layout;
 use snapshot::record::{prelude_target, scope_definition, scope_ns, scope_owner};
@@ -29,8 +29,7 @@ use snapshot::table::Tables;
 use snapshot::words::word;
 
 /// Where the numbers stand, a word a module.
-#[derive(Clone, Copy)]
-pub struct Distances(pub usize);
+pub struct Distances;
 
 impl Distances {
     pub const AT: usize = Tables::END;
@@ -57,12 +56,10 @@ fn set_roots(words: &[u32], area: &mut [u32], l: Layout)
     ensures { Rooted words.now area.old l l.modules area.new }
 {
     let count = l.modules;
-    let mut m = 0;
-    while m < count {
+    for m in 0..count {
         let root = crate_root(words, area, l, ModuleId(m));
         let d = first_number(ModuleId(m), root);
         area[Distances::AT + m] = d as u32;
-        m += 1;
     }
 }
 
@@ -104,10 +101,8 @@ fn mark_scope(words: &[u32], area: &mut [u32], l: Layout, c: ModuleId)
 {
     let base = l.scope_base();
     let count = l.scopes;
-    let mut k = 0;
-    while k < count {
+    for k in 0..count {
         mark_entry(words, area, l, c, base + Size::SCOPE * k);
-        k += 1;
     }
 }
 
@@ -121,7 +116,7 @@ fn mark_scopes(words: &[u32], area: &mut [u32], l: Layout, from: ModuleId)
     let mut m = from;
     loop {
         mark_scope(words, area, l, m);
-        let OptModule::Module(b) = block(words, area, l, m) else {
+        let Some(b) = block(words, area, l, m) else {
             return;
         };
         m = b;
@@ -133,12 +128,12 @@ fn mark_prelude(words: &[u32], area: &mut [u32], l: Layout, from: ModuleId)
     requires { Ready words.now area.old l × (from.0 < l.modules) }
     ensures { Lowers area.old area.new
         × ((p : Prelude) → prelude_of (snap_of words.now area.old l)
-        (map_no (snap_of words.now area.old l) from.0) ≡ some p
+        (map_no (snap_of words.now area.old l) from.0) ≡ Some p
         → Each (Named (snap_of words.now area.old l) (distance area.new) p.target)
         (snap_of words.now area.old l).scopes) }
 {
     let p = prelude_of(words, l, map(words, area, l, from));
-    let Entry::At(h) = p else {
+    let Some(h) = p else {
         return;
     };
     mark_scope(words, area, l, prelude_target(words, h));
@@ -164,7 +159,7 @@ fn mark_keywords(words: &[u32], area: &mut [u32], l: Layout, x: FindPathCtx)
         × ((m : ℕ) → is_keyword (snap_of words.now area.old l) x m ≡ true → distance area.new m ≤ 1) }
 {
     mark_keyword(words, area, l, x, x.from);
-    let OptModule::Module(p) = parent(words, area, l, x.from) else {
+    let Some(p) = parent(words, area, l, x.from) else {
         return;
     };
     mark_keyword(words, area, l, x, p);
@@ -205,11 +200,9 @@ fn relax(words: &[u32], area: &mut [u32], l: Layout, x: FindPathCtx) -> bool
     let base = l.scope_base();
     let count = l.scopes;
     let mut changed = false;
-    let mut k = 0;
-    while k < count {
+    for k in 0..count {
         let r = relax_entry(words, area, l, x, base + Size::SCOPE * k);
         changed = changed | r;
-        k += 1;
     }
     changed
 }

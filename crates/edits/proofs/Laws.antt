@@ -14,9 +14,12 @@ use Rattle.snapshot.specs.Limits.{area_limit}
 use Rattle.snapshot.specs.Refusals.{area_refusal, words_refusal, entry_refusal}
 use Rattle.snapshot.specs.Sizes.{scope_size}
 use Rattle.check_rules.specs.Verdict.{refuse, accept, verdict}
+use Rattle.std.specs.Prelude.{Ok, Err}
+use Rattle.snapshot.specs.Refusals.{refusal_number}
+use Rattle.snapshot.specs.declared.refusal.Refusal.{Refusal}
+use Rattle.snapshot.specs.declared.refusal.Refusal.TheVariants.{Area, Words}
 use Rattle.accept.specs.Post.{Checks, check_of}
-use Rattle.accept.specs.declared.check.Checked.{Checked}
-use Rattle.accept.specs.declared.check.Checked.TheVariants.{Refused, Accepted}
+use Rattle.accept.specs.declared.check.Refused.{Refused}
 use Rattle.answer.specs.Answers.{zeros, area_after}
 use Rattle.edit_rules.specs.Entries.{scope_words, is_named, scopes_end, entry_place, inserted, cut}
 use Rattle.edit_rules.specs.Edits.{Edit, refused_by, edited, Operation, adding, removing, edit_fault, edited_words, edit_unless, edit_by, edit_within}
@@ -84,18 +87,21 @@ of_large area W n o h = rw (edit_of, le-ltb _ _ h)
 -- the check before an edit, in the work area A₀, which leaves A
 
 module _ (W A₀ : List ℕ) (n : ℕ) where
-  pub opens_small : length A₀ < area_limit → Opens W n (length A₀) (Refused area_refusal 0)
+  pub opens_small : length A₀ < area_limit → Opens W n (length A₀) (Err Area)
   opens_small h o = of_small (length A₀) W n o h
 
   module _ (h : area_limit ≤ length A₀) where
-    pub opens_short : length W < n → Opens W n (length A₀) (Refused words_refusal 0)
+    pub opens_short : length W < n → Opens W n (length A₀) (Err Words)
     opens_short g o = of_large (length A₀) W n o h ∙ within_not W n o g
 
-    pub opens_checked : (A : List ℕ) (c : Checked) → n ≤ length W → Checks (take n W) A₀ A c → Opens W n (length A₀) c
+    pub opens_refused : (A : List ℕ) (e : Refused) → n ≤ length W → Checks (take n W) A₀ A (Err e) → Opens W n (length A₀) (Err e.why)
     unfolding check_of
-    opens_checked A (Refused k at) g p =
-        λ o. of_large (length A₀) W n o h ∙ within_by W n o g ∙ by_refusal W n o k at (p.same ∙ rw (check_of, le-ltb _ _ h))
-    opens_checked A (Accepted l) g p = (h, (g, (A, record { same = sym (p.same ∙ rw (check_of, le-ltb _ _ h)); tables = p.tables })))
+    opens_refused A e g p =
+        λ o. of_large (length A₀) W n o h ∙ within_by W n o g ∙ by_refusal W n o (refusal_number e.why) e.at (p.same ∙ rw (check_of, le-ltb _ _ h))
+
+    pub opens_checked : (A : List ℕ) (l : Layout) → n ≤ length W → Checks (take n W) A₀ A (Ok l) → Opens W n (length A₀) (Ok l)
+    unfolding check_of
+    opens_checked A l g p = (h, (g, (A, record { same = sym (p.same ∙ rw (check_of, le-ltb _ _ h)); tables = p.tables })))
 
     pub cleared : (A B : List ℕ) → length A ≡ length A₀ → drop area_limit A ≡ drop area_limit A₀ → B ≡ area_after A → B ≡ area_after A₀
     unfolding area_after
@@ -103,19 +109,13 @@ module _ (W A₀ : List ℕ) (n : ℕ) where
         let g : area_limit ≤ length A = omega arith in
         z ∙ rw (area_after, le-ltb _ _ g, le-ltb _ _ h, e)
 
-module _ (W A₀ : List ℕ) (n : ℕ) (c : Checked) (p : Opens W n (length A₀) c) where
-  pub opened_reads : (l : Layout) → c ≡ Accepted l → Opens W n (length A₀) (Accepted l)
-  opened_reads l e = subst (Opens W n (length A₀)) e p
+module _ (W A₀ : List ℕ) (n : ℕ) (A : List ℕ) (a : A ≡ area_after A₀) (o : Operation) where
+  pub edit_not : (k : Refusal) → Opens W n (length A₀) (Err k) → EditsIn W n A₀ o W A (record { number = refusal_number k; count = n })
+  edit_not k p = record { edit = edits_not W n (refusal_number k) _ (p o); area = a }
 
-  module _ (A : List ℕ) (a : A ≡ area_after A₀) (o : Operation) where
-    pub edit_not : (k at : ℕ) → c ≡ Refused k at → EditsIn W n A₀ o W A (record { number = k; count = n })
-    edit_not k at e = record { edit = edits_not W n k _ (subst (Opens W n (length A₀)) e p o); area = a }
-
-    pub edit_done : (l : Layout) → c ≡ Accepted l → (X : List ℕ) (r : Edited)
-        → Edits W n (edit_by (take n W) (length W) o (verdict (take n W))) X r → EditsIn W n A₀ o X A r
-    edit_done l e X r d =
-        let q = opened_reads l e in
-        record { edit = subst (λ y. Edits W n y X r) (sym (of_large (length A₀) W n o q.0 ∙ within_by W n o q.1.0)) d; area = a }
+  pub edit_done : (l : Layout) → Opens W n (length A₀) (Ok l) → (X : List ℕ) (r : Edited)
+      → Edits W n (edit_by (take n W) (length W) o (verdict (take n W))) X r → EditsIn W n A₀ o X A r
+  edit_done l q X r d = record { edit = subst (λ y. Edits W n y X r) (sym (of_large (length A₀) W n o q.0 ∙ within_by W n o q.1.0)) d; area = a }
 
 pub record_long : (x : Scope) (R : List ℕ) → R ≡ scope_words x → length R ≡ scope_size
 unfolding scope_words

@@ -1,9 +1,10 @@
 -- What an edit promises.
-use Rattle.std.specs.Prelude.{ℕ, ◌-◌, ◌≤◌, ◌≡◌, List, ◌++◌, length, take}
+use Rattle.std.specs.Prelude.{ℕ, ◌-◌, ◌≤◌, ◌≡◌, List, ◌++◌, length, take, Result, Ok, Err}
 use Rattle.snapshot.specs.Limits.{area_limit}
+use Rattle.snapshot.specs.Refusals.{refusal_number}
+use Rattle.snapshot.specs.declared.layout.Layout.{Layout}
+use Rattle.snapshot.specs.declared.refusal.Refusal.{Refusal}
 use Rattle.accept.specs.Post.{Reads}
-use Rattle.accept.specs.declared.check.Checked.{Checked}
-use Rattle.accept.specs.declared.check.Checked.TheVariants.{Refused, Accepted}
 use Rattle.answer.specs.Answers.{zeros, area_after}
 use Rattle.edit_rules.specs.Edits.{Edit, refused_by, edited, Operation, edit_of}
 use Rattle.edits.specs.declared.edits.Edited.{Edited}
@@ -29,6 +30,11 @@ pub record Edits (W₀ : List ℕ) (n : ℕ) (e : Edit) (W : List ℕ) (r : Edit
   pub count : r.count ≡ count_after n e
   pub words : W ≡ words_after W₀ e
 
+-- the answer for a new count, or for a refusal that leaves n words
+abbrev pub told : ℕ → Result ℕ Refusal → Edited
+told n (Ok m) = record { number = 0; count = m }
+told n (Err k) = record { number = refusal_number k; count = n }
+
 -- A₀ is the work area before the edit, A after it
 pub record EditsIn (W₀ : List ℕ) (n : ℕ) (A₀ : List ℕ) (o : Operation) (W A : List ℕ) (r : Edited) : Type 0 where
   pub edit : Edits W₀ n (edit_of (length A₀) W₀ n o) W r
@@ -36,6 +42,6 @@ pub record EditsIn (W₀ : List ℕ) (n : ℕ) (A₀ : List ℕ) (o : Operation)
 
 -- What the check before an edit of the first n words answers, in a work area of so many words: the number by which every edit is refused,
 -- or the layout of words that can be read.
-abbrev pub Opens : List ℕ → ℕ → ℕ → Checked → Type 0
-Opens W n area (Refused k at) = (o : Operation) → edit_of area W n o ≡ refused_by k
-Opens W n area (Accepted l) = (area_limit ≤ area) × ((n ≤ length W) × ((A : List ℕ) × Reads (take n W) A l))
+abbrev pub Opens : List ℕ → ℕ → ℕ → Result Layout Refusal → Type 0
+Opens W n area (Err k) = (o : Operation) → edit_of area W n o ≡ refused_by (refusal_number k)
+Opens W n area (Ok l) = (area_limit ≤ area) × ((n ≤ length W) × ((A : List ℕ) × Reads (take n W) A l))

@@ -6,9 +6,9 @@ ghost use Rattle.accept.specs.Post.{Reads};
 ghost use Rattle.answer.specs.Answers.{area_after};
 ghost use Rattle.edit_rules.specs.Entries.{entry_of};
 ghost use Rattle.edit_rules.specs.Edits.{adding, removing, edit_by};
-ghost use Rattle.edits.specs.Edits.{Edits, EditsIn, Opens};
+ghost use Rattle.edits.specs.Edits.{Edits, EditsIn, Opens, told};
 
-use accept::check::{Checked, check};
+use accept::check::check;
 use answer::area::clear_front;
 use scope_edits::entries::{add_fault, record_of};
 use scope_edits::moves::{insert, remove};
@@ -16,53 +16,77 @@ use scope_edits::places::{entry_place, scopes_end};
 use snapshot::ids::WordCount;
 use snapshot::kind::Size;
 use snapshot::layout::Layout;
-use snapshot::refusal::{CheckRefusal, Refusal};
+use snapshot::refusal::Refusal;
 
 /// The number by which an edit is refused, 0 for none, and how many words the snapshot has after it.
+// The C interface takes a number and a count.
 #[derive(Clone, Copy)]
 pub struct Edited {
     pub number: usize,
     pub count: usize,
 }
 
+// The new count, or a refusal that leaves so many words.
+fn told(count: usize, r: Result<usize, Refusal>) -> Edited
+    ensures { result ≡ told count r }
+{
+    match r {
+        Ok(count) => Edited { number: 0, count },
+        Err(why) => Edited {
+            number: why.number(),
+            count,
+        },
+    }
+}
+
 // The check of the first words, so many, in a work area that is cleared after it.
-fn opened(words: &[u32], count: usize, area: &mut [u32]) -> Checked
+fn opened(words: &[u32], count: usize, area: &mut [u32]) -> Result<Layout, Refusal>
     ensures opens { Opens words.now count (length area.old) result }
     ensures area_after { area.new ≡ area_after area.old }
 {
     if area.len() < WordCount::AREA {
-        return Checked::Refused(CheckRefusal::AREA, 0);
+        return Err(Refusal::Area);
     }
     if words.len() < count {
         clear_front(area);
-        return Checked::Refused(CheckRefusal::WORDS, 0);
+        return Err(Refusal::Words);
     }
     let c = check(&words[..count], area);
     clear_front(area);
-    c
+    Ok(c?)
 }
 
-// Adds an entry to an accepted snapshot.
-fn add_accepted(words: &mut [u32], count: usize, l: Layout, entry: &[u32; Size::SCOPE]) -> Edited
+// Adds an entry to an accepted snapshot; answers the new count.
+fn add_accepted(
+    words: &mut [u32],
+    count: usize,
+    l: Layout,
+    entry: &[u32; Size::SCOPE],
+) -> Result<usize, Refusal>
     requires { (count ≤ length words.old) × ((A : List ℕ) × Reads (take count words.old) A l) }
     ensures { Edits words.old count (edit_by (take count words.old) (length words.old)
-        (adding (entry_of entry.now)) (verdict (take count words.old))) words.new result }
+        (adding (entry_of entry.now)) (verdict (take count words.old))) words.new (told count result) }
 {
     let slice = words.len();
-    let n = add_fault(&words[..count], l, entry, slice);
-    if n != 0 {
-        return Edited {
-            number: n as usize,
-            count: count,
-        };
-    }
+    add_fault(&words[..count], l, entry, slice)?;
     let at = scopes_end(&words[..count]);
     let added = record_of(entry);
     insert(words, at, count, &added);
-    Edited {
-        number: 0,
-        count: count + Size::SCOPE,
-    }
+    Ok(count + Size::SCOPE)
+}
+
+// The same, of words that are checked first.
+fn add_checked(
+    words: &mut [u32],
+    count: usize,
+    area: &mut [u32],
+    entry: &[u32; Size::SCOPE],
+) -> Result<usize, Refusal>
+    ensures { EditsIn words.old count area.old (adding (entry_of entry.now)) words.new area.new
+        (told count result) }
+{
+    let l = opened(words, count, area)?;
+    add_accepted(words, count, l, entry)
 }
 
 /// Adds an entry to the snapshot in the first words, so many: module, namespace, name, definition, visibility and its number,
@@ -79,34 +103,43 @@ pub fn add_entry(
     ensures { EditsIn words.old count area.old (adding (entry_of entry.now)) words.new
         area.new result }
 {
-    let c = opened(words, count, area);
-    match c {
-        Checked::Refused(n, _) => Edited {
-            number: n as usize,
-            count: count,
-        },
-        Checked::Accepted(l) => add_accepted(words, count, l, entry),
-    }
+    told(count, add_checked(words, count, area, entry))
 }
 
-// Removes an entry from an accepted snapshot.
-fn remove_accepted(words: &mut [u32], count: usize, owner: usize, ns: usize, name: usize) -> Edited
+// Removes an entry from an accepted snapshot; answers the new count.
+fn remove_accepted(
+    words: &mut [u32],
+    count: usize,
+    owner: usize,
+    ns: usize,
+    name: usize,
+) -> Result<usize, Refusal>
     requires { (count ≤ length words.old) × ((s : Snapshot) × (verdict (take count words.old) ≡ accept s)) }
     ensures { Edits words.old count (edit_by (take count words.old) (length words.old)
-        (removing owner ns name) (verdict (take count words.old))) words.new result }
+        (removing owner ns name) (verdict (take count words.old))) words.new (told count result) }
 {
     let at = entry_place(&words[..count], owner, ns, name);
     if count <= at {
-        return Edited {
-            number: Refusal::ENTRY,
-            count: count,
-        };
+        return Err(Refusal::Entry);
     }
     remove(words, at, count);
-    Edited {
-        number: 0,
-        count: count - Size::SCOPE,
-    }
+    Ok(count - Size::SCOPE)
+}
+
+// The same, of words that are checked first.
+fn remove_checked(
+    words: &mut [u32],
+    count: usize,
+    area: &mut [u32],
+    owner: usize,
+    ns: usize,
+    name: usize,
+) -> Result<usize, Refusal>
+    ensures { EditsIn words.old count area.old (removing owner ns name) words.new area.new
+        (told count result) }
+{
+    opened(words, count, area)?;
+    remove_accepted(words, count, owner, ns, name)
 }
 
 /// Removes the entry of a module, a namespace and a name from the snapshot in the first words, so many: the words after its record move
@@ -121,12 +154,5 @@ pub fn remove_entry(
 ) -> Edited
     ensures { EditsIn words.old count area.old (removing owner ns name) words.new area.new result }
 {
-    let c = opened(words, count, area);
-    match c {
-        Checked::Refused(n, _) => Edited {
-            number: n as usize,
-            count: count,
-        },
-        Checked::Accepted(_) => remove_accepted(words, count, owner, ns, name),
-    }
+    told(count, remove_checked(words, count, area, owner, ns, name))
 }

@@ -3,7 +3,7 @@ use Prim.Native.Nat.{ℕ, zero, suc, ◌+◌, ◌≤◌, ◌<◌}
 use mathlib.Core.Path.{◌≡◌, refl, sym, ◌∙◌, ap, ap₂, subst}
 use mathlib.Core.List.{List, [], ◌∷◌}
 use mathlib.Core.Bool.{Bool, true, false, ◌&&◌}
-use mathlib.Core.Option.{Option, none, some}
+use Rattle.std.specs.Prelude.{Option, None, Some}
 use native.Mathlib.Omega.{arith}
 use borrow.Author.Tests.{eqb-true}
 use lib.Dec.{eqb}
@@ -135,12 +135,12 @@ module _ (e : Numbers) (s u : Snapshot) (em : Embeds e s u) (v : Valid s) (w : V
       let t' : eqb b.kind variant_kind ≡ true = ap (λ j. eqb j variant_kind) k ∙ t in
       let first : b.first ≡ e.definitions a.first = first_moved e s u em v d l ∙ rw (first_to, t) in
       let second : b.second ≡ e.names a.second = second_moved e s u em v d l ∙ rw (second_to, t) in
-      subst (λ j. Both VariantAlike (elim j [ true ↦ some a | false ↦ none ]) (variant_of u (Def ns (record { 0 = e.definitions d })))) (sym t)
-      (subst (λ j. Both VariantAlike (some a) (elim j [ true ↦ some b | false ↦ none ])) (sym t') (each (f.0, first, f.1, second))))
+      subst (λ j. Both VariantAlike (elim j [ true ↦ Some a | false ↦ None ]) (variant_of u (Def ns (record { 0 = e.definitions d })))) (sym t)
+      (subst (λ j. Both VariantAlike (Some a) (elim j [ true ↦ Some b | false ↦ None ])) (sym t') (each (f.0, first, f.1, second))))
       (λ t.
       let t' : eqb b.kind variant_kind ≡ false = ap (λ j. eqb j variant_kind) k ∙ t in
-      subst (λ j. Both VariantAlike (elim j [ true ↦ some a | false ↦ none ]) (variant_of u (Def ns (record { 0 = e.definitions d })))) (sym t)
-      (subst (λ j. Both VariantAlike none (elim j [ true ↦ some b | false ↦ none ])) (sym t') neither))
+      subst (λ j. Both VariantAlike (elim j [ true ↦ Some a | false ↦ None ]) (variant_of u (Def ns (record { 0 = e.definitions d })))) (sym t)
+      (subst (λ j. Both VariantAlike None (elim j [ true ↦ Some b | false ↦ None ])) (sym t') neither))
 
   push_variant_alike : {c d : Choice} → Alike e s c d → (a b : Definition) → VariantAlike a b → Alike e s (push_variant s c a) (push_variant u d b)
   unfolding push_variant

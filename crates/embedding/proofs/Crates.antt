@@ -3,7 +3,7 @@ use Prim.Native.Nat.{ℕ, ◌<◌}
 use mathlib.Core.Path.{◌≡◌, sym, ◌∙◌, ap, ap₂, subst}
 use mathlib.Core.List.{List, ◌∷◌, ◌++◌, reverse_aux}
 use mathlib.Core.Bool.{Bool, ◌&&◌, not}
-use mathlib.Core.Option.{some}
+use Rattle.std.specs.Prelude.{Some}
 use lib.Dec.{eqb}
 use lib.ListN.{length}
 use Rattle.snapshot.specs.Records.{Snapshot, Crate, Extern, Dependency}
@@ -37,7 +37,7 @@ module _ {A : Type 0} {R : A → A → Type 0} (p q : A → Bool) (same : (x z :
   first_along (next {x = x} {z = z} {xs = xs} {zs = zs} h r) =
       by_test (p x)
       (λ t. subst (λ o. Both R (first_of p (x ∷ xs)) o) (sym (first_hit q z zs (same x z h ∙ t)))
-      (subst (λ o. Both R o (some z)) (sym (first_hit p x xs t)) (each h)))
+      (subst (λ o. Both R o (Some z)) (sym (first_hit p x xs t)) (each h)))
       (λ t. subst (λ o. Both R (first_of p (x ∷ xs)) o) (sym (first_miss q z zs (same x z h ∙ t)))
       (subst (λ o. Both R o (first_of q zs)) (sym (first_miss p x xs t)) (first_along r)))
 

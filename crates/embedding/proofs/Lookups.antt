@@ -3,7 +3,7 @@ use Prim.Native.Nat.{ℕ, suc, ◌+◌, ◌≤◌, ◌<◌}
 use mathlib.Core.Path.{◌≡◌, refl, sym, ◌∙◌, ap, subst}
 use mathlib.Core.List.{List, [], ◌∷◌}
 use mathlib.Core.Bool.{Bool, true, false, ◌&&◌}
-use mathlib.Core.Option.{Option, none, some}
+use Rattle.std.specs.Prelude.{Option, None, Some}
 use native.Mathlib.Omega.{arith}
 use borrow.Author.Tests.{eqb-true, eqb-false, ne_eqb}
 use lib.Dec.{eqb}
@@ -25,15 +25,15 @@ use Rattle.embedding.proofs.Chains.{eqb_moved}
 
 -- one answer and the other, alike or both none
 pub data Both {A : Type 0} (Alike : A → A → Type 0) : Option A → Option A → Type 0 where
-  neither : Both Alike none none
-  each : {x z : A} → Alike x z → Both Alike (some x) (some z)
+  neither : Both Alike None None
+  each : {x z : A} → Alike x z → Both Alike (Some x) (Some z)
 
 -- lists with elements alike, one after the other
 pub data Along {A : Type 0} (Alike : A → A → Type 0) : List A → List A → Type 0 where
   end : Along Alike [] []
   next : {x z : A} {xs zs : List A} → Alike x z → Along Alike xs zs → Along Alike (x ∷ xs) (z ∷ zs)
 
-pub first_hit : {A : Type 0} (t : A → Bool) (x : A) (xs : List A) → t x ≡ true → first_of t (x ∷ xs) ≡ some x
+pub first_hit : {A : Type 0} (t : A → Bool) (x : A) (xs : List A) → t x ≡ true → first_of t (x ∷ xs) ≡ Some x
 unfolding first_of
 first_hit t x xs e = rw (first_of, e)
 
@@ -55,7 +55,7 @@ module _ {A : Type 0} {P : A → Type 0} {Alike : A → A → Type 0} {Others : 
     first_within (more {x = x} {xs = xs} f fs) (ours {z = z} {zs = zs} a r) =
         by_test (p x)
         (λ t. subst (λ o. Both (Hit P Alike p) (first_of p (x ∷ xs)) o) (sym (first_hit q z zs (same x z f a ∙ t)))
-        (subst (λ o. Both (Hit P Alike p) o (some z)) (sym (first_hit p x xs t)) (each (f, a, t))))
+        (subst (λ o. Both (Hit P Alike p) o (Some z)) (sym (first_hit p x xs t)) (each (f, a, t))))
         (λ t. subst (λ o. Both (Hit P Alike p) (first_of p (x ∷ xs)) o) (sym (first_miss q z zs (same x z f a ∙ t)))
         (subst (λ o. Both (Hit P Alike p) o (first_of q zs)) (sym (first_miss p x xs t)) (first_within fs r)))
     first_within {xs} fs (theirs {z = z} {zs = zs} o r) =

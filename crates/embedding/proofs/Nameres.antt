@@ -3,7 +3,7 @@ use Prim.Native.Nat.{ℕ, suc, ◌<◌}
 use mathlib.Core.Path.{◌≡◌, refl, sym, ◌∙◌, ap, ap₂, subst}
 use mathlib.Core.List.{List, [], ◌∷◌, map}
 use mathlib.Core.Bool.{Bool, true, false, ◌&&◌, ◌||◌, not}
-use mathlib.Core.Option.{Option, none, some}
+use Rattle.std.specs.Prelude.{Option, None, Some}
 use native.Mathlib.Omega.{arith}
 use native.Mathlib.Nat.{zero-add}
 use borrow.Author.Tests.{eq-eqb}
@@ -38,7 +38,7 @@ module _ {A : Type 0} {R : A → A → Type 0} where
   or_both neither q = q
   or_both (each r) q = each r
 
-  some_both : {a b c d : Option A} → Both R a b → Both R c d → Both R (elim a [ some y ↦ some y | none ↦ c ]) (elim b [ some y ↦ some y | none ↦ d ])
+  some_both : {a b c d : Option A} → Both R a b → Both R c d → Both R (elim a [ Some y ↦ Some y | None ↦ c ]) (elim b [ Some y ↦ Some y | None ↦ d ])
   some_both neither q = q
   some_both (each r) q = each r
 

@@ -3,7 +3,7 @@ use Prim.Native.Nat.{ℕ, zero, suc, ◌≤◌, ◌<◌}
 use mathlib.Core.Path.{◌≡◌, refl, sym, ◌∙◌, ap, ap₂, subst}
 use mathlib.Core.List.{List, ◌∷◌, map}
 use mathlib.Core.Bool.{Bool, true, false, ◌&&◌}
-use mathlib.Core.Option.{Option, none, some}
+use Rattle.std.specs.Prelude.{Option, None, Some}
 use native.Mathlib.Omega.{arith}
 use lib.Dec.{eqb, ltb}
 use lib.ListN.{length}
@@ -128,14 +128,14 @@ module _ (e : Numbers) (s u : Snapshot) (em : Embeds e s u) (v : Valid s) (w : V
           each (r.0.target, ap (λ (z : Extern). module_item z.target) r.1 ∙ (module_means c.target r.0.target).1)
 
       externs_by : (b : Bool) {a c : Option Item} → Both Means a c
-          → Both Means (elim b [ true ↦ a | false ↦ none ]) (elim b [ true ↦ c | false ↦ none ])
+          → Both Means (elim b [ true ↦ a | false ↦ None ]) (elim b [ true ↦ c | false ↦ None ])
       externs_by true r = r
       externs_by false r = neither
 
       in_externs_moved : Both Means (in_externs s from ns k) (in_externs u (e.modules from) ns (e.names k))
       unfolding in_externs
       in_externs_moved =
-          subst (λ c. Both Means (in_externs s from ns k) (elim (eqb ns types) [ true ↦ extern_means (extern_named u c (e.names k)) | false ↦ none ]))
+          subst (λ c. Both Means (in_externs s from ns k) (elim (eqb ns types) [ true ↦ extern_means (extern_named u c (e.names k)) | false ↦ None ]))
           (sym (crate_moved e s u em v w from lf))
           (externs_by (eqb ns types) (extern_means_moved (extern_named_moved (crate_of s from) (crate_known e s u em v w from lf))))
 
@@ -146,7 +146,7 @@ module _ (e : Numbers) (s u : Snapshot) (em : Embeds e s u) (v : Valid s) (w : V
       unfolding prelude_means
       prelude_means_moved neither = neither
       prelude_means_moved (each {x = p} {z = q} r) =
-          subst (λ j. Both Means (prelude_means s from ns k (some p)) (prelude_means u (e.modules from) ns (e.names k) (some j))) (sym r.1)
+          subst (λ j. Both Means (prelude_means s from ns k (Some p)) (prelude_means u (e.modules from) ns (e.names k) (Some j))) (sym r.1)
           (entry_or_moved neither (get_like p.target r.0.target ns k h))
 
       in_prelude_of_moved : Both Means (in_prelude_of s from ns k) (in_prelude_of u (e.modules from) ns (e.names k))

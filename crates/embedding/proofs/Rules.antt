@@ -3,7 +3,7 @@ use Prim.Native.Nat.{ℕ, zero, suc, ◌≤◌, ◌<◌}
 use mathlib.Core.Path.{◌≡◌, refl, sym, ◌∙◌, ap, ap₂, subst}
 use mathlib.Core.List.{List}
 use mathlib.Core.Bool.{Bool, true, false, ◌&&◌, ◌||◌, not}
-use mathlib.Core.Option.{Option, none, some}
+use Rattle.std.specs.Prelude.{Option, None, Some}
 use native.Mathlib.Omega.{arith}
 use lib.Dec.{eqb}
 use lib.ListN.{length}
@@ -42,14 +42,14 @@ pub record Sits (s : Snapshot) (x : FindPathCtx) : Type 0 where
 
 -- an answer that is kept by the same test
 kept : {A : Type 0} {R : A → A → Type 0} (a : Bool) (x z : A) → R x z
-    → Both R (elim a [ true ↦ some x | false ↦ none ]) (elim a [ true ↦ some z | false ↦ none ])
+    → Both R (elim a [ true ↦ Some x | false ↦ None ]) (elim a [ true ↦ Some z | false ↦ None ])
 kept true x z r = each r
 kept false x z r = neither
 
 pub kept_same : {A : Type 0} {R : A → A → Type 0} (a b : Bool) → b ≡ a → (x z : A) → R x z
-    → Both R (elim a [ true ↦ some x | false ↦ none ]) (elim b [ true ↦ some z | false ↦ none ])
+    → Both R (elim a [ true ↦ Some x | false ↦ None ]) (elim b [ true ↦ Some z | false ↦ None ])
 kept_same {R = R} a b t x z r =
-    subst (λ y. Both R (elim a [ true ↦ some x | false ↦ none ]) (elim y [ true ↦ some z | false ↦ none ])) (sym t) (kept a x z r)
+    subst (λ y. Both R (elim a [ true ↦ Some x | false ↦ None ]) (elim y [ true ↦ Some z | false ↦ None ])) (sym t) (kept a x z r)
 
 module _ (e : Numbers) (s u : Snapshot) (em : Embeds e s u) (v : Valid s) (w : Valid u) where
   abbrev n : ℕ
@@ -129,7 +129,7 @@ module _ (e : Numbers) (s u : Snapshot) (em : Embeds e s u) (v : Valid s) (w : V
     in_prelude_moved item h neither = neither
     in_prelude_moved item h (each {x = p} {z = q} r) =
         let l = r.0.target in
-        subst (λ k. Both (Like e s u em v w) (in_prelude s x item (some p)) (in_prelude u y (item_to e item) (some k))) (sym r.1)
+        subst (λ k. Both (Like e s u em v w) (in_prelude s x item (Some p)) (in_prelude u y (item_to e item) (Some k))) (sym r.1)
         (prelude_entry_moved item h
         (preferred_moved e s u em v w item h p.target l x.fresh (is_usable s x item) (is_usable u y (item_to e item)) (usable_moved item h)
         (name_like e s u em v w item h p.target l)))
@@ -158,8 +158,8 @@ module _ (e : Numbers) (s u : Snapshot) (em : Embeds e s u) (v : Valid s) (w : V
           let q : d.name ≡ e.names c.name = ap (λ (z : Extern). z.name) r.1 in
           let o = ap (occupied u (e.modules from) (e.modules m)) q ∙ occupied_moved e s u em v w from at.from m c.name l r.0.name in
           let k = ap (λ i. extern_kind u y (i || x.prefer_absolute)) o ∙ extern_kind_same (occupied s from m c.name || x.prefer_absolute) in
-          subst (λ i. Alike e s (extern_name s x m (some c)) (choice_new u i d.name (step_by via_extern d.place))) (sym k)
-          (subst (λ i. Alike e s (extern_name s x m (some c))
+          subst (λ i. Alike e s (extern_name s x m (Some c)) (choice_new u i d.name (step_by via_extern d.place))) (sym k)
+          (subst (λ i. Alike e s (extern_name s x m (Some c))
           (choice_new u (extern_kind s x (occupied s from m c.name || x.prefer_absolute)) i (step_by via_extern d.place))) (sym q)
           (choice_new_alike e s u em (extern_kind s x (occupied s from m c.name || x.prefer_absolute)) c.name (step_by via_extern c.place)
           (step_by via_extern d.place) r.0.name))
@@ -186,7 +186,7 @@ module _ (e : Numbers) (s u : Snapshot) (em : Embeds e s u) (v : Valid s) (w : V
           let b = ap (λ i. eqb (e.modules p) (root_of u i)) (map_moved e s u em v w from at.from) ∙ ap (eqb (e.modules p))
           (em.root (map_no s from) k)
           ∙ modules_compared p (root_of s (map_no s from)) lp (root_known s v (map_no s from) k).0 in
-          λ i. elim (a i) [ true ↦ elim (b i) [ true ↦ some crate_path | false ↦ some super_path ] | false ↦ none ]
+          λ i. elim (a i) [ true ↦ elim (b i) [ true ↦ Some crate_path | false ↦ Some super_path ] | false ↦ None ]
 
       pub kw_kind_moved : is_kw_kind_relative_to_from u y (e.modules m) ≡ is_kw_kind_relative_to_from s x m
       unfolding is_kw_kind_relative_to_from
@@ -196,12 +196,12 @@ module _ (e : Numbers) (s u : Snapshot) (em : Embeds e s u) (v : Valid s) (w : V
           let c = in_block_moved from at.from in
           let d = modules_compared m from l at.from in
           let p = ap (parent_kind u y (e.modules m)) (parent_moved e s u em v w from at.from) ∙ parent_kind_moved (parent_of s from) parent_low in
-          λ i. elim (not (a i) || (b i || c i)) [ true ↦ none | false ↦ elim (d i) [ true ↦ some self_path | false ↦ p i ] ]
+          λ i. elim (not (a i) || (b i || c i)) [ true ↦ None | false ↦ elim (d i) [ true ↦ Some self_path | false ↦ p i ] ]
 
       keyword_of_alike : (k : Option ℕ) → Alike e s (keyword_of s x k) (keyword_of u y k)
       unfolding keyword_of
-      keyword_of_alike none = nothing_alike e s u em
-      keyword_of_alike (some k) =
+      keyword_of_alike None = nothing_alike e s u em
+      keyword_of_alike (Some k) =
           by_same {a = not (eqb x.prefix by_crate) || eqb k crate_path} refl (keyword_alike e s u em k) (nothing_alike e s u em)
 
       -- `find_path_for_module` before its search

@@ -1,6 +1,6 @@
 -- The check's answer as numbers.
 use Prim.Native.Nat.{ℕ, ◌≤◌, ◌<◌}
-use mathlib.Core.Path.{◌≡◌, refl, sym, ◌∙◌, ap, subst}
+use mathlib.Core.Path.{◌≡◌, refl, sym, ◌∙◌, ap, subst, subst⁻¹}
 use mathlib.Core.List.{List, [], ◌∷◌}
 use lib.Dec.{ltb}
 use lib.ListN.{length, drop}
@@ -13,9 +13,10 @@ use Rattle.snapshot.specs.Layouts.{snap_of}
 use Rattle.snapshot.specs.declared.layout.Layout.{Layout}
 use Rattle.snapshot.proofs.Laws.{length_rows}
 use Rattle.check_rules.specs.Verdict.{Verdict, refuse, accept, verdict, empty}
-use Rattle.accept.specs.Post.{Checks, check_of}
-use Rattle.accept.specs.declared.check.Checked.{Checked}
-use Rattle.accept.specs.declared.check.Checked.TheVariants.{Refused, Accepted}
+use Rattle.std.specs.Prelude.{Ok, Err}
+use Rattle.snapshot.specs.Refusals.{refusal_number}
+use Rattle.accept.specs.Post.{Checked, Checks, check_of}
+use Rattle.accept.specs.declared.check.Refused.{Refused}
 use Rattle.accept.proofs.Accepted.{by_test}
 use Rattle.answer.specs.Answers.{area_after}
 use Rattle.asked.specs.StillChecked.{counted, StillChecked}
@@ -58,22 +59,23 @@ area_used A₀ A n d u =
     (λ t. rw (area_after, n, t, d))
 
 module _ (W A₀ A : List ℕ) (r : Checked) (k : Checks W A₀ A r) where
-  pub answered_refused : (B : List ℕ) → length A ≡ length A₀ → B ≡ area_after A → (n at : ℕ) → r ≡ Refused n at
-      → Answered W A₀ B (n ∷ at ∷ 0 ∷ 0 ∷ 0 ∷ 0 ∷ 0 ∷ 0 ∷ 0 ∷ 0 ∷ 0 ∷ 0 ∷ 0 ∷ 0 ∷ []) n
-  answered_refused B l c n at e =
-      let q : Checks W A₀ A (Refused n at) = subst (Checks W A₀ A) e k in
-      record {
+  pub answered_refused : (B : List ℕ) → length A ≡ length A₀ → B ≡ area_after A → (f : Refused) (n : ℕ) → n ≡ refusal_number f.why → r ≡ Err f
+      → Answered W A₀ B (n ∷ f.at ∷ 0 ∷ 0 ∷ 0 ∷ 0 ∷ 0 ∷ 0 ∷ 0 ∷ 0 ∷ 0 ∷ 0 ∷ 0 ∷ 0 ∷ []) n
+  answered_refused B l c f n g e =
+      let q : Checks W A₀ A (Err f) = subst (Checks W A₀ A) e k in
+      subst⁻¹ (λ (m : ℕ). Answered W A₀ B (m ∷ f.at ∷ 0 ∷ 0 ∷ 0 ∷ 0 ∷ 0 ∷ 0 ∷ 0 ∷ 0 ∷ 0 ∷ 0 ∷ 0 ∷ 0 ∷ []) m) g
+      (record {
         same = ap answer_of q.same;
         number = ap number_of q.same;
-        tables = λ s h. absurd (apart n at s (q.same ∙ h));
-        rest = λ s h. absurd (apart n at s (q.same ∙ h));
+        tables = λ s h. absurd (apart (refusal_number f.why) f.at s (q.same ∙ h));
+        rest = λ s h. absurd (apart (refusal_number f.why) f.at s (q.same ∙ h));
         cleared = λ m p h. c ∙ area_used A₀ A l q.rest q.untouched;
-      }
+      })
 
-  pub answered_accepted : (l : Layout) → r ≡ Accepted l
+  pub answered_accepted : (l : Layout) → r ≡ Ok l
       → Answered W A₀ A (counted l) 0
   answered_accepted l e =
-      let q : Checks W A₀ A (Accepted l) = subst (Checks W A₀ A) e k in
+      let q : Checks W A₀ A (Ok l) = subst (Checks W A₀ A) e k in
       record {
         same = counted_same W A l ∙ ap answer_of q.same;
         number = ap number_of q.same;

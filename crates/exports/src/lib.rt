@@ -21,6 +21,7 @@ ghost use Rattle.questions.specs.Questions.{question_of};
 ghost use Rattle.reports.specs.Written.{report_size};
 ghost use Rattle.edit_rules.specs.Edits.{adding, removing};
 ghost use Rattle.edit_rules.specs.Entries.{entry_of};
+ghost use Rattle.snapshot.specs.Refusals.{fault_number};
 ghost use Rattle.snapshot.specs.Layouts.{table_words};
 ghost use Rattle.windows.specs.Windows.{Placed};
 
@@ -28,10 +29,10 @@ mod lent;
 mod text;
 mod viewer;
 
-use crate::lent::{place_in, turn_in};
+use crate::lent::turn_in;
 use crate::text::{copy_text, held};
 use crate::viewer::viewer_of;
-use accept::check::{Checked, check};
+use accept::check::check;
 use answer::answer::find_path;
 use answer::area::clear_front;
 use answer::report::write_report;
@@ -50,18 +51,29 @@ use reach_answer::find_reach;
 use reports::report::ReportWords;
 use snapshot::ids::{Crate, Name};
 use snapshot::kind::Size;
+use snapshot::refusal::Refusal;
 use snapshot::table::{Tables, name_head};
 use snapshot::text::text_at;
 use snapshot::words::payload;
 use window_state::words::{windows_of, words_of};
+use windows::values::placed;
 
 /// The format of snapshots, questions and states.
-#[derive(Clone, Copy)]
-pub struct Format(pub usize);
+pub struct Format;
 
 impl Format {
     /// One more whenever a program that was built for the one before could be misled.
     pub const VERSION: usize = 2;
+}
+
+// The number of a refusal, 0 for none.
+fn number_of(r: Result<(), Refusal>) -> usize
+    ensures { result ≡ fault_number r }
+{
+    match r {
+        Ok(()) => 0,
+        Err(why) => why.number(),
+    }
 }
 
 /// Checks a snapshot, and leaves the tables of accepted words in the work area; after a refusal the area is as after every other call. Answers
@@ -74,15 +86,14 @@ pub extern "C" fn kelumavor_check(
 ) -> usize
     ensures { Answered words.now area.old area.new answer.new result }
 {
-    let c = check(words, area);
-    match c {
-        Checked::Refused(n, at) => {
+    match check(words, area) {
+        Err(no) => {
             clear_front(area);
-            let number = n as usize;
-            *answer = [number, at, 0, 0, 0, 0, 0, 0, 0, 0, 0, 0, 0, 0];
+            let number = no.why.number();
+            *answer = [number, no.at, 0, 0, 0, 0, 0, 0, 0, 0, 0, 0, 0, 0];
             number
         }
-        Checked::Accepted(l) => {
+        Ok(l) => {
             *answer = [
                 0,
                 0,
@@ -176,7 +187,7 @@ pub extern "C" fn kelumavor_find_paths(
     ensures { Batch words.now area.old questions.now reports.old area.new
         reports.new result }
 {
-    find_paths(words, area, questions, reports)
+    number_of(find_paths(words, area, questions, reports))
 }
 
 /// How many words at the front of the work area are the tables that the check of accepted words leaves there. An area with a copy of them
@@ -219,7 +230,7 @@ pub extern "C" fn kelumavor_find_paths_checked(
     ensures { AskedEach words.now area.old counts.now questions.now
         reports.old area.new reports.new result }
 {
-    find_paths_checked(words, area, counts, questions, reports)
+    number_of(find_paths_checked(words, area, counts, questions, reports))
 }
 
 /// Places a question for one of the eight windows whose state the caller lends; 65 zeros are the state in which none waits. Answers 0,
@@ -233,11 +244,13 @@ pub extern "C" fn kelumavor_place(
 ) -> usize
     ensures { Placed state.old window (question_of question.now) state.new result }
 {
-    let p = place_in(windows_of(*state), window, question);
-    let windows = p.windows;
-    let words = words_of(windows);
-    *state = words;
-    p.number
+    match placed(windows_of(*state), window, question) {
+        Ok(windows) => {
+            *state = words_of(windows);
+            0
+        }
+        Err(why) => why.number(),
+    }
 }
 
 /// Serves the next window that waits, on a snapshot, and writes the report of its question. Answers the window, or 8 where no question
@@ -352,7 +365,7 @@ pub extern "C" fn kelumavor_join(
 pub extern "C" fn kelumavor_join_numbers(first: &[u32], second: &[u32], area: &mut [u32]) -> usize
     ensures { NewNumbers first.now second.now area.old area.new result }
 {
-    new_numbers(first, second, area)
+    number_of(new_numbers(first, second, area))
 }
 
 /// The number that a name of the second snapshot has in the two joined, from the area that `kelumavor_join_numbers` left.

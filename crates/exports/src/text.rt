@@ -21,9 +21,7 @@ pub(crate) fn copy_text(out: &mut [u8], text: &[u32], n: usize)
     requires { (n ≤ length out.old) × (n ≤ 3 * length text.now) }
     ensures { out.new ≡ take n (unpacked text.now) ++ drop n out.old }
 {
-    let mut i = 0;
-    while i < n {
+    for i in 0..n {
         out[i] = text_byte(text, i);
-        i += 1;
     }
 }

@@ -1,6 +1,6 @@
 -- The rules that charge, over any meter.
 use Rattle.std.specs.Prelude.{ℕ, zero, suc, Bool, true, false, ◌&&◌, List, [], ◌∷◌, ◌==◌}
-use Rattle.std.proofs.Math.Option.{Option, none, some}
+use Rattle.std.specs.Prelude.{Option, None, Some}
 use Rattle.snapshot.specs.Records.{Snapshot, Dependency, Definition, Import}
 use Rattle.hir_def.specs.Items.{types, variant_kind, crate_of, definition_of, item_of, home_of, module_item}
 use Rattle.hir_def.specs.Nameres.{dependencies_of, lang_of, sysroot_first}
@@ -42,8 +42,8 @@ langs true = 1 ∷ 2 ∷ 3 ∷ []
 langs false = 3 ∷ 1 ∷ 2 ∷ []
 
 unfoldable pub one_or_none : Option Dependency → List Dependency
-one_or_none none = []
-one_or_none (some d) = d ∷ []
+one_or_none None = []
+one_or_none (Some d) = d ∷ []
 
 -- the home is in the crate
 unfoldable pub is_at : Snapshot → ℕ → ℕ → Bool
@@ -52,8 +52,8 @@ is_at s (suc h) c = crate_of s h == c
 
 -- the item's definition, if it is a variant
 unfoldable pub variant_of : Snapshot → Item → Option Definition
-variant_of s (Mod m) = none
-variant_of s (Def ns d) = elim ((definition_of s d.0).kind == variant_kind) [ true ↦ some (definition_of s d.0) | false ↦ none ]
+variant_of s (Mod m) = None
+variant_of s (Def ns d) = elim ((definition_of s d.0).kind == variant_kind) [ true ↦ Some (definition_of s d.0) | false ↦ None ]
 
 -- a variant's name after the path of its enum
 unfoldable pub push_variant : Snapshot → Choice → Definition → Choice
@@ -127,8 +127,8 @@ module _ (M : Type 0) (charge : Charge M) (s : Snapshot) (x : FindPathCtx) (here
 
   -- a variant is its enum's path and its name, else searched like any other item, with the meter that its enum left
   unfoldable pub via_enum : Search M → Inner M → Item → M → Option Definition → Out M
-  via_enum rec inner item t none = calculate_best_path rec x.max_len item t
-  via_enum rec inner item t (some v) =
+  via_enum rec inner item t None = calculate_best_path rec x.max_len item t
+  via_enum rec inner item t (Some v) =
       let o = inner (item_of s types v.first) t in
       after_enum rec item v o o.choice.found
 

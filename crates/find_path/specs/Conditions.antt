@@ -1,5 +1,5 @@
 -- What the code of the search relies on, and what it leaves.
-use Rattle.std.specs.Prelude.{◌≡◌, ℕ, ◌<◌, ◌≤◌, List, length, take}
+use Rattle.std.specs.Prelude.{◌≡◌, ℕ, ◌<◌, ◌≤◌, List, length, take, Option, None, Some, Result, Ok, Err}
 use Rattle.snapshot.specs.Limits.{path_limit, area_limit}
 use Rattle.snapshot.specs.Records.{scope_at}
 use Rattle.snapshot.specs.Layouts.{table_words}
@@ -10,12 +10,8 @@ use Rattle.accept.specs.Valid.{ScopeFits}
 use Rattle.hir_def.specs.Items.{ns_of}
 use Rattle.hir_def.specs.Entries.{Known}
 use Rattle.hir_def.specs.declared.Item.{Item}
-use Rattle.hir_def.specs.declared.Entry.{Entry}
-use Rattle.hir_def.specs.declared.Entry.TheVariants.{At, Nothing}
 use Rattle.path_choices.specs.declared.Choice.{Choice}
 use Rattle.find_path.specs.declared.Tank.{Tank}
-use Rattle.find_path.specs.declared.Drawn.{Drawn}
-use Rattle.find_path.specs.declared.Drawn.TheVariants.{Go, Stop}
 use Rattle.find_path.specs.declared.Found.{Found}
 use Rattle.find_path.specs.declared.FindPathCtx.{FindPathCtx}
 use Rattle.find_path.specs.Meters.{Charged, go, stop}
@@ -34,14 +30,14 @@ abbrev pub Asked : Layout → Item → Type 0
 Asked l item = Known l item × (ns_of item ≤ 2)
 
 -- a scope entry that is answered is in range
-abbrev pub EntryFits : List ℕ → Layout → Entry → Type 0
-EntryFits W l (At h) = ScopeFits (counts_in l) (scope_at W h)
-EntryFits W l Nothing = Unit {0}
+abbrev pub EntryFits : List ℕ → Layout → Option ℕ → Type 0
+EntryFits W l (Some h) = ScopeFits (counts_in l) (scope_at W h)
+EntryFits W l None = Unit {0}
 
 -- what the code's charge answers, as the meter's
-unfoldable pub charged_by : Drawn → Charged Tank
-charged_by (Go t) = go t
-charged_by (Stop t) = stop t
+unfoldable pub charged_by : Result Tank Tank → Charged Tank
+charged_by (Ok t) = go t
+charged_by (Err t) = stop t
 
 -- A local search answers the choice, and the tables stay.
 pub record Chosen (A₀ : List ℕ) (c : Choice) (A : List ℕ) (r : Choice) : Type 0 where

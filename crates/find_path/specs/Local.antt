@@ -1,6 +1,6 @@
 -- The local search, which is never charged: its module search has maybe_extern = false.
 use Rattle.std.specs.Prelude.{ℕ, zero, suc, Bool, true, false, not, ◌&&◌, ◌||◌, List, [], ◌∷◌, ◌++◌, ◌==◌}
-use Rattle.std.proofs.Math.Option.{Option, none, some}
+use Rattle.std.specs.Prelude.{Option, None, Some}
 use Rattle.snapshot.specs.Records.{Snapshot, Scope}
 use Rattle.tree_rules.specs.Visibility.{sees}
 use Rattle.hir_def.specs.ItemScope.{is_declared, name_of, preferred}
@@ -29,16 +29,16 @@ module _ (s : Snapshot) (x : FindPathCtx) where
   is_importable e = sees s x.from.0 e && (is_declared e || not (e.visibility == 3))
 
   unfoldable pub entry_if : Option Scope → Option Scope
-  entry_if none = none
-  entry_if (some e) = elim (is_importable e) [ true ↦ some e | false ↦ none ]
+  entry_if None = None
+  entry_if (Some e) = elim (is_importable e) [ true ↦ Some e | false ↦ None ]
 
   -- the entry by which the viewer can import the item from the module; by bit 32 the first such one that isn't deprecated, if there is one
   unfoldable pub importable_name : Item → ℕ → Option Scope
   importable_name item m = entry_if (preferred x.fresh s m item is_importable (name_of s m item))
 
   unfoldable pub location : LocalSearch → ℕ → List Level → Choice → ℕ → Option Scope → Choice
-  location rec left ls best m none = best
-  location rec left ls best m (some e) = offer_entry best (rec (length_left left best) ls m) e
+  location rec left ls best m None = best
+  location rec left ls best m (Some e) = offer_entry best (rec (length_left left best) ls m) e
 
   -- Each location in turn; `done` are the modules before it. While m is searched, (item, m) and those are visited.
   unfoldable pub each_location : LocalSearch → ℕ → List Level → Item → List ℕ → Choice → List ℕ → Choice

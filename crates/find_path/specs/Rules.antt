@@ -1,6 +1,6 @@
 -- The rules that answer without a search, and what is set for a question.
 use Rattle.std.specs.Prelude.{ℕ, zero, suc, ◌+◌, ◌/◌, ◌%◌, Bool, true, false, not, ◌&&◌, ◌||◌, List, [], ◌∷◌, ◌==◌, slice_index_or}
-use Rattle.std.proofs.Math.Option.{Option, none, some}
+use Rattle.std.specs.Prelude.{Option, None, Some}
 use Rattle.snapshot.specs.Records.{Snapshot, Scope, Prelude, Extern}
 use Rattle.hir_def.specs.Items.{map_no, map_of, crate_of, crate_data, parent_of, in_block, root_of, crate_root, is_lang, item_of, same_item, ns_of, module_item}
 use Rattle.tree_rules.specs.Visibility.{sees}
@@ -9,8 +9,6 @@ use Rattle.hir_def.specs.Nameres.{scope_entry, entry_named, occupied, prelude_of
 use Rattle.hir_def.specs.declared.Item.{Item}
 use Rattle.hir_def.specs.declared.Item.TheVariants.{Mod, Def}
 use Rattle.path_choices.specs.declared.Choice.{Choice}
-use Rattle.find_path.specs.declared.KwKind.{KwKind}
-use Rattle.find_path.specs.declared.KwKind.TheVariants.{Kw, NoKw}
 use Rattle.find_path.specs.declared.FindPathCtx.{FindPathCtx}
 use Rattle.find_path.specs.declared.Query.{Query}
 use Rattle.path_choices.specs.Choices.{plain_path, self_path, super_path, crate_path, absolute_path, via_scope, via_prelude, via_extern, step_by, nothing}
@@ -74,16 +72,11 @@ unfoldable pub first_found : List Choice → Choice
 first_found [] = nothing
 first_found (c ∷ cs) = elim c.found [ true ↦ c | false ↦ first_found cs ]
 
--- the path kind of a keyword, 1 `self`, 2 `super` or 3 `crate`, or no keyword
-unfoldable pub keyword_kind : KwKind → Option ℕ
-keyword_kind (Kw k) = some k
-keyword_kind NoKw = none
-
 module _ (s : Snapshot) (x : FindPathCtx) where
   -- the single name of an entry, by a rule, or nothing
   unfoldable pub single : ℕ → ℕ → Option Scope → Choice
-  single kind rule none = nothing
-  single kind rule (some e) = choice_new s kind e.name (step_by rule e.place)
+  single kind rule None = nothing
+  single kind rule (Some e) = choice_new s kind e.name (step_by rule e.place)
 
   -- `find_in_scope`: the item's entry in the viewing module, or around its blocks; imports only where they count, old names last by bit 32
   unfoldable pub find_in_scope : Item → Option Scope
@@ -99,20 +92,20 @@ module _ (s : Snapshot) (x : FindPathCtx) where
 
   -- the name means the item here, or nothing
   unfoldable pub same_here : Item → Option Scope → Bool
-  same_here item none = true
-  same_here item (some e) = same_item (item_of s e.ns e.definition) item
+  same_here item None = true
+  same_here item (Some e) = same_item (item_of s e.ns e.definition) item
 
   -- the tests of the prelude rule: visible, and its name is not another thing's here
   abbrev pub is_usable : Item → Scope → Bool
   is_usable item e = sees s x.from.0 e && same_here item (entry_named s x.from.0 (ns_of item) e.name)
 
   unfoldable pub prelude_entry : Item → Option Scope → Option Scope
-  prelude_entry item none = none
-  prelude_entry item (some e) = elim (is_usable item e) [ true ↦ some e | false ↦ none ]
+  prelude_entry item None = None
+  prelude_entry item (Some e) = elim (is_usable item e) [ true ↦ Some e | false ↦ None ]
 
   unfoldable pub in_prelude : Item → Option Prelude → Option Scope
-  in_prelude item none = none
-  in_prelude item (some p) = prelude_entry item (preferred x.fresh s p.target item (is_usable item) (name_of s p.target item))
+  in_prelude item None = None
+  in_prelude item (Some p) = prelude_entry item (preferred x.fresh s p.target item (is_usable item) (name_of s p.target item))
 
   -- `find_in_prelude`: the item's first entry in the prelude, if visible and not another thing's name here; by bit 32 the first such
   -- entry that isn't deprecated, if there is one
@@ -127,8 +120,8 @@ module _ (s : Snapshot) (x : FindPathCtx) where
   extern_kind false = plain_path
 
   unfoldable pub extern_name : ℕ → Option Extern → Choice
-  extern_name m none = nothing
-  extern_name m (some e) = choice_new s (extern_kind (occupied s x.from.0 m e.name || x.prefer_absolute)) e.name
+  extern_name m None = nothing
+  extern_name m (Some e) = choice_new s (extern_kind (occupied s x.from.0 m e.name || x.prefer_absolute)) e.name
       (step_by via_extern e.place)
 
   -- a crate's root is `crate`, in the viewer's crate or where no extern may be used; else its extern name
@@ -145,25 +138,25 @@ module _ (s : Snapshot) (x : FindPathCtx) where
 
   -- the module is the parent of the viewer's
   unfoldable pub parent_kind : ℕ → ℕ → Option ℕ
-  parent_kind m zero = none
+  parent_kind m zero = None
   parent_kind m (suc p) =
       elim (m == p) [
-        | true ↦ elim (p == root_of s (map_no s x.from.0)) [ true ↦ some crate_path | false ↦ some super_path ]
-        | false ↦ none
+        | true ↦ elim (p == root_of s (map_no s x.from.0)) [ true ↦ Some crate_path | false ↦ Some super_path ]
+        | false ↦ None
       ]
 
   -- `is_kw_kind_relative_to_from`: the viewer's own module, or its parent, where neither is in a block
   unfoldable pub is_kw_kind_relative_to_from : ℕ → Option ℕ
   is_kw_kind_relative_to_from m =
       elim (not (crate_of s m == crate_of s x.from.0) || (in_block s m || in_block s x.from.0)) [
-        | true ↦ none
-        | false ↦ elim (m == x.from.0) [ true ↦ some self_path | false ↦ parent_kind m (parent_of s x.from.0) ]
+        | true ↦ None
+        | false ↦ elim (m == x.from.0) [ true ↦ Some self_path | false ↦ parent_kind m (parent_of s x.from.0) ]
       ]
 
   -- ByCrate takes no keyword but `crate`
   unfoldable pub keyword_of : Option ℕ → Choice
-  keyword_of none = nothing
-  keyword_of (some k) = elim (not (x.prefix == by_crate) || k == crate_path) [ true ↦ keyword k | false ↦ nothing ]
+  keyword_of None = nothing
+  keyword_of (Some k) = elim (not (x.prefix == by_crate) || k == crate_path) [ true ↦ keyword k | false ↦ nothing ]
 
   -- `find_path_for_module` before its search: root, extern, scope, keyword, prelude, in this order
   unfoldable pub module_rules : Bool → ℕ → Choice

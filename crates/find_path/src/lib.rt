@@ -5,7 +5,7 @@ pub use path_choices::Choice;
 use snapshot::ids::{Crate, DefinitionId, ModuleId};
 
 // What is set once for a question, after the Rust's `FindPathCtx` and its config; `fresh` is old names last; `own` is the module asked for, +1,
-// or 0 where the item is no module; `max_len` is the length left at the start.
+// or 0 where the item is no module; `max_len` is the length left at the start; `prefix` is the question's number.
 #[derive(Clone, Copy)]
 pub struct FindPathCtx {
     pub prefix: usize,
@@ -23,13 +23,6 @@ pub struct FindPathCtx {
     pub max_len: usize,
 }
 
-// The path kind of a keyword, or no keyword.
-#[derive(Clone, Copy)]
-pub enum KwKind {
-    Kw(usize),
-    NoKw,
-}
-
 // The fuel left, the charges so far, and whether a charge found no fuel. Of the first that found none: the length left, and the module
 // that it looked for, +1, or 0 for the question's own item or its enum.
 #[derive(Clone, Copy)]
@@ -41,13 +34,6 @@ pub struct Tank {
     pub sought: usize,
 }
 
-// What a charge leaves: it goes on, or stops.
-#[derive(Clone, Copy)]
-pub enum Drawn {
-    Go(Tank),
-    Stop(Tank),
-}
-
 // What a search answers: its choice, and the tank that it leaves.
 #[derive(Clone, Copy)]
 pub struct Found {
@@ -56,7 +42,7 @@ pub struct Found {
 }
 
 // A question without its fuel: the item's namespace and definition, the viewing module, prefix, options, and the limit, the length
-// left at the start.
+// left at the start. The C question holds numbers, and any number may stand in it.
 #[derive(Clone, Copy)]
 pub struct Query {
     pub ns: usize,
@@ -75,20 +61,17 @@ pub struct Question {
 }
 
 /// Outcomes of a report.
-#[derive(Clone, Copy)]
-pub struct Outcome(pub usize);
-
-impl Outcome {
-    pub const FOUND: usize = 0;
-
-    pub const NONE: usize = 1;
-
-    pub const REFUSED: usize = 2;
+#[derive(Clone, Copy, PartialEq, Eq)]
+pub enum Outcome {
+    Found,
+    None,
+    Refused,
     /// A path was found that means another thing in the viewing module, or nothing.
-    pub const MISLEADS: usize = 3;
+    Misleads,
 }
 
 // A report: an outcome, and the number of a refusal; then the path, the charges, and empty 0 or 1;
+// the C report holds numbers, for `outcome` an `Outcome` and for `kind` a `PathKind`;
 // `left` and `sought` are those of the first charge that found the tank empty, 0 where none did; `route` and `steps` are the path's.
 #[derive(Clone, Copy)]
 pub struct Report {

@@ -3,7 +3,7 @@ use Prim.Native.Nat.{ℕ, suc, ◌<◌}
 use mathlib.Core.Path.{◌≡◌, sym, ◌∙◌, ap}
 use mathlib.Core.List.{[], ◌∷◌}
 use mathlib.Core.Bool.{Bool, true, false}
-use mathlib.Core.Option.{Option, none, some}
+use Rattle.std.specs.Prelude.{Option, None, Some}
 use lib.ListN.{length}
 use Rattle.snapshot.specs.Lists.{any}
 use Rattle.snapshot.specs.Records.{Snapshot}
@@ -27,15 +27,15 @@ module _ (step : ℕ → ℕ) (n : ℕ) (falls : Falls step n) (m : ℕ) (h : m 
 
   -- the first answer
   module _ {B : Type 0} (f : ℕ → Option B) where
-    pub first_here : {y : B} → f m ≡ some y → some y ≡ first_some f (m ∷ steps step m)
+    pub first_here : {y : B} → f m ≡ Some y → Some y ≡ first_some f (m ∷ steps step m)
     unfolding first_some
     first_here e = rw (first_some, e)
 
-    pub first_end : f m ≡ none → step m ≡ 0 → none ≡ first_some f (m ∷ steps step m)
+    pub first_end : f m ≡ None → step m ≡ 0 → None ≡ first_some f (m ∷ steps step m)
     unfolding first_some
     first_end e z = sym (ap (first_some f) (around_last z) ∙ rw (first_some, e))
 
-    pub first_on : f m ≡ none → (p : ℕ) → step m ≡ suc p → first_some f (m ∷ steps step m) ≡ first_some f (p ∷ steps step p)
+    pub first_on : f m ≡ None → (p : ℕ) → step m ≡ suc p → first_some f (m ∷ steps step m) ≡ first_some f (p ∷ steps step p)
     unfolding first_some
     first_on e p q = ap (first_some f) (around_on p q) ∙ rw (first_some, e)
 
@@ -57,15 +57,15 @@ module _ (step : ℕ → ℕ) (n : ℕ) (falls : Falls step n) (m : ℕ) (h : m 
 module _ (s : Snapshot) (falls : Falls (block_of s) (length s.modules)) (m : ℕ) (h : m < length s.modules) where
   -- the first answer
   module _ {B : Type 0} (f : ℕ → Option B) where
-    pub answer_here : {y : B} → f m ≡ some y → some y ≡ first_some f (ancestor_maps s m)
+    pub answer_here : {y : B} → f m ≡ Some y → Some y ≡ first_some f (ancestor_maps s m)
     unfolding ancestor_maps
     answer_here e = first_here (block_of s) (length s.modules) falls m h f e
 
-    pub answer_none : f m ≡ none → block_of s m ≡ 0 → none ≡ first_some f (ancestor_maps s m)
+    pub answer_none : f m ≡ None → block_of s m ≡ 0 → None ≡ first_some f (ancestor_maps s m)
     unfolding ancestor_maps
     answer_none e z = first_end (block_of s) (length s.modules) falls m h f e z
 
-    pub answer_on : f m ≡ none → (p : ℕ) → block_of s m ≡ suc p → first_some f (ancestor_maps s m) ≡ first_some f (ancestor_maps s p)
+    pub answer_on : f m ≡ None → (p : ℕ) → block_of s m ≡ suc p → first_some f (ancestor_maps s m) ≡ first_some f (ancestor_maps s p)
     unfolding ancestor_maps
     answer_on e p q = first_on (block_of s) (length s.modules) falls m h f e p q
 

@@ -1,9 +1,9 @@
 -- Passed on.
 pub use Rattle.module_tree.proofs.Climbs.{
   one_more_lem,
-  is_some,
-  is_none,
-  some_not,
+  some_number,
+  none_number,
+  some_exact,
   climb_here,
   climb_top,
   climb_on,
@@ -16,5 +16,4 @@ pub use Rattle.module_tree.proofs.Climbs.{
   in_walk,
   visible_public,
   visible_crate,
-  visible_module,
 }

@@ -3,7 +3,7 @@ use Prim.Native.Nat.{ℕ, suc, ◌+◌, ◌*◌, ◌^◌, ◌<◌}
 use mathlib.Core.Path.{◌≡◌, refl, sym, subst, ap, ◌∙◌}
 use mathlib.Core.List.{List, reverse_aux}
 use mathlib.Core.Bool.{Bool, ◌&&◌}
-use mathlib.Core.Option.{some}
+use Rattle.std.specs.Prelude.{Some}
 use native.Mathlib.Omega.{arith}
 use lib.Dec.{eqb}
 use lib.ListN.{length}
@@ -46,35 +46,35 @@ module _ (W A : List ℕ) (l : Layout) (r : Reads W A l) where
   ranges = ranges_read W A l valid
 
   -- the record that a lookup places
-  pub name_fits : (m h : ℕ) (item : Item) → some (scope_at W h) ≡ name_of (snap_of W A l) m item → ScopeFits (counts_in l) (scope_at W h)
+  pub name_fits : (m h : ℕ) (item : Item) → Some (scope_at W h) ≡ name_of (snap_of W A l) m item → ScopeFits (counts_in l) (scope_at W h)
   unfolding name_of
   name_fits m h item e = each_first _ _ ranges.scopes (sym e)
 
-  pub names_fits : (m h : ℕ) (item : Item) (p : Scope → Bool) → some (scope_at W h) ≡ names_of (snap_of W A l) m item p
+  pub names_fits : (m h : ℕ) (item : Item) (p : Scope → Bool) → Some (scope_at W h) ≡ names_of (snap_of W A l) m item p
       → ScopeFits (counts_in l) (scope_at W h)
   unfolding names_of
   names_fits m h item p e = each_first _ _ ranges.scopes (sym e)
 
   pub preferred_fits : (b : Bool) (m h : ℕ) (item : Item) (p : Scope → Bool)
-      → some (scope_at W h) ≡ preferred b (snap_of W A l) m item p (name_of (snap_of W A l) m item)
+      → Some (scope_at W h) ≡ preferred b (snap_of W A l) m item p (name_of (snap_of W A l) m item)
       → ScopeFits (counts_in l) (scope_at W h)
   preferred_fits b m h item p e =
       preferred_has (snap_of W A l) m item p (name_of (snap_of W A l) m item) 0 (ScopeFits (counts_in l)) b (scope_at W h)
       (λ f. names_fits m h item (is_fresh p) (sym f)) (λ f. name_fits m h item (sym f)) (sym e)
 
-  pub get_fits : (m ns name h : ℕ) → some (scope_at W h) ≡ get (snap_of W A l) m ns name → ScopeFits (counts_in l) (scope_at W h)
+  pub get_fits : (m ns name h : ℕ) → Some (scope_at W h) ≡ get (snap_of W A l) m ns name → ScopeFits (counts_in l) (scope_at W h)
   unfolding get
   get_fits m ns name h e = each_first _ _ ranges.scopes (sym e)
 
-  pub prelude_fits : (k h : ℕ) → some (prelude_at W h) ≡ prelude_of (snap_of W A l) k → PreludeFits (counts_in l) (prelude_at W h)
+  pub prelude_fits : (k h : ℕ) → Some (prelude_at W h) ≡ prelude_of (snap_of W A l) k → PreludeFits (counts_in l) (prelude_at W h)
   unfolding prelude_of
   prelude_fits k h e = each_first _ _ ranges.preludes (sym e)
 
-  pub extern_fits : (c m h : ℕ) → some (extern_at W h) ≡ extern_of (snap_of W A l) c m → ExternFits (counts_in l) (extern_at W h)
+  pub extern_fits : (c m h : ℕ) → Some (extern_at W h) ≡ extern_of (snap_of W A l) c m → ExternFits (counts_in l) (extern_at W h)
   unfolding extern_of
   extern_fits c m h e = each_first {P = ExternFits (counts_in l)} _ _ (search (ranges.externs, each_back, Each.none)) (sym e)
 
-  pub lang_fits : (c lang h : ℕ) → some (dependency_at W h) ≡ lang_of (snap_of W A l) c lang → DependencyFits (counts_in l) (dependency_at W h)
+  pub lang_fits : (c lang h : ℕ) → Some (dependency_at W h) ≡ lang_of (snap_of W A l) c lang → DependencyFits (counts_in l) (dependency_at W h)
   unfolding lang_of dependencies_of
   lang_fits c lang h e = each_first _ _ (each_select _ ranges.dependencies) (sym e)
 

@@ -4,18 +4,18 @@ use Prim.Native.Nat.{ℕ, suc, ◌+◌}
 use native.Mathlib.Omega.{arith}
 use mathlib.Core.List.{List, [], ◌∷◌}
 use mathlib.Core.Bool.{Bool}
-use mathlib.Core.Option.{none, some}
+use Rattle.std.specs.Prelude.{None, Some}
 use lib.ListN.{length, get_or}
 use Rattle.accept.specs.Valid.{Each, more}
 use Rattle.accept.proofs.Accepted.{by_test}
 use Rattle.hir_def.specs.Finds.{first_of, reads_of, place_of, select}
 
-pub each_first : {A : Type 0} {P : A → Type 0} {xs : List A} (p : A → Bool) (y : A) → Each P xs → first_of p xs ≡ some y → P y
+pub each_first : {A : Type 0} {P : A → Type 0} {xs : List A} (p : A → Bool) (y : A) → Each P xs → first_of p xs ≡ Some y → P y
 unfolding first_of
 each_first p y Each.none e = let z : ◌≡◌ {A = ℕ} 0 1 = cc in absurd (omega arith)
 each_first {P = P} p y (more {x = x} q h) e =
     by_test (p x)
-    (λ t. let f : some x ≡ some y = rw (t, first_of) at e in let same : x ≡ y = cc in subst P same q)
+    (λ t. let f : Some x ≡ Some y = rw (t, first_of) at e in let same : x ≡ y = cc in subst P same q)
     (λ t. each_first p y h (rw (t, first_of) at e))
 
 pub each_select : {A : Type 0} {P : A → Type 0} {xs : List A} (p : A → Bool) → Each P xs → Each P (select p xs)
@@ -31,13 +31,13 @@ pub record ReadTo {A : Type 0} (p : A → Bool) (xs : List A) (y d : A) : Type 0
   pub there : get_or xs at d ≡ y
   pub read : reads_of p xs ≡ at + 1
 
-pub reads_found : {A : Type 0} (p : A → Bool) (xs : List A) (y d : A) → first_of p xs ≡ some y → ReadTo p xs y d
+pub reads_found : {A : Type 0} (p : A → Bool) (xs : List A) (y d : A) → first_of p xs ≡ Some y → ReadTo p xs y d
 unfolding first_of reads_of place_of
 reads_found p [] y d e = let z : ◌≡◌ {A = ℕ} 0 1 = cc in absurd (omega arith)
 reads_found p (x ∷ xs) y d e =
     by_test (p x)
     (λ t.
-    let f : some x ≡ some y = rw (t, first_of) at e in
+    let f : Some x ≡ Some y = rw (t, first_of) at e in
     record { at = 0; first = λ k. rw (t, place_of) (omega arith); there = cc; read = rw (t, reads_of) })
     (λ t.
     let f = reads_found p xs y d (rw (t, first_of) at e) in
@@ -49,10 +49,10 @@ reads_found p (x ∷ xs) y d e =
     })
 
 -- none is found: all are read
-pub reads_all : {A : Type 0} (p : A → Bool) (xs : List A) → first_of p xs ≡ none → reads_of p xs ≡ length xs
+pub reads_all : {A : Type 0} (p : A → Bool) (xs : List A) → first_of p xs ≡ None → reads_of p xs ≡ length xs
 unfolding first_of reads_of
 reads_all p [] e = refl
 reads_all p (x ∷ xs) e =
     by_test (p x)
-    (λ t. let f : some x ≡ none = rw (t, first_of) at e in let z : ◌≡◌ {A = ℕ} 0 1 = cc in absurd (omega arith))
+    (λ t. let f : Some x ≡ None = rw (t, first_of) at e in let z : ◌≡◌ {A = ℕ} 0 1 = cc in absurd (omega arith))
     (λ t. rw (t, reads_of) (ap (λ n. n + 1) (reads_all p xs (rw (t, first_of) at e)) ∙ omega arith))

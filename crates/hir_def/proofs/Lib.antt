@@ -8,3 +8,5 @@ pub mod Climbs
 pub mod Ancestors
 pub mod Fresh
 pub mod Plain
+pub mod Searches
+pub mod KindTests

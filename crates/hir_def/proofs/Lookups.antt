@@ -1,9 +1,10 @@
 -- Laws of the lookups: reads of numbered records, and loops over them.
+use Rattle.hir_def.specs.declared.Place.{Place}
 use Prim.Native.Nat.{ℕ, ◌+◌, ◌-◌, ◌*◌, ◌/◌, ◌%◌, ◌≤◌, ◌<◌}
 use mathlib.Core.Path.{◌≡◌, refl, sym, ◌∙◌, ap, ap₂, subst}
 use mathlib.Core.List.{List, [], ◌∷◌, ◌++◌, reverse, reverse-append}
-use mathlib.Core.Bool.{Bool, true, false, ◌&&◌, not, and-true, or-true, false≢true}
-use mathlib.Core.Option.{Option, none, some}
+use mathlib.Core.Bool.{Bool, true, false, ◌&&◌, not, and-true, or-true}
+use Rattle.std.specs.Prelude.{Option, None, Some}
 use native.Mathlib.Omega.{arith}
 use lib.ListN.{length, get_or, get_or-eq_default}
 use lib.Dec.{eqb}
@@ -22,8 +23,6 @@ use Rattle.hir_def.specs.ImportMap.{is_import, import_info_for}
 use Rattle.hir_def.specs.Nameres.{is_extern, extern_of, is_dependency, is_sysroot, is_lang_sysroot, by_sysroot, dependencies_of, lang_of, sysroot_first}
 use Rattle.hir_def.specs.Entries.{ReadsAs, left_of, Meets, Ends, NextOf}
 use Rattle.hir_def.specs.declared.Item.{Item}
-use Rattle.hir_def.specs.declared.Next.{Next}
-use Rattle.hir_def.specs.declared.Next.TheVariants.{Record, End}
 
 -- the record of a number: none past the last, where the words past the end read the same
 past_rows : {R : Type 0} (f : ℕ → R) (n i : ℕ) (d : R) → n ≤ i → d ≡ get_or (rows f 0 n) i d
@@ -106,7 +105,7 @@ module _ {R : Type 0} (p : R → Bool) (x : R) (xs : List R) where
   unfolding select
   select_miss h = rw (select, h)
 
-  pub first_of_hit : p x ≡ true → first_of p (x ∷ xs) ≡ some x
+  pub first_of_hit : p x ≡ true → first_of p (x ∷ xs) ≡ Some x
   unfolding first_of
   first_of_hit h = rw (first_of, h)
 
@@ -116,15 +115,15 @@ module _ {R : Type 0} (p : R → Bool) (x : R) (xs : List R) where
 
 -- a loop that looks for the first record that passes the test
 module _ {R : Type 0} (p : R → Bool) (f : ℕ → R) (whole : Option R) (k n : ℕ) (e : whole ≡ first_of p (rows f k (n - k))) where
-  pub first_hit : {x : R} {t : Bool} → k < n → x ≡ f k → t ≡ p x → t ≡ true → some x ≡ whole
+  pub first_hit : {x : R} {t : Bool} → k < n → x ≡ f k → t ≡ p x → t ≡ true → Some x ≡ whole
   unfolding first_of
-  first_hit h u v w = let q = ap p (sym u) ∙ sym v ∙ w in rw (e, rows_next f k n h, first_of, q) (ap some u)
+  first_hit h u v w = let q = ap p (sym u) ∙ sym v ∙ w in rw (e, rows_next f k n h, first_of, q) (ap Some u)
 
   pub first_miss : {x : R} {t : Bool} → k < n → x ≡ f k → t ≡ p x → t ≡ false → whole ≡ first_of p (rows f (k + 1) (n - (k + 1)))
   unfolding first_of
   first_miss h u v w = let q = ap p (sym u) ∙ sym v ∙ w in rw (e, rows_next f k n h, first_of, q)
 
-  pub first_none : n ≤ k → none ≡ whole
+  pub first_none : n ≤ k → None ≡ whole
   unfolding first_of
   first_none h = rw (e, rows_none f k n h)
 
@@ -149,15 +148,15 @@ module _ {R : Type 0} (p : R → Bool) (f : ℕ → R) (whole : Option R) (k : �
       let q : k ≡ k - 1 + 1 = omega arith in
       ap (λ n. reverse (rows f 0 n)) q ∙ ap reverse (rows_snoc f (k - 1)) ∙ reverse-append (rows f 0 (k - 1)) (f (k - 1) ∷ [])
 
-  pub back_hit : {x : R} {t : Bool} → 0 < k → x ≡ f (k - 1) → t ≡ p x → t ≡ true → some x ≡ whole
+  pub back_hit : {x : R} {t : Bool} → 0 < k → x ≡ f (k - 1) → t ≡ p x → t ≡ true → Some x ≡ whole
   unfolding first_of
-  back_hit h u v w = let q = ap p (sym u) ∙ sym v ∙ w in rw (e, last_row h, first_of, q) (ap some u)
+  back_hit h u v w = let q = ap p (sym u) ∙ sym v ∙ w in rw (e, last_row h, first_of, q) (ap Some u)
 
   pub back_miss : {x : R} {t : Bool} → 0 < k → x ≡ f (k - 1) → t ≡ p x → t ≡ false → whole ≡ first_of p (reverse (rows f 0 (k - 1)))
   unfolding first_of
   back_miss h u v w = let q = ap p (sym u) ∙ sym v ∙ w in rw (e, last_row h, first_of, q)
 
-  pub back_none : k ≤ 0 → none ≡ whole
+  pub back_none : k ≤ 0 → None ≡ whole
   unfolding first_of rows
   back_none h = let z : k ≡ 0 = omega arith in rw (e, z)
 
@@ -206,11 +205,11 @@ next_start p f size W base n k = record { from = omega arith; same = refl }
 
 -- what a caller learns from the answer
 module _ {R : Type 0} {p : R → Bool} {f : List ℕ → ℕ → R} {size : ℕ} {W : List ℕ} {base n k : ℕ} where
-  pub next_record : {r : Next} {j h : ℕ} → NextOf p f size W base n k r → r ≡ Record j h → Meets p f size W base n k j h
+  pub next_record : {r : Option Place} {x : Place} → NextOf p f size W base n k r → r ≡ Some x → Meets p f size W base n k x.number x.head
   unfolding NextOf
   next_record x e = subst (NextOf p f size W base n k) e x
 
-  pub next_none : {r : Next} → NextOf p f size W base n k r → r ≡ End → Ends p f size W base n k
+  pub next_none : {r : Option Place} → NextOf p f size W base n k r → r ≡ None → Ends p f size W base n k
   unfolding NextOf
   next_none x e = subst (NextOf p f size W base n k) e x
 
@@ -259,14 +258,6 @@ pub names_name_reads : (s : Snapshot) (m : ℕ) (item : Item) → names_reads s 
 unfolding names_reads name_reads
 names_name_reads s m item = ap (λ t. reads_of t s.scopes) (λ i e. any_declared s m item e i)
 
-pub sysroot_yes : (c : ℕ) (b : Bool) (d : Dependency) {t : Bool} → b ≡ true → t ≡ (is_dependency c d && is_sysroot d) → t ≡ by_sysroot c b d
-sysroot_yes c true d h e = e
-sysroot_yes c false d h e = absurd (false≢true h)
-
-pub sysroot_no : (c : ℕ) (b : Bool) (d : Dependency) {t : Bool} → b ≡ false → t ≡ (is_dependency c d && not (is_sysroot d)) → t ≡ by_sysroot c b d
-sysroot_no c true d h e = absurd (false≢true (sym h))
-sysroot_no c false d h e = e
-
 -- the whole lists, where a loop begins
 module _ (W A : List ℕ) (l : Layout) where
   pub extern_whole : (c m : ℕ) {b : ℕ} → b ≡ extern_base l
@@ -277,12 +268,9 @@ module _ (W A : List ℕ) (l : Layout) where
   pub lang_whole : (c lang : ℕ)
       → lang_of (snap_of W A l) c lang
       ≡ first_of (λ d. is_dependency c d && is_lang_sysroot (snap_of W A l) lang d)
-      (rows (λ i. dependency_at W (dependency_base l + dependency_size * i)) 0 (l.dependencies - 0))
+      (rows (λ i. dependency_at W (dependency_base l + dependency_size * i)) 0 l.dependencies)
   unfolding lang_of dependencies_of
-  lang_whole c lang =
-      first_select (is_lang_sysroot (snap_of W A l) lang) (is_dependency c) (snap_of W A l).dependencies
-      ∙ rows_whole (first_of (λ d. is_dependency c d && is_lang_sysroot (snap_of W A l) lang d))
-      (λ i. dependency_at W (dependency_base l + dependency_size * i)) l.dependencies
+  lang_whole c lang = first_select (is_lang_sysroot (snap_of W A l) lang) (is_dependency c) (snap_of W A l).dependencies
 
   pub modules_whole : (m : ℕ) → modules_in_scope (snap_of W A l) m ≡ left_of (is_module_entry (snap_of W A l) m)
       (λ i. scope_at W (scope_base l + scope_size * i)) l.scopes 0

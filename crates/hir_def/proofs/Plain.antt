@@ -4,7 +4,7 @@ use Prim.Native.Nat.{ℕ, ◌+◌, ◌%◌}
 use mathlib.Core.Path.{◌≡◌, refl, ◌∙◌, ap, ap₂}
 use mathlib.Core.List.{List, [], ◌∷◌, map}
 use mathlib.Core.Bool.{Bool, true, false, ◌&&◌, ◌||◌, not}
-use mathlib.Core.Option.{Option, none, some}
+use Rattle.std.specs.Prelude.{Option, None, Some}
 use native.Mathlib.Omega.{arith}
 use lib.Dec.{eqb}
 use Rattle.snapshot.specs.Records.{Snapshot, Scope}
@@ -47,13 +47,13 @@ plainly s =
     }
 
 abbrev pub plain_of : Option Scope → Option Scope
-plain_of none = none
-plain_of (some e) = some (plain e)
+plain_of None = None
+plain_of (Some e) = Some (plain e)
 
 -- a test that does not tell an entry from its plain form finds the same one, after as many records
 module _ (p q : Scope → Bool) (h : (e : Scope) → q (plain e) ≡ p e) where
   first_step : (e : Scope) (o : Option Scope) (a : Option Scope) (b : Bool) → o ≡ plain_of a
-      → elim b [ true ↦ some (plain e) | false ↦ o ] ≡ plain_of (elim b [ true ↦ some e | false ↦ a ])
+      → elim b [ true ↦ Some (plain e) | false ↦ o ] ≡ plain_of (elim b [ true ↦ Some e | false ↦ a ])
   first_step e o a true r = refl
   first_step e o a false r = r
 
@@ -61,7 +61,7 @@ module _ (p q : Scope → Bool) (h : (e : Scope) → q (plain e) ≡ p e) where
   unfolding first_of
   first_plain [] = refl
   first_plain (e ∷ xs) =
-      ap (λ b. elim b [ true ↦ some (plain e) | false ↦ first_of q (map plain xs) ]) (h e)
+      ap (λ b. elim b [ true ↦ Some (plain e) | false ↦ first_of q (map plain xs) ]) (h e)
       ∙ first_step e (first_of q (map plain xs)) (first_of p xs) (p e) (first_plain xs)
 
   reads_plain : (xs : List Scope) → reads_of q (map plain xs) ≡ reads_of p xs

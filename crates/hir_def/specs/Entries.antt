@@ -1,16 +1,13 @@
 -- What the lookups answer.
+use Rattle.hir_def.specs.declared.Place.{Place}
 use Rattle.std.specs.Prelude.{ℕ, ◌+◌, ◌-◌, ◌*◌, ◌≤◌, ◌<◌, ◌≡◌, List, [], ◌∷◌, Bool, true, false}
-use Rattle.std.proofs.Math.Option.{Option, none, some}
+use Rattle.std.specs.Prelude.{Option, None, Some}
 use Rattle.snapshot.specs.Lists.{rows}
 use Rattle.snapshot.specs.Records.{Definition, definition_at}
 use Rattle.snapshot.specs.declared.layout.Layout.{Layout}
 use Rattle.hir_def.specs.Finds.{select}
 use Rattle.hir_def.specs.declared.Item.{Item}
 use Rattle.hir_def.specs.declared.Item.TheVariants.{Mod, Def}
-use Rattle.hir_def.specs.declared.Entry.{Entry}
-use Rattle.hir_def.specs.declared.Entry.TheVariants.{At, Nothing}
-use Rattle.hir_def.specs.declared.Next.{Next}
-use Rattle.hir_def.specs.declared.Next.TheVariants.{Record, End}
 
 -- an item of the snapshot: its number is in range
 abbrev pub Known : Layout → Item → Type 0
@@ -18,9 +15,9 @@ Known l (Mod m) = m.0 < l.modules
 Known l (Def ns d) = d.0 < l.definitions
 
 -- the record with its head at the place that is answered
-abbrev pub entry_of : {R : Type 0} → (List ℕ → ℕ → R) → List ℕ → Entry → Option R
-entry_of f W (At h) = some (f W h)
-entry_of f W Nothing = none
+abbrev pub entry_of : {R : Type 0} → (List ℕ → ℕ → R) → List ℕ → Option ℕ → Option R
+entry_of f W (Some h) = Some (f W h)
+entry_of f W None = None
 
 -- the definition with its head at the place has the fields of this one, and is it where it has a kind; one that is not there has no place
 pub record ReadsAs (W : List ℕ) (h : ℕ) (x : Definition) : Type 0 where
@@ -31,13 +28,13 @@ pub record ReadsAs (W : List ℕ) (h : ℕ) (x : Definition) : Type 0 where
 
 -- one record where the test says so
 abbrev pub one_if : {R : Type 0} → Bool → R → Option R
-one_if true x = some x
-one_if false x = none
+one_if true x = Some x
+one_if false x = None
 
 -- of n records of one size from a place on, the number of those up to and with the one that is answered, or of all
-abbrev pub UpTo : ℕ → ℕ → ℕ → Entry → ℕ → Type 0
-UpTo size base n (At h) k = h + size ≡ base + size * k
-UpTo size base n Nothing k = k ≡ n
+abbrev pub UpTo : ℕ → ℕ → ℕ → Option ℕ → ℕ → Type 0
+UpTo size base n (Some h) k = h + size ≡ base + size * k
+UpTo size base n None k = k ≡ n
 
 -- the records that pass a test, of those with numbers from k up to n
 abbrev pub left_of : {R : Type 0} → (R → Bool) → (ℕ → R) → ℕ → ℕ → List R
@@ -56,6 +53,6 @@ pub record Ends {R : Type 0} (p : R → Bool) (f : List ℕ → ℕ → R) (size
   pub none : left_of p (λ i. f W (base + size * i)) n k ≡ []
 
 -- the next record that passes the test, of n of one size from a place on, from the number k on
-unfoldable pub NextOf : {R : Type 0} → (R → Bool) → (List ℕ → ℕ → R) → ℕ → List ℕ → ℕ → ℕ → ℕ → Next → Type 0
-NextOf p f size W base n k (Record j h) = Meets p f size W base n k j h
-NextOf p f size W base n k End = Ends p f size W base n k
+unfoldable pub NextOf : {R : Type 0} → (R → Bool) → (List ℕ → ℕ → R) → ℕ → List ℕ → ℕ → ℕ → ℕ → Option Place → Type 0
+NextOf p f size W base n k (Some r) = Meets p f size W base n k r.number r.head
+NextOf p f size W base n k None = Ends p f size W base n k

@@ -1,6 +1,6 @@
 -- The scope of a module (item_scope.rs): its entries in record order.
 use Rattle.std.specs.Prelude.{ℕ, ◌%◌, List, Bool, true, false, ◌&&◌, ◌||◌, not, eqb, leb}
-use Rattle.std.proofs.Math.Option.{Option}
+use Rattle.std.specs.Prelude.{Option}
 use Rattle.snapshot.specs.Records.{Snapshot, Scope}
 use Rattle.hir_def.specs.Finds.{first_of, reads_of, or_first, select}
 use Rattle.hir_def.specs.Items.{types, module_kind, definition_of, item_of, same_item}

@@ -4,3 +4,4 @@ pub mod ItemScope
 pub mod Nameres
 pub mod ImportMap
 pub mod Entries
+pub mod Tests

@@ -1,6 +1,6 @@
 -- What the search asks of nameres.rs: the modules around a module, preludes and externs; and of the crate graph.
 use Rattle.std.specs.Prelude.{ℕ, zero, suc, List, [], ◌∷◌, ◌++◌, reverse, Bool, true, false, ◌&&◌, not, eqb}
-use Rattle.std.proofs.Math.Option.{Option, none, some}
+use Rattle.std.specs.Prelude.{Option, None, Some}
 use Rattle.snapshot.specs.Lists.{any}
 use Rattle.snapshot.specs.Records.{Snapshot, Scope, Prelude, Extern, Dependency, Child}
 use Rattle.hir_def.specs.Finds.{first_of, first_some, select}
@@ -38,8 +38,8 @@ entry_named s m ns name = first_some (λ a. get s a ns name) (ancestor_maps s m)
 
 -- the entry stands for something else than the module
 unfoldable pub is_other : Snapshot → ℕ → Option Scope → Bool
-is_other s m none = false
-is_other s m (some e) = not (same_item (item_of s e.ns e.definition) (module_item m))
+is_other s m None = false
+is_other s m (Some e) = not (same_item (item_of s e.ns e.definition) (module_item m))
 
 -- the name is another thing's than the module m's in types, in the module `from` or around its blocks
 unfoldable pub occupied : Snapshot → ℕ → ℕ → ℕ → Bool

@@ -1,13 +1,14 @@
 //! Definitions, crates and items of a snapshot, after lib.rs.
 ghost use Rattle.std.specs.Prelude.{◌≡◌, List, ℕ, ◌^◌, ◌<◌, eqb};
 ghost use Rattle.snapshot.specs.Records.{crate_at, definition_at};
+ghost use Rattle.snapshot.specs.DefinitionKinds.{definition_kind_of};
 ghost use Rattle.snapshot.specs.Ids.{plus_one};
 ghost use Rattle.snapshot.specs.Layouts.{word_count, snap_of};
 ghost use Rattle.hir_def.specs.Items.{definition_of, crate_data, is_lang, item_of, same_item, ns_of, home_by, home_of};
 ghost use Rattle.hir_def.specs.Entries.{ReadsAs};
 
 use crate::Item;
-use snapshot::ids::{Crate, DefinitionId, DefinitionKind, ModuleId, Namespace, OptModule};
+use snapshot::ids::{Crate, CrateOrigin, DefinitionId, DefinitionKind, ModuleId, Namespace};
 use snapshot::kind::Size;
 use snapshot::layout::Layout;
 use snapshot::record::{
@@ -36,10 +37,10 @@ pub fn crate_head(words: &[u32], l: Layout, c: Crate) -> usize
     l.text + Size::CRATE * c.0
 }
 
-/// The kind of a definition, 0 where there is none.
-pub fn kind_of(words: &[u32], l: Layout, d: DefinitionId) -> usize
+/// The kind of a definition, none where there is no such definition.
+pub fn kind_of(words: &[u32], l: Layout, d: DefinitionId) -> Option<DefinitionKind>
     requires { word_count l < 2 ^ 32 }
-    ensures { (A : List ℕ) → result ≡ (definition_of (snap_of words.now A l) d.0).kind }
+    ensures { (A : List ℕ) → result ≡ definition_kind_of (definition_of (snap_of words.now A l) d.0).kind }
 {
     definition_kind(words, definition_head(words, l, d))
 }
@@ -89,7 +90,7 @@ pub fn is_lang(words: &[u32], l: Layout, c: Crate) -> bool
     requires { word_count l < 2 ^ 32 }
     ensures { (A : List ℕ) → result ≡ is_lang (snap_of words.now A l) c.0 }
 {
-    origin_of(words, l, c) != 0
+    origin_of(words, l, c) != CrateOrigin::Ordinary as usize
 }
 
 /// The item that a definition is in a namespace.
@@ -98,7 +99,7 @@ pub fn item_of(words: &[u32], l: Layout, ns: usize, d: DefinitionId) -> Item
     ensures { (A : List ℕ) → result ≡ item_of (snap_of words.now A l) ns d.0 }
 {
     let h = definition_head(words, l, d);
-    if (ns == Namespace::TYPES) & (definition_kind(words, h) == DefinitionKind::MODULE) {
+    if (ns == Namespace::TYPES) & (definition_kind(words, h) == Some(DefinitionKind::Module)) {
         return Item::Mod(ModuleId(definition_first(words, h)));
     }
     Item::Def(Namespace(ns), d)
@@ -129,30 +130,30 @@ pub fn ns_of(item: Item) -> usize
 }
 
 // The home of the definition with its head at a place.
-fn home_at(words: &[u32], l: Layout, h: usize) -> OptModule
+fn home_at(words: &[u32], l: Layout, h: usize) -> Option<ModuleId>
     requires { word_count l < 2 ^ 32 }
     ensures { (A : List ℕ) → plus_one result ≡ home_by (snap_of words.now A l) (definition_at words.now h).kind
         (definition_at words.now h).first }
 {
     let kind = definition_kind(words, h);
     let first = definition_first(words, h);
-    if kind == DefinitionKind::BUILTIN {
-        return OptModule::NoModule;
+    if kind == Some(DefinitionKind::Builtin) {
+        return None;
     }
-    if kind == DefinitionKind::VARIANT {
+    if kind == Some(DefinitionKind::Variant) {
         let parent = definition_head(words, l, DefinitionId(first));
-        return OptModule::Module(ModuleId(definition_first(words, parent)));
+        return Some(ModuleId(definition_first(words, parent)));
     }
-    OptModule::Module(ModuleId(first))
+    Some(ModuleId(first))
 }
 
 /// The home of an item: its module, a module itself, its parent's for a variant; none for a builtin.
-pub fn home_of(words: &[u32], l: Layout, item: Item) -> OptModule
+pub fn home_of(words: &[u32], l: Layout, item: Item) -> Option<ModuleId>
     requires { word_count l < 2 ^ 32 }
     ensures { (A : List ℕ) → plus_one result ≡ home_of (snap_of words.now A l) item }
 {
     match item {
-        Item::Mod(m) => OptModule::Module(m),
+        Item::Mod(m) => Some(m),
         Item::Def(_, d) => home_at(words, l, definition_head(words, l, d)),
     }
 }

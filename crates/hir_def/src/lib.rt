@@ -1,6 +1,7 @@
 //! What the lookups over an accepted snapshot answer.
 #![tactic(auto)]
 
+pub mod finds;
 pub mod items;
 pub mod modules;
 pub mod visibility;
@@ -14,23 +15,16 @@ pub enum Item {
     Def(Namespace, DefinitionId),
 }
 
-/// The place of a record's head, or no record.
-#[derive(Clone, Copy)]
-pub enum Entry {
-    At(usize),
-    Nothing,
-}
-
 /// An item's entry in a scope, and how many scope records were read for it.
 #[derive(Clone, Copy)]
 pub struct Lookup {
-    pub entry: Entry,
+    pub entry: Option<usize>,
     pub read: usize,
 }
 
-/// The number of a record of its kind and the place of its head, or no record.
+/// The number of a record of its kind and the place of its head.
 #[derive(Clone, Copy)]
-pub enum Next {
-    Record(usize, usize),
-    End,
+pub struct Place {
+    pub number: usize,
+    pub head: usize,
 }

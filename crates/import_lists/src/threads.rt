@@ -21,14 +21,12 @@ fn gather(words: &[u32], area: &mut [u32], l: Layout) -> usize
     let base = l.scope_base();
     let count = l.scopes;
     let mut n = 0;
-    let mut k = 0;
-    while k < count {
+    for k in 0..count {
         let at = base + Size::SCOPE * k;
         if scope_visibility(words, at) == 0 {
             area[Lists::ENTRIES + n] = at as u32;
             n += 1;
         }
-        k += 1;
     }
     n
 }
@@ -41,12 +39,10 @@ fn thread_entries(words: &[u32], area: &mut [u32], n: usize)
     ensures { Threads module_limit heads_room spare_room (λ j. (entry_of words.now area.old n j).owner) n
         area.old area.new }
 {
-    let mut j = 0;
-    while j < n {
+    for j in 0..n {
         let at = word(area, Lists::ENTRIES + (n - 1 - j));
         let m = scope_owner(words, at);
         link(area, Lists::HEADS, Lists::SPARE, m.0, j);
-        j += 1;
     }
 }
 
@@ -60,11 +56,9 @@ fn thread_members(words: &[u32], area: &mut [u32], l: Layout)
 {
     let base = l.member_base();
     let count = l.members;
-    let mut j = 0;
-    while j < count {
+    for j in 0..count {
         let d = member_parent(words, base + Size::MEMBER * (count - 1 - j));
         link(area, Lists::MEMBER_HEADS, Lists::MEMBER_LINKS, d.0, j);
-        j += 1;
     }
 }
 

@@ -55,7 +55,7 @@ fn push(words: &[u32], area: &mut [u32], l: Layout, entry: usize, top: usize) ->
         (pile_at area.old l top)) area.old area.new result }
 {
     let d = scope_definition(words, entry);
-    if kind_of(words, l, d) != DefinitionKind::MODULE {
+    if kind_of(words, l, d) != Some(DefinitionKind::Module) {
         return top;
     }
     let m = first_of(words, l, d);

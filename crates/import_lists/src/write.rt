@@ -1,6 +1,7 @@
 //! The import records of a crate, written to a target or only counted: one walk for both.
-ghost use Rattle.std.specs.Prelude.{◌≡◌, ◌+◌, ◌<◌, ◌≤◌, [], ◌∷◌};
+ghost use Rattle.std.specs.Prelude.{ℕ, ◌≡◌, ◌+◌, ◌<◌, ◌≤◌, [], ◌∷◌};
 ghost use Rattle.snapshot.specs.Limits.{module_limit};
+ghost use Rattle.snapshot.specs.MemberKinds.{member_kind_of};
 ghost use Rattle.snapshot.specs.Records.{scope_at, member_at};
 ghost use Rattle.snapshot.specs.Layouts.{snap_of};
 ghost use Rattle.accept.specs.Valid.{Each};
@@ -11,7 +12,7 @@ ghost use Rattle.import_lists.specs.Writes.{new_import, Bounded, Space, Wrote, k
 
 use crate::walk::order_base;
 use import_order::sort::Lists;
-use snapshot::ids::{Crate, DefinitionId, ModuleId, Name, Namespace};
+use snapshot::ids::{Crate, DefinitionId, MemberKind, ModuleId, Name, Namespace};
 use snapshot::kind::Size;
 use snapshot::layout::Layout;
 use snapshot::record::{
@@ -48,10 +49,10 @@ fn put_import(
 }
 
 // The namespace of a member: types for a variant, that of its parent's entry for another.
-fn member_ns(ns: usize, kind: usize) -> usize
-    ensures { result ≡ member_ns ns kind }
+fn member_ns(ns: usize, kind: Option<MemberKind>) -> usize
+    ensures { (k : ℕ) → kind ≡ member_kind_of k → result ≡ member_ns ns k }
 {
-    if kind == 0 {
+    if kind == Some(MemberKind::Variant) {
         return Namespace::TYPES;
     }
     ns
@@ -73,7 +74,7 @@ fn put_member(
         target.old target.new result }
 {
     let kind = member_kind(words, member);
-    if kind == 3 {
+    if kind == Some(MemberKind::TypeAlias) {
         return at;
     }
     let ns = member_ns(scope_ns(words, entry), kind);
@@ -185,11 +186,9 @@ pub fn put_modules(
 {
     let base = order_base(l);
     let mut t = at;
-    let mut i = 0;
-    while i < order {
+    for i in 0..order {
         let m = ModuleId(word(area, base + i));
         t = put_module(words, area, l, n, target, t, write, c, m);
-        i += 1;
     }
     t
 }

@@ -8,8 +8,9 @@ ghost use Rattle.snapshot.specs.Layouts.{word_count, import_base, snap_of};
 ghost use Rattle.hir_def.specs.ImportMap.{is_import, is_hidden, is_unstable};
 ghost use Rattle.hir_def.specs.Entries.{NextOf};
 
+use hir_def::finds::next_where;
 use hir_def::items::{item_of, same_item};
-use hir_def::{Item, Next};
+use hir_def::{Item, Place};
 use snapshot::ids::Crate;
 use snapshot::kind::Size;
 use snapshot::layout::Layout;
@@ -30,21 +31,13 @@ fn is_import(words: &[u32], l: Layout, h: usize, c: Crate, item: Item) -> bool
 }
 
 /// The next of the crate's imports of the item, from the import number k on.
-pub fn import_info_for(words: &[u32], l: Layout, k: usize, c: Crate, item: Item) -> Next
+pub fn import_info_for(words: &[u32], l: Layout, k: usize, c: Crate, item: Item) -> Option<Place>
     requires { word_count l < 2 ^ 32 }
     ensures { (A : List ℕ) → NextOf (is_import (snap_of words.now A l) c.0 item) import_at import_size
         words.now (import_base l) l.imports k result }
 {
-    let base = l.import_base();
-    let mut j = k;
-    while j < l.imports {
-        let h = base + Size::IMPORT * j;
-        if is_import(words, l, h, c, item) {
-            return Next::Record(j, h);
-        }
-        j += 1;
-    }
-    Next::End
+    let test = |h| is_import(words, l, h, c, item);
+    next_where(l.import_base(), Size::IMPORT, l.imports, k, test)
 }
 
 /// Whether the import with its head at a place is hidden.

@@ -5,11 +5,11 @@ use mathlib.Core.List.{List, [], ◌∷◌, ◌++◌, append_assoc}
 use mathlib.Core.Bool.{Bool, true, false, ◌&&◌, true≢false}
 use native.Mathlib.Omega.{arith}
 use native.Mathlib.Nat.{add-zero, zero-add}
-use borrow.Author.Count.{below_more}
 use borrow.Author.Tests.{lt-ltb, le-ltb, ltb-true, ltb-false}
 use lib.Dec.{ltb}
 use lib.ListN.{length, get_or, set, length-set}
 use lib.Seq.{get_or-set_same, get_or-set_other}
+use Rattle.std.specs.List.{CopiedTo, SameBelow}
 use Rattle.snapshot.specs.Lists.{rows}
 use Rattle.snapshot.specs.Records.{Scope, scope_at}
 use Rattle.snapshot.proofs.Laws.{rows_next, rows_none, rows_put, rows_ext, rows_whole}
@@ -18,25 +18,19 @@ use Rattle.accept.proofs.Accepted.{by_test}
 use Rattle.accept.proofs.Stable.{snap_stays, reads_stay}
 use Rattle.import_rules.specs.Collect.{entry_before, insert_by, sort_into}
 use Rattle.import_order.specs.Lists.{order_of, entries_at, merge_by, Copied, Runs, Ready, Merges, Sorts}
+use Rattle.import_order.specs.Rooms.{spare_room}
 use Rattle.import_order.proofs.Orders.{entry_order}
 use Rattle.import_order.proofs.Sorts.{merge_second, merge_first, merge_none, sorted_merge}
 
 -- copying
 
-pub copied_none : (A : List ℕ) (from : ℕ) → Copied A A from 0
-copied_none A from = record { size = refl; there = λ i h. absurd (omega arith); below = λ i h. refl }
-
-pub copied_more : (A B : List ℕ) (from i v : ℕ) → Copied A B from i → 6720 + i < length A → from + i < 6208 → v ≡ get_or B (from + i) 0
-    → Copied A (set B (6720 + i) v) from (i + 1)
-copied_more A B from i v c fits low e =
-    let z = c.size in
+pub copied_all : (A B : List ℕ) (from m n : ℕ) → m ≡ n → length B ≡ length A → CopiedTo A B from spare_room m → SameBelow A B spare_room → Copied A B from n
+copied_all A B from m n p e c b =
     record {
-      size = length-set B (6720 + i) v ∙ c.size;
-      there =
-          below_more (λ k. get_or (set B (6720 + i) v) (6720 + k) 0 ≡ get_or A (from + k) 0) i
-          (λ k h. get_or-set_other B (6720 + i) (6720 + k) v 0 (λ q. omega arith) ∙ c.there k h)
-          (get_or-set_same B (6720 + i) v 0 (omega arith) ∙ e ∙ c.below (from + i) low);
-      below = λ k h. get_or-set_other B (6720 + i) k v 0 (λ q. omega arith) ∙ c.below k h;
+      size = e;
+      there = λ i h. let q : spare_room + i - spare_room ≡ i = omega arith in
+          c (spare_room + i) 0 (omega arith) (omega arith) ∙ ap (λ j. get_or A (from + j) 0) q;
+      below = λ i h. b i 0 (omega arith);
     }
 
 -- the rows from k on agree

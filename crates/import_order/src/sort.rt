@@ -11,8 +11,7 @@ use snapshot::layout::Layout;
 use snapshot::words::word;
 
 /// The first words of the lists in the work area, past the tables.
-#[derive(Clone, Copy)]
-pub struct Lists(pub usize);
+pub struct Lists;
 
 impl Lists {
     /// The heads of entries.
@@ -36,11 +35,7 @@ fn copy(area: &mut [u32], from: usize, n: usize)
     requires { (length area.old ≡ area_limit) × (from + n ≤ heads_room) × (n ≤ 2048) }
     ensures { Copied area.old area.new from n }
 {
-    let mut i = 0;
-    while i < n {
-        area[Lists::SPARE + i] = area[from + i];
-        i += 1;
-    }
+    area.copy_within(from..from + n, Lists::SPARE);
 }
 
 // Whether the next entry of the second run, if there is one before its end, stands before that of the first.

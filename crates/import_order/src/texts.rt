@@ -17,8 +17,7 @@ fn bytes_before(a: &[u32], n: usize, b: &[u32], m: usize) -> bool
     requires { (n ≤ 3 * length a.now) × (m ≤ 3 * length b.now) }
     ensures { result ≡ text_before (take n (unpacked a.now)) (take m (unpacked b.now)) }
 {
-    let mut i = 0;
-    while i < n {
+    for i in 0..n {
         if m <= i {
             return false;
         }
@@ -30,9 +29,8 @@ fn bytes_before(a: &[u32], n: usize, b: &[u32], m: usize) -> bool
         if y < x {
             return false;
         }
-        i += 1;
     }
-    i < m
+    n < m
 }
 
 // The bytes of a name, none of a number that is no name's.

@@ -5,9 +5,9 @@ ghost use Rattle.snapshot.specs.Layouts.{snap_of};
 ghost use Rattle.check_rules.specs.Verdict.{verdict};
 ghost use Rattle.answer.specs.Answers.{zeros};
 ghost use Rattle.import_order.specs.Lists.{Ready};
-ghost use Rattle.imports.specs.Listings.{list_in, list_by, Lists, ListsIn};
+ghost use Rattle.imports.specs.Listings.{list_in, list_by, Lists, ListsIn, told};
 
-use accept::check::{Checked, check};
+use accept::check::check;
 use answer::area::clear;
 use import_lists::threads::thread;
 use import_lists::walk::walk;
@@ -17,61 +17,76 @@ use snapshot::layout::Layout;
 use snapshot::refusal::Refusal;
 
 /// The number by which a call is refused, 0 for none, and how many words were written.
+// The C interface takes a number and a count.
 #[derive(Clone, Copy)]
 pub struct Listed {
     pub number: usize,
     pub count: usize,
 }
 
-// The list of a crate of an accepted snapshot: counted first, then written where there is room for it.
-fn list_accepted(words: &[u32], area: &mut [u32], l: Layout, c: Crate, target: &mut [u32]) -> Listed
+// The answer for a count, or for a refusal.
+fn told(r: Result<usize, Refusal>) -> Listed
+    ensures { result ≡ told r }
+{
+    match r {
+        Ok(count) => Listed { number: 0, count },
+        Err(why) => Listed {
+            number: why.number(),
+            count: 0,
+        },
+    }
+}
+
+// The list of a crate of an accepted snapshot: counted first, then written where there is room for it. Answers the count.
+fn list_accepted(
+    words: &[u32],
+    area: &mut [u32],
+    l: Layout,
+    c: Crate,
+    target: &mut [u32],
+) -> Result<usize, Refusal>
     requires { Ready words.now area.old l }
     ensures { Lists target.old (list_in c.0 (length target.old) (snap_of words.now area.old l))
-        target.new result }
+        target.new (told result) }
 {
     if l.crates <= c.0 {
-        return Listed {
-            number: Refusal::UNKNOWN,
-            count: 0,
-        };
+        return Err(Refusal::Unknown);
     }
     let n = thread(words, area, l);
     let k = walk(words, area, l, n, c);
     let count = put_modules(words, area, l, n, k, target, 0, false, c);
     if target.len() < count {
-        return Listed {
-            number: Refusal::TARGET,
-            count: 0,
-        };
+        return Err(Refusal::Target);
     }
     put_modules(words, area, l, n, k, target, 0, true, c);
-    Listed {
-        number: 0,
-        count: count,
-    }
+    Ok(count)
 }
 
 // Checks the words, and lists.
-fn list_checked(words: &[u32], area: &mut [u32], c: Crate, target: &mut [u32]) -> Listed
+fn list_checked(
+    words: &[u32],
+    area: &mut [u32],
+    c: Crate,
+    target: &mut [u32],
+) -> Result<usize, Refusal>
     requires { length area.old ≡ area_limit }
     ensures { Lists target.old (list_by c.0 (length target.old) (verdict words.now))
-        target.new result }
+        target.new (told result) }
 {
-    let k = check(words, area);
-    match k {
-        Checked::Refused(n, _) => Listed {
-            number: n as usize,
-            count: 0,
-        },
-        Checked::Accepted(l) => list_accepted(words, area, l, c, target),
-    }
+    let l = check(words, area)?;
+    list_accepted(words, area, l, c, target)
 }
 
 // The same, in a work area that serves and is cleared.
-fn list_within(words: &[u32], area: &mut [u32], c: Crate, target: &mut [u32]) -> Listed
+fn list_within(
+    words: &[u32],
+    area: &mut [u32],
+    c: Crate,
+    target: &mut [u32],
+) -> Result<usize, Refusal>
     requires { length area.old ≡ area_limit }
     ensures lists { Lists target.old (list_by c.0 (length target.old) (verdict words.now))
-        target.new result }
+        target.new (told result) }
     ensures area_after { area.new ≡ zeros area_limit }
 {
     let r = list_checked(words, area, c, target);
@@ -86,10 +101,7 @@ pub fn import_list(words: &[u32], area: &mut [u32], c: Crate, target: &mut [u32]
     ensures { ListsIn words.now area.old c.0 target.old target.new area.new result }
 {
     if area.len() < WordCount::AREA {
-        return Listed {
-            number: Refusal::AREA,
-            count: 0,
-        };
+        return told(Err(Refusal::Area));
     }
-    list_within(words, &mut area[..WordCount::AREA], c, target)
+    told(list_within(words, &mut area[..WordCount::AREA], c, target))
 }

@@ -1,6 +1,7 @@
 //! Kind 8: a definition.
 ghost use Rattle.std.specs.Prelude.{◌≡◌, List, ◌+◌, ◌*◌, ◌^◌, ◌<◌, ◌≤◌, length, eqb, leb, true, ◌&&◌, ◌||◌, not};
 ghost use Rattle.snapshot.specs.Lists.{rows, any};
+ghost use Rattle.snapshot.specs.DefinitionKinds.{definition_kind_of};
 ghost use Rattle.snapshot.specs.Limits.{module_limit};
 ghost use Rattle.snapshot.specs.Sizes.{definition_size};
 ghost use Rattle.snapshot.specs.Records.{name_at};
@@ -14,20 +15,21 @@ ghost use Rattle.record_rules.specs.Stands.{Ready, Stands, Answered, counts_in, 
 
 use chains::chain::Chains;
 use chains::keys::module_slot;
-use record_rules::judge::{Step, judge};
+use record_rules::judge::judge;
 use record_rules::names::is_builtin;
 use records::repeats::repeated;
 use snapshot::ids::{DefinitionId, DefinitionKind, Name, Namespace};
 use snapshot::kind::Size;
 use snapshot::layout::Layout;
 use snapshot::record::{definition_first, definition_kind, definition_second};
+use snapshot::refusal::Refusal;
 use snapshot::table::name_head;
 use snapshot::words::word;
 
-/// The kind of a definition that is there, or another number.
-pub fn kind_at(words: &[u32], l: Layout, d: DefinitionId) -> usize
+/// The kind of a definition that is there; for another number any kind, or none.
+pub fn kind_at(words: &[u32], l: Layout, d: DefinitionId) -> Option<DefinitionKind>
     requires { (word_count l < 2 ^ 32) × (d.0 < 2 ^ 32) }
-    ensures { result ≡ (definition_at words.now (definition_base l + definition_size * d.0)).kind }
+    ensures { result ≡ definition_kind_of (definition_at words.now (definition_base l + definition_size * d.0)).kind }
 {
     definition_kind(words, l.definition_base() + Size::DEFINITION * d.0)
 }
@@ -37,7 +39,7 @@ pub fn ns_placed(words: &[u32], l: Layout, ns: usize, d: DefinitionId) -> bool
     requires { (word_count l < 2 ^ 32) × (d.0 < 2 ^ 32) }
     ensures { result ≡ (not (eqb ns 2) || eqb (definition_at words.now (definition_base l + definition_size * d.0)).kind 5) }
 {
-    (ns != Namespace::MACROS) | (kind_at(words, l, d) == DefinitionKind::MACRO)
+    (ns != Namespace::MACROS) | (kind_at(words, l, d) == Some(DefinitionKind::Macro))
 }
 
 // A builtin's name, where it is defined, is one of the builtins.
@@ -46,7 +48,7 @@ fn builtin_named(words: &[u32], area: &[u32], l: Layout, at: usize) -> bool
         (definition_at words.now at).first || is_builtin
         (name_at words.now (name_head area.now (definition_at words.now at).first))) }
 {
-    if definition_kind(words, at) != DefinitionKind::BUILTIN {
+    if definition_kind(words, at) != Some(DefinitionKind::Builtin) {
         return true;
     }
     let first = definition_first(words, at);
@@ -65,10 +67,7 @@ fn in_range(words: &[u32], area: &[u32], l: Layout, at: usize) -> bool
     let kind = definition_kind(words, at);
     let second = definition_second(words, at);
     let builtin = builtin_named(words, area, l, at);
-    (DefinitionKind::MODULE <= kind)
-        & (kind <= DefinitionKind::MACRO)
-        & ((kind == DefinitionKind::VARIANT) | (second == 0))
-        & builtin
+    kind.is_some() & ((kind == Some(DefinitionKind::Variant)) | (second == 0)) & builtin
 }
 
 fn defined(words: &[u32], l: Layout, at: usize) -> bool
@@ -77,14 +76,11 @@ fn defined(words: &[u32], l: Layout, at: usize) -> bool
     let kind = definition_kind(words, at);
     let first = definition_first(words, at);
     let second = definition_second(words, at);
-    let variant = (kind != DefinitionKind::VARIANT)
-        | ((first < l.definitions) & (second < l.names));
-    let builtin = (kind != DefinitionKind::BUILTIN) | (first < l.names);
-    variant
-        & builtin
-        & ((kind == DefinitionKind::VARIANT)
-            | (kind == DefinitionKind::BUILTIN)
-            | (first < l.modules))
+    match kind {
+        Some(DefinitionKind::Variant) => (first < l.definitions) & (second < l.names),
+        Some(DefinitionKind::Builtin) => first < l.names,
+        _ => first < l.modules,
+    }
 }
 
 fn placed(words: &[u32], l: Layout, at: usize) -> bool
@@ -93,8 +89,8 @@ fn placed(words: &[u32], l: Layout, at: usize) -> bool
         (definition_at words.now (definition_base l + definition_size * (definition_at words.now at).first)).kind 4) }
 {
     let parent = DefinitionId(definition_first(words, at));
-    (definition_kind(words, at) != DefinitionKind::VARIANT)
-        | (kind_at(words, l, parent) == DefinitionKind::OTHER)
+    (definition_kind(words, at) != Some(DefinitionKind::Variant))
+        | (kind_at(words, l, parent) == Some(DefinitionKind::Other))
 }
 
 // A module or a builtin that has a definition already; the other kinds may stand again.
@@ -105,46 +101,42 @@ fn again(words: &[u32], area: &[u32], l: Layout, at: usize) -> bool
         → result ≡ ((eqb (definition_at words.now at).kind 1 || eqb (definition_at words.now at).kind 3) && any
         (same_by words.now true 1 at) (rows (λ k. definition_base l + definition_size * k) 0 l.definitions)) }
 {
-    let kind = definition_kind(words, at);
-    if (kind != DefinitionKind::MODULE) & (kind != DefinitionKind::BUILTIN) {
-        return false;
+    match definition_kind(words, at) {
+        Some(DefinitionKind::Module) => {
+            let mark = Chains::MODULE_MARKS + definition_first(words, at);
+            word(area, mark) != 0
+        }
+        Some(DefinitionKind::Builtin) => repeated(
+            words,
+            true,
+            1,
+            at,
+            l.definition_base(),
+            Size::DEFINITION,
+            l.definitions,
+        ),
+        _ => false,
     }
-    if kind == DefinitionKind::MODULE {
-        let mark = Chains::MODULE_MARKS + definition_first(words, at);
-        return word(area, mark) != 0;
-    }
-    repeated(
-        words,
-        true,
-        1,
-        at,
-        l.definition_base(),
-        Size::DEFINITION,
-        l.definitions,
-    )
 }
 
 /// A definition.
-pub fn step(words: &[u32], area: &mut [u32], l: Layout, at: usize) -> Step
+pub fn step(words: &[u32], area: &mut [u32], l: Layout, at: usize) -> Result<Layout, Refusal>
     requires { Ready words.now area.old l at (at + definition_size) }
     ensures { (ms : List Map) → Stands words.now area.old 8 at l ms
         → Answered words.now area.new 8 (at + definition_size)
         (definition_step (snap_with words.now area.old l ms) (definition_at words.now at)) result }
 {
     let room = l.definitions < DefinitionId::LIMIT;
-    let n = judge(
+    judge(
         in_range(words, area, l, at),
         defined(words, l, at),
         again(words, area, l, at),
         placed(words, l, at),
         room,
-    );
-    if n != 0 {
-        return Step::No(n);
-    }
+    )?;
     let slot = module_slot(words, at);
     area[Chains::MODULE_MARKS + slot] = 1;
     let mut m = l;
     m.definitions = l.definitions + 1;
-    Step::On(m)
+    Ok(m)
 }

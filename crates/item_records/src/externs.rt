@@ -9,11 +9,12 @@ ghost use Rattle.record_rules.specs.Stands.{Ready, Stands, Answered, counts_in};
 
 use chains::chain::{Chains, link};
 use chains::keys::record_key;
-use record_rules::judge::{Step, judge};
+use record_rules::judge::judge;
 use records::repeats::repeated_with;
 use snapshot::kind::Size;
 use snapshot::layout::Layout;
 use snapshot::record::{extern_name, extern_owner, extern_target};
+use snapshot::refusal::Refusal;
 
 fn defined(words: &[u32], l: Layout, at: usize) -> bool
     ensures { result ≡ extern_defined (counts_in l) (extern_at words.now at) }
@@ -25,7 +26,7 @@ fn defined(words: &[u32], l: Layout, at: usize) -> bool
 }
 
 /// An extern.
-pub fn step(words: &[u32], area: &mut [u32], l: Layout, at: usize) -> Step
+pub fn step(words: &[u32], area: &mut [u32], l: Layout, at: usize) -> Result<Layout, Refusal>
     requires { Ready words.now area.old l at (at + extern_size) }
     ensures { (ms : List Map) → Stands words.now area.old 11 at l ms
         → Answered words.now area.new 11 (at + extern_size)
@@ -45,12 +46,9 @@ pub fn step(words: &[u32], area: &mut [u32], l: Layout, at: usize) -> Step
         Chains::EXTERN_LINKS,
         key,
     );
-    let n = judge(true, defined(words, l, at), old, true, true);
-    if n != 0 {
-        return Step::No(n);
-    }
+    judge(true, defined(words, l, at), old, true, true)?;
     link(area, Chains::EXTERN_HEADS, Chains::EXTERN_LINKS, key, count);
     let mut m = l;
     m.externs = count + 1;
-    Step::On(m)
+    Ok(m)
 }

@@ -8,12 +8,13 @@ ghost use Rattle.check_rules.specs.Steps.{import_step};
 ghost use Rattle.record_rules.specs.Stands.{Ready, Stands, Answered, counts_in};
 
 use crate::definitions::ns_placed;
-use record_rules::judge::{Step, judge};
+use record_rules::judge::judge;
 use snapshot::ids::Namespace;
 use snapshot::layout::Layout;
 use snapshot::record::{
     import_bits, import_container, import_definition, import_name, import_ns, import_owner,
 };
+use snapshot::refusal::Refusal;
 
 fn in_range(words: &[u32], at: usize) -> bool
     ensures { result ≡ import_range (import_at words.now at) }
@@ -35,24 +36,21 @@ fn defined(words: &[u32], l: Layout, at: usize) -> bool
 }
 
 /// An import.
-pub fn step(words: &[u32], area: &[u32], l: Layout, at: usize) -> Step
+pub fn step(words: &[u32], area: &[u32], l: Layout, at: usize) -> Result<Layout, Refusal>
     requires { Ready words.now area.now l at (at + import_size) }
     ensures { (ms : List Map) → Stands words.now area.now 10 at l ms
         → Answered words.now area.now 10 (at + import_size)
         (import_step (snap_with words.now area.now l ms) (import_at words.now at)) result }
 {
     let placed = ns_placed(words, l, import_ns(words, at), import_definition(words, at));
-    let n = judge(
+    judge(
         in_range(words, at),
         defined(words, l, at),
         false,
         placed,
         true,
-    );
-    if n != 0 {
-        return Step::No(n);
-    }
+    )?;
     let mut m = l;
     m.imports = l.imports + 1;
-    Step::On(m)
+    Ok(m)
 }

@@ -8,19 +8,20 @@ ghost use Rattle.check_rules.specs.Steps.{member_step};
 ghost use Rattle.record_rules.specs.Stands.{Ready, Stands, Answered, counts_in};
 
 use crate::definitions::kind_at;
-use record_rules::judge::{Step, judge};
-use snapshot::ids::DefinitionKind;
+use record_rules::judge::judge;
+use snapshot::ids::{DefinitionKind, MemberKind};
 use snapshot::kind::Size;
 use snapshot::layout::Layout;
 use snapshot::record::{
     definition_first, definition_kind, definition_second, member_bits, member_definition,
     member_kind, member_name, member_parent,
 };
+use snapshot::refusal::Refusal;
 
 fn in_range(words: &[u32], at: usize) -> bool
     ensures { result ≡ member_range (member_at words.now at) }
 {
-    (member_kind(words, at) <= 3) & (member_bits(words, at) <= 3)
+    member_kind(words, at).is_some() & (member_bits(words, at) <= 3)
 }
 
 fn defined(words: &[u32], l: Layout, at: usize) -> bool
@@ -43,8 +44,10 @@ fn fits(words: &[u32], at: usize, head: usize) -> bool
     let of = definition_kind(words, head);
     let owned = definition_first(words, head) == parent.0;
     let named = definition_second(words, head) == name.0;
-    ((kind != 0) | ((of == DefinitionKind::VARIANT) & owned & named))
-        & ((kind == 0) | (of == DefinitionKind::OTHER))
+    if kind == Some(MemberKind::Variant) {
+        return (of == Some(DefinitionKind::Variant)) & owned & named;
+    }
+    of == Some(DefinitionKind::Other)
 }
 
 fn placed(words: &[u32], l: Layout, at: usize) -> bool
@@ -57,27 +60,24 @@ fn placed(words: &[u32], l: Layout, at: usize) -> bool
     let parent = kind_at(words, l, member_parent(words, at));
     let definition = member_definition(words, at);
     let head = l.definition_base() + Size::DEFINITION * definition.0;
-    (parent == DefinitionKind::OTHER) & fits(words, at, head)
+    (parent == Some(DefinitionKind::Other)) & fits(words, at, head)
 }
 
 /// A member.
-pub fn step(words: &[u32], area: &[u32], l: Layout, at: usize) -> Step
+pub fn step(words: &[u32], area: &[u32], l: Layout, at: usize) -> Result<Layout, Refusal>
     requires { Ready words.now area.now l at (at + member_size) }
     ensures { (ms : List Map) → Stands words.now area.now 13 at l ms
         → Answered words.now area.now 13 (at + member_size)
         (member_step (snap_with words.now area.now l ms) (member_at words.now at)) result }
 {
-    let n = judge(
+    judge(
         in_range(words, at),
         defined(words, l, at),
         false,
         placed(words, l, at),
         true,
-    );
-    if n != 0 {
-        return Step::No(n);
-    }
+    )?;
     let mut m = l;
     m.members = l.members + 1;
-    Step::On(m)
+    Ok(m)
 }

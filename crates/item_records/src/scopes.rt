@@ -10,7 +10,7 @@ ghost use Rattle.record_rules.specs.Stands.{Ready, Stands, Answered, counts_in};
 use crate::definitions::ns_placed;
 use chains::chain::{Chains, link};
 use chains::keys::record_key;
-use record_rules::judge::{Step, judge};
+use record_rules::judge::judge;
 use records::repeats::repeated_with;
 use snapshot::ids::Namespace;
 use snapshot::kind::Size;
@@ -19,6 +19,7 @@ use snapshot::record::{
     scope_bits, scope_declared, scope_definition, scope_name, scope_ns, scope_number, scope_owner,
     scope_visibility,
 };
+use snapshot::refusal::Refusal;
 
 fn in_range(words: &[u32], at: usize) -> bool
     ensures { result ≡ scope_range (scope_at words.now at) }
@@ -45,7 +46,7 @@ fn defined(words: &[u32], l: Layout, at: usize) -> bool
 }
 
 /// An entry.
-pub fn step(words: &[u32], area: &mut [u32], l: Layout, at: usize) -> Step
+pub fn step(words: &[u32], area: &mut [u32], l: Layout, at: usize) -> Result<Layout, Refusal>
     requires { Ready words.now area.old l at (at + scope_size) }
     ensures { (ms : List Map) → Stands words.now area.old 9 at l ms
         → Answered words.now area.new 9 (at + scope_size)
@@ -66,18 +67,15 @@ pub fn step(words: &[u32], area: &mut [u32], l: Layout, at: usize) -> Step
         key,
     );
     let placed = ns_placed(words, l, scope_ns(words, at), scope_definition(words, at));
-    let n = judge(
+    judge(
         in_range(words, at),
         defined(words, l, at),
         old,
         placed,
         true,
-    );
-    if n != 0 {
-        return Step::No(n);
-    }
+    )?;
     link(area, Chains::SCOPE_HEADS, Chains::SCOPE_LINKS, key, count);
     let mut m = l;
     m.scopes = count + 1;
-    Step::On(m)
+    Ok(m)
 }

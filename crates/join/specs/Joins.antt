@@ -1,6 +1,8 @@
 -- What a join leaves: a refusal and the target as it was, or the joined words at its front.
-use Rattle.std.specs.Prelude.{ℕ, ◌≡◌, List, [], ◌++◌, Bool, ◌&&◌, leb, length, drop}
+use Rattle.std.specs.Prelude.{ℕ, ◌≡◌, List, [], ◌++◌, Bool, ◌&&◌, leb, length, drop, Result, Ok, Err}
 use Rattle.snapshot.specs.Limits.{word_limit, crate_limit, module_limit, name_limit, definition_limit}
+use Rattle.snapshot.specs.Refusals.{refusal_number}
+use Rattle.snapshot.specs.declared.refusal.Refusal.{Refusal}
 use Rattle.answer.specs.Answers.{area_after}
 use Rattle.join_words.specs.Joined.{Joining, refused_by, joined_as, join_of}
 use Rattle.join.specs.declared.join.Joined.{Joined}
@@ -14,6 +16,11 @@ number_in (joined_as ws) = 0
 unfoldable pub words_in : Joining → List ℕ
 words_in (refused_by n) = []
 words_in (joined_as ws) = ws
+
+-- the answer for a count, or for a refusal
+abbrev pub told : Result ℕ Refusal → Joined
+told (Ok n) = record { number = 0; count = n }
+told (Err k) = record { number = refusal_number k; count = 0 }
 
 -- T₀ is the target before the call, T after it: the joined words, and past them what was there
 pub record Joins (T₀ : List ℕ) (e : Joining) (T : List ℕ) (r : Joined) : Type 0 where

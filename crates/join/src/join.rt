@@ -6,9 +6,9 @@ ghost use Rattle.check_rules.specs.Verdict.{accept, verdict};
 ghost use Rattle.answer.specs.Answers.{zeros};
 ghost use Rattle.join_words.specs.Joined.{join_in, join_by};
 ghost use Rattle.join_numbers.specs.Parts.{part_of, Part, Ready};
-ghost use Rattle.join.specs.Joins.{Joins, JoinsIn, fits_in};
+ghost use Rattle.join.specs.Joins.{Joins, JoinsIn, fits_in, told};
 
-use accept::check::{Checked, check};
+use accept::check::check;
 use answer::area::clear;
 use join_numbers::tables::number;
 use join_records::write::put_kinds;
@@ -17,10 +17,24 @@ use snapshot::layout::Layout;
 use snapshot::refusal::Refusal;
 
 /// The number by which a call is refused, 0 for none, and how many words were written.
+// The C interface takes a number and a count.
 #[derive(Clone, Copy)]
 pub struct Joined {
     pub number: usize,
     pub count: usize,
+}
+
+// The answer for a count, or for a refusal.
+fn told(r: Result<usize, Refusal>) -> Joined
+    ensures { result ≡ told r }
+{
+    match r {
+        Ok(count) => Joined { number: 0, count },
+        Err(why) => Joined {
+            number: why.number(),
+            count: 0,
+        },
+    }
 }
 
 // Whether so many words and records pass no limit, and the words fit.
@@ -52,7 +66,7 @@ fn fits(
     words <= room
 }
 
-// Joins two accepted snapshots: the words are counted first, then written where they fit.
+// Joins two accepted snapshots: the words are counted first, then written where they fit. Answers the count.
 fn join_accepted(
     first: &[u32],
     second: &[u32],
@@ -60,10 +74,10 @@ fn join_accepted(
     l: Layout,
     m: Layout,
     target: &mut [u32],
-) -> Joined
+) -> Result<usize, Refusal>
     requires { Ready first.now second.now area.old l m }
     ensures { Joins target.old (join_in (length target.old) (part_of first.now)
-        (part_of second.now)) target.new result }
+        (part_of second.now)) target.new (told result) }
 {
     let n = number(first, second, area, l, m);
     let count = put_kinds(first, second, area, l, m, target, false);
@@ -76,16 +90,10 @@ fn join_accepted(
         l.definitions + n.definitions,
         room,
     ) {
-        return Joined {
-            number: Refusal::JOIN,
-            count: 0,
-        };
+        return Err(Refusal::Join);
     }
     put_kinds(first, second, area, l, m, target, true);
-    Joined {
-        number: 0,
-        count: count,
-    }
+    Ok(count)
 }
 
 // Checks the second, and joins.
@@ -95,42 +103,40 @@ fn join_second(
     area: &mut [u32],
     l: Layout,
     target: &mut [u32],
-) -> Joined
+) -> Result<usize, Refusal>
     requires { (length area.old ≡ area_limit) × Part first.now l }
     ensures { Joins target.old (join_by (length target.old) (accept (part_of first.now))
-        (verdict second.now)) target.new result }
+        (verdict second.now)) target.new (told result) }
 {
-    let k = check(second, area);
-    match k {
-        Checked::Refused(n, _) => Joined {
-            number: n as usize,
-            count: 0,
-        },
-        Checked::Accepted(m) => join_accepted(first, second, area, l, m, target),
-    }
+    let m = check(second, area)?;
+    join_accepted(first, second, area, l, m, target)
 }
 
 // Checks both, and joins.
-fn join_checked(first: &[u32], second: &[u32], area: &mut [u32], target: &mut [u32]) -> Joined
+fn join_checked(
+    first: &[u32],
+    second: &[u32],
+    area: &mut [u32],
+    target: &mut [u32],
+) -> Result<usize, Refusal>
     requires { length area.old ≡ area_limit }
     ensures { Joins target.old (join_by (length target.old) (verdict first.now)
-        (verdict second.now)) target.new result }
+        (verdict second.now)) target.new (told result) }
 {
-    let k = check(first, area);
-    match k {
-        Checked::Refused(n, _) => Joined {
-            number: n as usize,
-            count: 0,
-        },
-        Checked::Accepted(l) => join_second(first, second, area, l, target),
-    }
+    let l = check(first, area)?;
+    join_second(first, second, area, l, target)
 }
 
 // The same, in a work area that serves and is cleared.
-fn join_within(first: &[u32], second: &[u32], area: &mut [u32], target: &mut [u32]) -> Joined
+fn join_within(
+    first: &[u32],
+    second: &[u32],
+    area: &mut [u32],
+    target: &mut [u32],
+) -> Result<usize, Refusal>
     requires { length area.old ≡ area_limit }
     ensures joins { Joins target.old (join_by (length target.old) (verdict first.now)
-        (verdict second.now)) target.new result }
+        (verdict second.now)) target.new (told result) }
     ensures area_after { area.new ≡ zeros area_limit }
 {
     let r = join_checked(first, second, area, target);
@@ -146,10 +152,7 @@ pub fn join(first: &[u32], second: &[u32], area: &mut [u32], target: &mut [u32])
         area.new result }
 {
     if area.len() < WordCount::AREA {
-        return Joined {
-            number: Refusal::AREA,
-            count: 0,
-        };
+        return told(Err(Refusal::Area));
     }
-    join_within(first, second, &mut area[..WordCount::AREA], target)
+    told(join_within(first, second, &mut area[..WordCount::AREA], target))
 }

@@ -1,11 +1,13 @@
 -- The place of the first element that passes a test, found by a walk.
-use Prim.Native.Nat.{ℕ, suc, ◌+◌, ◌*◌, ◌-◌, ◌≤◌, ◌<◌}
-use mathlib.Core.Path.{◌≡◌, refl, sym, ◌∙◌, ap, ap₂}
+use Rattle.std.specs.Prelude.{Option, None, Some}
+use Rattle.hir_def.specs.declared.Place.{Place}
+use Rattle.std.specs.Prelude.{Option}
+use Prim.Native.Nat.{ℕ, zero, suc, ◌+◌, ◌*◌, ◌-◌, ◌≤◌, ◌<◌}
+use mathlib.Core.Path.{◌≡◌, refl, sym, ◌∙◌, ap, subst}
 use mathlib.Core.List.{List, [], ◌∷◌}
-use mathlib.Core.Bool.{Bool, true, false, ◌&&◌, ◌||◌, false≢true}
+use mathlib.Core.Bool.{Bool, true, false, ◌||◌, false≢true}
 use native.Mathlib.Omega.{arith}
 use native.Mathlib.Nat.{add-zero, sub-zero}
-use lib.Dec.{eqb}
 use lib.ListN.{length, get_or, take, drop}
 use lib.Seq.{get_or-take, get_or-drop}
 use Rattle.snapshot.specs.Lists.{any, rows}
@@ -13,11 +15,13 @@ use Rattle.snapshot.specs.Words.{pay_of, words_of}
 use Rattle.snapshot.specs.Sizes.{definition_size}
 use Rattle.snapshot.specs.Records.{Name, Definition, name_at, definition_at}
 use Rattle.snapshot.specs.Layouts.{records_of}
-use Rattle.snapshot.proofs.Laws.{rows_next, rows_none}
+use Rattle.snapshot.proofs.Laws.{rows_next, rows_none, rows_whole}
 use Rattle.check_rules.specs.Tests.{same_name}
 use Rattle.accept.proofs.Accepted.{by_test}
 use Rattle.accept.proofs.Bools.{or_none_lem}
 use Rattle.hir_def.specs.Finds.{place_of}
+use Rattle.hir_def.specs.Tests.{PassedBy, NextBy}
+use Rattle.hir_def.proofs.Searches.{met_by, passed_by}
 use Rattle.join_words.proofs.Merged.{name_equal}
 use Rattle.join_numbers.specs.Parts.{after_name, names_from}
 use Rattle.join_numbers.specs.Numbered.{is_named}
@@ -91,28 +95,38 @@ pub names_whole : (p : Name → Bool) (W : List ℕ) (n : ℕ) → place_of p 0 
 names_whole p W n = rw sub-zero
 
 -- the builtin with a name, among the definitions from a place on
-module _ (W : List ℕ) (name base count k whole : ℕ)
-    (e : whole ≡ place_of (is_named name) k (rows (λ j. definition_at W (base + definition_size * j)) k (count - k)))
+module _ (W : List ℕ) (name n : ℕ) {P : ℕ → Bool → Type 0} {b base : ℕ} (same : b ≡ base)
+    (agree : (h : ℕ) (t : Bool) → P h t → t ≡ is_named name (definition_at W h))
   where
     abbrev here : ℕ → Definition
     here j = definition_at W (base + definition_size * j)
 
-    pub builtin_hit : {kind first : ℕ} → k < count → kind ≡ (here k).kind → first ≡ (here k).first → eqb kind 3 && eqb name first ≡ true → k ≡ whole
-    builtin_hit h a b t =
-        place_hit (is_named name) whole k _ e (here k) _ (rows_next here k count h) (ap₂ (λ x y. eqb x 3 && eqb name y) (sym a) (sym b) ∙ t)
+    abbrev whole : ℕ
+    whole = place_of (is_named name) 0 (records_of definition_at definition_size W base n)
 
-    pub builtin_miss : {kind first : ℕ} → k < count → kind ≡ (here k).kind → first ≡ (here k).first → eqb kind 3 && eqb name first ≡ false
-        → whole ≡ place_of (is_named name) (k + 1) (rows here (k + 1) (count - (k + 1)))
-    builtin_miss h a b t =
-        place_miss (is_named name) whole k _ e (here k) _ (rows_next here k count h) (ap₂ (λ x y. eqb x 3 && eqb name y) (sym a) (sym b) ∙ t)
+    tested : (i : ℕ) {h : ℕ} {t : Bool} → h ≡ b + definition_size * i → P h t → is_named name (here i) ≡ t
+    tested i {h} e p =
+        ap (λ x. is_named name (definition_at W (x + definition_size * i))) (sym same) ∙ ap (λ x. is_named name (definition_at W x)) (sym e)
+        ∙ sym (agree _ _ p)
 
-    pub builtin_end : count ≤ k → k ≡ whole
-    builtin_end h = place_end (is_named name) whole k _ e (rows_none here k count h)
+    builtins_to : (j : ℕ) → j ≤ n → PassedBy P definition_size b 0 j → whole ≡ place_of (is_named name) j (rows here j (n - j))
+    builtins_to zero i p = rows_whole (place_of (is_named name) 0) here n
+    builtins_to (suc j) i p =
+        subst (λ y. whole ≡ place_of (is_named name) y (rows here y (n - y))) (omega arith)
+        (place_miss (is_named name) whole j _ (builtins_to j (omega arith) (λ y u v. p y u (omega arith))) (here j) _
+        (rows_next here j n (omega arith)) (tested j refl (p j (omega arith) (omega arith))))
 
-pub builtin_based : (W : List ℕ) (name count : ℕ) {base base' : ℕ} → base ≡ base'
-    → place_of (is_named name) 0 (records_of definition_at definition_size W base count) ≡ place_of (is_named name) 0
-    (records_of definition_at definition_size W base' count)
-builtin_based W name count e = ap (λ b. place_of (is_named name) 0 (records_of definition_at definition_size W b count)) e
+    pub builtin_found : {x : Option Place} {w : Place} → NextBy P definition_size b n 0 x → x ≡ Some w → w.number ≡ whole
+    builtin_found {w = w} x e =
+        let j = w.number in
+        let m = met_by P definition_size b n 0 x e in
+        place_hit (is_named name) whole j _ (builtins_to j (let i = m.below in omega arith) m.before) (here j) _ (rows_next here j n m.below)
+        (tested j m.head m.passes)
+
+    pub builtin_none : {x : Option Place} → NextBy P definition_size b n 0 x → x ≡ None → n ≡ whole
+    builtin_none x e =
+        let p = passed_by P definition_size b n 0 x e in
+        place_end (is_named name) whole n _ (builtins_to n (omega arith) p) (rows_none here n n (omega arith))
 
 -- the name with its head at a place, among those that are walked
 module _ (W X A : List ℕ) (i at k count whole : ℕ)

@@ -9,6 +9,7 @@ ghost use Rattle.hir_def.specs.Finds.{place_of};
 ghost use Rattle.join_numbers.specs.Parts.{names_from};
 ghost use Rattle.join_numbers.specs.Numbered.{is_named};
 
+use hir_def::finds::next_where;
 use record_rules::names::known;
 use snapshot::ids::{DefinitionKind, Name};
 use snapshot::kind::{Size, text_words};
@@ -24,15 +25,21 @@ pub fn place_of_name(first: &[u32], count: usize, second: &[u32], area: &[u32], 
 {
     let i = n.0;
     let mut at = 0;
-    let mut k = 0;
-    while k < count {
+    for k in 0..count {
         if known(first, at, second, &area[i..], 1) {
             return k;
         }
         at = at + 1 + text_words(payload(first, at));
-        k += 1;
     }
-    k
+    count
+}
+
+// Whether the definition with its head at a place is the builtin with a name.
+fn is_named(first: &[u32], at: usize, name: usize) -> bool
+    ensures { result ≡ is_named name (definition_at first.now at) }
+{
+    let builtin = definition_kind(first, at) == Some(DefinitionKind::Builtin);
+    builtin & (name == definition_first(first, at))
 }
 
 /// The number of the first part's builtin with a name, the count of its definitions for none.
@@ -40,16 +47,15 @@ pub fn place_of_builtin(first: &[u32], l: Layout, name: usize) -> usize
     requires { word_count l < 2 ^ 32 }
     ensures { result ≡ place_of (is_named name) 0 (records_of definition_at definition_size first.now (definition_base l) l.definitions) }
 {
-    let base = l.definition_base();
-    let count = l.definitions;
-    let mut k = 0;
-    while k < count {
-        let at = base + Size::DEFINITION * k;
-        let builtin = definition_kind(first, at) == DefinitionKind::BUILTIN;
-        if builtin & (name == definition_first(first, at)) {
-            return k;
-        }
-        k += 1;
+    let test = |at| is_named(first, at, name);
+    match next_where(
+        l.definition_base(),
+        Size::DEFINITION,
+        l.definitions,
+        0,
+        test,
+    ) {
+        Some(found) => found.number,
+        None => l.definitions,
     }
-    k
 }

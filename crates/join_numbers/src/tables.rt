@@ -17,8 +17,7 @@ use snapshot::table::Tables;
 use snapshot::words::word;
 
 /// The first word of each table.
-#[derive(Clone, Copy)]
-pub struct Moved(pub usize);
+pub struct Moved;
 
 impl Moved {
     pub const NAMES: usize = Tables::END;
@@ -61,11 +60,9 @@ pub fn number_names(
     let old = l1.names;
     let count = l2.names;
     let mut fresh = 0;
-    let mut n = 0;
-    while n < count {
+    for n in 0..count {
         let place = place_of_name(first, old, second, area, Name(n));
         fresh = put_number(area, Moved::NAMES + n, old, place, fresh);
-        n += 1;
     }
     fresh
 }
@@ -85,7 +82,7 @@ fn place_of_definition(
         (definition_at second.now (definition_base l2 + definition_size * d.0))) 0 (part_of first.now).definitions }
 {
     let at = l2.definition_base() + Size::DEFINITION * d.0;
-    if definition_kind(second, at) != DefinitionKind::BUILTIN {
+    if definition_kind(second, at) != Some(DefinitionKind::Builtin) {
         return l1.definitions;
     }
     let name = word(area, Moved::NAMES + definition_first(second, at));
@@ -107,11 +104,9 @@ pub fn number_definitions(
     let old = l1.definitions;
     let count = l2.definitions;
     let mut fresh = 0;
-    let mut n = 0;
-    while n < count {
+    for n in 0..count {
         let place = place_of_definition(first, second, area, l1, l2, DefinitionId(n));
         fresh = put_number(area, Moved::DEFINITIONS + n, old, place, fresh);
-        n += 1;
     }
     fresh
 }

@@ -7,15 +7,17 @@ use native.Mathlib.Omega.{arith}
 use native.Mathlib.Nat.{add-zero}
 use borrow.Author.Tests.{eq-eqb, ne_eqb, lt-ltb, le-ltb, ltb-true, ltb-false, leb-true, leb-false, not-true, not-false}
 use lib.Dec.{leb, ltb}
-use lib.ListN.{length, get_or, set, length-append, get_or-append}
-use lib.Seq.{sets, length-sets, get_or-append-add}
+use borrow.Rule.Slice.PartMut.{put_mid}
+use lib.ListN.{length, get_or, set, take, drop, length-append, get_or-append}
+use lib.Seq.{sets, length-sets, sets-eq, take_all, get_or-append-add}
+use Rattle.std.proofs.lemmas.Slice.{put_mid-paste}
 use Rattle.snapshot.specs.Limits.{word_limit}
 use Rattle.snapshot.specs.Lists.{rows}
 use Rattle.snapshot.specs.Words.{kind_of, pay_of, arguments_at}
 use Rattle.snapshot.specs.Layouts.{dependency_base, map_base, child_base, prelude_base, definition_base, scope_base, import_base, extern_base, member_base}
 use Rattle.snapshot.specs.Layouts.{word_count}
 use Rattle.snapshot.specs.declared.layout.Layout.{Layout}
-use Rattle.snapshot.proofs.Laws.{past, rows_next, rows_none, rows_snoc, length_rows, get_d_rows}
+use Rattle.snapshot.proofs.Laws.{past, rows_next, rows_none, rows_snoc, rows_part, length_rows, get_d_rows}
 use Rattle.accept.proofs.Accepted.{by_test}
 use Rattle.accept.proofs.Turns.{arguments_few}
 use Rattle.edit_rules.specs.Written.{head_of, joined}
@@ -40,10 +42,6 @@ role_past k i h =
 pub role_long : (k i : ℕ) → 3 ≤ k → 8 ≤ i → 0 ≡ role_of k i
 unfolding role_of
 role_long k i h g = rw (role_of, le-ltb k 3 h, le-ltb i 8 g)
-
-pub role_read : (k i : ℕ) → 3 ≤ k → i < 8 → get_or role_table (8 * k + i - 24) 0 ≡ role_of k i
-unfolding role_of
-role_read k i h g = rw (role_of, le-ltb k 3 h, lt-ltb i 8 g)
 
 pub or_none_lem : (m n : ℕ) → n ≡ 0 → 0 ≡ or_none (λ k. m + k) n
 or_none_lem m n e = rw e
@@ -119,23 +117,9 @@ module _ (e : Numbers) (p v n : ℕ) where
     unfolding field_to
     field_seen h = sym (ap (λ r. field_to e p v r n) h)
 
-  pub field_none : (role : ℕ) → (role ≡ 1 → ⊥) → (role ≡ 2 → ⊥) → (role ≡ 3 → ⊥) → (role ≡ 4 → ⊥) → (role ≡ 5 → ⊥) → (role ≡ 6 → ⊥) → (role ≡ 7 → ⊥)
-      → (role ≡ 8 → ⊥) → (role ≡ 9 → ⊥) → n ≡ field_to e p v role n
+  pub field_nothing : (role : ℕ) → role ≡ 0 → n ≡ field_to e p v role n
   unfolding field_to
-  field_none role a b c d f g h i j =
-      rw (
-        field_to,
-        ne_eqb role 1 a,
-        ne_eqb role 2 b,
-        ne_eqb role 3 c,
-        ne_eqb role 4 d,
-        ne_eqb role 5 f,
-        ne_eqb role 6 g,
-        ne_eqb
-            role 7 h,
-        ne_eqb role 8 i,
-        ne_eqb role 9 j,
-      )
+  field_nothing role h = sym (ap (λ r. field_to e p v r n) h)
 
 module _ (e : Numbers) (X : List ℕ) (at : ℕ) where
   pub word_head : (i : ℕ) → i ≡ 0 → moved_word e X at i
@@ -258,6 +242,21 @@ stored f {write} {to} n i T₀ {T} e a b q =
     let l = length_rows f n in
     let k : i ≡ n = omega arith in
     record { next = omega arith; same = q ∙ ap (λ j. sets T₀ to (rows f 0 j)) k ∙ sym (ap (λ b. written b to (rows f 0 n) T₀) (not-false write e)) }
+
+-- n words of a list stored as one part
+pub stored_part : (W : List ℕ) {write : Bool} {to : ℕ} (from n k : ℕ) (T : List ℕ) {ys : List ℕ} → not write ≡ false
+    → from + n ≤ length W → to + n ≤ length T → k ≡ n → ys ≡ take n (drop from W) → Wrote write to (rows (λ i. get_or W (from + i) 0) 0 n) T (put_mid to k T ys) (to + n)
+unfolding written
+stored_part W {write} {to} from n k T {ys} e h g q p =
+    let zs = rows (λ i. get_or W (from + i) 0) 0 n in
+    let l = length_rows (λ i. get_or W (from + i) 0) n in
+    record {
+      next = omega arith;
+      same =
+          put_mid-paste to k T ys zs n (p ∙ sym (rows_part W from n h)) (sym q) (sym l)
+          ∙ ap₂ (λ x m. take to T ++ x ++ drop (to + m) T) (take_all n zs (omega arith)) (sym l)
+          ∙ sym (sets-eq zs T to (omega arith)) ∙ sym (ap (λ b. written b to zs T) (not-false write e));
+    }
 
 -- by the code's count of them
 module _ (f : ℕ → ℕ) {n m : ℕ} {write : Bool} {to : ℕ} {T₀ : List ℕ} where

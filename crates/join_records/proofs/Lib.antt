@@ -1,3 +1,4 @@
 pub mod Laws
 pub mod Passes
 pub mod Trees
+pub mod Roles

@@ -1,2 +1,3 @@
 pub mod Moves
 pub mod Writes
+pub mod Roles

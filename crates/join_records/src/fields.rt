@@ -1,5 +1,8 @@
 //! A word of the second with its number moved.
-ghost use Rattle.std.specs.Prelude.{◌≡◌, ◌+◌, ◌^◌, ◌<◌, get_or};
+ghost use Rattle.std.specs.Prelude.{◌≡◌, ◌+◌, ◌^◌, ◌<◌, get_or, length, map};
+ghost use Rattle.snapshot.specs.Lists.{rows};
+ghost use Rattle.snapshot.specs.Kinds.{kind_number};
+ghost use Rattle.join_records.specs.Roles.{role_number};
 ghost use Rattle.join_words.specs.Joined.{or_none, first_to, second_to, visible_to};
 ghost use Rattle.join_numbers.specs.Numbered.{name_table, definition_table};
 ghost use Rattle.join_records.specs.Moves.{numbers_of, role_of, definition_of, field_to, moved_word};
@@ -10,54 +13,81 @@ use snapshot::kind::Kind;
 use snapshot::layout::Layout;
 use snapshot::words::{field, kind, payload};
 
-// What a word of a record numbers. FIRST and SECOND say it of a definition's, by its kind; SEEN of a visibility's.
+// What a word of a record numbers. `First` and `Second` say it of a definition's, by its kind; `Seen` of a visibility's; `Parent` is a
+// module's number +1, 0 for none.
 #[derive(Clone, Copy)]
-struct Role(usize);
-
-impl Role {
-    const NOTHING: usize = 0;
-
-    const CRATE: usize = 1;
-
-    const MAP: usize = 2;
-
-    const MODULE: usize = 3;
-
-    // +1, 0 for none.
-    const PARENT: usize = 4;
-
-    const NAME: usize = 5;
-
-    const DEFINITION: usize = 6;
-
-    const FIRST: usize = 7;
-
-    const SECOND: usize = 8;
-
-    const SEEN: usize = 9;
+enum Role {
+    Nothing,
+    Crate,
+    Map,
+    Module,
+    Parent,
+    Name,
+    Definition,
+    First,
+    Second,
+    Seen,
 }
 
-// Eight words a kind, the payload first, from dependencies on.
-const ROLES: [usize; 88] = [
-    1, 1, 0, 0, 0, 0, 0, 0, 1, 4, 0, 0, 0, 0, 0, 0, 2, 4, 0, 0, 0, 0, 0, 0, 3, 3, 0, 0, 0, 0, 0, 0,
-    2, 3, 0, 0, 0, 0, 0, 0, 0, 7, 8, 0, 0, 0, 0, 0, 3, 0, 5, 6, 0, 9, 0, 0, 1, 0, 6, 5, 3, 0, 0, 0,
-    1, 5, 3, 0, 0, 0, 0, 0, 0, 0, 0, 0, 0, 0, 0, 0, 6, 5, 6, 0, 0, 0, 0, 0,
-];
+// What the words of a record number, the payload first.
+fn roles(kind: Kind) -> [Role; 8]
+    ensures { (length result ≡ 8) × (map role_number result ≡ rows (role_of (kind_number kind)) 0 8) }
+{
+    let no = Role::Nothing;
+    match kind {
+        Kind::Name | Kind::Crate => [no, no, no, no, no, no, no, no],
+        Kind::Dependency => [Role::Crate, Role::Crate, no, no, no, no, no, no],
+        Kind::Map => [Role::Crate, Role::Parent, no, no, no, no, no, no],
+        Kind::Module => [Role::Map, Role::Parent, no, no, no, no, no, no],
+        Kind::Child => [Role::Module, Role::Module, no, no, no, no, no, no],
+        Kind::Prelude => [Role::Map, Role::Module, no, no, no, no, no, no],
+        Kind::Definition => [no, Role::First, Role::Second, no, no, no, no, no],
+        Kind::Scope => [
+            Role::Module,
+            no,
+            Role::Name,
+            Role::Definition,
+            no,
+            Role::Seen,
+            no,
+            no,
+        ],
+        Kind::Import => [
+            Role::Crate,
+            no,
+            Role::Definition,
+            Role::Name,
+            Role::Module,
+            no,
+            no,
+            no,
+        ],
+        Kind::Extern => [Role::Crate, Role::Name, Role::Module, no, no, no, no, no],
+        Kind::Member => [
+            Role::Definition,
+            Role::Name,
+            Role::Definition,
+            no,
+            no,
+            no,
+            no,
+            no,
+        ],
+    }
+}
 
 // What word i of a record of a kind numbers.
-fn role_of(k: usize, i: usize) -> usize
-    ensures { result ≡ role_of k i }
+fn role_of(kind: usize, i: usize) -> Role
+    ensures { role_number result ≡ role_of kind i }
 {
-    if k < Kind::DEPENDENCY {
-        return Role::NOTHING;
-    }
-    if Kind::MEMBER < k {
-        return Role::NOTHING;
-    }
+    let Some(its) = Kind::of(kind) else {
+        return Role::Nothing;
+    };
     if 8 <= i {
-        return Role::NOTHING;
+        return Role::Nothing;
     }
-    ROLES[8 * k + i - 24]
+    let all = roles(its);
+    all[i]
 }
 
 /// The new number of a name of the second.
@@ -79,20 +109,18 @@ fn first_to(area: &[u32], l: Layout, k: usize, n: usize) -> usize
     requires { first_to (numbers_of area.now l) (definition_of k n) < 2 ^ 32 }
     ensures { result ≡ first_to (numbers_of area.now l) (definition_of k n) }
 {
-    if k == DefinitionKind::VARIANT {
-        return definition_to(area, n);
+    match DefinitionKind::of(k) {
+        Some(DefinitionKind::Variant) => definition_to(area, n),
+        Some(DefinitionKind::Builtin) => name_to(area, n),
+        _ => l.modules + n,
     }
-    if k == DefinitionKind::BUILTIN {
-        return name_to(area, n);
-    }
-    l.modules + n
 }
 
 // The second: a variant's name, or 0.
 fn second_to(area: &[u32], l: Layout, k: usize, n: usize) -> usize
     ensures { result ≡ second_to (numbers_of area.now l) (definition_of k n) }
 {
-    if k == DefinitionKind::VARIANT {
+    if DefinitionKind::of(k) == Some(DefinitionKind::Variant) {
         return name_to(area, n);
     }
     n
@@ -124,38 +152,22 @@ fn parent_to(area: &[u32], l: Layout, n: usize) -> usize
 }
 
 // A word moved by what it numbers, in a record with that payload and that fourth argument.
-fn field_to(area: &[u32], l: Layout, p: usize, v: usize, role: usize, n: usize) -> usize
-    requires { field_to (numbers_of area.now l) p v role n < 2 ^ 32 }
-    ensures { result ≡ field_to (numbers_of area.now l) p v role n }
+fn field_to(area: &[u32], l: Layout, p: usize, v: usize, role: Role, n: usize) -> usize
+    requires { field_to (numbers_of area.now l) p v (role_number role) n < 2 ^ 32 }
+    ensures { result ≡ field_to (numbers_of area.now l) p v (role_number role) n }
 {
-    if role == Role::CRATE {
-        return l.crates + n;
+    match role {
+        Role::Nothing => n,
+        Role::Crate => l.crates + n,
+        Role::Map => l.maps + n,
+        Role::Module => l.modules + n,
+        Role::Parent => parent_to(area, l, n),
+        Role::Name => name_to(area, n),
+        Role::Definition => definition_to(area, n),
+        Role::First => first_to(area, l, p, n),
+        Role::Second => second_to(area, l, p, n),
+        Role::Seen => seen_to(area, l, v, n),
     }
-    if role == Role::MAP {
-        return l.maps + n;
-    }
-    if role == Role::MODULE {
-        return l.modules + n;
-    }
-    if role == Role::PARENT {
-        return parent_to(area, l, n);
-    }
-    if role == Role::NAME {
-        return name_to(area, n);
-    }
-    if role == Role::DEFINITION {
-        return definition_to(area, n);
-    }
-    if role == Role::FIRST {
-        return first_to(area, l, p, n);
-    }
-    if role == Role::SECOND {
-        return second_to(area, l, p, n);
-    }
-    if role == Role::SEEN {
-        return seen_to(area, l, v, n);
-    }
-    n
 }
 
 /// Word i of the record with its head at a place, moved.

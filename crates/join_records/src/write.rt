@@ -22,11 +22,7 @@ fn copy(words: &[u32], from: usize, end: usize, target: &mut [u32], to: usize, w
     if !write {
         return to + n;
     }
-    let mut i = 0;
-    while i < n {
-        target[to + i] = words[from + i];
-        i += 1;
-    }
+    target[to..to + n].copy_from_slice(&words[from..end]);
     to + n
 }
 
@@ -48,10 +44,8 @@ fn put_record(
     if !write {
         return to + n;
     }
-    let mut i = 0;
-    while i < n {
+    for i in 0..n {
         target[to + i] = moved_word(words, area, l, at, i) as u32;
-        i += 1;
     }
     to + n
 }
@@ -61,10 +55,10 @@ fn is_kept(words: &[u32], area: &[u32], l: Layout, at: usize, n: usize) -> bool
     ensures { result ≡ kept_at area.now l words.now at n }
 {
     let k = kind(words, at);
-    if k == Kind::NAME {
+    if k == Kind::Name as usize {
         return l.names <= name_to(area, n);
     }
-    if k == Kind::DEFINITION {
+    if k == Kind::Definition as usize {
         return l.definitions <= definition_to(area, n);
     }
     true
@@ -184,10 +178,8 @@ pub fn put_kinds(
         target.new result }
 {
     let mut to = 0;
-    let mut k = 0;
-    while k < KINDS {
+    for k in 0..KINDS {
         to = put_kind(first, second, area, l, m, k, target, to, write);
-        k += 1;
     }
     to
 }

@@ -47,7 +47,7 @@ const PLAIN: [u32; 14] = [
 
 const PLAIN_HEADS: [u32; 5] = [0, 2, 5, 8, 11];
 
-// How many of the keywords an edition has.
+// How many of the keywords an edition has. An edition is a year: C may pass any, and only its order counts, so it is no enum.
 fn keywords_in(edition: usize) -> usize
     ensures { (result ≡ keywords_in edition) × (result ≤ 53) }
 {

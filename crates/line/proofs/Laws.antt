@@ -268,10 +268,11 @@ pub tail_none : (f : ℕ → List ℕ) (leading : Bool) (ns : List ℕ) → [] �
 unfolding tail_to
 tail_none f leading ns = refl
 
-pub tail_next : (f : ℕ → List ℕ) (leading : Bool) (ns : List ℕ) (i : ℕ)
-    → tail_to f leading ns i ++ (joint_if (leading || ltb 0 i) ++ f (get_or ns i 0)) ≡ tail_to f leading ns (i + 1)
+pub tail_next : (f : ℕ → List ℕ) (leading : Bool) (ns : List ℕ) (i : ℕ) {n : ℕ} → n ≡ get_or ns i 0
+    → tail_to f leading ns i ++ (joint_if (leading || ltb 0 i) ++ f n) ≡ tail_to f leading ns (i + 1)
 unfolding tail_to
-tail_next f leading ns i = ap (tail_to f leading ns) (sym (add-one i))
+tail_next f leading ns i e =
+    ap (λ n. tail_to f leading ns i ++ (joint_if (leading || ltb 0 i) ++ f n)) e ∙ ap (tail_to f leading ns) (sym (add-one i))
 
 tail_path : (f : ℕ → List ℕ) (k : ℕ) (ns : List ℕ) (i : ℕ) → i ≤ length ns
     → joined (bytes_of "::") (prefix_parts k) ++ tail_to f (eqb k 1 || (eqb k 2 || (eqb k 3 || eqb k 4))) ns i ≡ path_to f k ns i

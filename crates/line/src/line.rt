@@ -17,8 +17,7 @@ use snapshot::ids::ModuleId;
 use snapshot::layout::Layout;
 
 /// A number of bytes.
-#[derive(Clone, Copy)]
-pub struct LineBytes(pub usize);
+pub struct LineBytes;
 
 impl LineBytes {
     /// Bytes of a line and its end, at most: an outcome, a prefix, 16 names of 255 bytes, `r#` included, with joints, two numbers.
@@ -52,14 +51,14 @@ fn put_outcome(
     ensures upper_bound { result ≤ 4126 }
 {
     let names = r.names;
-    if r.outcome == Outcome::FOUND {
+    if r.outcome == Outcome::Found as usize {
         let a = put(out, 0, b"found ");
         return put_path(out, a, words, area, l, edition, r.kind, &names, r.count);
     }
-    if r.outcome == Outcome::NONE {
+    if r.outcome == Outcome::None as usize {
         return put(out, 0, b"none -");
     }
-    if r.outcome == Outcome::MISLEADS {
+    if r.outcome == Outcome::Misleads as usize {
         let a = put(out, 0, b"misleads ");
         return put_path(out, a, words, area, l, edition, r.kind, &names, r.count);
     }
@@ -103,6 +102,7 @@ pub fn put_line(
 }
 
 /// Puts the line of a refusal and its end at the front, and answers its length.
+// By its number, which a report has as a word for C.
 pub fn put_refusal(out: &mut [u8], number: usize) -> usize
     requires { line_limit ≤ length out.old }
     ensures { (s : Snapshot) (from : ℕ) → Put out.old 0 (line_in s from (refused number) ++ bytes_of "\n") out.new result }

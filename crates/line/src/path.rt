@@ -17,13 +17,13 @@ fn put_prefix(out: &mut [u8], at: usize, kind: usize) -> usize
     ensures put { Put out.old at (joined (bytes_of "::") (prefix_parts kind)) out.new result }
     ensures upper_bound { result ≤ at + 5 }
 {
-    if kind == PathKind::SELF {
+    if kind == PathKind::SelfModule as usize {
         return put(out, at, b"self");
     }
-    if kind == PathKind::SUPER {
+    if kind == PathKind::Super as usize {
         return put(out, at, b"super");
     }
-    if kind == PathKind::CRATE {
+    if kind == PathKind::Crate as usize {
         return put(out, at, b"crate");
     }
     at
@@ -71,14 +71,13 @@ pub(crate) fn put_path(
         (take count names.now))) out.new result }
     ensures upper_bound { result ≤ at + 4117 }
 {
-    let leading = (kind == PathKind::SELF)
-        | ((kind == PathKind::SUPER) | ((kind == PathKind::CRATE) | (kind == PathKind::ABSOLUTE)));
+    let leading = (kind == PathKind::SelfModule as usize)
+        | ((kind == PathKind::Super as usize)
+            | ((kind == PathKind::Crate as usize) | (kind == PathKind::Absolute as usize)));
     let mut to = put_prefix(out, at, kind);
-    let mut i = 0;
-    while i < count {
-        let n = Name(names[i]);
+    for (i, name) in names[..count].iter().enumerate() {
+        let n = Name(*name);
         to = put_part(out, to, words, area, l, edition, n, leading | (0 < i));
-        i += 1;
     }
     to
 }

@@ -41,12 +41,10 @@ fn put_text(out: &mut [u8], at: usize, text: &[u32], n: usize) -> usize
     ensures put { Put out.old at (take n (unpacked text.now)) out.new result }
     ensures value { result ≡ at + n }
 {
-    let mut i = 0;
-    while i < n {
+    for i in 0..n {
         out[at + i] = text_byte(text, i);
-        i += 1;
     }
-    at + i
+    at + n
 }
 
 /// Puts the text of a name as an edition writes it; a number that is no name's puts nothing.

@@ -5,3 +5,4 @@ pub mod Codes
 pub mod Stacks
 pub mod Nexts
 pub mod Gathers
+pub mod Each

@@ -2,13 +2,10 @@
 use Prim.Native.Nat.{ℕ, zero, suc, ◌+◌, ◌-◌, ◌≤◌, ◌<◌}
 use mathlib.Core.Path.{◌≡◌, refl, sym, ◌∙◌, ap, ap₂, subst}
 use mathlib.Core.List.{List, [], ◌∷◌, ◌++◌}
-use mathlib.Core.Bool.{Bool, true, false, ◌||◌, ◌&&◌}
+use mathlib.Core.Bool.{Bool, true, false, ◌||◌}
 use native.Mathlib.Omega.{arith}
-use lib.Dec.{eqb}
 use lib.ListN.{length, get_or, set, take}
 use lib.Seq.{get_or-set_other, take-set-le}
-use borrow.Author.Tests.{eq-eqb, ne_eqb}
-use Rattle.snapshot.specs.Lists.{any}
 use Rattle.snapshot.specs.Limits.{module_limit}
 use Rattle.snapshot.specs.declared.layout.Layout.{Layout}
 use Rattle.snapshot.specs.Layouts.{snap_of, table_words}
@@ -20,13 +17,12 @@ use Rattle.scope_index.proofs.Chaining.{accepted_sized}
 use Rattle.find_path.specs.Walk.{has, visited}
 use Rattle.search_laws.proofs.Tables.{same_snap, same_reads}
 use Rattle.local_levels.specs.declared.Stack.{Stack}
-use Rattle.local_levels.specs.Levels.{Small, code_of, item_at, run_at, levels_of, Chain, room}
+use Rattle.local_levels.specs.Levels.{item_at, run_at, levels_of, Chain, room}
 use Rattle.local_levels.specs.Push.{push}
 use Rattle.local_levels.specs.Post.{Ready, Pushed}
 use Rattle.local_levels.proofs.Rows.{run_none, run_put, take_less, agree, run_same}
 use Rattle.local_levels.proofs.Walks.{push_skip, push_take, push_none, push_append}
 use Rattle.local_levels.proofs.Rooms.{Fits, fits_snoc, fits_place, fits_none}
-use Rattle.local_levels.proofs.Codes.{code_item}
 
 -- the levels, one after the other
 pub chain_wider : (A : List ℕ) (p d t u : ℕ) → t ≤ u → Chain A p d t → Chain A p d u
@@ -49,39 +45,6 @@ chain_first A p zero t h c = absurd (omega arith)
 chain_first A p (suc d) t h c =
     let e : suc d - 1 ≡ d = omega arith in
     record { header = c.0; within = c.1; rest = rw e (chain_wider A (get_or A (p - 2) 0) d (p - 3) t (omega (arith, c.0, c.1)) c.2) }
-
-level_first : (A : List ℕ) (p d : ℕ) (item : Item) (m : ℕ) → Small item → 0 < d
-    → visited (levels_of A p d) item m ≡ ((eqb (get_or A (p - 3) 0) (code_of item) && has (run_at A p (get_or A (p - 1) 0 + 1)) m) || visited
-    (levels_of A (get_or A (p - 2) 0) (d - 1)) item m)
-unfolding levels_of visited any
-level_first A p zero item m s h = absurd (omega arith)
-level_first A p (suc d) item m s h =
-    let e : suc d - 1 ≡ d = omega arith in rw (e, code_item (get_or A (p - 3) 0) item s)
-
-and_no : (a b : Bool) → b ≡ false → a && b ≡ false
-and_no true b e = e
-and_no false b e = refl
-
-module _ (A : List ℕ) (item : Item) (m : ℕ) (all : Bool) (p d : ℕ) (e : all ≡ visited (levels_of A p d) item m) (s : Small item) (h : 0 < d) where
-  pub visited_hit : {w n c : ℕ} {r : Bool} → w ≡ get_or A (p - 3) 0 → c ≡ code_of item → w ≡ c → n ≡ get_or A (p - 1) 0
-      → r ≡ has (run_at A p (n + 1)) m → r ≡ true → true ≡ all
-  visited_hit q v x y z t =
-      let a : has (run_at A p (get_or A (p - 1) 0 + 1)) m ≡ true = ap (λ n. has (run_at A p (n + 1)) m) (sym y) ∙ sym z ∙ t in
-      rw (e, level_first A p d item m s h, eq-eqb _ _ (sym q ∙ x ∙ v), a)
-
-  pub visited_other : {w p' d' c : ℕ} → w ≡ get_or A (p - 3) 0 → c ≡ code_of item → (w ≡ c → ⊥) → p' ≡ get_or A (p - 2) 0 → d' ≡ d - 1
-      → all ≡ visited (levels_of A p' d') item m
-  visited_other q v x y z = rw (e, level_first A p d item m s h, ne_eqb _ _ (λ o. x (q ∙ o ∙ sym v)), y, z)
-
-  pub visited_miss : {n p' d' : ℕ} {r : Bool} → n ≡ get_or A (p - 1) 0 → r ≡ has (run_at A p (n + 1)) m → r ≡ false → p' ≡ get_or A (p - 2) 0
-      → d' ≡ d - 1 → all ≡ visited (levels_of A p' d') item m
-  visited_miss y z t u v =
-      let a : has (run_at A p (get_or A (p - 1) 0 + 1)) m ≡ false = ap (λ n. has (run_at A p (n + 1)) m) (sym y) ∙ sym z ∙ t in
-      rw (e, level_first A p d item m s h, and_no (eqb (get_or A (p - 3) 0) (code_of item)) _ a, u, v)
-
-pub visited_end : (A : List ℕ) (item : Item) (m : ℕ) (all : Bool) (p d : ℕ) → all ≡ visited (levels_of A p d) item m → d ≤ 0 → false ≡ all
-unfolding levels_of visited any
-visited_end A item m all p d e h = let z : d ≡ 0 = omega arith in rw (e, z)
 
 -- Two areas that agree below top have the same levels there.
 module _ (A B : List ℕ) (top : ℕ) (same : take top A ≡ take top B) where

@@ -1,3 +1,4 @@
 pub mod Levels
 pub mod Push
 pub mod Post
+pub mod Each

@@ -14,17 +14,15 @@ ghost use Rattle.local_levels.specs.Post.{Ready, Pushed, Gathered};
 
 use crate::Stack;
 use crate::levels::push_module;
+use hir_def::Item;
 use hir_def::items::first_of;
 use hir_def::modules::{containing_module, krate};
 use hir_def::visibility::is_visible_from;
-use hir_def::{Item, Next};
 use scope_index::modules_from;
-use snapshot::ids::{ModuleId, OptModule};
+use snapshot::ids::ModuleId;
 use snapshot::kind::Size;
 use snapshot::layout::Layout;
-use snapshot::record::{
-    child_child, child_owner, scope_definition, scope_number, scope_visibility,
-};
+use snapshot::record::{child_child, child_owner, scope_definition, scope_seen};
 use snapshot::words::word;
 
 // The children of the viewing module, in record order.
@@ -43,15 +41,13 @@ fn push_children(
 {
     let base = l.child_base();
     let mut run = n;
-    let mut k = 0;
-    while k < l.children {
+    for k in 0..l.children {
         let h = base + Size::CHILD * k;
         let owner = child_owner(words, h);
         if owner.0 == from.0 {
             let m = child_child(words, h);
             run = push_module(area, s, run, item, m);
         }
-        k += 1;
     }
     run
 }
@@ -73,7 +69,7 @@ fn push_containers(
     let mut run = n;
     let mut m = from;
     loop {
-        let OptModule::Module(c) = containing_module(words, area, l, m) else {
+        let Some(c) = containing_module(words, area, l, m) else {
             return run;
         };
         m = c;
@@ -94,8 +90,7 @@ fn leads(words: &[u32], area: &[u32], l: Layout, from: ModuleId, h: usize, to: M
     if there.0 != here.0 {
         return false;
     }
-    let kind = scope_visibility(words, h);
-    is_visible_from(words, area, l, kind, scope_number(words, h), from)
+    is_visible_from(words, area, l, scope_seen(words, h), from)
 }
 
 // The modules that a module leads to, in record order.
@@ -118,14 +113,14 @@ fn push_next(
     let mut k = 0;
     loop {
         let e = modules_from(words, area, l, k, m);
-        let Next::Record(j, h) = e else {
+        let Some(next) = e else {
             return run;
         };
-        let to = ModuleId(first_of(words, l, scope_definition(words, h)));
-        if leads(words, area, l, from, h, to) {
+        let to = ModuleId(first_of(words, l, scope_definition(words, next.head)));
+        if leads(words, area, l, from, next.head, to) {
             run = push_module(area, s, run, item, to);
         }
-        k = j + 1;
+        k = next.number + 1;
     }
 }
 
@@ -146,6 +141,7 @@ pub fn find_local_import_locations(
     let children = push_children(words, area, l, from, s, 0, item);
     let mut n = push_containers(words, area, l, from, s, children, item);
     let mut k = 0;
+    // No range: `n` grows in the loop.
     while k < n {
         let m = ModuleId(word(area, s.top + k));
         n = push_next(words, area, l, from, s, n, item, m);

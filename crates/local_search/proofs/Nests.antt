@@ -1,7 +1,7 @@
 -- The laws of a search that opens a level.
 use Prim.Native.Nat.{ℕ, zero, suc, ◌+◌, ◌-◌, ◌≤◌, ◌<◌}
 use mathlib.Core.Path.{◌≡◌, refl, sym, ◌∙◌, ap, ap₂, subst}
-use mathlib.Core.Option.{Option}
+use Rattle.std.specs.Prelude.{Option}
 use mathlib.Core.List.{List, [], ◌∷◌, ◌++◌}
 use native.Mathlib.Omega.{arith}
 use native.Mathlib.Numerals.{add-one}
@@ -188,7 +188,7 @@ above s = record { top = s.top + 3; place = s.place; depth = s.depth }
 abbrev pub upper : Stack → ℕ → Stack
 upper s n = record { top = s.top + 3 + n; place = s.top + 3; depth = s.depth + 1 }
 
-module _ (W A₀ : List ℕ) (l : Layout) (x : FindPathCtx) (left : ℕ) (item : Item) (s : Stack) (some : 0 < left) (y : Searchable W A₀ l x left s)
+module _ (W A₀ : List ℕ) (l : Layout) (x : FindPathCtx) (left : ℕ) (item : Item) (s : Stack) (some_left : 0 < left) (y : Searchable W A₀ l x left s)
     (small : Small item) (code : ℕ) (named : code ≡ code_of item) where
   abbrev H : List ℕ
   H = headed A₀ s code
@@ -286,8 +286,8 @@ module _ (W A₀ : List ℕ) (l : Layout) (x : FindPathCtx) (left : ℕ) (item :
                 rows_set W A l x (s.top + 2) k (reads_at W A₀ A l s.top y.reads y.tables (v.opened.below ∙ start_below))
                 v.rows (omega (arith, y.numbers))
                 (omega (arith, room));
-            space = omega (arith, y.space, v.few, some);
-            deep = omega (arith, y.deep, some);
+            space = omega (arith, y.space, v.few, some_left);
+            deep = omega (arith, y.deep, some_left);
             chain = open_chain A₁ s item n B cursor_open k cursor_at h v.chain;
             under = omega arith;
           }
@@ -317,7 +317,7 @@ module _ (W A₀ : List ℕ) (l : Layout) (x : FindPathCtx) (left : ℕ) (item :
             record {
               within = omega arith;
               few = v.few;
-              fits = rw er (step_fits S₁ x left _ best m (importable_name S₁ x item m) some v.fits);
+              fits = rw er (step_fits S₁ x left _ best m (importable_name S₁ x item m) some_left v.fits);
               chain = v.chain;
               opened = open_kept A₁ s item n B cursor_open C a.below c;
               rows = a.rows;

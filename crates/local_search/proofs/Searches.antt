@@ -3,7 +3,7 @@ use Prim.Native.Nat.{ℕ, zero, suc, ◌+◌, ◌-◌, ◌≤◌, ◌<◌, ◌^�
 use mathlib.Core.Path.{◌≡◌, refl, sym, ◌∙◌, ap, subst}
 use mathlib.Core.List.{List, []}
 use mathlib.Core.Bool.{Bool, true, false, true≢false}
-use mathlib.Core.Option.{Option, none, some}
+use Rattle.std.specs.Prelude.{Option, None, Some, ℕ}
 use native.Mathlib.Omega.{arith}
 use lib.ListN.{length, set, take}
 use lib.Seq.{take-set-le}
@@ -18,8 +18,6 @@ use Rattle.hir_def.specs.Items.{ns_of, module_item}
 use Rattle.hir_def.specs.declared.Item.{Item}
 use Rattle.hir_def.specs.declared.Item.TheVariants.{Mod, Def}
 use Rattle.hir_def.specs.Entries.{entry_of}
-use Rattle.hir_def.specs.declared.Entry.{Entry}
-use Rattle.hir_def.specs.declared.Entry.TheVariants.{At, Nothing}
 use Rattle.path_choices.specs.declared.Choice.{Choice}
 use Rattle.find_path.specs.declared.FindPathCtx.{FindPathCtx}
 use Rattle.path_choices.specs.Choices.{via_local, step_by, nothing, length_left, extended}
@@ -160,11 +158,11 @@ idle : (S : Snapshot) (x : FindPathCtx) (left : ℕ) (ls : List Level) (best : C
     → search_local S x (length_left left best) ls m ≡ nothing
     → best ≡ location S x (search_local S x) left ls best m a
 unfolding location offer_entry offer
-idle S x left ls best m none c = refl
-idle S x left ls best m (some e) c = sym (ap (λ (z : Choice). offer_entry S x best z e) c)
+idle S x left ls best m None c = refl
+idle S x left ls best m (Some e) c = sym (ap (λ (z : Choice). offer_entry S x best z e) c)
 
 -- one location
-module _ (W A : List ℕ) (l : Layout) (x : FindPathCtx) (left : ℕ) (s : Stack) (some : 0 < left) (y : Searchable W A l x (left - 1) s)
+module _ (W A : List ℕ) (l : Layout) (x : FindPathCtx) (left : ℕ) (s : Stack) (some_left : 0 < left) (y : Searchable W A l x (left - 1) s)
     (best : Choice) (item : Item) (m : ℕ) where
   abbrev S : Snapshot
   S = snap_of W A l
@@ -183,13 +181,13 @@ module _ (W A : List ℕ) (l : Layout) (x : FindPathCtx) (left : ℕ) (s : Stack
       let c : search_local S x (length_left left best) ls m ≡ nothing = ap (λ i. search_local S x i ls m) (sym e) ∙ far_nothing S x j ls m no in
       idle S x left ls best m (importable_name S x item m) c
 
-  pub location_none : {a : Entry} → entry_of scope_at W a ≡ importable_name S x item m → a ≡ Nothing → best ≡ here (importable_name S x item m)
+  pub location_none : {a : Option ℕ} → entry_of scope_at W a ≡ importable_name S x item m → a ≡ None → best ≡ here (importable_name S x item m)
   unfolding location
   location_none e q = sym (ap here (sym e ∙ ap (entry_of scope_at W) q))
 
   module _ {j : ℕ} (e : j ≡ length_left left best) where
     pub location_shorter : j < left
-    location_shorter = rw e (length_falls left best some)
+    location_shorter = rw e (length_falls left best some_left)
 
     pub location_call : Searchable W A l x j s
     location_call = searchable_less j y (omega (arith, location_shorter))
@@ -210,7 +208,7 @@ module _ (W A : List ℕ) (l : Layout) (x : FindPathCtx) (left : ℕ) (s : Stack
       pub location_text : c.path_text_len < 2 ^ 32
       location_text = omega (arith, fits.text (names_short W A l y.reads), location_few)
 
-      pub location_some : {h : ℕ} {b : Entry} {r : Choice} → entry_of scope_at W b ≡ importable_name S x item m → b ≡ At h
+      pub location_some : {h : ℕ} {b : Option ℕ} {r : Choice} → entry_of scope_at W b ≡ importable_name S x item m → b ≡ Some h
           → r ≡ offer_entry (snap_of W B l) x best c (scope_at W h) → Answered W A l x s.top (here (importable_name S x item m)) B r
       unfolding location
       location_some {h} {b} {r} p q o =
@@ -225,7 +223,7 @@ module _ (W A : List ℕ) (l : Layout) (x : FindPathCtx) (left : ℕ) (s : Stack
           }
 
 -- the entry that was answered is in range
-pub entry_at : (W : List ℕ) (l : Layout) {a : Entry} {h : ℕ} → EntryFits W l a → a ≡ At h → ScopeFits (counts_in l) (scope_at W h)
+pub entry_at : (W : List ℕ) (l : Layout) {a : Option ℕ} {h : ℕ} → EntryFits W l a → a ≡ Some h → ScopeFits (counts_in l) (scope_at W h)
 entry_at W l f e = subst (EntryFits W l) e f
 
 -- the numbers are asked for
@@ -255,7 +253,7 @@ module _ (W A : List ℕ) (l : Layout) (x : FindPathCtx) (left : ℕ) (s : Stack
   tight_none e q z = record { same = z ∙ sym (tight_same ∙ (row_here e).nowhere q); below = refl; rows = y.rows }
 
   -- it was not searched yet
-  module _ (some : 0 < left) (u : ruled S₀ x m ≡ false) (B : List ℕ) {r : Choice} (size : length B ≡ length A)
+  module _ (some_left : 0 < left) (u : ruled S₀ x m ≡ false) (B : List ℕ) {r : Choice} (size : length B ≡ length A)
       (a : Answered W A l x s.top (calculate_best_path_local S₀ x (search_local S₀ x) left ls₀ (module_item m)) B r) where
     made_same : r ≡ search_local S₀ x left ls₀ m
     made_same = search_on S₀ x left ls₀ m (λ z. omega arith) refl u a.same
@@ -315,10 +313,10 @@ module _ (W A : List ℕ) (l : Layout) (x : FindPathCtx) (left : ℕ) (s : Stack
         in omega arith)
         ls₀ (λ i o. let f = t.farther i o in omega arith)
 
-    module _ (some : 0 < left) {o : ℕ} (q : o ≡ (scope_at W (row_place w)).owner) (B : List ℕ) {c : Choice}
+    module _ (some_left : 0 < left) {o : ℕ} (q : o ≡ (scope_at W (row_place w)).owner) (B : List ℕ) {c : Choice}
         (a : Answered W A l x s.top (search_local S₀ x (left - 1) ls₀ o) B c) where
       owner_choice : c ≡ search_local S₀ x (left - 1) [] (scope_at W (row_place w)).owner
-      owner_choice = a.same ∙ ap (λ z. search_local S₀ x (left - 1) ls₀ z) q ∙ owner_same some
+      owner_choice = a.same ∙ ap (λ z. search_local S₀ x (left - 1) ls₀ z) q ∙ owner_same some_left
 
       owner_fits : Fits S₀ (left - 1) c
       owner_fits = subst (Fits S₀ (left - 1)) (sym a.same) (search_local_fits S₀ x (left - 1) ls₀ o)

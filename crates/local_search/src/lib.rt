@@ -16,7 +16,7 @@ ghost use Rattle.local_search.specs.Post.{Ruling, Searchable, Answered};
 
 use distances::{Distances, set_distances};
 use find_path::{Choice, FindPathCtx};
-use hir_def::{Entry, Item};
+use hir_def::Item;
 use local_levels::Stack;
 use local_levels::levels::code_of;
 use path_offers::offers::{importable_name, offer_entry};
@@ -54,7 +54,7 @@ fn location(
         return best;
     }
     let a = importable_name(words, area, l, x, item, m);
-    let Entry::At(h) = a else {
+    let Some(h) = a else {
         return best;
     };
     let c = find_path_for_module_local(words, area, l, x, j, m, s);
@@ -168,13 +168,11 @@ fn local_at(
         depth: s.depth + 1,
     };
     let mut best = nothing();
-    let mut k = 0;
-    while k < n {
+    for k in 0..n {
         let cursor = s.top + 2;
         area[cursor] = k as u32;
         let m = word(area, base + k);
         best = location(words, area, l, x, left, best, item, ModuleId(m), up);
-        k += 1;
     }
     best
 }

@@ -11,9 +11,8 @@ use Rattle.snapshot.specs.Layouts.{snap_of}
 use Rattle.snapshot.specs.Records.{Snapshot}
 use Rattle.snapshot.specs.declared.layout.Layout.{Layout}
 use Rattle.check_rules.specs.Verdict.{refuse, accept, verdict}
-use Rattle.accept.specs.Post.{Reads, Checks, check_of}
-use Rattle.accept.specs.declared.check.Checked.{Checked}
-use Rattle.accept.specs.declared.check.Checked.TheVariants.{Accepted}
+use Rattle.accept.specs.Post.{Checked, Reads, Checks, check_of}
+use Rattle.std.specs.Prelude.{Ok}
 
 -- what the check accepts, the verdict accepts
 verdict_of_lem : (n : ℕ) (W : List ℕ) (s : Snapshot) → accept s ≡ check_of n W → verdict W ≡ accept s
@@ -24,7 +23,7 @@ verdict_of_lem n W s e = by (ltb n area_limit) e
     by true q = let z : ◌≡◌ {A = ℕ} 0 1 = cc in absurd (omega arith)
     by false q = sym q
 
-pub reads : (W A₀ A : List ℕ) (l : Layout) (r : Checked) → r ≡ Accepted l → Checks W A₀ A r → Reads W A l
+pub reads : (W A₀ A : List ℕ) (l : Layout) (r : Checked) → r ≡ Ok l → Checks W A₀ A r → Reads W A l
 reads W A₀ A l r e c =
     let k = subst (λ (x : Checked). Checks W A₀ A x) e c in
     record { same = verdict_of_lem (length A₀) W (snap_of W A l) k.same; tables = k.tables }

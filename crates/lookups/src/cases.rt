@@ -1,113 +1,64 @@
 //! The cases of the list, each up to a full stop: a title, an equals sign, the words, a question mark and the queries, five
 //! words each. Text without an equals sign is a comment.
-ghost use Rattle.std.specs.Prelude.{◌+◌, ◌≤◌, length};
 ghost use Rattle.accept.specs.Post.{Reads};
 
-use crate::line::{print_query, print_refusal, print_reply};
-use crate::query::answer;
-use accept::check::{Checked, check};
-use case_text::text::next_stop;
-use case_text::words::read_words;
-use snapshot::layout::Layout;
-use snapshot::words::word;
+use crate::asked::Snapshot;
+use crate::query::Query;
+use accept::check::{Refused, check};
+use case_text::words::words_of;
+use snapshot::ids::WordCount;
 use std::io;
 
-// The query that begins at a place.
-fn run_query(
-    rt: &impl Print,
-    words: &[u32],
-    area: &[u32],
-    l: Layout,
-    queries: &[u32],
-    k: usize,
-) -> io::Result<()>
-    requires { Reads words.now area.now l × (k + 5 ≤ length queries.now) }
+fn run_queries(rt: &impl Print, snapshot: &Snapshot, queries: &[u32]) -> io::Result<()>
+    requires { Reads snapshot.now.words.now snapshot.now.area.now snapshot.now.layout }
 {
-    let code = word(queries, k);
-    let a = word(queries, k + 1);
-    let b = word(queries, k + 2);
-    let c = word(queries, k + 3);
-    let d = word(queries, k + 4);
-    print_query(rt, code, a, b, c, d)?;
-    print_reply(rt, answer(words, area, l, code, a, b, c, d))
-}
-
-fn run_queries(
-    rt: &impl Print,
-    words: &[u32],
-    area: &[u32],
-    l: Layout,
-    queries: &[u32],
-) -> io::Result<()>
-    requires { Reads words.now area.now l }
-{
-    let mut k = 0;
-    while 5 <= queries.len() - k {
-        run_query(rt, words, area, l, queries, k)?;
-        k += 5;
+    let (queries, _) = queries.as_chunks::<5>();
+    for numbers in queries {
+        let query = Query::from(*numbers);
+        match snapshot.answer(query) {
+            Ok(answer) => println!(rt; "{query}: {answer}")?,
+            Err(e) => println!(rt; "{query}: {e}")?,
+        }
     }
     Ok(())
 }
 
 fn judge(rt: &impl Print, words: &[u32], queries: &[u32], area: &mut [u32]) -> io::Result<()> {
-    let c = check(words, area);
-    match c {
-        Checked::Refused(n, place) => print_refusal(rt, n, place),
-        Checked::Accepted(l) => run_queries(rt, words, area, l, queries),
-    }
-}
-
-fn run_parts(
-    rt: &impl Print,
-    words: &[u32],
-    n: usize,
-    queries: &[u32],
-    k: usize,
-    area: &mut [u32],
-) -> io::Result<()> {
-    if n <= words.len() {
-        if k <= queries.len() {
-            return judge(rt, &words[..n], &queries[..k], area);
+    match check(words, area) {
+        Err(Refused { why, at }) => {
+            let number = why.number();
+            println!(rt; "refused {number} at {at}")
+        }
+        Ok(layout) => {
+            let snapshot = Snapshot {
+                words,
+                area,
+                layout,
+            };
+            run_queries(rt, &snapshot, queries)
         }
     }
-    Ok(())
 }
 
-fn run_case(
-    rt: &impl Print,
-    text: &[u8],
-    words: &mut [u32],
-    queries: &mut [u32],
-    area: &mut [u32],
-) -> io::Result<()> {
-    let a = next_stop(text, 0, b'=');
-    let b = next_stop(text, a, b'?');
-    if b < text.len() {
-        rt.write_all(&text[..a])?;
-        println!(rt)?;
-        let n = read_words(&text[a..b], words);
-        let k = read_words(&text[b..], queries);
-        return run_parts(rt, words, n, queries, k, area);
-    }
-    Ok(())
+fn run_case(rt: &(impl Print + AllocGlobal), case: &str, area: &mut [u32]) -> io::Result<()> {
+    let Some((title, text)) = case.split_once('=') else {
+        return Ok(());
+    };
+    let Some((words, queries)) = text.split_once('?') else {
+        return Ok(());
+    };
+    println!(rt; "{title}")?;
+    let words = words_of(rt.alloc(), words.as_bytes(), WordCount::SNAPSHOT)?;
+    let queries = words_of(rt.alloc(), queries.as_bytes(), WordCount::SNAPSHOT)?;
+    judge(rt, &words, &queries, area)
 }
 
-/// Checks and asks each case of the list.
-pub fn run(
-    rt: &impl Print,
-    text: &[u8],
-    words: &mut [u32],
-    queries: &mut [u32],
-    area: &mut [u32],
-) -> io::Result<()> {
-    let mut at = 0;
-    while at < text.len() {
-        let e = next_stop(text, at, b'.');
-        if e == text.len() {
-            return Ok(());
+/// Checks and asks each case of the list; text after the last full stop is none.
+pub fn run(rt: &(impl Print + AllocGlobal), text: &str, area: &mut [u32]) -> io::Result<()> {
+    for piece in text.split_inclusive('.') {
+        if let Some(case) = piece.strip_suffix('.') {
+            run_case(rt, case, area)?;
         }
-        run_case(rt, &text[at..e], words, queries, area)?;
-        at = e + 1;
     }
     Ok(())
 }

@@ -1,33 +1,24 @@
 //! Tests of the lookups and of visibility: the cases of the stored list. Prints a line a query.
 #![tactic(auto)]
 
-ghost use Rattle.std.specs.Prelude.{◌≡◌, length};
+mod answer;
+mod asked;
+mod cases;
+mod query;
 
 use snapshot::ids::WordCount;
 use std::io;
-use streams::read_input;
+use std::io::ErrorKind;
+use streams::read_as_far;
 
-mod cases;
-mod line;
-mod query;
-
-fn list() -> [u8; 65536]
-    ensures { 65536 ≡ length result }
-{
-    [0; 65536]
-}
-
-fn space() -> [u32; WordCount::SNAPSHOT]
-    ensures { 16384 ≡ length result }
-{
-    [0; WordCount::SNAPSHOT]
-}
+// Bytes of the list, at most.
+const LIST: usize = 65536;
 
 fn main(rt: HostRuntime) -> io::Result<()> {
-    let mut text = list();
-    let mut words = space();
-    let mut queries = space();
-    let mut area = space();
-    let n = read_input(&rt, &mut text).count;
-    cases::run(&rt, &text[..n], &mut words, &mut queries, &mut area)
+    let alloc = rt.alloc();
+    let mut list = vec![in alloc; 0; LIST]?;
+    let mut area = vec![in alloc; 0; WordCount::AREA]?;
+    let n = read_as_far(&rt, &mut list);
+    let text = str::from_utf8(&list[..n]).map_err(|_| io::Error::from(ErrorKind::InvalidData))?;
+    cases::run(&rt, text, &mut area)
 }

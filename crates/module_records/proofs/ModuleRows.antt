@@ -21,7 +21,7 @@ use Rattle.snapshot.proofs.Laws.{rows_put, length_rows, get_d_rows}
 use Rattle.check_rules.specs.Tests.{Counts, counts_of, map_of, no_map, no_module, is_in, module_defined, module_placed}
 use Rattle.check_rules.specs.Steps.{no, module_step, add_module}
 use Rattle.record_rules.specs.Stands.{number_of, counts_in, Stands, Answered}
-use Rattle.record_rules.specs.declared.judge.Step.TheVariants.{On}
+use Rattle.std.specs.Prelude.{Ok}
 use Rattle.record_rules.proofs.Judged.{Judged, judged, judged_no, judged_on, judged_passes, counts_same, and_left, and_right}
 use Rattle.record_rules.proofs.Indexed.{Kept}
 use Rattle.record_rules.proofs.Grows.{one_more, lists_grown, stands_grown, indexes_grown, names_kept, heads_kept}
@@ -174,7 +174,7 @@ module _ (W A : List ℕ) (at : ℕ) (l : Layout) (ms : List Map) (st : Stands W
 
     pub module_on : {x y w : ℕ} → n ≡ 0 → at + module_size ≤ length W → area_limit ≤ length A → x ≡ (module_at W at).map → y ≡ l.latest
         → w ≡ (module_at W at).parent
-        → Answered W (row_set A l.modules x y w) 5 (at + module_size) (module_step (snap_with W A l ms) (module_at W at)) (On (one_more 5 l))
+        → Answered W (row_set A l.modules x y w) 5 (at + module_size) (module_step (snap_with W A l ms) (module_at W at)) (Ok (one_more 5 l))
     unfolding module_step
     module_on z fits large ex ey ew =
         judged_on module_number z (module_added W A at l ms st (module_room z) large ex ey ew)

@@ -18,7 +18,7 @@ use Rattle.snapshot.proofs.Laws.{get_d_rows}
 use Rattle.check_rules.specs.Tests.{Counts, counts_of, crate_of, no_map, no_module, is_own, map_range, map_defined, map_repeated, map_placed}
 use Rattle.check_rules.specs.Steps.{no, map_step, add_map}
 use Rattle.record_rules.specs.Stands.{number_of, counts_in, own_from, own_of, Stands, Answered}
-use Rattle.record_rules.specs.declared.judge.Step.TheVariants.{On}
+use Rattle.std.specs.Prelude.{Ok}
 use Rattle.record_rules.proofs.Judged.{Judged, judged, judged_no, judged_on, judged_passes, passes, counts_same, and_left, and_right}
 use Rattle.record_rules.proofs.Indexed.{Kept, Above, set_kept, set_above}
 use Rattle.record_rules.proofs.Grows.{grown, lists_grown, stands_grown, indexes_grown, names_kept, modules_kept, heads_kept}
@@ -143,13 +143,13 @@ module _ (W A : List ℕ) (at : ℕ) (l : Layout) (ms : List Map) (st : Stands W
 
     pub map_on_lem : (B : List ℕ) → n ≡ 0 → at + map_size ≤ length W → Kept A B 0 crate_table → Above A B
         → ((c : ℕ) → c < l.crates → own_map B c ≡ own_of c (ms ++ (map_at W at ∷ [])))
-        → Answered W B 4 (at + map_size) (map_step (snap_with W A l ms) (map_at W at)) (On (map_on l at))
+        → Answered W B 4 (at + map_size) (map_step (snap_with W A l ms) (map_at W at)) (Ok (map_on l at))
     unfolding map_step
     map_on_lem B z fits kept above own = judged_on map_number z (map_added W A B at l ms st kept above) (map_stands W A B at l ms st kept above fits own)
 
     -- a block's map: no crate's own map changes
     pub map_on_block : n ≡ 0 → at + map_size ≤ length W → ((map_at W at).block ≡ 0 → ⊥)
-        → Answered W A 4 (at + map_size) (map_step (snap_with W A l ms) (map_at W at)) (On (map_on l at))
+        → Answered W A 4 (at + map_size) (map_step (snap_with W A l ms) (map_at W at)) (Ok (map_on l at))
     map_on_block z fits h =
         map_on_lem A z fits (λ i u v. refl) (λ i u. refl)
         (λ k p. st.own k p ∙ sym (own_later k 0 ms (map_at W at) (rw (ne_eqb _ _ h) (no_own (eqb (map_at W at).crate k)))))
@@ -161,7 +161,7 @@ module _ (W A : List ℕ) (at : ℕ) (l : Layout) (ms : List Map) (st : Stands W
     -- a crate's own map
     pub map_on_own : {v i : ℕ} → n ≡ 0 → at + map_size ≤ length W → area_limit ≤ length A → (map_at W at).block ≡ 0 → v ≡ l.maps + 1
         → i ≡ (map_at W at).crate
-        → Answered W (set A (crate_table + i) v) 4 (at + map_size) (map_step (snap_with W A l ms) (map_at W at)) (On (map_on l at))
+        → Answered W (set A (crate_table + i) v) 4 (at + map_size) (map_step (snap_with W A l ms) (map_at W at)) (Ok (map_on l at))
     map_on_own {v} {i} z fits large h ev ei =
         map_on_lem (set A (crate_table + i) v) z fits (set_kept A (crate_table + i) v 0 crate_table (λ k p q. omega arith))
         (let c = map_crate z in let w = st.limited.crates in set_above A (crate_table + i) v (omega arith)) owns

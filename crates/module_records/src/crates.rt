@@ -8,16 +8,16 @@ ghost use Rattle.check_rules.specs.Steps.{crate_step};
 ghost use Rattle.record_rules.specs.Stands.{Ready, Stands, Answered};
 
 use record_rules::crates::judge_crate;
-use record_rules::judge::Step;
-use snapshot::ids::Crate;
+use snapshot::ids::{Crate, CrateOrigin};
 use snapshot::layout::Layout;
 use snapshot::record::{crate_edition, crate_no_std, crate_origin};
+use snapshot::refusal::Refusal;
 use snapshot::table::Tables;
 
 fn in_range(words: &[u32], at: usize) -> bool
     ensures { result ≡ crate_range (crate_at words.now at) }
 {
-    (crate_origin(words, at) <= 4) & (crate_no_std(words, at) <= 1)
+    (crate_origin(words, at) <= CrateOrigin::LIMIT) & (crate_no_std(words, at) <= 1)
 }
 
 fn edition_known(words: &[u32], at: usize) -> bool
@@ -28,23 +28,20 @@ fn edition_known(words: &[u32], at: usize) -> bool
 }
 
 /// A crate; it has no own map yet.
-pub fn step(words: &[u32], area: &mut [u32], l: Layout, at: usize) -> Step
+pub fn step(words: &[u32], area: &mut [u32], l: Layout, at: usize) -> Result<Layout, Refusal>
     requires { Ready words.now area.old l at (at + crate_size) }
     ensures { (ms : List Map) → Stands words.now area.old 2 at l ms
         → Answered words.now area.new 2 (at + crate_size)
         (crate_step (snap_with words.now area.old l ms) (crate_at words.now at)) result }
 {
     let crates = l.crates;
-    let n = judge_crate(
+    judge_crate(
         in_range(words, at),
         edition_known(words, at),
         crates < Crate::LIMIT,
-    );
-    if n != 0 {
-        return Step::No(n);
-    }
+    )?;
     area[Tables::CRATES + crates] = 0;
     let mut m = l;
     m.crates = crates + 1;
-    Step::On(m)
+    Ok(m)
 }

@@ -8,10 +8,11 @@ ghost use Rattle.check_rules.specs.Tests.{map_range, map_defined};
 ghost use Rattle.check_rules.specs.Steps.{map_step};
 ghost use Rattle.record_rules.specs.Stands.{Ready, Stands, Answered, counts_in};
 
-use record_rules::judge::{Step, judge};
+use record_rules::judge::judge;
 use snapshot::ids::ModuleId;
 use snapshot::layout::Layout;
 use snapshot::record::{map_block, map_crate, map_no_std};
+use snapshot::refusal::Refusal;
 use snapshot::table::{Tables, module_head, own_map};
 
 fn in_range(words: &[u32], at: usize) -> bool
@@ -51,22 +52,19 @@ fn placed(words: &[u32], area: &[u32], at: usize) -> bool
 }
 
 /// A map.
-pub fn step(words: &[u32], area: &mut [u32], l: Layout, at: usize) -> Step
+pub fn step(words: &[u32], area: &mut [u32], l: Layout, at: usize) -> Result<Layout, Refusal>
     requires { Ready words.now area.old l at (at + map_size) }
     ensures { (ms : List Map) → Stands words.now area.old 4 at l ms
         → Answered words.now area.new 4 (at + map_size)
         (map_step (snap_with words.now area.old l ms) (map_at words.now at)) result }
 {
-    let n = judge(
+    judge(
         in_range(words, at),
         defined(words, l, at),
         repeated(words, area, at),
         placed(words, area, at),
         true,
-    );
-    if n != 0 {
-        return Step::No(n);
-    }
+    )?;
     let krate = map_crate(words, at);
     let mut m = l;
     m.maps = l.maps + 1;
@@ -74,5 +72,5 @@ pub fn step(words: &[u32], area: &mut [u32], l: Layout, at: usize) -> Step
     if map_block(words, at) == 0 {
         area[Tables::CRATES + krate.0] = (l.maps + 1) as u32;
     }
-    Step::On(m)
+    Ok(m)
 }

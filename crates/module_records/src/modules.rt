@@ -10,10 +10,11 @@ ghost use Rattle.check_rules.specs.Tests.{module_defined, is_in};
 ghost use Rattle.check_rules.specs.Steps.{module_step};
 ghost use Rattle.record_rules.specs.Stands.{Ready, Stands, Answered, counts_in};
 
-use record_rules::judge::{Step, judge};
+use record_rules::judge::judge;
 use snapshot::ids::ModuleId;
 use snapshot::layout::Layout;
 use snapshot::record::{module_map as map_named, module_parent as parent_named};
+use snapshot::refusal::Refusal;
 use snapshot::table::{Tables, module_map};
 
 fn defined(words: &[u32], l: Layout, at: usize) -> bool
@@ -27,12 +28,10 @@ pub fn has_module(area: &[u32], n: usize, map: usize) -> bool
     requires { n ≤ module_limit }
     ensures { result ≡ any (is_in map) (modules_of area.now n) }
 {
-    let mut m = 0;
-    while m < n {
+    for m in 0..n {
         if module_map(area, ModuleId(m)) == map {
             return true;
         }
-        m += 1;
     }
     false
 }
@@ -66,28 +65,25 @@ fn placed(words: &[u32], area: &[u32], l: Layout, at: usize) -> bool
 }
 
 /// A module.
-pub fn step(words: &[u32], area: &mut [u32], l: Layout, at: usize) -> Step
+pub fn step(words: &[u32], area: &mut [u32], l: Layout, at: usize) -> Result<Layout, Refusal>
     requires { Ready words.now area.old l at (at + module_size) }
     ensures { (ms : List Map) → Stands words.now area.old 5 at l ms
         → Answered words.now area.new 5 (at + module_size)
         (module_step (snap_with words.now area.old l ms) (module_at words.now at)) result }
 {
     let modules = l.modules;
-    let n = judge(
+    judge(
         true,
         defined(words, l, at),
         false,
         placed(words, area, l, at),
         modules < ModuleId::LIMIT,
-    );
-    if n != 0 {
-        return Step::No(n);
-    }
+    )?;
     let row = Tables::MODULES + 3 * modules;
     area[row] = map_named(words, at) as u32;
     area[row + 1] = l.latest;
     area[row + 2] = parent_named(words, at) as u32;
     let mut m = l;
     m.modules = modules + 1;
-    Step::On(m)
+    Ok(m)
 }

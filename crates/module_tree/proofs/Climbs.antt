@@ -1,4 +1,5 @@
 -- The walk of visibility, step by step.
+use Rattle.std.specs.Prelude.{Option, None, Some, is_some}
 use Prim.Native.Nat.{ℕ, zero, suc, ◌+◌, ◌-◌, ◌<◌}
 use mathlib.Core.Path.{◌≡◌, refl, sym, ap, ◌∙◌}
 use mathlib.Core.Bool.{true, false, not}
@@ -9,8 +10,6 @@ use borrow.Author.Tests.{eq-eqb, ne_eqb}
 use Rattle.snapshot.specs.Records.{Snapshot}
 use Rattle.tree_rules.specs.Modules.{map_no, crate_of, block_of, containing}
 use Rattle.snapshot.specs.Ids.{plus_one}
-use Rattle.snapshot.specs.declared.ids.OptModule.{OptModule}
-use Rattle.snapshot.specs.declared.ids.OptModule.TheVariants.{Module, NoModule}
 use Rattle.snapshot.specs.declared.ids.ModuleId.{ModuleId}
 use Rattle.tree_rules.specs.Visibility.{last_or, met_or, met, unless, climb_step, climb, in_module, is_visible_from}
 use Rattle.module_tree.proofs.Laws.{Falls, last_more, met_more}
@@ -22,16 +21,21 @@ after : (n : ℕ) → n + 1 ≡ suc n
 after n = omega arith
 
 -- what an answer says of its number
-pub is_some : {n : ℕ} (o : OptModule) {m : ModuleId} → plus_one o ≡ n → o ≡ Module m → n ≡ suc m.0
+pub some_number : {n : ℕ} (o : Option ModuleId) {m : ModuleId} → plus_one o ≡ n → o ≡ Some m → n ≡ suc m.0
 unfolding plus_one
-is_some o {m} e h = sym e ∙ ap plus_one h ∙ after m.0
+some_number o {m} e h = sym e ∙ ap plus_one h ∙ after m.0
 
-pub is_none : {n : ℕ} (o : OptModule) → plus_one o ≡ n → o ≡ NoModule → n ≡ 0
+pub none_number : {n : ℕ} (o : Option ModuleId) → plus_one o ≡ n → o ≡ None → n ≡ 0
 unfolding plus_one
-is_none o e h = sym e ∙ ap plus_one h
+none_number o e h = sym e ∙ ap plus_one h
 
-pub some_not : {n k : ℕ} → n ≡ suc k → true ≡ not (eqb n 0)
-some_not {n} e = rw (ne_eqb n 0 (λ z. omega (arith, e, z)))
+true_more : (m : ℕ) → true ≡ not (eqb (m + 1) 0)
+true_more m = rw (ne_eqb (m + 1) 0 (λ z. omega (arith, z)))
+
+pub some_exact : {n : ℕ} (o : Option ModuleId) → plus_one o ≡ n → is_some o ≡ not (eqb n 0)
+unfolding plus_one
+some_exact None e = ap (λ b. not (eqb b 0)) e
+some_exact (Some m) e = true_more m.0 ∙ ap (λ b. not (eqb b 0)) e
 
 module _ (s : Snapshot) (k : ℕ) (falls : Falls (climb_step s k) (length s.modules)) (t : ℕ) (h : t < length s.modules) where
   climb_more : climb s k t ≡ last_or (climb s k) t (unless (eqb (map_no s t) k) (block_of s t))
@@ -89,9 +93,3 @@ visible_public s k n v e = rw e
 pub visible_crate : (s : Snapshot) (k n v : ℕ) → k ≡ 1 → eqb (crate_of s v) n ≡ is_visible_from s k n v
 unfolding is_visible_from
 visible_crate s k n v e = rw e
-
-pub visible_module : (s : Snapshot) (k n v : ℕ) → (k ≡ 0 → ⊥) → (k ≡ 1 → ⊥) → in_module s v n ≡ is_visible_from s k n v
-unfolding is_visible_from
-visible_module s zero n v a b = absurd (a refl)
-visible_module s (suc zero) n v a b = absurd (b refl)
-visible_module s (suc (suc k)) n v a b = refl

@@ -6,7 +6,7 @@ ghost use Rattle.accept.specs.Post.{Reads};
 ghost use Rattle.tree_rules.specs.Modules.{map_no, map_of, crate_of, parent_of, block_of, in_block as in_block_of, containing as containing_of, root_of};
 ghost use Rattle.tree_rules.specs.Modules.{own_map, crate_root};
 
-use snapshot::ids::{Crate, ModuleId, OptModule, opt_module};
+use snapshot::ids::{Crate, ModuleId, opt_module};
 use snapshot::layout::Layout;
 use snapshot::record::{map_block, map_crate, map_no_std};
 use snapshot::table::{map_root, module_head, module_map, module_parent, own_map};
@@ -28,7 +28,7 @@ pub fn krate(words: &[u32], area: &[u32], l: Layout, m: ModuleId) -> Crate
 }
 
 /// The parent of a module in its own map.
-pub fn parent(words: &[u32], area: &[u32], l: Layout, m: ModuleId) -> OptModule
+pub fn parent(words: &[u32], area: &[u32], l: Layout, m: ModuleId) -> Option<ModuleId>
     requires { Reads words.now area.now l × (m.0 < l.modules) }
     ensures { plus_one result ≡ parent_of (snap_of words.now area.now l) m.0 }
 {
@@ -36,7 +36,7 @@ pub fn parent(words: &[u32], area: &[u32], l: Layout, m: ModuleId) -> OptModule
 }
 
 /// The parent module of the block that a module's map belongs to.
-pub fn block(words: &[u32], area: &[u32], l: Layout, m: ModuleId) -> OptModule
+pub fn block(words: &[u32], area: &[u32], l: Layout, m: ModuleId) -> Option<ModuleId>
     requires { Reads words.now area.now l × (m.0 < l.modules) }
     ensures { plus_one result ≡ block_of (snap_of words.now area.now l) m.0 }
 {
@@ -48,10 +48,7 @@ pub fn in_block(words: &[u32], area: &[u32], l: Layout, m: ModuleId) -> bool
     requires { Reads words.now area.now l × (m.0 < l.modules) }
     ensures { result ≡ in_block_of (snap_of words.now area.now l) m.0 }
 {
-    match block(words, area, l, m) {
-        OptModule::Module(_) => true,
-        OptModule::NoModule => false,
-    }
+    block(words, area, l, m).is_some()
 }
 
 /// Whether a module's map is no_std.
@@ -64,14 +61,14 @@ pub fn no_std(words: &[u32], area: &[u32], l: Layout, m: ModuleId) -> bool
 }
 
 /// The containing module: the parent, and from a map's root the block's parent.
-pub fn containing_module(words: &[u32], area: &[u32], l: Layout, m: ModuleId) -> OptModule
+pub fn containing_module(words: &[u32], area: &[u32], l: Layout, m: ModuleId) -> Option<ModuleId>
     requires { Reads words.now area.now l × (m.0 < l.modules) }
     ensures { plus_one result ≡ containing_of (snap_of words.now area.now l) m.0 }
 {
-    let OptModule::Module(p) = parent(words, area, l, m) else {
+    let Some(p) = parent(words, area, l, m) else {
         return block(words, area, l, m);
     };
-    OptModule::Module(p)
+    Some(p)
 }
 
 /// The root of a map.

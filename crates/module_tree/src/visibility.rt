@@ -1,12 +1,13 @@
 //! Whether something is visible from a module.
 ghost use Rattle.std.specs.Prelude.{◌≡◌, ◌<◌, ◌≤◌};
 ghost use Rattle.snapshot.specs.Layouts.{snap_of};
+ghost use Rattle.snapshot.specs.Visibilities.{visibility_kind, visibility_number};
 ghost use Rattle.accept.specs.Post.{Reads};
 ghost use Rattle.tree_rules.specs.Modules.{containing as containing_of};
 ghost use Rattle.tree_rules.specs.Visibility.{climb as climb_of, met as met_of, in_module, is_visible_from};
 
 use crate::modules::{block, containing_module, krate, map};
-use snapshot::ids::{ModuleId, OptModule};
+use snapshot::ids::{ModuleId, Visibility};
 use snapshot::layout::Layout;
 
 // The target, climbed out of block maps until its map is the viewer's or a crate's own.
@@ -16,7 +17,7 @@ fn climb(words: &[u32], area: &[u32], l: Layout, viewer: usize, target: ModuleId
 {
     let mut t = target;
     while map(words, area, l, t) != viewer {
-        let OptModule::Module(b) = block(words, area, l, t) else {
+        let Some(b) = block(words, area, l, t) else {
             return t;
         };
         t = b;
@@ -32,7 +33,7 @@ pub fn meets(words: &[u32], area: &[u32], l: Layout, viewer: ModuleId, target: M
     let mut v = viewer;
     let t = target.0;
     while v.0 != t {
-        let OptModule::Module(c) = containing_module(words, area, l, v) else {
+        let Some(c) = containing_module(words, area, l, v) else {
             return false;
         };
         v = c;
@@ -58,24 +59,25 @@ fn in_module(words: &[u32], area: &[u32], l: Layout, viewer: ModuleId, target: M
     meets(words, area, l, viewer, top)
 }
 
-/// Whether a visibility (0 public, 1 crate, 2 and 3 module, with its number) reaches the viewer.
+/// Whether a visibility reaches the viewer.
 pub fn is_visible_from(
     words: &[u32],
     area: &[u32],
     l: Layout,
-    kind: usize,
-    number: usize,
+    visibility: Visibility,
     viewer: ModuleId,
 ) -> bool
-    requires { Reads words.now area.now l × (viewer.0 < l.modules) × (2 ≤ kind → number < l.modules) }
-    ensures { result ≡ is_visible_from (snap_of words.now area.now l) kind number viewer.0 }
+    requires { Reads words.now area.now l × (viewer.0 < l.modules)
+        × (2 ≤ visibility_kind visibility → visibility_number visibility < l.modules) }
+    ensures { result ≡ is_visible_from (snap_of words.now area.now l) (visibility_kind visibility)
+        (visibility_number visibility) viewer.0 }
 {
-    if kind == 0 {
-        return true;
+    match visibility {
+        Visibility::Public => true,
+        Visibility::InCrate(c) => {
+            let here = krate(words, area, l, viewer);
+            here.0 == c.0
+        }
+        Visibility::InModule(m) | Visibility::Implied(m) => in_module(words, area, l, viewer, m),
     }
-    if kind == 1 {
-        let c = krate(words, area, l, viewer);
-        return c.0 == number;
-    }
-    in_module(words, area, l, viewer, ModuleId(number))
 }

@@ -4,7 +4,7 @@ use mathlib.Core.Path.{◌≡◌, refl, sym, ap, ap₂, ◌∙◌}
 use mathlib.Core.List.Memᴰ
 use mathlib.Core.List.{List, [], ◌∷◌, ◌++◌, Memᴰ}
 use mathlib.Core.Bool.{Bool, true, false, or-true, true≢false}
-use mathlib.Core.Option.{Option, none, some}
+use Rattle.std.specs.Prelude.{Option, None, Some}
 use mathlib.Core.Logic.{◌⊎◌, inl, inr, ⊎_elim}
 use native.Mathlib.Omega.{arith}
 use borrow.Author.Tests.{eqb-true, eq-eqb, leb-true, leb-false}
@@ -39,35 +39,35 @@ unfolding same_item
 item_same (Mod m) = eq-eqb m.0 m.0 refl
 item_same (Def ns d) = rw (eq-eqb ns.0 ns.0 refl) (eq-eqb d.0 d.0 refl)
 
-pub is_item_lem : (x : Item) (o : Option Item) → is_item x o ≡ true → o ≡ some x
+pub is_item_lem : (x : Item) (o : Option Item) → is_item x o ≡ true → o ≡ Some x
 unfolding is_item
-is_item_lem x none e = absurd (true≢false (sym e))
-is_item_lem x (some y) e = ap some (same_item_lem y x e)
+is_item_lem x None e = absurd (true≢false (sym e))
+is_item_lem x (Some y) e = ap Some (same_item_lem y x e)
 
-pub item_is : (x : Item) (o : Option Item) → o ≡ some x → is_item x o ≡ true
+pub item_is : (x : Item) (o : Option Item) → o ≡ Some x → is_item x o ≡ true
 unfolding is_item
 item_is x o e = rw e (item_same x)
 
-pub or_first_none : {A : Type 0} (a b : Option A) → a ≡ none → or_first a b ≡ b
+pub or_first_none : {A : Type 0} (a b : Option A) → a ≡ None → or_first a b ≡ b
 unfolding or_first
 or_first_none a b e = rw e
 
-or_none_lem : {A : Type 0} (a b : Option A) → or_first a b ≡ none → b ≡ none
+or_none_lem : {A : Type 0} (a b : Option A) → or_first a b ≡ None → b ≡ None
 unfolding or_first
-or_none_lem none b e = e
-or_none_lem (some x) b e = absurd (none_some (sym e))
+or_none_lem None b e = e
+or_none_lem (Some x) b e = absurd (none_some (sym e))
 
-pub or_first_some : {A : Type 0} (a b : Option A) (x : A) → a ≡ some x → or_first a b ≡ some x
+pub or_first_some : {A : Type 0} (a b : Option A) (x : A) → a ≡ Some x → or_first a b ≡ Some x
 unfolding or_first
 or_first_some a b x e = rw e
 
 module _ (s : Snapshot) (from : ℕ) (item : Item) where
-  pub first_to_lem : (ps : List Path) (q : Path) → first_to s from item ps ≡ some q → Memᴰ q ps × Names s from item q
+  pub first_to_lem : (ps : List Path) (q : Path) → first_to s from item ps ≡ Some q → Memᴰ q ps × Names s from item q
   unfolding first_to
   first_to_lem ps q e =
       let f = first_found_lem (λ (p : Path). is_item item (means s from (ns_of item) p)) ps q e in (f.0, is_item_lem item (means s from (ns_of item) q) f.1)
 
-  pub to_first : {ps : List Path} {q : Path} → Memᴰ q ps → Names s from item q → (z : Path) × (first_to s from item ps ≡ some z)
+  pub to_first : {ps : List Path} {q : Path} → Memᴰ q ps → Names s from item q → (z : Path) × (first_to s from item ps ≡ Some z)
   unfolding first_to
   to_first {q = q} m h = first_some_lem (λ (p : Path). is_item item (means s from (ns_of item) p)) m (item_is item (means s from (ns_of item) q) h)
 
@@ -76,7 +76,7 @@ module _ (s : Snapshot) (from : ℕ) (item : Item) where
     abbrev turn : ℕ → Option Path
     turn k = first_to s from item (onward s from (ns_of item) (reached b s from k) ++ single b s from (ns_of item))
 
-    pub arrives_good : (k : ℕ) (q : Path) → arrives b s from item k ≡ some q → Near b k q × Names s from item q
+    pub arrives_good : (k : ℕ) (q : Path) → arrives b s from item k ≡ Some q → Near b k q × Names s from item q
     unfolding arrives
     arrives_good zero q e = let f = first_to_lem (nameless b s) q e in (each_in (nameless_near s from b) f.0, f.1)
     arrives_good (suc k) q e =
@@ -87,22 +87,22 @@ module _ (s : Snapshot) (from : ℕ) (item : Item) where
         let near = each_append (onward_near s from b (ns_of item) k (reached_good s from b k)) (single_near s from b (ns_of item) k) in
         (each_in near f.0, f.1))
         (λ x z.
-        let g : arrives b s from item k ≡ some q = z ∙ (sym (or_first_some (arrives b s from item k) (turn k) x z) ∙ e) in
+        let g : arrives b s from item k ≡ Some q = z ∙ (sym (or_first_some (arrives b s from item k) (turn k) x z) ∙ e) in
         let f = arrives_good k q g in
         (near_more q f.0, f.1))
 
-    arrives_next : (k : ℕ) (q : Path) → arrives b s from item k ≡ some q → arrives b s from item (suc k) ≡ some q
+    arrives_next : (k : ℕ) (q : Path) → arrives b s from item k ≡ Some q → arrives b s from item (suc k) ≡ Some q
     unfolding arrives
     arrives_next k q e = or_first_some (arrives b s from item k) (turn k) q e
 
-    pub arrives_on : (k j : ℕ) (q : Path) → k ≤ j → arrives b s from item k ≡ some q → arrives b s from item j ≡ some q
+    pub arrives_on : (k j : ℕ) (q : Path) → k ≤ j → arrives b s from item k ≡ Some q → arrives b s from item j ≡ Some q
     arrives_on k zero q h e = let z : k ≡ 0 = omega arith in ap (arrives b s from item) (sym z) ∙ e
     arrives_on k (suc j) q h e =
         by_test (leb k j)
         (λ t. arrives_next j q (arrives_on k j q (leb-true k j t) e))
         (λ t. let l : j < k = leb-false k j t in let z : k ≡ suc j = omega arith in ap (arrives b s from item) (sym z) ∙ e)
 
-    turn_arrives : (k : ℕ) → ((z : Path) × (turn k ≡ some z)) → (q : Path) × (arrives b s from item (suc k) ≡ some q)
+    turn_arrives : (k : ℕ) → ((z : Path) × (turn k ≡ Some z)) → (q : Path) × (arrives b s from item (suc k) ≡ Some q)
     unfolding arrives
     turn_arrives k f =
         by_option (arrives b s from item k)
@@ -119,11 +119,11 @@ abbrev pub Flat : Snapshot → ℕ → Path → Type 0
 Flat s from (keyword k) = Unit {0}
 Flat s from (absolute n) = Unit {0}
 Flat s from (plain n) = Unit {0}
-Flat s from (into p n) = (m : ℕ) × (means s from types p ≡ some (module_item m))
+Flat s from (into p n) = (m : ℕ) × (means s from types p ≡ Some (module_item m))
 
 module _ (s : Snapshot) (from : ℕ) (plenty : Plenty s from) (item : Item) where
   pub arrives_meets : (p : Path) (b : Bool) → Flat s from p → is_plain p ≡ b → Names s from item p → (q : Path)
-      × (arrives b s from item (names_in p) ≡ some q)
+      × (arrives b s from item (names_in p) ≡ Some q)
   unfolding arrives names_in is_plain nameless within
   arrives_meets (keyword k) true g f e = absurd (true≢false (sym f))
   arrives_meets (keyword k) false g f e = to_first s from item (map_in_lem keyword (plenty.tried k item (keyword_means s from (ns_of item) k ∙ e))) e
@@ -136,7 +136,7 @@ module _ (s : Snapshot) (from : ℕ) (plenty : Plenty s from) (item : Item) wher
       turn_arrives s from item true 0
       (to_first s from item (Memᴰ.append_right (onward s from (ns_of item) (reached true s from 0)) (plain_in_lem s from (ns_of item) n item e)) e)
   arrives_meets (into p n) b g f e =
-      let h : item_in (named n (within s from (ns_of item) (module_item g.0))) ≡ some item =
+      let h : item_in (named n (within s from (ns_of item) (module_item g.0))) ≡ Some item =
       sym (into_means s from (ns_of item) n p (module_item g.0) g.1) ∙ e in
       let o = onward_means s from b (ns_of item) (names_in p) g.0 n item (reached_meets s from plenty p b g.0 f g.1) h in
       turn_arrives s from item b (names_in p) (to_first s from item (Memᴰ.append_left (single b s from (ns_of item)) o.1) o.2)
@@ -153,9 +153,9 @@ module _ (s : Snapshot) (from : ℕ) (plenty : Plenty s from) where
     where
       by_meaning : (added s from ws ps ≡ ws) ⊎ (met_in ws < met_in (added s from ws ps)) → (o : Option Item) → means s from types p ≡ o
           → (added s from (with_meaning ws p o) ps ≡ ws) ⊎ (met_in ws < met_in (added s from (with_meaning ws p o) ps))
-      by_meaning rest none e = rest
-      by_meaning rest (some (Def ns d)) e = rest
-      by_meaning rest (some (Mod m)) e =
+      by_meaning rest None e = rest
+      by_meaning rest (Some (Def ns d)) e = rest
+      by_meaning rest (Some (Mod m)) e =
           by_test (is_met ws m.0)
           (λ t. rw (with_old ws p m.0 t) rest)
           (λ t.
@@ -199,25 +199,25 @@ module _ (s : Snapshot) (from : ℕ) (plenty : Plenty s from) where
 
     module _ (item : Item) where
       -- where nothing was found once the modules are settled, nothing is later
-      none_on : (j : ℕ) → reached b s from (suc j) ≡ reached b s from j → arrives b s from item (suc j) ≡ none → (k : ℕ) → suc j ≤ k
-          → arrives b s from item k ≡ none
+      none_on : (j : ℕ) → reached b s from (suc j) ≡ reached b s from j → arrives b s from item (suc j) ≡ None → (k : ℕ) → suc j ≤ k
+          → arrives b s from item k ≡ None
       unfolding arrives
       none_on j e h zero l = absurd (omega arith)
       none_on j e h (suc k) l =
           by_test (leb (suc j) k)
           (λ t.
-          let ih : arrives b s from item k ≡ none = none_on j e h k (leb-true (suc j) k t) in
+          let ih : arrives b s from item k ≡ None = none_on j e h k (leb-true (suc j) k t) in
           let same : turn s from item b k ≡ turn s from item b j =
           ap (λ (ws : List Way). first_to s from item (onward s from (ns_of item) ws ++ single b s from (ns_of item)))
           (still j e k (omega (arith, leb-true (suc j) k t))) in
           or_first_none (arrives b s from item k) (turn s from item b k) ih ∙ (same ∙ or_none_lem (arrives b s from item j) (turn s from item b j) h))
           (λ t. let z : suc k ≡ suc j = omega (arith, leb-false (suc j) k t) in ap (arrives b s from item) z ∙ h)
 
-      pub never_after : arrival b s from item ≡ none → (k : ℕ) (q : Path) → arrives b s from item k ≡ some q → ⊥
+      pub never_after : arrival b s from item ≡ None → (k : ℕ) (q : Path) → arrives b s from item k ≡ Some q → ⊥
       never_after h k q e =
           let f = settles in
           let bound : ℕ = length s.modules + 1 in
-          let a : arrives b s from item (suc f.0) ≡ none =
+          let a : arrives b s from item (suc f.0) ≡ None =
           by_option (arrives b s from item (suc f.0)) (λ z. z)
           (λ x z. absurd (none_some (sym h ∙ arrives_on s from item b (suc f.0) bound x (omega (arith, f.1)) z))) in
           by_test (leb k bound)

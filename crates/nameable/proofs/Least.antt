@@ -4,7 +4,7 @@ use mathlib.Core.Path.{◌≡◌, refl, sym, ap, subst, ◌∙◌}
 use mathlib.Core.List.Memᴰ
 use mathlib.Core.List.{[], ◌∷◌}
 use mathlib.Core.Bool.{Bool, true, false, true≢false}
-use mathlib.Core.Option.{Option, none, some}
+use Rattle.std.specs.Prelude.{Option, None, Some}
 use mathlib.Core.Logic.{◌⊎◌, inl, inr, ⊎_elim}
 use native.Mathlib.Omega.{arith}
 use borrow.Author.Tests.{eq-eqb, lt-ltb, le-ltb, le-leb, lt-leb, ltb-true, ltb-false, leb-true, leb-false}
@@ -25,24 +25,24 @@ use Rattle.nameable.proofs.Arrives.{first_to_lem, to_first, arrives_good, arrive
 
 -- p is right, and as short as any of Q; or there is none of Q
 abbrev pub Least : (P Q : Path → Type 0) → Option Path → Type 0
-Least P Q none = (q : Path) → Q q → ⊥
-Least P Q (some p) = P p × ((q : Path) → Q q → names_in p ≤ names_in q)
+Least P Q None = (q : Path) → Q q → ⊥
+Least P Q (Some p) = P p × ((q : Path) → Q q → names_in p ≤ names_in q)
 
-shorter_second : (p q : Path) → names_in q < names_in p → shorter (some p) (some q) ≡ some q
+shorter_second : (p q : Path) → names_in q < names_in p → shorter (Some p) (Some q) ≡ Some q
 unfolding shorter
 shorter_second p q h = rw (shorter, lt-ltb (names_in q) (names_in p) h)
 
-shorter_first : (p q : Path) → names_in p ≤ names_in q → shorter (some p) (some q) ≡ some p
+shorter_first : (p q : Path) → names_in p ≤ names_in q → shorter (Some p) (Some q) ≡ Some p
 unfolding shorter
 shorter_first p q h = rw (shorter, le-ltb (names_in q) (names_in p) h)
 
 module _ (P Q R : Path → Type 0) where
   pub shorter_least : (a b : Option Path) → Least P Q a → Least P R b → Least P (λ x. Q x ⊎ R x) (shorter a b)
   unfolding shorter
-  shorter_least none none f g = λ x. ⊎_elim (f x) (g x)
-  shorter_least none (some q) f g = (g.0, λ x. ⊎_elim (λ h. absurd (f x h)) (g.1 x))
-  shorter_least (some p) none f g = (f.0, λ x. ⊎_elim (f.1 x) (λ h. absurd (g x h)))
-  shorter_least (some p) (some q) f g =
+  shorter_least None None f g = λ x. ⊎_elim (f x) (g x)
+  shorter_least None (Some q) f g = (g.0, λ x. ⊎_elim (λ h. absurd (f x h)) (g.1 x))
+  shorter_least (Some p) None f g = (f.0, λ x. ⊎_elim (f.1 x) (λ h. absurd (g x h)))
+  shorter_least (Some p) (Some q) f g =
       by_test (ltb (names_in q) (names_in p))
       (λ t.
       let l : names_in q < names_in p = ltb-true (names_in q) (names_in p) t in
@@ -61,7 +61,7 @@ abbrev Through : Snapshot → ℕ → Path → Type 0
 Through s from (keyword k) = ⊥
 Through s from (absolute n) = ⊥
 Through s from (plain n) = ⊥
-Through s from (into p n) = (k : ℕ) × (d : ℕ) × (means s from types p ≡ some (defined_item k d))
+Through s from (into p n) = (k : ℕ) × (d : ℕ) × (means s from types p ≡ Some (defined_item k d))
 
 module _ (s : Snapshot) (from : ℕ) where
   -- the path names the item, and begins with a name or doesn't
@@ -78,13 +78,13 @@ module _ (s : Snapshot) (from : ℕ) where
     pub through : Through s from q
 
   -- each path that names something is of one of the two kinds
-  either : (q : Path) (ns : ℕ) (x : Item) → means s from ns q ≡ some x → Flat s from q ⊎ Through s from q
+  either : (q : Path) (ns : ℕ) (x : Item) → means s from ns q ≡ Some x → Flat s from q ⊎ Through s from q
   either (keyword k) ns x e = inl tt
   either (absolute n) ns x e = inl tt
   either (plain n) ns x e = inl tt
   either (into p n) ns x e = let f = into_from s from ns n p x e in by_item f.0 f.1
     where
-      by_item : (y : Item) → means s from types p ≡ some y → Flat s from (into p n) ⊎ Through s from (into p n)
+      by_item : (y : Item) → means s from types p ≡ Some y → Flat s from (into p n) ⊎ Through s from (into p n)
       by_item (Mod m) h = inl (m.0, h)
       by_item (Def k d) h = inr (k.0, d.0, h)
 
@@ -93,17 +93,17 @@ module _ (s : Snapshot) (from : ℕ) where
     arrival_least b item = by_found (arrival b s from item) refl
       where
         by_found : (o : Option Path) → arrival b s from item ≡ o → Least (Mine b item) (Flats b item) o
-        by_found none e = λ q h.
+        by_found None e = λ q h.
             let f = arrives_meets s from plenty item q b h.flat h.mine.plainly h.mine.names in
             never_after s from plenty b item e (names_in q) f.0 f.1
-        by_found (some p) e =
+        by_found (Some p) e =
             let g = arrives_good s from item b (turns s) p e in (
               record { names = g.1; plainly = g.0.plainly },
               λ q h. by_test (leb (names_in q) (turns s))
                   (λ t.
                   let f = arrives_meets s from plenty item q b h.flat h.mine.plainly h.mine.names in
                   let a = arrives_on s from item b (names_in q) (turns s) f.0 (leb-true (names_in q) (turns s) t) f.1 in
-                  let same : f.0 ≡ p = (let z : some f.0 ≡ some p = sym a ∙ e in cc) in
+                  let same : f.0 ≡ p = (let z : Some f.0 ≡ Some p = sym a ∙ e in cc) in
                   let l : names_in f.0 ≤ names_in q = (arrives_good s from item b (names_in q) f.0 f.1).0.short in
                   subst (λ (x : Path). names_in x ≤ names_in q) same l)
                   (λ t. omega (arith, leb-false (names_in q) (turns s) t, g.0.short)),
@@ -117,7 +117,7 @@ module _ (s : Snapshot) (from : ℕ) where
       name : n ≡ (definition_of s d).second
 
     -- the member record by which a variant is named
-    member_of_lem : (ns n e d : ℕ) → item_in (named n (variants_in s ns e)) ≡ some (defined_item ns d)
+    member_of_lem : (ns n e d : ℕ) → item_in (named n (variants_in s ns e)) ≡ Some (defined_item ns d)
         → ((definition_of s d).kind ≡ 2) × ((definition_of s d).first ≡ e) × ((definition_of s d).second ≡ n) × ((definition_of s e).kind ≡ 4)
     unfolding definition_of
     member_of_lem ns n e d h =
@@ -137,7 +137,7 @@ module _ (s : Snapshot) (from : ℕ) where
 
     -- an enum is no variant
 
-    not_through : (p : Path) (e : ℕ) → means s from types p ≡ some (defined_item types e) → (definition_of s e).kind ≡ 4 → Through s from p → ⊥
+    not_through : (p : Path) (e : ℕ) → means s from types p ≡ Some (defined_item types e) → (definition_of s e).kind ≡ 4 → Through s from p → ⊥
     unfolding within
     not_through (keyword k) e h i t = t
     not_through (absolute n) e h i t = t
@@ -145,7 +145,7 @@ module _ (s : Snapshot) (from : ℕ) where
     not_through (into p n) e h i t =
         let a = member_of_lem types n t.1 e (sym (into_means s from types n p (defined_item t.0 t.1) t.2) ∙ h) in omega (arith, a.0, i)
 
-    enum_flat : (p : Path) (e : ℕ) → means s from types p ≡ some (defined_item types e) → (definition_of s e).kind ≡ 4 → Flat s from p
+    enum_flat : (p : Path) (e : ℕ) → means s from types p ≡ Some (defined_item types e) → (definition_of s e).kind ≡ 4 → Flat s from p
     enum_flat p e h k = ⊎_elim (λ f. f) (λ t. absurd (not_through p e h k t)) (either p types (defined_item types e) h)
 
     by_enum_lem : (ns d : ℕ) (p : Path) (n : ℕ) → Names s from (defined_item ns d) (into p n) → Through s from (into p n) → ByEnum d p n
@@ -154,10 +154,10 @@ module _ (s : Snapshot) (from : ℕ) where
         let k = t.0 in
         let e = t.1 in
         let a = member_of_lem ns n e d (sym (into_means s from ns n p (defined_item k e) t.2) ∙ h) in
-        let q : means s from types p ≡ some (defined_item types e) = t.2 ∙ ap (λ (x : ℕ). some (defined_item x e)) (plenty.typed p k e t.2) in
+        let q : means s from types p ≡ Some (defined_item types e) = t.2 ∙ ap (λ (x : ℕ). Some (defined_item x e)) (plenty.typed p k e t.2) in
         record {
           variant = eq-eqb (definition_of s d).kind variant_kind a.0;
-          enum = q ∙ ap (λ (x : ℕ). some (defined_item types x)) (sym a.1);
+          enum = q ∙ ap (λ (x : ℕ). Some (defined_item types x)) (sym a.1);
           flat = enum_flat p e q a.3;
           name = sym a.2;
         }
@@ -175,7 +175,7 @@ module _ (s : Snapshot) (from : ℕ) where
       unfolding by_enum
       enum_yes t = rw (by_enum, t)
 
-      enum_no : is_variant s d ≡ false → by_enum b s from (defined_item ns d) ≡ none
+      enum_no : is_variant s d ≡ false → by_enum b s from (defined_item ns d) ≡ None
       unfolding by_enum
       enum_no t = rw (by_enum, t)
 
@@ -202,18 +202,18 @@ module _ (s : Snapshot) (from : ℕ) where
             flats = record { mine = record { names = e.enum; plainly = h.mine.plainly }; flat = e.flat };
           }
 
-      after_some : (p : Path) → Least (Mine b enum) (Flats b enum) (some p) → (o : Option Path)
+      after_some : (p : Path) → Least (Mine b enum) (Flats b enum) (Some p) → (o : Option Path)
           → first_to s from (defined_item ns d) (into p variant_name ∷ []) ≡ o → Least (Mine b (defined_item ns d)) (Enums b (defined_item ns d)) o
       unfolding names_in is_plain ns_of
-      after_some p g none e = λ q h.
+      after_some p g None e = λ q h.
           let f = parts q h in
-          let same : means s from ns (into p variant_name) ≡ some (defined_item ns d) =
+          let same : means s from ns (into p variant_name) ≡ Some (defined_item ns d) =
           into_means s from ns variant_name p enum g.0.names
           ∙ (sym (into_means s from ns variant_name f.before enum f.by.enum)
           ∙ (ap (λ (x : ℕ). means s from ns (into f.before x)) (sym f.by.name) ∙ (ap (means s from ns) (sym f.whole) ∙ h.mine.names))) in
           let a = to_first s from (defined_item ns d) (Memᴰ.head refl) same in
           none_some (sym e ∙ a.1)
-      after_some p g (some z) e =
+      after_some p g (Some z) e =
           let f = first_to_lem s from (defined_item ns d) (into p variant_name ∷ []) z e in
           let same : z ≡ into p variant_name = Memᴰ.eq_of_singleton f.0 in
           let size : names_in z ≡ suc (names_in p) = ap names_in same in (
@@ -228,8 +228,8 @@ module _ (s : Snapshot) (from : ℕ) where
       after_least : (o : Option Path) → Least (Mine b enum) (Flats b enum) o
           → Least (Mine b (defined_item ns d)) (Enums b (defined_item ns d)) (variant_after s from (defined_item ns d) variant_name o)
       unfolding variant_after checked_path
-      after_least none g = λ q h. let f = parts q h in g f.before f.flats
-      after_least (some p) g = after_some p g (first_to s from (defined_item ns d) (into p variant_name ∷ [])) refl
+      after_least None g = λ q h. let f = parts q h in g f.before f.flats
+      after_least (Some p) g = after_some p g (first_to s from (defined_item ns d) (into p variant_name ∷ [])) refl
 
       variant_least : Least (Mine b (defined_item ns d)) (Enums b (defined_item ns d)) (by_enum b s from (defined_item ns d))
       variant_least =
@@ -259,8 +259,8 @@ module _ (s : Snapshot) (from : ℕ) where
           ⊎_elim (λ f. inl (record { mine = h; flat = f })) (λ t. inr (record { mine = h; through = t })) (either q (ns_of item) item h.names)
 
       widened : (b : Bool) (o : Option Path) → Least (Mine b item) (λ x. Flats b item x ⊎ Enums b item x) o → Least (Mine b item) (Mine b item) o
-      widened b none g = λ q h. g q (kind_of_lem b q h)
-      widened b (some p) g = (g.0, λ q h. g.1 q (kind_of_lem b q h))
+      widened b None g = λ q h. g q (kind_of_lem b q h)
+      widened b (Some p) g = (g.0, λ q h. g.1 q (kind_of_lem b q h))
 
       one_least : (b : Bool) → Least (Mine b item) (Mine b item) (shortest_of b s from item)
       unfolding shortest_of
@@ -276,8 +276,8 @@ module _ (s : Snapshot) (from : ℕ) where
         begins : is_plain p ≡ true → (q : Path) → Names s from item q → is_plain q ≡ false → names_in p < names_in q
 
       abbrev IsBest : Option Path → Type 0
-      IsBest none = (q : Path) → Names s from item q → ⊥
-      IsBest (some p) = Best p
+      IsBest None = (q : Path) → Names s from item q → ⊥
+      IsBest (Some p) = Best p
 
       abbrev Of : Bool → Option Path → Type 0
       Of b o = Least (Mine b item) (Mine b item) o
@@ -288,20 +288,20 @@ module _ (s : Snapshot) (from : ℕ) where
 
       best : (a b : Option Path) → Of false a → Of true b → IsBest (shorter a b)
       unfolding shorter
-      best none none f g = λ q h. by_kind q h (f q) (g q)
-      best none (some p) f g =
+      best None None f g = λ q h. by_kind q h (f q) (g q)
+      best None (Some p) f g =
           record {
             names = g.0.names;
             least = λ q h. by_kind q h (λ k. absurd (f q k)) (g.1 q);
             begins = λ t q h k. absurd (f q (record { names = h; plainly = k }));
           }
-      best (some p) none f g =
+      best (Some p) None f g =
           record {
             names = f.0.names;
             least = λ q h. by_kind q h (f.1 q) (λ k. absurd (g q k));
             begins = λ t q h k. absurd (true≢false (sym t ∙ f.0.plainly));
           }
-      best (some p) (some r) f g =
+      best (Some p) (Some r) f g =
           by_test (ltb (names_in r) (names_in p))
           (λ t.
           let l : names_in r < names_in p = ltb-true (names_in r) (names_in p) t in
@@ -320,18 +320,18 @@ module _ (s : Snapshot) (from : ℕ) where
             begins = λ u q h k. absurd (true≢false (sym u ∙ f.0.plainly));
           }))
 
-      up_yes : (p : Path) → names_in p ≤ names_limit → up_to names_limit (some p) ≡ found p
+      up_yes : (p : Path) → names_in p ≤ names_limit → up_to names_limit (Some p) ≡ found p
       unfolding up_to
       up_yes p h = rw (up_to, le-leb (names_in p) names_limit h)
 
-      up_no : (p : Path) → names_limit < names_in p → up_to names_limit (some p) ≡ longer
+      up_no : (p : Path) → names_limit < names_in p → up_to names_limit (Some p) ≡ longer
       unfolding up_to
       up_no p h = rw (up_to, lt-leb (names_in p) names_limit h)
 
       up_right : (o : Option Path) → IsBest o → Right s from item (up_to names_limit o)
       unfolding up_to
-      up_right none g = λ a. g a.path a.names
-      up_right (some p) g =
+      up_right None g = λ a. g a.path a.names
+      up_right (Some p) g =
           by_test (leb (names_in p) names_limit)
           (λ t.
           let l : names_in p ≤ names_limit = leb-true (names_in p) names_limit t in

@@ -3,7 +3,7 @@ use Prim.Native.Nat.{ℕ, zero, suc, ◌≤◌, ◌<◌}
 use mathlib.Core.Path.{◌≡◌, refl, sym, ap, ◌∙◌}
 use mathlib.Core.List.{List, [], ◌∷◌, map, Memᴰ}
 use mathlib.Core.Bool.{Bool, true, false}
-use mathlib.Core.Option.{Option, none, some}
+use Rattle.std.specs.Prelude.{Option, None, Some}
 use native.Mathlib.Omega.{arith}
 use borrow.Author.Tests.{eqb-true, eqb-false}
 use lib.Dec.{eqb}
@@ -11,15 +11,15 @@ use Rattle.accept.proofs.Accepted.{by_test}
 use Rattle.hir_def.specs.Finds.{first_of}
 use Rattle.nameable.specs.Queue.{passing}
 
-pub by_option : {A C : Type 0} (o : Option A) → (o ≡ none → C) → ((x : A) → o ≡ some x → C) → C
-by_option none f g = f refl
-by_option (some x) f g = g x refl
+pub by_option : {A C : Type 0} (o : Option A) → (o ≡ None → C) → ((x : A) → o ≡ Some x → C) → C
+by_option None f g = f refl
+by_option (Some x) f g = g x refl
 
-pub none_some : {A : Type 0} {x : A} → none ≡ some x → ⊥
+pub none_some : {A : Type 0} {x : A} → None ≡ Some x → ⊥
 none_some e = let z : ◌≡◌ {A = ℕ} 0 1 = cc in omega arith
 
 module _ {A : Type 0} (p : A → Bool) where
-  first_hit : (x : A) (xs : List A) → p x ≡ true → first_of p (x ∷ xs) ≡ some x
+  first_hit : (x : A) (xs : List A) → p x ≡ true → first_of p (x ∷ xs) ≡ Some x
   unfolding first_of
   first_hit x xs e = rw (first_of, e)
 
@@ -28,16 +28,16 @@ module _ {A : Type 0} (p : A → Bool) where
   first_miss x xs e = rw (first_of, e)
 
   -- what is found stands there, and passes
-  pub first_found_lem : (xs : List A) (y : A) → first_of p xs ≡ some y → Memᴰ y xs × (p y ≡ true)
+  pub first_found_lem : (xs : List A) (y : A) → first_of p xs ≡ Some y → Memᴰ y xs × (p y ≡ true)
   unfolding first_of
   first_found_lem [] y e = absurd (none_some e)
   first_found_lem (x ∷ xs) y e =
       by_test (p x)
-      (λ t. let f : some x ≡ some y = sym (first_hit x xs t) ∙ e in let same : y ≡ x = cc in (Memᴰ.head same, ap p same ∙ t))
+      (λ t. let f : Some x ≡ Some y = sym (first_hit x xs t) ∙ e in let same : y ≡ x = cc in (Memᴰ.head same, ap p same ∙ t))
       (λ t. let f = first_found_lem xs y (sym (first_miss x xs t) ∙ e) in (Memᴰ.tail f.0, f.1))
 
   -- where one passes, one is found
-  pub first_some_lem : {y : A} {xs : List A} → Memᴰ y xs → p y ≡ true → (z : A) × (first_of p xs ≡ some z)
+  pub first_some_lem : {y : A} {xs : List A} → Memᴰ y xs → p y ≡ true → (z : A) × (first_of p xs ≡ Some z)
   first_some_lem (Memᴰ.head {x = x} {xs = xs} e) t = (x, first_hit x xs (ap p (sym e) ∙ t))
   first_some_lem (Memᴰ.tail {x = x} {xs = xs} m) t =
       by_test (p x) (λ h. (x, first_hit x xs h)) (λ h. let f = first_some_lem m t in (f.0, first_miss x xs h ∙ f.1))

@@ -1,10 +1,10 @@
 -- The entries of a module by name and by item: no name stands twice in a scope and namespace.
+use Rattle.std.specs.Prelude.{option_map}
 use Prim.Native.Nat.{ℕ, suc, ◌<◌}
 use mathlib.Core.Path.{◌≡◌, refl, sym, ap, subst, ◌∙◌}
 use mathlib.Core.List.{List, [], ◌∷◌, map, Memᴰ}
 use mathlib.Core.Bool.{Bool, true, false, ◌&&◌, true≢false}
-use mathlib.Core.Option
-use mathlib.Core.Option.{some}
+use Rattle.std.specs.Prelude.{Some}
 use native.Mathlib.Omega.{arith}
 use borrow.Author.Tests.{eqb-true, eq-eqb, ltb-true, ltb-false}
 use lib.Dec.{eqb, ltb}
@@ -28,7 +28,7 @@ use Rattle.nameable.proofs.Arrives.{same_item_lem}
 
 -- The first of what is made of the selected ones.
 pub first_mapped : {A B : Type 0} (p : B → Bool) (f : A → B) (q : A → Bool) (xs : List A)
-    → first_of p (map f (select q xs)) ≡ Option.map f (first_of (λ x. q x && p (f x)) xs)
+    → first_of p (map f (select q xs)) ≡ option_map f (first_of (λ x. q x && p (f x)) xs)
 unfolding first_of select
 first_mapped p f q [] = refl
 first_mapped p f q (x ∷ xs) =
@@ -68,11 +68,11 @@ name_last false k v t = refl
 
 module _ (s : Snapshot) (from ns m : ℕ) where
   -- a name means the seen entry that has it
-  pub named_seen : (n : ℕ) → named n (entries_in s from ns m) ≡ Option.map (as_named s) (seen_named s from ns m n)
+  pub named_seen : (n : ℕ) → named n (entries_in s from ns m) ≡ option_map (as_named s) (seen_named s from ns m n)
   unfolding named entries_in seen_named
   named_seen n =
       first_mapped (λ (x : Named). eqb x.name n) (as_named s) (is_seen_in s from ns m) s.scopes
-      ∙ ap (Option.map (as_named s))
+      ∙ ap (option_map (as_named s))
       (first_same (λ (e : Scope). is_seen_in s from ns m e && eqb e.name n) (λ (e : Scope). is_named m ns n e && seen s from e) s.scopes
       (λ e i. name_last (eqb e.owner m) (eqb e.ns ns) (seen s from e) (eqb e.name n)))
 
@@ -113,7 +113,7 @@ module _ (s : Snapshot) (from ns m : ℕ) where
 
   -- a seen entry is what its name means
   pub seen_named_lem : Valid s → (e : Scope) → Memᴰ e s.scopes → is_seen_in s from ns m e ≡ true
-      → named e.name (entries_in s from ns m) ≡ some (as_named s e)
+      → named e.name (entries_in s from ns m) ≡ Some (as_named s e)
   unfolding seen_named
   seen_named_lem ok e i h =
       let f = and_two (eqb e.owner m) (eqb e.ns ns && seen s from e) h in
@@ -123,11 +123,11 @@ module _ (s : Snapshot) (from ns m : ℕ) where
       let x = first_some_lem (λ (z : Scope). is_named m ns e.name z && seen s from z) i both in
       let y = first_found_lem (λ (z : Scope). is_named m ns e.name z && seen s from z) s.scopes x.0 x.1 in
       let same : x.0 ≡ e = entry_one ok e.name x.0 e y.0 i (and_two (is_named m ns e.name x.0) (seen s from x.0) y.1).0 here in
-      let is : seen_named s from ns m e.name ≡ some e = x.1 ∙ ap some same in
-      named_seen e.name ∙ ap (Option.map (as_named s)) is
+      let is : seen_named s from ns m e.name ≡ Some e = x.1 ∙ ap Some same in
+      named_seen e.name ∙ ap (option_map (as_named s)) is
 
   pub seen_means : Valid s → (e : Scope) → Memᴰ e s.scopes → is_seen_in s from ns m e ≡ true
-      → item_in (named e.name (entries_in s from ns m)) ≡ some (item_of s e.ns e.definition)
+      → item_in (named e.name (entries_in s from ns m)) ≡ Some (item_of s e.ns e.definition)
   seen_means ok e i h = item_of_lem (named e.name (entries_in s from ns m)) (as_named s e) (seen_named_lem ok e i h)
 
 -- the namespace of an item that a record stands for
@@ -138,10 +138,10 @@ ns_of_item s ns d =
     (λ t. rw (t, item_of) (sym (eqb-true ns types (and_two (eqb ns types) (eqb (definition_of s d).kind module_kind) t).0)))
     (λ t. rw (t, item_of))
 
-module _ (s : Snapshot) (ok : Valid s) (from : ℕ) (item : Item) (w : Way) (there : means s from types w.path ≡ some (module_item w.target)) where
+module _ (s : Snapshot) (ok : Valid s) (from : ℕ) (item : Item) (w : Way) (there : means s from types w.path ≡ Some (module_item w.target)) where
   -- one name more after a way, by a seen entry
   pub after_means : (ns : ℕ) (e : Scope) → Memᴰ e s.scopes → is_seen_in s from ns w.target e ≡ true
-      → means s from ns (into w.path e.name) ≡ some (item_of s e.ns e.definition)
+      → means s from ns (into w.path e.name) ≡ Some (item_of s e.ns e.definition)
   unfolding within
   after_means ns e i h = into_means s from ns e.name w.path (module_item w.target) there ∙ seen_means s from ns w.target ok e i h
 
@@ -176,7 +176,7 @@ module _ (s : Snapshot) (ok : Valid s) (from : ℕ) (item : Item) (w : Way) (the
           (λ u. u)
 
   -- The first path to the item with one name more is by the module's first seen entry for it.
-  pub after_first : first_to s from item (paths_after s from (ns_of item) w) ≡ Option.map (λ e. into w.path e.name)
+  pub after_first : first_to s from item (paths_after s from (ns_of item) w) ≡ option_map (λ e. into w.path e.name)
       (names_of s w.target item (seen s from))
   unfolding first_to entries_in names_of
   after_first =
@@ -184,6 +184,6 @@ module _ (s : Snapshot) (ok : Valid s) (from : ℕ) (item : Item) (w : Way) (the
       (map_of_map (as_named s) (λ (x : Named). into w.path x.name) (select (is_seen_in s from (ns_of item) w.target) s.scopes))
       ∙ (first_mapped (λ (p : Path). is_item item (means s from (ns_of item) p)) (λ (e : Scope). into w.path e.name)
       (is_seen_in s from (ns_of item) w.target) s.scopes
-      ∙ ap (Option.map (λ (e : Scope). into w.path e.name))
+      ∙ ap (option_map (λ (e : Scope). into w.path e.name))
       (first_same (λ (e : Scope). is_seen_in s from (ns_of item) w.target e && is_item item (means s from (ns_of item) (into w.path e.name)))
       (λ (e : Scope). is_for s w.target item e && seen s from e) s.scopes alike))

@@ -4,7 +4,7 @@ use mathlib.Core.Path.{◌≡◌, refl, sym, ap, subst}
 use mathlib.Core.List.Memᴰ
 use mathlib.Core.List.{List, [], ◌∷◌, map, Memᴰ}
 use mathlib.Core.Bool.{true, false, ◌&&◌}
-use mathlib.Core.Option.{Option, none, some}
+use Rattle.std.specs.Prelude.{Option, None, Some}
 use native.Mathlib.Omega.{arith}
 use borrow.Author.Tests.{eqb-true}
 use lib.Dec.{eqb, ltb}
@@ -60,7 +60,7 @@ module _ (s : Snapshot) (ok : Valid s) where
   around_few m r = stands_few (around_stands s ok.tree (suc m) m (omega arith) r) r
 
   -- each `super` leads to a smaller number
-  pub above_few : (k m t : ℕ) → m < length s.modules → above s k m ≡ some t → k + t ≤ m
+  pub above_few : (k m t : ℕ) → m < length s.modules → above s k m ≡ Some t → k + t ≤ m
   unfolding above above_or
   above_few zero m t r e = let z : m ≡ t = cc in omega arith
   above_few (suc k) m t r e =
@@ -114,8 +114,8 @@ module _ (s : Snapshot) (ok : Valid s) where
 
     prelude_fits : (o : Option Prelude) → Fits s ns (prelude_entries s from ns o)
     unfolding prelude_entries
-    prelude_fits none = Each.none
-    prelude_fits (some p) = entries_fit p.target
+    prelude_fits None = Each.none
+    prelude_fits (Some p) = entries_fit p.target
 
     owned_fit : {xs : List Extern} → Each (ExternFits (counts_of s)) xs
         → Fits s ns (map extern_named (select (λ (x : Extern). eqb x.owner (crate_of s from)) xs))
@@ -149,27 +149,27 @@ module _ (s : Snapshot) (ok : Valid s) where
     within_fits (Mod m) = entries_fit m.0
     within_fits (Def k d) = variants_fit d.0
 
-    named_fits : (n : ℕ) (xs : List Named) (x : Item) → Fits s ns xs → item_in (named n xs) ≡ some x → Fit s ns x
+    named_fits : (n : ℕ) (xs : List Named) (x : Item) → Fits s ns xs → item_in (named n xs) ≡ Some x → Fit s ns x
     named_fits n xs x h e =
         let i = item_in_lem (named n xs) x e in
         let a = named_in_lem n xs i.0 i.1 in subst (Fit s ns) i.2 (each_in h a.0)
 
   module _ (from : ℕ) (r : from < length s.modules) where
-    keyword_known : (k : Keyword) (m : ℕ) → keyword_module s from k ≡ some m → m < length s.modules
+    keyword_known : (k : Keyword) (m : ℕ) → keyword_module s from k ≡ Some m → m < length s.modules
     unfolding keyword_module
     keyword_known (supers k) m e =
         let a = around_few from r in let l = above_few k (module_around s from) m (omega arith) e in omega arith
     keyword_known crate m e = let same : crate_root s from ≡ m = cc in rw (← same) (crate_root_known s ok from r)
 
-    keyword_from_lem : (k : Keyword) (ns : ℕ) (x : Item) → means s from ns (keyword k) ≡ some x
-        → (m : ℕ) × (keyword_module s from k ≡ some m) × (module_item m ≡ x)
+    keyword_from_lem : (k : Keyword) (ns : ℕ) (x : Item) → means s from ns (keyword k) ≡ Some x
+        → (m : ℕ) × (keyword_module s from k ≡ Some m) × (module_item m ≡ x)
     unfolding means reads module_named item_in
     keyword_from_lem k ns x e =
         by_option (keyword_module s from k)
         (λ z. absurd (none_some (rw z at e)))
-        (λ m z. let f : some (module_item m) ≡ some x = rw z at e in let same : module_item m ≡ x = cc in (m, z, same))
+        (λ m z. let f : Some (module_item m) ≡ Some x = rw z at e in let same : module_item m ≡ x = cc in (m, z, same))
 
-    meant : (p : Path) (ns : ℕ) (x : Item) → means s from ns p ≡ some x → Fit s ns x
+    meant : (p : Path) (ns : ℕ) (x : Item) → means s from ns p ≡ Some x → Fit s ns x
     unfolding means reads
     meant (keyword k) ns x e = let f = keyword_from_lem k ns x e in subst (Fit s ns) f.2 (keyword_known k f.0 f.1)
     meant (absolute n) ns x e = named_fits from ns n (absolutes s from ns) x (absolutes_fit from ns) e
@@ -177,7 +177,7 @@ module _ (s : Snapshot) (ok : Valid s) where
     meant (into p n) ns x e =
         let f = into_from s from ns n p x e in named_fits from ns n (within s from ns f.0) x (within_fits from ns f.0) f.2
 
-    keyword_tried : (k : Keyword) (m : ℕ) → keyword_module s from k ≡ some m → Memᴰ k (keywords s)
+    keyword_tried : (k : Keyword) (m : ℕ) → keyword_module s from k ≡ Some m → Memᴰ k (keywords s)
     unfolding keyword_module
     keyword_tried (supers zero) m e = Memᴰ.head refl
     keyword_tried crate m e = Memᴰ.tail (Memᴰ.head refl)

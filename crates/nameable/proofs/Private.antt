@@ -4,7 +4,7 @@ use native.Mathlib.Omega.{arith}
 use mathlib.Core.Path.{◌≡◌, refl}
 use mathlib.Core.List.{List, Memᴰ}
 use mathlib.Core.Bool.{Bool, true, ◌&&◌}
-use mathlib.Core.Option.{Option, none, some}
+use Rattle.std.specs.Prelude.{Option, None, Some}
 use mathlib.Core.Logic.{◌↔◌}
 use borrow.Author.Tests.{eqb-true, eq-eqb}
 use lib.ListN.{length}
@@ -43,13 +43,13 @@ module _ (W : List ℕ) (s : Snapshot) (accepted : verdict W ≡ accept s) where
     entry_is : (e : Scope) → ScopeFits (counts_of s) e → (holds_in s v e ≡ true) ↔ Holds s v e
     entry_is e f = holds_is e.visibility e.number (known e.visibility e.number f.public f.inside)
 
-    declaration_is : (o : Option Scope) → ((e : Scope) → o ≡ some e → ScopeFits (counts_of s) e)
+    declaration_is : (o : Option Scope) → ((e : Scope) → o ≡ Some e → ScopeFits (counts_of s) e)
         → (declaration_holds s v o ≡ true) ↔ DeclarationHolds s v o
     unfolding declaration_holds
-    declaration_is none f = (λ e. tt, λ p. refl)
-    declaration_is (some e) f = entry_is e (f e refl)
+    declaration_is None f = (λ e. tt, λ p. refl)
+    declaration_is (Some e) f = entry_is e (f e refl)
 
-  declared_fits : (ns d m : ℕ) (e : Scope) → declaration_in s ns d m ≡ some e → ScopeFits (counts_of s) e
+  declared_fits : (ns d m : ℕ) (e : Scope) → declaration_in s ns d m ≡ Some e → ScopeFits (counts_of s) e
   unfolding declaration_in
   declared_fits ns d zero e h = absurd (none_some h)
   declared_fits ns d (suc m) e h = each_first (is_declaration m ns d) e (accepted_valid W s accepted).ranges.scopes h

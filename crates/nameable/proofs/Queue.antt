@@ -4,7 +4,7 @@ use mathlib.Core.Path.{◌≡◌, refl, sym, ap, ◌∙◌}
 use mathlib.Core.List.Memᴰ
 use mathlib.Core.List.{List, [], ◌∷◌, ◌++◌, append_assoc, append-nil, Memᴰ}
 use mathlib.Core.Bool.{Bool, true, or-true}
-use mathlib.Core.Option.{Option, none, some}
+use Rattle.std.specs.Prelude.{Option, None, Some}
 use native.Mathlib.Omega.{arith}
 use borrow.Author.Tests.{eq-eqb, lt-ltb, le-ltb}
 use lib.ListN.{length, length-append, get_or}
@@ -36,9 +36,9 @@ module _ (s : Snapshot) (from : ℕ) where
     where
       by_meaning : ((us : List Way) → (vs : List Way) × (added s from us ps ≡ us ++ vs)) → (o : Option Item)
           → (vs : List Way) × (added s from (with_meaning ws p o) ps ≡ ws ++ vs)
-      by_meaning f none = f ws
-      by_meaning f (some (Def ns d)) = f ws
-      by_meaning f (some (Mod m)) =
+      by_meaning f None = f ws
+      by_meaning f (Some (Def ns d)) = f ws
+      by_meaning f (Some (Mod m)) =
           by_test (is_met ws m.0)
           (λ t. let g = f ws in (g.0, ap (λ (u : List Way). added s from u ps) (with_old ws p m.0 t) ∙ g.1))
           (λ t.
@@ -49,7 +49,7 @@ module _ (s : Snapshot) (from : ℕ) where
 
   -- a path that means no module, or one that is met
   abbrev Old : List Way → Path → Type 0
-  Old ws p = (m : ℕ) → means s from types p ≡ some (module_item m) → is_met ws m ≡ true
+  Old ws p = (m : ℕ) → means s from types p ≡ Some (module_item m) → is_met ws m ≡ true
 
   added_old : (ws : List Way) {ps : List Path} → Each (Old ws) ps → added s from ws ps ≡ ws
   unfolding added with_meaning
@@ -57,9 +57,9 @@ module _ (s : Snapshot) (from : ℕ) where
   added_old ws (more {x = p} {xs = ps} o h) = by_meaning (added_old ws h) (means s from types p) refl
     where
       by_meaning : added s from ws ps ≡ ws → (x : Option Item) → means s from types p ≡ x → added s from (with_meaning ws p x) ps ≡ ws
-      by_meaning ih none e = ih
-      by_meaning ih (some (Def ns d)) e = ih
-      by_meaning ih (some (Mod m)) e = ap (λ (u : List Way). added s from u ps) (with_old ws p m.0 (o m.0 e)) ∙ ih
+      by_meaning ih None e = ih
+      by_meaning ih (Some (Def ns d)) e = ih
+      by_meaning ih (Some (Mod m)) e = ap (λ (u : List Way). added s from u ps) (with_old ws p m.0 (o m.0 e)) ∙ ih
 
   old_in : (ws : List Way) (ps : List Path) → ((p : Path) → Memᴰ p ps → Old ws p) → Each (Old ws) ps
   old_in ws [] f = Each.none
@@ -157,9 +157,9 @@ module _ (s : Snapshot) (from : ℕ) (plenty : Plenty s from) where
       by_meaning : ((us : List Way) → length us ≤ met_below us → length (added s from us ps) ≤ met_below (added s from us ps))
           → (o : Option Item) → means s from types p ≡ o → length (added s from (with_meaning ws p o) ps) ≤ met_below
           (added s from (with_meaning ws p o) ps)
-      by_meaning f none e = f ws h
-      by_meaning f (some (Def ns d)) e = f ws h
-      by_meaning f (some (Mod m)) e =
+      by_meaning f None e = f ws h
+      by_meaning f (Some (Def ns d)) e = f ws h
+      by_meaning f (Some (Mod m)) e =
           by_test (is_met ws m.0)
           (λ t. rw (with_old ws p m.0 t) (f ws h))
           (λ t.
@@ -238,20 +238,20 @@ first_append s from item ps qs = first_of_append _ ps qs
 
 or_again : {A : Type 0} (n b c : Option A) → or_first n (or_first b c) ≡ or_first n (or_first b (or_first c b))
 unfolding or_first
-or_again (some x) b c = refl
-or_again none (some x) c = refl
-or_again none none (some x) = refl
-or_again none none none = refl
+or_again (Some x) b c = refl
+or_again None (Some x) c = refl
+or_again None None (Some x) = refl
+or_again None None None = refl
 
 or_turn : {A : Type 0} (n b c d e : Option A) → or_first (or_first n (or_first b (or_first c d))) (or_first (or_first d e) c)
     ≡ or_first n (or_first b (or_first c (or_first d e)))
 unfolding or_first
-or_turn (some x) b c d e = refl
-or_turn none (some x) c d e = refl
-or_turn none none (some x) d e = refl
-or_turn none none none (some x) e = refl
-or_turn none none none none (some x) = refl
-or_turn none none none none none = refl
+or_turn (Some x) b c d e = refl
+or_turn None (Some x) c d e = refl
+or_turn None None (Some x) d e = refl
+or_turn None None None (Some x) e = refl
+or_turn None None None None (Some x) = refl
+or_turn None None None None None = refl
 
 module _ (s : Snapshot) (from : ℕ) (b : Bool) (item : Item) where
   abbrev to : List Path → Option Path

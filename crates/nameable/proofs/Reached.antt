@@ -4,7 +4,7 @@ use mathlib.Core.Path.{◌≡◌, refl, sym, ap, subst, ◌∙◌}
 use mathlib.Core.List.Memᴰ
 use mathlib.Core.List.{List, [], ◌∷◌, ◌++◌, map, Memᴰ}
 use mathlib.Core.Bool.{Bool, true, false, ◌||◌, or-true, true≢false}
-use mathlib.Core.Option.{Option, none, some}
+use Rattle.std.specs.Prelude.{Option, None, Some}
 use native.Mathlib.Omega.{arith}
 use borrow.Author.Tests.{eqb-true, eq-eqb}
 use lib.Dec.{eqb, ltb}
@@ -38,16 +38,16 @@ each_made f [] h = Each.none
 each_made f (x ∷ xs) h = more (h x) (each_made f xs h)
 
 -- a name means one of the list
-pub named_in_lem : (n : ℕ) (xs : List Named) (x : Named) → named n xs ≡ some x → Memᴰ x xs × (x.name ≡ n)
+pub named_in_lem : (n : ℕ) (xs : List Named) (x : Named) → named n xs ≡ Some x → Memᴰ x xs × (x.name ≡ n)
 unfolding named
 named_in_lem n xs x e = let f = first_found_lem (λ (y : Named). eqb y.name n) xs x e in (f.0, eqb-true x.name n f.1)
 
-pub item_in_lem : (o : Option Named) (x : Item) → item_in o ≡ some x → (y : Named) × (o ≡ some y) × (y.item ≡ x)
+pub item_in_lem : (o : Option Named) (x : Item) → item_in o ≡ Some x → (y : Named) × (o ≡ Some y) × (y.item ≡ x)
 unfolding item_in
-item_in_lem none x e = absurd (none_some e)
-item_in_lem (some y) x e = let same : y.item ≡ x = cc in (y, refl, same)
+item_in_lem None x e = absurd (none_some e)
+item_in_lem (Some y) x e = let same : y.item ≡ x = cc in (y, refl, same)
 
-pub item_of_lem : (o : Option Named) (y : Named) → o ≡ some y → item_in o ≡ some y.item
+pub item_of_lem : (o : Option Named) (y : Named) → o ≡ Some y → item_in o ≡ Some y.item
 unfolding item_in
 item_of_lem o y e = rw e
 
@@ -70,24 +70,24 @@ abbrev pub way_to : Path → ℕ → Way
 way_to p m = record { path = p; target = m }
 
 module _ (ws : List Way) (p : Path) where
-  pub with_old : (m : ℕ) → is_met ws m ≡ true → with_meaning ws p (some (module_item m)) ≡ ws
+  pub with_old : (m : ℕ) → is_met ws m ≡ true → with_meaning ws p (Some (module_item m)) ≡ ws
   unfolding with_meaning
   with_old m e = rw (with_meaning, e)
 
-  pub with_new : (m : ℕ) → is_met ws m ≡ false → with_meaning ws p (some (module_item m)) ≡ ws ++ (way_to p m ∷ [])
+  pub with_new : (m : ℕ) → is_met ws m ≡ false → with_meaning ws p (Some (module_item m)) ≡ ws ++ (way_to p m ∷ [])
   unfolding with_meaning
   with_new m e = rw (with_meaning, e)
 
   pub with_keeps : (o : Option Item) (m : ℕ) → is_met ws m ≡ true → is_met (with_meaning ws p o) m ≡ true
   unfolding with_meaning
-  with_keeps none m h = h
-  with_keeps (some (Def ns d)) m h = h
-  with_keeps (some (Mod t)) m h =
+  with_keeps None m h = h
+  with_keeps (Some (Def ns d)) m h = h
+  with_keeps (Some (Mod t)) m h =
       by_test (is_met ws t.0)
       (λ e. rw (with_old t.0 e) h)
       (λ e. rw (with_new t.0 e) (met_snoc ws (way_to p t.0) m ∙ rw h))
 
-  pub with_meets : (m : ℕ) → is_met (with_meaning ws p (some (module_item m))) m ≡ true
+  pub with_meets : (m : ℕ) → is_met (with_meaning ws p (Some (module_item m))) m ≡ true
   with_meets m =
       by_test (is_met ws m)
       (λ e. rw (with_old m e) e)
@@ -101,11 +101,11 @@ module _ (s : Snapshot) (from : ℕ) where
       added_keeps (with_meaning ws p (means s from types p)) ps m (with_keeps ws p (means s from types p) m h)
 
   -- a path that means a module has it met
-  pub added_meets : {p : Path} (ws : List Way) {ps : List Path} (m : ℕ) → Memᴰ p ps → means s from types p ≡ some (module_item m)
+  pub added_meets : {p : Path} (ws : List Way) {ps : List Path} (m : ℕ) → Memᴰ p ps → means s from types p ≡ Some (module_item m)
       → is_met (added s from ws ps) m ≡ true
   unfolding added
   added_meets ws m (Memᴰ.head {x = q} {xs = ps} e) h =
-      let f : means s from types q ≡ some (module_item m) = ap (means s from types) (sym e) ∙ h in
+      let f : means s from types q ≡ Some (module_item m) = ap (means s from types) (sym e) ∙ h in
       added_keeps (with_meaning ws q (means s from types q)) ps m (rw f (with_meets ws q m))
   added_meets ws m (Memᴰ.tail {x = q} k) h = added_meets (with_meaning ws q (means s from types q)) m k h
 
@@ -117,7 +117,7 @@ pub record Near (b : Bool) (k : ℕ) (p : Path) : Type 0 where
 -- such a path, and it means the module
 pub record Good (s : Snapshot) (from : ℕ) (b : Bool) (k : ℕ) (w : Way) : Type 0 where
   pub near : Near b k w.path
-  pub there : means s from types w.path ≡ some (module_item w.target)
+  pub there : means s from types w.path ≡ Some (module_item w.target)
 
 pub near_more : {b : Bool} {k : ℕ} (p : Path) → Near b k p → Near b (suc k) p
 near_more p h = record { short = omega arith; plainly = h.plainly }
@@ -146,9 +146,9 @@ module _ (s : Snapshot) (from : ℕ) where
   with_good : (b : Bool) (k : ℕ) {ws : List Way} (p : Path) → Each (Good s from b k) ws → Near b k p → (o : Option Item) → means s from types p ≡ o
       → Each (Good s from b k) (with_meaning ws p o)
   unfolding with_meaning
-  with_good b k p h n none e = h
-  with_good b k p h n (some (Def ns d)) e = h
-  with_good b k {ws} p h n (some (Mod m)) e =
+  with_good b k p h n None e = h
+  with_good b k p h n (Some (Def ns d)) e = h
+  with_good b k {ws} p h n (Some (Mod m)) e =
       by_test (is_met ws m.0)
       (λ t. rw (with_old ws p m.0 t) h)
       (λ t. rw (with_new ws p m.0 t) (each_snoc h (record { near = n; there = e })))
@@ -180,13 +180,13 @@ module _ (s : Snapshot) (from : ℕ) where
       Memᴰ.append_right (map (λ (y : Named). into v.path y.name) (entries_in s from ns v.target)) (onward_in ns k m)
 
   -- a name more after a path that means something
-  pub into_means : (ns n : ℕ) (p : Path) (x : Item) → means s from types p ≡ some x
+  pub into_means : (ns n : ℕ) (p : Path) (x : Item) → means s from types p ≡ Some x
       → means s from ns (into p n) ≡ item_in (named n (within s from ns x))
   unfolding means reads after
   into_means ns n p x e = let f = item_in_lem (reads s from types p) x e in rw (f.1, f.2)
 
-  pub into_from : (ns n : ℕ) (p : Path) (y : Item) → means s from ns (into p n) ≡ some y
-      → (x : Item) × (means s from types p ≡ some x) × (item_in (named n (within s from ns x)) ≡ some y)
+  pub into_from : (ns n : ℕ) (p : Path) (y : Item) → means s from ns (into p n) ≡ Some y
+      → (x : Item) × (means s from types p ≡ Some x) × (item_in (named n (within s from ns x)) ≡ Some y)
   unfolding means reads after item_in
   into_from ns n p y e =
       by_option (reads s from types p)
@@ -194,28 +194,28 @@ module _ (s : Snapshot) (from : ℕ) where
       (λ x z. (x.item, item_of_lem (reads s from types p) x z, rw z at e))
 
   -- a name in a module that is reached is offered, with the same meaning
-  pub onward_means : (b : Bool) (ns k m n : ℕ) (y : Item) → is_met (reached b s from k) m ≡ true → item_in (named n (entries_in s from ns m)) ≡ some y
-      → (p : Path) × Memᴰ p (onward s from ns (reached b s from k)) × (means s from ns p ≡ some y)
+  pub onward_means : (b : Bool) (ns k m n : ℕ) (y : Item) → is_met (reached b s from k) m ≡ true → item_in (named n (entries_in s from ns m)) ≡ Some y
+      → (p : Path) × Memᴰ p (onward s from ns (reached b s from k)) × (means s from ns p ≡ Some y)
   unfolding within
   onward_means b ns k m n y t e =
       let f = met_in_lem (reached b s from k) m t in
       let g = each_in (reached_good b k) f.1 in
       let i = item_in_lem (named n (entries_in s from ns m)) y e in
       let a = named_in_lem n (entries_in s from ns m) i.0 i.1 in
-      let there : means s from types f.0.path ≡ some (module_item m) = g.there ∙ ap (λ (u : ℕ). some (module_item u)) f.2 in (
+      let there : means s from types f.0.path ≡ Some (module_item m) = g.there ∙ ap (λ (u : ℕ). Some (module_item u)) f.2 in (
         into f.0.path i.0.name,
         onward_in ns f.1 (subst (λ (u : ℕ). Memᴰ i.0 (entries_in s from ns u)) (sym f.2) a.0),
         into_means ns i.0.name f.0.path (module_item m) there ∙ ap (λ (u : ℕ). item_in (named u (entries_in s from ns m))) a.1 ∙ e,
       )
 
-  pub absolute_in : (ns n : ℕ) (y : Item) → means s from ns (absolute n) ≡ some y → Memᴰ (absolute n) (single false s from ns)
+  pub absolute_in : (ns n : ℕ) (y : Item) → means s from ns (absolute n) ≡ Some y → Memᴰ (absolute n) (single false s from ns)
   unfolding means reads single
   absolute_in ns n y e =
       let i = item_in_lem (named n (absolutes s from ns)) y e in
       let a = named_in_lem n (absolutes s from ns) i.0 i.1 in
       Memᴰ.cast (ap absolute (sym a.1)) (map_in_lem (λ (x : Named). absolute x.name) a.0)
 
-  pub plain_in_lem : (ns n : ℕ) (y : Item) → means s from ns (plain n) ≡ some y → Memᴰ (plain n) (single true s from ns)
+  pub plain_in_lem : (ns n : ℕ) (y : Item) → means s from ns (plain n) ≡ Some y → Memᴰ (plain n) (single true s from ns)
   unfolding means reads single
   plain_in_lem ns n y e =
       let i = item_in_lem (named n (firsts s from ns)) y e in
@@ -225,10 +225,10 @@ module _ (s : Snapshot) (from : ℕ) where
 -- What the proof asks of a snapshot and a viewing module (proofs/Plenty.antt: an accepted one has it).
 pub record Plenty (s : Snapshot) (from : ℕ) : Type 0 where
   -- every keyword that means something is tried
-  pub tried : (k : Keyword) (x : Item) → means s from types (keyword k) ≡ some x → Memᴰ k (keywords s)
+  pub tried : (k : Keyword) (x : Item) → means s from types (keyword k) ≡ Some x → Memᴰ k (keywords s)
   -- a module that is meant is one of the snapshot's, another thing in types is in types
-  pub known : (p : Path) (m : ℕ) → means s from types p ≡ some (module_item m) → m < length s.modules
-  pub typed : (p : Path) (k d : ℕ) → means s from types p ≡ some (defined_item k d) → k ≡ types
+  pub known : (p : Path) (m : ℕ) → means s from types p ≡ Some (module_item m) → m < length s.modules
+  pub typed : (p : Path) (k d : ℕ) → means s from types p ≡ Some (defined_item k d) → k ≡ types
   -- a variant is its enum's
   pub belongs : Each (Belongs s.definitions) s.members
 
@@ -263,15 +263,15 @@ variants_each s ns d =
         }) g))
         (λ t. rw (t, select) g)
 
-pub variant_named_lem : (s : Snapshot) (ns n d : ℕ) (y : Item) → item_in (named n (variants_in s ns d)) ≡ some y
-    → (x : Named) × (named n (variants_in s ns d) ≡ some x) × (x.item ≡ y) × VariantBy s ns d x
+pub variant_named_lem : (s : Snapshot) (ns n d : ℕ) (y : Item) → item_in (named n (variants_in s ns d)) ≡ Some y
+    → (x : Named) × (named n (variants_in s ns d) ≡ Some x) × (x.item ≡ y) × VariantBy s ns d x
 variant_named_lem s ns n d y e =
     let i = item_in_lem (named n (variants_in s ns d)) y e in
     let a = named_in_lem n (variants_in s ns d) i.0 i.1 in
     (i.0, i.1, i.2, each_in (variants_each s ns d) a.0)
 
 -- no variant is a module
-pub variants_def : (s : Snapshot) (ns n d m : ℕ) → item_in (named n (variants_in s ns d)) ≡ some (module_item m) → ⊥
+pub variants_def : (s : Snapshot) (ns n d m : ℕ) → item_in (named n (variants_in s ns d)) ≡ Some (module_item m) → ⊥
 variants_def s ns n d m e =
     let v = variant_named_lem s ns n d (module_item m) e in
     let q : defined_item ns v.3.member.definition ≡ module_item m = sym (ap (λ (x : Named). x.item) v.3.same) ∙ v.2 in
@@ -279,7 +279,7 @@ variants_def s ns n d m e =
 
 module _ (s : Snapshot) (from : ℕ) (plenty : Plenty s from) where
   -- what is meant is reached
-  pub reached_meets : (p : Path) (b : Bool) (m : ℕ) → is_plain p ≡ b → means s from types p ≡ some (module_item m)
+  pub reached_meets : (p : Path) (b : Bool) (m : ℕ) → is_plain p ≡ b → means s from types p ≡ Some (module_item m)
       → is_met (reached b s from (names_in p)) m ≡ true
   unfolding reached names_in is_plain nameless within
   reached_meets (keyword k) true m f e = absurd (true≢false (sym f))
@@ -295,8 +295,8 @@ module _ (s : Snapshot) (from : ℕ) (plenty : Plenty s from) where
   reached_meets (into p n) b m f e =
       let g = into_from s from types n p (module_item m) e in by_item (λ t h. reached_meets p b t f h) g.0 g.1 g.2
     where
-      by_item : ((t : ℕ) → means s from types p ≡ some (module_item t) → is_met (reached b s from (names_in p)) t ≡ true) → (x : Item)
-          → means s from types p ≡ some x → item_in (named n (within s from types x)) ≡ some (module_item m)
+      by_item : ((t : ℕ) → means s from types p ≡ Some (module_item t) → is_met (reached b s from (names_in p)) t ≡ true) → (x : Item)
+          → means s from types p ≡ Some x → item_in (named n (within s from types x)) ≡ Some (module_item m)
           → is_met (reached b s from (suc (names_in p))) m ≡ true
       by_item ih (Mod t) h g =
           let o = onward_means s from b types (names_in p) t.0 n (module_item m) (ih t.0 h) g in

@@ -2,7 +2,7 @@
 use Prim.Native.Nat.{ℕ, zero, suc, ◌+◌, ◌*◌}
 use mathlib.Core.Path.{◌≡◌, refl}
 use mathlib.Core.List.{List, [], ◌∷◌, ◌++◌, map}
-use mathlib.Core.Option.{Option, none, some}
+use Rattle.std.specs.Prelude.{Option, None, Some}
 use Rattle.snapshot.specs.Lists.{rows, any, all, eq_list}
 use Rattle.snapshot.specs.Words.{arguments_of}
 use Rattle.check_rules.specs.Tests.{text_bound, padded}
@@ -188,7 +188,7 @@ pub block_readings : readings (verdict (workspace 2021))
     ∷ into (into (into (into (into (keyword (supers 1)) 0) 3) 13) 14) 9
     ∷ into (keyword (supers 2)) 0
     ∷ [])
-    ≡ some (defined_item 1 6) ∷ some (defined_item 1 6) ∷ none ∷ none ∷ some (defined_item 1 13) ∷ none ∷ none ∷ []
+    ≡ Some (defined_item 1 6) ∷ Some (defined_item 1 6) ∷ None ∷ None ∷ Some (defined_item 1 13) ∷ None ∷ None ∷ []
 unfolding readings head letter entry workspace up_to shortest shortest_of shorter by_enum variant_after checked_path arrives first_to
     is_item reached onward single nameless added with_meaning is_met means item_in reads after module_named keyword_module above above_or
     within firsts prelude_entries scopes_from entries_over absolutes externs_in variants_in entries_in named names_in seen counts both_hold

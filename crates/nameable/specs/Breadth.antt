@@ -1,6 +1,6 @@
 -- The modules that paths reach, by the number of their names, each once; and by these a shortest path to an item.
 use Rattle.std.specs.Prelude.{ℕ, zero, suc, ◌+◌, List, [], ◌∷◌, ◌++◌, map, Bool, true, false, eqb, ltb, leb, length}
-use Rattle.std.proofs.Math.Option.{Option, none, some}
+use Rattle.std.specs.Prelude.{Option, None, Some}
 use Rattle.snapshot.specs.Lists.{any, rows}
 use Rattle.snapshot.specs.Records.{Snapshot}
 use Rattle.hir_def.specs.Finds.{first_of, or_first}
@@ -20,9 +20,9 @@ is_met ws m = any (λ w. eqb w.target m) ws
 
 -- a path that means a module goes to the end, unless the module has one
 unfoldable pub with_meaning : List Way → Path → Option Item → List Way
-with_meaning ws p none = ws
-with_meaning ws p (some (Def ns d)) = ws
-with_meaning ws p (some (Mod m)) = elim (is_met ws m.0) [ true ↦ ws | false ↦ ws ++ (record { path = p; target = m.0 } ∷ []) ]
+with_meaning ws p None = ws
+with_meaning ws p (Some (Def ns d)) = ws
+with_meaning ws p (Some (Mod m)) = elim (is_met ws m.0) [ true ↦ ws | false ↦ ws ++ (record { path = p; target = m.0 } ∷ []) ]
 
 unfoldable pub added : Snapshot → ℕ → List Way → List Path → List Way
 added s from ws [] = ws
@@ -52,8 +52,8 @@ reached b s from zero = added s from [] (nameless b s)
 reached b s from (suc k) = added s from (reached b s from k) (onward s from types (reached b s from k) ++ single b s from types)
 
 unfoldable pub is_item : Item → Option Item → Bool
-is_item item none = false
-is_item item (some x) = same_item x item
+is_item item None = false
+is_item item (Some x) = same_item x item
 
 -- the first of the paths that means the item
 unfoldable pub first_to : Snapshot → ℕ → Item → List Path → Option Path
@@ -77,23 +77,23 @@ unfoldable pub checked_path : Snapshot → ℕ → Item → Path → Option Path
 checked_path s from item p = first_to s from item (p ∷ [])
 
 unfoldable pub variant_after : Snapshot → ℕ → Item → ℕ → Option Path → Option Path
-variant_after s from item n none = none
-variant_after s from item n (some p) = checked_path s from item (into p n)
+variant_after s from item n None = None
+variant_after s from item n (Some p) = checked_path s from item (into p n)
 
 -- a variant by its enum
 unfoldable pub by_enum : Bool → Snapshot → ℕ → Item → Option Path
-by_enum b s from (Mod m) = none
+by_enum b s from (Mod m) = None
 by_enum b s from (Def ns d) =
     elim (is_variant s d.0) [
       | true ↦ variant_after s from (Def ns d) (definition_of s d.0).second (arrival b s from (defined_item types (definition_of s d.0).first))
-      | false ↦ none
+      | false ↦ None
     ]
 
 -- the second where it is shorter
 unfoldable pub shorter : Option Path → Option Path → Option Path
-shorter none q = q
-shorter (some p) none = some p
-shorter (some p) (some q) = elim (ltb (names_in q) (names_in p)) [ true ↦ some q | false ↦ some p ]
+shorter None q = q
+shorter (Some p) None = Some p
+shorter (Some p) (Some q) = elim (ltb (names_in q) (names_in p)) [ true ↦ Some q | false ↦ Some p ]
 
 unfoldable pub shortest_of : Bool → Snapshot → ℕ → Item → Option Path
 shortest_of b s from item = shorter (arrival b s from item) (by_enum b s from item)
@@ -112,8 +112,8 @@ abbrev pub names_limit : ℕ
 names_limit = 16
 
 unfoldable pub up_to : ℕ → Option Path → AnyPath
-up_to limit none = nowhere
-up_to limit (some p) = elim (leb (names_in p) limit) [ true ↦ found p | false ↦ longer ]
+up_to limit None = nowhere
+up_to limit (Some p) = elim (leb (names_in p) limit) [ true ↦ found p | false ↦ longer ]
 
 unfoldable pub any_path : Snapshot → ℕ → Item → AnyPath
 any_path s from item = up_to names_limit (shortest s from item)

@@ -1,6 +1,6 @@
 -- What a path means where it is written, and whether any path names an item there. Over the snapshot alone: nothing of the search is in it.
 use Rattle.std.specs.Prelude.{ℕ, zero, suc, ◌≡◌, List, [], ◌∷◌, ◌++◌, map, Bool, true, false, ◌&&◌, eqb, ltb}
-use Rattle.std.proofs.Math.Option.{Option, none, some}
+use Rattle.std.specs.Prelude.{Option, None, Some}
 use Rattle.snapshot.specs.Records.{Snapshot, Scope, Prelude, Extern, Member}
 use Rattle.tree_rules.specs.Modules.{map_no, crate_of, parent_of, crate_root}
 use Rattle.tree_rules.specs.Privately.{block_step, module_around}
@@ -92,8 +92,8 @@ unfoldable pub scopes_from : Snapshot → ℕ → List ℕ
 scopes_from s m = m ∷ steps (block_step s) m
 
 unfoldable pub prelude_entries : Snapshot → ℕ → ℕ → Option Prelude → List Named
-prelude_entries s from ns none = []
-prelude_entries s from ns (some p) = entries_in s from ns p.target
+prelude_entries s from ns None = []
+prelude_entries s from ns (Some p) = entries_in s from ns p.target
 
 -- what a plain first name may mean, nearest first: the seen entries of these scopes, the externs, the seen entries of the map's prelude
 unfoldable pub firsts : Snapshot → ℕ → ℕ → List Named
@@ -108,25 +108,25 @@ within s from ns (Def k d) = variants_in s ns d.0
 -- from the module m so many times to the module around; a block map's root is no module of its own, the one in which the block stands is
 
 unfoldable pub above_or : Snapshot → (ℕ → Option ℕ) → ℕ → Option ℕ
-above_or s rec zero = none
+above_or s rec zero = None
 above_or s rec (suc p) = rec (module_around s p)
 
 unfoldable pub above : Snapshot → ℕ → ℕ → Option ℕ
-above s zero m = some m
+above s zero m = Some m
 above s (suc k) m = above_or s (above s k) (parent_of s m)
 
 unfoldable pub keyword_module : Snapshot → ℕ → Keyword → Option ℕ
 keyword_module s from (supers k) = above s k (module_around s from)
-keyword_module s from crate = some (crate_root s from)
+keyword_module s from crate = Some (crate_root s from)
 
 -- no name and no record is read for a keyword
 unfoldable pub module_named : Option ℕ → Option Named
-module_named none = none
-module_named (some m) = some (record { name = 0; item = module_item m; place = 0 })
+module_named None = None
+module_named (Some m) = Some (record { name = 0; item = module_item m; place = 0 })
 
 unfoldable pub after : Option Named → (Item → Option Named) → Option Named
-after none f = none
-after (some x) f = f x.item
+after None f = None
+after (Some x) f = f x.item
 
 -- The path read in the module: its last name in the namespace, the others in types.
 unfoldable pub reads : Snapshot → ℕ → ℕ → Path → Option Named
@@ -136,8 +136,8 @@ reads s from ns (plain n) = named n (firsts s from ns)
 reads s from ns (into p n) = after (reads s from types p) (λ x. named n (within s from ns x))
 
 unfoldable pub item_in : Option Named → Option Item
-item_in none = none
-item_in (some x) = some x.item
+item_in None = None
+item_in (Some x) = Some x.item
 
 -- the item that a path means in the module, in a namespace
 unfoldable pub means : Snapshot → ℕ → ℕ → Path → Option Item
@@ -145,7 +145,7 @@ means s from ns p = item_in (reads s from ns p)
 
 -- the path names the item in the module
 abbrev pub Names : Snapshot → ℕ → Item → Path → Type 0
-Names s from item p = means s from (ns_of item) p ≡ some item
+Names s from item p = means s from (ns_of item) p ≡ Some item
 
 -- some path does, of any kind and with any number of names
 pub record Nameable (s : Snapshot) (from : ℕ) (item : Item) : Type 0 where
@@ -161,8 +161,8 @@ names_of (plain n) = n ∷ []
 names_of (into p n) = names_of p ++ (n ∷ [])
 
 unfoldable pub place_in : Option Named → ℕ
-place_in none = 0
-place_in (some x) = x.place
+place_in None = 0
+place_in (Some x) = x.place
 
 unfoldable pub route_of : Snapshot → ℕ → ℕ → Path → List ℕ
 route_of s from ns (keyword k) = []

@@ -1,6 +1,6 @@
 -- The modules reached, taken up one after the other in the order in which they were reached: how a program goes over them.
 use Rattle.std.specs.Prelude.{ℕ, zero, suc, ◌+◌, List, [], map, Bool, true, false, ◌&&◌, ltb, length, get_or}
-use Rattle.std.proofs.Math.Option.{Option}
+use Rattle.std.specs.Prelude.{Option}
 use Rattle.snapshot.specs.Records.{Snapshot, Scope}
 use Rattle.hir_def.specs.Finds.{first_of}
 use Rattle.hir_def.specs.Items.{types}

@@ -1,6 +1,6 @@
 -- Which entries of a scope are there for a viewer, as the compiler has it. Nothing of the search is in it.
 use Rattle.std.specs.Prelude.{ℕ, zero, suc, Bool, true, false, ◌&&◌, eqb}
-use Rattle.std.proofs.Math.Option.{Option, none, some}
+use Rattle.std.specs.Prelude.{Option, None, Some}
 use Rattle.snapshot.specs.Records.{Snapshot, Scope}
 use Rattle.tree_rules.specs.Modules.{crate_of, parent_of}
 use Rattle.module_tree.specs.Privacy.{Privacy}
@@ -43,7 +43,7 @@ abbrev pub is_declaration : ℕ → ℕ → ℕ → Scope → Bool
 is_declaration m ns d e = eqb e.owner m && (eqb e.ns ns && (eqb e.definition d && is_declared e))
 
 unfoldable pub declaration_in : Snapshot → ℕ → ℕ → ℕ → Option Scope
-declaration_in s ns d zero = none
+declaration_in s ns d zero = None
 declaration_in s ns d (suc m) = first_of (is_declaration m ns d) s.scopes
 
 -- the declaration of the entry's item
@@ -53,8 +53,8 @@ declaration_of s e =
 
 -- where there is none, as for a crate's root, its test passes
 unfoldable pub declaration_holds : Snapshot → ℕ → Option Scope → Bool
-declaration_holds s v none = true
-declaration_holds s v (some e) = holds_in s v e
+declaration_holds s v None = true
+declaration_holds s v (Some e) = holds_in s v e
 
 -- its own visibility and its declaration's both hold in the module v
 unfoldable pub both_hold : Snapshot → ℕ → Scope → Bool
@@ -74,8 +74,8 @@ abbrev pub Holds : Snapshot → ℕ → Scope → Type 0
 Holds s v e = Privacy s e.visibility e.number v
 
 abbrev pub DeclarationHolds : Snapshot → ℕ → Option Scope → Type 0
-DeclarationHolds s v none = Unit {0}
-DeclarationHolds s v (some e) = Holds s v e
+DeclarationHolds s v None = Unit {0}
+DeclarationHolds s v (Some e) = Holds s v e
 
 pub record BothHold (s : Snapshot) (v : ℕ) (e : Scope) : Type 0 where
   pub own : Holds s v e

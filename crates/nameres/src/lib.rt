@@ -8,11 +8,12 @@ ghost use Rattle.accept.specs.Post.{Reads};
 ghost use Rattle.hir_def.specs.Nameres.{scope_entry, entry_named, is_other, occupied as occupied_by};
 ghost use Rattle.hir_def.specs.Entries.{entry_of};
 
+use hir_def::Item;
+use hir_def::finds::nearest;
 use hir_def::items::{item_of, same_item};
 use hir_def::modules::block;
-use hir_def::{Entry, Item};
 use item_scope::{entry_in, get};
-use snapshot::ids::{ModuleId, Name, Namespace, OptModule};
+use snapshot::ids::{ModuleId, Name, Namespace};
 use snapshot::layout::Layout;
 use snapshot::record::{scope_definition, scope_ns};
 
@@ -26,22 +27,14 @@ pub fn scope_entry(
     item: Item,
     declared_only: bool,
     fresh: bool,
-) -> Entry
+) -> Option<usize>
     requires { Reads words.now area.now l × (from.0 < l.modules) }
     ensures { entry_of scope_at words.now result ≡ scope_entry (snap_of words.now area.now l)
         from.0 item declared_only fresh }
 {
-    let mut m = from;
-    loop {
-        let e = entry_in(words, l, m, item, declared_only, fresh).entry;
-        if let Entry::At(h) = e {
-            return Entry::At(h);
-        }
-        let OptModule::Module(b) = block(words, area, l, m) else {
-            return Entry::Nothing;
-        };
-        m = b;
-    }
+    let find = |m| entry_in(words, l, m, item, declared_only, fresh).entry;
+    let outward = |m| block(words, area, l, m);
+    nearest(from, find, outward)
 }
 
 /// The first entry with a namespace and a name in a module, or around its blocks.
@@ -52,30 +45,22 @@ pub fn entry_named(
     from: ModuleId,
     ns: usize,
     name: Name,
-) -> Entry
+) -> Option<usize>
     requires { Reads words.now area.now l × (from.0 < l.modules) }
     ensures { entry_of scope_at words.now result ≡ entry_named (snap_of words.now area.now l)
         from.0 ns name.0 }
 {
-    let mut m = from;
-    loop {
-        let e = get(words, l, m, ns, name);
-        if let Entry::At(h) = e {
-            return Entry::At(h);
-        }
-        let OptModule::Module(b) = block(words, area, l, m) else {
-            return Entry::Nothing;
-        };
-        m = b;
-    }
+    let find = |m| get(words, l, m, ns, name);
+    let outward = |m| block(words, area, l, m);
+    nearest(from, find, outward)
 }
 
 // Whether an entry stands for something else than a module.
-fn is_other(words: &[u32], l: Layout, e: Entry, m: ModuleId) -> bool
+fn is_other(words: &[u32], l: Layout, e: Option<usize>, m: ModuleId) -> bool
     requires { word_count l < 2 ^ 32 }
     ensures { (A : List ℕ) → result ≡ is_other (snap_of words.now A l) m.0 (entry_of scope_at words.now e) }
 {
-    let Entry::At(h) = e else {
+    let Some(h) = e else {
         return false;
     };
     let item = item_of(words, l, scope_ns(words, h), scope_definition(words, h));
@@ -100,7 +85,7 @@ pub fn occupied(
         if is_other(words, l, e, m) {
             return true;
         }
-        let OptModule::Module(b) = block(words, area, l, a) else {
+        let Some(b) = block(words, area, l, a) else {
             return false;
         };
         a = b;

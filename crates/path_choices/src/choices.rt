@@ -1,11 +1,12 @@
 //! Paths to choose from: their lengths, one name more, and which of two is better.
-ghost use Rattle.std.specs.Prelude.{◌≡◌, ◌+◌, ◌-◌, ◌≤◌, ◌<◌, ◌^◌};
+ghost use Rattle.std.specs.Prelude.{◌≡◌, ◌+◌, ◌-◌, ◌%◌, ◌≤◌, ◌<◌, ◌^◌};
 ghost use Rattle.snapshot.specs.Limits.{word_limit};
 ghost use Rattle.snapshot.specs.Layouts.{snap_of};
 ghost use Rattle.accept.specs.Post.{Reads};
 ghost use Rattle.path_choices.specs.Choices.{name_len, is_prelude, path_kind_len, path_len, step_by, nothing as nothing_of, keyword as keyword_of};
 ghost use Rattle.path_choices.specs.Choices.{choice_new, extended as extended_of, push as push_of, unstably as unstably_of, better as better_of};
 ghost use Rattle.path_choices.specs.Choices.{try_select, length_left};
+ghost use Rattle.path_choices.specs.StepRules.{rule_number};
 
 use crate::Choice;
 use snapshot::ids::Name;
@@ -62,32 +63,41 @@ pub fn path_len(c: Choice) -> usize
 
 /// The rules of a route.
 #[derive(Clone, Copy)]
-pub struct StepRule(pub usize);
+pub enum StepRule {
+    Builtin,
+    Scope,
+    Prelude,
+    Extern,
+    Keyword,
+    Variant,
+    Local,
+    Import,
+}
 
 impl StepRule {
-    pub const BUILTIN: usize = 0;
-
-    pub const SCOPE: usize = 1;
-
-    pub const PRELUDE: usize = 2;
-
-    pub const EXTERN: usize = 3;
-
-    pub const KEYWORD: usize = 4;
-
-    pub const VARIANT: usize = 5;
-
-    pub const LOCAL: usize = 6;
-
-    pub const IMPORT: usize = 7;
+    /// The rule of a step.
+    pub fn of_step(step: usize) -> StepRule
+        ensures { rule_number result ≡ step % 8 }
+    {
+        match step % 8 {
+            0 => StepRule::Builtin,
+            1 => StepRule::Scope,
+            2 => StepRule::Prelude,
+            3 => StepRule::Extern,
+            4 => StepRule::Keyword,
+            5 => StepRule::Variant,
+            6 => StepRule::Local,
+            _ => StepRule::Import,
+        }
+    }
 }
 
 /// A step of a route: its rule, and the place of the record used.
-pub fn step_by(rule: usize, place: usize) -> usize
-    requires { (rule ≤ 7) × (place < word_limit) }
-    ensures { result ≡ step_by rule place }
+pub fn step_by(rule: StepRule, place: usize) -> usize
+    requires { place < word_limit }
+    ensures { result ≡ step_by (rule_number rule) place }
 {
-    place * 8 + rule
+    place * 8 + rule as usize
 }
 
 /// No path.
@@ -115,7 +125,7 @@ pub fn keyword(kind: usize) -> Choice
 {
     let names = [0usize; 16];
     let mut route = [0usize; 17];
-    route[0] = StepRule::KEYWORD;
+    route[0] = StepRule::Keyword as usize;
     let text = path_kind_len(kind);
     Choice {
         found: true,

@@ -3,7 +3,7 @@
 
 pub mod choices;
 
-// A path, or none. `kind` is 0 plain, 1 self, 2 super, 3 crate, 4 a leading `::`; `path_text_len` is the length of its text;
+// A path, or none. `kind` is the number of a `PathKind`, as the C report holds it; `path_text_len` is the length of its text;
 // `has_prelude_segment` says that a name of it is `prelude`. `route` says how it came about, a step for its start and one for each further
 // name: eight times the place of the record used, plus the rule.
 #[derive(Clone, Copy)]

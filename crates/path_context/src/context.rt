@@ -9,26 +9,14 @@ ghost use Rattle.find_path.specs.Rules.{bit as bit_of, plain_if, module_in, cont
 ghost use Rattle.find_path.specs.Meters.{drained as drained_to, from_tank};
 ghost use Rattle.find_path.specs.Conditions.{charged_by};
 
-use find_path::{Drawn, FindPathCtx, Query, Tank};
+use find_path::{FindPathCtx, Query, Tank};
 use hir_def::Item;
 use hir_def::items::{is_lang, supports_no_std};
 use hir_def::modules::{crate_root, in_block, krate, no_std};
 use hir_def::visibility::is_visible_from;
-use snapshot::ids::ModuleId;
+use snapshot::ids::{ModuleId, Prefix};
 use snapshot::layout::Layout;
-use snapshot::record::{scope_number, scope_visibility};
-
-/// Prefixes.
-#[derive(Clone, Copy)]
-pub struct PrefixKind(pub usize);
-
-impl PrefixKind {
-    pub const BY_SELF: usize = 0;
-
-    pub const PLAIN: usize = 1;
-
-    pub const BY_CRATE: usize = 2;
-}
+use snapshot::record::scope_seen;
 
 // The bit of that value.
 fn bit(n: usize, value: usize) -> bool
@@ -42,7 +30,7 @@ fn plain_if(block: bool, prefix: usize) -> usize
     ensures { result ≡ plain_if block prefix }
 {
     if block {
-        return PrefixKind::PLAIN;
+        return Prefix::Plain as usize;
     }
     prefix
 }
@@ -108,9 +96,7 @@ pub fn sees(words: &[u32], area: &[u32], l: Layout, x: FindPathCtx, h: usize) ->
         → (scope_at words.now h).number < l.modules) }
     ensures { result ≡ sees_of (snap_of words.now area.now l) x.from.0 (scope_at words.now h) }
 {
-    let kind = scope_visibility(words, h);
-    let number = scope_number(words, h);
-    is_visible_from(words, area, l, kind, number, x.from)
+    is_visible_from(words, area, l, scope_seen(words, h), x.from)
 }
 
 // What a charge looks for: a module, +1, or 0 for the question's own item or its enum.
@@ -148,16 +134,16 @@ fn drained(t: Tank, left: usize, sought: usize) -> Tank
 }
 
 // Takes one from the fuel and counts it; at fuel 0 the tank is found empty.
-fn take_unit(t: Tank, left: usize, sought: usize) -> Drawn
+fn take_unit(t: Tank, left: usize, sought: usize) -> Result<Tank, Tank>
     requires { t.fuel + t.spent < 2 ^ 32 }
     ensures { charged_by result ≡ from_tank left sought t }
 {
     let fuel = t.fuel;
     let spent = t.spent;
     if fuel == 0 {
-        return Drawn::Stop(drained(t, left, sought));
+        return Err(drained(t, left, sought));
     }
-    Drawn::Go(Tank {
+    Ok(Tank {
         fuel: fuel - 1,
         spent: spent + 1,
         empty: t.empty,
@@ -167,7 +153,7 @@ fn take_unit(t: Tank, left: usize, sought: usize) -> Drawn
 }
 
 /// A charge for an item at a length left: it takes one from the fuel and is counted; at fuel 0 it stops, and the tank is found empty.
-pub fn charge(x: FindPathCtx, left: usize, item: Item, t: Tank) -> Drawn
+pub fn charge(x: FindPathCtx, left: usize, item: Item, t: Tank) -> Result<Tank, Tank>
     requires { (module_in item < 2 ^ 32) × (t.fuel + t.spent < 2 ^ 32) }
     ensures { charged_by result ≡ from_tank left (sought_of x item) t }
 {

@@ -2,7 +2,7 @@
 use Prim.Native.Nat.{ℕ, ◌<◌, ◌^◌}
 use mathlib.Core.Path.{◌≡◌, sym, ◌∙◌, ap, ap₂, subst}
 use mathlib.Core.Bool.{Bool, true, false}
-use mathlib.Core.Option.{none, some}
+use Rattle.std.specs.Prelude.{None, Some}
 use Rattle.snapshot.specs.Records.{Snapshot, Scope, Import}
 use Rattle.hir_def.specs.ImportMap.{is_unstable}
 use Rattle.path_choices.specs.declared.Choice.{Choice}
@@ -25,11 +25,11 @@ unstably_fits c e h k l = (
 module _ (s : Snapshot) (x : FindPathCtx) where
   -- an entry, where it can be imported
   module _ (e : Scope) {a : Bool} (ea : a ≡ is_importable s x e) where
-    pub entry_taken : a ≡ true → some e ≡ entry_if s x (some e)
+    pub entry_taken : a ≡ true → Some e ≡ entry_if s x (Some e)
     unfolding entry_if
     entry_taken t = taken_true _ _ _ (sym ea ∙ t)
 
-    pub entry_left : a ≡ false → none ≡ entry_if s x (some e)
+    pub entry_left : a ≡ false → None ≡ entry_if s x (Some e)
     unfolding entry_if
     entry_left t = taken_false _ _ _ (sym ea ∙ t)
 

@@ -13,7 +13,7 @@ ghost use Rattle.find_path.specs.Charged.{offer_import};
 ghost use Rattle.scope_index.specs.Index.{Indexed};
 
 use find_path::{Choice, FindPathCtx};
-use hir_def::{Entry, Item};
+use hir_def::Item;
 use import_map::is_unstable;
 use path_choices::choices::{StepRule, step_by, unstably};
 use rule_lookups::{Rule, entry_by, is_importable};
@@ -31,7 +31,7 @@ fn entry_for(
     x: FindPathCtx,
     item: Item,
     m: ModuleId,
-) -> Entry
+) -> Option<usize>
     requires { Reads words.now area.now l × (x.from.0 < l.modules) × (m.0 < l.modules) × Indexed words.now l 0 area.now }
     ensures { entry_of scope_at words.now result ≡ preferred x.fresh (snap_of words.now area.now l)
         m.0 item (is_importable (snap_of words.now area.now l) x)
@@ -52,19 +52,16 @@ pub fn importable_name(
     x: FindPathCtx,
     item: Item,
     m: ModuleId,
-) -> Entry
+) -> Option<usize>
     requires { Reads words.now area.now l × (x.from.0 < l.modules) × (m.0 < l.modules) × Indexed words.now l 0 area.now }
     ensures { (entry_of scope_at words.now result ≡ importable_name (snap_of words.now area.now l) x item m.0)
         × EntryFits words.now l result }
 {
-    let e = entry_for(words, area, l, x, item, m);
-    let Entry::At(h) = e else {
-        return Entry::Nothing;
-    };
+    let h = entry_for(words, area, l, x, item, m)?;
     if is_importable(words, area, l, x, h) {
-        return Entry::At(h);
+        return Some(h);
     }
-    Entry::Nothing
+    None
 }
 
 // The better of the choice so far and the module's choice with the name, by a step, if it has one.
@@ -103,7 +100,7 @@ pub fn offer_entry(
     ensures { result ≡ offer_entry (snap_of words.now area.now l) x best c (scope_at words.now h) }
 {
     let n = scope_name(words, h);
-    let via = step_by(StepRule::LOCAL, h);
+    let via = step_by(StepRule::Local, h);
     offer(words, area, l, x, best, c, n, via)
 }
 
@@ -121,7 +118,7 @@ pub fn offer_import(
         × (c.count < 16) × (c.path_text_len < 2 ^ 32) × (c.steps < 17) }
     ensures { result ≡ offer_import (snap_of words.now area.now l) x best c (import_at words.now h) }
 {
-    let via = step_by(StepRule::IMPORT, h);
+    let via = step_by(StepRule::Import, h);
     let n = import_name(words, h);
     if !is_unstable(words, h) {
         return offer(words, area, l, x, best, c, n, via);

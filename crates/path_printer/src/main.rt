@@ -1,45 +1,26 @@
 //! Prints the path of each question on standard input, a line each: a snapshot, then the questions.
 #![tactic(auto)]
 
-ghost use Rattle.std.specs.Prelude.{◌≡◌, ◌+◌, length};
-ghost use Rattle.snapshot.specs.Limits.{word_limit, routed_limit, input_limit};
-
-mod print;
-
+use printer::each::each_line;
 use printing::input::ByteCount;
 use route_line::route::RoutedBytes;
 use snapshot::ids::WordCount;
-use streams::{read_input, say_unread};
+use std::io;
+use streams::{read_input, say_unread, write_output};
 
-// One byte more than an input may have.
-fn input() -> [u8; ByteCount::INPUT + 1]
-    ensures { input_limit + 1 ≡ length result }
-{
-    [0; ByteCount::INPUT + 1]
-}
-
-fn words() -> [u32; WordCount::SNAPSHOT]
-    ensures { word_limit ≡ length result }
-{
-    [0; WordCount::SNAPSHOT]
-}
-
-fn text() -> [u8; RoutedBytes::LIMIT]
-    ensures { routed_limit ≡ length result }
-{
-    [0; RoutedBytes::LIMIT]
-}
-
-fn main(rt: HostRuntime) {
-    let mut bytes = input();
-    let mut space = words();
-    let mut area = words();
-    let mut out = text();
-    let read = read_input(&rt, &mut bytes);
-    if read.failed {
+fn main(rt: HostRuntime) -> io::Result<()> {
+    let alloc = rt.alloc();
+    // One byte more than an input may have.
+    let mut bytes = vec![in alloc; 0; ByteCount::INPUT + 1]?;
+    let mut words = vec![in alloc; 0; WordCount::SNAPSHOT]?;
+    let mut area = vec![in alloc; 0; WordCount::AREA]?;
+    let mut out = vec![in alloc; 0; RoutedBytes::LIMIT]?;
+    let Ok(n) = read_input(&rt, &mut bytes) else {
         say_unread(&rt);
-        return;
-    }
-    let n = read.count;
-    print::print(&rt, &bytes[..n], &mut space, &mut area, &mut out);
+        return Ok(());
+    };
+    let write = |line: &[u8]| write_output(&rt, line);
+    // That a line cannot be written is said already.
+    let _ = each_line(&bytes[..n], &mut words, &mut area, &mut out, write);
+    Ok(())
 }

@@ -7,44 +7,51 @@ ghost use Rattle.accept.specs.Post.{Reads};
 ghost use Rattle.accept.specs.Valid.{ScopeFits, ExternFits};
 ghost use Rattle.hir_def.specs.Items.{parent_of};
 ghost use Rattle.hir_def.specs.Entries.{entry_of};
-ghost use Rattle.hir_def.specs.declared.Entry.TheVariants.{At};
+ghost use Rattle.std.specs.Prelude.{Some};
+ghost use Rattle.path_choices.specs.StepRules.{rule_number};
 ghost use Rattle.find_path.specs.declared.FindPathCtx.{FindPathCtx};
 ghost use Rattle.find_path.specs.Conditions.{EntryFits};
 ghost use Rattle.find_path.specs.Rules.{prefix_path_kind, single as single_of, find_in_scope, may_be_in_scope, scope_rule, prelude_entry, find_in_prelude};
-ghost use Rattle.find_path.specs.Rules.{prelude_rule, extern_name, root_rule, parent_kind, keyword_kind, is_kw_kind_relative_to_from, keyword_of, module_rules};
+ghost use Rattle.find_path.specs.Rules.{prelude_rule, extern_name, root_rule, parent_kind, is_kw_kind_relative_to_from, keyword_of, module_rules};
 
 use crate::choices::{StepRule, keyword, nothing, step_by};
-use crate::context::PrefixKind;
 use crate_graph::{extern_of, prelude_of};
-use find_path::{Choice, FindPathCtx, KwKind};
+use find_path::{Choice, FindPathCtx};
+use hir_def::Item;
 use hir_def::modules::{crate_root, in_block, krate, map, parent, root};
-use hir_def::{Entry, Item};
 use nameres::{occupied, scope_entry};
 use rule_lookups::{Rule, entry_by, is_usable};
-use snapshot::ids::{ModuleId, OptModule, PathKind};
+use snapshot::ids::{ModuleId, PathKind, Prefix};
 use snapshot::layout::Layout;
 use snapshot::record::{extern_name, prelude_target, scope_name};
-
-// The path kinds of the prefixes.
-const PREFIX_KINDS: [usize; 3] = [1, 0, 3];
 
 // The path kind of a prefix.
 fn prefix_path_kind(prefix: usize) -> usize
     ensures { result ≡ prefix_path_kind prefix }
 {
-    if 3 <= prefix {
-        return PathKind::PLAIN;
+    if prefix == Prefix::BySelf as usize {
+        return PathKind::SelfModule as usize;
     }
-    PREFIX_KINDS[prefix]
+    if prefix == Prefix::ByCrate as usize {
+        return PathKind::Crate as usize;
+    }
+    PathKind::Plain as usize
 }
 
 // The single name of an entry, by a rule, or nothing.
-fn single(words: &[u32], area: &[u32], l: Layout, kind: usize, rule: usize, e: Entry) -> Choice
-    requires { Reads words.now area.now l × (rule ≤ 7) × EntryFits words.now l e }
-    ensures { (x : FindPathCtx) → result ≡ single_of (snap_of words.now area.now l) x kind rule
+fn single(
+    words: &[u32],
+    area: &[u32],
+    l: Layout,
+    kind: usize,
+    rule: StepRule,
+    e: Option<usize>,
+) -> Choice
+    requires { Reads words.now area.now l × EntryFits words.now l e }
+    ensures { (x : FindPathCtx) → result ≡ single_of (snap_of words.now area.now l) x kind (rule_number rule)
         (entry_of scope_at words.now e) }
 {
-    let Entry::At(h) = e else {
+    let Some(h) = e else {
         return nothing();
     };
     let via = step_by(rule, h);
@@ -52,7 +59,13 @@ fn single(words: &[u32], area: &[u32], l: Layout, kind: usize, rule: usize, e: E
 }
 
 /// The item's entry in the viewing module, or around its blocks.
-pub fn find_in_scope(words: &[u32], area: &[u32], l: Layout, x: FindPathCtx, item: Item) -> Entry
+pub fn find_in_scope(
+    words: &[u32],
+    area: &[u32],
+    l: Layout,
+    x: FindPathCtx,
+    item: Item,
+) -> Option<usize>
     requires { Reads words.now area.now l × (x.from.0 < l.modules) }
     ensures { (entry_of scope_at words.now result ≡ find_in_scope (snap_of words.now area.now l) x item)
         × EntryFits words.now l result }
@@ -72,7 +85,7 @@ pub fn find_in_scope(words: &[u32], area: &[u32], l: Layout, x: FindPathCtx, ite
 pub fn may_be_in_scope(x: FindPathCtx) -> bool
     ensures { (s : Snapshot) → result ≡ may_be_in_scope s x }
 {
-    (x.prefix != PrefixKind::BY_CRATE) | (x.crate_root.0 == x.from.0)
+    (x.prefix != Prefix::ByCrate as usize) | (x.crate_root.0 == x.from.0)
 }
 
 /// The item by its name in scope.
@@ -89,7 +102,7 @@ pub fn scope_rule(words: &[u32], area: &[u32], l: Layout, x: FindPathCtx, item: 
         area,
         l,
         prefix_path_kind(x.prefix),
-        StepRule::SCOPE,
+        StepRule::Scope,
         e,
     )
 }
@@ -101,39 +114,40 @@ fn prelude_entry(
     l: Layout,
     x: FindPathCtx,
     item: Item,
-    e: Entry,
-) -> Entry
+    e: Option<usize>,
+) -> Option<usize>
     requires { Reads words.now area.now l × (x.from.0 < l.modules)
-        × ((h : ℕ) → e ≡ At h → ScopeFits (counts_in l) (scope_at words.now h)) }
+        × ((h : ℕ) → e ≡ Some h → ScopeFits (counts_in l) (scope_at words.now h)) }
     ensures { (entry_of scope_at words.now result ≡ prelude_entry (snap_of words.now area.now l) x item
         (entry_of scope_at words.now e)) × EntryFits words.now l result }
 {
-    let Entry::At(h) = e else {
-        return Entry::Nothing;
-    };
+    let h = e?;
     if is_usable(words, area, l, x, item, h) {
-        return Entry::At(h);
+        return Some(h);
     }
-    Entry::Nothing
+    None
 }
 
 /// The item's first entry in the prelude, if visible and not another thing's name here; by options bit 32 the first such entry that isn't
 /// deprecated, if there is one.
-pub fn find_in_prelude(words: &[u32], area: &[u32], l: Layout, x: FindPathCtx, item: Item) -> Entry
+pub fn find_in_prelude(
+    words: &[u32],
+    area: &[u32],
+    l: Layout,
+    x: FindPathCtx,
+    item: Item,
+) -> Option<usize>
     requires { Reads words.now area.now l × (x.from.0 < l.modules) }
     ensures { (entry_of scope_at words.now result ≡ find_in_prelude (snap_of words.now area.now l) x item)
         × EntryFits words.now l result }
 {
-    let p = prelude_of(words, l, map(words, area, l, x.from));
-    let Entry::At(h) = p else {
-        return Entry::Nothing;
-    };
+    let p = prelude_of(words, l, map(words, area, l, x.from))?;
     let e = entry_by(
         words,
         area,
         l,
         x,
-        prelude_target(words, h),
+        prelude_target(words, p),
         item,
         Rule::Prelude,
     )
@@ -147,7 +161,14 @@ pub fn prelude_rule(words: &[u32], area: &[u32], l: Layout, x: FindPathCtx, item
     ensures { result ≡ prelude_rule (snap_of words.now area.now l) x item }
 {
     let e = find_in_prelude(words, area, l, x, item);
-    single(words, area, l, PathKind::PLAIN, StepRule::PRELUDE, e)
+    single(
+        words,
+        area,
+        l,
+        PathKind::Plain as usize,
+        StepRule::Prelude,
+        e,
+    )
 }
 
 // The crate's root by its extern name, with `::` where the name is another thing's here.
@@ -157,21 +178,21 @@ fn extern_rule(
     l: Layout,
     x: FindPathCtx,
     m: ModuleId,
-    e: Entry,
+    e: Option<usize>,
 ) -> Choice
     requires { Reads words.now area.now l × (x.from.0 < l.modules)
-        × ((h : ℕ) → e ≡ At h → ExternFits (counts_in l) (extern_at words.now h)) }
+        × ((h : ℕ) → e ≡ Some h → ExternFits (counts_in l) (extern_at words.now h)) }
     ensures { result ≡ extern_name (snap_of words.now area.now l) x m.0 (entry_of extern_at words.now e) }
 {
-    let Entry::At(h) = e else {
+    let Some(h) = e else {
         return nothing();
     };
-    let via = step_by(StepRule::EXTERN, h);
+    let via = step_by(StepRule::Extern, h);
     let name = extern_name(words, h);
     if occupied(words, area, l, x.from, m, name) | x.prefer_absolute {
-        return Choice::new(words, area, l, PathKind::ABSOLUTE, name, via);
+        return Choice::new(words, area, l, PathKind::Absolute as usize, name, via);
     }
-    Choice::new(words, area, l, PathKind::PLAIN, name, via)
+    Choice::new(words, area, l, PathKind::Plain as usize, name, via)
 }
 
 /// A crate's root: `crate` in the viewer's crate or where no extern may be used, else its extern name.
@@ -191,29 +212,27 @@ pub fn root_rule(
         return nothing();
     }
     if !maybe_extern | (m.0 == x.crate_root.0) {
-        return keyword(PathKind::CRATE);
+        return keyword(PathKind::Crate as usize);
     }
     let e = extern_of(words, l, x.from_crate, m);
     extern_rule(words, area, l, x, m, e)
 }
 
 // The module as the parent of the viewer's.
-fn parent_kind(words: &[u32], area: &[u32], l: Layout, x: FindPathCtx, m: ModuleId) -> KwKind
+fn parent_kind(words: &[u32], area: &[u32], l: Layout, x: FindPathCtx, m: ModuleId) -> Option<usize>
     requires { Reads words.now area.now l × (x.from.0 < l.modules) × (m.0 < l.modules) }
-    ensures { keyword_kind result ≡ parent_kind (snap_of words.now area.now l) x m.0
+    ensures { result ≡ parent_kind (snap_of words.now area.now l) x m.0
         (parent_of (snap_of words.now area.now l) x.from.0) }
 {
-    let OptModule::Module(p) = parent(words, area, l, x.from) else {
-        return KwKind::NoKw;
-    };
+    let p = parent(words, area, l, x.from)?;
     if p.0 != m.0 {
-        return KwKind::NoKw;
+        return None;
     }
     let top = root(words, area, l, map(words, area, l, x.from));
     if m.0 == top.0 {
-        return KwKind::Kw(PathKind::CRATE);
+        return Some(PathKind::Crate as usize);
     }
-    KwKind::Kw(PathKind::SUPER)
+    Some(PathKind::Super as usize)
 }
 
 /// The viewer's own module, or its parent, where neither is in a block.
@@ -223,18 +242,18 @@ pub fn is_kw_kind_relative_to_from(
     l: Layout,
     x: FindPathCtx,
     m: ModuleId,
-) -> KwKind
+) -> Option<usize>
     requires { Reads words.now area.now l × (x.from.0 < l.modules) × (m.0 < l.modules) }
-    ensures { keyword_kind result ≡ is_kw_kind_relative_to_from (snap_of words.now area.now l) x m.0 }
+    ensures { result ≡ is_kw_kind_relative_to_from (snap_of words.now area.now l) x m.0 }
 {
     let there = krate(words, area, l, m);
     let here = krate(words, area, l, x.from);
     let block = in_block(words, area, l, m) | in_block(words, area, l, x.from);
     if (there.0 != here.0) | block {
-        return KwKind::NoKw;
+        return None;
     }
     if m.0 == x.from.0 {
-        return KwKind::Kw(PathKind::SELF);
+        return Some(PathKind::SelfModule as usize);
     }
     parent_kind(words, area, l, x, m)
 }
@@ -246,10 +265,10 @@ pub fn keyword_rule(words: &[u32], area: &[u32], l: Layout, x: FindPathCtx, m: M
         (is_kw_kind_relative_to_from (snap_of words.now area.now l) x m.0) }
 {
     let k = is_kw_kind_relative_to_from(words, area, l, x, m);
-    let KwKind::Kw(kind) = k else {
+    let Some(kind) = k else {
         return nothing();
     };
-    if (x.prefix != PrefixKind::BY_CRATE) | (kind == PathKind::CRATE) {
+    if (x.prefix != Prefix::ByCrate as usize) | (kind == PathKind::Crate as usize) {
         return keyword(kind);
     }
     nothing()

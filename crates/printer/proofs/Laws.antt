@@ -16,8 +16,7 @@ use Rattle.snapshot.specs.Sizes.{question_size, reach_size}
 use Rattle.snapshot.specs.Words.{kind_of, pay_of}
 use Rattle.snapshot.specs.Records.{Snapshot}
 use Rattle.check_rules.specs.Verdict.{empty}
-use Rattle.accept.specs.Post.{Judged}
-use Rattle.accept.specs.declared.check.Checked.{Checked}
+use Rattle.accept.specs.Post.{Checked, Judged}
 use Rattle.accept.proofs.Accepted.{by_test}
 use Rattle.accept.proofs.Bools.{and_left}
 use Rattle.printing.specs.Output.{Put}
@@ -124,12 +123,12 @@ question_same W i ns d m p o n f a b c e g k h =
 
 -- questions for a reach
 
-pub reach_same : (W : List ℕ) (i k : ℕ) (a b c d : Bool) → k ≡ kind_of (get_or W i 0) → a ≡ is_argument W (i + 1) → b ≡ is_argument W (i + 2)
+pub reach_same : (W : List ℕ) (i : ℕ) (k a b c d : Bool) → k ≡ eqb (kind_of (get_or W i 0)) 15 → a ≡ is_argument W (i + 1) → b ≡ is_argument W (i + 2)
     → c ≡ is_argument W (i + 3) → d ≡ is_argument W (i + 4)
-    → (eqb k 15 && ((a && b) && ((c && d) && leb (i + reach_size) (length W)))) ≡ reach_at W i
+    → (k && ((a && b) && ((c && d) && leb (i + reach_size) (length W)))) ≡ reach_at W i
 unfolding reach_at
 reach_same W i k a b c d p q r s t =
-    ap₂ (λ x y. x && y) (ap (λ x. eqb x 15) p)
+    ap₂ (λ x y. x && y) p
     (ap₂ (λ x y. x && y) (ap₂ (λ x y. x && y) q r) (ap (λ x. x && leb (i + reach_size) (length W)) (ap₂ (λ x y. x && y) s t)))
 
 pub not_reach : (W : List ℕ) (i : ℕ) → length W ≤ i → false ≡ reach_at W i

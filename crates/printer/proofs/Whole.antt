@@ -7,8 +7,8 @@ use native.Mathlib.Omega.{arith}
 use borrow.Author.Tests.{eqb-true, lt-ltb, le-ltb}
 use lib.Dec.{eqb}
 use lib.ListN.{length, take}
+use Rattle.accept.specs.Post.{Checked}
 use Rattle.snapshot.specs.Lists.{rows, all, eq_list}
-use Rattle.accept.specs.declared.check.Checked.{Checked}
 use Rattle.accept.proofs.Bools.{and_left, and_two}
 use Rattle.printing.specs.Input.{words_in}
 use Rattle.find_path.specs.Line.{bytes_of, line_of}

@@ -1,8 +1,7 @@
 -- What a turn of the printer writes; the lines themselves are passed on to the crates above.
 use Rattle.std.specs.Prelude.{ℕ, ◌≤◌, ◌<◌, ◌≡◌, List, [], ◌∷◌, ◌++◌, length, take, drop}
 use Rattle.std.specs.Counts.{IsPrefixLen}
-use Rattle.accept.specs.Post.{Judged}
-use Rattle.accept.specs.declared.check.Checked.{Checked}
+use Rattle.accept.specs.Post.{Checked, Judged}
 use Rattle.find_path.specs.Line.{bytes_of}
 use Rattle.printer.specs.declared.lines.Turn.{Turn}
 pub use Rattle.printed_lines.specs.Printed.{is_question, is_head, is_argument, refusal_line, asks_route}

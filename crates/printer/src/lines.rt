@@ -5,12 +5,13 @@ ghost use Rattle.accept.specs.Post.{Judged};
 ghost use Rattle.printer.specs.Printed.{Printed};
 
 use crate::questions::{asks_route, is_reach, is_whole, question_at, viewer_at};
-use accept::check::Checked;
+use accept::check::Refused;
 use checked::lines::line_on;
 use line::line::put_refusal;
 use reach::lines::reach_line_on;
 use route_line::lines::routed_line_on;
 use snapshot::kind::Size;
+use snapshot::layout::Layout;
 use snapshot::refusal::Refusal;
 
 /// How many bytes a line has, and the place after what it is for.
@@ -26,7 +27,7 @@ pub fn next_line(
     words: &[u32],
     snapshot: &[u32],
     area: &mut [u32],
-    c: Checked,
+    c: Result<Layout, Refused>,
     at: usize,
     out: &mut [u8],
 ) -> Turn
@@ -43,7 +44,7 @@ pub fn next_line(
         };
     }
     if !is_whole(words, at) {
-        let n = put_refusal(out, Refusal::QUESTION);
+        let n = put_refusal(out, Refusal::Question.number());
         return Turn {
             bytes: n,
             next: words.len(),

@@ -1,5 +1,6 @@
 //! The questions among the words of an input.
 ghost use Rattle.std.specs.Prelude.{◌≡◌, ◌+◌, ◌≤◌, length};
+ghost use Rattle.printer.specs.QuestionKinds.{question_kind_of};
 ghost use Rattle.printer.specs.Printed.{is_question, is_head, questions_at, is_argument, whole_at, asks_route, reach_at, question_at, viewer_at};
 
 use find_path::{Query, Question};
@@ -9,43 +10,54 @@ use snapshot::kind::{Kind, Size};
 use snapshot::words::{field, kind, payload};
 
 /// The kinds of what is asked: a path, a path with its route, and the reach of a module.
-#[derive(Clone, Copy)]
-pub struct QuestionKind(pub usize);
+#[derive(Clone, Copy, PartialEq, Eq)]
+pub enum QuestionKind {
+    Path,
+    Route,
+    Reach,
+}
 
 impl QuestionKind {
-    pub const PATH: usize = 12;
-
-    pub const ROUTE: usize = 14;
-
-    pub const REACH: usize = 15;
+    /// The kind with a number.
+    pub fn of(number: usize) -> Option<QuestionKind>
+        ensures { result ≡ question_kind_of number }
+    {
+        match number {
+            12 => Some(QuestionKind::Path),
+            14 => Some(QuestionKind::Route),
+            15 => Some(QuestionKind::Reach),
+            _ => None,
+        }
+    }
 }
 
 // Whether a kind is a question's.
 fn is_question(kind: usize) -> bool
     ensures { result ≡ is_question kind }
 {
-    (kind == QuestionKind::PATH) | (kind == QuestionKind::ROUTE)
+    matches!(
+        QuestionKind::of(kind),
+        Some(QuestionKind::Path | QuestionKind::Route)
+    )
 }
 
 // Whether a kind is one of these.
 fn is_head(kind: usize) -> bool
     ensures { result ≡ is_head kind }
 {
-    is_question(kind) | (kind == QuestionKind::REACH)
+    QuestionKind::of(kind).is_some()
 }
 
 /// The place of the first head of a question, or the number of words.
 pub fn first_question(words: &[u32]) -> usize
     ensures { (result ≡ questions_at words.now) × (result ≤ length words.now) }
 {
-    let mut i = 0;
-    while i < words.len() {
+    for i in 0..words.len() {
         if is_head(kind(words, i)) {
             return i;
         }
-        i += 1;
     }
-    i
+    words.len()
 }
 
 fn is_argument(words: &[u32], i: usize) -> bool
@@ -76,7 +88,7 @@ pub fn is_reach(words: &[u32], at: usize) -> bool
     if words.len() <= at {
         return false;
     }
-    let head = kind(words, at) == QuestionKind::REACH;
+    let head = QuestionKind::of(kind(words, at)) == Some(QuestionKind::Reach);
     let first = is_argument(words, at + 1) & is_argument(words, at + 2);
     let second = is_argument(words, at + 3) & is_argument(words, at + 4);
     let room = at + Size::REACH <= words.len();
@@ -87,7 +99,7 @@ pub fn is_reach(words: &[u32], at: usize) -> bool
 pub fn asks_route(words: &[u32], at: usize) -> bool
     ensures { result ≡ asks_route words.now at }
 {
-    kind(words, at) == QuestionKind::ROUTE
+    QuestionKind::of(kind(words, at)) == Some(QuestionKind::Route)
 }
 
 /// The question at a place.

@@ -6,8 +6,7 @@ ghost use Rattle.printing.specs.Input.{word_in, words_in};
 use snapshot::ids::WordCount;
 
 /// A number of bytes.
-#[derive(Clone, Copy)]
-pub struct ByteCount(pub usize);
+pub struct ByteCount;
 
 impl ByteCount {
     /// Bytes of an input, at most: four for each word of a snapshot.
@@ -44,9 +43,7 @@ pub fn words_in(bytes: &[u8], words: &mut [u32], n: usize)
     requires { (n ≤ length words.old) × (n ≤ word_limit) }
     ensures { (take n words.new ≡ words_in bytes.now n) × (drop n words.new ≡ drop n words.old) }
 {
-    let mut k = 0;
-    while k < n {
+    for k in 0..n {
         words[k] = word_in(bytes, 4 * k);
-        k += 1;
     }
 }

@@ -3,8 +3,7 @@ ghost use Rattle.std.specs.Prelude.{◌+◌, ◌≤◌, [], ◌∷◌, length};
 ghost use Rattle.printing.specs.Output.{Put, decimal_to};
 
 /// Digits of a number.
-#[derive(Clone, Copy)]
-pub struct Digits(pub usize);
+pub struct Digits;
 
 impl Digits {
     /// Digits of a number, at most.
@@ -16,12 +15,9 @@ pub fn put(out: &mut [u8], at: usize, text: &[u8]) -> usize
     requires { at + length text.now ≤ length out.old }
     ensures { Put out.old at text.now out.new result }
 {
-    let mut i = 0;
-    while i < text.len() {
-        out[at + i] = text[i];
-        i += 1;
-    }
-    at + i
+    let end = at + text.len();
+    out[at..end].copy_from_slice(text);
+    end
 }
 
 fn put_digit(out: &mut [u8], at: usize, digit: u64) -> usize

@@ -6,8 +6,7 @@ use reports::report::ReportWords;
 use snapshot::kind::Size;
 
 /// A number of questions.
-#[derive(Clone, Copy)]
-pub struct QuestionCount(pub usize);
+pub struct QuestionCount;
 
 impl QuestionCount {
     /// Questions of a call, at most.

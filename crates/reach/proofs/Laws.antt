@@ -8,16 +8,17 @@ use native.Mathlib.Nat.{sub-zero}
 use borrow.Author.Tests.{lt-ltb, le-ltb}
 use lib.ListN.{length, take, replicate}
 use Rattle.snapshot.specs.Lists.{rows}
-use Rattle.snapshot.specs.Limits.{area_limit, namespace_limit}
+use Rattle.snapshot.specs.Limits.{namespace_limit}
 use Rattle.snapshot.specs.Refusals.{unknown_refusal}
 use Rattle.snapshot.specs.Sizes.{scope_size}
 use Rattle.snapshot.specs.Records.{Snapshot, Scope, scope_at}
 use Rattle.snapshot.specs.Layouts.{table_words, scope_base, snap_of}
 use Rattle.snapshot.specs.declared.layout.Layout.{Layout}
 use Rattle.snapshot.proofs.Laws.{rows_next, rows_none, rows_snoc}
-use Rattle.accept.specs.Post.{Reads, Judged}
-use Rattle.accept.specs.declared.check.Checked.{Checked}
-use Rattle.accept.specs.declared.check.Checked.TheVariants.{Refused, Accepted}
+use Rattle.accept.specs.Post.{Checked, Reads, Judged}
+use Rattle.std.specs.Prelude.{Ok, Err}
+use Rattle.snapshot.specs.Refusals.{refusal_number}
+use Rattle.accept.specs.declared.check.Refused.{Refused}
 use Rattle.check_rules.specs.Verdict.{refuse, accept, verdict}
 use Rattle.accept.proofs.Reading.{scope_read}
 use Rattle.accept.proofs.Valid.{accepted_valid}
@@ -25,7 +26,6 @@ use Rattle.find_path.specs.declared.Report.{Report}
 use Rattle.find_path.specs.Report.{call_fault}
 use Rattle.search_laws.proofs.Bounds.{zeros}
 use Rattle.search_laws.proofs.Tables.{same_snap}
-use Rattle.checked.specs.Order.{earlier_of, number_of}
 use Rattle.checked.proofs.Laws.{judged_stays}
 use Rattle.reach_parts.specs.declared.Viewer.{Viewer}
 use Rattle.reach_parts.specs.declared.Reach.{Reach}
@@ -166,21 +166,16 @@ module _ (v : Viewer) (r : Reach) where
 
     module _ (A : List ℕ) where
       module _ (c : Checked) (j : Judged W A c) where
-        pub by_refusal : (n at : ℕ) → c ≡ Refused n at → r ≡ refused_reach n → (r ≡ reach_by v (verdict W)) × Judged W A c
-        by_refusal n at e p =
-            let k : Judged W A (Refused n at) = subst (λ x. Judged W A x) e j in
-            (reach_refused n at k.same p, j)
+        pub by_refusal : (f : Refused) → c ≡ Err f → r ≡ refused_reach (refusal_number f.why) → (r ≡ reach_by v (verdict W)) × Judged W A c
+        by_refusal f e p =
+            let k : Judged W A (Err f) = subst (λ x. Judged W A x) e j in
+            (reach_refused (refusal_number f.why) f.at k.same p, j)
 
-        pub by_answer : (l : Layout) (B : List ℕ) → c ≡ Accepted l → take table_words B ≡ take table_words A → r ≡ reach_by v (accept (snap_of W A l))
+        pub by_answer : (l : Layout) (B : List ℕ) → c ≡ Ok l → take table_words B ≡ take table_words A → r ≡ reach_by v (accept (snap_of W A l))
             → (r ≡ reach_by v (verdict W)) × Judged W B c
         by_answer l B e t p =
-            let k : Judged W A (Accepted l) = subst (λ x. Judged W A x) e j in
+            let k : Judged W A (Ok l) = subst (λ x. Judged W A x) e j in
             (p ∙ ap (reach_by v) k.same, subst (λ x. Judged W B x) (sym e) (judged_stays W A B l k t))
-
-      by_words : (n : ℕ) → (n ≡ 0 → ⊥) → r ≡ refused_reach n → (c : Checked) → Judged W A c → n ≡ number_of c → r ≡ reach_by v (verdict W)
-      unfolding number_of
-      by_words n h p (Refused m place) j e = reach_refused m place j.same (p ∙ ap refused_reach e)
-      by_words n h p (Accepted l) j e = absurd (h e)
 
     fault_by_lem : (n : ℕ) → (n ≡ 0 → ⊥) → refused_reach n ≡ reach_unless W v n
     unfolding reach_unless
@@ -194,15 +189,6 @@ module _ (v : Viewer) (r : Reach) where
     pub reach_verdict : (area n : ℕ) → n ≡ call_fault area (query_for v 0 0) v.fuel → n ≡ 0 → r ≡ reach_by v (verdict W) → r ≡ reach_of W area v
     unfolding reach_of reach_unless
     reach_verdict area n e z p = p ∙ ap (reach_unless W v) (sym z ∙ e)
-
-    module _ (A : List ℕ) (n : ℕ) (h : n ≡ 0 → ⊥) (p : r ≡ refused_reach n) where
-      -- a number of the call comes first, then one of the words
-      pub reach_earlier : (c : Checked) → Judged W A c → (f m : ℕ) → f ≡ call_fault area_limit (query_for v 0 0) v.fuel
-          → m ≡ number_of c → n ≡ earlier_of f m
-          → r ≡ reach_of W area_limit v
-      unfolding earlier_of
-      reach_earlier c j zero m e k u = reach_verdict area_limit 0 e refl (by_words A n h p c j (u ∙ k))
-      reach_earlier c j (suc f) m e k u = reach_fault area_limit n (u ∙ e) h p
 
 -- what the searches ask of a record
 module _ (W A : List ℕ) (l : Layout) (reads : Reads W A l) (k b : ℕ) (h : k < l.scopes) (e : b ≡ scope_base l) where

@@ -46,13 +46,11 @@ pub fn reach_in(words: &[u32], area: &mut [u32], l: Layout, v: Viewer) -> Reach
 {
     let base = l.scope_base();
     let mut reach = refused(0);
-    let mut k = 0;
-    while k < l.scopes {
+    for k in 0..l.scopes {
         if !is_met(words, l, k) {
             let r = report_for(words, area, l, v, base + Size::SCOPE * k);
             reach = tally(reach, r);
         }
-        k += 1;
     }
     reach
 }

@@ -5,15 +5,16 @@ ghost use Rattle.accept.specs.Post.{Judged};
 ghost use Rattle.reach.specs.Reached.{ReachLineOn};
 
 use crate::reach::reach_on;
-use accept::check::Checked;
+use accept::check::Refused;
 use reach_line::put_reach;
 use reach_parts::Viewer;
+use snapshot::layout::Layout;
 
 /// Puts the line of a reach on checked words and its end at the front, and answers its length. The words stay checked.
 pub fn reach_line_on(
     words: &[u32],
     area: &mut [u32],
-    c: Checked,
+    c: Result<Layout, Refused>,
     v: Viewer,
     out: &mut [u8],
 ) -> usize

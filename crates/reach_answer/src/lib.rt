@@ -32,7 +32,7 @@ pub fn find_reach(words: &[u32], area: &mut [u32], v: Viewer) -> Reach
     ensures { Reaches words.now area.old v area.new result }
 {
     if area.len() < WordCount::AREA {
-        return refused(Refusal::AREA);
+        return refused(Refusal::Area.number());
     }
     reach_within(words, &mut area[..WordCount::AREA], v)
 }

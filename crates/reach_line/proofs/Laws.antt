@@ -1,12 +1,12 @@
 -- Laws of the line of a reach.
-use Prim.Native.Nat.{ℕ, zero, suc, ◌+◌, ◌≤◌, ◌<◌}
+use Prim.Native.Nat.{ℕ, zero, suc, ◌+◌, ◌-◌, ◌≤◌, ◌<◌}
 use mathlib.Core.Path.{◌≡◌, refl, sym, ◌∙◌, ap}
 use mathlib.Core.List.{List, [], ◌∷◌, ◌++◌, map, append_assoc, append-nil}
 use native.Mathlib.Omega.{arith}
 use native.Mathlib.Numerals.{add-one}
 use borrow.Author.Tests.{eq-eqb, ne_eqb}
-use lib.ListN.{length, take, get_or}
-use lib.Seq.{take-suc, take_all}
+use lib.ListN.{length, take, drop, get_or, length-take, length-drop}
+use lib.Seq.{take-suc, take_all, get_or-take, get_or-drop}
 use Rattle.check_rules.specs.Verdict.{empty}
 use Rattle.find_path.specs.Line.{bytes_of, decimal, joined, line_in}
 use Rattle.find_path.specs.Report.{refused}
@@ -59,10 +59,22 @@ pub rest_one : (ns : List ℕ) → [] ≡ rest_to ns 1
 unfolding rest_to
 rest_one ns = refl
 
-pub rest_next : (ns : List ℕ) (i : ℕ) → 1 ≤ i → rest_to ns i ++ (bytes_of " " ++ decimal (get_or ns i 0)) ≡ rest_to ns (i + 1)
+rest_more : (ns : List ℕ) (i : ℕ) → 1 ≤ i → rest_to ns i ++ (bytes_of " " ++ decimal (get_or ns i 0)) ≡ rest_to ns (i + 1)
 unfolding rest_to
-rest_next ns zero h = absurd (omega arith)
-rest_next ns (suc i) h = ap (rest_to ns) (sym (add-one (suc i)))
+rest_more ns zero h = absurd (omega arith)
+rest_more ns (suc i) h = ap (rest_to ns) (sym (add-one (suc i)))
+
+-- the numbers past the first, as a slice
+pub rest_length : (ns : List ℕ) → length (take (length ns - 1) (drop 1 ns)) ≡ length ns - 1
+rest_length ns = simp (length-take, length-drop) (omega arith)
+
+pub rest_next : (ns : List ℕ) (i : ℕ) {n : ℕ} → i < length ns - 1 → n ≡ get_or (take (length ns - 1) (drop 1 ns)) i 0
+    → rest_to ns (i + 1) ++ (bytes_of " " ++ decimal n) ≡ rest_to ns (i + 1 + 1)
+rest_next ns i h e =
+    let k : 1 + i ≡ i + 1 = omega arith in
+    ap (λ x. rest_to ns (i + 1) ++ (bytes_of " " ++ decimal x))
+    (e ∙ get_or-take (length ns - 1) (drop 1 ns) i 0 h ∙ get_or-drop 1 ns i 0 ∙ ap (λ j. get_or ns j 0) k)
+    ∙ rest_more ns (i + 1) (omega arith)
 
 rest_all : (ns : List ℕ) (i : ℕ) → 1 ≤ i → i ≤ length ns → decimal (get_or ns 0 0) ++ rest_to ns i ≡ numbers_to ns i
 unfolding rest_to

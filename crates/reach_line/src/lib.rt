@@ -19,11 +19,9 @@ fn put_numbers(out: &mut [u8], numbers: &[usize]) -> usize
     ensures upper_bound { result ≤ 21 * length numbers.now }
 {
     let mut to = put_number(out, 0, numbers[0]);
-    let mut i = 1;
-    while i < numbers.len() {
+    for n in &numbers[1..] {
         let at = put(out, to, b" ");
-        to = put_number(out, at, numbers[i]);
-        i += 1;
+        to = put_number(out, at, *n);
     }
     to
 }

@@ -27,12 +27,10 @@ pub fn is_met(words: &[u32], l: Layout, k: usize) -> bool
 {
     let base = l.scope_base();
     let item = item_in(words, l, base + Size::SCOPE * k);
-    let mut j = 0;
-    while j < k {
+    for j in 0..k {
         if same_item(item_in(words, l, base + Size::SCOPE * j), item) {
             return true;
         }
-        j += 1;
     }
     false
 }

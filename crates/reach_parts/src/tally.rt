@@ -11,10 +11,10 @@ fn column(r: Report) -> usize
     requires { r.empty ≤ 1 }
     ensures { result ≡ column_of r }
 {
-    if r.outcome == Outcome::FOUND {
+    if r.outcome == Outcome::Found as usize {
         return r.count;
     }
-    if r.outcome == Outcome::NONE {
+    if r.outcome == Outcome::None as usize {
         return 18 + r.empty;
     }
     17
@@ -24,7 +24,7 @@ fn column(r: Report) -> usize
 fn names_found(r: Report) -> usize
     ensures { result ≡ names_found r }
 {
-    if r.outcome == Outcome::FOUND {
+    if r.outcome == Outcome::Found as usize {
         return r.count;
     }
     0
@@ -47,6 +47,7 @@ pub fn tally(reach: Reach, r: Report) -> Reach
 }
 
 /// A refusal.
+// A number, since a reach is words for C; 0 stands in a blank one.
 pub fn refused(number: usize) -> Reach
     ensures { result ≡ refused_reach number }
 {

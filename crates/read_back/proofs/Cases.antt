@@ -3,7 +3,7 @@ use Prim.Native.Nat.{ℕ, suc, ◌+◌, ◌-◌, ◌<◌, ◌≤◌}
 use mathlib.Core.Path.{◌≡◌, sym, ap, ◌∙◌}
 use mathlib.Core.List.{List, ◌∷◌}
 use mathlib.Core.Bool.{Bool, true, false}
-use mathlib.Core.Option.{Option, none, some}
+use Rattle.std.specs.Prelude.{Option, None, Some}
 use native.Mathlib.Omega.{arith}
 use borrow.Author.Tests.{eq-eqb, ne_eqb, eqb-true, eqb-false, lt-ltb, le-ltb}
 use lib.Dec.{eqb}
@@ -26,83 +26,83 @@ use Rattle.readings.specs.Reads.{reads_back}
 module _ (s : Snapshot) (from : ℕ) where
   -- an entry
   pub meaning_seen : (e : Scope) {t : Bool} {x : Item} → t ≡ sees s from e → t ≡ true → x ≡ item_of s e.ns e.definition
-      → some x ≡ meaning s from e
+      → Some x ≡ meaning s from e
   unfolding meaning
-  meaning_seen e u v w = let q = sym u ∙ v in rw (meaning, q) (ap some w)
+  meaning_seen e u v w = let q = sym u ∙ v in rw (meaning, q) (ap Some w)
 
-  pub meaning_hidden : (e : Scope) {t : Bool} → t ≡ sees s from e → t ≡ false → none ≡ meaning s from e
+  pub meaning_hidden : (e : Scope) {t : Bool} → t ≡ sees s from e → t ≡ false → None ≡ meaning s from e
   unfolding meaning
   meaning_hidden e u v = let q = sym u ∙ v in rw (meaning, q)
 
-  pub entry_none : (other : Option Item) {o : Option Scope} → o ≡ none → other ≡ entry_or s from other o
+  pub entry_none : (other : Option Item) {o : Option Scope} → o ≡ None → other ≡ entry_or s from other o
   unfolding entry_or
   entry_none other e = rw e
 
-  pub entry_some : (other : Option Item) {o : Option Scope} {e : Scope} {x : Option Item} → o ≡ some e → x ≡ meaning s from e
+  pub entry_some : (other : Option Item) {o : Option Scope} {e : Scope} {x : Option Item} → o ≡ Some e → x ≡ meaning s from e
       → x ≡ entry_or s from other o
   unfolding entry_or
   entry_some other q e = rw q e
 
   module _ (ns name : ℕ) where
     -- externs
-    pub externs_other : (ns ≡ types → ⊥) → none ≡ in_externs s from ns name
+    pub externs_other : (ns ≡ types → ⊥) → None ≡ in_externs s from ns name
     unfolding in_externs
     externs_other h = rw (in_externs, ne_eqb _ _ h)
 
-    pub externs_none : {c : ℕ} → ns ≡ types → c ≡ crate_of s from → extern_named s c name ≡ none → none ≡ in_externs s from ns name
+    pub externs_none : {c : ℕ} → ns ≡ types → c ≡ crate_of s from → extern_named s c name ≡ None → None ≡ in_externs s from ns name
     unfolding in_externs extern_means
     externs_none h u e = let q = ap (λ k. extern_named s k name) (sym u) ∙ e in rw (in_externs, eq-eqb _ _ h, q)
 
-    pub externs_some : {c m : ℕ} {x : Extern} {o : Option Item} → ns ≡ types → c ≡ crate_of s from → extern_named s c name ≡ some x
-        → m ≡ x.target → o ≡ some (module_item m) → o ≡ in_externs s from ns name
+    pub externs_some : {c m : ℕ} {x : Extern} {o : Option Item} → ns ≡ types → c ≡ crate_of s from → extern_named s c name ≡ Some x
+        → m ≡ x.target → o ≡ Some (module_item m) → o ≡ in_externs s from ns name
     unfolding in_externs extern_means
     externs_some h u e t w = let q = ap (λ k. extern_named s k name) (sym u) ∙ e in rw (in_externs, eq-eqb _ _ h, q)
-        (w ∙ ap (λ m. some (module_item m)) t)
+        (w ∙ ap (λ m. Some (module_item m)) t)
 
     -- the prelude
-    pub prelude_none : {k : ℕ} → k ≡ map_no s from → prelude_of s k ≡ none → none ≡ in_prelude_of s from ns name
+    pub prelude_none : {k : ℕ} → k ≡ map_no s from → prelude_of s k ≡ None → None ≡ in_prelude_of s from ns name
     unfolding in_prelude_of prelude_means
     prelude_none u e = let q = ap (prelude_of s) (sym u) ∙ e in rw (in_prelude_of, q)
 
-    pub prelude_some : {k m : ℕ} {p : Prelude} {o : Option Item} → k ≡ map_no s from → prelude_of s k ≡ some p → m ≡ p.target
-        → o ≡ entry_or s from none (get s m ns name)
+    pub prelude_some : {k m : ℕ} {p : Prelude} {o : Option Item} → k ≡ map_no s from → prelude_of s k ≡ Some p → m ≡ p.target
+        → o ≡ entry_or s from None (get s m ns name)
         → o ≡ in_prelude_of s from ns name
     unfolding in_prelude_of prelude_means
     prelude_some u e t w =
         let q = ap (prelude_of s) (sym u) ∙ e in
-        rw (in_prelude_of, q) (w ∙ ap (λ m. entry_or s from none (get s m ns name)) t)
+        rw (in_prelude_of, q) (w ∙ ap (λ m. entry_or s from None (get s m ns name)) t)
 
     -- a first name
-    pub first_entry : {e : Scope} {o : Option Item} → entry_from s from ns name ≡ some e → o ≡ meaning s from e → o ≡ first_name s from ns name
+    pub first_entry : {e : Scope} {o : Option Item} → entry_from s from ns name ≡ Some e → o ≡ meaning s from e → o ≡ first_name s from ns name
     unfolding first_name
     first_entry q w = entry_some (or_first (in_externs s from ns name) (in_prelude_of s from ns name)) q w
 
-    pub first_extern : {x : Item} → entry_from s from ns name ≡ none → in_externs s from ns name ≡ some x → some x ≡ first_name s from ns name
+    pub first_extern : {x : Item} → entry_from s from ns name ≡ None → in_externs s from ns name ≡ Some x → Some x ≡ first_name s from ns name
     unfolding first_name or_first entry_or
     first_extern q w = rw (first_name, q, w)
 
-    pub first_prelude : {o : Option Item} → entry_from s from ns name ≡ none → in_externs s from ns name ≡ none → o ≡ in_prelude_of s from ns name
+    pub first_prelude : {o : Option Item} → entry_from s from ns name ≡ None → in_externs s from ns name ≡ None → o ≡ in_prelude_of s from ns name
         → o ≡ first_name s from ns name
     unfolding first_name or_first entry_or
     first_prelude q w e = rw (first_name, q, w) e
 
 -- a variant
 module _ (s : Snapshot) (ns : ℕ) where
-  pub variant_none : {o : Option Member} → o ≡ none → none ≡ variant_in s ns o
+  pub variant_none : {o : Option Member} → o ≡ None → None ≡ variant_in s ns o
   unfolding variant_in
   variant_none e = rw e
 
-  pub variant_some : {o : Option Member} {x : Member} {i : Item} → o ≡ some x → ns < 2 → i ≡ item_of s ns x.definition → some i ≡ variant_in s ns o
+  pub variant_some : {o : Option Member} {x : Member} {i : Item} → o ≡ Some x → ns < 2 → i ≡ item_of s ns x.definition → Some i ≡ variant_in s ns o
   unfolding variant_in
-  variant_some e h q = rw (e, variant_in, lt-ltb _ _ h) (ap some q)
+  variant_some e h q = rw (e, variant_in, lt-ltb _ _ h) (ap Some q)
 
-  pub variant_macro : {o : Option Member} {x : Member} → o ≡ some x → 2 ≤ ns → none ≡ variant_in s ns o
+  pub variant_macro : {o : Option Member} {x : Member} → o ≡ Some x → 2 ≤ ns → None ≡ variant_in s ns o
   unfolding variant_in
   variant_macro e h = rw (e, variant_in, le-ltb _ _ h)
 
 -- a later name
 module _ (s : Snapshot) (from ns name : ℕ) where
-  pub later_module : {x : Item} {m : ℕ} {o : Option Item} → x ≡ module_item m → o ≡ entry_or s from none (get s m ns name)
+  pub later_module : {x : Item} {m : ℕ} {o : Option Item} → x ≡ module_item m → o ≡ entry_or s from None (get s m ns name)
       → o ≡ later_name s from ns name x
   unfolding later_name
   later_module e w = rw e w
@@ -112,11 +112,11 @@ module _ (s : Snapshot) (from ns name : ℕ) where
   unfolding later_name
   later_other e w = rw e w
 
-pub after_none : (f : Item → Option Item) {o : Option Item} → o ≡ none → none ≡ after o f
+pub after_none : (f : Item → Option Item) {o : Option Item} → o ≡ None → None ≡ after o f
 unfolding after
 after_none f e = rw e
 
-pub after_some : (f : Item → Option Item) {o r : Option Item} {x : Item} → o ≡ some x → r ≡ f x → r ≡ after o f
+pub after_some : (f : Item → Option Item) {o r : Option Item} {x : Item} → o ≡ Some x → r ≡ f x → r ≡ after o f
 unfolding after
 after_some f e w = rw e w
 
@@ -163,7 +163,7 @@ module _ (s : Snapshot) (from ns kind : ℕ) (names : List ℕ) (n : ℕ) (h : n
   all_later : o ≡ follow s from ns here (take n names)
   all_later = e ∙ ap (follow s from ns here) (names_list names n h)
 
-  pub reads_self : kind ≡ 1 → here ≡ some (module_item (stands_for s from)) → o ≡ reads_to s from ns kind (take n names)
+  pub reads_self : kind ≡ 1 → here ≡ Some (module_item (stands_for s from)) → o ≡ reads_to s from ns kind (take n names)
   unfolding reads_to
   reads_self t u = rw (reads_to, eq-eqb _ _ t) (all_later ∙ ap (λ x. follow s from ns x (take n names)) u)
 
@@ -171,7 +171,7 @@ module _ (s : Snapshot) (from ns kind : ℕ) (names : List ℕ) (n : ℕ) (h : n
   unfolding reads_to
   reads_super a t u = rw (reads_to, ne_eqb _ _ a, eq-eqb _ _ t) (all_later ∙ ap (λ x. follow s from ns x (take n names)) u)
 
-  pub reads_crate : (kind ≡ 1 → ⊥) → (kind ≡ 2 → ⊥) → kind ≡ 3 → here ≡ some (module_item (crate_root s from))
+  pub reads_crate : (kind ≡ 1 → ⊥) → (kind ≡ 2 → ⊥) → kind ≡ 3 → here ≡ Some (module_item (crate_root s from))
       → o ≡ reads_to s from ns kind (take n names)
   unfolding reads_to
   reads_crate a b t u = rw (reads_to, ne_eqb _ _ a, ne_eqb _ _ b, eq-eqb _ _ t) (all_later ∙ ap (λ x. follow s from ns x (take n names)) u)
@@ -208,15 +208,15 @@ module _ (s : Snapshot) (from ns : ℕ) (names : List ℕ) (n : ℕ) (h : n ≤ 
 
 -- no names
 module _ (s : Snapshot) (from ns : ℕ) (names : List ℕ) (n : ℕ) (z : n ≡ 0) where
-  pub absolute_none : none ≡ absolutely s from ns (take n names)
+  pub absolute_none : None ≡ absolutely s from ns (take n names)
   unfolding absolutely
   absolute_none = rw z
 
-  pub plain_none : none ≡ plainly s from ns (take n names)
+  pub plain_none : None ≡ plainly s from ns (take n names)
   unfolding plainly
   plain_none = rw z
 
-  pub reads_none : (kind : ℕ) → (kind ≡ 1 → ⊥) → (kind ≡ 2 → ⊥) → (kind ≡ 3 → ⊥) → none ≡ reads_to s from ns kind (take n names)
+  pub reads_none : (kind : ℕ) → (kind ≡ 1 → ⊥) → (kind ≡ 2 → ⊥) → (kind ≡ 3 → ⊥) → None ≡ reads_to s from ns kind (take n names)
   reads_none kind a b c =
       by_test (eqb kind 4)
       (λ t. reads_absolute s from ns kind (take n names) a b c (eqb-true _ _ t) absolute_none)
@@ -224,21 +224,21 @@ module _ (s : Snapshot) (from ns : ℕ) (names : List ℕ) (n : ℕ) (z : n ≡ 
 
 -- back to the item
 module _ (s : Snapshot) (from : ℕ) (item : Item) (kind : ℕ) (names : List ℕ) {v : ℕ} (h : v ≡ ns_of item) where
-  pub back_none : reads_to s from v kind names ≡ none → false ≡ reads_back s from item kind names
+  pub back_none : reads_to s from v kind names ≡ None → false ≡ reads_back s from item kind names
   unfolding reads_back is_the
   back_none e = sym (ap (is_the item) (ap (λ v. reads_to s from v kind names) (sym h) ∙ e))
 
-  pub back_some : {x : Item} {t : Bool} → reads_to s from v kind names ≡ some x → t ≡ same_item x item → t ≡ reads_back s from item kind names
+  pub back_some : {x : Item} {t : Bool} → reads_to s from v kind names ≡ Some x → t ≡ same_item x item → t ≡ reads_back s from item kind names
   unfolding reads_back is_the
   back_some e w = w ∙ sym (ap (is_the item) (ap (λ v. reads_to s from v kind names) (sym h) ∙ e))
 
 -- what `super` means
 module _ (s : Snapshot) (from : ℕ) {m : ℕ} (h : m ≡ stands_for s from) where
-  pub super_none : parent_of s m ≡ 0 → none ≡ parent_means s (parent_of s (stands_for s from))
+  pub super_none : parent_of s m ≡ 0 → None ≡ parent_means s (parent_of s (stands_for s from))
   unfolding parent_means
   super_none e = sym (ap (λ k. parent_means s (parent_of s k)) (sym h) ∙ ap (parent_means s) e)
 
-  pub super_some : {p q : ℕ} {o : Option Item} → parent_of s m ≡ suc p → q ≡ stands_for s p → o ≡ some (module_item q)
+  pub super_some : {p q : ℕ} {o : Option Item} → parent_of s m ≡ suc p → q ≡ stands_for s p → o ≡ Some (module_item q)
       → o ≡ parent_means s (parent_of s (stands_for s from))
   unfolding parent_means
-  super_some e u w = w ∙ ap (λ q. some (module_item q)) u ∙ sym (ap (λ k. parent_means s (parent_of s k)) (sym h) ∙ ap (parent_means s) e)
+  super_some e u w = w ∙ ap (λ q. Some (module_item q)) u ∙ sym (ap (λ k. parent_means s (parent_of s k)) (sym h) ∙ ap (parent_means s) e)

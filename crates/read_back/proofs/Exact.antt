@@ -2,7 +2,7 @@
 use mathlib.Core.Path.{◌≡◌, refl, ap, ap₂, ◌∙◌}
 use mathlib.Core.List.{List}
 use mathlib.Core.Bool.{true, ◌&&◌, false≢true}
-use mathlib.Core.Option.{Option, none, some}
+use Rattle.std.specs.Prelude.{Option, None, Some}
 use Prim.Native.Nat.{ℕ}
 use lib.Dec.{eqb}
 use borrow.Author.Tests.{eq-eqb, eqb-true}
@@ -27,16 +27,16 @@ unfolding same_item
 same_self (Mod m) = eq-eqb m.0 m.0 refl
 same_self (Def ns d) = ap₂ (λ x y. x && y) (eq-eqb ns.0 ns.0 refl) (eq-eqb d.0 d.0 refl)
 
-the_item : (item : Item) (o : Option Item) → is_the item o ≡ true → o ≡ some item
+the_item : (item : Item) (o : Option Item) → is_the item o ≡ true → o ≡ Some item
 unfolding is_the
-the_item item none e = absurd (false≢true e)
-the_item item (some x) e = ap some (same_item_lem x item e)
+the_item item None e = absurd (false≢true e)
+the_item item (Some x) e = ap Some (same_item_lem x item e)
 
 module _ (s : Snapshot) (from : ℕ) (item : Item) (kind : ℕ) (names : List ℕ) where
-  pub reads_exactly : reads_back s from item kind names ≡ true → reads_to s from (ns_of item) kind names ≡ some item
+  pub reads_exactly : reads_back s from item kind names ≡ true → reads_to s from (ns_of item) kind names ≡ Some item
   unfolding reads_back
   reads_exactly e = the_item item (reads_to s from (ns_of item) kind names) e
 
-  pub exactly_reads : reads_to s from (ns_of item) kind names ≡ some item → reads_back s from item kind names ≡ true
+  pub exactly_reads : reads_to s from (ns_of item) kind names ≡ Some item → reads_back s from item kind names ≡ true
   unfolding reads_back is_the
   exactly_reads e = ap (is_the item) e ∙ same_self item

@@ -2,7 +2,7 @@
 use Prim.Native.Nat.{ℕ}
 use mathlib.Core.Path.{◌≡◌, refl, sym, ◌∙◌}
 use mathlib.Core.List.{List, [], ◌∷◌}
-use mathlib.Core.Option.{Option, none, some}
+use Rattle.std.specs.Prelude.{Option, None, Some}
 use native.Mathlib.Omega.{arith}
 use Rattle.snapshot.specs.Records.{scope_at}
 use Rattle.snapshot.specs.Layouts.{snap_of}
@@ -15,20 +15,20 @@ use Rattle.hir_def.specs.ItemScope.{get}
 use Rattle.hir_def.proofs.Fits.{get_fits}
 use Rattle.readings.specs.Reads.{scopes_from, entry_from}
 
-by_option : {B C : Type 0} (o : Option B) → (o ≡ none → C) → ((y : B) → o ≡ some y → C) → C
-by_option none f g = f refl
-by_option (some y) f g = g y refl
+by_option : {B C : Type 0} (o : Option B) → (o ≡ None → C) → ((y : B) → o ≡ Some y → C) → C
+by_option None f g = f refl
+by_option (Some y) f g = g y refl
 
 -- the first answer is one of the answers
-some_first : {X B C : Type 0} (f : X → Option B) (xs : List X) (y : B) → ((x : X) → f x ≡ some y → C) → first_some f xs ≡ some y → C
+some_first : {X B C : Type 0} (f : X → Option B) (xs : List X) (y : B) → ((x : X) → f x ≡ Some y → C) → first_some f xs ≡ Some y → C
 unfolding first_some
 some_first f [] y h e = let z : ◌≡◌ {A = ℕ} 0 1 = cc in absurd (omega arith)
 some_first f (x ∷ xs) y h e =
     by_option (f x)
     (λ q. some_first f xs y h (rw (q, first_some) at e))
-    (λ z q. let same : some z ≡ some y = rw (q, first_some) at e in h x (q ∙ same))
+    (λ z q. let same : Some z ≡ Some y = rw (q, first_some) at e in h x (q ∙ same))
 
-pub from_fits : (W A : List ℕ) (l : Layout) → Reads W A l → (m ns name h : ℕ) → some (scope_at W h) ≡ entry_from (snap_of W A l) m ns name
+pub from_fits : (W A : List ℕ) (l : Layout) → Reads W A l → (m ns name h : ℕ) → Some (scope_at W h) ≡ entry_from (snap_of W A l) m ns name
     → ScopeFits (counts_in l) (scope_at W h)
 unfolding entry_from
 from_fits W A l r m ns name h e =

@@ -2,7 +2,7 @@
 use Prim.Native.Nat.{ℕ, suc, ◌<◌}
 use mathlib.Core.Path.{◌≡◌, refl, sym, ap, ◌∙◌}
 use mathlib.Core.List.{[]}
-use mathlib.Core.Option.{some}
+use Rattle.std.specs.Prelude.{Some}
 use native.Mathlib.Omega.{arith}
 use borrow.Author.Tests.{eqb-true, eqb-false}
 use lib.Dec.{eqb}
@@ -17,7 +17,7 @@ use Rattle.readings.specs.Reads.{self_kind, super_kind, crate_kind, stands_for, 
 use Rattle.read_back.proofs.Outward.{outward_root, outward_none, outward_falls, stands_here}
 
 module _ (s : Snapshot) (from ns : ℕ) where
-  pub crate_reads : reads_to s from ns crate_kind [] ≡ some (module_item (crate_root s from))
+  pub crate_reads : reads_to s from ns crate_kind [] ≡ Some (module_item (crate_root s from))
   unfolding reads_to follow
   crate_reads = refl
 
@@ -28,14 +28,14 @@ module _ (s : Snapshot) (from ns : ℕ) where
         stands_here s (outward_falls s t) m k
         (by_test (eqb (parent_of s m) 0) (λ u. outward_root s m (eqb-true _ _ u) ∙ e) (λ u. outward_none s m (eqb-false _ _ u)))
 
-    pub self_reads : reads_to s from ns self_kind [] ≡ some (module_item from)
+    pub self_reads : reads_to s from ns self_kind [] ≡ Some (module_item from)
     unfolding reads_to follow
-    self_reads = sym (ap (λ m. some (module_item m)) (stays from h own))
+    self_reads = sym (ap (λ m. Some (module_item m)) (stays from h own))
 
-    pub super_reads : (p : ℕ) → parent_of s from ≡ suc p → reads_to s from ns super_kind [] ≡ some (module_item p)
+    pub super_reads : (p : ℕ) → parent_of s from ≡ suc p → reads_to s from ns super_kind [] ≡ Some (module_item p)
     unfolding reads_to follow parent_means
     super_reads p e =
         let f = parent_fits s t from p h e in
         let k : p < length s.modules = omega (arith, f.0, h) in
         ap (λ m. parent_means s (parent_of s m)) (sym (stays from h own)) ∙ ap (parent_means s) e
-        ∙ sym (ap (λ m. some (module_item m)) (stays p k (ap (λ i. (map_of s i).block) f.1 ∙ own)))
+        ∙ sym (ap (λ m. Some (module_item m)) (stays p k (ap (λ i. (map_of s i).block) f.1 ∙ own)))

@@ -1,21 +1,24 @@
 -- The steps out of blocks fall, and end.
 use Prim.Native.Nat.{ℕ, suc, ◌<◌}
 use mathlib.Core.Path.{◌≡◌, sym, ◌∙◌}
-use mathlib.Core.Option.{none, some}
 use native.Mathlib.Omega.{arith}
 use borrow.Author.Tests.{eq-eqb, ne_eqb, eqb-true, eqb-false}
 use lib.Dec.{eqb}
 use lib.ListN.{length}
-use Rattle.snapshot.specs.Records.{Snapshot, Scope}
+use mathlib.Core.List.{List}
+use Rattle.snapshot.specs.Layouts.{snap_of}
+use Rattle.snapshot.specs.Records.{Snapshot}
+use Rattle.snapshot.specs.declared.layout.Layout.{Layout}
+use Rattle.accept.specs.Post.{Reads}
+use Rattle.accept.proofs.Trees.{accepted_tree}
+use Rattle.hir_def.proofs.Reading.{length_modules}
 use Rattle.accept.specs.Valid.{Tree}
 use Rattle.accept.proofs.Accepted.{by_test}
 use Rattle.tree_rules.specs.Modules.{parent_of, block_of}
 use Rattle.tree_rules.specs.Visibility.{last_or}
 use Rattle.module_tree.proofs.Chains.{block_falls}
 use Rattle.module_tree.proofs.Laws.{Falls, last_more}
-use Rattle.hir_def.specs.ItemScope.{get}
-use Rattle.hir_def.proofs.Ancestors.{first_here, first_end, first_on}
-use Rattle.readings.specs.Reads.{outward, scopes_from, stands_for, entry_from}
+use Rattle.readings.specs.Reads.{outward, stands_for}
 
 module _ (s : Snapshot) (m : ℕ) where
   pub outward_root : parent_of s m ≡ 0 → outward s m ≡ block_of s m
@@ -49,15 +52,6 @@ module _ (s : Snapshot) (falls : Falls (outward s) (length s.modules)) (t : ℕ)
   unfolding last_or
   stands_on b e = stands_more ∙ rw e
 
-  module _ (ns name : ℕ) where
-    pub from_here : {e : Scope} → get s t ns name ≡ some e → some e ≡ entry_from s t ns name
-    unfolding entry_from scopes_from
-    from_here e = first_here (outward s) (length s.modules) falls t h (λ m. get s m ns name) e
-
-    pub from_end : get s t ns name ≡ none → outward s t ≡ 0 → none ≡ entry_from s t ns name
-    unfolding entry_from scopes_from
-    from_end e z = first_end (outward s) (length s.modules) falls t h (λ m. get s m ns name) e z
-
-    pub from_on : get s t ns name ≡ none → (b : ℕ) → outward s t ≡ suc b → entry_from s t ns name ≡ entry_from s b ns name
-    unfolding entry_from scopes_from
-    from_on e b q = first_on (outward s) (length s.modules) falls t h (λ m. get s m ns name) e b q
+-- those of an accepted tree
+pub outward_down : {W A : List ℕ} {l : Layout} → Reads W A l → Falls (outward (snap_of W A l)) l.modules
+outward_down {W} {A} {l} r v w i = outward_falls (snap_of W A l) (accepted_tree W (snap_of W A l) r.same) v w (rw (length_modules W A l) i)

@@ -7,20 +7,20 @@ ghost use Rattle.accept.specs.Post.{Reads};
 ghost use Rattle.hir_def.specs.Entries.{entry_of};
 ghost use Rattle.readings.specs.Reads.{outward as outward_of, stands_for, entry_from};
 
-use hir_def::Entry;
+use hir_def::finds::nearest;
 use hir_def::modules::{block, parent};
 use item_scope::get;
-use snapshot::ids::{ModuleId, Name, OptModule};
+use snapshot::ids::{ModuleId, Name};
 use snapshot::layout::Layout;
 
 // The block's parent of a block map's root, none of any other module.
-fn outward(words: &[u32], area: &[u32], l: Layout, m: ModuleId) -> OptModule
+fn outward(words: &[u32], area: &[u32], l: Layout, m: ModuleId) -> Option<ModuleId>
     requires { Reads words.now area.now l × (m.0 < l.modules) }
     ensures { plus_one result ≡ outward_of (snap_of words.now area.now l) m.0 }
 {
     match parent(words, area, l, m) {
-        OptModule::Module(_) => OptModule::NoModule,
-        OptModule::NoModule => block(words, area, l, m),
+        Some(_) => None,
+        None => block(words, area, l, m),
     }
 }
 
@@ -31,7 +31,7 @@ pub(crate) fn stands_for(words: &[u32], area: &[u32], l: Layout, m: ModuleId) ->
 {
     let mut t = m;
     loop {
-        let OptModule::Module(b) = outward(words, area, l, t) else {
+        let Some(b) = outward(words, area, l, t) else {
             return t;
         };
         t = b;
@@ -46,19 +46,11 @@ pub(crate) fn entry_from(
     from: ModuleId,
     ns: usize,
     name: Name,
-) -> Entry
+) -> Option<usize>
     requires { Reads words.now area.now l × (from.0 < l.modules) }
     ensures { entry_of scope_at words.now result ≡ entry_from (snap_of words.now area.now l) from.0 ns name.0 }
 {
-    let mut m = from;
-    loop {
-        let e = get(words, l, m, ns, name);
-        if let Entry::At(h) = e {
-            return Entry::At(h);
-        }
-        let OptModule::Module(b) = outward(words, area, l, m) else {
-            return Entry::Nothing;
-        };
-        m = b;
-    }
+    let find = |m| get(words, l, m, ns, name);
+    let step = |m| outward(words, area, l, m);
+    nearest(from, find, step)
 }

@@ -5,12 +5,3 @@ mod blocks;
 pub mod lookups;
 mod names;
 pub mod paths;
-
-use hir_def::Item;
-
-/// The item that a name means, or none.
-#[derive(Clone, Copy)]
-pub enum OptItem {
-    Means(Item),
-    NoItem,
-}

@@ -4,16 +4,14 @@ ghost use Rattle.snapshot.specs.Lists.{rows};
 ghost use Rattle.snapshot.specs.Layouts.{snap_of};
 ghost use Rattle.accept.specs.Post.{Reads};
 ghost use Rattle.hir_def.specs.Items.{parent_of};
-ghost use Rattle.read_back.specs.Answers.{meant};
 ghost use Rattle.readings.specs.Reads.{stands_for, parent_means, looked_in, follow as follow_of, reads_to, reads_back};
 
-use crate::OptItem;
 use crate::blocks::stands_for;
 use crate::names::{first_name, in_externs, means_module, next_name};
 use hir_def::Item;
 use hir_def::items::{ns_of, same_item};
 use hir_def::modules::{crate_root, parent};
-use snapshot::ids::{ModuleId, Name, Namespace, OptModule, PathKind};
+use snapshot::ids::{ModuleId, Name, Namespace, PathKind};
 use snapshot::layout::Layout;
 
 // Where the name k of so many is looked up.
@@ -34,35 +32,31 @@ fn follow(
     l: Layout,
     from: ModuleId,
     ns: usize,
-    start: OptItem,
+    start: Option<Item>,
     names: &[usize],
     first: usize,
     count: usize,
-) -> OptItem
+) -> Option<Item>
     requires { Reads words.now area.now l × (from.0 < l.modules) × (count ≤ length names.now) }
-    ensures { meant result ≡ follow_of (snap_of words.now area.now l) from.0 ns (meant start)
+    ensures { result ≡ follow_of (snap_of words.now area.now l) from.0 ns start
         (rows (λ i. get_or names.now i 0) first (count - first)) }
 {
     let mut here = start;
-    let mut k = first;
-    while k < count {
+    for k in first..count {
         let its = looked_in(ns, k, count);
         here = next_name(words, area, l, from, its, Name(names[k]), here);
-        k += 1;
     }
     here
 }
 
 // What `super` means.
-fn super_of(words: &[u32], area: &[u32], l: Layout, from: ModuleId) -> OptItem
+fn super_of(words: &[u32], area: &[u32], l: Layout, from: ModuleId) -> Option<Item>
     requires { Reads words.now area.now l × (from.0 < l.modules) }
-    ensures { meant result ≡ parent_means (snap_of words.now area.now l)
+    ensures { result ≡ parent_means (snap_of words.now area.now l)
         (parent_of (snap_of words.now area.now l) (stands_for (snap_of words.now area.now l) from.0)) }
 {
     let m = stands_for(words, area, l, from);
-    let OptModule::Module(p) = parent(words, area, l, m) else {
-        return OptItem::NoItem;
-    };
+    let p = parent(words, area, l, m)?;
     means_module(stands_for(words, area, l, p))
 }
 
@@ -76,28 +70,28 @@ fn reads_to(
     kind: usize,
     names: &[usize],
     count: usize,
-) -> OptItem
+) -> Option<Item>
     requires { Reads words.now area.now l × (from.0 < l.modules) × (count ≤ length names.now) }
-    ensures { meant result ≡ reads_to (snap_of words.now area.now l) from.0 ns kind (take count names.now) }
+    ensures { result ≡ reads_to (snap_of words.now area.now l) from.0 ns kind (take count names.now) }
 {
-    if kind == PathKind::SELF {
+    if kind == PathKind::SelfModule as usize {
         let here = means_module(stands_for(words, area, l, from));
         return follow(words, area, l, from, ns, here, names, 0, count);
     }
-    if kind == PathKind::SUPER {
+    if kind == PathKind::Super as usize {
         let above = super_of(words, area, l, from);
         return follow(words, area, l, from, ns, above, names, 0, count);
     }
-    if kind == PathKind::CRATE {
+    if kind == PathKind::Crate as usize {
         let root = means_module(crate_root(words, area, l, from));
         return follow(words, area, l, from, ns, root, names, 0, count);
     }
     if count == 0 {
-        return OptItem::NoItem;
+        return None;
     }
     let its = looked_in(ns, 0, count);
     let name = Name(names[0]);
-    if kind == PathKind::ABSOLUTE {
+    if kind == PathKind::Absolute as usize {
         let dependency = in_externs(words, area, l, from, its, name);
         return follow(words, area, l, from, ns, dependency, names, 1, count);
     }
@@ -119,7 +113,7 @@ pub fn reads_back(
     requires { Reads words.now area.now l × (from.0 < l.modules) × (count ≤ length names.now) }
     ensures { result ≡ reads_back (snap_of words.now area.now l) from.0 item kind (take count names.now) }
 {
-    let OptItem::Means(x) = reads_to(words, area, l, from, ns_of(item), kind, names, count) else {
+    let Some(x) = reads_to(words, area, l, from, ns_of(item), kind, names, count) else {
         return false;
     };
     same_item(x, item)

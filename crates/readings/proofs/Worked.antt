@@ -3,7 +3,7 @@ use Prim.Native.Nat.{ℕ, ◌+◌, ◌*◌}
 use mathlib.Core.Path.{◌≡◌, refl}
 use mathlib.Core.List.{List, [], ◌∷◌}
 use mathlib.Core.Bool.{Bool, true, false, ◌&&◌}
-use mathlib.Core.Option.{Option, none, some}
+use Rattle.std.specs.Prelude.{Option, None, Some}
 use Rattle.snapshot.specs.Lists.{rows, any, all, eq_list}
 use Rattle.snapshot.specs.Words.{arguments_of}
 use Rattle.snapshot.specs.Records.{Snapshot}
@@ -31,10 +31,10 @@ pub record Row : Type 0 where
   pub means : Option Item
 
 pub alike : Option Item → Option Item → Bool
-alike none none = true
-alike none (some y) = false
-alike (some x) none = false
-alike (some x) (some y) = same_item x y
+alike None None = true
+alike None (Some y) = false
+alike (Some x) None = false
+alike (Some x) (Some y) = same_item x y
 
 pub agrees : Snapshot → List Row → Bool
 agrees s [] = true
@@ -106,87 +106,87 @@ blocks =
 
 pub block_reads : reads (verdict blocks)
     -- `f`: the root's hides the prelude's; the outer block's hides the root's, in the block and in the block within
-    (record { from = 0; ns = 1; kind = 0; names = 1 ∷ []; means = some (defined_item 1 1) }
-    ∷ record { from = 2; ns = 1; kind = 0; names = 1 ∷ []; means = some (defined_item 1 2) }
-    ∷ record { from = 4; ns = 1; kind = 0; names = 1 ∷ []; means = some (defined_item 1 2) }
+    (record { from = 0; ns = 1; kind = 0; names = 1 ∷ []; means = Some (defined_item 1 1) }
+    ∷ record { from = 2; ns = 1; kind = 0; names = 1 ∷ []; means = Some (defined_item 1 2) }
+    ∷ record { from = 4; ns = 1; kind = 0; names = 1 ∷ []; means = Some (defined_item 1 2) }
     -- two blocks outward: `a::f`, `E`
-    ∷ record { from = 4; ns = 1; kind = 0; names = 0 ∷ 1 ∷ []; means = some (defined_item 1 1) }
-    ∷ record { from = 4; ns = 0; kind = 0; names = 2 ∷ []; means = some (defined_item 0 3) }
+    ∷ record { from = 4; ns = 1; kind = 0; names = 0 ∷ 1 ∷ []; means = Some (defined_item 1 1) }
+    ∷ record { from = 4; ns = 0; kind = 0; names = 2 ∷ []; means = Some (defined_item 0 3) }
     -- from `c` and `e`, which are no block's root, not outward: neither a block's `f` nor the root's; in `e` the prelude's
-    ∷ record { from = 3; ns = 1; kind = 0; names = 1 ∷ []; means = none }
-    ∷ record { from = 5; ns = 1; kind = 0; names = 1 ∷ []; means = some (defined_item 1 9) }
+    ∷ record { from = 3; ns = 1; kind = 0; names = 1 ∷ []; means = None }
+    ∷ record { from = 5; ns = 1; kind = 0; names = 1 ∷ []; means = Some (defined_item 1 9) }
     -- `self` in a block is the module around it: `self::f`, `self::t`, `self`; in `c` it is `c`
-    ∷ record { from = 4; ns = 1; kind = 1; names = 1 ∷ []; means = some (defined_item 1 1) }
-    ∷ record { from = 2; ns = 1; kind = 1; names = 7 ∷ []; means = some (defined_item 1 11) }
-    ∷ record { from = 4; ns = 0; kind = 1; names = []; means = some (module_item 0) }
-    ∷ record { from = 3; ns = 0; kind = 1; names = []; means = some (module_item 3) }
+    ∷ record { from = 4; ns = 1; kind = 1; names = 1 ∷ []; means = Some (defined_item 1 1) }
+    ∷ record { from = 2; ns = 1; kind = 1; names = 7 ∷ []; means = Some (defined_item 1 11) }
+    ∷ record { from = 4; ns = 0; kind = 1; names = []; means = Some (module_item 0) }
+    ∷ record { from = 3; ns = 0; kind = 1; names = []; means = Some (module_item 3) }
     -- `super` from `a`, from a block in `a`, from the root, from a block in the root
-    ∷ record { from = 1; ns = 0; kind = 2; names = []; means = some (module_item 0) }
-    ∷ record { from = 6; ns = 1; kind = 2; names = 4 ∷ []; means = some (defined_item 1 6) }
-    ∷ record { from = 0; ns = 0; kind = 2; names = []; means = none }
-    ∷ record { from = 4; ns = 0; kind = 2; names = []; means = none }
+    ∷ record { from = 1; ns = 0; kind = 2; names = []; means = Some (module_item 0) }
+    ∷ record { from = 6; ns = 1; kind = 2; names = 4 ∷ []; means = Some (defined_item 1 6) }
+    ∷ record { from = 0; ns = 0; kind = 2; names = []; means = None }
+    ∷ record { from = 4; ns = 0; kind = 2; names = []; means = None }
     -- from `c` and `e` it is the block's root, which stands for the crate's: `super`, `super::f`, `super::c`
-    ∷ record { from = 3; ns = 0; kind = 2; names = []; means = some (module_item 0) }
-    ∷ record { from = 5; ns = 0; kind = 2; names = []; means = some (module_item 0) }
-    ∷ record { from = 5; ns = 1; kind = 2; names = 1 ∷ []; means = some (defined_item 1 1) }
-    ∷ record { from = 3; ns = 0; kind = 2; names = 9 ∷ []; means = none }
+    ∷ record { from = 3; ns = 0; kind = 2; names = []; means = Some (module_item 0) }
+    ∷ record { from = 5; ns = 0; kind = 2; names = []; means = Some (module_item 0) }
+    ∷ record { from = 5; ns = 1; kind = 2; names = 1 ∷ []; means = Some (defined_item 1 1) }
+    ∷ record { from = 3; ns = 0; kind = 2; names = 9 ∷ []; means = None }
     -- `crate` inside blocks: `crate::a`, `crate::f`; in the dependency its own root
-    ∷ record { from = 4; ns = 0; kind = 3; names = 0 ∷ []; means = some (module_item 1) }
-    ∷ record { from = 5; ns = 1; kind = 3; names = 1 ∷ []; means = some (defined_item 1 1) }
-    ∷ record { from = 8; ns = 1; kind = 3; names = 1 ∷ []; means = some (defined_item 1 8) }
+    ∷ record { from = 4; ns = 0; kind = 3; names = 0 ∷ []; means = Some (module_item 1) }
+    ∷ record { from = 5; ns = 1; kind = 3; names = 1 ∷ []; means = Some (defined_item 1 1) }
+    ∷ record { from = 8; ns = 1; kind = 3; names = 1 ∷ []; means = Some (defined_item 1 8) }
     -- the root's `a` hides the extern `a`, which `::a` means; in `a` nothing hides it
-    ∷ record { from = 0; ns = 0; kind = 0; names = 0 ∷ []; means = some (module_item 1) }
-    ∷ record { from = 4; ns = 0; kind = 0; names = 0 ∷ []; means = some (module_item 1) }
-    ∷ record { from = 0; ns = 0; kind = 4; names = 0 ∷ []; means = some (module_item 7) }
-    ∷ record { from = 1; ns = 0; kind = 0; names = 0 ∷ []; means = some (module_item 7) }
-    ∷ record { from = 0; ns = 1; kind = 4; names = 0 ∷ 1 ∷ []; means = some (defined_item 1 8) }
+    ∷ record { from = 0; ns = 0; kind = 0; names = 0 ∷ []; means = Some (module_item 1) }
+    ∷ record { from = 4; ns = 0; kind = 0; names = 0 ∷ []; means = Some (module_item 1) }
+    ∷ record { from = 0; ns = 0; kind = 4; names = 0 ∷ []; means = Some (module_item 7) }
+    ∷ record { from = 1; ns = 0; kind = 0; names = 0 ∷ []; means = Some (module_item 7) }
+    ∷ record { from = 0; ns = 1; kind = 4; names = 0 ∷ 1 ∷ []; means = Some (defined_item 1 8) }
     -- the extern `d` hides the prelude's; it is one in types alone, and of the first crate alone
-    ∷ record { from = 0; ns = 0; kind = 0; names = 10 ∷ []; means = some (module_item 7) }
-    ∷ record { from = 0; ns = 1; kind = 0; names = 10 ∷ 1 ∷ []; means = some (defined_item 1 8) }
-    ∷ record { from = 0; ns = 1; kind = 0; names = 10 ∷ []; means = none }
-    ∷ record { from = 0; ns = 1; kind = 4; names = 10 ∷ []; means = none }
-    ∷ record { from = 7; ns = 0; kind = 0; names = 10 ∷ []; means = none }
+    ∷ record { from = 0; ns = 0; kind = 0; names = 10 ∷ []; means = Some (module_item 7) }
+    ∷ record { from = 0; ns = 1; kind = 0; names = 10 ∷ 1 ∷ []; means = Some (defined_item 1 8) }
+    ∷ record { from = 0; ns = 1; kind = 0; names = 10 ∷ []; means = None }
+    ∷ record { from = 0; ns = 1; kind = 4; names = 10 ∷ []; means = None }
+    ∷ record { from = 7; ns = 0; kind = 0; names = 10 ∷ []; means = None }
     -- after a keyword neither externs nor the prelude: `crate::d`, `self::p`
-    ∷ record { from = 0; ns = 0; kind = 3; names = 10 ∷ []; means = none }
-    ∷ record { from = 0; ns = 1; kind = 1; names = 6 ∷ []; means = none }
+    ∷ record { from = 0; ns = 0; kind = 3; names = 10 ∷ []; means = None }
+    ∷ record { from = 0; ns = 1; kind = 1; names = 6 ∷ []; means = None }
     -- the prelude of the viewing module's map: the root's, the inner block's, and none of the outer block's
-    ∷ record { from = 0; ns = 1; kind = 0; names = 6 ∷ []; means = some (defined_item 1 9) }
-    ∷ record { from = 4; ns = 1; kind = 0; names = 6 ∷ []; means = some (defined_item 1 9) }
-    ∷ record { from = 2; ns = 1; kind = 0; names = 6 ∷ []; means = none }
+    ∷ record { from = 0; ns = 1; kind = 0; names = 6 ∷ []; means = Some (defined_item 1 9) }
+    ∷ record { from = 4; ns = 1; kind = 0; names = 6 ∷ []; means = Some (defined_item 1 9) }
+    ∷ record { from = 2; ns = 1; kind = 0; names = 6 ∷ []; means = None }
     -- An entry that is not visible ends it: `h` of the viewing module's own scope, which the scope rule of the search takes, though the prelude has
     -- one; `g` of the block, though the root has one; `a::g`; `d::t`. Elsewhere they are visible.
-    ∷ record { from = 0; ns = 1; kind = 0; names = 8 ∷ []; means = none }
-    ∷ record { from = 2; ns = 1; kind = 0; names = 4 ∷ []; means = none }
-    ∷ record { from = 0; ns = 1; kind = 0; names = 0 ∷ 4 ∷ []; means = none }
-    ∷ record { from = 0; ns = 1; kind = 0; names = 10 ∷ 7 ∷ []; means = none }
-    ∷ record { from = 1; ns = 1; kind = 3; names = 8 ∷ []; means = some (defined_item 1 1) }
-    ∷ record { from = 4; ns = 1; kind = 0; names = 4 ∷ []; means = some (defined_item 1 7) }
-    ∷ record { from = 1; ns = 1; kind = 1; names = 4 ∷ []; means = some (defined_item 1 6) }
-    ∷ record { from = 8; ns = 1; kind = 2; names = 7 ∷ []; means = some (defined_item 1 8) }
+    ∷ record { from = 0; ns = 1; kind = 0; names = 8 ∷ []; means = None }
+    ∷ record { from = 2; ns = 1; kind = 0; names = 4 ∷ []; means = None }
+    ∷ record { from = 0; ns = 1; kind = 0; names = 0 ∷ 4 ∷ []; means = None }
+    ∷ record { from = 0; ns = 1; kind = 0; names = 10 ∷ 7 ∷ []; means = None }
+    ∷ record { from = 1; ns = 1; kind = 3; names = 8 ∷ []; means = Some (defined_item 1 1) }
+    ∷ record { from = 4; ns = 1; kind = 0; names = 4 ∷ []; means = Some (defined_item 1 7) }
+    ∷ record { from = 1; ns = 1; kind = 1; names = 4 ∷ []; means = Some (defined_item 1 6) }
+    ∷ record { from = 8; ns = 1; kind = 2; names = 7 ∷ []; means = Some (defined_item 1 8) }
     -- a variant in types and values and not in macros, the first member of that name; none without a member, nor by one that is a function; nothing
     -- after it, nor after a struct
-    ∷ record { from = 0; ns = 0; kind = 0; names = 2 ∷ 3 ∷ []; means = some (defined_item 0 14) }
-    ∷ record { from = 4; ns = 1; kind = 0; names = 2 ∷ 3 ∷ []; means = some (defined_item 1 14) }
-    ∷ record { from = 0; ns = 2; kind = 0; names = 2 ∷ 3 ∷ []; means = none }
-    ∷ record { from = 0; ns = 0; kind = 0; names = 2 ∷ 5 ∷ []; means = none }
-    ∷ record { from = 0; ns = 1; kind = 0; names = 2 ∷ 1 ∷ []; means = none }
-    ∷ record { from = 0; ns = 1; kind = 0; names = 2 ∷ 3 ∷ 1 ∷ []; means = none }
-    ∷ record { from = 0; ns = 1; kind = 0; names = 7 ∷ 3 ∷ []; means = none }
+    ∷ record { from = 0; ns = 0; kind = 0; names = 2 ∷ 3 ∷ []; means = Some (defined_item 0 14) }
+    ∷ record { from = 4; ns = 1; kind = 0; names = 2 ∷ 3 ∷ []; means = Some (defined_item 1 14) }
+    ∷ record { from = 0; ns = 2; kind = 0; names = 2 ∷ 3 ∷ []; means = None }
+    ∷ record { from = 0; ns = 0; kind = 0; names = 2 ∷ 5 ∷ []; means = None }
+    ∷ record { from = 0; ns = 1; kind = 0; names = 2 ∷ 1 ∷ []; means = None }
+    ∷ record { from = 0; ns = 1; kind = 0; names = 2 ∷ 3 ∷ 1 ∷ []; means = None }
+    ∷ record { from = 0; ns = 1; kind = 0; names = 7 ∷ 3 ∷ []; means = None }
     -- a type and a value of one name; the block's value hides the value alone
-    ∷ record { from = 0; ns = 0; kind = 0; names = 7 ∷ []; means = some (defined_item 0 10) }
-    ∷ record { from = 0; ns = 1; kind = 0; names = 7 ∷ []; means = some (defined_item 1 11) }
-    ∷ record { from = 2; ns = 0; kind = 0; names = 7 ∷ []; means = some (defined_item 0 10) }
-    ∷ record { from = 2; ns = 1; kind = 0; names = 7 ∷ []; means = some (defined_item 1 12) }
+    ∷ record { from = 0; ns = 0; kind = 0; names = 7 ∷ []; means = Some (defined_item 0 10) }
+    ∷ record { from = 0; ns = 1; kind = 0; names = 7 ∷ []; means = Some (defined_item 1 11) }
+    ∷ record { from = 2; ns = 0; kind = 0; names = 7 ∷ []; means = Some (defined_item 0 10) }
+    ∷ record { from = 2; ns = 1; kind = 0; names = 7 ∷ []; means = Some (defined_item 1 12) }
     -- a macro beside a module; a module in types, by its number, and in values
-    ∷ record { from = 4; ns = 2; kind = 0; names = 0 ∷ []; means = some (defined_item 2 15) }
-    ∷ record { from = 2; ns = 0; kind = 0; names = 9 ∷ []; means = some (module_item 3) }
-    ∷ record { from = 2; ns = 1; kind = 0; names = 9 ∷ []; means = some (defined_item 1 13) }
+    ∷ record { from = 4; ns = 2; kind = 0; names = 0 ∷ []; means = Some (defined_item 2 15) }
+    ∷ record { from = 2; ns = 0; kind = 0; names = 9 ∷ []; means = Some (module_item 3) }
+    ∷ record { from = 2; ns = 1; kind = 0; names = 9 ∷ []; means = Some (defined_item 1 13) }
     -- a block's root that an entry names is a module like any other: `p::f`, and not outward `p::E`
-    ∷ record { from = 4; ns = 1; kind = 0; names = 6 ∷ 1 ∷ []; means = some (defined_item 1 2) }
-    ∷ record { from = 4; ns = 0; kind = 0; names = 6 ∷ 2 ∷ []; means = none }
+    ∷ record { from = 4; ns = 1; kind = 0; names = 6 ∷ 1 ∷ []; means = Some (defined_item 1 2) }
+    ∷ record { from = 4; ns = 0; kind = 0; names = 6 ∷ 2 ∷ []; means = None }
     -- no names
-    ∷ record { from = 0; ns = 0; kind = 0; names = []; means = none }
-    ∷ record { from = 0; ns = 0; kind = 4; names = []; means = none }
+    ∷ record { from = 0; ns = 0; kind = 0; names = []; means = None }
+    ∷ record { from = 0; ns = 0; kind = 4; names = []; means = None }
     ∷ []) ≡ true
 unfolding reads agrees alike head blocks reads_to parent_means absolutely plainly follow looked_in after later_name variant_in variant_named
     first_name entry_from in_prelude_of prelude_means in_externs extern_means extern_named entry_or meaning stands_for scopes_from outward

@@ -21,7 +21,7 @@ use Rattle.snapshot.proofs.Laws.{rows_snoc, rows_zero, rows_ext}
 use Rattle.check_rules.specs.Tests.{no_map}
 use Rattle.check_rules.specs.Steps.{judge}
 use Rattle.record_rules.specs.Stands.{own_of, Upto, Limited, Indexes, Stands, Answered}
-use Rattle.record_rules.specs.declared.judge.Step.TheVariants.{On}
+use Rattle.std.specs.Prelude.{Ok}
 use Rattle.record_rules.proofs.Judged.{Judged, judged_on}
 use Rattle.record_rules.proofs.Indexed.{Kept, Above, indexes_kept}
 
@@ -345,14 +345,14 @@ module _ (W A B : List ℕ) (k at : ℕ) (l : Layout) (ms : List Map) (st : Stan
 
     pub plain_on : {n next : ℕ} {a b c d e : Bool} → Judged n a b c d e → n ≡ 0 → word_count (one_more k l) ≡ next → next ≤ length W
         → (k ≡ 8 → l.definitions < definition_limit)
-        → Indexes W B (one_more k l) → Answered W B k next (judge a b c d e (add_at k W at (snap_with W A l ms))) (On (one_more k l))
+        → Indexes W B (one_more k l) → Answered W B k next (judge a b c d e (add_at k W at (snap_with W A l ms))) (Ok (one_more k l))
     plain_on j z place fits room index = judged_on j z plain_added (plain_stands place fits room index)
 
 -- and of one that has no chain and no mark either
 pub quiet_on : (W A : List ℕ) (k at : ℕ) (l : Layout) (ms : List Map) → Stands W A k at l ms
     → any (eqb k) (1 ∷ 2 ∷ 4 ∷ 5 ∷ 6 ∷ 8 ∷ 9 ∷ 11 ∷ []) ≡ false
     → {n next : ℕ} {a b c d e : Bool} → Judged n a b c d e → n ≡ 0 → word_count (one_more k l) ≡ next → next ≤ length W
-    → Answered W A k next (judge a b c d e (add_at k W at (snap_with W A l ms))) (On (one_more k l))
+    → Answered W A k next (judge a b c d e (add_at k W at (snap_with W A l ms))) (Ok (one_more k l))
 unfolding any
 quiet_on W A k at l ms st q j z place fits =
     let q1 = or_false _ _ q in

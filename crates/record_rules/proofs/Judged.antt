@@ -21,7 +21,7 @@ use Rattle.check_rules.specs.Tests.{same_extern, scope_defined, import_defined, 
 use Rattle.check_rules.specs.Tests.{member_defined, is_member, member_placed}
 use Rattle.check_rules.specs.Steps.{no, on, judge, judge_crate}
 use Rattle.record_rules.specs.Stands.{number_of, crate_number_of, same_by, counts_in, Stands, Answered}
-use Rattle.record_rules.specs.declared.judge.Step.TheVariants.{On}
+use Rattle.std.specs.Prelude.{Ok}
 
 -- the tests that follow a failed 33 do not matter
 number_same : (a b c d e c' d' : Bool) → (b ≡ true → c ≡ c') → (b ≡ true → d ≡ d') → number_of a b c d e ≡ number_of a b c' d' e
@@ -80,7 +80,7 @@ module _ {n : ℕ} {a b c d e : Bool} (j : Judged n a b c d e) where
   judged_no s z = judge_no a b c d e s j.is z
 
   pub judged_on : {W B : List ℕ} {k next : ℕ} {m : Layout} {ns : List Map} {t : Snapshot} → n ≡ 0 → snap_with W B m ns ≡ t → Stands W B k next m ns
-      → Answered W B k next (judge a b c d e t) (On m)
+      → Answered W B k next (judge a b c d e t) (Ok m)
   judged_on {ns = ns} {t = t} z q st = (ns, judge_on a b c d e t (judged_passes z) ∙ ap on (sym q), st)
 
 -- the same for a crate

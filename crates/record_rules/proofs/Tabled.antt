@@ -21,7 +21,7 @@ use Rattle.chains.specs.Chains.{name_key, linked, name_heads, name_links}
 use Rattle.check_rules.specs.Tests.{name_range, same_name, crate_range, is_edition}
 use Rattle.check_rules.specs.Steps.{no, on, name_step, crate_step, add_name, add_crate}
 use Rattle.record_rules.specs.Stands.{number_of, crate_number_of, own_from, own_of, Indexes, Stands, Answered}
-use Rattle.record_rules.specs.declared.judge.Step.TheVariants.{On}
+use Rattle.std.specs.Prelude.{Ok}
 use Rattle.record_rules.proofs.Judged.{Judged, judged, judged_no, judged_on, judged_passes, passes, crate_judge_no, crate_judge_on}
 use Rattle.record_rules.proofs.Judged.{CratePassed, crate_passes}
 use Rattle.record_rules.proofs.Indexed.{Early, early, set_above, name_stays, names_linked}
@@ -90,7 +90,7 @@ module _ (W A : List ℕ) (at : ℕ) (l : Layout) (ms : List Map) (st : Stands W
     pub name_on_lem : n ≡ 0 → area_limit ≤ length A → {text key : ℕ} {B : List ℕ} → text ≡ at + 1 + words_of (pay_of (get_or W at 0))
         → at + 1 + words_of (pay_of (get_or W at 0)) ≤ length W
         → key ≡ name_key (name_at W at) → B ≡ linked (set A l.names at) name_heads name_links key l.names
-        → Answered W B 1 (at + 1 + words_of (pay_of (get_or W at 0))) (name_step (snap_with W A l ms) (name_at W at)) (On (name_on l text))
+        → Answered W B 1 (at + 1 + words_of (pay_of (get_or W at 0))) (name_step (snap_with W A l ms) (name_at W at)) (Ok (name_on l text))
     unfolding name_step
     name_on_lem z large {text} {key} e fits ek eb =
         let next : ℕ = at + 1 + words_of (pay_of (get_or W at 0)) in
@@ -110,9 +110,9 @@ module _ (W A : List ℕ) (at : ℕ) (l : Layout) (ms : List Map) (st : Stands W
           externs = zl.externs;
         } in
         let ix = names_linked W A l at key st.index room large ek (name_on l next) zl y refl in
-        subst (λ b. Answered W b 1 next (name_step (snap_with W A l ms) (name_at W at)) (On (name_on l text))) (sym eb)
+        subst (λ b. Answered W b 1 next (name_step (snap_with W A l ms) (name_at W at)) (Ok (name_on l text))) (sym eb)
         (subst (λ t. Answered W (linked (set A l.names at) name_heads name_links key l.names) 1 next
-        (name_step (snap_with W A l ms) (name_at W at)) (On (name_on l t))) (sym e)
+        (name_step (snap_with W A l ms) (name_at W at)) (Ok (name_on l t))) (sym e)
         (judged_on name_number_lem z (name_added W A B at next l ms st room old new) (name_stands W A B at next l ms st room old new refl fits ix)))
 
 -- crates
@@ -176,7 +176,7 @@ module _ (W A : List ℕ) (at : ℕ) (l : Layout) (ms : List Map) (st : Stands W
         (ap (λ m. ltb m crate_limit) (sym (length_rows (λ k. crate_at W (crate_base l + crate_size * k)) l.crates)) ∙ (crate_passed z).room)
 
     pub crate_on : n ≡ 0 → area_limit ≤ length A → at + crate_size ≤ length W
-        → Answered W (set A (crate_table + l.crates) 0) 2 (at + crate_size) (crate_step (snap_with W A l ms) (crate_at W at)) (On (one_more 2 l))
+        → Answered W (set A (crate_table + l.crates) 0) 2 (at + crate_size) (crate_step (snap_with W A l ms) (crate_at W at)) (Ok (one_more 2 l))
     unfolding crate_step
     crate_on z large fits = (
       ms,

@@ -1,7 +1,8 @@
 -- What holds while the check goes on, and what a record's step answers. Only contracts and proofs cite it.
-use Rattle.std.specs.Prelude.{ℕ, ◌+◌, ◌-◌, ◌*◌, ◌≤◌, ◌<◌, ◌≡◌, List, [], ◌∷◌, Bool, true, false, ◌&&◌, ◌||◌, not, eqb, ltb, length, get_or}
+use Rattle.std.specs.Prelude.{ℕ, ◌+◌, ◌-◌, ◌*◌, ◌≤◌, ◌<◌, ◌≡◌, List, [], ◌∷◌, Bool, true, false, ◌&&◌, ◌||◌, not, eqb, ltb, length, get_or, Result, Ok, Err}
 use Rattle.snapshot.specs.Limits.{word_limit, crate_limit, module_limit, name_limit, definition_limit, area_limit}
 use Rattle.snapshot.specs.Refusals.{range_refusal, undefined_refusal, repeated_refusal, place_refusal, count_refusal, edition_refusal}
+use Rattle.snapshot.specs.Refusals.{refusal_number}
 use Rattle.snapshot.specs.Words.{pay_of, words_of}
 use Rattle.snapshot.specs.Sizes.{child_size, definition_size, scope_size, extern_size}
 use Rattle.snapshot.specs.Records.{Map, name_at, map_at}
@@ -12,8 +13,7 @@ use Rattle.chains.specs.Chains.{name_key, record_key, slot_of, Marked, Chained, 
 use Rattle.chains.specs.Chains.{scope_links, extern_links}
 use Rattle.check_rules.specs.Tests.{Counts, no_map, is_own}
 use Rattle.check_rules.specs.Steps.{Next, no, on}
-use Rattle.record_rules.specs.declared.judge.Step.{Step}
-use Rattle.record_rules.specs.declared.judge.Step.TheVariants.{No, On}
+use Rattle.snapshot.specs.declared.refusal.Refusal.{Refusal}
 
 -- the number of the first test that fails, or 0
 unfoldable pub number_of : Bool → Bool → Bool → Bool → Bool → ℕ
@@ -114,9 +114,9 @@ pub record Stands (W A : List ℕ) (k at : ℕ) (l : Layout) (ms : List Map) : T
   pub index : Indexes W A l
 
 -- the answer of a step on a record of kind k, where x is the step's definition; A is the area after it
-abbrev pub Answered : List ℕ → List ℕ → ℕ → ℕ → Next → Step → Type 0
-Answered W A k next x (No n) = x ≡ no n
-Answered W A k next x (On l) = (ms : List Map) × (x ≡ on (snap_with W A l ms)) × Stands W A k next l ms
+abbrev pub Answered : List ℕ → List ℕ → ℕ → ℕ → Next → Result Layout Refusal → Type 0
+Answered W A k next x (Err r) = x ≡ no (refusal_number r)
+Answered W A k next x (Ok l) = (ms : List Map) × (x ≡ on (snap_with W A l ms)) × Stands W A k next l ms
 
 -- the first n modules have their maps' first modules in the table; the other tables stay
 pub record Rooted (A₀ A : List ℕ) (n : ℕ) : Type 0 where

@@ -1,21 +1,22 @@
 //! The order of a crate's tests.
 ghost use Rattle.std.specs.Prelude.{◌≡◌};
+ghost use Rattle.snapshot.specs.Refusals.{fault_number};
 ghost use Rattle.record_rules.specs.Stands.{crate_number_of};
 
-use snapshot::refusal::CheckRefusal;
+use snapshot::refusal::Refusal;
 
-/// The number of the first test of a crate that fails, or 0.
-pub fn judge_crate(range: bool, edition: bool, room: bool) -> u32
-    ensures { result ≡ crate_number_of range edition room }
+/// Refused by the first test of a crate that fails.
+pub fn judge_crate(range: bool, edition: bool, room: bool) -> Result<(), Refusal>
+    ensures { fault_number result ≡ crate_number_of range edition room }
 {
     if !range {
-        return CheckRefusal::RANGE;
+        return Err(Refusal::Range);
     }
     if !edition {
-        return CheckRefusal::EDITION;
+        return Err(Refusal::Edition);
     }
     if !room {
-        return CheckRefusal::COUNT;
+        return Err(Refusal::Count);
     }
-    0
+    Ok(())
 }

@@ -1,35 +1,34 @@
-//! What one record of the check answers.
+//! The order of a record's tests.
 ghost use Rattle.std.specs.Prelude.{◌≡◌};
+ghost use Rattle.snapshot.specs.Refusals.{fault_number};
 ghost use Rattle.record_rules.specs.Stands.{number_of};
 
-use snapshot::layout::Layout;
-use snapshot::refusal::CheckRefusal;
+use snapshot::refusal::Refusal;
 
-/// A refusal, or the layout with the record.
-#[derive(Clone, Copy)]
-pub enum Step {
-    No(u32),
-    On(Layout),
-}
-
-/// The number of the first test that fails, or 0.
-pub fn judge(range: bool, defined: bool, repeated: bool, placed: bool, room: bool) -> u32
-    ensures { result ≡ number_of range defined repeated placed room }
+/// Refused by the first test that fails.
+pub fn judge(
+    range: bool,
+    defined: bool,
+    repeated: bool,
+    placed: bool,
+    room: bool,
+) -> Result<(), Refusal>
+    ensures { fault_number result ≡ number_of range defined repeated placed room }
 {
     if !range {
-        return CheckRefusal::RANGE;
+        return Err(Refusal::Range);
     }
     if !defined {
-        return CheckRefusal::UNDEFINED;
+        return Err(Refusal::Undefined);
     }
     if repeated {
-        return CheckRefusal::REPEATED;
+        return Err(Refusal::Repeated);
     }
     if !placed {
-        return CheckRefusal::PLACE;
+        return Err(Refusal::Place);
     }
     if !room {
-        return CheckRefusal::COUNT;
+        return Err(Refusal::Count);
     }
-    0
+    Ok(())
 }

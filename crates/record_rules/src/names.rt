@@ -10,12 +10,13 @@ ghost use Rattle.check_rules.specs.Tests.{text_bound, padded as padded_of, name_
 ghost use Rattle.check_rules.specs.Steps.{name_step};
 ghost use Rattle.record_rules.specs.Stands.{Ready, Stands, Answered};
 
-use crate::judge::{Step, judge};
+use crate::judge::judge;
 use chains::chain::{Chains, link};
 use chains::keys::name_key;
 use snapshot::ids::Name;
 use snapshot::kind::text_words;
 use snapshot::layout::Layout;
+use snapshot::refusal::Refusal;
 use snapshot::table::name_head;
 use snapshot::words::{field, payload, payload_of, word};
 
@@ -51,14 +52,12 @@ fn padded(words: &[u32], head: usize, bytes: usize, n: usize) -> bool
     ensures { result ≡ padded_of bytes (rows (λ i. get_or words.now (head + 1 + i) 0) 0 n) }
 {
     let mut b = bytes;
-    let mut i = 0;
-    while i < n {
+    for i in 0..n {
         let most = text_bound(b);
         if most <= field(words, head, 1 + i) {
             return false;
         }
         b = less(b);
-        i += 1;
     }
     true
 }
@@ -77,14 +76,12 @@ fn same_words(left: &[u32], a: usize, right: &[u32], b: usize, n: usize) -> bool
     requires { n < 2 ^ 32 }
     ensures { result ≡ eq_list (rows (λ i. get_or left.now (a + 1 + i) 0) 0 n) (rows (λ i. get_or right.now (b + 1 + i) 0) 0 n) }
 {
-    let mut i = 0;
-    while i < n {
+    for i in 0..n {
         let x = field(left, a, 1 + i);
         let y = field(right, b, 1 + i);
         if x != y {
             return false;
         }
-        i += 1;
     }
     true
 }
@@ -113,12 +110,10 @@ pub fn known(words: &[u32], at: usize, names: &[u32], heads: &[u32], n: usize) -
 {
     let size = text_words(payload(words, at));
     let last = payload_of(field(words, at, size));
-    let mut k = 0;
-    while k < n {
-        if same_text(words, at, names, heads[k] as usize, size, last) {
+    for head in &heads[..n] {
+        if same_text(words, at, names, *head as usize, size, last) {
             return true;
         }
-        k += 1;
     }
     false
 }
@@ -164,7 +159,7 @@ fn repeated(words: &[u32], at: usize, area: &[u32], n: usize, key: usize) -> boo
 }
 
 /// A name.
-pub fn step(words: &[u32], area: &mut [u32], l: Layout, at: usize) -> Step
+pub fn step(words: &[u32], area: &mut [u32], l: Layout, at: usize) -> Result<Layout, Refusal>
     requires { Ready words.now area.old l at (at + 1 + words_of (pay_of (get_or words.now at 0))) }
     ensures { (ms : List Map) → Stands words.now area.old 1 at l ms
         → Answered words.now area.new 1 (at + 1 + words_of (pay_of (get_or words.now at 0)))
@@ -174,14 +169,11 @@ pub fn step(words: &[u32], area: &mut [u32], l: Layout, at: usize) -> Step
     let range = in_range(words, at);
     let key = name_key(words, at);
     let old = repeated(words, at, area, names, key);
-    let n = judge(range, true, old, true, names < Name::LIMIT);
-    if n != 0 {
-        return Step::No(n);
-    }
+    judge(range, true, old, true, names < Name::LIMIT)?;
     area[names] = at as u32;
     link(area, Chains::NAME_HEADS, Chains::NAME_LINKS, key, names);
     let mut m = l;
     m.names = names + 1;
     m.text = at + 1 + text_words(payload(words, at));
-    Step::On(m)
+    Ok(m)
 }

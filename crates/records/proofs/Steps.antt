@@ -21,7 +21,7 @@ use Rattle.check_rules.specs.Tests.{scope_defined, same_entry, ns_placed, import
 use Rattle.check_rules.specs.Tests.{member_defined, is_member, member_placed}
 use Rattle.check_rules.specs.Steps.{no, dependency_step, child_step, prelude_step, definition_step, scope_step, import_step, extern_step, member_step}
 use Rattle.record_rules.specs.Stands.{number_of, same_by, counts_in, Stands, Answered}
-use Rattle.record_rules.specs.declared.judge.Step.TheVariants.{On}
+use Rattle.std.specs.Prelude.{Ok}
 use Rattle.record_rules.proofs.Grows.{one_more, plain_on, quiet_on}
 use Rattle.records.proofs.Linked.{Linked, module_small}
 use Rattle.record_rules.proofs.Judged.{Judged, judged, judged_no, judged_passes, counts_same, any_same, and_right, prelude_again, definition_again}
@@ -57,7 +57,7 @@ module _ (W A : List ℕ) (at : ℕ) (l : Layout) (ms : List Map) (st : Stands W
     dependency_no z = judged_no dependency_number _ z
 
     pub dependency_on : n ≡ 0 → at + dependency_size ≤ length W
-        → Answered W A 3 (at + dependency_size) (dependency_step (snap_with W A l ms) (dependency_at W at)) (On (one_more 3 l))
+        → Answered W A 3 (at + dependency_size) (dependency_step (snap_with W A l ms) (dependency_at W at)) (Ok (one_more 3 l))
     unfolding dependency_step any
     dependency_on z fits = quiet_on W A 3 at l ms st refl dependency_number z (let q = st.place in omega arith) fits
 
@@ -93,7 +93,7 @@ module _ (W A : List ℕ) (at : ℕ) (l : Layout) (ms : List Map) (st : Stands W
     child_no z = judged_no child_number _ z
 
     pub child_on : (B : List ℕ) → n ≡ 0 → at + child_size ≤ length W → Linked W A B (one_more 6 l)
-        → Answered W B 6 (at + child_size) (child_step (snap_with W A l ms) (child_at W at)) (On (one_more 6 l))
+        → Answered W B 6 (at + child_size) (child_step (snap_with W A l ms) (child_at W at)) (Ok (one_more 6 l))
     unfolding child_step
     child_on B z fits x = plain_on W A B 6 at l ms st x.kept refl refl refl refl child_number z (let q = st.place in omega arith)
         fits (λ h. absurd (omega arith)) x.index
@@ -121,7 +121,7 @@ module _ (W A : List ℕ) (at : ℕ) (l : Layout) (ms : List Map) (st : Stands W
     prelude_no z = judged_no prelude_number _ z
 
     pub prelude_on : n ≡ 0 → at + prelude_size ≤ length W
-        → Answered W A 7 (at + prelude_size) (prelude_step (snap_with W A l ms) (prelude_at W at)) (On (one_more 7 l))
+        → Answered W A 7 (at + prelude_size) (prelude_step (snap_with W A l ms) (prelude_at W at)) (Ok (one_more 7 l))
     unfolding prelude_step any
     prelude_on z fits = quiet_on W A 7 at l ms st refl prelude_number z (let q = st.place in omega arith) fits
 
@@ -166,7 +166,7 @@ module _ (W A : List ℕ) (at : ℕ) (l : Layout) (ms : List Map) (st : Stands W
     definition_no z = judged_no definition_number_lem _ z
 
     pub definition_on : (B : List ℕ) → n ≡ 0 → at + definition_size ≤ length W → Linked W A B (one_more 8 l)
-        → Answered W B 8 (at + definition_size) (definition_step (snap_with W A l ms) (definition_at W at)) (On (one_more 8 l))
+        → Answered W B 8 (at + definition_size) (definition_step (snap_with W A l ms) (definition_at W at)) (Ok (one_more 8 l))
     unfolding definition_step
     definition_on B z fits x =
         let room = ltb-true l.definitions definition_limit
@@ -202,7 +202,7 @@ module _ (W A : List ℕ) (at : ℕ) (l : Layout) (ms : List Map) (st : Stands W
     scope_no z = judged_no scope_number _ z
 
     pub scope_on : (B : List ℕ) → n ≡ 0 → at + scope_size ≤ length W → Linked W A B (one_more 9 l)
-        → Answered W B 9 (at + scope_size) (scope_step (snap_with W A l ms) (scope_at W at)) (On (one_more 9 l))
+        → Answered W B 9 (at + scope_size) (scope_step (snap_with W A l ms) (scope_at W at)) (Ok (one_more 9 l))
     unfolding scope_step
     scope_on B z fits x = plain_on W A B 9 at l ms st x.kept refl refl refl refl scope_number z (let q = st.place in omega arith)
         fits (λ h. absurd (omega arith)) x.index
@@ -231,7 +231,7 @@ module _ (W A : List ℕ) (at : ℕ) (l : Layout) (ms : List Map) (st : Stands W
     import_no z = judged_no import_number _ z
 
     pub import_on : n ≡ 0 → at + import_size ≤ length W → Answered W A 10 (at + import_size) (import_step (snap_with W A l ms) (import_at W at))
-        (On (one_more 10 l))
+        (Ok (one_more 10 l))
     unfolding import_step any
     import_on z fits = quiet_on W A 10 at l ms st refl import_number z (let q = st.place in omega arith) fits
 
@@ -258,7 +258,7 @@ module _ (W A : List ℕ) (at : ℕ) (l : Layout) (ms : List Map) (st : Stands W
     extern_no z = judged_no extern_number _ z
 
     pub extern_on : (B : List ℕ) → n ≡ 0 → at + extern_size ≤ length W → Linked W A B (one_more 11 l)
-        → Answered W B 11 (at + extern_size) (extern_step (snap_with W A l ms) (extern_at W at)) (On (one_more 11 l))
+        → Answered W B 11 (at + extern_size) (extern_step (snap_with W A l ms) (extern_at W at)) (Ok (one_more 11 l))
     unfolding extern_step
     extern_on B z fits x = plain_on W A B 11 at l ms st x.kept refl refl refl refl extern_number z (let q = st.place in omega arith)
         fits (λ h. absurd (omega arith)) x.index
@@ -285,6 +285,6 @@ module _ (W A : List ℕ) (at : ℕ) (l : Layout) (ms : List Map) (st : Stands W
     member_no z = judged_no member_number _ z
 
     pub member_on : n ≡ 0 → at + member_size ≤ length W → Answered W A 13 (at + member_size) (member_step (snap_with W A l ms) (member_at W at))
-        (On (one_more 13 l))
+        (Ok (one_more 13 l))
     unfolding member_step any
     member_on z fits = quiet_on W A 13 at l ms st refl member_number z (let q = st.place in omega arith) fits

@@ -9,9 +9,10 @@ ghost use Rattle.check_rules.specs.Steps.{child_step};
 ghost use Rattle.record_rules.specs.Stands.{Ready, Stands, Answered, counts_in};
 
 use chains::chain::Chains;
-use record_rules::judge::{Step, judge};
+use record_rules::judge::judge;
 use snapshot::layout::Layout;
 use snapshot::record::{child_child, child_owner};
+use snapshot::refusal::Refusal;
 use snapshot::table::{module_map, module_parent};
 use snapshot::words::word;
 
@@ -36,7 +37,7 @@ fn placed(words: &[u32], area: &[u32], at: usize) -> bool
 }
 
 /// A child.
-pub fn step(words: &[u32], area: &mut [u32], l: Layout, at: usize) -> Step
+pub fn step(words: &[u32], area: &mut [u32], l: Layout, at: usize) -> Result<Layout, Refusal>
     requires { Ready words.now area.old l at (at + child_size) }
     ensures { (ms : List Map) → Stands words.now area.old 6 at l ms
         → Answered words.now area.new 6 (at + child_size)
@@ -45,18 +46,15 @@ pub fn step(words: &[u32], area: &mut [u32], l: Layout, at: usize) -> Step
     let child = child_child(words, at);
     let mark = Chains::CHILD_MARKS + child.0;
     let old = word(area, mark) != 0;
-    let n = judge(
+    judge(
         true,
         defined(words, l, at),
         old,
         placed(words, area, at),
         true,
-    );
-    if n != 0 {
-        return Step::No(n);
-    }
+    )?;
     area[mark] = 1;
     let mut m = l;
     m.children = l.children + 1;
-    Step::On(m)
+    Ok(m)
 }

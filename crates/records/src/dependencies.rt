@@ -7,9 +7,10 @@ ghost use Rattle.check_rules.specs.Tests.{dependency_range, dependency_defined};
 ghost use Rattle.check_rules.specs.Steps.{dependency_step};
 ghost use Rattle.record_rules.specs.Stands.{Ready, Stands, Answered, counts_in};
 
-use record_rules::judge::{Step, judge};
+use record_rules::judge::judge;
 use snapshot::layout::Layout;
 use snapshot::record::{dependency_crate, dependency_owner, dependency_sysroot};
+use snapshot::refusal::Refusal;
 
 fn in_range(words: &[u32], at: usize) -> bool
     ensures { result ≡ dependency_range (dependency_at words.now at) }
@@ -26,23 +27,20 @@ fn defined(words: &[u32], l: Layout, at: usize) -> bool
 }
 
 /// A dependency.
-pub fn step(words: &[u32], area: &[u32], l: Layout, at: usize) -> Step
+pub fn step(words: &[u32], area: &[u32], l: Layout, at: usize) -> Result<Layout, Refusal>
     requires { Ready words.now area.now l at (at + dependency_size) }
     ensures { (ms : List Map) → Stands words.now area.now 3 at l ms
         → Answered words.now area.now 3 (at + dependency_size)
         (dependency_step (snap_with words.now area.now l ms) (dependency_at words.now at)) result }
 {
-    let n = judge(
+    judge(
         in_range(words, at),
         defined(words, l, at),
         false,
         true,
         true,
-    );
-    if n != 0 {
-        return Step::No(n);
-    }
+    )?;
     let mut m = l;
     m.dependencies = l.dependencies + 1;
-    Step::On(m)
+    Ok(m)
 }

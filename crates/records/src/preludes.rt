@@ -8,10 +8,11 @@ ghost use Rattle.check_rules.specs.Steps.{prelude_step};
 ghost use Rattle.record_rules.specs.Stands.{Ready, Stands, Answered, counts_in};
 
 use crate::repeats::repeated;
-use record_rules::judge::{Step, judge};
+use record_rules::judge::judge;
 use snapshot::kind::Size;
 use snapshot::layout::Layout;
 use snapshot::record::{prelude_map, prelude_target};
+use snapshot::refusal::Refusal;
 
 fn defined(words: &[u32], l: Layout, at: usize) -> bool
     ensures { result ≡ prelude_defined (counts_in l) (prelude_at words.now at) }
@@ -21,7 +22,7 @@ fn defined(words: &[u32], l: Layout, at: usize) -> bool
 }
 
 /// A prelude.
-pub fn step(words: &[u32], area: &[u32], l: Layout, at: usize) -> Step
+pub fn step(words: &[u32], area: &[u32], l: Layout, at: usize) -> Result<Layout, Refusal>
     requires { Ready words.now area.now l at (at + prelude_size) }
     ensures { (ms : List Map) → Stands words.now area.now 7 at l ms
         → Answered words.now area.now 7 (at + prelude_size)
@@ -36,11 +37,8 @@ pub fn step(words: &[u32], area: &[u32], l: Layout, at: usize) -> Step
         Size::PRELUDE,
         l.preludes,
     );
-    let n = judge(true, defined(words, l, at), old, true, true);
-    if n != 0 {
-        return Step::No(n);
-    }
+    judge(true, defined(words, l, at), old, true, true)?;
     let mut m = l;
     m.preludes = l.preludes + 1;
-    Step::On(m)
+    Ok(m)
 }

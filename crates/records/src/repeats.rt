@@ -53,13 +53,11 @@ pub fn repeated(
 {
     let last = low(words[at + fields]);
     let mut p = base + fields;
-    let mut k = 0;
-    while k < count {
+    for k in 0..count {
         if same(words, owner, fields, at, p, last) {
             return true;
         }
         p += size;
-        k += 1;
     }
     false
 }

@@ -1,80 +1,82 @@
 //! The work area: what the check leaves alone.
-ghost use Rattle.std.specs.Prelude.{◌≤◌};
-
-use crate::line::print_changed;
+use crate::outcome::Outcome;
 use accept::check::check;
 use std::io;
 
-fn fill(area: &mut [u32], w: u32) {
-    let mut i = 0;
-    while i < area.len() {
-        area[i] = w;
-        i += 1;
-    }
-}
-
-fn differs(a: u32, b: u32) -> usize
-    ensures { result ≤ 1 }
-{
-    if a == b {
-        return 0;
-    }
-    1
-}
-
-// How many words from a place on are not w.
-fn changed(area: &[u32], from: usize, w: u32) -> usize {
-    let mut n = 0;
-    let mut i = from;
-    while i < area.len() {
-        n += differs(area[i], w);
-        i += 1;
-    }
-    n
-}
+// What each word of an area is before a check.
+const FILL: u32 = 7;
 
 // An area of so many words, of which none may change from a place on.
-fn area_of(
-    rt: &impl Print,
-    name: &[u8],
+#[derive(Clone, Copy)]
+struct Case<'a> {
+    name: &'a str,
     size: usize,
-    from: usize,
-    words: &[u32],
-    area: &mut [u32],
-) -> io::Result<()> {
-    fill(area, 7);
-    if size <= area.len() {
-        let c = check(words, &mut area[..size]);
-        return print_changed(rt, name, c, changed(area, from, 7));
-    }
-    Ok(())
+    kept_from: usize,
+    words: &'a [u32],
 }
 
-fn run_small(rt: &impl Print, words: &[u32], area: &mut [u32]) -> io::Result<()> {
-    area_of(rt, b"area-0", 0, 0, words, area)?;
-    area_of(rt, b"area-16383", 16383, 0, words, area)
-}
-
-fn run_large(rt: &impl Print, words: &[u32], area: &mut [u32]) -> io::Result<()> {
-    area_of(rt, b"area-16384", 16384, 16384, words, area)?;
-    area_of(rt, b"area-16400", 16400, 16384, words, area)
+fn run_case(rt: &impl Print, case: Case, area: &mut [u32]) -> io::Result<()> {
+    area.fill(FILL);
+    let Some(part) = area.get_mut(..case.size) else {
+        return Ok(());
+    };
+    let name = case.name;
+    let outcome = Outcome(check(case.words, part));
+    println!(rt; "{name} {outcome}")?;
+    let changed = area
+        .iter()
+        .skip(case.kept_from)
+        .filter(|w| **w != FILL)
+        .count();
+    println!(rt; "{name} changed {changed}")
 }
 
 /// Areas that are too small, then large enough, with good words and with bad ones.
 pub fn run(rt: &impl Print, area: &mut [u32]) -> io::Result<()> {
-    let words = [
-        0x10000001u32,
-        0x61,
-        0x20000000,
-        2021,
-        0x40000000,
-        0,
-        0,
-        0x50000000,
-        0,
+    let good = &[
+        0x10000001, 0x61, 0x20000000, 2021, 0x40000000, 0, 0, 0x50000000, 0,
     ];
-    run_small(rt, &words, area)?;
-    run_large(rt, &words, area)?;
-    area_of(rt, b"area-16383-bad-words", 16383, 0, &words[..5], area)?;
-    area_of(rt, b"area-16400-bad-words", 16400, 16384, &words[..5], area)
+    let bad = &good[..5];
+    let cases = [
+        Case {
+            name: "area-0",
+            size: 0,
+            kept_from: 0,
+            words: good,
+        },
+        Case {
+            name: "area-16383",
+            size: 16383,
+            kept_from: 0,
+            words: good,
+        },
+        Case {
+            name: "area-16384",
+            size: 16384,
+            kept_from: 16384,
+            words: good,
+        },
+        Case {
+            name: "area-16400",
+            size: 16400,
+            kept_from: 16384,
+            words: good,
+        },
+        Case {
+            name: "area-16383-bad-words",
+            size: 16383,
+            kept_from: 0,
+            words: bad,
+        },
+        Case {
+            name: "area-16400-bad-words",
+            size: 16400,
+            kept_from: 16384,
+            words: bad,
+        },
+    ];
+    for case in cases {
+        run_case(rt, case, area)?;
+    }
+    Ok(())
 }

@@ -1,33 +1,26 @@
 //! Tests of the check: the cases of the stored list, then the work area. Prints a line a case.
 #![tactic(auto)]
 
-ghost use Rattle.std.specs.Prelude.{◌≡◌, length};
-
 mod area;
 mod cases;
-mod line;
+mod outcome;
 
 use std::io;
-use streams::read_input;
+use std::io::ErrorKind;
+use streams::read_as_far;
 
-fn list() -> [u8; 65536]
-    ensures { 65536 ≡ length result }
-{
-    [0; 65536]
-}
+// Bytes of the list, at most.
+const LIST: usize = 65536;
 
 // A few words more than a snapshot may have.
-fn space() -> [u32; 16400]
-    ensures { 16400 ≡ length result }
-{
-    [0; 16400]
-}
+const SPACE: usize = 16400;
 
 fn main(rt: HostRuntime) -> io::Result<()> {
-    let mut text = list();
-    let mut words = space();
-    let mut area = space();
-    let n = read_input(&rt, &mut text).count;
-    cases::run(&rt, &text[..n], &mut words, &mut area)?;
+    let alloc = rt.alloc();
+    let mut list = vec![in alloc; 0; LIST]?;
+    let mut area = vec![in alloc; 0; SPACE]?;
+    let n = read_as_far(&rt, &mut list);
+    let text = str::from_utf8(&list[..n]).map_err(|_| io::Error::from(ErrorKind::InvalidData))?;
+    cases::run(&rt, text, &mut area)?;
     area::run(&rt, &mut area)
 }

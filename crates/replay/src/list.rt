@@ -1,83 +1,54 @@
 //! The stored list: the length of an input, the input, the length of its lines, the lines, and so on to the end.
-ghost use Rattle.std.specs.Prelude.{◌≡◌, true, ◌≤◌, length};
-ghost use Rattle.snapshot.specs.Limits.{word_limit, area_limit, routed_limit};
-
-use crate::compare::same;
-use printing::input::word_in;
+use crate::space::Space;
+use std::alloc::AllocError;
 use std::io;
 use streams::read_input;
 
-// The next number, four bytes, the lowest first; past every length at the end.
-fn next_number(rt: &impl Input) -> usize {
-    let mut b = [0u8; 4];
-    let read = read_input(rt, &mut b);
-    if read.count < 4 {
-        return 4294967296;
+// Bytes of an input, and of its lines, at most.
+const INPUT: usize = 65600;
+
+const LINES: usize = 8192;
+
+// The next part of the list, after its length in four bytes, the lowest first; none at the end, or where it is too long.
+fn next_part(rt: &(impl Input + AllocGlobal), most: usize) -> Result<Option<Vec<u8>>, AllocError> {
+    let mut length = [0u8; 4];
+    let Ok(4) = read_input(rt, &mut length) else {
+        return Ok(None);
+    };
+    let n = u32::from_le_bytes(length) as usize;
+    if most < n {
+        return Ok(None);
     }
-    word_in(&b, 0) as usize
-}
-
-// Reads so many bytes to the front.
-fn read_part(rt: &impl Input, bytes: &mut [u8], n: usize) -> bool
-    ensures { result ≡ true → n ≤ length bytes.old }
-{
-    if bytes.len() < n {
-        return false;
+    let mut part = vec![in rt.alloc(); 0; n]?;
+    match read_input(rt, &mut part) {
+        Ok(count) if count == n => Ok(Some(part)),
+        _ => Ok(None),
     }
-    let read = read_input(rt, &mut bytes[..n]);
-    read.count == n
 }
 
-fn print_number(rt: &impl Print, n: usize, label: &str) -> io::Result<()> {
-    println!(rt; "{n}{label}")
-}
-
-// The next input: 0 its lines are as stored, 1 they differ, 2 there is none.
+// Whether the lines of the next input are as stored; none at the end.
 fn compare_next(
-    rt: &impl Input,
-    bytes: &mut [u8],
-    expected: &mut [u8],
-    space: &mut [u32],
-    area: &mut [u32],
-    out: &mut [u8],
-) -> usize
-    requires { (word_limit ≤ length space.old) × (area_limit ≡ length area.old) × (routed_limit ≤ length out.old) }
-{
-    let n = next_number(rt);
-    if !read_part(rt, bytes, n) {
-        return 2;
-    }
-    let m = next_number(rt);
-    if !read_part(rt, expected, m) {
-        return 2;
-    }
-    if same(&bytes[..n], &expected[..m], space, area, out) {
-        return 0;
-    }
-    1
+    rt: &(impl Input + AllocGlobal),
+    space: &mut Space,
+) -> Result<Option<bool>, AllocError> {
+    let Some(bytes) = next_part(rt, INPUT)? else {
+        return Ok(None);
+    };
+    let Some(lines) = next_part(rt, LINES)? else {
+        return Ok(None);
+    };
+    Ok(Some(space.prints(&bytes, &lines)))
 }
 
 /// Compares each input of the list, at most 100,000, and prints the places of those that differ, and how many there are.
-pub fn run(
-    rt: &(impl Input + Print),
-    bytes: &mut [u8],
-    expected: &mut [u8],
-    space: &mut [u32],
-    area: &mut [u32],
-    out: &mut [u8],
-) -> io::Result<()>
-    requires { (word_limit ≤ length space.old) × (area_limit ≡ length area.old) × (routed_limit ≤ length out.old) }
-{
-    let mut k = 0;
-    while k < 100000 {
-        let r = compare_next(rt, bytes, expected, space, area, out);
-        if r == 2 {
-            return print_number(rt, k, " inputs compared");
+pub fn run(rt: &(impl Input + Print + AllocGlobal)) -> io::Result<()> {
+    let mut space = Space::new(rt.alloc())?;
+    for k in 0..100_000 {
+        match compare_next(rt, &mut space)? {
+            Some(true) => {}
+            Some(false) => println!(rt; "{k}: differs")?,
+            None => return println!(rt; "{k} inputs compared"),
         }
-        if r == 1 {
-            print_number(rt, k, ": differs")?;
-        }
-        k += 1;
     }
     Ok(())
 }

@@ -9,6 +9,7 @@ use native.Mathlib.Nat.{add-zero}
 use borrow.Author.Tests.{lt-ltb, le-ltb, lt-leb, le-leb}
 use lib.ListN.{length, length-append, take-append-drop, get_or, set, take, drop}
 use lib.Seq.{take_at, drop_at, take-length, drop-drop}
+use Rattle.std.specs.Int.{from_bool}
 use Rattle.snapshot.specs.Records.{Snapshot}
 use Rattle.find_path.specs.declared.Found.{Found}
 use Rattle.find_path.specs.declared.Query.{Query}
@@ -18,6 +19,12 @@ use Rattle.find_path.specs.Charged.{Out, found_of}
 use Rattle.find_path.specs.Report.{flag, misleads, outcome_by, reported}
 use Rattle.reports.specs.Outcomes.{out_of}
 use Rattle.reports.specs.Written.{low, report_words, written_to, Written, report_size}
+
+-- a flag as a number
+pub flag_is : (b : Bool) → from_bool b ≡ flag b
+unfolding flag
+flag_is true = refl
+flag_is false = refl
 
 pub reported_same : (s : Snapshot) (q : Query) (f : Found) (m : Bool) (a e : ℕ) → m ≡ misleads s q f.choice → a ≡ outcome_by m f.choice.found
     → e ≡ flag f.meter.empty

@@ -2,20 +2,21 @@
 ghost use Rattle.std.specs.Prelude.{◌≡◌, map, ◌++◌, ◌+◌, ◌≤◌, length, take, drop};
 ghost use Rattle.snapshot.specs.Records.{Snapshot};
 ghost use Rattle.find_path.specs.declared.Query.{Query};
-ghost use Rattle.find_path.specs.Report.{flag as flag_of, misleads as misleads_in, outcome_by, refused as refused_of, reported as reported_of};
+ghost use Rattle.find_path.specs.Report.{misleads as misleads_in, outcome_by, refused as refused_of, reported as reported_of};
 ghost use Rattle.reports.specs.Outcomes.{out_of};
 ghost use Rattle.reports.specs.Written.{low as low_of, Written};
 
 use find_path::{Found, Outcome, Report};
 
 /// A refusal: all else is zero.
+// A number, since a report is words for C; 0 stands in a blank one.
 pub fn refused(number: usize) -> Report
     ensures { result ≡ refused_of number }
 {
     let names = [0usize; 16];
     let route = [0usize; 17];
     Report {
-        outcome: Outcome::REFUSED,
+        outcome: Outcome::Refused as usize,
         number: number,
         kind: 0,
         names: names,
@@ -29,19 +30,13 @@ pub fn refused(number: usize) -> Report
     }
 }
 
-fn flag(b: bool) -> usize
-    ensures { result ≡ flag_of b }
-{
-    if b { 1 } else { 0 }
-}
-
 fn outcome(misleads: bool, found: bool) -> usize
     ensures { result ≡ outcome_by misleads found }
 {
     if misleads {
-        return Outcome::MISLEADS;
+        return Outcome::Misleads as usize;
     }
-    flag(!found)
+    usize::from(!found)
 }
 
 /// What a search found and how, whether that misleads, what it was charged, and whether, and where first, it found the tank empty.
@@ -59,7 +54,7 @@ pub fn reported(f: Found, misleads: bool) -> Report
         names: names,
         count: c.count,
         charges: t.spent,
-        empty: flag(t.empty),
+        empty: usize::from(t.empty),
         left: t.left,
         sought: t.sought,
         route: route,
@@ -68,8 +63,7 @@ pub fn reported(f: Found, misleads: bool) -> Report
 }
 
 /// A number of words.
-#[derive(Clone, Copy)]
-pub struct ReportWords(pub usize);
+pub struct ReportWords;
 
 impl ReportWords {
     /// Words of a report.
@@ -89,10 +83,8 @@ fn put_words(out: &mut [u32], at: usize, numbers: &[usize])
     ensures { out.new ≡ take at out.old ++ (map low_of numbers.now ++ drop
         (at + length numbers.now) out.old) }
 {
-    let mut i = 0;
-    while i < numbers.len() {
-        out[at + i] = low(numbers[i]);
-        i += 1;
+    for (i, n) in numbers.iter().enumerate() {
+        out[at + i] = low(*n);
     }
 }
 

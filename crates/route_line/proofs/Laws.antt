@@ -5,7 +5,7 @@ use mathlib.Core.List.{List, [], ◌∷◌, ◌++◌, append_assoc, append-nil}
 use mathlib.Core.Bool.{true, false, ◌||◌}
 use native.Mathlib.Omega.{arith}
 use native.Mathlib.Numerals.{add-one}
-use lib.Dec.{eqb, lit≤}
+use lib.Dec.{eqb}
 use lib.ListN.{length, get_or, take}
 use lib.Seq.{take-suc}
 use Rattle.snapshot.specs.Limits.{area_limit}
@@ -13,11 +13,11 @@ use Rattle.snapshot.specs.Records.{Snapshot}
 use Rattle.snapshot.specs.Layouts.{snap_of}
 use Rattle.snapshot.specs.declared.layout.Layout.{Layout}
 use Rattle.check_rules.specs.Verdict.{refuse, verdict}
-use Rattle.accept.specs.Post.{Judged}
-use Rattle.accept.specs.declared.check.Checked.{Checked}
-use Rattle.accept.specs.declared.check.Checked.TheVariants.{Refused, Accepted}
+use Rattle.accept.specs.Post.{Checked, Judged}
+use Rattle.std.specs.Prelude.{Ok, Err}
+use Rattle.snapshot.specs.Refusals.{refusal_number}
+use Rattle.accept.specs.declared.check.Refused.{Refused}
 use Rattle.printing.specs.Output.{Put}
-use Rattle.wording.specs.Text.{choose}
 use Rattle.printing.proofs.Laws.{put_as}
 use Rattle.find_path.specs.declared.Question.{Question}
 use Rattle.find_path.specs.declared.Report.{Report}
@@ -28,28 +28,10 @@ use Rattle.checked.specs.Questioned.{Questioned}
 use Rattle.checked.proofs.Putting.{refusal_only}
 use Rattle.route_line.specs.Routed.{RoutedOn}
 
--- the names of the rules, chosen by their numbers, and none of them long
-pub rule_each : (n : ℕ) → n < 8
-    → (choose n 0 (bytes_of "builtin") (choose n 1 (bytes_of "scope") (choose n 2 (bytes_of "prelude") (choose n 3 (bytes_of "extern")
-    (choose n 4 (bytes_of "keyword") (choose n 5 (bytes_of "variant") (choose n 6 (bytes_of "local") (bytes_of "import")))))))
-    ≡ get_or rule_names n []) × (length (get_or rule_names n []) ≤ 7)
-unfolding choose
-rule_each zero h = (refl, lit≤ tt)
-rule_each (suc zero) h = (refl, lit≤ tt)
-rule_each (suc (suc zero)) h = (refl, lit≤ tt)
-rule_each (suc (suc (suc zero))) h = (refl, lit≤ tt)
-rule_each (suc (suc (suc (suc zero)))) h = (refl, lit≤ tt)
-rule_each (suc (suc (suc (suc (suc zero))))) h = (refl, lit≤ tt)
-rule_each (suc (suc (suc (suc (suc (suc zero)))))) h = (refl, lit≤ tt)
-rule_each (suc (suc (suc (suc (suc (suc (suc zero))))))) h = (refl, lit≤ tt)
-rule_each (suc (suc (suc (suc (suc (suc (suc (suc n)))))))) h = absurd (omega arith)
-
-pub rule_short : {n : ℕ} {text : List ℕ} → text ≡ get_or rule_names n [] → n < 8 → length text ≤ 7
-rule_short {n} e h = rw e (rule_each n h).1
-
-pub step_whole : (t : ℕ) → bytes_of " " ++ (get_or rule_names (t % 8) [] ++ (bytes_of "@" ++ decimal (t / 8))) ≡ bytes_of " " ++ step_text t
+pub step_whole : (t : ℕ) {rule : ℕ} → rule ≡ t % 8
+    → bytes_of " " ++ (get_or rule_names rule [] ++ (bytes_of "@" ++ decimal (t / 8))) ≡ bytes_of " " ++ step_text t
 unfolding step_text
-step_whole t = refl
+step_whole t e = ap (λ r. bytes_of " " ++ (get_or rule_names r [] ++ (bytes_of "@" ++ decimal (t / 8)))) e
 
 steps_snoc : (ts : List ℕ) (t : ℕ) → steps_text ts ++ (bytes_of " " ++ step_text t) ≡ steps_text (ts ++ (t ∷ []))
 unfolding steps_text
@@ -66,9 +48,6 @@ pub steps_next : (ts : List ℕ) (i : ℕ) → i < length ts → steps_text (tak
     ≡ steps_text (take (i + 1) ts)
 steps_next ts i h =
     steps_snoc (take i ts) (get_or ts i 0) ∙ ap steps_text (sym (take-suc ts i 0 h) ∙ ap (λ k. take k ts) (sym (add-one i)))
-
-pub steps_done : (ts : List ℕ) (i n : ℕ) → i ≤ n → n ≤ i → steps_text (take i ts) ≡ steps_text (take n ts)
-steps_done ts i n h k = let e : i ≡ n = omega arith in ap (λ j. steps_text (take j ts)) e
 
 -- the steps of a path that is found, and of no other
 
@@ -98,21 +77,21 @@ module _ (W : List ℕ) (q : Question) (A : List ℕ) (c : Checked) (r : Report)
   few_steps = let b = report_bounded W area_limit q in rw a.report (omega (arith, b.few, b.once))
 
   module _ (old new : List ℕ) (t : ℕ) where
-    pub routed_refused : (n place : ℕ) → c ≡ Refused n place
+    pub routed_refused : (f : Refused) → c ≡ Err f
         → ((s : Snapshot) (from : ℕ) → Put old 0 (line_in s from (refused r.number) ++ bytes_of "\n") new t) → RoutedOn W q c A old new t
     unfolding routed_line_of
-    routed_refused n place e p =
+    routed_refused f e p =
         let s : Snapshot = snapshot_of (verdict W) in
-        let v : verdict W ≡ refuse n place = sym (subst (λ (x : Checked). Judged W A x) e a.checked).same in
+        let v : verdict W ≡ refuse (refusal_number f.why) f.at = sym (subst (λ (x : Checked). Judged W A x) e a.checked).same in
         let u : refused r.number ≡ report_of W area_limit q = ap (λ (x : Report). refused x.number) a.report
-        ∙ sym (refusal_only W q n place v) in
+        ∙ sym (refusal_only W q (refusal_number f.why) f.at v) in
         record {
           line = put_as (ap (λ x. x ++ bytes_of "\n") (refused_routed s q.query.from.0 r.number ∙ ap (routed_line_in s q.query.from.0) u))
               (p s q.query.from.0);
           checked = a.checked;
         }
 
-    pub routed_accepted : (l : Layout) → c ≡ Accepted l → Put old 0 (routed_line_in (snap_of W A l) q.query.from.0 r ++ bytes_of "\n") new t
+    pub routed_accepted : (l : Layout) → c ≡ Ok l → Put old 0 (routed_line_in (snap_of W A l) q.query.from.0 r ++ bytes_of "\n") new t
         → RoutedOn W q c A old new t
     unfolding routed_line_of snapshot_of
     routed_accepted l e p =

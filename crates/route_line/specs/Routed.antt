@@ -1,7 +1,6 @@
 -- The line of a question with its route, on words that were checked.
 use Rattle.std.specs.Prelude.{ℕ, List, ◌++◌}
-use Rattle.accept.specs.Post.{Judged}
-use Rattle.accept.specs.declared.check.Checked.{Checked}
+use Rattle.accept.specs.Post.{Checked, Judged}
 use Rattle.printing.specs.Output.{Put}
 use Rattle.find_path.specs.declared.Question.{Question}
 use Rattle.find_path.specs.Line.{bytes_of, routed_line_of}

@@ -5,16 +5,17 @@ ghost use Rattle.accept.specs.Post.{Judged};
 ghost use Rattle.route_line.specs.Routed.{RoutedOn};
 
 use crate::route::put_routed;
-use accept::check::Checked;
+use accept::check::Refused;
 use checked::checked::report_on;
 use checked::lines::put_refusal;
 use find_path::Question;
+use snapshot::layout::Layout;
 
 /// Puts the line of a question on checked words with its route and its end at the front, and answers its length. The words stay checked.
 pub fn routed_line_on(
     words: &[u32],
     area: &mut [u32],
-    c: Checked,
+    c: Result<Layout, Refused>,
     question: Question,
     out: &mut [u8],
 ) -> usize
@@ -23,7 +24,7 @@ pub fn routed_line_on(
 {
     let r = report_on(words, area, c, question);
     match c {
-        Checked::Refused(_, _) => put_refusal(out, r.number),
-        Checked::Accepted(l) => put_routed(out, words, area, l, question.query.from, r),
+        Err(_) => put_refusal(out, r.number),
+        Ok(l) => put_routed(out, words, area, l, question.query.from, r),
     }
 }

@@ -4,19 +4,19 @@ ghost use Rattle.snapshot.specs.Limits.{routed_limit};
 ghost use Rattle.snapshot.specs.Layouts.{snap_of};
 ghost use Rattle.accept.specs.Post.{Reads};
 ghost use Rattle.printing.specs.Output.{Put};
+ghost use Rattle.path_choices.specs.StepRules.{rule_number};
 ghost use Rattle.find_path.specs.Line.{bytes_of, rule_names, step_text, steps_text, route_text, routed_line_in};
 
 use find_path::{Outcome, Report};
 use line::line::put_bare;
 use line::text::put_number;
+use path_choices::choices::StepRule;
 use printing::output::put;
 use snapshot::ids::ModuleId;
 use snapshot::layout::Layout;
-use wording::text::chosen;
 
 /// A number of bytes.
-#[derive(Clone, Copy)]
-pub struct RoutedBytes(pub usize);
+pub struct RoutedBytes;
 
 impl RoutedBytes {
     /// Bytes of a line with its route and its end, at most: the line, and 17 steps of a blank, a rule, `@` and a number.
@@ -24,19 +24,21 @@ impl RoutedBytes {
 }
 
 // Puts the name of a rule.
-fn put_rule(out: &mut [u8], at: usize, rule: u32) -> usize
-    requires { (at + 7 ≤ length out.old) × (rule < 8) }
-    ensures put { Put out.old at (get_or rule_names rule []) out.new result }
+fn put_rule(out: &mut [u8], at: usize, rule: StepRule) -> usize
+    requires { at + 7 ≤ length out.old }
+    ensures put { Put out.old at (get_or rule_names (rule_number rule) []) out.new result }
     ensures upper_bound { result ≤ at + 7 }
 {
-    let t = chosen(rule, 6, b"local", b"import");
-    let t = chosen(rule, 5, b"variant", t);
-    let t = chosen(rule, 4, b"keyword", t);
-    let t = chosen(rule, 3, b"extern", t);
-    let t = chosen(rule, 2, b"prelude", t);
-    let t = chosen(rule, 1, b"scope", t);
-    let t = chosen(rule, 0, b"builtin", t);
-    put(out, at, t)
+    match rule {
+        StepRule::Builtin => put(out, at, b"builtin"),
+        StepRule::Scope => put(out, at, b"scope"),
+        StepRule::Prelude => put(out, at, b"prelude"),
+        StepRule::Extern => put(out, at, b"extern"),
+        StepRule::Keyword => put(out, at, b"keyword"),
+        StepRule::Variant => put(out, at, b"variant"),
+        StepRule::Local => put(out, at, b"local"),
+        StepRule::Import => put(out, at, b"import"),
+    }
 }
 
 // Puts a step after a blank: its rule, and the offset of its record.
@@ -46,7 +48,7 @@ fn put_step(out: &mut [u8], at: usize, step: usize) -> usize
     ensures upper_bound { result ≤ at + 29 }
 {
     let a = put(out, at, b" ");
-    let b = put_rule(out, a, (step % 8) as u32);
+    let b = put_rule(out, a, StepRule::of_step(step));
     let c = put(out, b, b"@");
     put_number(out, c, step / 8)
 }
@@ -58,10 +60,8 @@ fn put_steps(out: &mut [u8], at: usize, route: &[usize], steps: usize) -> usize
     ensures upper_bound { result ≤ at + 493 }
 {
     let mut to = at;
-    let mut i = 0;
-    while i < steps {
-        to = put_step(out, to, route[i]);
-        i += 1;
+    for step in &route[..steps] {
+        to = put_step(out, to, *step);
     }
     to
 }
@@ -72,7 +72,7 @@ fn put_route(out: &mut [u8], at: usize, r: Report) -> usize
     ensures put { Put out.old at (route_text r) out.new result }
     ensures upper_bound { result ≤ at + 493 }
 {
-    let found = (r.outcome == Outcome::FOUND) | (r.outcome == Outcome::MISLEADS);
+    let found = (r.outcome == Outcome::Found as usize) | (r.outcome == Outcome::Misleads as usize);
     if !found {
         return at;
     }

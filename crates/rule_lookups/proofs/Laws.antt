@@ -2,7 +2,7 @@
 use Prim.Native.Nat.{ℕ}
 use mathlib.Core.Path.{◌≡◌, refl, sym, ◌∙◌, ap}
 use mathlib.Core.Bool.{Bool, true, false, ◌&&◌, ◌||◌, not, false≢true}
-use mathlib.Core.Option.{Option}
+use Rattle.std.specs.Prelude.{Option}
 use lib.Dec.{eqb}
 use Rattle.snapshot.specs.Records.{Snapshot, Scope}
 use Rattle.hir_def.specs.Items.{ns_of}
@@ -44,3 +44,7 @@ module _ (p : Scope → Bool) (e : Scope) (its : Bool) {d : Bool} (ed : d ≡ is
 
   pub fresh_yes : {t : Bool} → t ≡ p e → not its || d ≡ false → t ≡ (its && is_fresh p e)
   fresh_yes et h = et ∙ as_fresh its (is_deprecated e) (p e) (ap (λ y. not its || y) (sym ed) ∙ h)
+
+-- the fresh entries for an item are entries for it
+pub less_fresh : (q p : Scope → Bool) (y : Scope) → q y ≡ false → (q y && p y) ≡ false
+less_fresh q p y e = ap (λ b. b && p y) e

@@ -5,7 +5,7 @@ ghost use Rattle.std.specs.Prelude.{◌≡◌, List, true, ◌&&◌, ℕ, ◌<�
 ghost use Rattle.snapshot.specs.Records.{scope_at};
 ghost use Rattle.snapshot.specs.Layouts.{word_count, snap_of};
 ghost use Rattle.accept.specs.Post.{Reads};
-ghost use Rattle.hir_def.specs.ItemScope.{name_of, name_reads, is_fresh, preferred, preferred_reads};
+ghost use Rattle.hir_def.specs.ItemScope.{is_for, name_of, name_reads, is_fresh, preferred, preferred_reads};
 ghost use Rattle.hir_def.specs.Entries.{entry_of};
 ghost use Rattle.find_path.specs.declared.FindPathCtx.{FindPathCtx};
 ghost use Rattle.find_path.specs.Rules.{same_here, is_usable};
@@ -14,12 +14,11 @@ ghost use Rattle.rule_lookups.specs.Tests.{test_of};
 
 use find_path::FindPathCtx;
 use hir_def::items::{item_of, ns_of, same_item};
-use hir_def::{Entry, Item, Lookup};
-use item_scope::{is_declared, is_deprecated, is_for, kept, name_of};
+use hir_def::{Item, Lookup};
+use item_scope::{is_declared, is_deprecated, is_for, name_of, preferred};
 use nameres::entry_named;
 use path_context::context::sees;
 use snapshot::ids::ModuleId;
-use snapshot::kind::Size;
 use snapshot::layout::Layout;
 use snapshot::record::{scope_definition, scope_name, scope_ns, scope_visibility};
 
@@ -31,12 +30,12 @@ pub enum Rule {
 }
 
 // Whether an entry stands for the item, or there is none.
-fn same_here(words: &[u32], l: Layout, item: Item, e: Entry) -> bool
+fn same_here(words: &[u32], l: Layout, item: Item, e: Option<usize>) -> bool
     requires { word_count l < 2 ^ 32 }
     ensures { (A : List ℕ) (x : FindPathCtx) → result ≡ same_here (snap_of words.now A l) x item
         (entry_of scope_at words.now e) }
 {
-    let Entry::At(h) = e else {
+    let Some(h) = e else {
         return true;
     };
     let its = item_of(words, l, scope_ns(words, h), scope_definition(words, h));
@@ -94,21 +93,23 @@ fn passes(
     }
 }
 
-// Whether an entry that is the item's passes the tests of the rule and isn't deprecated.
+// Whether an entry is one of the module's for the item, passes the tests of the rule and isn't deprecated.
 fn is_fresh(
     words: &[u32],
     area: &[u32],
     l: Layout,
     x: FindPathCtx,
+    m: ModuleId,
     item: Item,
     rule: Rule,
-    its: bool,
     h: usize,
 ) -> bool
     requires { Reads words.now area.now l × (x.from.0 < l.modules) × (2 ≤ (scope_at words.now h).visibility
         → (scope_at words.now h).number < l.modules) }
-    ensures { result ≡ (its && is_fresh (test_of (snap_of words.now area.now l) x item rule) (scope_at words.now h)) }
+    ensures { result ≡ (is_for (snap_of words.now area.now l) m.0 item (scope_at words.now h)
+        && is_fresh (test_of (snap_of words.now area.now l) x item rule) (scope_at words.now h)) }
 {
+    let its = is_for(words, l, h, m, item);
     if !its | is_deprecated(words, h) {
         return false;
     }
@@ -133,23 +134,9 @@ fn fresh_of(
         × ((n : ℕ) → result.read ≡ preferred_reads true (snap_of words.now area.now l) m.0 item
         (test_of (snap_of words.now area.now l) x item rule) n) }
 {
-    let base = l.scope_base();
-    let mut first = Entry::Nothing;
-    let mut count = 0;
-    while count < l.scopes {
-        let h = base + Size::SCOPE * count;
-        count += 1;
-        let its = is_for(words, l, h, m, item);
-        if is_fresh(words, area, l, x, item, rule, its, h) {
-            return Lookup {
-                entry: Entry::At(h),
-                read: count,
-            };
-        }
-        first = kept(first, its, h);
-    }
-    let read = count;
-    Lookup { entry: first, read }
+    let its = |h| is_for(words, l, h, m, item);
+    let fresh = |h| is_fresh(words, area, l, x, m, item, rule, h);
+    preferred(l, its, fresh)
 }
 
 /// The first of the module's entries for the item; by options bit 32 the first that isn't deprecated and passes the tests of the rule, if

@@ -1,12 +1,13 @@
 //! An entry that comes in as words, a word a field in the order of a scope record: its tests, and its record.
 ghost use Rattle.std.specs.Prelude.{◌≡◌, List, true, false, ℕ, ◌≤◌, ◌<◌, length, get_or};
 ghost use Rattle.snapshot.specs.Limits.{word_limit};
+ghost use Rattle.snapshot.specs.Refusals.{fault_number};
 ghost use Rattle.snapshot.specs.Layouts.{word_count, snap_of};
 ghost use Rattle.check_rules.specs.Tests.{counts_of, scope_range, scope_defined, ns_placed};
 ghost use Rattle.record_rules.specs.Stands.{number_of, counts_in};
 ghost use Rattle.accept.specs.Post.{Reads};
 ghost use Rattle.edit_rules.specs.Entries.{entry_of, scope_words};
-ghost use Rattle.edit_rules.specs.Edits.{adding, add_number, edit_fault};
+ghost use Rattle.edit_rules.specs.Edits.{adding, edit_fault};
 
 use crate::places::entry_place;
 use item_records::definitions::ns_placed;
@@ -14,7 +15,7 @@ use record_rules::judge::judge;
 use snapshot::ids::{DefinitionId, Namespace, WordCount};
 use snapshot::kind::Size;
 use snapshot::layout::Layout;
-use snapshot::refusal::CheckRefusal;
+use snapshot::refusal::Refusal;
 use snapshot::words::word;
 
 fn in_range(entry: &[u32]) -> bool
@@ -41,10 +42,10 @@ fn defined(l: Layout, entry: &[u32]) -> bool
     named & ((visibility != 1) | (number < l.crates)) & ((visibility <= 1) | (number < l.modules))
 }
 
-// The number by which a scope record of the entry would be refused, but for a repeated one, or 0.
-fn entry_number(words: &[u32], l: Layout, entry: &[u32]) -> u32
+// Why a scope record of the entry would be refused, but for a repeated one.
+fn entry_fault(words: &[u32], l: Layout, entry: &[u32]) -> Result<(), Refusal>
     requires { word_count l ≤ word_limit }
-    ensures { (A : List ℕ) → result ≡ number_of (scope_range (entry_of entry.now))
+    ensures { (A : List ℕ) → fault_number result ≡ number_of (scope_range (entry_of entry.now))
         (scope_defined (counts_of (snap_of words.now A l)) (entry_of entry.now)) false
         (ns_placed (snap_of words.now A l) (entry_of entry.now).ns (entry_of entry.now).definition) true }
 {
@@ -54,28 +55,12 @@ fn entry_number(words: &[u32], l: Layout, entry: &[u32]) -> u32
     judge(in_range(entry), defined(l, entry), false, placed, true)
 }
 
-// The first of the numbers of an entry, of a name that is there already, and of an entry that has no room.
-fn add_number(entry: u32, there: bool, room: bool) -> u32
-    ensures { result ≡ add_number entry there room }
-{
-    if entry != 0 {
-        return entry;
-    }
-    if there {
-        return CheckRefusal::ENTRY;
-    }
-    if !room {
-        return CheckRefusal::ROOM;
-    }
-    0
-}
-
-/// The number by which the addition of an entry to an accepted snapshot is refused, or 0; the snapshot stands in a slice of so many
-/// words.
-pub fn add_fault(words: &[u32], l: Layout, entry: &[u32], slice: usize) -> u32
+/// Why the addition of an entry to an accepted snapshot is refused: by its own fields, by a name that is there already, or for want
+/// of room; the snapshot stands in a slice of so many words.
+pub fn add_fault(words: &[u32], l: Layout, entry: &[u32], slice: usize) -> Result<(), Refusal>
     requires { (word_count l ≡ length words.now) × (length words.now ≤ word_limit) }
     ensures { (A : List ℕ) → Reads words.now A l
-        → result ≡ edit_fault (snap_of words.now A l) (length words.now) slice (adding (entry_of entry.now)) }
+        → fault_number result ≡ edit_fault (snap_of words.now A l) (length words.now) slice (adding (entry_of entry.now)) }
 {
     let owner = word(entry, 0);
     let ns = word(entry, 1);
@@ -83,8 +68,14 @@ pub fn add_fault(words: &[u32], l: Layout, entry: &[u32], slice: usize) -> u32
     let there = entry_place(words, owner, ns, name) < words.len();
     let count = words.len() + Size::SCOPE;
     let room = (count <= WordCount::SNAPSHOT) & (count <= slice);
-    let number = entry_number(words, l, entry);
-    add_number(number, there, room)
+    entry_fault(words, l, entry)?;
+    if there {
+        return Err(Refusal::Entry);
+    }
+    if !room {
+        return Err(Refusal::Room);
+    }
+    Ok(())
 }
 
 /// The record of an entry.

@@ -12,11 +12,7 @@ fn move_up(words: &mut [u32], at: usize, count: usize)
     ensures { words.new ≡ take (at + scope_size) words.old ++ (drop at (take count words.old)
         ++ drop (count + scope_size) words.old) }
 {
-    let mut i = count;
-    while at < i {
-        i -= 1;
-        words[i + Size::SCOPE] = words[i];
-    }
+    words.copy_within(at..count, at + Size::SCOPE);
 }
 
 // Writes a record over the words at a place.
@@ -24,11 +20,7 @@ fn put_record(words: &mut [u32], at: usize, added: &[u32])
     requires { (at + scope_size ≤ length words.old) × (length added.now ≡ scope_size) }
     ensures { words.new ≡ take at words.old ++ (added.now ++ drop (at + scope_size) words.old) }
 {
-    let mut i = 0;
-    while i < Size::SCOPE {
-        words[at + i] = added[i];
-        i += 1;
-    }
+    words[at..at + Size::SCOPE].copy_from_slice(added);
 }
 
 /// Puts a record in at a place of the first words, so many, and clears the words past them.
@@ -47,11 +39,7 @@ fn move_down(words: &mut [u32], at: usize, count: usize)
     requires { (at + scope_size ≤ count) × (count ≤ length words.old) }
     ensures { words.new ≡ cut at scope_size (take count words.old) ++ drop (count - scope_size) words.old }
 {
-    let mut i = at;
-    while i + Size::SCOPE < count {
-        words[i] = words[i + Size::SCOPE];
-        i += 1;
-    }
+    words.copy_within(at + Size::SCOPE..count, at);
 }
 
 /// Takes the record at a place out of the first words, so many, and clears the words past them.

@@ -14,7 +14,7 @@ pub fn scopes_end(words: &[u32]) -> usize
 {
     let mut at = 0;
     while at < words.len() {
-        if Kind::SCOPE < kind(words, at) {
+        if kind(words, at) > Kind::Scope as usize {
             return at;
         }
         at = at + 1 + arguments(words, at);
@@ -26,7 +26,7 @@ pub fn scopes_end(words: &[u32]) -> usize
 fn is_entry(words: &[u32], at: usize, owner: usize, ns: usize, name: usize) -> bool
     ensures { result ≡ is_entry (is_named owner ns name) words.now at }
 {
-    let scope = kind(words, at) == Kind::SCOPE;
+    let scope = kind(words, at) == Kind::Scope as usize;
     let holder = scope_owner(words, at);
     let called = scope_name(words, at);
     scope & ((owner == holder.0) & (ns == scope_ns(words, at)) & (name == called.0))

@@ -1,14 +1,16 @@
 -- The laws of the chains.
 use Prim.Native.Nat.{ℕ, zero, suc, ◌+◌, ◌-◌, ◌*◌, ◌≤◌, ◌<◌}
 use mathlib.Core.Path.{◌≡◌, refl, sym, ap, subst, ◌∙◌}
-use mathlib.Core.List.{List}
+use mathlib.Core.List.{List, ◌++◌}
 use mathlib.Core.Bool.{Bool, true, false}
-use mathlib.Core.Option.{Option, none, some}
+use Rattle.std.specs.Prelude.{Option, None, Some}
 use native.Mathlib.Omega.{arith}
 use native.Mathlib.Nat.{add-zero}
+use borrow.Rule.Slice.PartMut.{put_mid}
+use Rattle.std.proofs.lemmas.Slice.{take-put_mid_below}
 use lib.Dec.{eqb}
-use lib.ListN.{length, set, take, length-set}
-use lib.Seq.{get_or-set_same, get_or-set_other, take-set-le}
+use lib.ListN.{length, get_or, set, take, drop, replicate, length-set, length-replicate, get_or-append, get_or-replicate}
+use lib.Seq.{get_or-set_same, get_or-set_other, take-set-le, get_or-append-add, length-take-le}
 use borrow.Author.Tests.{eqb-true, eqb-false, ne_eqb}
 use Rattle.snapshot.specs.Limits.{module_limit, area_limit}
 use Rattle.snapshot.specs.Lists.{rows}
@@ -67,18 +69,17 @@ pub first_next : (W A : List ℕ) (l : Layout) (m j : ℕ) → Indexed W l 0 A �
 first_next W A l m j x h o e = subst (First W l m (j + 1)) (sym e) (subst (λ z. First W l z (j + 1) (link_at A j)) o (x.links j (omega arith) h))
 
 -- clearing
-module _ (A₀ : List ℕ) (end n : ℕ) (A : List ℕ) (v : Cleared A₀ end n A) where
-  pub cleared_next : n < module_limit → length A ≡ area_limit → Cleared A₀ end (n + 1) (set A (index_at + n) end)
-  cleared_next h size =
-      record {
-        none = λ m o.
-            by_same m n (λ e. ap (λ z. head_at (set A (index_at + n) end) z) e ∙ get_or-set_same A (index_at + n) end 0 (omega arith))
-            (λ e. get_or-set_other A (index_at + n) (index_at + m) end 0 (λ q. e (omega arith)) ∙ v.none m (omega arith));
-        below = take-set-le index_at A (index_at + n) end (omega arith) ∙ v.below;
-      }
-
-pub cleared_start : (A : List ℕ) (end : ℕ) → Cleared A end 0 A
-cleared_start A end = record { none = λ m h. absurd (omega arith); below = refl }
+pub cleared_all : (A ys : List ℕ) (end n k j : ℕ) → k ≡ n → j ≡ n → ys ≡ replicate j end → index_at + n ≤ length A → Cleared A end n (put_mid index_at k A ys)
+cleared_all A ys end n k j q p e h =
+    let R = drop k (drop index_at A) in
+    let l : length (take index_at A) ≡ index_at = length-take-le index_at A (omega arith) in
+    record {
+      none = λ m o.
+          ap (λ j. get_or (take index_at A ++ (ys ++ R)) (j + m) 0) (sym l) ∙ get_or-append-add (take index_at A) (ys ++ R) m 0
+          ∙ ap (λ z. get_or (z ++ R) m 0) (e ∙ ap (λ i. replicate i end) p) ∙ get_or-append (replicate n end) R 0 m (simp length-replicate o)
+          ∙ get_or-replicate n m end 0 o;
+      below = take-put_mid_below index_at k A ys index_at (omega arith) (omega arith);
+    }
 
 -- no record is chained yet
 pub made_start : (W A₀ : List ℕ) (l : Layout) (A : List ℕ) → Cleared A₀ l.scopes l.modules A → Made W A₀ l l.scopes A
@@ -194,10 +195,10 @@ module _ (W A : List ℕ) (l : Layout) (p : Scope → Bool) (whole : Option Scop
       ahead_next u q z e = ahead_first (link_first e) (first_miss p (entry_at W l) whole v l.scopes a.same h u q z)
 
   module _ {v : ℕ} (a : Ahead W l p whole m v) where
-    pub ahead_hit : {y : Scope} {t : Bool} → v < l.scopes → y ≡ entry_at W l v → t ≡ p y → t ≡ true → some y ≡ whole
+    pub ahead_hit : {y : Scope} {t : Bool} → v < l.scopes → y ≡ entry_at W l v → t ≡ p y → t ≡ true → Some y ≡ whole
     ahead_hit h u q z = first_hit p (entry_at W l) whole v l.scopes a.same h u q z
 
-    pub ahead_done : l.scopes ≤ v → none ≡ whole
+    pub ahead_done : l.scopes ≤ v → None ≡ whole
     ahead_done h = first_none p (entry_at W l) whole v l.scopes a.same h
 
 -- the first record from k on

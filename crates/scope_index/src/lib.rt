@@ -12,7 +12,7 @@ ghost use Rattle.hir_def.specs.Entries.{entry_of, NextOf};
 ghost use Rattle.scope_index.specs.Index.{First, Follows, Indexed, Sized};
 ghost use Rattle.scope_index.specs.Post.{Cleared, Made};
 
-use hir_def::{Entry, Item, Next};
+use hir_def::{Item, Place};
 use item_scope::{is_for, is_module_entry};
 use snapshot::ids::ModuleId;
 use snapshot::kind::Size;
@@ -22,8 +22,7 @@ use snapshot::words::word;
 
 /// Where the chains stand: a word a module, its first record, and then a word a record, the next one of its module. The number of all records
 /// ends a chain.
-#[derive(Clone, Copy)]
-pub struct Index(pub usize);
+pub struct Index;
 
 impl Index {
     pub const AT: usize = 4672;
@@ -38,11 +37,7 @@ fn clear_heads(area: &mut [u32], count: usize, end: usize)
     requires { (length area.old ≡ area_limit) × (count ≤ module_limit) × (end < 2 ^ 32) }
     ensures { Cleared area.old end count area.new }
 {
-    let mut m = 0;
-    while m < count {
-        area[Index::AT + m] = end as u32;
-        m += 1;
-    }
+    area[Index::AT..Index::AT + count].fill(end as u32);
 }
 
 // The record k goes to the front of its module's chain.
@@ -63,15 +58,13 @@ pub fn index_scopes(words: &[u32], area: &mut [u32], l: Layout)
     ensures { Made words.now area.old l 0 area.new }
 {
     clear_heads(area, l.modules, l.scopes);
-    let mut k = l.scopes;
-    while 0 < k {
-        k -= 1;
+    for k in (0..l.scopes).rev() {
         link(words, area, l, k);
     }
 }
 
 /// The first of the module's entries for the item.
-pub fn name_in(words: &[u32], area: &[u32], l: Layout, m: ModuleId, item: Item) -> Entry
+pub fn name_in(words: &[u32], area: &[u32], l: Layout, m: ModuleId, item: Item) -> Option<usize>
     requires { Sized words.now l × (m.0 < l.modules) × Indexed words.now l 0 area.now }
     ensures { entry_of scope_at words.now result ≡ name_of (snap_of words.now area.now l) m.0 item }
 {
@@ -80,11 +73,11 @@ pub fn name_in(words: &[u32], area: &[u32], l: Layout, m: ModuleId, item: Item) 
     while k < l.scopes {
         let h = base + Size::SCOPE * k;
         if is_for(words, l, h, m, item) {
-            return Entry::At(h);
+            return Some(h);
         }
         k = word(area, Index::LINKS + k);
     }
-    Entry::Nothing
+    None
 }
 
 // The first record of the module from the record k on, where k is 0 or follows one of its records.
@@ -102,7 +95,7 @@ fn first_from(area: &[u32], l: Layout, k: usize, m: ModuleId) -> usize
 }
 
 /// The next of the module's entries for a module in types, from the entry number k on, where k is 0 or follows one of its entries.
-pub fn modules_from(words: &[u32], area: &[u32], l: Layout, k: usize, m: ModuleId) -> Next
+pub fn modules_from(words: &[u32], area: &[u32], l: Layout, k: usize, m: ModuleId) -> Option<Place>
     requires { Sized words.now l × (k ≤ l.scopes) × Follows words.now l m.0 k × Indexed words.now l 0 area.now }
     ensures { (A : List ℕ) → NextOf (is_module_entry (snap_of words.now A l) m.0) scope_at scope_size
         words.now (scope_base l) l.scopes k result }
@@ -112,9 +105,9 @@ pub fn modules_from(words: &[u32], area: &[u32], l: Layout, k: usize, m: ModuleI
     while j < l.scopes {
         let h = base + Size::SCOPE * j;
         if is_module_entry(words, l, h, m) {
-            return Next::Record(j, h);
+            return Some(Place { number: j, head: h });
         }
         j = word(area, Index::LINKS + j);
     }
-    Next::End
+    None
 }

@@ -4,7 +4,7 @@ use Prim.Native.Nat.{ℕ, zero, suc, ◌+◌, ◌*◌, ◌≤◌, ◌<◌}
 use native.Mathlib.Omega.{arith}
 use mathlib.Core.List.{List, [], ◌∷◌}
 use mathlib.Core.Bool.{Bool, true, false, ◌&&◌, false≢true}
-use mathlib.Core.Option.{Option, none, some}
+use Rattle.std.specs.Prelude.{Option, None, Some}
 use lib.Dec.{eqb}
 use lib.ListN.{length}
 use borrow.Author.Tests.{eq-eqb, ne_eqb, eqb-true}
@@ -67,29 +67,29 @@ number (Def n d) = d.0
 
 -- the definition of a variant
 module _ (s : Snapshot) where
-  pub variant_module : {item : Item} {m : ℕ} → item ≡ module_item m → none ≡ variant_of s item
+  pub variant_module : {item : Item} {m : ℕ} → item ≡ module_item m → None ≡ variant_of s item
   unfolding variant_of
   variant_module e = sym (ap (variant_of s) e)
 
   pub variant_yes : {item : Item} {n d k : ℕ} {y : Definition} → item ≡ defined_item n d → y ≡ definition_of s d → k ≡ y.kind
-      → k ≡ 2 → some y ≡ variant_of s item
+      → k ≡ 2 → Some y ≡ variant_of s item
   unfolding variant_of
   variant_yes {d = d} e h g k =
       let u : eqb (definition_of s d).kind 2 ≡ true = eq-eqb _ _ (ap (λ (z : Definition). z.kind) (sym h) ∙ sym g ∙ k) in
-      rw (e, variant_of, u) (ap some h)
+      rw (e, variant_of, u) (ap Some h)
 
-  pub variant_no : {item : Item} {n d k : ℕ} → item ≡ defined_item n d → k ≡ (definition_of s d).kind → (k ≡ 2 → ⊥) → none ≡ variant_of s item
+  pub variant_no : {item : Item} {n d k : ℕ} → item ≡ defined_item n d → k ≡ (definition_of s d).kind → (k ≡ 2 → ⊥) → None ≡ variant_of s item
   unfolding variant_of
   variant_no {d = d} e g k =
       let u : eqb (definition_of s d).kind 2 ≡ false = ne_eqb _ _ (λ z. k (g ∙ z)) in
       rw (e, variant_of, u)
 
-  variant_of_def : (n d : ℕ) (v : Definition) → variant_of s (defined_item n d) ≡ some v → ((definition_of s d).kind ≡ 2) × (v ≡ definition_of s d)
+  variant_of_def : (n d : ℕ) (v : Definition) → variant_of s (defined_item n d) ≡ Some v → ((definition_of s d).kind ≡ 2) × (v ≡ definition_of s d)
   unfolding variant_of
   variant_of_def n d v e =
       by_test (eqb (definition_of s d).kind 2)
-      (λ t. let f : some (definition_of s d) ≡ some v = rw (t, variant_of) at e in let g : v ≡ definition_of s d = cc in (eqb-true _ _ t, g))
-      (λ t. let f : none ≡ some v = rw (t, variant_of) at e in let z : ◌≡◌ {A = ℕ} 0 1 = cc in absurd (omega arith))
+      (λ t. let f : Some (definition_of s d) ≡ Some v = rw (t, variant_of) at e in let g : v ≡ definition_of s d = cc in (eqb-true _ _ t, g))
+      (λ t. let f : None ≡ Some v = rw (t, variant_of) at e in let z : ◌≡◌ {A = ℕ} 0 1 = cc in absurd (omega arith))
 
   number_item : (n d : ℕ) → number (item_of s n d) ≤ d
   number_item n d =
@@ -105,11 +105,11 @@ module _ (s : Snapshot) where
       (λ t. subst (λ (y : Item). ns_of y ≤ 2) (item_other s n d refl t) h)
 
   -- an item of kind 4 is no variant
-  other_none : (d : ℕ) → (definition_of s d).kind ≡ 4 → variant_of s (item_of s 0 d) ≡ none
+  other_none : (d : ℕ) → (definition_of s d).kind ≡ 4 → variant_of s (item_of s 0 d) ≡ None
   other_none d k =
       by_test (eqb 0 0 && eqb (definition_of s d).kind 1)
       (λ t. let q : (definition_of s d).kind ≡ 1 = eqb-true (definition_of s d).kind 1 t in absurd (omega (arith, q, k)))
-      (λ t. subst (λ (y : Item). variant_of s y ≡ none) (item_other s 0 d refl t)
+      (λ t. subst (λ (y : Item). variant_of s y ≡ None) (item_other s 0 d refl t)
       (sym (variant_no refl refl (λ (z : (definition_of s d).kind ≡ 2). omega (arith, z, k)))))
 
 -- what acceptance gives a variant
@@ -130,7 +130,7 @@ module _ (W A : List ℕ) (l : Layout) (r : Reads W A l) where
   enum_no_variant (Def n d) h v e =
       let q = variant_of_def S n.0 d.0 v e in
       let w = enum_before d.0 h q.0 in
-      subst (λ (y : Definition). variant_of S (item_of S 0 y.first) ≡ none) (sym q.1) (other_none S (definition_of S d.0).first w.1)
+      subst (λ (y : Definition). variant_of S (item_of S 0 y.first) ≡ None) (sym q.1) (other_none S (definition_of S d.0).first w.1)
 
   -- the enum of a variant: its place, its number, its name
   pub record Parent (item : Item) (v : Definition) : Type 0 where
@@ -138,9 +138,9 @@ module _ (W A : List ℕ) (l : Layout) (r : Reads W A l) where
     pub falls : number (item_of S 0 v.first) < number item
     pub name : v.second < l.names
     pub place : v.place < word_limit
-    pub plain : variant_of S (item_of S 0 v.first) ≡ none
+    pub plain : variant_of S (item_of S 0 v.first) ≡ None
 
-  pub parent_of : (item : Item) (v : Definition) → Known l item → some v ≡ variant_of S item → Parent item v
+  pub parent_of : (item : Item) (v : Definition) → Known l item → Some v ≡ variant_of S item → Parent item v
   unfolding variant_of
   parent_of (Mod m) v h e = let z : ◌≡◌ {A = ℕ} 0 1 = cc in absurd (omega arith)
   parent_of (Def n d) v h e =
@@ -213,17 +213,17 @@ module _ (s : Snapshot) (x : FindPathCtx) where
     unfolding by_name
     name_via f v h = ap via h ∙ sym (enum_no _ _ (ap (λ (y : Choice). y.found) (sym e) ∙ f))
 
-    pub name_plain : c.found ≡ false → none ≡ variant_of s item → best_path s x x.max_len item t ≡ names s x item t
+    pub name_plain : c.found ≡ false → None ≡ variant_of s item → best_path s x x.max_len item t ≡ names s x item t
     unfolding via_enum
-    name_plain f h = name_via f none h
+    name_plain f h = name_via f None h
 
     abbrev pub parent : Definition → Out Tank
     parent v = items s x (item_of s 0 v.first) t
 
-    enum_of : (v : Definition) → c.found ≡ false → some v ≡ variant_of s item
+    enum_of : (v : Definition) → c.found ≡ false → Some v ≡ variant_of s item
         → after_enum Tank from_tank s x (best_local s x) (modules s x) item v (parent v) (parent v).choice.found ≡ names s x item t
     unfolding via_enum
-    enum_of v f h = name_via f (some v) h
+    enum_of v f h = name_via f (Some v) h
 
     with_name : (v : Definition) (o : Out Tank) (b : Bool) → b ≡ true
         → record { choice = push_variant s o.choice v; meter = o.meter } ≡ after_enum Tank from_tank s x (best_local s x) (modules s x) item v o b
@@ -237,29 +237,29 @@ module _ (s : Snapshot) (x : FindPathCtx) where
     without v o true k = absurd (false≢true (sym k))
     without v o false k = refl
 
-    pub enum_found : (v : Definition) {o : Found} → c.found ≡ false → some v ≡ variant_of s item → o ≡ found_of (parent v) → o.choice.found ≡ true
+    pub enum_found : (v : Definition) {o : Found} → c.found ≡ false → Some v ≡ variant_of s item → o ≡ found_of (parent v) → o.choice.found ≡ true
         → found (push_variant s o.choice v) o.meter ≡ found_of (names s x item t)
     enum_found v f h g k =
         ap (λ (y : Found). found (push_variant s y.choice v) y.meter) g
         ∙ ap found_of (with_name v (parent v) _ (ap (λ (y : Found). y.choice.found) (sym g) ∙ k) ∙ enum_of v f h)
 
-    pub enum_none : (v : Definition) {o : Found} → c.found ≡ false → some v ≡ variant_of s item → o ≡ found_of (parent v) → o.choice.found ≡ false
+    pub enum_none : (v : Definition) {o : Found} → c.found ≡ false → Some v ≡ variant_of s item → o ≡ found_of (parent v) → o.choice.found ≡ false
         → best_path s x x.max_len item o.meter ≡ names s x item t
     enum_none v f h g k =
         ap (λ (y : Found). best_path s x x.max_len item y.meter) g
         ∙ without v (parent v) _ (ap (λ (y : Found). y.choice.found) (sym g) ∙ k) ∙ enum_of v f h
 
   -- an item that is no variant has as many names at most as the limit
-  module _ (item : Item) (t : Tank) (h : variant_of s item ≡ none) (some-limit : 0 < x.max_len) where
+  module _ (item : Item) (t : Tank) (h : variant_of s item ≡ None) (some-limit : 0 < x.max_len) where
     best_short : Fits s x.max_len (best_path s x x.max_len item t).choice
     best_short = best_within Tank from_tank s x (best_local s x) (best_local_fits s x) (modules s x) (module_search_fits Tank from_tank s x)
         x.max_len some-limit item t
 
     via_short : (v : Option Definition)
-        → v ≡ none → Fits s x.max_len (via_enum Tank from_tank s x (best_local s x) (modules s x) (items s x) item t v).choice
+        → v ≡ None → Fits s x.max_len (via_enum Tank from_tank s x (best_local s x) (modules s x) (items s x) item t v).choice
     unfolding via_enum
-    via_short none e = best_short
-    via_short (some v) e = let z : ◌≡◌ {A = ℕ} 0 1 = cc in absurd (omega arith)
+    via_short None e = best_short
+    via_short (Some v) e = let z : ◌≡◌ {A = ℕ} 0 1 = cc in absurd (omega arith)
 
     enum_short : (c : Choice) (b : Bool) → Fits s x.max_len c
         → Fits s x.max_len (or_enum Tank from_tank s x (best_local s x) (modules s x) (items s x) item t c b).choice
@@ -281,12 +281,12 @@ module _ (s : Snapshot) (x : FindPathCtx) where
         (module_search_fits Tank from_tank s x x.max_len m t)
       where
         no_enum : EnumNoVariant s item
-        no_enum v k = let z : none ≡ some v = sym h ∙ k in let c : ◌≡◌ {A = ℕ} 0 1 = cc in absurd (omega arith)
+        no_enum v k = let z : None ≡ Some v = sym h ∙ k in let c : ◌≡◌ {A = ℕ} 0 1 = cc in absurd (omega arith)
     by_straight zero e =
         subst (λ (o : Out Tank). Fits s x.max_len o.choice) (inner_by_name item t no_enum e) names_short
       where
         no_enum : EnumNoVariant s item
-        no_enum v k = let z : none ≡ some v = sym h ∙ k in let c : ◌≡◌ {A = ℕ} 0 1 = cc in absurd (omega arith)
+        no_enum v k = let z : None ≡ Some v = sym h ∙ k in let c : ◌≡◌ {A = ℕ} 0 1 = cc in absurd (omega arith)
 
     pub plain_fits : Fits s x.max_len (items s x item t).choice
     plain_fits = by_straight _ refl

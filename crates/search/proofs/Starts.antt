@@ -4,7 +4,7 @@ use Prim.Native.Nat.{ℕ, zero, suc, ◌+◌, ◌<◌, ◌^◌}
 use native.Mathlib.Omega.{arith}
 use mathlib.Core.List.{List, [], ◌∷◌}
 use mathlib.Core.Bool.{Bool, true, false, ◌&&◌}
-use mathlib.Core.Option.{none, some}
+use Rattle.std.specs.Prelude.{None, Some}
 use lib.Dec.{eqb}
 use borrow.Author.Tests.{eqb-true}
 use Rattle.snapshot.specs.Limits.{word_limit}
@@ -51,7 +51,7 @@ straight_known l false (Def n d) {m} e h = let z : 0 ≡ suc m = e in absurd (om
 
 -- the path of an enum can be offered with a name
 pub enum_offered : (W A : List ℕ) (l : Layout) (x : FindPathCtx) (i : Item) (t : Tank) (r : Found) → Prepared W A l x
-    → variant_of (snap_of W A l) i ≡ none → r ≡ found_of (items (snap_of W A l) x i t) → Offered r.choice
+    → variant_of (snap_of W A l) i ≡ None → r ≡ found_of (items (snap_of W A l) x i t) → Offered r.choice
 enum_offered W A l x i t r a h e =
     let q = plain_fits (snap_of W A l) x i t h a.some in
     let f = q.few in
@@ -75,7 +75,7 @@ tank_stays s x i t r e h =
 -- a variant by its enum, and else by itself
 module _ {W A₀ B : List ℕ} {l : Layout} {x : FindPathCtx} (p : Prepared W A₀ l x) (item : Item) (t : Tank) {c : Choice}
     (e : c ≡ first_found (scope_rule (snap_of W A₀ l) x item ∷ prelude_rule (snap_of W A₀ l) x item ∷ [])) (f : c.found ≡ false)
-    (v : Definition) (h : some v ≡ variant_of (snap_of W A₀ l) item) {i : Item} (g : i ≡ item_of (snap_of W A₀ l) 0 v.first) {o : Found}
+    (v : Definition) (h : Some v ≡ variant_of (snap_of W A₀ l) item) {i : Item} (g : i ≡ item_of (snap_of W A₀ l) 0 v.first) {o : Found}
     (d : Searched A₀ (items (snap_of W A₀ l) x i t) B o) where
   parent_same : o ≡ found_of (items (snap_of W A₀ l) x (item_of (snap_of W A₀ l) 0 v.first) t)
   parent_same = d.same ∙ ap (λ (y : Item). found_of (items (snap_of W A₀ l) x y t)) g

@@ -18,13 +18,13 @@ ghost use Rattle.search.specs.Parts.{names};
 
 use charged_search::{calculate_best_path, find_path_for_module};
 use find_path::{Choice, FindPathCtx, Found, Query, Tank};
+use hir_def::Item;
 use hir_def::items::{definition_head, home_of, item_of, kind_of};
-use hir_def::{Entry, Item};
 use path_rules::choices::{StepRule, nothing, step_by};
 use path_rules::context::{context, module_in};
 use path_rules::rules::{prelude_rule, scope_rule};
 use search_parts::straight_of;
-use snapshot::ids::{DefinitionId, DefinitionKind, Name, Namespace, OptModule};
+use snapshot::ids::{DefinitionId, DefinitionKind, Name, Namespace};
 use snapshot::layout::Layout;
 use snapshot::record::{definition_first, definition_kind, definition_second};
 
@@ -46,18 +46,18 @@ fn named(words: &[u32], area: &[u32], l: Layout, x: FindPathCtx, item: Item) -> 
 }
 
 // The place of the item's definition, if it is a variant.
-fn variant_of(words: &[u32], l: Layout, item: Item) -> Entry
+fn variant_of(words: &[u32], l: Layout, item: Item) -> Option<usize>
     requires { word_count l < 2 ^ 32 }
     ensures { (A : List ℕ) → entry_of definition_at words.now result ≡ variant_of (snap_of words.now A l) item }
 {
     let Item::Def(_, d) = item else {
-        return Entry::Nothing;
+        return None;
     };
     let h = definition_head(words, l, d);
-    if definition_kind(words, h) == DefinitionKind::VARIANT {
-        return Entry::At(h);
+    if definition_kind(words, h) == Some(DefinitionKind::Variant) {
+        return Some(h);
     }
-    Entry::Nothing
+    None
 }
 
 // A variant's name, with its definition at a place, after the path of its enum.
@@ -66,7 +66,7 @@ fn push_variant(words: &[u32], area: &[u32], l: Layout, c: Choice, n: Name, h: u
         × (h < word_limit) }
     ensures { result ≡ push_of (snap_of words.now area.now l) c n.0 (step_by via_variant h) }
 {
-    let via = step_by(StepRule::VARIANT, h);
+    let via = step_by(StepRule::Variant, h);
     c.push(words, area, l, n, via)
 }
 
@@ -77,7 +77,7 @@ fn builtin_choice(words: &[u32], area: &[u32], l: Layout, d: DefinitionId) -> Ch
         (definition_of (snap_of words.now area.now l) d.0) }
 {
     let h = definition_head(words, l, d);
-    let via = step_by(StepRule::BUILTIN, h);
+    let via = step_by(StepRule::Builtin, h);
     Choice::new(words, area, l, 0, Name(definition_first(words, h)), via)
 }
 
@@ -95,7 +95,7 @@ pub fn find_path_inner(
     ensures { Searched area.old (search_item Tank from_tank (snap_of words.now area.old l) x item t)
         area.new result }
 {
-    let OptModule::Module(m) = straight_of(x.is_std_item, item) else {
+    let Some(m) = straight_of(x.is_std_item, item) else {
         return find_by_name(words, area, l, x, item, t);
     };
     find_path_for_module(words, area, l, x, x.max_len, m, t)
@@ -121,7 +121,7 @@ fn find_by_name(
             meter: t,
         };
     }
-    let Entry::At(h) = variant_of(words, l, item) else {
+    let Some(h) = variant_of(words, l, item) else {
         return calculate_best_path(words, area, l, x, x.max_len, item, t);
     };
     let parent = item_of(
@@ -156,7 +156,9 @@ pub fn find_path(words: &[u32], area: &mut [u32], l: Layout, q: Query, fuel: usi
         left: 0,
         sought: 0,
     };
-    if (q.ns == Namespace::TYPES) & (kind_of(words, l, q.definition) == DefinitionKind::BUILTIN) {
+    if (q.ns == Namespace::TYPES)
+        & (kind_of(words, l, q.definition) == Some(DefinitionKind::Builtin))
+    {
         let choice = builtin_choice(words, area, l, q.definition);
         return Found {
             choice: choice,
@@ -164,7 +166,7 @@ pub fn find_path(words: &[u32], area: &mut [u32], l: Layout, q: Query, fuel: usi
         };
     }
     let item = item_of(words, l, q.ns, q.definition);
-    let OptModule::Module(home) = home_of(words, l, item) else {
+    let Some(home) = home_of(words, l, item) else {
         let choice = nothing();
         return Found {
             choice: choice,

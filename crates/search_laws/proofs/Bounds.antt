@@ -4,7 +4,7 @@ use Prim.Native.Nat.{ℕ, zero, suc, ◌+◌, ◌*◌, ◌≤◌, ◌<◌}
 use native.Mathlib.Omega.{arith}
 use mathlib.Core.List.{List, [], ◌∷◌, ◌++◌}
 use mathlib.Core.Bool.{Bool, true, false, ◌||◌, not}
-use mathlib.Core.Option.{Option, none, some}
+use Rattle.std.specs.Prelude.{Option, None, Some}
 use lib.ListN.{length, get_or, replicate, set, length-set}
 use lib.Seq.{get_or-set_other}
 use Rattle.snapshot.specs.Limits.{path_limit}
@@ -181,8 +181,8 @@ module _ (s : Snapshot) (x : FindPathCtx) where
   -- the rules without a search give a name at most
   single_fits : (l kind rule : ℕ) (o : Option Scope) → Fits s (suc l) (single s x kind rule o)
   unfolding single
-  single_fits l kind rule none = nothing_fits (suc l)
-  single_fits l kind rule (some e) = new_fits s l kind e.name _
+  single_fits l kind rule None = nothing_fits (suc l)
+  single_fits l kind rule (Some e) = new_fits s l kind e.name _
 
   pub scope_fits : (l : ℕ) (item : Item) → Fits s (suc l) (scope_rule s x item)
   unfolding scope_rule
@@ -195,8 +195,8 @@ module _ (s : Snapshot) (x : FindPathCtx) where
 
   extern_fits : (l m : ℕ) (e : Option Extern) → Fits s (suc l) (extern_name s x m e)
   unfolding extern_name
-  extern_fits l m none = nothing_fits (suc l)
-  extern_fits l m (some e) = new_fits s l _ _ _
+  extern_fits l m None = nothing_fits (suc l)
+  extern_fits l m (Some e) = new_fits s l _ _ _
 
   root_fits : (l : ℕ) (b : Bool) (m : ℕ) → Fits s (suc l) (root_rule s x b m)
   unfolding root_rule
@@ -208,8 +208,8 @@ module _ (s : Snapshot) (x : FindPathCtx) where
 
   keyword_of_fits : (l : ℕ) (k : Option ℕ) → Fits s (suc l) (keyword_of s x k)
   unfolding keyword_of
-  keyword_of_fits l none = nothing_fits (suc l)
-  keyword_of_fits l (some k) = either_fits (suc l) (not (eqb x.prefix by_crate) || eqb k crate_path) _ _ (keyword_fits (suc l) k)
+  keyword_of_fits l None = nothing_fits (suc l)
+  keyword_of_fits l (Some k) = either_fits (suc l) (not (eqb x.prefix by_crate) || eqb k crate_path) _ _ (keyword_fits (suc l) k)
       (nothing_fits (suc l))
 
   pub rules_fit : (l : ℕ) (b : Bool) (m : ℕ) → Fits s (suc l) (module_rules s x b m)
@@ -227,8 +227,8 @@ module _ (s : Snapshot) (x : FindPathCtx) where
     pub location_fits : (l : ℕ) (ls : List Level) (best : Choice) (m : ℕ) (a : Option Scope) → Fits s (suc l) best
         → Fits s (suc l) (location s x rec (suc l) ls best m a)
     unfolding location offer_entry
-    location_fits l ls best m none f = f
-    location_fits l ls best m (some e) f =
+    location_fits l ls best m None f = f
+    location_fits l ls best m (Some e) f =
         offer_fits _ (suc l) best _ e.name _ (length_falls (suc l) _ (omega arith)) f (fits _ ls m)
 
     pub each_fits : (l : ℕ) (ls : List Level) (item : Item) (done : List ℕ) (best : Choice) (ms : List ℕ) → Fits s (suc l) best
@@ -341,8 +341,8 @@ module _ (M : Type 0) (charge : Charge M) (s : Snapshot) where
 
       via_fits : (item : Item) (t : M) (v : Option Definition) → Fits s (suc n) (via_enum M charge s x here rec inner item t v).choice
       unfolding via_enum
-      via_fits item t none = item_best item t
-      via_fits item t (some v) = enum_fits item v _ _ (within (item_of s types v.first) t)
+      via_fits item t None = item_best item t
+      via_fits item t (Some v) = enum_fits item v _ _ (within (item_of s types v.first) t)
 
       named_fits : (item : Item) (t : M) (c : Choice) (b : Bool) → Fits s (suc n) c
           → Fits s (suc n) (or_enum M charge s x here rec inner item t c b).choice

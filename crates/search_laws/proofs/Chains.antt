@@ -4,7 +4,7 @@ use Prim.Native.Nat.{ℕ, zero, suc, ◌≤◌}
 use native.Mathlib.Omega.{arith}
 use native.Mathlib.Decide.{dec_le}
 use mathlib.Core.List.{List, [], ◌∷◌}
-use mathlib.Core.Option.{none, some}
+use Rattle.std.specs.Prelude.{None, Some}
 use lib.Dec.{eqb}
 use lib.ListN.{length}
 use borrow.Author.Tests.{eqb-true}
@@ -24,12 +24,12 @@ use Rattle.find_path.specs.Search.{best_local, search_module, search_item}
 use Rattle.search_laws.proofs.Unfold.{EnumNoVariant, inner_more}
 
 module _ (W : List ℕ) (s : Snapshot) (e : verdict W ≡ accept s) where
-  kind_two : (ns d : ℕ) (v : Definition) → variant_of s (defined_item ns d) ≡ some v → ((definition_of s d).kind ≡ 2) × (definition_of s d ≡ v)
+  kind_two : (ns d : ℕ) (v : Definition) → variant_of s (defined_item ns d) ≡ Some v → ((definition_of s d).kind ≡ 2) × (definition_of s d ≡ v)
   unfolding variant_of
   kind_two ns d v q =
       by_test (eqb (definition_of s d).kind 2)
-      (λ t. let f : some (definition_of s d) ≡ some v = rw (variant_of, t) at q in (eqb-true (definition_of s d).kind 2 t, cc))
-      (λ t. let f : none ≡ some v = rw (variant_of, t) at q in let z : ◌≡◌ {A = ℕ} 0 1 = cc in absurd (omega arith))
+      (λ t. let f : Some (definition_of s d) ≡ Some v = rw (variant_of, t) at q in (eqb-true (definition_of s d).kind 2 t, cc))
+      (λ t. let f : None ≡ Some v = rw (variant_of, t) at q in let z : ◌≡◌ {A = ℕ} 0 1 = cc in absurd (omega arith))
 
   get_d_past : (ds : List Definition) (d : ℕ) → length ds ≤ d → definition_in ds d ≡ no_definition
   get_d_past [] d h = refl
@@ -45,13 +45,13 @@ module _ (W : List ℕ) (s : Snapshot) (e : verdict W ≡ accept s) where
       ]
 
   -- a definition of kind 4 is no module and no variant
-  four_no_variant : (d : ℕ) → (definition_of s d).kind ≡ 4 → variant_of s (item_of s types d) ≡ none
+  four_no_variant : (d : ℕ) → (definition_of s d).kind ≡ 4 → variant_of s (item_of s types d) ≡ None
   unfolding item_of variant_of
   four_no_variant d k = rw (item_of, k, variant_of, k)
 
-  module_no_variant : (m : ℕ) (v : Definition) → variant_of s (module_item m) ≡ some v → ⊥
+  module_no_variant : (m : ℕ) (v : Definition) → variant_of s (module_item m) ≡ Some v → ⊥
   unfolding variant_of
-  module_no_variant m v q = let f : none ≡ some v = q in let z : ◌≡◌ {A = ℕ} 0 1 = cc in omega arith
+  module_no_variant m v q = let f : None ≡ Some v = q in let z : ◌≡◌ {A = ℕ} 0 1 = cc in omega arith
 
   -- The parent of a variant is no variant.
   pub enum_no_variant : (item : Item) → EnumNoVariant s item

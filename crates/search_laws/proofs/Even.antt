@@ -5,7 +5,7 @@ use native.Mathlib.Omega.{arith}
 use mathlib.Core.List.{List, [], ◌∷◌, ◌++◌}
 use mathlib.Core.Bool.{Bool, true, false, ◌||◌, true≢false, false≢true}
 use mathlib.Core.Logic.{◌⊎◌, ⊎_elim}
-use mathlib.Core.Option.{some}
+use Rattle.std.specs.Prelude.{Some}
 use borrow.Author.Tests.{eq-eqb}
 use Rattle.snapshot.specs.Records.{Snapshot, Scope}
 use Rattle.hir_def.specs.Items.{module_item}
@@ -34,7 +34,7 @@ module _ (s : Snapshot) (x : FindPathCtx) where
     pub rule : (m : ℕ) → E m → ruled s x m ≡ true → (module_rules s x false m).has_prelude_segment ≡ v m
     pub goes : (m c : ℕ) → E m → ruled s x m ≡ false → Location s x [] m c → Reached most c → E c
     pub first : (m c : ℕ) (e : Scope) → E m → ruled s x m ≡ false → Location s x [] m c → Reached most c
-        → importable_name s x (module_item m) c ≡ some e → v c || is_prelude s e.name ≡ v m
+        → importable_name s x (module_item m) c ≡ Some e → v c || is_prelude s e.name ≡ v m
     -- a location with another flag is the only one
     pub later : (m c : ℕ) → E m → ruled s x m ≡ false → Location s x [] m c → Reached most c
         → (v c ≡ v m) ⊎ ((n : ℕ) → Location s x [] m n → Reached most n → n ≡ c)

@@ -5,7 +5,7 @@ use native.Mathlib.Omega.{arith}
 use mathlib.Core.List.{List, [], ◌∷◌, ◌++◌}
 use mathlib.Core.Bool.{Bool, true, false, ◌&&◌, ◌||◌, true≢false, false≢true}
 use mathlib.Core.Logic.{⊎_elim}
-use mathlib.Core.Option.{Option, none, some}
+use Rattle.std.specs.Prelude.{Option, None, Some}
 use Rattle.snapshot.specs.Lists.{any}
 use Rattle.snapshot.specs.Records.{Snapshot, Scope}
 use Rattle.hir_def.specs.Items.{same_item, module_item}
@@ -52,8 +52,8 @@ module _ (s : Snapshot) (x : FindPathCtx) where
           → has (locations s x [] m) c ≡ true → importable_name s x (module_item m) c ≡ a
           → location s x rec (suc l) (level ∷ ls) best c a ≡ location s x rec (suc l) (level ∷ ls') best c a
       unfolding location imports
-      location_frame level best c none w e = refl
-      location_frame level best c (some e) w i =
+      location_frame level best c None w e = refl
+      location_frame level best c (Some e) w i =
           let j = length_left (suc l) best in
           let less : j < suc l = length_falls (suc l) best (omega arith) in
           let at : Location s x [] m c = record { taken = w; entry = ap is_some i } in

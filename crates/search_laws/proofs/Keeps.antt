@@ -2,7 +2,7 @@
 use Prim.Native.Nat.{ℕ, zero, suc}
 use mathlib.Core.List.{List, [], ◌∷◌}
 use mathlib.Core.Bool.{Bool, true, false}
-use mathlib.Core.Option.{Option, none, some}
+use Rattle.std.specs.Prelude.{Option, None, Some}
 use Rattle.snapshot.specs.Records.{Snapshot, Dependency, Definition, Import}
 use Rattle.hir_def.specs.Items.{types, item_of, module_item}
 use Rattle.hir_def.specs.Nameres.{lang_of, sysroot_first}
@@ -91,8 +91,8 @@ module _ (M : Type 0) (charge : Charge M) (s : Snapshot) (P : M → Type 0) (kep
     module _ (inner : Inner M) (within : KeptWithin P inner) where
       via_keeps : (item : Item) (t : M) (v : Option Definition) → P t → P (via_enum M charge s x here rec inner item t v).meter
       unfolding via_enum
-      via_keeps item t none h = best_keeps x.max_len item t h
-      via_keeps item t (some v) h = enum_keeps item v _ _ (within (item_of s types v.first) t h)
+      via_keeps item t None h = best_keeps x.max_len item t h
+      via_keeps item t (Some v) h = enum_keeps item v _ _ (within (item_of s types v.first) t h)
 
       named_keeps : (item : Item) (t : M) (c : Choice) (b : Bool) → P t → P (or_enum M charge s x here rec inner item t c b).meter
       unfolding or_enum

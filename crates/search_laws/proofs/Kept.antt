@@ -6,7 +6,7 @@ use native.Mathlib.Omega.{arith}
 use mathlib.Core.List.{List, [], ◌∷◌, ◌++◌}
 use mathlib.Core.Bool.{Bool, true, false, true≢false, false≢true}
 use mathlib.Core.Logic.{⊎_elim}
-use mathlib.Core.Option.{some}
+use Rattle.std.specs.Prelude.{Some}
 use Rattle.snapshot.specs.Records.{Snapshot, Scope}
 use Rattle.hir_def.specs.Items.{module_item}
 use Rattle.path_choices.specs.declared.Choice.{Choice}
@@ -45,7 +45,7 @@ module _ (s : Snapshot) (x : FindPathCtx) where
     pub entry : Scope
     pub flag : Bool
     pub at : Location s x [] m from
-    pub named : importable_name s x (module_item m) from ≡ some entry
+    pub named : importable_name s x (module_item m) from ≡ Some entry
     pub found : (search_local s x l [] from).found ≡ true
     pub same : r ≡ extended s (search_local s x l [] from) entry.name (step_by via_local entry.place) flag
 

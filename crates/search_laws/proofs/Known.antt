@@ -6,7 +6,7 @@ use native.Mathlib.Decide.{dec_le}
 use mathlib.Core.List.Memᴰ
 use mathlib.Core.List.{List, [], ◌∷◌, ◌++◌}
 use mathlib.Core.Bool.{Bool, true, false, ◌||◌, not}
-use mathlib.Core.Option.{Option, none, some}
+use Rattle.std.specs.Prelude.{Option, None, Some}
 use lib.Dec.{eqb}
 use lib.ListN.{length, get_or, set, replicate, get_or-eq_default}
 use borrow.Author.Tests.{eqb-true}
@@ -61,28 +61,28 @@ pub record Known (s : Snapshot) (c : Choice) : Type 0 where
 
 -- what may be there, and has P if it is
 abbrev pub Held : {A : Type 0} → (A → Type 0) → Option A → Type 0
-Held P none = Unit {0}
-Held P (some y) = P y
+Held P None = Unit {0}
+Held P (Some y) = P y
 
 -- the path kind of a keyword is one of the five
 abbrev KindSmall : Option ℕ → Type 0
-KindSmall (some k) = k ≤ 4
-KindSmall none = Unit {0}
+KindSmall (Some k) = k ≤ 4
+KindSmall None = Unit {0}
 
-held : {A : Type 0} {P : A → Type 0} (o : Option A) → ((y : A) → o ≡ some y → P y) → Held P o
-held none f = tt
-held (some y) f = f y refl
+held : {A : Type 0} {P : A → Type 0} (o : Option A) → ((y : A) → o ≡ Some y → P y) → Held P o
+held None f = tt
+held (Some y) f = f y refl
 
-pub held_at : {A : Type 0} (P : A → Type 0) {y : A} (o : Option A) → Held P o → o ≡ some y → P y
-held_at P none h e = let z : ◌≡◌ {A = ℕ} 0 1 = cc in absurd (omega arith)
-held_at P {y = y} (some w) h e = let same : w ≡ y = cc in subst P same h
+pub held_at : {A : Type 0} (P : A → Type 0) {y : A} (o : Option A) → Held P o → o ≡ Some y → P y
+held_at P None h e = let z : ◌≡◌ {A = ℕ} 0 1 = cc in absurd (omega arith)
+held_at P {y = y} (Some w) h e = let same : w ≡ y = cc in subst P same h
 
 first_held : {A : Type 0} {P : A → Type 0} {xs : List A} (p : A → Bool) → Each P xs → Held P (first_of p xs)
 first_held p h = held _ (λ y e. each_first p y h e)
 
-or_held : {A : Type 0} (P : A → Type 0) (a b : Option A) → Held P a → Held P b → Held P (elim a [ some y ↦ some y | none ↦ b ])
-or_held P none b h g = g
-or_held P (some y) b h g = h
+or_held : {A : Type 0} (P : A → Type 0) (a b : Option A) → Held P a → Held P b → Held P (elim a [ Some y ↦ Some y | None ↦ b ])
+or_held P None b h g = g
+or_held P (Some y) b h g = h
 
 some_held : {A B : Type 0} (P : B → Type 0) (f : A → Option B) (xs : List A) → ((x : A) → Held P (f x)) → Held P (first_some f xs)
 unfolding first_some
@@ -165,7 +165,7 @@ either_small : (b : Bool) (k l : Option ℕ) → KindSmall k → KindSmall l →
 either_small true k l f g = f
 either_small false k l f g = g
 
-held_if : {A : Type 0} (P : A → Type 0) (b : Bool) (y : A) → P y → Held P (elim b [ true ↦ some y | false ↦ none ])
+held_if : {A : Type 0} (P : A → Type 0) (b : Bool) (y : A) → P y → Held P (elim b [ true ↦ Some y | false ↦ None ])
 held_if P true y h = h
 held_if P false y h = tt
 
@@ -181,8 +181,8 @@ module _ (s : Snapshot) (P : Scope → Type 0) (all : Each P s.scopes) where
 
   two_held : (o old : Option Scope) → Held P o → Held P old → Held P (or_first o old)
   unfolding or_first
-  two_held none old f g = g
-  two_held (some e) old f g = f
+  two_held None old f g = g
+  two_held (Some e) old f g = f
 
   preferred_held : (b : Bool) (m : ℕ) (item : Item) (p : Scope → Bool) (old : Option Scope) → Held P old → Held P (preferred b s m item p old)
   unfolding preferred
@@ -196,13 +196,13 @@ module _ (s : Snapshot) (P : Scope → Type 0) (all : Each P s.scopes) where
 
     prelude_entry_held : (item : Item) (o : Option Scope) → Held P o → Held P (prelude_entry s x item o)
     unfolding prelude_entry
-    prelude_entry_held item none h = tt
-    prelude_entry_held item (some e) h = held_if P (is_usable s x item e) e h
+    prelude_entry_held item None h = tt
+    prelude_entry_held item (Some e) h = held_if P (is_usable s x item e) e h
 
     in_prelude_held : (item : Item) (o : Option Prelude) → Held P (in_prelude s x item o)
     unfolding in_prelude
-    in_prelude_held item none = tt
-    in_prelude_held item (some p) = prelude_entry_held item _ (preferred_held x.fresh p.target item _ _ (name_held p.target item))
+    in_prelude_held item None = tt
+    in_prelude_held item (Some p) = prelude_entry_held item _ (preferred_held x.fresh p.target item _ _ (name_held p.target item))
 
     pub prelude_held : (item : Item) → Held P (find_in_prelude s x item)
     unfolding find_in_prelude
@@ -210,8 +210,8 @@ module _ (s : Snapshot) (P : Scope → Type 0) (all : Each P s.scopes) where
 
     entry_if_held : (o : Option Scope) → Held P o → Held P (entry_if s x o)
     unfolding entry_if
-    entry_if_held none h = tt
-    entry_if_held (some e) h = held_if P (is_importable s x e) e h
+    entry_if_held None h = tt
+    entry_if_held (Some e) h = held_if P (is_importable s x e) e h
 
     pub importable_held : (item : Item) (m : ℕ) → Held P (importable_name s x item m)
     unfolding importable_name
@@ -236,16 +236,16 @@ definition_in_lem s d k e =
       | no h ↦ at_in s.definitions no_definition d (omega arith)
     ]
 
-pub variant_in_lem : (s : Snapshot) (item : Item) (v : Definition) → variant_of s item ≡ some v → v ∈ s.definitions
+pub variant_in_lem : (s : Snapshot) (item : Item) (v : Definition) → variant_of s item ≡ Some v → v ∈ s.definitions
 unfolding variant_of
 variant_in_lem s (Mod m) v e = let z : ◌≡◌ {A = ℕ} 0 1 = cc in absurd (omega arith)
 variant_in_lem s (Def ns d) v e =
     by_test (eqb (definition_of s d.0).kind variant_kind)
     (λ t.
-    let f : some (definition_of s d.0) ≡ some v = rw (variant_of, t) at e in
+    let f : Some (definition_of s d.0) ≡ Some v = rw (variant_of, t) at e in
     let same : definition_of s d.0 ≡ v = cc in
     subst (λ z. z ∈ s.definitions) same (definition_in_lem s d.0 1 (eqb-true _ _ t)))
-    (λ t. let f : none ≡ some v = rw (variant_of, t) at e in let z : ◌≡◌ {A = ℕ} 0 1 = cc in absurd (omega arith))
+    (λ t. let f : None ≡ Some v = rw (variant_of, t) at e in let z : ◌≡◌ {A = ℕ} 0 1 = cc in absurd (omega arith))
 
 module _ (s : Snapshot) (r : Ranges (counts_of s) s) where
   -- a definition of a kind is in range
@@ -296,8 +296,8 @@ module _ (s : Snapshot) (r : Ranges (counts_of s) s) where
 
     single_known : (kind rule : ℕ) (o : Option Scope) → kind ≤ 4 → rule ≤ 7 → Held (ScopeFits (counts_of s)) o → Known s (single s x kind rule o)
     unfolding single
-    single_known kind rule none k l h = nothing_known
-    single_known kind rule (some e) k l h = new_known s kind e.name _ k (by_rule_lem e.name rule e.place h.name l h.place)
+    single_known kind rule None k l h = nothing_known
+    single_known kind rule (Some e) k l h = new_known s kind e.name _ k (by_rule_lem e.name rule e.place h.name l h.place)
 
     scope_known : (item : Item) → Known s (scope_rule s x item)
     unfolding scope_rule
@@ -318,8 +318,8 @@ module _ (s : Snapshot) (r : Ranges (counts_of s) s) where
 
     extern_known : (m : ℕ) (e : Option Extern) → Held (ExternFits (counts_of s)) e → Known s (extern_name s x m e)
     unfolding extern_name
-    extern_known m none h = nothing_known
-    extern_known m (some e) h = new_known s _ _ _ (extern_small _) (by_rule_lem e.name 3 e.place h.name (omega arith) h.place)
+    extern_known m None h = nothing_known
+    extern_known m (Some e) h = new_known s _ _ _ (extern_small _) (by_rule_lem e.name 3 e.place h.name (omega arith) h.place)
 
     root_known : (b : Bool) (m : ℕ) → Known s (root_rule s x b m)
     unfolding root_rule
@@ -334,18 +334,18 @@ module _ (s : Snapshot) (r : Ranges (counts_of s) s) where
     parent_small m zero = tt
     parent_small m (suc p) =
         either_small (eqb m p) _ _
-        (either_small (eqb p (root_of s (map_no s x.from.0))) (some crate_path) (some super_path) (omega arith) (omega arith)) tt
+        (either_small (eqb p (root_of s (map_no s x.from.0))) (Some crate_path) (Some super_path) (omega arith) (omega arith)) tt
 
     kind_small : (m : ℕ) → KindSmall (is_kw_kind_relative_to_from s x m)
     unfolding is_kw_kind_relative_to_from
     kind_small m =
-        either_small (not (eqb (crate_of s m) (crate_of s x.from.0)) || (in_block s m || in_block s x.from.0)) none _ tt
-        (either_small (eqb m x.from.0) (some self_path) _ (omega arith) (parent_small m (parent_of s x.from.0)))
+        either_small (not (eqb (crate_of s m) (crate_of s x.from.0)) || (in_block s m || in_block s x.from.0)) None _ tt
+        (either_small (eqb m x.from.0) (Some self_path) _ (omega arith) (parent_small m (parent_of s x.from.0)))
 
     keyword_of_known : (k : Option ℕ) → KindSmall k → Known s (keyword_of s x k)
     unfolding keyword_of
-    keyword_of_known none h = nothing_known
-    keyword_of_known (some k) h = either_known (not (eqb x.prefix by_crate) || eqb k crate_path) _ _ (keyword_known k h) nothing_known
+    keyword_of_known None h = nothing_known
+    keyword_of_known (Some k) h = either_known (not (eqb x.prefix by_crate) || eqb k crate_path) _ _ (keyword_known k h) nothing_known
 
     rules_known : (b : Bool) (m : ℕ) → Known s (module_rules s x b m)
     unfolding module_rules
@@ -364,8 +364,8 @@ module _ (s : Snapshot) (r : Ranges (counts_of s) s) where
       location_known : (left : ℕ) (ls : List Level) (best : Choice) (m : ℕ) (o : Option Scope) → Known s best → Held (ScopeFits (counts_of s)) o
           → Known s (location s x rec left ls best m o)
       unfolding location offer_entry
-      location_known left ls best m none f h = f
-      location_known left ls best m (some e) f h =
+      location_known left ls best m None f h = f
+      location_known left ls best m (Some e) f h =
           offer_known best _ e.name _ f (known _ ls m) (by_rule_lem e.name 6 e.place h.name (omega arith) h.place)
 
       each_known : (left : ℕ) (ls : List Level) (item : Item) (done : List ℕ) (best : Choice) (ms : List ℕ) → Known s best
@@ -466,8 +466,8 @@ module _ (M : Type 0) (charge : Charge M) (s : Snapshot) (r : Ranges (counts_of 
       via_known : (item : Item) (t : M) (v : Option Definition) → Held (λ d. NameBy s d.second (step_by 5 d.place)) v
           → Known s (via_enum M charge s x here rec inner item t v).choice
       unfolding via_enum
-      via_known item t none h = best_known x.max_len item t
-      via_known item t (some v) h = enum_known item v _ _ (within (item_of s types v.first) t) h
+      via_known item t None h = best_known x.max_len item t
+      via_known item t (Some v) h = enum_known item v _ _ (within (item_of s types v.first) t) h
 
       named_known : (item : Item) (t : M) (c : Choice) (b : Bool) → Known s c → Known s (or_enum M charge s x here rec inner item t c b).choice
       unfolding or_enum

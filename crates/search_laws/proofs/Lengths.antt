@@ -5,7 +5,7 @@ use native.Mathlib.Omega.{arith}
 use mathlib.Core.List.{List, [], ◌∷◌, ◌++◌}
 use mathlib.Core.Bool.{Bool, true, false, ◌&&◌, ◌||◌, not, false≢true}
 use mathlib.Core.Logic.{⊎_elim}
-use mathlib.Core.Option.{Option, none, some}
+use Rattle.std.specs.Prelude.{Option, None, Some}
 use lib.Dec.{eqb}
 use lib.ListN.{get_or}
 use borrow.Author.Tests.{eqb-true, eqb-false}
@@ -97,8 +97,8 @@ module _ (s : Snapshot) (x : FindPathCtx) where
 
   single_brief : (k rule : ℕ) (a : Option Scope) → weight k ≤ shift → IfFound (single s x k rule a)
   unfolding single choice_new path_len
-  single_brief k rule none h e = absurd (false≢true e)
-  single_brief k rule (some a) h e = record { stable = refl; low = omega (arith, shift_small); high = omega arith }
+  single_brief k rule None h e = absurd (false≢true e)
+  single_brief k rule (Some a) h e = record { stable = refl; low = omega (arith, shift_small); high = omega arith }
 
   root_brief : (m : ℕ) → IfFound (root_rule s x false m)
   unfolding root_rule
@@ -119,8 +119,8 @@ module _ (s : Snapshot) (x : FindPathCtx) where
 
   keyword_rule_brief : (k : Option ℕ) → IfFound (keyword_of s x k)
   unfolding keyword_of
-  keyword_rule_brief none = nothing_brief
-  keyword_rule_brief (some k) =
+  keyword_rule_brief None = nothing_brief
+  keyword_rule_brief (Some k) =
       either_brief (not (eqb x.prefix by_crate) || eqb k crate_path) _ _ _ refl
       (λ h. keyword_brief k
       (⊎_elim (λ o. ⊎_elim (λ p. absurd (false≢true (sym (ap not p) ∙ o))) (λ p. let n = shift_none p in omega arith)

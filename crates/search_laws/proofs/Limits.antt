@@ -4,7 +4,7 @@ use Prim.Native.Nat.{ℕ, zero, suc, ◌+◌, ◌-◌, ◌≤◌}
 use native.Mathlib.Omega.{arith}
 use mathlib.Core.List.{List, [], ◌∷◌, ◌++◌}
 use mathlib.Core.Bool.{Bool, true, false, ◌&&◌, ◌||◌, not, true≢false, false≢true}
-use mathlib.Core.Option.{Option, none, some}
+use Rattle.std.specs.Prelude.{Option, None, Some}
 use mathlib.Core.Logic.{◌⊎◌}
 use lib.Dec.{eqb}
 use Rattle.snapshot.specs.Records.{Snapshot, Scope, Prelude, Extern, Dependency, Definition, Import}
@@ -161,8 +161,8 @@ module _ (s : Snapshot) (x : FindPathCtx) (n : ℕ) where
 
   single_same : (kind rule : ℕ) (e : Option Scope) → single s x kind rule e ≡ single s y kind rule e
   unfolding single
-  single_same kind rule none = refl
-  single_same kind rule (some e) = refl
+  single_same kind rule None = refl
+  single_same kind rule (Some e) = refl
 
   scope_same : (item : Item) → scope_rule s x item ≡ scope_rule s y item
   unfolding scope_rule may_be_in_scope find_in_scope
@@ -174,21 +174,21 @@ module _ (s : Snapshot) (x : FindPathCtx) (n : ℕ) where
 
   here_same : (item : Item) (e : Option Scope) → same_here s x item e ≡ same_here s y item e
   unfolding same_here
-  here_same item none = refl
-  here_same item (some e) = refl
+  here_same item None = refl
+  here_same item (Some e) = refl
 
   usable : (item : Item) (e : Scope) → is_usable s x item e ≡ is_usable s y item e
   usable item e = λ i. sees s x.from.0 e && here_same item (entry_named s x.from.0 (ns_of item) e.name) i
 
   entry_same : (item : Item) (e : Option Scope) → prelude_entry s x item e ≡ prelude_entry s y item e
   unfolding prelude_entry
-  entry_same item none = refl
-  entry_same item (some e) = λ i. elim (usable item e i) [ true ↦ some e | false ↦ none ]
+  entry_same item None = refl
+  entry_same item (Some e) = λ i. elim (usable item e i) [ true ↦ Some e | false ↦ None ]
 
   in_prelude_same : (item : Item) (p : Option Prelude) → in_prelude s x item p ≡ in_prelude s y item p
   unfolding in_prelude
-  in_prelude_same item none = refl
-  in_prelude_same item (some p) = λ i. entry_same item (preferred x.fresh s p.target item (λ e. usable item e i) (name_of s p.target item)) i
+  in_prelude_same item None = refl
+  in_prelude_same item (Some p) = λ i. entry_same item (preferred x.fresh s p.target item (λ e. usable item e i) (name_of s p.target item)) i
 
   prelude_same : (item : Item) → prelude_rule s x item ≡ prelude_rule s y item
   unfolding prelude_rule find_in_prelude
@@ -201,8 +201,8 @@ module _ (s : Snapshot) (x : FindPathCtx) (n : ℕ) where
 
   extern_same : (m : ℕ) (e : Option Extern) → extern_name s x m e ≡ extern_name s y m e
   unfolding extern_name
-  extern_same m none = refl
-  extern_same m (some e) = λ i. choice_new s (extern_kind_same (occupied s x.from.0 m e.name || x.prefer_absolute) i)
+  extern_same m None = refl
+  extern_same m (Some e) = λ i. choice_new s (extern_kind_same (occupied s x.from.0 m e.name || x.prefer_absolute) i)
       e.name (step_by via_extern e.place)
 
   root_same : (b : Bool) (m : ℕ) → root_rule s x b m ≡ root_rule s y b m
@@ -220,14 +220,14 @@ module _ (s : Snapshot) (x : FindPathCtx) (n : ℕ) where
   kind_same : (m : ℕ) → is_kw_kind_relative_to_from s x m ≡ is_kw_kind_relative_to_from s y m
   unfolding is_kw_kind_relative_to_from
   kind_same m = λ i. elim (not (eqb (crate_of s m) (crate_of s x.from.0)) || (in_block s m || in_block s x.from.0)) [
-    | true ↦ none
-    | false ↦ elim (eqb m x.from.0) [ true ↦ some self_path | false ↦ parent_same m (parent_of s x.from.0) i ]
+    | true ↦ None
+    | false ↦ elim (eqb m x.from.0) [ true ↦ Some self_path | false ↦ parent_same m (parent_of s x.from.0) i ]
   ]
 
   keyword_same : (k : Option ℕ) → keyword_of s x k ≡ keyword_of s y k
   unfolding keyword_of
-  keyword_same none = refl
-  keyword_same (some k) = refl
+  keyword_same None = refl
+  keyword_same (Some k) = refl
 
   rules_same : (b : Bool) (m : ℕ) → module_rules s x b m ≡ module_rules s y b m
   unfolding module_rules
@@ -236,8 +236,8 @@ module _ (s : Snapshot) (x : FindPathCtx) (n : ℕ) where
 
   name_same : (e : Option Scope) → entry_if s x e ≡ entry_if s y e
   unfolding entry_if
-  name_same none = refl
-  name_same (some e) = refl
+  name_same None = refl
+  name_same (Some e) = refl
 
   importable_same : (item : Item) (m : ℕ) → importable_name s x item m ≡ importable_name s y item m
   unfolding importable_name
@@ -253,8 +253,8 @@ module _ (s : Snapshot) (x : FindPathCtx) (n : ℕ) where
     location_grows : (ls : List Level) (best best' : Choice) (k : ℕ) (a : Option Scope) → Implies best best'
         → Implies (location s x f left ls best k a) (location s (limited x n) g left' ls best' k a)
     unfolding location offer_entry
-    location_grows ls best best' k none i = i
-    location_grows ls best best' k (some e) i =
+    location_grows ls best best' k None i = i
+    location_grows ls best best' k (Some e) i =
         by_test best'.found (λ t _. offer_keeps s (limited x n) best' _ e.name _ t)
         (λ t. offer_implies s (limited x n) x best best' _ _ e.name _ i (grows _ _ ls k (length_grows left left' best best' h i t)))
 
@@ -418,8 +418,8 @@ module _ (s : Snapshot) (x : FindPathCtx) (n : ℕ) where
       via_grows : (item : Item) (t u : ℕ) (d : Option Definition)
           → Both (via_enum ℕ counted s x here f v item t d) (via_enum ℕ counted s (limited x n) here' g w item u d)
       unfolding via_enum
-      via_grows item t u none = best_grows x.max_len n limit item t u
-      via_grows item t u (some d) = enum_grows item d _ _ _ _ (within (item_of s types d.first) t u)
+      via_grows item t u None = best_grows x.max_len n limit item t u
+      via_grows item t u (Some d) = enum_grows item d _ _ _ _ (within (item_of s types d.first) t u)
 
       named_grows : (item : Item) (t u : ℕ) (c : Choice) (b : Bool)
           → Both (or_enum ℕ counted s x here f v item t c b) (or_enum ℕ counted s (limited x n) here' g w item u c b)

@@ -3,7 +3,7 @@ use mathlib.Core.Path.{◌≡◌, refl, sym, subst, ◌∙◌}
 use Prim.Native.Nat.{ℕ, zero, suc, ◌+◌, ◌≤◌}
 use mathlib.Core.List.{List, [], ◌∷◌, ◌++◌, append-nil, append_assoc}
 use mathlib.Core.Bool.{Bool, true, false, ◌||◌, false≢true}
-use mathlib.Core.Option.{Option, none, some}
+use Rattle.std.specs.Prelude.{Option, None, Some}
 use lib.ListN.{length}
 use Rattle.snapshot.specs.Records.{Snapshot, Scope}
 use Rattle.hir_def.specs.declared.Item.{Item}
@@ -79,12 +79,12 @@ module _ (s : Snapshot) (x : FindPathCtx) where
 
   -- a location changes the best choice only if it is found
   pub location_by : (P : Choice → Type 0) (rec : LocalSearch) (left : ℕ) (ls : List Level) (best : Choice) (m : ℕ) (a : Option Scope) → P best
-      → ((e : Scope) → a ≡ some e → (rec (length_left left best) ls m).found ≡ true
+      → ((e : Scope) → a ≡ Some e → (rec (length_left left best) ls m).found ≡ true
       → P (try_select s x.prefer_prelude best (rec (length_left left best) ls m) e.name (step_by via_local e.place)))
       → P (location s x rec left ls best m a)
   unfolding location
-  location_by P rec left ls best m none o f = o
-  location_by P rec left ls best m (some e) o f = offer_by P best (rec (length_left left best) ls m) e _ refl o (f e refl)
+  location_by P rec left ls best m None o f = o
+  location_by P rec left ls best m (Some e) o f = offer_by P best (rec (length_left left best) ls m) e _ refl o (f e refl)
 
   -- what each location keeps, the loop keeps
   pub each_by : (P : List ℕ → Choice → Type 0) (rec : LocalSearch) (left : ℕ) (ls : List Level) (item : Item) (w done : List ℕ)

@@ -5,7 +5,7 @@ use native.Mathlib.Omega.{arith}
 use mathlib.Core.List.{List, [], ◌∷◌, ◌++◌, append-nil, append_assoc}
 use mathlib.Core.Bool.{Bool, true, false, ◌&&◌, ◌||◌, or_assoc, true≢false, false≢true}
 use mathlib.Core.Logic.{◌⊎◌, inl, inr, ⊎_elim}
-use mathlib.Core.Option.{Option, none, some}
+use Rattle.std.specs.Prelude.{Option, None, Some}
 use lib.ListN.{take, drop, take-append-drop}
 use lib.Seq.{take-add, drop-drop}
 use Rattle.snapshot.specs.Lists.{any}
@@ -38,7 +38,7 @@ found_plain c e h = absurd (true≢false (sym e ∙ h))
 module _ (s : Snapshot) (x : FindPathCtx) where
   -- Modules that hold no importable entry are only put on the level.
   pub each_skips : (rec : LocalSearch) (left : ℕ) (ls : List Level) (item : Item) (done : List ℕ) (best : Choice) (ms ms' : List ℕ)
-      → ((m : ℕ) → has ms m ≡ true → importable_name s x item m ≡ none)
+      → ((m : ℕ) → has ms m ≡ true → importable_name s x item m ≡ None)
       → each_location s x rec left ls item done best (ms ++ ms') ≡ each_location s x rec left ls item (done ++ ms) best ms'
   unfolding each_location location
   each_skips rec left ls item done best [] ms' h = rw (append-nil done)
@@ -50,7 +50,7 @@ module _ (s : Snapshot) (x : FindPathCtx) where
 
   -- So the loop goes on at the next place that holds one.
   pub each_jumps : (rec : LocalSearch) (left : ℕ) (ls : List Level) (item : Item) (best : Choice) (w : List ℕ) (i n : ℕ)
-      → ((m : ℕ) → has (take n (drop i w)) m ≡ true → importable_name s x item m ≡ none)
+      → ((m : ℕ) → has (take n (drop i w)) m ≡ true → importable_name s x item m ≡ None)
       → each_location s x rec left ls item (take i w) best (drop i w) ≡ each_location s x rec left ls item (take (i + n) w) best (drop (i + n) w)
   each_jumps rec left ls item best w i n h =
       ap (each_location s x rec left ls item (take i w) best) (sym (take-append-drop n (drop i w)))
@@ -78,8 +78,8 @@ module _ (s : Snapshot) (x : FindPathCtx) where
   module _ (rec : LocalSearch) (left : ℕ) where
     location_plain : (ls : List Level) (best : Choice) (m : ℕ) (a : Option Scope) → Plain best → Plain (location s x rec left ls best m a)
     unfolding location
-    location_plain ls best m none h = h
-    location_plain ls best m (some e) h =
+    location_plain ls best m None h = h
+    location_plain ls best m (Some e) h =
         ⊎_elim (λ f. found_plain _ f.1) (λ f. rw f.1 h) (offer_cases best (rec (length_left left best) ls m) e _ refl)
 
     each_plain : (ls : List Level) (item : Item) (done : List ℕ) (best : Choice) (ms : List ℕ) → Plain best
@@ -169,8 +169,8 @@ module _ (s : Snapshot) (x : FindPathCtx) where
     location_near : (level : Level) (ls : List Level) (best : Choice) (c : ℕ) (a : Option Scope)
         → (location s x rec (suc l) (level ∷ ls) best c a).found ≡ true → best.found || (is_some a && near s x ls l c) ≡ true
     unfolding location
-    location_near level ls best c none h = or_left _ _ h
-    location_near level ls best c (some e) h =
+    location_near level ls best c None h = or_left _ _ h
+    location_near level ls best c (Some e) h =
         let j = length_left (suc l) best in
         let less : j < suc l = length_falls (suc l) best (omega arith) in
         ⊎_elim (λ f. or_right best.found _ (near_later ls j l c (omega arith) (near_fewer level ls j c (sound j (level ∷ ls) c f.0))))

@@ -5,7 +5,7 @@ use Prim.Native.Nat.{ℕ, zero, suc, ◌+◌, ◌%◌}
 use native.Mathlib.Omega.{arith}
 use mathlib.Core.List.{List, [], ◌∷◌, ◌++◌, map}
 use mathlib.Core.Bool.{Bool, true, false, ◌&&◌, ◌||◌, not}
-use mathlib.Core.Option.{Option, none, some}
+use Rattle.std.specs.Prelude.{Option, None, Some}
 use lib.Dec.{eqb}
 use lib.ListN.{length, take, length-map}
 use Rattle.snapshot.specs.Lists.{any}
@@ -47,16 +47,16 @@ use Rattle.find_path.specs.Report.{question_fault, flag, misleads, outcome_by, r
 use Rattle.find_path.specs.Local.{LocalSearch, offer, offer_entry, is_importable, entry_if, importable_name, location, each_location}
 use Rattle.find_path.specs.Local.{calculate_best_path_local, or_local, find_path_for_module_local}
 
-some_step : (o r r' : Option Scope) → r' ≡ plain_of r → elim (plain_of o) [ some y ↦ some y | none ↦ r' ]
-    ≡ plain_of (elim o [ some y ↦ some y | none ↦ r ])
-some_step none r r' h = h
-some_step (some e) r r' h = refl
+some_step : (o r r' : Option Scope) → r' ≡ plain_of r → elim (plain_of o) [ Some y ↦ Some y | None ↦ r' ]
+    ≡ plain_of (elim o [ Some y ↦ Some y | None ↦ r ])
+some_step None r r' h = h
+some_step (Some e) r r' h = refl
 
 some_plain : (f g : ℕ → Option Scope) → ((a : ℕ) → g a ≡ plain_of (f a)) → (ms : List ℕ) → first_some g ms ≡ plain_of (first_some f ms)
 unfolding first_some
 some_plain f g h [] = refl
 some_plain f g h (a ∷ ms) =
-    ap (λ (o : Option Scope). elim o [ some y ↦ some y | none ↦ first_some g ms ]) (h a) ∙ some_step (f a) _ _ (some_plain f g h ms)
+    ap (λ (o : Option Scope). elim o [ Some y ↦ Some y | None ↦ first_some g ms ]) (h a) ∙ some_step (f a) _ _ (some_plain f g h ms)
 
 -- a test that does not tell an entry from its plain form selects the same ones
 module _ (p q : Scope → Bool) (h : (e : Scope) → q (plain e) ≡ p e) where
@@ -102,8 +102,8 @@ module _ (s : Snapshot) where
 
   other_plain : (m : ℕ) (o : Option Scope) → is_other (plainly s) m (plain_of o) ≡ is_other s m o
   unfolding is_other item_of definition_of
-  other_plain m none = refl
-  other_plain m (some e) = refl
+  other_plain m None = refl
+  other_plain m (Some e) = refl
 
   occupied_plain : (from m name : ℕ) → occupied (plainly s) from m name ≡ occupied s from m name
   unfolding occupied ancestor_maps module_of map_of
@@ -146,12 +146,12 @@ module _ (s : Snapshot) (from : ℕ) where
   meaning_plain : (e : Scope) → meaning (plainly s) from (plain e) ≡ meaning s from e
   unfolding meaning item_of definition_of
   meaning_plain e =
-      ap (λ (b : Bool). elim b [ true ↦ some (item_of s e.ns e.definition) | false ↦ none ]) (visible_plain s e.visibility e.number from)
+      ap (λ (b : Bool). elim b [ true ↦ Some (item_of s e.ns e.definition) | false ↦ None ]) (visible_plain s e.visibility e.number from)
 
   entry_means_plain : (other : Option Item) (o : Option Scope) → entry_or (plainly s) from other (plain_of o) ≡ entry_or s from other o
   unfolding entry_or
-  entry_means_plain other none = refl
-  entry_means_plain other (some e) = meaning_plain e
+  entry_means_plain other None = refl
+  entry_means_plain other (Some e) = meaning_plain e
 
   -- an entry by its name
   got_plain : (other : Option Item) (m ns name : ℕ) → entry_or (plainly s) from other (get (plainly s) m ns name)
@@ -160,8 +160,8 @@ module _ (s : Snapshot) (from : ℕ) where
 
   prelude_means_plain : (ns name : ℕ) (p : Option Prelude) → prelude_means (plainly s) from ns name p ≡ prelude_means s from ns name p
   unfolding prelude_means
-  prelude_means_plain ns name none = refl
-  prelude_means_plain ns name (some p) = got_plain none p.target ns name
+  prelude_means_plain ns name None = refl
+  prelude_means_plain ns name (Some p) = got_plain None p.target ns name
 
   first_name_plain : (ns name : ℕ) → first_name (plainly s) from ns name ≡ first_name s from ns name
   unfolding first_name entry_from in_externs extern_named in_prelude_of prelude_of scopes_from outward module_of map_of
@@ -172,18 +172,18 @@ module _ (s : Snapshot) (from : ℕ) where
 
   variant_in_plain : (ns : ℕ) (o : Option Member) → variant_in (plainly s) ns o ≡ variant_in s ns o
   unfolding variant_in item_of definition_of
-  variant_in_plain ns none = refl
-  variant_in_plain ns (some x) = refl
+  variant_in_plain ns None = refl
+  variant_in_plain ns (Some x) = refl
 
   later_plain : (ns name : ℕ) (x : Item) → later_name (plainly s) from ns name x ≡ later_name s from ns name x
   unfolding later_name variant_named
-  later_plain ns name (Mod m) = got_plain none m.0 ns name
+  later_plain ns name (Mod m) = got_plain None m.0 ns name
   later_plain ns name (Def k d) = variant_in_plain ns (variant_named s d.0 name)
 
   reached_plain : (ns name : ℕ) (here : Option Item) → after here (later_name (plainly s) from ns name) ≡ after here (later_name s from ns name)
   unfolding after
-  reached_plain ns name none = refl
-  reached_plain ns name (some x) = later_plain ns name x
+  reached_plain ns name None = refl
+  reached_plain ns name (Some x) = later_plain ns name x
 
   follow_plain : (ns : ℕ) (here : Option Item) (names : List ℕ) → follow (plainly s) from ns here names ≡ follow s from ns here names
   unfolding follow
@@ -212,12 +212,12 @@ module _ (s : Snapshot) (from : ℕ) where
   reads_plain ns kind names =
       λ i.
       elim (eqb kind self_kind) [
-        | true ↦ follow_plain ns (some (module_item (stands_for s from))) names i
+        | true ↦ follow_plain ns (Some (module_item (stands_for s from))) names i
         | false ↦ elim (eqb kind super_kind) [
           | true ↦ (ap (λ (x : Option Item). follow (plainly s) from ns x names) (parent_means_plain (parent_of s (stands_for s from)))
               ∙ follow_plain ns _ names) i
           | false ↦ elim (eqb kind crate_kind) [
-            | true ↦ follow_plain ns (some (module_item (crate_root s from))) names i
+            | true ↦ follow_plain ns (Some (module_item (crate_root s from))) names i
             | false ↦ elim (eqb kind absolute_kind) [ true ↦ absolutely_plain ns names i | false ↦ plainly_plain ns names i ]
           ]
         ]
@@ -231,8 +231,8 @@ module _ (s : Snapshot) (from : ℕ) where
 module _ (s : Snapshot) (x : FindPathCtx) (clear : x.fresh ≡ false) where
   single_plain : (kind rule : ℕ) (o : Option Scope) → single (plainly s) x kind rule (plain_of o) ≡ single s x kind rule o
   unfolding single choice_new is_prelude name_data
-  single_plain kind rule none = refl
-  single_plain kind rule (some e) = refl
+  single_plain kind rule None = refl
+  single_plain kind rule (Some e) = refl
 
   find_plain : (item : Item) → find_in_scope (plainly s) x item ≡ plain_of (find_in_scope s x item)
   unfolding find_in_scope
@@ -250,8 +250,8 @@ module _ (s : Snapshot) (x : FindPathCtx) (clear : x.fresh ≡ false) where
 
   here_plain : (item : Item) (o : Option Scope) → same_here (plainly s) x item (plain_of o) ≡ same_here s x item o
   unfolding same_here item_of definition_of
-  here_plain item none = refl
-  here_plain item (some e) = refl
+  here_plain item None = refl
+  here_plain item (Some e) = refl
 
   usable_plain : (item : Item) (e : Scope) → is_usable (plainly s) x item (plain e) ≡ is_usable s x item e
   usable_plain item e =
@@ -259,16 +259,16 @@ module _ (s : Snapshot) (x : FindPathCtx) (clear : x.fresh ≡ false) where
       (ap (same_here (plainly s) x item) (named_plain s x.from.0 (ns_of item) e.name)
       ∙ here_plain item (entry_named s x.from.0 (ns_of item) e.name))
 
-  if_plain : (e : Scope) (b : Bool) → ◌≡◌ {A = Option Scope} (elim b [ true ↦ some (plain e) | false ↦ none ])
-      (plain_of (elim b [ true ↦ some e | false ↦ none ]))
+  if_plain : (e : Scope) (b : Bool) → ◌≡◌ {A = Option Scope} (elim b [ true ↦ Some (plain e) | false ↦ None ])
+      (plain_of (elim b [ true ↦ Some e | false ↦ None ]))
   if_plain e true = refl
   if_plain e false = refl
 
   entry_plain : (item : Item) (o : Option Scope) → prelude_entry (plainly s) x item (plain_of o) ≡ plain_of (prelude_entry s x item o)
   unfolding prelude_entry
-  entry_plain item none = refl
-  entry_plain item (some e) =
-      ap (λ (b : Bool). elim b [ true ↦ some (plain e) | false ↦ none ]) (usable_plain item e) ∙ if_plain e (is_usable s x item e)
+  entry_plain item None = refl
+  entry_plain item (Some e) =
+      ap (λ (b : Bool). elim b [ true ↦ Some (plain e) | false ↦ None ]) (usable_plain item e) ∙ if_plain e (is_usable s x item e)
 
   -- without the bit the entry is the first one
   first_of : (t : Snapshot) (m : ℕ) (item : Item) (p : Scope → Bool) → preferred x.fresh t m item p (name_of t m item) ≡ name_of t m item
@@ -281,8 +281,8 @@ module _ (s : Snapshot) (x : FindPathCtx) (clear : x.fresh ≡ false) where
 
   in_prelude_plain : (item : Item) (p : Option Prelude) → in_prelude (plainly s) x item p ≡ plain_of (in_prelude s x item p)
   unfolding in_prelude
-  in_prelude_plain item none = refl
-  in_prelude_plain item (some p) =
+  in_prelude_plain item None = refl
+  in_prelude_plain item (Some p) =
       ap (prelude_entry (plainly s) x item) (preferred_plain p.target item (is_usable s x item) (is_usable (plainly s) x item))
       ∙ entry_plain item (preferred x.fresh s p.target item (is_usable s x item) (name_of s p.target item))
 
@@ -299,8 +299,8 @@ module _ (s : Snapshot) (x : FindPathCtx) (clear : x.fresh ≡ false) where
 
   extern_plain : (m : ℕ) (o : Option Extern) → extern_name (plainly s) x m o ≡ extern_name s x m o
   unfolding extern_name choice_new is_prelude name_data
-  extern_plain m none = refl
-  extern_plain m (some e) =
+  extern_plain m None = refl
+  extern_plain m (Some e) =
       ap (λ (k : ℕ). choice_new s k e.name (step_by via_extern e.place))
       (ap (λ (b : Bool). extern_kind (plainly s) x (b || x.prefer_absolute)) (occupied_plain s x.from.0 m e.name)
       ∙ kind_plain (occupied s x.from.0 m e.name || x.prefer_absolute))
@@ -320,14 +320,14 @@ module _ (s : Snapshot) (x : FindPathCtx) (clear : x.fresh ≡ false) where
   relative_plain : (m : ℕ) → is_kw_kind_relative_to_from (plainly s) x m ≡ is_kw_kind_relative_to_from s x m
   unfolding is_kw_kind_relative_to_from module_of map_of
   relative_plain m = λ i. elim (not (eqb (crate_of s m) (crate_of s x.from.0)) || (in_block s m || in_block s x.from.0)) [
-    | true ↦ none
-    | false ↦ elim (eqb m x.from.0) [ true ↦ some self_path | false ↦ parent_plain m (parent_of s x.from.0) i ]
+    | true ↦ None
+    | false ↦ elim (eqb m x.from.0) [ true ↦ Some self_path | false ↦ parent_plain m (parent_of s x.from.0) i ]
   ]
 
   keyword_plain : (k : Option ℕ) → keyword_of (plainly s) x k ≡ keyword_of s x k
   unfolding keyword_of
-  keyword_plain none = refl
-  keyword_plain (some k) = refl
+  keyword_plain None = refl
+  keyword_plain (Some k) = refl
 
   rules_plain : (b : Bool) (m : ℕ) → module_rules (plainly s) x b m ≡ module_rules s x b m
   unfolding module_rules
@@ -346,9 +346,9 @@ module _ (s : Snapshot) (x : FindPathCtx) (clear : x.fresh ≡ false) where
 
   entry_if_plain : (o : Option Scope) → entry_if (plainly s) x (plain_of o) ≡ plain_of (entry_if s x o)
   unfolding entry_if
-  entry_if_plain none = refl
-  entry_if_plain (some e) =
-      ap (λ (b : Bool). elim b [ true ↦ some (plain e) | false ↦ none ]) (importable_plain e) ∙ if_plain e (is_importable s x e)
+  entry_if_plain None = refl
+  entry_if_plain (Some e) =
+      ap (λ (b : Bool). elim b [ true ↦ Some (plain e) | false ↦ None ]) (importable_plain e) ∙ if_plain e (is_importable s x e)
 
   importable_name_plain : (item : Item) (m : ℕ) → importable_name (plainly s) x item m ≡ plain_of (importable_name s x item m)
   unfolding importable_name
@@ -360,8 +360,8 @@ module _ (s : Snapshot) (x : FindPathCtx) (clear : x.fresh ≡ false) where
     location_plain : (left : ℕ) (ls : List Level) (best : Choice) (m : ℕ) (o : Option Scope)
         → location (plainly s) x rec left ls best m (plain_of o) ≡ location s x rec left ls best m o
     unfolding location offer_entry offer try_select better push extended is_prelude name_data
-    location_plain left ls best m none = refl
-    location_plain left ls best m (some e) = refl
+    location_plain left ls best m None = refl
+    location_plain left ls best m (Some e) = refl
 
     each_plain : (left : ℕ) (ls : List Level) (item : Item) (done : List ℕ) (best : Choice) (ms : List ℕ)
         → each_location (plainly s) x rec left ls item done best ms ≡ each_location s x rec left ls item done best ms
@@ -507,8 +507,8 @@ module _ (s : Snapshot) (x : FindPathCtx) (clear : x.fresh ≡ false) where
       via_plain : (item : Item) (t : M) (v : Option Definition)
           → via_enum M charge (plainly s) x here rec inner item t v ≡ via_enum M charge s x here rec inner item t v
       unfolding via_enum item_of definition_of
-      via_plain item t none = best_plain x.max_len item t
-      via_plain item t (some v) = after_enum_plain item v _ _
+      via_plain item t None = best_plain x.max_len item t
+      via_plain item t (Some v) = after_enum_plain item v _ _
 
       named_plain' : (item : Item) (t : M) (c : Choice) (b : Bool)
           → or_enum M charge (plainly s) x here rec inner item t c b ≡ or_enum M charge s x here rec inner item t c b

@@ -3,7 +3,7 @@ use mathlib.Core.Path.{◌≡◌, refl, ap, sym, ◌∙◌, subst}
 use mathlib.Core.List.{List}
 use mathlib.Core.Bool.{Bool, true, false, ◌&&◌, ◌||◌, not, false≢true}
 use mathlib.Core.Logic.{inl, inr, ⊎_elim, ◌↔◌}
-use mathlib.Core.Option.{some}
+use Rattle.std.specs.Prelude.{Some}
 use Prim.Native.Nat.{ℕ, zero, suc, ◌+◌, ◌/◌, ◌%◌, ◌≤◌, ◌<◌}
 use native.Mathlib.Omega.{arith}
 use lib.Dec.{eqb, ltb}
@@ -158,7 +158,7 @@ module _ (s : Snapshot) (q : Query) (o : Out Tank) (below : q.options < 64) wher
   means_back h =
       ⊎_elim (λ e. rw (eq-eqb _ _ e.0, eq-eqb _ _ e.1))
       (λ e. or_back (is_builtin_type s q) back (exactly_reads s q.from.0 (asked_item s q) choice.kind (take choice.count choice.names)
-      (subst (λ (n : ℕ). reads_to s q.from.0 n choice.kind (take choice.count choice.names) ≡ some (asked_item s q))
+      (subst (λ (n : ℕ). reads_to s q.from.0 n choice.kind (take choice.count choice.names) ≡ Some (asked_item s q))
       (sym (item_ns s q.ns q.definition.0)) e))) h
 
   back_means : (is_builtin_type s q || back) ≡ true → means
@@ -167,7 +167,7 @@ module _ (s : Snapshot) (q : Query) (o : Out Tank) (below : q.options < 64) wher
       by_test (is_builtin_type s q)
       (λ e. let f = and_two (eqb q.ns types) (eqb (definition_of s q.definition.0).kind builtin_kind) e in
       inl (eqb-true _ _ f.0, eqb-true _ _ f.1))
-      (λ e. inr (subst (λ (n : ℕ). reads_to s q.from.0 n choice.kind (take choice.count choice.names) ≡ some (asked_item s q))
+      (λ e. inr (subst (λ (n : ℕ). reads_to s q.from.0 n choice.kind (take choice.count choice.names) ≡ Some (asked_item s q))
       (item_ns s q.ns q.definition.0)
       (reads_exactly s q.from.0 (asked_item s q) choice.kind (take choice.count choice.names) (or_right _ _ h e))))
 

@@ -6,7 +6,7 @@ use native.Mathlib.Numerals.{add-one}
 use mathlib.Core.List.Memᴰ
 use mathlib.Core.List.{List, [], ◌∷◌, ◌++◌}
 use mathlib.Core.Bool.{Bool, true, false, ◌||◌, not, true≢false, false≢true}
-use mathlib.Core.Option.{Option, none, some}
+use Rattle.std.specs.Prelude.{Option, None, Some}
 use mathlib.Core.Logic.{⊎_elim}
 use lib.Dec.{eqb}
 use lib.ListN.{length, get_or, set, take, length-set}
@@ -67,12 +67,12 @@ use Rattle.search_laws.proofs.Outcomes.{path_found, Kind, refusal, answer, kind_
 ruleset passed = (and_left, and_right)
 
 -- what is found in a list stands there and passes the test
-first_found_lem : {A : Type 0} (p : A → Bool) (xs : List A) (y : A) → first_of p xs ≡ some y → (y ∈ xs) × (p y ≡ true)
+first_found_lem : {A : Type 0} (p : A → Bool) (xs : List A) (y : A) → first_of p xs ≡ Some y → (y ∈ xs) × (p y ≡ true)
 unfolding first_of
 first_found_lem p [] y e = let z : ◌≡◌ {A = ℕ} 0 1 = cc in absurd (omega arith)
 first_found_lem p (x ∷ xs) y e =
     by_test (p x)
-    (λ t. let f : some x ≡ some y = rw (t, first_of) at e in let same : y ≡ x = cc in (Memᴰ.head same, ap p same ∙ t))
+    (λ t. let f : Some x ≡ Some y = rw (t, first_of) at e in let same : y ≡ x = cc in (Memᴰ.head same, ap p same ∙ t))
     (λ t. let f = first_found_lem p xs y (rw (t, first_of) at e) in (Memᴰ.tail f.0, f.1))
 
 -- every element stands in its list
@@ -105,13 +105,13 @@ record Rooted (s : Snapshot) (x : FindPathCtx) : Type 0 where
 
 -- an entry that is answered leads from the module to the item
 abbrev Led : Snapshot → FindPathCtx → ℕ → Item → Option Scope → Type 0
-Led s x m item (some e) = Step s x m e.name (step_by via_local e.place) item
-Led s x m item none = Unit {0}
+Led s x m item (Some e) = Step s x m e.name (step_by via_local e.place) item
+Led s x m item None = Unit {0}
 
 -- the path of a keyword without names, where it is taken, reaches the module
 abbrev Started : Snapshot → FindPathCtx → ℕ → Option ℕ → Type 0
-Started s x m (some k) = not (eqb x.prefix by_crate) || eqb k crate_path ≡ true → Start s x k [] (step_by via_keyword 0) (module_item m)
-Started s x m none = Unit {0}
+Started s x m (Some k) = not (eqb x.prefix by_crate) || eqb k crate_path ≡ true → Start s x k [] (step_by via_keyword 0) (module_item m)
+Started s x m None = Unit {0}
 
 module _ (s : Snapshot) where
   module _ (x : FindPathCtx) where
@@ -125,7 +125,7 @@ module _ (s : Snapshot) where
         record { dependency = d; known = k; stands = h; owner = eqb-true _ _ f.0; away = away; same = same_item_lem _ item f.1 })
 
     entry_step : (m : ℕ) (item : Item) (e : Scope) → e ∈ s.scopes → is_near s x item ≡ true → is_for s m item e ≡ true
-        → importable_name s x item m ≡ some e
+        → importable_name s x item m ≡ Some e
         → sees s x.from.0 e ≡ true → Step s x m e.name (step_by via_local e.place) item
     unfolding is_for
     entry_step m item e h near p o v =
@@ -221,10 +221,10 @@ module _ (s : Snapshot) where
     -- the rules without a search
 
     single_leads : (item : Item) (kind rule : ℕ) (o : Option Scope)
-        → ((e : Scope) → o ≡ some e → Start s x kind (e.name ∷ []) (step_by rule e.place) item) → Leads s x item (single s x kind rule o)
+        → ((e : Scope) → o ≡ Some e → Start s x kind (e.name ∷ []) (step_by rule e.place) item) → Leads s x item (single s x kind rule o)
     unfolding single
-    single_leads item kind rule none f = nothing_leads
-    single_leads item kind rule (some e) f = new_leads item kind e.name _ (f e refl)
+    single_leads item kind rule None f = nothing_leads
+    single_leads item kind rule (Some e) f = new_leads item kind e.name _ (f e refl)
 
     scope_leads : (item : Item) → Leads s x item (scope_rule s x item)
     unfolding scope_rule
@@ -243,8 +243,8 @@ module _ (s : Snapshot) where
     extern_leads : (m : ℕ) (o : Option Extern) → crate_root s m ≡ m → (m ≡ x.crate_root.0 → ⊥)
         → extern_of s x.from_crate.0 m ≡ o → Leads s x (module_item m) (extern_name s x m o)
     unfolding extern_name
-    extern_leads m none r z h = nothing_leads
-    extern_leads m (some e) r z h =
+    extern_leads m None r z h = nothing_leads
+    extern_leads m (Some e) r z h =
         new_leads (module_item m) _ e.name _
         (extern m e (held_at (λ y. y ∈ s.externs) _ (extern_held s (λ y. y ∈ s.externs) (each_self s.externs) x.from_crate.0 m) h)
         r z h)
@@ -283,7 +283,7 @@ module _ (s : Snapshot) where
           either_started m (eqb m p) _ _
           (λ t.
           let same : p ≡ m = sym (eqb-true m p t) in
-          either_started m (eqb p (root_of s (map_no s x.from.0))) (some crate_path) (some super_path)
+          either_started m (eqb p (root_of s (map_no s x.from.0))) (Some crate_path) (Some super_path)
           (λ r k. crate_start m (rooted.root ∙ sym (own_root s valid x.from.0 p e b) ∙ sym (eqb-true p _ r) ∙ same))
           (λ _ k. subst (λ (j : ℕ). Start s x super_path [] (step_by via_keyword 0) (module_item j)) same (super p (not_by_crate super_path refl k) e)))
           (λ _. tt)
@@ -291,18 +291,18 @@ module _ (s : Snapshot) where
       keyword_started : (m : ℕ) → Started s x m (is_kw_kind_relative_to_from s x m)
       unfolding is_kw_kind_relative_to_from
       keyword_started m =
-          either_started m (not (eqb (crate_of s m) (crate_of s x.from.0)) || (in_block s m || in_block s x.from.0)) none _ (λ _. tt)
+          either_started m (not (eqb (crate_of s m) (crate_of s x.from.0)) || (in_block s m || in_block s x.from.0)) None _ (λ _. tt)
           (λ t.
           let f = (or_none_lem (in_block s m) (in_block s x.from.0) (or_none_lem (not (eqb (crate_of s m) (crate_of s x.from.0))) _ t).1).1 in
-          either_started m (eqb m x.from.0) (some self_path) _
+          either_started m (eqb m x.from.0) (Some self_path) _
           (λ e k. subst (λ (j : ℕ). Start s x self_path [] (step_by via_keyword 0) (module_item j)) (sym (eqb-true m x.from.0 e))
           (self (not_by_crate self_path refl k)))
           (λ _. parent_started m (parent_of s x.from.0) refl (eqb-true (block_of s x.from.0) 0 (not-false _ f))))
 
       keyword_of_leads : (m : ℕ) (k : Option ℕ) → Started s x m k → Leads s x (module_item m) (keyword_of s x k)
       unfolding keyword_of
-      keyword_of_leads m none b = nothing_leads
-      keyword_of_leads m (some k) b =
+      keyword_of_leads m None b = nothing_leads
+      keyword_of_leads m (Some k) b =
           either_leads (not (eqb x.prefix by_crate) || eqb k crate_path) _ _ (λ t. keyword_leads m k (b t)) (λ _. nothing_leads)
 
       rules_lead : (b : Bool) (m : ℕ) → (b ≡ false → Near s valid x.from.0 m) → Leads s x (module_item m) (module_rules s x b m)
@@ -320,22 +320,22 @@ module _ (s : Snapshot) where
       Stands m item e = (e ∈ s.scopes) × (is_for s m item e ≡ true)
 
       first_stands : (m : ℕ) (item : Item) (p : Scope → Bool) (e : Scope) → ((y : Scope) → p y ≡ true → is_for s m item y ≡ true)
-          → first_of p s.scopes ≡ some e → Stands m item e
+          → first_of p s.scopes ≡ Some e → Stands m item e
       first_stands m item p e g h = let f = first_found_lem p s.scopes e h in (f.0, g e f.1)
 
       -- what passes the test of the local rule is the entry itself, and is visible
-      entry_if_lem : (o : Option Scope) (e : Scope) → entry_if s x o ≡ some e → (o ≡ some e) × (sees s x.from.0 e ≡ true)
+      entry_if_lem : (o : Option Scope) (e : Scope) → entry_if s x o ≡ Some e → (o ≡ Some e) × (sees s x.from.0 e ≡ true)
       unfolding entry_if
-      entry_if_lem none e h = let z : ◌≡◌ {A = ℕ} 0 1 = cc in absurd (omega arith)
-      entry_if_lem (some y) e h =
+      entry_if_lem None e h = let z : ◌≡◌ {A = ℕ} 0 1 = cc in absurd (omega arith)
+      entry_if_lem (Some y) e h =
           by_test (is_importable s x y)
           (λ t.
-          let f : some y ≡ some e = rw (entry_if, t) at h in
+          let f : Some y ≡ Some e = rw (entry_if, t) at h in
           let same : y ≡ e = cc in
           (f, subst (λ z. sees s x.from.0 z ≡ true) same (and_left (sees s x.from.0 y) _ t)))
-          (λ t. let f : none ≡ some e = rw (entry_if, t) at h in let z : ◌≡◌ {A = ℕ} 0 1 = cc in absurd (omega arith))
+          (λ t. let f : None ≡ Some e = rw (entry_if, t) at h in let z : ◌≡◌ {A = ℕ} 0 1 = cc in absurd (omega arith))
 
-      importable_step : (item : Item) (m : ℕ) (e : Scope) → is_near s x item ≡ true → importable_name s x item m ≡ some e
+      importable_step : (item : Item) (m : ℕ) (e : Scope) → is_near s x item ≡ true → importable_name s x item m ≡ Some e
           → Step s x m e.name (step_by via_local e.place) item
       unfolding importable_name name_of names_of
       importable_step item m e near o =
@@ -346,8 +346,8 @@ module _ (s : Snapshot) where
           entry_step m item e g.0 near g.1 o f.1
 
       led : (item : Item) (m : ℕ) (o : Option Scope) → is_near s x item ≡ true → importable_name s x item m ≡ o → Led s x m item o
-      led item m none near h = tt
-      led item m (some e) near h = importable_step item m e near h
+      led item m None near h = tt
+      led item m (Some e) near h = importable_step item m e near h
 
       importable_led : (item : Item) (m : ℕ) → is_near s x item ≡ true → Led s x m item (importable_name s x item m)
       importable_led item m near = led item m (importable_name s x item m) near refl
@@ -364,8 +364,8 @@ module _ (s : Snapshot) where
             → Leads s x item best → Led s x m item o
             → Leads s x item (location s x rec left ls best m o)
         unfolding location offer_entry
-        location_leads item left ls best m none near f h = f
-        location_leads item left ls best m (some e) near f h = offer_leads m item best _ e.name _ f (leads _ ls m near) h
+        location_leads item left ls best m None near f h = f
+        location_leads item left ls best m (Some e) near f h = offer_leads m item best _ e.name _ f (leads _ ls m near) h
 
         each_leads : (left : ℕ) (ls : List Level) (item : Item) (done : List ℕ) (best : Choice) {ms : List ℕ} → is_near s x item ≡ true
             → Each (Near s valid x.from.0) ms → Leads s x item best
@@ -406,10 +406,10 @@ module _ (M : Type 0) (charge : Charge M) (s : Snapshot) (x : FindPathCtx) (vali
   abbrev Ours : Dependency → Type 0
   Ours d = d ∈ dependencies_of s x.from_crate.0
 
-  lang_in : (o : Option Dependency) → ((d : Dependency) → o ≡ some d → Ours d) → Each Ours (one_or_none o)
+  lang_in : (o : Option Dependency) → ((d : Dependency) → o ≡ Some d → Ours d) → Each Ours (one_or_none o)
   unfolding one_or_none
-  lang_in none f = Each.none
-  lang_in (some d) f = more (f d refl) Each.none
+  lang_in None f = Each.none
+  lang_in (Some d) f = more (f d refl) Each.none
 
   lang_ours : (n : ℕ) → Each Ours (one_or_none (lang_of s x.from_crate.0 n))
   unfolding lang_of
@@ -511,7 +511,7 @@ module _ (s : Snapshot) (x : FindPathCtx) (limit : x.max_len ≤ path_limit) whe
         direct (f.route e (omega (arith, limit, g.few, g.long)) (omega (arith, limit, g.few, g.once, g.wide))) (omega (arith, n, g.few));
   }
 
-  variant_path : (item : Item) (v : Definition) (c : Choice) → variant_of s item ≡ some v → Leads s x (item_of s types v.first) c
+  variant_path : (item : Item) (v : Definition) (c : Choice) → variant_of s item ≡ Some v → Leads s x (item_of s types v.first) c
       → Fits s x.max_len c → c.found ≡ true → Paths s x item (push_variant s c v)
   unfolding push_variant push extended
   variant_path item v c q f g e = record {
@@ -531,7 +531,7 @@ module _ (M : Type 0) (charge : Charge M) (s : Snapshot) (x : FindPathCtx) (vali
   -- P holds of every route of as many names at most as the limit, and of what the enum's search gives a variant
   module _ (inner : Inner M) (P : Item → Choice → Type 0)
       (short : (item : Item) (c : Choice) → Leads s x item c → Fits s x.max_len c → P item c)
-      (within : (item : Item) (t : M) (v : Definition) → variant_of s item ≡ some v → (inner (item_of s types v.first) t).choice.found ≡ true
+      (within : (item : Item) (t : M) (v : Definition) → variant_of s item ≡ Some v → (inner (item_of s types v.first) t).choice.found ≡ true
       → P item (push_variant s (inner (item_of s types v.first) t).choice v)) where
     best_path_lem : (item : Item) (t : M)
         → P item (calculate_best_path M charge s x (best_local s x) (search_module M charge s x) x.max_len item t).choice
@@ -550,8 +550,8 @@ module _ (M : Type 0) (charge : Charge M) (s : Snapshot) (x : FindPathCtx) (vali
     via_path : (item : Item) (t : M) (v : Option Definition) → variant_of s item ≡ v
         → P item (via_enum M charge s x (best_local s x) (search_module M charge s x) inner item t v).choice
     unfolding via_enum
-    via_path item t none q = best_path_lem item t
-    via_path item t (some v) q = enum_path item v _ _ (within item t v q)
+    via_path item t None q = best_path_lem item t
+    via_path item t (Some v) q = enum_path item v _ _ (within item t v q)
 
     named_path : (item : Item) (t : M) (c : Choice) (b : Bool) → P item c
         → P item (or_enum M charge s x (best_local s x) (search_module M charge s x) inner item t c b).choice

@@ -5,7 +5,7 @@ use native.Mathlib.Omega.{arith}
 use mathlib.Core.List.{List, [], ◌∷◌, ◌++◌}
 use mathlib.Core.Bool.{Bool, true, false, true≢false, false≢true}
 use mathlib.Core.Logic.{⊎_elim}
-use mathlib.Core.Option.{Option, none, some}
+use Rattle.std.specs.Prelude.{Option, None, Some}
 use lib.Dec.{eqb}
 use borrow.Author.Tests.{eqb-true}
 use Rattle.snapshot.specs.Lists.{any}
@@ -68,8 +68,8 @@ module _ (s : Snapshot) (x : FindPathCtx) where
         → has (locations s x [] m) c ≡ true → importable_name s x (module_item m) c ≡ a
         → location s x (search_local s x) (suc l) (only m done) best c a ≡ location s x row_of (suc l) (only m done) best c a
     unfolding location imports
-    location_row done best c none w i = refl
-    location_row done best c (some a) w i =
+    location_row done best c None w i = refl
+    location_row done best c (Some a) w i =
         let less : length_left (suc l) best < suc l = length_falls (suc l) best (omega arith) in
         ap (λ (z : Choice). offer_entry s x best z a) (row l m c (length_left (suc l) best) done e (record { taken = w; entry = ap is_some i })
         (omega arith))
@@ -91,8 +91,8 @@ module _ (s : Snapshot) (x : FindPathCtx) where
   location_keeps : (rec : LocalSearch) (left : ℕ) (ls : List Level) (best : Choice) (m : ℕ) (a : Option Scope) → best.found ≡ true
       → (location s x rec left ls best m a).found ≡ true
   unfolding location
-  location_keeps rec left ls best m none h = h
-  location_keeps rec left ls best m (some e) h =
+  location_keeps rec left ls best m None h = h
+  location_keeps rec left ls best m (Some e) h =
       ⊎_elim (λ f. f.1) (λ f. ap (λ (z : Choice). z.found) f.1 ∙ h) (offer_cases s x best (rec (length_left left best) ls m) e _ refl)
 
   each_keeps : (rec : LocalSearch) (left : ℕ) (ls : List Level) (item : Item) (done : List ℕ) (best : Choice) (ms : List ℕ) → best.found ≡ true
@@ -121,9 +121,9 @@ module _ (s : Snapshot) (x : FindPathCtx) where
     location_finds : (ls : List Level) (best : Choice) (a : Option Scope) → is_some a ≡ true → (f : Bool) → best.found ≡ f
         → (location s x row_of (suc l) ls best c a).found ≡ true
     unfolding location length_left shorter_if
-    location_finds ls best none i f h = absurd (false≢true i)
-    location_finds ls best (some e) i true h = location_keeps row_of (suc l) ls best c (some e) h
-    location_finds ls best (some e) i false h =
+    location_finds ls best None i f h = absurd (false≢true i)
+    location_finds ls best (Some e) i true h = location_keeps row_of (suc l) ls best c (Some e) h
+    location_finds ls best (Some e) i false h =
         let q : length_left (suc l) best ≡ l = rw h (omega arith) in
         ⊎_elim (λ f. f.1) (λ f. absurd (true≢false (sym (ap (λ i. (search_local s x i [] c).found) q ∙ found) ∙ f.0)))
         (offer_cases s x best (search_local s x (length_left (suc l) best) [] c) e _ refl)

@@ -4,7 +4,7 @@ use Prim.Native.Nat.{ℕ, zero, suc, ◌+◌}
 use native.Mathlib.Omega.{arith}
 use mathlib.Core.List.{List, [], ◌∷◌}
 use mathlib.Core.Bool.{Bool, true, false, true≢false}
-use mathlib.Core.Option.{Option, none, some}
+use Rattle.std.specs.Prelude.{Option, None, Some}
 use Rattle.snapshot.specs.Records.{Snapshot, Dependency, Definition, Import}
 use Rattle.hir_def.specs.Items.{types, item_of, module_item}
 use Rattle.hir_def.specs.Nameres.{lang_of, sysroot_first}
@@ -208,8 +208,8 @@ module _ (C : Type 0) (charge : Charge C) (size : C → ℕ) (Past : ℕ → ℕ
         via_sim : (item : Item) (t : Tank) (n : C) (v : Option Definition) → Sync F t (size n)
             → Both F (via_enum Tank from_tank s x here rt it item t v) (via_enum C charge s x here rc ic item n v)
         unfolding via_enum
-        via_sim item t n none h = best_sim x.max_len item t n h
-        via_sim item t n (some v) h = enum_sim item v _ _ (within (item_of s types v.first) t n h)
+        via_sim item t n None h = best_sim x.max_len item t n h
+        via_sim item t n (Some v) h = enum_sim item v _ _ (within (item_of s types v.first) t n h)
 
         named_sim : (item : Item) (t : Tank) (n : C) (c : Choice) (b : Bool) → Sync F t (size n)
             → Both F (or_enum Tank from_tank s x here rt it item t c b) (or_enum C charge s x here rc ic item n c b)

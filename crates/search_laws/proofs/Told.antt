@@ -3,7 +3,7 @@ use Prim.Native.Nat.{ℕ, zero, suc, ◌≤◌, ◌<◌}
 use mathlib.Core.Path.{◌≡◌}
 use mathlib.Core.List.{List, [], ◌∷◌}
 use mathlib.Core.Bool.{Bool, true, false, ◌&&◌}
-use mathlib.Core.Option.{Option, none, some}
+use Rattle.std.specs.Prelude.{Option, None, Some}
 use native.Mathlib.Omega.{arith}
 use borrow.Author.Tests.{eqb-true}
 use lib.Dec.{eqb}
@@ -155,8 +155,8 @@ module _ (s : Snapshot) (r : Ranges (counts_of s) s) where
       via_told : (item : Item) (t : Tank) (v : Option Definition) → Inside item → Keeps t
           → Keeps (via_enum Tank from_tank s x here rec inner item t v).meter
       unfolding via_enum
-      via_told item t none h f = item_best item t h f
-      via_told item t (some v) h f = enum_told item v _ _ h (within (item_of s types v.first) t (item_inside types v.first) f)
+      via_told item t None h f = item_best item t h f
+      via_told item t (Some v) h f = enum_told item v _ _ h (within (item_of s types v.first) t (item_inside types v.first) f)
 
       named_told : (item : Item) (t : Tank) (c : Choice) (b : Bool) → Inside item → Keeps t
           → Keeps (or_enum Tank from_tank s x here rec inner item t c b).meter

@@ -4,7 +4,7 @@ use Prim.Native.Nat.{ℕ, zero, suc, ◌≤◌, ◌<◌}
 use native.Mathlib.Omega.{arith}
 use mathlib.Core.List.{List, [], ◌∷◌, ◌++◌}
 use mathlib.Core.Bool.{Bool, true, false}
-use mathlib.Core.Option.{Option, none, some}
+use Rattle.std.specs.Prelude.{Option, None, Some}
 use Rattle.snapshot.specs.Records.{Snapshot, Scope, Dependency, Definition, Import}
 use Rattle.hir_def.specs.Items.{types, item_of, module_item}
 use Rattle.hir_def.specs.Nameres.{lang_of, sysroot_first}
@@ -41,8 +41,8 @@ module _ (s : Snapshot) (x : FindPathCtx) where
   module _ (left : ℕ) (f g : LocalSearch) (pos : 0 < left) (agree : AgreeLocal left f g) where
     location_same : (ls : List Level) (best : Choice) (m : ℕ) (a : Option Scope) → location s x f left ls best m a ≡ location s x g left ls best m a
     unfolding location
-    location_same ls best m none = refl
-    location_same ls best m (some e) = ap (λ (c : Choice). offer_entry s x best c e) (agree _ ls m (length_falls left _ pos))
+    location_same ls best m None = refl
+    location_same ls best m (Some e) = ap (λ (c : Choice). offer_entry s x best c e) (agree _ ls m (length_falls left _ pos))
 
     each_same : (ls : List Level) (item : Item) (done : List ℕ) (best : Choice) (ms : List ℕ)
         → each_location s x f left ls item done best ms ≡ each_location s x g left ls item done best ms
@@ -85,7 +85,7 @@ module _ (s : Snapshot) (x : FindPathCtx) where
 
 -- The enum of the item, where it is a variant, is no variant.
 abbrev pub EnumNoVariant : Snapshot → Item → Type 0
-EnumNoVariant s item = (v : Definition) → variant_of s item ≡ some v → variant_of s (item_of s types v.first) ≡ none
+EnumNoVariant s item = (v : Definition) → variant_of s item ≡ Some v → variant_of s (item_of s types v.first) ≡ None
 
 -- two module searches that agree below a length left
 abbrev Agree : {M : Type 0} → ℕ → Search M → Search M → Type 0
@@ -168,12 +168,12 @@ module _ (M : Type 0) (charge : Charge M) (s : Snapshot) (x : FindPathCtx) where
 
   -- where the two searches for the enum agree, so do those for the item
   module _ (here : ℕ → Item → Choice) (rec : Search M) (f g : Inner M) (item : Item)
-      (agree : (v : Definition) (t : M) → variant_of s item ≡ some v → f (item_of s types v.first) t ≡ g (item_of s types v.first) t) where
+      (agree : (v : Definition) (t : M) → variant_of s item ≡ Some v → f (item_of s types v.first) t ≡ g (item_of s types v.first) t) where
     via_same : (t : M) (v : Option Definition) → variant_of s item ≡ v → via_enum M charge s x here rec f item t v
         ≡ via_enum M charge s x here rec g item t v
     unfolding via_enum
-    via_same t none e = refl
-    via_same t (some v) e =
+    via_same t None e = refl
+    via_same t (Some v) e =
         ap (λ (o : Out M). after_enum M charge s x here rec item v o o.choice.found) (agree v t e)
 
     or_enum_same : (t : M) (c : Choice) (b : Bool) → or_enum M charge s x here rec f item t c b ≡ or_enum M charge s x here rec g item t c b
@@ -193,7 +193,7 @@ module _ (M : Type 0) (charge : Charge M) (s : Snapshot) (x : FindPathCtx) where
   of_same here rec f g m t false e = refl
 
   item_same : (here : ℕ → Item → Choice) (rec : Search M) (f g : Inner M) (item : Item)
-      → ((v : Definition) (t : M) → variant_of s item ≡ some v → f (item_of s types v.first) t ≡ g (item_of s types v.first) t)
+      → ((v : Definition) (t : M) → variant_of s item ≡ Some v → f (item_of s types v.first) t ≡ g (item_of s types v.first) t)
       → (t : M) → find_path_inner M charge s x here rec f item t ≡ find_path_inner M charge s x here rec g item t
   unfolding find_path_inner
   item_same here rec f g (Mod m) agree t = of_same here rec f g m.0 t x.is_std_item (by_name_same here rec f g (Mod m) agree t)
@@ -206,5 +206,5 @@ module _ (M : Type 0) (charge : Charge M) (s : Snapshot) (x : FindPathCtx) where
   inner_more item t one =
       item_same (best_local s x) (search_module M charge s x) (item_to M charge s x 1) (search_item M charge s x) item
       (λ v u e. item_same (best_local s x) (search_module M charge s x) (item_to M charge s x 0) (item_to M charge s x 1) (item_of s types v.first)
-      (λ w u' k. let z : none ≡ some w = sym (one v e) ∙ k in let c : ◌≡◌ {A = ℕ} 0 1 = cc in absurd (omega arith)) u)
+      (λ w u' k. let z : None ≡ Some w = sym (one v e) ∙ k in let c : ◌≡◌ {A = ℕ} 0 1 = cc in absurd (omega arith)) u)
       t

@@ -3,7 +3,7 @@ use mathlib.Core.Path.{◌≡◌, refl, ap, sym, ◌∙◌}
 use Prim.Native.Nat.{ℕ, zero, suc}
 use mathlib.Core.List.{List, [], ◌∷◌, ◌++◌, append-nil}
 use mathlib.Core.Bool.{Bool, true, false, ◌&&◌, ◌||◌, not, false≢true}
-use mathlib.Core.Option.{Option, none, some}
+use Rattle.std.specs.Prelude.{Option, None, Some}
 use lib.Dec.{eqb}
 use lib.Seq.{append_snoc}
 use borrow.Author.Tests.{eq-eqb, eqb-true}
@@ -144,8 +144,8 @@ module _ (s : Snapshot) (x : FindPathCtx) (turns : ℕ) where
   module _ (rec : SetSearch) (back : Back rec) (left : ℕ) where
     callback_back : (best : Choice) (v : Pairs) (m : ℕ) (o : Option Scope) → (callback s x turns rec left best v m o).set ≡ v
     unfolding callback
-    callback_back best v m none = refl
-    callback_back best v m (some e) = back _ v m
+    callback_back best v m None = refl
+    callback_back best v m (Some e) = back _ v m
 
     module _ (v : Pairs) (item : Item) where
       -- each module in turn, with the set passed down
@@ -208,8 +208,8 @@ module _ (s : Snapshot) (x : FindPathCtx) (turns : ℕ) where
     callback_same : (left : ℕ) (ls : List Level) (best : Choice) (m : ℕ) (o : Option Scope)
         → (callback s x turns rec left best (visited ls) m o).choice ≡ location s x plain left ls best m o
     unfolding callback location
-    callback_same left ls best m none = refl
-    callback_same left ls best m (some e) = ap (λ (c : Choice). offer_entry s x best c e) (same _ ls m)
+    callback_same left ls best m None = refl
+    callback_same left ls best m (Some e) = ap (λ (c : Choice). offer_entry s x best c e) (same _ ls m)
 
     -- the set under way is the pairs with one level more
     each_same : (left : ℕ) (ls : List Level) (item : Item) (d : List ℕ) (best : Choice) (ms : List ℕ)

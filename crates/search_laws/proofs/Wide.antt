@@ -5,7 +5,7 @@ use native.Mathlib.Omega.{arith}
 use mathlib.Core.List.{List, [], ◌∷◌, ◌++◌}
 use mathlib.Core.Bool.{Bool, true, false, ◌||◌, true≢false, false≢true}
 use mathlib.Core.Logic.{◌⊎◌, inl, inr, ⊎_elim}
-use mathlib.Core.Option.{Option, none, some}
+use Rattle.std.specs.Prelude.{Option, None, Some}
 use lib.Dec.{eqb, ltb, compare_is_eq, is_le}
 use borrow.Author.Tests.{ne_eqb, eqb-true, eqb-false, le-leb, lt-leb}
 use Rattle.snapshot.specs.Lists.{any}
@@ -91,7 +91,7 @@ module _ (s : Snapshot) (x : FindPathCtx) where
     -- One location in the loop for m, with the best choice a before it.
     module _ (l : ℕ) (hl : suc l ≤ most) (ls : List Level) (m : ℕ) (w : E m) (r : ruled s x m ≡ false) (done : List ℕ) (a : Choice)
         (c : ℕ) (e : Scope)
-        (new : has done c ≡ false) (at : Location s x [] m c) (i : importable_name s x (module_item m) c ≡ some e)
+        (new : has done c ≡ false) (at : Location s x [] m c) (i : importable_name s x (module_item m) c ≡ Some e)
         (kept : a.found ≡ true → (n : ℕ) × (has done n ≡ true) × Location s x [] m n × Reached s x most n × (a.has_prelude_segment ≡ v m))
         (sized : a.found ≡ true → Sized s x (suc l) m a) where
       abbrev got : Choice
@@ -210,7 +210,7 @@ module _ (s : Snapshot) (x : FindPathCtx) where
       KeptIf done a = a.found ≡ true → (n : ℕ) × (has done n ≡ true) × Location s x [] m n × Reached s x most n × (a.has_prelude_segment ≡ v m)
 
       module _ (done : List ℕ) (a a' : Choice) (c : ℕ) (e : Scope) (new : has done c ≡ false) (at : Location s x [] m c)
-          (i : importable_name s x (module_item m) c ≡ some e)
+          (i : importable_name s x (module_item m) c ≡ Some e)
           (kept : KeptIf done a) (kept' : KeptIf done a') (sized : a.found ≡ true → Sized s x (suc l) m a) (sized' : a'.found ≡ true
           → Sized s x (suc l') m a') where
         abbrev q : Choice
@@ -363,7 +363,7 @@ module _ (s : Snapshot) (x : FindPathCtx) where
           → State (done ++ (c ∷ [])) (location s x (search_local s x) (suc l) (put done c ls) a c o)
           (location s x (search_local s x) (suc l') (put done c ls') a' c o)
       unfolding location imports
-      state_step done a a' c new in' (kept, kept', sized, sized', st) none i =
+      state_step done a a' c new in' (kept, kept', sized, sized', st) None i =
           ⊎_elim (λ (eq, ex). inl (eq, ex))
           (λ (d, d', op). inr (
             d,
@@ -373,7 +373,7 @@ module _ (s : Snapshot) (x : FindPathCtx) where
                 ∙ ap (λ y. is_some (importable_name s x (module_item m) y)) z ∙ ap is_some i)))),
           ))
           st
-      state_step done a a' c new in' (kept, kept', sized, sized', st) (some e) i =
+      state_step done a a' c new in' (kept, kept', sized, sized', st) (Some e) i =
           some_state done a a' c e new (record { taken = in'; entry = ap is_some i }) i kept kept' sized sized' st
 
       both_step : (done : List ℕ) (a a' : Choice) (c : ℕ) → has done c ≡ false → has (locations s x [] m) c ≡ true

@@ -1,6 +1,6 @@
 -- How near an answer of the rules is: what no length left can reach, no local search finds.
 use Rattle.std.specs.Prelude.{ℕ, zero, suc, List, Bool, true, false, ◌&&◌, ◌||◌}
-use Rattle.std.proofs.Math.Option.{Option, none, some}
+use Rattle.std.specs.Prelude.{Option, None, Some}
 use Rattle.snapshot.specs.Lists.{any}
 use Rattle.snapshot.specs.Records.{Snapshot}
 use Rattle.hir_def.specs.Items.{same_item, module_item}
@@ -10,8 +10,8 @@ use Rattle.find_path.specs.Local.{importable_name}
 use Rattle.find_path.specs.Rules.{module_rules}
 
 abbrev pub is_some : {A : Type 0} → Option A → Bool
-is_some none = false
-is_some (some a) = true
+is_some None = false
+is_some (Some a) = true
 
 -- a local search for the module is under way
 unfoldable pub is_on : List Level → ℕ → Bool

@@ -1,6 +1,6 @@
 -- What options bit 64 does: the report with it beside the report without it.
 use Rattle.std.specs.Prelude.{ℕ, ◌+◌, ◌<◌, ◌≡◌, List, ◌⊎◌, ◌↔◌}
-use Rattle.std.proofs.Math.Option.{some}
+use Rattle.std.specs.Prelude.{Some}
 use Rattle.snapshot.specs.Records.{Snapshot}
 use Rattle.check_rules.specs.Verdict.{accept, verdict}
 use Rattle.hir_def.specs.Items.{types, builtin_kind, definition_of}
@@ -19,7 +19,7 @@ with_reading q =
 abbrev pub MeansItem : Snapshot → Query → Report → Type 0
 MeansItem s q r =
     ((q.ns ≡ types) × ((definition_of s q.definition.0).kind ≡ builtin_kind))
-    ⊎ (reads_to s q.from.0 q.ns r.kind (path_names r) ≡ some (asked_item s q))
+    ⊎ (reads_to s q.from.0 q.ns r.kind (path_names r) ≡ Some (asked_item s q))
 
 -- the report with another outcome
 abbrev pub with_outcome : ℕ → Report → Report

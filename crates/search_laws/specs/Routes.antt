@@ -2,7 +2,7 @@
 -- these very rules and records.
 use Rattle.std.specs.Prelude.{◌≡◌, Bool, true, false, ◌||◌, ℕ, suc, ◌-◌, ◌/◌, ◌%◌, ◌≤◌, length, get_or, take}
 use mathlib.Core.List.{List, [], ◌∷◌, ◌++◌, Memᴰ}
-use Rattle.std.proofs.Math.Option.{some}
+use Rattle.std.specs.Prelude.{Some}
 use Rattle.snapshot.specs.Words.{kind_of}
 use Rattle.snapshot.specs.Records.{Snapshot, Dependency, Definition, Scope, Import, Extern}
 use Rattle.hir_def.specs.Items.{types, builtin_kind, parent_of, crate_root, definition_of, item_of, home_of, module_item}
@@ -35,11 +35,11 @@ pub data Start (s : Snapshot) (x : FindPathCtx) : ℕ → List ℕ → ℕ → I
   super : (p : ℕ) → (x.prefix ≡ by_crate → ⊥) → parent_of s x.from.0 ≡ suc p → Start s x super_path [] (step_by via_keyword 0) (module_item p)
   crate : Start s x crate_path [] (step_by via_keyword 0) (module_item x.crate_root.0)
   -- a first name by the scope, where it may be used, by the prelude, or by an extern of the viewer's crate for the root of another
-  scope : (item : Item) (e : Scope) → e ∈ s.scopes → may_be_in_scope s x ≡ true → find_in_scope s x item ≡ some e
+  scope : (item : Item) (e : Scope) → e ∈ s.scopes → may_be_in_scope s x ≡ true → find_in_scope s x item ≡ Some e
       → Start s x (prefix_path_kind x.prefix) (e.name ∷ []) (step_by via_scope e.place) item
-  prelude : (item : Item) (e : Scope) → e ∈ s.scopes → find_in_prelude s x item ≡ some e
+  prelude : (item : Item) (e : Scope) → e ∈ s.scopes → find_in_prelude s x item ≡ Some e
       → Start s x plain_path (e.name ∷ []) (step_by via_prelude e.place) item
-  extern : (m : ℕ) (e : Extern) → e ∈ s.externs → crate_root s m ≡ m → (m ≡ x.crate_root.0 → ⊥) → extern_of s x.from_crate.0 m ≡ some e
+  extern : (m : ℕ) (e : Extern) → e ∈ s.externs → crate_root s m ≡ m → (m ≡ x.crate_root.0 → ⊥) → extern_of s x.from_crate.0 m ≡ Some e
       → Start s x (extern_kind s x (occupied s x.from.0 m e.name || x.prefer_absolute)) (e.name ∷ [])
       (step_by via_extern e.place) (module_item m)
   -- a builtin is its name
@@ -50,7 +50,7 @@ pub data Start (s : Snapshot) (x : FindPathCtx) : ℕ → List ℕ → ℕ → I
 pub data Step (s : Snapshot) (x : FindPathCtx) : ℕ → ℕ → ℕ → Item → Type 0 where
   -- by the scope record of the module that the local search finds for the item, which is of the viewer's crate and visible from the viewing module
   entry : (e : Scope) → e ∈ s.scopes → is_near s x (item_of s e.ns e.definition) ≡ true
-      → importable_name s x (item_of s e.ns e.definition) e.owner ≡ some e → sees s x.from.0 e ≡ true
+      → importable_name s x (item_of s e.ns e.definition) e.owner ≡ Some e → sees s x.from.0 e ≡ true
       → Step s x e.owner e.name (step_by via_local e.place) (item_of s e.ns e.definition)
   -- by an import record of a dependency of the viewer's crate, for an item of another crate, in the module; it is not hidden, and is
   -- stable unless the question allows others
@@ -67,7 +67,7 @@ pub data Route (s : Snapshot) (x : FindPathCtx) : ℕ → List ℕ → List ℕ 
 -- A path is a route of as many names at most as the question's limit, or one to the enum of a variant and the variant's own name.
 pub data Path (s : Snapshot) (x : FindPathCtx) : ℕ → List ℕ → List ℕ → Item → Type 0 where
   direct : {k : ℕ} {ns ts : List ℕ} {item : Item} → Route s x k ns ts item → length ns ≤ x.max_len → Path s x k ns ts item
-  variant : {k : ℕ} {ns ts : List ℕ} {item : Item} (v : Definition) → v ∈ s.definitions → variant_of s item ≡ some v
+  variant : {k : ℕ} {ns ts : List ℕ} {item : Item} (v : Definition) → v ∈ s.definitions → variant_of s item ≡ Some v
       → Route s x k ns ts (item_of s types v.first) → length ns ≤ x.max_len
       → Path s x k (ns ++ (v.second ∷ [])) (ts ++ (step_by via_variant v.place ∷ [])) item
 

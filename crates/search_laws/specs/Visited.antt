@@ -1,7 +1,7 @@
 -- The local search as the Rust has it: one set `visited_modules` of pairs, which a search changes and gives back, and the callback in the
 -- middle of the walk. Local.antt passes the pairs down instead; here it is said that both are the same (proofs/Visited.antt).
 use Rattle.std.specs.Prelude.{ℕ, zero, suc, ◌+◌, ◌≤◌, ◌≡◌, List, [], ◌∷◌, ◌++◌, Bool, true, false, ◌&&◌, ◌||◌, not, eqb, length}
-use Rattle.std.proofs.Math.Option.{Option, none, some}
+use Rattle.std.specs.Prelude.{Option, None, Some}
 use Rattle.snapshot.specs.Records.{Snapshot, Scope}
 use Rattle.hir_def.specs.Finds.{select}
 use Rattle.hir_def.specs.Items.{same_item, module_item}
@@ -44,8 +44,8 @@ SetSearch = ℕ → Pairs → ℕ → Handed
 module _ (s : Snapshot) (x : FindPathCtx) (turns : ℕ) where
   -- what `calculate_best_path_local` does with a location, by the entry for the item there
   unfoldable pub callback : SetSearch → ℕ → Choice → Pairs → ℕ → Option Scope → Handed
-  callback rec left best v m none = record { choice = best; set = v }
-  callback rec left best v m (some e) =
+  callback rec left best v m None = record { choice = best; set = v }
+  callback rec left best v m (Some e) =
       let r = rec (length_left left best) v m in
       record { choice = offer_entry s x best r.choice e; set = r.set }
 

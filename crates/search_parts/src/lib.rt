@@ -4,11 +4,12 @@
 ghost use Rattle.std.specs.Prelude.{◌≡◌, [], ◌∷◌};
 ghost use Rattle.find_path.specs.Charged.{is_stable, langs};
 ghost use Rattle.snapshot.specs.Ids.{plus_one};
+ghost use Rattle.snapshot.specs.Origins.{origin_number};
 ghost use Rattle.search_parts.specs.Parts.{straight};
 
 use find_path::Choice;
 use hir_def::Item;
-use snapshot::ids::{ModuleId, OptModule};
+use snapshot::ids::{CrateOrigin, ModuleId};
 
 /// Whether a choice ends the search of the sysroot.
 pub fn is_stable(c: Choice) -> bool
@@ -20,38 +21,38 @@ pub fn is_stable(c: Choice) -> bool
 /// Three origins, in the order in which their crates are tried.
 #[derive(Clone, Copy)]
 pub struct Langs {
-    pub first: usize,
-    pub second: usize,
-    pub third: usize,
+    pub first: CrateOrigin,
+    pub second: CrateOrigin,
+    pub third: CrateOrigin,
 }
 
 /// The origins for a crate that prefers no_std, or not.
 pub fn langs_for(nostd: bool) -> Langs
-    ensures { result.first ∷ result.second ∷ result.third ∷ [] ≡ langs nostd }
+    ensures { origin_number result.first ∷ origin_number result.second ∷ origin_number result.third ∷ [] ≡ langs nostd }
 {
     if nostd {
         return Langs {
-            first: 1,
-            second: 2,
-            third: 3,
+            first: CrateOrigin::Core,
+            second: CrateOrigin::Alloc,
+            third: CrateOrigin::Std,
         };
     }
     Langs {
-        first: 3,
-        second: 1,
-        third: 2,
+        first: CrateOrigin::Std,
+        second: CrateOrigin::Core,
+        third: CrateOrigin::Alloc,
     }
 }
 
 /// The module that the module search is asked for at once.
-pub fn straight_of(std: bool, item: Item) -> OptModule
+pub fn straight_of(std: bool, item: Item) -> Option<ModuleId>
     ensures { plus_one result ≡ straight std item }
 {
     if std {
-        return OptModule::NoModule;
+        return None;
     }
     match item {
-        Item::Mod(m) => OptModule::Module(m),
-        Item::Def(_, _) => OptModule::NoModule,
+        Item::Mod(m) => Some(m),
+        Item::Def(_, _) => None,
     }
 }

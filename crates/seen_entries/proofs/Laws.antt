@@ -3,11 +3,13 @@ use Prim.Native.Nat.{ℕ, zero, suc, ◌<◌}
 use mathlib.Core.Path.{◌≡◌, refl, sym, ◌∙◌}
 use mathlib.Core.List.{List}
 use mathlib.Core.Bool.{Bool, true, false, ◌&&◌}
-use mathlib.Core.Option.{none, some}
+use Rattle.std.specs.Prelude.{None, Some}
 use native.Mathlib.Omega.{arith}
 use borrow.Author.Tests.{eq-eqb, ne_eqb}
 use lib.Dec.{eqb}
 use lib.ListN.{length}
+use Rattle.snapshot.specs.Visibilities.{visibility_kind, visibility_number, visibility_of}
+use Rattle.snapshot.proofs.KindLaws.{other_visibility}
 use Rattle.snapshot.specs.Records.{Snapshot, Scope}
 use Rattle.snapshot.specs.Layouts.{snap_of}
 use Rattle.snapshot.specs.declared.layout.Layout.{Layout}
@@ -20,6 +22,7 @@ use Rattle.tree_rules.specs.Modules.{crate_of, parent_of, block_of}
 use Rattle.tree_rules.specs.Privately.{of_root, block_step, module_around, privately}
 use Rattle.module_tree.proofs.Laws.{by_number, Falls}
 use Rattle.module_tree.proofs.Chains.{block_fits}
+use Rattle.module_tree.proofs.Reading.{length_modules}
 use Rattle.module_tree.proofs.Ways.{last_end, last_on}
 use Rattle.hir_def.specs.Items.{types, module_kind, variant_kind, definition_of, home_by}
 use Rattle.hir_def.specs.ItemScope.{is_declared}
@@ -61,6 +64,10 @@ module _ (s : Snapshot) (ok : Tree s.maps s.modules) where
   unfolding module_around
   around_on t b r z = last_on (block_step s) (length s.modules) step_falls t b r z
 
+-- those of an accepted tree
+pub step_down : {W A : List ℕ} {l : Layout} → Reads W A l → Falls (block_step (snap_of W A l)) l.modules
+step_down {W} {A} {l} r v w i = step_falls (snap_of W A l) (accepted_valid W (snap_of W A l) r.same).tree v w (rw (length_modules W A l) i)
+
 module _ (s : Snapshot) (k n v : ℕ) where
   pub holds_public : k ≡ 0 → true ≡ holds s k n v
   unfolding holds
@@ -70,11 +77,15 @@ module _ (s : Snapshot) (k n v : ℕ) where
   unfolding holds
   holds_crate e = rw e
 
-pub holds_module : (s : Snapshot) (k n v : ℕ) → (k ≡ 0 → ⊥) → (k ≡ 1 → ⊥) → privately s v n ≡ holds s k n v
+-- a visibility by its two numbers
+pub holds_by : (s : Snapshot) (k n v : ℕ)
+    → holds s (visibility_kind (visibility_of k n)) (visibility_number (visibility_of k n)) v ≡ holds s k n v
 unfolding holds
-holds_module s zero n v a b = absurd (a refl)
-holds_module s (suc zero) n v a b = absurd (b refl)
-holds_module s (suc (suc k)) n v a b = refl
+holds_by s zero n v = refl
+holds_by s (suc zero) n v = refl
+holds_by s (suc (suc zero)) n v = refl
+holds_by s (suc (suc (suc zero))) n v = refl
+holds_by s (suc (suc (suc (suc k)))) n v = rw (other_visibility k n)
 
 module _ (s : Snapshot) (d : ℕ) where
   pub ns_variant : (ns : ℕ) → (definition_of s d).kind ≡ variant_kind → types ≡ declared_ns s ns d
@@ -111,7 +122,7 @@ module _ (m ns d : ℕ) (e : Scope) where
 
 module _ (s : Snapshot) (e : Scope) where
   -- no module declares it
-  pub declared_nowhere : declared_in s e.definition ≡ 0 → none ≡ declaration_of s e
+  pub declared_nowhere : declared_in s e.definition ≡ 0 → None ≡ declaration_of s e
   unfolding declaration_of declaration_in
   declared_nowhere z = rw z
 
@@ -126,11 +137,11 @@ module _ (s : Snapshot) (e : Scope) where
     unfolding both_hold
     both_not h = rw (both_hold, h)
 
-    pub both_alone : holds_in s v e ≡ true → declaration_of s e ≡ none → true ≡ both_hold s v e
+    pub both_alone : holds_in s v e ≡ true → declaration_of s e ≡ None → true ≡ both_hold s v e
     unfolding both_hold declaration_holds
     both_alone h z = rw (both_hold, h, z)
 
-    pub both_declared : (x : Scope) → holds_in s v e ≡ true → declaration_of s e ≡ some x → holds_in s v x ≡ both_hold s v e
+    pub both_declared : (x : Scope) → holds_in s v e ≡ true → declaration_of s e ≡ Some x → holds_in s v x ≡ both_hold s v e
     unfolding both_hold declaration_holds
     both_declared x h z = rw (both_hold, h, z)
 
@@ -144,13 +155,13 @@ module _ (s : Snapshot) (e : Scope) where
 
 -- the declaration is a record of the snapshot
 
-in_fits : (W A : List ℕ) (l : Layout) → Valid (snap_of W A l) → (ns d m : ℕ) (x : Scope) → declaration_in (snap_of W A l) ns d m ≡ some x
+in_fits : (W A : List ℕ) (l : Layout) → Valid (snap_of W A l) → (ns d m : ℕ) (x : Scope) → declaration_in (snap_of W A l) ns d m ≡ Some x
     → ScopeFits (counts_in l) x
 unfolding declaration_in
 in_fits W A l v ns d zero x h = let z : ◌≡◌ {A = ℕ} 0 1 = cc in absurd (omega arith)
 in_fits W A l v ns d (suc m) x h = each_first (is_declaration m ns d) x (ranges_read W A l v).scopes h
 
-pub declared_fits : (W A : List ℕ) (l : Layout) → Reads W A l → (e x : Scope) → declaration_of (snap_of W A l) e ≡ some x → ScopeFits (counts_in l) x
+pub declared_fits : (W A : List ℕ) (l : Layout) → Reads W A l → (e x : Scope) → declaration_of (snap_of W A l) e ≡ Some x → ScopeFits (counts_in l) x
 unfolding declaration_of
 declared_fits W A l r e x h =
     let s = snap_of W A l in

@@ -11,21 +11,22 @@ ghost use Rattle.nameable.specs.Seen.{is_declaration, declared_ns, declared_as, 
 ghost use Rattle.nameable.specs.Seen.{seen as seen_from};
 
 use crate::privacy::holds;
+use hir_def::Item;
+use hir_def::finds::first_where;
 use hir_def::items::{first_of, home_of, kind_of};
-use hir_def::{Entry, Item};
 use item_scope::is_declared;
 use module_tree::modules::parent;
-use snapshot::ids::{DefinitionId, DefinitionKind, ModuleId, Namespace, OptModule};
+use snapshot::ids::{DefinitionId, DefinitionKind, ModuleId, Namespace};
 use snapshot::kind::Size;
 use snapshot::layout::Layout;
-use snapshot::record::{scope_definition, scope_ns, scope_number, scope_owner, scope_visibility};
+use snapshot::record::{scope_definition, scope_ns, scope_owner, scope_seen};
 
 // The namespace in which what stands for a definition is declared: of a variant types.
 fn declared_ns(words: &[u32], l: Layout, ns: usize, d: DefinitionId) -> usize
     requires { word_count l < 2 ^ 32 }
     ensures { (A : List ℕ) → result ≡ declared_ns (snap_of words.now A l) ns d.0 }
 {
-    if kind_of(words, l, d) == DefinitionKind::VARIANT {
+    if kind_of(words, l, d) == Some(DefinitionKind::Variant) {
         return Namespace::TYPES;
     }
     ns
@@ -36,18 +37,18 @@ fn declared_as(words: &[u32], l: Layout, d: DefinitionId) -> DefinitionId
     requires { word_count l < 2 ^ 32 }
     ensures { (A : List ℕ) → result.0 ≡ declared_as (snap_of words.now A l) d.0 }
 {
-    if kind_of(words, l, d) == DefinitionKind::VARIANT {
+    if kind_of(words, l, d) == Some(DefinitionKind::Variant) {
         return DefinitionId(first_of(words, l, d));
     }
     d
 }
 
 // The module in which that is declared: its home, for a module the parent.
-fn declared_in(words: &[u32], area: &[u32], l: Layout, d: DefinitionId) -> OptModule
+fn declared_in(words: &[u32], area: &[u32], l: Layout, d: DefinitionId) -> Option<ModuleId>
     requires { Reads words.now area.now l × (d.0 < l.definitions) }
     ensures { plus_one result ≡ declared_in (snap_of words.now area.now l) d.0 }
 {
-    if kind_of(words, l, d) == DefinitionKind::MODULE {
+    if kind_of(words, l, d) == Some(DefinitionKind::Module) {
         return parent(words, area, l, ModuleId(first_of(words, l, d)));
     }
     home_of(words, l, Item::Def(Namespace(Namespace::TYPES), d))
@@ -67,33 +68,29 @@ fn is_declaration(words: &[u32], h: usize, m: ModuleId, ns: usize, d: Definition
 }
 
 // The declared entry of a module for a namespace and a definition.
-fn declaration_in(words: &[u32], l: Layout, m: ModuleId, ns: usize, d: DefinitionId) -> Entry
+fn declaration_in(
+    words: &[u32],
+    l: Layout,
+    m: ModuleId,
+    ns: usize,
+    d: DefinitionId,
+) -> Option<usize>
     requires { word_count l < 2 ^ 32 }
     ensures { (A : List ℕ) → entry_of scope_at words.now result ≡ declaration_in (snap_of words.now A l) ns
         d.0 (suc m.0) }
 {
-    let base = l.scope_base();
-    let mut k = 0;
-    while k < l.scopes {
-        let h = base + Size::SCOPE * k;
-        if is_declaration(words, h, m, ns, d) {
-            return Entry::At(h);
-        }
-        k += 1;
-    }
-    Entry::Nothing
+    let test = |h| is_declaration(words, h, m, ns, d);
+    first_where(l.scope_base(), Size::SCOPE, l.scopes, test)
 }
 
 /// The declaration of the item of the entry with its head at a place.
-pub fn declaration_of(words: &[u32], area: &[u32], l: Layout, h: usize) -> Entry
+pub fn declaration_of(words: &[u32], area: &[u32], l: Layout, h: usize) -> Option<usize>
     requires { Reads words.now area.now l × ScopeFits (counts_in l) (scope_at words.now h) }
     ensures { entry_of scope_at words.now result ≡ declaration_of (snap_of words.now area.now l)
         (scope_at words.now h) }
 {
     let d = scope_definition(words, h);
-    let OptModule::Module(m) = declared_in(words, area, l, d) else {
-        return Entry::Nothing;
-    };
+    let m = declared_in(words, area, l, d)?;
     let ns = declared_ns(words, l, scope_ns(words, h), d);
     declaration_in(words, l, m, ns, declared_as(words, l, d))
 }
@@ -103,14 +100,7 @@ fn holds_at(words: &[u32], area: &[u32], l: Layout, v: ModuleId, h: usize) -> bo
     requires { Reads words.now area.now l × (v.0 < l.modules) × ScopeFits (counts_in l) (scope_at words.now h) }
     ensures { result ≡ holds_in (snap_of words.now area.now l) v.0 (scope_at words.now h) }
 {
-    holds(
-        words,
-        area,
-        l,
-        scope_visibility(words, h),
-        scope_number(words, h),
-        v,
-    )
+    holds(words, area, l, scope_seen(words, h), v)
 }
 
 // Whether that and its declaration's both hold in a module.
@@ -119,7 +109,7 @@ fn both_hold(words: &[u32], area: &[u32], l: Layout, v: ModuleId, h: usize) -> b
     ensures { result ≡ both_hold (snap_of words.now area.now l) v.0 (scope_at words.now h) }
 {
     if holds_at(words, area, l, v, h) {
-        let Entry::At(e) = declaration_of(words, area, l, h) else {
+        let Some(e) = declaration_of(words, area, l, h) else {
             return true;
         };
         return holds_at(words, area, l, v, e);

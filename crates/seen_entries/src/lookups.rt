@@ -11,7 +11,8 @@ ghost use Rattle.nameable.specs.Seen.{seen as seen_from};
 ghost use Rattle.nameable.specs.Queue.{seen_named};
 
 use crate::entries::seen;
-use hir_def::{Entry, Item};
+use hir_def::Item;
+use hir_def::finds::first_where;
 use item_scope::is_for;
 use snapshot::ids::{ModuleId, Name};
 use snapshot::kind::Size;
@@ -50,21 +51,13 @@ pub fn entry_named(
     m: ModuleId,
     ns: usize,
     name: Name,
-) -> Entry
+) -> Option<usize>
     requires { Reads words.now area.now l × (from.0 < l.modules) }
     ensures { entry_of scope_at words.now result ≡ seen_named (snap_of words.now area.now l)
         from.0 ns m.0 name.0 }
 {
-    let base = l.scope_base();
-    let mut k = 0;
-    while k < l.scopes {
-        let h = base + Size::SCOPE * k;
-        if is_named_seen(words, area, l, from, m, ns, name, h) {
-            return Entry::At(h);
-        }
-        k += 1;
-    }
-    Entry::Nothing
+    let test = |h| is_named_seen(words, area, l, from, m, ns, name, h);
+    first_where(l.scope_base(), Size::SCOPE, l.scopes, test)
 }
 
 // Whether the entry with its head at a place is one of the module's for the item, and is seen.
@@ -95,19 +88,11 @@ pub fn entry_for(
     from: ModuleId,
     m: ModuleId,
     item: Item,
-) -> Entry
+) -> Option<usize>
     requires { Reads words.now area.now l × (from.0 < l.modules) }
     ensures { entry_of scope_at words.now result ≡ names_of (snap_of words.now area.now l) m.0 item
         (seen_from (snap_of words.now area.now l) from.0) }
 {
-    let base = l.scope_base();
-    let mut k = 0;
-    while k < l.scopes {
-        let h = base + Size::SCOPE * k;
-        if is_for_seen(words, area, l, from, m, item, h) {
-            return Entry::At(h);
-        }
-        k += 1;
-    }
-    Entry::Nothing
+    let test = |h| is_for_seen(words, area, l, from, m, item, h);
+    first_where(l.scope_base(), Size::SCOPE, l.scopes, test)
 }

@@ -2,23 +2,24 @@
 ghost use Rattle.std.specs.Prelude.{◌≡◌, ◌<◌, ◌≤◌};
 ghost use Rattle.snapshot.specs.Ids.{plus_one};
 ghost use Rattle.snapshot.specs.Layouts.{snap_of};
+ghost use Rattle.snapshot.specs.Visibilities.{visibility_kind, visibility_number};
 ghost use Rattle.accept.specs.Post.{Reads};
 ghost use Rattle.tree_rules.specs.Privately.{block_step, module_around, privately as privately_of};
 ghost use Rattle.nameable.specs.Seen.{holds as holds_of};
 
 use module_tree::modules::{block, krate, parent};
 use module_tree::visibility::meets;
-use snapshot::ids::{ModuleId, OptModule};
+use snapshot::ids::{ModuleId, Visibility};
 use snapshot::layout::Layout;
 
 /// The block's parent of a block map's root, none of any other module.
-pub fn block_step(words: &[u32], area: &[u32], l: Layout, m: ModuleId) -> OptModule
+pub fn block_step(words: &[u32], area: &[u32], l: Layout, m: ModuleId) -> Option<ModuleId>
     requires { Reads words.now area.now l × (m.0 < l.modules) }
     ensures { plus_one result ≡ block_step (snap_of words.now area.now l) m.0 }
 {
     match parent(words, area, l, m) {
-        OptModule::Module(_) => OptModule::NoModule,
-        OptModule::NoModule => block(words, area, l, m),
+        Some(_) => None,
+        None => block(words, area, l, m),
     }
 }
 
@@ -29,7 +30,7 @@ pub fn module_around(words: &[u32], area: &[u32], l: Layout, m: ModuleId) -> Mod
 {
     let mut t = m;
     loop {
-        let OptModule::Module(b) = block_step(words, area, l, t) else {
+        let Some(b) = block_step(words, area, l, t) else {
             return t;
         };
         t = b;
@@ -45,24 +46,25 @@ fn privately(words: &[u32], area: &[u32], l: Layout, viewer: ModuleId, target: M
     meets(words, area, l, viewer, t)
 }
 
-/// Whether a visibility (0 public, 1 crate, 2 and 3 module, with its number) holds in the module.
+/// Whether a visibility holds in the module.
 pub fn holds(
     words: &[u32],
     area: &[u32],
     l: Layout,
-    kind: usize,
-    number: usize,
+    visibility: Visibility,
     viewer: ModuleId,
 ) -> bool
-    requires { Reads words.now area.now l × (viewer.0 < l.modules) × (2 ≤ kind → number < l.modules) }
-    ensures { result ≡ holds_of (snap_of words.now area.now l) kind number viewer.0 }
+    requires { Reads words.now area.now l × (viewer.0 < l.modules)
+        × (2 ≤ visibility_kind visibility → visibility_number visibility < l.modules) }
+    ensures { result ≡ holds_of (snap_of words.now area.now l) (visibility_kind visibility)
+        (visibility_number visibility) viewer.0 }
 {
-    if kind == 0 {
-        return true;
+    match visibility {
+        Visibility::Public => true,
+        Visibility::InCrate(c) => {
+            let here = krate(words, area, l, viewer);
+            here.0 == c.0
+        }
+        Visibility::InModule(m) | Visibility::Implied(m) => privately(words, area, l, viewer, m),
     }
-    if kind == 1 {
-        let c = krate(words, area, l, viewer);
-        return c.0 == number;
-    }
-    privately(words, area, l, viewer, ModuleId(number))
 }

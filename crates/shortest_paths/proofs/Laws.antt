@@ -1,9 +1,10 @@
 -- Laws of a variant by its enum, and of the two runs.
+use Rattle.arrivals.specs.declared.LastStep.{LastStep}
 use Prim.Native.Nat.{ℕ, ◌+◌, ◌≤◌, ◌<◌}
 use mathlib.Core.Path.{◌≡◌, refl, sym, ap, ◌∙◌}
 use mathlib.Core.List.{List}
 use mathlib.Core.Bool.{Bool, true, false, ◌&&◌, not, true≢false}
-use mathlib.Core.Option.{Option, none, some, map}
+use Rattle.std.specs.Prelude.{Option, None, Some, option_map}
 use native.Mathlib.Omega.{arith}
 use borrow.Author.Tests.{lt-ltb, le-ltb, eq-eqb, ne_eqb, not-true, not-false}
 use lib.Dec.{eqb}
@@ -24,17 +25,15 @@ use Rattle.nameable.proofs.Arrives.{arrives_good}
 use Rattle.nameable.proofs.Lookups.{first_mapped, first_same}
 use Rattle.any_path.specs.Rows.{Stays, Grown}
 use Rattle.any_path.proofs.Taken.{stays_snap, stays_reads}
-use Rattle.arrivals.specs.declared.OptStep.{OptStep}
-use Rattle.arrivals.specs.declared.OptStep.TheVariants.{Step, NoStep}
 use Rattle.arrivals.specs.Steps.{LeadsTo, Ready}
 use Rattle.told_paths.specs.declared.ToldPath.{ToldPath}
 use Rattle.told_paths.specs.Tells.{step_link, told_none, tell, told_by}
 use Rattle.told_paths.proofs.Laws.{tell_found}
 
-pub leads_link : (s : Snapshot) (from ns : ℕ) (A : List ℕ) (n : ℕ) (o : Option Path) (q : OptStep) → LeadsTo s from ns A n o q → step_link q < n + 3
+pub leads_link : (s : Snapshot) (from ns : ℕ) (A : List ℕ) (n : ℕ) (o : Option Path) (q : Option LastStep) → LeadsTo s from ns A n o q → step_link q < n + 3
 unfolding LeadsTo step_link
-leads_link s from ns A n o (Step k x p) h = h.linked
-leads_link s from ns A n o NoStep h = omega arith
+leads_link s from ns A n o (Some q) h = h.linked
+leads_link s from ns A n o None h = omega arith
 
 -- The variants of an enum by their name.
 
@@ -54,24 +53,24 @@ module _ (s : Snapshot) (ns d e n : ℕ) where
   variant_macro h = sym (rw (variants_in, le-ltb ns macros h))
 
   module _ (low : ns < macros) where
-    pub variant_first : named n (variants_in s ns e) ≡ map (variant_named s ns) (first_variant s e n)
+    pub variant_first : named n (variants_in s ns e) ≡ option_map (variant_named s ns) (first_variant s e n)
     unfolding variants_in named first_variant
     variant_first =
         ap (named n) (rw (variants_in, lt-ltb ns macros low))
         ∙ (first_mapped (λ (x : Named). eqb x.name n) (variant_named s ns) (is_variant_of e) s.members
-        ∙ ap (map (variant_named s ns))
+        ∙ ap (option_map (variant_named s ns))
         (first_same (λ (x : Member). is_variant_of e x && eqb x.name n) (is_variant_named e n) s.members
         (λ x i. and_left (eqb x.parent e) (eqb x.kind 0) (eqb x.name n))))
 
-    pub variant_none : none ≡ first_variant s e n → false ≡ is_item (defined_item ns d) (item_in (named n (variants_in s ns e)))
+    pub variant_none : None ≡ first_variant s e n → false ≡ is_item (defined_item ns d) (item_in (named n (variants_in s ns e)))
     unfolding item_in is_item
-    variant_none h = sym (ap (λ (o : Option Named). is_item item (item_in o)) (variant_first ∙ ap (map (variant_named s ns)) (sym h)))
+    variant_none h = sym (ap (λ (o : Option Named). is_item item (item_in o)) (variant_first ∙ ap (option_map (variant_named s ns)) (sym h)))
 
-    pub variant_some : {x : Member} {y : ℕ} → some x ≡ first_variant s e n → y ≡ x.definition
+    pub variant_some : {x : Member} {y : ℕ} → Some x ≡ first_variant s e n → y ≡ x.definition
         → eqb y d ≡ is_item (defined_item ns d) (item_in (named n (variants_in s ns e)))
     unfolding item_in is_item same_item
     variant_some {x} {y} h ey =
-        sym (ap (λ (o : Option Named). is_item item (item_in o)) (variant_first ∙ ap (map (variant_named s ns)) (sym h))
+        sym (ap (λ (o : Option Named). is_item item (item_in o)) (variant_first ∙ ap (option_map (variant_named s ns)) (sym h))
         ∙ rw (eq-eqb ns ns refl, ey))
 
 -- A variant by its enum.
@@ -79,7 +78,7 @@ module _ (b : Bool) (s : Snapshot) (from ns d : ℕ) where
   abbrev its : Item
   its = defined_item ns d
 
-  other_none : ((definition_of s d).kind ≡ variant_kind → ⊥) → by_enum b s from its ≡ none
+  other_none : ((definition_of s d).kind ≡ variant_kind → ⊥) → by_enum b s from its ≡ None
   unfolding by_enum
   other_none h = rw (by_enum, ne_eqb (definition_of s d).kind variant_kind h)
 
@@ -98,16 +97,16 @@ module _ (b : Bool) (s : Snapshot) (from ns d : ℕ) where
     abbrev test : Bool
     test = is_item its (item_in (named n (variants_in s ns e)))
 
-    enum_means : (p : Path) → way ≡ some p → means s from ns (into p n) ≡ item_in (named n (variants_in s ns e))
+    enum_means : (p : Path) → way ≡ Some p → means s from ns (into p n) ≡ item_in (named n (variants_in s ns e))
     unfolding ns_of within
     enum_means p h =
         into_means s from ns n p (defined_item types e) (arrives_good s from (defined_item types e) b (turns s) p h).1
 
-    one_path : (p : Path) → way ≡ some p → test ≡ true → checked_path s from its (into p n) ≡ some (into p n)
+    one_path : (p : Path) → way ≡ Some p → test ≡ true → checked_path s from its (into p n) ≡ Some (into p n)
     unfolding checked_path first_to first_of ns_of
     one_path p h t = rw (first_of, enum_means p h, t)
 
-    no_path : (p : Path) → way ≡ some p → test ≡ false → checked_path s from its (into p n) ≡ none
+    no_path : (p : Path) → way ≡ Some p → test ≡ false → checked_path s from its (into p n) ≡ None
     unfolding checked_path first_to first_of ns_of
     no_path p h t = rw (first_of, enum_means p h, t)
 
@@ -117,7 +116,7 @@ module _ (b : Bool) (s : Snapshot) (from ns d : ℕ) where
     unfolding variant_after told_by
     enum_not {r} er h et =
         let no : test ≡ false = sym er ∙ not-true r h in
-        let none_there : variant_after s from its n way ≡ none =
+        let none_there : variant_after s from its n way ≡ None =
         by_option way (λ z. ap (variant_after s from its n) z) (λ p z. ap (variant_after s from its n) z ∙ no_path p z no) in
         et ∙ sym (ap told_by (enum_path ∙ none_there))
 

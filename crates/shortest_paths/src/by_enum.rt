@@ -9,8 +9,8 @@ ghost use Rattle.arrivals.specs.Steps.{Ready};
 ghost use Rattle.told_paths.specs.Tells.{told_by};
 
 use crate::told::arrival_told;
+use hir_def::Item;
 use hir_def::items::{first_of, kind_of, second_of};
-use hir_def::{Entry, Item};
 use read_back::lookups::variant_named;
 use snapshot::ids::{DefinitionId, DefinitionKind, ModuleId, Name, Namespace};
 use snapshot::layout::Layout;
@@ -34,7 +34,7 @@ fn is_variant(
     if Namespace::MACROS <= ns {
         return false;
     }
-    let Entry::At(h) = variant_named(words, l, e, name) else {
+    let Some(h) = variant_named(words, l, e, name) else {
         return false;
     };
     let its = member_definition(words, h);
@@ -56,7 +56,7 @@ fn variant_told(
         l.modules area.now n }
     ensures { result ≡ told_by (by_enum named (snap_of words.now area.now l) from.0 (defined_item ns.0 d.0)) }
 {
-    if kind_of(words, l, d) != DefinitionKind::VARIANT {
+    if kind_of(words, l, d) != Some(DefinitionKind::Variant) {
         return nothing();
     }
     let e = DefinitionId(first_of(words, l, d));

@@ -12,6 +12,11 @@ use borrow.Author.Tests.{eq-eqb, ne_eqb}
 use Rattle.snapshot.specs.Lists.{rows, any, all, eq_list}
 use Rattle.reading.specs.Words.{pay_of, words_of, text_at}
 use Rattle.snapshot.specs.Sizes.{argument_table, arguments_of}
+use Rattle.snapshot.specs.Refusals.{refusal_number}
+use Rattle.snapshot.specs.declared.refusal.Refusal.{Refusal}
+use Rattle.snapshot.specs.declared.refusal.Refusal.TheVariants.{Area, Fuel, Field, Unknown, Macro, Words, Form, Range, Undefined, Repeated, Place}
+use Rattle.snapshot.specs.declared.refusal.Refusal.TheVariants.{Count, Bytes, Rest, Question, Edition, Batch, Target, Limit, Entry, Room, Window}
+use Rattle.snapshot.specs.declared.refusal.Refusal.TheVariants.{Waits, Join}
 pub use Rattle.reading.proofs.Laws.{past}
 
 pub arguments_name : (k p : ℕ) → k ≡ 1 → words_of p ≡ arguments_of k p
@@ -157,3 +162,30 @@ text_whole W h n e = let q : h + 1 + n - (h + 1) ≡ n = omega arith in ap (λ x
 -- a word some places after a head
 pub after_head : (W : List ℕ) (h i : ℕ) → get_or W (h + (1 + i)) 0 ≡ get_or W (h + 1 + i) 0
 after_head W h i = let e : h + (1 + i) ≡ h + 1 + i = omega arith in ap (λ x. get_or W x 0) e
+
+-- a refusal's number is none that stands for something else
+pub refusal_some : (r : Refusal) → refusal_number r ≡ 0 → ⊥
+refusal_some Area e = omega arith
+refusal_some Fuel e = omega arith
+refusal_some Field e = omega arith
+refusal_some Unknown e = omega arith
+refusal_some Macro e = omega arith
+refusal_some Words e = omega arith
+refusal_some Form e = omega arith
+refusal_some Range e = omega arith
+refusal_some Undefined e = omega arith
+refusal_some Repeated e = omega arith
+refusal_some Place e = omega arith
+refusal_some Count e = omega arith
+refusal_some Bytes e = omega arith
+refusal_some Rest e = omega arith
+refusal_some Question e = omega arith
+refusal_some Edition e = omega arith
+refusal_some Batch e = omega arith
+refusal_some Target e = omega arith
+refusal_some Limit e = omega arith
+refusal_some Entry e = omega arith
+refusal_some Room e = omega arith
+refusal_some Window e = omega arith
+refusal_some Waits e = omega arith
+refusal_some Join e = omega arith

@@ -5,4 +5,10 @@ pub mod Sizes
 pub mod Words
 pub mod Records
 pub mod Ids
+pub mod Kinds
+pub mod DefinitionKinds
+pub mod MemberKinds
+pub mod PathKinds
+pub mod Visibilities
+pub mod Origins
 pub mod Layouts

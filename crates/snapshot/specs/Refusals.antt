@@ -1,5 +1,9 @@
 -- The numbers by which a call, a snapshot, a question or an edit is refused.
-use Rattle.std.specs.Prelude.{ℕ}
+use Rattle.std.specs.Prelude.{ℕ, Result, Ok, Err}
+use Rattle.snapshot.specs.declared.refusal.Refusal.{Refusal}
+use Rattle.snapshot.specs.declared.refusal.Refusal.TheVariants.{Area, Fuel, Field, Unknown, Macro, Words, Form, Range, Undefined, Repeated, Place}
+use Rattle.snapshot.specs.declared.refusal.Refusal.TheVariants.{Count, Bytes, Rest, Question, Edition, Batch, Target, Limit, Entry, Room, Window}
+use Rattle.snapshot.specs.declared.refusal.Refusal.TheVariants.{Waits, Join}
 
 -- a work area with too few words
 abbrev pub area_refusal : ℕ
@@ -100,3 +104,35 @@ join_refusal = 51
 -- no report has a larger one
 abbrev pub largest_refusal : ℕ
 largest_refusal = limit_refusal
+
+-- a refusal's number
+abbrev pub refusal_number : Refusal → ℕ
+refusal_number Area = area_refusal
+refusal_number Fuel = fuel_refusal
+refusal_number Field = field_refusal
+refusal_number Unknown = unknown_refusal
+refusal_number Macro = macro_refusal
+refusal_number Words = words_refusal
+refusal_number Form = form_refusal
+refusal_number Range = range_refusal
+refusal_number Undefined = undefined_refusal
+refusal_number Repeated = repeated_refusal
+refusal_number Place = place_refusal
+refusal_number Count = count_refusal
+refusal_number Bytes = bytes_refusal
+refusal_number Rest = rest_refusal
+refusal_number Question = question_refusal
+refusal_number Edition = edition_refusal
+refusal_number Batch = batch_refusal
+refusal_number Target = target_refusal
+refusal_number Limit = limit_refusal
+refusal_number Entry = entry_refusal
+refusal_number Room = room_refusal
+refusal_number Window = window_refusal
+refusal_number Waits = waits_refusal
+refusal_number Join = join_refusal
+
+-- the number of an answer's refusal, or 0
+abbrev pub fault_number : {A : Type 0} → Result A Refusal → ℕ
+fault_number (Ok x) = 0
+fault_number (Err r) = refusal_number r

@@ -1,6 +1,10 @@
 //! Numbers that never stand in for one another, with their limits.
 ghost use Rattle.std.specs.Prelude.{◌≡◌};
 ghost use Rattle.snapshot.specs.Ids.{plus_one};
+ghost use Rattle.snapshot.specs.DefinitionKinds.{definition_kind_of};
+ghost use Rattle.snapshot.specs.MemberKinds.{member_kind_of};
+ghost use Rattle.snapshot.specs.PathKinds.{path_kind_of};
+ghost use Rattle.snapshot.specs.Visibilities.{visibility_of};
 
 /// A module of the snapshot.
 #[derive(Clone, Copy)]
@@ -11,21 +15,14 @@ impl ModuleId {
     pub const LIMIT: usize = 512;
 }
 
-/// A module, or none: a parent, a block's parent, a containing module, an item's home.
-#[derive(Clone, Copy)]
-pub enum OptModule {
-    Module(ModuleId),
-    NoModule,
-}
-
 /// The module of a number +1, none for 0.
-pub fn opt_module(n: usize) -> OptModule
+pub fn opt_module(n: usize) -> Option<ModuleId>
     ensures { plus_one result ≡ n }
 {
     if n == 0 {
-        return OptModule::NoModule;
+        return None;
     }
-    OptModule::Module(ModuleId(n - 1))
+    Some(ModuleId(n - 1))
 }
 
 /// A crate of the snapshot.
@@ -35,6 +32,21 @@ pub struct Crate(pub usize);
 impl Crate {
     /// Crates of a snapshot, at most.
     pub const LIMIT: usize = 64;
+}
+
+/// Where a crate comes from.
+#[derive(Clone, Copy, PartialEq, Eq)]
+pub enum CrateOrigin {
+    Ordinary,
+    Core,
+    Alloc,
+    Std,
+    OtherLanguage,
+}
+
+impl CrateOrigin {
+    /// The number of an origin, at most.
+    pub const LIMIT: usize = CrateOrigin::OtherLanguage as usize;
 }
 
 /// A definition of the snapshot.
@@ -57,7 +69,7 @@ impl Name {
     pub const BYTES: usize = 255;
 }
 
-/// Namespaces.
+/// Namespaces. The items of a question that is refused have any number for one, so it is no enum.
 #[derive(Clone, Copy)]
 pub struct Namespace(pub usize);
 
@@ -72,40 +84,106 @@ impl Namespace {
 }
 
 /// Kinds of definitions.
-#[derive(Clone, Copy)]
-pub struct DefinitionKind(pub usize);
-
-impl DefinitionKind {
-    pub const MODULE: usize = 1;
-
-    pub const VARIANT: usize = 2;
-
-    pub const BUILTIN: usize = 3;
-
-    pub const OTHER: usize = 4;
-
-    pub const MACRO: usize = 5;
+#[derive(Clone, Copy, PartialEq, Eq)]
+pub enum DefinitionKind {
+    Module = 1,
+    Variant,
+    Builtin,
+    Other,
+    Macro,
 }
 
-/// Path kinds.
+impl DefinitionKind {
+    /// The kind with a number.
+    pub fn of(number: usize) -> Option<DefinitionKind>
+        ensures { result ≡ definition_kind_of number }
+    {
+        match number {
+            1 => Some(DefinitionKind::Module),
+            2 => Some(DefinitionKind::Variant),
+            3 => Some(DefinitionKind::Builtin),
+            4 => Some(DefinitionKind::Other),
+            5 => Some(DefinitionKind::Macro),
+            _ => None,
+        }
+    }
+}
+
+/// Kinds of members.
+#[derive(Clone, Copy, PartialEq, Eq)]
+pub enum MemberKind {
+    Variant,
+    Function,
+    Constant,
+    TypeAlias,
+}
+
+impl MemberKind {
+    /// The kind with a number.
+    pub fn of(number: usize) -> Option<MemberKind>
+        ensures { result ≡ member_kind_of number }
+    {
+        match number {
+            0 => Some(MemberKind::Variant),
+            1 => Some(MemberKind::Function),
+            2 => Some(MemberKind::Constant),
+            3 => Some(MemberKind::TypeAlias),
+            _ => None,
+        }
+    }
+}
+
+/// From where an entry is visible: from everywhere, in a crate, or in a module, which is written or implied.
 #[derive(Clone, Copy)]
-pub struct PathKind(pub usize);
+pub enum Visibility {
+    Public,
+    InCrate(Crate),
+    InModule(ModuleId),
+    Implied(ModuleId),
+}
+
+impl Visibility {
+    /// The visibility with that kind and number.
+    pub fn of(kind: usize, number: usize) -> Visibility
+        ensures { result ≡ visibility_of kind number }
+    {
+        match kind {
+            0 => Visibility::Public,
+            1 => Visibility::InCrate(Crate(number)),
+            3 => Visibility::Implied(ModuleId(number)),
+            _ => Visibility::InModule(ModuleId(number)),
+        }
+    }
+}
+
+/// What a path begins with.
+#[derive(Clone, Copy, PartialEq, Eq)]
+pub enum PathKind {
+    Plain,
+    SelfModule,
+    Super,
+    Crate,
+    Absolute,
+}
 
 impl PathKind {
-    pub const PLAIN: usize = 0;
-
-    pub const SELF: usize = 1;
-
-    pub const SUPER: usize = 2;
-
-    pub const CRATE: usize = 3;
-
-    pub const ABSOLUTE: usize = 4;
+    /// The path kind with a number.
+    pub fn of(number: usize) -> Option<PathKind>
+        ensures { result ≡ path_kind_of number }
+    {
+        match number {
+            0 => Some(PathKind::Plain),
+            1 => Some(PathKind::SelfModule),
+            2 => Some(PathKind::Super),
+            3 => Some(PathKind::Crate),
+            4 => Some(PathKind::Absolute),
+            _ => None,
+        }
+    }
 }
 
 /// The length that a path may still have.
-#[derive(Clone, Copy)]
-pub struct PathLen(pub usize);
+pub struct PathLen;
 
 impl PathLen {
     /// The length left where a search begins, at most.
@@ -113,17 +191,20 @@ impl PathLen {
 }
 
 /// The prefix that a question asks for.
-#[derive(Clone, Copy)]
-pub struct Prefix(pub usize);
+#[derive(Clone, Copy, PartialEq, Eq)]
+pub enum Prefix {
+    BySelf,
+    Plain,
+    ByCrate,
+}
 
 impl Prefix {
     /// The number of a prefix, at most.
-    pub const LIMIT: usize = 2;
+    pub const LIMIT: usize = Prefix::ByCrate as usize;
 }
 
 /// The options of a question, added up.
-#[derive(Clone, Copy)]
-pub struct Options(pub usize);
+pub struct Options;
 
 impl Options {
     /// All options together.
@@ -133,8 +214,7 @@ impl Options {
 }
 
 /// Charges that a question may make.
-#[derive(Clone, Copy)]
-pub struct Fuel(pub usize);
+pub struct Fuel;
 
 impl Fuel {
     /// Fuel of a question, at most.
@@ -142,8 +222,7 @@ impl Fuel {
 }
 
 /// A number of words.
-#[derive(Clone, Copy)]
-pub struct WordCount(pub usize);
+pub struct WordCount;
 
 impl WordCount {
     /// Words of a snapshot, at most.

@@ -1,45 +1,56 @@
 //! The kinds of records and their arguments, in one table.
 ghost use Rattle.std.specs.Prelude.{◌≡◌, ◌+◌, ◌^◌, ◌<◌, get_or};
 ghost use Rattle.reading.specs.Words.{words_of};
+ghost use Rattle.snapshot.specs.Kinds.{kind_with};
 ghost use Rattle.snapshot.specs.Sizes.{argument_table, arguments_at};
 
 use crate::words::{kind, payload};
 
-/// A record's kind, as its head has it.
-#[derive(Clone, Copy)]
-pub struct Kind(pub usize);
+/// A record's kind.
+#[derive(Clone, Copy, PartialEq, Eq)]
+pub enum Kind {
+    Name = 1,
+    Crate,
+    Dependency,
+    Map,
+    Module,
+    Child,
+    Prelude,
+    Definition,
+    Scope,
+    Import,
+    Extern,
+    Member = 13,
+}
 
 impl Kind {
+    /// The kind that the head of an argument has.
     pub const ARGUMENT: usize = 0;
 
-    pub const NAME: usize = 1;
-
-    pub const CRATE: usize = 2;
-
-    pub const DEPENDENCY: usize = 3;
-
-    pub const MAP: usize = 4;
-
-    pub const MODULE: usize = 5;
-
-    pub const CHILD: usize = 6;
-
-    pub const PRELUDE: usize = 7;
-
-    pub const DEFINITION: usize = 8;
-
-    pub const SCOPE: usize = 9;
-
-    pub const IMPORT: usize = 10;
-
-    pub const EXTERN: usize = 11;
-
-    pub const MEMBER: usize = 13;
+    /// The kind with a number.
+    pub fn of(number: usize) -> Option<Kind>
+        ensures { result ≡ kind_with number }
+    {
+        match number {
+            1 => Some(Kind::Name),
+            2 => Some(Kind::Crate),
+            3 => Some(Kind::Dependency),
+            4 => Some(Kind::Map),
+            5 => Some(Kind::Module),
+            6 => Some(Kind::Child),
+            7 => Some(Kind::Prelude),
+            8 => Some(Kind::Definition),
+            9 => Some(Kind::Scope),
+            10 => Some(Kind::Import),
+            11 => Some(Kind::Extern),
+            13 => Some(Kind::Member),
+            _ => None,
+        }
+    }
 }
 
 /// The words of a record of each kind, its head included; a name's depend on its text. Then those of a question, and of one for a reach.
-#[derive(Clone, Copy)]
-pub struct Size(pub usize);
+pub struct Size;
 
 impl Size {
     pub const CRATE: usize = 2;
@@ -109,7 +120,7 @@ pub fn arguments(words: &[u32], at: usize) -> usize
     ensures { result ≡ arguments_at words.now at }
 {
     let k = kind(words, at);
-    if k == Kind::NAME {
+    if k == Kind::Name as usize {
         return text_words(payload(words, at));
     }
     fixed(k)

@@ -2,11 +2,14 @@
 ghost use Rattle.std.specs.Prelude.{◌≡◌};
 ghost use Rattle.snapshot.specs.Records.{crate_at, dependency_at, map_at, module_at, child_at, prelude_at, definition_at, scope_at, import_at, extern_at};
 ghost use Rattle.snapshot.specs.Records.{member_at};
+ghost use Rattle.snapshot.specs.DefinitionKinds.{definition_kind_of};
+ghost use Rattle.snapshot.specs.MemberKinds.{member_kind_of};
+ghost use Rattle.snapshot.specs.Visibilities.{visibility_of};
 
-use crate::ids::{Crate, DefinitionId, ModuleId, Name};
+use crate::ids::{Crate, DefinitionId, DefinitionKind, MemberKind, ModuleId, Name, Visibility};
 use crate::words::{field, payload};
 
-/// 0 ordinary, 1 core, 2 alloc, 3 std, 4 other language.
+/// The number of a `CrateOrigin`, or a larger one.
 pub fn crate_origin(words: &[u32], at: usize) -> usize
     ensures { result ≡ (crate_at words.now at).origin }
 {
@@ -98,10 +101,11 @@ pub fn prelude_target(words: &[u32], at: usize) -> ModuleId
     ModuleId(field(words, at, 1))
 }
 
-pub fn definition_kind(words: &[u32], at: usize) -> usize
-    ensures { result ≡ (definition_at words.now at).kind }
+/// None for a number that is no kind's.
+pub fn definition_kind(words: &[u32], at: usize) -> Option<DefinitionKind>
+    ensures { result ≡ definition_kind_of (definition_at words.now at).kind }
 {
-    payload(words, at)
+    DefinitionKind::of(payload(words, at))
 }
 
 pub fn definition_first(words: &[u32], at: usize) -> usize
@@ -150,6 +154,13 @@ pub fn scope_number(words: &[u32], at: usize) -> usize
     ensures { result ≡ (scope_at words.now at).number }
 {
     field(words, at, 5)
+}
+
+/// From where the entry is visible.
+pub fn scope_seen(words: &[u32], at: usize) -> Visibility
+    ensures { result ≡ visibility_of (scope_at words.now at).visibility (scope_at words.now at).number }
+{
+    Visibility::of(scope_visibility(words, at), scope_number(words, at))
 }
 
 pub fn scope_declared(words: &[u32], at: usize) -> usize
@@ -237,11 +248,11 @@ pub fn member_definition(words: &[u32], at: usize) -> DefinitionId
     DefinitionId(field(words, at, 2))
 }
 
-/// 0 variant, 1 function, 2 constant, 3 type alias.
-pub fn member_kind(words: &[u32], at: usize) -> usize
-    ensures { result ≡ (member_at words.now at).kind }
+/// None for a number that is no kind's.
+pub fn member_kind(words: &[u32], at: usize) -> Option<MemberKind>
+    ensures { result ≡ member_kind_of (member_at words.now at).kind }
 {
-    field(words, at, 3)
+    MemberKind::of(field(words, at, 3))
 }
 
 /// 1 hidden + 2 unstable.

@@ -6,8 +6,7 @@ use crate::ids::{Crate, ModuleId, Name};
 use crate::words::word;
 
 /// The first word of each table, and the first word past them.
-#[derive(Clone, Copy)]
-pub struct Tables(pub usize);
+pub struct Tables;
 
 impl Tables {
     /// A word a name: its head.

@@ -1,67 +1,54 @@
 //! Standard input and output, with failures told apart from ends.
 #![tactic(auto)]
 
-ghost use Rattle.std.specs.Prelude.{◌≡◌, ◌<◌, ◌≤◌, length, take, true, false};
+ghost use Rattle.std.specs.Prelude.{◌<◌, length, take, IfOk, OnOk, MatchResult};
 ghost use Rattle.std.specs.Counts.{IsPrefixLen};
 ghost use Rattle.std.specs.Io.KnownBytes.{Appends, Consumes, IsAtEnd};
 
 use std::io;
 use std::io::{Read, Write};
 
-/// How many bytes were read, and whether a read failed before the input's end.
-#[derive(Clone, Copy)]
-pub struct Reading {
+/// A read failed before the input's end, after so many bytes.
+#[derive(Clone, Copy, Debug, PartialEq, Eq)]
+pub struct Unread {
     pub count: usize,
-    pub failed: bool,
-}
-
-// One read: no bytes where the input ends, or where the read fails.
-fn read_more<R: Read>(reader: &mut R, bytes: &mut [u8]) -> Reading
-    ensures count { result.count ≤ length bytes.new }
-    ensures bytes { Consumes (R.remaining reader.old) (R.remaining reader.new) (take result.count bytes.new) }
-    ensures end { result.count ≡ 0 → result.failed ≡ false → 0 < length bytes.new → IsAtEnd (R.remaining reader.new) }
-{
-    match reader.read(bytes) {
-        Ok(count) => Reading {
-            count,
-            failed: false,
-        },
-        Err(_) => Reading {
-            count: 0,
-            failed: true,
-        },
-    }
 }
 
 /// Reads until the bytes are full, the input ends or a read fails: what was read stands at the front, and where no read failed
 /// and the bytes are not full, the input is at its end.
-pub fn read_from<R: Read>(reader: &mut R, bytes: &mut [u8]) -> Reading
-    ensures count { IsPrefixLen result.count bytes.new }
-    ensures bytes { Consumes (R.remaining reader.old) (R.remaining reader.new) (take result.count bytes.new) }
-    ensures end { result.failed ≡ false → result.count < length bytes.new → IsAtEnd (R.remaining reader.new) }
+pub fn read_from<R: Read>(reader: &mut R, bytes: &mut [u8]) -> Result<usize, Unread>
+    ensures count { MatchResult result (λ n. IsPrefixLen n bytes.new) (λ e. IsPrefixLen e.count bytes.new) }
+    ensures bytes { MatchResult result
+        (λ n. Consumes (R.remaining reader.old) (R.remaining reader.new) (take n bytes.new))
+        (λ e. Consumes (R.remaining reader.old) (R.remaining reader.new) (take e.count bytes.new)) }
+    ensures end { IfOk result (λ n. n < length bytes.new → IsAtEnd (R.remaining reader.new)) }
 {
     let mut count = 0;
     while count < bytes.len() {
-        let more = read_more(reader, &mut bytes[count..]);
-        if more.count == 0 {
-            return Reading {
-                count,
-                failed: more.failed,
-            };
+        match reader.read(&mut bytes[count..]) {
+            Ok(0) => return Ok(count),
+            Ok(more) => count += more,
+            Err(_) => return Err(Unread { count }),
         }
-        count += more.count;
     }
-    Reading {
-        count,
-        failed: false,
-    }
+    Ok(count)
 }
 
 /// Reads standard input until the bytes are full, the input ends or a read fails.
-pub fn read_input(rt: &impl Input, bytes: &mut [u8]) -> Reading
-    ensures { IsPrefixLen result.count bytes.new }
+pub fn read_input(rt: &impl Input, bytes: &mut [u8]) -> Result<usize, Unread>
+    ensures { MatchResult result (λ n. IsPrefixLen n bytes.new) (λ e. IsPrefixLen e.count bytes.new) }
 {
     read_from(&mut rt.reader(), bytes)
+}
+
+/// Reads standard input as `read_input` does, and answers how many bytes stand at the front, before a failure too.
+pub fn read_as_far(rt: &impl Input, bytes: &mut [u8]) -> usize
+    ensures { IsPrefixLen result bytes.new }
+{
+    match read_input(rt, bytes) {
+        Ok(n) => n,
+        Err(unread) => unread.count,
+    }
 }
 
 /// Says on standard error that standard input cannot be read.
@@ -69,18 +56,18 @@ pub fn say_unread(rt: &impl Eprint) {
     let _ = eprintln!(rt; "standard input cannot be read: nothing is known of it");
 }
 
-/// Writes a text, and answers whether all of it was written.
-pub fn write_to<W: Write>(writer: &mut W, text: &[u8]) -> bool
-    ensures { result ≡ true → Appends (W.contents writer.old) (W.contents writer.new) text.now }
+/// Writes a text whole, or fails.
+pub fn write_to<W: Write>(writer: &mut W, text: &[u8]) -> io::Result<()>
+    ensures { OnOk result (Appends (W.contents writer.old) (W.contents writer.new) text.now) }
 {
-    writer.write_all(text).is_ok()
+    writer.write_all(text)
 }
 
-/// Writes a text to standard output, and answers whether all of it was written; where not, standard error says so.
-pub fn write_output(rt: &(impl Print + Eprint), text: &[u8]) -> bool {
-    if write_to(&mut io::writer(rt), text) {
-        return true;
+/// Writes a text to standard output whole, or says on standard error that it could not.
+pub fn write_output(rt: &(impl Print + Eprint), text: &[u8]) -> io::Result<()> {
+    let written = write_to(&mut io::writer(rt), text);
+    if written.is_err() {
+        let _ = eprintln!(rt; "standard output cannot be written: the answer is not whole");
     }
-    let _ = eprintln!(rt; "standard output cannot be written: the answer is not whole");
-    false
+    written
 }

@@ -1,9 +1,9 @@
 -- The modules on the levels, and their numbers.
-use Prim.Native.Nat.{ℕ, zero, suc, ◌+◌, ◌-◌, ◌≤◌, ◌<◌, ◌/◌, ◌%◌}
-use mathlib.Core.Path.{◌≡◌, refl, sym, ap, subst, ◌∙◌}
+use Prim.Native.Nat.{ℕ, zero, suc, ◌+◌, ◌-◌, ◌<◌, ◌/◌, ◌%◌}
+use mathlib.Core.Path.{◌≡◌, refl, ap}
 use mathlib.Core.List.{List}
-use mathlib.Core.Bool.{Bool, true, false, ◌||◌, false≢true}
-use mathlib.Core.Logic.{◌⊎◌, inl, inr, ⊎_elim}
+use mathlib.Core.Bool.{Bool, true, false, not, false≢true}
+use mathlib.Core.Logic.{⊎_elim}
 use native.Mathlib.Omega.{arith}
 use lib.Dec.{eqb}
 use lib.ListN.{get_or}
@@ -15,6 +15,7 @@ use Rattle.search_laws.specs.Near.{is_on}
 use Rattle.search_laws.proofs.Fewer.{either}
 use Rattle.distances.specs.Distances.{distance}
 use Rattle.local_levels.specs.Levels.{item_by, item_at, levels_of}
+use Rattle.local_levels.specs.Each.{ends_at, AnyBy}
 
 -- the word of a module's item
 module _ (w n : ℕ) where
@@ -33,28 +34,17 @@ far_item A w left n e h o =
     let q : get_or A (table_words + w / 4) 0 ≡ distance A n = ap (λ z. get_or A (table_words + z) 0) (same_module w n o).1 in
     omega (arith, e, h, q)
 
-on_first : (A : List ℕ) (p d n : ℕ) → 0 < d
-    → is_on (levels_of A p d) n ≡ (same_item (item_at (get_or A (p - 3) 0)) (module_item n) || is_on (levels_of A (get_or A (p - 2) 0) (d - 1)) n)
-unfolding levels_of is_on any
-on_first A p zero n h = absurd (omega arith)
-on_first A p (suc d) n h = let e : suc d - 1 ≡ d = omega arith in rw e
+-- where no level passes the test of a near one
+module _ (P : ℕ → Bool → Type 0) (A : List ℕ) (left : ℕ)
+    (far : (p : ℕ) → P p false → (n : ℕ) → same_item (item_at (get_or A (p - 3) 0)) (module_item n) ≡ true → left < distance A n) where
+  far_levels : (p d : ℕ) → AnyBy P A p d false → (n : ℕ) → is_on (levels_of A p d) n ≡ true → left < distance A n
+  unfolding AnyBy ends_at levels_of is_on any
+  far_levels p zero x n o = absurd (false≢true o)
+  far_levels p (suc d) (true, q, e) n o = absurd (false≢true e)
+  far_levels p (suc d) (false, q, x) n o =
+      ⊎_elim (λ t. far p q n t) (λ t. far_levels (get_or A (p - 2) 0) d x n t)
+      (either (same_item (item_at (get_or A (p - 3) 0)) (module_item n)) (is_on (levels_of A (get_or A (p - 2) 0) d) n) o)
 
--- What the loop over the levels keeps: a module on them is farther, or on those that are left.
-abbrev pub Passing : List ℕ → ℕ → ℕ → ℕ → ℕ → ℕ → Type 0
-Passing A left p₀ d₀ p d = (n : ℕ) → is_on (levels_of A p₀ d₀) n ≡ true → (left < distance A n) ⊎ (is_on (levels_of A p d) n ≡ true)
-
-module _ (A : List ℕ) (left p₀ d₀ p d : ℕ) (v : Passing A left p₀ d₀ p d) where
-  pub passing_next : {w p' d' : ℕ} → 0 < d → w ≡ get_or A (p - 3) 0 → ((n : ℕ) → same_item (item_at w) (module_item n) ≡ true → left < distance A n)
-      → p' ≡ get_or A (p - 2) 0 → d' ≡ d - 1 → Passing A left p₀ d₀ p' d'
-  passing_next {w} {p'} {d'} h e far q z n o =
-      ⊎_elim (λ f. inl f)
-      (λ t. ⊎_elim (λ i. inl (far n (ap (λ j. same_item (item_at j) (module_item n)) e ∙ i)))
-      (λ i. inr (ap (λ j. is_on (levels_of A j d') n) q ∙ ap (λ j. is_on (levels_of A (get_or A (p - 2) 0) j) n) z ∙ i))
-      (either _ _ (sym (on_first A p d n h) ∙ t)))
-      (v n o)
-
-  pub passing_done : d ≤ 0 → (n : ℕ) → is_on (levels_of A p₀ d₀) n ≡ true → left < distance A n
-  unfolding levels_of is_on any
-  passing_done h n o =
-      let z : d ≡ 0 = omega arith in
-      ⊎_elim (λ f. f) (λ t. absurd (false≢true (subst (λ j. is_on (levels_of A p j) n ≡ true) z t))) (v n o)
+  pub clear_levels : (p d : ℕ) (r : Bool) → AnyBy P A p d r → not r ≡ true → (n : ℕ) → is_on (levels_of A p d) n ≡ true → left < distance A n
+  clear_levels p d true x e = absurd (false≢true e)
+  clear_levels p d false x e = far_levels p d x

@@ -1,16 +1,18 @@
 -- The laws of rows.
 use Prim.Native.Nat.{ℕ, suc, ◌+◌, ◌-◌, ◌*◌, ◌/◌, ◌%◌, ◌≤◌, ◌<◌, ◌^◌}
 use mathlib.Core.Path.{◌≡◌, refl, sym, ap, subst, ◌∙◌}
-use mathlib.Core.List.{List, []}
+use mathlib.Core.List.{List, [], ◌++◌}
 use mathlib.Core.Bool.{Bool, true, false, false≢true}
 use mathlib.Core.Logic.{⊎_elim}
-use mathlib.Core.Option.{Option, none, some}
+use Rattle.std.specs.Prelude.{Option, None, Some}
 use native.Mathlib.Omega.{arith}
+use borrow.Rule.Slice.PartMut.{put_mid}
+use Rattle.std.proofs.lemmas.Slice.{take-put_mid_below}
 use lib.Dec.{eqb}
-use lib.ListN.{length, get_or, set, take}
-use lib.Seq.{get_or-set_same, get_or-set_other, take-set-le}
+use lib.ListN.{length, get_or, set, take, drop, replicate, length-replicate, get_or-append, get_or-replicate}
+use lib.Seq.{get_or-set_same, get_or-set_other, take-set-le, get_or-append-add, length-take-le}
 use borrow.Author.Tests.{eq-eqb, ne_eqb, eqb-true, eqb-false}
-use Rattle.snapshot.specs.Limits.{word_limit, module_limit, area_limit}
+use Rattle.snapshot.specs.Limits.{word_limit, area_limit}
 use Rattle.snapshot.specs.Records.{Snapshot, Scope, scope_at}
 use Rattle.snapshot.specs.Layouts.{table_words, snap_of}
 use Rattle.snapshot.specs.declared.layout.Layout.{Layout}
@@ -30,7 +32,7 @@ use Rattle.find_path.specs.Search.{search_local}
 use Rattle.search_laws.proofs.Bounds.{Fits, search_local_fits}
 use Rattle.search_laws.proofs.Tables.{same_snap}
 use Rattle.search_laws.specs.Near.{is_some, ruled, locations, imports, near}
-use Rattle.search_laws.proofs.Fewer.{tested, refuted, less_or}
+use Rattle.search_laws.proofs.Fewer.{tested, refuted}
 use Rattle.search_laws.proofs.Near.{unfound_nothing}
 use Rattle.search_laws.proofs.Loops.{offer_found}
 use Rattle.search_laws.proofs.Kept.{Made, made}
@@ -85,9 +87,9 @@ last_place_lem s c n h b w o =
     ap (λ z. get_or (set c.route c.steps (h * 8 + 6)) z 0 / 8) q
     ∙ ap (λ z. z / 8) (get_or-set_same c.route c.steps (h * 8 + 6) 0 (omega (arith, w))) ∙ g
 
-some_is : (o : Option Scope) → is_some o ≡ true → (e : Scope) × (o ≡ some e)
-some_is none h = absurd (false≢true h)
-some_is (some e) h = (e, refl)
+some_is : (o : Option Scope) → is_some o ≡ true → (e : Scope) × (o ≡ Some e)
+some_is None h = absurd (false≢true h)
+some_is (Some e) h = (e, refl)
 
 -- a choice as a row gives it back
 pub by_row : (s : Snapshot) (x : FindPathCtx) (c : Choice) (e : Scope) (b : Bool) {d : Choice} → c.found ≡ true → d ≡ offer_entry s x nothing c e
@@ -256,17 +258,15 @@ rows_put W A l x m w r size known v row i h =
 pub rows_none : (W A : List ℕ) (l : Layout) (x : FindPathCtx) → ((m : ℕ) → m < l.modules → row_at A m ≡ 0) → Rows W A l x
 rows_none W A l x z m h = record { nowhere = λ q. absurd (omega (arith, z m h, q)); somewhere = λ q. absurd (omega (arith, z m h, q)) }
 
--- what clearing the rows keeps
-module _ (A₀ : List ℕ) (n : ℕ) (A : List ℕ) (v : Cleared A₀ n A) where
-  pub cleared_next : n < module_limit → length A ≡ area_limit → Cleared A₀ (n + 1) (set A (rows_at + n) 0)
-  cleared_next h size =
-      record {
-        none = λ m o.
-            ⊎_elim (λ t. get_or-set_other A (rows_at + n) (rows_at + m) 0 0 (λ q. omega arith) ∙ v.none m t)
-            (λ t. let q : m ≡ n = omega arith in ap (λ z. row_at (set A (rows_at + n) 0) z) q ∙ get_or-set_same A (rows_at + n) 0 0 (omega arith))
-            (less_or m n);
-        below = take-set-le rows_at A (rows_at + n) 0 (omega arith) ∙ v.below;
-      }
-
-pub cleared_start : (A : List ℕ) → Cleared A 0 A
-cleared_start A = record { none = λ m h. absurd (omega arith); below = refl }
+-- clearing
+pub cleared_all : (A ys : List ℕ) (n k j : ℕ) → k ≡ n → j ≡ n → ys ≡ replicate j 0 → rows_at + n ≤ length A → Cleared A n (put_mid rows_at k A ys)
+cleared_all A ys n k j q p e h =
+    let R = drop k (drop rows_at A) in
+    let l : length (take rows_at A) ≡ rows_at = length-take-le rows_at A (omega arith) in
+    record {
+      none = λ m o.
+          ap (λ j. get_or (take rows_at A ++ (ys ++ R)) (j + m) 0) (sym l) ∙ get_or-append-add (take rows_at A) (ys ++ R) m 0
+          ∙ ap (λ z. get_or (z ++ R) m 0) (e ∙ ap (λ i. replicate i 0) p) ∙ get_or-append (replicate n 0) R 0 m (simp length-replicate o)
+          ∙ get_or-replicate n m 0 0 o;
+      below = take-put_mid_below rows_at k A ys rows_at (omega arith) (omega arith);
+    }

@@ -2,7 +2,7 @@
 //! levels are all farther does not depend on the levels, so it is searched once.
 #![tactic(auto)]
 
-ghost use Rattle.std.specs.Prelude.{◌≡◌, true, ℕ, ◌≤◌, ◌<◌, ◌^◌, length};
+ghost use Rattle.std.specs.Prelude.{◌≡◌, true, false, ℕ, ◌-◌, ◌≤◌, ◌<◌, ◌^◌, get_or, length};
 ghost use Rattle.snapshot.specs.Limits.{word_limit, module_limit, area_limit};
 ghost use Rattle.snapshot.specs.Records.{scope_at};
 ghost use Rattle.snapshot.specs.Layouts.{snap_of};
@@ -19,6 +19,7 @@ ghost use Rattle.tight_rows.specs.Post.{Cleared, Farther, Tight};
 use distances::Distances;
 use find_path::{Choice, FindPathCtx};
 use local_levels::Stack;
+use local_levels::levels::any_level;
 use path_offers::offers::offer_entry;
 use path_rules::choices::nothing;
 use snapshot::ids::ModuleId;
@@ -26,8 +27,7 @@ use snapshot::layout::Layout;
 use snapshot::words::word;
 
 /// Where the rows stand, a word a module.
-#[derive(Clone, Copy)]
-pub struct Rows(pub usize);
+pub struct Rows;
 
 impl Rows {
     pub const AT: usize = 15872;
@@ -38,21 +38,20 @@ pub fn clear_rows(area: &mut [u32], count: usize)
     requires { (length area.old ≡ area_limit) × (count ≤ module_limit) }
     ensures { Cleared area.old count area.new }
 {
-    let mut m = 0;
-    while m < count {
-        area[Rows::AT + m] = 0;
-        m += 1;
-    }
+    area[Rows::AT..Rows::AT + count].fill(0);
 }
 
-// Whether the item of a level, by its word, is no module with a number up to `left`.
-fn is_far(area: &[u32], code: usize, left: usize) -> bool
-    ensures { result ≡ true → (n : ℕ) → same_item (item_at code) (module_item n) ≡ true → left < distance area.now n }
+// Whether the item of the level with its run at a place is a module with a number up to `left`.
+fn is_near(area: &[u32], p: usize, left: usize) -> bool
+    requires { 3 ≤ p }
+    ensures { result ≡ false → (n : ℕ) → same_item (item_at (get_or area.now (p - 3) 0)) (module_item n) ≡ true
+        → left < distance area.now n }
 {
+    let code = word(area, p - 3);
     if code % 4 != 3 {
-        return true;
+        return false;
     }
-    left < word(area, Distances::AT + code / 4)
+    word(area, Distances::AT + code / 4) <= left
 }
 
 // Whether all modules on the levels have numbers larger than `left`.
@@ -60,16 +59,8 @@ fn is_clear(area: &[u32], s: Stack, left: usize) -> bool
     requires { Chain area.now s.place s.depth (length area.now) }
     ensures { result ≡ true → Farther area.now s left }
 {
-    let mut p = s.place;
-    let mut d = s.depth;
-    while 0 < d {
-        if !is_far(area, word(area, p - 3), left) {
-            return false;
-        }
-        p = word(area, p - 2);
-        d -= 1;
-    }
-    true
+    let near = |p| is_near(area, p, left);
+    !any_level(area, s, near)
 }
 
 /// Whether the answer for a module does not depend on the levels: its number is left, and the modules on the levels are farther.

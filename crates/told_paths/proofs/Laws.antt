@@ -1,9 +1,10 @@
 -- Laws of paths that are told.
+use Rattle.arrivals.specs.declared.LastStep.{LastStep}
 use Prim.Native.Nat.{ℕ, suc, ◌+◌, ◌≤◌, ◌<◌, ◌^◌}
 use mathlib.Core.Path.{◌≡◌, refl, sym, ap, ap₂, subst, ◌∙◌}
 use mathlib.Core.List.{List, [], ◌∷◌, ◌++◌, append_assoc}
 use mathlib.Core.Bool.{true, false, not, true≢false}
-use mathlib.Core.Option.{Option, none, some}
+use Rattle.std.specs.Prelude.{Option, None, Some}
 use native.Mathlib.Omega.{arith}
 use borrow.Author.Tests.{leb-true, leb-false, le-leb, lt-leb, lt-ltb, le-ltb, not-true, not-false}
 use lib.Dec.{leb}
@@ -14,8 +15,6 @@ use Rattle.accept.proofs.Accepted.{by_test}
 use Rattle.nameable.specs.Paths.{supers, Path, keyword, absolute, plain, into, names_in, names_of}
 use Rattle.nameable.specs.Breadth.{names_limit, shorter}
 use Rattle.any_path.specs.Rows.{path_from, path_at}
-use Rattle.arrivals.specs.declared.OptStep.{OptStep}
-use Rattle.arrivals.specs.declared.OptStep.TheVariants.{Step, NoStep}
 use Rattle.arrivals.specs.Steps.{Steps, LeadsTo}
 use Rattle.told_paths.specs.declared.ToldPath.{ToldPath}
 use Rattle.told_paths.specs.Tells.{step_link, kind_of, supers_of, padded, told_none, told_long, tell, told_by}
@@ -93,19 +92,19 @@ module _ (p : Path) (n : ℕ) {t : ToldPath} (e : t ≡ tell p) where
 
 -- The shorter of two.
 
-shorter_yes : (x y : Path) → names_in y < names_in x → shorter (some x) (some y) ≡ some y
+shorter_yes : (x y : Path) → names_in y < names_in x → shorter (Some x) (Some y) ≡ Some y
 unfolding shorter
 shorter_yes x y h = rw (shorter, lt-ltb (names_in y) (names_in x) h)
 
-shorter_no : (x y : Path) → names_in x ≤ names_in y → shorter (some x) (some y) ≡ some x
+shorter_no : (x y : Path) → names_in x ≤ names_in y → shorter (Some x) (Some y) ≡ Some x
 unfolding shorter
 shorter_no x y h = rw (shorter, le-ltb (names_in y) (names_in x) h)
 
 module _ (p q : Option Path) {a b : ToldPath} (ea : a ≡ told_by p) (eb : b ≡ told_by q) where
   second_by : (o : Option Path) → p ≡ o → not a.found ≡ true → b ≡ told_by (shorter p q)
   unfolding told_by shorter
-  second_by none z h = eb ∙ sym (ap (λ (o : Option Path). told_by (shorter o q)) z)
-  second_by (some x) z h =
+  second_by None z h = eb ∙ sym (ap (λ (o : Option Path). told_by (shorter o q)) z)
+  second_by (Some x) z h =
       absurd (true≢false (sym (tell_found x) ∙ (sym (ap (λ (u : ToldPath). u.found) (ea ∙ ap told_by z)) ∙ not-true a.found h)))
 
   pub shorter_second : not a.found ≡ true → b ≡ told_by (shorter p q)
@@ -113,26 +112,26 @@ module _ (p q : Option Path) {a b : ToldPath} (ea : a ≡ told_by p) (eb : b ≡
 
   first_by : (o u : Option Path) → p ≡ o → q ≡ u → not b.found ≡ true → a ≡ told_by (shorter p q)
   unfolding told_by shorter
-  first_by none none y z h = ea ∙ (ap told_by y ∙ sym (ap₂ (λ (o u : Option Path). told_by (shorter o u)) y z))
-  first_by (some x) none y z h = ea ∙ (ap told_by y ∙ sym (ap₂ (λ (o u : Option Path). told_by (shorter o u)) y z))
-  first_by o (some x) y z h =
+  first_by None None y z h = ea ∙ (ap told_by y ∙ sym (ap₂ (λ (o u : Option Path). told_by (shorter o u)) y z))
+  first_by (Some x) None y z h = ea ∙ (ap told_by y ∙ sym (ap₂ (λ (o u : Option Path). told_by (shorter o u)) y z))
+  first_by o (Some x) y z h =
       absurd (true≢false (sym (tell_found x) ∙ (sym (ap (λ (u : ToldPath). u.found) (eb ∙ ap told_by z)) ∙ not-true b.found h)))
 
   pub shorter_first : not b.found ≡ true → a ≡ told_by (shorter p q)
   shorter_first h = first_by p q refl refl h
 
   module _ (fa : not a.found ≡ false) (fb : not b.found ≡ false) where
-    some_both : (x y : Path) → p ≡ some x → q ≡ some y → (a.count ≡ names_in x) × (b.count ≡ names_in y)
+    some_both : (x y : Path) → p ≡ Some x → q ≡ Some y → (a.count ≡ names_in x) × (b.count ≡ names_in y)
     unfolding told_by
     some_both x y u v = (
       ap (λ (t : ToldPath). t.count) (ea ∙ ap told_by u) ∙ tell_count x,
       ap (λ (t : ToldPath). t.count) (eb ∙ ap told_by v) ∙ tell_count y,
     )
 
-    there : (o : Option Path) {t : ToldPath} → t ≡ told_by o → not t.found ≡ false → (x : Path) × (o ≡ some x)
+    there : (o : Option Path) {t : ToldPath} → t ≡ told_by o → not t.found ≡ false → (x : Path) × (o ≡ Some x)
     unfolding told_by told_none
-    there none e h = absurd (true≢false (sym (not-false _ h) ∙ ap (λ (u : ToldPath). u.found) e))
-    there (some x) e h = (x, refl)
+    there None e h = absurd (true≢false (sym (not-false _ h) ∙ ap (λ (u : ToldPath). u.found) e))
+    there (Some x) e h = (x, refl)
 
     pub shorter_less : b.count < a.count → b ≡ told_by (shorter p q)
     unfolding shorter told_by
@@ -140,7 +139,7 @@ module _ (p q : Option Path) {a b : ToldPath} (ea : a ≡ told_by p) (eb : b ≡
         let x = there p ea fa in
         let y = there q eb fb in
         let c = some_both x.0 y.0 x.1 y.1 in
-        let same : shorter p q ≡ some y.0 = ap₂ shorter x.1 y.1 ∙ shorter_yes x.0 y.0 (omega (arith, h, c.0, c.1)) in
+        let same : shorter p q ≡ Some y.0 = ap₂ shorter x.1 y.1 ∙ shorter_yes x.0 y.0 (omega (arith, h, c.0, c.1)) in
         eb ∙ (ap told_by y.1 ∙ sym (ap told_by same))
 
     pub shorter_keeps : a.count ≤ b.count → a ≡ told_by (shorter p q)
@@ -149,31 +148,31 @@ module _ (p q : Option Path) {a b : ToldPath} (ea : a ≡ told_by p) (eb : b ≡
         let x = there p ea fa in
         let y = there q eb fb in
         let c = some_both x.0 y.0 x.1 y.1 in
-        let same : shorter p q ≡ some x.0 = ap₂ shorter x.1 y.1 ∙ shorter_no x.0 y.0 (omega (arith, h, c.0, c.1)) in
+        let same : shorter p q ≡ Some x.0 = ap₂ shorter x.1 y.1 ∙ shorter_no x.0 y.0 (omega (arith, h, c.0, c.1)) in
         ea ∙ (ap told_by x.1 ∙ sym (ap told_by same))
 
 -- The path to which a step leads.
-module _ (A : List ℕ) (n : ℕ) (q : OptStep) where
-  pub step_link_lem : {k x p : ℕ} → q ≡ Step k x p → step_link q < n + 3 → k < n + 3
+module _ (A : List ℕ) (n : ℕ) (q : Option LastStep) where
+  pub step_link_lem : {r : LastStep} → q ≡ Some r → step_link q < n + 3 → r.link < n + 3
   unfolding step_link
-  step_link_lem {k} {x} {p} e h = let same : step_link q ≡ k = ap step_link e in omega (arith, h, same)
+  step_link_lem {r} e h = let same : step_link q ≡ r.link = ap step_link e in omega (arith, h, same)
 
-  pub leads_none : q ≡ NoStep → {t : ToldPath} → t ≡ told_none → (s : Snapshot) (from ns : ℕ) (o : Option Path) → LeadsTo s from ns A n o q
+  pub leads_none : q ≡ None → {t : ToldPath} → t ≡ told_none → (s : Snapshot) (from ns : ℕ) (o : Option Path) → LeadsTo s from ns A n o q
       → t ≡ told_by o
   unfolding LeadsTo told_by
   leads_none e et s from ns o h =
-      let z : o ≡ none = subst (λ (u : OptStep). LeadsTo s from ns A n o u) e h in et ∙ sym (ap told_by z)
+      let z : o ≡ None = subst (λ (u : Option LastStep). LeadsTo s from ns A n o u) e h in et ∙ sym (ap told_by z)
 
-  module _ {k x p : ℕ} (e : q ≡ Step k x p) (s : Snapshot) (from ns : ℕ) (o : Option Path) (h : LeadsTo s from ns A n o q) where
-    step_path : o ≡ some (path_from (path_at A) k x)
+  module _ {r : LastStep} (e : q ≡ Some r) (s : Snapshot) (from ns : ℕ) (o : Option Path) (h : LeadsTo s from ns A n o q) where
+    step_path : o ≡ Some (path_from (path_at A) r.link r.name)
     unfolding LeadsTo
-    step_path = let z : Steps s from ns A n o k x p = subst (λ (u : OptStep). LeadsTo s from ns A n o u) e h in z.path
+    step_path = let z : Steps s from ns A n o r.link r.name r.at = subst (λ (u : Option LastStep). LeadsTo s from ns A n o u) e h in z.path
 
-    pub leads_long : {t : ToldPath} {c : ℕ} → names_limit < c → c ≡ names_in (path_from (path_at A) k x) → t ≡ told_long c → t ≡ told_by o
+    pub leads_long : {t : ToldPath} {c : ℕ} → names_limit < c → c ≡ names_in (path_from (path_at A) r.link r.name) → t ≡ told_long c → t ≡ told_by o
     unfolding told_by
-    leads_long l ec et = tell_long (path_from (path_at A) k x) l ec et ∙ sym (ap told_by step_path)
+    leads_long l ec et = tell_long (path_from (path_at A) r.link r.name) l ec et ∙ sym (ap told_by step_path)
 
-    pub leads_read : {t : ToldPath} → t ≡ tell (path_from (path_at A) k x) → t ≡ told_by o
+    pub leads_read : {t : ToldPath} → t ≡ tell (path_from (path_at A) r.link r.name) → t ≡ told_by o
     unfolding told_by
     leads_read et = et ∙ sym (ap told_by step_path)
 

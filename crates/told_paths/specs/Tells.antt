@@ -1,16 +1,15 @@
 -- A path written out: how it begins, and its names.
+use Rattle.arrivals.specs.declared.LastStep.{LastStep}
 use Rattle.std.specs.Prelude.{ℕ, zero, suc, List, ◌++◌, true, false, leb, length, drop, replicate}
-use Rattle.std.proofs.Math.Option.{Option, none, some}
+use Rattle.std.specs.Prelude.{Option, None, Some}
 use Rattle.nameable.specs.Paths.{Keyword, supers, crate, Path, keyword, absolute, plain, into, names_in, names_of}
 use Rattle.nameable.specs.Breadth.{names_limit}
-use Rattle.arrivals.specs.declared.OptStep.{OptStep}
-use Rattle.arrivals.specs.declared.OptStep.TheVariants.{Step, NoStep}
 use Rattle.told_paths.specs.declared.ToldPath.{ToldPath}
 
 -- the link of a step, 0 of none
-unfoldable pub step_link : OptStep → ℕ
-step_link (Step k x p) = k
-step_link NoStep = 0
+unfoldable pub step_link : Option LastStep → ℕ
+step_link (Some q) = q.link
+step_link None = 0
 
 -- how a path begins, by a report's numbers: 0 a name, 1 `self`, 2 `super`, 3 `crate`, 4 `::`
 
@@ -56,5 +55,5 @@ tell p =
     ]
 
 unfoldable pub told_by : Option Path → ToldPath
-told_by none = told_none
-told_by (some p) = tell p
+told_by None = told_none
+told_by (Some p) = tell p

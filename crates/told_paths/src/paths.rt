@@ -1,6 +1,6 @@
 //! Paths read out of the rows, one more name, and the shorter of two.
 ghost use Rattle.std.specs.Prelude.{◌≡◌, ℕ, ◌+◌, ◌^◌, ◌≤◌, ◌<◌};
-ghost use Rattle.std.proofs.Math.Option.{Option};
+ghost use Rattle.std.specs.Prelude.{Option};
 ghost use Rattle.snapshot.specs.Limits.{module_limit};
 ghost use Rattle.snapshot.specs.Records.{Snapshot};
 ghost use Rattle.nameable.specs.Paths.{Path, into, names_in};
@@ -11,13 +11,12 @@ ghost use Rattle.told_paths.specs.Tells.{step_link, keyword_kind, keyword_supers
 
 use crate::ToldPath;
 use any_path::rows::Row;
-use arrivals::OptStep;
+use arrivals::LastStep;
 use snapshot::ids::PathKind;
 use snapshot::words::word;
 
 /// Names of a path.
-#[derive(Clone, Copy)]
-pub struct NameCount(pub usize);
+pub struct NameCount;
 
 impl NameCount {
     /// Names of a path that is told, at most.
@@ -57,12 +56,12 @@ fn keyword_kind(n: usize) -> usize
     ensures { result ≡ keyword_kind (keyword_from n) }
 {
     if n == 0 {
-        return PathKind::CRATE;
+        return PathKind::Crate as usize;
     }
     if n == 1 {
-        return PathKind::SELF;
+        return PathKind::SelfModule as usize;
     }
-    PathKind::SUPER
+    PathKind::Super as usize
 }
 
 fn keyword_supers(n: usize) -> usize
@@ -123,7 +122,7 @@ fn read(area: &[u32], n: usize, link: usize, name: usize, count: usize) -> ToldP
     if k == 1 {
         return ToldPath {
             found: true,
-            kind: PathKind::ABSOLUTE,
+            kind: PathKind::Absolute as usize,
             supers: 0,
             names: names,
             count: count,
@@ -131,7 +130,7 @@ fn read(area: &[u32], n: usize, link: usize, name: usize, count: usize) -> ToldP
     }
     ToldPath {
         found: true,
-        kind: PathKind::PLAIN,
+        kind: PathKind::Plain as usize,
         supers: 0,
         names: names,
         count: count,
@@ -139,19 +138,19 @@ fn read(area: &[u32], n: usize, link: usize, name: usize, count: usize) -> ToldP
 }
 
 /// The path to which a step after n rows leads.
-pub fn tell(area: &[u32], n: usize, step: OptStep) -> ToldPath
+pub fn tell(area: &[u32], n: usize, step: Option<LastStep>) -> ToldPath
     requires { (n ≤ module_limit) × (step_link step < n + 3) × ((i : ℕ) → i < n → link_at area.now i < i + 3) }
     ensures value { (s : Snapshot) (from ns : ℕ) (o : Option Path) → LeadsTo s from ns area.now n o step → result ≡ told_by o }
     ensures count_bound { result.count < 2 ^ 32 }
 {
-    let OptStep::Step(link, name, _) = step else {
+    let Some(last) = step else {
         return nothing();
     };
-    let count = names_in(area, n, link);
+    let count = names_in(area, n, last.link);
     if NameCount::LIMIT < count {
         return long(count);
     }
-    read(area, n, link, name, count)
+    read(area, n, last.link, last.name, count)
 }
 
 /// One name more.

@@ -3,7 +3,7 @@ use Prim.Native.Nat.{ℕ, suc, ◌-◌, ◌≤◌, ◌<◌}
 use mathlib.Core.Path.{◌≡◌, refl, sym, ap, subst, ◌∙◌}
 use mathlib.Core.List.{List}
 use mathlib.Core.Bool.{true, false, ◌&&◌}
-use mathlib.Core.Option.{Option, none, some, map}
+use Rattle.std.specs.Prelude.{Option, None, Some, option_map}
 use native.Mathlib.Omega.{arith}
 use borrow.Author.Tests.{eq-eqb, ne_eqb, eqb-true, le-ltb}
 use lib.Dec.{eqb}
@@ -32,10 +32,7 @@ use Rattle.nameable.specs.Queue.{seen_named}
 use Rattle.nameable.proofs.Lists.{none_some, first_found_lem}
 use Rattle.nameable.proofs.Reached.{each_in, item_in_lem}
 use Rattle.nameable.proofs.Lookups.{named_seen}
-use Rattle.read_back.specs.Answers.{meant}
 use Rattle.readings.specs.Reads.{extern_named as extern_of_name, is_variant_named, variant_named as first_variant}
-use Rattle.read_back.specs.declared.OptItem.{OptItem}
-use Rattle.read_back.specs.declared.OptItem.TheVariants.{Means, NoItem}
 use Rattle.any_path.specs.Plain.{externs_named}
 use Rattle.any_path.proofs.Plains.{entry_item, externs_read, externs_types, externs_others}
 use Rattle.shortest_paths.proofs.Laws.{variant_first}
@@ -48,21 +45,21 @@ answers_as {x = x} e a = subst (λ (z : Option Named). Answers z x) e a
 -- By an entry, and by an extern.
 
 pub answers_entry : (s : Snapshot) (e : Scope) {i : Item} {ns d : ℕ} → i ≡ item_of s ns d → ns ≡ e.ns → d ≡ e.definition
-    → Answers (some (as_named s e)) (record { item = Means i; place = e.place })
-unfolding meant item_in place_in
-answers_entry s e ei en ed = record { item = ap some (entry_item s e ei en ed); place = refl }
+    → Answers (Some (as_named s e)) (record { item = Some i; place = e.place })
+unfolding item_in place_in
+answers_entry s e ei en ed = record { item = ap Some (entry_item s e ei en ed); place = refl }
 
-pub answers_extern : (x : Extern) (m : ModuleId) → m.0 ≡ x.target → Answers (some (extern_named x))
-    (record { item = Means (Mod m); place = x.place })
-unfolding meant item_in place_in
-answers_extern x m e = record { item = ap (λ (t : ℕ). some (module_item t)) e; place = refl }
+pub answers_extern : (x : Extern) (m : ModuleId) → m.0 ≡ x.target → Answers (Some (extern_named x))
+    (record { item = Some (Mod m); place = x.place })
+unfolding item_in place_in
+answers_extern x m e = record { item = ap (λ (t : ℕ). Some (module_item t)) e; place = refl }
 
 -- A name after `::`.
 module _ (s : Snapshot) (from ns n : ℕ) {c : ℕ} (k : c ≡ crate_of s from) {y : ℕ} (edition : y ≡ (crate_data s c).edition) where
   same_edition : y ≡ (crate_data s (crate_of s from)).edition
   same_edition = edition ∙ ap (λ (j : ℕ). (crate_data s j).edition) k
 
-  pub absolute_old : y ≡ 2015 → none ≡ reads s from ns (absolute n)
+  pub absolute_old : y ≡ 2015 → None ≡ reads s from ns (absolute n)
   unfolding reads absolutes named first_of
   absolute_old e =
       let old : eqb (crate_data s (crate_of s from)).edition 2015 ≡ true =
@@ -70,35 +67,35 @@ module _ (s : Snapshot) (from ns n : ℕ) {c : ℕ} (k : c ≡ crate_of s from) 
       rw (absolutes, old)
 
   module _ (late : y ≡ 2015 → ⊥) where
-    absolute_late : reads s from ns (absolute n) ≡ map extern_named (externs_named s from ns n)
+    absolute_late : reads s from ns (absolute n) ≡ option_map extern_named (externs_named s from ns n)
     unfolding reads absolutes
     absolute_late =
         let new : eqb (crate_data s (crate_of s from)).edition 2015 ≡ false =
         ne_eqb (crate_data s (crate_of s from)).edition 2015 (λ z. late (same_edition ∙ z)) in
         rw (absolutes, new) (externs_read s from ns n)
 
-    pub absolute_other : (ns ≡ types → ⊥) → none ≡ reads s from ns (absolute n)
-    absolute_other h = ap (map extern_named) (externs_others s from ns n h) ∙ sym absolute_late
+    pub absolute_other : (ns ≡ types → ⊥) → None ≡ reads s from ns (absolute n)
+    absolute_other h = ap (option_map extern_named) (externs_others s from ns n h) ∙ sym absolute_late
 
-    pub absolute_by : ns ≡ types → {o : Option Extern} → o ≡ extern_of_name s c n → map extern_named o ≡ reads s from ns (absolute n)
-    absolute_by h e = ap (map extern_named) (e ∙ externs_types s from ns n k h) ∙ sym absolute_late
+    pub absolute_by : ns ≡ types → {o : Option Extern} → o ≡ extern_of_name s c n → option_map extern_named o ≡ reads s from ns (absolute n)
+    absolute_by h e = ap (option_map extern_named) (e ∙ externs_types s from ns n k h) ∙ sym absolute_late
 
 -- By an entry of a module.
 pub entry_by : (s : Snapshot) (from ns m n : ℕ) {o : Option Scope} → o ≡ seen_named s from ns m n
-    → map (as_named s) o ≡ named n (entries_in s from ns m)
-entry_by s from ns m n e = ap (map (as_named s)) e ∙ sym (named_seen s from ns m n)
+    → option_map (as_named s) o ≡ named n (entries_in s from ns m)
+entry_by s from ns m n e = ap (option_map (as_named s)) e ∙ sym (named_seen s from ns m n)
 
 -- By a variant of an enum.
 module _ (W A : List ℕ) (l : Layout) (r : Reads W A l) (ns d n : ℕ) where
-  pub variant_macro : macros ≤ ns → none ≡ named n (variants_in (snap_of W A l) ns d)
+  pub variant_macro : macros ≤ ns → None ≡ named n (variants_in (snap_of W A l) ns d)
   unfolding variants_in named first_of
   variant_macro h = rw (variants_in, le-ltb ns macros h)
 
   module _ (low : ns < macros) where
-    pub variant_gone : none ≡ first_variant (snap_of W A l) d n → none ≡ named n (variants_in (snap_of W A l) ns d)
-    variant_gone e = ap (map (variant_named (snap_of W A l) ns)) e ∙ sym (variant_first (snap_of W A l) ns d d n low)
+    pub variant_gone : None ≡ first_variant (snap_of W A l) d n → None ≡ named n (variants_in (snap_of W A l) ns d)
+    variant_gone e = ap (option_map (variant_named (snap_of W A l) ns)) e ∙ sym (variant_first (snap_of W A l) ns d d n low)
 
-    variant_kind_lem : (x : Member) → some x ≡ first_variant (snap_of W A l) d n → (definition_of (snap_of W A l) x.definition).kind ≡ 2
+    variant_kind_lem : (x : Member) → Some x ≡ first_variant (snap_of W A l) d n → (definition_of (snap_of W A l) x.definition).kind ≡ 2
     unfolding first_variant definition_of
     variant_kind_lem x e =
         let s : Snapshot = snap_of W A l in
@@ -108,19 +105,19 @@ module _ (W A : List ℕ) (l : Layout) (r : Reads W A l) (ns d n : ℕ) where
         let k = and_two (eqb x.kind 0) (eqb x.name n) g.1 in
         ((each_in ok.members f.0).variant (eqb-true x.kind 0 k.0)).0
 
-    pub variant_answers : {x : Member} (y : DefinitionId) {h : ℕ} → some x ≡ first_variant (snap_of W A l) d n → y.0 ≡ x.definition
+    pub variant_answers : {x : Member} (y : DefinitionId) {h : ℕ} → Some x ≡ first_variant (snap_of W A l) d n → y.0 ≡ x.definition
         → ReadsAs W h (definition_of (snap_of W A l) y.0)
-        → Answers (named n (variants_in (snap_of W A l) ns d)) (record { item = Means (Def (record { 0 = ns }) y); place = h })
-    unfolding meant item_in place_in
+        → Answers (named n (variants_in (snap_of W A l) ns d)) (record { item = Some (Def (record { 0 = ns }) y); place = h })
+    unfolding item_in place_in
     variant_answers {x} y {h} e ey a =
         let s : Snapshot = snap_of W A l in
         let kind : (definition_of s y.0).kind ≡ 2 = ap (λ (j : ℕ). (definition_of s j).kind) ey ∙ variant_kind_lem x e in
         let whole : definition_at W h ≡ definition_of s y.0 = a.whole (omega (arith, kind)) in
-        let there : some (variant_named s ns x) ≡ named n (variants_in s ns d) =
-        ap (map (variant_named s ns)) e ∙ sym (variant_first s ns d d n low) in
+        let there : Some (variant_named s ns x) ≡ named n (variants_in s ns d) =
+        ap (option_map (variant_named s ns)) e ∙ sym (variant_first s ns d d n low) in
         answers_as there
         (record {
-          item = ap (λ (j : ℕ). some (defined_item ns j)) ey;
+          item = ap (λ (j : ℕ). Some (defined_item ns j)) ey;
           place = ap (λ (z : Definition). z.place) whole ∙ ap (λ (j : ℕ). (definition_of s j).place) ey;
         })
 
@@ -135,15 +132,15 @@ module _ (s : Snapshot) (from ns n : ℕ) {i : Item} {x : Meaning} where
   within_other k d e a = answers_as (ap (λ (z : Item). named n (within s from ns z)) (sym e)) a
 
 -- A name after what the names before it mean.
-module _ (f : Item → Option Named) {here : OptItem} where
-  pub after_nothing : here ≡ NoItem → (o : Option Named) → meant here ≡ item_in o → none ≡ after o f
-  unfolding meant item_in after
-  after_nothing e none h = refl
-  after_nothing e (some y) h = absurd (none_some (sym (ap meant e) ∙ h))
+module _ (f : Item → Option Named) {here : Option Item} where
+  pub after_nothing : here ≡ None → (o : Option Named) → here ≡ item_in o → None ≡ after o f
+  unfolding item_in after
+  after_nothing e None h = refl
+  after_nothing e (Some y) h = absurd (none_some (sym (e) ∙ h))
 
-  pub after_thing : {x : Item} → here ≡ Means x → (o : Option Named) → meant here ≡ item_in o → f x ≡ after o f
-  unfolding meant item_in after
-  after_thing {x} e o h = let y = item_in_lem o x (sym h ∙ ap meant e) in rw y.1 (ap f (sym y.2))
+  pub after_thing : {x : Item} → here ≡ Some x → (o : Option Named) → here ≡ item_in o → f x ≡ after o f
+  unfolding item_in after
+  after_thing {x} e o h = let y = item_in_lem o x (sym h ∙ e) in rw y.1 (ap f (sym y.2))
 
 -- The next name of a path, by its kind.
 module _ (kind k : ℕ) (p : Path) (n : ℕ) where
@@ -187,7 +184,7 @@ module _ (s : Snapshot) where
   abbrev pub above_means : ℕ → ℕ → Option Item
   above_means k m = item_in (module_named (above s k m))
 
-  pub above_here : (m : ModuleId) (k : ℕ) → k ≡ 0 → some (Mod m) ≡ above_means k m.0
+  pub above_here : (m : ModuleId) (k : ℕ) → k ≡ 0 → Some (Mod m) ≡ above_means k m.0
   unfolding above module_named item_in
   above_here m k e = sym (ap (λ (j : ℕ). above_means j m.0) e)
 
@@ -195,7 +192,7 @@ module _ (s : Snapshot) where
   unfolding above
   above_by m k j e = ap (λ (i : ℕ). above s i m) e
 
-  pub above_gone : (m k : ℕ) → 0 < k → parent_of s m ≡ 0 → none ≡ above_means k m
+  pub above_gone : (m k : ℕ) → 0 < k → parent_of s m ≡ 0 → None ≡ above_means k m
   unfolding above_or module_named item_in
   above_gone m k h e =
       sym (ap (λ (o : Option ℕ). item_in (module_named o)) (above_by m k (k - 1) (omega (arith, h)) ∙ ap (above_or s (above s (k - 1))) e))
@@ -208,11 +205,11 @@ module _ (s : Snapshot) where
     abbrev start_means : Keyword → Option Item
     start_means w = item_in (reads s from types (keyword w))
 
-    pub start_crate : (m : ModuleId) → kind ≡ 3 → m.0 ≡ crate_root s from → some (Mod m) ≡ item_in (reads s from types (keyword (keyword_by kind u)))
+    pub start_crate : (m : ModuleId) → kind ≡ 3 → m.0 ≡ crate_root s from → Some (Mod m) ≡ item_in (reads s from types (keyword (keyword_by kind u)))
     unfolding reads keyword_module module_named item_in keyword_by
     start_crate m e em =
         let same : keyword_by kind u ≡ crate = rw (keyword_by, eq-eqb kind 3 e) in
-        ap (λ (t : ℕ). some (module_item t)) em ∙ sym (ap start_means same)
+        ap (λ (t : ℕ). Some (module_item t)) em ∙ sym (ap start_means same)
 
     pub start_above : {o : Option Item} {m : ℕ} → (kind ≡ 3 → ⊥) → m ≡ module_around s from → o ≡ above_means u m
         → o ≡ item_in (reads s from types (keyword (keyword_by kind u)))

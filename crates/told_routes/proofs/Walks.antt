@@ -1,4 +1,6 @@
 -- The names of a path, one after the other.
+use Rattle.hir_def.specs.declared.Item.{Item}
+use Rattle.std.specs.Prelude.{Option}
 use Prim.Native.Nat.{ℕ, zero, suc, ◌+◌, ◌≤◌, ◌<◌}
 use mathlib.Core.Path.{◌≡◌, refl, sym, ap, ap₂, subst, ◌∙◌}
 use mathlib.Core.List.{List, [], ◌∷◌, ◌++◌}
@@ -11,8 +13,6 @@ use Rattle.accept.proofs.Accepted.{by_test}
 use Rattle.hir_def.specs.Items.{types}
 use Rattle.nameable.specs.Paths.{Keyword, supers, crate, Path, keyword, absolute, plain, into, names_in, names_of, reads, item_in, place_in, route_of}
 use Rattle.nameable.specs.Breadth.{names_limit}
-use Rattle.read_back.specs.Answers.{meant}
-use Rattle.read_back.specs.declared.OptItem.{OptItem}
 use Rattle.told_paths.specs.declared.ToldPath.{ToldPath}
 use Rattle.told_paths.specs.Tells.{keyword_kind, kind_of, keyword_supers, supers_of, padded, tell}
 use Rattle.told_paths.proofs.Laws.{length_names, wholly, tell_few, pad_more}
@@ -101,13 +101,13 @@ module _ (s : Snapshot) (from kind u : ℕ) (N : List ℕ) where
       ap length (route_more ns k) ∙ omega (arith, more, route_size types k)
 
 -- k names of so many are read: the route, and what is meant
-pub record Walked (s : Snapshot) (from ns kind u : ℕ) (N : List ℕ) (count : ℕ) (here : OptItem) (route : List ℕ) (k : ℕ) : Type 0 where
+pub record Walked (s : Snapshot) (from ns kind u : ℕ) (N : List ℕ) (count : ℕ) (here : Option Item) (route : List ℕ) (k : ℕ) : Type 0 where
   pub few : k ≤ count
   pub places : route ≡ padded (route_of s from (ns_of_first ns count k) (path_by kind u N k))
-  pub means : meant here ≡ item_in (reads s from (ns_of_first ns count k) (path_by kind u N k))
+  pub means : here ≡ item_in (reads s from (ns_of_first ns count k) (path_by kind u N k))
 
 module _ (s : Snapshot) (from ns kind u : ℕ) (N : List ℕ) (count : ℕ) where
-  pub walked_start : {here : OptItem} → meant here ≡ item_in (reads s from types (keyword (keyword_by kind u)))
+  pub walked_start : {here : Option Item} → here ≡ item_in (reads s from types (keyword (keyword_by kind u)))
       → Walked s from ns kind u N count here (replicate 16 0) 0
   unfolding path_by route_of padded reads
   walked_start e = record { few = omega arith; places = refl; means = e }
@@ -116,9 +116,9 @@ module _ (s : Snapshot) (from ns kind u : ℕ) (N : List ℕ) (count : ℕ) wher
   unfolding ns_of_first
   in_types k h = rw (ns_of_first, ne_eqb k count (λ z. omega (arith, h, z)))
 
-  module _ {here : OptItem} {route : List ℕ} {k : ℕ} (w : Walked s from ns kind u N count here route k) (less : k < count) where
+  module _ {here : Option Item} {route : List ℕ} {k : ℕ} (w : Walked s from ns kind u N count here route k) (less : k < count) where
     -- what the next name is read after
-    pub walked_here : meant here ≡ item_in (reads s from types (path_by kind u N k))
+    pub walked_here : here ≡ item_in (reads s from types (path_by kind u N k))
     walked_here = w.means ∙ ap (λ (j : ℕ). item_in (reads s from j (path_by kind u N k))) (in_types k less)
 
     pub walked_next : count ≤ names_limit → {x : Meaning} {i : ℕ} → i ≡ ns_of_first ns count (k + 1)
@@ -141,7 +141,7 @@ module _ (s : Snapshot) (from ns kind u : ℕ) (N : List ℕ) (count : ℕ) wher
           means = a.item ∙ ap₂ (λ (y z : ℕ). item_in (reads s from y (path_by kind u N z))) ei (sym j);
         }
 
-  pub walked_done : {here : OptItem} {route : List ℕ} {k : ℕ} → Walked s from ns kind u N count here route k → count ≤ k
+  pub walked_done : {here : Option Item} {route : List ℕ} {k : ℕ} → Walked s from ns kind u N count here route k → count ≤ k
       → route ≡ padded (route_of s from ns (path_by kind u N count))
   unfolding ns_of_first
   walked_done {k = k} w h =

@@ -1,9 +1,8 @@
 -- A path put together from what is told of it, name by name; and what is answered of a name.
 use Rattle.std.specs.Prelude.{ℕ, zero, suc, ◌≡◌, List, true, false, eqb, get_or}
-use Rattle.std.proofs.Math.Option.{Option}
+use Rattle.std.specs.Prelude.{Option}
 use Rattle.hir_def.specs.Items.{types}
 use Rattle.nameable.specs.Paths.{Keyword, supers, crate, Path, keyword, absolute, plain, into, Named, item_in, place_in}
-use Rattle.read_back.specs.Answers.{meant}
 use Rattle.told_routes.specs.declared.Meaning.{Meaning}
 
 -- the keyword of a kind, with so many `super`
@@ -30,5 +29,5 @@ ns_of_first ns count k = elim (eqb k count) [ true ↦ ns | false ↦ types ]
 
 -- what a name is read as is answered
 pub record Answers (o : Option Named) (x : Meaning) : Type 0 where
-  pub item : meant x.item ≡ item_in o
+  pub item : x.item ≡ item_in o
   pub place : x.place ≡ place_in o

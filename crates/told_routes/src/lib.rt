@@ -5,11 +5,11 @@ mod names;
 pub mod routes;
 mod starts;
 
-use read_back::OptItem;
+use hir_def::Item;
 
 /// What the names read so far mean, and the place of the record by which the last of them is read, 0 for none.
 #[derive(Clone, Copy)]
 pub struct Meaning {
-    pub item: OptItem,
+    pub item: Option<Item>,
     pub place: usize,
 }

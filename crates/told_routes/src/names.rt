@@ -1,21 +1,19 @@
 //! What a single name means, and by which record.
 ghost use Rattle.std.specs.Prelude.{◌≡◌, List, ℕ, ◌^◌, ◌<◌};
-ghost use Rattle.std.proofs.Math.Option.{Option, none, some};
+ghost use Rattle.std.specs.Prelude.{Option, None, Some};
 ghost use Rattle.snapshot.specs.Records.{scope_at, extern_at};
 ghost use Rattle.snapshot.specs.Layouts.{word_count, snap_of};
 ghost use Rattle.accept.specs.Post.{Reads};
 ghost use Rattle.hir_def.specs.Items.{types};
 ghost use Rattle.nameable.specs.Paths.{Path, absolute, plain, Named, named, as_named, entries_in, variants_in, extern_named, within, after, reads};
 ghost use Rattle.nameable.specs.Paths.{item_in};
-ghost use Rattle.read_back.specs.Answers.{meant};
 ghost use Rattle.told_routes.specs.Routes.{next_path, Answers};
 
 use crate::Meaning;
 use any_path::plain::{Reading, read_plain};
+use hir_def::Item;
 use hir_def::items::{definition_head, edition_of, item_of};
-use hir_def::{Entry, Item};
 use module_tree::modules::krate;
-use read_back::OptItem;
 use read_back::lookups::{extern_named, variant_named};
 use seen_entries::lookups::entry_named;
 use snapshot::ids::{DefinitionId, ModuleId, Name, Namespace, PathKind};
@@ -23,10 +21,10 @@ use snapshot::layout::Layout;
 use snapshot::record::{extern_target, member_definition, scope_definition, scope_ns};
 
 fn nothing() -> Meaning
-    ensures { Answers none result }
+    ensures { Answers None result }
 {
     Meaning {
-        item: OptItem::NoItem,
+        item: None,
         place: 0,
     }
 }
@@ -34,23 +32,23 @@ fn nothing() -> Meaning
 // By the entry with its head at a place.
 fn by_entry(words: &[u32], l: Layout, h: usize) -> Meaning
     requires { word_count l < 2 ^ 32 }
-    ensures { (A : List ℕ) → Answers (some (as_named (snap_of words.now A l) (scope_at words.now h))) result }
+    ensures { (A : List ℕ) → Answers (Some (as_named (snap_of words.now A l) (scope_at words.now h))) result }
 {
     let ns = scope_ns(words, h);
     let item = item_of(words, l, ns, scope_definition(words, h));
     Meaning {
-        item: OptItem::Means(item),
+        item: Some(item),
         place: h,
     }
 }
 
 // By the extern with its head at a place.
 fn by_extern(words: &[u32], h: usize) -> Meaning
-    ensures { Answers (some (extern_named (extern_at words.now h))) result }
+    ensures { Answers (Some (extern_named (extern_at words.now h))) result }
 {
     let m = extern_target(words, h);
     Meaning {
-        item: OptItem::Means(Item::Mod(m)),
+        item: Some(Item::Mod(m)),
         place: h,
     }
 }
@@ -93,7 +91,7 @@ fn read_absolute(
     if ns != Namespace::TYPES {
         return nothing();
     }
-    let Entry::At(h) = extern_named(words, l, c, name) else {
+    let Some(h) = extern_named(words, l, c, name) else {
         return nothing();
     };
     by_extern(words, h)
@@ -112,7 +110,7 @@ fn in_module(
     requires { Reads words.now area.now l × (from.0 < l.modules) }
     ensures { Answers (named name.0 (entries_in (snap_of words.now area.now l) from.0 ns m.0)) result }
 {
-    let Entry::At(h) = entry_named(words, area, l, from, m, ns, name) else {
+    let Some(h) = entry_named(words, area, l, from, m, ns, name) else {
         return nothing();
     };
     by_entry(words, l, h)
@@ -133,13 +131,13 @@ fn in_enum(
     if Namespace::MACROS <= ns {
         return nothing();
     }
-    let Entry::At(h) = variant_named(words, l, d, name) else {
+    let Some(h) = variant_named(words, l, d, name) else {
         return nothing();
     };
     let its = member_definition(words, h);
     let place = definition_head(words, l, its);
     Meaning {
-        item: OptItem::Means(Item::Def(Namespace(ns), its)),
+        item: Some(Item::Def(Namespace(ns), its)),
         place,
     }
 }
@@ -169,15 +167,15 @@ fn read_after(
     area: &[u32],
     l: Layout,
     from: ModuleId,
-    here: OptItem,
+    here: Option<Item>,
     ns: usize,
     name: Name,
 ) -> Meaning
     requires { Reads words.now area.now l × (from.0 < l.modules) }
-    ensures { (o : Option Named) → meant here ≡ item_in o
+    ensures { (o : Option Named) → here ≡ item_in o
         → Answers (after o (λ x. named name.0 (within (snap_of words.now area.now l) from.0 ns x))) result }
 {
-    let OptItem::Means(x) = here else {
+    let Some(x) = here else {
         return nothing();
     };
     in_item(words, area, l, from, x, ns, name)
@@ -191,21 +189,21 @@ pub(crate) fn read_name(
     from: ModuleId,
     kind: usize,
     k: usize,
-    here: OptItem,
+    here: Option<Item>,
     ns: usize,
     name: Name,
 ) -> Meaning
     requires { Reads words.now area.now l × (from.0 < l.modules) }
-    ensures { (p : Path) → meant here ≡ item_in (reads (snap_of words.now area.now l) from.0 types p)
+    ensures { (p : Path) → here ≡ item_in (reads (snap_of words.now area.now l) from.0 types p)
         → Answers (reads (snap_of words.now area.now l) from.0 ns (next_path kind k p name.0)) result }
 {
     if 0 < k {
         return read_after(words, area, l, from, here, ns, name);
     }
-    if kind == PathKind::PLAIN {
+    if kind == PathKind::Plain as usize {
         return read_alone(words, area, l, from, ns, name);
     }
-    if kind == PathKind::ABSOLUTE {
+    if kind == PathKind::Absolute as usize {
         return read_absolute(words, area, l, from, ns, name);
     }
     read_after(words, area, l, from, here, ns, name)

@@ -42,13 +42,11 @@ fn route_by(
     let count = t.count;
     let mut here = start(words, area, l, from, kind, t.supers);
     let mut route = [0usize; 16];
-    let mut k = 0;
-    while k < count {
+    for k in 0..count {
         let its = looked_in(ns, k + 1, count);
         let x = read_name(words, area, l, from, kind, k, here, its, Name(names[k]));
         route[k] = x.place;
         here = x.item;
-        k += 1;
     }
     route
 }

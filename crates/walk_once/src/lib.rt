@@ -14,7 +14,7 @@ ghost use Rattle.walk_once.specs.Post.{Copied, Kept};
 
 use hir_def::Item;
 use local_levels::Stack;
-use local_levels::levels::code_of;
+use local_levels::levels::{any_level, code_of};
 use local_levels::locations::find_local_import_locations;
 use scope_index::Index;
 use snapshot::ids::ModuleId;
@@ -22,8 +22,7 @@ use snapshot::layout::Layout;
 use snapshot::words::word;
 
 /// Where the walk stands: its modules, and then how many they are.
-#[derive(Clone, Copy)]
-pub struct Walk(pub usize);
+pub struct Walk;
 
 impl Walk {
     pub const AT: usize = Index::END;
@@ -54,16 +53,8 @@ fn is_on(area: &[u32], s: Stack, item: Item) -> bool
     ensures { result ≡ false → (m : ℕ) → visited (levels_of area.now s.place s.depth) item m ≡ false }
 {
     let code = code_of(item);
-    let mut p = s.place;
-    let mut d = s.depth;
-    while 0 < d {
-        if word(area, p - 3) == code {
-            return true;
-        }
-        p = word(area, p - 2);
-        d -= 1;
-    }
-    false
+    let test = |p| word(area, p - 3) == code;
+    any_level(area, s, test)
 }
 
 // Copies the first n modules of the walk.
@@ -71,11 +62,7 @@ fn copy_walk(area: &mut [u32], to: usize, n: usize)
     requires { (walk_end ≤ to) × (to + module_limit ≤ length area.old) × (n ≤ module_limit) }
     ensures { Copied area.old to n area.new }
 {
-    let mut i = 0;
-    while i < n {
-        area[to + i] = area[Walk::AT + i];
-        i += 1;
-    }
+    area.copy_within(Walk::AT..Walk::AT + n, to);
 }
 
 /// The modules that a local search for the item takes, in order, as a run at the top: the walk, unless a level is for the item.

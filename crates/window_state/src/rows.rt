@@ -4,8 +4,7 @@ ghost use Rattle.window_rules.specs.States.{waits as waits_of, served, with_row}
 ghost use Rattle.window_state.specs.Words.{empty_row, row_words, words_of};
 
 /// A number of windows.
-#[derive(Clone, Copy)]
-pub struct WindowCount(pub usize);
+pub struct WindowCount;
 
 impl WindowCount {
     /// Windows that share the search.
@@ -62,13 +61,11 @@ pub fn next_waiting(windows: Windows) -> usize
     ensures { result ≡ served (words_of windows) }
 {
     let mut window = (windows.next % 8) as usize;
-    let mut left = WindowCount::LIMIT;
-    while 0 < left {
+    for _turn in 0..WindowCount::LIMIT {
         if waits(windows, window) {
             return window;
         }
         window = (window + 1) % WindowCount::LIMIT;
-        left -= 1;
     }
     WindowCount::LIMIT
 }

@@ -1,5 +1,6 @@
 //! Questions placed and served, in a state by value.
 ghost use Rattle.std.specs.Prelude.{◌≡◌, ◌<◌};
+ghost use Rattle.snapshot.specs.Refusals.{fault_number};
 ghost use Rattle.questions.specs.Questions.{question_of};
 ghost use Rattle.window_rules.specs.States.{place_fault, with_row, waiting, asked_by, after_serving};
 ghost use Rattle.window_state.specs.Words.{words_of};
@@ -10,17 +11,17 @@ use snapshot::ids::{DefinitionId, ModuleId};
 use snapshot::kind::Size;
 use snapshot::refusal::Refusal;
 
-/// The number by which a question of a window is refused, 0 for none.
-pub fn place_fault(windows: Windows, window: usize) -> usize
-    ensures { result ≡ place_fault (words_of windows) window }
+/// Why a question of a window is refused.
+pub fn place_fault(windows: Windows, window: usize) -> Result<(), Refusal>
+    ensures { fault_number result ≡ place_fault (words_of windows) window }
 {
     if WindowCount::LIMIT <= window {
-        return Refusal::WINDOW;
+        return Err(Refusal::Window);
     }
     if waits(windows, window) {
-        return Refusal::WAITS;
+        return Err(Refusal::Waits);
     }
-    0
+    Ok(())
 }
 
 /// The state in which a question of a window waits.

@@ -6,8 +6,7 @@ ghost use Rattle.window_state.specs.Words.{row_words, words_of};
 use crate::rows::{Row, WindowCount, Windows, empty_row};
 
 /// A number of words.
-#[derive(Clone, Copy)]
-pub struct StateWords(pub usize);
+pub struct StateWords;
 
 impl StateWords {
     /// Words of a row.
@@ -38,11 +37,9 @@ pub fn windows_of(words: [u32; 65]) -> Windows
 {
     let none = empty_row();
     let mut rows = [none; 8];
-    let mut i = 0;
-    while i < WindowCount::LIMIT {
+    for i in 0..WindowCount::LIMIT {
         let row = row_of(words, i);
         rows[i] = row;
-        i += 1;
     }
     let next = words[0];
     Windows { next, rows }
@@ -54,11 +51,7 @@ pub fn with_words(mut words: [u32; 65], window: usize, row: [u32; 8]) -> [u32; 6
     ensures { result ≡ with_row words window row }
 {
     let at = 1 + StateWords::ROW * window;
-    let mut i = 0;
-    while i < StateWords::ROW {
-        words[at + i] = row[i];
-        i += 1;
-    }
+    words[at..at + StateWords::ROW].copy_from_slice(&row);
     words
 }
 
@@ -84,12 +77,10 @@ pub fn words_of(windows: Windows) -> [u32; 65]
 {
     let mut words = [0u32; 65];
     words[0] = windows.next;
-    let mut i = 0;
-    while i < WindowCount::LIMIT {
+    for i in 0..WindowCount::LIMIT {
         let row = windows.rows[i];
         let more = with_words(words, i, row_words(row));
         words = more;
-        i += 1;
     }
     words
 }

@@ -1,5 +1,7 @@
 -- What placing a question and a turn promise.
-use Rattle.std.specs.Prelude.{ℕ, ◌≡◌, true, false, List, eqb, length}
+use Rattle.std.specs.Prelude.{ℕ, ◌≡◌, true, false, List, eqb, length, Result, Ok, Err}
+use Rattle.snapshot.specs.declared.refusal.Refusal.{Refusal}
+use Rattle.window_state.specs.declared.rows.Windows.{Windows}
 use Rattle.find_path.specs.declared.Question.{Question}
 use Rattle.find_path.specs.Report.{refused, report_of}
 use Rattle.answer.specs.Answers.{area_after}
@@ -10,6 +12,11 @@ use Rattle.window_rules.specs.States.{place_fault, after_place, asked_by, served
 pub record Placed (S₀ : List ℕ) (w : ℕ) (q : Question) (S : List ℕ) (r : ℕ) : Type 0 where
   pub number : r ≡ place_fault S₀ w
   pub state : S ≡ after_place S₀ w q
+
+-- the state that an answer leaves: the new one, or that before a refusal
+abbrev pub left : Windows → Result Windows Refusal → Windows
+left w (Ok v) = v
+left w (Err k) = w
 
 -- no window, and a report that is neither a path nor none
 unfoldable pub idle_turn : Turn

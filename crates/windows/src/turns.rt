@@ -1,4 +1,4 @@
-//! What a turn and a question placed give.
+//! What a turn gives.
 ghost use Rattle.std.specs.Prelude.{◌≡◌};
 ghost use Rattle.windows.specs.Windows.{idle_turn};
 
@@ -19,13 +19,6 @@ pub struct Turn {
 pub struct Turning {
     pub windows: Windows,
     pub turn: Turn,
-}
-
-/// The state after a question was placed, and the number by which it is refused, 0 for none.
-#[derive(Clone, Copy)]
-pub struct Placing {
-    pub windows: Windows,
-    pub number: usize,
 }
 
 /// No window, and a report that is neither a path nor none.

@@ -1,24 +1,26 @@
 //! Questions placed and turns, on a state by value.
+ghost use Rattle.snapshot.specs.Refusals.{fault_number};
 ghost use Rattle.questions.specs.Questions.{question_of};
 ghost use Rattle.window_state.specs.Words.{words_of};
-ghost use Rattle.windows.specs.Windows.{Placed, Turned};
+ghost use Rattle.windows.specs.Windows.{Placed, Turned, left};
 
-use crate::turns::{Placing, Turn, Turning, idle_turn};
+use crate::turns::{Turn, Turning, idle_turn};
 use answer::answer::find_path;
 use snapshot::kind::Size;
+use snapshot::refusal::Refusal;
 use window_state::rows::{WindowCount, Windows, next_waiting};
 use window_state::serve::{after_serving, asked_by, place_fault, with_question};
 
-/// The state with a question placed, or as it was, and the number.
-pub fn placed(windows: Windows, window: usize, question: &[u32; Size::QUESTION]) -> Placing
-    ensures { Placed (words_of windows) window (question_of question.now) (words_of result.windows) result.number }
+/// The state with a question placed, or why it is refused.
+pub fn placed(
+    windows: Windows,
+    window: usize,
+    question: &[u32; Size::QUESTION],
+) -> Result<Windows, Refusal>
+    ensures { Placed (words_of windows) window (question_of question.now) (words_of (left windows result)) (fault_number result) }
 {
-    let number = place_fault(windows, window);
-    if number != 0 {
-        return Placing { windows, number };
-    }
-    let windows = with_question(windows, window, question);
-    Placing { windows, number }
+    place_fault(windows, window)?;
+    Ok(with_question(windows, window, question))
 }
 
 /// The state after a turn, and the turn.

@@ -1,4 +1,5 @@
 //! Eight windows and their turns. The caller lends the state, which is changed in place.
+ghost use Rattle.snapshot.specs.Refusals.{fault_number};
 ghost use Rattle.questions.specs.Questions.{question_of};
 ghost use Rattle.window_state.specs.Words.{words_of};
 ghost use Rattle.windows.specs.Windows.{Placed, Turned};
@@ -6,16 +7,20 @@ ghost use Rattle.windows.specs.Windows.{Placed, Turned};
 use crate::turns::Turn;
 use crate::values::{placed, turned};
 use snapshot::kind::Size;
+use snapshot::refusal::Refusal;
 use window_state::rows::Windows;
 
-/// Places a question, seven words, for a window. Answers 0, or the number by which it is refused, with the state unchanged: 49 no such
-/// window, 50 a question of the window waits already.
-pub fn place(windows: &mut Windows, window: usize, question: &[u32; Size::QUESTION]) -> usize
-    ensures { Placed (words_of windows.old) window (question_of question.now) (words_of windows.new) result }
+/// Places a question, seven words, for a window. Or answers why it is refused, with the state unchanged: 49 no such window,
+/// 50 a question of the window waits already.
+pub fn place(
+    windows: &mut Windows,
+    window: usize,
+    question: &[u32; Size::QUESTION],
+) -> Result<(), Refusal>
+    ensures { Placed (words_of windows.old) window (question_of question.now) (words_of windows.new) (fault_number result) }
 {
-    let p = placed(*windows, window, question);
-    *windows = p.windows;
-    p.number
+    *windows = placed(*windows, window, question)?;
+    Ok(())
 }
 
 /// Serves the next window that waits, counting round from the one after that served last, on the words of a snapshot: its question

@@ -1,15 +1,15 @@
 //! The text of a refusal, and of how many records of each kind there are.
 ghost use Rattle.std.specs.Prelude.{◌≡◌, ◌++◌, ◌+◌, ◌≤◌, length};
+ghost use Rattle.snapshot.specs.Refusals.{refusal_number};
 ghost use Rattle.printing.specs.Output.{Put, bytes_of, decimal};
 ghost use Rattle.wording.specs.Text.{choose, meaning, refusal, asked_there, line, first_lines, last_lines, text_limit};
 
 use printing::output::{Digits, put, put_digits};
 use snapshot::layout::Layout;
-use snapshot::refusal::CheckRefusal;
+use snapshot::refusal::Refusal;
 
 /// A number of bytes.
-#[derive(Clone, Copy)]
-pub struct TextBytes(pub usize);
+pub struct TextBytes;
 
 impl TextBytes {
     /// Bytes of a buffer that serves for a text.
@@ -26,34 +26,29 @@ pub fn chosen<'a>(n: u32, m: u32, text: &'a [u8], other: &'a [u8]) -> &'a [u8]
     other
 }
 
-// What a refusal's number means.
-fn put_meaning(out: &mut [u8], at: usize, n: u32) -> usize
-    requires { at + 100 ≤ length out.old }
-    ensures { Put out.old at (meaning n) out.new result }
+// What a refusal of words means; that of an area stands for any other.
+fn meaning(why: Refusal) -> &'static [u8]
+    ensures { result.now ≡ meaning (refusal_number why) }
 {
-    let words = b"more than 16384 words\n";
-    let form = b"an unknown or falling kind, a wrong argument kind, or a missing argument\n";
-    let range = b"a field outside its range, bad padding, or a builtin with another name\n";
-    let undefined = b"a number that is not defined yet\n";
-    let repeated = b"something that may stand once only is repeated\n";
-    let place =
-        b"a record that does not fit the records before it, or a map or crate left incomplete\n";
-    let count = b"more than 64 crates, 512 modules, 2048 names or 2048 definitions\n";
-    let bytes = b"more than 65536 bytes\n";
-    let rest = b"a number of bytes that is not a multiple of 4\n";
-    let edition = b"an edition other than 2015, 2018, 2021 and 2024\n";
-    let area = b"a work area of fewer than 16384 words\n";
-    let t = chosen(n, CheckRefusal::EDITION, edition, area);
-    let t = chosen(n, CheckRefusal::REST, rest, t);
-    let t = chosen(n, CheckRefusal::BYTES, bytes, t);
-    let t = chosen(n, CheckRefusal::COUNT, count, t);
-    let t = chosen(n, CheckRefusal::PLACE, place, t);
-    let t = chosen(n, CheckRefusal::REPEATED, repeated, t);
-    let t = chosen(n, CheckRefusal::UNDEFINED, undefined, t);
-    let t = chosen(n, CheckRefusal::RANGE, range, t);
-    let t = chosen(n, CheckRefusal::FORM, form, t);
-    let t = chosen(n, CheckRefusal::WORDS, words, t);
-    put(out, at, t)
+    match why {
+        Refusal::Words => b"more than 16384 words\n",
+        Refusal::Form => {
+            b"an unknown or falling kind, a wrong argument kind, or a missing argument\n"
+        }
+        Refusal::Range => {
+            b"a field outside its range, bad padding, or a builtin with another name\n"
+        }
+        Refusal::Undefined => b"a number that is not defined yet\n",
+        Refusal::Repeated => b"something that may stand once only is repeated\n",
+        Refusal::Place => {
+            b"a record that does not fit the records before it, or a map or crate left incomplete\n"
+        }
+        Refusal::Count => b"more than 64 crates, 512 modules, 2048 names or 2048 definitions\n",
+        Refusal::Bytes => b"more than 65536 bytes\n",
+        Refusal::Rest => b"a number of bytes that is not a multiple of 4\n",
+        Refusal::Edition => b"an edition other than 2015, 2018, 2021 and 2024\n",
+        _ => b"a work area of fewer than 16384 words\n",
+    }
 }
 
 // A number after its label.
@@ -77,13 +72,13 @@ fn put_line(out: &mut [u8], at: usize, label: &[u8], n: usize) -> usize
 }
 
 /// The number and its place, then the meaning.
-pub fn put_refusal(out: &mut [u8], n: u32, place: usize) -> usize
+pub fn put_refusal(out: &mut [u8], why: Refusal, place: usize) -> usize
     requires { text_limit ≤ length out.old }
-    ensures { Put out.old 0 (refusal n place) out.new result }
+    ensures { Put out.old 0 (refusal (refusal_number why) place) out.new result }
 {
-    let a = put_labelled(out, 0, b"refused ", n as u64);
+    let a = put_labelled(out, 0, b"refused ", why.number() as u64);
     let b = put_line(out, a, b" at ", place);
-    put_meaning(out, b, n)
+    put(out, b, meaning(why))
 }
 
 /// The refusal of a word at which a question begins.

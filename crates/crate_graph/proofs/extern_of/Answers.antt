@@ -1,17 +1,7 @@
 use mathlib.Core.Path.{refl, ◌∙◌}
 use native.Mathlib.Omega.{arith}
-use Rattle.hir_def.specs.Nameres.{is_extern}
 use Rattle.hir_def.proofs.Lookups.{back_hit, back_miss, back_none, extern_whole}
 use Rattle.crate_graph.proofs.extern_of.Goals as goal
-
-pub loop-k-init : goal.loop-k-init
-loop-k-init c = (omega arith, refl)
-
-pub overflow_mul-h : goal.overflow_mul-h
-overflow_mul-h c = record { fits = omega (arith, c.loop-k.invariant.0, c.requires) }
-
-pub overflow_add-h : goal.overflow_add-h
-overflow_add-h c = record { fits = omega (arith, c.loop-k.invariant.0, c.extern_base-base.ensures, c.requires) }
 
 pub returns-then-is_extern : goal.returns-then-is_extern
 returns-then-is_extern c =
@@ -19,9 +9,6 @@ returns-then-is_extern c =
     let w = c.loop-k in
     back_hit _ _ _ _ w.invariant.1 c.loop-k-test.true refl c.is_extern.ensures c.if-is_extern.true
     ∙ extern_whole c.args.words.now A c.args.l c.args.c.0 c.args.m.0 c.extern_base-base.ensures
-
-pub loop-k-smaller : goal.loop-k-smaller
-loop-k-smaller c = omega (arith, c.loop-k-test.true)
 
 pub loop-k-preserved : goal.loop-k-preserved
 loop-k-preserved c =

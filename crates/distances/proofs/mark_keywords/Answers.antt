@@ -2,7 +2,7 @@ use mathlib.Core.Path.{ap, ◌∙◌}
 use Rattle.snapshot.specs.Records.{Snapshot}
 use Rattle.snapshot.specs.Layouts.{snap_of}
 use Rattle.hir_def.specs.Items.{parent_of}
-use Rattle.hir_def.proofs.Climbs.{is_some, is_none}
+use Rattle.hir_def.proofs.Climbs.{some_number, none_number}
 use Rattle.distances.specs.Distances.{is_keyword}
 use Rattle.distances.proofs.Lowering.{lowers_snap, lowers_ready, lowers_then, distances_less}
 use Rattle.distances.proofs.Marking.{keywords_one, keywords_two, parent_known}
@@ -20,7 +20,7 @@ returns-in_default c =
     let f = c.mark_keyword.ensures in
     let q = c.parent.ensures ∙ ap (λ (z : Snapshot). parent_of z c.args.x.from.0)
     (lowers_snap W l f.0 c.requires.0.reads) in
-    (f.0, keywords_one (snap_of W A l) c.args.x _ f.1 (is_none _ q c.in_default.is))
+    (f.0, keywords_one (snap_of W A l) c.args.x _ f.1 (none_number _ q c.in_default.is))
 
 pub mark_keyword-requires-2 : goal.mark_keyword-requires-2
 mark_keyword-requires-2 c =
@@ -33,7 +33,7 @@ mark_keyword-requires-2 c =
       lowers_ready W l f.0 c.requires.0 c.mark_keyword.auto.area,
       c.requires.1,
       parent_known W A l c.requires.0.reads
-          c.args.x.from.0 c.requires.1 (is_some _ q c.in-Module.is),
+          c.args.x.from.0 c.requires.1 (some_number _ q c.in-Some.is),
     )
 
 pub returns : goal.returns
@@ -46,6 +46,6 @@ returns c =
     let sn = lowers_snap W l f.0 c.requires.0.reads in
     let q = c.parent.ensures ∙ ap (λ (z : Snapshot). parent_of z c.args.x.from.0) sn in (
       lowers_then f.0 g.0,
-      keywords_two (snap_of W A l) c.args.x _ _ (is_some _ q c.in-Module.is) (distances_less g.0)
-          f.1 (λ e. g.1 (ap (λ (z : Snapshot). is_keyword z c.args.x c.in-Module.p.0) sn ∙ e)),
+      keywords_two (snap_of W A l) c.args.x _ _ (some_number _ q c.in-Some.is) (distances_less g.0)
+          f.1 (λ e. g.1 (ap (λ (z : Snapshot). is_keyword z c.args.x c.in-Some.p.0) sn ∙ e)),
     )

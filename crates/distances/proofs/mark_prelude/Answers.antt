@@ -19,7 +19,7 @@ returns c =
     let W = c.args.words.now in
     let A = c.args.area.now in (
       c.mark_scope.ensures.0,
-      one_prelude W A c.args.l c.args.from.0 (prelude_at W c.in-At.h) c.mark_scope.new.area
+      one_prelude W A c.args.l c.args.from.0 (prelude_at W c.in-Some.h) c.mark_scope.new.area
           c.map.ensures (c.prelude_of-p.ensures A)
-          (ap (entry_of prelude_at W) c.in-At.is) c.prelude_target.ensures c.mark_scope.ensures.1,
+          (ap (entry_of prelude_at W) c.in-Some.is) c.prelude_target.ensures c.mark_scope.ensures.1,
     )

@@ -1,4 +1,3 @@
-use borrow.Author.Tests.{not-true}
 use Rattle.distances.proofs.Marking.{ready_roots, ready_keywords, ready_prelude, marked_none, marked_scopes}
 use Rattle.distances.proofs.mark_rules.Goals as goal
 

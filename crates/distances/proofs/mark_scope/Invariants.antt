@@ -4,6 +4,3 @@ use Rattle.distances.proofs.mark_scope.Given as goal
 
 abbrev pub invariant-loop-k : goal.invariant-loop-k
 invariant-loop-k l = Marking l.words l.initial.area l.l l.c.0 l.area l.k
-
-abbrev pub decreases-loop-k : goal.decreases-loop-k
-decreases-loop-k l = l.count - l.k

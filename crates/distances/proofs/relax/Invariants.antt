@@ -4,6 +4,3 @@ use Rattle.distances.proofs.relax.Given as goal
 
 abbrev pub invariant-loop-k : goal.invariant-loop-k
 invariant-loop-k l = Relaxing l.words l.initial.area l.l l.x l.area l.changed l.k
-
-abbrev pub decreases-loop-k : goal.decreases-loop-k
-decreases-loop-k l = l.count - l.k

@@ -1,5 +1,4 @@
 use native.Mathlib.Omega.{arith}
-use borrow.Author.Tests.{not-true}
 use Rattle.distances.proofs.Marking.{entry_below}
 use Rattle.distances.proofs.Relaxing.{step_far, step_plain, step_low, step_hidden, step_set}
 use Rattle.distances.proofs.relax_entry.Goals as goal

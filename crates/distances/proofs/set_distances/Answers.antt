@@ -1,4 +1,3 @@
-use borrow.Author.Tests.{not-true, not-false}
 use Rattle.distances.proofs.Relaxing.{weight_falls, settling_ready, settling_start, settling_end, settling_reads}
 use Rattle.distances.proofs.Relaxing.{settling_next, settling_done}
 use Rattle.distances.proofs.set_distances.Goals as goal

@@ -17,13 +17,6 @@ crate_root-root-requires c = (
   c.loop-m-test.true,
 )
 
-pub overflow_cast-area : goal.overflow_cast-area
-overflow_cast-area c = omega (arith, c.first_number-d.ensures.0)
-
-pub bounds-area-m : goal.bounds-area-m
-bounds-area-m c =
-    omega (arith, c.loop-m.invariant.1, c.requires.area, c.requires.reads.tables.limited.modules, c.loop-m-test.true)
-
 pub loop-m-preserved : goal.loop-m-preserved
 loop-m-preserved c =
     let h = c.loop-m-test.true in

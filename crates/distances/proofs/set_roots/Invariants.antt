@@ -6,6 +6,3 @@ use Rattle.distances.proofs.set_roots.Given as goal
 
 abbrev pub invariant-loop-m : goal.invariant-loop-m
 invariant-loop-m l = Rooted l.words l.initial.area l.l l.m l.area × (length l.area ≡ length l.initial.area) × (l.m ≤ l.count)
-
-abbrev pub decreases-loop-m : goal.decreases-loop-m
-decreases-loop-m l = l.count - l.m

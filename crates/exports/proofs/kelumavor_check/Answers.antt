@@ -4,13 +4,13 @@ use lib.ListN.{length}
 use Rattle.exports.proofs.Checking.{answered_refused, answered_accepted}
 use Rattle.exports.proofs.kelumavor_check.Goals as goal
 
-pub returns-in-Refused : goal.returns-in-Refused
-returns-in-Refused c =
-    let n : length c.check-c.new.area ≡ length c.args.area.now = search rules in
-    answered_refused c.args.words.now c.args.area.now c.check-c.new.area c.check-c.result c.check-c.ensures
+pub returns-in-Err : goal.returns-in-Err
+returns-in-Err c =
+    let n : length c.check.new.area ≡ length c.args.area.now = search rules in
+    answered_refused c.args.words.now c.args.area.now c.check.new.area c.check.result c.check.ensures
     c.clear_front.new.area n
-    c.clear_front.ensures _ _ c.in-Refused.is
+    c.clear_front.ensures _ _ c.number-number.ensures.same c.in-Err.is
 
-pub returns-in-Accepted : goal.returns-in-Accepted
-returns-in-Accepted c =
-    answered_accepted c.args.words.now c.args.area.now c.check-c.new.area c.check-c.result c.check-c.ensures _ c.in-Accepted.is
+pub returns-in-Ok : goal.returns-in-Ok
+returns-in-Ok c =
+    answered_accepted c.args.words.now c.args.area.now c.check.new.area c.check.result c.check.ensures _ c.in-Ok.is

@@ -1,60 +1,35 @@
-use Prim.Native.Nat.{◌+◌, ◌*◌}
-use mathlib.Core.Path.{ap, ◌∙◌}
+use Prim.Native.Nat.{ℕ}
+use mathlib.Core.List.{List}
+use mathlib.Core.Bool.{◌&&◌}
 use native.Mathlib.Omega.{arith}
-use Rattle.snapshot.specs.Sizes.{scope_size}
+use Rattle.std.proofs.Common.{rules}
+use Rattle.snapshot.specs.Layouts.{snap_of}
 use Rattle.snapshot.specs.Records.{scope_at}
-use Rattle.snapshot.proofs.Laws.{rows_whole}
-use Rattle.hir_def.specs.Finds.{first_of, reads_of}
-use Rattle.hir_def.specs.ItemScope.{names_of, names_reads}
-use Rattle.hir_def.proofs.Lookups.{first_hit, first_miss, first_none, reads_hit, reads_miss, reads_none}
+use Rattle.hir_def.specs.ItemScope.{counts, is_for, names_of, names_reads}
+use Rattle.hir_def.proofs.Searches.{met_by, found_by, none_by}
 use Rattle.item_scope.proofs.names_of.Goals as goal
 
-pub loop-read-init : goal.loop-read-init
+pub overflow_add-result : goal.overflow_add-result
+overflow_add-result c = let m = met_by _ _ _ _ _ c.next_where.ensures c.in-Some.is in record { fits = omega (arith, m.below, c.requires) }
+
+pub returns-in-Some : goal.returns-in-Some
 unfolding names_of names_reads
-loop-read-init c = (λ A. rows_whole (first_of _) _ _, λ A. rows_whole (reads_of _) _ _ ∙ omega arith, omega arith)
+returns-in-Some c =
+    let b = c.scope_base.ensures in
+    let m = met_by _ _ _ _ _ c.next_where.ensures c.in-Some.is in
+    let x =
+    λ (A : List ℕ).
+    found_by (λ e. is_for (snap_of c.args.words.now A c.args.l) c.args.m.0 c.args.item e && counts c.args.declared e)
+    scope_at c.args.words.now _ _ b (λ h t p. search rules) c.next_where.ensures c.in-Some.is
+    in
+    (λ A. (x A).0, λ A. (x A).1, omega (arith, b, m.head))
 
-pub overflow_mul-h : goal.overflow_mul-h
-overflow_mul-h c = record { fits = omega (arith, c.loop-read-test.true, c.requires) }
-
-pub overflow_add-h : goal.overflow_add-h
-overflow_add-h c = record {
-  fits = omega (
-    arith,
-    c.loop-read-test.true,
-    c.scope_base-base.ensures,
-    c.requires,
-  );
-}
-
-pub overflow_add-read : goal.overflow_add-read
-overflow_add-read c = record { fits = omega (arith, c.loop-read-test.true, c.requires) }
-
-pub returns-then-is_entry : goal.returns-then-is_entry
-returns-then-is_entry c =
-    let w = c.loop-read in
-    let b = c.scope_base-base.ensures in
-    let u = ap (λ x. scope_at c.args.words.now (x + scope_size * w.read)) b in (
-      λ A. first_hit _ _ _ _ _ (w.invariant.0 A) c.loop-read-test.true u (c.is_entry.ensures A) c.if-is_entry.true,
-      λ A. reads_hit _ _ _ _ _ (w.invariant.1 A) c.loop-read-test.true u (c.is_entry.ensures A) c.if-is_entry.true,
-      omega (arith, b, c.loop-read-test.true),
-    )
-
-pub loop-read-smaller : goal.loop-read-smaller
-loop-read-smaller c = omega (arith, c.loop-read-test.true)
-
-pub loop-read-preserved : goal.loop-read-preserved
-loop-read-preserved c =
-    let w = c.loop-read in
-    let u = ap (λ x. scope_at c.args.words.now (x + scope_size * w.read)) c.scope_base-base.ensures in (
-      λ A. first_miss _ _ _ _ _ (w.invariant.0 A) c.loop-read-test.true u (c.is_entry.ensures A) c.if-is_entry.false,
-      λ A. reads_miss _ _ _ _ _ (w.invariant.1 A) c.loop-read-test.true u (c.is_entry.ensures A) c.if-is_entry.false,
-      omega (arith, c.loop-read-test.true),
-    )
-
-pub returns : goal.returns
-returns c =
-    let w = c.loop-read in (
-      λ A. first_none _ _ _ _ _ (w.invariant.0 A) c.loop-read-test.false,
-      λ A. reads_none _ _ _ _ _ (w.invariant.1 A) c.loop-read-test.false,
-      omega (arith, c.loop-read-test.false, w.invariant.2),
-    )
+pub returns-in-None : goal.returns-in-None
+unfolding names_of names_reads
+returns-in-None c =
+    let x =
+    λ (A : List ℕ).
+    none_by (λ e. is_for (snap_of c.args.words.now A c.args.l) c.args.m.0 c.args.item e && counts c.args.declared e)
+    scope_at c.args.words.now _ _ c.scope_base.ensures (λ h t p. search rules) c.next_where.ensures c.in-None.is
+    in
+    (λ A. (x A).0, λ A. (x A).1, search rules)

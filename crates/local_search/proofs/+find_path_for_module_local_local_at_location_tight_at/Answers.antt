@@ -1,23 +1,18 @@
-use mathlib.Core.Path.{refl, sym, ◌∙◌, ap}
+use mathlib.Core.Path.{refl, ◌∙◌, ap}
 use native.Mathlib.Omega.{arith}
-use borrow.Author.Rules.{rules}
 use lib.ListN.{length-set}
 use Rattle.snapshot.specs.Layouts.{snap_of}
 use Rattle.snapshot.specs.Records.{scope_at}
 use Rattle.local_levels.specs.Levels.{levels_of}
 use Rattle.local_levels.proofs.Stacks.{chain_wider}
-use Rattle.local_search.proofs.Nests.{Nesting, room, head_reads, head_chains, head_walked, head_space, head_chain, start_few, nesting_start}
+use Rattle.local_search.proofs.Nests.{room, head_reads, head_chains, head_walked, head_space, head_chain, start_few, nesting_start}
 use Rattle.local_search.proofs.Nests.{loop_size, nesting_call, nesting_known, nesting_next, nesting_done}
 use Rattle.local_search.proofs.Searches.{module_small, search_none, search_rules, search_on, unruled, location_far, location_none}
 use Rattle.local_search.proofs.Searches.{location_shorter, location_call, location_reads, location_few, location_text, location_steps}
 use Rattle.local_search.proofs.Searches.{location_some, entry_at, tight_none, made_asked, made_done, row_two, row_entered, owner_known}
 use Rattle.local_search.proofs.Searches.{owner_call, owner_reads, owner_found, owner_few, owner_steps, owner_text, owner_done}
-use Prim.Native.Nat.{ℕ, ◌<◌, ◌+◌, ◌-◌, ◌*◌}
+use Prim.Native.Nat.{◌-◌}
 use Rattle.local_search.proofs.+find_path_for_module_local_local_at_location_tight_at.Goals as goal
-
-pub find_path_for_module_local-nothing-requires : goal.find_path_for_module_local-nothing-requires
-find_path_for_module_local-nothing-requires t c =
-    tt
 
 pub find_path_for_module_local-returns-then-left-eq0 : goal.find_path_for_module_local-returns-then-left-eq0
 find_path_for_module_local-returns-then-left-eq0 t c =
@@ -28,10 +23,6 @@ find_path_for_module_local-returns-then-left-eq0 t c =
       below = refl;
       rows = c.requires.0.rows;
     }
-
-pub find_path_for_module_local-rules_at-c-requires : goal.find_path_for_module_local-rules_at-c-requires
-find_path_for_module_local-rules_at-c-requires t c =
-    (c.requires.0.reads, c.requires.0.from, c.requires.1, c.requires.0.bounds)
 
 pub find_path_for_module_local-returns-then-c : goal.find_path_for_module_local-returns-then-c
 find_path_for_module_local-returns-then-c t c =
@@ -64,10 +55,6 @@ find_path_for_module_local-tight_at-requires t c =
       ),
     )
 
-pub find_path_for_module_local-returns-then-is_tight : goal.find_path_for_module_local-returns-then-is_tight
-find_path_for_module_local-returns-then-is_tight t c =
-    c.tight_at.ensures
-
 pub find_path_for_module_local-local_at-requires : goal.find_path_for_module_local-local_at-requires
 find_path_for_module_local-local_at-requires t c =
     let h = c.if-left-eq0.false in (
@@ -90,38 +77,6 @@ find_path_for_module_local-returns t c =
       rows =
           c.local_at.ensures.rows;
     }
-
-pub local_at-overflow_add-base : goal.local_at-overflow_add-base
-local_at-overflow_add-base t c =
-    omega (arith, c.requires.1.space, c.requires.0)
-
-pub local_at-code_of-code-requires : goal.local_at-code_of-code-requires
-local_at-code_of-code-requires t c =
-    c.requires.2
-
-pub local_at-overflow_cast-area : goal.local_at-overflow_cast-area
-local_at-overflow_cast-area t c =
-    omega (arith, c.code_of-code.ensures.1)
-
-pub local_at-offset_bounds-area-top : goal.local_at-offset_bounds-area-top
-local_at-offset_bounds-area-top t c =
-    omega (arith, c.requires.1.space, c.requires.0)
-
-pub local_at-bounds-area-top : goal.local_at-bounds-area-top
-local_at-bounds-area-top t c =
-    omega (arith, c.requires.1.space, c.requires.0, c.requires.1.area)
-
-pub local_at-overflow_cast-area-2 : goal.local_at-overflow_cast-area-2
-local_at-overflow_cast-area-2 t c =
-    omega (arith, c.requires.1.space, c.requires.0, c.requires.1.under)
-
-pub local_at-overflow_add-area : goal.local_at-overflow_add-area
-local_at-overflow_add-area t c =
-    omega (arith, c.requires.1.space, c.requires.0)
-
-pub local_at-offset_bounds-area-top-2 : goal.local_at-offset_bounds-area-top-2
-local_at-offset_bounds-area-top-2 t c =
-    omega (arith, c.requires.1.space, c.requires.0)
 
 pub local_at-bounds-area-top-2 : goal.local_at-bounds-area-top-2
 local_at-bounds-area-top-2 t c =
@@ -163,31 +118,11 @@ local_at-overflow_add-up t c =
           c.code_of-code.ensures.0 _ _ c.locations-n.ensures c.locations-n.auto.area,
     )
 
-pub local_at-overflow_add-up-2 : goal.local_at-overflow_add-up-2
-local_at-overflow_add-up-2 t c =
-    omega (arith, c.requires.1.deep)
-
-pub local_at-nothing-best-requires : goal.local_at-nothing-best-requires
-local_at-nothing-best-requires t c =
-    tt
-
 pub local_at-loop-k-init : goal.local_at-loop-k-init
 local_at-loop-k-init t c =
     nesting_start c.args.words.now c.args.area.now c.args.l c.args.x c.args.left c.args.item c.args.s
     c.requires.0 c.requires.1 c.requires.2 c.code_of-code.result c.code_of-code.ensures.0 _ _ c.locations-n.ensures
     c.locations-n.auto.area c.nothing-best.ensures
-
-pub local_at-overflow_add-cursor : goal.local_at-overflow_add-cursor
-local_at-overflow_add-cursor t c =
-    omega (arith, c.requires.1.space, c.requires.0)
-
-pub local_at-overflow_cast-area-in-loop-k : goal.local_at-overflow_cast-area-in-loop-k
-local_at-overflow_cast-area-in-loop-k t c =
-    omega (arith, c.loop-k-test.true, c.loop-k.invariant.few)
-
-pub local_at-offset_bounds-area-cursor : goal.local_at-offset_bounds-area-cursor
-local_at-offset_bounds-area-cursor t c =
-    omega (arith, c.requires.1.space, c.requires.0)
 
 pub local_at-bounds-area-cursor : goal.local_at-bounds-area-cursor
 local_at-bounds-area-cursor t c =
@@ -200,14 +135,6 @@ local_at-bounds-area-cursor t c =
           c.requires.0 c.requires.1 c.requires.2 c.code_of-code.result c.code_of-code.ensures.0 _ _ c.locations-n.ensures
           c.locations-n.auto.area c.loop-k.area c.loop-k.best c.loop-k.k c.loop-k.invariant,
     )
-
-pub local_at-overflow_add-base-in-loop-k : goal.local_at-overflow_add-base-in-loop-k
-local_at-overflow_add-base-in-loop-k t c =
-    omega (arith, c.requires.1.space, c.requires.0, c.loop-k-test.true, c.loop-k.invariant.few)
-
-pub local_at-word-m-requires : goal.local_at-word-m-requires
-local_at-word-m-requires t c =
-    tt
 
 pub local_at-location-best-requires : goal.local_at-location-best-requires
 local_at-location-best-requires t c = (
@@ -226,14 +153,6 @@ local_at-location-best-requires t c = (
   ),
 )
 
-pub local_at-overflow_add-k : goal.local_at-overflow_add-k
-local_at-overflow_add-k t c =
-    omega (arith, c.loop-k-test.true, c.loop-k.invariant.few)
-
-pub local_at-loop-k-smaller : goal.local_at-loop-k-smaller
-local_at-loop-k-smaller t c =
-    omega (arith, c.loop-k-test.true)
-
 pub local_at-loop-k-preserved : goal.local_at-loop-k-preserved
 local_at-loop-k-preserved t c =
     nesting_next c.args.words.now c.args.area.now c.args.l c.args.x c.args.left c.args.item c.args.s
@@ -247,18 +166,6 @@ local_at-returns t c =
     c.requires.0 c.requires.1 c.requires.2 c.code_of-code.result c.code_of-code.ensures.0 _ _ c.locations-n.ensures
     c.locations-n.auto.area c.loop-k.area c.loop-k.best c.loop-k.k c.loop-k.invariant c.loop-k-test.false
 
-pub location-length_left-j-requires : goal.location-length_left-j-requires
-location-length_left-j-requires t c =
-    c.requires.3
-
-pub location-overflow_add-m : goal.location-overflow_add-m
-location-overflow_add-m t c =
-    record { fits = omega (arith, c.requires.2, c.requires.1.reads.tables.limited.modules) }
-
-pub location-word-requires : goal.location-word-requires
-location-word-requires t c =
-    tt
-
 pub location-returns-then-j-word : goal.location-returns-then-j-word
 location-returns-then-j-word t c =
     record {
@@ -268,10 +175,6 @@ location-returns-then-j-word t c =
       below = refl;
       rows = c.requires.1.rows;
     }
-
-pub location-importable_name-a-requires : goal.location-importable_name-a-requires
-location-importable_name-a-requires t c =
-    (c.requires.1.reads, c.requires.1.from, c.requires.2, c.requires.1.indexed)
 
 pub location-returns-in_default : goal.location-returns-in_default
 location-returns-in_default t c =
@@ -302,7 +205,7 @@ pub location-offer_entry-requires : goal.location-offer_entry-requires
 location-offer_entry-requires t c = (
   location_reads c.args.words.now c.args.area.now c.args.l c.args.x c.args.left c.args.s c.requires.0
       c.requires.1 c.args.best c.args.item c.args.m.0 c.length_left-j.ensures _ c.find_path_for_module_local-c.ensures,
-  entry_at c.args.words.now c.args.l c.importable_name-a.ensures.1 c.in-At.is,
+  entry_at c.args.words.now c.args.l c.importable_name-a.ensures.1 c.in-Some.is,
   c.requires.3,
   location_few
       c.args.words.now c.args.area.now c.args.l c.args.x c.args.left c.args.s c.requires.0
@@ -319,15 +222,7 @@ pub location-returns : goal.location-returns
 location-returns t c =
     location_some c.args.words.now c.args.area.now c.args.l c.args.x c.args.left c.args.s c.requires.0
     c.requires.1 c.args.best c.args.item c.args.m.0 c.length_left-j.ensures _ c.find_path_for_module_local-c.ensures
-    c.importable_name-a.ensures.0 c.in-At.is c.offer_entry.ensures
-
-pub tight_at-overflow_add-m : goal.tight_at-overflow_add-m
-tight_at-overflow_add-m t c =
-    record { fits = omega (arith, c.requires.2, c.requires.1.reads.tables.limited.modules) }
-
-pub tight_at-word-row-requires : goal.tight_at-word-row-requires
-tight_at-word-row-requires t c =
-    tt
+    c.importable_name-a.ensures.0 c.in-Some.is c.offer_entry.ensures
 
 pub tight_at-local_at-r-requires : goal.tight_at-local_at-r-requires
 tight_at-local_at-r-requires t c = (
@@ -345,31 +240,11 @@ tight_at-row_of-made-requires t c =
     made_asked c.args.words.now c.args.area.now c.args.l c.args.x c.args.left c.args.s c.requires.1
     c.args.m.0 c.requires.2 c.requires.3 c.requires.0 c.requires.4 _ c.local_at-r.auto.area c.local_at-r.ensures
 
-pub tight_at-overflow_cast-area : goal.tight_at-overflow_cast-area
-tight_at-overflow_cast-area t c =
-    omega (arith, c.row_of-made.ensures.1)
-
-pub tight_at-overflow_add-area : goal.tight_at-overflow_add-area
-tight_at-overflow_add-area t c =
-    omega (arith, c.requires.2, c.requires.1.reads.tables.limited.modules)
-
-pub tight_at-offset_bounds-area-m : goal.tight_at-offset_bounds-area-m
-tight_at-offset_bounds-area-m t c =
-    omega (arith, c.requires.2, c.requires.1.reads.tables.limited.modules)
-
-pub tight_at-bounds-area-m : goal.tight_at-bounds-area-m
-tight_at-bounds-area-m t c =
-    omega (arith, c.requires.2, c.requires.1.reads.tables.limited.modules, c.requires.1.area, c.local_at-r.auto.area)
-
 pub tight_at-returns-then-row-eq0 : goal.tight_at-returns-then-row-eq0
 tight_at-returns-then-row-eq0 t c =
     made_done c.args.words.now c.args.area.now c.args.l c.args.x c.args.left c.args.s c.requires.1
     c.args.m.0 c.requires.2 c.requires.3 c.requires.0 c.requires.4 _ c.local_at-r.auto.area c.local_at-r.ensures
     c.row_of-made.ensures.0
-
-pub tight_at-nothing-requires : goal.tight_at-nothing-requires
-tight_at-nothing-requires t c =
-    tt
 
 pub tight_at-returns-then-row-eq1 : goal.tight_at-returns-then-row-eq1
 tight_at-returns-then-row-eq1 t c =
@@ -380,14 +255,6 @@ pub tight_at-row_place-requires : goal.tight_at-row_place-requires
 tight_at-row_place-requires t c =
     row_two c.args.words.now c.args.area.now c.args.l c.args.x c.args.left c.args.s c.requires.1
     c.args.m.0 c.requires.2 c.requires.3 c.word-row.ensures c.if-row-eq0.false c.if-row-eq1.false
-
-pub tight_at-scope_owner-owner-requires : goal.tight_at-scope_owner-owner-requires
-tight_at-scope_owner-owner-requires t c =
-    tt
-
-pub tight_at-overflow_sub-left : goal.tight_at-overflow_sub-left
-tight_at-overflow_sub-left t c =
-    omega (arith, c.requires.0)
 
 pub tight_at-find_path_for_module_local-c-requires : goal.tight_at-find_path_for_module_local-c-requires
 tight_at-find_path_for_module_local-c-requires t c =

@@ -25,13 +25,6 @@ take_walk-requires c =
       c.index_scopes.ensures.indexed,
     )
 
-pub clear_rows-requires : goal.clear_rows-requires
-clear_rows-requires c = (
-  c.take_walk.auto.area ∙ c.index_scopes.auto.area ∙ c.set_distances.auto.area
-      ∙ c.requires.0.area,
-  c.requires.0.reads.tables.limited.modules,
-)
-
 pub local_at-requires : goal.local_at-requires
 local_at-requires c =
     let W = c.args.words.now in

@@ -1,12 +1,7 @@
-use native.Mathlib.Omega.{arith}
 use Rattle.snapshot.specs.Layouts.{snap_of}
 use Rattle.distances.specs.Distances.{distance}
 use Rattle.local_search.proofs.Searches.{ruling_far, ruling_near}
 use Rattle.local_search.proofs.rules_at.Goals as goal
-
-pub overflow_add-m : goal.overflow_add-m
-overflow_add-m c =
-    omega (arith, c.requires.2, c.requires.0.tables.limited.modules)
 
 pub returns-then-word-gt1 : goal.returns-then-word-gt1
 returns-then-word-gt1 c =
@@ -15,15 +10,8 @@ returns-then-word-gt1 c =
     c.requires.3 c.requires.2 c.word.ensures
     c.if-word-gt1.true c.nothing.ensures
 
-pub module_rules-requires : goal.module_rules-requires
-module_rules-requires c =
-    (c.requires.0, c.requires.1, c.requires.2)
-
 pub returns : goal.returns
 returns c =
     let A = c.args.area.now in
     ruling_near (snap_of c.args.words.now A c.args.l) c.args.x c.args.l.modules (distance A) c.args.m.0
     c.module_rules.ensures
-
-pub word-requires : goal.word-requires
-word-requires c = tt

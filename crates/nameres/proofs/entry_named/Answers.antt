@@ -1,78 +1,16 @@
-use mathlib.Core.Path.{refl, sym, ap, ◌∙◌}
-use native.Mathlib.Omega.{arith}
-use Rattle.snapshot.specs.Records.{scope_at}
+use Rattle.std.proofs.Common.{rules}
 use Rattle.snapshot.specs.Layouts.{snap_of}
-use Rattle.accept.proofs.Trees.{accepted_tree}
-use Rattle.hir_def.specs.Entries.{entry_of}
-use Rattle.hir_def.proofs.Reading.{length_modules}
-use Rattle.hir_def.proofs.Chains.{block_falls}
-use Rattle.hir_def.proofs.Climbs.{is_some, is_none}
-use Rattle.hir_def.proofs.Ancestors.{answer_here, answer_none, answer_on}
 use Rattle.hir_def.specs.ItemScope.{get}
-use Rattle.hir_def.specs.Nameres.{entry_named}
+use Rattle.hir_def.specs.Nameres.{ancestor_maps, entry_named}
+use Rattle.hir_def.proofs.Searches.{step_less, outwards, block_down}
 use Rattle.nameres.proofs.entry_named.Goals as goal
 
-pub loop-h-init : goal.loop-h-init
-loop-h-init c = (refl, c.requires.1)
+pub nearest-requires-clause-falls : goal.nearest-requires-clause-falls
+nearest-requires-clause-falls c = λ m b i p. step_less (block_down c.requires.0) c.requires.1 i (search rules)
 
-pub get-e-requires : goal.get-e-requires
-get-e-requires c =
-    let a = c.requires.0.tables.whole in
-    let b = c.requires.0.tables.short in
-    omega arith
-
-pub returns-in-At : goal.returns-in-At
-unfolding entry_named
-returns-in-At c =
-    let g = c.loop-h in
-    answer_here (snap_of c.args.words.now c.args.area.now c.args.l)
-    (block_falls (snap_of c.args.words.now c.args.area.now c.args.l)
-    (accepted_tree c.args.words.now (snap_of c.args.words.now c.args.area.now c.args.l) c.requires.0.same))
-    g.m.0 (rw (length_modules c.args.words.now c.args.area.now c.args.l) g.invariant.1)
-    (λ a. get (snap_of c.args.words.now c.args.area.now c.args.l) a c.args.ns c.args.name.0)
-    (sym (c.get-e.ensures c.args.area.now) ∙ ap (entry_of scope_at c.args.words.now) c.in-At.is)
-    ∙ sym g.invariant.0
-
-pub block-requires : goal.block-requires
-block-requires c = (c.requires.0, c.loop-h.invariant.1)
-
-pub returns-in_default-block : goal.returns-in_default-block
-unfolding entry_named
-returns-in_default-block c =
-    let g = c.loop-h in
-    answer_none (snap_of c.args.words.now c.args.area.now c.args.l)
-    (block_falls (snap_of c.args.words.now c.args.area.now c.args.l)
-    (accepted_tree c.args.words.now (snap_of c.args.words.now c.args.area.now c.args.l) c.requires.0.same))
-    g.m.0 (rw (length_modules c.args.words.now c.args.area.now c.args.l) g.invariant.1)
-    (λ a. get (snap_of c.args.words.now c.args.area.now c.args.l) a c.args.ns c.args.name.0)
-    (sym (c.get-e.ensures c.args.area.now)
-    ∙ ap (entry_of scope_at c.args.words.now) c.in_default.is)
-    (is_none _ c.block.ensures c.in_default-block.is) ∙ sym g.invariant.0
-
-pub loop-h-smaller : goal.loop-h-smaller
-loop-h-smaller c =
-    let g = c.loop-h in
-    (block_falls (snap_of c.args.words.now c.args.area.now c.args.l)
-    (accepted_tree c.args.words.now (snap_of c.args.words.now c.args.area.now c.args.l) c.requires.0.same))
-    g.m.0 _ (rw (length_modules c.args.words.now c.args.area.now c.args.l) g.invariant.1)
-    (is_some _ c.block.ensures c.in-Module.is)
-
-pub loop-h-preserved : goal.loop-h-preserved
-unfolding entry_named
-loop-h-preserved c =
-    let g = c.loop-h in
-    let d = (block_falls (snap_of c.args.words.now c.args.area.now c.args.l)
-    (accepted_tree c.args.words.now (snap_of c.args.words.now c.args.area.now c.args.l) c.requires.0.same))
-    g.m.0 _ (rw (length_modules c.args.words.now c.args.area.now c.args.l) g.invariant.1)
-    (is_some _ c.block.ensures c.in-Module.is) in
-    let k = g.invariant.1 in (
-      g.invariant.0 ∙ answer_on (snap_of c.args.words.now c.args.area.now c.args.l)
-          (block_falls (snap_of c.args.words.now c.args.area.now c.args.l)
-          (accepted_tree c.args.words.now (snap_of c.args.words.now c.args.area.now c.args.l) c.requires.0.same))
-          g.m.0 (rw (length_modules c.args.words.now c.args.area.now c.args.l) g.invariant.1)
-          (λ a. get (snap_of c.args.words.now c.args.area.now c.args.l) a c.args.ns c.args.name.0)
-          (sym (c.get-e.ensures c.args.area.now)
-          ∙ ap (entry_of scope_at c.args.words.now) c.in_default.is) _
-          (is_some _ c.block.ensures c.in-Module.is),
-      omega (arith, d, k),
-    )
+pub returns : goal.returns
+unfolding entry_named ancestor_maps
+returns c =
+    let S = snap_of c.args.words.now c.args.area.now c.args.l in
+    c.nearest.ensures _ (λ m. get S m c.args.ns c.args.name.0) _
+    (outwards (block_down c.requires.0) c.requires.1 (λ m e i p. search rules) (λ m o i p. search rules))

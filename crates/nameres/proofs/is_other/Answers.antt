@@ -24,4 +24,4 @@ returns c =
     c.scope_ns.ensures c.scope_definition.ensures in
     ap not (c.same_item.ensures ∙ ap (λ x. same_item x (module_item c.args.m.0)) i)
     ∙ sym (ap (λ e. is_other (snap_of c.args.words.now A c.args.l) c.args.m.0 (entry_of scope_at c.args.words.now e))
-    c.in-At.is))
+    c.in-Some.is))

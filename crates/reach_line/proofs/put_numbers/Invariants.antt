@@ -5,10 +5,7 @@ use Rattle.printing.specs.Output.{Put}
 use Rattle.reach_line.proofs.Laws.{rest_to}
 use Rattle.reach_line.proofs.put_numbers.Given as goal
 
-abbrev pub invariant-loop-i : goal.invariant-loop-i
-invariant-loop-i l =
-    (1 ≤ l.i) × (l.i ≤ length l.numbers) × (length l.out ≡ length l.initial.out) × Put l.initial.out l.initial.to (rest_to l.numbers l.i) l.out l.to
-    × (l.to + 21 ≤ l.initial.to + 21 * l.i)
-
-abbrev pub decreases-loop-i : goal.decreases-loop-i
-decreases-loop-i l = length l.numbers - l.i
+abbrev pub invariant-loop-n : goal.invariant-loop-n
+invariant-loop-n l =
+    (l.n-index ≤ length l.n-items) × (length l.out ≡ length l.initial.out) × Put l.initial.out l.initial.to (rest_to l.numbers (l.n-index + 1)) l.out l.to
+    × (l.to ≤ l.initial.to + 21 * l.n-index)

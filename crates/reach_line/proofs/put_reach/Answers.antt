@@ -11,9 +11,6 @@ pub returns-then-r-ne0 : goal.returns-then-r-ne0
 returns-then-r-ne0 c =
     put_as (refusal_text c.args.r c.if-r-ne0.true) (c.put_refusal.ensures empty 0)
 
-pub slice_bounds-put_numbers-end : goal.slice_bounds-put_numbers-end
-slice_bounds-put_numbers-end c = search rules
-
 pub put_numbers-a-requires : goal.put_numbers-a-requires
 put_numbers-a-requires c =
     let h : 21 ≡ length c.args.r.counts = search rules in

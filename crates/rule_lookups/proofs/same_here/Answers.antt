@@ -24,4 +24,4 @@ returns c =
     c.scope_definition.ensures in
     c.same_item.ensures ∙ ap (λ y. same_item y c.args.item) i
     ∙ sym (ap (λ e. same_here n x c.args.item (entry_of scope_at c.args.words.now e))
-    c.in-At.is))
+    c.in-Some.is))

@@ -2,20 +2,9 @@ use native.Mathlib.Omega.{arith}
 use Rattle.scope_index.proofs.Chaining.{from_link, from_head, from_none}
 use Rattle.scope_index.proofs.first_from.Goals as goal
 
-pub overflow_sub-k : goal.overflow_sub-k
-overflow_sub-k c = omega (arith, c.if-k-gt0.true)
-
-pub overflow_add-k : goal.overflow_add-k
-overflow_add-k c =
-    omega (arith, c.requires.0, c.requires.2)
-
 pub returns-then-k-gt0 : goal.returns-then-k-gt0
 returns-then-k-gt0 c =
     λ W z x o. from_link W c.args.area.now c.args.l c.args.m.0 c.args.k z x c.if-k-gt0.true c.requires.2 o c.word.ensures
-
-pub overflow_add-m : goal.overflow_add-m
-overflow_add-m c =
-    omega (arith, c.if-m-l.true, c.requires.1)
 
 pub returns-then-m-l : goal.returns-then-m-l
 returns-then-m-l c =
@@ -26,9 +15,3 @@ pub returns : goal.returns
 returns c =
     λ W z x o. from_none W c.args.area.now c.args.l c.args.m.0 c.args.k z x (omega (arith, c.if-k-gt0.false))
     (omega (arith, c.if-m-l.false))
-
-pub word-requires : goal.word-requires
-word-requires c = tt
-
-pub word-requires-then-m-l : goal.word-requires-then-m-l
-word-requires-then-m-l c = tt

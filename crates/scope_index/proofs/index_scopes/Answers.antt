@@ -5,17 +5,10 @@ use Rattle.scope_index.specs.Index.{Indexed}
 use Rattle.scope_index.proofs.Chaining.{made_start}
 use Rattle.scope_index.proofs.index_scopes.Goals as goal
 
-pub clear_heads-requires : goal.clear_heads-requires
-clear_heads-requires c =
-    (c.requires.1, c.requires.0.few, omega (arith, c.requires.0.short))
-
 pub loop-k-init : goal.loop-k-init
 loop-k-init c =
     let m = made_start c.args.words.now c.args.area.now c.args.l _ c.clear_heads.ensures in
     (record { indexed = m.indexed; below = refl }, refl, omega arith)
-
-pub overflow_sub-k : goal.overflow_sub-k
-overflow_sub-k c = omega (arith, c.loop-k-test.true)
 
 pub link-requires : goal.link-requires
 link-requires c =
@@ -26,9 +19,6 @@ link-requires c =
       omega (arith, t, c.loop-k.invariant.2),
       subst (λ j. Indexed c.args.words.now c.args.l j c.loop-k.area) (sym e) c.loop-k.invariant.0.indexed,
     )
-
-pub loop-k-smaller : goal.loop-k-smaller
-loop-k-smaller c = omega (arith, c.loop-k-test.true)
 
 pub loop-k-preserved : goal.loop-k-preserved
 loop-k-preserved c = (

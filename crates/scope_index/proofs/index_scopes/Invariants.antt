@@ -6,6 +6,3 @@ use Rattle.scope_index.proofs.index_scopes.Given as goal
 
 abbrev pub invariant-loop-k : goal.invariant-loop-k
 invariant-loop-k l = Made l.words l.initial.area l.l l.k l.area × (length l.area ≡ length l.initial.area) × (l.k ≤ l.l.scopes)
-
-abbrev pub decreases-loop-k : goal.decreases-loop-k
-decreases-loop-k l = l.k

@@ -8,15 +8,6 @@ use Rattle.scope_index.specs.Index.{owner_at}
 use Rattle.scope_index.proofs.Chaining.{indexed_next, linked_below}
 use Rattle.scope_index.proofs.link.Goals as goal
 
-pub scope_base-base-requires : goal.scope_base-base-requires
-scope_base-base-requires c = omega (arith, c.requires.0.short)
-
-pub overflow_mul-k : goal.overflow_mul-k
-overflow_mul-k c = omega (arith, c.requires.0.short, c.requires.2)
-
-pub overflow_add-base : goal.overflow_add-base
-overflow_add-base c = omega (arith, c.scope_base-base.ensures, c.requires.0.short, c.requires.2)
-
 pub overflow_add-at : goal.overflow_add-at
 overflow_add-at c =
     let owner : c.scope_owner-owner.result.0 ≡ owner_at c.args.words.now c.args.l c.args.k =

@@ -8,13 +8,6 @@ use Rattle.hir_def.specs.ItemScope.{is_for, name_of}
 use Rattle.scope_index.proofs.Chaining.{for_within, ahead_start, ahead_more, ahead_next, ahead_hit, ahead_done}
 use Rattle.scope_index.proofs.name_in.Goals as goal
 
-pub scope_base-base-requires : goal.scope_base-base-requires
-scope_base-base-requires c = omega (arith, c.requires.0.short)
-
-pub overflow_add-m : goal.overflow_add-m
-overflow_add-m c =
-    omega (arith, c.requires.1, c.requires.0.few)
-
 pub loop-k-init : goal.loop-k-init
 unfolding name_of
 loop-k-init c =
@@ -24,18 +17,6 @@ loop-k-init c =
     ahead_start W A c.args.l (is_for n c.args.m.0 c.args.item) (name_of n c.args.m.0 c.args.item) c.args.m.0 c.requires.2
     (for_within W A c.args.l c.args.m.0 c.args.item) c.requires.1 c.word-k.ensures refl
 
-pub overflow_mul-h : goal.overflow_mul-h
-overflow_mul-h c =
-    record { fits = omega (arith, c.loop-k-test.true, c.requires.0.short) }
-
-pub overflow_add-h : goal.overflow_add-h
-overflow_add-h c =
-    record { fits = omega (arith, c.loop-k-test.true, c.scope_base-base.ensures, c.requires.0.short) }
-
-pub is_for-requires : goal.is_for-requires
-is_for-requires c =
-    omega (arith, c.requires.0.short)
-
 pub returns-then-is_for : goal.returns-then-is_for
 returns-then-is_for c =
     let W = c.args.words.now in
@@ -43,10 +24,6 @@ returns-then-is_for c =
     ahead_hit W A c.args.l _ _ c.args.m.0 c.loop-k.invariant c.loop-k-test.true (ap (λ z. scope_at W (z + scope_size * c.loop-k.k))
     c.scope_base-base.ensures)
     (c.is_for.ensures A) c.if-is_for.true
-
-pub overflow_add-k : goal.overflow_add-k
-overflow_add-k c =
-    omega (arith, c.loop-k-test.true, c.requires.0.short)
 
 pub loop-k-smaller : goal.loop-k-smaller
 loop-k-smaller c =
@@ -67,9 +44,3 @@ loop-k-preserved c =
 pub returns : goal.returns
 returns c =
     ahead_done c.args.words.now c.args.area.now c.args.l _ _ c.args.m.0 c.loop-k.invariant (omega (arith, c.loop-k-test.false))
-
-pub word-k-requires : goal.word-k-requires
-word-k-requires c = tt
-
-pub word-k-requires-in-loop-k : goal.word-k-requires-in-loop-k
-word-k-requires-in-loop-k c = tt

@@ -15,6 +15,7 @@ front a k n xs ys h g =
 pub loop-count-preserved : goal.loop-count-preserved
 loop-count-preserved g c =
     let l = c.loop-count in
-    let m = c.read_more-more in
-    let e = front l.count (length l.bytes - l.count) m.result.count l.bytes m.new.bytes l.invariant.0 m.ensures.count in
-    (search rules, search rules, subst (Consumes _ _) (sym e) (Consumes-trans _ _ _ _ _ l.invariant.2 m.ensures.bytes))
+    let more = c.in-Ok.more in
+    let m = c.in-Ok.ensures in
+    let e = front l.count (length l.bytes - l.count) more l.bytes c.read.new.buf l.invariant.0 m.bound.0 in
+    (search rules, search rules, subst (Consumes _ _) (sym e) (Consumes-trans _ _ _ _ _ l.invariant.2 m.bytes.0))

@@ -1,27 +1,15 @@
-use mathlib.Core.Path.{◌≡◌, refl, subst, ◌∙◌}
+use Prim.Native.Nat.{◌+◌, ◌-◌}
+use mathlib.Core.Path.{◌≡◌, ◌∙◌}
 use native.Mathlib.Omega.{arith}
-use lib.ListN.{length-set}
-use Rattle.tight_rows.specs.Post.{Cleared}
-use Rattle.tight_rows.proofs.Keeping.{cleared_start, cleared_next}
+use borrow.Author.Rules.{rules}
+use borrow.Rule.Slice.PartMut.{mid_len}
+use Rattle.tight_rows.specs.Rows.{rows_at}
+use Rattle.tight_rows.proofs.Keeping.{cleared_all}
 use Rattle.tight_rows.proofs.clear_rows.Goals as goal
-
-pub loop-m-init : goal.loop-m-init
-loop-m-init c = (cleared_start _, refl, omega arith)
-
-pub bounds-area-m : goal.bounds-area-m
-bounds-area-m c =
-    omega (arith, c.loop-m.invariant.1, c.requires.0, c.requires.1, c.loop-m-test.true)
-
-pub loop-m-preserved : goal.loop-m-preserved
-loop-m-preserved c =
-    let h = c.loop-m-test.true in (
-      cleared_next c.args.area.now c.loop-m.m c.loop-m.area c.loop-m.invariant.0 (omega (arith, h, c.requires.1))
-          (c.loop-m.invariant.1 ∙ c.requires.0),
-      length-set c.loop-m.area _ _ ∙ c.loop-m.invariant.1,
-      omega (arith, h),
-    )
 
 pub returns : goal.returns
 returns c =
-    let e : c.loop-m.m ≡ c.args.count = omega (arith, c.loop-m.invariant.2, c.loop-m-test.false) in
-    subst (λ n. Cleared c.args.area.now n c.loop-m.area) e c.loop-m.invariant.0
+    let n = c.args.count in
+    let e : rows_at + n - rows_at ≡ n = omega arith in
+    cleared_all c.args.area.now _ n _ _ e (mid_len rows_at (rows_at + n) c.args.area.now (omega arith) ∙ e)
+    (c.fill.ensures.after (λ y q. search rules)) (omega arith)

@@ -7,21 +7,7 @@ pub is_on-requires : goal.is_on-requires
 is_on-requires c =
     (chain_wider c.args.area.now _ _ c.args.s.top _ (omega (arith, c.requires.3)) c.requires.4, c.requires.5)
 
-pub find_local_import_locations-requires : goal.find_local_import_locations-requires
-find_local_import_locations-requires c =
-    (c.requires.0, c.requires.1, omega (arith, c.requires.2), c.requires.3, c.requires.4, c.requires.5, omega (arith, c.requires.2), c.requires.7)
-
-pub returns-then-is_on : goal.returns-then-is_on
-returns-then-is_on c = c.find_local_import_locations.ensures
-
-pub copy_walk-requires : goal.copy_walk-requires
-copy_walk-requires c =
-    (c.requires.2, c.requires.3, omega (arith, c.word-n.ensures, c.requires.6.few))
-
 pub returns : goal.returns
 returns c =
     gathered_copy c.args.words.now c.args.area.now c.args.l c.args.from.0 c.args.s c.args.item
     c.requires.6 _ c.word-n.ensures c.copy_walk.ensures (c.is_on.ensures c.if-is_on.false)
-
-pub word-n-requires : goal.word-n-requires
-word-n-requires c = tt

@@ -7,13 +7,6 @@ pub find_local_import_locations-n-requires : goal.find_local_import_locations-n-
 find_local_import_locations-n-requires c =
     (c.requires.0, c.requires.1, omega arith, omega (arith, c.requires.2), chain_none c.args.area.now 0 7232, c.requires.3, omega arith, c.requires.4)
 
-pub overflow_cast-area : goal.overflow_cast-area
-overflow_cast-area c = omega (arith, c.find_local_import_locations-n.ensures.few)
-
-pub bounds-area-7744 : goal.bounds-area-7744
-bounds-area-7744 c =
-    omega (arith, c.find_local_import_locations-n.auto.area, c.requires.2)
-
 pub returns : goal.returns
 returns c =
     kept_walk c.args.words.now c.args.area.now c.args.l c.args.from.0 c.args.item c.requires.2 _ _

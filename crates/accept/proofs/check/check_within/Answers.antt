@@ -1,19 +1,21 @@
 use mathlib.Core.Path.{sym, ◌∙◌}
 use native.Mathlib.Omega.{arith}
 use borrow.Author.Tests.{not-true, not-false}
-use Rattle.accept.proofs.Ending.{too_long, ended_all, ended_judged, not_filled, not_owned, map_small, accepted}
+use Rattle.std.proofs.lemmas.Result.{err_from_is_err_and}
+use Rattle.accept.proofs.Ending.{too_long, ended_judged, not_filled, not_owned, map_small, accepted}
 use Rattle.accept.proofs.check.check_within.Goals as goal
 
 pub returns-then-words-gt-SNAPSHOT : goal.returns-then-words-gt-SNAPSHOT
 returns-then-words-gt-SNAPSHOT c = too_long _ _ c.if-words-gt-SNAPSHOT.true
 
-pub returns-in_default : goal.returns-in_default
-returns-in_default c =
-    ended_judged c.args.words.now c.read_records-k.new.area c.in_default.is c.read_records-k.ensures
+pub returns-in_err-l : goal.returns-in_err-l
+returns-in_err-l c =
+    let p = err_from_is_err_and c.from_residual.result c.from_residual.ensures.1 in
+    rw (p.1, p.2) (ended_judged c.args.words.now c.read_records.new.area _ c.in_err-l.ensures)
 
 pub maps_filled-requires : goal.maps_filled-requires
 maps_filled-requires c =
-    let e = ended_all c.args.words.now c.read_records-k.new.area c.in-Accepted.is c.read_records-k.ensures in (
+    let e = c.in_ok-l.ensures in (
       let p = e.2.place in let w = c.requires in let h = c.if-words-gt-SNAPSHOT.false
           in omega arith,
       e.2.limited.modules,
@@ -21,33 +23,33 @@ maps_filled-requires c =
 
 pub returns-then-not-maps_filled : goal.returns-then-not-maps_filled
 returns-then-not-maps_filled c =
-    let e = ended_all c.args.words.now c.read_records-k.new.area c.in-Accepted.is c.read_records-k.ensures in
-    not_filled c.args.words.now c.read_records-k.new.area e.1 c.in-Accepted.l e.0 e.2 e.3 c.maps_filled.ensures
+    let e = c.in_ok-l.ensures in
+    not_filled c.args.words.now c.read_records.new.area e.1 c.in_ok-l.l e.0 e.2 e.3 c.maps_filled.ensures
     c.if-not-maps_filled.true
 
 pub crates_own-requires : goal.crates_own-requires
 crates_own-requires c =
-    let e = ended_all c.args.words.now c.read_records-k.new.area c.in-Accepted.is c.read_records-k.ensures in
+    let e = c.in_ok-l.ensures in
     e.2.limited.crates
 
 pub returns-then-not-crates_own : goal.returns-then-not-crates_own
 returns-then-not-crates_own c =
-    let e = ended_all c.args.words.now c.read_records-k.new.area c.in-Accepted.is c.read_records-k.ensures in
-    not_owned c.args.words.now c.read_records-k.new.area e.1 c.in-Accepted.l e.0 e.2 e.3 c.maps_filled.ensures
+    let e = c.in_ok-l.ensures in
+    not_owned c.args.words.now c.read_records.new.area e.1 c.in_ok-l.l e.0 e.2 e.3 c.maps_filled.ensures
     c.if-not-maps_filled.false c.crates_own.ensures c.if-not-crates_own.true
 
 pub fill_roots-requires : goal.fill_roots-requires
-fill_roots-requires c = let e = ended_all c.args.words.now c.read_records-k.new.area c.in-Accepted.is c.read_records-k.ensures in record {
-  area_limit_in_bounds = (let x = c.read_records-k.auto.area in omega arith, e.2.limited.modules);
-  by_index = map_small c.args.words.now c.read_records-k.new.area
-      e.1 c.in-Accepted.l e.0 e.2 (sym c.maps_filled.ensures
+fill_roots-requires c = let e = c.in_ok-l.ensures in record {
+  area_limit_in_bounds = (let x = c.read_records.auto.area in omega arith, e.2.limited.modules);
+  by_index = map_small c.args.words.now c.read_records.new.area
+      e.1 c.in_ok-l.l e.0 e.2 (sym c.maps_filled.ensures
       ∙ c.if-not-maps_filled.false);
 }
 
 pub returns : goal.returns
 returns c =
-    let e = ended_all c.args.words.now c.read_records-k.new.area c.in-Accepted.is c.read_records-k.ensures in
-    accepted c.args.words.now c.read_records-k.new.area e.1 c.in-Accepted.l e.0 e.2
+    let e = c.in_ok-l.ensures in
+    accepted c.args.words.now c.read_records.new.area e.1 c.in_ok-l.l e.0 e.2
     (sym c.maps_filled.ensures
     ∙ c.if-not-maps_filled.false) c.fill_roots.new.area
     c.fill_roots.ensures

@@ -1,7 +1,9 @@
-use mathlib.Core.Path.{refl, ◌∙◌}
+use mathlib.Core.Path.{◌≡◌, refl, ◌∙◌}
+use Rattle.std.proofs.Common.{rules}
 use native.Mathlib.Omega.{arith}
+use Rattle.std.proofs.lemmas.Result.{err_from_is_err_and}
 use Rattle.accept.proofs.Turns.{arguments_few}
-use Rattle.accept.proofs.Folds.{going_start, going_here, going_stop, going_on, going_end}
+use Rattle.accept.proofs.Folds.{going_start, going_here, going_stop, going_on, going_end, before_ok, before_err}
 use Rattle.accept.proofs.check.read_records.Goals as goal
 
 pub clear-requires : goal.clear-requires
@@ -14,26 +16,29 @@ loop-at-init c = (
   refl,
 )
 
-pub turn-s-requires : goal.turn-s-requires
-turn-s-requires c =
+pub turn-requires : goal.turn-requires
+turn-requires c =
     let g = c.loop-at in
     going_here c.args.words.now g.area g.at g.last g.l g.invariant.0 c.loop-at-test.true c.requires.0
     (let e = g.invariant.1 in let k = c.clear.auto.area in let f = c.requires.1 in omega arith)
 
-pub returns-in-No : goal.returns-in-No
-returns-in-No c =
+pub returns-in_err-l : goal.returns-in_err-l
+returns-in_err-l c =
     let g = c.loop-at in
-    going_stop c.args.words.now g.area c.turn-s.new.area g.at g.last g.l c.turn-s.result g.invariant.0
-    c.loop-at-test.true c.turn-s.ensures c.in-No.n
-    c.in-No.is
+    let p = err_from_is_err_and c.from_residual.result c.from_residual.ensures.1 in
+    let m = before_err _ c.turn.result c.in_err-l.field-0.0 c.map_err.ensures.cases c.in_err-l.was in
+    let k : c.in_err-l.field-0.0 ≡ record { why = m.0; at = g.at } = search (rules, m.2) in
+    let q = going_stop c.args.words.now g.area c.turn.new.area g.at g.last g.l c.turn.result g.invariant.0
+    c.loop-at-test.true c.turn.ensures m.0 m.1 in
+    rw (p.1, p.2, k) q
 
 pub overflow_add-at : goal.overflow_add-at
 overflow_add-at c =
     let h = c.loop-at-test.true in
     omega arith
 
-pub overflow_add-at-in-On : goal.overflow_add-at-in-On
-overflow_add-at-in-On c =
+pub overflow_add-at-in-loop-at : goal.overflow_add-at-in-loop-at
+overflow_add-at-in-loop-at c =
     let h = c.loop-at-test.true in
     let e = arguments_few c.args.words.now c.loop-at.at _
     c.arguments.ensures in
@@ -47,11 +52,11 @@ loop-at-smaller c =
 pub loop-at-preserved : goal.loop-at-preserved
 loop-at-preserved c =
     let g = c.loop-at in (
-      going_on c.args.words.now g.area c.turn-s.new.area g.at g.last g.l c.turn-s.result g.invariant.0
-          c.loop-at-test.true c.turn-s.ensures
-          c.in-On.m c.in-On.is c.arguments.ensures
+      going_on c.args.words.now g.area c.turn.new.area g.at g.last g.l c.turn.result g.invariant.0
+          c.loop-at-test.true c.turn.ensures
+          c.in_ok-l.l (before_ok _ c.turn.result _ c.map_err.ensures.cases c.in_ok-l.was) c.arguments.ensures
           c.kind-last.ensures,
-      c.turn-s.auto.area ∙ g.invariant.1,
+      c.turn.auto.area ∙ g.invariant.1,
     )
 
 pub returns : goal.returns

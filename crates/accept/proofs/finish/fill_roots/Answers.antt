@@ -5,9 +5,6 @@ use Rattle.accept.proofs.finish.fill_roots.Goals as goal
 pub loop-m-init : goal.loop-m-init
 loop-m-init c = filled_none _ _
 
-pub overflow_sub-m : goal.overflow_sub-m
-overflow_sub-m c = let h = c.loop-m-test.true in omega arith
-
 pub module_map-map-requires : goal.module_map-map-requires
 module_map-map-requires c =
     let u = c.loop-m.invariant.upto in
@@ -42,11 +39,6 @@ bounds-area-map c =
     c.requires.area_limit_in_bounds.1 c.requires.area_limit_in_bounds.0 c.requires.by_index c.module_map-map.ensures in
     let u = l.invariant.long in
     let v = c.requires.area_limit_in_bounds.0 in
-    omega arith
-
-pub loop-m-smaller : goal.loop-m-smaller
-loop-m-smaller c =
-    let h = c.loop-m-test.true in
     omega arith
 
 pub loop-m-preserved : goal.loop-m-preserved

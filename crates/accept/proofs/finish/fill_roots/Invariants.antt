@@ -3,6 +3,3 @@ use Rattle.accept.proofs.finish.fill_roots.Given as goal
 
 abbrev pub invariant-loop-m : goal.invariant-loop-m
 invariant-loop-m l = Filled l.initial.area l.area l.modules l.m
-
-abbrev pub decreases-loop-m : goal.decreases-loop-m
-decreases-loop-m l = l.m

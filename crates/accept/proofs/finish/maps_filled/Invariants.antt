@@ -9,6 +9,3 @@ abbrev pub invariant-loop-k : goal.invariant-loop-k
 invariant-loop-k l = (l.k ≤ l.maps)
     × (all (λ j. any (is_in j) (modules_of l.area l.modules)) (rows (λ j. j) 0 l.maps) ≡ all (λ j. any (is_in j) (modules_of l.area l.modules))
     (rows (λ j. j) l.k (l.maps - l.k)))
-
-abbrev pub decreases-loop-k : goal.decreases-loop-k
-decreases-loop-k l = l.maps - l.k

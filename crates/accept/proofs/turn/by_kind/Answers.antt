@@ -1,103 +1,104 @@
 -- A record's step, by its kind.
 use native.Mathlib.Omega.{arith}
-use mathlib.Core.Path.{refl}
+use mathlib.Core.Path.{refl, ap}
 use Rattle.snapshot.specs.Words.{arguments_of}
 use Rattle.check_rules.specs.Verdict.{record_step}
-use Rattle.accept.proofs.Turns.{kind_ready, kind_answers, thirteen}
+use Rattle.snapshot.specs.Kinds.{kind_number}
+use Rattle.accept.proofs.Turns.{kind_ready, kind_answers}
 use Rattle.accept.proofs.turn.by_kind.Goals as goal
 
 pub step-requires : goal.step-requires
 unfolding arguments_of record_step
-step-requires c = kind_ready 1 c.requires.k_value c.in-1.is refl c.requires.ready
+step-requires c = kind_ready 1 c.requires.of_kind (ap kind_number c.in-Name.is) refl c.requires.ready
 
-pub step-requires-in-2 : goal.step-requires-in-2
+pub step-requires-in-Crate : goal.step-requires-in-Crate
 unfolding arguments_of record_step
-step-requires-in-2 c = kind_ready 2 c.requires.k_value c.in-2.is (omega arith) c.requires.ready
+step-requires-in-Crate c = kind_ready 2 c.requires.of_kind (ap kind_number c.in-Crate.is) (omega arith) c.requires.ready
 
-pub step-requires-in-3 : goal.step-requires-in-3
+pub step-requires-in-Dependency : goal.step-requires-in-Dependency
 unfolding arguments_of record_step
-step-requires-in-3 c = kind_ready 3 c.requires.k_value c.in-3.is (omega arith) c.requires.ready
+step-requires-in-Dependency c = kind_ready 3 c.requires.of_kind (ap kind_number c.in-Dependency.is) (omega arith) c.requires.ready
 
-pub step-requires-in-4 : goal.step-requires-in-4
+pub step-requires-in-Map : goal.step-requires-in-Map
 unfolding arguments_of record_step
-step-requires-in-4 c = kind_ready 4 c.requires.k_value c.in-4.is (omega arith) c.requires.ready
+step-requires-in-Map c = kind_ready 4 c.requires.of_kind (ap kind_number c.in-Map.is) (omega arith) c.requires.ready
 
-pub step-requires-in-5 : goal.step-requires-in-5
+pub step-requires-in-Module : goal.step-requires-in-Module
 unfolding arguments_of record_step
-step-requires-in-5 c = kind_ready 5 c.requires.k_value c.in-5.is (omega arith) c.requires.ready
+step-requires-in-Module c = kind_ready 5 c.requires.of_kind (ap kind_number c.in-Module.is) (omega arith) c.requires.ready
 
-pub step-requires-in-6 : goal.step-requires-in-6
+pub step-requires-in-Child : goal.step-requires-in-Child
 unfolding arguments_of record_step
-step-requires-in-6 c = kind_ready 6 c.requires.k_value c.in-6.is (omega arith) c.requires.ready
+step-requires-in-Child c = kind_ready 6 c.requires.of_kind (ap kind_number c.in-Child.is) (omega arith) c.requires.ready
 
-pub step-requires-in-7 : goal.step-requires-in-7
+pub step-requires-in-Prelude : goal.step-requires-in-Prelude
 unfolding arguments_of record_step
-step-requires-in-7 c = kind_ready 7 c.requires.k_value c.in-7.is (omega arith) c.requires.ready
+step-requires-in-Prelude c = kind_ready 7 c.requires.of_kind (ap kind_number c.in-Prelude.is) (omega arith) c.requires.ready
 
-pub step-requires-in-8 : goal.step-requires-in-8
+pub step-requires-in-Definition : goal.step-requires-in-Definition
 unfolding arguments_of record_step
-step-requires-in-8 c = kind_ready 8 c.requires.k_value c.in-8.is (omega arith) c.requires.ready
+step-requires-in-Definition c = kind_ready 8 c.requires.of_kind (ap kind_number c.in-Definition.is) (omega arith) c.requires.ready
 
-pub step-requires-in-9 : goal.step-requires-in-9
+pub step-requires-in-Scope : goal.step-requires-in-Scope
 unfolding arguments_of record_step
-step-requires-in-9 c = kind_ready 9 c.requires.k_value c.in-9.is (omega arith) c.requires.ready
+step-requires-in-Scope c = kind_ready 9 c.requires.of_kind (ap kind_number c.in-Scope.is) (omega arith) c.requires.ready
 
-pub step-requires-in-10 : goal.step-requires-in-10
+pub step-requires-in-Import : goal.step-requires-in-Import
 unfolding arguments_of record_step
-step-requires-in-10 c = kind_ready 10 c.requires.k_value c.in-10.is (omega arith) c.requires.ready
+step-requires-in-Import c = kind_ready 10 c.requires.of_kind (ap kind_number c.in-Import.is) (omega arith) c.requires.ready
 
-pub step-requires-in-11 : goal.step-requires-in-11
+pub step-requires-in-Extern : goal.step-requires-in-Extern
 unfolding arguments_of record_step
-step-requires-in-11 c = kind_ready 11 c.requires.k_value c.in-11.is (omega arith) c.requires.ready
+step-requires-in-Extern c = kind_ready 11 c.requires.of_kind (ap kind_number c.in-Extern.is) (omega arith) c.requires.ready
 
-pub step-requires-in_default : goal.step-requires-in_default
+pub step-requires-in-Member : goal.step-requires-in-Member
 unfolding arguments_of record_step
-step-requires-in_default c = kind_ready 13 c.requires.k_value (thirteen c.requires.k_value c.in_default.in_default-own.rest) (omega arith) c.requires.ready
+step-requires-in-Member c = kind_ready 13 c.requires.of_kind (ap kind_number c.in-Member.is) (omega arith) c.requires.ready
 
-pub returns-in-1 : goal.returns-in-1
+pub returns-in-Name : goal.returns-in-Name
 unfolding arguments_of record_step
-returns-in-1 c = kind_answers 1 c.requires.k_value c.in-1.is refl c.step.new.area c.step.result c.step.ensures
+returns-in-Name c = kind_answers 1 c.requires.of_kind (ap kind_number c.in-Name.is) refl c.step.new.area c.step.result c.step.ensures
 
-pub returns-in-2 : goal.returns-in-2
+pub returns-in-Crate : goal.returns-in-Crate
 unfolding arguments_of record_step
-returns-in-2 c = kind_answers 2 c.requires.k_value c.in-2.is (omega arith) c.step-in-2.new.area c.step-in-2.result c.step-in-2.ensures
+returns-in-Crate c = kind_answers 2 c.requires.of_kind (ap kind_number c.in-Crate.is) (omega arith) c.step-in-Crate.new.area c.step-in-Crate.result c.step-in-Crate.ensures
 
-pub returns-in-3 : goal.returns-in-3
+pub returns-in-Dependency : goal.returns-in-Dependency
 unfolding arguments_of record_step
-returns-in-3 c = kind_answers 3 c.requires.k_value c.in-3.is (omega arith) c.args.area.now c.step-in-3.result c.step-in-3.ensures
+returns-in-Dependency c = kind_answers 3 c.requires.of_kind (ap kind_number c.in-Dependency.is) (omega arith) c.args.area.now c.step-in-Dependency.result c.step-in-Dependency.ensures
 
-pub returns-in-4 : goal.returns-in-4
+pub returns-in-Map : goal.returns-in-Map
 unfolding arguments_of record_step
-returns-in-4 c = kind_answers 4 c.requires.k_value c.in-4.is (omega arith) c.step-in-4.new.area c.step-in-4.result c.step-in-4.ensures
+returns-in-Map c = kind_answers 4 c.requires.of_kind (ap kind_number c.in-Map.is) (omega arith) c.step-in-Map.new.area c.step-in-Map.result c.step-in-Map.ensures
 
-pub returns-in-5 : goal.returns-in-5
+pub returns-in-Module : goal.returns-in-Module
 unfolding arguments_of record_step
-returns-in-5 c = kind_answers 5 c.requires.k_value c.in-5.is (omega arith) c.step-in-5.new.area c.step-in-5.result c.step-in-5.ensures
+returns-in-Module c = kind_answers 5 c.requires.of_kind (ap kind_number c.in-Module.is) (omega arith) c.step-in-Module.new.area c.step-in-Module.result c.step-in-Module.ensures
 
-pub returns-in-6 : goal.returns-in-6
+pub returns-in-Child : goal.returns-in-Child
 unfolding arguments_of record_step
-returns-in-6 c = kind_answers 6 c.requires.k_value c.in-6.is (omega arith) c.step-in-6.new.area c.step-in-6.result c.step-in-6.ensures
+returns-in-Child c = kind_answers 6 c.requires.of_kind (ap kind_number c.in-Child.is) (omega arith) c.step-in-Child.new.area c.step-in-Child.result c.step-in-Child.ensures
 
-pub returns-in-7 : goal.returns-in-7
+pub returns-in-Prelude : goal.returns-in-Prelude
 unfolding arguments_of record_step
-returns-in-7 c = kind_answers 7 c.requires.k_value c.in-7.is (omega arith) c.args.area.now c.step-in-7.result c.step-in-7.ensures
+returns-in-Prelude c = kind_answers 7 c.requires.of_kind (ap kind_number c.in-Prelude.is) (omega arith) c.args.area.now c.step-in-Prelude.result c.step-in-Prelude.ensures
 
-pub returns-in-8 : goal.returns-in-8
+pub returns-in-Definition : goal.returns-in-Definition
 unfolding arguments_of record_step
-returns-in-8 c = kind_answers 8 c.requires.k_value c.in-8.is (omega arith) c.step-in-8.new.area c.step-in-8.result c.step-in-8.ensures
+returns-in-Definition c = kind_answers 8 c.requires.of_kind (ap kind_number c.in-Definition.is) (omega arith) c.step-in-Definition.new.area c.step-in-Definition.result c.step-in-Definition.ensures
 
-pub returns-in-9 : goal.returns-in-9
+pub returns-in-Scope : goal.returns-in-Scope
 unfolding arguments_of record_step
-returns-in-9 c = kind_answers 9 c.requires.k_value c.in-9.is (omega arith) c.step-in-9.new.area c.step-in-9.result c.step-in-9.ensures
+returns-in-Scope c = kind_answers 9 c.requires.of_kind (ap kind_number c.in-Scope.is) (omega arith) c.step-in-Scope.new.area c.step-in-Scope.result c.step-in-Scope.ensures
 
-pub returns-in-10 : goal.returns-in-10
+pub returns-in-Import : goal.returns-in-Import
 unfolding arguments_of record_step
-returns-in-10 c = kind_answers 10 c.requires.k_value c.in-10.is (omega arith) c.args.area.now c.step-in-10.result c.step-in-10.ensures
+returns-in-Import c = kind_answers 10 c.requires.of_kind (ap kind_number c.in-Import.is) (omega arith) c.args.area.now c.step-in-Import.result c.step-in-Import.ensures
 
-pub returns-in-11 : goal.returns-in-11
+pub returns-in-Extern : goal.returns-in-Extern
 unfolding arguments_of record_step
-returns-in-11 c = kind_answers 11 c.requires.k_value c.in-11.is (omega arith) c.step-in-11.new.area c.step-in-11.result c.step-in-11.ensures
+returns-in-Extern c = kind_answers 11 c.requires.of_kind (ap kind_number c.in-Extern.is) (omega arith) c.step-in-Extern.new.area c.step-in-Extern.result c.step-in-Extern.ensures
 
-pub returns-in_default : goal.returns-in_default
+pub returns-in-Member : goal.returns-in-Member
 unfolding arguments_of record_step
-returns-in_default c = kind_answers 13 c.requires.k_value (thirteen c.requires.k_value c.in_default.in_default-own.rest) (omega arith) c.args.area.now c.step-in_default.result c.step-in_default.ensures
+returns-in-Member c = kind_answers 13 c.requires.of_kind (ap kind_number c.in-Member.is) (omega arith) c.args.area.now c.step-in-Member.result c.step-in-Member.ensures

@@ -1,6 +1,10 @@
-use mathlib.Core.Path.{sym}
+use mathlib.Core.Path.{sym, ap}
+use mathlib.Core.List.{◌++◌}
 use lib.Seq.{length-take-le}
 use Rattle.snapshot.specs.Limits.{area_limit}
+use Rattle.printing.proofs.Laws.{put_as}
+use Rattle.find_path.specs.Report.{refused}
+use Rattle.find_path.specs.Line.{bytes_of, line_in}
 use Rattle.answer.proofs.Lined.{lined_none, lined_small, lined_large}
 use Rattle.answer.proofs.lines.find_line.Goals as goal
 
@@ -13,7 +17,8 @@ pub returns-then-area-lt-AREA : goal.returns-then-area-lt-AREA
 returns-then-area-lt-AREA c =
     let s = c.args in
     lined_small s.words.now s.area.now s.question s.out.now c.if-out-lt-LIMIT.false
-    _ _ c.if-area-lt-AREA.true c.put_refusal.ensures
+    _ _ c.if-area-lt-AREA.true
+    (λ u from. put_as (ap (λ n. line_in u from (refused n) ++ bytes_of "\n") c.number.ensures.same) (c.put_refusal.ensures u from))
 
 pub slice_bounds-line_within-end-2 : goal.slice_bounds-line_within-end-2
 slice_bounds-line_within-end-2 c = sym (length-take-le area_limit c.args.area.now

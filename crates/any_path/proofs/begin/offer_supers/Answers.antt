@@ -1,5 +1,5 @@
 use native.Mathlib.Omega.{arith}
-use Rattle.module_tree.proofs.Climbs.{is_some, is_none}
+use Rattle.module_tree.proofs.Climbs.{some_number, none_number}
 use Rattle.any_path.proofs.Taken.{stays_reads}
 use Rattle.any_path.proofs.Begins.{climbing_start, climbing_few, parent_less, climbing_less, climbing_next, climbing_done}
 use Rattle.any_path.proofs.begin.offer_supers.Goals as goal
@@ -18,12 +18,12 @@ pub returns-in_default : goal.returns-in_default
 returns-in_default c =
     let inv = c.loop-p.invariant c.args.from.0 c.module_around-m.ensures.0 c.requires.1 in
     climbing_done c.args.words.now c.args.area.now c.args.l c.requires.0 c.args.from.0 c.args.n c.requires.1 inv
-    (is_none _ c.parent.ensures c.in_default.is)
+    (none_number _ c.parent.ensures c.in_default.is)
 
 pub module_around-m-requires-in-loop-p : goal.module_around-m-requires-in-loop-p
 module_around-m-requires-in-loop-p c =
     let inv = c.loop-p.invariant c.args.from.0 c.module_around-m.ensures.0 c.requires.1 in
-    let up = is_some _ c.parent.ensures c.in-Module.is in
+    let up = some_number _ c.parent.ensures c.in-Some.is in
     let less = parent_less c.args.words.now c.args.area.now c.args.l c.requires.0 c.args.from.0 c.args.n
     c.requires.1 inv _ up in (
       stays_reads c.args.words.now c.args.area.now c.loop-p.area c.args.l c.requires.0 inv.grown.stays,
@@ -53,14 +53,14 @@ offer-count-requires c =
 pub loop-p-smaller : goal.loop-p-smaller
 loop-p-smaller c =
     let inv = c.loop-p.invariant c.args.from.0 c.module_around-m.ensures.0 c.requires.1 in
-    let up = is_some _ c.parent.ensures c.in-Module.is in
+    let up = some_number _ c.parent.ensures c.in-Some.is in
     let less = climbing_less c.args.words.now c.args.area.now c.args.l c.requires.0 c.args.from.0 c.args.n
     c.requires.1 inv _ up in
     omega (arith, less, c.module_around-m-in-loop-p.ensures.0)
 
 pub loop-p-preserved : goal.loop-p-preserved
 loop-p-preserved c =
-    let up = is_some _ c.parent.ensures c.in-Module.is in
+    let up = some_number _ c.parent.ensures c.in-Some.is in
     λ from f h.
     climbing_next c.args.words.now c.args.area.now c.args.l c.requires.0 from c.args.n h (c.loop-p.invariant from f h) _ up
     c.module_around-m-in-loop-p.ensures.0 c.module_around-m-in-loop-p.ensures.1 c.offer-count.ensures

@@ -4,6 +4,3 @@ use Rattle.any_path.proofs.expand.expand.Given as goal
 
 abbrev pub invariant-loop-k : goal.invariant-loop-k
 invariant-loop-k l = Expanding l.words l.initial.area l.l l.from.0 l.i l.n l.area l.count l.k
-
-abbrev pub decreases-loop-k : goal.decreases-loop-k
-decreases-loop-k l = l.scopes - l.k

@@ -12,6 +12,3 @@ abbrev pub invariant-loop-k : goal.invariant-loop-k
 invariant-loop-k l =
     Trying extern_named (λ (x : Extern). eqb x.owner (crate_of (snap_of l.words l.initial.area l.l) l.from.0)) (λ j. extern_at l.words
     (extern_base l.l + extern_size * j)) l.l.externs l.l.modules (snap_of l.words l.initial.area l.l) l.from.0 l.initial.area l.n l.area l.count l.k
-
-abbrev pub decreases-loop-k : goal.decreases-loop-k
-decreases-loop-k l = l.externs - l.k

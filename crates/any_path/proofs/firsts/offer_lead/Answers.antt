@@ -1,13 +1,8 @@
 use mathlib.Core.Path.{sym, ◌∙◌}
-use native.Mathlib.Omega.{arith}
 use Rattle.snapshot.specs.Layouts.{snap_of}
 use Rattle.snapshot.specs.Records.{scope_at}
 use Rattle.any_path.proofs.Plains.{name_tried, name_passed}
 use Rattle.any_path.proofs.firsts.offer_lead.Goals as goal
-
-pub offer_plain-requires : goal.offer_plain-requires
-offer_plain-requires c =
-    (c.requires.0, c.requires.1, c.requires.3, omega (arith, c.requires.2.name, c.scope_name.ensures))
 
 pub returns-then-leads_on : goal.returns-then-leads_on
 returns-then-leads_on c =

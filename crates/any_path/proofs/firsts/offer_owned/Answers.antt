@@ -1,5 +1,4 @@
 use mathlib.Core.Path.{sym, ◌∙◌}
-use native.Mathlib.Omega.{arith}
 use borrow.Author.Tests.{eq-eqb, ne_eqb}
 use Rattle.snapshot.specs.Layouts.{snap_of}
 use Rattle.snapshot.specs.Records.{extern_at}
@@ -14,10 +13,6 @@ returns-then-owner-c c =
     let L = c.args.l in
     let S = snap_of W A L in
     name_passed S from (extern_at W c.args.h).name (ne_eqb _ _ (λ e. c.if-owner-c.true (c.extern_owner-owner.ensures ∙ e))) c.requires.3
-
-pub offer_plain-requires : goal.offer_plain-requires
-offer_plain-requires c =
-    (c.requires.0, c.requires.1, c.requires.3, omega (arith, c.requires.2.name, c.extern_name.ensures))
 
 pub returns : goal.returns
 returns c =

@@ -1,7 +1,7 @@
 use mathlib.Core.Path.{refl, sym, ap, ◌∙◌}
 use native.Mathlib.Omega.{arith}
 use Rattle.snapshot.specs.Layouts.{snap_of}
-use Rattle.module_tree.proofs.Climbs.{is_some, is_none}
+use Rattle.module_tree.proofs.Climbs.{some_number, none_number}
 use Rattle.any_path.specs.Plain.{module_in}
 use Rattle.any_path.proofs.Plains.{plain_known, plain_place, plain_offered, plain_passed}
 use Rattle.any_path.proofs.firsts.offer_plain.Goals as goal
@@ -14,7 +14,7 @@ returns-in_default c =
     let L = c.args.l in
     let S = snap_of W A L in
     plain_passed S from c.args.name.0 c.requires.2
-    (ap module_in (sym c.read_plain-r.ensures) ∙ is_none _ (c.module_read.ensures A) c.in_default.is)
+    (ap module_in (sym c.read_plain-r.ensures) ∙ none_number _ (c.module_read.ensures A) c.in_default.is)
 
 pub offer-requires : goal.offer-requires
 offer-requires c =
@@ -23,7 +23,7 @@ offer-requires c =
     let L = c.args.l in
     let from = c.args.from.0 in
     let S = snap_of W A L in
-    let is = ap module_in (sym c.read_plain-r.ensures) ∙ is_some _ (c.module_read.ensures A) c.in-Module.is in
+    let is = ap module_in (sym c.read_plain-r.ensures) ∙ some_number _ (c.module_read.ensures A) c.in-Some.is in
     let limits = c.requires.0.tables.limited in
     let known = plain_known W A L c.requires.0 from c.args.name.0 c.requires.1 is in
     let place = plain_place W A L c.requires.0 from c.args.name.0 c.read_plain-r.ensures
@@ -38,4 +38,4 @@ returns c =
     let L = c.args.l in
     let S = snap_of W A L in
     plain_offered S from c.args.name.0
-    (ap module_in (sym c.read_plain-r.ensures) ∙ is_some _ (c.module_read.ensures A) c.in-Module.is) refl c.offer.ensures
+    (ap module_in (sym c.read_plain-r.ensures) ∙ some_number _ (c.module_read.ensures A) c.in-Some.is) refl c.offer.ensures

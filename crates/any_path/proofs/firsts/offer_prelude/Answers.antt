@@ -24,5 +24,5 @@ returns c =
     let from = c.args.from.0 in
     let S = snap_of W A L in
     prelude_offered W A L c.requires.0 from c.args.n _
-    (ap (prelude_of S) (sym c.map.ensures) ∙ (sym (c.prelude_of.ensures A) ∙ ap (entry_of prelude_at W) c.in-At.is))
+    (ap (prelude_of S) (sym c.map.ensures) ∙ (sym (c.prelude_of.ensures A) ∙ ap (entry_of prelude_at W) c.in-Some.is))
     c.prelude_target.ensures c.offer_scope.ensures

@@ -11,6 +11,3 @@ abbrev pub invariant-loop-k : goal.invariant-loop-k
 invariant-loop-k l =
     Trying (as_named (snap_of l.words l.initial.area l.l)) (is_seen_in (snap_of l.words l.initial.area l.l) l.from.0 types l.m.0) (λ j. scope_at l.words
     (scope_base l.l + scope_size * j)) l.l.scopes l.l.modules (snap_of l.words l.initial.area l.l) l.from.0 l.initial.area l.n l.area l.count l.k
-
-abbrev pub decreases-loop-k : goal.decreases-loop-k
-decreases-loop-k l = l.scopes - l.k

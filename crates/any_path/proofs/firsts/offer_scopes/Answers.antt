@@ -1,4 +1,4 @@
-use Rattle.module_tree.proofs.Climbs.{is_some, is_none}
+use Rattle.module_tree.proofs.Climbs.{some_number, none_number}
 use Rattle.any_path.proofs.Taken.{stays_reads}
 use Rattle.any_path.proofs.Plains.{around_start, around_stays, around_less, around_next, around_done}
 use Rattle.any_path.proofs.firsts.offer_scopes.Goals as goal
@@ -33,7 +33,7 @@ returns-in_default c =
     let A = c.args.area.now in
     let L = c.args.l in
     let from = c.args.from.0 in
-    around_done W A L c.requires.0 from c.args.n c.loop-b.invariant c.offer_scope-count.ensures (is_none _ c.block_step.ensures
+    around_done W A L c.requires.0 from c.args.n c.loop-b.invariant c.offer_scope-count.ensures (none_number _ c.block_step.ensures
     c.in_default.is)
 
 pub loop-b-smaller : goal.loop-b-smaller
@@ -42,8 +42,8 @@ loop-b-smaller c =
     let A = c.args.area.now in
     let L = c.args.l in
     let from = c.args.from.0 in
-    around_less W A L c.requires.0 from c.args.n c.loop-b.invariant c.offer_scope-count.ensures (is_some _ c.block_step.ensures
-    c.in-Module.is)
+    around_less W A L c.requires.0 from c.args.n c.loop-b.invariant c.offer_scope-count.ensures (some_number _ c.block_step.ensures
+    c.in-Some.is)
 
 pub loop-b-preserved : goal.loop-b-preserved
 loop-b-preserved c =
@@ -51,5 +51,5 @@ loop-b-preserved c =
     let A = c.args.area.now in
     let L = c.args.l in
     let from = c.args.from.0 in
-    around_next W A L c.requires.0 from c.args.n c.loop-b.invariant c.offer_scope-count.ensures (is_some _ c.block_step.ensures
-    c.in-Module.is)
+    around_next W A L c.requires.0 from c.args.n c.loop-b.invariant c.offer_scope-count.ensures (some_number _ c.block_step.ensures
+    c.in-Some.is)

@@ -1,5 +1,5 @@
 use mathlib.Core.Path.{ap, ◌∙◌}
-use mathlib.Core.Option.{Option, map}
+use Rattle.std.specs.Prelude.{Option, option_map}
 use native.Mathlib.Omega.{arith}
 use Rattle.snapshot.specs.Layouts.{snap_of}
 use Rattle.snapshot.specs.Records.{Scope, Extern}
@@ -41,7 +41,7 @@ returns-then-link-eq1 c =
     let L = c.args.l in
     let S = snap_of W A L in
     place_absolute S from c.args.l.modules A c.args.i c.requires.2 c.word-link.ensures c.word.ensures c.if-link-eq1.true
-    ((c.entry_place.ensures S W).1 ∙ ap (λ (o : Option Extern). place_in (map extern_named o)) c.externs_named.ensures)
+    ((c.entry_place.ensures S W).1 ∙ ap (λ (o : Option Extern). place_in (option_map extern_named o)) c.externs_named.ensures)
 
 pub returns-then-link-eq2 : goal.returns-then-link-eq2
 returns-then-link-eq2 c =
@@ -90,4 +90,4 @@ returns c =
     let S = snap_of W A L in
     place_into S from c.args.l.modules A c.args.i c.requires.2 c.word-link.ensures c.word.ensures
     c.if-link-eq0.false c.if-link-eq1.false c.if-link-eq2.false c.word-2.ensures
-    ((c.entry_place-2.ensures S W).0 ∙ ap (λ (o : Option Scope). place_in (map (as_named S) o)) c.entry_named.ensures)
+    ((c.entry_place-2.ensures S W).0 ∙ ap (λ (o : Option Scope). place_in (option_map (as_named S) o)) c.entry_named.ensures)

@@ -1,5 +1,5 @@
 use mathlib.Core.Path.{sym, ap, ◌∙◌}
-use mathlib.Core.Option.{map}
+use Rattle.std.specs.Prelude.{option_map}
 use Rattle.snapshot.specs.Records.{scope_at, extern_at}
 use Rattle.snapshot.specs.Layouts.{snap_of}
 use Rattle.hir_def.specs.Entries.{entry_of}
@@ -8,20 +8,20 @@ use Rattle.any_path.specs.Plain.{record_read}
 use Rattle.any_path.proofs.Plains.{plain_scope, plain_extern, plain_prelude}
 use Rattle.any_path.proofs.plain.read_plain.Goals as goal
 
-pub returns-in-At : goal.returns-in-At
+pub returns-in-Some : goal.returns-in-Some
 unfolding record_read
-returns-in-At c =
+returns-in-Some c =
     let W = c.args.words.now in
     let from = c.args.from.0 in
     let A = c.args.area.now in
     let L = c.args.l in
     let S = snap_of W A L in
     plain_scope S from c.args.ns c.args.name.0 _ (sym c.scopes_named-near.ensures ∙ ap (entry_of scope_at W)
-    c.in-At.is)
+    c.in-Some.is)
 
-pub returns-in-At-outer : goal.returns-in-At-outer
+pub returns-in-Some-outer : goal.returns-in-Some-outer
 unfolding record_read
-returns-in-At-outer c =
+returns-in-Some-outer c =
     let W = c.args.words.now in
     let from = c.args.from.0 in
     let A = c.args.area.now in
@@ -29,7 +29,7 @@ returns-in-At-outer c =
     let S = snap_of W A L in
     plain_extern S from c.args.ns c.args.name.0 (sym c.scopes_named-near.ensures ∙ ap (entry_of scope_at W)
     c.in_default.is) _
-    (sym c.externs_named-outer.ensures ∙ ap (entry_of extern_at W) c.in-At-outer.is)
+    (sym c.externs_named-outer.ensures ∙ ap (entry_of extern_at W) c.in-Some-outer.is)
 
 pub returns-in_default-prelude_named : goal.returns-in_default-prelude_named
 unfolding record_read
@@ -39,7 +39,7 @@ returns-in_default-prelude_named c =
     let A = c.args.area.now in
     let L = c.args.l in
     let S = snap_of W A L in
-    ap (map (as_named S)) (sym (ap (entry_of scope_at W) c.in_default-prelude_named.is) ∙ c.prelude_named.ensures)
+    ap (option_map (as_named S)) (sym (ap (entry_of scope_at W) c.in_default-prelude_named.is) ∙ c.prelude_named.ensures)
     ∙ plain_prelude S from c.args.ns c.args.name.0 (sym c.scopes_named-near.ensures ∙ ap (entry_of scope_at W) c.in_default.is)
     (sym c.externs_named-outer.ensures ∙ ap (entry_of extern_at W) c.in_default-outer.is)
 
@@ -51,6 +51,6 @@ returns c =
     let A = c.args.area.now in
     let L = c.args.l in
     let S = snap_of W A L in
-    ap (map (as_named S)) (sym (ap (entry_of scope_at W) c.in-At-prelude_named.is) ∙ c.prelude_named.ensures)
+    ap (option_map (as_named S)) (sym (ap (entry_of scope_at W) c.in-Some-prelude_named.is) ∙ c.prelude_named.ensures)
     ∙ plain_prelude S from c.args.ns c.args.name.0 (sym c.scopes_named-near.ensures ∙ ap (entry_of scope_at W) c.in_default.is)
     (sym c.externs_named-outer.ensures ∙ ap (entry_of extern_at W) c.in_default-outer.is)

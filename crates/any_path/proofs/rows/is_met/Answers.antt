@@ -17,9 +17,3 @@ loop-i-preserved c =
 pub returns : goal.returns
 returns c =
     met_none c.args.area.now _ _ _ c.loop-i.invariant.1 (omega (arith, c.loop-i-test.false))
-
-pub word-requires : goal.word-requires
-word-requires c = tt
-
-pub loop-i-smaller : goal.loop-i-smaller
-loop-i-smaller c = omega arith

@@ -8,6 +8,3 @@ use Rattle.any_path.proofs.rows.is_met.Given as goal
 
 abbrev pub invariant-loop-i : goal.invariant-loop-i
 invariant-loop-i l = (l.i ≤ l.n) × (is_met (run_at l.area l.n) l.m ≡ any (is_row l.area l.n l.m) (rows (way_at l.area) l.i (l.n - l.i)))
-
-abbrev pub decreases-loop-i : goal.decreases-loop-i
-decreases-loop-i l = l.n - l.i

@@ -1,5 +1,4 @@
 use native.Mathlib.Omega.{arith}
-use Rattle.any_path.proofs.Written.{run_few}
 use Rattle.any_path.proofs.Taken.{stays_reads}
 use Rattle.any_path.proofs.Runs.{old_meant, spreading_start, spreading_next, spreading_done}
 use Rattle.any_path.proofs.run.expand_all.Goals as goal
@@ -18,19 +17,6 @@ expand-count-requires c =
       old_meant c.args.words.now c.args.area.now c.args.l c.requires.0 c.args.from.0 c.args.n c.requires.3
           c.loop-i-test.true g,
     )
-
-pub overflow_add-i : goal.overflow_add-i
-overflow_add-i c =
-    let few = run_few _ _ _ c.loop-i.invariant.grown.run in
-    record {
-      fits =
-          omega (arith, few, c.loop-i.invariant.grown.more, c.requires.0.tables.limited.modules, c.loop-i-test.true);
-    }
-
-pub loop-i-smaller : goal.loop-i-smaller
-loop-i-smaller c =
-    let few = run_few _ _ _ c.loop-i.invariant.grown.run in
-    omega (arith, few, c.loop-i-test.true)
 
 pub loop-i-preserved : goal.loop-i-preserved
 loop-i-preserved c =

@@ -8,6 +8,3 @@ use Rattle.any_path.proofs.singles.offer_absolutes.Given as goal
 abbrev pub invariant-loop-k : goal.invariant-loop-k
 invariant-loop-k l =
     (from : ℕ) → l.c.0 ≡ crate_of (snap_of l.words l.initial.area l.l) from → Naming l.words l.initial.area l.l from l.n l.area l.count l.k
-
-abbrev pub decreases-loop-k : goal.decreases-loop-k
-decreases-loop-k l = l.externs - l.k

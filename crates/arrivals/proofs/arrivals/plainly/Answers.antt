@@ -6,11 +6,11 @@ use Rattle.arrivals.specs.Steps.{LeadsTo}
 use Rattle.arrivals.proofs.Means.{ready_few, ready_meant, leads_plain, leads_past}
 use Rattle.arrivals.proofs.arrivals.plainly.Goals as goal
 
-pub returns-in-At : goal.returns-in-At
+pub returns-in-Some : goal.returns-in-Some
 unfolding LeadsTo
-returns-in-At c =
+returns-in-Some c =
     leads_plain c.args.words.now c.args.area.now c.args.l c.requires.0 _ _ c.requires.1 c.requires.2 _ _ refl
-    (sym (ap (entry_of scope_at c.args.words.now) c.in-At.is) ∙ c.plain_entry.ensures) c.scope_name-name.ensures
+    (sym (ap (entry_of scope_at c.args.words.now) c.in-Some.is) ∙ c.plain_entry.ensures) c.scope_name-name.ensures
 
 pub by_rows-requires : goal.by_rows-requires
 by_rows-requires c = (

@@ -1,6 +1,6 @@
 use mathlib.Core.Path.{sym, ap, ◌∙◌}
 use Rattle.snapshot.specs.Layouts.{snap_of}
-use Rattle.snapshot.specs.Records.{prelude_at}
+use Rattle.snapshot.specs.Records.{scope_at, prelude_at}
 use Rattle.hir_def.specs.Entries.{entry_of}
 use Rattle.hir_def.specs.Items.{defined_item}
 use Rattle.hir_def.proofs.Fits.{few_words}
@@ -11,15 +11,16 @@ pub prelude_of-requires : goal.prelude_of-requires
 prelude_of-requires c =
     few_words c.args.words.now c.args.area.now c.args.l c.requires.0
 
-pub returns-in_default : goal.returns-in_default
-returns-in_default c =
-    prelude_none (snap_of c.args.words.now c.args.area.now c.args.l) c.args.from.0
+pub returns-in_err-p : goal.returns-in_err-p
+returns-in_err-p c =
+    (ap (entry_of scope_at c.args.words.now) c.from_residual.ensures)
+    ∙ prelude_none (snap_of c.args.words.now c.args.area.now c.args.l) c.args.from.0
     (defined_item c.args.ns.0 c.args.d.0) c.map.ensures
-    (sym (c.prelude_of.ensures c.args.area.now) ∙ ap (entry_of prelude_at c.args.words.now) c.in_default.is)
+    (sym (c.prelude_of.ensures c.args.area.now) ∙ ap (entry_of prelude_at c.args.words.now) c.in_err-p.was)
 
 pub returns : goal.returns
 returns c =
     prelude_some (snap_of c.args.words.now c.args.area.now c.args.l) c.args.from.0
     (defined_item c.args.ns.0 c.args.d.0) c.map.ensures
-    (sym (c.prelude_of.ensures c.args.area.now) ∙ ap (entry_of prelude_at c.args.words.now) c.in-At.is)
+    (sym (c.prelude_of.ensures c.args.area.now) ∙ ap (entry_of prelude_at c.args.words.now) c.in_ok-p.was)
     c.prelude_target.ensures c.plain_in.ensures

@@ -9,13 +9,13 @@ use Rattle.arrivals.proofs.rows.by_rows.Goals as goal
 pub loop-i-init : goal.loop-i-init
 loop-i-init c = found_start c.args.words.now c.args.area.now c.args.l c.requires.0 _ _ _
 
-pub returns-in-At : goal.returns-in-At
+pub returns-in-Some : goal.returns-in-Some
 unfolding LeadsTo
-returns-in-At c =
+returns-in-Some c =
     found_hit c.args.words.now c.args.area.now c.args.l c.requires.0 c.args.from.0 c.args.n c.args.item _
     c.loop-i.invariant
     c.loop-i-test.true c.requires.3 c.word.ensures
-    (sym (ap (entry_of scope_at c.args.words.now) c.in-At.is) ∙ c.entry_for.ensures) refl c.scope_name-name.ensures
+    (sym (ap (entry_of scope_at c.args.words.now) c.in-Some.is) ∙ c.entry_for.ensures) refl c.scope_name-name.ensures
 
 pub loop-i-preserved : goal.loop-i-preserved
 loop-i-preserved c =
@@ -30,6 +30,3 @@ returns c =
     found_none c.args.words.now c.args.area.now c.args.l c.requires.0 c.args.from.0 c.args.n c.args.item _
     c.loop-i.invariant
     (omega (arith, c.loop-i-test.false))
-
-pub word-requires : goal.word-requires
-word-requires c = tt

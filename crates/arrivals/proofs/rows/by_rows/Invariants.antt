@@ -11,6 +11,3 @@ abbrev pub invariant-loop-i : goal.invariant-loop-i
 invariant-loop-i l =
     first_to (snap_of l.words l.area l.l) l.from.0 l.item (onward (snap_of l.words l.area l.l) l.from.0 (ns_of l.item) (run_at l.area l.n))
     ≡ first_to (snap_of l.words l.area l.l) l.from.0 l.item (onward (snap_of l.words l.area l.l) l.from.0 (ns_of l.item) (rows (way_at l.area) l.i (l.n - l.i)))
-
-abbrev pub decreases-loop-i : goal.decreases-loop-i
-decreases-loop-i l = l.n - l.i

@@ -21,15 +21,3 @@ pub returns : goal.returns
 unfolding LeadsTo
 returns c =
     λ z from modules run. way_none c.args.area.now _ _ _ c.loop-i.invariant (omega (arith, c.loop-i-test.false))
-
-pub word-requires : goal.word-requires
-word-requires c = tt
-
-pub word-requires-then-word-m : goal.word-requires-then-word-m
-word-requires-then-word-m c = tt
-
-pub word-requires-then-word-m-2 : goal.word-requires-then-word-m-2
-word-requires-then-word-m-2 c = tt
-
-pub word-requires-then-word-m-3 : goal.word-requires-then-word-m-3
-word-requires-then-word-m-3 c = tt

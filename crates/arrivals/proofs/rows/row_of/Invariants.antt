@@ -7,6 +7,3 @@ use Rattle.arrivals.proofs.rows.row_of.Given as goal
 
 abbrev pub invariant-loop-i : goal.invariant-loop-i
 invariant-loop-i l = way_of l.m.0 (run_at l.area l.n) ≡ way_of l.m.0 (rows (way_at l.area) l.i (l.n - l.i))
-
-abbrev pub decreases-loop-i : goal.decreases-loop-i
-decreases-loop-i l = l.n - l.i

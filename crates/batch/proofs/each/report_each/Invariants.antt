@@ -9,6 +9,3 @@ use Rattle.batch.proofs.each.report_each.Given as goal
 abbrev pub invariant-loop-i : goal.invariant-loop-i
 invariant-loop-i l =
     (l.i ≤ l.n) × Judged l.words l.area l.c × (length l.area ≡ area_limit) × (length l.reports ≡ length l.initial.reports) × Reported l.words l.questions l.initial.reports l.i l.reports
-
-abbrev pub decreases-loop-i : goal.decreases-loop-i
-decreases-loop-i l = l.n - l.i

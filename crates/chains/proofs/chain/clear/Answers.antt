@@ -9,9 +9,6 @@ use Rattle.chains.proofs.chain.clear.Goals as goal
 pub loop-i-init : goal.loop-i-init
 loop-i-init c = (omega arith, refl, (λ k p q. absurd (omega arith)), omega arith, (λ k p. refl), λ k p. refl)
 
-pub bounds-area-i : goal.bounds-area-i
-bounds-area-i c = (let e = c.loop-i.invariant.1 in let h = c.loop-i-test.true in let p = c.requires in omega arith)
-
 pub loop-i-preserved : goal.loop-i-preserved
 loop-i-preserved c =
     let l = c.loop-i in

@@ -9,22 +9,6 @@ use Rattle.chains.proofs.keys.mix.Goals as goal
 pub loop-i-init : goal.loop-i-init
 loop-i-init c = (omega arith, omega arith, rows_whole (mixed _) _ _)
 
-pub overflow_add-a : goal.overflow_add-a
-overflow_add-a c =
-    let l = c.loop-i in
-    let b = c.type_inv.words (c.args.head + (1 + l.i)) in
-    let e = c.field.ensures in
-    let h = l.invariant.0 in
-    omega arith
-
-pub overflow_mul-a : goal.overflow_mul-a
-overflow_mul-a c =
-    let l = c.loop-i in
-    let b = c.type_inv.words (c.args.head + (1 + l.i)) in
-    let e = c.field.ensures in
-    let h = l.invariant.0 in
-    omega arith
-
 pub loop-i-preserved : goal.loop-i-preserved
 loop-i-preserved c =
     let l = c.loop-i in

@@ -8,6 +8,3 @@ use Rattle.chains.proofs.keys.mix.Given as goal
 abbrev pub invariant-loop-i : goal.invariant-loop-i
 invariant-loop-i l = (l.a < 4294967296) × (l.i ≤ l.n)
     × (mixed l.bytes (rows (λ j. get_or l.words (l.head + 1 + j) 0) 0 l.n) ≡ mixed l.a (rows (λ j. get_or l.words (l.head + 1 + j) 0) l.i (l.n - l.i)))
-
-abbrev pub decreases-loop-i : goal.decreases-loop-i
-decreases-loop-i l = l.n - l.i

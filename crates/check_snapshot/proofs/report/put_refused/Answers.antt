@@ -1,8 +1,15 @@
-use Rattle.check_snapshot.proofs.Laws.{text_asked, text_refused}
+use Rattle.std.proofs.Common.{sym, ◌∙◌}
+use Rattle.check_snapshot.proofs.Laws.{form_same, text_asked, text_other, text_unasked}
 use Rattle.check_snapshot.proofs.report.put_refused.Goals as goal
+use Rattle.check_snapshot.proofs.report.put_refused.Goals.{else-eq-via-then-eq+else-asks_at, else-eq-via-else-eq}
 
-pub returns-then-n-asked : goal.returns-then-n-asked
-returns-then-n-asked c = text_asked _ _ _ _ c.asks_at-asked.ensures c.if-n-asked.true c.put_asked.ensures
+pub returns-then-asks_at : goal.returns-then-asks_at
+returns-then-asks_at c =
+    text_asked _ _ _ (sym (c.eq.ensures ∙ form_same _) ∙ c.if-eq.true) (sym c.asks_at.ensures ∙ c.if-asks_at.true) c.put_asked.ensures
 
 pub returns : goal.returns
-returns c = text_refused _ _ _ _ c.asks_at-asked.ensures c.if-n-asked.false c.put_refusal.ensures
+returns c =
+    elim c.else-eq.branch [
+      | else-eq-via-then-eq+else-asks_at w ↦ text_unasked _ _ _ (sym w.asks_at.ensures ∙ w.if-asks_at.false) c.put_refusal.ensures
+      | else-eq-via-else-eq w ↦ text_other _ _ _ (sym (c.eq.ensures ∙ form_same _) ∙ w.if-eq.false) c.put_refusal.ensures
+    ]

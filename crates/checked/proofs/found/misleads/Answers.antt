@@ -5,6 +5,8 @@ use mathlib.Core.Path.{◌≡◌}
 use native.Mathlib.Omega.{arith}
 use lib.ListN.{length}
 use Rattle.snapshot.specs.Layouts.{snap_of}
+use Rattle.snapshot.specs.declared.ids.DefinitionKind.TheVariants.{Builtin}
+use Rattle.hir_def.proofs.KindTests.{kind_is}
 use Rattle.checked.proofs.Reading.{not_read, is_read}
 use Rattle.checked.proofs.found.misleads.Goals as goal
 
@@ -12,7 +14,7 @@ pub returns-then-not-read : goal.returns-then-not-read
 returns-then-not-read c =
     let s = c.args in
     let A = s.area.now in
-    not_read (snap_of s.words.now A s.l) s.q s.c (c.kind_of.ensures A) (ap not c.if-not-read.true)
+    not_read (snap_of s.words.now A s.l) s.q s.c (kind_is Builtin _ c.eq.ensures (c.kind_of.ensures A)) (ap not c.if-not-read.true)
 
 pub slice_bounds-reads_back-end : goal.slice_bounds-reads_back-end
 slice_bounds-reads_back-end c =
@@ -27,5 +29,5 @@ pub returns : goal.returns
 returns c =
     let s = c.args in
     let A = s.area.now in
-    is_read (snap_of s.words.now A s.l) s.q s.c (c.kind_of.ensures A)
+    is_read (snap_of s.words.now A s.l) s.q s.c (kind_is Builtin _ c.eq.ensures (c.kind_of.ensures A))
     (ap not c.if-not-read.false) (c.item_of-item.ensures A) c.reads_back.ensures

@@ -1,10 +1,6 @@
-use mathlib.Core.Path.{refl}
 use native.Mathlib.Omega.{arith}
 use Rattle.exports.proofs.Texts.{copy_again, copy_long, copy_end}
 use Rattle.exports.proofs.text.copy_text.Goals as goal
-
-pub loop-i-init : goal.loop-i-init
-loop-i-init c = (omega arith, refl)
 
 pub bounds-out-i : goal.bounds-out-i
 bounds-out-i c =
@@ -29,9 +25,3 @@ returns c =
     let a = c.args in
     let p = c.requires in
     copy_end a.text.now a.out.now l.out a.n l.i p.0 p.1 l.invariant.1 l.invariant.0 (omega arith)
-
-pub overflow_add-i : goal.overflow_add-i
-overflow_add-i c = omega arith
-
-pub loop-i-smaller : goal.loop-i-smaller
-loop-i-smaller c = omega arith

@@ -1,26 +1,27 @@
-use mathlib.Core.Path.{sym, ap, ◌∙◌}
+use mathlib.Core.Path.{ap, ◌∙◌}
 use Prim.Native.Nat.{◌+◌}
 use Rattle.snapshot.specs.Ids.{plus_one}
+use Rattle.snapshot.specs.declared.ids.DefinitionKind.TheVariants.{Variant, Builtin}
+use Rattle.hir_def.proofs.KindTests.{kind_yes, kind_no}
 use Rattle.hir_def.proofs.Lookups.{home_builtin, home_variant, home_other}
 use Rattle.hir_def.proofs.items.home_at.Goals as goal
 
-pub returns-then-kind-eq-BUILTIN : goal.returns-then-kind-eq-BUILTIN
+pub returns-then-eq : goal.returns-then-eq
 unfolding plus_one
-returns-then-kind-eq-BUILTIN c = λ A. home_builtin _ _ _ (sym c.definition_kind-kind.ensures ∙ c.if-kind-eq-BUILTIN.true)
+returns-then-eq c = λ A. home_builtin _ _ _ (kind_yes Builtin _ c.eq.ensures c.definition_kind-kind.ensures c.if-eq.true)
 
-pub returns-then-kind-eq-VARIANT : goal.returns-then-kind-eq-VARIANT
+pub returns-then-eq-2 : goal.returns-then-eq-2
 unfolding plus_one
-returns-then-kind-eq-VARIANT c =
+returns-then-eq-2 c =
     λ A.
     let k = c.definition_kind-kind.ensures in
-    let e = c.definition_first-first.ensures in
-    home_variant _ _ _ (λ z. c.if-kind-eq-BUILTIN.false (k ∙ z)) (sym k ∙ c.if-kind-eq-VARIANT.true)
-    (c.definition_first.ensures ∙ (c.definition_head-parent.ensures A).first) e
+    home_variant _ _ _ (kind_no Builtin _ c.eq.ensures k c.if-eq.false) (kind_yes Variant _ c.eq-2.ensures k c.if-eq-2.true)
+    (c.definition_first.ensures ∙ (c.definition_head-parent.ensures A).first) c.definition_first-first.ensures
 
 pub returns : goal.returns
 unfolding plus_one
 returns c =
     λ A.
     let k = c.definition_kind-kind.ensures in
-    let e = c.definition_first-first.ensures in
-    ap (λ x. x + 1) e ∙ home_other _ _ _ (λ z. c.if-kind-eq-BUILTIN.false (k ∙ z)) (λ z. c.if-kind-eq-VARIANT.false (k ∙ z))
+    ap (λ x. x + 1) c.definition_first-first.ensures
+    ∙ home_other _ _ _ (kind_no Builtin _ c.eq.ensures k c.if-eq.false) (kind_no Variant _ c.eq-2.ensures k c.if-eq-2.false)

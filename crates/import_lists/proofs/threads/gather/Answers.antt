@@ -18,30 +18,3 @@ loop-k-preserved c =
 
 pub returns : goal.returns
 returns c = gathering_done _ c.loop-k.invariant c.scope_base-base.ensures refl c.loop-k-test.false
-
-pub overflow_mul-at : goal.overflow_mul-at
-overflow_mul-at c = omega arith
-
-pub overflow_add-at : goal.overflow_add-at
-overflow_add-at c = omega arith
-
-pub overflow_cast-area : goal.overflow_cast-area
-overflow_cast-area c = omega arith
-
-pub overflow_add-area : goal.overflow_add-area
-overflow_add-area c = omega arith
-
-pub offset_bounds-area-n : goal.offset_bounds-area-n
-offset_bounds-area-n c = omega arith
-
-pub bounds-area-n : goal.bounds-area-n
-bounds-area-n c = omega arith
-
-pub overflow_add-n : goal.overflow_add-n
-overflow_add-n c = omega arith
-
-pub overflow_add-k : goal.overflow_add-k
-overflow_add-k c = omega arith
-
-pub loop-k-smaller : goal.loop-k-smaller
-loop-k-smaller c = omega arith

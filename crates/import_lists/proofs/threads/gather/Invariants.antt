@@ -4,6 +4,3 @@ use Rattle.import_lists.proofs.threads.gather.Given as goal
 
 abbrev pub invariant-loop-k : goal.invariant-loop-k
 invariant-loop-k l = Gathering l.words l.initial.area l.base l.count l.area l.k l.n
-
-abbrev pub decreases-loop-k : goal.decreases-loop-k
-decreases-loop-k l = l.count - l.k

@@ -26,18 +26,3 @@ pub returns : goal.returns
 returns c =
     let e : c.loop-j.j ≡ c.args.n = omega arith in
     rw e at c.loop-j.invariant.1
-
-pub overflow_sub-n : goal.overflow_sub-n
-overflow_sub-n c = omega arith
-
-pub overflow_sub-n-in-loop-j : goal.overflow_sub-n-in-loop-j
-overflow_sub-n-in-loop-j c = omega arith
-
-pub overflow_add-n : goal.overflow_add-n
-overflow_add-n c = omega arith
-
-pub overflow_add-j : goal.overflow_add-j
-overflow_add-j c = omega arith
-
-pub loop-j-smaller : goal.loop-j-smaller
-loop-j-smaller c = omega arith

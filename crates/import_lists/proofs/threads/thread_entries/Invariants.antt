@@ -4,6 +4,3 @@ use Rattle.import_lists.proofs.threads.thread_entries.Given as goal
 
 abbrev pub invariant-loop-j : goal.invariant-loop-j
 invariant-loop-j l = (l.j ≤ l.n) × Threads 512 6208 6720 (λ i. (entry_of l.words l.initial.area l.n i).owner) l.j l.initial.area l.area
-
-abbrev pub decreases-loop-j : goal.decreases-loop-j
-decreases-loop-j l = l.n - l.j

@@ -27,21 +27,3 @@ pub returns : goal.returns
 returns c =
     let e : c.loop-j.j ≡ c.args.l.members = omega arith in
     threads_key _ (rw e at c.loop-j.invariant.1) (λ i h. rw c.member_base-base.ensures)
-
-pub overflow_sub-count : goal.overflow_sub-count
-overflow_sub-count c = omega arith
-
-pub overflow_sub-count-in-loop-j : goal.overflow_sub-count-in-loop-j
-overflow_sub-count-in-loop-j c = omega arith
-
-pub overflow_mul-count : goal.overflow_mul-count
-overflow_mul-count c = omega arith
-
-pub overflow_add-base : goal.overflow_add-base
-overflow_add-base c = omega arith
-
-pub overflow_add-j : goal.overflow_add-j
-overflow_add-j c = omega arith
-
-pub loop-j-smaller : goal.loop-j-smaller
-loop-j-smaller c = omega arith

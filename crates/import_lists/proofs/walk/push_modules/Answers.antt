@@ -26,18 +26,3 @@ loop-at-preserved c =
 pub returns : goal.returns
 returns c =
     pushing_done c.requires.0 c.loop-at.invariant c.requires.1 c.word-at.ensures (omega arith)
-
-pub overflow_add-m : goal.overflow_add-m
-overflow_add-m c = omega arith
-
-pub overflow_sub-n : goal.overflow_sub-n
-overflow_sub-n c = omega arith
-
-pub overflow_add-n : goal.overflow_add-n
-overflow_add-n c = omega arith
-
-pub overflow_sub-at : goal.overflow_sub-at
-overflow_sub-at c = omega arith
-
-pub overflow_add-at : goal.overflow_add-at
-overflow_add-at c = omega arith

@@ -90,6 +90,3 @@ returns c =
     c.clear.ensures c.args.c.0
     c.own.ensures.0 c.root-first.ensures)
     c.loop-top.invariant (omega arith)
-
-pub overflow_sub-top : goal.overflow_sub-top
-overflow_sub-top c = omega arith

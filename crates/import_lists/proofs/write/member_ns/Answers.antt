@@ -1,11 +1,18 @@
-use borrow.Author.Tests.{eq-eqb, ne_eqb}
+use Prim.Native.Nat.{ℕ}
+use mathlib.Core.Path.{◌≡◌, sym, ◌∙◌}
+use lib.Dec.{eqb}
+use Rattle.std.proofs.Common.{rules}
 use Rattle.import_rules.specs.Collect.{member_ns}
 use Rattle.import_lists.proofs.write.member_ns.Goals as goal
 
-pub returns-then-kind-eq0 : goal.returns-then-kind-eq0
+pub returns-then-eq : goal.returns-then-eq
 unfolding member_ns
-returns-then-kind-eq0 c = rw (member_ns, eq-eqb c.args.kind 0 c.if-kind-eq0.true)
+returns-then-eq c k e =
+    let v : c.eq.result ≡ eqb k 0 = search rules in
+    rw (member_ns, sym v ∙ c.if-eq.true)
 
 pub returns : goal.returns
 unfolding member_ns
-returns c = rw (member_ns, ne_eqb c.args.kind 0 c.if-kind-eq0.false)
+returns c k e =
+    let v : c.eq.result ≡ eqb k 0 = search rules in
+    rw (member_ns, sym v ∙ c.if-eq.false)

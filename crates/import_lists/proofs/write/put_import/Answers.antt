@@ -4,9 +4,6 @@ use Rattle.import_lists.proofs.Writing.{wrote_one, counted_one}
 use Rattle.import_lists.proofs.write.put_import.Goals as goal
 use Rattle.import_lists.proofs.write.put_import.Goals.{then-write, else-write}
 
-pub bounds-target-at : goal.bounds-target-at
-bounds-target-at c = let h = c.requires.1.room c.if-write.true in omega arith
-
 pub bounds-target-at-then-write : goal.bounds-target-at-then-write
 bounds-target-at-then-write c = let h = c.requires.1.room c.if-write.true in simp length-set (omega arith)
 

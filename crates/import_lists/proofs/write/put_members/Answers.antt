@@ -38,21 +38,3 @@ returns c =
     let q = kept_first c.requires.listed c.scope_definition-d.ensures c.word-k.ensures in
     wrote_as (going_done c.loop-k.invariant.1 (kept_end c.args.words.now c.args.l c.args.c.0
     (scope_at c.args.words.now c.args.entry) c.loop-k.k c.loop-k-test.false)) q.0
-
-pub overflow_add-d : goal.overflow_add-d
-overflow_add-d c = omega arith
-
-pub overflow_sub-member : goal.overflow_sub-member
-overflow_sub-member c = omega arith
-
-pub overflow_mul-member : goal.overflow_mul-member
-overflow_mul-member c = omega arith
-
-pub overflow_add-member : goal.overflow_add-member
-overflow_add-member c = omega arith
-
-pub overflow_sub-k : goal.overflow_sub-k
-overflow_sub-k c = omega arith
-
-pub overflow_add-k : goal.overflow_add-k
-overflow_add-k c = omega arith

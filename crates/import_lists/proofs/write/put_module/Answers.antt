@@ -34,18 +34,3 @@ returns c =
     let q = imports_first c.requires.threaded.0 c.args.c.0 c.requires.threaded.2 c.word-k.ensures in
     let z = imports_end c.args.words.now c.args.area.now c.args.l c.args.n c.args.c.0 c.loop-k.k c.loop-k-test.false in
     wrote_as (going_done c.loop-k.invariant.1 z) q.0
-
-pub overflow_add-m : goal.overflow_add-m
-overflow_add-m c = omega arith
-
-pub overflow_sub-n : goal.overflow_sub-n
-overflow_sub-n c = omega arith
-
-pub overflow_add-n : goal.overflow_add-n
-overflow_add-n c = omega arith
-
-pub overflow_sub-k : goal.overflow_sub-k
-overflow_sub-k c = omega arith
-
-pub overflow_add-k : goal.overflow_add-k
-overflow_add-k c = omega arith

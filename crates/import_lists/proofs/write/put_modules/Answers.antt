@@ -35,12 +35,3 @@ returns c =
     let a = c.args in
     let z = over_end a.words.now a.area.now a.l a.c.0 a.order c.loop-i.i c.loop-i-test.false in
     wrote_as (going_done c.loop-i.invariant.1 z) (sym (over_first a.words.now a.area.now a.l a.c.0 a.order))
-
-pub overflow_add-base : goal.overflow_add-base
-overflow_add-base c = omega arith
-
-pub overflow_add-i : goal.overflow_add-i
-overflow_add-i c = omega arith
-
-pub loop-i-smaller : goal.loop-i-smaller
-loop-i-smaller c = omega arith

@@ -5,6 +5,3 @@ use Rattle.import_lists.proofs.write.put_modules.Given as goal
 abbrev pub invariant-loop-i : goal.invariant-loop-i
 invariant-loop-i l =
     (l.i ≤ l.order) × Going l.write (imports_from l.words l.area l.l l.c.0 l.order l.initial.i) l.initial.t l.initial.target (imports_from l.words l.area l.l l.c.0 l.order l.i) l.t l.target
-
-abbrev pub decreases-loop-i : goal.decreases-loop-i
-decreases-loop-i l = l.order - l.i

@@ -1,14 +1,9 @@
 use native.Mathlib.Omega.{arith}
-use borrow.Author.Rules.{rules}
 use Rattle.import_order.proofs.Merges.{runs_ready, sorts_few, sorts_halves}
-use Prim.Native.Nat.{ℕ, ◌<◌}
 use Rattle.import_order.proofs.sort.+sort.Goals as goal
 
 pub returns-then-n-lt2 : goal.returns-then-n-lt2
 returns-then-n-lt2 t c = sorts_few _ _ _ _ _ c.if-n-lt2.true
-
-pub sort-requires : goal.sort-requires
-sort-requires t c = (omega arith, (c.requires.0, omega arith, omega arith))
 
 pub sort-requires-2 : goal.sort-requires-2
 sort-requires-2 t c = (

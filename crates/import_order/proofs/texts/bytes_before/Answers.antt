@@ -1,10 +1,8 @@
-use mathlib.Core.Path.{refl}
+use mathlib.Core.Path.{◌≡◌, ap, ◌∙◌}
 use native.Mathlib.Omega.{arith}
+use lib.Dec.{ltb}
 use Rattle.import_order.proofs.Orders.{text_longer, text_ended, text_less, text_greater, text_equal}
 use Rattle.import_order.proofs.texts.bytes_before.Goals as goal
-
-pub loop-i-init : goal.loop-i-init
-loop-i-init c = (omega arith, refl)
 
 pub returns-then-m-i : goal.returns-then-m-i
 returns-then-m-i c =
@@ -25,12 +23,6 @@ returns-then-y-x c =
     c.loop-i-test.true c.if-m-i.false c.text_byte-x.ensures c.text_byte-y.ensures
     c.if-y-x.true
 
-pub overflow_add-i : goal.overflow_add-i
-overflow_add-i c = omega (arith, c.loop-i-test.true)
-
-pub loop-i-smaller : goal.loop-i-smaller
-loop-i-smaller c = omega (arith, c.loop-i-test.true)
-
 pub loop-i-preserved : goal.loop-i-preserved
 loop-i-preserved c =
     let w = c.loop-i in (
@@ -43,10 +35,5 @@ loop-i-preserved c =
 pub returns : goal.returns
 returns c =
     let w = c.loop-i in
-    text_ended c.args.a.now c.args.b.now c.args.n c.args.m w.i c.requires.0 c.requires.1 w.invariant.1 c.loop-i-test.false
-
-pub text_byte-x-requires : goal.text_byte-x-requires
-text_byte-x-requires c = tt
-
-pub text_byte-y-requires : goal.text_byte-y-requires
-text_byte-y-requires c = tt
+    let e : c.args.n ≡ w.i = omega arith in
+    ap (λ k. ltb k c.args.m) e ∙ text_ended c.args.a.now c.args.b.now c.args.n c.args.m w.i c.requires.0 c.requires.1 w.invariant.1 c.loop-i-test.false

@@ -7,6 +7,3 @@ use Rattle.import_order.proofs.texts.bytes_before.Given as goal
 
 abbrev pub invariant-loop-i : goal.invariant-loop-i
 invariant-loop-i l = (l.i ≤ l.n) × (text_before (front l.a l.n) (front l.b l.m) ≡ text_before (drop l.i (front l.a l.n)) (drop l.i (front l.b l.m)))
-
-abbrev pub decreases-loop-i : goal.decreases-loop-i
-decreases-loop-i l = l.n - l.i

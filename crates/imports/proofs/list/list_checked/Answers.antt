@@ -1,23 +1,23 @@
-use mathlib.Core.Path.{◌∙◌}
+use mathlib.Core.Path.{refl, ◌∙◌}
+use Rattle.std.proofs.lemmas.Result.{err_from_is_err_and}
 use Rattle.checked.proofs.Laws.{refused_verdict, accepted_reads}
 use Rattle.imports.proofs.Laws.{checked_not, checked_done}
 use Rattle.imports.proofs.list.list_checked.Goals as goal
 
+pub returns-in_err-l : goal.returns-in_err-l
+returns-in_err-l c =
+    let p = err_from_is_err_and c.from_residual.result c.from_residual.ensures.1 in
+    rw (p.1, p.2) (checked_not c.args.words.now c.args.target.now c.args.c.0
+    (refused_verdict c.args.words.now c.args.area.now _ _ c.requires c.in_err-l.ensures _ refl))
+
 pub list_accepted-requires : goal.list_accepted-requires
 list_accepted-requires c =
     record {
-      reads = accepted_reads c.args.words.now c.args.area.now c.check-k.new.area _ c.requires c.check-k.ensures _
-          c.in-Accepted.is;
-      size = c.area-1.given ∙ c.requires;
+      reads = accepted_reads c.args.words.now c.args.area.now c.check.new.area _ c.requires c.in_ok-l.ensures _ refl;
+      size = c.check.auto.area ∙ c.requires;
     }
 
-pub returns-in-Refused : goal.returns-in-Refused
-returns-in-Refused c =
-    checked_not c.args.words.now c.args.target.now c.args.c.0
-    (refused_verdict c.args.words.now c.args.area.now _ _ c.requires c.check-k.ensures _ _ c.in-Refused.is)
-
-pub returns-in-Accepted : goal.returns-in-Accepted
-returns-in-Accepted c =
+pub returns : goal.returns
+returns c =
     checked_done c.args.words.now c.args.target.now c.args.c.0
-    (accepted_reads c.args.words.now c.args.area.now c.check-k.new.area _ c.requires c.check-k.ensures _
-    c.in-Accepted.is) c.list_accepted.ensures
+    (accepted_reads c.args.words.now c.args.area.now c.check.new.area _ c.requires c.in_ok-l.ensures _ refl) c.list_accepted.ensures

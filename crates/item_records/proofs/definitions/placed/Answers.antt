@@ -12,6 +12,3 @@ kind_at-requires c = (
         (c.args.at + 1),
   ),
 )
-
-pub returns : goal.returns
-returns c = rw (c.kind_at.ensures, c.definition_kind.ensures, c.definition_first.ensures)

@@ -1,4 +1,7 @@
+use mathlib.Core.Path.{refl}
 use native.Mathlib.Omega.{arith}
+use Rattle.std.proofs.lemmas.Result.{err_from_is_err_and}
+use Rattle.snapshot.proofs.Laws.{refusal_some}
 use Rattle.records.proofs.Steps.{extern_no, extern_on}
 use Rattle.records.proofs.Linked.{extern_chain, extern_linked}
 use Rattle.item_records.proofs.externs.step.Goals as goal
@@ -9,22 +12,23 @@ repeated_with-old-requires c = let e = c.extern_base.ensures in
     let f = c.requires.fits in
     let q = c.requires.short in record { chained = extern_chain c.args.words.now c.args.area.now c.args.l c.requires.index e; key_value = (c.record_key-key.ensures, omega arith, omega arith, omega arith, omega arith); count_in_bounds = (omega arith, f, omega arith, omega arith) }
 
-pub returns-then-n-ne0 : goal.returns-then-n-ne0
-returns-then-n-ne0 c ms st =
-    extern_no c.args.words.now c.args.area.now c.args.at c.args.l ms st
-    c.judge-n.ensures
+pub returns-in_err-judge : goal.returns-in_err-judge
+returns-in_err-judge c ms st =
+    let p = err_from_is_err_and c.from_residual.result c.from_residual.ensures.1 in
+    rw (p.1, p.2) (extern_no c.args.words.now c.args.area.now c.args.at c.args.l ms st
+    c.in_err-judge.ensures
     c.defined.ensures
     c.extern_base.ensures
     c.repeated_with-old.ensures
-    c.if-n-ne0.true
+    (refusal_some _))
 
 pub returns : goal.returns
 returns c ms st =
     extern_on c.args.words.now c.args.area.now c.args.at c.args.l ms st
-    c.judge-n.ensures
+    c.in_ok-judge.ensures
     c.defined.ensures
     c.extern_base.ensures
     c.repeated_with-old.ensures
-    c.link.new.area c.if-n-ne0.false c.requires.fits
+    c.link.new.area refl c.requires.fits
     (extern_linked c.args.words.now c.args.area.now c.args.at c.args.l ms c.requires.short c.requires.room st
     c.requires.fits c.record_key-key.ensures c.link.ensures)

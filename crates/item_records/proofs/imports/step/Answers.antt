@@ -1,4 +1,7 @@
+use mathlib.Core.Path.{refl}
 use native.Mathlib.Omega.{arith}
+use Rattle.std.proofs.lemmas.Result.{err_from_is_err_and}
+use Rattle.snapshot.proofs.Laws.{refusal_some}
 use Rattle.records.proofs.Steps.{import_no, import_on}
 use Prim.Native.Nat.{◌+◌}
 use Rattle.item_records.proofs.imports.step.Goals as goal
@@ -13,22 +16,23 @@ ns_placed-placed-requires c = (
   ),
 )
 
-pub returns-then-n-ne0 : goal.returns-then-n-ne0
-returns-then-n-ne0 c ms st =
-    import_no c.args.words.now c.args.area.now c.args.at c.args.l ms st
-    c.judge-n.ensures
+pub returns-in_err-judge : goal.returns-in_err-judge
+returns-in_err-judge c ms st =
+    let p = err_from_is_err_and c.from_residual.result c.from_residual.ensures.1 in
+    rw (p.1, p.2) (import_no c.args.words.now c.args.area.now c.args.at c.args.l ms st
+    c.in_err-judge.ensures
     c.in_range.ensures
     c.defined.ensures
     c.import_ns.ensures c.import_definition.ensures
     c.ns_placed-placed.ensures
-    c.if-n-ne0.true
+    (refusal_some _))
 
 pub returns : goal.returns
 returns c ms st =
     import_on c.args.words.now c.args.area.now c.args.at c.args.l ms st
-    c.judge-n.ensures
+    c.in_ok-judge.ensures
     c.in_range.ensures
     c.defined.ensures
     c.import_ns.ensures c.import_definition.ensures
     c.ns_placed-placed.ensures
-    c.if-n-ne0.false c.requires.fits
+    refl c.requires.fits

@@ -25,13 +25,3 @@ overflow_add-head c =
       c.type_inv.words
           (c.args.at + 2),
     )
-
-pub returns : goal.returns
-returns c =
-    rw (
-      c.fits.ensures,
-      c.definition_base.ensures,
-      c.member_definition-definition.ensures,
-      c.kind_at-parent.ensures,
-      c.member_parent.ensures,
-    )

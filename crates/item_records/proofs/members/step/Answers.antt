@@ -1,4 +1,7 @@
+use mathlib.Core.Path.{refl}
 use native.Mathlib.Omega.{arith}
+use Rattle.std.proofs.lemmas.Result.{err_from_is_err_and}
+use Rattle.snapshot.proofs.Laws.{refusal_some}
 use Rattle.records.proofs.Steps.{member_no, member_on}
 use Rattle.item_records.proofs.members.step.Goals as goal
 
@@ -6,14 +9,15 @@ pub placed-requires : goal.placed-requires
 placed-requires c =
     omega (arith, c.requires.place, c.requires.fits, c.requires.short)
 
-pub returns-then-n-ne0 : goal.returns-then-n-ne0
-returns-then-n-ne0 c ms st =
-    member_no c.args.words.now c.args.area.now c.args.at c.args.l ms st
-    c.judge-n.ensures c.in_range.ensures c.defined.ensures c.placed.ensures
-    c.if-n-ne0.true
+pub returns-in_err-judge : goal.returns-in_err-judge
+returns-in_err-judge c ms st =
+    let p = err_from_is_err_and c.from_residual.result c.from_residual.ensures.1 in
+    rw (p.1, p.2) (member_no c.args.words.now c.args.area.now c.args.at c.args.l ms st
+    c.in_err-judge.ensures c.in_range.ensures c.defined.ensures c.placed.ensures
+    (refusal_some _))
 
 pub returns : goal.returns
 returns c ms st =
     member_on c.args.words.now c.args.area.now c.args.at c.args.l ms st
-    c.judge-n.ensures c.in_range.ensures c.defined.ensures c.placed.ensures
-    c.if-n-ne0.false c.requires.fits
+    c.in_ok-judge.ensures c.in_range.ensures c.defined.ensures c.placed.ensures
+    refl c.requires.fits

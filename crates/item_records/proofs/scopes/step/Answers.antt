@@ -1,5 +1,8 @@
+use mathlib.Core.Path.{refl}
 use Prim.Native.Nat.{◌+◌}
 use native.Mathlib.Omega.{arith}
+use Rattle.std.proofs.lemmas.Result.{err_from_is_err_and}
+use Rattle.snapshot.proofs.Laws.{refusal_some}
 use Rattle.records.proofs.Steps.{scope_no, scope_on}
 use Rattle.records.proofs.Linked.{scope_chain, scope_linked}
 use Rattle.item_records.proofs.scopes.step.Goals as goal
@@ -20,29 +23,30 @@ ns_placed-placed-requires c = (
   ),
 )
 
-pub returns-then-n-ne0 : goal.returns-then-n-ne0
-returns-then-n-ne0 c ms st =
-    scope_no c.args.words.now c.args.area.now c.args.at c.args.l ms st
-    c.judge-n.ensures
+pub returns-in_err-judge : goal.returns-in_err-judge
+returns-in_err-judge c ms st =
+    let p = err_from_is_err_and c.from_residual.result c.from_residual.ensures.1 in
+    rw (p.1, p.2) (scope_no c.args.words.now c.args.area.now c.args.at c.args.l ms st
+    c.in_err-judge.ensures
     c.in_range.ensures
     c.defined.ensures
     c.scope_base.ensures
     c.repeated_with-old.ensures
     c.scope_ns.ensures c.scope_definition.ensures
     c.ns_placed-placed.ensures
-    c.if-n-ne0.true
+    (refusal_some _))
 
 pub returns : goal.returns
 returns c ms st =
     scope_on c.args.words.now c.args.area.now c.args.at c.args.l ms st
-    c.judge-n.ensures
+    c.in_ok-judge.ensures
     c.in_range.ensures
     c.defined.ensures
     c.scope_base.ensures
     c.repeated_with-old.ensures
     c.scope_ns.ensures c.scope_definition.ensures
     c.ns_placed-placed.ensures
-    c.link.new.area c.if-n-ne0.false c.requires.fits
+    c.link.new.area refl c.requires.fits
     (scope_linked c.args.words.now c.args.area.now c.args.at c.args.l ms c.requires.short c.requires.room st
     c.requires.fits c.record_key-key.ensures
     c.link.ensures)

@@ -5,7 +5,7 @@ use Rattle.join.proofs.join.join.Goals as goal
 
 pub returns-then-area-lt-AREA : goal.returns-then-area-lt-AREA
 returns-then-area-lt-AREA c =
-    joins_small c.args.first.now c.args.second.now c.args.area.now c.args.target.now c.if-area-lt-AREA.true
+    rw c.told.ensures (joins_small c.args.first.now c.args.second.now c.args.area.now c.args.target.now c.if-area-lt-AREA.true)
 
 pub slice_bounds-join_within-end-2 : goal.slice_bounds-join_within-end-2
 slice_bounds-join_within-end-2 c = sym (length-take-le 16384 c.args.area.now
@@ -17,6 +17,6 @@ join_within-requires c = length-take-le 16384 c.args.area.now
 
 pub returns : goal.returns
 returns c =
-    joins_large c.args.first.now c.args.second.now c.args.area.now c.args.target.now _ _ _
+    rw c.told-2.ensures (joins_large c.args.first.now c.args.second.now c.args.area.now c.args.target.now _ _ _
     c.if-area-lt-AREA.false c.join_within.ensures.area_after
-    c.join_within.ensures.joins
+    c.join_within.ensures.joins)

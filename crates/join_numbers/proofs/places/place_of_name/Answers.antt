@@ -1,5 +1,5 @@
 use Prim.Native.Nat.{◌-◌}
-use mathlib.Core.Path.{refl}
+use mathlib.Core.Path.{◌≡◌, refl, ◌∙◌}
 use native.Mathlib.Omega.{arith}
 use lib.ListN.{length, take, drop, length-take, length-drop}
 use Rattle.join_numbers.proofs.Finding.{name_hit, name_miss, name_end, names_whole, part_first}
@@ -38,16 +38,5 @@ pub returns : goal.returns
 returns c =
     let l = c.loop-k in
     let g = c.args in
-    name_end g.first.now g.second.now g.area.now g.n.0 l.at l.k g.count _ l.invariant.2 (omega arith)
-
-pub overflow_add-at : goal.overflow_add-at
-overflow_add-at c = omega arith
-
-pub overflow_add-at-in-loop-k : goal.overflow_add-at-in-loop-k
-overflow_add-at-in-loop-k c = omega arith
-
-pub overflow_add-k : goal.overflow_add-k
-overflow_add-k c = omega arith
-
-pub loop-k-smaller : goal.loop-k-smaller
-loop-k-smaller c = omega arith
+    let e : g.count ≡ l.k = omega arith in
+    e ∙ name_end g.first.now g.second.now g.area.now g.n.0 l.at l.k g.count _ l.invariant.2 (omega arith)

@@ -12,6 +12,3 @@ invariant-loop-k l =
     (l.k ≤ l.count) × (l.at ≤ l.k * 268435456)
     × (place_of (same_name (name_at l.second (name_head l.area l.i))) 0 (names_from l.first 0 l.count) ≡ place_of (same_name (name_at l.second (name_head l.area l.i))) l.k
     (names_from l.first l.at (l.count - l.k)))
-
-abbrev pub decreases-loop-k : goal.decreases-loop-k
-decreases-loop-k l = l.count - l.k

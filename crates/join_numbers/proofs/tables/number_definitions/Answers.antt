@@ -1,4 +1,3 @@
-use native.Mathlib.Omega.{arith}
 use Rattle.join_numbers.proofs.Filling.{numbering_start}
 use Rattle.join_numbers.proofs.Turns.{definitions_room, definitions_ready, definitions_named, definitions_next, definitions_done}
 use Rattle.join_numbers.proofs.tables.number_definitions.Goals as goal
@@ -17,14 +16,6 @@ place_of_definition-place-requires c = let a = c.args in
       );
       holds = definitions_named a.first.now a.second.now a.area.now a.l1 a.l2 r l.area l.n l.fresh l.invariant c.requires.holds;
     }
-
-pub overflow_add-n : goal.overflow_add-n
-overflow_add-n c =
-    let l = c.loop-n in
-    let a = c.args in
-    let q = (definitions_room a.first.now a.second.now a.area.now a.l1 a.l2 c.requires.ready l.area l.n
-    l.fresh l.invariant c.loop-n-test.true).0 in
-    omega arith
 
 pub put_number-fresh-requires : goal.put_number-fresh-requires
 put_number-fresh-requires c =
@@ -48,9 +39,3 @@ returns c =
     let l = c.loop-n in
     definitions_done a.first.now a.second.now a.area.now a.l1 a.l2 c.requires.ready l.area l.n l.fresh
     l.invariant c.loop-n-test.false
-
-pub overflow_add-n-in-loop-n : goal.overflow_add-n-in-loop-n
-overflow_add-n-in-loop-n c = omega arith
-
-pub loop-n-smaller : goal.loop-n-smaller
-loop-n-smaller c = omega arith

@@ -10,6 +10,3 @@ abbrev pub invariant-loop-n : goal.invariant-loop-n
 invariant-loop-n l =
     Numbering (same_builtin (part_of l.first) (part_of l.second)) no_definition (part_of l.first).definitions (part_of l.second).definitions
     definition_table l.initial.area l.area l.n l.fresh
-
-abbrev pub decreases-loop-n : goal.decreases-loop-n
-decreases-loop-n l = l.count - l.n

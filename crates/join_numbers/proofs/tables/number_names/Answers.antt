@@ -14,14 +14,6 @@ place_of_name-place-requires c =
     l.invariant c.loop-n-test.true).0 in
     (c.requires.first.limited.names, omega arith)
 
-pub overflow_add-n : goal.overflow_add-n
-overflow_add-n c =
-    let l = c.loop-n in
-    let a = c.args in
-    let q = (names_room a.first.now a.second.now a.area.now a.l1 a.l2 c.requires l.area l.n l.fresh
-    l.invariant c.loop-n-test.true).0 in
-    omega arith
-
 pub put_number-fresh-requires : goal.put_number-fresh-requires
 put_number-fresh-requires c =
     let a = c.args in
@@ -43,9 +35,3 @@ returns c =
     let a = c.args in
     let l = c.loop-n in
     names_done a.first.now a.second.now a.area.now a.l1 a.l2 c.requires l.area l.n l.fresh l.invariant c.loop-n-test.false
-
-pub overflow_add-n-in-loop-n : goal.overflow_add-n-in-loop-n
-overflow_add-n-in-loop-n c = omega arith
-
-pub loop-n-smaller : goal.loop-n-smaller
-loop-n-smaller c = omega arith

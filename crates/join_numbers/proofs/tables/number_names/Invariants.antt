@@ -8,6 +8,3 @@ use Rattle.join_numbers.proofs.tables.number_names.Given as goal
 abbrev pub invariant-loop-n : goal.invariant-loop-n
 invariant-loop-n l = Numbering same_name no_name (part_of l.first).names (part_of l.second).names
     name_table l.initial.area l.area l.n l.fresh
-
-abbrev pub decreases-loop-n : goal.decreases-loop-n
-decreases-loop-n l = l.count - l.n

@@ -1,19 +1,22 @@
 use Prim.Native.Nat.{◌+◌, ◌*◌}
-use mathlib.Core.Path.{◌∙◌, ap}
+use mathlib.Core.Path.{refl, ◌∙◌, ap}
 use native.Mathlib.Omega.{arith}
+use Rattle.snapshot.specs.DefinitionKinds.{definition_kind_of}
 use Rattle.snapshot.specs.Sizes.{definition_size}
 use Rattle.snapshot.specs.Records.{definition_at}
 use Rattle.snapshot.specs.Layouts.{definition_base}
+use Rattle.snapshot.specs.declared.ids.DefinitionKind.TheVariants.{Builtin}
+use Rattle.hir_def.proofs.KindTests.{kind_not, kind_so}
 use Rattle.join_numbers.proofs.Turns.{other_place, builtin_place}
 use Rattle.join_numbers.proofs.tables.place_of_definition.Goals as goal
 
-pub returns-then-definition_kind-ne-BUILTIN : goal.returns-then-definition_kind-ne-BUILTIN
-returns-then-definition_kind-ne-BUILTIN c =
+pub returns-then-ne : goal.returns-then-ne
+returns-then-ne c =
     let a = c.args in
     let b = c.definition_base.ensures in
-    let k = c.definition_kind.ensures ∙ ap (λ j. (definition_at a.second.now (j + definition_size * a.d.0)).kind) b in
+    let k = c.definition_kind.ensures ∙ ap (λ j. definition_kind_of (definition_at a.second.now (j + definition_size * a.d.0)).kind) b in
     other_place a.first.now a.second.now a.area.now a.l1 a.l2 c.requires.ready.0
-    (definition_at a.second.now (definition_base a.l2 + definition_size * a.d.0)) k c.if-definition_kind-ne-BUILTIN.true
+    (definition_at a.second.now (definition_base a.l2 + definition_size * a.d.0)) refl (kind_not Builtin _ c.ne.ensures k c.if-ne.true)
 
 pub overflow_add-definition_first : goal.overflow_add-definition_first
 overflow_add-definition_first c =
@@ -26,8 +29,8 @@ returns c =
     let a = c.args in
     let b = c.definition_base.ensures in
     let k = c.definition_kind.ensures
-    ∙ ap (λ j. (definition_at a.second.now (j + definition_size * a.d.0)).kind) b in
+    ∙ ap (λ j. definition_kind_of (definition_at a.second.now (j + definition_size * a.d.0)).kind) b in
     let f = c.definition_first.ensures ∙ ap (λ j. (definition_at a.second.now (j + definition_size * a.d.0)).first) b in
     builtin_place a.first.now a.second.now a.area.now a.l1 a.l2 c.requires.ready.0 a.d.0 c.requires.holds
-    c.requires.ready.1 k c.if-definition_kind-ne-BUILTIN.false f c.word-name.ensures
+    c.requires.ready.1 refl (kind_so Builtin _ c.ne.ensures k c.if-ne.false) f c.word-name.ensures
     c.place_of_builtin.ensures

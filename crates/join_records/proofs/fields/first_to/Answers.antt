@@ -1,25 +1,16 @@
-use native.Mathlib.Omega.{arith}
-use mathlib.Core.Path.{◌∙◌}
+use mathlib.Core.Path.{sym, ap, ◌∙◌}
+use Rattle.snapshot.specs.DefinitionKinds.{definition_kind_number}
+use Rattle.snapshot.proofs.KindLaws.{definition_known}
 use Rattle.join_records.specs.Moves.{numbers_of}
-use Rattle.join_records.proofs.Laws.{under, first_variant, first_builtin, first_module}
+use Rattle.join_records.proofs.Laws.{first_variant, first_builtin}
 use Rattle.join_records.proofs.fields.first_to.Goals as goal
 
-pub returns-then-k-eq-VARIANT : goal.returns-then-k-eq-VARIANT
-returns-then-k-eq-VARIANT c =
-    c.definition_to.ensures ∙ first_variant (numbers_of c.args.area.now c.args.l) c.args.k c.args.n c.if-k-eq-VARIANT.true
+pub returns-in-Some-Variant : goal.returns-in-Some-Variant
+returns-in-Some-Variant c =
+    c.definition_to.ensures ∙ first_variant (numbers_of c.args.area.now c.args.l) c.args.k c.args.n
+    (definition_known _ (sym c.of.ensures ∙ c.in-Some-Variant.is) ∙ ap definition_kind_number c.in-Some-Variant.field-0-is)
 
-pub returns-then-k-eq-BUILTIN : goal.returns-then-k-eq-BUILTIN
-returns-then-k-eq-BUILTIN c =
-    c.name_to.ensures ∙ first_builtin (numbers_of c.args.area.now c.args.l) c.args.k c.args.n c.if-k-eq-BUILTIN.true
-
-pub overflow_add-result : goal.overflow_add-result
-overflow_add-result c =
-    omega (
-      arith,
-      under (first_module (numbers_of c.args.area.now c.args.l) c.args.k c.args.n
-          c.if-k-eq-VARIANT.false c.if-k-eq-BUILTIN.false) c.requires,
-    )
-
-pub returns : goal.returns
-returns c =
-    first_module (numbers_of c.args.area.now c.args.l) c.args.k c.args.n c.if-k-eq-VARIANT.false c.if-k-eq-BUILTIN.false
+pub returns-in-Some-Builtin : goal.returns-in-Some-Builtin
+returns-in-Some-Builtin c =
+    c.name_to.ensures ∙ first_builtin (numbers_of c.args.area.now c.args.l) c.args.k c.args.n
+    (definition_known _ (sym c.of.ensures ∙ c.in-Some-Builtin.is) ∙ ap definition_kind_number c.in-Some-Builtin.field-0-is)

@@ -1,14 +1,16 @@
-use Rattle.join_records.proofs.Laws.{role_plain, role_past, role_long, role_read}
+use mathlib.Core.Path.{sym, ap, ◌∙◌}
+use Rattle.snapshot.proofs.KindLaws.{kind_known}
+use Rattle.join_records.specs.Moves.{role_of}
+use Rattle.join_records.proofs.Roles.{role_far, role_none, role_read}
 use Rattle.join_records.proofs.fields.role_of.Goals as goal
 
-pub returns-then-k-lt-DEPENDENCY : goal.returns-then-k-lt-DEPENDENCY
-returns-then-k-lt-DEPENDENCY c = role_plain _ _ c.if-k-lt-DEPENDENCY.true
-
-pub returns-then-k-gt-MEMBER : goal.returns-then-k-gt-MEMBER
-returns-then-k-gt-MEMBER c = role_past _ _ c.if-k-gt-MEMBER.true
-
-pub returns-then-i-ge8 : goal.returns-then-i-ge8
-returns-then-i-ge8 c = role_long _ _ c.if-k-lt-DEPENDENCY.false c.if-i-ge8.true
+pub returns-in_default : goal.returns-in_default
+returns-in_default c = role_none _ _ (sym c.of.ensures ∙ c.in_default.is)
 
 pub returns : goal.returns
-returns c = role_read _ _ c.if-k-lt-DEPENDENCY.false c.if-i-ge8.false
+returns c =
+    role_read _ _ _ _ c.roles-all.ensures.0 c.roles-all.ensures.1 c.if-i-ge8.false
+    ∙ ap (λ k. role_of k c.args.i) (sym (kind_known _ (sym c.of.ensures ∙ c.in-Some.is)))
+
+pub returns-then-i-ge8 : goal.returns-then-i-ge8
+returns-then-i-ge8 c = role_far _ _ c.if-i-ge8.true

@@ -8,6 +8,3 @@ use Rattle.join_records.proofs.write.put_kinds.Given as goal
 abbrev pub invariant-loop-k : goal.invariant-loop-k
 invariant-loop-k l =
     (l.k ≤ kinds) × Going l.write (words_to l.area l.l l.m l.first l.second) 0 l.initial.target (joined (rows (kind_to l.area l.l l.m l.first l.second) l.k (kinds - l.k))) l.to l.target
-
-abbrev pub decreases-loop-k : goal.decreases-loop-k
-decreases-loop-k l = kinds - l.k

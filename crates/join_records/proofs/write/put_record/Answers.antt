@@ -86,15 +86,6 @@ bounds-target-to c =
     (1 + c.arguments-n.result) q (ap not c.if-not-write.false) c.loop-i.i c.loop-i.invariant.1 in
     omega arith
 
-pub overflow_add-i : goal.overflow_add-i
-overflow_add-i c =
-    let i = c.loop-i-test.true in
-    let q = (counted_space (moved_word (numbers_of c.args.area.now c.args.l) c.args.words.now c.args.at) c.requires
-    c.arguments-n.ensures) in
-    let h = space_small (moved_word (numbers_of c.args.area.now c.args.l) c.args.words.now c.args.at)
-    (1 + c.arguments-n.result) q in
-    omega arith
-
 pub loop-i-preserved : goal.loop-i-preserved
 loop-i-preserved c =
     let i = c.loop-i-test.true in
@@ -120,6 +111,3 @@ returns c =
     counted_as (moved_word (numbers_of c.args.area.now c.args.l) c.args.words.now c.args.at) c.arguments-n.ensures
     (stored (moved_word (numbers_of c.args.area.now c.args.l) c.args.words.now c.args.at) (1 + c.arguments-n.result)
     c.loop-i.i c.args.target.now (ap not c.if-not-write.false) c.loop-i.invariant.0 c.loop-i-test.false c.loop-i.invariant.1)
-
-pub loop-i-smaller : goal.loop-i-smaller
-loop-i-smaller c = omega arith

@@ -7,6 +7,3 @@ use Rattle.join_records.proofs.write.put_record.Given as goal
 
 abbrev pub invariant-loop-i : goal.invariant-loop-i
 invariant-loop-i l = (l.i ≤ l.n) × (l.target ≡ sets l.initial.target l.to (rows (moved_word (numbers_of l.area l.l) l.words l.at) 0 l.i))
-
-abbrev pub decreases-loop-i : goal.decreases-loop-i
-decreases-loop-i l = l.n - l.i

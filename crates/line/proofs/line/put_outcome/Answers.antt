@@ -15,52 +15,52 @@ slice_bounds-put_path-end c =
 pub put_path-requires : goal.put_path-requires
 put_path-requires c = let h : 16 ≡ length c.args.r.names = slice_bounds-put_path-end c in record { reads = (c.requires.0, omega (arith, c.requires.1, c.put-a.ensures.next, c.put-a.auto.out)); count_bound = (c.requires.2, omega (arith, c.requires.2, h)) }
 
-pub returns-then-r-eq-FOUND : goal.returns-then-r-eq-FOUND
+pub returns-then-r : goal.returns-then-r
 unfolding path_text
-returns-then-r-eq-FOUND c = let s = c.args in
+returns-then-r c = let s = c.args in
     let p = c.put-a.ensures in
     let q = c.put_path.ensures in record {
       put = put_as (found_text (snap_of s.words.now s.area.now s.l) s.edition s.r
-          c.if-r-eq-FOUND.true) (put_two p q.put);
+          c.if-r.true) (put_two p q.put);
       upper_bound = omega (arith, p.next, q.upper_bound);
     }
 
-pub returns-then-r-eq-NONE : goal.returns-then-r-eq-NONE
-returns-then-r-eq-NONE c = let s = c.args in
+pub returns-then-r-2 : goal.returns-then-r-2
+returns-then-r-2 c = let s = c.args in
     let p = c.put.ensures in record {
-      put = put_as (none_text (snap_of s.words.now s.area.now s.l) s.edition s.r c.if-r-eq-NONE.true)
+      put = put_as (none_text (snap_of s.words.now s.area.now s.l) s.edition s.r c.if-r-2.true)
           p;
       upper_bound = omega (arith, p.next);
     }
 
-pub slice_bounds-put_path-end-then-r-eq-MISLEADS : goal.slice_bounds-put_path-end-then-r-eq-MISLEADS
-slice_bounds-put_path-end-then-r-eq-MISLEADS c =
+pub slice_bounds-put_path-end-then-r-3 : goal.slice_bounds-put_path-end-then-r-3
+slice_bounds-put_path-end-then-r-3 c =
     search (
       rules,
       c.well_formed.1.1.1.1.1.0,
     )
 
-pub put_path-requires-then-r-eq-MISLEADS : goal.put_path-requires-then-r-eq-MISLEADS
-put_path-requires-then-r-eq-MISLEADS c = let h : 16 ≡ length c.args.r.names = slice_bounds-put_path-end-then-r-eq-MISLEADS c in record {
+pub put_path-requires-then-r-3 : goal.put_path-requires-then-r-3
+put_path-requires-then-r-3 c = let h : 16 ≡ length c.args.r.names = slice_bounds-put_path-end-then-r-3 c in record {
   reads = (
     c.requires.0,
     omega (
       arith,
       c.requires.1,
-      c.put-a-then-r-eq-MISLEADS.ensures.next,
-      c.put-a-then-r-eq-MISLEADS.auto.out,
+      c.put-a-then-r-3.ensures.next,
+      c.put-a-then-r-3.auto.out,
     ),
   );
   count_bound = (c.requires.2, omega (arith, c.requires.2, h));
 }
 
-pub returns-then-r-eq-MISLEADS : goal.returns-then-r-eq-MISLEADS
+pub returns-then-r-3 : goal.returns-then-r-3
 unfolding path_text
-returns-then-r-eq-MISLEADS c = let s = c.args in
-    let p = c.put-a-then-r-eq-MISLEADS.ensures in
-    let q = c.put_path-then-r-eq-MISLEADS.ensures in record {
+returns-then-r-3 c = let s = c.args in
+    let p = c.put-a-then-r-3.ensures in
+    let q = c.put_path-then-r-3.ensures in record {
       put = put_as (misleads_text (snap_of s.words.now s.area.now s.l) s.edition s.r
-          c.if-r-eq-MISLEADS.true) (put_two p q.put);
+          c.if-r-3.true) (put_two p q.put);
       upper_bound = omega (arith, p.next, q.upper_bound);
     }
 
@@ -69,8 +69,8 @@ returns c = let s = c.args in
     let p = c.put-b.ensures in
     let q = c.put_number.ensures in record {
       put = put_as (refused_text_lem (snap_of s.words.now s.area.now s.l) s.edition s.r
-          c.if-r-eq-FOUND.false
-          c.if-r-eq-NONE.false
-          c.if-r-eq-MISLEADS.false) (put_two p q.put);
+          c.if-r.false
+          c.if-r-2.false
+          c.if-r-3.false) (put_two p q.put);
       upper_bound = omega (arith, p.next, q.upper_bound);
     }

@@ -11,6 +11,3 @@ abbrev pub invariant-loop-i : goal.invariant-loop-i
 invariant-loop-i l =
     (l.i ≤ l.count) × (length l.out ≡ length l.initial.out) × Put l.initial.out l.initial.to (tail_to (written_of (snap_of l.words l.area l.l) l.edition) l.leading l.names l.i) l.out l.to
     × (l.to ≤ l.initial.to + 257 * l.i)
-
-abbrev pub decreases-loop-i : goal.decreases-loop-i
-decreases-loop-i l = l.count - l.i

@@ -1,9 +1,10 @@
 use Prim.Native.Nat.{◌+◌, ◌<◌}
-use mathlib.Core.Path.{◌≡◌, refl, ◌∙◌, ap}
+use mathlib.Core.Path.{◌≡◌, refl, ◌∙◌, subst}
 use native.Mathlib.Omega.{arith}
 use lib.ListN.{length, take, length-set}
+use Rattle.printing.specs.Output.{Put}
 use Rattle.line.proofs.Laws.{length_unpacked}
-use Rattle.printing.proofs.Laws.{put_start, put_next, put_as}
+use Rattle.printing.proofs.Laws.{put_start, put_next}
 use Rattle.find_path.specs.Line.{unpacked}
 use Rattle.line.proofs.text.put_text.Goals as goal
 
@@ -31,22 +32,4 @@ pub returns : goal.returns
 returns c = let l = c.loop-i in
     let a = c.args in
     let e : l.i ≡ a.n = omega arith in
-    record { put = put_as (ap (λ n. take n (unpacked a.text.now)) e) l.invariant.2; value = omega arith }
-
-pub text_byte-requires : goal.text_byte-requires
-text_byte-requires c = tt
-
-pub overflow_add-out : goal.overflow_add-out
-overflow_add-out c = omega arith
-
-pub bounds-out-at : goal.bounds-out-at
-bounds-out-at c = omega arith
-
-pub overflow_add-i : goal.overflow_add-i
-overflow_add-i c = omega arith
-
-pub loop-i-smaller : goal.loop-i-smaller
-loop-i-smaller c = omega arith
-
-pub overflow_add-result : goal.overflow_add-result
-overflow_add-result c = omega arith
+    record { put = subst (λ n. Put a.out.now a.at (take n (unpacked a.text.now)) l.out (a.at + n)) e l.invariant.2; value = omega arith }

@@ -7,6 +7,3 @@ use Rattle.line.proofs.text.put_text.Given as goal
 
 abbrev pub invariant-loop-i : goal.invariant-loop-i
 invariant-loop-i l = (l.i ≤ l.n) × (length l.out ≡ length l.initial.out) × Put l.initial.out l.at (take l.i (unpacked l.text)) l.out (l.at + l.i)
-
-abbrev pub decreases-loop-i : goal.decreases-loop-i
-decreases-loop-i l = l.n - l.i

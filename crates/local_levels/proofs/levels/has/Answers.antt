@@ -20,9 +20,3 @@ loop-i-preserved c = (
 pub returns : goal.returns
 returns c =
     has_end c.args.area.now _ _ _ _ c.loop-i.invariant.1 c.loop-i-test.false
-
-pub word-requires : goal.word-requires
-word-requires c = tt
-
-pub loop-i-smaller : goal.loop-i-smaller
-loop-i-smaller c = omega arith

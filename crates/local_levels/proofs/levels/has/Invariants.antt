@@ -10,6 +10,3 @@ use Rattle.local_levels.proofs.levels.has.Given as goal
 abbrev pub invariant-loop-i : goal.invariant-loop-i
 invariant-loop-i l =
     (l.i ≤ l.n) × (has (run_at l.area l.from l.n) l.m.0 ≡ any (eqb l.m.0) (rows (λ k. get_or l.area (l.from + k) 0) l.i (l.n - l.i)))
-
-abbrev pub decreases-loop-i : goal.decreases-loop-i
-decreases-loop-i l = l.n - l.i

@@ -1,5 +1,4 @@
 use mathlib.Core.Path.{◌∙◌}
-use native.Mathlib.Omega.{arith}
 use Rattle.local_levels.proofs.Stacks.{chains_at}
 use Rattle.local_levels.proofs.Gathers.{ready_start, ready_children, reads_children, ready_begun, reads_begun, begun, walking_start}
 use Rattle.local_levels.proofs.Gathers.{walking_reads, walking_next, gathered}
@@ -29,11 +28,6 @@ loop-k-init c =
     c.args.from.0 c.args.s c.args.item c.requires.0 c.requires.2 c.requires.3 c.requires.4 _ _ c.push_children-children.ensures
     c.push_children-children.auto.area _ _ c.push_containers-n.ensures c.push_containers-n.auto.area)
 
-pub overflow_add-s : goal.overflow_add-s
-overflow_add-s c =
-    let l = c.loop-k in
-    omega (arith, l.invariant.ready.space, c.loop-k-test.true, l.invariant.ready.fits)
-
 pub push_next-n-requires : goal.push_next-n-requires
 push_next-n-requires c = (
   walking_reads c.args.words.now _ c.args.l c.args.from.0 c.args.s c.args.item _
@@ -48,14 +42,6 @@ push_next-n-requires c = (
       c.args.l c.args.s.top c.requires.0 c.requires.6 (c.loop-k.invariant.below ∙ c.push_containers-n.ensures.below
       ∙ c.push_children-children.ensures.below) c.requires.7,
 )
-
-pub overflow_add-k : goal.overflow_add-k
-overflow_add-k c =
-    omega (arith, c.loop-k.invariant.ready.fits, c.loop-k-test.true)
-
-pub loop-k-smaller : goal.loop-k-smaller
-loop-k-smaller c =
-    omega (arith, c.loop-k.invariant.ready.fits, c.loop-k-test.true)
 
 pub loop-k-preserved : goal.loop-k-preserved
 loop-k-preserved c =
@@ -74,6 +60,3 @@ returns c =
     c.args.area.now c.requires.0 c.requires.4 (begun c.args.words.now c.args.area.now c.args.l
     c.args.from.0 c.args.s c.args.item c.requires.0 c.requires.2 c.requires.3 c.requires.4 _ _ c.push_children-children.ensures
     c.push_children-children.auto.area _ _ c.push_containers-n.ensures c.push_containers-n.auto.area) c.loop-k-test.false
-
-pub word-requires : goal.word-requires
-word-requires c = tt

@@ -40,13 +40,6 @@ push_module-run-requires c =
           c.child_base-base.ensures c.child_child-m.ensures,
     )
 
-pub overflow_add-k : goal.overflow_add-k
-overflow_add-k c =
-    record { fits = omega (arith, c.loop-k-test.true, few_words c.args.words.now c.args.area.now c.args.l c.requires.0) }
-
-pub loop-k-smaller : goal.loop-k-smaller
-loop-k-smaller c = omega (arith, c.loop-k-test.true)
-
 pub loop-k-preserved : goal.loop-k-preserved
 loop-k-preserved c =
     let l = c.loop-k in
@@ -63,9 +56,3 @@ pub returns : goal.returns
 returns c =
     let l = c.loop-k in
     pushing_done _ _ _ _ _ l.invariant (child_end c.args.words.now c.args.l c.args.from.0 l.k (omega (arith, c.loop-k-test.false)))
-
-pub child_owner-owner-requires : goal.child_owner-owner-requires
-child_owner-owner-requires c = tt
-
-pub child_child-m-requires : goal.child_child-m-requires
-child_child-m-requires c = tt

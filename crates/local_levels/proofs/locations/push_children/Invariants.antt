@@ -1,4 +1,3 @@
-use Prim.Native.Nat.{◌-◌}
 use mathlib.Core.List.{map}
 use Rattle.snapshot.specs.Layouts.{snap_of}
 use Rattle.hir_def.specs.Nameres.{children_of}
@@ -8,7 +7,5 @@ use Rattle.local_levels.proofs.locations.push_children.Given as goal
 
 abbrev pub invariant-loop-k : goal.invariant-loop-k
 invariant-loop-k l =
-    Pushing l.initial.area l.s l.n l.item (map (λ c. c.child) (children_of (snap_of l.words l.initial.area l.l) l.from.0)) l.area l.run (children_from l.words l.l l.from.0 l.k)
-
-abbrev pub decreases-loop-k : goal.decreases-loop-k
-decreases-loop-k l = l.l.children - l.k
+    Pushing l.initial.area l.s l.n l.item (map (λ c. c.child) (children_of (snap_of l.words l.initial.area l.fn.l) l.from.0))
+    l.area l.run (children_from l.words l.fn.l l.from.0 l.k)

@@ -1,7 +1,7 @@
 use mathlib.Core.Path.{refl, ap, ◌∙◌}
 use native.Mathlib.Omega.{arith}
 use Rattle.hir_def.specs.Items.{containing}
-use Rattle.hir_def.proofs.Climbs.{is_some, is_none}
+use Rattle.hir_def.proofs.Climbs.{some_number, none_number}
 use Rattle.local_levels.proofs.Stacks.{snap_at, reads_at, pushing_start, pushing_next, pushing_done}
 use Rattle.local_levels.proofs.Nexts.{containers_end, containers_on, containers_less}
 use Rattle.local_levels.proofs.locations.push_containers.Goals as goal
@@ -24,7 +24,7 @@ returns-in_default c =
     pushing_done _ _ _ _ _ l.invariant.1 (containers_end c.args.words.now c.args.area.now c.args.l c.requires.0
     l.m.0 l.invariant.0 (c.containing_module.ensures ∙ ap (λ x. containing x l.m.0)
     (snap_at c.args.words.now c.args.area.now l.area c.args.l c.args.s.top c.requires.0 c.requires.2.tables
-    l.invariant.1.below)) (is_none _ refl c.in_default.is))
+    l.invariant.1.below)) (none_number _ refl c.in_default.is))
 
 pub push_module-run-requires : goal.push_module-run-requires
 push_module-run-requires c =
@@ -38,7 +38,7 @@ push_module-run-requires c =
         containers_less c.args.words.now
             c.args.area.now c.args.l c.requires.0 l.m.0 l.invariant.0 (c.containing_module.ensures
             ∙ ap (λ x. containing x l.m.0) (snap_at c.args.words.now c.args.area.now l.area c.args.l
-            c.args.s.top c.requires.0 c.requires.2.tables l.invariant.1.below)) (is_some _ refl c.in-Module.is),
+            c.args.s.top c.requires.0 c.requires.2.tables l.invariant.1.below)) (some_number _ refl c.in-Some.is),
       ),
     )
 
@@ -48,7 +48,7 @@ loop-c-smaller c =
     containers_less c.args.words.now c.args.area.now c.args.l c.requires.0 l.m.0 l.invariant.0
     (c.containing_module.ensures ∙ ap (λ x. containing x l.m.0)
     (snap_at c.args.words.now c.args.area.now l.area c.args.l c.args.s.top c.requires.0 c.requires.2.tables
-    l.invariant.1.below)) (is_some _ refl c.in-Module.is)
+    l.invariant.1.below)) (some_number _ refl c.in-Some.is)
 
 pub loop-c-preserved : goal.loop-c-preserved
 loop-c-preserved c =
@@ -60,9 +60,9 @@ loop-c-preserved c =
         arith,
         l.invariant.0,
         containers_less c.args.words.now c.args.area.now c.args.l c.requires.0 l.m.0
-            l.invariant.0 q (is_some _ refl c.in-Module.is),
+            l.invariant.0 q (some_number _ refl c.in-Some.is),
       ),
       pushing_next _ _ _ _ _ l.invariant.1
           (containers_on c.args.words.now c.args.area.now c.args.l c.requires.0 l.m.0 l.invariant.0 q
-          (is_some _ refl c.in-Module.is)) c.push_module-run.ensures c.push_module-run.auto.area,
+          (some_number _ refl c.in-Some.is)) c.push_module-run.ensures c.push_module-run.auto.area,
     )

@@ -14,8 +14,8 @@ use Rattle.local_levels.proofs.Nexts.{leads_start, leads_hit, leads_miss, leads_
 use Rattle.local_levels.proofs.locations.push_next.Goals as goal
 use Rattle.local_levels.proofs.locations.push_next.Goals.{then-leads, else-leads}
 
-pub loop-j-init : goal.loop-j-init
-loop-j-init c = (
+pub loop-next-init : goal.loop-next-init
+loop-next-init c = (
   pushing_skip _ _ _ _ _ (pushing_start c.args.area.now _ _ c.args.item _ c.requires.2)
       (leads_start c.args.words.now c.args.area.now c.args.l c.args.from.0 c.args.m.0) refl refl,
   omega arith,
@@ -24,7 +24,7 @@ loop-j-init c = (
 
 pub modules_from-e-requires : goal.modules_from-e-requires
 modules_from-e-requires c =
-    let l = c.loop-j in
+    let l = c.loop-next in
     let W = c.args.words.now in
     let A = c.args.area.now in (
       accepted_sized W A c.args.l c.requires.0,
@@ -37,7 +37,7 @@ modules_from-e-requires c =
 pub returns-in_default : goal.returns-in_default
 returns-in_default c =
     let A = c.args.area.now in
-    pushing_done _ _ _ _ _ c.loop-j.invariant.0 (leads_end c.args.words.now A c.args.l c.args.from.0
+    pushing_done _ _ _ _ _ c.loop-next.invariant.0 (leads_end c.args.words.now A c.args.l c.args.from.0
     c.args.m.0 (next_none (c.modules_from-e.ensures A) c.in_default.is))
 
 pub first_of-requires : goal.first_of-requires
@@ -46,10 +46,10 @@ first_of-requires c =
 
 pub leads-requires : goal.leads-requires
 leads-requires c =
-    let l = c.loop-j in
+    let l = c.loop-next in
     let W = c.args.words.now in
     let A = c.args.area.now in
-    let x = next_record (c.modules_from-e.ensures A) c.in-Record.is in
+    let x = next_record (c.modules_from-e.ensures A) c.in-Some.is in
     let t = c.first_of.ensures A ∙ ap (λ y. (definition_of (snap_of W A c.args.l) y).first) c.scope_definition.ensures in (
       reads_at W A l.area c.args.l c.args.s.top c.requires.0 c.requires.2.tables l.invariant.0.below,
       c.requires.1,
@@ -60,10 +60,10 @@ leads-requires c =
 
 pub push_module-run-requires : goal.push_module-run-requires
 push_module-run-requires c =
-    let l = c.loop-j in
+    let l = c.loop-next in
     let W = c.args.words.now in
     let A = c.args.area.now in
-    let x = next_record (c.modules_from-e.ensures A) c.in-Record.is in
+    let x = next_record (c.modules_from-e.ensures A) c.in-Some.is in
     let t = c.first_of.ensures A ∙ ap (λ y. (definition_of (snap_of W A c.args.l) y).first) c.scope_definition.ensures in (
       l.invariant.0.ready,
       c.requires.3,
@@ -77,29 +77,29 @@ push_module-run-requires c =
 
 pub overflow_add-k : goal.overflow_add-k
 overflow_add-k c =
-    let l = c.loop-j in
+    let l = c.loop-next in
     let W = c.args.words.now in
     let A = c.args.area.now in
-    let x = next_record (c.modules_from-e.ensures A) c.in-Record.is in
+    let x = next_record (c.modules_from-e.ensures A) c.in-Some.is in
     record { fits = omega (arith, x.below, few_words W A c.args.l c.requires.0) }
 
-pub loop-j-smaller : goal.loop-j-smaller
-loop-j-smaller c =
-    let l = c.loop-j in
+pub loop-next-smaller : goal.loop-next-smaller
+loop-next-smaller c =
+    let l = c.loop-next in
     let W = c.args.words.now in
     let A = c.args.area.now in
-    let x = next_record (c.modules_from-e.ensures A) c.in-Record.is in
+    let x = next_record (c.modules_from-e.ensures A) c.in-Some.is in
     omega (arith, x.below, x.from)
 
-pub loop-j-preserved : goal.loop-j-preserved
-loop-j-preserved c =
-    let l = c.loop-j in
+pub loop-next-preserved : goal.loop-next-preserved
+loop-next-preserved c =
+    let l = c.loop-next in
     let W = c.args.words.now in
     let A = c.args.area.now in
-    let x = next_record (c.modules_from-e.ensures A) c.in-Record.is in
+    let x = next_record (c.modules_from-e.ensures A) c.in-Some.is in
     let t = c.first_of.ensures A ∙ ap (λ y. (definition_of (snap_of W A c.args.l) y).first) c.scope_definition.ensures in
     let q = c.leads.ensures ∙ ap (λ y. eqb (crate_of y c.first_of.result) (crate_of y c.args.from.0) && sees y
-    c.args.from.0 (scope_at W c.in-Record.h)) (snap_at W A l.area c.args.l c.args.s.top c.requires.0
+    c.args.from.0 (scope_at W c.in-Some.next.head)) (snap_at W A l.area c.args.l c.args.s.top c.requires.0
     c.requires.2.tables l.invariant.0.below) in
     let k = leads_follow W A c.args.l c.args.from.0 c.args.m.0 x in (
       elim c.if-leads.branch [
@@ -111,6 +111,3 @@ loop-j-preserved c =
       omega (arith, x.below),
       k,
     )
-
-pub scope_definition-requires : goal.scope_definition-requires
-scope_definition-requires c = tt

@@ -7,6 +7,3 @@ use Rattle.module_records.proofs.modules.has_module.Given as goal
 
 abbrev pub invariant-loop-m : goal.invariant-loop-m
 invariant-loop-m l = (l.m ≤ l.n) × (any (is_in l.map) (modules_of l.area l.n) ≡ any (is_in l.map) (rows (module_row l.area) l.m (l.n - l.m)))
-
-abbrev pub decreases-loop-m : goal.decreases-loop-m
-decreases-loop-m l = l.n - l.m

@@ -1,18 +1,21 @@
 use mathlib.Core.Path.{refl}
 use native.Mathlib.Omega.{arith}
+use Rattle.std.proofs.lemmas.Result.{err_from_is_err_and}
+use Rattle.snapshot.proofs.Laws.{refusal_some}
 use Rattle.module_records.proofs.ModuleRows.{module_no_lem, module_on}
 use lib.ListN.{length-set}
 use Prim.Native.Nat.{◌+◌}
 use Rattle.module_records.proofs.modules.step.Goals as goal
 
-pub returns-then-n-ne0 : goal.returns-then-n-ne0
-returns-then-n-ne0 c ms st =
-    module_no_lem c.args.words.now c.args.area.now c.args.at c.args.l ms st
-    c.judge-n.ensures
+pub returns-in_err-judge : goal.returns-in_err-judge
+returns-in_err-judge c ms st =
+    let p = err_from_is_err_and c.from_residual.result c.from_residual.ensures.1 in
+    rw (p.1, p.2) (module_no_lem c.args.words.now c.args.area.now c.args.at c.args.l ms st
+    c.in_err-judge.ensures
     c.defined.ensures
     c.placed.ensures
     refl
-    c.if-n-ne0.true
+    (refusal_some _))
 
 pub bounds-area-row-2 : goal.bounds-area-row-2
 bounds-area-row-2 c = simp length-set (omega arith)
@@ -32,8 +35,8 @@ bounds-area-row-3 c = simp length-set (omega arith)
 pub returns : goal.returns
 returns c ms st =
     module_on c.args.words.now c.args.area.now c.args.at c.args.l ms st
-    c.judge-n.ensures
+    c.in_ok-judge.ensures
     c.defined.ensures
     c.placed.ensures
     refl
-    c.if-n-ne0.false c.requires.fits c.requires.room c.module_map.ensures refl c.module_parent.ensures
+    refl c.requires.fits c.requires.room c.module_map.ensures refl c.module_parent.ensures

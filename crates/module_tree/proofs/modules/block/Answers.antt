@@ -4,17 +4,8 @@ use Rattle.snapshot.specs.Records.{map_at}
 use Rattle.module_tree.proofs.Reading.{block_read}
 use Rattle.module_tree.proofs.modules.block.Goals as goal
 
-pub module_head-requires : goal.module_head-requires
-module_head-requires c =
-    let h = c.requires.0.tables.limited.modules in
-    let g = c.requires.1 in
-    omega arith
-
 pub returns : goal.returns
 returns c =
     c.opt_module.ensures ∙ c.map_block.ensures ∙ ap (λ h. (map_at c.args.words.now h).block)
     c.module_head.ensures ∙ block_read c.args.words.now c.args.area.now c.args.l
     c.requires.0.tables c.args.m.0 c.requires.1
-
-pub opt_module-requires : goal.opt_module-requires
-opt_module-requires c = tt

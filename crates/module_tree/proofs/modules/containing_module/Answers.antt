@@ -4,7 +4,7 @@ use Rattle.snapshot.specs.Ids.{plus_one}
 use Rattle.snapshot.specs.Layouts.{snap_of}
 use Rattle.tree_rules.specs.Modules.{parent_of, containing}
 use Rattle.module_tree.proofs.Reading.{containing_parent, containing_block}
-use Rattle.module_tree.proofs.Climbs.{is_some, is_none}
+use Rattle.module_tree.proofs.Climbs.{some_number, none_number}
 use Rattle.module_tree.proofs.modules.containing_module.Goals as goal
 
 pub returns-in_default : goal.returns-in_default
@@ -12,12 +12,12 @@ unfolding containing
 returns-in_default c =
     let e = c.parent.ensures in
     c.block.ensures ∙ containing_block (parent_of (snap_of c.args.words.now c.args.area.now c.args.l) c.args.m.0) _
-    (is_none _ e c.in_default.is)
+    (none_number _ e c.in_default.is)
 
 pub returns : goal.returns
 unfolding containing
 returns c =
     let e = c.parent.ensures in
-    let p = c.in-Module.is in
+    let p = c.in-Some.is in
     sym (ap plus_one p) ∙ e ∙ containing_parent (parent_of (snap_of c.args.words.now c.args.area.now c.args.l) c.args.m.0) _
-    (λ z. omega (arith, z, is_some _ e p))
+    (λ z. omega (arith, z, some_number _ e p))

@@ -11,9 +11,6 @@ own-requires c = (
       c.args.m.0 c.requires.1),
 )
 
-pub root-requires : goal.root-requires
-root-requires c = (c.requires.0, c.own.ensures.1)
-
 pub returns : goal.returns
 unfolding crate_root
 returns c =

@@ -4,12 +4,6 @@ use Rattle.snapshot.specs.Records.{map_at}
 use Rattle.module_tree.proofs.Reading.{crate_read}
 use Rattle.module_tree.proofs.modules.krate.Goals as goal
 
-pub module_head-requires : goal.module_head-requires
-module_head-requires c =
-    let h = c.requires.0.tables.limited.modules in
-    let g = c.requires.1 in
-    omega arith
-
 pub returns : goal.returns
 returns c =
     c.map_crate.ensures ∙ ap (λ h. (map_at c.args.words.now h).crate) c.module_head.ensures

@@ -3,12 +3,6 @@ use native.Mathlib.Omega.{arith}
 use Rattle.module_tree.proofs.Reading.{map_read}
 use Rattle.module_tree.proofs.modules.map.Goals as goal
 
-pub module_map-requires : goal.module_map-requires
-module_map-requires c =
-    let h = c.requires.0.tables.limited.modules in
-    let g = c.requires.1 in
-    omega arith
-
 pub returns : goal.returns
 returns c =
     c.module_map.ensures ∙ map_read c.args.words.now c.args.area.now c.args.l c.requires.0.tables c.args.m.0 c.requires.1

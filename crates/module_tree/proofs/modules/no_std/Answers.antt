@@ -5,12 +5,6 @@ use Rattle.snapshot.specs.Records.{map_at}
 use Rattle.module_tree.proofs.Reading.{no_std_read}
 use Rattle.module_tree.proofs.modules.no_std.Goals as goal
 
-pub module_head-requires : goal.module_head-requires
-module_head-requires c =
-    let h = c.requires.0.tables.limited.modules in
-    let g = c.requires.1 in
-    omega arith
-
 pub returns : goal.returns
 returns c =
     ap (λ x. eqb x 1)

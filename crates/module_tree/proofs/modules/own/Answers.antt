@@ -4,18 +4,6 @@ use native.Mathlib.Omega.{arith}
 use Rattle.module_tree.proofs.Reading.{own_read}
 use Rattle.module_tree.proofs.modules.own.Goals as goal
 
-pub own_map-requires : goal.own_map-requires
-own_map-requires c =
-    let h = c.requires.0.tables.limited.crates in
-    let g = c.requires.1 in
-    omega arith
-
-pub overflow_sub-result : goal.overflow_sub-result
-overflow_sub-result c =
-    let e = c.own_map.ensures in
-    let o = c.requires.0.tables.owned c.args.c.0 c.requires.1 in
-    omega arith
-
 pub returns : goal.returns
 returns c =
     let e = c.own_map.ensures in

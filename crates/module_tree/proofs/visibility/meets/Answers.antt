@@ -4,14 +4,8 @@ use Rattle.snapshot.specs.Layouts.{snap_of}
 use Rattle.module_tree.proofs.Reading.{length_modules}
 use Rattle.accept.proofs.Trees.{accepted_tree}
 use Rattle.module_tree.proofs.Chains.{containing_falls}
-use Rattle.module_tree.proofs.Climbs.{is_some, is_none, meets_here, meets_end, meets_on}
+use Rattle.module_tree.proofs.Climbs.{some_number, none_number, meets_here, meets_end, meets_on}
 use Rattle.module_tree.proofs.visibility.meets.Goals as goal
-
-pub loop-v-init : goal.loop-v-init
-loop-v-init c = (refl, c.requires.1)
-
-pub containing_module-requires : goal.containing_module-requires
-containing_module-requires c = (c.requires.0, c.loop-v.invariant.1)
 
 pub returns-in_default : goal.returns-in_default
 returns-in_default c =
@@ -19,7 +13,7 @@ returns-in_default c =
     let n = (snap_of c.args.words.now c.args.area.now c.args.l) in
     meets_end n (containing_falls n (accepted_tree c.args.words.now (snap_of c.args.words.now c.args.area.now c.args.l)
     c.requires.0.same)) g.v.0 c.args.target.0 (rw (length_modules c.args.words.now c.args.area.now c.args.l)
-    g.invariant.1) c.loop-v-test.true (is_none _ c.containing_module.ensures c.in_default.is)
+    g.invariant.1) c.loop-v-test.true (none_number _ c.containing_module.ensures c.in_default.is)
     ∙ sym g.invariant.0
 
 pub loop-v-smaller : goal.loop-v-smaller
@@ -28,7 +22,7 @@ loop-v-smaller c =
     let n = (snap_of c.args.words.now c.args.area.now c.args.l) in
     containing_falls n (accepted_tree c.args.words.now (snap_of c.args.words.now c.args.area.now c.args.l) c.requires.0.same)
     g.v.0 _ (rw (length_modules c.args.words.now c.args.area.now c.args.l) g.invariant.1)
-    (is_some _ c.containing_module.ensures c.in-Module.is)
+    (some_number _ c.containing_module.ensures c.in-Some.is)
 
 pub loop-v-preserved : goal.loop-v-preserved
 loop-v-preserved c =
@@ -36,7 +30,7 @@ loop-v-preserved c =
     let n = (snap_of c.args.words.now c.args.area.now c.args.l) in
     let f = containing_falls n (accepted_tree c.args.words.now (snap_of c.args.words.now c.args.area.now c.args.l)
     c.requires.0.same) in
-    let e = is_some _ c.containing_module.ensures c.in-Module.is in (
+    let e = some_number _ c.containing_module.ensures c.in-Some.is in (
       g.invariant.0 ∙ meets_on n f g.v.0 c.args.target.0 (rw (length_modules c.args.words.now c.args.area.now c.args.l)
           g.invariant.1) c.loop-v-test.true _ e,
       omega (arith, f g.v.0 _ (rw (length_modules c.args.words.now c.args.area.now c.args.l) g.invariant.1) e, g.invariant.1),

@@ -1,12 +1,11 @@
 use mathlib.Core.Path.{◌∙◌}
-use native.Mathlib.Omega.{arith}
 use Rattle.snapshot.specs.Records.{scope_at}
 use Rattle.snapshot.specs.Layouts.{snap_of}
 use Rattle.path_offers.proofs.OfferLaws.{entry_offered}
 use Rattle.path_offers.proofs.offers.offer_entry.Goals as goal
 
 pub step_by-via-requires : goal.step_by-via-requires
-step_by-via-requires c = (omega arith, c.requires.1.place)
+step_by-via-requires c = c.requires.1.place
 
 pub offer-requires : goal.offer-requires
 offer-requires c =

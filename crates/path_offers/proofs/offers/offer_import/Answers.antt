@@ -1,5 +1,4 @@
 use mathlib.Core.Path.{sym, ◌∙◌}
-use native.Mathlib.Omega.{arith}
 use borrow.Author.Tests.{not-true, not-false}
 use Rattle.snapshot.specs.Records.{import_at}
 use Rattle.snapshot.specs.Layouts.{snap_of}
@@ -7,7 +6,7 @@ use Rattle.path_offers.proofs.OfferLaws.{unstably_fits, import_stable, import_ba
 use Rattle.path_offers.proofs.offers.offer_import.Goals as goal
 
 pub step_by-via-requires : goal.step_by-via-requires
-step_by-via-requires c = (omega arith, c.requires.1.place)
+step_by-via-requires c = c.requires.1.place
 
 pub offer-requires : goal.offer-requires
 offer-requires c =

@@ -1,6 +1,5 @@
 use mathlib.Core.Bool.{true, false}
 use mathlib.Core.Path.{sym, ap, ◌∙◌}
-use native.Mathlib.Omega.{arith}
 use Rattle.snapshot.specs.Records.{extern_at}
 use Rattle.snapshot.specs.Layouts.{snap_of}
 use Rattle.hir_def.specs.Entries.{entry_of}
@@ -17,13 +16,13 @@ returns-in_default c =
 
 pub step_by-via-requires : goal.step_by-via-requires
 step_by-via-requires c =
-    (omega arith, (c.requires.2 _ c.in-At.is).place)
+    (c.requires.2 _ c.in-Some.is).place
 
 pub new-requires : goal.new-requires
 new-requires c = (
   c.requires.0,
   rw c.extern_name-name.ensures
-      (c.requires.2 _ c.in-At.is).name,
+      (c.requires.2 _ c.in-Some.is).name,
 )
 
 pub returns-then-occupied-x : goal.returns-then-occupied-x
@@ -31,15 +30,15 @@ unfolding extern_kind
 returns-then-occupied-x c =
     let n = snap_of c.args.words.now c.args.area.now c.args.l in
     let W = c.args.words.now in
-    let e = extern_some n c.args.x c.args.m.0 (extern_at W c.in-At.h) true c.extern_name-name.ensures
+    let e = extern_some n c.args.x c.args.m.0 (extern_at W c.in-Some.h) true c.extern_name-name.ensures
     c.step_by-via.ensures c.occupied.ensures c.if-occupied-x.true in
-    c.new.ensures ∙ e ∙ sym (ap (λ e. extern_name n c.args.x c.args.m.0 (entry_of extern_at W e)) c.in-At.is)
+    c.new.ensures ∙ e ∙ sym (ap (λ e. extern_name n c.args.x c.args.m.0 (entry_of extern_at W e)) c.in-Some.is)
 
 pub new-requires-2 : goal.new-requires-2
 new-requires-2 c = (
   c.requires.0,
   rw c.extern_name-name.ensures
-      (c.requires.2 _ c.in-At.is).name,
+      (c.requires.2 _ c.in-Some.is).name,
 )
 
 pub returns : goal.returns
@@ -47,6 +46,6 @@ unfolding extern_kind
 returns c =
     let n = snap_of c.args.words.now c.args.area.now c.args.l in
     let W = c.args.words.now in
-    let e = extern_some n c.args.x c.args.m.0 (extern_at W c.in-At.h) false c.extern_name-name.ensures
+    let e = extern_some n c.args.x c.args.m.0 (extern_at W c.in-Some.h) false c.extern_name-name.ensures
     c.step_by-via.ensures c.occupied.ensures c.if-occupied-x.false in
-    c.new-2.ensures ∙ e ∙ sym (ap (λ e. extern_name n c.args.x c.args.m.0 (entry_of extern_at W e)) c.in-At.is)
+    c.new-2.ensures ∙ e ∙ sym (ap (λ e. extern_name n c.args.x c.args.m.0 (entry_of extern_at W e)) c.in-Some.is)

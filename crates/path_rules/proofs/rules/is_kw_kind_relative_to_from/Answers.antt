@@ -1,11 +1,9 @@
 use mathlib.Core.Path.{◌∙◌}
 use Rattle.snapshot.specs.Layouts.{snap_of}
-use Rattle.find_path.specs.Rules.{keyword_kind}
 use Rattle.path_rules.proofs.RuleLaws.{kw_none, kw_self, kw_parent}
 use Rattle.path_rules.proofs.rules.is_kw_kind_relative_to_from.Goals as goal
 
 pub returns-then-there-here : goal.returns-then-there-here
-unfolding keyword_kind
 returns-then-there-here c =
     let n = snap_of c.args.words.now c.args.area.now c.args.l in
     kw_none n c.args.x c.args.m.0 c.krate-there.ensures
@@ -13,7 +11,6 @@ returns-then-there-here c =
     c.in_block-2.ensures c.if-there-here.true
 
 pub returns-then-m-x : goal.returns-then-m-x
-unfolding keyword_kind
 returns-then-m-x c =
     let n = snap_of c.args.words.now c.args.area.now c.args.l in
     kw_self n c.args.x c.args.m.0 c.krate-there.ensures
@@ -22,7 +19,6 @@ returns-then-m-x c =
     c.in_block-2.ensures c.if-there-here.false c.if-m-x.true
 
 pub returns : goal.returns
-unfolding keyword_kind
 returns c =
     let n = snap_of c.args.words.now c.args.area.now c.args.l in
     c.parent_kind.ensures ∙ kw_parent n c.args.x c.args.m.0

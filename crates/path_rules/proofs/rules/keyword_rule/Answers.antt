@@ -13,10 +13,10 @@ pub returns-then-x-kind : goal.returns-then-x-kind
 returns-then-x-kind c =
     let n = snap_of c.args.words.now c.args.area.now c.args.l in
     c.keyword.ensures ∙ keyword_taken n c.args.x _ c.is_kw_kind_relative_to_from-k.ensures
-    c.in-Kw.is c.if-x-kind.true
+    c.in-Some.is c.if-x-kind.true
 
 pub returns : goal.returns
 returns c =
     let n = snap_of c.args.words.now c.args.area.now c.args.l in
     c.nothing-2.ensures ∙ keyword_left n c.args.x _ c.is_kw_kind_relative_to_from-k.ensures
-    c.in-Kw.is c.if-x-kind.false
+    c.in-Some.is c.if-x-kind.false

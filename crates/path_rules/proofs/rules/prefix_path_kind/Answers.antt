@@ -1,11 +1,15 @@
-use mathlib.Core.Path.{refl}
+use mathlib.Core.Path.{sym, ap}
 use Rattle.find_path.specs.Rules.{prefix_path_kind}
-use Rattle.path_rules.proofs.RuleLaws.{prefix_past}
+use Rattle.path_rules.proofs.RuleLaws.{prefix_other}
 use Rattle.path_rules.proofs.rules.prefix_path_kind.Goals as goal
 
-pub returns-then-prefix-ge3 : goal.returns-then-prefix-ge3
-returns-then-prefix-ge3 c = prefix_past _ c.if-prefix-ge3.true
+pub returns-then-prefix : goal.returns-then-prefix
+unfolding prefix_path_kind
+returns-then-prefix c = sym (ap prefix_path_kind c.if-prefix.true)
+
+pub returns-then-prefix-2 : goal.returns-then-prefix-2
+unfolding prefix_path_kind
+returns-then-prefix-2 c = sym (ap prefix_path_kind c.if-prefix-2.true)
 
 pub returns : goal.returns
-unfolding prefix_path_kind
-returns c = refl
+returns c = prefix_other _ c.if-prefix.false c.if-prefix-2.false

@@ -1,5 +1,4 @@
 use mathlib.Core.Path.{sym, ◌∙◌}
-use borrow.Author.Tests.{not-true, not-false}
 use Rattle.snapshot.specs.Layouts.{snap_of}
 use Rattle.path_rules.proofs.RuleLaws.{scope_out, scope_in}
 use Rattle.path_rules.proofs.rules.scope_rule.Goals as goal

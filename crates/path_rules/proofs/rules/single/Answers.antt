@@ -3,6 +3,7 @@ use Rattle.snapshot.specs.Records.{scope_at}
 use Rattle.snapshot.specs.Layouts.{snap_of}
 use Rattle.hir_def.specs.Entries.{entry_of}
 use Rattle.path_choices.specs.Choices.{choice_new}
+use Rattle.path_choices.specs.StepRules.{rule_number}
 use Rattle.find_path.specs.Conditions.{EntryFits}
 use Rattle.find_path.specs.Rules.{single}
 use Rattle.path_rules.proofs.rules.single.Goals as goal
@@ -13,16 +14,16 @@ returns-in_default c =
     λ x.
     (
     let n = snap_of c.args.words.now c.args.area.now c.args.l in
-    c.nothing.ensures ∙ sym (ap (λ e. single n x c.args.kind c.args.rule (entry_of scope_at c.args.words.now e))
+    c.nothing.ensures ∙ sym (ap (λ e. single n x c.args.kind (rule_number c.args.rule) (entry_of scope_at c.args.words.now e))
     c.in_default.is))
 
 pub step_by-via-requires : goal.step_by-via-requires
 step_by-via-requires c =
-    (c.requires.1, (subst (EntryFits c.args.words.now c.args.l) c.in-At.is c.requires.2).place)
+    (subst (EntryFits c.args.words.now c.args.l) c.in-Some.is c.requires.1).place
 
 pub new-requires : goal.new-requires
 new-requires c =
-    let f = subst (EntryFits c.args.words.now c.args.l) c.in-At.is c.requires.2 in
+    let f = subst (EntryFits c.args.words.now c.args.l) c.in-Some.is c.requires.1 in
     (c.requires.0, rw c.scope_name.ensures f.name)
 
 pub returns : goal.returns
@@ -34,4 +35,4 @@ returns c =
     let n = snap_of W c.args.area.now c.args.l in
     c.new.ensures
     ∙ ap₂ (choice_new n c.args.kind) c.scope_name.ensures c.step_by-via.ensures
-    ∙ sym (ap (λ e. single n x c.args.kind c.args.rule (entry_of scope_at W e)) c.in-At.is))
+    ∙ sym (ap (λ e. single n x c.args.kind (rule_number c.args.rule) (entry_of scope_at W e)) c.in-Some.is))

@@ -1,3 +1,8 @@
+use mathlib.Core.Path.{ap}
+use mathlib.Core.List.{◌++◌}
+use Rattle.printing.proofs.Laws.{put_as}
+use Rattle.find_path.specs.Report.{refused}
+use Rattle.find_path.specs.Line.{bytes_of, line_in}
 use Rattle.printer.proofs.Laws.{turn_reach, turn_refused, turn_line, turn_route}
 use Rattle.printer.proofs.lines.next_line.Goals as goal
 
@@ -15,7 +20,8 @@ returns-then-not-is_whole c =
     turn_refused s.words.now s.snapshot.now s.c s.at _ _ _ _ _ _
     c.is_reach.ensures
     c.if-is_reach.false c.is_whole.ensures
-    c.if-not-is_whole.true c.requires.0 c.put_refusal-n.ensures
+    c.if-not-is_whole.true c.requires.0
+    (λ u from. put_as (ap (λ n. line_in u from (refused n) ++ bytes_of "\n") c.number.ensures.same) (c.put_refusal-n.ensures u from))
 
 pub returns-then-asks_route : goal.returns-then-asks_route
 returns-then-asks_route c =

@@ -1,5 +1,6 @@
-use mathlib.Core.Path.{ap, ◌∙◌}
+use mathlib.Core.Path.{◌≡◌, ap, ◌∙◌}
 use native.Mathlib.Omega.{arith}
+use lib.ListN.{length}
 use Rattle.printer.proofs.Laws.{first_start, first_here, first_later, first_none}
 use Rattle.printer.specs.Printed.{is_head}
 use Rattle.printer.proofs.questions.first_question.Goals as goal
@@ -28,4 +29,5 @@ loop-i-preserved c =
 pub returns : goal.returns
 returns c =
     let l = c.loop-i in
-    (first_none c.args.words.now l.i l.invariant.1 c.loop-i-test.false, l.invariant.0)
+    let e : length c.args.words.now ≡ l.i = omega arith in
+    (e ∙ first_none c.args.words.now l.i l.invariant.1 c.loop-i-test.false, omega arith)

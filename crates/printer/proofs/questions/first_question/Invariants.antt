@@ -6,6 +6,3 @@ use Rattle.printer.proofs.questions.first_question.Given as goal
 
 abbrev pub invariant-loop-i : goal.invariant-loop-i
 invariant-loop-i l = (l.i ≤ length l.words) × (questions_at l.words ≡ first_from l.words l.i (length l.words - l.i))
-
-abbrev pub decreases-loop-i : goal.decreases-loop-i
-decreases-loop-i l = length l.words - l.i

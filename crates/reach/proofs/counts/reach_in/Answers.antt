@@ -3,7 +3,7 @@ use mathlib.Core.Path.{sym, subst, ◌∙◌}
 use native.Mathlib.Omega.{arith}
 use Rattle.search_laws.proofs.Tables.{same_reads}
 use Rattle.hir_def.proofs.Fits.{few_words}
-use Rattle.reach.proofs.Laws.{not_met, met, Reaching, reaching_start, reaching_met, reaching_new, reaching_done, entry_fits, report_fits}
+use Rattle.reach.proofs.Laws.{Reaching, reaching_start, reaching_met, reaching_new, reaching_done, entry_fits, report_fits}
 use Rattle.reach.proofs.Laws.{report_entry}
 use Rattle.reach.proofs.counts.reach_in.Goals as goal
 use Rattle.reach.proofs.counts.reach_in.Goals.{then-not-is_met, else-not-is_met}
@@ -50,13 +50,6 @@ tally-reach-requires c =
     let r = same_reads W c.args.area.now c.loop-k.area c.args.l c.loop-k.invariant.tables c.requires.0 in
     report_fits W c.loop-k.area c.args.l r c.loop-k.k _ c.loop-k-test.true c.scope_base-base.ensures c.args.v
     (record { some = c.requires.4; most = c.requires.5 }) c.loop-k.reach.counts _ c.report_for-r.ensures.value c.loop-k.invariant.within
-
-pub overflow_add-k : goal.overflow_add-k
-overflow_add-k c =
-    record { fits = omega (arith, c.loop-k-test.true, few_words c.args.words.now c.args.area.now c.args.l c.requires.0) }
-
-pub loop-k-smaller : goal.loop-k-smaller
-loop-k-smaller c = omega (arith, c.loop-k-test.true)
 
 pub loop-k-preserved : goal.loop-k-preserved
 loop-k-preserved c =

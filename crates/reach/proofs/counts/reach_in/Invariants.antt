@@ -4,6 +4,3 @@ use Rattle.reach.proofs.counts.reach_in.Given as goal
 
 abbrev pub invariant-loop-k : goal.invariant-loop-k
 invariant-loop-k l = Reaching l.words l.initial.area l.l l.v l.area l.reach l.k
-
-abbrev pub decreases-loop-k : goal.decreases-loop-k
-decreases-loop-k l = l.l.scopes - l.k

@@ -14,6 +14,3 @@ invariant-loop-j l =
     (A : List ℕ) → is_met (snap_of l.words A l.l) (records_of scope_at scope_size l.words (scope_base l.l) l.k) (scope_at l.words (scope_base l.l + scope_size * l.k))
     ≡ any (λ d. same_item (item_in (snap_of l.words A l.l) d) (item_in (snap_of l.words A l.l) (scope_at l.words (scope_base l.l + scope_size * l.k))))
     (rows (λ i. scope_at l.words (scope_base l.l + scope_size * i)) l.j (l.k - l.j))
-
-abbrev pub decreases-loop-j : goal.decreases-loop-j
-decreases-loop-j l = l.k - l.j

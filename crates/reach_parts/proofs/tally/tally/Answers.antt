@@ -14,9 +14,6 @@ bounds-counts-at c = omega (
   c.column-at.ensures,
 )
 
-pub overflow_add-counts : goal.overflow_add-counts
-overflow_add-counts c = record { fits = omega (arith, c.requires.2 c.column-at.result) }
-
 pub bounds-counts-at-2 : goal.bounds-counts-at-2
 bounds-counts-at-2 c = omega (
   arith,

@@ -1,50 +1,12 @@
-use Prim.Native.Nat.{◌+◌, ◌*◌}
-use mathlib.Core.Path.{ap}
-use native.Mathlib.Omega.{arith}
-use Rattle.snapshot.specs.Sizes.{member_size}
+use Rattle.std.proofs.Common.{rules}
 use Rattle.snapshot.specs.Records.{member_at}
-use Rattle.snapshot.proofs.Laws.{rows_whole}
-use Rattle.hir_def.specs.Finds.{first_of}
 use Rattle.readings.specs.Reads.{is_variant_named, variant_named}
-use Rattle.hir_def.proofs.Lookups.{first_hit, first_miss, first_none}
+use Rattle.hir_def.proofs.Searches.{first_by}
 use Rattle.read_back.proofs.lookups.variant_named.Goals as goal
 
-pub loop-k-init : goal.loop-k-init
-unfolding variant_named
-loop-k-init c = λ A. rows_whole (first_of _) _ _
-
-pub overflow_mul-h : goal.overflow_mul-h
-overflow_mul-h c = record { fits = omega (arith, c.loop-k-test.true, c.requires) }
-
-pub overflow_add-h : goal.overflow_add-h
-overflow_add-h c = record {
-  fits = omega (
-    arith,
-    c.loop-k-test.true,
-    c.member_base-base.ensures,
-    c.requires,
-  );
-}
-
-pub returns-then-is_variant_named : goal.returns-then-is_variant_named
-returns-then-is_variant_named c =
-    λ A.
-    let w = c.loop-k in
-    first_hit _ _ _ _ _ (w.invariant A) c.loop-k-test.true (ap (λ b. member_at c.args.words.now (b + member_size * w.k))
-    c.member_base-base.ensures) c.is_variant_named.ensures c.if-is_variant_named.true
-
-pub overflow_add-k : goal.overflow_add-k
-overflow_add-k c = record { fits = omega (arith, c.loop-k-test.true, c.requires) }
-
-pub loop-k-smaller : goal.loop-k-smaller
-loop-k-smaller c = omega (arith, c.loop-k-test.true)
-
-pub loop-k-preserved : goal.loop-k-preserved
-loop-k-preserved c =
-    λ A.
-    let w = c.loop-k in
-    first_miss _ _ _ _ _ (w.invariant A) c.loop-k-test.true (ap (λ b. member_at c.args.words.now (b + member_size * w.k))
-    c.member_base-base.ensures) c.is_variant_named.ensures c.if-is_variant_named.false
-
 pub returns : goal.returns
-returns c = λ A. first_none _ _ _ _ _ (c.loop-k.invariant A) c.loop-k-test.false
+unfolding variant_named
+returns c =
+    λ A.
+    first_by (is_variant_named c.args.d.0 c.args.name.0) member_at c.args.words.now _ _ c.member_base.ensures
+    (λ h t p. search rules) _ c.first_where.ensures

@@ -3,28 +3,26 @@ use Rattle.snapshot.specs.Records.{extern_at}
 use Rattle.snapshot.specs.Layouts.{snap_of}
 use Rattle.hir_def.specs.Entries.{entry_of}
 use Rattle.hir_def.proofs.Fits.{few_words}
-use Rattle.read_back.specs.Answers.{meant}
 use Rattle.read_back.proofs.Cases.{externs_other, externs_none, externs_some}
 use Rattle.read_back.proofs.names.in_externs.Goals as goal
 
 pub returns-then-ns-ne-TYPES : goal.returns-then-ns-ne-TYPES
-unfolding meant
 returns-then-ns-ne-TYPES c = externs_other _ _ _ _ c.if-ns-ne-TYPES.true
 
 pub extern_named-requires : goal.extern_named-requires
 extern_named-requires c = few_words c.args.words.now c.args.area.now
     c.args.l c.requires.0
 
-pub returns-in_default : goal.returns-in_default
-unfolding meant
-returns-in_default c =
-    externs_none (snap_of c.args.words.now c.args.area.now c.args.l) c.args.from.0 c.args.ns c.args.name.0
+pub returns-in_err-h : goal.returns-in_err-h
+returns-in_err-h c =
+    c.from_residual.ensures
+    ∙ externs_none (snap_of c.args.words.now c.args.area.now c.args.l) c.args.from.0 c.args.ns c.args.name.0
     c.if-ns-ne-TYPES.false c.krate.ensures (sym (c.extern_named.ensures c.args.area.now)
-    ∙ ap (entry_of extern_at c.args.words.now) c.in_default.is)
+    ∙ ap (entry_of extern_at c.args.words.now) c.in_err-h.was)
 
 pub returns : goal.returns
 returns c =
     externs_some (snap_of c.args.words.now c.args.area.now c.args.l) c.args.from.0 c.args.ns c.args.name.0
     c.if-ns-ne-TYPES.false c.krate.ensures (sym (c.extern_named.ensures c.args.area.now)
-    ∙ ap (entry_of extern_at c.args.words.now) c.in-At.is) c.extern_target.ensures
+    ∙ ap (entry_of extern_at c.args.words.now) c.in_ok-h.was) c.extern_target.ensures
     c.means_module.ensures

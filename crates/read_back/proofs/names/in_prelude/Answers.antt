@@ -3,22 +3,21 @@ use Rattle.snapshot.specs.Records.{prelude_at}
 use Rattle.snapshot.specs.Layouts.{snap_of}
 use Rattle.hir_def.specs.Entries.{entry_of}
 use Rattle.hir_def.proofs.Fits.{few_words}
-use Rattle.read_back.specs.Answers.{meant}
 use Rattle.read_back.proofs.Cases.{prelude_none, prelude_some}
 use Rattle.read_back.proofs.names.in_prelude.Goals as goal
 
 pub prelude_of-requires : goal.prelude_of-requires
 prelude_of-requires c = few_words c.args.words.now c.args.area.now c.args.l c.requires.0
 
-pub returns-in_default : goal.returns-in_default
-unfolding meant
-returns-in_default c =
-    prelude_none (snap_of c.args.words.now c.args.area.now c.args.l) c.args.from.0 c.args.ns c.args.name.0
+pub returns-in_err-p : goal.returns-in_err-p
+returns-in_err-p c =
+    c.from_residual.ensures
+    ∙ prelude_none (snap_of c.args.words.now c.args.area.now c.args.l) c.args.from.0 c.args.ns c.args.name.0
     c.map.ensures (sym (c.prelude_of.ensures c.args.area.now) ∙ ap (entry_of prelude_at c.args.words.now)
-    c.in_default.is)
+    c.in_err-p.was)
 
 pub returns : goal.returns
 returns c =
     prelude_some (snap_of c.args.words.now c.args.area.now c.args.l) c.args.from.0 c.args.ns c.args.name.0
     c.map.ensures (sym (c.prelude_of.ensures c.args.area.now) ∙ ap (entry_of prelude_at c.args.words.now)
-    c.in-At.is) c.prelude_target.ensures c.in_scope.ensures
+    c.in_ok-p.was) c.prelude_target.ensures c.in_scope.ensures

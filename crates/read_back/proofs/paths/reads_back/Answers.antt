@@ -1,20 +1,17 @@
 use mathlib.Core.Path.{sym, ap, ◌∙◌}
 use lib.ListN.{take}
 use Rattle.snapshot.specs.Layouts.{snap_of}
-use Rattle.read_back.specs.Answers.{meant}
 use Rattle.read_back.proofs.Cases.{back_none, back_some}
 use Rattle.read_back.proofs.paths.reads_back.Goals as goal
 
 pub returns-in_default : goal.returns-in_default
-unfolding meant
 returns-in_default c =
     back_none (snap_of c.args.words.now c.args.area.now c.args.l) c.args.from.0 c.args.item c.args.kind
     (take c.args.count c.args.names.now) c.ns_of.ensures
-    (sym c.reads_to.ensures ∙ ap meant c.in_default.is)
+    (sym c.reads_to.ensures ∙ c.in_default.is)
 
 pub returns : goal.returns
-unfolding meant
 returns c =
     back_some (snap_of c.args.words.now c.args.area.now c.args.l) c.args.from.0 c.args.item c.args.kind
     (take c.args.count c.args.names.now) c.ns_of.ensures
-    (sym c.reads_to.ensures ∙ ap meant c.in-Means.is) c.same_item.ensures
+    (sym c.reads_to.ensures ∙ c.in-Some.is) c.same_item.ensures

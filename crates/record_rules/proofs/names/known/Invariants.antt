@@ -6,10 +6,7 @@ use Rattle.snapshot.specs.Records.{name_at}
 use Rattle.check_rules.specs.Tests.{same_name}
 use Rattle.record_rules.proofs.names.known.Given as goal
 
-abbrev pub invariant-loop-k : goal.invariant-loop-k
-invariant-loop-k l = (l.k ≤ l.n)
+abbrev pub invariant-loop-head : goal.invariant-loop-head
+invariant-loop-head l = (l.head-index ≤ l.n)
     × (any (same_name (name_at l.words l.at)) (rows (λ j. name_at l.names (get_or l.heads j 0)) 0 l.n) ≡ any (same_name (name_at l.words l.at))
-    (rows (λ j. name_at l.names (get_or l.heads j 0)) l.k (l.n - l.k)))
-
-abbrev pub decreases-loop-k : goal.decreases-loop-k
-decreases-loop-k l = l.n - l.k
+    (rows (λ j. name_at l.names (get_or l.heads j 0)) l.head-index (l.n - l.head-index)))

@@ -8,6 +8,3 @@ abbrev pub invariant-loop-i : goal.invariant-loop-i
 invariant-loop-i l = (l.i ≤ l.n)
     × (eq_list (rows (λ j. get_or l.left (l.a + 1 + j) 0) 0 l.n) (rows (λ j. get_or l.right (l.b + 1 + j) 0) 0 l.n)
     ≡ eq_list (rows (λ j. get_or l.left (l.a + 1 + j) 0) l.i (l.n - l.i)) (rows (λ j. get_or l.right (l.b + 1 + j) 0) l.i (l.n - l.i)))
-
-abbrev pub decreases-loop-i : goal.decreases-loop-i
-decreases-loop-i l = l.n - l.i

@@ -2,23 +2,26 @@ use mathlib.Core.Path.{refl, ap, ◌∙◌}
 use native.Mathlib.Omega.{arith}
 use lib.ListN.{length-set}
 use Prim.Native.Nat.{◌+◌}
+use Rattle.std.proofs.lemmas.Result.{err_from_is_err_and}
 use Rattle.snapshot.specs.Words.{words_of}
+use Rattle.snapshot.proofs.Laws.{refusal_some}
 use Rattle.record_rules.proofs.Indexed.{key_small}
 use Rattle.record_rules.proofs.Tabled.{names_room, name_no, name_on_lem}
 use Rattle.record_rules.proofs.names.step.Goals as goal
 
-pub returns-then-n-ne0 : goal.returns-then-n-ne0
-returns-then-n-ne0 c ms st =
-    name_no c.args.words.now c.args.area.now c.args.at c.args.l ms st
-    c.judge-n.ensures
+pub returns-in_err-judge : goal.returns-in_err-judge
+returns-in_err-judge c ms st =
+    let p = err_from_is_err_and c.from_residual.result c.from_residual.ensures.1 in
+    rw (p.1, p.2) (name_no c.args.words.now c.args.area.now c.args.at c.args.l ms st
+    c.in_err-judge.ensures
     c.in_range-range.ensures
     c.repeated-old.ensures
     refl
-    c.if-n-ne0.true
+    (refusal_some _))
 
 pub link-requires : goal.link-requires
 link-requires c =
-    let r = names_room c.args.l.names _ _ c.judge-n.ensures c.if-n-ne0.false in
+    let r = names_room c.args.l.names _ _ c.in_ok-judge.ensures refl in
     let h = key_small _ c.name_key-key.ensures in
     let e = length-set c.args.area.now c.args.l.names c.args.at in
     let f = c.requires.room in
@@ -27,11 +30,11 @@ link-requires c =
 pub returns : goal.returns
 returns c ms st =
     name_on_lem c.args.words.now c.args.area.now c.args.at c.args.l ms st
-    c.judge-n.ensures
+    c.in_ok-judge.ensures
     c.in_range-range.ensures
     c.repeated-old.ensures
     refl
-    c.if-n-ne0.false c.requires.room
+    refl c.requires.room
     (ap (λ x. c.args.at + 1 + x) (c.text_words.ensures ∙ ap words_of c.payload.ensures)) c.requires.fits
     c.name_key-key.ensures
     c.link.ensures

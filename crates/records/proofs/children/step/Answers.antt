@@ -1,8 +1,10 @@
 use Prim.Native.Nat.{◌+◌}
-use mathlib.Core.Path.{ap}
+use mathlib.Core.Path.{refl, ap}
 use mathlib.Core.Bool.{not}
 use native.Mathlib.Omega.{arith}
 use lib.Dec.{eqb}
+use Rattle.std.proofs.lemmas.Result.{err_from_is_err_and}
+use Rattle.snapshot.proofs.Laws.{refusal_some}
 use Rattle.records.proofs.Steps.{child_no, child_on}
 use Rattle.records.proofs.Linked.{child_small, child_linked}
 use Rattle.records.proofs.children.step.Goals as goal
@@ -14,19 +16,20 @@ overflow_add-mark c = (omega (
   c.type_inv.words (c.args.at + 1),
 ))
 
-pub returns-then-n-ne0 : goal.returns-then-n-ne0
-returns-then-n-ne0 c ms st =
-    child_no c.args.words.now c.args.area.now c.args.at c.args.l ms st
-    c.judge-n.ensures
+pub returns-in_err-judge : goal.returns-in_err-judge
+returns-in_err-judge c ms st =
+    let p = err_from_is_err_and c.from_residual.result c.from_residual.ensures.1 in
+    rw (p.1, p.2) (child_no c.args.words.now c.args.area.now c.args.at c.args.l ms st
+    c.in_err-judge.ensures
     c.defined.ensures
     c.child_child-child.ensures
     (ap (λ x. not (eqb x 0)) c.word-old.ensures)
     c.placed.ensures
-    c.if-n-ne0.true
+    (refusal_some _))
 
 pub offset_bounds-area-mark : goal.offset_bounds-area-mark
 offset_bounds-area-mark c =
-    let h = child_small c.args.words.now c.args.at c.args.l _ _ _ c.judge-n.ensures c.if-n-ne0.false
+    let h = child_small c.args.words.now c.args.at c.args.l _ _ _ c.in_ok-judge.ensures refl
     c.defined.ensures in
     let e = c.child_child-child.ensures in
     let f = c.requires.limited.modules in
@@ -35,7 +38,7 @@ offset_bounds-area-mark c =
 
 pub bounds-area-mark : goal.bounds-area-mark
 bounds-area-mark c =
-    let h = child_small c.args.words.now c.args.at c.args.l _ _ _ c.judge-n.ensures c.if-n-ne0.false
+    let h = child_small c.args.words.now c.args.at c.args.l _ _ _ c.in_ok-judge.ensures refl
     c.defined.ensures in
     let e = c.child_child-child.ensures in
     let f = c.requires.limited.modules in
@@ -44,15 +47,15 @@ bounds-area-mark c =
 
 pub returns : goal.returns
 returns c ms st =
-    let h = child_small c.args.words.now c.args.at c.args.l _ _ _ c.judge-n.ensures c.if-n-ne0.false
+    let h = child_small c.args.words.now c.args.at c.args.l _ _ _ c.in_ok-judge.ensures refl
     c.defined.ensures in
     let e = c.child_child-child.ensures in
     let f = c.requires.limited.modules in
     child_on c.args.words.now c.args.area.now c.args.at c.args.l ms st
-    c.judge-n.ensures
+    c.in_ok-judge.ensures
     c.defined.ensures
     c.child_child-child.ensures
     (ap (λ x. not (eqb x 0)) c.word-old.ensures)
     c.placed.ensures
-    _ c.if-n-ne0.false c.requires.fits
+    _ refl c.requires.fits
     (child_linked c.args.words.now c.args.area.now c.args.at c.args.l ms c.requires.room st e (omega arith))

@@ -1,18 +1,22 @@
+use mathlib.Core.Path.{refl}
+use Rattle.std.proofs.lemmas.Result.{err_from_is_err_and}
+use Rattle.snapshot.proofs.Laws.{refusal_some}
 use Rattle.records.proofs.Steps.{dependency_no, dependency_on}
 use Rattle.records.proofs.dependencies.step.Goals as goal
 
-pub returns-then-n-ne0 : goal.returns-then-n-ne0
-returns-then-n-ne0 c ms st =
-    dependency_no c.args.words.now c.args.area.now c.args.at c.args.l ms st
-    c.judge-n.ensures
+pub returns-in_err-judge : goal.returns-in_err-judge
+returns-in_err-judge c ms st =
+    let p = err_from_is_err_and c.from_residual.result c.from_residual.ensures.1 in
+    rw (p.1, p.2) (dependency_no c.args.words.now c.args.area.now c.args.at c.args.l ms st
+    c.in_err-judge.ensures
     c.in_range.ensures
     c.defined.ensures
-    c.if-n-ne0.true
+    (refusal_some _))
 
 pub returns : goal.returns
 returns c ms st =
     dependency_on c.args.words.now c.args.area.now c.args.at c.args.l ms st
-    c.judge-n.ensures
+    c.in_ok-judge.ensures
     c.in_range.ensures
     c.defined.ensures
-    c.if-n-ne0.false c.requires.fits
+    refl c.requires.fits

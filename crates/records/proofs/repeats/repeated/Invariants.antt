@@ -8,6 +8,3 @@ abbrev pub invariant-loop-k : goal.invariant-loop-k
 invariant-loop-k l = (l.k ≤ l.count) × (l.p ≡ l.base + l.size * l.k + l.fields)
     × (any (same_by l.words l.owner l.fields l.at) (rows (λ j. l.base + l.size * j) 0 l.count) ≡ any (same_by l.words l.owner l.fields l.at)
     (rows (λ j. l.base + l.size * j) l.k (l.count - l.k)))
-
-abbrev pub decreases-loop-k : goal.decreases-loop-k
-decreases-loop-k l = l.count - l.k

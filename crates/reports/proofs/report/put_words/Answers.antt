@@ -29,27 +29,3 @@ returns c =
     let a = c.args in
     let l = c.loop-i in
     words_done a.out.now l.out a.numbers.now a.at l.i l.invariant.2 l.invariant.0 c.loop-i-test.false
-
-pub offset_bounds-numbers-i : goal.offset_bounds-numbers-i
-offset_bounds-numbers-i c = omega arith
-
-pub bounds-numbers-i : goal.bounds-numbers-i
-bounds-numbers-i c = omega arith
-
-pub low-requires : goal.low-requires
-low-requires c = tt
-
-pub overflow_add-out : goal.overflow_add-out
-overflow_add-out c = omega arith
-
-pub offset_bounds-out-at : goal.offset_bounds-out-at
-offset_bounds-out-at c = omega arith
-
-pub bounds-out-at : goal.bounds-out-at
-bounds-out-at c = omega arith
-
-pub overflow_add-i : goal.overflow_add-i
-overflow_add-i c = omega arith
-
-pub loop-i-smaller : goal.loop-i-smaller
-loop-i-smaller c = omega arith

@@ -8,9 +8,6 @@ use Rattle.reports.proofs.report.write_report.Goals as goal
 pub returns-then-out-lt-COUNT : goal.returns-then-out-lt-COUNT
 returns-then-out-lt-COUNT c = not_written c.args.report c.args.out.now c.if-out-lt-COUNT.true
 
-pub slice_bounds-put_words-end-2 : goal.slice_bounds-put_words-end-2
-slice_bounds-put_words-end-2 c = search rules
-
 pub put_words-requires-2 : goal.put_words-requires-2
 put_words-requires-2 c =
     let h : 16 ≡ length c.args.report.names =
@@ -21,9 +18,6 @@ put_words-requires-2 c =
       c.if-out-lt-COUNT.false,
       c.put_words.auto.out,
     )
-
-pub slice_bounds-put_words-end-4 : goal.slice_bounds-put_words-end-4
-slice_bounds-put_words-end-4 c = search rules
 
 pub put_words-requires-4 : goal.put_words-requires-4
 put_words-requires-4 c =

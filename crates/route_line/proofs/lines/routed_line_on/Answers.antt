@@ -4,20 +4,20 @@ use Rattle.route_line.proofs.lines.routed_line_on.Goals as goal
 
 pub put_routed-requires : goal.put_routed-requires
 put_routed-requires c = (
-  reads_of c.args.words.now c.report_on-r.new.area c.args.c c.report_on-r.ensures.checked _ c.in-Accepted.is,
+  reads_of c.args.words.now c.report_on-r.new.area c.args.c c.report_on-r.ensures.checked _ c.in-Ok.is,
   c.requires.2,
   few_names c.args.words.now c.args.question c.report_on-r.new.area c.args.c c.report_on-r.result c.report_on-r.ensures,
   few_steps c.args.words.now c.args.question c.report_on-r.new.area c.args.c c.report_on-r.result c.report_on-r.ensures,
 )
 
-pub returns-in-Refused : goal.returns-in-Refused
-returns-in-Refused c =
+pub returns-in-Err : goal.returns-in-Err
+returns-in-Err c =
     let s = c.args in
-    routed_refused s.words.now s.question c.report_on-r.new.area s.c c.report_on-r.result c.report_on-r.ensures _ _ _ _ _
-    c.in-Refused.is c.put_refusal.ensures
+    routed_refused s.words.now s.question c.report_on-r.new.area s.c c.report_on-r.result c.report_on-r.ensures _ _ _ _
+    c.in-Err.is c.put_refusal.ensures
 
-pub returns-in-Accepted : goal.returns-in-Accepted
-returns-in-Accepted c =
+pub returns-in-Ok : goal.returns-in-Ok
+returns-in-Ok c =
     let s = c.args in
     routed_accepted s.words.now s.question c.report_on-r.new.area s.c c.report_on-r.result c.report_on-r.ensures _ _ _ _
-    c.in-Accepted.is c.put_routed.ensures
+    c.in-Ok.is c.put_routed.ensures

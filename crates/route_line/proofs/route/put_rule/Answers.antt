@@ -1,33 +1,40 @@
-use mathlib.Core.Path.{◌≡◌, ◌∙◌}
+use mathlib.Core.Path.{sym, ap}
 use mathlib.Core.List.{[]}
 use native.Mathlib.Omega.{arith}
 use lib.ListN.{get_or}
 use Rattle.printing.proofs.Laws.{put_as}
-use Rattle.wording.proofs.Laws.{choose_on}
+use Rattle.path_choices.specs.StepRules.{rule_number}
 use Rattle.find_path.specs.Line.{rule_names}
-use Rattle.route_line.proofs.Laws.{rule_each, rule_short}
 use Rattle.route_line.proofs.route.put_rule.Goals as goal
 
-pub put-requires : goal.put-requires
-put-requires c =
-    let told : c.chosen-t-7.result.now ≡ get_or rule_names c.args.rule [] =
-    (choose_on _ _ _ c.chosen-t-7.ensures
-    (choose_on _ _ _ c.chosen-t-6.ensures
-    (choose_on _ _ _ c.chosen-t-5.ensures
-    (choose_on _ _ _ c.chosen-t-4.ensures
-    (choose_on _ _ _ c.chosen-t-3.ensures
-    (choose_on _ _ _ c.chosen-t-2.ensures c.chosen-t.ensures))))))
-    ∙ (rule_each _ c.requires.1).0 in
-    omega (arith, rule_short told c.requires.1, c.requires.0)
+pub returns-in-Builtin : goal.returns-in-Builtin
+returns-in-Builtin c = let p = c.put.ensures in
+    record { put = put_as (ap (λ r. get_or rule_names (rule_number r) []) (sym c.in-Builtin.is)) p; upper_bound = omega (arith, p.next) }
 
-pub returns : goal.returns
-returns c =
-    let told : c.chosen-t-7.result.now ≡ get_or rule_names c.args.rule [] =
-    (choose_on _ _ _ c.chosen-t-7.ensures
-    (choose_on _ _ _ c.chosen-t-6.ensures
-    (choose_on _ _ _ c.chosen-t-5.ensures
-    (choose_on _ _ _ c.chosen-t-4.ensures
-    (choose_on _ _ _ c.chosen-t-3.ensures
-    (choose_on _ _ _ c.chosen-t-2.ensures c.chosen-t.ensures))))))
-    ∙ (rule_each _ c.requires.1).0 in
-    record { put = put_as told c.put.ensures; upper_bound = omega (arith, rule_short told c.requires.1, c.put.ensures.next) }
+pub returns-in-Scope : goal.returns-in-Scope
+returns-in-Scope c = let p = c.put-in-Scope.ensures in
+    record { put = put_as (ap (λ r. get_or rule_names (rule_number r) []) (sym c.in-Scope.is)) p; upper_bound = omega (arith, p.next) }
+
+pub returns-in-Prelude : goal.returns-in-Prelude
+returns-in-Prelude c = let p = c.put-in-Prelude.ensures in
+    record { put = put_as (ap (λ r. get_or rule_names (rule_number r) []) (sym c.in-Prelude.is)) p; upper_bound = omega (arith, p.next) }
+
+pub returns-in-Extern : goal.returns-in-Extern
+returns-in-Extern c = let p = c.put-in-Extern.ensures in
+    record { put = put_as (ap (λ r. get_or rule_names (rule_number r) []) (sym c.in-Extern.is)) p; upper_bound = omega (arith, p.next) }
+
+pub returns-in-Keyword : goal.returns-in-Keyword
+returns-in-Keyword c = let p = c.put-in-Keyword.ensures in
+    record { put = put_as (ap (λ r. get_or rule_names (rule_number r) []) (sym c.in-Keyword.is)) p; upper_bound = omega (arith, p.next) }
+
+pub returns-in-Variant : goal.returns-in-Variant
+returns-in-Variant c = let p = c.put-in-Variant.ensures in
+    record { put = put_as (ap (λ r. get_or rule_names (rule_number r) []) (sym c.in-Variant.is)) p; upper_bound = omega (arith, p.next) }
+
+pub returns-in-Local : goal.returns-in-Local
+returns-in-Local c = let p = c.put-in-Local.ensures in
+    record { put = put_as (ap (λ r. get_or rule_names (rule_number r) []) (sym c.in-Local.is)) p; upper_bound = omega (arith, p.next) }
+
+pub returns-in-Import : goal.returns-in-Import
+returns-in-Import c = let p = c.put-in-Import.ensures in
+    record { put = put_as (ap (λ r. get_or rule_names (rule_number r) []) (sym c.in-Import.is)) p; upper_bound = omega (arith, p.next) }

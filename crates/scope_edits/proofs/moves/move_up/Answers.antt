@@ -1,53 +1,6 @@
-use Prim.Native.Nat.{◌+◌, ◌-◌}
-use mathlib.Core.Path.{◌≡◌, refl, ap, ◌∙◌}
-use mathlib.Core.List.{◌++◌}
-use native.Mathlib.Omega.{arith}
-use lib.ListN.{take, drop, length-set}
-use Rattle.snapshot.specs.Sizes.{scope_size}
-use Rattle.scope_edits.proofs.Shifted.{up_start, up_next}
+use mathlib.Core.Path.{◌∙◌}
+use Rattle.scope_edits.proofs.Shifted.{moved_up}
 use Rattle.scope_edits.proofs.moves.move_up.Goals as goal
 
-pub loop-i-init : goal.loop-i-init
-loop-i-init c = let p = c.requires in (p.0, omega arith, refl, up_start c.args.words.now c.args.count (omega arith))
-
-pub loop-i-preserved : goal.loop-i-preserved
-loop-i-preserved c =
-    let l = c.loop-i in
-    let p = c.requires in
-    let k = l.invariant in
-    let t = c.loop-i-test.true in (
-      omega arith,
-      omega arith,
-      (simp length-set) ∙ k.2,
-      up_next c.args.words.now l.words (drop (c.args.count + scope_size) c.args.words.now) c.args.count l.i
-          (l.i - 1) (omega arith) k.1 p.1 k.3,
-    )
-
 pub returns : goal.returns
-returns c =
-    let l = c.loop-i in
-    let k = l.invariant in
-    let e : l.i ≡ c.args.at = let t = c.loop-i-test.false in let a = k.0 in omega arith in
-    k.3 ∙ ap (λ i. take (i + scope_size) c.args.words.now ++ (drop i (take c.args.count c.args.words.now) ++ drop
-    (c.args.count + scope_size) c.args.words.now)) e
-
-pub overflow_sub-i : goal.overflow_sub-i
-overflow_sub-i c = omega arith
-
-pub offset_bounds-words-i : goal.offset_bounds-words-i
-offset_bounds-words-i c = omega arith
-
-pub bounds-words-i : goal.bounds-words-i
-bounds-words-i c = omega arith
-
-pub overflow_add-words : goal.overflow_add-words
-overflow_add-words c = omega arith
-
-pub offset_bounds-words-i-in-loop-i : goal.offset_bounds-words-i-in-loop-i
-offset_bounds-words-i-in-loop-i c = omega arith
-
-pub bounds-words-i-in-loop-i : goal.bounds-words-i-in-loop-i
-bounds-words-i-in-loop-i c = omega arith
-
-pub loop-i-smaller : goal.loop-i-smaller
-loop-i-smaller c = omega arith
+returns c = c.copy_within.ensures.after ∙ moved_up _ _ _ c.requires.0

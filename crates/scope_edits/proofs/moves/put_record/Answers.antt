@@ -1,47 +1,6 @@
-use mathlib.Core.Path.{refl, ◌∙◌}
 use native.Mathlib.Omega.{arith}
-use lib.ListN.{length-set}
-use lib.Seq.{paste-zero}
-use Rattle.scope_edits.proofs.Shifted.{put_next, put_end}
+use Rattle.scope_edits.proofs.Shifted.{put_in}
 use Rattle.scope_edits.proofs.moves.put_record.Goals as goal
 
-pub loop-i-init : goal.loop-i-init
-loop-i-init c = (omega arith, refl, paste-zero c.args.words.now c.args.at c.args.added.now)
-
-pub loop-i-preserved : goal.loop-i-preserved
-loop-i-preserved c =
-    let l = c.loop-i in
-    let p = c.requires in
-    let k = l.invariant in
-    let t = c.loop-i-test.true in (
-      omega arith,
-      (simp length-set) ∙ k.1,
-      put_next c.args.words.now l.words c.args.added.now c.args.at l.i p.0 p.1 t k.2,
-    )
-
 pub returns : goal.returns
-returns c =
-    let l = c.loop-i in
-    let k = l.invariant in
-    put_end c.args.words.now l.words c.args.added.now c.args.at l.i c.requires.1 k.0 c.loop-i-test.false k.2
-
-pub offset_bounds-added-i : goal.offset_bounds-added-i
-offset_bounds-added-i c = omega arith
-
-pub bounds-added-i : goal.bounds-added-i
-bounds-added-i c = omega arith
-
-pub overflow_add-words : goal.overflow_add-words
-overflow_add-words c = omega arith
-
-pub offset_bounds-words-at : goal.offset_bounds-words-at
-offset_bounds-words-at c = omega arith
-
-pub bounds-words-at : goal.bounds-words-at
-bounds-words-at c = omega arith
-
-pub overflow_add-i : goal.overflow_add-i
-overflow_add-i c = omega arith
-
-pub loop-i-smaller : goal.loop-i-smaller
-loop-i-smaller c = omega arith
+returns c = put_in c.args.words.now c.args.added.now _ c.args.at _ (omega arith) c.copy_from_slice.ensures.after

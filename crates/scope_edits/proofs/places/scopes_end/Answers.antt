@@ -10,10 +10,10 @@ use Rattle.scope_edits.proofs.places.scopes_end.Goals as goal
 pub loop-at-init : goal.loop-at-init
 loop-at-init c = end_start _
 
-pub returns-then-kind-gt-SCOPE : goal.returns-then-kind-gt-SCOPE
-returns-then-kind-gt-SCOPE c =
+pub returns-then-kind : goal.returns-then-kind
+returns-then-kind c =
     let W = c.args.words.now in
-    walk_stop (is_later W) W _ c.loop-at.at c.loop-at.invariant (ap (ltb 9) (sym c.kind.ensures) ∙ lt-ltb 9 _ c.if-kind-gt-SCOPE.true)
+    walk_stop (is_later W) W _ c.loop-at.at c.loop-at.invariant (ap (ltb 9) (sym c.kind.ensures) ∙ lt-ltb 9 _ c.if-kind.true)
 
 pub overflow_add-at : goal.overflow_add-at
 overflow_add-at c = let h = c.loop-at-test.true in omega arith
@@ -32,7 +32,7 @@ pub loop-at-preserved : goal.loop-at-preserved
 loop-at-preserved c =
     let W = c.args.words.now in
     walk_on (is_later W) W _ c.loop-at.at c.loop-at.invariant c.loop-at-test.true
-    (ap (ltb 9) (sym c.kind.ensures) ∙ le-ltb 9 _ c.if-kind-gt-SCOPE.false) c.arguments.ensures
+    (ap (ltb 9) (sym c.kind.ensures) ∙ le-ltb 9 _ c.if-kind.false) c.arguments.ensures
 
 pub returns : goal.returns
 returns c =

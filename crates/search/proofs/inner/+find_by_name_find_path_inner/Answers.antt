@@ -1,8 +1,7 @@
-use Prim.Native.Nat.{ℕ, ◌+◌, ◌*◌, ◌≤◌, ◌<◌}
+use Prim.Native.Nat.{◌≤◌}
 use native.Mathlib.Omega.{arith}
-use borrow.Author.Rules.{rules}
 use mathlib.Core.Path.{◌≡◌, refl, sym, ap, ◌∙◌, subst}
-use mathlib.Core.Option.{none}
+use Rattle.std.specs.Prelude.{None}
 use Rattle.snapshot.specs.Records.{definition_at}
 use Rattle.snapshot.specs.Layouts.{snap_of}
 use Rattle.hir_def.specs.Items.{item_of, ns_of}
@@ -13,12 +12,9 @@ use Rattle.find_path.specs.Charged.{found_of, variant_of}
 use Rattle.search_laws.proofs.Tables.{same_reads}
 use Rattle.charged_search.proofs.Runs.{begun_later}
 use Rattle.search.proofs.Items.{number, item_ns, enum_no_variant, parent_of, inner_at_once, inner_by_name, name_found, name_plain}
-use Rattle.hir_def.proofs.Climbs.{is_some, is_none}
+use Rattle.hir_def.proofs.Climbs.{some_number, none_number}
 use Rattle.search.proofs.Starts.{begun, straight_known, enum_offered, tank_stays, enum_run, else_run}
 use Rattle.search.proofs.inner.+find_by_name_find_path_inner.Goals as goal
-
-pub find_by_name-named-choice-requires : goal.find_by_name-named-choice-requires
-find_by_name-named-choice-requires t c = (c.requires.0.reads, c.requires.0.from)
 
 pub find_by_name-returns-then-choice : goal.find_by_name-returns-then-choice
 find_by_name-returns-then-choice t c =
@@ -55,7 +51,7 @@ find_by_name-item_of-parent-requires t c = few_words _ _ _ c.requires.0.reads
 pub find_by_name-find_path_inner-o-requires : goal.find_by_name-find_path_inner-o-requires
 find_by_name-find_path_inner-o-requires t c =
     let a = c.args in
-    let e = sym (ap (entry_of definition_at a.words.now) c.in-At.is)
+    let e = sym (ap (entry_of definition_at a.words.now) c.in-Some.is)
     ∙ c.variant_of.ensures a.area.now in
     let g = c.item_of-parent.ensures a.area.now ∙ ap (item_of (snap_of a.words.now a.area.now a.l) 0)
     c.definition_first.ensures in
@@ -77,7 +73,7 @@ pub find_by_name-push_variant-choice-requires : goal.find_by_name-push_variant-c
 find_by_name-push_variant-choice-requires t c =
     let a = c.args in
     let e = sym (ap (entry_of definition_at a.words.now)
-    c.in-At.is)
+    c.in-Some.is)
     ∙ c.variant_of.ensures
     a.area.now in
     let g = c.item_of-parent.ensures a.area.now
@@ -86,7 +82,7 @@ find_by_name-push_variant-choice-requires t c =
     let p = parent_of a.words.now a.area.now a.l c.requires.0.reads a.item _ c.requires.1.0 e in
     let f = c.find_path_inner-o in
     let q = enum_offered a.words.now a.area.now a.l a.x _ a.t f.result c.requires.0
-    (subst (λ (y : Item). variant_of (snap_of a.words.now a.area.now a.l) y ≡ none) (sym g) p.plain) f.ensures.same in (
+    (subst (λ (y : Item). variant_of (snap_of a.words.now a.area.now a.l) y ≡ None) (sym g) p.plain) f.ensures.same in (
       same_reads a.words.now a.area.now _ a.l f.ensures.tables c.requires.0.reads,
       omega (arith, c.definition_second.ensures, p.name),
       q.few,
@@ -99,7 +95,7 @@ pub find_by_name-returns-then-best : goal.find_by_name-returns-then-best
 find_by_name-returns-then-best t c =
     let a = c.args in
     let e = sym (ap (entry_of definition_at a.words.now)
-    c.in-At.is)
+    c.in-Some.is)
     ∙ c.variant_of.ensures a.area.now in
     let g = c.item_of-parent.ensures a.area.now
     ∙ ap (item_of (snap_of a.words.now a.area.now a.l) 0)
@@ -127,7 +123,7 @@ pub find_by_name-returns : goal.find_by_name-returns
 find_by_name-returns t c =
     let a = c.args in
     let e = sym (ap (entry_of definition_at a.words.now)
-    c.in-At.is)
+    c.in-Some.is)
     ∙ c.variant_of.ensures a.area.now in
     let g = c.item_of-parent.ensures a.area.now
     ∙ ap (item_of (snap_of a.words.now a.area.now a.l) 0)
@@ -138,14 +134,11 @@ find_by_name-returns t c =
     c.if-choice.false _ e g f.ensures c.if-best.false
     c.calculate_best_path-2.ensures
 
-pub find_path_inner-find_by_name-requires : goal.find_path_inner-find_by_name-requires
-find_path_inner-find_by_name-requires t c = (omega (arith, c.decreases), c.requires)
-
 pub find_path_inner-returns-in_default : goal.find_path_inner-returns-in_default
 find_path_inner-returns-in_default t c =
     let a = c.args in
     let f = c.find_by_name in
-    let e = is_none _ c.straight_of.ensures
+    let e = none_number _ c.straight_of.ensures
     c.in_default.is in
     record {
       same = f.ensures.same ∙ ap found_of (inner_by_name (snap_of a.words.now a.area.now a.l) a.x a.item a.t
@@ -156,15 +149,15 @@ find_path_inner-returns-in_default t c =
 pub find_path_inner-find_path_for_module-requires : goal.find_path_inner-find_path_for_module-requires
 find_path_inner-find_path_for_module-requires t c =
     let a = c.args in
-    let e = is_some _ c.straight_of.ensures c.in-Module.is in
+    let e = some_number _ c.straight_of.ensures c.in-Some.is in
     (c.requires.0, straight_known a.l _ a.item e c.requires.1.0, c.requires.0.limit, c.requires.2)
 
 pub find_path_inner-returns : goal.find_path_inner-returns
 find_path_inner-returns t c =
     let a = c.args in
     let f = c.find_path_for_module in
-    let e = is_some _ c.straight_of.ensures
-    c.in-Module.is in
+    let e = some_number _ c.straight_of.ensures
+    c.in-Some.is in
     record {
       same = f.ensures.same ∙ ap found_of (inner_at_once (snap_of a.words.now a.area.now a.l) a.x a.item a.t
           (enum_no_variant a.words.now a.area.now a.l c.requires.0.reads a.item c.requires.1.0) e);

@@ -1,4 +1,3 @@
-use native.Mathlib.Omega.{arith}
 use Rattle.hir_def.proofs.Fits.{few_words}
 use Rattle.search.proofs.Starts.{builtin_at, builtin_name, builtin_same}
 use Rattle.search.proofs.inner.builtin_choice.Goals as goal
@@ -8,11 +7,8 @@ definition_head-h-requires c = few_words _ _ _ c.requires.0
 
 pub step_by-via-requires : goal.step_by-via-requires
 step_by-via-requires c =
-    let A = c.args.area.now in (
-      omega arith,
-      builtin_at c.args.words.now A c.args.l c.requires.0 c.args.d.0 c.requires.1 c.requires.2
-          (c.definition_head-h.ensures A),
-    )
+    let A = c.args.area.now in
+    builtin_at c.args.words.now A c.args.l c.requires.0 c.args.d.0 c.requires.1 c.requires.2 (c.definition_head-h.ensures A)
 
 pub new-requires : goal.new-requires
 new-requires c =

@@ -1,12 +1,16 @@
 use native.Mathlib.Omega.{arith}
 use Prim.Native.Nat.{◌≤◌}
 use mathlib.Core.Path.{refl, sym, ap, ◌∙◌, subst}
+use mathlib.Core.Bool.{◌&&◌}
+use lib.Dec.{eqb}
 use Rattle.snapshot.specs.Layouts.{snap_of}
 use Rattle.hir_def.specs.Items.{ns_of}
 use Rattle.hir_def.specs.Entries.{Known}
 use Rattle.hir_def.specs.declared.Item.{Item}
-use Rattle.hir_def.proofs.Climbs.{is_some, is_none}
+use Rattle.hir_def.proofs.Climbs.{some_number, none_number}
 use Rattle.hir_def.proofs.Fits.{few_words, item_known}
+use Rattle.snapshot.specs.declared.ids.DefinitionKind.TheVariants.{Builtin}
+use Rattle.hir_def.proofs.KindTests.{kind_is}
 use Rattle.find_path.specs.Rules.{module_in}
 use Rattle.find_path.specs.Charged.{found_of}
 use Rattle.charged_search.proofs.Holding.{module_small}
@@ -23,15 +27,15 @@ builtin_choice-choice-requires c =
       c.requires.0,
       c.requires.2,
       builtin_kind_lem (snap_of a.words.now a.area.now a.l) a.q.ns a.q.definition.0
-          (c.kind_of.ensures a.area.now) c.if-q-kind_of.true,
+          refl (ap (λ b. eqb a.q.ns 0 && b) (sym (kind_is Builtin _ c.eq.ensures (c.kind_of.ensures a.area.now))) ∙ c.if-q-eq.true),
     )
 
-pub returns-then-q-kind_of : goal.returns-then-q-kind_of
-returns-then-q-kind_of c =
+pub returns-then-q-eq : goal.returns-then-q-eq
+returns-then-q-eq c =
     let a = c.args in
     record {
       same = start_builtin (snap_of a.words.now a.area.now a.l) a.q a.fuel
-          (c.kind_of.ensures a.area.now) c.if-q-kind_of.true c.builtin_choice-choice.ensures;
+          refl (ap (λ b. eqb a.q.ns 0 && b) (sym (kind_is Builtin _ c.eq.ensures (c.kind_of.ensures a.area.now))) ∙ c.if-q-eq.true) c.builtin_choice-choice.ensures;
       tables = refl;
     }
 
@@ -46,9 +50,9 @@ returns-in_default c =
     let a = c.args in
     record {
       same = start_none (snap_of a.words.now a.area.now a.l) a.q a.fuel _ _
-          (c.kind_of.ensures a.area.now) c.if-q-kind_of.false
+          refl (ap (λ b. eqb a.q.ns 0 && b) (sym (kind_is Builtin _ c.eq.ensures (c.kind_of.ensures a.area.now))) ∙ c.if-q-eq.false)
           (c.item_of-item.ensures a.area.now) (c.home_of.ensures a.area.now)
-          (is_none _ refl c.in_default.is) c.nothing-choice.ensures;
+          (none_number _ refl c.in_default.is) c.nothing-choice.ensures;
       tables = refl;
     }
 
@@ -68,7 +72,7 @@ context-x-requires c =
       c.requires.0,
       c.requires.3,
       home_there a.words.now a.area.now a.l c.requires.0 _ k
-          (c.home_of.ensures a.area.now) (is_some _ refl c.in-Module.is),
+          (c.home_of.ensures a.area.now) (some_number _ refl c.in-Some.is),
       c.module_in-own.ensures ∙ ap module_in i,
     )
 
@@ -101,14 +105,10 @@ returns c =
     let f = c.find_path_inner in
     record {
       same = f.ensures.same ∙ ap found_of (start_item (snap_of a.words.now a.area.now a.l) a.q a.fuel _ _
-          (c.kind_of.ensures
-          a.area.now) c.if-q-kind_of.false
+          refl (ap (λ b. eqb a.q.ns 0 && b) (sym (kind_is Builtin _ c.eq.ensures (c.kind_of.ensures a.area.now))) ∙ c.if-q-eq.false)
           (c.item_of-item.ensures a.area.now)
           (c.home_of.ensures a.area.now)
-          (is_some _ refl c.in-Module.is)
+          (some_number _ refl c.in-Some.is)
           c.context-x.ensures);
       tables = f.ensures.tables;
     }
-
-pub nothing-choice-requires : goal.nothing-choice-requires
-nothing-choice-requires c = tt

@@ -18,7 +18,7 @@ holds_at-requires-then-holds_at c =
       c.requires.0,
       c.requires.1,
       declared_fits W c.args.area.now c.args.l c.requires.0 (scope_at c.args.words.now c.args.h) _
-          (sym c.declaration_of.ensures ∙ ap (entry_of scope_at W) c.in-At.is),
+          (sym c.declaration_of.ensures ∙ ap (entry_of scope_at W) c.in-Some.is),
     )
 
 pub returns-then-holds_at : goal.returns-then-holds_at
@@ -28,7 +28,7 @@ returns-then-holds_at c =
     ∙ both_declared (snap_of c.args.words.now c.args.area.now c.args.l) (scope_at c.args.words.now c.args.h)
     c.args.v.0 _ (sym c.holds_at.ensures
     ∙ c.if-holds_at.true) (sym c.declaration_of.ensures
-    ∙ ap (entry_of scope_at W) c.in-At.is)
+    ∙ ap (entry_of scope_at W) c.in-Some.is)
 
 pub returns : goal.returns
 returns c =

@@ -1,80 +1,27 @@
-use Prim.Native.Nat.{◌+◌, ◌*◌}
-use mathlib.Core.Path.{refl, ap}
-use native.Mathlib.Omega.{arith}
-use Rattle.snapshot.specs.Sizes.{scope_size}
+use mathlib.Core.Bool.{◌&&◌}
+use mathlib.Core.Path.{refl}
+use Rattle.std.proofs.Common.{rules}
+use Rattle.std.proofs.iter.Serving.{serving}
+use Rattle.snapshot.specs.Layouts.{snap_of}
 use Rattle.snapshot.specs.Records.{scope_at}
-use Rattle.snapshot.proofs.Laws.{rows_whole}
-use Rattle.hir_def.specs.Finds.{first_of}
+use Rattle.hir_def.specs.ItemScope.{is_for, names_of}
+use Rattle.nameable.specs.Seen.{seen}
 use Rattle.hir_def.proofs.Fits.{few_words, scope_fits}
-use Rattle.hir_def.proofs.Lookups.{first_hit, first_miss, first_none}
-use Rattle.hir_def.specs.ItemScope.{names_of}
+use Rattle.hir_def.proofs.Searches.{first_by}
 use Rattle.seen_entries.proofs.lookups.entry_for.Goals as goal
 
-pub scope_base-base-requires : goal.scope_base-base-requires
-scope_base-base-requires c = (few_words c.args.words.now c.args.area.now
-    c.args.l c.requires.0)
+pub scope_base-requires : goal.scope_base-requires
+scope_base-requires c = few_words c.args.words.now c.args.area.now c.args.l c.requires.0
 
-pub loop-k-init : goal.loop-k-init
-unfolding names_of
-loop-k-init c = rows_whole (first_of _) _ _
-
-pub overflow_mul-h : goal.overflow_mul-h
-overflow_mul-h c = record {
-  fits = omega (
-    arith,
-    c.loop-k-test.true,
-    (few_words c.args.words.now
-        c.args.area.now c.args.l
-        c.requires.0),
-  );
-}
-
-pub overflow_add-h : goal.overflow_add-h
-overflow_add-h c = record {
-  fits = omega (
-    arith,
-    c.loop-k-test.true,
-    c.scope_base-base.ensures,
-    (few_words c.args.words.now
-        c.args.area.now c.args.l
-        c.requires.0),
-  );
-}
-
-pub is_for_seen-requires : goal.is_for_seen-requires
-is_for_seen-requires c = (
-  c.requires.0,
-  c.requires.1,
-  scope_fits c.args.words.now c.args.area.now c.args.l c.requires.0 c.loop-k-test.true
-      c.scope_base-base.ensures refl,
-)
-
-pub returns-then-is_for_seen : goal.returns-then-is_for_seen
-returns-then-is_for_seen c =
-    let w = c.loop-k in
-    first_hit _ _ _ _ _ w.invariant c.loop-k-test.true (ap (λ b. scope_at c.args.words.now (b + scope_size * w.k))
-    c.scope_base-base.ensures) c.is_for_seen.ensures c.if-is_for_seen.true
-
-pub overflow_add-k : goal.overflow_add-k
-overflow_add-k c = record {
-  fits = omega (
-    arith,
-    c.loop-k-test.true,
-    (few_words c.args.words.now
-        c.args.area.now
-        c.args.l
-        c.requires.0),
-  );
-}
-
-pub loop-k-smaller : goal.loop-k-smaller
-loop-k-smaller c = omega (arith, c.loop-k-test.true)
-
-pub loop-k-preserved : goal.loop-k-preserved
-loop-k-preserved c =
-    let w = c.loop-k in
-    first_miss _ _ _ _ _ w.invariant c.loop-k-test.true (ap (λ b. scope_at c.args.words.now (b + scope_size * w.k))
-    c.scope_base-base.ensures) c.is_for_seen.ensures c.if-is_for_seen.false
+pub first_where-requires-clause-takes : goal.first_where-requires-clause-takes
+first_where-requires-clause-takes c =
+    λ i b.
+    let f = scope_fits c.args.words.now c.args.area.now c.args.l c.requires.0 b c.scope_base.ensures refl in
+    grind serving
 
 pub returns : goal.returns
-returns c = first_none _ _ _ _ _ c.loop-k.invariant c.loop-k-test.false
+unfolding names_of
+returns c =
+    let S = snap_of c.args.words.now c.args.area.now c.args.l in
+    first_by (λ e. is_for S c.args.m.0 c.args.item e && seen S c.args.from.0 e) scope_at c.args.words.now _ _
+    c.scope_base.ensures (λ h t p. search rules) _ c.first_where.ensures

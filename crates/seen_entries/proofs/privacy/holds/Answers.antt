@@ -1,27 +1,27 @@
-use mathlib.Core.Path.{ap, ◌∙◌}
-use native.Mathlib.Omega.{arith}
+use mathlib.Core.Path.{ap, ap₂, sym, ◌∙◌}
+use mathlib.Core.Logic.{inl, inr}
 use lib.Dec.{eqb}
 use Rattle.snapshot.specs.Layouts.{snap_of}
-use Rattle.seen_entries.proofs.Laws.{holds_public, holds_crate, holds_module}
+use Rattle.snapshot.specs.declared.ids.Visibility.{Visibility}
+use Rattle.snapshot.specs.Visibilities.{visibility_kind, visibility_number}
+use Rattle.nameable.specs.Seen.{holds}
+use Rattle.seen_entries.proofs.Laws.{holds_public, holds_crate}
 use Rattle.seen_entries.proofs.privacy.holds.Goals as goal
 
-pub returns-then-kind-eq0 : goal.returns-then-kind-eq0
-returns-then-kind-eq0 c =
-    holds_public (snap_of c.args.words.now c.args.area.now c.args.l) c.args.kind c.args.number
-    c.args.viewer.0 c.if-kind-eq0.true
+pub returns-in-Public : goal.returns-in-Public
+returns-in-Public c =
+    holds_public (snap_of c.args.words.now c.args.area.now c.args.l) _ (visibility_number c.args.visibility)
+    c.args.viewer.0 (ap visibility_kind c.in-Public.is)
 
-pub returns-then-kind-eq1 : goal.returns-then-kind-eq1
-returns-then-kind-eq1 c =
-    ap (λ x. eqb x c.args.number) c.krate-c.ensures ∙ holds_crate (snap_of c.args.words.now c.args.area.now c.args.l)
-    c.args.kind c.args.number c.args.viewer.0 c.if-kind-eq1.true
+pub returns-in-InCrate : goal.returns-in-InCrate
+returns-in-InCrate c =
+    ap₂ eqb c.krate-here.ensures (sym (ap visibility_number c.in-InCrate.is))
+    ∙ holds_crate (snap_of c.args.words.now c.args.area.now c.args.l) _ (visibility_number c.args.visibility)
+    c.args.viewer.0 (ap visibility_kind c.in-InCrate.is)
 
-pub privately-requires : goal.privately-requires
-privately-requires c =
-    let a = c.if-kind-eq0.false in
-    let b = c.if-kind-eq1.false in
-    (c.requires.0, c.requires.1, c.requires.2 (omega arith))
-
-pub returns : goal.returns
-returns c =
-    c.privately.ensures ∙ holds_module (snap_of c.args.words.now c.args.area.now c.args.l) c.args.kind
-    c.args.number c.args.viewer.0 c.if-kind-eq0.false c.if-kind-eq1.false
+pub returns-in-InModule : goal.returns-in-InModule
+unfolding holds
+returns-in-InModule c =
+    let n = snap_of c.args.words.now c.args.area.now c.args.l in
+    let f = λ (w : Visibility). holds n (visibility_kind w) (visibility_number w) c.args.viewer.0 in
+    c.privately.ensures ∙ elim c.in-InModule.is [ inl e ↦ ap f (sym e) | inr e ↦ ap f (sym e) ]

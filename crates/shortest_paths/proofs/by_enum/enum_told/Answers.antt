@@ -2,10 +2,6 @@ use Rattle.snapshot.specs.Layouts.{snap_of}
 use Rattle.shortest_paths.proofs.Laws.{enum_module, enum_as}
 use Rattle.shortest_paths.proofs.by_enum.enum_told.Goals as goal
 
-pub variant_told-requires : goal.variant_told-requires
-variant_told-requires c =
-    (c.requires.0, c.requires.1, c.requires.2)
-
 pub returns-in-Mod : goal.returns-in-Mod
 returns-in-Mod c =
     enum_module c.args.named (snap_of c.args.words.now c.args.area.now c.args.l) c.args.from.0 _

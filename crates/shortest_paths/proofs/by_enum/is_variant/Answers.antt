@@ -23,4 +23,4 @@ pub returns : goal.returns
 returns c =
     λ (A : List ℕ). variant_some (snap_of c.args.words.now A c.args.l) c.args.ns c.args.d.0 c.args.e.0
     c.args.name.0 (omega (arith, c.if-ns-ge-MACROS.false))
-    (sym (ap (entry_of member_at c.args.words.now) c.in-At.is) ∙ c.variant_named.ensures A) c.member_definition-its.ensures
+    (sym (ap (entry_of member_at c.args.words.now) c.in-Some.is) ∙ c.variant_named.ensures A) c.member_definition-its.ensures

@@ -12,31 +12,6 @@ pub overflow_sub-j : goal.overflow_sub-j
 overflow_sub-j c =
     omega (arith, unwound_more c.args.area.now c.args.n c.requires.2 c.loop-k.invariant c.loop-k-test.true)
 
-pub offset_bounds-names-j : goal.offset_bounds-names-j
-offset_bounds-names-j c = record { fits = omega (arith, c.loop-k.invariant.few) }
-
-pub bounds-names-j : goal.bounds-names-j
-bounds-names-j c = omega (arith, c.loop-k.invariant.few)
-
-pub overflow_sub-at : goal.overflow_sub-at
-overflow_sub-at c = omega (arith, c.loop-k-test.true)
-
-pub overflow_mul-at : goal.overflow_mul-at
-overflow_mul-at c =
-    record { fits = omega (arith, c.loop-k.invariant.low, c.requires.0, c.loop-k-test.true) }
-
-pub overflow_add-at : goal.overflow_add-at
-overflow_add-at c =
-    record { fits = omega (arith, c.loop-k.invariant.low, c.requires.0, c.loop-k-test.true) }
-
-pub overflow_add-at-in-loop-k : goal.overflow_add-at-in-loop-k
-overflow_add-at-in-loop-k c =
-    record { fits = omega (arith, c.loop-k.invariant.low, c.requires.0, c.loop-k-test.true) }
-
-pub overflow_add-at-in-loop-k-2 : goal.overflow_add-at-in-loop-k-2
-overflow_add-at-in-loop-k-2 c =
-    record { fits = omega (arith, c.loop-k.invariant.low, c.requires.0, c.loop-k-test.true) }
-
 pub loop-k-smaller : goal.loop-k-smaller
 loop-k-smaller c =
     omega (
@@ -71,12 +46,3 @@ returns c = record {
       c.if-k-eq1.false (omega (arith, c.loop-k-test.false)) refl refl;
   count_le_names_limit = c.requires.3;
 }
-
-pub word-k-requires : goal.word-k-requires
-word-k-requires c = tt
-
-pub word-x-requires : goal.word-x-requires
-word-x-requires c = tt
-
-pub bounds-names-0 : goal.bounds-names-0
-bounds-names-0 c = omega arith

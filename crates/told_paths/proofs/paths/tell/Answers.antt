@@ -7,11 +7,11 @@ returns-in_default c = record { value = leads_none c.args.area.now c.args.n c.ar
 
 pub names_in-count-requires : goal.names_in-count-requires
 names_in-count-requires c =
-    (c.requires.0, step_link_lem c.args.area.now c.args.n c.args.step c.in-Step.is c.requires.1, c.requires.2)
+    (c.requires.0, step_link_lem c.args.area.now c.args.n c.args.step c.in-Some.is c.requires.1, c.requires.2)
 
 pub returns-then-count-gt-LIMIT : goal.returns-then-count-gt-LIMIT
-returns-then-count-gt-LIMIT c = let low = step_link_lem c.args.area.now c.args.n c.args.step c.in-Step.is c.requires.1 in record {
-  value = (λ z from ns o h. leads_long c.args.area.now c.args.n c.args.step c.in-Step.is z from ns o h c.if-count-gt-LIMIT.true
+returns-then-count-gt-LIMIT c = let low = step_link_lem c.args.area.now c.args.n c.args.step c.in-Some.is c.requires.1 in record {
+  value = (λ z from ns o h. leads_long c.args.area.now c.args.n c.args.step c.in-Some.is z from ns o h c.if-count-gt-LIMIT.true
       (c.names_in-count.ensures.by_index _) c.long.ensures);
   count_bound = long_few c.long.ensures (omega (arith, c.names_in-count.ensures.upper_bound, low, c.requires.0));
 }
@@ -19,11 +19,11 @@ returns-then-count-gt-LIMIT c = let low = step_link_lem c.args.area.now c.args.n
 pub read-requires : goal.read-requires
 read-requires c = (
   c.requires.0,
-  step_link_lem c.args.area.now c.args.n c.args.step c.in-Step.is c.requires.1,
+  step_link_lem c.args.area.now c.args.n c.args.step c.in-Some.is c.requires.1,
   c.requires.2,
   omega (arith, c.if-count-gt-LIMIT.false),
   c.names_in-count.ensures.by_index _,
 )
 
 pub returns : goal.returns
-returns c = record { value = (λ z from ns o h. leads_read c.args.area.now c.args.n c.args.step c.in-Step.is z from ns o h c.read.ensures.value); count_bound = omega (arith, c.read.ensures.count_le_names_limit) }
+returns c = record { value = (λ z from ns o h. leads_read c.args.area.now c.args.n c.args.step c.in-Some.is z from ns o h c.read.ensures.value); count_bound = omega (arith, c.read.ensures.count_le_names_limit) }

@@ -24,5 +24,5 @@ pub returns : goal.returns
 returns c =
     let A = c.args.area.now in
     variant_answers c.args.words.now A c.args.l c.requires c.args.ns c.args.d.0 c.args.name.0 (omega (arith, c.if-ns-ge-MACROS.false)) _
-    (sym (ap (entry_of member_at c.args.words.now) c.in-At.is) ∙ c.variant_named.ensures A)
+    (sym (ap (entry_of member_at c.args.words.now) c.in-Some.is) ∙ c.variant_named.ensures A)
     c.member_definition-its.ensures (c.definition_head-place.ensures A)

@@ -16,5 +16,5 @@ pub returns : goal.returns
 returns c =
     let S = snap_of c.args.words.now c.args.area.now c.args.l in
     answers_as (entry_by S c.args.from.0 c.args.ns c.args.m.0 c.args.name.0
-    (sym (ap (entry_of scope_at c.args.words.now) c.in-At.is) ∙ c.entry_named.ensures))
+    (sym (ap (entry_of scope_at c.args.words.now) c.in-Some.is) ∙ c.entry_named.ensures))
     (c.by_entry.ensures c.args.area.now)

@@ -34,5 +34,5 @@ returns c =
     let A = c.args.area.now in
     answers_as (absolute_by S c.args.from.0 c.args.ns c.args.name.0
     c.krate-c.ensures (c.edition_of.ensures A) c.if-edition_of-eq2015.false c.if-ns-ne-TYPES.false
-    (sym (ap (entry_of extern_at c.args.words.now) c.in-At.is) ∙ c.extern_named.ensures A))
+    (sym (ap (entry_of extern_at c.args.words.now) c.in-Some.is) ∙ c.extern_named.ensures A))
     c.by_extern.ensures

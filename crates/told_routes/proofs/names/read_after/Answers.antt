@@ -15,5 +15,5 @@ returns c =
     let x = c in
     let S = snap_of c.args.words.now c.args.area.now c.args.l in
     λ o h.
-    answers_as (after_thing (λ x. named c.args.name.0 (within S c.args.from.0 c.args.ns x)) c.in-Means.is o h)
+    answers_as (after_thing (λ x. named c.args.name.0 (within S c.args.from.0 c.args.ns x)) c.in-Some.is o h)
     c.in_item.ensures

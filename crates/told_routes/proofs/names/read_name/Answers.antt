@@ -15,22 +15,22 @@ returns-then-k-gt0 c =
     (next_later c.args.kind c.args.k p c.args.name.0 c.if-k-gt0.true))
     (c.read_after.ensures _ h)
 
-pub returns-then-kind-eq-PLAIN : goal.returns-then-kind-eq-PLAIN
-returns-then-kind-eq-PLAIN c =
+pub returns-then-kind : goal.returns-then-kind
+returns-then-kind c =
     let S = snap_of c.args.words.now c.args.area.now c.args.l in
     λ p h.
     answers_as
     (ap (reads S c.args.from.0 c.args.ns)
-    (next_plain c.args.kind c.args.k p c.args.name.0 (omega (arith, c.if-k-gt0.false)) c.if-kind-eq-PLAIN.true))
+    (next_plain c.args.kind c.args.k p c.args.name.0 (omega (arith, c.if-k-gt0.false)) c.if-kind.true))
     c.read_alone.ensures
 
-pub returns-then-kind-eq-ABSOLUTE : goal.returns-then-kind-eq-ABSOLUTE
-returns-then-kind-eq-ABSOLUTE c =
+pub returns-then-kind-2 : goal.returns-then-kind-2
+returns-then-kind-2 c =
     let S = snap_of c.args.words.now c.args.area.now c.args.l in
     λ p h.
     answers_as
     (ap (reads S c.args.from.0 c.args.ns)
-    (next_absolute c.args.kind c.args.k p c.args.name.0 (omega (arith, c.if-k-gt0.false)) c.if-kind-eq-PLAIN.false c.if-kind-eq-ABSOLUTE.true))
+    (next_absolute c.args.kind c.args.k p c.args.name.0 (omega (arith, c.if-k-gt0.false)) c.if-kind.false c.if-kind-2.true))
     c.read_absolute.ensures
 
 pub returns : goal.returns
@@ -40,5 +40,5 @@ returns c =
     λ p h.
     answers_as
     (ap (reads S c.args.from.0 c.args.ns)
-    (next_keyword c.args.kind c.args.k p c.args.name.0 (omega (arith, c.if-k-gt0.false)) c.if-kind-eq-PLAIN.false c.if-kind-eq-ABSOLUTE.false))
+    (next_keyword c.args.kind c.args.k p c.args.name.0 (omega (arith, c.if-k-gt0.false)) c.if-kind.false c.if-kind-2.false))
     (c.read_after-2.ensures _ h)

@@ -14,10 +14,6 @@ returns-then-t-gt-LIMIT c =
     let n = ap (λ (u : ToldPath). u.count) e ∙ tell_count p in
     absurd (omega (arith, c.if-t-gt-LIMIT.true, n, h))
 
-pub route_by-requires : goal.route_by-requires
-route_by-requires c =
-    (c.requires.0, c.requires.1, omega (arith, c.if-t-gt-LIMIT.false))
-
 pub returns : goal.returns
 returns c =
     let S = snap_of c.args.words.now c.args.area.now c.args.l in

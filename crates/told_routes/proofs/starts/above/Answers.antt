@@ -1,49 +1,42 @@
-use mathlib.Core.Path.{refl, sym, ap, ◌∙◌}
+use mathlib.Core.Path.{◌≡◌, sym, ap, ◌∙◌}
 use native.Mathlib.Omega.{arith}
 use Rattle.snapshot.specs.Layouts.{snap_of}
-use Prim.Native.Nat.{◌-◌}
-use Rattle.module_tree.proofs.Climbs.{is_some, is_none}
+use Prim.Native.Nat.{◌+◌, ◌-◌}
+use Rattle.module_tree.proofs.Climbs.{some_number, none_number}
 use Rattle.told_routes.proofs.Laws.{above_means, above_here, above_gone, above_on, parent_below}
-use Rattle.read_back.specs.Answers.{meant}
 use Rattle.told_routes.proofs.starts.above.Goals as goal
 
-pub loop-left-init : goal.loop-left-init
-loop-left-init c = (refl, c.requires.1)
+pub loop-step-init : goal.loop-step-init
+loop-step-init c =
+    let e : c.args.supers ≡ c.args.supers - 0 = omega arith in
+    (ap (λ k. above_means (snap_of c.args.words.now c.args.area.now c.args.l) k c.args.m.0) e, c.requires.1)
 
-pub parent-requires : goal.parent-requires
-parent-requires c = (c.requires.0, c.loop-left.invariant.1)
-
-pub returns-in_default : goal.returns-in_default
-unfolding meant
-returns-in_default c =
+pub returns-in_err-p : goal.returns-in_err-p
+returns-in_err-p c =
     let S = snap_of c.args.words.now c.args.area.now c.args.l in
-    above_gone S c.loop-left.at.0 c.loop-left.left c.loop-left-test.true
-    (is_none _ c.parent.ensures c.in_default.is) ∙ sym c.loop-left.invariant.0
+    c.from_residual.ensures
+    ∙ above_gone S c.loop-step.at.0 (c.args.supers - c.loop-step._step) (omega arith)
+    (none_number _ c.parent.ensures c.in_err-p.was) ∙ sym c.loop-step.invariant.0
 
 pub module_around-at-requires : goal.module_around-at-requires
 module_around-at-requires c = (
   c.requires.0,
-  parent_below c.args.words.now c.args.area.now c.args.l c.requires.0 c.loop-left.at.0 _ c.loop-left.invariant.1
-      (is_some _ c.parent.ensures c.in-Module.is),
+  parent_below c.args.words.now c.args.area.now c.args.l c.requires.0 c.loop-step.at.0 _ c.loop-step.invariant.1
+      (some_number _ c.parent.ensures c.in_ok-p.was),
 )
 
-pub overflow_sub-left : goal.overflow_sub-left
-overflow_sub-left c = omega (arith, c.loop-left-test.true)
-
-pub loop-left-smaller : goal.loop-left-smaller
-loop-left-smaller c = omega (arith, c.loop-left-test.true)
-
-pub loop-left-preserved : goal.loop-left-preserved
-loop-left-preserved c =
-    let S = snap_of c.args.words.now c.args.area.now c.args.l in (
-      c.loop-left.invariant.0
-          ∙ (above_on S c.loop-left.at.0 c.loop-left.left _ c.loop-left-test.true (is_some _ c.parent.ensures c.in-Module.is)
-          ∙ ap (above_means S (c.loop-left.left - 1)) (sym c.module_around-at.ensures.0)),
+pub loop-step-preserved : goal.loop-step-preserved
+loop-step-preserved c =
+    let S = snap_of c.args.words.now c.args.area.now c.args.l in
+    let e : c.args.supers - c.loop-step._step - 1 ≡ c.args.supers - (c.loop-step._step + 1) = omega arith in (
+      c.loop-step.invariant.0
+          ∙ (above_on S c.loop-step.at.0 (c.args.supers - c.loop-step._step) _ (omega arith) (some_number _ c.parent.ensures c.in_ok-p.was)
+          ∙ (ap (above_means S (c.args.supers - c.loop-step._step - 1)) (sym c.module_around-at.ensures.0)
+          ∙ ap (λ k. above_means S k c.module_around-at.result.0) e)),
       c.module_around-at.ensures.1,
     )
 
 pub returns : goal.returns
-unfolding meant
 returns c =
     let S = snap_of c.args.words.now c.args.area.now c.args.l in
-    above_here S c.loop-left.at c.loop-left.left (omega (arith, c.loop-left-test.false)) ∙ sym c.loop-left.invariant.0
+    above_here S c.loop-step.at (c.args.supers - c.loop-step._step) (omega (arith, c.loop-step-test.false)) ∙ sym c.loop-step.invariant.0

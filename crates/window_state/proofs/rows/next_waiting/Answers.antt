@@ -1,39 +1,28 @@
-use mathlib.Core.Path.{sym, ◌∙◌}
+use Prim.Native.Nat.{◌+◌, ◌-◌}
+use mathlib.Core.Path.{◌≡◌, sym, ap, ◌∙◌}
 use native.Mathlib.Omega.{arith}
+use Rattle.window_rules.specs.States.{first_from}
 use Rattle.window_state.specs.Words.{words_of}
 use Rattle.window_state.proofs.Laws.{served_start, first_here, first_next, first_none}
 use Rattle.window_state.proofs.rows.next_waiting.Goals as goal
 
-pub loop-left-init : goal.loop-left-init
+pub loop-turn-init : goal.loop-turn-init
 unfolding words_of
-loop-left-init c = (omega arith, omega arith, served_start _)
-
-pub waits-requires : goal.waits-requires
-waits-requires c = c.loop-left.invariant.0
+loop-turn-init c = (omega arith, omega arith, served_start _)
 
 pub returns-then-waits : goal.returns-then-waits
 returns-then-waits c =
-    let l = c.loop-left in
-    sym (l.invariant.2 ∙ first_here _ l.window _ c.waits.ensures l.left c.loop-left-test.true c.if-waits.true)
+    let l = c.loop-turn in
+    sym (l.invariant.2 ∙ first_here _ l.window _ c.waits.ensures (8 - l._turn) (omega arith) c.if-waits.true)
 
-pub loop-left-preserved : goal.loop-left-preserved
-loop-left-preserved c =
-    let l = c.loop-left in
-    (omega arith, omega arith, l.invariant.2 ∙ first_next _ l.window _ c.waits.ensures l.left c.loop-left-test.true c.if-waits.false)
+pub loop-turn-preserved : goal.loop-turn-preserved
+loop-turn-preserved c =
+    let l = c.loop-turn in
+    let e : 8 - l._turn - 1 ≡ 8 - (l._turn + 1) = omega arith in
+    let f = first_next _ l.window _ c.waits.ensures (8 - l._turn) (omega arith) c.if-waits.false in
+    (omega arith, omega arith, l.invariant.2 ∙ f ∙ ap (first_from (words_of c.args.windows) _) e)
 
 pub returns : goal.returns
 returns c =
-    let l = c.loop-left in
-    sym (l.invariant.2 ∙ first_none _ l.window l.left c.loop-left-test.false)
-
-pub overflow_cast-window : goal.overflow_cast-window
-overflow_cast-window c = omega arith
-
-pub overflow_add-window : goal.overflow_add-window
-overflow_add-window c = omega arith
-
-pub overflow_sub-left : goal.overflow_sub-left
-overflow_sub-left c = omega arith
-
-pub loop-left-smaller : goal.loop-left-smaller
-loop-left-smaller c = omega arith
+    let l = c.loop-turn in
+    sym (l.invariant.2 ∙ first_none _ l.window (8 - l._turn) (omega arith))

@@ -21,15 +21,3 @@ pub returns : goal.returns
 returns c =
     let l = c.loop-i in
     apart_done _ l.rows l.i c.well_formed.0.1.0.1 l.invariant.1 l.invariant.0 c.loop-i-test.false l.invariant.2
-
-pub offset_bounds-rows-i : goal.offset_bounds-rows-i
-offset_bounds-rows-i c = omega arith
-
-pub bounds-rows-i : goal.bounds-rows-i
-bounds-rows-i c = omega arith
-
-pub overflow_add-i : goal.overflow_add-i
-overflow_add-i c = omega arith
-
-pub loop-i-smaller : goal.loop-i-smaller
-loop-i-smaller c = omega arith

@@ -6,6 +6,3 @@ use Rattle.window_state.proofs.words.windows_of.Given as goal
 
 abbrev pub invariant-loop-i : goal.invariant-loop-i
 invariant-loop-i l = (l.i ≤ 8) × (length l.rows ≡ 8) × (rows_words (take l.i l.rows) ≡ take (8 * l.i) (drop 1 l.words))
-
-abbrev pub decreases-loop-i : goal.decreases-loop-i
-decreases-loop-i l = 8 - l.i

@@ -30,9 +30,3 @@ returns c =
     let l = c.loop-i in
     together_done c.args.windows l.words l.i l.invariant.1 (rows_eight c.args.windows _
     c.well_formed.0) l.invariant.0 c.loop-i-test.false l.invariant.2
-
-pub overflow_add-i : goal.overflow_add-i
-overflow_add-i c = omega arith
-
-pub loop-i-smaller : goal.loop-i-smaller
-loop-i-smaller c = omega arith

@@ -1,6 +1,19 @@
-use Rattle.printing.proofs.Laws.{put_two}
+use mathlib.Core.Path.{ap, subst⁻¹}
+use mathlib.Core.List.{List}
+use Prim.Native.Nat.{ℕ, ◌≤◌}
+use lib.ListN.{length}
+use native.Mathlib.Omega.{arith}
+use Rattle.printing.proofs.Laws.{put_two, put_as}
+use Rattle.wording.specs.Text.{labelled}
+use Rattle.wording.proofs.Laws.{meaning_short}
 use Rattle.wording.proofs.text.put_refusal.Goals as goal
+
+pub put-requires : goal.put-requires
+put-requires c =
+    let h = subst⁻¹ (λ (x : List ℕ). length x ≤ 100) c.meaning.ensures (meaning_short _) in
+    omega (arith, h, c.requires)
 
 pub returns : goal.returns
 returns c =
-    put_two c.put_labelled-a.ensures.put (put_two c.put_line-b.ensures.put c.put_meaning.ensures)
+    put_two (put_as (ap (labelled "refused ") c.number.ensures.same) c.put_labelled-a.ensures.put)
+    (put_two c.put_line-b.ensures.put (put_as c.meaning.ensures c.put.ensures))

@@ -1,0 +1,68 @@
+use mathlib.Core.Path.{refl}
+use Rattle.std.proofs.lemmas.Result.{err_from_is_err_and}
+use Rattle.snapshot.specs.Limits.{area_limit}
+use Rattle.snapshot.specs.Layouts.{snap_of}
+use Rattle.snapshot.proofs.Laws.{refusal_some}
+use Rattle.hir_def.proofs.Fits.{few_words}
+use Rattle.checked.proofs.Laws.{fault_at, fault_free, fault_known, definitions_count, modules_count, reads_of, report_fault, report_verdict}
+use Rattle.checked.proofs.Laws.{report_refused, report_accepted, answer_fault, answer_found}
+use Rattle.checked.proofs.checked.answered.Goals as goal
+
+pub returns-in_err-call_fault : goal.returns-in_err-call_fault
+returns-in_err-call_fault c =
+    let p = err_from_is_err_and c.from_residual.result c.from_residual.ensures.1 in
+    rw (p.1, p.2) (record {
+      report = report_fault c.args.words.now area_limit c.args.question _ _
+          (fault_at _ _ _ _ c.requires.1 c.in_err-call_fault.ensures) (refusal_some _) refl;
+      checked = c.requires.0;
+    })
+
+pub returns-in_err-l : goal.returns-in_err-l
+returns-in_err-l c =
+    let s = c.args in
+    let p = err_from_is_err_and c.from_residual-in_err-l.result c.from_residual-in_err-l.ensures.1 in
+    let k = report_refused s.words.now s.area.now s.c c.requires.0 s.question.query s.question.fuel _ _ c.in_err-l.was refl in
+    rw (p.1, p.2) (record {
+      report = report_verdict s.words.now area_limit s.question _ _ (fault_at _ _ _ _ c.requires.1 c.in_ok-call_fault.ensures) refl k.0;
+      checked = k.1;
+    })
+
+pub question_fault-requires : goal.question_fault-requires
+question_fault-requires c =
+    few_words c.args.words.now c.args.area.now c.in_ok-l.l (reads_of c.args.words.now c.args.area.now c.args.c c.requires.0 _ c.in_ok-l.was)
+
+pub returns-in_err-question_fault : goal.returns-in_err-question_fault
+returns-in_err-question_fault c =
+    let s = c.args in
+    let A = s.area.now in
+    let p = err_from_is_err_and c.from_residual-in_err-question_fault.result c.from_residual-in_err-question_fault.ensures.1 in
+    let a = answer_fault (snap_of s.words.now A c.in_ok-l.l) s.question.query s.question.fuel _ _ (c.in_err-question_fault.ensures A)
+    (refusal_some _) refl in
+    let k = report_accepted s.words.now A s.c c.requires.0 s.question.query s.question.fuel _ c.in_ok-l.l A c.in_ok-l.was refl a in
+    rw (p.1, p.2) (record {
+      report = report_verdict s.words.now area_limit s.question _ _ (fault_at _ _ _ _ c.requires.1 c.in_ok-call_fault.ensures) refl k.0;
+      checked = k.1;
+    })
+
+pub report_in-requires : goal.report_in-requires
+report_in-requires c =
+    let s = c.args in
+    let A = s.area.now in
+    let l = c.in_ok-l.l in
+    let f = fault_free area_limit s.question.query s.question.fuel (fault_at _ _ _ _ c.requires.1 c.in_ok-call_fault.ensures) in
+    let k = fault_known (snap_of s.words.now A l) s.question.query l.definitions l.modules
+    (definitions_count s.words.now A l) (modules_count s.words.now A l) (c.in_ok-question_fault.ensures A) in
+    (reads_of s.words.now A s.c c.requires.0 l c.in_ok-l.was, c.requires.1, k.0, k.1, f.2, f.1, f.3, f.4)
+
+pub returns : goal.returns
+returns c =
+    let s = c.args in
+    let A = s.area.now in
+    let f = c.report_in.ensures in
+    let a = answer_found (snap_of s.words.now A c.in_ok-l.l) s.question.query s.question.fuel _ _ (c.in_ok-question_fault.ensures A)
+    refl f.value in
+    let k = report_accepted s.words.now A s.c c.requires.0 s.question.query s.question.fuel _ c.in_ok-l.l _ c.in_ok-l.was f.area_unchanged a in
+    record {
+      report = report_verdict s.words.now area_limit s.question _ _ (fault_at _ _ _ _ c.requires.1 c.in_ok-call_fault.ensures) refl k.0;
+      checked = k.1;
+    }

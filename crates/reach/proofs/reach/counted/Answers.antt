@@ -1,0 +1,57 @@
+use mathlib.Core.Path.{refl}
+use Rattle.std.proofs.lemmas.Result.{err_from_is_err_and}
+use Rattle.snapshot.specs.Limits.{area_limit}
+use Rattle.snapshot.specs.Layouts.{snap_of}
+use Rattle.snapshot.proofs.Laws.{refusal_some}
+use Rattle.checked.proofs.Laws.{fault_at, fault_free, reads_of, modules_count}
+use Rattle.reach_parts.specs.Reach.{query_for}
+use Rattle.reach.proofs.Laws.{reach_fault, reach_verdict, by_refusal, by_answer, unknown_module, known_module}
+use Rattle.reach.proofs.reach.counted.Goals as goal
+
+pub returns-in_err-call_fault : goal.returns-in_err-call_fault
+returns-in_err-call_fault c =
+    let p = err_from_is_err_and c.from_residual.result c.from_residual.ensures.1 in
+    rw (p.1, p.2) (record {
+      reach = reach_fault c.args.v _ c.args.words.now area_limit _ (fault_at _ _ _ _ c.requires.1 c.in_err-call_fault.ensures) (refusal_some _) refl;
+      checked = c.requires.0;
+    })
+
+pub returns-in_err-l : goal.returns-in_err-l
+returns-in_err-l c =
+    let s = c.args in
+    let p = err_from_is_err_and c.from_residual-in_err-l.result c.from_residual-in_err-l.ensures.1 in
+    let k = by_refusal s.v _ s.words.now s.area.now s.c c.requires.0 _ c.in_err-l.was refl in
+    rw (p.1, p.2) (record {
+      reach = reach_verdict s.v _ s.words.now area_limit _ (fault_at _ _ _ _ c.requires.1 c.in_ok-call_fault.ensures) refl k.0;
+      checked = k.1;
+    })
+
+pub returns-then-l-v : goal.returns-then-l-v
+returns-then-l-v c =
+    let s = c.args in
+    let l = c.in_ok-l.l in
+    let e = unknown_module s.v _ (snap_of s.words.now s.area.now l) _ (modules_count s.words.now s.area.now l) c.if-l-v.true refl in
+    let k = by_answer s.v _ s.words.now s.area.now s.c c.requires.0 l _ c.in_ok-l.was refl e in
+    record {
+      reach = reach_verdict s.v _ s.words.now area_limit _ (fault_at _ _ _ _ c.requires.1 c.in_ok-call_fault.ensures) refl k.0;
+      checked = k.1;
+    }
+
+pub reach_in-requires : goal.reach_in-requires
+reach_in-requires c =
+    let s = c.args in
+    let k = fault_free area_limit (query_for s.v 0 0) s.v.fuel (fault_at _ _ _ _ c.requires.1 c.in_ok-call_fault.ensures) in
+    (reads_of s.words.now s.area.now s.c c.requires.0 _ c.in_ok-l.was, c.requires.1, c.if-l-v.false, k.1, k.3, k.4)
+
+pub returns : goal.returns
+returns c =
+    let s = c.args in
+    let l = c.in_ok-l.l in
+    let f = c.reach_in.ensures in
+    let e = known_module s.v _ (snap_of s.words.now s.area.now l) _ (modules_count s.words.now s.area.now l) c.if-l-v.false
+    f.number_value.0 f.number_value.1 in
+    let k = by_answer s.v _ s.words.now s.area.now s.c c.requires.0 l _ c.in_ok-l.was f.area_unchanged e in
+    record {
+      reach = reach_verdict s.v _ s.words.now area_limit _ (fault_at _ _ _ _ c.requires.1 c.in_ok-call_fault.ensures) refl k.0;
+      checked = k.1;
+    }

@@ -1,0 +1,2 @@
+-- What follows from the definitions.
+pub mod Visible
